@@ -1,0 +1,203 @@
+-- The octets that are written of a tree: a plain recursion on the shape. Octets are related, or none are.
+use Rattle.std.specs.Prelude.{◌≡◌, ℕ, suc, ◌<◌, ◌≤◌, ◌⊎◌, ◌≢◌, List, [], ◌∷◌, ◌++◌, length, Bool, true, false, Option, Some, None, IsPermutation}
+use Rattle.rasn_types.specs.Tags.{tag_bit, Codec, Ber, Cer, Der, Tag, in_universal, IsTagBelow}
+use Rattle.rasn_types.specs.Framing.{AnyIdSpells, LengthSpells, IsShortestId, IsShortestLength, Begins, AreOctets}
+use Rattle.rasn_types.specs.Calendar.{Day, IsDay, Moment, IsMoment}
+use Rattle.rasn_types.specs.Times.{written_date, written_generalized, written_utc}
+use Rattle.rasn_types.specs.Shapes.{Tree, number, bits, numbers, instant, on_day, items, done, joined, walk, chosen, absent, Kind, utc_time, generalized_time, date, Bound, Admits, Shape, leaf, any, prefix, choice, option, seq, set, list, bag, Parts, part, Presence, required, optional, addition, default}
+use Rattle.rasn_types.specs.Shapes.Parts.{none}
+use Rattle.rasn_types.specs.Contents.{IsShortest, Contents, BitSegment, joined_lists}
+use Rattle.rasn_types.specs.Grammar.{Family, plain, bit_family, text_family, family, IsBounded, Text}
+
+abbrev pub Writing : Type 0 → Type 1
+Writing X = X → List ℕ → Type 0
+
+-- Equality of trees, but that a walk's order doesn't count.
+abbrev pub Same : Tree → Tree → Type 0
+Same (number z) u = u ≡ number z
+Same (bits bs) u = u ≡ bits bs
+Same (numbers ns) u = u ≡ numbers ns
+Same done u = u ≡ done
+Same (joined t ts) u = (v : Tree) × (vs : Tree) × (u ≡ joined v vs) × Same t v × Same ts vs
+Same (walk ts) u = (vs : List Tree) × (ws : List Tree) × (u ≡ walk (items ws)) × IsPermutation vs ws × Same ts (items vs)
+Same (chosen k t) u = (v : Tree) × (u ≡ chosen k v) × Same t v
+Same (instant m) u = u ≡ instant m
+Same (on_day d) u = u ≡ on_day d
+Same absent u = u ≡ absent
+
+-- An identifier and a length before contents, each in its fewest octets (8.1).
+pub record Definite (tag : Tag) (bit : Bool) (contents b : List ℕ) : Type 0 where
+  pub id : List ℕ
+  pub len : List ℕ
+  pub id_spells : AnyIdSpells id tag bit
+  pub id_shortest : IsShortestId id tag
+  pub id_octets : AreOctets id
+  pub len_spells : LengthSpells len (length contents)
+  pub len_shortest : IsShortestLength len (length contents)
+  pub len_octets : AreOctets len
+  pub is : b ≡ id ++ (len ++ contents)
+
+-- The same of constructed contents in the indefinite form.
+pub record Closed (tag : Tag) (contents b : List ℕ) : Type 0 where
+  pub id : List ℕ
+  pub id_spells : AnyIdSpells id tag true
+  pub id_shortest : IsShortestId id tag
+  pub id_octets : AreOctets id
+  pub is : b ≡ id ++ (128 ∷ (contents ++ (0 ∷ 0 ∷ [])))
+
+-- EXTERNAL, SEQUENCE and SET have the constructed bit whatever is written.
+abbrev pub Prim : Tag → List ℕ → List ℕ → Type 0
+Prim tag = Definite tag (tag_bit tag)
+
+abbrev pub Cons : Codec → Tag → List ℕ → List ℕ → Type 0
+Cons Ber tag = Definite tag true
+Cons Cer tag = Closed tag
+Cons Der tag = Definite tag true
+
+-- The lists pair off by R.
+abbrev pub Each : {X Y : Type 0} → (X → Y → Type 0) → List X → List Y → Type 0
+Each R [] ys = ys ≡ []
+Each {Y = Y} R (x ∷ xs) ys = (y : Y) × (more : List Y) × (ys ≡ y ∷ more) × R x y × Each R xs more
+
+-- Octet by octet, a proper beginning being less (11.6).
+abbrev pub IsLess : List ℕ → List ℕ → Type 0
+IsLess a [] = ⊥
+IsLess [] (c ∷ d) = Unit {0}
+IsLess (a ∷ b) (c ∷ d) = (a < c) ⊎ ((a ≡ c) × IsLess b d)
+
+abbrev pub DoNotFall : {X : Type 0} → (X → X → Type 0) → List X → Type 0
+DoNotFall less [] = Unit {0}
+DoNotFall less (x ∷ []) = Unit {0}
+DoNotFall less (x ∷ y ∷ xs) = (less y x → ⊥) × DoNotFall less (y ∷ xs)
+
+-- A part, as it is written, and the trees of it that are written as open octets without a tag.
+pub record Field : Type 1 where
+  pub presence : Presence
+  pub writes : Writing Tree
+  pub is_bare : Tree → Type 0
+
+abbrev pub WritesPart : Presence → Writing Tree → Writing Tree
+WritesPart required writes t b = writes t b
+WritesPart optional writes t b = ((t ≡ absent) × (b ≡ [])) ⊎ ((t ≢ absent) × writes t b)
+WritesPart addition writes t b = ((t ≡ absent) × (b ≡ [])) ⊎ ((t ≢ absent) × writes t b)
+WritesPart (default d) writes t b = (Same t d × (b ≡ [])) ⊎ ((Same t d → ⊥) × writes t b)
+
+abbrev pub PartsWritten : List Field → List Tree → List (List ℕ) → Type 0
+PartsWritten [] ts bs = (ts ≡ []) × (bs ≡ [])
+PartsWritten (f ∷ fs) ts bs = (t : Tree) × (us : List Tree) × (b : List ℕ) × (cs : List (List ℕ)) × (ts ≡ t ∷ us) × (bs ≡ b ∷ cs)
+  × WritesPart f.presence f.writes t b × PartsWritten fs us cs
+
+-- The tags of those that aren't empty.
+abbrev pub TagsOf : List (List ℕ) → List Tag → Type 0
+TagsOf [] tags = tags ≡ []
+TagsOf ([] ∷ bs) tags = TagsOf bs tags
+TagsOf ((o ∷ b) ∷ bs) tags = (tag : Tag) × (more : List Tag) × (tags ≡ tag ∷ more) × Begins (o ∷ b) tag × TagsOf bs more
+
+-- No part of a SET is written as open octets without a tag: their order isn't known.
+abbrev pub NoneBare : List Field → List Tree → List (List ℕ) → Type 0
+NoneBare (f ∷ fs) (t ∷ ts) (b ∷ bs) = (f.is_bare t → b ≡ []) × NoneBare fs ts bs
+NoneBare fs ts bs = Unit {0}
+
+-- Contents as they are written.
+pub record Written (kind : Kind) (t : Tree) (l : List ℕ) : Type 0 where
+  pub is : Contents Der kind l t
+  pub octets : AreOctets l
+  pub shortest : IsShortest kind l
+
+-- Every piece but the last is of this size, and the last isn't empty and isn't larger.
+abbrev pub AreCut : {X : Type 0} → ℕ → List (List X) → Type 0
+AreCut size [] = ⊥
+AreCut size (p ∷ []) = (0 < length p) × (length p ≤ size)
+AreCut size (p ∷ q ∷ ps) = (length p ≡ size) × AreCut size (q ∷ ps)
+
+abbrev pub IsCer : Codec → Type 0
+IsCer Ber = ⊥
+IsCer Cer = Unit {0}
+IsCer Der = ⊥
+
+-- A string is written as one piece, but under CER in segments where it has more than size units (9.2).
+abbrev pub WritesStr : {X : Type 0} → Codec → Writing (List X) → ℕ → Tag → Tag → Writing (List X)
+WritesStr {X} rule writes size inner tag xs b =
+  ((IsCer rule → length xs ≤ size) × (contents : List ℕ) × writes xs contents × Prim tag contents b)
+  ⊎ (IsCer rule × (size < length xs) × (pieces : List (List X)) × (bs : List (List ℕ)) × (xs ≡ joined_lists pieces) × AreCut size pieces
+    × Each (λ p c. (contents : List ℕ) × writes p contents × Prim inner contents c) pieces bs × Cons rule tag (joined_lists bs) b)
+
+abbrev pub AllFalse : List Bool → Type 0
+AllFalse [] = Unit {0}
+AllFalse (x ∷ xs) = (x ≡ false) × AllFalse xs
+
+pub record WrittenBits (bs : List Bool) (l : List ℕ) : Type 0 where
+  pub is : BitSegment l bs
+  pub zeros : AllFalse is.unused
+  pub octets : AreOctets l
+
+-- The octets of a string's text: for a time the canonical form (11.7, 11.8).
+abbrev pub WritesText : Kind → List ℕ → Tree → Type 0
+WritesText utc_time l t = (m : Moment) × (t ≡ instant m) × IsMoment m × (l ≡ written_utc m)
+WritesText generalized_time l t = (m : Moment) × (t ≡ instant m) × IsMoment m × (l ≡ written_generalized m)
+WritesText date l t = (d : Day) × (t ≡ on_day d) × IsDay d × (l ≡ written_date d)
+WritesText kind l t = Text Der kind l t
+
+abbrev pub WritesOctets : Writing (List ℕ)
+WritesOctets xs l = (l ≡ xs) × AreOctets l
+
+abbrev pub WritesIn : Family → Codec → Kind → Tag → Writing Tree
+WritesIn plain rule kind tag t b = (contents : List ℕ) × Written kind t contents × Prim tag contents b
+WritesIn bit_family rule kind tag t b = (bs : List Bool) × (t ≡ bits bs) × WritesStr rule WrittenBits 7992 (in_universal 3) tag bs b
+WritesIn text_family rule kind tag t b = (octets : List ℕ) × WritesText kind octets t × WritesStr rule WritesOctets 1000 (in_universal 4) tag octets b
+
+abbrev pub WritesChoice : ℕ → List Field → Writing Tree
+WritesChoice k [] t b = ⊥
+WritesChoice k (f ∷ fs) t b = ((u : Tree) × (t ≡ chosen k u) × f.writes u b) ⊎ WritesChoice (suc k) fs t b
+
+abbrev pub WritesSeq : Codec → Tag → List Field → Writing Tree
+WritesSeq rule tag fs t b = (ts : List Tree) × (bs : List (List ℕ)) × (t ≡ items ts) × PartsWritten fs ts bs × Cons rule tag (joined_lists bs) b
+
+abbrev pub WritesSet : Codec → Tag → List Field → Writing Tree
+WritesSet rule tag fs t b = (ts : List Tree) × (bs : List (List ℕ)) × (tags : List Tag) × (t ≡ items ts) × PartsWritten fs ts bs
+  × NoneBare fs ts bs × TagsOf bs tags × DoNotFall IsTagBelow tags × Cons rule tag (joined_lists bs) b
+
+abbrev pub WritesList : Codec → Tag → Option (Bound ℕ) → Writing Tree → Writing Tree
+WritesList rule tag size writes t b = (ts : List Tree) × (bs : List (List ℕ)) × (t ≡ items ts) × Admits ◌≤◌ size (length ts)
+  × Each writes ts bs × Cons rule tag (joined_lists bs) b
+
+abbrev pub WritesBag : Codec → Tag → Option (Bound ℕ) → Writing Tree → Writing Tree
+WritesBag rule tag size writes t b = (ts : List Tree) × (bs : List (List ℕ)) × (t ≡ walk (items ts)) × Admits ◌≤◌ size (length ts)
+  × Each writes ts bs × DoNotFall IsLess bs × Cons rule tag (joined_lists bs) b
+
+-- What is written of the tree are open octets without a tag.
+unfoldable mutual
+  pub IsBare : Shape → Tree → Type 0
+  IsBare (leaf kind tag bounds) t = ⊥
+  IsBare (any None) t = Unit {0}
+  IsBare (any (Some tag)) t = ⊥
+  IsBare (prefix tag s) t = ⊥
+  IsBare (choice ps) t = IsBareIn 0 ps t
+  IsBare (option tag s) t = IsBare s t
+  IsBare (seq tag ps) t = ⊥
+  IsBare (set tag ps) t = ⊥
+  IsBare (list tag s size) t = ⊥
+  IsBare (bag tag s size) t = ⊥
+
+  pub IsBareIn : ℕ → Parts → Tree → Type 0
+  IsBareIn k none t = ⊥
+  IsBareIn k (part presence s ps) t = ((u : Tree) × (t ≡ chosen k u) × IsBare s u) ⊎ IsBareIn (suc k) ps t
+
+-- Bytes rule shape tree octets
+unfoldable mutual
+  pub Bytes : Codec → Shape → Writing Tree
+  Bytes rule (leaf kind tag bounds) = λ t b. IsBounded kind bounds t × WritesIn (family kind) rule kind tag t b
+  Bytes rule (any None) = λ t b. t ≡ numbers b
+  Bytes rule (any (Some tag)) = λ t b. (octets : List ℕ) × (t ≡ numbers octets)
+    × (((octets ≡ []) × (b ≡ [])) ⊎ ((octets ≢ []) × Cons rule tag octets b))
+  Bytes rule (prefix tag s) = λ t b. (inner : List ℕ) × Bytes rule s t inner × Cons rule tag inner b
+  Bytes rule (choice ps) = WritesChoice 0 (fields_of rule ps)
+  Bytes rule (option tag s) = λ t b. ((t ≡ absent) × (b ≡ [])) ⊎ ((t ≢ absent) × Bytes rule s t b)
+  Bytes rule (seq tag ps) = WritesSeq rule tag (fields_of rule ps)
+  Bytes rule (set tag ps) = WritesSet rule tag (fields_of rule ps)
+  Bytes rule (list tag s size) = WritesList rule tag size (Bytes rule s)
+  Bytes rule (bag tag s size) = WritesBag rule tag size (Bytes rule s)
+
+  pub fields_of : Codec → Parts → List Field
+  fields_of rule none = []
+  fields_of rule (part presence s ps) = record { presence = presence; writes = Bytes rule s; is_bare = IsBare s } ∷ fields_of rule ps

@@ -1,0 +1,89 @@
+-- Contents octets of values that hold no others (X.690 8.2 to 8.4, 8.6 to 8.8, 8.19, 8.23, 11.1).
+use Rattle.std.specs.Prelude.{◌≡◌, ℕ, zero, suc, ◌*◌, ◌^◌, ◌%◌, ◌/◌, ◌-◌, ◌<◌, ◌≤◌, ◌⊎◌, ◌≢◌, List, [], ◌∷◌, ◌++◌, length, Bool, true, false, ℤ, pos, ◌-ℤ◌, Contains, min, map}
+use Rattle.rasn_types.specs.Tags.{form, Codec, Ber, Cer, Der, Tag}
+use Rattle.rasn_types.specs.Framing.{Frame, definite, Spells128, number_in, HasSegments}
+use Rattle.rasn_types.specs.Shapes.{Tree, number, numbers, Kind, boolean, null, object_identifier, integer, IsIn, enumerated}
+use Rattle.rasn_types.specs.Readers.{Reading, Inside, Many}
+
+-- The whole number that octets in two's complement stand for (8.3.3).
+abbrev pub signed : List ℕ → ℤ
+signed [] = pos 0
+signed (b ∷ l) = pos (number_in 256 (b ∷ l)) -ℤ pos (b / 128 * 256 ^ length (b ∷ l))
+
+-- Canonical rules have one octet for true (8.2, 11.1).
+abbrev pub IsBool : Codec → List ℕ → ℤ → Type 0
+IsBool Ber l z = (b : ℕ) × (l ≡ b ∷ []) × (((b ≡ 0) × (z ≡ pos 0)) ⊎ ((b ≢ 0) × (z ≡ pos 1)))
+IsBool Cer l z = ((l ≡ 0 ∷ []) × (z ≡ pos 0)) ⊎ ((l ≡ 255 ∷ []) × (z ≡ pos 1))
+IsBool Der l z = ((l ≡ 0 ∷ []) × (z ≡ pos 0)) ⊎ ((l ≡ 255 ∷ []) × (z ≡ pos 1))
+
+-- Subidentifiers one behind the other (8.19.2).
+abbrev pub Arcs : List ℕ → List ℕ → Type 0
+Arcs l [] = l ≡ []
+Arcs l (n ∷ ns) = (front : List ℕ) × (back : List ℕ) × Spells128 front n × (l ≡ front ++ back) × Arcs back ns
+
+-- The first subidentifier holds the first two arcs (8.19.4).
+abbrev pub IsObjectIdentifier : List ℕ → List ℕ → Type 0
+IsObjectIdentifier l arcs = (s : ℕ) × (ns : List ℕ) × Arcs l (s ∷ ns) × (arcs ≡ min 2 (s / 40) ∷ (s - 40 * min 2 (s / 40)) ∷ ns)
+
+-- Contents that stand in one primitive encoding.
+abbrev pub Contents : Codec → Kind → List ℕ → Tree → Type 0
+Contents rule boolean l t = (z : ℤ) × (t ≡ number z) × IsBool rule l z
+Contents rule (integer range) l t = (t ≡ number (signed l)) × (l ≢ []) × IsIn range (signed l)
+Contents rule (enumerated known) l t = (t ≡ number (signed l)) × (l ≢ []) × Contains known (signed l)
+Contents rule null l t = (t ≡ number (pos 0)) × (l ≡ [])
+Contents rule object_identifier l t = (arcs : List ℕ) × (t ≡ numbers arcs) × IsObjectIdentifier l arcs
+Contents rule kind l t = ⊥
+
+-- The first nine bits aren't equal (8.3.2).
+abbrev pub IsShortestInteger : List ℕ → Type 0
+IsShortestInteger [] = ⊥
+IsShortestInteger (a ∷ []) = Unit {0}
+IsShortestInteger (a ∷ b ∷ l) = (((a ≡ 0) × (b < 128)) → ⊥) × (((a ≡ 255) × (128 ≤ b)) → ⊥)
+
+abbrev pub IsShortest128 : List ℕ → Type 0
+IsShortest128 [] = ⊥
+IsShortest128 (b ∷ l) = b ≢ 128
+
+-- subidentifiers, each in its fewest octets
+abbrev pub ShortArcs : List ℕ → List ℕ → Type 0
+ShortArcs l [] = l ≡ []
+ShortArcs l (n ∷ ns) = (front : List ℕ) × (back : List ℕ) × Spells128 front n × IsShortest128 front × (l ≡ front ++ back) × ShortArcs back ns
+
+abbrev pub IsShortest : Kind → List ℕ → Type 0
+IsShortest (integer range) l = IsShortestInteger l
+IsShortest (enumerated known) l = IsShortestInteger l
+IsShortest object_identifier l = (ns : List ℕ) × ShortArcs l ns
+IsShortest kind l = Unit {0}
+
+-- An octet's bits, the highest first.
+abbrev pub is_set : ℕ → Bool
+is_set zero = false
+is_set (suc n) = true
+
+abbrev pub bits_of : ℕ → List Bool
+bits_of b = is_set (b / 128 % 2) ∷ is_set (b / 64 % 2) ∷ is_set (b / 32 % 2) ∷ is_set (b / 16 % 2)
+  ∷ is_set (b / 8 % 2) ∷ is_set (b / 4 % 2) ∷ is_set (b / 2 % 2) ∷ is_set (b % 2) ∷ []
+
+abbrev pub joined_lists : {X : Type 0} → List (List X) → List X
+joined_lists [] = []
+joined_lists (x ∷ xs) = x ++ joined_lists xs
+
+-- A segment of bits: the count of unused bits, and octets (8.6.2). unused are the bits that don't count.
+pub record BitSegment (l : List ℕ) (bs : List Bool) : Type 0 where
+  pub octets : List ℕ
+  pub unused : List Bool
+  pub is : l ≡ length unused ∷ octets
+  pub few : length unused < 8
+  pub all : bs ++ unused ≡ joined_lists (map bits_of octets)
+
+abbrev pub OctetSegment : List ℕ → List ℕ → Type 0
+OctetSegment l octets = octets ≡ l
+
+-- A string: primitive, or segments (8.6.4, 8.7.3, 8.23). segment reads a primitive one's contents.
+abbrev pub Str : {X : Type 0} → Codec → (List ℕ → List X → Type 0) → Tag → ℕ → Tag → Reading (List X)
+Str rule segment inner zero tag input xs rest =
+  (contents : List ℕ) × Frame (form rule) input tag false rest (definite contents) × segment contents xs
+Str rule segment inner (suc depth) tag input xs rest =
+  ((contents : List ℕ) × Frame (form rule) input tag false rest (definite contents) × segment contents xs)
+  ⊎ (HasSegments rule × (parts : List (List _)) × (xs ≡ joined_lists parts)
+    × Inside rule tag true (λ closing. Many (Str rule segment inner depth inner) closing) input parts rest)

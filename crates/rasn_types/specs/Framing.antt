@@ -1,0 +1,128 @@
+-- Identifier, length and contents octets (X.690 8.1).
+use Rattle.std.specs.Prelude.{◌≡◌, ℕ, ◌+◌, ◌*◌, ◌^◌, ◌%◌, ◌<◌, ◌≤◌, ◌⊎◌, ◌≢◌, List, [], ◌∷◌, ◌++◌, length, Bool, true, false}
+use Rattle.rasn_types.specs.Tags.{Form, ber_form, cer_form, der_form, loose_form, loose, HasStrictForm, Codec, Ber, Cer, Der, Tag, rank, eoc}
+
+-- Every octet but the last has its high bit set.
+abbrev pub IsChain : List ℕ → Type 0
+IsChain [] = ⊥
+IsChain (b ∷ l) = ((b < 128) × (l ≡ [])) ⊎ ((128 ≤ b) × IsChain l)
+
+-- The number of a list of digits, most significant first; a digit counts modulo the base.
+abbrev pub number_in : ℕ → List ℕ → ℕ
+number_in base [] = 0
+number_in base (b ∷ l) = b % base * base ^ length l + number_in base l
+
+-- The octets spell the number in base 128 (8.1.2.4, 8.19.2).
+pub record Spells128 (l : List ℕ) (n : ℕ) : Type 0 where
+  pub chain : IsChain l
+  pub is : n ≡ number_in 128 l
+  pub below : n < 2 ^ 32
+
+abbrev pub bit_of : Bool → ℕ
+bit_of true = 1
+bit_of false = 0
+
+-- An identifier's first octet, and those behind it (8.1.2).
+pub record IsIdentifier (first : ℕ) (more : List ℕ) (tag : Tag) (bit : Bool) : Type 0 where
+  pub low : ℕ
+  pub leading : first ≡ 64 * rank tag.class + (32 * bit_of bit + low)
+  pub number : ((low < 31) × (more ≡ []) × (tag.value ≡ low)) ⊎ ((low ≡ 31) × Spells128 more tag.value)
+
+-- The octets spell the tag, universal 0 too.
+abbrev pub AnyIdSpells : List ℕ → Tag → Bool → Type 0
+AnyIdSpells [] tag bit = ⊥
+AnyIdSpells (first ∷ more) tag bit = IsIdentifier first more tag bit
+
+-- The octets spell the tag of a value, which isn't universal 0.
+pub record IdSpells (l : List ℕ) (tag : Tag) (bit : Bool) : Type 0 where
+  pub spells : AnyIdSpells l tag bit
+  pub is_one : tag ≢ eoc
+
+-- A length's first octet, and those behind it (8.1.3).
+abbrev pub LengthSpells : List ℕ → ℕ → Type 0
+LengthSpells [] n = ⊥
+LengthSpells (first ∷ more) n =
+  ((first < 128) × (more ≡ []) × (n ≡ first))
+  ⊎ ((first ≡ 128 + length more) × (0 < length more) × (length more < 127) × (n ≡ number_in 256 more) × (n < 2 ^ 64))
+
+-- The shortest spellings.
+abbrev pub IsShortestId : List ℕ → Tag → Type 0
+IsShortestId [] tag = ⊥
+IsShortestId (first ∷ []) tag = Unit {0}
+IsShortestId (first ∷ b ∷ more) tag = (31 ≤ tag.value) × (b ≢ 128)
+
+abbrev pub IsShortestLength : List ℕ → ℕ → Type 0
+IsShortestLength [] n = ⊥
+IsShortestLength (first ∷ []) n = Unit {0}
+IsShortestLength (first ∷ b ∷ more) n = (128 ≤ n) × (b ≢ 0)
+
+pub data Extent : Type 0 where
+  definite : List ℕ → Extent
+  indefinite : Extent
+
+-- The rules that read strings in segments.
+abbrev pub HasSegments : Codec → Type 0
+HasSegments Ber = Unit {0}
+HasSegments Cer = Unit {0}
+HasSegments Der = ⊥
+
+abbrev pub HasIndefinite : Form → Type 0
+HasIndefinite ber_form = Unit {0}
+HasIndefinite cer_form = Unit {0}
+HasIndefinite der_form = ⊥
+HasIndefinite loose_form = ⊥
+
+-- The input begins with a value's header: its contents stand behind it where the length is definite.
+pub data Frame (spelling : Form) (input : List ℕ) (tag : Tag) (bit : Bool) (rest : List ℕ) : Extent → Type 0 where
+  with_length : (id len contents : List ℕ) → IdSpells id tag bit → LengthSpells len (length contents)
+    → (HasStrictForm spelling → IsShortestId id tag × IsShortestLength len (length contents))
+    → input ≡ id ++ (len ++ (contents ++ rest)) → Frame spelling input tag bit rest (definite contents)
+  without_length : (id : List ℕ) → IdSpells id tag bit → bit ≡ true → HasIndefinite spelling
+    → input ≡ id ++ (128 ∷ rest) → Frame spelling input tag bit rest indefinite
+
+-- The octets begin with an identifier of this tag, which may be universal 0.
+pub record Begins (octets : List ℕ) (tag : Tag) : Type 0 where
+  pub id : List ℕ
+  pub bit : Bool
+  pub more : List ℕ
+  pub spells : AnyIdSpells id tag bit
+  pub is : octets ≡ id ++ more
+
+-- A value of this tag comes next.
+pub record Next (input : List ℕ) (tag : Tag) : Type 0 where
+  pub begins : Begins input tag
+  pub is_one : tag ≢ eoc
+
+-- The contents end here: nothing is left, or where closing octets may stand, these come.
+abbrev pub Ended : Bool → List ℕ → Type 0
+Ended closing input = (input ≡ []) ⊎ ((closing ≡ true) × (more : List ℕ) × (input ≡ 0 ∷ 0 ∷ more))
+
+-- Whole encodings, closing octets included (8.1.4, 8.1.5).
+mutual
+  pub data Whole (rule : Codec) : List ℕ → Type 0 where
+    plain : {text : List ℕ} (tag : Tag) (bit : Bool) (contents : List ℕ) → Frame (loose rule) text tag bit [] (definite contents) → Whole rule text
+    closed : {text : List ℕ} (tag : Tag) (bit : Bool) (body nested : List ℕ) → Frame (loose rule) text tag bit body indefinite
+      → Wholes rule nested → body ≡ nested ++ (0 ∷ 0 ∷ []) → Whole rule text
+
+  pub data Wholes (rule : Codec) : List ℕ → Type 0 where
+    none : Wholes rule []
+    one_more : {text : List ℕ} (front back : List ℕ) → Whole rule front → Wholes rule back → text ≡ front ++ back → Wholes rule text
+
+-- What passing a whole encoding counts: a closing pair, or a nested header with its definite contents.
+abbrev mutual
+  pub turns : {rule : Codec} {text : List ℕ} → Whole rule text → ℕ
+  turns (plain tag bit contents frame) = 0
+  turns (closed tag bit body nested frame inside is) = 1 + turns_of inside
+
+  pub turns_of : {rule : Codec} {text : List ℕ} → Wholes rule text → ℕ
+  turns_of none = 0
+  turns_of (one_more front back first others is) = (1 + turns first) + turns_of others
+
+-- Whole encodings one behind the other, closed by two zeros.
+abbrev pub Values : Codec → List ℕ → List ℕ → List ℕ → Type 0
+Values rule input contents rest = Wholes rule contents × (input ≡ contents ++ (0 ∷ 0 ∷ rest))
+
+-- a list of octets
+abbrev pub AreOctets : List ℕ → Type 0
+AreOctets [] = Unit {0}
+AreOctets (b ∷ l) = (b < 256) × AreOctets l

@@ -1,0 +1,144 @@
+-- The grammar: which inputs begin with a value of a shape, which value, and what is left.
+use Rattle.std.specs.Prelude.{◌≡◌, ℕ, ◌+◌, ◌*◌, ◌-◌, ◌^◌, ◌<◌, ◌≤◌, ◌⊎◌, List, [], ◌∷◌, ◌++◌, length, Bool, true, false, ◌≤ℤ◌, chars, IsUtf8, All, Contains, Option, Some, None}
+use Rattle.rasn_types.specs.Tags.{tag_bit, form, IsStrict, Codec, Ber, Cer, Der, Tag, in_universal}
+use Rattle.rasn_types.specs.Framing.{Frame, definite, indefinite, Whole, Wholes}
+use Rattle.rasn_types.specs.Calendar.{Day, Stamp}
+use Rattle.rasn_types.specs.Times.{GeneralUtc, CanonicalUtc, GeneralGeneralized, CanonicalGeneralized, DateText}
+use Rattle.rasn_types.specs.Shapes.{Tree, number, bits, numbers, instant, on_day, items, walk, absent, Kind, boolean, null, object_identifier, bit_string, octet_string, integer, enumerated, fixed, numeric, printable, visible, ia5, any_octets, bmp, utf8, utc_time, generalized_time, date, Bound, Constraints, Admits, Shape, leaf, any, prefix, choice, option, seq, set, list, bag, Parts, part, own, IsFirst}
+use Rattle.rasn_types.specs.Shapes.Parts.{none}
+use Rattle.rasn_types.specs.Readers.{Reading, Inside, Many, Perhaps, Part, ReadsSeq, ReadsChoice, ReadsSet}
+use Rattle.rasn_types.specs.Contents.{IsShortest, Contents, Str, BitSegment, OctetSegment}
+
+-- BER reads the general forms of times, CER and DER the canonical ones (11.7, 11.8).
+abbrev pub UtcText : Codec → List ℕ → Stamp → Type 0
+UtcText Ber = GeneralUtc
+UtcText Cer = CanonicalUtc
+UtcText Der = CanonicalUtc
+
+abbrev pub GeneralizedText : Codec → List ℕ → Stamp → Type 0
+GeneralizedText Ber = GeneralGeneralized
+GeneralizedText Cer = CanonicalGeneralized
+GeneralizedText Der = CanonicalGeneralized
+
+abbrev pub IsDigitOrSpace : ℕ → Type 0
+IsDigitOrSpace c = ((48 ≤ c) × (c < 58)) ⊎ (c ≡ 32)
+
+-- letters, digits, space and ' ( ) + , - . / : = ? (X.680 41.4)
+abbrev pub IsPrintable : ℕ → Type 0
+IsPrintable c = ((65 ≤ c) × (c < 91)) ⊎ (((97 ≤ c) × (c < 123)) ⊎ (((48 ≤ c) × (c < 58)) ⊎ Contains (32 ∷ 39 ∷ 40 ∷ 41 ∷ 43 ∷ 44 ∷ 45 ∷ 46 ∷ 47 ∷ 58 ∷ 61 ∷ 63 ∷ []) c))
+
+-- 16-bit units, the high octet first
+abbrev pub units : List ℕ → List ℕ → Type 0
+units [] us = us ≡ []
+units (a ∷ []) us = ⊥
+units (a ∷ b ∷ l) us = (vs : List ℕ) × (us ≡ (256 * a + b) ∷ vs) × units l vs
+
+-- What all octets of a string mean.
+abbrev pub Text : Codec → Kind → List ℕ → Tree → Type 0
+Text rule octet_string l t = t ≡ numbers l
+Text rule (fixed n) l t = (t ≡ numbers l) × (length l ≡ n)
+Text rule numeric l t = (t ≡ numbers l) × All IsDigitOrSpace l
+Text rule printable l t = (t ≡ numbers l) × All IsPrintable l
+Text rule visible l t = (t ≡ numbers l) × All (λ c. (32 ≤ c) × (c < 127)) l
+Text rule ia5 l t = (t ≡ numbers l) × All (λ c. c < 128) l
+Text rule any_octets l t = t ≡ numbers l
+Text rule bmp l t = (us : List ℕ) × (t ≡ numbers us) × units l us
+Text rule utf8 l t = (t ≡ numbers (chars l)) × IsUtf8 l
+Text rule utc_time l t = (s : Stamp) × (t ≡ instant s.moment) × UtcText rule l s
+Text rule generalized_time l t = (s : Stamp) × (t ≡ instant s.moment) × GeneralizedText rule l s
+Text rule date l t = (d : Day) × (t ≡ on_day d) × DateText l d
+Text rule kind l t = ⊥
+
+-- What a bound is of: nothing, the value, or the size.
+pub data Measure : Type 0 where
+  unmeasured by_value by_size : Measure
+
+abbrev pub measure : Kind → Measure
+measure boolean = unmeasured
+measure null = unmeasured
+measure object_identifier = unmeasured
+measure (enumerated known) = unmeasured
+measure utc_time = unmeasured
+measure generalized_time = unmeasured
+measure date = unmeasured
+measure (integer range) = by_value
+measure kind = by_size
+
+-- The constraints hold of the tree, as far as its kind has them (X.680 51).
+abbrev pub Fulfils : Measure → Constraints → Tree → Type 0
+Fulfils unmeasured c t = Unit {0}
+Fulfils by_value c (number z) = Admits ◌≤ℤ◌ c.value z
+Fulfils by_size c (bits bs) = Admits ◌≤◌ c.size (length bs)
+Fulfils by_size c (numbers ns) = Admits ◌≤◌ c.size (length ns)
+Fulfils m c t = ⊥
+
+abbrev pub IsBounded : Kind → Constraints → Tree → Type 0
+IsBounded kind c t = Fulfils (measure kind) c t
+
+-- How contents are read: at once, or as bits or octets gathered from segments.
+pub data Family : Type 0 where
+  plain bit_family text_family : Family
+
+abbrev pub family : Kind → Family
+family boolean = plain
+family null = plain
+family object_identifier = plain
+family bit_string = bit_family
+family (integer range) = plain
+family (enumerated known) = plain
+family kind = text_family
+
+-- A value that holds no others.
+abbrev pub ReadsIn : Family → Codec → Kind → Tag → ℕ → Reading Tree
+ReadsIn plain rule kind tag depth input t rest =
+  (bit : Bool) × (contents : List ℕ) × Frame (form rule) input tag bit rest (definite contents) × Contents rule kind contents t
+  × (IsStrict rule → (bit ≡ tag_bit tag) × IsShortest kind contents)
+ReadsIn bit_family rule kind tag depth input t rest =
+  (bs : List Bool) × (t ≡ bits bs) × (length bs < 2 ^ 64) × Str rule BitSegment (in_universal 3) depth tag input bs rest
+ReadsIn text_family rule kind tag depth input t rest =
+  (octets : List ℕ) × Str rule OctetSegment (in_universal 4) depth tag input octets rest × Text rule kind octets t
+
+abbrev pub ReadsLeaf : Codec → Kind → Tag → Constraints → ℕ → Reading Tree
+ReadsLeaf rule kind tag bounds depth input t rest = ReadsIn (family kind) rule kind tag depth input t rest × IsBounded kind bounds t
+
+-- The contents of a value of the tag, closing octets not included.
+abbrev pub ReadsOpen : Codec → Tag → Reading Tree
+ReadsOpen rule tag input t rest = (bit : Bool) × (contents : List ℕ) × (t ≡ numbers contents)
+  × (Frame (form rule) input tag bit rest (definite contents)
+    ⊎ ((body : List ℕ) × Frame (form rule) input tag bit body indefinite × Wholes rule contents × (body ≡ contents ++ (0 ∷ 0 ∷ rest))))
+
+-- One whole encoding, octets and all.
+abbrev pub ReadsAny : Codec → Reading Tree
+ReadsAny rule input t rest = (text : List ℕ) × (t ≡ numbers text) × Whole rule text × (input ≡ text ++ rest)
+
+-- Elements up to the end, as a list and as a walk.
+abbrev pub ReadsList : Option (Bound ℕ) → Reading Tree → Bool → Reading Tree
+ReadsList size reads closing input t rest = (ts : List Tree) × (t ≡ items ts) × Admits ◌≤◌ size (length ts) × Many reads closing input ts rest
+
+abbrev pub ReadsBag : Option (Bound ℕ) → Reading Tree → Bool → Reading Tree
+ReadsBag size reads closing input t rest = (ts : List Tree) × (t ≡ walk (items ts)) × Admits ◌≤◌ size (length ts) × Many reads closing input ts rest
+
+-- Reads rule shape depth closing input tree rest: the input begins with a value of the shape, and the rest is left.
+unfoldable mutual
+  pub Reads : Codec → Shape → ℕ → Bool → Reading Tree
+  Reads rule (leaf kind tag bounds) depth closing = ReadsLeaf rule kind tag bounds depth
+  Reads rule (any None) depth closing = ReadsAny rule
+  Reads rule (any (Some tag)) depth closing = ReadsOpen rule tag
+  Reads rule (prefix tag s) depth closing = λ input t rest. (0 < depth) × (bit : Bool) × Inside rule tag bit (λ c. Reads rule s (depth - 1) c) input t rest
+  Reads rule (choice ps) depth closing = ReadsChoice 0 (parts_of rule ps depth closing)
+  Reads rule (option tag s) depth closing = Perhaps tag absent (Reads rule s depth closing) closing
+  Reads rule (seq tag ps) depth closing = λ input t rest. (0 < depth) × Inside rule tag true (λ c. ReadsSeq (parts_of rule ps (depth - 1) c) c) input t rest
+  Reads rule (set tag ps) depth closing = λ input t rest. (0 < depth) × Inside rule tag true (λ c. ReadsSet (parts_of rule ps (depth - 1) c) c) input t rest
+  Reads rule (list tag s size) depth closing = λ input t rest. (0 < depth) × Inside rule tag true (λ c. ReadsList size (Reads rule s (depth - 2) c) c) input t rest
+  Reads rule (bag tag s size) depth closing = λ input t rest. (0 < depth) × Inside rule tag true (λ c. ReadsBag size (Reads rule s (depth - 2) c) c) input t rest
+
+  pub parts_of : Codec → Parts → ℕ → Bool → List Part
+  parts_of rule none depth closing = []
+  parts_of rule (part presence s ps) depth closing =
+    record { presence = presence; own = own s; IsFirst = IsFirst s; reads = Reads rule s depth closing } ∷ parts_of rule ps depth closing
+
+-- Whether closing octets may stand behind a value at the top.
+abbrev pub top : Codec → Bool
+top Ber = true
+top Cer = true
+top Der = false

@@ -1,0 +1,66 @@
+-- Lawful shapes.
+use Rattle.std.specs.Prelude.{◌≡◌, ◌⊎◌, ◌≢◌, false, Option, Some, None}
+use Rattle.rasn_types.specs.Tags.{tag_bit, Tag, eoc, IsTagBelow}
+use Rattle.rasn_types.specs.Shapes.{Shape, leaf, any, prefix, choice, option, seq, set, list, bag, Parts, part, own, IsFirst, IsFirstOf, Presence, required, optional, addition, default, IsSolid}
+use Rattle.rasn_types.specs.Shapes.Parts.{none}
+use Rattle.rasn_types.specs.Grammar.{Family, plain, bit_family, text_family, family}
+
+abbrev pub AreDisjoint : (Tag → Type 0) → (Tag → Type 0) → Type 0
+AreDisjoint P Q = (n : Tag) → P n → Q n → ⊥
+
+-- The first tags of the parts, up to and with the next one that is always there.
+abbrev pub IsFirstBehind : Parts → Tag → Type 0
+IsFirstBehind none n = ⊥
+IsFirstBehind (part required s ps) n = IsFirst s n
+IsFirstBehind (part addition s ps) n = IsFirst s n
+IsFirstBehind (part optional s ps) n = IsFirst s n ⊎ IsFirstBehind ps n
+IsFirstBehind (part (default d) s ps) n = IsFirst s n ⊎ IsFirstBehind ps n
+
+-- A part that may be left out is told from what follows by its own tag, or nothing follows it.
+abbrev pub IsToldApart : Option Tag → Parts → Type 0
+IsToldApart (Some tag) ps = IsFirstBehind ps tag → ⊥
+IsToldApart None ps = ps ≡ none
+
+abbrev pub MayBeLeftOut : Presence → Option Tag → Parts → Type 0
+MayBeLeftOut required tag ps = Unit {0}
+MayBeLeftOut addition tag ps = Unit {0}
+MayBeLeftOut optional tag ps = IsToldApart tag ps
+MayBeLeftOut (default d) tag ps = IsToldApart tag ps
+
+-- no string and no time has a tag that is always written as constructed
+abbrev pub IsBitFree : Family → Tag → Type 0
+IsBitFree plain tag = Unit {0}
+IsBitFree bit_family tag = tag_bit tag ≡ false
+IsBitFree text_family tag = tag_bit tag ≡ false
+
+-- not an open type without a tag
+abbrev pub HasTag : Shape → Type 0
+HasTag (any None) = ⊥
+HasTag s = Unit {0}
+
+unfoldable mutual
+  pub IsLawful : Shape → Type 0
+  IsLawful (leaf kind tag bounds) = (tag ≢ eoc) × IsBitFree (family kind) tag
+  IsLawful (any None) = Unit {0}
+  IsLawful (any (Some tag)) = tag ≢ eoc
+  IsLawful (prefix tag s) = (tag ≢ eoc) × IsSolid s × IsLawful s
+  IsLawful (choice ps) = AreAlternatives ps
+  IsLawful (option tag s) = (tag ≡ own s) × IsSolid s × IsLawful s
+  IsLawful (seq tag ps) = (tag ≢ eoc) × AreLawfulInOrder ps
+  IsLawful (set tag ps) = (tag ≢ eoc) × AreLawfulByTag ps
+  IsLawful (list tag s size) = (tag ≢ eoc) × IsSolid s × IsLawful s
+  IsLawful (bag tag s size) = (tag ≢ eoc) × IsSolid s × IsLawful s
+
+  pub AreAlternatives : Parts → Type 0
+  AreAlternatives none = Unit {0}
+  AreAlternatives (part presence s ps) = (presence ≡ required) × HasTag s × IsSolid s × IsLawful s × AreDisjoint (IsFirst s) (IsFirstOf ps) × AreAlternatives ps
+
+  pub AreLawfulInOrder : Parts → Type 0
+  AreLawfulInOrder none = Unit {0}
+  AreLawfulInOrder (part presence s ps) = IsSolid s × IsLawful s × MayBeLeftOut presence (own s) ps × AreLawfulInOrder ps
+
+  -- by rising tags, in ranges that don't overlap
+  pub AreLawfulByTag : Parts → Type 0
+  AreLawfulByTag none = Unit {0}
+  AreLawfulByTag (part presence s ps) = (presence ≢ addition) × HasTag s × IsSolid s × IsLawful s
+    × ((m n : Tag) → IsFirst s m → IsFirstOf ps n → IsTagBelow m n) × AreLawfulByTag ps

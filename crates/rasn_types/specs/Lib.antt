@@ -1,0 +1,14 @@
+pub mod Tags
+pub mod Framing
+pub mod Calendar
+pub mod Spelling
+pub mod Times
+pub mod Shapes
+pub mod Readers
+pub mod Contents
+pub mod Grammar
+pub mod Errors
+pub mod Trees
+pub mod Bytes
+pub mod Carried
+pub mod Lawful

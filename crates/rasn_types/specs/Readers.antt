@@ -1,0 +1,106 @@
+-- How readings join. A reading relates an input to what stands at its front, and to the rest.
+use Rattle.std.specs.Prelude.{◌≡◌, ℕ, suc, ◌⊎◌, ◌≢◌, List, [], ◌∷◌, ◌++◌, Bool, true, false, Option, Some, None}
+use Rattle.rasn_types.specs.Tags.{form, Codec, Tag}
+use Rattle.rasn_types.specs.Framing.{Frame, definite, indefinite, Next, Ended}
+use Rattle.rasn_types.specs.Shapes.{Tree, items, chosen, absent, Presence, required, optional, addition, default}
+
+abbrev pub Reading : Type 0 → Type 1
+Reading X = List ℕ → X → List ℕ → Type 0
+
+-- What stands in one value's contents: all of them, or up to the closing octets. inner takes closing.
+pub data Inside {X : Type 0} (rule : Codec) (tag : Tag) (bit : Bool) (inner : Bool → Reading X) (input : List ℕ) (x : X) (rest : List ℕ) : Type 0 where
+  in_definite : (contents : List ℕ) → Frame (form rule) input tag bit rest (definite contents) → inner false contents x [] → Inside rule tag bit inner input x rest
+  in_indefinite : (body : List ℕ) → Frame (form rule) input tag bit body indefinite → inner true body x (0 ∷ 0 ∷ rest) → Inside rule tag bit inner input x rest
+
+-- Values one behind the other, up to the end of the contents.
+abbrev pub Many : {X : Type 0} → Reading X → Bool → List ℕ → List X → List ℕ → Type 0
+Many reads closing input [] rest = Ended closing input × (rest ≡ input)
+Many reads closing input (x ∷ xs) rest = (Ended closing input → ⊥) × (middle : List ℕ) × reads input x middle × Many reads closing middle xs rest
+
+-- A value that may be left out is left out: the contents end, or another tag comes.
+abbrev pub IsLeftOut : Option Tag → Bool → List ℕ → Type 0
+IsLeftOut (Some tag) closing input = Ended closing input ⊎ ((next : Tag) × Next input next × (next ≢ tag))
+IsLeftOut None closing input = Ended closing input
+
+-- It is there: the contents go on, with its tag where it has one.
+abbrev pub IsThere : Option Tag → Bool → List ℕ → Type 0
+IsThere (Some tag) closing input = (Ended closing input → ⊥) × Next input tag
+IsThere None closing input = Ended closing input → ⊥
+
+abbrev pub Perhaps : {X : Type 0} → Option Tag → X → Reading X → Bool → Reading X
+Perhaps tag without reads closing input x rest =
+  (IsLeftOut tag closing input × (x ≡ without) × (rest ≡ input))
+  ⊎ (IsThere tag closing input × reads input x rest)
+
+-- A part of a SEQUENCE or SET, or an alternative of a CHOICE.
+pub record Part : Type 1 where
+  pub presence : Presence
+  pub own : Option Tag
+  pub IsFirst : Tag → Type 0
+  pub reads : Reading Tree
+
+abbrev pub ReadsPart : Presence → Option Tag → Reading Tree → Bool → Reading Tree
+ReadsPart required tag reads closing = reads
+ReadsPart addition tag reads closing = reads
+ReadsPart optional tag reads closing = Perhaps tag absent reads closing
+ReadsPart (default d) tag reads closing = Perhaps tag d reads closing
+
+-- The parts in order.
+abbrev pub InOrder : List Part → Bool → List ℕ → List Tree → List ℕ → Type 0
+InOrder [] closing input ts rest = (ts ≡ []) × (rest ≡ input)
+InOrder (p ∷ ps) closing input ts rest = (t : Tree) × (us : List Tree) × (middle : List ℕ) × (ts ≡ t ∷ us)
+  × ReadsPart p.presence p.own p.reads closing input t middle × InOrder ps closing middle us rest
+
+-- what a part that doesn't come has in its place
+abbrev pub IsMissing : Presence → Tree → Type 0
+IsMissing required t = ⊥
+IsMissing optional t = t ≡ absent
+IsMissing addition t = t ≡ absent
+IsMissing (default d) t = t ≡ d
+
+abbrev pub AllMissing : List Part → List Tree → Type 0
+AllMissing [] ts = ts ≡ []
+AllMissing (p ∷ ps) ts = (t : Tree) × (us : List Tree) × (ts ≡ t ∷ us) × IsMissing p.presence t × AllMissing ps us
+
+abbrev pub HasRequired : List Part → Type 0
+HasRequired [] = ⊥
+HasRequired (p ∷ ps) = (p.presence ≡ required) ⊎ HasRequired ps
+
+-- An initializer reads these contents.
+abbrev pub IsBare : List Part → Bool → List ℕ → Type 0
+IsBare ps closing input = (HasRequired ps → ⊥) × (closing ≡ false) × (input ≡ [])
+
+-- The contents of a SEQUENCE.
+abbrev pub ReadsSeq : List Part → Bool → Reading Tree
+ReadsSeq ps closing input t rest = (ts : List Tree) × (t ≡ items ts)
+  × ((IsBare ps closing input × AllMissing ps ts × (rest ≡ input)) ⊎ ((IsBare ps closing input → ⊥) × InOrder ps closing input ts rest))
+
+-- The alternative whose first tags hold the next one; the first has the number k.
+abbrev pub ReadsChoice : ℕ → List Part → Reading Tree
+ReadsChoice k [] input t rest = ⊥
+ReadsChoice k (p ∷ ps) input t rest =
+  ((u : Tree) × (t ≡ chosen k u) × (next : Tag) × Next input next × p.IsFirst next × p.reads input u rest)
+  ⊎ ReadsChoice (suc k) ps input t rest
+
+-- The reading of part k is among these, and no other of it.
+abbrev pub NoneOf : ℕ → List Tree → Type 0
+NoneOf k [] = Unit {0}
+NoneOf k (r ∷ rs) = ((u : Tree) → r ≢ chosen k u) × NoneOf k rs
+
+pub record OneOf (k : ℕ) (t : Tree) (readings : List Tree) : Type 0 where
+  pub before : List Tree
+  pub after : List Tree
+  pub is : readings ≡ before ++ (chosen k t ∷ after)
+  pub none_before : NoneOf k before
+  pub none_after : NoneOf k after
+
+-- The readings, in any order, are these by part: none twice, and each required one there.
+abbrev pub ByPart : ℕ → List Part → List Tree → List Tree → Type 0
+ByPart k [] readings ts = ts ≡ []
+ByPart k (p ∷ ps) readings ts = (t : Tree) × (us : List Tree) × (ts ≡ t ∷ us)
+  × (OneOf k t readings ⊎ (NoneOf k readings × IsMissing p.presence t)) × ByPart (suc k) ps readings us
+
+-- The contents of a SET.
+abbrev pub ReadsSet : List Part → Bool → Reading Tree
+ReadsSet ps closing input t rest = (readings : List Tree) × (ts : List Tree) × (t ≡ items ts)
+  × Many (ReadsChoice 0 ps) closing input readings rest × ByPart 0 ps readings ts

@@ -1,0 +1,142 @@
+-- Shapes of types and trees of values.
+use Rattle.std.specs.Prelude.{◌≡◌, ℕ, ◌⊎◌, List, [], ◌∷◌, Bool, true, ℤ, ◌≤ℤ◌, Option, Some, None, IfSome, if◌then◌else◌}
+use Rattle.rasn_types.specs.Calendar.{Day, Moment}
+use Rattle.rasn_types.specs.Tags.{Tag, is_eoc}
+use Rattle.rasn_types.specs.declared.types.constraints.Bounded.{Bounded}
+use Rattle.rasn_types.specs.declared.types.constraints.Bounded.TheVariants.{None as Free, Single, Range}
+pub use Rattle.rasn_types.specs.declared.types.constraints.Bound.{Bound}
+pub use Rattle.rasn_types.specs.declared.types.constraints.Constraints.{Constraints}
+
+-- What a value means. A list of trees is a chain of `joined` that ends in `done`.
+pub data Tree : Type 0 where
+  number : ℤ → Tree
+  bits : List Bool → Tree
+  numbers : List ℕ → Tree
+  instant : Moment → Tree
+  on_day : Day → Tree
+  done : Tree
+  joined : Tree → Tree → Tree
+  walk : Tree → Tree
+  chosen : ℕ → Tree → Tree
+  absent : Tree
+
+abbrev pub items : List Tree → Tree
+items [] = done
+items (t ∷ ts) = joined t (items ts)
+
+-- The whole numbers that a type holds: all, or those between two ends, which are included.
+pub data Interval : Type 0 where
+  every : Interval
+  between : ℤ → ℤ → Interval
+
+abbrev pub IsIn : Interval → ℤ → Type 0
+IsIn every z = Unit {0}
+IsIn (between low high) z = (low ≤ℤ z) × (z ≤ℤ high)
+
+pub data Kind : Type 0 where
+  boolean null object_identifier bit_string octet_string : Kind
+  integer : Interval → Kind
+  enumerated : List ℤ → Kind
+  fixed : ℕ → Kind
+  numeric printable visible ia5 any_octets bmp utf8 : Kind
+  utc_time generalized_time date : Kind
+
+abbrev pub IsWithin : {X : Type 0} → (X → X → Type 0) → Bounded X → X → Type 0
+IsWithin le Free x = Unit {0}
+IsWithin le (Single y) x = x ≡ y
+IsWithin le (Range start end) x = IfSome start (λ l. le l x) × IfSome end (λ h. le x h)
+
+-- A bound that isn't extensible holds.
+abbrev pub Admits : {X : Type 0} → (X → X → Type 0) → Option (Bound X) → X → Type 0
+Admits le None x = Unit {0}
+Admits le (Some bound) x = (bound.extensible ≡ true) ⊎ IsWithin le bound.constraint x
+
+-- A default part has its default's tree; an addition is tagged explicitly, and is always read.
+pub data Presence : Type 0 where
+  required optional addition : Presence
+  default : Tree → Presence
+
+-- `any None` is an open type without a tag; `option` carries the tag that is looked for.
+mutual
+  pub data Shape : Type 0 where
+    leaf : Kind → Tag → Constraints → Shape
+    any : Option Tag → Shape
+    prefix : Tag → Shape → Shape
+    choice : Parts → Shape
+    option : Option Tag → Shape → Shape
+    seq : Tag → Parts → Shape
+    set : Tag → Parts → Shape
+    list : Tag → Shape → Option (Bound ℕ) → Shape
+    bag : Tag → Shape → Option (Bound ℕ) → Shape
+
+  -- the parts of a SEQUENCE or a SET, or the alternatives of a CHOICE, which are all required
+  pub data Parts : Type 0 where
+    none : Parts
+    part : Presence → Shape → Parts → Parts
+
+-- The tag that all values of the shape begin with, where there is one.
+abbrev pub own : Shape → Option Tag
+own (leaf kind tag bounds) = Some tag
+own (any tag) = tag
+own (prefix tag s) = Some tag
+own (choice parts) = None
+own (option tag s) = own s
+own (seq tag parts) = Some tag
+own (set tag parts) = Some tag
+own (list tag s size) = Some tag
+own (bag tag s size) = Some tag
+
+abbrev pub IsTagOf : Option Tag → Tag → Type 0
+IsTagOf None n = Unit {0}
+IsTagOf (Some tag) n = n ≡ tag
+
+-- The tags that values of the shape may begin with.
+abbrev mutual
+  pub IsFirst : Shape → Tag → Type 0
+  IsFirst (leaf kind tag bounds) n = n ≡ tag
+  IsFirst (any tag) n = IsTagOf tag n
+  IsFirst (prefix tag s) n = n ≡ tag
+  IsFirst (choice parts) n = IsFirstOf parts n
+  IsFirst (option tag s) n = IsFirst s n
+  IsFirst (seq tag parts) n = n ≡ tag
+  IsFirst (set tag parts) n = n ≡ tag
+  IsFirst (list tag s size) n = n ≡ tag
+  IsFirst (bag tag s size) n = n ≡ tag
+
+  pub IsFirstOf : Parts → Tag → Type 0
+  IsFirstOf none n = ⊥
+  IsFirstOf (part presence s parts) n = IsFirst s n ⊎ IsFirstOf parts n
+
+-- The tag that is looked for: none where it is universal 0.
+abbrev pub looked_for : Tag → Option Tag
+looked_for tag = if is_eoc tag then None else Some tag
+
+-- The shape under another outermost tag and other constraints: an implicit tag replaces the outermost one (X.680 31.2.7).
+-- A CHOICE has none to replace, and universal 0 takes an open type's away.
+abbrev pub given : Tag → Constraints → Shape → Shape
+given t c (leaf kind tag bounds) = leaf kind t c
+given t c (any tag) = any (looked_for t)
+given t c (prefix tag s) = prefix t s
+given t c (choice parts) = choice parts
+given t c (option tag s) = option (looked_for t) (given t c s)
+given t c (seq tag parts) = seq t parts
+given t c (set tag parts) = set t parts
+given t c (list tag s size) = list t s c.size
+given t c (bag tag s size) = bag t s c.size
+
+-- Every value of a solid shape is there.
+abbrev mutual
+  pub IsSolid : Shape → Type 0
+  IsSolid (leaf kind tag bounds) = Unit {0}
+  IsSolid (any tag) = Unit {0}
+  IsSolid (prefix tag s) = Unit {0}
+  IsSolid (choice parts) = AreSolid parts
+  IsSolid (option tag s) = ⊥
+  IsSolid (seq tag parts) = Unit {0}
+  IsSolid (set tag parts) = Unit {0}
+  IsSolid (list tag s size) = Unit {0}
+  IsSolid (bag tag s size) = Unit {0}
+
+  pub AreSolid : Parts → Type 0
+  AreSolid none = Unit {0}
+  AreSolid (part presence s parts) = IsSolid s × AreSolid parts

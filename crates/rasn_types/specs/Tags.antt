@@ -1,0 +1,72 @@
+-- Tags (X.680 8) and encoding rules.
+use Rattle.std.specs.Prelude.{Bool, true, false, ◌==◌, ◌||◌, ◌&&◌, ◌≡◌, ℕ, ◌<◌, ◌⊎◌}
+pub use Rattle.rasn_types.specs.declared.types.rules.Codec.{Codec}
+pub use Rattle.rasn_types.specs.declared.types.rules.Codec.TheVariants.{Ber, Cer, Der}
+pub use Rattle.rasn_types.specs.declared.types.tag.Class.{Class}
+pub use Rattle.rasn_types.specs.declared.types.tag.Class.TheVariants.{Universal, Application, Context, Private}
+pub use Rattle.rasn_types.specs.declared.types.tag.Tag.{Tag}
+
+-- How headers are spelled: as the rule does, or as DER does but with spellings of any length.
+pub data Form : Type 0 where
+  ber_form cer_form der_form loose_form : Form
+
+abbrev pub form : Codec → Form
+form Ber = ber_form
+form Cer = cer_form
+form Der = der_form
+
+-- Open octets stay lenient under DER.
+abbrev pub loose : Codec → Form
+loose Ber = ber_form
+loose Cer = cer_form
+loose Der = loose_form
+
+-- The forms whose spellings are the shortest ones. None is yet: DER's reader takes the spellings of BER.
+abbrev pub HasStrictForm : Form → Type 0
+HasStrictForm ber_form = ⊥
+HasStrictForm cer_form = ⊥
+HasStrictForm der_form = ⊥
+HasStrictForm loose_form = ⊥
+
+-- The rules whose reader takes canonical contents alone. None is yet.
+abbrev pub IsStrict : Codec → Type 0
+IsStrict Ber = ⊥
+IsStrict Cer = ⊥
+IsStrict Der = ⊥
+
+abbrev pub rank : Class → ℕ
+rank Universal = 0
+rank Application = 1
+rank Context = 2
+rank Private = 3
+
+-- The tag of no value, which closes contents of indefinite length.
+abbrev pub eoc : Tag
+eoc = record { class = Universal; value = 0 }
+
+abbrev pub in_universal : ℕ → Tag
+in_universal n = record { class = Universal; value = n }
+
+-- By class, and then by number (X.680 8.6).
+abbrev pub IsTagBelow : Tag → Tag → Type 0
+IsTagBelow s t = (rank s.class < rank t.class) ⊎ ((rank s.class ≡ rank t.class) × (s.value < t.value))
+
+-- EXTERNAL, SEQUENCE and SET are always constructed.
+abbrev pub bit_in : Class → ℕ → Bool
+bit_in Universal n = (n == 8) || ((n == 16) || (n == 17))
+bit_in Application n = false
+bit_in Context n = false
+bit_in Private n = false
+
+abbrev pub tag_bit : Tag → Bool
+tag_bit tag = bit_in tag.class tag.value
+
+-- Whether the tag is universal 0, in calls the sign that no tag is looked for.
+abbrev pub is_universal : Class → Bool
+is_universal Universal = true
+is_universal Application = false
+is_universal Context = false
+is_universal Private = false
+
+abbrev pub is_eoc : Tag → Bool
+is_eoc tag = is_universal tag.class && (tag.value == 0)

@@ -1,0 +1,29 @@
+-- The trees of values.
+use Rattle.std.specs.Prelude.{◌≡◌, ℕ, Bool, ℤ, pos, true, false, List, None}
+use Rattle.rasn_types.specs.Framing.{AreOctets}
+use Rattle.rasn_types.specs.Contents.{signed, IsShortestInteger}
+use Rattle.rasn_types.specs.Shapes.{Tree, number, numbers, Constraints}
+use Rattle.rasn_types.specs.declared.types.octet.OctetString.{OctetString}
+
+abbrev pub truth : Bool → ℤ
+truth true = pos 1
+truth false = pos 0
+
+abbrev pub bool_tree : Bool → Tree
+bool_tree b = number (truth b)
+
+-- the octets of an OCTET STRING
+abbrev pub octets_of : OctetString → List ℕ
+octets_of s = s.octets.items
+
+abbrev pub octets_tree : OctetString → Tree
+octets_tree s = numbers (octets_of s)
+
+abbrev pub unconstrained : Constraints
+unconstrained = record { value = None; size = None }
+
+-- Octets in two's complement, the fewest for the number (X.690 8.3.2).
+pub record IsShortestOf (z : ℤ) (l : List ℕ) : Type 0 where
+  pub is : signed l ≡ z
+  pub shortest : IsShortestInteger l
+  pub octets : AreOctets l

@@ -1,0 +1,3 @@
+//! What the encoding rules share: rules, identifiers and times.
+
+pub mod time;

@@ -1,0 +1,70 @@
+//! Errors of writing.
+ghost use Rattle.std.specs.Prelude.{IsTrue, ◌↔◌};
+ghost use Rattle.rasn_types.specs.Errors.{IsEncodeMemory};
+
+use crate::types::{Bounded, Codec, Integer};
+use thiserror::Error;
+
+/// Why a value isn't written, and under which rules.
+#[derive(Debug, Drop, Error)]
+#[error("{codec:?}: {kind}")]
+pub struct EncodeError {
+    pub kind: EncodeErrorKind,
+    pub codec: Codec,
+}
+
+impl EncodeError {
+    /// Whether the cause is want of memory alone.
+    pub fn is_out_of_memory(&self) -> bool
+        ensures { IsTrue result ↔ IsEncodeMemory self.now.kind }
+    {
+        matches!(&self.kind, EncodeErrorKind::OutOfMemory)
+    }
+}
+
+/// Why a value isn't written.
+#[derive(Debug, Drop, Error)]
+pub enum EncodeErrorKind {
+    /// The size is out of its bound: of octets, characters, units, bits or elements, as the type counts.
+    #[error("a size of {size}, not in {expected:?}")]
+    SizeConstraintNotSatisfied {
+        size: usize,
+        expected: Bounded<usize>,
+    },
+    /// The number is out of its bound.
+    #[error("{value:?}, not in {expected:?}")]
+    ValueConstraintNotSatisfied {
+        value: Integer,
+        expected: Bounded<i128>,
+    },
+    /// REAL isn't supported.
+    #[error("REAL isn't supported")]
+    RealNotSupported,
+    /// A growth of memory was refused.
+    #[error("out of memory")]
+    OutOfMemory,
+    /// A cause that only these rules have.
+    #[error("{inner}")]
+    CodecSpecific { inner: CodecEncodeError },
+}
+
+/// A cause that only some rules have.
+#[derive(Debug, Drop, Error)]
+pub enum CodecEncodeError {
+    #[error("{0}")]
+    Ber(BerEncodeErrorKind),
+}
+
+/// Causes of X.690 8 to 11.
+#[derive(Debug, Drop, Error)]
+pub enum BerEncodeErrorKind {
+    /// The arcs aren't an object identifier's (X.690 8.19.4).
+    #[error("no object identifier: {oid:?}")]
+    InvalidObjectIdentifier { oid: Vec<u32> },
+    /// Open octets without a tag directly in a SET.
+    #[error("an open type without a tag in a SET")]
+    AnyInSet,
+    /// The tags of a SET's components, or the octets of a SET OF's elements, fall (X.690 9.3, 10.3, 11.6).
+    #[error("components out of order")]
+    SetOutOfOrder,
+}

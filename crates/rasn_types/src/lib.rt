@@ -1,0 +1,6 @@
+//! The values, the schema and the errors of the codec, and the definitions of its grammar.
+#![tactic(auto)]
+
+pub mod ber;
+pub mod error;
+pub mod types;

@@ -1,0 +1,44 @@
+//! INTEGER: whole numbers of a fixed width, and of any length.
+ghost use Rattle.std.specs.Prelude.{◌≡◌, ◌++◌, ◌<◌, length, true, IfOk, IfErr, OnOk, OnErr, List, ℕ, MatchOption};
+ghost use Rattle.rasn_types.specs.Contents.{signed};
+ghost use Rattle.rasn_types.specs.Shapes.{IsIn};
+ghost use Rattle.rasn_types.specs.Trees.{IsShortestOf};
+
+use std::alloc::{AllocError, Global};
+
+/// A whole number of any length, as octets in two's complement, most significant first (X.690 8.3), in the fewest octets.
+#[derive(Debug, Drop)]
+pub struct Integer {
+    octets: Vec<u8>,
+}
+
+/// A type of whole numbers that an INTEGER is read as and written from (X.690 8.3).
+pub trait IntegerType: Drop {
+    ghost use Rattle.std.specs.Prelude.{ℕ, ℤ, Bool};
+    ghost use Rattle.rasn_types.specs.Shapes.{Interval};
+
+    ghost WIDTH: { ℕ };
+
+    /// How many bits the type has; 0 where it has no end.
+    const WIDTH: u32;
+
+    /// The numbers that the type has.
+    ghost range: { Interval };
+
+    /// A value's number.
+    ghost number: { Self → ℤ };
+
+    /// Whether a value takes memory.
+    ghost grows: { Bool };
+
+    /// The number that octets in two's complement stand for, where the type has it.
+    fn from_octets(alloc: Global, octets: &[u8]) -> Result<Option<Self>, AllocError>
+        requires { 0 < length octets.now }
+        ensures ok { IfOk result (λ v. MatchOption v (IsIn range (signed octets.now) → ⊥) (λ n. number n ≡ signed octets.now)) }
+        ensures memory { IfErr result (λ _. grows ≡ true) };
+
+    /// Puts the number behind the octets, in two's complement and in the fewest octets.
+    fn append_octets(&self, octets: &mut Vec<u8>) -> Result<(), AllocError>
+        ensures ok { OnOk result ((l : List ℕ) × (octets.new.items ≡ octets.old.items ++ l) × IsShortestOf (number self.now) l) }
+        ensures err { OnErr result (octets.new.items ≡ octets.old.items) };
+}
