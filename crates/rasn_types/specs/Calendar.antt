@@ -1,5 +1,5 @@
 -- Days of the proleptic Gregorian calendar, with a year 0, and moments in UTC.
-use Rattle.std.specs.Prelude.{◌≡◌, ℕ, ◌+◌, ◌-◌, ◌*◌, ◌/◌, ◌%◌, ◌<◌, ◌≤◌, Bool, ◌&&◌, ◌||◌, ◌==◌, not, ℤ, pos, negsuc, ◌+ℤ◌, ◌-ℤ◌, ◌≤ℤ◌, if◌then◌else◌, nat_lt, unsigned_abs}
+use Rattle.std.specs.Prelude.{◌≡◌, ℕ, ◌+◌, ◌-◌, ◌*◌, ◌/◌, ◌%◌, ◌<◌, ◌≤◌, ◌⊎◌, Bool, ◌&&◌, ◌||◌, ◌==◌, not, ℤ, pos, negsuc, ◌+ℤ◌, ◌-ℤ◌, ◌≤ℤ◌, ◌<ℤ◌, if◌then◌else◌, nat_lt, unsigned_abs}
 
 pub record Day : Type 0 where
   pub year : ℤ
@@ -23,13 +23,13 @@ pub record IsDay (d : Day) : Type 0 where
 
 unfoldable pub next_day : Day → Day
 next_day d = if nat_lt d.day (days_of_month d.year d.month) then record d { day = d.day + 1 }
-  else if nat_lt d.month 12 then record { year = d.year; month = d.month + 1; day = 1 }
-  else record { year = d.year +ℤ pos 1; month = 1; day = 1 }
+    else if nat_lt d.month 12 then record { year = d.year; month = d.month + 1; day = 1 }
+    else record { year = d.year +ℤ pos 1; month = 1; day = 1 }
 
 unfoldable pub previous_day : Day → Day
 previous_day d = if nat_lt 1 d.day then record d { day = d.day - 1 }
-  else if nat_lt 1 d.month then record { year = d.year; month = d.month - 1; day = days_of_month d.year (d.month - 1) }
-  else record { year = d.year -ℤ pos 1; month = 12; day = 31 }
+    else if nat_lt 1 d.month then record { year = d.year; month = d.month - 1; day = days_of_month d.year (d.month - 1) }
+    else record { year = d.year -ℤ pos 1; month = 12; day = 31 }
 
 -- An instant, by its fields in UTC. From 1000000000 nanoseconds on it lies in a leap second.
 pub record Moment : Type 0 where
@@ -57,13 +57,20 @@ at_minute d n m = record { day = d; hour = n / 60; minute = n % 60; second = m.s
 -- less than a day later, in minutes
 unfoldable pub later : ℕ → Moment → Moment
 later n m = if nat_lt (minute_of_day m + n) 1440 then at_minute m.day (minute_of_day m + n) m
-  else at_minute (next_day m.day) (minute_of_day m + n - 1440) m
+    else at_minute (next_day m.day) (minute_of_day m + n - 1440) m
 
 unfoldable pub earlier : ℕ → Moment → Moment
 earlier n m = if nat_lt (minute_of_day m) n then at_minute (previous_day m.day) (minute_of_day m + 1440 - n) m
-  else at_minute m.day (minute_of_day m - n) m
+    else at_minute m.day (minute_of_day m - n) m
 
 -- an instant, and the offset of its text in minutes
 pub record Stamp : Type 0 where
   pub moment : Moment
   pub offset : ℤ
+
+-- The order of days and of instants, by their fields.
+abbrev pub DayBefore : Day → Day → Type 0
+DayBefore d e = (d.year <ℤ e.year) ⊎ ((d.year ≡ e.year) × ((d.month < e.month) ⊎ ((d.month ≡ e.month) × (d.day < e.day))))
+
+abbrev pub Before : Moment → Moment → Type 0
+Before m n = DayBefore m.day n.day ⊎ ((m.day ≡ n.day) × ((m.hour < n.hour) ⊎ ((m.hour ≡ n.hour) × ((m.minute < n.minute) ⊎ ((m.minute ≡ n.minute) × ((m.second < n.second) ⊎ ((m.second ≡ n.second) × (m.nanosecond < n.nanosecond))))))))

@@ -40,6 +40,10 @@ IsShortestInteger [] = ⊥
 IsShortestInteger (a ∷ []) = Unit {0}
 IsShortestInteger (a ∷ b ∷ l) = (((a ≡ 0) × (b < 128)) → ⊥) × (((a ≡ 255) × (128 ≤ b)) → ⊥)
 
+-- An octet in front of another is nothing but its sign.
+abbrev pub RepeatsSign : ℕ → ℕ → Type 0
+RepeatsSign a b = ((a ≡ 0) × (b < 128)) ⊎ ((a ≡ 255) × (128 ≤ b))
+
 abbrev pub IsShortest128 : List ℕ → Type 0
 IsShortest128 [] = ⊥
 IsShortest128 (b ∷ l) = b ≢ 128

@@ -3,6 +3,8 @@ pub mod Framing
 pub mod Calendar
 pub mod Spelling
 pub mod Times
+pub mod Reading
+pub mod Makes
 pub mod Shapes
 pub mod Readers
 pub mod Contents

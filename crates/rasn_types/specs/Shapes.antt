@@ -51,6 +51,11 @@ abbrev pub Admits : {X : Type 0} → (X → X → Type 0) → Option (Bound X) �
 Admits le None x = Unit {0}
 Admits le (Some bound) x = (bound.extensible ≡ true) ⊎ IsWithin le bound.constraint x
 
+-- What a bound says, also where it is extensible.
+abbrev pub constraint_of : {X : Type 0} → Option (Bound X) → Bounded X
+constraint_of None = Free
+constraint_of (Some bound) = bound.constraint
+
 -- A default part has its default's tree; an addition is tagged explicitly, and is always read.
 pub data Presence : Type 0 where
   required optional addition : Presence

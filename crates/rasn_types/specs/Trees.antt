@@ -1,8 +1,8 @@
 -- The trees of values.
-use Rattle.std.specs.Prelude.{◌≡◌, ℕ, Bool, ℤ, pos, true, false, List, None}
+use Rattle.std.specs.Prelude.{◌≡◌, ◌-◌, ◌^◌, ℕ, Bool, ℤ, pos, neg_ℤ, true, false, List, None}
 use Rattle.rasn_types.specs.Framing.{AreOctets}
 use Rattle.rasn_types.specs.Contents.{signed, IsShortestInteger}
-use Rattle.rasn_types.specs.Shapes.{Tree, number, numbers, Constraints}
+use Rattle.rasn_types.specs.Shapes.{Tree, number, numbers, Constraints, Interval, between}
 use Rattle.rasn_types.specs.declared.types.octet.OctetString.{OctetString}
 
 abbrev pub truth : Bool → ℤ
@@ -27,3 +27,10 @@ pub record IsShortestOf (z : ℤ) (l : List ℕ) : Type 0 where
   pub is : signed l ≡ z
   pub shortest : IsShortestInteger l
   pub octets : AreOctets l
+
+-- The whole numbers that so many bits hold, in two's complement or without a sign.
+abbrev pub signed_range : ℕ → Interval
+signed_range bits = between (neg_ℤ (pos (2 ^ (bits - 1)))) (pos (2 ^ (bits - 1) - 1))
+
+abbrev pub unsigned_range : ℕ → Interval
+unsigned_range bits = between (pos 0) (pos (2 ^ bits - 1))

@@ -1,4 +1,10 @@
 //! Constraints on values and on sizes (X.680 51).
+ghost use Rattle.std.specs.Prelude.{◌≡◌, ◌^◌, ◌<◌, ◌≤◌, ◌≤ℤ◌, ◌<ℤ◌, length, MatchBool, ℤ, pos, neg_ℤ};
+ghost use Rattle.rasn_types.specs.Contents.{signed};
+ghost use Rattle.rasn_types.specs.Shapes.{Admits, IsIn, IsWithin, constraint_of};
+ghost use Rattle.rasn_types.specs.Trees.{signed_range};
+
+use crate::types::twos_complement::signed_i128;
 
 /// What a number may be. Both ends are included; an end that is `None` is open.
 #[derive(Clone, Copy, Debug, PartialEq, Eq, Hash, Drop)]
@@ -20,4 +26,146 @@ pub struct Bound<T> {
 pub struct Constraints {
     pub value: Option<Bound<i128>>,
     pub size: Option<Bound<usize>>,
+}
+
+impl Constraints {
+    /// No constraint.
+    pub const NONE: Constraints = Constraints {
+        value: None,
+        size: None,
+    };
+
+    /// Whether a size meets its bound, as each does where there is none or it is extensible.
+    pub fn admits_size(&self, size: usize) -> bool
+        ensures { MatchBool result (Admits ◌≤◌ self.now.size size) (Admits ◌≤◌ self.now.size size → ⊥) }
+    {
+        match self.size {
+            None => true,
+            Some(bound) => bound.extensible || is_size_within(bound.constraint, size),
+        }
+    }
+
+    /// Whether the whole number that octets in two's complement stand for (X.690 8.3) meets its bound, as each does where
+    /// there is none or it is extensible.
+    pub fn admits_number(&self, octets: &[u8]) -> bool
+        requires { 0 < length octets.now }
+        ensures { MatchBool result (Admits ◌≤ℤ◌ self.now.value (signed octets.now)) (Admits ◌≤ℤ◌ self.now.value (signed octets.now) → ⊥) }
+    {
+        match self.value {
+            None => true,
+            Some(bound) => bound.extensible || is_number_within(bound.constraint, octets),
+        }
+    }
+
+    /// What a size may be, for errors that tell it.
+    pub fn size_bounds(&self) -> Bounded<usize>
+        ensures { result ≡ constraint_of self.now.size }
+    {
+        self.size.map_or(Bounded::None, |bound| bound.constraint)
+    }
+
+    /// What a whole number may be, for errors that tell it.
+    pub fn value_bounds(&self) -> Bounded<i128>
+        ensures { result ≡ constraint_of self.now.value }
+    {
+        self.value.map_or(Bounded::None, |bound| bound.constraint)
+    }
+}
+
+fn is_size_within(bounded: Bounded<usize>, size: usize) -> bool
+    ensures { MatchBool result (IsWithin ◌≤◌ bounded size) (IsWithin ◌≤◌ bounded size → ⊥) }
+{
+    match bounded {
+        Bounded::None => true,
+        Bounded::Single(only) => size == only,
+        Bounded::Range { start, end } => {
+            start.is_none_or(|low| low <= size) && end.is_none_or(|high| size <= high)
+        }
+    }
+}
+
+fn is_number_within(bounded: Bounded<i128>, octets: &[u8]) -> bool
+    requires { 0 < length octets.now }
+    ensures { MatchBool result (IsWithin ◌≤ℤ◌ bounded (signed octets.now)) (IsWithin ◌≤ℤ◌ bounded (signed octets.now) → ⊥) }
+{
+    match bounded {
+        Bounded::None => true,
+        _ => match signed_i128(octets) {
+            Some(number) => is_within(bounded, number),
+            None => is_far_within(bounded, octets),
+        },
+    }
+}
+
+fn is_within(bounded: Bounded<i128>, number: i128) -> bool
+    ensures { MatchBool result (IsWithin ◌≤ℤ◌ bounded number) (IsWithin ◌≤ℤ◌ bounded number → ⊥) }
+{
+    match bounded {
+        Bounded::None => true,
+        Bounded::Single(only) => number == only,
+        Bounded::Range { start, end } => {
+            start.is_none_or(|low| low <= number) && end.is_none_or(|high| number <= high)
+        }
+    }
+}
+
+// A number beyond 128 bits is inside an open end alone.
+fn is_far_within(bounded: Bounded<i128>, octets: &[u8]) -> bool
+    requires some { 0 < length octets.now }
+    requires far { IsIn (signed_range 128) (signed octets.now) → ⊥ }
+    ensures { MatchBool result (IsWithin ◌≤ℤ◌ bounded (signed octets.now)) (IsWithin ◌≤ℤ◌ bounded (signed octets.now) → ⊥) }
+{
+    if octets[0] < 128 {
+        is_open_above(bounded)
+    } else {
+        is_open_below(bounded)
+    }
+}
+
+fn is_open_above(bounded: Bounded<i128>) -> bool
+    ensures { (z : ℤ) → pos (2 ^ 127) ≤ℤ z → MatchBool result (IsWithin ◌≤ℤ◌ bounded z) (IsWithin ◌≤ℤ◌ bounded z → ⊥) }
+{
+    match bounded {
+        Bounded::None => true,
+        Bounded::Single(_) | Bounded::Range { end: Some(_), .. } => false,
+        Bounded::Range { end: None, .. } => true,
+    }
+}
+
+fn is_open_below(bounded: Bounded<i128>) -> bool
+    ensures { (z : ℤ) → z <ℤ neg_ℤ (pos (2 ^ 127)) → MatchBool result (IsWithin ◌≤ℤ◌ bounded z) (IsWithin ◌≤ℤ◌ bounded z → ⊥) }
+{
+    match bounded {
+        Bounded::None => true,
+        Bounded::Single(_) | Bounded::Range { start: Some(_), .. } => false,
+        Bounded::Range { start: None, .. } => true,
+    }
+}
+
+#[cfg(test)]
+mod tests {
+    use super::*;
+
+    // -2^128 is below each end that is there, and inside one that is open.
+    #[test]
+    fn far_numbers_are_inside_open_ends(rt: HostRuntime) {
+        let mut octets = [0; 17];
+        octets[0] = 0xFF;
+        for (start, end, is_inside) in [
+            (None, Some(5), true),
+            (Some(i128::MIN), None, false),
+            (None, None, true),
+        ] {
+            let constraint = Bounded::Range { start, end };
+            let value = Some(Bound {
+                constraint,
+                extensible: false,
+            });
+            let constraints = Constraints { value, size: None };
+            assert_eq!(rt; constraints.admits_number(&octets), is_inside);
+        }
+        assert!(rt; Constraints::NONE.admits_size(7));
+        assert_eq!(rt; Constraints::NONE.size_bounds(), Bounded::None);
+        assert_eq!(rt; Constraints::NONE.value_bounds(), Bounded::None);
+    }
 }

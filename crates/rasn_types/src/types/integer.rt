@@ -4,13 +4,14 @@ ghost use Rattle.rasn_types.specs.Contents.{signed};
 ghost use Rattle.rasn_types.specs.Shapes.{IsIn};
 ghost use Rattle.rasn_types.specs.Trees.{IsShortestOf};
 
-use std::alloc::{AllocError, Global};
+mod signed;
+#[cfg(test)]
+mod tests;
+mod unbounded;
+mod unsigned;
 
-/// A whole number of any length, as octets in two's complement, most significant first (X.690 8.3), in the fewest octets.
-#[derive(Debug, Drop)]
-pub struct Integer {
-    octets: Vec<u8>,
-}
+use std::alloc::{AllocError, Global};
+pub use unbounded::Integer;
 
 /// A type of whole numbers that an INTEGER is read as and written from (X.690 8.3).
 pub trait IntegerType: Drop {

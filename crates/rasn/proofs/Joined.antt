@@ -1,0 +1,148 @@
+-- Readings that relate an input to one value and one rest stay so when they are joined.
+use Rattle.std.proofs.Common.{◌≡◌, ℕ, suc, ◌⊎◌, inl, inr, List, [], ◌∷◌, ◌++◌, Bool, true, false, Option, Some, None, refl, sym, ap, ap₂, ◌∙◌, subst}
+use Rattle.rasn_types.specs.declared.types.rules.Codec.{Codec}
+use Rattle.rasn_types.specs.declared.types.tag.Tag.{Tag}
+use Rattle.rasn_types.specs.Framing.{Next}
+use Rattle.rasn_types.specs.Shapes.{Tree, items, chosen, absent, Presence, required, optional, addition, default}
+use Rattle.rasn_types.specs.Readers.{Reading, Inside, in_definite, in_indefinite, Many, IsLeftOut, IsThere, Perhaps, Part, ReadsPart, InOrder, IsMissing, AllMissing, IsBare, ReadsSeq, ReadsChoice, NoneOf, OneOf, ByPart, ReadsSet}
+use Rattle.rasn_types.proofs.Frames.{frame_one, next_one}
+
+-- at most one value and rest
+abbrev pub IsOne : {X : Type 0} → Reading X → Type 0
+IsOne {X} reads = (input : List ℕ) (x y : X) (rest other : List ℕ) → reads input x rest → reads input y other → (x ≡ y) × (rest ≡ other)
+
+pub inside_one : {X : Type 0} (inner : Bool → Reading X) → ((c : Bool) → IsOne (inner c))
+    → {rule : Codec} {s t : Tag} {b d : Bool} (input : List ℕ) (x y : X) (rest other : List ℕ)
+    → Inside rule s b inner input x rest → Inside rule t d inner input y other → (x ≡ y) × (rest ≡ other)
+inside_one inner one input x y rest other (in_definite c f r) (in_definite c' f' r') =
+    let o = frame_one input f f' in
+    let e = o.extent in
+    let p : c ≡ c' = cc in
+    ((one false c x y [] [] r (subst (λ l. inner false l y []) (sym p) r')).0, o.rest)
+inside_one inner one input x y rest other (in_definite c f r) (in_indefinite b' f' r') =
+    let e = (frame_one input f f').extent in cc
+inside_one inner one input x y rest other (in_indefinite b f r) (in_definite c' f' r') =
+    let e = (frame_one input f f').extent in cc
+inside_one inner one input x y rest other (in_indefinite b f r) (in_indefinite b' f' r') =
+    let p = (frame_one input f f').rest in
+    let o = one true b x y (0 ∷ 0 ∷ rest) (0 ∷ 0 ∷ other) r (subst (λ l. inner true l y (0 ∷ 0 ∷ other)) (sym p) r') in
+    let q = o.1 in
+    (o.0, cc)
+
+pub many_one : {X : Type 0} (reads : Reading X) → IsOne reads → (closing : Bool) → IsOne (Many reads closing)
+many_one reads one closing input [] [] rest other h k = let p = h.1 in let q = k.1 in (refl, cc)
+many_one reads one closing input [] (y ∷ ys) rest other h k = absurd (k.0 h.0)
+many_one reads one closing input (x ∷ xs) [] rest other h k = absurd (h.0 k.0)
+many_one reads one closing input (x ∷ xs) (y ∷ ys) rest other h k =
+    let o = one input x y h.1 k.1 h.2 k.2 in
+    let t = many_one reads one closing k.1 xs ys rest other (subst (λ l. Many reads closing l xs rest) o.1 h.3) k.3 in
+    (ap₂ ◌∷◌ o.0 t.0, t.1)
+
+there_or_not : (tag : Option Tag) (closing : Bool) (input : List ℕ) → IsLeftOut tag closing input → IsThere tag closing input → ⊥
+there_or_not None closing input h k = k h
+there_or_not (Some tag) closing input (inl h) k = k.0 h
+there_or_not (Some tag) closing input (inr h) k = h.2 (next_one input h.0 tag h.1 k.1)
+
+pub perhaps_one : {X : Type 0} (tag : Option Tag) (without : X) (reads : Reading X) → IsOne reads → (closing : Bool) → IsOne (Perhaps tag without reads closing)
+perhaps_one tag without reads one closing input x y rest other (inl (p, q, r)) (inl (u, v, w)) = (cc, cc)
+perhaps_one tag without reads one closing input x y rest other (inl (p, q, r)) (inr (u, v)) = absurd (there_or_not tag closing input p u)
+perhaps_one tag without reads one closing input x y rest other (inr (p, q)) (inl (u, v, w)) = absurd (there_or_not tag closing input u p)
+perhaps_one tag without reads one closing input x y rest other (inr (p, q)) (inr (u, v)) = one input x y rest other q v
+
+part_one : (presence : Presence) (tag : Option Tag) (reads : Reading Tree) → IsOne reads → (closing : Bool) → IsOne (ReadsPart presence tag reads closing)
+part_one required tag reads one closing = one
+part_one addition tag reads one closing = one
+part_one optional tag reads one closing = perhaps_one tag absent reads one closing
+part_one (default d) tag reads one closing = perhaps_one tag d reads one closing
+
+abbrev pub EachPart : (Part → Type 0) → List Part → Type 0
+EachPart P [] = Unit {0}
+EachPart P (p ∷ ps) = P p × EachPart P ps
+
+abbrev pub ReadsOne : Part → Type 0
+ReadsOne p = IsOne p.reads
+
+in_order_one : (ps : List Part) → EachPart ReadsOne ps → (closing : Bool) → IsOne (InOrder ps closing)
+in_order_one [] one closing input ts us rest other h k = let p = h.0 in let q = h.1 in let r = k.0 in let s = k.1 in (cc, cc)
+in_order_one (p ∷ ps) one closing input ts us rest other h k =
+    let o = part_one p.presence p.own p.reads one.0 closing input h.0 k.0 h.2 k.2 h.4 k.4 in
+    let t = in_order_one ps one.1 closing k.2 h.1 k.1 rest other (subst (λ l. InOrder ps closing l h.1 rest) o.1 h.5) k.5 in
+    (h.3 ∙ (ap₂ ◌∷◌ o.0 t.0 ∙ sym k.3), t.1)
+
+missing_one : (presence : Presence) (t u : Tree) → IsMissing presence t → IsMissing presence u → t ≡ u
+missing_one required t u h k = absurd h
+missing_one optional t u h k = cc
+missing_one addition t u h k = cc
+missing_one (default d) t u h k = cc
+
+all_missing_one : (ps : List Part) (ts us : List Tree) → AllMissing ps ts → AllMissing ps us → ts ≡ us
+all_missing_one [] ts us h k = cc
+all_missing_one (p ∷ ps) ts us h k = h.2 ∙ (ap₂ ◌∷◌ (missing_one p.presence h.0 k.0 h.3 k.3) (all_missing_one ps h.1 k.1 h.4 k.4) ∙ sym k.2)
+
+pub seq_one : (ps : List Part) → EachPart ReadsOne ps → (closing : Bool) → IsOne (ReadsSeq ps closing)
+seq_one ps one closing input t u rest other h k = go h.2 k.2
+  where
+    go : (IsBare ps closing input × AllMissing ps h.0 × (rest ≡ input)) ⊎ ((IsBare ps closing input → ⊥) × InOrder ps closing input h.0 rest)
+        → (IsBare ps closing input × AllMissing ps k.0 × (other ≡ input)) ⊎ ((IsBare ps closing input → ⊥) × InOrder ps closing input k.0 other)
+        → (t ≡ u) × (rest ≡ other)
+    go (inl (a, b, c)) (inl (d, e, f)) = (h.1 ∙ (ap items (all_missing_one ps h.0 k.0 b e) ∙ sym k.1), c ∙ sym f)
+    go (inl (a, b, c)) (inr (d, e)) = absurd (d a)
+    go (inr (a, b)) (inl (d, e, f)) = absurd (a d)
+    go (inr (a, b)) (inr (d, e)) =
+        let o = in_order_one ps one closing input h.0 k.0 rest other b e in (h.1 ∙ (ap items o.0 ∙ sym k.1), o.1)
+
+-- some part's first tag
+abbrev pub IsFirstIn : List Part → Tag → Type 0
+IsFirstIn [] n = ⊥
+IsFirstIn (p ∷ ps) n = p.IsFirst n ⊎ IsFirstIn ps n
+
+abbrev pub AreApart : List Part → Type 0
+AreApart [] = Unit {0}
+AreApart (p ∷ ps) = ((n : Tag) → p.IsFirst n → IsFirstIn ps n → ⊥) × AreApart ps
+
+choice_first : (ps : List Part) (k : ℕ) (input : List ℕ) (t : Tree) (rest : List ℕ) → ReadsChoice k ps input t rest → (n : Tag) × Next input n × IsFirstIn ps n
+choice_first [] k input t rest h = absurd h
+choice_first (p ∷ ps) k input t rest (inl h) = (h.2, h.3, inl h.4)
+choice_first (p ∷ ps) k input t rest (inr h) = let r = choice_first ps (suc k) input t rest h in (r.0, r.1, inr r.2)
+
+pub choice_one : (ps : List Part) → EachPart ReadsOne ps → AreApart ps → (k : ℕ) → IsOne (ReadsChoice k ps)
+choice_one [] one apart k input t u rest other h l = absurd h
+choice_one (p ∷ ps) one apart k input t u rest other (inl h) (inl l) =
+    let o = one.0 input h.0 l.0 rest other h.5 l.5 in (h.1 ∙ (ap (chosen k) o.0 ∙ sym l.1), o.1)
+choice_one (p ∷ ps) one apart k input t u rest other (inl h) (inr l) =
+    let r = choice_first ps (suc k) input u other l in
+    absurd (apart.0 r.0 (subst p.IsFirst (next_one input h.2 r.0 h.3 r.1) h.4) r.2)
+choice_one (p ∷ ps) one apart k input t u rest other (inr h) (inl l) =
+    let r = choice_first ps (suc k) input t rest h in
+    absurd (apart.0 r.0 (subst p.IsFirst (next_one input l.2 r.0 l.3 r.1) l.4) r.2)
+choice_one (p ∷ ps) one apart k input t u rest other (inr h) (inr l) = choice_one ps one.1 apart.1 (suc k) input t u rest other h l
+
+none_here : (k : ℕ) (t : Tree) (before after : List Tree) → NoneOf k (before ++ (chosen k t ∷ after)) → ⊥
+none_here k t [] after h = h.0 t refl
+none_here k t (b ∷ before) after h = none_here k t before after h.1
+
+-- The one reading of part k.
+one_of_one : (k : ℕ) (t u : Tree) (a b c d : List Tree) → NoneOf k a → NoneOf k c
+    → a ++ (chosen k t ∷ b) ≡ c ++ (chosen k u ∷ d) → t ≡ u
+one_of_one k t u [] b [] d h l e = cc
+one_of_one k t u [] b (y ∷ c) d h l e = let f : chosen k t ≡ y = cc in absurd (l.0 t (sym f))
+one_of_one k t u (x ∷ a) b [] d h l e = let f : x ≡ chosen k u = cc in absurd (h.0 u f)
+one_of_one k t u (x ∷ a) b (y ∷ c) d h l e = one_of_one k t u a b c d h.1 l.1 cc
+
+by_part_one : (ps : List Part) (k : ℕ) (readings ts us : List Tree) → ByPart k ps readings ts → ByPart k ps readings us → ts ≡ us
+by_part_one [] k readings ts us h l = cc
+by_part_one (p ∷ ps) k readings ts us h l =
+    h.2 ∙ (ap₂ ◌∷◌ (go h.3 l.3) (by_part_one ps (suc k) readings h.1 l.1 h.4 l.4) ∙ sym l.2)
+  where
+    go : OneOf k h.0 readings ⊎ (NoneOf k readings × IsMissing p.presence h.0)
+        → OneOf k l.0 readings ⊎ (NoneOf k readings × IsMissing p.presence l.0) → h.0 ≡ l.0
+    go (inl a) (inl b) = one_of_one k h.0 l.0 a.before a.after b.before b.after a.none_before b.none_before (sym a.is ∙ b.is)
+    go (inl a) (inr (b, c)) = absurd (none_here k h.0 a.before a.after (subst (NoneOf k) a.is b))
+    go (inr (b, c)) (inl a) = absurd (none_here k l.0 a.before a.after (subst (NoneOf k) a.is b))
+    go (inr (b, c)) (inr (d, e)) = missing_one p.presence h.0 l.0 c e
+
+pub set_one : (ps : List Part) → EachPart ReadsOne ps → AreApart ps → (closing : Bool) → IsOne (ReadsSet ps closing)
+set_one ps one apart closing input t u rest other h k =
+    let m = many_one (ReadsChoice 0 ps) (choice_one ps one apart 0) closing input h.0 k.0 rest other h.3 k.3 in
+    let b = by_part_one ps 0 k.0 h.1 k.1 (subst (λ r. ByPart 0 ps r h.1) m.0 h.4) k.4 in
+    (h.2 ∙ (ap items b ∙ sym k.2), m.1)

@@ -1,0 +1,5 @@
+use Rattle.rasn.proofs.Hold.{canonical as law}
+use Rattle.rasn.proofs.laws.canonical.Goals as goal
+
+pub returns : goal.returns
+returns c = law

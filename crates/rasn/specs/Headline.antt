@@ -1,0 +1,22 @@
+-- What an entry point answers.
+use Rattle.std.specs.Prelude.{◌≡◌, ℕ, List, Result, Ok, Err}
+use Rattle.std.specs.Borrow.{Bor}
+use Rattle.rasn_types.specs.declared.types.rules.Codec.{Codec}
+use Rattle.rasn_types.specs.declared.error.decode.DecodeError.{DecodeError}
+use Rattle.rasn_types.specs.Shapes.{Shape, Tree}
+use Rattle.rasn_types.specs.Grammar.{Reads, top}
+use Rattle.rasn_de.specs.Outcomes.{Exact, Outcome, Got, refusal}
+
+abbrev pub remainder_of : {T : Type 0} → (T → Tree) → Result (T × Bor (List ℕ)) DecodeError → Outcome
+remainder_of tree (Ok p) = Got (tree p.0) p.1.now
+remainder_of tree (Err e) = refusal e.kind
+
+-- A value and a rest are answered exactly where the grammar relates the input to them, and then to no others. A refusal for
+-- another cause than memory means that the input is related to nothing.
+abbrev pub Answered : {T : Type 0} → Codec → Shape → (T → Tree) → List ℕ → Result (T × Bor (List ℕ)) DecodeError → Type 0
+Answered rule shape tree input result = Exact (Reads rule shape 128 (top rule)) input (remainder_of tree result)
+
+-- The same of the value alone.
+abbrev pub AnsweredFirst : {T : Type 0} → Codec → Shape → (T → Tree) → List ℕ → Result T DecodeError → Type 0
+AnsweredFirst rule shape tree input (Ok v) = (rest : List ℕ) × Exact (Reads rule shape 128 (top rule)) input (Got (tree v) rest)
+AnsweredFirst rule shape tree input (Err e) = Exact (Reads rule shape 128 (top rule)) input (refusal e.kind)

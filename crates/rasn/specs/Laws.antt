@@ -1,0 +1,84 @@
+-- Laws of the grammar.
+use Rattle.std.specs.Prelude.{◌≡◌, ◌↔◌, ℕ, ◌*◌, ◌≤◌, List, [], ◌++◌, length, Bool, true, Option}
+use Rattle.rasn_types.specs.declared.types.rules.Codec.{Codec}
+use Rattle.rasn_types.specs.declared.types.rules.Codec.TheVariants.{Ber, Der}
+use Rattle.rasn_types.specs.declared.types.tag.Tag.{Tag}
+use Rattle.rasn_types.specs.declared.types.constraints.Bound.{Bound}
+use Rattle.rasn_types.specs.declared.types.constraints.Constraints.{Constraints}
+use Rattle.rasn_types.specs.Framing.{Whole, turns}
+use Rattle.rasn_types.specs.Shapes.{Tree, Kind, Shape, leaf, any, prefix, choice, option, seq, set, list, bag, Parts, part, IsFirst, IsFirstOf, IsSolid}
+use Rattle.rasn_types.specs.Shapes.Parts.{none}
+use Rattle.rasn_types.specs.Grammar.{Reads, top}
+use Rattle.rasn_types.specs.Bytes.{Same, Bytes}
+use Rattle.rasn_types.specs.Carried.{Carried}
+use Rattle.rasn_types.specs.Lawful.{IsLawful, AreDisjoint}
+
+-- At most one value and one rest, at each depth.
+abbrev pub IsReadOnce : Codec → Shape → Type 0
+IsReadOnce rule s = (depth : ℕ) (closing : Bool) (input : List ℕ) (t u : Tree) (rest other : List ℕ)
+    → Reads rule s depth closing input t rest → Reads rule s depth closing input u other → (t ≡ u) × (rest ≡ other)
+
+abbrev pub AreReadOnce : Codec → Parts → Type 0
+AreReadOnce rule none = Unit {0}
+AreReadOnce rule (part presence s ps) = IsReadOnce rule s × AreReadOnce rule ps
+
+-- No two parts begin with one tag.
+abbrev pub AreToldApart : Parts → Type 0
+AreToldApart none = Unit {0}
+AreToldApart (part presence s ps) = AreDisjoint (IsFirst s) (IsFirstOf ps) × AreToldApart ps
+
+-- Each case, resting on its parts.
+abbrev pub OneLeaf : Type 0
+OneLeaf = (rule : Codec) (kind : Kind) (tag : Tag) (bounds : Constraints) → IsReadOnce rule (leaf kind tag bounds)
+
+abbrev pub OneOpen : Type 0
+OneOpen = (rule : Codec) (tag : Option Tag) → IsReadOnce rule (any tag)
+
+abbrev pub OnePrefix : Type 0
+OnePrefix = (rule : Codec) (tag : Tag) (s : Shape) → IsReadOnce rule s → IsReadOnce rule (prefix tag s)
+
+abbrev pub OneChoice : Type 0
+OneChoice = (rule : Codec) (ps : Parts) → AreReadOnce rule ps → AreToldApart ps → IsReadOnce rule (choice ps)
+
+abbrev pub OneOption : Type 0
+OneOption = (rule : Codec) (tag : Option Tag) (s : Shape) → IsReadOnce rule s → IsReadOnce rule (option tag s)
+
+abbrev pub OneSequence : Type 0
+OneSequence = (rule : Codec) (tag : Tag) (ps : Parts) → AreReadOnce rule ps → IsReadOnce rule (seq tag ps)
+
+abbrev pub OneSet : Type 0
+OneSet = (rule : Codec) (tag : Tag) (ps : Parts) → AreReadOnce rule ps → AreToldApart ps → IsReadOnce rule (set tag ps)
+
+abbrev pub OneSequenceOf : Type 0
+OneSequenceOf = (rule : Codec) (tag : Tag) (s : Shape) (size : Option (Bound ℕ)) → IsReadOnce rule s → IsReadOnce rule (list tag s size)
+
+abbrev pub OneSetOf : Type 0
+OneSetOf = (rule : Codec) (tag : Tag) (s : Shape) (size : Option (Bound ℕ)) → IsReadOnce rule s → IsReadOnce rule (bag tag s size)
+
+abbrev pub OneReading : Type 0
+OneReading = (s : Shape) → IsLawful s → (rule : Codec) (depth : ℕ) (closing : Bool) (input : List ℕ) (t u : Tree) (rest other : List ℕ)
+    → Reads rule s depth closing input t rest → Reads rule s depth closing input u other → (t ≡ u) × (rest ≡ other)
+
+abbrev pub Included : Type 0
+Included = (s : Shape) → IsLawful s → (rule : Codec) (depth : ℕ) (input : List ℕ) (t : Tree) (rest : List ℕ)
+    → Reads rule s depth (top rule) input t rest → Reads Ber s depth true input t rest
+
+abbrev pub ReadAgain : Type 0
+ReadAgain = (s : Shape) → IsLawful s → (rule : Codec) (t : Tree) (c : Carried rule s t)
+    → (u : Tree) × Same t u × Reads rule s 128 (top rule) c.octets u []
+    × (IsSolid s → (rest : List ℕ) → Reads rule s 128 (top rule) (c.octets ++ rest) u rest)
+
+abbrev pub Canonical : Type 0
+Canonical = (s : Shape) → IsLawful s → (t u : Tree) (c : Carried Der s t) (d : Carried Der s u) → (Same t u ↔ (c.octets ≡ d.octets))
+
+abbrev pub WrittenOnce : Type 0
+WrittenOnce = (s : Shape) (rule : Codec) (t u : Tree) (a b : List ℕ) → Same t u → Bytes rule s t a → Bytes rule s u b → a ≡ b
+
+-- Of two whole encodings at the front of one input, each is the other, and both take the same turns.
+abbrev pub OneEncoding : Type 0
+OneEncoding = (rule other : Codec) (a b x y : List ℕ) (v : Whole rule a) (w : Whole other b) → a ++ x ≡ b ++ y
+    → (a ≡ b) × (x ≡ y) × (turns v ≡ turns w)
+
+-- A turn passes two octets at least.
+abbrev pub Turns : Type 0
+Turns = (rule : Codec) (text : List ℕ) (w : Whole rule text) → 2 * turns w ≤ length text

@@ -1,0 +1,90 @@
+//! The laws of the grammar, for every rule. Each is a promise about its definitions: the functions do nothing when they run.
+ghost use Rattle.rasn.specs.Laws.{OneLeaf, OneOpen, OnePrefix, OneChoice, OneOption, OneSequence, OneSet, OneSequenceOf, OneSetOf};
+ghost use Rattle.rasn.specs.Worked.{Worked};
+ghost use Rattle.rasn.specs.Laws.{OneReading, Included, ReadAgain, Canonical, WrittenOnce, OneEncoding, Turns};
+
+/// An input is read as at most one value of a kind that holds no others, with one rest.
+pub fn one_leaf()
+    ensures { OneLeaf }
+{}
+
+/// Open octets, with a tag or without one, are read in at most one way.
+pub fn one_open()
+    ensures { OneOpen }
+{}
+
+/// An explicitly tagged value is read in at most one way if the value inside it is.
+pub fn one_prefix()
+    ensures { OnePrefix }
+{}
+
+/// A CHOICE is read in at most one way if its alternatives are, and no two of them begin with one tag.
+pub fn one_choice()
+    ensures { OneChoice }
+{}
+
+/// A value that may be absent is read in at most one way if the value is.
+pub fn one_option()
+    ensures { OneOption }
+{}
+
+/// A SEQUENCE is read in at most one way if its parts are.
+pub fn one_sequence()
+    ensures { OneSequence }
+{}
+
+/// A SET is read in at most one way if its parts are, and no two of them begin with one tag.
+pub fn one_set()
+    ensures { OneSet }
+{}
+
+/// A SEQUENCE OF is read in at most one way if its elements are.
+pub fn one_sequence_of()
+    ensures { OneSequenceOf }
+{}
+
+/// A SET OF is read in at most one way if its elements are.
+pub fn one_set_of()
+    ensures { OneSetOf }
+{}
+
+/// An input is read as at most one value of a lawful shape, with one rest.
+pub fn one_reading()
+    ensures { OneReading }
+{}
+
+/// What CER or DER reads of a lawful shape, BER reads as the same value with the same rest.
+pub fn included()
+    ensures { Included }
+{}
+
+/// What is written of a carried value is read again under its rule as the same value, with nothing left.
+/// Where every value of the shape is there, whatever follows is the rest.
+pub fn read_again()
+    ensures { ReadAgain }
+{}
+
+/// Carried values of one shape are the same exactly if their DER octets are.
+pub fn canonical()
+    ensures { Canonical }
+{}
+
+/// Values that are the same are written alike.
+pub fn written_once()
+    ensures { WrittenOnce }
+{}
+
+/// No whole encoding begins another, and the turns that pass one are determined.
+pub fn one_encoding()
+    ensures { OneEncoding }
+{}
+
+/// A whole encoding is passed in at most half as many turns as it has octets.
+pub fn turns()
+    ensures { Turns }
+{}
+
+/// Octets that were worked out by hand are read and written as they must be.
+pub fn worked_octets()
+    ensures { Worked }
+{}

@@ -1,0 +1,12 @@
+//! Basic, canonical and distinguished encoding rules of ASN.1 (ITU-T X.690): values, traits and entry points under one name.
+#![tactic(auto)]
+
+pub mod ber;
+pub mod der;
+pub mod laws;
+pub mod time_laws;
+
+pub use rasn_de::de;
+pub use rasn_enc::enc;
+pub use rasn_types::error;
+pub use rasn_types::types;

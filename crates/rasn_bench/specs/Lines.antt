@@ -1,0 +1,69 @@
+-- The lines of the program.
+use Rattle.std.specs.Prelude.{◌≡◌, ℕ, ◌+◌, ◌-◌, ◌*◌, ◌≤◌, ◌<◌, ◌==◌, length, Bool, ◌&&◌, nat_le, nat_eq, if◌then◌else◌, List, [], ◌∷◌, ◌++◌, Option, Some, None, Vec, codes}
+use Rattle.std.specs.List.{position_or_len, before_first, after_first}
+use Rattle.rasn_bench.specs.declared.line.ValueType.{ValueType}
+use Rattle.rasn_bench.specs.declared.line.ValueType.TheVariants.{Bool as BoolType, I32, U32, Octets, Pair}
+
+abbrev pub name_of : ValueType → List ℕ
+name_of BoolType = codes "bool"
+name_of I32 = codes "i32"
+name_of U32 = codes "u32"
+name_of Octets = codes "octets"
+name_of Pair = codes "pair"
+
+abbrev pub is_space : ℕ → Bool
+is_space c = c == 32
+
+abbrev pub HasSpace : List ℕ → Type 0
+HasSpace l = position_or_len is_space l < length l
+
+-- what stands in front of the first space, and behind it
+abbrev pub word : List ℕ → List ℕ
+word l = before_first is_space l
+
+abbrev pub others : List ℕ → List ℕ
+others l = after_first is_space l
+
+-- The line is BER's name, this type's name and these digits, with one space between two of them.
+pub record IsRequest (line : List ℕ) (kind : ValueType) (digits : List ℕ) : Type 0 where
+  pub first_space : HasSpace line
+  pub rule : word line ≡ codes "ber"
+  pub second_space : HasSpace (others line)
+  pub kind_is : word (others line) ≡ name_of kind
+  pub digits_are : digits ≡ others (others line)
+
+abbrev pub between : ℕ → ℕ → ℕ → Bool
+between low high c = nat_le low c && nat_le c high
+
+-- the worth of a hexadecimal digit of either case
+abbrev pub digit_at : ℕ → Option ℕ
+digit_at c = if between 48 57 c then Some (c - 48) else if between 65 70 c then Some (c - 55) else if between 97 102 c then Some (c - 87) else None
+
+abbrev pub joined : Option ℕ → Option ℕ → Option ℕ
+joined (Some high) (Some low) = Some (16 * high + low)
+joined high low = None
+
+-- the octet of two digits
+abbrev pub pair_at : ℕ → ℕ → Option ℕ
+pair_at a b = joined (digit_at a) (digit_at b)
+
+abbrev pub behind : Option ℕ → Option (List ℕ) → Option (List ℕ)
+behind (Some octet) (Some octets) = Some (octet ∷ octets)
+behind octet octets = None
+
+-- two digits an octet
+unfoldable pub pairs_at : List ℕ → Option (List ℕ)
+pairs_at [] = Some []
+pairs_at (a ∷ []) = None
+pairs_at (a ∷ b ∷ l) = behind (pair_at a b) (pairs_at l)
+
+-- What digits spell: a hyphen is no octets, and no digits spell nothing.
+abbrev pub octets_at : List ℕ → Option (List ℕ)
+octets_at [] = None
+octets_at (c ∷ []) = if nat_eq c 45 then Some [] else None
+octets_at (a ∷ b ∷ l) = pairs_at (a ∷ b ∷ l)
+
+-- What was read off the digits.
+abbrev pub Spells : {A : Type 0} → (List ℕ → Option (List ℕ)) → List ℕ → Option (Vec ℕ A) → Type 0
+Spells read digits None = read digits ≡ None
+Spells read digits (Some octets) = read digits ≡ Some octets.items

@@ -1,0 +1,15 @@
+//! Worked types over the public crate, and what the program `rasn-vectors` does with its lines.
+#![tactic(auto)]
+
+mod answer;
+mod arguments;
+mod line;
+mod names;
+mod program;
+#[cfg(test)]
+mod tests;
+
+pub use answer::Answer;
+pub use arguments::{Usage, file_of};
+pub use line::{Request, ValueType};
+pub use program::{RunFault, run};

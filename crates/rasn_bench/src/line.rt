@@ -1,0 +1,114 @@
+//! The lines of the program: `rule type hex`.
+ghost use Rattle.std.specs.Prelude.{◌≡◌, ◌≢◌, ◌<◌, MatchOption, IfOk, IfSome, List, [], length, ℕ, Some, None};
+ghost use Rattle.rasn_bench.specs.Lines.{name_of, IsRequest, Spells, octets_at, pairs_at, pair_at, digit_at, behind};
+ghost use Rattle.rasn_bench.specs.declared.line.ValueType.{ValueType};
+
+use std::alloc::{AllocError, Global};
+
+/// A type that a line may name.
+#[derive(Clone, Copy, Debug, PartialEq, Eq)]
+pub enum ValueType {
+    Bool,
+    I32,
+    U32,
+    Octets,
+    Pair,
+}
+
+impl ValueType {
+    /// The type of this name.
+    pub fn of_name(name: &str) -> Option<ValueType>
+        ensures { MatchOption result ((kind : ValueType) → name.now ≡ name_of kind → ⊥) (λ kind. name.now ≡ name_of kind) }
+    {
+        match name {
+            "bool" => Some(ValueType::Bool),
+            "i32" => Some(ValueType::I32),
+            "u32" => Some(ValueType::U32),
+            "octets" => Some(ValueType::Octets),
+            "pair" => Some(ValueType::Pair),
+            _ => None,
+        }
+    }
+}
+
+/// What a line of a good form asks: the type to read, and the octets as digits.
+#[derive(Clone, Copy, Debug)]
+pub struct Request<'line> {
+    pub value_type: ValueType,
+    pub digits: &'line str,
+}
+
+impl<'line> Request<'line> {
+    /// The request of a line with three words and single spaces, where rule and type are known.
+    pub fn of_line(line: &'line str) -> Option<Request<'line>>
+        ensures { MatchOption result
+            ((kind : ValueType) (digits : List ℕ) → IsRequest line.now kind digits → ⊥)
+            (λ request. IsRequest line.now request.value_type request.digits.now) }
+    {
+        let (rule, rest) = line.split_once(' ')?;
+        let (name, digits) = rest.split_once(' ')?;
+        if rule != "ber" {
+            return None;
+        }
+        let value_type = ValueType::of_name(name)?;
+        Some(Request { value_type, digits })
+    }
+
+    /// The octets that the digits spell, `-` for none; or nothing where they are no such spelling.
+    pub fn octets(&self, alloc: Global) -> Result<Option<Vec<u8>>, AllocError>
+        ensures { IfOk result (Spells octets_at self.now.digits.now) }
+    {
+        match self.digits.as_bytes() {
+            [] => Ok(None),
+            [only] => Ok(if *only == b'-' { Some(Vec::new(alloc)) } else { None }),
+            digits => octets_of_digits(alloc, digits),
+        }
+    }
+}
+
+/// The octets of an even number of digits.
+#[tactic(auto, unfolding(crate::specs::Lines::pairs_at))]
+fn octets_of_digits(alloc: Global, digits: &[u8]) -> Result<Option<Vec<u8>>, AllocError>
+    ensures { IfOk result (Spells pairs_at digits.now) }
+{
+    let mut octets = Vec::with_capacity(alloc, digits.len() / 2)?;
+    let mut rest = digits;
+    while !rest.is_empty() {
+        let Some((octet, after)) = first_octet(rest) else {
+            return Ok(None);
+        };
+        octets.push(octet)?;
+        rest = after;
+    }
+    Ok(Some(octets))
+}
+
+/// The octet of the first two digits, and what follows them.
+#[tactic(auto, unfolding(crate::specs::Lines::pairs_at))]
+fn first_octet(digits: &[u8]) -> Option<(u8, &[u8])>
+    ensures read { MatchOption result (digits.now ≢ [] → pairs_at digits.now ≡ None) (λ p. pairs_at digits.now ≡ behind (Some p.0) (pairs_at p.1.now)) }
+    ensures fewer { IfSome result (λ p. length p.1.now < length digits.now) }
+{
+    let (high, after) = digits.split_first()?;
+    let (low, after) = after.split_first()?;
+    Some((octet_of(*high, *low)?, after))
+}
+
+fn octet_of(high: u8, low: u8) -> Option<u8>
+    ensures { result ≡ pair_at high low }
+{
+    Some(16 * digit_of(high)? + digit_of(low)?)
+}
+
+/// The worth of a hexadecimal digit of either case.
+fn digit_of(octet: u8) -> Option<u8>
+    ensures worth { result ≡ digit_at octet }
+    ensures below { IfSome result (λ n. n < 16) }
+{
+    match octet {
+        b'0'..=b'9' => Some(octet - b'0'),
+        b'A'..=b'F' => Some(octet - b'A' + 10),
+        b'a'..=b'f' => Some(octet - b'a' + 10),
+        _ => None,
+    }
+}

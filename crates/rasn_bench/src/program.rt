@@ -1,0 +1,67 @@
+//! The program's work: an answer for each line.
+
+use crate::answer::Answer;
+use std::alloc::Global;
+use std::io::{BufRead, ErrorKind, Write};
+use thiserror::Error;
+
+/// Why the work stopped.
+#[derive(Clone, Copy, Debug, PartialEq, Eq, Drop, Error)]
+pub enum RunFault {
+    /// The input can't be read, or isn't UTF-8.
+    #[error("cannot read")]
+    Read,
+    /// The output can't be written.
+    #[error("cannot write")]
+    Write,
+    /// A growth of the program's own was refused.
+    #[error("out of memory")]
+    Memory,
+}
+
+/// Answers each line of the input by a line of the output, an empty one by nothing, and tells whether none was
+/// malformed. A line ends by a line feed, the last one also by the end of input. One line is held at a time.
+pub fn run<R: BufRead, W: Write>(alloc: Global, input: &mut R, output: &mut W) -> Result<bool, RunFault> {
+    let mut line = Vec::new(alloc);
+    let mut well_formed = true;
+    for _ in 0..u64::MAX {
+        line.clear();
+        match input.read_until(b'\n', &mut line) {
+            Ok(0) => break,
+            Ok(_) => {}
+            Err(error) => {
+                return Err(if error.kind() == ErrorKind::OutOfMemory { RunFault::Memory } else { RunFault::Read });
+            }
+        }
+        let text = without_line_feed(&line);
+        let Ok(text) = str::from_utf8(text) else {
+            return Err(RunFault::Read);
+        };
+        if !text.is_empty() {
+            well_formed &= answer_line(alloc, text, output)?;
+        }
+    }
+    match output.flush() {
+        Ok(()) => Ok(well_formed),
+        Err(_) => Err(RunFault::Write),
+    }
+}
+
+/// A line without the line feed that ends it.
+fn without_line_feed(line: &[u8]) -> &[u8] {
+    match line {
+        [text @ .., b'\n'] => text,
+        _ => line,
+    }
+}
+
+/// Writes the answer to a line, and tells whether the line had a good form.
+fn answer_line<W: Write>(alloc: Global, line: &str, output: &mut W) -> Result<bool, RunFault> {
+    let Ok(answer) = Answer::to_line(alloc, line) else {
+        return Err(RunFault::Memory);
+    };
+    match writeln!(output, "{answer}") {
+        Ok(()) => Ok(answer.is_well_formed()),
+        Err(_) => Err(RunFault::Write),
+    }
+}

@@ -1,0 +1,22 @@
+-- What a string's function returns.
+use Rattle.std.proofs.Common.{◌≡◌, ◌≢◌, ℕ, List, ◌++◌, Result, Ok, Err, refl, sym, ap, ◌∙◌}
+use Rattle.std.specs.Borrow.{Bor}
+use Rattle.rasn_de.specs.declared.ber.de.parser.Fault.{Fault}
+use Rattle.rasn_de.specs.declared.ber.de.parser.Fault.TheVariants.{OutOfMemory}
+use Rattle.rasn_types.specs.Framing.{Extent}
+use Rattle.rasn_de.specs.Strings.{finished, inner, segments_in}
+use Rattle.rasn_de.proofs.Segments.{segments, segments_in_found, segments_in_fault}
+use Rattle.rasn_de.specs.Views.{Gives, Appends}
+
+pub appends_finished : {X : Type 0} (read : List ℕ → Result (List X × List ℕ) Fault) (whole : Result (List X × List ℕ) Fault) (x : Extent) (rest left : List ℕ) (old new xs : List X) (result : Result (Bor (List ℕ)) Fault)
+    → whole ≡ segments_in read x rest → segments read (inner x rest) ≡ Ok (xs, left) → new ≡ old ++ xs → Gives (λ r. r.now) result (finished x rest left) → Appends whole old new result
+appends_finished read whole x rest left old new xs (Ok r) e f g h =
+    let k = segments_in_found read x rest left xs f in
+    (xs, e ∙ (k ∙ rw h refl), g)
+appends_finished read whole x rest left old new xs (Err d) e f g h =
+    let k = segments_in_found read x rest left xs f in
+    λ n. e ∙ (k ∙ rw h refl)
+
+pub appends_fault : {X : Type 0} (read : List ℕ → Result (List X × List ℕ) Fault) (whole : Result (List X × List ℕ) Fault) (x : Extent) (rest : List ℕ) (old new : List X) (d : Fault)
+    → whole ≡ segments_in read x rest → segments read (inner x rest) ≡ Err d → whole ≡ Err d
+appends_fault read whole x rest old new d e f = e ∙ segments_in_fault read x rest d f

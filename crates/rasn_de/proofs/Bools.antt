@@ -1,0 +1,86 @@
+-- A BOOLEAN is read exactly where the grammar has one.
+use Rattle.std.proofs.Common.{◌≡◌, ◌≢◌, ℕ, ◌⊎◌, inl, inr, Bool, true, false, cond, List, [], ◌∷◌, Option, Some, Result, Ok, Err, refl, sym, ap, ◌∙◌, subst, arith}
+use Rattle.std.specs.Prelude.{nat_eq, pos}
+use Rattle.std.proofs.lemmas.Bool.Decides.{nat_tests}
+use Rattle.rasn_types.specs.declared.types.tag.Tag.{Tag}
+use Rattle.rasn_types.specs.declared.types.rules.Codec.{Codec}
+use Rattle.rasn_types.specs.declared.types.rules.Codec.TheVariants.{Ber, Cer, Der}
+use Rattle.rasn_types.specs.declared.error.decode.DecodeError.{DecodeError}
+use Rattle.rasn_types.specs.Framing.{AreOctets}
+use Rattle.rasn_types.specs.Shapes.{Tree, number, leaf, boolean}
+use Rattle.rasn_types.specs.Trees.{truth, bool_tree, unconstrained}
+use Rattle.rasn_types.specs.Contents.{Contents, IsBool}
+use Rattle.rasn_types.specs.Grammar.{Reads, ReadsLeaf}
+use Rattle.rasn_de.specs.declared.ber.de.parser.Fault.{Fault}
+use Rattle.rasn_de.specs.declared.ber.de.parser.Fault.TheVariants.{InvalidBool}
+use Rattle.rasn_de.specs.Causes.{Cause, fault}
+use Rattle.rasn_de.specs.Leaves.{as_cause, is_ber, bool_in, BoolAt, Gave}
+use Rattle.rasn_de.specs.State.{State}
+use Rattle.rasn_de.specs.Decodes.{Decodes}
+use Rattle.rasn_de.proofs.Tools.{chosen}
+use Rattle.rasn_de.proofs.Answering.{plain_agrees, gave_answers}
+
+-- how contents are read
+abbrev pub reads_bool : Codec → List ℕ → Result Bool Cause → Type 0
+reads_bool rule c r = as_cause (bool_in rule c) ≡ r
+
+cause_ok : {X : Type 0} (r : Result X Fault) (x : X) → as_cause r ≡ Ok x → r ≡ Ok x
+cause_ok (Ok y) x e = cc
+cause_ok (Err f) x e = cc
+
+one_found : (rule : Codec) (b : ℕ) (x : Bool) → bool_in rule (b ∷ []) ≡ Ok x → IsBool rule (b ∷ []) (truth x)
+one_found rule b x e = zero_case (chosen (nat_eq b 0) _ _ _ e)
+  where
+    ok_is : (y : Bool) → ◌≡◌ {A = Result Bool Fault} (Ok y) (Ok x) → y ≡ x
+    ok_is y e = cc
+    at_zero : (r : Codec) → b ≡ 0 → IsBool r (b ∷ []) (pos 0)
+    at_zero Ber e = (b, refl, inl (e, refl))
+    at_zero Cer e = inl (ap (λ z. z ∷ []) e, refl)
+    at_zero Der e = inl (ap (λ z. z ∷ []) e, refl)
+    at_full : (r : Codec) → b ≡ 255 → IsBool r (b ∷ []) (pos 1)
+    at_full Ber e = (b, refl, inr (omega arith, refl))
+    at_full Cer e = inr (ap (λ z. z ∷ []) e, refl)
+    at_full Der e = inr (ap (λ z. z ∷ []) e, refl)
+    other : (r : Codec) → b ≢ 0 → cond (is_ber r) (Ok true) (Err (InvalidBool b)) ≡ Ok x → IsBool r (b ∷ []) (truth x)
+    other Ber n e = let y : true ≡ x = cc in subst (λ z. IsBool Ber (b ∷ []) (truth z)) y (b, refl, inr (n, refl))
+    other Cer n e = cc
+    other Der n e = cc
+    full_case : b ≢ 0 → ((nat_eq b 255 ≡ true) × (◌≡◌ {A = Result Bool Fault} (Ok true) (Ok x))) ⊎ ((nat_eq b 255 ≡ false) × (cond (is_ber rule) (Ok true) (Err (InvalidBool b)) ≡ Ok x)) → IsBool rule (b ∷ []) (truth x)
+    full_case n (inl (t, f)) = let k : b ≡ 255 = grind (arith, nat_tests) in subst (λ z. IsBool rule (b ∷ []) (truth z)) (ok_is true f) (at_full rule k)
+    full_case n (inr (t, f)) = other rule n f
+    zero_case : ((nat_eq b 0 ≡ true) × (◌≡◌ {A = Result Bool Fault} (Ok false) (Ok x))) ⊎ ((nat_eq b 0 ≡ false) × (cond (nat_eq b 255) (Ok true) (cond (is_ber rule) (Ok true) (Err (InvalidBool b))) ≡ Ok x)) → IsBool rule (b ∷ []) (truth x)
+    zero_case (inl (t, f)) = let k : b ≡ 0 = grind (arith, nat_tests) in subst (λ z. IsBool rule (b ∷ []) (truth z)) (ok_is false f) (at_zero rule k)
+    zero_case (inr (t, f)) = let k : b ≢ 0 = grind (arith, nat_tests) in full_case k (chosen (nat_eq b 255) _ _ _ f)
+
+bool_found : (rule : Codec) (c : List ℕ) (x : Bool) → AreOctets c → as_cause (bool_in rule c) ≡ Ok x → Contents rule boolean c (bool_tree x) × Unit {0}
+bool_found rule [] x o e = cc
+bool_found rule (b ∷ []) x o e = ((truth x, refl, one_found rule b x (cause_ok (bool_in rule (b ∷ [])) x e)), tt)
+bool_found rule (b ∷ d ∷ l) x o e = cc
+
+bool_ber : (b : ℕ) → b ≢ 0 → bool_in Ber (b ∷ []) ≡ Ok true
+bool_ber b n = go (nat_eq b 0) refl (nat_eq b 255)
+  where
+    go : (s : Bool) → nat_eq b 0 ≡ s → (t : Bool) → cond {A = Result Bool Fault} s (Ok false) (cond t (Ok true) (Ok true)) ≡ Ok true
+    go true e t = let k : b ≡ 0 = grind (arith, nat_tests) in absurd (n k)
+    go false e true = refl
+    go false e false = refl
+
+bool_spelled : (rule : Codec) (c : List ℕ) (t : Tree) → AreOctets c → Contents rule boolean c t → Unit {0} → (x : Bool) × (as_cause (bool_in rule c) ≡ Ok x) × (t ≡ bool_tree x)
+bool_spelled Ber c t o (z, e, (b, f, inl (g, h))) u = (false, rw (f, g) refl, e ∙ ap number h)
+bool_spelled Ber c t o (z, e, (b, f, inr (g, h))) u = (true, rw f (ap as_cause (bool_ber b g)), e ∙ ap number h)
+bool_spelled Cer c t o (z, e, inl (f, h)) u = (false, rw f refl, e ∙ ap number h)
+bool_spelled Cer c t o (z, e, inr (f, h)) u = (true, rw f refl, e ∙ ap number h)
+bool_spelled Der c t o (z, e, inl (f, h)) u = (false, rw f refl, e ∙ ap number h)
+bool_spelled Der c t o (z, e, inr (f, h)) u = (true, rw f refl, e ∙ ap number h)
+
+bool_only : (rule : Codec) (c : List ℕ) (x : Bool) (t : Tree) → AreOctets c → as_cause (bool_in rule c) ≡ Ok x → Contents rule boolean c t → Unit {0} → t ≡ bool_tree x
+bool_only rule c x t o e k u = let s = bool_spelled rule c t o k u in let f = s.1 in let z : s.0 ≡ x = cc in s.2 ∙ ap bool_tree z
+
+bool_none : (rule : Codec) (c : List ℕ) (e : Cause) (t : Tree) → AreOctets c → as_cause (bool_in rule c) ≡ Err e → Contents rule boolean c t → Unit {0} → ⊥
+bool_none rule c e t o f k u = let s = bool_spelled rule c t o k u in let g = s.1 in cc
+
+pub bool_decodes : (tag : Tag) (old new : State) (result : Result Bool DecodeError) → AreOctets old.rest → Gave (λ b. b) (BoolAt old.rule tag old.rest) old result new → Decodes (leaf boolean tag unconstrained) bool_tree old result new
+unfolding Reads
+bool_decodes tag old new result o g =
+  gave_answers (λ rule. Reads rule (leaf boolean tag unconstrained)) bool_tree (λ b. b) _ old new result
+    (plain_agrees old.rule tag old.rest o boolean old.depth (λ t. Unit {0}) bool_tree (reads_bool old.rule) (bool_found old.rule) (bool_only old.rule) (bool_none old.rule)) g

@@ -1,0 +1,152 @@
+-- An identifier and a length read octet by octet are those that the octets spell.
+use Rattle.std.proofs.Common.{◌≡◌, ◌≢◌, ℕ, zero, suc, ◌+◌, ◌-◌, ◌*◌, ◌/◌, ◌^◌, ◌%◌, ◌<◌, ◌≤◌, ◌⊎◌, inl, inr, Bool, true, false, ◌&&◌, cond, List, [], ◌∷◌, ◌++◌, length, take, drop, Option, Some, None, Result, Ok, Err, refl, sym, ap, ap₂, ◌∙◌, subst, arith, append_assoc}
+use Rattle.std.specs.Prelude.{nat_lt, nat_le, nat_eq}
+use Rattle.std.proofs.lemmas.Bool.Decides.{nat_tests}
+use Rattle.std.proofs.lemmas.List.{take-append-drop}
+use Rattle.rasn_types.specs.declared.types.tag.Tag.{Tag}
+use Rattle.rasn_types.specs.declared.types.tag.Class.{Class}
+use Rattle.rasn_types.specs.declared.types.tag.Class.TheVariants.{Universal, Application, Context, Private}
+use Rattle.rasn_types.specs.Tags.{rank, eoc, is_universal, is_eoc}
+use Rattle.rasn_de.specs.declared.ber.de.parser.Fault.{Fault}
+use Rattle.rasn_de.specs.declared.ber.de.parser.Fault.TheVariants.{UnsupportedTagNumber}
+use Rattle.rasn_types.specs.Framing.{IsChain, number_in, Spells128, bit_of, IsIdentifier, AnyIdSpells, IdSpells}
+use Rattle.rasn_de.specs.Headers.{◌>>=◌, class_of, tag_of, bit_at, number128_at, number256_at, tag_number_at, Identified, named, identifier_at, octets_at, long_at, length_at}
+use Rattle.rasn_de.proofs.Tools.{bind_ok, chosen, guarded, AreOctets, octets_back}
+use Rattle.rasn_de.proofs.Numbers.{Spelled128, number128_found, number128_spelled, number256_found, number256_spelled}
+
+-- the tag number behind a first octet
+abbrev pub IsTagNumber : ℕ → List ℕ → ℕ → Type 0
+IsTagNumber low more n = ((low < 31) × (more ≡ []) × (n ≡ low)) ⊎ ((low ≡ 31) × Spells128 more n)
+
+pub tag_number_found : (first : ℕ) (l : List ℕ) (p : ℕ × List ℕ) → tag_number_at first l ≡ Ok p
+  → (more : List ℕ) × IsTagNumber (first % 32) more p.0 × (l ≡ more ++ p.1)
+unfolding tag_number_at
+tag_number_found first l p e = go (chosen (nat_eq (first % 32) 31) _ _ _ e)
+  where
+    go : ((nat_eq (first % 32) 31 ≡ true) × (number128_at UnsupportedTagNumber 0 l ≡ Ok p)) ⊎ ((nat_eq (first % 32) 31 ≡ false) × (◌≡◌ {A = Result (ℕ × List ℕ) Fault} (Ok (first % 32, l)) (Ok p)))
+      → (more : List ℕ) × IsTagNumber (first % 32) more p.0 × (l ≡ more ++ p.1)
+    go (inl (t, f)) =
+      let k : first % 32 ≡ 31 = grind (arith, nat_tests) in
+      let s = number128_found UnsupportedTagNumber 0 l p f in
+      (s.front, inr (k, record { chain = s.chain; is = s.number ∙ omega arith; below = s.below }), s.is)
+    go (inr (t, f)) =
+      let k : first % 32 ≢ 31 = grind (arith, nat_tests) in
+      let g : (first % 32, l) ≡ p = cc in
+      let g0 : first % 32 ≡ p.0 = ap (λ (z : ℕ × List ℕ). z.0) g in
+      let g1 : l ≡ p.1 = ap (λ (z : ℕ × List ℕ). z.1) g in
+      ([], inl (omega arith, refl, sym g0), g1)
+
+pub tag_number_spelled : (first low : ℕ) (more rest : List ℕ) (n : ℕ) → first % 32 ≡ low → IsTagNumber low more n
+  → tag_number_at first (more ++ rest) ≡ Ok (n, rest)
+unfolding tag_number_at
+tag_number_spelled first low more rest n e (inl (h, p, q)) =
+  let t : nat_eq (first % 32) 31 ≡ false = grind (arith, nat_tests) in
+  rw (t, p, q, e) refl
+tag_number_spelled first low more rest n e (inr (h, s)) =
+  let t : nat_eq (first % 32) 31 ≡ true = grind (arith, nat_tests) in
+  let f : 0 * 128 ^ length more + number_in 128 more ≡ n = sym (s.is ∙ omega arith) in
+  rw t (number128_spelled UnsupportedTagNumber 0 more rest s.chain (subst (λ z. z < 2 ^ 32) (sym f) s.below) ∙ ap (λ z. Ok (z, rest)) f)
+
+pub class_rank : (n : ℕ) → n < 4 → rank (class_of n) ≡ n
+class_rank n h = go (nat_eq n 0) refl (nat_eq n 1) refl (nat_eq n 2) refl
+  where
+    go : (a : Bool) → nat_eq n 0 ≡ a → (b : Bool) → nat_eq n 1 ≡ b → (c : Bool) → nat_eq n 2 ≡ c → rank (cond a Universal (cond b Application (cond c Context Private))) ≡ n
+    go true e b f c g = grind (arith, nat_tests)
+    go false e true f c g = grind (arith, nat_tests)
+    go false e false f true g = grind (arith, nat_tests)
+    go false e false f false g = grind (arith, nat_tests)
+
+pub rank_class : (c : Class) (n : ℕ) → n ≡ rank c → class_of n ≡ c
+rank_class Universal n e = rw e refl
+rank_class Application n e = rw e refl
+rank_class Context n e = rw e refl
+rank_class Private n e = rw e refl
+
+pub rank_small : (c : Class) → rank c < 4
+rank_small Universal = omega arith
+rank_small Application = omega arith
+rank_small Context = omega arith
+rank_small Private = omega arith
+
+pub bit_value : (n : ℕ) → bit_of (nat_le 32 n) ≡ n / 32 → Unit {0}
+bit_value n e = tt
+
+bit_true : (n : ℕ) → n < 64 → 32 * bit_of (nat_le 32 n) + n % 32 ≡ n
+bit_true n h = go (nat_le 32 n) refl
+  where
+    go : (b : Bool) → nat_le 32 n ≡ b → 32 * bit_of b + n % 32 ≡ n
+    go true e = let k : 32 ≤ n = grind (arith, nat_tests) in omega arith
+    go false e = let k : n < 32 = grind (arith, nat_tests) in omega arith
+
+leading : (b c d : ℕ) → c ≡ b / 64 → d + b % 64 % 32 ≡ b % 64 → b ≡ 64 * c + (d + b % 32)
+leading b c d e f = omega arith
+
+eoc_is : (tag : Tag) → is_eoc tag ≡ false → tag ≢ eoc
+eoc_is tag h e = let f : is_eoc tag ≡ is_eoc eoc = ap is_eoc e in let g : is_eoc eoc ≡ true = refl in cc
+
+pub tag_is : (s t : Tag) → s.class ≡ t.class → s.value ≡ t.value → s ≡ t
+tag_is s t p q = ap₂ make p q
+  where
+    make : Class → ℕ → Tag
+    make c n = record { class = c; value = n }
+
+not_eoc : (tag : Tag) → tag ≢ eoc → is_eoc tag ≡ false
+not_eoc tag h = go tag.class refl (nat_eq tag.value 0) refl
+  where
+    go : (c : Class) → tag.class ≡ c → (b : Bool) → nat_eq tag.value 0 ≡ b → is_universal c && b ≡ false
+    go Universal e true f = let k : tag.value ≡ 0 = grind (arith, nat_tests) in absurd (h (tag_is tag eoc e k))
+    go Universal e false f = refl
+    go Application e b f = refl
+    go Context e b f = refl
+    go Private e b f = refl
+
+pub record SpelledId (l : List ℕ) (i : Identified) : Type 0 where
+  pub front : List ℕ
+  pub spells : IdSpells front i.tag i.bit
+  pub is : l ≡ front ++ i.rest
+
+pub identifier_found : (l : List ℕ) (i : Identified) → AreOctets l → identifier_at l ≡ Ok i → SpelledId l i
+unfolding identifier_at
+identifier_found [] i o e = cc
+identifier_found (b ∷ l) i o e = go (bind_ok (tag_number_at b l) (named b) i e)
+  where
+    go : (p : ℕ × List ℕ) × (tag_number_at b l ≡ Ok p) × (named b p ≡ Ok i) → SpelledId (b ∷ l) i
+    go (p, t, f) =
+      let g = guarded (is_eoc (tag_of b p.0)) _ _ i f in
+      let s = tag_number_found b l p t in
+      let n = g.1 in
+      let m : record { tag = tag_of b p.0; bit = bit_at b; rest = p.1 } ≡ i = cc in
+      subst (λ z. SpelledId (b ∷ l) z) m (record {
+        front = b ∷ s.0;
+        spells = record {
+          spells = record { low = b % 32; leading = leading b (rank (class_of (b / 64))) (32 * bit_of (nat_le 32 (b % 64))) (class_rank (b / 64) (omega (arith, o.0))) (bit_true (b % 64) (omega arith)); number = s.1 };
+          is_one = eoc_is (tag_of b p.0) g.0 };
+        is = ap (λ z. b ∷ z) s.2 })
+
+first_parts : (b c d low : ℕ) → c < 4 → d < 2 → low < 32 → b ≡ 64 * c + (32 * d + low) → (b / 64 ≡ c) × (b % 64 ≡ 32 * d + low) × (b % 32 ≡ low)
+first_parts b c d low h k m e = (omega arith, omega arith, omega arith)
+
+bit_small : (b : Bool) → bit_of b < 2
+bit_small true = omega arith
+bit_small false = omega arith
+
+bit_back : (b : Bool) (n low : ℕ) → low < 32 → n ≡ 32 * bit_of b + low → nat_le 32 n ≡ b
+bit_back true n low h e = let k : 32 ≤ n = omega arith in grind (arith, nat_tests)
+bit_back false n low h e = let k : n < 32 = omega arith in grind (arith, nat_tests)
+
+low_small : (more : List ℕ) (n low : ℕ) → IsTagNumber low more n → low < 32
+low_small more n low (inl h) = omega (arith, h.0)
+low_small more n low (inr h) = omega (arith, h.0)
+
+pub identifier_spelled : (front rest : List ℕ) (tag : Tag) (bit : Bool) → IdSpells front tag bit → identifier_at (front ++ rest) ≡ Ok (record { tag = tag; bit = bit; rest = rest })
+unfolding identifier_at
+identifier_spelled [] rest tag bit i = absurd i.spells
+identifier_spelled (b ∷ more) rest tag bit i =
+  let h = i.spells in
+  let s = low_small more tag.value h.low h.number in
+  let q = first_parts b (rank tag.class) (bit_of bit) h.low (rank_small tag.class) (bit_small bit) s h.leading in
+  let n = tag_number_spelled b h.low more rest tag.value q.2 h.number in
+  let c : tag_of b tag.value ≡ tag = tag_is (tag_of b tag.value) tag (rank_class tag.class (b / 64) q.0) refl in
+  let d : bit_at b ≡ bit = bit_back bit (b % 64) h.low s q.1 in
+  let z : is_eoc (tag_of b tag.value) ≡ false = ap is_eoc c ∙ not_eoc tag i.is_one in
+  rw (n, z, c, d) refl

@@ -1,0 +1,75 @@
+-- An INTEGER is read exactly where the grammar has one.
+use Rattle.std.proofs.Common.{◌≡◌, ◌≢◌, ◌≤◌, ℕ, ℤ, ◌≤ℤ◌, ◌⊎◌, inl, inr, Bool, true, false, List, [], ◌∷◌, length, Option, Some, None, Result, Ok, Err, refl, sym, ap, ◌∙◌, subst, arith}
+use Rattle.std.proofs.lemmas.Bool.Decides.{nat_tests}
+use Rattle.rasn_types.specs.declared.types.tag.Tag.{Tag}
+use Rattle.rasn_types.specs.declared.types.rules.Codec.{Codec}
+use Rattle.rasn_types.specs.declared.types.constraints.Constraints.{Constraints}
+use Rattle.rasn_types.specs.declared.error.decode.DecodeError.{DecodeError}
+use Rattle.rasn_types.specs.Framing.{AreOctets}
+use Rattle.rasn_types.specs.Errors.{IsMemory}
+use Rattle.rasn_types.specs.Shapes.{Tree, number, leaf, integer, Interval, IsIn, Admits, constraint_of}
+use Rattle.rasn_types.specs.Contents.{Contents, signed}
+use Rattle.rasn_types.specs.Grammar.{Reads, ReadsLeaf, IsBounded}
+use Rattle.rasn_de.specs.Causes.{Cause, fault, out_of_bound, Tells}
+use Rattle.std.specs.Prelude.{◌==◌, MatchOption}
+use Rattle.rasn_de.specs.declared.ber.de.parser.Fault.TheVariants as fault_is
+use Rattle.rasn_de.specs.Taking.{ErrorOf}
+use Rattle.rasn_de.proofs.Refusals.{rule_is}
+use Rattle.rasn_de.specs.Leaves.{Readings, FromContents, IntegerIn, IntegerAt, LeafAt, definite_at, Refuses, Gave, GaveInteger}
+use Rattle.rasn_de.specs.State.{State, at, IsEnd}
+use Rattle.rasn_de.specs.Outcomes.{Exact, refusal}
+use Rattle.rasn_de.specs.Decodes.{Decodes, Answers}
+use Rattle.rasn_de.proofs.Answering.{plain_agrees, gave_answers, definite_end}
+
+module _ (width : ℕ) (range : Interval) (bounds : Constraints) where
+  integer_found : (rule : Codec) (c : List ℕ) (z : ℤ) → AreOctets c → IntegerIn width range bounds c (Ok z) → Contents rule (integer range) c (number z) × IsBounded (integer range) bounds (number z)
+  integer_found rule c z o (n, i, a, e) = ((ap number e, n, i), subst (λ y. Admits ◌≤ℤ◌ bounds.value y) (sym e) a)
+
+  integer_only : (rule : Codec) (c : List ℕ) (z : ℤ) (t : Tree) → AreOctets c → IntegerIn width range bounds c (Ok z) → Contents rule (integer range) c t → IsBounded (integer range) bounds t → t ≡ number z
+  integer_only rule c z t o (n, i, a, e) k b = k.0 ∙ ap number (sym e)
+
+  integer_none : (rule : Codec) (c : List ℕ) (e : Cause) (t : Tree) → AreOctets c → IntegerIn width range bounds c (Err e) → Contents rule (integer range) c t → IsBounded (integer range) bounds t → ⊥
+  integer_none rule c (fault f) t o (inl (e, g)) k b = k.1 e
+  integer_none rule c (fault f) t o (inr (n, i, g)) k b = i k.2
+  integer_none rule c (out_of_bound z bound) t o (n, i, a, e, g) k b = a (subst (IsBounded (integer range) bounds) k.0 b)
+
+  pub integer_decodes : {X : Type 0} (see : X → ℤ) (Grows : Type 0) (tag : Tag) (old new : State) (result : Result X DecodeError) → AreOctets old.rest
+    → GaveInteger see Grows tag (IntegerAt width range bounds old.rule tag old.rest) old result new → Decodes (leaf (integer range) tag bounds) (λ v. number (see v)) old result new
+  unfolding Reads
+  integer_decodes see Grows tag old new (Ok v) o g =
+    gave_answers (λ rule. Reads rule (leaf (integer range) tag bounds)) number see _ old new (Ok v)
+      (plain_agrees old.rule tag old.rest o (integer range) old.depth (IsBounded (integer range) bounds) number (IntegerIn width range bounds) (integer_found old.rule) (integer_only old.rule) (integer_none old.rule)) g
+  integer_decodes see Grows tag old new (Err e) o (inr g) =
+    gave_answers (λ rule. Reads rule (leaf (integer range) tag bounds)) number see _ old new (Err e)
+      (plain_agrees old.rule tag old.rest o (integer range) old.depth (IsBounded (integer range) bounds) number (IntegerIn width range bounds) (integer_found old.rule) (integer_only old.rule) (integer_none old.rule)) g
+  integer_decodes see Grows tag old new (Err e) o (inl (m, g, d, s, c, h)) = record {
+    stays = s;
+    end = definite_end old.rule tag old.rest o c new.rest h;
+    exact = subst (λ k. Exact (Reads old.rule (leaf (integer range) tag bounds) old.depth old.closing) old.rest (refusal k)) (sym m) tt }
+
+  -- a number out of its bound
+  pub bound_refused : (tag : Tag) (old new : State) (c : List ℕ) (e : DecodeError) → definite_at old.rule tag old.rest ≡ Ok (c, new.rest) → new ≡ at old new.rest → c ≢ [] → IsIn range (signed c) → (Admits ◌≤ℤ◌ bounds.value (signed c) → ⊥)
+    → Tells (out_of_bound (signed c) (constraint_of bounds.value)) e.kind × (e.codec ≡ new.rule) → Refuses (IntegerAt width range bounds old.rule tag old.rest) old e new
+  bound_refused tag old new c e h s n i a (t, k) =
+    (out_of_bound (signed c) (constraint_of bounds.value), subst (λ d. FromContents (IntegerIn width range bounds) d (Err (out_of_bound (signed c) (constraint_of bounds.value), new.rest))) (sym h) ((n, i, a, refl, refl), refl), t, k ∙ rule_is old new s, s)
+
+-- want of memory behind contents
+pub number_starved : {X : Type 0} (see : X → ℤ) (Grows : Type 0) (tag : Tag) (Is : Readings ℤ) (old new : State) (c : List ℕ) (e : DecodeError) → definite_at old.rule tag old.rest ≡ Ok (c, new.rest) → new ≡ at old new.rest → Grows → ErrorOf fault_is.OutOfMemory new e
+  → GaveInteger see Grows tag Is old (Err e) new
+number_starved see Grows tag Is old new c e h s g k = inl (ap (λ (x : DecodeError). x.kind) k, g, ap (λ (x : DecodeError). x.codec) k ∙ rule_is old new s, s, c, h)
+
+pub empty_is : (l : List ℕ) → true ≡ (length l == 0) → l ≡ []
+empty_is [] e = refl
+empty_is (b ∷ l) e = let k : length (b ∷ l) ≡ 0 = grind (arith, nat_tests) in absurd (omega arith)
+
+pub not_empty : (l : List ℕ) → false ≡ (length l == 0) → l ≢ []
+not_empty [] e = cc
+not_empty (b ∷ l) e = λ f. cc
+
+pub match_some : {A : Type 0} (o : Option A) (v : A) (N : Type 0) (S : A → Type 0) → MatchOption o N S → o ≡ Some v → S v
+match_some (Some w) v N S m e = let z : w ≡ v = cc in subst S z m
+match_some None v N S m e = cc
+
+pub match_none : {A : Type 0} (o : Option A) (N : Type 0) (S : A → Type 0) → MatchOption o N S → o ≡ None → N
+match_none (Some w) N S m e = cc
+match_none None N S m e = m

@@ -1,0 +1,64 @@
+-- Readings that take no memory.
+use Rattle.std.proofs.Common.{◌≡◌, ◌≢◌, ℕ, ◌⊎◌, inl, inr, Bool, true, false, cond, List, [], ◌∷◌, length, Option, Some, Result, Ok, Err, refl, sym, ap, ◌∙◌, subst}
+use Rattle.std.specs.Prelude.{nat_eq}
+use Rattle.rasn_types.specs.declared.types.tag.Tag.{Tag}
+use Rattle.rasn_types.specs.declared.types.rules.Codec.{Codec}
+use Rattle.rasn_types.specs.declared.error.decode.DecodeError.{DecodeError}
+use Rattle.rasn_types.specs.declared.error.decode.DecodeErrorKind.{DecodeErrorKind}
+use Rattle.rasn_types.specs.Framing.{Extent, definite, indefinite}
+use Rattle.rasn_types.specs.Errors.{IsMemory}
+use Rattle.rasn_de.specs.declared.ber.de.parser.Fault.{Fault}
+use Rattle.rasn_de.specs.declared.ber.de.parser.Fault.TheVariants.{OutOfMemory, InvalidBool}
+use Rattle.rasn_de.specs.Headers.{Header, header_at}
+use Rattle.rasn_de.specs.Causes.{Cause, fault, out_of_bound, Tells, kind_of}
+use Rattle.rasn_de.specs.Leaves.{on_header, definite_in, definite_at, FromContents, LeafAt, as_cause, is_ber, bool_in, BoolAt, Refuses}
+use Rattle.rasn_de.specs.State.{State}
+use Rattle.rasn_de.proofs.Memory.{NoMemory, header_none, none_cond}
+use Rattle.rasn_de.proofs.Peeks.{kind_memory}
+
+-- The cause isn't want of memory.
+abbrev pub IsPlainCause : Cause → Type 0
+IsPlainCause (fault f) = f ≢ OutOfMemory
+IsPlainCause (out_of_bound z bound) = ⊥
+
+pub tells_plain : (cause : Cause) (k : DecodeErrorKind) → IsPlainCause cause → Tells cause k → IsMemory k → ⊥
+tells_plain (fault f) k n t m = kind_memory f n (sym t ∙ m)
+tells_plain (out_of_bound z bound) k n t m = n
+
+abbrev pub Plainly : {A : Type 0} → Result A (Cause × List ℕ) → Type 0
+Plainly (Ok x) = Unit {0}
+Plainly (Err e) = IsPlainCause e.0
+
+extent_plain : (x : Extent) (rest : List ℕ) → Plainly (definite_in x rest)
+extent_plain (definite c) rest = tt
+extent_plain indefinite rest = λ e. cc
+
+header_plain : (l : List ℕ) (r : Result Header Fault) → NoMemory r → Plainly (on_header l r (λ h. definite_in h.extent h.rest))
+header_plain l (Ok h) n = extent_plain h.extent h.rest
+header_plain l (Err f) n = n
+
+pub definite_plain : (rule : Codec) (tag : Tag) (l : List ℕ) → Plainly (definite_at rule tag l)
+definite_plain rule tag l = header_plain l (header_at rule (Some tag) l) (header_none rule (Some tag) l)
+
+contents_plain : {X : Type 0} (read : List ℕ → Result X Cause → Type 0) → ((c : List ℕ) (e : Cause) → read c (Err e) → IsPlainCause e) → (d : Result (List ℕ × List ℕ) (Cause × List ℕ)) → Plainly d
+  → (e : Cause × List ℕ) → FromContents read d (Err e) → IsPlainCause e.0
+contents_plain read f (Ok p) n e (a, b) = f p.0 e.0 a
+contents_plain {X} read f (Err d) n e a = let z : e ≡ d = cc in subst (λ (u : Cause × List ℕ). IsPlainCause u.0) (sym z) n
+
+-- A leaf whose contents are refused plainly is refused plainly.
+pub leaf_plain : {X : Type 0} (read : List ℕ → Result X Cause → Type 0) → ((c : List ℕ) (e : Cause) → read c (Err e) → IsPlainCause e) → (tag : Tag) (old new : State) (e : DecodeError)
+  → Refuses (LeafAt read old.rule tag old.rest) old e new → IsMemory e.kind → ⊥
+leaf_plain read f tag old new e (cause, a, t, c, s) m =
+  tells_plain cause e.kind (contents_plain read f (definite_at old.rule tag old.rest) (definite_plain old.rule tag old.rest) (cause, new.rest) a) t m
+
+bool_none : (rule : Codec) (c : List ℕ) → NoMemory (bool_in rule c)
+bool_none rule [] = λ e. cc
+bool_none rule (b ∷ []) = none_cond (nat_eq b 0) (Ok false) _ tt (none_cond (nat_eq b 255) (Ok true) _ tt (none_cond (is_ber rule) (Ok true) (Err (InvalidBool b)) tt (λ e. cc)))
+bool_none rule (b ∷ c ∷ l) = λ e. cc
+
+cause_plain : (r : Result Bool Fault) → NoMemory r → (e : Cause) → as_cause r ≡ Err e → IsPlainCause e
+cause_plain (Ok x) n e h = cc
+cause_plain (Err f) n e h = let z : fault f ≡ e = cc in subst IsPlainCause z n
+
+pub bool_plain : (rule : Codec) (c : List ℕ) (e : Cause) → as_cause (bool_in rule c) ≡ Err e → IsPlainCause e
+bool_plain rule c e h = cause_plain (bool_in rule c) (bool_none rule c) e h

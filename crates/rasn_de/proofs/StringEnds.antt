@@ -1,0 +1,39 @@
+-- What follows a string ends the input.
+use Rattle.std.proofs.Common.{◌≡◌, ℕ, zero, suc, ◌⊎◌, inl, inr, Bool, true, false, List, [], ◌∷◌, Option, Some, Result, Ok, Err, refl, sym, ap, ◌∙◌, subst}
+use Rattle.rasn_types.specs.declared.types.tag.Tag.{Tag}
+use Rattle.rasn_types.specs.declared.types.rules.Codec.{Codec}
+use Rattle.rasn_types.specs.Tags.{in_universal}
+use Rattle.rasn_types.specs.Framing.{AreOctets}
+use Rattle.rasn_types.specs.Readers.{Reading, Many, Inside, in_definite, in_indefinite}
+use Rattle.rasn_types.specs.Contents.{Str, OctetSegment}
+use Rattle.rasn_de.specs.declared.ber.de.parser.Fault.{Fault}
+use Rattle.rasn_de.specs.Strings.{octets}
+use Rattle.rasn_de.specs.Octets.{octets_at}
+use Rattle.rasn_de.specs.State.{IsEnd}
+use Rattle.rasn_de.proofs.Ends.{IsEnd-refl, IsEnd-trans, IsEnd-zeros, IsEnd-frame}
+use Rattle.rasn_de.proofs.Strs.{Reads, string_found, string_spelled, string_map}
+
+many_ends : {X : Type 0} (R : Reading X) → ((l : List ℕ) (x : X) (r : List ℕ) → R l x r → IsEnd l r) → (closing : Bool) (l : List ℕ) (xs : List X) (r : List ℕ) → Many R closing l xs r → IsEnd l r
+many_ends R f closing l [] r (e, m) = subst (IsEnd l) (sym m) (IsEnd-refl l)
+many_ends R f closing l (x ∷ xs) r (e, middle, a, m) = IsEnd-trans l middle r (f l x middle a) (many_ends R f closing middle xs r m)
+
+pub string_ends : {X : Type 0} (rule : Codec) (S : List ℕ → List X → Type 0) (inner_tag : Tag) (d : ℕ) (tag : Tag) (l : List ℕ) (xs : List X) (rest : List ℕ) → Str rule S inner_tag d tag l xs rest → IsEnd l rest
+string_ends rule S inner_tag zero tag l xs rest (c, f, h) = IsEnd-frame l f
+string_ends rule S inner_tag (suc d) tag l xs rest (inl (c, f, h)) = IsEnd-frame l f
+string_ends rule S inner_tag (suc d) tag l xs rest (inr (i, parts, e, in_definite c f m)) = IsEnd-frame l f
+string_ends rule S inner_tag (suc d) tag l xs rest (inr (i, parts, e, in_indefinite body f m)) =
+  IsEnd-trans l body rest (IsEnd-frame l f)
+    (IsEnd-trans body (0 ∷ 0 ∷ rest) rest (many_ends (Str rule S inner_tag d inner_tag) (string_ends rule S inner_tag d inner_tag) true body parts (0 ∷ 0 ∷ rest) m) (IsEnd-zeros (0 ∷ 0 ∷ rest) rest refl))
+
+-- Octets are read exactly where a string of octets stands.
+module _ (rule : Codec) (d : ℕ) (tag : Tag) (l : List ℕ) (o : AreOctets l) where
+  pub octets_there : (xs r : List ℕ) → octets_at rule d tag l ≡ Ok (xs, r) → Str rule OctetSegment (in_universal 4) d tag l xs r
+  octets_there xs r e =
+    string_map rule (Reads octets) OctetSegment (λ c ys h. cc) (in_universal 4) d tag l xs r (string_found rule octets (in_universal 4) d tag l (xs, r) o e).0
+
+  pub octets_only : (xs r : List ℕ) → Str rule OctetSegment (in_universal 4) d tag l xs r → octets_at rule d tag l ≡ Ok (xs, r)
+  octets_only xs r s =
+    string_spelled rule octets (in_universal 4) d tag l xs r o (string_map rule OctetSegment (Reads octets) (λ c ys h. ap Ok (sym h)) (in_universal 4) d tag l xs r s)
+
+  pub octets_end : (xs r : List ℕ) → octets_at rule d tag l ≡ Ok (xs, r) → IsEnd l r
+  octets_end xs r e = string_ends rule OctetSegment (in_universal 4) d tag l xs r (octets_there xs r e)

@@ -1,0 +1,13 @@
+use Rattle.std.proofs.Common.{rules, ◌≡◌, Ok, subst, sym}
+use Rattle.rasn_types.specs.Framing.{Next}
+use Rattle.rasn_de.proofs.Peeks.{next_found, next_none, next_memory, kind_memory}
+use Rattle.rasn_de.proofs.ber.de.Decoder.peek_tag.Goals as goal
+
+pub returns-in-Ok-clause-next : goal.returns-in-Ok-clause-next
+returns-in-Ok-clause-next c = rw (← c.self.view_is) (next_found c.self.inside.rest.now _ c.read_identifier.ensures.octets c.in-Ok.ensures.exact)
+
+pub returns-in-Err-clause-next : goal.returns-in-Err-clause-next
+returns-in-Err-clause-next c = rw (← c.self.view_is) (next_none c.self.inside.rest.now _ c.in-Err.ensures.exact)
+
+pub returns-in-Err-clause-memory : goal.returns-in-Err-clause-memory
+returns-in-Err-clause-memory c = rw c.error.ensures (kind_memory _ (next_memory c.self.inside.rest.now _ c.in-Err.ensures.exact))

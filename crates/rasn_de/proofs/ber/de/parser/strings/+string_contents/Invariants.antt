@@ -1,0 +1,15 @@
+use Rattle.std.proofs.Common.{◌-◌, length}
+use Rattle.rasn_de.specs.Strings.{inner, segment_at}
+use Rattle.rasn_de.proofs.Segments.{Gathering}
+use Rattle.rasn_de.specs.Views.{extent}
+use Rattle.rasn_de.proofs.ber.de.parser.strings.+string_contents.Given as goal
+
+abbrev pub decreases-string_contents : goal.decreases-string_contents
+decreases-string_contents g l = l.depth
+
+abbrev pub invariant-segments : goal.invariant-segments
+invariant-segments g l =
+    Gathering (segment_at l.rule g.T.Segmented.segment l.tag (l.depth - 1)) (inner (extent l.value.contents) l.rest) l.left (g.T.Segmented.items l.fn.out) (g.T.Segmented.items l.out)
+
+abbrev pub decreases-segments : goal.decreases-segments
+decreases-segments g l = length l.left

@@ -1,0 +1,85 @@
+-- Values that hold no others, read from lists: the value and what follows it, or the first refusal and what is left.
+use Rattle.std.specs.Prelude.{◌≡◌, ◌≢◌, ◌⊎◌, ℕ, ℤ, ◌≤ℤ◌, Bool, true, false, nat_eq, if◌then◌else◌, not, List, [], ◌∷◌, length, Option, Some, Result, Ok, Err}
+use Rattle.rasn_types.specs.declared.types.tag.Tag.{Tag}
+use Rattle.rasn_types.specs.declared.types.rules.Codec.{Codec}
+use Rattle.rasn_types.specs.declared.types.rules.Codec.TheVariants.{Ber, Cer, Der}
+use Rattle.rasn_types.specs.declared.error.decode.DecodeError.{DecodeError}
+use Rattle.rasn_types.specs.Framing.{Extent, definite, indefinite}
+use Rattle.rasn_de.specs.declared.ber.de.parser.Fault.{Fault}
+use Rattle.rasn_de.specs.declared.ber.de.parser.Fault.TheVariants.{IndefiniteLengthNotAllowed, InvalidBool, MismatchedLength, UnexpectedEmptyInput, IntegerOverflow}
+use Rattle.rasn_de.specs.Headers.{Header, header_at}
+use Rattle.rasn_types.specs.Shapes.{Interval, IsIn, Admits, constraint_of}
+use Rattle.rasn_types.specs.declared.types.constraints.Constraints.{Constraints}
+use Rattle.rasn_types.specs.Contents.{signed}
+use Rattle.rasn_types.specs.Errors.{IsMemory}
+use Rattle.rasn_de.specs.Causes.{Cause, fault, out_of_bound, Tells}
+use Rattle.rasn_de.specs.State.{State, at}
+
+-- Framing faults leave all of the input.
+abbrev pub on_header : {Y : Type 0} → List ℕ → Result Header Fault → (Header → Result Y (Cause × List ℕ)) → Result Y (Cause × List ℕ)
+on_header l (Ok h) f = f h
+on_header l (Err e) f = Err (fault e, l)
+
+-- the contents of definite length and what follows them; an indefinite form is refused behind the header
+abbrev pub definite_in : Extent → List ℕ → Result (List ℕ × List ℕ) (Cause × List ℕ)
+definite_in (definite contents) rest = Ok (contents, rest)
+definite_in indefinite rest = Err (fault IndefiniteLengthNotAllowed, rest)
+
+abbrev pub definite_at : Codec → Tag → List ℕ → Result (List ℕ × List ℕ) (Cause × List ℕ)
+definite_at rule tag l = on_header l (header_at rule (Some tag) l) (λ h. definite_in h.extent h.rest)
+
+-- What a reading of the list may be: a value and what follows it, or a refusal and what is left.
+abbrev pub Readings : Type 0 → Type 1
+Readings Y = Result (Y × List ℕ) (Cause × List ℕ) → Type 0
+
+-- what is read of contents, where a refusal too leaves what follows the value
+abbrev pub FromContents : {X : Type 0} → (List ℕ → Result X Cause → Type 0) → Result (List ℕ × List ℕ) (Cause × List ℕ) → Readings X
+FromContents read (Ok p) (Ok q) = read p.0 (Ok q.0) × (q.1 ≡ p.1)
+FromContents read (Ok p) (Err q) = read p.0 (Err q.0) × (q.1 ≡ p.1)
+FromContents read (Err e) r = r ≡ Err e
+
+abbrev pub LeafAt : {X : Type 0} → (List ℕ → Result X Cause → Type 0) → Codec → Tag → List ℕ → Readings X
+LeafAt read rule tag l = FromContents read (definite_at rule tag l)
+
+abbrev pub as_cause : {X : Type 0} → Result X Fault → Result X Cause
+as_cause (Ok x) = Ok x
+as_cause (Err e) = Err (fault e)
+
+abbrev pub is_ber : Codec → Bool
+is_ber Ber = true
+is_ber Cer = false
+is_ber Der = false
+
+-- The contents of a BOOLEAN (8.2, 11.1).
+abbrev pub bool_in : Codec → List ℕ → Result Bool Fault
+bool_in rule [] = Err (MismatchedLength 1 0)
+bool_in rule (b ∷ []) =
+  if nat_eq b 0 then Ok false else (if nat_eq b 255 then Ok true else (if is_ber rule then Ok true else Err (InvalidBool b)))
+bool_in rule (b ∷ c ∷ l) = Err (MismatchedLength 1 (length (b ∷ c ∷ l)))
+
+abbrev pub BoolAt : Codec → Tag → List ℕ → Readings Bool
+BoolAt rule tag l = LeafAt (λ c r. as_cause (bool_in rule c) ≡ r) rule tag l
+
+-- The contents of an INTEGER (8.3): of a type of so many bits that has these numbers, within bounds.
+abbrev pub IntegerIn : ℕ → Interval → Constraints → List ℕ → Result ℤ Cause → Type 0
+IntegerIn width range bounds c (Ok z) = (c ≢ []) × IsIn range (signed c) × Admits ◌≤ℤ◌ bounds.value (signed c) × (z ≡ signed c)
+IntegerIn width range bounds c (Err (fault f)) = ((c ≡ []) × (f ≡ UnexpectedEmptyInput)) ⊎ ((c ≢ []) × (IsIn range (signed c) → ⊥) × (f ≡ IntegerOverflow width))
+IntegerIn width range bounds c (Err (out_of_bound z bound)) = (c ≢ []) × IsIn range (signed c) × (Admits ◌≤ℤ◌ bounds.value (signed c) → ⊥) × (z ≡ signed c) × (bound ≡ constraint_of bounds.value)
+
+abbrev pub IntegerAt : ℕ → Interval → Constraints → Codec → Tag → List ℕ → Readings ℤ
+IntegerAt width range bounds rule tag l = LeafAt (IntegerIn width range bounds) rule tag l
+
+-- The call is refused as the reading is, which changes nothing but what is left.
+abbrev pub Refuses : {Y : Type 0} → Readings Y → State → DecodeError → State → Type 0
+Refuses Is old e new = (cause : Cause) × Is (Err (cause, new.rest)) × Tells cause e.kind × (e.codec ≡ old.rule) × (new ≡ at old new.rest)
+
+-- A call answers what the reading is of the list that remained; it leaves what is left of it, and changes nothing else.
+abbrev pub Gave : {X Y : Type 0} → (X → Y) → Readings Y → State → Result X DecodeError → State → Type 0
+Gave see Is old (Ok v) new = Is (Ok (see v, new.rest)) × (new ≡ at old new.rest)
+Gave see Is old (Err e) new = Refuses Is old e new
+
+-- The same of an INTEGER of a type whose numbers may take memory: where that is wanting, the value was taken.
+abbrev pub GaveInteger : {X : Type 0} → (X → ℤ) → Type 0 → Tag → Readings ℤ → State → Result X DecodeError → State → Type 0
+GaveInteger see Grows tag Is old (Ok v) new = Gave see Is old (Ok v) new
+GaveInteger see Grows tag Is old (Err e) new =
+  (IsMemory e.kind × Grows × (e.codec ≡ old.rule) × (new ≡ at old new.rest) × (c : List ℕ) × (definite_at old.rule tag old.rest ≡ Ok (c, new.rest))) ⊎ Refuses Is old e new

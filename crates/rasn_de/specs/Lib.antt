@@ -1,0 +1,10 @@
+pub mod Headers
+pub mod Strings
+pub mod Views
+pub mod State
+pub mod Outcomes
+pub mod Decodes
+pub mod Causes
+pub mod Leaves
+pub mod Taking
+pub mod Octets

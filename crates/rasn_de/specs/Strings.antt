@@ -1,0 +1,69 @@
+-- Strings in segments, read to their contents or to the first fault (8.6.4, 8.7.3, 8.23).
+use Rattle.std.specs.Prelude.{◌≡◌, ◌⊎◌, ℕ, zero, suc, ◌+◌, Bool, true, false, ◌&&◌, nat_eq, if◌then◌else◌, List, [], ◌∷◌, ◌++◌, length, Option, Some, None, Result, Ok, Err}
+use Rattle.rasn_types.specs.declared.types.tag.Tag.{Tag}
+use Rattle.rasn_types.specs.declared.types.rules.Codec.{Codec}
+use Rattle.rasn_types.specs.declared.types.rules.Codec.TheVariants.{Ber, Cer, Der}
+use Rattle.rasn_de.specs.declared.ber.de.parser.Fault.{Fault}
+use Rattle.rasn_de.specs.declared.ber.de.parser.Fault.TheVariants.{Incomplete, UnexpectedExtraData, ExceedsMaxParseDepth, MissingEndOfContents, ConstructedEncodingNotAllowed}
+use Rattle.rasn_types.specs.Framing.{Extent, definite, indefinite}
+use Rattle.rasn_de.specs.Headers.{◌>>=◌, Header, header_at, is_der}
+
+-- nothing is left, or closing octets come
+abbrev pub ends : List ℕ → Bool
+ends [] = true
+ends (a ∷ []) = false
+ends (a ∷ b ∷ l) = nat_eq a 0 && nat_eq b 0
+
+-- Segments up to the end. There are no more of them than octets, which n counts.
+unfoldable pub segments_at : {X : Type 0} → (List ℕ → Result (List X × List ℕ) Fault) → ℕ → List ℕ → Result (List X × List ℕ) Fault
+segments_at read zero l = Ok ([], l)
+segments_at read (suc n) l = if ends l then Ok ([], l) else (read l >>= λ p. segments_at read n p.1 >>= λ q. Ok (p.0 ++ q.0, q.1))
+
+-- what follows closing octets
+unfoldable pub closed_at : List ℕ → Result (List ℕ) Fault
+closed_at [] = Err (Incomplete 2)
+closed_at (a ∷ []) = if nat_eq a 0 then Err (Incomplete 1) else Err MissingEndOfContents
+closed_at (a ∷ b ∷ l) = if nat_eq a 0 && nat_eq b 0 then Ok l else Err MissingEndOfContents
+
+-- the octets that hold the segments, and what follows the value when these are read
+abbrev pub inner : Extent → List ℕ → List ℕ
+inner (definite c) rest = c
+inner indefinite rest = rest
+
+abbrev pub used_up : List ℕ → List ℕ → Result (List ℕ) Fault
+used_up rest [] = Ok rest
+used_up rest (b ∷ l) = Err (UnexpectedExtraData (length (b ∷ l)))
+
+abbrev pub finished : Extent → List ℕ → List ℕ → Result (List ℕ) Fault
+finished (definite c) rest left = used_up rest left
+finished indefinite rest left = closed_at left
+
+-- how a value's octets are read: as one segment, or as segments in it
+abbrev pub string_in : {X : Type 0} → Codec → (List ℕ → Result (List X) Fault) → (Extent → List ℕ → Result (List X × List ℕ) Fault) → Bool → Extent → List ℕ → Result (List X × List ℕ) Fault
+string_in rule segment nested false (definite c) rest = segment c >>= λ xs. Ok (xs, rest)
+string_in rule segment nested false indefinite rest = if is_der rule then Err ConstructedEncodingNotAllowed else nested indefinite rest
+string_in rule segment nested true extent rest = if is_der rule then Err ConstructedEncodingNotAllowed else nested extent rest
+
+abbrev pub too_deep : {X : Type 0} → Extent → List ℕ → Result (List X × List ℕ) Fault
+too_deep extent rest = Err ExceedsMaxParseDepth
+
+abbrev pub segments_in : {X : Type 0} → (List ℕ → Result (List X × List ℕ) Fault) → Extent → List ℕ → Result (List X × List ℕ) Fault
+segments_in read extent rest =
+  segments_at read (length (inner extent rest)) (inner extent rest) >>= λ q. finished extent rest q.1 >>= λ r. Ok (q.0, r)
+
+-- The string of the value whose header this is, with what follows it.
+unfoldable pub string_of : {X : Type 0} → Codec → (List ℕ → Result (List X) Fault) → Tag → ℕ → Header → Result (List X × List ℕ) Fault
+string_of rule segment tag zero h = string_in rule segment too_deep h.bit h.extent h.rest
+string_of rule segment tag (suc d) h =
+  string_in rule segment (segments_in (λ l. header_at rule (Some tag) l >>= string_of rule segment tag d)) h.bit h.extent h.rest
+
+-- one segment
+abbrev pub segment_at : {X : Type 0} → Codec → (List ℕ → Result (List X) Fault) → Tag → ℕ → List ℕ → Result (List X × List ℕ) Fault
+segment_at rule segment tag d l = header_at rule (Some tag) l >>= string_of rule segment tag d
+
+abbrev pub octets : List ℕ → Result (List ℕ) Fault
+octets l = Ok l
+
+-- a string with a tag of its own
+abbrev pub string_at : {X : Type 0} → Codec → (List ℕ → Result (List X) Fault) → Tag → ℕ → Tag → List ℕ → Result (List X × List ℕ) Fault
+string_at rule segment inner_tag depth tag l = header_at rule (Some tag) l >>= string_of rule segment inner_tag depth

@@ -1,0 +1,58 @@
+-- What the code's values are as lists.
+use Rattle.std.specs.Prelude.{◌≡◌, ℕ, Bool, true, false, ◌⊎◌, List, Option, Some, None, Result, Ok, Err, ◌++◌, ◌≢◌}
+use Rattle.std.specs.Borrow.{Bor}
+use Rattle.rasn_types.specs.declared.types.tag.Tag.{Tag}
+use Rattle.rasn_de.specs.declared.ber.de.parser.Fault.{Fault}
+use Rattle.rasn_de.specs.declared.ber.de.parser.Fault.TheVariants.{OutOfMemory}
+use Rattle.rasn_types.specs.Framing.{Extent, definite, indefinite}
+use Rattle.rasn_de.specs.Headers.{Identified, Header, identifier_at}
+use Rattle.rasn_de.specs.declared.ber.de.parser.Identifier.{Identifier}
+use Rattle.rasn_de.specs.declared.ber.de.parser.Contents.{Contents}
+use Rattle.rasn_de.specs.declared.ber.de.parser.Contents.TheVariants.{Definite, Indefinite}
+use Rattle.rasn_de.specs.declared.ber.de.parser.Value.{Value}
+
+-- What a function returned, seen by view, is what reading gives.
+abbrev pub Gives : {X Y : Type 0} → (X → Y) → Result X Fault → Result Y Fault → Type 0
+Gives view (Ok x) read = read ≡ Ok (view x)
+Gives view (Err e) read = read ≡ Err e
+
+abbrev pub pair : {X : Type 0} → X × Bor (List ℕ) → X × List ℕ
+pair p = (p.0, p.1.now)
+
+abbrev pub both : Bor (List ℕ) × Bor (List ℕ) → List ℕ × List ℕ
+both p = (p.0.now, p.1.now)
+
+abbrev pub identified : Identifier × Bor (List ℕ) → Identified
+identified p = record { tag = p.0.tag; bit = p.0.is_constructed; rest = p.1.now }
+
+abbrev pub extent : Contents → Extent
+extent (Definite s) = definite s.now
+extent Indefinite = indefinite
+
+abbrev pub framed : Value → List ℕ → Header
+framed v rest = record { tag = v.identifier.tag; bit = v.identifier.is_constructed; extent = extent v.contents; rest = rest }
+
+abbrev pub header : Value × Bor (List ℕ) → Header
+header p = framed p.0 p.1.now
+
+-- What is read is appended, and the rest handed back; an error but want of memory is the first fault.
+abbrev pub Appends : {X : Type 0} → Result (List X × List ℕ) Fault → List X → List X → Result (Bor (List ℕ)) Fault → Type 0
+Appends {X} read old new (Ok r) = (xs : List X) × (read ≡ Ok (xs, r.now)) × (new ≡ old ++ xs)
+Appends read old new (Err e) = e ≢ OutOfMemory → read ≡ Err e
+
+abbrev pub AppendsPart : {X : Type 0} → Result (List X) Fault → List X → List X → Result (Unit {0}) Fault → Type 0
+AppendsPart {X} read old new (Ok u) = (xs : List X) × (read ≡ Ok xs) × (new ≡ old ++ xs)
+AppendsPart read old new (Err e) = e ≢ OutOfMemory → read ≡ Err e
+
+abbrev pub IsNestedValue : Value → Type 0
+IsNestedValue v = (v.identifier.is_constructed ≡ true) ⊎ (extent v.contents ≡ indefinite)
+
+abbrev pub IsPlainValue : Value → List ℕ → Type 0
+IsPlainValue v s = (v.identifier.is_constructed ≡ false) × (extent v.contents ≡ definite s)
+
+abbrev pub tag_found : Result Identified Fault → Result Tag Fault
+tag_found (Ok i) = Ok i.tag
+tag_found (Err e) = Err e
+
+abbrev pub peeked : List ℕ → Result Tag Fault
+peeked l = tag_found (identifier_at l)

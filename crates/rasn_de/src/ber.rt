@@ -1,0 +1,3 @@
+//! The basic encoding rules, and those that build on them.
+
+pub mod de;

@@ -1,0 +1,179 @@
+//! The reader of BER, CER and DER.
+ghost use Rattle.std.specs.Prelude.{◌≡◌, ◌+◌, length, IfErr, MatchResult, Result};
+ghost use Rattle.rasn_types.specs.declared.types.rules.Codec.{Codec};
+ghost use Rattle.rasn_types.specs.Framing.{AreOctets, Next};
+ghost use Rattle.rasn_types.specs.Grammar.{top};
+ghost use Rattle.rasn_de.specs.Causes.{kind_of};
+ghost use Rattle.rasn_de.specs.State.{State, at, IsEnd};
+ghost use Rattle.rasn_de.specs.Taking.{Takes, Peeks};
+ghost use Rattle.rasn_types.specs.declared.types.tag.Tag.{Tag};
+ghost use Rattle.rasn_types.specs.Errors.{IsMemory};
+
+use crate::ber::de::parser::{Fault, Value, read_identifier, read_value};
+use rasn_types::error::{BerDecodeErrorKind, CodecDecodeError, DecodeError, DecodeErrorKind, DerDecodeErrorKind, Needed};
+use rasn_types::types::{Codec, Tag};
+use std::alloc::Global;
+use std::marker::Model;
+
+mod config;
+mod leaves;
+pub mod parser;
+
+pub use config::DecoderOptions;
+
+/// How many values may be nested in one another.
+const MAX_DEPTH: usize = 128;
+
+/// A reader of values, one behind the other, from one input.
+///
+/// Contracts see it as a `State`: the rules, the depth that is left, whether closing octets may end the contents, the whole
+/// input, and what is left of it.
+#[derive(Drop)]
+pub struct Decoder<'input> {
+    whole: &'input [u8],
+    rest: &'input [u8],
+    rules: Codec,
+    depth: usize,
+    closing: bool,
+    alloc: Global,
+}
+
+impl<'input> Model for Decoder<'input> {
+    ghost use Rattle.rasn_de.specs.State.{State, IsEnd};
+
+    ghost Value = { State };
+
+    ghost view = { λ d. record { rule = d.rules; depth = d.depth; closing = d.closing; whole = d.whole.now; rest = d.rest.now } };
+
+    ghost invariant = { λ d. IsEnd d.whole.now d.rest.now };
+}
+
+/// Whether closing octets may stand behind a value at the top.
+fn closes_at_top(rules: Codec) -> bool
+    ensures { result ≡ top rules }
+{
+    match rules {
+        Codec::Ber | Codec::Cer => true,
+        Codec::Der => false,
+    }
+}
+
+/// The kind of error that stands for a fault.
+fn kind_of(fault: Fault) -> DecodeErrorKind
+    ensures { result ≡ kind_of fault }
+{
+    let inner = match fault {
+        Fault::Incomplete { needed } => return DecodeErrorKind::Incomplete { needed: Needed::new(needed) },
+        Fault::UnexpectedExtraData { length } => return DecodeErrorKind::UnexpectedExtraData { length },
+        Fault::UnexpectedEmptyInput => return DecodeErrorKind::UnexpectedEmptyInput,
+        Fault::ExceedsMaxParseDepth => return DecodeErrorKind::ExceedsMaxParseDepth,
+        Fault::OutOfMemory => return DecodeErrorKind::OutOfMemory,
+        Fault::LengthExceedsPlatformWidth => return DecodeErrorKind::LengthExceedsPlatformWidth,
+        Fault::InvalidBool { value } => return DecodeErrorKind::InvalidBool { value },
+        Fault::MismatchedLength { expected, actual } => return DecodeErrorKind::MismatchedLength { expected, actual },
+        Fault::IntegerOverflow { max_width } => return DecodeErrorKind::IntegerOverflow { max_width },
+        Fault::SizeConstraintNotSatisfied { size, expected } => {
+            return DecodeErrorKind::SizeConstraintNotSatisfied { size: Some(size), expected };
+        }
+        Fault::ConstructedEncodingNotAllowed => {
+            CodecDecodeError::Der(DerDecodeErrorKind::ConstructedEncodingNotAllowed)
+        }
+        Fault::UnsupportedTagNumber => CodecDecodeError::Ber(BerDecodeErrorKind::UnsupportedTagNumber),
+        Fault::UnexpectedEndOfContents => CodecDecodeError::Ber(BerDecodeErrorKind::UnexpectedEndOfContents),
+        Fault::MissingEndOfContents => CodecDecodeError::Ber(BerDecodeErrorKind::MissingEndOfContents),
+        Fault::IndefiniteLengthNotAllowed => CodecDecodeError::Ber(BerDecodeErrorKind::IndefiniteLengthNotAllowed),
+        Fault::ReservedLengthOctet => CodecDecodeError::Ber(BerDecodeErrorKind::ReservedLengthOctet),
+        Fault::MismatchedTag { expected, actual } => {
+            CodecDecodeError::Ber(BerDecodeErrorKind::MismatchedTag { expected, actual })
+        }
+        Fault::InvalidConstructedIdentifier => CodecDecodeError::Ber(BerDecodeErrorKind::InvalidConstructedIdentifier),
+    };
+    DecodeErrorKind::CodecSpecific { inner }
+}
+
+impl<'input> Decoder<'input> {
+    /// A reader of the input from its start, at depth 128.
+    pub fn new(alloc: Global, input: &'input [u8], options: DecoderOptions) -> Decoder<'input>
+        ensures { result ≡ record { rule = options.rules; depth = 128; closing = top options.rules; whole = input.now; rest = input.now } }
+    {
+        Decoder {
+            whole: input,
+            rest: input,
+            rules: options.rules,
+            depth: MAX_DEPTH,
+            closing: closes_at_top(options.rules),
+            alloc,
+        }
+    }
+
+    /// The rules that it reads by.
+    pub fn codec(&self) -> Codec
+        ensures { result ≡ self.now.rule }
+    {
+        self.rules
+    }
+
+    /// What new values are allocated in.
+    pub fn alloc(&self) -> Global {
+        self.alloc
+    }
+
+    /// What is left of the input.
+    pub fn remaining(&self) -> &'input [u8]
+        ensures value { result.now ≡ self.now.rest }
+        ensures end { IsEnd self.now.whole result.now }
+    {
+        self.rest
+    }
+
+    /// How many octets of the input were passed.
+    pub fn decoded_len(&self) -> usize
+        ensures { result + length self.now.rest ≡ length self.now.whole }
+    {
+        self.whole.len() - self.rest.len()
+    }
+
+    /// The tag of the next value, which stays where it is.
+    ///
+    /// # Errors
+    /// Where no value's identifier comes next (X.690 8.1.2): `Incomplete`, `UnsupportedTagNumber` or `UnexpectedEndOfContents`.
+    pub fn peek_tag(&self) -> Result<Tag, DecodeError>
+        ensures next { MatchResult result (λ t. Next self.now.rest t) (λ _. (t : Tag) → Next self.now.rest t → ⊥) }
+        ensures refused { Peeks self.now result }
+        ensures memory { IfErr result (λ e. IsMemory e.kind → ⊥) }
+    {
+        match read_identifier(self.rest) {
+            Ok((found, _)) => Ok(found.tag),
+            Err(fault) => Err(self.error(fault)),
+        }
+    }
+
+    /// The error of a fault, under the decoder's rules.
+    fn error(&self, fault: Fault) -> DecodeError
+        ensures { result ≡ record { kind = kind_of fault; codec = self.now.rule } }
+    {
+        DecodeError { kind: kind_of(fault), codec: self.rules }
+    }
+
+    /// Goes on at an end of what is left.
+    fn advance(&mut self, rest: &'input [u8])
+        requires { IsEnd self.old.rest rest.now }
+        ensures { self.new ≡ at self.old rest.now }
+    {
+        self.rest = rest;
+    }
+
+    /// Takes the header and contents of the next value, or nothing.
+    fn header(&mut self, tag: Tag) -> Result<Value<'input>, DecodeError>
+        ensures taken { Takes tag self.old result self.new }
+        ensures octets { AreOctets self.old.rest }
+    {
+        match read_value(self.rules, Some(tag), self.rest) {
+            Ok((value, rest)) => {
+                self.advance(rest);
+                Ok(value)
+            }
+            Err(fault) => Err(self.error(fault)),
+        }
+    }
+}

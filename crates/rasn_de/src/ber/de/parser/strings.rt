@@ -1,0 +1,170 @@
+//! Strings: primitive, or gathered from segments (X.690 8.6.4, 8.7.3, 8.23).
+ghost use Rattle.std.specs.Prelude.{◌≡◌, List, ℕ, MatchOption, Result};
+ghost use Rattle.rasn_de.specs.declared.ber.de.parser.Fault.{Fault};
+ghost use Rattle.rasn_types.specs.Framing.{AreOctets};
+ghost use Rattle.rasn_de.specs.Headers.{is_der};
+ghost use Rattle.rasn_de.specs.Octets.{octets_at, Finds, ShowsForm};
+ghost use Rattle.rasn_de.specs.Strings.{ends, closed_at, finished, inner, string_of, octets};
+ghost use Rattle.rasn_de.specs.Views.{Gives, IsNestedValue, IsPlainValue, Appends, AppendsPart, extent, header};
+
+use crate::ber::de::parser::{Contents, Fault, Value, read_value};
+use rasn_types::types::{Codec, Tag};
+use std::alloc::Global;
+use std::borrow::CowSlice;
+
+fn is_der_rule(rule: Codec) -> bool
+    ensures { result ≡ is_der rule }
+{
+    match rule {
+        Codec::Der => true,
+        _ => false,
+    }
+}
+
+/// Whether nothing is left, or closing octets come.
+fn has_ended(input: &[u8]) -> bool
+    ensures { result ≡ ends input.now }
+{
+    match input {
+        [] => true,
+        [a, b, ..] => *a == 0 && *b == 0,
+        _ => false,
+    }
+}
+
+/// What follows the closing octets.
+#[tactic(auto, unfolding(crate::specs::Strings::closed_at))]
+pub fn end_of_contents(input: &[u8]) -> Result<&[u8], Fault>
+    ensures { Gives (λ r. r.now) result (closed_at input.now) }
+{
+    match input {
+        [] => Err(Fault::Incomplete { needed: 2 }),
+        [a] => if *a == 0 {
+            Err(Fault::Incomplete { needed: 1 })
+        } else {
+            Err(Fault::MissingEndOfContents)
+        },
+        [a, b, rest @ ..] => if *a == 0 && *b == 0 {
+            Ok(rest)
+        } else {
+            Err(Fault::MissingEndOfContents)
+        },
+    }
+}
+
+/// What follows a value whose segments were read up to what is left.
+fn finish<'a>(contents: Contents<'a>, rest: &'a [u8], left: &'a [u8]) -> Result<&'a [u8], Fault>
+    ensures { Gives (λ r. r.now) result (finished (extent contents.entry) rest.now left.now) }
+{
+    match contents {
+        Contents::Definite(_) => {
+            if left.is_empty() {
+                Ok(rest)
+            } else {
+                Err(Fault::UnexpectedExtraData { length: left.len() })
+            }
+        }
+        Contents::Indefinite => end_of_contents(left),
+    }
+}
+
+fn held<'a>(contents: Contents<'a>, rest: &'a [u8]) -> &'a [u8]
+    ensures { result.now ≡ inner (extent contents.entry) rest.now }
+{
+    match contents {
+        Contents::Definite(octets) => octets,
+        Contents::Indefinite => rest,
+    }
+}
+
+/// What gathers segments.
+pub trait Segmented: Drop {
+    type Item;
+
+    ghost items: { Self → List Self.Item };
+
+    ghost segment: { List ℕ → Result (List Self.Item) Fault };
+
+    fn append_segment(&mut self, octets: &[u8]) -> Result<(), Fault>
+        ensures { AppendsPart (segment octets.now) (items self.old) (items self.new) result };
+}
+
+impl Segmented for Vec<u8> {
+    type Item = u8;
+
+    ghost items = { λ v. v.items };
+
+    ghost segment = { octets };
+
+    fn append_segment(&mut self, octets: &[u8]) -> Result<(), Fault> {
+        match self.extend_from_slice(octets) {
+            Ok(()) => Ok(()),
+            Err(_) => Err(Fault::OutOfMemory),
+        }
+    }
+}
+
+/// The octets of a value that is one segment.
+fn segment_of(value: Value<'_>) -> Option<&[u8]>
+    ensures { MatchOption result (IsNestedValue value.entry) (λ s. IsPlainValue value.entry s.now) }
+{
+    match value.contents {
+        Contents::Definite(segment) => if value.identifier.is_constructed {
+            None
+        } else {
+            Some(segment)
+        },
+        Contents::Indefinite => None,
+    }
+}
+
+/// Gathers the string of the value whose header and contents these are, from its segments in order.
+pub fn string_contents<'a, T: Segmented>(
+    rule: Codec,
+    tag: Tag,
+    depth: usize,
+    value: Value<'a>,
+    rest: &'a [u8],
+    out: &mut T,
+) -> Result<&'a [u8], Fault>
+    ensures { Appends (string_of rule T.segment tag depth (header (value.entry, rest.entry))) (T.items out.old) (T.items out.new) result }
+{
+    if let Some(segment) = segment_of(value) {
+        out.append_segment(segment)?;
+        return Ok(rest);
+    }
+    if is_der_rule(rule) {
+        return Err(Fault::ConstructedEncodingNotAllowed);
+    }
+    if depth == 0 {
+        return Err(Fault::ExceedsMaxParseDepth);
+    }
+    let mut left = held(value.contents, rest);
+    'segments: while !has_ended(left) {
+        let (segment, after) = read_value(rule, Some(tag), left)?;
+        left = string_contents(rule, tag, depth - 1, segment, after, out)?;
+    }
+    finish(value.contents, rest, left)
+}
+
+
+/// The octets of a string with a tag of its own, and what follows it. They are borrowed where they stand in one segment.
+pub fn read_octets(
+    alloc: Global,
+    rules: Codec,
+    depth: usize,
+    tag: Tag,
+    input: &[u8],
+) -> Result<(CowSlice<'_, u8>, &[u8]), Fault>
+    ensures exact { Finds (octets_at rules depth tag input.now) result }
+    ensures form { ShowsForm rules tag input.now result }
+    ensures octets { AreOctets input.now }
+{
+    let (value, rest) = read_value(rules, Some(tag), input)?;
+    if let Some(segment) = segment_of(value) {
+        return Ok((CowSlice::Borrowed(segment), rest));
+    }
+    let mut gathered = Vec::new(alloc);
+    let rest = string_contents(rules, Tag::OCTET_STRING, depth, value, rest, &mut gathered)?;
+    Ok((CowSlice::Owned(gathered), rest))
+}

@@ -1,0 +1,23 @@
+//! Reading of the values that hold no others.
+use crate::ber::de::Decoder;
+use crate::de::Decode;
+use rasn_types::error::{DecodeError, DecodeErrorKind};
+use rasn_types::types::{Constraints, OctetString, Tag};
+
+impl Decode for bool {
+    #[tactic(auto, unfolding(rasn_types::specs::Grammar::Reads))]
+    fn decode_with_tag_and_constraints(decoder: &mut Decoder<'_>, tag: Tag, _constraints: &Constraints) -> Result<bool, DecodeError> {
+        decoder.decode_bool(tag)
+    }
+}
+
+impl Decode for OctetString {
+    #[tactic(auto, unfolding(rasn_types::specs::Grammar::Reads))]
+    fn decode_with_tag_and_constraints(decoder: &mut Decoder<'_>, tag: Tag, constraints: &Constraints) -> Result<OctetString, DecodeError> {
+        let octets = decoder.decode_octet_string(tag, constraints)?;
+        match octets.into_owned(decoder.alloc()) {
+            Ok(octets) => Ok(OctetString::from_vec(octets)),
+            Err(_) => Err(DecodeError { kind: DecodeErrorKind::OutOfMemory, codec: decoder.codec() }),
+        }
+    }
+}

@@ -1,0 +1,12 @@
+use Rattle.std.proofs.Common.{◌<◌, length}
+use Rattle.rasn_enc.proofs.Segments.{SegmentsSoFar}
+use Rattle.rasn_enc.proofs.ber.enc.Encoder.write_segments.Given as goal
+
+abbrev pub invariant-loop-rest : goal.invariant-loop-rest
+invariant-loop-rest l = record {
+  some : 0 < length l.rest;
+  so_far : SegmentsSoFar l.value l.rest l.fn.self l.self
+}
+
+abbrev pub decreases-loop-rest : goal.decreases-loop-rest
+decreases-loop-rest l = length l.rest

@@ -1,0 +1,9 @@
+pub mod Headers
+pub mod View
+pub mod Lists
+pub mod Primitives
+pub mod Wrote
+pub mod Refusals
+pub mod Segments
+pub mod Writing
+pub mod Parts

@@ -1,0 +1,23 @@
+-- What one more value does to a view.
+use Rattle.std.specs.Prelude.{ℕ, ◌≡◌, List, [], ◌∷◌}
+use Rattle.rasn_types.specs.declared.types.rules.Codec.{Codec}
+use Rattle.rasn_types.specs.declared.types.tag.Tag.{Tag}
+use Rattle.rasn_types.specs.declared.error.encode.EncodeError.{EncodeError}
+use Rattle.rasn_types.specs.declared.error.encode.EncodeErrorKind.TheVariants.{OutOfMemory}
+use Rattle.rasn_enc.specs.View.{Frame, View, added, appended}
+
+-- A value of this tag is put behind a list.
+pub record Adds (IsWritten : List ℕ → Type 0) (tag : Tag) (f g : Frame) : Type 0 where
+  pub octets : List ℕ
+  pub written : IsWritten octets
+  pub added : g ≡ added f octets (tag ∷ [])
+
+-- A value of this tag is put behind the last list.
+pub record Appends (IsWritten : List ℕ → Type 0) (tag : Tag) (v w : View) : Type 0 where
+  pub octets : List ℕ
+  pub written : IsWritten octets
+  pub appended : w ≡ appended v octets (tag ∷ [])
+
+-- Memory was wanted.
+abbrev pub WantsMemory : Codec → EncodeError → Type 0
+WantsMemory rule e = e ≡ record { kind = OutOfMemory; codec = rule }

@@ -1,0 +1,23 @@
+-- The exact refusals of values that hold no others.
+use Rattle.std.specs.Prelude.{ℕ, ℤ, ◌≡◌, ◌≤◌, ◌≤ℤ◌, ◌⊎◌}
+use Rattle.rasn_types.specs.Shapes.{Admits, constraint_of}
+use Rattle.rasn_types.specs.declared.types.constraints.Constraints.{Constraints}
+use Rattle.rasn_types.specs.declared.types.rules.Codec.{Codec}
+use Rattle.rasn_types.specs.declared.error.encode.EncodeError.{EncodeError}
+use Rattle.rasn_types.specs.declared.error.encode.EncodeErrorKind.TheVariants.{SizeConstraintNotSatisfied, ValueConstraintNotSatisfied}
+use Rattle.rasn_enc.specs.Primitives.{WantsMemory}
+
+-- The size isn't admitted.
+pub record RefusesSize (c : Constraints) (size : ℕ) (rule : Codec) (e : EncodeError) : Type 0 where
+  pub unmet : Admits ◌≤◌ c.size size → ⊥
+  pub is : e ≡ record { kind = SizeConstraintNotSatisfied size (constraint_of c.size); codec = rule }
+
+-- Where the size is admitted, memory alone is wanted.
+pub record MeetsSize (c : Constraints) (size : ℕ) (rule : Codec) (e : EncodeError) : Type 0 where
+  pub met : Admits ◌≤◌ c.size size
+  pub memory : WantsMemory rule e
+
+-- The number isn't admitted.
+pub record RefusesValue (c : Constraints) (number : ℤ) (rule : Codec) (e : EncodeError) : Type 0 where
+  pub unmet : Admits ◌≤ℤ◌ c.value number → ⊥
+  pub is : e ≡ record { kind = ValueConstraintNotSatisfied number (constraint_of c.value); codec = rule }

@@ -1,0 +1,38 @@
+-- What an encoder holds: the output, then one list for each open value. Headers that aren't finished aren't in it.
+use Rattle.std.specs.Prelude.{ℕ, ◌≡◌, Bool, cond, List, [], ◌∷◌, ◌++◌, Option, Some, None, option_map}
+use Rattle.rasn_types.specs.declared.types.rules.Codec.{Codec}
+use Rattle.rasn_types.specs.declared.types.tag.Tag.{Tag}
+
+-- One list; where tags are kept, the outermost tags of the values in it.
+pub record Frame : Type 0 where
+  pub octets : List ℕ
+  pub tags : Option (List Tag)
+
+-- The last list, and those below it, the output first.
+pub record View : Type 0 where
+  pub rule : Codec
+  pub below : List Frame
+  pub last : Frame
+
+-- octets behind a list, and tags behind those that it keeps
+abbrev pub added : Frame → List ℕ → List Tag → Frame
+added f octets tags = record { octets = f.octets ++ octets; tags = option_map (λ kept. kept ++ tags) f.tags }
+
+abbrev pub appended : View → List ℕ → List Tag → View
+appended v octets tags = record { rule = v.rule; below = v.below; last = added v.last octets tags }
+
+abbrev pub fresh : Bool → Frame
+fresh keeps = record { octets = []; tags = cond keeps (Some []) None }
+
+-- A new value is open.
+abbrev pub opened : View → Bool → View
+opened v keeps = record { rule = v.rule; below = v.below ++ v.last ∷ []; last = fresh keeps }
+
+-- The view before the last value was opened.
+abbrev pub IsBelow : View → View → Type 0
+IsBelow v u = (u.rule ≡ v.rule) × (u.below ≡ v.below ++ v.last ∷ [])
+
+-- The same rule, and the same lists below the last one.
+pub record LeavesOthers (v w : View) : Type 0 where
+  pub rule : w.rule ≡ v.rule
+  pub below : w.below ≡ v.below

@@ -1,0 +1,96 @@
+//! The trait of values that can be written.
+ghost use Rattle.std.specs.Prelude.{◌≡◌, false, IfErr, OnOk, OnErr};
+ghost use Rattle.rasn_types.specs.Shapes.{given, absent};
+ghost use Rattle.rasn_enc.specs.Wrote.{Wrote, MayRefuse};
+
+mod integers;
+
+use crate::ber::enc::Encoder;
+use rasn_types::error::EncodeError;
+use rasn_types::types::{AsnType, Constraints, Identifier, OctetString, Tag};
+
+/// A value that can be written. The forms without a tag or constraints hand in the type's own. The name of a field is ignored.
+pub trait Encode: AsnType {
+    /// Writes the value under this tag and these constraints.
+    ///
+    /// # Errors
+    /// Nothing is written then. But for `OutOfMemory` the value has no octets under the encoder's rules.
+    fn encode_with_tag_and_constraints(
+        &self,
+        encoder: &mut Encoder,
+        tag: Tag,
+        constraints: &Constraints,
+        identifier: Identifier,
+    ) -> Result<(), EncodeError>
+        ensures ok { OnOk result (Wrote (given tag constraints.now Self.shape) (Self.tree self.now) encoder.old encoder.new) }
+        ensures err { OnErr result (encoder.new ≡ encoder.old) }
+        ensures refused { IfErr result (MayRefuse (given tag constraints.now Self.shape) (Self.tree self.now) encoder.old) };
+
+    /// Writes the value.
+    fn encode(&self, encoder: &mut Encoder) -> Result<(), EncodeError>
+        ensures ok { OnOk result (Wrote Self.shape (Self.tree self.now) encoder.old encoder.new) }
+        ensures err { OnErr result (encoder.new ≡ encoder.old) }
+        ensures refused { IfErr result (MayRefuse Self.shape (Self.tree self.now) encoder.old) }
+    {
+        self.encode_with_tag_and_constraints(
+            encoder,
+            Self::TAG,
+            &Self::CONSTRAINTS,
+            Identifier::EMPTY,
+        )
+    }
+
+    /// Writes the value under this tag.
+    fn encode_with_tag(&self, encoder: &mut Encoder, tag: Tag, identifier: Identifier) -> Result<(), EncodeError>
+        ensures ok { OnOk result (Wrote (given tag Self.CONSTRAINTS Self.shape) (Self.tree self.now) encoder.old encoder.new) }
+        ensures err { OnErr result (encoder.new ≡ encoder.old) }
+        ensures refused { IfErr result (MayRefuse (given tag Self.CONSTRAINTS Self.shape) (Self.tree self.now) encoder.old) }
+    {
+        self.encode_with_tag_and_constraints(encoder, tag, &Self::CONSTRAINTS, identifier)
+    }
+
+    /// Writes the value under these constraints.
+    fn encode_with_constraints(
+        &self,
+        encoder: &mut Encoder,
+        constraints: &Constraints,
+        identifier: Identifier,
+    ) -> Result<(), EncodeError>
+        ensures ok { OnOk result (Wrote (given Self.TAG constraints.now Self.shape) (Self.tree self.now) encoder.old encoder.new) }
+        ensures err { OnErr result (encoder.new ≡ encoder.old) }
+        ensures refused { IfErr result (MayRefuse (given Self.TAG constraints.now Self.shape) (Self.tree self.now) encoder.old) }
+    {
+        self.encode_with_tag_and_constraints(encoder, Self::TAG, constraints, identifier)
+    }
+
+    /// Whether there is a value: not where an optional one is absent.
+    fn is_present(&self) -> bool
+        ensures { result ≡ false → Self.tree self.now ≡ absent }
+    {
+        true
+    }
+}
+
+impl Encode for bool {
+    fn encode_with_tag_and_constraints(
+        &self,
+        encoder: &mut Encoder,
+        tag: Tag,
+        _constraints: &Constraints,
+        identifier: Identifier,
+    ) -> Result<(), EncodeError> {
+        encoder.encode_bool(tag, *self, identifier)
+    }
+}
+
+impl Encode for OctetString {
+    fn encode_with_tag_and_constraints(
+        &self,
+        encoder: &mut Encoder,
+        tag: Tag,
+        constraints: &Constraints,
+        identifier: Identifier,
+    ) -> Result<(), EncodeError> {
+        encoder.encode_octet_string(tag, constraints, self.as_octets(), identifier)
+    }
+}

@@ -1,0 +1,5 @@
+//! The writer: values to octets.
+#![tactic(auto)]
+
+pub mod ber;
+pub mod enc;

@@ -1,0 +1,16 @@
+pub mod Alike
+pub mod Dated
+pub mod Determined
+pub mod Digits
+pub mod Fractions
+pub mod Frames
+pub mod Integers
+pub mod Nested
+pub mod NumberOctets
+pub mod Once
+pub mod Ordered
+pub mod Powers
+pub mod ShortestOctets
+pub mod Spelled
+pub mod Stamped
+pub mod TwosComplement

@@ -1,0 +1,6 @@
+use Rattle.rasn_types.specs.Times.{GeneralUtc}
+use Rattle.rasn_types.proofs.Stamped.{moment_none}
+use Rattle.rasn_types.proofs.ber.time.parse.parse_utc_time.Goals as goal
+
+pub returns-in_err-stamp : goal.returns-in_err-stamp
+returns-in_err-stamp c = rw c.from_residual.ensures (moment_none (GeneralUtc c.args.text.now) c.in_err-stamp.ensures)

@@ -1,0 +1,7 @@
+use Rattle.rasn_types.proofs.ShortestOctets.{equal_octets}
+use Rattle.rasn_types.proofs.types.integer.unbounded.IntegerPartialEq.eq.Goals as goal
+
+pub returns : goal.returns
+returns c =
+    equal_octets c.self.inside.octets.items c.other.inside.octets.items c.args.self.now c.args.other.now c.eq.result
+    c.self.invariant c.other.invariant c.self.view_is c.other.view_is c.eq.ensures

@@ -1,0 +1,189 @@
+//! Texts of times read.
+ghost use Rattle.std.specs.Prelude.{◌≡◌, ◌<◌, ◌<ℤ◌, ◌≤ℤ◌, pos, negsuc};
+ghost use Rattle.rasn_types.specs.Calendar.{Day, IsDay, IsMoment};
+ghost use Rattle.rasn_types.specs.Makes.{Makes, Relates};
+ghost use Rattle.rasn_types.specs.Spelling.{IsZone, billionths, minute_of, second_of, nanosecond_of, in_utc, offset_of};
+ghost use Rattle.rasn_types.specs.Times.{shown, stamp_of, century, GeneralUtc, CanonicalUtc, GeneralGeneralized, CanonicalGeneralized, DateText};
+
+use crate::ber::time::text::{Clock, Fields, Zone, date_parts, long_parts, short_parts};
+use crate::types::{Date, GeneralizedTime, UtcTime};
+
+fn minute(clock: Clock, billionths: u32) -> u8
+    requires { billionths < 1000000000 }
+    ensures { result ≡ minute_of clock billionths }
+{
+    match clock {
+        Clock::Hours => (3600 * u64::from(billionths) / 60_000_000_000) as u8,
+        Clock::Minutes(minute) => minute,
+        Clock::Seconds(minute, _) => minute,
+    }
+}
+
+fn second(clock: Clock, billionths: u32) -> u8
+    requires { billionths < 1000000000 }
+    ensures { result ≡ second_of clock billionths }
+{
+    match clock {
+        Clock::Hours => (3600 * u64::from(billionths) / 1_000_000_000 % 60) as u8,
+        Clock::Minutes(_) => (60 * u64::from(billionths) / 1_000_000_000) as u8,
+        Clock::Seconds(_, second) => { if second == 60 { 59 } else { second } }
+    }
+}
+
+fn nanosecond(clock: Clock, billionths: u32) -> u32
+    requires { billionths < 1000000000 }
+    ensures { result ≡ nanosecond_of clock billionths }
+{
+    match clock {
+        Clock::Hours => (3600 * u64::from(billionths) % 1_000_000_000) as u32,
+        Clock::Minutes(_) => (60 * u64::from(billionths) % 1_000_000_000) as u32,
+        Clock::Seconds(_, second) => {
+            if second == 60 {
+                1_000_000_000 + billionths
+            } else {
+                billionths
+            }
+        }
+    }
+}
+
+fn billionths_of(fraction: Option<(u8, u32)>) -> u32
+    ensures { result ≡ billionths fraction }
+{
+    match fraction {
+        Some((_, billionths)) => billionths,
+        None => 0,
+    }
+}
+
+/// The instant that a clock in this zone shows.
+fn in_zone(local: UtcTime, zone: Zone) -> UtcTime
+    requires zone { IsZone zone }
+    requires from { negsuc 99998 <ℤ local.day.year }
+    requires to { local.day.year <ℤ pos 99999 }
+    ensures { result ≡ in_utc zone local }
+{
+    match zone {
+        Zone::Unnamed | Zone::Utc => local,
+        Zone::East(hours, minutes) => local.earlier(60 * u16::from(hours) + u16::from(minutes)),
+        Zone::West(hours, minutes) => local.later(60 * u16::from(hours) + u16::from(minutes)),
+    }
+}
+
+fn offset(zone: Zone) -> i16
+    requires { IsZone zone }
+    ensures is { result ≡ offset_of zone }
+    ensures from { negsuc 1438 ≤ℤ result }
+    ensures to { result ≤ℤ pos 1439 }
+{
+    match zone {
+        Zone::Unnamed | Zone::Utc => 0,
+        Zone::East(hours, minutes) => 60 * i16::from(hours) + i16::from(minutes),
+        Zone::West(hours, minutes) => -(60 * i16::from(hours) + i16::from(minutes)),
+    }
+}
+
+/// A day of a year that isn't negative.
+fn day_of(year: u16, month: u8, day: u8) -> Option<Date>
+    ensures { let d : Day = record { year = pos year; month = month; day = day } in Makes result (IsDay d) d }
+{
+    Date::new(i32::from(year), month, day)
+}
+
+/// The instant of a text's fields, where the day and the time of day exist.
+fn stamp(year: u16, fields: &Fields) -> Option<GeneralizedTime>
+    requires year { year < 10000 }
+    requires zone { IsZone fields.now.zone }
+    requires below { billionths fields.now.fraction < 1000000000 }
+    ensures { Makes result (IsMoment (shown (pos year) fields.now)) (stamp_of (pos year) fields.now) }
+{
+    let date = day_of(year, fields.month, fields.day)?;
+    let billionths = billionths_of(fields.fraction);
+    let minute = minute(fields.clock, billionths);
+    let second = second(fields.clock, billionths);
+    let nanosecond = nanosecond(fields.clock, billionths);
+    let local = UtcTime::new(date, fields.hour, minute, second, nanosecond)?;
+    GeneralizedTime::new(in_zone(local, fields.zone), offset(fields.zone))
+}
+
+/// The GeneralizedTime of a text in a general form (X.680 46), as BER reads it. `None` where the text has no such form, or where its day or its
+/// time of day isn't there.
+pub fn parse_generalized_time(text: &[u8]) -> Option<GeneralizedTime>
+    ensures { Relates result (GeneralGeneralized text.now) }
+{
+    let (year, fields) = long_parts(text)?;
+    stamp(year, &fields)
+}
+
+/// The GeneralizedTime of a text in the canonical form (X.690 11.7), as CER and DER read it: with seconds, a point before a fraction, and `Z`.
+pub fn parse_canonical_generalized_time(text: &[u8]) -> Option<GeneralizedTime>
+    ensures { Relates result (CanonicalGeneralized text.now) }
+{
+    let (year, parts) = long_parts(text)?;
+    if !parts.is_canonical() {
+        return None;
+    }
+    stamp(year, &parts)
+}
+
+fn full_year(year: u8) -> u16
+    requires { year < 100 }
+    ensures is { result ≡ century year }
+    ensures below { result < 10000 }
+{
+    if year < 70 {
+        2000 + u16::from(year)
+    } else {
+        1900 + u16::from(year)
+    }
+}
+
+/// A UTCTime in a general form; the offset of its text is kept beside it.
+fn utc_stamp(text: &[u8]) -> Option<GeneralizedTime>
+    ensures { Relates result (GeneralUtc text.now) }
+{
+    let (year, fields) = short_parts(text)?;
+    if !fields.is_short() {
+        return None;
+    }
+    stamp(full_year(year), &fields)
+}
+
+/// A UTCTime in the canonical form.
+fn canonical_utc_stamp(text: &[u8]) -> Option<GeneralizedTime>
+    ensures { Relates result (CanonicalUtc text.now) }
+{
+    let (year, fields) = short_parts(text)?;
+    if !fields.is_short() {
+        return None;
+    }
+    if !fields.is_canonical() {
+        return None;
+    }
+    stamp(full_year(year), &fields)
+}
+
+/// The UTCTime of a text in a general form (X.680 47), as BER reads it. `None` where the text has no such form, or where its day or its time of
+/// day isn't there.
+pub fn parse_utc_time(text: &[u8]) -> Option<UtcTime>
+    ensures { Relates result (λ m. (offset : _) × GeneralUtc text.now (record { moment = m; offset = offset })) }
+{
+    let stamp = utc_stamp(text)?;
+    Some(stamp.utc())
+}
+
+/// The UTCTime of a text in the canonical form (X.690 11.8), as CER and DER read it: with seconds and `Z`.
+pub fn parse_canonical_utc_time(text: &[u8]) -> Option<UtcTime>
+    ensures { Relates result (λ m. (offset : _) × CanonicalUtc text.now (record { moment = m; offset = offset })) }
+{
+    let stamp = canonical_utc_stamp(text)?;
+    Some(stamp.utc())
+}
+
+/// The DATE of a text of eight digits. `None` where it isn't that, or where the day isn't there.
+pub fn parse_date(text: &[u8]) -> Option<Date>
+    ensures { Relates result (DateText text.now) }
+{
+    let (year, month, day) = date_parts(text)?;
+    day_of(year, month, day)
+}

@@ -1,0 +1,117 @@
+//! Whole numbers as octets in two's complement, most significant first (X.690 8.3).
+ghost use Rattle.std.specs.Prelude.{◌≡◌, ◌<◌, ◌≤◌, length, MatchOption, pos, ℤ, IsTrue, ◌↔◌, OnOk, OnErr, List, ℕ, ◌++◌};
+ghost use Rattle.rasn_types.specs.Framing.{number_in, AreOctets};
+ghost use Rattle.rasn_types.specs.Contents.{signed, IsShortestInteger, RepeatsSign};
+ghost use Rattle.rasn_types.specs.Shapes.{IsIn};
+ghost use Rattle.rasn_types.specs.Trees.{signed_range, unsigned_range, IsShortestOf};
+
+use std::alloc::AllocError;
+
+/// The octets without those at the front that only repeat the sign (X.690 8.3.2).
+pub fn shortest(octets: &[u8]) -> &[u8]
+    requires { 0 < length octets.now }
+    ensures same { signed result.now ≡ signed octets.now }
+    ensures short { IsShortestInteger result.now }
+    ensures octets { AreOctets result.now }
+{
+    let mut start = 0;
+    while start + 1 < octets.len() && repeats_sign(octets[start], octets[start + 1]) {
+        start += 1;
+    }
+    &octets[start..]
+}
+
+// Whether an octet in front of another is nothing but its sign.
+fn repeats_sign(octet: u8, next: u8) -> bool
+    ensures { IsTrue result ↔ RepeatsSign octet next }
+{
+    if next < 128 { octet == 0 } else { octet == 255 }
+}
+
+/// The number that octets stand for, where 128 bits hold it.
+pub fn signed_i128(octets: &[u8]) -> Option<i128>
+    requires { 0 < length octets.now }
+    ensures { MatchOption result (IsIn (signed_range 128) (signed octets.now) → ⊥) (λ n. n ≡ signed octets.now) }
+{
+    let octets = shortest(octets);
+    if octets.len() <= 16 {
+        Some(fold_i128(octets))
+    } else {
+        None
+    }
+}
+
+fn fold_i128(octets: &[u8]) -> i128
+    requires some { 0 < length octets.now }
+    requires few { length octets.now ≤ 16 }
+    ensures { result ≡ signed octets.now }
+{
+    let mut number: i128 = if octets[0] < 128 { 0 } else { -1 };
+    for octet in octets {
+        number = number * 256 + i128::from(*octet);
+    }
+    number
+}
+
+/// The number that octets stand for, where 128 bits hold it without a sign.
+pub fn unsigned_u128(octets: &[u8]) -> Option<u128>
+    requires { 0 < length octets.now }
+    ensures { MatchOption result (IsIn (unsigned_range 128) (signed octets.now) → ⊥) (λ n. pos n ≡ signed octets.now) }
+{
+    let octets = shortest(octets);
+    if octets[0] >= 128 {
+        None
+    } else if octets.len() <= 16 {
+        Some(fold_u128(octets))
+    } else if octets.len() == 17 && octets[0] == 0 {
+        Some(fold_u128(&octets[1..]))
+    } else {
+        None
+    }
+}
+
+fn fold_u128(digits: &[u8]) -> u128
+    requires { length digits.now ≤ 16 }
+    ensures { result ≡ number_in 256 digits.now }
+{
+    let mut number: u128 = 0;
+    for digit in digits {
+        number = number * 256 + u128::from(*digit);
+    }
+    number
+}
+
+/// Puts a number behind octets, in the fewest octets.
+pub fn append_i64(number: i64, octets: &mut Vec<u8>) -> Result<(), AllocError>
+    ensures ok { OnOk result ((l : List ℕ) × (octets.new.items ≡ octets.old.items ++ l) × IsShortestOf number l) }
+    ensures err { OnErr result (octets.new.items ≡ octets.old.items) }
+{
+    append_shortest(&number.to_be_bytes(), octets)
+}
+
+/// Puts a number behind octets, in the fewest octets.
+pub fn append_i128(number: i128, octets: &mut Vec<u8>) -> Result<(), AllocError>
+    ensures ok { OnOk result ((l : List ℕ) × (octets.new.items ≡ octets.old.items ++ l) × IsShortestOf number l) }
+    ensures err { OnErr result (octets.new.items ≡ octets.old.items) }
+{
+    append_shortest(&number.to_be_bytes(), octets)
+}
+
+/// Puts a number behind octets, in the fewest octets.
+pub fn append_u128(number: u128, octets: &mut Vec<u8>) -> Result<(), AllocError>
+    ensures ok { OnOk result ((l : List ℕ) × (octets.new.items ≡ octets.old.items ++ l) × IsShortestOf (pos number) l) }
+    ensures err { OnErr result (octets.new.items ≡ octets.old.items) }
+{
+    let mut with_sign = [0; 17];
+    with_sign[1..].copy_from_slice(&number.to_be_bytes());
+    append_shortest(&with_sign, octets)
+}
+
+// Puts the number that octets stand for behind others, in the fewest octets.
+fn append_shortest(number: &[u8], octets: &mut Vec<u8>) -> Result<(), AllocError>
+    requires { 0 < length number.now }
+    ensures ok { OnOk result ((l : List ℕ) × (octets.new.items ≡ octets.old.items ++ l) × IsShortestOf (signed number.now) l) }
+    ensures err { OnErr result (octets.new.items ≡ octets.old.items) }
+{
+    octets.extend_from_slice(shortest(number))
+}
