@@ -16,6 +16,7 @@ pub mod Strings
 pub mod TimeTexts
 pub mod Unique
 pub mod Worked
+pub mod WorkedCuts
 pub mod WorkedParts
 pub mod WorkedStrings
 pub mod Written

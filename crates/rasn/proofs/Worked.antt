@@ -18,6 +18,7 @@ use Rattle.rasn.specs.Worked.{Worked, Gives, Refuses, plain, nested, perhaps_boo
 use Rattle.rasn.proofs.TimeTexts.{generalized_of}
 use Rattle.rasn.proofs.Headers.{no_eoc, short, without, no_next, plain_read, octets_read}
 use Rattle.rasn.proofs.WorkedStrings.{octets_in_segments, bits_in_segments, zeros_in_definite_string}
+use Rattle.rasn.proofs.WorkedCuts.{bags_in_any_order, lists_in_order, bits_in_one, bits_in_two, octets_in_one, octets_in_two}
 use Rattle.rasn.proofs.WorkedParts.{default_left_out, default_spelled, default_not_written, bag_out_of_order, bag_not_written, smith_in_segments, smith_in_one, smith_in_der, smith_in_cer}
 
 nested_whole : Whole Ber nested
@@ -137,6 +138,12 @@ worked = record {
   default_not_written = default_not_written;
   bag_out_of_order = bag_out_of_order;
   bag_not_written = bag_not_written;
+  bags_in_any_order = bags_in_any_order;
+  lists_in_order = lists_in_order;
+  bits_in_one = bits_in_one;
+  bits_in_two = bits_in_two;
+  octets_in_one = octets_in_one;
+  octets_in_two = octets_in_two;
   absent_before_end = absent_before_end;
   no_end_under_der = no_end_under_der;
   absent_before_another = absent_before_another;

@@ -1,5 +1,5 @@
 -- Octets that were worked out by hand, and what they are read as and written from.
-use Rattle.std.specs.Prelude.{◌≡◌, ℕ, List, [], ◌∷◌, ◌++◌, true, false, pos, negsuc, map, Some, None}
+use Rattle.std.specs.Prelude.{◌≡◌, ℕ, List, [], ◌∷◌, ◌++◌, length, Bool, true, false, pos, negsuc, map, Some, None}
 use Rattle.rasn_types.specs.Tags.{in_universal}
 use Rattle.rasn_types.specs.declared.types.rules.Codec.{Codec}
 use Rattle.rasn_types.specs.declared.types.rules.Codec.TheVariants.{Ber, Cer, Der}
@@ -9,7 +9,7 @@ use Rattle.rasn_types.specs.Shapes.{Tree, number, bits, numbers, instant, items,
 use Rattle.rasn_types.specs.Shapes.Parts.{none}
 use Rattle.rasn_types.specs.Contents.{bits_of, joined_lists}
 use Rattle.rasn_types.specs.Grammar.{Reads, top}
-use Rattle.rasn_types.specs.Bytes.{Bytes}
+use Rattle.rasn_types.specs.Bytes.{Same, Bytes}
 use Rattle.rasn_types.specs.Trees.{unconstrained}
 
 -- a type of this kind with its universal tag and no bounds
@@ -34,6 +34,18 @@ seven = seq (in_universal 16) (part (default (number (pos 7))) (plain (integer e
 -- SET OF OCTET STRING
 abbrev pub bag_of_octets : Shape
 bag_of_octets = bag (in_universal 17) (plain octet_string 4) None
+
+-- two octet strings with one octet each, in this order
+abbrev pub octets_each : ℕ → ℕ → Tree
+octets_each a b = items (numbers (a ∷ []) ∷ numbers (b ∷ []) ∷ [])
+
+-- 03 82 03 E8, no unused bits, 999 octets
+abbrev pub IsLongPiece : List ℕ → Type 0
+IsLongPiece b = (front : List ℕ) × (length front ≡ 999) × (b ≡ 3 ∷ 130 ∷ 3 ∷ 232 ∷ 0 ∷ front)
+
+-- 23 80, such a piece, 03 02 00 and one octet, 00 00
+abbrev pub AreTwoPieces : List ℕ → Type 0
+AreTwoPieces b = (front : List ℕ) × (last : ℕ) × (length front ≡ 999) × (b ≡ 35 ∷ 128 ∷ 3 ∷ 130 ∷ 3 ∷ 232 ∷ 0 ∷ (front ++ (3 ∷ 2 ∷ 0 ∷ last ∷ 0 ∷ 0 ∷ [])))
 
 abbrev pub perhaps_bool : Shape
 perhaps_bool = option (Some (in_universal 1)) (plain boolean 1)
@@ -70,6 +82,13 @@ pub record Worked : Type 0 where
   pub default_not_written : Bytes Der seven (items (number (pos 7) ∷ [])) (48 ∷ 0 ∷ [])
   pub bag_out_of_order : (rule : Codec) → Gives rule bag_of_octets (49 ∷ 6 ∷ 4 ∷ 1 ∷ 2 ∷ 4 ∷ 1 ∷ 1 ∷ []) (walk (items (numbers (2 ∷ []) ∷ numbers (1 ∷ []) ∷ []))) []
   pub bag_not_written : (rule : Codec) (b : List ℕ) → Bytes rule bag_of_octets (walk (items (numbers (2 ∷ []) ∷ numbers (1 ∷ []) ∷ []))) b → ⊥
+  pub bags_in_any_order : Same (walk (octets_each 2 1)) (walk (octets_each 1 2))
+  pub lists_in_order : Same (octets_each 2 1) (octets_each 1 2) → ⊥
+  pub bits_in_one : (bs : List Bool) (b : List ℕ) → length bs ≡ 7992 → Bytes Cer (plain bit_string 3) (bits bs) b → IsLongPiece b
+  pub bits_in_two : (bs : List Bool) (b : List ℕ) → length bs ≡ 8000 → Bytes Cer (plain bit_string 3) (bits bs) b → AreTwoPieces b
+  pub octets_in_one : (front b : List ℕ) → length front ≡ 1000 → Bytes Cer (plain octet_string 4) (numbers front) b → b ≡ 4 ∷ 130 ∷ 3 ∷ 232 ∷ front
+  pub octets_in_two : (front : List ℕ) (last : ℕ) (b : List ℕ) → length front ≡ 1000 → Bytes Cer (plain octet_string 4) (numbers (front ++ (last ∷ []))) b
+      → b ≡ 36 ∷ 128 ∷ 4 ∷ 130 ∷ 3 ∷ 232 ∷ (front ++ (4 ∷ 1 ∷ last ∷ 0 ∷ 0 ∷ []))
   pub absent_before_end : Gives Ber perhaps_bool (0 ∷ 0 ∷ []) absent (0 ∷ 0 ∷ [])
   pub no_end_under_der : Refuses Der perhaps_bool (0 ∷ 0 ∷ [])
   pub absent_before_another : (rule : Codec) → Gives rule perhaps_bool (2 ∷ 1 ∷ 5 ∷ []) absent (2 ∷ 1 ∷ 5 ∷ [])

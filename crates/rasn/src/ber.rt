@@ -7,14 +7,12 @@ ghost use Rattle.rasn.specs.Headline.{Answered, AnsweredFirst};
 ghost use Rattle.rasn_enc.specs.Wrote.{Undefined};
 
 pub use rasn_de::ber::de;
-pub use rasn_enc::ber::enc;
-
 use rasn_de::ber::de::{Decoder, DecoderOptions};
 use rasn_de::de::Decode;
+pub use rasn_enc::ber::enc;
 use rasn_enc::ber::enc::{Encoder, EncoderOptions};
 use rasn_enc::enc::Encode;
 use rasn_types::error::{DecodeError, EncodeError};
-use rasn_types::types::Identifier;
 use std::alloc::Global;
 
 /// The value that begins the input. What follows it is ignored.
@@ -27,7 +25,10 @@ pub fn decode<T: Decode>(alloc: Global, input: &[u8]) -> Result<T, DecodeError>
 
 /// The value that begins the input, and what follows it: exactly where the grammar relates the input to them. A refusal for
 /// another cause than memory means that no value begins the input.
-pub fn decode_with_remainder<T: Decode>(alloc: Global, input: &[u8]) -> Result<(T, &[u8]), DecodeError>
+pub fn decode_with_remainder<T: Decode>(
+    alloc: Global,
+    input: &[u8],
+) -> Result<(T, &[u8]), DecodeError>
     ensures { Answered Ber T.shape T.tree input.now result }
 {
     let mut decoder = Decoder::new(alloc, input, DecoderOptions::ber());
@@ -41,6 +42,6 @@ pub fn encode<T: Encode>(alloc: Global, value: &T) -> Result<Vec<u8>, EncodeErro
     ensures refused { IfErr result (λ error. IsEncodeMemory error.kind ⊎ Undefined Ber T.shape (T.tree value.now)) }
 {
     let mut encoder = Encoder::new(alloc, EncoderOptions::ber())?;
-    value.encode(&mut encoder, Identifier::EMPTY)?;
+    value.encode(&mut encoder)?;
     encoder.output()
 }

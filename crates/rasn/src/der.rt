@@ -8,7 +8,6 @@ ghost use Rattle.rasn_enc.specs.Wrote.{Undefined};
 use rasn_enc::ber::enc::{Encoder, EncoderOptions};
 use rasn_enc::enc::Encode;
 use rasn_types::error::EncodeError;
-use rasn_types::types::Identifier;
 use std::alloc::Global;
 
 /// The value's octets, which depend on the value alone. It is refused for want of memory, and where the value has no octets.
@@ -17,6 +16,6 @@ pub fn encode<T: Encode>(alloc: Global, value: &T) -> Result<Vec<u8>, EncodeErro
     ensures refused { IfErr result (λ error. IsEncodeMemory error.kind ⊎ Undefined Der T.shape (T.tree value.now)) }
 {
     let mut encoder = Encoder::new(alloc, EncoderOptions::der())?;
-    value.encode(&mut encoder, Identifier::EMPTY)?;
+    value.encode(&mut encoder)?;
     encoder.output()
 }

@@ -8,5 +8,4 @@ pub mod time_laws;
 
 pub use rasn_de::de;
 pub use rasn_enc::enc;
-pub use rasn_types::error;
-pub use rasn_types::types;
+pub use rasn_types::{error, types};

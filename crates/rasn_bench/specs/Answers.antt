@@ -2,13 +2,12 @@
 use Rattle.std.specs.Prelude.{◌≡◌, ℕ, ◌⊎◌, List, [], Option, Some, None, true, length, codes}
 use Rattle.rasn_types.specs.declared.types.rules.Codec.TheVariants.{Ber, Der}
 use Rattle.rasn_types.specs.Tags.{in_universal}
-use Rattle.rasn_types.specs.Shapes.{Tree, Shape, leaf, seq, part, required, boolean, integer, octet_string}
-use Rattle.rasn_types.specs.Shapes.Parts.{none}
+use Rattle.rasn_types.specs.Shapes.{Tree, Shape, leaf, boolean, integer, octet_string}
 use Rattle.rasn_types.specs.Trees.{unconstrained, signed_range, unsigned_range}
 use Rattle.rasn_types.specs.Grammar.{Reads, top}
 use Rattle.rasn_types.specs.Bytes.{Bytes}
 use Rattle.rasn_bench.specs.declared.line.ValueType.{ValueType}
-use Rattle.rasn_bench.specs.declared.line.ValueType.TheVariants.{Bool, I32, U32, Octets, Pair}
+use Rattle.rasn_bench.specs.declared.line.ValueType.TheVariants.{Bool, I32, U32, Octets}
 use Rattle.rasn_bench.specs.declared.answer.Answer.{Answer}
 use Rattle.rasn_bench.specs.declared.answer.Answer.TheVariants.{Read, NotWritten, Refused, Malformed}
 use Rattle.rasn_bench.specs.Lines.{IsRequest, octets_at}
@@ -18,14 +17,12 @@ shape_of Bool = leaf boolean (in_universal 1) unconstrained
 shape_of I32 = leaf (integer (signed_range 32)) (in_universal 2) unconstrained
 shape_of U32 = leaf (integer (unsigned_range 32)) (in_universal 2) unconstrained
 shape_of Octets = leaf octet_string (in_universal 4) unconstrained
-shape_of Pair = seq (in_universal 16) (part required (shape_of I32) (part required (shape_of Bool) none))
 
 abbrev pub kind_of : ValueType → List ℕ
 kind_of Bool = codes "BOOLEAN"
 kind_of I32 = codes "INTEGER"
 kind_of U32 = codes "INTEGER"
 kind_of Octets = codes "OCTET-STRING"
-kind_of Pair = codes "SEQUENCE"
 
 -- The input begins with this value, and so many octets follow it.
 pub record IsRead (shape : Shape) (input : List ℕ) (t : Tree) (count : ℕ) : Type 0 where
@@ -37,7 +34,7 @@ pub record IsRead (shape : Shape) (input : List ℕ) (t : Tree) (count : ℕ) : 
 abbrev pub IsAnswer : Shape → List ℕ → List ℕ → Answer → Type 0
 IsAnswer shape kind input (Read name count octets) = (name.now ≡ kind) × ((t : Tree) × IsRead shape input t count × Bytes Der shape t octets.items)
 IsAnswer shape kind input (NotWritten name count cause) = (name.now ≡ kind)
-  × ((t : Tree) × IsRead shape input t count × ((cause.now ≡ codes "OutOfMemory") ⊎ ((octets : List ℕ) → Bytes Der shape t octets → ⊥)))
+    × ((t : Tree) × IsRead shape input t count × ((cause.now ≡ codes "OutOfMemory") ⊎ ((octets : List ℕ) → Bytes Der shape t octets → ⊥)))
 IsAnswer shape kind input (Refused cause) = (cause.now ≡ codes "OutOfMemory") ⊎ ((t : Tree) (rest : List ℕ) → Reads Ber shape 128 (top Ber) input t rest → ⊥)
 IsAnswer shape kind input Malformed = ⊥
 

@@ -2,14 +2,13 @@
 use Rattle.std.specs.Prelude.{◌≡◌, ℕ, ◌+◌, ◌-◌, ◌*◌, ◌≤◌, ◌<◌, ◌==◌, length, Bool, ◌&&◌, nat_le, nat_eq, if◌then◌else◌, List, [], ◌∷◌, ◌++◌, Option, Some, None, Vec, codes}
 use Rattle.std.specs.List.{position_or_len, before_first, after_first}
 use Rattle.rasn_bench.specs.declared.line.ValueType.{ValueType}
-use Rattle.rasn_bench.specs.declared.line.ValueType.TheVariants.{Bool as BoolType, I32, U32, Octets, Pair}
+use Rattle.rasn_bench.specs.declared.line.ValueType.TheVariants.{Bool as BoolType, I32, U32, Octets}
 
 abbrev pub name_of : ValueType → List ℕ
 name_of BoolType = codes "bool"
 name_of I32 = codes "i32"
 name_of U32 = codes "u32"
 name_of Octets = codes "octets"
-name_of Pair = codes "pair"
 
 abbrev pub is_space : ℕ → Bool
 is_space c = c == 32

@@ -5,7 +5,6 @@ ghost use Rattle.rasn_bench.specs.declared.answer.Answer.TheVariants.{Malformed}
 
 use crate::line::{Request, ValueType};
 use crate::names::{decode_error_name, encode_error_name};
-use crate::pair::Pair;
 use rasn::de::Decode;
 use rasn::enc::Encode;
 use rasn::types::OctetString;
@@ -29,7 +28,9 @@ pub enum Answer {
         name: &'static str,
     },
     /// No value was read, for this cause.
-    Refused { name: &'static str },
+    Refused {
+        name: &'static str,
+    },
     /// The line has another form.
     Malformed,
 }
@@ -46,11 +47,10 @@ impl Answer {
             return Ok(Answer::Malformed);
         };
         Ok(match request.value_type {
-            ValueType::Bool => answer::<bool>(alloc, "BOOLEAN", &octets),
-            ValueType::I32 => answer::<i32>(alloc, "INTEGER", &octets),
-            ValueType::U32 => answer::<u32>(alloc, "INTEGER", &octets),
-            ValueType::Octets => answer::<OctetString>(alloc, "OCTET-STRING", &octets),
-            ValueType::Pair => answer::<Pair>(alloc, "SEQUENCE", &octets),
+            ValueType::Bool => answer_as::<bool>(alloc, "BOOLEAN", &octets),
+            ValueType::I32 => answer_as::<i32>(alloc, "INTEGER", &octets),
+            ValueType::U32 => answer_as::<u32>(alloc, "INTEGER", &octets),
+            ValueType::Octets => answer_as::<OctetString>(alloc, "OCTET-STRING", &octets),
         })
     }
 
@@ -63,13 +63,19 @@ impl Answer {
 }
 
 /// Reads a value of the type by BER, and writes it by DER.
-fn answer<T: Decode + Encode>(alloc: Global, kind: &'static str, octets: &[u8]) -> Answer
+fn answer_as<T: Decode + Encode>(alloc: Global, kind: &'static str, octets: &[u8]) -> Answer
     ensures { IsAnswer T.shape kind.now octets.now result }
 {
     match ber::decode_with_remainder::<T>(alloc, octets) {
-        Err(error) => Answer::Refused { name: decode_error_name(&error.kind) },
+        Err(error) => Answer::Refused {
+            name: decode_error_name(&error.kind),
+        },
         Ok((value, rest)) => match der::encode(alloc, &value) {
-            Ok(octets) => Answer::Read { kind, rest: rest.len(), octets },
+            Ok(octets) => Answer::Read {
+                kind,
+                rest: rest.len(),
+                octets,
+            },
             Err(error) => Answer::NotWritten {
                 kind,
                 rest: rest.len(),

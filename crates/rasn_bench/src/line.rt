@@ -12,7 +12,6 @@ pub enum ValueType {
     I32,
     U32,
     Octets,
-    Pair,
 }
 
 impl ValueType {
@@ -25,7 +24,6 @@ impl ValueType {
             "i32" => Some(ValueType::I32),
             "u32" => Some(ValueType::U32),
             "octets" => Some(ValueType::Octets),
-            "pair" => Some(ValueType::Pair),
             _ => None,
         }
     }
@@ -60,7 +58,11 @@ impl<'line> Request<'line> {
     {
         match self.digits.as_bytes() {
             [] => Ok(None),
-            [only] => Ok(if *only == b'-' { Some(Vec::new(alloc)) } else { None }),
+            [only] => Ok(if *only == b'-' {
+                Some(Vec::new(alloc))
+            } else {
+                None
+            }),
             digits => octets_of_digits(alloc, digits),
         }
     }

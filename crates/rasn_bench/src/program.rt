@@ -21,7 +21,11 @@ pub enum RunFault {
 
 /// Answers each line of the input by a line of the output, an empty one by nothing, and tells whether none was
 /// malformed. A line ends by a line feed, the last one also by the end of input. One line is held at a time.
-pub fn run<R: BufRead, W: Write>(alloc: Global, input: &mut R, output: &mut W) -> Result<bool, RunFault> {
+pub fn run<R: BufRead, W: Write>(
+    alloc: Global,
+    input: &mut R,
+    output: &mut W,
+) -> Result<bool, RunFault> {
     let mut line = Vec::new(alloc);
     let mut well_formed = true;
     for _ in 0..u64::MAX {
@@ -30,7 +34,11 @@ pub fn run<R: BufRead, W: Write>(alloc: Global, input: &mut R, output: &mut W) -
             Ok(0) => break,
             Ok(_) => {}
             Err(error) => {
-                return Err(if error.kind() == ErrorKind::OutOfMemory { RunFault::Memory } else { RunFault::Read });
+                return Err(if error.kind() == ErrorKind::OutOfMemory {
+                    RunFault::Memory
+                } else {
+                    RunFault::Read
+                });
             }
         }
         let text = without_line_feed(&line);

@@ -39,13 +39,13 @@ Agrees R tree l (Ok p) = Exact R l (Got (tree p.0) p.1) × IsEnd l p.1
 Agrees R tree l (Err e) = ((t : Tree) (r : List ℕ) → R l t r → ⊥) × IsEnd l e.1
 
 pub gave_answers : {X Y : Type 0} (R : Codec → ℕ → Bool → Reading Tree) (tree : X → Tree) (see : Y → X) (Is : Readings X) (old new : State) (result : Result Y DecodeError)
-  → ((r : Result (X × List ℕ) (Cause × List ℕ)) → Is r → Agrees (R old.rule old.depth old.closing) tree old.rest r) → Gave see Is old result new → DecodesBy R (λ y. tree (see y)) old result new
+    → ((r : Result (X × List ℕ) (Cause × List ℕ)) → Is r → Agrees (R old.rule old.depth old.closing) tree old.rest r) → Gave see Is old result new → DecodesBy R (λ y. tree (see y)) old result new
 gave_answers {X} R tree see Is old new (Ok v) a g =
-  let h = a (Ok (see v, new.rest)) g.0 in
-  record { stays = g.1; end = h.1; exact = h.0 }
+    let h = a (Ok (see v, new.rest)) g.0 in
+    record { stays = g.1; end = h.1; exact = h.0 }
 gave_answers {X} R tree see Is old new (Err e) a (cause, f, t, c, s) =
-  let h = a (Err (cause, new.rest)) f in
-  record { stays = s; end = h.1; exact = Exact-none e.kind (R old.rule old.depth old.closing) old.rest h.0 }
+    let h = a (Err (cause, new.rest)) f in
+    record { stays = s; end = h.1; exact = Exact-none e.kind (R old.rule old.depth old.closing) old.rest h.0 }
 
 not_strict : (rule : Codec) {A : Type 0} → IsStrict rule → A
 not_strict Ber h = absurd h
@@ -64,8 +64,8 @@ module _ (rule : Codec) (tag : Tag) (l : List ℕ) (o : AreOctets l) where
 
   framed_extent : (h : Header) → header_at rule (Some tag) l ≡ Ok h → (x : Extent) → h.extent ≡ x → Framed (definite_in x h.rest)
   framed_extent h e (definite c) f =
-    let n = header_found rule (Some tag) l h o e in
-    (h.bit, subst (λ z. Frame (form rule) l tag h.bit h.rest z) f (subst (λ z. Frame (form rule) l z h.bit h.rest h.extent) n.1 n.0))
+      let n = header_found rule (Some tag) l h o e in
+      (h.bit, subst (λ z. Frame (form rule) l tag h.bit h.rest z) f (subst (λ z. Frame (form rule) l z h.bit h.rest h.extent) n.1 n.0))
   framed_extent h e indefinite f = IsEnd-header rule (Some tag) l h o e
 
   framed_header : (r : Result Header Fault) → header_at rule (Some tag) l ≡ r → Framed (on_header l r (λ h. definite_in h.extent h.rest))
@@ -77,9 +77,9 @@ module _ (rule : Codec) (tag : Tag) (l : List ℕ) (o : AreOctets l) where
 
   -- A reading of contents that agrees with a kind's contents.
   module _ {X : Type 0} (kind : Kind) (depth : ℕ) (B : Tree → Type 0) (tree : X → Tree) (read : List ℕ → Result X Cause → Type 0)
-    (found : (c : List ℕ) (x : X) → AreOctets c → read c (Ok x) → Contents rule kind c (tree x) × B (tree x))
-    (only : (c : List ℕ) (x : X) (t : Tree) → AreOctets c → read c (Ok x) → Contents rule kind c t → B t → t ≡ tree x)
-    (none : (c : List ℕ) (e : Cause) (t : Tree) → AreOctets c → read c (Err e) → Contents rule kind c t → B t → ⊥) where
+      (found : (c : List ℕ) (x : X) → AreOctets c → read c (Ok x) → Contents rule kind c (tree x) × B (tree x))
+      (only : (c : List ℕ) (x : X) (t : Tree) → AreOctets c → read c (Ok x) → Contents rule kind c t → B t → t ≡ tree x)
+      (none : (c : List ℕ) (e : Cause) (t : Tree) → AreOctets c → read c (Err e) → Contents rule kind c t → B t → ⊥) where
     abbrev pub PlainReads : Reading Tree
     PlainReads input t rest = ReadsIn plain rule kind tag depth input t rest × B t
 
@@ -89,20 +89,20 @@ module _ (rule : Codec) (tag : Tag) (l : List ℕ) (o : AreOctets l) where
 
     agree : (d : Result (List ℕ × List ℕ) (Cause × List ℕ)) → definite_at rule tag l ≡ d → Framed d → (r : Result (X × List ℕ) (Cause × List ℕ)) → FromContents read d r → Agrees PlainReads tree l r
     agree (Ok p) e (bit, f) (Ok q) (a, b) =
-      let k = found p.0 q.0 (frame_octets l o f).1 a in
-      (((subst (λ z. ReadsIn plain rule kind tag depth l (tree q.0) z) (sym b) (bit, p.0, f, k.0, λ s. not_strict rule s), k.1), λ t r w. same t r (contents_there (Ok p) e t r w)), subst (IsEnd l) (sym b) (IsEnd-frame l f))
+        let k = found p.0 q.0 (frame_octets l o f).1 a in
+        (((subst (λ z. ReadsIn plain rule kind tag depth l (tree q.0) z) (sym b) (bit, p.0, f, k.0, λ s. not_strict rule s), k.1), λ t r w. same t r (contents_there (Ok p) e t r w)), subst (IsEnd l) (sym b) (IsEnd-frame l f))
       where
         same : (t : Tree) (r : List ℕ) → (c : List ℕ) × (◌≡◌ {A = Result (List ℕ × List ℕ) (Cause × List ℕ)} (Ok p) (Ok (c, r))) × AreOctets c × Contents rule kind c t × B t → (t ≡ tree q.0) × (r ≡ q.1)
         same t r (c, g, i, j, m) =
-          let y : p.0 ≡ c = cc in
-          let z : p.1 ≡ r = cc in
-          (only c q.0 t i (subst (λ u. read u (Ok q.0)) y a) j m, sym z ∙ sym b)
+            let y : p.0 ≡ c = cc in
+            let z : p.1 ≡ r = cc in
+            (only c q.0 t i (subst (λ u. read u (Ok q.0)) y a) j m, sym z ∙ sym b)
     agree (Ok p) e (bit, f) (Err q) (a, b) = (λ t r w. nothing t r (contents_there (Ok p) e t r w), subst (IsEnd l) (sym b) (IsEnd-frame l f))
       where
         nothing : (t : Tree) (r : List ℕ) → (c : List ℕ) × (◌≡◌ {A = Result (List ℕ × List ℕ) (Cause × List ℕ)} (Ok p) (Ok (c, r))) × AreOctets c × Contents rule kind c t × B t → ⊥
         nothing t r (c, g, i, j, m) =
-          let y : p.0 ≡ c = cc in
-          none c q.0 t i (subst (λ u. read u (Err q.0)) y a) j m
+            let y : p.0 ≡ c = cc in
+            none c q.0 t i (subst (λ u. read u (Err q.0)) y a) j m
     agree (Err d) e f (Ok q) a = cc
     agree (Err d) e f (Err q) a = (λ t r w. nothing t r (contents_there (Err d) e t r w), let z : q ≡ d = cc in subst (λ (u : Cause × List ℕ). IsEnd l u.1) (sym z) f)
       where
@@ -116,5 +116,5 @@ module _ (rule : Codec) (tag : Tag) (l : List ℕ) (o : AreOctets l) where
 -- what follows definite contents
 pub definite_end : (rule : Codec) (tag : Tag) (l : List ℕ) → AreOctets l → (c r : List ℕ) → definite_at rule tag l ≡ Ok (c, r) → IsEnd l r
 definite_end rule tag l o c r e =
-  let f = subst (Framed rule tag l o) e (definite_found rule tag l o) in
-  IsEnd-frame l f.1
+    let f = subst (Framed rule tag l o) e (definite_found rule tag l o) in
+    IsEnd-frame l f.1

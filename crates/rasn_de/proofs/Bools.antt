@@ -33,21 +33,26 @@ one_found rule b x e = zero_case (chosen (nat_eq b 0) _ _ _ e)
   where
     ok_is : (y : Bool) → ◌≡◌ {A = Result Bool Fault} (Ok y) (Ok x) → y ≡ x
     ok_is y e = cc
+
     at_zero : (r : Codec) → b ≡ 0 → IsBool r (b ∷ []) (pos 0)
     at_zero Ber e = (b, refl, inl (e, refl))
     at_zero Cer e = inl (ap (λ z. z ∷ []) e, refl)
     at_zero Der e = inl (ap (λ z. z ∷ []) e, refl)
+
     at_full : (r : Codec) → b ≡ 255 → IsBool r (b ∷ []) (pos 1)
     at_full Ber e = (b, refl, inr (omega arith, refl))
     at_full Cer e = inr (ap (λ z. z ∷ []) e, refl)
     at_full Der e = inr (ap (λ z. z ∷ []) e, refl)
+
     other : (r : Codec) → b ≢ 0 → cond (is_ber r) (Ok true) (Err (InvalidBool b)) ≡ Ok x → IsBool r (b ∷ []) (truth x)
     other Ber n e = let y : true ≡ x = cc in subst (λ z. IsBool Ber (b ∷ []) (truth z)) y (b, refl, inr (n, refl))
     other Cer n e = cc
     other Der n e = cc
+
     full_case : b ≢ 0 → ((nat_eq b 255 ≡ true) × (◌≡◌ {A = Result Bool Fault} (Ok true) (Ok x))) ⊎ ((nat_eq b 255 ≡ false) × (cond (is_ber rule) (Ok true) (Err (InvalidBool b)) ≡ Ok x)) → IsBool rule (b ∷ []) (truth x)
     full_case n (inl (t, f)) = let k : b ≡ 255 = grind (arith, nat_tests) in subst (λ z. IsBool rule (b ∷ []) (truth z)) (ok_is true f) (at_full rule k)
     full_case n (inr (t, f)) = other rule n f
+
     zero_case : ((nat_eq b 0 ≡ true) × (◌≡◌ {A = Result Bool Fault} (Ok false) (Ok x))) ⊎ ((nat_eq b 0 ≡ false) × (cond (nat_eq b 255) (Ok true) (cond (is_ber rule) (Ok true) (Err (InvalidBool b))) ≡ Ok x)) → IsBool rule (b ∷ []) (truth x)
     zero_case (inl (t, f)) = let k : b ≡ 0 = grind (arith, nat_tests) in subst (λ z. IsBool rule (b ∷ []) (truth z)) (ok_is false f) (at_zero rule k)
     zero_case (inr (t, f)) = let k : b ≢ 0 = grind (arith, nat_tests) in full_case k (chosen (nat_eq b 255) _ _ _ f)
@@ -82,5 +87,5 @@ bool_none rule c e t o f k u = let s = bool_spelled rule c t o k u in let g = s.
 pub bool_decodes : (tag : Tag) (old new : State) (result : Result Bool DecodeError) → AreOctets old.rest → Gave (λ b. b) (BoolAt old.rule tag old.rest) old result new → Decodes (leaf boolean tag unconstrained) bool_tree old result new
 unfolding Reads
 bool_decodes tag old new result o g =
-  gave_answers (λ rule. Reads rule (leaf boolean tag unconstrained)) bool_tree (λ b. b) _ old new result
+    gave_answers (λ rule. Reads rule (leaf boolean tag unconstrained)) bool_tree (λ b. b) _ old new result
     (plain_agrees old.rule tag old.rest o boolean old.depth (λ t. Unit {0}) bool_tree (reads_bool old.rule) (bool_found old.rule) (bool_only old.rule) (bool_none old.rule)) g

@@ -20,7 +20,7 @@ IsEnd-zeros a b e = (0 ∷ 0 ∷ [], e)
 -- What follows a frame ends the list.
 pub IsEnd-frame : {spelling : Form} (input : List ℕ) {tag : Tag} {bit : Bool} {rest : List ℕ} {x : Extent} → Frame spelling input tag bit rest x → IsEnd input rest
 IsEnd-frame input {rest = rest} (with_length id len contents s a strict e) =
-  (id ++ (len ++ contents), e ∙ ap (λ z. id ++ z) (sym (append_assoc len contents rest)) ∙ sym (append_assoc id (len ++ contents) rest))
+    (id ++ (len ++ contents), e ∙ ap (λ z. id ++ z) (sym (append_assoc len contents rest)) ∙ sym (append_assoc id (len ++ contents) rest))
 IsEnd-frame input {rest = rest} (without_length id s b h e) = (id ++ (128 ∷ []), e ∙ sym (append_assoc id (128 ∷ []) rest))
 
 pub IsEnd-header : (rule : Codec) (expected : Option Tag) (input : List ℕ) (h : Header) → AreOctets input → header_at rule expected input ≡ Ok h → IsEnd input h.rest

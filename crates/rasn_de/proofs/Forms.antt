@@ -23,8 +23,8 @@ primitive_form rule tag l h c o e (b, x) = (h.rest, c, subst (λ z. Frame (form 
 pub constructed_form : (rule : Codec) (tag : Tag) (l : List ℕ) (h : Header) → AreOctets l → header_at rule (Some tag) l ≡ Ok h → IsNested h → IsConstructed rule tag l
 constructed_form rule tag l h o e (inl b) = (h.rest, h.extent, subst (λ z. Frame (form rule) l tag z h.rest h.extent) b (frame_there rule tag l h o e))
 constructed_form rule tag l h o e (inr x) =
-  let f = subst (λ z. Frame (form rule) l tag h.bit h.rest z) x (frame_there rule tag l h o e) in
-  (h.rest, indefinite, subst (λ z. Frame (form rule) l tag z h.rest indefinite) (frame_bit f) f)
+    let f = subst (λ z. Frame (form rule) l tag h.bit h.rest z) x (frame_there rule tag l h o e) in
+    (h.rest, indefinite, subst (λ z. Frame (form rule) l tag z h.rest indefinite) (frame_bit f) f)
 
 -- one segment's octets
 pub plain_octets : (rule : Codec) (depth : ℕ) (tag : Tag) (l : List ℕ) (h : Header) (c : List ℕ) → header_at rule (Some tag) l ≡ Ok h → (h.bit ≡ false) × (h.extent ≡ definite c) → octets_at rule depth tag l ≡ Ok (c, h.rest)

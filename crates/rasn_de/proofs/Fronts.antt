@@ -16,13 +16,16 @@ id_not_zero (i ∷ a) x y s b j e = j.is_one (go j.spells.number)
   where
     zero_first : i ≡ 0
     zero_first = cc
+
     leads : 0 ≡ 64 * rank s.class + (32 * bit_of b + j.spells.low)
     leads = let f = j.spells.leading in let g = zero_first in cc
+
     class_is : (c : Class) → rank c ≡ 0 → c ≡ Universal
     class_is Universal e = refl
     class_is Application e = absurd (omega arith)
     class_is Context e = absurd (omega arith)
     class_is Private e = absurd (omega arith)
+
     go : ((j.spells.low < 31) × (a ≡ []) × (s.value ≡ j.spells.low)) ⊎ ((j.spells.low ≡ 31) × Spells128 a s.value) → s ≡ eoc
     go (inl (p, q, r)) = let f = leads in tag_is s eoc (class_is s.class (omega arith)) (omega arith)
     go (inr (p, q)) = let f = leads in absurd (omega arith)
@@ -42,6 +45,6 @@ len_length (b ∷ l) n h = omega arith
 
 pub frame_shorter : {spelling : Form} {input : List ℕ} {tag : Tag} {bit : Bool} {rest : List ℕ} {extent : Extent} → Frame spelling input tag bit rest extent → length rest + 2 ≤ length input
 frame_shorter {tag = tag} {bit = bit} {rest = rest} (with_length id len contents s a strict e) =
-  rw e (simp length-append (omega (arith, id_length id tag bit s, len_length len (length contents) a)))
+    rw e (simp length-append (omega (arith, id_length id tag bit s, len_length len (length contents) a)))
 frame_shorter {tag = tag} {bit = bit} {rest = rest} (without_length id s b h e) =
-  rw e (simp length-append (omega (arith, id_length id tag bit s)))
+    rw e (simp length-append (omega (arith, id_length id tag bit s)))

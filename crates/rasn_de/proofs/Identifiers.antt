@@ -19,33 +19,33 @@ abbrev pub IsTagNumber : ℕ → List ℕ → ℕ → Type 0
 IsTagNumber low more n = ((low < 31) × (more ≡ []) × (n ≡ low)) ⊎ ((low ≡ 31) × Spells128 more n)
 
 pub tag_number_found : (first : ℕ) (l : List ℕ) (p : ℕ × List ℕ) → tag_number_at first l ≡ Ok p
-  → (more : List ℕ) × IsTagNumber (first % 32) more p.0 × (l ≡ more ++ p.1)
+    → (more : List ℕ) × IsTagNumber (first % 32) more p.0 × (l ≡ more ++ p.1)
 unfolding tag_number_at
 tag_number_found first l p e = go (chosen (nat_eq (first % 32) 31) _ _ _ e)
   where
     go : ((nat_eq (first % 32) 31 ≡ true) × (number128_at UnsupportedTagNumber 0 l ≡ Ok p)) ⊎ ((nat_eq (first % 32) 31 ≡ false) × (◌≡◌ {A = Result (ℕ × List ℕ) Fault} (Ok (first % 32, l)) (Ok p)))
-      → (more : List ℕ) × IsTagNumber (first % 32) more p.0 × (l ≡ more ++ p.1)
+        → (more : List ℕ) × IsTagNumber (first % 32) more p.0 × (l ≡ more ++ p.1)
     go (inl (t, f)) =
-      let k : first % 32 ≡ 31 = grind (arith, nat_tests) in
-      let s = number128_found UnsupportedTagNumber 0 l p f in
-      (s.front, inr (k, record { chain = s.chain; is = s.number ∙ omega arith; below = s.below }), s.is)
+        let k : first % 32 ≡ 31 = grind (arith, nat_tests) in
+        let s = number128_found UnsupportedTagNumber 0 l p f in
+        (s.front, inr (k, record { chain = s.chain; is = s.number ∙ omega arith; below = s.below }), s.is)
     go (inr (t, f)) =
-      let k : first % 32 ≢ 31 = grind (arith, nat_tests) in
-      let g : (first % 32, l) ≡ p = cc in
-      let g0 : first % 32 ≡ p.0 = ap (λ (z : ℕ × List ℕ). z.0) g in
-      let g1 : l ≡ p.1 = ap (λ (z : ℕ × List ℕ). z.1) g in
-      ([], inl (omega arith, refl, sym g0), g1)
+        let k : first % 32 ≢ 31 = grind (arith, nat_tests) in
+        let g : (first % 32, l) ≡ p = cc in
+        let g0 : first % 32 ≡ p.0 = ap (λ (z : ℕ × List ℕ). z.0) g in
+        let g1 : l ≡ p.1 = ap (λ (z : ℕ × List ℕ). z.1) g in
+        ([], inl (omega arith, refl, sym g0), g1)
 
 pub tag_number_spelled : (first low : ℕ) (more rest : List ℕ) (n : ℕ) → first % 32 ≡ low → IsTagNumber low more n
-  → tag_number_at first (more ++ rest) ≡ Ok (n, rest)
+    → tag_number_at first (more ++ rest) ≡ Ok (n, rest)
 unfolding tag_number_at
 tag_number_spelled first low more rest n e (inl (h, p, q)) =
-  let t : nat_eq (first % 32) 31 ≡ false = grind (arith, nat_tests) in
-  rw (t, p, q, e) refl
+    let t : nat_eq (first % 32) 31 ≡ false = grind (arith, nat_tests) in
+    rw (t, p, q, e) refl
 tag_number_spelled first low more rest n e (inr (h, s)) =
-  let t : nat_eq (first % 32) 31 ≡ true = grind (arith, nat_tests) in
-  let f : 0 * 128 ^ length more + number_in 128 more ≡ n = sym (s.is ∙ omega arith) in
-  rw t (number128_spelled UnsupportedTagNumber 0 more rest s.chain (subst (λ z. z < 2 ^ 32) (sym f) s.below) ∙ ap (λ z. Ok (z, rest)) f)
+    let t : nat_eq (first % 32) 31 ≡ true = grind (arith, nat_tests) in
+    let f : 0 * 128 ^ length more + number_in 128 more ≡ n = sym (s.is ∙ omega arith) in
+    rw t (number128_spelled UnsupportedTagNumber 0 more rest s.chain (subst (λ z. z < 2 ^ 32) (sym f) s.below) ∙ ap (λ z. Ok (z, rest)) f)
 
 pub class_rank : (n : ℕ) → n < 4 → rank (class_of n) ≡ n
 class_rank n h = go (nat_eq n 0) refl (nat_eq n 1) refl (nat_eq n 2) refl
@@ -112,16 +112,18 @@ identifier_found (b ∷ l) i o e = go (bind_ok (tag_number_at b l) (named b) i e
   where
     go : (p : ℕ × List ℕ) × (tag_number_at b l ≡ Ok p) × (named b p ≡ Ok i) → SpelledId (b ∷ l) i
     go (p, t, f) =
-      let g = guarded (is_eoc (tag_of b p.0)) _ _ i f in
-      let s = tag_number_found b l p t in
-      let n = g.1 in
-      let m : record { tag = tag_of b p.0; bit = bit_at b; rest = p.1 } ≡ i = cc in
-      subst (λ z. SpelledId (b ∷ l) z) m (record {
-        front = b ∷ s.0;
-        spells = record {
-          spells = record { low = b % 32; leading = leading b (rank (class_of (b / 64))) (32 * bit_of (nat_le 32 (b % 64))) (class_rank (b / 64) (omega (arith, o.0))) (bit_true (b % 64) (omega arith)); number = s.1 };
-          is_one = eoc_is (tag_of b p.0) g.0 };
-        is = ap (λ z. b ∷ z) s.2 })
+        let g = guarded (is_eoc (tag_of b p.0)) _ _ i f in
+        let s = tag_number_found b l p t in
+        let n = g.1 in
+        let m : record { tag = tag_of b p.0; bit = bit_at b; rest = p.1 } ≡ i = cc in
+        subst (λ z. SpelledId (b ∷ l) z) m (record {
+          front = b ∷ s.0;
+          spells = record {
+            spells = record { low = b % 32; leading = leading b (rank (class_of (b / 64))) (32 * bit_of (nat_le 32 (b % 64))) (class_rank (b / 64) (omega (arith, o.0))) (bit_true (b % 64) (omega arith)); number = s.1 };
+            is_one = eoc_is (tag_of b p.0) g.0;
+          };
+          is = ap (λ z. b ∷ z) s.2;
+        })
 
 first_parts : (b c d low : ℕ) → c < 4 → d < 2 → low < 32 → b ≡ 64 * c + (32 * d + low) → (b / 64 ≡ c) × (b % 64 ≡ 32 * d + low) × (b % 32 ≡ low)
 first_parts b c d low h k m e = (omega arith, omega arith, omega arith)
@@ -142,11 +144,11 @@ pub identifier_spelled : (front rest : List ℕ) (tag : Tag) (bit : Bool) → Id
 unfolding identifier_at
 identifier_spelled [] rest tag bit i = absurd i.spells
 identifier_spelled (b ∷ more) rest tag bit i =
-  let h = i.spells in
-  let s = low_small more tag.value h.low h.number in
-  let q = first_parts b (rank tag.class) (bit_of bit) h.low (rank_small tag.class) (bit_small bit) s h.leading in
-  let n = tag_number_spelled b h.low more rest tag.value q.2 h.number in
-  let c : tag_of b tag.value ≡ tag = tag_is (tag_of b tag.value) tag (rank_class tag.class (b / 64) q.0) refl in
-  let d : bit_at b ≡ bit = bit_back bit (b % 64) h.low s q.1 in
-  let z : is_eoc (tag_of b tag.value) ≡ false = ap is_eoc c ∙ not_eoc tag i.is_one in
-  rw (n, z, c, d) refl
+    let h = i.spells in
+    let s = low_small more tag.value h.low h.number in
+    let q = first_parts b (rank tag.class) (bit_of bit) h.low (rank_small tag.class) (bit_small bit) s h.leading in
+    let n = tag_number_spelled b h.low more rest tag.value q.2 h.number in
+    let c : tag_of b tag.value ≡ tag = tag_is (tag_of b tag.value) tag (rank_class tag.class (b / 64) q.0) refl in
+    let d : bit_at b ≡ bit = bit_back bit (b % 64) h.low s q.1 in
+    let z : is_eoc (tag_of b tag.value) ≡ false = ap is_eoc c ∙ not_eoc tag i.is_one in
+    rw (n, z, c, d) refl

@@ -34,28 +34,29 @@ module _ (width : ℕ) (range : Interval) (bounds : Constraints) where
   integer_none rule c (out_of_bound z bound) t o (n, i, a, e, g) k b = a (subst (IsBounded (integer range) bounds) k.0 b)
 
   pub integer_decodes : {X : Type 0} (see : X → ℤ) (Grows : Type 0) (tag : Tag) (old new : State) (result : Result X DecodeError) → AreOctets old.rest
-    → GaveInteger see Grows tag (IntegerAt width range bounds old.rule tag old.rest) old result new → Decodes (leaf (integer range) tag bounds) (λ v. number (see v)) old result new
+      → GaveInteger see Grows tag (IntegerAt width range bounds old.rule tag old.rest) old result new → Decodes (leaf (integer range) tag bounds) (λ v. number (see v)) old result new
   unfolding Reads
   integer_decodes see Grows tag old new (Ok v) o g =
-    gave_answers (λ rule. Reads rule (leaf (integer range) tag bounds)) number see _ old new (Ok v)
+      gave_answers (λ rule. Reads rule (leaf (integer range) tag bounds)) number see _ old new (Ok v)
       (plain_agrees old.rule tag old.rest o (integer range) old.depth (IsBounded (integer range) bounds) number (IntegerIn width range bounds) (integer_found old.rule) (integer_only old.rule) (integer_none old.rule)) g
   integer_decodes see Grows tag old new (Err e) o (inr g) =
-    gave_answers (λ rule. Reads rule (leaf (integer range) tag bounds)) number see _ old new (Err e)
+      gave_answers (λ rule. Reads rule (leaf (integer range) tag bounds)) number see _ old new (Err e)
       (plain_agrees old.rule tag old.rest o (integer range) old.depth (IsBounded (integer range) bounds) number (IntegerIn width range bounds) (integer_found old.rule) (integer_only old.rule) (integer_none old.rule)) g
   integer_decodes see Grows tag old new (Err e) o (inl (m, g, d, s, c, h)) = record {
     stays = s;
     end = definite_end old.rule tag old.rest o c new.rest h;
-    exact = subst (λ k. Exact (Reads old.rule (leaf (integer range) tag bounds) old.depth old.closing) old.rest (refusal k)) (sym m) tt }
+    exact = subst (λ k. Exact (Reads old.rule (leaf (integer range) tag bounds) old.depth old.closing) old.rest (refusal k)) (sym m) tt;
+  }
 
   -- a number out of its bound
   pub bound_refused : (tag : Tag) (old new : State) (c : List ℕ) (e : DecodeError) → definite_at old.rule tag old.rest ≡ Ok (c, new.rest) → new ≡ at old new.rest → c ≢ [] → IsIn range (signed c) → (Admits ◌≤ℤ◌ bounds.value (signed c) → ⊥)
-    → Tells (out_of_bound (signed c) (constraint_of bounds.value)) e.kind × (e.codec ≡ new.rule) → Refuses (IntegerAt width range bounds old.rule tag old.rest) old e new
+      → Tells (out_of_bound (signed c) (constraint_of bounds.value)) e.kind × (e.codec ≡ new.rule) → Refuses (IntegerAt width range bounds old.rule tag old.rest) old e new
   bound_refused tag old new c e h s n i a (t, k) =
-    (out_of_bound (signed c) (constraint_of bounds.value), subst (λ d. FromContents (IntegerIn width range bounds) d (Err (out_of_bound (signed c) (constraint_of bounds.value), new.rest))) (sym h) ((n, i, a, refl, refl), refl), t, k ∙ rule_is old new s, s)
+      (out_of_bound (signed c) (constraint_of bounds.value), subst (λ d. FromContents (IntegerIn width range bounds) d (Err (out_of_bound (signed c) (constraint_of bounds.value), new.rest))) (sym h) ((n, i, a, refl, refl), refl), t, k ∙ rule_is old new s, s)
 
 -- want of memory behind contents
 pub number_starved : {X : Type 0} (see : X → ℤ) (Grows : Type 0) (tag : Tag) (Is : Readings ℤ) (old new : State) (c : List ℕ) (e : DecodeError) → definite_at old.rule tag old.rest ≡ Ok (c, new.rest) → new ≡ at old new.rest → Grows → ErrorOf fault_is.OutOfMemory new e
-  → GaveInteger see Grows tag Is old (Err e) new
+    → GaveInteger see Grows tag Is old (Err e) new
 number_starved see Grows tag Is old new c e h s g k = inl (ap (λ (x : DecodeError). x.kind) k, g, ap (λ (x : DecodeError). x.codec) k ∙ rule_is old new s, s, c, h)
 
 pub empty_is : (l : List ℕ) → true ≡ (length l == 0) → l ≡ []

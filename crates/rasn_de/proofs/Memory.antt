@@ -51,9 +51,9 @@ length_none : (allowed : Bool) (l : List ℕ) → NoMemory (length_at allowed l)
 unfolding length_at
 length_none allowed [] = λ e. cc
 length_none allowed (b ∷ l) =
-  none_cond (nat_lt b 128) (Ok (Some b, l)) _ tt
+    none_cond (nat_lt b 128) (Ok (Some b, l)) _ tt
     (none_cond (nat_eq b 128) _ _ (none_cond allowed (Ok (None, l)) (Err IndefiniteLengthNotAllowed) tt (λ e. cc))
-      (none_cond (nat_eq b 255) (Err ReservedLengthOctet) _ (λ e. cc) (long_none (b - 128) l)))
+    (none_cond (nat_eq b 255) (Err ReservedLengthOctet) _ (λ e. cc) (long_none (b - 128) l)))
 
 contents_none : (tag : Tag) (bit : Bool) (n : Option ℕ) (l : List ℕ) → NoMemory (contents_at tag bit n l)
 contents_none tag bit None l = tt
@@ -66,5 +66,5 @@ expected_none (Some wanted) tag = none_cond (same_tag tag wanted) (Ok tt) _ tt (
 pub header_none : (rule : Codec) (expected : Option Tag) (l : List ℕ) → NoMemory (header_at rule expected l)
 unfolding header_at
 header_none rule expected l =
-  none_bind (identifier_at l) _ (identifier_none l) (λ i. none_bind (expected_at expected i.tag) _ (expected_none expected i.tag)
+    none_bind (identifier_at l) _ (identifier_none l) (λ i. none_bind (expected_at expected i.tag) _ (expected_none expected i.tag)
     (λ u. none_bind (length_at (i.bit && has_indefinite rule) i.rest) _ (length_none (i.bit && has_indefinite rule) i.rest) (λ n. contents_none i.tag i.bit n.0 n.1)))

@@ -14,15 +14,15 @@ use Rattle.rasn_de.proofs.Memory.{NoMemory, identifier_none}
 
 pub next_found : (l : List ℕ) (i : Identified) → AreOctets l → identifier_at l ≡ Ok i → Next l i.tag
 next_found l i o e =
-  let s = identifier_found l i o e in
-  record { begins = record { id = s.front; bit = i.bit; more = i.rest; spells = s.spells.spells; is = s.is }; is_one = s.spells.is_one }
+    let s = identifier_found l i o e in
+    record { begins = record { id = s.front; bit = i.bit; more = i.rest; spells = s.spells.spells; is = s.is }; is_one = s.spells.is_one }
 
 pub next_none : (l : List ℕ) (f : Fault) → identifier_at l ≡ Err f → (t : Tag) → Next l t → ⊥
 next_none l f e t n =
-  let b = n.begins in
-  let k = identifier_spelled b.id b.more t b.bit (record { spells = b.spells; is_one = n.is_one }) in
-  let h : identifier_at l ≡ Ok (record { tag = t; bit = b.bit; rest = b.more }) = ap identifier_at b.is ∙ k in
-  cc
+    let b = n.begins in
+    let k = identifier_spelled b.id b.more t b.bit (record { spells = b.spells; is_one = n.is_one }) in
+    let h : identifier_at l ≡ Ok (record { tag = t; bit = b.bit; rest = b.more }) = ap identifier_at b.is ∙ k in
+    cc
 
 pub next_memory : (l : List ℕ) (f : Fault) → identifier_at l ≡ Err f → f ≢ fault.OutOfMemory
 next_memory l f e = subst NoMemory e (identifier_none l)

@@ -25,25 +25,25 @@ refuses_fault Is old new f e r s k = (fault f, r, ap (λ (x : DecodeError). x.ki
 
 -- an indefinite form where it has none
 pub indefinite_refused : (tag : Tag) (old new : State) (v : Value) (e : DecodeError) → header_at old.rule (Some tag) old.rest ≡ Ok (framed v new.rest) → v.contents ≡ Indefinite → new ≡ at old new.rest
-  → ErrorOf IndefiniteLengthNotAllowed new e → Refuses (λ r. definite_at old.rule tag old.rest ≡ r) old e new
+    → ErrorOf IndefiniteLengthNotAllowed new e → Refuses (λ r. definite_at old.rule tag old.rest ≡ r) old e new
 indefinite_refused tag old new v e h i s k =
-  let x : extent v.contents ≡ indefinite = ap extent i in
-  refuses_fault (λ r. definite_at old.rule tag old.rest ≡ r) old new IndefiniteLengthNotAllowed e (rw (h, x) refl) s k
+    let x : extent v.contents ≡ indefinite = ap extent i in
+    refuses_fault (λ r. definite_at old.rule tag old.rest ≡ r) old new IndefiniteLengthNotAllowed e (rw (h, x) refl) s k
 
 -- where the contents are refused, the value is
 pub leaf_refused : {X : Type 0} (read : List ℕ → Result X Cause → Type 0) (tag : Tag) (old new : State) (e : DecodeError) → Refuses (λ r. definite_at old.rule tag old.rest ≡ r) old e new
-  → Refuses (LeafAt read old.rule tag old.rest) old e new
+    → Refuses (LeafAt read old.rule tag old.rest) old e new
 leaf_refused {X} read tag old new e (cause, f, t, c, s) = (cause, subst (λ d. FromContents read d (Err (cause, new.rest))) (sym f) refl, t, c, s)
 
 -- contents that aren't a value's
 pub contents_refused : {X : Type 0} (read : List ℕ → Result X Cause → Type 0) (tag : Tag) (old new : State) (c : List ℕ) (f : Fault) (e : DecodeError) → definite_at old.rule tag old.rest ≡ Ok (c, new.rest) → read c (Err (fault f))
-  → new ≡ at old new.rest → ErrorOf f new e → Refuses (LeafAt read old.rule tag old.rest) old e new
+    → new ≡ at old new.rest → ErrorOf f new e → Refuses (LeafAt read old.rule tag old.rest) old e new
 contents_refused read tag old new c f e h r s k =
-  refuses_fault (LeafAt read old.rule tag old.rest) old new f e (subst (λ d. FromContents read d (Err (fault f, new.rest))) (sym h) (r, refl)) s k
+    refuses_fault (LeafAt read old.rule tag old.rest) old new f e (subst (λ d. FromContents read d (Err (fault f, new.rest))) (sym h) (r, refl)) s k
 
 -- contents that are a value's
 pub contents_read : {X Y : Type 0} (see : Y → X) (read : List ℕ → Result X Cause → Type 0) (tag : Tag) (old new : State) (c : List ℕ) (y : Y) → definite_at old.rule tag old.rest ≡ Ok (c, new.rest) → read c (Ok (see y))
-  → new ≡ at old new.rest → Gave see (LeafAt read old.rule tag old.rest) old (Ok y) new
+    → new ≡ at old new.rest → Gave see (LeafAt read old.rule tag old.rest) old (Ok y) new
 contents_read see read tag old new c y h r s = (subst (λ d. FromContents read d (Ok (see y, new.rest))) (sym h) (r, refl), s)
 
 pub same_at : (old new : State) → new ≡ old → new ≡ at old new.rest
@@ -52,5 +52,5 @@ same_at old new s = s ∙ ap (λ r. at old r) (sym (ap (λ (x : State). x.rest) 
 -- where no header is, no contents are
 pub header_refused : (tag : Tag) (old new : State) (e : DecodeError) → Takes tag old (Err e) new → Refuses (λ r. definite_at old.rule tag old.rest ≡ r) old e new
 header_refused tag old new e (f, h, k, s) =
-  let r : new.rest ≡ old.rest = ap (λ (x : State). x.rest) s in
-  (fault f, rw (h, r) refl, ap (λ (x : DecodeError). x.kind) k, ap (λ (x : DecodeError). x.codec) k, same_at old new s)
+    let r : new.rest ≡ old.rest = ap (λ (x : State). x.rest) s in
+    (fault f, rw (h, r) refl, ap (λ (x : DecodeError). x.kind) k, ap (λ (x : DecodeError). x.codec) k, same_at old new s)

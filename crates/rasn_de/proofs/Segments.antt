@@ -22,15 +22,15 @@ segments_shorter read s zero l q e = let m : l ≡ q.1 = cc in let k : length l 
 segments_shorter {X} read s (suc n) l q e = go (λ p f. segments_shorter read s n (p.1) f) (chosen (ends l) _ _ _ e)
   where
     go : ((p f : List X × List ℕ) → segments_at read n p.1 ≡ Ok f → length f.1 ≤ length p.1)
-      → ((ends l ≡ true) × (◌≡◌ {A = Result (List X × List ℕ) Fault} (Ok ([], l)) (Ok q))) ⊎ ((ends l ≡ false) × ((read l >>= λ p. segments_at read n p.1 >>= λ r. Ok (p.0 ++ r.0, r.1)) ≡ Ok q)) → length q.1 ≤ length l
+        → ((ends l ≡ true) × (◌≡◌ {A = Result (List X × List ℕ) Fault} (Ok ([], l)) (Ok q))) ⊎ ((ends l ≡ false) × ((read l >>= λ p. segments_at read n p.1 >>= λ r. Ok (p.0 ++ r.0, r.1)) ≡ Ok q)) → length q.1 ≤ length l
     go more (inl (t, f)) = let m : l ≡ q.1 = cc in let k : length l ≡ length q.1 = ap length m in omega arith
     go more (inr (t, f)) =
-      let p = bind_ok (read l) _ q f in
-      let r = bind_ok (segments_at read n p.0.1) _ q p.2 in
-      let g = r.2 in
-      let m : r.0.1 ≡ q.1 = cc in
-      let k : length r.0.1 ≡ length q.1 = ap length m in
-      omega (arith, s l p.0 p.1, more p.0 r.0 r.1)
+        let p = bind_ok (read l) _ q f in
+        let r = bind_ok (segments_at read n p.0.1) _ q p.2 in
+        let g = r.2 in
+        let m : r.0.1 ≡ q.1 = cc in
+        let k : length r.0.1 ≡ length q.1 = ap length m in
+        omega (arith, s l p.0 p.1, more p.0 r.0 r.1)
 
 abbrev pub with_front : {X : Type 0} → List X → Result (List X × List ℕ) Fault → Result (List X × List ℕ) Fault
 with_front xs r = r >>= λ q. Ok (xs ++ q.0, q.1)
@@ -49,7 +49,7 @@ segments_room read s (suc n) zero (b ∷ l) h k = absurd (omega arith)
 segments_room {X} read s (suc n) (suc m) l h k = cond_same (ends l) (Ok ([], l)) (go (read l) (λ p e. segments_room read s n m p.1 (omega (arith, s l p e)) (omega (arith, s l p e))))
   where
     go : (r : Result (List X × List ℕ) Fault) → ((p : List X × List ℕ) → r ≡ Ok p → segments_at read n p.1 ≡ segments_at read m p.1)
-      → (r >>= λ p. with_front p.0 (segments_at read n p.1)) ≡ (r >>= λ p. with_front p.0 (segments_at read m p.1))
+        → (r >>= λ p. with_front p.0 (segments_at read n p.1)) ≡ (r >>= λ p. with_front p.0 (segments_at read m p.1))
     go (Ok p) f = ap (λ z. with_front p.0 z) (f p refl)
     go (Err e) f = refl
 
@@ -70,8 +70,8 @@ pub segments_step : {X : Type 0} (read : List ℕ → Result (List X × List ℕ
 unfolding segments_at
 segments_step read s [] p e g = cc
 segments_step read s (b ∷ l) p e g =
-  let k = segments_room read s (length l) (length p.1) p.1 (omega (arith, s (b ∷ l) p g)) (omega arith) in
-  rw (e, g) (ap (λ z. with_front p.0 z) k)
+    let k = segments_room read s (length l) (length p.1) p.1 (omega (arith, s (b ∷ l) p g)) (omega arith) in
+    rw (e, g) (ap (λ z. with_front p.0 z) k)
 
 pub with_front_twice : {X : Type 0} (xs ys : List X) (r : Result (List X × List ℕ) Fault) → with_front xs (with_front ys r) ≡ with_front (xs ++ ys) r
 with_front_twice xs ys (Ok q) = ap (λ z. Ok (z, q.1)) (sym (append_assoc xs ys q.0))
@@ -101,21 +101,21 @@ finished_shorter indefinite rest left r h e = omega (arith, closed_shorter left 
 
 nested_shorter : {X : Type 0} (read : List ℕ → Result (List X × List ℕ) Fault) → AllShorten read → (x : Extent) (rest : List ℕ) (p : List X × List ℕ) → segments_in read x rest ≡ Ok p → length p.1 ≤ length rest
 nested_shorter read s x rest p e =
-  let q = bind_ok (segments read (inner x rest)) _ p e in
-  let r = bind_ok (finished x rest q.0.1) _ p q.2 in
-  let f = r.2 in
-  let m : r.0 ≡ p.1 = cc in
-  let k : length r.0 ≡ length p.1 = ap length m in
-  omega (arith, finished_shorter x rest q.0.1 r.0 (segments_shorter read s (length (inner x rest)) (inner x rest) q.0 q.1) r.1)
+    let q = bind_ok (segments read (inner x rest)) _ p e in
+    let r = bind_ok (finished x rest q.0.1) _ p q.2 in
+    let f = r.2 in
+    let m : r.0 ≡ p.1 = cc in
+    let k : length r.0 ≡ length p.1 = ap length m in
+    omega (arith, finished_shorter x rest q.0.1 r.0 (segments_shorter read s (length (inner x rest)) (inner x rest) q.0 q.1) r.1)
 
 string_in_shorter : {X : Type 0} (rule : Codec) (segment : List ℕ → Result (List X) Fault) (nested : Extent → List ℕ → Result (List X × List ℕ) Fault)
-  → ((x : Extent) (rest : List ℕ) (p : List X × List ℕ) → nested x rest ≡ Ok p → length p.1 ≤ length rest)
-  → (bit : Bool) (x : Extent) (rest : List ℕ) (p : List X × List ℕ) → string_in rule segment nested bit x rest ≡ Ok p → length p.1 ≤ length rest
+    → ((x : Extent) (rest : List ℕ) (p : List X × List ℕ) → nested x rest ≡ Ok p → length p.1 ≤ length rest)
+    → (bit : Bool) (x : Extent) (rest : List ℕ) (p : List X × List ℕ) → string_in rule segment nested bit x rest ≡ Ok p → length p.1 ≤ length rest
 string_in_shorter rule segment nested s false (definite c) rest p e =
-  let q = bind_ok (segment c) _ p e in
-  let f = q.2 in
-  let m : rest ≡ p.1 = cc in
-  let k : length rest ≡ length p.1 = ap length m in omega arith
+    let q = bind_ok (segment c) _ p e in
+    let f = q.2 in
+    let m : rest ≡ p.1 = cc in
+    let k : length rest ≡ length p.1 = ap length m in omega arith
 string_in_shorter rule segment nested s false indefinite rest p e = s indefinite rest p (guarded (is_der rule) _ _ p e).1
 string_in_shorter rule segment nested s true x rest p e = s x rest p (guarded (is_der rule) _ _ p e).1
 
@@ -123,13 +123,13 @@ pub string_shorter : {X : Type 0} (rule : Codec) (segment : List ℕ → Result 
 unfolding string_of
 string_shorter rule segment tag zero h p e = string_in_shorter rule segment too_deep (λ x rest p e. cc) h.bit h.extent h.rest p e
 string_shorter rule segment tag (suc d) h p e =
-  string_in_shorter rule segment (segments_in (segment_at rule segment tag d))
+    string_in_shorter rule segment (segments_in (segment_at rule segment tag d))
     (nested_shorter (segment_at rule segment tag d) (λ l p e. let g = bind_ok (header_at rule (Some tag) l) _ p e in omega (arith, header_shorter rule (Some tag) l g.0 g.1, string_shorter rule segment tag d g.0 p g.2)))
     h.bit h.extent h.rest p e
 
 pub segment_shorter : {X : Type 0} (rule : Codec) (segment : List ℕ → Result (List X) Fault) (tag : Tag) (d : ℕ) → AllShorten (segment_at rule segment tag d)
 segment_shorter rule segment tag d l p e =
-  let g = bind_ok (header_at rule (Some tag) l) _ p e in omega (arith, header_shorter rule (Some tag) l g.0 g.1, string_shorter rule segment tag d g.0 p g.2)
+    let g = bind_ok (header_at rule (Some tag) l) _ p e in omega (arith, header_shorter rule (Some tag) l g.0 g.1, string_shorter rule segment tag d g.0 p g.2)
 
 -- What has been gathered from start up to left.
 pub record Gathering {X : Type 0} (read : List ℕ → Result (List X × List ℕ) Fault) (start left : List ℕ) (old new : List X) : Type 0 where
@@ -145,19 +145,20 @@ pub gathering_start : {X : Type 0} (read : List ℕ → Result (List X × List �
 gathering_start read start old = record { found = []; appended = sym (append-nil old); same = with_none (segments read start) }
 
 pub gathering_step : {X : Type 0} (read : List ℕ → Result (List X × List ℕ) Fault) → AllShorten read → (start left : List ℕ) (old mid new : List X) (p : List X × List ℕ)
-  → Gathering read start left old mid → ends left ≡ false → read left ≡ Ok p → new ≡ mid ++ p.0 → Gathering read start p.1 old new
+    → Gathering read start left old mid → ends left ≡ false → read left ≡ Ok p → new ≡ mid ++ p.0 → Gathering read start p.1 old new
 gathering_step read s start left old mid new p g e f h = record {
   found = g.found ++ p.0;
   appended = h ∙ (ap (λ z. z ++ p.0) g.appended ∙ append_assoc old g.found p.0);
-  same = sym (with_front_twice g.found p.0 (segments read p.1)) ∙ (ap (λ z. with_front g.found z) (sym (segments_step read s left p e f)) ∙ g.same) }
+  same = sym (with_front_twice g.found p.0 (segments read p.1)) ∙ (ap (λ z. with_front g.found z) (sym (segments_step read s left p e f)) ∙ g.same);
+}
 
 pub gathering_end : {X : Type 0} (read : List ℕ → Result (List X × List ℕ) Fault) (start left : List ℕ) (old new : List X)
-  → Gathering read start left old new → ends left ≡ true → (xs : List X) × (segments read start ≡ Ok (xs, left)) × (new ≡ old ++ xs)
+    → Gathering read start left old new → ends left ≡ true → (xs : List X) × (segments read start ≡ Ok (xs, left)) × (new ≡ old ++ xs)
 gathering_end read start left old new g e =
-  (g.found, sym g.same ∙ (ap (λ z. with_front g.found z) (segments_end read left e) ∙ ap (λ z. Ok (z, left)) (append-nil g.found)), g.appended)
+    (g.found, sym g.same ∙ (ap (λ z. with_front g.found z) (segments_end read left e) ∙ ap (λ z. Ok (z, left)) (append-nil g.found)), g.appended)
 
 pub gathering_fault : {X : Type 0} (read : List ℕ → Result (List X × List ℕ) Fault) (start left : List ℕ) (old new : List X) (f : Fault)
-  → Gathering read start left old new → ends left ≡ false → read left ≡ Err f → segments read start ≡ Err f
+    → Gathering read start left old new → ends left ≡ false → read left ≡ Err f → segments read start ≡ Err f
 gathering_fault read start left old new f g e h = sym g.same ∙ ap (λ z. with_front g.found z) (segments_fault read left f e h)
 
 -- A value that isn't one segment alone.
@@ -165,7 +166,7 @@ abbrev pub IsNested : Header → Type 0
 IsNested h = (h.bit ≡ true) ⊎ (h.extent ≡ indefinite)
 
 string_in_nested : {X : Type 0} (rule : Codec) (segment : List ℕ → Result (List X) Fault) (nested : Extent → List ℕ → Result (List X × List ℕ) Fault)
-  → (bit : Bool) (x : Extent) (rest : List ℕ) → (bit ≡ true) ⊎ (x ≡ indefinite) → string_in rule segment nested bit x rest ≡ cond (is_der rule) (Err ConstructedEncodingNotAllowed) (nested x rest)
+    → (bit : Bool) (x : Extent) (rest : List ℕ) → (bit ≡ true) ⊎ (x ≡ indefinite) → string_in rule segment nested bit x rest ≡ cond (is_der rule) (Err ConstructedEncodingNotAllowed) (nested x rest)
 string_in_nested rule segment nested true x rest h = refl
 string_in_nested rule segment nested false indefinite rest h = refl
 string_in_nested rule segment nested false (definite c) rest (inl e) = cc
@@ -177,21 +178,21 @@ string_der rule segment tag zero h n e = string_in_nested rule segment too_deep 
 string_der rule segment tag (suc d) h n e = string_in_nested rule segment (segments_in (segment_at rule segment tag d)) h.bit h.extent h.rest n ∙ rw e refl
 
 pub string_deep : {X : Type 0} (rule : Codec) (segment : List ℕ → Result (List X) Fault) (tag : Tag) (d : ℕ) (h : Header) → IsNested h → is_der rule ≡ false → d ≡ 0
-  → string_of rule segment tag d h ≡ Err Rattle.rasn_de.specs.declared.ber.de.parser.Fault.TheVariants.ExceedsMaxParseDepth
+    → string_of rule segment tag d h ≡ Err Rattle.rasn_de.specs.declared.ber.de.parser.Fault.TheVariants.ExceedsMaxParseDepth
 unfolding string_of
 string_deep rule segment tag zero h n e z = string_in_nested rule segment too_deep h.bit h.extent h.rest n ∙ rw e refl
 string_deep rule segment tag (suc d) h n e z = absurd (omega arith)
 
 pub string_nested : {X : Type 0} (rule : Codec) (segment : List ℕ → Result (List X) Fault) (tag : Tag) (d : ℕ) (h : Header) → IsNested h → is_der rule ≡ false → d ≢ 0
-  → string_of rule segment tag d h ≡ segments_in (segment_at rule segment tag (d - 1)) h.extent h.rest
+    → string_of rule segment tag d h ≡ segments_in (segment_at rule segment tag (d - 1)) h.extent h.rest
 unfolding string_of
 string_nested rule segment tag zero h n e z = absurd (z refl)
 string_nested rule segment tag (suc d) h n e z =
-  let m : suc d - 1 ≡ d = omega arith in
-  rw m (string_in_nested rule segment (segments_in (segment_at rule segment tag d)) h.bit h.extent h.rest n ∙ rw e refl)
+    let m : suc d - 1 ≡ d = omega arith in
+    rw m (string_in_nested rule segment (segments_in (segment_at rule segment tag d)) h.bit h.extent h.rest n ∙ rw e refl)
 
 pub string_plain : {X : Type 0} (rule : Codec) (segment : List ℕ → Result (List X) Fault) (tag : Tag) (d : ℕ) (h : Header) (c : List ℕ) (xs : List X) → h.bit ≡ false → h.extent ≡ definite c → segment c ≡ Ok xs
-  → string_of rule segment tag d h ≡ Ok (xs, h.rest)
+    → string_of rule segment tag d h ≡ Ok (xs, h.rest)
 unfolding string_of
 string_plain rule segment tag zero h c xs e f g = rw (e, f, g) refl
 string_plain rule segment tag (suc d) h c xs e f g = rw (e, f, g) refl
@@ -200,7 +201,7 @@ pub segments_in_fault : {X : Type 0} (read : List ℕ → Result (List X × List
 segments_in_fault read x rest f e = rw e refl
 
 pub segments_in_found : {X : Type 0} (read : List ℕ → Result (List X × List ℕ) Fault) (x : Extent) (rest left : List ℕ) (xs : List X) → segments read (inner x rest) ≡ Ok (xs, left)
-  → segments_in read x rest ≡ (finished x rest left >>= λ r. let a : Result (List X × List ℕ) Fault = Ok (xs, r) in a)
+    → segments_in read x rest ≡ (finished x rest left >>= λ r. let a : Result (List X × List ℕ) Fault = Ok (xs, r) in a)
 segments_in_found read x rest left xs e = rw e refl
 
 pub segment_fault : {X : Type 0} (rule : Codec) (segment : List ℕ → Result (List X) Fault) (tag : Tag) (d : ℕ) (l : List ℕ) (f : Fault) → header_at rule (Some tag) l ≡ Err f → segment_at rule segment tag d l ≡ Err f
@@ -210,7 +211,7 @@ pub segment_found : {X : Type 0} (rule : Codec) (segment : List ℕ → Result (
 segment_found rule segment tag d l h e = rw e refl
 
 pub string_plain_fault : {X : Type 0} (rule : Codec) (segment : List ℕ → Result (List X) Fault) (tag : Tag) (d : ℕ) (h : Header) (c : List ℕ) (f : Fault) → h.bit ≡ false → h.extent ≡ definite c → segment c ≡ Err f
-  → string_of rule segment tag d h ≡ Err f
+    → string_of rule segment tag d h ≡ Err f
 unfolding string_of
 string_plain_fault rule segment tag zero h c x e f g = rw (e, f, g) refl
 string_plain_fault rule segment tag (suc d) h c x e f g = rw (e, f, g) refl

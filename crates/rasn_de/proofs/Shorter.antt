@@ -26,7 +26,7 @@ pub number128_shorter : (wide : Fault) (n : ℕ) (l : List ℕ) → Shortens l (
 unfolding number128_at
 number128_shorter wide n [] = tt
 number128_shorter wide n (b ∷ l) =
-  Shortens-cond (b ∷ l) (nat_le 0x2000000 n) (Err wide) _ tt
+    Shortens-cond (b ∷ l) (nat_le 0x2000000 n) (Err wide) _ tt
     (Shortens-cond (b ∷ l) (nat_lt b 128) (Ok (n * 128 + b, l)) _ (omega arith) (Shortens-cons b l _ (number128_shorter wide (n * 128 + b % 128) l)))
 
 pub tag_number_shorter : (first : ℕ) (l : List ℕ) → Shortens l (tag_number_at first l)
@@ -40,20 +40,20 @@ identifier_shorter (b ∷ l) i e = go (bind_ok (tag_number_at b l) (named b) i e
   where
     go : (p : ℕ × List ℕ) × (tag_number_at b l ≡ Ok p) × (named b p ≡ Ok i) → length i.rest < length (b ∷ l)
     go (p, f, g) =
-      let k = guarded (is_eoc (tag_of b p.0)) _ _ i g in
-      let m = k.1 in
-      let n : p.1 ≡ i.rest = cc in
-      let s : Shortens l (Ok p) = subst (Shortens l) f (tag_number_shorter b l) in
-      let t : length p.1 ≡ length i.rest = ap length n in
-      omega (arith, s)
+        let k = guarded (is_eoc (tag_of b p.0)) _ _ i g in
+        let m = k.1 in
+        let n : p.1 ≡ i.rest = cc in
+        let s : Shortens l (Ok p) = subst (Shortens l) f (tag_number_shorter b l) in
+        let t : length p.1 ≡ length i.rest = ap length n in
+        omega (arith, s)
 
 octets_shorter : (k : ℕ) (l : List ℕ) (p : List ℕ × List ℕ) → octets_at k l ≡ Ok p → length p.1 ≤ length l
 octets_shorter k l p e =
-  let g = guarded (nat_lt (length l) k) _ _ p e in
-  let f = g.1 in
-  let m : drop k l ≡ p.1 = cc in
-  let n : length (drop k l) ≡ length p.1 = ap length m in
-  omega (arith, length-drop k l)
+    let g = guarded (nat_lt (length l) k) _ _ p e in
+    let f = g.1 in
+    let m : drop k l ≡ p.1 = cc in
+    let n : length (drop k l) ≡ length p.1 = ap length m in
+    omega (arith, length-drop k l)
 
 long_shorter : (k : ℕ) (l : List ℕ) → Shortens l (long_at k l)
 unfolding long_at
@@ -62,6 +62,7 @@ long_shorter k l = go (octets_at k l) (λ p e. octets_shorter k l p e)
     last : (r : Result ℕ Fault) (m : List ℕ) → length m ≤ length l → Shortens l (r >>= λ n. Ok (Some n, m))
     last (Ok n) m h = h
     last (Err e) m h = tt
+
     go : (r : Result (List ℕ × List ℕ) Fault) → ((p : List ℕ × List ℕ) → r ≡ Ok p → length p.1 ≤ length l) → Shortens l (r >>= λ p. number256_at 0 p.0 >>= λ n. Ok (Some n, p.1))
     go (Ok p) h = last (number256_at 0 p.0) p.1 (h p refl)
     go (Err e) h = tt
@@ -70,24 +71,24 @@ pub length_shorter : (allowed : Bool) (l : List ℕ) → Shortens l (length_at a
 unfolding length_at
 length_shorter allowed [] = tt
 length_shorter allowed (b ∷ l) =
-  Shortens-cond (b ∷ l) (nat_lt b 128) (Ok (Some b, l)) _ (omega arith)
+    Shortens-cond (b ∷ l) (nat_lt b 128) (Ok (Some b, l)) _ (omega arith)
     (Shortens-cond (b ∷ l) (nat_eq b 128) _ _ (Shortens-cond (b ∷ l) allowed (Ok (None, l)) (Err IndefiniteLengthNotAllowed) (omega arith) tt)
-      (Shortens-cond (b ∷ l) (nat_eq b 255) (Err ReservedLengthOctet) _ tt (Shortens-cons b l _ (long_shorter (b - 128) l))))
+    (Shortens-cond (b ∷ l) (nat_eq b 255) (Err ReservedLengthOctet) _ tt (Shortens-cons b l _ (long_shorter (b - 128) l))))
 
 contents_shorter : (tag : Tag) (bit : Bool) (n : Option ℕ) (l : List ℕ) (h : Header) → contents_at tag bit n l ≡ Ok h → length h.rest ≤ length l
 contents_shorter tag bit None l h e = let m : l ≡ h.rest = cc in let k : length l ≡ length h.rest = ap length m in omega arith
 contents_shorter tag bit (Some n) l h e =
-  let g = bind_ok (octets_at n l) _ h e in
-  let f = g.2 in
-  let m : g.0.1 ≡ h.rest = cc in
-  let k : length g.0.1 ≡ length h.rest = ap length m in
-  omega (arith, octets_shorter n l g.0 g.1)
+    let g = bind_ok (octets_at n l) _ h e in
+    let f = g.2 in
+    let m : g.0.1 ≡ h.rest = cc in
+    let k : length g.0.1 ≡ length h.rest = ap length m in
+    omega (arith, octets_shorter n l g.0 g.1)
 
 pub header_shorter : (rule : Codec) (expected : Option Tag) (l : List ℕ) (h : Header) → header_at rule expected l ≡ Ok h → length h.rest < length l
 unfolding header_at
 header_shorter rule expected l h e =
-  let i = bind_ok (identifier_at l) _ h e in
-  let u = bind_ok (expected_at expected i.0.tag) _ h i.2 in
-  let n = bind_ok (length_at (i.0.bit && has_indefinite rule) i.0.rest) _ h u.2 in
-  let s : Shortens i.0.rest (Ok n.0) = subst (Shortens i.0.rest) n.1 (length_shorter (i.0.bit && has_indefinite rule) i.0.rest) in
-  omega (arith, identifier_shorter l i.0 i.1, s, contents_shorter i.0.tag i.0.bit n.0.0 n.0.1 h n.2)
+    let i = bind_ok (identifier_at l) _ h e in
+    let u = bind_ok (expected_at expected i.0.tag) _ h i.2 in
+    let n = bind_ok (length_at (i.0.bit && has_indefinite rule) i.0.rest) _ h u.2 in
+    let s : Shortens i.0.rest (Ok n.0) = subst (Shortens i.0.rest) n.1 (length_shorter (i.0.bit && has_indefinite rule) i.0.rest) in
+    omega (arith, identifier_shorter l i.0 i.1, s, contents_shorter i.0.tag i.0.bit n.0.0 n.0.1 h n.2)

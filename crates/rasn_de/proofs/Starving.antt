@@ -41,15 +41,15 @@ pub definite_plain : (rule : Codec) (tag : Tag) (l : List ℕ) → Plainly (defi
 definite_plain rule tag l = header_plain l (header_at rule (Some tag) l) (header_none rule (Some tag) l)
 
 contents_plain : {X : Type 0} (read : List ℕ → Result X Cause → Type 0) → ((c : List ℕ) (e : Cause) → read c (Err e) → IsPlainCause e) → (d : Result (List ℕ × List ℕ) (Cause × List ℕ)) → Plainly d
-  → (e : Cause × List ℕ) → FromContents read d (Err e) → IsPlainCause e.0
+    → (e : Cause × List ℕ) → FromContents read d (Err e) → IsPlainCause e.0
 contents_plain read f (Ok p) n e (a, b) = f p.0 e.0 a
 contents_plain {X} read f (Err d) n e a = let z : e ≡ d = cc in subst (λ (u : Cause × List ℕ). IsPlainCause u.0) (sym z) n
 
 -- A leaf whose contents are refused plainly is refused plainly.
 pub leaf_plain : {X : Type 0} (read : List ℕ → Result X Cause → Type 0) → ((c : List ℕ) (e : Cause) → read c (Err e) → IsPlainCause e) → (tag : Tag) (old new : State) (e : DecodeError)
-  → Refuses (LeafAt read old.rule tag old.rest) old e new → IsMemory e.kind → ⊥
+    → Refuses (LeafAt read old.rule tag old.rest) old e new → IsMemory e.kind → ⊥
 leaf_plain read f tag old new e (cause, a, t, c, s) m =
-  tells_plain cause e.kind (contents_plain read f (definite_at old.rule tag old.rest) (definite_plain old.rule tag old.rest) (cause, new.rest) a) t m
+    tells_plain cause e.kind (contents_plain read f (definite_at old.rule tag old.rest) (definite_plain old.rule tag old.rest) (cause, new.rest) a) t m
 
 bool_none : (rule : Codec) (c : List ℕ) → NoMemory (bool_in rule c)
 bool_none rule [] = λ e. cc

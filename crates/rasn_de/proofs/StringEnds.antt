@@ -22,18 +22,18 @@ string_ends rule S inner_tag zero tag l xs rest (c, f, h) = IsEnd-frame l f
 string_ends rule S inner_tag (suc d) tag l xs rest (inl (c, f, h)) = IsEnd-frame l f
 string_ends rule S inner_tag (suc d) tag l xs rest (inr (i, parts, e, in_definite c f m)) = IsEnd-frame l f
 string_ends rule S inner_tag (suc d) tag l xs rest (inr (i, parts, e, in_indefinite body f m)) =
-  IsEnd-trans l body rest (IsEnd-frame l f)
+    IsEnd-trans l body rest (IsEnd-frame l f)
     (IsEnd-trans body (0 ∷ 0 ∷ rest) rest (many_ends (Str rule S inner_tag d inner_tag) (string_ends rule S inner_tag d inner_tag) true body parts (0 ∷ 0 ∷ rest) m) (IsEnd-zeros (0 ∷ 0 ∷ rest) rest refl))
 
 -- Octets are read exactly where a string of octets stands.
 module _ (rule : Codec) (d : ℕ) (tag : Tag) (l : List ℕ) (o : AreOctets l) where
   pub octets_there : (xs r : List ℕ) → octets_at rule d tag l ≡ Ok (xs, r) → Str rule OctetSegment (in_universal 4) d tag l xs r
   octets_there xs r e =
-    string_map rule (Reads octets) OctetSegment (λ c ys h. cc) (in_universal 4) d tag l xs r (string_found rule octets (in_universal 4) d tag l (xs, r) o e).0
+      string_map rule (Reads octets) OctetSegment (λ c ys h. cc) (in_universal 4) d tag l xs r (string_found rule octets (in_universal 4) d tag l (xs, r) o e).0
 
   pub octets_only : (xs r : List ℕ) → Str rule OctetSegment (in_universal 4) d tag l xs r → octets_at rule d tag l ≡ Ok (xs, r)
   octets_only xs r s =
-    string_spelled rule octets (in_universal 4) d tag l xs r o (string_map rule OctetSegment (Reads octets) (λ c ys h. ap Ok (sym h)) (in_universal 4) d tag l xs r s)
+      string_spelled rule octets (in_universal 4) d tag l xs r o (string_map rule OctetSegment (Reads octets) (λ c ys h. ap Ok (sym h)) (in_universal 4) d tag l xs r s)
 
   pub octets_end : (xs r : List ℕ) → octets_at rule d tag l ≡ Ok (xs, r) → IsEnd l r
   octets_end xs r e = string_ends rule OctetSegment (in_universal 4) d tag l xs r (octets_there xs r e)

@@ -16,11 +16,11 @@ use Rattle.rasn_de.proofs.Ends.{IsEnd-header}
 
 pub taken : (tag : Tag) (old new : State) (v : Value) (rest : List ℕ) → AreOctets old.rest → header_at old.rule (Some tag) old.rest ≡ Ok (framed v rest) → new ≡ at old rest → Takes tag old (Ok v) new
 taken tag old new v rest o h e =
-  let P : State → Type 0 = λ n. Takes tag old (Ok v) n in
-  subst P (sym e) (h, refl, IsEnd-header old.rule (Some tag) old.rest (framed v rest) o h)
+    let P : State → Type 0 = λ n. Takes tag old (Ok v) n in
+    subst P (sym e) (h, refl, IsEnd-header old.rule (Some tag) old.rest (framed v rest) o h)
 
 pub gathered : (tag : Tag) (old new : State) (s : CowSlice ℕ Global) (rest : List ℕ) → octets_at old.rule old.depth tag old.rest ≡ Ok (cow_slice_items s, rest) → IsLentAs old.rule tag old.rest s → new ≡ at old rest
-  → Gathers tag old (Ok s) new
+    → Gathers tag old (Ok s) new
 gathered tag old new s rest h f e =
-  let P : State → Type 0 = λ n. Gathers tag old (Ok s) n in
-  subst P (sym e) (h, refl, f)
+    let P : State → Type 0 = λ n. Gathers tag old (Ok s) n in
+    subst P (sym e) (h, refl, f)

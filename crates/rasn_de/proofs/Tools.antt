@@ -18,7 +18,6 @@ pub guarded : {A : Type 0} (b : Bool) (d : Fault) (r : Result A Fault) (y : A) �
 guarded true d r y e = cc
 guarded false d r y e = (refl, e)
 
-
 pub octets_back : (a b : List ℕ) → AreOctets (a ++ b) → AreOctets b
 octets_back [] b h = h
 octets_back (x ∷ a) b h = octets_back a b h.1

@@ -28,7 +28,7 @@ bit_at first = nat_le 32 (first % 64)
 unfoldable pub number128_at : Fault → ℕ → List ℕ → Result (ℕ × List ℕ) Fault
 number128_at wide n [] = Err (Incomplete 1)
 number128_at wide n (b ∷ l) =
-  if nat_le 0x2000000 n then Err wide else (if nat_lt b 128 then Ok (n * 128 + b, l) else number128_at wide (n * 128 + b % 128) l)
+    if nat_le 0x2000000 n then Err wide else (if nat_lt b 128 then Ok (n * 128 + b, l) else number128_at wide (n * 128 + b % 128) l)
 
 -- the tag number of an identifier
 unfoldable pub tag_number_at : ℕ → List ℕ → Result (ℕ × List ℕ) Fault
@@ -63,7 +63,7 @@ long_at k l = octets_at k l >>= λ p. number256_at 0 p.0 >>= λ n. Ok (Some n, p
 unfoldable pub length_at : Bool → List ℕ → Result (Option ℕ × List ℕ) Fault
 length_at allowed [] = Err (Incomplete 1)
 length_at allowed (b ∷ l) =
-  if nat_lt b 128 then Ok (Some b, l) else (if nat_eq b 128 then (if allowed then Ok (None, l) else Err IndefiniteLengthNotAllowed)
+    if nat_lt b 128 then Ok (Some b, l) else (if nat_eq b 128 then (if allowed then Ok (None, l) else Err IndefiniteLengthNotAllowed)
     else (if nat_eq b 255 then Err ReservedLengthOctet else long_at (b - 128) l))
 
 pub record Header : Type 0 where
@@ -103,4 +103,4 @@ expected_at (Some wanted) tag = if same_tag tag wanted then Ok tt else Err (Mism
 -- The header of the value that begins a list, with its contents.
 unfoldable pub header_at : Codec → Option Tag → List ℕ → Result Header Fault
 header_at rule expected l =
-  identifier_at l >>= λ i. expected_at expected i.tag >>= λ u. length_at (i.bit && has_indefinite rule) i.rest >>= λ n. contents_at i.tag i.bit n.0 n.1
+    identifier_at l >>= λ i. expected_at expected i.tag >>= λ u. length_at (i.bit && has_indefinite rule) i.rest >>= λ n. contents_at i.tag i.bit n.0 n.1

@@ -54,7 +54,7 @@ is_ber Der = false
 abbrev pub bool_in : Codec → List ℕ → Result Bool Fault
 bool_in rule [] = Err (MismatchedLength 1 0)
 bool_in rule (b ∷ []) =
-  if nat_eq b 0 then Ok false else (if nat_eq b 255 then Ok true else (if is_ber rule then Ok true else Err (InvalidBool b)))
+    if nat_eq b 0 then Ok false else (if nat_eq b 255 then Ok true else (if is_ber rule then Ok true else Err (InvalidBool b)))
 bool_in rule (b ∷ c ∷ l) = Err (MismatchedLength 1 (length (b ∷ c ∷ l)))
 
 abbrev pub BoolAt : Codec → Tag → List ℕ → Readings Bool
@@ -82,4 +82,4 @@ Gave see Is old (Err e) new = Refuses Is old e new
 abbrev pub GaveInteger : {X : Type 0} → (X → ℤ) → Type 0 → Tag → Readings ℤ → State → Result X DecodeError → State → Type 0
 GaveInteger see Grows tag Is old (Ok v) new = Gave see Is old (Ok v) new
 GaveInteger see Grows tag Is old (Err e) new =
-  (IsMemory e.kind × Grows × (e.codec ≡ old.rule) × (new ≡ at old new.rest) × (c : List ℕ) × (definite_at old.rule tag old.rest ≡ Ok (c, new.rest))) ⊎ Refuses Is old e new
+    (IsMemory e.kind × Grows × (e.codec ≡ old.rule) × (new ≡ at old new.rest) × (c : List ℕ) × (definite_at old.rule tag old.rest ≡ Ok (c, new.rest))) ⊎ Refuses Is old e new

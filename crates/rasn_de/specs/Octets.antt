@@ -59,12 +59,12 @@ Gathers tag old (Err e) new = (f : Fault) × ErrorOf f old e × (new ≡ old) ×
 abbrev pub OctetsAt : Constraints → Codec → ℕ → Tag → List ℕ → Readings (List ℕ)
 OctetsAt bounds rule depth tag l (Ok p) = (octets_at rule depth tag l ≡ Ok p) × Admits ◌≤◌ bounds.size (length p.0)
 OctetsAt bounds rule depth tag l (Err e) =
-  ((f : Fault) × (octets_at rule depth tag l ≡ Err f) × (e ≡ (fault f, l)))
-  ⊎ ((xs : List ℕ) × (octets_at rule depth tag l ≡ Ok (xs, e.1)) × (Admits ◌≤◌ bounds.size (length xs) → ⊥) × (e.0 ≡ fault (SizeConstraintNotSatisfied (length xs) (constraint_of bounds.size))))
+    ((f : Fault) × (octets_at rule depth tag l ≡ Err f) × (e ≡ (fault f, l)))
+    ⊎ ((xs : List ℕ) × (octets_at rule depth tag l ≡ Ok (xs, e.1)) × (Admits ◌≤◌ bounds.size (length xs) → ⊥) × (e.0 ≡ fault (SizeConstraintNotSatisfied (length xs) (constraint_of bounds.size))))
 
 -- A call answers what the reading is; or memory is wanting while segments are gathered, and nothing is taken.
 abbrev pub GaveOctets : Tag → Constraints → State → Result (CowSlice ℕ Global) DecodeError → State → Type 0
 GaveOctets tag bounds old (Ok s) new = Gave cow_slice_items (OctetsAt bounds old.rule old.depth tag old.rest) old (Ok s) new × IsLentAs old.rule tag old.rest s
 GaveOctets tag bounds old (Err e) new =
-  (IsMemory e.kind × (e.codec ≡ old.rule) × (new ≡ old) × IsConstructed old.rule tag old.rest)
-  ⊎ ((IsMemory e.kind → ⊥) × Refuses (OctetsAt bounds old.rule old.depth tag old.rest) old e new)
+    (IsMemory e.kind × (e.codec ≡ old.rule) × (new ≡ old) × IsConstructed old.rule tag old.rest)
+    ⊎ ((IsMemory e.kind → ⊥) × Refuses (OctetsAt bounds old.rule old.depth tag old.rest) old e new)

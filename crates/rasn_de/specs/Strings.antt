@@ -49,13 +49,13 @@ too_deep extent rest = Err ExceedsMaxParseDepth
 
 abbrev pub segments_in : {X : Type 0} → (List ℕ → Result (List X × List ℕ) Fault) → Extent → List ℕ → Result (List X × List ℕ) Fault
 segments_in read extent rest =
-  segments_at read (length (inner extent rest)) (inner extent rest) >>= λ q. finished extent rest q.1 >>= λ r. Ok (q.0, r)
+    segments_at read (length (inner extent rest)) (inner extent rest) >>= λ q. finished extent rest q.1 >>= λ r. Ok (q.0, r)
 
 -- The string of the value whose header this is, with what follows it.
 unfoldable pub string_of : {X : Type 0} → Codec → (List ℕ → Result (List X) Fault) → Tag → ℕ → Header → Result (List X × List ℕ) Fault
 string_of rule segment tag zero h = string_in rule segment too_deep h.bit h.extent h.rest
 string_of rule segment tag (suc d) h =
-  string_in rule segment (segments_in (λ l. header_at rule (Some tag) l >>= string_of rule segment tag d)) h.bit h.extent h.rest
+    string_in rule segment (segments_in (λ l. header_at rule (Some tag) l >>= string_of rule segment tag d)) h.bit h.extent h.rest
 
 -- one segment
 abbrev pub segment_at : {X : Type 0} → Codec → (List ℕ → Result (List X) Fault) → Tag → ℕ → List ℕ → Result (List X × List ℕ) Fault

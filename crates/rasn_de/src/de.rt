@@ -16,7 +16,11 @@ pub trait Decode: AsnType {
     ///
     /// # Errors
     /// Where no such value comes next, and where memory is wanting.
-    fn decode_with_tag_and_constraints(decoder: &mut Decoder<'_>, tag: Tag, constraints: &Constraints) -> Result<Self, DecodeError>
+    fn decode_with_tag_and_constraints(
+        decoder: &mut Decoder<'_>,
+        tag: Tag,
+        constraints: &Constraints,
+    ) -> Result<Self, DecodeError>
         ensures { Decodes (given tag constraints.now Self.shape) Self.tree decoder.old result decoder.new };
 
     /// Reads a value.
@@ -43,7 +47,10 @@ pub trait Decode: AsnType {
     ///
     /// # Errors
     /// As `decode_with_tag_and_constraints`.
-    fn decode_with_constraints(decoder: &mut Decoder<'_>, constraints: &Constraints) -> Result<Self, DecodeError>
+    fn decode_with_constraints(
+        decoder: &mut Decoder<'_>,
+        constraints: &Constraints,
+    ) -> Result<Self, DecodeError>
         ensures { Decodes (given Self.TAG constraints.now Self.shape) Self.tree decoder.old result decoder.new }
     {
         Self::decode_with_tag_and_constraints(decoder, Self::TAG, constraints)

@@ -40,7 +40,7 @@ cons_begins Der tag contents octets d = definite_begins tag true contents octets
 
 -- One value with an identifier is written.
 pub wrote_one : (R : List ℕ → Type 0) (tag : Tag) (s : Shape) (t : Tree) (v w : View) → Appends R tag v w
-  → ((octets : List ℕ) → R octets → Begins octets tag) → ((octets : List ℕ) → R octets → Bytes v.rule s t octets) → Wrote s t v w
+    → ((octets : List ℕ) → R octets → Begins octets tag) → ((octets : List ℕ) → R octets → Bytes v.rule s t octets) → Wrote s t v w
 wrote_one R tag s t v w a begins defined = record {
   octets = a.octets;
   defined = defined a.octets a.written;
@@ -54,58 +54,59 @@ bool_written true = record { is = (pos 1, refl, inr (refl, refl)); octets = (ome
 bool_written false = record { is = (pos 0, refl, inl (refl, refl)); octets = (omega arith, tt); shortest = tt }
 
 pub bool_wrote : {R E : Type 0} (result : Result R E) (tag : Tag) (b : Bool) (contents : List ℕ) (v w : View) → contents ≡ cond b 255 0 ∷ []
-  → OnOk result (Appends (Prim tag contents) tag v w) → (c : Constraints) → OnOk result (Wrote (leaf boolean tag c) (bool_tree b) v w)
+    → OnOk result (Appends (Prim tag contents) tag v w) → (c : Constraints) → OnOk result (Wrote (leaf boolean tag c) (bool_tree b) v w)
 unfolding Bytes
 bool_wrote result tag b contents v w e h c = on_ok_weaker result (λ a.
-  wrote_one (Prim tag contents) tag (leaf boolean tag c) (bool_tree b) v w a (λ o d. definite_begins tag (tag_bit tag) contents o d)
+    wrote_one (Prim tag contents) tag (leaf boolean tag c) (bool_tree b) v w a (λ o d. definite_begins tag (tag_bit tag) contents o d)
     (λ o d. (tt, (contents, rw e (bool_written b), d)))) h
 
 -- A whole number in its fewest octets.
 pub integer_wrote : {R E : Type 0} (result : Result R E) (range : Interval) (tag : Tag) (c : Constraints) (n : ℤ) (l : List ℕ) (v w : View)
-  → IsShortestOf n l → IsIn range n → Admits ◌≤ℤ◌ c.value (signed l) → OnOk result (Appends (Prim tag l) tag v w)
-  → OnOk result (Wrote (leaf (integer range) tag c) (number n) v w)
+    → IsShortestOf n l → IsIn range n → Admits ◌≤ℤ◌ c.value (signed l) → OnOk result (Appends (Prim tag l) tag v w)
+    → OnOk result (Wrote (leaf (integer range) tag c) (number n) v w)
 unfolding Bytes
 integer_wrote result range tag c n l v w s i m h = on_ok_weaker result (λ a.
-  wrote_one (Prim tag l) tag (leaf (integer range) tag c) (number n) v w a (λ o d. definite_begins tag (tag_bit tag) l o d)
+    wrote_one (Prim tag l) tag (leaf (integer range) tag c) (number n) v w a (λ o d. definite_begins tag (tag_bit tag) l o d)
     (λ o d. (subst (λ z. Admits ◌≤ℤ◌ c.value z) s.is m, (l, written, d)))) h
   where
     some : (l : List ℕ) → IsShortestInteger l → l ≢ []
     some [] k e = k
     some (x ∷ l) k e = cc
+
     written : Written (integer range) (number n) l
     written = record { is = (ap number (sym s.is), some l s.shortest, subst (λ z. IsIn range z) (sym s.is) i); octets = s.octets; shortest = s.shortest }
 
 pub integer_refused : {R : Type 0} (result : Result R EncodeError) (range : Interval) (tag : Tag) (c : Constraints) (n : ℤ) (v : View)
-  → IfErr result (λ e. RefusesValue c n v.rule e ⊎ WantsMemory v.rule e) → IfErr result (MayRefuse (leaf (integer range) tag c) (number n) v)
+    → IfErr result (λ e. RefusesValue c n v.rule e ⊎ WantsMemory v.rule e) → IfErr result (MayRefuse (leaf (integer range) tag c) (number n) v)
 unfolding Bytes
 integer_refused result range tag c n v h = IfErr-weaker result _ _ (λ e. elim [
-    inl r ↦ record { why = inr (inl (record { none = λ octets b. r.unmet b.0 })) }
+  | inl r ↦ record { why = inr (inl (record { none = λ octets b. r.unmet b.0 })) }
   | inr m ↦ record { why = inl (ap (λ (x : EncodeError). x.kind) m) }
-  ]) h
+]) h
 
 -- Octets in one piece.
 pub octets_wrote : {R E : Type 0} (result : Result R E) (tag : Tag) (c : Constraints) (xs : List ℕ) (v w : View) → Admits ◌≤◌ c.size (length xs)
-  → AreOctets xs → (IsCer v.rule → length xs ≤ 1000) → OnOk result (Appends (Prim tag xs) tag v w) → OnOk result (Wrote (leaf octet_string tag c) (numbers xs) v w)
+    → AreOctets xs → (IsCer v.rule → length xs ≤ 1000) → OnOk result (Appends (Prim tag xs) tag v w) → OnOk result (Wrote (leaf octet_string tag c) (numbers xs) v w)
 unfolding Bytes
 octets_wrote result tag c xs v w m o few h = on_ok_weaker result (λ a.
-  wrote_one (Prim tag xs) tag (leaf octet_string tag c) (numbers xs) v w a (λ o d. definite_begins tag (tag_bit tag) xs o d)
+    wrote_one (Prim tag xs) tag (leaf octet_string tag c) (numbers xs) v w a (λ o d. definite_begins tag (tag_bit tag) xs o d)
     (λ b d. (m, (xs, refl, inl (few, xs, (refl, o), d))))) h
 
 -- Octets in segments.
 pub segments_wrote : {R E : Type 0} (result : Result R E) (tag : Tag) (c : Constraints) (xs : List ℕ) (v w : View) → Admits ◌≤◌ c.size (length xs)
-  → IsCer v.rule → 1000 < length xs → OnOk result (PutsSegments tag xs v w) → OnOk result (Wrote (leaf octet_string tag c) (numbers xs) v w)
+    → IsCer v.rule → 1000 < length xs → OnOk result (PutsSegments tag xs v w) → OnOk result (Wrote (leaf octet_string tag c) (numbers xs) v w)
 unfolding Bytes
 segments_wrote result tag c xs v w m cer many h = on_ok_weaker result (λ p.
-  wrote_one (Cons v.rule tag (joined_lists p.encoded)) tag (leaf octet_string tag c) (numbers xs) v w p.appends
+    wrote_one (Cons v.rule tag (joined_lists p.encoded)) tag (leaf octet_string tag c) (numbers xs) v w p.appends
     (λ o d. cons_begins v.rule tag (joined_lists p.encoded) o d)
     (λ b d. (m, (xs, refl, inr (cer, many, p.pieces, p.encoded, p.is, p.cut, p.each, d))))) h
 
 -- A size that isn't admitted has no octets.
 pub octets_refused : {R : Type 0} (result : Result R EncodeError) (tag : Tag) (c : Constraints) (xs : List ℕ) (v : View)
-  → IfErr result (λ e. RefusesSize c (length xs) v.rule e ⊎ MeetsSize c (length xs) v.rule e)
-  → IfErr result (MayRefuse (leaf octet_string tag c) (numbers xs) v)
+    → IfErr result (λ e. RefusesSize c (length xs) v.rule e ⊎ MeetsSize c (length xs) v.rule e)
+    → IfErr result (MayRefuse (leaf octet_string tag c) (numbers xs) v)
 unfolding Bytes
 octets_refused result tag c xs v h = IfErr-weaker result _ _ (λ e. elim [
-    inl r ↦ record { why = inr (inl (record { none = λ octets b. r.unmet b.0 })) }
+  | inl r ↦ record { why = inr (inl (record { none = λ octets b. r.unmet b.0 })) }
   | inr m ↦ record { why = inl (ap (λ (x : EncodeError). x.kind) m.memory) }
-  ]) h
+]) h

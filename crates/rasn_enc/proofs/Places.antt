@@ -51,7 +51,7 @@ put_one out new octets d e p q r = p ∙ ap (λ l. out ++ l) (ap (λ z. z ∷ []
 
 pub put_more : (out middle new octets more : List ℕ) (d e : ℕ) → middle ≡ out ++ d ∷ [] → d ≡ e → new ≡ middle ++ more → octets ≡ e ∷ more → new ≡ out ++ octets
 put_more out middle new octets more d e p q f g =
-  f ∙ (ap (λ l. l ++ more) p ∙ (append_assoc out (d ∷ []) more ∙ ap (λ l. out ++ l) (ap (λ z. z ∷ more) q ∙ sym g)))
+    f ∙ (ap (λ l. l ++ more) p ∙ (append_assoc out (d ∷ []) more ∙ ap (λ l. out ++ l) (ap (λ z. z ∷ more) q ∙ sym g)))
 
 -- One more digit is written.
 pub moves : (out new all rest more : List ℕ) (d : ℕ) → rest ≡ d ∷ more → out ++ rest ≡ all → new ≡ out ++ d ∷ [] → new ++ more ≡ all
@@ -63,7 +63,7 @@ unfolding id_octets
 id_low tag bit h = rw (lt-ltb tag.value 31 h) refl
 
 pub id_high : (tag : Tag) (bit : Bool) → 31 ≤ tag.value
-  → id_octets tag bit ≡ (64 * rank tag.class + (32 * bit_of bit + 31)) ∷ chained (digits 128 (group_count tag.value) tag.value)
+    → id_octets tag bit ≡ (64 * rank tag.class + (32 * bit_of bit + 31)) ∷ chained (digits 128 (group_count tag.value) tag.value)
 unfolding id_octets
 id_high tag bit h = rw (le-ltb tag.value 31 h) refl
 
@@ -80,13 +80,13 @@ length-id_low tag h bit = ap length (id_low tag bit h)
 
 pub length-id_high : (tag : Tag) → 31 ≤ tag.value → (bit : Bool) → length (id_octets tag bit) ≡ 1 + group_count tag.value
 length-id_high tag h bit =
-  let e = ap length (id_high tag bit h) in
-  let f = length-chained (digits 128 (group_count tag.value) tag.value) in
-  let g = length-digits 128 (group_count tag.value) tag.value in
-  omega arith
+    let e = ap length (id_high tag bit h) in
+    let f = length-chained (digits 128 (group_count tag.value) tag.value) in
+    let g = length-digits 128 (group_count tag.value) tag.value in
+    omega arith
 
 pub length-length_high : (n : ℕ) → 128 ≤ n → length (length_octets n) ≡ 1 + octet_count n
 length-length_high n h =
-  let e = ap length (length_high n h) in
-  let f = length-digits 256 (octet_count n) n in
-  omega arith
+    let e = ap length (length_high n h) in
+    let f = length-digits 256 (octet_count n) n in
+    omega arith

@@ -65,7 +65,7 @@ module _ (xs rest : List ℕ) (v w u : View) (k : SegmentsSoFar xs rest v w) (pi
 
   octets_more : u.last.octets ≡ v.last.octets ++ joined_lists (k.encoded ++ a.octets ∷ [])
   octets_more = ap (λ (x : View). x.last.octets) a.appended ∙ (ap (λ l. l ++ a.octets) k.octets ∙ (append_assoc v.last.octets (joined_lists k.encoded) a.octets
-    ∙ ap (λ l. v.last.octets ++ l) (sym (joined_one k.encoded a.octets))))
+      ∙ ap (λ l. v.last.octets ++ l) (sym (joined_one k.encoded a.octets))))
 
   pub segments_keep : LeavesOthers v u
   segments_keep = record { rule = ap (λ (x : View). x.rule) a.appended ∙ k.others.rule; below = ap (λ (x : View). x.below) a.appended ∙ k.others.below }
@@ -93,7 +93,7 @@ module _ (xs rest : List ℕ) (v w u : View) (k : SegmentsSoFar xs rest v w) (pi
 
 -- The segments in an open value that is closed.
 pub segments_put : (tag : Tag) (xs : List ℕ) (v u w : View) → WroteSegments xs (opened v false) u → Appends (Cons v.rule tag u.last.octets) tag v w
-  → PutsSegments tag xs v w
+    → PutsSegments tag xs v w
 segments_put tag xs v u w s a = record {
   pieces = s.pieces;
   encoded = s.encoded;

@@ -1,8 +1,8 @@
--- What a caller of `encode_sequence` knows, from what its closure ensures. The closure's answers go by `search (rules, parts_are_written)`
--- and `search (rules, parts_are_refused)`.
-use Rattle.std.proofs.Common.{◌≡◌, ◌≢◌, ◌++◌, [], ◌∷◌, ℕ, refl, List, sym, ap, ap₂, Option, Some, None, Result, Ok, Err, OnOk, IfErr, true, false, ◌⊎◌, inl, inr, ◌∙◌, subst, option_map}
+-- What a caller of `encode_sequence` knows, from what its closure ensures.
+use Rattle.std.proofs.Common.{◌≡◌, ◌≢◌, ◌++◌, [], ◌∷◌, ℕ, refl, List, sym, ap, ap₂, Option, Some, None, Result, Ok, Err, OnOk, OnErr, IfErr, true, false, ◌⊎◌, inl, inr, ◌∙◌, subst, option_map}
 use Rattle.std.proofs.lemmas.List.{append-nil, append_assoc}
-use Rattle.std.proofs.lemmas.Result.{on_ok_weaker, IfErr-weaker}
+use Rattle.std.proofs.lemmas.Result.{on_ok_weaker, IfErr-weaker, err_from_is_err_and}
+use Rattle.std.specs.Result.{IsErrAnd}
 use Rattle.std.specs.Fn.{FnOnceReturnsAtMut, Once}
 use Rattle.std.specs.Borrow.{MutBor}
 use Rattle.rasn_types.specs.Shapes.{Shape, seq, Tree, items, done, joined, Parts, part, required}
@@ -16,7 +16,7 @@ use Rattle.rasn_enc.specs.View.{View, Frame, appended, opened}
 use Rattle.rasn_enc.specs.Primitives.{WantsMemory}
 use Rattle.rasn_types.specs.Errors.{IsEncodeMemory}
 use Rattle.rasn_enc.specs.Wrote.{Wrote, MayRefuse, Undefined, Bare}
-use Rattle.rasn_enc.specs.Parts.{WroteParts, PartsMayRefuse, PartsUndefined, PartsBare}
+use Rattle.rasn_enc.specs.Parts.{WroteParts, WritesParts, PartsMayRefuse, PartsUndefined, PartsBare}
 use Rattle.rasn_enc.specs.Writing.{Closure, Encloses, Refuses}
 use Rattle.rasn_enc.proofs.Leaves.{cons_begins, wrote_one}
 
@@ -43,14 +43,13 @@ heads_more : (octets : List ℕ) (encoded : List (List ℕ)) (a b : List Tag) �
 heads_more [] encoded a b h k = rw h k
 heads_more (o ∷ l) encoded a b (tag, more, e, begins, n) k = (tag, b, rw (e, n) refl, begins, k)
 
--- No part is left.
-pub parts_end : (v : View) → WroteParts none done v v
+none_written : (v : View) → WroteParts none done v v
 unfolding fields_of
-parts_end v = record { trees = []; is = refl; encoded = []; written = (refl, refl); tags = []; heads = refl; appended = appended-nil v }
+none_written v = record { trees = []; is = refl; encoded = []; written = (refl, refl); tags = []; heads = refl; appended = appended-nil v }
 
 -- A part is written, and then the others.
-pub part_written : (s : Shape) (parts : Parts) (t tree : Tree) (v u w : View) → Wrote s t v u → WroteParts parts tree u w
-  → WroteParts (part required s parts) (joined t tree) v w
+part_written : (s : Shape) (parts : Parts) (t tree : Tree) (v u w : View) → Wrote s t v u → WroteParts parts tree u w
+    → WroteParts (part required s parts) (joined t tree) v w
 unfolding fields_of
 part_written s parts t tree v u w a p = record {
   trees = t ∷ p.trees;
@@ -74,98 +73,137 @@ record Divided (rule : Codec) (s : Shape) (parts : Parts) (t tree : Tree) (trees
   rest : PartsWritten (fields_of rule parts) others more
 
 divided : (rule : Codec) (s : Shape) (parts : Parts) (t tree : Tree) (trees : List Tree) (encoded : List (List ℕ)) → joined t tree ≡ items trees
-  → PartsWritten (fields_of rule (part required s parts)) trees encoded → Divided rule s parts t tree trees encoded
+    → PartsWritten (fields_of rule (part required s parts)) trees encoded → Divided rule s parts t tree trees encoded
 unfolding fields_of
 divided rule s parts t tree trees encoded is (x, us, b, cs, f, g, h, k) =
-  let i : joined t tree ≡ joined x (items us) = is ∙ ap items f in
-  let j : x ≡ t = cc in
-  record {
-    octets = b;
-    others = us;
-    more = cs;
-    trees_are = f ∙ ap (λ y. y ∷ us) j;
-    encoded_are = g;
-    tree_is = cc;
-    first = subst (λ y. Bytes rule s y b) j h;
-    rest = k;
-  }
+    let i : joined t tree ≡ joined x (items us) = is ∙ ap items f in
+    let j : x ≡ t = cc in
+    record {
+      octets = b;
+      others = us;
+      more = cs;
+      trees_are = f ∙ ap (λ y. y ∷ us) j;
+      encoded_are = g;
+      tree_is = cc;
+      first = subst (λ y. Bytes rule s y b) j h;
+      rest = k;
+    }
 
 bare_first : (rule : Codec) (s : Shape) (parts : Parts) (t : Tree) (trees others : List Tree) (encoded more : List (List ℕ)) (octets : List ℕ)
-  → trees ≡ t ∷ others → encoded ≡ octets ∷ more → NoneBare (fields_of rule (part required s parts)) trees encoded → IsBare s t → octets ≡ []
+    → trees ≡ t ∷ others → encoded ≡ octets ∷ more → NoneBare (fields_of rule (part required s parts)) trees encoded → IsBare s t → octets ≡ []
 unfolding fields_of
 bare_first rule s parts t trees others encoded more octets e f n b = (rw (e, f) at n).0 b
 
 bare_rest : (rule : Codec) (s : Shape) (parts : Parts) (t : Tree) (trees others : List Tree) (encoded more : List (List ℕ)) (octets : List ℕ)
-  → trees ≡ t ∷ others → encoded ≡ octets ∷ more → NoneBare (fields_of rule (part required s parts)) trees encoded → NoneBare (fields_of rule parts) others more
+    → trees ≡ t ∷ others → encoded ≡ octets ∷ more → NoneBare (fields_of rule (part required s parts)) trees encoded → NoneBare (fields_of rule parts) others more
 unfolding fields_of
 bare_rest rule s parts t trees others encoded more octets e f n = (rw (e, f) at n).1
 
 first_why : (s : Shape) (parts : Parts) (t tree : Tree) (v : View) (e : EncodeError) → IsEncodeMemory e.kind ⊎ (Undefined v.rule s t ⊎ Bare s t v)
-  → IsEncodeMemory e.kind ⊎ (PartsUndefined v.rule (part required s parts) (joined t tree) ⊎ PartsBare (part required s parts) (joined t tree) v)
+    → IsEncodeMemory e.kind ⊎ (PartsUndefined v.rule (part required s parts) (joined t tree) ⊎ PartsBare (part required s parts) (joined t tree) v)
 first_why s parts t tree v e (inl m) = inl m
-first_why s parts t tree v e (inr (inl n)) = inr (inl (record { none = λ trees encoded is w.
-  let d = divided v.rule s parts t tree trees encoded is w in n.none d.octets d.first }))
+first_why s parts t tree v e (inr (inl n)) = inr (inl (record {
+  none = λ trees encoded is w.
+      let d = divided v.rule s parts t tree trees encoded is w in n.none d.octets d.first;
+}))
 first_why s parts t tree v e (inr (inr n)) = inr (inr (record {
   bare = λ trees encoded is w nb.
-    let d = divided v.rule s parts t tree trees encoded is w in
-    n.some d.octets d.first (bare_first v.rule s parts t trees d.others encoded d.more d.octets d.trees_are d.encoded_are nb n.bare);
-  keeps = n.keeps }))
+      let d = divided v.rule s parts t tree trees encoded is w in
+      n.some d.octets d.first (bare_first v.rule s parts t trees d.others encoded d.more d.octets d.trees_are d.encoded_are nb n.bare);
+  keeps = n.keeps;
+}))
 
 -- The first part is refused.
-pub first_refused : (s : Shape) (parts : Parts) (t tree : Tree) (v : View) (e : EncodeError) → MayRefuse s t v e
-  → PartsMayRefuse (part required s parts) (joined t tree) v e
+first_refused : (s : Shape) (parts : Parts) (t tree : Tree) (v : View) (e : EncodeError) → MayRefuse s t v e
+    → PartsMayRefuse (part required s parts) (joined t tree) v e
 first_refused s parts t tree v e h = record { why = first_why s parts t tree v e h.why }
 
 keeps_before : (v u : View) (octets : List ℕ) (tags : List Tag) → u ≡ appended v octets tags → u.last.tags ≢ None → v.last.tags ≢ None
 keeps_before v u octets tags e h k = h (ap (λ (x : View). x.last.tags) e ∙ ap (λ o. option_map (λ kept. kept ++ tags) o) k)
 
 later_why : (s : Shape) (parts : Parts) (t tree : Tree) (v u : View) (e : EncodeError) → Wrote s t v u
-  → IsEncodeMemory e.kind ⊎ (PartsUndefined u.rule parts tree ⊎ PartsBare parts tree u)
-  → IsEncodeMemory e.kind ⊎ (PartsUndefined v.rule (part required s parts) (joined t tree) ⊎ PartsBare (part required s parts) (joined t tree) v)
+    → IsEncodeMemory e.kind ⊎ (PartsUndefined u.rule parts tree ⊎ PartsBare parts tree u)
+    → IsEncodeMemory e.kind ⊎ (PartsUndefined v.rule (part required s parts) (joined t tree) ⊎ PartsBare (part required s parts) (joined t tree) v)
 later_why s parts t tree v u e a (inl m) = inl m
-later_why s parts t tree v u e a (inr (inl n)) = inr (inl (record { none = λ trees encoded is w.
-  let d = divided v.rule s parts t tree trees encoded is w in
-  n.none d.others d.more d.tree_is (subst (λ r. PartsWritten (fields_of r parts) d.others d.more) (sym (ap (λ (x : View). x.rule) a.appended)) d.rest) }))
+later_why s parts t tree v u e a (inr (inl n)) = inr (inl (record {
+  none = λ trees encoded is w.
+      let d = divided v.rule s parts t tree trees encoded is w in
+      n.none d.others d.more d.tree_is (subst (λ r. PartsWritten (fields_of r parts) d.others d.more) (sym (ap (λ (x : View). x.rule) a.appended)) d.rest);
+}))
 later_why s parts t tree v u e a (inr (inr n)) = inr (inr (record {
   bare = λ trees encoded is w nb.
-    let d = divided v.rule s parts t tree trees encoded is w in
-    let r : v.rule ≡ u.rule = sym (ap (λ (x : View). x.rule) a.appended) in
-    n.bare d.others d.more d.tree_is (subst (λ r. PartsWritten (fields_of r parts) d.others d.more) r d.rest)
+      let d = divided v.rule s parts t tree trees encoded is w in
+      let r : v.rule ≡ u.rule = sym (ap (λ (x : View). x.rule) a.appended) in
+      n.bare d.others d.more d.tree_is (subst (λ r. PartsWritten (fields_of r parts) d.others d.more) r d.rest)
       (subst (λ r. NoneBare (fields_of r parts) d.others d.more) r (bare_rest v.rule s parts t trees d.others encoded d.more d.octets d.trees_are d.encoded_are nb));
-  keeps = keeps_before v u a.octets a.tags a.appended n.keeps }))
+  keeps = keeps_before v u a.octets a.tags a.appended n.keeps;
+}))
 
 -- The first part is written, and a later one is refused.
-pub later_refused : (s : Shape) (parts : Parts) (t tree : Tree) (v u : View) (e : EncodeError) → Wrote s t v u → PartsMayRefuse parts tree u e
-  → PartsMayRefuse (part required s parts) (joined t tree) v e
+later_refused : (s : Shape) (parts : Parts) (t tree : Tree) (v u : View) (e : EncodeError) → Wrote s t v u → PartsMayRefuse parts tree u e
+    → PartsMayRefuse (part required s parts) (joined t tree) v e
 later_refused s parts t tree v u e a h = record { why = later_why s parts t tree v u e a h.why }
 
-module _ {F : Type 0} (g : Closure F (Unit {0})) (f : F) (v w : View) (tag : Tag) (parts : Parts) (tree : Tree) where
-  -- For the clause on success.
-  pub sequence_ok : (r : Result (Unit {0}) EncodeError) → OnOk r (Encloses g f false tag v w)
-    → ((u : View) → FnOnceReturnsAtMut g f (opened v false) (Ok tt) u → WroteParts parts tree (opened v false) u) → OnOk r (Wrote (seq tag parts) tree v w)
-  unfolding Bytes
-  sequence_ok r h written = on_ok_weaker r (λ k.
-      let p = written k.inner k.ran in
-      let i : k.inner.last.octets ≡ joined_lists p.encoded = ap (λ (x : View). x.last.octets) p.appended in
-      wrote_one (Cons v.rule tag k.inner.last.octets) tag (seq tag parts) tree v w k.appends
-        (λ o d. cons_begins v.rule tag k.inner.last.octets o d)
-        (λ o d. (p.trees, p.encoded, p.is, p.written, subst (λ l. Cons v.rule tag l o) i d))) h
+-- No part is left, and the closure accepts.
+pub parts_end : (v : View) → WritesParts none done v (Ok tt) v
+parts_end v = record { keeps = record { rule = refl; below = refl }; ok = none_written v; refused = tt }
 
-  -- For the clause on refusals.
-  pub sequence_refused : (r : Result (Unit {0}) EncodeError) → IfErr r (λ e. WantsMemory v.rule e ⊎ Refuses g f (opened v false) e)
-    → ((e : EncodeError) (u : View) → FnOnceReturnsAtMut g f (opened v false) (Err e) u → PartsMayRefuse parts tree (opened v false) e)
+refused_by : (s : Shape) (parts : Parts) (t tree : Tree) (v u : View) (r : Result (Unit {0}) EncodeError) (e : EncodeError)
+    → MayRefuse s t v e → u ≡ v → r ≡ Err e → WritesParts (part required s parts) (joined t tree) v r u
+refused_by s parts t tree v u r e h k q = rw q (record {
+  keeps = record { rule = ap (λ (x : View). x.rule) k; below = ap (λ (x : View). x.below) k };
+  ok = tt;
+  refused = first_refused s parts t tree v e h;
+})
+
+-- A part is refused, and the closure answers that by `?`.
+pub part_refused : (s : Shape) (parts : Parts) (t tree : Tree) (v u : View) (r : Result (Unit {0}) EncodeError) (e : EncodeError)
+    → MayRefuse s t v e → u ≡ v → IsErrAnd r (λ y. y ≡ e) → WritesParts (part required s parts) (joined t tree) v r u
+part_refused s parts t tree v u r e h k q =
+    let p = err_from_is_err_and r q in
+    refused_by s parts t tree v u r e h k (p.1 ∙ ap (λ (y : EncodeError). (let x : Result (Unit {0}) EncodeError = Err y in x)) p.2)
+
+-- A part is written, and then the others are.
+pub part_put : (s : Shape) (parts : Parts) (t tree : Tree) (v u w : View) (r : Result (Unit {0}) EncodeError)
+    → Wrote s t v u → WritesParts parts tree u r w → WritesParts (part required s parts) (joined t tree) v r w
+part_put s parts t tree v u w r a p = record {
+  keeps = record { rule = p.keeps.rule ∙ ap (λ (x : View). x.rule) a.appended; below = p.keeps.below ∙ ap (λ (x : View). x.below) a.appended };
+  ok = on_ok_weaker r (λ h. part_written s parts t tree v u w a h) p.ok;
+  refused = IfErr-weaker r _ _ (λ e h. later_refused s parts t tree v u e a h) p.refused;
+}
+
+-- The call that writes the last part is the closure's answer.
+pub last_part : (s : Shape) (t : Tree) (v w : View) (r : Result (Unit {0}) EncodeError)
+    → OnOk r (Wrote s t v w) → OnErr r (w ≡ v) → IfErr r (MayRefuse s t v) → WritesParts (part required s none) (joined t done) v r w
+last_part s t v w (Ok tt) a b c = part_put s none t done v w w (Ok tt) a (parts_end w)
+last_part s t v w (Err e) a b c = refused_by s none t done v w (Err e) e c b refl
+
+-- For the clause on success.
+pub sequence_ok : {F : Type 0} (g : Closure F (Unit {0})) (f : F) (v w : View) (tag : Tag) (parts : Parts) (tree : Tree) (r : Result (Unit {0}) EncodeError)
+    → OnOk r (Encloses g f false tag v w)
+    → ((u : View) → FnOnceReturnsAtMut g f (opened v false) (Ok tt) u → WritesParts parts tree (opened v false) (Ok tt) u) → OnOk r (Wrote (seq tag parts) tree v w)
+unfolding Bytes
+sequence_ok g f v w tag parts tree r h written = on_ok_weaker r (λ k.
+    let p = (written k.inner k.ran).ok in
+    let i : k.inner.last.octets ≡ joined_lists p.encoded = ap (λ (x : View). x.last.octets) p.appended in
+    wrote_one (Cons v.rule tag k.inner.last.octets) tag (seq tag parts) tree v w k.appends
+    (λ o d. cons_begins v.rule tag k.inner.last.octets o d)
+    (λ o d. (p.trees, p.encoded, p.is, p.written, subst (λ l. Cons v.rule tag l o) i d))) h
+
+-- For the clause on refusals.
+pub sequence_refused : {F : Type 0} (g : Closure F (Unit {0})) (f : F) (v : View) (tag : Tag) (parts : Parts) (tree : Tree) (r : Result (Unit {0}) EncodeError)
+    → IfErr r (λ e. WantsMemory v.rule e ⊎ Refuses g f (opened v false) e)
+    → ((e : EncodeError) (u : View) → FnOnceReturnsAtMut g f (opened v false) (Err e) u → WritesParts parts tree (opened v false) (Err e) u)
     → IfErr r (MayRefuse (seq tag parts) tree v)
-  unfolding Bytes
-  sequence_refused r h refused = IfErr-weaker r _ _ (λ e. elim [
-      inl m ↦ record { why = inl (ap (λ (x : EncodeError). x.kind) m) }
-    | inr k ↦ elim (refused e k.0 k.1).why [
-        inl m ↦ record { why = inl m }
-      | inr (inl n) ↦ record { why = inr (inl (record { none = λ octets b. n.none b.0 b.1 b.2 b.3 })) }
-      | inr (inr n) ↦ absurd (n.keeps refl)
-    ]
-  ]) h
+unfolding Bytes
+sequence_refused g f v tag parts tree r h refused = IfErr-weaker r _ _ (λ e. elim [
+  | inl m ↦ record { why = inl (ap (λ (x : EncodeError). x.kind) m) }
+  | inr k ↦ elim (refused e k.0 k.1).refused.why [
+    | inl m ↦ record { why = inl m }
+    | inr (inl n) ↦ record { why = inr (inl (record { none = λ octets b. n.none b.0 b.1 b.2 b.3 })) }
+    | inr (inr n) ↦ absurd (n.keeps refl)
+  ]
+]) h
 
--- What the answers of a closure go by.
-pub ruleset parts_are_written = (part_written, parts_end)
-pub ruleset parts_are_refused = (first_refused, later_refused)
-pub ruleset writing = (part_written, parts_end, first_refused, later_refused, sequence_ok, sequence_refused)
+-- What the goals of a closure that writes parts go by, and then those of `encode_sequence`.
+pub ruleset writing = (parts_end, part_refused, part_put, last_part, sequence_ok, sequence_refused)

@@ -32,11 +32,11 @@ number_in-digits base h zero n = sym (ap (λ z. n % z) (pow-zero base) ∙ by_on
     by_one : (n : ℕ) → n % 1 ≡ 0
     by_one n = omega arith
 number_in-digits base h (suc count) n =
-  let d = n / base ^ count % base in
-  let l = length-digits base count n in
-  let e : d % base ≡ d = mod-eq_of_lt (mod-lt (n / base ^ count) h) in
-  let m : n % (base * base ^ count) ≡ d * base ^ count + n % base ^ count = mod-mul n h (one-le-pow count base h) in
-  ap₂ (λ x y. x * base ^ y + number_in base (digits base count n)) e l
+    let d = n / base ^ count % base in
+    let l = length-digits base count n in
+    let e : d % base ≡ d = mod-eq_of_lt (mod-lt (n / base ^ count) h) in
+    let m : n % (base * base ^ count) ≡ d * base ^ count + n % base ^ count = mod-mul n h (one-le-pow count base h) in
+    ap₂ (λ x y. x * base ^ y + number_in base (digits base count n)) e l
     ∙ (ap (λ z. d * base ^ count + z) (number_in-digits base h count n)
     ∙ (sym m ∙ ap (λ z. n % z) (sym (pow-succ' base count))))
 
@@ -46,9 +46,9 @@ digits_spell base h count n k = sym (number_in-digits base h count n ∙ mod-eq_
 -- a first digit that is 0 leaves less than what the digits behind it can hold
 lead : (base : ℕ) → 0 < base → (b : ℕ) (l : List ℕ) → b % base ≡ 0 → number_in base (b ∷ l) < base ^ length l
 lead base h b l e =
-  let k = number_lt base h l in
-  let z : b % base * base ^ length l ≡ 0 * base ^ length l = ap (λ x. x * base ^ length l) e in
-  omega arith
+    let k = number_lt base h l in
+    let z : b % base * base ^ length l ≡ 0 * base ^ length l = ap (λ x. x * base ^ length l) e in
+    omega arith
 
 -- all digits are below the base
 abbrev pub AreBelow : ℕ → List ℕ → Type 0
@@ -92,7 +92,7 @@ chained_octets (d ∷ e ∷ l) h = (omega (arith, h.0), chained_octets (e ∷ l)
 
 -- one more digit count is tried
 tried : (base most n count limit other : ℕ) → 0 < count → count ≤ most → limit ≡ base ^ count → (1 < count → base ^ (count - 1) ≤ n)
-  → (limit ≤ n → Fewest base most n other) → Fewest base most n (cond (ltb n limit) count other)
+    → (limit ≤ n → Fewest base most n other) → Fewest base most n (cond (ltb n limit) count other)
 tried base most n count limit other some few is least more = go (ltb n limit) (ltb-true n limit) (ltb-false n limit)
   where
     go : (b : Bool) → (b ≡ true → n < limit) → (b ≡ false → limit ≤ n) → Fewest base most n (cond b count other)
@@ -101,32 +101,32 @@ tried base most n count limit other some few is least more = go (ltb n limit) (l
 
 group_fewest : (n : ℕ) → n < 0x1_0000_0000 → Fewest 128 5 n (group_count n)
 group_fewest n h =
-  tried 128 5 n 1 128 _ (omega arith) (omega arith) refl (λ k. omega arith) (λ a.
-  tried 128 5 n 2 16384 _ (omega arith) (omega arith) refl (λ k. a) (λ b.
-  tried 128 5 n 3 2097152 _ (omega arith) (omega arith) refl (λ k. b) (λ c.
-  tried 128 5 n 4 268435456 _ (omega arith) (omega arith) refl (λ k. c) (λ d.
-  record { some = omega arith; few = omega arith; below = omega arith; least = λ k. d }))))
+    tried 128 5 n 1 128 _ (omega arith) (omega arith) refl (λ k. omega arith) (λ a.
+    tried 128 5 n 2 16384 _ (omega arith) (omega arith) refl (λ k. a) (λ b.
+    tried 128 5 n 3 2097152 _ (omega arith) (omega arith) refl (λ k. b) (λ c.
+    tried 128 5 n 4 268435456 _ (omega arith) (omega arith) refl (λ k. c) (λ d.
+    record { some = omega arith; few = omega arith; below = omega arith; least = λ k. d }))))
 
 octet_fewest : (n : ℕ) → n < 0x1_0000_0000_0000_0000 → Fewest 256 8 n (octet_count n)
 octet_fewest n h =
-  tried 256 8 n 1 256 _ (omega arith) (omega arith) refl (λ k. omega arith) (λ a.
-  tried 256 8 n 2 65536 _ (omega arith) (omega arith) refl (λ k. a) (λ b.
-  tried 256 8 n 3 16777216 _ (omega arith) (omega arith) refl (λ k. b) (λ c.
-  tried 256 8 n 4 4294967296 _ (omega arith) (omega arith) refl (λ k. c) (λ d.
-  tried 256 8 n 5 1099511627776 _ (omega arith) (omega arith) refl (λ k. d) (λ e.
-  tried 256 8 n 6 281474976710656 _ (omega arith) (omega arith) refl (λ k. e) (λ f.
-  tried 256 8 n 7 72057594037927936 _ (omega arith) (omega arith) refl (λ k. f) (λ g.
-  record { some = omega arith; few = omega arith; below = omega arith; least = λ k. g })))))))
+    tried 256 8 n 1 256 _ (omega arith) (omega arith) refl (λ k. omega arith) (λ a.
+    tried 256 8 n 2 65536 _ (omega arith) (omega arith) refl (λ k. a) (λ b.
+    tried 256 8 n 3 16777216 _ (omega arith) (omega arith) refl (λ k. b) (λ c.
+    tried 256 8 n 4 4294967296 _ (omega arith) (omega arith) refl (λ k. c) (λ d.
+    tried 256 8 n 5 1099511627776 _ (omega arith) (omega arith) refl (λ k. d) (λ e.
+    tried 256 8 n 6 281474976710656 _ (omega arith) (omega arith) refl (λ k. e) (λ f.
+    tried 256 8 n 7 72057594037927936 _ (omega arith) (omega arith) refl (λ k. f) (λ g.
+    record { some = omega arith; few = omega arith; below = omega arith; least = λ k. g })))))))
 
 -- The first of the fewest digits isn't 0, but of a number of one digit.
 first_digit : (base most n count d : ℕ) (l : List ℕ) → 0 < base → Fewest base most n (suc count) → d ∷ l ≡ digits base (suc count) n → 0 < count → d % base ≡ 0 → ⊥
 first_digit base most n count d l h f e c z =
-  let k = lead base h d l z in
-  let s : n ≡ number_in base (d ∷ l) = digits_spell base h (suc count) n f.below ∙ ap (number_in base) (sym e) in
-  let m : length l ≡ count = omega (arith, ap length e, length-digits base (suc count) n) in
-  let p : base ^ length l ≡ base ^ count = ap (λ z. base ^ z) m in
-  let g : base ^ count ≤ n = subst (λ z. base ^ z ≤ n) (less_one count) (f.least (omega arith)) in
-  omega arith
+    let k = lead base h d l z in
+    let s : n ≡ number_in base (d ∷ l) = digits_spell base h (suc count) n f.below ∙ ap (number_in base) (sym e) in
+    let m : length l ≡ count = omega (arith, ap length e, length-digits base (suc count) n) in
+    let p : base ^ length l ≡ base ^ count = ap (λ z. base ^ z) m in
+    let g : base ^ count ≤ n = subst (λ z. base ^ z ≤ n) (less_one count) (f.least (omega arith)) in
+    omega arith
   where
     less_one : (k : ℕ) → suc k - 1 ≡ k
     less_one k = omega arith
@@ -141,15 +141,16 @@ long_length : (n count : ℕ) → 128 ≤ n → n < 0x1_0000_0000_0000_0000 → 
 unfolding digits
 long_length n zero h k f = absurd (omega (arith, f.some))
 long_length n (suc count) h k f =
-  let m : length (digits 256 (suc count) n) ≡ suc count = length-digits 256 (suc count) n in
-  record {
-    spells = inr (ap (λ z. 128 + z) (sym m), omega arith, omega (arith, f.few), digits_spell 256 (omega arith) (suc count) n f.below, k);
-    shortest = (h, first_octet count f);
-    octets = (omega (arith, f.few), octets_below (digits 256 (suc count) n) (digits_below 256 (omega arith) (suc count) n));
-  }
+    let m : length (digits 256 (suc count) n) ≡ suc count = length-digits 256 (suc count) n in
+    record {
+      spells = inr (ap (λ z. 128 + z) (sym m), omega arith, omega (arith, f.few), digits_spell 256 (omega arith) (suc count) n f.below, k);
+      shortest = (h, first_octet count f);
+      octets = (omega (arith, f.few), octets_below (digits 256 (suc count) n) (digits_below 256 (omega arith) (suc count) n));
+    }
   where
     by_one : (n : ℕ) → n / 1 % 256 ≡ 0 → n < 256 → n ≡ 0
     by_one n e h = omega arith
+
     first_octet : (count : ℕ) → Fewest 256 8 n (suc count) → n / 256 ^ count % 256 ≡ 0 → ⊥
     first_octet zero f e = let z : n ≡ 0 = by_one n e f.below in omega arith
     first_octet (suc j) f e = first_digit 256 8 n (suc j) _ _ (omega arith) f refl (omega arith) (ap (λ z. z % 256) e)
@@ -182,31 +183,37 @@ bit_below true = omega arith
 bit_below false = omega arith
 
 long_identifier : (tag : Tag) (bit : Bool) (count : ℕ) → 31 ≤ tag.value → tag.value < 0x1_0000_0000 → Fewest 128 5 tag.value count
-  → Identifier ((64 * rank tag.class + (32 * bit_of bit + 31)) ∷ chained (digits 128 count tag.value)) tag bit
+    → Identifier ((64 * rank tag.class + (32 * bit_of bit + 31)) ∷ chained (digits 128 count tag.value)) tag bit
 unfolding digits chained
 long_identifier tag bit zero h k f = absurd (omega (arith, f.some))
 long_identifier tag bit (suc count) h k f =
-  let n = tag.value in
-  let below = digits_below 128 (omega arith) (suc count) n in
-  record {
-    spells = record {
-      low = 31;
-      leading = refl;
-      number = inr (refl, record {
-        chain = chained_chain _ _ below;
-        is = digits_spell 128 (omega arith) (suc count) n f.below ∙ sym (number_in-chained (digits 128 (suc count) n));
-        below = k });
-    };
-    shortest = short count f;
-    octets = (leading_below _ _ 31 (rank_below tag.class) (bit_below bit) (omega arith), chained_octets (digits 128 (suc count) n) below);
-  }
+    let n = tag.value in
+    let below = digits_below 128 (omega arith) (suc count) n in
+    record {
+      spells = record {
+        low = 31;
+        leading = refl;
+        number = inr (
+          refl,
+          record {
+            chain = chained_chain _ _ below;
+            is = digits_spell 128 (omega arith) (suc count) n f.below ∙ sym (number_in-chained (digits 128 (suc count) n));
+            below = k;
+          },
+        );
+      };
+      shortest = short count f;
+      octets = (leading_below _ _ 31 (rank_below tag.class) (bit_below bit) (omega arith), chained_octets (digits 128 (suc count) n) below);
+    }
   where
     by_one : (n : ℕ) → n < 128 → n / 1 % 128 ≡ 128 → ⊥
     by_one n h e = omega arith
+
     marked : (d : ℕ) → 128 + d ≡ 128 → d % 128 ≡ 0
     marked d e = omega arith
+
     short : (count : ℕ) → Fewest 128 5 tag.value (suc count)
-      → IsShortestId ((64 * rank tag.class + (32 * bit_of bit + 31)) ∷ chained (digits 128 (suc count) tag.value)) tag
+        → IsShortestId ((64 * rank tag.class + (32 * bit_of bit + 31)) ∷ chained (digits 128 (suc count) tag.value)) tag
     short zero f = (h, by_one tag.value f.below)
     short (suc j) f = (h, λ e. first_digit 128 5 tag.value (suc j) _ _ (omega arith) f refl (omega arith) (marked _ e))
 
@@ -215,37 +222,38 @@ unfolding id_octets
 identifier_spells tag bit h = go (ltb tag.value 31) (ltb-true tag.value 31) (ltb-false tag.value 31)
   where
     go : (b : Bool) → (b ≡ true → tag.value < 31) → (b ≡ false → 31 ≤ tag.value)
-      → Identifier (cond b ((64 * rank tag.class + (32 * bit_of bit + tag.value)) ∷ [])
+        → Identifier (cond b ((64 * rank tag.class + (32 * bit_of bit + tag.value)) ∷ [])
         ((64 * rank tag.class + (32 * bit_of bit + 31)) ∷ chained (digits 128 (group_count tag.value) tag.value))) tag bit
     go true p q =
-      let k = p refl in
-      record {
-        spells = record { low = tag.value; leading = refl; number = inl (k, refl, refl) };
-        shortest = tt;
-        octets = (leading_below _ _ tag.value (rank_below tag.class) (bit_below bit) (omega arith), tt) }
+        let k = p refl in
+        record {
+          spells = record { low = tag.value; leading = refl; number = inl (k, refl, refl) };
+          shortest = tt;
+          octets = (leading_below _ _ tag.value (rank_below tag.class) (bit_below bit) (omega arith), tt);
+        }
     go false p q = long_identifier tag bit (group_count tag.value) (q refl) h (group_fewest tag.value h)
 
 -- What the writer puts round contents.
 pub definite_is : (tag : Tag) (bit : Bool) (contents : List ℕ) → tag.value < 0x1_0000_0000 → length contents < 0x1_0000_0000_0000_0000
-  → Definite tag bit contents (definite tag bit contents)
+    → Definite tag bit contents (definite tag bit contents)
 unfolding definite
 definite_is tag bit contents h k =
-  let i = identifier_spells tag bit h in
-  let l = length_spells (length contents) k in
-  record {
-    id = id_octets tag bit;
-    len = length_octets (length contents);
-    id_spells = i.spells;
-    id_shortest = i.shortest;
-    id_octets = i.octets;
-    len_spells = l.spells;
-    len_shortest = l.shortest;
-    len_octets = l.octets;
-    is = refl;
-  }
+    let i = identifier_spells tag bit h in
+    let l = length_spells (length contents) k in
+    record {
+      id = id_octets tag bit;
+      len = length_octets (length contents);
+      id_spells = i.spells;
+      id_shortest = i.shortest;
+      id_octets = i.octets;
+      len_spells = l.spells;
+      len_shortest = l.shortest;
+      len_octets = l.octets;
+      is = refl;
+    }
 
 pub closed_is : (tag : Tag) (contents : List ℕ) → tag.value < 0x1_0000_0000 → Closed tag contents (closed tag contents)
 unfolding closed
 closed_is tag contents h =
-  let i = identifier_spells tag true h in
-  record { id = id_octets tag true; id_spells = i.spells; id_shortest = i.shortest; id_octets = i.octets; is = refl }
+    let i = identifier_spells tag true h in
+    record { id = id_octets tag true; id_spells = i.spells; id_shortest = i.shortest; id_octets = i.octets; is = refl }

@@ -22,13 +22,13 @@ group_count n = cond (ltb n 128) 1 (cond (ltb n 16384) 2 (cond (ltb n 2097152) 3
 -- how many octets a number below 2 ^ 64 takes
 abbrev pub octet_count : ℕ → ℕ
 octet_count n = cond (ltb n 256) 1 (cond (ltb n 65536) 2 (cond (ltb n 16777216) 3 (cond (ltb n 4294967296) 4
-  (cond (ltb n 1099511627776) 5 (cond (ltb n 281474976710656) 6 (cond (ltb n 72057594037927936) 7 8))))))
+    (cond (ltb n 1099511627776) 5 (cond (ltb n 281474976710656) 6 (cond (ltb n 72057594037927936) 7 8))))))
 
 -- The identifier of a tag (8.1.2).
 unfoldable pub id_octets : Tag → Bool → List ℕ
 id_octets tag bit = cond (ltb tag.value 31)
-  ((64 * rank tag.class + (32 * bit_of bit + tag.value)) ∷ [])
-  ((64 * rank tag.class + (32 * bit_of bit + 31)) ∷ chained (digits 128 (group_count tag.value) tag.value))
+    ((64 * rank tag.class + (32 * bit_of bit + tag.value)) ∷ [])
+    ((64 * rank tag.class + (32 * bit_of bit + 31)) ∷ chained (digits 128 (group_count tag.value) tag.value))
 
 -- The length octets of a number of contents octets (8.1.3).
 unfoldable pub length_octets : ℕ → List ℕ

@@ -1,5 +1,5 @@
 -- What a closure that writes parts one behind the other does to the last list, and why it may refuse.
-use Rattle.std.specs.Prelude.{ℕ, ◌≡◌, ◌≢◌, ◌⊎◌, List, None}
+use Rattle.std.specs.Prelude.{ℕ, ◌≡◌, ◌≢◌, ◌⊎◌, List, None, Result, OnOk, IfErr}
 use Rattle.rasn_types.specs.Shapes.{Tree, items, Parts}
 use Rattle.rasn_types.specs.Contents.{joined_lists}
 use Rattle.rasn_types.specs.Bytes.{fields_of, PartsWritten, NoneBare, TagsOf}
@@ -7,7 +7,7 @@ use Rattle.rasn_types.specs.Errors.{IsEncodeMemory}
 use Rattle.rasn_types.specs.declared.types.rules.Codec.{Codec}
 use Rattle.rasn_types.specs.declared.types.tag.Tag.{Tag}
 use Rattle.rasn_types.specs.declared.error.encode.EncodeError.{EncodeError}
-use Rattle.rasn_enc.specs.View.{View, appended}
+use Rattle.rasn_enc.specs.View.{View, appended, LeavesOthers}
 
 -- The octets of the parts stand behind the last list, one behind the other, and their tags behind those that it keeps. tree has an entry for each part.
 pub record WroteParts (parts : Parts) (tree : Tree) (v w : View) : Type 0 where
@@ -26,9 +26,15 @@ pub record PartsUndefined (rule : Codec) (parts : Parts) (tree : Tree) : Type 0 
 -- Octets of an open type without a tag would stand in a list that keeps tags.
 pub record PartsBare (parts : Parts) (tree : Tree) (v : View) : Type 0 where
   pub bare : (trees : List Tree) (encoded : List (List ℕ)) → tree ≡ items trees → PartsWritten (fields_of v.rule parts) trees encoded
-    → NoneBare (fields_of v.rule parts) trees encoded → ⊥
+      → NoneBare (fields_of v.rule parts) trees encoded → ⊥
   pub keeps : v.last.tags ≢ None
 
 -- Why parts aren't written.
 pub record PartsMayRefuse (parts : Parts) (tree : Tree) (v : View) (e : EncodeError) : Type 0 where
   pub why : IsEncodeMemory e.kind ⊎ (PartsUndefined v.rule parts tree ⊎ PartsBare parts tree v)
+
+-- What a closure that writes parts answers, and what it does to the view.
+pub record WritesParts (parts : Parts) (tree : Tree) (v : View) (r : Result (Unit {0}) EncodeError) (w : View) : Type 0 where
+  pub keeps : LeavesOthers v w
+  pub ok : OnOk r (WroteParts parts tree v w)
+  pub refused : IfErr r (PartsMayRefuse parts tree v)

@@ -41,7 +41,12 @@ pub trait Encode: AsnType {
     }
 
     /// Writes the value under this tag.
-    fn encode_with_tag(&self, encoder: &mut Encoder, tag: Tag, identifier: Identifier) -> Result<(), EncodeError>
+    fn encode_with_tag(
+        &self,
+        encoder: &mut Encoder,
+        tag: Tag,
+        identifier: Identifier,
+    ) -> Result<(), EncodeError>
         ensures ok { OnOk result (Wrote (given tag Self.CONSTRAINTS Self.shape) (Self.tree self.now) encoder.old encoder.new) }
         ensures err { OnErr result (encoder.new ≡ encoder.old) }
         ensures refused { IfErr result (MayRefuse (given tag Self.CONSTRAINTS Self.shape) (Self.tree self.now) encoder.old) }

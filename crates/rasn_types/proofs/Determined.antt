@@ -14,7 +14,7 @@ use Rattle.rasn_types.proofs.Frames.{split_one}
 use Rattle.rasn_types.proofs.Digits.{id_shortest_one, length_shortest_one, short_arcs_one, arcs_of, arcs_one}
 use Rattle.rasn_types.proofs.Integers.{signed_one}
 
-definite_one : (tag : Tag) (bit : Bool) (k l a b : List ℕ) → Definite tag bit k a → Definite tag bit l b → k ≡ l → a ≡ b
+pub definite_one : (tag : Tag) (bit : Bool) (k l a b : List ℕ) → Definite tag bit k a → Definite tag bit l b → k ≡ l → a ≡ b
 definite_one tag bit k l a b h i e =
     let p = id_shortest_one h.id i.id tag bit h.id_spells i.id_spells h.id_shortest i.id_shortest h.id_octets i.id_octets in
     let j : Definite tag bit k b = subst (λ z. Definite tag bit z b) (sym e) i in

@@ -85,7 +85,7 @@ WritesPart (default d) writes t b = (Same t d × (b ≡ [])) ⊎ ((Same t d → 
 abbrev pub PartsWritten : List Field → List Tree → List (List ℕ) → Type 0
 PartsWritten [] ts bs = (ts ≡ []) × (bs ≡ [])
 PartsWritten (f ∷ fs) ts bs = (t : Tree) × (us : List Tree) × (b : List ℕ) × (cs : List (List ℕ)) × (ts ≡ t ∷ us) × (bs ≡ b ∷ cs)
-  × WritesPart f.presence f.writes t b × PartsWritten fs us cs
+    × WritesPart f.presence f.writes t b × PartsWritten fs us cs
 
 -- The tags of those that aren't empty.
 abbrev pub TagsOf : List (List ℕ) → List Tag → Type 0
@@ -118,8 +118,8 @@ IsCer Der = ⊥
 -- A string is written as one piece, but under CER in segments where it has more than size units (9.2).
 abbrev pub WritesStr : {X : Type 0} → Codec → Writing (List X) → ℕ → Tag → Tag → Writing (List X)
 WritesStr {X} rule writes size inner tag xs b =
-  ((IsCer rule → length xs ≤ size) × (contents : List ℕ) × writes xs contents × Prim tag contents b)
-  ⊎ (IsCer rule × (size < length xs) × (pieces : List (List X)) × (bs : List (List ℕ)) × (xs ≡ joined_lists pieces) × AreCut size pieces
+    ((IsCer rule → length xs ≤ size) × (contents : List ℕ) × writes xs contents × Prim tag contents b)
+    ⊎ (IsCer rule × (size < length xs) × (pieces : List (List X)) × (bs : List (List ℕ)) × (xs ≡ joined_lists pieces) × AreCut size pieces
     × Each (λ p c. (contents : List ℕ) × writes p contents × Prim inner contents c) pieces bs × Cons rule tag (joined_lists bs) b)
 
 abbrev pub AllFalse : List Bool → Type 0
@@ -155,15 +155,15 @@ WritesSeq rule tag fs t b = (ts : List Tree) × (bs : List (List ℕ)) × (t ≡
 
 abbrev pub WritesSet : Codec → Tag → List Field → Writing Tree
 WritesSet rule tag fs t b = (ts : List Tree) × (bs : List (List ℕ)) × (tags : List Tag) × (t ≡ items ts) × PartsWritten fs ts bs
-  × NoneBare fs ts bs × TagsOf bs tags × DoNotFall IsTagBelow tags × Cons rule tag (joined_lists bs) b
+    × NoneBare fs ts bs × TagsOf bs tags × DoNotFall IsTagBelow tags × Cons rule tag (joined_lists bs) b
 
 abbrev pub WritesList : Codec → Tag → Option (Bound ℕ) → Writing Tree → Writing Tree
 WritesList rule tag size writes t b = (ts : List Tree) × (bs : List (List ℕ)) × (t ≡ items ts) × Admits ◌≤◌ size (length ts)
-  × Each writes ts bs × Cons rule tag (joined_lists bs) b
+    × Each writes ts bs × Cons rule tag (joined_lists bs) b
 
 abbrev pub WritesBag : Codec → Tag → Option (Bound ℕ) → Writing Tree → Writing Tree
 WritesBag rule tag size writes t b = (ts : List Tree) × (bs : List (List ℕ)) × (t ≡ walk (items ts)) × Admits ◌≤◌ size (length ts)
-  × Each writes ts bs × DoNotFall IsLess bs × Cons rule tag (joined_lists bs) b
+    × Each writes ts bs × DoNotFall IsLess bs × Cons rule tag (joined_lists bs) b
 
 -- What is written of the tree are open octets without a tag.
 unfoldable mutual
@@ -189,7 +189,7 @@ unfoldable mutual
   Bytes rule (leaf kind tag bounds) = λ t b. IsBounded kind bounds t × WritesIn (family kind) rule kind tag t b
   Bytes rule (any None) = λ t b. t ≡ numbers b
   Bytes rule (any (Some tag)) = λ t b. (octets : List ℕ) × (t ≡ numbers octets)
-    × (((octets ≡ []) × (b ≡ [])) ⊎ ((octets ≢ []) × Cons rule tag octets b))
+      × (((octets ≡ []) × (b ≡ [])) ⊎ ((octets ≢ []) × Cons rule tag octets b))
   Bytes rule (prefix tag s) = λ t b. (inner : List ℕ) × Bytes rule s t inner × Cons rule tag inner b
   Bytes rule (choice ps) = WritesChoice 0 (fields_of rule ps)
   Bytes rule (option tag s) = λ t b. ((t ≡ absent) × (b ≡ [])) ⊎ ((t ≢ absent) × Bytes rule s t b)

@@ -66,7 +66,7 @@ is_set (suc n) = true
 
 abbrev pub bits_of : ℕ → List Bool
 bits_of b = is_set (b / 128 % 2) ∷ is_set (b / 64 % 2) ∷ is_set (b / 32 % 2) ∷ is_set (b / 16 % 2)
-  ∷ is_set (b / 8 % 2) ∷ is_set (b / 4 % 2) ∷ is_set (b / 2 % 2) ∷ is_set (b % 2) ∷ []
+    ∷ is_set (b / 8 % 2) ∷ is_set (b / 4 % 2) ∷ is_set (b / 2 % 2) ∷ is_set (b % 2) ∷ []
 
 abbrev pub joined_lists : {X : Type 0} → List (List X) → List X
 joined_lists [] = []
@@ -86,8 +86,8 @@ OctetSegment l octets = octets ≡ l
 -- A string: primitive, or segments (8.6.4, 8.7.3, 8.23). segment reads a primitive one's contents.
 abbrev pub Str : {X : Type 0} → Codec → (List ℕ → List X → Type 0) → Tag → ℕ → Tag → Reading (List X)
 Str rule segment inner zero tag input xs rest =
-  (contents : List ℕ) × Frame (form rule) input tag false rest (definite contents) × segment contents xs
+    (contents : List ℕ) × Frame (form rule) input tag false rest (definite contents) × segment contents xs
 Str rule segment inner (suc depth) tag input xs rest =
-  ((contents : List ℕ) × Frame (form rule) input tag false rest (definite contents) × segment contents xs)
-  ⊎ (HasSegments rule × (parts : List (List _)) × (xs ≡ joined_lists parts)
+    ((contents : List ℕ) × Frame (form rule) input tag false rest (definite contents) × segment contents xs)
+    ⊎ (HasSegments rule × (parts : List (List _)) × (xs ≡ joined_lists parts)
     × Inside rule tag true (λ closing. Many (Str rule segment inner depth inner) closing) input parts rest)

@@ -42,8 +42,8 @@ pub record IdSpells (l : List ℕ) (tag : Tag) (bit : Bool) : Type 0 where
 abbrev pub LengthSpells : List ℕ → ℕ → Type 0
 LengthSpells [] n = ⊥
 LengthSpells (first ∷ more) n =
-  ((first < 128) × (more ≡ []) × (n ≡ first))
-  ⊎ ((first ≡ 128 + length more) × (0 < length more) × (length more < 127) × (n ≡ number_in 256 more) × (n < 2 ^ 64))
+    ((first < 128) × (more ≡ []) × (n ≡ first))
+    ⊎ ((first ≡ 128 + length more) × (0 < length more) × (length more < 127) × (n ≡ number_in 256 more) × (n < 2 ^ 64))
 
 -- The shortest spellings.
 abbrev pub IsShortestId : List ℕ → Tag → Type 0
@@ -75,10 +75,10 @@ HasIndefinite loose_form = ⊥
 -- The input begins with a value's header: its contents stand behind it where the length is definite.
 pub data Frame (spelling : Form) (input : List ℕ) (tag : Tag) (bit : Bool) (rest : List ℕ) : Extent → Type 0 where
   with_length : (id len contents : List ℕ) → IdSpells id tag bit → LengthSpells len (length contents)
-    → (HasStrictForm spelling → IsShortestId id tag × IsShortestLength len (length contents))
-    → input ≡ id ++ (len ++ (contents ++ rest)) → Frame spelling input tag bit rest (definite contents)
+      → (HasStrictForm spelling → IsShortestId id tag × IsShortestLength len (length contents))
+      → input ≡ id ++ (len ++ (contents ++ rest)) → Frame spelling input tag bit rest (definite contents)
   without_length : (id : List ℕ) → IdSpells id tag bit → bit ≡ true → HasIndefinite spelling
-    → input ≡ id ++ (128 ∷ rest) → Frame spelling input tag bit rest indefinite
+      → input ≡ id ++ (128 ∷ rest) → Frame spelling input tag bit rest indefinite
 
 -- The octets begin with an identifier of this tag, which may be universal 0.
 pub record Begins (octets : List ℕ) (tag : Tag) : Type 0 where
@@ -102,7 +102,7 @@ mutual
   pub data Whole (rule : Codec) : List ℕ → Type 0 where
     plain : {text : List ℕ} (tag : Tag) (bit : Bool) (contents : List ℕ) → Frame (loose rule) text tag bit [] (definite contents) → Whole rule text
     closed : {text : List ℕ} (tag : Tag) (bit : Bool) (body nested : List ℕ) → Frame (loose rule) text tag bit body indefinite
-      → Wholes rule nested → body ≡ nested ++ (0 ∷ 0 ∷ []) → Whole rule text
+        → Wholes rule nested → body ≡ nested ++ (0 ∷ 0 ∷ []) → Whole rule text
 
   pub data Wholes (rule : Codec) : List ℕ → Type 0 where
     none : Wholes rule []

@@ -91,12 +91,12 @@ family kind = text_family
 -- A value that holds no others.
 abbrev pub ReadsIn : Family → Codec → Kind → Tag → ℕ → Reading Tree
 ReadsIn plain rule kind tag depth input t rest =
-  (bit : Bool) × (contents : List ℕ) × Frame (form rule) input tag bit rest (definite contents) × Contents rule kind contents t
-  × (IsStrict rule → (bit ≡ tag_bit tag) × IsShortest kind contents)
+    (bit : Bool) × (contents : List ℕ) × Frame (form rule) input tag bit rest (definite contents) × Contents rule kind contents t
+    × (IsStrict rule → (bit ≡ tag_bit tag) × IsShortest kind contents)
 ReadsIn bit_family rule kind tag depth input t rest =
-  (bs : List Bool) × (t ≡ bits bs) × (length bs < 2 ^ 64) × Str rule BitSegment (in_universal 3) depth tag input bs rest
+    (bs : List Bool) × (t ≡ bits bs) × (length bs < 2 ^ 64) × Str rule BitSegment (in_universal 3) depth tag input bs rest
 ReadsIn text_family rule kind tag depth input t rest =
-  (octets : List ℕ) × Str rule OctetSegment (in_universal 4) depth tag input octets rest × Text rule kind octets t
+    (octets : List ℕ) × Str rule OctetSegment (in_universal 4) depth tag input octets rest × Text rule kind octets t
 
 abbrev pub ReadsLeaf : Codec → Kind → Tag → Constraints → ℕ → Reading Tree
 ReadsLeaf rule kind tag bounds depth input t rest = ReadsIn (family kind) rule kind tag depth input t rest × IsBounded kind bounds t
@@ -104,7 +104,7 @@ ReadsLeaf rule kind tag bounds depth input t rest = ReadsIn (family kind) rule k
 -- The contents of a value of the tag, closing octets not included.
 abbrev pub ReadsOpen : Codec → Tag → Reading Tree
 ReadsOpen rule tag input t rest = (bit : Bool) × (contents : List ℕ) × (t ≡ numbers contents)
-  × (Frame (form rule) input tag bit rest (definite contents)
+    × (Frame (form rule) input tag bit rest (definite contents)
     ⊎ ((body : List ℕ) × Frame (form rule) input tag bit body indefinite × Wholes rule contents × (body ≡ contents ++ (0 ∷ 0 ∷ rest))))
 
 -- One whole encoding, octets and all.
@@ -135,7 +135,7 @@ unfoldable mutual
   pub parts_of : Codec → Parts → ℕ → Bool → List Part
   parts_of rule none depth closing = []
   parts_of rule (part presence s ps) depth closing =
-    record { presence = presence; own = own s; IsFirst = IsFirst s; reads = Reads rule s depth closing } ∷ parts_of rule ps depth closing
+      record { presence = presence; own = own s; IsFirst = IsFirst s; reads = Reads rule s depth closing } ∷ parts_of rule ps depth closing
 
 -- Whether closing octets may stand behind a value at the top.
 abbrev pub top : Codec → Bool

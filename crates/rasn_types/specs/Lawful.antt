@@ -63,4 +63,4 @@ unfoldable mutual
   pub AreLawfulByTag : Parts → Type 0
   AreLawfulByTag none = Unit {0}
   AreLawfulByTag (part presence s ps) = (presence ≢ addition) × HasTag s × IsSolid s × IsLawful s
-    × ((m n : Tag) → IsFirst s m → IsFirstOf ps n → IsTagBelow m n) × AreLawfulByTag ps
+      × ((m n : Tag) → IsFirst s m → IsFirstOf ps n → IsTagBelow m n) × AreLawfulByTag ps

@@ -14,3 +14,4 @@ pub mod Trees
 pub mod Bytes
 pub mod Carried
 pub mod Lawful
+pub mod Described

@@ -29,8 +29,8 @@ IsThere None closing input = Ended closing input → ⊥
 
 abbrev pub Perhaps : {X : Type 0} → Option Tag → X → Reading X → Bool → Reading X
 Perhaps tag without reads closing input x rest =
-  (IsLeftOut tag closing input × (x ≡ without) × (rest ≡ input))
-  ⊎ (IsThere tag closing input × reads input x rest)
+    (IsLeftOut tag closing input × (x ≡ without) × (rest ≡ input))
+    ⊎ (IsThere tag closing input × reads input x rest)
 
 -- A part of a SEQUENCE or SET, or an alternative of a CHOICE.
 pub record Part : Type 1 where
@@ -49,7 +49,7 @@ ReadsPart (default d) tag reads closing = Perhaps tag d reads closing
 abbrev pub InOrder : List Part → Bool → List ℕ → List Tree → List ℕ → Type 0
 InOrder [] closing input ts rest = (ts ≡ []) × (rest ≡ input)
 InOrder (p ∷ ps) closing input ts rest = (t : Tree) × (us : List Tree) × (middle : List ℕ) × (ts ≡ t ∷ us)
-  × ReadsPart p.presence p.own p.reads closing input t middle × InOrder ps closing middle us rest
+    × ReadsPart p.presence p.own p.reads closing input t middle × InOrder ps closing middle us rest
 
 -- what a part that doesn't come has in its place
 abbrev pub IsMissing : Presence → Tree → Type 0
@@ -73,14 +73,14 @@ IsBare ps closing input = (HasRequired ps → ⊥) × (closing ≡ false) × (in
 -- The contents of a SEQUENCE.
 abbrev pub ReadsSeq : List Part → Bool → Reading Tree
 ReadsSeq ps closing input t rest = (ts : List Tree) × (t ≡ items ts)
-  × ((IsBare ps closing input × AllMissing ps ts × (rest ≡ input)) ⊎ ((IsBare ps closing input → ⊥) × InOrder ps closing input ts rest))
+    × ((IsBare ps closing input × AllMissing ps ts × (rest ≡ input)) ⊎ ((IsBare ps closing input → ⊥) × InOrder ps closing input ts rest))
 
 -- The alternative whose first tags hold the next one; the first has the number k.
 abbrev pub ReadsChoice : ℕ → List Part → Reading Tree
 ReadsChoice k [] input t rest = ⊥
 ReadsChoice k (p ∷ ps) input t rest =
-  ((u : Tree) × (t ≡ chosen k u) × (next : Tag) × Next input next × p.IsFirst next × p.reads input u rest)
-  ⊎ ReadsChoice (suc k) ps input t rest
+    ((u : Tree) × (t ≡ chosen k u) × (next : Tag) × Next input next × p.IsFirst next × p.reads input u rest)
+    ⊎ ReadsChoice (suc k) ps input t rest
 
 -- The reading of part k is among these, and no other of it.
 abbrev pub NoneOf : ℕ → List Tree → Type 0
@@ -98,9 +98,9 @@ pub record OneOf (k : ℕ) (t : Tree) (readings : List Tree) : Type 0 where
 abbrev pub ByPart : ℕ → List Part → List Tree → List Tree → Type 0
 ByPart k [] readings ts = ts ≡ []
 ByPart k (p ∷ ps) readings ts = (t : Tree) × (us : List Tree) × (ts ≡ t ∷ us)
-  × (OneOf k t readings ⊎ (NoneOf k readings × IsMissing p.presence t)) × ByPart (suc k) ps readings us
+    × (OneOf k t readings ⊎ (NoneOf k readings × IsMissing p.presence t)) × ByPart (suc k) ps readings us
 
 -- The contents of a SET.
 abbrev pub ReadsSet : List Part → Bool → Reading Tree
 ReadsSet ps closing input t rest = (readings : List Tree) × (ts : List Tree) × (t ≡ items ts)
-  × Many (ReadsChoice 0 ps) closing input readings rest × ByPart 0 ps readings ts
+    × Many (ReadsChoice 0 ps) closing input readings rest × ByPart 0 ps readings ts

@@ -19,7 +19,7 @@ shown y f = record {
   hour = f.hour;
   minute = minute_of f.clock (billionths f.fraction);
   second = second_of f.clock (billionths f.fraction);
-  nanosecond = nanosecond_of f.clock (billionths f.fraction)
+  nanosecond = nanosecond_of f.clock (billionths f.fraction);
 }
 
 abbrev pub stamp_of : ℤ → Fields → Stamp

@@ -2,7 +2,9 @@
 
 mod asn_type;
 mod constraints;
+mod constructed;
 mod date;
+mod fields;
 mod generalized_time;
 mod identifier;
 mod integer;
@@ -14,7 +16,9 @@ mod utc_time;
 
 pub use asn_type::AsnType;
 pub use constraints::{Bound, Bounded, Constraints};
+pub use constructed::Constructed;
 pub use date::Date;
+pub use fields::{Field, FieldPresence, Fields};
 pub use generalized_time::GeneralizedTime;
 pub use identifier::Identifier;
 pub use integer::{Integer, IntegerType};

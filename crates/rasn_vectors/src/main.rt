@@ -33,7 +33,9 @@ fn answer(rt: &HostRuntime) -> Result<bool, Fault> {
     let mut arguments = Vec::new(rt.alloc());
     let all = env::args(rt).map_err(|error| Fault::Run(fault_of(error.kind())))?;
     for argument in all.skip(1) {
-        arguments.push(argument).map_err(|_| Fault::Run(RunFault::Memory))?;
+        arguments
+            .push(argument)
+            .map_err(|_| Fault::Run(RunFault::Memory))?;
     }
     match file_of(&arguments).map_err(Fault::Usage)? {
         None => answer_all(rt, rt.stdin()),

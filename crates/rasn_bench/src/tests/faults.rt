@@ -36,8 +36,14 @@ impl Write for Full {
 
 #[test]
 fn failing_readers_are_faults(rt: HostRuntime) -> Result<(), Fail> {
-    for (kind, fault) in [(ErrorKind::BrokenPipe, RunFault::Read), (ErrorKind::OutOfMemory, RunFault::Memory)] {
-        let reader = Failing { before: b"ber bool 010100\nber", kind };
+    for (kind, fault) in [
+        (ErrorKind::BrokenPipe, RunFault::Read),
+        (ErrorKind::OutOfMemory, RunFault::Memory),
+    ] {
+        let reader = Failing {
+            before: b"ber bool 010100\nber",
+            kind,
+        };
         let mut input = BufReader::new(rt.alloc(), reader)?;
         let mut output = Vec::new(rt.alloc());
         assert_eq!(rt; run(rt.alloc(), &mut input, &mut output), Err(fault));
@@ -50,7 +56,10 @@ fn failing_readers_are_faults(rt: HostRuntime) -> Result<(), Fail> {
 fn other_octets_than_utf8_are_faults(rt: HostRuntime) -> Result<(), Fail> {
     let mut input = b"ber bool 010100\nber bool \xFF\n".as_slice();
     let mut output = Vec::new(rt.alloc());
-    assert_eq!(rt; run(rt.alloc(), &mut input, &mut output), Err(RunFault::Read));
+    assert_eq!(rt;
+        run(rt.alloc(), &mut input, &mut output),
+        Err(RunFault::Read)
+    );
     assert_eq!(rt; output.as_slice(), b"BOOLEAN 0 010100\n".as_slice());
     Ok(())
 }
@@ -58,13 +67,19 @@ fn other_octets_than_utf8_are_faults(rt: HostRuntime) -> Result<(), Fail> {
 #[test]
 fn failing_writers_are_faults(rt: HostRuntime) {
     let mut input = b"ber bool 010100\n".as_slice();
-    assert_eq!(rt; run(rt.alloc(), &mut input, &mut Full), Err(RunFault::Write));
+    assert_eq!(rt;
+        run(rt.alloc(), &mut input, &mut Full),
+        Err(RunFault::Write)
+    );
 }
 
 #[test]
 fn one_file_is_named(rt: HostRuntime) -> Result<(), Fail> {
     let one = vec![in rt.alloc(); String::from_str(rt.alloc(), "lines")?]?;
-    let two = vec![in rt.alloc(); String::from_str(rt.alloc(), "a")?, String::from_str(rt.alloc(), "b")?]?;
+    let two = vec![in rt.alloc();
+        String::from_str(rt.alloc(), "a")?,
+        String::from_str(rt.alloc(), "b")?,
+    ]?;
     assert_eq!(rt; file_of(&[]), Ok(None));
     assert_eq!(rt; file_of(&one), Ok(Some("lines")));
     assert!(rt; file_of(&two).is_err());

@@ -4,7 +4,7 @@ use crate::run;
 use std::test::Fail;
 
 /// Each line with its answer.
-const LINES: [(&str, &str); 71] = [
+const LINES: [(&str, &str); 69] = [
     ("ber bool 0101FF00", "BOOLEAN 1 0101FF"),
     ("ber i32 0206FFFFFFFF7F00", "INTEGER 0 0203FF7F00"),
     ("ber u32 0206000033445566", "INTEGER 0 020433445566"),
@@ -12,13 +12,13 @@ const LINES: [(&str, &str); 71] = [
     ("ber octets 048102A1B2", "OCTET-STRING 0 0402A1B2"),
     ("ber octets 04FF", "refused ReservedLengthOctet"),
     ("ber bool -", "refused Incomplete"),
-    ("ber pair 3006020105010105", "SEQUENCE 0 30060201050101FF"),
-    ("ber pair 3009020105010100020106", "refused UnexpectedExtraData"),
-    ("ber pair 3003020105", "refused Incomplete"),
-    ("ber pair 1000", "refused InvalidConstructedIdentifier"),
+    ("ber pair 3006020105010105", "malformed"),
+    ("ber pair 3009020105010100020106", "malformed"),
+    ("ber pair 3003020105", "malformed"),
+    ("ber pair 1000", "malformed"),
     ("ber octets 24030401A1", "OCTET-STRING 0 0401A1"),
     ("ber octets 24800401A10000", "OCTET-STRING 0 0401A1"),
-    ("ber pair 30800201050101050000", "SEQUENCE 0 30060201050101FF"),
+    ("ber pair 30800201050101050000", "malformed"),
     ("der bool 0101FF", "malformed"),
     ("cer bool 0101FF", "malformed"),
     ("ber null 0500", "malformed"),
@@ -32,9 +32,15 @@ const LINES: [(&str, &str); 71] = [
     ("ber octets 048201", "refused Incomplete"),
     ("ber octets -", "refused Incomplete"),
     ("ber octets 04800000", "refused IndefiniteLengthNotAllowed"),
-    ("ber octets 0489010000000000000000", "refused LengthExceedsPlatformWidth"),
+    (
+        "ber octets 0489010000000000000000",
+        "refused LengthExceedsPlatformWidth",
+    ),
     ("ber octets 0403A1B2C3", "OCTET-STRING 0 0403A1B2C3"),
-    ("ber octets 048180ABABABABABABABABABABABABABABABABABABABABABABABABABABABABABABABABABABABABABABABABABABABABABABABABABABABABABABABABABABABABABABABABABABABABABABABABABABABABABABABABABABABABABABABABABABABABABABABABABABABABABABABABABABABABABABABABABABABABABABABABABABABABABABABAB", "OCTET-STRING 0 048180ABABABABABABABABABABABABABABABABABABABABABABABABABABABABABABABABABABABABABABABABABABABABABABABABABABABABABABABABABABABABABABABABABABABABABABABABABABABABABABABABABABABABABABABABABABABABABABABABABABABABABABABABABABABABABABABABABABABABABABABABABABABABABABABAB"),
+    (
+        "ber octets 048180ABABABABABABABABABABABABABABABABABABABABABABABABABABABABABABABABABABABABABABABABABABABABABABABABABABABABABABABABABABABABABABABABABABABABABABABABABABABABABABABABABABABABABABABABABABABABABABABABABABABABABABABABABABABABABABABABABABABABABABABABABABABABABABABAB",
+        "OCTET-STRING 0 048180ABABABABABABABABABABABABABABABABABABABABABABABABABABABABABABABABABABABABABABABABABABABABABABABABABABABABABABABABABABABABABABABABABABABABABABABABABABABABABABABABABABABABABABABABABABABABABABABABABABABABABABABABABABABABABABABABABABABABABABABABABABABABABABABAB",
+    ),
     ("ber bool 1", "malformed"),
     ("BER bool 0101FF", "malformed"),
     ("ber Bool 0101FF", "malformed"),
@@ -51,7 +57,10 @@ const LINES: [(&str, &str); 71] = [
     ("ber bool 0101ff", "BOOLEAN 0 0101FF"),
     ("ber octets 0401aB", "OCTET-STRING 0 0401AB"),
     ("ber octets 040141", "OCTET-STRING 0 040141"),
-    ("ber octets 04FE000000000000000000000000000000000000000000000000000000000000000000000000000000000000000000000000000000000000000000000000000000000000000000000000000000000000000000000000000000000000000000000000000000000000000000000000000000000000000000000000000000000001A1", "OCTET-STRING 0 0401A1"),
+    (
+        "ber octets 04FE000000000000000000000000000000000000000000000000000000000000000000000000000000000000000000000000000000000000000000000000000000000000000000000000000000000000000000000000000000000000000000000000000000000000000000000000000000000000000000000000000000000001A1",
+        "OCTET-STRING 0 0401A1",
+    ),
     ("ber octets 0488FFFFFFFFFFFFFFFF", "refused Incomplete"),
     ("ber bool 1F800101FF", "BOOLEAN 0 0101FF"),
     ("ber bool 1F0001FF", "refused UnexpectedEndOfContents"),
@@ -59,18 +68,28 @@ const LINES: [(&str, &str); 71] = [
     ("ber bool 01020000", "refused MismatchedLength"),
     ("ber bool 21800000", "refused IndefiniteLengthNotAllowed"),
     ("ber octets 24050402A1B205", "refused MismatchedTag"),
-    ("ber pair 3080010101", "refused MismatchedTag"),
-    ("ber pair 3003010101", "refused MismatchedTag"),
     ("ber bool 018101FF", "BOOLEAN 0 0101FF"),
     ("ber bool 1F0101FF", "BOOLEAN 0 0101FF"),
     ("ber bool 2101FF", "BOOLEAN 0 0101FF"),
     ("ber i32 02020005", "INTEGER 0 020105"),
-    ("ber octets 24800401A124030401B224800401C300000000", "OCTET-STRING 0 0403A1B2C3"),
+    (
+        "ber octets 24800401A124030401B224800401C300000000",
+        "OCTET-STRING 0 0403A1B2C3",
+    ),
     ("ber octets 24050401A10000", "refused UnexpectedExtraData"),
-    ("ber octets 240A04040102030404020506", "OCTET-STRING 0 0406010203040506"),
-    ("ber octets 2480040401020304040205060000", "OCTET-STRING 0 0406010203040506"),
+    (
+        "ber octets 240A04040102030404020506",
+        "OCTET-STRING 0 0406010203040506",
+    ),
+    (
+        "ber octets 2480040401020304040205060000",
+        "OCTET-STRING 0 0406010203040506",
+    ),
     ("ber octets 24030C01A1", "refused MismatchedTag"),
-    ("ber octets 240F0401A124030401B224800401C30000", "OCTET-STRING 0 0403A1B2C3"),
+    (
+        "ber octets 240F0401A124030401B224800401C30000",
+        "OCTET-STRING 0 0403A1B2C3",
+    ),
     ("ber bool 018102F0F0", "refused MismatchedLength"),
     ("ber i32 0203008000", "INTEGER 0 0203008000"),
     ("ber i32 0203FF7FFF", "INTEGER 0 0203FF7FFF"),
@@ -95,10 +114,18 @@ fn lines_end_by_line_feeds(rt: HostRuntime) -> Result<(), Fail> {
     for (input, answers, status) in [
         ("", "", true),
         ("\n\n", "", true),
-        ("ber bool 010100\n\nber u32 020107", "BOOLEAN 0 010100\nINTEGER 0 020107\n", true),
+        (
+            "ber bool 010100\n\nber u32 020107",
+            "BOOLEAN 0 010100\nINTEGER 0 020107\n",
+            true,
+        ),
         ("ber bool 010100\n", "BOOLEAN 0 010100\n", true),
         ("ber bool 010100\r\n", "malformed\n", false),
-        ("\r\nber bool 010100", "malformed\nBOOLEAN 0 010100\n", false),
+        (
+            "\r\nber bool 010100",
+            "malformed\nBOOLEAN 0 010100\n",
+            false,
+        ),
     ] {
         let mut output = Vec::new(rt.alloc());
         let well_formed = run(rt.alloc(), &mut input.as_bytes(), &mut output)?;

@@ -8,7 +8,11 @@ use std::alloc::{AllocError, Global};
 use std::test::Fail;
 
 /// The kind of a refused read as text, and what it has consumed; the text `read` where a value is read.
-fn outcome<T: Decode>(alloc: Global, input: &[u8], options: DecoderOptions) -> Result<(String, usize), AllocError> {
+fn outcome<T: Decode>(
+    alloc: Global,
+    input: &[u8],
+    options: DecoderOptions,
+) -> Result<(String, usize), AllocError> {
     let mut decoder = Decoder::new(alloc, input, options);
     let text = match T::decode(&mut decoder) {
         Ok(_) => String::from_str(alloc, "read")?,
@@ -63,16 +67,43 @@ fn integers_of_any_padding(rt: HostRuntime) -> Result<(), Fail> {
 #[test]
 fn framing_refusals_consume_nothing(rt: HostRuntime) -> Result<(), Fail> {
     for (input, text) in [
-        ([0x04, 0x05, 0x01, 0x02].as_slice(), "Incomplete { needed: Size(3) }"),
-        ([0x04, 0x82, 0x01].as_slice(), "Incomplete { needed: Size(1) }"),
+        (
+            [0x04, 0x05, 0x01, 0x02].as_slice(),
+            "Incomplete { needed: Size(3) }",
+        ),
+        (
+            [0x04, 0x82, 0x01].as_slice(),
+            "Incomplete { needed: Size(1) }",
+        ),
         ([].as_slice(), "Incomplete { needed: Size(1) }"),
-        ([0x04, 0xFF].as_slice(), "CodecSpecific { inner: Ber(ReservedLengthOctet) }"),
-        ([0x04, 0x80, 0x00, 0x00].as_slice(), "CodecSpecific { inner: Ber(IndefiniteLengthNotAllowed) }"),
-        ([0x04, 0x89, 0x01, 0, 0, 0, 0, 0, 0, 0, 0].as_slice(), "LengthExceedsPlatformWidth"),
-        ([0x04, 0x88, 0xFF, 0xFF, 0xFF, 0xFF, 0xFF, 0xFF, 0xFF, 0xFF].as_slice(), "Incomplete { needed: Size(18446744073709551615) }"),
-        ([0x24, 0x05, 0x04, 0x01, 0xA1, 0x00, 0x00].as_slice(), "UnexpectedExtraData { length: 2 }"),
-        ([0x1F, 0x00, 0x01, 0xFF].as_slice(), "CodecSpecific { inner: Ber(UnexpectedEndOfContents) }"),
-        ([0x1F, 0x90, 0x80, 0x80, 0x80, 0x00].as_slice(), "CodecSpecific { inner: Ber(UnsupportedTagNumber) }"),
+        (
+            [0x04, 0xFF].as_slice(),
+            "CodecSpecific { inner: Ber(ReservedLengthOctet) }",
+        ),
+        (
+            [0x04, 0x80, 0x00, 0x00].as_slice(),
+            "CodecSpecific { inner: Ber(IndefiniteLengthNotAllowed) }",
+        ),
+        (
+            [0x04, 0x89, 0x01, 0, 0, 0, 0, 0, 0, 0, 0].as_slice(),
+            "LengthExceedsPlatformWidth",
+        ),
+        (
+            [0x04, 0x88, 0xFF, 0xFF, 0xFF, 0xFF, 0xFF, 0xFF, 0xFF, 0xFF].as_slice(),
+            "Incomplete { needed: Size(18446744073709551615) }",
+        ),
+        (
+            [0x24, 0x05, 0x04, 0x01, 0xA1, 0x00, 0x00].as_slice(),
+            "UnexpectedExtraData { length: 2 }",
+        ),
+        (
+            [0x1F, 0x00, 0x01, 0xFF].as_slice(),
+            "CodecSpecific { inner: Ber(UnexpectedEndOfContents) }",
+        ),
+        (
+            [0x1F, 0x90, 0x80, 0x80, 0x80, 0x00].as_slice(),
+            "CodecSpecific { inner: Ber(UnsupportedTagNumber) }",
+        ),
     ] {
         let (found, consumed) = outcome::<OctetString>(rt.alloc(), input, DecoderOptions::ber())?;
         assert_eq!(rt; found.as_str(), text);
@@ -83,13 +114,23 @@ fn framing_refusals_consume_nothing(rt: HostRuntime) -> Result<(), Fail> {
 
 #[test]
 fn contents_refusals_consume_the_value(rt: HostRuntime) -> Result<(), Fail> {
-    let (text, consumed) = outcome::<bool>(rt.alloc(), &[0x01, 0x02, 0x00, 0x00], DecoderOptions::ber())?;
-    assert_eq!(rt; text.as_str(), "MismatchedLength { expected: 1, actual: 2 }");
+    let (text, consumed) = outcome::<bool>(
+        rt.alloc(),
+        &[0x01, 0x02, 0x00, 0x00],
+        DecoderOptions::ber(),
+    )?;
+    assert_eq!(rt;
+        text.as_str(),
+        "MismatchedLength { expected: 1, actual: 2 }"
+    );
     assert_eq!(rt; consumed, 4);
     let input = [0x21, 0x80, 0x00, 0x00];
     for (options, header) in [(DecoderOptions::ber(), 2), (DecoderOptions::der(), 0)] {
         let (text, consumed) = outcome::<bool>(rt.alloc(), &input, options)?;
-        assert_eq!(rt; text.as_str(), "CodecSpecific { inner: Ber(IndefiniteLengthNotAllowed) }");
+        assert_eq!(rt;
+            text.as_str(),
+            "CodecSpecific { inner: Ber(IndefiniteLengthNotAllowed) }"
+        );
         assert_eq!(rt; consumed, header);
     }
     Ok(())
@@ -98,7 +139,11 @@ fn contents_refusals_consume_the_value(rt: HostRuntime) -> Result<(), Fail> {
 #[test]
 fn tags_are_looked_at(rt: HostRuntime) -> Result<(), Fail> {
     for (input, class, value) in [
-        ([0x1F, 0x8F, 0xFF, 0xFF, 0xFF, 0x7F].as_slice(), Class::Universal, 4294967295),
+        (
+            [0x1F, 0x8F, 0xFF, 0xFF, 0xFF, 0x7F].as_slice(),
+            Class::Universal,
+            4294967295,
+        ),
         ([0xFF, 0x83, 0x7F].as_slice(), Class::Private, 511),
     ] {
         let decoder = Decoder::new(rt.alloc(), input, DecoderOptions::ber());
@@ -112,16 +157,23 @@ fn tags_are_looked_at(rt: HostRuntime) -> Result<(), Fail> {
 #[test]
 fn strings_are_gathered_from_segments(rt: HostRuntime) -> Result<(), Fail> {
     let input = [
-        0x24, 0x80, 0x04, 0x01, 0xA1, 0x24, 0x03, 0x04, 0x01, 0xB2, 0x24, 0x80, 0x04, 0x01, 0xC3, 0x00, 0x00, 0x00, 0x00,
+        0x24, 0x80, 0x04, 0x01, 0xA1, 0x24, 0x03, 0x04, 0x01, 0xB2, 0x24, 0x80, 0x04, 0x01, 0xC3,
+        0x00, 0x00, 0x00, 0x00,
     ];
     let string = ber::decode::<OctetString>(rt.alloc(), &input)?;
     assert_eq!(rt; string.as_octets(), [0xA1, 0xB2, 0xC3].as_slice());
     let (text, consumed) = outcome::<OctetString>(rt.alloc(), &input, DecoderOptions::der())?;
-    assert_eq!(rt; text.as_str(), "CodecSpecific { inner: Ber(IndefiniteLengthNotAllowed) }");
+    assert_eq!(rt;
+        text.as_str(),
+        "CodecSpecific { inner: Ber(IndefiniteLengthNotAllowed) }"
+    );
     assert_eq!(rt; consumed, 0);
     let input = [0x24, 0x03, 0x04, 0x01, 0xA1];
     let (text, _) = outcome::<OctetString>(rt.alloc(), &input, DecoderOptions::der())?;
-    assert_eq!(rt; text.as_str(), "CodecSpecific { inner: Der(ConstructedEncodingNotAllowed) }");
+    assert_eq!(rt;
+        text.as_str(),
+        "CodecSpecific { inner: Der(ConstructedEncodingNotAllowed) }"
+    );
     let string = ber::decode::<OctetString>(rt.alloc(), &[0x04, 0x81, 0x02, 0xA1, 0xB2])?;
     assert_eq!(rt; string.as_octets(), [0xA1, 0xB2].as_slice());
     Ok(())

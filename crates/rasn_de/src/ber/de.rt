@@ -10,7 +10,9 @@ ghost use Rattle.rasn_types.specs.declared.types.tag.Tag.{Tag};
 ghost use Rattle.rasn_types.specs.Errors.{IsMemory};
 
 use crate::ber::de::parser::{Fault, Value, read_identifier, read_value};
-use rasn_types::error::{BerDecodeErrorKind, CodecDecodeError, DecodeError, DecodeErrorKind, DerDecodeErrorKind, Needed};
+use rasn_types::error::{
+    BerDecodeErrorKind, CodecDecodeError, DecodeError, DecodeErrorKind, DerDecodeErrorKind, Needed,
+};
 use rasn_types::types::{Codec, Tag};
 use std::alloc::Global;
 use std::marker::Model;
@@ -63,30 +65,54 @@ fn kind_of(fault: Fault) -> DecodeErrorKind
     ensures { result ≡ kind_of fault }
 {
     let inner = match fault {
-        Fault::Incomplete { needed } => return DecodeErrorKind::Incomplete { needed: Needed::new(needed) },
-        Fault::UnexpectedExtraData { length } => return DecodeErrorKind::UnexpectedExtraData { length },
+        Fault::Incomplete { needed } => return DecodeErrorKind::Incomplete {
+            needed: Needed::new(needed),
+        },
+        Fault::UnexpectedExtraData { length } => return DecodeErrorKind::UnexpectedExtraData {
+            length,
+        },
         Fault::UnexpectedEmptyInput => return DecodeErrorKind::UnexpectedEmptyInput,
         Fault::ExceedsMaxParseDepth => return DecodeErrorKind::ExceedsMaxParseDepth,
         Fault::OutOfMemory => return DecodeErrorKind::OutOfMemory,
         Fault::LengthExceedsPlatformWidth => return DecodeErrorKind::LengthExceedsPlatformWidth,
         Fault::InvalidBool { value } => return DecodeErrorKind::InvalidBool { value },
-        Fault::MismatchedLength { expected, actual } => return DecodeErrorKind::MismatchedLength { expected, actual },
-        Fault::IntegerOverflow { max_width } => return DecodeErrorKind::IntegerOverflow { max_width },
+        Fault::MismatchedLength { expected, actual } => return DecodeErrorKind::MismatchedLength {
+            expected,
+            actual,
+        },
+        Fault::IntegerOverflow { max_width } => return DecodeErrorKind::IntegerOverflow {
+            max_width,
+        },
         Fault::SizeConstraintNotSatisfied { size, expected } => {
-            return DecodeErrorKind::SizeConstraintNotSatisfied { size: Some(size), expected };
+            return DecodeErrorKind::SizeConstraintNotSatisfied {
+                size: Some(size),
+                expected,
+            };
         }
         Fault::ConstructedEncodingNotAllowed => {
             CodecDecodeError::Der(DerDecodeErrorKind::ConstructedEncodingNotAllowed)
         }
-        Fault::UnsupportedTagNumber => CodecDecodeError::Ber(BerDecodeErrorKind::UnsupportedTagNumber),
-        Fault::UnexpectedEndOfContents => CodecDecodeError::Ber(BerDecodeErrorKind::UnexpectedEndOfContents),
-        Fault::MissingEndOfContents => CodecDecodeError::Ber(BerDecodeErrorKind::MissingEndOfContents),
-        Fault::IndefiniteLengthNotAllowed => CodecDecodeError::Ber(BerDecodeErrorKind::IndefiniteLengthNotAllowed),
-        Fault::ReservedLengthOctet => CodecDecodeError::Ber(BerDecodeErrorKind::ReservedLengthOctet),
+        Fault::UnsupportedTagNumber => CodecDecodeError::Ber(
+            BerDecodeErrorKind::UnsupportedTagNumber,
+        ),
+        Fault::UnexpectedEndOfContents => CodecDecodeError::Ber(
+            BerDecodeErrorKind::UnexpectedEndOfContents,
+        ),
+        Fault::MissingEndOfContents => CodecDecodeError::Ber(
+            BerDecodeErrorKind::MissingEndOfContents,
+        ),
+        Fault::IndefiniteLengthNotAllowed => CodecDecodeError::Ber(
+            BerDecodeErrorKind::IndefiniteLengthNotAllowed,
+        ),
+        Fault::ReservedLengthOctet => CodecDecodeError::Ber(
+            BerDecodeErrorKind::ReservedLengthOctet,
+        ),
         Fault::MismatchedTag { expected, actual } => {
             CodecDecodeError::Ber(BerDecodeErrorKind::MismatchedTag { expected, actual })
         }
-        Fault::InvalidConstructedIdentifier => CodecDecodeError::Ber(BerDecodeErrorKind::InvalidConstructedIdentifier),
+        Fault::InvalidConstructedIdentifier => CodecDecodeError::Ber(
+            BerDecodeErrorKind::InvalidConstructedIdentifier,
+        ),
     };
     DecodeErrorKind::CodecSpecific { inner }
 }
@@ -152,7 +178,10 @@ impl<'input> Decoder<'input> {
     fn error(&self, fault: Fault) -> DecodeError
         ensures { result ≡ record { kind = kind_of fault; codec = self.now.rule } }
     {
-        DecodeError { kind: kind_of(fault), codec: self.rules }
+        DecodeError {
+            kind: kind_of(fault),
+            codec: self.rules,
+        }
     }
 
     /// Goes on at an end of what is left.

@@ -6,18 +6,29 @@ use rasn_types::types::{Constraints, OctetString, Tag};
 
 impl Decode for bool {
     #[tactic(auto, unfolding(rasn_types::specs::Grammar::Reads))]
-    fn decode_with_tag_and_constraints(decoder: &mut Decoder<'_>, tag: Tag, _constraints: &Constraints) -> Result<bool, DecodeError> {
+    fn decode_with_tag_and_constraints(
+        decoder: &mut Decoder<'_>,
+        tag: Tag,
+        _constraints: &Constraints,
+    ) -> Result<bool, DecodeError> {
         decoder.decode_bool(tag)
     }
 }
 
 impl Decode for OctetString {
     #[tactic(auto, unfolding(rasn_types::specs::Grammar::Reads))]
-    fn decode_with_tag_and_constraints(decoder: &mut Decoder<'_>, tag: Tag, constraints: &Constraints) -> Result<OctetString, DecodeError> {
+    fn decode_with_tag_and_constraints(
+        decoder: &mut Decoder<'_>,
+        tag: Tag,
+        constraints: &Constraints,
+    ) -> Result<OctetString, DecodeError> {
         let octets = decoder.decode_octet_string(tag, constraints)?;
         match octets.into_owned(decoder.alloc()) {
             Ok(octets) => Ok(OctetString::from_vec(octets)),
-            Err(_) => Err(DecodeError { kind: DecodeErrorKind::OutOfMemory, codec: decoder.codec() }),
+            Err(_) => Err(DecodeError {
+                kind: DecodeErrorKind::OutOfMemory,
+                codec: decoder.codec(),
+            }),
         }
     }
 }

@@ -10,9 +10,10 @@ mod header;
 mod integers;
 mod leaves;
 mod list;
+#[cfg(test)]
+mod tests;
 
 pub use config::EncoderOptions;
-
 use list::{OpenList, put_constructed, put_primitive};
 use rasn_types::error::{EncodeError, EncodeErrorKind};
 use rasn_types::types::{Codec, Tag};
@@ -98,7 +99,11 @@ impl Encoder {
         ensures err { OnErr result (self.new ≡ self.old) }
         ensures memory { IfErr result (WantsMemory self.old.rule) }
     {
-        let tags = if keeps_tags { Some(Vec::new(self.alloc)) } else { None };
+        let tags = if keeps_tags {
+            Some(Vec::new(self.alloc))
+        } else {
+            None
+        };
         let inner = OpenList {
             octets: Vec::new(self.alloc),
             tags,

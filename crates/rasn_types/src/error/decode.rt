@@ -19,7 +19,11 @@ impl Needed {
     pub fn new(octets: usize) -> Needed
         ensures { result ≡ needed_of octets }
     {
-        if octets == 0 { Needed::Unknown } else { Needed::Size(octets) }
+        if octets == 0 {
+            Needed::Unknown
+        } else {
+            Needed::Size(octets)
+        }
     }
 }
 
@@ -45,10 +49,14 @@ impl DecodeError {
 pub enum DecodeErrorKind {
     /// The input ends within a piece (X.690 8.1).
     #[error("the input ends early: {needed:?}")]
-    Incomplete { needed: Needed },
+    Incomplete {
+        needed: Needed,
+    },
     /// Octets are left where a value or an input has to end.
     #[error("{length} octets are left")]
-    UnexpectedExtraData { length: usize },
+    UnexpectedExtraData {
+        length: usize,
+    },
     /// No octets stand where at least one has to.
     #[error("no octets")]
     UnexpectedEmptyInput,
@@ -66,19 +74,30 @@ pub enum DecodeErrorKind {
     LengthExceedsPlatformWidth,
     /// A BOOLEAN that is neither `00` nor `FF` under canonical rules (X.690 11.1).
     #[error("{value} is no canonical BOOLEAN")]
-    InvalidBool { value: u8 },
+    InvalidBool {
+        value: u8,
+    },
     /// Contents of a fixed length have another one.
     #[error("{actual} octets stand where {expected} have to")]
-    MismatchedLength { expected: usize, actual: usize },
+    MismatchedLength {
+        expected: usize,
+        actual: usize,
+    },
     /// The number needs more than `max_width` bits, or is negative where the type isn't.
     #[error("the number doesn't fit {max_width} bits")]
-    IntegerOverflow { max_width: u32 },
+    IntegerOverflow {
+        max_width: u32,
+    },
     /// The number isn't one of the enumeration's.
     #[error("{discriminant} isn't in the enumeration")]
-    DiscriminantValueNotFound { discriminant: isize },
+    DiscriminantValueNotFound {
+        discriminant: isize,
+    },
     /// The count of unused bits of a BIT STRING is above 7, or above 0 with no octet behind it (X.690 8.6.2).
     #[error("{bits} unused bits")]
-    InvalidBitString { bits: u8 },
+    InvalidBitString {
+        bits: u8,
+    },
     /// The size is out of its bound: of octets, characters, units, bits or elements, as the type counts.
     #[error("a size of {size:?}, not in {expected:?}")]
     SizeConstraintNotSatisfied {
@@ -93,22 +112,35 @@ pub enum DecodeErrorKind {
     },
     /// The first octet that the alphabet doesn't have, at its place counted from 0.
     #[error("octet {octet} at {position} isn't in the alphabet")]
-    PermittedAlphabetError { octet: u8, position: usize },
+    PermittedAlphabetError {
+        octet: u8,
+        position: usize,
+    },
     /// The octets aren't of the string type with this tag.
     #[error("no string of the type {tag:?}")]
-    StringConversionFailed { tag: Tag },
+    StringConversionFailed {
+        tag: Tag,
+    },
     /// No alternative of the CHOICE has the tag.
     #[error("no alternative of {name}")]
-    NoValidChoice { name: &'static str },
+    NoValidChoice {
+        name: &'static str,
+    },
     /// A required part didn't come.
     #[error("{name} is missing")]
-    MissingField { name: &'static str },
+    MissingField {
+        name: &'static str,
+    },
     /// A part came twice.
     #[error("{name} comes twice")]
-    DuplicateField { name: &'static str },
+    DuplicateField {
+        name: &'static str,
+    },
     /// A cause that only these rules have.
     #[error("{inner}")]
-    CodecSpecific { inner: CodecDecodeError },
+    CodecSpecific {
+        inner: CodecDecodeError,
+    },
 }
 
 /// A cause that only some rules have.

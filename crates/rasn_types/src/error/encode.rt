@@ -45,7 +45,9 @@ pub enum EncodeErrorKind {
     OutOfMemory,
     /// A cause that only these rules have.
     #[error("{inner}")]
-    CodecSpecific { inner: CodecEncodeError },
+    CodecSpecific {
+        inner: CodecEncodeError,
+    },
 }
 
 /// A cause that only some rules have.

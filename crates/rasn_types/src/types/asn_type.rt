@@ -38,7 +38,10 @@ impl AsnType for bool {
 
     ghost CONSTRAINTS = { unconstrained };
 
-    const CONSTRAINTS: Constraints = Constraints { value: None, size: None };
+    const CONSTRAINTS: Constraints = Constraints {
+        value: None,
+        size: None,
+    };
 
     ghost shape = { leaf boolean (in_universal 1) unconstrained };
 

@@ -35,11 +35,12 @@ pub trait IntegerType: Drop {
     /// The number that octets in two's complement stand for, where the type has it.
     fn from_octets(alloc: Global, octets: &[u8]) -> Result<Option<Self>, AllocError>
         requires { 0 < length octets.now }
-        ensures ok { IfOk result (λ v. MatchOption v (IsIn range (signed octets.now) → ⊥) (λ n. number n ≡ signed octets.now)) }
+        ensures ok { IfOk result (λ v. MatchOption v (IsIn range (signed octets.now) → ⊥) (λ n. (number n ≡ signed octets.now) × IsIn range (signed octets.now))) }
         ensures memory { IfErr result (λ _. grows ≡ true) };
 
-    /// Puts the number behind the octets, in two's complement and in the fewest octets.
+    /// Puts the number, which the type has, behind the octets, in two's complement and in the fewest octets.
     fn append_octets(&self, octets: &mut Vec<u8>) -> Result<(), AllocError>
         ensures ok { OnOk result ((l : List ℕ) × (octets.new.items ≡ octets.old.items ++ l) × IsShortestOf (number self.now) l) }
+        ensures held { IsIn range (number self.now) }
         ensures err { OnErr result (octets.new.items ≡ octets.old.items) };
 }

@@ -38,7 +38,10 @@ impl AsnType for OctetString {
 
     ghost CONSTRAINTS = { unconstrained };
 
-    const CONSTRAINTS: Constraints = Constraints { value: None, size: None };
+    const CONSTRAINTS: Constraints = Constraints {
+        value: None,
+        size: None,
+    };
 
     ghost shape = { leaf octet_string (in_universal 4) unconstrained };
 

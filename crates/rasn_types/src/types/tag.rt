@@ -19,29 +19,120 @@ pub struct Tag {
 
 impl Tag {
     /// The tag of no value: two octets of it close contents of indefinite length.
-    pub const EOC: Tag = Tag { class: Class::Universal, value: 0 };
-    pub const BOOL: Tag = Tag { class: Class::Universal, value: 1 };
-    pub const INTEGER: Tag = Tag { class: Class::Universal, value: 2 };
-    pub const BIT_STRING: Tag = Tag { class: Class::Universal, value: 3 };
-    pub const OCTET_STRING: Tag = Tag { class: Class::Universal, value: 4 };
-    pub const NULL: Tag = Tag { class: Class::Universal, value: 5 };
-    pub const OBJECT_IDENTIFIER: Tag = Tag { class: Class::Universal, value: 6 };
-    pub const EXTERNAL: Tag = Tag { class: Class::Universal, value: 8 };
-    pub const ENUMERATED: Tag = Tag { class: Class::Universal, value: 10 };
-    pub const UTF8_STRING: Tag = Tag { class: Class::Universal, value: 12 };
-    pub const SEQUENCE: Tag = Tag { class: Class::Universal, value: 16 };
-    pub const SET: Tag = Tag { class: Class::Universal, value: 17 };
-    pub const NUMERIC_STRING: Tag = Tag { class: Class::Universal, value: 18 };
-    pub const PRINTABLE_STRING: Tag = Tag { class: Class::Universal, value: 19 };
-    pub const TELETEX_STRING: Tag = Tag { class: Class::Universal, value: 20 };
-    pub const IA5_STRING: Tag = Tag { class: Class::Universal, value: 22 };
-    pub const UTC_TIME: Tag = Tag { class: Class::Universal, value: 23 };
-    pub const GENERALIZED_TIME: Tag = Tag { class: Class::Universal, value: 24 };
-    pub const GRAPHIC_STRING: Tag = Tag { class: Class::Universal, value: 25 };
-    pub const VISIBLE_STRING: Tag = Tag { class: Class::Universal, value: 26 };
-    pub const GENERAL_STRING: Tag = Tag { class: Class::Universal, value: 27 };
-    pub const BMP_STRING: Tag = Tag { class: Class::Universal, value: 30 };
-    pub const DATE: Tag = Tag { class: Class::Universal, value: 31 };
+    pub const EOC: Tag = Tag {
+        class: Class::Universal,
+        value: 0,
+    };
+
+    pub const BOOL: Tag = Tag {
+        class: Class::Universal,
+        value: 1,
+    };
+
+    pub const INTEGER: Tag = Tag {
+        class: Class::Universal,
+        value: 2,
+    };
+
+    pub const BIT_STRING: Tag = Tag {
+        class: Class::Universal,
+        value: 3,
+    };
+
+    pub const OCTET_STRING: Tag = Tag {
+        class: Class::Universal,
+        value: 4,
+    };
+
+    pub const NULL: Tag = Tag {
+        class: Class::Universal,
+        value: 5,
+    };
+
+    pub const OBJECT_IDENTIFIER: Tag = Tag {
+        class: Class::Universal,
+        value: 6,
+    };
+
+    pub const EXTERNAL: Tag = Tag {
+        class: Class::Universal,
+        value: 8,
+    };
+
+    pub const ENUMERATED: Tag = Tag {
+        class: Class::Universal,
+        value: 10,
+    };
+
+    pub const UTF8_STRING: Tag = Tag {
+        class: Class::Universal,
+        value: 12,
+    };
+
+    pub const SEQUENCE: Tag = Tag {
+        class: Class::Universal,
+        value: 16,
+    };
+
+    pub const SET: Tag = Tag {
+        class: Class::Universal,
+        value: 17,
+    };
+
+    pub const NUMERIC_STRING: Tag = Tag {
+        class: Class::Universal,
+        value: 18,
+    };
+
+    pub const PRINTABLE_STRING: Tag = Tag {
+        class: Class::Universal,
+        value: 19,
+    };
+
+    pub const TELETEX_STRING: Tag = Tag {
+        class: Class::Universal,
+        value: 20,
+    };
+
+    pub const IA5_STRING: Tag = Tag {
+        class: Class::Universal,
+        value: 22,
+    };
+
+    pub const UTC_TIME: Tag = Tag {
+        class: Class::Universal,
+        value: 23,
+    };
+
+    pub const GENERALIZED_TIME: Tag = Tag {
+        class: Class::Universal,
+        value: 24,
+    };
+
+    pub const GRAPHIC_STRING: Tag = Tag {
+        class: Class::Universal,
+        value: 25,
+    };
+
+    pub const VISIBLE_STRING: Tag = Tag {
+        class: Class::Universal,
+        value: 26,
+    };
+
+    pub const GENERAL_STRING: Tag = Tag {
+        class: Class::Universal,
+        value: 27,
+    };
+
+    pub const BMP_STRING: Tag = Tag {
+        class: Class::Universal,
+        value: 30,
+    };
+
+    pub const DATE: Tag = Tag {
+        class: Class::Universal,
+        value: 31,
+    };
 
     /// The tag of a class with a number.
     pub fn new(class: Class, value: u32) -> Tag
@@ -54,6 +145,9 @@ impl Tag {
     pub fn set_value(self, value: u32) -> Tag
         ensures { result ≡ record { class = self.class; value = value } }
     {
-        Tag { class: self.class, value }
+        Tag {
+            class: self.class,
+            value,
+        }
     }
 }

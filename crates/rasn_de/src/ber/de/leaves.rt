@@ -29,7 +29,10 @@ fn read_bool(rules: Codec, contents: &[u8]) -> Result<bool, Fault>
             Codec::Ber => Ok(true),
             Codec::Cer | Codec::Der => Err(Fault::InvalidBool { value: *value }),
         },
-        _ => Err(Fault::MismatchedLength { expected: 1, actual: contents.len() }),
+        _ => Err(Fault::MismatchedLength {
+            expected: 1,
+            actual: contents.len(),
+        }),
     }
 }
 
@@ -78,7 +81,11 @@ impl<'input> Decoder<'input> {
     ///
     /// # Errors
     /// Framing faults; faults of a segment, which take nothing (X.690 8.7.3); `SizeConstraintNotSatisfied`, which takes the value.
-    pub fn decode_octet_string(&mut self, tag: Tag, constraints: &Constraints) -> Result<CowSlice<'input, u8>, DecodeError>
+    pub fn decode_octet_string(
+        &mut self,
+        tag: Tag,
+        constraints: &Constraints,
+    ) -> Result<CowSlice<'input, u8>, DecodeError>
         ensures reads { Decodes (leaf octet_string tag constraints.now) cow_tree self.old result self.new }
         ensures refused { GaveOctets tag constraints.now self.old result self.new }
     {
@@ -96,7 +103,11 @@ impl<'input> Decoder<'input> {
     ///
     /// # Errors
     /// Framing faults. With the value taken: `UnexpectedEmptyInput`, `IntegerOverflow`, then `ValueConstraintNotSatisfied`.
-    pub fn decode_integer<I: IntegerType>(&mut self, tag: Tag, constraints: &Constraints) -> Result<I, DecodeError>
+    pub fn decode_integer<I: IntegerType>(
+        &mut self,
+        tag: Tag,
+        constraints: &Constraints,
+    ) -> Result<I, DecodeError>
         ensures reads { Decodes (leaf (integer I.range) tag constraints.now) (λ v. number (I.number v)) self.old result self.new }
         ensures refused { GaveInteger I.number (I.grows ≡ true) tag (IntegerAt I.WIDTH I.range constraints.now self.old.rule tag self.old.rest) self.old result self.new }
     {
@@ -112,7 +123,9 @@ impl<'input> Decoder<'input> {
                     Err(self.out_of_bound(contents, constraints.value_bounds()))
                 }
             }
-            Ok(None) => Err(self.error(Fault::IntegerOverflow { max_width: I::WIDTH })),
+            Ok(None) => Err(self.error(Fault::IntegerOverflow {
+                max_width: I::WIDTH,
+            })),
             Err(_) => Err(self.error(Fault::OutOfMemory)),
         }
     }

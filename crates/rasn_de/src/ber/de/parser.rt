@@ -12,22 +12,39 @@ pub mod strings;
 /// Why a read is refused, as far as a refusal holds nothing in memory.
 #[derive(Clone, Copy, Debug)]
 pub enum Fault {
-    Incomplete { needed: usize },
-    UnexpectedExtraData { length: usize },
+    Incomplete {
+        needed: usize,
+    },
+    UnexpectedExtraData {
+        length: usize,
+    },
     UnexpectedEmptyInput,
     ExceedsMaxParseDepth,
     OutOfMemory,
     LengthExceedsPlatformWidth,
-    InvalidBool { value: u8 },
-    MismatchedLength { expected: usize, actual: usize },
-    IntegerOverflow { max_width: u32 },
-    SizeConstraintNotSatisfied { size: usize, expected: Bounded<usize> },
+    InvalidBool {
+        value: u8,
+    },
+    MismatchedLength {
+        expected: usize,
+        actual: usize,
+    },
+    IntegerOverflow {
+        max_width: u32,
+    },
+    SizeConstraintNotSatisfied {
+        size: usize,
+        expected: Bounded<usize>,
+    },
     UnsupportedTagNumber,
     UnexpectedEndOfContents,
     MissingEndOfContents,
     IndefiniteLengthNotAllowed,
     ReservedLengthOctet,
-    MismatchedTag { expected: Tag, actual: Tag },
+    MismatchedTag {
+        expected: Tag,
+        actual: Tag,
+    },
     InvalidConstructedIdentifier,
     ConstructedEncodingNotAllowed,
 }
@@ -254,4 +271,3 @@ pub fn read_value(
     let (length, rest) = read_length(identifier.is_constructed && allows_indefinite(rule), rest)?;
     read_contents(identifier, length, rest)
 }
-

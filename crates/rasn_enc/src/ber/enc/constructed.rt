@@ -19,12 +19,7 @@ impl Encoder {
         const EC: usize,
         C: Constructed<RC, EC>,
         F: FnOnce(&mut Encoder) -> Result<(), EncodeError>,
-    >(
-        &mut self,
-        tag: Tag,
-        parts: F,
-        _identifier: Identifier,
-    ) -> Result<(), EncodeError>
+    >(&mut self, tag: Tag, parts: F, _identifier: Identifier) -> Result<(), EncodeError>
         requires callable { FnOnceTakesAtMut F.FnOnce parts (opened self.old false) }
         requires keeps { WritesInside F.FnOnce parts (opened self.old false) }
         ensures ok { OnOk result (Encloses F.FnOnce parts false tag self.old self.new) }
@@ -43,7 +38,10 @@ impl Encoder {
 }
 
 // The call of a closure that writes.
-fn run<F: FnOnce(&mut Encoder) -> Result<(), EncodeError>>(encoder: &mut Encoder, parts: F) -> Result<(), EncodeError>
+fn run<F: FnOnce(&mut Encoder) -> Result<(), EncodeError>>(
+    encoder: &mut Encoder,
+    parts: F,
+) -> Result<(), EncodeError>
     requires { FnOnceTakesAtMut F.FnOnce parts encoder.old }
     ensures { FnOnceReturnsAtMut F.FnOnce parts encoder.old result encoder.new }
 {

@@ -14,7 +14,11 @@ pub fn identifier_len(tag: Tag) -> usize
     ensures exact { (bit : Bool) → length (id_octets tag bit) ≡ result }
     ensures small { result < 7 }
 {
-    if tag.value < 31 { 1 } else { 1 + count_groups(tag.value) }
+    if tag.value < 31 {
+        1
+    } else {
+        1 + count_groups(tag.value)
+    }
 }
 
 /// How many octets a length takes in the definite form.
@@ -22,7 +26,11 @@ pub fn length_len(count: usize) -> usize
     ensures exact { length (length_octets count) ≡ result }
     ensures small { result < 10 }
 {
-    if count < 128 { 1 } else { 1 + count_octets(count) }
+    if count < 128 {
+        1
+    } else {
+        1 + count_octets(count)
+    }
 }
 
 /// Writes the identifier of a tag (X.690 8.1.2).

@@ -24,7 +24,12 @@ impl Encoder {
     ///
     /// # Errors
     /// `OutOfMemory` alone.
-    pub fn encode_bool(&mut self, tag: Tag, value: bool, _identifier: Identifier) -> Result<(), EncodeError>
+    pub fn encode_bool(
+        &mut self,
+        tag: Tag,
+        value: bool,
+        _identifier: Identifier,
+    ) -> Result<(), EncodeError>
         ensures ok { (c : Constraints) → OnOk result (Wrote (leaf boolean tag c) (bool_tree value) self.old self.new) }
         ensures err { OnErr result (self.new ≡ self.old) }
         ensures refused { IfErr result (WantsMemory self.old.rule) }

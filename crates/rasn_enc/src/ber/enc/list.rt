@@ -59,7 +59,12 @@ pub fn put_primitive(list: &mut OpenList, tag: Tag, contents: &[u8]) -> Result<(
 }
 
 /// Puts a constructed value behind the list: of indefinite length under the canonical rules (X.690 9.1).
-pub fn put_constructed(list: &mut OpenList, rule: Codec, tag: Tag, contents: &[u8]) -> Result<(), AllocError>
+pub fn put_constructed(
+    list: &mut OpenList,
+    rule: Codec,
+    tag: Tag,
+    contents: &[u8],
+) -> Result<(), AllocError>
     ensures ok { OnOk result (Adds (Cons rule tag contents.now) tag (frame_of list.old) (frame_of list.new)) }
     ensures err { OnErr result (frame_of list.new ≡ frame_of list.old) }
 {
@@ -79,7 +84,12 @@ fn is_always_constructed(tag: Tag) -> bool
 }
 
 // Puts a value behind the list, in the definite form (X.690 8.1.3.3).
-fn put_definite(list: &mut OpenList, tag: Tag, constructed: bool, contents: &[u8]) -> Result<(), AllocError>
+fn put_definite(
+    list: &mut OpenList,
+    tag: Tag,
+    constructed: bool,
+    contents: &[u8],
+) -> Result<(), AllocError>
     ensures ok { OnOk result (Adds (Definite tag constructed contents.now) tag (frame_of list.old) (frame_of list.new)) }
     ensures err { OnErr result (frame_of list.new ≡ frame_of list.old) }
 {

@@ -53,7 +53,11 @@ pub fn end_of_contents(input: &[u8]) -> Result<&[u8], Fault>
 }
 
 /// What follows a value whose segments were read up to what is left.
-fn finish<'a>(contents: Contents<'a>, rest: &'a [u8], left: &'a [u8]) -> Result<&'a [u8], Fault>
+pub(crate) fn finish<'a>(
+    contents: Contents<'a>,
+    rest: &'a [u8],
+    left: &'a [u8],
+) -> Result<&'a [u8], Fault>
     ensures { Gives (λ r. r.now) result (finished (extent contents.entry) rest.now left.now) }
 {
     match contents {
@@ -68,7 +72,7 @@ fn finish<'a>(contents: Contents<'a>, rest: &'a [u8], left: &'a [u8]) -> Result<
     }
 }
 
-fn held<'a>(contents: Contents<'a>, rest: &'a [u8]) -> &'a [u8]
+pub(crate) fn held<'a>(contents: Contents<'a>, rest: &'a [u8]) -> &'a [u8]
     ensures { result.now ≡ inner (extent contents.entry) rest.now }
 {
     match contents {
@@ -146,7 +150,6 @@ pub fn string_contents<'a, T: Segmented>(
     }
     finish(value.contents, rest, left)
 }
-
 
 /// The octets of a string with a tag of its own, and what follows it. They are borrowed where they stand in one segment.
 pub fn read_octets(

@@ -36,7 +36,7 @@ pub returns-in_err-contents-clause-memory : goal.returns-in_err-contents-clause-
 returns-in_err-contents-clause-memory c =
     let p = err_from_is_err_and c.from_residual.result c.from_residual.ensures.1 in
     rw (p.1, p.2) (leaf_plain (reads_bool c.args.self.now.rule) (bool_plain c.args.self.now.rule) c.args.tag c.args.self.now _ _
-      (leaf_refused (reads_bool c.args.self.now.rule) c.args.tag c.args.self.now _ _ c.in_err-contents.ensures.gave))
+    (leaf_refused (reads_bool c.args.self.now.rule) c.args.tag c.args.self.now _ _ c.in_err-contents.ensures.gave))
 
 pub returns-in-Err-clause-memory : goal.returns-in-Err-clause-memory
 returns-in-Err-clause-memory c = leaf_plain (reads_bool c.args.self.now.rule) (bool_plain c.args.self.now.rule) c.args.tag c.args.self.now _ _ (returns-in-Err-clause-refused c)

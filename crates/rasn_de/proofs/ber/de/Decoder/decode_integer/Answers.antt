@@ -40,7 +40,7 @@ returns-else-admits_number-clause-refused g c =
     let t = c.in_ok-contents.ensures.gave in
     let k = match_some c.in-Ok-Some.field-0 c.in-Ok-Some.value _ _ c.in-Ok-Some.ensures.ok c.in-Ok-Some.field-0-is in
     inr (bound_refused g.I.IntegerType.WIDTH g.I.IntegerType.range c.args.constraints.now c.args.tag c.args.self.now _ _ _ t.0 t.1 (not_empty _ c.if-is_empty.ensures) k.1 c.if-admits_number.ensures
-      (rw (← c.value_bounds.ensures) c.out_of_bound.ensures))
+    (rw (← c.value_bounds.ensures) c.out_of_bound.ensures))
 
 pub returns-else-admits_number-clause-reads : goal.returns-else-admits_number-clause-reads
 returns-else-admits_number-clause-reads g c =

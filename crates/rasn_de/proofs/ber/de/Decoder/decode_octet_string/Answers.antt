@@ -14,7 +14,7 @@ returns-in_err-octets-clause-reads c = octets_decodes c.args.tag c.args.constrai
 pub returns-then-admits_size-clause-reads : goal.returns-then-admits_size-clause-reads
 returns-then-admits_size-clause-reads c =
     octets_decodes c.args.tag c.args.constraints.now c.args.self.now _ (Ok c.in_ok-octets.octets) c.octets.ensures.octets
-      (gathers_admitted c.args.tag c.args.constraints.now c.args.self.now _ c.in_ok-octets.octets c.in_ok-octets.ensures.gathers (rw (← c.len-size.ensures) c.if-admits_size.ensures))
+    (gathers_admitted c.args.tag c.args.constraints.now c.args.self.now _ c.in_ok-octets.octets c.in_ok-octets.ensures.gathers (rw (← c.len-size.ensures) c.if-admits_size.ensures))
 
 pub returns-clause-refused : goal.returns-clause-refused
 returns-clause-refused c =

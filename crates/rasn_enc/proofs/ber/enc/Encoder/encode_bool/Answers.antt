@@ -5,5 +5,5 @@ use Rattle.rasn_enc.proofs.ber.enc.Encoder.encode_bool.Goals.{then-value, else-v
 
 pub returns-clause-ok : goal.returns-clause-ok
 returns-clause-ok c =
-  let e : c.if-value.octet ≡ cond c.args.value 255 0 = elim c.if-value.branch [ then-value w ↦ rw w.if-value.true w.octet-is | else-value w ↦ rw w.if-value.false w.octet-is ] in
-  bool_wrote _ c.args.tag c.args.value _ _ _ (ap (λ z. z ∷ []) e) c.leaf.ensures.ok
+    let e : c.if-value.octet ≡ cond c.args.value 255 0 = elim c.if-value.branch [ then-value w ↦ rw w.if-value.true w.octet-is | else-value w ↦ rw w.if-value.false w.octet-is ] in
+    bool_wrote _ c.args.tag c.args.value _ _ _ (ap (λ z. z ∷ []) e) c.leaf.ensures.ok

@@ -5,7 +5,7 @@ use Rattle.rasn_enc.proofs.ber.enc.Encoder.write_segments.Given as goal
 abbrev pub invariant-loop-rest : goal.invariant-loop-rest
 invariant-loop-rest l = record {
   some : 0 < length l.rest;
-  so_far : SegmentsSoFar l.value l.rest l.fn.self l.self
+  so_far : SegmentsSoFar l.value l.rest l.fn.self l.self;
 }
 
 abbrev pub decreases-loop-rest : goal.decreases-loop-rest

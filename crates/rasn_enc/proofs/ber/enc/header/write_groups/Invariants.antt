@@ -8,7 +8,7 @@ invariant-loop-left l = record {
   few : l.left < 6;
   room : vec_len l.out + l.left ≤ vec_capacity l.out;
   capacity : vec_capacity l.out ≡ vec_capacity l.fn.out;
-  written : l.out.items ++ chained (digits 128 l.left l.number) ≡ l.fn.out.items ++ chained (digits 128 (group_count l.number) l.number)
+  written : l.out.items ++ chained (digits 128 l.left l.number) ≡ l.fn.out.items ++ chained (digits 128 (group_count l.number) l.number);
 }
 
 abbrev pub decreases-loop-left : goal.decreases-loop-left

@@ -16,4 +16,4 @@ returns-then-tag-lt31-clause-items c = put_one _ _ _ _ _ c.push_reserved.ensures
 
 pub returns-else-tag-lt31-clause-items : goal.returns-else-tag-lt31-clause-items
 returns-else-tag-lt31-clause-items c = put_more _ _ _ _ _ _ _ c.push_reserved-else-tag-lt31.ensures.items c.leading_octet-else-tag-lt31.ensures
-  c.write_groups.ensures.items (id_high c.args.tag c.args.constructed c.if-tag-lt31.false)
+    c.write_groups.ensures.items (id_high c.args.tag c.args.constructed c.if-tag-lt31.false)

@@ -16,4 +16,4 @@ returns-then-count-lt128-clause-items c = put_one _ _ _ _ _ c.push_reserved.ensu
 
 pub returns-else-count-lt128-clause-items : goal.returns-else-count-lt128-clause-items
 returns-else-count-lt128-clause-items c = put_more _ _ _ _ _ _ _ c.push_reserved-else-count-lt128.ensures.items (ap (λ z. 128 + z) c.count_octets.ensures)
-  c.write_octets.ensures.items (length_high c.args.count c.if-count-lt128.false)
+    c.write_octets.ensures.items (length_high c.args.count c.if-count-lt128.false)

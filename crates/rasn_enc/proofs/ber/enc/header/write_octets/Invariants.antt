@@ -7,7 +7,7 @@ invariant-loop-left l = record {
   few : l.left < 9;
   room : vec_len l.out + l.left ≤ vec_capacity l.out;
   capacity : vec_capacity l.out ≡ vec_capacity l.fn.out;
-  written : l.out.items ++ digits 256 l.left l.number ≡ l.fn.out.items ++ digits 256 (octet_count l.number) l.number
+  written : l.out.items ++ digits 256 l.left l.number ≡ l.fn.out.items ++ digits 256 (octet_count l.number) l.number;
 }
 
 abbrev pub decreases-loop-left : goal.decreases-loop-left
