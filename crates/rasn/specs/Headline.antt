@@ -1,8 +1,9 @@
 -- What an entry point answers.
-use Rattle.std.specs.Prelude.{◌≡◌, ℕ, List, Result, Ok, Err}
+use Rattle.std.specs.Prelude.{◌≡◌, ◌≢◌, ◌⊎◌, ℕ, List, [], length, Result, Ok, Err}
 use Rattle.std.specs.Borrow.{Bor}
 use Rattle.rasn_types.specs.declared.types.rules.Codec.{Codec}
 use Rattle.rasn_types.specs.declared.error.decode.DecodeError.{DecodeError}
+use Rattle.rasn_types.specs.declared.error.decode.DecodeErrorKind.TheVariants.{UnexpectedExtraData}
 use Rattle.rasn_types.specs.Shapes.{Shape, Tree}
 use Rattle.rasn_types.specs.Grammar.{Reads, top}
 use Rattle.rasn_de.specs.Outcomes.{Exact, Outcome, Got, refusal}
@@ -20,3 +21,16 @@ Answered rule shape tree input result = Exact (Reads rule shape 128 (top rule)) 
 abbrev pub AnsweredFirst : {T : Type 0} → Codec → Shape → (T → Tree) → List ℕ → Result T DecodeError → Type 0
 AnsweredFirst rule shape tree input (Ok v) = (rest : List ℕ) × Exact (Reads rule shape 128 (top rule)) input (Got (tree v) rest)
 AnsweredFirst rule shape tree input (Err e) = Exact (Reads rule shape 128 (top rule)) input (refusal e.kind)
+
+-- The value is followed by these octets, which are some: they are refused with their number.
+pub record IsFollowed (rule : Codec) (shape : Shape) (input : List ℕ) (e : DecodeError) : Type 0 where
+  pub t : Tree
+  pub rest : List ℕ
+  pub some : rest ≢ []
+  pub read : Exact (Reads rule shape 128 (top rule)) input (Got t rest)
+  pub told : e ≡ record { kind = UnexpectedExtraData (length rest); codec = rule }
+
+-- The same of a value that has to be all of the input.
+abbrev pub AnsweredAlone : {T : Type 0} → Codec → Shape → (T → Tree) → List ℕ → Result T DecodeError → Type 0
+AnsweredAlone rule shape tree input (Ok v) = Exact (Reads rule shape 128 (top rule)) input (Got (tree v) [])
+AnsweredAlone rule shape tree input (Err e) = Exact (Reads rule shape 128 (top rule)) input (refusal e.kind) ⊎ IsFollowed rule shape input e

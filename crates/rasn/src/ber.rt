@@ -6,11 +6,12 @@ ghost use Rattle.rasn_types.specs.declared.types.rules.Codec.TheVariants.{Ber};
 ghost use Rattle.rasn.specs.Headline.{Answered, AnsweredFirst};
 ghost use Rattle.rasn_enc.specs.Wrote.{Undefined};
 
+use crate::entry;
 pub use rasn_de::ber::de;
-use rasn_de::ber::de::{Decoder, DecoderOptions};
+use rasn_de::ber::de::DecoderOptions;
 use rasn_de::de::Decode;
 pub use rasn_enc::ber::enc;
-use rasn_enc::ber::enc::{Encoder, EncoderOptions};
+use rasn_enc::ber::enc::EncoderOptions;
 use rasn_enc::enc::Encode;
 use rasn_types::error::{DecodeError, EncodeError};
 use std::alloc::Global;
@@ -31,9 +32,7 @@ pub fn decode_with_remainder<T: Decode>(
 ) -> Result<(T, &[u8]), DecodeError>
     ensures { Answered Ber T.shape T.tree input.now result }
 {
-    let mut decoder = Decoder::new(alloc, input, DecoderOptions::ber());
-    let value = T::decode(&mut decoder)?;
-    Ok((value, decoder.remaining()))
+    entry::decode_with_remainder(alloc, input, DecoderOptions::ber())
 }
 
 /// The value's octets. It is refused for want of memory, and where the value has no octets.
@@ -41,7 +40,5 @@ pub fn encode<T: Encode>(alloc: Global, value: &T) -> Result<Vec<u8>, EncodeErro
     ensures ok { IfOk result (λ octets. Bytes Ber T.shape (T.tree value.now) octets.items) }
     ensures refused { IfErr result (λ error. IsEncodeMemory error.kind ⊎ Undefined Ber T.shape (T.tree value.now)) }
 {
-    let mut encoder = Encoder::new(alloc, EncoderOptions::ber())?;
-    value.encode(&mut encoder)?;
-    encoder.output()
+    entry::encode(alloc, value, EncoderOptions::ber())
 }

@@ -2,7 +2,9 @@
 #![tactic(auto)]
 
 pub mod ber;
+pub mod cer;
 pub mod der;
+mod entry;
 pub mod laws;
 pub mod time_laws;
 

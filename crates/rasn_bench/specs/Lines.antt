@@ -1,14 +1,23 @@
 -- The lines of the program.
 use Rattle.std.specs.Prelude.{◌≡◌, ℕ, ◌+◌, ◌-◌, ◌*◌, ◌≤◌, ◌<◌, ◌==◌, length, Bool, ◌&&◌, nat_le, nat_eq, if◌then◌else◌, List, [], ◌∷◌, ◌++◌, Option, Some, None, Vec, codes}
 use Rattle.std.specs.List.{position_or_len, before_first, after_first}
+use Rattle.rasn_types.specs.declared.types.rules.Codec.{Codec}
+use Rattle.rasn_types.specs.declared.types.rules.Codec.TheVariants.{Ber, Cer, Der}
 use Rattle.rasn_bench.specs.declared.line.ValueType.{ValueType}
-use Rattle.rasn_bench.specs.declared.line.ValueType.TheVariants.{Bool as BoolType, I32, U32, Octets}
+use Rattle.rasn_bench.specs.declared.line.ValueType.TheVariants.{Bool as BoolType, I32, U32, Octets, Pair, Integer}
 
 abbrev pub name_of : ValueType → List ℕ
 name_of BoolType = codes "bool"
 name_of I32 = codes "i32"
 name_of U32 = codes "u32"
 name_of Octets = codes "octets"
+name_of Pair = codes "pair"
+name_of Integer = codes "integer"
+
+abbrev pub rule_name : Codec → List ℕ
+rule_name Ber = codes "ber"
+rule_name Cer = codes "cer"
+rule_name Der = codes "der"
 
 abbrev pub is_space : ℕ → Bool
 is_space c = c == 32
@@ -23,10 +32,10 @@ word l = before_first is_space l
 abbrev pub others : List ℕ → List ℕ
 others l = after_first is_space l
 
--- The line is BER's name, this type's name and these digits, with one space between two of them.
-pub record IsRequest (line : List ℕ) (kind : ValueType) (digits : List ℕ) : Type 0 where
+-- The line is these rules' name, this type's name and these digits, with one space between two of them.
+pub record IsRequest (line : List ℕ) (rule : Codec) (kind : ValueType) (digits : List ℕ) : Type 0 where
   pub first_space : HasSpace line
-  pub rule : word line ≡ codes "ber"
+  pub rule_is : word line ≡ rule_name rule
   pub second_space : HasSpace (others line)
   pub kind_is : word (others line) ≡ name_of kind
   pub digits_are : digits ≡ others (others line)

@@ -1,14 +1,17 @@
 //! What the program answers to a line.
 ghost use Rattle.std.specs.Prelude.{IfOk, IsTrue, ◌↔◌, ◌≢◌};
+ghost use Rattle.rasn.specs.Headline.{Answered};
 ghost use Rattle.rasn_bench.specs.Answers.{IsAnswer, IsAnswerTo};
 ghost use Rattle.rasn_bench.specs.declared.answer.Answer.TheVariants.{Malformed};
 
 use crate::line::{Request, ValueType};
 use crate::names::{decode_error_name, encode_error_name};
+use crate::worked::Pair;
 use rasn::de::Decode;
 use rasn::enc::Encode;
-use rasn::types::OctetString;
-use rasn::{ber, der};
+use rasn::error::DecodeError;
+use rasn::types::{Codec, Integer, OctetString};
+use rasn::{ber, cer, der};
 use std::alloc::{AllocError, Global};
 use std::fmt;
 
@@ -46,11 +49,14 @@ impl Answer {
         let Some(octets) = request.octets(alloc)? else {
             return Ok(Answer::Malformed);
         };
+        let rule = request.rule;
         Ok(match request.value_type {
-            ValueType::Bool => answer_as::<bool>(alloc, "BOOLEAN", &octets),
-            ValueType::I32 => answer_as::<i32>(alloc, "INTEGER", &octets),
-            ValueType::U32 => answer_as::<u32>(alloc, "INTEGER", &octets),
-            ValueType::Octets => answer_as::<OctetString>(alloc, "OCTET-STRING", &octets),
+            ValueType::Bool => answer_as::<bool>(alloc, rule, "BOOLEAN", &octets),
+            ValueType::I32 => answer_as::<i32>(alloc, rule, "INTEGER", &octets),
+            ValueType::U32 => answer_as::<u32>(alloc, rule, "INTEGER", &octets),
+            ValueType::Octets => answer_as::<OctetString>(alloc, rule, "OCTET-STRING", &octets),
+            ValueType::Pair => answer_as::<Pair>(alloc, rule, "SEQUENCE", &octets),
+            ValueType::Integer => answer_as::<Integer>(alloc, rule, "INTEGER", &octets),
         })
     }
 
@@ -62,11 +68,16 @@ impl Answer {
     }
 }
 
-/// Reads a value of the type by BER, and writes it by DER.
-fn answer_as<T: Decode + Encode>(alloc: Global, kind: &'static str, octets: &[u8]) -> Answer
-    ensures { IsAnswer T.shape kind.now octets.now result }
+/// Reads a value of the type by these rules, and writes it by DER.
+fn answer_as<T: Decode + Encode>(
+    alloc: Global,
+    rule: Codec,
+    kind: &'static str,
+    octets: &[u8],
+) -> Answer
+    ensures { IsAnswer rule T.shape kind.now octets.now result }
 {
-    match ber::decode_with_remainder::<T>(alloc, octets) {
+    match decode_by::<T>(alloc, rule, octets) {
         Err(error) => Answer::Refused {
             name: decode_error_name(&error.kind),
         },
@@ -82,6 +93,21 @@ fn answer_as<T: Decode + Encode>(alloc: Global, kind: &'static str, octets: &[u8
                 name: encode_error_name(&error.kind),
             },
         },
+    }
+}
+
+/// Reads the value that begins the octets by these rules.
+fn decode_by<T: Decode>(
+    alloc: Global,
+    rule: Codec,
+    octets: &[u8],
+) -> Result<(T, &[u8]), DecodeError>
+    ensures { Answered rule T.shape T.tree octets.now result }
+{
+    match rule {
+        Codec::Ber => ber::decode_with_remainder(alloc, octets),
+        Codec::Cer => cer::decode_with_remainder(alloc, octets),
+        Codec::Der => der::decode_with_remainder(alloc, octets),
     }
 }
 

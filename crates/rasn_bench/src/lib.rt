@@ -8,8 +8,10 @@ mod names;
 mod program;
 #[cfg(test)]
 mod tests;
+mod worked;
 
 pub use answer::Answer;
 pub use arguments::{Usage, file_of};
 pub use line::{Request, ValueType};
 pub use program::{RunFault, run};
+pub use worked::{Both, Pair};

@@ -1,8 +1,10 @@
 //! The lines of the program: `rule type hex`.
 ghost use Rattle.std.specs.Prelude.{◌≡◌, ◌≢◌, ◌<◌, MatchOption, IfOk, IfSome, List, [], length, ℕ, Some, None};
-ghost use Rattle.rasn_bench.specs.Lines.{name_of, IsRequest, Spells, octets_at, pairs_at, pair_at, digit_at, behind};
+ghost use Rattle.rasn_types.specs.declared.types.rules.Codec.{Codec};
+ghost use Rattle.rasn_bench.specs.Lines.{name_of, rule_name, IsRequest, Spells, octets_at, pairs_at, pair_at, digit_at, behind};
 ghost use Rattle.rasn_bench.specs.declared.line.ValueType.{ValueType};
 
+use rasn::types::Codec;
 use std::alloc::{AllocError, Global};
 
 /// A type that a line may name.
@@ -12,6 +14,8 @@ pub enum ValueType {
     I32,
     U32,
     Octets,
+    Pair,
+    Integer,
 }
 
 impl ValueType {
@@ -24,14 +28,29 @@ impl ValueType {
             "i32" => Some(ValueType::I32),
             "u32" => Some(ValueType::U32),
             "octets" => Some(ValueType::Octets),
+            "pair" => Some(ValueType::Pair),
+            "integer" => Some(ValueType::Integer),
             _ => None,
         }
     }
 }
 
-/// What a line of a good form asks: the type to read, and the octets as digits.
+/// The rules of this name.
+fn rule_of_name(name: &str) -> Option<Codec>
+    ensures { MatchOption result ((rule : Codec) → name.now ≡ rule_name rule → ⊥) (λ rule. name.now ≡ rule_name rule) }
+{
+    match name {
+        "ber" => Some(Codec::Ber),
+        "cer" => Some(Codec::Cer),
+        "der" => Some(Codec::Der),
+        _ => None,
+    }
+}
+
+/// What a line of a good form asks: the rules to read by, the type to read, and the octets as digits.
 #[derive(Clone, Copy, Debug)]
 pub struct Request<'line> {
+    pub rule: Codec,
     pub value_type: ValueType,
     pub digits: &'line str,
 }
@@ -40,16 +59,18 @@ impl<'line> Request<'line> {
     /// The request of a line with three words and single spaces, where rule and type are known.
     pub fn of_line(line: &'line str) -> Option<Request<'line>>
         ensures { MatchOption result
-            ((kind : ValueType) (digits : List ℕ) → IsRequest line.now kind digits → ⊥)
-            (λ request. IsRequest line.now request.value_type request.digits.now) }
+            ((rule : Codec) (kind : ValueType) (digits : List ℕ) → IsRequest line.now rule kind digits → ⊥)
+            (λ request. IsRequest line.now request.rule request.value_type request.digits.now) }
     {
         let (rule, rest) = line.split_once(' ')?;
         let (name, digits) = rest.split_once(' ')?;
-        if rule != "ber" {
-            return None;
-        }
+        let rule = rule_of_name(rule)?;
         let value_type = ValueType::of_name(name)?;
-        Some(Request { value_type, digits })
+        Some(Request {
+            rule,
+            value_type,
+            digits,
+        })
     }
 
     /// The octets that the digits spell, `-` for none; or nothing where they are no such spelling.

@@ -18,4 +18,11 @@ pub mod Bools
 pub mod OctetStrings
 pub mod Integers
 pub mod Starving
+pub mod Entering
+pub mod Nothing
+pub mod Insides
+pub mod Filling
+pub mod Sequencing
+pub mod Stepping
+pub mod Parts
 pub mod Appending

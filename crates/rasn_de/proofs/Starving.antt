@@ -1,5 +1,5 @@
 -- Readings that take no memory.
-use Rattle.std.proofs.Common.{◌≡◌, ◌≢◌, ℕ, ◌⊎◌, inl, inr, Bool, true, false, cond, List, [], ◌∷◌, length, Option, Some, Result, Ok, Err, refl, sym, ap, ◌∙◌, subst}
+use Rattle.std.proofs.Common.{◌≡◌, ◌≢◌, ℕ, ℤ, ◌⊎◌, inl, inr, Bool, true, false, cond, List, [], ◌∷◌, length, Option, Some, Result, Ok, Err, refl, sym, ap, ◌∙◌, subst}
 use Rattle.std.specs.Prelude.{nat_eq}
 use Rattle.rasn_types.specs.declared.types.tag.Tag.{Tag}
 use Rattle.rasn_types.specs.declared.types.rules.Codec.{Codec}
@@ -11,7 +11,9 @@ use Rattle.rasn_de.specs.declared.ber.de.parser.Fault.{Fault}
 use Rattle.rasn_de.specs.declared.ber.de.parser.Fault.TheVariants.{OutOfMemory, InvalidBool}
 use Rattle.rasn_de.specs.Headers.{Header, header_at}
 use Rattle.rasn_de.specs.Causes.{Cause, fault, out_of_bound, Tells, kind_of}
-use Rattle.rasn_de.specs.Leaves.{on_header, definite_in, definite_at, FromContents, LeafAt, as_cause, is_ber, bool_in, BoolAt, Refuses}
+use Rattle.rasn_de.specs.Leaves.{on_header, definite_in, definite_at, FromContents, LeafAt, as_cause, is_ber, bool_in, BoolAt, Refuses, IntegerIn, IntegerAt, GaveInteger, IsBeyond}
+use Rattle.rasn_types.specs.declared.types.constraints.Constraints.{Constraints}
+use Rattle.rasn_types.specs.Shapes.{Interval}
 use Rattle.rasn_de.specs.State.{State}
 use Rattle.rasn_de.proofs.Memory.{NoMemory, header_none, none_cond}
 use Rattle.rasn_de.proofs.Peeks.{kind_memory}
@@ -62,3 +64,32 @@ cause_plain (Err f) n e h = let z : fault f ≡ e = cc in subst IsPlainCause z n
 
 pub bool_plain : (rule : Codec) (c : List ℕ) (e : Cause) → as_cause (bool_in rule c) ≡ Err e → IsPlainCause e
 bool_plain rule c e h = cause_plain (bool_in rule c) (bool_none rule c) e h
+
+-- The cause isn't want of memory, or it is a number out of its bound, which is copied.
+abbrev pub IsPlainOrBound : Cause → Type 0
+IsPlainOrBound (fault f) = f ≢ OutOfMemory
+IsPlainOrBound (out_of_bound z bound) = Unit {0}
+
+plain_or : (e : Cause) → IsPlainCause e → IsPlainOrBound e
+plain_or (fault f) n = n
+plain_or (out_of_bound z bound) n = tt
+
+contents_bound : {X : Type 0} (read : List ℕ → Result X Cause → Type 0) → ((c : List ℕ) (e : Cause) → read c (Err e) → IsPlainOrBound e) → (d : Result (List ℕ × List ℕ) (Cause × List ℕ)) → Plainly d
+    → (e : Cause × List ℕ) → FromContents read d (Err e) → IsPlainOrBound e.0
+contents_bound read f (Ok p) n e (a, b) = f p.0 e.0 a
+contents_bound {X} read f (Err d) n e a = let z : e ≡ d = cc in subst (λ (u : Cause × List ℕ). IsPlainOrBound u.0) (sym z) (plain_or d.0 n)
+
+integer_cause : (width : ℕ) (range : Interval) (bounds : Constraints) (c : List ℕ) (e : Cause) → IntegerIn width range bounds c (Err e) → IsPlainOrBound e
+integer_cause width range bounds c (fault f) (inl (n, g)) = λ h. cc
+integer_cause width range bounds c (fault f) (inr (n, i, g)) = λ h. cc
+integer_cause width range bounds c (out_of_bound z bound) a = tt
+
+pub integer_memory : {X : Type 0} (see : X → ℤ) (Grows : Type 0) (width : ℕ) (range : Interval) (bounds : Constraints) (tag : Tag) (old new : State) (e : DecodeError)
+    → GaveInteger see Grows tag (IntegerAt width range bounds old.rule tag old.rest) old (Err e) new → IsMemory e.kind → Grows ⊎ IsBeyond (IntegerAt width range bounds old.rule tag old.rest) new.rest
+integer_memory see Grows width range bounds tag old new e (inl (m, g, c, s, l, h)) n = inl g
+integer_memory see Grows width range bounds tag old new e (inr (cause, a, t, c, s)) n =
+    inr (go cause a t (contents_bound (IntegerIn width range bounds) (integer_cause width range bounds) (definite_at old.rule tag old.rest) (definite_plain old.rule tag old.rest) (cause, new.rest) a))
+  where
+    go : (x : Cause) → IntegerAt width range bounds old.rule tag old.rest (Err (x, new.rest)) → Tells x e.kind → IsPlainOrBound x → IsBeyond (IntegerAt width range bounds old.rule tag old.rest) new.rest
+    go (fault f) a t p = absurd (tells_plain (fault f) e.kind p t n)
+    go (out_of_bound z bound) a t p = (z, bound, a)

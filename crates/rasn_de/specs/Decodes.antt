@@ -24,7 +24,7 @@ abbrev pub Decodes : {T : Type 0} → Shape → (T → Tree) → State → Resul
 Decodes shape tree old result new = DecodesBy (λ rule. Reads rule shape) tree old result new
 
 -- parts in their order, as the list of their trees
-abbrev pub ReadsParts : Parts → Codec → ℕ → Bool → Reading Tree
+unfoldable pub ReadsParts : Parts → Codec → ℕ → Bool → Reading Tree
 ReadsParts parts rule depth closing input t rest = (ts : List Tree) × (t ≡ items ts) × InOrder (parts_of rule parts depth closing) closing input ts rest
 
 abbrev pub DecodesParts : {T : Type 0} → Parts → (T → Tree) → State → Result T DecodeError → State → Type 0

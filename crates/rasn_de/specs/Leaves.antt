@@ -10,6 +10,7 @@ use Rattle.rasn_de.specs.declared.ber.de.parser.Fault.TheVariants.{IndefiniteLen
 use Rattle.rasn_de.specs.Headers.{Header, header_at}
 use Rattle.rasn_types.specs.Shapes.{Interval, IsIn, Admits, constraint_of}
 use Rattle.rasn_types.specs.declared.types.constraints.Constraints.{Constraints}
+use Rattle.rasn_types.specs.declared.types.constraints.Bounded.{Bounded}
 use Rattle.rasn_types.specs.Contents.{signed}
 use Rattle.rasn_types.specs.Errors.{IsMemory}
 use Rattle.rasn_de.specs.Causes.{Cause, fault, out_of_bound, Tells}
@@ -83,3 +84,7 @@ abbrev pub GaveInteger : {X : Type 0} → (X → ℤ) → Type 0 → Tag → Rea
 GaveInteger see Grows tag Is old (Ok v) new = Gave see Is old (Ok v) new
 GaveInteger see Grows tag Is old (Err e) new =
     (IsMemory e.kind × Grows × (e.codec ≡ old.rule) × (new ≡ at old new.rest) × (c : List ℕ) × (definite_at old.rule tag old.rest ≡ Ok (c, new.rest))) ⊎ Refuses Is old e new
+
+-- The number is out of its bound.
+abbrev pub IsBeyond : Readings ℤ → List ℕ → Type 0
+IsBeyond Is rest = (z : ℤ) × (bound : Bounded ℤ) × Is (Err (out_of_bound z bound, rest))

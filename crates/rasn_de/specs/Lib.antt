@@ -8,3 +8,6 @@ pub mod Causes
 pub mod Leaves
 pub mod Taking
 pub mod Octets
+pub mod Inside
+pub mod Doors
+pub mod Sequences

@@ -3,3 +3,5 @@
 
 pub mod ber;
 pub mod de;
+#[cfg(test)]
+mod tests;

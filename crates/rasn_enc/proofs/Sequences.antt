@@ -1,4 +1,30 @@
 -- What a caller of `encode_sequence` knows, from what its closure ensures.
+--
+-- A SEQUENCE of two parts writes itself by a closure with one clause:
+--
+--     encoder.encode_sequence::<2, 0, Both<A, B>, _>(
+--         tag,
+--         |inner: &mut Encoder| -> Result<(), EncodeError>
+--             ensures { WritesParts (part required A.shape (part required B.shape none)) (items (A.tree self.entry.now.a ∷ B.tree self.entry.now.b ∷ [])) inner.old result inner.new }
+--         {
+--             self.a.encode(inner)?;
+--             self.b.encode(inner)?;
+--             Ok(())
+--         },
+--         identifier,
+--     )
+--
+-- The closure answers a line for each `?` and one for `Ok`. A last call whose result is the closure's goes by `last_part` in the place of the last `?`:
+--
+--     returns-in_err-encode g c = part_refused _ _ _ _ _ _ _ _ c.in_err-encode.ensures.refused c.in_err-encode.ensures.err c.from_residual.ensures.1
+--     returns-in_err-encode-2 g c = part_put _ _ _ _ _ _ _ _ c.in_ok-encode.ensures.ok
+--         (part_refused _ _ _ _ _ _ _ _ c.in_err-encode-2.ensures.refused c.in_err-encode-2.ensures.err c.from_residual-in_err-encode-2.ensures.1)
+--     returns g c = part_put _ _ _ _ _ _ _ _ c.in_ok-encode.ensures.ok (part_put _ _ _ _ _ _ _ _ c.in_ok-encode-2.ensures.ok (parts_end _))
+--
+-- The method that hands it over answers two:
+--
+--     returns-clause-ok g c = sequence_ok _ _ _ _ _ _ _ _ c.encode_sequence.ensures.ok (λ u k. search rules)
+--     returns-clause-refused g c = sequence_refused _ _ _ _ _ _ _ c.encode_sequence.ensures.refused (λ e u k. search rules)
 use Rattle.std.proofs.Common.{◌≡◌, ◌≢◌, ◌++◌, [], ◌∷◌, ℕ, refl, List, sym, ap, ap₂, Option, Some, None, Result, Ok, Err, OnOk, OnErr, IfErr, true, false, ◌⊎◌, inl, inr, ◌∙◌, subst, option_map}
 use Rattle.std.proofs.lemmas.List.{append-nil, append_assoc}
 use Rattle.std.proofs.lemmas.Result.{on_ok_weaker, IfErr-weaker, err_from_is_err_and}
@@ -204,6 +230,3 @@ sequence_refused g f v tag parts tree r h refused = IfErr-weaker r _ _ (λ e. el
     | inr (inr n) ↦ absurd (n.keeps refl)
   ]
 ]) h
-
--- What the goals of a closure that writes parts go by, and then those of `encode_sequence`.
-pub ruleset writing = (parts_end, part_refused, part_put, last_part, sequence_ok, sequence_refused)

@@ -20,6 +20,7 @@ use std::marker::Model;
 mod config;
 mod leaves;
 pub mod parser;
+mod sequences;
 
 pub use config::DecoderOptions;
 
@@ -120,14 +121,15 @@ fn kind_of(fault: Fault) -> DecodeErrorKind
 impl<'input> Decoder<'input> {
     /// A reader of the input from its start, at depth 128.
     pub fn new(alloc: Global, input: &'input [u8], options: DecoderOptions) -> Decoder<'input>
-        ensures { result ≡ record { rule = options.rules; depth = 128; closing = top options.rules; whole = input.now; rest = input.now } }
+        ensures { result ≡ record { rule = options; depth = 128; closing = top options; whole = input.now; rest = input.now } }
     {
+        let rules = options.current_codec();
         Decoder {
             whole: input,
             rest: input,
-            rules: options.rules,
+            rules,
             depth: MAX_DEPTH,
-            closing: closes_at_top(options.rules),
+            closing: closes_at_top(rules),
             alloc,
         }
     }

@@ -162,13 +162,6 @@ impl Encoder {
             Err(_) => Err(out_of_memory(self.rule)),
         }
     }
-
-    // How many octets the last list has.
-    fn last_len(&self) -> usize
-        ensures { result ≡ length self.now.last.octets }
-    {
-        self.last.octets.len()
-    }
 }
 
 fn out_of_memory(codec: Codec) -> EncodeError

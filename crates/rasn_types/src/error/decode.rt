@@ -124,17 +124,17 @@ pub enum DecodeErrorKind {
     /// No alternative of the CHOICE has the tag.
     #[error("no alternative of {name}")]
     NoValidChoice {
-        name: &'static str,
+        name: String,
     },
     /// A required part didn't come.
     #[error("{name} is missing")]
     MissingField {
-        name: &'static str,
+        name: String,
     },
     /// A part came twice.
     #[error("{name} comes twice")]
     DuplicateField {
-        name: &'static str,
+        name: String,
     },
     /// A cause that only these rules have.
     #[error("{inner}")]

@@ -3,38 +3,49 @@ ghost use Rattle.std.specs.Prelude.{◌≡◌};
 ghost use Rattle.rasn_types.specs.declared.types.rules.Codec.TheVariants.{Ber, Cer, Der};
 
 use rasn_types::types::Codec;
+use std::marker::Model;
 
-/// How a decoder reads.
+/// How a decoder reads: by which rules. To contracts they are all there is.
 #[derive(Clone, Copy, Debug)]
 pub struct DecoderOptions {
-    pub(crate) rules: Codec,
+    rules: Codec,
+}
+
+impl Model for DecoderOptions {
+    ghost use Rattle.rasn_types.specs.declared.types.rules.Codec.{Codec};
+
+    ghost Value = { Codec };
+
+    ghost view = { λ options. options.rules };
+
+    ghost inverse = { λ rules. record { rules = rules } };
 }
 
 impl DecoderOptions {
     /// By the basic encoding rules (X.690 8).
     pub fn ber() -> DecoderOptions
-        ensures { result.rules ≡ Ber }
+        ensures { result ≡ Ber }
     {
         DecoderOptions { rules: Codec::Ber }
     }
 
     /// By the canonical encoding rules (X.690 9, 11).
     pub fn cer() -> DecoderOptions
-        ensures { result.rules ≡ Cer }
+        ensures { result ≡ Cer }
     {
         DecoderOptions { rules: Codec::Cer }
     }
 
     /// By the distinguished encoding rules (X.690 10, 11).
     pub fn der() -> DecoderOptions
-        ensures { result.rules ≡ Der }
+        ensures { result ≡ Der }
     {
         DecoderOptions { rules: Codec::Der }
     }
 
     /// The rules that these options name.
     pub fn current_codec(&self) -> Codec
-        ensures { result ≡ self.now.rules }
+        ensures { result ≡ self.now }
     {
         self.rules
     }

@@ -1,9 +1,9 @@
 //! Values that hold no others (X.690 8.2 to 8.4, 8.7).
-ghost use Rattle.std.specs.Prelude.{◌≡◌, true, IfErr};
+ghost use Rattle.std.specs.Prelude.{◌≡◌, ◌⊎◌, true, IfErr};
 ghost use Rattle.rasn_types.specs.Shapes.{leaf, boolean, integer, number, octet_string};
 ghost use Rattle.rasn_types.specs.Trees.{bool_tree, unconstrained};
 ghost use Rattle.rasn_de.specs.Decodes.{Decodes};
-ghost use Rattle.rasn_de.specs.Leaves.{bool_in, BoolAt, IntegerAt, definite_at, Gave, GaveInteger};
+ghost use Rattle.rasn_de.specs.Leaves.{bool_in, BoolAt, IntegerAt, definite_at, Gave, GaveInteger, IsBeyond};
 ghost use Rattle.rasn_de.specs.Causes.{Tells, out_of_bound};
 ghost use Rattle.rasn_types.specs.Contents.{signed};
 ghost use Rattle.rasn_types.specs.Errors.{IsMemory};
@@ -110,6 +110,7 @@ impl<'input> Decoder<'input> {
     ) -> Result<I, DecodeError>
         ensures reads { Decodes (leaf (integer I.range) tag constraints.now) (λ v. number (I.number v)) self.old result self.new }
         ensures refused { GaveInteger I.number (I.grows ≡ true) tag (IntegerAt I.WIDTH I.range constraints.now self.old.rule tag self.old.rest) self.old result self.new }
+        ensures memory { IfErr result (λ e. IsMemory e.kind → (I.grows ≡ true) ⊎ IsBeyond (IntegerAt I.WIDTH I.range constraints.now self.old.rule tag self.old.rest) self.new.rest) }
     {
         let contents = self.contents(tag)?;
         if contents.is_empty() {

@@ -5,6 +5,7 @@ use Rattle.rasn_types.specs.Shapes.{IsIn}
 use Rattle.rasn_de.specs.Leaves.{IntegerIn, IntegerAt}
 use Rattle.rasn_de.proofs.Integers.{integer_decodes, bound_refused, number_starved, empty_is, not_empty, match_some, match_none}
 use Rattle.rasn_de.proofs.Refusals.{leaf_refused, contents_refused, contents_read}
+use Rattle.rasn_de.proofs.Starving.{integer_memory}
 use Rattle.rasn_de.proofs.ber.de.Decoder.decode_integer.Goals as goal
 
 pub returns-in_err-contents-clause-refused : goal.returns-in_err-contents-clause-refused
@@ -63,3 +64,25 @@ returns-in-Err-clause-refused g c =
 pub returns-in-Err-clause-reads : goal.returns-in-Err-clause-reads
 returns-in-Err-clause-reads g c =
     integer_decodes g.I.IntegerType.WIDTH g.I.IntegerType.range c.args.constraints.now g.I.IntegerType.number (g.I.IntegerType.grows ≡ true) c.args.tag c.args.self.now _ (Err c.error-in-Err.result) c.contents.ensures.octets (returns-in-Err-clause-refused g c)
+
+pub returns-in_err-contents-clause-memory : goal.returns-in_err-contents-clause-memory
+returns-in_err-contents-clause-memory g c =
+    let p = err_from_is_err_and c.from_residual.result c.from_residual.ensures.1 in
+    rw (p.1, p.2) (integer_memory g.I.IntegerType.number (g.I.IntegerType.grows ≡ true) g.I.IntegerType.WIDTH g.I.IntegerType.range c.args.constraints.now c.args.tag c.args.self.now _ _
+    (inr (leaf_refused (IntegerIn g.I.IntegerType.WIDTH g.I.IntegerType.range c.args.constraints.now) c.args.tag c.args.self.now _ _ c.in_err-contents.ensures.gave)))
+
+pub returns-then-is_empty-clause-memory : goal.returns-then-is_empty-clause-memory
+returns-then-is_empty-clause-memory g c =
+    integer_memory g.I.IntegerType.number (g.I.IntegerType.grows ≡ true) g.I.IntegerType.WIDTH g.I.IntegerType.range c.args.constraints.now c.args.tag c.args.self.now _ _ (returns-then-is_empty-clause-refused g c)
+
+pub returns-else-admits_number-clause-memory : goal.returns-else-admits_number-clause-memory
+returns-else-admits_number-clause-memory g c =
+    integer_memory g.I.IntegerType.number (g.I.IntegerType.grows ≡ true) g.I.IntegerType.WIDTH g.I.IntegerType.range c.args.constraints.now c.args.tag c.args.self.now _ _ (returns-else-admits_number-clause-refused g c)
+
+pub returns-in-Ok-None-clause-memory : goal.returns-in-Ok-None-clause-memory
+returns-in-Ok-None-clause-memory g c =
+    integer_memory g.I.IntegerType.number (g.I.IntegerType.grows ≡ true) g.I.IntegerType.WIDTH g.I.IntegerType.range c.args.constraints.now c.args.tag c.args.self.now _ _ (returns-in-Ok-None-clause-refused g c)
+
+pub returns-in-Err-clause-memory : goal.returns-in-Err-clause-memory
+returns-in-Err-clause-memory g c =
+    integer_memory g.I.IntegerType.number (g.I.IntegerType.grows ≡ true) g.I.IntegerType.WIDTH g.I.IntegerType.range c.args.constraints.now c.args.tag c.args.self.now _ _ (returns-in-Err-clause-refused g c)

@@ -1,0 +1,123 @@
+//! `Both ::= SEQUENCE { first A, second B }`, of any two types.
+ghost use Rattle.std.specs.Prelude.{◌∷◌, [], IfOk};
+ghost use Rattle.rasn_types.specs.Shapes.{part, required, items};
+ghost use Rattle.rasn_types.specs.Shapes.Parts.{none};
+ghost use Rattle.rasn_de.specs.Decodes.{DecodesParts};
+ghost use Rattle.rasn_enc.specs.Parts.{WritesParts};
+
+use rasn::ber::de::Decoder;
+use rasn::ber::enc::Encoder;
+use rasn::de::Decode;
+use rasn::enc::Encode;
+use rasn::error::{DecodeError, EncodeError};
+use rasn::types::{
+    AsnType, Constraints, Constructed, Field, FieldPresence, Fields, Identifier, Tag,
+};
+use std::alloc::AllocError;
+
+/// SEQUENCE { first A, second B }
+#[derive(Debug, Drop)]
+pub struct Both<A, B> {
+    pub first: A,
+    pub second: B,
+}
+
+impl<A: AsnType, B: AsnType> AsnType for Both<A, B> {
+    ghost use Rattle.std.specs.Prelude.{refl, ◌∷◌, []};
+    ghost use Rattle.rasn_types.specs.Shapes.{seq, part, required, items};
+    ghost use Rattle.rasn_types.specs.Shapes.Parts.{none};
+    ghost use Rattle.rasn_types.specs.Tags.{in_universal};
+    ghost use Rattle.rasn_types.specs.Trees.{unconstrained};
+
+    ghost TAG = { in_universal 16 };
+
+    const TAG: Tag = Tag::SEQUENCE;
+
+    ghost CONSTRAINTS = { unconstrained };
+
+    const CONSTRAINTS: Constraints = Constraints::NONE;
+
+    ghost shape = { seq (in_universal 16) (part required A.shape (part required B.shape none)) };
+
+    ghost tree = { λ both. items (A.tree both.first ∷ B.tree both.second ∷ []) };
+
+    ghost own = { refl };
+}
+
+impl<A: AsnType, B: AsnType> Constructed<2, 0> for Both<A, B> {
+    ghost use Rattle.std.specs.Prelude.{refl, true};
+    ghost use Rattle.rasn_types.specs.Shapes.{part, required};
+    ghost use Rattle.rasn_types.specs.Shapes.Parts.{none};
+
+    const FIELDS: Fields<2> = Fields {
+        fields: [
+            Field {
+                index: 0,
+                tag: A::TAG,
+                presence: FieldPresence::Required,
+                name: "first",
+            },
+            Field {
+                index: 1,
+                tag: B::TAG,
+                presence: FieldPresence::Required,
+                name: "second",
+            },
+        ],
+    };
+
+    const EXTENDED_FIELDS: Option<Fields<0>> = None;
+
+    ghost HAS_REQUIRED_FIELDS = { true };
+
+    const HAS_REQUIRED_FIELDS: bool = true;
+
+    ghost parts = { part required A.shape (part required B.shape none) };
+
+    ghost described = { refl };
+}
+
+impl<A: Decode, B: Decode> Decode for Both<A, B> {
+    fn decode_with_tag_and_constraints(
+        decoder: &mut Decoder<'_>,
+        tag: Tag,
+        _constraints: &Constraints,
+    ) -> Result<Both<A, B>, DecodeError> {
+        decoder.decode_sequence::<2, 0, Both<A, B>, _, _>(
+            tag,
+            Some(
+                || -> Result<Both<A, B>, AllocError>
+                    ensures { IfOk result (λ _. ⊥) }
+                { Err(AllocError) },
+            ),
+            |decoder|
+                ensures { DecodesParts (part required A.shape (part required B.shape none)) (λ both. items (A.tree both.first ∷ B.tree both.second ∷ [])) decoder.old result decoder.new }
+            {
+                let first = A::decode(decoder)?;
+                let second = B::decode(decoder)?;
+                Ok(Both { first, second })
+            },
+        )
+    }
+}
+
+impl<A: Encode, B: Encode> Encode for Both<A, B> {
+    fn encode_with_tag_and_constraints(
+        &self,
+        encoder: &mut Encoder,
+        tag: Tag,
+        _constraints: &Constraints,
+        identifier: Identifier,
+    ) -> Result<(), EncodeError> {
+        encoder.encode_sequence::<2, 0, Both<A, B>, _>(
+            tag,
+            |inner: &mut Encoder| -> Result<(), EncodeError>
+                ensures { WritesParts (part required A.shape (part required B.shape none)) (items (A.tree self.entry.now.first ∷ B.tree self.entry.now.second ∷ [])) inner.old result inner.new }
+            {
+                self.first.encode(inner)?;
+                self.second.encode(inner)
+            },
+            identifier,
+        )
+    }
+}

@@ -1,0 +1,182 @@
+-- What is read inside a SEQUENCE, by an initializer or by a closure.
+use Rattle.std.proofs.Common.{◌≡◌, ◌≢◌, ℕ, ◌⊎◌, inl, inr, Bool, true, false, ◌&&◌, ◌||◌, not, List, [], ◌∷◌, Option, Some, None, Result, Ok, Err, refl, sym, ap, ap₂, ◌∙◌, subst}
+use Rattle.std.specs.declared.alloc.AllocError.{AllocError}
+use Rattle.rasn_types.specs.declared.types.rules.Codec.{Codec}
+use Rattle.rasn_types.specs.declared.error.decode.DecodeError.{DecodeError}
+use Rattle.rasn_types.specs.declared.error.decode.DecodeErrorKind.{DecodeErrorKind}
+use Rattle.rasn_types.specs.Shapes.{Tree, items, absent, Parts, part, Presence, required, optional, addition, default}
+use Rattle.rasn_types.specs.Shapes.Parts.{none}
+use Rattle.rasn_types.specs.Readers.{Reading, Part, InOrder, IsMissing, AllMissing, HasRequired, IsBare, ReadsSeq}
+use Rattle.rasn_types.specs.Grammar.{Reads, parts_of}
+use Rattle.rasn_types.specs.Described.{has_required, has_none, same_bool, is_fieldless, describes}
+use Rattle.rasn_de.specs.State.{State}
+use Rattle.rasn_de.specs.Outcomes.{Exact, Outcome, Got, refusal, outcome}
+use Rattle.rasn_de.specs.Decodes.{Answers, ReadsParts, DecodesParts}
+use Rattle.rasn_de.specs.Sequences.{is_empty, is_initial, Initial, Fills, MakesBare}
+use Rattle.rasn_de.proofs.Answering.{Exact-refusal}
+
+both_true : (a b : Bool) → a && b ≡ true → (a ≡ true) × (b ≡ true)
+both_true true b e = (refl, e)
+both_true false b e = cc
+
+same_is : (a b : Bool) → same_bool a b ≡ true → a ≡ b
+same_is true b e = sym e
+same_is false true e = cc
+same_is false false e = refl
+
+-- Whether a part is required doesn't hang on where it is read.
+required_part : (rule : Codec) (ps : Parts) (depth : ℕ) (closing : Bool) → has_required ps ≡ true → HasRequired (parts_of rule ps depth closing)
+unfolding parts_of
+required_part rule none depth closing e = cc
+required_part rule (part required s ps) depth closing e = inl refl
+required_part rule (part optional s ps) depth closing e = inr (required_part rule ps depth closing e)
+required_part rule (part addition s ps) depth closing e = inr (required_part rule ps depth closing e)
+required_part rule (part (default d) s ps) depth closing e = inr (required_part rule ps depth closing e)
+
+no_required : (rule : Codec) (ps : Parts) (depth : ℕ) (closing : Bool) → has_required ps ≡ false → HasRequired (parts_of rule ps depth closing) → ⊥
+unfolding parts_of
+no_required rule none depth closing e h = h
+no_required rule (part required s ps) depth closing e h = cc
+no_required rule (part optional s ps) depth closing e (inl f) = cc
+no_required rule (part optional s ps) depth closing e (inr h) = no_required rule ps depth closing e h
+no_required rule (part addition s ps) depth closing e (inl f) = cc
+no_required rule (part addition s ps) depth closing e (inr h) = no_required rule ps depth closing e h
+no_required rule (part (default d) s ps) depth closing e (inl f) = cc
+no_required rule (part (default d) s ps) depth closing e (inr h) = no_required rule ps depth closing e h
+
+not_required : (rule : Codec) (ps : Parts) (depth : ℕ) (closing : Bool) → (HasRequired (parts_of rule ps depth closing) → ⊥) → has_required ps ≡ false
+not_required rule ps depth closing n = go (has_required ps) refl
+  where
+    go : (b : Bool) → has_required ps ≡ b → has_required ps ≡ false
+    go true e = absurd (n (required_part rule ps depth closing e))
+    go false e = e
+
+missing_one : (p : Presence) (t u : Tree) → IsMissing p t → IsMissing p u → t ≡ u
+missing_one required t u a b = absurd a
+missing_one optional t u a b = a ∙ sym b
+missing_one addition t u a b = a ∙ sym b
+missing_one (default d) t u a b = a ∙ sym b
+
+all_missing_one : (ps : List Part) (ts us : List Tree) → AllMissing ps ts → AllMissing ps us → ts ≡ us
+all_missing_one [] ts us a b = a ∙ sym b
+all_missing_one (p ∷ ps) ts us (t, r, e, m, a) (u, q, f, n, b) =
+    e ∙ ap₂ (λ x y. x ∷ y) (missing_one p.presence t u m n) (all_missing_one ps r q a b) ∙ sym f
+
+-- what a description says
+module _ (root more : ℕ) (flag : Bool) (parts : Parts) (d : describes root more flag parts ≡ true) where
+  flag_is : has_required parts ≡ flag
+  flag_is = same_is (has_required parts) flag (both_true (same_bool (has_required parts) flag) _ d).0
+
+  fieldless_none : is_fieldless root more ≡ true → parts ≡ none
+  fieldless_none e = go parts (subst (λ b. not b || has_none parts ≡ true) e (both_true (same_bool (has_required parts) flag) _ d).1)
+    where
+      go : (ps : Parts) → has_none ps ≡ true → ps ≡ none
+      go none f = refl
+      go (part p s ps) f = cc
+
+  -- why the initializer reads
+  initial_why : (input : List ℕ) → is_initial root more flag input ≡ true → (parts ≡ none) ⊎ ((has_required parts ≡ false) × (input ≡ []))
+  initial_why input e = go (is_fieldless root more) refl flag refl input e
+    where
+      go : (b : Bool) → is_fieldless root more ≡ b → (c : Bool) → flag ≡ c → (i : List ℕ) → b || (not c && is_empty i) ≡ true → (parts ≡ none) ⊎ ((has_required parts ≡ false) × (i ≡ []))
+      go true p c q i f = inl (fieldless_none p)
+      go false p true q i f = cc
+      go false p false q [] f = inr (flag_is ∙ q, refl)
+      go false p false q (x ∷ i) f = cc
+
+  initial_none : (input : List ℕ) → is_initial root more flag input ≡ true → has_required parts ≡ false
+  initial_none input e = go (initial_why input e)
+    where
+      go : (parts ≡ none) ⊎ ((has_required parts ≡ false) × (input ≡ [])) → has_required parts ≡ false
+      go (inl p) = ap has_required p
+      go (inr p) = p.0
+
+  not_bare : (rule : Codec) (depth : ℕ) (closing : Bool) (input : List ℕ) → is_initial root more flag input ≡ false → IsBare (parts_of rule parts depth closing) closing input → ⊥
+  not_bare rule depth closing input e (n, c, i) = go (is_fieldless root more) flag refl (sym flag_is ∙ not_required rule parts depth closing n) (subst (λ z. is_initial root more flag z ≡ false) i e)
+    where
+      go : (b c : Bool) → flag ≡ c → flag ≡ false → b || (not c && true) ≡ false → ⊥
+      go true c f q p = cc
+      go false true f q p = cc
+      go false false f q p = cc
+
+-- At no parts nothing is read, whether the contents are bare or not.
+bare_or : (closing : Bool) (input : List ℕ) → ((closing ≡ false) × (input ≡ [])) ⊎ ((closing ≡ false) × (input ≡ []) → ⊥)
+bare_or true input = inr (λ e. let f = e.0 in cc)
+bare_or false [] = inl (refl, refl)
+bare_or false (b ∷ l) = inr (λ e. let f = e.1 in cc)
+
+none_exact : (closing : Bool) (input : List ℕ) (t : Tree) → t ≡ items [] → Exact (ReadsSeq [] closing) input (Got t input)
+none_exact closing input t e = (there (bare_or closing input), only)
+  where
+    there : ((closing ≡ false) × (input ≡ [])) ⊎ ((closing ≡ false) × (input ≡ []) → ⊥) → ReadsSeq [] closing input t input
+    there (inl b) = ([], e, inl (((λ h. h), b.0, b.1), refl, refl))
+    there (inr n) = ([], e, inr ((λ b. n (b.1, b.2)), (refl, refl)))
+
+    only : (u : Tree) (s : List ℕ) → ReadsSeq [] closing input u s → (u ≡ t) × (s ≡ input)
+    only u s (ts, f, inl (b, m, r)) = (f ∙ ap items m ∙ sym e, r)
+    only u s (ts, f, inr (b, (m, r))) = (f ∙ ap items m ∙ sym e, r)
+
+bare_exact : (ps : List Part) (t : Tree) (ts : List Tree) → (HasRequired ps → ⊥) → t ≡ items ts → AllMissing ps ts → Exact (ReadsSeq ps false) [] (Got t [])
+bare_exact ps t ts n e m = ((ts, e, inl ((n, refl, refl), m, refl)), only)
+  where
+    only : (u : Tree) (s : List ℕ) → ReadsSeq ps false [] u s → (u ≡ t) × (s ≡ [])
+    only u s (us, f, inl (b, k, r)) = (f ∙ ap items (all_missing_one ps us ts k m) ∙ sym e, r)
+    only u s (us, f, inr (b, k)) = absurd (b (n, refl, refl))
+
+parts_exact : (ps : List Part) (closing : Bool) (input : List ℕ) (o : Outcome) → (IsBare ps closing input → ⊥)
+    → Exact (λ i t r. (ts : List Tree) × (t ≡ items ts) × InOrder ps closing i ts r) input o → Exact (ReadsSeq ps closing) input o
+parts_exact ps closing input (Got t r) n (x, u) = ((x.0, x.1, inr (n, x.2)), only)
+  where
+    only : (v : Tree) (s : List ℕ) → ReadsSeq ps closing input v s → (v ≡ t) × (s ≡ r)
+    only v s (ts, f, inl (b, m, k)) = absurd (n b)
+    only v s (ts, f, inr (b, k)) = u v s (ts, f, k)
+parts_exact ps closing input Rattle.rasn_de.specs.Outcomes.Refused n x = λ v s w. none v s w
+  where
+    none : (v : Tree) (s : List ℕ) → ReadsSeq ps closing input v s → ⊥
+    none v s (ts, f, inl (b, m, k)) = n b
+    none v s (ts, f, inr (b, k)) = x v s (ts, f, k)
+parts_exact ps closing input Rattle.rasn_de.specs.Outcomes.Starved n x = tt
+
+-- The answer is exact, or an input ends with its header and is left.
+abbrev pub IsExactOrCut : {D : Type 0} → (D → Tree) → (Codec → ℕ → Bool → Reading Tree) → State → Result D DecodeError → State → Type 0
+IsExactOrCut tree R o r n = Exact (R o.rule o.depth o.closing) o.rest (outcome tree r n.rest) ⊎ ((o.closing ≡ true) × (o.rest ≡ []) × (n.rest ≡ []))
+
+abbrev pub SeqReads : Parts → Codec → ℕ → Bool → Reading Tree
+SeqReads parts rule depth closing = ReadsSeq (parts_of rule parts depth closing) closing
+
+module _ {I D : Type 0} (root more : ℕ) (flag : Bool) (parts : Parts) (d : describes root more flag parts ≡ true) (tree : D → Tree) (made : I → Result D AllocError → Type 0) (init : Option I) (bare : MakesBare parts tree made init)
+    (called : State → Result D DecodeError → State → Type 0) (H : (o : State) (r : Result D DecodeError) (n : State) → called o r n → DecodesParts parts tree o r n) where
+  made_exact : (o : State) (v : D) → is_initial root more flag o.rest ≡ true → (ts : List Tree) → tree v ≡ items ts → AllMissing (parts_of o.rule parts o.depth o.closing) ts → IsExactOrCut tree (SeqReads parts) o (Ok v) o
+  unfolding parts_of
+  made_exact o v s ts e m = go (initial_why root more flag parts d o.rest s)
+    where
+      at_none : (ps : Parts) → ps ≡ none → AllMissing (parts_of o.rule ps o.depth o.closing) ts → Exact (ReadsSeq (parts_of o.rule ps o.depth o.closing) o.closing) o.rest (Got (tree v) o.rest)
+      at_none none p m = none_exact o.closing o.rest (tree v) (e ∙ ap items m)
+      at_none (part p s ps) q m = cc
+
+      at_empty : (c : Bool) → o.closing ≡ c → has_required parts ≡ false → o.rest ≡ [] → IsExactOrCut tree (SeqReads parts) o (Ok v) o
+      at_empty true q f i = inr (q, i, i)
+      at_empty false q f i =
+          let P : Bool → Type 0 = λ c. AllMissing (parts_of o.rule parts o.depth c) ts in
+          let x = bare_exact (parts_of o.rule parts o.depth false) (tree v) ts (no_required o.rule parts o.depth false f) e (subst P q m) in
+          let Q : List ℕ → Type 0 = λ l. Exact (ReadsSeq (parts_of o.rule parts o.depth false) false) l (Got (tree v) l) in
+          let S : Bool → Type 0 = λ c. Exact (ReadsSeq (parts_of o.rule parts o.depth c) c) o.rest (Got (tree v) o.rest) in
+          inl (subst S (sym q) (subst Q (sym i) x))
+
+      go : (parts ≡ none) ⊎ ((has_required parts ≡ false) × (o.rest ≡ [])) → IsExactOrCut tree (SeqReads parts) o (Ok v) o
+      go (inl p) = inl (at_none parts p m)
+      go (inr p) = at_empty o.closing refl p.0 p.1
+
+  made_one : (o : State) (r : Result D DecodeError) → is_initial root more flag o.rest ≡ true → (i : Option I) → MakesBare parts tree made i → Initial made i o r → IsExactOrCut tree (SeqReads parts) o r o
+  made_one o (Ok v) s None b k = absurd k
+  made_one o (Err e) s None b k = let q = initial_none root more flag parts d o.rest s in cc
+  made_one o (Ok v) s (Some i) b k = let m = b v k o.rule o.depth o.closing in made_exact o v s m.0 m.1 m.2
+  made_one o (Err e) s (Some i) b (x, k, w) =
+      let P : DecodeErrorKind → Type 0 = λ z. Exact (SeqReads parts o.rule o.depth o.closing) o.rest (refusal z) in
+      inl (subst P (sym (ap (λ (y : DecodeError). y.kind) w)) tt)
+
+  pub fills_exact : (o : State) (r : Result D DecodeError) (n : State) → Fills (is_initial root more flag) (Initial made init) called o r n → IsExactOrCut tree (SeqReads parts) o r n
+  unfolding ReadsParts
+  fills_exact o r n (inl (s, k, e)) = subst (IsExactOrCut tree (SeqReads parts) o r) (sym e) (made_one o r s init bare k)
+  fills_exact o r n (inr (s, k)) =
+      inl (parts_exact (parts_of o.rule parts o.depth o.closing) o.closing o.rest (outcome tree r n.rest) (not_bare root more flag parts d o.rule o.depth o.closing o.rest s) (H o r n k).exact)

@@ -1,0 +1,111 @@
+-- How the reads of parts, one behind the other, are a read of all. A closure that reads the parts of a SEQUENCE writes one
+-- clause, `ensures { DecodesParts PARTS TREE decoder.old result decoder.new }`, and answers a line for each `?` and one for `Ok`:
+--
+--     pub returns-in_err-first : goal.returns-in_err-first
+--     returns-in_err-first c = refused _ _ _ c.from_residual.ensures.1 (first_refused _ _ _ c.in_err-first.ensures)
+--
+--     pub returns-in_err-second : goal.returns-in_err-second
+--     returns-in_err-second c =
+--         refused _ _ _ c.from_residual-in_err-second.ensures.1 (later_refused _ _ _ c.in_ok-first.ensures (first_refused _ _ _ c.in_err-second.ensures))
+--
+--     pub returns : goal.returns
+--     returns c = parts_got _ _ c.in_ok-first.ensures (parts_got _ _ c.in_ok-second.ensures no_parts)
+use Rattle.std.proofs.Common.{◌≡◌, ℕ, Bool, List, [], ◌∷◌, ◌++◌, Result, Ok, Err, refl, sym, ap, ◌∙◌, subst}
+use Rattle.std.specs.Prelude.{IsErrAnd}
+use Rattle.std.proofs.lemmas.Result.{err_from_is_err_and}
+use Rattle.rasn_types.specs.declared.types.rules.Codec.{Codec}
+use Rattle.rasn_types.specs.declared.error.decode.DecodeError.{DecodeError}
+use Rattle.rasn_types.specs.declared.error.decode.DecodeErrorKind.{DecodeErrorKind}
+use Rattle.rasn_types.specs.Shapes.{Shape, Tree, items, done, joined, Parts, part, Presence, required, own}
+use Rattle.rasn_types.specs.Shapes.Parts.{none}
+use Rattle.rasn_types.specs.Readers.{Reading, ReadsPart, InOrder}
+use Rattle.rasn_types.specs.Grammar.{Reads, parts_of}
+use Rattle.rasn_de.specs.State.{State, at, IsEnd}
+use Rattle.rasn_de.specs.Outcomes.{Exact, Outcome, Got, refusal, outcome}
+use Rattle.rasn_de.specs.Decodes.{Answers, ReadsParts, DecodesParts}
+use Rattle.rasn_de.proofs.Answering.{Exact-refusal}
+use Rattle.rasn_de.proofs.Ends.{IsEnd-refl, IsEnd-trans}
+
+-- one part, as its presence says
+abbrev pub OnePart : Presence → Shape → Codec → ℕ → Bool → Reading Tree
+OnePart p s rule depth closing = ReadsPart p (own s) (Reads rule s depth closing) closing
+
+-- no part
+pub no_parts : {old : State} → Answers (ReadsParts none) old (Got done old.rest) old
+unfolding ReadsParts parts_of
+no_parts {old} = record { stays = refl; end = IsEnd-refl old.rest; exact = (([], refl, (refl, refl)), λ t r w. (w.1 ∙ ap items w.2.0, w.2.1)) }
+
+-- The first part is refused, of any presence.
+pub one_refused : (p : Presence) (s : Shape) (ps : Parts) (old new : State) (k : DecodeErrorKind) → Answers (OnePart p s) old (refusal k) new → Answers (ReadsParts (part p s ps)) old (refusal k) new
+unfolding ReadsParts parts_of
+one_refused p s ps old new k a = record {
+  stays = a.stays;
+  end = a.end;
+  exact = Exact-refusal k (OnePart p s old.rule old.depth old.closing) (ReadsParts (part p s ps) old.rule old.depth old.closing) old.rest old.rest (λ n t r w. let i = w.2 in n i.0 i.2 i.4) a.exact;
+}
+
+rule_is : (old mid : State) → mid ≡ at old mid.rest → mid.rule ≡ old.rule
+rule_is old mid e = ap (λ (x : State). x.rule) e
+
+depth_is : (old mid : State) → mid ≡ at old mid.rest → mid.depth ≡ old.depth
+depth_is old mid e = ap (λ (x : State). x.depth) e
+
+closing_is : (old mid : State) → mid ≡ at old mid.rest → mid.closing ≡ old.closing
+closing_is old mid e = ap (λ (x : State). x.closing) e
+
+stays_after : (old mid new : State) → mid ≡ at old mid.rest → new ≡ at mid new.rest → new ≡ at old new.rest
+stays_after old mid new a e = e ∙ ap (λ (x : State). at x new.rest) a
+
+module _ (p : Presence) (s : Shape) (ps : Parts) (old mid new : State) (t : Tree) (a : Answers (OnePart p s) old (Got t mid.rest) mid) where
+  later_exact : (o : Outcome) → Exact (ReadsParts ps mid.rule mid.depth mid.closing) mid.rest o → Exact (ReadsParts ps old.rule old.depth old.closing) mid.rest o
+  later_exact o x = subst (λ c. Exact (ReadsParts ps old.rule old.depth c) mid.rest o) (closing_is old mid a.stays)
+      (subst (λ d. Exact (ReadsParts ps old.rule d mid.closing) mid.rest o) (depth_is old mid a.stays) (subst (λ r. Exact (ReadsParts ps r mid.depth mid.closing) mid.rest o) (rule_is old mid a.stays) x))
+
+  -- what is related goes on behind the first part
+  behind_first : (v : Tree) (r : List ℕ) → ReadsParts (part p s ps) old.rule old.depth old.closing old.rest v r → (u : Tree) × (v ≡ joined t u) × ReadsParts ps old.rule old.depth old.closing mid.rest u r
+  unfolding ReadsParts parts_of
+  behind_first v r (ts, e, (x, xs, middle, f, y, z)) =
+      let q = a.exact.1 x middle y in
+      (items xs, e ∙ ap items f ∙ ap (λ w. joined w (items xs)) q.0, (xs, refl, subst (λ l. InOrder (parts_of old.rule ps old.depth old.closing) old.closing l xs r) q.1 z))
+
+  -- A later part is refused.
+  pub others_refused : (k : DecodeErrorKind) → Answers (ReadsParts ps) mid (refusal k) new → Answers (ReadsParts (part p s ps)) old (refusal k) new
+  others_refused k b = record {
+    stays = stays_after old mid new a.stays b.stays;
+    end = IsEnd-trans old.rest mid.rest new.rest a.end b.end;
+    exact = Exact-refusal k (ReadsParts ps old.rule old.depth old.closing) (ReadsParts (part p s ps) old.rule old.depth old.closing) mid.rest old.rest (λ n v r w. let q = behind_first v r w in n q.0 r q.2) (later_exact (refusal k) b.exact);
+  }
+
+  -- All parts are there.
+  pub others_got : (u : Tree) → Answers (ReadsParts ps) mid (Got u new.rest) new → Answers (ReadsParts (part p s ps)) old (Got (joined t u) new.rest) new
+  unfolding ReadsParts parts_of
+  others_got u b =
+      let x = later_exact (Got u new.rest) b.exact in
+      let i = x.0 in
+      record {
+        stays = stays_after old mid new a.stays b.stays;
+        end = IsEnd-trans old.rest mid.rest new.rest a.end b.end;
+        exact = (
+          (t ∷ i.0, ap (λ z. joined t z) i.1, (t, i.0, mid.rest, refl, a.exact.0, i.2)),
+          λ v r w. let q = behind_first v r w in let y = x.1 q.0 r q.2 in (q.1 ∙ ap (λ z. joined t z) y.0, y.1),
+        );
+      }
+
+-- The same of parts that are required.
+pub first_refused : (s : Shape) (ps : Parts) (k : DecodeErrorKind) {old new : State} → Answers (λ rule. Reads rule s) old (refusal k) new → Answers (ReadsParts (part required s ps)) old (refusal k) new
+first_refused s ps k {old} {new} a = one_refused required s ps old new k a
+
+pub later_refused : (s : Shape) (ps : Parts) (k : DecodeErrorKind) {old mid new : State} {t : Tree} → Answers (λ rule. Reads rule s) old (Got t mid.rest) mid → Answers (ReadsParts ps) mid (refusal k) new
+    → Answers (ReadsParts (part required s ps)) old (refusal k) new
+later_refused s ps k {old} {mid} {new} {t} a b = others_refused required s ps old mid new t a k b
+
+pub parts_got : (s : Shape) (ps : Parts) {old mid new : State} {t u : Tree} → Answers (λ rule. Reads rule s) old (Got t mid.rest) mid → Answers (ReadsParts ps) mid (Got u new.rest) new
+    → Answers (ReadsParts (part required s ps)) old (Got (joined t u) new.rest) new
+parts_got s ps {old} {mid} {new} {t} {u} a b = others_got required s ps old mid new t a u b
+
+-- The error that `?` answers is the one that was met.
+pub refused : {X : Type 0} {R : Codec → ℕ → Bool → Reading Tree} {old new : State} (tree : X → Tree) (r : Result X DecodeError) (e : DecodeError) → IsErrAnd r (λ y. y ≡ e) → Answers R old (refusal e.kind) new → Answers R old (outcome tree r new.rest) new
+refused {X} {R} {old} {new} tree r e h a =
+    let p = err_from_is_err_and r h in
+    let q : r ≡ Err e = p.1 ∙ ap Err p.2 in
+    subst (λ z. Answers R old (outcome tree z new.rest) new) (sym q) a

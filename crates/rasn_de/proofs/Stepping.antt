@@ -1,0 +1,62 @@
+-- The steps of a call that reads inside a value.
+use Rattle.std.proofs.Common.{◌≡◌, ◌≢◌, ℕ, Bool, List, Result, Ok, Err, refl, sym, ap, ◌∙◌, subst}
+use Rattle.rasn_types.specs.declared.types.rules.Codec.{Codec}
+use Rattle.rasn_types.specs.declared.error.decode.DecodeError.{DecodeError}
+use Rattle.rasn_types.specs.Framing.{Extent, definite, indefinite}
+use Rattle.rasn_de.specs.declared.ber.de.parser.Fault.{Fault}
+use Rattle.rasn_de.specs.declared.ber.de.parser.Contents.{Contents}
+use Rattle.rasn_de.specs.Headers.{Header}
+use Rattle.rasn_de.specs.Strings.{inner, finished}
+use Rattle.rasn_de.specs.Views.{extent}
+use Rattle.rasn_de.specs.Causes.{kind_of}
+use Rattle.rasn_de.specs.State.{State, at, IsEnd}
+use Rattle.rasn_de.specs.Taking.{ErrorOf}
+use Rattle.rasn_de.specs.Inside.{Door, door_at, inner_state, unclosed, Keeps, Opens, Closes, Failed, no_value, inside, not_closed, Finished, ReadInside}
+use Rattle.rasn_de.proofs.Ends.{IsEnd-trans}
+
+pub kept_after : (old mid new : State) → Keeps old mid → Keeps mid new → Keeps old new
+kept_after old mid new a b = record { stays = b.stays ∙ ap (λ (s : State). at s new.rest) a.stays; end = IsEnd-trans old.rest mid.rest new.rest a.end b.end }
+
+rules_same : (old mid : State) (f : Fault) (e : DecodeError) → Keeps old mid → ErrorOf f mid e → ErrorOf f old e
+rules_same old mid f e k w = w ∙ ap (λ c. record { kind = kind_of f; codec = c }) (ap (λ (s : State). s.rule) k.stays)
+
+module _ {D : Type 0} (read : State → Result D DecodeError → State → Type 0) (d : Door) (old : State) where
+  pub step_none : (e : DecodeError) (new : State) → Opens d old (Err e) new → ReadInside read d old (Err e) new
+  step_none e new (f, h, w, k) = (k, no_value f h w)
+
+  module _ (p : State) (c : Contents) (mid : State) (w : Opens d old (Ok (p, c)) mid) where
+    moved : (r : Result D DecodeError) (left : State) → read p r left → read (inner_state d old w.0) r left
+    moved r left k = subst (λ z. read z r left) w.2 k
+
+    -- the value's extent and what stood behind its header
+    closing_at : (l m : List ℕ) (r : Result (List ℕ) Fault) → l ≡ m → finished (extent c) mid.rest l ≡ r → finished w.0.extent w.0.rest m ≡ r
+    closing_at l m r e f =
+        let q : mid.rest ≡ w.0.rest = ap (λ (s : State). s.rest) w.4 in
+        subst (λ x. finished x w.0.rest m ≡ r) w.3 (subst (λ z. finished (extent c) z m ≡ r) q (subst (λ z. finished (extent c) mid.rest z ≡ r) e f))
+
+    left_at : (l m rest : List ℕ) → l ≡ m → rest ≡ unclosed (extent c) mid.rest l → rest ≡ unclosed w.0.extent w.0.rest m
+    left_at l m rest e f =
+        let q : mid.rest ≡ w.0.rest = ap (λ (s : State). s.rest) w.4 in
+        subst (λ x. rest ≡ unclosed x w.0.rest m) w.3 (subst (λ z. rest ≡ unclosed (extent c) z m) q (subst (λ z. rest ≡ unclosed (extent c) mid.rest z) e f))
+
+    pub step_refused : (e : DecodeError) (left : State) → read p (Err e) left → ReadInside read d old (Err e) mid
+    step_refused e left k = (w.5, inside w.0 w.1 left (moved (Err e) left k) (ap (λ (s : State). s.rest) w.4))
+
+    open_end : (x : Extent) (rest l : List ℕ) → x ≡ indefinite → IsEnd (inner x rest) l → IsEnd rest l
+    open_end (definite b) rest l e h = cc
+    open_end indefinite rest l e h = h
+
+    -- what is left inside an indefinite value ends what stands behind its header
+    pub step_end : (left : State) → Keeps p left → (l : List ℕ) → l ≡ left.rest → extent c ≡ indefinite → IsEnd mid.rest l
+    step_end left k l e x =
+        let q : mid.rest ≡ w.0.rest = ap (λ (s : State). s.rest) w.4 in
+        let i : IsEnd (inner w.0.extent w.0.rest) left.rest = subst (λ (z : State). IsEnd z.rest left.rest) w.2 k.end in
+        subst (λ z. IsEnd z l) (sym q) (subst (IsEnd w.0.rest) (sym e) (open_end w.0.extent w.0.rest left.rest (sym w.3 ∙ x) i))
+
+    pub step_unclosed : (v : D) (left : State) → read p (Ok v) left → (l : List ℕ) → l ≡ left.rest → (e : DecodeError) (new : State) → Closes (extent c) l mid (Err e) new → ReadInside read d old (Err e) new
+    step_unclosed v left k l m e new (f, g, u, r, s) =
+        (kept_after old mid new w.5 s, not_closed w.0 w.1 v left (moved (Ok v) left k) f (closing_at l left.rest (Err f) m g) (rules_same old mid f e w.5 u) (left_at l left.rest new.rest m r))
+
+    pub step_closed : (v : D) (left : State) → read p (Ok v) left → (l : List ℕ) → l ≡ left.rest → (new : State) → Closes (extent c) l mid (Ok tt) new → ReadInside read d old (Ok v) new
+    step_closed v left k l m new (g, s) =
+        (kept_after old mid new w.5 s, record { header = w.0; opened = w.1; left = left; call = moved (Ok v) left k; closed = closing_at l left.rest (Ok new.rest) m g })

@@ -1,0 +1,76 @@
+-- Values that hold others: how they are opened, read inside and closed.
+use Rattle.std.specs.Prelude.{◌≡◌, ◌⊎◌, ℕ, ◌-◌, nat_eq, Bool, true, false, ◌&&◌, not, if◌then◌else◌, List, [], ◌∷◌, Option, Some, None, Result, Ok, Err}
+use Rattle.rasn_types.specs.declared.types.tag.Tag.{Tag}
+use Rattle.rasn_types.specs.declared.types.rules.Codec.{Codec}
+use Rattle.rasn_types.specs.declared.error.decode.DecodeError.{DecodeError}
+use Rattle.rasn_types.specs.Framing.{Extent, definite, indefinite}
+use Rattle.rasn_de.specs.declared.ber.de.parser.Fault.{Fault}
+use Rattle.rasn_de.specs.declared.ber.de.parser.Fault.TheVariants.{ExceedsMaxParseDepth, InvalidConstructedIdentifier}
+use Rattle.rasn_de.specs.declared.ber.de.parser.Contents.{Contents}
+use Rattle.rasn_de.specs.Headers.{Header, header_at}
+use Rattle.rasn_de.specs.Strings.{inner, finished}
+use Rattle.rasn_de.specs.Views.{extent}
+use Rattle.rasn_de.specs.State.{State, at, IsEnd}
+use Rattle.rasn_de.specs.Taking.{ErrorOf}
+
+-- How a value is opened: its tag, whether it has to be constructed, and the levels of depth that it takes.
+pub record Door : Type 0 where
+  pub tag : Tag
+  pub needed : Bool
+  pub levels : ℕ
+
+-- A header, or the fault and what it leaves: all of the input, or for a primitive identifier what follows the value.
+abbrev pub through : Bool → List ℕ → Result Header Fault → Result Header (Fault × List ℕ)
+through needed l (Ok h) = if needed && not h.bit then Err (InvalidConstructedIdentifier, h.rest) else Ok h
+through needed l (Err f) = Err (f, l)
+
+-- Depth is told before the header.
+abbrev pub door_at : Door → Codec → ℕ → List ℕ → Result Header (Fault × List ℕ)
+door_at d rule depth l = if nat_eq depth 0 then Err (ExceedsMaxParseDepth, l) else through d.needed l (header_at rule (Some d.tag) l)
+
+abbrev pub is_open : Extent → Bool
+is_open (definite c) = false
+is_open indefinite = true
+
+-- the decoder inside: of the contents, or of what follows the header
+abbrev pub inner_state : Door → State → Header → State
+inner_state d s h = record { rule = s.rule; depth = s.depth - d.levels; closing = is_open h.extent; whole = inner h.extent h.rest; rest = inner h.extent h.rest }
+
+-- what is left where a value isn't closed: what follows it, or where reading inside came to
+abbrev pub unclosed : Extent → List ℕ → List ℕ → List ℕ
+unclosed (definite c) rest left = rest
+unclosed indefinite rest left = left
+
+-- What a reading closure owes: an end of what remained is left, and all else stays.
+pub record Keeps (old new : State) : Type 0 where
+  pub stays : new ≡ at old new.rest
+  pub end : IsEnd old.rest new.rest
+
+abbrev pub Opens : Door → State → Result (State × Contents) DecodeError → State → Type 0
+Opens d old (Ok p) new = (h : Header) × (door_at d old.rule old.depth old.rest ≡ Ok h) × (p.0 ≡ inner_state d old h) × (extent p.1 ≡ h.extent) × (new ≡ at old h.rest) × Keeps old new
+Opens d old (Err e) new = (f : Fault) × (door_at d old.rule old.depth old.rest ≡ Err (f, new.rest)) × ErrorOf f old e × Keeps old new
+
+abbrev pub Closes : Extent → List ℕ → State → Result (Unit {0}) DecodeError → State → Type 0
+Closes x left old (Ok u) new = (finished x old.rest left ≡ Ok new.rest) × Keeps old new
+Closes x left old (Err e) new = (f : Fault) × (finished x old.rest left ≡ Err f) × ErrorOf f old e × (new.rest ≡ unclosed x old.rest left) × Keeps old new
+
+-- read o r n says that inside, on the decoder o, r may be answered and n be left.
+module _ {D : Type 0} (read : State → Result D DecodeError → State → Type 0) (d : Door) (old : State) where
+  -- what a refusal comes from, and what it leaves
+  pub data Failed (e : DecodeError) (rest : List ℕ) : Type 0 where
+    no_value : (f : Fault) → door_at d old.rule old.depth old.rest ≡ Err (f, rest) → ErrorOf f old e → Failed e rest
+    inside : (h : Header) → door_at d old.rule old.depth old.rest ≡ Ok h → (left : State) → read (inner_state d old h) (Err e) left → rest ≡ h.rest → Failed e rest
+    not_closed : (h : Header) → door_at d old.rule old.depth old.rest ≡ Ok h → (v : D) (left : State) → read (inner_state d old h) (Ok v) left
+        → (f : Fault) → finished h.extent h.rest left.rest ≡ Err f → ErrorOf f old e → rest ≡ unclosed h.extent h.rest left.rest → Failed e rest
+
+  -- what was answered, once, inside, and how the value was closed
+  pub record Finished (v : D) (rest : List ℕ) : Type 0 where
+    pub header : Header
+    pub opened : door_at d old.rule old.depth old.rest ≡ Ok header
+    pub left : State
+    pub call : read (inner_state d old header) (Ok v) left
+    pub closed : finished header.extent header.rest left.rest ≡ Ok rest
+
+  abbrev pub ReadInside : Result D DecodeError → State → Type 0
+  ReadInside (Ok v) new = Keeps old new × Finished v new.rest
+  ReadInside (Err e) new = Keeps old new × Failed e new.rest
