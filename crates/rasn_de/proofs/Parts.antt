@@ -25,6 +25,8 @@ use Rattle.rasn_de.specs.Outcomes.{Exact, Outcome, Got, refusal, outcome}
 use Rattle.rasn_de.specs.Decodes.{Answers, ReadsParts, DecodesParts}
 use Rattle.rasn_de.proofs.Answering.{Exact-refusal}
 use Rattle.rasn_de.proofs.Ends.{IsEnd-refl, IsEnd-trans}
+use Rattle.rasn_de.specs.Inside.{Keeps}
+use Rattle.rasn_de.proofs.Stepping.{kept_after}
 
 -- one part, as its presence says
 abbrev pub OnePart : Presence → Shape → Codec → ℕ → Bool → Reading Tree
@@ -109,3 +111,10 @@ refused {X} {R} {old} {new} tree r e h a =
     let p = err_from_is_err_and r h in
     let q : r ≡ Err e = p.1 ∙ ap Err p.2 in
     subst (λ z. Answers R old (outcome tree z new.rest) new) (sym q) a
+
+-- What a reading closure owes of any calls: each one keeps it, and so do two, one behind the other.
+pub call_keeps : {R : Codec → ℕ → Bool → Reading Tree} {o : Outcome} {old new : State} → Answers R old o new → Keeps old new
+call_keeps a = record { stays = a.stays; end = a.end }
+
+pub keeps_then : {old mid new : State} → Keeps old mid → Keeps mid new → Keeps old new
+keeps_then {old} {mid} {new} a b = kept_after old mid new a b

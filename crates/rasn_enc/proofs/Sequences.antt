@@ -38,7 +38,7 @@ use Rattle.rasn_types.specs.Bytes.{Bytes, fields_of, Field, PartsWritten, NoneBa
 use Rattle.rasn_types.specs.declared.types.rules.Codec.{Codec}
 use Rattle.rasn_types.specs.declared.types.tag.Tag.{Tag}
 use Rattle.rasn_types.specs.declared.error.encode.EncodeError.{EncodeError}
-use Rattle.rasn_enc.specs.View.{View, Frame, appended, opened}
+use Rattle.rasn_enc.specs.View.{View, Frame, LeavesOthers, appended, opened}
 use Rattle.rasn_enc.specs.Primitives.{WantsMemory}
 use Rattle.rasn_types.specs.Errors.{IsEncodeMemory}
 use Rattle.rasn_enc.specs.Wrote.{Wrote, MayRefuse, Undefined, Bare}
@@ -230,3 +230,11 @@ sequence_refused g f v tag parts tree r h refused = IfErr-weaker r _ _ (λ e. el
     | inr (inr n) ↦ absurd (n.keeps refl)
   ]
 ]) h
+
+-- What a writing closure owes of any calls: each one keeps it, written or refused, and so do two, one behind the other.
+pub call_keeps : {T : Type 0} (s : Shape) (t : Tree) {v w : View} (r : Result T EncodeError) → OnOk r (Wrote s t v w) → OnErr r (w ≡ v) → LeavesOthers v w
+call_keeps {T} s t {v} {w} (Ok x) a e = record { rule = ap (λ (u : View). u.rule) a.appended; below = ap (λ (u : View). u.below) a.appended }
+call_keeps {T} s t {v} {w} (Err x) a e = record { rule = ap (λ (u : View). u.rule) e; below = ap (λ (u : View). u.below) e }
+
+pub keeps_then : {u v w : View} → LeavesOthers u v → LeavesOthers v w → LeavesOthers u w
+keeps_then a b = record { rule = b.rule ∙ a.rule; below = b.below ∙ a.below }

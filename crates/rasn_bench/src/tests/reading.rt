@@ -1,25 +1,10 @@
 //! What is read, what a refusal says, and what it has consumed.
 
+use super::outcome;
 use rasn::ber;
 use rasn::ber::de::{Decoder, DecoderOptions};
-use rasn::de::Decode;
 use rasn::types::{Class, OctetString, Tag};
-use std::alloc::{AllocError, Global};
 use std::test::Fail;
-
-/// The kind of a refused read as text, and what it has consumed; the text `read` where a value is read.
-fn outcome<T: Decode>(
-    alloc: Global,
-    input: &[u8],
-    options: DecoderOptions,
-) -> Result<(String, usize), AllocError> {
-    let mut decoder = Decoder::new(alloc, input, options);
-    let text = match T::decode(&mut decoder) {
-        Ok(_) => String::from_str(alloc, "read")?,
-        Err(error) => format!(in alloc; "{:?}", error.kind)?,
-    };
-    Ok((text, decoder.decoded_len()))
-}
 
 #[test]
 fn what_follows_is_the_rest(rt: HostRuntime) -> Result<(), Fail> {
