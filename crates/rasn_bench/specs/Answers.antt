@@ -3,12 +3,12 @@ use Rattle.std.specs.Prelude.{◌≡◌, ℕ, ◌⊎◌, List, [], Option, Some,
 use Rattle.rasn_types.specs.declared.types.rules.Codec.{Codec}
 use Rattle.rasn_types.specs.declared.types.rules.Codec.TheVariants.{Der}
 use Rattle.rasn_types.specs.Tags.{in_universal}
-use Rattle.rasn_types.specs.Shapes.{Tree, Shape, leaf, boolean, integer, octet_string, every}
+use Rattle.rasn_types.specs.Shapes.{Tree, Shape, leaf, boolean, integer, octet_string, every, utc_time, generalized_time, date}
 use Rattle.rasn_types.specs.Trees.{unconstrained, signed_range, unsigned_range}
 use Rattle.rasn_types.specs.Grammar.{Reads, top}
 use Rattle.rasn_types.specs.Bytes.{Bytes}
 use Rattle.rasn_bench.specs.declared.line.ValueType.{ValueType}
-use Rattle.rasn_bench.specs.declared.line.ValueType.TheVariants.{Bool, I32, U32, Octets, Pair, Integer}
+use Rattle.rasn_bench.specs.declared.line.ValueType.TheVariants.{Bool, I32, U32, Octets, Pair, Integer, UtcTime, GeneralizedTime, Date}
 use Rattle.rasn_bench.specs.declared.answer.Answer.{Answer}
 use Rattle.rasn_bench.specs.declared.answer.Answer.TheVariants.{Read, NotWritten, Refused, Malformed}
 use Rattle.rasn_bench.specs.Lines.{IsRequest, octets_at}
@@ -21,6 +21,9 @@ shape_of U32 = leaf (integer (unsigned_range 32)) (in_universal 2) unconstrained
 shape_of Octets = leaf octet_string (in_universal 4) unconstrained
 shape_of Pair = pair_shape
 shape_of Integer = leaf (integer every) (in_universal 2) unconstrained
+shape_of UtcTime = leaf utc_time (in_universal 23) unconstrained
+shape_of GeneralizedTime = leaf generalized_time (in_universal 24) unconstrained
+shape_of Date = leaf date (in_universal 31) unconstrained
 
 abbrev pub kind_of : ValueType → List ℕ
 kind_of Bool = codes "BOOLEAN"
@@ -29,6 +32,9 @@ kind_of U32 = codes "INTEGER"
 kind_of Octets = codes "OCTET-STRING"
 kind_of Pair = codes "SEQUENCE"
 kind_of Integer = codes "INTEGER"
+kind_of UtcTime = codes "TIME"
+kind_of GeneralizedTime = codes "TIME"
+kind_of Date = codes "TIME"
 
 -- By these rules the input begins with this value, and so many octets follow it.
 pub record IsRead (rule : Codec) (shape : Shape) (input : List ℕ) (t : Tree) (count : ℕ) : Type 0 where

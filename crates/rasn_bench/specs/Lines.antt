@@ -4,7 +4,7 @@ use Rattle.std.specs.List.{position_or_len, before_first, after_first}
 use Rattle.rasn_types.specs.declared.types.rules.Codec.{Codec}
 use Rattle.rasn_types.specs.declared.types.rules.Codec.TheVariants.{Ber, Cer, Der}
 use Rattle.rasn_bench.specs.declared.line.ValueType.{ValueType}
-use Rattle.rasn_bench.specs.declared.line.ValueType.TheVariants.{Bool as BoolType, I32, U32, Octets, Pair, Integer}
+use Rattle.rasn_bench.specs.declared.line.ValueType.TheVariants.{Bool as BoolType, I32, U32, Octets, Pair, Integer, UtcTime, GeneralizedTime, Date}
 
 abbrev pub name_of : ValueType → List ℕ
 name_of BoolType = codes "bool"
@@ -13,6 +13,9 @@ name_of U32 = codes "u32"
 name_of Octets = codes "octets"
 name_of Pair = codes "pair"
 name_of Integer = codes "integer"
+name_of UtcTime = codes "utctime"
+name_of GeneralizedTime = codes "gentime"
+name_of Date = codes "date"
 
 abbrev pub rule_name : Codec → List ℕ
 rule_name Ber = codes "ber"

@@ -10,7 +10,7 @@ use crate::worked::Pair;
 use rasn::de::Decode;
 use rasn::enc::Encode;
 use rasn::error::DecodeError;
-use rasn::types::{Codec, Integer, OctetString};
+use rasn::types::{Codec, Date, GeneralizedTime, Integer, OctetString, UtcTime};
 use rasn::{ber, cer, der};
 use std::alloc::{AllocError, Global};
 use std::fmt;
@@ -57,6 +57,11 @@ impl Answer {
             ValueType::Octets => answer_as::<OctetString>(alloc, rule, "OCTET-STRING", &octets),
             ValueType::Pair => answer_as::<Pair>(alloc, rule, "SEQUENCE", &octets),
             ValueType::Integer => answer_as::<Integer>(alloc, rule, "INTEGER", &octets),
+            ValueType::UtcTime => answer_as::<UtcTime>(alloc, rule, "TIME", &octets),
+            ValueType::GeneralizedTime => answer_as::<GeneralizedTime>(
+                alloc, rule, "TIME", &octets,
+            ),
+            ValueType::Date => answer_as::<Date>(alloc, rule, "TIME", &octets),
         })
     }
 

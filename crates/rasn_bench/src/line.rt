@@ -16,6 +16,9 @@ pub enum ValueType {
     Octets,
     Pair,
     Integer,
+    UtcTime,
+    GeneralizedTime,
+    Date,
 }
 
 impl ValueType {
@@ -30,6 +33,9 @@ impl ValueType {
             "octets" => Some(ValueType::Octets),
             "pair" => Some(ValueType::Pair),
             "integer" => Some(ValueType::Integer),
+            "utctime" => Some(ValueType::UtcTime),
+            "gentime" => Some(ValueType::GeneralizedTime),
+            "date" => Some(ValueType::Date),
             _ => None,
         }
     }

@@ -4,6 +4,7 @@ mod faults;
 mod lines;
 mod reading;
 mod sequences;
+mod times;
 mod writing;
 
 use rasn::ber::de::{Decoder, DecoderOptions};

@@ -26,3 +26,4 @@ pub mod Sequencing
 pub mod Stepping
 pub mod Parts
 pub mod Appending
+pub mod TimeReads

@@ -68,7 +68,7 @@ octets_decodes tag bounds old new (Err e) o (inl (m, c, s, k)) = record {
   exact = subst (λ k. Exact (Reads old.rule (leaf octet_string tag bounds) old.depth old.closing) old.rest (refusal k)) (sym m) tt;
 }
 
-memory_or : (f : Fault) → (f ≡ fault_is.OutOfMemory) ⊎ (f ≢ fault_is.OutOfMemory)
+pub memory_or : (f : Fault) → (f ≡ fault_is.OutOfMemory) ⊎ (f ≢ fault_is.OutOfMemory)
 memory_or fault_is.OutOfMemory = inl refl
 memory_or _ = inr (λ e. cc)
 

@@ -11,3 +11,4 @@ pub mod Octets
 pub mod Inside
 pub mod Doors
 pub mod Sequences
+pub mod TimeTexts

@@ -7,6 +7,7 @@ use rasn_types::error::DecodeError;
 use rasn_types::types::{AsnType, Constraints, Tag};
 
 mod integers;
+mod times;
 mod values;
 
 /// A type whose values are read: a call succeeds exactly where the grammar relates what is left of the input to a tree and a

@@ -5,3 +5,5 @@ pub mod Octets
 pub mod Leaves
 pub mod Segments
 pub mod Sequences
+pub mod TimeOctets
+pub mod TimeLeaves

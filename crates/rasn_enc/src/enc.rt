@@ -4,6 +4,7 @@ ghost use Rattle.rasn_types.specs.Shapes.{given, absent};
 ghost use Rattle.rasn_enc.specs.Wrote.{Wrote, MayRefuse};
 
 mod integers;
+mod times;
 
 use crate::ber::enc::Encoder;
 use rasn_types::error::EncodeError;

@@ -21,6 +21,7 @@ mod config;
 mod leaves;
 pub mod parser;
 mod sequences;
+mod times;
 
 pub use config::DecoderOptions;
 

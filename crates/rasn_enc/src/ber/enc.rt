@@ -12,6 +12,7 @@ mod leaves;
 mod list;
 #[cfg(test)]
 mod tests;
+mod times;
 
 pub use config::EncoderOptions;
 use list::{OpenList, put_constructed, put_primitive};

@@ -50,7 +50,7 @@ impl<'input> Decoder<'input> {
     }
 
     /// The octets of the next value as a string: borrowed from a primitive one, gathered from segments. A refusal takes nothing.
-    fn octets(&mut self, tag: Tag) -> Result<CowSlice<'input, u8>, DecodeError>
+    pub(super) fn octets(&mut self, tag: Tag) -> Result<CowSlice<'input, u8>, DecodeError>
         ensures gathers { Gathers tag self.old result self.new }
         ensures octets { AreOctets self.old.rest }
     {

@@ -1,0 +1,48 @@
+-- Times, read as strings whose octets are the text of an instant or a day.
+use Rattle.std.specs.Prelude.{◌≡◌, ◌⊎◌, ℕ, ℤ, List, Result, Ok, Err}
+use Rattle.std.specs.declared.alloc.Global.{Global}
+use Rattle.std.specs.declared.vec.Vec.{Vec}
+use Rattle.rasn_types.specs.Calendar.{Moment, Stamp}
+use Rattle.rasn_types.specs.declared.types.tag.Tag.{Tag}
+use Rattle.rasn_types.specs.declared.types.rules.Codec.{Codec}
+use Rattle.rasn_types.specs.declared.types.rules.Codec.TheVariants.{Ber}
+use Rattle.rasn_types.specs.declared.error.decode.DecodeError.{DecodeError}
+use Rattle.rasn_types.specs.declared.error.decode.DecodeErrorKind.TheVariants.{OutOfMemory}
+use Rattle.rasn_types.specs.declared.error.decode.BerDecodeErrorKind.TheVariants.{InvalidDate}
+use Rattle.rasn_de.specs.Causes.{in_ber}
+use Rattle.rasn_de.specs.Octets.{octets_at, Gathers, IsPrimitive}
+use Rattle.rasn_de.specs.State.{State, at}
+
+-- The instant of a text, whatever its offset.
+abbrev pub AtAnyOffset : (List ℕ → Stamp → Type 0) → List ℕ → Moment → Type 0
+AtAnyOffset R text m = (offset : ℤ) × R text (record { moment = m; offset = offset })
+
+-- The error tells the whole text, which is no time's.
+pub record TellsText (text : List ℕ) (rule : Codec) (e : DecodeError) : Type 0 where
+  pub octets : Vec ℕ Global
+  pub items : octets.items ≡ text
+  pub is : e ≡ record { kind = in_ber (InvalidDate octets); codec = rule }
+
+-- No memory was found for the error's copy of the text.
+abbrev pub TellsMemory : Codec → DecodeError → Type 0
+TellsMemory rule e = e ≡ record { kind = OutOfMemory; codec = rule }
+
+-- A text is parsed to what it means; where it means nothing, the error tells it.
+abbrev pub Parses : {X : Type 0} → (List ℕ → X → Type 0) → List ℕ → Result X DecodeError → Type 0
+Parses Means text (Ok x) = Means text x
+Parses {X} Means text (Err e) = ((x : X) → Means text x → ⊥) × TellsText text Ber e
+
+-- The same of a text that has to be copied for the error.
+abbrev pub ParsesCopied : {X : Type 0} → (List ℕ → X → Type 0) → List ℕ → Result X DecodeError → Type 0
+ParsesCopied Means text (Ok x) = Means text x
+ParsesCopied {X} Means text (Err e) = ((x : X) → Means text x → ⊥) × (TellsText text Ber e ⊎ TellsMemory Ber e)
+
+-- A call takes a string whose text means a time. It is refused as the string is, and then takes nothing; or it takes the string, whose
+-- text means nothing. The text of a primitive string is copied for the error.
+abbrev pub GaveTime : {X : Type 0} → (List ℕ → X → Type 0) → Tag → State → Result X DecodeError → State → Type 0
+GaveTime Means tag old (Ok x) new =
+    (text : List ℕ) × (octets_at old.rule old.depth tag old.rest ≡ Ok (text, new.rest)) × (new ≡ at old new.rest) × Means text x
+GaveTime {X} Means tag old (Err e) new =
+    Gathers tag old (Err e) new
+    ⊎ ((text : List ℕ) × (octets_at old.rule old.depth tag old.rest ≡ Ok (text, new.rest)) × (new ≡ at old new.rest) × ((x : X) → Means text x → ⊥)
+    × (TellsText text old.rule e ⊎ (TellsMemory old.rule e × IsPrimitive old.rule tag old.rest)))
