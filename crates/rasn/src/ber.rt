@@ -13,6 +13,7 @@ use rasn_de::de::Decode;
 pub use rasn_enc::ber::enc;
 use rasn_enc::ber::enc::EncoderOptions;
 use rasn_enc::enc::Encode;
+pub use rasn_types::ber::Identifier;
 use rasn_types::error::{DecodeError, EncodeError};
 use std::alloc::Global;
 

@@ -3,16 +3,18 @@ use Rattle.std.specs.Prelude.{◌≡◌, ℕ, ◌⊎◌, List, [], Option, Some,
 use Rattle.rasn_types.specs.declared.types.rules.Codec.{Codec}
 use Rattle.rasn_types.specs.declared.types.rules.Codec.TheVariants.{Der}
 use Rattle.rasn_types.specs.Tags.{in_universal}
-use Rattle.rasn_types.specs.Shapes.{Tree, Shape, leaf, boolean, integer, octet_string, every, utc_time, generalized_time, date}
+use Rattle.rasn_types.specs.Shapes.{Tree, Shape, leaf, boolean, integer, octet_string, every, utc_time, generalized_time, date, null, object_identifier, bit_string, enumerated, utf8, ia5, printable, seq, part, required}
 use Rattle.rasn_types.specs.Trees.{unconstrained, signed_range, unsigned_range}
 use Rattle.rasn_types.specs.Grammar.{Reads, top}
 use Rattle.rasn_types.specs.Bytes.{Bytes}
 use Rattle.rasn_bench.specs.declared.line.ValueType.{ValueType}
-use Rattle.rasn_bench.specs.declared.line.ValueType.TheVariants.{Bool, I32, U32, Octets, Pair, Integer, UtcTime, GeneralizedTime, Date}
+use Rattle.rasn_bench.specs.declared.line.ValueType.TheVariants.{Bool, I32, U32, Octets, Pair, Integer, UtcTime, GeneralizedTime, Date, Null, ObjectIdentifier, Bits, Colour, Utf8, Ia5, Printable, Foo}
 use Rattle.rasn_bench.specs.declared.answer.Answer.{Answer}
 use Rattle.rasn_bench.specs.declared.answer.Answer.TheVariants.{Read, NotWritten, Refused, Malformed}
 use Rattle.rasn_bench.specs.Lines.{IsRequest, octets_at}
+use Rattle.rasn_types.specs.Shapes.Parts.{none}
 use Rattle.rasn_bench.specs.Pairs.{pair_shape}
+use Rattle.rasn_bench.specs.Colours.{colours}
 
 abbrev pub shape_of : ValueType → Shape
 shape_of Bool = leaf boolean (in_universal 1) unconstrained
@@ -24,6 +26,14 @@ shape_of Integer = leaf (integer every) (in_universal 2) unconstrained
 shape_of UtcTime = leaf utc_time (in_universal 23) unconstrained
 shape_of GeneralizedTime = leaf generalized_time (in_universal 24) unconstrained
 shape_of Date = leaf date (in_universal 31) unconstrained
+shape_of Null = leaf null (in_universal 5) unconstrained
+shape_of ObjectIdentifier = leaf object_identifier (in_universal 6) unconstrained
+shape_of Bits = leaf bit_string (in_universal 3) unconstrained
+shape_of Colour = leaf (enumerated colours) (in_universal 10) unconstrained
+shape_of Utf8 = leaf utf8 (in_universal 12) unconstrained
+shape_of Ia5 = leaf ia5 (in_universal 22) unconstrained
+shape_of Printable = leaf printable (in_universal 19) unconstrained
+shape_of Foo = seq (in_universal 16) (part required (leaf ia5 (in_universal 22) unconstrained) (part required (leaf boolean (in_universal 1) unconstrained) none))
 
 abbrev pub kind_of : ValueType → List ℕ
 kind_of Bool = codes "BOOLEAN"
@@ -35,6 +45,14 @@ kind_of Integer = codes "INTEGER"
 kind_of UtcTime = codes "TIME"
 kind_of GeneralizedTime = codes "TIME"
 kind_of Date = codes "TIME"
+kind_of Null = codes "NULL"
+kind_of ObjectIdentifier = codes "OID"
+kind_of Bits = codes "BIT-STRING"
+kind_of Colour = codes "ENUMERATED"
+kind_of Utf8 = codes "STRING"
+kind_of Ia5 = codes "STRING"
+kind_of Printable = codes "STRING"
+kind_of Foo = codes "SEQUENCE"
 
 -- By these rules the input begins with this value, and so many octets follow it.
 pub record IsRead (rule : Codec) (shape : Shape) (input : List ℕ) (t : Tree) (count : ℕ) : Type 0 where

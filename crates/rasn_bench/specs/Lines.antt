@@ -4,7 +4,7 @@ use Rattle.std.specs.List.{position_or_len, before_first, after_first}
 use Rattle.rasn_types.specs.declared.types.rules.Codec.{Codec}
 use Rattle.rasn_types.specs.declared.types.rules.Codec.TheVariants.{Ber, Cer, Der}
 use Rattle.rasn_bench.specs.declared.line.ValueType.{ValueType}
-use Rattle.rasn_bench.specs.declared.line.ValueType.TheVariants.{Bool as BoolType, I32, U32, Octets, Pair, Integer, UtcTime, GeneralizedTime, Date}
+use Rattle.rasn_bench.specs.declared.line.ValueType.TheVariants.{Bool as BoolType, I32, U32, Octets, Pair, Integer, UtcTime, GeneralizedTime, Date, Null, ObjectIdentifier, Bits, Colour, Utf8, Ia5, Printable, Foo}
 
 abbrev pub name_of : ValueType → List ℕ
 name_of BoolType = codes "bool"
@@ -16,6 +16,14 @@ name_of Integer = codes "integer"
 name_of UtcTime = codes "utctime"
 name_of GeneralizedTime = codes "gentime"
 name_of Date = codes "date"
+name_of Null = codes "null"
+name_of ObjectIdentifier = codes "oid"
+name_of Bits = codes "bits"
+name_of Colour = codes "colour"
+name_of Utf8 = codes "utf8"
+name_of Ia5 = codes "ia5"
+name_of Printable = codes "printable"
+name_of Foo = codes "foo"
 
 abbrev pub rule_name : Codec → List ℕ
 rule_name Ber = codes "ber"

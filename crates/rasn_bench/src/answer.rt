@@ -6,11 +6,14 @@ ghost use Rattle.rasn_bench.specs.declared.answer.Answer.TheVariants.{Malformed}
 
 use crate::line::{Request, ValueType};
 use crate::names::{decode_error_name, encode_error_name};
-use crate::worked::Pair;
+use crate::worked::{Colour, Foo, Pair};
 use rasn::de::Decode;
 use rasn::enc::Encode;
 use rasn::error::DecodeError;
-use rasn::types::{Codec, Date, GeneralizedTime, Integer, OctetString, UtcTime};
+use rasn::types::{
+    BitString, Codec, Date, GeneralizedTime, Ia5String, Integer, ObjectIdentifier, OctetString,
+    PrintableString, UtcTime, Utf8String,
+};
 use rasn::{ber, cer, der};
 use std::alloc::{AllocError, Global};
 use std::fmt;
@@ -62,6 +65,16 @@ impl Answer {
                 alloc, rule, "TIME", &octets,
             ),
             ValueType::Date => answer_as::<Date>(alloc, rule, "TIME", &octets),
+            ValueType::Null => answer_as::<()>(alloc, rule, "NULL", &octets),
+            ValueType::ObjectIdentifier => answer_as::<ObjectIdentifier>(
+                alloc, rule, "OID", &octets,
+            ),
+            ValueType::Bits => answer_as::<BitString>(alloc, rule, "BIT-STRING", &octets),
+            ValueType::Colour => answer_as::<Colour>(alloc, rule, "ENUMERATED", &octets),
+            ValueType::Utf8 => answer_as::<Utf8String>(alloc, rule, "STRING", &octets),
+            ValueType::Ia5 => answer_as::<Ia5String>(alloc, rule, "STRING", &octets),
+            ValueType::Printable => answer_as::<PrintableString>(alloc, rule, "STRING", &octets),
+            ValueType::Foo => answer_as::<Foo>(alloc, rule, "SEQUENCE", &octets),
         })
     }
 

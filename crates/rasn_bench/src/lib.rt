@@ -14,4 +14,4 @@ pub use answer::Answer;
 pub use arguments::{Usage, file_of};
 pub use line::{Request, ValueType};
 pub use program::{RunFault, run};
-pub use worked::{Both, Pair};
+pub use worked::{Both, Colour, Foo, Pair};

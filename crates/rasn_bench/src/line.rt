@@ -19,6 +19,14 @@ pub enum ValueType {
     UtcTime,
     GeneralizedTime,
     Date,
+    Null,
+    ObjectIdentifier,
+    Bits,
+    Colour,
+    Utf8,
+    Ia5,
+    Printable,
+    Foo,
 }
 
 impl ValueType {
@@ -36,6 +44,14 @@ impl ValueType {
             "utctime" => Some(ValueType::UtcTime),
             "gentime" => Some(ValueType::GeneralizedTime),
             "date" => Some(ValueType::Date),
+            "null" => Some(ValueType::Null),
+            "oid" => Some(ValueType::ObjectIdentifier),
+            "bits" => Some(ValueType::Bits),
+            "colour" => Some(ValueType::Colour),
+            "utf8" => Some(ValueType::Utf8),
+            "ia5" => Some(ValueType::Ia5),
+            "printable" => Some(ValueType::Printable),
+            "foo" => Some(ValueType::Foo),
             _ => None,
         }
     }

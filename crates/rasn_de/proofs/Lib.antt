@@ -16,6 +16,8 @@ pub mod Peeks
 pub mod Answering
 pub mod Bools
 pub mod OctetStrings
+pub mod Texts
+pub mod Verdicts
 pub mod Integers
 pub mod Starving
 pub mod Entering
@@ -27,3 +29,7 @@ pub mod Stepping
 pub mod Parts
 pub mod Appending
 pub mod TimeReads
+pub mod Nulls
+pub mod Enumerations
+pub mod Arcs
+pub mod BitStrings

@@ -21,7 +21,7 @@ none_bind : {X Y : Type 0} (r : Result X Fault) (f : X → Result Y Fault) → N
 none_bind (Ok x) f p q = q x
 none_bind (Err e) f p q = p
 
-number128_none : (wide : Fault) (n : ℕ) (l : List ℕ) → wide ≢ OutOfMemory → NoMemory (number128_at wide n l)
+pub number128_none : (wide : Fault) (n : ℕ) (l : List ℕ) → wide ≢ OutOfMemory → NoMemory (number128_at wide n l)
 unfolding number128_at
 number128_none wide n [] h = λ e. cc
 number128_none wide n (b ∷ l) h = none_cond (nat_le 0x2000000 n) (Err wide) _ h (none_cond (nat_lt b 128) (Ok (n * 128 + b, l)) _ tt (number128_none wide (n * 128 + b % 128) l h))

@@ -11,7 +11,7 @@ use Rattle.rasn_types.specs.declared.error.decode.BerDecodeErrorKind.TheVariants
 use Rattle.rasn_types.specs.declared.error.decode.DerDecodeErrorKind.{DerDecodeErrorKind}
 use Rattle.rasn_types.specs.declared.error.decode.DerDecodeErrorKind.TheVariants as der
 use Rattle.rasn_de.specs.declared.ber.de.parser.Fault.{Fault}
-use Rattle.rasn_de.specs.declared.ber.de.parser.Fault.TheVariants.{Incomplete, UnexpectedExtraData, UnexpectedEmptyInput, ExceedsMaxParseDepth, OutOfMemory, LengthExceedsPlatformWidth, InvalidBool, MismatchedLength, IntegerOverflow, SizeConstraintNotSatisfied, UnsupportedTagNumber, UnexpectedEndOfContents, MissingEndOfContents, IndefiniteLengthNotAllowed, ReservedLengthOctet, MismatchedTag, InvalidConstructedIdentifier, ConstructedEncodingNotAllowed}
+use Rattle.rasn_de.specs.declared.ber.de.parser.Fault.TheVariants.{Incomplete, UnexpectedExtraData, UnexpectedEmptyInput, ExceedsMaxParseDepth, OutOfMemory, LengthExceedsPlatformWidth, InvalidBool, MismatchedLength, IntegerOverflow, SizeConstraintNotSatisfied, UnsupportedTagNumber, UnexpectedEndOfContents, MissingEndOfContents, IndefiniteLengthNotAllowed, ReservedLengthOctet, MismatchedTag, InvalidConstructedIdentifier, ConstructedEncodingNotAllowed, DiscriminantValueNotFound, UnsupportedObjectIdentifierArc, InvalidBitString, PermittedAlphabetError, StringConversionFailed}
 
 abbrev pub in_ber : BerDecodeErrorKind → DecodeErrorKind
 in_ber k = kind.CodecSpecific (codec.Ber k)
@@ -27,7 +27,10 @@ kind_of LengthExceedsPlatformWidth = kind.LengthExceedsPlatformWidth
 kind_of (InvalidBool value) = kind.InvalidBool value
 kind_of (MismatchedLength expected actual) = kind.MismatchedLength expected actual
 kind_of (IntegerOverflow width) = kind.IntegerOverflow width
+kind_of (InvalidBitString bits) = kind.InvalidBitString bits
 kind_of (SizeConstraintNotSatisfied size expected) = kind.SizeConstraintNotSatisfied (Some size) expected
+kind_of (PermittedAlphabetError octet position) = kind.PermittedAlphabetError octet position
+kind_of (StringConversionFailed tag) = kind.StringConversionFailed tag
 kind_of UnsupportedTagNumber = in_ber ber.UnsupportedTagNumber
 kind_of UnexpectedEndOfContents = in_ber ber.UnexpectedEndOfContents
 kind_of MissingEndOfContents = in_ber ber.MissingEndOfContents
@@ -35,6 +38,8 @@ kind_of IndefiniteLengthNotAllowed = in_ber ber.IndefiniteLengthNotAllowed
 kind_of ReservedLengthOctet = in_ber ber.ReservedLengthOctet
 kind_of (MismatchedTag expected actual) = in_ber (ber.MismatchedTag expected actual)
 kind_of InvalidConstructedIdentifier = in_ber ber.InvalidConstructedIdentifier
+kind_of (DiscriminantValueNotFound discriminant) = kind.DiscriminantValueNotFound discriminant
+kind_of UnsupportedObjectIdentifierArc = in_ber ber.UnsupportedObjectIdentifierArc
 kind_of ConstructedEncodingNotAllowed = kind.CodecSpecific (codec.Der der.ConstructedEncodingNotAllowed)
 
 -- Why a value is refused: a fault, or a number out of its bound.

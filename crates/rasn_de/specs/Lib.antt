@@ -8,7 +8,11 @@ pub mod Causes
 pub mod Leaves
 pub mod Taking
 pub mod Octets
+pub mod Texts
 pub mod Inside
 pub mod Doors
 pub mod Sequences
 pub mod TimeTexts
+pub mod NamedNumbers
+pub mod ObjectIdentifiers
+pub mod BitStrings

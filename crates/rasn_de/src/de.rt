@@ -7,6 +7,8 @@ use rasn_types::error::DecodeError;
 use rasn_types::types::{AsnType, Constraints, Tag};
 
 mod integers;
+mod numbered;
+mod strings;
 mod times;
 mod values;
 

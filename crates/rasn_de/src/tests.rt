@@ -1,8 +1,12 @@
+mod bits;
+mod strings;
+
 use crate::ber::de::{Decoder, DecoderOptions};
 use crate::de::Decode;
 use rasn_types::error::{DecodeErrorKind, Needed};
 use rasn_types::types::{Constraints, OctetString, Tag};
 use std::borrow::CowSlice;
+use std::test::Fail;
 
 // A number is read in more octets than it needs, and a true BOOLEAN of any octet under BER alone.
 #[test]
@@ -25,25 +29,21 @@ fn reads_leaves(rt: HostRuntime) {
 
 // Segments of definite and indefinite length in one another are gathered; one primitive string is borrowed.
 #[test]
-fn gathers_segments(rt: HostRuntime) {
+fn gathers_segments(rt: HostRuntime) -> Result<(), Fail> {
     let alloc = rt.alloc();
     let octets = [
         0x24, 0x80, 0x04, 0x01, 0xA1, 0x24, 0x03, 0x04, 0x01, 0xB2, 0x24, 0x80, 0x04, 0x01, 0xC3,
         0x00, 0x00, 0x00, 0x00, 0x04, 0x03, 0xA1, 0xB2, 0xC3,
     ];
     let mut decoder = Decoder::new(alloc, &octets, DecoderOptions::cer());
-    match decoder.decode_octet_string(Tag::OCTET_STRING, &Constraints::NONE) {
-        Ok(CowSlice::Owned(octets)) => assert_eq!(rt;
-            octets.as_slice(),
-            [0xA1, 0xB2, 0xC3].as_slice()
-        ),
-        _ => assert!(rt; false),
-    }
-    match decoder.decode_octet_string(Tag::OCTET_STRING, &Constraints::NONE) {
-        Ok(CowSlice::Borrowed(octets)) => assert_eq!(rt; octets, [0xA1, 0xB2, 0xC3].as_slice()),
-        _ => assert!(rt; false),
-    }
+    let gathered = decoder.decode_octet_string(Tag::OCTET_STRING, &Constraints::NONE)?;
+    assert_eq!(rt; gathered.as_slice(), [0xA1, 0xB2, 0xC3].as_slice());
+    assert!(rt; matches!(&gathered, CowSlice::Owned(_)));
+    let primitive = decoder.decode_octet_string(Tag::OCTET_STRING, &Constraints::NONE)?;
+    assert_eq!(rt; primitive.as_slice(), [0xA1, 0xB2, 0xC3].as_slice());
+    assert!(rt; matches!(&primitive, CowSlice::Borrowed(_)));
     assert!(rt; decoder.remaining().is_empty());
+    Ok(())
 }
 
 // A refusal tells how many octets are missing, and takes nothing.

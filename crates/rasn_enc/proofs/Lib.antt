@@ -3,7 +3,10 @@ pub mod Places
 pub mod Frames
 pub mod Octets
 pub mod Leaves
+pub mod Texts
 pub mod Segments
 pub mod Sequences
 pub mod TimeOctets
 pub mod TimeLeaves
+pub mod Numbered
+pub mod BitSegments

@@ -10,8 +10,10 @@ use Rattle.rasn_types.specs.declared.types.tag.Class.{Class}
 use Rattle.rasn_types.specs.declared.types.tag.Class.TheVariants.{Universal, Application, Context, Private}
 use Rattle.rasn_types.specs.Framing.{AreOctets, IsChain, number_in, Spells128, bit_of, AnyIdSpells, LengthSpells, IsShortestId, IsShortestLength}
 use Rattle.rasn_types.specs.Bytes.{Definite, Closed}
+use Rattle.rasn_types.specs.Contents.{IsShortest128}
 use Rattle.rasn_types.proofs.Digits.{number_lt}
 use Rattle.rasn_enc.specs.Headers.{digits, chained, group_count, octet_count, id_octets, length_octets, definite, closed}
+use Rattle.rasn_enc.specs.ObjectIdentifiers.{IsSubidentifier}
 
 -- How many digits a number takes.
 pub record Fewest (base most n count : ℕ) : Type 0 where
@@ -257,3 +259,28 @@ unfolding closed
 closed_is tag contents h =
     let i = identifier_spells tag true h in
     record { id = id_octets tag true; id_spells = i.spells; id_shortest = i.shortest; id_octets = i.octets; is = refl }
+
+groups_are : (n count : ℕ) → n < 0x1_0000_0000 → Fewest 128 5 n count → IsSubidentifier (chained (digits 128 count n)) n
+unfolding digits chained
+groups_are n zero h f = absurd (omega (arith, f.some))
+groups_are n (suc count) h f =
+    let below = digits_below 128 (omega arith) (suc count) n in
+    record {
+      spells = record { chain = chained_chain _ _ below; is = digits_spell 128 (omega arith) (suc count) n f.below ∙ sym (number_in-chained (digits 128 (suc count) n)); below = h };
+      shortest = short count f;
+      octets = chained_octets (digits 128 (suc count) n) below;
+    }
+  where
+    by_one : (n : ℕ) → n < 128 → n / 1 % 128 ≡ 128 → ⊥
+    by_one n h e = omega arith
+
+    marked : (d : ℕ) → 128 + d ≡ 128 → d % 128 ≡ 0
+    marked d e = omega arith
+
+    short : (count : ℕ) → Fewest 128 5 n (suc count) → IsShortest128 (chained (digits 128 (suc count) n))
+    short zero f = by_one n f.below
+    short (suc j) f = λ e. first_digit 128 5 n (suc j) _ _ (omega arith) f refl (omega arith) (marked _ e)
+
+-- The groups of a number are a subidentifier's octets.
+pub groups_spell : (n : ℕ) → n < 0x1_0000_0000 → IsSubidentifier (chained (digits 128 (group_count n) n)) n
+groups_spell n h = groups_are n (group_count n) h (group_fewest n h)

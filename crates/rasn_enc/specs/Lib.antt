@@ -5,5 +5,8 @@ pub mod Primitives
 pub mod Wrote
 pub mod Refusals
 pub mod Segments
+pub mod Texts
 pub mod Writing
 pub mod Parts
+pub mod ObjectIdentifiers
+pub mod BitSegments

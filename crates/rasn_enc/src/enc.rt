@@ -4,11 +4,13 @@ ghost use Rattle.rasn_types.specs.Shapes.{given, absent};
 ghost use Rattle.rasn_enc.specs.Wrote.{Wrote, MayRefuse};
 
 mod integers;
+mod numbered;
+mod strings;
 mod times;
 
 use crate::ber::enc::Encoder;
 use rasn_types::error::EncodeError;
-use rasn_types::types::{AsnType, Constraints, Identifier, OctetString, Tag};
+use rasn_types::types::{AsnType, BitString, Constraints, Identifier, OctetString, Tag};
 
 /// A value that can be written. The forms without a tag or constraints hand in the type's own. The name of a field is ignored.
 pub trait Encode: AsnType {
@@ -98,5 +100,17 @@ impl Encode for OctetString {
         identifier: Identifier,
     ) -> Result<(), EncodeError> {
         encoder.encode_octet_string(tag, constraints, self.as_octets(), identifier)
+    }
+}
+
+impl Encode for BitString {
+    fn encode_with_tag_and_constraints(
+        &self,
+        encoder: &mut Encoder,
+        tag: Tag,
+        constraints: &Constraints,
+        identifier: Identifier,
+    ) -> Result<(), EncodeError> {
+        encoder.encode_bit_string(tag, constraints, &self.as_bitstr(), identifier)
     }
 }

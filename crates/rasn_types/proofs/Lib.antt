@@ -1,4 +1,5 @@
 pub mod Alike
+pub mod Contained
 pub mod Dated
 pub mod Determined
 pub mod Digits
@@ -7,10 +8,14 @@ pub mod Frames
 pub mod Integers
 pub mod Nested
 pub mod NumberOctets
+pub mod Numbered
 pub mod Once
 pub mod Ordered
 pub mod Powers
 pub mod ShortestOctets
 pub mod Spelled
 pub mod Stamped
+pub mod StringTexts
 pub mod TwosComplement
+pub mod Bits
+pub mod BitViews

@@ -9,9 +9,13 @@ pub mod Shapes
 pub mod Readers
 pub mod Contents
 pub mod Grammar
+pub mod Characters
 pub mod Errors
 pub mod Trees
 pub mod Bytes
 pub mod Carried
 pub mod Lawful
 pub mod Described
+pub mod Numbered
+pub mod Bits
+pub mod Packing

@@ -1,28 +1,44 @@
 //! Values and schema: tags, constraints, and the types that have a value of their own.
 
 mod asn_type;
+mod bits;
 mod constraints;
 mod constructed;
 mod date;
+mod enumerated;
 mod fields;
 mod generalized_time;
 mod identifier;
 mod integer;
+mod null;
+mod object_identifier;
 mod octet;
+mod real;
 mod rules;
+mod strings;
 mod tag;
 mod twos_complement;
 mod utc_time;
 
 pub use asn_type::AsnType;
+pub use bits::{BitStr, BitString, GatheredBits};
 pub use constraints::{Bound, Bounded, Constraints};
 pub use constructed::Constructed;
 pub use date::Date;
+pub use enumerated::Enumerated;
 pub use fields::{Field, FieldPresence, Fields};
 pub use generalized_time::GeneralizedTime;
 pub use identifier::Identifier;
 pub use integer::{Integer, IntegerType};
+pub use object_identifier::ObjectIdentifier;
 pub use octet::OctetString;
+pub use real::RealType;
 pub use rules::Codec;
+pub use strings::{
+    Alphabet, BmpString, FixedOctetString, GeneralString, GeneralType, GraphicString, GraphicType,
+    Ia5String, Ia5Type, NumericString, NumericType, PrintableString, PrintableType,
+    RestrictedString, StringType, TeletexString, TeletexType, Utf8String, VisibleString,
+    VisibleType,
+};
 pub use tag::{Class, Tag};
 pub use utc_time::UtcTime;

@@ -17,10 +17,13 @@ use rasn_types::types::{Codec, Tag};
 use std::alloc::Global;
 use std::marker::Model;
 
+mod bits;
 mod config;
 mod leaves;
+mod numbered;
 pub mod parser;
 mod sequences;
+mod strings;
 mod times;
 
 pub use config::DecoderOptions;
@@ -85,12 +88,25 @@ fn kind_of(fault: Fault) -> DecodeErrorKind
         Fault::IntegerOverflow { max_width } => return DecodeErrorKind::IntegerOverflow {
             max_width,
         },
+        Fault::InvalidBitString { bits } => return DecodeErrorKind::InvalidBitString { bits },
         Fault::SizeConstraintNotSatisfied { size, expected } => {
             return DecodeErrorKind::SizeConstraintNotSatisfied {
                 size: Some(size),
                 expected,
             };
         }
+        Fault::DiscriminantValueNotFound { discriminant } => {
+            return DecodeErrorKind::DiscriminantValueNotFound { discriminant };
+        }
+        Fault::UnsupportedObjectIdentifierArc => CodecDecodeError::Ber(
+            BerDecodeErrorKind::UnsupportedObjectIdentifierArc,
+        ),
+        Fault::PermittedAlphabetError { octet, position } => {
+            return DecodeErrorKind::PermittedAlphabetError { octet, position };
+        }
+        Fault::StringConversionFailed { tag } => return DecodeErrorKind::StringConversionFailed {
+            tag,
+        },
         Fault::ConstructedEncodingNotAllowed => {
             CodecDecodeError::Der(DerDecodeErrorKind::ConstructedEncodingNotAllowed)
         }

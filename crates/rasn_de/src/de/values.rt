@@ -2,7 +2,7 @@
 use crate::ber::de::Decoder;
 use crate::de::Decode;
 use rasn_types::error::{DecodeError, DecodeErrorKind};
-use rasn_types::types::{Constraints, OctetString, Tag};
+use rasn_types::types::{BitString, Constraints, OctetString, Tag};
 
 impl Decode for bool {
     #[tactic(auto, unfolding(rasn_types::specs::Grammar::Reads))]
@@ -30,5 +30,16 @@ impl Decode for OctetString {
                 codec: decoder.codec(),
             }),
         }
+    }
+}
+
+impl Decode for BitString {
+    #[tactic(auto, unfolding(rasn_types::specs::Grammar::Reads))]
+    fn decode_with_tag_and_constraints(
+        decoder: &mut Decoder<'_>,
+        tag: Tag,
+        constraints: &Constraints,
+    ) -> Result<BitString, DecodeError> {
+        decoder.decode_bit_string(tag, constraints)
     }
 }

@@ -4,18 +4,23 @@ ghost use Rattle.rasn_types.specs.Bytes.{Prim, Cons};
 ghost use Rattle.rasn_enc.specs.View.{View, fresh, opened, appended, IsBelow};
 ghost use Rattle.rasn_enc.specs.Primitives.{Appends, WantsMemory};
 
+mod bits;
 mod config;
 mod constructed;
 mod header;
 mod integers;
 mod leaves;
 mod list;
+mod numbered;
+mod objects;
+mod strings;
 #[cfg(test)]
 mod tests;
 mod times;
 
 pub use config::EncoderOptions;
 use list::{OpenList, put_constructed, put_primitive};
+pub use objects::object_identifier_as_bytes;
 use rasn_types::error::{EncodeError, EncodeErrorKind};
 use rasn_types::types::{Codec, Tag};
 use std::alloc::Global;

@@ -38,7 +38,7 @@ fn read_bool(rules: Codec, contents: &[u8]) -> Result<bool, Fault>
 
 impl<'input> Decoder<'input> {
     /// The contents of the next value, which has to have a definite length.
-    fn contents(&mut self, tag: Tag) -> Result<&'input [u8], DecodeError>
+    pub(super) fn contents(&mut self, tag: Tag) -> Result<&'input [u8], DecodeError>
         ensures gave { Gave (λ c. c.now) (λ r. definite_at self.old.rule tag self.old.rest ≡ r) self.old result self.new }
         ensures octets { AreOctets self.old.rest }
     {

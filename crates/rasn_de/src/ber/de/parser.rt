@@ -7,6 +7,8 @@ ghost use Rattle.rasn_de.specs.Views.{Gives, pair, both, identified, header};
 
 use rasn_types::types::{Bounded, Class, Codec, Tag};
 
+pub mod bits;
+pub mod objects;
 pub mod strings;
 
 /// Why a read is refused, as far as a refusal holds nothing in memory.
@@ -32,9 +34,19 @@ pub enum Fault {
     IntegerOverflow {
         max_width: u32,
     },
+    InvalidBitString {
+        bits: u8,
+    },
     SizeConstraintNotSatisfied {
         size: usize,
         expected: Bounded<usize>,
+    },
+    PermittedAlphabetError {
+        octet: u8,
+        position: usize,
+    },
+    StringConversionFailed {
+        tag: Tag,
     },
     UnsupportedTagNumber,
     UnexpectedEndOfContents,
@@ -47,6 +59,10 @@ pub enum Fault {
     },
     InvalidConstructedIdentifier,
     ConstructedEncodingNotAllowed,
+    DiscriminantValueNotFound {
+        discriminant: isize,
+    },
+    UnsupportedObjectIdentifierArc,
 }
 
 /// A tag and whether its value is constructed.

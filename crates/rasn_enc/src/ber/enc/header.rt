@@ -82,8 +82,8 @@ fn rank(class: Class) -> u8
     }
 }
 
-// How many groups of seven bits a number takes.
-fn count_groups(number: u32) -> usize
+/// How many groups of seven bits a number takes.
+pub fn count_groups(number: u32) -> usize
     ensures { result ≡ group_count number }
 {
     if number < 128 {
@@ -122,8 +122,8 @@ fn count_octets(number: usize) -> usize
     }
 }
 
-// Writes a number in base 128, every octet but the last with its high bit set.
-fn write_groups(out: &mut Vec<u8>, number: u32)
+/// Writes a number in base 128, every octet but the last with its high bit set.
+pub fn write_groups(out: &mut Vec<u8>, number: u32)
     requires { vec_len out.old + group_count number ≤ vec_capacity out.old }
     ensures items { out.new.items ≡ out.old.items ++ chained (digits 128 (group_count number) number) }
     ensures capacity { vec_capacity out.new ≡ vec_capacity out.old }

@@ -63,13 +63,13 @@ impl Encoder {
     }
 
     // The canonical rules write long strings in segments (X.690 9.2).
-    fn is_cut(&self, count: usize) -> bool
+    pub(super) fn is_cut(&self, count: usize) -> bool
         ensures { MatchBool result (IsCer self.now.rule × (SEGMENT < count)) (IsCer self.now.rule → count ≤ SEGMENT) }
     {
         matches!(self.rule, Codec::Cer) && count > SEGMENT
     }
 
-    fn refused_size(&self, constraints: &Constraints, size: usize) -> EncodeError
+    pub(super) fn refused_size(&self, constraints: &Constraints, size: usize) -> EncodeError
         requires { Admits ◌≤◌ constraints.now.size size → ⊥ }
         ensures { RefusesSize constraints.now size self.now.rule result }
     {
@@ -83,7 +83,7 @@ impl Encoder {
     }
 
     // Writes octets in segments, as one constructed value.
-    fn put_segments(&mut self, tag: Tag, value: &[u8]) -> Result<(), EncodeError>
+    pub(super) fn put_segments(&mut self, tag: Tag, value: &[u8]) -> Result<(), EncodeError>
         requires { SEGMENT < length value.now }
         ensures ok { OnOk result (PutsSegments tag value.now self.old self.new) }
         ensures err { OnErr result (self.new ≡ self.old) }

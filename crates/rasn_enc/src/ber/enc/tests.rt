@@ -1,3 +1,6 @@
+mod bits;
+mod strings;
+
 use crate::ber::enc::{Encoder, EncoderOptions};
 use crate::enc::Encode;
 use rasn_types::error::{EncodeError, EncodeErrorKind};

@@ -1,0 +1,164 @@
+-- A BIT STRING is read exactly where the grammar has one.
+use Rattle.std.proofs.Common.{◌≡◌, ◌≢◌, ◌≤◌, ◌<◌, ◌+◌, ◌-◌, ◌*◌, ◌^◌, ℕ, ◌⊎◌, inl, inr, Bool, true, false, cond, List, [], ◌∷◌, ◌++◌, length, take, drop, Option, Some, Result, Ok, Err, refl, sym, ap, ◌∙◌, subst, arith}
+use Rattle.std.specs.Prelude.{nat_lt}
+use Rattle.std.proofs.lemmas.Bool.Decides.{nat_tests}
+use Rattle.std.proofs.lemmas.List.{length-append, length-drop, take-append-drop, take_at}
+use Rattle.rasn_types.specs.declared.types.tag.Tag.{Tag}
+use Rattle.rasn_types.specs.declared.types.rules.Codec.{Codec}
+use Rattle.rasn_types.specs.declared.types.constraints.Constraints.{Constraints}
+use Rattle.rasn_types.specs.declared.error.decode.DecodeError.{DecodeError}
+use Rattle.rasn_types.specs.Framing.{AreOctets}
+use Rattle.rasn_types.specs.Errors.{IsMemory}
+use Rattle.rasn_types.specs.Tags.{in_universal}
+use Rattle.rasn_types.specs.Shapes.{Tree, bits, leaf, bit_string, Admits, constraint_of}
+use Rattle.rasn_types.specs.Contents.{Str, BitSegment}
+use Rattle.rasn_types.specs.Bits.{bits_in, but_last}
+use Rattle.rasn_types.specs.Grammar.{Reads, ReadsLeaf, IsBounded}
+use Rattle.rasn_types.proofs.Bits.{length-bits_in}
+use Rattle.rasn_de.specs.declared.ber.de.parser.Fault.{Fault}
+use Rattle.rasn_de.specs.declared.ber.de.parser.Fault.TheVariants.{OutOfMemory, InvalidBitString, LengthExceedsPlatformWidth, SizeConstraintNotSatisfied}
+use Rattle.rasn_de.specs.Causes.{Cause, fault, kind_of}
+use Rattle.rasn_de.specs.Leaves.{Gave}
+use Rattle.rasn_de.specs.BitStrings.{is_miscounted, segment_bits, bits_at, bits_tree, BitsAt, IsOversized, GaveBits, GathersBits}
+use Rattle.rasn_de.specs.State.{State, at, IsEnd}
+use Rattle.rasn_de.specs.Taking.{ErrorOf}
+use Rattle.rasn_de.specs.Outcomes.{Exact, refusal}
+use Rattle.rasn_de.specs.Decodes.{Decodes}
+use Rattle.rasn_de.proofs.Answering.{Agrees, gave_answers}
+use Rattle.rasn_de.proofs.Ends.{IsEnd-refl}
+use Rattle.rasn_de.proofs.OctetStrings.{memory_or}
+use Rattle.rasn_de.proofs.Peeks.{kind_memory}
+use Rattle.rasn_de.proofs.Refusals.{refuses_fault, same_at}
+use Rattle.rasn_de.proofs.StringEnds.{string_ends}
+use Rattle.rasn_de.proofs.Strs.{Reads as ReadsBy, string_found, string_spelled, string_map}
+use Rattle.rasn_de.proofs.Tools.{guarded}
+
+-- ---- one segment
+counted : (u : ℕ) (octets : List ℕ) → is_miscounted u octets ≡ false → (u < 8) × (u ≤ 8 * length octets)
+counted u [] e = let h : nat_lt 0 u ≡ false = e in (grind (arith, nat_tests), grind (arith, nat_tests))
+counted u (b ∷ l) e = let h : nat_lt 7 u ≡ false = e in let k : u < 8 = grind (arith, nat_tests) in (k, omega arith)
+
+miscounted : (u : ℕ) (octets : List ℕ) → u < 8 → u ≤ 8 * length octets → is_miscounted u octets ≡ false
+miscounted u [] h k = let z : u ≡ 0 = omega arith in ap (nat_lt 0) z
+miscounted u (b ∷ l) h k = grind (arith, nat_tests)
+
+segment_there : (l : List ℕ) (bs : List Bool) → segment_bits l ≡ Ok bs → BitSegment l bs
+segment_there [] bs e = cc
+segment_there (u ∷ octets) bs e =
+    let g = guarded (is_miscounted u octets) (InvalidBitString u) (Ok (but_last u octets)) bs e in
+    let f = g.1 in
+    let m : but_last u octets ≡ bs = cc in
+    let k = counted u octets g.0 in
+    let n : length (drop (8 * length octets - u) (bits_in octets)) ≡ u = length-drop (8 * length octets - u) (bits_in octets) ∙ omega (arith, length-bits_in octets, k.1) in
+    record {
+      octets = octets;
+      unused = drop (8 * length octets - u) (bits_in octets);
+      is = ap (λ z. z ∷ octets) (sym n);
+      few = omega (arith, n, k.0);
+      all = ap (λ z. z ++ drop (8 * length octets - u) (bits_in octets)) (sym m) ∙ take-append-drop (8 * length octets - u) (bits_in octets);
+    }
+
+segment_only : (l : List ℕ) (bs : List Bool) → BitSegment l bs → segment_bits l ≡ Ok bs
+segment_only l bs s =
+    let n = ap length s.all in
+    let c : length bs + length s.unused ≡ 8 * length s.octets = sym (length-append bs s.unused) ∙ (n ∙ length-bits_in s.octets) in
+    let m = miscounted (length s.unused) s.octets s.few (omega (arith, c)) in
+    let b : but_last (length s.unused) s.octets ≡ bs = ap (take (8 * length s.octets - length s.unused)) (sym s.all) ∙ take_at bs s.unused (8 * length s.octets - length s.unused) (omega (arith, c)) in
+    ap segment_bits s.is ∙ rw (m, b) refl
+
+-- ---- the whole string
+module _ (rule : Codec) (d : ℕ) (tag : Tag) (l : List ℕ) (o : AreOctets l) where
+  bits_there : (bs : List Bool) (r : List ℕ) → bits_at rule d tag l ≡ Ok (bs, r) → Str rule BitSegment (in_universal 3) d tag l bs r
+  bits_there bs r e =
+      string_map rule (ReadsBy segment_bits) BitSegment segment_there (in_universal 3) d tag l bs r (string_found rule segment_bits (in_universal 3) d tag l (bs, r) o e).0
+
+  bits_only : (bs : List Bool) (r : List ℕ) → Str rule BitSegment (in_universal 3) d tag l bs r → bits_at rule d tag l ≡ Ok (bs, r)
+  bits_only bs r s =
+      string_spelled rule segment_bits (in_universal 3) d tag l bs r o (string_map rule BitSegment (ReadsBy segment_bits) segment_only (in_universal 3) d tag l bs r s)
+
+  pub bits_end : (bs : List Bool) (r : List ℕ) → bits_at rule d tag l ≡ Ok (bs, r) → IsEnd l r
+  bits_end bs r e = string_ends rule BitSegment (in_universal 3) d tag l bs r (bits_there bs r e)
+
+bits_agree : (bounds : Constraints) (rule : Codec) (depth : ℕ) (tag : Tag) (l : List ℕ) → AreOctets l → (r : Result (List Bool × List ℕ) (Cause × List ℕ)) → BitsAt bounds rule depth tag l r
+    → Agrees (ReadsLeaf rule bit_string tag bounds depth) bits_tree l r
+bits_agree bounds rule depth tag l o (Ok p) (e, n, a) =
+    ((((p.0, refl, n, bits_there rule depth tag l o p.0 p.1 e), a), λ t r w. same t r w), bits_end rule depth tag l o p.0 p.1 e)
+  where
+    same : (t : Tree) (r : List ℕ) → ReadsLeaf rule bit_string tag bounds depth l t r → (t ≡ bits p.0) × (r ≡ p.1)
+    same t r ((xs, f, k, s), b) =
+        let k = bits_only rule depth tag l o xs r s in
+        let m : (xs, r) ≡ p = cc in
+        (f ∙ ap (λ (z : List Bool × List ℕ). bits z.0) m, ap (λ (z : List Bool × List ℕ). z.1) m)
+bits_agree bounds rule depth tag l o (Err e) (inl (f, h, g)) =
+    ((λ t r w. none t r w), subst (λ (z : Cause × List ℕ). IsEnd l z.1) (sym g) (IsEnd-refl l))
+  where
+    none : (t : Tree) (r : List ℕ) → ReadsLeaf rule bit_string tag bounds depth l t r → ⊥
+    none t r ((xs, j, n, s), b) = let k = bits_only rule depth tag l o xs r s in cc
+bits_agree bounds rule depth tag l o (Err e) (inr (xs, h, z)) = ((λ t r w. none t r w), bits_end rule depth tag l o xs e.1 h)
+  where
+    over : IsOversized bounds xs e.0 → length xs < 2 ^ 64 → IsBounded bit_string bounds (bits xs) → ⊥
+    over (inl (m, c)) n b = absurd (omega (arith, m, n))
+    over (inr (m, a, c)) n b = a b
+
+    none : (t : Tree) (r : List ℕ) → ReadsLeaf rule bit_string tag bounds depth l t r → ⊥
+    none t r ((ys, j, n, s), b) =
+        let k = bits_only rule depth tag l o ys r s in
+        let q : (ys, r) ≡ (xs, e.1) = cc in
+        let m : ys ≡ xs = ap (λ (z : List Bool × List ℕ). z.0) q in
+        over z (subst (λ (z : List Bool). length z < 2 ^ 64) m n) (subst (λ (z : List Bool). IsBounded bit_string bounds (bits z)) m (subst (IsBounded bit_string bounds) j b))
+
+pub bits_decodes : (tag : Tag) (bounds : Constraints) (old new : State) (result : Result (List Bool) DecodeError) → AreOctets old.rest → GaveBits tag bounds old result new → Decodes (leaf bit_string tag bounds) bits_tree old result new
+unfolding Reads
+bits_decodes tag bounds old new (Ok s) o g =
+    gave_answers (λ rule. Reads rule (leaf bit_string tag bounds)) bits_tree (λ (s : List Bool). s) (BitsAt bounds old.rule old.depth tag old.rest) old new (Ok s) (bits_agree bounds old.rule old.depth tag old.rest o) g
+bits_decodes tag bounds old new (Err e) o (inr g) =
+    gave_answers (λ rule. Reads rule (leaf bit_string tag bounds)) bits_tree (λ (s : List Bool). s) (BitsAt bounds old.rule old.depth tag old.rest) old new (Err e) (bits_agree bounds old.rule old.depth tag old.rest o) g.1
+bits_decodes tag bounds old new (Err e) o (inl (m, c, s)) = record {
+  stays = same_at old new s;
+  end = subst (IsEnd old.rest) (sym (ap (λ (x : State). x.rest) s)) (IsEnd-refl old.rest);
+  exact = subst (λ k. Exact (Reads old.rule (leaf bit_string tag bounds) old.depth old.closing) old.rest (refusal k)) (sym m) tt;
+}
+
+-- bits that were gathered
+pub gathered_bits : (tag : Tag) (old new : State) (bs : List Bool) (rest : List ℕ) → bits_at old.rule old.depth tag old.rest ≡ Ok (bs, rest) → new ≡ at old rest → GathersBits tag old (Ok bs) new
+gathered_bits tag old new bs rest h e =
+    let P : State → Type 0 = λ n. GathersBits tag old (Ok bs) n in
+    subst P (sym e) (h, refl)
+
+-- bits that weren't
+pub gathers_refused : (tag : Tag) (bounds : Constraints) (old new : State) (e : DecodeError) → GathersBits tag old (Err e) new → GaveBits tag bounds old (Err e) new
+gathers_refused tag bounds old new e (f, k, s, read) = go (memory_or f)
+  where
+    codec_is : e.codec ≡ old.rule
+    codec_is = ap (λ (x : DecodeError). x.codec) k
+
+    kind_is : e.kind ≡ kind_of f
+    kind_is = ap (λ (x : DecodeError). x.kind) k
+
+    go : (f ≡ OutOfMemory) ⊎ (f ≢ OutOfMemory) → GaveBits tag bounds old (Err e) new
+    go (inl m) = inl (kind_is ∙ ap kind_of m, codec_is, s)
+    go (inr n) =
+        let r : new.rest ≡ old.rest = ap (λ (x : State). x.rest) s in
+        inr ((λ h. kind_memory f n (sym kind_is ∙ h)), (fault f, inl (f, read n, ap (λ z. (fault f, z)) r), kind_is, codec_is, same_at old new s))
+
+-- 2 ^ 64 bits or more
+pub gathers_wide : (tag : Tag) (bounds : Constraints) (old new : State) (bs : List Bool) (e : DecodeError) → GathersBits tag old (Ok bs) new → 2 ^ 64 ≤ length bs → ErrorOf LengthExceedsPlatformWidth new e → GaveBits tag bounds old (Err e) new
+gathers_wide tag bounds old new bs e (h, k) n x =
+    inr (
+      (λ m. kind_memory LengthExceedsPlatformWidth (λ e. cc) (sym (ap (λ (y : DecodeError). y.kind) x) ∙ m)),
+      refuses_fault (BitsAt bounds old.rule old.depth tag old.rest) old new LengthExceedsPlatformWidth e (inr (bs, h, inl (n, refl))) k x,
+    )
+
+-- bits whose number is within bounds
+pub gathers_admitted : (tag : Tag) (bounds : Constraints) (old new : State) (bs : List Bool) → GathersBits tag old (Ok bs) new → length bs < 2 ^ 64 → Admits ◌≤◌ bounds.size (length bs) → GaveBits tag bounds old (Ok bs) new
+gathers_admitted tag bounds old new bs (h, k) n a = ((h, n, a), k)
+
+-- bits whose number isn't
+pub gathers_size : (tag : Tag) (bounds : Constraints) (old new : State) (bs : List Bool) (e : DecodeError) → GathersBits tag old (Ok bs) new → length bs < 2 ^ 64 → (Admits ◌≤◌ bounds.size (length bs) → ⊥)
+    → ErrorOf (SizeConstraintNotSatisfied (length bs) (constraint_of bounds.size)) new e → GaveBits tag bounds old (Err e) new
+gathers_size tag bounds old new bs e (h, k) w n x =
+    inr (
+      (λ m. kind_memory (SizeConstraintNotSatisfied (length bs) (constraint_of bounds.size)) (λ e. cc) (sym (ap (λ (y : DecodeError). y.kind) x) ∙ m)),
+      refuses_fault (BitsAt bounds old.rule old.depth tag old.rest) old new (SizeConstraintNotSatisfied (length bs) (constraint_of bounds.size)) e
+          (inr (bs, h, inr (w, n, refl))) k x,
+    )

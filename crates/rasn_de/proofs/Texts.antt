@@ -1,0 +1,142 @@
+-- A character string is read exactly where the grammar has one.
+use Rattle.std.proofs.Common.{◌≡◌, ◌≢◌, ◌≤◌, ℕ, ◌⊎◌, inl, inr, Bool, true, false, List, [], ◌∷◌, length, Option, Some, Result, Ok, Err, refl, sym, ap, ◌∙◌, subst}
+use Rattle.std.specs.Cow.{cow_slice_items, IsOwnedSlice}
+use Rattle.std.specs.declared.alloc.Global.{Global}
+use Rattle.std.specs.declared.borrow.CowSlice.{CowSlice}
+use Rattle.std.specs.declared.borrow.CowSlice.TheVariants.{Borrowed, Owned}
+use Rattle.rasn_types.specs.declared.types.tag.Tag.{Tag}
+use Rattle.rasn_types.specs.declared.types.rules.Codec.{Codec}
+use Rattle.rasn_types.specs.declared.types.constraints.Constraints.{Constraints}
+use Rattle.rasn_types.specs.declared.error.decode.DecodeError.{DecodeError}
+use Rattle.rasn_types.specs.Framing.{AreOctets}
+use Rattle.rasn_types.specs.Errors.{IsMemory}
+use Rattle.rasn_types.specs.Tags.{in_universal}
+use Rattle.rasn_types.specs.Shapes.{Tree, numbers, Kind, leaf}
+use Rattle.rasn_types.specs.Contents.{Str, OctetSegment}
+use Rattle.rasn_types.specs.Grammar.{Reads, ReadsIn, ReadsLeaf, IsBounded, Text, family, Family, text_family}
+use Rattle.rasn_de.specs.declared.ber.de.parser.Fault.{Fault}
+use Rattle.rasn_de.specs.declared.ber.de.parser.Fault.TheVariants as fault_is
+use Rattle.rasn_de.specs.Causes.{Cause, fault, kind_of}
+use Rattle.rasn_de.specs.Leaves.{Refuses, Gave}
+use Rattle.rasn_de.specs.Octets.{octets_at, Gathers, IsLentAs, IsConstructed, IsPrimitive}
+use Rattle.rasn_de.specs.Texts.{Verdict, StringAt, GaveString}
+use Rattle.rasn_de.specs.State.{State, at, IsEnd}
+use Rattle.rasn_de.specs.Taking.{ErrorOf}
+use Rattle.rasn_de.specs.Outcomes.{Exact, Starved, Outcome, refusal}
+use Rattle.rasn_de.specs.Decodes.{Decodes, Answers}
+use Rattle.rasn_de.proofs.Answering.{Agrees, gave_answers}
+use Rattle.rasn_de.proofs.Ends.{IsEnd-refl}
+use Rattle.rasn_de.proofs.Peeks.{kind_memory}
+use Rattle.rasn_de.proofs.Refusals.{refuses_fault, same_at, rule_is}
+use Rattle.rasn_de.proofs.StringEnds.{octets_there, octets_only, octets_end}
+
+-- What is told of octets is what the kind says of them.
+pub record Fits (kind : Kind) (bounds : Constraints) (Told : Verdict) : Type 0 where
+  pub is_text : family kind ≡ text_family
+  pub found : (rule : Codec) (xs ns : List ℕ) → Told xs (Ok ns) → Text rule kind xs (numbers ns) × IsBounded kind bounds (numbers ns)
+  pub only : (rule : Codec) (xs ns : List ℕ) (t : Tree) → Told xs (Ok ns) → Text rule kind xs t → t ≡ numbers ns
+  pub none : (rule : Codec) (xs : List ℕ) (f : Fault) (t : Tree) → Told xs (Err f) → Text rule kind xs t → IsBounded kind bounds t → ⊥
+  pub plain : (xs : List ℕ) (f : Fault) → Told xs (Err f) → f ≢ fault_is.OutOfMemory
+
+module _ (kind : Kind) (bounds : Constraints) (Told : Verdict) (fits : Fits kind bounds Told) where
+  into_leaf : (rule : Codec) (depth : ℕ) (tag : Tag) (l : List ℕ) (t : Tree) (r : List ℕ) → ReadsIn text_family rule kind tag depth l t r → ReadsIn (family kind) rule kind tag depth l t r
+  into_leaf rule depth tag l t r h = subst (λ f. ReadsIn f rule kind tag depth l t r) (sym fits.is_text) h
+
+  from_leaf : (rule : Codec) (depth : ℕ) (tag : Tag) (l : List ℕ) (t : Tree) (r : List ℕ) → ReadsIn (family kind) rule kind tag depth l t r → ReadsIn text_family rule kind tag depth l t r
+  from_leaf rule depth tag l t r h = subst (λ f. ReadsIn f rule kind tag depth l t r) fits.is_text h
+
+  agrees : (rule : Codec) (depth : ℕ) (tag : Tag) (l : List ℕ) → AreOctets l → (r : Result (List ℕ × List ℕ) (Cause × List ℕ)) → StringAt Told rule depth tag l r
+      → Agrees (ReadsLeaf rule kind tag bounds depth) numbers l r
+  agrees rule depth tag l o (Ok p) (xs, e, a) =
+      let k = fits.found rule xs p.0 a in
+      (((into_leaf rule depth tag l (numbers p.0) p.1 (xs, octets_there rule depth tag l o xs p.1 e, k.0), k.1), λ t r w. same t r (from_leaf rule depth tag l t r w.0)), octets_end rule depth tag l o xs p.1 e)
+    where
+      same : (t : Tree) (r : List ℕ) → ReadsIn text_family rule kind tag depth l t r → (t ≡ numbers p.0) × (r ≡ p.1)
+      same t r (ys, s, f) =
+          let k = octets_only rule depth tag l o ys r s in
+          let m : (ys, r) ≡ (xs, p.1) = cc in
+          (fits.only rule xs p.0 t a (subst (λ z. Text rule kind z t) (ap (λ (z : List ℕ × List ℕ). z.0) m) f), ap (λ (z : List ℕ × List ℕ). z.1) m)
+  agrees rule depth tag l o (Err e) (inl (f, h, g)) =
+      ((λ t r w. none t r (from_leaf rule depth tag l t r w.0)), subst (λ (z : Cause × List ℕ). IsEnd l z.1) (sym g) (IsEnd-refl l))
+    where
+      none : (t : Tree) (r : List ℕ) → ReadsIn text_family rule kind tag depth l t r → ⊥
+      none t r (ys, s, j) = let k = octets_only rule depth tag l o ys r s in cc
+  agrees rule depth tag l o (Err e) (inr (xs, f, h, a, g)) =
+      ((λ t r w. none t r (from_leaf rule depth tag l t r w.0) w.1), octets_end rule depth tag l o xs e.1 h)
+    where
+      none : (t : Tree) (r : List ℕ) → ReadsIn text_family rule kind tag depth l t r → IsBounded kind bounds t → ⊥
+      none t r (ys, s, j) b =
+          let k = octets_only rule depth tag l o ys r s in
+          let q : (ys, r) ≡ (xs, e.1) = cc in
+          let m : ys ≡ xs = ap (λ (z : List ℕ × List ℕ). z.0) q in
+          fits.none rule xs f t a (subst (λ z. Text rule kind z t) m j) b
+
+  pub string_decodes : {X : Type 0} (see : X → List ℕ) (tag : Tag) (old new : State) (result : Result X DecodeError) → AreOctets old.rest → GaveString see Told tag old result new
+      → Decodes (leaf kind tag bounds) (λ x. numbers (see x)) old result new
+  unfolding Reads
+  string_decodes see tag old new (Ok v) o g =
+      gave_answers (λ rule. Reads rule (leaf kind tag bounds)) numbers see (StringAt Told old.rule old.depth tag old.rest) old new (Ok v) (agrees old.rule old.depth tag old.rest o) g
+  string_decodes see tag old new (Err e) o (inl (m, c, s, k)) = record {
+    stays = same_at old new s;
+    end = subst (IsEnd old.rest) (sym (ap (λ (x : State). x.rest) s)) (IsEnd-refl old.rest);
+    exact = subst (λ k. Exact (Reads old.rule (leaf kind tag bounds) old.depth old.closing) old.rest (refusal k)) (sym m) tt;
+  }
+  string_decodes see tag old new (Err e) o (inr (inl (m, c, s, k, p, (xs, h, a), r))) = record {
+    stays = s;
+    end = subst (IsEnd old.rest) r (octets_end old.rule old.depth tag old.rest o xs p.1 h);
+    exact = subst (λ k. Exact (Reads old.rule (leaf kind tag bounds) old.depth old.closing) old.rest (refusal k)) (sym m) tt;
+  }
+  string_decodes {X} see tag old new (Err e) o (inr (inr g)) =
+      gave_answers {X = List ℕ} {Y = X} (λ rule. Reads rule (leaf kind tag bounds)) numbers see (StringAt Told old.rule old.depth tag old.rest) old new (Err e) (agrees old.rule old.depth tag old.rest o) g.1
+
+  -- octets that are refused
+  pub string_refused : {X : Type 0} (see : X → List ℕ) (tag : Tag) (old new : State) (s : CowSlice ℕ Global) (f : Fault) (e : DecodeError) → Gathers tag old (Ok s) new → Told (cow_slice_items s) (Err f)
+      → ErrorOf f new e → GaveString see Told tag old (Err e) new
+  string_refused see tag old new s f e (h, k, w) a x =
+      inr (inr (
+        (λ m. kind_memory f (fits.plain (cow_slice_items s) f a) (sym (ap (λ (y : DecodeError). y.kind) x) ∙ m)),
+        refuses_fault (StringAt Told old.rule old.depth tag old.rest) old new f e (inr (cow_slice_items s, f, h, a, refl)) k x,
+      ))
+
+memory_or : (f : Fault) → (f ≡ fault_is.OutOfMemory) ⊎ (f ≢ fault_is.OutOfMemory)
+memory_or fault_is.OutOfMemory = inl refl
+memory_or _ = inr (λ e. cc)
+
+-- octets that weren't gathered
+pub string_ungathered : {X : Type 0} (see : X → List ℕ) (Told : Verdict) (tag : Tag) (old new : State) (e : DecodeError) → Gathers tag old (Err e) new → GaveString see Told tag old (Err e) new
+string_ungathered see Told tag old new e (f, k, s, read, memory) = go (memory_or f)
+  where
+    codec_is : e.codec ≡ old.rule
+    codec_is = ap (λ (x : DecodeError). x.codec) k
+
+    kind_is : e.kind ≡ kind_of f
+    kind_is = ap (λ (x : DecodeError). x.kind) k
+
+    go : (f ≡ fault_is.OutOfMemory) ⊎ (f ≢ fault_is.OutOfMemory) → GaveString see Told tag old (Err e) new
+    go (inl m) = inl (kind_is ∙ ap kind_of m, codec_is, s, memory m)
+    go (inr n) =
+        let r : new.rest ≡ old.rest = ap (λ (x : State). x.rest) s in
+        inr (inr ((λ h. kind_memory f n (sym kind_is ∙ h)), (fault f, inl (f, read n, ap (λ z. (fault f, z)) r), kind_is, codec_is, same_at old new s)))
+
+lent : (rule : Codec) (tag : Tag) (l : List ℕ) (s : CowSlice ℕ Global) → (IsOwnedSlice s → false ≡ true) → IsLentAs rule tag l s → IsPrimitive rule tag l
+lent rule tag l (Borrowed x) n h = h
+lent rule tag l (Owned v) n h = let k = n tt in cc
+
+-- octets in order that aren't copied
+pub string_starved : {X : Type 0} (see : X → List ℕ) (Told : Verdict) (tag : Tag) (old new : State) (s : CowSlice ℕ Global) (ns : List ℕ) (e : DecodeError) → Gathers tag old (Ok s) new
+    → Told (cow_slice_items s) (Ok ns) → (IsOwnedSlice s → false ≡ true) → ErrorOf fault_is.OutOfMemory new e → GaveString see Told tag old (Err e) new
+string_starved see Told tag old new s ns e (h, k, w) a n x =
+    inr (inl (
+      ap (λ (y : DecodeError). y.kind) x,
+      ap (λ (y : DecodeError). y.codec) x ∙ rule_is old new k,
+      k,
+      lent old.rule tag old.rest s n w,
+      (ns, new.rest),
+      (cow_slice_items s, h, a),
+      refl,
+    ))
+
+-- octets in order
+pub string_given : {X : Type 0} (see : X → List ℕ) (Told : Verdict) (tag : Tag) (old new : State) (s : CowSlice ℕ Global) (v : X) → Gathers tag old (Ok s) new
+    → Told (cow_slice_items s) (Ok (see v)) → GaveString see Told tag old (Ok v) new
+string_given see Told tag old new s v (h, k, w) a = ((cow_slice_items s, h, a), k)

@@ -1,0 +1,10 @@
+use Rattle.std.proofs.Common.{rules, ◌≡◌, length, chars}
+use Rattle.std.proofs.lemmas.Str.{chars_from_encodes}
+use Rattle.rasn_types.specs.declared.types.tag.TheConstants.Tag.{UTF8_STRING}
+use Rattle.rasn_de.proofs.Verdicts.{characters_checked}
+use Rattle.rasn_de.proofs.ber.de.strings.check_characters.Goals as goal
+
+pub returns : goal.returns
+returns c =
+    let n : c.count.result ≡ length (chars c.args.text.now) = search (rules, chars_from_encodes) in
+    characters_checked UTF8_STRING c.args.constraints.now c.args.text.now c.count.result c.check_size.result c.utf8.text n c.check_size.ensures

@@ -1,0 +1,64 @@
+-- BIT STRING, read from lists.
+use Rattle.std.specs.Prelude.{◌≡◌, ◌≢◌, ◌≤◌, ◌<◌, ◌^◌, ◌⊎◌, ℕ, Bool, true, false, ◌&&◌, ◌||◌, nat_lt, if◌then◌else◌, List, [], ◌∷◌, length, Result, Ok, Err}
+use Rattle.std.specs.Borrow.{Bor}
+use Rattle.rasn_types.specs.declared.types.tag.Tag.{Tag}
+use Rattle.rasn_types.specs.declared.types.rules.Codec.{Codec}
+use Rattle.rasn_types.specs.declared.types.constraints.Constraints.{Constraints}
+use Rattle.rasn_types.specs.declared.error.decode.DecodeError.{DecodeError}
+use Rattle.rasn_types.specs.Tags.{in_universal}
+use Rattle.rasn_types.specs.Shapes.{Tree, bits, Admits, constraint_of}
+use Rattle.rasn_types.specs.Bits.{but_last}
+use Rattle.rasn_types.specs.Errors.{IsMemory}
+use Rattle.rasn_de.specs.declared.ber.de.parser.Fault.{Fault}
+use Rattle.rasn_de.specs.declared.ber.de.parser.Fault.TheVariants.{OutOfMemory, UnexpectedEmptyInput, InvalidBitString, LengthExceedsPlatformWidth, SizeConstraintNotSatisfied}
+use Rattle.rasn_de.specs.Strings.{string_at}
+use Rattle.rasn_de.specs.State.{State, at, IsEnd}
+use Rattle.rasn_de.specs.Causes.{Cause, fault}
+use Rattle.rasn_de.specs.Leaves.{Readings, Refuses, Gave}
+use Rattle.rasn_de.specs.Taking.{ErrorOf}
+
+-- The count is above 7, or above 0 where nothing follows.
+abbrev pub is_miscounted : ℕ → List ℕ → Bool
+is_miscounted unused [] = nat_lt 0 unused
+is_miscounted unused (b ∷ l) = nat_lt 7 unused
+
+-- The bits of a segment: a count of unused bits, and octets (8.6.2). Unused bits may be set.
+abbrev pub segment_bits : List ℕ → Result (List Bool) Fault
+segment_bits [] = Err UnexpectedEmptyInput
+segment_bits (unused ∷ octets) = if is_miscounted unused octets then Err (InvalidBitString unused) else Ok (but_last unused octets)
+
+abbrev pub bits_at : Codec → ℕ → Tag → List ℕ → Result (List Bool × List ℕ) Fault
+bits_at rule depth tag l = string_at rule segment_bits (in_universal 3) depth tag l
+
+abbrev pub bits_tree : List Bool → Tree
+bits_tree bs = bits bs
+
+-- What a function found is what the reading gives; for want of memory nothing is said.
+abbrev pub FindsBits : Result (List Bool × List ℕ) Fault → Result (List Bool × Bor (List ℕ)) Fault → Type 0
+FindsBits read (Ok p) = read ≡ Ok (p.0, p.1.now)
+FindsBits read (Err e) = e ≢ OutOfMemory → read ≡ Err e
+
+-- What a decoder gathers of a string: its bits and what follows; a refusal leaves all of the input.
+abbrev pub GathersBits : Tag → State → Result (List Bool) DecodeError → State → Type 0
+GathersBits tag old (Ok bs) new = (bits_at old.rule old.depth tag old.rest ≡ Ok (bs, new.rest)) × (new ≡ at old new.rest)
+GathersBits tag old (Err e) new = (f : Fault) × ErrorOf f old e × (new ≡ old) × (f ≢ OutOfMemory → bits_at old.rule old.depth tag old.rest ≡ Err f)
+
+-- What is refused of bits that were read, and why: 2 ^ 64 of them or more, and then a size out of bounds.
+abbrev pub IsOversized : Constraints → List Bool → Cause → Type 0
+IsOversized bounds bs cause =
+    ((2 ^ 64 ≤ length bs) × (cause ≡ fault LengthExceedsPlatformWidth))
+    ⊎ ((length bs < 2 ^ 64) × (Admits ◌≤◌ bounds.size (length bs) → ⊥) × (cause ≡ fault (SizeConstraintNotSatisfied (length bs) (constraint_of bounds.size))))
+
+-- A BIT STRING whose size is within bounds.
+abbrev pub BitsAt : Constraints → Codec → ℕ → Tag → List ℕ → Readings (List Bool)
+BitsAt bounds rule depth tag l (Ok p) = (bits_at rule depth tag l ≡ Ok p) × (length p.0 < 2 ^ 64) × Admits ◌≤◌ bounds.size (length p.0)
+BitsAt bounds rule depth tag l (Err e) =
+    ((f : Fault) × (bits_at rule depth tag l ≡ Err f) × (e ≡ (fault f, l)))
+    ⊎ ((bs : List Bool) × (bits_at rule depth tag l ≡ Ok (bs, e.1)) × IsOversized bounds bs e.0)
+
+-- A call answers what the reading is; or memory is wanting while bits are gathered, and nothing is taken.
+abbrev pub GaveBits : Tag → Constraints → State → Result (List Bool) DecodeError → State → Type 0
+GaveBits tag bounds old (Ok bs) new = Gave (λ s. s) (BitsAt bounds old.rule old.depth tag old.rest) old (Ok bs) new
+GaveBits tag bounds old (Err e) new =
+    (IsMemory e.kind × (e.codec ≡ old.rule) × (new ≡ old))
+    ⊎ ((IsMemory e.kind → ⊥) × Refuses (BitsAt bounds old.rule old.depth tag old.rest) old e new)

@@ -1,0 +1,54 @@
+//! BIT STRING (X.690 8.6).
+ghost use Rattle.rasn_types.specs.Framing.{AreOctets};
+ghost use Rattle.rasn_types.specs.Shapes.{leaf, bit_string};
+ghost use Rattle.rasn_de.specs.BitStrings.{bits_tree, GathersBits, GaveBits};
+ghost use Rattle.rasn_de.specs.Decodes.{Decodes};
+
+use crate::ber::de::Decoder;
+use crate::ber::de::parser::Fault;
+use crate::ber::de::parser::bits::read_bits;
+use rasn_types::error::DecodeError;
+use rasn_types::types::{BitString, Constraints, GatheredBits, Tag};
+
+impl<'input> Decoder<'input> {
+    /// The bits of the next value as a string, gathered from its segments. A refusal takes nothing.
+    fn bits(&mut self, tag: Tag) -> Result<GatheredBits, DecodeError>
+        ensures gathers { GathersBits tag self.old result self.new }
+        ensures octets { AreOctets self.old.rest }
+    {
+        match read_bits(self.alloc, self.rules, self.depth, tag, self.rest) {
+            Ok((bits, rest)) => {
+                self.advance(rest);
+                Ok(bits)
+            }
+            Err(fault) => Err(self.error(fault)),
+        }
+    }
+
+    /// A BIT STRING within a size in bits (X.690 8.6). Bits that a segment counts as unused don't belong to it, set or not.
+    ///
+    /// # Errors
+    /// With nothing taken: framing faults, `UnexpectedEmptyInput` and `InvalidBitString` of a segment (X.690 8.6.2), and
+    /// `OutOfMemory`. With the value taken: `LengthExceedsPlatformWidth` for 2^64 bits or more, then
+    /// `SizeConstraintNotSatisfied`.
+    pub fn decode_bit_string(
+        &mut self,
+        tag: Tag,
+        constraints: &Constraints,
+    ) -> Result<BitString, DecodeError>
+        ensures reads { Decodes (leaf bit_string tag constraints.now) bits_tree self.old result self.new }
+        ensures refused { GaveBits tag constraints.now self.old result self.new }
+    {
+        let gathered = self.bits(tag)?;
+        let Some(bits) = gathered.into_string() else {
+            return Err(self.error(Fault::LengthExceedsPlatformWidth));
+        };
+        let size = bits.len();
+        if constraints.admits_size(size) {
+            Ok(bits)
+        } else {
+            let expected = constraints.size_bounds();
+            Err(self.error(Fault::SizeConstraintNotSatisfied { size, expected }))
+        }
+    }
+}

@@ -1,0 +1,48 @@
+//! The contents of an OBJECT IDENTIFIER (X.690 8.19).
+ghost use Rattle.std.specs.Prelude.{◌≡◌, ◌∷◌, ◌++◌, [], ◌/◌, ◌-◌, ◌*◌, min, OnOk, IfOk, IfErr};
+ghost use Rattle.rasn_de.specs.declared.ber.de.parser.Fault.TheVariants.{OutOfMemory};
+ghost use Rattle.rasn_de.specs.ObjectIdentifiers.{FindsArcs};
+
+use crate::ber::de::parser::{Fault, read_number128};
+use rasn_types::types::ObjectIdentifier;
+use std::alloc::Global;
+
+/// Puts an arc behind the others.
+fn push_arc(arcs: &mut Vec<u32>, arc: u32) -> Result<(), Fault>
+    ensures ok { OnOk result (arcs.new.items ≡ arcs.old.items ++ arc ∷ []) }
+    ensures err { IfErr result (λ f. f ≡ OutOfMemory) }
+{
+    match arcs.push(arc) {
+        Ok(()) => Ok(()),
+        Err(_) => Err(Fault::OutOfMemory),
+    }
+}
+
+/// The first two arcs, which the first subidentifier holds (X.690 8.19.4).
+fn first_arcs(alloc: Global, subidentifier: u32) -> Result<Vec<u32>, Fault>
+    ensures ok { IfOk result (λ v. v.items ≡ min 2 (subidentifier / 40) ∷ (subidentifier - 40 * min 2 (subidentifier / 40)) ∷ []) }
+    ensures err { IfErr result (λ f. f ≡ OutOfMemory) }
+{
+    let first = (subidentifier / 40).min(2);
+    let mut arcs = Vec::new(alloc);
+    push_arc(&mut arcs, first)?;
+    push_arc(&mut arcs, subidentifier - 40 * first)?;
+    Ok(arcs)
+}
+
+/// The object identifier that contents octets hold.
+pub fn read_object_identifier(alloc: Global, contents: &[u8]) -> Result<ObjectIdentifier, Fault>
+    ensures { FindsArcs contents.now result }
+{
+    let (subidentifier, mut rest) = read_number128(
+        Fault::UnsupportedObjectIdentifierArc,
+        contents,
+    )?;
+    let mut arcs = first_arcs(alloc, subidentifier)?;
+    while !rest.is_empty() {
+        let (arc, after) = read_number128(Fault::UnsupportedObjectIdentifierArc, rest)?;
+        push_arc(&mut arcs, arc)?;
+        rest = after;
+    }
+    Ok(ObjectIdentifier::new(arcs).unwrap())
+}

@@ -1,0 +1,175 @@
+-- Named numbers, NULL and object identifiers in a header are their octets.
+use Rattle.std.proofs.Common.{◌≡◌, ◌≢◌, subst, ℕ, zero, suc, ◌+◌, ◌*◌, ◌^◌, ◌-◌, ◌/◌, ◌<◌, ◌≤◌, ◌⊎◌, inl, inr, List, [], ◌∷◌, ◌++◌, length, take, drop, get_or, refl, sym, ap, ap₂, ◌∙◌, Result, OnOk, IfErr, pos, ℤ, arith}
+use Rattle.std.specs.Prelude.{Contains, min}
+use Rattle.std.proofs.lemmas.Result.{on_ok_weaker, IfErr-weaker}
+use Rattle.std.proofs.lemmas.List.{append_assoc, append-nil, take_rest}
+use Rattle.rasn_types.specs.Tags.{tag_bit}
+use Rattle.rasn_types.specs.Framing.{AreOctets}
+use Rattle.rasn_types.specs.Shapes.{number, numbers, leaf, null, object_identifier, integer, enumerated, Interval, Admits}
+use Rattle.rasn_types.specs.Contents.{signed, Arcs, ShortArcs, IsObjectIdentifier}
+use Rattle.rasn_types.specs.Trees.{unconstrained}
+use Rattle.rasn_types.specs.Bytes.{Prim, Written, Bytes}
+use Rattle.rasn_types.specs.declared.types.tag.Tag.{Tag}
+use Rattle.rasn_types.specs.declared.types.constraints.Constraints.{Constraints}
+use Rattle.rasn_types.specs.declared.error.encode.EncodeError.{EncodeError}
+use Rattle.rasn_types.proofs.Digits.{arcs_of}
+use Rattle.rasn_enc.specs.Headers.{digits, chained, group_count}
+use Rattle.rasn_enc.specs.View.{View}
+use Rattle.rasn_enc.specs.Primitives.{Appends, WantsMemory}
+use Rattle.rasn_enc.specs.Wrote.{Wrote, MayRefuse}
+use Rattle.rasn_enc.specs.Refusals.{RefusesValue}
+use Rattle.rasn_enc.specs.ObjectIdentifiers.{HasOctets, IsFirst, IsSubidentifier, AppendsOne, AppendsArcs, AppendsContents, RefusesArcs}
+use Rattle.rasn_enc.proofs.Leaves.{wrote_one, definite_begins}
+use Rattle.rasn_enc.proofs.Spellings.{groups_spell}
+
+-- A number that a type names is written as a named one.
+pub named_wrote : {R E : Type 0} (result : Result R E) (range : Interval) (known : List ℤ) (tag : Tag) (n z : ℤ) (v w : View) → n ≡ z → Contains known n
+    → OnOk result (Wrote (leaf (integer range) tag unconstrained) (number z) v w) → (c : Constraints) → OnOk result (Wrote (leaf (enumerated known) tag c) (number n) v w)
+unfolding Bytes
+named_wrote result range known tag n z v w e k h c = on_ok_weaker result (λ a. record {
+  octets = a.octets;
+  defined = (tt, (a.defined.1.0, named a.defined.1.0 a.defined.1.1, a.defined.1.2));
+  tags = a.tags;
+  heads = a.heads;
+  appended = a.appended;
+}) h
+  where
+    named : (l : List ℕ) → Written (integer range) (number z) l → Written (enumerated known) (number n) l
+    named l r =
+        let f = r.is.0 in
+        let g : z ≡ signed l = cc in
+        record { is = (ap number (e ∙ g), r.is.1, subst (Contains known) (e ∙ g) k); octets = r.octets; shortest = r.shortest }
+
+-- Nothing bounds it.
+pub named_refused : {R : Type 0} (result : Result R EncodeError) (n : ℤ) (v : View) → IfErr result (λ e. RefusesValue unconstrained n v.rule e ⊎ WantsMemory v.rule e) → IfErr result (WantsMemory v.rule)
+named_refused result n v h = IfErr-weaker result _ _ (λ e. elim [ inl r ↦ absurd (r.unmet tt) | inr m ↦ m ]) h
+
+pub null_wrote : {R E : Type 0} (result : Result R E) (tag : Tag) (v w : View) → OnOk result (Appends (Prim tag []) tag v w) → (c : Constraints) → OnOk result (Wrote (leaf null tag c) (number (pos 0)) v w)
+unfolding Bytes
+null_wrote result tag v w h c = on_ok_weaker result (λ a.
+    wrote_one (Prim tag []) tag (leaf null tag c) (number (pos 0)) v w a (λ o d. definite_begins tag (tag_bit tag) [] o d)
+    (λ o d. (tt, ([], record { is = (refl, refl); octets = tt; shortest = tt }, d)))) h
+
+pub object_wrote : {R E : Type 0} (result : Result R E) (tag : Tag) (arcs l : List ℕ) (v w : View) → Written object_identifier (numbers arcs) l → OnOk result (Appends (Prim tag l) tag v w)
+    → (c : Constraints) → OnOk result (Wrote (leaf object_identifier tag c) (numbers arcs) v w)
+unfolding Bytes
+object_wrote result tag arcs l v w r h c = on_ok_weaker result (λ a.
+    wrote_one (Prim tag l) tag (leaf object_identifier tag c) (numbers arcs) v w a (λ o d. definite_begins tag (tag_bit tag) l o d)
+    (λ o d. (tt, (l, r, d)))) h
+
+-- Contents behind no octets.
+pub contents_alone : (arcs old new : List ℕ) → old ≡ [] → AppendsContents arcs old new → Written object_identifier (numbers arcs) new
+contents_alone arcs old new e a = subst (Written object_identifier (numbers arcs)) (sym (a.appended ∙ ap (λ l. l ++ a.octets) e)) a.written
+
+-- The first subidentifier gives back the arcs that it holds.
+first_low : (x y s : ℕ) → x < 2 → y < 40 → s ≡ 40 * x + y → (min 2 (s / 40) ≡ x) × (s - 40 * min 2 (s / 40) ≡ y)
+first_low x y s h k e =
+    let d : s / 40 ≡ x = omega arith in
+    let m : min 2 (s / 40) ≡ x = omega arith in
+    (m, rw m (omega arith))
+
+first_high : (y s : ℕ) → s ≡ 40 * 2 + y → (min 2 (s / 40) ≡ 2) × (s - 40 * min 2 (s / 40) ≡ y)
+first_high y s e =
+    let d : 2 ≤ s / 40 = omega arith in
+    let m : min 2 (s / 40) ≡ 2 = omega arith in
+    (m, rw m (omega arith))
+
+contents_of : (x y s : ℕ) (others old new : List ℕ) → HasOctets (x ∷ y ∷ others) → IsFirst (x ∷ y ∷ others) s → AppendsArcs (s ∷ others) old new → AppendsContents (x ∷ y ∷ others) old new
+contents_of x y s others old new h f a = record {
+  octets = a.octets;
+  written = record {
+    is = (x ∷ y ∷ others, refl, (s, others, arcs_of a.octets (s ∷ others) a.are, go h));
+    octets = a.octets_are;
+    shortest = (s ∷ others, a.are);
+  };
+  appended = a.appended;
+}
+  where
+    both : (min 2 (s / 40) ≡ x) × (s - 40 * min 2 (s / 40) ≡ y) → x ∷ y ∷ others ≡ min 2 (s / 40) ∷ (s - 40 * min 2 (s / 40)) ∷ others
+    both e = ap₂ (λ a b. a ∷ b ∷ others) (sym e.0) (sym e.1)
+
+    go : ((x < 2) × (y < 40)) ⊎ ((x ≡ 2) × (y ≤ 4294967215)) → x ∷ y ∷ others ≡ min 2 (s / 40) ∷ (s - 40 * min 2 (s / 40)) ∷ others
+    go (inl (m, n)) = both (first_low x y s m n f)
+    go (inr (m, n)) = let e = first_high y s (f ∙ ap (λ z. 40 * z + y) m) in both (e.0 ∙ sym m, e.1)
+
+pub contents_put : (arcs : List ℕ) (s : ℕ) (old new : List ℕ) → HasOctets arcs → IsFirst arcs s → AppendsArcs (s ∷ take (length arcs - 2) (drop 2 arcs)) old new → AppendsContents arcs old new
+contents_put [] s old new h f a = absurd h
+contents_put (x ∷ []) s old new h f a = absurd h
+contents_put (x ∷ y ∷ others) s old new h f a = contents_of x y s others old new h f (subst (λ l. AppendsArcs (s ∷ l) old new) (take_rest (x ∷ y ∷ others) 2) a)
+
+-- Arcs that contents hold have octets.
+held_arcs : (s : ℕ) (ns : List ℕ) → s < 2 ^ 32 → HasOctets (min 2 (s / 40) ∷ (s - 40 * min 2 (s / 40)) ∷ ns)
+held_arcs s ns h = elim (small_or (s / 40)) [
+  | inl k ↦ let m : min 2 (s / 40) ≡ s / 40 = omega arith in rw m (inl (k, left s))
+  | inr k ↦ let m : min 2 (s / 40) ≡ 2 = omega arith in rw m (inr (refl, omega arith))
+]
+  where
+    small_or : (n : ℕ) → (n < 2) ⊎ (2 ≤ n)
+    small_or zero = inl (omega arith)
+    small_or (suc zero) = inl (omega arith)
+    small_or (suc (suc n)) = inr (omega arith)
+
+    left : (s : ℕ) → s - 40 * (s / 40) < 40
+    left s = omega arith
+
+pub has_octets : (l arcs : List ℕ) → IsObjectIdentifier l arcs → HasOctets arcs
+has_octets l arcs (s, ns, (front, back, t, e, a), f) = rw f (held_arcs s ns t.below)
+
+-- Arcs that have no octets are undefined.
+pub object_refused : {R : Type 0} (result : Result R EncodeError) (tag : Tag) (c : Constraints) (arcs : List ℕ) (v : View)
+    → IfErr result (λ e. RefusesArcs arcs v.rule e ⊎ WantsMemory v.rule e) → IfErr result (MayRefuse (leaf object_identifier tag c) (numbers arcs) v)
+unfolding Bytes
+object_refused result tag c arcs v h = IfErr-weaker result _ _ (λ e. elim [
+  | inl r ↦ record { why = inr (inl (record { none = λ octets b. r.unmet (written b.1.0 b.1.1) })) }
+  | inr m ↦ record { why = inl (ap (λ (x : EncodeError). x.kind) m) }
+]) h
+  where
+    written : (l : List ℕ) → Written object_identifier (numbers arcs) l → HasOctets arcs
+    written l w =
+        let e = w.is.1 in
+        let f : arcs ≡ w.is.0 = cc in
+        subst HasOctets (sym f) (has_octets l w.is.0 w.is.2)
+
+-- Subidentifiers one behind the other.
+pub record ArcsSoFar (all rest old new : List ℕ) : Type 0 where
+  pub before : List ℕ
+  pub appends : AppendsArcs before old new
+  pub is : all ≡ before ++ rest
+
+short_more : (ns front piece : List ℕ) (n : ℕ) → ShortArcs front ns → IsSubidentifier piece n → ShortArcs (front ++ piece) (ns ++ n ∷ [])
+short_more [] front piece n a s = rw a (piece, [], s.spells, s.shortest, sym (append-nil piece), refl)
+short_more (m ∷ ns) front piece n (p, q, t, u, e, a) s = (p, q ++ piece, t, u, ap (λ l. l ++ piece) e ∙ append_assoc p q piece, short_more ns q piece n a s)
+
+octets_more : (a b : List ℕ) → AreOctets a → AreOctets b → AreOctets (a ++ b)
+octets_more [] b h k = k
+octets_more (x ∷ a) b h k = (h.0, octets_more a b h.1 k)
+
+pub arcs_first : (n : ℕ) (others old new : List ℕ) → AppendsOne n old new → ArcsSoFar (n ∷ others) others old new
+arcs_first n others old new a = record {
+  before = n ∷ [];
+  appends = record { octets = a.octets; are = (a.octets, [], a.is.spells, a.is.shortest, sym (append-nil a.octets), refl); octets_are = a.is.octets; appended = a.appended };
+  is = refl;
+}
+
+pub arcs_next : (all rest after old mid new : List ℕ) (n : ℕ) → ArcsSoFar all rest old mid → rest ≡ n ∷ after → AppendsOne n mid new → ArcsSoFar all after old new
+arcs_next all rest after old mid new n k e a = record {
+  before = k.before ++ n ∷ [];
+  appends = record {
+    octets = k.appends.octets ++ a.octets;
+    are = short_more k.before k.appends.octets a.octets n k.appends.are a.is;
+    octets_are = octets_more k.appends.octets a.octets k.appends.octets_are a.is.octets;
+    appended = a.appended ∙ (ap (λ l. l ++ a.octets) k.appends.appended ∙ append_assoc old k.appends.octets a.octets);
+  };
+  is = k.is ∙ (ap (λ l. k.before ++ l) e ∙ sym (append_assoc k.before (n ∷ []) after));
+}
+
+pub arcs_done : (all rest old new : List ℕ) → ArcsSoFar all rest old new → rest ≡ [] → AppendsArcs all old new
+arcs_done all rest old new k e = subst (λ ns. AppendsArcs ns old new) (sym (k.is ∙ (ap (λ l. k.before ++ l) e ∙ append-nil k.before))) k.appends
+
+pub rest_is : (l : List ℕ) → 1 ≤ length l → l ≡ get_or l 0 0 ∷ take (length l - 1) (drop 1 l)
+rest_is [] h = absurd (omega arith)
+rest_is (x ∷ l) h = ap (λ m. x ∷ m) (sym (take_rest (x ∷ l) 1))
+
+-- The groups of a number behind a list.
+pub arc_put : (n : ℕ) (old mid new : List ℕ) → n < 0x1_0000_0000 → mid ≡ old → new ≡ mid ++ chained (digits 128 (group_count n) n) → AppendsOne n old new
+arc_put n old mid new h e f = record { octets = chained (digits 128 (group_count n) n); is = groups_spell n h; appended = f ∙ ap (λ l. l ++ chained (digits 128 (group_count n) n)) e }

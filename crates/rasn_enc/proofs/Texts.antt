@@ -1,0 +1,101 @@
+-- The octets of a character string in a header are its octets.
+use Rattle.std.proofs.Common.{◌≡◌, ◌⊎◌, inl, inr, ℕ, ◌<◌, ◌≤◌, List, length, refl, sym, ap, ◌∙◌, subst, Result, OnOk, IfErr, chars, IsUtf8}
+use Rattle.std.proofs.lemmas.Result.{on_ok_weaker, IfErr-weaker}
+use Rattle.rasn_types.specs.Framing.{AreOctets, Begins}
+use Rattle.rasn_types.specs.Tags.{in_universal, tag_bit}
+use Rattle.rasn_types.specs.Shapes.{Kind, Tree, numbers, leaf, Admits, octet_string, fixed, bmp, utf8}
+use Rattle.rasn_types.specs.Contents.{joined_lists}
+use Rattle.rasn_types.specs.Grammar.{Family, family, text_family, IsBounded, Fulfils, measure, Measure, by_size}
+use Rattle.rasn_types.specs.Bytes.{Prim, Cons, IsCer, Bytes, WritesIn, WritesText, WritesStr, WritesOctets}
+use Rattle.rasn_types.specs.Characters.{AreAdmitted, kind_of, ArePaired, units_of}
+use Rattle.rasn_types.proofs.StringTexts.{alphabet_family, alphabet_measure, alphabet_writes, units_there}
+use Rattle.rasn_types.specs.declared.types.strings.alphabet.Alphabet.{Alphabet}
+use Rattle.rasn_types.specs.declared.types.tag.Tag.{Tag}
+use Rattle.rasn_types.specs.declared.types.rules.Codec.{Codec}
+use Rattle.rasn_types.specs.declared.types.constraints.Constraints.{Constraints}
+use Rattle.rasn_types.specs.declared.error.encode.EncodeError.{EncodeError}
+use Rattle.rasn_enc.specs.View.{View}
+use Rattle.rasn_enc.specs.Primitives.{Appends}
+use Rattle.rasn_enc.specs.Wrote.{Wrote, MayRefuse}
+use Rattle.rasn_enc.specs.Refusals.{RefusesSize, MeetsSize}
+use Rattle.rasn_enc.specs.Segments.{PutsSegments}
+use Rattle.rasn_enc.specs.Texts.{PutsText}
+use Rattle.rasn_enc.proofs.Leaves.{wrote_one, definite_begins, cons_begins}
+
+-- Octets in one piece, and in segments.
+pub text_in_one : {R E : Type 0} (result : Result R E) (tag : Tag) (c : Constraints) (xs : List ℕ) (size : ℕ) (v w : View) → Admits ◌≤◌ c.size size → AreOctets xs
+    → (IsCer v.rule → length xs ≤ 1000) → OnOk result (Appends (Prim tag xs) tag v w) → OnOk result (PutsText tag c xs size v w)
+text_in_one result tag c xs size v w m o few h = on_ok_weaker result (λ a. record {
+  admitted = m;
+  appends = record { octets = a.octets; written = inl (few, xs, (refl, o), a.written); appended = a.appended };
+}) h
+
+pub text_in_segments : {R E : Type 0} (result : Result R E) (tag : Tag) (c : Constraints) (xs : List ℕ) (size : ℕ) (v w : View) → Admits ◌≤◌ c.size size → IsCer v.rule → 1000 < length xs
+    → OnOk result (PutsSegments tag xs v w) → OnOk result (PutsText tag c xs size v w)
+text_in_segments result tag c xs size v w m cer many h = on_ok_weaker result (λ p. record {
+  admitted = m;
+  appends = record { octets = p.appends.octets; written = inr (cer, many, p.pieces, p.encoded, p.is, p.cut, p.each, p.appends.written); appended = p.appends.appended };
+}) h
+
+str_begins : (rule : Codec) (tag : Tag) (xs octets : List ℕ) → WritesStr rule WritesOctets 1000 (in_universal 4) tag xs octets → Begins octets tag
+str_begins rule tag xs octets (inl (few, contents, w, d)) = definite_begins tag (tag_bit tag) contents octets d
+str_begins rule tag xs octets (inr (cer, many, pieces, bs, is, cut, each, d)) = cons_begins rule tag (joined_lists bs) octets d
+
+-- A kind of string whose octets these are.
+pub text_wrote : {R E : Type 0} (result : Result R E) (kind : Kind) (tag : Tag) (c : Constraints) (xs : List ℕ) (t : Tree) (size : ℕ) (v w : View) → family kind ≡ text_family
+    → (Admits ◌≤◌ c.size size → IsBounded kind c t) → WritesText kind xs t → OnOk result (PutsText tag c xs size v w) → OnOk result (Wrote (leaf kind tag c) t v w)
+unfolding Bytes
+text_wrote result kind tag c xs t size v w f bounded writes h = on_ok_weaker result (λ p.
+    wrote_one (WritesStr v.rule WritesOctets 1000 (in_universal 4) tag xs) tag (leaf kind tag c) t v w p.appends
+    (λ o d. str_begins v.rule tag xs o d)
+    (λ b d. (bounded p.admitted, subst (λ z. WritesIn z v.rule kind tag t b) (sym f) (xs, writes, d)))) h
+
+-- The same with the octets and the size as they were computed.
+with_size : {R E : Type 0} (result : Result R E) (tag : Tag) (c : Constraints) (ys xs : List ℕ) (size n : ℕ) (v w : View) → ys ≡ xs → size ≡ n
+    → OnOk result (PutsText tag c ys size v w) → OnOk result (PutsText tag c xs n v w)
+with_size result tag c ys xs size n v w e k h = subst (λ z. OnOk result (PutsText tag c xs z v w)) k (subst (λ z. OnOk result (PutsText tag c z size v w)) e h)
+
+pub alphabet_wrote : {R E : Type 0} (result : Result R E) (a : Alphabet) (tag : Tag) (c : Constraints) (ys xs : List ℕ) (size : ℕ) (v w : View) → ys ≡ xs → size ≡ length ys → AreAdmitted a xs
+    → OnOk result (PutsText tag c ys size v w) → OnOk result (Wrote (leaf (kind_of a) tag c) (numbers xs) v w)
+alphabet_wrote result a tag c ys xs size v w e k h p = text_wrote result (kind_of a) tag c xs (numbers xs) (length xs) v w (alphabet_family a)
+    (λ m. subst (λ z. Fulfils z c (numbers xs)) (sym (alphabet_measure a)) m) (alphabet_writes a xs h) (with_size result tag c ys xs size (length xs) v w e (k ∙ ap length e) p)
+
+pub units_wrote : {R E : Type 0} (result : Result R E) (tag : Tag) (c : Constraints) (ys xs : List ℕ) (size : ℕ) (v w : View) → ys ≡ xs → size ≡ length (units_of xs) → ArePaired xs
+    → OnOk result (PutsText tag c ys size v w) → OnOk result (Wrote (leaf bmp tag c) (numbers (units_of xs)) v w)
+units_wrote result tag c ys xs size v w e k h p = text_wrote result bmp tag c xs (numbers (units_of xs)) (length (units_of xs)) v w refl
+    (λ m. m) (units_of xs, refl, units_there xs h) (with_size result tag c ys xs size (length (units_of xs)) v w e k p)
+
+pub characters_wrote : {R E : Type 0} (result : Result R E) (tag : Tag) (c : Constraints) (ys xs : List ℕ) (size : ℕ) (v w : View) → ys ≡ xs → size ≡ length (chars xs) → IsUtf8 xs
+    → OnOk result (PutsText tag c ys size v w) → OnOk result (Wrote (leaf utf8 tag c) (numbers (chars xs)) v w)
+characters_wrote result tag c ys xs size v w e k h p = text_wrote result utf8 tag c xs (numbers (chars xs)) (length (chars xs)) v w refl
+    (λ m. m) (refl, h) (with_size result tag c ys xs size (length (chars xs)) v w e k p)
+
+-- An OCTET STRING of n octets.
+pub fixed_wrote : {R E : Type 0} (result : Result R E) (tag : Tag) (c : Constraints) (xs : List ℕ) (n : ℕ) (v w : View) → length xs ≡ n
+    → OnOk result (Wrote (leaf octet_string tag c) (numbers xs) v w) → OnOk result (Wrote (leaf (fixed n) tag c) (numbers xs) v w)
+unfolding Bytes
+fixed_wrote result tag c xs n v w k h = on_ok_weaker result (λ a. record {
+  octets = a.octets;
+  defined = (a.defined.0, as_fixed a.octets a.defined.1);
+  tags = a.tags;
+  heads = a.heads;
+  appended = a.appended;
+}) h
+  where
+    as_fixed : (octets : List ℕ) → WritesIn text_family v.rule octet_string tag (numbers xs) octets → WritesIn text_family v.rule (fixed n) tag (numbers xs) octets
+    as_fixed octets (l, e, d) = (l, (e, let m : xs ≡ l = cc in ap length (sym m) ∙ k), d)
+
+-- The same refusal of the size as it was computed.
+pub refused_at : {R : Type 0} (result : Result R EncodeError) (c : Constraints) (size n : ℕ) (rule : Codec) → size ≡ n
+    → IfErr result (λ e. RefusesSize c size rule e ⊎ MeetsSize c size rule e) → IfErr result (λ e. RefusesSize c n rule e ⊎ MeetsSize c n rule e)
+refused_at result c size n rule k h = subst (λ z. IfErr result (λ e. RefusesSize c z rule e ⊎ MeetsSize c z rule e)) k h
+
+-- A size that isn't admitted has no octets.
+pub text_refused : {R : Type 0} (result : Result R EncodeError) (kind : Kind) (tag : Tag) (c : Constraints) (ns : List ℕ) (v : View) → measure kind ≡ by_size
+    → IfErr result (λ e. RefusesSize c (length ns) v.rule e ⊎ MeetsSize c (length ns) v.rule e)
+    → IfErr result (MayRefuse (leaf kind tag c) (numbers ns) v)
+unfolding Bytes
+text_refused result kind tag c ns v k h = IfErr-weaker result _ _ (λ e. elim [
+  | inl r ↦ record { why = inr (inl (record { none = λ octets b. r.unmet (subst (λ z. Fulfils z c (numbers ns)) k b.0) })) }
+  | inr m ↦ record { why = inl (ap (λ (x : EncodeError). x.kind) m.memory) }
+]) h

@@ -1,0 +1,14 @@
+-- Character strings, as they are written (X.690 8.23, 9.2).
+use Rattle.std.specs.Prelude.{ℕ, ◌≤◌, List}
+use Rattle.rasn_types.specs.Tags.{in_universal}
+use Rattle.rasn_types.specs.Shapes.{Admits}
+use Rattle.rasn_types.specs.Bytes.{WritesStr, WritesOctets}
+use Rattle.rasn_types.specs.declared.types.constraints.Constraints.{Constraints}
+use Rattle.rasn_types.specs.declared.types.tag.Tag.{Tag}
+use Rattle.rasn_enc.specs.Primitives.{Appends}
+use Rattle.rasn_enc.specs.View.{View}
+
+-- A string of these octets stands behind the last list, and its size is admitted.
+pub record PutsText (tag : Tag) (c : Constraints) (xs : List ℕ) (size : ℕ) (v w : View) : Type 0 where
+  pub admitted : Admits ◌≤◌ c.size size
+  pub appends : Appends (WritesStr v.rule WritesOctets 1000 (in_universal 4) tag xs) tag v w

@@ -1,0 +1,107 @@
+//! Writing BIT STRING (X.690 8.6).
+ghost use Rattle.std.specs.Prelude.{◌≡◌, ◌<◌, ◌≤◌, ◌⊎◌, length, MatchBool, IfOk, IfErr, OnOk, OnErr};
+ghost use Rattle.rasn_types.specs.Bytes.{IsCer, WrittenBits};
+ghost use Rattle.rasn_types.specs.Shapes.{leaf, bit_string, bits};
+ghost use Rattle.rasn_enc.specs.View.{LeavesOthers};
+ghost use Rattle.rasn_enc.specs.Primitives.{Appends, WantsMemory};
+ghost use Rattle.rasn_enc.specs.Wrote.{Wrote};
+ghost use Rattle.rasn_enc.specs.Refusals.{RefusesSize, MeetsSize};
+ghost use Rattle.rasn_enc.specs.BitSegments.{AreBits, WroteBitSegments, PutsBitSegments};
+
+use super::{Encoder, out_of_memory};
+use rasn_types::error::EncodeError;
+use rasn_types::types::{BitStr, Codec, Constraints, Identifier, Tag};
+use std::alloc::{AllocError, Global};
+
+// The bits of a segment under the canonical rules: 999 octets, which are 1000 with the count of unused bits (X.690 9.2).
+const SEGMENT_BITS: usize = 7992;
+
+// The contents of bits in one piece: the count of unused bits, and octets (X.690 8.6.2).
+fn packed(alloc: Global, value: &BitStr<'_>) -> Result<Vec<u8>, AllocError>
+    ensures { IfOk result (λ v. WrittenBits value.now v.items) }
+{
+    let mut contents = Vec::with_capacity(alloc, value.len() / 8 + 2)?;
+    contents.push(value.unused())?;
+    value.append_to(&mut contents)?;
+    Ok(contents)
+}
+
+impl Encoder {
+    /// Writes a BIT STRING (X.690 8.6). Unused bits aren't set. The canonical rules write more than 1000 contents octets in
+    /// segments (9.2). The name is ignored.
+    ///
+    /// # Errors
+    /// `SizeConstraintNotSatisfied` where the number of bits is out of its bound, else `OutOfMemory` alone.
+    pub fn encode_bit_string(
+        &mut self,
+        tag: Tag,
+        constraints: &Constraints,
+        value: &BitStr<'_>,
+        _identifier: Identifier,
+    ) -> Result<(), EncodeError>
+        ensures ok { OnOk result (Wrote (leaf bit_string tag constraints.now) (bits value.now) self.old self.new) }
+        ensures err { OnErr result (self.new ≡ self.old) }
+        ensures refused { IfErr result (λ e. RefusesSize constraints.now (length value.now) self.old.rule e ⊎ MeetsSize constraints.now (length value.now) self.old.rule e) }
+    {
+        if !constraints.admits_size(value.len()) {
+            return Err(self.refused_size(constraints, value.len()));
+        }
+        if self.cuts_bits(value.len()) {
+            return self.put_bit_segments(tag, value);
+        }
+        self.put_bits(tag, value)
+    }
+
+    // The canonical rules write many bits in segments (X.690 9.2).
+    fn cuts_bits(&self, count: usize) -> bool
+        ensures { MatchBool result (IsCer self.now.rule × (SEGMENT_BITS < count)) (IsCer self.now.rule → count ≤ SEGMENT_BITS) }
+    {
+        matches!(self.rule, Codec::Cer) && count > SEGMENT_BITS
+    }
+
+    // Puts bits behind the last list, in one piece.
+    fn put_bits(&mut self, tag: Tag, value: &BitStr<'_>) -> Result<(), EncodeError>
+        ensures ok { OnOk result (Appends (AreBits tag value.now) tag self.old self.new) }
+        ensures err { OnErr result (self.new ≡ self.old) }
+        ensures memory { IfErr result (WantsMemory self.old.rule) }
+    {
+        match packed(self.alloc, value) {
+            Ok(contents) => self.leaf(tag, &contents),
+            Err(_) => Err(out_of_memory(self.rule)),
+        }
+    }
+
+    // Writes bits in segments, as one constructed value.
+    fn put_bit_segments(&mut self, tag: Tag, value: &BitStr<'_>) -> Result<(), EncodeError>
+        requires { SEGMENT_BITS < length value.now }
+        ensures ok { OnOk result (PutsBitSegments tag value.now self.old self.new) }
+        ensures err { OnErr result (self.new ≡ self.old) }
+        ensures memory { IfErr result (WantsMemory self.old.rule) }
+    {
+        self.begin(false)?;
+        match self.write_bit_segments(value) {
+            Ok(()) => self.finish(tag),
+            Err(error) => {
+                self.abandon();
+                Err(error)
+            }
+        }
+    }
+
+    fn write_bit_segments(&mut self, value: &BitStr<'_>) -> Result<(), EncodeError>
+        requires { 0 < length value.now }
+        ensures keeps { LeavesOthers self.old self.new }
+        ensures ok { OnOk result (WroteBitSegments value.now self.old self.new) }
+        ensures memory { IfErr result (WantsMemory self.old.rule) }
+    {
+        let mut place = 0;
+        while value.len() - place > SEGMENT_BITS {
+            let (_, rest) = value.split_at(place);
+            let (segment, _) = rest.split_at(SEGMENT_BITS);
+            self.put_bits(Tag::BIT_STRING, &segment)?;
+            place += SEGMENT_BITS;
+        }
+        let (_, rest) = value.split_at(place);
+        self.put_bits(Tag::BIT_STRING, &rest)
+    }
+}

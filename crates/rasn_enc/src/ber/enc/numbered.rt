@@ -1,0 +1,87 @@
+//! Writing named numbers, NULL, object identifiers and REAL (X.690 8.4, 8.5, 8.8, 8.19).
+ghost use Rattle.std.specs.Prelude.{◌≡◌, ◌⊎◌, Err, IfErr, OnOk, OnErr, pos};
+ghost use Rattle.rasn_types.specs.Shapes.{leaf, enumerated, null, object_identifier, number as number_tree, numbers};
+ghost use Rattle.rasn_types.specs.declared.error.encode.EncodeErrorKind.TheVariants.{RealNotSupported};
+ghost use Rattle.rasn_enc.specs.Primitives.{WantsMemory};
+ghost use Rattle.rasn_enc.specs.Wrote.{Wrote};
+ghost use Rattle.rasn_enc.specs.ObjectIdentifiers.{RefusesArcs};
+
+#[cfg(test)]
+mod tests;
+
+use super::Encoder;
+use super::objects::append_contents;
+use rasn_types::error::{EncodeError, EncodeErrorKind};
+use rasn_types::types::{Constraints, Enumerated, Identifier, RealType, Tag};
+
+impl Encoder {
+    ghost use Rattle.rasn_types.specs.declared.types.constraints.Constraints.{Constraints};
+
+    /// Writes an ENUMERATED (X.690 8.4) in the fewest octets. The name is ignored.
+    ///
+    /// # Errors
+    /// `OutOfMemory` alone.
+    pub fn encode_enumerated<E: Enumerated>(
+        &mut self,
+        tag: Tag,
+        value: &E,
+        identifier: Identifier,
+    ) -> Result<(), EncodeError>
+        ensures ok { (c : Constraints) → OnOk result (Wrote (leaf (enumerated E.known) tag c) (number_tree (E.number value.now)) self.old self.new) }
+        ensures err { OnErr result (self.new ≡ self.old) }
+        ensures refused { IfErr result (WantsMemory self.old.rule) }
+    {
+        self.encode_integer(tag, &Constraints::NONE, &value.discriminant(), identifier)
+    }
+
+    /// Writes a NULL (X.690 8.8). The name is ignored.
+    ///
+    /// # Errors
+    /// `OutOfMemory` alone.
+    pub fn encode_null(&mut self, tag: Tag, _identifier: Identifier) -> Result<(), EncodeError>
+        ensures ok { (c : Constraints) → OnOk result (Wrote (leaf null tag c) (number_tree (pos 0)) self.old self.new) }
+        ensures err { OnErr result (self.new ≡ self.old) }
+        ensures refused { IfErr result (WantsMemory self.old.rule) }
+    {
+        self.leaf(tag, &[])
+    }
+
+    /// Writes an OBJECT IDENTIFIER of these arcs (X.690 8.19) in the fewest octets. The name is ignored.
+    ///
+    /// # Errors
+    /// `InvalidObjectIdentifier` where the arcs have no octets and memory holds a copy of them, else `OutOfMemory` alone.
+    pub fn encode_object_identifier(
+        &mut self,
+        tag: Tag,
+        value: &[u32],
+        _identifier: Identifier,
+    ) -> Result<(), EncodeError>
+        ensures ok { (c : Constraints) → OnOk result (Wrote (leaf object_identifier tag c) (numbers value.now) self.old self.new) }
+        ensures err { OnErr result (self.new ≡ self.old) }
+        ensures refused { IfErr result (λ e. RefusesArcs value.now self.old.rule e ⊎ WantsMemory self.old.rule e) }
+    {
+        let mut contents = Vec::new(self.alloc);
+        append_contents(self.alloc, self.rule, value, &mut contents)?;
+        self.leaf(tag, &contents)
+    }
+
+    /// Refuses: REAL (X.690 8.5) isn't supported. Nothing is written.
+    ///
+    /// # Errors
+    /// `RealNotSupported`, always.
+    pub fn encode_real<R: RealType>(
+        &mut self,
+        _tag: Tag,
+        _constraints: &Constraints,
+        _value: &R,
+        _identifier: Identifier,
+    ) -> Result<(), EncodeError>
+        ensures refused { result ≡ Err (record { kind = RealNotSupported; codec = self.old.rule }) }
+        ensures same { self.new ≡ self.old }
+    {
+        Err(EncodeError {
+            kind: EncodeErrorKind::RealNotSupported,
+            codec: self.rule,
+        })
+    }
+}

@@ -1,0 +1,216 @@
+//! Writing character strings (X.690 8.23).
+ghost use Rattle.std.specs.Prelude.{◌≡◌, ◌⊎◌, chars, length, IfErr, OnOk, OnErr};
+ghost use Rattle.rasn_types.specs.Characters.{kind_of, units_of};
+ghost use Rattle.rasn_types.specs.Shapes.{leaf, numbers, numeric, printable, visible, ia5, any_octets, bmp, utf8};
+ghost use Rattle.rasn_enc.specs.Refusals.{RefusesSize, MeetsSize};
+ghost use Rattle.rasn_enc.specs.Texts.{PutsText};
+ghost use Rattle.rasn_enc.specs.Wrote.{Wrote};
+
+use super::Encoder;
+use rasn_types::error::EncodeError;
+use rasn_types::types::{
+    BmpString, Constraints, GeneralString, GeneralType, GraphicString, GraphicType, Ia5String,
+    Ia5Type, Identifier, NumericString, NumericType, PrintableString, PrintableType,
+    RestrictedString, StringType, Tag, TeletexString, TeletexType, VisibleString, VisibleType,
+};
+
+impl Encoder {
+    /// Writes a VisibleString (X.690 8.23). The canonical rules write more than 1000 octets in segments (9.2). The name is ignored.
+    ///
+    /// # Errors
+    /// `SizeConstraintNotSatisfied` where the number of octets is out of its bound, else `OutOfMemory` alone.
+    pub fn encode_visible_string(
+        &mut self,
+        tag: Tag,
+        constraints: &Constraints,
+        value: &VisibleString,
+        _identifier: Identifier,
+    ) -> Result<(), EncodeError>
+        ensures ok { OnOk result (Wrote (leaf visible tag constraints.now) (numbers value.now) self.old self.new) }
+        ensures err { OnErr result (self.new ≡ self.old) }
+        ensures refused { IfErr result (λ e. RefusesSize constraints.now (length value.now) self.old.rule e ⊎ MeetsSize constraints.now (length value.now) self.old.rule e) }
+    {
+        self.restricted::<VisibleType>(tag, constraints, value)
+    }
+
+    /// Writes an IA5String (X.690 8.23). The canonical rules write more than 1000 octets in segments (9.2). The name is ignored.
+    ///
+    /// # Errors
+    /// `SizeConstraintNotSatisfied` where the number of octets is out of its bound, else `OutOfMemory` alone.
+    pub fn encode_ia5_string(
+        &mut self,
+        tag: Tag,
+        constraints: &Constraints,
+        value: &Ia5String,
+        _identifier: Identifier,
+    ) -> Result<(), EncodeError>
+        ensures ok { OnOk result (Wrote (leaf ia5 tag constraints.now) (numbers value.now) self.old self.new) }
+        ensures err { OnErr result (self.new ≡ self.old) }
+        ensures refused { IfErr result (λ e. RefusesSize constraints.now (length value.now) self.old.rule e ⊎ MeetsSize constraints.now (length value.now) self.old.rule e) }
+    {
+        self.restricted::<Ia5Type>(tag, constraints, value)
+    }
+
+    /// Writes a PrintableString (X.690 8.23). The canonical rules write more than 1000 octets in segments (9.2). The name is ignored.
+    ///
+    /// # Errors
+    /// `SizeConstraintNotSatisfied` where the number of octets is out of its bound, else `OutOfMemory` alone.
+    pub fn encode_printable_string(
+        &mut self,
+        tag: Tag,
+        constraints: &Constraints,
+        value: &PrintableString,
+        _identifier: Identifier,
+    ) -> Result<(), EncodeError>
+        ensures ok { OnOk result (Wrote (leaf printable tag constraints.now) (numbers value.now) self.old self.new) }
+        ensures err { OnErr result (self.new ≡ self.old) }
+        ensures refused { IfErr result (λ e. RefusesSize constraints.now (length value.now) self.old.rule e ⊎ MeetsSize constraints.now (length value.now) self.old.rule e) }
+    {
+        self.restricted::<PrintableType>(tag, constraints, value)
+    }
+
+    /// Writes a NumericString (X.690 8.23). The canonical rules write more than 1000 octets in segments (9.2). The name is ignored.
+    ///
+    /// # Errors
+    /// `SizeConstraintNotSatisfied` where the number of octets is out of its bound, else `OutOfMemory` alone.
+    pub fn encode_numeric_string(
+        &mut self,
+        tag: Tag,
+        constraints: &Constraints,
+        value: &NumericString,
+        _identifier: Identifier,
+    ) -> Result<(), EncodeError>
+        ensures ok { OnOk result (Wrote (leaf numeric tag constraints.now) (numbers value.now) self.old self.new) }
+        ensures err { OnErr result (self.new ≡ self.old) }
+        ensures refused { IfErr result (λ e. RefusesSize constraints.now (length value.now) self.old.rule e ⊎ MeetsSize constraints.now (length value.now) self.old.rule e) }
+    {
+        self.restricted::<NumericType>(tag, constraints, value)
+    }
+
+    /// Writes a TeletexString (X.690 8.23). The canonical rules write more than 1000 octets in segments (9.2). The name is ignored.
+    ///
+    /// # Errors
+    /// `SizeConstraintNotSatisfied` where the number of octets is out of its bound, else `OutOfMemory` alone.
+    pub fn encode_teletex_string(
+        &mut self,
+        tag: Tag,
+        constraints: &Constraints,
+        value: &TeletexString,
+        _identifier: Identifier,
+    ) -> Result<(), EncodeError>
+        ensures ok { OnOk result (Wrote (leaf any_octets tag constraints.now) (numbers value.now) self.old self.new) }
+        ensures err { OnErr result (self.new ≡ self.old) }
+        ensures refused { IfErr result (λ e. RefusesSize constraints.now (length value.now) self.old.rule e ⊎ MeetsSize constraints.now (length value.now) self.old.rule e) }
+    {
+        self.restricted::<TeletexType>(tag, constraints, value)
+    }
+
+    /// Writes a GeneralString (X.690 8.23). The canonical rules write more than 1000 octets in segments (9.2). The name is ignored.
+    ///
+    /// # Errors
+    /// `SizeConstraintNotSatisfied` where the number of octets is out of its bound, else `OutOfMemory` alone.
+    pub fn encode_general_string(
+        &mut self,
+        tag: Tag,
+        constraints: &Constraints,
+        value: &GeneralString,
+        _identifier: Identifier,
+    ) -> Result<(), EncodeError>
+        ensures ok { OnOk result (Wrote (leaf any_octets tag constraints.now) (numbers value.now) self.old self.new) }
+        ensures err { OnErr result (self.new ≡ self.old) }
+        ensures refused { IfErr result (λ e. RefusesSize constraints.now (length value.now) self.old.rule e ⊎ MeetsSize constraints.now (length value.now) self.old.rule e) }
+    {
+        self.restricted::<GeneralType>(tag, constraints, value)
+    }
+
+    /// Writes a GraphicString (X.690 8.23). The canonical rules write more than 1000 octets in segments (9.2). The name is ignored.
+    ///
+    /// # Errors
+    /// `SizeConstraintNotSatisfied` where the number of octets is out of its bound, else `OutOfMemory` alone.
+    pub fn encode_graphic_string(
+        &mut self,
+        tag: Tag,
+        constraints: &Constraints,
+        value: &GraphicString,
+        _identifier: Identifier,
+    ) -> Result<(), EncodeError>
+        ensures ok { OnOk result (Wrote (leaf any_octets tag constraints.now) (numbers value.now) self.old self.new) }
+        ensures err { OnErr result (self.new ≡ self.old) }
+        ensures refused { IfErr result (λ e. RefusesSize constraints.now (length value.now) self.old.rule e ⊎ MeetsSize constraints.now (length value.now) self.old.rule e) }
+    {
+        self.restricted::<GraphicType>(tag, constraints, value)
+    }
+
+    /// Writes a BMPString: 16-bit units, the high octet first (X.690 8.23.8). The canonical rules write more than 1000 octets in segments (9.2). The name is ignored.
+    ///
+    /// # Errors
+    /// `SizeConstraintNotSatisfied` where the number of units is out of its bound, else `OutOfMemory` alone.
+    pub fn encode_bmp_string(
+        &mut self,
+        tag: Tag,
+        constraints: &Constraints,
+        value: &BmpString,
+        _identifier: Identifier,
+    ) -> Result<(), EncodeError>
+        ensures ok { OnOk result (Wrote (leaf bmp tag constraints.now) (numbers (units_of value.now)) self.old self.new) }
+        ensures err { OnErr result (self.new ≡ self.old) }
+        ensures refused { IfErr result (λ e. RefusesSize constraints.now (length (units_of value.now)) self.old.rule e ⊎ MeetsSize constraints.now (length (units_of value.now)) self.old.rule e) }
+    {
+        let octets = value.as_octets();
+        self.text(tag, constraints, octets, octets.len() / 2)
+    }
+
+    /// Writes a UTF8String (X.690 8.23.10). The canonical rules write more than 1000 octets in segments (9.2). The name is ignored.
+    ///
+    /// # Errors
+    /// `SizeConstraintNotSatisfied` where the number of characters is out of its bound, else `OutOfMemory` alone.
+    pub fn encode_utf8_string(
+        &mut self,
+        tag: Tag,
+        constraints: &Constraints,
+        value: &str,
+        _identifier: Identifier,
+    ) -> Result<(), EncodeError>
+        ensures ok { OnOk result (Wrote (leaf utf8 tag constraints.now) (numbers (chars value.now)) self.old self.new) }
+        ensures err { OnErr result (self.new ≡ self.old) }
+        ensures refused { IfErr result (λ e. RefusesSize constraints.now (length (chars value.now)) self.old.rule e ⊎ MeetsSize constraints.now (length (chars value.now)) self.old.rule e) }
+    {
+        self.text(tag, constraints, value.as_bytes(), value.chars().count())
+    }
+
+    // A string whose octets are characters of one alphabet.
+    pub(crate) fn restricted<S: StringType>(
+        &mut self,
+        tag: Tag,
+        constraints: &Constraints,
+        value: &RestrictedString<S>,
+    ) -> Result<(), EncodeError>
+        ensures ok { OnOk result (Wrote (leaf (kind_of S.ALPHABET) tag constraints.now) (numbers value.now) self.old self.new) }
+        ensures err { OnErr result (self.new ≡ self.old) }
+        ensures refused { IfErr result (λ e. RefusesSize constraints.now (length value.now) self.old.rule e ⊎ MeetsSize constraints.now (length value.now) self.old.rule e) }
+    {
+        let octets = value.as_octets();
+        self.text(tag, constraints, octets, octets.len())
+    }
+
+    // The octets of a string of so many characters, where these are within the size.
+    fn text(
+        &mut self,
+        tag: Tag,
+        constraints: &Constraints,
+        octets: &[u8],
+        size: usize,
+    ) -> Result<(), EncodeError>
+        ensures ok { OnOk result (PutsText tag constraints.now octets.now size self.old self.new) }
+        ensures err { OnErr result (self.new ≡ self.old) }
+        ensures refused { IfErr result (λ e. RefusesSize constraints.now size self.old.rule e ⊎ MeetsSize constraints.now size self.old.rule e) }
+    {
+        if !constraints.admits_size(size) {
+            return Err(self.refused_size(constraints, size));
+        }
+        if self.is_cut(octets.len()) {
+            return self.put_segments(tag, octets);
+        }
+        self.leaf(tag, octets)
+    }
+}

@@ -1,0 +1,38 @@
+-- Which octets the restricted character string types admit, and the characters that they mean (X.680 41).
+use Rattle.std.specs.Prelude.{◌≡◌, ℕ, ◌+◌, ◌*◌, ◌<◌, ◌≤◌, ◌%◌, List, [], ◌∷◌, length, All}
+use Rattle.rasn_types.specs.declared.types.strings.alphabet.Alphabet.{Alphabet}
+use Rattle.rasn_types.specs.declared.types.strings.alphabet.Alphabet.TheVariants.{Numeric, Printable, Visible, Ia5, Every}
+use Rattle.rasn_types.specs.Shapes.{Kind, numeric, printable, visible, ia5, any_octets}
+use Rattle.rasn_types.specs.Grammar.{IsDigitOrSpace, IsPrintable}
+
+abbrev pub IsAdmitted : Alphabet → ℕ → Type 0
+IsAdmitted Numeric c = IsDigitOrSpace c
+IsAdmitted Printable c = IsPrintable c
+IsAdmitted Visible c = (32 ≤ c) × (c < 127)
+IsAdmitted Ia5 c = c < 128
+IsAdmitted Every c = Unit {0}
+
+abbrev pub AreAdmitted : Alphabet → List ℕ → Type 0
+AreAdmitted a l = All (IsAdmitted a) l
+
+-- the kind of the string types with this alphabet
+abbrev pub kind_of : Alphabet → Kind
+kind_of Numeric = numeric
+kind_of Printable = printable
+kind_of Visible = visible
+kind_of Ia5 = ia5
+kind_of Every = any_octets
+
+-- Octets that are a whole number of 16-bit units.
+abbrev pub ArePaired : List ℕ → Type 0
+ArePaired l = length l % 2 ≡ 0
+
+-- their units, the high octet first
+abbrev pub units_of : List ℕ → List ℕ
+units_of [] = []
+units_of (a ∷ []) = []
+units_of (a ∷ b ∷ l) = (256 * a + b) ∷ units_of l
+
+-- what PrintableString admits besides letters and digits
+abbrev pub printable_marks : List ℕ
+printable_marks = 32 ∷ 39 ∷ 40 ∷ 41 ∷ 43 ∷ 44 ∷ 45 ∷ 46 ∷ 47 ∷ 58 ∷ 61 ∷ 63 ∷ []

@@ -1,0 +1,12 @@
+//! BIT STRING (X.680 22).
+
+mod bit_str;
+mod bit_string;
+mod gathered;
+mod packing;
+#[cfg(test)]
+mod tests;
+
+pub use bit_str::BitStr;
+pub use bit_string::BitString;
+pub use gathered::GatheredBits;

@@ -1,0 +1,134 @@
+//! A view of bits.
+ghost use Rattle.std.specs.Prelude.{◌≡◌, ◌+◌, ◌*◌, ◌/◌, ◌%◌, ◌≤◌, ◌<◌, length, take, drop, OnOk, OnErr, MatchOption, get_or};
+ghost use Rattle.rasn_types.specs.Framing.{AreOctets};
+ghost use Rattle.rasn_types.specs.Makes.{Makes};
+ghost use Rattle.rasn_types.specs.Bits.{bits_from, Pushes};
+
+use crate::types::bits::packing::{clear_last, octets_for, push_shifted, unused_by};
+use std::alloc::AllocError;
+use std::marker::Model;
+
+/// Bits borrowed from octets, which may begin and end inside one. To contracts they are a list of bits.
+#[derive(Debug, Drop)]
+pub struct BitStr<'a> {
+    octets: &'a [u8],
+    shift: usize,
+    len: usize,
+}
+
+impl<'a> Model for BitStr<'a> {
+    ghost use Rattle.std.specs.Prelude.{List, Bool, ◌+◌, ◌*◌, ◌<◌, ◌≤◌, length};
+    ghost use Rattle.rasn_types.specs.Bits.{bits_from};
+
+    ghost Value = { List Bool };
+
+    ghost view = { λ b. bits_from b.shift b.len b.octets.now };
+
+    ghost invariant = { λ b. (b.shift < 8) × (b.shift + b.len ≤ 8 * length b.octets.now) };
+}
+
+impl<'a> BitStr<'a> {
+    /// So many bits of the octets, the highest bit of each octet first, from the place `start` on. `None` where the octets
+    /// hold fewer.
+    pub fn new(octets: &'a [u8], start: usize, len: usize) -> Option<BitStr<'a>>
+        ensures { Makes result (start + len ≤ 8 * length octets.now) (bits_from start len octets.now) }
+    {
+        if start / 8 > octets.len() {
+            return None;
+        }
+        let octets = &octets[start / 8..];
+        let shift = start % 8;
+        if octets_across(shift, len) > octets.len() {
+            return None;
+        }
+        Some(BitStr { octets, shift, len })
+    }
+
+    // The first so many bits of the octets.
+    pub(crate) fn at_front(octets: &'a [u8], len: usize) -> BitStr<'a>
+        requires { len ≤ 8 * length octets.now }
+        ensures { result ≡ bits_from 0 len octets.now }
+    {
+        BitStr {
+            octets,
+            shift: 0,
+            len,
+        }
+    }
+
+    /// How many bits there are.
+    pub fn len(&self) -> usize
+        ensures { result ≡ length self.now }
+    {
+        self.len
+    }
+
+    /// The bit at a place, counted from 0. `None` behind the last.
+    pub fn get(&self, place: usize) -> Option<bool>
+        ensures { MatchOption result (length self.now ≤ place) (λ b. (place < length self.now) × (b ≡ get_or self.now place b)) }
+    {
+        if place >= self.len {
+            return None;
+        }
+        let behind = self.shift + place % 8;
+        let octet = self.octets[place / 8 + behind / 8];
+        Some((octet >> (7 - behind % 8)) % 2 == 1)
+    }
+
+    /// The bits before a place, and those from it on.
+    pub fn split_at(&self, place: usize) -> (BitStr<'a>, BitStr<'a>)
+        requires { place ≤ length self.now }
+        ensures front { result.0 ≡ take place self.now }
+        ensures back { result.1 ≡ drop place self.now }
+    {
+        let behind = self.shift + place % 8;
+        let front = BitStr {
+            octets: self.octets,
+            shift: self.shift,
+            len: place,
+        };
+        let back = BitStr {
+            octets: &self.octets[place / 8 + behind / 8..],
+            shift: behind % 8,
+            len: self.len - place,
+        };
+        (front, back)
+    }
+
+    /// How many bits of the last octet they leave unused where they are packed from an octet's first bit on (X.690 8.6.2.2).
+    pub fn unused(&self) -> u8
+        ensures few { result < 8 }
+        ensures whole { (length self.now + result) % 8 ≡ 0 }
+    {
+        unused_by(self.len) as u8
+    }
+
+    /// Puts the bits behind octets, packed from the first bit of an octet on. The bits that are left over in the last octet
+    /// aren't set. Where memory is wanting, nothing is put.
+    pub fn append_to(&self, out: &mut Vec<u8>) -> Result<(), AllocError>
+        ensures ok { OnOk result (Pushes self.now out.old.items out.new.items) }
+        ensures err { OnErr result (out.new.items ≡ out.old.items) }
+        ensures octets { OnOk result (AreOctets out.new.items) }
+    {
+        if self.len == 0 {
+            return Ok(());
+        }
+        let held = octets_across(self.shift, self.len);
+        out.reserve(held)?;
+        if let [first, more @ ..] = &self.octets[..held] {
+            let kept = out.len() + octets_for(self.len);
+            push_shifted(out, *first, more, self.shift);
+            out.truncate(kept);
+            clear_last(out, unused_by(self.len));
+        }
+        Ok(())
+    }
+}
+
+// How many octets hold so many bits behind the first few of them.
+fn octets_across(shift: usize, len: usize) -> usize
+    requires { shift < 8 }
+    ensures { result ≡ (shift + len + 7) / 8 }
+{
+    len / 8 + octets_for(shift + len % 8)
+}

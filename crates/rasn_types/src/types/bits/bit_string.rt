@@ -1,0 +1,107 @@
+//! A list of bits.
+ghost use Rattle.std.specs.Prelude.{◌≡◌, ◌*◌, ◌≤◌, ◌<◌, length, get_or, MatchOption};
+ghost use Rattle.rasn_types.specs.Makes.{Makes};
+ghost use Rattle.rasn_types.specs.Bits.{bits_from};
+
+use crate::types::bits::BitStr;
+use crate::types::bits::packing::{clear_last, octets_for, unused_by};
+use crate::types::{AsnType, Constraints, Tag};
+use std::marker::Model;
+
+/// A list of bits (X.680 22), kept in as few octets as they take. To contracts it is the list.
+#[derive(Debug, Drop)]
+pub struct BitString {
+    octets: Vec<u8>,
+    len: usize,
+}
+
+impl Model for BitString {
+    ghost use Rattle.std.specs.Prelude.{List, Bool};
+    ghost use Rattle.rasn_types.specs.Bits.{bits_from, IsKept};
+
+    ghost Value = { List Bool };
+
+    ghost view = { λ s. bits_from 0 s.len s.octets.items };
+
+    ghost invariant = { λ s. IsKept s.len s.octets.items };
+}
+
+impl BitString {
+    /// The first so many bits of the octets, the highest bit of each octet first. `None` where the octets hold fewer.
+    pub fn new(octets: Vec<u8>, len: usize) -> Option<BitString>
+        ensures { Makes result (len ≤ 8 * length octets.items) (bits_from 0 len octets.items) }
+    {
+        let mut octets = octets;
+        let kept = octets_for(len);
+        if kept > octets.len() {
+            return None;
+        }
+        octets.truncate(kept);
+        clear_last(&mut octets, unused_by(len));
+        Some(BitString { octets, len })
+    }
+
+    /// How many bits there are.
+    pub fn len(&self) -> usize
+        ensures { result ≡ length self.now }
+    {
+        self.len
+    }
+
+    /// The bit at a place, counted from 0. `None` behind the last.
+    pub fn get(&self, place: usize) -> Option<bool>
+        ensures { MatchOption result (length self.now ≤ place) (λ b. (place < length self.now) × (b ≡ get_or self.now place b)) }
+    {
+        self.as_bitstr().get(place)
+    }
+
+    /// A view of all its bits.
+    pub fn as_bitstr(&self) -> BitStr<'_>
+        ensures { result ≡ self.now }
+    {
+        BitStr::at_front(&self.octets, self.len)
+    }
+}
+
+impl PartialEq for BitString {
+    ghost use Rattle.std.specs.Bool.{beq};
+    ghost use Rattle.std.specs.Cmp.Lexicographic.{pointwise};
+    ghost use Rattle.std.proofs.Common.{rules};
+    ghost use Rattle.std.specs.Cmp.Rules.{comparing};
+
+    ghost eq = { pointwise beq };
+
+    ghost laws = { Prim.search (comparing, rules) };
+
+    fn eq(&self, other: &BitString) -> bool {
+        self.len == other.len && self.octets == other.octets
+    }
+}
+
+impl Eq for BitString {
+    ghost use Rattle.std.proofs.Common.{rules};
+    ghost use Rattle.std.specs.Cmp.Rules.{comparing};
+
+    ghost laws = { Prim.search (comparing, rules) };
+}
+
+impl AsnType for BitString {
+    ghost use Rattle.std.specs.Prelude.{refl};
+    ghost use Rattle.rasn_types.specs.Shapes.{leaf, bit_string, bits};
+    ghost use Rattle.rasn_types.specs.Tags.{in_universal};
+    ghost use Rattle.rasn_types.specs.Trees.{unconstrained};
+
+    ghost TAG = { in_universal 3 };
+
+    const TAG: Tag = Tag::BIT_STRING;
+
+    ghost CONSTRAINTS = { unconstrained };
+
+    const CONSTRAINTS: Constraints = Constraints::NONE;
+
+    ghost shape = { leaf bit_string (in_universal 3) unconstrained };
+
+    ghost tree = { λ s. bits s };
+
+    ghost own = { refl };
+}

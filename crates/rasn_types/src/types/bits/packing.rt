@@ -1,0 +1,101 @@
+//! Octets that bits are packed in, the first bit of each highest (X.690 8.6.2).
+ghost use Rattle.std.specs.Prelude.{◌≡◌, ◌+◌, ◌-◌, ◌*◌, ◌/◌, ◌%◌, ◌<◌, ◌≤◌, ◌++◌, ◌∷◌, length, take, drop, vec_len, vec_capacity};
+ghost use Rattle.rasn_types.specs.Framing.{AreOctets};
+ghost use Rattle.rasn_types.specs.Contents.{bits_of};
+ghost use Rattle.rasn_types.specs.Bits.{zeros, but_last};
+ghost use Rattle.rasn_types.specs.Packing.{Shifts, Clears, Joins};
+
+/// How many octets so many bits take.
+pub(crate) fn octets_for(bits: usize) -> usize
+    ensures { result ≡ (bits + 7) / 8 }
+{
+    if bits % 8 == 0 {
+        bits / 8
+    } else {
+        bits / 8 + 1
+    }
+}
+
+/// How many bits of the last octet so many bits leave unused.
+pub(crate) fn unused_by(bits: usize) -> usize
+    ensures { result ≡ (8 - bits % 8) % 8 }
+{
+    (8 - bits % 8) % 8
+}
+
+// The octet that begins behind so many bits of the first of two.
+fn across(first: u8, second: u8, bits: usize) -> u8
+    requires { bits < 8 }
+    ensures { bits_of result ≡ take 8 (drop bits (bits_of first ++ bits_of second)) }
+{
+    let both = u16::from(first) * 256 + u16::from(second);
+    ((both >> (8 - bits)) % 256) as u8
+}
+
+/// Puts the bits of octets but the first few behind others, and zeros up to the end of the last octet.
+pub(crate) fn push_shifted(out: &mut Vec<u8>, first: u8, more: &[u8], bits: usize)
+    requires few { bits < 8 }
+    requires room { vec_len out.old + (1 + length more.now) ≤ vec_capacity out.old }
+    ensures { Shifts bits (first ∷ more.now) out.old.items out.new.items }
+{
+    let mut previous = first;
+    for octet in more {
+        out.push_reserved(across(previous, *octet, bits));
+        previous = *octet;
+    }
+    out.push_reserved(across(previous, 0, bits));
+}
+
+// An octet whose last bits are cleared.
+fn cleared(octet: u8, bits: usize) -> u8
+    requires { bits < 8 }
+    ensures { bits_of result ≡ take (8 - bits) (bits_of octet) ++ zeros bits }
+{
+    octet >> bits << bits
+}
+
+// An octet whose first bits stand behind so many others.
+fn moved_down(octet: u8, bits: usize) -> u8
+    requires { bits < 8 }
+    ensures { drop bits (bits_of result) ≡ take (8 - bits) (bits_of octet) }
+{
+    octet >> bits
+}
+
+/// Clears the last bits of the last octet.
+pub(crate) fn clear_last(octets: &mut Vec<u8>, bits: usize)
+    requires { bits < 8 }
+    ensures cleared { Clears bits octets.old.items octets.new.items }
+    ensures octets { AreOctets octets.new.items }
+{
+    if let Some(last) = octets.pop() {
+        octets.push_reserved(cleared(last, bits));
+    }
+}
+
+/// Puts octets behind others, of whose last octet so many bits are unused: bit joins bit.
+pub(crate) fn push_joined(out: &mut Vec<u8>, unused: usize, more: &[u8])
+    requires few { unused < 8 }
+    requires some { 0 < vec_len out.old }
+    requires room { vec_len out.old + length more.now ≤ vec_capacity out.old }
+    ensures { Joins unused out.old.items more.now out.new.items }
+{
+    if let Some(last) = out.pop() {
+        push_shifted(out, moved_down(last, unused), more, unused);
+    }
+}
+
+/// Drops a last octet none of whose bits are used, and tells how many bits are unused then.
+pub(crate) fn shorten(octets: &mut Vec<u8>, unused: usize) -> usize
+    requires few { unused < 16 }
+    requires held { unused ≤ 8 * length octets.old.items }
+    ensures few { result < 8 }
+    ensures held { result ≤ 8 * length octets.new.items }
+    ensures same { but_last result octets.new.items ≡ but_last unused octets.old.items }
+{
+    if unused < 8 {
+        return unused;
+    }
+    octets.pop();
+    unused - 8
+}

@@ -1,0 +1,109 @@
+//! OBJECT IDENTIFIER.
+ghost use Rattle.std.specs.Prelude.{◌≡◌};
+ghost use Rattle.rasn_types.specs.Makes.{Makes};
+ghost use Rattle.rasn_types.specs.Numbered.{AreArcs};
+
+use crate::types::{AsnType, Constraints, Tag};
+use std::marker::Model;
+
+/// A list of at least two arcs, the first at most 2 (X.660 7.6, X.680 32).
+///
+/// Where the first arc is below 2 and the second above 39, or the first is 2 and the second above 4294967215, it has no octets
+/// (X.690 8.19.4).
+#[derive(Debug, Drop)]
+pub struct ObjectIdentifier {
+    arcs: Vec<u32>,
+}
+
+impl Model for ObjectIdentifier {
+    ghost use Rattle.std.specs.Prelude.{List, ℕ};
+    ghost use Rattle.rasn_types.specs.Numbered.{AreArcs};
+
+    ghost Value = { List ℕ };
+
+    ghost view = { λ o. o.arcs.items };
+
+    ghost invariant = { λ o. AreArcs o.arcs.items };
+}
+
+impl ObjectIdentifier {
+    /// The object identifier of these arcs, where there are at least two and the first is at most 2. No memory is taken.
+    pub fn new(arcs: Vec<u32>) -> Option<ObjectIdentifier>
+        ensures { Makes result (AreArcs arcs.items) arcs.items }
+    {
+        match arcs.as_slice() {
+            [first, _, ..] if *first <= 2 => Some(ObjectIdentifier { arcs }),
+            _ => None,
+        }
+    }
+
+    /// Its arcs.
+    pub fn arcs(&self) -> &[u32]
+        ensures arcs { result.now ≡ self.now }
+        ensures some { AreArcs self.now }
+    {
+        &self.arcs
+    }
+}
+
+impl PartialEq for ObjectIdentifier {
+    ghost use Rattle.std.specs.Prelude.{nat_eq};
+    ghost use Rattle.std.specs.Cmp.Lexicographic.{pointwise};
+    ghost use Rattle.std.proofs.Common.{rules};
+    ghost use Rattle.std.specs.Cmp.Rules.{comparing};
+
+    ghost eq = { pointwise nat_eq };
+
+    ghost laws = { Prim.search (comparing, rules) };
+
+    fn eq(&self, other: &ObjectIdentifier) -> bool {
+        self.arcs == other.arcs
+    }
+}
+
+impl Eq for ObjectIdentifier {
+    ghost use Rattle.std.proofs.Common.{rules};
+    ghost use Rattle.std.specs.Cmp.Rules.{comparing};
+
+    ghost laws = { Prim.search (comparing, rules) };
+}
+
+impl AsnType for ObjectIdentifier {
+    ghost use Rattle.std.specs.Prelude.{refl};
+    ghost use Rattle.rasn_types.specs.Shapes.{leaf, object_identifier, numbers};
+    ghost use Rattle.rasn_types.specs.Tags.{in_universal};
+    ghost use Rattle.rasn_types.specs.Trees.{unconstrained};
+
+    ghost TAG = { in_universal 6 };
+
+    const TAG: Tag = Tag::OBJECT_IDENTIFIER;
+
+    ghost CONSTRAINTS = { unconstrained };
+
+    const CONSTRAINTS: Constraints = Constraints::NONE;
+
+    ghost shape = { leaf object_identifier (in_universal 6) unconstrained };
+
+    ghost tree = { λ o. numbers o };
+
+    ghost own = { refl };
+}
+
+#[cfg(test)]
+mod tests {
+    use super::*;
+    use std::test::Fail;
+
+    // Fewer than two arcs, and a first arc above 2, are none.
+    #[test]
+    fn keeps_arcs(rt: HostRuntime) -> Result<(), Fail> {
+        let alloc = rt.alloc();
+        let rsa = ObjectIdentifier::new(vec![in alloc; 1, 2, 840, 113549]?).ok_or("no arcs")?;
+        assert_eq!(rt; rsa.arcs(), [1, 2, 840, 113549].as_slice());
+        assert!(rt; ObjectIdentifier::new(vec![in alloc; 2]?).is_none());
+        assert!(rt; ObjectIdentifier::new(vec![in alloc; 3, 1]?).is_none());
+        let again = ObjectIdentifier::new(vec![in alloc; 1, 2, 840, 113549]?).ok_or("no arcs")?;
+        assert!(rt; rsa == again);
+        Ok(())
+    }
+}

@@ -1,0 +1,86 @@
+//! The octets that a string type admits.
+ghost use Rattle.std.specs.Prelude.{◌<◌, length, slice_index, Contains, MatchBool, MatchOption};
+ghost use Rattle.std.specs.List.{AllWithin};
+ghost use Rattle.rasn_types.specs.Characters.{IsAdmitted, AreAdmitted, printable_marks};
+ghost use Rattle.rasn_types.specs.declared.types.strings.alphabet.Alphabet.TheVariants.{Numeric, Printable};
+
+/// The octets that a string type admits, each being one character (X.680 41).
+#[derive(Clone, Copy, Debug, PartialEq, Eq)]
+pub enum Alphabet {
+    /// Digits and space.
+    Numeric,
+    /// Letters, digits, space and `' ( ) + , - . / : = ?`.
+    Printable,
+    /// `20` to `7E`.
+    Visible,
+    /// `00` to `7F`.
+    Ia5,
+    /// Every octet.
+    Every,
+}
+
+impl Alphabet {
+    /// Whether it has this octet.
+    pub fn admits(self, octet: u8) -> bool
+        ensures { MatchBool result (IsAdmitted self octet) (IsAdmitted self octet → ⊥) }
+    {
+        match self {
+            Alphabet::Numeric => is_digit_or_space(octet),
+            Alphabet::Printable => is_printable(octet),
+            Alphabet::Visible => octet >= 0x20 && octet < 0x7F,
+            Alphabet::Ia5 => octet < 0x80,
+            Alphabet::Every => true,
+        }
+    }
+
+    /// The place of the first octet that it doesn't have, counted from 0.
+    pub fn first_foreign(self, octets: &[u8]) -> Option<usize>
+        ensures { MatchOption result (AreAdmitted self octets.now) (λ k. (k < length octets.now) × AllWithin (IsAdmitted self) octets.now 0 k × (IsAdmitted self (slice_index octets.now k) → ⊥)) }
+    {
+        for (position, octet) in octets.iter().enumerate() {
+            if !self.admits(*octet) {
+                return Some(position);
+            }
+        }
+        None
+    }
+}
+
+fn is_digit_or_space(octet: u8) -> bool
+    ensures { MatchBool result (IsAdmitted Numeric octet) (IsAdmitted Numeric octet → ⊥) }
+{
+    octet.is_ascii_digit() || octet == b' '
+}
+
+fn is_printable(octet: u8) -> bool
+    ensures { MatchBool result (IsAdmitted Printable octet) (IsAdmitted Printable octet → ⊥) }
+{
+    octet.is_ascii_uppercase()
+        || octet.is_ascii_lowercase()
+        || octet.is_ascii_digit()
+        || is_printable_mark(octet)
+}
+
+fn is_printable_mark(octet: u8) -> bool
+    ensures { MatchBool result (Contains printable_marks octet) (Contains printable_marks octet → ⊥) }
+{
+    b" '()+,-./:=?".contains(&octet)
+}
+
+#[cfg(test)]
+mod tests {
+    use super::*;
+
+    #[test]
+    fn alphabets_are_those_of_the_standard(rt: HostRuntime) {
+        for (alphabet, octets, foreign) in [
+            (Alphabet::Numeric, b"1 2a", Some(3)),
+            (Alphabet::Printable, b"A?*b", Some(2)),
+            (Alphabet::Visible, b"~ a\x7F", Some(3)),
+            (Alphabet::Ia5, b"A\x80\x81b", Some(1)),
+            (Alphabet::Every, b"\xC8\x00\xFFa", None),
+        ] {
+            assert_eq!(rt; alphabet.first_foreign(octets), foreign);
+        }
+    }
+}

@@ -1,0 +1,263 @@
+//! String types whose octets are single characters.
+ghost use Rattle.std.specs.Prelude.{◌≡◌, IfOk, MatchOption, Option};
+ghost use Rattle.rasn_types.specs.Characters.{AreAdmitted, kind_of};
+
+use crate::types::{Alphabet, AsnType, Constraints, Tag};
+use std::alloc::{AllocError, Global};
+use std::marker::{Model, PhantomData};
+
+/// What tells a string type from the others: its tag and its alphabet.
+pub trait StringType: Drop {
+    ghost use Rattle.rasn_types.specs.declared.types.tag.Tag.{Tag};
+    ghost use Rattle.rasn_types.specs.declared.types.strings.alphabet.Alphabet.{Alphabet};
+
+    ghost TAG: { Tag };
+
+    /// The type's own tag.
+    const TAG: Tag;
+
+    ghost ALPHABET: { Alphabet };
+
+    /// The octets that it admits.
+    const ALPHABET: Alphabet;
+}
+
+/// A string of a type whose octets are single characters, all of its alphabet (X.680 41).
+///
+/// To contracts it is the list of its octets.
+#[derive(Debug, Drop)]
+pub struct RestrictedString<S: StringType> {
+    octets: Vec<u8>,
+    of: PhantomData<S>,
+}
+
+impl<S: StringType> Model for RestrictedString<S> {
+    ghost use Rattle.std.specs.Prelude.{List, ℕ};
+    ghost use Rattle.rasn_types.specs.Characters.{AreAdmitted};
+
+    ghost Value = { List ℕ };
+
+    ghost view = { λ a. a.octets.items };
+
+    ghost invariant = { λ a. AreAdmitted S.ALPHABET a.octets.items };
+}
+
+impl<S: StringType> RestrictedString<S> {
+    /// A copy of these octets as a string; none where the alphabet lacks one of them.
+    ///
+    /// # Errors
+    /// Want of memory.
+    pub fn from_octets(
+        alloc: Global,
+        octets: &[u8],
+    ) -> Result<Option<RestrictedString<S>>, AllocError>
+        ensures { IfOk result (λ v. MatchOption v (AreAdmitted S.ALPHABET octets.now → ⊥) (λ s. AreAdmitted S.ALPHABET octets.now × (s ≡ octets.now))) }
+    {
+        if S::ALPHABET.first_foreign(octets).is_some() {
+            return Ok(None);
+        }
+        let mut kept = Vec::new(alloc);
+        kept.extend_from_slice(octets)?;
+        Ok(Some(RestrictedString::from_admitted(kept)))
+    }
+
+    /// The string of these octets, which are all in the alphabet.
+    pub fn from_admitted(octets: Vec<u8>) -> RestrictedString<S>
+        requires { AreAdmitted S.ALPHABET octets.items }
+        ensures { result ≡ octets.items }
+    {
+        RestrictedString {
+            octets,
+            of: PhantomData,
+        }
+    }
+
+    /// Its octets.
+    pub fn as_octets(&self) -> &[u8]
+        ensures octets { result.now ≡ self.now }
+        ensures admitted { AreAdmitted S.ALPHABET self.now }
+    {
+        self.octets.as_slice()
+    }
+}
+
+impl<S: StringType> PartialEq for RestrictedString<S> {
+    ghost use Rattle.std.specs.Prelude.{nat_eq};
+    ghost use Rattle.std.specs.Cmp.{partial_equiv_from_equiv};
+    ghost use Rattle.std.specs.Cmp.Lexicographic.{pointwise, nat_list_eq_equiv};
+
+    ghost eq = { pointwise nat_eq };
+
+    ghost laws = { partial_equiv_from_equiv nat_list_eq_equiv };
+
+    fn eq(&self, other: &RestrictedString<S>) -> bool {
+        self.octets == other.octets
+    }
+}
+
+impl<S: StringType> Eq for RestrictedString<S> {
+    ghost use Rattle.std.specs.Cmp.Lexicographic.{nat_list_eq_equiv};
+
+    ghost laws = { nat_list_eq_equiv };
+}
+
+impl<S: StringType> AsnType for RestrictedString<S> {
+    ghost use Rattle.std.specs.Prelude.{refl};
+    ghost use Rattle.rasn_types.specs.Shapes.{leaf, numbers};
+    ghost use Rattle.rasn_types.specs.Characters.{kind_of};
+    ghost use Rattle.rasn_types.specs.Trees.{unconstrained};
+
+    ghost TAG = { S.TAG };
+
+    const TAG: Tag = S::TAG;
+
+    ghost CONSTRAINTS = { unconstrained };
+
+    const CONSTRAINTS: Constraints = Constraints::NONE;
+
+    ghost shape = { leaf (kind_of S.ALPHABET) S.TAG unconstrained };
+
+    ghost tree = { λ s. numbers s };
+
+    ghost own = { refl };
+}
+
+/// Names NumericString.
+#[derive(Clone, Copy, Debug, Drop)]
+pub struct NumericType;
+
+/// NumericString: digits and space (X.680 41).
+pub type NumericString = RestrictedString<NumericType>;
+
+impl StringType for NumericType {
+    ghost use Rattle.rasn_types.specs.Tags.{in_universal};
+    ghost use Rattle.rasn_types.specs.declared.types.strings.alphabet.Alphabet.TheVariants.{Numeric};
+
+    ghost TAG = { in_universal 18 };
+
+    const TAG: Tag = Tag::NUMERIC_STRING;
+
+    ghost ALPHABET = { Numeric };
+
+    const ALPHABET: Alphabet = Alphabet::Numeric;
+}
+
+/// Names PrintableString.
+#[derive(Clone, Copy, Debug, Drop)]
+pub struct PrintableType;
+
+/// PrintableString: letters, digits, space and `' ( ) + , - . / : = ?` (X.680 41).
+pub type PrintableString = RestrictedString<PrintableType>;
+
+impl StringType for PrintableType {
+    ghost use Rattle.rasn_types.specs.Tags.{in_universal};
+    ghost use Rattle.rasn_types.specs.declared.types.strings.alphabet.Alphabet.TheVariants.{Printable};
+
+    ghost TAG = { in_universal 19 };
+
+    const TAG: Tag = Tag::PRINTABLE_STRING;
+
+    ghost ALPHABET = { Printable };
+
+    const ALPHABET: Alphabet = Alphabet::Printable;
+}
+
+/// Names VisibleString.
+#[derive(Clone, Copy, Debug, Drop)]
+pub struct VisibleType;
+
+/// VisibleString: `20` to `7E` (X.680 41).
+pub type VisibleString = RestrictedString<VisibleType>;
+
+impl StringType for VisibleType {
+    ghost use Rattle.rasn_types.specs.Tags.{in_universal};
+    ghost use Rattle.rasn_types.specs.declared.types.strings.alphabet.Alphabet.TheVariants.{Visible};
+
+    ghost TAG = { in_universal 26 };
+
+    const TAG: Tag = Tag::VISIBLE_STRING;
+
+    ghost ALPHABET = { Visible };
+
+    const ALPHABET: Alphabet = Alphabet::Visible;
+}
+
+/// Names IA5String.
+#[derive(Clone, Copy, Debug, Drop)]
+pub struct Ia5Type;
+
+/// IA5String: `00` to `7F` (X.680 41).
+pub type Ia5String = RestrictedString<Ia5Type>;
+
+impl StringType for Ia5Type {
+    ghost use Rattle.rasn_types.specs.Tags.{in_universal};
+    ghost use Rattle.rasn_types.specs.declared.types.strings.alphabet.Alphabet.TheVariants.{Ia5};
+
+    ghost TAG = { in_universal 22 };
+
+    const TAG: Tag = Tag::IA5_STRING;
+
+    ghost ALPHABET = { Ia5 };
+
+    const ALPHABET: Alphabet = Alphabet::Ia5;
+}
+
+/// Names TeletexString.
+#[derive(Clone, Copy, Debug, Drop)]
+pub struct TeletexType;
+
+/// TeletexString: every octet (X.680 41).
+pub type TeletexString = RestrictedString<TeletexType>;
+
+impl StringType for TeletexType {
+    ghost use Rattle.rasn_types.specs.Tags.{in_universal};
+    ghost use Rattle.rasn_types.specs.declared.types.strings.alphabet.Alphabet.TheVariants.{Every};
+
+    ghost TAG = { in_universal 20 };
+
+    const TAG: Tag = Tag::TELETEX_STRING;
+
+    ghost ALPHABET = { Every };
+
+    const ALPHABET: Alphabet = Alphabet::Every;
+}
+
+/// Names GeneralString.
+#[derive(Clone, Copy, Debug, Drop)]
+pub struct GeneralType;
+
+/// GeneralString: every octet (X.680 41).
+pub type GeneralString = RestrictedString<GeneralType>;
+
+impl StringType for GeneralType {
+    ghost use Rattle.rasn_types.specs.Tags.{in_universal};
+    ghost use Rattle.rasn_types.specs.declared.types.strings.alphabet.Alphabet.TheVariants.{Every};
+
+    ghost TAG = { in_universal 27 };
+
+    const TAG: Tag = Tag::GENERAL_STRING;
+
+    ghost ALPHABET = { Every };
+
+    const ALPHABET: Alphabet = Alphabet::Every;
+}
+
+/// Names GraphicString.
+#[derive(Clone, Copy, Debug, Drop)]
+pub struct GraphicType;
+
+/// GraphicString: every octet (X.680 41).
+pub type GraphicString = RestrictedString<GraphicType>;
+
+impl StringType for GraphicType {
+    ghost use Rattle.rasn_types.specs.Tags.{in_universal};
+    ghost use Rattle.rasn_types.specs.declared.types.strings.alphabet.Alphabet.TheVariants.{Every};
+
+    ghost TAG = { in_universal 25 };
+
+    const TAG: Tag = Tag::GRAPHIC_STRING;
+
+    ghost ALPHABET = { Every };
+
+    const ALPHABET: Alphabet = Alphabet::Every;
+}
