@@ -1,7 +1,7 @@
 //! What the program answers to a line.
 ghost use Rattle.std.specs.Prelude.{IfOk, IsTrue, ◌↔◌, ◌≢◌};
 ghost use Rattle.rasn.specs.Headline.{Answered};
-ghost use Rattle.rasn_bench.specs.Answers.{IsAnswer, IsAnswerTo};
+ghost use Rattle.rasn_bench.specs.Answers.{IsAnswer, IsAnswerTo, shape_of, kind_of};
 ghost use Rattle.rasn_bench.specs.declared.answer.Answer.TheVariants.{Malformed};
 
 use crate::line::{Request, ValueType};
@@ -52,30 +52,7 @@ impl Answer {
         let Some(octets) = request.octets(alloc)? else {
             return Ok(Answer::Malformed);
         };
-        let rule = request.rule;
-        Ok(match request.value_type {
-            ValueType::Bool => answer_as::<bool>(alloc, rule, "BOOLEAN", &octets),
-            ValueType::I32 => answer_as::<i32>(alloc, rule, "INTEGER", &octets),
-            ValueType::U32 => answer_as::<u32>(alloc, rule, "INTEGER", &octets),
-            ValueType::Octets => answer_as::<OctetString>(alloc, rule, "OCTET-STRING", &octets),
-            ValueType::Pair => answer_as::<Pair>(alloc, rule, "SEQUENCE", &octets),
-            ValueType::Integer => answer_as::<Integer>(alloc, rule, "INTEGER", &octets),
-            ValueType::UtcTime => answer_as::<UtcTime>(alloc, rule, "TIME", &octets),
-            ValueType::GeneralizedTime => answer_as::<GeneralizedTime>(
-                alloc, rule, "TIME", &octets,
-            ),
-            ValueType::Date => answer_as::<Date>(alloc, rule, "TIME", &octets),
-            ValueType::Null => answer_as::<()>(alloc, rule, "NULL", &octets),
-            ValueType::ObjectIdentifier => answer_as::<ObjectIdentifier>(
-                alloc, rule, "OID", &octets,
-            ),
-            ValueType::Bits => answer_as::<BitString>(alloc, rule, "BIT-STRING", &octets),
-            ValueType::Colour => answer_as::<Colour>(alloc, rule, "ENUMERATED", &octets),
-            ValueType::Utf8 => answer_as::<Utf8String>(alloc, rule, "STRING", &octets),
-            ValueType::Ia5 => answer_as::<Ia5String>(alloc, rule, "STRING", &octets),
-            ValueType::Printable => answer_as::<PrintableString>(alloc, rule, "STRING", &octets),
-            ValueType::Foo => answer_as::<Foo>(alloc, rule, "SEQUENCE", &octets),
-        })
+        Ok(answer_to(alloc, request, &octets))
     }
 
     /// Whether the line had a good form.
@@ -83,6 +60,32 @@ impl Answer {
         ensures { IsTrue result ↔ (self.now ≢ Malformed) }
     {
         !matches!(self, Answer::Malformed)
+    }
+}
+
+/// The answer to a request for these octets.
+fn answer_to(alloc: Global, request: Request<'_>, octets: &[u8]) -> Answer
+    ensures { IsAnswer request.entry.rule (shape_of request.entry.value_type) (kind_of request.entry.value_type) octets.now result }
+{
+    let rule = request.rule;
+    match request.value_type {
+        ValueType::Bool => answer_as::<bool>(alloc, rule, "BOOLEAN", octets),
+        ValueType::I32 => answer_as::<i32>(alloc, rule, "INTEGER", octets),
+        ValueType::U32 => answer_as::<u32>(alloc, rule, "INTEGER", octets),
+        ValueType::Octets => answer_as::<OctetString>(alloc, rule, "OCTET-STRING", octets),
+        ValueType::Pair => answer_as::<Pair>(alloc, rule, "SEQUENCE", octets),
+        ValueType::Integer => answer_as::<Integer>(alloc, rule, "INTEGER", octets),
+        ValueType::UtcTime => answer_as::<UtcTime>(alloc, rule, "TIME", octets),
+        ValueType::GeneralizedTime => answer_as::<GeneralizedTime>(alloc, rule, "TIME", octets),
+        ValueType::Date => answer_as::<Date>(alloc, rule, "TIME", octets),
+        ValueType::Null => answer_as::<()>(alloc, rule, "NULL", octets),
+        ValueType::ObjectIdentifier => answer_as::<ObjectIdentifier>(alloc, rule, "OID", octets),
+        ValueType::Bits => answer_as::<BitString>(alloc, rule, "BIT-STRING", octets),
+        ValueType::Colour => answer_as::<Colour>(alloc, rule, "ENUMERATED", octets),
+        ValueType::Utf8 => answer_as::<Utf8String>(alloc, rule, "STRING", octets),
+        ValueType::Ia5 => answer_as::<Ia5String>(alloc, rule, "STRING", octets),
+        ValueType::Printable => answer_as::<PrintableString>(alloc, rule, "STRING", octets),
+        ValueType::Foo => answer_as::<Foo>(alloc, rule, "SEQUENCE", octets),
     }
 }
 

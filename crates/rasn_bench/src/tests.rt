@@ -3,6 +3,7 @@
 mod faults;
 mod lines;
 mod reading;
+mod segments;
 mod sequences;
 mod times;
 mod writing;

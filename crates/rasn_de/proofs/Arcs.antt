@@ -11,14 +11,13 @@ use Rattle.rasn_types.specs.Trees.{unconstrained}
 use Rattle.rasn_types.specs.Numbered.{AreArcs}
 use Rattle.rasn_types.specs.Contents.{Contents, Arcs, IsObjectIdentifier}
 use Rattle.rasn_types.specs.Grammar.{Reads}
-use Rattle.rasn_types.specs.Errors.{IsMemory}
 use Rattle.rasn_types.proofs.Digits.{arcs_one}
 use Rattle.rasn_de.specs.declared.ber.de.parser.Fault.{Fault}
 use Rattle.rasn_de.specs.declared.ber.de.parser.Fault.TheVariants.{OutOfMemory, UnsupportedObjectIdentifierArc}
 use Rattle.rasn_de.specs.Headers.{number128_at}
 use Rattle.rasn_de.specs.Causes.{Cause, fault, out_of_bound, kind_of}
-use Rattle.rasn_de.specs.Leaves.{FromContents, LeafAt, definite_at, Refuses, Gave}
-use Rattle.rasn_de.specs.ObjectIdentifiers.{StopsAt, ObjectIdentifierIn, ObjectIdentifierAt, FindsArcs, GaveArcs, HoldsArcs, GaveObjectIdentifier}
+use Rattle.rasn_de.specs.Leaves.{FromContents, definite_at, Refuses}
+use Rattle.rasn_de.specs.ObjectIdentifiers.{StopsAt, ObjectIdentifierIn, FindsArcs, GaveArcs, HoldsArcs, GaveObjectIdentifier}
 use Rattle.rasn_de.specs.State.{State, at}
 use Rattle.rasn_de.specs.Outcomes.{Exact, refusal}
 use Rattle.rasn_de.specs.Taking.{ErrorOf}

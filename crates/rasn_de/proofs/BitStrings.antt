@@ -1,5 +1,5 @@
 -- A BIT STRING is read exactly where the grammar has one.
-use Rattle.std.proofs.Common.{◌≡◌, ◌≢◌, ◌≤◌, ◌<◌, ◌+◌, ◌-◌, ◌*◌, ◌^◌, ℕ, ◌⊎◌, inl, inr, Bool, true, false, cond, List, [], ◌∷◌, ◌++◌, length, take, drop, Option, Some, Result, Ok, Err, refl, sym, ap, ◌∙◌, subst, arith}
+use Rattle.std.proofs.Common.{◌≡◌, ◌≢◌, ◌≤◌, ◌<◌, ◌+◌, ◌-◌, ◌*◌, ◌^◌, ℕ, ◌⊎◌, inl, inr, Bool, false, List, [], ◌∷◌, ◌++◌, length, take, drop, Result, Ok, Err, refl, sym, ap, ◌∙◌, subst, arith}
 use Rattle.std.specs.Prelude.{nat_lt}
 use Rattle.std.proofs.lemmas.Bool.Decides.{nat_tests}
 use Rattle.std.proofs.lemmas.List.{length-append, length-drop, take-append-drop, take_at}
@@ -8,17 +8,14 @@ use Rattle.rasn_types.specs.declared.types.rules.Codec.{Codec}
 use Rattle.rasn_types.specs.declared.types.constraints.Constraints.{Constraints}
 use Rattle.rasn_types.specs.declared.error.decode.DecodeError.{DecodeError}
 use Rattle.rasn_types.specs.Framing.{AreOctets}
-use Rattle.rasn_types.specs.Errors.{IsMemory}
 use Rattle.rasn_types.specs.Tags.{in_universal}
 use Rattle.rasn_types.specs.Shapes.{Tree, bits, leaf, bit_string, Admits, constraint_of}
 use Rattle.rasn_types.specs.Contents.{Str, BitSegment}
 use Rattle.rasn_types.specs.Bits.{bits_in, but_last}
 use Rattle.rasn_types.specs.Grammar.{Reads, ReadsLeaf, IsBounded}
 use Rattle.rasn_types.proofs.Bits.{length-bits_in}
-use Rattle.rasn_de.specs.declared.ber.de.parser.Fault.{Fault}
 use Rattle.rasn_de.specs.declared.ber.de.parser.Fault.TheVariants.{OutOfMemory, InvalidBitString, LengthExceedsPlatformWidth, SizeConstraintNotSatisfied}
 use Rattle.rasn_de.specs.Causes.{Cause, fault, kind_of}
-use Rattle.rasn_de.specs.Leaves.{Gave}
 use Rattle.rasn_de.specs.BitStrings.{is_miscounted, segment_bits, bits_at, bits_tree, BitsAt, IsOversized, GaveBits, GathersBits}
 use Rattle.rasn_de.specs.State.{State, at, IsEnd}
 use Rattle.rasn_de.specs.Taking.{ErrorOf}

@@ -1,5 +1,5 @@
 -- An ENUMERATED is read exactly where the grammar has one.
-use Rattle.std.proofs.Common.{◌≡◌, ◌≢◌, ℕ, ℤ, ◌⊎◌, inl, inr, Bool, true, false, List, [], pos, negsuc, neg_ℤ, ◌^◌, ◌-◌, ◌≤ℤ◌, FitsSigned, w64, to_z, of_z, arith, Result, Ok, Err, refl, sym, ap, ◌∙◌, subst}
+use Rattle.std.proofs.Common.{◌≡◌, ℕ, ℤ, inl, inr, Bool, true, false, List, pos, negsuc, FitsSigned, w64, to_z, of_z, arith, Result, Ok, Err, sym, ap, ◌∙◌, subst}
 use Rattle.std.specs.Prelude.{Contains}
 use Rattle.std.proofs.lemmas.Int.{ints, to_z-of_z}
 use Rattle.rasn_types.specs.declared.types.tag.Tag.{Tag}
@@ -8,7 +8,7 @@ use Rattle.rasn_types.specs.declared.error.decode.DecodeError.{DecodeError}
 use Rattle.rasn_types.specs.Numbered.{fit_isize}
 use Rattle.rasn_types.specs.Shapes.{Tree, number, leaf, integer, enumerated, IsIn}
 use Rattle.rasn_types.specs.Trees.{unconstrained, signed_range}
-use Rattle.rasn_types.specs.Contents.{Contents, signed}
+use Rattle.rasn_types.specs.Contents.{signed}
 use Rattle.rasn_types.specs.Grammar.{Reads, IsBounded}
 use Rattle.rasn_types.specs.Errors.{IsMemory}
 use Rattle.rasn_types.proofs.Numbered.{fits-isize}

@@ -1,5 +1,5 @@
 -- A character string is read exactly where the grammar has one.
-use Rattle.std.proofs.Common.{◌≡◌, ◌≢◌, ◌≤◌, ℕ, ◌⊎◌, inl, inr, Bool, true, false, List, [], ◌∷◌, length, Option, Some, Result, Ok, Err, refl, sym, ap, ◌∙◌, subst}
+use Rattle.std.proofs.Common.{◌≡◌, ◌≢◌, ℕ, ◌⊎◌, inl, inr, true, false, List, Result, Ok, Err, refl, sym, ap, ◌∙◌, subst}
 use Rattle.std.specs.Cow.{cow_slice_items, IsOwnedSlice}
 use Rattle.std.specs.declared.alloc.Global.{Global}
 use Rattle.std.specs.declared.borrow.CowSlice.{CowSlice}
@@ -9,21 +9,17 @@ use Rattle.rasn_types.specs.declared.types.rules.Codec.{Codec}
 use Rattle.rasn_types.specs.declared.types.constraints.Constraints.{Constraints}
 use Rattle.rasn_types.specs.declared.error.decode.DecodeError.{DecodeError}
 use Rattle.rasn_types.specs.Framing.{AreOctets}
-use Rattle.rasn_types.specs.Errors.{IsMemory}
-use Rattle.rasn_types.specs.Tags.{in_universal}
 use Rattle.rasn_types.specs.Shapes.{Tree, numbers, Kind, leaf}
-use Rattle.rasn_types.specs.Contents.{Str, OctetSegment}
-use Rattle.rasn_types.specs.Grammar.{Reads, ReadsIn, ReadsLeaf, IsBounded, Text, family, Family, text_family}
+use Rattle.rasn_types.specs.Grammar.{Reads, ReadsIn, ReadsLeaf, IsBounded, Text, family, text_family}
 use Rattle.rasn_de.specs.declared.ber.de.parser.Fault.{Fault}
 use Rattle.rasn_de.specs.declared.ber.de.parser.Fault.TheVariants as fault_is
 use Rattle.rasn_de.specs.Causes.{Cause, fault, kind_of}
-use Rattle.rasn_de.specs.Leaves.{Refuses, Gave}
-use Rattle.rasn_de.specs.Octets.{octets_at, Gathers, IsLentAs, IsConstructed, IsPrimitive}
+use Rattle.rasn_de.specs.Octets.{Gathers, IsLentAs, IsPrimitive}
 use Rattle.rasn_de.specs.Texts.{Verdict, StringAt, GaveString}
-use Rattle.rasn_de.specs.State.{State, at, IsEnd}
+use Rattle.rasn_de.specs.State.{State, IsEnd}
 use Rattle.rasn_de.specs.Taking.{ErrorOf}
-use Rattle.rasn_de.specs.Outcomes.{Exact, Starved, Outcome, refusal}
-use Rattle.rasn_de.specs.Decodes.{Decodes, Answers}
+use Rattle.rasn_de.specs.Outcomes.{Exact, refusal}
+use Rattle.rasn_de.specs.Decodes.{Decodes}
 use Rattle.rasn_de.proofs.Answering.{Agrees, gave_answers}
 use Rattle.rasn_de.proofs.Ends.{IsEnd-refl}
 use Rattle.rasn_de.proofs.Peeks.{kind_memory}

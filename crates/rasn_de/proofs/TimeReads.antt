@@ -1,5 +1,5 @@
 -- A time is read exactly where the grammar has one.
-use Rattle.std.proofs.Common.{◌≡◌, ◌≢◌, ℕ, ◌⊎◌, inl, inr, Bool, List, Option, Some, None, Result, Ok, Err, refl, sym, ap, ◌∙◌, subst}
+use Rattle.std.proofs.Common.{◌≡◌, ◌≢◌, ℕ, ◌⊎◌, inl, inr, List, Result, Ok, Err, refl, sym, ap, ◌∙◌, subst}
 use Rattle.std.specs.Cow.{cow_slice_items, IsBorrowedSlice}
 use Rattle.std.specs.declared.alloc.Global.{Global}
 use Rattle.std.specs.declared.borrow.CowSlice.{CowSlice}
@@ -14,7 +14,7 @@ use Rattle.rasn_types.specs.Spelling.{two, four}
 use Rattle.rasn_types.specs.Times.{DateText, century, as_given, short_form, long_form, canonical_form, both}
 use Rattle.rasn_types.specs.Framing.{AreOctets}
 use Rattle.rasn_types.specs.Tags.{in_universal}
-use Rattle.rasn_types.specs.Shapes.{Tree, leaf, instant, on_day, Kind, utc_time, generalized_time, date}
+use Rattle.rasn_types.specs.Shapes.{Tree, leaf, instant, on_day, utc_time, generalized_time, date}
 use Rattle.rasn_types.specs.Readers.{Reading}
 use Rattle.rasn_types.specs.Contents.{Str, OctetSegment}
 use Rattle.rasn_types.specs.Grammar.{Reads, Text, UtcText, GeneralizedText}
@@ -25,10 +25,10 @@ use Rattle.rasn_types.proofs.Dated.{one_day}
 use Rattle.rasn_de.specs.declared.ber.de.parser.Fault.{Fault}
 use Rattle.rasn_de.specs.declared.ber.de.parser.Fault.TheVariants.{OutOfMemory}
 use Rattle.rasn_de.specs.Causes.{kind_of}
-use Rattle.rasn_de.specs.Octets.{octets_at, Gathers, IsConstructed, IsPrimitive, IsLentAs}
+use Rattle.rasn_de.specs.Octets.{octets_at, Gathers, IsPrimitive, IsLentAs}
 use Rattle.rasn_de.specs.Outcomes.{Exact, Got, refusal}
-use Rattle.rasn_de.specs.State.{State, at, IsEnd}
-use Rattle.rasn_de.specs.Decodes.{Decodes, Answers, DecodesBy}
+use Rattle.rasn_de.specs.State.{State, IsEnd}
+use Rattle.rasn_de.specs.Decodes.{Decodes, DecodesBy}
 use Rattle.rasn_de.specs.TimeTexts.{AtAnyOffset, TellsText, TellsMemory, Parses, ParsesCopied, GaveTime}
 use Rattle.rasn_de.proofs.Answering.{Exact-none}
 use Rattle.rasn_de.proofs.Ends.{IsEnd-refl}

@@ -1,13 +1,12 @@
 -- What is told of a string's octets is what its kind says of them.
-use Rattle.std.proofs.Common.{◌≡◌, ◌≢◌, ◌≤◌, ◌<◌, ℕ, ◌/◌, ◌⊎◌, inl, inr, List, length, slice_index, Option, Result, Ok, Err, refl, sym, ap, ◌∙◌, subst, chars, IsUtf8, arith}
+use Rattle.std.proofs.Common.{◌≡◌, ◌≢◌, ◌≤◌, ℕ, ◌/◌, inl, inr, List, length, Option, Result, Ok, Err, refl, sym, ap, ◌∙◌, subst, chars, IsUtf8}
 use Rattle.rasn_types.specs.declared.types.tag.Tag.{Tag}
 use Rattle.rasn_types.specs.declared.types.rules.Codec.{Codec}
 use Rattle.rasn_types.specs.declared.types.constraints.Bound.{Bound}
 use Rattle.rasn_types.specs.declared.types.constraints.Constraints.{Constraints}
 use Rattle.rasn_types.specs.declared.types.strings.alphabet.Alphabet.{Alphabet}
 use Rattle.rasn_types.specs.Shapes.{Tree, numbers, Admits, bmp, utf8, fixed}
-use Rattle.rasn_types.specs.Grammar.{Text, IsBounded, Fulfils, measure, Measure, by_size, units}
-use Rattle.rasn_types.specs.Characters.{IsAdmitted, AreAdmitted}
+use Rattle.rasn_types.specs.Grammar.{Text, IsBounded, Fulfils, units}
 use Rattle.rasn_types.specs.Characters as characters
 use Rattle.rasn_types.proofs.StringTexts.{alphabet_family, alphabet_measure, alphabet_text, alphabet_only, units_only, units_there, length-units_of}
 use Rattle.rasn_de.specs.declared.ber.de.parser.Fault.{Fault}

@@ -1,12 +1,12 @@
 -- Named numbers, NULL and object identifiers in a header are their octets.
-use Rattle.std.proofs.Common.{◌≡◌, ◌≢◌, subst, ℕ, zero, suc, ◌+◌, ◌*◌, ◌^◌, ◌-◌, ◌/◌, ◌<◌, ◌≤◌, ◌⊎◌, inl, inr, List, [], ◌∷◌, ◌++◌, length, take, drop, get_or, refl, sym, ap, ap₂, ◌∙◌, Result, OnOk, IfErr, pos, ℤ, arith}
+use Rattle.std.proofs.Common.{◌≡◌, subst, ℕ, zero, suc, ◌+◌, ◌*◌, ◌^◌, ◌-◌, ◌/◌, ◌<◌, ◌≤◌, ◌⊎◌, inl, inr, List, [], ◌∷◌, ◌++◌, length, take, drop, get_or, refl, sym, ap, ap₂, ◌∙◌, Result, OnOk, IfErr, pos, ℤ, arith}
 use Rattle.std.specs.Prelude.{Contains, min}
 use Rattle.std.proofs.lemmas.Result.{on_ok_weaker, IfErr-weaker}
 use Rattle.std.proofs.lemmas.List.{append_assoc, append-nil, take_rest}
 use Rattle.rasn_types.specs.Tags.{tag_bit}
 use Rattle.rasn_types.specs.Framing.{AreOctets}
-use Rattle.rasn_types.specs.Shapes.{number, numbers, leaf, null, object_identifier, integer, enumerated, Interval, Admits}
-use Rattle.rasn_types.specs.Contents.{signed, Arcs, ShortArcs, IsObjectIdentifier}
+use Rattle.rasn_types.specs.Shapes.{number, numbers, leaf, null, object_identifier, integer, enumerated, Interval}
+use Rattle.rasn_types.specs.Contents.{signed, ShortArcs, IsObjectIdentifier}
 use Rattle.rasn_types.specs.Trees.{unconstrained}
 use Rattle.rasn_types.specs.Bytes.{Prim, Written, Bytes}
 use Rattle.rasn_types.specs.declared.types.tag.Tag.{Tag}

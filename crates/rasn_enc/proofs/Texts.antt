@@ -1,12 +1,12 @@
 -- The octets of a character string in a header are its octets.
-use Rattle.std.proofs.Common.{◌≡◌, ◌⊎◌, inl, inr, ℕ, ◌<◌, ◌≤◌, List, length, refl, sym, ap, ◌∙◌, subst, Result, OnOk, IfErr, chars, IsUtf8}
+use Rattle.std.proofs.Common.{◌≡◌, ◌⊎◌, inl, inr, ℕ, ◌<◌, ◌≤◌, List, length, refl, sym, ap, ◌∙◌, subst, Result, OnOk, IfErr, None, chars, IsUtf8}
 use Rattle.std.proofs.lemmas.Result.{on_ok_weaker, IfErr-weaker}
 use Rattle.rasn_types.specs.Framing.{AreOctets, Begins}
 use Rattle.rasn_types.specs.Tags.{in_universal, tag_bit}
 use Rattle.rasn_types.specs.Shapes.{Kind, Tree, numbers, leaf, Admits, octet_string, fixed, bmp, utf8}
 use Rattle.rasn_types.specs.Contents.{joined_lists}
-use Rattle.rasn_types.specs.Grammar.{Family, family, text_family, IsBounded, Fulfils, measure, Measure, by_size}
-use Rattle.rasn_types.specs.Bytes.{Prim, Cons, IsCer, Bytes, WritesIn, WritesText, WritesStr, WritesOctets}
+use Rattle.rasn_types.specs.Grammar.{family, text_family, IsBounded, Fulfils, measure, by_size}
+use Rattle.rasn_types.specs.Bytes.{Prim, IsCer, Bytes, WritesIn, WritesText, WritesStr, WritesOctets}
 use Rattle.rasn_types.specs.Characters.{AreAdmitted, kind_of, ArePaired, units_of}
 use Rattle.rasn_types.proofs.StringTexts.{alphabet_family, alphabet_measure, alphabet_writes, units_there}
 use Rattle.rasn_types.specs.declared.types.strings.alphabet.Alphabet.{Alphabet}
@@ -19,7 +19,7 @@ use Rattle.rasn_enc.specs.Primitives.{Appends}
 use Rattle.rasn_enc.specs.Wrote.{Wrote, MayRefuse}
 use Rattle.rasn_enc.specs.Refusals.{RefusesSize, MeetsSize}
 use Rattle.rasn_enc.specs.Segments.{PutsSegments}
-use Rattle.rasn_enc.specs.Texts.{PutsText}
+use Rattle.rasn_enc.specs.Texts.{IsCounted, PutsText}
 use Rattle.rasn_enc.proofs.Leaves.{wrote_one, definite_begins, cons_begins}
 
 -- Octets in one piece, and in segments.
@@ -89,6 +89,27 @@ fixed_wrote result tag c xs n v w k h = on_ok_weaker result (λ a. record {
 pub refused_at : {R : Type 0} (result : Result R EncodeError) (c : Constraints) (size n : ℕ) (rule : Codec) → size ≡ n
     → IfErr result (λ e. RefusesSize c size rule e ⊎ MeetsSize c size rule e) → IfErr result (λ e. RefusesSize c n rule e ⊎ MeetsSize c n rule e)
 refused_at result c size n rule k h = subst (λ z. IfErr result (λ e. RefusesSize c z rule e ⊎ MeetsSize c z rule e)) k h
+
+-- A size that was counted only where there is a bound.
+any_admitted : (c : Constraints) (n : ℕ) → c.size ≡ None → Admits ◌≤◌ c.size n
+any_admitted c n k = subst (λ s. Admits ◌≤◌ s n) (sym k) tt
+
+counted_admitted : (c : Constraints) (size n : ℕ) → IsCounted c size n → Admits ◌≤◌ c.size size → Admits ◌≤◌ c.size n
+counted_admitted c size n (inl k) a = any_admitted c n k
+counted_admitted c size n (inr k) a = subst (λ z. Admits ◌≤◌ c.size z) k a
+
+pub counted_put : {R E : Type 0} (result : Result R E) (tag : Tag) (c : Constraints) (xs : List ℕ) (size n : ℕ) (v w : View) → IsCounted c size n
+    → OnOk result (PutsText tag c xs size v w) → OnOk result (PutsText tag c xs n v w)
+counted_put result tag c xs size n v w k h =
+    on_ok_weaker result (λ p. record { admitted = counted_admitted c size n k p.admitted; appends = p.appends }) h
+
+pub counted_refused : {R : Type 0} (result : Result R EncodeError) (c : Constraints) (size n : ℕ) (rule : Codec) → IsCounted c size n
+    → IfErr result (λ e. RefusesSize c size rule e ⊎ MeetsSize c size rule e) → IfErr result (λ e. RefusesSize c n rule e ⊎ MeetsSize c n rule e)
+counted_refused result c size n rule (inl k) h = IfErr-weaker result _ _ (λ e. elim [
+  | inl r ↦ absurd (r.unmet (any_admitted c size k))
+  | inr m ↦ inr (record { met = any_admitted c n k; memory = m.memory })
+]) h
+counted_refused result c size n rule (inr k) h = refused_at result c size n rule k h
 
 -- A size that isn't admitted has no octets.
 pub text_refused : {R : Type 0} (result : Result R EncodeError) (kind : Kind) (tag : Tag) (c : Constraints) (ns : List ℕ) (v : View) → measure kind ≡ by_size

@@ -1,7 +1,6 @@
 -- The texts of times in a header are their octets.
-use Rattle.std.proofs.Common.{◌≡◌, ℕ, zero, suc, ◌+◌, ◌/◌, ◌%◌, ◌^◌, ◌≤◌, ◌==◌, inl, Bool, true, false, cond, List, [], ◌∷◌, ◌++◌, map, length, refl, sym, ap, ◌∙◌, Result, OnOk, pos, negsuc, ℤ, arith, subst}
-use Rattle.std.specs.Prelude.{nat_lt, unsigned_abs}
-use Rattle.std.specs.Int.{int_rem_euclid}
+use Rattle.std.proofs.Common.{◌≡◌, ℕ, zero, suc, ◌+◌, ◌/◌, ◌%◌, ◌^◌, ◌≤◌, ◌==◌, inl, Bool, true, false, cond, List, [], ◌∷◌, ◌++◌, map, length, refl, sym, Result, OnOk, pos, negsuc, ℤ, arith, subst}
+use Rattle.std.specs.Prelude.{nat_lt}
 use Rattle.std.proofs.lemmas.Result.{on_ok_weaker}
 use Rattle.std.proofs.lemmas.List.{length-append, length-map}
 use Rattle.rasn_types.specs.Calendar.{Moment, IsMoment, Day, IsDay}

@@ -1,11 +1,11 @@
 -- The texts of times are octets.
-use Rattle.std.proofs.Common.{◌≡◌, ℕ, ◌+◌, ◌-◌, ◌*◌, ◌/◌, ◌%◌, ◌^◌, ◌<◌, ◌≤◌, ◌==◌, Bool, true, false, cond, List, [], ◌∷◌, ◌++◌, map, refl, pos, negsuc, ℤ, ◌≤ℤ◌, arith}
+use Rattle.std.proofs.Common.{◌≡◌, ℕ, ◌+◌, ◌/◌, ◌%◌, ◌<◌, ◌≤◌, ◌==◌, Bool, true, false, cond, List, [], ◌∷◌, ◌++◌, map, refl, pos, negsuc, ℤ, ◌≤ℤ◌, arith}
 use Rattle.std.specs.Prelude.{nat_lt, unsigned_abs}
 use Rattle.std.specs.Int.{int_rem_euclid}
 use Rattle.std.specs.List.{AllByRecursion}
 use Rattle.std.proofs.lemmas.Bool.Decides.{nat_tests}
-use Rattle.std.proofs.lemmas.Int.{ints, to_z-of_z, by_lt_z}
-use Rattle.rasn_types.specs.Calendar.{Moment, IsMoment, Day, IsDay, days_of_month}
+use Rattle.std.proofs.lemmas.Int.{ints}
+use Rattle.rasn_types.specs.Calendar.{Moment, IsMoment, Day, IsDay}
 use Rattle.rasn_types.specs.Spelling.{two, four}
 use Rattle.rasn_types.specs.Times.{digits_of, written_fraction, written_second, within_second, clock_written, long_year, written_year, written_date, written_generalized, written_utc}
 use Rattle.rasn_types.specs.Framing.{AreOctets}

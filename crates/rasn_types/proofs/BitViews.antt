@@ -1,6 +1,6 @@
 -- Parts of the bits that octets hold.
-use Rattle.std.proofs.Common.{◌≡◌, ℕ, zero, suc, ◌+◌, ◌-◌, ◌*◌, ◌/◌, ◌%◌, ◌^◌, ◌<◌, ◌≤◌, ◌⊎◌, ◌≢◌, inl, inr, Bool, true, false, List, [], ◌∷◌, ◌++◌, length, take, drop, replicate, get_or, refl, sym, ap, ap₂, ◌∙◌, subst, arith, nat_eq}
-use Rattle.std.proofs.lemmas.List.{append_assoc, append-nil, length-append, length-take, length-take-le, length-drop, length-replicate, take-take, take-append-le, drop-append-le, drop-drop, take_all, drop-take, take_rest, get_or-take, get_or-drop, get_or_append_left, drop_more}
+use Rattle.std.proofs.Common.{◌≡◌, ℕ, zero, suc, ◌+◌, ◌-◌, ◌*◌, ◌/◌, ◌%◌, ◌^◌, ◌<◌, ◌≤◌, ◌≢◌, inl, inr, Bool, true, false, List, [], ◌∷◌, ◌++◌, length, take, drop, get_or, refl, sym, ap, ap₂, ◌∙◌, subst, arith, nat_eq}
+use Rattle.std.proofs.lemmas.List.{append_assoc, append-nil, length-append, length-take-le, length-drop, length-replicate, take-take, take-append-le, drop-append-le, drop-drop, take_all, drop-take, take_rest, get_or-take, get_or-drop, get_or_append_left, drop_more}
 use Rattle.std.specs.Bool.{Decides, beq}
 use Rattle.std.specs.Cmp.{booleans_Decides}
 use Rattle.std.specs.Cmp.Lexicographic.{pointwise, pointwise_decides, bytes_decides}
@@ -8,7 +8,7 @@ use Rattle.std.proofs.lemmas.Bool.Decides.{Decides-eqb, same_from_decides}
 use Rattle.rasn_types.specs.Framing.{AreOctets}
 use Rattle.rasn_types.specs.Contents.{bits_of, is_set}
 use Rattle.rasn_types.specs.Packing.{Shifts, Clears, ClearsOne, Joins}
-use Rattle.rasn_types.specs.Bits.{bits_in, zeros, bits_from, Packs, Pushes, IsKept, but_last}
+use Rattle.rasn_types.specs.Bits.{bits_in, zeros, bits_from, Pushes, IsKept, but_last}
 use Rattle.rasn_types.proofs.Bits.{length-bits_in, bits_in-append, bits_in-drop, bits_in-take, take_behind, value, value_octet}
 
 pub length-bits_from : (start len : ℕ) (octets : List ℕ) → start + len ≤ 8 * length octets → length (bits_from start len octets) ≡ len

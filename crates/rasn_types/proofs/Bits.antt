@@ -1,12 +1,12 @@
 -- Bits of octets, in part and shifted.
-use Rattle.std.proofs.Common.{◌≡◌, ℕ, zero, suc, ◌+◌, ◌-◌, ◌*◌, ◌/◌, ◌%◌, ◌^◌, ◌<◌, ◌≤◌, ◌⊎◌, inl, inr, min, Bool, true, false, List, [], ◌∷◌, ◌++◌, length, map, take, drop, replicate, get_or, refl, sym, ap, ap₂, ◌∙◌, subst, arith}
-use Rattle.std.proofs.lemmas.List.{append_assoc, append-nil, length-append, length-take, length-take-le, length-drop, length-replicate, take-append-drop, take-take, take-append-le, drop-append-le, drop-drop, take-replicate, drop_more, take_at, drop_at, take_all, drop_all, drop-take, append_cancel_left}
-use Rattle.std.proofs.lemmas.Nat.{pow-add, pow_pos, shr_high, mod_low, same_from_place, shl_whole}
+use Rattle.std.proofs.Common.{◌≡◌, ℕ, zero, suc, ◌+◌, ◌-◌, ◌*◌, ◌/◌, ◌%◌, ◌^◌, ◌<◌, ◌≤◌, Bool, true, false, List, [], ◌∷◌, ◌++◌, length, take, drop, get_or, refl, sym, ap, ap₂, ◌∙◌, subst, arith}
+use Rattle.std.proofs.lemmas.List.{append_assoc, append-nil, length-append, length-take-le, length-drop, length-replicate, take-append-drop, drop-append-le, drop-drop, take-replicate, drop_more, drop_at, take_all, drop_all, drop-take}
+use Rattle.std.proofs.lemmas.Nat.{pow-add, shr_high, mod_low, same_from_place}
 use Rattle.std.proofs.Math.Nat.{pow-succ'}
-use Rattle.rasn_types.specs.Framing.{bit_of, AreOctets}
-use Rattle.rasn_types.specs.Contents.{bits_of, is_set, joined_lists}
-use Rattle.rasn_types.specs.Packing.{Shifts, Clears, ClearsOne}
-use Rattle.rasn_types.specs.Bits.{bits_in, zeros, bits_from, Packs, but_last}
+use Rattle.rasn_types.specs.Framing.{bit_of}
+use Rattle.rasn_types.specs.Contents.{bits_of, is_set}
+use Rattle.rasn_types.specs.Packing.{Shifts}
+use Rattle.rasn_types.specs.Bits.{bits_in, zeros}
 
 -- The number that bits spell in base 2.
 abbrev pub value : List Bool → ℕ

@@ -1,10 +1,10 @@
 -- What the texts of string types are, by alphabet and by units.
-use Rattle.std.proofs.Common.{◌≡◌, ℕ, ◌+◌, ◌*◌, ◌/◌, ◌%◌, ◌≤◌, List, [], ◌∷◌, length, refl, sym, ap, ap₂, ◌∙◌, arith}
+use Rattle.std.proofs.Common.{◌≡◌, ℕ, ◌+◌, ◌*◌, ◌/◌, List, [], ◌∷◌, length, refl, ap, ◌∙◌, arith}
 use Rattle.rasn_types.specs.declared.types.rules.Codec.{Codec}
 use Rattle.rasn_types.specs.declared.types.strings.alphabet.Alphabet.{Alphabet}
 use Rattle.rasn_types.specs.declared.types.strings.alphabet.Alphabet.TheVariants.{Numeric, Printable, Visible, Ia5, Every}
-use Rattle.rasn_types.specs.Shapes.{Tree, numbers, Constraints, Admits}
-use Rattle.rasn_types.specs.Grammar.{Text, units, family, text_family, measure, by_size, IsBounded}
+use Rattle.rasn_types.specs.Shapes.{Tree, numbers}
+use Rattle.rasn_types.specs.Grammar.{Text, units, family, text_family, measure, by_size}
 use Rattle.rasn_types.specs.Bytes.{WritesText}
 use Rattle.rasn_types.specs.Characters.{AreAdmitted, kind_of, ArePaired, units_of}
 

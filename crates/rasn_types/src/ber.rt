@@ -1,5 +1,6 @@
-//! What the encoding rules share: rules, identifiers and times.
+//! What the encoding rules share: rules, identifiers, gathered bits and times.
 
+pub mod gathered;
 mod identifier;
 pub mod time;
 

@@ -1,7 +1,7 @@
 //! Values and schema: tags, constraints, and the types that have a value of their own.
 
 mod asn_type;
-mod bits;
+pub(crate) mod bits;
 mod constraints;
 mod constructed;
 mod date;
@@ -21,7 +21,7 @@ mod twos_complement;
 mod utc_time;
 
 pub use asn_type::AsnType;
-pub use bits::{BitStr, BitString, GatheredBits};
+pub use bits::{BitStr, BitString};
 pub use constraints::{Bound, Bounded, Constraints};
 pub use constructed::Constructed;
 pub use date::Date;

@@ -2,11 +2,9 @@
 
 mod bit_str;
 mod bit_string;
-mod gathered;
-mod packing;
+pub(crate) mod packing;
 #[cfg(test)]
 mod tests;
 
 pub use bit_str::BitStr;
 pub use bit_string::BitString;
-pub use gathered::GatheredBits;

@@ -7,8 +7,9 @@ ghost use Rattle.rasn_de.specs.Decodes.{Decodes};
 use crate::ber::de::Decoder;
 use crate::ber::de::parser::Fault;
 use crate::ber::de::parser::bits::read_bits;
+use rasn_types::ber::gathered::GatheredBits;
 use rasn_types::error::DecodeError;
-use rasn_types::types::{BitString, Constraints, GatheredBits, Tag};
+use rasn_types::types::{BitString, Constraints, Tag};
 
 impl<'input> Decoder<'input> {
     /// The bits of the next value as a string, gathered from its segments. A refusal takes nothing.

@@ -57,11 +57,14 @@ fn check_units(constraints: &Constraints, octets: &[u8]) -> Result<(), Fault>
     check_size(constraints, octets.len() / 2)
 }
 
-/// Whether the characters are within a size.
+/// Whether the characters are within a size. They are counted only where there is a bound.
 fn check_characters(constraints: &Constraints, text: &str) -> Result<(), Fault>
     ensures { Checks (ByCharacters AreUtf8 UTF8_STRING constraints.now.size) text.now (chars text.now) result }
 {
-    check_size(constraints, text.chars().count())
+    match constraints.size {
+        None => Ok(()),
+        Some(_) => check_size(constraints, text.chars().count()),
+    }
 }
 
 /// Octets as text, which stays borrowed where it is.

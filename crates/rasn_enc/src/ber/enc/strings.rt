@@ -3,7 +3,7 @@ ghost use Rattle.std.specs.Prelude.{◌≡◌, ◌⊎◌, chars, length, IfErr, 
 ghost use Rattle.rasn_types.specs.Characters.{kind_of, units_of};
 ghost use Rattle.rasn_types.specs.Shapes.{leaf, numbers, numeric, printable, visible, ia5, any_octets, bmp, utf8};
 ghost use Rattle.rasn_enc.specs.Refusals.{RefusesSize, MeetsSize};
-ghost use Rattle.rasn_enc.specs.Texts.{PutsText};
+ghost use Rattle.rasn_enc.specs.Texts.{IsCounted, PutsText};
 ghost use Rattle.rasn_enc.specs.Wrote.{Wrote};
 
 use super::Encoder;
@@ -13,6 +13,16 @@ use rasn_types::types::{
     Ia5Type, Identifier, NumericString, NumericType, PrintableString, PrintableType,
     RestrictedString, StringType, Tag, TeletexString, TeletexType, VisibleString, VisibleType,
 };
+
+// The characters of a text, which are counted only where there is a bound.
+fn character_count(constraints: &Constraints, text: &str) -> usize
+    ensures { IsCounted constraints.now result (length (chars text.now)) }
+{
+    match constraints.size {
+        None => 0,
+        Some(_) => text.chars().count(),
+    }
+}
 
 impl Encoder {
     /// Writes a VisibleString (X.690 8.23). The canonical rules write more than 1000 octets in segments (9.2). The name is ignored.
@@ -175,7 +185,8 @@ impl Encoder {
         ensures err { OnErr result (self.new ≡ self.old) }
         ensures refused { IfErr result (λ e. RefusesSize constraints.now (length (chars value.now)) self.old.rule e ⊎ MeetsSize constraints.now (length (chars value.now)) self.old.rule e) }
     {
-        self.text(tag, constraints, value.as_bytes(), value.chars().count())
+        let size = character_count(constraints, value);
+        self.text(tag, constraints, value.as_bytes(), size)
     }
 
     // A string whose octets are characters of one alphabet.

@@ -1,4 +1,5 @@
-use crate::types::{BitStr, BitString, GatheredBits};
+use crate::ber::gathered::GatheredBits;
+use crate::types::{BitStr, BitString};
 use std::test::Fail;
 
 // The bits 1,1,0,1,0,1,0,1,1,0,1 take two octets, whatever stands behind them, and from the second on they are ten.

@@ -1,5 +1,5 @@
 //! BMPString.
-ghost use Rattle.std.specs.Prelude.{◌≡◌, ◌*◌, length, IfOk, MatchOption};
+ghost use Rattle.std.specs.Prelude.{◌≡◌, IfOk, MatchOption};
 ghost use Rattle.rasn_types.specs.Characters.{ArePaired, units_of};
 
 use crate::types::{AsnType, Constraints, Tag};

@@ -5,7 +5,8 @@ ghost use Rattle.rasn_de.specs.BitStrings.{bits_at, segment_bits, is_miscounted,
 
 use crate::ber::de::parser::strings::{Segmented, string_contents};
 use crate::ber::de::parser::{Fault, read_value};
-use rasn_types::types::{Codec, GatheredBits, Tag};
+use rasn_types::ber::gathered::GatheredBits;
+use rasn_types::types::{Codec, Tag};
 use std::alloc::Global;
 
 /// Whether a segment can't have so many unused bits.

@@ -15,6 +15,7 @@ fn set_bits(alloc: Global, count: usize) -> Result<BitString, Fail> {
 fn writes_bits(rt: HostRuntime) -> Result<(), Fail> {
     let mut encoder = Encoder::new(rt.alloc(), EncoderOptions::der())?;
     let bits = BitStr::new(&[0xd5, 0xbf], 0, 11).ok_or("too few octets")?;
+    assert_eq!(rt; bits.len(), 11);
     let (none, _) = bits.split_at(0);
     let (_, ten) = bits.split_at(1);
     encoder.encode_bit_string(

@@ -1,4 +1,4 @@
-use Rattle.std.proofs.Common.{◌≡◌, ◌<◌, ◌^◌, ◌∙◌, Ok, Err, List, Bool, length, ap, sym, subst, arith}
+use Rattle.std.proofs.Common.{◌<◌, ◌^◌, Ok, Err, List, Bool, length, sym, subst, arith}
 use Rattle.std.proofs.lemmas.Result.{err_from_is_err_and}
 use Rattle.rasn_de.specs.BitStrings.{GathersBits}
 use Rattle.rasn_de.proofs.BitStrings.{bits_decodes, gathers_refused, gathers_wide, gathers_admitted, gathers_size}

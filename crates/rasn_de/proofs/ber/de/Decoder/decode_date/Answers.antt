@@ -1,4 +1,4 @@
-use Rattle.std.proofs.Common.{◌≡◌, inl, refl, Ok, Err}
+use Rattle.std.proofs.Common.{inl, refl, Ok, Err}
 use Rattle.std.proofs.lemmas.Result.{err_from_is_err_and}
 use Rattle.rasn_types.specs.Times.{DateText}
 use Rattle.rasn_de.proofs.TimeReads.{date_decodes, time_gave, time_refused}

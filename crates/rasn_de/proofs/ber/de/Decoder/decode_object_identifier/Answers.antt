@@ -1,4 +1,3 @@
-use Rattle.std.proofs.Common.{◌≡◌, Ok, Err}
 use Rattle.std.proofs.lemmas.Result.{err_from_is_err_and}
 use Rattle.rasn_de.proofs.Arcs.{object_unframed, object_framed, object_decodes}
 use Rattle.rasn_de.proofs.ber.de.Decoder.decode_object_identifier.Goals as goal

@@ -1,4 +1,4 @@
-use Rattle.std.proofs.Common.{◌≡◌, Ok, Err}
+use Rattle.std.proofs.Common.{Ok, Err}
 use Rattle.rasn_de.proofs.Arcs.{arcs_told, arcs_held}
 use Rattle.rasn_de.proofs.ber.de.Decoder.decode_object_identifier_from_bytes.Goals as goal
 

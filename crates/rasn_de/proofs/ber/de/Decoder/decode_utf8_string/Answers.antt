@@ -1,4 +1,4 @@
-use Rattle.std.proofs.Common.{◌≡◌, ℕ, List, length, Ok, Err, inl, inr, refl, sym, ap, ◌∙◌, subst, chars}
+use Rattle.std.proofs.Common.{Ok, Err, inl, sym, ◌∙◌, subst, chars}
 use Rattle.std.specs.Cow.{cow_slice_items}
 use Rattle.std.specs.String.{string_bytes}
 use Rattle.std.specs.declared.alloc.Global.{Global}

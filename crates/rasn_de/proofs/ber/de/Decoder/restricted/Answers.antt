@@ -1,7 +1,7 @@
-use Rattle.std.proofs.Common.{◌≡◌, ℕ, List, length, Ok, Err, inl, inr, refl, sym, ap, ◌∙◌, subst}
+use Rattle.std.proofs.Common.{Ok, Err, sym, subst}
 use Rattle.std.specs.Cow.{cow_slice_items}
 use Rattle.std.proofs.lemmas.Result.{err_from_is_err_and}
-use Rattle.rasn_types.specs.Characters.{AreAdmitted, kind_of}
+use Rattle.rasn_types.specs.Characters.{kind_of}
 use Rattle.rasn_de.specs.Texts.{ByAlphabet}
 use Rattle.rasn_de.proofs.Verdicts.{by_alphabet}
 use Rattle.rasn_de.proofs.Texts.{string_decodes, string_refused, string_ungathered, string_starved, string_given}

@@ -1,4 +1,4 @@
-use Rattle.std.proofs.Common.{◌≡◌, inl, inr}
+use Rattle.std.proofs.Common.{inl, inr}
 use Rattle.rasn_de.proofs.ber.de.times.read_generalized_time.Goals as goal
 
 pub returns-in-Ber : goal.returns-in-Ber

@@ -1,4 +1,3 @@
-use Rattle.std.proofs.Common.{arith}
 use Rattle.rasn_enc.proofs.BitSegments.{bits_wrote, bit_segments_wrote}
 use Rattle.rasn_enc.proofs.ber.enc.Encoder.encode_bit_string.Goals as goal
 

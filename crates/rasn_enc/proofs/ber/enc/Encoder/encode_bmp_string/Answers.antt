@@ -1,4 +1,4 @@
-use Rattle.std.proofs.Common.{◌≡◌, ◌/◌, length, ap, sym, ◌∙◌}
+use Rattle.std.proofs.Common.{◌/◌, length, ap, sym, ◌∙◌}
 use Rattle.rasn_types.specs.Characters.{units_of}
 use Rattle.rasn_types.proofs.StringTexts.{length-units_of}
 use Rattle.rasn_enc.proofs.Texts.{units_wrote, refused_at}

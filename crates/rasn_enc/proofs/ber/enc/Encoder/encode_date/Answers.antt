@@ -1,4 +1,4 @@
-use Rattle.std.proofs.Common.{◌≡◌, ◌∙◌}
+use Rattle.std.proofs.Common.{◌∙◌}
 use Rattle.rasn_enc.proofs.TimeLeaves.{date_wrote}
 use Rattle.rasn_enc.proofs.ber.enc.Encoder.encode_date.Goals as goal
 

@@ -1,4 +1,4 @@
-use Rattle.std.proofs.Common.{◌≡◌, sym, ◌∙◌, w64}
+use Rattle.std.proofs.Common.{sym, ◌∙◌, w64}
 use Rattle.std.proofs.lemmas.Int.{to_z-of_z}
 use Rattle.rasn_types.specs.Trees.{signed_range}
 use Rattle.rasn_enc.proofs.Numbered.{named_wrote}

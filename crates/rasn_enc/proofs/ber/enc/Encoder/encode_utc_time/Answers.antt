@@ -1,4 +1,4 @@
-use Rattle.std.proofs.Common.{◌≡◌, ◌∙◌}
+use Rattle.std.proofs.Common.{◌∙◌}
 use Rattle.rasn_enc.proofs.TimeLeaves.{utc_wrote}
 use Rattle.rasn_enc.proofs.ber.enc.Encoder.encode_utc_time.Goals as goal
 

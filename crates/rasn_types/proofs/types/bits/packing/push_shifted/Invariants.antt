@@ -1,4 +1,4 @@
-use Rattle.std.proofs.Common.{◌≡◌, ◌+◌, ◌-◌, ◌<◌, ◌≤◌, length, vec_len, vec_capacity}
+use Rattle.std.proofs.Common.{◌+◌, ◌-◌, ◌≤◌, length, vec_len, vec_capacity}
 use Rattle.rasn_types.proofs.Bits.{Shifting}
 use Rattle.rasn_types.proofs.types.bits.packing.push_shifted.Given as goal
 

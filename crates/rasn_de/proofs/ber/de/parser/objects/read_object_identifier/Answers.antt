@@ -1,4 +1,3 @@
-use Rattle.std.proofs.Common.{◌≡◌}
 use Rattle.std.proofs.lemmas.Result.{err_from_is_err_and}
 use Rattle.rasn_de.proofs.Arcs.{arcs_start, arcs_next, stops_first, stops_later, rest_shorter}
 use Rattle.rasn_de.proofs.Integers.{not_empty}

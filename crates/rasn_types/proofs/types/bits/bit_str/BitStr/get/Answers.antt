@@ -1,4 +1,4 @@
-use Rattle.std.proofs.Common.{◌/◌, ◌%◌, ◌+◌, ◌∙◌, ap, sym, get_or, arith}
+use Rattle.std.proofs.Common.{◌/◌, ◌%◌, ◌+◌, arith}
 use Rattle.rasn_types.proofs.BitViews.{bit_from, length-bits_from}
 use Rattle.rasn_types.proofs.types.bits.bit_str.BitStr.get.Goals as goal
 

@@ -1,4 +1,4 @@
-use Rattle.std.proofs.Common.{◌/◌, ◌%◌, ◌+◌, ◌-◌, ◌≤◌, ◌∙◌, ap, subst, sym, length, List, Bool, arith}
+use Rattle.std.proofs.Common.{◌/◌, ◌%◌, ◌+◌, ◌-◌, ◌≤◌, ◌∙◌, subst, sym, length, List, Bool, arith}
 use Rattle.rasn_types.proofs.BitViews.{bits_from_part, back_bits, length-bits_from}
 use Rattle.rasn_types.proofs.types.bits.bit_str.BitStr.split_at.Goals as goal
 

@@ -1,5 +1,4 @@
-use Rattle.std.proofs.Common.{◌≡◌, ◌/◌, ◌%◌, ◌+◌, ◌-◌, ◌*◌, ◌<◌, ◌≤◌, length, arith}
-use Rattle.rasn_types.specs.Bits.{IsKept, bits_from}
+use Rattle.std.proofs.Common.{◌-◌, arith}
 use Rattle.rasn_types.proofs.BitViews.{kept}
 use Rattle.rasn_types.proofs.types.bits.bit_string.BitString.new.Goals as goal
 

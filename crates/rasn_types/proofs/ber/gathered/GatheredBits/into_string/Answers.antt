@@ -1,6 +1,6 @@
-use Rattle.std.proofs.Common.{◌≤◌, length, subst, List, Bool, arith}
+use Rattle.std.proofs.Common.{arith}
 use Rattle.rasn_types.proofs.BitViews.{length-but_last}
-use Rattle.rasn_types.proofs.types.bits.gathered.GatheredBits.into_string.Goals as goal
+use Rattle.rasn_types.proofs.ber.gathered.GatheredBits.into_string.Goals as goal
 
 pub returns-in-Err : goal.returns-in-Err
 returns-in-Err c =

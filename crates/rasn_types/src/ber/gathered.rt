@@ -2,7 +2,7 @@
 ghost use Rattle.std.specs.Prelude.{◌≡◌, ◌≤◌, ◌<◌, ◌*◌, ◌^◌, ◌++◌, [], length, OnOk, OnErr, MatchOption};
 ghost use Rattle.rasn_types.specs.Bits.{but_last};
 
-use crate::types::bits::BitString;
+use crate::types::BitString;
 use crate::types::bits::packing::{push_joined, shorten};
 use std::alloc::{AllocError, Global};
 use std::marker::Model;

@@ -1,6 +1,6 @@
-use Rattle.std.proofs.Common.{◌≡◌, ◌∙◌, ap, sym, arith}
+use Rattle.std.proofs.Common.{◌∙◌}
 use Rattle.rasn_types.proofs.BitViews.{gathers_whole, joined_bits}
-use Rattle.rasn_types.proofs.types.bits.gathered.GatheredBits.append.Goals as goal
+use Rattle.rasn_types.proofs.ber.gathered.GatheredBits.append.Goals as goal
 
 pub returns-then-self-eq0-clause-ok : goal.returns-then-self-eq0-clause-ok
 returns-then-self-eq0-clause-ok c =
