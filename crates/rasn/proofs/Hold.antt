@@ -3,9 +3,10 @@ use Rattle.std.proofs.Common.{◌≡◌, ◌⊎◌, inl, inr, ℕ, List, [], ◌
 use Rattle.rasn_types.specs.declared.types.rules.Codec.TheVariants.{Der}
 use Rattle.rasn_types.specs.Shapes.{Tree, Shape, IsSolid}
 use Rattle.rasn_types.specs.Grammar.{Reads, top}
-use Rattle.rasn_types.specs.Bytes.{Same}
+use Rattle.rasn_types.specs.Bytes.{Same, Bytes}
 use Rattle.rasn_types.specs.Carried.{Carried}
 use Rattle.rasn_types.specs.Lawful.{IsLawful}
+use Rattle.rasn.specs.Headline.{Identify}
 use Rattle.rasn.specs.Laws.{OneReading, Included, ReadAgain, Canonical, WrittenOnce, OneEncoding, Turns}
 use Rattle.rasn_types.proofs.Nested.{whole_one, whole_text_one, turns_twice}
 pub use Rattle.rasn.proofs.Unique.{one_leaf, one_open, one_prefix, one_choice, one_option, one_sequence, one_set, one_sequence_of, one_set_of}
@@ -45,6 +46,9 @@ same_of s lawful t u c d e =
 
 pub canonical : Canonical
 canonical s lawful t u c d = (λ h. once s Der t u c.octets d.octets h c.is d.is, same_of s lawful t u c d)
+
+pub identify : (s : Shape) (t : Tree) (octets : List ℕ) → Bytes Der s t octets → Identify s t octets
+identify s t octets is lawful meets u c = canonical s lawful t u (record { octets = octets; is = is; meets = meets }) c
 
 pub one_encoding : OneEncoding
 one_encoding rule other a b x y v w e = let o = whole_one x y v w e in (whole_text_one x y v w e, o.0, o.1)

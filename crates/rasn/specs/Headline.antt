@@ -1,11 +1,15 @@
 -- What an entry point answers.
-use Rattle.std.specs.Prelude.{◌≡◌, ◌≢◌, ◌⊎◌, ℕ, List, [], length, Result, Ok, Err}
+use Rattle.std.specs.Prelude.{◌≡◌, ◌≢◌, ◌⊎◌, ◌↔◌, ℕ, List, [], length, Result, Ok, Err}
 use Rattle.std.specs.Borrow.{Bor}
 use Rattle.rasn_types.specs.declared.types.rules.Codec.{Codec}
+use Rattle.rasn_types.specs.declared.types.rules.Codec.TheVariants.{Der}
 use Rattle.rasn_types.specs.declared.error.decode.DecodeError.{DecodeError}
 use Rattle.rasn_types.specs.declared.error.decode.DecodeErrorKind.TheVariants.{UnexpectedExtraData}
 use Rattle.rasn_types.specs.Shapes.{Shape, Tree}
 use Rattle.rasn_types.specs.Grammar.{Reads, top}
+use Rattle.rasn_types.specs.Bytes.{Same}
+use Rattle.rasn_types.specs.Carried.{Carried, Meets}
+use Rattle.rasn_types.specs.Lawful.{IsLawful}
 use Rattle.rasn_de.specs.Outcomes.{Exact, Outcome, Got, refusal}
 
 abbrev pub remainder_of : {T : Type 0} → (T → Tree) → Result (T × Bor (List ℕ)) DecodeError → Outcome
@@ -34,3 +38,7 @@ pub record IsFollowed (rule : Codec) (shape : Shape) (input : List ℕ) (e : Dec
 abbrev pub AnsweredAlone : {T : Type 0} → Codec → Shape → (T → Tree) → List ℕ → Result T DecodeError → Type 0
 AnsweredAlone rule shape tree input (Ok v) = Exact (Reads rule shape 128 (top rule)) input (Got (tree v) [])
 AnsweredAlone rule shape tree input (Err e) = Exact (Reads rule shape 128 (top rule)) input (refusal e.kind) ⊎ IsFollowed rule shape input e
+
+-- The octets of a carried value are those that DER writes of the same carried values, and of no others.
+abbrev pub Identify : Shape → Tree → List ℕ → Type 0
+Identify s t octets = IsLawful s → Meets Der s 128 t → (u : Tree) (c : Carried Der s u) → (Same t u ↔ (octets ≡ c.octets))

@@ -3,7 +3,7 @@ ghost use Rattle.std.specs.Prelude.{IfOk, IfErr, ◌⊎◌};
 ghost use Rattle.rasn_types.specs.Bytes.{Bytes};
 ghost use Rattle.rasn_types.specs.Errors.{IsEncodeMemory};
 ghost use Rattle.rasn_types.specs.declared.types.rules.Codec.TheVariants.{Der};
-ghost use Rattle.rasn.specs.Headline.{Answered, AnsweredAlone};
+ghost use Rattle.rasn.specs.Headline.{Answered, AnsweredAlone, Identify};
 ghost use Rattle.rasn_enc.specs.Wrote.{Undefined};
 
 pub use crate::ber::{de, enc};
@@ -45,9 +45,11 @@ pub fn decode_with_remainder<T: Decode>(
     entry::decode_with_remainder(alloc, input, DecoderOptions::der())
 }
 
-/// The value's octets, which depend on the value alone. It is refused for want of memory, and where the value has no octets.
+/// The value's octets, which depend on the value alone: two carried values have the same ones exactly if they are equal. It is
+/// refused for want of memory, and where the value has no octets.
 pub fn encode<T: Encode>(alloc: Global, value: &T) -> Result<Vec<u8>, EncodeError>
     ensures ok { IfOk result (λ octets. Bytes Der T.shape (T.tree value.now) octets.items) }
+    ensures canonical { IfOk result (λ octets. Identify T.shape (T.tree value.now) octets.items) }
     ensures refused { IfErr result (λ error. IsEncodeMemory error.kind ⊎ Undefined Der T.shape (T.tree value.now)) }
 {
     entry::encode(alloc, value, EncoderOptions::der())

@@ -1,6 +1,6 @@
 -- Readings of digits, one behind the other.
 use Rattle.std.proofs.Common.{◌≡◌, ◌≤◌, ◌<◌, length, get_or, arith, ℕ, List, [], ◌∷◌, ◌++◌, Option, Some, None, refl, sym, ap, ◌∙◌, append_assoc}
-use Rattle.rasn_bench.specs.Lines.{behind, pairs_at, pair_at}
+use Rattle.rasn_bench.specs.Lines.{behind, pairs_at}
 
 -- these octets, and then the others
 abbrev pub before : List ℕ → Option (List ℕ) → Option (List ℕ)

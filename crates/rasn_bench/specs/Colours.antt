@@ -1,5 +1,5 @@
 -- The worked ENUMERATED: its numbers, and that each has one value.
-use Rattle.std.specs.Prelude.{◌≡◌, ℕ, ◌<◌, ℤ, pos, List, [], ◌∷◌, length, Contains, refl}
+use Rattle.std.specs.Prelude.{◌≡◌, ℤ, pos, List, [], ◌∷◌, Contains, refl}
 use Rattle.std.proofs.Common.{arith}
 use Rattle.rasn_bench.specs.declared.worked.colour.Colour.{Colour}
 use Rattle.rasn_bench.specs.declared.worked.colour.Colour.TheVariants.{Red, Green, Blue}

@@ -1,5 +1,5 @@
 -- What a call answers of lists is what it answers of the grammar.
-use Rattle.std.proofs.Common.{◌≡◌, ◌≢◌, ℕ, ◌⊎◌, inl, inr, Bool, true, false, List, [], ◌∷◌, ◌++◌, Option, Some, Result, Ok, Err, refl, sym, ap, ◌∙◌, subst}
+use Rattle.std.proofs.Common.{◌≡◌, ℕ, Bool, List, Some, Result, Ok, Err, refl, sym, ◌∙◌, subst}
 use Rattle.rasn_types.specs.declared.types.tag.Tag.{Tag}
 use Rattle.rasn_types.specs.declared.types.rules.Codec.{Codec}
 use Rattle.rasn_types.specs.declared.types.rules.Codec.TheVariants.{Ber, Cer, Der}
@@ -13,11 +13,11 @@ use Rattle.rasn_types.specs.Readers.{Reading}
 use Rattle.rasn_types.specs.Contents.{Contents}
 use Rattle.rasn_types.specs.Grammar.{ReadsIn, plain}
 use Rattle.rasn_de.specs.Headers.{Header, header_at}
-use Rattle.rasn_de.specs.Causes.{Cause, fault, Tells}
+use Rattle.rasn_de.specs.Causes.{Cause}
 use Rattle.rasn_de.specs.Leaves.{on_header, definite_in, definite_at, Readings, FromContents, LeafAt, Gave}
-use Rattle.rasn_de.specs.State.{State, at, IsEnd}
-use Rattle.rasn_de.specs.Outcomes.{Exact, Outcome, Got, Refused, Starved, refusal, outcome}
-use Rattle.rasn_de.specs.Decodes.{Answers, DecodesBy}
+use Rattle.rasn_de.specs.State.{State, IsEnd}
+use Rattle.rasn_de.specs.Outcomes.{Exact, Got, refusal}
+use Rattle.rasn_de.specs.Decodes.{DecodesBy}
 use Rattle.rasn_de.proofs.Frames.{header_found, header_spelled}
 use Rattle.rasn_de.specs.declared.ber.de.parser.Fault.{Fault}
 use Rattle.rasn_de.proofs.Strs.{frame_octets}

@@ -1,8 +1,7 @@
 -- What a string's function returns.
-use Rattle.std.proofs.Common.{◌≡◌, ◌≢◌, ℕ, List, ◌++◌, Result, Ok, Err, refl, sym, ap, ◌∙◌}
+use Rattle.std.proofs.Common.{◌≡◌, ℕ, List, ◌++◌, Result, Ok, Err, refl, ◌∙◌}
 use Rattle.std.specs.Borrow.{Bor}
 use Rattle.rasn_de.specs.declared.ber.de.parser.Fault.{Fault}
-use Rattle.rasn_de.specs.declared.ber.de.parser.Fault.TheVariants.{OutOfMemory}
 use Rattle.rasn_types.specs.Framing.{Extent}
 use Rattle.rasn_de.specs.Strings.{finished, inner, segments_in}
 use Rattle.rasn_de.proofs.Segments.{segments, segments_in_found, segments_in_fault}

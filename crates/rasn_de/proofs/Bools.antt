@@ -1,5 +1,5 @@
 -- A BOOLEAN is read exactly where the grammar has one.
-use Rattle.std.proofs.Common.{◌≡◌, ◌≢◌, ℕ, ◌⊎◌, inl, inr, Bool, true, false, cond, List, [], ◌∷◌, Option, Some, Result, Ok, Err, refl, sym, ap, ◌∙◌, subst, arith}
+use Rattle.std.proofs.Common.{◌≡◌, ◌≢◌, ℕ, ◌⊎◌, inl, inr, Bool, true, false, cond, List, [], ◌∷◌, Result, Ok, Err, refl, ap, ◌∙◌, subst, arith}
 use Rattle.std.specs.Prelude.{nat_eq, pos}
 use Rattle.std.proofs.lemmas.Bool.Decides.{nat_tests}
 use Rattle.rasn_types.specs.declared.types.tag.Tag.{Tag}
@@ -10,10 +10,10 @@ use Rattle.rasn_types.specs.Framing.{AreOctets}
 use Rattle.rasn_types.specs.Shapes.{Tree, number, leaf, boolean}
 use Rattle.rasn_types.specs.Trees.{truth, bool_tree, unconstrained}
 use Rattle.rasn_types.specs.Contents.{Contents, IsBool}
-use Rattle.rasn_types.specs.Grammar.{Reads, ReadsLeaf}
+use Rattle.rasn_types.specs.Grammar.{Reads}
 use Rattle.rasn_de.specs.declared.ber.de.parser.Fault.{Fault}
 use Rattle.rasn_de.specs.declared.ber.de.parser.Fault.TheVariants.{InvalidBool}
-use Rattle.rasn_de.specs.Causes.{Cause, fault}
+use Rattle.rasn_de.specs.Causes.{Cause}
 use Rattle.rasn_de.specs.Leaves.{as_cause, is_ber, bool_in, BoolAt, Gave}
 use Rattle.rasn_de.specs.State.{State}
 use Rattle.rasn_de.specs.Decodes.{Decodes}

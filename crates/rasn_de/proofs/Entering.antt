@@ -1,11 +1,11 @@
 -- The steps by which values are opened and closed.
-use Rattle.std.proofs.Common.{◌≡◌, ◌≢◌, ℕ, ◌-◌, Bool, true, false, ◌&&◌, not, List, [], ◌∷◌, Option, Some, Result, Ok, Err, refl, sym, ap, ◌∙◌, subst, arith}
+use Rattle.std.proofs.Common.{◌≡◌, ◌≢◌, ℕ, true, false, ◌&&◌, not, List, [], ◌∷◌, Some, Result, Ok, Err, refl, sym, ap, ◌∙◌, subst, arith}
 use Rattle.std.specs.Prelude.{nat_eq}
 use Rattle.std.proofs.lemmas.Bool.Decides.{nat_tests}
-use Rattle.rasn_types.specs.declared.types.tag.Tag.{Tag}
 use Rattle.rasn_types.specs.declared.types.rules.Codec.{Codec}
 use Rattle.rasn_types.specs.declared.error.decode.DecodeError.{DecodeError}
-use Rattle.rasn_types.specs.Framing.{AreOctets, Extent, definite, indefinite}
+use Rattle.rasn_types.specs.Framing.{Extent, definite, indefinite}
+use Rattle.rasn_types.specs.Numbered.{constructed_bit}
 use Rattle.rasn_de.specs.declared.ber.de.parser.Fault.{Fault}
 use Rattle.rasn_de.specs.declared.ber.de.parser.Fault.TheVariants.{ExceedsMaxParseDepth, InvalidConstructedIdentifier}
 use Rattle.rasn_de.specs.declared.ber.de.parser.Value.{Value}
@@ -14,11 +14,10 @@ use Rattle.rasn_de.specs.Strings.{finished, used_up}
 use Rattle.rasn_de.specs.Views.{framed}
 use Rattle.rasn_de.specs.State.{State, at, IsEnd}
 use Rattle.rasn_de.specs.Taking.{ErrorOf, Takes}
-use Rattle.rasn_de.specs.Inside.{Door, door_at, through, unclosed, Keeps, Closes}
+use Rattle.rasn_de.specs.Inside.{Door, door_at, through, Keeps, Closes}
 use Rattle.rasn_de.specs.Doors.{Enters}
 use Rattle.rasn_de.proofs.Ends.{IsEnd-refl, IsEnd-trans, IsEnd-zeros}
 use Rattle.rasn_de.proofs.Strs.{closed_found}
-use Rattle.rasn_de.proofs.Refusals.{same_at}
 
 pub kept : (old : State) → Keeps old old
 kept old = record { stays = refl; end = IsEnd-refl old.rest }
@@ -42,11 +41,11 @@ pub enters_none : (d : Door) (old new : State) (e : DecodeError) → old.depth �
 enters_none d old new e n (f, h, k, s) =
     (f, door_through d old.rule old.depth old.rest (Err f) n h ∙ ap (λ (z : State). Err (f, z.rest)) (sym s), k, kept_same old new s)
 
-pub enters_primitive : (d : Door) (old new : State) (v : Value) (e : DecodeError) → old.depth ≢ 0 → Takes d.tag old (Ok v) new → d.needed && not v.identifier.is_constructed ≡ true → ErrorOf InvalidConstructedIdentifier new e → Enters d old (Err e) new
+pub enters_primitive : (d : Door) (old new : State) (v : Value) (e : DecodeError) → old.depth ≢ 0 → Takes d.tag old (Ok v) new → d.needed && not (constructed_bit v.identifier) ≡ true → ErrorOf InvalidConstructedIdentifier new e → Enters d old (Err e) new
 enters_primitive d old new v e n (h, s, p) b k =
     (InvalidConstructedIdentifier, door_through d old.rule old.depth old.rest (Ok (framed v new.rest)) n h ∙ rw b refl, k ∙ ap (λ c. record { kind = Rattle.rasn_de.specs.Causes.kind_of InvalidConstructedIdentifier; codec = c }) (ap (λ (x : State). x.rule) s), record { stays = s; end = p })
 
-pub enters_value : (d : Door) (old new : State) (v : Value) → old.depth ≢ 0 → Takes d.tag old (Ok v) new → d.needed && not v.identifier.is_constructed ≡ false → Enters d old (Ok v) new
+pub enters_value : (d : Door) (old new : State) (v : Value) → old.depth ≢ 0 → Takes d.tag old (Ok v) new → d.needed && not (constructed_bit v.identifier) ≡ false → Enters d old (Ok v) new
 enters_value d old new v n (h, s, p) b =
     (door_through d old.rule old.depth old.rest (Ok (framed v new.rest)) n h ∙ rw b refl, record { stays = s; end = p })
 

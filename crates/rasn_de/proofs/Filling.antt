@@ -1,19 +1,18 @@
 -- What is read inside a SEQUENCE, by an initializer or by a closure.
-use Rattle.std.proofs.Common.{◌≡◌, ◌≢◌, ℕ, ◌⊎◌, inl, inr, Bool, true, false, ◌&&◌, ◌||◌, not, List, [], ◌∷◌, Option, Some, None, Result, Ok, Err, refl, sym, ap, ap₂, ◌∙◌, subst}
+use Rattle.std.proofs.Common.{◌≡◌, ℕ, ◌⊎◌, inl, inr, Bool, true, false, ◌&&◌, ◌||◌, not, List, [], ◌∷◌, Option, Some, None, Result, Ok, Err, refl, sym, ap, ap₂, ◌∙◌, subst}
 use Rattle.std.specs.declared.alloc.AllocError.{AllocError}
 use Rattle.rasn_types.specs.declared.types.rules.Codec.{Codec}
 use Rattle.rasn_types.specs.declared.error.decode.DecodeError.{DecodeError}
 use Rattle.rasn_types.specs.declared.error.decode.DecodeErrorKind.{DecodeErrorKind}
-use Rattle.rasn_types.specs.Shapes.{Tree, items, absent, Parts, part, Presence, required, optional, addition, default}
+use Rattle.rasn_types.specs.Shapes.{Tree, items, Parts, part, Presence, required, optional, addition, default}
 use Rattle.rasn_types.specs.Shapes.Parts.{none}
 use Rattle.rasn_types.specs.Readers.{Reading, Part, InOrder, IsMissing, AllMissing, HasRequired, IsBare, ReadsSeq}
-use Rattle.rasn_types.specs.Grammar.{Reads, parts_of}
+use Rattle.rasn_types.specs.Grammar.{parts_of}
 use Rattle.rasn_types.specs.Described.{has_required, has_none, same_bool, is_fieldless, describes}
 use Rattle.rasn_de.specs.State.{State}
 use Rattle.rasn_de.specs.Outcomes.{Exact, Outcome, Got, refusal, outcome}
-use Rattle.rasn_de.specs.Decodes.{Answers, ReadsParts, DecodesParts}
+use Rattle.rasn_de.specs.Decodes.{ReadsParts, DecodesParts}
 use Rattle.rasn_de.specs.Sequences.{is_empty, is_initial, Initial, Fills, MakesBare}
-use Rattle.rasn_de.proofs.Answering.{Exact-refusal}
 
 both_true : (a b : Bool) → a && b ≡ true → (a ≡ true) × (b ≡ true)
 both_true true b e = (refl, e)

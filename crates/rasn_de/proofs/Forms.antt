@@ -1,9 +1,9 @@
 -- Whether a value is primitive, as its header tells.
-use Rattle.std.proofs.Common.{◌≡◌, ◌≢◌, ℕ, ◌⊎◌, inl, inr, Bool, true, false, List, Option, Some, Result, Ok, Err, refl, sym, ap, ◌∙◌, subst}
+use Rattle.std.proofs.Common.{◌≡◌, ◌≢◌, ℕ, inl, inr, false, List, Some, Ok, Err, refl, subst}
 use Rattle.rasn_types.specs.declared.types.tag.Tag.{Tag}
 use Rattle.rasn_types.specs.declared.types.rules.Codec.{Codec}
 use Rattle.rasn_types.specs.Tags.{form, in_universal}
-use Rattle.rasn_types.specs.Framing.{AreOctets, Extent, definite, indefinite, Frame}
+use Rattle.rasn_types.specs.Framing.{AreOctets, definite, indefinite, Frame}
 use Rattle.rasn_de.specs.declared.ber.de.parser.Fault.{Fault}
 use Rattle.rasn_de.specs.declared.ber.de.parser.Fault.TheVariants.{OutOfMemory}
 use Rattle.rasn_de.specs.Headers.{Header, header_at}

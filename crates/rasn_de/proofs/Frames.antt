@@ -1,6 +1,6 @@
 -- A header is read exactly where a frame stands.
-use Rattle.std.proofs.Common.{◌≡◌, ◌≢◌, ℕ, zero, suc, ◌+◌, ◌-◌, ◌*◌, ◌/◌, ◌^◌, ◌%◌, ◌<◌, ◌≤◌, ◌⊎◌, inl, inr, Bool, true, false, ◌&&◌, cond, List, [], ◌∷◌, ◌++◌, length, take, drop, Option, Some, None, Result, Ok, Err, refl, sym, ap, ap₂, ◌∙◌, subst, arith, append_assoc, length-take, length-append}
-use Rattle.std.specs.Prelude.{nat_lt, nat_le, nat_eq}
+use Rattle.std.proofs.Common.{◌≡◌, ◌≢◌, ℕ, ◌+◌, ◌-◌, ◌*◌, ◌^◌, ◌<◌, ◌≤◌, ◌⊎◌, inl, inr, Bool, true, false, ◌&&◌, cond, List, [], ◌∷◌, ◌++◌, length, take, drop, Option, Some, None, Result, Ok, Err, refl, sym, ap, ap₂, ◌∙◌, subst, arith, length-take, length-append}
+use Rattle.std.specs.Prelude.{nat_lt, nat_eq}
 use Rattle.std.proofs.lemmas.Bool.Decides.{nat_tests}
 use Rattle.std.proofs.lemmas.List.{take-append-drop}
 use Rattle.rasn_types.specs.declared.types.tag.Tag.{Tag}
@@ -11,11 +11,11 @@ use Rattle.rasn_types.specs.declared.types.rules.Codec.TheVariants.{Ber, Cer, De
 use Rattle.rasn_types.specs.Tags.{form, HasStrictForm}
 use Rattle.rasn_de.specs.declared.ber.de.parser.Fault.{Fault}
 use Rattle.rasn_de.specs.declared.ber.de.parser.Fault.TheVariants.{IndefiniteLengthNotAllowed}
-use Rattle.rasn_types.specs.Framing.{number_in, IsShortestId, IsShortestLength, IdSpells, LengthSpells, Extent, definite, indefinite, Frame, with_length, without_length, HasIndefinite}
+use Rattle.rasn_types.specs.Framing.{number_in, IdSpells, LengthSpells, Extent, definite, indefinite, Frame, with_length, without_length, HasIndefinite}
 use Rattle.rasn_de.specs.Headers.{◌>>=◌, number256_at, Identified, identifier_at, octets_at, long_at, length_at, Header, contents_at, has_indefinite, same_class, same_tag, expected_at, header_at}
 use Rattle.rasn_de.proofs.Tools.{bind_ok, chosen, guarded, AreOctets, octets_back, octets_front}
 use Rattle.rasn_de.proofs.Numbers.{number256_found, number256_spelled}
-use Rattle.rasn_de.proofs.Identifiers.{SpelledId, identifier_found, identifier_spelled, tag_is}
+use Rattle.rasn_de.proofs.Identifiers.{identifier_found, identifier_spelled, tag_is}
 
 -- what a length read there says of the octets
 abbrev pub SpelledLength : Bool → List ℕ → Option ℕ → List ℕ → Type 0

@@ -1,14 +1,11 @@
 -- What stands at the front of a frame.
-use Rattle.std.proofs.Common.{◌≡◌, ◌≢◌, ℕ, ◌+◌, ◌*◌, ◌<◌, ◌≤◌, ◌⊎◌, inl, inr, Bool, List, [], ◌∷◌, ◌++◌, length, Option, None, refl, sym, ap, ◌∙◌, arith, append_assoc, length-append}
+use Rattle.std.proofs.Common.{◌≡◌, ℕ, ◌+◌, ◌*◌, ◌<◌, ◌≤◌, ◌⊎◌, inl, inr, Bool, List, [], ◌∷◌, ◌++◌, length, refl, sym, ◌∙◌, arith, length-append}
 use Rattle.rasn_types.specs.declared.types.tag.Tag.{Tag}
 use Rattle.rasn_types.specs.declared.types.tag.Class.{Class}
 use Rattle.rasn_types.specs.declared.types.tag.Class.TheVariants.{Universal, Application, Context, Private}
-use Rattle.rasn_types.specs.declared.types.rules.Codec.{Codec}
-use Rattle.rasn_types.specs.Tags.{Form, form, rank, eoc}
-use Rattle.rasn_types.specs.Framing.{AreOctets, bit_of, Spells128, IdSpells, LengthSpells, Extent, definite, indefinite, Frame, with_length, without_length}
-use Rattle.rasn_de.specs.Headers.{Header, header_at}
+use Rattle.rasn_types.specs.Tags.{Form, rank, eoc}
+use Rattle.rasn_types.specs.Framing.{bit_of, Spells128, IdSpells, LengthSpells, Extent, Frame, with_length, without_length}
 use Rattle.rasn_de.proofs.Identifiers.{tag_is}
-use Rattle.rasn_de.proofs.Frames.{header_spelled}
 
 id_not_zero : (a x y : List ℕ) (s : Tag) (b : Bool) → IdSpells a s b → a ++ x ≡ 0 ∷ y → ⊥
 id_not_zero [] x y s b i e = i.spells

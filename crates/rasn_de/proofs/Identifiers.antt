@@ -1,18 +1,17 @@
 -- An identifier and a length read octet by octet are those that the octets spell.
-use Rattle.std.proofs.Common.{◌≡◌, ◌≢◌, ℕ, zero, suc, ◌+◌, ◌-◌, ◌*◌, ◌/◌, ◌^◌, ◌%◌, ◌<◌, ◌≤◌, ◌⊎◌, inl, inr, Bool, true, false, ◌&&◌, cond, List, [], ◌∷◌, ◌++◌, length, take, drop, Option, Some, None, Result, Ok, Err, refl, sym, ap, ap₂, ◌∙◌, subst, arith, append_assoc}
-use Rattle.std.specs.Prelude.{nat_lt, nat_le, nat_eq}
+use Rattle.std.proofs.Common.{◌≡◌, ◌≢◌, ℕ, ◌+◌, ◌*◌, ◌/◌, ◌^◌, ◌%◌, ◌<◌, ◌≤◌, ◌⊎◌, inl, inr, Bool, true, false, ◌&&◌, cond, List, [], ◌∷◌, ◌++◌, length, Result, Ok, refl, sym, ap, ap₂, ◌∙◌, subst, arith}
+use Rattle.std.specs.Prelude.{nat_le, nat_eq}
 use Rattle.std.proofs.lemmas.Bool.Decides.{nat_tests}
-use Rattle.std.proofs.lemmas.List.{take-append-drop}
 use Rattle.rasn_types.specs.declared.types.tag.Tag.{Tag}
 use Rattle.rasn_types.specs.declared.types.tag.Class.{Class}
 use Rattle.rasn_types.specs.declared.types.tag.Class.TheVariants.{Universal, Application, Context, Private}
 use Rattle.rasn_types.specs.Tags.{rank, eoc, is_universal, is_eoc}
 use Rattle.rasn_de.specs.declared.ber.de.parser.Fault.{Fault}
 use Rattle.rasn_de.specs.declared.ber.de.parser.Fault.TheVariants.{UnsupportedTagNumber}
-use Rattle.rasn_types.specs.Framing.{IsChain, number_in, Spells128, bit_of, IsIdentifier, AnyIdSpells, IdSpells}
-use Rattle.rasn_de.specs.Headers.{◌>>=◌, class_of, tag_of, bit_at, number128_at, number256_at, tag_number_at, Identified, named, identifier_at, octets_at, long_at, length_at}
-use Rattle.rasn_de.proofs.Tools.{bind_ok, chosen, guarded, AreOctets, octets_back}
-use Rattle.rasn_de.proofs.Numbers.{Spelled128, number128_found, number128_spelled, number256_found, number256_spelled}
+use Rattle.rasn_types.specs.Framing.{number_in, Spells128, bit_of, IdSpells}
+use Rattle.rasn_de.specs.Headers.{class_of, tag_of, bit_at, number128_at, tag_number_at, Identified, named, identifier_at}
+use Rattle.rasn_de.proofs.Tools.{bind_ok, chosen, guarded, AreOctets}
+use Rattle.rasn_de.proofs.Numbers.{number128_found, number128_spelled}
 
 -- the tag number behind a first octet
 abbrev pub IsTagNumber : ℕ → List ℕ → ℕ → Type 0

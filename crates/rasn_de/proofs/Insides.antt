@@ -1,5 +1,5 @@
 -- What is read inside a value, as its header tells.
-use Rattle.std.proofs.Common.{◌≡◌, ◌≢◌, ℕ, ◌<◌, ◌⊎◌, inl, inr, Bool, true, false, ◌&&◌, not, List, [], ◌∷◌, Option, Some, Result, Ok, Err, refl, sym, ap, ◌∙◌, subst, arith}
+use Rattle.std.proofs.Common.{◌≡◌, ◌≢◌, ℕ, ◌<◌, Bool, true, false, ◌&&◌, not, List, [], ◌∷◌, Some, Result, Ok, Err, refl, ap, ◌∙◌, subst, arith}
 use Rattle.std.specs.Prelude.{nat_eq}
 use Rattle.std.proofs.lemmas.Bool.Decides.{nat_tests}
 use Rattle.rasn_types.specs.declared.types.tag.Tag.{Tag}
@@ -11,8 +11,7 @@ use Rattle.rasn_types.specs.Readers.{Reading, Inside, in_definite, in_indefinite
 use Rattle.rasn_de.specs.declared.ber.de.parser.Fault.{Fault}
 use Rattle.rasn_de.specs.Headers.{Header, header_at}
 use Rattle.rasn_de.specs.Strings.{inner, finished, closed_at, used_up}
-use Rattle.rasn_de.specs.Inside.{Door, door_at, through, is_open}
-use Rattle.rasn_de.specs.Outcomes.{Exact, Got}
+use Rattle.rasn_de.specs.Inside.{Door, door_at, is_open}
 use Rattle.rasn_de.proofs.Frames.{header_found, header_spelled}
 use Rattle.rasn_de.proofs.Strs.{closed_found}
 

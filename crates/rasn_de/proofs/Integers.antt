@@ -1,24 +1,23 @@
 -- An INTEGER is read exactly where the grammar has one.
-use Rattle.std.proofs.Common.{◌≡◌, ◌≢◌, ◌≤◌, ℕ, ℤ, ◌≤ℤ◌, ◌⊎◌, inl, inr, Bool, true, false, List, [], ◌∷◌, length, Option, Some, None, Result, Ok, Err, refl, sym, ap, ◌∙◌, subst, arith}
+use Rattle.std.proofs.Common.{◌≡◌, ◌≢◌, ℕ, ℤ, ◌≤ℤ◌, inl, inr, true, false, List, [], ◌∷◌, length, Option, Some, None, Result, Ok, Err, refl, sym, ap, ◌∙◌, subst, arith}
 use Rattle.std.proofs.lemmas.Bool.Decides.{nat_tests}
 use Rattle.rasn_types.specs.declared.types.tag.Tag.{Tag}
 use Rattle.rasn_types.specs.declared.types.rules.Codec.{Codec}
 use Rattle.rasn_types.specs.declared.types.constraints.Constraints.{Constraints}
 use Rattle.rasn_types.specs.declared.error.decode.DecodeError.{DecodeError}
 use Rattle.rasn_types.specs.Framing.{AreOctets}
-use Rattle.rasn_types.specs.Errors.{IsMemory}
 use Rattle.rasn_types.specs.Shapes.{Tree, number, leaf, integer, Interval, IsIn, Admits, constraint_of}
 use Rattle.rasn_types.specs.Contents.{Contents, signed}
-use Rattle.rasn_types.specs.Grammar.{Reads, ReadsLeaf, IsBounded}
+use Rattle.rasn_types.specs.Grammar.{Reads, IsBounded}
 use Rattle.rasn_de.specs.Causes.{Cause, fault, out_of_bound, Tells}
 use Rattle.std.specs.Prelude.{◌==◌, MatchOption}
 use Rattle.rasn_de.specs.declared.ber.de.parser.Fault.TheVariants as fault_is
 use Rattle.rasn_de.specs.Taking.{ErrorOf}
 use Rattle.rasn_de.proofs.Refusals.{rule_is}
-use Rattle.rasn_de.specs.Leaves.{Readings, FromContents, IntegerIn, IntegerAt, LeafAt, definite_at, Refuses, Gave, GaveInteger}
-use Rattle.rasn_de.specs.State.{State, at, IsEnd}
+use Rattle.rasn_de.specs.Leaves.{Readings, FromContents, IntegerIn, IntegerAt, definite_at, Refuses, GaveInteger}
+use Rattle.rasn_de.specs.State.{State, at}
 use Rattle.rasn_de.specs.Outcomes.{Exact, refusal}
-use Rattle.rasn_de.specs.Decodes.{Decodes, Answers}
+use Rattle.rasn_de.specs.Decodes.{Decodes}
 use Rattle.rasn_de.proofs.Answering.{plain_agrees, gave_answers, definite_end}
 
 module _ (width : ℕ) (range : Interval) (bounds : Constraints) where

@@ -1,12 +1,12 @@
 -- Headers are read without memory.
-use Rattle.std.proofs.Common.{◌≡◌, ◌≢◌, ℕ, ◌+◌, ◌-◌, ◌*◌, ◌%◌, Bool, true, false, ◌&&◌, cond, List, [], ◌∷◌, length, Option, Some, None, Result, Ok, Err, refl, sym, ap}
+use Rattle.std.proofs.Common.{◌≢◌, ℕ, ◌+◌, ◌-◌, ◌*◌, ◌%◌, Bool, true, false, ◌&&◌, cond, List, [], ◌∷◌, length, Option, Some, None, Result, Ok, Err}
 use Rattle.std.specs.Prelude.{nat_lt, nat_le, nat_eq}
 use Rattle.rasn_types.specs.declared.types.tag.Tag.{Tag}
 use Rattle.rasn_types.specs.declared.types.rules.Codec.{Codec}
 use Rattle.rasn_types.specs.Tags.{is_eoc}
 use Rattle.rasn_de.specs.declared.ber.de.parser.Fault.{Fault}
 use Rattle.rasn_de.specs.declared.ber.de.parser.Fault.TheVariants.{OutOfMemory, LengthExceedsPlatformWidth, UnsupportedTagNumber, IndefiniteLengthNotAllowed, ReservedLengthOctet, UnexpectedEndOfContents}
-use Rattle.rasn_de.specs.Headers.{◌>>=◌, number128_at, number256_at, tag_number_at, tag_of, Identified, named, identifier_at, octets_at, long_at, length_at, Header, contents_at, has_indefinite, same_tag, expected_at, header_at}
+use Rattle.rasn_de.specs.Headers.{◌>>=◌, number128_at, number256_at, tag_number_at, tag_of, named, identifier_at, octets_at, long_at, length_at, contents_at, has_indefinite, same_tag, expected_at, header_at}
 
 -- A refusal isn't for want of memory.
 abbrev pub NoMemory : {X : Type 0} → Result X Fault → Type 0

@@ -1,12 +1,12 @@
 -- Numbers read octet by octet are the numbers that the octets spell.
-use Rattle.std.proofs.Common.{◌≡◌, ℕ, zero, suc, ◌+◌, ◌-◌, ◌*◌, ◌^◌, ◌%◌, ◌<◌, ◌≤◌, ◌⊎◌, inl, inr, Bool, true, false, cond, List, [], ◌∷◌, ◌++◌, length, take, drop, Result, Ok, Err, refl, sym, ap, ap₂, ◌∙◌, subst, arith, pow-suc, mul-le-mul_right}
-use Rattle.std.specs.Prelude.{nat_lt, nat_le, nat_eq}
+use Rattle.std.proofs.Common.{◌≡◌, ℕ, ◌+◌, ◌*◌, ◌^◌, ◌%◌, ◌<◌, ◌≤◌, ◌⊎◌, inl, inr, true, false, cond, List, [], ◌∷◌, ◌++◌, length, Result, Ok, refl, sym, ap, ◌∙◌, subst, arith}
+use Rattle.std.specs.Prelude.{nat_lt, nat_le}
 use Rattle.std.proofs.Math.Nat.{pow-succ', one-le-pow, mul-le-mul_left}
 use Rattle.std.proofs.lemmas.Bool.Decides.{nat_tests}
 use Rattle.rasn_de.specs.declared.ber.de.parser.Fault.{Fault}
-use Rattle.rasn_types.specs.Framing.{IsChain, number_in, Spells128}
-use Rattle.rasn_de.specs.Headers.{◌>>=◌, number128_at, number256_at}
-use Rattle.rasn_de.proofs.Tools.{bind_ok, chosen, guarded, AreOctets}
+use Rattle.rasn_types.specs.Framing.{IsChain, number_in}
+use Rattle.rasn_de.specs.Headers.{number128_at, number256_at}
+use Rattle.rasn_de.proofs.Tools.{chosen, guarded, AreOctets}
 
 pub record Spelled128 (n : ℕ) (l : List ℕ) (p : ℕ × List ℕ) : Type 0 where
   pub front : List ℕ

@@ -1,5 +1,5 @@
 -- An OCTET STRING is read exactly where the grammar has one.
-use Rattle.std.proofs.Common.{◌≡◌, ◌≢◌, ◌≤◌, ℕ, ◌⊎◌, inl, inr, Bool, true, false, List, [], ◌∷◌, length, Option, Some, Result, Ok, Err, refl, sym, ap, ◌∙◌, subst}
+use Rattle.std.proofs.Common.{◌≡◌, ◌≢◌, ◌≤◌, ℕ, ◌⊎◌, inl, inr, List, length, Result, Ok, Err, refl, sym, ap, ◌∙◌, subst}
 use Rattle.std.specs.Cow.{cow_slice_items}
 use Rattle.std.specs.declared.alloc.Global.{Global}
 use Rattle.std.specs.declared.borrow.CowSlice.{CowSlice}
@@ -7,25 +7,18 @@ use Rattle.rasn_types.specs.declared.types.tag.Tag.{Tag}
 use Rattle.rasn_types.specs.declared.types.rules.Codec.{Codec}
 use Rattle.rasn_types.specs.declared.types.constraints.Constraints.{Constraints}
 use Rattle.rasn_types.specs.declared.error.decode.DecodeError.{DecodeError}
-use Rattle.rasn_types.specs.declared.error.decode.DecodeErrorKind.{DecodeErrorKind}
-use Rattle.rasn_types.specs.declared.error.decode.DecodeErrorKind.TheVariants.{OutOfMemory}
 use Rattle.rasn_types.specs.Framing.{AreOctets}
-use Rattle.rasn_types.specs.Errors.{IsMemory}
-use Rattle.rasn_types.specs.Tags.{in_universal}
 use Rattle.rasn_types.specs.Shapes.{Tree, numbers, leaf, octet_string, Admits, constraint_of}
-use Rattle.rasn_types.specs.Readers.{Reading}
-use Rattle.rasn_types.specs.Contents.{Str, OctetSegment}
 use Rattle.rasn_types.specs.Grammar.{Reads, ReadsLeaf, IsBounded}
 use Rattle.rasn_de.specs.declared.ber.de.parser.Fault.{Fault}
 use Rattle.rasn_de.specs.declared.ber.de.parser.Fault.TheVariants.{SizeConstraintNotSatisfied}
 use Rattle.rasn_de.specs.declared.ber.de.parser.Fault.TheVariants as fault_is
 use Rattle.rasn_de.specs.Causes.{Cause, fault, kind_of}
-use Rattle.rasn_de.specs.Leaves.{Refuses, Gave}
-use Rattle.rasn_de.specs.Octets.{octets_at, OctetsAt, GaveOctets, Gathers, IsConstructed, cow_tree}
-use Rattle.rasn_de.specs.State.{State, at, IsEnd}
+use Rattle.rasn_de.specs.Octets.{OctetsAt, GaveOctets, Gathers, cow_tree}
+use Rattle.rasn_de.specs.State.{State, IsEnd}
 use Rattle.rasn_de.specs.Taking.{ErrorOf}
-use Rattle.rasn_de.specs.Outcomes.{Exact, Starved, Outcome, refusal}
-use Rattle.rasn_de.specs.Decodes.{Decodes, Answers}
+use Rattle.rasn_de.specs.Outcomes.{Exact, refusal}
+use Rattle.rasn_de.specs.Decodes.{Decodes}
 use Rattle.rasn_de.proofs.Answering.{Agrees, gave_answers}
 use Rattle.rasn_de.proofs.Ends.{IsEnd-refl}
 use Rattle.rasn_de.proofs.Peeks.{kind_memory}

@@ -10,7 +10,7 @@
 --
 --     pub returns : goal.returns
 --     returns c = parts_got _ _ c.in_ok-first.ensures (parts_got _ _ c.in_ok-second.ensures no_parts)
-use Rattle.std.proofs.Common.{◌≡◌, ℕ, Bool, List, [], ◌∷◌, ◌++◌, Result, Ok, Err, refl, sym, ap, ◌∙◌, subst}
+use Rattle.std.proofs.Common.{◌≡◌, ℕ, Bool, List, [], ◌∷◌, Result, Err, refl, sym, ap, ◌∙◌, subst}
 use Rattle.std.specs.Prelude.{IsErrAnd}
 use Rattle.std.proofs.lemmas.Result.{err_from_is_err_and}
 use Rattle.rasn_types.specs.declared.types.rules.Codec.{Codec}
@@ -20,9 +20,9 @@ use Rattle.rasn_types.specs.Shapes.{Shape, Tree, items, done, joined, Parts, par
 use Rattle.rasn_types.specs.Shapes.Parts.{none}
 use Rattle.rasn_types.specs.Readers.{Reading, ReadsPart, InOrder}
 use Rattle.rasn_types.specs.Grammar.{Reads, parts_of}
-use Rattle.rasn_de.specs.State.{State, at, IsEnd}
+use Rattle.rasn_de.specs.State.{State, at}
 use Rattle.rasn_de.specs.Outcomes.{Exact, Outcome, Got, refusal, outcome}
-use Rattle.rasn_de.specs.Decodes.{Answers, ReadsParts, DecodesParts}
+use Rattle.rasn_de.specs.Decodes.{Answers, ReadsParts}
 use Rattle.rasn_de.proofs.Answering.{Exact-refusal}
 use Rattle.rasn_de.proofs.Ends.{IsEnd-refl, IsEnd-trans}
 use Rattle.rasn_de.specs.Inside.{Keeps}

@@ -1,17 +1,15 @@
 -- Refusals of contents that were taken.
 use Rattle.std.proofs.Common.{◌≡◌, ℕ, List, Some, Result, Ok, Err, refl, sym, ap, ◌∙◌, subst}
 use Rattle.rasn_types.specs.declared.types.tag.Tag.{Tag}
-use Rattle.rasn_types.specs.declared.types.rules.Codec.{Codec}
 use Rattle.rasn_types.specs.declared.error.decode.DecodeError.{DecodeError}
 use Rattle.rasn_types.specs.Framing.{indefinite}
 use Rattle.rasn_de.specs.declared.ber.de.parser.Fault.{Fault}
 use Rattle.rasn_de.specs.declared.ber.de.parser.Fault.TheVariants.{IndefiniteLengthNotAllowed}
 use Rattle.rasn_de.specs.declared.ber.de.parser.Value.{Value}
-use Rattle.rasn_de.specs.declared.ber.de.parser.Contents.{Contents}
 use Rattle.rasn_de.specs.declared.ber.de.parser.Contents.TheVariants.{Indefinite}
 use Rattle.rasn_de.specs.Headers.{header_at}
 use Rattle.rasn_de.specs.Views.{extent, framed}
-use Rattle.rasn_de.specs.Causes.{Cause, fault, Tells}
+use Rattle.rasn_de.specs.Causes.{Cause, fault}
 use Rattle.rasn_de.specs.Leaves.{definite_at, Readings, FromContents, LeafAt, Refuses, Gave}
 use Rattle.rasn_de.specs.State.{State, at}
 use Rattle.rasn_de.specs.Taking.{ErrorOf, Takes}

@@ -1,16 +1,15 @@
 -- Segments one behind the other.
-use Rattle.std.proofs.Common.{◌≡◌, ◌≢◌, ℕ, zero, suc, ◌+◌, ◌-◌, ◌<◌, ◌≤◌, ◌⊎◌, inl, inr, Bool, true, false, ◌&&◌, cond, List, [], ◌∷◌, ◌++◌, length, Option, Some, None, Result, Ok, Err, refl, sym, ap, ap₂, ◌∙◌, subst, arith, append_assoc, append-nil}
-use Rattle.std.specs.Prelude.{nat_lt, nat_le, nat_eq}
+use Rattle.std.proofs.Common.{◌≡◌, ◌≢◌, ℕ, zero, suc, ◌-◌, ◌<◌, ◌≤◌, ◌⊎◌, inl, inr, Bool, true, false, ◌&&◌, cond, List, [], ◌∷◌, ◌++◌, length, Some, Result, Ok, Err, refl, sym, ap, ◌∙◌, arith, append_assoc, append-nil}
+use Rattle.std.specs.Prelude.{nat_eq}
 use Rattle.rasn_types.specs.declared.types.tag.Tag.{Tag}
 use Rattle.rasn_types.specs.declared.types.rules.Codec.{Codec}
-use Rattle.rasn_types.specs.declared.types.rules.Codec.TheVariants.{Ber, Cer, Der}
 use Rattle.rasn_de.specs.declared.ber.de.parser.Fault.{Fault}
 use Rattle.rasn_de.specs.declared.ber.de.parser.Fault.TheVariants.{ConstructedEncodingNotAllowed}
 use Rattle.rasn_types.specs.Framing.{Extent, definite, indefinite}
 use Rattle.rasn_de.specs.Headers.{◌>>=◌, Header, header_at, is_der}
 use Rattle.rasn_de.specs.Strings.{ends, segments_at, closed_at, inner, used_up, finished, string_in, too_deep, segments_in, string_of, segment_at}
 use Rattle.rasn_de.proofs.Tools.{bind_ok, chosen, guarded}
-use Rattle.rasn_de.proofs.Shorter.{Shortens, header_shorter}
+use Rattle.rasn_de.proofs.Shorter.{header_shorter}
 
 -- each reading leaves less than there was
 abbrev pub AllShorten : {X : Type 0} → (List ℕ → Result (List X × List ℕ) Fault) → Type 0

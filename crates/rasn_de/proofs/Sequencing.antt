@@ -1,21 +1,21 @@
 -- A SEQUENCE is read where what stands in it is.
-use Rattle.std.proofs.Common.{◌≡◌, ◌≢◌, ℕ, ◌-◌, ◌<◌, ◌⊎◌, inl, inr, Bool, true, false, ◌&&◌, not, List, [], ◌∷◌, Option, Some, None, Result, Ok, Err, refl, sym, ap, ◌∙◌, subst, arith}
+use Rattle.std.proofs.Common.{◌≡◌, ◌≢◌, ℕ, ◌-◌, ◌<◌, inl, inr, Bool, true, false, ◌&&◌, not, List, [], Option, Some, Result, Ok, Err, refl, ap, subst, arith}
 use Rattle.std.specs.declared.alloc.AllocError.{AllocError}
 use Rattle.rasn_types.specs.declared.types.tag.Tag.{Tag}
 use Rattle.rasn_types.specs.declared.types.rules.Codec.{Codec}
 use Rattle.rasn_types.specs.declared.error.decode.DecodeError.{DecodeError}
 use Rattle.rasn_types.specs.Framing.{AreOctets, Extent, definite, indefinite}
 use Rattle.rasn_types.specs.Shapes.{Tree, seq, Parts}
-use Rattle.rasn_types.specs.Readers.{Reading, Inside, ReadsSeq}
-use Rattle.rasn_types.specs.Grammar.{Reads, parts_of}
+use Rattle.rasn_types.specs.Readers.{Reading, Inside}
+use Rattle.rasn_types.specs.Grammar.{Reads}
 use Rattle.rasn_types.specs.Described.{describes}
 use Rattle.rasn_de.specs.declared.ber.de.parser.Fault.{Fault}
 use Rattle.rasn_de.specs.Headers.{Header, header_at}
 use Rattle.rasn_de.specs.Strings.{inner, finished, closed_at}
 use Rattle.rasn_de.specs.State.{State}
-use Rattle.rasn_de.specs.Outcomes.{Exact, Got, refusal, outcome}
-use Rattle.rasn_de.specs.Decodes.{Answers, Decodes, DecodesParts}
-use Rattle.rasn_de.specs.Inside.{Door, door_at, is_open, inner_state, Failed, no_value, inside, not_closed, Finished, ReadInside}
+use Rattle.rasn_de.specs.Outcomes.{Exact, Got, refusal}
+use Rattle.rasn_de.specs.Decodes.{Decodes, DecodesParts}
+use Rattle.rasn_de.specs.Inside.{door_at, is_open, inner_state, Failed, no_value, inside, not_closed, Finished, ReadInside}
 use Rattle.rasn_de.specs.Sequences.{sequence_door, is_initial, Initial, Fills, MakesBare}
 use Rattle.rasn_de.proofs.Answering.{Exact-none, Exact-refusal}
 use Rattle.rasn_de.proofs.Insides.{IsInside, inside_header, header_inside, inside_of, door_found, door_spelled}

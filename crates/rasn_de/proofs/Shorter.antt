@@ -1,5 +1,5 @@
 -- What is read leaves less.
-use Rattle.std.proofs.Common.{◌≡◌, ◌≢◌, ℕ, zero, suc, ◌+◌, ◌-◌, ◌*◌, ◌%◌, ◌<◌, ◌≤◌, ◌⊎◌, inl, inr, Bool, true, false, ◌&&◌, cond, List, [], ◌∷◌, ◌++◌, length, take, drop, Option, Some, None, Result, Ok, Err, refl, sym, ap, ◌∙◌, subst, arith, length-drop}
+use Rattle.std.proofs.Common.{◌≡◌, ℕ, ◌+◌, ◌-◌, ◌*◌, ◌%◌, ◌<◌, ◌≤◌, Bool, true, false, ◌&&◌, cond, List, [], ◌∷◌, length, drop, Option, Some, None, Result, Ok, Err, refl, ap, subst, arith, length-drop}
 use Rattle.std.specs.Prelude.{nat_lt, nat_le, nat_eq}
 use Rattle.rasn_types.specs.declared.types.tag.Tag.{Tag}
 use Rattle.rasn_types.specs.declared.types.rules.Codec.{Codec}
@@ -7,7 +7,7 @@ use Rattle.rasn_de.specs.declared.ber.de.parser.Fault.{Fault}
 use Rattle.rasn_de.specs.declared.ber.de.parser.Fault.TheVariants.{UnsupportedTagNumber, IndefiniteLengthNotAllowed, ReservedLengthOctet}
 use Rattle.rasn_types.specs.Tags.{is_eoc}
 use Rattle.rasn_de.specs.Headers.{◌>>=◌, number128_at, number256_at, tag_number_at, tag_of, Identified, named, identifier_at, octets_at, long_at, length_at, Header, contents_at, has_indefinite, expected_at, header_at}
-use Rattle.rasn_de.proofs.Tools.{bind_ok, chosen, guarded}
+use Rattle.rasn_de.proofs.Tools.{bind_ok, guarded}
 
 -- a reading leaves no more than there was
 abbrev pub Shortens : {X : Type 0} → List ℕ → Result (X × List ℕ) Fault → Type 0

@@ -1,5 +1,5 @@
 -- Readings that take no memory.
-use Rattle.std.proofs.Common.{◌≡◌, ◌≢◌, ℕ, ℤ, ◌⊎◌, inl, inr, Bool, true, false, cond, List, [], ◌∷◌, length, Option, Some, Result, Ok, Err, refl, sym, ap, ◌∙◌, subst}
+use Rattle.std.proofs.Common.{◌≡◌, ◌≢◌, ℕ, ℤ, ◌⊎◌, inl, inr, Bool, true, false, List, [], ◌∷◌, Some, Result, Ok, Err, sym, ◌∙◌, subst}
 use Rattle.std.specs.Prelude.{nat_eq}
 use Rattle.rasn_types.specs.declared.types.tag.Tag.{Tag}
 use Rattle.rasn_types.specs.declared.types.rules.Codec.{Codec}
@@ -10,8 +10,8 @@ use Rattle.rasn_types.specs.Errors.{IsMemory}
 use Rattle.rasn_de.specs.declared.ber.de.parser.Fault.{Fault}
 use Rattle.rasn_de.specs.declared.ber.de.parser.Fault.TheVariants.{OutOfMemory, InvalidBool}
 use Rattle.rasn_de.specs.Headers.{Header, header_at}
-use Rattle.rasn_de.specs.Causes.{Cause, fault, out_of_bound, Tells, kind_of}
-use Rattle.rasn_de.specs.Leaves.{on_header, definite_in, definite_at, FromContents, LeafAt, as_cause, is_ber, bool_in, BoolAt, Refuses, IntegerIn, IntegerAt, GaveInteger, IsBeyond}
+use Rattle.rasn_de.specs.Causes.{Cause, fault, out_of_bound, Tells}
+use Rattle.rasn_de.specs.Leaves.{on_header, definite_in, definite_at, FromContents, LeafAt, as_cause, is_ber, bool_in, Refuses, IntegerIn, IntegerAt, GaveInteger, IsBeyond}
 use Rattle.rasn_types.specs.declared.types.constraints.Constraints.{Constraints}
 use Rattle.rasn_types.specs.Shapes.{Interval}
 use Rattle.rasn_de.specs.State.{State}

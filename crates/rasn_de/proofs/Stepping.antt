@@ -1,17 +1,15 @@
 -- The steps of a call that reads inside a value.
-use Rattle.std.proofs.Common.{◌≡◌, ◌≢◌, ℕ, Bool, List, Result, Ok, Err, refl, sym, ap, ◌∙◌, subst}
-use Rattle.rasn_types.specs.declared.types.rules.Codec.{Codec}
+use Rattle.std.proofs.Common.{◌≡◌, ℕ, List, Result, Ok, Err, sym, ap, ◌∙◌, subst}
 use Rattle.rasn_types.specs.declared.error.decode.DecodeError.{DecodeError}
 use Rattle.rasn_types.specs.Framing.{Extent, definite, indefinite}
 use Rattle.rasn_de.specs.declared.ber.de.parser.Fault.{Fault}
 use Rattle.rasn_de.specs.declared.ber.de.parser.Contents.{Contents}
-use Rattle.rasn_de.specs.Headers.{Header}
 use Rattle.rasn_de.specs.Strings.{inner, finished}
 use Rattle.rasn_de.specs.Views.{extent}
 use Rattle.rasn_de.specs.Causes.{kind_of}
 use Rattle.rasn_de.specs.State.{State, at, IsEnd}
 use Rattle.rasn_de.specs.Taking.{ErrorOf}
-use Rattle.rasn_de.specs.Inside.{Door, door_at, inner_state, unclosed, Keeps, Opens, Closes, Failed, no_value, inside, not_closed, Finished, ReadInside}
+use Rattle.rasn_de.specs.Inside.{Door, inner_state, unclosed, Keeps, Opens, Closes, no_value, inside, not_closed, ReadInside}
 use Rattle.rasn_de.proofs.Ends.{IsEnd-trans}
 
 pub kept_after : (old mid new : State) → Keeps old mid → Keeps mid new → Keeps old new

@@ -1,12 +1,11 @@
 -- What follows a string ends the input.
-use Rattle.std.proofs.Common.{◌≡◌, ℕ, zero, suc, ◌⊎◌, inl, inr, Bool, true, false, List, [], ◌∷◌, Option, Some, Result, Ok, Err, refl, sym, ap, ◌∙◌, subst}
+use Rattle.std.proofs.Common.{◌≡◌, ℕ, zero, suc, inl, inr, Bool, true, List, [], ◌∷◌, Ok, refl, sym, ap, subst}
 use Rattle.rasn_types.specs.declared.types.tag.Tag.{Tag}
 use Rattle.rasn_types.specs.declared.types.rules.Codec.{Codec}
 use Rattle.rasn_types.specs.Tags.{in_universal}
 use Rattle.rasn_types.specs.Framing.{AreOctets}
-use Rattle.rasn_types.specs.Readers.{Reading, Many, Inside, in_definite, in_indefinite}
+use Rattle.rasn_types.specs.Readers.{Reading, Many, in_definite, in_indefinite}
 use Rattle.rasn_types.specs.Contents.{Str, OctetSegment}
-use Rattle.rasn_de.specs.declared.ber.de.parser.Fault.{Fault}
 use Rattle.rasn_de.specs.Strings.{octets}
 use Rattle.rasn_de.specs.Octets.{octets_at}
 use Rattle.rasn_de.specs.State.{IsEnd}

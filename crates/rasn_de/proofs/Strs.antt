@@ -1,5 +1,5 @@
 -- A string is read exactly where one stands.
-use Rattle.std.proofs.Common.{◌≡◌, ◌≢◌, ℕ, zero, suc, ◌+◌, ◌<◌, ◌≤◌, ◌⊎◌, inl, inr, Bool, true, false, ◌&&◌, cond, List, [], ◌∷◌, ◌++◌, length, Option, Some, None, Result, Ok, Err, refl, sym, ap, ap₂, ◌∙◌, subst, arith, append_assoc}
+use Rattle.std.proofs.Common.{◌≡◌, ℕ, zero, suc, ◌≤◌, ◌⊎◌, inl, inr, Bool, true, false, ◌&&◌, cond, List, [], ◌∷◌, ◌++◌, length, Some, Result, Ok, Err, refl, sym, ap, ◌∙◌, subst, arith}
 use Rattle.std.specs.Prelude.{nat_eq}
 use Rattle.std.proofs.lemmas.Bool.Decides.{nat_tests}
 use Rattle.rasn_types.specs.declared.types.tag.Tag.{Tag}
@@ -9,14 +9,14 @@ use Rattle.rasn_de.specs.declared.ber.de.parser.Fault.{Fault}
 use Rattle.rasn_de.specs.declared.ber.de.parser.Fault.TheVariants.{Incomplete, MissingEndOfContents}
 use Rattle.rasn_types.specs.Framing.{Extent, definite, indefinite, Frame, with_length, without_length, HasSegments, Ended}
 use Rattle.rasn_types.specs.Tags.{Form, form}
-use Rattle.rasn_types.specs.Readers.{Reading, Many, Inside, in_definite, in_indefinite}
+use Rattle.rasn_types.specs.Readers.{Reading, Many, in_definite, in_indefinite}
 use Rattle.rasn_types.specs.Contents.{joined_lists, Str}
-use Rattle.rasn_de.specs.Headers.{◌>>=◌, Header, header_at, is_der}
-use Rattle.rasn_de.specs.Strings.{ends, segments_at, closed_at, inner, used_up, finished, string_in, too_deep, segments_in, string_of, segment_at, string_at}
+use Rattle.rasn_de.specs.Headers.{◌>>=◌, header_at, is_der}
+use Rattle.rasn_de.specs.Strings.{ends, segments_at, closed_at, inner, used_up, string_in, too_deep, segments_in, string_of, segment_at, string_at}
 use Rattle.rasn_de.proofs.Tools.{bind_ok, chosen, guarded, AreOctets, octets_back, octets_front}
 use Rattle.rasn_de.proofs.Frames.{header_found, header_spelled}
 use Rattle.rasn_de.proofs.Fronts.{frame_not_zero, frame_shorter}
-use Rattle.rasn_de.proofs.Segments.{AllShorten, segment_shorter, with_front, string_nested, string_plain, segment_found}
+use Rattle.rasn_de.proofs.Segments.{AllShorten, segment_shorter, with_front, string_plain}
 
 ended_ends : (closing : Bool) (l : List ℕ) → Ended closing l → ends l ≡ true
 ended_ends closing l (inl e) = rw e refl

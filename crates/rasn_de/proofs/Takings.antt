@@ -1,12 +1,11 @@
 -- What the private steps of a decoder take.
-use Rattle.std.proofs.Common.{◌≡◌, ℕ, List, Some, Result, Ok, refl, sym, subst}
+use Rattle.std.proofs.Common.{◌≡◌, ℕ, List, Some, Ok, refl, sym, subst}
 use Rattle.rasn_types.specs.declared.types.tag.Tag.{Tag}
-use Rattle.rasn_types.specs.declared.error.decode.DecodeError.{DecodeError}
 use Rattle.rasn_types.specs.Framing.{AreOctets}
 use Rattle.rasn_de.specs.declared.ber.de.parser.Value.{Value}
 use Rattle.rasn_de.specs.Headers.{header_at}
 use Rattle.rasn_de.specs.Views.{framed}
-use Rattle.rasn_de.specs.State.{State, at, IsEnd}
+use Rattle.rasn_de.specs.State.{State, at}
 use Rattle.rasn_de.specs.Taking.{Takes}
 use Rattle.std.specs.Cow.{cow_slice_items}
 use Rattle.std.specs.declared.alloc.Global.{Global}

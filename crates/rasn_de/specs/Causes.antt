@@ -1,14 +1,12 @@
 -- What errors say.
-use Rattle.std.specs.Prelude.{◌≡◌, ℕ, ℤ, List, Option, Some}
+use Rattle.std.specs.Prelude.{◌≡◌, ℤ, Some}
 use Rattle.rasn_types.specs.Errors.{needed_of}
 use Rattle.rasn_types.specs.declared.types.constraints.Bounded.{Bounded}
 use Rattle.rasn_types.specs.declared.error.decode.DecodeErrorKind.{DecodeErrorKind}
 use Rattle.rasn_types.specs.declared.error.decode.DecodeErrorKind.TheVariants as kind
-use Rattle.rasn_types.specs.declared.error.decode.CodecDecodeError.{CodecDecodeError}
 use Rattle.rasn_types.specs.declared.error.decode.CodecDecodeError.TheVariants as codec
 use Rattle.rasn_types.specs.declared.error.decode.BerDecodeErrorKind.{BerDecodeErrorKind}
 use Rattle.rasn_types.specs.declared.error.decode.BerDecodeErrorKind.TheVariants as ber
-use Rattle.rasn_types.specs.declared.error.decode.DerDecodeErrorKind.{DerDecodeErrorKind}
 use Rattle.rasn_types.specs.declared.error.decode.DerDecodeErrorKind.TheVariants as der
 use Rattle.rasn_de.specs.declared.ber.de.parser.Fault.{Fault}
 use Rattle.rasn_de.specs.declared.ber.de.parser.Fault.TheVariants.{Incomplete, UnexpectedExtraData, UnexpectedEmptyInput, ExceedsMaxParseDepth, OutOfMemory, LengthExceedsPlatformWidth, InvalidBool, MismatchedLength, IntegerOverflow, SizeConstraintNotSatisfied, UnsupportedTagNumber, UnexpectedEndOfContents, MissingEndOfContents, IndefiniteLengthNotAllowed, ReservedLengthOctet, MismatchedTag, InvalidConstructedIdentifier, ConstructedEncodingNotAllowed, DiscriminantValueNotFound, UnsupportedObjectIdentifierArc, InvalidBitString, PermittedAlphabetError, StringConversionFailed}

@@ -14,7 +14,7 @@ use Rattle.rasn_types.specs.Shapes.{Tree, numbers, Admits, constraint_of}
 use Rattle.rasn_de.specs.declared.ber.de.parser.Fault.{Fault}
 use Rattle.rasn_de.specs.declared.ber.de.parser.Fault.TheVariants.{OutOfMemory, SizeConstraintNotSatisfied}
 use Rattle.rasn_de.specs.Strings.{string_at, octets}
-use Rattle.rasn_de.specs.State.{State, at, IsEnd}
+use Rattle.rasn_de.specs.State.{State, at}
 use Rattle.rasn_types.specs.declared.types.constraints.Constraints.{Constraints}
 use Rattle.rasn_types.specs.Errors.{IsMemory}
 use Rattle.rasn_de.specs.Causes.{fault}

@@ -1,5 +1,5 @@
 -- Bits in one piece, and cut in segments of 999 octets.
-use Rattle.std.proofs.Common.{◌≡◌, ℕ, zero, suc, ◌+◌, ◌-◌, ◌*◌, ◌%◌, ◌<◌, ◌≤◌, ◌⊎◌, inl, inr, Bool, false, List, [], ◌∷◌, ◌++◌, length, take, drop, Result, OnOk, IfErr, refl, sym, ap, ap₂, ◌∙◌, subst, arith}
+use Rattle.std.proofs.Common.{◌≡◌, ℕ, zero, suc, ◌+◌, ◌*◌, ◌%◌, ◌<◌, ◌≤◌, ◌⊎◌, inl, inr, Bool, false, List, [], ◌∷◌, ◌++◌, length, take, drop, Result, OnOk, IfErr, refl, sym, ap, ap₂, ◌∙◌, subst, arith}
 use Rattle.std.proofs.lemmas.List.{append_assoc, append-nil, take-append-drop, drop-drop, length-append, length-drop, length-replicate, length-take-le}
 use Rattle.std.proofs.lemmas.Result.{on_ok_weaker, IfErr-weaker}
 use Rattle.rasn_types.specs.Tags.{in_universal, tag_bit}
@@ -12,7 +12,7 @@ use Rattle.rasn_types.specs.declared.types.tag.Tag.{Tag}
 use Rattle.rasn_types.specs.declared.types.constraints.Constraints.{Constraints}
 use Rattle.rasn_types.specs.declared.error.encode.EncodeError.{EncodeError}
 use Rattle.rasn_types.proofs.Bits.{length-bits_in}
-use Rattle.rasn_enc.specs.View.{View, LeavesOthers, opened, appended}
+use Rattle.rasn_enc.specs.View.{View, LeavesOthers, opened}
 use Rattle.rasn_enc.specs.Primitives.{Appends}
 use Rattle.rasn_enc.specs.Wrote.{Wrote, MayRefuse}
 use Rattle.rasn_enc.specs.Refusals.{RefusesSize, MeetsSize}

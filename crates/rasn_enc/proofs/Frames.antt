@@ -1,9 +1,9 @@
 -- What is put behind a list, piece by piece, is a whole value.
-use Rattle.std.proofs.Common.{◌≡◌, ℕ, ◌<◌, Bool, true, List, [], ◌∷◌, ◌++◌, length, Option, option_map, refl, sym, ap, ap₂, ◌∙◌}
+use Rattle.std.proofs.Common.{◌≡◌, ℕ, ◌<◌, Bool, true, List, [], ◌∷◌, ◌++◌, length, Option, option_map, ap, ap₂, ◌∙◌}
 use Rattle.std.proofs.lemmas.List.{append_assoc}
 use Rattle.rasn_types.specs.declared.types.tag.Tag.{Tag}
 use Rattle.rasn_enc.specs.Headers.{id_octets, length_octets, definite, closed}
-use Rattle.rasn_enc.specs.View.{Frame, View, added, appended}
+use Rattle.rasn_enc.specs.View.{Frame, View, added}
 use Rattle.rasn_enc.specs.Primitives.{Adds, Appends}
 use Rattle.rasn_types.specs.Bytes.{Definite, Closed}
 use Rattle.rasn_enc.proofs.Spellings.{definite_is, closed_is}

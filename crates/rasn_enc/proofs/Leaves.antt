@@ -1,25 +1,21 @@
 -- A leaf's contents in a header are its octets.
-use Rattle.std.proofs.Common.{◌≡◌, ◌≢◌, subst, ℕ, ◌<◌, ◌≤◌, ◌≤ℤ◌, ◌⊎◌, inl, inr, Bool, true, false, cond, List, [], ◌∷◌, ◌++◌, length, refl, sym, ap, ◌∙◌, Result, OnOk, IfErr, pos, ℤ, arith}
+use Rattle.std.proofs.Common.{◌≡◌, ◌≢◌, subst, ℕ, ◌≤ℤ◌, ◌⊎◌, inl, inr, Bool, true, false, cond, List, [], ◌∷◌, ◌++◌, length, refl, sym, ap, Result, OnOk, IfErr, pos, ℤ, arith}
 use Rattle.std.proofs.lemmas.Result.{on_ok_weaker, IfErr-weaker}
-use Rattle.std.proofs.lemmas.List.{append_assoc}
-use Rattle.rasn_types.specs.Tags.{in_universal, tag_bit}
-use Rattle.rasn_types.specs.Framing.{AreOctets, AnyIdSpells, Begins}
-use Rattle.rasn_types.specs.Shapes.{Shape, Tree, number, numbers, leaf, boolean, octet_string, integer, Interval, IsIn, Admits, constraint_of}
-use Rattle.rasn_types.specs.Contents.{joined_lists, signed, IsShortestInteger}
+use Rattle.rasn_types.specs.Tags.{tag_bit}
+use Rattle.rasn_types.specs.Framing.{AnyIdSpells, Begins}
+use Rattle.rasn_types.specs.Shapes.{Shape, Tree, number, numbers, leaf, boolean, octet_string, integer, Interval, IsIn, Admits}
+use Rattle.rasn_types.specs.Contents.{signed, IsShortestInteger}
 use Rattle.rasn_types.specs.Trees.{bool_tree, IsShortestOf}
-use Rattle.rasn_types.specs.Grammar.{family, IsBounded}
-use Rattle.rasn_types.specs.Bytes.{Definite, Closed, Prim, Cons, TagsOf, Written, WritesIn, WritesOctets, IsCer, AreCut, Each, Bytes}
-use Rattle.rasn_types.specs.Errors.{IsEncodeMemory}
+use Rattle.rasn_types.specs.Bytes.{Definite, Prim, Cons, TagsOf, Written, Bytes}
 use Rattle.rasn_types.specs.declared.types.rules.Codec.{Codec}
 use Rattle.rasn_types.specs.declared.types.rules.Codec.TheVariants.{Ber, Cer, Der}
 use Rattle.rasn_types.specs.declared.types.tag.Tag.{Tag}
 use Rattle.rasn_types.specs.declared.types.constraints.Constraints.{Constraints}
 use Rattle.rasn_types.specs.declared.error.encode.EncodeError.{EncodeError}
-use Rattle.rasn_enc.specs.View.{View, appended}
+use Rattle.rasn_enc.specs.View.{View}
 use Rattle.rasn_enc.specs.Primitives.{Appends, WantsMemory}
-use Rattle.rasn_enc.specs.Wrote.{Wrote, Undefined, MayRefuse}
+use Rattle.rasn_enc.specs.Wrote.{Wrote, MayRefuse}
 use Rattle.rasn_enc.specs.Refusals.{RefusesSize, MeetsSize, RefusesValue}
-use Rattle.rasn_enc.specs.Segments.{Segment, PutsSegments}
 
 -- What begins with an identifier has one outermost tag.
 pub one_head : (octets : List ℕ) (tag : Tag) → Begins octets tag → TagsOf (octets ∷ []) (tag ∷ [])
@@ -83,23 +79,6 @@ integer_refused result range tag c n v h = IfErr-weaker result _ _ (λ e. elim [
   | inl r ↦ record { why = inr (inl (record { none = λ octets b. r.unmet b.0 })) }
   | inr m ↦ record { why = inl (ap (λ (x : EncodeError). x.kind) m) }
 ]) h
-
--- Octets in one piece.
-pub octets_wrote : {R E : Type 0} (result : Result R E) (tag : Tag) (c : Constraints) (xs : List ℕ) (v w : View) → Admits ◌≤◌ c.size (length xs)
-    → AreOctets xs → (IsCer v.rule → length xs ≤ 1000) → OnOk result (Appends (Prim tag xs) tag v w) → OnOk result (Wrote (leaf octet_string tag c) (numbers xs) v w)
-unfolding Bytes
-octets_wrote result tag c xs v w m o few h = on_ok_weaker result (λ a.
-    wrote_one (Prim tag xs) tag (leaf octet_string tag c) (numbers xs) v w a (λ o d. definite_begins tag (tag_bit tag) xs o d)
-    (λ b d. (m, (xs, refl, inl (few, xs, (refl, o), d))))) h
-
--- Octets in segments.
-pub segments_wrote : {R E : Type 0} (result : Result R E) (tag : Tag) (c : Constraints) (xs : List ℕ) (v w : View) → Admits ◌≤◌ c.size (length xs)
-    → IsCer v.rule → 1000 < length xs → OnOk result (PutsSegments tag xs v w) → OnOk result (Wrote (leaf octet_string tag c) (numbers xs) v w)
-unfolding Bytes
-segments_wrote result tag c xs v w m cer many h = on_ok_weaker result (λ p.
-    wrote_one (Cons v.rule tag (joined_lists p.encoded)) tag (leaf octet_string tag c) (numbers xs) v w p.appends
-    (λ o d. cons_begins v.rule tag (joined_lists p.encoded) o d)
-    (λ b d. (m, (xs, refl, inr (cer, many, p.pieces, p.encoded, p.is, p.cut, p.each, d))))) h
 
 -- A size that isn't admitted has no octets.
 pub octets_refused : {R : Type 0} (result : Result R EncodeError) (tag : Tag) (c : Constraints) (xs : List ℕ) (v : View)

@@ -25,20 +25,19 @@
 --
 --     returns-clause-ok g c = sequence_ok _ _ _ _ _ _ _ _ c.encode_sequence.ensures.ok (λ u k. search rules)
 --     returns-clause-refused g c = sequence_refused _ _ _ _ _ _ _ c.encode_sequence.ensures.refused (λ e u k. search rules)
-use Rattle.std.proofs.Common.{◌≡◌, ◌≢◌, ◌++◌, [], ◌∷◌, ℕ, refl, List, sym, ap, ap₂, Option, Some, None, Result, Ok, Err, OnOk, OnErr, IfErr, true, false, ◌⊎◌, inl, inr, ◌∙◌, subst, option_map}
+use Rattle.std.proofs.Common.{◌≡◌, ◌≢◌, ◌++◌, [], ◌∷◌, ℕ, refl, List, sym, ap, ap₂, Option, Some, None, Result, Ok, Err, OnOk, OnErr, IfErr, false, ◌⊎◌, inl, inr, ◌∙◌, subst, option_map}
 use Rattle.std.proofs.lemmas.List.{append-nil, append_assoc}
 use Rattle.std.proofs.lemmas.Result.{on_ok_weaker, IfErr-weaker, err_from_is_err_and}
 use Rattle.std.specs.Result.{IsErrAnd}
-use Rattle.std.specs.Fn.{FnOnceReturnsAtMut, Once}
-use Rattle.std.specs.Borrow.{MutBor}
+use Rattle.std.specs.Fn.{FnOnceReturnsAtMut}
 use Rattle.rasn_types.specs.Shapes.{Shape, seq, Tree, items, done, joined, Parts, part, required}
 use Rattle.rasn_types.specs.Shapes.Parts.{none}
 use Rattle.rasn_types.specs.Contents.{joined_lists}
-use Rattle.rasn_types.specs.Bytes.{Bytes, fields_of, Field, PartsWritten, NoneBare, TagsOf, IsBare, Cons}
+use Rattle.rasn_types.specs.Bytes.{Bytes, fields_of, PartsWritten, NoneBare, TagsOf, IsBare, Cons}
 use Rattle.rasn_types.specs.declared.types.rules.Codec.{Codec}
 use Rattle.rasn_types.specs.declared.types.tag.Tag.{Tag}
 use Rattle.rasn_types.specs.declared.error.encode.EncodeError.{EncodeError}
-use Rattle.rasn_enc.specs.View.{View, Frame, LeavesOthers, appended, opened}
+use Rattle.rasn_enc.specs.View.{View, LeavesOthers, appended, opened}
 use Rattle.rasn_enc.specs.Primitives.{WantsMemory}
 use Rattle.rasn_types.specs.Errors.{IsEncodeMemory}
 use Rattle.rasn_enc.specs.Wrote.{Wrote, MayRefuse, Undefined, Bare}

@@ -1,14 +1,14 @@
 -- The octets that are written before contents spell the tag and the length, in the fewest octets.
-use Rattle.std.proofs.Common.{◌≡◌, ◌≢◌, ℕ, zero, suc, ◌+◌, ◌-◌, ◌*◌, ◌^◌, ◌%◌, ◌/◌, ◌<◌, ◌≤◌, ◌⊎◌, inl, inr, Bool, true, false, cond, List, [], ◌∷◌, ◌++◌, length, refl, sym, ap, ap₂, ◌∙◌, subst, arith, mod-lt}
+use Rattle.std.proofs.Common.{◌≡◌, ℕ, zero, suc, ◌+◌, ◌-◌, ◌*◌, ◌^◌, ◌%◌, ◌/◌, ◌<◌, ◌≤◌, inl, inr, Bool, true, false, cond, List, [], ◌∷◌, length, refl, sym, ap, ap₂, ◌∙◌, subst, arith, mod-lt}
 use Rattle.std.specs.Prelude.{ltb}
-use Rattle.std.proofs.Math.Nat.{pow-succ', one-le-pow, pow-zero, mod-eq_of_lt, pos_of_ne-zero}
+use Rattle.std.proofs.Math.Nat.{pow-succ', one-le-pow, pow-zero, mod-eq_of_lt}
 use Rattle.std.proofs.Math.Arith.{mod-mul}
 use borrow.Author.Tests.{ltb-true, ltb-false}
 use Rattle.rasn_types.specs.Tags.{rank}
 use Rattle.rasn_types.specs.declared.types.tag.Tag.{Tag}
 use Rattle.rasn_types.specs.declared.types.tag.Class.{Class}
 use Rattle.rasn_types.specs.declared.types.tag.Class.TheVariants.{Universal, Application, Context, Private}
-use Rattle.rasn_types.specs.Framing.{AreOctets, IsChain, number_in, Spells128, bit_of, AnyIdSpells, LengthSpells, IsShortestId, IsShortestLength}
+use Rattle.rasn_types.specs.Framing.{AreOctets, IsChain, number_in, bit_of, AnyIdSpells, LengthSpells, IsShortestId, IsShortestLength}
 use Rattle.rasn_types.specs.Bytes.{Definite, Closed}
 use Rattle.rasn_types.specs.Contents.{IsShortest128}
 use Rattle.rasn_types.proofs.Digits.{number_lt}

@@ -55,6 +55,10 @@ with_size : {R E : Type 0} (result : Result R E) (tag : Tag) (c : Constraints) (
     → OnOk result (PutsText tag c ys size v w) → OnOk result (PutsText tag c xs n v w)
 with_size result tag c ys xs size n v w e k h = subst (λ z. OnOk result (PutsText tag c xs z v w)) k (subst (λ z. OnOk result (PutsText tag c z size v w)) e h)
 
+pub octets_wrote : {R E : Type 0} (result : Result R E) (tag : Tag) (c : Constraints) (xs : List ℕ) (v w : View)
+    → OnOk result (PutsText tag c xs (length xs) v w) → OnOk result (Wrote (leaf octet_string tag c) (numbers xs) v w)
+octets_wrote result tag c xs v w p = text_wrote result octet_string tag c xs (numbers xs) (length xs) v w refl (λ m. m) refl p
+
 pub alphabet_wrote : {R E : Type 0} (result : Result R E) (a : Alphabet) (tag : Tag) (c : Constraints) (ys xs : List ℕ) (size : ℕ) (v w : View) → ys ≡ xs → size ≡ length ys → AreAdmitted a xs
     → OnOk result (PutsText tag c ys size v w) → OnOk result (Wrote (leaf (kind_of a) tag c) (numbers xs) v w)
 alphabet_wrote result a tag c ys xs size v w e k h p = text_wrote result (kind_of a) tag c xs (numbers xs) (length xs) v w (alphabet_family a)

@@ -1,5 +1,5 @@
 -- What the view shows of a list.
-use Rattle.std.specs.Prelude.{ℕ, ◌<◌, Option, Some, None, Vec, List, option_map, vec_len, vec_capacity}
+use Rattle.std.specs.Prelude.{◌<◌, Option, Some, None, Vec, List, option_map, vec_len, vec_capacity}
 use Rattle.rasn_types.specs.declared.types.tag.Tag.{Tag}
 use Rattle.rasn_enc.specs.View.{Frame}
 use Rattle.rasn_enc.specs.declared.ber.enc.list.OpenList.{OpenList}

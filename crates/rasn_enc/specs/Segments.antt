@@ -5,7 +5,7 @@ use Rattle.rasn_types.specs.Contents.{joined_lists}
 use Rattle.rasn_types.specs.Bytes.{AreCut, Each, Prim, WritesOctets, Cons}
 use Rattle.rasn_types.specs.declared.types.tag.Tag.{Tag}
 use Rattle.rasn_enc.specs.Primitives.{Appends}
-use Rattle.rasn_enc.specs.View.{View, LeavesOthers}
+use Rattle.rasn_enc.specs.View.{View}
 
 abbrev pub Segment : List ℕ → List ℕ → Type 0
 Segment piece octets = (contents : List ℕ) × WritesOctets piece contents × Prim (in_universal 4) contents octets

@@ -1,5 +1,5 @@
 -- Octets that bits are packed in, the first bit of each highest.
-use Rattle.std.specs.Prelude.{◌≡◌, ℕ, ◌+◌, ◌-◌, ◌*◌, ◌<◌, ◌≤◌, List, ◌++◌, length, map, take, drop, replicate, Bool, false}
+use Rattle.std.specs.Prelude.{◌≡◌, ℕ, ◌-◌, ◌*◌, ◌<◌, ◌≤◌, List, ◌++◌, length, map, take, drop, replicate, Bool, false}
 use Rattle.rasn_types.specs.Framing.{AreOctets}
 use Rattle.rasn_types.specs.Contents.{bits_of, joined_lists}
 

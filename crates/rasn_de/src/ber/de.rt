@@ -3,7 +3,7 @@ ghost use Rattle.std.specs.Prelude.{◌≡◌, ◌+◌, length, IfErr, MatchResu
 ghost use Rattle.rasn_types.specs.declared.types.rules.Codec.{Codec};
 ghost use Rattle.rasn_types.specs.Framing.{AreOctets, Next};
 ghost use Rattle.rasn_types.specs.Grammar.{top};
-ghost use Rattle.rasn_de.specs.Causes.{kind_of};
+ghost use Rattle.rasn_de.specs.Causes.{in_ber, kind_of};
 ghost use Rattle.rasn_de.specs.State.{State, at, IsEnd};
 ghost use Rattle.rasn_de.specs.Taking.{Takes, Peeks};
 ghost use Rattle.rasn_types.specs.declared.types.tag.Tag.{Tag};
@@ -65,74 +65,61 @@ fn closes_at_top(rules: Codec) -> bool
     }
 }
 
+/// A kind of error that X.690 8 tells, under any rule.
+fn in_ber(inner: BerDecodeErrorKind) -> DecodeErrorKind
+    ensures { result ≡ in_ber inner }
+{
+    DecodeErrorKind::CodecSpecific {
+        inner: CodecDecodeError::Ber(inner),
+    }
+}
+
 /// The kind of error that stands for a fault.
 fn kind_of(fault: Fault) -> DecodeErrorKind
     ensures { result ≡ kind_of fault }
 {
-    let inner = match fault {
-        Fault::Incomplete { needed } => return DecodeErrorKind::Incomplete {
+    use BerDecodeErrorKind as Ber;
+    use DecodeErrorKind as Kind;
+    match fault {
+        Fault::Incomplete { needed } => Kind::Incomplete {
             needed: Needed::new(needed),
         },
-        Fault::UnexpectedExtraData { length } => return DecodeErrorKind::UnexpectedExtraData {
-            length,
+        Fault::UnexpectedExtraData { length } => Kind::UnexpectedExtraData { length },
+        Fault::UnexpectedEmptyInput => Kind::UnexpectedEmptyInput,
+        Fault::ExceedsMaxParseDepth => Kind::ExceedsMaxParseDepth,
+        Fault::OutOfMemory => Kind::OutOfMemory,
+        Fault::LengthExceedsPlatformWidth => Kind::LengthExceedsPlatformWidth,
+        Fault::InvalidBool { value } => Kind::InvalidBool { value },
+        Fault::MismatchedLength { expected, actual } => Kind::MismatchedLength { expected, actual },
+        Fault::IntegerOverflow { max_width } => Kind::IntegerOverflow { max_width },
+        Fault::InvalidBitString { bits } => Kind::InvalidBitString { bits },
+        Fault::SizeConstraintNotSatisfied { size, expected } => Kind::SizeConstraintNotSatisfied {
+            size: Some(size),
+            expected,
         },
-        Fault::UnexpectedEmptyInput => return DecodeErrorKind::UnexpectedEmptyInput,
-        Fault::ExceedsMaxParseDepth => return DecodeErrorKind::ExceedsMaxParseDepth,
-        Fault::OutOfMemory => return DecodeErrorKind::OutOfMemory,
-        Fault::LengthExceedsPlatformWidth => return DecodeErrorKind::LengthExceedsPlatformWidth,
-        Fault::InvalidBool { value } => return DecodeErrorKind::InvalidBool { value },
-        Fault::MismatchedLength { expected, actual } => return DecodeErrorKind::MismatchedLength {
+        Fault::DiscriminantValueNotFound { discriminant } => Kind::DiscriminantValueNotFound {
+            discriminant,
+        },
+        Fault::PermittedAlphabetError { octet, position } => Kind::PermittedAlphabetError {
+            octet,
+            position,
+        },
+        Fault::StringConversionFailed { tag } => Kind::StringConversionFailed { tag },
+        Fault::ConstructedEncodingNotAllowed => Kind::CodecSpecific {
+            inner: CodecDecodeError::Der(DerDecodeErrorKind::ConstructedEncodingNotAllowed),
+        },
+        Fault::UnsupportedObjectIdentifierArc => in_ber(Ber::UnsupportedObjectIdentifierArc),
+        Fault::UnsupportedTagNumber => in_ber(Ber::UnsupportedTagNumber),
+        Fault::UnexpectedEndOfContents => in_ber(Ber::UnexpectedEndOfContents),
+        Fault::MissingEndOfContents => in_ber(Ber::MissingEndOfContents),
+        Fault::IndefiniteLengthNotAllowed => in_ber(Ber::IndefiniteLengthNotAllowed),
+        Fault::ReservedLengthOctet => in_ber(Ber::ReservedLengthOctet),
+        Fault::MismatchedTag { expected, actual } => in_ber(Ber::MismatchedTag {
             expected,
             actual,
-        },
-        Fault::IntegerOverflow { max_width } => return DecodeErrorKind::IntegerOverflow {
-            max_width,
-        },
-        Fault::InvalidBitString { bits } => return DecodeErrorKind::InvalidBitString { bits },
-        Fault::SizeConstraintNotSatisfied { size, expected } => {
-            return DecodeErrorKind::SizeConstraintNotSatisfied {
-                size: Some(size),
-                expected,
-            };
-        }
-        Fault::DiscriminantValueNotFound { discriminant } => {
-            return DecodeErrorKind::DiscriminantValueNotFound { discriminant };
-        }
-        Fault::UnsupportedObjectIdentifierArc => CodecDecodeError::Ber(
-            BerDecodeErrorKind::UnsupportedObjectIdentifierArc,
-        ),
-        Fault::PermittedAlphabetError { octet, position } => {
-            return DecodeErrorKind::PermittedAlphabetError { octet, position };
-        }
-        Fault::StringConversionFailed { tag } => return DecodeErrorKind::StringConversionFailed {
-            tag,
-        },
-        Fault::ConstructedEncodingNotAllowed => {
-            CodecDecodeError::Der(DerDecodeErrorKind::ConstructedEncodingNotAllowed)
-        }
-        Fault::UnsupportedTagNumber => CodecDecodeError::Ber(
-            BerDecodeErrorKind::UnsupportedTagNumber,
-        ),
-        Fault::UnexpectedEndOfContents => CodecDecodeError::Ber(
-            BerDecodeErrorKind::UnexpectedEndOfContents,
-        ),
-        Fault::MissingEndOfContents => CodecDecodeError::Ber(
-            BerDecodeErrorKind::MissingEndOfContents,
-        ),
-        Fault::IndefiniteLengthNotAllowed => CodecDecodeError::Ber(
-            BerDecodeErrorKind::IndefiniteLengthNotAllowed,
-        ),
-        Fault::ReservedLengthOctet => CodecDecodeError::Ber(
-            BerDecodeErrorKind::ReservedLengthOctet,
-        ),
-        Fault::MismatchedTag { expected, actual } => {
-            CodecDecodeError::Ber(BerDecodeErrorKind::MismatchedTag { expected, actual })
-        }
-        Fault::InvalidConstructedIdentifier => CodecDecodeError::Ber(
-            BerDecodeErrorKind::InvalidConstructedIdentifier,
-        ),
-    };
-    DecodeErrorKind::CodecSpecific { inner }
+        }),
+        Fault::InvalidConstructedIdentifier => in_ber(Ber::InvalidConstructedIdentifier),
+    }
 }
 
 impl<'input> Decoder<'input> {

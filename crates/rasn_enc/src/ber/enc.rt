@@ -13,6 +13,7 @@ mod leaves;
 mod list;
 mod numbered;
 mod objects;
+mod segments;
 mod strings;
 #[cfg(test)]
 mod tests;

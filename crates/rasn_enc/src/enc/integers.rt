@@ -14,7 +14,7 @@ impl Encode for i8 {
         constraints: &Constraints,
         identifier: Identifier,
     ) -> Result<(), EncodeError> {
-        encoder.encode_integer(tag, constraints, self, identifier)
+        encoder.encode_integer::<i8>(tag, constraints, self, identifier)
     }
 }
 
@@ -26,7 +26,7 @@ impl Encode for i16 {
         constraints: &Constraints,
         identifier: Identifier,
     ) -> Result<(), EncodeError> {
-        encoder.encode_integer(tag, constraints, self, identifier)
+        encoder.encode_integer::<i16>(tag, constraints, self, identifier)
     }
 }
 
@@ -38,7 +38,7 @@ impl Encode for i32 {
         constraints: &Constraints,
         identifier: Identifier,
     ) -> Result<(), EncodeError> {
-        encoder.encode_integer(tag, constraints, self, identifier)
+        encoder.encode_integer::<i32>(tag, constraints, self, identifier)
     }
 }
 
@@ -50,7 +50,7 @@ impl Encode for i64 {
         constraints: &Constraints,
         identifier: Identifier,
     ) -> Result<(), EncodeError> {
-        encoder.encode_integer(tag, constraints, self, identifier)
+        encoder.encode_integer::<i64>(tag, constraints, self, identifier)
     }
 }
 
@@ -62,7 +62,7 @@ impl Encode for i128 {
         constraints: &Constraints,
         identifier: Identifier,
     ) -> Result<(), EncodeError> {
-        encoder.encode_integer(tag, constraints, self, identifier)
+        encoder.encode_integer::<i128>(tag, constraints, self, identifier)
     }
 }
 
@@ -74,7 +74,7 @@ impl Encode for isize {
         constraints: &Constraints,
         identifier: Identifier,
     ) -> Result<(), EncodeError> {
-        encoder.encode_integer(tag, constraints, self, identifier)
+        encoder.encode_integer::<isize>(tag, constraints, self, identifier)
     }
 }
 
@@ -86,7 +86,7 @@ impl Encode for u8 {
         constraints: &Constraints,
         identifier: Identifier,
     ) -> Result<(), EncodeError> {
-        encoder.encode_integer(tag, constraints, self, identifier)
+        encoder.encode_integer::<u8>(tag, constraints, self, identifier)
     }
 }
 
@@ -98,7 +98,7 @@ impl Encode for u16 {
         constraints: &Constraints,
         identifier: Identifier,
     ) -> Result<(), EncodeError> {
-        encoder.encode_integer(tag, constraints, self, identifier)
+        encoder.encode_integer::<u16>(tag, constraints, self, identifier)
     }
 }
 
@@ -110,7 +110,7 @@ impl Encode for u32 {
         constraints: &Constraints,
         identifier: Identifier,
     ) -> Result<(), EncodeError> {
-        encoder.encode_integer(tag, constraints, self, identifier)
+        encoder.encode_integer::<u32>(tag, constraints, self, identifier)
     }
 }
 
@@ -122,7 +122,7 @@ impl Encode for u64 {
         constraints: &Constraints,
         identifier: Identifier,
     ) -> Result<(), EncodeError> {
-        encoder.encode_integer(tag, constraints, self, identifier)
+        encoder.encode_integer::<u64>(tag, constraints, self, identifier)
     }
 }
 
@@ -134,7 +134,7 @@ impl Encode for u128 {
         constraints: &Constraints,
         identifier: Identifier,
     ) -> Result<(), EncodeError> {
-        encoder.encode_integer(tag, constraints, self, identifier)
+        encoder.encode_integer::<u128>(tag, constraints, self, identifier)
     }
 }
 
@@ -146,7 +146,7 @@ impl Encode for usize {
         constraints: &Constraints,
         identifier: Identifier,
     ) -> Result<(), EncodeError> {
-        encoder.encode_integer(tag, constraints, self, identifier)
+        encoder.encode_integer::<usize>(tag, constraints, self, identifier)
     }
 }
 
@@ -158,6 +158,6 @@ impl Encode for Integer {
         constraints: &Constraints,
         identifier: Identifier,
     ) -> Result<(), EncodeError> {
-        encoder.encode_integer(tag, constraints, self, identifier)
+        encoder.encode_integer::<Integer>(tag, constraints, self, identifier)
     }
 }

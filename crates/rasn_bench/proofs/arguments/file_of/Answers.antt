@@ -1,4 +1,4 @@
-use Rattle.std.proofs.Common.{rules, refl}
+use Rattle.std.proofs.Common.{rules}
 use Rattle.rasn_bench.proofs.Digits.{one_item}
 use Rattle.rasn_bench.proofs.arguments.file_of.Goals as goal
 

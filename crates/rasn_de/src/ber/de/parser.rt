@@ -1,10 +1,12 @@
 //! Framing: identifier, length and contents octets (X.690 8.1).
 ghost use Rattle.std.specs.Prelude.{◌≡◌};
 ghost use Rattle.rasn_types.specs.Framing.{AreOctets};
+ghost use Rattle.rasn_types.specs.Numbered.{constructed_bit};
 ghost use Rattle.rasn_types.specs.Tags.{is_eoc};
 ghost use Rattle.rasn_de.specs.Headers.{number128_at, number256_at, octets_at, expected_at, tag_number_at, identifier_at, length_at, header_at, long_at, contents_at, class_of, has_indefinite};
 ghost use Rattle.rasn_de.specs.Views.{Gives, pair, both, identified, header};
 
+use rasn_types::ber::Identifier;
 use rasn_types::types::{Bounded, Class, Codec, Tag};
 
 pub mod bits;
@@ -63,13 +65,6 @@ pub enum Fault {
         discriminant: isize,
     },
     UnsupportedObjectIdentifierArc,
-}
-
-/// A tag and whether its value is constructed.
-#[derive(Clone, Copy, Debug)]
-pub struct Identifier {
-    pub tag: Tag,
-    pub is_constructed: bool,
 }
 
 /// What a value's length says.
@@ -152,13 +147,7 @@ pub fn read_identifier(input: &[u8]) -> Result<(Identifier, &[u8]), Fault>
             if is_end_of_contents(tag) {
                 return Err(Fault::UnexpectedEndOfContents);
             }
-            Ok((
-                Identifier {
-                    tag,
-                    is_constructed: *first % 64 >= 32,
-                },
-                rest,
-            ))
+            Ok((Identifier::from_tag(tag, *first % 64 >= 32), rest))
         }
     }
 }
@@ -249,7 +238,7 @@ fn read_contents(
     length: Option<usize>,
     input: &[u8],
 ) -> Result<(Value<'_>, &[u8]), Fault>
-    ensures { Gives header result (contents_at identifier.tag identifier.is_constructed length input.now) }
+    ensures { Gives header result (contents_at identifier.tag (constructed_bit identifier) length input.now) }
 {
     match length {
         None => Ok((
@@ -284,6 +273,6 @@ pub fn read_value(
 {
     let (identifier, rest) = read_identifier(input)?;
     expect(expected, identifier.tag)?;
-    let (length, rest) = read_length(identifier.is_constructed && allows_indefinite(rule), rest)?;
+    let (length, rest) = read_length(identifier.is_constructed() && allows_indefinite(rule), rest)?;
     read_contents(identifier, length, rest)
 }

@@ -2,6 +2,7 @@
 ghost use Rattle.std.specs.Prelude.{◌≡◌, ◌≢◌, ◌&&◌, not, IfSome, Result};
 ghost use Rattle.std.specs.Fn.{FnOnceReturnsAtMut};
 ghost use Rattle.rasn_types.specs.declared.error.decode.DecodeError.{DecodeError};
+ghost use Rattle.rasn_types.specs.Numbered.{constructed_bit};
 ghost use Rattle.rasn_types.specs.Shapes.{seq};
 ghost use Rattle.rasn_de.specs.State.{State};
 ghost use Rattle.rasn_de.specs.Decodes.{Decodes, DecodesParts};
@@ -29,9 +30,9 @@ pub(crate) struct Opening {
 
 /// Whether the value has to be constructed, and isn't.
 fn lacks_bit(opening: Opening, value: Value<'_>) -> bool
-    ensures { result ≡ (opening.needs_bit && not value.entry.identifier.is_constructed) }
+    ensures { result ≡ (opening.needs_bit && not (constructed_bit value.entry.identifier)) }
 {
-    opening.needs_bit && !value.identifier.is_constructed
+    opening.needs_bit && !value.identifier.is_constructed()
 }
 
 fn is_indefinite(contents: Contents<'_>) -> bool

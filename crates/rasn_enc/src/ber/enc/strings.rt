@@ -3,7 +3,7 @@ ghost use Rattle.std.specs.Prelude.{◌≡◌, ◌⊎◌, chars, length, IfErr, 
 ghost use Rattle.rasn_types.specs.Characters.{kind_of, units_of};
 ghost use Rattle.rasn_types.specs.Shapes.{leaf, numbers, numeric, printable, visible, ia5, any_octets, bmp, utf8};
 ghost use Rattle.rasn_enc.specs.Refusals.{RefusesSize, MeetsSize};
-ghost use Rattle.rasn_enc.specs.Texts.{IsCounted, PutsText};
+ghost use Rattle.rasn_enc.specs.Texts.{IsCounted};
 ghost use Rattle.rasn_enc.specs.Wrote.{Wrote};
 
 use super::Encoder;
@@ -167,7 +167,7 @@ impl Encoder {
         ensures refused { IfErr result (λ e. RefusesSize constraints.now (length (units_of value.now)) self.old.rule e ⊎ MeetsSize constraints.now (length (units_of value.now)) self.old.rule e) }
     {
         let octets = value.as_octets();
-        self.text(tag, constraints, octets, octets.len() / 2)
+        self.string(tag, constraints, octets, octets.len() / 2)
     }
 
     /// Writes a UTF8String (X.690 8.23.10). The canonical rules write more than 1000 octets in segments (9.2). The name is ignored.
@@ -186,7 +186,7 @@ impl Encoder {
         ensures refused { IfErr result (λ e. RefusesSize constraints.now (length (chars value.now)) self.old.rule e ⊎ MeetsSize constraints.now (length (chars value.now)) self.old.rule e) }
     {
         let size = character_count(constraints, value);
-        self.text(tag, constraints, value.as_bytes(), size)
+        self.string(tag, constraints, value.as_bytes(), size)
     }
 
     // A string whose octets are characters of one alphabet.
@@ -201,27 +201,6 @@ impl Encoder {
         ensures refused { IfErr result (λ e. RefusesSize constraints.now (length value.now) self.old.rule e ⊎ MeetsSize constraints.now (length value.now) self.old.rule e) }
     {
         let octets = value.as_octets();
-        self.text(tag, constraints, octets, octets.len())
-    }
-
-    // The octets of a string of so many characters, where these are within the size.
-    fn text(
-        &mut self,
-        tag: Tag,
-        constraints: &Constraints,
-        octets: &[u8],
-        size: usize,
-    ) -> Result<(), EncodeError>
-        ensures ok { OnOk result (PutsText tag constraints.now octets.now size self.old self.new) }
-        ensures err { OnErr result (self.new ≡ self.old) }
-        ensures refused { IfErr result (λ e. RefusesSize constraints.now size self.old.rule e ⊎ MeetsSize constraints.now size self.old.rule e) }
-    {
-        if !constraints.admits_size(size) {
-            return Err(self.refused_size(constraints, size));
-        }
-        if self.is_cut(octets.len()) {
-            return self.put_segments(tag, octets);
-        }
-        self.leaf(tag, octets)
+        self.string(tag, constraints, octets, octets.len())
     }
 }

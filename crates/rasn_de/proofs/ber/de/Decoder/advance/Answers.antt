@@ -1,4 +1,4 @@
-use Rattle.std.proofs.Common.{◌≡◌, subst, sym}
+use Rattle.std.proofs.Common.{subst, sym}
 use Rattle.rasn_de.specs.State.{State, IsEnd}
 use Rattle.rasn_de.proofs.Ends.{IsEnd-trans}
 use Rattle.rasn_de.proofs.ber.de.Decoder.advance.Goals as goal

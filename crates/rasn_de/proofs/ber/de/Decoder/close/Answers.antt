@@ -1,4 +1,4 @@
-use Rattle.std.proofs.Common.{rules, ◌≡◌, Ok, ap}
+use Rattle.std.proofs.Common.{◌≡◌, Ok}
 use Rattle.rasn_de.specs.Strings.{finished}
 use Rattle.rasn_de.specs.Views.{extent}
 use Rattle.rasn_de.proofs.Entering.{closed_end, closes_ok}

@@ -1,4 +1,3 @@
-use Rattle.std.proofs.Common.{◌≡◌}
 use Rattle.std.proofs.lemmas.Result.{err_from_is_err_and}
 use Rattle.rasn_de.proofs.Refusals.{indefinite_refused, header_refused}
 use Rattle.rasn_de.proofs.ber.de.Decoder.contents.Goals as goal

@@ -1,8 +1,6 @@
-use Rattle.std.proofs.Common.{rules, ◌≡◌, ap, sym, subst, ◌∙◌, Ok, Err, List, ℕ, Result, Bool}
+use Rattle.std.proofs.Common.{ap, Ok, Err}
 use Rattle.std.proofs.lemmas.Result.{err_from_is_err_and}
-use Rattle.rasn_types.specs.declared.types.rules.Codec.{Codec}
-use Rattle.rasn_de.specs.Causes.{Cause}
-use Rattle.rasn_de.specs.Leaves.{as_cause, bool_in}
+use Rattle.rasn_de.specs.Leaves.{as_cause}
 use Rattle.rasn_de.proofs.Bools.{bool_decodes, reads_bool}
 use Rattle.rasn_de.proofs.Refusals.{leaf_refused, contents_refused, contents_read}
 use Rattle.rasn_de.proofs.Starving.{leaf_plain, bool_plain}

@@ -1,7 +1,5 @@
-use Rattle.std.proofs.Common.{rules, ◌≡◌, ◌≢◌, ℕ, List, [], length, ap, sym, subst, ◌∙◌, Ok, Err, Some, None, inl, inr, true, refl, arith}
+use Rattle.std.proofs.Common.{◌≡◌, Ok, Err, inl, inr, true, refl}
 use Rattle.std.proofs.lemmas.Result.{err_from_is_err_and}
-use Rattle.rasn_types.specs.Contents.{signed}
-use Rattle.rasn_types.specs.Shapes.{IsIn}
 use Rattle.rasn_de.specs.Leaves.{IntegerIn, IntegerAt}
 use Rattle.rasn_de.proofs.Integers.{integer_decodes, bound_refused, number_starved, empty_is, not_empty, match_some, match_none}
 use Rattle.rasn_de.proofs.Refusals.{leaf_refused, contents_refused, contents_read}

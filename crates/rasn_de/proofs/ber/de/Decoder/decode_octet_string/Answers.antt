@@ -1,4 +1,4 @@
-use Rattle.std.proofs.Common.{rules, ◌≡◌, ap, sym, subst, ◌∙◌, Ok, Err}
+use Rattle.std.proofs.Common.{Ok, Err}
 use Rattle.std.proofs.lemmas.Result.{err_from_is_err_and}
 use Rattle.rasn_de.proofs.OctetStrings.{octets_decodes, gathers_refused, gathers_admitted, gathers_size}
 use Rattle.rasn_de.proofs.ber.de.Decoder.decode_octet_string.Goals as goal

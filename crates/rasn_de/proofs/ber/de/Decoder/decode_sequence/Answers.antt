@@ -1,9 +1,6 @@
-use Rattle.std.proofs.Common.{rules, ◌≡◌, ◌≢◌, refl, sym, ap, ◌∙◌, subst, List, ℕ, true, false, Bool, inl, inr, Ok, Err}
+use Rattle.std.proofs.Common.{◌≡◌, refl, sym, ◌∙◌, true, false, inl, inr, Ok}
 use Rattle.std.proofs.lemmas.Result.{err_from_is_err_and}
-use Rattle.std.specs.Fn.{FnOnceReturnsAtMut}
-use Rattle.rasn_de.specs.Inside.{ReadInside}
 use Rattle.rasn_de.specs.Sequences.{sequence_door, is_initial}
-use Rattle.rasn_de.proofs.Entering.{kept}
 use Rattle.rasn_de.proofs.Stepping.{step_none, step_refused, step_end, step_unclosed, step_closed}
 use Rattle.rasn_de.proofs.Sequencing.{sequence_decodes}
 use Rattle.rasn_de.proofs.ber.de.Decoder.decode_sequence.Goals as goal

@@ -1,4 +1,4 @@
-use Rattle.std.proofs.Common.{rules, ◌≡◌, ℕ, List, Some, Ok, subst, sym, refl}
+use Rattle.std.proofs.Common.{◌≡◌, Some, Ok}
 use Rattle.rasn_types.specs.Framing.{AreOctets}
 use Rattle.rasn_de.specs.Headers.{header_at}
 use Rattle.rasn_de.specs.Views.{framed}

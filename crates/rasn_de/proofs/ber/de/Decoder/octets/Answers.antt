@@ -1,6 +1,5 @@
-use Rattle.std.proofs.Common.{rules, ◌≡◌, Ok, subst, sym}
+use Rattle.std.proofs.Common.{◌≡◌, Ok}
 use Rattle.std.specs.Cow.{cow_slice_items}
-use Rattle.rasn_types.specs.Framing.{AreOctets}
 use Rattle.rasn_de.specs.Octets.{octets_at, IsLentAs}
 use Rattle.rasn_de.proofs.StringEnds.{octets_end}
 use Rattle.rasn_de.proofs.Takings.{gathered}

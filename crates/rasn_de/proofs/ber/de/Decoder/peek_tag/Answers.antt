@@ -1,5 +1,3 @@
-use Rattle.std.proofs.Common.{rules, ◌≡◌, Ok, subst, sym}
-use Rattle.rasn_types.specs.Framing.{Next}
 use Rattle.rasn_de.proofs.Peeks.{next_found, next_none, next_memory, kind_memory}
 use Rattle.rasn_de.proofs.ber.de.Decoder.peek_tag.Goals as goal
 

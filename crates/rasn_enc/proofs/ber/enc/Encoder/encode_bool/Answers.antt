@@ -1,4 +1,4 @@
-use Rattle.std.proofs.Common.{◌≡◌, cond, refl, ap, ◌∷◌, []}
+use Rattle.std.proofs.Common.{◌≡◌, cond, ap, ◌∷◌, []}
 use Rattle.rasn_enc.proofs.Leaves.{bool_wrote}
 use Rattle.rasn_enc.proofs.ber.enc.Encoder.encode_bool.Goals as goal
 use Rattle.rasn_enc.proofs.ber.enc.Encoder.encode_bool.Goals.{then-value, else-value}

@@ -1,4 +1,4 @@
-use Rattle.std.proofs.Common.{◌≡◌, ◌++◌, arith, refl, ap, length, ℕ, List, subst}
+use Rattle.std.proofs.Common.{arith, refl, subst}
 use Rattle.std.proofs.lemmas.Result.{on_ok_weaker}
 use Rattle.rasn_types.specs.Framing.{AreOctets}
 use Rattle.rasn_types.proofs.Digits.{front_octets}

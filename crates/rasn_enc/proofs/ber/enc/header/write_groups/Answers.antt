@@ -1,5 +1,5 @@
-use Rattle.std.proofs.Common.{◌≡◌, ◌++◌, ◌∷◌, [], ◌+◌, ◌-◌, List, ℕ, arith, ap, sym, ◌∙◌}
-use Rattle.rasn_enc.specs.Headers.{digits, chained, group_count}
+use Rattle.std.proofs.Common.{◌≡◌, ◌++◌, ◌∷◌, ◌+◌, ◌-◌, arith, ap, sym, ◌∙◌}
+use Rattle.rasn_enc.specs.Headers.{digits, chained}
 use Rattle.rasn_enc.proofs.Places.{groups_step, groups_last, moves}
 use Rattle.rasn_enc.proofs.ber.enc.header.write_groups.Goals as goal
 

@@ -1,4 +1,4 @@
-use Rattle.std.proofs.Common.{◌≡◌, ◌+◌, ◌-◌, ◌<◌, ◌≤◌, ◌++◌, vec_len, vec_capacity}
+use Rattle.std.proofs.Common.{◌≡◌, ◌+◌, ◌<◌, ◌≤◌, ◌++◌, vec_len, vec_capacity}
 use Rattle.rasn_enc.specs.Headers.{digits, chained, group_count}
 use Rattle.rasn_enc.proofs.ber.enc.header.write_groups.Given as goal
 

@@ -1,4 +1,4 @@
-use Rattle.std.proofs.Common.{◌≡◌, ◌++◌, ◌∷◌, [], ◌+◌, ◌-◌, arith, ap, sym, ◌∙◌}
+use Rattle.std.proofs.Common.{arith}
 use Rattle.rasn_enc.proofs.Places.{id_low, id_high, length-id_low, length-id_high, put_one, put_more}
 use Rattle.rasn_enc.proofs.ber.enc.header.write_identifier.Goals as goal
 

@@ -1,4 +1,4 @@
-use Rattle.std.proofs.Common.{◌≡◌, ◌++◌, ◌∷◌, [], ◌+◌, ◌-◌, arith, ap, sym, ◌∙◌, refl, length}
+use Rattle.std.proofs.Common.{◌+◌, arith, ap, refl, length}
 use Rattle.rasn_enc.proofs.Places.{length_low, length_high, length-length_high, put_one, put_more}
 use Rattle.rasn_enc.proofs.ber.enc.header.write_length.Goals as goal
 

@@ -1,6 +1,6 @@
-use Rattle.std.proofs.Common.{◌≡◌, ◌++◌, ◌∷◌, [], ◌+◌, ◌-◌, List, ℕ, arith, ap, sym, ◌∙◌}
+use Rattle.std.proofs.Common.{◌≡◌, ◌++◌, ◌∷◌, ◌-◌, arith, ap, sym, ◌∙◌}
 use Rattle.std.proofs.lemmas.List.{append-nil}
-use Rattle.rasn_enc.specs.Headers.{digits, octet_count}
+use Rattle.rasn_enc.specs.Headers.{digits}
 use Rattle.rasn_enc.proofs.Places.{octets_step, octets_none, moves}
 use Rattle.rasn_enc.proofs.ber.enc.header.write_octets.Goals as goal
 

@@ -1,11 +1,9 @@
-use Rattle.std.proofs.Common.{rules, ◌≡◌, ◌≢◌, ℕ, ◌+◌, ◌-◌, ◌<◌, ◌≤◌, length, List, ◌∷◌, Option, Some, None, Bool, true, false, Result, Ok, Err, ◌++◌, refl, sym, ap, ◌∙◌, arith, subst}
+use Rattle.std.proofs.Common.{◌-◌, ◌<◌, ◌≤◌, length, Some, sym, ◌∙◌, arith}
 use Rattle.std.proofs.lemmas.Result.{err_from_is_err_and}
-use Rattle.rasn_types.specs.Framing.{definite}
-use Rattle.rasn_de.specs.Headers.{Header, header_at, is_der}
-use Rattle.rasn_de.specs.Strings.{ends, inner, string_of, segment_at, segments_in, octets}
+use Rattle.rasn_de.specs.Strings.{segment_at}
 use Rattle.rasn_de.proofs.Shorter.{header_shorter}
-use Rattle.rasn_de.proofs.Segments.{segments, Gathering, gathering_start, gathering_step, gathering_end, gathering_fault, segment_shorter, string_der, string_deep, string_nested, string_plain, string_plain_fault, string_shorter, segment_fault, segment_found}
-use Rattle.rasn_de.specs.Views.{Appends, extent, header}
+use Rattle.rasn_de.proofs.Segments.{gathering_start, gathering_step, gathering_end, gathering_fault, segment_shorter, string_der, string_deep, string_nested, string_plain, string_plain_fault, string_shorter, segment_fault, segment_found}
+use Rattle.rasn_de.specs.Views.{extent, header}
 use Rattle.rasn_de.proofs.Appending.{appends_finished, appends_fault}
 use Rattle.rasn_de.proofs.ber.de.parser.strings.+string_contents.Goals as goal
 

@@ -1,4 +1,3 @@
-use Rattle.std.proofs.Common.{rules, ◌≡◌, sym, ap, ◌∙◌}
 use Rattle.std.proofs.lemmas.Result.{err_from_is_err_and}
 use Rattle.rasn_de.specs.Views.{header}
 use Rattle.rasn_de.proofs.Forms.{primitive_form, constructed_form, plain_octets, header_memory}

@@ -1,4 +1,4 @@
-use Rattle.std.proofs.Common.{◌-◌, arith}
+use Rattle.std.proofs.Common.{arith}
 use Rattle.rasn_types.proofs.BitViews.{length-bits_from}
 use Rattle.rasn_types.proofs.types.bits.bit_str.BitStr.unused.Goals as goal
 

@@ -1,4 +1,4 @@
-use Rattle.std.proofs.Common.{◌-◌, arith}
+use Rattle.std.proofs.Common.{arith}
 use Rattle.rasn_types.proofs.BitViews.{kept}
 use Rattle.rasn_types.proofs.types.bits.bit_string.BitString.new.Goals as goal
 

@@ -1,0 +1,91 @@
+//! Strings of octets: in one piece, or in segments (X.690 8.7, 8.23, 9.2).
+ghost use Rattle.std.specs.Prelude.{◌≡◌, ◌<◌, ◌≤◌, ◌⊎◌, length, MatchBool, IfErr, OnOk, OnErr};
+ghost use Rattle.rasn_types.specs.Bytes.{IsCer};
+ghost use Rattle.rasn_types.specs.Shapes.{Admits};
+ghost use Rattle.rasn_enc.specs.View.{LeavesOthers};
+ghost use Rattle.rasn_enc.specs.Primitives.{WantsMemory};
+ghost use Rattle.rasn_enc.specs.Refusals.{RefusesSize, MeetsSize};
+ghost use Rattle.rasn_enc.specs.Segments.{WroteSegments, PutsSegments};
+ghost use Rattle.rasn_enc.specs.Texts.{PutsText};
+
+use super::Encoder;
+use rasn_types::error::{EncodeError, EncodeErrorKind};
+use rasn_types::types::{Codec, Constraints, Tag};
+
+// The contents octets of a segment under the canonical rules (X.690 9.2).
+const SEGMENT: usize = 1000;
+
+impl Encoder {
+    // Writes the octets of a string of so many characters, where these are within the size.
+    pub(super) fn string(
+        &mut self,
+        tag: Tag,
+        constraints: &Constraints,
+        octets: &[u8],
+        size: usize,
+    ) -> Result<(), EncodeError>
+        ensures ok { OnOk result (PutsText tag constraints.now octets.now size self.old self.new) }
+        ensures err { OnErr result (self.new ≡ self.old) }
+        ensures refused { IfErr result (λ e. RefusesSize constraints.now size self.old.rule e ⊎ MeetsSize constraints.now size self.old.rule e) }
+    {
+        if !constraints.admits_size(size) {
+            return Err(self.refused_size(constraints, size));
+        }
+        if self.is_cut(octets.len()) {
+            return self.put_segments(tag, octets);
+        }
+        self.leaf(tag, octets)
+    }
+
+    // The canonical rules write long strings in segments (X.690 9.2).
+    fn is_cut(&self, count: usize) -> bool
+        ensures { MatchBool result (IsCer self.now.rule × (SEGMENT < count)) (IsCer self.now.rule → count ≤ SEGMENT) }
+    {
+        matches!(self.rule, Codec::Cer) && count > SEGMENT
+    }
+
+    pub(super) fn refused_size(&self, constraints: &Constraints, size: usize) -> EncodeError
+        requires { Admits ◌≤◌ constraints.now.size size → ⊥ }
+        ensures { RefusesSize constraints.now size self.now.rule result }
+    {
+        EncodeError {
+            kind: EncodeErrorKind::SizeConstraintNotSatisfied {
+                size,
+                expected: constraints.size_bounds(),
+            },
+            codec: self.rule,
+        }
+    }
+
+    // Writes octets in segments, as one constructed value.
+    fn put_segments(&mut self, tag: Tag, value: &[u8]) -> Result<(), EncodeError>
+        requires { SEGMENT < length value.now }
+        ensures ok { OnOk result (PutsSegments tag value.now self.old self.new) }
+        ensures err { OnErr result (self.new ≡ self.old) }
+        ensures memory { IfErr result (WantsMemory self.old.rule) }
+    {
+        self.begin(false)?;
+        match self.write_segments(value) {
+            Ok(()) => self.finish(tag),
+            Err(error) => {
+                self.abandon();
+                Err(error)
+            }
+        }
+    }
+
+    fn write_segments(&mut self, value: &[u8]) -> Result<(), EncodeError>
+        requires { 0 < length value.now }
+        ensures keeps { LeavesOthers self.old self.new }
+        ensures ok { OnOk result (WroteSegments value.now self.old self.new) }
+        ensures memory { IfErr result (WantsMemory self.old.rule) }
+    {
+        let mut rest = value;
+        while rest.len() > SEGMENT {
+            let (segment, tail) = rest.split_at(SEGMENT);
+            self.leaf(Tag::OCTET_STRING, segment)?;
+            rest = tail;
+        }
+        self.leaf(Tag::OCTET_STRING, rest)
+    }
+}
