@@ -22,6 +22,8 @@ pub mod Integers
 pub mod Starving
 pub mod Entering
 pub mod Nothing
+pub mod Holding
+pub mod Prefixing
 pub mod Insides
 pub mod Filling
 pub mod Sequencing

@@ -3,7 +3,7 @@ use Rattle.std.specs.Prelude.{◌≡◌, Result, Ok, Err}
 use Rattle.rasn_types.specs.declared.error.decode.DecodeError.{DecodeError}
 use Rattle.rasn_de.specs.declared.ber.de.parser.Fault.{Fault}
 use Rattle.rasn_de.specs.declared.ber.de.parser.Value.{Value}
-use Rattle.rasn_de.specs.declared.ber.de.sequences.Opening.{Opening}
+use Rattle.rasn_de.specs.declared.ber.de.nesting.Opening.{Opening}
 use Rattle.rasn_de.specs.Views.{framed}
 use Rattle.rasn_de.specs.State.{State}
 use Rattle.rasn_de.specs.Taking.{ErrorOf}

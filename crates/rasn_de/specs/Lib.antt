@@ -3,6 +3,7 @@ pub mod Strings
 pub mod Views
 pub mod State
 pub mod Outcomes
+pub mod Prefixes
 pub mod Decodes
 pub mod Causes
 pub mod Leaves

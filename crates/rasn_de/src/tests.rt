@@ -1,4 +1,5 @@
 mod bits;
+mod prefix;
 mod strings;
 
 use crate::ber::de::{Decoder, DecoderOptions};

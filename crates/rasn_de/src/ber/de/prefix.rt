@@ -1,0 +1,34 @@
+//! Explicit prefixes (X.690 8.14.2).
+ghost use Rattle.rasn_types.specs.Shapes.{prefix};
+ghost use Rattle.rasn_de.specs.Decodes.{Decodes};
+ghost use Rattle.rasn_de.specs.Inside.{ReadInside};
+ghost use Rattle.rasn_de.specs.Prefixes.{prefix_door};
+
+use crate::ber::de::Decoder;
+use crate::ber::de::nesting::Opening;
+use crate::de::Decode;
+use rasn_types::error::DecodeError;
+use rasn_types::types::Tag;
+
+impl<'input> Decoder<'input> {
+    /// A value under a tag in front of its own (X.690 8.14.2; X.680 31.2.7): it stands alone in the contents of a value of the tag,
+    /// whose constructed bit isn't looked at.
+    ///
+    /// # Errors
+    /// `ExceedsMaxParseDepth` before the header; framing faults; what the value refuses, and `UnexpectedExtraData`, which take header and
+    /// contents, or of an indefinite length the header; closing octets that are missing (`Incomplete`, `MissingEndOfContents`), which take
+    /// what was read inside too.
+    pub fn decode_explicit_prefix<D: Decode>(&mut self, tag: Tag) -> Result<D, DecodeError>
+        ensures called { ReadInside (Decodes D.shape D.tree) (prefix_door tag) self.old result self.new }
+        ensures reads { Decodes (prefix tag D.shape) D.tree self.old result self.new }
+    {
+        let (mut inner, contents) = self.open(Opening {
+            tag,
+            needs_bit: false,
+            levels: 1,
+        })?;
+        let value = D::decode(&mut inner)?;
+        self.close(contents, inner.remaining())?;
+        Ok(value)
+    }
+}
