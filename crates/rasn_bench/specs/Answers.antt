@@ -3,17 +3,18 @@ use Rattle.std.specs.Prelude.{◌≡◌, ℕ, ◌⊎◌, List, Some, length, cod
 use Rattle.rasn_types.specs.declared.types.rules.Codec.{Codec}
 use Rattle.rasn_types.specs.declared.types.rules.Codec.TheVariants.{Der}
 use Rattle.rasn_types.specs.Tags.{in_universal}
-use Rattle.rasn_types.specs.Shapes.{Tree, Shape, leaf, boolean, integer, octet_string, every, utc_time, generalized_time, date, null, object_identifier, bit_string, enumerated, utf8, ia5, printable, seq, part, required}
+use Rattle.rasn_types.specs.Shapes.{Tree, Shape, leaf, boolean, integer, octet_string, every, utc_time, generalized_time, date, null, object_identifier, bit_string, enumerated, utf8, ia5, printable, option, seq, part, required}
 use Rattle.rasn_types.specs.Trees.{unconstrained, signed_range, unsigned_range}
 use Rattle.rasn_types.specs.Grammar.{Reads, top}
 use Rattle.rasn_types.specs.Bytes.{Bytes}
 use Rattle.rasn_bench.specs.declared.line.ValueType.{ValueType}
-use Rattle.rasn_bench.specs.declared.line.ValueType.TheVariants.{Bool, I32, U32, Octets, Pair, Integer, UtcTime, GeneralizedTime, Date, Null, ObjectIdentifier, Bits, Colour, Utf8, Ia5, Printable, Foo}
+use Rattle.rasn_bench.specs.declared.line.ValueType.TheVariants.{Bool, I32, U32, Octets, Pair, Integer, UtcTime, GeneralizedTime, Date, Null, ObjectIdentifier, Bits, Colour, Utf8, Ia5, Printable, Foo, OptionalBool, Validity}
 use Rattle.rasn_bench.specs.declared.answer.Answer.{Answer}
 use Rattle.rasn_bench.specs.declared.answer.Answer.TheVariants.{Read, NotWritten, Refused, Malformed}
 use Rattle.rasn_bench.specs.Lines.{IsRequest, octets_at}
 use Rattle.rasn_types.specs.Shapes.Parts.{none}
 use Rattle.rasn_bench.specs.Pairs.{pair_shape}
+use Rattle.rasn_bench.specs.Choices.{validity_shape}
 use Rattle.rasn_bench.specs.Colours.{colours}
 
 abbrev pub shape_of : ValueType → Shape
@@ -34,6 +35,8 @@ shape_of Utf8 = leaf utf8 (in_universal 12) unconstrained
 shape_of Ia5 = leaf ia5 (in_universal 22) unconstrained
 shape_of Printable = leaf printable (in_universal 19) unconstrained
 shape_of Foo = seq (in_universal 16) (part required (leaf ia5 (in_universal 22) unconstrained) (part required (leaf boolean (in_universal 1) unconstrained) none))
+shape_of OptionalBool = option (Some (in_universal 1)) (leaf boolean (in_universal 1) unconstrained)
+shape_of Validity = validity_shape
 
 abbrev pub kind_of : ValueType → List ℕ
 kind_of Bool = codes "BOOLEAN"
@@ -53,6 +56,8 @@ kind_of Utf8 = codes "STRING"
 kind_of Ia5 = codes "STRING"
 kind_of Printable = codes "STRING"
 kind_of Foo = codes "SEQUENCE"
+kind_of OptionalBool = codes "OPTIONAL"
+kind_of Validity = codes "SEQUENCE"
 
 -- By these rules the input begins with this value, and so many octets follow it.
 pub record IsRead (rule : Codec) (shape : Shape) (input : List ℕ) (t : Tree) (count : ℕ) : Type 0 where

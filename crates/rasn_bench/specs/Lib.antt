@@ -1,4 +1,6 @@
 pub mod Lines
 pub mod Answers
+pub mod Groups
 pub mod Pairs
+pub mod Choices
 pub mod Colours

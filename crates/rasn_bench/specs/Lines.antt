@@ -4,7 +4,7 @@ use Rattle.std.specs.List.{position_or_len, before_first, after_first}
 use Rattle.rasn_types.specs.declared.types.rules.Codec.{Codec}
 use Rattle.rasn_types.specs.declared.types.rules.Codec.TheVariants.{Ber, Cer, Der}
 use Rattle.rasn_bench.specs.declared.line.ValueType.{ValueType}
-use Rattle.rasn_bench.specs.declared.line.ValueType.TheVariants.{Bool as BoolType, I32, U32, Octets, Pair, Integer, UtcTime, GeneralizedTime, Date, Null, ObjectIdentifier, Bits, Colour, Utf8, Ia5, Printable, Foo}
+use Rattle.rasn_bench.specs.declared.line.ValueType.TheVariants.{Bool as BoolType, I32, U32, Octets, Pair, Integer, UtcTime, GeneralizedTime, Date, Null, ObjectIdentifier, Bits, Colour, Utf8, Ia5, Printable, Foo, OptionalBool, Validity}
 
 abbrev pub name_of : ValueType → List ℕ
 name_of BoolType = codes "bool"
@@ -24,6 +24,8 @@ name_of Utf8 = codes "utf8"
 name_of Ia5 = codes "ia5"
 name_of Printable = codes "printable"
 name_of Foo = codes "foo"
+name_of OptionalBool = codes "optbool"
+name_of Validity = codes "validity"
 
 abbrev pub rule_name : Codec → List ℕ
 rule_name Ber = codes "ber"

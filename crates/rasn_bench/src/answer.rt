@@ -6,7 +6,7 @@ ghost use Rattle.rasn_bench.specs.declared.answer.Answer.TheVariants.{Malformed}
 
 use crate::line::{Request, ValueType};
 use crate::names::{decode_error_name, encode_error_name};
-use crate::worked::{Colour, Foo, Pair};
+use crate::worked::{Colour, Foo, Pair, Validity};
 use rasn::de::Decode;
 use rasn::enc::Encode;
 use rasn::error::DecodeError;
@@ -86,6 +86,8 @@ fn answer_to(alloc: Global, request: Request<'_>, octets: &[u8]) -> Answer
         ValueType::Ia5 => answer_as::<Ia5String>(alloc, rule, "STRING", octets),
         ValueType::Printable => answer_as::<PrintableString>(alloc, rule, "STRING", octets),
         ValueType::Foo => answer_as::<Foo>(alloc, rule, "SEQUENCE", octets),
+        ValueType::OptionalBool => answer_as::<Option<bool>>(alloc, rule, "OPTIONAL", octets),
+        ValueType::Validity => answer_as::<Validity>(alloc, rule, "SEQUENCE", octets),
     }
 }
 

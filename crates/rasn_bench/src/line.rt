@@ -27,6 +27,8 @@ pub enum ValueType {
     Ia5,
     Printable,
     Foo,
+    OptionalBool,
+    Validity,
 }
 
 impl ValueType {
@@ -52,6 +54,8 @@ impl ValueType {
             "ia5" => Some(ValueType::Ia5),
             "printable" => Some(ValueType::Printable),
             "foo" => Some(ValueType::Foo),
+            "optbool" => Some(ValueType::OptionalBool),
+            "validity" => Some(ValueType::Validity),
             _ => None,
         }
     }

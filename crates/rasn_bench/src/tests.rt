@@ -1,5 +1,6 @@
 //! What no clause says: values from the standard's examples and from the public crate's behaviour.
 
+mod choices;
 mod faults;
 mod lines;
 mod reading;

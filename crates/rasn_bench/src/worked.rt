@@ -2,12 +2,19 @@
 
 mod both;
 mod colour;
+mod grouped;
 mod pair;
+mod time;
 
 pub use both::Both;
 pub use colour::Colour;
+pub use grouped::{Group, Grouped};
 pub use pair::Pair;
 use rasn::types::Ia5String;
+pub use time::Time;
 
 /// SEQUENCE { name IA5String, truth BOOLEAN }
 pub type Foo = Both<Ia5String, bool>;
+
+/// SEQUENCE { notBefore Time, notAfter Time } (RFC 5280, 4.1)
+pub type Validity = Both<Time, Time>;

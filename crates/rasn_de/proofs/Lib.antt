@@ -22,7 +22,14 @@ pub mod Integers
 pub mod Starving
 pub mod Entering
 pub mod Nothing
+pub mod Alternatives
+pub mod Choosing
+pub mod Given
 pub mod Holding
+pub mod Listed
+pub mod Listing
+pub mod Passing
+pub mod Perhaps
 pub mod Prefixing
 pub mod Insides
 pub mod Filling

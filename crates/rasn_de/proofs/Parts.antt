@@ -10,19 +10,21 @@
 --
 --     pub returns : goal.returns
 --     returns c = parts_got _ _ c.in_ok-first.ensures (parts_got _ _ c.in_ok-second.ensures no_parts)
-use Rattle.std.proofs.Common.{◌≡◌, ℕ, Bool, List, [], ◌∷◌, Result, Err, refl, sym, ap, ◌∙◌, subst}
+use Rattle.std.proofs.Common.{◌≡◌, ℕ, Bool, List, [], ◌∷◌, Option, Result, Err, refl, sym, ap, ◌∙◌, subst}
 use Rattle.std.specs.Prelude.{IsErrAnd}
 use Rattle.std.proofs.lemmas.Result.{err_from_is_err_and}
 use Rattle.rasn_types.specs.declared.types.rules.Codec.{Codec}
+use Rattle.rasn_types.specs.declared.types.tag.Tag.{Tag}
 use Rattle.rasn_types.specs.declared.error.decode.DecodeError.{DecodeError}
 use Rattle.rasn_types.specs.declared.error.decode.DecodeErrorKind.{DecodeErrorKind}
-use Rattle.rasn_types.specs.Shapes.{Shape, Tree, items, done, joined, Parts, part, Presence, required, own}
+use Rattle.rasn_types.specs.Shapes.{Shape, Tree, items, done, joined, absent, option, Parts, part, Presence, required, optional, default, own, looked_for}
 use Rattle.rasn_types.specs.Shapes.Parts.{none}
-use Rattle.rasn_types.specs.Readers.{Reading, ReadsPart, InOrder}
+use Rattle.rasn_types.specs.Readers.{Reading, ReadsPart, Perhaps, InOrder}
 use Rattle.rasn_types.specs.Grammar.{Reads, parts_of}
 use Rattle.rasn_de.specs.State.{State, at}
 use Rattle.rasn_de.specs.Outcomes.{Exact, Outcome, Got, refusal, outcome}
 use Rattle.rasn_de.specs.Decodes.{Answers, ReadsParts}
+use Rattle.rasn_de.specs.Optionals.{ReadsDefault}
 use Rattle.rasn_de.proofs.Answering.{Exact-refusal}
 use Rattle.rasn_de.proofs.Ends.{IsEnd-refl, IsEnd-trans}
 use Rattle.rasn_de.specs.Inside.{Keeps}
@@ -104,6 +106,27 @@ later_refused s ps k {old} {mid} {new} {t} a b = others_refused required s ps ol
 pub parts_got : (s : Shape) (ps : Parts) {old mid new : State} {t u : Tree} → Answers (λ rule. Reads rule s) old (Got t mid.rest) mid → Answers (ReadsParts ps) mid (Got u new.rest) new
     → Answers (ReadsParts (part required s ps)) old (Got (joined t u) new.rest) new
 parts_got s ps {old} {mid} {new} {t} {u} a b = others_got required s ps old mid new t a u b
+
+-- A part that may be left out is read as the value of such a type is.
+pub optional_part : {g : Option Tag} (s : Shape) → own s ≡ g → {old new : State} {o : Outcome} → Answers (λ rule. Reads rule (option g s)) old o new → Answers (OnePart optional s) old o new
+unfolding Reads
+optional_part {g} s e {old} {new} {o} a = record { stays = a.stays; end = a.end; exact = subst (λ h. Exact (Perhaps h absent (Reads old.rule s old.depth old.closing) old.closing) old.rest o) (sym e) a.exact }
+
+-- So is one that has a default.
+pub default_part : (tag : Tag) (d : Tree) (s : Shape) → own s ≡ looked_for tag → {old new : State} {o : Outcome} → Answers (ReadsDefault tag d s) old o new → Answers (OnePart (default d) s) old o new
+default_part tag d s e {old} {new} {o} a = record { stays = a.stays; end = a.end; exact = subst (λ h. Exact (Perhaps h d (Reads old.rule s old.depth old.closing) old.closing) old.rest o) (sym e) a.exact }
+
+-- The same steps of parts of any presence.
+pub part_refused : (p : Presence) (s : Shape) (ps : Parts) (k : DecodeErrorKind) {old new : State} → Answers (OnePart p s) old (refusal k) new → Answers (ReadsParts (part p s ps)) old (refusal k) new
+part_refused p s ps k {old} {new} a = one_refused p s ps old new k a
+
+pub after_part_refused : (p : Presence) (s : Shape) (ps : Parts) (k : DecodeErrorKind) {old mid new : State} {t : Tree} → Answers (OnePart p s) old (Got t mid.rest) mid → Answers (ReadsParts ps) mid (refusal k) new
+    → Answers (ReadsParts (part p s ps)) old (refusal k) new
+after_part_refused p s ps k {old} {mid} {new} {t} a b = others_refused p s ps old mid new t a k b
+
+pub part_got : (p : Presence) (s : Shape) (ps : Parts) {old mid new : State} {t u : Tree} → Answers (OnePart p s) old (Got t mid.rest) mid → Answers (ReadsParts ps) mid (Got u new.rest) new
+    → Answers (ReadsParts (part p s ps)) old (Got (joined t u) new.rest) new
+part_got p s ps {old} {mid} {new} {t} {u} a b = others_got p s ps old mid new t a u b
 
 -- The error that `?` answers is the one that was met.
 pub refused : {X : Type 0} {R : Codec → ℕ → Bool → Reading Tree} {old new : State} (tree : X → Tree) (r : Result X DecodeError) (e : DecodeError) → IsErrAnd r (λ y. y ≡ e) → Answers R old (refusal e.kind) new → Answers R old (outcome tree r new.rest) new

@@ -15,7 +15,7 @@ use Rattle.rasn_de.proofs.Ends.{IsEnd-trans}
 pub kept_after : (old mid new : State) → Keeps old mid → Keeps mid new → Keeps old new
 kept_after old mid new a b = record { stays = b.stays ∙ ap (λ (s : State). at s new.rest) a.stays; end = IsEnd-trans old.rest mid.rest new.rest a.end b.end }
 
-rules_same : (old mid : State) (f : Fault) (e : DecodeError) → Keeps old mid → ErrorOf f mid e → ErrorOf f old e
+pub rules_same : (old mid : State) (f : Fault) (e : DecodeError) → Keeps old mid → ErrorOf f mid e → ErrorOf f old e
 rules_same old mid f e k w = w ∙ ap (λ c. record { kind = kind_of f; codec = c }) (ap (λ (s : State). s.rule) k.stays)
 
 module _ {D : Type 0} (read : State → Result D DecodeError → State → Type 0) (d : Door) (old : State) where

@@ -2,10 +2,14 @@ pub mod Headers
 pub mod Strings
 pub mod Views
 pub mod State
+pub mod Lists
+pub mod Optionals
 pub mod Outcomes
 pub mod Prefixes
 pub mod Decodes
 pub mod Causes
+pub mod Choices
+pub mod Named
 pub mod Leaves
 pub mod Taking
 pub mod Octets

@@ -1,13 +1,19 @@
 //! What a type needs in order to be read.
+ghost use Rattle.rasn_types.specs.Framing.{Next};
 ghost use Rattle.rasn_types.specs.Shapes.{given};
 ghost use Rattle.rasn_de.specs.Decodes.{Decodes};
 
 use crate::ber::de::Decoder;
+pub use error::Error;
 use rasn_types::error::DecodeError;
 use rasn_types::types::{AsnType, Constraints, Tag};
 
+mod error;
 mod integers;
+mod lists;
 mod numbered;
+mod optional;
+mod prefix;
 mod strings;
 mod times;
 mod values;
@@ -58,4 +64,22 @@ pub trait Decode: AsnType {
     {
         Self::decode_with_tag_and_constraints(decoder, Self::TAG, constraints)
     }
+}
+
+/// A CHOICE that can be read (X.680 29). Its shape has the alternatives, none of which is optional.
+pub trait DecodeChoice: AsnType {
+    ghost use Rattle.std.specs.Prelude.{◌≡◌};
+    ghost use Rattle.rasn_types.specs.Shapes.{Parts, choice};
+
+    ghost alternatives: { Parts };
+
+    /// Reads the alternative that begins with this tag, which is the next one.
+    ///
+    /// # Errors
+    /// `NoValidChoice` where no alternative does; what the alternative refuses.
+    fn from_tag(decoder: &mut Decoder<'_>, tag: Tag) -> Result<Self, DecodeError>
+        requires { Next decoder.old.rest tag }
+        ensures { Decodes Self.shape Self.tree decoder.old result decoder.new };
+
+    ghost chooses: { Self.AsnType.shape ≡ choice alternatives };
 }

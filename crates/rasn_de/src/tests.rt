@@ -1,4 +1,7 @@
 mod bits;
+mod defaults;
+mod lists;
+mod optional;
 mod prefix;
 mod strings;
 
@@ -6,8 +9,24 @@ use crate::ber::de::{Decoder, DecoderOptions};
 use crate::de::Decode;
 use rasn_types::error::{DecodeErrorKind, Needed};
 use rasn_types::types::{Constraints, OctetString, Tag};
+use std::alloc::{AllocError, Global};
 use std::borrow::CowSlice;
+use std::fmt::Debug;
 use std::test::Fail;
+
+/// What a read answers, as text, and how many octets it takes.
+fn outcome<T: Decode + Debug>(
+    alloc: Global,
+    octets: &[u8],
+    options: DecoderOptions,
+) -> Result<(String, usize), AllocError> {
+    let mut decoder = Decoder::new(alloc, octets, options);
+    let text = match T::decode(&mut decoder) {
+        Ok(value) => format!(in alloc; "{value:?}")?,
+        Err(error) => format!(in alloc; "{:?}", error.kind)?,
+    };
+    Ok((text, decoder.decoded_len()))
+}
 
 // A number is read in more octets than it needs, and a true BOOLEAN of any octet under BER alone.
 #[test]

@@ -6,6 +6,11 @@ pub mod Leaves
 pub mod Texts
 pub mod Segments
 pub mod Sequences
+pub mod Optional
+pub mod Prefixed
+pub mod Given
+pub mod Elements
+pub mod Alternatives
 pub mod TimeOctets
 pub mod TimeLeaves
 pub mod Numbered

@@ -25,7 +25,7 @@ pub record SegmentsSoFar (xs rest : List ℕ) (v w : View) : Type 0 where
   pub octets : w.last.octets ≡ v.last.octets ++ joined_lists encoded
   pub others : LeavesOthers v w
 
-joined_one : {X : Type 0} (xs : List (List X)) (x : List X) → joined_lists (xs ++ x ∷ []) ≡ joined_lists xs ++ x
+pub joined_one : {X : Type 0} (xs : List (List X)) (x : List X) → joined_lists (xs ++ x ∷ []) ≡ joined_lists xs ++ x
 joined_one [] x = append-nil x
 joined_one (y ∷ xs) x = ap (λ l. y ++ l) (joined_one xs x) ∙ sym (append_assoc y (joined_lists xs) x)
 

@@ -30,17 +30,17 @@ use Rattle.std.proofs.lemmas.List.{append-nil, append_assoc}
 use Rattle.std.proofs.lemmas.Result.{on_ok_weaker, IfErr-weaker, err_from_is_err_and}
 use Rattle.std.specs.Result.{IsErrAnd}
 use Rattle.std.specs.Fn.{FnOnceReturnsAtMut}
-use Rattle.rasn_types.specs.Shapes.{Shape, seq, Tree, items, done, joined, Parts, part, required}
+use Rattle.rasn_types.specs.Shapes.{Shape, seq, option, Tree, items, done, joined, Parts, part, Presence, optional, addition}
 use Rattle.rasn_types.specs.Shapes.Parts.{none}
 use Rattle.rasn_types.specs.Contents.{joined_lists}
-use Rattle.rasn_types.specs.Bytes.{Bytes, fields_of, PartsWritten, NoneBare, TagsOf, IsBare, Cons}
+use Rattle.rasn_types.specs.Bytes.{Bytes, fields_of, WritesPart, PartsWritten, NoneBare, TagsOf, IsBare, Cons}
 use Rattle.rasn_types.specs.declared.types.rules.Codec.{Codec}
 use Rattle.rasn_types.specs.declared.types.tag.Tag.{Tag}
 use Rattle.rasn_types.specs.declared.error.encode.EncodeError.{EncodeError}
-use Rattle.rasn_enc.specs.View.{View, LeavesOthers, appended, opened}
+use Rattle.rasn_enc.specs.View.{View, LeavesOthers, Extends, appended, opened}
 use Rattle.rasn_enc.specs.Primitives.{WantsMemory}
 use Rattle.rasn_types.specs.Errors.{IsEncodeMemory}
-use Rattle.rasn_enc.specs.Wrote.{Wrote, MayRefuse, Undefined, Bare}
+use Rattle.rasn_enc.specs.Wrote.{Wrote, WrotePart, MayRefuse, MayRefusePart, UndefinedPart, BarePart}
 use Rattle.rasn_enc.specs.Parts.{WroteParts, WritesParts, PartsMayRefuse, PartsUndefined, PartsBare}
 use Rattle.rasn_enc.specs.Writing.{Closure, Encloses, Refuses}
 use Rattle.rasn_enc.proofs.Leaves.{cons_begins, wrote_one}
@@ -56,7 +56,7 @@ tags-more (Some kept) a b = ap (λ l. Some l) (append_assoc kept a b)
 view_with : View → List ℕ → Option (List Tag) → View
 view_with v octets tags = record { rule = v.rule; below = v.below; last = record { octets = octets; tags = tags } }
 
-appended-nil : (v : View) → v ≡ appended v [] []
+pub appended-nil : (v : View) → v ≡ appended v [] []
 unfolding view_with
 appended-nil v = ap₂ (view_with v) (sym (append-nil v.last.octets)) (tags-nil v.last.tags)
 
@@ -73,34 +73,34 @@ unfolding fields_of
 none_written v = record { trees = []; is = refl; encoded = []; written = (refl, refl); tags = []; heads = refl; appended = appended-nil v }
 
 -- A part is written, and then the others.
-part_written : (s : Shape) (parts : Parts) (t tree : Tree) (v u w : View) → Wrote s t v u → WroteParts parts tree u w
-    → WroteParts (part required s parts) (joined t tree) v w
+part_written : (p : Presence) (s : Shape) (parts : Parts) (t tree : Tree) (v u w : View) → WrotePart p s t v u → WroteParts parts tree u w
+    → WroteParts (part p s parts) (joined t tree) v w
 unfolding fields_of
-part_written s parts t tree v u w a p = record {
-  trees = t ∷ p.trees;
-  is = ap (joined t) p.is;
-  encoded = a.octets ∷ p.encoded;
-  written = (t, p.trees, a.octets, p.encoded, refl, refl, a.defined, subst (λ r. PartsWritten (fields_of r parts) p.trees p.encoded) (ap (λ (x : View). x.rule) a.appended) p.written);
-  tags = a.tags ++ p.tags;
-  heads = heads_more a.octets p.encoded a.tags p.tags a.heads p.heads;
-  appended = p.appended ∙ (ap (λ x. appended x (joined_lists p.encoded) p.tags) a.appended ∙ appended-more v a.octets (joined_lists p.encoded) a.tags p.tags);
+part_written p s parts t tree v u w a q = record {
+  trees = t ∷ q.trees;
+  is = ap (joined t) q.is;
+  encoded = a.octets ∷ q.encoded;
+  written = (t, q.trees, a.octets, q.encoded, refl, refl, a.defined, subst (λ r. PartsWritten (fields_of r parts) q.trees q.encoded) (ap (λ (x : View). x.rule) a.appended) q.written);
+  tags = a.tags ++ q.tags;
+  heads = heads_more a.octets q.encoded a.tags q.tags a.heads q.heads;
+  appended = q.appended ∙ (ap (λ x. appended x (joined_lists q.encoded) q.tags) a.appended ∙ appended-more v a.octets (joined_lists q.encoded) a.tags q.tags);
 }
 
 -- The octets of parts are those of the first, and of the others.
-record Divided (rule : Codec) (s : Shape) (parts : Parts) (t tree : Tree) (trees : List Tree) (encoded : List (List ℕ)) : Type 0 where
+record Divided (p : Presence) (rule : Codec) (s : Shape) (parts : Parts) (t tree : Tree) (trees : List Tree) (encoded : List (List ℕ)) : Type 0 where
   octets : List ℕ
   others : List Tree
   more : List (List ℕ)
   trees_are : trees ≡ t ∷ others
   encoded_are : encoded ≡ octets ∷ more
   tree_is : tree ≡ items others
-  first : Bytes rule s t octets
+  first : WritesPart p (Bytes rule s) t octets
   rest : PartsWritten (fields_of rule parts) others more
 
-divided : (rule : Codec) (s : Shape) (parts : Parts) (t tree : Tree) (trees : List Tree) (encoded : List (List ℕ)) → joined t tree ≡ items trees
-    → PartsWritten (fields_of rule (part required s parts)) trees encoded → Divided rule s parts t tree trees encoded
+divided : (p : Presence) (rule : Codec) (s : Shape) (parts : Parts) (t tree : Tree) (trees : List Tree) (encoded : List (List ℕ)) → joined t tree ≡ items trees
+    → PartsWritten (fields_of rule (part p s parts)) trees encoded → Divided p rule s parts t tree trees encoded
 unfolding fields_of
-divided rule s parts t tree trees encoded is (x, us, b, cs, f, g, h, k) =
+divided p rule s parts t tree trees encoded is (x, us, b, cs, f, g, h, k) =
     let i : joined t tree ≡ joined x (items us) = is ∙ ap items f in
     let j : x ≡ t = cc in
     record {
@@ -110,98 +110,98 @@ divided rule s parts t tree trees encoded is (x, us, b, cs, f, g, h, k) =
       trees_are = f ∙ ap (λ y. y ∷ us) j;
       encoded_are = g;
       tree_is = cc;
-      first = subst (λ y. Bytes rule s y b) j h;
+      first = subst (λ y. WritesPart p (Bytes rule s) y b) j h;
       rest = k;
     }
 
-bare_first : (rule : Codec) (s : Shape) (parts : Parts) (t : Tree) (trees others : List Tree) (encoded more : List (List ℕ)) (octets : List ℕ)
-    → trees ≡ t ∷ others → encoded ≡ octets ∷ more → NoneBare (fields_of rule (part required s parts)) trees encoded → IsBare s t → octets ≡ []
+bare_first : (p : Presence) (rule : Codec) (s : Shape) (parts : Parts) (t : Tree) (trees others : List Tree) (encoded more : List (List ℕ)) (octets : List ℕ)
+    → trees ≡ t ∷ others → encoded ≡ octets ∷ more → NoneBare (fields_of rule (part p s parts)) trees encoded → IsBare s t → octets ≡ []
 unfolding fields_of
-bare_first rule s parts t trees others encoded more octets e f n b = (rw (e, f) at n).0 b
+bare_first p rule s parts t trees others encoded more octets e f n b = (rw (e, f) at n).0 b
 
-bare_rest : (rule : Codec) (s : Shape) (parts : Parts) (t : Tree) (trees others : List Tree) (encoded more : List (List ℕ)) (octets : List ℕ)
-    → trees ≡ t ∷ others → encoded ≡ octets ∷ more → NoneBare (fields_of rule (part required s parts)) trees encoded → NoneBare (fields_of rule parts) others more
+bare_rest : (p : Presence) (rule : Codec) (s : Shape) (parts : Parts) (t : Tree) (trees others : List Tree) (encoded more : List (List ℕ)) (octets : List ℕ)
+    → trees ≡ t ∷ others → encoded ≡ octets ∷ more → NoneBare (fields_of rule (part p s parts)) trees encoded → NoneBare (fields_of rule parts) others more
 unfolding fields_of
-bare_rest rule s parts t trees others encoded more octets e f n = (rw (e, f) at n).1
+bare_rest p rule s parts t trees others encoded more octets e f n = (rw (e, f) at n).1
 
-first_why : (s : Shape) (parts : Parts) (t tree : Tree) (v : View) (e : EncodeError) → IsEncodeMemory e.kind ⊎ (Undefined v.rule s t ⊎ Bare s t v)
-    → IsEncodeMemory e.kind ⊎ (PartsUndefined v.rule (part required s parts) (joined t tree) ⊎ PartsBare (part required s parts) (joined t tree) v)
-first_why s parts t tree v e (inl m) = inl m
-first_why s parts t tree v e (inr (inl n)) = inr (inl (record {
+first_why : (p : Presence) (s : Shape) (parts : Parts) (t tree : Tree) (v : View) (e : EncodeError) → IsEncodeMemory e.kind ⊎ (UndefinedPart p v.rule s t ⊎ BarePart p s t v)
+    → IsEncodeMemory e.kind ⊎ (PartsUndefined v.rule (part p s parts) (joined t tree) ⊎ PartsBare (part p s parts) (joined t tree) v)
+first_why p s parts t tree v e (inl m) = inl m
+first_why p s parts t tree v e (inr (inl n)) = inr (inl (record {
   none = λ trees encoded is w.
-      let d = divided v.rule s parts t tree trees encoded is w in n.none d.octets d.first;
+      let d = divided p v.rule s parts t tree trees encoded is w in n.none d.octets d.first;
 }))
-first_why s parts t tree v e (inr (inr n)) = inr (inr (record {
+first_why p s parts t tree v e (inr (inr n)) = inr (inr (record {
   bare = λ trees encoded is w nb.
-      let d = divided v.rule s parts t tree trees encoded is w in
-      n.some d.octets d.first (bare_first v.rule s parts t trees d.others encoded d.more d.octets d.trees_are d.encoded_are nb n.bare);
+      let d = divided p v.rule s parts t tree trees encoded is w in
+      n.some d.octets d.first (bare_first p v.rule s parts t trees d.others encoded d.more d.octets d.trees_are d.encoded_are nb n.bare);
   keeps = n.keeps;
 }))
 
 -- The first part is refused.
-first_refused : (s : Shape) (parts : Parts) (t tree : Tree) (v : View) (e : EncodeError) → MayRefuse s t v e
-    → PartsMayRefuse (part required s parts) (joined t tree) v e
-first_refused s parts t tree v e h = record { why = first_why s parts t tree v e h.why }
+first_refused : (p : Presence) (s : Shape) (parts : Parts) (t tree : Tree) (v : View) (e : EncodeError) → MayRefusePart p s t v e
+    → PartsMayRefuse (part p s parts) (joined t tree) v e
+first_refused p s parts t tree v e h = record { why = first_why p s parts t tree v e h.why }
 
 keeps_before : (v u : View) (octets : List ℕ) (tags : List Tag) → u ≡ appended v octets tags → u.last.tags ≢ None → v.last.tags ≢ None
 keeps_before v u octets tags e h k = h (ap (λ (x : View). x.last.tags) e ∙ ap (λ o. option_map (λ kept. kept ++ tags) o) k)
 
-later_why : (s : Shape) (parts : Parts) (t tree : Tree) (v u : View) (e : EncodeError) → Wrote s t v u
+later_why : (p : Presence) (s : Shape) (parts : Parts) (t tree : Tree) (v u : View) (e : EncodeError) → WrotePart p s t v u
     → IsEncodeMemory e.kind ⊎ (PartsUndefined u.rule parts tree ⊎ PartsBare parts tree u)
-    → IsEncodeMemory e.kind ⊎ (PartsUndefined v.rule (part required s parts) (joined t tree) ⊎ PartsBare (part required s parts) (joined t tree) v)
-later_why s parts t tree v u e a (inl m) = inl m
-later_why s parts t tree v u e a (inr (inl n)) = inr (inl (record {
+    → IsEncodeMemory e.kind ⊎ (PartsUndefined v.rule (part p s parts) (joined t tree) ⊎ PartsBare (part p s parts) (joined t tree) v)
+later_why p s parts t tree v u e a (inl m) = inl m
+later_why p s parts t tree v u e a (inr (inl n)) = inr (inl (record {
   none = λ trees encoded is w.
-      let d = divided v.rule s parts t tree trees encoded is w in
+      let d = divided p v.rule s parts t tree trees encoded is w in
       n.none d.others d.more d.tree_is (subst (λ r. PartsWritten (fields_of r parts) d.others d.more) (sym (ap (λ (x : View). x.rule) a.appended)) d.rest);
 }))
-later_why s parts t tree v u e a (inr (inr n)) = inr (inr (record {
+later_why p s parts t tree v u e a (inr (inr n)) = inr (inr (record {
   bare = λ trees encoded is w nb.
-      let d = divided v.rule s parts t tree trees encoded is w in
+      let d = divided p v.rule s parts t tree trees encoded is w in
       let r : v.rule ≡ u.rule = sym (ap (λ (x : View). x.rule) a.appended) in
       n.bare d.others d.more d.tree_is (subst (λ r. PartsWritten (fields_of r parts) d.others d.more) r d.rest)
-      (subst (λ r. NoneBare (fields_of r parts) d.others d.more) r (bare_rest v.rule s parts t trees d.others encoded d.more d.octets d.trees_are d.encoded_are nb));
+      (subst (λ r. NoneBare (fields_of r parts) d.others d.more) r (bare_rest p v.rule s parts t trees d.others encoded d.more d.octets d.trees_are d.encoded_are nb));
   keeps = keeps_before v u a.octets a.tags a.appended n.keeps;
 }))
 
 -- The first part is written, and a later one is refused.
-later_refused : (s : Shape) (parts : Parts) (t tree : Tree) (v u : View) (e : EncodeError) → Wrote s t v u → PartsMayRefuse parts tree u e
-    → PartsMayRefuse (part required s parts) (joined t tree) v e
-later_refused s parts t tree v u e a h = record { why = later_why s parts t tree v u e a h.why }
+later_refused : (p : Presence) (s : Shape) (parts : Parts) (t tree : Tree) (v u : View) (e : EncodeError) → WrotePart p s t v u → PartsMayRefuse parts tree u e
+    → PartsMayRefuse (part p s parts) (joined t tree) v e
+later_refused p s parts t tree v u e a h = record { why = later_why p s parts t tree v u e a h.why }
 
 -- No part is left, and the closure accepts.
 pub parts_end : (v : View) → WritesParts none done v (Ok tt) v
 parts_end v = record { keeps = record { rule = refl; below = refl }; ok = none_written v; refused = tt }
 
-refused_by : (s : Shape) (parts : Parts) (t tree : Tree) (v u : View) (r : Result (Unit {0}) EncodeError) (e : EncodeError)
-    → MayRefuse s t v e → u ≡ v → r ≡ Err e → WritesParts (part required s parts) (joined t tree) v r u
-refused_by s parts t tree v u r e h k q = rw q (record {
+refused_by : (p : Presence) (s : Shape) (parts : Parts) (t tree : Tree) (v u : View) (r : Result (Unit {0}) EncodeError) (e : EncodeError)
+    → MayRefusePart p s t v e → u ≡ v → r ≡ Err e → WritesParts (part p s parts) (joined t tree) v r u
+refused_by p s parts t tree v u r e h k q = rw q (record {
   keeps = record { rule = ap (λ (x : View). x.rule) k; below = ap (λ (x : View). x.below) k };
   ok = tt;
-  refused = first_refused s parts t tree v e h;
+  refused = first_refused p s parts t tree v e h;
 })
 
 -- A part is refused, and the closure answers that by `?`.
-pub part_refused : (s : Shape) (parts : Parts) (t tree : Tree) (v u : View) (r : Result (Unit {0}) EncodeError) (e : EncodeError)
-    → MayRefuse s t v e → u ≡ v → IsErrAnd r (λ y. y ≡ e) → WritesParts (part required s parts) (joined t tree) v r u
-part_refused s parts t tree v u r e h k q =
-    let p = err_from_is_err_and r q in
-    refused_by s parts t tree v u r e h k (p.1 ∙ ap (λ (y : EncodeError). (let x : Result (Unit {0}) EncodeError = Err y in x)) p.2)
+pub part_refused : {p : Presence} (s : Shape) (parts : Parts) (t tree : Tree) (v u : View) (r : Result (Unit {0}) EncodeError) (e : EncodeError)
+    → MayRefusePart p s t v e → u ≡ v → IsErrAnd r (λ y. y ≡ e) → WritesParts (part p s parts) (joined t tree) v r u
+part_refused {p} s parts t tree v u r e h k q =
+    let x = err_from_is_err_and r q in
+    refused_by p s parts t tree v u r e h k (x.1 ∙ ap (λ (y : EncodeError). (let z : Result (Unit {0}) EncodeError = Err y in z)) x.2)
 
 -- A part is written, and then the others are.
-pub part_put : (s : Shape) (parts : Parts) (t tree : Tree) (v u w : View) (r : Result (Unit {0}) EncodeError)
-    → Wrote s t v u → WritesParts parts tree u r w → WritesParts (part required s parts) (joined t tree) v r w
-part_put s parts t tree v u w r a p = record {
-  keeps = record { rule = p.keeps.rule ∙ ap (λ (x : View). x.rule) a.appended; below = p.keeps.below ∙ ap (λ (x : View). x.below) a.appended };
-  ok = on_ok_weaker r (λ h. part_written s parts t tree v u w a h) p.ok;
-  refused = IfErr-weaker r _ _ (λ e h. later_refused s parts t tree v u e a h) p.refused;
+pub part_put : {p : Presence} (s : Shape) (parts : Parts) (t tree : Tree) (v u w : View) (r : Result (Unit {0}) EncodeError)
+    → WrotePart p s t v u → WritesParts parts tree u r w → WritesParts (part p s parts) (joined t tree) v r w
+part_put {p} s parts t tree v u w r a q = record {
+  keeps = record { rule = q.keeps.rule ∙ ap (λ (x : View). x.rule) a.appended; below = q.keeps.below ∙ ap (λ (x : View). x.below) a.appended };
+  ok = on_ok_weaker r (λ h. part_written p s parts t tree v u w a h) q.ok;
+  refused = IfErr-weaker r _ _ (λ e h. later_refused p s parts t tree v u e a h) q.refused;
 }
 
 -- The call that writes the last part is the closure's answer.
-pub last_part : (s : Shape) (t : Tree) (v w : View) (r : Result (Unit {0}) EncodeError)
-    → OnOk r (Wrote s t v w) → OnErr r (w ≡ v) → IfErr r (MayRefuse s t v) → WritesParts (part required s none) (joined t done) v r w
-last_part s t v w (Ok tt) a b c = part_put s none t done v w w (Ok tt) a (parts_end w)
-last_part s t v w (Err e) a b c = refused_by s none t done v w (Err e) e c b refl
+pub last_part : {p : Presence} (s : Shape) (t : Tree) (v w : View) (r : Result (Unit {0}) EncodeError)
+    → OnOk r (WrotePart p s t v w) → OnErr r (w ≡ v) → IfErr r (MayRefusePart p s t v) → WritesParts (part p s none) (joined t done) v r w
+last_part {p} s t v w (Ok tt) a b c = part_put s none t done v w w (Ok tt) a (parts_end w)
+last_part {p} s t v w (Err e) a b c = refused_by p s none t done v w (Err e) e c b refl
 
 -- For the clause on success.
 pub sequence_ok : {F : Type 0} (g : Closure F (Unit {0})) (f : F) (v w : View) (tag : Tag) (parts : Parts) (tree : Tree) (r : Result (Unit {0}) EncodeError)
@@ -237,3 +237,45 @@ call_keeps {T} s t {v} {w} (Err x) a e = record { rule = ap (λ (u : View). u.ru
 
 pub keeps_then : {u v w : View} → LeavesOthers u v → LeavesOthers v w → LeavesOthers u w
 keeps_then a b = record { rule = b.rule ∙ a.rule; below = b.below ∙ a.below }
+
+-- A part that may be left out is written as the value of such a type is.
+pub optional_wrote : {g : Option Tag} (s : Shape) (t : Tree) (v w : View) → Wrote (option g s) t v w → WrotePart optional s t v w
+unfolding Bytes
+optional_wrote s t v w a = record { octets = a.octets; defined = a.defined; tags = a.tags; heads = a.heads; appended = a.appended }
+
+pub optional_refused : {g : Option Tag} (s : Shape) (t : Tree) (v : View) (e : EncodeError) → MayRefuse (option g s) t v e → MayRefusePart optional s t v e
+unfolding Bytes IsBare
+optional_refused s t v e h = record {
+  why = elim h.why [
+    | inl m ↦ inl m
+    | inr (inl n) ↦ inr (inl (record { none = n.none }))
+    | inr (inr n) ↦ inr (inr (record { bare = n.bare; some = n.some; keeps = n.keeps }))
+  ];
+}
+
+-- So is an extension addition.
+pub addition_wrote : {g : Option Tag} (s : Shape) (t : Tree) (v w : View) → Wrote (option g s) t v w → WrotePart addition s t v w
+unfolding Bytes
+addition_wrote s t v w a = record { octets = a.octets; defined = a.defined; tags = a.tags; heads = a.heads; appended = a.appended }
+
+pub addition_refused : {g : Option Tag} (s : Shape) (t : Tree) (v : View) (e : EncodeError) → MayRefuse (option g s) t v e → MayRefusePart addition s t v e
+unfolding Bytes IsBare
+addition_refused s t v e h = record {
+  why = elim h.why [
+    | inl m ↦ inl m
+    | inr (inl n) ↦ inr (inl (record { none = n.none }))
+    | inr (inr n) ↦ inr (inr (record { bare = n.bare; some = n.some; keeps = n.keeps }))
+  ];
+}
+
+-- The same of a closure that only puts more behind the last list.
+pub call_extends : {T : Type 0} (s : Shape) (t : Tree) {v w : View} (r : Result T EncodeError) → OnOk r (Wrote s t v w) → OnErr r (w ≡ v) → Extends v w
+call_extends {T} s t {v} {w} (Ok x) a e = record { octets = a.octets; tags = a.tags; appended = a.appended }
+call_extends {T} s t {v} {w} (Err x) a e = record { octets = []; tags = []; appended = e ∙ appended-nil v }
+
+pub extends_then : {u v w : View} → Extends u v → Extends v w → Extends u w
+extends_then {u} {v} {w} a b = record {
+  octets = a.octets ++ b.octets;
+  tags = a.tags ++ b.tags;
+  appended = b.appended ∙ (ap (λ x. appended x b.octets b.tags) a.appended ∙ appended-more u a.octets b.octets a.tags b.tags);
+}

@@ -8,5 +8,9 @@ pub mod Segments
 pub mod Texts
 pub mod Writing
 pub mod Parts
+pub mod Elements
+pub mod Defaults
+pub mod Additions
+pub mod Alternatives
 pub mod ObjectIdentifiers
 pub mod BitSegments

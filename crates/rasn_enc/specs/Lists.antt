@@ -1,8 +1,9 @@
 -- What the view shows of a list.
-use Rattle.std.specs.Prelude.{◌<◌, Option, Some, None, Vec, List, option_map, vec_len, vec_capacity}
+use Rattle.std.specs.Prelude.{ℕ, ◌≡◌, ◌<◌, length, Option, Some, None, Vec, List, option_map, vec_len, vec_capacity}
 use Rattle.rasn_types.specs.declared.types.tag.Tag.{Tag}
 use Rattle.rasn_enc.specs.View.{Frame}
-use Rattle.rasn_enc.specs.declared.ber.enc.list.OpenList.{OpenList}
+use Rattle.rasn_enc.specs.declared.ber.enc.open_list.OpenList.{OpenList}
+use Rattle.rasn_enc.specs.declared.ber.enc.open_list.ListEnd.{ListEnd}
 
 abbrev pub tags_of : {A : Type 0} → Option (Vec Tag A) → Option (List Tag)
 tags_of tags = option_map (λ v. v.items) tags
@@ -14,3 +15,12 @@ frame_of list = record { octets = list.octets.items; tags = tags_of list.tags }
 abbrev pub HasRoom : {A : Type 0} → Option (Vec Tag A) → Type 0
 HasRoom None = Unit {0}
 HasRoom (Some tags) = vec_len tags < vec_capacity tags
+
+abbrev pub count_of : Option (List Tag) → ℕ
+count_of None = 0
+count_of (Some tags) = length tags
+
+-- The mark tells where the list ends.
+pub record IsMarked (f : Frame) (m : ListEnd) : Type 0 where
+  pub octets : m.octets ≡ length f.octets
+  pub tags : m.tags ≡ count_of f.tags

@@ -36,3 +36,9 @@ IsBelow v u = (u.rule ≡ v.rule) × (u.below ≡ v.below ++ v.last ∷ [])
 pub record LeavesOthers (v w : View) : Type 0 where
   pub rule : w.rule ≡ v.rule
   pub below : w.below ≡ v.below
+
+-- More stands behind the last list.
+pub record Extends (v w : View) : Type 0 where
+  pub octets : List ℕ
+  pub tags : List Tag
+  pub appended : w ≡ appended v octets tags

@@ -1,10 +1,13 @@
 //! The trait of values that can be written.
-ghost use Rattle.std.specs.Prelude.{◌≡◌, false, IfErr, OnOk, OnErr};
+ghost use Rattle.std.specs.Prelude.{◌≡◌, ◌≢◌, MatchBool, IfErr, OnOk, OnErr};
 ghost use Rattle.rasn_types.specs.Shapes.{given, absent};
 ghost use Rattle.rasn_enc.specs.Wrote.{Wrote, MayRefuse};
 
 mod integers;
+mod lists;
 mod numbered;
+mod optional;
+mod prefix;
 mod strings;
 mod times;
 
@@ -73,10 +76,7 @@ pub trait Encode: AsnType {
 
     /// Whether there is a value: not where an optional one is absent.
     fn is_present(&self) -> bool
-        ensures { result ≡ false → Self.tree self.now ≡ absent }
-    {
-        true
-    }
+        ensures { MatchBool result (Self.tree self.now ≢ absent) (Self.tree self.now ≡ absent) };
 }
 
 impl Encode for bool {
@@ -88,6 +88,10 @@ impl Encode for bool {
         identifier: Identifier,
     ) -> Result<(), EncodeError> {
         encoder.encode_bool(tag, *self, identifier)
+    }
+
+    fn is_present(&self) -> bool {
+        true
     }
 }
 
@@ -101,6 +105,10 @@ impl Encode for OctetString {
     ) -> Result<(), EncodeError> {
         encoder.encode_octet_string(tag, constraints, self.as_octets(), identifier)
     }
+
+    fn is_present(&self) -> bool {
+        true
+    }
 }
 
 impl Encode for BitString {
@@ -112,5 +120,9 @@ impl Encode for BitString {
         identifier: Identifier,
     ) -> Result<(), EncodeError> {
         encoder.encode_bit_string(tag, constraints, &self.as_bitstr(), identifier)
+    }
+
+    fn is_present(&self) -> bool {
+        true
     }
 }

@@ -1,5 +1,6 @@
 pub mod Tags
 pub mod Framing
+pub mod Given
 pub mod Calendar
 pub mod Spelling
 pub mod Times

@@ -1,8 +1,8 @@
 -- The trees of values.
-use Rattle.std.specs.Prelude.{◌≡◌, ◌-◌, ◌^◌, ℕ, Bool, ℤ, pos, neg_ℤ, true, false, List, None}
+use Rattle.std.specs.Prelude.{◌≡◌, ◌-◌, ◌^◌, ℕ, Bool, ℤ, pos, neg_ℤ, true, false, List, map, Option, Some, None}
 use Rattle.rasn_types.specs.Framing.{AreOctets}
 use Rattle.rasn_types.specs.Contents.{signed, IsShortestInteger}
-use Rattle.rasn_types.specs.Shapes.{Tree, number, numbers, Constraints, Interval, between}
+use Rattle.rasn_types.specs.Shapes.{Tree, number, numbers, items, absent, Constraints, Interval, between}
 use Rattle.rasn_types.specs.declared.types.octet.OctetString.{OctetString}
 
 abbrev pub truth : Bool → ℤ
@@ -34,3 +34,12 @@ signed_range bits = between (neg_ℤ (pos (2 ^ (bits - 1)))) (pos (2 ^ (bits - 1
 
 abbrev pub unsigned_range : ℕ → Interval
 unsigned_range bits = between (pos 0) (pos (2 ^ bits - 1))
+
+-- a value that may be absent
+abbrev pub option_tree : {T : Type 0} → (T → Tree) → Option T → Tree
+option_tree tree None = absent
+option_tree tree (Some v) = tree v
+
+-- the values of a list
+abbrev pub list_tree : {T : Type 0} → (T → Tree) → List T → Tree
+list_tree tree vs = items (map tree vs)

@@ -120,4 +120,8 @@ impl<A: Encode, B: Encode> Encode for Both<A, B> {
             identifier,
         )
     }
+
+    fn is_present(&self) -> bool {
+        true
+    }
 }

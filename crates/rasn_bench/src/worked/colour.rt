@@ -89,6 +89,10 @@ impl Encode for Colour {
     ) -> Result<(), EncodeError> {
         encoder.encode_enumerated(tag, self, identifier)
     }
+
+    fn is_present(&self) -> bool {
+        true
+    }
 }
 
 #[cfg(test)]

@@ -112,4 +112,8 @@ impl Encode for Pair {
             identifier,
         )
     }
+
+    fn is_present(&self) -> bool {
+        true
+    }
 }

@@ -18,10 +18,15 @@ use std::alloc::Global;
 use std::marker::Model;
 
 mod bits;
+mod choice;
 mod config;
+mod default;
+mod extensions;
 mod leaves;
+mod lists;
 mod nesting;
 mod numbered;
+mod optional;
 pub mod parser;
 mod prefix;
 mod sequences;

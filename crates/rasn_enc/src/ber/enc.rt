@@ -5,14 +5,20 @@ ghost use Rattle.rasn_enc.specs.View.{View, fresh, opened, appended, IsBelow};
 ghost use Rattle.rasn_enc.specs.Primitives.{Appends, WantsMemory};
 
 mod bits;
+mod choice;
 mod config;
 mod constructed;
+mod default;
+mod extensions;
 mod header;
 mod integers;
 mod leaves;
-mod list;
+mod lists;
 mod numbered;
 mod objects;
+mod open_list;
+mod optional;
+mod prefix;
 mod segments;
 mod strings;
 #[cfg(test)]
@@ -20,8 +26,8 @@ mod tests;
 mod times;
 
 pub use config::EncoderOptions;
-use list::{OpenList, put_constructed, put_primitive};
 pub use objects::object_identifier_as_bytes;
+use open_list::{OpenList, put_constructed, put_primitive};
 use rasn_types::error::{EncodeError, EncodeErrorKind};
 use rasn_types::types::{Codec, Tag};
 use std::alloc::Global;

@@ -16,6 +16,10 @@ impl Encode for i8 {
     ) -> Result<(), EncodeError> {
         encoder.encode_integer::<i8>(tag, constraints, self, identifier)
     }
+
+    fn is_present(&self) -> bool {
+        true
+    }
 }
 
 impl Encode for i16 {
@@ -27,6 +31,10 @@ impl Encode for i16 {
         identifier: Identifier,
     ) -> Result<(), EncodeError> {
         encoder.encode_integer::<i16>(tag, constraints, self, identifier)
+    }
+
+    fn is_present(&self) -> bool {
+        true
     }
 }
 
@@ -40,6 +48,10 @@ impl Encode for i32 {
     ) -> Result<(), EncodeError> {
         encoder.encode_integer::<i32>(tag, constraints, self, identifier)
     }
+
+    fn is_present(&self) -> bool {
+        true
+    }
 }
 
 impl Encode for i64 {
@@ -51,6 +63,10 @@ impl Encode for i64 {
         identifier: Identifier,
     ) -> Result<(), EncodeError> {
         encoder.encode_integer::<i64>(tag, constraints, self, identifier)
+    }
+
+    fn is_present(&self) -> bool {
+        true
     }
 }
 
@@ -64,6 +80,10 @@ impl Encode for i128 {
     ) -> Result<(), EncodeError> {
         encoder.encode_integer::<i128>(tag, constraints, self, identifier)
     }
+
+    fn is_present(&self) -> bool {
+        true
+    }
 }
 
 impl Encode for isize {
@@ -75,6 +95,10 @@ impl Encode for isize {
         identifier: Identifier,
     ) -> Result<(), EncodeError> {
         encoder.encode_integer::<isize>(tag, constraints, self, identifier)
+    }
+
+    fn is_present(&self) -> bool {
+        true
     }
 }
 
@@ -88,6 +112,10 @@ impl Encode for u8 {
     ) -> Result<(), EncodeError> {
         encoder.encode_integer::<u8>(tag, constraints, self, identifier)
     }
+
+    fn is_present(&self) -> bool {
+        true
+    }
 }
 
 impl Encode for u16 {
@@ -99,6 +127,10 @@ impl Encode for u16 {
         identifier: Identifier,
     ) -> Result<(), EncodeError> {
         encoder.encode_integer::<u16>(tag, constraints, self, identifier)
+    }
+
+    fn is_present(&self) -> bool {
+        true
     }
 }
 
@@ -112,6 +144,10 @@ impl Encode for u32 {
     ) -> Result<(), EncodeError> {
         encoder.encode_integer::<u32>(tag, constraints, self, identifier)
     }
+
+    fn is_present(&self) -> bool {
+        true
+    }
 }
 
 impl Encode for u64 {
@@ -123,6 +159,10 @@ impl Encode for u64 {
         identifier: Identifier,
     ) -> Result<(), EncodeError> {
         encoder.encode_integer::<u64>(tag, constraints, self, identifier)
+    }
+
+    fn is_present(&self) -> bool {
+        true
     }
 }
 
@@ -136,6 +176,10 @@ impl Encode for u128 {
     ) -> Result<(), EncodeError> {
         encoder.encode_integer::<u128>(tag, constraints, self, identifier)
     }
+
+    fn is_present(&self) -> bool {
+        true
+    }
 }
 
 impl Encode for usize {
@@ -148,6 +192,10 @@ impl Encode for usize {
     ) -> Result<(), EncodeError> {
         encoder.encode_integer::<usize>(tag, constraints, self, identifier)
     }
+
+    fn is_present(&self) -> bool {
+        true
+    }
 }
 
 impl Encode for Integer {
@@ -159,5 +207,9 @@ impl Encode for Integer {
         identifier: Identifier,
     ) -> Result<(), EncodeError> {
         encoder.encode_integer::<Integer>(tag, constraints, self, identifier)
+    }
+
+    fn is_present(&self) -> bool {
+        true
     }
 }

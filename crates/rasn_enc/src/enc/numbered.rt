@@ -14,6 +14,10 @@ impl Encode for () {
     ) -> Result<(), EncodeError> {
         encoder.encode_null(tag, identifier)
     }
+
+    fn is_present(&self) -> bool {
+        true
+    }
 }
 
 impl Encode for ObjectIdentifier {
@@ -25,5 +29,9 @@ impl Encode for ObjectIdentifier {
         identifier: Identifier,
     ) -> Result<(), EncodeError> {
         encoder.encode_object_identifier(tag, self.arcs(), identifier)
+    }
+
+    fn is_present(&self) -> bool {
+        true
     }
 }

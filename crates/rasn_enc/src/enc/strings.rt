@@ -16,6 +16,10 @@ impl<S: StringType> Encode for RestrictedString<S> {
     ) -> Result<(), EncodeError> {
         encoder.restricted(tag, constraints, self)
     }
+
+    fn is_present(&self) -> bool {
+        true
+    }
 }
 
 impl Encode for BmpString {
@@ -27,6 +31,10 @@ impl Encode for BmpString {
         identifier: Identifier,
     ) -> Result<(), EncodeError> {
         encoder.encode_bmp_string(tag, constraints, self, identifier)
+    }
+
+    fn is_present(&self) -> bool {
+        true
     }
 }
 
@@ -40,6 +48,10 @@ impl Encode for String {
     ) -> Result<(), EncodeError> {
         encoder.encode_utf8_string(tag, constraints, self.as_str(), identifier)
     }
+
+    fn is_present(&self) -> bool {
+        true
+    }
 }
 
 impl<const N: usize> Encode for FixedOctetString<N> {
@@ -51,5 +63,9 @@ impl<const N: usize> Encode for FixedOctetString<N> {
         identifier: Identifier,
     ) -> Result<(), EncodeError> {
         encoder.encode_octet_string(tag, constraints, self.as_octets(), identifier)
+    }
+
+    fn is_present(&self) -> bool {
+        true
     }
 }

@@ -14,6 +14,10 @@ impl Encode for UtcTime {
     ) -> Result<(), EncodeError> {
         encoder.encode_utc_time(tag, self, identifier)
     }
+
+    fn is_present(&self) -> bool {
+        true
+    }
 }
 
 impl Encode for GeneralizedTime {
@@ -26,6 +30,10 @@ impl Encode for GeneralizedTime {
     ) -> Result<(), EncodeError> {
         encoder.encode_generalized_time(tag, self, identifier)
     }
+
+    fn is_present(&self) -> bool {
+        true
+    }
 }
 
 impl Encode for Date {
@@ -37,5 +45,9 @@ impl Encode for Date {
         identifier: Identifier,
     ) -> Result<(), EncodeError> {
         encoder.encode_date(tag, self, identifier)
+    }
+
+    fn is_present(&self) -> bool {
+        true
     }
 }

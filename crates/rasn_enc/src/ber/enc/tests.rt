@@ -1,11 +1,15 @@
 mod bits;
+mod choice;
+mod lists;
+mod optional;
 mod strings;
 
 use crate::ber::enc::{Encoder, EncoderOptions};
 use crate::enc::Encode;
 use rasn_types::error::{EncodeError, EncodeErrorKind};
 use rasn_types::types::{
-    Bound, Bounded, Class, Codec, Constraints, Identifier, Integer, OctetString, Tag,
+    AsnType, Bound, Bounded, Class, Codec, Constraints, Constructed, Field, FieldPresence, Fields,
+    Identifier, Integer, OctetString, Tag,
 };
 use std::alloc::Global;
 use std::test::Fail;
@@ -22,6 +26,118 @@ fn written<T: Encode>(
 
 fn repeated(alloc: Global, octet: u8, count: usize) -> Result<OctetString, Fail> {
     Ok(OctetString::from_vec(vec![in alloc; octet; count]?))
+}
+
+/// The tag \[0\].
+#[derive(Debug, Drop)]
+struct Zero;
+
+impl AsnType for Zero {
+    ghost use Rattle.std.specs.Prelude.{refl};
+    ghost use Rattle.rasn_types.specs.Shapes.{leaf, null, done};
+    ghost use Rattle.rasn_types.specs.Trees.{unconstrained};
+    ghost use Rattle.rasn_types.specs.declared.types.tag.Class.TheVariants.{Context};
+
+    ghost TAG = { record { class = Context; value = 0 } };
+
+    const TAG: Tag = Tag {
+        class: Class::Context,
+        value: 0,
+    };
+
+    ghost CONSTRAINTS = { unconstrained };
+
+    const CONSTRAINTS: Constraints = Constraints::NONE;
+
+    ghost shape = { leaf null (record { class = Context; value = 0 }) unconstrained };
+
+    ghost tree = { λ _. done };
+
+    ghost own = { refl };
+}
+
+/// SEQUENCE { number INTEGER (0..255) DEFAULT 7 }
+#[derive(Debug, Drop)]
+struct Weight {
+    number: u8,
+}
+
+impl AsnType for Weight {
+    ghost use Rattle.std.specs.Prelude.{refl, pos, ◌∷◌, []};
+    ghost use Rattle.rasn_types.specs.Shapes.{seq, part, default, leaf, integer, number, items};
+    ghost use Rattle.rasn_types.specs.Shapes.Parts.{none};
+    ghost use Rattle.rasn_types.specs.Tags.{in_universal};
+    ghost use Rattle.rasn_types.specs.Trees.{unconstrained, unsigned_range};
+
+    ghost TAG = { in_universal 16 };
+
+    const TAG: Tag = Tag::SEQUENCE;
+
+    ghost CONSTRAINTS = { unconstrained };
+
+    const CONSTRAINTS: Constraints = Constraints::NONE;
+
+    ghost shape = { seq (in_universal 16) (part (default (number (pos 7))) (leaf (integer (unsigned_range 8)) (in_universal 2) unconstrained) none) };
+
+    ghost tree = { λ w. items (number (pos w.number) ∷ []) };
+
+    ghost own = { refl };
+}
+
+impl Constructed<1, 0> for Weight {
+    ghost use Rattle.std.specs.Prelude.{refl, false, pos};
+    ghost use Rattle.rasn_types.specs.Shapes.{part, default, leaf, integer, number};
+    ghost use Rattle.rasn_types.specs.Shapes.Parts.{none};
+    ghost use Rattle.rasn_types.specs.Tags.{in_universal};
+    ghost use Rattle.rasn_types.specs.Trees.{unconstrained, unsigned_range};
+
+    const FIELDS: Fields<1> = Fields {
+        fields: [Field {
+            index: 0,
+            tag: Tag::INTEGER,
+            presence: FieldPresence::Default,
+            name: "number",
+        }],
+    };
+
+    const EXTENDED_FIELDS: Option<Fields<0>> = None;
+
+    ghost HAS_REQUIRED_FIELDS = { false };
+
+    const HAS_REQUIRED_FIELDS: bool = false;
+
+    ghost parts = { part (default (number (pos 7))) (leaf (integer (unsigned_range 8)) (in_universal 2) unconstrained) none };
+
+    ghost described = { refl };
+}
+
+impl Encode for Weight {
+    ghost use Rattle.std.specs.Prelude.{pos, ◌∷◌, []};
+    ghost use Rattle.rasn_types.specs.Shapes.{part, default, leaf, integer, number, items};
+    ghost use Rattle.rasn_types.specs.Shapes.Parts.{none};
+    ghost use Rattle.rasn_types.specs.Tags.{in_universal};
+    ghost use Rattle.rasn_types.specs.Trees.{unconstrained, unsigned_range};
+    ghost use Rattle.rasn_enc.specs.Parts.{WritesParts};
+
+    fn encode_with_tag_and_constraints(
+        &self,
+        encoder: &mut Encoder,
+        tag: Tag,
+        _constraints: &Constraints,
+        identifier: Identifier,
+    ) -> Result<(), EncodeError> {
+        encoder.encode_sequence::<1, 0, Weight, _>(
+            tag,
+            |inner: &mut Encoder| -> Result<(), EncodeError>
+                ensures { WritesParts (part (default (number (pos 7))) (leaf (integer (unsigned_range 8)) (in_universal 2) unconstrained) none) (items (number (pos self.entry.now.number) ∷ [])) inner.old result inner.new }
+            { inner.encode_default(&self.number, || Ok(7), Identifier::EMPTY) },
+            identifier,
+        )
+    }
+
+    fn is_present(&self) -> bool {
+        true
+    }
 }
 
 #[test]

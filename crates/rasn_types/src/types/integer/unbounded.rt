@@ -34,16 +34,9 @@ impl Integer {
         if octets.is_empty() {
             return Ok(None);
         }
-        Ok(Some(Integer::from_some(alloc, octets)?))
-    }
-
-    fn from_some(alloc: Global, octets: &[u8]) -> Result<Integer, AllocError>
-        requires { 0 < length octets.now }
-        ensures { IfOk result (λ n. n ≡ signed octets.now) }
-    {
         let mut kept = Vec::new(alloc);
         kept.extend_from_slice(shortest(octets))?;
-        Ok(Integer { octets: kept })
+        Ok(Some(Integer { octets: kept }))
     }
 
     /// Its octets in two's complement, the fewest (X.690 8.3.2).
@@ -111,7 +104,7 @@ impl IntegerType for Integer {
     ghost grows = { true };
 
     fn from_octets(alloc: Global, octets: &[u8]) -> Result<Option<Integer>, AllocError> {
-        Ok(Some(Integer::from_some(alloc, octets)?))
+        Integer::from_octets(alloc, octets)
     }
 
     fn append_octets(&self, octets: &mut Vec<u8>) -> Result<(), AllocError> {

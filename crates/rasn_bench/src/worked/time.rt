@@ -1,0 +1,103 @@
+//! `Time ::= CHOICE { utcTime UTCTime, generalTime GeneralizedTime }` (RFC 5280, 4.1).
+ghost use Rattle.rasn_enc.specs.Alternatives.{WritesAlternative};
+ghost use Rattle.rasn_bench.specs.Choices.{time_alternatives, time_tree};
+
+use rasn::ber::de::Decoder;
+use rasn::ber::enc::Encoder;
+use rasn::de::{Decode, DecodeChoice, Error};
+use rasn::enc::Encode;
+use rasn::error::{DecodeError, EncodeError};
+use rasn::types::{AsnType, Constraints, GeneralizedTime, Identifier, Tag, UtcTime};
+
+/// CHOICE { utcTime UTCTime, generalTime GeneralizedTime }
+#[derive(Debug, PartialEq, Eq, Drop)]
+pub enum Time {
+    Utc(UtcTime),
+    General(GeneralizedTime),
+}
+
+impl AsnType for Time {
+    ghost use Rattle.std.specs.Prelude.{refl};
+    ghost use Rattle.rasn_types.specs.Tags.{eoc};
+    ghost use Rattle.rasn_types.specs.Trees.{unconstrained};
+    ghost use Rattle.rasn_bench.specs.Choices.{time_shape, time_tree};
+
+    ghost TAG = { eoc };
+
+    const TAG: Tag = Tag::EOC;
+
+    ghost CONSTRAINTS = { unconstrained };
+
+    const CONSTRAINTS: Constraints = Constraints::NONE;
+
+    ghost shape = { time_shape };
+
+    ghost tree = { time_tree };
+
+    ghost own = { refl };
+}
+
+impl Decode for Time {
+    fn decode_with_tag_and_constraints(
+        decoder: &mut Decoder<'_>,
+        _tag: Tag,
+        constraints: &Constraints,
+    ) -> Result<Time, DecodeError> {
+        decoder.decode_choice::<Time>(constraints)
+    }
+}
+
+impl DecodeChoice for Time {
+    ghost use Rattle.std.specs.Prelude.{refl};
+    ghost use Rattle.rasn_bench.specs.Choices.{time_alternatives};
+
+    ghost alternatives = { time_alternatives };
+
+    fn from_tag(decoder: &mut Decoder<'_>, tag: Tag) -> Result<Time, DecodeError> {
+        if tag == UtcTime::TAG {
+            let time = UtcTime::decode(decoder)?;
+            return Ok(Time::Utc(time));
+        }
+        if tag == GeneralizedTime::TAG {
+            let time = GeneralizedTime::decode(decoder)?;
+            return Ok(Time::General(time));
+        }
+        Err(DecodeError::no_valid_choice(decoder.alloc(), "Time", decoder.codec()))
+    }
+
+    ghost chooses = { refl };
+}
+
+impl Encode for Time {
+    fn encode_with_tag_and_constraints(
+        &self,
+        encoder: &mut Encoder,
+        tag: Tag,
+        constraints: &Constraints,
+        identifier: Identifier,
+    ) -> Result<(), EncodeError> {
+        encoder.encode_choice::<Time, _>(
+            constraints,
+            tag,
+            |inner: &mut Encoder| -> Result<Tag, EncodeError>
+                ensures { WritesAlternative time_alternatives (time_tree self.entry.now) inner.old result inner.new }
+            {
+                match self {
+                    Time::Utc(time) => {
+                        time.encode(inner)?;
+                        Ok(UtcTime::TAG)
+                    }
+                    Time::General(time) => {
+                        time.encode(inner)?;
+                        Ok(GeneralizedTime::TAG)
+                    }
+                }
+            },
+            identifier,
+        )
+    }
+
+    fn is_present(&self) -> bool {
+        true
+    }
+}

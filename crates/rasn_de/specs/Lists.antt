@@ -1,0 +1,49 @@
+-- Elements up to the end of the contents (X.690 8.10).
+use Rattle.std.specs.Prelude.{◌≡◌, ◌≢◌, ◌⊎◌, ◌≤◌, ℕ, List, [], ◌∷◌, length, Bool, true, Result, Ok, Err}
+use Rattle.rasn_types.specs.declared.types.tag.Tag.{Tag}
+use Rattle.rasn_types.specs.declared.types.rules.Codec.{Codec}
+use Rattle.rasn_types.specs.declared.types.constraints.Constraints.{Constraints}
+use Rattle.rasn_types.specs.declared.error.decode.DecodeError.{DecodeError}
+use Rattle.rasn_types.specs.Shapes.{Tree, Shape, items, Admits, constraint_of}
+use Rattle.rasn_types.specs.Framing.{Ended}
+use Rattle.rasn_types.specs.Readers.{Reading, Many}
+use Rattle.rasn_types.specs.Grammar.{Reads}
+use Rattle.rasn_de.specs.declared.ber.de.parser.Fault.TheVariants.{SizeConstraintNotSatisfied, UnexpectedExtraData, OutOfMemory}
+use Rattle.rasn_de.specs.State.{State}
+use Rattle.rasn_de.specs.Taking.{ErrorOf}
+use Rattle.rasn_de.specs.Decodes.{DecodesBy}
+use Rattle.rasn_de.specs.Inside.{Door, ReadInside}
+
+-- A list takes two levels of depth.
+abbrev pub list_door : Tag → Door
+list_door tag = record { tag = tag; needed = true; levels = 2 }
+
+unfoldable pub ReadsItems : Shape → Codec → ℕ → Bool → Reading Tree
+ReadsItems s rule depth closing input t rest = (ts : List Tree) × (t ≡ items ts) × Many (Reads rule s depth closing) closing input ts rest
+
+-- What reads of elements do, one behind the other: read o r n says that on the decoder o, r may be answered and n be left.
+module _ {D : Type 0} (read : State → Result D DecodeError → State → Type 0) where
+  -- These elements were read, and each took something.
+  abbrev pub Passes : State → List D → State → Type 0
+  Passes old [] here = here ≡ old
+  Passes old (v ∷ vs) here = (next : State) × (Ended old.closing old.rest → ⊥) × read old (Ok v) next × (length next.rest ≢ length old.rest) × Passes next vs here
+
+  -- An element is refused; or it takes nothing; or memory is wanted behind it.
+  abbrev pub Stops : State → DecodeError → State → Type 0
+  Stops here e new = read here (Err e) new
+      ⊎ ((v : D) × read here (Ok v) new × (((length new.rest ≡ length here.rest) × ErrorOf (UnexpectedExtraData (length here.rest)) here e) ⊎ ErrorOf OutOfMemory here e))
+
+  -- Elements up to the end, or the refusal of the first that isn't read.
+  abbrev pub ReadEach : {L : Type 0} → (L → List D) → State → Result L DecodeError → State → Type 0
+  ReadEach elements old (Ok v) new = Passes old (elements v) new × Ended new.closing new.rest
+  ReadEach elements old (Err e) new = (vs : List D) × (here : State) × Passes old vs here × (Ended here.closing here.rest → ⊥) × Stops here e new
+
+-- The elements inside a value of the tag, before their number is asked.
+abbrev pub InList : {L : Type 0} → (State → Result L DecodeError → State → Type 0) → Tag → State → Result L DecodeError → State → Type 0
+InList read tag old result new = ReadInside read (list_door tag) old result new
+
+-- A number of elements that isn't admitted is refused, with the whole value taken.
+abbrev pub ReadSized : {L : Type 0} → (State → Result L DecodeError → State → Type 0) → (L → ℕ) → Tag → Constraints → State → Result L DecodeError → State → Type 0
+ReadSized read size tag c old (Ok v) new = Admits ◌≤◌ c.size (size v) × InList read tag old (Ok v) new
+ReadSized {L} read size tag c old (Err e) new = InList read tag old (Err e) new
+    ⊎ ((v : L) × InList read tag old (Ok v) new × (Admits ◌≤◌ c.size (size v) → ⊥) × ErrorOf (SizeConstraintNotSatisfied (size v) (constraint_of c.size)) old e)

@@ -1,0 +1,25 @@
+//! CHOICE (X.690 8.13).
+ghost use Rattle.rasn_de.specs.Decodes.{Decodes};
+ghost use Rattle.rasn_de.specs.Choices.{ReadChosen};
+
+use crate::ber::de::Decoder;
+use crate::de::DecodeChoice;
+use rasn_types::error::DecodeError;
+use rasn_types::types::Constraints;
+
+impl<'input> Decoder<'input> {
+    /// A value of the alternative that the next tag belongs to. Constraints are ignored.
+    ///
+    /// # Errors
+    /// Faults of the next identifier, which take nothing; what `D::from_tag` refuses.
+    pub fn decode_choice<D: DecodeChoice>(
+        &mut self,
+        _constraints: &Constraints,
+    ) -> Result<D, DecodeError>
+        ensures called { ReadChosen (Decodes D.shape D.tree) self.old result self.new }
+        ensures reads { Decodes D.shape D.tree self.old result self.new }
+    {
+        let tag = self.peek_tag()?;
+        D::from_tag(self, tag)
+    }
+}

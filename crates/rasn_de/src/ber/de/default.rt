@@ -1,0 +1,84 @@
+//! Values that have a default where they are left out (X.680 25.8).
+ghost use Rattle.rasn_types.specs.Shapes.{given};
+ghost use Rattle.rasn_de.specs.Decodes.{Decodes};
+ghost use Rattle.rasn_de.specs.Optionals.{ReadOr, DecodesDefault};
+
+use crate::ber::de::Decoder;
+use crate::ber::de::parser::Fault;
+use crate::de::Decode;
+use rasn_types::error::DecodeError;
+use rasn_types::types::{Constraints, Tag};
+use std::alloc::AllocError;
+
+impl<'input> Decoder<'input> {
+    /// A value, or its default where the contents end or another tag than the type's own comes.
+    ///
+    /// # Errors
+    /// Faults of the next identifier, which take nothing; what the value refuses; want of memory of the default.
+    pub fn decode_default<D: Decode, F: FnOnce() -> Result<D, AllocError>>(
+        &mut self,
+        default: F,
+    ) -> Result<D, DecodeError>
+        requires { F.IsAlwaysCallable default }
+        ensures called { ReadOr (Decodes D.shape D.tree) (F.post default) D.TAG self.old result self.new }
+        ensures reads { DecodesDefault D.TAG D.shape D.tree (F.post default) self.old result self.new }
+    {
+        self.decode_default_with_tag_and_constraints(D::TAG, default, &D::CONSTRAINTS)
+    }
+
+    /// A value under this tag, or its default where the contents end or another tag comes.
+    ///
+    /// # Errors
+    /// As `decode_default`.
+    pub fn decode_default_with_tag<D: Decode, F: FnOnce() -> Result<D, AllocError>>(
+        &mut self,
+        tag: Tag,
+        default: F,
+    ) -> Result<D, DecodeError>
+        requires { F.IsAlwaysCallable default }
+        ensures called { ReadOr (Decodes (given tag D.CONSTRAINTS D.shape) D.tree) (F.post default) tag self.old result self.new }
+        ensures reads { DecodesDefault tag (given tag D.CONSTRAINTS D.shape) D.tree (F.post default) self.old result self.new }
+    {
+        self.decode_default_with_tag_and_constraints(tag, default, &D::CONSTRAINTS)
+    }
+
+    /// A value under these constraints, or its default where the contents end or another tag than the type's own comes.
+    ///
+    /// # Errors
+    /// As `decode_default`.
+    pub fn decode_default_with_constraints<D: Decode, F: FnOnce() -> Result<D, AllocError>>(
+        &mut self,
+        default: F,
+        constraints: &Constraints,
+    ) -> Result<D, DecodeError>
+        requires { F.IsAlwaysCallable default }
+        ensures called { ReadOr (Decodes (given D.TAG constraints.now D.shape) D.tree) (F.post default) D.TAG self.old result self.new }
+        ensures reads { DecodesDefault D.TAG (given D.TAG constraints.now D.shape) D.tree (F.post default) self.old result self.new }
+    {
+        self.decode_default_with_tag_and_constraints(D::TAG, default, constraints)
+    }
+
+    /// A value under this tag and these constraints, or its default where the contents end or another tag comes.
+    ///
+    /// # Errors
+    /// As `decode_default`.
+    pub fn decode_default_with_tag_and_constraints<D: Decode, F: FnOnce() -> Result<D, AllocError>>(
+        &mut self,
+        tag: Tag,
+        default: F,
+        constraints: &Constraints,
+    ) -> Result<D, DecodeError>
+        requires { F.IsAlwaysCallable default }
+        ensures called { ReadOr (Decodes (given tag constraints.now D.shape) D.tree) (F.post default) tag self.old result self.new }
+        ensures reads { DecodesDefault tag (given tag constraints.now D.shape) D.tree (F.post default) self.old result self.new }
+    {
+        if self.comes(tag)? {
+            drop(default);
+            return D::decode_with_tag_and_constraints(self, tag, constraints);
+        }
+        match default() {
+            Ok(value) => Ok(value),
+            Err(AllocError) => Err(self.error(Fault::OutOfMemory)),
+        }
+    }
+}

@@ -1,0 +1,76 @@
+//! SEQUENCE OF (X.690 8.10).
+ghost use Rattle.std.specs.Prelude.{◌≢◌, vec_len};
+ghost use Rattle.rasn_types.specs.Framing.{AreOctets};
+ghost use Rattle.rasn_types.specs.Shapes.{list};
+ghost use Rattle.rasn_de.specs.Decodes.{Decodes, DecodesBy};
+ghost use Rattle.rasn_de.specs.Lists.{ReadsItems, ReadEach, InList, ReadSized};
+ghost use Rattle.rasn_types.specs.Trees.{list_tree};
+
+use crate::ber::de::Decoder;
+use crate::ber::de::nesting::Opening;
+use crate::ber::de::parser::Fault;
+use crate::de::Decode;
+use rasn_types::error::DecodeError;
+use rasn_types::types::{Constraints, Tag};
+
+impl<'input> Decoder<'input> {
+    /// Elements up to the end of the contents.
+    fn elements<D: Decode>(&mut self) -> Result<Vec<D>, DecodeError>
+        ensures reads { DecodesBy (ReadsItems D.shape) (λ v. list_tree D.tree v.items) self.old result self.new }
+        ensures each { ReadEach (Decodes D.shape D.tree) (λ v. v.items) self.old result self.new }
+    {
+        let mut values = Vec::new(self.alloc);
+        while !self.has_ended() {
+            let left = self.rest.len();
+            let value = D::decode(self)?;
+            if self.rest.len() == left {
+                return Err(self.error(Fault::UnexpectedExtraData { length: left }));
+            }
+            match values.push(value) {
+                Ok(()) => {}
+                Err(_) => return Err(self.error(Fault::OutOfMemory)),
+            }
+        }
+        Ok(values)
+    }
+
+    /// The elements that stand inside a value of the tag.
+    fn list<D: Decode>(&mut self, tag: Tag) -> Result<Vec<D>, DecodeError>
+        ensures elements { InList (DecodesBy (ReadsItems D.shape) (λ v. list_tree D.tree v.items)) tag self.old result self.new }
+        ensures each { InList (ReadEach (Decodes D.shape D.tree) (λ v. v.items)) tag self.old result self.new }
+        ensures octets { self.old.depth ≢ 0 → AreOctets self.old.rest }
+    {
+        let (mut inner, contents) = self.open(Opening {
+            tag,
+            needs_bit: true,
+            levels: 2,
+        })?;
+        let values = inner.elements::<D>()?;
+        self.close(contents, inner.remaining())?;
+        Ok(values)
+    }
+
+    /// A SEQUENCE OF, within a size in elements (X.690 8.10). It takes two levels of depth.
+    ///
+    /// # Errors
+    /// `ExceedsMaxParseDepth` before the header; framing faults; with the value taken, `InvalidConstructedIdentifier` and
+    /// `SizeConstraintNotSatisfied`; what an element refuses, and `UnexpectedExtraData` at one that takes nothing, which take header and
+    /// contents, or of an indefinite length the header; closing octets that are missing, which take what was read inside too.
+    pub fn decode_sequence_of<D: Decode>(
+        &mut self,
+        tag: Tag,
+        constraints: &Constraints,
+    ) -> Result<Vec<D>, DecodeError>
+        ensures called { ReadSized (ReadEach (Decodes D.shape D.tree) (λ v. v.items)) (λ v. vec_len v) tag constraints.now self.old result self.new }
+        ensures reads { Decodes (list tag D.shape constraints.now.size) (λ v. list_tree D.tree v.items) self.old result self.new }
+    {
+        let values = self.list::<D>(tag)?;
+        let size = values.len();
+        if constraints.admits_size(size) {
+            Ok(values)
+        } else {
+            let expected = constraints.size_bounds();
+            Err(self.error(Fault::SizeConstraintNotSatisfied { size, expected }))
+        }
+    }
+}

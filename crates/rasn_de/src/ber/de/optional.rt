@@ -1,0 +1,114 @@
+//! Values that may be left out (X.680 25.5 to 25.8).
+ghost use Rattle.std.specs.Prelude.{MatchBool};
+ghost use Rattle.rasn_types.specs.Framing.{Ended};
+ghost use Rattle.rasn_types.specs.Shapes.{given, looked_for, option, prefix};
+ghost use Rattle.rasn_types.specs.Trees.{option_tree};
+ghost use Rattle.rasn_de.specs.Decodes.{Decodes};
+ghost use Rattle.rasn_de.specs.Optionals.{Comes, ReadPerhaps};
+
+use crate::ber::de::Decoder;
+use crate::de::Decode;
+use rasn_types::error::DecodeError;
+use rasn_types::types::{Constraints, Tag};
+
+impl<'input> Decoder<'input> {
+    /// Whether the contents end: nothing is left, or closing octets come where they may.
+    pub(super) fn has_ended(&self) -> bool
+        ensures { MatchBool result (Ended self.now.closing self.now.rest) (Ended self.now.closing self.now.rest → ⊥) }
+    {
+        match self.rest {
+            [] => true,
+            [a, b, ..] => self.closing && *a == 0 && *b == 0,
+            _ => false,
+        }
+    }
+
+    /// Whether the value that is looked for by this tag comes next; by `Tag::EOC` any value is.
+    pub(super) fn comes(&self, tag: Tag) -> Result<bool, DecodeError>
+        ensures { Comes tag self.now result }
+    {
+        if self.has_ended() {
+            return Ok(false);
+        }
+        if tag == Tag::EOC {
+            return Ok(true);
+        }
+        Ok(self.peek_tag()? == tag)
+    }
+
+    /// A value, unless the contents end or another tag than the type's own comes.
+    ///
+    /// # Errors
+    /// Faults of the next identifier, which take nothing; what the value refuses.
+    pub fn decode_optional<D: Decode>(&mut self) -> Result<Option<D>, DecodeError>
+        ensures called { ReadPerhaps (Decodes D.shape D.tree) D.TAG self.old result self.new }
+        ensures reads { Decodes (option (looked_for D.TAG) D.shape) (option_tree D.tree) self.old result self.new }
+    {
+        self.decode_optional_with_tag_and_constraints(D::TAG, &D::CONSTRAINTS)
+    }
+
+    /// A value under this tag, unless the contents end or another tag comes.
+    ///
+    /// # Errors
+    /// As `decode_optional`.
+    pub fn decode_optional_with_tag<D: Decode>(
+        &mut self,
+        tag: Tag,
+    ) -> Result<Option<D>, DecodeError>
+        ensures called { ReadPerhaps (Decodes (given tag D.CONSTRAINTS D.shape) D.tree) tag self.old result self.new }
+        ensures reads { Decodes (option (looked_for tag) (given tag D.CONSTRAINTS D.shape)) (option_tree D.tree) self.old result self.new }
+    {
+        self.decode_optional_with_tag_and_constraints(tag, &D::CONSTRAINTS)
+    }
+
+    /// A value under these constraints, unless the contents end or another tag than the type's own comes.
+    ///
+    /// # Errors
+    /// As `decode_optional`.
+    pub fn decode_optional_with_constraints<D: Decode>(
+        &mut self,
+        constraints: &Constraints,
+    ) -> Result<Option<D>, DecodeError>
+        ensures called { ReadPerhaps (Decodes (given D.TAG constraints.now D.shape) D.tree) D.TAG self.old result self.new }
+        ensures reads { Decodes (option (looked_for D.TAG) (given D.TAG constraints.now D.shape)) (option_tree D.tree) self.old result self.new }
+    {
+        self.decode_optional_with_tag_and_constraints(D::TAG, constraints)
+    }
+
+    /// A value under this tag and these constraints, unless the contents end or another tag comes.
+    ///
+    /// # Errors
+    /// As `decode_optional`.
+    pub fn decode_optional_with_tag_and_constraints<D: Decode>(
+        &mut self,
+        tag: Tag,
+        constraints: &Constraints,
+    ) -> Result<Option<D>, DecodeError>
+        ensures called { ReadPerhaps (Decodes (given tag constraints.now D.shape) D.tree) tag self.old result self.new }
+        ensures reads { Decodes (option (looked_for tag) (given tag constraints.now D.shape)) (option_tree D.tree) self.old result self.new }
+    {
+        if !self.comes(tag)? {
+            return Ok(None);
+        }
+        let value = D::decode_with_tag_and_constraints(self, tag, constraints)?;
+        Ok(Some(value))
+    }
+
+    /// A value in an explicit prefix, unless the contents end or another tag comes.
+    ///
+    /// # Errors
+    /// As `decode_optional`.
+    pub fn decode_optional_with_explicit_prefix<D: Decode>(
+        &mut self,
+        tag: Tag,
+    ) -> Result<Option<D>, DecodeError>
+        ensures called { ReadPerhaps (Decodes (prefix tag D.shape) D.tree) tag self.old result self.new }
+        ensures reads { Decodes (option (looked_for tag) (prefix tag D.shape)) (option_tree D.tree) self.old result self.new }
+    {
+        if !self.comes(tag)? {
+            return Ok(None);
+        }
+        let value = self.decode_explicit_prefix::<D>(tag)?;
+        Ok(Some(value))
+    }
+}

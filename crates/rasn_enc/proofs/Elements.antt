@@ -1,0 +1,124 @@
+-- Elements, one behind the other.
+use Rattle.std.proofs.Common.{◌≡◌, ◌≢◌, ◌≤◌, ◌-◌, ℕ, List, [], ◌∷◌, ◌++◌, length, map, take, drop, get_or, arith, refl, sym, ap, ◌∙◌, subst, Option, None, option_map, Result, OnOk, false, inl, inr}
+use Rattle.std.proofs.lemmas.List.{append_assoc, append-nil, take_rest}
+use Rattle.std.proofs.lemmas.Result.{on_ok_weaker}
+use Rattle.rasn_types.specs.Shapes.{Shape, Tree, items, absent, list, Admits}
+use Rattle.rasn_types.specs.Contents.{joined_lists}
+use Rattle.rasn_types.specs.Bytes.{Bytes, Cons, Each}
+use Rattle.rasn_types.specs.declared.types.tag.Tag.{Tag}
+use Rattle.rasn_types.specs.declared.types.constraints.Bound.{Bound}
+use Rattle.rasn_types.specs.declared.types.constraints.Constraints.{Constraints}
+use Rattle.rasn_types.specs.declared.error.encode.EncodeError.{EncodeError}
+use Rattle.rasn_types.proofs.Alike.{items_one}
+use Rattle.rasn_enc.specs.View.{View, LeavesOthers, IsBelow, opened}
+use Rattle.rasn_enc.specs.Primitives.{Appends}
+use Rattle.rasn_enc.specs.Wrote.{Wrote, MayRefuse, Undefined}
+use Rattle.rasn_enc.specs.Elements.{WroteEach, RefusesElement, RefusesList}
+use Rattle.rasn_enc.proofs.Leaves.{cons_begins, wrote_one}
+use Rattle.rasn_enc.proofs.Segments.{joined_one}
+
+pub list_there : (ts : List Tree) → items ts ≢ absent
+list_there [] e = cc
+list_there (t ∷ ts) e = cc
+
+-- A list that isn't empty is its first element and those after it.
+pub split_is : {X : Type 0} (f : X → Tree) (l : List X) (x : X) → 1 ≤ length l → x ≡ get_or l 0 x → map f l ≡ f x ∷ map f (take (length l - 1) (drop 1 l))
+split_is f [] x h e = absurd (omega arith)
+split_is f (y ∷ l) x h e = rw e (ap (λ m. f y ∷ map f m) (sym (take_rest (y ∷ l) 1)))
+
+-- Elements stand behind the last list, and the rest of them is left.
+pub record ElementsSoFar (s : Shape) (ts rest : List Tree) (v w : View) : Type 0 where
+  pub front : List Tree
+  pub encoded : List (List ℕ)
+  pub is : ts ≡ front ++ rest
+  pub each : Each (Bytes v.rule s) front encoded
+  pub octets : w.last.octets ≡ v.last.octets ++ joined_lists encoded
+  pub others : LeavesOthers v w
+  pub no_tags : w.last.tags ≡ None
+
+pub elements_start : (s : Shape) (ts : List Tree) (v : View) → v.last.tags ≡ None → ElementsSoFar s ts ts v v
+elements_start s ts v e = record {
+  front = [];
+  encoded = [];
+  is = refl;
+  each = refl;
+  octets = sym (append-nil v.last.octets);
+  others = record { rule = refl; below = refl };
+  no_tags = e;
+}
+
+each_one : (R : Tree → List ℕ → Type 0) (ts : List Tree) (bs : List (List ℕ)) (t : Tree) (b : List ℕ) → Each R ts bs → R t b → Each R (ts ++ t ∷ []) (bs ++ b ∷ [])
+each_one R [] bs t b e r = (b, [], ap (λ l. l ++ b ∷ []) e, r, refl)
+each_one R (u ∷ ts) bs t b (c, more, e, q, f) r = (c, more ++ b ∷ [], ap (λ l. l ++ b ∷ []) e, q, each_one R ts more t b f r)
+
+each_at : (R : Tree → List ℕ → Type 0) (front : List Tree) (t : Tree) (back : List Tree) (bs : List (List ℕ)) → Each R (front ++ t ∷ back) bs → (b : List ℕ) × R t b
+each_at R [] t back bs (b, more, e, r, f) = (b, r)
+each_at R (u ∷ front) t back bs (b, more, e, r, f) = each_at R front t back more f
+
+module _ (s : Shape) (ts rest after : List Tree) (t : Tree) (v u : View) (k : ElementsSoFar s ts rest v u) (is : rest ≡ t ∷ after) where
+  pub elements_more : (w : View) → Wrote s t u w → ElementsSoFar s ts after v w
+  elements_more w a = record {
+    front = k.front ++ t ∷ [];
+    encoded = k.encoded ++ a.octets ∷ [];
+    is = k.is ∙ (ap (λ l. k.front ++ l) is ∙ sym (append_assoc k.front (t ∷ []) after));
+    each = each_one (Bytes v.rule s) k.front k.encoded t a.octets k.each (subst (λ r. Bytes r s t a.octets) k.others.rule a.defined);
+    octets = ap (λ (x : View). x.last.octets) a.appended ∙ (ap (λ l. l ++ a.octets) k.octets ∙ (append_assoc v.last.octets (joined_lists k.encoded) a.octets
+        ∙ ap (λ l. v.last.octets ++ l) (sym (joined_one k.encoded a.octets))));
+    others = record { rule = ap (λ (x : View). x.rule) a.appended ∙ k.others.rule; below = ap (λ (x : View). x.below) a.appended ∙ k.others.below };
+    no_tags = ap (λ (x : View). x.last.tags) a.appended ∙ ap (λ o. option_map (λ kept. kept ++ a.tags) o) k.no_tags;
+  }
+
+  pub element_refused : (e : EncodeError) → MayRefuse s t u e → RefusesElement s ts v.rule e
+  element_refused e h = record {
+    front = k.front;
+    tree = t;
+    back = after;
+    is = k.is ∙ ap (λ l. k.front ++ l) is;
+    encoded = k.encoded;
+    before = k.each;
+    why = elim h.why [
+      | inl m ↦ inl m
+      | inr (inl n) ↦ inr (subst (λ r. Undefined r s t) k.others.rule n)
+      | inr (inr n) ↦ absurd (n.keeps k.no_tags)
+    ];
+  }
+
+pub elements_end : (s : Shape) (ts : List Tree) (v u : View) → ElementsSoFar s ts [] v u → WroteEach s ts v u
+elements_end s ts v u k = record {
+  encoded = k.encoded;
+  each = subst (λ l. Each (Bytes v.rule s) l k.encoded) (sym (append-nil k.front) ∙ sym k.is) k.each;
+  octets = k.octets;
+}
+
+module _ (s : Shape) (ts : List Tree) (tag : Tag) (size : Option (Bound ℕ)) (v o : View) (e : o ≡ opened v false) where
+  list_made : (u w : View) → Admits ◌≤◌ size (length ts) → WroteEach s ts (opened v false) u → LeavesOthers (opened v false) u
+      → ((x : View) → IsBelow x u → Appends (Cons x.rule tag u.last.octets) tag x w) → Wrote (list tag s size) (items ts) v w
+  unfolding Bytes
+  list_made u w m a k h =
+      wrote_one (Cons v.rule tag u.last.octets) tag (list tag s size) (items ts) v w (h v (k.rule, k.below))
+      (λ b d. cons_begins v.rule tag u.last.octets b d) (λ b d. (ts, a.encoded, refl, m, a.each, subst (λ l. Cons v.rule tag l b) a.octets d))
+
+  pub list_wrote : (u w : View) (r : Result (Unit {0}) EncodeError) → Admits ◌≤◌ size (length ts) → WroteEach s ts o u → LeavesOthers o u
+      → OnOk r ((x : View) → IsBelow x u → Appends (Cons x.rule tag u.last.octets) tag x w) → OnOk r (Wrote (list tag s size) (items ts) v w)
+  list_wrote u w r m a k h = on_ok_weaker r (list_made u w m (subst (λ x. WroteEach s ts x u) e a) (subst (λ x. LeavesOthers x u) e k)) h
+
+-- Where a list is refused, it has no octets, or memory was wanted.
+pub list_refused : (s : Shape) (ts : List Tree) (tag : Tag) (c : Constraints) (v : View) (e : EncodeError)
+    → RefusesList s ts (length ts) c v.rule e → MayRefuse (list tag s c.size) (items ts) v e
+unfolding Bytes
+list_refused s ts tag c v e (inl r) = record {
+  why = inr (inl (record {
+    none = λ octets b. r.unmet (subst (λ l. Admits ◌≤◌ c.size (length l)) (sym (items_one ts b.0 b.2)) b.3);
+  }));
+}
+list_refused s ts tag c v e (inr (m, inl w)) = record { why = inl (ap (λ (x : EncodeError). x.kind) w) }
+list_refused s ts tag c v e (inr (m, inr r)) = record {
+  why = elim r.why [
+    | inl w ↦ inl w
+    | inr n ↦ inr (inl (record {
+      none = λ octets b.
+          let f = each_at (Bytes v.rule s) r.front r.tree r.back b.1 (subst (λ l. Each (Bytes v.rule s) l b.1) (sym (items_one ts b.0 b.2) ∙ r.is) b.4) in
+          n.none f.0 f.1;
+    }))
+  ];
+}

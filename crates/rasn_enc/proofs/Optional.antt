@@ -1,0 +1,31 @@
+-- Values that may be absent.
+use Rattle.std.proofs.Common.{◌≡◌, ◌≢◌, [], refl, Option, Result, OnOk, IfErr, inl, inr}
+use Rattle.std.proofs.lemmas.Result.{on_ok_weaker, IfErr-weaker}
+use Rattle.rasn_types.specs.Shapes.{Shape, Tree, option, absent}
+use Rattle.rasn_types.specs.Bytes.{Bytes, IsBare}
+use Rattle.rasn_types.specs.declared.types.tag.Tag.{Tag}
+use Rattle.rasn_types.specs.declared.error.encode.EncodeError.{EncodeError}
+use Rattle.rasn_enc.specs.View.{View}
+use Rattle.rasn_enc.specs.Wrote.{Wrote, MayRefuse}
+use Rattle.rasn_enc.proofs.Sequences.{appended-nil}
+
+module _ (s : Shape) (t u : Tree) (v : View) (r : Result (Unit {0}) EncodeError) (e : t ≡ u) (n : u ≢ absent) where
+  -- One that is there is written as such.
+  pub there_wrote : (g : Option Tag) (w : View) → OnOk r (Wrote s u v w) → OnOk r (Wrote (option g s) t v w)
+  unfolding Bytes
+  there_wrote g w h = rw e (on_ok_weaker r (λ a. record { octets = a.octets; defined = inr (n, a.defined); tags = a.tags; heads = a.heads; appended = a.appended }) h)
+
+  pub there_refused : (g : Option Tag) → IfErr r (MayRefuse s u v) → IfErr r (MayRefuse (option g s) t v)
+  unfolding Bytes IsBare
+  there_refused g h = rw e (IfErr-weaker r _ _ (λ x k. record {
+    why = elim k.why [
+      | inl m ↦ inl m
+      | inr (inl y) ↦ inr (inl (record { none = λ o b. elim b [ inl p ↦ n p.0 | inr p ↦ y.none o p.1 ] }))
+      | inr (inr y) ↦ inr (inr (record { bare = y.bare; some = λ o b. elim b [ inl p ↦ absurd (n p.0) | inr p ↦ y.some o p.1 ]; keeps = y.keeps }))
+    ];
+  }) h)
+
+-- An absent one has no octets.
+pub left_out : {g : Option Tag} (s : Shape) (t : Tree) (v : View) → t ≡ absent → Wrote (option g s) t v v
+unfolding Bytes
+left_out s t v e = record { octets = []; defined = inl (e, refl); tags = []; heads = refl; appended = appended-nil v }

@@ -1,0 +1,33 @@
+-- Elements of one shape, one behind the other (X.690 8.10).
+use Rattle.std.specs.Prelude.{ℕ, ◌≡◌, ◌≤◌, ◌⊎◌, List, ◌∷◌, ◌++◌}
+use Rattle.rasn_types.specs.Shapes.{Shape, Tree, Admits}
+use Rattle.rasn_types.specs.Contents.{joined_lists}
+use Rattle.rasn_types.specs.Bytes.{Bytes, Each}
+use Rattle.rasn_types.specs.Errors.{IsEncodeMemory}
+use Rattle.rasn_types.specs.declared.types.constraints.Constraints.{Constraints}
+use Rattle.rasn_types.specs.declared.types.rules.Codec.{Codec}
+use Rattle.rasn_types.specs.declared.error.encode.EncodeError.{EncodeError}
+use Rattle.rasn_enc.specs.View.{View}
+use Rattle.rasn_enc.specs.Wrote.{Undefined}
+use Rattle.rasn_enc.specs.Refusals.{RefusesSize}
+use Rattle.rasn_enc.specs.Primitives.{WantsMemory}
+
+-- The octets of these trees stand behind the last list.
+pub record WroteEach (s : Shape) (ts : List Tree) (v w : View) : Type 0 where
+  pub encoded : List (List ℕ)
+  pub each : Each (Bytes v.rule s) ts encoded
+  pub octets : w.last.octets ≡ v.last.octets ++ joined_lists encoded
+
+-- An element isn't written: memory was wanted, or it has no octets. Those before it have octets.
+pub record RefusesElement (s : Shape) (ts : List Tree) (rule : Codec) (e : EncodeError) : Type 0 where
+  pub front : List Tree
+  pub tree : Tree
+  pub back : List Tree
+  pub is : ts ≡ front ++ tree ∷ back
+  pub encoded : List (List ℕ)
+  pub before : Each (Bytes rule s) front encoded
+  pub why : IsEncodeMemory e.kind ⊎ Undefined rule s tree
+
+-- Why a list isn't written: its size isn't admitted; or else memory is wanted, or an element isn't written.
+abbrev pub RefusesList : Shape → List Tree → ℕ → Constraints → Codec → EncodeError → Type 0
+RefusesList s ts size c rule e = RefusesSize c size rule e ⊎ (Admits ◌≤◌ c.size size × (WantsMemory rule e ⊎ RefusesElement s ts rule e))

@@ -1,0 +1,50 @@
+//! CHOICE (X.690 8.13).
+ghost use Rattle.std.specs.Prelude.{◌≡◌, IfErr, OnOk, OnErr};
+ghost use Rattle.std.specs.Fn.{FnOnceTakesAtMut, FnOnceReturnsAtMut};
+ghost use Rattle.rasn_enc.specs.Writing.{WritesBehind, Refuses, Ran};
+
+use super::Encoder;
+use super::open_list::{cut_back, mark};
+use rasn_types::error::EncodeError;
+use rasn_types::types::{AsnType, Constraints, Identifier, Tag};
+
+impl Encoder {
+    /// Writes a CHOICE (X.690 8.13): `alternative` writes the value that is chosen and answers its tag. Constraints, tag and name are
+    /// ignored.
+    ///
+    /// # Errors
+    /// What `alternative` refuses. Nothing is written then.
+    pub fn encode_choice<E: AsnType, F: FnOnce(&mut Encoder) -> Result<Tag, EncodeError>>(
+        &mut self,
+        _constraints: &Constraints,
+        _tag: Tag,
+        alternative: F,
+        _identifier: Identifier,
+    ) -> Result<(), EncodeError>
+        requires callable { FnOnceTakesAtMut F.FnOnce alternative self.old }
+        requires keeps { WritesBehind F.FnOnce alternative self.old }
+        ensures ok { OnOk result (Ran F.FnOnce alternative self.old self.new) }
+        ensures err { OnErr result (self.new ≡ self.old) }
+        ensures refused { IfErr result (Refuses F.FnOnce alternative self.old) }
+    {
+        let end = mark(&self.last);
+        match choose(self, alternative) {
+            Ok(_) => Ok(()),
+            Err(error) => {
+                cut_back(&mut self.last, end);
+                Err(error)
+            }
+        }
+    }
+}
+
+// The call of a closure that writes an alternative.
+fn choose<F: FnOnce(&mut Encoder) -> Result<Tag, EncodeError>>(
+    encoder: &mut Encoder,
+    alternative: F,
+) -> Result<Tag, EncodeError>
+    requires { FnOnceTakesAtMut F.FnOnce alternative encoder.old }
+    ensures { FnOnceReturnsAtMut F.FnOnce alternative encoder.old result encoder.new }
+{
+    alternative(encoder)
+}

@@ -1,0 +1,120 @@
+//! Values that have a default where they are left out (X.680 25.8).
+ghost use Rattle.std.specs.Prelude.{◌≡◌, IfErr, OnOk, OnErr};
+ghost use Rattle.rasn_types.specs.Shapes.{given};
+ghost use Rattle.rasn_enc.specs.Defaults.{WroteUnless, RefusesUnless, WritesDefault};
+
+use super::{Encoder, out_of_memory};
+use crate::enc::Encode;
+use rasn_types::error::EncodeError;
+use rasn_types::types::{Constraints, Identifier, Tag};
+use std::alloc::AllocError;
+
+impl Encoder {
+    /// Writes a value under its own tag, but nothing where it equals its default (X.690 11.5). The name is ignored.
+    ///
+    /// # Errors
+    /// What the value refuses; want of memory of the default. Nothing is written then.
+    pub fn encode_default<E: Encode + PartialEq, F: FnOnce() -> Result<E, AllocError>>(
+        &mut self,
+        value: &E,
+        default: F,
+        identifier: Identifier,
+    ) -> Result<(), EncodeError>
+        requires { F.IsAlwaysCallable default }
+        ensures ok { OnOk result (WroteUnless E.eq (F.post default) E.shape E.tree value.now self.old self.new) }
+        ensures err { OnErr result (self.new ≡ self.old) }
+        ensures refused { IfErr result (RefusesUnless E.eq (F.post default) E.shape E.tree value.now self.old) }
+        ensures writes { WritesDefault E.eq (F.post default) E.shape E.tree value.now self.old result self.new }
+    {
+        self.encode_default_with_tag_and_constraints(
+            E::TAG,
+            &E::CONSTRAINTS,
+            value,
+            default,
+            identifier,
+        )
+    }
+
+    /// The same under this tag.
+    ///
+    /// # Errors
+    /// As `encode_default`.
+    pub fn encode_default_with_tag<E: Encode + PartialEq, F: FnOnce() -> Result<E, AllocError>>(
+        &mut self,
+        tag: Tag,
+        value: &E,
+        default: F,
+        identifier: Identifier,
+    ) -> Result<(), EncodeError>
+        requires { F.IsAlwaysCallable default }
+        ensures ok { OnOk result (WroteUnless E.eq (F.post default) (given tag E.CONSTRAINTS E.shape) E.tree value.now self.old self.new) }
+        ensures err { OnErr result (self.new ≡ self.old) }
+        ensures refused { IfErr result (RefusesUnless E.eq (F.post default) (given tag E.CONSTRAINTS E.shape) E.tree value.now self.old) }
+        ensures writes { WritesDefault E.eq (F.post default) (given tag E.CONSTRAINTS E.shape) E.tree value.now self.old result self.new }
+    {
+        self.encode_default_with_tag_and_constraints(
+            tag,
+            &E::CONSTRAINTS,
+            value,
+            default,
+            identifier,
+        )
+    }
+
+    /// The same under these constraints.
+    ///
+    /// # Errors
+    /// As `encode_default`.
+    pub fn encode_default_with_constraints<
+        E: Encode + PartialEq,
+        F: FnOnce() -> Result<E, AllocError>,
+    >(
+        &mut self,
+        constraints: &Constraints,
+        value: &E,
+        default: F,
+        identifier: Identifier,
+    ) -> Result<(), EncodeError>
+        requires { F.IsAlwaysCallable default }
+        ensures ok { OnOk result (WroteUnless E.eq (F.post default) (given E.TAG constraints.now E.shape) E.tree value.now self.old self.new) }
+        ensures err { OnErr result (self.new ≡ self.old) }
+        ensures refused { IfErr result (RefusesUnless E.eq (F.post default) (given E.TAG constraints.now E.shape) E.tree value.now self.old) }
+        ensures writes { WritesDefault E.eq (F.post default) (given E.TAG constraints.now E.shape) E.tree value.now self.old result self.new }
+    {
+        self.encode_default_with_tag_and_constraints(
+            E::TAG,
+            constraints,
+            value,
+            default,
+            identifier,
+        )
+    }
+
+    /// The same under this tag and these constraints.
+    ///
+    /// # Errors
+    /// As `encode_default`.
+    pub fn encode_default_with_tag_and_constraints<
+        E: Encode + PartialEq,
+        F: FnOnce() -> Result<E, AllocError>,
+    >(
+        &mut self,
+        tag: Tag,
+        constraints: &Constraints,
+        value: &E,
+        default: F,
+        identifier: Identifier,
+    ) -> Result<(), EncodeError>
+        requires { F.IsAlwaysCallable default }
+        ensures ok { OnOk result (WroteUnless E.eq (F.post default) (given tag constraints.now E.shape) E.tree value.now self.old self.new) }
+        ensures err { OnErr result (self.new ≡ self.old) }
+        ensures refused { IfErr result (RefusesUnless E.eq (F.post default) (given tag constraints.now E.shape) E.tree value.now self.old) }
+        ensures writes { WritesDefault E.eq (F.post default) (given tag constraints.now E.shape) E.tree value.now self.old result self.new }
+    {
+        match default() {
+            Ok(default) if *value == default => Ok(()),
+            Ok(_) => value.encode_with_tag_and_constraints(self, tag, constraints, identifier),
+            Err(AllocError) => Err(out_of_memory(self.rule)),
+        }
+    }
+}

@@ -1,0 +1,50 @@
+//! Extension additions (X.680 25.4).
+ghost use Rattle.std.specs.Prelude.{◌≡◌, IfErr, OnOk, OnErr};
+ghost use Rattle.rasn_types.specs.Shapes.{given, looked_for, option};
+ghost use Rattle.rasn_enc.specs.Additions.{group_tree};
+ghost use Rattle.rasn_enc.specs.Wrote.{Wrote, MayRefuse};
+
+use super::Encoder;
+use crate::enc::Encode;
+use rasn_types::error::EncodeError;
+use rasn_types::types::{Constraints, Constructed, Identifier, Tag};
+
+impl Encoder {
+    /// Writes an extension addition under this tag and these constraints. The name is ignored.
+    ///
+    /// # Errors
+    /// What the value refuses. Nothing is written then.
+    pub fn encode_extension_addition<E: Encode>(
+        &mut self,
+        tag: Tag,
+        constraints: &Constraints,
+        value: E,
+        identifier: Identifier,
+    ) -> Result<(), EncodeError>
+        ensures ok { OnOk result (Wrote (given tag constraints.now E.shape) (E.tree value) self.old self.new) }
+        ensures err { OnErr result (self.new ≡ self.old) }
+        ensures refused { IfErr result (MayRefuse (given tag constraints.now E.shape) (E.tree value) self.old) }
+    {
+        value.encode_with_tag_and_constraints(self, tag, constraints, identifier)
+    }
+
+    /// Writes an extension addition group, which is a SEQUENCE of its own; nothing where there is none (X.680 25.10). The name is
+    /// ignored.
+    ///
+    /// # Errors
+    /// What the value refuses. Nothing is written then.
+    pub fn encode_extension_addition_group<
+        const RC: usize,
+        const EC: usize,
+        E: Encode + Constructed<RC, EC>,
+    >(&mut self, value: Option<&E>, _identifier: Identifier) -> Result<(), EncodeError>
+        ensures ok { OnOk result (Wrote (option (looked_for E.TAG) E.shape) (group_tree E.tree value.entry) self.old self.new) }
+        ensures err { OnErr result (self.new ≡ self.old) }
+        ensures refused { IfErr result (MayRefuse (option (looked_for E.TAG) E.shape) (group_tree E.tree value.entry) self.old) }
+    {
+        match value {
+            Some(value) if value.is_present() => value.encode(self),
+            _ => Ok(()),
+        }
+    }
+}

@@ -1,0 +1,57 @@
+//! SEQUENCE OF (X.690 8.10).
+ghost use Rattle.std.specs.Prelude.{◌≡◌, length, None, map, IfErr, OnOk, OnErr};
+ghost use Rattle.rasn_types.specs.Shapes.{list};
+ghost use Rattle.rasn_types.specs.Trees.{list_tree};
+ghost use Rattle.rasn_enc.specs.View.{LeavesOthers};
+ghost use Rattle.rasn_enc.specs.Elements.{WroteEach, RefusesElement, RefusesList};
+ghost use Rattle.rasn_enc.specs.Wrote.{Wrote, MayRefuse};
+
+use super::Encoder;
+use crate::enc::Encode;
+use rasn_types::error::EncodeError;
+use rasn_types::types::{Constraints, Identifier, Tag};
+
+impl Encoder {
+    /// Writes a SEQUENCE OF, within a size in elements (X.690 8.10). The name is ignored.
+    ///
+    /// # Errors
+    /// `SizeConstraintNotSatisfied`; what an element refuses; else `OutOfMemory` alone. Nothing is written then.
+    pub fn encode_sequence_of<E: Encode>(
+        &mut self,
+        tag: Tag,
+        values: &[E],
+        constraints: &Constraints,
+        _identifier: Identifier,
+    ) -> Result<(), EncodeError>
+        ensures ok { OnOk result (Wrote (list tag E.shape constraints.now.size) (list_tree E.tree values.now) self.old self.new) }
+        ensures err { OnErr result (self.new ≡ self.old) }
+        ensures refused { IfErr result (MayRefuse (list tag E.shape constraints.now.size) (list_tree E.tree values.now) self.old) }
+        ensures named { IfErr result (RefusesList E.shape (map E.tree values.now) (length values.now) constraints.now self.old.rule) }
+    {
+        if !constraints.admits_size(values.len()) {
+            return Err(self.refused_size(constraints, values.len()));
+        }
+        self.begin(false)?;
+        match self.put_elements(values) {
+            Ok(()) => self.finish(tag),
+            Err(error) => {
+                self.abandon();
+                Err(error)
+            }
+        }
+    }
+
+    fn put_elements<E: Encode>(&mut self, values: &[E]) -> Result<(), EncodeError>
+        requires { self.old.last.tags ≡ None }
+        ensures keeps { LeavesOthers self.old self.new }
+        ensures ok { OnOk result (WroteEach E.shape (map E.tree values.now) self.old self.new) }
+        ensures refused { IfErr result (RefusesElement E.shape (map E.tree values.now) self.old.rule) }
+    {
+        let mut rest = values;
+        while let [value, after @ ..] = rest {
+            value.encode(self)?;
+            rest = after;
+        }
+        Ok(())
+    }
+}

@@ -1,0 +1,82 @@
+//! Values that may be left out (X.680 25.5 to 25.8).
+ghost use Rattle.std.specs.Prelude.{◌≡◌, Ok, IfErr, OnOk, OnErr};
+ghost use Rattle.rasn_types.specs.Shapes.{given};
+ghost use Rattle.rasn_enc.specs.Wrote.{Wrote, MayRefuse};
+
+use super::Encoder;
+use crate::enc::Encode;
+use rasn_types::error::EncodeError;
+use rasn_types::types::{Constraints, Identifier, Tag};
+
+impl Encoder {
+    /// Writes an optional value that is there. The name is ignored.
+    ///
+    /// # Errors
+    /// What the value refuses. Nothing is written then.
+    pub fn encode_some<E: Encode>(
+        &mut self,
+        value: &E,
+        _identifier: Identifier,
+    ) -> Result<(), EncodeError>
+        ensures ok { OnOk result (Wrote E.shape (E.tree value.now) self.old self.new) }
+        ensures err { OnErr result (self.new ≡ self.old) }
+        ensures refused { IfErr result (MayRefuse E.shape (E.tree value.now) self.old) }
+    {
+        value.encode(self)
+    }
+
+    /// The same under this tag.
+    ///
+    /// # Errors
+    /// What the value refuses. Nothing is written then.
+    pub fn encode_some_with_tag<E: Encode>(
+        &mut self,
+        tag: Tag,
+        value: &E,
+        identifier: Identifier,
+    ) -> Result<(), EncodeError>
+        ensures ok { OnOk result (Wrote (given tag E.CONSTRAINTS E.shape) (E.tree value.now) self.old self.new) }
+        ensures err { OnErr result (self.new ≡ self.old) }
+        ensures refused { IfErr result (MayRefuse (given tag E.CONSTRAINTS E.shape) (E.tree value.now) self.old) }
+    {
+        value.encode_with_tag(self, tag, identifier)
+    }
+
+    /// The same under this tag and these constraints.
+    ///
+    /// # Errors
+    /// What the value refuses. Nothing is written then.
+    pub fn encode_some_with_tag_and_constraints<E: Encode>(
+        &mut self,
+        tag: Tag,
+        constraints: &Constraints,
+        value: &E,
+        identifier: Identifier,
+    ) -> Result<(), EncodeError>
+        ensures ok { OnOk result (Wrote (given tag constraints.now E.shape) (E.tree value.now) self.old self.new) }
+        ensures err { OnErr result (self.new ≡ self.old) }
+        ensures refused { IfErr result (MayRefuse (given tag constraints.now E.shape) (E.tree value.now) self.old) }
+    {
+        value.encode_with_tag_and_constraints(self, tag, constraints, identifier)
+    }
+
+    /// Writes nothing: an optional value is left out.
+    pub fn encode_none<E: Encode>(&mut self, identifier: Identifier) -> Result<(), EncodeError>
+        ensures accepts { result ≡ Ok tt }
+        ensures same { self.new ≡ self.old }
+    {
+        self.encode_none_with_tag(E::TAG, identifier)
+    }
+
+    /// Writes nothing: an optional value of this tag is left out.
+    pub fn encode_none_with_tag(
+        &mut self,
+        _tag: Tag,
+        _identifier: Identifier,
+    ) -> Result<(), EncodeError>
+        ensures accepts { result ≡ Ok tt }
+        ensures same { self.new ≡ self.old }
+    {
+        Ok(())
+    }
+}

@@ -1,0 +1,23 @@
+//! Values that may be absent.
+use crate::types::{AsnType, Constraints, Tag};
+
+/// The value of an OPTIONAL component (X.680 25.5). The tag is the one that is looked for where it is read.
+impl<T: AsnType> AsnType for Option<T> {
+    ghost use Rattle.std.proofs.Common.{ap};
+    ghost use Rattle.rasn_types.specs.Shapes.{option, looked_for};
+    ghost use Rattle.rasn_types.specs.Trees.{option_tree};
+
+    ghost TAG = { T.TAG };
+
+    const TAG: Tag = T::TAG;
+
+    ghost CONSTRAINTS = { T.CONSTRAINTS };
+
+    const CONSTRAINTS: Constraints = T::CONSTRAINTS;
+
+    ghost shape = { option (looked_for T.TAG) T.shape };
+
+    ghost tree = { option_tree T.tree };
+
+    ghost own = { ap (option (looked_for T.TAG)) T.own };
+}
