@@ -1,26 +1,26 @@
 -- What is written of a carried tree is read back.
 use Rattle.std.proofs.Common.{◌≡◌, ℕ, ◌-◌, ◌≤◌, ◌⊎◌, ◌≢◌, inl, inr, List, [], ◌∷◌, ◌++◌, Bool, true, false, Option, Some, None, refl, sym, ◌∙◌, subst, append-nil}
 use Rattle.std.proofs.lemmas.List.Sorted.{IsPermutation-refl}
-use Rattle.rasn_types.specs.Tags.{Form, eoc, loose_form, loose}
+use Rattle.rasn_types.specs.Tags.{Form, form, eoc, loose_form, loose}
 use Rattle.rasn_types.specs.declared.types.rules.Codec.{Codec}
 use Rattle.rasn_types.specs.declared.types.rules.Codec.TheVariants.{Ber, Cer, Der}
 use Rattle.rasn_types.specs.declared.types.tag.Tag.{Tag}
 use Rattle.rasn_types.specs.Framing.{Frame, with_length, definite, Whole, plain, Wholes, none, one_more}
 use Rattle.rasn_types.specs.Shapes.{Tree, numbers, items, walk, absent, Admits, Shape, leaf, any, prefix, choice, option, seq, set, list, bag, Parts, part, own, IsSolid}
 use Rattle.rasn_types.specs.declared.types.constraints.Bound.{Bound}
-use Rattle.rasn_types.specs.Readers.{IsLeftOut, IsThere, Reading, Many, ReadsSeq, ReadsSet}
+use Rattle.rasn_types.specs.Readers.{IsLeftOut, IsThere, Reading, Many, ReadFrom, ReadsSeq, ReadsSet}
 use Rattle.rasn_types.specs.Contents.{joined_lists}
 use Rattle.rasn_types.specs.Grammar.{Reads, parts_of, ReadsOpen, ReadsList, ReadsBag}
 use Rattle.rasn_types.specs.Bytes.{Same, Cons, Each, Bytes, fields_of}
 use Rattle.rasn_types.specs.Carried.{Meets, MeetsParts, EachOf, Carried}
 use Rattle.rasn_types.specs.Lawful.{IsLawful, AreAlternatives, AreLawfulInOrder, AreLawfulByTag}
 use Rattle.rasn_types.proofs.Frames.{frame_next, not_ended}
-use Rattle.rasn.proofs.IntoBer.{IsOptional, many_in, solid_of}
-use Rattle.rasn.proofs.Begins.{begins}
+use Rattle.rasn.proofs.IntoBer.{IsOptional, IsIn, many_in, solid_of}
+use Rattle.rasn.proofs.Begins.{comes}
 use Rattle.rasn.proofs.Enclosed.{IsReadAs, definite_back, closed_back, cons_back, EachReadBack, many_back}
 use Rattle.rasn_types.proofs.Alike.{items_one, each_same, each_length}
 use Rattle.rasn.proofs.Strings.{leaf_back}
-use Rattle.rasn.proofs.InParts.{is_there, IsBack, EachBack, seq_back, choice_back}
+use Rattle.rasn.proofs.InParts.{EachTagged, is_there, IsBack, EachBack, seq_back, choice_back}
 use Rattle.rasn.proofs.Components.{set_back}
 
 whole_frame : (rule : Codec) {input rest c : List ℕ} {s : Tag} {b : Bool} → Frame loose_form input s b rest (definite c) → Frame (loose rule) input s b rest (definite c)
@@ -30,9 +30,9 @@ whole_frame Der (with_length id len c p q z e) = with_length id len c p q (λ h.
 
 -- Octets in a constructed value of the tag.
 enclosed_back : (rule : Codec) (tag : Tag) → tag ≢ eoc → (octets b rest : List ℕ) → Wholes rule octets → Cons rule tag octets b → ReadsOpen rule tag (b ++ rest) (numbers octets) rest
-enclosed_back Ber tag one octets b rest w c = (true, octets, refl, inl (definite_back rest one c))
-enclosed_back Cer tag one octets b rest w c = (true, octets, refl, inr (octets ++ (0 ∷ 0 ∷ rest), closed_back rest one c, w, refl))
-enclosed_back Der tag one octets b rest w c = (true, octets, refl, inl (definite_back rest one c))
+enclosed_back Ber tag one octets b rest w c = (true, octets, refl, (λ z. refl), inl (definite_back rest one c))
+enclosed_back Cer tag one octets b rest w c = (true, octets, refl, (λ z. refl), inr (octets ++ (0 ∷ 0 ∷ rest), closed_back rest one c, w, refl))
+enclosed_back Der tag one octets b rest w c = (true, octets, refl, (λ z. refl), inl (definite_back rest one c))
 
 empty_frame : (rule : Form) (s : Tag) (b : Bool) (c : List ℕ) → Frame rule [] s b [] (definite c) → ⊥
 empty_frame rule s b c f = not_ended false [] s (frame_next f) (inl refl)
@@ -73,21 +73,29 @@ elements_back rule s solid depth back (t ∷ ts) bs (m, ms) (b, cs, e, w, ws) =
         is = r.0;
         same = r.1;
         again = λ rest c. r.2 rest c;
-        begins = λ rest. let n = begins s solid rule depth true (b ++ rest) r.0 rest (r.2 rest true) in (n.0, n.1);
+        begins = λ rest. comes s solid rule depth true (b ++ rest) r.0 rest (r.2 rest true);
       },
       elements_back rule s solid depth back ts cs ms ws,
     )
 
+from_in : {X : Type 0} (reads wide : Reading X) → IsIn reads wide → (input : List ℕ) (xs : List X) (rest : List ℕ) (bs : List (List ℕ))
+    → ReadFrom reads input xs rest bs → ReadFrom wide input xs rest bs
+from_in reads wide into input [] rest bs h = h
+from_in reads wide into input (x ∷ xs) rest bs (b, more, middle, e, f, h, hs) = (b, more, middle, e, f, into input x middle h, from_in reads wide into middle xs rest more hs)
+
 abbrev pub Elements : Codec → Shape → ℕ → List Tree → List (List ℕ) → Type 0
 Elements rule s depth ts bs = (us : List Tree) × Each Same ts us × IsReadAs (λ c. Many (Reads rule s depth c) c) (joined_lists bs) us
+    × ((c : Bool) (tail : List ℕ) → ReadFrom (Reads rule s depth c) (joined_lists bs ++ tail) us tail bs)
 
 elements : (rule : Codec) (s : Shape) → IsSolid s → (depth : ℕ) → IsBack rule s depth → (ts us : List Tree) (bs : List (List ℕ)) → items us ≡ items ts
     → EachOf (Meets rule s depth) us → Each (Bytes rule s) ts bs → Elements rule s depth ts bs
 elements rule s solid depth back ts us bs e m w =
-    go (many_back Same (AtAny rule s depth) ts bs (elements_back rule s solid depth back ts bs (subst (EachOf (Meets rule s depth)) (items_one us ts e) m) w))
-  where
-    go : (us : List Tree) × Each Same ts us × IsReadAs (λ c. Many (AtAny rule s depth) c) (joined_lists bs) us → Elements rule s depth ts bs
-    go (vs, alike, r) = (vs, alike, λ closing tail t. many_in (AtAny rule s depth) (Reads rule s depth closing) (λ i x o h. h closing) closing (joined_lists bs ++ tail) vs tail (r closing tail t))
+    let r = many_back Same (AtAny rule s depth) ts bs (elements_back rule s solid depth back ts bs (subst (EachOf (Meets rule s depth)) (items_one us ts e) m) w) in (
+      r.0,
+      r.1,
+      λ closing tail t. many_in (AtAny rule s depth) (Reads rule s depth closing) (λ i x o h. h closing) closing (joined_lists bs ++ tail) r.0 tail (r.2 closing tail t),
+      λ c tail. from_in (AtAny rule s depth) (Reads rule s depth c) (λ i x o h. h c) (joined_lists bs ++ tail) r.0 tail bs (r.3 tail),
+    )
 
 list_back : (rule : Codec) (tag : Tag) → tag ≢ eoc → (s : Shape) (size : Option (Bound ℕ)) → IsSolid s → (depth : ℕ) → IsBack rule s (depth - 2) → IsBack rule (list tag s size) depth
 unfolding Reads parts_of Bytes fields_of Meets
@@ -95,7 +103,7 @@ list_back rule tag one s size solid depth back t b (deep, us, e, ms) (ts, bs, f,
     go (elements rule s solid (depth - 2) back ts us bs (sym e ∙ f) ms ws)
   where
     go : Elements rule s (depth - 2) ts bs → (u : Tree) × Same t u × ((rest : List ℕ) (closing : Bool) → Reads rule (list tag s size) depth closing (b ++ rest) u rest)
-    go (vs, alike, r) = (
+    go (vs, alike, r, from) = (
       items vs,
       subst (λ x. Same x (items vs)) (sym f) (each_same ts vs alike),
       λ rest closing. (
@@ -114,13 +122,19 @@ bag_back rule tag one s size solid depth back t b (deep, us, e, ms) (ts, bs, f, 
     walk_one us ts e = cc
 
     go : Elements rule s (depth - 2) ts bs → (u : Tree) × Same t u × ((rest : List ℕ) (closing : Bool) → Reads rule (bag tag s size) depth closing (b ++ rest) u rest)
-    go (vs, alike, r) = (
+    go (vs, alike, r, from) = (
       walk (items vs),
       subst (λ x. Same x (walk (items vs))) (sym f) (vs, vs, refl, IsPermutation-refl vs, each_same ts vs alike),
       λ rest closing. (
         deep,
-        cons_back rule tag one (joined_lists bs) b c (λ c. ReadsBag size (Reads rule s (depth - 2) c) c) (walk (items vs))
-            (λ closing tail z. (vs, refl, subst (λ n. Admits ◌≤◌ size n) (sym (each_length Same ts vs alike)) within, r closing tail z)) rest,
+        cons_back rule tag one (joined_lists bs) b c (λ c. ReadsBag rule size (Reads rule s (depth - 2) c) c) (walk (items vs))
+            (λ closing tail z. (
+              vs,
+              refl,
+              subst (λ n. Admits ◌≤◌ size n) (sym (each_length Same ts vs alike)) within,
+              r closing tail z,
+              λ y. (bs, from closing tail, order),
+            )) rest,
       ),
     )
 
@@ -128,7 +142,7 @@ prefix_back : (rule : Codec) (tag : Tag) → tag ≢ eoc → (s : Shape) → IsS
 unfolding Reads parts_of Bytes fields_of Meets
 prefix_back rule tag one s solid depth back t b (deep, m) (inner, w, c) =
     let r = back t inner m w in
-    (r.0, r.1, λ rest closing. (deep, true, cons_back rule tag one inner b c (λ c. Reads rule s (depth - 1) c) r.0 (λ closing tail z. r.2 tail closing) rest))
+    (r.0, r.1, λ rest closing. (deep, true, (λ z. refl), cons_back rule tag one inner b c (λ c. Reads rule s (depth - 1) c) r.0 (λ closing tail z. r.2 tail closing) rest))
 
 in_seq_back : (rule : Codec) (tag : Tag) → tag ≢ eoc → (ps : Parts) (depth : ℕ) → AreLawfulInOrder ps → EachBack rule (depth - 1) ps → IsBack rule (seq tag ps) depth
 unfolding Reads parts_of Bytes fields_of Meets
@@ -139,20 +153,20 @@ in_seq_back rule tag one ps depth lawful back t b (deep, us, e, ms) (ts, bs, f, 
       subst (λ x. Same x r.0) (sym f) r.1,
       λ rest closing. (
         deep,
-        cons_back rule tag one (joined_lists bs) b c (λ c. ReadsSeq (parts_of rule ps (depth - 1) c) c) r.0 r.2 rest,
+        cons_back rule tag one (joined_lists bs) b c (λ c. ReadsSeq rule (parts_of rule ps (depth - 1) c) c) r.0 r.2 rest,
       ),
     )
 
-in_set_back : (rule : Codec) (tag : Tag) → tag ≢ eoc → (ps : Parts) (depth : ℕ) → EachBack rule (depth - 1) ps → IsBack rule (set tag ps) depth
+in_set_back : (rule : Codec) (tag : Tag) → tag ≢ eoc → (ps : Parts) (depth : ℕ) → EachTagged ps → EachBack rule (depth - 1) ps → IsBack rule (set tag ps) depth
 unfolding Reads parts_of Bytes fields_of Meets
-in_set_back rule tag one ps depth back t b (deep, us, e, ms) (ts, bs, tags, f, ws, bare, firsts, order, c) =
+in_set_back rule tag one ps depth has back t b (deep, us, e, ms) (ts, bs, tags, f, ws, bare, firsts, order, c) =
     let g : us ≡ ts = items_one us ts (sym e ∙ f) in
-    let r = set_back rule (depth - 1) ps back ts bs (subst (MeetsParts rule ps (depth - 1)) g ms) ws in (
+    let r = set_back rule (depth - 1) ps has back ts bs tags (subst (MeetsParts rule ps (depth - 1)) g ms) ws firsts order in (
       r.0,
       subst (λ x. Same x r.0) (sym f) r.1,
       λ rest closing. (
         deep,
-        cons_back rule tag one (joined_lists bs) b c (λ c. ReadsSet (parts_of rule ps (depth - 1) c) c) r.0 r.2 rest,
+        cons_back rule tag one (joined_lists bs) b c (λ c. ReadsSet rule (parts_of rule ps (depth - 1) c) c) r.0 r.2 rest,
       ),
     )
 
@@ -160,20 +174,30 @@ abbrev pub EachGood : Parts → Type 0
 EachGood Parts.none = Unit {0}
 EachGood (part presence s ps) = IsSolid s × IsLawful s × EachGood ps
 
-alternatives_good : (ps : Parts) → AreAlternatives ps → EachGood ps
+pub alternatives_good : (ps : Parts) → AreAlternatives ps → EachGood ps
 unfolding IsLawful
 alternatives_good Parts.none h = tt
 alternatives_good (part presence s ps) h = (h.2, h.3, alternatives_good ps h.5)
 
-in_order_good : (ps : Parts) → AreLawfulInOrder ps → EachGood ps
+pub in_order_good : (ps : Parts) → AreLawfulInOrder ps → EachGood ps
 unfolding IsLawful
 in_order_good Parts.none h = tt
 in_order_good (part presence s ps) h = (h.0, h.1, in_order_good ps h.3)
 
-by_tag_good : (ps : Parts) → AreLawfulByTag ps → EachGood ps
+pub by_tag_good : (ps : Parts) → AreLawfulByTag ps → EachGood ps
 unfolding IsLawful
 by_tag_good Parts.none h = tt
 by_tag_good (part presence s ps) h = (h.2, h.3, by_tag_good ps h.5)
+
+alternatives_tagged : (ps : Parts) → AreAlternatives ps → EachTagged ps
+unfolding IsLawful
+alternatives_tagged Parts.none h = tt
+alternatives_tagged (part presence s ps) h = (h.1, alternatives_tagged ps h.5)
+
+by_tag_tagged : (ps : Parts) → AreLawfulByTag ps → EachTagged ps
+unfolding IsLawful
+by_tag_tagged Parts.none h = tt
+by_tag_tagged (part presence s ps) h = (h.1, by_tag_tagged ps h.5)
 
 mutual
   unfolding Reads parts_of Bytes fields_of Meets IsLawful
@@ -184,10 +208,10 @@ mutual
   back (any (Some tag)) solid lawful rule depth = open_back rule tag lawful depth
   back (any None) solid lawful rule depth = any_back rule depth
   back (prefix tag s) solid lawful rule depth = prefix_back rule tag lawful.0 s lawful.1 depth (back s lawful.1 lawful.2 rule (depth - 1))
-  back (choice ps) solid lawful rule depth = λ t b m w. choice_back rule depth ps (each_back ps (alternatives_good ps lawful) rule depth) 0 t b m w
+  back (choice ps) solid lawful rule depth = λ t b m w. choice_back rule depth ps (alternatives_tagged ps lawful) (each_back ps (alternatives_good ps lawful) rule depth) 0 t b m w
   back (option tag s) solid lawful rule depth = absurd solid
   back (seq tag ps) solid lawful rule depth = in_seq_back rule tag lawful.0 ps depth lawful.1 (each_back ps (in_order_good ps lawful.1) rule (depth - 1))
-  back (set tag ps) solid lawful rule depth = in_set_back rule tag lawful.0 ps depth (each_back ps (by_tag_good ps lawful.1) rule (depth - 1))
+  back (set tag ps) solid lawful rule depth = in_set_back rule tag lawful.0 ps depth (by_tag_tagged ps lawful.1) (each_back ps (by_tag_good ps lawful.1) rule (depth - 1))
   back (list tag s size) solid lawful rule depth = list_back rule tag lawful.0 s size lawful.1 depth (back s lawful.1 lawful.2 rule (depth - 2))
   back (bag tag s size) solid lawful rule depth = bag_back rule tag lawful.0 s size lawful.1 depth (back s lawful.1 lawful.2 rule (depth - 2))
 
@@ -199,16 +223,16 @@ option_back : (tag : Option Tag) (s : Shape) → tag ≡ own s → IsSolid s →
     → Meets rule (option tag s) depth t → Bytes rule (option tag s) t b → (closing : Bool) → (u : Tree) × Same t u × Reads rule (option tag s) depth closing b u []
 unfolding Reads parts_of Bytes fields_of Meets
 option_back tag s own solid lawful rule depth t b m (inl (e, f)) closing =
-    (absent, subst (λ x. Same x absent) (sym e) refl, inl (subst (IsLeftOut tag closing) (sym f) (nothing tag), refl, sym f))
+    (absent, subst (λ x. Same x absent) (sym e) refl, inl (subst (IsLeftOut (form rule) tag closing) (sym f) (nothing tag), refl, sym f))
   where
-    nothing : (tag : Option Tag) → IsLeftOut tag closing []
+    nothing : (tag : Option Tag) → IsLeftOut (form rule) tag closing []
     nothing None = inl refl
     nothing (Some tag) = inl (inl refl)
 option_back tag s own solid lawful rule depth t b (inl m) (inr w) closing = absurd (w.0 m)
 option_back tag s own solid lawful rule depth t b (inr m) (inr w) closing =
     let r = back s solid lawful rule depth t b m w.1 in
     let h : Reads rule s depth closing b r.0 [] = subst (λ i. Reads rule s depth closing i r.0 []) (append-nil b) (r.2 [] closing) in
-    (r.0, r.1, inr (subst (λ x. IsThere x closing b) (sym own) (is_there s solid closing b (begins s solid rule depth closing b r.0 [] h)), h))
+    (r.0, r.1, inr (subst (λ x. IsThere (form rule) x closing b) (sym own) (is_there s solid rule depth closing b r.0 [] h), h))
 
 optional_lawful : (tag : Option Tag) (s : Shape) → IsLawful (option tag s) → (tag ≡ own s) × IsSolid s × IsLawful s
 unfolding IsLawful

@@ -1,63 +1,101 @@
 -- A value that is there begins with one of its shape's first tags, and doesn't ask whether contents end.
-use Rattle.std.proofs.Common.{ℕ, zero, suc, inl, inr, List, Bool, true, false, Option, Some, None, refl, sym, subst}
+use Rattle.std.proofs.Common.{◌≡◌, ℕ, zero, suc, ◌⊎◌, inl, inr, List, Bool, true, false, Option, Some, None, refl, sym, subst}
+use Rattle.rasn_types.specs.Tags.{Form, form, loose}
 use Rattle.rasn_types.specs.declared.types.rules.Codec.{Codec}
 use Rattle.rasn_types.specs.declared.types.tag.Tag.{Tag}
 use Rattle.rasn_types.specs.Framing.{Next}
 use Rattle.rasn_types.specs.Shapes.{Tree, Kind, Shape, leaf, any, prefix, choice, option, seq, set, list, bag, Parts, part, IsFirst, IsFirstOf, IsSolid, AreSolid}
 use Rattle.rasn_types.specs.Shapes.Parts.{none}
 use Rattle.rasn_types.specs.Readers.{Reading, Inside, in_definite, in_indefinite, ReadsChoice, IsLeftOut, IsThere}
-use Rattle.rasn_types.specs.Contents.{Str, BitSegment, OctetSegment}
+use Rattle.rasn_types.specs.Contents.{Str, ReadBits, OctetSegment}
 use Rattle.rasn_types.specs.Grammar.{Reads, parts_of, Family, plain, bit_family, text_family, family, ReadsIn, ReadsOpen}
+use Rattle.rasn_types.specs.Lawful.{HasTag}
 use Rattle.rasn_types.proofs.Frames.{frame_next, not_ended}
 use Rattle.rasn_types.proofs.Nested.{whole_next}
 
 inside_next : {X : Type 0} {rule : Codec} {tag : Tag} {bit : Bool} {inner : Bool → Reading X} {input : List ℕ} {x : X} {rest : List ℕ}
-    → Inside rule tag bit inner input x rest → Next input tag
+    → Inside rule tag bit inner input x rest → Next (form rule) input tag
 inside_next (in_definite c f r) = frame_next f
 inside_next (in_indefinite b f r) = frame_next f
 
 pub str_next : {X : Type 0} (rule : Codec) (segment : List ℕ → List X → Type 0) (inner : Tag) (depth : ℕ) (tag : Tag) (input : List ℕ) (xs : List X) (rest : List ℕ)
-    → Str rule segment inner depth tag input xs rest → Next input tag
+    → Str rule segment inner depth tag input xs rest → Next (form rule) input tag
 str_next rule segment inner zero tag input xs rest h = frame_next h.1
 str_next rule segment inner (suc depth) tag input xs rest (inl h) = frame_next h.1
 str_next rule segment inner (suc depth) tag input xs rest (inr h) = inside_next h.3
 
 in_next : (which : Family) (rule : Codec) (kind : Kind) (tag : Tag) (depth : ℕ) (input : List ℕ) (t : Tree) (rest : List ℕ)
-    → ReadsIn which rule kind tag depth input t rest → Next input tag
+    → ReadsIn which rule kind tag depth input t rest → Next (form rule) input tag
 in_next plain rule kind tag depth input t rest h = frame_next h.2
-in_next bit_family rule kind tag depth input t rest h = str_next rule BitSegment _ depth tag input h.0 rest h.3
+in_next bit_family rule kind tag depth input t rest h = str_next rule (ReadBits rule) _ depth tag input h.0 rest h.3
 in_next text_family rule kind tag depth input t rest h = str_next rule OctetSegment _ depth tag input h.0 rest h.1
 
-open_next : (rule : Codec) (tag : Tag) (input : List ℕ) (t : Tree) (rest : List ℕ) → ReadsOpen rule tag input t rest → Next input tag
-open_next rule tag input t rest (b, c, e, inl f) = frame_next f
-open_next rule tag input t rest (b, c, e, inr f) = frame_next f.1
+open_next : (rule : Codec) (tag : Tag) (input : List ℕ) (t : Tree) (rest : List ℕ) → ReadsOpen rule tag input t rest → Next (form rule) input tag
+open_next rule tag input t rest (b, c, e, z, inl f) = frame_next f
+open_next rule tag input t rest (b, c, e, z, inr f) = frame_next f.1
 
-abbrev pub BeginsIn : (Tag → Type 0) → List ℕ → Type 0
-BeginsIn P input = (n : Tag) × Next input n × P n
+abbrev pub BeginsIn : Form → (Tag → Type 0) → List ℕ → Type 0
+BeginsIn spelling P input = (n : Tag) × Next spelling input n × P n
 
-mutual
-  unfolding Reads parts_of
+-- A value that has a tag.
+pub begins : (s : Shape) → IsSolid s → HasTag s → (rule : Codec) (depth : ℕ) (closing : Bool) (input : List ℕ) (t : Tree) (rest : List ℕ)
+    → Reads rule s depth closing input t rest → BeginsIn (form rule) (IsFirst s) input
+unfolding Reads parts_of
+begins (leaf kind tag bounds) solid has rule depth closing input t rest h = (tag, in_next (family kind) rule kind tag depth input t rest h.0, refl)
+begins (any (Some tag)) solid has rule depth closing input t rest h = (tag, open_next rule tag input t rest h, refl)
+begins (any None) solid has rule depth closing input t rest h = absurd has
+begins (prefix tag s) solid has rule depth closing input t rest h = (tag, inside_next h.3, refl)
+begins (choice ps) solid has rule depth closing input t rest h = some_begins ps 0 h
+  where
+    some_begins : (ps : Parts) (k : ℕ) → ReadsChoice (form rule) k (parts_of rule ps depth closing) input t rest → BeginsIn (form rule) (IsFirstOf ps) input
+    some_begins none k h = absurd h
+    some_begins (part presence s ps) k (inl h) = (h.2, h.3, inl h.4)
+    some_begins (part presence s ps) k (inr h) = let r = some_begins ps (suc k) h in (r.0, r.1, inr r.2)
+begins (option tag s) solid has rule depth closing input t rest h = absurd solid
+begins (seq tag ps) solid has rule depth closing input t rest h = (tag, inside_next h.1, refl)
+begins (set tag ps) solid has rule depth closing input t rest h = (tag, inside_next h.1, refl)
+begins (list tag s size) solid has rule depth closing input t rest h = (tag, inside_next h.1, refl)
+begins (bag tag s size) solid has rule depth closing input t rest h = (tag, inside_next h.1, refl)
 
-  pub begins : (s : Shape) → IsSolid s → (rule : Codec) (depth : ℕ) (closing : Bool) (input : List ℕ) (t : Tree) (rest : List ℕ)
-      → Reads rule s depth closing input t rest → BeginsIn (IsFirst s) input
-  begins (leaf kind tag bounds) solid rule depth closing input t rest h = (tag, in_next (family kind) rule kind tag depth input t rest h.0, refl)
-  begins (any (Some tag)) solid rule depth closing input t rest h = (tag, open_next rule tag input t rest h, refl)
-  begins (any None) solid rule depth closing input t rest h =
-      let n = whole_next rest h.2 in (n.0, subst (λ i. Next i n.0) (sym h.3) n.1, tt)
-  begins (prefix tag s) solid rule depth closing input t rest h = (tag, inside_next h.2, refl)
-  begins (choice ps) solid rule depth closing input t rest h = some_begins ps solid 0 rule depth closing input t rest h
-  begins (option tag s) solid rule depth closing input t rest h = absurd solid
-  begins (seq tag ps) solid rule depth closing input t rest h = (tag, inside_next h.1, refl)
-  begins (set tag ps) solid rule depth closing input t rest h = (tag, inside_next h.1, refl)
-  begins (list tag s size) solid rule depth closing input t rest h = (tag, inside_next h.1, refl)
-  begins (bag tag s size) solid rule depth closing input t rest h = (tag, inside_next h.1, refl)
+pub tagged : (s : Shape) → HasTag s ⊎ (s ≡ any None)
+tagged (any None) = inr refl
+tagged (any (Some tag)) = inl tt
+tagged (leaf kind tag bounds) = inl tt
+tagged (prefix tag s) = inl tt
+tagged (choice ps) = inl tt
+tagged (option tag s) = inl tt
+tagged (seq tag ps) = inl tt
+tagged (set tag ps) = inl tt
+tagged (list tag s size) = inl tt
+tagged (bag tag s size) = inl tt
 
-  some_begins : (ps : Parts) → AreSolid ps → (k : ℕ) (rule : Codec) (depth : ℕ) (closing : Bool) (input : List ℕ) (t : Tree) (rest : List ℕ)
-      → ReadsChoice k (parts_of rule ps depth closing) input t rest → BeginsIn (IsFirstOf ps) input
-  some_begins none solid k rule depth closing input t rest h = absurd h
-  some_begins (part presence s ps) solid k rule depth closing input t rest (inl h) = (h.2, h.3, inl h.4)
-  some_begins (part presence s ps) solid k rule depth closing input t rest (inr h) =
-      let r = some_begins ps solid.1 (suc k) rule depth closing input t rest h in (r.0, r.1, inr r.2)
+-- Some identifier comes, in a spelling of some form: open octets without a tag stay lenient.
+abbrev pub Comes : List ℕ → Type 0
+Comes input = (spelling : Form) × (n : Tag) × Next spelling input n
+
+any_comes : (rule : Codec) (depth : ℕ) (closing : Bool) (input : List ℕ) (t : Tree) (rest : List ℕ) → Reads rule (any None) depth closing input t rest → Comes input
+unfolding Reads parts_of
+any_comes rule depth closing input t rest h = let n = whole_next rest h.2 in (loose rule, n.0, subst (λ i. Next (loose rule) i n.0) (sym h.3) n.1)
+
+pub comes : (s : Shape) → IsSolid s → (rule : Codec) (depth : ℕ) (closing : Bool) (input : List ℕ) (t : Tree) (rest : List ℕ)
+    → Reads rule s depth closing input t rest → Comes input
+comes s solid rule depth closing input t rest h = go (tagged s)
+  where
+    go : HasTag s ⊎ (s ≡ any None) → Comes input
+    go (inl has) = let b = begins s solid has rule depth closing input t rest h in (form rule, b.0, b.1)
+    go (inr e) = any_comes rule depth closing input t rest (subst (λ x. Reads rule x depth closing input t rest) e h)
+
+-- A first tag comes in the form's spelling, or any tag may come.
+abbrev pub Starts : Form → (Tag → Type 0) → List ℕ → Type 0
+Starts spelling P input = BeginsIn spelling P input ⊎ ((n : Tag) → P n)
+
+pub starts : (s : Shape) → IsSolid s → (rule : Codec) (depth : ℕ) (closing : Bool) (input : List ℕ) (t : Tree) (rest : List ℕ)
+    → Reads rule s depth closing input t rest → Starts (form rule) (IsFirst s) input
+starts s solid rule depth closing input t rest h = go (tagged s)
+  where
+    go : HasTag s ⊎ (s ≡ any None) → Starts (form rule) (IsFirst s) input
+    go (inl has) = inl (begins s solid has rule depth closing input t rest h)
+    go (inr e) = inr (λ n. subst (λ x. IsFirst x n) (sym e) tt)
 
 mutual
   unfolding Reads parts_of
@@ -76,28 +114,27 @@ mutual
   solid_closing (bag tag s size) solid rule depth c d input t rest h = h
 
   some_closing : (ps : Parts) → AreSolid ps → (k : ℕ) (rule : Codec) (depth : ℕ) (c d : Bool) (input : List ℕ) (t : Tree) (rest : List ℕ)
-      → ReadsChoice k (parts_of rule ps depth c) input t rest → ReadsChoice k (parts_of rule ps depth d) input t rest
+      → ReadsChoice (form rule) k (parts_of rule ps depth c) input t rest → ReadsChoice (form rule) k (parts_of rule ps depth d) input t rest
   some_closing none solid k rule depth c d input t rest h = h
   some_closing (part presence s ps) solid k rule depth c d input t rest (inl (u, e, n, p, f, h)) =
       inl (u, e, n, p, f, solid_closing s solid.0 rule depth c d input u rest h)
   some_closing (part presence s ps) solid k rule depth c d input t rest (inr h) = inr (some_closing ps solid.1 (suc k) rule depth c d input t rest h)
 
 -- At the top, where closing octets may stand, what was read without them is read too.
-left_out_wider : (tag : Option Tag) (input : List ℕ) → IsLeftOut tag false input → IsLeftOut tag true input
-left_out_wider None input (inl h) = inl h
-left_out_wider None input (inr h) = let e = h.0 in cc
-left_out_wider (Some tag) input (inl (inl h)) = inl (inl h)
-left_out_wider (Some tag) input (inl (inr h)) = let e = h.0 in cc
-left_out_wider (Some tag) input (inr h) = inr h
+left_out_wider : (spelling : Form) (tag : Option Tag) (input : List ℕ) → IsLeftOut spelling tag false input → IsLeftOut spelling tag true input
+left_out_wider spelling None input (inl h) = inl h
+left_out_wider spelling None input (inr h) = let e = h.0 in cc
+left_out_wider spelling (Some tag) input (inl (inl h)) = inl (inl h)
+left_out_wider spelling (Some tag) input (inl (inr h)) = let e = h.0 in cc
+left_out_wider spelling (Some tag) input (inr h) = inr h
 
-there_wider : (tag : Option Tag) (input : List ℕ) (n : Tag) → Next input n → IsThere tag false input → IsThere tag true input
-there_wider None input n next h = not_ended true input n next
-there_wider (Some tag) input n next h = (not_ended true input n next, h.1)
+there_wider : (spelling : Form) (tag : Option Tag) (input : List ℕ) → Comes input → IsThere spelling tag false input → IsThere spelling tag true input
+there_wider spelling None input (f, n, next) h = not_ended true input n next
+there_wider spelling (Some tag) input (f, n, next) h = (not_ended true input n next, h.1)
 
 pub wider : (tag : Option Tag) (s : Shape) → IsSolid s → (rule : Codec) (depth : ℕ) (input : List ℕ) (t : Tree) (rest : List ℕ)
     → Reads rule (option tag s) depth false input t rest → Reads rule (option tag s) depth true input t rest
 unfolding Reads parts_of
-wider tag s solid rule depth input t rest (inl (l, e, f)) = inl (left_out_wider tag input l, e, f)
+wider tag s solid rule depth input t rest (inl (l, e, f)) = inl (left_out_wider (form rule) tag input l, e, f)
 wider tag s solid rule depth input t rest (inr (l, h)) =
-    let b = begins s solid rule depth false input t rest h in
-    inr (there_wider tag input b.0 b.1 l, solid_closing s solid rule depth false true input t rest h)
+    inr (there_wider (form rule) tag input (comes s solid rule depth false input t rest h) l, solid_closing s solid rule depth false true input t rest h)

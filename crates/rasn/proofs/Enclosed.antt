@@ -4,11 +4,12 @@ use Rattle.rasn_types.specs.Tags.{eoc, Form, cer_form}
 use Rattle.rasn_types.specs.declared.types.rules.Codec.{Codec}
 use Rattle.rasn_types.specs.declared.types.rules.Codec.TheVariants.{Ber, Cer, Der}
 use Rattle.rasn_types.specs.declared.types.tag.Tag.{Tag}
-use Rattle.rasn_types.specs.Framing.{Frame, with_length, without_length, definite, indefinite, Next, Ended}
-use Rattle.rasn_types.specs.Readers.{Reading, Inside, in_definite, in_indefinite, Many}
+use Rattle.rasn_types.specs.Framing.{Frame, with_length, without_length, definite, indefinite, Ended}
+use Rattle.rasn_types.specs.Readers.{Reading, Inside, in_definite, in_indefinite, Many, ReadFrom}
 use Rattle.rasn_types.specs.Contents.{joined_lists}
 use Rattle.rasn_types.specs.Bytes.{Definite, Closed, Prim, Cons, Each}
 use Rattle.rasn_types.proofs.Frames.{not_ended}
+use Rattle.rasn.proofs.Begins.{Comes}
 
 -- What may stand behind the values of some contents.
 abbrev pub IsTail : Bool → List ℕ → Type 0
@@ -45,28 +46,38 @@ pub record ReadBack {X : Type 0} (alike : X → X → Type 0) (reads : Reading X
   pub is : X
   pub same : alike t is
   pub again : (rest : List ℕ) → reads (b ++ rest) is rest
-  pub begins : (rest : List ℕ) → (n : Tag) × Next (b ++ rest) n
+  pub begins : (rest : List ℕ) → Comes (b ++ rest)
 
 abbrev pub EachReadBack : {X : Type 0} → (X → X → Type 0) → Reading X → List X → List (List ℕ) → Type 0
 EachReadBack alike reads [] bs = bs ≡ []
 EachReadBack alike reads (t ∷ ts) bs = (b : List ℕ) × (cs : List (List ℕ)) × (bs ≡ b ∷ cs) × ReadBack alike reads t b × EachReadBack alike reads ts cs
 
-pub many_back : {X : Type 0} (alike : X → X → Type 0) (reads : Reading X) (ts : List X) (bs : List (List ℕ)) → EachReadBack alike reads ts bs
-    → (us : List X) × Each alike ts us × IsReadAs (λ c. Many reads c) (joined_lists bs) us
-many_back alike reads [] bs h =
-    ([], refl, λ closing tail t. (subst (λ l. Ended closing (joined_lists l ++ tail)) (sym h) (tail_ended closing tail t), sym (ap (λ l. joined_lists l ++ tail) h)))
+-- Values that are alike to these are read, each from its octets.
+abbrev pub ManyBack : {X : Type 0} → (X → X → Type 0) → Reading X → List X → List (List ℕ) → Type 0
+ManyBack {X} alike reads ts bs = (us : List X) × Each alike ts us × IsReadAs (λ c. Many reads c) (joined_lists bs) us
+    × ((tail : List ℕ) → ReadFrom reads (joined_lists bs ++ tail) us tail bs)
+
+pub many_back : {X : Type 0} (alike : X → X → Type 0) (reads : Reading X) (ts : List X) (bs : List (List ℕ)) → EachReadBack alike reads ts bs → ManyBack alike reads ts bs
+many_back alike reads [] bs h = (
+  [],
+  refl,
+  λ closing tail t. (subst (λ l. Ended closing (joined_lists l ++ tail)) (sym h) (tail_ended closing tail t), sym (ap (λ l. joined_lists l ++ tail) h)),
+  λ tail. (h, sym (ap (λ l. joined_lists l ++ tail) h)),
+)
 many_back {X} alike reads (t ∷ ts) bs (b, cs, e, r, h) = go (many_back alike reads ts cs h)
   where
-    go : (us : List X) × Each alike ts us × IsReadAs (λ c. Many reads c) (joined_lists cs) us
-        → (us : List X) × Each alike (t ∷ ts) us × IsReadAs (λ c. Many reads c) (joined_lists bs) us
-    go (us, s, m) = (
+    apart : (tail : List ℕ) → joined_lists bs ++ tail ≡ b ++ (joined_lists cs ++ tail)
+    apart tail = ap (λ l. joined_lists l ++ tail) e ∙ append_assoc b (joined_lists cs) tail
+
+    go : ManyBack alike reads ts cs → ManyBack alike reads (t ∷ ts) bs
+    go (us, s, m, f) = (
       r.is ∷ us,
       (r.is, us, refl, r.same, s),
       λ closing tail w.
-          let f : joined_lists bs ++ tail ≡ b ++ (joined_lists cs ++ tail) = ap (λ l. joined_lists l ++ tail) e ∙ append_assoc b (joined_lists cs) tail in
           let n = r.begins (joined_lists cs ++ tail) in
-          subst (λ i. Many reads closing i (r.is ∷ us) tail) (sym f)
-          ((λ ended. not_ended closing (b ++ (joined_lists cs ++ tail)) n.0 n.1 ended), (joined_lists cs ++ tail), r.again (joined_lists cs ++ tail), m closing tail w),
+          subst (λ i. Many reads closing i (r.is ∷ us) tail) (sym (apart tail))
+          ((λ ended. not_ended closing (b ++ (joined_lists cs ++ tail)) n.1 n.2 ended), (joined_lists cs ++ tail), r.again (joined_lists cs ++ tail), m closing tail w),
+      λ tail. subst (λ i. ReadFrom reads i (r.is ∷ us) tail bs) (sym (apart tail)) (b, cs, joined_lists cs ++ tail, e, refl, r.again (joined_lists cs ++ tail), f tail),
     )
 
 pub each_equal : {X : Type 0} (ts us : List X) → Each (λ x y. y ≡ x) ts us → us ≡ ts

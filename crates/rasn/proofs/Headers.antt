@@ -1,15 +1,17 @@
 -- Headers of short values, and values in one primitive encoding.
 use Rattle.std.proofs.Common.{◌≡◌, ℕ, zero, suc, ◌+◌, ◌*◌, ◌<◌, ◌≢◌, inl, inr, List, [], ◌∷◌, ◌++◌, length, Bool, true, false, refl, ap, arith}
-use Rattle.rasn_types.specs.Tags.{Form, eoc, in_universal, IsStrict, tag_bit}
+use Rattle.rasn_types.specs.Tags.{Form, eoc, in_universal, rank, IsStrict, tag_bit}
+use Rattle.rasn_types.specs.declared.types.tag.Class.{Class}
+use Rattle.rasn_types.specs.declared.types.tag.Class.TheVariants.{Universal, Application, Context, Private}
 use Rattle.rasn_types.specs.declared.types.tag.Tag.{Tag}
-use Rattle.rasn_types.specs.Framing.{bit_of, IdSpells, HasIndefinite, Frame, with_length, without_length, definite, indefinite, Ended, Next}
+use Rattle.rasn_types.specs.Framing.{bit_of, AnyIdSpells, IdSpells, HasIndefinite, Frame, with_length, without_length, definite, indefinite, Begins, Ended, Next}
 use Rattle.rasn_types.specs.Bytes.{Definite, Closed}
 use Rattle.rasn_types.specs.declared.types.rules.Codec.{Codec}
-use Rattle.rasn_types.specs.declared.types.rules.Codec.TheVariants.{Ber, Cer, Der}
 use Rattle.rasn_types.specs.Shapes.{Tree, Kind}
-use Rattle.rasn_types.specs.Contents.{Contents, IsShortest, Str, BitSegment, OctetSegment}
+use Rattle.rasn_types.specs.Contents.{Contents, IsShortest, Str, ReadBits, OctetSegment}
 use Rattle.rasn_types.specs.Grammar.{Family, ReadsIn}
 use Rattle.rasn_types.proofs.Frames.{not_ended}
+use Rattle.rasn.specs.WorkedShapes.{contextual}
 
 pub no_eoc : (n : ℕ) → 0 < n → in_universal n ≢ eoc
 no_eoc n h e = let f : n ≡ 0 = ap (λ (t : Tag). t.value) e in omega arith
@@ -58,15 +60,10 @@ closed_written n contents k = record {
   is = refl;
 }
 
--- A value of a plain kind.
+-- A value of a plain kind, whose contents are the shortest where they have to be.
 pub plain_read : (rule : Codec) (kind : Kind) (n : ℕ) (contents rest : List ℕ) (t : Tree) (depth : ℕ) → 0 < n → n < 31 → length contents < 128
-    → Contents rule kind contents t → ReadsIn Family.plain rule kind (in_universal n) depth ((32 * bit_of false + n) ∷ length contents ∷ (contents ++ rest)) t rest
-plain_read rule kind n contents rest t depth h k l c = (false, contents, short n false contents rest h k l, c, strict rule)
-  where
-    strict : (rule : Codec) → IsStrict rule → (false ≡ tag_bit (in_universal n)) × IsShortest kind contents
-    strict Ber s = absurd s
-    strict Cer s = absurd s
-    strict Der s = absurd s
+    → Contents rule kind contents t → (IsStrict rule → (false ≡ tag_bit (in_universal n)) × IsShortest kind contents) → ReadsIn Family.plain rule kind (in_universal n) depth ((32 * bit_of false + n) ∷ length contents ∷ (contents ++ rest)) t rest
+plain_read rule kind n contents rest t depth h k l c s = (false, contents, short n false contents rest h k l, c, s)
 
 -- A primitive string of octets.
 pub octets_read : (rule : Codec) (n : ℕ) (contents rest : List ℕ) (depth : ℕ) → 0 < n → n < 31 → length contents < 128
@@ -75,10 +72,52 @@ octets_read rule n contents rest zero h k l = (contents, short n false contents 
 octets_read rule n contents rest (suc depth) h k l = inl (contents, short n false contents rest h k l, refl)
 
 -- A primitive piece of bits.
-pub bits_read : (rule : Codec) (n : ℕ) (contents rest : List ℕ) (bs : List Bool) (depth : ℕ) → 0 < n → n < 31 → length contents < 128 → BitSegment contents bs
-    → Str rule BitSegment (in_universal 3) depth (in_universal n) ((32 * bit_of false + n) ∷ length contents ∷ (contents ++ rest)) bs rest
+pub bits_read : (rule : Codec) (n : ℕ) (contents rest : List ℕ) (bs : List Bool) (depth : ℕ) → 0 < n → n < 31 → length contents < 128 → ReadBits rule contents bs
+    → Str rule (ReadBits rule) (in_universal 3) depth (in_universal n) ((32 * bit_of false + n) ∷ length contents ∷ (contents ++ rest)) bs rest
 bits_read rule n contents rest bs zero h k l s = (contents, short n false contents rest h k l, s)
 bits_read rule n contents rest bs (suc depth) h k l s = inl (contents, short n false contents rest h k l, s)
 
-pub no_next : (tag : Tag) → Next (0 ∷ 0 ∷ []) tag → ⊥
-no_next tag h = not_ended true (0 ∷ 0 ∷ []) tag h (inr (refl, [], refl))
+pub no_next : (spelling : Form) (tag : Tag) → Next spelling (0 ∷ 0 ∷ []) tag → ⊥
+no_next spelling tag h = not_ended true (0 ∷ 0 ∷ []) tag h (inr (refl, [], refl))
+
+-- Headers of one octet and a short length, in any class.
+pub spelled : (c : Class) (n : ℕ) (bit : Bool) → n < 31 → AnyIdSpells ((64 * rank c + (32 * bit_of bit + n)) ∷ []) (record { class = c; value = n }) bit
+spelled c n bit h = record { low = n; leading = refl; number = inl (h, refl, refl) }
+
+pub first_octet : (c : Class) (n : ℕ) (bit : Bool) → n < 31 → 64 * rank c + (32 * bit_of bit + n) < 256
+first_octet c n bit h = omega (arith, rank_below c, bit_below bit)
+  where
+    rank_below : (c : Class) → rank c < 4
+    rank_below Universal = omega arith
+    rank_below Application = omega arith
+    rank_below Context = omega arith
+    rank_below Private = omega arith
+
+    bit_below : (bit : Bool) → bit_of bit < 2
+    bit_below true = omega arith
+    bit_below false = omega arith
+
+pub tag_begins : (c : Class) (n : ℕ) (bit : Bool) (rest : List ℕ) → n < 31 → Begins ((64 * rank c + (32 * bit_of bit + n)) ∷ rest) (record { class = c; value = n })
+tag_begins c n bit rest h = record { id = (64 * rank c + (32 * bit_of bit + n)) ∷ []; bit = bit; more = rest; spells = spelled c n bit h; is = refl }
+
+pub tag_written : (c : Class) (n : ℕ) (bit : Bool) (contents : List ℕ) → n < 31 → length contents < 128
+    → Definite (record { class = c; value = n }) bit contents ((64 * rank c + (32 * bit_of bit + n)) ∷ length contents ∷ contents)
+tag_written c n bit contents h l = record {
+  id = (64 * rank c + (32 * bit_of bit + n)) ∷ [];
+  len = length contents ∷ [];
+  id_spells = spelled c n bit h;
+  id_shortest = tt;
+  id_octets = (first_octet c n bit h, tt);
+  len_spells = inl (l, refl, refl);
+  len_shortest = tt;
+  len_octets = (omega arith, tt);
+  is = refl;
+}
+
+pub context_apart : (n : ℕ) → contextual n ≢ eoc
+context_apart n e = let f : Context ≡ Universal = ap (λ (t : Tag). t.class) e in cc
+
+pub context_frame : {spelling : Form} (n : ℕ) (bit : Bool) (contents rest : List ℕ) → n < 31 → length contents < 128
+    → Frame spelling ((64 * 2 + (32 * bit_of bit + n)) ∷ length contents ∷ (contents ++ rest)) (contextual n) bit rest (definite contents)
+context_frame n bit contents rest h l = with_length ((64 * 2 + (32 * bit_of bit + n)) ∷ []) (length contents ∷ []) contents
+    (record { spells = spelled Context n bit h; is_one = context_apart n }) (inl (l, refl, refl)) (λ s. (tt, tt)) refl

@@ -43,6 +43,6 @@ distinct = record {
   utc = λ m n h k a b e.
       ap (λ (t : Stamp). t.moment) (utc_once (both short_form canonical_form) (written_utc n) (at_utc m) (at_utc n) (subst (λ x. CanonicalUtc x (at_utc m)) e (utc_read_back m h a)) (utc_read_back n k b));
   generalized = λ m n h k a b e.
-      ap (λ (t : Stamp). t.moment) (generalized_once (both long_form canonical_form) (written_generalized n) (at_utc m) (at_utc n) (subst (λ x. CanonicalGeneralized x (at_utc m)) e (generalized_read_back m h a)) (generalized_read_back n k b));
+      ap (λ (t : Stamp). t.moment) (generalized_once (both long_form canonical_form) (written_generalized n) (at_utc m) (at_utc n) (subst (λ x. CanonicalGeneralized x (at_utc m)) e (generalized_read_back m h a).is) (generalized_read_back n k b).is);
   date = λ d c h k a b e. one_day (written_date c) d c (subst (λ x. DateText x d) e (date_read_back d h a)) (date_read_back c k b);
 }

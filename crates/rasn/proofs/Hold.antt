@@ -7,7 +7,7 @@ use Rattle.rasn_types.specs.Bytes.{Same, Bytes}
 use Rattle.rasn_types.specs.Carried.{Carried}
 use Rattle.rasn_types.specs.Lawful.{IsLawful}
 use Rattle.rasn.specs.Headline.{Identify}
-use Rattle.rasn.specs.Laws.{OneReading, Included, ReadAgain, Canonical, WrittenOnce, OneEncoding, Turns}
+use Rattle.rasn.specs.Laws.{OneReading, Included, ReadAgain, Canonical, WrittenOnce, StrictDer, OneEncoding, Turns}
 use Rattle.rasn_types.proofs.Nested.{whole_one, whole_text_one, turns_twice}
 pub use Rattle.rasn.proofs.Unique.{one_leaf, one_open, one_prefix, one_choice, one_option, one_sequence, one_set, one_sequence_of, one_set_of}
 use Rattle.rasn_types.proofs.Alike.{same_sym, same_trans}
@@ -15,6 +15,7 @@ use Rattle.rasn_types.proofs.Once.{once}
 use Rattle.rasn.proofs.Unique.{reads_one}
 use Rattle.rasn.proofs.IntoBer.{IsOptional, solid_of, included as into_ber}
 use Rattle.rasn.proofs.Back.{carried_back, back}
+use Rattle.rasn.proofs.Strict.{all_told}
 
 pub one_reading : OneReading
 one_reading s lawful rule depth closing input t u rest other h k = reads_one s lawful rule depth closing input t u rest other h k
@@ -49,6 +50,9 @@ canonical s lawful t u c d = (λ h. once s Der t u c.octets d.octets h c.is d.is
 
 pub identify : (s : Shape) (t : Tree) (octets : List ℕ) → Bytes Der s t octets → Identify s t octets
 identify s t octets is lawful meets u c = canonical s lawful t u (record { octets = octets; is = is; meets = meets }) c
+
+pub strict_der : StrictDer
+strict_der s lawful input o t rest h c = (c.octets, c.is, all_told s lawful 128 false input t rest c.octets o h c.is c.meets)
 
 pub one_encoding : OneEncoding
 one_encoding rule other a b x y v w e = let o = whole_one x y v w e in (whole_text_one x y v w e, o.0, o.1)

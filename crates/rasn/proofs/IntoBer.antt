@@ -1,14 +1,14 @@
 -- What CER or DER reads, BER reads.
 use Rattle.std.proofs.Common.{◌≡◌, ℕ, zero, suc, ◌-◌, ◌⊎◌, inl, inr, List, [], ◌∷◌, Bool, true, false, ℤ, Option, Some, None, refl, sym, subst}
-use Rattle.rasn_types.specs.Tags.{Form, ber_form}
+use Rattle.rasn_types.specs.Tags.{Form, ber_form, form, IsStrict}
 use Rattle.rasn_types.specs.declared.types.rules.Codec.{Codec}
 use Rattle.rasn_types.specs.declared.types.rules.Codec.TheVariants.{Ber, Cer, Der}
 use Rattle.rasn_types.specs.declared.types.tag.Tag.{Tag}
-use Rattle.rasn_types.specs.Framing.{Frame, with_length, without_length, Extent, Whole, plain, closed, Wholes, none, one_more}
+use Rattle.rasn_types.specs.Framing.{Frame, with_length, without_length, Extent, Next, Whole, plain, closed, Wholes, none, one_more}
 use Rattle.rasn_types.specs.Shapes.{Tree, absent, Kind, boolean, null, object_identifier, integer, enumerated, octet_string, fixed, numeric, printable, visible, ia5, any_octets, bmp, utf8, utc_time, generalized_time, date, Shape, leaf, any, prefix, choice, option, seq, set, list, bag, Parts, part, own, Presence, required, optional, addition, default, IsSolid, AreSolid}
 use Rattle.rasn_types.specs.declared.types.constraints.Bound.{Bound}
-use Rattle.rasn_types.specs.Readers.{Reading, Inside, in_definite, in_indefinite, Many, Perhaps, ReadsPart, InOrder, AllMissing, HasRequired, ReadsSeq, ReadsChoice, ByPart, ReadsSet}
-use Rattle.rasn_types.specs.Contents.{Str, BitSegment, OctetSegment, Contents, IsBool}
+use Rattle.rasn_types.specs.Readers.{Reading, Inside, in_definite, in_indefinite, Many, IsLeftOut, IsThere, Perhaps, IsNoDefault, ReadsPart, InOrder, AllMissing, HasRequired, ReadsSeq, ReadsChoice, ByPart, ReadsSet}
+use Rattle.rasn_types.specs.Contents.{Str, ReadBits, OctetSegment, Contents, IsBool}
 use Rattle.rasn_types.specs.Grammar.{Reads, parts_of, top, Family, bit_family, text_family, family, ReadsIn, ReadsOpen, ReadsList, ReadsBag, Text}
 use Rattle.rasn_types.specs.Lawful.{IsLawful, AreAlternatives}
 use Rattle.rasn.proofs.TimeTexts.{utc_in, generalized_in}
@@ -25,6 +25,9 @@ IsIn {X} reads wide = (input : List ℕ) (x : X) (rest : List ℕ) → reads inp
 frame_ber : {rule : Form} {input rest : List ℕ} {s : Tag} {b : Bool} {m : Extent} → Frame rule input s b rest m → Frame ber_form input s b rest m
 frame_ber (with_length id len c p q z e) = with_length id len c p q (λ h. absurd h) e
 frame_ber (without_length id p q r e) = without_length id p q tt e
+
+next_ber : {spelling : Form} {input : List ℕ} {tag : Tag} → Next spelling input tag → Next ber_form input tag
+next_ber n = record { begins = n.begins; is_one = n.is_one; shortest = λ h. absurd h }
 
 mutual
   whole_ber : {rule : Codec} {text : List ℕ} → Whole rule text → Whole Ber text
@@ -44,10 +47,19 @@ pub many_in : {X : Type 0} (reads wide : Reading X) → IsIn reads wide → (clo
 many_in reads wide into closing input [] rest h = h
 many_in reads wide into closing input (x ∷ xs) rest (p, m, q, r) = (p, m, into input x m q, many_in reads wide into closing m xs rest r)
 
-perhaps_in : {X : Type 0} (tag : Option Tag) (without : X) (reads wide : Reading X) → IsIn reads wide → (closing : Bool)
-    → IsIn (Perhaps tag without reads closing) (Perhaps tag without wide closing)
-perhaps_in tag without reads wide into closing input x rest (inl h) = inl h
-perhaps_in tag without reads wide into closing input x rest (inr (p, q)) = inr (p, into input x rest q)
+left_out_ber : (spelling : Form) (tag : Option Tag) (closing : Bool) (input : List ℕ) → IsLeftOut spelling tag closing input → IsLeftOut ber_form tag closing input
+left_out_ber spelling None closing input h = h
+left_out_ber spelling (Some tag) closing input (inl h) = inl h
+left_out_ber spelling (Some tag) closing input (inr (n, next, h)) = inr (n, next_ber next, h)
+
+there_ber : (spelling : Form) (tag : Option Tag) (closing : Bool) (input : List ℕ) → IsThere spelling tag closing input → IsThere ber_form tag closing input
+there_ber spelling None closing input h = h
+there_ber spelling (Some tag) closing input h = (h.0, next_ber h.1)
+
+perhaps_in : {X : Type 0} (spelling : Form) (tag : Option Tag) (without : X) (reads wide : Reading X) → IsIn reads wide → (closing : Bool)
+    → IsIn (Perhaps spelling tag without reads closing) (Perhaps ber_form tag without wide closing)
+perhaps_in spelling tag without reads wide into closing input x rest (inl (p, q, r)) = inl (left_out_ber spelling tag closing input p, q, r)
+perhaps_in spelling tag without reads wide into closing input x rest (inr (p, q)) = inr (there_ber spelling tag closing input p, into input x rest q)
 
 pub bool_in : (rule : Codec) (l : List ℕ) (z : ℤ) → IsBool rule l z → IsBool Ber l z
 bool_in Ber l z h = h
@@ -79,46 +91,48 @@ text_in rule generalized_time l t h = generalized_in rule l t h
 text_in rule date l t h = h
 text_in rule kind l t h = absurd h
 
-str_in : {X : Type 0} (rule : Codec) (segment : List ℕ → List X → Type 0) (inner : Tag) (depth : ℕ) (tag : Tag)
-    → IsIn (Str rule segment inner depth tag) (Str Ber segment inner depth tag)
-str_in rule segment inner zero tag input xs rest (c, f, h) = (c, frame_ber f, h)
-str_in rule segment inner (suc depth) tag input xs rest (inl (c, f, h)) = inl (c, frame_ber f, h)
-str_in rule segment inner (suc depth) tag input xs rest (inr (a, ls, e, h)) =
+str_in : {X : Type 0} (rule : Codec) (segment wide : List ℕ → List X → Type 0) → ((l : List ℕ) (xs : List X) → segment l xs → wide l xs) → (inner : Tag) (depth : ℕ) (tag : Tag)
+    → IsIn (Str rule segment inner depth tag) (Str Ber wide inner depth tag)
+str_in rule segment wide into inner zero tag input xs rest (c, f, h) = (c, frame_ber f, into c xs h)
+str_in rule segment wide into inner (suc depth) tag input xs rest (inl (c, f, h)) = inl (c, frame_ber f, into c xs h)
+str_in rule segment wide into inner (suc depth) tag input xs rest (inr (a, ls, e, h)) =
     inr (
       tt,
       ls,
       e,
-      inside_in (λ c. Many (Str rule segment inner depth inner) c) (λ c. Many (Str Ber segment inner depth inner) c)
-          (λ c. many_in (Str rule segment inner depth inner) (Str Ber segment inner depth inner) (str_in rule segment inner depth inner) c) input ls rest h,
+      inside_in (λ c. Many (Str rule segment inner depth inner) c) (λ c. Many (Str Ber wide inner depth inner) c)
+          (λ c. many_in (Str rule segment inner depth inner) (Str Ber wide inner depth inner) (str_in rule segment wide into inner depth inner) c) input ls rest h,
     )
 
 in_in : (which : Family) (rule : Codec) (kind : Kind) (tag : Tag) (depth : ℕ) → IsIn (ReadsIn which rule kind tag depth) (ReadsIn which Ber kind tag depth)
 in_in Family.plain rule kind tag depth input t rest (b, c, f, h, z) = (b, c, frame_ber f, contents_in rule kind c t h, λ e. absurd e)
-in_in bit_family rule kind tag depth input t rest (bs, e, n, h) = (bs, e, n, str_in rule BitSegment _ depth tag input bs rest h)
-in_in text_family rule kind tag depth input t rest (l, h, k) = (l, str_in rule OctetSegment _ depth tag input l rest h, text_in rule kind l t k)
+in_in bit_family rule kind tag depth input t rest (bs, e, n, h) = (bs, e, n, str_in rule (ReadBits rule) (ReadBits Ber) (λ l xs s. (s.0, λ z. absurd z)) _ depth tag input bs rest h)
+in_in text_family rule kind tag depth input t rest (l, h, k) = (l, str_in rule OctetSegment OctetSegment (λ c xs s. s) _ depth tag input l rest h, text_in rule kind l t k)
 
 open_in : (rule : Codec) (tag : Tag) → IsIn (ReadsOpen rule tag) (ReadsOpen Ber tag)
-open_in rule tag input t rest (b, c, e, inl f) = (b, c, e, inl (frame_ber f))
-open_in rule tag input t rest (b, c, e, inr (d, f, w, g)) = (b, c, e, inr (d, frame_ber f, wholes_ber w, g))
+open_in rule tag input t rest (b, c, e, z, inl f) = (b, c, e, (λ s. absurd s), inl (frame_ber f))
+open_in rule tag input t rest (b, c, e, z, inr (d, f, w, g)) = (b, c, e, (λ s. absurd s), inr (d, frame_ber f, wholes_ber w, g))
 
 -- Each part's readings are among BER's.
 abbrev pub EachIn : Codec → ℕ → Bool → Parts → Type 0
 EachIn rule depth closing Parts.none = Unit {0}
 EachIn rule depth closing (part presence s ps) = IsIn (Reads rule s depth closing) (Reads Ber s depth closing) × EachIn rule depth closing ps
 
-part_in : (presence : Presence) (tag : Option Tag) (reads wide : Reading Tree) → IsIn reads wide → (closing : Bool)
-    → IsIn (ReadsPart presence tag reads closing) (ReadsPart presence tag wide closing)
-part_in required tag reads wide into closing = into
-part_in addition tag reads wide into closing = into
-part_in optional tag reads wide into closing = perhaps_in tag absent reads wide into closing
-part_in (default d) tag reads wide into closing = perhaps_in tag d reads wide into closing
+part_in : (rule : Codec) (presence : Presence) (tag : Option Tag) (reads wide : Reading Tree) → IsIn reads wide → (closing : Bool)
+    → IsIn (ReadsPart rule presence tag reads closing) (ReadsPart Ber presence tag wide closing)
+part_in rule required tag reads wide into closing = into
+part_in rule addition tag reads wide into closing = into
+part_in rule optional tag reads wide into closing = perhaps_in (form rule) tag absent reads wide into closing
+part_in rule (default d) tag reads wide into closing =
+    perhaps_in (form rule) tag d (λ input t rest. reads input t rest × (IsStrict rule → IsNoDefault (default d) t)) (λ input t rest. wide input t rest × (IsStrict Ber → IsNoDefault (default d) t))
+    (λ input t rest h. (into input t rest h.0, λ z. absurd z)) closing
 
 in_order_in : (ps : Parts) (rule : Codec) (depth : ℕ) (c : Bool) → EachIn rule depth c ps → (closing : Bool) (input : List ℕ) (ts : List Tree) (rest : List ℕ)
-    → InOrder (parts_of rule ps depth c) closing input ts rest → InOrder (parts_of Ber ps depth c) closing input ts rest
+    → InOrder rule (parts_of rule ps depth c) closing input ts rest → InOrder Ber (parts_of Ber ps depth c) closing input ts rest
 unfolding Reads parts_of
 in_order_in Parts.none rule depth c into closing input ts rest h = h
 in_order_in (part presence s ps) rule depth c into closing input ts rest (t, us, m, e, h, k) =
-    (t, us, m, e, part_in presence (own s) (Reads rule s depth c) (Reads Ber s depth c) into.0 closing input t m h, in_order_in ps rule depth c into.1 closing m us rest k)
+    (t, us, m, e, part_in rule presence (own s) (Reads rule s depth c) (Reads Ber s depth c) into.0 closing input t m h, in_order_in ps rule depth c into.1 closing m us rest k)
 
 required_same : (ps : Parts) (rule other : Codec) (depth : ℕ) (c : Bool) → HasRequired (parts_of rule ps depth c) → HasRequired (parts_of other ps depth c)
 unfolding Reads parts_of
@@ -131,14 +145,15 @@ unfolding Reads parts_of
 missing_same Parts.none rule other depth c ts h = h
 missing_same (part presence s ps) rule other depth c ts (t, us, e, h, k) = (t, us, e, h, missing_same ps rule other depth c us k)
 
-by_part_same : (ps : Parts) (rule other : Codec) (depth : ℕ) (c : Bool) (k : ℕ) (readings ts : List Tree)
-    → ByPart k (parts_of rule ps depth c) readings ts → ByPart k (parts_of other ps depth c) readings ts
+by_part_ber : (ps : Parts) (rule : Codec) (depth : ℕ) (c : Bool) (k : ℕ) (readings ts : List Tree)
+    → ByPart rule k (parts_of rule ps depth c) readings ts → ByPart Ber k (parts_of Ber ps depth c) readings ts
 unfolding Reads parts_of
-by_part_same Parts.none rule other depth c k readings ts h = h
-by_part_same (part presence s ps) rule other depth c k readings ts (t, us, e, h, l) = (t, us, e, h, by_part_same ps rule other depth c (suc k) readings us l)
+by_part_ber Parts.none rule depth c k readings ts h = h
+by_part_ber (part presence s ps) rule depth c k readings ts (t, us, e, inl (o, z), l) = (t, us, e, inl (o, (λ s. absurd s)), by_part_ber ps rule depth c (suc k) readings us l)
+by_part_ber (part presence s ps) rule depth c k readings ts (t, us, e, inr h, l) = (t, us, e, inr h, by_part_ber ps rule depth c (suc k) readings us l)
 
 seq_in : (ps : Parts) (rule : Codec) (depth : ℕ) (c : Bool) → EachIn rule depth c ps → (closing : Bool)
-    → IsIn (ReadsSeq (parts_of rule ps depth c) closing) (ReadsSeq (parts_of Ber ps depth c) closing)
+    → IsIn (ReadsSeq rule (parts_of rule ps depth c) closing) (ReadsSeq Ber (parts_of Ber ps depth c) closing)
 unfolding Reads parts_of
 seq_in ps rule depth c into closing input t rest (ts, e, inl ((a, b, d), m, f)) =
     (ts, e, inl (((λ r. a (required_same ps Ber rule depth c r)), b, d), missing_same ps rule Ber depth c ts m, f))
@@ -146,28 +161,31 @@ seq_in ps rule depth c into closing input t rest (ts, e, inr (a, m)) =
     (ts, e, inr ((λ b. a ((λ r. b.0 (required_same ps rule Ber depth c r)), b.1, b.2)), in_order_in ps rule depth c into closing input ts rest m))
 
 choice_in : (ps : Parts) (rule : Codec) (depth : ℕ) (c : Bool) → EachIn rule depth c ps → (k : ℕ)
-    → IsIn (ReadsChoice k (parts_of rule ps depth c)) (ReadsChoice k (parts_of Ber ps depth c))
+    → IsIn (ReadsChoice (form rule) k (parts_of rule ps depth c)) (ReadsChoice ber_form k (parts_of Ber ps depth c))
 unfolding Reads parts_of
 choice_in Parts.none rule depth c into k input t rest h = h
-choice_in (part presence s ps) rule depth c into k input t rest (inl (u, e, n, p, f, h)) = inl (u, e, n, p, f, into.0 input u rest h)
+choice_in (part presence s ps) rule depth c into k input t rest (inl (u, e, n, p, f, h)) = inl (u, e, n, next_ber p, f, into.0 input u rest h)
 choice_in (part presence s ps) rule depth c into k input t rest (inr h) = inr (choice_in ps rule depth c into.1 (suc k) input t rest h)
 
 set_in : (ps : Parts) (rule : Codec) (depth : ℕ) (c : Bool) → EachIn rule depth c ps → (closing : Bool)
-    → IsIn (ReadsSet (parts_of rule ps depth c) closing) (ReadsSet (parts_of Ber ps depth c) closing)
+    → IsIn (ReadsSet rule (parts_of rule ps depth c) closing) (ReadsSet Ber (parts_of Ber ps depth c) closing)
 unfolding Reads parts_of
-set_in ps rule depth c into closing input t rest (rs, ts, e, m, b) = (
-  rs,
-  ts,
-  e,
-  many_in (ReadsChoice 0 (parts_of rule ps depth c)) (ReadsChoice 0 (parts_of Ber ps depth c)) (choice_in ps rule depth c into 0) closing input rs rest m,
-  by_part_same ps rule Ber depth c 0 rs ts b,
-)
+set_in ps rule depth c into closing input t rest (rs, ts, e, m, b, z) =
+    let reads = ReadsChoice (form rule) 0 (parts_of rule ps depth c) in
+    let wide = ReadsChoice ber_form 0 (parts_of Ber ps depth c) in (
+      rs,
+      ts,
+      e,
+      many_in reads wide (choice_in ps rule depth c into 0) closing input rs rest m,
+      by_part_ber ps rule depth c 0 rs ts b,
+      λ s. absurd s,
+    )
 
 list_in : (size : Option (Bound ℕ)) (reads wide : Reading Tree) → IsIn reads wide → (closing : Bool) → IsIn (ReadsList size reads closing) (ReadsList size wide closing)
 list_in size reads wide into closing input t rest (ts, e, b, m) = (ts, e, b, many_in reads wide into closing input ts rest m)
 
-bag_in : (size : Option (Bound ℕ)) (reads wide : Reading Tree) → IsIn reads wide → (closing : Bool) → IsIn (ReadsBag size reads closing) (ReadsBag size wide closing)
-bag_in size reads wide into closing input t rest (ts, e, b, m) = (ts, e, b, many_in reads wide into closing input ts rest m)
+bag_in : (rule : Codec) (size : Option (Bound ℕ)) (reads wide : Reading Tree) → IsIn reads wide → (closing : Bool) → IsIn (ReadsBag rule size reads closing) (ReadsBag Ber size wide closing)
+bag_in rule size reads wide into closing input t rest (ts, e, b, m, z) = (ts, e, b, many_in reads wide into closing input ts rest m, λ s. absurd s)
 
 mutual
   unfolding Reads parts_of
@@ -177,17 +195,17 @@ mutual
   reads_in (any (Some tag)) rule depth closing = open_in rule tag
   reads_in (any None) rule depth closing = λ input t rest h. (h.0, h.1, whole_ber h.2, h.3)
   reads_in (prefix tag s) rule depth closing = λ input t rest h.
-      (h.0, h.1, inside_in (λ c. Reads rule s (depth - 1) c) (λ c. Reads Ber s (depth - 1) c) (λ c. reads_in s rule (depth - 1) c) input t rest h.2)
+      (h.0, h.1, (λ z. absurd z), inside_in (λ c. Reads rule s (depth - 1) c) (λ c. Reads Ber s (depth - 1) c) (λ c. reads_in s rule (depth - 1) c) input t rest h.3)
   reads_in (choice ps) rule depth closing = choice_in ps rule depth closing (parts_in ps rule depth closing) 0
-  reads_in (option tag s) rule depth closing = perhaps_in tag absent (Reads rule s depth closing) (Reads Ber s depth closing) (reads_in s rule depth closing) closing
+  reads_in (option tag s) rule depth closing = perhaps_in (form rule) tag absent (Reads rule s depth closing) (Reads Ber s depth closing) (reads_in s rule depth closing) closing
   reads_in (seq tag ps) rule depth closing = λ input t rest h. (
     h.0,
-    inside_in (λ c. ReadsSeq (parts_of rule ps (depth - 1) c) c) (λ c. ReadsSeq (parts_of Ber ps (depth - 1) c) c)
+    inside_in (λ c. ReadsSeq rule (parts_of rule ps (depth - 1) c) c) (λ c. ReadsSeq Ber (parts_of Ber ps (depth - 1) c) c)
         (λ c. seq_in ps rule (depth - 1) c (parts_in ps rule (depth - 1) c) c) input t rest h.1,
   )
   reads_in (set tag ps) rule depth closing = λ input t rest h. (
     h.0,
-    inside_in (λ c. ReadsSet (parts_of rule ps (depth - 1) c) c) (λ c. ReadsSet (parts_of Ber ps (depth - 1) c) c)
+    inside_in (λ c. ReadsSet rule (parts_of rule ps (depth - 1) c) c) (λ c. ReadsSet Ber (parts_of Ber ps (depth - 1) c) c)
         (λ c. set_in ps rule (depth - 1) c (parts_in ps rule (depth - 1) c) c) input t rest h.1,
   )
   reads_in (list tag s size) rule depth closing = λ input t rest h. (
@@ -197,8 +215,8 @@ mutual
   )
   reads_in (bag tag s size) rule depth closing = λ input t rest h. (
     h.0,
-    inside_in (λ c. ReadsBag size (Reads rule s (depth - 2) c) c) (λ c. ReadsBag size (Reads Ber s (depth - 2) c) c)
-        (λ c. bag_in size (Reads rule s (depth - 2) c) (Reads Ber s (depth - 2) c) (reads_in s rule (depth - 2) c) c) input t rest h.1,
+    inside_in (λ c. ReadsBag rule size (Reads rule s (depth - 2) c) c) (λ c. ReadsBag Ber size (Reads Ber s (depth - 2) c) c)
+        (λ c. bag_in rule size (Reads rule s (depth - 2) c) (Reads Ber s (depth - 2) c) (reads_in s rule (depth - 2) c) c) input t rest h.1,
   )
 
   parts_in : (ps : Parts) (rule : Codec) (depth : ℕ) (c : Bool) → EachIn rule depth c ps

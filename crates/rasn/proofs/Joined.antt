@@ -1,10 +1,11 @@
 -- Readings that relate an input to one value and one rest stay so when they are joined.
 use Rattle.std.proofs.Common.{◌≡◌, ℕ, suc, ◌⊎◌, inl, inr, List, [], ◌∷◌, ◌++◌, Bool, true, false, Option, Some, None, refl, sym, ap, ap₂, ◌∙◌, subst}
+use Rattle.rasn_types.specs.Tags.{Form, form, IsStrict}
 use Rattle.rasn_types.specs.declared.types.rules.Codec.{Codec}
 use Rattle.rasn_types.specs.declared.types.tag.Tag.{Tag}
 use Rattle.rasn_types.specs.Framing.{Next}
 use Rattle.rasn_types.specs.Shapes.{Tree, items, chosen, absent, Presence, required, optional, addition, default}
-use Rattle.rasn_types.specs.Readers.{Reading, Inside, in_definite, in_indefinite, Many, IsLeftOut, IsThere, Perhaps, Part, ReadsPart, InOrder, IsMissing, AllMissing, IsBare, ReadsSeq, ReadsChoice, NoneOf, OneOf, ByPart, ReadsSet}
+use Rattle.rasn_types.specs.Readers.{Reading, Inside, in_definite, in_indefinite, Many, IsNoDefault, IsLeftOut, IsThere, Perhaps, Part, ReadsPart, InOrder, IsMissing, AllMissing, IsBare, ReadsSeq, ReadsChoice, NoneOf, OneOf, ByPart, ReadsSet}
 use Rattle.rasn_types.proofs.Frames.{frame_one, next_one}
 
 -- at most one value and rest
@@ -38,22 +39,23 @@ many_one reads one closing input (x ∷ xs) (y ∷ ys) rest other h k =
     let t = many_one reads one closing k.1 xs ys rest other (subst (λ l. Many reads closing l xs rest) o.1 h.3) k.3 in
     (ap₂ ◌∷◌ o.0 t.0, t.1)
 
-there_or_not : (tag : Option Tag) (closing : Bool) (input : List ℕ) → IsLeftOut tag closing input → IsThere tag closing input → ⊥
-there_or_not None closing input h k = k h
-there_or_not (Some tag) closing input (inl h) k = k.0 h
-there_or_not (Some tag) closing input (inr h) k = h.2 (next_one input h.0 tag h.1 k.1)
+there_or_not : (spelling : Form) (tag : Option Tag) (closing : Bool) (input : List ℕ) → IsLeftOut spelling tag closing input → IsThere spelling tag closing input → ⊥
+there_or_not spelling None closing input h k = k h
+there_or_not spelling (Some tag) closing input (inl h) k = k.0 h
+there_or_not spelling (Some tag) closing input (inr h) k = h.2 (next_one input h.0 tag h.1 k.1)
 
-pub perhaps_one : {X : Type 0} (tag : Option Tag) (without : X) (reads : Reading X) → IsOne reads → (closing : Bool) → IsOne (Perhaps tag without reads closing)
-perhaps_one tag without reads one closing input x y rest other (inl (p, q, r)) (inl (u, v, w)) = (cc, cc)
-perhaps_one tag without reads one closing input x y rest other (inl (p, q, r)) (inr (u, v)) = absurd (there_or_not tag closing input p u)
-perhaps_one tag without reads one closing input x y rest other (inr (p, q)) (inl (u, v, w)) = absurd (there_or_not tag closing input u p)
-perhaps_one tag without reads one closing input x y rest other (inr (p, q)) (inr (u, v)) = one input x y rest other q v
+pub perhaps_one : {X : Type 0} (spelling : Form) (tag : Option Tag) (without : X) (reads : Reading X) → IsOne reads → (closing : Bool) → IsOne (Perhaps spelling tag without reads closing)
+perhaps_one spelling tag without reads one closing input x y rest other (inl (p, q, r)) (inl (u, v, w)) = (cc, cc)
+perhaps_one spelling tag without reads one closing input x y rest other (inl (p, q, r)) (inr (u, v)) = absurd (there_or_not spelling tag closing input p u)
+perhaps_one spelling tag without reads one closing input x y rest other (inr (p, q)) (inl (u, v, w)) = absurd (there_or_not spelling tag closing input u p)
+perhaps_one spelling tag without reads one closing input x y rest other (inr (p, q)) (inr (u, v)) = one input x y rest other q v
 
-part_one : (presence : Presence) (tag : Option Tag) (reads : Reading Tree) → IsOne reads → (closing : Bool) → IsOne (ReadsPart presence tag reads closing)
-part_one required tag reads one closing = one
-part_one addition tag reads one closing = one
-part_one optional tag reads one closing = perhaps_one tag absent reads one closing
-part_one (default d) tag reads one closing = perhaps_one tag d reads one closing
+part_one : (rule : Codec) (presence : Presence) (tag : Option Tag) (reads : Reading Tree) → IsOne reads → (closing : Bool) → IsOne (ReadsPart rule presence tag reads closing)
+part_one rule required tag reads one closing = one
+part_one rule addition tag reads one closing = one
+part_one rule optional tag reads one closing = perhaps_one (form rule) tag absent reads one closing
+part_one rule (default d) tag reads one closing =
+    perhaps_one (form rule) tag d (λ input t rest. reads input t rest × (IsStrict rule → IsNoDefault (default d) t)) (λ input x y rest other h k. one input x y rest other h.0 k.0) closing
 
 abbrev pub EachPart : (Part → Type 0) → List Part → Type 0
 EachPart P [] = Unit {0}
@@ -62,11 +64,11 @@ EachPart P (p ∷ ps) = P p × EachPart P ps
 abbrev pub ReadsOne : Part → Type 0
 ReadsOne p = IsOne p.reads
 
-in_order_one : (ps : List Part) → EachPart ReadsOne ps → (closing : Bool) → IsOne (InOrder ps closing)
-in_order_one [] one closing input ts us rest other h k = let p = h.0 in let q = h.1 in let r = k.0 in let s = k.1 in (cc, cc)
-in_order_one (p ∷ ps) one closing input ts us rest other h k =
-    let o = part_one p.presence p.own p.reads one.0 closing input h.0 k.0 h.2 k.2 h.4 k.4 in
-    let t = in_order_one ps one.1 closing k.2 h.1 k.1 rest other (subst (λ l. InOrder ps closing l h.1 rest) o.1 h.5) k.5 in
+in_order_one : (rule : Codec) (ps : List Part) → EachPart ReadsOne ps → (closing : Bool) → IsOne (InOrder rule ps closing)
+in_order_one rule [] one closing input ts us rest other h k = let p = h.0 in let q = h.1 in let r = k.0 in let s = k.1 in (cc, cc)
+in_order_one rule (p ∷ ps) one closing input ts us rest other h k =
+    let o = part_one rule p.presence p.own p.reads one.0 closing input h.0 k.0 h.2 k.2 h.4 k.4 in
+    let t = in_order_one rule ps one.1 closing k.2 h.1 k.1 rest other (subst (λ l. InOrder rule ps closing l h.1 rest) o.1 h.5) k.5 in
     (h.3 ∙ (ap₂ ◌∷◌ o.0 t.0 ∙ sym k.3), t.1)
 
 missing_one : (presence : Presence) (t u : Tree) → IsMissing presence t → IsMissing presence u → t ≡ u
@@ -79,17 +81,17 @@ all_missing_one : (ps : List Part) (ts us : List Tree) → AllMissing ps ts → 
 all_missing_one [] ts us h k = cc
 all_missing_one (p ∷ ps) ts us h k = h.2 ∙ (ap₂ ◌∷◌ (missing_one p.presence h.0 k.0 h.3 k.3) (all_missing_one ps h.1 k.1 h.4 k.4) ∙ sym k.2)
 
-pub seq_one : (ps : List Part) → EachPart ReadsOne ps → (closing : Bool) → IsOne (ReadsSeq ps closing)
-seq_one ps one closing input t u rest other h k = go h.2 k.2
+pub seq_one : (rule : Codec) (ps : List Part) → EachPart ReadsOne ps → (closing : Bool) → IsOne (ReadsSeq rule ps closing)
+seq_one rule ps one closing input t u rest other h k = go h.2 k.2
   where
-    go : (IsBare ps closing input × AllMissing ps h.0 × (rest ≡ input)) ⊎ ((IsBare ps closing input → ⊥) × InOrder ps closing input h.0 rest)
-        → (IsBare ps closing input × AllMissing ps k.0 × (other ≡ input)) ⊎ ((IsBare ps closing input → ⊥) × InOrder ps closing input k.0 other)
+    go : (IsBare ps closing input × AllMissing ps h.0 × (rest ≡ input)) ⊎ ((IsBare ps closing input → ⊥) × InOrder rule ps closing input h.0 rest)
+        → (IsBare ps closing input × AllMissing ps k.0 × (other ≡ input)) ⊎ ((IsBare ps closing input → ⊥) × InOrder rule ps closing input k.0 other)
         → (t ≡ u) × (rest ≡ other)
     go (inl (a, b, c)) (inl (d, e, f)) = (h.1 ∙ (ap items (all_missing_one ps h.0 k.0 b e) ∙ sym k.1), c ∙ sym f)
     go (inl (a, b, c)) (inr (d, e)) = absurd (d a)
     go (inr (a, b)) (inl (d, e, f)) = absurd (a d)
     go (inr (a, b)) (inr (d, e)) =
-        let o = in_order_one ps one closing input h.0 k.0 rest other b e in (h.1 ∙ (ap items o.0 ∙ sym k.1), o.1)
+        let o = in_order_one rule ps one closing input h.0 k.0 rest other b e in (h.1 ∙ (ap items o.0 ∙ sym k.1), o.1)
 
 -- some part's first tag
 abbrev pub IsFirstIn : List Part → Tag → Type 0
@@ -100,22 +102,22 @@ abbrev pub AreApart : List Part → Type 0
 AreApart [] = Unit {0}
 AreApart (p ∷ ps) = ((n : Tag) → p.IsFirst n → IsFirstIn ps n → ⊥) × AreApart ps
 
-choice_first : (ps : List Part) (k : ℕ) (input : List ℕ) (t : Tree) (rest : List ℕ) → ReadsChoice k ps input t rest → (n : Tag) × Next input n × IsFirstIn ps n
-choice_first [] k input t rest h = absurd h
-choice_first (p ∷ ps) k input t rest (inl h) = (h.2, h.3, inl h.4)
-choice_first (p ∷ ps) k input t rest (inr h) = let r = choice_first ps (suc k) input t rest h in (r.0, r.1, inr r.2)
+choice_first : (spelling : Form) (ps : List Part) (k : ℕ) (input : List ℕ) (t : Tree) (rest : List ℕ) → ReadsChoice spelling k ps input t rest → (n : Tag) × Next spelling input n × IsFirstIn ps n
+choice_first spelling [] k input t rest h = absurd h
+choice_first spelling (p ∷ ps) k input t rest (inl h) = (h.2, h.3, inl h.4)
+choice_first spelling (p ∷ ps) k input t rest (inr h) = let r = choice_first spelling ps (suc k) input t rest h in (r.0, r.1, inr r.2)
 
-pub choice_one : (ps : List Part) → EachPart ReadsOne ps → AreApart ps → (k : ℕ) → IsOne (ReadsChoice k ps)
-choice_one [] one apart k input t u rest other h l = absurd h
-choice_one (p ∷ ps) one apart k input t u rest other (inl h) (inl l) =
+pub choice_one : (spelling : Form) (ps : List Part) → EachPart ReadsOne ps → AreApart ps → (k : ℕ) → IsOne (ReadsChoice spelling k ps)
+choice_one spelling [] one apart k input t u rest other h l = absurd h
+choice_one spelling (p ∷ ps) one apart k input t u rest other (inl h) (inl l) =
     let o = one.0 input h.0 l.0 rest other h.5 l.5 in (h.1 ∙ (ap (chosen k) o.0 ∙ sym l.1), o.1)
-choice_one (p ∷ ps) one apart k input t u rest other (inl h) (inr l) =
-    let r = choice_first ps (suc k) input u other l in
+choice_one spelling (p ∷ ps) one apart k input t u rest other (inl h) (inr l) =
+    let r = choice_first spelling ps (suc k) input u other l in
     absurd (apart.0 r.0 (subst p.IsFirst (next_one input h.2 r.0 h.3 r.1) h.4) r.2)
-choice_one (p ∷ ps) one apart k input t u rest other (inr h) (inl l) =
-    let r = choice_first ps (suc k) input t rest h in
+choice_one spelling (p ∷ ps) one apart k input t u rest other (inr h) (inl l) =
+    let r = choice_first spelling ps (suc k) input t rest h in
     absurd (apart.0 r.0 (subst p.IsFirst (next_one input l.2 r.0 l.3 r.1) l.4) r.2)
-choice_one (p ∷ ps) one apart k input t u rest other (inr h) (inr l) = choice_one ps one.1 apart.1 (suc k) input t u rest other h l
+choice_one spelling (p ∷ ps) one apart k input t u rest other (inr h) (inr l) = choice_one spelling ps one.1 apart.1 (suc k) input t u rest other h l
 
 none_here : (k : ℕ) (t : Tree) (before after : List Tree) → NoneOf k (before ++ (chosen k t ∷ after)) → ⊥
 none_here k t [] after h = h.0 t refl
@@ -129,20 +131,20 @@ one_of_one k t u [] b (y ∷ c) d h l e = let f : chosen k t ≡ y = cc in absur
 one_of_one k t u (x ∷ a) b [] d h l e = let f : x ≡ chosen k u = cc in absurd (h.0 u f)
 one_of_one k t u (x ∷ a) b (y ∷ c) d h l e = one_of_one k t u a b c d h.1 l.1 cc
 
-by_part_one : (ps : List Part) (k : ℕ) (readings ts us : List Tree) → ByPart k ps readings ts → ByPart k ps readings us → ts ≡ us
-by_part_one [] k readings ts us h l = cc
-by_part_one (p ∷ ps) k readings ts us h l =
-    h.2 ∙ (ap₂ ◌∷◌ (go h.3 l.3) (by_part_one ps (suc k) readings h.1 l.1 h.4 l.4) ∙ sym l.2)
+by_part_one : (rule : Codec) (ps : List Part) (k : ℕ) (readings ts us : List Tree) → ByPart rule k ps readings ts → ByPart rule k ps readings us → ts ≡ us
+by_part_one rule [] k readings ts us h l = cc
+by_part_one rule (p ∷ ps) k readings ts us h l =
+    h.2 ∙ (ap₂ ◌∷◌ (go h.3 l.3) (by_part_one rule ps (suc k) readings h.1 l.1 h.4 l.4) ∙ sym l.2)
   where
-    go : OneOf k h.0 readings ⊎ (NoneOf k readings × IsMissing p.presence h.0)
-        → OneOf k l.0 readings ⊎ (NoneOf k readings × IsMissing p.presence l.0) → h.0 ≡ l.0
-    go (inl a) (inl b) = one_of_one k h.0 l.0 a.before a.after b.before b.after a.none_before b.none_before (sym a.is ∙ b.is)
-    go (inl a) (inr (b, c)) = absurd (none_here k h.0 a.before a.after (subst (NoneOf k) a.is b))
-    go (inr (b, c)) (inl a) = absurd (none_here k l.0 a.before a.after (subst (NoneOf k) a.is b))
+    go : (OneOf k h.0 readings × (IsStrict rule → IsNoDefault p.presence h.0)) ⊎ (NoneOf k readings × IsMissing p.presence h.0)
+        → (OneOf k l.0 readings × (IsStrict rule → IsNoDefault p.presence l.0)) ⊎ (NoneOf k readings × IsMissing p.presence l.0) → h.0 ≡ l.0
+    go (inl (a, x)) (inl (b, y)) = one_of_one k h.0 l.0 a.before a.after b.before b.after a.none_before b.none_before (sym a.is ∙ b.is)
+    go (inl (a, x)) (inr (b, c)) = absurd (none_here k h.0 a.before a.after (subst (NoneOf k) a.is b))
+    go (inr (b, c)) (inl (a, x)) = absurd (none_here k l.0 a.before a.after (subst (NoneOf k) a.is b))
     go (inr (b, c)) (inr (d, e)) = missing_one p.presence h.0 l.0 c e
 
-pub set_one : (ps : List Part) → EachPart ReadsOne ps → AreApart ps → (closing : Bool) → IsOne (ReadsSet ps closing)
-set_one ps one apart closing input t u rest other h k =
-    let m = many_one (ReadsChoice 0 ps) (choice_one ps one apart 0) closing input h.0 k.0 rest other h.3 k.3 in
-    let b = by_part_one ps 0 k.0 h.1 k.1 (subst (λ r. ByPart 0 ps r h.1) m.0 h.4) k.4 in
+pub set_one : (rule : Codec) (ps : List Part) → EachPart ReadsOne ps → AreApart ps → (closing : Bool) → IsOne (ReadsSet rule ps closing)
+set_one rule ps one apart closing input t u rest other h k =
+    let m = many_one (ReadsChoice (form rule) 0 ps) (choice_one (form rule) ps one apart 0) closing input h.0 k.0 rest other h.3 k.3 in
+    let b = by_part_one rule ps 0 k.0 h.1 k.1 (subst (λ r. ByPart rule 0 ps r h.1) m.0 h.4) k.4 in
     (h.2 ∙ (ap items b ∙ sym k.2), m.1)

@@ -8,7 +8,7 @@ use Rattle.rasn_types.specs.Framing.{definite, Frame, number_in}
 use Rattle.rasn_types.specs.Shapes.{Tree, number, bits, numbers, Kind, boolean, null, object_identifier, octet_string, integer, enumerated, fixed, numeric, printable, visible, ia5, any_octets, bmp, utf8, utc_time, generalized_time, date}
 use Rattle.rasn_types.specs.declared.types.constraints.Constraints.{Constraints}
 use Rattle.rasn_types.specs.Readers.{Reading, Inside, in_definite, in_indefinite, Many}
-use Rattle.rasn_types.specs.Contents.{IsBool, IsObjectIdentifier, Contents, bits_of, joined_lists, BitSegment, OctetSegment, Str}
+use Rattle.rasn_types.specs.Contents.{IsBool, IsObjectIdentifier, Contents, bits_of, joined_lists, BitSegment, ReadBits, OctetSegment, Str}
 use Rattle.rasn_types.specs.Grammar.{Text, units, Family, plain, bit_family, text_family, family, ReadsIn, ReadsLeaf}
 use Rattle.rasn_types.proofs.Frames.{frame_one, split_one}
 use Rattle.rasn_types.proofs.Digits.{arcs_one}
@@ -106,7 +106,7 @@ reads_in_one plain rule kind tag depth input t u r s h k =
     let f : h.1 ≡ k.1 = cc in
     (contents_one rule kind k.1 t u (subst (λ l. Contents rule kind l t) f h.3) k.3, o.rest)
 reads_in_one bit_family rule kind tag depth input t u r s h k =
-    let o = str_one rule BitSegment segment_one _ depth tag input h.0 k.0 r s h.3 k.3 in
+    let o = str_one rule (ReadBits rule) (λ l a b h k. segment_one l a b h.0 k.0) _ depth tag input h.0 k.0 r s h.3 k.3 in
     (h.1 ∙ (ap bits o.0 ∙ sym k.1), o.1)
 reads_in_one text_family rule kind tag depth input t u r s h k =
     let o = str_one rule OctetSegment (λ l a b p q. p ∙ sym q) _ depth tag input h.0 k.0 r s h.1 k.1 in

@@ -17,7 +17,7 @@ any_one rule input t u r s h k =
     (h.1 ∙ (ap numbers (whole_text_one r s h.2 k.2 e) ∙ sym k.1), (whole_one r s h.2 k.2 e).0)
 
 pub open_one : (rule : Codec) (tag : Tag) → IsOne (ReadsOpen rule tag)
-open_one rule tag input t u r s h k = go h.3 k.3
+open_one rule tag input t u r s h k = go h.4 k.4
   where
     go : Frame (form rule) input tag h.0 r (definite h.1) ⊎ ((body : List ℕ) × Frame (form rule) input tag h.0 body indefinite × Wholes rule h.1 × (body ≡ h.1 ++ (0 ∷ 0 ∷ r)))
         → Frame (form rule) input tag k.0 s (definite k.1) ⊎ ((body : List ℕ) × Frame (form rule) input tag k.0 body indefinite × Wholes rule k.1 × (body ≡ k.1 ++ (0 ∷ 0 ∷ s)))

@@ -8,7 +8,7 @@ use Rattle.rasn_types.specs.Framing.{Frame, HasSegments, definite}
 use Rattle.rasn_types.specs.Shapes.{Tree, Kind, boolean, null, object_identifier, integer, enumerated, octet_string, fixed, numeric, printable, visible, ia5, any_octets, bmp, utf8, utc_time, generalized_time, date}
 use Rattle.rasn_types.specs.declared.types.constraints.Constraints.{Constraints}
 use Rattle.rasn_types.specs.Readers.{Many}
-use Rattle.rasn_types.specs.Contents.{joined_lists, Str, BitSegment, OctetSegment, Contents, IsBool}
+use Rattle.rasn_types.specs.Contents.{joined_lists, Str, ReadBits, OctetSegment, Contents, IsBool}
 use Rattle.rasn_types.specs.Grammar.{Family, plain, bit_family, text_family, family, ReadsIn, ReadsLeaf, Text, IsBounded}
 use Rattle.rasn_types.specs.Bytes.{Writing, Same, Prim, Each, IsCer, WritesStr, WrittenBits, WritesText, WritesOctets, WritesIn}
 use Rattle.rasn_types.specs.Carried.{MeetsIn, IsCarriedTime}
@@ -45,7 +45,7 @@ pieces_back rule writes segment is inner one e depth (p ∷ ps) bs (b, cs, f, (c
     is = p;
     same = refl;
     again = λ rest. primitive rule segment inner depth inner (b ++ rest) p rest (c, prim_frame rule inner c b rest one e d, is p c w);
-    begins = λ rest. (inner, frame_next (definite_back {rule = form rule} rest one d));
+    begins = λ rest. (form rule, inner, frame_next (definite_back {rule = form rule} rest one d));
   },
   pieces_back rule writes segment is inner one e depth ps cs h,
 )
@@ -103,7 +103,7 @@ in_back : (which : Family) (rule : Codec) (kind : Kind) (tag : Tag) → tag ≢ 
     → MeetsIn which rule kind depth t → WritesIn which rule kind tag t b → (rest : List ℕ) → ReadsIn which rule kind tag depth (b ++ rest) t rest
 in_back plain rule kind tag one free depth t b meets (c, w, d) rest = (tag_bit tag, c, definite_back rest one d, contents_der rule kind c t w.is, λ z. (refl, w.shortest))
 in_back bit_family rule kind tag one free depth t b meets (bs, e, w) rest =
-    (bs, e, (meets bs e).0, str_back rule WrittenBits BitSegment (λ xs l w. w.is) 7992 (in_universal 3) tag (no_eoc 3 (omega arith)) one refl free depth bs b (meets bs e).1 w rest)
+    (bs, e, (meets bs e).0, str_back rule WrittenBits (ReadBits rule) (λ xs l w. (w.is, λ z. w.zeros)) 7992 (in_universal 3) tag (no_eoc 3 (omega arith)) one refl free depth bs b (meets bs e).1 w rest)
 in_back text_family rule kind tag one free depth t b meets (l, x, w) rest = (
   l,
   str_back rule WritesOctets OctetSegment (λ xs l w. sym w.0) 1000 (in_universal 4) tag (no_eoc 4 (omega arith)) one refl free depth l b (meets.1 l x) w rest,

@@ -3,7 +3,7 @@ use Rattle.std.proofs.Common.{◌≡◌, List, ℕ, sym, ap, ◌∙◌, subst}
 use Rattle.rasn_types.specs.declared.types.rules.Codec.{Codec}
 use Rattle.rasn_types.specs.declared.types.rules.Codec.TheVariants.{Ber, Cer, Der}
 use Rattle.rasn_types.specs.Calendar.{Stamp}
-use Rattle.rasn_types.specs.Times.{GeneralUtc, CanonicalUtc, GeneralGeneralized, CanonicalGeneralized, DateText, at_utc}
+use Rattle.rasn_types.specs.Times.{GeneralUtc, CanonicalUtc, GeneralGeneralized, StrictGeneralized, DateText, at_utc}
 use Rattle.rasn_types.specs.Shapes.{Tree, instant, on_day, utc_time, generalized_time, date}
 use Rattle.rasn_types.specs.Grammar.{UtcText, GeneralizedText, Text}
 use Rattle.rasn_types.specs.Bytes.{WritesText}
@@ -18,7 +18,7 @@ utc_general Der l s h = included.utc l s h
 generalized_general : (rule : Codec) (l : List ℕ) (s : Stamp) → GeneralizedText rule l s → GeneralGeneralized l s
 generalized_general Ber l s h = h
 generalized_general Cer l s h = included.generalized l s h
-generalized_general Der l s h = included.generalized l s h
+generalized_general Der l s h = included.generalized l s h.is
 
 pub utc_in : (rule : Codec) (l : List ℕ) (t : Tree) → Text rule utc_time l t → Text Ber utc_time l t
 utc_in rule l t (s, e, h) = (s, e, utc_general rule l s h)
@@ -42,9 +42,9 @@ utc_of Ber l s h = included.utc l s h
 utc_of Cer l s h = h
 utc_of Der l s h = h
 
-pub generalized_of : (rule : Codec) (l : List ℕ) (s : Stamp) → CanonicalGeneralized l s → GeneralizedText rule l s
-generalized_of Ber l s h = included.generalized l s h
-generalized_of Cer l s h = h
+pub generalized_of : (rule : Codec) (l : List ℕ) (s : Stamp) → StrictGeneralized l s → GeneralizedText rule l s
+generalized_of Ber l s h = included.generalized l s h.is
+generalized_of Cer l s h = h.is
 generalized_of Der l s h = h
 
 -- what is written of a carried one is read
@@ -54,7 +54,7 @@ utc_back rule l t carried (m, e, valid, w) =
 
 pub generalized_back : (rule : Codec) (l : List ℕ) (t : Tree) → IsCarriedTime generalized_time t → WritesText generalized_time l t → Text rule generalized_time l t
 generalized_back rule l t carried (m, e, valid, w) =
-    (at_utc m, e, generalized_of rule l (at_utc m) (subst (λ x. CanonicalGeneralized x (at_utc m)) (sym w) (read_back.generalized m valid (carried m e))))
+    (at_utc m, e, generalized_of rule l (at_utc m) (subst (λ x. StrictGeneralized x (at_utc m)) (sym w) (read_back.generalized m valid (carried m e))))
 
 pub date_back : (rule : Codec) (l : List ℕ) (t : Tree) → IsCarriedTime date t → WritesText date l t → Text rule date l t
 date_back rule l t carried (d, e, valid, w) = (d, e, subst (λ x. DateText x d) (sym w) (read_back.date d valid (carried d e)))

@@ -1,6 +1,6 @@
 -- A lawful shape is read in one way.
 use Rattle.std.proofs.Common.{ℕ, ◌-◌, inl, inr, Bool, Option, Some, None, sym, ap, ◌∙◌, arith}
-use Rattle.rasn_types.specs.Tags.{IsTagBelow}
+use Rattle.rasn_types.specs.Tags.{form, IsTagBelow}
 use Rattle.rasn_types.specs.declared.types.rules.Codec.{Codec}
 use Rattle.rasn_types.specs.declared.types.tag.Tag.{Tag}
 use Rattle.rasn_types.specs.Shapes.{Tree, items, walk, absent, Shape, leaf, any, prefix, choice, option, seq, set, list, bag, Parts, part, IsFirstOf}
@@ -34,8 +34,8 @@ list_one : (size : Option (Bound ℕ)) (reads : Bool → Reading Tree) → ((c :
 list_one size reads one c input t u r s h k =
     let o = many_one (reads c) (one c) c input h.0 k.0 r s h.3 k.3 in (h.1 ∙ (ap items o.0 ∙ sym k.1), o.1)
 
-bag_one : (size : Option (Bound ℕ)) (reads : Bool → Reading Tree) → ((c : Bool) → IsOne (reads c)) → (c : Bool) → IsOne (ReadsBag size (reads c) c)
-bag_one size reads one c input t u r s h k =
+bag_one : (rule : Codec) (size : Option (Bound ℕ)) (reads : Bool → Reading Tree) → ((c : Bool) → IsOne (reads c)) → (c : Bool) → IsOne (ReadsBag rule size (reads c) c)
+bag_one rule size reads one c input t u r s h k =
     let o = many_one (reads c) (one c) c input h.0 k.0 r s h.3 k.3 in (h.1 ∙ (ap (λ ts. walk (items ts)) o.0 ∙ sym k.1), o.1)
 
 pub one_leaf : OneLeaf
@@ -50,27 +50,27 @@ one_open rule (Some tag) depth closing = open_one rule tag
 pub one_prefix : OnePrefix
 unfolding Reads parts_of
 one_prefix rule tag s one depth closing = λ input t u r o h k.
-    inside_one (λ c. Reads rule s (depth - 1) c) (λ c. one (depth - 1) c) input t u r o h.2 k.2
+    inside_one (λ c. Reads rule s (depth - 1) c) (λ c. one (depth - 1) c) input t u r o h.3 k.3
 
 pub one_choice : OneChoice
 unfolding Reads parts_of
-one_choice rule ps one told depth closing = choice_one (parts_of rule ps depth closing) (parts_one rule ps one depth closing) (apart rule ps depth closing told) 0
+one_choice rule ps one told depth closing = choice_one (form rule) (parts_of rule ps depth closing) (parts_one rule ps one depth closing) (apart rule ps depth closing told) 0
 
 pub one_option : OneOption
 unfolding Reads parts_of
-one_option rule tag s one depth closing = perhaps_one tag absent (Reads rule s depth closing) (one depth closing) closing
+one_option rule tag s one depth closing = perhaps_one (form rule) tag absent (Reads rule s depth closing) (one depth closing) closing
 
 pub one_sequence : OneSequence
 unfolding Reads parts_of
 one_sequence rule tag ps one depth closing = λ input t u r o h k.
-    inside_one (λ c. ReadsSeq (parts_of rule ps (depth - 1) c) c)
-    (λ c. seq_one (parts_of rule ps (depth - 1) c) (parts_one rule ps one (depth - 1) c) c) input t u r o h.1 k.1
+    inside_one (λ c. ReadsSeq rule (parts_of rule ps (depth - 1) c) c)
+    (λ c. seq_one rule (parts_of rule ps (depth - 1) c) (parts_one rule ps one (depth - 1) c) c) input t u r o h.1 k.1
 
 pub one_set : OneSet
 unfolding Reads parts_of
 one_set rule tag ps one told depth closing = λ input t u r o h k.
-    inside_one (λ c. ReadsSet (parts_of rule ps (depth - 1) c) c)
-    (λ c. set_one (parts_of rule ps (depth - 1) c) (parts_one rule ps one (depth - 1) c) (apart rule ps (depth - 1) c told) c) input t u r o h.1 k.1
+    inside_one (λ c. ReadsSet rule (parts_of rule ps (depth - 1) c) c)
+    (λ c. set_one rule (parts_of rule ps (depth - 1) c) (parts_one rule ps one (depth - 1) c) (apart rule ps (depth - 1) c told) c) input t u r o h.1 k.1
 
 pub one_sequence_of : OneSequenceOf
 unfolding Reads parts_of
@@ -81,8 +81,8 @@ one_sequence_of rule tag s size one depth closing = λ input t u r o h k.
 pub one_set_of : OneSetOf
 unfolding Reads parts_of
 one_set_of rule tag s size one depth closing = λ input t u r o h k.
-    inside_one (λ c. ReadsBag size (Reads rule s (depth - 2) c) c)
-    (bag_one size (λ c. Reads rule s (depth - 2) c) (λ c. one (depth - 2) c)) input t u r o h.1 k.1
+    inside_one (λ c. ReadsBag rule size (Reads rule s (depth - 2) c) c)
+    (bag_one rule size (λ c. Reads rule s (depth - 2) c) (λ c. one (depth - 2) c)) input t u r o h.1 k.1
 
 -- The parts of lawful shapes are lawful, and told apart where they must be.
 abbrev pub EachLawful : Parts → Type 0

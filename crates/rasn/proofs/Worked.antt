@@ -1,6 +1,6 @@
 -- The octets that were worked out by hand.
 use Rattle.std.proofs.Common.{◌≡◌, ℕ, ◌≢◌, inl, inr, List, [], ◌∷◌, ◌++◌, true, false, ℤ, pos, negsuc, rules, Some, None, refl, ap, ◌∙◌, arith}
-use Rattle.rasn_types.specs.Tags.{form, cer_form, in_universal}
+use Rattle.rasn_types.specs.Tags.{Form, form, cer_form, der_form, IsStrict, in_universal}
 use Rattle.rasn_types.specs.declared.types.rules.Codec.{Codec}
 use Rattle.rasn_types.specs.declared.types.rules.Codec.TheVariants.{Ber, Cer, Der}
 use Rattle.rasn_types.specs.declared.types.tag.Tag.{Tag}
@@ -13,13 +13,13 @@ use Rattle.rasn_types.proofs.Nested.{whole_one}
 use Rattle.rasn_types.specs.declared.ber.time.text.Clock.TheVariants.{Seconds}
 use Rattle.rasn_types.specs.declared.ber.time.text.Zone.TheVariants.{Utc}
 use Rattle.rasn_types.specs.Spelling.{parts, Spelling}
-use Rattle.rasn_types.specs.Times.{CanonicalGeneralized, at_utc}
+use Rattle.rasn_types.specs.Times.{StrictGeneralized, at_utc}
 use Rattle.rasn.specs.Worked.{Worked, Gives, Refuses, plain, nested, perhaps_bool, leap, leap_text}
 use Rattle.rasn.proofs.TimeTexts.{generalized_of}
 use Rattle.rasn.proofs.Headers.{no_eoc, short, without, no_next, plain_read, octets_read}
 use Rattle.rasn.proofs.WorkedStrings.{octets_in_segments, bits_in_segments, zeros_in_definite_string}
 use Rattle.rasn.proofs.WorkedCuts.{bags_in_any_order, lists_in_order, bits_in_one, bits_in_two, octets_in_one, octets_in_two}
-use Rattle.rasn.proofs.WorkedParts.{default_left_out, default_spelled, default_not_written, bag_out_of_order, bag_not_written, smith_in_segments, smith_in_one, smith_in_der, smith_in_cer}
+use Rattle.rasn.proofs.WorkedParts.{default_left_out, default_spelled, default_not_written, bag_out_of_order, bag_not_written, smith_in_segments, smith_in_one, smith_in_ber, smith_in_der, smith_in_cer}
 
 nested_whole : Whole Ber nested
 nested_whole = closed (in_universal 16) true _ (48 ∷ 128 ∷ 2 ∷ 1 ∷ 1 ∷ 0 ∷ 0 ∷ 4 ∷ 1 ∷ 0 ∷ []) (without 16 _ tt (omega arith) (omega arith))
@@ -52,12 +52,12 @@ strict_true t rest ((bit, contents, frame, (z, e, h), s), w) =
     neither l z e (inl h) = let k : ◌≡◌ {A = List ℕ} (5 ∷ []) (0 ∷ []) = e ∙ h.0 in cc
     neither l z e (inr h) = let k : ◌≡◌ {A = List ℕ} (5 ∷ []) (255 ∷ []) = e ∙ h.0 in cc
 
-padded_integer : (rule : Codec) → Gives rule (plain (integer (between (negsuc 2147483647) (pos 2147483647))) 2)
+padded_integer : (rule : Codec) → (IsStrict rule → ⊥) → Gives rule (plain (integer (between (negsuc 2147483647) (pos 2147483647))) 2)
     (2 ∷ 6 ∷ 255 ∷ 255 ∷ 255 ∷ 255 ∷ 127 ∷ 0 ∷ []) (number (negsuc 33023)) []
 unfolding Reads parts_of
-padded_integer rule = (
+padded_integer rule lax = (
   plain_read rule (integer (between (negsuc 2147483647) (pos 2147483647))) 2 (255 ∷ 255 ∷ 255 ∷ 255 ∷ 127 ∷ 0 ∷ []) [] (number (negsuc 33023)) 128 (omega arith) (omega arith) (omega arith)
-      (refl, (λ e. cc), (search rules, search rules)),
+      (refl, (λ e. cc), (search rules, search rules)) (λ z. absurd (lax z)),
   tt,
 )
 
@@ -69,8 +69,8 @@ no_end_under_der : Refuses Der perhaps_bool (0 ∷ 0 ∷ [])
 unfolding Reads parts_of
 no_end_under_der t rest (inl (inl (inl e), f, g)) = cc
 no_end_under_der t rest (inl (inl (inr e), f, g)) = let d = e.0 in cc
-no_end_under_der t rest (inl (inr (next, h, n), f, g)) = no_next next h
-no_end_under_der t rest (inr ((e, h), r)) = no_next (in_universal 1) h
+no_end_under_der t rest (inl (inr (next, h, n), f, g)) = no_next der_form next h
+no_end_under_der t rest (inr ((e, h), r)) = no_next der_form (in_universal 1) h
 
 absent_before_another : (rule : Codec) → Gives rule perhaps_bool (2 ∷ 1 ∷ 5 ∷ []) absent (2 ∷ 1 ∷ 5 ∷ [])
 unfolding Reads parts_of
@@ -83,46 +83,51 @@ absent_before_another rule =
 great : Spells128 (143 ∷ 255 ∷ 255 ∷ 255 ∷ 127 ∷ []) 4294967295
 great = record { chain = inr (omega arith, inr (omega arith, inr (omega arith, inr (omega arith, inl (omega arith, refl))))); is = refl; below = omega arith }
 
-great_tag : Next (31 ∷ 143 ∷ 255 ∷ 255 ∷ 255 ∷ 127 ∷ []) (in_universal 4294967295)
-great_tag = record {
+great_tag : (spelling : Form) → Next spelling (31 ∷ 143 ∷ 255 ∷ 255 ∷ 255 ∷ 127 ∷ []) (in_universal 4294967295)
+great_tag spelling = record {
   begins = record { id = 31 ∷ 143 ∷ 255 ∷ 255 ∷ 255 ∷ 127 ∷ []; bit = false; more = []; spells = record { low = 31; leading = refl; number = inr (refl, great) }; is = refl };
   is_one = no_eoc 4294967295 (omega arith);
+  shortest = λ z. (omega arith, (λ e. omega arith));
 }
 
 great_arc : (rule : Codec) → Gives rule (plain object_identifier 6) (6 ∷ 5 ∷ 143 ∷ 255 ∷ 255 ∷ 255 ∷ 127 ∷ []) (numbers (2 ∷ 4294967215 ∷ [])) []
 unfolding Reads parts_of
 great_arc rule = (
   plain_read rule object_identifier 6 (143 ∷ 255 ∷ 255 ∷ 255 ∷ 127 ∷ []) [] (numbers (2 ∷ 4294967215 ∷ [])) 128 (omega arith) (omega arith) (omega arith)
-      (2 ∷ 4294967215 ∷ [], refl, (4294967295, [], (143 ∷ 255 ∷ 255 ∷ 255 ∷ 127 ∷ [], [], great, refl, refl), refl)),
+      (2 ∷ 4294967215 ∷ [], refl, (4294967295, [], (143 ∷ 255 ∷ 255 ∷ 255 ∷ 127 ∷ [], [], great, refl, refl), refl))
+      (λ z. (refl, (4294967295 ∷ [], (143 ∷ 255 ∷ 255 ∷ 255 ∷ 127 ∷ [], [], great, (λ e. omega arith), refl, refl)))),
   tt,
 )
 
 leap_spelling : Spelling
 leap_spelling = record { month = 12; day = 31; hour = 23; clock = Seconds 59 60; fraction = Some (46, 5 ∷ []); zone = Utc }
 
-leap_canonical : CanonicalGeneralized leap_text (at_utc leap)
+pub leap_strict : StrictGeneralized leap_text (at_utc leap)
 unfolding parts leap_spelling
-leap_canonical = record {
-  year = 2016;
-  rest = leap_spelling;
-  below = omega arith;
-  spelled = record { month = omega arith; day = omega arith; hour = omega arith; clock = (omega arith, omega arith); fraction = (inl refl, (λ e. cc), (omega arith, tt)); zone = tt };
-  allowed = refl;
-  is = refl;
-  exists = record {
-    day = record { year_from = search rules; year_to = search rules; month_from = omega arith; month_to = omega arith; day_from = omega arith; day_to = omega arith };
-    hour = omega arith;
-    minute = omega arith;
-    second = omega arith;
-    nanosecond = omega arith;
-    leap = λ h. refl;
+leap_strict = record {
+  is = record {
+    year = 2016;
+    rest = leap_spelling;
+    below = omega arith;
+    spelled = record { month = omega arith; day = omega arith; hour = omega arith; clock = (omega arith, omega arith); fraction = (inl refl, (λ e. cc), (omega arith, tt)); zone = tt };
+    allowed = refl;
+    is = refl;
+    exists = record {
+      day = record { year_from = search rules; year_to = search rules; month_from = omega arith; month_to = omega arith; day_from = omega arith; day_to = omega arith };
+      hour = omega arith;
+      minute = omega arith;
+      second = omega arith;
+      nanosecond = omega arith;
+      leap = λ h. refl;
+    };
+    meant = refl;
   };
-  meant = refl;
+  short = (omega arith, (λ e. omega arith));
 }
 
 leap_second : (rule : Codec) → Gives rule (plain generalized_time 24) (24 ∷ 17 ∷ leap_text) (instant leap) []
 unfolding Reads parts_of
-leap_second rule = ((leap_text, octets_read rule 24 leap_text [] 128 (omega arith) (omega arith) (omega arith), (at_utc leap, refl, generalized_of rule leap_text (at_utc leap) leap_canonical)), tt)
+leap_second rule = ((leap_text, octets_read rule 24 leap_text [] 128 (omega arith) (omega arith) (omega arith), (at_utc leap, refl, generalized_of rule leap_text (at_utc leap) leap_strict)), tt)
 
 pub worked : Worked
 worked = record {
@@ -153,6 +158,7 @@ worked = record {
   zeros_in_definite_string = zeros_in_definite_string;
   smith_in_segments = smith_in_segments;
   smith_in_one = smith_in_one;
+  smith_in_ber = smith_in_ber;
   smith_in_der = smith_in_der;
   smith_in_cer = smith_in_cer;
 }

@@ -28,7 +28,7 @@ lists_in_order (v, vs, e, s, h) =
     omega arith
 
 -- a header before 1000 octets
-long_written : (n : ℕ) (contents : List ℕ) → n < 31 → length contents ≡ 1000 → Definite (in_universal n) false contents (n ∷ 130 ∷ 3 ∷ 232 ∷ contents)
+pub long_written : (n : ℕ) (contents : List ℕ) → n < 31 → length contents ≡ 1000 → Definite (in_universal n) false contents (n ∷ 130 ∷ 3 ∷ 232 ∷ contents)
 long_written n contents k e = record {
   id = n ∷ [];
   len = 130 ∷ 3 ∷ 232 ∷ [];

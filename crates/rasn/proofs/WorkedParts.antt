@@ -1,6 +1,6 @@
 -- Values of several parts that were worked out by hand.
 use Rattle.std.proofs.Common.{◌≡◌, ℕ, ◌<◌, ◌⊎◌, inl, inr, List, [], ◌∷◌, ◌++◌, length, true, false, pos, rules, refl, sym, subst, arith}
-use Rattle.rasn_types.specs.Tags.{form}
+use Rattle.rasn_types.specs.Tags.{form, IsStrict}
 use Rattle.rasn_types.specs.declared.types.rules.Codec.{Codec}
 use Rattle.rasn_types.specs.declared.types.rules.Codec.TheVariants.{Ber, Cer, Der}
 use Rattle.rasn_types.specs.Shapes.{Tree, number, numbers, items, walk, default, required, every, boolean, integer, octet_string, ia5, part}
@@ -8,10 +8,11 @@ use Rattle.rasn_types.specs.Readers.{in_definite, in_indefinite}
 use Rattle.rasn_types.specs.Contents.{IsBool}
 use Rattle.rasn_types.specs.Grammar.{Reads, parts_of}
 use Rattle.rasn_types.specs.Bytes.{Bytes, fields_of, PartsWritten, Each, DoNotFall, IsLess}
+use Rattle.rasn_types.specs.Carried.{Meets}
 use Rattle.rasn_types.proofs.Frames.{frame_next}
 use Rattle.rasn_types.proofs.Alike.{items_one}
 use Rattle.rasn_types.proofs.Once.{once}
-use Rattle.rasn.specs.Worked.{Gives, plain, seven, bag_of_octets, named, smith}
+use Rattle.rasn.specs.Worked.{IsCarriedAs, Gives, plain, seven, bag_of_octets, named, smith}
 use Rattle.rasn.proofs.Headers.{short, without, going, short_written, closed_written, plain_read, octets_read}
 use Rattle.rasn_types.specs.Shapes.Parts.{none as no_parts}
 
@@ -27,9 +28,9 @@ default_left_out rule = (
       (number (pos 7) ∷ [], refl, inl ((none_required (number (pos 7)), refl, refl), (number (pos 7), [], refl, refl, refl), refl)),
 )
 
-pub default_spelled : (rule : Codec) → Gives rule seven (48 ∷ 3 ∷ 2 ∷ 1 ∷ 7 ∷ []) (items (number (pos 7) ∷ [])) []
+pub default_spelled : (rule : Codec) → (IsStrict rule → ⊥) → Gives rule seven (48 ∷ 3 ∷ 2 ∷ 1 ∷ 7 ∷ []) (items (number (pos 7) ∷ [])) []
 unfolding Reads parts_of
-default_spelled rule = (
+default_spelled rule lax = (
   omega arith,
   in_definite (2 ∷ 1 ∷ 7 ∷ []) (short 16 true (2 ∷ 1 ∷ 7 ∷ []) [] (omega arith) (omega arith) (omega arith)) (
     number (pos 7) ∷ [],
@@ -43,7 +44,7 @@ default_spelled rule = (
         refl,
         inr (
           (going false 2 _ (omega arith), frame_next (short {spelling = form rule} 2 false (7 ∷ []) [] (omega arith) (omega arith) (omega arith))),
-          (plain_read rule (integer every) 2 (7 ∷ []) [] (number (pos 7)) 127 (omega arith) (omega arith) (omega arith) (refl, (λ e. cc), tt), tt),
+          ((plain_read rule (integer every) 2 (7 ∷ []) [] (number (pos 7)) 127 (omega arith) (omega arith) (omega arith) (refl, (λ e. cc), tt) (λ z. (refl, tt)), tt), λ z. absurd (lax z)),
         ),
         (refl, refl),
       ),
@@ -66,9 +67,9 @@ octets_element : (rule : Codec) (contents rest : List ℕ) → length contents <
 unfolding Reads parts_of
 octets_element rule contents rest l = ((contents, octets_read rule 4 contents rest 126 (omega arith) (omega arith) l, refl), tt)
 
-pub bag_out_of_order : (rule : Codec) → Gives rule bag_of_octets (49 ∷ 6 ∷ 4 ∷ 1 ∷ 2 ∷ 4 ∷ 1 ∷ 1 ∷ []) (walk (items (numbers (2 ∷ []) ∷ numbers (1 ∷ []) ∷ []))) []
+pub bag_out_of_order : (rule : Codec) → (IsStrict rule → ⊥) → Gives rule bag_of_octets (49 ∷ 6 ∷ 4 ∷ 1 ∷ 2 ∷ 4 ∷ 1 ∷ 1 ∷ []) (walk (items (numbers (2 ∷ []) ∷ numbers (1 ∷ []) ∷ []))) []
 unfolding Reads parts_of
-bag_out_of_order rule = (
+bag_out_of_order rule lax = (
   omega arith,
   in_definite (4 ∷ 1 ∷ 2 ∷ 4 ∷ 1 ∷ 1 ∷ []) (short 17 true (4 ∷ 1 ∷ 2 ∷ 4 ∷ 1 ∷ 1 ∷ []) [] (omega arith) (omega arith) (omega arith)) (
     numbers (2 ∷ []) ∷ numbers (1 ∷ []) ∷ [],
@@ -85,10 +86,11 @@ bag_out_of_order rule = (
         (inl refl, refl),
       ),
     ),
+    λ z. absurd (lax z),
   ),
 )
 
-octet_written : (rule : Codec) (o : ℕ) → o < 256 → Bytes rule (plain octet_string 4) (numbers (o ∷ [])) (4 ∷ 1 ∷ o ∷ [])
+pub octet_written : (rule : Codec) (o : ℕ) → o < 256 → Bytes rule (plain octet_string 4) (numbers (o ∷ [])) (4 ∷ 1 ∷ o ∷ [])
 unfolding Bytes fields_of
 octet_written rule o h = (tt, (o ∷ [], refl, inl ((λ c. omega arith), o ∷ [], (refl, (h, tt)), short_written 4 false (o ∷ []) (omega arith) (omega arith))))
 
@@ -153,7 +155,7 @@ smith_in_segments = (
           [],
           0 ∷ 0 ∷ [],
           refl,
-          (plain_read Ber boolean 1 (1 ∷ []) (0 ∷ 0 ∷ []) (number (pos 1)) 127 (omega arith) (omega arith) (omega arith) (pos 1, refl, (1, refl, inr ((λ e. omega arith), refl))), tt),
+          (plain_read Ber boolean 1 (1 ∷ []) (0 ∷ 0 ∷ []) (number (pos 1)) 127 (omega arith) (omega arith) (omega arith) (pos 1, refl, (1, refl, inr ((λ e. omega arith), refl))) (λ z. absurd z), tt),
           (refl, refl),
         ),
       ),
@@ -187,7 +189,7 @@ smith_in_one rule = (
               [],
               [],
               refl,
-              (plain_read rule boolean 1 (255 ∷ []) [] (number (pos 1)) 127 (omega arith) (omega arith) (omega arith) (pos 1, refl, full_true rule), tt),
+              (plain_read rule boolean 1 (255 ∷ []) [] (number (pos 1)) 127 (omega arith) (omega arith) (omega arith) (pos 1, refl, full_true rule) (λ z. (refl, tt)), tt),
               (refl, refl),
             ),
           ),
@@ -225,10 +227,44 @@ smith_parts rule = (
   ),
 )
 
-pub smith_in_der : Bytes Der named smith (48 ∷ 10 ∷ 22 ∷ 5 ∷ 83 ∷ 109 ∷ 105 ∷ 116 ∷ 104 ∷ 1 ∷ 1 ∷ 255 ∷ [])
-unfolding Bytes fields_of
-smith_in_der = (_, _, refl, smith_parts Der, short_written 16 true (22 ∷ 5 ∷ 83 ∷ 109 ∷ 105 ∷ 116 ∷ 104 ∷ 1 ∷ 1 ∷ 255 ∷ []) (omega arith) (omega arith))
+smith_meets : (rule : Codec) → Meets rule named 128 smith
+unfolding Meets
+smith_meets rule = (
+  omega arith,
+  numbers (83 ∷ 109 ∷ 105 ∷ 116 ∷ 104 ∷ []) ∷ number (pos 1) ∷ [],
+  refl,
+  (numbers (83 ∷ 109 ∷ 105 ∷ 116 ∷ 104 ∷ []), number (pos 1) ∷ [], refl, (tt, λ l e z k. omega arith), (number (pos 1), [], refl, tt, refl)),
+)
 
-pub smith_in_cer : Bytes Cer named smith (48 ∷ 128 ∷ 22 ∷ 5 ∷ 83 ∷ 109 ∷ 105 ∷ 116 ∷ 104 ∷ 1 ∷ 1 ∷ 255 ∷ 0 ∷ 0 ∷ [])
+pub smith_in_ber : IsCarriedAs Ber named smith (48 ∷ 10 ∷ 22 ∷ 5 ∷ 83 ∷ 109 ∷ 105 ∷ 116 ∷ 104 ∷ 1 ∷ 1 ∷ 255 ∷ [])
 unfolding Bytes fields_of
-smith_in_cer = (_, _, refl, smith_parts Cer, closed_written 16 (22 ∷ 5 ∷ 83 ∷ 109 ∷ 105 ∷ 116 ∷ 104 ∷ 1 ∷ 1 ∷ 255 ∷ []) (omega arith))
+smith_in_ber = (
+  record {
+    octets = 48 ∷ 10 ∷ 22 ∷ 5 ∷ 83 ∷ 109 ∷ 105 ∷ 116 ∷ 104 ∷ 1 ∷ 1 ∷ 255 ∷ [];
+    is = (_, _, refl, smith_parts Ber, short_written 16 true (22 ∷ 5 ∷ 83 ∷ 109 ∷ 105 ∷ 116 ∷ 104 ∷ 1 ∷ 1 ∷ 255 ∷ []) (omega arith) (omega arith));
+    meets = smith_meets Ber;
+  },
+  refl,
+)
+
+pub smith_in_der : IsCarriedAs Der named smith (48 ∷ 10 ∷ 22 ∷ 5 ∷ 83 ∷ 109 ∷ 105 ∷ 116 ∷ 104 ∷ 1 ∷ 1 ∷ 255 ∷ [])
+unfolding Bytes fields_of
+smith_in_der = (
+  record {
+    octets = 48 ∷ 10 ∷ 22 ∷ 5 ∷ 83 ∷ 109 ∷ 105 ∷ 116 ∷ 104 ∷ 1 ∷ 1 ∷ 255 ∷ [];
+    is = (_, _, refl, smith_parts Der, short_written 16 true (22 ∷ 5 ∷ 83 ∷ 109 ∷ 105 ∷ 116 ∷ 104 ∷ 1 ∷ 1 ∷ 255 ∷ []) (omega arith) (omega arith));
+    meets = smith_meets Der;
+  },
+  refl,
+)
+
+pub smith_in_cer : IsCarriedAs Cer named smith (48 ∷ 128 ∷ 22 ∷ 5 ∷ 83 ∷ 109 ∷ 105 ∷ 116 ∷ 104 ∷ 1 ∷ 1 ∷ 255 ∷ 0 ∷ 0 ∷ [])
+unfolding Bytes fields_of
+smith_in_cer = (
+  record {
+    octets = 48 ∷ 128 ∷ 22 ∷ 5 ∷ 83 ∷ 109 ∷ 105 ∷ 116 ∷ 104 ∷ 1 ∷ 1 ∷ 255 ∷ 0 ∷ 0 ∷ [];
+    is = (_, _, refl, smith_parts Cer, closed_written 16 (22 ∷ 5 ∷ 83 ∷ 109 ∷ 105 ∷ 116 ∷ 104 ∷ 1 ∷ 1 ∷ 255 ∷ []) (omega arith));
+    meets = smith_meets Cer;
+  },
+  refl,
+)

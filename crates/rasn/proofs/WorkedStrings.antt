@@ -80,11 +80,11 @@ bits_in_segments = (
       in_indefinite _ (without 3 _ tt (omega arith) (omega arith)) (
         going true 3 _ (omega arith),
         _,
-        bits_read Ber 3 (0 ∷ 10 ∷ 59 ∷ []) _ _ 127 (omega arith) (omega arith) (omega arith) first_bits,
+        bits_read Ber 3 (0 ∷ 10 ∷ 59 ∷ []) _ _ 127 (omega arith) (omega arith) (omega arith) (first_bits, λ z. absurd z),
         (
           going true 3 _ (omega arith),
           _,
-          bits_read Ber 3 (4 ∷ 95 ∷ 41 ∷ 28 ∷ 208 ∷ []) _ _ 127 (omega arith) (omega arith) (omega arith) last_bits,
+          bits_read Ber 3 (4 ∷ 95 ∷ 41 ∷ 28 ∷ 208 ∷ []) _ _ 127 (omega arith) (omega arith) (omega arith) (last_bits, λ z. absurd z),
           (inr (refl, [], refl), refl),
         ),
       ),
@@ -103,7 +103,7 @@ zeros_in_definite_string t rest ((octets, str, text), w) = no_string str
     behind : (parts : List (List ℕ)) → Many (Str Ber OctetSegment (in_universal 4) 127 (in_universal 4)) false (0 ∷ 0 ∷ []) parts [] → ⊥
     behind [] (inl e, f) = cc
     behind [] (inr e, f) = let g = e.0 in cc
-    behind (x ∷ xs) (n, m, h, more) = no_next (in_universal 4) (str_next Ber OctetSegment (in_universal 4) 127 (in_universal 4) (0 ∷ 0 ∷ []) x m h)
+    behind (x ∷ xs) (n, m, h, more) = no_next ber_form (in_universal 4) (str_next Ber OctetSegment (in_universal 4) 127 (in_universal 4) (0 ∷ 0 ∷ []) x m h)
 
     segments : (parts : List (List ℕ)) → Many (Str Ber OctetSegment (in_universal 4) 127 (in_universal 4)) false (4 ∷ 1 ∷ 161 ∷ 0 ∷ 0 ∷ []) parts [] → ⊥
     segments [] (e, f) = going false 4 _ (omega arith) e

@@ -7,8 +7,8 @@ use Rattle.rasn_types.specs.declared.ber.time.text.Clock.TheVariants.{Seconds}
 use Rattle.rasn_types.specs.declared.ber.time.text.Zone.TheVariants.{Utc}
 use Rattle.rasn_types.specs.Calendar.{Moment, IsMoment, Day, IsDay}
 use Rattle.rasn_types.specs.Spelling.{Spelling, IsSpelling, IsFraction, fraction_text, fraction_of, billionths, second_of, nanosecond_of}
-use Rattle.rasn_types.specs.Times.{DateText, shown, fields_of, century, has_no_comma, digits_of, written_fraction, written_second, within_second, written_date, written_generalized, written_utc, CarriedDay, CarriedUtc, at_utc, CanonicalGeneralized, CanonicalUtc}
-use Rattle.rasn_types.proofs.Fractions.{digits_small, digits_back, digits_some, test}
+use Rattle.rasn_types.specs.Times.{DateText, shown, fields_of, century, has_no_comma, digits_of, written_fraction, written_second, within_second, written_date, written_generalized, written_utc, CarriedDay, CarriedUtc, at_utc, StrictGeneralized, IsShortFraction, CanonicalUtc}
+use Rattle.rasn_types.proofs.Fractions.{digits_small, digits_long, digits_end, digits_back, digits_some, test}
 use Rattle.rasn_types.proofs.Dated.{month_end}
 
 abbrev fraction_for : ℕ → Option (ℕ × List ℕ)
@@ -18,6 +18,12 @@ fraction_is : (n : ℕ) → n < 1000000000 → IsFraction (fraction_for n)
 fraction_is n h = elim (test n) [
   | inl p ↦ rw p.0 tt
   | inr p ↦ rw p.0 ((inl refl, digits_some n p.1, digits_small 9 n h))
+]
+
+fraction_short : (n : ℕ) → n < 1000000000 → IsShortFraction (fraction_for n)
+fraction_short n h = elim (test n) [
+  | inl p ↦ rw p.0 tt
+  | inr p ↦ rw p.0 ((digits_long 9 n, digits_end 9 n h))
 ]
 
 fraction_back : (n : ℕ) → n < 1000000000 → billionths (fraction_of (fraction_for n)) ≡ n
@@ -93,7 +99,7 @@ shown_back : (m : Moment) (f : Option (ℕ × List ℕ)) (y : ℕ) → IsMoment 
 shown_back m f y h e b =
     rw (b, second_back m h, nanosecond_back m h, ← e) refl
 
-pub generalized_read_back : (m : Moment) → IsMoment m → CarriedDay m.day → CanonicalGeneralized (written_generalized m) (at_utc m)
+pub generalized_read_back : (m : Moment) → IsMoment m → CarriedDay m.day → StrictGeneralized (written_generalized m) (at_utc m)
 unfolding written_generalized written_date
 generalized_read_back m h k =
     let n = within_second m in
@@ -102,14 +108,17 @@ generalized_read_back m h k =
     let y = k.year in
     let b = shown_back m f y h k.same (fraction_back n (within m h)) in
     record {
-      year = y;
-      rest = s;
-      below = k.below;
-      spelled = is_spelled m f h (fraction_is n (within m h));
-      allowed = rw (fraction_point n) refl;
-      is = rw (k.same, lt-ltb y 10000 k.below, fraction_written n) refl;
-      exists = subst IsMoment (sym b) h;
-      meant = ap at_utc (sym b);
+      is = record {
+        year = y;
+        rest = s;
+        below = k.below;
+        spelled = is_spelled m f h (fraction_is n (within m h));
+        allowed = rw (fraction_point n) refl;
+        is = rw (k.same, lt-ltb y 10000 k.below, fraction_written n) refl;
+        exists = subst IsMoment (sym b) h;
+        meant = ap at_utc (sym b);
+      };
+      short = fraction_short n (within m h);
     }
 
 in_century : (y : ℕ) → 1970 ≤ y → y ≤ 2069 → century (y % 100) ≡ y

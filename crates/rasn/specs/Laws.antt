@@ -5,12 +5,12 @@ use Rattle.rasn_types.specs.declared.types.rules.Codec.TheVariants.{Ber, Der}
 use Rattle.rasn_types.specs.declared.types.tag.Tag.{Tag}
 use Rattle.rasn_types.specs.declared.types.constraints.Bound.{Bound}
 use Rattle.rasn_types.specs.declared.types.constraints.Constraints.{Constraints}
-use Rattle.rasn_types.specs.Framing.{Whole, turns}
-use Rattle.rasn_types.specs.Shapes.{Tree, Kind, Shape, leaf, any, prefix, choice, option, seq, set, list, bag, Parts, part, IsFirst, IsFirstOf, IsSolid}
+use Rattle.rasn_types.specs.Framing.{Whole, turns, AreOctets}
+use Rattle.rasn_types.specs.Shapes.{Tree, Kind, Shape, leaf, any, prefix, choice, option, seq, set, list, bag, Parts, part, Presence, default, IsFirst, IsFirstOf, IsSolid}
 use Rattle.rasn_types.specs.Shapes.Parts.{none}
 use Rattle.rasn_types.specs.Grammar.{Reads, top}
 use Rattle.rasn_types.specs.Bytes.{Same, Bytes}
-use Rattle.rasn_types.specs.Carried.{Carried}
+use Rattle.rasn_types.specs.Carried.{Meets, Carried}
 use Rattle.rasn_types.specs.Lawful.{IsLawful, AreDisjoint}
 
 -- At most one value and one rest, at each depth.
@@ -73,6 +73,37 @@ Canonical = (s : Shape) → IsLawful s → (t u : Tree) (c : Carried Der s t) (d
 
 abbrev pub WrittenOnce : Type 0
 WrittenOnce = (s : Shape) (rule : Codec) (t u : Tree) (a b : List ℕ) → Same t u → Bytes rule s t a → Bytes rule s u b → a ≡ b
+
+-- Each default is the same as itself, as the tree of a value is.
+abbrev pub IsOwnDefault : Presence → Type 0
+IsOwnDefault (default d) = Same d d
+IsOwnDefault presence = Unit {0}
+
+abbrev mutual
+  pub HasOwnDefaults : Shape → Type 0
+  HasOwnDefaults (leaf kind tag bounds) = Unit {0}
+  HasOwnDefaults (any tag) = Unit {0}
+  HasOwnDefaults (prefix tag s) = HasOwnDefaults s
+  HasOwnDefaults (choice ps) = HaveOwnDefaults ps
+  HasOwnDefaults (option tag s) = HasOwnDefaults s
+  HasOwnDefaults (seq tag ps) = HaveOwnDefaults ps
+  HasOwnDefaults (set tag ps) = HaveOwnDefaults ps
+  HasOwnDefaults (list tag s size) = HasOwnDefaults s
+  HasOwnDefaults (bag tag s size) = HasOwnDefaults s
+
+  pub HaveOwnDefaults : Parts → Type 0
+  HaveOwnDefaults none = Unit {0}
+  HaveOwnDefaults (part presence s ps) = IsOwnDefault presence × HasOwnDefaults s × HaveOwnDefaults ps
+
+-- What DER reads, and meets the depth, is carried.
+abbrev pub OnlyCarried : Type 0
+OnlyCarried = (s : Shape) → IsLawful s → HasOwnDefaults s → (input : List ℕ) → AreOctets input → (t : Tree) (rest : List ℕ) → Reads Der s 128 (top Der) input t rest → Meets Der s 128 t
+    → (c : Carried Der s t) × (input ≡ c.octets ++ rest)
+
+-- Of octets that DER reads as a carried tree, those that are consumed are its DER octets.
+abbrev pub StrictDer : Type 0
+StrictDer = (s : Shape) → IsLawful s → (input : List ℕ) → AreOctets input → (t : Tree) (rest : List ℕ) → Reads Der s 128 (top Der) input t rest → Carried Der s t
+    → (text : List ℕ) × Bytes Der s t text × (input ≡ text ++ rest)
 
 -- Of two whole encodings at the front of one input, each is the other, and both take the same turns.
 abbrev pub OneEncoding : Type 0

@@ -1,7 +1,7 @@
 -- What holds of the texts of times, and of instants as numbers of seconds.
 use Rattle.std.specs.Prelude.{◌≡◌, ℕ, zero, suc, ◌+◌, ◌-◌, ◌*◌, ◌<◌, ◌⊎◌, List, ℤ, pos, negsuc, ◌≤ℤ◌, ◌+ℤ◌, ◌-ℤ◌, if◌then◌else◌, unsigned_abs}
 use Rattle.rasn_types.specs.Calendar.{Day, IsDay, Moment, IsMoment, Stamp, is_leap, days_of_month, next_day, previous_day, later, earlier, Before}
-use Rattle.rasn_types.specs.Times.{GeneralUtc, CanonicalUtc, GeneralGeneralized, CanonicalGeneralized, DateText, written_date, written_generalized, written_utc, CarriedDay, CarriedUtc, at_utc}
+use Rattle.rasn_types.specs.Times.{GeneralUtc, CanonicalUtc, GeneralGeneralized, CanonicalGeneralized, StrictGeneralized, DateText, written_date, written_generalized, written_utc, CarriedDay, CarriedUtc, at_utc}
 
 -- a text has at most one meaning
 pub record OneMeaning : Type 0 where
@@ -17,7 +17,7 @@ pub record Included : Type 0 where
 -- what is written is read back
 pub record ReadBack : Type 0 where
   pub utc : (m : Moment) → IsMoment m → CarriedUtc m → CanonicalUtc (written_utc m) (at_utc m)
-  pub generalized : (m : Moment) → IsMoment m → CarriedDay m.day → CanonicalGeneralized (written_generalized m) (at_utc m)
+  pub generalized : (m : Moment) → IsMoment m → CarriedDay m.day → StrictGeneralized (written_generalized m) (at_utc m)
   pub date : (d : Day) → IsDay d → CarriedDay d → DateText (written_date d) d
 
 -- of carried instants and days, different ones are written differently

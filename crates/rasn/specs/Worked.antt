@@ -1,20 +1,16 @@
 -- Octets that were worked out by hand, and what they are read as and written from.
 use Rattle.std.specs.Prelude.{◌≡◌, ℕ, List, [], ◌∷◌, ◌++◌, length, Bool, true, false, pos, negsuc, map, Some, None}
-use Rattle.rasn_types.specs.Tags.{in_universal}
+use Rattle.rasn_types.specs.Tags.{Form, der_form, IsStrict, in_universal}
 use Rattle.rasn_types.specs.declared.types.rules.Codec.{Codec}
 use Rattle.rasn_types.specs.declared.types.rules.Codec.TheVariants.{Ber, Cer, Der}
 use Rattle.rasn_types.specs.Framing.{Whole, turns, Next}
 use Rattle.rasn_types.specs.Calendar.{Moment}
-use Rattle.rasn_types.specs.Shapes.{Tree, number, bits, numbers, instant, items, walk, absent, every, between, Kind, boolean, integer, object_identifier, bit_string, octet_string, ia5, generalized_time, Shape, leaf, any, option, seq, bag, part, required, default}
-use Rattle.rasn_types.specs.Shapes.Parts.{none}
+use Rattle.rasn_types.specs.Shapes.{Tree, number, bits, numbers, instant, items, walk, absent, every, between, boolean, integer, object_identifier, bit_string, octet_string, generalized_time, Shape, any, prefix}
 use Rattle.rasn_types.specs.Contents.{bits_of, joined_lists}
 use Rattle.rasn_types.specs.Grammar.{Reads, top}
 use Rattle.rasn_types.specs.Bytes.{Same, Bytes}
-use Rattle.rasn_types.specs.Trees.{unconstrained}
-
--- a type of this kind with its universal tag and no bounds
-abbrev pub plain : Kind → ℕ → Shape
-plain kind n = leaf kind (in_universal n) unconstrained
+use Rattle.rasn_types.specs.Carried.{Carried}
+pub use Rattle.rasn.specs.WorkedShapes.{plain, contextual, named, perhaps_bool, bag_of_octets, seven, seven_of_set, three_of_set}
 
 -- Nothing is read.
 abbrev pub Refuses : Codec → Shape → List ℕ → Type 0
@@ -24,16 +20,12 @@ Refuses rule s input = (t : Tree) (rest : List ℕ) → Reads rule s 128 (top ru
 abbrev pub Gives : Codec → Shape → List ℕ → Tree → List ℕ → Type 0
 Gives rule s input t rest = Reads rule s 128 (top rule) input t rest
 
+-- The tree is carried, and these are its octets.
+abbrev pub IsCarriedAs : Codec → Shape → Tree → List ℕ → Type 0
+IsCarriedAs rule s t b = (c : Carried rule s t) × (c.octets ≡ b)
+
 abbrev pub nested : List ℕ
 nested = 48 ∷ 128 ∷ 48 ∷ 128 ∷ 2 ∷ 1 ∷ 1 ∷ 0 ∷ 0 ∷ 4 ∷ 1 ∷ 0 ∷ 0 ∷ 0 ∷ []
-
--- SEQUENCE { INTEGER DEFAULT 7 }
-abbrev pub seven : Shape
-seven = seq (in_universal 16) (part (default (number (pos 7))) (plain (integer every) 2) none)
-
--- SET OF OCTET STRING
-abbrev pub bag_of_octets : Shape
-bag_of_octets = bag (in_universal 17) (plain octet_string 4) None
 
 -- two octet strings with one octet each, in this order
 abbrev pub octets_each : ℕ → ℕ → Tree
@@ -47,9 +39,6 @@ IsLongPiece b = (front : List ℕ) × (length front ≡ 999) × (b ≡ 3 ∷ 130
 abbrev pub AreTwoPieces : List ℕ → Type 0
 AreTwoPieces b = (front : List ℕ) × (last : ℕ) × (length front ≡ 999) × (b ≡ 35 ∷ 128 ∷ 3 ∷ 130 ∷ 3 ∷ 232 ∷ 0 ∷ (front ++ (3 ∷ 2 ∷ 0 ∷ last ∷ 0 ∷ 0 ∷ [])))
 
-abbrev pub perhaps_bool : Shape
-perhaps_bool = option (Some (in_universal 1)) (plain boolean 1)
-
 abbrev pub leap : Moment
 leap = record { day = record { year = pos 2016; month = 12; day = 31 }; hour = 23; minute = 59; second = 59; nanosecond = 1500000000 }
 
@@ -57,20 +46,59 @@ leap = record { day = record { year = pos 2016; month = 12; day = 31 }; hour = 2
 abbrev pub leap_text : List ℕ
 leap_text = 50 ∷ 48 ∷ 49 ∷ 54 ∷ 49 ∷ 50 ∷ 51 ∷ 49 ∷ 50 ∷ 51 ∷ 53 ∷ 57 ∷ 54 ∷ 48 ∷ 46 ∷ 53 ∷ 90 ∷ []
 
--- SEQUENCE { IA5String, BOOLEAN }
-abbrev pub named : Shape
-named = seq (in_universal 16) (part required (plain ia5 22) (part required (plain boolean 1) none))
-
 -- Smith, TRUE
 abbrev pub smith : Tree
 smith = items (numbers (83 ∷ 109 ∷ 105 ∷ 116 ∷ 104 ∷ []) ∷ number (pos 1) ∷ [])
+
+-- 20161231235960.50Z
+abbrev pub long_leap_text : List ℕ
+long_leap_text = 50 ∷ 48 ∷ 49 ∷ 54 ∷ 49 ∷ 50 ∷ 51 ∷ 49 ∷ 50 ∷ 51 ∷ 53 ∷ 57 ∷ 54 ∷ 48 ∷ 46 ∷ 53 ∷ 48 ∷ 90 ∷ []
+
+-- 1, 2, 3 and the same in falling order
+abbrev pub one_two_three : Tree
+one_two_three = items (number (pos 1) ∷ number (pos 2) ∷ number (pos 3) ∷ [])
+
+abbrev pub three_two_one : Tree
+three_two_one = items (number (pos 3) ∷ number (pos 2) ∷ number (pos 1) ∷ [])
+
+-- 80 01 01, 81 01 02, 82 01 03, and the same in falling order
+abbrev pub rising_octets : List ℕ
+rising_octets = 49 ∷ 9 ∷ 128 ∷ 1 ∷ 1 ∷ 129 ∷ 1 ∷ 2 ∷ 130 ∷ 1 ∷ 3 ∷ []
+
+abbrev pub falling_octets : List ℕ
+falling_octets = 49 ∷ 9 ∷ 130 ∷ 1 ∷ 3 ∷ 129 ∷ 1 ∷ 2 ∷ 128 ∷ 1 ∷ 1 ∷ []
+
+-- BER reads this tree of all the octets, and DER reads nothing.
+abbrev pub IsLenient : Shape → List ℕ → Tree → Type 0
+IsLenient s input t = Gives Ber s input t [] × Refuses Der s input
+
+-- What BER reads and DER doesn't, since another spelling is written; open octets stay as they are.
+pub record WorkedStrict : Type 0 where
+  pub high_tag : IsLenient (plain boolean 1) (31 ∷ 1 ∷ 1 ∷ 255 ∷ []) (number (pos 1))
+  pub high_tag_next : Next der_form (31 ∷ 1 ∷ 1 ∷ 255 ∷ []) (in_universal 1) → ⊥
+  pub long_length : IsLenient (plain boolean 1) (1 ∷ 129 ∷ 1 ∷ 255 ∷ []) (number (pos 1))
+  pub long_octets : IsLenient (plain octet_string 4) (4 ∷ 129 ∷ 2 ∷ 161 ∷ 178 ∷ []) (numbers (161 ∷ 178 ∷ []))
+  pub built_bool : IsLenient (plain boolean 1) (33 ∷ 1 ∷ 255 ∷ []) (number (pos 1))
+  pub primitive_prefix : IsLenient (prefix (contextual 0) (plain (integer every) 2)) (128 ∷ 3 ∷ 2 ∷ 1 ∷ 5 ∷ []) (number (pos 5))
+  pub primitive_open : IsLenient (any (Some (contextual 0))) (128 ∷ 2 ∷ 5 ∷ 0 ∷ []) (numbers (5 ∷ 0 ∷ []))
+  pub padded_integer : IsLenient (plain (integer every) 2) (2 ∷ 2 ∷ 0 ∷ 5 ∷ []) (number (pos 5))
+  pub padded_negative : IsLenient (plain (integer every) 2) (2 ∷ 2 ∷ 255 ∷ 128 ∷ []) (number (negsuc 127))
+  pub padded_arc : IsLenient (plain object_identifier 6) (6 ∷ 3 ∷ 42 ∷ 128 ∷ 1 ∷ []) (numbers (1 ∷ 2 ∷ 1 ∷ []))
+  pub set_bits : IsLenient (plain bit_string 3) (3 ∷ 2 ∷ 5 ∷ 255 ∷ []) (bits (true ∷ true ∷ true ∷ []))
+  pub default_there : IsLenient seven (48 ∷ 3 ∷ 2 ∷ 1 ∷ 7 ∷ []) (items (number (pos 7) ∷ []))
+  pub default_in_set : IsLenient seven_of_set (49 ∷ 3 ∷ 128 ∷ 1 ∷ 7 ∷ []) (items (number (pos 7) ∷ []))
+  pub bag_falls : IsLenient bag_of_octets (49 ∷ 6 ∷ 4 ∷ 1 ∷ 2 ∷ 4 ∷ 1 ∷ 1 ∷ []) (walk (items (numbers (2 ∷ []) ∷ numbers (1 ∷ []) ∷ [])))
+  pub set_falls : IsLenient three_of_set falling_octets one_two_three
+  pub fraction_ends_in_zero : IsLenient (plain generalized_time 24) (24 ∷ 18 ∷ long_leap_text) (instant leap)
+  pub lenient_open : Gives Der (any None) (2 ∷ 129 ∷ 1 ∷ 5 ∷ []) (numbers (2 ∷ 129 ∷ 1 ∷ 5 ∷ [])) []
+  pub lenient_inside : Gives Der (any (Some (contextual 0))) (160 ∷ 4 ∷ 2 ∷ 129 ∷ 1 ∷ 5 ∷ []) (numbers (2 ∷ 129 ∷ 1 ∷ 5 ∷ [])) []
 
 pub record Worked : Type 0 where
   pub any_value : Gives Ber (any None) (nested ++ (2 ∷ 1 ∷ 2 ∷ [])) (numbers nested) (2 ∷ 1 ∷ 2 ∷ [])
   pub five_turns : (w : Whole Ber nested) → turns w ≡ 5
   pub lenient_true : Gives Ber (plain boolean 1) (1 ∷ 1 ∷ 5 ∷ []) (number (pos 1)) []
   pub strict_true : Refuses Cer (plain boolean 1) (1 ∷ 1 ∷ 5 ∷ [])
-  pub padded_integer : (rule : Codec) → Gives rule (plain (integer (between (negsuc 2147483647) (pos 2147483647))) 2)
+  pub padded_integer : (rule : Codec) → (IsStrict rule → ⊥) → Gives rule (plain (integer (between (negsuc 2147483647) (pos 2147483647))) 2)
       (2 ∷ 6 ∷ 255 ∷ 255 ∷ 255 ∷ 255 ∷ 127 ∷ 0 ∷ []) (number (negsuc 33023)) []
   pub octets_in_segments : Gives Ber (plain octet_string 4)
       (36 ∷ 128 ∷ 4 ∷ 1 ∷ 161 ∷ 36 ∷ 3 ∷ 4 ∷ 1 ∷ 178 ∷ 36 ∷ 128 ∷ 4 ∷ 1 ∷ 195 ∷ 0 ∷ 0 ∷ 0 ∷ 0 ∷ []) (numbers (161 ∷ 178 ∷ 195 ∷ [])) []
@@ -78,9 +106,9 @@ pub record Worked : Type 0 where
       (35 ∷ 128 ∷ 3 ∷ 3 ∷ 0 ∷ 10 ∷ 59 ∷ 3 ∷ 5 ∷ 4 ∷ 95 ∷ 41 ∷ 28 ∷ 208 ∷ 0 ∷ 0 ∷ [])
       (bits (joined_lists (map bits_of (10 ∷ 59 ∷ 95 ∷ 41 ∷ 28 ∷ [])) ++ (true ∷ true ∷ false ∷ true ∷ []))) []
   pub default_left_out : (rule : Codec) → Gives rule seven (48 ∷ 0 ∷ []) (items (number (pos 7) ∷ [])) []
-  pub default_spelled : (rule : Codec) → Gives rule seven (48 ∷ 3 ∷ 2 ∷ 1 ∷ 7 ∷ []) (items (number (pos 7) ∷ [])) []
+  pub default_spelled : (rule : Codec) → (IsStrict rule → ⊥) → Gives rule seven (48 ∷ 3 ∷ 2 ∷ 1 ∷ 7 ∷ []) (items (number (pos 7) ∷ [])) []
   pub default_not_written : Bytes Der seven (items (number (pos 7) ∷ [])) (48 ∷ 0 ∷ [])
-  pub bag_out_of_order : (rule : Codec) → Gives rule bag_of_octets (49 ∷ 6 ∷ 4 ∷ 1 ∷ 2 ∷ 4 ∷ 1 ∷ 1 ∷ []) (walk (items (numbers (2 ∷ []) ∷ numbers (1 ∷ []) ∷ []))) []
+  pub bag_out_of_order : (rule : Codec) → (IsStrict rule → ⊥) → Gives rule bag_of_octets (49 ∷ 6 ∷ 4 ∷ 1 ∷ 2 ∷ 4 ∷ 1 ∷ 1 ∷ []) (walk (items (numbers (2 ∷ []) ∷ numbers (1 ∷ []) ∷ []))) []
   pub bag_not_written : (rule : Codec) (b : List ℕ) → Bytes rule bag_of_octets (walk (items (numbers (2 ∷ []) ∷ numbers (1 ∷ []) ∷ []))) b → ⊥
   pub bags_in_any_order : Same (walk (octets_each 2 1)) (walk (octets_each 1 2))
   pub lists_in_order : Same (octets_each 2 1) (octets_each 1 2) → ⊥
@@ -92,11 +120,12 @@ pub record Worked : Type 0 where
   pub absent_before_end : Gives Ber perhaps_bool (0 ∷ 0 ∷ []) absent (0 ∷ 0 ∷ [])
   pub no_end_under_der : Refuses Der perhaps_bool (0 ∷ 0 ∷ [])
   pub absent_before_another : (rule : Codec) → Gives rule perhaps_bool (2 ∷ 1 ∷ 5 ∷ []) absent (2 ∷ 1 ∷ 5 ∷ [])
-  pub great_tag : Next (31 ∷ 143 ∷ 255 ∷ 255 ∷ 255 ∷ 127 ∷ []) (in_universal 4294967295)
+  pub great_tag : (spelling : Form) → Next spelling (31 ∷ 143 ∷ 255 ∷ 255 ∷ 255 ∷ 127 ∷ []) (in_universal 4294967295)
   pub great_arc : (rule : Codec) → Gives rule (plain object_identifier 6) (6 ∷ 5 ∷ 143 ∷ 255 ∷ 255 ∷ 255 ∷ 127 ∷ []) (numbers (2 ∷ 4294967215 ∷ [])) []
   pub leap_second : (rule : Codec) → Gives rule (plain generalized_time 24) (24 ∷ 17 ∷ leap_text) (instant leap) []
   pub zeros_in_definite_string : Refuses Ber (plain octet_string 4) (36 ∷ 5 ∷ 4 ∷ 1 ∷ 161 ∷ 0 ∷ 0 ∷ [])
   pub smith_in_segments : Gives Ber named (48 ∷ 128 ∷ 54 ∷ 128 ∷ 4 ∷ 2 ∷ 83 ∷ 109 ∷ 4 ∷ 3 ∷ 105 ∷ 116 ∷ 104 ∷ 0 ∷ 0 ∷ 1 ∷ 1 ∷ 1 ∷ 0 ∷ 0 ∷ []) smith []
   pub smith_in_one : (rule : Codec) → Gives rule named (48 ∷ 10 ∷ 22 ∷ 5 ∷ 83 ∷ 109 ∷ 105 ∷ 116 ∷ 104 ∷ 1 ∷ 1 ∷ 255 ∷ []) smith []
-  pub smith_in_der : Bytes Der named smith (48 ∷ 10 ∷ 22 ∷ 5 ∷ 83 ∷ 109 ∷ 105 ∷ 116 ∷ 104 ∷ 1 ∷ 1 ∷ 255 ∷ [])
-  pub smith_in_cer : Bytes Cer named smith (48 ∷ 128 ∷ 22 ∷ 5 ∷ 83 ∷ 109 ∷ 105 ∷ 116 ∷ 104 ∷ 1 ∷ 1 ∷ 255 ∷ 0 ∷ 0 ∷ [])
+  pub smith_in_ber : IsCarriedAs Ber named smith (48 ∷ 10 ∷ 22 ∷ 5 ∷ 83 ∷ 109 ∷ 105 ∷ 116 ∷ 104 ∷ 1 ∷ 1 ∷ 255 ∷ [])
+  pub smith_in_der : IsCarriedAs Der named smith (48 ∷ 10 ∷ 22 ∷ 5 ∷ 83 ∷ 109 ∷ 105 ∷ 116 ∷ 104 ∷ 1 ∷ 1 ∷ 255 ∷ [])
+  pub smith_in_cer : IsCarriedAs Cer named smith (48 ∷ 128 ∷ 22 ∷ 5 ∷ 83 ∷ 109 ∷ 105 ∷ 116 ∷ 104 ∷ 1 ∷ 1 ∷ 255 ∷ 0 ∷ 0 ∷ [])

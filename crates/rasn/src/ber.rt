@@ -1,17 +1,21 @@
 //! Basic encoding rules (X.690 8): reading and writing one value.
-ghost use Rattle.std.specs.Prelude.{IfOk, IfErr, ◌⊎◌};
+ghost use Rattle.std.specs.Prelude.{◌≡◌, [], IfOk, IfErr, OnOk, OnErr, ◌⊎◌, false};
+ghost use Rattle.std.specs.Fn.{FnOnceTakesAtMut};
 ghost use Rattle.rasn_types.specs.Bytes.{Bytes};
 ghost use Rattle.rasn_types.specs.Errors.{IsEncodeMemory};
 ghost use Rattle.rasn_types.specs.declared.types.rules.Codec.TheVariants.{Ber};
 ghost use Rattle.rasn.specs.Headline.{Answered, AnsweredFirst};
+ghost use Rattle.rasn_enc.specs.View.{started};
+ghost use Rattle.rasn_enc.specs.Primitives.{WantsMemory};
 ghost use Rattle.rasn_enc.specs.Wrote.{Undefined};
+ghost use Rattle.rasn_enc.specs.Writing.{WritesBehind, Refuses, Outputs};
 
 use crate::entry;
 pub use rasn_de::ber::de;
 use rasn_de::ber::de::DecoderOptions;
 use rasn_de::de::Decode;
 pub use rasn_enc::ber::enc;
-use rasn_enc::ber::enc::EncoderOptions;
+use rasn_enc::ber::enc::{Encoder, EncoderOptions};
 use rasn_enc::enc::Encode;
 pub use rasn_types::ber::Identifier;
 use rasn_types::error::{DecodeError, EncodeError};
@@ -42,4 +46,31 @@ pub fn encode<T: Encode>(alloc: Global, value: &T) -> Result<Vec<u8>, EncodeErro
     ensures refused { IfErr result (λ error. IsEncodeMemory error.kind ⊎ Undefined Ber T.shape (T.tree value.now)) }
 {
     entry::encode(alloc, value, EncoderOptions::ber())
+}
+
+/// Puts the value's octets into the vector, in the place of what it holds. Where the value is refused, as `encode` says, the vector is
+/// empty.
+pub fn encode_buf<T: Encode>(
+    alloc: Global,
+    value: &T,
+    buffer: &mut Vec<u8>,
+) -> Result<(), EncodeError>
+    ensures ok { OnOk result (Bytes Ber T.shape (T.tree value.now) buffer.new.items) }
+    ensures err { OnErr result (buffer.new.items ≡ []) }
+    ensures refused { IfErr result (λ error. IsEncodeMemory error.kind ⊎ Undefined Ber T.shape (T.tree value.now)) }
+{
+    entry::encode_buf(alloc, value, buffer, EncoderOptions::ber())
+}
+
+/// The octets of the values that `values` writes, one behind the other. It may write any number of them, and refuses as it will.
+pub fn encode_scope<F: FnOnce(&mut Encoder) -> Result<(), EncodeError>>(
+    alloc: Global,
+    values: F,
+) -> Result<Vec<u8>, EncodeError>
+    requires callable { FnOnceTakesAtMut F.FnOnce values (started Ber false) }
+    requires keeps { WritesBehind F.FnOnce values (started Ber false) }
+    ensures ok { IfOk result (λ octets. Outputs F.FnOnce values Ber octets.items) }
+    ensures refused { IfErr result (λ error. WantsMemory Ber error ⊎ Refuses F.FnOnce values (started Ber false) error) }
+{
+    entry::encode_scope(alloc, values, EncoderOptions::ber())
 }

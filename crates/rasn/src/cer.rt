@@ -1,5 +1,5 @@
 //! Canonical encoding rules (X.690 9, 11): reading and writing one value.
-ghost use Rattle.std.specs.Prelude.{IfOk, IfErr, ◌⊎◌};
+ghost use Rattle.std.specs.Prelude.{◌≡◌, [], IfOk, IfErr, OnOk, OnErr, ◌⊎◌};
 ghost use Rattle.rasn_types.specs.Bytes.{Bytes};
 ghost use Rattle.rasn_types.specs.Errors.{IsEncodeMemory};
 ghost use Rattle.rasn_types.specs.declared.types.rules.Codec.TheVariants.{Cer};
@@ -39,4 +39,18 @@ pub fn encode<T: Encode>(alloc: Global, value: &T) -> Result<Vec<u8>, EncodeErro
     ensures refused { IfErr result (λ error. IsEncodeMemory error.kind ⊎ Undefined Cer T.shape (T.tree value.now)) }
 {
     entry::encode(alloc, value, EncoderOptions::cer())
+}
+
+/// Puts the value's octets into the vector, in the place of what it holds. Where the value is refused, as `encode` says, the vector is
+/// empty.
+pub fn encode_buf<T: Encode>(
+    alloc: Global,
+    value: &T,
+    buffer: &mut Vec<u8>,
+) -> Result<(), EncodeError>
+    ensures ok { OnOk result (Bytes Cer T.shape (T.tree value.now) buffer.new.items) }
+    ensures err { OnErr result (buffer.new.items ≡ []) }
+    ensures refused { IfErr result (λ error. IsEncodeMemory error.kind ⊎ Undefined Cer T.shape (T.tree value.now)) }
+{
+    entry::encode_buf(alloc, value, buffer, EncoderOptions::cer())
 }

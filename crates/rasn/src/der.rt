@@ -1,27 +1,32 @@
 //! Distinguished encoding rules (X.690 10, 11): reading and writing one value.
-ghost use Rattle.std.specs.Prelude.{IfOk, IfErr, ◌⊎◌};
+ghost use Rattle.std.specs.Prelude.{◌≡◌, [], IfOk, IfErr, OnOk, OnErr, ◌⊎◌, false};
+ghost use Rattle.std.specs.Fn.{FnOnceTakesAtMut};
 ghost use Rattle.rasn_types.specs.Bytes.{Bytes};
 ghost use Rattle.rasn_types.specs.Errors.{IsEncodeMemory};
 ghost use Rattle.rasn_types.specs.declared.types.rules.Codec.TheVariants.{Der};
-ghost use Rattle.rasn.specs.Headline.{Answered, AnsweredAlone, Identify};
+ghost use Rattle.rasn.specs.Headline.{Answered, AnsweredAlone, Identify, TakesWritten, IsAsWritten};
+ghost use Rattle.rasn_enc.specs.View.{started};
+ghost use Rattle.rasn_enc.specs.Primitives.{WantsMemory};
 ghost use Rattle.rasn_enc.specs.Wrote.{Undefined};
+ghost use Rattle.rasn_enc.specs.Writing.{WritesBehind, Refuses, Outputs};
 
 pub use crate::ber::{de, enc};
 use crate::entry;
 use rasn_de::ber::de::DecoderOptions;
 use rasn_de::de::Decode;
-use rasn_enc::ber::enc::EncoderOptions;
+use rasn_enc::ber::enc::{Encoder, EncoderOptions};
 use rasn_enc::enc::Encode;
 use rasn_types::error::{DecodeError, DecodeErrorKind, EncodeError};
 use rasn_types::types::Codec;
 use std::alloc::Global;
 
-/// The value that is all of the input.
+/// The value that is all of the input, which, for a carried value, is exactly what `encode` writes of it.
 ///
 /// # Errors
 /// `UnexpectedExtraData` where octets follow the value, with their number (X.690 8.1.1.1).
 pub fn decode<T: Decode>(alloc: Global, input: &[u8]) -> Result<T, DecodeError>
-    ensures { AnsweredAlone Der T.shape T.tree input.now result }
+    ensures exact { AnsweredAlone Der T.shape T.tree input.now result }
+    ensures written { IsAsWritten T.shape T.tree input.now result }
 {
     let (value, rest) = decode_with_remainder(alloc, input)?;
     if rest.is_empty() {
@@ -35,12 +40,14 @@ pub fn decode<T: Decode>(alloc: Global, input: &[u8]) -> Result<T, DecodeError>
 }
 
 /// The value that begins the input, and what follows it: exactly where the grammar relates the input to them. A refusal for
-/// another cause than memory means that no value begins the input.
+/// another cause than memory means that no value begins the input. The octets in front of the rest are, for a carried value, exactly
+/// those that `encode` writes of it: there is one encoding, and no other is read (X.690 10, 11).
 pub fn decode_with_remainder<T: Decode>(
     alloc: Global,
     input: &[u8],
 ) -> Result<(T, &[u8]), DecodeError>
-    ensures { Answered Der T.shape T.tree input.now result }
+    ensures exact { Answered Der T.shape T.tree input.now result }
+    ensures written { TakesWritten T.shape T.tree input.now result }
 {
     entry::decode_with_remainder(alloc, input, DecoderOptions::der())
 }
@@ -53,4 +60,32 @@ pub fn encode<T: Encode>(alloc: Global, value: &T) -> Result<Vec<u8>, EncodeErro
     ensures refused { IfErr result (λ error. IsEncodeMemory error.kind ⊎ Undefined Der T.shape (T.tree value.now)) }
 {
     entry::encode(alloc, value, EncoderOptions::der())
+}
+
+/// Puts the value's octets into the vector, in the place of what it holds. Where the value is refused, as `encode` says, the vector is
+/// empty.
+pub fn encode_buf<T: Encode>(
+    alloc: Global,
+    value: &T,
+    buffer: &mut Vec<u8>,
+) -> Result<(), EncodeError>
+    ensures ok { OnOk result (Bytes Der T.shape (T.tree value.now) buffer.new.items) }
+    ensures canonical { OnOk result (Identify T.shape (T.tree value.now) buffer.new.items) }
+    ensures err { OnErr result (buffer.new.items ≡ []) }
+    ensures refused { IfErr result (λ error. IsEncodeMemory error.kind ⊎ Undefined Der T.shape (T.tree value.now)) }
+{
+    entry::encode_buf(alloc, value, buffer, EncoderOptions::der())
+}
+
+/// The octets of the values that `values` writes, one behind the other. It may write any number of them, and refuses as it will.
+pub fn encode_scope<F: FnOnce(&mut Encoder) -> Result<(), EncodeError>>(
+    alloc: Global,
+    values: F,
+) -> Result<Vec<u8>, EncodeError>
+    requires callable { FnOnceTakesAtMut F.FnOnce values (started Der false) }
+    requires keeps { WritesBehind F.FnOnce values (started Der false) }
+    ensures ok { IfOk result (λ octets. Outputs F.FnOnce values Der octets.items) }
+    ensures refused { IfErr result (λ error. WantsMemory Der error ⊎ Refuses F.FnOnce values (started Der false) error) }
+{
+    entry::encode_scope(alloc, values, EncoderOptions::der())
 }

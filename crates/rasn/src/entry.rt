@@ -1,9 +1,13 @@
 //! What the three rules' entry points share.
-ghost use Rattle.std.specs.Prelude.{IfOk, IfErr, ◌⊎◌};
+ghost use Rattle.std.specs.Prelude.{◌≡◌, [], IfOk, IfErr, OnOk, OnErr, ◌⊎◌, false};
+ghost use Rattle.std.specs.Fn.{FnOnceTakesAtMut, FnOnceReturnsAtMut};
 ghost use Rattle.rasn_types.specs.Bytes.{Bytes};
 ghost use Rattle.rasn_types.specs.Errors.{IsEncodeMemory};
 ghost use Rattle.rasn.specs.Headline.{Answered};
+ghost use Rattle.rasn_enc.specs.View.{started};
+ghost use Rattle.rasn_enc.specs.Primitives.{WantsMemory};
 ghost use Rattle.rasn_enc.specs.Wrote.{Undefined};
+ghost use Rattle.rasn_enc.specs.Writing.{WritesBehind, Refuses, Outputs};
 
 use rasn_de::ber::de::{Decoder, DecoderOptions};
 use rasn_de::de::Decode;
@@ -11,6 +15,7 @@ use rasn_enc::ber::enc::{Encoder, EncoderOptions};
 use rasn_enc::enc::Encode;
 use rasn_types::error::{DecodeError, EncodeError};
 use std::alloc::Global;
+use std::mem;
 
 /// The value that begins the input, and what follows it.
 pub(crate) fn decode_with_remainder<T: Decode>(
@@ -34,7 +39,63 @@ pub(crate) fn encode<T: Encode>(
     ensures ok { IfOk result (λ octets. Bytes options T.shape (T.tree value.now) octets.items) }
     ensures refused { IfErr result (λ error. IsEncodeMemory error.kind ⊎ Undefined options T.shape (T.tree value.now)) }
 {
-    let mut encoder = Encoder::new(alloc, options)?;
+    encode_over(alloc, value, Vec::new(alloc), options)
+}
+
+// The value's octets, in this vector.
+fn encode_over<T: Encode>(
+    alloc: Global,
+    value: &T,
+    buffer: Vec<u8>,
+    options: EncoderOptions,
+) -> Result<Vec<u8>, EncodeError>
+    ensures ok { IfOk result (λ octets. Bytes options T.shape (T.tree value.now) octets.items) }
+    ensures refused { IfErr result (λ error. IsEncodeMemory error.kind ⊎ Undefined options T.shape (T.tree value.now)) }
+{
+    let mut encoder = Encoder::new_with_buffer(alloc, options, buffer)?;
     value.encode(&mut encoder)?;
     encoder.output()
+}
+
+/// Puts the value's octets into the vector, in the place of what it holds. Where the value is refused, it is empty.
+pub(crate) fn encode_buf<T: Encode>(
+    alloc: Global,
+    value: &T,
+    buffer: &mut Vec<u8>,
+    options: EncoderOptions,
+) -> Result<(), EncodeError>
+    ensures ok { OnOk result (Bytes options T.shape (T.tree value.now) buffer.new.items) }
+    ensures err { OnErr result (buffer.new.items ≡ []) }
+    ensures refused { IfErr result (λ error. IsEncodeMemory error.kind ⊎ Undefined options T.shape (T.tree value.now)) }
+{
+    let held = mem::replace(buffer, Vec::new(alloc));
+    *buffer = encode_over(alloc, value, held, options)?;
+    Ok(())
+}
+
+/// The octets of what `values` writes.
+pub(crate) fn encode_scope<F: FnOnce(&mut Encoder) -> Result<(), EncodeError>>(
+    alloc: Global,
+    values: F,
+    options: EncoderOptions,
+) -> Result<Vec<u8>, EncodeError>
+    requires callable { FnOnceTakesAtMut F.FnOnce values (started options false) }
+    requires keeps { WritesBehind F.FnOnce values (started options false) }
+    ensures ok { IfOk result (λ octets. Outputs F.FnOnce values options octets.items) }
+    ensures refused { IfErr result (λ error. WantsMemory options error ⊎ Refuses F.FnOnce values (started options false) error) }
+{
+    let mut encoder = Encoder::new(alloc, options)?;
+    run(&mut encoder, values)?;
+    encoder.output()
+}
+
+// The call of a closure that writes.
+fn run<F: FnOnce(&mut Encoder) -> Result<(), EncodeError>>(
+    encoder: &mut Encoder,
+    values: F,
+) -> Result<(), EncodeError>
+    requires { FnOnceTakesAtMut F.FnOnce values encoder.old }
+    ensures { FnOnceReturnsAtMut F.FnOnce values encoder.old result encoder.new }
+{
+    values(encoder)
 }

@@ -1,7 +1,10 @@
 //! The laws of the grammar, for every rule. Each is a promise about its definitions: the functions do nothing when they run.
 ghost use Rattle.rasn.specs.Laws.{OneLeaf, OneOpen, OnePrefix, OneChoice, OneOption, OneSequence, OneSet, OneSequenceOf, OneSetOf};
-ghost use Rattle.rasn.specs.Worked.{Worked};
-ghost use Rattle.rasn.specs.Laws.{OneReading, Included, ReadAgain, Canonical, WrittenOnce, OneEncoding, Turns};
+ghost use Rattle.rasn.specs.Worked.{Worked, WorkedStrict};
+ghost use Rattle.rasn.specs.WorkedShapes.{LawfulShapes};
+ghost use Rattle.rasn.specs.WorkedDepths.{WorkedDepths};
+ghost use Rattle.rasn.specs.WorkedValues.{WorkedValues, WorkedSets, WorkedOpens};
+ghost use Rattle.rasn.specs.Laws.{OneReading, Included, ReadAgain, Canonical, WrittenOnce, StrictDer, OnlyCarried, OneEncoding, Turns};
 
 /// An input is read as at most one value of a kind that holds no others, with one rest.
 pub fn one_leaf()
@@ -74,6 +77,16 @@ pub fn written_once()
     ensures { WrittenOnce }
 {}
 
+/// Of octets that DER reads as a carried value, those that are consumed are its DER octets.
+pub fn strict_der()
+    ensures { StrictDer }
+{}
+
+/// A value that DER reads, and that meets the depth, is carried, and the octets that are consumed are its DER octets.
+pub fn only_carried()
+    ensures { OnlyCarried }
+{}
+
 /// No whole encoding begins another, and the turns that pass one are determined.
 pub fn one_encoding()
     ensures { OneEncoding }
@@ -87,4 +100,34 @@ pub fn turns()
 /// Octets that were worked out by hand are read and written as they must be.
 pub fn worked_octets()
     ensures { Worked }
+{}
+
+/// Octets that are spelled otherwise than they are written are read under BER, and not under DER.
+pub fn worked_strict()
+    ensures { WorkedStrict }
+{}
+
+/// Shapes that are lawful, and shapes that aren't.
+pub fn lawful_shapes()
+    ensures { LawfulShapes }
+{}
+
+/// Values nested as deep as they may be are read, and those one deeper aren't.
+pub fn worked_depths()
+    ensures { WorkedDepths }
+{}
+
+/// Values that are carried, with their octets.
+pub fn worked_values()
+    ensures { WorkedValues }
+{}
+
+/// A SET and a SET OF are written in rising order alone.
+pub fn worked_sets()
+    ensures { WorkedSets }
+{}
+
+/// Open types, extension additions and CER's segments: what is read, written and carried.
+pub fn worked_opens()
+    ensures { WorkedOpens }
 {}

@@ -4,3 +4,4 @@ pub mod Groups
 pub mod Pairs
 pub mod Choices
 pub mod Colours
+pub mod Set3s

@@ -6,12 +6,10 @@ mod arguments;
 mod line;
 mod names;
 mod program;
-#[cfg(test)]
-mod tests;
 mod worked;
 
 pub use answer::Answer;
 pub use arguments::{Usage, file_of};
 pub use line::{Request, ValueType};
 pub use program::{RunFault, run};
-pub use worked::{Both, Colour, Foo, Pair};
+pub use worked::{Both, Colour, Foo, Group, Grouped, Pair, Set3, Time, Validity};

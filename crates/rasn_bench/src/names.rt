@@ -38,9 +38,22 @@ pub(crate) fn decode_error_name(kind: &DecodeErrorKind) -> &'static str
 fn codec_decode_error_name(inner: &CodecDecodeError) -> &'static str {
     match inner {
         CodecDecodeError::Ber(kind) => ber_decode_error_name(kind),
-        CodecDecodeError::Der(kind) => match kind {
-            DerDecodeErrorKind::ConstructedEncodingNotAllowed => "ConstructedEncodingNotAllowed",
-        },
+        CodecDecodeError::Der(kind) => der_decode_error_name(*kind),
+    }
+}
+
+fn der_decode_error_name(kind: DerDecodeErrorKind) -> &'static str {
+    match kind {
+        DerDecodeErrorKind::ConstructedEncodingNotAllowed => "ConstructedEncodingNotAllowed",
+        DerDecodeErrorKind::NonMinimalTagNumber => "NonMinimalTagNumber",
+        DerDecodeErrorKind::ConstructedBitMismatch => "ConstructedBitMismatch",
+        DerDecodeErrorKind::NonMinimalLength => "NonMinimalLength",
+        DerDecodeErrorKind::NonMinimalInteger => "NonMinimalInteger",
+        DerDecodeErrorKind::NonMinimalArc => "NonMinimalArc",
+        DerDecodeErrorKind::NonzeroUnusedBits => "NonzeroUnusedBits",
+        DerDecodeErrorKind::DefaultValuePresent => "DefaultValuePresent",
+        DerDecodeErrorKind::SetComponentsOutOfOrder => "SetComponentsOutOfOrder",
+        DerDecodeErrorKind::SetOfOutOfOrder => "SetOfOutOfOrder",
     }
 }
 

@@ -4,6 +4,7 @@ mod both;
 mod colour;
 mod grouped;
 mod pair;
+mod set3;
 mod time;
 
 pub use both::Both;
@@ -11,6 +12,7 @@ pub use colour::Colour;
 pub use grouped::{Group, Grouped};
 pub use pair::Pair;
 use rasn::types::Ia5String;
+pub use set3::Set3;
 pub use time::Time;
 
 /// SEQUENCE { name IA5String, truth BOOLEAN }

@@ -8,6 +8,7 @@ use Rattle.std.proofs.Common.{◌≡◌, ◌+◌, ℕ, zero, suc, Bool, List, re
 use Rattle.rasn_types.specs.declared.types.rules.Codec.{Codec}
 use Rattle.rasn_types.specs.declared.types.tag.Tag.{Tag}
 use Rattle.rasn_types.specs.declared.error.decode.DecodeErrorKind.{DecodeErrorKind}
+use Rattle.rasn_types.specs.Tags.{form}
 use Rattle.rasn_types.specs.Framing.{Next}
 use Rattle.rasn_types.specs.Shapes.{Tree, chosen, Shape, choice, Parts, part, IsFirst, IsFirstOf}
 use Rattle.rasn_types.specs.Shapes.Parts.{none}
@@ -21,9 +22,9 @@ use Rattle.rasn_de.specs.Choices.{IsOnly}
 use Rattle.rasn_de.proofs.Answering.{Exact-none, Exact-refusal}
 use Rattle.rasn_de.proofs.Ends.{IsEnd-refl}
 
-module _ (rule : Codec) (depth : ℕ) (closing : Bool) (input : List ℕ) (tag : Tag) (n : Next input tag) where
+module _ (rule : Codec) (depth : ℕ) (closing : Bool) (input : List ℕ) (tag : Tag) (n : Next (form rule) input tag) where
   -- What is read as a choice begins with the tag of an alternative.
-  is_first : (ps : Parts) (j : ℕ) (t : Tree) (rest : List ℕ) → ReadsChoice j (parts_of rule ps depth closing) input t rest → IsFirstOf ps tag
+  is_first : (ps : Parts) (j : ℕ) (t : Tree) (rest : List ℕ) → ReadsChoice (form rule) j (parts_of rule ps depth closing) input t rest → IsFirstOf ps tag
   unfolding parts_of
   is_first none j t rest h = absurd h
   is_first (part presence s ps) j t rest (inl (u, e, next, m, f, r)) = inl (subst (λ x. IsFirst s x) (next_one input next tag m n) f)
@@ -31,7 +32,7 @@ module _ (rule : Codec) (depth : ℕ) (closing : Bool) (input : List ℕ) (tag :
 
   -- The alternative is read as the choice.
   read_at : (ps : Parts) (j k i : ℕ) (s : Shape) → i ≡ j + k → IsOnly ps k s tag → (t : Tree) (rest : List ℕ) → Reads rule s depth closing input t rest
-      → ReadsChoice j (parts_of rule ps depth closing) input (chosen i t) rest
+      → ReadsChoice (form rule) j (parts_of rule ps depth closing) input (chosen i t) rest
   unfolding parts_of
   read_at none j k i s e o t rest r = absurd o
   read_at (part presence x ps) j zero i s e (same, first, others) t rest r =
@@ -39,7 +40,7 @@ module _ (rule : Codec) (depth : ℕ) (closing : Bool) (input : List ℕ) (tag :
   read_at (part presence x ps) j (suc k) i s e (not, o) t rest r = inr (read_at ps (suc j) k i s (omega arith) o t rest r)
 
   -- Nothing else is.
-  alone : (ps : Parts) (j k i : ℕ) (s : Shape) → i ≡ j + k → IsOnly ps k s tag → (v : Tree) (rest : List ℕ) → ReadsChoice j (parts_of rule ps depth closing) input v rest
+  alone : (ps : Parts) (j k i : ℕ) (s : Shape) → i ≡ j + k → IsOnly ps k s tag → (v : Tree) (rest : List ℕ) → ReadsChoice (form rule) j (parts_of rule ps depth closing) input v rest
       → (t : Tree) × (v ≡ chosen i t) × Reads rule s depth closing input t rest
   unfolding parts_of
   alone none j k i s e o v rest h = absurd o
@@ -49,7 +50,7 @@ module _ (rule : Codec) (depth : ℕ) (closing : Bool) (input : List ℕ) (tag :
   alone (part presence x ps) j (suc k) i s e (not, o) v rest (inl (u, f, next, m, g, r)) = absurd (not (subst (λ z. IsFirst x z) (next_one input next tag m n) g))
   alone (part presence x ps) j (suc k) i s e (not, o) v rest (inr h) = alone ps (suc j) k i s (omega arith) o v rest h
 
-module _ (ps : Parts) (k : ℕ) (s : Shape) (tag : Tag) {old : State} (n : Next old.rest tag) (o : IsOnly ps k s tag) where
+module _ (ps : Parts) (k : ℕ) (s : Shape) (tag : Tag) {old : State} (n : Next (form old.rule) old.rest tag) (o : IsOnly ps k s tag) where
   -- The alternative is read.
   pub alternative_got : {t : Tree} {new : State} → Answers (λ rule. Reads rule s) old (Got t new.rest) new → Answers (λ rule. Reads rule (choice ps)) old (Got (chosen k t) new.rest) new
   unfolding Reads
@@ -73,7 +74,7 @@ module _ (ps : Parts) (k : ℕ) (s : Shape) (tag : Tag) {old : State} (n : Next 
   }
 
 -- No alternative begins with the tag, and the decoder stays as it is.
-pub no_alternative : (ps : Parts) (tag : Tag) {old : State} → Next old.rest tag → (IsFirstOf ps tag → ⊥) → (kind : DecodeErrorKind) → Answers (λ rule. Reads rule (choice ps)) old (refusal kind) old
+pub no_alternative : (ps : Parts) (tag : Tag) {old : State} → Next (form old.rule) old.rest tag → (IsFirstOf ps tag → ⊥) → (kind : DecodeErrorKind) → Answers (λ rule. Reads rule (choice ps)) old (refusal kind) old
 unfolding Reads
 no_alternative ps tag {old} n others kind = record {
   stays = refl;

@@ -1,22 +1,26 @@
 -- A BIT STRING is read exactly where the grammar has one.
-use Rattle.std.proofs.Common.{◌≡◌, ◌≢◌, ◌≤◌, ◌<◌, ◌+◌, ◌-◌, ◌*◌, ◌^◌, ℕ, ◌⊎◌, inl, inr, Bool, false, List, [], ◌∷◌, ◌++◌, length, take, drop, Result, Ok, Err, refl, sym, ap, ◌∙◌, subst, arith}
+use Rattle.std.proofs.Common.{◌≡◌, ◌≢◌, ◌≤◌, ◌<◌, ◌+◌, ◌-◌, ◌*◌, ◌^◌, ℕ, ◌⊎◌, inl, inr, Bool, true, false, ◌&&◌, cond, List, [], ◌∷◌, ◌++◌, length, take, drop, Result, Ok, Err, refl, sym, ap, ◌∙◌, subst, arith}
 use Rattle.std.specs.Prelude.{nat_lt}
 use Rattle.std.proofs.lemmas.Bool.Decides.{nat_tests}
-use Rattle.std.proofs.lemmas.List.{length-append, length-drop, take-append-drop, take_at}
+use Rattle.std.proofs.lemmas.List.{length-append, length-drop, take-append-drop, take_at, drop_at}
 use Rattle.rasn_types.specs.declared.types.tag.Tag.{Tag}
 use Rattle.rasn_types.specs.declared.types.rules.Codec.{Codec}
+use Rattle.rasn_types.specs.declared.types.rules.Codec.TheVariants.{Ber, Cer, Der}
 use Rattle.rasn_types.specs.declared.types.constraints.Constraints.{Constraints}
 use Rattle.rasn_types.specs.declared.error.decode.DecodeError.{DecodeError}
 use Rattle.rasn_types.specs.Framing.{AreOctets}
 use Rattle.rasn_types.specs.Tags.{in_universal}
 use Rattle.rasn_types.specs.Shapes.{Tree, bits, leaf, bit_string, Admits, constraint_of}
-use Rattle.rasn_types.specs.Contents.{Str, BitSegment}
+use Rattle.rasn_types.specs.Tags.{IsStrict}
+use Rattle.rasn_types.specs.Contents.{Str, AllFalse, ReadBits}
 use Rattle.rasn_types.specs.Bits.{bits_in, but_last}
 use Rattle.rasn_types.specs.Grammar.{Reads, ReadsLeaf, IsBounded}
 use Rattle.rasn_types.proofs.Bits.{length-bits_in}
-use Rattle.rasn_de.specs.declared.ber.de.parser.Fault.TheVariants.{OutOfMemory, InvalidBitString, LengthExceedsPlatformWidth, SizeConstraintNotSatisfied}
+use Rattle.rasn_de.specs.declared.ber.de.parser.Fault.TheVariants.{OutOfMemory, InvalidBitString, LengthExceedsPlatformWidth, SizeConstraintNotSatisfied, Der}
+use Rattle.rasn_types.specs.declared.error.decode.DerDecodeErrorKind.TheVariants.{NonzeroUnusedBits}
+use Rattle.rasn_de.specs.Headers.{is_der}
 use Rattle.rasn_de.specs.Causes.{Cause, fault, kind_of}
-use Rattle.rasn_de.specs.BitStrings.{is_miscounted, segment_bits, bits_at, bits_tree, BitsAt, IsOversized, GaveBits, GathersBits}
+use Rattle.rasn_de.specs.BitStrings.{is_miscounted, last_bits, is_any_set, segment_bits, bits_at, bits_tree, BitsAt, IsOversized, GaveBits, GathersBits}
 use Rattle.rasn_de.specs.State.{State, at, IsEnd}
 use Rattle.rasn_de.specs.Taking.{ErrorOf}
 use Rattle.rasn_de.specs.Outcomes.{Exact, refusal}
@@ -39,42 +43,70 @@ miscounted : (u : ℕ) (octets : List ℕ) → u < 8 → u ≤ 8 * length octets
 miscounted u [] h k = let z : u ≡ 0 = omega arith in ap (nat_lt 0) z
 miscounted u (b ∷ l) h k = grind (arith, nat_tests)
 
-segment_there : (l : List ℕ) (bs : List Bool) → segment_bits l ≡ Ok bs → BitSegment l bs
-segment_there [] bs e = cc
-segment_there (u ∷ octets) bs e =
-    let g = guarded (is_miscounted u octets) (InvalidBitString u) (Ok (but_last u octets)) bs e in
-    let f = g.1 in
+-- bits of which none is set
+all_false : (bs : List Bool) → is_any_set bs ≡ false → AllFalse bs
+all_false [] e = tt
+all_false (true ∷ bs) e = cc
+all_false (false ∷ bs) e = (refl, all_false bs e)
+
+none_set : (bs : List Bool) → AllFalse bs → is_any_set bs ≡ false
+none_set [] h = refl
+none_set (true ∷ bs) (e, h) = cc
+none_set (false ∷ bs) (e, h) = none_set bs h
+
+unset_there : (rule : Codec) (bs : List Bool) → is_der rule && is_any_set bs ≡ false → IsStrict rule → AllFalse bs
+unset_there Ber bs e s = absurd s
+unset_there Cer bs e s = absurd s
+unset_there Der bs e s = all_false bs e
+
+unset : (rule : Codec) (bs : List Bool) → (IsStrict rule → AllFalse bs) → is_der rule && is_any_set bs ≡ false
+unset Ber bs h = refl
+unset Cer bs h = refl
+unset Der bs h = none_set bs (h tt)
+
+segment_there : (rule : Codec) (l : List ℕ) (bs : List Bool) → segment_bits rule l ≡ Ok bs → ReadBits rule l bs
+segment_there rule [] bs e = cc
+segment_there rule (u ∷ octets) bs e =
+    let unused = last_bits u octets in
+    let g = guarded (is_miscounted u octets) (InvalidBitString u) (cond (is_der rule && is_any_set unused) (Err (Der NonzeroUnusedBits)) (Ok (but_last u octets))) bs e in
+    let h = guarded (is_der rule && is_any_set unused) (Der NonzeroUnusedBits) (Ok (but_last u octets)) bs g.1 in
+    let f = h.1 in
     let m : but_last u octets ≡ bs = cc in
     let k = counted u octets g.0 in
-    let n : length (drop (8 * length octets - u) (bits_in octets)) ≡ u = length-drop (8 * length octets - u) (bits_in octets) ∙ omega (arith, length-bits_in octets, k.1) in
-    record {
-      octets = octets;
-      unused = drop (8 * length octets - u) (bits_in octets);
-      is = ap (λ z. z ∷ octets) (sym n);
-      few = omega (arith, n, k.0);
-      all = ap (λ z. z ++ drop (8 * length octets - u) (bits_in octets)) (sym m) ∙ take-append-drop (8 * length octets - u) (bits_in octets);
-    }
+    let n : length unused ≡ u = length-drop (8 * length octets - u) (bits_in octets) ∙ omega (arith, length-bits_in octets, k.1) in (
+      record {
+        octets = octets;
+        unused = unused;
+        is = ap (λ z. z ∷ octets) (sym n);
+        few = omega (arith, n, k.0);
+        all = ap (λ z. z ++ unused) (sym m) ∙ take-append-drop (8 * length octets - u) (bits_in octets);
+      },
+      unset_there rule unused h.0,
+    )
 
-segment_only : (l : List ℕ) (bs : List Bool) → BitSegment l bs → segment_bits l ≡ Ok bs
-segment_only l bs s =
+segment_only : (rule : Codec) (l : List ℕ) (bs : List Bool) → ReadBits rule l bs → segment_bits rule l ≡ Ok bs
+segment_only rule l bs (s, w) =
     let n = ap length s.all in
     let c : length bs + length s.unused ≡ 8 * length s.octets = sym (length-append bs s.unused) ∙ (n ∙ length-bits_in s.octets) in
+    let p : length bs ≡ 8 * length s.octets - length s.unused = omega (arith, c) in
     let m = miscounted (length s.unused) s.octets s.few (omega (arith, c)) in
-    let b : but_last (length s.unused) s.octets ≡ bs = ap (take (8 * length s.octets - length s.unused)) (sym s.all) ∙ take_at bs s.unused (8 * length s.octets - length s.unused) (omega (arith, c)) in
-    ap segment_bits s.is ∙ rw (m, b) refl
+    let b : but_last (length s.unused) s.octets ≡ bs = ap (take (8 * length s.octets - length s.unused)) (sym s.all) ∙ take_at bs s.unused (8 * length s.octets - length s.unused) p in
+    let u : last_bits (length s.unused) s.octets ≡ s.unused = ap (drop (8 * length s.octets - length s.unused)) (sym s.all) ∙ drop_at bs s.unused (8 * length s.octets - length s.unused) p in
+    let z : is_der rule && is_any_set (last_bits (length s.unused) s.octets) ≡ false = ap (λ y. is_der rule && is_any_set y) u ∙ unset rule s.unused w in
+    ap (segment_bits rule) s.is ∙ rw (m, z, b) refl
 
 -- ---- the whole string
 module _ (rule : Codec) (d : ℕ) (tag : Tag) (l : List ℕ) (o : AreOctets l) where
-  bits_there : (bs : List Bool) (r : List ℕ) → bits_at rule d tag l ≡ Ok (bs, r) → Str rule BitSegment (in_universal 3) d tag l bs r
+  bits_there : (bs : List Bool) (r : List ℕ) → bits_at rule d tag l ≡ Ok (bs, r) → Str rule (ReadBits rule) (in_universal 3) d tag l bs r
   bits_there bs r e =
-      string_map rule (ReadsBy segment_bits) BitSegment segment_there (in_universal 3) d tag l bs r (string_found rule segment_bits (in_universal 3) d tag l (bs, r) o e).0
+      string_map rule (ReadsBy (segment_bits rule)) (ReadBits rule) (segment_there rule) (in_universal 3) d tag l bs r (string_found rule (segment_bits rule) (in_universal 3) d tag l (bs, r) o e).0
 
-  bits_only : (bs : List Bool) (r : List ℕ) → Str rule BitSegment (in_universal 3) d tag l bs r → bits_at rule d tag l ≡ Ok (bs, r)
+  bits_only : (bs : List Bool) (r : List ℕ) → Str rule (ReadBits rule) (in_universal 3) d tag l bs r → bits_at rule d tag l ≡ Ok (bs, r)
   bits_only bs r s =
-      string_spelled rule segment_bits (in_universal 3) d tag l bs r o (string_map rule BitSegment (ReadsBy segment_bits) segment_only (in_universal 3) d tag l bs r s)
+      string_spelled rule (segment_bits rule) (in_universal 3) d tag l bs r o (string_map rule (ReadBits rule) (ReadsBy (segment_bits rule)) (segment_only rule) (in_universal 3) d tag l bs r s)
 
   pub bits_end : (bs : List Bool) (r : List ℕ) → bits_at rule d tag l ≡ Ok (bs, r) → IsEnd l r
-  bits_end bs r e = string_ends rule BitSegment (in_universal 3) d tag l bs r (bits_there bs r e)
+  bits_end bs r e = string_ends rule (ReadBits rule) (in_universal 3) d tag l bs r (bits_there bs r e)
 
 bits_agree : (bounds : Constraints) (rule : Codec) (depth : ℕ) (tag : Tag) (l : List ℕ) → AreOctets l → (r : Result (List Bool × List ℕ) (Cause × List ℕ)) → BitsAt bounds rule depth tag l r
     → Agrees (ReadsLeaf rule bit_string tag bounds depth) bits_tree l r

@@ -7,6 +7,7 @@ use Rattle.rasn_types.specs.declared.types.rules.Codec.{Codec}
 use Rattle.rasn_types.specs.declared.types.rules.Codec.TheVariants.{Ber, Cer, Der}
 use Rattle.rasn_types.specs.declared.error.decode.DecodeError.{DecodeError}
 use Rattle.rasn_types.specs.Framing.{AreOctets}
+use Rattle.rasn_types.specs.Tags.{IsStrict}
 use Rattle.rasn_types.specs.Shapes.{Tree, number, leaf, boolean}
 use Rattle.rasn_types.specs.Trees.{truth, bool_tree, unconstrained}
 use Rattle.rasn_types.specs.Contents.{Contents, IsBool}
@@ -57,9 +58,9 @@ one_found rule b x e = zero_case (chosen (nat_eq b 0) _ _ _ e)
     zero_case (inl (t, f)) = let k : b ≡ 0 = grind (arith, nat_tests) in subst (λ z. IsBool rule (b ∷ []) (truth z)) (ok_is false f) (at_zero rule k)
     zero_case (inr (t, f)) = let k : b ≢ 0 = grind (arith, nat_tests) in full_case k (chosen (nat_eq b 255) _ _ _ f)
 
-bool_found : (rule : Codec) (c : List ℕ) (x : Bool) → AreOctets c → as_cause (bool_in rule c) ≡ Ok x → Contents rule boolean c (bool_tree x) × Unit {0}
+bool_found : (rule : Codec) (c : List ℕ) (x : Bool) → AreOctets c → as_cause (bool_in rule c) ≡ Ok x → Contents rule boolean c (bool_tree x) × (IsStrict rule → Unit {0}) × Unit {0}
 bool_found rule [] x o e = cc
-bool_found rule (b ∷ []) x o e = ((truth x, refl, one_found rule b x (cause_ok (bool_in rule (b ∷ [])) x e)), tt)
+bool_found rule (b ∷ []) x o e = ((truth x, refl, one_found rule b x (cause_ok (bool_in rule (b ∷ [])) x e)), (λ s. tt), tt)
 bool_found rule (b ∷ d ∷ l) x o e = cc
 
 bool_ber : (b : ℕ) → b ≢ 0 → bool_in Ber (b ∷ []) ≡ Ok true
@@ -81,8 +82,8 @@ bool_spelled Der c t o (z, e, inr (f, h)) u = (true, rw f refl, e ∙ ap number 
 bool_only : (rule : Codec) (c : List ℕ) (x : Bool) (t : Tree) → AreOctets c → as_cause (bool_in rule c) ≡ Ok x → Contents rule boolean c t → Unit {0} → t ≡ bool_tree x
 bool_only rule c x t o e k u = let s = bool_spelled rule c t o k u in let f = s.1 in let z : s.0 ≡ x = cc in s.2 ∙ ap bool_tree z
 
-bool_none : (rule : Codec) (c : List ℕ) (e : Cause) (t : Tree) → AreOctets c → as_cause (bool_in rule c) ≡ Err e → Contents rule boolean c t → Unit {0} → ⊥
-bool_none rule c e t o f k u = let s = bool_spelled rule c t o k u in let g = s.1 in cc
+bool_none : (rule : Codec) (c : List ℕ) (e : Cause) (t : Tree) → AreOctets c → as_cause (bool_in rule c) ≡ Err e → Contents rule boolean c t → (IsStrict rule → Unit {0}) → Unit {0} → ⊥
+bool_none rule c e t o f k n u = let s = bool_spelled rule c t o k u in let g = s.1 in cc
 
 pub bool_decodes : (tag : Tag) (old new : State) (result : Result Bool DecodeError) → AreOctets old.rest → Gave (λ b. b) (BoolAt old.rule tag old.rest) old result new → Decodes (leaf boolean tag unconstrained) bool_tree old result new
 unfolding Reads

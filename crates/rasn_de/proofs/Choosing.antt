@@ -3,36 +3,36 @@ use Rattle.std.proofs.Common.{◌≡◌, inl, inr, ℕ, Bool, suc, List, [], ◌
 use Rattle.rasn_types.specs.declared.types.rules.Codec.{Codec}
 use Rattle.rasn_types.specs.declared.types.tag.Tag.{Tag}
 use Rattle.rasn_types.specs.declared.error.decode.DecodeError.{DecodeError}
+use Rattle.rasn_types.specs.Tags.{Form, form}
 use Rattle.rasn_types.specs.Framing.{Next}
 use Rattle.rasn_types.specs.Shapes.{Tree, Shape, choice, Parts}
 use Rattle.rasn_types.specs.Readers.{Part, ReadsChoice}
 use Rattle.rasn_types.specs.Grammar.{Reads, parts_of}
-use Rattle.rasn_de.specs.Headers.{identifier_at}
 use Rattle.rasn_de.specs.State.{State}
 use Rattle.rasn_de.specs.Decodes.{Decodes}
 use Rattle.rasn_de.specs.Choices.{ReadChosen}
 use Rattle.rasn_de.proofs.Answering.{Exact-none}
 use Rattle.rasn_de.proofs.Ends.{IsEnd-refl}
-use Rattle.rasn_de.proofs.Perhaps.{found_none}
+use Rattle.rasn_de.proofs.Perhaps.{peeks_none}
 
-choice_next : (k : ℕ) (ps : List Part) (input : List ℕ) (t : Tree) (rest : List ℕ) → ReadsChoice k ps input t rest → (next : Tag) × Next input next
-choice_next k [] input t rest h = absurd h
-choice_next k (p ∷ ps) input t rest (inl (u, e, next, n, f, r)) = (next, n)
-choice_next k (p ∷ ps) input t rest (inr h) = choice_next (suc k) ps input t rest h
+choice_next : (spelling : Form) (k : ℕ) (ps : List Part) (input : List ℕ) (t : Tree) (rest : List ℕ) → ReadsChoice spelling k ps input t rest → (next : Tag) × Next spelling input next
+choice_next spelling k [] input t rest h = absurd h
+choice_next spelling k (p ∷ ps) input t rest (inl (u, e, next, n, f, r)) = (next, n)
+choice_next spelling k (p ∷ ps) input t rest (inr h) = choice_next spelling (suc k) ps input t rest h
 
-choice_none : (rule : Codec) (s : Shape) (ps : Parts) → s ≡ choice ps → (depth : ℕ) (closing : Bool) (input : List ℕ) → ((next : Tag) → Next input next → ⊥)
+choice_none : (rule : Codec) (s : Shape) (ps : Parts) → s ≡ choice ps → (depth : ℕ) (closing : Bool) (input : List ℕ) → ((next : Tag) → Next (form rule) input next → ⊥)
     → (t : Tree) (rest : List ℕ) → Reads rule s depth closing input t rest → ⊥
 unfolding Reads
 choice_none rule s ps e depth closing input n t rest h =
-    let c = choice_next 0 (parts_of rule ps depth closing) input t rest (subst (λ z. Reads rule z depth closing input t rest) e h) in
+    let c = choice_next (form rule) 0 (parts_of rule ps depth closing) input t rest (subst (λ z. Reads rule z depth closing input t rest) e h) in
     n c.0 c.1
 
 pub choice_decodes : {D : Type 0} (s : Shape) (ps : Parts) → s ≡ choice ps → (tree : D → Tree) (old : State) (result : Result D DecodeError) (new : State) → ReadChosen (Decodes s tree) old result new → Decodes s tree old result new
 choice_decodes s ps c tree old (Ok v) new (tag, n, k) = k
-choice_decodes s ps c tree old (Err e) new (inl ((f, p, w), q)) = subst (λ n. Decodes s tree old (Err e) n) (sym q) (record {
+choice_decodes s ps c tree old (Err e) new (inl (p, q)) = subst (λ n. Decodes s tree old (Err e) n) (sym q) (record {
   stays = refl;
   end = IsEnd-refl old.rest;
   exact = Exact-none e.kind (Reads old.rule s old.depth old.closing) old.rest
-      (choice_none old.rule s ps c old.depth old.closing old.rest (λ next n. found_none old.rest (identifier_at old.rest) refl f p next n));
+      (choice_none old.rule s ps c old.depth old.closing old.rest (peeks_none old e p));
 })
 choice_decodes s ps c tree old (Err e) new (inr (tag, n, k)) = k

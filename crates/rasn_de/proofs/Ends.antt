@@ -1,7 +1,7 @@
 -- Ends of lists.
-use Rattle.std.proofs.Common.{◌≡◌, ℕ, Bool, List, [], ◌∷◌, ◌++◌, Option, Ok, refl, sym, ap, ◌∙◌, append_assoc}
+use Rattle.std.proofs.Common.{◌≡◌, ℕ, Bool, List, [], ◌∷◌, ◌++◌, Ok, refl, sym, ap, ◌∙◌, append_assoc}
 use Rattle.rasn_types.specs.declared.types.tag.Tag.{Tag}
-use Rattle.rasn_types.specs.declared.types.rules.Codec.{Codec}
+use Rattle.rasn_de.specs.declared.ber.de.parser.headers.Expected.{Expected}
 use Rattle.rasn_types.specs.Tags.{Form}
 use Rattle.rasn_types.specs.Framing.{AreOctets, Extent, Frame, with_length, without_length}
 use Rattle.rasn_de.specs.Headers.{Header, header_at}
@@ -23,5 +23,5 @@ IsEnd-frame input {rest = rest} (with_length id len contents s a strict e) =
     (id ++ (len ++ contents), e ∙ ap (λ z. id ++ z) (sym (append_assoc len contents rest)) ∙ sym (append_assoc id (len ++ contents) rest))
 IsEnd-frame input {rest = rest} (without_length id s b h e) = (id ++ (128 ∷ []), e ∙ sym (append_assoc id (128 ∷ []) rest))
 
-pub IsEnd-header : (rule : Codec) (expected : Option Tag) (input : List ℕ) (h : Header) → AreOctets input → header_at rule expected input ≡ Ok h → IsEnd input h.rest
-IsEnd-header rule expected input h o e = IsEnd-frame input (header_found rule expected input h o e).0
+pub IsEnd-header : (spelling : Form) (expected : Expected) (input : List ℕ) (h : Header) → AreOctets input → header_at spelling expected input ≡ Ok h → IsEnd input h.rest
+IsEnd-header spelling expected input h o e = IsEnd-frame input (header_found spelling expected input h o e).0

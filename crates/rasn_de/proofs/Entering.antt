@@ -1,5 +1,5 @@
 -- The steps by which values are opened and closed.
-use Rattle.std.proofs.Common.{◌≡◌, ◌≢◌, ℕ, true, false, ◌&&◌, not, List, [], ◌∷◌, Some, Result, Ok, Err, refl, sym, ap, ◌∙◌, subst, arith}
+use Rattle.std.proofs.Common.{◌≡◌, ◌≢◌, ℕ, true, false, ◌&&◌, not, List, [], ◌∷◌, Result, Ok, Err, refl, sym, ap, ◌∙◌, subst, arith}
 use Rattle.std.specs.Prelude.{nat_eq}
 use Rattle.std.proofs.lemmas.Bool.Decides.{nat_tests}
 use Rattle.rasn_types.specs.declared.types.rules.Codec.{Codec}
@@ -9,12 +9,14 @@ use Rattle.rasn_types.specs.Numbered.{constructed_bit}
 use Rattle.rasn_de.specs.declared.ber.de.parser.Fault.{Fault}
 use Rattle.rasn_de.specs.declared.ber.de.parser.Fault.TheVariants.{ExceedsMaxParseDepth, InvalidConstructedIdentifier}
 use Rattle.rasn_de.specs.declared.ber.de.parser.Value.{Value}
+use Rattle.rasn_de.specs.declared.ber.de.parser.headers.Expected.{Expected}
 use Rattle.rasn_de.specs.Headers.{Header, header_at}
 use Rattle.rasn_de.specs.Strings.{finished, used_up}
 use Rattle.rasn_de.specs.Views.{framed}
 use Rattle.rasn_de.specs.State.{State, at, IsEnd}
 use Rattle.rasn_de.specs.Taking.{ErrorOf, Takes}
-use Rattle.rasn_de.specs.Inside.{Door, door_at, through, Keeps, Closes}
+use Rattle.rasn_types.specs.Tags.{form}
+use Rattle.rasn_de.specs.Inside.{Door, asks, door_at, through, Keeps, Closes}
 use Rattle.rasn_de.specs.Doors.{Enters}
 use Rattle.rasn_de.proofs.Ends.{IsEnd-refl, IsEnd-trans, IsEnd-zeros}
 use Rattle.rasn_de.proofs.Strs.{closed_found}
@@ -31,23 +33,27 @@ kept_at old new r e p = subst (Keeps old) (sym e) (record { stays = refl; end = 
 deep_enough : (depth : ℕ) → depth ≢ 0 → nat_eq depth 0 ≡ false
 deep_enough depth n = grind (arith, nat_tests)
 
-door_through : (d : Door) (rule : Codec) (depth : ℕ) (l : List ℕ) (r : Result Header Fault) → depth ≢ 0 → header_at rule (Some d.tag) l ≡ r → door_at d rule depth l ≡ through d.needed l r
+door_through : (d : Door) (rule : Codec) (depth : ℕ) (l : List ℕ) (r : Result Header Fault) → depth ≢ 0 → header_at (form rule) (asks d rule) l ≡ r → door_at d rule depth l ≡ through d.needed l r
 door_through d rule depth l r n e = rw (deep_enough depth n, e) refl
+
+-- the header that the door asks for
+asked_there : (d : Door) (old : State) (x : Expected) (r : Result Header Fault) → x ≡ asks d old.rule → header_at (form old.rule) x old.rest ≡ r → header_at (form old.rule) (asks d old.rule) old.rest ≡ r
+asked_there d old x r q h = subst (λ z. header_at (form old.rule) z old.rest ≡ r) q h
 
 pub enters_deep : (d : Door) (old : State) (e : DecodeError) → old.depth ≡ 0 → ErrorOf ExceedsMaxParseDepth old e → Enters d old (Err e) old
 enters_deep d old e z k = (ExceedsMaxParseDepth, rw z refl, k, kept old)
 
-pub enters_none : (d : Door) (old new : State) (e : DecodeError) → old.depth ≢ 0 → Takes d.tag old (Err e) new → Enters d old (Err e) new
-enters_none d old new e n (f, h, k, s) =
-    (f, door_through d old.rule old.depth old.rest (Err f) n h ∙ ap (λ (z : State). Err (f, z.rest)) (sym s), k, kept_same old new s)
+pub enters_none : (d : Door) (old new : State) (e : DecodeError) → old.depth ≢ 0 → (x : Expected) → x ≡ asks d old.rule → Takes x old (Err e) new → Enters d old (Err e) new
+enters_none d old new e n x q (f, h, k, s) =
+    (f, door_through d old.rule old.depth old.rest (Err f) n (asked_there d old x (Err f) q h) ∙ ap (λ (z : State). Err (f, z.rest)) (sym s), k, kept_same old new s)
 
-pub enters_primitive : (d : Door) (old new : State) (v : Value) (e : DecodeError) → old.depth ≢ 0 → Takes d.tag old (Ok v) new → d.needed && not (constructed_bit v.identifier) ≡ true → ErrorOf InvalidConstructedIdentifier new e → Enters d old (Err e) new
-enters_primitive d old new v e n (h, s, p) b k =
-    (InvalidConstructedIdentifier, door_through d old.rule old.depth old.rest (Ok (framed v new.rest)) n h ∙ rw b refl, k ∙ ap (λ c. record { kind = Rattle.rasn_de.specs.Causes.kind_of InvalidConstructedIdentifier; codec = c }) (ap (λ (x : State). x.rule) s), record { stays = s; end = p })
+pub enters_primitive : (d : Door) (old new : State) (v : Value) (e : DecodeError) → old.depth ≢ 0 → (x : Expected) → x ≡ asks d old.rule → Takes x old (Ok v) new → d.needed && not (constructed_bit v.identifier) ≡ true → ErrorOf InvalidConstructedIdentifier new e → Enters d old (Err e) new
+enters_primitive d old new v e n x q (h, s, p) b k =
+    (InvalidConstructedIdentifier, door_through d old.rule old.depth old.rest (Ok (framed v new.rest)) n (asked_there d old x (Ok (framed v new.rest)) q h) ∙ rw b refl, k ∙ ap (λ c. record { kind = Rattle.rasn_de.specs.Causes.kind_of InvalidConstructedIdentifier; codec = c }) (ap (λ (x : State). x.rule) s), record { stays = s; end = p })
 
-pub enters_value : (d : Door) (old new : State) (v : Value) → old.depth ≢ 0 → Takes d.tag old (Ok v) new → d.needed && not (constructed_bit v.identifier) ≡ false → Enters d old (Ok v) new
-enters_value d old new v n (h, s, p) b =
-    (door_through d old.rule old.depth old.rest (Ok (framed v new.rest)) n h ∙ rw b refl, record { stays = s; end = p })
+pub enters_value : (d : Door) (old new : State) (v : Value) → old.depth ≢ 0 → (x : Expected) → x ≡ asks d old.rule → Takes x old (Ok v) new → d.needed && not (constructed_bit v.identifier) ≡ false → Enters d old (Ok v) new
+enters_value d old new v n x q (h, s, p) b =
+    (door_through d old.rule old.depth old.rest (Ok (framed v new.rest)) n (asked_there d old x (Ok (framed v new.rest)) q h) ∙ rw b refl, record { stays = s; end = p })
 
 -- Where a value is closed, an end of what is left is.
 used_up_rest : (rest left r : List ℕ) → used_up rest left ≡ Ok r → r ≡ rest

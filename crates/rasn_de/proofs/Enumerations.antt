@@ -21,11 +21,11 @@ use Rattle.rasn_de.specs.Taking.{ErrorOf}
 use Rattle.rasn_de.specs.Decodes.{Decodes}
 use Rattle.rasn_de.proofs.Answering.{Exact-none, Exact-refusal}
 use Rattle.rasn_de.proofs.Refusals.{refuses_fault}
-use Rattle.rasn_de.proofs.Starving.{IsPlainCause, leaf_plain}
+use Rattle.rasn_de.proofs.Starving.{IsPlainCause, leaf_plain, lacks_plain}
 
 -- a whole number of 64 bits
-abbrev pub Number : List ℕ → Result ℤ Cause → Type 0
-Number c r = IntegerIn 64 (signed_range 64) unconstrained c r
+abbrev pub Number : Codec → List ℕ → Result ℤ Cause → Type 0
+Number rule c r = IntegerIn rule 64 (signed_range 64) unconstrained c r
 
 abbrev pub NumberAt : Codec → Tag → List ℕ → Result (ℤ × List ℕ) (Cause × List ℕ) → Type 0
 NumberAt rule tag l r = IntegerAt 64 (signed_range 64) unconstrained rule tag l r
@@ -34,45 +34,45 @@ fits_64 : (z : ℤ) → IsIn (signed_range 64) z → FitsSigned w64 z
 fits_64 (pos n) (low, high) = record { sfits = omega (arith, ints) }
 fits_64 (negsuc n) (low, high) = record { sfits = omega (arith, ints) }
 
-number_kept : (d : Result (List ℕ × List ℕ) (Cause × List ℕ)) (z : ℤ) (rest : List ℕ) → FromContents Number d (Ok (z, rest)) → to_z w64 (of_z w64 z) ≡ z
-number_kept (Ok p) z rest ((n, i, a, e), g) = to_z-of_z w64 z (fits_64 z (subst (λ y. IsIn (signed_range 64) y) (sym e) i))
-number_kept (Err d) z rest h = cc
+number_kept : (rule : Codec) (d : Result (List ℕ × List ℕ) (Cause × List ℕ)) (z : ℤ) (rest : List ℕ) → FromContents (Number rule) d (Ok (z, rest)) → to_z w64 (of_z w64 z) ≡ z
+number_kept rule (Ok p) z rest ((n, i, a, e), g) = to_z-of_z w64 z (fits_64 z (subst (λ y. IsIn (signed_range 64) y) (sym e) i))
+number_kept rule (Err d) z rest h = cc
 
 -- A number that was read is handed on as it is.
 pub handed_on : (rule : Codec) (tag : Tag) (l : List ℕ) (z : ℤ) (rest : List ℕ) → NumberAt rule tag l (Ok (z, rest)) → to_z w64 (of_z w64 z) ≡ z
-handed_on rule tag l z rest h = number_kept (definite_at rule tag l) z rest h
+handed_on rule tag l z rest h = number_kept rule (definite_at rule tag l) z rest h
 
 module _ (known : List ℤ) where
   -- What refuses a number refuses the named number.
-  number_refused : (d : Result (List ℕ × List ℕ) (Cause × List ℕ)) (e : Cause) (rest : List ℕ) → FromContents Number d (Err (e, rest)) → FromContents (EnumeratedIn known) d (Err (e, rest))
-  number_refused (Ok p) (fault f) rest (inl h, g) = (inl h, g)
-  number_refused (Ok p) (fault f) rest (inr h, g) = (inr (inl h), g)
-  number_refused (Ok p) (out_of_bound z bound) rest ((n, i, a, e, f), g) = absurd (a tt)
-  number_refused (Err d) e rest h = h
+  number_refused : (rule : Codec) (d : Result (List ℕ × List ℕ) (Cause × List ℕ)) (e : Cause) (rest : List ℕ) → FromContents (Number rule) d (Err (e, rest)) → FromContents (EnumeratedIn rule known) d (Err (e, rest))
+  number_refused rule (Ok p) (fault f) rest (inl h, g) = (inl h, g)
+  number_refused rule (Ok p) (fault f) rest (inr h, g) = (inr (inl h), g)
+  number_refused rule (Ok p) (out_of_bound z bound) rest ((n, i, a, e, f), g) = absurd (a tt)
+  number_refused rule (Err d) e rest h = h
 
-  number_named : (d : Result (List ℕ × List ℕ) (Cause × List ℕ)) (z w : ℤ) (rest : List ℕ) → FromContents Number d (Ok (z, rest)) → w ≡ z → Contains known w → FromContents (EnumeratedIn known) d (Ok (w, rest))
-  number_named (Ok p) z w rest ((n, i, a, e), g) f k = ((n, subst (Contains known) (f ∙ e) k, f ∙ e), g)
-  number_named (Err d) z w rest h f k = cc
+  number_named : (rule : Codec) (d : Result (List ℕ × List ℕ) (Cause × List ℕ)) (z w : ℤ) (rest : List ℕ) → FromContents (Number rule) d (Ok (z, rest)) → w ≡ z → Contains known w → FromContents (EnumeratedIn rule known) d (Ok (w, rest))
+  number_named rule (Ok p) z w rest ((n, i, a, e), g) f k = ((n, subst (Contains known) (f ∙ e) k, f ∙ e), g)
+  number_named rule (Err d) z w rest h f k = cc
 
-  number_unnamed : (d : Result (List ℕ × List ℕ) (Cause × List ℕ)) (z : ℤ) (rest : List ℕ) → FromContents Number d (Ok (z, rest)) → (Contains known z → ⊥)
-      → FromContents (EnumeratedIn known) d (Err (fault (DiscriminantValueNotFound z), rest))
-  number_unnamed (Ok p) z rest ((n, i, a, e), g) k = (inr (inr (n, i, (λ c. k (subst (Contains known) (sym e) c)), ap DiscriminantValueNotFound e)), g)
-  number_unnamed (Err d) z rest h k = cc
+  number_unnamed : (rule : Codec) (d : Result (List ℕ × List ℕ) (Cause × List ℕ)) (z : ℤ) (rest : List ℕ) → FromContents (Number rule) d (Ok (z, rest)) → (Contains known z → ⊥)
+      → FromContents (EnumeratedIn rule known) d (Err (fault (DiscriminantValueNotFound z), rest))
+  number_unnamed rule (Ok p) z rest ((n, i, a, e), g) k = (inr (inr (n, i, (λ c. k (subst (Contains known) (sym e) c)), ap DiscriminantValueNotFound e)), g)
+  number_unnamed rule (Err d) z rest h k = cc
 
   pub enumerated_refused : {X : Type 0} (see : X → ℤ) (tag : Tag) (old new : State) (e : DecodeError) → GaveInteger {X = X} see (false ≡ true) tag (NumberAt old.rule tag old.rest) old (Err e) new
       → Refuses (EnumeratedAt known old.rule tag old.rest) old e new
   enumerated_refused see tag old new e (inl (m, g, h, s, c, d)) = cc
-  enumerated_refused see tag old new e (inr (cause, f, t, c, s)) = (cause, number_refused (definite_at old.rule tag old.rest) cause new.rest f, t, c, s)
+  enumerated_refused see tag old new e (inr (cause, f, t, c, s)) = (cause, number_refused old.rule (definite_at old.rule tag old.rest) cause new.rest f, t, c, s)
 
   pub enumerated_named : {E : Type 0} (see : E → ℤ) (tag : Tag) (old new : State) (z : ℤ) (v : E) → NumberAt old.rule tag old.rest (Ok (z, new.rest)) → new ≡ at old new.rest → see v ≡ z → Contains known (see v)
       → Gave see (EnumeratedAt known old.rule tag old.rest) old (Ok v) new
-  enumerated_named see tag old new z v h s e k = (number_named (definite_at old.rule tag old.rest) z (see v) new.rest h e k, s)
+  enumerated_named see tag old new z v h s e k = (number_named old.rule (definite_at old.rule tag old.rest) z (see v) new.rest h e k, s)
 
   pub enumerated_unnamed : (tag : Tag) (old new : State) (y z : ℤ) (e : DecodeError) → y ≡ z → NumberAt old.rule tag old.rest (Ok (z, new.rest)) → new ≡ at old new.rest → (Contains known y → ⊥)
       → ErrorOf (DiscriminantValueNotFound y) new e → Refuses (EnumeratedAt known old.rule tag old.rest) old e new
   enumerated_unnamed tag old new y z e i h s k d =
       refuses_fault (EnumeratedAt known old.rule tag old.rest) old new (DiscriminantValueNotFound z) e
-      (number_unnamed (definite_at old.rule tag old.rest) z new.rest h (subst (λ x. Contains known x → ⊥) i k)) s (subst (λ x. ErrorOf (DiscriminantValueNotFound x) new e) i d)
+      (number_unnamed old.rule (definite_at old.rule tag old.rest) z new.rest h (subst (λ x. Contains known x → ⊥) i k)) s (subst (λ x. ErrorOf (DiscriminantValueNotFound x) new e) i d)
 
   module _ (fits : fit_isize known ≡ true) (tag : Tag) where
     -- A named number is one of 64 bits.
@@ -130,12 +130,12 @@ module _ (known : List ℤ) where
           (λ h t s r. h t s (named_reads old.rule old.depth old.closing old.rest t s r)) d.exact;
     }
 
-  enumerated_plain : (c : List ℕ) (e : Cause) → EnumeratedIn known c (Err e) → IsPlainCause e
-  enumerated_plain c (fault f) (inl (e, g)) = λ h. cc
-  enumerated_plain c (fault f) (inr (inl (n, i, g))) = λ h. cc
-  enumerated_plain c (fault f) (inr (inr (n, i, k, g))) = λ h. cc
-  enumerated_plain c (out_of_bound z bound) b = b
+  enumerated_plain : (rule : Codec) (c : List ℕ) (e : Cause) → EnumeratedIn rule known c (Err e) → IsPlainCause e
+  enumerated_plain rule c (fault f) (inl h) = lacks_plain rule c f h
+  enumerated_plain rule c (fault f) (inr (inl (n, i, g))) = λ h. cc
+  enumerated_plain rule c (fault f) (inr (inr (n, i, k, g))) = λ h. cc
+  enumerated_plain rule c (out_of_bound z bound) b = b
 
   -- No memory is taken.
   pub enumerated_memory : (tag : Tag) (old new : State) (e : DecodeError) → Refuses (EnumeratedAt known old.rule tag old.rest) old e new → IsMemory e.kind → ⊥
-  enumerated_memory tag old new e r = leaf_plain (EnumeratedIn known) enumerated_plain tag old new e r
+  enumerated_memory tag old new e r = leaf_plain (EnumeratedIn old.rule known) (enumerated_plain old.rule) tag old new e r

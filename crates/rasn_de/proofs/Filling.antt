@@ -104,44 +104,44 @@ bare_or true input = inr (λ e. let f = e.0 in cc)
 bare_or false [] = inl (refl, refl)
 bare_or false (b ∷ l) = inr (λ e. let f = e.1 in cc)
 
-none_exact : (closing : Bool) (input : List ℕ) (t : Tree) → t ≡ items [] → Exact (ReadsSeq [] closing) input (Got t input)
-none_exact closing input t e = (there (bare_or closing input), only)
+none_exact : (rule : Codec) (closing : Bool) (input : List ℕ) (t : Tree) → t ≡ items [] → Exact (ReadsSeq rule [] closing) input (Got t input)
+none_exact rule closing input t e = (there (bare_or closing input), only)
   where
-    there : ((closing ≡ false) × (input ≡ [])) ⊎ ((closing ≡ false) × (input ≡ []) → ⊥) → ReadsSeq [] closing input t input
+    there : ((closing ≡ false) × (input ≡ [])) ⊎ ((closing ≡ false) × (input ≡ []) → ⊥) → ReadsSeq rule [] closing input t input
     there (inl b) = ([], e, inl (((λ h. h), b.0, b.1), refl, refl))
     there (inr n) = ([], e, inr ((λ b. n (b.1, b.2)), (refl, refl)))
 
-    only : (u : Tree) (s : List ℕ) → ReadsSeq [] closing input u s → (u ≡ t) × (s ≡ input)
+    only : (u : Tree) (s : List ℕ) → ReadsSeq rule [] closing input u s → (u ≡ t) × (s ≡ input)
     only u s (ts, f, inl (b, m, r)) = (f ∙ ap items m ∙ sym e, r)
     only u s (ts, f, inr (b, (m, r))) = (f ∙ ap items m ∙ sym e, r)
 
-bare_exact : (ps : List Part) (t : Tree) (ts : List Tree) → (HasRequired ps → ⊥) → t ≡ items ts → AllMissing ps ts → Exact (ReadsSeq ps false) [] (Got t [])
-bare_exact ps t ts n e m = ((ts, e, inl ((n, refl, refl), m, refl)), only)
+bare_exact : (rule : Codec) (ps : List Part) (t : Tree) (ts : List Tree) → (HasRequired ps → ⊥) → t ≡ items ts → AllMissing ps ts → Exact (ReadsSeq rule ps false) [] (Got t [])
+bare_exact rule ps t ts n e m = ((ts, e, inl ((n, refl, refl), m, refl)), only)
   where
-    only : (u : Tree) (s : List ℕ) → ReadsSeq ps false [] u s → (u ≡ t) × (s ≡ [])
+    only : (u : Tree) (s : List ℕ) → ReadsSeq rule ps false [] u s → (u ≡ t) × (s ≡ [])
     only u s (us, f, inl (b, k, r)) = (f ∙ ap items (all_missing_one ps us ts k m) ∙ sym e, r)
     only u s (us, f, inr (b, k)) = absurd (b (n, refl, refl))
 
-parts_exact : (ps : List Part) (closing : Bool) (input : List ℕ) (o : Outcome) → (IsBare ps closing input → ⊥)
-    → Exact (λ i t r. (ts : List Tree) × (t ≡ items ts) × InOrder ps closing i ts r) input o → Exact (ReadsSeq ps closing) input o
-parts_exact ps closing input (Got t r) n (x, u) = ((x.0, x.1, inr (n, x.2)), only)
+parts_exact : (rule : Codec) (ps : List Part) (closing : Bool) (input : List ℕ) (o : Outcome) → (IsBare ps closing input → ⊥)
+    → Exact (λ i t r. (ts : List Tree) × (t ≡ items ts) × InOrder rule ps closing i ts r) input o → Exact (ReadsSeq rule ps closing) input o
+parts_exact rule ps closing input (Got t r) n (x, u) = ((x.0, x.1, inr (n, x.2)), only)
   where
-    only : (v : Tree) (s : List ℕ) → ReadsSeq ps closing input v s → (v ≡ t) × (s ≡ r)
+    only : (v : Tree) (s : List ℕ) → ReadsSeq rule ps closing input v s → (v ≡ t) × (s ≡ r)
     only v s (ts, f, inl (b, m, k)) = absurd (n b)
     only v s (ts, f, inr (b, k)) = u v s (ts, f, k)
-parts_exact ps closing input Rattle.rasn_de.specs.Outcomes.Refused n x = λ v s w. none v s w
+parts_exact rule ps closing input Rattle.rasn_de.specs.Outcomes.Refused n x = λ v s w. none v s w
   where
-    none : (v : Tree) (s : List ℕ) → ReadsSeq ps closing input v s → ⊥
+    none : (v : Tree) (s : List ℕ) → ReadsSeq rule ps closing input v s → ⊥
     none v s (ts, f, inl (b, m, k)) = n b
     none v s (ts, f, inr (b, k)) = x v s (ts, f, k)
-parts_exact ps closing input Rattle.rasn_de.specs.Outcomes.Starved n x = tt
+parts_exact rule ps closing input Rattle.rasn_de.specs.Outcomes.Starved n x = tt
 
 -- The answer is exact, or an input ends with its header and is left.
 abbrev pub IsExactOrCut : {D : Type 0} → (D → Tree) → (Codec → ℕ → Bool → Reading Tree) → State → Result D DecodeError → State → Type 0
 IsExactOrCut tree R o r n = Exact (R o.rule o.depth o.closing) o.rest (outcome tree r n.rest) ⊎ ((o.closing ≡ true) × (o.rest ≡ []) × (n.rest ≡ []))
 
 abbrev pub SeqReads : Parts → Codec → ℕ → Bool → Reading Tree
-SeqReads parts rule depth closing = ReadsSeq (parts_of rule parts depth closing) closing
+SeqReads parts rule depth closing = ReadsSeq rule (parts_of rule parts depth closing) closing
 
 module _ {I D : Type 0} (root more : ℕ) (flag : Bool) (parts : Parts) (d : describes root more flag parts ≡ true) (tree : D → Tree) (made : I → Result D AllocError → Type 0) (init : Option I) (bare : MakesBare parts tree made init)
     (called : State → Result D DecodeError → State → Type 0) (H : (o : State) (r : Result D DecodeError) (n : State) → called o r n → DecodesParts parts tree o r n) where
@@ -149,17 +149,17 @@ module _ {I D : Type 0} (root more : ℕ) (flag : Bool) (parts : Parts) (d : des
   unfolding parts_of
   made_exact o v s ts e m = go (initial_why root more flag parts d o.rest s)
     where
-      at_none : (ps : Parts) → ps ≡ none → AllMissing (parts_of o.rule ps o.depth o.closing) ts → Exact (ReadsSeq (parts_of o.rule ps o.depth o.closing) o.closing) o.rest (Got (tree v) o.rest)
-      at_none none p m = none_exact o.closing o.rest (tree v) (e ∙ ap items m)
+      at_none : (ps : Parts) → ps ≡ none → AllMissing (parts_of o.rule ps o.depth o.closing) ts → Exact (ReadsSeq o.rule (parts_of o.rule ps o.depth o.closing) o.closing) o.rest (Got (tree v) o.rest)
+      at_none none p m = none_exact o.rule o.closing o.rest (tree v) (e ∙ ap items m)
       at_none (part p s ps) q m = cc
 
       at_empty : (c : Bool) → o.closing ≡ c → has_required parts ≡ false → o.rest ≡ [] → IsExactOrCut tree (SeqReads parts) o (Ok v) o
       at_empty true q f i = inr (q, i, i)
       at_empty false q f i =
           let P : Bool → Type 0 = λ c. AllMissing (parts_of o.rule parts o.depth c) ts in
-          let x = bare_exact (parts_of o.rule parts o.depth false) (tree v) ts (no_required o.rule parts o.depth false f) e (subst P q m) in
-          let Q : List ℕ → Type 0 = λ l. Exact (ReadsSeq (parts_of o.rule parts o.depth false) false) l (Got (tree v) l) in
-          let S : Bool → Type 0 = λ c. Exact (ReadsSeq (parts_of o.rule parts o.depth c) c) o.rest (Got (tree v) o.rest) in
+          let x = bare_exact o.rule (parts_of o.rule parts o.depth false) (tree v) ts (no_required o.rule parts o.depth false f) e (subst P q m) in
+          let Q : List ℕ → Type 0 = λ l. Exact (ReadsSeq o.rule (parts_of o.rule parts o.depth false) false) l (Got (tree v) l) in
+          let S : Bool → Type 0 = λ c. Exact (ReadsSeq o.rule (parts_of o.rule parts o.depth c) c) o.rest (Got (tree v) o.rest) in
           inl (subst S (sym q) (subst Q (sym i) x))
 
       go : (parts ≡ none) ⊎ ((has_required parts ≡ false) × (o.rest ≡ [])) → IsExactOrCut tree (SeqReads parts) o (Ok v) o
@@ -178,4 +178,4 @@ module _ {I D : Type 0} (root more : ℕ) (flag : Bool) (parts : Parts) (d : des
   unfolding ReadsParts
   fills_exact o r n (inl (s, k, e)) = subst (IsExactOrCut tree (SeqReads parts) o r) (sym e) (made_one o r s init bare k)
   fills_exact o r n (inr (s, k)) =
-      inl (parts_exact (parts_of o.rule parts o.depth o.closing) o.closing o.rest (outcome tree r n.rest) (not_bare root more flag parts d o.rule o.depth o.closing o.rest s) (H o r n k).exact)
+      inl (parts_exact o.rule (parts_of o.rule parts o.depth o.closing) o.closing o.rest (outcome tree r n.rest) (not_bare root more flag parts d o.rule o.depth o.closing o.rest s) (H o r n k).exact)

@@ -1,12 +1,13 @@
 -- Whether a value is primitive, as its header tells.
-use Rattle.std.proofs.Common.{◌≡◌, ◌≢◌, ℕ, inl, inr, false, List, Some, Ok, Err, refl, subst}
+use Rattle.std.proofs.Common.{◌≡◌, ◌≢◌, ℕ, inl, inr, false, List, Ok, Err, refl, subst}
 use Rattle.rasn_types.specs.declared.types.tag.Tag.{Tag}
 use Rattle.rasn_types.specs.declared.types.rules.Codec.{Codec}
 use Rattle.rasn_types.specs.Tags.{form, in_universal}
 use Rattle.rasn_types.specs.Framing.{AreOctets, definite, indefinite, Frame}
 use Rattle.rasn_de.specs.declared.ber.de.parser.Fault.{Fault}
 use Rattle.rasn_de.specs.declared.ber.de.parser.Fault.TheVariants.{OutOfMemory}
-use Rattle.rasn_de.specs.Headers.{Header, header_at}
+use Rattle.rasn_de.specs.declared.ber.de.parser.headers.Expected.TheVariants.{Tagged}
+use Rattle.rasn_de.specs.Headers.{spelled, Header, header_at}
 use Rattle.rasn_de.specs.Strings.{octets}
 use Rattle.rasn_de.specs.Octets.{octets_at, IsPrimitive, IsConstructed}
 use Rattle.rasn_de.proofs.Frames.{header_found}
@@ -14,21 +15,21 @@ use Rattle.rasn_de.proofs.Memory.{NoMemory, header_none}
 use Rattle.rasn_de.proofs.Segments.{IsNested, string_plain}
 use Rattle.rasn_de.proofs.Strs.{frame_bit}
 
-frame_there : (rule : Codec) (tag : Tag) (l : List ℕ) (h : Header) → AreOctets l → header_at rule (Some tag) l ≡ Ok h → Frame (form rule) l tag h.bit h.rest h.extent
-frame_there rule tag l h o e = let f = header_found rule (Some tag) l h o e in subst (λ z. Frame (form rule) l z h.bit h.rest h.extent) f.1 f.0
+frame_there : (rule : Codec) (tag : Tag) (l : List ℕ) (h : Header) → AreOctets l → header_at (form rule) (Tagged tag) l ≡ Ok h → Frame (form rule) l tag h.bit h.rest h.extent
+frame_there rule tag l h o e = let f = header_found (form rule) (Tagged tag) l h o e in subst (λ z. Frame (form rule) l z h.bit h.rest h.extent) f.1 f.0
 
-pub primitive_form : (rule : Codec) (tag : Tag) (l : List ℕ) (h : Header) (c : List ℕ) → AreOctets l → header_at rule (Some tag) l ≡ Ok h → (h.bit ≡ false) × (h.extent ≡ definite c) → IsPrimitive rule tag l
+pub primitive_form : (rule : Codec) (tag : Tag) (l : List ℕ) (h : Header) (c : List ℕ) → AreOctets l → header_at (form rule) (Tagged tag) l ≡ Ok h → (h.bit ≡ false) × (h.extent ≡ definite c) → IsPrimitive rule tag l
 primitive_form rule tag l h c o e (b, x) = (h.rest, c, subst (λ z. Frame (form rule) l tag false h.rest z) x (subst (λ z. Frame (form rule) l tag z h.rest h.extent) b (frame_there rule tag l h o e)))
 
-pub constructed_form : (rule : Codec) (tag : Tag) (l : List ℕ) (h : Header) → AreOctets l → header_at rule (Some tag) l ≡ Ok h → IsNested h → IsConstructed rule tag l
+pub constructed_form : (rule : Codec) (tag : Tag) (l : List ℕ) (h : Header) → AreOctets l → header_at (form rule) (Tagged tag) l ≡ Ok h → IsNested h → IsConstructed rule tag l
 constructed_form rule tag l h o e (inl b) = (h.rest, h.extent, subst (λ z. Frame (form rule) l tag z h.rest h.extent) b (frame_there rule tag l h o e))
 constructed_form rule tag l h o e (inr x) =
     let f = subst (λ z. Frame (form rule) l tag h.bit h.rest z) x (frame_there rule tag l h o e) in
     (h.rest, indefinite, subst (λ z. Frame (form rule) l tag z h.rest indefinite) (frame_bit f) f)
 
 -- one segment's octets
-pub plain_octets : (rule : Codec) (depth : ℕ) (tag : Tag) (l : List ℕ) (h : Header) (c : List ℕ) → header_at rule (Some tag) l ≡ Ok h → (h.bit ≡ false) × (h.extent ≡ definite c) → octets_at rule depth tag l ≡ Ok (c, h.rest)
+pub plain_octets : (rule : Codec) (depth : ℕ) (tag : Tag) (l : List ℕ) (h : Header) (c : List ℕ) → header_at (form rule) (Tagged tag) l ≡ Ok h → (h.bit ≡ false) × (h.extent ≡ definite c) → octets_at rule depth tag l ≡ Ok (c, h.rest)
 plain_octets rule depth tag l h c e (b, x) = rw e (string_plain rule octets (in_universal 4) depth h c c b x refl)
 
-pub header_memory : (rule : Codec) (tag : Tag) (l : List ℕ) (f : Fault) → header_at rule (Some tag) l ≡ Err f → f ≢ OutOfMemory
-header_memory rule tag l f e = subst NoMemory e (header_none rule (Some tag) l)
+pub header_memory : (rule : Codec) (tag : Tag) (l : List ℕ) (f : Fault) → header_at (form rule) (Tagged tag) l ≡ Err f → f ≢ OutOfMemory
+header_memory rule tag l f e = subst NoMemory e (header_none (spelled (form rule)) (Tagged tag) l)

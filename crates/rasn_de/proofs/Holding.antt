@@ -1,5 +1,5 @@
 -- A value that holds others is read where what stands in it is.
-use Rattle.std.proofs.Common.{◌≡◌, ◌≢◌, ℕ, ◌<◌, ◌⊎◌, inl, inr, Bool, false, ◌&&◌, not, List, Some, Result, Ok, Err, sym, subst, arith}
+use Rattle.std.proofs.Common.{◌≡◌, ◌≢◌, ℕ, ◌<◌, ◌⊎◌, inl, inr, Bool, false, ◌&&◌, not, List, Result, Ok, Err, sym, subst, arith}
 use Rattle.rasn_types.specs.declared.error.decode.DecodeError.{DecodeError}
 use Rattle.rasn_types.specs.declared.error.decode.DecodeErrorKind.{DecodeErrorKind}
 use Rattle.rasn_types.specs.Framing.{AreOctets}
@@ -10,9 +10,11 @@ use Rattle.rasn_de.specs.Headers.{Header, header_at}
 use Rattle.rasn_de.specs.Strings.{inner, finished}
 use Rattle.rasn_de.specs.State.{State}
 use Rattle.rasn_de.specs.Outcomes.{Exact, Outcome, Got, Refused, Starved, refusal, outcome}
-use Rattle.rasn_de.specs.Inside.{Door, door_at, is_open, inner_state, Keeps, Failed, no_value, inside, not_closed, Finished, ReadInside}
+use Rattle.rasn_de.specs.Inside.{Door, asks, door_at, is_open, inner_state, Keeps, Failed, no_value, inside, not_closed, Finished, ReadInside}
 use Rattle.rasn_de.proofs.Answering.{Exact-none, Exact-refusal}
-use Rattle.rasn_de.proofs.Insides.{IsInside, inside_header, header_inside, inside_of, door_found, door_spelled}
+use Rattle.rasn_types.specs.Tags.{form}
+use Rattle.rasn_de.proofs.Frames.{IsExpected, header_found}
+use Rattle.rasn_de.proofs.Insides.{IsInside, IsLetIn, door_tag, inside_header, header_inside, inside_of, door_found, door_spelled}
 
 deep : (depth : ℕ) → depth ≢ 0 → 0 < depth
 deep depth n = omega arith
@@ -27,25 +29,25 @@ Exact-same R S input Starved to from x = tt
 -- A value behind the door, whose contents are read by R.
 module _ (d : Door) (R : Bool → Reading Tree) (old : State) (o : old.depth ≢ 0 → AreOctets old.rest) where
   abbrev pub Held : Reading Tree
-  Held input t rest = (0 < old.depth) × (bit : Bool) × (d.needed && not bit ≡ false) × Inside old.rule d.tag bit R input t rest
+  Held input t rest = (0 < old.depth) × (bit : Bool) × IsLetIn d old.rule bit × Inside old.rule d.tag bit R input t rest
 
   octets_of : 0 < old.depth → AreOctets old.rest
   octets_of n = o (omega arith)
 
   -- where a header isn't there, no value is
   none_there : (f : Fault) (r : List ℕ) → door_at d old.rule old.depth old.rest ≡ Err (f, r) → (t : Tree) (s : List ℕ) → Held old.rest t s → ⊥
-  none_there f r e t s (n, bit, q, i) = go (inside_header old.rule d.tag R old.rest (octets_of n) bit t s i)
+  none_there f r e t s (n, bit, q, i) = go (inside_header old.rule d.tag (asks d old.rule) R old.rest (octets_of n) bit q.1 t s i)
     where
-      go : (h : Header) × (header_at old.rule (Some d.tag) old.rest ≡ Ok h) × (h.bit ≡ bit) × IsInside R h t s → ⊥
+      go : (h : Header) × (header_at (form old.rule) (asks d old.rule) old.rest ≡ Ok h) × (h.bit ≡ bit) × IsInside R h t s → ⊥
       go (h, k, b, x) =
-          let p = door_spelled d old.rule old.depth old.rest h n k (subst (λ z. d.needed && not z ≡ false) (sym b) q) in
+          let p = door_spelled d old.rule old.depth old.rest h n k (subst (λ z. d.needed && not z ≡ false) (sym b) q.0) in
           cc
 
   -- what is related is inside the header that is there
   pub related : (h : Header) → door_at d old.rule old.depth old.rest ≡ Ok h → (t : Tree) (s : List ℕ) → Held old.rest t s → IsInside R h t s
   related h e t s (n, bit, q, i) =
       let k = door_found d old.rule old.depth old.rest h e in
-      inside_of old.rule d.tag R old.rest (octets_of n) h k.1 bit t s i
+      inside_of old.rule d.tag (asks d old.rule) R old.rest (octets_of n) h k.1 bit q.1 t s i
 
   module _ (h : Header) (e : door_at d old.rule old.depth old.rest ≡ Ok h) where
     refused_inside : (k : DecodeErrorKind) → Exact (R (is_open h.extent)) (inner h.extent h.rest) (refusal k) → Exact Held old.rest (refusal k)
@@ -55,8 +57,10 @@ module _ (d : Door) (R : Bool → Reading Tree) (old : State) (o : old.depth ≢
     got_inside v l s x f =
         let k = door_found d old.rule old.depth old.rest h e in
         let n = deep old.depth k.0 in
-        let i = header_inside old.rule d.tag R old.rest (octets_of n) h k.1 v s (l, x.0, f) in
-        ((n, h.bit, k.2, i), λ t r w. same t r (related h e t r w))
+        let i = header_inside old.rule d.tag (asks d old.rule) R old.rest (octets_of n) h k.1 (door_tag d old.rule) v s (l, x.0, f) in
+        let m = header_found (form old.rule) (asks d old.rule) old.rest h (octets_of n) k.1 in
+        let b = subst (λ z. IsExpected (asks d old.rule) z h.bit) (door_tag d old.rule h.tag h.bit m.1) m.1 in
+        ((n, h.bit, (k.2, b), i), λ t r w. same t r (related h e t r w))
       where
         same : (t : Tree) (r : List ℕ) → IsInside R h t r → (t ≡ v) × (r ≡ s)
         same t r (m, y, g) =

@@ -1,15 +1,15 @@
 -- An identifier and a length read octet by octet are those that the octets spell.
-use Rattle.std.proofs.Common.{◌≡◌, ◌≢◌, ℕ, ◌+◌, ◌*◌, ◌/◌, ◌^◌, ◌%◌, ◌<◌, ◌≤◌, ◌⊎◌, inl, inr, Bool, true, false, ◌&&◌, cond, List, [], ◌∷◌, ◌++◌, length, Result, Ok, refl, sym, ap, ap₂, ◌∙◌, subst, arith}
-use Rattle.std.specs.Prelude.{nat_le, nat_eq}
+use Rattle.std.proofs.Common.{◌≡◌, ◌≢◌, ℕ, ◌+◌, ◌*◌, ◌/◌, ◌^◌, ◌%◌, ◌<◌, ◌≤◌, ◌⊎◌, inl, inr, Bool, true, false, ◌&&◌, cond, List, [], ◌∷◌, ◌++◌, length, Result, Ok, Err, refl, sym, ap, ap₂, ◌∙◌, subst, arith}
+use Rattle.std.specs.Prelude.{nat_le, nat_lt, nat_eq, ◌||◌}
 use Rattle.std.proofs.lemmas.Bool.Decides.{nat_tests}
 use Rattle.rasn_types.specs.declared.types.tag.Tag.{Tag}
 use Rattle.rasn_types.specs.declared.types.tag.Class.{Class}
 use Rattle.rasn_types.specs.declared.types.tag.Class.TheVariants.{Universal, Application, Context, Private}
-use Rattle.rasn_types.specs.Tags.{rank, eoc, is_universal, is_eoc}
+use Rattle.rasn_types.specs.Tags.{Form, ber_form, cer_form, der_form, loose_form, HasStrictForm, rank, eoc, is_universal, is_eoc}
 use Rattle.rasn_de.specs.declared.ber.de.parser.Fault.{Fault}
 use Rattle.rasn_de.specs.declared.ber.de.parser.Fault.TheVariants.{UnsupportedTagNumber}
-use Rattle.rasn_types.specs.Framing.{number_in, Spells128, bit_of, IdSpells}
-use Rattle.rasn_de.specs.Headers.{class_of, tag_of, bit_at, number128_at, tag_number_at, Identified, named, identifier_at}
+use Rattle.rasn_types.specs.Framing.{number_in, Spells128, bit_of, IdSpells, IsShortestId}
+use Rattle.rasn_de.specs.Headers.{class_of, tag_of, bit_at, number128_at, spelled, is_padded, padding_first, tag_number_at, is_longer, Identified, named, identifier_by, identifier_at}
 use Rattle.rasn_de.proofs.Tools.{bind_ok, chosen, guarded, AreOctets}
 use Rattle.rasn_de.proofs.Numbers.{number128_found, number128_spelled}
 
@@ -17,16 +17,47 @@ use Rattle.rasn_de.proofs.Numbers.{number128_found, number128_spelled}
 abbrev pub IsTagNumber : ℕ → List ℕ → ℕ → Type 0
 IsTagNumber low more n = ((low < 31) × (more ≡ []) × (n ≡ low)) ⊎ ((low ≡ 31) × Spells128 more n)
 
-pub tag_number_found : (first : ℕ) (l : List ℕ) (p : ℕ × List ℕ) → tag_number_at first l ≡ Ok p
+-- The forms whose spellings are the shortest ones, as the code tells them.
+pub strict_shortest : (spelling : Form) → (spelled spelling).shortest ≡ true → HasStrictForm spelling
+strict_shortest ber_form e = cc
+strict_shortest cer_form e = cc
+strict_shortest der_form e = tt
+strict_shortest loose_form e = cc
+
+pub shortest_strict : (spelling : Form) → HasStrictForm spelling → (spelled spelling).shortest ≡ true
+shortest_strict ber_form h = absurd h
+shortest_strict cer_form h = absurd h
+shortest_strict der_form h = refl
+shortest_strict loose_form h = absurd h
+
+-- what a shortest spelling alone is asked for
+pub asked_false : (s x : Bool) → (s ≡ true → x ≡ false) → s && x ≡ false
+asked_false true x h = h refl
+asked_false false x h = refl
+
+pub false_asked : (s x : Bool) → s && x ≡ false → s ≡ true → x ≡ false
+false_asked true x h e = h
+false_asked false x h e = cc
+
+pub neither_true : (a b : Bool) → a || b ≡ false → (a ≡ false) × (b ≡ false)
+neither_true true b e = cc
+neither_true false b e = (refl, e)
+
+padding_found : (padded : Bool) (r : Result (ℕ × List ℕ) Fault) (p : ℕ × List ℕ) → padding_first padded r ≡ Ok p → r ≡ Ok p
+padding_found padded (Ok q) p e = e
+padding_found true (Err f) p e = cc
+padding_found false (Err f) p e = cc
+
+pub tag_number_found : (shortest : Bool) (first : ℕ) (l : List ℕ) (p : ℕ × List ℕ) → tag_number_at shortest first l ≡ Ok p
     → (more : List ℕ) × IsTagNumber (first % 32) more p.0 × (l ≡ more ++ p.1)
 unfolding tag_number_at
-tag_number_found first l p e = go (chosen (nat_eq (first % 32) 31) _ _ _ e)
+tag_number_found shortest first l p e = go (chosen (nat_eq (first % 32) 31) _ _ _ e)
   where
-    go : ((nat_eq (first % 32) 31 ≡ true) × (number128_at UnsupportedTagNumber 0 l ≡ Ok p)) ⊎ ((nat_eq (first % 32) 31 ≡ false) × (◌≡◌ {A = Result (ℕ × List ℕ) Fault} (Ok (first % 32, l)) (Ok p)))
+    go : ((nat_eq (first % 32) 31 ≡ true) × (padding_first (shortest && is_padded l) (number128_at UnsupportedTagNumber 0 l) ≡ Ok p)) ⊎ ((nat_eq (first % 32) 31 ≡ false) × (◌≡◌ {A = Result (ℕ × List ℕ) Fault} (Ok (first % 32, l)) (Ok p)))
         → (more : List ℕ) × IsTagNumber (first % 32) more p.0 × (l ≡ more ++ p.1)
     go (inl (t, f)) =
         let k : first % 32 ≡ 31 = grind (arith, nat_tests) in
-        let s = number128_found UnsupportedTagNumber 0 l p f in
+        let s = number128_found UnsupportedTagNumber 0 l p (padding_found (shortest && is_padded l) (number128_at UnsupportedTagNumber 0 l) p f) in
         (s.front, inr (k, record { chain = s.chain; is = s.number ∙ omega arith; below = s.below }), s.is)
     go (inr (t, f)) =
         let k : first % 32 ≢ 31 = grind (arith, nat_tests) in
@@ -35,16 +66,41 @@ tag_number_found first l p e = go (chosen (nat_eq (first % 32) 31) _ _ _ e)
         let g1 : l ≡ p.1 = ap (λ (z : ℕ × List ℕ). z.1) g in
         ([], inl (omega arith, refl, sym g0), g1)
 
-pub tag_number_spelled : (first low : ℕ) (more rest : List ℕ) (n : ℕ) → first % 32 ≡ low → IsTagNumber low more n
-    → tag_number_at first (more ++ rest) ≡ Ok (n, rest)
+pub tag_number_spelled : (shortest : Bool) (first low : ℕ) (more rest : List ℕ) (n : ℕ) → first % 32 ≡ low → IsTagNumber low more n
+    → tag_number_at shortest first (more ++ rest) ≡ Ok (n, rest)
 unfolding tag_number_at
-tag_number_spelled first low more rest n e (inl (h, p, q)) =
+tag_number_spelled shortest first low more rest n e (inl (h, p, q)) =
     let t : nat_eq (first % 32) 31 ≡ false = grind (arith, nat_tests) in
     rw (t, p, q, e) refl
-tag_number_spelled first low more rest n e (inr (h, s)) =
+tag_number_spelled shortest first low more rest n e (inr (h, s)) =
     let t : nat_eq (first % 32) 31 ≡ true = grind (arith, nat_tests) in
     let f : 0 * 128 ^ length more + number_in 128 more ≡ n = sym (s.is ∙ omega arith) in
-    rw t (number128_spelled UnsupportedTagNumber 0 more rest s.chain (subst (λ z. z < 2 ^ 32) (sym f) s.below) ∙ ap (λ z. Ok (z, rest)) f)
+    let g = number128_spelled UnsupportedTagNumber 0 more rest s.chain (subst (λ z. z < 2 ^ 32) (sym f) s.below) ∙ ap (λ z. Ok (z, rest)) f in
+    rw t (ap (padding_first (shortest && is_padded (more ++ rest))) g)
+
+-- A spelling that isn't longer than another is the shortest one.
+short_found : (first : ℕ) (more rest : List ℕ) (tag : Tag) → IsTagNumber (first % 32) more tag.value → is_longer first (more ++ rest) tag.value ≡ false → IsShortestId (first ∷ more) tag
+short_found first more rest tag (inl (h, e, k)) f = subst (λ z. IsShortestId (first ∷ z) tag) (sym e) tt
+short_found first [] rest tag (inr (k, s)) f = absurd s.chain
+short_found first (b ∷ more) rest tag (inr (k, s)) f =
+    let t : nat_eq (first % 32) 31 ≡ true = grind (arith, nat_tests) in
+    let g = neither_true (nat_eq b 128) (nat_lt tag.value 31) (subst (λ z. z && (nat_eq b 128 || nat_lt tag.value 31) ≡ false) t f) in
+    let g0 = g.0 in
+    let g1 = g.1 in
+    let m : 31 ≤ tag.value = grind (arith, nat_tests) in
+    let n : b ≢ 128 = grind (arith, nat_tests) in
+    (m, n)
+
+short_spelled : (first : ℕ) (more rest : List ℕ) (tag : Tag) → IsTagNumber (first % 32) more tag.value → IsShortestId (first ∷ more) tag → is_longer first (more ++ rest) tag.value ≡ false
+short_spelled first more rest tag (inl (h, e, k)) i = let t : nat_eq (first % 32) 31 ≡ false = grind (arith, nat_tests) in rw t refl
+short_spelled first [] rest tag (inr (k, s)) i = absurd s.chain
+short_spelled first (b ∷ more) rest tag (inr (k, s)) i =
+    let i0 = i.0 in
+    let i1 = i.1 in
+    let t : nat_eq (first % 32) 31 ≡ true = grind (arith, nat_tests) in
+    let u : nat_eq b 128 ≡ false = grind (arith, nat_tests) in
+    let v : nat_lt tag.value 31 ≡ false = grind (arith, nat_tests) in
+    rw (t, u, v) refl
 
 pub class_rank : (n : ℕ) → n < 4 → rank (class_of n) ≡ n
 class_rank n h = go (nat_eq n 0) refl (nat_eq n 1) refl (nat_eq n 2) refl
@@ -99,28 +155,33 @@ not_eoc tag h = go tag.class refl (nat_eq tag.value 0) refl
     go Context e b f = refl
     go Private e b f = refl
 
-pub record SpelledId (l : List ℕ) (i : Identified) : Type 0 where
+pub record SpelledId (spelling : Form) (l : List ℕ) (i : Identified) : Type 0 where
   pub front : List ℕ
   pub spells : IdSpells front i.tag i.bit
+  pub shortest : HasStrictForm spelling → IsShortestId front i.tag
   pub is : l ≡ front ++ i.rest
 
-pub identifier_found : (l : List ℕ) (i : Identified) → AreOctets l → identifier_at l ≡ Ok i → SpelledId l i
-unfolding identifier_at
-identifier_found [] i o e = cc
-identifier_found (b ∷ l) i o e = go (bind_ok (tag_number_at b l) (named b) i e)
+pub identifier_found : (spelling : Form) (l : List ℕ) (i : Identified) → AreOctets l → identifier_at spelling l ≡ Ok i → SpelledId spelling l i
+unfolding identifier_by
+identifier_found spelling [] i o e = cc
+identifier_found spelling (b ∷ l) i o e = go (bind_ok (tag_number_at (spelled spelling).shortest b l) (named (spelled spelling).shortest b l) i e)
   where
-    go : (p : ℕ × List ℕ) × (tag_number_at b l ≡ Ok p) × (named b p ≡ Ok i) → SpelledId (b ∷ l) i
+    go : (p : ℕ × List ℕ) × (tag_number_at (spelled spelling).shortest b l ≡ Ok p) × (named (spelled spelling).shortest b l p ≡ Ok i) → SpelledId spelling (b ∷ l) i
     go (p, t, f) =
         let g = guarded (is_eoc (tag_of b p.0)) _ _ i f in
-        let s = tag_number_found b l p t in
-        let n = g.1 in
+        let k = guarded ((spelled spelling).shortest && is_longer b l p.0) _ _ i g.1 in
+        let s = tag_number_found (spelled spelling).shortest b l p t in
+        let n = k.1 in
+        let short = λ (h : HasStrictForm spelling). short_found b s.0 p.1 (tag_of b p.0) s.1
+        (subst (λ z. is_longer b z p.0 ≡ false) s.2 (false_asked (spelled spelling).shortest (is_longer b l p.0) k.0 (shortest_strict spelling h))) in
         let m : record { tag = tag_of b p.0; bit = bit_at b; rest = p.1 } ≡ i = cc in
-        subst (λ z. SpelledId (b ∷ l) z) m (record {
+        subst (λ z. SpelledId spelling (b ∷ l) z) m (record {
           front = b ∷ s.0;
           spells = record {
             spells = record { low = b % 32; leading = leading b (rank (class_of (b / 64))) (32 * bit_of (nat_le 32 (b % 64))) (class_rank (b / 64) (omega (arith, o.0))) (bit_true (b % 64) (omega arith)); number = s.1 };
             is_one = eoc_is (tag_of b p.0) g.0;
           };
+          shortest = short;
           is = ap (λ z. b ∷ z) s.2;
         })
 
@@ -139,15 +200,18 @@ low_small : (more : List ℕ) (n low : ℕ) → IsTagNumber low more n → low <
 low_small more n low (inl h) = omega (arith, h.0)
 low_small more n low (inr h) = omega (arith, h.0)
 
-pub identifier_spelled : (front rest : List ℕ) (tag : Tag) (bit : Bool) → IdSpells front tag bit → identifier_at (front ++ rest) ≡ Ok (record { tag = tag; bit = bit; rest = rest })
-unfolding identifier_at
-identifier_spelled [] rest tag bit i = absurd i.spells
-identifier_spelled (b ∷ more) rest tag bit i =
+pub identifier_spelled : (spelling : Form) (front rest : List ℕ) (tag : Tag) (bit : Bool) → IdSpells front tag bit → (HasStrictForm spelling → IsShortestId front tag)
+    → identifier_at spelling (front ++ rest) ≡ Ok (record { tag = tag; bit = bit; rest = rest })
+unfolding identifier_by
+identifier_spelled spelling [] rest tag bit i short = absurd i.spells
+identifier_spelled spelling (b ∷ more) rest tag bit i short =
     let h = i.spells in
     let s = low_small more tag.value h.low h.number in
     let q = first_parts b (rank tag.class) (bit_of bit) h.low (rank_small tag.class) (bit_small bit) s h.leading in
-    let n = tag_number_spelled b h.low more rest tag.value q.2 h.number in
+    let n = tag_number_spelled (spelled spelling).shortest b h.low more rest tag.value q.2 h.number in
     let c : tag_of b tag.value ≡ tag = tag_is (tag_of b tag.value) tag (rank_class tag.class (b / 64) q.0) refl in
     let d : bit_at b ≡ bit = bit_back bit (b % 64) h.low s q.1 in
     let z : is_eoc (tag_of b tag.value) ≡ false = ap is_eoc c ∙ not_eoc tag i.is_one in
-    rw (n, z, c, d) refl
+    let k = asked_false (spelled spelling).shortest (is_longer b (more ++ rest) tag.value)
+    (λ e. short_spelled b more rest tag (subst (λ z. IsTagNumber z more tag.value) (sym q.2) h.number) (short (strict_shortest spelling e))) in
+    rw (n, z, k, c, d) refl

@@ -1,31 +1,33 @@
 -- What is read inside a value, as its header tells.
-use Rattle.std.proofs.Common.{◌≡◌, ◌≢◌, ℕ, ◌<◌, Bool, true, false, ◌&&◌, not, List, [], ◌∷◌, Some, Result, Ok, Err, refl, ap, ◌∙◌, subst, arith}
+use Rattle.std.proofs.Common.{◌≡◌, ◌≢◌, ℕ, ◌<◌, Bool, true, false, ◌&&◌, not, cond, List, [], ◌∷◌, Result, Ok, Err, refl, ap, ◌∙◌, subst, arith}
 use Rattle.std.specs.Prelude.{nat_eq}
 use Rattle.std.proofs.lemmas.Bool.Decides.{nat_tests}
 use Rattle.rasn_types.specs.declared.types.tag.Tag.{Tag}
 use Rattle.rasn_types.specs.declared.types.rules.Codec.{Codec}
 use Rattle.rasn_types.specs.Tags.{form}
+use Rattle.rasn_de.specs.declared.ber.de.parser.headers.Expected.{Expected}
 use Rattle.rasn_types.specs.Framing.{AreOctets, Extent, definite, indefinite, Frame}
 use Rattle.rasn_types.specs.Shapes.{Tree}
 use Rattle.rasn_types.specs.Readers.{Reading, Inside, in_definite, in_indefinite}
 use Rattle.rasn_de.specs.declared.ber.de.parser.Fault.{Fault}
-use Rattle.rasn_de.specs.Headers.{Header, header_at}
+use Rattle.rasn_de.specs.declared.ber.de.parser.headers.Expected.TheVariants.{Tagged}
+use Rattle.rasn_de.specs.Headers.{Header, header_at, as_written}
 use Rattle.rasn_de.specs.Strings.{inner, finished, closed_at, used_up}
-use Rattle.rasn_de.specs.Inside.{Door, door_at, is_open}
-use Rattle.rasn_de.proofs.Frames.{header_found, header_spelled}
+use Rattle.rasn_de.specs.Inside.{Door, asks, door_at, is_open}
+use Rattle.rasn_de.proofs.Frames.{IsExpected, header_found, header_spelled, written_tag}
 use Rattle.rasn_de.proofs.Strs.{closed_found}
 
 -- what was read inside, and how the value was closed
 abbrev pub IsInside : (Bool → Reading Tree) → Header → Tree → List ℕ → Type 0
 IsInside R h t s = (l : List ℕ) × R (is_open h.extent) (inner h.extent h.rest) t l × (finished h.extent h.rest l ≡ Ok s)
 
-module _ (rule : Codec) (tag : Tag) (R : Bool → Reading Tree) (l : List ℕ) (o : AreOctets l) where
-  pub inside_header : (bit : Bool) (t : Tree) (s : List ℕ) → Inside rule tag bit R l t s → (h : Header) × (header_at rule (Some tag) l ≡ Ok h) × (h.bit ≡ bit) × IsInside R h t s
+module _ (rule : Codec) (tag : Tag) (expected : Expected) (R : Bool → Reading Tree) (l : List ℕ) (o : AreOctets l) where
+  pub inside_header : (bit : Bool) → IsExpected expected tag bit → (t : Tree) (s : List ℕ) → Inside rule tag bit R l t s → (h : Header) × (header_at (form rule) expected l ≡ Ok h) × (h.bit ≡ bit) × IsInside R h t s
   unfolding closed_at
-  inside_header bit t s (in_definite c f r) =
-      (record { tag = tag; bit = bit; extent = definite c; rest = s }, header_spelled rule (Some tag) l tag bit s (definite c) o refl f, refl, ([], r, refl))
-  inside_header bit t s (in_indefinite body f r) =
-      (record { tag = tag; bit = bit; extent = indefinite; rest = body }, header_spelled rule (Some tag) l tag bit body indefinite o refl f, refl, (0 ∷ 0 ∷ s, r, refl))
+  inside_header bit x t s (in_definite c f r) =
+      (record { tag = tag; bit = bit; extent = definite c; rest = s }, header_spelled (form rule) expected l tag bit s (definite c) o x f, refl, ([], r, refl))
+  inside_header bit x t s (in_indefinite body f r) =
+      (record { tag = tag; bit = bit; extent = indefinite; rest = body }, header_spelled (form rule) expected l tag bit body indefinite o x f, refl, (0 ∷ 0 ∷ s, r, refl))
 
   used_up_both : (rest left s : List ℕ) → used_up rest left ≡ Ok s → (left ≡ []) × (rest ≡ s)
   used_up_both rest [] s e = (refl, cc)
@@ -37,21 +39,38 @@ module _ (rule : Codec) (tag : Tag) (R : Bool → Reading Tree) (l : List ℕ) (
       in_definite c (subst (λ z. Frame (form rule) l tag bit z (definite c)) u.1 f) (subst (λ z. R false c t z) u.0 r)
   with_extent bit indefinite rest f t s m r e = in_indefinite rest f (subst (λ z. R true rest t z) (closed_found m s e) r)
 
-  pub header_inside : (h : Header) → header_at rule (Some tag) l ≡ Ok h → (t : Tree) (s : List ℕ) → IsInside R h t s → Inside rule tag h.bit R l t s
-  header_inside h e t s (m, r, f) =
-      let k = header_found rule (Some tag) l h o e in
-      with_extent h.bit h.extent h.rest (subst (λ z. Frame (form rule) l z h.bit h.rest h.extent) k.1 k.0) t s m r f
+  pub header_inside : (h : Header) → header_at (form rule) expected l ≡ Ok h → ((found : Tag) (bit : Bool) → IsExpected expected found bit → found ≡ tag) → (t : Tree) (s : List ℕ) → IsInside R h t s → Inside rule tag h.bit R l t s
+  header_inside h e same t s (m, r, f) =
+      let k = header_found (form rule) expected l h o e in
+      with_extent h.bit h.extent h.rest (subst (λ z. Frame (form rule) l z h.bit h.rest h.extent) (same h.tag h.bit k.1) k.0) t s m r f
 
   -- At a header that is there, what is related is inside it.
-  pub inside_of : (h : Header) → header_at rule (Some tag) l ≡ Ok h → (bit : Bool) (t : Tree) (s : List ℕ) → Inside rule tag bit R l t s → IsInside R h t s
-  inside_of h e bit t s i = go (inside_header bit t s i)
+  pub inside_of : (h : Header) → header_at (form rule) expected l ≡ Ok h → (bit : Bool) → IsExpected expected tag bit → (t : Tree) (s : List ℕ) → Inside rule tag bit R l t s → IsInside R h t s
+  inside_of h e bit x t s i = go (inside_header bit x t s i)
     where
-      go : (k : Header) × (header_at rule (Some tag) l ≡ Ok k) × (k.bit ≡ bit) × IsInside R k t s → IsInside R h t s
+      go : (k : Header) × (header_at (form rule) expected l ≡ Ok k) × (k.bit ≡ bit) × IsInside R k t s → IsInside R h t s
       go (k, f, b, r) = let m : k ≡ h = cc in subst (λ z. IsInside R z t s) m r
 
--- the door of a value that has to be constructed
+-- the constructed bit is one that the door lets through
+abbrev pub IsLetIn : Door → Codec → Bool → Type 0
+IsLetIn d rule bit = (d.needed && not bit ≡ false) × IsExpected (asks d rule) d.tag bit
+
+-- what has to be constructed is
+pub bit_is : (b : Bool) → true && not b ≡ false → b ≡ true
+bit_is true e = refl
+bit_is false e = cc
+
+-- A door asks for its tag.
+asked_tag : (needed : Bool) (rule : Codec) (tag found : Tag) (bit : Bool) → IsExpected (cond needed (Tagged tag) (as_written rule tag true)) found bit → found ≡ tag
+asked_tag true rule tag found bit e = e
+asked_tag false rule tag found bit e = written_tag rule tag found true bit e
+
+pub door_tag : (d : Door) (rule : Codec) (found : Tag) (bit : Bool) → IsExpected (asks d rule) found bit → found ≡ d.tag
+door_tag d rule found bit e = asked_tag d.needed rule d.tag found bit e
+
+-- the header of a value behind the door
 module _ (d : Door) (rule : Codec) (depth : ℕ) (l : List ℕ) where
-  door_cases : (b : Bool) → nat_eq depth 0 ≡ b → (r : Result Header Fault) → header_at rule (Some d.tag) l ≡ r → (h : Header) → door_at d rule depth l ≡ Ok h → (depth ≢ 0) × (header_at rule (Some d.tag) l ≡ Ok h) × (d.needed && not h.bit ≡ false)
+  door_cases : (b : Bool) → nat_eq depth 0 ≡ b → (r : Result Header Fault) → header_at (form rule) (asks d rule) l ≡ r → (h : Header) → door_at d rule depth l ≡ Ok h → (depth ≢ 0) × (header_at (form rule) (asks d rule) l ≡ Ok h) × (d.needed && not h.bit ≡ false)
   door_cases true e r f h g = let k : nat_eq depth 0 ≡ true = e in absurd (let m : door_at d rule depth l ≡ Err (Rattle.rasn_de.specs.declared.ber.de.parser.Fault.TheVariants.ExceedsMaxParseDepth, l) = rw e refl in cc)
   door_cases false e (Err x) f h g = absurd (let m : door_at d rule depth l ≡ Err (x, l) = rw (e, f) refl in cc)
   door_cases false e (Ok k) f h g = go (d.needed && not k.bit) refl
@@ -59,15 +78,15 @@ module _ (d : Door) (rule : Codec) (depth : ℕ) (l : List ℕ) where
       deep : depth ≢ 0
       deep = grind (arith, nat_tests)
 
-      go : (b : Bool) → d.needed && not k.bit ≡ b → (depth ≢ 0) × (header_at rule (Some d.tag) l ≡ Ok h) × (d.needed && not h.bit ≡ false)
+      go : (b : Bool) → d.needed && not k.bit ≡ b → (depth ≢ 0) × (header_at (form rule) (asks d rule) l ≡ Ok h) × (d.needed && not h.bit ≡ false)
       go true p = absurd (let m : door_at d rule depth l ≡ Err (Rattle.rasn_de.specs.declared.ber.de.parser.Fault.TheVariants.InvalidConstructedIdentifier, k.rest) = rw (e, f, p) refl in cc)
       go false p =
           let m : door_at d rule depth l ≡ Ok k = rw (e, f, p) refl in
           let q : k ≡ h = cc in
           (deep, f ∙ ap Ok q, subst (λ (z : Header). d.needed && not z.bit ≡ false) q p)
 
-  pub door_found : (h : Header) → door_at d rule depth l ≡ Ok h → (depth ≢ 0) × (header_at rule (Some d.tag) l ≡ Ok h) × (d.needed && not h.bit ≡ false)
-  door_found h g = door_cases (nat_eq depth 0) refl (header_at rule (Some d.tag) l) refl h g
+  pub door_found : (h : Header) → door_at d rule depth l ≡ Ok h → (depth ≢ 0) × (header_at (form rule) (asks d rule) l ≡ Ok h) × (d.needed && not h.bit ≡ false)
+  door_found h g = door_cases (nat_eq depth 0) refl (header_at (form rule) (asks d rule) l) refl h g
 
-  pub door_spelled : (h : Header) → 0 < depth → header_at rule (Some d.tag) l ≡ Ok h → d.needed && not h.bit ≡ false → door_at d rule depth l ≡ Ok h
+  pub door_spelled : (h : Header) → 0 < depth → header_at (form rule) (asks d rule) l ≡ Ok h → d.needed && not h.bit ≡ false → door_at d rule depth l ≡ Ok h
   door_spelled h n e b = let k : nat_eq depth 0 ≡ false = grind (arith, nat_tests) in rw (k, e, b) refl

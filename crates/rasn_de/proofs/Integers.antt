@@ -7,40 +7,47 @@ use Rattle.rasn_types.specs.declared.types.constraints.Constraints.{Constraints}
 use Rattle.rasn_types.specs.declared.error.decode.DecodeError.{DecodeError}
 use Rattle.rasn_types.specs.Framing.{AreOctets}
 use Rattle.rasn_types.specs.Shapes.{Tree, number, leaf, integer, Interval, IsIn, Admits, constraint_of}
-use Rattle.rasn_types.specs.Contents.{Contents, signed}
+use Rattle.rasn_types.specs.Tags.{IsStrict}
+use Rattle.rasn_types.specs.Contents.{Contents, signed, IsShortest, IsShortestInteger}
 use Rattle.rasn_types.specs.Grammar.{Reads, IsBounded}
 use Rattle.rasn_de.specs.Causes.{Cause, fault, out_of_bound, Tells}
 use Rattle.std.specs.Prelude.{◌==◌, MatchOption}
+use Rattle.rasn_de.specs.declared.ber.de.parser.Fault.{Fault}
 use Rattle.rasn_de.specs.declared.ber.de.parser.Fault.TheVariants as fault_is
 use Rattle.rasn_de.specs.Taking.{ErrorOf}
 use Rattle.rasn_de.proofs.Refusals.{rule_is}
-use Rattle.rasn_de.specs.Leaves.{Readings, FromContents, IntegerIn, IntegerAt, definite_at, Refuses, GaveInteger}
+use Rattle.rasn_de.specs.Leaves.{Readings, FromContents, HoldsNumber, LacksNumber, IntegerIn, IntegerAt, definite_at, Refuses, GaveInteger}
 use Rattle.rasn_de.specs.State.{State, at}
 use Rattle.rasn_de.specs.Outcomes.{Exact, refusal}
 use Rattle.rasn_de.specs.Decodes.{Decodes}
 use Rattle.rasn_de.proofs.Answering.{plain_agrees, gave_answers, definite_end}
 
-module _ (width : ℕ) (range : Interval) (bounds : Constraints) where
-  integer_found : (rule : Codec) (c : List ℕ) (z : ℤ) → AreOctets c → IntegerIn width range bounds c (Ok z) → Contents rule (integer range) c (number z) × IsBounded (integer range) bounds (number z)
-  integer_found rule c z o (n, i, a, e) = ((ap number e, n, i), subst (λ y. Admits ◌≤ℤ◌ bounds.value y) (sym e) a)
+-- Octets that hold a number don't lack one.
+number_lacks : (rule : Codec) (c : List ℕ) (f : Fault) → LacksNumber rule c f → c ≢ [] → (IsStrict rule → IsShortestInteger c) → ⊥
+number_lacks rule c f (inl (e, g)) n s = n e
+number_lacks rule c f (inr (m, strict, h, g)) n s = h (s strict)
 
-  integer_only : (rule : Codec) (c : List ℕ) (z : ℤ) (t : Tree) → AreOctets c → IntegerIn width range bounds c (Ok z) → Contents rule (integer range) c t → IsBounded (integer range) bounds t → t ≡ number z
+module _ (width : ℕ) (range : Interval) (bounds : Constraints) where
+  integer_found : (rule : Codec) (c : List ℕ) (z : ℤ) → AreOctets c → IntegerIn rule width range bounds c (Ok z) → Contents rule (integer range) c (number z) × (IsStrict rule → IsShortest (integer range) c) × IsBounded (integer range) bounds (number z)
+  integer_found rule c z o (n, i, a, e) = ((ap number e, n.0, i), n.1, subst (λ y. Admits ◌≤ℤ◌ bounds.value y) (sym e) a)
+
+  integer_only : (rule : Codec) (c : List ℕ) (z : ℤ) (t : Tree) → AreOctets c → IntegerIn rule width range bounds c (Ok z) → Contents rule (integer range) c t → IsBounded (integer range) bounds t → t ≡ number z
   integer_only rule c z t o (n, i, a, e) k b = k.0 ∙ ap number (sym e)
 
-  integer_none : (rule : Codec) (c : List ℕ) (e : Cause) (t : Tree) → AreOctets c → IntegerIn width range bounds c (Err e) → Contents rule (integer range) c t → IsBounded (integer range) bounds t → ⊥
-  integer_none rule c (fault f) t o (inl (e, g)) k b = k.1 e
-  integer_none rule c (fault f) t o (inr (n, i, g)) k b = i k.2
-  integer_none rule c (out_of_bound z bound) t o (n, i, a, e, g) k b = a (subst (IsBounded (integer range) bounds) k.0 b)
+  integer_none : (rule : Codec) (c : List ℕ) (e : Cause) (t : Tree) → AreOctets c → IntegerIn rule width range bounds c (Err e) → Contents rule (integer range) c t → (IsStrict rule → IsShortest (integer range) c) → IsBounded (integer range) bounds t → ⊥
+  integer_none rule c (fault f) t o (inl h) k s b = number_lacks rule c f h k.1 s
+  integer_none rule c (fault f) t o (inr (n, i, g)) k s b = i k.2
+  integer_none rule c (out_of_bound z bound) t o (n, i, a, e, g) k s b = a (subst (IsBounded (integer range) bounds) k.0 b)
 
   pub integer_decodes : {X : Type 0} (see : X → ℤ) (Grows : Type 0) (tag : Tag) (old new : State) (result : Result X DecodeError) → AreOctets old.rest
       → GaveInteger see Grows tag (IntegerAt width range bounds old.rule tag old.rest) old result new → Decodes (leaf (integer range) tag bounds) (λ v. number (see v)) old result new
   unfolding Reads
   integer_decodes see Grows tag old new (Ok v) o g =
       gave_answers (λ rule. Reads rule (leaf (integer range) tag bounds)) number see _ old new (Ok v)
-      (plain_agrees old.rule tag old.rest o (integer range) old.depth (IsBounded (integer range) bounds) number (IntegerIn width range bounds) (integer_found old.rule) (integer_only old.rule) (integer_none old.rule)) g
+      (plain_agrees old.rule tag old.rest o (integer range) old.depth (IsBounded (integer range) bounds) number (IntegerIn old.rule width range bounds) (integer_found old.rule) (integer_only old.rule) (integer_none old.rule)) g
   integer_decodes see Grows tag old new (Err e) o (inr g) =
       gave_answers (λ rule. Reads rule (leaf (integer range) tag bounds)) number see _ old new (Err e)
-      (plain_agrees old.rule tag old.rest o (integer range) old.depth (IsBounded (integer range) bounds) number (IntegerIn width range bounds) (integer_found old.rule) (integer_only old.rule) (integer_none old.rule)) g
+      (plain_agrees old.rule tag old.rest o (integer range) old.depth (IsBounded (integer range) bounds) number (IntegerIn old.rule width range bounds) (integer_found old.rule) (integer_only old.rule) (integer_none old.rule)) g
   integer_decodes see Grows tag old new (Err e) o (inl (m, g, d, s, c, h)) = record {
     stays = s;
     end = definite_end old.rule tag old.rest o c new.rest h;
@@ -48,10 +55,10 @@ module _ (width : ℕ) (range : Interval) (bounds : Constraints) where
   }
 
   -- a number out of its bound
-  pub bound_refused : (tag : Tag) (old new : State) (c : List ℕ) (e : DecodeError) → definite_at old.rule tag old.rest ≡ Ok (c, new.rest) → new ≡ at old new.rest → c ≢ [] → IsIn range (signed c) → (Admits ◌≤ℤ◌ bounds.value (signed c) → ⊥)
+  pub bound_refused : (tag : Tag) (old new : State) (c : List ℕ) (e : DecodeError) → definite_at old.rule tag old.rest ≡ Ok (c, new.rest) → new ≡ at old new.rest → HoldsNumber old.rule c → IsIn range (signed c) → (Admits ◌≤ℤ◌ bounds.value (signed c) → ⊥)
       → Tells (out_of_bound (signed c) (constraint_of bounds.value)) e.kind × (e.codec ≡ new.rule) → Refuses (IntegerAt width range bounds old.rule tag old.rest) old e new
   bound_refused tag old new c e h s n i a (t, k) =
-      (out_of_bound (signed c) (constraint_of bounds.value), subst (λ d. FromContents (IntegerIn width range bounds) d (Err (out_of_bound (signed c) (constraint_of bounds.value), new.rest))) (sym h) ((n, i, a, refl, refl), refl), t, k ∙ rule_is old new s, s)
+      (out_of_bound (signed c) (constraint_of bounds.value), subst (λ d. FromContents (IntegerIn old.rule width range bounds) d (Err (out_of_bound (signed c) (constraint_of bounds.value), new.rest))) (sym h) ((n, i, a, refl, refl), refl), t, k ∙ rule_is old new s, s)
 
 -- want of memory behind contents
 pub number_starved : {X : Type 0} (see : X → ℤ) (Grows : Type 0) (tag : Tag) (Is : Readings ℤ) (old new : State) (c : List ℕ) (e : DecodeError) → definite_at old.rule tag old.rest ≡ Ok (c, new.rest) → new ≡ at old new.rest → Grows → ErrorOf fault_is.OutOfMemory new e

@@ -23,6 +23,9 @@ pub mod Starving
 pub mod Entering
 pub mod Nothing
 pub mod Alternatives
+pub mod Bagged
+pub mod Walked
+pub mod Falling
 pub mod Choosing
 pub mod Given
 pub mod Holding
@@ -42,3 +45,7 @@ pub mod Nulls
 pub mod Enumerations
 pub mod Arcs
 pub mod BitStrings
+pub mod Skipping
+pub mod Openings
+pub mod OpenTypes
+pub mod LastBits

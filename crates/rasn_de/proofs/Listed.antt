@@ -20,12 +20,9 @@ use Rattle.rasn_de.specs.Lists.{list_door, ReadsItems, InList, ReadSized}
 use Rattle.rasn_types.specs.Trees.{list_tree}
 use Rattle.rasn_de.proofs.Answering.{Exact-none, Exact-refusal}
 use Rattle.rasn_de.proofs.Holding.{Held, IsCut, held_exact, kept}
+use Rattle.rasn_de.proofs.Insides.{bit_is}
 
-bit_is : (b : Bool) → true && not b ≡ false → b ≡ true
-bit_is true e = refl
-bit_is false e = cc
-
-inside_map : (rule : Codec) (tag : Tag) (bit : Bool) (R S : Bool → Reading Tree) (t : Tree) → ((c : Bool) (i r : List ℕ) → R c i t r → S c i t r) → (input rest : List ℕ) → Inside rule tag bit R input t rest → Inside rule tag bit S input t rest
+pub inside_map : (rule : Codec) (tag : Tag) (bit : Bool) (R S : Bool → Reading Tree) (t : Tree) → ((c : Bool) (i r : List ℕ) → R c i t r → S c i t r) → (input rest : List ℕ) → Inside rule tag bit R input t rest → Inside rule tag bit S input t rest
 inside_map rule tag bit R S t f input rest (in_definite contents k r) = in_definite contents k (f false contents [] r)
 inside_map rule tag bit R S t f input rest (in_indefinite body k r) = in_indefinite body k (f true body (0 ∷ 0 ∷ rest) r)
 
@@ -53,12 +50,12 @@ module _ {L : Type 0} (s : Shape) (trees : L → Tree) (size : L → ℕ) (tag :
   to_sized : (input : List ℕ) (t : Tree) (r : List ℕ) → ((ts : List Tree) → t ≡ items ts → Admits ◌≤◌ c.size (length ts)) → Unsized input t r → Sized input t r
   unfolding Reads ReadsItems
   to_sized input t r a (n, bit, q, i) =
-      (n, inside_map old.rule tag true R (λ k. ReadsList c.size (Reads old.rule s (old.depth - 2) k) k) t (λ k j m w. (w.0, w.1, a w.0 w.1, w.2)) input r (subst (λ b. Inside old.rule tag b R input t r) (bit_is bit q) i))
+      (n, inside_map old.rule tag true R (λ k. ReadsList c.size (Reads old.rule s (old.depth - 2) k) k) t (λ k j m w. (w.0, w.1, a w.0 w.1, w.2)) input r (subst (λ b. Inside old.rule tag b R input t r) (bit_is bit q.0) i))
 
   from_sized : (input : List ℕ) (t : Tree) (r : List ℕ) → Sized input t r → Unsized input t r
   unfolding Reads ReadsItems
   from_sized input t r (n, i) =
-      (n, true, refl, inside_map old.rule tag true (λ k. ReadsList c.size (Reads old.rule s (old.depth - 2) k) k) R t (λ k j m w. (w.0, w.1, w.3)) input r i)
+      (n, true, (refl, refl), inside_map old.rule tag true (λ k. ReadsList c.size (Reads old.rule s (old.depth - 2) k) k) R t (λ k j m w. (w.0, w.1, w.3)) input r i)
 
   admitted : (input : List ℕ) (t : Tree) (r : List ℕ) → Sized input t r → (ts : List Tree) × (t ≡ items ts) × Admits ◌≤◌ c.size (length ts)
   unfolding Reads

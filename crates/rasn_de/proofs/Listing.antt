@@ -86,7 +86,7 @@ module _ {D : Type 0} (s : Shape) (tree : D → Tree) (old : State) where
   not_ended : (here : State) (vs : List D) → Come here vs → (Ended here.closing here.rest → ⊥) → Ended old.closing here.rest → ⊥
   not_ended here vs a n e = n (subst (λ (z : State). Ended z.closing here.rest) (sym a.0) e)
 
-  exact_at : (here : State) (vs : List D) → Come here vs → (o : Outcome) → Exact (Reads here.rule s here.depth here.closing) here.rest o → Exact (Reads old.rule s old.depth old.closing) here.rest o
+  pub exact_at : (here : State) (vs : List D) → Come here vs → (o : Outcome) → Exact (Reads here.rule s here.depth here.closing) here.rest o → Exact (Reads old.rule s old.depth old.closing) here.rest o
   exact_at here vs a o x = subst (λ (z : State). Exact (Reads z.rule s z.depth z.closing) here.rest o) a.0 x
 
   -- the state after one more call

@@ -5,6 +5,7 @@ use Rattle.rasn_types.specs.declared.types.tag.Tag.{Tag}
 use Rattle.rasn_types.specs.declared.types.rules.Codec.{Codec}
 use Rattle.rasn_types.specs.declared.error.decode.DecodeError.{DecodeError}
 use Rattle.rasn_types.specs.Framing.{AreOctets}
+use Rattle.rasn_types.specs.Tags.{IsStrict}
 use Rattle.rasn_types.specs.Shapes.{Tree, number, leaf, null}
 use Rattle.rasn_types.specs.Trees.{unconstrained}
 use Rattle.rasn_types.specs.Contents.{Contents}
@@ -17,14 +18,14 @@ use Rattle.rasn_de.specs.Decodes.{Decodes}
 use Rattle.rasn_de.proofs.Answering.{plain_agrees, gave_answers}
 use Rattle.rasn_de.proofs.Starving.{IsPlainCause}
 
-null_found : (rule : Codec) (c : List ℕ) (u : Unit {0}) → AreOctets c → NullIn c (Ok u) → Contents rule null c (number (pos 0)) × Unit {0}
-null_found rule c u o e = ((refl, e), tt)
+null_found : (rule : Codec) (c : List ℕ) (u : Unit {0}) → AreOctets c → NullIn c (Ok u) → Contents rule null c (number (pos 0)) × (IsStrict rule → Unit {0}) × Unit {0}
+null_found rule c u o e = ((refl, e), (λ s. tt), tt)
 
 null_only : (rule : Codec) (c : List ℕ) (u : Unit {0}) (t : Tree) → AreOctets c → NullIn c (Ok u) → Contents rule null c t → Unit {0} → t ≡ number (pos 0)
 null_only rule c u t o e k b = k.0
 
-null_none : (rule : Codec) (c : List ℕ) (e : Cause) (t : Tree) → AreOctets c → NullIn c (Err e) → Contents rule null c t → Unit {0} → ⊥
-null_none rule c e t o h k b = h.0 k.1
+null_none : (rule : Codec) (c : List ℕ) (e : Cause) (t : Tree) → AreOctets c → NullIn c (Err e) → Contents rule null c t → (IsStrict rule → Unit {0}) → Unit {0} → ⊥
+null_none rule c e t o h k s b = h.0 k.1
 
 pub null_decodes : (tag : Tag) (old new : State) (result : Result (Unit {0}) DecodeError) → AreOctets old.rest → Gave (λ u. u) (NullAt old.rule tag old.rest) old result new → Decodes (leaf null tag unconstrained) (λ _. number (pos 0)) old result new
 unfolding Reads

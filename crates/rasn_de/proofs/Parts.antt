@@ -2,14 +2,14 @@
 -- clause, `ensures { DecodesParts PARTS TREE decoder.old result decoder.new }`, and answers a line for each `?` and one for `Ok`:
 --
 --     pub returns-in_err-first : goal.returns-in_err-first
---     returns-in_err-first c = refused _ _ _ c.from_residual.ensures.1 (first_refused _ _ _ c.in_err-first.ensures)
+--     returns-in_err-first c = refused _ _ _ c.from_residual.ensures.1 (part_refused _ _ _ _ c.in_err-first.ensures)
 --
 --     pub returns-in_err-second : goal.returns-in_err-second
 --     returns-in_err-second c =
---         refused _ _ _ c.from_residual-in_err-second.ensures.1 (later_refused _ _ _ c.in_ok-first.ensures (first_refused _ _ _ c.in_err-second.ensures))
+--         refused _ _ _ c.from_residual-in_err-second.ensures.1 (after_part_refused _ _ _ _ c.in_ok-first.ensures (part_refused _ _ _ _ c.in_err-second.ensures))
 --
 --     pub returns : goal.returns
---     returns c = parts_got _ _ c.in_ok-first.ensures (parts_got _ _ c.in_ok-second.ensures no_parts)
+--     returns c = part_got _ _ _ c.in_ok-first.ensures (part_got _ _ _ c.in_ok-second.ensures no_parts)
 use Rattle.std.proofs.Common.{◌≡◌, ℕ, Bool, List, [], ◌∷◌, Option, Result, Err, refl, sym, ap, ◌∙◌, subst}
 use Rattle.std.specs.Prelude.{IsErrAnd}
 use Rattle.std.proofs.lemmas.Result.{err_from_is_err_and}
@@ -17,6 +17,7 @@ use Rattle.rasn_types.specs.declared.types.rules.Codec.{Codec}
 use Rattle.rasn_types.specs.declared.types.tag.Tag.{Tag}
 use Rattle.rasn_types.specs.declared.error.decode.DecodeError.{DecodeError}
 use Rattle.rasn_types.specs.declared.error.decode.DecodeErrorKind.{DecodeErrorKind}
+use Rattle.rasn_types.specs.Tags.{form}
 use Rattle.rasn_types.specs.Shapes.{Shape, Tree, items, done, joined, absent, option, Parts, part, Presence, required, optional, default, own, looked_for}
 use Rattle.rasn_types.specs.Shapes.Parts.{none}
 use Rattle.rasn_types.specs.Readers.{Reading, ReadsPart, Perhaps, InOrder}
@@ -32,7 +33,7 @@ use Rattle.rasn_de.proofs.Stepping.{kept_after}
 
 -- one part, as its presence says
 abbrev pub OnePart : Presence → Shape → Codec → ℕ → Bool → Reading Tree
-OnePart p s rule depth closing = ReadsPart p (own s) (Reads rule s depth closing) closing
+OnePart p s rule depth closing = ReadsPart rule p (own s) (Reads rule s depth closing) closing
 
 -- no part
 pub no_parts : {old : State} → Answers (ReadsParts none) old (Got done old.rest) old
@@ -70,7 +71,7 @@ module _ (p : Presence) (s : Shape) (ps : Parts) (old mid new : State) (t : Tree
   unfolding ReadsParts parts_of
   behind_first v r (ts, e, (x, xs, middle, f, y, z)) =
       let q = a.exact.1 x middle y in
-      (items xs, e ∙ ap items f ∙ ap (λ w. joined w (items xs)) q.0, (xs, refl, subst (λ l. InOrder (parts_of old.rule ps old.depth old.closing) old.closing l xs r) q.1 z))
+      (items xs, e ∙ ap items f ∙ ap (λ w. joined w (items xs)) q.0, (xs, refl, subst (λ l. InOrder old.rule (parts_of old.rule ps old.depth old.closing) old.closing l xs r) q.1 z))
 
   -- A later part is refused.
   pub others_refused : (k : DecodeErrorKind) → Answers (ReadsParts ps) mid (refusal k) new → Answers (ReadsParts (part p s ps)) old (refusal k) new
@@ -95,28 +96,16 @@ module _ (p : Presence) (s : Shape) (ps : Parts) (old mid new : State) (t : Tree
         );
       }
 
--- The same of parts that are required.
-pub first_refused : (s : Shape) (ps : Parts) (k : DecodeErrorKind) {old new : State} → Answers (λ rule. Reads rule s) old (refusal k) new → Answers (ReadsParts (part required s ps)) old (refusal k) new
-first_refused s ps k {old} {new} a = one_refused required s ps old new k a
-
-pub later_refused : (s : Shape) (ps : Parts) (k : DecodeErrorKind) {old mid new : State} {t : Tree} → Answers (λ rule. Reads rule s) old (Got t mid.rest) mid → Answers (ReadsParts ps) mid (refusal k) new
-    → Answers (ReadsParts (part required s ps)) old (refusal k) new
-later_refused s ps k {old} {mid} {new} {t} a b = others_refused required s ps old mid new t a k b
-
-pub parts_got : (s : Shape) (ps : Parts) {old mid new : State} {t u : Tree} → Answers (λ rule. Reads rule s) old (Got t mid.rest) mid → Answers (ReadsParts ps) mid (Got u new.rest) new
-    → Answers (ReadsParts (part required s ps)) old (Got (joined t u) new.rest) new
-parts_got s ps {old} {mid} {new} {t} {u} a b = others_got required s ps old mid new t a u b
-
 -- A part that may be left out is read as the value of such a type is.
 pub optional_part : {g : Option Tag} (s : Shape) → own s ≡ g → {old new : State} {o : Outcome} → Answers (λ rule. Reads rule (option g s)) old o new → Answers (OnePart optional s) old o new
 unfolding Reads
-optional_part {g} s e {old} {new} {o} a = record { stays = a.stays; end = a.end; exact = subst (λ h. Exact (Perhaps h absent (Reads old.rule s old.depth old.closing) old.closing) old.rest o) (sym e) a.exact }
+optional_part {g} s e {old} {new} {o} a = record { stays = a.stays; end = a.end; exact = subst (λ h. Exact (Perhaps (form old.rule) h absent (Reads old.rule s old.depth old.closing) old.closing) old.rest o) (sym e) a.exact }
 
 -- So is one that has a default.
 pub default_part : (tag : Tag) (d : Tree) (s : Shape) → own s ≡ looked_for tag → {old new : State} {o : Outcome} → Answers (ReadsDefault tag d s) old o new → Answers (OnePart (default d) s) old o new
-default_part tag d s e {old} {new} {o} a = record { stays = a.stays; end = a.end; exact = subst (λ h. Exact (Perhaps h d (Reads old.rule s old.depth old.closing) old.closing) old.rest o) (sym e) a.exact }
+default_part tag d s e {old} {new} {o} a = record { stays = a.stays; end = a.end; exact = subst (λ h. Exact (ReadsPart old.rule (default d) h (Reads old.rule s old.depth old.closing) old.closing) old.rest o) (sym e) a.exact }
 
--- The same steps of parts of any presence.
+-- The steps of a user's closure: the next part is refused; one was read, and a later one is refused; one was read, and the others.
 pub part_refused : (p : Presence) (s : Shape) (ps : Parts) (k : DecodeErrorKind) {old new : State} → Answers (OnePart p s) old (refusal k) new → Answers (ReadsParts (part p s ps)) old (refusal k) new
 part_refused p s ps k {old} {new} a = one_refused p s ps old new k a
 

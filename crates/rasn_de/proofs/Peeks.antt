@@ -1,29 +1,38 @@
 -- The next tag.
-use Rattle.std.proofs.Common.{◌≡◌, ◌≢◌, ℕ, List, Ok, Err, refl, ap, ◌∙◌, subst}
+use Rattle.std.proofs.Common.{◌≡◌, ◌≢◌, ℕ, Bool, List, Ok, Err, refl, ap, ◌∙◌, subst}
 use Rattle.rasn_types.specs.declared.types.tag.Tag.{Tag}
 use Rattle.rasn_types.specs.Framing.{AreOctets, Next}
+use Rattle.rasn_types.specs.Tags.{Form}
 use Rattle.rasn_types.specs.Errors.{IsMemory}
 use Rattle.rasn_de.specs.declared.ber.de.parser.Fault.{Fault}
 use Rattle.rasn_de.specs.declared.ber.de.parser.Fault.TheVariants as fault
-use Rattle.rasn_de.specs.Headers.{Identified, identifier_at}
+use Rattle.rasn_de.specs.Headers.{spelled, Identified, identifier_by, identifier_at}
 use Rattle.rasn_de.specs.Causes.{kind_of}
+use Rattle.rasn_de.specs.declared.ber.de.parser.headers.Spelling.{Spelling}
 use Rattle.rasn_de.proofs.Identifiers.{identifier_found, identifier_spelled}
 use Rattle.rasn_de.proofs.Memory.{NoMemory, identifier_none}
 
-pub next_found : (l : List ℕ) (i : Identified) → AreOctets l → identifier_at l ≡ Ok i → Next l i.tag
-next_found l i o e =
-    let s = identifier_found l i o e in
-    record { begins = record { id = s.front; bit = i.bit; more = i.rest; spells = s.spells.spells; is = s.is }; is_one = s.spells.is_one }
+pub next_found : (spelling : Form) (l : List ℕ) (i : Identified) → AreOctets l → identifier_at spelling l ≡ Ok i → Next spelling l i.tag
+next_found spelling l i o e =
+    let s = identifier_found spelling l i o e in
+    record { begins = record { id = s.front; bit = i.bit; more = i.rest; spells = s.spells.spells; is = s.is }; is_one = s.spells.is_one; shortest = s.shortest }
 
-pub next_none : (l : List ℕ) (f : Fault) → identifier_at l ≡ Err f → (t : Tag) → Next l t → ⊥
-next_none l f e t n =
+pub next_none : (spelling : Form) (l : List ℕ) (f : Fault) → identifier_at spelling l ≡ Err f → (t : Tag) → Next spelling l t → ⊥
+next_none spelling l f e t n =
     let b = n.begins in
-    let k = identifier_spelled b.id b.more t b.bit (record { spells = b.spells; is_one = n.is_one }) in
-    let h : identifier_at l ≡ Ok (record { tag = t; bit = b.bit; rest = b.more }) = ap identifier_at b.is ∙ k in
+    let k = identifier_spelled spelling b.id b.more t b.bit (record { spells = b.spells; is_one = n.is_one }) n.shortest in
+    let h : identifier_at spelling l ≡ Ok (record { tag = t; bit = b.bit; rest = b.more }) = ap (identifier_at spelling) b.is ∙ k in
     cc
 
-pub next_memory : (l : List ℕ) (f : Fault) → identifier_at l ≡ Err f → f ≢ fault.OutOfMemory
-next_memory l f e = subst NoMemory e (identifier_none l)
+-- the same of the spelling that the code has
+pub next_read : (spelling : Form) (s : Spelling) → s ≡ spelled spelling → (l : List ℕ) (i : Identified) → AreOctets l → identifier_by s.shortest l ≡ Ok i → Next spelling l i.tag
+next_read spelling s e l i o f = next_found spelling l i o (subst (λ (z : Spelling). identifier_by z.shortest l ≡ Ok i) e f)
+
+pub next_unread : (spelling : Form) (s : Spelling) → s ≡ spelled spelling → (l : List ℕ) (f : Fault) → identifier_by s.shortest l ≡ Err f → (t : Tag) → Next spelling l t → ⊥
+next_unread spelling s e l f g = next_none spelling l f (subst (λ (z : Spelling). identifier_by z.shortest l ≡ Err f) e g)
+
+pub next_memory : (shortest : Bool) (l : List ℕ) (f : Fault) → identifier_by shortest l ≡ Err f → f ≢ fault.OutOfMemory
+next_memory shortest l f e = subst NoMemory e (identifier_none shortest l)
 
 -- A fault but want of memory isn't told as want of memory.
 pub kind_memory : (f : Fault) → f ≢ fault.OutOfMemory → IsMemory (kind_of f) → ⊥

@@ -1,5 +1,5 @@
 -- A prefixed value is read where the value stands alone in its contents.
-use Rattle.std.proofs.Common.{◌≡◌, ◌≢◌, ℕ, ◌-◌, ◌⊎◌, inl, List, Bool, Result, Ok, refl}
+use Rattle.std.proofs.Common.{◌≡◌, ◌≢◌, ℕ, ◌-◌, ◌⊎◌, inl, List, Bool, true, Result, Ok, refl}
 use Rattle.rasn_types.specs.declared.types.tag.Tag.{Tag}
 use Rattle.rasn_types.specs.declared.error.decode.DecodeError.{DecodeError}
 use Rattle.rasn_types.specs.Framing.{AreOctets}
@@ -13,6 +13,7 @@ use Rattle.rasn_de.specs.Outcomes.{Exact, outcome}
 use Rattle.rasn_de.specs.Decodes.{Decodes}
 use Rattle.rasn_de.specs.Inside.{door_at, is_open, inner_state, ReadInside}
 use Rattle.rasn_de.specs.Prefixes.{prefix_door}
+use Rattle.rasn_de.proofs.Frames.{written_bit, as_it_is}
 use Rattle.rasn_de.proofs.Holding.{Exact-same, Held, IsCut, held_exact, kept}
 
 module _ {D : Type 0} (tree : D → Tree) (s : Shape) (tag : Tag) (old : State) (o : old.depth ≢ 0 → AreOctets old.rest) where
@@ -25,11 +26,11 @@ module _ {D : Type 0} (tree : D → Tree) (s : Shape) (tag : Tag) (old : State) 
 
   there : (input : List ℕ) (t : Tree) (r : List ℕ) → Held (prefix_door tag) R old o input t r → Reads old.rule (prefix tag s) old.depth old.closing input t r
   unfolding Reads
-  there input t r (n, bit, q, i) = (n, bit, i)
+  there input t r (n, bit, q, i) = (n, bit, written_bit old.rule tag tag true bit q.1, i)
 
   back : (input : List ℕ) (t : Tree) (r : List ℕ) → Reads old.rule (prefix tag s) old.depth old.closing input t r → Held (prefix_door tag) R old o input t r
   unfolding Reads
-  back input t r (n, bit, i) = (n, bit, refl, i)
+  back input t r (n, bit, w, i) = (n, bit, (refl, as_it_is old.rule tag true bit w), i)
 
   pub prefix_decodes : (result : Result D DecodeError) (new : State) → ReadInside (Decodes s tree) (prefix_door tag) old result new → Decodes (prefix tag s) tree old result new
   prefix_decodes result new k =

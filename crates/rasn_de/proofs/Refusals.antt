@@ -1,13 +1,15 @@
 -- Refusals of contents that were taken.
-use Rattle.std.proofs.Common.{◌≡◌, ℕ, List, Some, Result, Ok, Err, refl, sym, ap, ◌∙◌, subst}
+use Rattle.std.proofs.Common.{◌≡◌, ℕ, List, Result, Ok, Err, refl, sym, ap, ◌∙◌, subst}
 use Rattle.rasn_types.specs.declared.types.tag.Tag.{Tag}
 use Rattle.rasn_types.specs.declared.error.decode.DecodeError.{DecodeError}
 use Rattle.rasn_types.specs.Framing.{indefinite}
 use Rattle.rasn_de.specs.declared.ber.de.parser.Fault.{Fault}
 use Rattle.rasn_de.specs.declared.ber.de.parser.Fault.TheVariants.{IndefiniteLengthNotAllowed}
 use Rattle.rasn_de.specs.declared.ber.de.parser.Value.{Value}
+use Rattle.rasn_de.specs.declared.ber.de.parser.headers.Expected.{Expected}
 use Rattle.rasn_de.specs.declared.ber.de.parser.Contents.TheVariants.{Indefinite}
-use Rattle.rasn_de.specs.Headers.{header_at}
+use Rattle.rasn_types.specs.Tags.{form, tag_bit}
+use Rattle.rasn_de.specs.Headers.{header_at, as_written}
 use Rattle.rasn_de.specs.Views.{extent, framed}
 use Rattle.rasn_de.specs.Causes.{Cause, fault}
 use Rattle.rasn_de.specs.Leaves.{definite_at, Readings, FromContents, LeafAt, Refuses, Gave}
@@ -22,11 +24,12 @@ pub refuses_fault : {X : Type 0} (Is : Readings X) (old new : State) (f : Fault)
 refuses_fault Is old new f e r s k = (fault f, r, ap (λ (x : DecodeError). x.kind) k, ap (λ (x : DecodeError). x.codec) k ∙ rule_is old new s, s)
 
 -- an indefinite form where it has none
-pub indefinite_refused : (tag : Tag) (old new : State) (v : Value) (e : DecodeError) → header_at old.rule (Some tag) old.rest ≡ Ok (framed v new.rest) → v.contents ≡ Indefinite → new ≡ at old new.rest
+pub indefinite_refused : (tag : Tag) (old new : State) (v : Value) (e : DecodeError) (x : Expected) → x ≡ as_written old.rule tag (tag_bit tag) → header_at (form old.rule) x old.rest ≡ Ok (framed v new.rest) → v.contents ≡ Indefinite → new ≡ at old new.rest
     → ErrorOf IndefiniteLengthNotAllowed new e → Refuses (λ r. definite_at old.rule tag old.rest ≡ r) old e new
-indefinite_refused tag old new v e h i s k =
-    let x : extent v.contents ≡ indefinite = ap extent i in
-    refuses_fault (λ r. definite_at old.rule tag old.rest ≡ r) old new IndefiniteLengthNotAllowed e (rw (h, x) refl) s k
+indefinite_refused tag old new v e x q g i s k =
+    let h = subst (λ z. header_at (form old.rule) z old.rest ≡ Ok (framed v new.rest)) q g in
+    let y : extent v.contents ≡ indefinite = ap extent i in
+    refuses_fault (λ r. definite_at old.rule tag old.rest ≡ r) old new IndefiniteLengthNotAllowed e (rw (h, y) refl) s k
 
 -- where the contents are refused, the value is
 pub leaf_refused : {X : Type 0} (read : List ℕ → Result X Cause → Type 0) (tag : Tag) (old new : State) (e : DecodeError) → Refuses (λ r. definite_at old.rule tag old.rest ≡ r) old e new
@@ -48,7 +51,8 @@ pub same_at : (old new : State) → new ≡ old → new ≡ at old new.rest
 same_at old new s = s ∙ ap (λ r. at old r) (sym (ap (λ (x : State). x.rest) s))
 
 -- where no header is, no contents are
-pub header_refused : (tag : Tag) (old new : State) (e : DecodeError) → Takes tag old (Err e) new → Refuses (λ r. definite_at old.rule tag old.rest ≡ r) old e new
-header_refused tag old new e (f, h, k, s) =
+pub header_refused : (tag : Tag) (old new : State) (e : DecodeError) (x : Expected) → x ≡ as_written old.rule tag (tag_bit tag) → Takes x old (Err e) new → Refuses (λ r. definite_at old.rule tag old.rest ≡ r) old e new
+header_refused tag old new e x q (f, g, k, s) =
+    let h = subst (λ z. header_at (form old.rule) z old.rest ≡ Err f) q g in
     let r : new.rest ≡ old.rest = ap (λ (x : State). x.rest) s in
     (fault f, rw (h, r) refl, ap (λ (x : DecodeError). x.kind) k, ap (λ (x : DecodeError). x.codec) k, same_at old new s)

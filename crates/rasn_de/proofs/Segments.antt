@@ -1,12 +1,15 @@
 -- Segments one behind the other.
-use Rattle.std.proofs.Common.{◌≡◌, ◌≢◌, ℕ, zero, suc, ◌-◌, ◌<◌, ◌≤◌, ◌⊎◌, inl, inr, Bool, true, false, ◌&&◌, cond, List, [], ◌∷◌, ◌++◌, length, Some, Result, Ok, Err, refl, sym, ap, ◌∙◌, arith, append_assoc, append-nil}
+use Rattle.std.proofs.Common.{◌≡◌, ◌≢◌, ℕ, zero, suc, ◌-◌, ◌<◌, ◌≤◌, ◌⊎◌, inl, inr, Bool, true, false, ◌&&◌, cond, List, [], ◌∷◌, ◌++◌, length, Result, Ok, Err, refl, sym, ap, ◌∙◌, arith, append_assoc, append-nil}
 use Rattle.std.specs.Prelude.{nat_eq}
 use Rattle.rasn_types.specs.declared.types.tag.Tag.{Tag}
 use Rattle.rasn_types.specs.declared.types.rules.Codec.{Codec}
 use Rattle.rasn_de.specs.declared.ber.de.parser.Fault.{Fault}
-use Rattle.rasn_de.specs.declared.ber.de.parser.Fault.TheVariants.{ConstructedEncodingNotAllowed}
+use Rattle.rasn_de.specs.declared.ber.de.parser.Fault.TheVariants.{Der}
+use Rattle.rasn_types.specs.declared.error.decode.DerDecodeErrorKind.TheVariants.{ConstructedEncodingNotAllowed}
 use Rattle.rasn_types.specs.Framing.{Extent, definite, indefinite}
-use Rattle.rasn_de.specs.Headers.{◌>>=◌, Header, header_at, is_der}
+use Rattle.rasn_types.specs.Tags.{form}
+use Rattle.rasn_de.specs.declared.ber.de.parser.headers.Expected.TheVariants.{Tagged}
+use Rattle.rasn_de.specs.Headers.{◌>>=◌, spelled, Header, header_at, is_der}
 use Rattle.rasn_de.specs.Strings.{ends, segments_at, closed_at, inner, used_up, finished, string_in, too_deep, segments_in, string_of, segment_at}
 use Rattle.rasn_de.proofs.Tools.{bind_ok, chosen, guarded}
 use Rattle.rasn_de.proofs.Shorter.{header_shorter}
@@ -123,12 +126,12 @@ unfolding string_of
 string_shorter rule segment tag zero h p e = string_in_shorter rule segment too_deep (λ x rest p e. cc) h.bit h.extent h.rest p e
 string_shorter rule segment tag (suc d) h p e =
     string_in_shorter rule segment (segments_in (segment_at rule segment tag d))
-    (nested_shorter (segment_at rule segment tag d) (λ l p e. let g = bind_ok (header_at rule (Some tag) l) _ p e in omega (arith, header_shorter rule (Some tag) l g.0 g.1, string_shorter rule segment tag d g.0 p g.2)))
+    (nested_shorter (segment_at rule segment tag d) (λ l p e. let g = bind_ok (header_at (form rule) (Tagged tag) l) _ p e in omega (arith, header_shorter (spelled (form rule)) (Tagged tag) l g.0 g.1, string_shorter rule segment tag d g.0 p g.2)))
     h.bit h.extent h.rest p e
 
 pub segment_shorter : {X : Type 0} (rule : Codec) (segment : List ℕ → Result (List X) Fault) (tag : Tag) (d : ℕ) → AllShorten (segment_at rule segment tag d)
 segment_shorter rule segment tag d l p e =
-    let g = bind_ok (header_at rule (Some tag) l) _ p e in omega (arith, header_shorter rule (Some tag) l g.0 g.1, string_shorter rule segment tag d g.0 p g.2)
+    let g = bind_ok (header_at (form rule) (Tagged tag) l) _ p e in omega (arith, header_shorter (spelled (form rule)) (Tagged tag) l g.0 g.1, string_shorter rule segment tag d g.0 p g.2)
 
 -- What has been gathered from start up to left.
 pub record Gathering {X : Type 0} (read : List ℕ → Result (List X × List ℕ) Fault) (start left : List ℕ) (old new : List X) : Type 0 where
@@ -165,13 +168,13 @@ abbrev pub IsNested : Header → Type 0
 IsNested h = (h.bit ≡ true) ⊎ (h.extent ≡ indefinite)
 
 string_in_nested : {X : Type 0} (rule : Codec) (segment : List ℕ → Result (List X) Fault) (nested : Extent → List ℕ → Result (List X × List ℕ) Fault)
-    → (bit : Bool) (x : Extent) (rest : List ℕ) → (bit ≡ true) ⊎ (x ≡ indefinite) → string_in rule segment nested bit x rest ≡ cond (is_der rule) (Err ConstructedEncodingNotAllowed) (nested x rest)
+    → (bit : Bool) (x : Extent) (rest : List ℕ) → (bit ≡ true) ⊎ (x ≡ indefinite) → string_in rule segment nested bit x rest ≡ cond (is_der rule) (Err (Der ConstructedEncodingNotAllowed)) (nested x rest)
 string_in_nested rule segment nested true x rest h = refl
 string_in_nested rule segment nested false indefinite rest h = refl
 string_in_nested rule segment nested false (definite c) rest (inl e) = cc
 string_in_nested rule segment nested false (definite c) rest (inr e) = cc
 
-pub string_der : {X : Type 0} (rule : Codec) (segment : List ℕ → Result (List X) Fault) (tag : Tag) (d : ℕ) (h : Header) → IsNested h → is_der rule ≡ true → string_of rule segment tag d h ≡ Err ConstructedEncodingNotAllowed
+pub string_der : {X : Type 0} (rule : Codec) (segment : List ℕ → Result (List X) Fault) (tag : Tag) (d : ℕ) (h : Header) → IsNested h → is_der rule ≡ true → string_of rule segment tag d h ≡ Err (Der ConstructedEncodingNotAllowed)
 unfolding string_of
 string_der rule segment tag zero h n e = string_in_nested rule segment too_deep h.bit h.extent h.rest n ∙ rw e refl
 string_der rule segment tag (suc d) h n e = string_in_nested rule segment (segments_in (segment_at rule segment tag d)) h.bit h.extent h.rest n ∙ rw e refl
@@ -203,10 +206,10 @@ pub segments_in_found : {X : Type 0} (read : List ℕ → Result (List X × List
     → segments_in read x rest ≡ (finished x rest left >>= λ r. let a : Result (List X × List ℕ) Fault = Ok (xs, r) in a)
 segments_in_found read x rest left xs e = rw e refl
 
-pub segment_fault : {X : Type 0} (rule : Codec) (segment : List ℕ → Result (List X) Fault) (tag : Tag) (d : ℕ) (l : List ℕ) (f : Fault) → header_at rule (Some tag) l ≡ Err f → segment_at rule segment tag d l ≡ Err f
+pub segment_fault : {X : Type 0} (rule : Codec) (segment : List ℕ → Result (List X) Fault) (tag : Tag) (d : ℕ) (l : List ℕ) (f : Fault) → header_at (form rule) (Tagged tag) l ≡ Err f → segment_at rule segment tag d l ≡ Err f
 segment_fault rule segment tag d l f e = rw e refl
 
-pub segment_found : {X : Type 0} (rule : Codec) (segment : List ℕ → Result (List X) Fault) (tag : Tag) (d : ℕ) (l : List ℕ) (h : Header) → header_at rule (Some tag) l ≡ Ok h → segment_at rule segment tag d l ≡ string_of rule segment tag d h
+pub segment_found : {X : Type 0} (rule : Codec) (segment : List ℕ → Result (List X) Fault) (tag : Tag) (d : ℕ) (l : List ℕ) (h : Header) → header_at (form rule) (Tagged tag) l ≡ Ok h → segment_at rule segment tag d l ≡ string_of rule segment tag d h
 segment_found rule segment tag d l h e = rw e refl
 
 pub string_plain_fault : {X : Type 0} (rule : Codec) (segment : List ℕ → Result (List X) Fault) (tag : Tag) (d : ℕ) (h : Header) (c : List ℕ) (f : Fault) → h.bit ≡ false → h.extent ≡ definite c → segment c ≡ Err f

@@ -17,13 +17,9 @@ use Rattle.rasn_de.specs.Decodes.{Decodes, DecodesParts}
 use Rattle.rasn_de.specs.Inside.{door_at, is_open, inner_state, ReadInside}
 use Rattle.rasn_de.specs.Sequences.{sequence_door, is_initial, Initial, Fills, MakesBare}
 use Rattle.rasn_de.proofs.Holding.{Exact-same, Held, related, IsCut, held_exact, kept}
-use Rattle.rasn_de.proofs.Insides.{IsInside}
+use Rattle.rasn_de.proofs.Insides.{IsInside, bit_is}
 use Rattle.rasn_de.proofs.Nothing.{parts_nothing}
 use Rattle.rasn_de.proofs.Filling.{SeqReads, fills_exact}
-
-bit_is : (b : Bool) → true && not b ≡ false → b ≡ true
-bit_is true e = refl
-bit_is false e = cc
 
 -- At the end of an input nothing is read in front of closing octets.
 cut_none : (rule : Codec) (parts : Parts) (depth : ℕ) (closing : Bool) (t : Tree) (l : List ℕ) → SeqReads parts rule depth closing [] t l → (closing ≡ true) → l ≡ []
@@ -68,11 +64,11 @@ module _ {I D : Type 0} (root more : ℕ) (flag : Bool) (parts : Parts) (d : des
 
   there : (input : List ℕ) (t : Tree) (r : List ℕ) → Held (sequence_door tag) (R parts old) old o input t r → Reads old.rule (seq tag parts) old.depth old.closing input t r
   unfolding Reads
-  there input t r (n, bit, q, i) = (n, subst (λ b. Inside old.rule tag b (R parts old) input t r) (bit_is bit q) i)
+  there input t r (n, bit, q, i) = (n, subst (λ b. Inside old.rule tag b (R parts old) input t r) (bit_is bit q.0) i)
 
   back : (input : List ℕ) (t : Tree) (r : List ℕ) → Reads old.rule (seq tag parts) old.depth old.closing input t r → Held (sequence_door tag) (R parts old) old o input t r
   unfolding Reads
-  back input t r (n, i) = (n, true, refl, i)
+  back input t r (n, i) = (n, true, (refl, refl), i)
 
   pub sequence_decodes : (result : Result D DecodeError) (new : State) → ReadInside Read (sequence_door tag) old result new → Decodes (seq tag parts) tree old result new
   sequence_decodes result new k =

@@ -1,5 +1,5 @@
 -- Readings that take no memory.
-use Rattle.std.proofs.Common.{◌≡◌, ◌≢◌, ℕ, ℤ, ◌⊎◌, inl, inr, Bool, true, false, List, [], ◌∷◌, Some, Result, Ok, Err, sym, ◌∙◌, subst}
+use Rattle.std.proofs.Common.{◌≡◌, ◌≢◌, ℕ, ℤ, ◌⊎◌, inl, inr, Bool, true, false, List, [], ◌∷◌, Result, Ok, Err, sym, ◌∙◌, subst}
 use Rattle.std.specs.Prelude.{nat_eq}
 use Rattle.rasn_types.specs.declared.types.tag.Tag.{Tag}
 use Rattle.rasn_types.specs.declared.types.rules.Codec.{Codec}
@@ -9,9 +9,10 @@ use Rattle.rasn_types.specs.Framing.{Extent, definite, indefinite}
 use Rattle.rasn_types.specs.Errors.{IsMemory}
 use Rattle.rasn_de.specs.declared.ber.de.parser.Fault.{Fault}
 use Rattle.rasn_de.specs.declared.ber.de.parser.Fault.TheVariants.{OutOfMemory, InvalidBool}
-use Rattle.rasn_de.specs.Headers.{Header, header_at}
+use Rattle.rasn_types.specs.Tags.{form, tag_bit}
+use Rattle.rasn_de.specs.Headers.{spelled, Header, header_at, as_written}
 use Rattle.rasn_de.specs.Causes.{Cause, fault, out_of_bound, Tells}
-use Rattle.rasn_de.specs.Leaves.{on_header, definite_in, definite_at, FromContents, LeafAt, as_cause, is_ber, bool_in, Refuses, IntegerIn, IntegerAt, GaveInteger, IsBeyond}
+use Rattle.rasn_de.specs.Leaves.{on_header, definite_in, definite_at, FromContents, LeafAt, as_cause, is_ber, bool_in, Refuses, LacksNumber, IntegerIn, IntegerAt, GaveInteger, IsBeyond}
 use Rattle.rasn_types.specs.declared.types.constraints.Constraints.{Constraints}
 use Rattle.rasn_types.specs.Shapes.{Interval}
 use Rattle.rasn_de.specs.State.{State}
@@ -40,7 +41,7 @@ header_plain l (Ok h) n = extent_plain h.extent h.rest
 header_plain l (Err f) n = n
 
 pub definite_plain : (rule : Codec) (tag : Tag) (l : List ℕ) → Plainly (definite_at rule tag l)
-definite_plain rule tag l = header_plain l (header_at rule (Some tag) l) (header_none rule (Some tag) l)
+definite_plain rule tag l = header_plain l (header_at (form rule) (as_written rule tag (tag_bit tag)) l) (header_none (spelled (form rule)) (as_written rule tag (tag_bit tag)) l)
 
 contents_plain : {X : Type 0} (read : List ℕ → Result X Cause → Type 0) → ((c : List ℕ) (e : Cause) → read c (Err e) → IsPlainCause e) → (d : Result (List ℕ × List ℕ) (Cause × List ℕ)) → Plainly d
     → (e : Cause × List ℕ) → FromContents read d (Err e) → IsPlainCause e.0
@@ -79,16 +80,20 @@ contents_bound : {X : Type 0} (read : List ℕ → Result X Cause → Type 0) �
 contents_bound read f (Ok p) n e (a, b) = f p.0 e.0 a
 contents_bound {X} read f (Err d) n e a = let z : e ≡ d = cc in subst (λ (u : Cause × List ℕ). IsPlainOrBound u.0) (sym z) (plain_or d.0 n)
 
-integer_cause : (width : ℕ) (range : Interval) (bounds : Constraints) (c : List ℕ) (e : Cause) → IntegerIn width range bounds c (Err e) → IsPlainOrBound e
-integer_cause width range bounds c (fault f) (inl (n, g)) = λ h. cc
-integer_cause width range bounds c (fault f) (inr (n, i, g)) = λ h. cc
-integer_cause width range bounds c (out_of_bound z bound) a = tt
+pub lacks_plain : (rule : Codec) (c : List ℕ) (f : Fault) → LacksNumber rule c f → f ≢ OutOfMemory
+lacks_plain rule c f (inl (n, g)) = λ h. cc
+lacks_plain rule c f (inr (n, s, k, g)) = λ h. cc
+
+integer_cause : (rule : Codec) (width : ℕ) (range : Interval) (bounds : Constraints) (c : List ℕ) (e : Cause) → IntegerIn rule width range bounds c (Err e) → IsPlainOrBound e
+integer_cause rule width range bounds c (fault f) (inl h) = lacks_plain rule c f h
+integer_cause rule width range bounds c (fault f) (inr (n, i, g)) = λ h. cc
+integer_cause rule width range bounds c (out_of_bound z bound) a = tt
 
 pub integer_memory : {X : Type 0} (see : X → ℤ) (Grows : Type 0) (width : ℕ) (range : Interval) (bounds : Constraints) (tag : Tag) (old new : State) (e : DecodeError)
     → GaveInteger see Grows tag (IntegerAt width range bounds old.rule tag old.rest) old (Err e) new → IsMemory e.kind → Grows ⊎ IsBeyond (IntegerAt width range bounds old.rule tag old.rest) new.rest
 integer_memory see Grows width range bounds tag old new e (inl (m, g, c, s, l, h)) n = inl g
 integer_memory see Grows width range bounds tag old new e (inr (cause, a, t, c, s)) n =
-    inr (go cause a t (contents_bound (IntegerIn width range bounds) (integer_cause width range bounds) (definite_at old.rule tag old.rest) (definite_plain old.rule tag old.rest) (cause, new.rest) a))
+    inr (go cause a t (contents_bound (IntegerIn old.rule width range bounds) (integer_cause old.rule width range bounds) (definite_at old.rule tag old.rest) (definite_plain old.rule tag old.rest) (cause, new.rest) a))
   where
     go : (x : Cause) → IntegerAt width range bounds old.rule tag old.rest (Err (x, new.rest)) → Tells x e.kind → IsPlainOrBound x → IsBeyond (IntegerAt width range bounds old.rule tag old.rest) new.rest
     go (fault f) a t p = absurd (tells_plain (fault f) e.kind p t n)

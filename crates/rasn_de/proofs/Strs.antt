@@ -1,5 +1,5 @@
 -- A string is read exactly where one stands.
-use Rattle.std.proofs.Common.{◌≡◌, ℕ, zero, suc, ◌≤◌, ◌⊎◌, inl, inr, Bool, true, false, ◌&&◌, cond, List, [], ◌∷◌, ◌++◌, length, Some, Result, Ok, Err, refl, sym, ap, ◌∙◌, subst, arith}
+use Rattle.std.proofs.Common.{◌≡◌, ℕ, zero, suc, ◌≤◌, ◌⊎◌, inl, inr, Bool, true, false, ◌&&◌, cond, List, [], ◌∷◌, ◌++◌, length, Result, Ok, Err, refl, sym, ap, ◌∙◌, subst, arith}
 use Rattle.std.specs.Prelude.{nat_eq}
 use Rattle.std.proofs.lemmas.Bool.Decides.{nat_tests}
 use Rattle.rasn_types.specs.declared.types.tag.Tag.{Tag}
@@ -11,6 +11,7 @@ use Rattle.rasn_types.specs.Framing.{Extent, definite, indefinite, Frame, with_l
 use Rattle.rasn_types.specs.Tags.{Form, form}
 use Rattle.rasn_types.specs.Readers.{Reading, Many, in_definite, in_indefinite}
 use Rattle.rasn_types.specs.Contents.{joined_lists, Str}
+use Rattle.rasn_de.specs.declared.ber.de.parser.headers.Expected.TheVariants.{Tagged}
 use Rattle.rasn_de.specs.Headers.{◌>>=◌, header_at, is_der}
 use Rattle.rasn_de.specs.Strings.{ends, segments_at, closed_at, inner, used_up, string_in, too_deep, segments_in, string_of, segment_at, string_at}
 use Rattle.rasn_de.proofs.Tools.{bind_ok, chosen, guarded, AreOctets, octets_back, octets_front}
@@ -171,12 +172,12 @@ string_last rule segment inner_tag tag l rest true x p o f e = let g = (guarded 
 pub string_found : {X : Type 0} (rule : Codec) (segment : List ℕ → Result (List X) Fault) (inner_tag : Tag) (d : ℕ) → Found rule segment inner_tag d
 unfolding string_of
 string_found rule segment inner_tag zero tag l p o e =
-    let h = bind_ok (header_at rule (Some tag) l) _ p e in
-    let f = header_found rule (Some tag) l h.0 o h.1 in
+    let h = bind_ok (header_at (form rule) (Tagged tag) l) _ p e in
+    let f = header_found (form rule) (Tagged tag) l h.0 o h.1 in
     string_last rule segment inner_tag tag l h.0.rest h.0.bit h.0.extent p o (subst (λ z. Frame (form rule) l z h.0.bit h.0.rest h.0.extent) f.1 f.0) h.2
 string_found rule segment inner_tag (suc d) tag l p o e =
-    let h = bind_ok (header_at rule (Some tag) l) _ p e in
-    let f = header_found rule (Some tag) l h.0 o h.1 in
+    let h = bind_ok (header_at (form rule) (Tagged tag) l) _ p e in
+    let f = header_found (form rule) (Tagged tag) l h.0 o h.1 in
     string_case rule segment inner_tag d (string_found rule segment inner_tag d) tag l h.0.rest h.0.bit h.0.extent p o (subst (λ z. Frame (form rule) l z h.0.bit h.0.rest h.0.extent) f.1 f.0) h.2
 
 frame_not_ends : {spelling : Form} (l : List ℕ) {tag : Tag} {bit : Bool} {rest : List ℕ} {x : Extent} → Frame spelling l tag bit rest x → ends l ≡ false
@@ -193,7 +194,7 @@ Spelled {X} rule segment inner_tag d = (tag : Tag) (l : List ℕ) (xs : List X) 
 
 string_not_ends : {X : Type 0} (rule : Codec) (segment : List ℕ → Result (List X) Fault) (inner_tag : Tag) (d : ℕ) (l : List ℕ) (p : List X × List ℕ) → AreOctets l → string_at rule segment inner_tag d inner_tag l ≡ Ok p → ends l ≡ false
 string_not_ends rule segment inner_tag d l p o e =
-    let h = bind_ok (header_at rule (Some inner_tag) l) _ p e in frame_not_ends l (header_found rule (Some inner_tag) l h.0 o h.1).0
+    let h = bind_ok (header_at (form rule) (Tagged inner_tag) l) _ p e in frame_not_ends l (header_found (form rule) (Tagged inner_tag) l h.0 o h.1).0
 
 part_spelled : {X : Type 0} (rule : Codec) (segment : List ℕ → Result (List X) Fault) (inner_tag : Tag) (d : ℕ) → Spelled rule segment inner_tag d
     → (l : List ℕ) (xs : List X) (rest : List ℕ) → AreOctets l → Str rule (Reads segment) inner_tag d inner_tag l xs rest → (segment_at rule segment inner_tag d l ≡ Ok (xs, rest)) × AreOctets rest × (ends l ≡ false)
@@ -204,7 +205,7 @@ part_spelled rule segment inner_tag d s l xs rest o r =
 plain_spelled : {X : Type 0} (rule : Codec) (segment : List ℕ → Result (List X) Fault) (inner_tag : Tag) (d : ℕ) (tag : Tag) (l : List ℕ) (xs : List X) (rest c : List ℕ) → AreOctets l
     → Frame (form rule) l tag false rest (definite c) → segment c ≡ Ok xs → string_at rule segment inner_tag d tag l ≡ Ok (xs, rest)
 plain_spelled rule segment inner_tag d tag l xs rest c o f g =
-    let h = header_spelled rule (Some tag) l tag false rest (definite c) o refl f in
+    let h = header_spelled (form rule) (Tagged tag) l tag false rest (definite c) o refl f in
     rw h (string_plain rule segment inner_tag d (record { tag = tag; bit = false; extent = definite c; rest = rest }) c xs refl refl g)
 
 -- A string is read.
@@ -213,13 +214,13 @@ unfolding string_of closed_at
 string_spelled rule segment inner_tag zero tag l xs rest o (c, f, g) = plain_spelled rule segment inner_tag zero tag l xs rest c o f g
 string_spelled rule segment inner_tag (suc d) tag l xs rest o (inl (c, f, g)) = plain_spelled rule segment inner_tag (suc d) tag l xs rest c o f g
 string_spelled rule segment inner_tag (suc d) tag l xs rest o (inr (i, parts, e, in_definite c f m)) =
-    let h = header_spelled rule (Some tag) l tag true rest (definite c) o refl f in
+    let h = header_spelled (form rule) (Tagged tag) l tag true rest (definite c) o refl f in
     let k = many_spelled (segment_at rule segment inner_tag d) (Str rule (Reads segment) inner_tag d inner_tag) (segment_shorter rule segment inner_tag d)
     (part_spelled rule segment inner_tag d (string_spelled rule segment inner_tag d)) false (length c) parts c [] (frame_octets l o f).1 (omega arith) m in
     let n = der_not rule i in
     rw h (rw (n, k, e) refl)
 string_spelled rule segment inner_tag (suc d) tag l xs rest o (inr (i, parts, e, in_indefinite body f m)) =
-    let h = header_spelled rule (Some tag) l tag true body indefinite o refl f in
+    let h = header_spelled (form rule) (Tagged tag) l tag true body indefinite o refl f in
     let k = many_spelled (segment_at rule segment inner_tag d) (Str rule (Reads segment) inner_tag d inner_tag) (segment_shorter rule segment inner_tag d)
     (part_spelled rule segment inner_tag d (string_spelled rule segment inner_tag d)) true (length body) parts body (0 ∷ 0 ∷ rest) (frame_octets l o f).0 (omega arith) m in
     let n = der_not rule i in

@@ -1,7 +1,9 @@
 -- What the private steps of a decoder take.
-use Rattle.std.proofs.Common.{◌≡◌, ℕ, List, Some, Ok, refl, sym, subst}
+use Rattle.std.proofs.Common.{◌≡◌, ℕ, List, Ok, refl, sym, subst}
 use Rattle.rasn_types.specs.declared.types.tag.Tag.{Tag}
 use Rattle.rasn_types.specs.Framing.{AreOctets}
+use Rattle.rasn_types.specs.Tags.{form}
+use Rattle.rasn_de.specs.declared.ber.de.parser.headers.Expected.{Expected}
 use Rattle.rasn_de.specs.declared.ber.de.parser.Value.{Value}
 use Rattle.rasn_de.specs.Headers.{header_at}
 use Rattle.rasn_de.specs.Views.{framed}
@@ -13,10 +15,10 @@ use Rattle.std.specs.declared.borrow.CowSlice.{CowSlice}
 use Rattle.rasn_de.specs.Octets.{octets_at, IsLentAs, Gathers}
 use Rattle.rasn_de.proofs.Ends.{IsEnd-header}
 
-pub taken : (tag : Tag) (old new : State) (v : Value) (rest : List ℕ) → AreOctets old.rest → header_at old.rule (Some tag) old.rest ≡ Ok (framed v rest) → new ≡ at old rest → Takes tag old (Ok v) new
-taken tag old new v rest o h e =
-    let P : State → Type 0 = λ n. Takes tag old (Ok v) n in
-    subst P (sym e) (h, refl, IsEnd-header old.rule (Some tag) old.rest (framed v rest) o h)
+pub taken : (expected : Expected) (old new : State) (v : Value) (rest : List ℕ) → AreOctets old.rest → header_at (form old.rule) expected old.rest ≡ Ok (framed v rest) → new ≡ at old rest → Takes expected old (Ok v) new
+taken expected old new v rest o h e =
+    let P : State → Type 0 = λ n. Takes expected old (Ok v) n in
+    subst P (sym e) (h, refl, IsEnd-header (form old.rule) expected old.rest (framed v rest) o h)
 
 pub gathered : (tag : Tag) (old new : State) (s : CowSlice ℕ Global) (rest : List ℕ) → octets_at old.rule old.depth tag old.rest ≡ Ok (cow_slice_items s, rest) → IsLentAs old.rule tag old.rest s → new ≡ at old rest
     → Gathers tag old (Ok s) new

@@ -100,9 +100,9 @@ utc_one Cer = one_stamp two 100 two_at two_again two_takes century (both short_f
 utc_one Der = one_stamp two 100 two_at two_again two_takes century (both short_form canonical_form)
 
 generalized_one : (rule : Codec) (text : List ℕ) (s t : Stamp) → GeneralizedText rule text s → GeneralizedText rule text t → s ≡ t
-generalized_one Ber = one_stamp four 10000 four_at four_again four_takes as_given long_form
-generalized_one Cer = one_stamp four 10000 four_at four_again four_takes as_given (both long_form canonical_form)
-generalized_one Der = one_stamp four 10000 four_at four_again four_takes as_given (both long_form canonical_form)
+generalized_one Ber text s t h k = one_stamp four 10000 four_at four_again four_takes as_given long_form text s t h k
+generalized_one Cer text s t h k = one_stamp four 10000 four_at four_again four_takes as_given (both long_form canonical_form) text s t h k
+generalized_one Der text s t h k = one_stamp four 10000 four_at four_again four_takes as_given (both long_form canonical_form) text s t h.is k.is
 
 pub utc_decodes : (tag : Tag) (old new : State) (result : Result Moment DecodeError) → AreOctets old.rest → GaveTime (AtAnyOffset (UtcText old.rule)) tag old result new
     → (c : Constraints) → Decodes (leaf utc_time tag c) (λ m. instant m) old result new

@@ -1,5 +1,5 @@
 -- BIT STRING, read from lists.
-use Rattle.std.specs.Prelude.{◌≡◌, ◌≢◌, ◌≤◌, ◌<◌, ◌^◌, ◌⊎◌, ℕ, Bool, nat_lt, if◌then◌else◌, List, [], ◌∷◌, length, Result, Ok, Err}
+use Rattle.std.specs.Prelude.{◌≡◌, ◌≢◌, ◌≤◌, ◌<◌, ◌^◌, ◌⊎◌, ℕ, ◌-◌, ◌*◌, Bool, false, ◌||◌, ◌&&◌, nat_lt, if◌then◌else◌, List, [], ◌∷◌, length, drop, Result, Ok, Err}
 use Rattle.std.specs.Borrow.{Bor}
 use Rattle.rasn_types.specs.declared.types.tag.Tag.{Tag}
 use Rattle.rasn_types.specs.declared.types.rules.Codec.{Codec}
@@ -7,10 +7,12 @@ use Rattle.rasn_types.specs.declared.types.constraints.Constraints.{Constraints}
 use Rattle.rasn_types.specs.declared.error.decode.DecodeError.{DecodeError}
 use Rattle.rasn_types.specs.Tags.{in_universal}
 use Rattle.rasn_types.specs.Shapes.{Tree, bits, Admits, constraint_of}
-use Rattle.rasn_types.specs.Bits.{but_last}
+use Rattle.rasn_types.specs.Bits.{bits_in, but_last}
 use Rattle.rasn_types.specs.Errors.{IsMemory}
 use Rattle.rasn_de.specs.declared.ber.de.parser.Fault.{Fault}
-use Rattle.rasn_de.specs.declared.ber.de.parser.Fault.TheVariants.{OutOfMemory, UnexpectedEmptyInput, InvalidBitString, LengthExceedsPlatformWidth, SizeConstraintNotSatisfied}
+use Rattle.rasn_de.specs.declared.ber.de.parser.Fault.TheVariants.{OutOfMemory, UnexpectedEmptyInput, InvalidBitString, LengthExceedsPlatformWidth, SizeConstraintNotSatisfied, Der}
+use Rattle.rasn_types.specs.declared.error.decode.DerDecodeErrorKind.TheVariants.{NonzeroUnusedBits}
+use Rattle.rasn_de.specs.Headers.{is_der}
 use Rattle.rasn_de.specs.Strings.{string_at}
 use Rattle.rasn_de.specs.State.{State, at}
 use Rattle.rasn_de.specs.Causes.{Cause, fault}
@@ -22,13 +24,24 @@ abbrev pub is_miscounted : ℕ → List ℕ → Bool
 is_miscounted unused [] = nat_lt 0 unused
 is_miscounted unused (b ∷ l) = nat_lt 7 unused
 
--- The bits of a segment: a count of unused bits, and octets (8.6.2). Unused bits may be set.
-abbrev pub segment_bits : List ℕ → Result (List Bool) Fault
-segment_bits [] = Err UnexpectedEmptyInput
-segment_bits (unused ∷ octets) = if is_miscounted unused octets then Err (InvalidBitString unused) else Ok (but_last unused octets)
+-- the bits that don't count
+abbrev pub last_bits : ℕ → List ℕ → List Bool
+last_bits unused octets = drop (8 * length octets - unused) (bits_in octets)
+
+-- one of these bits is set
+abbrev pub is_any_set : List Bool → Bool
+is_any_set [] = false
+is_any_set (b ∷ bs) = b || is_any_set bs
+
+-- The bits of a segment: a count of unused bits, and octets (8.6.2). Under DER no unused bit is set (11.2.1).
+abbrev pub segment_bits : Codec → List ℕ → Result (List Bool) Fault
+segment_bits rule [] = Err UnexpectedEmptyInput
+segment_bits rule (unused ∷ octets) =
+    if is_miscounted unused octets then Err (InvalidBitString unused)
+    else (if is_der rule && is_any_set (last_bits unused octets) then Err (Der NonzeroUnusedBits) else Ok (but_last unused octets))
 
 abbrev pub bits_at : Codec → ℕ → Tag → List ℕ → Result (List Bool × List ℕ) Fault
-bits_at rule depth tag l = string_at rule segment_bits (in_universal 3) depth tag l
+bits_at rule depth tag l = string_at rule (segment_bits rule) (in_universal 3) depth tag l
 
 abbrev pub bits_tree : List Bool → Tree
 bits_tree bs = bits bs

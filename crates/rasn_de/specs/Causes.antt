@@ -7,9 +7,8 @@ use Rattle.rasn_types.specs.declared.error.decode.DecodeErrorKind.TheVariants as
 use Rattle.rasn_types.specs.declared.error.decode.CodecDecodeError.TheVariants as codec
 use Rattle.rasn_types.specs.declared.error.decode.BerDecodeErrorKind.{BerDecodeErrorKind}
 use Rattle.rasn_types.specs.declared.error.decode.BerDecodeErrorKind.TheVariants as ber
-use Rattle.rasn_types.specs.declared.error.decode.DerDecodeErrorKind.TheVariants as der
 use Rattle.rasn_de.specs.declared.ber.de.parser.Fault.{Fault}
-use Rattle.rasn_de.specs.declared.ber.de.parser.Fault.TheVariants.{Incomplete, UnexpectedExtraData, UnexpectedEmptyInput, ExceedsMaxParseDepth, OutOfMemory, LengthExceedsPlatformWidth, InvalidBool, MismatchedLength, IntegerOverflow, SizeConstraintNotSatisfied, UnsupportedTagNumber, UnexpectedEndOfContents, MissingEndOfContents, IndefiniteLengthNotAllowed, ReservedLengthOctet, MismatchedTag, InvalidConstructedIdentifier, ConstructedEncodingNotAllowed, DiscriminantValueNotFound, UnsupportedObjectIdentifierArc, InvalidBitString, PermittedAlphabetError, StringConversionFailed}
+use Rattle.rasn_de.specs.declared.ber.de.parser.Fault.TheVariants.{Incomplete, UnexpectedExtraData, UnexpectedEmptyInput, ExceedsMaxParseDepth, OutOfMemory, LengthExceedsPlatformWidth, InvalidBool, MismatchedLength, IntegerOverflow, SizeConstraintNotSatisfied, UnsupportedTagNumber, UnexpectedEndOfContents, MissingEndOfContents, IndefiniteLengthNotAllowed, ReservedLengthOctet, MismatchedTag, InvalidConstructedIdentifier, Der, DiscriminantValueNotFound, UnsupportedObjectIdentifierArc, InvalidBitString, PermittedAlphabetError, StringConversionFailed}
 
 abbrev pub in_ber : BerDecodeErrorKind → DecodeErrorKind
 in_ber k = kind.CodecSpecific (codec.Ber k)
@@ -38,7 +37,7 @@ kind_of (MismatchedTag expected actual) = in_ber (ber.MismatchedTag expected act
 kind_of InvalidConstructedIdentifier = in_ber ber.InvalidConstructedIdentifier
 kind_of (DiscriminantValueNotFound discriminant) = kind.DiscriminantValueNotFound discriminant
 kind_of UnsupportedObjectIdentifierArc = in_ber ber.UnsupportedObjectIdentifierArc
-kind_of ConstructedEncodingNotAllowed = kind.CodecSpecific (codec.Der der.ConstructedEncodingNotAllowed)
+kind_of (Der k) = kind.CodecSpecific (codec.Der k)
 
 -- Why a value is refused: a fault, or a number out of its bound.
 pub data Cause : Type 0 where

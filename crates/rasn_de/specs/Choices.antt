@@ -2,6 +2,7 @@
 use Rattle.std.specs.Prelude.{ℕ, zero, suc, ◌≡◌, ◌⊎◌, Result, Ok, Err}
 use Rattle.rasn_types.specs.declared.types.tag.Tag.{Tag}
 use Rattle.rasn_types.specs.declared.error.decode.DecodeError.{DecodeError}
+use Rattle.rasn_types.specs.Tags.{form}
 use Rattle.rasn_types.specs.Framing.{Next}
 use Rattle.rasn_types.specs.Shapes.{Shape, Parts, part, IsFirst, IsFirstOf}
 use Rattle.rasn_types.specs.Shapes.Parts.{none}
@@ -10,8 +11,8 @@ use Rattle.rasn_de.specs.Taking.{Peeks}
 
 -- read o r n says that on the decoder o, r may be answered and n be left. It answers where a tag comes; else nothing is taken.
 abbrev pub ReadChosen : {D : Type 0} → (State → Result D DecodeError → State → Type 0) → State → Result D DecodeError → State → Type 0
-ReadChosen read old (Ok v) new = (tag : Tag) × Next old.rest tag × read old (Ok v) new
-ReadChosen read old (Err e) new = (Peeks old (Err e) × (new ≡ old)) ⊎ ((tag : Tag) × Next old.rest tag × read old (Err e) new)
+ReadChosen read old (Ok v) new = (tag : Tag) × Next (form old.rule) old.rest tag × read old (Ok v) new
+ReadChosen read old (Err e) new = (Peeks old (Err e) × (new ≡ old)) ⊎ ((tag : Tag) × Next (form old.rule) old.rest tag × read old (Err e) new)
 
 -- The alternative of this number has this shape, and it alone may begin with the tag. The first has the number 0.
 abbrev pub IsOnly : Parts → ℕ → Shape → Tag → Type 0

@@ -25,7 +25,7 @@ Decodes shape tree old result new = DecodesBy (λ rule. Reads rule shape) tree o
 
 -- parts in their order, as the list of their trees
 unfoldable pub ReadsParts : Parts → Codec → ℕ → Bool → Reading Tree
-ReadsParts parts rule depth closing input t rest = (ts : List Tree) × (t ≡ items ts) × InOrder (parts_of rule parts depth closing) closing input ts rest
+ReadsParts parts rule depth closing input t rest = (ts : List Tree) × (t ≡ items ts) × InOrder rule (parts_of rule parts depth closing) closing input ts rest
 
 abbrev pub DecodesParts : {T : Type 0} → Parts → (T → Tree) → State → Result T DecodeError → State → Type 0
 DecodesParts parts tree old result new = DecodesBy (ReadsParts parts) tree old result new

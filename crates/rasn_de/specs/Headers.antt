@@ -1,13 +1,19 @@
 -- Headers read from the left, octet by octet, to the value or to the first fault.
-use Rattle.std.specs.Prelude.{ℕ, ◌+◌, ◌-◌, ◌*◌, ◌/◌, ◌%◌, Bool, true, false, ◌&&◌, nat_eq, nat_lt, nat_le, if◌then◌else◌, List, [], ◌∷◌, length, take, drop, Option, Some, None, Result, Ok, Err}
+use Rattle.std.specs.Prelude.{ℕ, ◌+◌, ◌-◌, ◌*◌, ◌/◌, ◌%◌, Bool, true, false, ◌&&◌, ◌||◌, nat_eq, nat_lt, nat_le, if◌then◌else◌, List, [], ◌∷◌, length, take, drop, Option, Some, None, Result, Ok, Err}
+use Rattle.std.specs.Bool.{beq}
 use Rattle.rasn_types.specs.declared.types.tag.Tag.{Tag}
 use Rattle.rasn_types.specs.declared.types.tag.Class.{Class}
 use Rattle.rasn_types.specs.declared.types.tag.Class.TheVariants.{Universal, Application, Context, Private}
-use Rattle.rasn_types.specs.Tags.{is_eoc}
+use Rattle.rasn_types.specs.Tags.{is_eoc, Form, ber_form, cer_form, der_form, loose_form}
+use Rattle.rasn_types.specs.Numbered.{identifier_of, constructed_bit}
 use Rattle.rasn_types.specs.declared.types.rules.Codec.{Codec}
 use Rattle.rasn_types.specs.declared.types.rules.Codec.TheVariants.{Ber, Cer, Der}
 use Rattle.rasn_de.specs.declared.ber.de.parser.Fault.{Fault}
-use Rattle.rasn_de.specs.declared.ber.de.parser.Fault.TheVariants.{Incomplete, LengthExceedsPlatformWidth, UnsupportedTagNumber, UnexpectedEndOfContents, IndefiniteLengthNotAllowed, ReservedLengthOctet, MismatchedTag}
+use Rattle.rasn_de.specs.declared.ber.de.parser.Fault.TheVariants.{Incomplete, LengthExceedsPlatformWidth, UnsupportedTagNumber, UnexpectedEndOfContents, IndefiniteLengthNotAllowed, ReservedLengthOctet, MismatchedTag, Der}
+use Rattle.rasn_types.specs.declared.error.decode.DerDecodeErrorKind.TheVariants.{NonMinimalTagNumber, ConstructedBitMismatch, NonMinimalLength}
+use Rattle.rasn_de.specs.declared.ber.de.parser.headers.Spelling.{Spelling}
+use Rattle.rasn_de.specs.declared.ber.de.parser.headers.Expected.{Expected}
+use Rattle.rasn_de.specs.declared.ber.de.parser.headers.Expected.TheVariants.{AnyTag, Tagged, Exactly}
 use Rattle.rasn_types.specs.Framing.{Extent, definite, indefinite}
 
 infixl 10 ◌>>=◌
@@ -30,9 +36,31 @@ number128_at wide n [] = Err (Incomplete 1)
 number128_at wide n (b ∷ l) =
     if nat_le 0x2000000 n then Err wide else (if nat_lt b 128 then Ok (n * 128 + b, l) else number128_at wide (n * 128 + b % 128) l)
 
+-- How the headers of a form may be spelled.
+abbrev pub spelled : Form → Spelling
+spelled ber_form = record { shortest = false; indefinite = true }
+spelled cer_form = record { shortest = false; indefinite = true }
+spelled der_form = record { shortest = true; indefinite = false }
+spelled loose_form = record { shortest = false; indefinite = false }
+
+-- The first seven bits of a tag number behind a first octet are zero (8.1.2.4.2).
+abbrev pub is_padded : List ℕ → Bool
+is_padded [] = false
+is_padded (b ∷ l) = nat_eq b 128
+
+-- No fault behind a padded beginning is told in its place.
+abbrev pub padding_first : Bool → Result (ℕ × List ℕ) Fault → Result (ℕ × List ℕ) Fault
+padding_first padded (Ok p) = Ok p
+padding_first padded (Err e) = if padded then Err (Der NonMinimalTagNumber) else Err e
+
 -- the tag number of an identifier
-unfoldable pub tag_number_at : ℕ → List ℕ → Result (ℕ × List ℕ) Fault
-tag_number_at first l = if nat_eq (first % 32) 31 then number128_at UnsupportedTagNumber 0 l else Ok (first % 32, l)
+unfoldable pub tag_number_at : Bool → ℕ → List ℕ → Result (ℕ × List ℕ) Fault
+tag_number_at shortest first l =
+    if nat_eq (first % 32) 31 then padding_first (shortest && is_padded l) (number128_at UnsupportedTagNumber 0 l) else Ok (first % 32, l)
+
+-- The number n in the octets behind a first one could be spelled in fewer.
+abbrev pub is_longer : ℕ → List ℕ → ℕ → Bool
+is_longer first l n = nat_eq (first % 32) 31 && (is_padded l || nat_lt n 31)
 
 -- A tag, the constructed bit, and what follows the identifier.
 pub record Identified : Type 0 where
@@ -40,12 +68,18 @@ pub record Identified : Type 0 where
   pub bit : Bool
   pub rest : List ℕ
 
-abbrev pub named : ℕ → ℕ × List ℕ → Result Identified Fault
-named first p = if is_eoc (tag_of first p.0) then Err UnexpectedEndOfContents else Ok (record { tag = tag_of first p.0; bit = bit_at first; rest = p.1 })
+-- Universal 0 is told in any spelling.
+abbrev pub named : Bool → ℕ → List ℕ → ℕ × List ℕ → Result Identified Fault
+named shortest first l p =
+    if is_eoc (tag_of first p.0) then Err UnexpectedEndOfContents else (if shortest && is_longer first l p.0 then Err (Der NonMinimalTagNumber)
+    else Ok (record { tag = tag_of first p.0; bit = bit_at first; rest = p.1 }))
 
-unfoldable pub identifier_at : List ℕ → Result Identified Fault
-identifier_at [] = Err (Incomplete 1)
-identifier_at (b ∷ l) = tag_number_at b l >>= named b
+unfoldable pub identifier_by : Bool → List ℕ → Result Identified Fault
+identifier_by shortest [] = Err (Incomplete 1)
+identifier_by shortest (b ∷ l) = tag_number_at shortest b l >>= named shortest b l
+
+abbrev pub identifier_at : Form → List ℕ → Result Identified Fault
+identifier_at spelling l = identifier_by (spelled spelling).shortest l
 
 -- The number of octets, most significant first, behind octets that are worth n.
 unfoldable pub number256_at : ℕ → List ℕ → Result ℕ Fault
@@ -55,16 +89,25 @@ number256_at n (b ∷ l) = if nat_le 0x100_0000_0000_0000 n then Err LengthExcee
 abbrev pub octets_at : ℕ → List ℕ → Result (List ℕ × List ℕ) Fault
 octets_at k l = if nat_lt (length l) k then Err (Incomplete (k - length l)) else Ok (take k l, drop k l)
 
--- The long form: missing octets, and then a width of 2 ^ 64 or more.
-unfoldable pub long_at : ℕ → List ℕ → Result (Option ℕ × List ℕ) Fault
-long_at k l = octets_at k l >>= λ p. number256_at 0 p.0 >>= λ n. Ok (Some n, p.1)
+-- These octets spell a length that fewer would: the first of them is zero, or the length stands in the short form.
+abbrev pub begins_with_zero : List ℕ → Bool
+begins_with_zero [] = false
+begins_with_zero (b ∷ l) = nat_eq b 0
 
--- A length, or none in the indefinite form, which may be allowed.
-unfoldable pub length_at : Bool → List ℕ → Result (Option ℕ × List ℕ) Fault
-length_at allowed [] = Err (Incomplete 1)
-length_at allowed (b ∷ l) =
-    if nat_lt b 128 then Ok (Some b, l) else (if nat_eq b 128 then (if allowed then Ok (None, l) else Err IndefiniteLengthNotAllowed)
-    else (if nat_eq b 255 then Err ReservedLengthOctet else long_at (b - 128) l))
+abbrev pub has_spare : List ℕ → ℕ → Bool
+has_spare l n = begins_with_zero l || nat_lt n 128
+
+-- The long form: missing octets, then a width of 2 ^ 64 or more, and then octets to spare.
+unfoldable pub long_at : Bool → ℕ → List ℕ → Result (Option ℕ × List ℕ) Fault
+long_at shortest k l =
+    octets_at k l >>= λ p. number256_at 0 p.0 >>= λ n. if shortest && has_spare p.0 n then Err (Der NonMinimalLength) else Ok (Some n, p.1)
+
+-- A length, or none in the indefinite form, which a constructed encoding may have.
+unfoldable pub length_at : Spelling → Bool → List ℕ → Result (Option ℕ × List ℕ) Fault
+length_at spelling bit [] = Err (Incomplete 1)
+length_at spelling bit (b ∷ l) =
+    if nat_lt b 128 then Ok (Some b, l) else (if nat_eq b 128 then (if bit && spelling.indefinite then Ok (None, l) else Err IndefiniteLengthNotAllowed)
+    else (if nat_eq b 255 then Err ReservedLengthOctet else long_at spelling.shortest (b - 128) l))
 
 pub record Header : Type 0 where
   pub tag : Tag
@@ -75,11 +118,6 @@ pub record Header : Type 0 where
 abbrev pub contents_at : Tag → Bool → Option ℕ → List ℕ → Result Header Fault
 contents_at tag bit None l = Ok (record { tag = tag; bit = bit; extent = indefinite; rest = l })
 contents_at tag bit (Some n) l = octets_at n l >>= λ p. Ok (record { tag = tag; bit = bit; extent = definite p.0; rest = p.1 })
-
-abbrev pub has_indefinite : Codec → Bool
-has_indefinite Ber = true
-has_indefinite Cer = true
-has_indefinite Der = false
 
 abbrev pub is_der : Codec → Bool
 is_der Ber = false
@@ -96,11 +134,25 @@ same_class c d = false
 abbrev pub same_tag : Tag → Tag → Bool
 same_tag s t = same_class s.class t.class && nat_eq s.value t.value
 
-abbrev pub expected_at : Option Tag → Tag → Result (Unit {0}) Fault
-expected_at None tag = Ok tt
-expected_at (Some wanted) tag = if same_tag tag wanted then Ok tt else Err (MismatchedTag wanted tag)
+abbrev pub tagged_at : Tag → Tag → Result (Unit {0}) Fault
+tagged_at wanted tag = if same_tag tag wanted then Ok tt else Err (MismatchedTag wanted tag)
+
+-- The tag is told before the constructed bit.
+abbrev pub expected_at : Expected → Tag → Bool → Result (Unit {0}) Fault
+expected_at AnyTag tag bit = Ok tt
+expected_at (Tagged wanted) tag bit = tagged_at wanted tag
+expected_at (Exactly wanted) tag bit = tagged_at wanted.tag tag >>= λ u. if beq bit (constructed_bit wanted) then Ok tt else Err (Der ConstructedBitMismatch)
+
+-- A tag that under DER has the constructed bit that it is written with, and under the other rules either one.
+abbrev pub as_written : Codec → Tag → Bool → Expected
+as_written Ber tag bit = Tagged tag
+as_written Cer tag bit = Tagged tag
+as_written Der tag bit = Exactly (identifier_of tag bit)
 
 -- The header of the value that begins a list, with its contents.
-unfoldable pub header_at : Codec → Option Tag → List ℕ → Result Header Fault
-header_at rule expected l =
-    identifier_at l >>= λ i. expected_at expected i.tag >>= λ u. length_at (i.bit && has_indefinite rule) i.rest >>= λ n. contents_at i.tag i.bit n.0 n.1
+unfoldable pub header_by : Spelling → Expected → List ℕ → Result Header Fault
+header_by spelling expected l =
+    identifier_by spelling.shortest l >>= λ i. expected_at expected i.tag i.bit >>= λ u. length_at spelling i.bit i.rest >>= λ n. contents_at i.tag i.bit n.0 n.1
+
+abbrev pub header_at : Form → Expected → List ℕ → Result Header Fault
+header_at spelling expected l = header_by (spelled spelling) expected l

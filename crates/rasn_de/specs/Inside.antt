@@ -1,5 +1,5 @@
 -- Values that hold others: how they are opened, read inside and closed.
-use Rattle.std.specs.Prelude.{◌≡◌, ℕ, ◌-◌, nat_eq, Bool, true, false, ◌&&◌, not, if◌then◌else◌, List, Some, Result, Ok, Err}
+use Rattle.std.specs.Prelude.{◌≡◌, ℕ, ◌-◌, nat_eq, Bool, true, false, ◌&&◌, not, if◌then◌else◌, List, Result, Ok, Err}
 use Rattle.rasn_types.specs.declared.types.tag.Tag.{Tag}
 use Rattle.rasn_types.specs.declared.types.rules.Codec.{Codec}
 use Rattle.rasn_types.specs.declared.error.decode.DecodeError.{DecodeError}
@@ -7,17 +7,24 @@ use Rattle.rasn_types.specs.Framing.{Extent, definite, indefinite}
 use Rattle.rasn_de.specs.declared.ber.de.parser.Fault.{Fault}
 use Rattle.rasn_de.specs.declared.ber.de.parser.Fault.TheVariants.{ExceedsMaxParseDepth, InvalidConstructedIdentifier}
 use Rattle.rasn_de.specs.declared.ber.de.parser.Contents.{Contents}
-use Rattle.rasn_de.specs.Headers.{Header, header_at}
+use Rattle.rasn_de.specs.declared.ber.de.parser.headers.Expected.{Expected}
+use Rattle.rasn_de.specs.declared.ber.de.parser.headers.Expected.TheVariants.{Tagged}
+use Rattle.rasn_types.specs.Tags.{form}
+use Rattle.rasn_de.specs.Headers.{Header, header_at, as_written}
 use Rattle.rasn_de.specs.Strings.{inner, finished}
 use Rattle.rasn_de.specs.Views.{extent}
 use Rattle.rasn_de.specs.State.{State, at, IsEnd}
 use Rattle.rasn_de.specs.Taking.{ErrorOf}
 
--- How a value is opened: its tag, whether it has to be constructed, and the levels of depth that it takes.
+-- How a value is opened: its tag, whether it has to be constructed under every rule, and the levels of depth that it takes.
 pub record Door : Type 0 where
   pub tag : Tag
   pub needed : Bool
   pub levels : ℕ
+
+-- A value that needn't be constructed is asked under DER for the bit that it is written with.
+abbrev pub asks : Door → Codec → Expected
+asks d rule = if d.needed then Tagged d.tag else as_written rule d.tag true
 
 -- A header, or the fault and what it leaves: all of the input, or for a primitive identifier what follows the value.
 abbrev pub through : Bool → List ℕ → Result Header Fault → Result Header (Fault × List ℕ)
@@ -26,7 +33,7 @@ through needed l (Err f) = Err (f, l)
 
 -- Depth is told before the header.
 abbrev pub door_at : Door → Codec → ℕ → List ℕ → Result Header (Fault × List ℕ)
-door_at d rule depth l = if nat_eq depth 0 then Err (ExceedsMaxParseDepth, l) else through d.needed l (header_at rule (Some d.tag) l)
+door_at d rule depth l = if nat_eq depth 0 then Err (ExceedsMaxParseDepth, l) else through d.needed l (header_at (form rule) (asks d rule) l)
 
 abbrev pub is_open : Extent → Bool
 is_open (definite c) = false

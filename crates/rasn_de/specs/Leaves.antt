@@ -1,17 +1,19 @@
 -- Values that hold no others, read from lists: the value and what follows it, or the first refusal and what is left.
-use Rattle.std.specs.Prelude.{◌≡◌, ◌≢◌, ◌⊎◌, ℕ, ℤ, ◌≤ℤ◌, Bool, true, false, nat_eq, if◌then◌else◌, List, [], ◌∷◌, length, Some, Result, Ok, Err}
+use Rattle.std.specs.Prelude.{◌≡◌, ◌≢◌, ◌⊎◌, ℕ, ℤ, ◌≤ℤ◌, Bool, true, false, nat_eq, if◌then◌else◌, List, [], ◌∷◌, length, Result, Ok, Err}
 use Rattle.rasn_types.specs.declared.types.tag.Tag.{Tag}
 use Rattle.rasn_types.specs.declared.types.rules.Codec.{Codec}
 use Rattle.rasn_types.specs.declared.types.rules.Codec.TheVariants.{Ber, Cer, Der}
 use Rattle.rasn_types.specs.declared.error.decode.DecodeError.{DecodeError}
+use Rattle.rasn_types.specs.declared.error.decode.DerDecodeErrorKind.TheVariants.{NonMinimalInteger}
 use Rattle.rasn_types.specs.Framing.{Extent, definite, indefinite}
+use Rattle.rasn_types.specs.Tags.{form, tag_bit, IsStrict}
 use Rattle.rasn_de.specs.declared.ber.de.parser.Fault.{Fault}
-use Rattle.rasn_de.specs.declared.ber.de.parser.Fault.TheVariants.{IndefiniteLengthNotAllowed, InvalidBool, MismatchedLength, UnexpectedEmptyInput, IntegerOverflow}
-use Rattle.rasn_de.specs.Headers.{Header, header_at}
+use Rattle.rasn_de.specs.declared.ber.de.parser.Fault.TheVariants.{IndefiniteLengthNotAllowed, InvalidBool, MismatchedLength, UnexpectedEmptyInput, IntegerOverflow, Der}
+use Rattle.rasn_de.specs.Headers.{Header, header_at, as_written}
 use Rattle.rasn_types.specs.Shapes.{Interval, IsIn, Admits, constraint_of}
 use Rattle.rasn_types.specs.declared.types.constraints.Constraints.{Constraints}
 use Rattle.rasn_types.specs.declared.types.constraints.Bounded.{Bounded}
-use Rattle.rasn_types.specs.Contents.{signed}
+use Rattle.rasn_types.specs.Contents.{signed, IsShortestInteger}
 use Rattle.rasn_types.specs.Errors.{IsMemory}
 use Rattle.rasn_de.specs.Causes.{Cause, fault, out_of_bound, Tells}
 use Rattle.rasn_de.specs.State.{State, at}
@@ -27,7 +29,7 @@ definite_in (definite contents) rest = Ok (contents, rest)
 definite_in indefinite rest = Err (fault IndefiniteLengthNotAllowed, rest)
 
 abbrev pub definite_at : Codec → Tag → List ℕ → Result (List ℕ × List ℕ) (Cause × List ℕ)
-definite_at rule tag l = on_header l (header_at rule (Some tag) l) (λ h. definite_in h.extent h.rest)
+definite_at rule tag l = on_header l (header_at (form rule) (as_written rule tag (tag_bit tag)) l) (λ h. definite_in h.extent h.rest)
 
 -- What a reading of the list may be: a value and what follows it, or a refusal and what is left.
 abbrev pub Readings : Type 0 → Type 1
@@ -61,14 +63,28 @@ bool_in rule (b ∷ c ∷ l) = Err (MismatchedLength 1 (length (b ∷ c ∷ l)))
 abbrev pub BoolAt : Codec → Tag → List ℕ → Readings Bool
 BoolAt rule tag l = LeafAt (λ c r. as_cause (bool_in rule c) ≡ r) rule tag l
 
+-- Octets hold a number (8.3.1, 8.3.2): there are some, and under the strict rule they are as few as can be.
+abbrev pub HoldsNumber : Codec → List ℕ → Type 0
+HoldsNumber rule c = (c ≢ []) × (IsStrict rule → IsShortestInteger c)
+
+-- why octets don't: there are none, or the first only repeats the sign
+abbrev pub LacksNumber : Codec → List ℕ → Fault → Type 0
+LacksNumber rule c f =
+    ((c ≡ []) × (f ≡ UnexpectedEmptyInput)) ⊎ ((c ≢ []) × IsStrict rule × (IsShortestInteger c → ⊥) × (f ≡ Der NonMinimalInteger))
+
+abbrev pub ChecksNumber : Codec → List ℕ → Result (Unit {0}) Fault → Type 0
+ChecksNumber rule c (Ok u) = HoldsNumber rule c
+ChecksNumber rule c (Err f) = LacksNumber rule c f
+
 -- The contents of an INTEGER (8.3): of a type of so many bits that has these numbers, within bounds.
-abbrev pub IntegerIn : ℕ → Interval → Constraints → List ℕ → Result ℤ Cause → Type 0
-IntegerIn width range bounds c (Ok z) = (c ≢ []) × IsIn range (signed c) × Admits ◌≤ℤ◌ bounds.value (signed c) × (z ≡ signed c)
-IntegerIn width range bounds c (Err (fault f)) = ((c ≡ []) × (f ≡ UnexpectedEmptyInput)) ⊎ ((c ≢ []) × (IsIn range (signed c) → ⊥) × (f ≡ IntegerOverflow width))
-IntegerIn width range bounds c (Err (out_of_bound z bound)) = (c ≢ []) × IsIn range (signed c) × (Admits ◌≤ℤ◌ bounds.value (signed c) → ⊥) × (z ≡ signed c) × (bound ≡ constraint_of bounds.value)
+abbrev pub IntegerIn : Codec → ℕ → Interval → Constraints → List ℕ → Result ℤ Cause → Type 0
+IntegerIn rule width range bounds c (Ok z) = HoldsNumber rule c × IsIn range (signed c) × Admits ◌≤ℤ◌ bounds.value (signed c) × (z ≡ signed c)
+IntegerIn rule width range bounds c (Err (fault f)) = LacksNumber rule c f ⊎ (HoldsNumber rule c × (IsIn range (signed c) → ⊥) × (f ≡ IntegerOverflow width))
+IntegerIn rule width range bounds c (Err (out_of_bound z bound)) =
+    HoldsNumber rule c × IsIn range (signed c) × (Admits ◌≤ℤ◌ bounds.value (signed c) → ⊥) × (z ≡ signed c) × (bound ≡ constraint_of bounds.value)
 
 abbrev pub IntegerAt : ℕ → Interval → Constraints → Codec → Tag → List ℕ → Readings ℤ
-IntegerAt width range bounds rule tag l = LeafAt (IntegerIn width range bounds) rule tag l
+IntegerAt width range bounds rule tag l = LeafAt (IntegerIn rule width range bounds) rule tag l
 
 -- The call is refused as the reading is, which changes nothing but what is left.
 abbrev pub Refuses : {Y : Type 0} → Readings Y → State → DecodeError → State → Type 0

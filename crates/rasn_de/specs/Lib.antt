@@ -1,3 +1,5 @@
+pub mod OpenTypes
+pub mod Skipping
 pub mod Headers
 pub mod Strings
 pub mod Views

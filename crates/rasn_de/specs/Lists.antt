@@ -1,17 +1,19 @@
--- Elements up to the end of the contents (X.690 8.10).
-use Rattle.std.specs.Prelude.{◌≡◌, ◌≢◌, ◌⊎◌, ◌≤◌, ℕ, List, [], ◌∷◌, length, Bool, true, Result, Ok, Err}
+-- Elements up to the end of the contents (X.690 8.10, 8.12).
+use Rattle.std.specs.Prelude.{◌≡◌, ◌≢◌, ◌⊎◌, ◌≤◌, ℕ, List, [], ◌∷◌, ◌++◌, length, Bool, true, Result, Ok, Err}
 use Rattle.rasn_types.specs.declared.types.tag.Tag.{Tag}
 use Rattle.rasn_types.specs.declared.types.rules.Codec.{Codec}
 use Rattle.rasn_types.specs.declared.types.constraints.Constraints.{Constraints}
 use Rattle.rasn_types.specs.declared.error.decode.DecodeError.{DecodeError}
-use Rattle.rasn_types.specs.Shapes.{Tree, Shape, items, Admits, constraint_of}
+use Rattle.rasn_types.specs.declared.error.decode.DerDecodeErrorKind.TheVariants.{SetOfOutOfOrder}
+use Rattle.rasn_types.specs.Shapes.{Tree, Shape, items, walk, Admits, constraint_of}
+use Rattle.rasn_types.specs.Tags.{IsStrict}
+use Rattle.rasn_types.specs.Order.{IsLess, DoNotFall}
 use Rattle.rasn_types.specs.Framing.{Ended}
-use Rattle.rasn_types.specs.Readers.{Reading, Many}
+use Rattle.rasn_types.specs.Readers.{Reading, Many, ReadFrom}
 use Rattle.rasn_types.specs.Grammar.{Reads}
-use Rattle.rasn_de.specs.declared.ber.de.parser.Fault.TheVariants.{SizeConstraintNotSatisfied, UnexpectedExtraData, OutOfMemory}
+use Rattle.rasn_de.specs.declared.ber.de.parser.Fault.TheVariants.{SizeConstraintNotSatisfied, UnexpectedExtraData, OutOfMemory, Der}
 use Rattle.rasn_de.specs.State.{State}
 use Rattle.rasn_de.specs.Taking.{ErrorOf}
-use Rattle.rasn_de.specs.Decodes.{DecodesBy}
 use Rattle.rasn_de.specs.Inside.{Door, ReadInside}
 
 -- A list takes two levels of depth.
@@ -20,6 +22,11 @@ list_door tag = record { tag = tag; needed = true; levels = 2 }
 
 unfoldable pub ReadsItems : Shape → Codec → ℕ → Bool → Reading Tree
 ReadsItems s rule depth closing input t rest = (ts : List Tree) × (t ≡ items ts) × Many (Reads rule s depth closing) closing input ts rest
+
+-- the elements of a SET OF, whose octets don't fall under the strict rule (11.6)
+unfoldable pub ReadsWalk : Shape → Codec → ℕ → Bool → Reading Tree
+ReadsWalk s rule depth closing input t rest = (ts : List Tree) × (t ≡ walk (items ts)) × Many (Reads rule s depth closing) closing input ts rest
+    × (IsStrict rule → (bs : List (List ℕ)) × ReadFrom (Reads rule s depth closing) input ts rest bs × DoNotFall IsLess bs)
 
 -- What reads of elements do, one behind the other: read o r n says that on the decoder o, r may be answered and n be left.
 module _ {D : Type 0} (read : State → Result D DecodeError → State → Type 0) where
@@ -37,6 +44,23 @@ module _ {D : Type 0} (read : State → Result D DecodeError → State → Type 
   abbrev pub ReadEach : {L : Type 0} → (L → List D) → State → Result L DecodeError → State → Type 0
   ReadEach elements old (Ok v) new = Passes old (elements v) new × Ended new.closing new.rest
   ReadEach elements old (Err e) new = (vs : List D) × (here : State) × Passes old vs here × (Ended here.closing here.rest → ⊥) × Stops here e new
+
+  -- These elements were read from these octets, and each took something.
+  abbrev pub PassesFrom : State → List D → List (List ℕ) → State → Type 0
+  PassesFrom old [] bs here = (bs ≡ []) × (here ≡ old)
+  PassesFrom old (v ∷ vs) bs here = (b : List ℕ) × (more : List (List ℕ)) × (next : State) × (bs ≡ b ∷ more) × (old.rest ≡ b ++ next.rest)
+      × (Ended old.closing old.rest → ⊥) × read old (Ok v) next × (length next.rest ≢ length old.rest) × PassesFrom next vs more here
+
+  -- Under the strict rule the octets that an element took fall behind those before it.
+  abbrev pub Falls : List (List ℕ) → State → DecodeError → State → Type 0
+  Falls bs here e new = (v : D) × (b : List ℕ) × read here (Ok v) new × (here.rest ≡ b ++ new.rest) × (length new.rest ≢ length here.rest)
+      × IsStrict here.rule × (DoNotFall IsLess (bs ++ (b ∷ [])) → ⊥) × ErrorOf (Der SetOfOutOfOrder) here e
+
+  -- Elements up to the end, or the refusal of the first that isn't read or falls.
+  abbrev pub ReadEachInOrder : {L : Type 0} → (L → List D) → State → Result L DecodeError → State → Type 0
+  ReadEachInOrder elements old (Ok v) new = (bs : List (List ℕ)) × PassesFrom old (elements v) bs new × (IsStrict old.rule → DoNotFall IsLess bs) × Ended new.closing new.rest
+  ReadEachInOrder elements old (Err e) new = (vs : List D) × (bs : List (List ℕ)) × (here : State) × PassesFrom old vs bs here
+      × (IsStrict old.rule → DoNotFall IsLess bs) × (Ended here.closing here.rest → ⊥) × (Stops here e new ⊎ Falls bs here e new)
 
 -- The elements inside a value of the tag, before their number is asked.
 abbrev pub InList : {L : Type 0} → (State → Result L DecodeError → State → Type 0) → Tag → State → Result L DecodeError → State → Type 0

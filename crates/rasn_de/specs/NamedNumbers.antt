@@ -5,21 +5,21 @@ use Rattle.rasn_types.specs.declared.types.rules.Codec.{Codec}
 use Rattle.rasn_types.specs.Contents.{signed}
 use Rattle.rasn_types.specs.Shapes.{IsIn}
 use Rattle.rasn_types.specs.Trees.{signed_range}
-use Rattle.rasn_de.specs.declared.ber.de.parser.Fault.TheVariants.{UnexpectedEmptyInput, MismatchedLength, IntegerOverflow, DiscriminantValueNotFound}
+use Rattle.rasn_de.specs.declared.ber.de.parser.Fault.TheVariants.{MismatchedLength, IntegerOverflow, DiscriminantValueNotFound}
 use Rattle.rasn_de.specs.Causes.{Cause, fault, out_of_bound}
-use Rattle.rasn_de.specs.Leaves.{Readings, LeafAt}
+use Rattle.rasn_de.specs.Leaves.{Readings, LeafAt, HoldsNumber, LacksNumber}
 
 -- The contents of an ENUMERATED (8.4): of a type that names these numbers. A number is asked for 64 bits first.
-abbrev pub EnumeratedIn : List ℤ → List ℕ → Result ℤ Cause → Type 0
-EnumeratedIn known c (Ok z) = (c ≢ []) × Contains known (signed c) × (z ≡ signed c)
-EnumeratedIn known c (Err (fault f)) =
-    ((c ≡ []) × (f ≡ UnexpectedEmptyInput))
-    ⊎ (((c ≢ []) × (IsIn (signed_range 64) (signed c) → ⊥) × (f ≡ IntegerOverflow 64))
-    ⊎ ((c ≢ []) × IsIn (signed_range 64) (signed c) × (Contains known (signed c) → ⊥) × (f ≡ DiscriminantValueNotFound (signed c))))
-EnumeratedIn known c (Err (out_of_bound z bound)) = ⊥
+abbrev pub EnumeratedIn : Codec → List ℤ → List ℕ → Result ℤ Cause → Type 0
+EnumeratedIn rule known c (Ok z) = HoldsNumber rule c × Contains known (signed c) × (z ≡ signed c)
+EnumeratedIn rule known c (Err (fault f)) =
+    LacksNumber rule c f
+    ⊎ ((HoldsNumber rule c × (IsIn (signed_range 64) (signed c) → ⊥) × (f ≡ IntegerOverflow 64))
+    ⊎ (HoldsNumber rule c × IsIn (signed_range 64) (signed c) × (Contains known (signed c) → ⊥) × (f ≡ DiscriminantValueNotFound (signed c))))
+EnumeratedIn rule known c (Err (out_of_bound z bound)) = ⊥
 
 abbrev pub EnumeratedAt : List ℤ → Codec → Tag → List ℕ → Readings ℤ
-EnumeratedAt known rule tag l = LeafAt (EnumeratedIn known) rule tag l
+EnumeratedAt known rule tag l = LeafAt (EnumeratedIn rule known) rule tag l
 
 -- The contents of a NULL (8.8): none.
 abbrev pub NullIn : List ℕ → Result (Unit {0}) Cause → Type 0

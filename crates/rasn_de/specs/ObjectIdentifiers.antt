@@ -1,45 +1,63 @@
 -- OBJECT IDENTIFIER, read from lists.
-use Rattle.std.specs.Prelude.{◌≡◌, ◌≢◌, ◌⊎◌, ℕ, List, [], ◌++◌, Result, Ok, Err}
+use Rattle.std.specs.Prelude.{◌≡◌, ◌≢◌, ◌⊎◌, ℕ, Bool, false, ◌&&◌, nat_eq, if◌then◌else◌, List, [], ◌∷◌, ◌++◌, Result, Ok, Err}
 use Rattle.rasn_types.specs.declared.types.tag.Tag.{Tag}
 use Rattle.rasn_types.specs.declared.types.rules.Codec.{Codec}
 use Rattle.rasn_types.specs.declared.error.decode.DecodeError.{DecodeError}
-use Rattle.rasn_types.specs.Contents.{Arcs, IsObjectIdentifier}
+use Rattle.rasn_types.specs.Contents.{Arcs, ShortArcs, IsObjectIdentifier, IsShortest}
+use Rattle.rasn_types.specs.Shapes.{object_identifier}
+use Rattle.rasn_types.specs.Tags.{IsStrict}
+use Rattle.rasn_types.specs.declared.error.decode.DerDecodeErrorKind.TheVariants.{NonMinimalArc}
 use Rattle.rasn_types.specs.Errors.{IsMemory}
 use Rattle.rasn_de.specs.declared.ber.de.parser.Fault.{Fault}
-use Rattle.rasn_de.specs.declared.ber.de.parser.Fault.TheVariants.{OutOfMemory, UnsupportedObjectIdentifierArc}
-use Rattle.rasn_de.specs.Headers.{number128_at}
+use Rattle.rasn_de.specs.declared.ber.de.parser.Fault.TheVariants.{OutOfMemory, UnsupportedObjectIdentifierArc, Der}
+use Rattle.rasn_de.specs.Headers.{number128_at, is_der}
 use Rattle.rasn_de.specs.Causes.{Cause, fault, out_of_bound, kind_of}
 use Rattle.rasn_de.specs.Leaves.{Readings, LeafAt, Refuses, Gave, definite_at}
 use Rattle.rasn_de.specs.State.{State, at}
 
--- Behind whole subidentifiers stands none (8.19.2): the octets are cut, or worth 2 ^ 32 or more. The first one has to stand there.
-pub record StopsAt (c : List ℕ) (f : Fault) : Type 0 where
+-- An octet 80 in front of a subidentifier says nothing (8.19.2).
+abbrev pub starts_padded : List ℕ → Bool
+starts_padded [] = false
+starts_padded (b ∷ l) = nat_eq b 128
+
+-- The subidentifier that comes next. Under DER its first octet is looked at before the others.
+abbrev pub arc_at : Codec → List ℕ → Result (ℕ × List ℕ) Fault
+arc_at rule l = if is_der rule && starts_padded l then Err (Der NonMinimalArc) else number128_at UnsupportedObjectIdentifierArc 0 l
+
+-- These octets hold these arcs, under the strict rule in as few octets as can be.
+abbrev pub ReadsArcs : Codec → List ℕ → List ℕ → Type 0
+ReadsArcs rule c arcs = IsObjectIdentifier c arcs × (IsStrict rule → IsShortest object_identifier c)
+
+-- Behind whole subidentifiers stands none (8.19.2): the octets are cut, or worth 2 ^ 32 or more, or under the strict rule not as few as
+-- can be. The first one has to stand there.
+pub record StopsAt (rule : Codec) (c : List ℕ) (f : Fault) : Type 0 where
   pub front : List ℕ
   pub numbers : List ℕ
   pub back : List ℕ
   pub whole : Arcs front numbers
+  pub short : IsStrict rule → ShortArcs front numbers
   pub is : c ≡ front ++ back
   pub owed : (numbers ≡ []) ⊎ (back ≢ [])
-  pub stops : number128_at UnsupportedObjectIdentifierArc 0 back ≡ Err f
+  pub stops : arc_at rule back ≡ Err f
 
 -- The contents of an OBJECT IDENTIFIER (8.19).
-abbrev pub ObjectIdentifierIn : List ℕ → Result (List ℕ) Cause → Type 0
-ObjectIdentifierIn c (Ok arcs) = IsObjectIdentifier c arcs
-ObjectIdentifierIn c (Err (fault f)) = StopsAt c f
-ObjectIdentifierIn c (Err (out_of_bound z bound)) = ⊥
+abbrev pub ObjectIdentifierIn : Codec → List ℕ → Result (List ℕ) Cause → Type 0
+ObjectIdentifierIn rule c (Ok arcs) = ReadsArcs rule c arcs
+ObjectIdentifierIn rule c (Err (fault f)) = StopsAt rule c f
+ObjectIdentifierIn rule c (Err (out_of_bound z bound)) = ⊥
 
 abbrev pub ObjectIdentifierAt : Codec → Tag → List ℕ → Readings (List ℕ)
-ObjectIdentifierAt rule tag l = LeafAt ObjectIdentifierIn rule tag l
+ObjectIdentifierAt rule tag l = LeafAt (ObjectIdentifierIn rule) rule tag l
 
 -- What a function found in contents; for want of memory nothing is said.
-abbrev pub FindsArcs : List ℕ → Result (List ℕ) Fault → Type 0
-FindsArcs c (Ok arcs) = IsObjectIdentifier c arcs
-FindsArcs c (Err f) = f ≢ OutOfMemory → StopsAt c f
+abbrev pub FindsArcs : Codec → List ℕ → Result (List ℕ) Fault → Type 0
+FindsArcs rule c (Ok arcs) = ReadsArcs rule c arcs
+FindsArcs rule c (Err f) = f ≢ OutOfMemory → StopsAt rule c f
 
--- What a decoder of this rule answers of contents; or memory is wanting.
-abbrev pub GaveArcs : Codec → List ℕ → Result (List ℕ) DecodeError → Type 0
-GaveArcs rule c (Ok arcs) = IsObjectIdentifier c arcs
-GaveArcs rule c (Err e) = (e.codec ≡ rule) × (IsMemory e.kind ⊎ ((f : Fault) × StopsAt c f × (e.kind ≡ kind_of f)))
+-- What a decoder, whose rule errors name, answers of contents that are read by a rule; or memory is wanting.
+abbrev pub GaveArcs : Codec → Codec → List ℕ → Result (List ℕ) DecodeError → Type 0
+GaveArcs named rule c (Ok arcs) = ReadsArcs rule c arcs
+GaveArcs named rule c (Err e) = (e.codec ≡ named) × (IsMemory e.kind ⊎ ((f : Fault) × StopsAt rule c f × (e.kind ≡ kind_of f)))
 
 -- The arcs are the only ones that the contents hold; at a refusal but for memory they hold none.
 abbrev pub HoldsArcs : List ℕ → Result (List ℕ) DecodeError → Type 0

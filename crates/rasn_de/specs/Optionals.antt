@@ -3,36 +3,52 @@ use Rattle.std.specs.Prelude.{◌≡◌, ◌≢◌, ◌⊎◌, ℕ, Bool, true, 
 use Rattle.std.specs.declared.alloc.AllocError.{AllocError}
 use Rattle.rasn_types.specs.declared.types.tag.Tag.{Tag}
 use Rattle.rasn_types.specs.declared.error.decode.DecodeError.{DecodeError}
+use Rattle.rasn_types.specs.declared.error.decode.DerDecodeErrorKind.TheVariants.{DefaultValuePresent}
+use Rattle.rasn_types.specs.Tags.{form, IsStrict}
 use Rattle.rasn_types.specs.Framing.{Ended}
 use Rattle.rasn_types.specs.declared.types.rules.Codec.{Codec}
-use Rattle.rasn_types.specs.Shapes.{Tree, Shape, looked_for}
-use Rattle.rasn_types.specs.Readers.{Reading, Perhaps, IsLeftOut, IsThere}
+use Rattle.rasn_types.specs.Shapes.{Tree, Same, Shape, default, looked_for}
+use Rattle.rasn_types.specs.Readers.{Reading, ReadsPart, IsLeftOut, IsThere}
 use Rattle.rasn_types.specs.Grammar.{Reads}
 use Rattle.rasn_de.specs.Decodes.{DecodesBy}
-use Rattle.rasn_de.specs.declared.ber.de.parser.Fault.TheVariants.{OutOfMemory}
+use Rattle.rasn_de.specs.declared.ber.de.parser.Fault.TheVariants.{OutOfMemory, Der}
 use Rattle.rasn_de.specs.State.{State}
 use Rattle.rasn_de.specs.Taking.{ErrorOf, Peeks}
 
 -- Whether the value that is looked for by this tag comes next. The look is refused where the contents go on with no tag.
 abbrev pub Comes : Tag → State → Result Bool DecodeError → Type 0
-Comes tag s (Ok true) = IsThere (looked_for tag) s.closing s.rest
-Comes tag s (Ok false) = IsLeftOut (looked_for tag) s.closing s.rest
+Comes tag s (Ok true) = IsThere (form s.rule) (looked_for tag) s.closing s.rest
+Comes tag s (Ok false) = IsLeftOut (form s.rule) (looked_for tag) s.closing s.rest
 Comes tag s (Err e) = (looked_for tag ≢ None) × (Ended s.closing s.rest → ⊥) × Peeks s (Err e)
 
 -- read o r n says that on the decoder o, r may be answered and n be left.
 module _ {D : Type 0} (read : State → Result D DecodeError → State → Type 0) (tag : Tag) (old : State) where
   -- The value is left out; or it comes and is read; or the look at the next tag is refused, which takes nothing.
   abbrev pub ReadPerhaps : Result (Option D) DecodeError → State → Type 0
-  ReadPerhaps (Ok None) new = IsLeftOut (looked_for tag) old.closing old.rest × (new ≡ old)
-  ReadPerhaps (Ok (Some v)) new = IsThere (looked_for tag) old.closing old.rest × read old (Ok v) new
-  ReadPerhaps (Err e) new = (Comes tag old (Err e) × (new ≡ old)) ⊎ (IsThere (looked_for tag) old.closing old.rest × read old (Err e) new)
+  ReadPerhaps (Ok None) new = Comes tag old (Ok false) × (new ≡ old)
+  ReadPerhaps (Ok (Some v)) new = Comes tag old (Ok true) × read old (Ok v) new
+  ReadPerhaps (Err e) new = (Comes tag old (Err e) × (new ≡ old)) ⊎ (Comes tag old (Ok true) × read old (Err e) new)
 
--- The same with a default: made r says that r may be made.
-module _ {D : Type 0} (read : State → Result D DecodeError → State → Type 0) (made : Result D AllocError → Type 0) (tag : Tag) (old : State) where
+-- The value that is made, or want of memory: made r says that r may be made.
+abbrev pub Made : {D : Type 0} → (Result D AllocError → Type 0) → State → Result D DecodeError → Type 0
+Made made s (Ok v) = made (Ok v)
+Made made s (Err e) = (x : AllocError) × made (Err x) × ErrorOf OutOfMemory s e
+
+-- The same with a default, which is made once at most: where the value is left out, and where one comes that may not be the default.
+module _ {D : Type 0} (read : State → Result D DecodeError → State → Type 0) (tree : D → Tree) (made : Result D AllocError → Type 0) (tag : Tag) (old : State) where
+  -- What a refusal comes from, and what it leaves. A value that was read before is taken.
+  pub data DefaultFailed (e : DecodeError) (new : State) : Type 0 where
+    no_look : Comes tag old (Err e) → new ≡ old → DefaultFailed e new
+    no_default : Comes tag old (Ok false) → Made made old (Err e) → new ≡ old → DefaultFailed e new
+    no_read : Comes tag old (Ok true) → read old (Err e) new → DefaultFailed e new
+    not_compared : Comes tag old (Ok true) → (v : D) → read old (Ok v) new → IsStrict old.rule → Made made old (Err e) → DefaultFailed e new
+    present : Comes tag old (Ok true) → (v : D) → read old (Ok v) new → IsStrict old.rule
+        → (d : D) → made (Ok d) → Same (tree v) (tree d) → ErrorOf (Der DefaultValuePresent) old e → DefaultFailed e new
+
   abbrev pub ReadOr : Result D DecodeError → State → Type 0
-  ReadOr (Ok v) new = (IsLeftOut (looked_for tag) old.closing old.rest × made (Ok v) × (new ≡ old)) ⊎ (IsThere (looked_for tag) old.closing old.rest × read old (Ok v) new)
-  ReadOr (Err e) new = (Comes tag old (Err e) × (new ≡ old)) ⊎ ((IsThere (looked_for tag) old.closing old.rest × read old (Err e) new)
-      ⊎ (IsLeftOut (looked_for tag) old.closing old.rest × (x : AllocError) × made (Err x) × ErrorOf OutOfMemory old e × (new ≡ old)))
+  ReadOr (Ok v) new = (Comes tag old (Ok false) × made (Ok v) × (new ≡ old))
+      ⊎ (Comes tag old (Ok true) × read old (Ok v) new × (IsStrict old.rule → (d : D) × made (Ok d) × (Same (tree v) (tree d) → ⊥)))
+  ReadOr (Err e) new = DefaultFailed e new
 
 -- The value has to be there.
 abbrev pub AlwaysThere : {D : Type 0} → (State → Result D DecodeError → State → Type 0) → State → Result (Option D) DecodeError → State → Type 0
@@ -42,7 +58,7 @@ AlwaysThere read old (Err e) new = read old (Err e) new
 
 -- a part of a SEQUENCE that has its default where it is left out
 abbrev pub ReadsDefault : Tag → Tree → Shape → Codec → ℕ → Bool → Reading Tree
-ReadsDefault tag without s rule depth closing = Perhaps (looked_for tag) without (Reads rule s depth closing) closing
+ReadsDefault tag without s rule depth closing = ReadsPart rule (default without) (looked_for tag) (Reads rule s depth closing) closing
 
 -- Whatever the default's tree is, the part is read with it.
 abbrev pub DecodesDefault : {D : Type 0} → Tag → Shape → (D → Tree) → (Result D AllocError → Type 0) → State → Result D DecodeError → State → Type 0

@@ -8,9 +8,10 @@ use Rattle.rasn_types.specs.Shapes.{Tree, items, Parts}
 use Rattle.rasn_types.specs.Readers.{AllMissing}
 use Rattle.rasn_types.specs.Grammar.{parts_of}
 use Rattle.rasn_types.specs.Described.{is_fieldless, has_required}
-use Rattle.rasn_de.specs.declared.ber.de.parser.Fault.TheVariants.{UnexpectedEmptyInput, OutOfMemory}
+use Rattle.rasn_de.specs.declared.ber.de.parser.Fault.TheVariants.{UnexpectedEmptyInput}
 use Rattle.rasn_de.specs.State.{State}
 use Rattle.rasn_de.specs.Taking.{ErrorOf}
+use Rattle.rasn_de.specs.Optionals.{Made}
 use Rattle.rasn_de.specs.Inside.{Door}
 
 abbrev pub sequence_door : Tag → Door
@@ -28,8 +29,8 @@ is_initial root more needs_field input = is_fieldless root more || (not needs_fi
 abbrev pub Initial : {I D : Type 0} → (I → Result D AllocError → Type 0) → Option I → State → Result D DecodeError → Type 0
 Initial made None s (Ok v) = ⊥
 Initial made None s (Err e) = ErrorOf UnexpectedEmptyInput s e
-Initial made (Some i) s (Ok v) = made i (Ok v)
-Initial {I} {D} made (Some i) s (Err e) = (x : AllocError) × made i (Err x) × ErrorOf OutOfMemory s e
+Initial made (Some i) s (Ok v) = Made (made i) s (Ok v)
+Initial made (Some i) s (Err e) = Made (made i) s (Err e)
 
 -- Inside the initializer answers, or else the closure, once.
 abbrev pub Fills : {D : Type 0} → (List ℕ → Bool) → (State → Result D DecodeError → Type 0) → (State → Result D DecodeError → State → Type 0) → State → Result D DecodeError → State → Type 0

@@ -1,10 +1,13 @@
 -- Strings in segments, read to their contents or to the first fault (8.6.4, 8.7.3, 8.23).
-use Rattle.std.specs.Prelude.{ℕ, zero, suc, Bool, true, false, ◌&&◌, nat_eq, if◌then◌else◌, List, [], ◌∷◌, ◌++◌, length, Some, Result, Ok, Err}
+use Rattle.std.specs.Prelude.{ℕ, zero, suc, Bool, true, false, ◌&&◌, nat_eq, if◌then◌else◌, List, [], ◌∷◌, ◌++◌, length, Result, Ok, Err}
 use Rattle.rasn_types.specs.declared.types.tag.Tag.{Tag}
 use Rattle.rasn_types.specs.declared.types.rules.Codec.{Codec}
 use Rattle.rasn_de.specs.declared.ber.de.parser.Fault.{Fault}
-use Rattle.rasn_de.specs.declared.ber.de.parser.Fault.TheVariants.{Incomplete, UnexpectedExtraData, ExceedsMaxParseDepth, MissingEndOfContents, ConstructedEncodingNotAllowed}
+use Rattle.rasn_de.specs.declared.ber.de.parser.Fault.TheVariants.{Incomplete, UnexpectedExtraData, ExceedsMaxParseDepth, MissingEndOfContents, Der}
+use Rattle.rasn_types.specs.declared.error.decode.DerDecodeErrorKind.TheVariants.{ConstructedEncodingNotAllowed}
 use Rattle.rasn_types.specs.Framing.{Extent, definite, indefinite}
+use Rattle.rasn_types.specs.Tags.{form}
+use Rattle.rasn_de.specs.declared.ber.de.parser.headers.Expected.TheVariants.{Tagged}
 use Rattle.rasn_de.specs.Headers.{◌>>=◌, Header, header_at, is_der}
 
 -- nothing is left, or closing octets come
@@ -40,8 +43,8 @@ finished indefinite rest left = closed_at left
 -- how a value's octets are read: as one segment, or as segments in it
 abbrev pub string_in : {X : Type 0} → Codec → (List ℕ → Result (List X) Fault) → (Extent → List ℕ → Result (List X × List ℕ) Fault) → Bool → Extent → List ℕ → Result (List X × List ℕ) Fault
 string_in rule segment nested false (definite c) rest = segment c >>= λ xs. Ok (xs, rest)
-string_in rule segment nested false indefinite rest = if is_der rule then Err ConstructedEncodingNotAllowed else nested indefinite rest
-string_in rule segment nested true extent rest = if is_der rule then Err ConstructedEncodingNotAllowed else nested extent rest
+string_in rule segment nested false indefinite rest = if is_der rule then Err (Der ConstructedEncodingNotAllowed) else nested indefinite rest
+string_in rule segment nested true extent rest = if is_der rule then Err (Der ConstructedEncodingNotAllowed) else nested extent rest
 
 abbrev pub too_deep : {X : Type 0} → Extent → List ℕ → Result (List X × List ℕ) Fault
 too_deep extent rest = Err ExceedsMaxParseDepth
@@ -54,15 +57,15 @@ segments_in read extent rest =
 unfoldable pub string_of : {X : Type 0} → Codec → (List ℕ → Result (List X) Fault) → Tag → ℕ → Header → Result (List X × List ℕ) Fault
 string_of rule segment tag zero h = string_in rule segment too_deep h.bit h.extent h.rest
 string_of rule segment tag (suc d) h =
-    string_in rule segment (segments_in (λ l. header_at rule (Some tag) l >>= string_of rule segment tag d)) h.bit h.extent h.rest
+    string_in rule segment (segments_in (λ l. header_at (form rule) (Tagged tag) l >>= string_of rule segment tag d)) h.bit h.extent h.rest
 
 -- one segment
 abbrev pub segment_at : {X : Type 0} → Codec → (List ℕ → Result (List X) Fault) → Tag → ℕ → List ℕ → Result (List X × List ℕ) Fault
-segment_at rule segment tag d l = header_at rule (Some tag) l >>= string_of rule segment tag d
+segment_at rule segment tag d l = header_at (form rule) (Tagged tag) l >>= string_of rule segment tag d
 
 abbrev pub octets : List ℕ → Result (List ℕ) Fault
 octets l = Ok l
 
 -- a string with a tag of its own
 abbrev pub string_at : {X : Type 0} → Codec → (List ℕ → Result (List X) Fault) → Tag → ℕ → Tag → List ℕ → Result (List X × List ℕ) Fault
-string_at rule segment inner_tag depth tag l = header_at rule (Some tag) l >>= string_of rule segment inner_tag depth
+string_at rule segment inner_tag depth tag l = header_at (form rule) (Tagged tag) l >>= string_of rule segment inner_tag depth

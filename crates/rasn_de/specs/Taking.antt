@@ -1,9 +1,11 @@
 -- What the private steps of a decoder take.
-use Rattle.std.specs.Prelude.{◌≡◌, Some, Result, Ok, Err}
+use Rattle.std.specs.Prelude.{◌≡◌, Result, Ok, Err}
 use Rattle.rasn_types.specs.declared.types.tag.Tag.{Tag}
+use Rattle.rasn_types.specs.Tags.{form}
 use Rattle.rasn_types.specs.declared.error.decode.DecodeError.{DecodeError}
 use Rattle.rasn_de.specs.declared.ber.de.parser.Fault.{Fault}
 use Rattle.rasn_de.specs.declared.ber.de.parser.Value.{Value}
+use Rattle.rasn_de.specs.declared.ber.de.parser.headers.Expected.{Expected}
 use Rattle.rasn_de.specs.Headers.{header_at}
 use Rattle.rasn_de.specs.Views.{framed, peeked}
 use Rattle.rasn_de.specs.Causes.{kind_of}
@@ -14,11 +16,11 @@ abbrev pub ErrorOf : Fault → State → DecodeError → Type 0
 ErrorOf f s e = e ≡ record { kind = kind_of f; codec = s.rule }
 
 -- A value's header and contents are taken, or nothing is.
-abbrev pub Takes : Tag → State → Result Value DecodeError → State → Type 0
-Takes tag old (Ok v) new = (header_at old.rule (Some tag) old.rest ≡ Ok (framed v new.rest)) × (new ≡ at old new.rest) × IsEnd old.rest new.rest
-Takes tag old (Err e) new = (f : Fault) × (header_at old.rule (Some tag) old.rest ≡ Err f) × ErrorOf f old e × (new ≡ old)
+abbrev pub Takes : Expected → State → Result Value DecodeError → State → Type 0
+Takes expected old (Ok v) new = (header_at (form old.rule) expected old.rest ≡ Ok (framed v new.rest)) × (new ≡ at old new.rest) × IsEnd old.rest new.rest
+Takes expected old (Err e) new = (f : Fault) × (header_at (form old.rule) expected old.rest ≡ Err f) × ErrorOf f old e × (new ≡ old)
 
 -- The next tag, or the first fault of its identifier.
 abbrev pub Peeks : State → Result Tag DecodeError → Type 0
-Peeks s (Ok t) = peeked s.rest ≡ Ok t
-Peeks s (Err e) = (f : Fault) × (peeked s.rest ≡ Err f) × ErrorOf f s e
+Peeks s (Ok t) = peeked (form s.rule) s.rest ≡ Ok t
+Peeks s (Err e) = (f : Fault) × (peeked (form s.rule) s.rest ≡ Err f) × ErrorOf f s e

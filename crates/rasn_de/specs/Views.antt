@@ -5,6 +5,7 @@ use Rattle.rasn_types.specs.declared.types.tag.Tag.{Tag}
 use Rattle.rasn_de.specs.declared.ber.de.parser.Fault.{Fault}
 use Rattle.rasn_de.specs.declared.ber.de.parser.Fault.TheVariants.{OutOfMemory}
 use Rattle.rasn_types.specs.Framing.{Extent, definite, indefinite}
+use Rattle.rasn_types.specs.Tags.{Form}
 use Rattle.rasn_de.specs.Headers.{Identified, Header, identifier_at}
 use Rattle.rasn_types.specs.declared.ber.identifier.Identifier.{Identifier}
 use Rattle.rasn_types.specs.Numbered.{constructed_bit}
@@ -55,5 +56,5 @@ abbrev pub tag_found : Result Identified Fault → Result Tag Fault
 tag_found (Ok i) = Ok i.tag
 tag_found (Err e) = Err e
 
-abbrev pub peeked : List ℕ → Result Tag Fault
-peeked l = tag_found (identifier_at l)
+abbrev pub peeked : Form → List ℕ → Result Tag Fault
+peeked spelling l = tag_found (identifier_at spelling l)

@@ -1,5 +1,6 @@
 //! What a type needs in order to be read.
 ghost use Rattle.rasn_types.specs.Framing.{Next};
+ghost use Rattle.rasn_types.specs.Tags.{form};
 ghost use Rattle.rasn_types.specs.Shapes.{given};
 ghost use Rattle.rasn_de.specs.Decodes.{Decodes};
 
@@ -78,7 +79,7 @@ pub trait DecodeChoice: AsnType {
     /// # Errors
     /// `NoValidChoice` where no alternative does; what the alternative refuses.
     fn from_tag(decoder: &mut Decoder<'_>, tag: Tag) -> Result<Self, DecodeError>
-        requires { Next decoder.old.rest tag }
+        requires { Next (form decoder.old.rule) decoder.old.rest tag }
         ensures { Decodes Self.shape Self.tree decoder.old result decoder.new };
 
     ghost chooses: { Self.AsnType.shape ≡ choice alternatives };

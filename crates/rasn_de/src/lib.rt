@@ -3,5 +3,3 @@
 
 pub mod ber;
 pub mod de;
-#[cfg(test)]
-mod tests;

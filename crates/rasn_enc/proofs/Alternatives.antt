@@ -24,7 +24,7 @@
 --
 -- The closure answers `alternative_refused` for each `?` and `alternative_put` for each `Ok`; the method that hands it over answers
 -- `choice_ok` and `choice_refused`.
-use Rattle.std.proofs.Common.{◌≡◌, ◌≢◌, ◌<◌, ◌+◌, ℕ, zero, suc, List, [], ◌++◌, refl, sym, ap, ◌∙◌, subst, arith, Result, Ok, Err, OnOk, IfErr, inl, inr}
+use Rattle.std.proofs.Common.{◌≡◌, ◌<◌, ◌+◌, ℕ, zero, suc, List, [], refl, sym, ap, ◌∙◌, subst, arith, Result, Ok, Err, OnOk, IfErr, inl, inr}
 use Rattle.std.proofs.lemmas.Result.{on_ok_weaker, IfErr-weaker, err_from_is_err_and}
 use Rattle.std.specs.Result.{IsErrAnd}
 use Rattle.std.specs.Fn.{FnOnceReturnsAtMut}
@@ -62,10 +62,31 @@ bare_at none j k n s t e a h = absurd a
 bare_at (part presence x ps) j zero n s t e a h = inl (t, ap (λ i. chosen i t) (omega arith), subst (λ z. IsBare z t) (sym a) h)
 bare_at (part presence x ps) j (suc k) n s t e a h = inr (bare_at ps (suc j) k n s t (omega arith) a h)
 
+other_bare : (ps : Parts) (k j : ℕ) (t u : Tree) → j < k → t ≡ chosen j u → IsBareIn k ps t → ⊥
+unfolding IsBare
+other_bare none k j t u h e m = m
+other_bare (part presence s ps) k j t u h e (inl m) = let f = m.1 in let g : j ≡ k = cc in omega arith
+other_bare (part presence s ps) k j t u h e (inr m) = other_bare ps (suc k) j t u (omega arith) e m
+
+bare_alone : (ps : Parts) (j k n : ℕ) (s : Shape) (t : Tree) → n ≡ j + k → IsAlternative ps k s → IsBareIn j ps (chosen n t) → IsBare s t
+unfolding IsBare
+bare_alone none j k n s t e a h = absurd a
+bare_alone (part presence x ps) j zero n s t e a (inl (u, f, h)) = let g : u ≡ t = cc in subst (λ z. IsBare z t) a (subst (IsBare x) g h)
+bare_alone (part presence x ps) j zero n s t e a (inr h) = absurd (other_bare ps (suc j) n (chosen n t) t (omega arith) refl h)
+bare_alone (part presence x ps) j (suc k) n s t e a (inl (u, f, h)) = let g : n ≡ j = cc in absurd (omega arith)
+bare_alone (part presence x ps) j (suc k) n s t e a (inr h) = bare_alone ps (suc j) k n s t (omega arith) a h
+
 module _ (ps : Parts) (k : ℕ) (s : Shape) (t : Tree) (a : IsAlternative ps k s) (v w : View) where
   chosen_wrote : Wrote s t v w → Wrote (choice ps) (chosen k t) v w
-  unfolding Bytes
-  chosen_wrote h = record { octets = h.octets; defined = written_at v.rule ps 0 k k s t h.octets (omega arith) a h.defined; tags = h.tags; heads = h.heads; appended = h.appended }
+  unfolding Bytes IsBare
+  chosen_wrote h = record {
+    octets = h.octets;
+    defined = written_at v.rule ps 0 k k s t h.octets (omega arith) a h.defined;
+    tags = h.tags;
+    heads = h.heads;
+    tagged = λ m b. h.tagged m (bare_alone ps 0 k k s t (omega arith) a b);
+    appended = h.appended;
+  }
 
   chosen_refused : (e : EncodeError) → MayRefuse s t v e → MayRefuse (choice ps) (chosen k t) v e
   unfolding Bytes IsBare

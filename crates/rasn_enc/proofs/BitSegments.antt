@@ -1,5 +1,5 @@
 -- Bits in one piece, and cut in segments of 999 octets.
-use Rattle.std.proofs.Common.{◌≡◌, ℕ, zero, suc, ◌+◌, ◌*◌, ◌%◌, ◌<◌, ◌≤◌, ◌⊎◌, inl, inr, Bool, false, List, [], ◌∷◌, ◌++◌, length, take, drop, Result, OnOk, IfErr, refl, sym, ap, ap₂, ◌∙◌, subst, arith}
+use Rattle.std.proofs.Common.{◌≡◌, ℕ, zero, suc, ◌+◌, ◌*◌, ◌%◌, ◌<◌, ◌≤◌, ◌⊎◌, inl, inr, Bool, false, List, [], ◌∷◌, ◌++◌, length, take, drop, Result, Ok, Err, OnOk, IfErr, refl, sym, ap, ap₂, ◌∙◌, subst, arith}
 use Rattle.std.proofs.lemmas.List.{append_assoc, append-nil, take-append-drop, drop-drop, length-append, length-drop, length-replicate, length-take-le}
 use Rattle.std.proofs.lemmas.Result.{on_ok_weaker, IfErr-weaker}
 use Rattle.rasn_types.specs.Tags.{in_universal, tag_bit}
@@ -7,11 +7,12 @@ use Rattle.rasn_types.specs.Framing.{AreOctets}
 use Rattle.rasn_types.specs.Shapes.{bits, leaf, bit_string, Admits}
 use Rattle.rasn_types.specs.Contents.{joined_lists}
 use Rattle.rasn_types.specs.Bits.{zeros, Pushes}
-use Rattle.rasn_types.specs.Bytes.{AreCut, Each, Prim, Cons, AllFalse, WrittenBits, IsCer, Bytes}
+use Rattle.rasn_types.specs.Bytes.{IsBare, AreCut, Each, Prim, Cons, AllFalse, WrittenBits, IsCer, Bytes}
 use Rattle.rasn_types.specs.declared.types.tag.Tag.{Tag}
 use Rattle.rasn_types.specs.declared.types.constraints.Constraints.{Constraints}
 use Rattle.rasn_types.specs.declared.error.encode.EncodeError.{EncodeError}
 use Rattle.rasn_types.proofs.Bits.{length-bits_in}
+use Rattle.rasn_types.proofs.Digits.{front_octets}
 use Rattle.rasn_enc.specs.View.{View, LeavesOthers, opened}
 use Rattle.rasn_enc.specs.Primitives.{Appends}
 use Rattle.rasn_enc.specs.Wrote.{Wrote, MayRefuse}
@@ -28,7 +29,7 @@ same_count : (n u v a : ℕ) → n + u ≡ 8 * a → (n + v) % 8 ≡ 0 → u < 8
 same_count n u v a h k i j = omega arith
 
 -- A count and the octets behind it are the contents of bits.
-pub bits_written : (bs : List Bool) (unused : ℕ) (counted contents : List ℕ) → unused < 8 → (length bs + unused) % 8 ≡ 0 → counted ≡ unused ∷ [] → Pushes bs counted contents → AreOctets contents → WrittenBits bs contents
+bits_written : (bs : List Bool) (unused : ℕ) (counted contents : List ℕ) → unused < 8 → (length bs + unused) % 8 ≡ 0 → counted ≡ unused ∷ [] → Pushes bs counted contents → AreOctets contents → WrittenBits bs contents
 bits_written bs unused counted contents few whole e p o =
     let q = p.packs in
     let z : length (zeros q.unused) ≡ q.unused = length-replicate q.unused false in
@@ -45,6 +46,20 @@ bits_written bs unused counted contents few whole e p o =
       zeros = all_false q.unused;
       octets = o;
     }
+
+-- A count and octets put behind others are too.
+bits_put : (bs : List Bool) (unused : ℕ) (old counted new : List ℕ) → unused < 8 → (length bs + unused) % 8 ≡ 0 → counted ≡ old ++ unused ∷ [] → Pushes bs counted new → AreOctets new
+    → (l : List ℕ) × WrittenBits bs l × (new ≡ old ++ l)
+bits_put bs unused old counted new few whole e p o =
+    let l : List ℕ = unused ∷ p.octets in
+    let eq : new ≡ old ++ l = p.is ∙ (ap (λ (x : List ℕ). x ++ p.octets) e ∙ append_assoc old (unused ∷ []) p.octets) in
+    let q : Pushes bs (unused ∷ []) l = record { octets = p.octets; is = refl; packs = p.packs } in
+    (l, bits_written bs unused (unused ∷ []) l few whole refl q (front_octets old l (subst AreOctets eq o)).1, eq)
+
+pub bits_appended : {R E : Type 0} (result : Result R E) (bs : List Bool) (unused : ℕ) (old counted new : List ℕ) → unused < 8 → (length bs + unused) % 8 ≡ 0 → counted ≡ old ++ unused ∷ []
+    → OnOk result (Pushes bs counted new) → OnOk result (AreOctets new) → OnOk result ((l : List ℕ) × WrittenBits bs l × (new ≡ old ++ l))
+bits_appended (Ok x) bs unused old counted new few whole e p o = bits_put bs unused old counted new few whole e p o
+bits_appended (Err x) bs unused old counted new few whole e p o = tt
 
 pub appends_bits : (tag : Tag) (bs : List Bool) (contents : List ℕ) (v w : View) → WrittenBits bs contents → Appends (Prim tag contents) tag v w → Appends (AreBits tag bs) tag v w
 appends_bits tag bs contents v w b a = record { octets = a.octets; written = (contents, b, a.written); appended = a.appended }
@@ -139,16 +154,16 @@ bit_segments_put tag bs v u w s a = record {
 -- ---- a whole string
 pub bits_wrote : {R E : Type 0} (result : Result R E) (tag : Tag) (c : Constraints) (bs : List Bool) (v w : View) → Admits ◌≤◌ c.size (length bs)
     → (IsCer v.rule → length bs ≤ 7992) → OnOk result (Appends (AreBits tag bs) tag v w) → OnOk result (Wrote (leaf bit_string tag c) (bits bs) v w)
-unfolding Bytes
+unfolding Bytes IsBare
 bits_wrote result tag c bs v w m few h = on_ok_weaker result (λ a.
-    wrote_one (AreBits tag bs) tag (leaf bit_string tag c) (bits bs) v w a (λ o d. definite_begins tag (tag_bit tag) d.0 o d.2)
+    wrote_one (AreBits tag bs) tag (leaf bit_string tag c) (bits bs) v w a (λ n. n) (λ o d. definite_begins tag (tag_bit tag) d.0 o d.2)
     (λ b d. (m, (bs, refl, inl (few, d.0, d.1, d.2))))) h
 
 pub bit_segments_wrote : {R E : Type 0} (result : Result R E) (tag : Tag) (c : Constraints) (bs : List Bool) (v w : View) → Admits ◌≤◌ c.size (length bs)
     → IsCer v.rule → 7992 < length bs → OnOk result (PutsBitSegments tag bs v w) → OnOk result (Wrote (leaf bit_string tag c) (bits bs) v w)
-unfolding Bytes
+unfolding Bytes IsBare
 bit_segments_wrote result tag c bs v w m cer many h = on_ok_weaker result (λ p.
-    wrote_one (Cons v.rule tag (joined_lists p.encoded)) tag (leaf bit_string tag c) (bits bs) v w p.appends
+    wrote_one (Cons v.rule tag (joined_lists p.encoded)) tag (leaf bit_string tag c) (bits bs) v w p.appends (λ n. n)
     (λ o d. cons_begins v.rule tag (joined_lists p.encoded) o d)
     (λ b d. (m, (bs, refl, inr (cer, many, p.pieces, p.encoded, p.is, p.cut, p.each, d))))) h
 

@@ -1,17 +1,19 @@
 -- Elements, one behind the other.
-use Rattle.std.proofs.Common.{◌≡◌, ◌≢◌, ◌≤◌, ◌-◌, ℕ, List, [], ◌∷◌, ◌++◌, length, map, take, drop, get_or, arith, refl, sym, ap, ◌∙◌, subst, Option, None, option_map, Result, OnOk, false, inl, inr}
+use Rattle.std.proofs.Common.{◌≡◌, ◌≢◌, ◌≤◌, ◌-◌, ℕ, List, [], ◌∷◌, ◌++◌, length, map, take, drop, get_or, arith, refl, sym, ap, ◌∙◌, subst, Option, None, option_map, ◌⊎◌, Result, Ok, Err, OnOk, IfErr, false, inl, inr}
 use Rattle.std.proofs.lemmas.List.{append_assoc, append-nil, take_rest}
-use Rattle.std.proofs.lemmas.Result.{on_ok_weaker}
+use Rattle.std.proofs.lemmas.Result.{on_ok_weaker, IfErr-weaker}
+use Rattle.std.specs.Fn.{FnOnceReturnsAtMut}
 use Rattle.rasn_types.specs.Shapes.{Shape, Tree, items, absent, list, Admits}
 use Rattle.rasn_types.specs.Contents.{joined_lists}
-use Rattle.rasn_types.specs.Bytes.{Bytes, Cons, Each}
+use Rattle.rasn_types.specs.Bytes.{Bytes, IsBare, Cons, Each}
 use Rattle.rasn_types.specs.declared.types.tag.Tag.{Tag}
 use Rattle.rasn_types.specs.declared.types.constraints.Bound.{Bound}
 use Rattle.rasn_types.specs.declared.types.constraints.Constraints.{Constraints}
 use Rattle.rasn_types.specs.declared.error.encode.EncodeError.{EncodeError}
 use Rattle.rasn_types.proofs.Alike.{items_one}
-use Rattle.rasn_enc.specs.View.{View, LeavesOthers, IsBelow, opened}
-use Rattle.rasn_enc.specs.Primitives.{Appends}
+use Rattle.rasn_enc.specs.View.{View, LeavesOthers, opened}
+use Rattle.rasn_enc.specs.Primitives.{WantsMemory}
+use Rattle.rasn_enc.specs.Writing.{Closure, Encloses, Refuses}
 use Rattle.rasn_enc.specs.Wrote.{Wrote, MayRefuse, Undefined}
 use Rattle.rasn_enc.specs.Elements.{WroteEach, RefusesElement, RefusesList}
 use Rattle.rasn_enc.proofs.Leaves.{cons_begins, wrote_one}
@@ -36,7 +38,7 @@ pub record ElementsSoFar (s : Shape) (ts rest : List Tree) (v w : View) : Type 0
   pub others : LeavesOthers v w
   pub no_tags : w.last.tags ≡ None
 
-pub elements_start : (s : Shape) (ts : List Tree) (v : View) → v.last.tags ≡ None → ElementsSoFar s ts ts v v
+abbrev pub elements_start : (s : Shape) (ts : List Tree) (v : View) → v.last.tags ≡ None → ElementsSoFar s ts ts v v
 elements_start s ts v e = record {
   front = [];
   encoded = [];
@@ -47,16 +49,16 @@ elements_start s ts v e = record {
   no_tags = e;
 }
 
-each_one : (R : Tree → List ℕ → Type 0) (ts : List Tree) (bs : List (List ℕ)) (t : Tree) (b : List ℕ) → Each R ts bs → R t b → Each R (ts ++ t ∷ []) (bs ++ b ∷ [])
+pub each_one : (R : Tree → List ℕ → Type 0) (ts : List Tree) (bs : List (List ℕ)) (t : Tree) (b : List ℕ) → Each R ts bs → R t b → Each R (ts ++ t ∷ []) (bs ++ b ∷ [])
 each_one R [] bs t b e r = (b, [], ap (λ l. l ++ b ∷ []) e, r, refl)
 each_one R (u ∷ ts) bs t b (c, more, e, q, f) r = (c, more ++ b ∷ [], ap (λ l. l ++ b ∷ []) e, q, each_one R ts more t b f r)
 
-each_at : (R : Tree → List ℕ → Type 0) (front : List Tree) (t : Tree) (back : List Tree) (bs : List (List ℕ)) → Each R (front ++ t ∷ back) bs → (b : List ℕ) × R t b
+pub each_at : (R : Tree → List ℕ → Type 0) (front : List Tree) (t : Tree) (back : List Tree) (bs : List (List ℕ)) → Each R (front ++ t ∷ back) bs → (b : List ℕ) × R t b
 each_at R [] t back bs (b, more, e, r, f) = (b, r)
 each_at R (u ∷ front) t back bs (b, more, e, r, f) = each_at R front t back more f
 
 module _ (s : Shape) (ts rest after : List Tree) (t : Tree) (v u : View) (k : ElementsSoFar s ts rest v u) (is : rest ≡ t ∷ after) where
-  pub elements_more : (w : View) → Wrote s t u w → ElementsSoFar s ts after v w
+  abbrev pub elements_more : (w : View) → Wrote s t u w → ElementsSoFar s ts after v w
   elements_more w a = record {
     front = k.front ++ t ∷ [];
     encoded = k.encoded ++ a.octets ∷ [];
@@ -68,7 +70,7 @@ module _ (s : Shape) (ts rest after : List Tree) (t : Tree) (v u : View) (k : El
     no_tags = ap (λ (x : View). x.last.tags) a.appended ∙ ap (λ o. option_map (λ kept. kept ++ a.tags) o) k.no_tags;
   }
 
-  pub element_refused : (e : EncodeError) → MayRefuse s t u e → RefusesElement s ts v.rule e
+  abbrev pub element_refused : (e : EncodeError) → MayRefuse s t u e → RefusesElement s ts v.rule e
   element_refused e h = record {
     front = k.front;
     tree = t;
@@ -83,24 +85,32 @@ module _ (s : Shape) (ts rest after : List Tree) (t : Tree) (v u : View) (k : El
     ];
   }
 
-pub elements_end : (s : Shape) (ts : List Tree) (v u : View) → ElementsSoFar s ts [] v u → WroteEach s ts v u
+abbrev pub elements_end : (s : Shape) (ts : List Tree) (v u : View) → ElementsSoFar s ts [] v u → WroteEach s ts v u
 elements_end s ts v u k = record {
   encoded = k.encoded;
   each = subst (λ l. Each (Bytes v.rule s) l k.encoded) (sym (append-nil k.front) ∙ sym k.is) k.each;
   octets = k.octets;
 }
 
-module _ (s : Shape) (ts : List Tree) (tag : Tag) (size : Option (Bound ℕ)) (v o : View) (e : o ≡ opened v false) where
-  list_made : (u w : View) → Admits ◌≤◌ size (length ts) → WroteEach s ts (opened v false) u → LeavesOthers (opened v false) u
-      → ((x : View) → IsBelow x u → Appends (Cons x.rule tag u.last.octets) tag x w) → Wrote (list tag s size) (items ts) v w
-  unfolding Bytes
-  list_made u w m a k h =
-      wrote_one (Cons v.rule tag u.last.octets) tag (list tag s size) (items ts) v w (h v (k.rule, k.below))
-      (λ b d. cons_begins v.rule tag u.last.octets b d) (λ b d. (ts, a.encoded, refl, m, a.each, subst (λ l. Cons v.rule tag l b) a.octets d))
+-- For the clause on success.
+pub list_ok : {F : Type 0} (g : Closure F (Unit {0})) (f : F) (s : Shape) (ts : List Tree) (tag : Tag) (size : Option (Bound ℕ)) (v w : View) (r : Result (Unit {0}) EncodeError)
+    → Admits ◌≤◌ size (length ts) → OnOk r (Encloses g f false tag v w)
+    → ((u : View) → FnOnceReturnsAtMut g f (opened v false) (Ok tt) u → WroteEach s ts (opened v false) u) → OnOk r (Wrote (list tag s size) (items ts) v w)
+unfolding Bytes IsBare
+list_ok g f s ts tag size v w r m h written = on_ok_weaker r (λ k.
+    let a = written k.inner k.ran in
+    wrote_one (Cons v.rule tag k.inner.last.octets) tag (list tag s size) (items ts) v w k.appends (λ n. n)
+    (λ b d. cons_begins v.rule tag k.inner.last.octets b d) (λ b d. (ts, a.encoded, refl, m, a.each, subst (λ l. Cons v.rule tag l b) a.octets d))) h
 
-  pub list_wrote : (u w : View) (r : Result (Unit {0}) EncodeError) → Admits ◌≤◌ size (length ts) → WroteEach s ts o u → LeavesOthers o u
-      → OnOk r ((x : View) → IsBelow x u → Appends (Cons x.rule tag u.last.octets) tag x w) → OnOk r (Wrote (list tag s size) (items ts) v w)
-  list_wrote u w r m a k h = on_ok_weaker r (list_made u w m (subst (λ x. WroteEach s ts x u) e a) (subst (λ x. LeavesOthers x u) e k)) h
+-- For the clauses on refusals.
+pub list_named : {F : Type 0} (g : Closure F (Unit {0})) (f : F) (s : Shape) (ts : List Tree) (c : Constraints) (size : ℕ) (v : View) (r : Result (Unit {0}) EncodeError)
+    → Admits ◌≤◌ c.size size → IfErr r (λ e. WantsMemory v.rule e ⊎ Refuses g f (opened v false) e)
+    → ((e : EncodeError) (u : View) → FnOnceReturnsAtMut g f (opened v false) (Err e) u → RefusesElement s ts v.rule e)
+    → IfErr r (RefusesList s ts size c v.rule)
+list_named g f s ts c size v r m h refused = IfErr-weaker r _ _ (λ e. elim [
+  | inl k ↦ inr (m, inl k)
+  | inr k ↦ inr (m, inr (refused e k.0 k.1))
+]) h
 
 -- Where a list is refused, it has no octets, or memory was wanted.
 pub list_refused : (s : Shape) (ts : List Tree) (tag : Tag) (c : Constraints) (v : View) (e : EncodeError)
@@ -122,3 +132,7 @@ list_refused s ts tag c v e (inr (m, inr r)) = record {
     }))
   ];
 }
+
+pub list_may_refuse : (s : Shape) (ts : List Tree) (tag : Tag) (c : Constraints) (size : ℕ) (v : View) (r : Result (Unit {0}) EncodeError) → size ≡ length ts
+    → IfErr r (RefusesList s ts size c v.rule) → IfErr r (MayRefuse (list tag s c.size) (items ts) v)
+list_may_refuse s ts tag c size v r n h = IfErr-weaker r _ _ (λ e k. list_refused s ts tag c v e (subst (λ z. RefusesList s ts z c v.rule e) n k)) h

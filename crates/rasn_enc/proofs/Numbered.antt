@@ -1,14 +1,15 @@
 -- Named numbers, NULL and object identifiers in a header are their octets.
-use Rattle.std.proofs.Common.{◌≡◌, subst, ℕ, zero, suc, ◌+◌, ◌*◌, ◌^◌, ◌-◌, ◌/◌, ◌<◌, ◌≤◌, ◌⊎◌, inl, inr, List, [], ◌∷◌, ◌++◌, length, take, drop, get_or, refl, sym, ap, ap₂, ◌∙◌, Result, OnOk, IfErr, pos, ℤ, arith}
+use Rattle.std.proofs.Common.{◌≡◌, subst, ℕ, zero, suc, ◌+◌, ◌*◌, ◌^◌, ◌-◌, ◌/◌, ◌<◌, ◌≤◌, ◌⊎◌, inl, inr, List, [], ◌∷◌, ◌++◌, length, take, drop, get_or, refl, sym, ap, ap₂, ◌∙◌, Result, Ok, OnOk, IfErr, Vec, pos, ℤ, arith}
 use Rattle.std.specs.Prelude.{Contains, min}
 use Rattle.std.proofs.lemmas.Result.{on_ok_weaker, IfErr-weaker}
-use Rattle.std.proofs.lemmas.List.{append_assoc, append-nil, take_rest}
+use Rattle.std.proofs.lemmas.List.{append_assoc, append-nil, append_cancel_left, take_rest}
+use Rattle.std.specs.Fn.{FnOnceReturnsAtMut}
 use Rattle.rasn_types.specs.Tags.{tag_bit}
 use Rattle.rasn_types.specs.Framing.{AreOctets}
 use Rattle.rasn_types.specs.Shapes.{number, numbers, leaf, null, object_identifier, integer, enumerated, Interval}
 use Rattle.rasn_types.specs.Contents.{signed, ShortArcs, IsObjectIdentifier}
 use Rattle.rasn_types.specs.Trees.{unconstrained}
-use Rattle.rasn_types.specs.Bytes.{Prim, Written, Bytes}
+use Rattle.rasn_types.specs.Bytes.{IsBare, Prim, Written, Bytes}
 use Rattle.rasn_types.specs.declared.types.tag.Tag.{Tag}
 use Rattle.rasn_types.specs.declared.types.constraints.Constraints.{Constraints}
 use Rattle.rasn_types.specs.declared.error.encode.EncodeError.{EncodeError}
@@ -16,6 +17,7 @@ use Rattle.rasn_types.proofs.Digits.{arcs_of}
 use Rattle.rasn_enc.specs.Headers.{digits, chained, group_count}
 use Rattle.rasn_enc.specs.View.{View}
 use Rattle.rasn_enc.specs.Primitives.{Appends, WantsMemory}
+use Rattle.rasn_enc.specs.Filled.{Filler, AppendsFilled}
 use Rattle.rasn_enc.specs.Wrote.{Wrote, MayRefuse}
 use Rattle.rasn_enc.specs.Refusals.{RefusesValue}
 use Rattle.rasn_enc.specs.ObjectIdentifiers.{HasOctets, IsFirst, IsSubidentifier, AppendsOne, AppendsArcs, AppendsContents, RefusesArcs}
@@ -25,12 +27,13 @@ use Rattle.rasn_enc.proofs.Spellings.{groups_spell}
 -- A number that a type names is written as a named one.
 pub named_wrote : {R E : Type 0} (result : Result R E) (range : Interval) (known : List ℤ) (tag : Tag) (n z : ℤ) (v w : View) → n ≡ z → Contains known n
     → OnOk result (Wrote (leaf (integer range) tag unconstrained) (number z) v w) → (c : Constraints) → OnOk result (Wrote (leaf (enumerated known) tag c) (number n) v w)
-unfolding Bytes
+unfolding Bytes IsBare
 named_wrote result range known tag n z v w e k h c = on_ok_weaker result (λ a. record {
   octets = a.octets;
   defined = (tt, (a.defined.1.0, named a.defined.1.0 a.defined.1.1, a.defined.1.2));
   tags = a.tags;
   heads = a.heads;
+  tagged = a.tagged;
   appended = a.appended;
 }) h
   where
@@ -45,21 +48,25 @@ pub named_refused : {R : Type 0} (result : Result R EncodeError) (n : ℤ) (v : 
 named_refused result n v h = IfErr-weaker result _ _ (λ e. elim [ inl r ↦ absurd (r.unmet tt) | inr m ↦ m ]) h
 
 pub null_wrote : {R E : Type 0} (result : Result R E) (tag : Tag) (v w : View) → OnOk result (Appends (Prim tag []) tag v w) → (c : Constraints) → OnOk result (Wrote (leaf null tag c) (number (pos 0)) v w)
-unfolding Bytes
+unfolding Bytes IsBare
 null_wrote result tag v w h c = on_ok_weaker result (λ a.
-    wrote_one (Prim tag []) tag (leaf null tag c) (number (pos 0)) v w a (λ o d. definite_begins tag (tag_bit tag) [] o d)
+    wrote_one (Prim tag []) tag (leaf null tag c) (number (pos 0)) v w a (λ n. n) (λ o d. definite_begins tag (tag_bit tag) [] o d)
     (λ o d. (tt, ([], record { is = (refl, refl); octets = tt; shortest = tt }, d)))) h
 
 pub object_wrote : {R E : Type 0} (result : Result R E) (tag : Tag) (arcs l : List ℕ) (v w : View) → Written object_identifier (numbers arcs) l → OnOk result (Appends (Prim tag l) tag v w)
     → (c : Constraints) → OnOk result (Wrote (leaf object_identifier tag c) (numbers arcs) v w)
-unfolding Bytes
+unfolding Bytes IsBare
 object_wrote result tag arcs l v w r h c = on_ok_weaker result (λ a.
-    wrote_one (Prim tag l) tag (leaf object_identifier tag c) (numbers arcs) v w a (λ o d. definite_begins tag (tag_bit tag) l o d)
+    wrote_one (Prim tag l) tag (leaf object_identifier tag c) (numbers arcs) v w a (λ n. n) (λ o d. definite_begins tag (tag_bit tag) l o d)
     (λ o d. (tt, (l, r, d)))) h
 
--- Contents behind no octets.
-pub contents_alone : (arcs old new : List ℕ) → old ≡ [] → AppendsContents arcs old new → Written object_identifier (numbers arcs) new
-contents_alone arcs old new e a = subst (Written object_identifier (numbers arcs)) (sym (a.appended ∙ ap (λ l. l ++ a.octets) e)) a.written
+-- Its contents are written in place.
+pub object_filled : {F A : Type 0} (g : Filler F A) (f : F) (tag : Tag) (arcs : List ℕ) (v w : View) (r : Result (Unit {0}) EncodeError) → OnOk r (AppendsFilled g f tag v w)
+    → ((x y : Vec ℕ A) → FnOnceReturnsAtMut g f x (Ok tt) y → AppendsContents arcs x.items y.items) → (c : Constraints) → OnOk r (Wrote (leaf object_identifier tag c) (numbers arcs) v w)
+object_filled {F} {A} g f tag arcs v w r h puts c = on_ok_weaker r (λ k.
+    let p = puts k.fills.before k.fills.after k.fills.ran in
+    let e : p.octets ≡ k.contents = append_cancel_left k.fills.before.items p.octets k.contents (sym p.appended ∙ k.fills.is) in
+    object_wrote {R = Unit {0}} {E = Unit {0}} (Ok tt) tag arcs k.contents v w (subst (Written object_identifier (numbers arcs)) e p.written) k.appends c) h
 
 -- The first subidentifier gives back the arcs that it holds.
 first_low : (x y s : ℕ) → x < 2 → y < 40 → s ≡ 40 * x + y → (min 2 (s / 40) ≡ x) × (s - 40 * min 2 (s / 40) ≡ y)

@@ -12,8 +12,8 @@ use Rattle.rasn_enc.proofs.Sequences.{appended-nil}
 module _ (s : Shape) (t u : Tree) (v : View) (r : Result (Unit {0}) EncodeError) (e : t ≡ u) (n : u ≢ absent) where
   -- One that is there is written as such.
   pub there_wrote : (g : Option Tag) (w : View) → OnOk r (Wrote s u v w) → OnOk r (Wrote (option g s) t v w)
-  unfolding Bytes
-  there_wrote g w h = rw e (on_ok_weaker r (λ a. record { octets = a.octets; defined = inr (n, a.defined); tags = a.tags; heads = a.heads; appended = a.appended }) h)
+  unfolding Bytes IsBare
+  there_wrote g w h = rw e (on_ok_weaker r (λ a. record { octets = a.octets; defined = inr (n, a.defined); tags = a.tags; heads = a.heads; tagged = a.tagged; appended = a.appended }) h)
 
   pub there_refused : (g : Option Tag) → IfErr r (MayRefuse s u v) → IfErr r (MayRefuse (option g s) t v)
   unfolding Bytes IsBare
@@ -28,4 +28,4 @@ module _ (s : Shape) (t u : Tree) (v : View) (r : Result (Unit {0}) EncodeError)
 -- An absent one has no octets.
 pub left_out : {g : Option Tag} (s : Shape) (t : Tree) (v : View) → t ≡ absent → Wrote (option g s) t v v
 unfolding Bytes
-left_out s t v e = record { octets = []; defined = inl (e, refl); tags = []; heads = refl; appended = appended-nil v }
+left_out s t v e = record { octets = []; defined = inl (e, refl); tags = []; heads = λ k. refl; tagged = λ k b. refl; appended = appended-nil v }

@@ -30,10 +30,10 @@ use Rattle.std.proofs.lemmas.List.{append-nil, append_assoc}
 use Rattle.std.proofs.lemmas.Result.{on_ok_weaker, IfErr-weaker, err_from_is_err_and}
 use Rattle.std.specs.Result.{IsErrAnd}
 use Rattle.std.specs.Fn.{FnOnceReturnsAtMut}
-use Rattle.rasn_types.specs.Shapes.{Shape, seq, option, Tree, items, done, joined, Parts, part, Presence, optional, addition}
+use Rattle.rasn_types.specs.Shapes.{Shape, seq, option, Tree, items, done, joined, Parts, part, Presence, optional, addition, default, absent}
 use Rattle.rasn_types.specs.Shapes.Parts.{none}
 use Rattle.rasn_types.specs.Contents.{joined_lists}
-use Rattle.rasn_types.specs.Bytes.{Bytes, fields_of, WritesPart, PartsWritten, NoneBare, TagsOf, IsBare, Cons}
+use Rattle.rasn_types.specs.Bytes.{Bytes, fields_of, WritesPart, PartsWritten, NoneBare, TagsOf, IsBare, Cons, Same}
 use Rattle.rasn_types.specs.declared.types.rules.Codec.{Codec}
 use Rattle.rasn_types.specs.declared.types.tag.Tag.{Tag}
 use Rattle.rasn_types.specs.declared.error.encode.EncodeError.{EncodeError}
@@ -70,7 +70,14 @@ heads_more (o ∷ l) encoded a b (tag, more, e, begins, n) k = (tag, b, rw (e, n
 
 none_written : (v : View) → WroteParts none done v v
 unfolding fields_of
-none_written v = record { trees = []; is = refl; encoded = []; written = (refl, refl); tags = []; heads = refl; appended = appended-nil v }
+none_written v = record { trees = []; is = refl; encoded = []; written = (refl, refl); tags = []; heads = λ k. refl; tagged = λ k. tt; appended = appended-nil v }
+
+keeps_after : (v u : View) (octets : List ℕ) (tags : List Tag) → u ≡ appended v octets tags → v.last.tags ≢ None → u.last.tags ≢ None
+keeps_after v u octets tags e h k = h (none_before v.last.tags (sym (ap (λ (x : View). x.last.tags) e) ∙ k))
+  where
+    none_before : (o : Option (List Tag)) → option_map (λ kept. kept ++ tags) o ≡ None → o ≡ None
+    none_before None f = refl
+    none_before (Some kept) f = cc
 
 -- A part is written, and then the others.
 part_written : (p : Presence) (s : Shape) (parts : Parts) (t tree : Tree) (v u w : View) → WrotePart p s t v u → WroteParts parts tree u w
@@ -82,7 +89,8 @@ part_written p s parts t tree v u w a q = record {
   encoded = a.octets ∷ q.encoded;
   written = (t, q.trees, a.octets, q.encoded, refl, refl, a.defined, subst (λ r. PartsWritten (fields_of r parts) q.trees q.encoded) (ap (λ (x : View). x.rule) a.appended) q.written);
   tags = a.tags ++ q.tags;
-  heads = heads_more a.octets q.encoded a.tags q.tags a.heads q.heads;
+  heads = λ k. heads_more a.octets q.encoded a.tags q.tags (a.heads k) (q.heads (keeps_after v u a.octets a.tags a.appended k));
+  tagged = λ k. (a.tagged k, subst (λ r. NoneBare (fields_of r parts) q.trees q.encoded) (ap (λ (x : View). x.rule) a.appended) (q.tagged (keeps_after v u a.octets a.tags a.appended k)));
   appended = q.appended ∙ (ap (λ x. appended x (joined_lists q.encoded) q.tags) a.appended ∙ appended-more v a.octets (joined_lists q.encoded) a.tags q.tags);
 }
 
@@ -207,11 +215,11 @@ last_part {p} s t v w (Err e) a b c = refused_by p s none t done v w (Err e) e c
 pub sequence_ok : {F : Type 0} (g : Closure F (Unit {0})) (f : F) (v w : View) (tag : Tag) (parts : Parts) (tree : Tree) (r : Result (Unit {0}) EncodeError)
     → OnOk r (Encloses g f false tag v w)
     → ((u : View) → FnOnceReturnsAtMut g f (opened v false) (Ok tt) u → WritesParts parts tree (opened v false) (Ok tt) u) → OnOk r (Wrote (seq tag parts) tree v w)
-unfolding Bytes
+unfolding Bytes IsBare
 sequence_ok g f v w tag parts tree r h written = on_ok_weaker r (λ k.
     let p = (written k.inner k.ran).ok in
     let i : k.inner.last.octets ≡ joined_lists p.encoded = ap (λ (x : View). x.last.octets) p.appended in
-    wrote_one (Cons v.rule tag k.inner.last.octets) tag (seq tag parts) tree v w k.appends
+    wrote_one (Cons v.rule tag k.inner.last.octets) tag (seq tag parts) tree v w k.appends (λ n. n)
     (λ o d. cons_begins v.rule tag k.inner.last.octets o d)
     (λ o d. (p.trees, p.encoded, p.is, p.written, subst (λ l. Cons v.rule tag l o) i d))) h
 
@@ -238,10 +246,17 @@ call_keeps {T} s t {v} {w} (Err x) a e = record { rule = ap (λ (u : View). u.ru
 pub keeps_then : {u v w : View} → LeavesOthers u v → LeavesOthers v w → LeavesOthers u w
 keeps_then a b = record { rule = b.rule ∙ a.rule; below = b.below ∙ a.below }
 
+-- A part that is absent, or equals its default, is left out.
+pub absent_left : (s : Shape) (t : Tree) (v : View) → t ≡ absent → WrotePart optional s t v v
+absent_left s t v e = record { octets = []; defined = inl (e, refl); tags = []; heads = λ k. refl; tagged = λ k b. refl; appended = appended-nil v }
+
+pub default_left : (s : Shape) (t d : Tree) (v : View) → Same t d → WrotePart (default d) s t v v
+default_left s t d v e = record { octets = []; defined = inl (e, refl); tags = []; heads = λ k. refl; tagged = λ k b. refl; appended = appended-nil v }
+
 -- A part that may be left out is written as the value of such a type is.
 pub optional_wrote : {g : Option Tag} (s : Shape) (t : Tree) (v w : View) → Wrote (option g s) t v w → WrotePart optional s t v w
-unfolding Bytes
-optional_wrote s t v w a = record { octets = a.octets; defined = a.defined; tags = a.tags; heads = a.heads; appended = a.appended }
+unfolding Bytes IsBare
+optional_wrote s t v w a = record { octets = a.octets; defined = a.defined; tags = a.tags; heads = a.heads; tagged = a.tagged; appended = a.appended }
 
 pub optional_refused : {g : Option Tag} (s : Shape) (t : Tree) (v : View) (e : EncodeError) → MayRefuse (option g s) t v e → MayRefusePart optional s t v e
 unfolding Bytes IsBare
@@ -255,8 +270,8 @@ optional_refused s t v e h = record {
 
 -- So is an extension addition.
 pub addition_wrote : {g : Option Tag} (s : Shape) (t : Tree) (v w : View) → Wrote (option g s) t v w → WrotePart addition s t v w
-unfolding Bytes
-addition_wrote s t v w a = record { octets = a.octets; defined = a.defined; tags = a.tags; heads = a.heads; appended = a.appended }
+unfolding Bytes IsBare
+addition_wrote s t v w a = record { octets = a.octets; defined = a.defined; tags = a.tags; heads = a.heads; tagged = a.tagged; appended = a.appended }
 
 pub addition_refused : {g : Option Tag} (s : Shape) (t : Tree) (v : View) (e : EncodeError) → MayRefuse (option g s) t v e → MayRefusePart addition s t v e
 unfolding Bytes IsBare

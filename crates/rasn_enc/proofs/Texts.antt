@@ -6,7 +6,7 @@ use Rattle.rasn_types.specs.Tags.{in_universal, tag_bit}
 use Rattle.rasn_types.specs.Shapes.{Kind, Tree, numbers, leaf, Admits, octet_string, fixed, bmp, utf8}
 use Rattle.rasn_types.specs.Contents.{joined_lists}
 use Rattle.rasn_types.specs.Grammar.{family, text_family, IsBounded, Fulfils, measure, by_size}
-use Rattle.rasn_types.specs.Bytes.{Prim, IsCer, Bytes, WritesIn, WritesText, WritesStr, WritesOctets}
+use Rattle.rasn_types.specs.Bytes.{IsBare, Prim, IsCer, Bytes, WritesIn, WritesText, WritesStr, WritesOctets}
 use Rattle.rasn_types.specs.Characters.{AreAdmitted, kind_of, ArePaired, units_of}
 use Rattle.rasn_types.proofs.StringTexts.{alphabet_family, alphabet_measure, alphabet_writes, units_there}
 use Rattle.rasn_types.specs.declared.types.strings.alphabet.Alphabet.{Alphabet}
@@ -44,9 +44,9 @@ str_begins rule tag xs octets (inr (cer, many, pieces, bs, is, cut, each, d)) = 
 -- A kind of string whose octets these are.
 pub text_wrote : {R E : Type 0} (result : Result R E) (kind : Kind) (tag : Tag) (c : Constraints) (xs : List ℕ) (t : Tree) (size : ℕ) (v w : View) → family kind ≡ text_family
     → (Admits ◌≤◌ c.size size → IsBounded kind c t) → WritesText kind xs t → OnOk result (PutsText tag c xs size v w) → OnOk result (Wrote (leaf kind tag c) t v w)
-unfolding Bytes
+unfolding Bytes IsBare
 text_wrote result kind tag c xs t size v w f bounded writes h = on_ok_weaker result (λ p.
-    wrote_one (WritesStr v.rule WritesOctets 1000 (in_universal 4) tag xs) tag (leaf kind tag c) t v w p.appends
+    wrote_one (WritesStr v.rule WritesOctets 1000 (in_universal 4) tag xs) tag (leaf kind tag c) t v w p.appends (λ n. n)
     (λ o d. str_begins v.rule tag xs o d)
     (λ b d. (bounded p.admitted, subst (λ z. WritesIn z v.rule kind tag t b) (sym f) (xs, writes, d)))) h
 
@@ -77,12 +77,13 @@ characters_wrote result tag c ys xs size v w e k h p = text_wrote result utf8 ta
 -- An OCTET STRING of n octets.
 pub fixed_wrote : {R E : Type 0} (result : Result R E) (tag : Tag) (c : Constraints) (xs : List ℕ) (n : ℕ) (v w : View) → length xs ≡ n
     → OnOk result (Wrote (leaf octet_string tag c) (numbers xs) v w) → OnOk result (Wrote (leaf (fixed n) tag c) (numbers xs) v w)
-unfolding Bytes
+unfolding Bytes IsBare
 fixed_wrote result tag c xs n v w k h = on_ok_weaker result (λ a. record {
   octets = a.octets;
   defined = (a.defined.0, as_fixed a.octets a.defined.1);
   tags = a.tags;
   heads = a.heads;
+  tagged = a.tagged;
   appended = a.appended;
 }) h
   where

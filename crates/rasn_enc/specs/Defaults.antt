@@ -1,16 +1,11 @@
 -- Values that are left out where they equal a default (X.690 11.5).
-use Rattle.std.specs.Prelude.{◌≡◌, ◌⊎◌, Bool, true, false, MatchBool, Result, Ok, Err, OnOk, IfErr}
+use Rattle.std.specs.Prelude.{◌≡◌, ◌⊎◌, Bool, false, MatchBool, Result, Ok, Err, OnOk, IfErr}
 use Rattle.std.specs.declared.alloc.AllocError.{AllocError}
 use Rattle.rasn_types.specs.Shapes.{Shape, Tree, default}
-use Rattle.rasn_types.specs.Bytes.{Same}
 use Rattle.rasn_types.specs.declared.error.encode.EncodeError.{EncodeError}
 use Rattle.rasn_enc.specs.View.{View}
 use Rattle.rasn_enc.specs.Wrote.{Wrote, WrotePart, MayRefuse, MayRefusePart}
 use Rattle.rasn_enc.specs.Primitives.{WantsMemory}
-
--- Values are equal exactly if their trees are.
-abbrev pub IsSame : {E : Type 0} → (E → E → Bool) → (E → Tree) → Type 0
-IsSame {E} eq tree = (a b : E) → (eq a b ≡ true → Same (tree a) (tree b)) × (Same (tree a) (tree b) → eq a b ≡ true)
 
 -- made r says that r may be made as the default.
 module _ {E : Type 0} (eq : E → E → Bool) (made : Result E AllocError → Type 0) (s : Shape) (tree : E → Tree) (value : E) (v : View) where
@@ -27,5 +22,5 @@ module _ {E : Type 0} (eq : E → E → Bool) (made : Result E AllocError → Ty
 
   -- Whatever the default's tree is, the part is written with it.
   abbrev pub WritesDefault : Result (Unit {0}) EncodeError → View → Type 0
-  WritesDefault result w = (without : Tree) → ((d : E) → made (Ok d) → tree d ≡ without) → IsSame eq tree
+  WritesDefault result w = (without : Tree) → ((d : E) → made (Ok d) → tree d ≡ without)
       → OnOk result (WrotePart (default without) s (tree value) v w) × IfErr result (MayRefusePart (default without) s (tree value) v)

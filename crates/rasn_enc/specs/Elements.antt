@@ -1,8 +1,8 @@
--- Elements of one shape, one behind the other (X.690 8.10).
-use Rattle.std.specs.Prelude.{ℕ, ◌≡◌, ◌≤◌, ◌⊎◌, List, ◌∷◌, ◌++◌}
+-- Elements of one shape, one behind the other (X.690 8.10, 8.12).
+use Rattle.std.specs.Prelude.{ℕ, ◌≡◌, ◌≤◌, ◌⊎◌, List, [], ◌∷◌, ◌++◌}
 use Rattle.rasn_types.specs.Shapes.{Shape, Tree, Admits}
 use Rattle.rasn_types.specs.Contents.{joined_lists}
-use Rattle.rasn_types.specs.Bytes.{Bytes, Each}
+use Rattle.rasn_types.specs.Bytes.{Bytes, Each, DoNotFall, IsLess}
 use Rattle.rasn_types.specs.Errors.{IsEncodeMemory}
 use Rattle.rasn_types.specs.declared.types.constraints.Constraints.{Constraints}
 use Rattle.rasn_types.specs.declared.types.rules.Codec.{Codec}
@@ -10,7 +10,7 @@ use Rattle.rasn_types.specs.declared.error.encode.EncodeError.{EncodeError}
 use Rattle.rasn_enc.specs.View.{View}
 use Rattle.rasn_enc.specs.Wrote.{Undefined}
 use Rattle.rasn_enc.specs.Refusals.{RefusesSize}
-use Rattle.rasn_enc.specs.Primitives.{WantsMemory}
+use Rattle.rasn_enc.specs.Primitives.{WantsMemory, TellsOrder}
 
 -- The octets of these trees stand behind the last list.
 pub record WroteEach (s : Shape) (ts : List Tree) (v w : View) : Type 0 where
@@ -31,3 +31,32 @@ pub record RefusesElement (s : Shape) (ts : List Tree) (rule : Codec) (e : Encod
 -- Why a list isn't written: its size isn't admitted; or else memory is wanted, or an element isn't written.
 abbrev pub RefusesList : Shape → List Tree → ℕ → Constraints → Codec → EncodeError → Type 0
 RefusesList s ts size c rule e = RefusesSize c size rule e ⊎ (Admits ◌≤◌ c.size size × (WantsMemory rule e ⊎ RefusesElement s ts rule e))
+
+-- Their octets don't fall (X.690 11.6).
+pub record WroteBag (s : Shape) (ts : List Tree) (v w : View) : Type 0 where
+  pub wrote : WroteEach s ts v w
+  pub order : DoNotFall IsLess wrote.encoded
+
+-- An element isn't written, and the octets of those before it don't fall.
+pub record RefusesInBag (s : Shape) (ts : List Tree) (rule : Codec) (e : EncodeError) : Type 0 where
+  pub element : RefusesElement s ts rule e
+  pub order : DoNotFall IsLess element.encoded
+
+-- The octets of an element are less than those before it, which don't fall.
+pub record RefusesFall (s : Shape) (ts : List Tree) (rule : Codec) (e : EncodeError) : Type 0 where
+  pub front : List Tree
+  pub tree : Tree
+  pub back : List Tree
+  pub is : ts ≡ front ++ tree ∷ back
+  pub encoded : List (List ℕ)
+  pub before : Each (Bytes rule s) front encoded
+  pub order : DoNotFall IsLess encoded
+  pub octets : List ℕ
+  pub defined : Bytes rule s tree octets
+  pub falls : DoNotFall IsLess (encoded ++ octets ∷ []) → ⊥
+  pub told : TellsOrder rule e
+
+-- Why a bag isn't written: its size isn't admitted; or else memory is wanted, an element isn't written, or the octets fall.
+abbrev pub RefusesBag : Shape → List Tree → ℕ → Constraints → Codec → EncodeError → Type 0
+RefusesBag s ts size c rule e = RefusesSize c size rule e
+    ⊎ (Admits ◌≤◌ c.size size × (WantsMemory rule e ⊎ (RefusesInBag s ts rule e ⊎ RefusesFall s ts rule e)))

@@ -1,6 +1,12 @@
 pub mod Headers
 pub mod View
 pub mod Lists
+pub mod Marks
+pub mod Moves
+pub mod Cuts
+pub mod Gathered
+pub mod Order
+pub mod Ahead
 pub mod Primitives
 pub mod Wrote
 pub mod Refusals
@@ -9,6 +15,8 @@ pub mod Texts
 pub mod Writing
 pub mod Parts
 pub mod Elements
+pub mod Filled
+pub mod Integers
 pub mod Defaults
 pub mod Additions
 pub mod Alternatives

@@ -2,14 +2,10 @@
 use Rattle.std.specs.Prelude.{ℕ, ◌≡◌, ◌<◌, length, Option, Some, None, Vec, List, option_map, vec_len, vec_capacity}
 use Rattle.rasn_types.specs.declared.types.tag.Tag.{Tag}
 use Rattle.rasn_enc.specs.View.{Frame}
-use Rattle.rasn_enc.specs.declared.ber.enc.open_list.OpenList.{OpenList}
-use Rattle.rasn_enc.specs.declared.ber.enc.open_list.ListEnd.{ListEnd}
+use Rattle.rasn_enc.specs.declared.ber.enc.writer.ListEnd.{ListEnd}
 
 abbrev pub tags_of : {A : Type 0} → Option (Vec Tag A) → Option (List Tag)
 tags_of tags = option_map (λ v. v.items) tags
-
-abbrev pub frame_of : OpenList → Frame
-frame_of list = record { octets = list.octets.items; tags = tags_of list.tags }
 
 -- One more tag can be kept.
 abbrev pub HasRoom : {A : Type 0} → Option (Vec Tag A) → Type 0

@@ -9,14 +9,16 @@ use Rattle.rasn_types.specs.declared.types.tag.Tag.{Tag}
 use Rattle.rasn_types.specs.declared.error.encode.EncodeError.{EncodeError}
 use Rattle.rasn_enc.specs.View.{View, appended, LeavesOthers}
 
--- The octets of the parts stand behind the last list, one behind the other, and their tags behind those that it keeps. tree has an entry for each part.
+-- The octets of the parts stand behind the last list, one behind the other. Where that keeps tags, theirs stand behind those, and no part is
+-- octets of an open type without a tag. tree has an entry for each part.
 pub record WroteParts (parts : Parts) (tree : Tree) (v w : View) : Type 0 where
   pub trees : List Tree
   pub is : tree ≡ items trees
   pub encoded : List (List ℕ)
   pub written : PartsWritten (fields_of v.rule parts) trees encoded
   pub tags : List Tag
-  pub heads : TagsOf encoded tags
+  pub heads : v.last.tags ≢ None → TagsOf encoded tags
+  pub tagged : v.last.tags ≢ None → NoneBare (fields_of v.rule parts) trees encoded
   pub appended : w ≡ appended v (joined_lists encoded) tags
 
 -- Some part has no octets.

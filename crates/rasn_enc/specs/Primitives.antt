@@ -3,14 +3,10 @@ use Rattle.std.specs.Prelude.{ℕ, ◌≡◌, List, [], ◌∷◌}
 use Rattle.rasn_types.specs.declared.types.rules.Codec.{Codec}
 use Rattle.rasn_types.specs.declared.types.tag.Tag.{Tag}
 use Rattle.rasn_types.specs.declared.error.encode.EncodeError.{EncodeError}
-use Rattle.rasn_types.specs.declared.error.encode.EncodeErrorKind.TheVariants.{OutOfMemory}
-use Rattle.rasn_enc.specs.View.{Frame, View, added, appended}
-
--- A value of this tag is put behind a list.
-pub record Adds (IsWritten : List ℕ → Type 0) (tag : Tag) (f g : Frame) : Type 0 where
-  pub octets : List ℕ
-  pub written : IsWritten octets
-  pub added : g ≡ added f octets (tag ∷ [])
+use Rattle.rasn_types.specs.declared.error.encode.EncodeErrorKind.TheVariants.{OutOfMemory, CodecSpecific}
+use Rattle.rasn_types.specs.declared.error.encode.CodecEncodeError.TheVariants.{Ber}
+use Rattle.rasn_types.specs.declared.error.encode.BerEncodeErrorKind.TheVariants.{SetOutOfOrder}
+use Rattle.rasn_enc.specs.View.{View, appended}
 
 -- A value of this tag is put behind the last list.
 pub record Appends (IsWritten : List ℕ → Type 0) (tag : Tag) (v w : View) : Type 0 where
@@ -21,3 +17,7 @@ pub record Appends (IsWritten : List ℕ → Type 0) (tag : Tag) (v w : View) : 
 -- Memory was wanted.
 abbrev pub WantsMemory : Codec → EncodeError → Type 0
 WantsMemory rule e = e ≡ record { kind = OutOfMemory; codec = rule }
+
+-- Components or elements of a set fall.
+abbrev pub TellsOrder : Codec → EncodeError → Type 0
+TellsOrder rule e = e ≡ record { kind = CodecSpecific (Ber SetOutOfOrder); codec = rule }

@@ -1,5 +1,7 @@
 -- What an encoder holds: the output, then one list for each open value. Headers that aren't finished aren't in it.
 use Rattle.std.specs.Prelude.{ℕ, ◌≡◌, Bool, cond, List, [], ◌∷◌, ◌++◌, Option, Some, None, option_map}
+use Rattle.rasn_types.specs.Order.{DoNotFall}
+use Rattle.rasn_types.specs.Tags.{IsTagBelow}
 use Rattle.rasn_types.specs.declared.types.rules.Codec.{Codec}
 use Rattle.rasn_types.specs.declared.types.tag.Tag.{Tag}
 
@@ -14,6 +16,15 @@ pub record View : Type 0 where
   pub below : List Frame
   pub last : Frame
 
+-- the tags that are kept
+abbrev pub kept_of : Option (List Tag) → List Tag
+kept_of None = []
+kept_of (Some tags) = tags
+
+-- The tags that the last list keeps don't fall: none is below the one before it (X.690 9.3, 10.3; X.680 8.6).
+abbrev pub AreTagsInOrder : View → Type 0
+AreTagsInOrder v = DoNotFall IsTagBelow (kept_of v.last.tags)
+
 -- octets behind a list, and tags behind those that it keeps
 abbrev pub added : Frame → List ℕ → List Tag → Frame
 added f octets tags = record { octets = f.octets ++ octets; tags = option_map (λ kept. kept ++ tags) f.tags }
@@ -23,6 +34,10 @@ appended v octets tags = record { rule = v.rule; below = v.below; last = added v
 
 abbrev pub fresh : Bool → Frame
 fresh keeps = record { octets = []; tags = cond keeps (Some []) None }
+
+-- Nothing is written yet.
+abbrev pub started : Codec → Bool → View
+started rule keeps = record { rule = rule; below = []; last = fresh keeps }
 
 -- A new value is open.
 abbrev pub opened : View → Bool → View

@@ -1,12 +1,13 @@
 -- What is asked of a closure that writes the parts of a value, and what its call gives.
-use Rattle.std.specs.Prelude.{Result, Ok, Err, Bool}
+use Rattle.std.specs.Prelude.{◌≡◌, ◌⊎◌, ℕ, List, Result, Ok, Err, Bool, true, false}
 use Rattle.std.specs.Fn.{FnOnceReturnsAtMut, Once}
 use Rattle.std.specs.Borrow.{MutBor}
 use Rattle.rasn_types.specs.Bytes.{Cons}
+use Rattle.rasn_types.specs.declared.types.rules.Codec.{Codec}
 use Rattle.rasn_types.specs.declared.types.tag.Tag.{Tag}
 use Rattle.rasn_types.specs.declared.error.encode.EncodeError.{EncodeError}
-use Rattle.rasn_enc.specs.View.{View, LeavesOthers, Extends, opened}
-use Rattle.rasn_enc.specs.Primitives.{Appends}
+use Rattle.rasn_enc.specs.View.{View, LeavesOthers, Extends, opened, started, AreTagsInOrder}
+use Rattle.rasn_enc.specs.Primitives.{Appends, WantsMemory, TellsOrder}
 
 -- A closure over an encoder.
 abbrev pub Closure : Type 0 → Type 0 → Type 1
@@ -33,3 +34,27 @@ pub record Encloses {F : Type 0} (g : Closure F (Unit {0})) (f : F) (keeps : Boo
   pub inner : View
   pub ran : FnOnceReturnsAtMut g f (opened v keeps) (Ok tt) inner
   pub appends : Appends (Cons v.rule tag inner.last.octets) tag v w
+
+-- The same of a list that keeps the outermost tags of what is written in it, where they don't fall.
+pub record EnclosesInOrder {F : Type 0} (g : Closure F (Unit {0})) (f : F) (tag : Tag) (v w : View) : Type 0 where
+  pub inner : View
+  pub ran : FnOnceReturnsAtMut g f (opened v true) (Ok tt) inner
+  pub order : AreTagsInOrder inner
+  pub appends : Appends (Cons v.rule tag inner.last.octets) tag v w
+
+-- f may accept, and the tags of what it wrote fall.
+pub record RefusesOrder {F : Type 0} (g : Closure F (Unit {0})) (f : F) (v : View) (e : EncodeError) : Type 0 where
+  pub inner : View
+  pub ran : FnOnceReturnsAtMut g f (opened v true) (Ok tt) inner
+  pub falls : AreTagsInOrder inner → ⊥
+  pub told : TellsOrder v.rule e
+
+-- Why such a value isn't written: memory is wanted, f refuses, or the tags fall where f accepts.
+abbrev pub RefusesInOrder : {F : Type 0} → Closure F (Unit {0}) → F → View → EncodeError → Type 0
+RefusesInOrder g f v e = WantsMemory v.rule e ⊎ (Refuses g f (opened v true) e ⊎ RefusesOrder g f v e)
+
+-- f may accept, and have written these octets into an output that was empty.
+pub record Outputs {F T : Type 0} (g : Closure F T) (f : F) (rule : Codec) (octets : List ℕ) : Type 0 where
+  pub inner : View
+  pub ran : Ran g f (started rule false) inner
+  pub is : octets ≡ inner.last.octets

@@ -8,12 +8,14 @@ use Rattle.rasn_types.specs.declared.types.tag.Tag.{Tag}
 use Rattle.rasn_types.specs.declared.error.encode.EncodeError.{EncodeError}
 use Rattle.rasn_enc.specs.View.{View, appended}
 
--- The octets of a part stand behind the last list, and their outermost tag behind the tags that it keeps. A part that is left out has none.
+-- The octets of a part stand behind the last list. Where that keeps tags, their outermost tag stands behind those: a part that is left out has
+-- none, and octets of an open type without a tag aren't put there.
 pub record WrotePart (p : Presence) (s : Shape) (t : Tree) (v w : View) : Type 0 where
   pub octets : List ℕ
   pub defined : WritesPart p (Bytes v.rule s) t octets
   pub tags : List Tag
-  pub heads : TagsOf (octets ∷ []) tags
+  pub heads : v.last.tags ≢ None → TagsOf (octets ∷ []) tags
+  pub tagged : v.last.tags ≢ None → IsBare s t → octets ≡ []
   pub appended : w ≡ appended v octets tags
 
 -- The part has no octets under this rule.

@@ -118,7 +118,7 @@ contents_once kind t k l h i = absurd h.is
 unit_one : (a b c d : ℕ) → b < 256 → d < 256 → 256 * a + b ≡ 256 * c + d → (a ≡ c) × (b ≡ d)
 unit_one a b c d h k e = (omega arith, omega arith)
 
-units_once : (k l us : List ℕ) → AreOctets k → AreOctets l → units k us → units l us → k ≡ l
+pub units_once : (k l us : List ℕ) → AreOctets k → AreOctets l → units k us → units l us → k ≡ l
 units_once [] [] us o u h i = refl
 units_once [] (b ∷ []) us o u h i = absurd i
 units_once [] (b ∷ d ∷ l) us o u h i = let e = i.1 in cc

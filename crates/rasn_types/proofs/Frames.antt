@@ -1,7 +1,7 @@
 -- A header is read in one way.
 use Rattle.std.proofs.Common.{◌≡◌, ℕ, ◌+◌, ◌*◌, ◌<◌, ◌⊎◌, inl, inr, List, [], ◌∷◌, ◌++◌, length, Bool, true, false, refl, sym, ap, ap₂, ◌∙◌, arith}
-use Rattle.rasn_types.specs.Tags.{Form, Class, Universal, Application, Context, Private, Tag, rank, eoc}
-use Rattle.rasn_types.specs.Framing.{IsChain, number_in, Spells128, bit_of, AnyIdSpells, LengthSpells, Extent, definite, Frame, with_length, without_length, Begins, Next, Ended}
+use Rattle.rasn_types.specs.Tags.{Form, ber_form, cer_form, der_form, loose_form, HasStrictForm, Class, Universal, Application, Context, Private, Tag, rank, eoc}
+use Rattle.rasn_types.specs.Framing.{IsChain, number_in, Spells128, bit_of, AnyIdSpells, LengthSpells, Extent, definite, Frame, with_length, without_length, HasIndefinite, Begins, Next, Ended}
 
 pub split_one : {X : Type 0} (a c b d : List X) → length a ≡ length c → a ++ b ≡ c ++ d → (a ≡ c) × (b ≡ d)
 split_one [] [] b d h e = (refl, e)
@@ -138,7 +138,7 @@ frame_one input {s} {t} {b} {d} {x = x} {y = y} (without_length id p q r e) (wit
 pub begins_one : (input : List ℕ) (s t : Tag) → Begins input s → Begins input t → s ≡ t
 begins_one input s t h k = let p = h.is in let q = k.is in (id_one h.id k.id h.more k.more s t h.bit k.bit h.spells k.spells cc).tag
 
-pub next_one : (input : List ℕ) (s t : Tag) → Next input s → Next input t → s ≡ t
+pub next_one : {spelling other : Form} (input : List ℕ) (s t : Tag) → Next spelling input s → Next other input t → s ≡ t
 next_one input s t h k = begins_one input s t h.begins k.begins
 
 -- An identifier that begins with a zero is that of universal 0.
@@ -161,13 +161,20 @@ id_there [] more s b h k = h
 id_there (x ∷ l) more s b h k = cc
 
 -- Where a value comes, the contents haven't ended.
-pub not_ended : (closing : Bool) (input : List ℕ) (s : Tag) → Next input s → Ended closing input → ⊥
+pub not_ended : {spelling : Form} (closing : Bool) (input : List ℕ) (s : Tag) → Next spelling input s → Ended closing input → ⊥
 not_ended closing input s n (inl e) = id_there n.begins.id n.begins.more s n.begins.bit n.begins.spells (sym n.begins.is ∙ e)
 not_ended closing input s n (inr (c, more, e)) =
     n.is_one (id_zero n.begins.id n.begins.more (0 ∷ more) s n.begins.bit n.begins.spells (sym n.begins.is ∙ e))
 
-pub frame_next : {rule : Form} {input rest : List ℕ} {s : Tag} {b : Bool} {m : Extent} → Frame rule input s b rest m → Next input s
-frame_next {rest = rest} {b = b} (with_length id len c p q z e) =
-    record { begins = record { id = id; bit = b; more = len ++ (c ++ rest); spells = p.spells; is = e }; is_one = p.is_one }
-frame_next {rest = rest} {b = b} (without_length id p q r e) =
-    record { begins = record { id = id; bit = b; more = 128 ∷ rest; spells = p.spells; is = e }; is_one = p.is_one }
+-- No form with indefinite lengths is strict.
+not_strict : (rule : Form) → HasIndefinite rule → HasStrictForm rule → ⊥
+not_strict ber_form h k = k
+not_strict cer_form h k = k
+not_strict der_form h k = h
+not_strict loose_form h k = h
+
+pub frame_next : {rule : Form} {input rest : List ℕ} {s : Tag} {b : Bool} {m : Extent} → Frame rule input s b rest m → Next rule input s
+frame_next {rule = rule} {rest = rest} {b = b} (with_length id len c p q z e) =
+    record { begins = record { id = id; bit = b; more = len ++ (c ++ rest); spells = p.spells; is = e }; is_one = p.is_one; shortest = λ h. (z h).0 }
+frame_next {rule = rule} {rest = rest} {b = b} (without_length id p q r e) =
+    record { begins = record { id = id; bit = b; more = 128 ∷ rest; spells = p.spells; is = e }; is_one = p.is_one; shortest = λ h. absurd (not_strict rule r h) }

@@ -6,6 +6,7 @@ pub mod Digits
 pub mod Fractions
 pub mod Frames
 pub mod Integers
+pub mod Itself
 pub mod Nested
 pub mod NumberOctets
 pub mod Numbered
@@ -16,6 +17,7 @@ pub mod ShortestOctets
 pub mod Spelled
 pub mod Stamped
 pub mod StringTexts
+pub mod ShortTexts
 pub mod TwosComplement
 pub mod Bits
 pub mod BitViews

@@ -12,7 +12,7 @@ frame_more {rest = rest} x (with_length id len c p q z e) =
     with_length id len c p q z (ap (λ l. l ++ x) e ∙ simp append_assoc)
 frame_more {rest = rest} x (without_length id p q r e) = without_length id p q r (ap (λ l. l ++ x) e ∙ simp append_assoc)
 
-pub whole_next : {rule : Codec} {text : List ℕ} (x : List ℕ) → Whole rule text → (n : Tag) × Next (text ++ x) n
+pub whole_next : {rule : Codec} {text : List ℕ} (x : List ℕ) → Whole rule text → (n : Tag) × Next (loose rule) (text ++ x) n
 whole_next x (plain tag bit contents frame) = (tag, frame_next (frame_more x frame))
 whole_next x (closed tag bit body nested frame inside is) = (tag, frame_next (frame_more x frame))
 

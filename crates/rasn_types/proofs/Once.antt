@@ -93,7 +93,7 @@ part_once rule s once (default d) t u a b same (inl (e, f)) (inr (g, h)) = absur
 part_once rule s once (default d) t u a b same (inr (e, f)) (inl (g, h)) = absurd (e (same_trans t u d same g))
 part_once rule s once (default d) t u a b same (inr (e, f)) (inr (g, h)) = once t u a b same f h
 
-parts_once : (rule : Codec) (ps : Parts) → EachOnce rule ps → (ts us : List Tree) (ls bs : List (List ℕ)) → Each Same ts us
+pub parts_once : (rule : Codec) (ps : Parts) → EachOnce rule ps → (ts us : List Tree) (ls bs : List (List ℕ)) → Each Same ts us
     → PartsWritten (fields_of rule ps) ts ls → PartsWritten (fields_of rule ps) us bs → ls ≡ bs
 unfolding Bytes fields_of
 parts_once rule Parts.none once ts us ls bs same h k = h.1 ∙ sym k.1
@@ -188,6 +188,6 @@ mutual
       cons_one rule tag (joined_lists ls) (joined_lists bs) a b c d
       (ap joined_lists (bag_once rule s (once s rule) ts us ls bs (subst (λ z. Same z (walk (items us))) e (subst (Same t) f same)) w x o q))
 
-  each_is_once : (ps : Parts) (rule : Codec) → EachOnce rule ps
+  pub each_is_once : (ps : Parts) (rule : Codec) → EachOnce rule ps
   each_is_once Parts.none rule = tt
   each_is_once (part presence s ps) rule = (once s rule, each_is_once ps rule)

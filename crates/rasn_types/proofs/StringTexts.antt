@@ -1,5 +1,9 @@
 -- What the texts of string types are, by alphabet and by units.
-use Rattle.std.proofs.Common.{◌≡◌, ℕ, ◌+◌, ◌*◌, ◌/◌, List, [], ◌∷◌, length, refl, ap, ◌∙◌, arith}
+use Rattle.std.proofs.Common.{◌≡◌, ℕ, ◌+◌, ◌*◌, ◌/◌, List, [], ◌∷◌, length, Bool, nat_eq, refl, ap, subst, ◌∙◌, arith}
+use Rattle.std.specs.Bool.{one_answer}
+use Rattle.std.specs.Cmp.Lexicographic.{pointwise, bytes_decides}
+use Rattle.rasn_types.proofs.Determined.{units_once}
+use Rattle.rasn_types.specs.Framing.{AreOctets}
 use Rattle.rasn_types.specs.declared.types.rules.Codec.{Codec}
 use Rattle.rasn_types.specs.declared.types.strings.alphabet.Alphabet.{Alphabet}
 use Rattle.rasn_types.specs.declared.types.strings.alphabet.Alphabet.TheVariants.{Numeric, Printable, Visible, Ia5, Every}
@@ -62,3 +66,10 @@ pub length-units_of : (l : List ℕ) → length (units_of l) ≡ length l / 2
 length-units_of [] = refl
 length-units_of (a ∷ []) = refl
 length-units_of (a ∷ b ∷ l) = let k = length-units_of l in omega arith
+
+-- Strings of whole units are equal exactly if their units are.
+pub units_told : (k l : List ℕ) (r : Bool) → ArePaired k → ArePaired l → AreOctets k → AreOctets l → r ≡ pointwise nat_eq k l → r ≡ pointwise nat_eq (units_of k) (units_of l)
+units_told k l r p q o u e = e ∙ one_answer (pointwise nat_eq k l) (pointwise nat_eq (units_of k) (units_of l)) (bytes_decides k l) (
+  (λ f. units_once k l (units_of l) o u (subst (units k) ((bytes_decides (units_of k) (units_of l)).0 f) (units_there k p)) (units_there l q)),
+  (λ f. (bytes_decides (units_of k) (units_of l)).1 (ap units_of f)),
+)

@@ -1,29 +1,19 @@
 -- The octets that are written of a tree: a plain recursion on the shape. Octets are related, or none are.
-use Rattle.std.specs.Prelude.{◌≡◌, ℕ, suc, ◌<◌, ◌≤◌, ◌⊎◌, ◌≢◌, List, [], ◌∷◌, ◌++◌, length, Bool, true, false, Option, Some, None, IsPermutation}
+use Rattle.std.specs.Prelude.{◌≡◌, ℕ, suc, ◌<◌, ◌≤◌, ◌⊎◌, ◌≢◌, List, [], ◌∷◌, ◌++◌, length, Bool, true, Option, Some, None}
 use Rattle.rasn_types.specs.Tags.{tag_bit, Codec, Ber, Cer, Der, Tag, in_universal, IsTagBelow}
 use Rattle.rasn_types.specs.Framing.{AnyIdSpells, LengthSpells, IsShortestId, IsShortestLength, Begins, AreOctets}
 use Rattle.rasn_types.specs.Calendar.{Day, IsDay, Moment, IsMoment}
 use Rattle.rasn_types.specs.Times.{written_date, written_generalized, written_utc}
-use Rattle.rasn_types.specs.Shapes.{Tree, number, bits, numbers, instant, on_day, items, done, joined, walk, chosen, absent, Kind, utc_time, generalized_time, date, Bound, Admits, Shape, leaf, any, prefix, choice, option, seq, set, list, bag, Parts, part, Presence, required, optional, addition, default}
+pub use Rattle.rasn_types.specs.Order.{Each, IsLess, DoNotFall}
+pub use Rattle.rasn_types.specs.Shapes.{Same}
+use Rattle.rasn_types.specs.Shapes.{Tree, bits, numbers, instant, on_day, items, walk, chosen, absent, Kind, utc_time, generalized_time, date, Bound, Admits, Shape, leaf, any, prefix, choice, option, seq, set, list, bag, Parts, part, Presence, required, optional, addition, default}
 use Rattle.rasn_types.specs.Shapes.Parts.{none}
+pub use Rattle.rasn_types.specs.Contents.{AllFalse}
 use Rattle.rasn_types.specs.Contents.{IsShortest, Contents, BitSegment, joined_lists}
 use Rattle.rasn_types.specs.Grammar.{Family, plain, bit_family, text_family, family, IsBounded, Text}
 
 abbrev pub Writing : Type 0 → Type 1
 Writing X = X → List ℕ → Type 0
-
--- Equality of trees, but that a walk's order doesn't count.
-abbrev pub Same : Tree → Tree → Type 0
-Same (number z) u = u ≡ number z
-Same (bits bs) u = u ≡ bits bs
-Same (numbers ns) u = u ≡ numbers ns
-Same done u = u ≡ done
-Same (joined t ts) u = (v : Tree) × (vs : Tree) × (u ≡ joined v vs) × Same t v × Same ts vs
-Same (walk ts) u = (vs : List Tree) × (ws : List Tree) × (u ≡ walk (items ws)) × IsPermutation vs ws × Same ts (items vs)
-Same (chosen k t) u = (v : Tree) × (u ≡ chosen k v) × Same t v
-Same (instant m) u = u ≡ instant m
-Same (on_day d) u = u ≡ on_day d
-Same absent u = u ≡ absent
 
 -- An identifier and a length before contents, each in its fewest octets (8.1).
 pub record Definite (tag : Tag) (bit : Bool) (contents b : List ℕ) : Type 0 where
@@ -53,22 +43,6 @@ abbrev pub Cons : Codec → Tag → List ℕ → List ℕ → Type 0
 Cons Ber tag = Definite tag true
 Cons Cer tag = Closed tag
 Cons Der tag = Definite tag true
-
--- The lists pair off by R.
-abbrev pub Each : {X Y : Type 0} → (X → Y → Type 0) → List X → List Y → Type 0
-Each R [] ys = ys ≡ []
-Each {Y = Y} R (x ∷ xs) ys = (y : Y) × (more : List Y) × (ys ≡ y ∷ more) × R x y × Each R xs more
-
--- Octet by octet, a proper beginning being less (11.6).
-abbrev pub IsLess : List ℕ → List ℕ → Type 0
-IsLess a [] = ⊥
-IsLess [] (c ∷ d) = Unit {0}
-IsLess (a ∷ b) (c ∷ d) = (a < c) ⊎ ((a ≡ c) × IsLess b d)
-
-abbrev pub DoNotFall : {X : Type 0} → (X → X → Type 0) → List X → Type 0
-DoNotFall less [] = Unit {0}
-DoNotFall less (x ∷ []) = Unit {0}
-DoNotFall less (x ∷ y ∷ xs) = (less y x → ⊥) × DoNotFall less (y ∷ xs)
 
 -- A part, as it is written, and the trees of it that are written as open octets without a tag.
 pub record Field : Type 1 where
@@ -121,10 +95,6 @@ WritesStr {X} rule writes size inner tag xs b =
     ((IsCer rule → length xs ≤ size) × (contents : List ℕ) × writes xs contents × Prim tag contents b)
     ⊎ (IsCer rule × (size < length xs) × (pieces : List (List X)) × (bs : List (List ℕ)) × (xs ≡ joined_lists pieces) × AreCut size pieces
     × Each (λ p c. (contents : List ℕ) × writes p contents × Prim inner contents c) pieces bs × Cons rule tag (joined_lists bs) b)
-
-abbrev pub AllFalse : List Bool → Type 0
-AllFalse [] = Unit {0}
-AllFalse (x ∷ xs) = (x ≡ false) × AllFalse xs
 
 pub record WrittenBits (bs : List Bool) (l : List ℕ) : Type 0 where
   pub is : BitSegment l bs

@@ -1,6 +1,6 @@
 -- Contents octets of values that hold no others (X.690 8.2 to 8.4, 8.6 to 8.8, 8.19, 8.23, 11.1).
 use Rattle.std.specs.Prelude.{◌≡◌, ℕ, zero, suc, ◌*◌, ◌^◌, ◌%◌, ◌/◌, ◌-◌, ◌<◌, ◌≤◌, ◌⊎◌, ◌≢◌, List, [], ◌∷◌, ◌++◌, length, Bool, true, false, ℤ, pos, ◌-ℤ◌, Contains, min, map}
-use Rattle.rasn_types.specs.Tags.{form, Codec, Ber, Cer, Der, Tag}
+use Rattle.rasn_types.specs.Tags.{form, IsStrict, Codec, Ber, Cer, Der, Tag}
 use Rattle.rasn_types.specs.Framing.{Frame, definite, Spells128, number_in, HasSegments}
 use Rattle.rasn_types.specs.Shapes.{Tree, number, numbers, Kind, boolean, null, object_identifier, integer, IsIn, enumerated}
 use Rattle.rasn_types.specs.Readers.{Reading, Inside, Many}
@@ -79,6 +79,14 @@ pub record BitSegment (l : List ℕ) (bs : List Bool) : Type 0 where
   pub is : l ≡ length unused ∷ octets
   pub few : length unused < 8
   pub all : bs ++ unused ≡ joined_lists (map bits_of octets)
+
+abbrev pub AllFalse : List Bool → Type 0
+AllFalse [] = Unit {0}
+AllFalse (x ∷ xs) = (x ≡ false) × AllFalse xs
+
+-- Unused bits are zero where the writer's contents alone are read (11.2).
+abbrev pub ReadBits : Codec → List ℕ → List Bool → Type 0
+ReadBits rule l bs = (s : BitSegment l bs) × (IsStrict rule → AllFalse s.unused)
 
 abbrev pub OctetSegment : List ℕ → List ℕ → Type 0
 OctetSegment l octets = octets ≡ l

@@ -89,9 +89,10 @@ pub record Begins (octets : List ℕ) (tag : Tag) : Type 0 where
   pub is : octets ≡ id ++ more
 
 -- A value of this tag comes next.
-pub record Next (input : List ℕ) (tag : Tag) : Type 0 where
+pub record Next (spelling : Form) (input : List ℕ) (tag : Tag) : Type 0 where
   pub begins : Begins input tag
   pub is_one : tag ≢ eoc
+  pub shortest : HasStrictForm spelling → IsShortestId begins.id tag
 
 -- The contents end here: nothing is left, or where closing octets may stand, these come.
 abbrev pub Ended : Bool → List ℕ → Type 0

@@ -1,15 +1,16 @@
 -- The grammar: which inputs begin with a value of a shape, which value, and what is left.
 use Rattle.std.specs.Prelude.{◌≡◌, ℕ, ◌+◌, ◌*◌, ◌-◌, ◌^◌, ◌<◌, ◌≤◌, ◌⊎◌, List, [], ◌∷◌, ◌++◌, length, Bool, true, false, ◌≤ℤ◌, chars, IsUtf8, All, Contains, Option, Some, None}
 use Rattle.rasn_types.specs.Tags.{tag_bit, form, IsStrict, Codec, Ber, Cer, Der, Tag, in_universal}
+use Rattle.rasn_types.specs.Order.{IsLess, DoNotFall}
 use Rattle.rasn_types.specs.Framing.{Frame, definite, indefinite, Whole, Wholes}
 use Rattle.rasn_types.specs.Calendar.{Day, Stamp}
-use Rattle.rasn_types.specs.Times.{GeneralUtc, CanonicalUtc, GeneralGeneralized, CanonicalGeneralized, DateText}
+use Rattle.rasn_types.specs.Times.{GeneralUtc, CanonicalUtc, GeneralGeneralized, CanonicalGeneralized, StrictGeneralized, DateText}
 use Rattle.rasn_types.specs.Shapes.{Tree, number, bits, numbers, instant, on_day, items, walk, absent, Kind, boolean, null, object_identifier, bit_string, octet_string, integer, enumerated, fixed, numeric, printable, visible, ia5, any_octets, bmp, utf8, utc_time, generalized_time, date, Bound, Constraints, Admits, Shape, leaf, any, prefix, choice, option, seq, set, list, bag, Parts, part, own, IsFirst}
 use Rattle.rasn_types.specs.Shapes.Parts.{none}
-use Rattle.rasn_types.specs.Readers.{Reading, Inside, Many, Perhaps, Part, ReadsSeq, ReadsChoice, ReadsSet}
-use Rattle.rasn_types.specs.Contents.{IsShortest, Contents, Str, BitSegment, OctetSegment}
+use Rattle.rasn_types.specs.Readers.{Reading, Inside, Many, ReadFrom, Perhaps, Part, ReadsSeq, ReadsChoice, ReadsSet}
+use Rattle.rasn_types.specs.Contents.{IsShortest, Contents, Str, ReadBits, OctetSegment}
 
--- BER reads the general forms of times, CER and DER the canonical ones (11.7, 11.8).
+-- BER reads the general forms of times, CER and DER the canonical ones, DER the shortest of these (11.7, 11.8).
 abbrev pub UtcText : Codec → List ℕ → Stamp → Type 0
 UtcText Ber = GeneralUtc
 UtcText Cer = CanonicalUtc
@@ -18,7 +19,7 @@ UtcText Der = CanonicalUtc
 abbrev pub GeneralizedText : Codec → List ℕ → Stamp → Type 0
 GeneralizedText Ber = GeneralGeneralized
 GeneralizedText Cer = CanonicalGeneralized
-GeneralizedText Der = CanonicalGeneralized
+GeneralizedText Der = StrictGeneralized
 
 abbrev pub IsDigitOrSpace : ℕ → Type 0
 IsDigitOrSpace c = ((48 ≤ c) × (c < 58)) ⊎ (c ≡ 32)
@@ -94,7 +95,7 @@ ReadsIn plain rule kind tag depth input t rest =
     (bit : Bool) × (contents : List ℕ) × Frame (form rule) input tag bit rest (definite contents) × Contents rule kind contents t
     × (IsStrict rule → (bit ≡ tag_bit tag) × IsShortest kind contents)
 ReadsIn bit_family rule kind tag depth input t rest =
-    (bs : List Bool) × (t ≡ bits bs) × (length bs < 2 ^ 64) × Str rule BitSegment (in_universal 3) depth tag input bs rest
+    (bs : List Bool) × (t ≡ bits bs) × (length bs < 2 ^ 64) × Str rule (ReadBits rule) (in_universal 3) depth tag input bs rest
 ReadsIn text_family rule kind tag depth input t rest =
     (octets : List ℕ) × Str rule OctetSegment (in_universal 4) depth tag input octets rest × Text rule kind octets t
 
@@ -103,7 +104,7 @@ ReadsLeaf rule kind tag bounds depth input t rest = ReadsIn (family kind) rule k
 
 -- The contents of a value of the tag, closing octets not included.
 abbrev pub ReadsOpen : Codec → Tag → Reading Tree
-ReadsOpen rule tag input t rest = (bit : Bool) × (contents : List ℕ) × (t ≡ numbers contents)
+ReadsOpen rule tag input t rest = (bit : Bool) × (contents : List ℕ) × (t ≡ numbers contents) × (IsStrict rule → bit ≡ true)
     × (Frame (form rule) input tag bit rest (definite contents)
     ⊎ ((body : List ℕ) × Frame (form rule) input tag bit body indefinite × Wholes rule contents × (body ≡ contents ++ (0 ∷ 0 ∷ rest))))
 
@@ -111,12 +112,13 @@ ReadsOpen rule tag input t rest = (bit : Bool) × (contents : List ℕ) × (t �
 abbrev pub ReadsAny : Codec → Reading Tree
 ReadsAny rule input t rest = (text : List ℕ) × (t ≡ numbers text) × Whole rule text × (input ≡ text ++ rest)
 
--- Elements up to the end, as a list and as a walk.
+-- Elements up to the end, as a list and as a walk, whose octets don't fall where the writer's order alone is read (11.6).
 abbrev pub ReadsList : Option (Bound ℕ) → Reading Tree → Bool → Reading Tree
 ReadsList size reads closing input t rest = (ts : List Tree) × (t ≡ items ts) × Admits ◌≤◌ size (length ts) × Many reads closing input ts rest
 
-abbrev pub ReadsBag : Option (Bound ℕ) → Reading Tree → Bool → Reading Tree
-ReadsBag size reads closing input t rest = (ts : List Tree) × (t ≡ walk (items ts)) × Admits ◌≤◌ size (length ts) × Many reads closing input ts rest
+abbrev pub ReadsBag : Codec → Option (Bound ℕ) → Reading Tree → Bool → Reading Tree
+ReadsBag rule size reads closing input t rest = (ts : List Tree) × (t ≡ walk (items ts)) × Admits ◌≤◌ size (length ts) × Many reads closing input ts rest
+    × (IsStrict rule → (bs : List (List ℕ)) × ReadFrom reads input ts rest bs × DoNotFall IsLess bs)
 
 -- Reads rule shape depth closing input tree rest: the input begins with a value of the shape, and the rest is left.
 unfoldable mutual
@@ -124,13 +126,13 @@ unfoldable mutual
   Reads rule (leaf kind tag bounds) depth closing = ReadsLeaf rule kind tag bounds depth
   Reads rule (any None) depth closing = ReadsAny rule
   Reads rule (any (Some tag)) depth closing = ReadsOpen rule tag
-  Reads rule (prefix tag s) depth closing = λ input t rest. (0 < depth) × (bit : Bool) × Inside rule tag bit (λ c. Reads rule s (depth - 1) c) input t rest
-  Reads rule (choice ps) depth closing = ReadsChoice 0 (parts_of rule ps depth closing)
-  Reads rule (option tag s) depth closing = Perhaps tag absent (Reads rule s depth closing) closing
-  Reads rule (seq tag ps) depth closing = λ input t rest. (0 < depth) × Inside rule tag true (λ c. ReadsSeq (parts_of rule ps (depth - 1) c) c) input t rest
-  Reads rule (set tag ps) depth closing = λ input t rest. (0 < depth) × Inside rule tag true (λ c. ReadsSet (parts_of rule ps (depth - 1) c) c) input t rest
+  Reads rule (prefix tag s) depth closing = λ input t rest. (0 < depth) × (bit : Bool) × (IsStrict rule → bit ≡ true) × Inside rule tag bit (λ c. Reads rule s (depth - 1) c) input t rest
+  Reads rule (choice ps) depth closing = ReadsChoice (form rule) 0 (parts_of rule ps depth closing)
+  Reads rule (option tag s) depth closing = Perhaps (form rule) tag absent (Reads rule s depth closing) closing
+  Reads rule (seq tag ps) depth closing = λ input t rest. (0 < depth) × Inside rule tag true (λ c. ReadsSeq rule (parts_of rule ps (depth - 1) c) c) input t rest
+  Reads rule (set tag ps) depth closing = λ input t rest. (0 < depth) × Inside rule tag true (λ c. ReadsSet rule (parts_of rule ps (depth - 1) c) c) input t rest
   Reads rule (list tag s size) depth closing = λ input t rest. (0 < depth) × Inside rule tag true (λ c. ReadsList size (Reads rule s (depth - 2) c) c) input t rest
-  Reads rule (bag tag s size) depth closing = λ input t rest. (0 < depth) × Inside rule tag true (λ c. ReadsBag size (Reads rule s (depth - 2) c) c) input t rest
+  Reads rule (bag tag s size) depth closing = λ input t rest. (0 < depth) × Inside rule tag true (λ c. ReadsBag rule size (Reads rule s (depth - 2) c) c) input t rest
 
   pub parts_of : Codec → Parts → ℕ → Bool → List Part
   parts_of rule none depth closing = []

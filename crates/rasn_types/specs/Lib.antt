@@ -7,6 +7,7 @@ pub mod Times
 pub mod Reading
 pub mod Makes
 pub mod Shapes
+pub mod Order
 pub mod Readers
 pub mod Contents
 pub mod Grammar
@@ -20,3 +21,6 @@ pub mod Described
 pub mod Numbered
 pub mod Bits
 pub mod Packing
+pub mod Equality
+pub mod Alike
+pub mod Bags

@@ -1,8 +1,9 @@
 -- How readings join. A reading relates an input to what stands at its front, and to the rest.
 use Rattle.std.specs.Prelude.{◌≡◌, ℕ, suc, ◌⊎◌, ◌≢◌, List, [], ◌∷◌, ◌++◌, Bool, true, false, Option, Some, None}
-use Rattle.rasn_types.specs.Tags.{form, Codec, Tag}
-use Rattle.rasn_types.specs.Framing.{Frame, definite, indefinite, Next, Ended}
-use Rattle.rasn_types.specs.Shapes.{Tree, items, chosen, absent, Presence, required, optional, addition, default}
+use Rattle.rasn_types.specs.Tags.{Form, form, IsStrict, Codec, Tag, IsTagBelow}
+use Rattle.rasn_types.specs.Framing.{Frame, definite, indefinite, Begins, Next, Ended}
+use Rattle.rasn_types.specs.Shapes.{Tree, items, chosen, absent, Same, Presence, required, optional, addition, default}
+use Rattle.rasn_types.specs.Order.{Each, DoNotFall}
 
 abbrev pub Reading : Type 0 → Type 1
 Reading X = List ℕ → X → List ℕ → Type 0
@@ -17,20 +18,26 @@ abbrev pub Many : {X : Type 0} → Reading X → Bool → List ℕ → List X �
 Many reads closing input [] rest = Ended closing input × (rest ≡ input)
 Many reads closing input (x ∷ xs) rest = (Ended closing input → ⊥) × (middle : List ℕ) × reads input x middle × Many reads closing middle xs rest
 
+-- The octets from which each of these values is read.
+abbrev pub ReadFrom : {X : Type 0} → Reading X → List ℕ → List X → List ℕ → List (List ℕ) → Type 0
+ReadFrom reads input [] rest bs = (bs ≡ []) × (rest ≡ input)
+ReadFrom reads input (x ∷ xs) rest bs = (b : List ℕ) × (more : List (List ℕ)) × (middle : List ℕ) × (bs ≡ b ∷ more) × (input ≡ b ++ middle)
+    × reads input x middle × ReadFrom reads middle xs rest more
+
 -- A value that may be left out is left out: the contents end, or another tag comes.
-abbrev pub IsLeftOut : Option Tag → Bool → List ℕ → Type 0
-IsLeftOut (Some tag) closing input = Ended closing input ⊎ ((next : Tag) × Next input next × (next ≢ tag))
-IsLeftOut None closing input = Ended closing input
+abbrev pub IsLeftOut : Form → Option Tag → Bool → List ℕ → Type 0
+IsLeftOut spelling (Some tag) closing input = Ended closing input ⊎ ((next : Tag) × Next spelling input next × (next ≢ tag))
+IsLeftOut spelling None closing input = Ended closing input
 
 -- It is there: the contents go on, with its tag where it has one.
-abbrev pub IsThere : Option Tag → Bool → List ℕ → Type 0
-IsThere (Some tag) closing input = (Ended closing input → ⊥) × Next input tag
-IsThere None closing input = Ended closing input → ⊥
+abbrev pub IsThere : Form → Option Tag → Bool → List ℕ → Type 0
+IsThere spelling (Some tag) closing input = (Ended closing input → ⊥) × Next spelling input tag
+IsThere spelling None closing input = Ended closing input → ⊥
 
-abbrev pub Perhaps : {X : Type 0} → Option Tag → X → Reading X → Bool → Reading X
-Perhaps tag without reads closing input x rest =
-    (IsLeftOut tag closing input × (x ≡ without) × (rest ≡ input))
-    ⊎ (IsThere tag closing input × reads input x rest)
+abbrev pub Perhaps : {X : Type 0} → Form → Option Tag → X → Reading X → Bool → Reading X
+Perhaps spelling tag without reads closing input x rest =
+    (IsLeftOut spelling tag closing input × (x ≡ without) × (rest ≡ input))
+    ⊎ (IsThere spelling tag closing input × reads input x rest)
 
 -- A part of a SEQUENCE or SET, or an alternative of a CHOICE.
 pub record Part : Type 1 where
@@ -39,17 +46,23 @@ pub record Part : Type 1 where
   pub IsFirst : Tag → Type 0
   pub reads : Reading Tree
 
-abbrev pub ReadsPart : Presence → Option Tag → Reading Tree → Bool → Reading Tree
-ReadsPart required tag reads closing = reads
-ReadsPart addition tag reads closing = reads
-ReadsPart optional tag reads closing = Perhaps tag absent reads closing
-ReadsPart (default d) tag reads closing = Perhaps tag d reads closing
+-- A part that is there isn't its default (11.5).
+abbrev pub IsNoDefault : Presence → Tree → Type 0
+IsNoDefault (default d) t = Same t d → ⊥
+IsNoDefault presence t = Unit {0}
+
+abbrev pub ReadsPart : Codec → Presence → Option Tag → Reading Tree → Bool → Reading Tree
+ReadsPart rule required tag reads closing = reads
+ReadsPart rule addition tag reads closing = reads
+ReadsPart rule optional tag reads closing = Perhaps (form rule) tag absent reads closing
+ReadsPart rule (default d) tag reads closing =
+    Perhaps (form rule) tag d (λ input t rest. reads input t rest × (IsStrict rule → IsNoDefault (default d) t)) closing
 
 -- The parts in order.
-abbrev pub InOrder : List Part → Bool → List ℕ → List Tree → List ℕ → Type 0
-InOrder [] closing input ts rest = (ts ≡ []) × (rest ≡ input)
-InOrder (p ∷ ps) closing input ts rest = (t : Tree) × (us : List Tree) × (middle : List ℕ) × (ts ≡ t ∷ us)
-    × ReadsPart p.presence p.own p.reads closing input t middle × InOrder ps closing middle us rest
+abbrev pub InOrder : Codec → List Part → Bool → List ℕ → List Tree → List ℕ → Type 0
+InOrder rule [] closing input ts rest = (ts ≡ []) × (rest ≡ input)
+InOrder rule (p ∷ ps) closing input ts rest = (t : Tree) × (us : List Tree) × (middle : List ℕ) × (ts ≡ t ∷ us)
+    × ReadsPart rule p.presence p.own p.reads closing input t middle × InOrder rule ps closing middle us rest
 
 -- what a part that doesn't come has in its place
 abbrev pub IsMissing : Presence → Tree → Type 0
@@ -71,16 +84,16 @@ abbrev pub IsBare : List Part → Bool → List ℕ → Type 0
 IsBare ps closing input = (HasRequired ps → ⊥) × (closing ≡ false) × (input ≡ [])
 
 -- The contents of a SEQUENCE.
-abbrev pub ReadsSeq : List Part → Bool → Reading Tree
-ReadsSeq ps closing input t rest = (ts : List Tree) × (t ≡ items ts)
-    × ((IsBare ps closing input × AllMissing ps ts × (rest ≡ input)) ⊎ ((IsBare ps closing input → ⊥) × InOrder ps closing input ts rest))
+abbrev pub ReadsSeq : Codec → List Part → Bool → Reading Tree
+ReadsSeq rule ps closing input t rest = (ts : List Tree) × (t ≡ items ts)
+    × ((IsBare ps closing input × AllMissing ps ts × (rest ≡ input)) ⊎ ((IsBare ps closing input → ⊥) × InOrder rule ps closing input ts rest))
 
 -- The alternative whose first tags hold the next one; the first has the number k.
-abbrev pub ReadsChoice : ℕ → List Part → Reading Tree
-ReadsChoice k [] input t rest = ⊥
-ReadsChoice k (p ∷ ps) input t rest =
-    ((u : Tree) × (t ≡ chosen k u) × (next : Tag) × Next input next × p.IsFirst next × p.reads input u rest)
-    ⊎ ReadsChoice (suc k) ps input t rest
+abbrev pub ReadsChoice : Form → ℕ → List Part → Reading Tree
+ReadsChoice spelling k [] input t rest = ⊥
+ReadsChoice spelling k (p ∷ ps) input t rest =
+    ((u : Tree) × (t ≡ chosen k u) × (next : Tag) × Next spelling input next × p.IsFirst next × p.reads input u rest)
+    ⊎ ReadsChoice spelling (suc k) ps input t rest
 
 -- The reading of part k is among these, and no other of it.
 abbrev pub NoneOf : ℕ → List Tree → Type 0
@@ -95,12 +108,17 @@ pub record OneOf (k : ℕ) (t : Tree) (readings : List Tree) : Type 0 where
   pub none_after : NoneOf k after
 
 -- The readings, in any order, are these by part: none twice, and each required one there.
-abbrev pub ByPart : ℕ → List Part → List Tree → List Tree → Type 0
-ByPart k [] readings ts = ts ≡ []
-ByPart k (p ∷ ps) readings ts = (t : Tree) × (us : List Tree) × (ts ≡ t ∷ us)
-    × (OneOf k t readings ⊎ (NoneOf k readings × IsMissing p.presence t)) × ByPart (suc k) ps readings us
+abbrev pub ByPart : Codec → ℕ → List Part → List Tree → List Tree → Type 0
+ByPart rule k [] readings ts = ts ≡ []
+ByPart rule k (p ∷ ps) readings ts = (t : Tree) × (us : List Tree) × (ts ≡ t ∷ us)
+    × ((OneOf k t readings × (IsStrict rule → IsNoDefault p.presence t)) ⊎ (NoneOf k readings × IsMissing p.presence t)) × ByPart rule (suc k) ps readings us
+
+-- The tags that these begin with don't fall (9.3, 10.3).
+abbrev pub AreInTagOrder : List (List ℕ) → Type 0
+AreInTagOrder bs = (tags : List Tag) × Each Begins bs tags × DoNotFall IsTagBelow tags
 
 -- The contents of a SET.
-abbrev pub ReadsSet : List Part → Bool → Reading Tree
-ReadsSet ps closing input t rest = (readings : List Tree) × (ts : List Tree) × (t ≡ items ts)
-    × Many (ReadsChoice 0 ps) closing input readings rest × ByPart 0 ps readings ts
+abbrev pub ReadsSet : Codec → List Part → Bool → Reading Tree
+ReadsSet rule ps closing input t rest = (readings : List Tree) × (ts : List Tree) × (t ≡ items ts)
+    × Many (ReadsChoice (form rule) 0 ps) closing input readings rest × ByPart rule 0 ps readings ts
+    × (IsStrict rule → (bs : List (List ℕ)) × ReadFrom (ReadsChoice (form rule) 0 ps) input readings rest bs × AreInTagOrder bs)

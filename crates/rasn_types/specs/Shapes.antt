@@ -1,5 +1,5 @@
 -- Shapes of types and trees of values.
-use Rattle.std.specs.Prelude.{◌≡◌, ℕ, ◌⊎◌, List, [], ◌∷◌, Bool, true, ℤ, ◌≤ℤ◌, Option, Some, None, IfSome, if◌then◌else◌}
+use Rattle.std.specs.Prelude.{◌≡◌, ℕ, ◌⊎◌, List, [], ◌∷◌, Bool, true, ℤ, ◌≤ℤ◌, Option, Some, None, IfSome, if◌then◌else◌, IsPermutation}
 use Rattle.rasn_types.specs.Calendar.{Day, Moment}
 use Rattle.rasn_types.specs.Tags.{Tag, is_eoc}
 use Rattle.rasn_types.specs.declared.types.constraints.Bounded.{Bounded}
@@ -23,6 +23,19 @@ pub data Tree : Type 0 where
 abbrev pub items : List Tree → Tree
 items [] = done
 items (t ∷ ts) = joined t (items ts)
+
+-- Equality of trees, but that a walk's order doesn't count.
+abbrev pub Same : Tree → Tree → Type 0
+Same (number z) u = u ≡ number z
+Same (bits bs) u = u ≡ bits bs
+Same (numbers ns) u = u ≡ numbers ns
+Same done u = u ≡ done
+Same (joined t ts) u = (v : Tree) × (vs : Tree) × (u ≡ joined v vs) × Same t v × Same ts vs
+Same (walk ts) u = (vs : List Tree) × (ws : List Tree) × (u ≡ walk (items ws)) × IsPermutation vs ws × Same ts (items vs)
+Same (chosen k t) u = (v : Tree) × (u ≡ chosen k v) × Same t v
+Same (instant m) u = u ≡ instant m
+Same (on_day d) u = u ≡ on_day d
+Same absent u = u ≡ absent
 
 -- The whole numbers that a type holds: all, or those between two ends, which are included.
 pub data Interval : Type 0 where

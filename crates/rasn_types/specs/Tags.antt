@@ -21,18 +21,18 @@ loose Ber = ber_form
 loose Cer = cer_form
 loose Der = loose_form
 
--- The forms whose spellings are the shortest ones. None is yet: DER's reader takes the spellings of BER.
+-- The forms whose spellings are the shortest ones.
 abbrev pub HasStrictForm : Form → Type 0
 HasStrictForm ber_form = ⊥
 HasStrictForm cer_form = ⊥
-HasStrictForm der_form = ⊥
+HasStrictForm der_form = Unit {0}
 HasStrictForm loose_form = ⊥
 
--- The rules whose reader takes canonical contents alone. None is yet.
+-- The rules whose reader takes what their writer gives alone.
 abbrev pub IsStrict : Codec → Type 0
 IsStrict Ber = ⊥
 IsStrict Cer = ⊥
-IsStrict Der = ⊥
+IsStrict Der = Unit {0}
 
 abbrev pub rank : Class → ℕ
 rank Universal = 0

@@ -1,5 +1,5 @@
 -- Which texts stand for which instants and days (X.680 46, 47; X.690 11.7, 11.8), and the text that is written.
-use Rattle.std.specs.Prelude.{◌≡◌, ℕ, zero, suc, ◌+◌, ◌-◌, ◌/◌, ◌%◌, ◌^◌, ◌<◌, ◌≤◌, ◌⊎◌, Bool, true, false, ◌==◌, ◌&&◌, ℤ, pos, negsuc, if◌then◌else◌, nat_lt, List, [], ◌∷◌, ◌++◌, map, Option, Some, None, unsigned_abs}
+use Rattle.std.specs.Prelude.{◌≡◌, ℕ, zero, suc, ◌+◌, ◌-◌, ◌/◌, ◌%◌, ◌^◌, ◌<◌, ◌≤◌, ◌⊎◌, ◌≢◌, Bool, true, false, ◌==◌, ◌&&◌, ℤ, pos, negsuc, if◌then◌else◌, nat_lt, List, [], ◌∷◌, ◌++◌, length, map, Option, Some, None, unsigned_abs}
 use Rattle.std.specs.Int.{int_rem_euclid}
 use Rattle.rasn_types.specs.declared.ber.time.text.Clock.{Clock}
 use Rattle.rasn_types.specs.declared.ber.time.text.Clock.TheVariants.{Hours, Minutes, Seconds}
@@ -97,6 +97,21 @@ GeneralGeneralized = TimeText four 10000 as_given long_form
 
 abbrev pub CanonicalGeneralized : List ℕ → Stamp → Type 0
 CanonicalGeneralized = TimeText four 10000 as_given (both long_form canonical_form)
+
+-- No zero ends the fraction, and it has at most nine digits.
+abbrev pub EndsInNoZero : List ℕ → Type 0
+EndsInNoZero [] = Unit {0}
+EndsInNoZero (d ∷ []) = d ≢ 0
+EndsInNoZero (d ∷ e ∷ ds) = EndsInNoZero (e ∷ ds)
+
+abbrev pub IsShortFraction : Option (ℕ × List ℕ) → Type 0
+IsShortFraction None = Unit {0}
+IsShortFraction (Some f) = (length f.1 ≤ 9) × EndsInNoZero f.1
+
+-- The canonical text in its fewest octets.
+pub record StrictGeneralized (text : List ℕ) (t : Stamp) : Type 0 where
+  pub is : CanonicalGeneralized text t
+  pub short : IsShortFraction is.rest.fraction
 
 pub record DateText (text : List ℕ) (d : Day) : Type 0 where
   pub year : ℕ

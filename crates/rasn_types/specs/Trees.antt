@@ -4,6 +4,7 @@ use Rattle.rasn_types.specs.Framing.{AreOctets}
 use Rattle.rasn_types.specs.Contents.{signed, IsShortestInteger}
 use Rattle.rasn_types.specs.Shapes.{Tree, number, numbers, items, absent, Constraints, Interval, between}
 use Rattle.rasn_types.specs.declared.types.octet.OctetString.{OctetString}
+use Rattle.rasn_types.specs.declared.types.any.Any.{Any}
 
 abbrev pub truth : Bool → ℤ
 truth true = pos 1
@@ -18,6 +19,13 @@ octets_of s = s.octets.items
 
 abbrev pub octets_tree : OctetString → Tree
 octets_tree s = numbers (octets_of s)
+
+-- the octets of a value of an open type
+abbrev pub open_octets : Any → List ℕ
+open_octets a = a.octets.items
+
+abbrev pub open_tree : Any → Tree
+open_tree a = numbers (open_octets a)
 
 abbrev pub unconstrained : Constraints
 unconstrained = record { value = None; size = None }

@@ -1,5 +1,6 @@
 //! Values and schema: tags, constraints, and the types that have a value of their own.
 
+mod any;
 mod asn_type;
 pub(crate) mod bits;
 mod constraints;
@@ -10,6 +11,7 @@ mod fields;
 mod generalized_time;
 mod identifier;
 mod integer;
+mod lawful_eq;
 mod lists;
 mod null;
 mod object_identifier;
@@ -18,11 +20,13 @@ mod optional;
 mod prefix;
 mod real;
 mod rules;
+mod set_of;
 mod strings;
 mod tag;
 mod twos_complement;
 mod utc_time;
 
+pub use any::Any;
 pub use asn_type::AsnType;
 pub use bits::{BitStr, BitString};
 pub use constraints::{Bound, Bounded, Constraints};
@@ -33,11 +37,13 @@ pub use fields::{Field, FieldPresence, Fields};
 pub use generalized_time::GeneralizedTime;
 pub use identifier::Identifier;
 pub use integer::{Integer, IntegerType};
+pub use lawful_eq::{LawfulEq, Present};
 pub use object_identifier::ObjectIdentifier;
 pub use octet::OctetString;
 pub use prefix::{Explicit, Implicit};
 pub use real::RealType;
 pub use rules::Codec;
+pub use set_of::SetOf;
 pub use strings::{
     Alphabet, BmpString, FixedOctetString, GeneralString, GeneralType, GraphicString, GraphicType,
     Ia5String, Ia5Type, NumericString, NumericType, PrintableString, PrintableType,

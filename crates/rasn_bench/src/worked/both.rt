@@ -11,12 +11,13 @@ use rasn::de::Decode;
 use rasn::enc::Encode;
 use rasn::error::{DecodeError, EncodeError};
 use rasn::types::{
-    AsnType, Constraints, Constructed, Field, FieldPresence, Fields, Identifier, Tag,
+    AsnType, Constraints, Constructed, Field, FieldPresence, Fields, Identifier, LawfulEq, Present,
+    Tag,
 };
 use std::alloc::AllocError;
 
 /// SEQUENCE { first A, second B }
-#[derive(Debug, Drop)]
+#[derive(Debug, PartialEq, Eq, Drop)]
 pub struct Both<A, B> {
     pub first: A,
     pub second: B,
@@ -42,6 +43,19 @@ impl<A: AsnType, B: AsnType> AsnType for Both<A, B> {
     ghost tree = { λ both. items (A.tree both.first ∷ B.tree both.second ∷ []) };
 
     ghost own = { refl };
+}
+
+impl<A: LawfulEq, B: LawfulEq> LawfulEq for Both<A, B> {
+    ghost use Rattle.std.proofs.Common.{rules};
+    ghost use Rattle.rasn_types.specs.Equality.{telling};
+
+    ghost decides = { Prim.search (telling, rules) };
+}
+
+impl<A: AsnType, B: AsnType> Present for Both<A, B> {
+    ghost use Rattle.rasn_types.specs.Equality.{parts_there};
+
+    ghost present = { λ _. parts_there };
 }
 
 impl<A: AsnType, B: AsnType> Constructed<2, 0> for Both<A, B> {

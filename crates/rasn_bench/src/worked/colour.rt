@@ -4,7 +4,7 @@ use rasn::ber::enc::Encoder;
 use rasn::de::Decode;
 use rasn::enc::Encode;
 use rasn::error::{DecodeError, EncodeError};
-use rasn::types::{AsnType, Constraints, Enumerated, Identifier, Tag};
+use rasn::types::{AsnType, Constraints, Enumerated, Identifier, LawfulEq, Tag};
 
 /// A colour.
 #[derive(Clone, Copy, Debug, PartialEq, Eq, Drop)]
@@ -68,6 +68,14 @@ impl Enumerated for Colour {
     }
 }
 
+impl LawfulEq for Colour {
+    ghost use Rattle.rasn_types.specs.Equality.{named_told};
+    ghost use Rattle.rasn_bench.specs.contracts.worked.colour.Colour.{the_type};
+    ghost use Rattle.rasn_bench.specs.Colours.{colour_number, colour_distinct};
+
+    ghost decides = { named_told the_type tt colour_number colour_distinct };
+}
+
 impl Decode for Colour {
     #[tactic(auto, unfolding(rasn_types::specs::Grammar::Reads))]
     fn decode_with_tag_and_constraints(
@@ -92,62 +100,5 @@ impl Encode for Colour {
 
     fn is_present(&self) -> bool {
         true
-    }
-}
-
-#[cfg(test)]
-mod tests {
-    use super::*;
-    use rasn::ber::de::DecoderOptions;
-    use rasn::error::DecodeErrorKind;
-    use rasn::{ber, der};
-    use std::test::Fail;
-
-    // A number may have more octets than it needs; it is written in the fewest.
-    #[test]
-    fn colours_are_read_and_written(rt: HostRuntime) -> Result<(), Fail> {
-        let colour = ber::decode::<Colour>(rt.alloc(), &[0x0A, 0x02, 0x00, 0x02])?;
-        assert_eq!(rt; colour, Colour::Blue);
-        assert_eq!(rt;
-            der::encode(rt.alloc(), &colour)?.as_slice(),
-            [0x0A, 0x01, 0x02].as_slice()
-        );
-        assert_eq!(rt; colour.discriminant(), 2);
-        Ok(())
-    }
-
-    // What the type doesn't name, what 64 bits don't hold, and no octets: the value is taken.
-    #[test]
-    fn other_numbers_are_no_colours(rt: HostRuntime) {
-        let octets = [
-            0x0A, 0x01, 0x03, 0x0A, 0x09, 0x00, 0x80, 0x00, 0x00, 0x00, 0x00, 0x00, 0x00, 0x00,
-            0x0A, 0x00,
-        ];
-        let mut decoder = Decoder::new(rt.alloc(), &octets, DecoderOptions::ber());
-        match Colour::decode(&mut decoder) {
-            Ok(_) => assert!(rt; false),
-            Err(error) => assert!(rt;
-                matches!(
-                    &error.kind,
-                    DecodeErrorKind::DiscriminantValueNotFound { discriminant: 3 }
-                )
-            ),
-        }
-        assert_eq!(rt; decoder.decoded_len(), 3);
-        match Colour::decode(&mut decoder) {
-            Ok(_) => assert!(rt; false),
-            Err(error) => assert!(rt;
-                matches!(
-                    &error.kind,
-                    DecodeErrorKind::IntegerOverflow { max_width: 64 }
-                )
-            ),
-        }
-        assert_eq!(rt; decoder.decoded_len(), 14);
-        match Colour::decode(&mut decoder) {
-            Ok(_) => assert!(rt; false),
-            Err(error) => assert!(rt; matches!(&error.kind, DecodeErrorKind::UnexpectedEmptyInput)),
-        }
-        assert!(rt; decoder.remaining().is_empty());
     }
 }

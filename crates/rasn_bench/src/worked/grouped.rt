@@ -11,7 +11,7 @@ use rasn::enc::Encode;
 use rasn::error::{DecodeError, EncodeError};
 use rasn::types::{
     AsnType, Class, Constraints, Constructed, Field, FieldPresence, Fields, Identifier, Integer,
-    Tag,
+    LawfulEq, Tag,
 };
 use std::alloc::AllocError;
 
@@ -25,7 +25,7 @@ const NUMBER: Tag = Tag {
 pub type Group = Both<Integer, bool>;
 
 /// SEQUENCE { truth BOOLEAN, ..., number [1] INTEGER, [[ first INTEGER, second BOOLEAN ]] }
-#[derive(Debug, Drop)]
+#[derive(Debug, PartialEq, Eq, Drop)]
 pub struct Grouped {
     pub truth: bool,
     pub number: Option<Integer>,
@@ -52,6 +52,13 @@ impl AsnType for Grouped {
     ghost tree = { grouped_tree };
 
     ghost own = { refl };
+}
+
+impl LawfulEq for Grouped {
+    ghost use Rattle.std.proofs.Common.{rules};
+    ghost use Rattle.rasn_types.specs.Equality.{telling};
+
+    ghost decides = { Prim.search (telling, rules) };
 }
 
 impl Constructed<1, 2> for Grouped {

@@ -9,12 +9,13 @@ use rasn::de::Decode;
 use rasn::enc::Encode;
 use rasn::error::{DecodeError, EncodeError};
 use rasn::types::{
-    AsnType, Constraints, Constructed, Field, FieldPresence, Fields, Identifier, Tag,
+    AsnType, Constraints, Constructed, Field, FieldPresence, Fields, Identifier, LawfulEq, Present,
+    Tag,
 };
 use std::alloc::AllocError;
 
 /// SEQUENCE { number INTEGER (-2147483648..2147483647), truth BOOLEAN }
-#[derive(Debug, Drop)]
+#[derive(Debug, PartialEq, Eq, Drop)]
 pub struct Pair {
     pub number: i32,
     pub truth: bool,
@@ -39,6 +40,19 @@ impl AsnType for Pair {
     ghost tree = { pair_tree };
 
     ghost own = { refl };
+}
+
+impl LawfulEq for Pair {
+    ghost use Rattle.std.proofs.Common.{rules};
+    ghost use Rattle.rasn_types.specs.Equality.{telling};
+
+    ghost decides = { Prim.search (telling, rules) };
+}
+
+impl Present for Pair {
+    ghost use Rattle.rasn_types.specs.Equality.{parts_there};
+
+    ghost present = { λ _. parts_there };
 }
 
 impl Constructed<2, 0> for Pair {

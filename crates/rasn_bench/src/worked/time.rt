@@ -7,7 +7,7 @@ use rasn::ber::enc::Encoder;
 use rasn::de::{Decode, DecodeChoice, Error};
 use rasn::enc::Encode;
 use rasn::error::{DecodeError, EncodeError};
-use rasn::types::{AsnType, Constraints, GeneralizedTime, Identifier, Tag, UtcTime};
+use rasn::types::{AsnType, Constraints, GeneralizedTime, Identifier, LawfulEq, Tag, UtcTime};
 
 /// CHOICE { utcTime UTCTime, generalTime GeneralizedTime }
 #[derive(Debug, PartialEq, Eq, Drop)]
@@ -35,6 +35,14 @@ impl AsnType for Time {
     ghost tree = { time_tree };
 
     ghost own = { refl };
+}
+
+impl LawfulEq for Time {
+    ghost use Rattle.rasn_types.specs.Equality.{choice_told, alternative, instant_told};
+    ghost use Rattle.rasn_bench.specs.contracts.worked.time.Time.{enum as time_enum};
+    ghost use Rattle.rasn_bench.specs.Choices.{time_tree};
+
+    ghost decides = { choice_told time_enum _ time_tree (alternative (λ x. x.0) instant_told, (alternative (λ x. x.0) (λ s t. instant_told s.moment t.moment), tt)) };
 }
 
 impl Decode for Time {

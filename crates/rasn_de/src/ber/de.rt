@@ -2,6 +2,7 @@
 ghost use Rattle.std.specs.Prelude.{◌≡◌, ◌+◌, length, IfErr, MatchResult, Result};
 ghost use Rattle.rasn_types.specs.declared.types.rules.Codec.{Codec};
 ghost use Rattle.rasn_types.specs.Framing.{AreOctets, Next};
+ghost use Rattle.rasn_types.specs.Tags.{form};
 ghost use Rattle.rasn_types.specs.Grammar.{top};
 ghost use Rattle.rasn_de.specs.Causes.{in_ber, kind_of};
 ghost use Rattle.rasn_de.specs.State.{State, at, IsEnd};
@@ -9,14 +10,16 @@ ghost use Rattle.rasn_de.specs.Taking.{Takes, Peeks};
 ghost use Rattle.rasn_types.specs.declared.types.tag.Tag.{Tag};
 ghost use Rattle.rasn_types.specs.Errors.{IsMemory};
 
+use crate::ber::de::parser::headers::{Expected, Spelling};
 use crate::ber::de::parser::{Fault, Value, read_identifier, read_value};
 use rasn_types::error::{
-    BerDecodeErrorKind, CodecDecodeError, DecodeError, DecodeErrorKind, DerDecodeErrorKind, Needed,
+    BerDecodeErrorKind, CodecDecodeError, DecodeError, DecodeErrorKind, Needed,
 };
 use rasn_types::types::{Codec, Tag};
 use std::alloc::Global;
 use std::marker::Model;
 
+mod bags;
 mod bits;
 mod choice;
 mod config;
@@ -26,6 +29,7 @@ mod leaves;
 mod lists;
 mod nesting;
 mod numbered;
+mod open;
 mod optional;
 pub mod parser;
 mod prefix;
@@ -112,8 +116,8 @@ fn kind_of(fault: Fault) -> DecodeErrorKind
             position,
         },
         Fault::StringConversionFailed { tag } => Kind::StringConversionFailed { tag },
-        Fault::ConstructedEncodingNotAllowed => Kind::CodecSpecific {
-            inner: CodecDecodeError::Der(DerDecodeErrorKind::ConstructedEncodingNotAllowed),
+        Fault::Der(kind) => Kind::CodecSpecific {
+            inner: CodecDecodeError::Der(kind),
         },
         Fault::UnsupportedObjectIdentifierArc => in_ber(Ber::UnsupportedObjectIdentifierArc),
         Fault::UnsupportedTagNumber => in_ber(Ber::UnsupportedTagNumber),
@@ -175,13 +179,14 @@ impl<'input> Decoder<'input> {
     /// The tag of the next value, which stays where it is.
     ///
     /// # Errors
-    /// Where no value's identifier comes next (X.690 8.1.2): `Incomplete`, `UnsupportedTagNumber` or `UnexpectedEndOfContents`.
+    /// Where no value's identifier comes next (X.690 8.1.2): `Incomplete`, `UnsupportedTagNumber` or `UnexpectedEndOfContents`,
+    /// under DER also `NonMinimalTagNumber`.
     pub fn peek_tag(&self) -> Result<Tag, DecodeError>
-        ensures next { MatchResult result (λ t. Next self.now.rest t) (λ _. (t : Tag) → Next self.now.rest t → ⊥) }
+        ensures next { MatchResult result (λ t. Next (form self.now.rule) self.now.rest t) (λ _. (t : Tag) → Next (form self.now.rule) self.now.rest t → ⊥) }
         ensures refused { Peeks self.now result }
         ensures memory { IfErr result (λ e. IsMemory e.kind → ⊥) }
     {
-        match read_identifier(self.rest) {
+        match read_identifier(Spelling::of_rule(self.rules).shortest, self.rest) {
             Ok((found, _)) => Ok(found.tag),
             Err(fault) => Err(self.error(fault)),
         }
@@ -206,11 +211,11 @@ impl<'input> Decoder<'input> {
     }
 
     /// Takes the header and contents of the next value, or nothing.
-    fn header(&mut self, tag: Tag) -> Result<Value<'input>, DecodeError>
-        ensures taken { Takes tag self.old result self.new }
+    fn header(&mut self, expected: Expected) -> Result<Value<'input>, DecodeError>
+        ensures taken { Takes expected self.old result self.new }
         ensures octets { AreOctets self.old.rest }
     {
-        match read_value(self.rules, Some(tag), self.rest) {
+        match read_value(Spelling::of_rule(self.rules), expected, self.rest) {
             Ok((value, rest)) => {
                 self.advance(rest);
                 Ok(value)

@@ -2,7 +2,7 @@
 use crate::ber::de::Decoder;
 use crate::de::Decode;
 use rasn_types::error::{DecodeError, DecodeErrorKind};
-use rasn_types::types::{BitString, Constraints, OctetString, Tag};
+use rasn_types::types::{Any, BitString, Constraints, OctetString, Tag};
 
 impl Decode for bool {
     #[tactic(auto, unfolding(rasn_types::specs::Grammar::Reads))]
@@ -41,5 +41,16 @@ impl Decode for BitString {
         constraints: &Constraints,
     ) -> Result<BitString, DecodeError> {
         decoder.decode_bit_string(tag, constraints)
+    }
+}
+
+impl Decode for Any {
+    #[tactic(auto, unfolding(rasn_types::specs::Grammar::Reads))]
+    fn decode_with_tag_and_constraints(
+        decoder: &mut Decoder<'_>,
+        tag: Tag,
+        _constraints: &Constraints,
+    ) -> Result<Any, DecodeError> {
+        decoder.decode_any(tag)
     }
 }

@@ -1,59 +1,61 @@
 //! The encoder: it writes values one behind the other.
-ghost use Rattle.std.specs.Prelude.{◌≡◌, ◌<◌, ◌∷◌, [], length, IfOk, IfErr, OnOk, OnErr, true, false};
-ghost use Rattle.rasn_types.specs.Bytes.{Prim, Cons};
-ghost use Rattle.rasn_enc.specs.View.{View, fresh, opened, appended, IsBelow};
-ghost use Rattle.rasn_enc.specs.Primitives.{Appends, WantsMemory};
+ghost use Rattle.std.specs.Prelude.{ℕ, List, ◌≡◌, ◌≤◌, ◌-◌, ◌⊎◌, [], length, take, drop, MatchBool, IfOk, IfErr, OnOk, OnErr, false, true};
+ghost use Rattle.std.specs.Fn.{FnOnceTakesAtMut};
+ghost use Rattle.rasn_types.specs.Bytes.{Prim, IsLess};
+ghost use Rattle.rasn_enc.specs.View.{started, AreTagsInOrder};
+ghost use Rattle.rasn_enc.specs.Primitives.{Appends, WantsMemory, TellsOrder};
+ghost use Rattle.rasn_enc.specs.Filled.{FillsBehind, RefusesToFill, AppendsFilled};
 
+mod base_128;
 mod bits;
 mod choice;
 mod config;
 mod constructed;
+mod cursors;
+mod cutting;
 mod default;
+mod enclose;
 mod extensions;
+mod filled;
+mod gathering;
 mod header;
 mod integers;
+mod kept_tags;
 mod leaves;
 mod lists;
+mod marks;
 mod numbered;
 mod objects;
-mod open_list;
 mod optional;
 mod prefix;
+mod rendering;
 mod segments;
 mod strings;
-#[cfg(test)]
-mod tests;
+mod surrounding;
 mod times;
+mod writer;
 
 pub use config::EncoderOptions;
+use filled::{Contents, fill_with};
 pub use objects::object_identifier_as_bytes;
-use open_list::{OpenList, put_constructed, put_primitive};
-use rasn_types::error::{EncodeError, EncodeErrorKind};
+use rasn_types::error::{BerEncodeErrorKind, CodecEncodeError, EncodeError, EncodeErrorKind};
 use rasn_types::types::{Codec, Tag};
 use std::alloc::Global;
 use std::marker::Model;
-use std::mem;
-
-// The octets that an encoder's output has room for at first.
-const INITIAL_CAPACITY: usize = 1024;
+use writer::Writer;
 
 /// Writes values. To contracts it is the list of octets written so far, with a list for each value that is still open.
 #[derive(Drop)]
 pub struct Encoder {
-    alloc: Global,
-    rule: Codec,
-    below: Vec<OpenList>,
-    last: OpenList,
+    writer: Writer,
 }
 
 impl Model for Encoder {
-    ghost use Rattle.std.specs.Prelude.{map};
     ghost use Rattle.rasn_enc.specs.View.{View};
-    ghost use Rattle.rasn_enc.specs.Lists.{frame_of};
 
     ghost Value = { View };
 
-    ghost view = { λ e. record { rule = e.rule; below = map frame_of e.below.items; last = frame_of e.last } };
+    ghost view = { λ e. e.writer };
 }
 
 impl Encoder {
@@ -62,106 +64,89 @@ impl Encoder {
     /// # Errors
     /// `OutOfMemory`: it reserves 1024 octets.
     pub fn new(alloc: Global, options: EncoderOptions) -> Result<Encoder, EncodeError>
-        ensures ok { IfOk result (λ e. e ≡ record { rule = options; below = []; last = fresh false }) }
+        ensures ok { IfOk result (λ e. e ≡ started options false) }
         ensures refused { IfErr result (WantsMemory options) }
     {
-        let rule = options.current_codec();
-        match Vec::with_capacity(alloc, INITIAL_CAPACITY) {
-            Ok(octets) => Ok(Encoder {
-                alloc,
-                rule,
-                below: Vec::new(alloc),
-                last: OpenList { octets, tags: None },
-            }),
-            Err(_) => Err(out_of_memory(rule)),
-        }
+        Encoder::new_with_buffer(alloc, options, Vec::new(alloc))
+    }
+
+    /// An encoder of the components of a SET: its output keeps their outermost tags, which must not fall (X.690 9.3, 10.3).
+    ///
+    /// # Errors
+    /// `OutOfMemory`: it reserves 1024 octets.
+    pub fn new_set(alloc: Global, options: EncoderOptions) -> Result<Encoder, EncodeError>
+        ensures ok { IfOk result (λ e. e ≡ started options true) }
+        ensures refused { IfErr result (WantsMemory options) }
+    {
+        let writer = Writer::over(alloc, options.current_codec(), Vec::new(alloc), true)?;
+        Ok(Encoder { writer })
+    }
+
+    /// An encoder whose output will be put into this vector, in the place of what it holds.
+    ///
+    /// # Errors
+    /// `OutOfMemory`: it reserves 1024 octets.
+    pub fn new_with_buffer(
+        alloc: Global,
+        options: EncoderOptions,
+        buffer: Vec<u8>,
+    ) -> Result<Encoder, EncodeError>
+        ensures ok { IfOk result (λ e. e ≡ started options false) }
+        ensures refused { IfErr result (WantsMemory options) }
+    {
+        let writer = Writer::over(alloc, options.current_codec(), buffer, false)?;
+        Ok(Encoder { writer })
     }
 
     /// The name of the rules that it writes by.
     pub fn codec(&self) -> Codec
         ensures { result ≡ self.now.rule }
     {
-        self.rule
+        self.writer.rule()
     }
 
     /// The allocator that it writes with.
     pub fn alloc(&self) -> Global {
-        self.alloc
+        self.writer.alloc()
     }
 
-    /// The octets written. Every value that was opened has to be closed.
+    /// The octets written. No value is open then: one is open only while its closure runs, and that has the encoder by reference.
+    ///
+    /// # Errors
+    /// `SetOutOfOrder` where the output keeps tags and some tag is below the one before it; else `OutOfMemory` alone.
     pub fn output(self) -> Result<Vec<u8>, EncodeError>
         ensures ok { IfOk result (λ v. self.below ≡ [] → v.items ≡ self.last.octets) }
-        ensures refused { IfErr result (λ _. ⊥) }
+        ensures order { OnOk result (AreTagsInOrder self) }
+        ensures refused { IfErr result (λ e. WantsMemory self.rule e ⊎ ((AreTagsInOrder self → ⊥) × TellsOrder self.rule e)) }
     {
-        let Encoder {
-            alloc: _,
-            rule: _,
-            below: _,
-            last,
-        } = self;
-        let OpenList { octets, tags: _ } = last;
-        Ok(octets)
-    }
-
-    // All writing rests on the calls from here on, whose contracts speak of views alone.
-
-    // Opens a value: its contents are the last list now.
-    fn begin(&mut self, keeps_tags: bool) -> Result<(), EncodeError>
-        ensures ok { OnOk result (self.new ≡ opened self.old keeps_tags) }
-        ensures err { OnErr result (self.new ≡ self.old) }
-        ensures memory { IfErr result (WantsMemory self.old.rule) }
-    {
-        let tags = if keeps_tags {
-            Some(Vec::new(self.alloc))
-        } else {
-            None
-        };
-        let inner = OpenList {
-            octets: Vec::new(self.alloc),
-            tags,
-        };
-        let outer = mem::replace(&mut self.last, inner);
-        match self.below.push(outer) {
-            Ok(()) => Ok(()),
-            Err(back) => {
-                self.last = back.value;
-                Err(out_of_memory(self.rule))
-            }
+        if self.tags_fall() {
+            return Err(out_of_order(self.codec()));
         }
+        let Encoder { writer } = self;
+        writer.output()
     }
 
-    // Takes the last list off.
-    fn take_last(&mut self) -> OpenList
-        requires { 0 < length self.old.below }
-        ensures octets { result.octets.items ≡ self.old.last.octets }
-        ensures left { (v : View) → IsBelow v self.old → self.new ≡ v }
-        ensures rule { self.new.rule ≡ self.old.rule }
+    // Whether the tags that the last list keeps fall.
+    fn tags_fall(&self) -> bool
+        ensures { MatchBool result (AreTagsInOrder self.now → ⊥) (AreTagsInOrder self.now) }
     {
-        let outer = self.below.pop().unwrap();
-        mem::replace(&mut self.last, outer)
+        self.writer.kept_tags_fall()
     }
 
-    // Drops the value that was opened last, with its contents.
-    fn abandon(&mut self)
-        requires { 0 < length self.old.below }
-        ensures { (v : View) → IsBelow v self.old → self.new ≡ v }
+    // How many octets the last list has.
+    fn last_len(&self) -> usize
+        ensures { result ≡ length self.now.last.octets }
     {
-        let _ = self.take_last();
+        self.writer.last_len()
     }
 
-    // Closes the value that was opened last: it stands behind the list below.
-    fn finish(&mut self, tag: Tag) -> Result<(), EncodeError>
-        requires { 0 < length self.old.below }
-        ensures ok { OnOk result ((v : View) → IsBelow v self.old → Appends (Cons v.rule tag self.old.last.octets) tag v self.new) }
-        ensures err { OnErr result ((v : View) → IsBelow v self.old → self.new ≡ v) }
-        ensures memory { IfErr result (WantsMemory self.old.rule) }
+    // Whether the octets of the last list from `middle` on are less than those from `from` to it (X.690 11.6).
+    fn neighbours_fall(&self, from: usize, middle: usize) -> bool
+        requires order { from ≤ middle }
+        requires within { middle ≤ length self.now.last.octets }
+        ensures { MatchBool result (IsLess (drop middle self.now.last.octets) (take (middle - from) (drop from self.now.last.octets))) (IsLess (drop middle self.now.last.octets) (take (middle - from) (drop from self.now.last.octets)) → ⊥) }
     {
-        let contents = self.take_last().octets;
-        match put_constructed(&mut self.last, self.rule, tag, &contents) {
-            Ok(()) => Ok(()),
-            Err(_) => Err(out_of_memory(self.rule)),
-        }
+        self.writer.neighbours_fall(from, middle)
     }
 
     // Puts a primitive value behind the last list.
@@ -170,10 +155,43 @@ impl Encoder {
         ensures err { OnErr result (self.new ≡ self.old) }
         ensures memory { IfErr result (WantsMemory self.old.rule) }
     {
-        match put_primitive(&mut self.last, tag, contents) {
-            Ok(()) => Ok(()),
-            Err(_) => Err(out_of_memory(self.rule)),
-        }
+        self.writer.leaf(tag, contents)
+    }
+
+    // The same, where `contents` writes its contents in place.
+    fn leaf_with<F: FnOnce(&mut Vec<u8>) -> Result<(), EncodeError>>(
+        &mut self,
+        tag: Tag,
+        contents: F,
+    ) -> Result<(), EncodeError>
+        requires callable { (v : _) → FnOnceTakesAtMut F.FnOnce contents v }
+        requires behind { FillsBehind F.FnOnce contents }
+        ensures ok { OnOk result (AppendsFilled F.FnOnce contents tag self.old self.new) }
+        ensures err { OnErr result (self.new ≡ self.old) }
+        ensures refused { IfErr result (λ e. WantsMemory self.old.rule e ⊎ RefusesToFill F.FnOnce contents e) }
+    {
+        self.writer.leaf_with(tag, contents)
+    }
+
+    // The same, where a value writes its contents in place.
+    fn leaf_of<T: Contents>(&mut self, tag: Tag, value: &T) -> Result<(), EncodeError>
+        ensures ok { OnOk result ((contents : List ℕ) × T.IsWritten value.now contents × Appends (Prim tag contents) tag self.old self.new) }
+        ensures err { OnErr result (self.new ≡ self.old) }
+        ensures memory { IfErr result (WantsMemory self.old.rule) }
+    {
+        let rule = self.codec();
+        self.leaf_with(tag, |octets: &mut Vec<u8>| fill_with(value, octets, rule))
+    }
+}
+
+fn out_of_order(codec: Codec) -> EncodeError
+    ensures { TellsOrder codec result }
+{
+    EncodeError {
+        kind: EncodeErrorKind::CodecSpecific {
+            inner: CodecEncodeError::Ber(BerEncodeErrorKind::SetOutOfOrder),
+        },
+        codec,
     }
 }
 

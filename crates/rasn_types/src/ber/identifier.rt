@@ -64,29 +64,3 @@ impl Deref for Identifier {
         &self.tag
     }
 }
-
-#[cfg(test)]
-mod tests {
-    use super::*;
-
-    #[test]
-    fn holds_a_tag_and_a_bit(rt: HostRuntime) {
-        let sequence = Identifier::from_tag(Tag::SEQUENCE, true);
-        assert!(rt; sequence.is_constructed());
-        assert!(rt; Identifier::new(Class::Universal, false, 16).is_primitive());
-        assert_eq!(rt; sequence.tag(17).tag, Tag::SET);
-        assert!(rt; sequence.tag(17).is_constructed());
-        assert_eq!(rt; (*sequence).value, 16);
-    }
-
-    // By the tag, and then primitive before constructed.
-    #[test]
-    fn is_ordered_by_its_tag_first(rt: HostRuntime) {
-        let primitive = Identifier::new(Class::Context, false, 1);
-        let constructed = Identifier::new(Class::Context, true, 1);
-        assert!(rt; primitive < constructed);
-        assert!(rt; constructed < Identifier::new(Class::Context, false, 2));
-        assert!(rt; constructed < Identifier::new(Class::Private, false, 0));
-        assert!(rt; primitive != constructed);
-    }
-}

@@ -187,10 +187,37 @@ pub enum BerDecodeErrorKind {
     InvalidDate { octets: Vec<u8> },
 }
 
-/// Causes of X.690 10 and 11, under DER.
-#[derive(Debug, Drop, Error)]
+/// Causes of X.690 10 and 11, under DER: another encoding of the value than the one that DER writes.
+#[derive(Clone, Copy, Debug, PartialEq, Eq, Error)]
 pub enum DerDecodeErrorKind {
     /// A string in segments (X.690 10.2).
     #[error("a string in segments")]
     ConstructedEncodingNotAllowed,
+    /// A tag number in more octets than it needs (X.690 8.1.2.4.2).
+    #[error("a tag number in more octets than it needs")]
+    NonMinimalTagNumber,
+    /// The constructed bit isn't the one that the type is written with (X.690 8.1.2.5).
+    #[error("another constructed bit than the type is written with")]
+    ConstructedBitMismatch,
+    /// A length in more octets than it needs (X.690 10.1).
+    #[error("a length in more octets than it needs")]
+    NonMinimalLength,
+    /// A number whose first nine bits are equal (X.690 8.3.2).
+    #[error("a number in more octets than it needs")]
+    NonMinimalInteger,
+    /// A subidentifier of an object identifier in more octets than it needs (X.690 8.19.2).
+    #[error("an arc in more octets than it needs")]
+    NonMinimalArc,
+    /// An unused bit of a BIT STRING is set (X.690 11.2.1).
+    #[error("an unused bit is set")]
+    NonzeroUnusedBits,
+    /// A part that equals its default is there (X.690 11.5).
+    #[error("a part that equals its default is there")]
+    DefaultValuePresent,
+    /// The tags of the components of a SET fall (X.690 10.3).
+    #[error("the components of a SET aren't in the order of their tags")]
+    SetComponentsOutOfOrder,
+    /// The octets of the elements of a SET OF fall (X.690 11.6).
+    #[error("the elements of a SET OF aren't in the order of their octets")]
+    SetOfOutOfOrder,
 }

@@ -3,8 +3,6 @@
 mod bit_str;
 mod bit_string;
 pub(crate) mod packing;
-#[cfg(test)]
-mod tests;
 
 pub use bit_str::BitStr;
 pub use bit_string::BitString;

@@ -141,31 +141,3 @@ fn is_open_below(bounded: Bounded<i128>) -> bool
         Bounded::Range { start: None, .. } => true,
     }
 }
-
-#[cfg(test)]
-mod tests {
-    use super::*;
-
-    // -2^128 is below each end that is there, and inside one that is open.
-    #[test]
-    fn far_numbers_are_inside_open_ends(rt: HostRuntime) {
-        let mut octets = [0; 17];
-        octets[0] = 0xFF;
-        for (start, end, is_inside) in [
-            (None, Some(5), true),
-            (Some(i128::MIN), None, false),
-            (None, None, true),
-        ] {
-            let constraint = Bounded::Range { start, end };
-            let value = Some(Bound {
-                constraint,
-                extensible: false,
-            });
-            let constraints = Constraints { value, size: None };
-            assert_eq!(rt; constraints.admits_number(&octets), is_inside);
-        }
-        assert!(rt; Constraints::NONE.admits_size(7));
-        assert_eq!(rt; Constraints::NONE.size_bounds(), Bounded::None);
-        assert_eq!(rt; Constraints::NONE.value_bounds(), Bounded::None);
-    }
-}

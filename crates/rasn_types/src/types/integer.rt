@@ -5,8 +5,6 @@ ghost use Rattle.rasn_types.specs.Shapes.{IsIn};
 ghost use Rattle.rasn_types.specs.Trees.{IsShortestOf};
 
 mod signed;
-#[cfg(test)]
-mod tests;
 mod unbounded;
 mod unsigned;
 

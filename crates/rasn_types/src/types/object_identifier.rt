@@ -88,22 +88,3 @@ impl AsnType for ObjectIdentifier {
 
     ghost own = { refl };
 }
-
-#[cfg(test)]
-mod tests {
-    use super::*;
-    use std::test::Fail;
-
-    // Fewer than two arcs, and a first arc above 2, are none.
-    #[test]
-    fn keeps_arcs(rt: HostRuntime) -> Result<(), Fail> {
-        let alloc = rt.alloc();
-        let rsa = ObjectIdentifier::new(vec![in alloc; 1, 2, 840, 113549]?).ok_or("no arcs")?;
-        assert_eq!(rt; rsa.arcs(), [1, 2, 840, 113549].as_slice());
-        assert!(rt; ObjectIdentifier::new(vec![in alloc; 2]?).is_none());
-        assert!(rt; ObjectIdentifier::new(vec![in alloc; 3, 1]?).is_none());
-        let again = ObjectIdentifier::new(vec![in alloc; 1, 2, 840, 113549]?).ok_or("no arcs")?;
-        assert!(rt; rsa == again);
-        Ok(())
-    }
-}

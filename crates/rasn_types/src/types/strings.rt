@@ -3,8 +3,6 @@ mod alphabet;
 mod bmp;
 mod fixed;
 mod restricted;
-#[cfg(test)]
-mod tests;
 mod utf8;
 
 pub use alphabet::Alphabet;

@@ -26,11 +26,12 @@ impl<'input> Decoder<'input> {
         }
     }
 
-    /// A BIT STRING within a size in bits (X.690 8.6). Bits that a segment counts as unused don't belong to it, set or not.
+    /// A BIT STRING within a size in bits (X.690 8.6). Bits that a segment counts as unused don't belong to it, set or not; under
+    /// DER none is set (X.690 11.2.1).
     ///
     /// # Errors
-    /// With nothing taken: framing faults, `UnexpectedEmptyInput` and `InvalidBitString` of a segment (X.690 8.6.2), and
-    /// `OutOfMemory`. With the value taken: `LengthExceedsPlatformWidth` for 2^64 bits or more, then
+    /// With nothing taken: framing faults, `UnexpectedEmptyInput` and `InvalidBitString` of a segment (X.690 8.6.2), under DER
+    /// `NonzeroUnusedBits`, and `OutOfMemory`. With the value taken: `LengthExceedsPlatformWidth` for 2^64 bits or more, then
     /// `SizeConstraintNotSatisfied`.
     pub fn decode_bit_string(
         &mut self,

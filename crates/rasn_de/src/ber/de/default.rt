@@ -1,26 +1,30 @@
 //! Values that have a default where they are left out (X.680 25.8).
+ghost use Rattle.std.specs.Prelude.{MatchBool};
+ghost use Rattle.rasn_types.specs.Tags.{IsStrict};
 ghost use Rattle.rasn_types.specs.Shapes.{given};
 ghost use Rattle.rasn_de.specs.Decodes.{Decodes};
-ghost use Rattle.rasn_de.specs.Optionals.{ReadOr, DecodesDefault};
+ghost use Rattle.rasn_de.specs.Optionals.{Made, ReadOr, DecodesDefault};
 
 use crate::ber::de::Decoder;
 use crate::ber::de::parser::Fault;
 use crate::de::Decode;
-use rasn_types::error::DecodeError;
-use rasn_types::types::{Constraints, Tag};
+use rasn_types::error::{DecodeError, DerDecodeErrorKind};
+use rasn_types::types::{Codec, Constraints, LawfulEq, Tag};
 use std::alloc::AllocError;
 
 impl<'input> Decoder<'input> {
     /// A value, or its default where the contents end or another tag than the type's own comes.
     ///
     /// # Errors
-    /// Faults of the next identifier, which take nothing; what the value refuses; want of memory of the default.
-    pub fn decode_default<D: Decode, F: FnOnce() -> Result<D, AllocError>>(
+    /// Faults of the next identifier, which take nothing; what the value refuses; want of memory of the default. Under DER the
+    /// default is also made where a value comes, and `DefaultValuePresent` refuses the value that equals it (X.690 11.5); this
+    /// refusal, and want of memory then, take the value.
+    pub fn decode_default<D: Decode + LawfulEq, F: FnOnce() -> Result<D, AllocError>>(
         &mut self,
         default: F,
     ) -> Result<D, DecodeError>
         requires { F.IsAlwaysCallable default }
-        ensures called { ReadOr (Decodes D.shape D.tree) (F.post default) D.TAG self.old result self.new }
+        ensures called { ReadOr (Decodes D.shape D.tree) D.tree (F.post default) D.TAG self.old result self.new }
         ensures reads { DecodesDefault D.TAG D.shape D.tree (F.post default) self.old result self.new }
     {
         self.decode_default_with_tag_and_constraints(D::TAG, default, &D::CONSTRAINTS)
@@ -30,13 +34,13 @@ impl<'input> Decoder<'input> {
     ///
     /// # Errors
     /// As `decode_default`.
-    pub fn decode_default_with_tag<D: Decode, F: FnOnce() -> Result<D, AllocError>>(
+    pub fn decode_default_with_tag<D: Decode + LawfulEq, F: FnOnce() -> Result<D, AllocError>>(
         &mut self,
         tag: Tag,
         default: F,
     ) -> Result<D, DecodeError>
         requires { F.IsAlwaysCallable default }
-        ensures called { ReadOr (Decodes (given tag D.CONSTRAINTS D.shape) D.tree) (F.post default) tag self.old result self.new }
+        ensures called { ReadOr (Decodes (given tag D.CONSTRAINTS D.shape) D.tree) D.tree (F.post default) tag self.old result self.new }
         ensures reads { DecodesDefault tag (given tag D.CONSTRAINTS D.shape) D.tree (F.post default) self.old result self.new }
     {
         self.decode_default_with_tag_and_constraints(tag, default, &D::CONSTRAINTS)
@@ -46,13 +50,12 @@ impl<'input> Decoder<'input> {
     ///
     /// # Errors
     /// As `decode_default`.
-    pub fn decode_default_with_constraints<D: Decode, F: FnOnce() -> Result<D, AllocError>>(
-        &mut self,
-        default: F,
-        constraints: &Constraints,
-    ) -> Result<D, DecodeError>
+    pub fn decode_default_with_constraints<
+        D: Decode + LawfulEq,
+        F: FnOnce() -> Result<D, AllocError>,
+    >(&mut self, default: F, constraints: &Constraints) -> Result<D, DecodeError>
         requires { F.IsAlwaysCallable default }
-        ensures called { ReadOr (Decodes (given D.TAG constraints.now D.shape) D.tree) (F.post default) D.TAG self.old result self.new }
+        ensures called { ReadOr (Decodes (given D.TAG constraints.now D.shape) D.tree) D.tree (F.post default) D.TAG self.old result self.new }
         ensures reads { DecodesDefault D.TAG (given D.TAG constraints.now D.shape) D.tree (F.post default) self.old result self.new }
     {
         self.decode_default_with_tag_and_constraints(D::TAG, default, constraints)
@@ -62,23 +65,50 @@ impl<'input> Decoder<'input> {
     ///
     /// # Errors
     /// As `decode_default`.
-    pub fn decode_default_with_tag_and_constraints<D: Decode, F: FnOnce() -> Result<D, AllocError>>(
-        &mut self,
-        tag: Tag,
-        default: F,
-        constraints: &Constraints,
-    ) -> Result<D, DecodeError>
+    pub fn decode_default_with_tag_and_constraints<
+        D: Decode + LawfulEq,
+        F: FnOnce() -> Result<D, AllocError>,
+    >(&mut self, tag: Tag, default: F, constraints: &Constraints) -> Result<D, DecodeError>
         requires { F.IsAlwaysCallable default }
-        ensures called { ReadOr (Decodes (given tag constraints.now D.shape) D.tree) (F.post default) tag self.old result self.new }
+        ensures called { ReadOr (Decodes (given tag constraints.now D.shape) D.tree) D.tree (F.post default) tag self.old result self.new }
         ensures reads { DecodesDefault tag (given tag constraints.now D.shape) D.tree (F.post default) self.old result self.new }
     {
-        if self.comes(tag)? {
-            drop(default);
-            return D::decode_with_tag_and_constraints(self, tag, constraints);
+        if !self.comes(tag)? {
+            return self.made(default);
         }
-        match default() {
+        let value = D::decode_with_tag_and_constraints(self, tag, constraints)?;
+        if !self.is_strict() {
+            drop(default);
+            return Ok(value);
+        }
+        let without = self.made(default)?;
+        if value.means_same(&without) {
+            return Err(self.error(Fault::Der(DerDecodeErrorKind::DefaultValuePresent)));
+        }
+        Ok(value)
+    }
+
+    /// The value that the closure makes.
+    pub(super) fn made<D: Drop, F: FnOnce() -> Result<D, AllocError>>(
+        &self,
+        make: F,
+    ) -> Result<D, DecodeError>
+        requires { F.IsAlwaysCallable make }
+        ensures { Made (F.post make) self.now result }
+    {
+        match make() {
             Ok(value) => Ok(value),
             Err(AllocError) => Err(self.error(Fault::OutOfMemory)),
+        }
+    }
+
+    /// Whether only what the writer gives is read.
+    pub(super) fn is_strict(&self) -> bool
+        ensures { MatchBool result (IsStrict self.now.rule) (IsStrict self.now.rule → ⊥) }
+    {
+        match self.rules {
+            Codec::Der => true,
+            Codec::Ber | Codec::Cer => false,
         }
     }
 }

@@ -3,7 +3,7 @@ ghost use Rattle.std.specs.Prelude.{◌≡◌, ◌⊎◌, true, IfErr};
 ghost use Rattle.rasn_types.specs.Shapes.{leaf, boolean, integer, number, octet_string};
 ghost use Rattle.rasn_types.specs.Trees.{bool_tree, unconstrained};
 ghost use Rattle.rasn_de.specs.Decodes.{Decodes};
-ghost use Rattle.rasn_de.specs.Leaves.{bool_in, BoolAt, IntegerAt, definite_at, Gave, GaveInteger, IsBeyond};
+ghost use Rattle.rasn_de.specs.Leaves.{bool_in, BoolAt, IntegerAt, definite_at, Gave, GaveInteger, IsBeyond, ChecksNumber};
 ghost use Rattle.rasn_de.specs.Causes.{Tells, out_of_bound};
 ghost use Rattle.rasn_types.specs.Contents.{signed};
 ghost use Rattle.rasn_types.specs.Errors.{IsMemory};
@@ -12,9 +12,10 @@ ghost use Rattle.rasn_de.specs.Views.{Gives};
 ghost use Rattle.rasn_types.specs.Framing.{AreOctets};
 
 use crate::ber::de::Decoder;
-use crate::ber::de::parser::strings::read_octets;
+use crate::ber::de::parser::headers::Expected;
+use crate::ber::de::parser::strings::{is_der_rule, read_octets};
 use crate::ber::de::parser::{Contents, Fault};
-use rasn_types::error::{DecodeError, DecodeErrorKind};
+use rasn_types::error::{DecodeError, DecodeErrorKind, DerDecodeErrorKind};
 use rasn_types::types::{Bounded, Codec, Constraints, Integer, IntegerType, Tag};
 use std::borrow::CowSlice;
 
@@ -36,13 +37,26 @@ fn read_bool(rules: Codec, contents: &[u8]) -> Result<bool, Fault>
     }
 }
 
+/// Whether octets hold a number: there are some, and under DER the first nine bits aren't equal (X.690 8.3.1, 8.3.2).
+fn check_number(rules: Codec, octets: &[u8]) -> Result<(), Fault>
+    ensures { ChecksNumber rules octets.now result }
+{
+    match octets {
+        [] => Err(Fault::UnexpectedEmptyInput),
+        [0, 0..=0x7F, ..] | [0xFF, 0x80..=0xFF, ..] if is_der_rule(rules) => {
+            Err(Fault::Der(DerDecodeErrorKind::NonMinimalInteger))
+        }
+        _ => Ok(()),
+    }
+}
+
 impl<'input> Decoder<'input> {
-    /// The contents of the next value, which has to have a definite length.
+    /// The contents of the next value, which has to have a definite length, and under DER the constructed bit that it is written with.
     pub(super) fn contents(&mut self, tag: Tag) -> Result<&'input [u8], DecodeError>
         ensures gave { Gave (λ c. c.now) (λ r. definite_at self.old.rule tag self.old.rest ≡ r) self.old result self.new }
         ensures octets { AreOctets self.old.rest }
     {
-        let value = self.header(tag)?;
+        let value = self.header(Expected::leaf(self.codec(), tag))?;
         match value.contents {
             Contents::Definite(contents) => Ok(contents),
             Contents::Indefinite => Err(self.error(Fault::IndefiniteLengthNotAllowed)),
@@ -102,7 +116,8 @@ impl<'input> Decoder<'input> {
     /// An INTEGER of the type `I`, within bounds (X.690 8.3).
     ///
     /// # Errors
-    /// Framing faults. With the value taken: `UnexpectedEmptyInput`, `IntegerOverflow`, then `ValueConstraintNotSatisfied`.
+    /// Framing faults. With the value taken: `UnexpectedEmptyInput`, under DER `NonMinimalInteger`, `IntegerOverflow`, then
+    /// `ValueConstraintNotSatisfied`.
     pub fn decode_integer<I: IntegerType>(
         &mut self,
         tag: Tag,
@@ -112,9 +127,10 @@ impl<'input> Decoder<'input> {
         ensures refused { GaveInteger I.number (I.grows ≡ true) tag (IntegerAt I.WIDTH I.range constraints.now self.old.rule tag self.old.rest) self.old result self.new }
         ensures memory { IfErr result (λ e. IsMemory e.kind → (I.grows ≡ true) ⊎ IsBeyond (IntegerAt I.WIDTH I.range constraints.now self.old.rule tag self.old.rest) self.new.rest) }
     {
+        let rules = self.codec();
         let contents = self.contents(tag)?;
-        if contents.is_empty() {
-            return Err(self.error(Fault::UnexpectedEmptyInput));
+        if let Err(fault) = check_number(rules, contents) {
+            return Err(self.error(fault));
         }
         match I::from_octets(self.alloc(), contents) {
             Ok(Some(value)) => {

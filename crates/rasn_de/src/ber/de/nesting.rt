@@ -2,18 +2,19 @@
 ghost use Rattle.std.specs.Prelude.{◌≡◌, ◌≢◌, ◌&&◌, not};
 ghost use Rattle.rasn_types.specs.Numbered.{constructed_bit};
 ghost use Rattle.rasn_types.specs.Framing.{indefinite, AreOctets};
-ghost use Rattle.rasn_de.specs.Inside.{Opens, Closes, is_open};
+ghost use Rattle.rasn_de.specs.Inside.{asks, Opens, Closes, is_open};
 ghost use Rattle.rasn_de.specs.Doors.{door_of, Enters};
 ghost use Rattle.rasn_de.specs.State.{IsEnd};
 ghost use Rattle.rasn_de.specs.Views.{extent};
 
 use crate::ber::de::Decoder;
+use crate::ber::de::parser::headers::Expected;
 use crate::ber::de::parser::strings::{finish, held};
 use crate::ber::de::parser::{Contents, Fault, Value};
 use rasn_types::error::DecodeError;
-use rasn_types::types::Tag;
+use rasn_types::types::{Codec, Tag};
 
-/// How a value is opened: its tag, whether it has to be constructed, and the levels of depth that it takes.
+/// How a value is opened: its tag, whether it has to be constructed under every rule, and the levels of depth that it takes.
 #[derive(Clone, Copy)]
 pub(crate) struct Opening {
     pub(crate) tag: Tag,
@@ -26,6 +27,17 @@ fn lacks_bit(opening: Opening, value: Value<'_>) -> bool
     ensures { result ≡ (opening.needs_bit && not (constructed_bit value.entry.identifier)) }
 {
     opening.needs_bit && !value.identifier.is_constructed()
+}
+
+/// Which header begins the value: one that needn't be constructed is asked under DER for the bit that it is written with.
+fn asked(opening: Opening, rules: Codec) -> Expected
+    ensures { result ≡ asks (door_of opening) rules }
+{
+    if opening.needs_bit {
+        Expected::Tagged(opening.tag)
+    } else {
+        Expected::as_written(rules, opening.tag, true)
+    }
 }
 
 fn is_indefinite(contents: Contents<'_>) -> bool
@@ -46,7 +58,7 @@ impl<'input> Decoder<'input> {
         if self.depth == 0 {
             return Err(self.error(Fault::ExceedsMaxParseDepth));
         }
-        let value = self.header(opening.tag)?;
+        let value = self.header(asked(opening, self.codec()))?;
         if lacks_bit(opening, value) {
             return Err(self.error(Fault::InvalidConstructedIdentifier));
         }

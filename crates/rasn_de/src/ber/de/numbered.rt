@@ -4,26 +4,24 @@ ghost use Rattle.rasn_types.specs.Errors.{IsMemory};
 ghost use Rattle.rasn_types.specs.Shapes.{leaf, enumerated, null, object_identifier, number, numbers};
 ghost use Rattle.rasn_types.specs.Trees.{unconstrained};
 ghost use Rattle.rasn_types.specs.declared.error.decode.DecodeErrorKind.TheVariants.{RealNotSupported};
+ghost use Rattle.rasn_types.specs.declared.types.rules.Codec.TheVariants.{Ber};
 ghost use Rattle.rasn_de.specs.Decodes.{Decodes};
 ghost use Rattle.rasn_de.specs.Leaves.{Gave};
 ghost use Rattle.rasn_de.specs.NamedNumbers.{EnumeratedAt, NullAt};
 ghost use Rattle.rasn_de.specs.ObjectIdentifiers.{GaveArcs, HoldsArcs, GaveObjectIdentifier};
 
-#[cfg(test)]
-mod tests;
-
 use crate::ber::de::Decoder;
 use crate::ber::de::parser::Fault;
 use crate::ber::de::parser::objects::read_object_identifier;
 use rasn_types::error::{DecodeError, DecodeErrorKind};
-use rasn_types::types::{Constraints, Enumerated, ObjectIdentifier, RealType, Tag};
+use rasn_types::types::{Codec, Constraints, Enumerated, ObjectIdentifier, RealType, Tag};
 
 impl<'input> Decoder<'input> {
     /// An ENUMERATED of the type `E` (X.690 8.4).
     ///
     /// # Errors
-    /// Framing faults. With the value taken: `UnexpectedEmptyInput`, `IntegerOverflow` from 64 bits on, then
-    /// `DiscriminantValueNotFound` where the type doesn't name the number.
+    /// Framing faults. With the value taken: `UnexpectedEmptyInput`, under DER `NonMinimalInteger`, `IntegerOverflow` from 64
+    /// bits on, then `DiscriminantValueNotFound` where the type doesn't name the number.
     pub fn decode_enumerated<E: Enumerated>(&mut self, tag: Tag) -> Result<E, DecodeError>
         ensures reads { Decodes (leaf (enumerated E.known) tag unconstrained) (λ v. number (E.number v)) self.old result self.new }
         ensures refused { Gave E.number (EnumeratedAt E.known self.old.rule tag self.old.rest) self.old result self.new }
@@ -61,30 +59,44 @@ impl<'input> Decoder<'input> {
     ///
     /// # Errors
     /// Framing faults. With the value taken: `Incomplete` where octets of a subidentifier are missing,
-    /// `UnsupportedObjectIdentifierArc` where one is 2^32 or more, and `OutOfMemory`.
+    /// `UnsupportedObjectIdentifierArc` where one is 2^32 or more, under DER `NonMinimalArc` where one begins with the octet 80,
+    /// whatever follows that, and `OutOfMemory`.
     pub fn decode_object_identifier(&mut self, tag: Tag) -> Result<ObjectIdentifier, DecodeError>
         ensures reads { Decodes (leaf object_identifier tag unconstrained) numbers self.old result self.new }
         ensures refused { GaveObjectIdentifier tag self.old result self.new }
     {
+        let rules = self.codec();
         let contents = self.contents(tag)?;
-        self.decode_object_identifier_from_bytes(contents)
+        self.object_identifier(rules, contents)
     }
 
-    /// The object identifier that contents octets hold (X.690 8.19). What is left of the input stays as it is.
+    /// The object identifier that contents octets hold as these rules read them.
+    fn object_identifier(
+        &self,
+        rules: Codec,
+        contents: &[u8],
+    ) -> Result<ObjectIdentifier, DecodeError>
+        ensures { GaveArcs self.now.rule rules contents.now result }
+    {
+        match read_object_identifier(self.alloc(), rules, contents) {
+            Ok(identifier) => Ok(identifier),
+            Err(fault) => Err(self.error(fault)),
+        }
+    }
+
+    /// The object identifier that contents octets hold (X.690 8.19), read as under BER whatever the rules of the decoder are: a
+    /// subidentifier may begin with octets 80. What is left of the input stays as it is.
     ///
     /// # Errors
-    /// As `decode_object_identifier`, but for framing faults.
+    /// As `decode_object_identifier` under BER, but for framing faults. They name the rules of the decoder.
     pub fn decode_object_identifier_from_bytes(
         &self,
         contents: &[u8],
     ) -> Result<ObjectIdentifier, DecodeError>
         ensures reads { HoldsArcs contents.now result }
-        ensures refused { GaveArcs self.now.rule contents.now result }
+        ensures refused { GaveArcs self.now.rule Ber contents.now result }
     {
-        match read_object_identifier(self.alloc(), contents) {
-            Ok(identifier) => Ok(identifier),
-            Err(fault) => Err(self.error(fault)),
-        }
+        self.object_identifier(Codec::Ber, contents)
     }
 
     /// Refuses: REAL (X.690 8.5) isn't supported.

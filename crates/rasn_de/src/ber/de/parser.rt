@@ -3,14 +3,18 @@ ghost use Rattle.std.specs.Prelude.{◌≡◌};
 ghost use Rattle.rasn_types.specs.Framing.{AreOctets};
 ghost use Rattle.rasn_types.specs.Numbered.{constructed_bit};
 ghost use Rattle.rasn_types.specs.Tags.{is_eoc};
-ghost use Rattle.rasn_de.specs.Headers.{number128_at, number256_at, octets_at, expected_at, tag_number_at, identifier_at, length_at, header_at, long_at, contents_at, class_of, has_indefinite};
+ghost use Rattle.rasn_de.specs.Headers.{number128_at, number256_at, octets_at, is_padded, is_longer, tag_number_at, identifier_by, begins_with_zero, has_spare, length_at, header_by, long_at, contents_at, class_of};
 ghost use Rattle.rasn_de.specs.Views.{Gives, pair, both, identified, header};
 
+use crate::ber::de::parser::headers::{Expected, Spelling};
 use rasn_types::ber::Identifier;
-use rasn_types::types::{Bounded, Class, Codec, Tag};
+use rasn_types::error::DerDecodeErrorKind;
+use rasn_types::types::{Bounded, Class, Tag};
 
 pub mod bits;
+pub mod headers;
 pub mod objects;
+pub mod skipping;
 pub mod strings;
 
 /// Why a read is refused, as far as a refusal holds nothing in memory.
@@ -60,7 +64,7 @@ pub enum Fault {
         actual: Tag,
     },
     InvalidConstructedIdentifier,
-    ConstructedEncodingNotAllowed,
+    Der(DerDecodeErrorKind),
     DiscriminantValueNotFound {
         discriminant: isize,
     },
@@ -111,15 +115,38 @@ fn class_at(n: u8) -> Class
     }
 }
 
-#[tactic(auto, unfolding(crate::specs::Headers::tag_number_at))]
-fn read_tag_number(first: u8, input: &[u8]) -> Result<(u32, &[u8]), Fault>
-    ensures { Gives pair result (tag_number_at first input.now) }
+/// Whether the first seven bits of a tag number behind a first octet are zero (X.690 8.1.2.4.2).
+fn is_padded(input: &[u8]) -> bool
+    ensures { result ≡ is_padded input.now }
 {
-    if first % 32 == 31 {
-        read_number128(Fault::UnsupportedTagNumber, input)
-    } else {
-        Ok((u32::from(first % 32), input))
+    match input {
+        [0x80, ..] => true,
+        _ => false,
     }
+}
+
+#[tactic(auto, unfolding(crate::specs::Headers::tag_number_at))]
+fn read_tag_number(shortest: bool, first: u8, input: &[u8]) -> Result<(u32, &[u8]), Fault>
+    ensures { Gives pair result (tag_number_at shortest first input.now) }
+{
+    if first % 32 != 31 {
+        return Ok((u32::from(first % 32), input));
+    }
+    match read_number128(Fault::UnsupportedTagNumber, input) {
+        Ok(read) => Ok(read),
+        Err(fault) => if shortest && is_padded(input) {
+            Err(Fault::Der(DerDecodeErrorKind::NonMinimalTagNumber))
+        } else {
+            Err(fault)
+        },
+    }
+}
+
+/// Whether a number in the octets behind a first one could be spelled in fewer.
+fn is_longer(first: u8, input: &[u8], number: u32) -> bool
+    ensures { result ≡ is_longer first input.now number }
+{
+    first % 32 == 31 && (is_padded(input) || number < 31)
 }
 
 fn is_end_of_contents(tag: Tag) -> bool
@@ -131,21 +158,25 @@ fn is_end_of_contents(tag: Tag) -> bool
     }
 }
 
-#[tactic(auto, unfolding(crate::specs::Headers::identifier_at))]
-pub fn read_identifier(input: &[u8]) -> Result<(Identifier, &[u8]), Fault>
-    ensures exact { Gives identified result (identifier_at input.now) }
+/// The identifier that begins the input, which may have to be the shortest one, and what follows.
+#[tactic(auto, unfolding(crate::specs::Headers::identifier_by))]
+pub fn read_identifier(shortest: bool, input: &[u8]) -> Result<(Identifier, &[u8]), Fault>
+    ensures exact { Gives identified result (identifier_by shortest input.now) }
     ensures octets { AreOctets input.now }
 {
     match input {
         [] => Err(Fault::Incomplete { needed: 1 }),
-        [first, rest @ ..] => {
-            let (number, rest) = read_tag_number(*first, rest)?;
+        [first, more @ ..] => {
+            let (number, rest) = read_tag_number(shortest, *first, more)?;
             let tag = Tag {
                 class: class_at(*first / 64),
                 value: number,
             };
             if is_end_of_contents(tag) {
                 return Err(Fault::UnexpectedEndOfContents);
+            }
+            if shortest && is_longer(*first, more, number) {
+                return Err(Fault::Der(DerDecodeErrorKind::NonMinimalTagNumber));
             }
             Ok((Identifier::from_tag(tag, *first % 64 >= 32), rest))
         }
@@ -181,55 +212,52 @@ fn take_octets(count: usize, input: &[u8]) -> Result<(&[u8], &[u8]), Fault>
     Ok(input.split_at(count))
 }
 
-#[tactic(auto, unfolding(crate::specs::Headers::long_at))]
-fn read_long(count: usize, input: &[u8]) -> Result<(Option<usize>, &[u8]), Fault>
-    ensures { Gives pair result (long_at count input.now) }
+fn begins_with_zero(octets: &[u8]) -> bool
+    ensures { result ≡ begins_with_zero octets.now }
 {
-    let (digits, rest) = take_octets(count, input)?;
-    Ok((Some(read_number256(digits)?), rest))
+    match octets {
+        [0, ..] => true,
+        _ => false,
+    }
 }
 
-/// A length, or none in the indefinite form, which may be allowed.
+/// Whether fewer octets would spell this length, which these spell.
+fn has_spare(octets: &[u8], length: usize) -> bool
+    ensures { result ≡ has_spare octets.now length }
+{
+    begins_with_zero(octets) || length < 128
+}
+
+#[tactic(auto, unfolding(crate::specs::Headers::long_at))]
+fn read_long(shortest: bool, count: usize, input: &[u8]) -> Result<(Option<usize>, &[u8]), Fault>
+    ensures { Gives pair result (long_at shortest count input.now) }
+{
+    let (octets, rest) = take_octets(count, input)?;
+    let length = read_number256(octets)?;
+    if shortest && has_spare(octets, length) {
+        return Err(Fault::Der(DerDecodeErrorKind::NonMinimalLength));
+    }
+    Ok((Some(length), rest))
+}
+
+/// A length, or none in the indefinite form, which a constructed encoding may have.
 #[tactic(auto, unfolding(crate::specs::Headers::length_at))]
-fn read_length(allowed: bool, input: &[u8]) -> Result<(Option<usize>, &[u8]), Fault>
-    ensures { Gives pair result (length_at allowed input.now) }
+fn read_length(
+    spelling: Spelling,
+    is_constructed: bool,
+    input: &[u8],
+) -> Result<(Option<usize>, &[u8]), Fault>
+    ensures { Gives pair result (length_at spelling is_constructed input.now) }
 {
     match input {
         [] => Err(Fault::Incomplete { needed: 1 }),
         [first, rest @ ..] => match *first {
             0..=0x7F => Ok((Some(usize::from(*first)), rest)),
-            0x80 if allowed => Ok((None, rest)),
+            0x80 if is_constructed && spelling.indefinite => Ok((None, rest)),
             0x80 => Err(Fault::IndefiniteLengthNotAllowed),
             0xFF => Err(Fault::ReservedLengthOctet),
-            _ => read_long(usize::from(*first - 128), rest),
+            _ => read_long(spelling.shortest, usize::from(*first - 128), rest),
         },
-    }
-}
-
-fn allows_indefinite(rule: Codec) -> bool
-    ensures { result ≡ has_indefinite rule }
-{
-    match rule {
-        Codec::Ber | Codec::Cer => true,
-        Codec::Der => false,
-    }
-}
-
-fn expect(expected: Option<Tag>, tag: Tag) -> Result<(), Fault>
-    ensures { Gives (λ _. record {}) result (expected_at expected tag) }
-{
-    match expected {
-        None => Ok(()),
-        Some(wanted) => {
-            if tag == wanted {
-                Ok(())
-            } else {
-                Err(Fault::MismatchedTag {
-                    expected: wanted,
-                    actual: tag,
-                })
-            }
-        }
     }
 }
 
@@ -262,17 +290,17 @@ fn read_contents(
 }
 
 /// The header of the value that begins the input, with its contents, and what follows.
-#[tactic(auto, unfolding(crate::specs::Headers::header_at))]
+#[tactic(auto, unfolding(crate::specs::Headers::header_by))]
 pub fn read_value(
-    rule: Codec,
-    expected: Option<Tag>,
+    spelling: Spelling,
+    expected: Expected,
     input: &[u8],
 ) -> Result<(Value<'_>, &[u8]), Fault>
-    ensures exact { Gives header result (header_at rule expected input.now) }
+    ensures exact { Gives header result (header_by spelling expected input.now) }
     ensures octets { AreOctets input.now }
 {
-    let (identifier, rest) = read_identifier(input)?;
-    expect(expected, identifier.tag)?;
-    let (length, rest) = read_length(identifier.is_constructed() && allows_indefinite(rule), rest)?;
+    let (identifier, rest) = read_identifier(spelling.shortest, input)?;
+    expected.check(identifier)?;
+    let (length, rest) = read_length(spelling, identifier.is_constructed(), rest)?;
     read_contents(identifier, length, rest)
 }

@@ -12,7 +12,7 @@ use rasn_types::types::Tag;
 
 impl<'input> Decoder<'input> {
     /// A value under a tag in front of its own (X.690 8.14.2; X.680 31.2.7): it stands alone in the contents of a value of the tag,
-    /// whose constructed bit isn't looked at.
+    /// whose constructed bit has to be set under DER, and isn't looked at otherwise.
     ///
     /// # Errors
     /// `ExceedsMaxParseDepth` before the header; framing faults; what the value refuses, and `UnexpectedExtraData`, which take header and

@@ -25,10 +25,7 @@ impl<'input> Decoder<'input> {
         ensures { Initial (λ g r. DF.post g r) default self.now result }
     {
         match default {
-            Some(initial) => match initial() {
-                Ok(value) => Ok(value),
-                Err(AllocError) => Err(self.error(Fault::OutOfMemory)),
-            },
+            Some(initial) => self.made(initial),
             None => Err(self.error(Fault::UnexpectedEmptyInput)),
         }
     }

@@ -5,7 +5,7 @@ ghost use Rattle.std.specs.Cow.{cow_slice_items, IsBorrowedSlice};
 ghost use Rattle.rasn_types.specs.declared.types.constraints.Constraints.{Constraints};
 ghost use Rattle.rasn_types.specs.Makes.{Relates};
 ghost use Rattle.rasn_types.specs.Shapes.{leaf, utc_time, generalized_time, date, instant, on_day};
-ghost use Rattle.rasn_types.specs.Times.{GeneralUtc, CanonicalUtc, GeneralGeneralized, CanonicalGeneralized, DateText};
+ghost use Rattle.rasn_types.specs.Times.{GeneralUtc, CanonicalUtc, GeneralGeneralized, StrictGeneralized, DateText};
 ghost use Rattle.rasn_types.specs.Grammar.{UtcText, GeneralizedText};
 ghost use Rattle.rasn_de.specs.Decodes.{Decodes};
 ghost use Rattle.rasn_de.specs.TimeTexts.{AtAnyOffset, TellsText, TellsMemory, Parses, ParsesCopied, GaveTime};
@@ -13,15 +13,12 @@ ghost use Rattle.rasn_de.specs.TimeTexts.{AtAnyOffset, TellsText, TellsMemory, P
 use crate::ber::de::Decoder;
 use rasn_types::ber::time::{
     parse_canonical_generalized_time, parse_canonical_utc_time, parse_date, parse_generalized_time,
-    parse_utc_time,
+    parse_strict_generalized_time, parse_utc_time,
 };
 use rasn_types::error::{BerDecodeErrorKind, CodecDecodeError, DecodeError, DecodeErrorKind};
 use rasn_types::types::{Codec, Date, GeneralizedTime, Tag, UtcTime};
 use std::alloc::Global;
 use std::borrow::CowSlice;
-
-#[cfg(test)]
-mod tests;
 
 /// The UTCTime of a text: of any form under BER, else of the canonical one.
 fn read_utc_time(rules: Codec, text: &[u8]) -> Option<UtcTime>
@@ -33,13 +30,14 @@ fn read_utc_time(rules: Codec, text: &[u8]) -> Option<UtcTime>
     }
 }
 
-/// The GeneralizedTime of a text: of any form under BER, else of the canonical one.
+/// The GeneralizedTime of a text: of any form under BER, of the canonical one under CER, of the shortest canonical one under DER.
 fn read_generalized_time(rules: Codec, text: &[u8]) -> Option<GeneralizedTime>
     ensures { Relates result (GeneralizedText rules text.now) }
 {
     match rules {
         Codec::Ber => parse_generalized_time(text),
-        Codec::Cer | Codec::Der => parse_canonical_generalized_time(text),
+        Codec::Cer => parse_canonical_generalized_time(text),
+        Codec::Der => parse_strict_generalized_time(text),
     }
 }
 
@@ -94,7 +92,8 @@ impl<'input> Decoder<'input> {
         }
     }
 
-    /// A GeneralizedTime (X.680 46): of any form under BER, else of the canonical one (X.690 11.7). A text without a zone is in UTC.
+    /// A GeneralizedTime (X.680 46): of any form under BER, else of the canonical one (X.690 11.7), under DER with at most nine digits
+    /// of a fraction, the last of which isn't 0. A text without a zone is in UTC.
     ///
     /// # Errors
     /// As `decode_utc_time`.
@@ -138,16 +137,17 @@ impl<'input> Decoder<'input> {
         }
     }
 
-    /// The GeneralizedTime of a text of the canonical form (X.690 11.7).
+    /// The GeneralizedTime of a text of the canonical form (X.690 11.7), as DER reads it: a fraction has at most nine digits, the last
+    /// of which isn't 0.
     ///
     /// # Errors
     /// `InvalidDate` with the whole text, under the name of BER.
     pub fn parse_canonical_generalized_time_string(
         text: String,
     ) -> Result<GeneralizedTime, DecodeError>
-        ensures { Parses CanonicalGeneralized (string_bytes text) result }
+        ensures { Parses StrictGeneralized (string_bytes text) result }
     {
-        match parse_canonical_generalized_time(text.as_bytes()) {
+        match parse_strict_generalized_time(text.as_bytes()) {
             Some(time) => Ok(time),
             None => Err(invalid_date(text.into_bytes(), Codec::Ber)),
         }

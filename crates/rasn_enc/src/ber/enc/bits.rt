@@ -8,22 +8,23 @@ ghost use Rattle.rasn_enc.specs.Wrote.{Wrote};
 ghost use Rattle.rasn_enc.specs.Refusals.{RefusesSize, MeetsSize};
 ghost use Rattle.rasn_enc.specs.BitSegments.{AreBits, WroteBitSegments, PutsBitSegments};
 
-use super::{Encoder, out_of_memory};
+use super::Encoder;
+use super::filled::Contents;
 use rasn_types::error::EncodeError;
 use rasn_types::types::{BitStr, Codec, Constraints, Identifier, Tag};
-use std::alloc::{AllocError, Global};
+use std::alloc::AllocError;
 
 // The bits of a segment under the canonical rules: 999 octets, which are 1000 with the count of unused bits (X.690 9.2).
 const SEGMENT_BITS: usize = 7992;
 
 // The contents of bits in one piece: the count of unused bits, and octets (X.690 8.6.2).
-fn packed(alloc: Global, value: &BitStr<'_>) -> Result<Vec<u8>, AllocError>
-    ensures { IfOk result (λ v. WrittenBits value.now v.items) }
-{
-    let mut contents = Vec::with_capacity(alloc, value.len() / 8 + 2)?;
-    contents.push(value.unused())?;
-    value.append_to(&mut contents)?;
-    Ok(contents)
+impl Contents for BitStr<'_> {
+    ghost IsWritten = { λ value contents. WrittenBits value contents };
+
+    fn append(&self, octets: &mut Vec<u8>) -> Result<(), AllocError> {
+        octets.push(self.unused())?;
+        self.append_to(octets)
+    }
 }
 
 impl Encoder {
@@ -56,7 +57,7 @@ impl Encoder {
     fn cuts_bits(&self, count: usize) -> bool
         ensures { MatchBool result (IsCer self.now.rule × (SEGMENT_BITS < count)) (IsCer self.now.rule → count ≤ SEGMENT_BITS) }
     {
-        matches!(self.rule, Codec::Cer) && count > SEGMENT_BITS
+        matches!(self.codec(), Codec::Cer) && count > SEGMENT_BITS
     }
 
     // Puts bits behind the last list, in one piece.
@@ -65,10 +66,7 @@ impl Encoder {
         ensures err { OnErr result (self.new ≡ self.old) }
         ensures memory { IfErr result (WantsMemory self.old.rule) }
     {
-        match packed(self.alloc, value) {
-            Ok(contents) => self.leaf(tag, &contents),
-            Err(_) => Err(out_of_memory(self.rule)),
-        }
+        self.leaf_of(tag, value)
     }
 
     // Writes bits in segments, as one constructed value.
@@ -78,14 +76,9 @@ impl Encoder {
         ensures err { OnErr result (self.new ≡ self.old) }
         ensures memory { IfErr result (WantsMemory self.old.rule) }
     {
-        self.begin(false)?;
-        match self.write_bit_segments(value) {
-            Ok(()) => self.finish(tag),
-            Err(error) => {
-                self.abandon();
-                Err(error)
-            }
-        }
+        self.open(false)?;
+        let outcome = self.write_bit_segments(value);
+        self.close(tag, outcome)
     }
 
     fn write_bit_segments(&mut self, value: &BitStr<'_>) -> Result<(), EncodeError>

@@ -1,10 +1,9 @@
 //! CHOICE (X.690 8.13).
 ghost use Rattle.std.specs.Prelude.{◌≡◌, IfErr, OnOk, OnErr};
-ghost use Rattle.std.specs.Fn.{FnOnceTakesAtMut, FnOnceReturnsAtMut};
+ghost use Rattle.std.specs.Fn.{FnOnceTakesAtMut};
 ghost use Rattle.rasn_enc.specs.Writing.{WritesBehind, Refuses, Ran};
 
 use super::Encoder;
-use super::open_list::{cut_back, mark};
 use rasn_types::error::EncodeError;
 use rasn_types::types::{AsnType, Constraints, Identifier, Tag};
 
@@ -27,24 +26,7 @@ impl Encoder {
         ensures err { OnErr result (self.new ≡ self.old) }
         ensures refused { IfErr result (Refuses F.FnOnce alternative self.old) }
     {
-        let end = mark(&self.last);
-        match choose(self, alternative) {
-            Ok(_) => Ok(()),
-            Err(error) => {
-                cut_back(&mut self.last, end);
-                Err(error)
-            }
-        }
+        let _ = self.attempt(alternative)?;
+        Ok(())
     }
-}
-
-// The call of a closure that writes an alternative.
-fn choose<F: FnOnce(&mut Encoder) -> Result<Tag, EncodeError>>(
-    encoder: &mut Encoder,
-    alternative: F,
-) -> Result<Tag, EncodeError>
-    requires { FnOnceTakesAtMut F.FnOnce alternative encoder.old }
-    ensures { FnOnceReturnsAtMut F.FnOnce alternative encoder.old result encoder.new }
-{
-    alternative(encoder)
 }

@@ -6,7 +6,7 @@ ghost use Rattle.rasn_enc.specs.Defaults.{WroteUnless, RefusesUnless, WritesDefa
 use super::{Encoder, out_of_memory};
 use crate::enc::Encode;
 use rasn_types::error::EncodeError;
-use rasn_types::types::{Constraints, Identifier, Tag};
+use rasn_types::types::{Constraints, Identifier, LawfulEq, Tag};
 use std::alloc::AllocError;
 
 impl Encoder {
@@ -14,7 +14,7 @@ impl Encoder {
     ///
     /// # Errors
     /// What the value refuses; want of memory of the default. Nothing is written then.
-    pub fn encode_default<E: Encode + PartialEq, F: FnOnce() -> Result<E, AllocError>>(
+    pub fn encode_default<E: Encode + LawfulEq, F: FnOnce() -> Result<E, AllocError>>(
         &mut self,
         value: &E,
         default: F,
@@ -39,7 +39,7 @@ impl Encoder {
     ///
     /// # Errors
     /// As `encode_default`.
-    pub fn encode_default_with_tag<E: Encode + PartialEq, F: FnOnce() -> Result<E, AllocError>>(
+    pub fn encode_default_with_tag<E: Encode + LawfulEq, F: FnOnce() -> Result<E, AllocError>>(
         &mut self,
         tag: Tag,
         value: &E,
@@ -66,7 +66,7 @@ impl Encoder {
     /// # Errors
     /// As `encode_default`.
     pub fn encode_default_with_constraints<
-        E: Encode + PartialEq,
+        E: Encode + LawfulEq,
         F: FnOnce() -> Result<E, AllocError>,
     >(
         &mut self,
@@ -95,7 +95,7 @@ impl Encoder {
     /// # Errors
     /// As `encode_default`.
     pub fn encode_default_with_tag_and_constraints<
-        E: Encode + PartialEq,
+        E: Encode + LawfulEq,
         F: FnOnce() -> Result<E, AllocError>,
     >(
         &mut self,
@@ -114,7 +114,7 @@ impl Encoder {
         match default() {
             Ok(default) if *value == default => Ok(()),
             Ok(_) => value.encode_with_tag_and_constraints(self, tag, constraints, identifier),
-            Err(AllocError) => Err(out_of_memory(self.rule)),
+            Err(AllocError) => Err(out_of_memory(self.codec())),
         }
     }
 }

@@ -1,9 +1,10 @@
 //! Identifier and length octets (X.690 8.1), each in the fewest octets.
-ghost use Rattle.std.specs.Prelude.{◌≡◌, ◌+◌, ◌*◌, ◌^◌, ◌/◌, ◌%◌, ◌<◌, ◌≤◌, ◌++◌, length, vec_len, vec_capacity, Bool};
-ghost use Rattle.rasn_types.specs.Tags.{rank as rank_of};
+ghost use Rattle.std.specs.Prelude.{◌≡◌, ◌+◌, ◌*◌, ◌^◌, ◌/◌, ◌%◌, ◌<◌, ◌≤◌, ◌++◌, length, get_or, vec_len, vec_capacity, Bool};
+ghost use Rattle.rasn_types.specs.Tags.{rank as rank_of, tag_bit};
 ghost use Rattle.rasn_types.specs.Framing.{bit_of};
-ghost use Rattle.rasn_enc.specs.Headers.{digits, chained, group_count, octet_count, id_octets, length_octets};
+ghost use Rattle.rasn_enc.specs.Headers.{digits, octet_count, id_octets, length_octets};
 
+use super::base_128::{count_groups, group_octet, write_groups};
 use rasn_types::types::{Class, Tag};
 
 /// The first octet of a length that isn't told, which closing octets end (X.690 8.1.3.6).
@@ -24,6 +25,7 @@ pub fn identifier_len(tag: Tag) -> usize
 /// How many octets a length takes in the definite form.
 pub fn length_len(count: usize) -> usize
     ensures exact { length (length_octets count) ≡ result }
+    ensures some { 0 < result }
     ensures small { result < 10 }
 {
     if count < 128 {
@@ -70,7 +72,8 @@ fn leading_octet(class: Class, constructed: bool, low: u8) -> u8
     64 * rank(class) + (bit + low)
 }
 
-fn rank(class: Class) -> u8
+/// The place of a class in the order of tags.
+pub fn rank(class: Class) -> u8
     ensures exact { result ≡ rank_of class }
     ensures small { result < 4 }
 {
@@ -79,23 +82,6 @@ fn rank(class: Class) -> u8
         Class::Application => 1,
         Class::Context => 2,
         Class::Private => 3,
-    }
-}
-
-/// How many groups of seven bits a number takes.
-pub fn count_groups(number: u32) -> usize
-    ensures { result ≡ group_count number }
-{
-    if number < 128 {
-        1
-    } else if number < 16_384 {
-        2
-    } else if number < 2_097_152 {
-        3
-    } else if number < 268_435_456 {
-        4
-    } else {
-        5
     }
 }
 
@@ -122,28 +108,6 @@ fn count_octets(number: usize) -> usize
     }
 }
 
-/// Writes a number in base 128, every octet but the last with its high bit set.
-pub fn write_groups(out: &mut Vec<u8>, number: u32)
-    requires { vec_len out.old + group_count number ≤ vec_capacity out.old }
-    ensures items { out.new.items ≡ out.old.items ++ chained (digits 128 (group_count number) number) }
-    ensures capacity { vec_capacity out.new ≡ vec_capacity out.old }
-{
-    let mut left = count_groups(number);
-    while left > 1 {
-        left -= 1;
-        out.push_reserved(128 + group_at(number, left));
-    }
-    out.push_reserved((number % 128) as u8);
-}
-
-fn group_at(number: u32, place: usize) -> u8
-    requires { place < 5 }
-    ensures exact { result ≡ number / 128 ^ place % 128 }
-    ensures small { result < 128 }
-{
-    ((number >> (7 * place)) % 128) as u8
-}
-
 // Writes a number in base 256.
 fn write_octets(out: &mut Vec<u8>, number: usize)
     requires { vec_len out.old + octet_count number ≤ vec_capacity out.old }
@@ -162,4 +126,42 @@ fn octet_at(number: usize, place: usize) -> u8
     ensures { result ≡ number / 256 ^ place % 256 }
 {
     ((number >> (8 * place)) % 256) as u8
+}
+
+/// One octet of an identifier.
+pub fn identifier_octet(tag: Tag, constructed: bool, i: usize) -> u8
+    requires { i < length (id_octets tag constructed) }
+    ensures { result ≡ get_or (id_octets tag constructed) i 0 }
+{
+    if tag.value < 31 {
+        leading_octet(tag.class, constructed, tag.value as u8)
+    } else if i == 0 {
+        leading_octet(tag.class, constructed, 31)
+    } else {
+        group_octet(tag.value, i - 1)
+    }
+}
+
+/// One octet of a length in the definite form.
+pub fn length_octet(count: usize, i: usize) -> u8
+    requires { i < length (length_octets count) }
+    ensures { result ≡ get_or (length_octets count) i 0 }
+{
+    if count < 128 {
+        count as u8
+    } else if i == 0 {
+        128 + count_octets(count) as u8
+    } else {
+        octet_at(count, count_octets(count) - i)
+    }
+}
+
+/// Whether the identifier of a tag has the constructed bit whatever is written.
+pub fn is_always_constructed(tag: Tag) -> bool
+    ensures { result ≡ tag_bit tag }
+{
+    match tag.class {
+        Class::Universal => tag.value == 8 || tag.value == 16 || tag.value == 17,
+        _ => false,
+    }
 }

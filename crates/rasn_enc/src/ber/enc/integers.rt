@@ -1,14 +1,16 @@
 //! Writing INTEGER.
-ghost use Rattle.std.specs.Prelude.{◌≡◌, ◌<◌, ◌≤ℤ◌, ◌⊎◌, length, IfErr, OnOk, OnErr};
-ghost use Rattle.rasn_types.specs.Shapes.{leaf, integer, number as number_tree, Admits};
+ghost use Rattle.std.specs.Prelude.{ℕ, List, ◌≡◌, ◌≤ℤ◌, ◌⊎◌, ◌++◌, IfErr, OnOk, OnErr};
+ghost use Rattle.rasn_types.specs.Shapes.{leaf, integer, number as number_tree, Admits, IsIn};
 ghost use Rattle.rasn_types.specs.Contents.{signed};
 ghost use Rattle.rasn_enc.specs.Primitives.{WantsMemory};
 ghost use Rattle.rasn_enc.specs.Wrote.{Wrote};
 ghost use Rattle.rasn_enc.specs.Refusals.{RefusesValue};
+ghost use Rattle.rasn_enc.specs.Integers.{PutsInteger};
 
 use super::{Encoder, out_of_memory};
 use rasn_types::error::{EncodeError, EncodeErrorKind};
-use rasn_types::types::{Constraints, Identifier, Integer, IntegerType, Tag};
+use rasn_types::types::{Codec, Constraints, Identifier, Integer, IntegerType, Tag};
+use std::alloc::Global;
 
 impl Encoder {
     /// Writes an INTEGER in the fewest octets (X.690 8.3). The name is ignored.
@@ -26,30 +28,54 @@ impl Encoder {
         ensures err { OnErr result (self.new ≡ self.old) }
         ensures refused { IfErr result (λ e. RefusesValue constraints.now (I.number value.now) self.old.rule e ⊎ WantsMemory self.old.rule e) }
     {
-        let mut contents = Vec::new(self.alloc);
-        let Ok(()) = value.append_octets(&mut contents) else {
-            return Err(out_of_memory(self.rule));
-        };
-        let octets = contents.as_slice();
-        if !constraints.admits_number(octets) {
-            return Err(self.refused_value(constraints, octets));
-        }
-        self.leaf(tag, octets)
+        let (alloc, rule) = (self.alloc(), self.codec());
+        self.leaf_with(tag, |octets: &mut Vec<u8>| {
+            write_integer(alloc, rule, constraints, value, octets)
+        })
     }
+}
 
-    fn refused_value(&self, constraints: &Constraints, octets: &[u8]) -> EncodeError
-        requires { Admits ◌≤ℤ◌ constraints.now.value (signed octets.now) → ⊥ }
-        ensures { RefusesValue constraints.now (signed octets.now) self.now.rule result ⊎ WantsMemory self.now.rule result }
-    {
-        match Integer::from_octets(self.alloc, octets) {
-            Ok(Some(value)) => EncodeError {
-                kind: EncodeErrorKind::ValueConstraintNotSatisfied {
-                    value,
-                    expected: constraints.value_bounds(),
-                },
-                codec: self.rule,
+// Puts the octets of a number behind those that are there, where it is within its bound.
+fn write_integer<I: IntegerType>(
+    alloc: Global,
+    rule: Codec,
+    constraints: &Constraints,
+    value: &I,
+    octets: &mut Vec<u8>,
+) -> Result<(), EncodeError>
+    ensures ok { OnOk result (PutsInteger constraints.now (I.number value.now) octets.old.items octets.new.items) }
+    ensures held { IsIn I.range (I.number value.now) }
+    ensures behind { (l : List ℕ) × (octets.new.items ≡ octets.old.items ++ l) }
+    ensures refused { IfErr result (λ e. RefusesValue constraints.now (I.number value.now) rule e ⊎ WantsMemory rule e) }
+{
+    let start = octets.len();
+    let Ok(()) = value.append_octets(octets) else {
+        return Err(out_of_memory(rule));
+    };
+    let contents = &octets[start..];
+    if !constraints.admits_number(contents) {
+        return Err(refused_value(alloc, rule, constraints, contents));
+    }
+    Ok(())
+}
+
+fn refused_value(
+    alloc: Global,
+    rule: Codec,
+    constraints: &Constraints,
+    octets: &[u8],
+) -> EncodeError
+    requires { Admits ◌≤ℤ◌ constraints.now.value (signed octets.now) → ⊥ }
+    ensures { RefusesValue constraints.now (signed octets.now) rule result ⊎ WantsMemory rule result }
+{
+    match Integer::from_octets(alloc, octets) {
+        Ok(Some(value)) => EncodeError {
+            kind: EncodeErrorKind::ValueConstraintNotSatisfied {
+                value,
+                expected: constraints.value_bounds(),
             },
-            _ => out_of_memory(self.rule),
-        }
+            codec: rule,
+        },
+        _ => out_of_memory(rule),
     }
 }

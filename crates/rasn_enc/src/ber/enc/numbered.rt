@@ -6,9 +6,6 @@ ghost use Rattle.rasn_enc.specs.Primitives.{WantsMemory};
 ghost use Rattle.rasn_enc.specs.Wrote.{Wrote};
 ghost use Rattle.rasn_enc.specs.ObjectIdentifiers.{RefusesArcs};
 
-#[cfg(test)]
-mod tests;
-
 use super::Encoder;
 use super::objects::append_contents;
 use rasn_types::error::{EncodeError, EncodeErrorKind};
@@ -60,9 +57,10 @@ impl Encoder {
         ensures err { OnErr result (self.new ≡ self.old) }
         ensures refused { IfErr result (λ e. RefusesArcs value.now self.old.rule e ⊎ WantsMemory self.old.rule e) }
     {
-        let mut contents = Vec::new(self.alloc);
-        append_contents(self.alloc, self.rule, value, &mut contents)?;
-        self.leaf(tag, &contents)
+        let (alloc, rule) = (self.alloc(), self.codec());
+        self.leaf_with(tag, |octets: &mut Vec<u8>| {
+            append_contents(alloc, rule, value, octets)
+        })
     }
 
     /// Refuses: REAL (X.690 8.5) isn't supported. Nothing is written.
@@ -81,7 +79,7 @@ impl Encoder {
     {
         Err(EncodeError {
             kind: EncodeErrorKind::RealNotSupported,
-            codec: self.rule,
+            codec: self.codec(),
         })
     }
 }

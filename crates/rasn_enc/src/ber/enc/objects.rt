@@ -4,7 +4,7 @@ ghost use Rattle.rasn_types.specs.declared.types.rules.Codec.TheVariants.{Ber};
 ghost use Rattle.rasn_enc.specs.ObjectIdentifiers.{HasOctets, IsFirst, AppendsOne, AppendsArcs, AppendsContents, RefusesArcs};
 ghost use Rattle.rasn_enc.specs.Primitives.{WantsMemory};
 
-use super::header::{count_groups, write_groups};
+use super::base_128::{count_groups, write_groups};
 use super::out_of_memory;
 use rasn_types::error::{BerEncodeErrorKind, CodecEncodeError, EncodeError, EncodeErrorKind};
 use rasn_types::types::Codec;

@@ -37,13 +37,8 @@ impl Encoder {
         ensures err { OnErr result (self.new ≡ self.old) }
         ensures refused { IfErr result (MayRefuse (prefix tag V.shape) (V.tree value.now) self.old) }
     {
-        self.begin(false)?;
-        match value.encode(self) {
-            Ok(()) => self.finish(tag),
-            Err(error) => {
-                self.abandon();
-                Err(error)
-            }
-        }
+        self.enclose(tag, false, |encoder: &mut Encoder| {
+            value.encode(encoder)
+        })
     }
 }

@@ -41,7 +41,7 @@ impl Encoder {
     fn is_cut(&self, count: usize) -> bool
         ensures { MatchBool result (IsCer self.now.rule × (SEGMENT < count)) (IsCer self.now.rule → count ≤ SEGMENT) }
     {
-        matches!(self.rule, Codec::Cer) && count > SEGMENT
+        matches!(self.codec(), Codec::Cer) && count > SEGMENT
     }
 
     pub(super) fn refused_size(&self, constraints: &Constraints, size: usize) -> EncodeError
@@ -53,7 +53,7 @@ impl Encoder {
                 size,
                 expected: constraints.size_bounds(),
             },
-            codec: self.rule,
+            codec: self.codec(),
         }
     }
 
@@ -64,14 +64,9 @@ impl Encoder {
         ensures err { OnErr result (self.new ≡ self.old) }
         ensures memory { IfErr result (WantsMemory self.old.rule) }
     {
-        self.begin(false)?;
-        match self.write_segments(value) {
-            Ok(()) => self.finish(tag),
-            Err(error) => {
-                self.abandon();
-                Err(error)
-            }
-        }
+        self.enclose(tag, false, |encoder: &mut Encoder| {
+            encoder.write_segments(value)
+        })
     }
 
     fn write_segments(&mut self, value: &[u8]) -> Result<(), EncodeError>

@@ -1,5 +1,5 @@
 //! Writing times, in their canonical forms (X.680 38.4.1; X.690 11.7, 11.8).
-ghost use Rattle.std.specs.Prelude.{◌≡◌, [], IfOk, IfErr, OnOk, OnErr};
+ghost use Rattle.std.specs.Prelude.{ℕ, List, ◌≡◌, ◌++◌, [], IfOk, IfErr, OnOk, OnErr};
 ghost use Rattle.rasn_types.specs.Calendar.{IsDay, IsMoment};
 ghost use Rattle.rasn_types.specs.Shapes.{leaf, utc_time, generalized_time, date, instant, on_day};
 ghost use Rattle.rasn_types.specs.Times.{written_utc, written_generalized, written_date};
@@ -13,58 +13,58 @@ use rasn_types::error::EncodeError;
 use rasn_types::types::{Codec, Date, GeneralizedTime, Identifier, Tag, UtcTime};
 use std::alloc::Global;
 
-#[cfg(test)]
-mod tests;
-
 // The octets that a time's text has room for at first: none has more.
 const TEXT_CAPACITY: usize = 27;
 
-fn empty_text(alloc: Global, codec: Codec) -> Result<Vec<u8>, EncodeError>
+fn empty_text(alloc: Global) -> Result<Vec<u8>, EncodeError>
     ensures ok { IfOk result (λ v. v.items ≡ []) }
-    ensures refused { IfErr result (WantsMemory codec) }
+    ensures refused { IfErr result (WantsMemory Ber) }
 {
     match Vec::with_capacity(alloc, TEXT_CAPACITY) {
         Ok(text) => Ok(text),
-        Err(_) => Err(out_of_memory(codec)),
+        Err(_) => Err(out_of_memory(Codec::Ber)),
     }
 }
 
-fn utc_text(alloc: Global, value: &UtcTime, codec: Codec) -> Result<Vec<u8>, EncodeError>
-    ensures ok { IfOk result (λ v. v.items ≡ written_utc value.now) }
-    ensures exists { OnOk result (IsMoment value.now) }
+// Puts the text of a UTCTime behind octets.
+fn put_utc(octets: &mut Vec<u8>, value: &UtcTime, codec: Codec) -> Result<(), EncodeError>
+    ensures ok { OnOk result (octets.new.items ≡ octets.old.items ++ written_utc value.now) }
+    ensures exists { IsMoment value.now }
+    ensures behind { (l : List ℕ) × (octets.new.items ≡ octets.old.items ++ l) }
     ensures refused { IfErr result (WantsMemory codec) }
 {
-    let mut text = empty_text(alloc, codec)?;
-    match write_utc_time(&mut text, value) {
-        Ok(()) => Ok(text),
+    match write_utc_time(octets, value) {
+        Ok(()) => Ok(()),
         Err(_) => Err(out_of_memory(codec)),
     }
 }
 
-fn generalized_text(
-    alloc: Global,
+// Puts the text of a GeneralizedTime behind octets.
+fn put_generalized(
+    octets: &mut Vec<u8>,
     value: &GeneralizedTime,
     codec: Codec,
-) -> Result<Vec<u8>, EncodeError>
-    ensures ok { IfOk result (λ v. v.items ≡ written_generalized value.now.moment) }
-    ensures exists { OnOk result (IsMoment value.now.moment) }
+) -> Result<(), EncodeError>
+    ensures ok { OnOk result (octets.new.items ≡ octets.old.items ++ written_generalized value.now.moment) }
+    ensures exists { IsMoment value.now.moment }
+    ensures behind { (l : List ℕ) × (octets.new.items ≡ octets.old.items ++ l) }
     ensures refused { IfErr result (WantsMemory codec) }
 {
-    let mut text = empty_text(alloc, codec)?;
-    match write_generalized_time(&mut text, value) {
-        Ok(()) => Ok(text),
+    match write_generalized_time(octets, value) {
+        Ok(()) => Ok(()),
         Err(_) => Err(out_of_memory(codec)),
     }
 }
 
-fn date_text(alloc: Global, value: &Date, codec: Codec) -> Result<Vec<u8>, EncodeError>
-    ensures ok { IfOk result (λ v. v.items ≡ written_date value.now) }
-    ensures exists { OnOk result (IsDay value.now) }
+// Puts the text of a DATE behind octets.
+fn put_date(octets: &mut Vec<u8>, value: &Date, codec: Codec) -> Result<(), EncodeError>
+    ensures ok { OnOk result (octets.new.items ≡ octets.old.items ++ written_date value.now) }
+    ensures exists { IsDay value.now }
+    ensures behind { (l : List ℕ) × (octets.new.items ≡ octets.old.items ++ l) }
     ensures refused { IfErr result (WantsMemory codec) }
 {
-    let mut text = empty_text(alloc, codec)?;
-    match write_date(&mut text, value) {
-        Ok(()) => Ok(text),
+    match write_date(octets, value) {
+        Ok(()) => Ok(()),
         Err(_) => Err(out_of_memory(codec)),
     }
 }
@@ -86,8 +86,8 @@ impl Encoder {
         ensures err { OnErr result (self.new ≡ self.old) }
         ensures refused { IfErr result (WantsMemory self.old.rule) }
     {
-        let text = utc_text(self.alloc(), value, self.codec())?;
-        self.leaf(tag, &text)
+        let codec = self.codec();
+        self.leaf_with(tag, |octets: &mut Vec<u8>| put_utc(octets, value, codec))
     }
 
     /// Writes a GeneralizedTime (X.690 11.7), in UTC whatever its offset. A year outside 0 to 9999 has a sign. The name is ignored.
@@ -104,8 +104,11 @@ impl Encoder {
         ensures err { OnErr result (self.new ≡ self.old) }
         ensures refused { IfErr result (WantsMemory self.old.rule) }
     {
-        let text = generalized_text(self.alloc(), value, self.codec())?;
-        self.leaf(tag, &text)
+        let codec = self.codec();
+        self.leaf_with(
+            tag,
+            |octets: &mut Vec<u8>| put_generalized(octets, value, codec),
+        )
     }
 
     /// Writes a DATE (X.680 38.4.1). A year outside 0 to 9999 has a sign. The name is ignored.
@@ -122,8 +125,8 @@ impl Encoder {
         ensures err { OnErr result (self.new ≡ self.old) }
         ensures refused { IfErr result (WantsMemory self.old.rule) }
     {
-        let text = date_text(self.alloc(), value, self.codec())?;
-        self.leaf(tag, &text)
+        let codec = self.codec();
+        self.leaf_with(tag, |octets: &mut Vec<u8>| put_date(octets, value, codec))
     }
 
     /// The text of a GeneralizedTime (X.690 11.7).
@@ -137,7 +140,9 @@ impl Encoder {
         ensures ok { IfOk result (λ v. v.items ≡ written_generalized value.now.moment) }
         ensures refused { IfErr result (WantsMemory Ber) }
     {
-        generalized_text(alloc, value, Codec::Ber)
+        let mut text = empty_text(alloc)?;
+        put_generalized(&mut text, value, Codec::Ber)?;
+        Ok(text)
     }
 
     /// The text of a UTCTime (X.690 11.8).
@@ -151,7 +156,9 @@ impl Encoder {
         ensures ok { IfOk result (λ v. v.items ≡ written_utc value.now) }
         ensures refused { IfErr result (WantsMemory Ber) }
     {
-        utc_text(alloc, value, Codec::Ber)
+        let mut text = empty_text(alloc)?;
+        put_utc(&mut text, value, Codec::Ber)?;
+        Ok(text)
     }
 
     /// The text of a DATE (X.680 38.4.1).
@@ -162,6 +169,8 @@ impl Encoder {
         ensures ok { IfOk result (λ v. v.items ≡ written_date value.now) }
         ensures refused { IfErr result (WantsMemory Ber) }
     {
-        date_text(alloc, value, Codec::Ber)
+        let mut text = empty_text(alloc)?;
+        put_date(&mut text, value, Codec::Ber)?;
+        Ok(text)
     }
 }

@@ -1,9 +1,9 @@
 //! Texts of times read.
-ghost use Rattle.std.specs.Prelude.{◌≡◌, ◌<◌, ◌<ℤ◌, ◌≤ℤ◌, pos, negsuc};
-ghost use Rattle.rasn_types.specs.Calendar.{Day, IsDay, IsMoment};
+ghost use Rattle.std.specs.Prelude.{◌≡◌, ◌<◌, ◌<ℤ◌, ◌≤ℤ◌, pos, negsuc, IsTrue, ◌↔◌};
+ghost use Rattle.rasn_types.specs.Calendar.{Day, IsDay, IsMoment, Stamp};
 ghost use Rattle.rasn_types.specs.Makes.{Makes, Relates};
 ghost use Rattle.rasn_types.specs.Spelling.{IsZone, billionths, minute_of, second_of, nanosecond_of, in_utc, offset_of};
-ghost use Rattle.rasn_types.specs.Times.{shown, stamp_of, century, GeneralUtc, CanonicalUtc, GeneralGeneralized, CanonicalGeneralized, DateText};
+ghost use Rattle.rasn_types.specs.Times.{shown, stamp_of, century, GeneralUtc, CanonicalUtc, GeneralGeneralized, CanonicalGeneralized, StrictGeneralized, IsShortFraction, DateText};
 
 use crate::ber::time::text::{Clock, Fields, Zone, date_parts, long_parts, short_parts};
 use crate::types::{Date, GeneralizedTime, UtcTime};
@@ -115,7 +115,7 @@ pub fn parse_generalized_time(text: &[u8]) -> Option<GeneralizedTime>
     stamp(year, &fields)
 }
 
-/// The GeneralizedTime of a text in the canonical form (X.690 11.7), as CER and DER read it: with seconds, a point before a fraction, and `Z`.
+/// The GeneralizedTime of a text in the canonical form (X.690 11.7), as CER reads it: with seconds, a point before a fraction, and `Z`.
 pub fn parse_canonical_generalized_time(text: &[u8]) -> Option<GeneralizedTime>
     ensures { Relates result (CanonicalGeneralized text.now) }
 {
@@ -124,6 +124,25 @@ pub fn parse_canonical_generalized_time(text: &[u8]) -> Option<GeneralizedTime>
         return None;
     }
     stamp(year, &parts)
+}
+
+/// Whether a canonical text is the shortest one: it has no fraction, or one of at most nine digits, the last of which isn't 0.
+fn is_shortest(text: &[u8]) -> bool
+    ensures { (t : Stamp) → (c : CanonicalGeneralized text.now t) → IsTrue result ↔ IsShortFraction c.rest.fraction }
+{
+    match text {
+        [.., last, _] => text.len() == 15 || (text.len() <= 25 && *last != b'0'),
+        _ => false,
+    }
+}
+
+/// The GeneralizedTime of a text in the canonical form, as DER reads it: a fraction has at most nine digits, the last of which isn't 0
+/// (X.690 11.7).
+pub fn parse_strict_generalized_time(text: &[u8]) -> Option<GeneralizedTime>
+    ensures { Relates result (StrictGeneralized text.now) }
+{
+    let time = parse_canonical_generalized_time(text)?;
+    if is_shortest(text) { Some(time) } else { None }
 }
 
 fn full_year(year: u8) -> u16

@@ -1,5 +1,5 @@
 //! Texts of times written, in their canonical forms (X.690 11.7, 11.8).
-ghost use Rattle.std.specs.Prelude.{◌≡◌, ◌<◌, ◌≤ℤ◌, ◌++◌, IfOk, map, ◌+◌, pos, negsuc, unsigned_abs};
+ghost use Rattle.std.specs.Prelude.{ℕ, List, ◌≡◌, ◌<◌, ◌≤ℤ◌, ◌++◌, IfOk, OnErr, map, ◌+◌, pos, negsuc, unsigned_abs};
 ghost use Rattle.std.specs.Int.{int_rem_euclid};
 ghost use Rattle.rasn_types.specs.Calendar.{IsDay, IsMoment};
 ghost use Rattle.rasn_types.specs.Spelling.{two, four};
@@ -11,7 +11,8 @@ use std::alloc::AllocError;
 /// Two digits.
 fn push_two(out: &mut Vec<u8>, number: u8) -> Result<(), AllocError>
     requires { number < 100 }
-    ensures { IfOk result (λ _. out.new.items ≡ out.old.items ++ two number) }
+    ensures ok { IfOk result (λ _. out.new.items ≡ out.old.items ++ two number) }
+    ensures err { OnErr result ((l : List ℕ) × (out.new.items ≡ out.old.items ++ l)) }
 {
     out.push(b'0' + number / 10)?;
     out.push(b'0' + number % 10)?;
@@ -20,7 +21,8 @@ fn push_two(out: &mut Vec<u8>, number: u8) -> Result<(), AllocError>
 
 fn push_four(out: &mut Vec<u8>, number: u16) -> Result<(), AllocError>
     requires { number < 10000 }
-    ensures { IfOk result (λ _. out.new.items ≡ out.old.items ++ four number) }
+    ensures ok { IfOk result (λ _. out.new.items ≡ out.old.items ++ four number) }
+    ensures err { OnErr result ((l : List ℕ) × (out.new.items ≡ out.old.items ++ l)) }
 {
     push_two(out, (number / 100) as u8)?;
     push_two(out, (number % 100) as u8)
@@ -29,7 +31,8 @@ fn push_four(out: &mut Vec<u8>, number: u16) -> Result<(), AllocError>
 /// A year of any number of digits, at least four.
 fn push_long(out: &mut Vec<u8>, number: u32) -> Result<(), AllocError>
     requires { number < 100000 }
-    ensures { IfOk result (λ _. out.new.items ≡ out.old.items ++ long_year number) }
+    ensures ok { IfOk result (λ _. out.new.items ≡ out.old.items ++ long_year number) }
+    ensures err { OnErr result ((l : List ℕ) × (out.new.items ≡ out.old.items ++ l)) }
 {
     if number < 10000 {
         push_four(out, number as u16)
@@ -42,7 +45,8 @@ fn push_long(out: &mut Vec<u8>, number: u32) -> Result<(), AllocError>
 fn push_year(out: &mut Vec<u8>, year: i32) -> Result<(), AllocError>
     requires from { negsuc 99998 ≤ℤ year }
     requires to { year ≤ℤ pos 99999 }
-    ensures { IfOk result (λ _. out.new.items ≡ out.old.items ++ written_year year) }
+    ensures ok { IfOk result (λ _. out.new.items ≡ out.old.items ++ written_year year) }
+    ensures err { OnErr result ((l : List ℕ) × (out.new.items ≡ out.old.items ++ l)) }
 {
     if 0 <= year && year <= 9999 {
         push_four(out, year as u16)
@@ -56,6 +60,7 @@ fn push_year(out: &mut Vec<u8>, year: i32) -> Result<(), AllocError>
 #[tactic(auto, unfolding(crate::specs::Times::written_date))]
 pub fn write_date(out: &mut Vec<u8>, value: &Date) -> Result<(), AllocError>
     ensures ok { IfOk result (λ _. out.new.items ≡ out.old.items ++ written_date value.now) }
+    ensures err { OnErr result ((l : List ℕ) × (out.new.items ≡ out.old.items ++ l)) }
     ensures exists { IsDay value.now }
 {
     push_year(out, value.year())?;
@@ -66,7 +71,8 @@ pub fn write_date(out: &mut Vec<u8>, value: &Date) -> Result<(), AllocError>
 /// The digits of a number of billionths, without zeros at the end.
 fn push_digits(out: &mut Vec<u8>, billionths: u32) -> Result<(), AllocError>
     requires { billionths < 1000000000 }
-    ensures { IfOk result (λ _. out.new.items ≡ out.old.items ++ map (λ d. 48 + d) (digits_of 9 billionths)) }
+    ensures ok { IfOk result (λ _. out.new.items ≡ out.old.items ++ map (λ d. 48 + d) (digits_of 9 billionths)) }
+    ensures err { OnErr result ((l : List ℕ) × (out.new.items ≡ out.old.items ++ l)) }
 {
     let mut place = 9u32;
     let mut left = billionths;
@@ -81,7 +87,8 @@ fn push_digits(out: &mut Vec<u8>, billionths: u32) -> Result<(), AllocError>
 
 fn push_fraction(out: &mut Vec<u8>, billionths: u32) -> Result<(), AllocError>
     requires { billionths < 1000000000 }
-    ensures { IfOk result (λ _. out.new.items ≡ out.old.items ++ written_fraction billionths) }
+    ensures ok { IfOk result (λ _. out.new.items ≡ out.old.items ++ written_fraction billionths) }
+    ensures err { OnErr result ((l : List ℕ) × (out.new.items ≡ out.old.items ++ l)) }
 {
     if billionths == 0 {
         return Ok(());
@@ -115,7 +122,8 @@ fn shown_fraction(value: &UtcTime) -> u32
 
 fn push_clock(out: &mut Vec<u8>, value: &UtcTime) -> Result<(), AllocError>
     requires { IsMoment value.now }
-    ensures { IfOk result (λ _. out.new.items ≡ out.old.items ++ clock_written value.now) }
+    ensures ok { IfOk result (λ _. out.new.items ≡ out.old.items ++ clock_written value.now) }
+    ensures err { OnErr result ((l : List ℕ) × (out.new.items ≡ out.old.items ++ l)) }
 {
     push_two(out, value.hour())?;
     push_two(out, value.minute())?;
@@ -126,6 +134,7 @@ fn push_clock(out: &mut Vec<u8>, value: &UtcTime) -> Result<(), AllocError>
 #[tactic(auto, unfolding(crate::specs::Times::written_generalized))]
 pub fn write_generalized_time(out: &mut Vec<u8>, value: &GeneralizedTime) -> Result<(), AllocError>
     ensures ok { IfOk result (λ _. out.new.items ≡ out.old.items ++ written_generalized value.now.moment) }
+    ensures err { OnErr result ((l : List ℕ) × (out.new.items ≡ out.old.items ++ l)) }
     ensures exists { IsMoment value.now.moment }
 {
     let value = value.utc();
@@ -149,6 +158,7 @@ fn year_in_century(date: &Date) -> u8
 #[tactic(auto, unfolding(crate::specs::Times::written_utc))]
 pub fn write_utc_time(out: &mut Vec<u8>, value: &UtcTime) -> Result<(), AllocError>
     ensures ok { IfOk result (λ _. out.new.items ≡ out.old.items ++ written_utc value.now) }
+    ensures err { OnErr result ((l : List ℕ) × (out.new.items ≡ out.old.items ++ l)) }
     ensures exists { IsMoment value.now }
 {
     let date = value.date();

@@ -66,21 +66,3 @@ fn is_printable_mark(octet: u8) -> bool
 {
     b" '()+,-./:=?".contains(&octet)
 }
-
-#[cfg(test)]
-mod tests {
-    use super::*;
-
-    #[test]
-    fn alphabets_are_those_of_the_standard(rt: HostRuntime) {
-        for (alphabet, octets, foreign) in [
-            (Alphabet::Numeric, b"1 2a", Some(3)),
-            (Alphabet::Printable, b"A?*b", Some(2)),
-            (Alphabet::Visible, b"~ a\x7F", Some(3)),
-            (Alphabet::Ia5, b"A\x80\x81b", Some(1)),
-            (Alphabet::Every, b"\xC8\x00\xFFa", None),
-        ] {
-            assert_eq!(rt; alphabet.first_foreign(octets), foreign);
-        }
-    }
-}

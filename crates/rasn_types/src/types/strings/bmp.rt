@@ -1,6 +1,8 @@
 //! BMPString.
-ghost use Rattle.std.specs.Prelude.{◌≡◌, IfOk, MatchOption};
+ghost use Rattle.std.specs.Prelude.{◌≡◌, nat_eq, IfOk, MatchOption};
+ghost use Rattle.std.specs.Cmp.Lexicographic.{pointwise};
 ghost use Rattle.rasn_types.specs.Characters.{ArePaired, units_of};
+ghost use Rattle.rasn_types.specs.Framing.{AreOctets};
 
 use crate::types::{AsnType, Constraints, Tag};
 use std::alloc::{AllocError, Global};
@@ -58,24 +60,39 @@ impl BmpString {
     }
 }
 
+// Octets that are whole units are equal where their units are.
+fn are_equal(octets: &[u8], others: &[u8]) -> bool
+    requires paired { ArePaired octets.now × ArePaired others.now }
+    requires octets { AreOctets octets.now × AreOctets others.now }
+    ensures { result ≡ pointwise nat_eq (units_of octets.now) (units_of others.now) }
+{
+    octets == others
+}
+
 impl PartialEq for BmpString {
     ghost use Rattle.std.specs.Prelude.{nat_eq};
-    ghost use Rattle.std.specs.Cmp.{partial_equiv_from_equiv};
+    ghost use Rattle.std.specs.Cmp.{on_per, partial_equiv_from_equiv};
     ghost use Rattle.std.specs.Cmp.Lexicographic.{pointwise, nat_list_eq_equiv};
+    ghost use Rattle.std.specs.Ordering.{on};
+    ghost use Rattle.rasn_types.specs.Characters.{units_of};
 
-    ghost eq = { pointwise nat_eq };
+    ghost eq = { on units_of (pointwise nat_eq) };
 
-    ghost laws = { partial_equiv_from_equiv nat_list_eq_equiv };
+    ghost laws = { on_per units_of (partial_equiv_from_equiv nat_list_eq_equiv) };
 
     fn eq(&self, other: &BmpString) -> bool {
-        self.octets == other.octets
+        let octets = self.as_octets();
+        let others = other.as_octets();
+        are_equal(octets, others)
     }
 }
 
 impl Eq for BmpString {
+    ghost use Rattle.std.specs.Cmp.{on_equiv};
     ghost use Rattle.std.specs.Cmp.Lexicographic.{nat_list_eq_equiv};
+    ghost use Rattle.rasn_types.specs.Characters.{units_of};
 
-    ghost laws = { nat_list_eq_equiv };
+    ghost laws = { on_equiv units_of nat_list_eq_equiv };
 }
 
 impl AsnType for BmpString {

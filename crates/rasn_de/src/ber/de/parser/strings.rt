@@ -1,18 +1,21 @@
 //! Strings: primitive, or gathered from segments (X.690 8.6.4, 8.7.3, 8.23).
 ghost use Rattle.std.specs.Prelude.{◌≡◌, List, ℕ, MatchOption, Result};
 ghost use Rattle.rasn_de.specs.declared.ber.de.parser.Fault.{Fault};
+ghost use Rattle.rasn_types.specs.declared.types.rules.Codec.{Codec};
 ghost use Rattle.rasn_types.specs.Framing.{AreOctets};
 ghost use Rattle.rasn_de.specs.Headers.{is_der};
 ghost use Rattle.rasn_de.specs.Octets.{octets_at, Finds, ShowsForm};
 ghost use Rattle.rasn_de.specs.Strings.{ends, closed_at, finished, inner, string_of, octets};
 ghost use Rattle.rasn_de.specs.Views.{Gives, IsNestedValue, IsPlainValue, Appends, AppendsPart, extent, header};
 
+use crate::ber::de::parser::headers::{Expected, Spelling};
 use crate::ber::de::parser::{Contents, Fault, Value, read_value};
+use rasn_types::error::DerDecodeErrorKind;
 use rasn_types::types::{Codec, Tag};
 use std::alloc::Global;
 use std::borrow::CowSlice;
 
-fn is_der_rule(rule: Codec) -> bool
+pub(crate) fn is_der_rule(rule: Codec) -> bool
     ensures { result ≡ is_der rule }
 {
     match rule {
@@ -87,10 +90,10 @@ pub trait Segmented: Drop {
 
     ghost items: { Self → List Self.Item };
 
-    ghost segment: { List ℕ → Result (List Self.Item) Fault };
+    ghost segment: { Codec → List ℕ → Result (List Self.Item) Fault };
 
-    fn append_segment(&mut self, octets: &[u8]) -> Result<(), Fault>
-        ensures { AppendsPart (segment octets.now) (items self.old) (items self.new) result };
+    fn append_segment(&mut self, rules: Codec, octets: &[u8]) -> Result<(), Fault>
+        ensures { AppendsPart (segment rules octets.now) (items self.old) (items self.new) result };
 }
 
 impl Segmented for Vec<u8> {
@@ -98,9 +101,9 @@ impl Segmented for Vec<u8> {
 
     ghost items = { λ v. v.items };
 
-    ghost segment = { octets };
+    ghost segment = { λ rules. octets };
 
-    fn append_segment(&mut self, octets: &[u8]) -> Result<(), Fault> {
+    fn append_segment(&mut self, _rules: Codec, octets: &[u8]) -> Result<(), Fault> {
         match self.extend_from_slice(octets) {
             Ok(()) => Ok(()),
             Err(_) => Err(Fault::OutOfMemory),
@@ -131,21 +134,21 @@ pub fn string_contents<'a, T: Segmented>(
     rest: &'a [u8],
     out: &mut T,
 ) -> Result<&'a [u8], Fault>
-    ensures { Appends (string_of rule T.segment tag depth (header (value.entry, rest.entry))) (T.items out.old) (T.items out.new) result }
+    ensures { Appends (string_of rule (T.segment rule) tag depth (header (value.entry, rest.entry))) (T.items out.old) (T.items out.new) result }
 {
     if let Some(segment) = segment_of(value) {
-        out.append_segment(segment)?;
+        out.append_segment(rule, segment)?;
         return Ok(rest);
     }
     if is_der_rule(rule) {
-        return Err(Fault::ConstructedEncodingNotAllowed);
+        return Err(Fault::Der(DerDecodeErrorKind::ConstructedEncodingNotAllowed));
     }
     if depth == 0 {
         return Err(Fault::ExceedsMaxParseDepth);
     }
     let mut left = held(value.contents, rest);
     'segments: while !has_ended(left) {
-        let (segment, after) = read_value(rule, Some(tag), left)?;
+        let (segment, after) = read_value(Spelling::of_rule(rule), Expected::Tagged(tag), left)?;
         left = string_contents(rule, tag, depth - 1, segment, after, out)?;
     }
     finish(value.contents, rest, left)
@@ -163,7 +166,7 @@ pub fn read_octets(
     ensures form { ShowsForm rules tag input.now result }
     ensures octets { AreOctets input.now }
 {
-    let (value, rest) = read_value(rules, Some(tag), input)?;
+    let (value, rest) = read_value(Spelling::of_rule(rules), Expected::Tagged(tag), input)?;
     if let Some(segment) = segment_of(value) {
         return Ok((CowSlice::Borrowed(segment), rest));
     }

@@ -5,9 +5,9 @@ use Rattle.rasn_de.proofs.ber.de.Decoder.contents.Goals as goal
 pub returns-in_err-value-clause-gave : goal.returns-in_err-value-clause-gave
 returns-in_err-value-clause-gave c =
     let p = err_from_is_err_and c.from_residual.result c.from_residual.ensures.1 in
-    rw (p.1, p.2) (header_refused c.args.tag c.args.self.now _ _ c.in_err-value.ensures.taken)
+    rw (p.1, p.2) (header_refused c.args.tag c.args.self.now _ _ c.leaf.result (rw (← c.codec.ensures) c.leaf.ensures) c.in_err-value.ensures.taken)
 
 pub returns-in-Indefinite-clause-gave : goal.returns-in-Indefinite-clause-gave
 returns-in-Indefinite-clause-gave c =
     let t = c.in_ok-value.ensures.taken in
-    indefinite_refused c.args.tag c.args.self.now _ _ _ t.0 c.in-Indefinite.is t.1 c.error.ensures
+    indefinite_refused c.args.tag c.args.self.now _ _ _ c.leaf.result (rw (← c.codec.ensures) c.leaf.ensures) t.0 c.in-Indefinite.is t.1 c.error.ensures

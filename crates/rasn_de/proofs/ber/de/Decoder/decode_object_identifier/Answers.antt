@@ -13,7 +13,7 @@ returns-in_err-contents-clause-reads c = object_decodes c.args.tag c.args.self.n
 pub returns-clause-refused : goal.returns-clause-refused
 returns-clause-refused c =
     let t = c.in_ok-contents.ensures.gave in
-    object_framed c.args.tag c.args.self.now _ _ _ t.0 t.1 c.decode_object_identifier_from_bytes.ensures.refused
+    object_framed c.args.tag c.args.self.now _ _ _ t.0 t.1 (rw (← c.codec-rules.ensures) c.object_identifier.ensures)
 
 pub returns-clause-reads : goal.returns-clause-reads
 returns-clause-reads c = object_decodes c.args.tag c.args.self.now _ _ c.contents.ensures.octets (returns-clause-refused c)

@@ -1,9 +1,9 @@
 use Rattle.std.proofs.Common.{ℕ, ap}
 use Rattle.std.specs.declared.alloc.Global.{Global}
 use Rattle.std.specs.declared.vec.Vec.{Vec}
-use Rattle.rasn_types.specs.Times.{CanonicalGeneralized}
+use Rattle.rasn_types.specs.Times.{StrictGeneralized}
 use Rattle.rasn_de.proofs.TimeReads.{parsed_none}
 use Rattle.rasn_de.proofs.ber.de.Decoder.parse_canonical_generalized_time_string.Goals as goal
 
 pub returns-in-None : goal.returns-in-None
-returns-in-None c = parsed_none CanonicalGeneralized _ _ _ c.invalid_date.result c.as_bytes.ensures.value (ap (λ (v : Vec ℕ Global). v.items) c.into_bytes.ensures.value) c.in-None.ensures c.invalid_date.ensures
+returns-in-None c = parsed_none StrictGeneralized _ _ _ c.invalid_date.result c.as_bytes.ensures.value (ap (λ (v : Vec ℕ Global). v.items) c.into_bytes.ensures.value) c.in-None.ensures c.invalid_date.ensures

@@ -1,11 +1,12 @@
-use Rattle.rasn_de.proofs.Peeks.{next_found, next_none, next_memory, kind_memory}
+use Rattle.rasn_types.specs.Tags.{form}
+use Rattle.rasn_de.proofs.Peeks.{next_read, next_unread, next_memory, kind_memory}
 use Rattle.rasn_de.proofs.ber.de.Decoder.peek_tag.Goals as goal
 
 pub returns-in-Ok-clause-next : goal.returns-in-Ok-clause-next
-returns-in-Ok-clause-next c = rw (← c.self.view_is) (next_found c.self.inside.rest.now _ c.read_identifier.ensures.octets c.in-Ok.ensures.exact)
+returns-in-Ok-clause-next c = rw (← c.self.view_is) (next_read (form c.self.inside.rules) _ c.of_rule.ensures c.self.inside.rest.now _ c.read_identifier.ensures.octets c.in-Ok.ensures.exact)
 
 pub returns-in-Err-clause-next : goal.returns-in-Err-clause-next
-returns-in-Err-clause-next c = rw (← c.self.view_is) (next_none c.self.inside.rest.now _ c.in-Err.ensures.exact)
+returns-in-Err-clause-next c = rw (← c.self.view_is) (next_unread (form c.self.inside.rules) _ c.of_rule.ensures c.self.inside.rest.now _ c.in-Err.ensures.exact)
 
 pub returns-in-Err-clause-memory : goal.returns-in-Err-clause-memory
-returns-in-Err-clause-memory c = rw c.error.ensures (kind_memory _ (next_memory c.self.inside.rest.now _ c.in-Err.ensures.exact))
+returns-in-Err-clause-memory c = rw c.error.ensures (kind_memory _ (next_memory _ c.self.inside.rest.now _ c.in-Err.ensures.exact))

@@ -1,6 +1,6 @@
-use Rattle.std.proofs.Common.{◌∙◌}
-use Rattle.rasn_enc.proofs.TimeLeaves.{utc_wrote}
+use Rattle.std.proofs.Common.{rules}
+use Rattle.rasn_enc.proofs.TimeLeaves.{utc_filled}
 use Rattle.rasn_enc.proofs.ber.enc.Encoder.encode_utc_time.Goals as goal
 
 pub returns-clause-ok : goal.returns-clause-ok
-returns-clause-ok c = utc_wrote c.leaf.result c.args.tag c.args.value.now c.deref.result.now _ _ (c.deref.ensures.value ∙ c.in_ok-text.ensures.ok) c.in_ok-text.ensures.exists c.leaf.ensures.ok
+returns-clause-ok c = utc_filled _ _ c.args.tag c.args.value.now _ _ _ c.leaf_with.ensures.ok (λ x y k. (search rules, search rules))

@@ -3,7 +3,7 @@ use Rattle.rasn_de.proofs.Arcs.{ArcsSoFar}
 use Rattle.rasn_de.proofs.ber.de.parser.objects.read_object_identifier.Given as goal
 
 abbrev pub invariant-loop-rest : goal.invariant-loop-rest
-invariant-loop-rest l = ArcsSoFar l.fn.contents l.rest l.arcs.items
+invariant-loop-rest l = ArcsSoFar l.fn.rules l.fn.contents l.rest l.arcs.items
 
 abbrev pub decreases-loop-rest : goal.decreases-loop-rest
 decreases-loop-rest l = length l.rest

@@ -1,6 +1,10 @@
-use Rattle.std.proofs.Common.{◌-◌, ◌<◌, ◌≤◌, length, Some, sym, ◌∙◌, arith}
+use Rattle.std.proofs.Common.{◌-◌, ◌<◌, ◌≤◌, length, sym, ◌∙◌, arith}
 use Rattle.std.proofs.lemmas.Result.{err_from_is_err_and}
+use Rattle.rasn_types.specs.Tags.{form}
+use Rattle.rasn_de.specs.declared.ber.de.parser.headers.Expected.TheVariants.{Tagged}
+use Rattle.rasn_de.specs.Headers.{spelled}
 use Rattle.rasn_de.specs.Strings.{segment_at}
+use Rattle.rasn_de.proofs.Frames.{spelled_by}
 use Rattle.rasn_de.proofs.Shorter.{header_shorter}
 use Rattle.rasn_de.proofs.Segments.{gathering_start, gathering_step, gathering_end, gathering_fault, segment_shorter, string_der, string_deep, string_nested, string_plain, string_plain_fault, string_shorter, segment_fault, segment_found}
 use Rattle.rasn_de.specs.Views.{extent, header}
@@ -11,58 +15,58 @@ pub returns-in-Some : goal.returns-in-Some
 returns-in-Some g t c =
     let e = c.in_ok-append_segment.ensures in (
       e.0,
-      string_plain c.args.rule g.T.Segmented.segment c.args.tag c.args.depth (header (c.args.value, c.args.rest)) c.in-Some.segment.now e.0 c.in-Some.ensures.0 c.in-Some.ensures.1 e.1,
+      string_plain c.args.rule (g.T.Segmented.segment c.args.rule) c.args.tag c.args.depth (header (c.args.value, c.args.rest)) c.in-Some.segment.now e.0 c.in-Some.ensures.0 c.in-Some.ensures.1 e.1,
       e.2,
     )
 
 pub returns-in_err-append_segment : goal.returns-in_err-append_segment
 returns-in_err-append_segment g t c =
     let p = err_from_is_err_and c.from_residual.result c.from_residual.ensures.1 in
-    rw (p.1, p.2) (λ n. string_plain_fault c.args.rule g.T.Segmented.segment c.args.tag c.args.depth (header (c.args.value, c.args.rest)) c.in-Some.segment.now _ c.in-Some.ensures.0 c.in-Some.ensures.1 (c.in_err-append_segment.ensures n))
+    rw (p.1, p.2) (λ n. string_plain_fault c.args.rule (g.T.Segmented.segment c.args.rule) c.args.tag c.args.depth (header (c.args.value, c.args.rest)) c.in-Some.segment.now _ c.in-Some.ensures.0 c.in-Some.ensures.1 (c.in_err-append_segment.ensures n))
 
 pub returns-then-is_der_rule : goal.returns-then-is_der_rule
 returns-then-is_der_rule g t c = λ n.
-    string_der c.args.rule g.T.Segmented.segment c.args.tag c.args.depth (header (c.args.value, c.args.rest)) c.in_default.ensures (sym c.is_der_rule.ensures ∙ c.if-is_der_rule.true)
+    string_der c.args.rule (g.T.Segmented.segment c.args.rule) c.args.tag c.args.depth (header (c.args.value, c.args.rest)) c.in_default.ensures (sym c.is_der_rule.ensures ∙ c.if-is_der_rule.true)
 
 pub returns-then-depth-eq0 : goal.returns-then-depth-eq0
 returns-then-depth-eq0 g t c = λ n.
-    string_deep c.args.rule g.T.Segmented.segment c.args.tag c.args.depth (header (c.args.value, c.args.rest)) c.in_default.ensures (sym c.is_der_rule.ensures ∙ c.if-is_der_rule.false) c.if-depth-eq0.true
+    string_deep c.args.rule (g.T.Segmented.segment c.args.rule) c.args.tag c.args.depth (header (c.args.value, c.args.rest)) c.in_default.ensures (sym c.is_der_rule.ensures ∙ c.if-is_der_rule.false) c.if-depth-eq0.true
 
 pub returns-in_err-segment : goal.returns-in_err-segment
 returns-in_err-segment g t c =
     let p = err_from_is_err_and c.from_residual-in_err-segment.result c.from_residual-in_err-segment.ensures.1 in
-    let whole = string_nested c.args.rule g.T.Segmented.segment c.args.tag c.args.depth (header (c.args.value, c.args.rest)) c.in_default.ensures (sym c.is_der_rule.ensures ∙ c.if-is_der_rule.false) c.if-depth-eq0.false in
-    rw (p.1, p.2) (λ n. appends_fault (segment_at c.args.rule g.T.Segmented.segment c.args.tag (c.args.depth - 1)) _ (extent c.args.value.contents) c.args.rest.now (g.T.Segmented.items c.args.out.now) (g.T.Segmented.items c.segments.out) _ whole
-    (gathering_fault (segment_at c.args.rule g.T.Segmented.segment c.args.tag (c.args.depth - 1)) _ c.segments.left.now _ _ _ c.segments.invariant (sym c.has_ended.ensures ∙ c.segments-test.true)
-    (segment_fault c.args.rule g.T.Segmented.segment c.args.tag (c.args.depth - 1) c.segments.left.now _ c.in_err-segment.ensures.exact)))
+    let whole = string_nested c.args.rule (g.T.Segmented.segment c.args.rule) c.args.tag c.args.depth (header (c.args.value, c.args.rest)) c.in_default.ensures (sym c.is_der_rule.ensures ∙ c.if-is_der_rule.false) c.if-depth-eq0.false in
+    rw (p.1, p.2) (λ n. appends_fault (segment_at c.args.rule (g.T.Segmented.segment c.args.rule) c.args.tag (c.args.depth - 1)) _ (extent c.args.value.contents) c.args.rest.now (g.T.Segmented.items c.args.out.now) (g.T.Segmented.items c.segments.out) _ whole
+    (gathering_fault (segment_at c.args.rule (g.T.Segmented.segment c.args.rule) c.args.tag (c.args.depth - 1)) _ c.segments.left.now _ _ _ c.segments.invariant (sym c.has_ended.ensures ∙ c.segments-test.true)
+    (segment_fault c.args.rule (g.T.Segmented.segment c.args.rule) c.args.tag (c.args.depth - 1) c.segments.left.now _ (spelled_by (form c.args.rule) _ c.of_rule.ensures (Tagged c.args.tag) c.segments.left.now _ c.in_err-segment.ensures.exact))))
 
 pub returns-in_err-left : goal.returns-in_err-left
 returns-in_err-left g t c =
     let p = err_from_is_err_and c.from_residual-in_err-left.result c.from_residual-in_err-left.ensures.1 in
-    let whole = string_nested c.args.rule g.T.Segmented.segment c.args.tag c.args.depth (header (c.args.value, c.args.rest)) c.in_default.ensures (sym c.is_der_rule.ensures ∙ c.if-is_der_rule.false) c.if-depth-eq0.false in
-    rw (p.1, p.2) (λ n. appends_fault (segment_at c.args.rule g.T.Segmented.segment c.args.tag (c.args.depth - 1)) _ (extent c.args.value.contents) c.args.rest.now (g.T.Segmented.items c.args.out.now) (g.T.Segmented.items c.segments.out) _ whole
-    (gathering_fault (segment_at c.args.rule g.T.Segmented.segment c.args.tag (c.args.depth - 1)) _ c.segments.left.now _ _ _ c.segments.invariant (sym c.has_ended.ensures ∙ c.segments-test.true)
-    (segment_found c.args.rule g.T.Segmented.segment c.args.tag (c.args.depth - 1) c.segments.left.now (header (c.in_ok-segment.segment, c.in_ok-segment.after)) c.in_ok-segment.ensures.exact ∙ c.in_err-left.ensures n)))
+    let whole = string_nested c.args.rule (g.T.Segmented.segment c.args.rule) c.args.tag c.args.depth (header (c.args.value, c.args.rest)) c.in_default.ensures (sym c.is_der_rule.ensures ∙ c.if-is_der_rule.false) c.if-depth-eq0.false in
+    rw (p.1, p.2) (λ n. appends_fault (segment_at c.args.rule (g.T.Segmented.segment c.args.rule) c.args.tag (c.args.depth - 1)) _ (extent c.args.value.contents) c.args.rest.now (g.T.Segmented.items c.args.out.now) (g.T.Segmented.items c.segments.out) _ whole
+    (gathering_fault (segment_at c.args.rule (g.T.Segmented.segment c.args.rule) c.args.tag (c.args.depth - 1)) _ c.segments.left.now _ _ _ c.segments.invariant (sym c.has_ended.ensures ∙ c.segments-test.true)
+    (segment_found c.args.rule (g.T.Segmented.segment c.args.rule) c.args.tag (c.args.depth - 1) c.segments.left.now (header (c.in_ok-segment.segment, c.in_ok-segment.after)) (spelled_by (form c.args.rule) _ c.of_rule.ensures (Tagged c.args.tag) c.segments.left.now _ c.in_ok-segment.ensures.exact) ∙ c.in_err-left.ensures n)))
 
 pub segments-smaller : goal.segments-smaller
 segments-smaller g t c =
-    let h : length c.in_ok-segment.after.now < length c.segments.left.now = header_shorter c.args.rule (Some c.args.tag) c.segments.left.now (header (c.in_ok-segment.segment, c.in_ok-segment.after)) c.in_ok-segment.ensures.exact in
+    let h : length c.in_ok-segment.after.now < length c.segments.left.now = header_shorter (spelled (form c.args.rule)) (Tagged c.args.tag) c.segments.left.now (header (c.in_ok-segment.segment, c.in_ok-segment.after)) (spelled_by (form c.args.rule) _ c.of_rule.ensures (Tagged c.args.tag) c.segments.left.now _ c.in_ok-segment.ensures.exact) in
     let e = c.in_ok-left.ensures in
-    let k : length c.in_ok-left.left.now ≤ length c.in_ok-segment.after.now = string_shorter c.args.rule g.T.Segmented.segment c.args.tag (c.args.depth - 1) (header (c.in_ok-segment.segment, c.in_ok-segment.after)) (e.0, c.in_ok-left.left.now) e.1 in
+    let k : length c.in_ok-left.left.now ≤ length c.in_ok-segment.after.now = string_shorter c.args.rule (g.T.Segmented.segment c.args.rule) c.args.tag (c.args.depth - 1) (header (c.in_ok-segment.segment, c.in_ok-segment.after)) (e.0, c.in_ok-left.left.now) e.1 in
     let m : length c.in_ok-left.left.now < length c.segments.left.now = omega arith in m
 
 pub segments-preserved : goal.segments-preserved
 segments-preserved g t c =
     let e = c.in_ok-left.ensures in
-    gathering_step (segment_at c.args.rule g.T.Segmented.segment c.args.tag (c.args.depth - 1)) (segment_shorter c.args.rule g.T.Segmented.segment c.args.tag (c.args.depth - 1)) _ c.segments.left.now _ _ _ (e.0, c.in_ok-left.left.now)
+    gathering_step (segment_at c.args.rule (g.T.Segmented.segment c.args.rule) c.args.tag (c.args.depth - 1)) (segment_shorter c.args.rule (g.T.Segmented.segment c.args.rule) c.args.tag (c.args.depth - 1)) _ c.segments.left.now _ _ _ (e.0, c.in_ok-left.left.now)
     c.segments.invariant (sym c.has_ended.ensures ∙ c.segments-test.true)
-    (segment_found c.args.rule g.T.Segmented.segment c.args.tag (c.args.depth - 1) c.segments.left.now (header (c.in_ok-segment.segment, c.in_ok-segment.after)) c.in_ok-segment.ensures.exact ∙ e.1) e.2
+    (segment_found c.args.rule (g.T.Segmented.segment c.args.rule) c.args.tag (c.args.depth - 1) c.segments.left.now (header (c.in_ok-segment.segment, c.in_ok-segment.after)) (spelled_by (form c.args.rule) _ c.of_rule.ensures (Tagged c.args.tag) c.segments.left.now _ c.in_ok-segment.ensures.exact) ∙ e.1) e.2
 
 pub returns : goal.returns
 returns g t c =
-    let whole = string_nested c.args.rule g.T.Segmented.segment c.args.tag c.args.depth (header (c.args.value, c.args.rest)) c.in_default.ensures (sym c.is_der_rule.ensures ∙ c.if-is_der_rule.false) c.if-depth-eq0.false in
-    let e = gathering_end (segment_at c.args.rule g.T.Segmented.segment c.args.tag (c.args.depth - 1)) _ c.segments.left.now _ _ c.segments.invariant (sym c.has_ended.ensures ∙ c.segments-test.false) in
-    appends_finished (segment_at c.args.rule g.T.Segmented.segment c.args.tag (c.args.depth - 1)) _ (extent c.args.value.contents) c.args.rest.now c.segments.left.now _ _ e.0 _ whole e.1 e.2 c.finish.ensures
+    let whole = string_nested c.args.rule (g.T.Segmented.segment c.args.rule) c.args.tag c.args.depth (header (c.args.value, c.args.rest)) c.in_default.ensures (sym c.is_der_rule.ensures ∙ c.if-is_der_rule.false) c.if-depth-eq0.false in
+    let e = gathering_end (segment_at c.args.rule (g.T.Segmented.segment c.args.rule) c.args.tag (c.args.depth - 1)) _ c.segments.left.now _ _ c.segments.invariant (sym c.has_ended.ensures ∙ c.segments-test.false) in
+    appends_finished (segment_at c.args.rule (g.T.Segmented.segment c.args.rule) c.args.tag (c.args.depth - 1)) _ (extent c.args.value.contents) c.args.rest.now c.segments.left.now _ _ e.0 _ whole e.1 e.2 c.finish.ensures
 
 pub segments-init : goal.segments-init
-segments-init g t c = rw c.held-left.ensures (gathering_start (segment_at c.args.rule g.T.Segmented.segment c.args.tag (c.args.depth - 1)) _ _)
+segments-init g t c = rw c.held-left.ensures (gathering_start (segment_at c.args.rule (g.T.Segmented.segment c.args.rule) c.args.tag (c.args.depth - 1)) _ _)

@@ -9,7 +9,7 @@ decreases-string_contents g l = l.depth
 
 abbrev pub invariant-segments : goal.invariant-segments
 invariant-segments g l =
-    Gathering (segment_at l.rule g.T.Segmented.segment l.tag (l.depth - 1)) (inner (extent l.value.contents) l.rest) l.left (g.T.Segmented.items l.fn.out) (g.T.Segmented.items l.out)
+    Gathering (segment_at l.rule (g.T.Segmented.segment l.rule) l.tag (l.depth - 1)) (inner (extent l.value.contents) l.rest) l.left (g.T.Segmented.items l.fn.out) (g.T.Segmented.items l.out)
 
 abbrev pub decreases-segments : goal.decreases-segments
 decreases-segments g l = length l.left

@@ -1,0 +1,18 @@
+-- DER reads a carried value from the octets that it writes of it.
+use Rattle.std.proofs.Common.{◌≡◌, ℕ, List, [], ◌++◌, Result, Ok, Err, refl, ap, ◌∙◌, subst, append-nil}
+use Rattle.std.specs.Borrow.{Bor}
+use Rattle.rasn_types.specs.declared.types.rules.Codec.{Codec}
+use Rattle.rasn_types.specs.declared.types.rules.Codec.TheVariants.{Der}
+use Rattle.rasn_types.specs.declared.error.decode.DecodeError.{DecodeError}
+use Rattle.rasn_types.specs.Framing.{AreOctets}
+use Rattle.rasn_types.specs.Shapes.{Shape, Tree}
+use Rattle.rasn_types.proofs.Itself.{one_writing}
+use Rattle.rasn.specs.Headline.{Answered, TakesWritten}
+use Rattle.rasn.proofs.Hold.{strict_der}
+
+pub takes_written : {T : Type 0} (s : Shape) (tree : T → Tree) (rule : Codec) (input : List ℕ) → rule ≡ Der → AreOctets input → (r : Result (T × Bor (List ℕ)) DecodeError) → Answered rule s tree input r → TakesWritten s tree input r
+takes_written s tree rule input der o (Ok p) a = λ lawful meets octets is.
+    let h = subst (λ k. Answered k s tree input (Ok p)) der a in
+    let k = strict_der s lawful input o (tree p.0) p.1.now h.0 (record { octets = octets; is = is; meets = meets }) in
+    k.2 ∙ ap (λ z. z ++ p.1.now) (one_writing s Der (tree p.0) k.0 octets k.1 is)
+takes_written s tree rule input der o (Err e) a = tt

@@ -1,0 +1,5 @@
+use Rattle.rasn.proofs.StrictMade.{only_carried as law}
+use Rattle.rasn.proofs.laws.only_carried.Goals as goal
+
+pub returns : goal.returns
+returns c = law

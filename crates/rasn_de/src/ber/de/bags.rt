@@ -1,0 +1,98 @@
+//! SET OF (X.690 8.12).
+ghost use Rattle.std.specs.Prelude.{◌≡◌, ◌≢◌, ◌++◌, MatchBool, length};
+ghost use Rattle.rasn_types.specs.Framing.{AreOctets};
+ghost use Rattle.rasn_types.specs.Order.{IsLess};
+ghost use Rattle.rasn_types.specs.Shapes.{bag, walk};
+ghost use Rattle.rasn_types.specs.Trees.{list_tree};
+ghost use Rattle.rasn_de.specs.Decodes.{Decodes};
+ghost use Rattle.rasn_de.specs.Lists.{ReadEachInOrder, InList, ReadSized};
+ghost use Rattle.rasn_de.specs.State.{IsEnd};
+
+use crate::ber::de::Decoder;
+use crate::ber::de::nesting::Opening;
+use crate::ber::de::parser::Fault;
+use crate::de::Decode;
+use rasn_types::error::{DecodeError, DerDecodeErrorKind};
+use rasn_types::types::{Constraints, SetOf, Tag};
+
+/// Whether octets are less than others, a proper beginning being less (X.690 11.6).
+fn is_less(octets: &[u8], others: &[u8]) -> bool
+    ensures { MatchBool result (IsLess octets.now others.now) (IsLess octets.now others.now → ⊥) }
+{
+    octets < others
+}
+
+/// What was passed of the input.
+fn octets_before<'input>(start: &'input [u8], rest: &[u8]) -> &'input [u8]
+    requires { IsEnd start.now rest.now }
+    ensures { start.now ≡ result.now ++ rest.now }
+{
+    &start[..start.len() - rest.len()]
+}
+
+impl<'input> Decoder<'input> {
+    /// Elements up to the end of the contents, whose octets don't fall under DER (X.690 11.6).
+    fn elements_in_order<D: Decode>(&mut self) -> Result<SetOf<D>, DecodeError>
+        ensures { ReadEachInOrder (Decodes D.shape D.tree) (λ v. v) self.old result self.new }
+    {
+        let mut values = Vec::new(self.alloc);
+        let mut last: &[u8] = &[];
+        while !self.has_ended() {
+            let start = self.rest;
+            let value = D::decode(self)?;
+            let length = start.len();
+            if self.rest.len() == length {
+                return Err(self.error(Fault::UnexpectedExtraData { length }));
+            }
+            let octets = octets_before(start, self.rest);
+            if self.is_strict() && is_less(octets, last) {
+                return Err(self.error(Fault::Der(DerDecodeErrorKind::SetOfOutOfOrder)));
+            }
+            last = octets;
+            match values.push(value) {
+                Ok(()) => {}
+                Err(_) => return Err(self.error(Fault::OutOfMemory)),
+            }
+        }
+        Ok(SetOf::from_vec(values))
+    }
+
+    /// The elements that stand inside a value of the tag, in order under DER.
+    fn walk<D: Decode>(&mut self, tag: Tag) -> Result<SetOf<D>, DecodeError>
+        ensures each { InList (ReadEachInOrder (Decodes D.shape D.tree) (λ v. v)) tag self.old result self.new }
+        ensures octets { self.old.depth ≢ 0 → AreOctets self.old.rest }
+    {
+        let (mut inner, contents) = self.open(Opening {
+            tag,
+            needs_bit: true,
+            levels: 2,
+        })?;
+        let values = inner.elements_in_order::<D>()?;
+        self.close(contents, inner.remaining())?;
+        Ok(values)
+    }
+
+    /// A SET OF, within a size in elements (X.690 8.12). Under DER the octets of an element must not be less than those of the one
+    /// before (X.690 11.6). It takes two levels of depth.
+    ///
+    /// # Errors
+    /// As `decode_sequence_of`; under DER also `SetOfOutOfOrder`, behind the element whose octets are less and before the next, which
+    /// takes header and contents.
+    pub fn decode_set_of<D: Decode + Eq>(
+        &mut self,
+        tag: Tag,
+        constraints: &Constraints,
+    ) -> Result<SetOf<D>, DecodeError>
+        ensures called { ReadSized (ReadEachInOrder (Decodes D.shape D.tree) (λ v. v)) (λ v. length v) tag constraints.now self.old result self.new }
+        ensures reads { Decodes (bag tag D.shape constraints.now.size) (λ v. walk (list_tree D.tree v)) self.old result self.new }
+    {
+        let values = self.walk::<D>(tag)?;
+        let size = values.len();
+        if constraints.admits_size(size) {
+            Ok(values)
+        } else {
+            let expected = constraints.size_bounds();
+            Err(self.error(Fault::SizeConstraintNotSatisfied { size, expected }))
+        }
+    }
+}

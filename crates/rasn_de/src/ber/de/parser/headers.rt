@@ -1,0 +1,109 @@
+//! What a header may be: how it may be spelled (X.690 8.1, 10.1), and which tag and constructed bit it has to have.
+ghost use Rattle.std.specs.Prelude.{◌≡◌};
+ghost use Rattle.rasn_types.specs.Numbered.{constructed_bit};
+ghost use Rattle.rasn_types.specs.Tags.{form, tag_bit};
+ghost use Rattle.rasn_de.specs.Headers.{spelled, as_written, tagged_at, expected_at};
+ghost use Rattle.rasn_de.specs.Views.{Gives};
+
+use crate::ber::de::parser::Fault;
+use rasn_types::ber::Identifier;
+use rasn_types::error::DerDecodeErrorKind;
+use rasn_types::types::{Class, Codec, Tag};
+
+/// How headers may be spelled.
+#[derive(Clone, Copy, Debug)]
+pub struct Spelling {
+    /// In no more octets than are needed.
+    pub shortest: bool,
+    /// With the indefinite form of lengths too.
+    pub indefinite: bool,
+}
+
+impl Spelling {
+    /// As these rules do.
+    pub fn of_rule(rule: Codec) -> Spelling
+        ensures { result ≡ spelled (form rule) }
+    {
+        match rule {
+            Codec::Ber | Codec::Cer => Spelling {
+                shortest: false,
+                indefinite: true,
+            },
+            Codec::Der => Spelling {
+                shortest: true,
+                indefinite: false,
+            },
+        }
+    }
+}
+
+/// Which identifier has to come next.
+#[derive(Clone, Copy, Debug)]
+pub enum Expected {
+    /// Any.
+    AnyTag,
+    /// One of this tag.
+    Tagged(Tag),
+    /// This one, with its constructed bit.
+    Exactly(Identifier),
+}
+
+impl Expected {
+    /// One of this tag, under DER with the constructed bit that the type is written with.
+    pub fn as_written(rule: Codec, tag: Tag, bit: bool) -> Expected
+        ensures { result ≡ as_written rule tag bit }
+    {
+        match rule {
+            Codec::Ber | Codec::Cer => Expected::Tagged(tag),
+            Codec::Der => Expected::Exactly(Identifier::from_tag(tag, bit)),
+        }
+    }
+
+    /// One of this tag, under DER with the constructed bit that a value which holds no others is written with.
+    pub fn leaf(rule: Codec, tag: Tag) -> Expected
+        ensures { result ≡ as_written rule tag (tag_bit tag) }
+    {
+        Expected::as_written(rule, tag, is_always_constructed(tag))
+    }
+
+    /// Refuses another identifier: first another tag, then another constructed bit.
+    pub fn check(self, identifier: Identifier) -> Result<(), Fault>
+        ensures { Gives (λ _. record {}) result (expected_at self identifier.tag (constructed_bit identifier)) }
+    {
+        match self {
+            Expected::AnyTag => Ok(()),
+            Expected::Tagged(wanted) => check_tag(wanted, identifier.tag),
+            Expected::Exactly(wanted) => {
+                check_tag(wanted.tag, identifier.tag)?;
+                if identifier.is_constructed() == wanted.is_constructed() {
+                    Ok(())
+                } else {
+                    Err(Fault::Der(DerDecodeErrorKind::ConstructedBitMismatch))
+                }
+            }
+        }
+    }
+}
+
+fn check_tag(wanted: Tag, tag: Tag) -> Result<(), Fault>
+    ensures { Gives (λ _. record {}) result (tagged_at wanted tag) }
+{
+    if tag == wanted {
+        Ok(())
+    } else {
+        Err(Fault::MismatchedTag {
+            expected: wanted,
+            actual: tag,
+        })
+    }
+}
+
+/// Whether values of this tag are constructed whatever is written: EXTERNAL, SEQUENCE and SET.
+fn is_always_constructed(tag: Tag) -> bool
+    ensures { result ≡ tag_bit tag }
+{
+    match tag.class {
+        Class::Universal => tag.value == 8 || tag.value == 16 || tag.value == 17,
+        _ => false,
+    }
+}

@@ -1,0 +1,131 @@
+//! Passing whole encodings, at any nesting, without recursion (X.690 8.1.1.1, 8.1.5).
+ghost use Rattle.std.specs.Prelude.{◌≡◌, ◌+◌, ◌*◌, ◌≤◌, ◌∷◌, List, ℕ, Some, None, length, MatchOption, IfOk};
+ghost use Rattle.rasn_types.specs.Tags.{loose};
+ghost use Rattle.rasn_types.specs.Framing.{AreOctets};
+ghost use Rattle.rasn_types.specs.Shapes.{looked_for};
+ghost use Rattle.rasn_de.specs.State.{IsEnd};
+ghost use Rattle.rasn_de.specs.declared.ber.de.parser.headers.Expected.TheVariants.{AnyTag};
+ghost use Rattle.rasn_de.specs.Headers.{spelled, header_at};
+ghost use Rattle.rasn_de.specs.Skipping.{Skipped, Closed, IsStuck, IsFault, Exactly, passed};
+ghost use Rattle.rasn_de.specs.OpenTypes.{OpenAt, as_lists};
+ghost use Rattle.rasn_de.specs.Views.{Gives, header};
+
+use crate::ber::de::parser::headers::{Expected, Spelling};
+use crate::ber::de::parser::{Contents, Fault, Value, read_value};
+use rasn_types::types::{Codec, Tag};
+
+/// How many octets close contents of indefinite length (X.690 8.1.5).
+const CLOSING_LENGTH: usize = 2;
+
+/// How the headers may be spelled that an open type holds: in any octets, under DER in the definite form.
+fn loose_spelling(rule: Codec) -> Spelling
+    ensures { result ≡ spelled (loose rule) }
+{
+    match rule {
+        Codec::Ber | Codec::Cer => Spelling {
+            shortest: false,
+            indefinite: true,
+        },
+        Codec::Der => Spelling {
+            shortest: false,
+            indefinite: false,
+        },
+    }
+}
+
+/// The value that begins the input, of any tag and in any spelling, and what follows.
+fn read_any_value(rule: Codec, input: &[u8]) -> Result<(Value<'_>, &[u8]), Fault>
+    ensures exact { Gives header result (header_at (loose rule) AnyTag input.now) }
+    ensures octets { AreOctets input.now }
+{
+    read_value(loose_spelling(rule), Expected::AnyTag, input)
+}
+
+/// What follows closing octets, where these come.
+fn after_closing(input: &[u8]) -> Option<&[u8]>
+    ensures { MatchOption result ((more : List ℕ) → input.now ≡ 0 ∷ 0 ∷ more → ⊥) (λ after. input.now ≡ 0 ∷ 0 ∷ after.now) }
+{
+    match input {
+        [0, 0, after @ ..] => Some(after),
+        _ => None,
+    }
+}
+
+/// Passes the contents of a value of indefinite length, which are whole encodings, and their closing octets, with a count of
+/// the values that are open. Answers how many turns it took, and what follows: a turn passes closing octets, or a header with
+/// its definite contents.
+pub fn skip_contents(rule: Codec, input: &[u8]) -> Result<(usize, &[u8]), Fault>
+    ensures exact { Exactly (Closed rule input.now) (IsStuck rule input.now) (passed result) }
+    ensures half { IfOk result (λ p. 2 * p.0 + length p.1.now ≤ length input.now) }
+    ensures some { IfOk result (λ p. 1 ≤ p.0) }
+{
+    let mut rest = input;
+    let mut open: usize = 0;
+    let mut turns: usize = 0;
+    'values: loop {
+        if let Some(after) = after_closing(rest) {
+            turns += 1;
+            rest = after;
+            if open == 0 {
+                return Ok((turns, rest));
+            }
+            open -= 1;
+            continue;
+        }
+        let (value, after) = read_any_value(rule, rest)?;
+        if let Contents::Indefinite = value.contents {
+            open += 1;
+        }
+        turns += 1;
+        rest = after;
+    }
+}
+
+/// Passes one whole encoding. Answers how many turns its contents took, none where its length is definite, and what follows.
+pub fn skip_encoding(rule: Codec, input: &[u8]) -> Result<(usize, &[u8]), Fault>
+    ensures exact { Exactly (Skipped rule input.now) (IsFault rule input.now) (passed result) }
+    ensures half { IfOk result (λ p. 2 * p.0 + length p.1.now ≤ length input.now) }
+{
+    let (value, rest) = read_any_value(rule, input)?;
+    match value.contents {
+        Contents::Definite(_) => Ok((0, rest)),
+        Contents::Indefinite => skip_contents(rule, rest),
+    }
+}
+
+/// One whole encoding, and what follows.
+fn read_encoding(rule: Codec, input: &[u8]) -> Result<(&[u8], &[u8]), Fault>
+    ensures { OpenAt rule None input.now (as_lists result) }
+{
+    let (_, after) = skip_encoding(rule, input)?;
+    let (text, _) = input.split_at(input.len() - after.len());
+    Ok((text, after))
+}
+
+/// The contents of the one value of this tag, closing octets not included, and what follows the value.
+fn read_tagged(rule: Codec, tag: Tag, input: &[u8]) -> Result<(&[u8], &[u8]), Fault>
+    ensures { OpenAt rule (Some tag) input.now (as_lists result) }
+{
+    let expected = Expected::as_written(rule, tag, true);
+    let (value, rest) = read_value(Spelling::of_rule(rule), expected, input)?;
+    match value.contents {
+        Contents::Definite(contents) => Ok((contents, rest)),
+        Contents::Indefinite => {
+            let (_, after) = skip_contents(rule, rest)?;
+            let (contents, _) = rest.split_at(rest.len() - after.len() - CLOSING_LENGTH);
+            Ok((contents, after))
+        }
+    }
+}
+
+/// The octets of an open type, and what follows: one whole encoding by `Tag::EOC`, else the contents of the one value of the tag.
+pub fn read_open(rule: Codec, tag: Tag, input: &[u8]) -> Result<(&[u8], &[u8]), Fault>
+    ensures found { OpenAt rule (looked_for tag) input.now (as_lists result) }
+    ensures end { IfOk result (λ p. IsEnd input.now p.1.now) }
+{
+    if tag == Tag::EOC {
+        read_encoding(rule, input)
+    } else {
+        read_tagged(rule, tag, input)
+    }
+}

@@ -1,0 +1,58 @@
+-- The test of octets, and runs that don't fall.
+use Rattle.std.proofs.Common.{◌≡◌, ◌<◌, ◌⊎◌, ℕ, Bool, true, false, ◌||◌, ◌&&◌, List, [], ◌∷◌, inl, inr, arith, ltb, eqb, sym, MatchBool}
+use Rattle.std.proofs.lemmas.Grind.{common_steps}
+use Rattle.rasn_types.specs.Bytes.{IsLess, DoNotFall}
+use Rattle.rasn_types.specs.Tags.{IsTagBelow}
+use Rattle.rasn_types.specs.declared.types.tag.Tag.{Tag}
+use Rattle.rasn_enc.specs.Order.{octets_less, FallsAt}
+
+step_less : (x y : ℕ) (b : Bool) → ltb x y || (eqb x y && b) ≡ true → (x < y) ⊎ ((x ≡ y) × (b ≡ true))
+step_less x y true e = grind (arith, common_steps)
+step_less x y false e = grind (arith, common_steps)
+
+step_not : (x y : ℕ) (b : Bool) → ltb x y || (eqb x y && b) ≡ false → (x < y → ⊥) × (x ≡ y → b ≡ false)
+step_not x y true e = grind (arith, common_steps)
+step_not x y false e = grind (arith, common_steps)
+
+pub less_is : (a b : List ℕ) → octets_less a b ≡ true → IsLess a b
+less_is a [] e = cc
+less_is [] (y ∷ ys) e = tt
+less_is (x ∷ xs) (y ∷ ys) e = elim (step_less x y (octets_less xs ys) e) [ inl h ↦ inl h | inr h ↦ inr (h.0, less_is xs ys h.1) ]
+
+pub less_not : (a b : List ℕ) → octets_less a b ≡ false → IsLess a b → ⊥
+less_not a [] e h = h
+less_not [] (y ∷ ys) e h = cc
+less_not (x ∷ xs) (y ∷ ys) e (inl h) = (step_not x y (octets_less xs ys) e).0 h
+less_not (x ∷ xs) (y ∷ ys) e (inr h) = less_not xs ys ((step_not x y (octets_less xs ys) e).1 h.0) h.1
+
+-- What is known of the rest of a run is known of the run.
+pub record Same (all rest : List Tag) : Type 0 where
+  pub on : DoNotFall IsTagBelow rest → DoNotFall IsTagBelow all
+  pub back : DoNotFall IsTagBelow all → DoNotFall IsTagBelow rest
+
+one_on : (t : Tag) (after : List Tag) → (FallsAt t after → ⊥) → DoNotFall IsTagBelow after → DoNotFall IsTagBelow (t ∷ after)
+one_on t [] n k = tt
+one_on t (u ∷ us) n k = (n, k)
+
+one_back : (t : Tag) (after : List Tag) → DoNotFall IsTagBelow (t ∷ after) → (FallsAt t after → ⊥) × DoNotFall IsTagBelow after
+one_back t [] k = ((λ h. h), tt)
+one_back t (u ∷ us) k = (k.0, k.1)
+
+pub same_start : (all : List Tag) → Same all all
+same_start all = record { on = λ k. k; back = λ k. k }
+
+pub same_more : (all rest after : List Tag) (t : Tag) → Same all rest → rest ≡ t ∷ after → (FallsAt t after → ⊥) → Same all after
+same_more all rest after t h e n = record {
+  on = λ k. h.on (rw e (one_on t after n k));
+  back = λ k. (one_back t after (rw e at (h.back k))).1;
+}
+
+pub falls : (all rest after : List Tag) (t : Tag) → Same all rest → rest ≡ t ∷ after → FallsAt t after → DoNotFall IsTagBelow all → ⊥
+falls all rest after t h e f k = (one_back t after (rw e at (h.back k))).0 f
+
+pub same_end : (all rest : List Tag) → Same all rest → rest ≡ [] → DoNotFall IsTagBelow all
+same_end all rest h e = h.on (rw e tt)
+
+pub fall_told : (b : Bool) (x y : List ℕ) → b ≡ octets_less x y → MatchBool b (IsLess x y) (IsLess x y → ⊥)
+fall_told true x y e = less_is x y (sym e)
+fall_told false x y e = less_not x y (sym e)

@@ -1,0 +1,13 @@
+-- The contents of an INTEGER, put behind octets.
+use Rattle.std.specs.Prelude.{ℕ, ℤ, ◌≡◌, ◌≤ℤ◌, List, ◌++◌}
+use Rattle.rasn_types.specs.Shapes.{Admits}
+use Rattle.rasn_types.specs.Contents.{signed}
+use Rattle.rasn_types.specs.Trees.{IsShortestOf}
+use Rattle.rasn_types.specs.declared.types.constraints.Constraints.{Constraints}
+
+-- The fewest octets of a number stand behind xs, and the number is admitted.
+pub record PutsInteger (c : Constraints) (n : ℤ) (xs ys : List ℕ) : Type 0 where
+  pub octets : List ℕ
+  pub shortest : IsShortestOf n octets
+  pub admitted : Admits ◌≤ℤ◌ c.value (signed octets)
+  pub is : ys ≡ xs ++ octets

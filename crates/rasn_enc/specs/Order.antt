@@ -1,0 +1,15 @@
+-- The order of octets, as a test.
+use Rattle.std.specs.Prelude.{ℕ, Bool, true, false, ◌||◌, ◌&&◌, List, [], ◌∷◌, ltb, eqb}
+use Rattle.rasn_types.specs.Tags.{IsTagBelow}
+use Rattle.rasn_types.specs.declared.types.tag.Tag.{Tag}
+
+-- octet by octet, a proper beginning being less
+abbrev pub octets_less : List ℕ → List ℕ → Bool
+octets_less xs [] = false
+octets_less [] (y ∷ ys) = true
+octets_less (x ∷ xs) (y ∷ ys) = ltb x y || (eqb x y && octets_less xs ys)
+
+-- the tag that follows is below this one
+abbrev pub FallsAt : Tag → List Tag → Type 0
+FallsAt t [] = ⊥
+FallsAt t (u ∷ us) = IsTagBelow u t

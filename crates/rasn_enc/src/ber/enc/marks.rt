@@ -1,0 +1,150 @@
+//! Gathered octets, and marks that say which octets are put in between.
+ghost use Rattle.std.specs.Prelude.{ℕ, List, ◌≡◌, ◌<◌, ◌≤◌, ◌+◌, ◌-◌, ◌++◌, ◌∷◌, [], true, get_or, length, take, drop, vec_len, vec_capacity, OnOk, OnErr, suc};
+ghost use Rattle.rasn_enc.specs.Headers.{id_octets, length_octets};
+ghost use Rattle.rasn_enc.specs.Marks.{ink_of, head_of, mark_at, closing};
+
+use super::header::{
+    INDEFINITE_LENGTH, identifier_len, identifier_octet, length_len, length_octet,
+};
+use rasn_types::types::{Codec, Tag};
+use std::alloc::AllocError;
+
+/// The octets that a mark puts in.
+#[derive(Clone, Copy, Drop)]
+pub enum Head {
+    /// Of a value that is still open.
+    Unfinished,
+    /// An identifier, and the length of the contents.
+    Definite(Tag, usize),
+    /// An identifier, where closing octets end the contents.
+    Indefinite(Tag),
+    /// The octets that do.
+    Closing,
+    /// So many first octets of a definite head.
+    Part(u8, Tag, usize),
+    /// So many first octets of an indefinite one.
+    PartIndefinite(u8, Tag),
+    /// The first of two closing octets.
+    Zero,
+}
+
+/// Where in the gathered octets a header or closing octets stand.
+#[derive(Clone, Copy, Drop)]
+pub struct Mark {
+    pub at: usize,
+    pub head: Head,
+}
+
+// There are many of them.
+const _: () = prove!(size_of::<Mark>() == 32);
+
+/// What stands before the contents of a constructed value.
+pub fn head_for(rule: Codec, tag: Tag, count: usize) -> Head
+    ensures { result ≡ head_of rule tag count }
+{
+    match rule {
+        Codec::Cer => Head::Indefinite(tag),
+        Codec::Ber | Codec::Der => Head::Definite(tag, count),
+    }
+}
+
+/// How many octets a mark puts in.
+pub fn head_len(head: Head) -> usize
+    ensures count { result ≡ length (ink_of head) }
+    ensures small { result < 17 }
+{
+    match head {
+        Head::Unfinished => 0,
+        Head::Definite(tag, count) => identifier_len(tag) + length_len(count),
+        Head::Indefinite(tag) => identifier_len(tag) + 1,
+        Head::Closing => 2,
+        Head::Part(most, tag, count) => {
+            least(identifier_len(tag) + length_len(count), usize::from(most))
+        }
+        Head::PartIndefinite(most, tag) => least(identifier_len(tag) + 1, usize::from(most)),
+        Head::Zero => 1,
+    }
+}
+
+fn least(a: usize, b: usize) -> usize
+    ensures low { result ≤ a }
+    ensures taken { (xs : List ℕ) → length xs ≡ a → length (take b xs) ≡ result }
+{
+    if a < b { a } else { b }
+}
+
+// Puts behind all a mark for closing octets where the rule has them.
+fn close(marks: &mut Vec<Mark>, rule: Codec, end: usize) -> Result<(), AllocError>
+    ensures ok { OnOk result (marks.new.items ≡ marks.old.items ++ closing rule end) }
+    ensures err { OnErr result (marks.new.items ≡ marks.old.items) }
+{
+    match rule {
+        Codec::Cer => match marks.push(Mark {
+            at: end,
+            head: Head::Closing,
+        }) {
+            Ok(()) => Ok(()),
+            Err(_) => Err(AllocError),
+        },
+        Codec::Ber | Codec::Der => Ok(()),
+    }
+}
+
+/// Puts a finished mark in the place of an unfinished one.
+pub fn seal(
+    marks: &mut Vec<Mark>,
+    rule: Codec,
+    tag: Tag,
+    count: usize,
+    at: usize,
+    index: usize,
+    end: usize,
+) -> Result<(), AllocError>
+    requires { index < vec_len marks.old }
+    ensures ok { OnOk result (marks.new.items ≡ take index marks.old.items ++ (mark_at at (head_of rule tag count) ∷ (drop (suc index) marks.old.items ++ closing rule end))) }
+    ensures err { OnErr result (marks.new.items ≡ marks.old.items) }
+{
+    let head = head_for(rule, tag, count);
+    close(marks, rule, end)?;
+    let mark = Mark { at, head };
+    marks[index] = mark;
+    Ok(())
+}
+
+/// One octet of a mark.
+pub fn head_octet(head: Head, i: usize) -> u8
+    requires { i < length (ink_of head) }
+    ensures { result ≡ get_or (ink_of head) i 0 }
+{
+    match head {
+        Head::Unfinished | Head::Closing | Head::Zero => 0,
+        Head::Definite(tag, count) => definite_octet(tag, count, i),
+        Head::Part(_, tag, count) => definite_octet(tag, count, i),
+        Head::Indefinite(tag) => indefinite_octet(tag, i),
+        Head::PartIndefinite(_, tag) => indefinite_octet(tag, i),
+    }
+}
+
+fn definite_octet(tag: Tag, count: usize, i: usize) -> u8
+    requires { i < length (id_octets tag true ++ length_octets count) }
+    ensures { result ≡ get_or (id_octets tag true ++ length_octets count) i 0 }
+{
+    let n = identifier_len(tag);
+    if i < n {
+        identifier_octet(tag, true, i)
+    } else {
+        length_octet(count, i - n)
+    }
+}
+
+fn indefinite_octet(tag: Tag, i: usize) -> u8
+    requires { i < length (id_octets tag true ++ 128 ∷ []) }
+    ensures { result ≡ get_or (id_octets tag true ++ 128 ∷ []) i 0 }
+{
+    let n = identifier_len(tag);
+    if i < n {
+        identifier_octet(tag, true, i)
+    } else {
+        INDEFINITE_LENGTH
+    }
+}

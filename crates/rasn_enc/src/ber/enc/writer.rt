@@ -1,0 +1,386 @@
+//! Where values are written: the output, and a list for each value that is still open.
+//!
+//! Primitive values are gathered whole, one behind the other, in one vector. Headers and closing octets of values that hold others
+//! aren't in it: marks tell what stands between the gathered octets. They are put in once, from the back, when the output is asked for.
+ghost use Rattle.std.specs.Prelude.{ℕ, List, ◌≡◌, ◌<◌, ◌≤◌, ◌-◌, [], ◌⊎◌, length, MatchBool, take, drop, IfOk, IfErr, OnOk, OnErr, false};
+ghost use Rattle.std.specs.Fn.{FnOnceTakesAtMut};
+ghost use Rattle.rasn_types.specs.Bytes.{Prim, Cons, IsLess, DoNotFall};
+ghost use Rattle.rasn_types.specs.declared.types.tag.Tag.{Tag};
+ghost use Rattle.rasn_types.specs.Tags.{IsTagBelow};
+ghost use Rattle.rasn_enc.specs.View.{View, started, opened, appended, IsBelow};
+ghost use Rattle.rasn_enc.specs.Lists.{IsMarked};
+ghost use Rattle.rasn_enc.specs.Gathered.{kept_of};
+ghost use Rattle.rasn_enc.specs.Primitives.{Appends, WantsMemory};
+ghost use Rattle.rasn_enc.specs.Order.{octets_less};
+ghost use Rattle.rasn_enc.specs.Filled.{FillsBehind, RefusesToFill, AppendsFilled};
+
+use super::cursors::{place, rendered_before};
+use super::cutting::cut;
+use super::gathering::{gather, gather_filled};
+use super::kept_tags::{cut_tags, tags_fall};
+use super::marks::{Head, Mark};
+use super::out_of_memory;
+use super::rendering::rendered_in;
+use super::surrounding::surround;
+use rasn_types::error::EncodeError;
+use rasn_types::types::{Codec, Tag};
+use std::alloc::Global;
+use std::marker::Model;
+use std::mem;
+
+// The octets that an encoder's output has room for at first.
+const INITIAL_CAPACITY: usize = 1024;
+
+/// Where a list ends: how many octets and tags it has.
+#[derive(Clone, Copy, Drop)]
+pub struct ListEnd {
+    octets: usize,
+    tags: usize,
+}
+
+// The list that an open value interrupted: gathered octets from `start` to `end`, marks from number `first` to `last`, where the
+// value's own unfinished mark stands.
+#[derive(Drop)]
+struct Open {
+    start: usize,
+    first: usize,
+    end: usize,
+    last: usize,
+    measured: usize,
+    tags: Option<Vec<Tag>>,
+}
+
+/// Holds what is written. The contracts of its calls speak of views alone, so that another way to hold it is another body of these.
+#[derive(Drop)]
+pub struct Writer {
+    alloc: Global,
+    rule: Codec,
+    gathered: Vec<u8>,
+    marks: Vec<Mark>,
+    // where the last list begins, how long it is once rendered, and its tags
+    start: usize,
+    first: usize,
+    measured: usize,
+    tags: Option<Vec<Tag>>,
+    interrupted: Vec<Open>,
+}
+
+impl Model for Writer {
+    ghost use Rattle.std.specs.Prelude.{map};
+    ghost use Rattle.rasn_enc.specs.View.{View};
+
+    ghost Value = { View };
+
+    ghost use Rattle.rasn_enc.specs.Lists.{tags_of};
+    ghost use Rattle.rasn_enc.specs.Gathered.{frame_in, Chain};
+    ghost use Rattle.rasn_enc.specs.Cuts.{list_from, Sound};
+
+    ghost view = { λ e. record { rule = e.rule; below = map (frame_in e.gathered.items e.marks.items) e.interrupted.items; last = record { octets = list_from e.gathered.items e.marks.items e.start e.first; tags = tags_of e.tags } } };
+
+    ghost invariant = { λ e. Sound e.gathered.items e.marks.items e.start e.first e.measured × Chain e.gathered.items e.marks.items 0 0 e.interrupted.items e.start e.first };
+}
+
+impl Writer {
+    /// Nothing is written: the octets will be put into this vector, in the place of what it holds.
+    pub fn over(
+        alloc: Global,
+        rule: Codec,
+        buffer: Vec<u8>,
+        keeps_tags: bool,
+    ) -> Result<Writer, EncodeError>
+        ensures ok { IfOk result (λ w. w ≡ started rule keeps_tags) }
+        ensures refused { IfErr result (WantsMemory rule) }
+    {
+        let mut gathered = buffer;
+        gathered.clear();
+        if gathered.reserve(INITIAL_CAPACITY).is_err() {
+            return Err(out_of_memory(rule));
+        }
+        let tags = if keeps_tags {
+            Some(Vec::new(alloc))
+        } else {
+            None
+        };
+        Ok(Writer {
+            alloc,
+            rule,
+            gathered,
+            marks: Vec::new(alloc),
+            start: 0,
+            first: 0,
+            measured: 0,
+            tags,
+            interrupted: Vec::new(alloc),
+        })
+    }
+
+    /// The rules that it writes by.
+    pub fn rule(&self) -> Codec
+        ensures { result ≡ self.now.rule }
+    {
+        self.rule
+    }
+
+    /// The allocator that it writes with.
+    pub fn alloc(&self) -> Global {
+        self.alloc
+    }
+
+    /// The octets written, where no value is open.
+    pub fn output(self) -> Result<Vec<u8>, EncodeError>
+        ensures ok { IfOk result (λ v. self.below ≡ [] → v.items ≡ self.last.octets) }
+        ensures refused { IfErr result (WantsMemory self.rule) }
+    {
+        let Writer {
+            alloc: _,
+            rule,
+            gathered,
+            marks,
+            start: _,
+            first: _,
+            measured,
+            tags: _,
+            interrupted,
+        } = self;
+        if !interrupted.is_empty() {
+            return Ok(gathered);
+        }
+        match rendered_in(gathered, &marks, measured) {
+            Ok(octets) => Ok(octets),
+            Err(_) => Err(out_of_memory(rule)),
+        }
+    }
+
+    /// Opens a value: its contents are the last list now.
+    pub fn begin(&mut self, keeps_tags: bool) -> Result<(), EncodeError>
+        ensures ok { OnOk result (self.new ≡ opened self.old keeps_tags) }
+        ensures err { OnErr result (self.new ≡ self.old) }
+        ensures memory { IfErr result (WantsMemory self.old.rule) }
+    {
+        let end = self.gathered.len();
+        let last = self.marks.len();
+        let rule = self.rule;
+        let tags = if keeps_tags {
+            Some(Vec::new(self.alloc))
+        } else {
+            None
+        };
+        let mark = Mark {
+            at: end,
+            head: Head::Unfinished,
+        };
+        if self.marks.push(mark).is_err() {
+            return Err(out_of_memory(rule));
+        }
+        let outer = mem::replace(&mut self.tags, tags);
+        let list = Open {
+            start: self.start,
+            first: self.first,
+            end,
+            last,
+            measured: self.measured,
+            tags: outer,
+        };
+        match self.interrupted.push(list) {
+            Ok(()) => {
+                self.start = end;
+                self.first = last + 1;
+                self.measured = 0;
+                Ok(())
+            }
+            Err(back) => {
+                let Open {
+                    start: _,
+                    first: _,
+                    end: _,
+                    last: _,
+                    measured: _,
+                    tags,
+                } = back.value;
+                self.tags = tags;
+                self.marks.truncate(last);
+                Err(out_of_memory(rule))
+            }
+        }
+    }
+
+    /// Drops the value that was opened last, with its contents.
+    pub fn abandon(&mut self)
+        requires { 0 < length self.old.below }
+        ensures { (v : View) → IsBelow v self.old → self.new ≡ v }
+    {
+        let Open {
+            start,
+            first,
+            end,
+            last,
+            measured,
+            tags,
+        } = self.interrupted.pop().unwrap();
+        self.gathered.truncate(end);
+        self.marks.truncate(last);
+        self.start = start;
+        self.first = first;
+        self.measured = measured;
+        self.tags = tags;
+    }
+
+    /// Closes the value that was opened last: it stands behind the list below.
+    pub fn finish(&mut self, tag: Tag) -> Result<(), EncodeError>
+        requires { 0 < length self.old.below }
+        ensures ok { OnOk result ((v : View) → IsBelow v self.old → Appends (Cons v.rule tag self.old.last.octets) tag v self.new) }
+        ensures err { OnErr result ((v : View) → IsBelow v self.old → self.new ≡ v) }
+        ensures memory { IfErr result (WantsMemory self.old.rule) }
+    {
+        let rule = self.rule;
+        let inner = self.measured;
+        let count = self.gathered.len();
+        let Open {
+            start,
+            first,
+            end,
+            last,
+            measured,
+            tags,
+        } = self.interrupted.pop().unwrap();
+        self.start = start;
+        self.first = first;
+        self.tags = tags;
+        match surround(
+            &mut self.marks,
+            &mut self.tags,
+            rule,
+            tag,
+            end,
+            last,
+            count,
+            measured,
+            inner,
+        ) {
+            Ok(total) => {
+                self.measured = total;
+                Ok(())
+            }
+            Err(_) => {
+                self.gathered.truncate(end);
+                self.marks.truncate(last);
+                self.measured = measured;
+                Err(out_of_memory(rule))
+            }
+        }
+    }
+
+    /// Puts a primitive value behind the last list.
+    pub fn leaf(&mut self, tag: Tag, contents: &[u8]) -> Result<(), EncodeError>
+        ensures ok { OnOk result (Appends (Prim tag contents.now) tag self.old self.new) }
+        ensures err { OnErr result (self.new ≡ self.old) }
+        ensures memory { IfErr result (WantsMemory self.old.rule) }
+    {
+        match gather(
+            &mut self.gathered,
+            &mut self.tags,
+            self.measured,
+            tag,
+            contents,
+        ) {
+            Ok(total) => {
+                self.measured = total;
+                Ok(())
+            }
+            Err(_) => Err(out_of_memory(self.rule)),
+        }
+    }
+
+    /// Puts a primitive value behind the last list; `contents` writes its contents in place.
+    pub fn leaf_with<F: FnOnce(&mut Vec<u8>) -> Result<(), EncodeError>>(
+        &mut self,
+        tag: Tag,
+        contents: F,
+    ) -> Result<(), EncodeError>
+        requires callable { (v : _) → FnOnceTakesAtMut F.FnOnce contents v }
+        requires behind { FillsBehind F.FnOnce contents }
+        ensures ok { OnOk result (AppendsFilled F.FnOnce contents tag self.old self.new) }
+        ensures err { OnErr result (self.new ≡ self.old) }
+        ensures refused { IfErr result (λ e. WantsMemory self.old.rule e ⊎ RefusesToFill F.FnOnce contents e) }
+    {
+        match gather_filled(
+            &mut self.gathered,
+            &mut self.tags,
+            self.rule,
+            self.measured,
+            tag,
+            contents,
+        ) {
+            Ok(total) => {
+                self.measured = total;
+                Ok(())
+            }
+            Err(error) => Err(error),
+        }
+    }
+    /// Where the last list ends.
+    pub fn end(&self) -> ListEnd
+        ensures { IsMarked self.now.last result }
+    {
+        ListEnd {
+            octets: self.measured,
+            tags: self.tags.as_ref().map_or(0, |tags| tags.len()),
+        }
+    }
+
+    /// Takes off the last list what was put behind it since.
+    pub fn cut_back(&mut self, end: ListEnd)
+        ensures { (v : View) (octets : List ℕ) (tags : List Tag) → IsMarked v.last end → self.old ≡ appended v octets tags → self.new ≡ v }
+    {
+        if self.measured < end.octets {
+            return;
+        }
+        cut(
+            &mut self.gathered,
+            &mut self.marks,
+            self.start,
+            self.first,
+            self.measured,
+            end.octets,
+        );
+        self.measured = end.octets;
+        cut_tags(&mut self.tags, end.tags);
+    }
+
+    /// How many octets the last list has.
+    pub fn last_len(&self) -> usize
+        ensures { result ≡ length self.now.last.octets }
+    {
+        self.measured
+    }
+
+    /// Whether the octets of the last list from `middle` on are less than those from `from` to it (X.690 11.6).
+    pub fn neighbours_fall(&self, from: usize, middle: usize) -> bool
+        requires order { from ≤ middle }
+        requires within { middle ≤ length self.now.last.octets }
+        ensures { MatchBool result (IsLess (drop middle self.now.last.octets) (take (middle - from) (drop from self.now.last.octets))) (IsLess (drop middle self.now.last.octets) (take (middle - from) (drop from self.now.last.octets)) → ⊥) }
+    {
+        self.is_less_at(from, middle)
+    }
+
+    fn is_less_at(&self, from: usize, middle: usize) -> bool
+        requires order { from ≤ middle }
+        requires within { middle ≤ length self.now.last.octets }
+        ensures { result ≡ octets_less (drop middle self.now.last.octets) (take (middle - from) (drop from self.now.last.octets)) }
+    {
+        let marks = &self.marks[self.first..];
+        let left = place(&self.gathered, marks, self.start, self.measured, middle);
+        let right = place(&self.gathered, marks, self.start, self.measured, from);
+        rendered_before(&self.gathered, marks, left, right, middle - from)
+    }
+
+    /// Whether the tags that the last list keeps fall, each compared with the one before it (X.690 9.3).
+    pub fn kept_tags_fall(&self) -> bool
+        ensures { MatchBool result (DoNotFall IsTagBelow (kept_of self.now.last.tags) → ⊥) (DoNotFall IsTagBelow (kept_of self.now.last.tags)) }
+    {
+        match &self.tags {
+            Some(tags) => tags_fall(tags),
+            None => false,
+        }
+    }
+}

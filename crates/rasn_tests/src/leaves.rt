@@ -1,0 +1,7 @@
+//! BOOLEAN, INTEGER, NULL, REAL and OBJECT IDENTIFIER, and the identifiers of values.
+
+mod identifiers;
+mod numbers;
+mod reads;
+mod whole;
+mod writes;

@@ -1,0 +1,128 @@
+//! Octets of whole numbers (X.690 8.3).
+
+use rasn_types::types::{Integer, IntegerType};
+use std::alloc::Global;
+use std::process::Abort;
+
+/// Octets in two's complement, and the number, where the type has it.
+type Row<T> = (&'static [u8], Option<T>);
+
+fn is_read<T: IntegerType + PartialEq>(alloc: Global, octets: &[u8], number: &Option<T>) -> bool {
+    if octets.is_empty() {
+        return false;
+    }
+    match T::from_octets(alloc, octets) {
+        Ok(found) => found == *number,
+        Err(_) => false,
+    }
+}
+
+/// Reads a number of the type from each row's octets.
+fn stands_for<T: IntegerType + PartialEq>(rt: &impl Abort, alloc: Global, rows: &[Row<T>]) {
+    for (octets, number) in rows {
+        assert!(rt; is_read(alloc, octets, number), "{octets:?}");
+    }
+}
+
+fn is_written<T: IntegerType>(alloc: Global, number: &T, octets: &[u8]) -> bool {
+    let mut found = Vec::new(alloc);
+    if found.push(7).is_err() || number.append_octets(&mut found).is_err() {
+        return false;
+    }
+    match found.as_slice() {
+        [7, written @ ..] => written == octets,
+        _ => false,
+    }
+}
+
+/// Writes the number behind another octet, and reads it again.
+fn takes<T: IntegerType + PartialEq>(rt: &impl Abort, alloc: Global, number: T, octets: &[u8]) {
+    assert!(rt; is_written(alloc, &number, octets), "{octets:?}");
+    assert!(rt; is_read(alloc, octets, &Some(number)), "{octets:?}");
+}
+
+const PADDED: &[u8] = &[0xFF, 0xFF, 0xFF, 0xFF, 0x7F, 0x00];
+
+const LARGEST: &[u8] = &[
+    0x00, 0xFF, 0xFF, 0xFF, 0xFF, 0xFF, 0xFF, 0xFF, 0xFF, 0xFF, 0xFF, 0xFF, 0xFF, 0xFF, 0xFF, 0xFF,
+    0xFF,
+];
+
+// Octets are read as the same number in each type that has it.
+#[test]
+fn reads_fixed_widths(rt: HostRuntime) {
+    let alloc = rt.alloc();
+    stands_for::<i32>(&rt, alloc, &[(PADDED, Some(-33024))]);
+    stands_for::<i16>(&rt, alloc, &[(PADDED, None)]);
+    let largest = &[0x00, 0xFF, 0xFF, 0xFF, 0xFF, 0xFF, 0xFF, 0xFF, 0xFF];
+    stands_for::<u64>(&rt, alloc, &[(PADDED, None), (largest, Some(u64::MAX))]);
+    stands_for::<u32>(
+        &rt,
+        alloc,
+        &[
+            (&[0x00, 0x00, 0x33, 0x44, 0x55, 0x66], Some(860116326)),
+            (&[0x11, 0x22, 0x33, 0x44, 0x55, 0x66], None),
+        ],
+    );
+    stands_for::<u8>(&rt, alloc, &[(&[0xFF], None)]);
+    stands_for::<i8>(&rt, alloc, &[(&[0xFF], Some(-1))]);
+    stands_for::<i128>(&rt, alloc, &[(LARGEST, None)]);
+}
+
+#[test]
+fn writes_fewest_octets(rt: HostRuntime) {
+    let alloc = rt.alloc();
+    takes(&rt, alloc, -33024i64, &[0xFF, 0x7F, 0x00]);
+    takes(&rt, alloc, 860116326u32, &[0x33, 0x44, 0x55, 0x66]);
+    takes(&rt, alloc, 128u8, &[0x00, 0x80]);
+    takes(&rt, alloc, -128i8, &[0x80]);
+    takes(&rt, alloc, 0usize, &[0x00]);
+    takes(&rt, alloc, u128::MAX, LARGEST);
+}
+
+#[test]
+fn writes_128_bits(rt: HostRuntime) {
+    let alloc = rt.alloc();
+    let most = &[
+        0x7F, 0xFF, 0xFF, 0xFF, 0xFF, 0xFF, 0xFF, 0xFF, 0xFF, 0xFF, 0xFF, 0xFF, 0xFF, 0xFF, 0xFF,
+        0xFF,
+    ];
+    let least = &[0x80, 0, 0, 0, 0, 0, 0, 0, 0, 0, 0, 0, 0, 0, 0, 0];
+    for (number, octets) in [
+        (i128::MAX, most.as_slice()),
+        (i128::MIN, least.as_slice()),
+        (-1, [0xFF].as_slice()),
+        (0, [0x00].as_slice()),
+    ] {
+        takes(&rt, alloc, number, octets);
+    }
+}
+
+/// Whether these octets are kept of a number of any length; none where there is no number.
+fn is_kept(alloc: Global, octets: &[u8], kept: &[u8]) -> bool {
+    match Integer::from_octets(alloc, octets) {
+        Ok(Some(number)) => number.as_octets() == kept,
+        Ok(None) => kept.is_empty(),
+        Err(_) => false,
+    }
+}
+
+fn are_equal(alloc: Global, one: &[u8], other: &[u8]) -> bool {
+    match (
+        Integer::from_octets(alloc, one),
+        Integer::from_octets(alloc, other),
+    ) {
+        (Ok(Some(one)), Ok(Some(other))) => one == other,
+        _ => false,
+    }
+}
+
+// Redundant octets are dropped, so equal numbers are equal values; no octets are no number.
+#[test]
+fn keeps_any_length(rt: HostRuntime) {
+    let alloc = rt.alloc();
+    assert!(rt; is_kept(alloc, &[0x00, 0x00, 0x80], &[0x00, 0x80]));
+    assert!(rt; is_kept(alloc, &[0x00, 0x80], &[0x00, 0x80]));
+    assert!(rt; is_kept(alloc, &[], &[]));
+    assert!(rt; are_equal(alloc, &[0x00, 0x00, 0x80], &[0x00, 0x80]));
+}

@@ -1,0 +1,204 @@
+use crate::types::Ratio;
+use crate::writing::{
+    done, holds, identifier_of, new_encoder, refused, writes, writes_made, writes_pieces,
+};
+use rasn_enc::ber::enc::object_identifier_as_bytes;
+use rasn_enc::enc::Encode;
+use rasn_types::error::EncodeError;
+use rasn_types::types::{Bound, Bounded, Class, Codec, Constraints, Identifier, Integer, Tag};
+use std::alloc::{AllocError, Global};
+
+// TRUE is FF (X.690 8.2.2, 11.1).
+#[test]
+fn writes_booleans(rt: HostRuntime) {
+    writes::<bool>(
+        &rt,
+        rt.alloc(),
+        &[
+            (true, Codec::Ber, &[0x01, 0x01, 0xFF]),
+            (true, Codec::Cer, &[0x01, 0x01, 0xFF]),
+            (false, Codec::Der, &[0x01, 0x01, 0x00]),
+        ],
+    );
+    assert!(rt; true.is_present());
+}
+
+// The fewest octets that hold the number (X.690 8.3.2).
+#[test]
+fn writes_integers(rt: HostRuntime) {
+    let alloc = rt.alloc();
+    writes::<i32>(
+        &rt,
+        alloc,
+        &[(-33024, Codec::Der, &[0x02, 0x03, 0xFF, 0x7F, 0x00])],
+    );
+    writes::<u32>(
+        &rt,
+        alloc,
+        &[(860116326, Codec::Der, &[0x02, 0x04, 0x33, 0x44, 0x55, 0x66])],
+    );
+    writes::<u8>(&rt, alloc, &[(0, Codec::Der, &[0x02, 0x01, 0x00])]);
+    writes::<i64>(&rt, alloc, &[(128, Codec::Der, &[0x02, 0x02, 0x00, 0x80])]);
+    let number = Integer::from_octets(alloc, &[0x00, 0x00, 0x80]);
+    writes_made(&rt, alloc, Codec::Der, number, &[0x02, 0x02, 0x00, 0x80]);
+}
+
+// 2^2048.
+#[test]
+fn writes_long_integers(rt: HostRuntime) {
+    let alloc = rt.alloc();
+    let mut octets = [0; 257];
+    octets[0] = 0x01;
+    let number = Integer::from_octets(alloc, &octets);
+    writes_pieces(
+        &rt,
+        alloc,
+        Codec::Der,
+        number,
+        &[(&[0x02, 0x82, 0x01, 0x01, 0x01], 0x00, 256)],
+    );
+}
+
+// From number 31 on the identifier has more octets (X.690 8.1.2.4).
+#[test]
+fn writes_high_tag_numbers(rt: HostRuntime) {
+    let alloc = rt.alloc();
+    let mut encoder = new_encoder(&rt, alloc, Codec::Der);
+    for (class, value) in [
+        (Class::Private, 511),
+        (Class::Context, 30),
+        (Class::Application, 31),
+        (Class::Universal, 4294967295),
+    ] {
+        let tag = Tag::new(class, value);
+        done(
+            &rt,
+            true.encode_with_tag(&mut encoder, tag, Identifier::EMPTY),
+        );
+    }
+    let octets = [
+        0xDF, 0x83, 0x7F, 0x01, 0xFF, 0x9E, 0x01, 0xFF, 0x5F, 0x1F, 0x01, 0xFF, 0x1F, 0x8F, 0xFF,
+        0xFF, 0xFF, 0x7F, 0x01, 0xFF,
+    ];
+    holds(&rt, encoder.output(), &octets);
+}
+
+// The arcs {2 999 1}, {2 4294967215} and {1 3 6 1 4 1 311 21 20} (X.690 8.19).
+#[test]
+fn writes_object_identifiers(rt: HostRuntime) {
+    let alloc = rt.alloc();
+    let mut encoder = new_encoder(&rt, alloc, Codec::Der);
+    for arcs in [[2, 999, 1].as_slice(), [2, 4294967215].as_slice()] {
+        let answer = encoder.encode_object_identifier(
+            Tag::OBJECT_IDENTIFIER,
+            arcs,
+            Identifier::EMPTY,
+        );
+        done(&rt, answer);
+    }
+    let octets = [
+        0x06, 0x03, 0x88, 0x37, 0x01, 0x06, 0x05, 0x8F, 0xFF, 0xFF, 0xFF, 0x7F,
+    ];
+    holds(&rt, encoder.output(), &octets);
+    let microsoft = identifier_of(alloc, &[1, 3, 6, 1, 4, 1, 311, 21, 20]);
+    let octets = [
+        0x06, 0x09, 0x2B, 0x06, 0x01, 0x04, 0x01, 0x82, 0x37, 0x15, 0x14,
+    ];
+    writes_made(&rt, alloc, Codec::Der, microsoft, &octets);
+}
+
+/// What stands behind 2A once the arcs are appended to it, or why they aren't.
+fn appended(alloc: Global, arcs: &[u32]) -> Result<(Vec<u8>, Result<(), EncodeError>), AllocError> {
+    let mut octets = vec![in alloc; 0x2A]?;
+    let answer = object_identifier_as_bytes(alloc, arcs, &mut octets);
+    Ok((octets, answer))
+}
+
+// What has no octets is refused by its arcs, under BER, and the vector is unchanged (X.690 8.19.4).
+#[test]
+fn refuses_arcs_without_octets(rt: HostRuntime) {
+    let alloc = rt.alloc();
+    for (arcs, text) in [
+        (
+            [2, 4294967216].as_slice(),
+            "CodecSpecific { inner: Ber(InvalidObjectIdentifier { oid: [2, 4294967216] }) }",
+        ),
+        (
+            [1, 45].as_slice(),
+            "CodecSpecific { inner: Ber(InvalidObjectIdentifier { oid: [1, 45] }) }",
+        ),
+        (
+            [3, 1].as_slice(),
+            "CodecSpecific { inner: Ber(InvalidObjectIdentifier { oid: [3, 1] }) }",
+        ),
+        (
+            [1].as_slice(),
+            "CodecSpecific { inner: Ber(InvalidObjectIdentifier { oid: [1] }) }",
+        ),
+    ] {
+        match appended(alloc, arcs) {
+            Ok((octets, answer)) => {
+                refused(&rt, alloc, Codec::Ber, answer, text);
+                assert!(rt; octets.as_slice() == [0x2A].as_slice());
+            }
+            Err(_) => assert!(rt; false, "no memory"),
+        }
+    }
+}
+
+#[test]
+fn appends_the_octets_of_arcs(rt: HostRuntime) {
+    match appended(rt.alloc(), &[1, 2, 1]) {
+        Ok((octets, answer)) => {
+            assert!(rt; answer.is_ok());
+            assert!(rt; octets.as_slice() == [0x2A, 0x2A, 0x01].as_slice());
+        }
+        Err(_) => assert!(rt; false, "no memory"),
+    }
+}
+
+// NULL under its own tag and under [0] (X.690 8.8).
+#[test]
+fn writes_null(rt: HostRuntime) {
+    let alloc = rt.alloc();
+    writes::<()>(&rt, alloc, &[((), Codec::Cer, &[0x05, 0x00])]);
+    let mut encoder = new_encoder(&rt, alloc, Codec::Cer);
+    let zero = Tag::new(Class::Context, 0);
+    done(&rt, encoder.encode_null(zero, Identifier::EMPTY));
+    holds(&rt, encoder.output(), &[0x80, 0x00]);
+}
+
+#[test]
+fn refuses_real(rt: HostRuntime) {
+    let alloc = rt.alloc();
+    let mut encoder = new_encoder(&rt, alloc, Codec::Ber);
+    let real = Tag::new(Class::Universal, 9);
+    let answer = encoder.encode_real(real, &Constraints::NONE, &Ratio, Identifier::EMPTY);
+    refused(&rt, alloc, Codec::Ber, answer, "RealNotSupported");
+    holds(&rt, encoder.output(), &[]);
+}
+
+// 100 is within 0 to 100, and 200 isn't.
+#[test]
+fn refuses_numbers_out_of_bounds(rt: HostRuntime) {
+    let alloc = rt.alloc();
+    let mut encoder = new_encoder(&rt, alloc, Codec::Der);
+    assert!(rt; encoder.codec() == Codec::Der);
+    let percentage = Constraints {
+        value: Some(Bound {
+            constraint: Bounded::Range {
+                start: Some(0),
+                end: Some(100),
+            },
+            extensible: false,
+        }),
+        size: None,
+    };
+    let answer = 200u8.encode_with_constraints(&mut encoder, &percentage, Identifier::EMPTY);
+    assert!(rt; answer.is_err());
+    done(
+        &rt,
+        100u8.encode_with_constraints(&mut encoder, &percentage, Identifier::EMPTY),
+    );
+    holds(&rt, encoder.output(), &[0x02, 0x01, 0x64]);
+}

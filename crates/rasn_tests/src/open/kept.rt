@@ -1,0 +1,139 @@
+use super::deep;
+use crate::reading::{Octets, OctetsRow, decoder_of, gives, reads, reads_octets, told};
+use crate::whole::begins;
+use rasn::de::Decode;
+use rasn::types::{Any, Class, Codec, Tag};
+use std::alloc::Global;
+use std::process::Abort;
+
+/// \[1\]
+const ONE: Tag = Tag {
+    class: Class::Context,
+    value: 1,
+};
+
+impl Octets for Any {
+    fn octets(&self) -> &[u8] {
+        self.as_bytes()
+    }
+}
+
+// An open type without a tag is one whole encoding, closing octets included (X.690 8.15).
+#[test]
+fn keeps_whole_encodings(rt: HostRuntime) {
+    let alloc = rt.alloc();
+    let whole = "(Any { octets: [48, 128, 48, 128, 2, 1, 1, 0, 0, 4, 1, 0, 0, 0] }, [2, 1, 2])";
+    begins::<Any>(
+        &rt,
+        alloc,
+        &[(
+            &[
+                0x30, 0x80, 0x30, 0x80, 0x02, 0x01, 0x01, 0x00, 0x00, 0x04, 0x01, 0x00, 0x00, 0x00,
+                0x02, 0x01, 0x02,
+            ],
+            Codec::Ber,
+            whole,
+        )],
+    );
+    reads_octets::<Any>(
+        &rt,
+        alloc,
+        &[
+            (
+                &[0x02, 0x01, 0x05, 0x00],
+                Codec::Ber,
+                &[0x02, 0x01, 0x05],
+                3,
+            ),
+            (
+                &[0x02, 0x01, 0x05, 0x00],
+                Codec::Der,
+                &[0x02, 0x01, 0x05],
+                3,
+            ),
+        ],
+    );
+}
+
+// A fault inside is one of the whole, which isn't taken.
+#[test]
+fn refuses_broken_encodings(rt: HostRuntime) {
+    let end = "CodecSpecific { inner: Ber(UnexpectedEndOfContents) }";
+    let open = "CodecSpecific { inner: Ber(IndefiniteLengthNotAllowed) }";
+    reads::<Any>(
+        &rt,
+        rt.alloc(),
+        &[
+            (
+                &[0x30, 0x80, 0x05, 0x00],
+                Codec::Ber,
+                "Incomplete { needed: Size(1) }",
+                0,
+            ),
+            (&[0x30, 0x80, 0x00], Codec::Ber, end, 0),
+            (&[0x00, 0x00], Codec::Ber, end, 0),
+            (&[0x30, 0x80, 0x00, 0x00], Codec::Der, open, 0),
+        ],
+    );
+}
+
+/// Reads an open type of the tag \[1\] from each row's octets, and holds its octets and what is taken against the row.
+fn reads_tagged(rt: &impl Abort, alloc: Global, rows: &[OctetsRow]) {
+    for (octets, rules, found, taken) in rows {
+        let mut decoder = decoder_of(alloc, octets, *rules);
+        gives(rt, decoder.decode_any(ONE), found);
+        assert!(rt; decoder.decoded_len() == *taken, "{octets:?} {rules:?}");
+    }
+}
+
+// A tag of its own stands round the value, and isn't kept, nor are its closing octets (X.690 8.14.2).
+#[test]
+fn keeps_what_a_tag_holds(rt: HostRuntime) {
+    reads_tagged(
+        &rt,
+        rt.alloc(),
+        &[
+            (
+                &[0xA1, 0x80, 0x04, 0x02, 0xAB, 0xCD, 0x00, 0x00],
+                Codec::Ber,
+                &[0x04, 0x02, 0xAB, 0xCD],
+                8,
+            ),
+            (
+                &[0xA1, 0x80, 0x04, 0x02, 0xAB, 0xCD, 0x00, 0x00],
+                Codec::Cer,
+                &[0x04, 0x02, 0xAB, 0xCD],
+                8,
+            ),
+            (&[0xA1, 0x02, 0x05, 0x00], Codec::Der, &[0x05, 0x00], 4),
+            (&[0x81, 0x02, 0x05, 0x00], Codec::Ber, &[0x05, 0x00], 4),
+            (&[0xA1, 0x00], Codec::Ber, &[], 2),
+        ],
+    );
+}
+
+// DER holds the tag of its own to be constructed, as it is written (X.690 8.14.3).
+#[test]
+fn der_refuses_a_primitive_tag(rt: HostRuntime) {
+    let alloc = rt.alloc();
+    let mut decoder = decoder_of(alloc, &[0x81, 0x02, 0x05, 0x00], Codec::Der);
+    let kind = "CodecSpecific { inner: Der(ConstructedBitMismatch) }";
+    told(&rt, alloc, Codec::Der, decoder.decode_any(ONE), kind);
+    assert!(rt; decoder.decoded_len() == 0);
+}
+
+// No level is kept in memory, so there may be any number.
+#[test]
+fn keeps_a_million_levels(rt: HostRuntime) {
+    let alloc = rt.alloc();
+    match deep(alloc) {
+        Ok(octets) => {
+            let mut decoder = decoder_of(alloc, &octets, Codec::Ber);
+            assert!(rt;
+                Any::decode(&mut decoder).is_ok_and(|any| any.as_bytes() == octets.as_slice())
+            );
+            assert!(rt; decoder.decoded_len() == 4_000_000);
+        }
+        Err(_) => assert!(rt; false, "no memory"),
+    }
+}

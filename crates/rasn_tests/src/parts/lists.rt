@@ -1,0 +1,131 @@
+use crate::writing::{
+    done, holds, identifier_of, made, new_encoder, refused, repeated, writes_made, writes_pieces,
+};
+use rasn_enc::enc::Encode;
+use rasn_types::types::{
+    Bound, Bounded, Class, Codec, Constraints, Identifier, ObjectIdentifier, OctetString, Tag,
+};
+use std::alloc::{AllocError, Global};
+
+/// SIZE (2..2)
+const PAIR: Constraints = Constraints {
+    value: None,
+    size: Some(Bound {
+        constraint: Bounded::Range {
+            start: Some(2),
+            end: Some(2),
+        },
+        extensible: false,
+    }),
+};
+
+/// SEQUENCE OF INTEGER
+fn numbers(alloc: Global, numbers: &[u8]) -> Result<Option<Vec<u8>>, AllocError> {
+    let numbers = Vec::from_slice(alloc, numbers)?;
+    Ok(Some(numbers))
+}
+
+/// SEQUENCE OF SEQUENCE OF OCTET STRING, of one string in one list.
+pub fn lists(
+    alloc: Global,
+    octet: u8,
+    count: usize,
+) -> Result<Option<Vec<Vec<OctetString>>>, AllocError> {
+    let mut lists = Vec::new(alloc);
+    if let Some(string) = repeated(alloc, octet, count)? {
+        let mut strings = Vec::new(alloc);
+        strings.push(string)?;
+        lists.push(strings)?;
+    }
+    Ok(Some(lists))
+}
+
+/// SEQUENCE OF OBJECT IDENTIFIER
+fn identifiers(
+    alloc: Global,
+    arcs: &[&[u32]],
+) -> Result<Option<Vec<ObjectIdentifier>>, AllocError> {
+    let mut identifiers = Vec::new(alloc);
+    for arcs in arcs {
+        match identifier_of(alloc, arcs)? {
+            Some(identifier) => identifiers.push(identifier)?,
+            None => return Ok(None),
+        }
+    }
+    Ok(Some(identifiers))
+}
+
+// A constructed value is definite, but for CER (X.690 9.1).
+#[test]
+fn writes_lists(rt: HostRuntime) {
+    let alloc = rt.alloc();
+    let definite = [0x30, 0x06, 0x02, 0x01, 0x05, 0x02, 0x01, 0x07];
+    let indefinite = [0x30, 0x80, 0x02, 0x01, 0x05, 0x02, 0x01, 0x07, 0x00, 0x00];
+    for (rules, octets) in [
+        (Codec::Ber, definite.as_slice()),
+        (Codec::Der, definite.as_slice()),
+        (Codec::Cer, indefinite.as_slice()),
+    ] {
+        writes_made(&rt, alloc, rules, numbers(alloc, &[5, 7]), octets);
+    }
+    writes_made(&rt, alloc, Codec::Der, numbers(alloc, &[]), &[0x30, 0x00]);
+    assert!(rt; made(&rt, numbers(alloc, &[])).is_present());
+}
+
+// Each header tells a length of more than 255 octets.
+#[test]
+fn writes_lists_of_lists(rt: HostRuntime) {
+    let alloc = rt.alloc();
+    let header = [
+        0x30, 0x82, 0x01, 0x08, 0x30, 0x82, 0x01, 0x04, 0x04, 0x82, 0x01, 0x00,
+    ];
+    let pieces = [(header.as_slice(), 0xAB, 256)];
+    writes_pieces(&rt, alloc, Codec::Der, lists(alloc, 0xAB, 256), &pieces);
+}
+
+#[test]
+fn calls_write_lists(rt: HostRuntime) {
+    let alloc = rt.alloc();
+    let mut encoder = new_encoder(&rt, alloc, Codec::Der);
+    let zero = Tag::new(Class::Context, 0);
+    let answer = encoder.encode_sequence_of::<u8>(zero, &[5, 7], &PAIR, Identifier::EMPTY);
+    done(&rt, answer);
+    let three = Tag::new(Class::Context, 3);
+    let nine = made(&rt, numbers(alloc, &[9]));
+    let answer = encoder.encode_explicit_prefix(three, &nine, Identifier::EMPTY);
+    done(&rt, answer);
+    let octets = [
+        0xA0, 0x06, 0x02, 0x01, 0x05, 0x02, 0x01, 0x07, 0xA3, 0x05, 0x30, 0x03, 0x02, 0x01, 0x09,
+    ];
+    holds(&rt, encoder.output(), &octets);
+}
+
+#[test]
+fn refuses_sizes_of_lists(rt: HostRuntime) {
+    let alloc = rt.alloc();
+    let mut encoder = new_encoder(&rt, alloc, Codec::Der);
+    let one = made(&rt, numbers(encoder.alloc(), &[5]));
+    let answer = one.encode_with_constraints(&mut encoder, &PAIR, Identifier::EMPTY);
+    let kind =
+        "SizeConstraintNotSatisfied { size: 1, expected: Range { start: Some(2), end: Some(2) } }";
+    refused(&rt, alloc, Codec::Der, answer, kind);
+    holds(&rt, encoder.output(), &[]);
+}
+
+// 1.2 has octets, and 0.40 has none (X.690 8.19.4).
+#[test]
+fn a_refused_element_takes_the_list_along(rt: HostRuntime) {
+    let alloc = rt.alloc();
+    let mut encoder = new_encoder(&rt, alloc, Codec::Der);
+    done(&rt, true.encode(&mut encoder));
+    let identifiers = made(&rt, identifiers(alloc, &[&[1, 2], &[0, 40]]));
+    let kind = "CodecSpecific { inner: Ber(InvalidObjectIdentifier { oid: [0, 40] }) }";
+    refused(
+        &rt,
+        alloc,
+        Codec::Der,
+        identifiers.encode(&mut encoder),
+        kind,
+    );
+    holds(&rt, encoder.output(), &[0x01, 0x01, 0xFF]);
+}

@@ -1,0 +1,100 @@
+use crate::parts::lists::lists;
+use crate::reading::reads;
+use crate::whole::{answers, decoded, encoded, rewrites};
+use crate::writing::{holds_pieces, made};
+use rasn::types::Codec;
+use rasn_bench::{Grouped, Time, Validity};
+
+/// Whether the times are 13:29 on a day of 2018 as UTCTime, and a day of 2050 as GeneralizedTime.
+fn is_from_2018_to_2050(validity: &Validity) -> bool {
+    match (&validity.first, &validity.second) {
+        (Time::Utc(first), Time::General(second)) => {
+            first.date().year() == 2018
+                && first.hour() == 13
+                && first.minute() == 29
+                && second.utc().date().year() == 2050
+        }
+        _ => false,
+    }
+}
+
+// Two times of the certificate profile: until 2049 as UTCTime, then as GeneralizedTime (RFC 5280, 4.1.2.5).
+#[test]
+fn a_validity_has_times_of_two_types(rt: HostRuntime) {
+    let alloc = rt.alloc();
+    let octets = b"\x30\x20\x17\x0D180122132900Z\x18\x0F20500101000000Z";
+    assert!(rt;
+        decoded::<Validity>(alloc, Codec::Der, octets).is_ok_and(|validity| is_from_2018_to_2050(
+            &validity
+        ))
+    );
+    rewrites::<Validity>(&rt, alloc, &[(octets, Codec::Der, Codec::Der, octets)]);
+}
+
+#[test]
+fn a_number_is_no_time(rt: HostRuntime) {
+    let kind = "NoValidChoice { name: \"Time\" }";
+    reads::<Time>(
+        &rt,
+        rt.alloc(),
+        &[(&[0x02, 0x01, 0x05], Codec::Ber, kind, 0)],
+    );
+}
+
+#[test]
+fn lists_are_written_as_they_are_read(rt: HostRuntime) {
+    let alloc = rt.alloc();
+    let closed = [0x30, 0x80, 0x02, 0x01, 0x05, 0x02, 0x01, 0x07, 0x00, 0x00];
+    let definite = [0x30, 0x06, 0x02, 0x01, 0x05, 0x02, 0x01, 0x07];
+    answers::<Vec<u8>>(&rt, alloc, &[(&closed, Codec::Ber, "[5, 7]")]);
+    rewrites::<Vec<u8>>(
+        &rt,
+        alloc,
+        &[
+            (&closed, Codec::Ber, Codec::Der, &definite),
+            (&closed, Codec::Ber, Codec::Cer, &closed),
+        ],
+    );
+}
+
+// Each header tells a length of more than 255 octets.
+#[test]
+fn lists_of_lists_are_written(rt: HostRuntime) {
+    let alloc = rt.alloc();
+    let header = [
+        0x30, 0x82, 0x01, 0x08, 0x30, 0x82, 0x01, 0x04, 0x04, 0x82, 0x01, 0x00,
+    ];
+    let lists = made(&rt, lists(alloc, 0xAB, 256));
+    let answer = encoded(alloc, Codec::Der, &lists);
+    holds_pieces(&rt, alloc, answer, &[(&header, 0xAB, 256)]);
+}
+
+#[test]
+fn additions_may_be_absent(rt: HostRuntime) {
+    let alloc = rt.alloc();
+    let all = [
+        0x30, 0x0E, 0x01, 0x01, 0xFF, 0x81, 0x01, 0x05, 0x30, 0x06, 0x02, 0x01, 0x07, 0x01, 0x01,
+        0x00,
+    ];
+    let bare = [0x30, 0x03, 0x01, 0x01, 0xFF];
+    assert!(rt;
+        decoded::<Grouped>(alloc, Codec::Ber, &all).is_ok_and(|all| all.truth
+            && all.number.is_some()
+            && all.group.is_some())
+    );
+    assert!(rt;
+        decoded::<Grouped>(alloc, Codec::Ber, &bare).is_ok_and(|bare| bare.number.is_none()
+            && bare.group.is_none())
+    );
+    rewrites::<Grouped>(
+        &rt,
+        alloc,
+        &[
+            (&all, Codec::Ber, Codec::Der, &all),
+            (&bare, Codec::Ber, Codec::Der, &bare),
+        ],
+    );
+    let other = [0x30, 0x06, 0x01, 0x01, 0xFF, 0x82, 0x01, 0x05];
+    let kind = "UnexpectedExtraData { length: 3 }";
+    answers::<Grouped>(&rt, alloc, &[(&other, Codec::Ber, kind)]);
+}

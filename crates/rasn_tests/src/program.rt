@@ -1,0 +1,4 @@
+//! The program: lines and their answers, and readers and writers that fail.
+
+mod faults;
+mod lines;

@@ -1,0 +1,5 @@
+//! SEQUENCE: what is read and written inside, and what a refusal says and has consumed.
+
+mod closures;
+mod nested;
+mod whole;

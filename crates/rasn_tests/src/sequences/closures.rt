@@ -1,0 +1,77 @@
+ghost use Rattle.rasn_de.specs.Inside.{Keeps};
+ghost use Rattle.rasn_enc.specs.View.{LeavesOthers};
+
+use crate::reading::{decoder_of, told};
+use crate::writing::{done, holds, new_encoder};
+use rasn::ber::de::Decoder;
+use rasn::ber::enc::Encoder;
+use rasn::error::{DecodeError, EncodeError};
+use rasn::types::{Bound, Bounded, Codec, Constraints, Identifier, Tag};
+use rasn_bench::Pair;
+use std::alloc::AllocError;
+
+/// SIZE (3)
+const THREE: Constraints = Constraints {
+    value: None,
+    size: Some(Bound {
+        constraint: Bounded::Single(3),
+        extensible: false,
+    }),
+};
+
+/// Reads a number where a BOOLEAN is refused.
+fn read_past_a_refusal(decoder: &mut Decoder<'_>) -> Result<Pair, DecodeError> {
+    decoder.decode_sequence::<2, 0, Pair, fn() -> Result<Pair, AllocError>, _>(
+        Tag::SEQUENCE,
+        None,
+        |inner|
+            ensures { Keeps inner.old inner.new }
+        {
+            let _ = inner.decode_bool(Tag::BOOL);
+            let number = inner.decode_integer::<i32>(Tag::INTEGER, &Constraints::NONE)?;
+            Ok(Pair {
+                number,
+                truth: false,
+            })
+        },
+    )
+}
+
+/// Writes TRUE where two octets are refused.
+fn write_past_a_refusal(encoder: &mut Encoder) -> Result<(), EncodeError> {
+    encoder.encode_sequence::<2, 0, Pair, _>(
+        Tag::SEQUENCE,
+        |inner: &mut Encoder| -> Result<(), EncodeError>
+            ensures { LeavesOthers inner.old inner.new }
+        {
+            let _ = inner.encode_octet_string(
+                Tag::OCTET_STRING,
+                &THREE,
+                &[1, 2],
+                Identifier::EMPTY,
+            );
+            inner.encode_bool(Tag::BOOL, true, Identifier::EMPTY)
+        },
+        Identifier::EMPTY,
+    )
+}
+
+// A closure may drop a refusal and go on where the refused call left the decoder.
+#[test]
+fn a_dropped_refusal_is_gone_on_from(rt: HostRuntime) {
+    let alloc = rt.alloc();
+    let input = [0x30, 0x03, 0x02, 0x01, 0x05];
+    let mut decoder = decoder_of(alloc, &input, Codec::Ber);
+    let answer = read_past_a_refusal(&mut decoder);
+    let read = "Pair { number: 5, truth: false }";
+    told(&rt, alloc, Codec::Ber, answer, read);
+    assert!(rt; decoder.decoded_len() == 5);
+}
+
+// A refused call inside leaves nothing behind.
+#[test]
+fn a_dropped_refusal_leaves_no_octets(rt: HostRuntime) {
+    let mut encoder = new_encoder(&rt, rt.alloc(), Codec::Der);
+    done(&rt, write_past_a_refusal(&mut encoder));
+    holds(&rt, encoder.output(), &[0x30, 0x03, 0x01, 0x01, 0xFF]);
+}

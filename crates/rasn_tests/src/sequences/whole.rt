@@ -1,0 +1,94 @@
+use crate::reading::reads;
+use crate::whole::{answers, encoded, rewrites};
+use crate::writing::holds;
+use rasn::ber;
+use rasn::types::Codec;
+use rasn_bench::{Both, Pair};
+
+#[test]
+fn refusals_tell_what_is_wrong(rt: HostRuntime) {
+    let ber = Codec::Ber;
+    reads::<Pair>(
+        &rt,
+        rt.alloc(),
+        &[
+            (
+                &[
+                    0x30, 0x09, 0x02, 0x01, 0x05, 0x01, 0x01, 0x00, 0x02, 0x01, 0x06,
+                ],
+                ber,
+                "UnexpectedExtraData { length: 3 }",
+                11,
+            ),
+            (
+                &[0x30, 0x03, 0x02, 0x01, 0x05],
+                ber,
+                "Incomplete { needed: Size(1) }",
+                5,
+            ),
+            (
+                &[0x10, 0x00],
+                ber,
+                "CodecSpecific { inner: Ber(InvalidConstructedIdentifier) }",
+                2,
+            ),
+            (
+                &[0x30, 0x80, 0x02, 0x01, 0x05, 0x01, 0x01, 0xFF],
+                ber,
+                "Incomplete { needed: Size(2) }",
+                8,
+            ),
+            (
+                &[
+                    0x30, 0x80, 0x02, 0x01, 0x05, 0x01, 0x01, 0xFF, 0x02, 0x01, 0x05,
+                ],
+                ber,
+                "CodecSpecific { inner: Ber(MissingEndOfContents) }",
+                8,
+            ),
+        ],
+    );
+}
+
+// X.690 9.1, 10.1.
+#[test]
+fn a_canonical_value_is_closed_by_octets(rt: HostRuntime) {
+    let alloc = rt.alloc();
+    let pair = Pair {
+        number: 5,
+        truth: true,
+    };
+    let canonical = [0x30, 0x80, 0x02, 0x01, 0x05, 0x01, 0x01, 0xFF, 0x00, 0x00];
+    let distinguished = [0x30, 0x06, 0x02, 0x01, 0x05, 0x01, 0x01, 0xFF];
+    holds(&rt, encoded(alloc, Codec::Cer, &pair), &canonical);
+    let read = "Pair { number: 5, truth: true }";
+    answers::<Pair>(&rt, alloc, &[(&canonical, Codec::Cer, read)]);
+    rewrites::<Pair>(
+        &rt,
+        alloc,
+        &[(&canonical, Codec::Cer, Codec::Der, &distinguished)],
+    );
+    reads::<Pair>(
+        &rt,
+        alloc,
+        &[(
+            &[0x30, 0x80, 0x02, 0x01, 0x05, 0x01, 0x01, 0xFF, 0x00, 0x00],
+            Codec::Der,
+            "CodecSpecific { inner: Ber(IndefiniteLengthNotAllowed) }",
+            0,
+        )],
+    );
+}
+
+#[test]
+fn sequences_hold_sequences(rt: HostRuntime) {
+    let alloc = rt.alloc();
+    let short = [0x30, 0x08, 0x01, 0x01, 0x00, 0x30, 0x03, 0x01, 0x01, 0xFF];
+    assert!(rt; ber::decode::<Both<bool, Both<bool, bool>>>(alloc, &short).is_err());
+    let whole = [
+        0x30, 0x0B, 0x01, 0x01, 0x00, 0x30, 0x06, 0x01, 0x01, 0xFF, 0x02, 0x01, 0x07,
+    ];
+    let read = "Both { first: false, second: Both { first: true, second: 7 } }";
+    answers::<Both<bool, Both<bool, u8>>>(&rt, alloc, &[(&whole, Codec::Der, read)]);
+    rewrites::<Both<bool, Both<bool, u8>>>(&rt, alloc, &[(&whole, Codec::Der, Codec::Ber, &whole)]);
+}

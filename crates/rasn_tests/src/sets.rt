@@ -1,0 +1,8 @@
+//! SET and SET OF, which no rule writes out of order, and the calls that write over a vector or for a closure.
+
+mod bags;
+mod components;
+mod elements;
+mod order;
+mod outputs;
+mod reads;

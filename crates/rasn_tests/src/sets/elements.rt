@@ -1,0 +1,50 @@
+use crate::writing::made;
+use rasn_types::types::SetOf;
+use std::alloc::{AllocError, Global};
+use std::process::Abort;
+
+/// A SET OF of these numbers.
+fn bag(alloc: Global, numbers: &[u8]) -> Result<Option<SetOf<u8>>, AllocError> {
+    let numbers = Vec::from_slice(alloc, numbers)?;
+    Ok(Some(SetOf::from_vec(numbers)))
+}
+
+// A new number goes to the end of the walk.
+#[test]
+fn keeps_the_walk(rt: HostRuntime) {
+    let alloc = rt.alloc();
+    let mut bag = made(&rt, bag(alloc, &[3, 1, 3]));
+    assert!(rt; bag.len() == 3);
+    assert!(rt; bag.insert(2).is_ok());
+    assert!(rt; bag.as_slice() == [3, 1, 3, 2].as_slice());
+    assert!(rt; bag.iter().eq([3, 1, 3, 2].iter()));
+    assert!(rt; !bag.is_empty());
+    assert!(rt; bag.into_vec().as_slice() == [3, 1, 3, 2].as_slice());
+}
+
+#[test]
+fn begins_without_elements(rt: HostRuntime) {
+    let empty: SetOf<u8> = SetOf::new(rt.alloc());
+    assert!(rt; empty.is_empty());
+    assert!(rt; empty.len() == 0);
+    assert!(rt; empty.iter().next().is_none());
+}
+
+/// Holds whether the bags of these numbers are equal, either way round.
+fn are_equal(rt: &impl Abort, alloc: Global, first: &[u8], second: &[u8], equal: bool) {
+    let first = made(rt, bag(alloc, first));
+    let second = made(rt, bag(alloc, second));
+    assert!(rt; (first == second) == equal);
+    assert!(rt; (second == first) == equal);
+}
+
+// The order doesn't count, but how often each element stands there does (X.680 28).
+#[test]
+fn equal_bags_have_equal_elements_equally_often(rt: HostRuntime) {
+    let alloc = rt.alloc();
+    are_equal(&rt, alloc, &[1, 2, 2], &[2, 1, 2], true);
+    are_equal(&rt, alloc, &[1, 2, 2], &[1, 1, 2], false);
+    are_equal(&rt, alloc, &[1, 2], &[1, 2, 2], false);
+    are_equal(&rt, alloc, &[1], &[2], false);
+    are_equal(&rt, alloc, &[], &[], true);
+}

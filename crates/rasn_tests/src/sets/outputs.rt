@@ -1,0 +1,120 @@
+ghost use Rattle.rasn_enc.specs.View.{Extends};
+
+use super::bags::lists;
+use super::order::OUT_OF_ORDER;
+use crate::writing::{done, holds, made, refused};
+use rasn::ber::enc::{Encoder, EncoderOptions};
+use rasn::enc::Encode;
+use rasn::error::EncodeError;
+use rasn::types::Codec;
+use rasn::{ber, cer, der};
+use std::alloc::{AllocError, Global};
+use std::process::Abort;
+
+/// TRUE.
+const TRUE: [u8; 3] = [0x01, 0x01, 0xFF];
+
+/// A vector that holds something else.
+fn held(alloc: Global) -> Result<Option<Vec<u8>>, AllocError> {
+    let octets = Vec::from_slice(alloc, &[0xAA])?;
+    Ok(Some(octets))
+}
+
+/// Writes the value over what the vector holds, by the entry point of these rules.
+fn fill<T: Encode>(
+    alloc: Global,
+    rules: Codec,
+    value: &T,
+    buffer: &mut Vec<u8>,
+) -> Result<(), EncodeError> {
+    match rules {
+        Codec::Ber => ber::encode_buf(alloc, value, buffer),
+        Codec::Cer => cer::encode_buf(alloc, value, buffer),
+        Codec::Der => der::encode_buf(alloc, value, buffer),
+    }
+}
+
+// What the vector holds is written over.
+#[test]
+fn fills_vectors(rt: HostRuntime) {
+    let alloc = rt.alloc();
+    for rules in [Codec::Ber, Codec::Cer, Codec::Der] {
+        let mut buffer = made(&rt, held(alloc));
+        done(&rt, fill(alloc, rules, &true, &mut buffer));
+        assert!(rt; buffer.as_slice() == TRUE.as_slice());
+    }
+}
+
+// A refused value leaves the vector empty.
+#[test]
+fn a_refused_value_empties_the_vector(rt: HostRuntime) {
+    let alloc = rt.alloc();
+    let mut buffer = made(&rt, held(alloc));
+    let falling = made(&rt, lists(alloc, &[&[1, 1], &[2]]));
+    let answer = fill(alloc, Codec::Der, &falling, &mut buffer);
+    refused(&rt, alloc, Codec::Der, answer, OUT_OF_ORDER);
+    assert!(rt; buffer.is_empty());
+}
+
+// A closure that writes nothing leaves no octets.
+#[test]
+fn an_empty_scope_has_no_octets_by_ber(rt: HostRuntime) {
+    let answer = ber::encode_scope(
+        rt.alloc(),
+        |encoder: &mut Encoder| -> Result<(), EncodeError>
+            ensures { Extends encoder.old encoder.new }
+        { Ok(()) },
+    );
+    holds(&rt, answer, &[]);
+}
+
+#[test]
+fn an_empty_scope_has_no_octets_by_der(rt: HostRuntime) {
+    let answer = der::encode_scope(
+        rt.alloc(),
+        |encoder: &mut Encoder| -> Result<(), EncodeError>
+            ensures { Extends encoder.old encoder.new }
+        { Ok(()) },
+    );
+    holds(&rt, answer, &[]);
+}
+
+/// The encoder that is made, where there is memory for it.
+fn started(rt: &impl Abort, encoder: Result<Encoder, EncodeError>) -> Encoder {
+    match encoder {
+        Ok(encoder) => encoder,
+        Err(_) => panic!(rt; "no memory"),
+    }
+}
+
+#[test]
+fn encoders_begin_without_octets(rt: HostRuntime) {
+    let alloc = rt.alloc();
+    let buffer = made(&rt, held(alloc));
+    let answer = Encoder::new_with_buffer(alloc, EncoderOptions::der(), buffer);
+    let mut encoder = started(&rt, answer);
+    done(&rt, true.encode(&mut encoder));
+    holds(&rt, encoder.output(), &TRUE);
+    let mut encoder = started(&rt, Encoder::new_set(alloc, EncoderOptions::der()));
+    done(&rt, true.encode(&mut encoder));
+    holds(&rt, encoder.output(), &TRUE);
+}
+
+/// What the encoder puts out after an INTEGER and a BOOLEAN, whose tag is the lower one.
+fn outputs_falling(rt: &impl Abort, mut encoder: Encoder) -> Result<Vec<u8>, EncodeError> {
+    done(rt, 2u8.encode(&mut encoder));
+    done(rt, true.encode(&mut encoder));
+    encoder.output()
+}
+
+// Only the output of `new_set` has to be in order.
+#[test]
+fn outputs_of_sets_are_in_order(rt: HostRuntime) {
+    let alloc = rt.alloc();
+    let encoder = started(&rt, Encoder::new_set(alloc, EncoderOptions::der()));
+    let answer = outputs_falling(&rt, encoder).map(|_| ());
+    refused(&rt, alloc, Codec::Der, answer, OUT_OF_ORDER);
+    let encoder = started(&rt, Encoder::new(alloc, EncoderOptions::der()));
+    let octets = [0x02, 0x01, 0x02, 0x01, 0x01, 0xFF];
+    holds(&rt, outputs_falling(&rt, encoder), &octets);
+}

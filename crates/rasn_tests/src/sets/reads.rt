@@ -1,0 +1,136 @@
+use crate::reading::{Row, decoder_of, reads, reads_within, sized};
+use rasn_de::de::Decode;
+use rasn_types::types::{Codec, OctetString, SetOf};
+use std::alloc::Global;
+use std::process::Abort;
+
+const OUT_OF_ORDER: &str = "CodecSpecific { inner: Der(SetOfOutOfOrder) }";
+
+/// Whether the octets are read, all of them, as a bag of these strings, in whatever walk.
+fn is_bag(rt: &impl Abort, alloc: Global, octets: &[u8], rules: Codec, strings: &[&[u8]]) -> bool {
+    let mut decoder = decoder_of(alloc, octets, rules);
+    match SetOf::<OctetString>::decode(&mut decoder) {
+        Ok(bag) => {
+            let expected = super::bags::strings(alloc, strings);
+            match expected {
+                Ok(Some(expected)) => bag == expected && decoder.remaining().is_empty(),
+                _ => {
+                    assert!(rt; false, "no memory");
+                    false
+                }
+            }
+        }
+        Err(_) => false,
+    }
+}
+
+// BER and CER read a SET OF in any order, which equals the same bag in another one (X.690 8.12).
+#[test]
+fn reads_bags_in_any_order(rt: HostRuntime) {
+    let alloc = rt.alloc();
+    let falling = [0x31, 0x06, 0x04, 0x01, 0x02, 0x04, 0x01, 0x01];
+    assert!(rt; is_bag(&rt, alloc, &falling, Codec::Ber, &[&[0x01], &[0x02]]));
+    assert!(rt; is_bag(&rt, alloc, &falling, Codec::Cer, &[&[0x02], &[0x01]]));
+    assert!(rt; !is_bag(&rt, alloc, &falling, Codec::Ber, &[&[0x01], &[0x01]]));
+}
+
+// DER reads them in the order of their octets, equal ones too (X.690 11.6).
+#[test]
+fn reads_bags_in_order(rt: HostRuntime) {
+    let alloc = rt.alloc();
+    let rising = [
+        0x31, 0x0E, 0x04, 0x01, 0x01, 0x04, 0x01, 0x02, 0x04, 0x02, 0x01, 0xFF, 0x04, 0x02, 0x02,
+        0x01,
+    ];
+    let walk: [&[u8]; 4] = [&[0x01], &[0x02], &[0x01, 0xFF], &[0x02, 0x01]];
+    assert!(rt; is_bag(&rt, alloc, &rising, Codec::Der, &walk));
+    let equal = [0x31, 0x06, 0x04, 0x01, 0x05, 0x04, 0x01, 0x05];
+    assert!(rt; is_bag(&rt, alloc, &equal, Codec::Der, &[&[0x05], &[0x05]]));
+    assert!(rt; is_bag(&rt, alloc, &[0x31, 0x00], Codec::Der, &[]));
+}
+
+const FALLING: [Row; 4] = [
+    (
+        &[0x31, 0x06, 0x04, 0x01, 0x02, 0x04, 0x01, 0x01],
+        Codec::Der,
+        OUT_OF_ORDER,
+        8,
+    ),
+    // The longer string comes first: its length octet is more.
+    (
+        &[0x31, 0x07, 0x04, 0x02, 0x01, 0xFF, 0x04, 0x01, 0x02],
+        Codec::Der,
+        OUT_OF_ORDER,
+        9,
+    ),
+    // A BOOLEAN behind the fall isn't looked at; one before it is told first.
+    (
+        &[
+            0x31, 0x09, 0x04, 0x01, 0x02, 0x04, 0x01, 0x01, 0x01, 0x01, 0xFF,
+        ],
+        Codec::Der,
+        OUT_OF_ORDER,
+        11,
+    ),
+    (
+        &[
+            0x31, 0x09, 0x04, 0x01, 0x02, 0x01, 0x01, 0xFF, 0x04, 0x01, 0x01,
+        ],
+        Codec::Der,
+        "CodecSpecific { inner: Ber(MismatchedTag { expected: Tag { class: Universal, value: 4 }, actual: Tag { class: Universal, value: 1 } }) }",
+        11,
+    ),
+];
+
+// DER refuses the first element whose octets are less than those before it, with header and contents taken (X.690 11.6).
+#[test]
+fn refuses_bags_that_fall(rt: HostRuntime) {
+    reads::<SetOf<OctetString>>(&rt, rt.alloc(), &FALLING);
+}
+
+const NO_BAGS: [Row; 2] = [
+    (
+        &[0x11, 0x00],
+        Codec::Der,
+        "CodecSpecific { inner: Ber(InvalidConstructedIdentifier) }",
+        2,
+    ),
+    (
+        &[0x31, 0x80, 0x00, 0x00],
+        Codec::Der,
+        "CodecSpecific { inner: Ber(IndefiniteLengthNotAllowed) }",
+        0,
+    ),
+];
+
+// Framing as of a SEQUENCE OF (X.690 8.12.1, 10.1).
+#[test]
+fn refuses_what_is_no_bag(rt: HostRuntime) {
+    reads::<SetOf<OctetString>>(&rt, rt.alloc(), &NO_BAGS);
+}
+
+const EMPTY_ELEMENT: [Row; 1] = [(
+    &[0x31, 0x03, 0x02, 0x01, 0x05],
+    Codec::Der,
+    "UnexpectedExtraData { length: 3 }",
+    5,
+)];
+
+// An element that takes nothing is refused with the octets that are left.
+#[test]
+fn refuses_elements_of_nothing(rt: HostRuntime) {
+    reads::<SetOf<Option<bool>>>(&rt, rt.alloc(), &EMPTY_ELEMENT);
+}
+
+const ONE_TOO_MANY: [Row; 1] = [(
+    &[0x31, 0x06, 0x04, 0x01, 0x01, 0x04, 0x01, 0x02],
+    Codec::Ber,
+    "SizeConstraintNotSatisfied { size: Some(2), expected: Single(1) }",
+    8,
+)];
+
+// The size counts elements (X.680 51.5).
+#[test]
+fn counts_elements_of_bags(rt: HostRuntime) {
+    reads_within::<SetOf<OctetString>>(&rt, rt.alloc(), &sized(1), &ONE_TOO_MANY);
+}

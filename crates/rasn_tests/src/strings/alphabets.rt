@@ -1,0 +1,76 @@
+//! Strings as values, and their alphabets (X.680 41).
+
+use rasn_types::types::{
+    Alphabet, BmpString, FixedOctetString, GeneralType, GraphicType, Ia5Type, NumericType,
+    PrintableType, RestrictedString, StringType, TeletexType, VisibleType,
+};
+use std::alloc::Global;
+use std::process::Abort;
+
+#[test]
+fn alphabets_are_those_of_the_standard(rt: HostRuntime) {
+    for (alphabet, octets, foreign) in [
+        (Alphabet::Numeric, b"1 2a", Some(3)),
+        (Alphabet::Printable, b"A?*b", Some(2)),
+        (Alphabet::Visible, b"~ a\x7F", Some(3)),
+        (Alphabet::Ia5, b"A\x80\x81b", Some(1)),
+        (Alphabet::Every, b"\xC8\x00\xFFa", None),
+    ] {
+        assert!(rt; alphabet.first_foreign(octets) == foreign);
+    }
+}
+
+/// Whether the octets make a string of this type, which then has them, or none.
+fn is_string<S: StringType>(alloc: Global, octets: &[u8], is_admitted: bool) -> bool {
+    match RestrictedString::<S>::from_octets(alloc, octets) {
+        Ok(Some(string)) => is_admitted && string.as_octets() == octets,
+        Ok(None) => !is_admitted,
+        Err(_) => false,
+    }
+}
+
+fn admits<S: StringType>(rt: &impl Abort, alloc: Global, octets: &[u8], is_admitted: bool) {
+    assert!(rt; is_string::<S>(alloc, octets, is_admitted), "{octets:?}");
+}
+
+// Each type has its own alphabet.
+#[test]
+fn admits_its_alphabet(rt: HostRuntime) {
+    let alloc = rt.alloc();
+    admits::<Ia5Type>(&rt, alloc, b"Smith", true);
+    admits::<Ia5Type>(&rt, alloc, &[0x41, 0x80], false);
+    admits::<VisibleType>(&rt, alloc, &[0x41, 0x0A], false);
+    admits::<NumericType>(&rt, alloc, b"12 3", true);
+    admits::<NumericType>(&rt, alloc, b"1-2", false);
+    admits::<PrintableType>(&rt, alloc, b"it's (1/2)?", true);
+    admits::<PrintableType>(&rt, alloc, b"a@b", false);
+    admits::<TeletexType>(&rt, alloc, &[0xC8], true);
+    admits::<GeneralType>(&rt, alloc, &[0x1B, 0xFF], true);
+    admits::<GraphicType>(&rt, alloc, &[], true);
+}
+
+#[test]
+fn has_whole_units(rt: HostRuntime) {
+    let alloc = rt.alloc();
+    let letter = &[0x00, 0x41];
+    match (
+        BmpString::from_octets(alloc, letter),
+        BmpString::from_octets(alloc, letter),
+    ) {
+        (Ok(Some(one)), Ok(Some(other))) => {
+            assert_eq!(rt; one.as_octets(), letter.as_slice());
+            assert!(rt; one == other);
+        }
+        _ => assert!(rt; false),
+    }
+    match BmpString::from_octets(alloc, &[0x00, 0x41, 0x00]) {
+        Ok(string) => assert!(rt; string.is_none()),
+        Err(_) => assert!(rt; false, "no memory"),
+    }
+}
+
+#[test]
+fn holds_its_octets(rt: HostRuntime) {
+    let octets = FixedOctetString::<3>::new([0xA1, 0xB2, 0xC3]);
+    assert!(rt; octets.as_octets() == [0xA1, 0xB2, 0xC3].as_slice());
+}

@@ -1,0 +1,61 @@
+use crate::writing::{done, holds, made, new_encoder, refused, set_bits, writes_pieces};
+use rasn_enc::enc::Encode;
+use rasn_types::types::{BitStr, Bound, Bounded, Codec, Constraints, Identifier, Tag};
+
+// The bits 1,1,0,1,0,1,0,1,1,0,1, and those from the second on; then none (X.690 8.6.2).
+#[test]
+fn writes_bits(rt: HostRuntime) {
+    let bits = made(&rt, Ok(BitStr::new(&[0xD5, 0xBF], 0, 11)));
+    assert!(rt; bits.len() == 11);
+    let (none, _) = bits.split_at(0);
+    let (_, ten) = bits.split_at(1);
+    let mut encoder = new_encoder(&rt, rt.alloc(), Codec::Der);
+    for bits in [&bits, &ten, &none] {
+        let answer = encoder.encode_bit_string(
+            Tag::BIT_STRING,
+            &Constraints::NONE,
+            bits,
+            Identifier::EMPTY,
+        );
+        done(&rt, answer);
+    }
+    let octets = [
+        0x03, 0x03, 0x05, 0xD5, 0xA0, 0x03, 0x03, 0x06, 0xAB, 0x40, 0x03, 0x01, 0x00,
+    ];
+    holds(&rt, encoder.output(), &octets);
+}
+
+// More than 999 octets of bits are cut under the canonical rules (X.690 9.2).
+#[test]
+fn cuts_bits_under_canonical_rules(rt: HostRuntime) {
+    let alloc = rt.alloc();
+    let whole = [([0x03, 0x82, 0x03, 0xE8, 0x00].as_slice(), 0xFF, 999)];
+    writes_pieces(&rt, alloc, Codec::Cer, set_bits(alloc, 7992), &whole);
+    let cut = [
+        (
+            [0x23, 0x80, 0x03, 0x82, 0x03, 0xE8, 0x00].as_slice(),
+            0xFF,
+            999,
+        ),
+        ([0x03, 0x02, 0x00, 0xFF, 0x00, 0x00].as_slice(), 0, 0),
+    ];
+    writes_pieces(&rt, alloc, Codec::Cer, set_bits(alloc, 8000), &cut);
+}
+
+// Three bits where there have to be four.
+#[test]
+fn refuses_bits_out_of_bounds(rt: HostRuntime) {
+    let alloc = rt.alloc();
+    let mut encoder = new_encoder(&rt, alloc, Codec::Der);
+    let four = Constraints {
+        value: None,
+        size: Some(Bound {
+            constraint: Bounded::Single(4),
+            extensible: false,
+        }),
+    };
+    let three = made(&rt, set_bits(encoder.alloc(), 3));
+    let answer = three.encode_with_constraints(&mut encoder, &four, Identifier::EMPTY);
+    let kind = "SizeConstraintNotSatisfied { size: 3, expected: Single(4) }";
+    refused(&rt, alloc, Codec::Der, answer, kind);
+}

@@ -1,0 +1,169 @@
+//! Character strings and octets of a fixed size are read.
+
+use crate::reading::{decoder_of, gives, reads, reads_octets, reads_within, sized, told};
+use rasn_types::types::{
+    BmpString, Codec, Constraints, FixedOctetString, GeneralString, GraphicString, Ia5String,
+    NumericString, PrintableString, Tag, TeletexString, VisibleString,
+};
+
+// UTF-8 is judged over all segments: a character may be cut in two (X.690 8.23.10).
+#[test]
+fn reads_utf8_across_segments(rt: HostRuntime) {
+    reads::<String>(
+        &rt,
+        rt.alloc(),
+        &[
+            (
+                &[
+                    0x2C, 0x09, 0x04, 0x03, 0x4A, 0x6F, 0x6E, 0x04, 0x02, 0x65, 0x73,
+                ],
+                Codec::Ber,
+                "\"Jones\"",
+                11,
+            ),
+            (
+                &[0x2C, 0x06, 0x04, 0x01, 0xC3, 0x04, 0x01, 0xAB],
+                Codec::Ber,
+                "\"ë\"",
+                8,
+            ),
+            (
+                &[0x0C, 0x01, 0xC3],
+                Codec::Der,
+                "StringConversionFailed { tag: Tag { class: Universal, value: 12 } }",
+                3,
+            ),
+        ],
+    );
+}
+
+// The size of a UTF8String is in characters, that of a BMPString in units, after the conversion.
+#[test]
+fn counts_characters_and_units(rt: HostRuntime) {
+    let octets = [
+        0x0C, 0x03, 0xC3, 0xAB, 0x61, 0x0C, 0x01, 0xC3, 0x1E, 0x02, 0x00, 0x41, 0x1E, 0x03, 0x00,
+        0x41, 0x00,
+    ];
+    let mut decoder = decoder_of(rt.alloc(), &octets, Codec::Ber);
+    told(
+        &rt,
+        rt.alloc(),
+        Codec::Ber,
+        decoder.decode_utf8_string(Tag::UTF8_STRING, &sized(2)),
+        "\"ëa\"",
+    );
+    told(
+        &rt,
+        rt.alloc(),
+        Codec::Ber,
+        decoder.decode_utf8_string(Tag::UTF8_STRING, &Constraints::NONE),
+        "StringConversionFailed { tag: Tag { class: Universal, value: 12 } }",
+    );
+    gives(
+        &rt,
+        decoder.decode_bmp_string(Tag::BMP_STRING, &sized(1)),
+        &[0x00, 0x41],
+    );
+    assert!(rt; decoder.decoded_len() == 12);
+    told(
+        &rt,
+        rt.alloc(),
+        Codec::Ber,
+        decoder.decode_bmp_string(Tag::BMP_STRING, &sized(1)),
+        "StringConversionFailed { tag: Tag { class: Universal, value: 30 } }",
+    );
+    assert!(rt; decoder.decoded_len() == 17);
+}
+
+// The first octet that isn't in the alphabet is told, with the whole value taken; the size is told before (X.680 41).
+#[test]
+fn refuses_foreign_octets(rt: HostRuntime) {
+    let kind = "PermittedAlphabetError { octet: 128, position: 1 }";
+    let octets = &[0x16, 0x02, 0x41, 0x80];
+    reads::<Ia5String>(&rt, rt.alloc(), &[(octets, Codec::Ber, kind, 4)]);
+    reads::<VisibleString>(
+        &rt,
+        rt.alloc(),
+        &[(&[0x1A, 0x02, 0x41, 0x80], Codec::Ber, kind, 4)],
+    );
+    let kind = "SizeConstraintNotSatisfied { size: Some(2), expected: Single(1) }";
+    reads_within::<Ia5String>(&rt, rt.alloc(), &sized(1), &[(octets, Codec::Ber, kind, 4)]);
+}
+
+// The example of X.690 8.21.5.4, and the tags of X.680 table 8.
+#[test]
+fn reads_each_type(rt: HostRuntime) {
+    let alloc = rt.alloc();
+    let ber = Codec::Ber;
+    let smith = &[
+        0x36, 0x80, 0x04, 0x02, 0x53, 0x6D, 0x04, 0x03, 0x69, 0x74, 0x68, 0x00, 0x00,
+    ];
+    reads_octets::<Ia5String>(&rt, alloc, &[(smith, ber, b"Smith", 13)]);
+    reads_octets::<NumericString>(&rt, alloc, &[(&[0x12, 0x01, 0x31], ber, b"1", 3)]);
+    reads_octets::<PrintableString>(&rt, alloc, &[(&[0x13, 0x01, 0x41], ber, b"A", 3)]);
+    reads_octets::<TeletexString>(&rt, alloc, &[(&[0x14, 0x01, 0xC8], ber, &[0xC8], 3)]);
+    reads_octets::<GraphicString>(&rt, alloc, &[(&[0x19, 0x01, 0x41], ber, b"A", 3)]);
+    reads_octets::<VisibleString>(&rt, alloc, &[(&[0x1A, 0x01, 0x41], ber, b"A", 3)]);
+    reads_octets::<GeneralString>(&rt, alloc, &[(&[0x1B, 0x01, 0x41], ber, b"A", 3)]);
+    let letter = &[0x1E, 0x02, 0x00, 0x41];
+    reads_octets::<BmpString>(&rt, alloc, &[(letter, ber, &[0x00, 0x41], 4)]);
+}
+
+#[test]
+fn calls_read_each_type(rt: HostRuntime) {
+    let octets = [
+        0x12, 0x01, 0x31, 0x13, 0x01, 0x41, 0x14, 0x01, 0xC8, 0x16, 0x01, 0x41, 0x19, 0x01, 0x41,
+        0x1A, 0x01, 0x41, 0x1B, 0x01, 0x41,
+    ];
+    let mut decoder = decoder_of(rt.alloc(), &octets, Codec::Der);
+    let any = Constraints::NONE;
+    gives(
+        &rt,
+        decoder.decode_numeric_string(Tag::NUMERIC_STRING, &any),
+        b"1",
+    );
+    gives(
+        &rt,
+        decoder.decode_printable_string(Tag::PRINTABLE_STRING, &any),
+        b"A",
+    );
+    gives(
+        &rt,
+        decoder.decode_teletex_string(Tag::TELETEX_STRING, &any),
+        &[0xC8],
+    );
+    gives(&rt, decoder.decode_ia5_string(Tag::IA5_STRING, &any), b"A");
+    gives(
+        &rt,
+        decoder.decode_graphic_string(Tag::GRAPHIC_STRING, &any),
+        b"A",
+    );
+    gives(
+        &rt,
+        decoder.decode_visible_string(Tag::VISIBLE_STRING, &any),
+        b"A",
+    );
+    gives(
+        &rt,
+        decoder.decode_general_string(Tag::GENERAL_STRING, &any),
+        b"A",
+    );
+    assert!(rt; decoder.decoded_len() == 21);
+}
+
+// Another length than the type's is told before a handed size.
+#[test]
+fn reads_a_fixed_size(rt: HostRuntime) {
+    reads_octets::<FixedOctetString<1>>(
+        &rt,
+        rt.alloc(),
+        &[(&[0x04, 0x01, 0x41], Codec::Ber, b"A", 3)],
+    );
+    let kind = "SizeConstraintNotSatisfied { size: Some(2), expected: Single(1) }";
+    reads_within::<FixedOctetString<1>>(
+        &rt,
+        rt.alloc(),
+        &sized(5),
+        &[(&[0x04, 0x02, 0x41, 0x42], Codec::Ber, kind, 4)],
+    );
+}

@@ -1,0 +1,131 @@
+//! BIT STRING is read.
+
+use crate::reading::{decoder_of, reads, reads_within, sized};
+use rasn_de::de::Decode;
+use rasn_types::error::DecodeError;
+use rasn_types::types::{BitString, Codec, Constraints, Tag};
+use std::alloc::{AllocError, Global};
+use std::process::Abort;
+
+/// Octets, the rules they are read by, how many bits there are, their octets, and how many octets are taken.
+type BitsRow = (&'static [u8], Codec, usize, &'static [u8], usize);
+
+fn packed(alloc: Global, bits: &BitString) -> Result<Vec<u8>, AllocError> {
+    let mut octets = Vec::new(alloc);
+    bits.as_bitstr().append_to(&mut octets)?;
+    Ok(octets)
+}
+
+/// Holds the bits that a call answers against their count and octets.
+fn gives_bits(
+    rt: &impl Abort,
+    alloc: Global,
+    answer: Result<BitString, DecodeError>,
+    len: usize,
+    octets: &[u8],
+) {
+    match answer {
+        Ok(bits) => {
+            assert_eq!(rt; bits.len(), len);
+            match packed(alloc, &bits) {
+                Ok(found) => assert_eq!(rt; found.as_slice(), octets),
+                Err(_) => assert!(rt; false, "no memory"),
+            }
+        }
+        Err(error) => assert!(rt; false, "{:?}", error.kind),
+    }
+}
+
+fn reads_bits(rt: &impl Abort, alloc: Global, rows: &[BitsRow]) {
+    for (octets, rules, len, found, taken) in rows {
+        let mut decoder = decoder_of(alloc, octets, *rules);
+        gives_bits(rt, alloc, BitString::decode(&mut decoder), *len, found);
+        assert_eq!(rt; decoder.decoded_len(), *taken, "{octets:?} {rules:?}");
+    }
+}
+
+// The example of X.690 8.6.4.2, primitive and in segments.
+const PRIMITIVE: &[u8] = &[0x03, 0x07, 0x04, 0x0A, 0x3B, 0x5F, 0x29, 0x1C, 0xD0];
+
+const SEGMENTS: &[u8] = &[
+    0x23, 0x80, 0x03, 0x03, 0x00, 0x0A, 0x3B, 0x03, 0x05, 0x04, 0x5F, 0x29, 0x1C, 0xD0, 0x00, 0x00,
+];
+
+const BITS: &[u8] = &[0x0A, 0x3B, 0x5F, 0x29, 0x1C, 0xD0];
+
+// A segment that isn't the last may have unused bits. Unused bits may be set, but not under DER (X.690 11.2.1).
+#[test]
+fn reads_bits_of_both_forms(rt: HostRuntime) {
+    reads_bits(
+        &rt,
+        rt.alloc(),
+        &[
+            (PRIMITIVE, Codec::Ber, 44, BITS, 9),
+            (SEGMENTS, Codec::Ber, 44, BITS, 16),
+            (
+                &[0x23, 0x08, 0x03, 0x02, 0x05, 0xE0, 0x03, 0x02, 0x04, 0xA0],
+                Codec::Ber,
+                7,
+                &[0xF4],
+                10,
+            ),
+            (&[0x03, 0x02, 0x05, 0xFF], Codec::Ber, 3, &[0xE0], 4),
+            (&[0x03, 0x02, 0x05, 0xFF], Codec::Cer, 3, &[0xE0], 4),
+        ],
+    );
+}
+
+fn read_alike(alloc: Global, one: &[u8], other: &[u8]) -> bool {
+    match (
+        BitString::decode(&mut decoder_of(alloc, one, Codec::Ber)),
+        BitString::decode(&mut decoder_of(alloc, other, Codec::Ber)),
+    ) {
+        (Ok(one), Ok(other)) => one == other,
+        _ => false,
+    }
+}
+
+#[test]
+fn calls_read_bits(rt: HostRuntime) {
+    let mut decoder = decoder_of(rt.alloc(), PRIMITIVE, Codec::Ber);
+    let answer = decoder.decode_bit_string(Tag::BIT_STRING, &Constraints::NONE);
+    gives_bits(&rt, rt.alloc(), answer, 44, BITS);
+    assert!(rt; read_alike(rt.alloc(), PRIMITIVE, SEGMENTS));
+}
+
+// A segment's faults take nothing; a size takes the value (X.690 8.6.2).
+#[test]
+fn refuses_bits(rt: HostRuntime) {
+    reads::<BitString>(
+        &rt,
+        rt.alloc(),
+        &[
+            (&[0x03, 0x00], Codec::Der, "UnexpectedEmptyInput", 0),
+            (
+                &[0x03, 0x01, 0x01],
+                Codec::Der,
+                "InvalidBitString { bits: 1 }",
+                0,
+            ),
+            (
+                &[0x03, 0x02, 0x08, 0xFF],
+                Codec::Der,
+                "InvalidBitString { bits: 8 }",
+                0,
+            ),
+            (
+                &[0x03, 0x02, 0x05, 0xFF],
+                Codec::Der,
+                "CodecSpecific { inner: Der(NonzeroUnusedBits) }",
+                0,
+            ),
+        ],
+    );
+    let kind = "SizeConstraintNotSatisfied { size: Some(3), expected: Single(4) }";
+    reads_within::<BitString>(
+        &rt,
+        rt.alloc(),
+        &sized(4),
+        &[(&[0x03, 0x02, 0x05, 0xE0], Codec::Der, kind, 4)],
+    );
+}

@@ -1,0 +1,141 @@
+use crate::reading::reads;
+use crate::whole::{answers, decoded, encoded, rewrites};
+use crate::writing::{Piece, holds_pieces, made, of_pieces, repeated};
+use rasn::de::Decode;
+use rasn::enc::Encode;
+use rasn::types::{BitString, Codec, OctetString};
+use rasn_bench::Foo;
+use std::alloc::Global;
+use std::process::Abort;
+
+// X.690 8.7.3; DER has no segments (X.690 10.2).
+#[test]
+fn strings_are_gathered_from_segments(rt: HostRuntime) {
+    let alloc = rt.alloc();
+    let input = [
+        0x24, 0x80, 0x04, 0x01, 0xA1, 0x24, 0x03, 0x04, 0x01, 0xB2, 0x24, 0x80, 0x04, 0x01, 0xC3,
+        0x00, 0x00, 0x00, 0x00,
+    ];
+    let three = "OctetString { octets: [161, 178, 195] }";
+    let two = "OctetString { octets: [161, 178] }";
+    let cut = "CodecSpecific { inner: Der(ConstructedEncodingNotAllowed) }";
+    answers::<OctetString>(
+        &rt,
+        alloc,
+        &[
+            (&input, Codec::Ber, three),
+            (&[0x24, 0x03, 0x04, 0x01, 0xA1], Codec::Der, cut),
+            (&[0x04, 0x81, 0x02, 0xA1, 0xB2], Codec::Ber, two),
+        ],
+    );
+    reads::<OctetString>(
+        &rt,
+        alloc,
+        &[(
+            &[
+                0x24, 0x80, 0x04, 0x01, 0xA1, 0x24, 0x03, 0x04, 0x01, 0xB2, 0x24, 0x80, 0x04, 0x01,
+                0xC3, 0x00, 0x00, 0x00, 0x00,
+            ],
+            Codec::Der,
+            "CodecSpecific { inner: Ber(IndefiniteLengthNotAllowed) }",
+            0,
+        )],
+    );
+}
+
+// X.690 8.1.3.5.
+#[test]
+fn from_128_octets_on_the_length_is_long(rt: HostRuntime) {
+    let alloc = rt.alloc();
+    let octets = made(&rt, repeated(alloc, 0xAB, 128));
+    let answer = encoded(alloc, Codec::Ber, &octets);
+    holds_pieces(&rt, alloc, answer, &[(&[0x04, 0x81, 0x80], 0xAB, 128)]);
+}
+
+/// Holds that canonical and DER octets are those of one value, which is read from either.
+fn are_one<T: Decode + Encode>(
+    rt: &impl Abort,
+    alloc: Global,
+    canonical: &[Piece<'_>],
+    distinguished: &[Piece<'_>],
+) {
+    match (of_pieces(alloc, canonical), of_pieces(alloc, distinguished)) {
+        (Ok(canonical), Ok(distinguished)) => rewrites::<T>(
+            rt,
+            alloc,
+            &[
+                (&canonical, Codec::Cer, Codec::Der, &distinguished),
+                (&distinguished, Codec::Der, Codec::Cer, &canonical),
+            ],
+        ),
+        _ => assert!(rt; false, "no memory"),
+    }
+}
+
+/// How many octets the pieces have.
+fn length(pieces: &[Piece<'_>]) -> usize {
+    let mut length = 0usize;
+    for (octets, _, count) in pieces {
+        length = length.saturating_add(octets.len()).saturating_add(*count);
+    }
+    length
+}
+
+// X.690 9.2.
+#[test]
+fn octets_are_cut_after_1000(rt: HostRuntime) {
+    let canonical = [
+        ([0x24, 0x80, 0x04, 0x82, 0x03, 0xE8].as_slice(), 0x55, 1000),
+        ([0x04, 0x82, 0x01, 0xF4].as_slice(), 0x55, 500),
+        ([0x00, 0x00].as_slice(), 0, 0),
+    ];
+    assert!(rt; length(&canonical) == 1512);
+    let distinguished = [([0x04, 0x82, 0x05, 0xDC].as_slice(), 0x55, 1500)];
+    are_one::<OctetString>(&rt, rt.alloc(), &canonical, &distinguished);
+    let whole = [([0x04, 0x82, 0x03, 0xE8].as_slice(), 0x55, 1000)];
+    are_one::<OctetString>(&rt, rt.alloc(), &whole, &whole);
+}
+
+// The octet that tells the padding counts (X.690 9.2).
+#[test]
+fn bits_are_cut_after_999_octets(rt: HostRuntime) {
+    let canonical = [
+        (
+            [0x23, 0x80, 0x03, 0x82, 0x03, 0xE8, 0x00].as_slice(),
+            0x5A,
+            999,
+        ),
+        ([0x03, 0x02, 0x00, 0xA5, 0x00, 0x00].as_slice(), 0, 0),
+    ];
+    assert!(rt; length(&canonical) == 1012);
+    let distinguished = [
+        ([0x03, 0x82, 0x03, 0xE9, 0x00].as_slice(), 0x5A, 999),
+        ([0xA5].as_slice(), 0, 0),
+    ];
+    are_one::<BitString>(&rt, rt.alloc(), &canonical, &distinguished);
+    let whole = [([0x03, 0x82, 0x03, 0xE8, 0x00].as_slice(), 0x5A, 999)];
+    are_one::<BitString>(&rt, rt.alloc(), &whole, &whole);
+}
+
+// A value in segments of either length form, and the same in one piece.
+#[test]
+fn names_in_segments(rt: HostRuntime) {
+    let alloc = rt.alloc();
+    let basic = b"\x30\x80\x36\x80\x04\x02Sm\x04\x03ith\x00\x00\x01\x01\x01\x00\x00";
+    let canonical = b"\x30\x80\x16\x05Smith\x01\x01\xFF\x00\x00";
+    let distinguished = b"\x30\x0A\x16\x05Smith\x01\x01\xFF";
+    assert!(rt;
+        decoded::<Foo>(alloc, Codec::Ber, basic).is_ok_and(|foo| foo.first.as_octets()
+            == b"Smith".as_slice()
+            && foo.second)
+    );
+    rewrites::<Foo>(
+        &rt,
+        alloc,
+        &[
+            (basic, Codec::Ber, Codec::Der, distinguished),
+            (canonical, Codec::Cer, Codec::Der, distinguished),
+            (distinguished, Codec::Der, Codec::Cer, canonical),
+        ],
+    );
+}

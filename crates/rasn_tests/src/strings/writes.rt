@@ -1,0 +1,187 @@
+use crate::writing::{
+    done, holds, made, new_encoder, refused, repeated, writes, writes_made, writes_pieces,
+};
+use rasn_enc::enc::Encode;
+use rasn_types::types::{
+    BmpString, Bound, Bounded, Codec, Constraints, FixedOctetString, GeneralString, GraphicString,
+    Ia5String, Identifier, NumericString, PrintableString, Tag, TeletexString, VisibleString,
+};
+use std::alloc::{AllocError, Global};
+
+/// SIZE (2)
+const TWO: Constraints = Constraints {
+    value: None,
+    size: Some(Bound {
+        constraint: Bounded::Single(2),
+        extensible: false,
+    }),
+};
+
+/// A UTF8String.
+fn text(alloc: Global, characters: &str) -> Result<Option<String>, AllocError> {
+    let text = String::from_str(alloc, characters)?;
+    Ok(Some(text))
+}
+
+/// An IA5String of one letter so many times.
+fn letters(alloc: Global, letter: u8, count: usize) -> Result<Option<Ia5String>, AllocError> {
+    let octets = vec![in alloc; letter; count]?;
+    Ia5String::from_octets(alloc, &octets)
+}
+
+// The tags of X.680 8.4, table 1.
+#[test]
+fn writes_numeric_to_graphic(rt: HostRuntime) {
+    let alloc = rt.alloc();
+    let der = Codec::Der;
+    let value = NumericString::from_octets(alloc, b"1");
+    writes_made(&rt, alloc, der, value, &[0x12, 0x01, 0x31]);
+    let value = PrintableString::from_octets(alloc, b"A");
+    writes_made(&rt, alloc, der, value, &[0x13, 0x01, 0x41]);
+    let value = TeletexString::from_octets(alloc, &[0xC8]);
+    writes_made(&rt, alloc, der, value, &[0x14, 0x01, 0xC8]);
+    let value = Ia5String::from_octets(alloc, b"Smith");
+    let octets = [0x16, 0x05, 0x53, 0x6D, 0x69, 0x74, 0x68];
+    writes_made(&rt, alloc, der, value, &octets);
+    let value = GraphicString::from_octets(alloc, b"A");
+    writes_made(&rt, alloc, der, value, &[0x19, 0x01, 0x41]);
+}
+
+#[test]
+fn writes_visible_to_utf8(rt: HostRuntime) {
+    let alloc = rt.alloc();
+    let der = Codec::Der;
+    let value = VisibleString::from_octets(alloc, b"A");
+    writes_made(&rt, alloc, der, value, &[0x1A, 0x01, 0x41]);
+    let value = GeneralString::from_octets(alloc, b"A");
+    writes_made(&rt, alloc, der, value, &[0x1B, 0x01, 0x41]);
+    let value = BmpString::from_octets(alloc, &[0x00, 0x41]);
+    writes_made(&rt, alloc, der, value, &[0x1E, 0x02, 0x00, 0x41]);
+    let octets = [0x0C, 0x05, 0x4A, 0x6F, 0x6E, 0x65, 0x73];
+    writes_made(&rt, alloc, der, text(alloc, "Jones"), &octets);
+    let value = FixedOctetString::<1>::new([0x41]);
+    writes(&rt, alloc, &[(value, der, &[0x04, 0x01, 0x41])]);
+}
+
+#[test]
+fn calls_write_numeric_to_ia5(rt: HostRuntime) {
+    let alloc = rt.alloc();
+    let mut encoder = new_encoder(&rt, alloc, Codec::Der);
+    let any = Constraints::NONE;
+    let none = Identifier::EMPTY;
+    let value = made(&rt, NumericString::from_octets(alloc, b"1"));
+    let answer = encoder.encode_numeric_string(Tag::NUMERIC_STRING, &any, &value, none);
+    done(&rt, answer);
+    let value = made(&rt, PrintableString::from_octets(alloc, b"A"));
+    let answer = encoder.encode_printable_string(Tag::PRINTABLE_STRING, &any, &value, none);
+    done(&rt, answer);
+    let value = made(&rt, TeletexString::from_octets(alloc, &[0xC8]));
+    let answer = encoder.encode_teletex_string(Tag::TELETEX_STRING, &any, &value, none);
+    done(&rt, answer);
+    let value = made(&rt, Ia5String::from_octets(alloc, b"A"));
+    let answer = encoder.encode_ia5_string(Tag::IA5_STRING, &any, &value, none);
+    done(&rt, answer);
+    let octets = [
+        0x12, 0x01, 0x31, 0x13, 0x01, 0x41, 0x14, 0x01, 0xC8, 0x16, 0x01, 0x41,
+    ];
+    holds(&rt, encoder.output(), &octets);
+}
+
+#[test]
+fn calls_write_graphic_to_general(rt: HostRuntime) {
+    let alloc = rt.alloc();
+    let mut encoder = new_encoder(&rt, alloc, Codec::Der);
+    let any = Constraints::NONE;
+    let none = Identifier::EMPTY;
+    let value = made(&rt, GraphicString::from_octets(alloc, b"A"));
+    let answer = encoder.encode_graphic_string(Tag::GRAPHIC_STRING, &any, &value, none);
+    done(&rt, answer);
+    let value = made(&rt, VisibleString::from_octets(alloc, b"A"));
+    let answer = encoder.encode_visible_string(Tag::VISIBLE_STRING, &any, &value, none);
+    done(&rt, answer);
+    let value = made(&rt, GeneralString::from_octets(alloc, b"A"));
+    let answer = encoder.encode_general_string(Tag::GENERAL_STRING, &any, &value, none);
+    done(&rt, answer);
+    let octets = [0x19, 0x01, 0x41, 0x1A, 0x01, 0x41, 0x1B, 0x01, 0x41];
+    holds(&rt, encoder.output(), &octets);
+}
+
+// The size of a UTF8String is in characters, that of a BMPString in units.
+#[test]
+fn checks_sizes_in_characters_and_units(rt: HostRuntime) {
+    let alloc = rt.alloc();
+    let mut encoder = new_encoder(&rt, alloc, Codec::Der);
+    let none = Identifier::EMPTY;
+    done(
+        &rt,
+        encoder.encode_utf8_string(Tag::UTF8_STRING, &TWO, "ëa", none),
+    );
+    let units = made(
+        &rt,
+        BmpString::from_octets(alloc, &[0x00, 0x41, 0x00, 0x42]),
+    );
+    let answer = encoder.encode_bmp_string(Tag::BMP_STRING, &TWO, &units, none);
+    done(&rt, answer);
+    let answer = encoder.encode_utf8_string(Tag::UTF8_STRING, &TWO, "abc", none);
+    let kind = "SizeConstraintNotSatisfied { size: 3, expected: Single(2) }";
+    refused(&rt, alloc, Codec::Der, answer, kind);
+    let octets = [
+        0x0C, 0x03, 0xC3, 0xAB, 0x61, 0x1E, 0x04, 0x00, 0x41, 0x00, 0x42,
+    ];
+    holds(&rt, encoder.output(), &octets);
+}
+
+// Three octets where there have to be two; nothing is written.
+#[test]
+fn refuses_octets_out_of_bounds(rt: HostRuntime) {
+    let alloc = rt.alloc();
+    let mut encoder = new_encoder(&rt, alloc, Codec::Der);
+    let three = made(&rt, repeated(encoder.alloc(), 0x01, 3));
+    let answer = three.encode_with_constraints(&mut encoder, &TWO, Identifier::EMPTY);
+    let kind = "SizeConstraintNotSatisfied { size: 3, expected: Single(2) }";
+    refused(&rt, alloc, Codec::Der, answer, kind);
+    holds(&rt, encoder.output(), &[]);
+}
+
+// From 128 octets on a length has octets of its own (X.690 8.1.3.5).
+#[test]
+fn writes_long_lengths(rt: HostRuntime) {
+    let alloc = rt.alloc();
+    for (count, header) in [
+        (127, [0x04, 0x7F].as_slice()),
+        (128, [0x04, 0x81, 0x80].as_slice()),
+        (256, [0x04, 0x82, 0x01, 0x00].as_slice()),
+    ] {
+        let octets = repeated(alloc, 0xAB, count);
+        writes_pieces(&rt, alloc, Codec::Ber, octets, &[(header, 0xAB, count)]);
+    }
+}
+
+// More than 1000 octets are cut under the canonical rules (X.690 9.2).
+#[test]
+fn cuts_octets_under_canonical_rules(rt: HostRuntime) {
+    let alloc = rt.alloc();
+    let whole = [([0x04, 0x82, 0x03, 0xE8].as_slice(), 0x55, 1000)];
+    let octets = repeated(alloc, 0x55, 1000);
+    writes_pieces(&rt, alloc, Codec::Cer, octets, &whole);
+    let cut = [
+        ([0x24, 0x80, 0x04, 0x82, 0x03, 0xE8].as_slice(), 0x55, 1000),
+        ([0x04, 0x82, 0x01, 0xF4].as_slice(), 0x55, 500),
+        ([0x00, 0x00].as_slice(), 0, 0),
+    ];
+    let octets = repeated(alloc, 0x55, 1500);
+    writes_pieces(&rt, alloc, Codec::Cer, octets, &cut);
+}
+
+// The segments of a character string are OCTET STRINGs (X.690 8.23.6).
+#[test]
+fn cuts_text_under_canonical_rules(rt: HostRuntime) {
+    let alloc = rt.alloc();
+    let cut = [
+        ([0x36, 0x80, 0x04, 0x82, 0x03, 0xE8].as_slice(), 0x55, 1000),
+        ([0x04, 0x82, 0x01, 0xF4].as_slice(), 0x55, 500),
+        ([0x00, 0x00].as_slice(), 0, 0),
+    ];
+    let text = letters(alloc, 0x55, 1500);
+    writes_pieces(&rt, alloc, Codec::Cer, text, &cut);
+}

@@ -1,0 +1,6 @@
+//! UTCTime, GeneralizedTime and DATE.
+
+mod reads;
+mod texts;
+mod whole;
+mod writes;

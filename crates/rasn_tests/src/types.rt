@@ -1,0 +1,11 @@
+//! Types that several tests share.
+
+mod counted;
+mod ratio;
+mod three;
+mod zero;
+
+pub use counted::Counted;
+pub use ratio::Ratio;
+pub use three::{ApplicationTag, ContextTag, Three};
+pub use zero::Zero;

@@ -1,0 +1,166 @@
+//! What the tests of writing share: values held against octets, calls whose answers are told as text, and long strings as pieces.
+
+use rasn_enc::ber::enc::{Encoder, EncoderOptions};
+use rasn_enc::enc::Encode;
+use rasn_types::error::EncodeError;
+use rasn_types::types::{BitString, Codec, ObjectIdentifier, OctetString};
+use std::alloc::{AllocError, Global};
+use std::process::Abort;
+
+/// A value, the rules it is written by, and its octets.
+pub type Row<T> = (T, Codec, &'static [u8]);
+
+/// Octets, and behind them one octet so many times; long strings are a few of these.
+pub type Piece<'octets> = (&'octets [u8], u8, usize);
+
+/// How values are written by these rules.
+fn options_for(rules: Codec) -> EncoderOptions {
+    match rules {
+        Codec::Ber => EncoderOptions::ber(),
+        Codec::Cer => EncoderOptions::cer(),
+        Codec::Der => EncoderOptions::der(),
+    }
+}
+
+/// The octets of a value.
+fn octets_of<T: Encode>(alloc: Global, rules: Codec, value: &T) -> Result<Vec<u8>, EncodeError> {
+    let mut encoder = Encoder::new(alloc, options_for(rules))?;
+    value.encode(&mut encoder)?;
+    encoder.output()
+}
+
+/// Holds what is written against the octets.
+pub fn holds(rt: &impl Abort, answer: Result<Vec<u8>, EncodeError>, octets: &[u8]) {
+    match answer {
+        Ok(found) => assert_eq!(rt; found.as_slice(), octets),
+        Err(error) => assert!(rt; false, "{:?}", error.kind),
+    }
+}
+
+/// Writes each row's value, and holds what is written against the row's octets.
+pub fn writes<T: Encode>(rt: &impl Abort, alloc: Global, rows: &[Row<T>]) {
+    for (value, rules, octets) in rows {
+        holds(rt, octets_of(alloc, *rules, value), octets);
+    }
+}
+
+/// The value that is made, where there is one and memory for it.
+pub fn made<T>(rt: &impl Abort, value: Result<Option<T>, AllocError>) -> T {
+    match value {
+        Ok(Some(value)) => value,
+        Ok(None) => panic!(rt; "no value"),
+        Err(_) => panic!(rt; "no memory"),
+    }
+}
+
+/// Writes a value that is made, and holds what is written against the octets.
+pub fn writes_made<T: Encode>(
+    rt: &impl Abort,
+    alloc: Global,
+    rules: Codec,
+    value: Result<Option<T>, AllocError>,
+    octets: &[u8],
+) {
+    holds(rt, octets_of(alloc, rules, &made(rt, value)), octets);
+}
+
+/// Holds what is written against these pieces.
+pub fn holds_pieces(
+    rt: &impl Abort,
+    alloc: Global,
+    answer: Result<Vec<u8>, EncodeError>,
+    pieces: &[Piece<'_>],
+) {
+    match of_pieces(alloc, pieces) {
+        Ok(octets) => holds(rt, answer, &octets),
+        Err(_) => assert!(rt; false, "no memory"),
+    }
+}
+
+/// Writes a value that is made, and holds what is written against these pieces.
+pub fn writes_pieces<T: Encode>(
+    rt: &impl Abort,
+    alloc: Global,
+    rules: Codec,
+    value: Result<Option<T>, AllocError>,
+    pieces: &[Piece<'_>],
+) {
+    let value = made(rt, value);
+    holds_pieces(rt, alloc, octets_of(alloc, rules, &value), pieces);
+}
+
+/// The octets of some pieces.
+pub fn of_pieces(alloc: Global, pieces: &[Piece<'_>]) -> Result<Vec<u8>, AllocError> {
+    let mut octets = Vec::new(alloc);
+    for (before, octet, count) in pieces {
+        octets.extend_from_slice(before)?;
+        octets.extend_from_slice(&vec![in alloc; *octet; *count]?)?;
+    }
+    Ok(octets)
+}
+
+/// An octet so many times.
+pub fn repeated(alloc: Global, octet: u8, count: usize) -> Result<Option<OctetString>, AllocError> {
+    let octets = vec![in alloc; octet; count]?;
+    Ok(Some(OctetString::from_vec(octets)))
+}
+
+/// So many bits, all set.
+pub fn set_bits(alloc: Global, count: usize) -> Result<Option<BitString>, AllocError> {
+    let octets = vec![in alloc; 0xFF; count / 8 + 1]?;
+    Ok(BitString::new(octets, count))
+}
+
+/// The object identifier of these arcs.
+pub fn identifier_of(alloc: Global, arcs: &[u32]) -> Result<Option<ObjectIdentifier>, AllocError> {
+    let arcs = Vec::from_slice(alloc, arcs)?;
+    Ok(ObjectIdentifier::new(arcs))
+}
+
+/// An encoder with no output yet.
+pub fn new_encoder(rt: &impl Abort, alloc: Global, rules: Codec) -> Encoder {
+    match Encoder::new(alloc, options_for(rules)) {
+        Ok(encoder) => encoder,
+        Err(_) => panic!(rt; "no memory"),
+    }
+}
+
+/// Holds that a call writes.
+pub fn done(rt: &impl Abort, answer: Result<(), EncodeError>) {
+    match answer {
+        Ok(()) => {}
+        Err(error) => assert!(rt; false, "{:?}", error.kind),
+    }
+}
+
+/// A refusal's kind as text; one under other rules than these has a text of its own, and so has a call that writes.
+fn text_of(
+    alloc: Global,
+    rules: Codec,
+    answer: Result<(), EncodeError>,
+) -> Result<String, AllocError> {
+    match answer {
+        Ok(()) => String::from_str(alloc, "written"),
+        Err(error) => {
+            if error.codec == rules {
+                format!(in alloc; "{:?}", error.kind)
+            } else {
+                String::from_str(alloc, "an error under other rules")
+            }
+        }
+    }
+}
+
+/// Holds that a call refuses under these rules, and the error's kind against the text.
+pub fn refused(
+    rt: &impl Abort,
+    alloc: Global,
+    rules: Codec,
+    answer: Result<(), EncodeError>,
+    text: &str,
+) {
+    match text_of(alloc, rules, answer) {
+        Ok(found) => assert_eq!(rt; found.as_str(), text),
+        Err(_) => assert!(rt; false, "no memory"),
+    }
+}

@@ -1,0 +1,18 @@
+-- Lists in pairs and in order (X.690 9.3, 10.3, 11.6).
+use Rattle.std.specs.Prelude.{◌≡◌, ℕ, ◌<◌, ◌⊎◌, List, [], ◌∷◌}
+
+-- The lists pair off by R.
+abbrev pub Each : {X Y : Type 0} → (X → Y → Type 0) → List X → List Y → Type 0
+Each R [] ys = ys ≡ []
+Each {Y = Y} R (x ∷ xs) ys = (y : Y) × (more : List Y) × (ys ≡ y ∷ more) × R x y × Each R xs more
+
+-- Octet by octet, a proper beginning being less (11.6).
+abbrev pub IsLess : List ℕ → List ℕ → Type 0
+IsLess a [] = ⊥
+IsLess [] (c ∷ d) = Unit {0}
+IsLess (a ∷ b) (c ∷ d) = (a < c) ⊎ ((a ≡ c) × IsLess b d)
+
+abbrev pub DoNotFall : {X : Type 0} → (X → X → Type 0) → List X → Type 0
+DoNotFall less [] = Unit {0}
+DoNotFall less (x ∷ []) = Unit {0}
+DoNotFall less (x ∷ y ∷ xs) = (less y x → ⊥) × DoNotFall less (y ∷ xs)

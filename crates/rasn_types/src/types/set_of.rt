@@ -1,0 +1,164 @@
+//! SET OF.
+ghost use Rattle.std.specs.Prelude.{◌≡◌, ◌∷◌, ◌++◌, [], length, nat_eq, count_by, OnOk, OnErr};
+ghost use Rattle.std.specs.List.{list_all};
+ghost use Rattle.std.specs.Slice.Iter.{iter_rest};
+
+use crate::types::{AsnType, Constraints, LawfulEq, Present, Tag};
+use std::alloc::{AllocError, Global};
+use std::marker::Model;
+use std::slice;
+
+/// The elements of a SET OF (X.680 28), in the order of a walk. Two are equal if they hold equal elements equally often.
+///
+/// To contracts it is the list of the walk.
+#[derive(Debug, Drop)]
+pub struct SetOf<T> {
+    elements: Vec<T>,
+}
+
+impl<T> Model for SetOf<T> {
+    ghost use Rattle.std.specs.Prelude.{List};
+
+    ghost Value = { List T };
+
+    ghost view = { λ a. a.elements.items };
+}
+
+impl<T> SetOf<T> {
+    /// No elements.
+    pub fn new(alloc: Global) -> SetOf<T>
+        ensures { result ≡ [] }
+    {
+        SetOf {
+            elements: Vec::new(alloc),
+        }
+    }
+
+    /// These elements, in their order.
+    pub fn from_vec(elements: Vec<T>) -> SetOf<T>
+        ensures { result ≡ elements.items }
+    {
+        SetOf { elements }
+    }
+
+    /// How many elements there are, equal ones counted each.
+    pub fn len(&self) -> usize
+        ensures { result ≡ length self.now }
+    {
+        self.elements.len()
+    }
+
+    /// Whether there are none.
+    pub fn is_empty(&self) -> bool
+        ensures { result ≡ nat_eq (length self.now) 0 }
+    {
+        self.elements.is_empty()
+    }
+
+    /// The elements in the order of the walk.
+    pub fn iter(&self) -> slice::Iter<'_, T>
+        ensures { iter_rest result ≡ self.now }
+    {
+        self.elements.iter()
+    }
+
+    /// The elements in the order of the walk.
+    pub fn as_slice(&self) -> &[T]
+        ensures { result.now ≡ self.now }
+    {
+        self.elements.as_slice()
+    }
+
+    /// The elements in the order of the walk.
+    pub fn into_vec(self) -> Vec<T>
+        ensures { result.items ≡ self }
+    {
+        let SetOf { elements } = self;
+        elements
+    }
+}
+
+impl<T: Drop> SetOf<T> {
+    /// Puts an element at the end of the walk.
+    ///
+    /// # Errors
+    /// Want of memory, and the elements stay as they were.
+    pub fn insert(&mut self, value: T) -> Result<(), AllocError>
+        ensures ok { OnOk result (self.new ≡ self.old ++ value ∷ []) }
+        ensures err { OnErr result (self.new ≡ self.old) }
+    {
+        match self.elements.push(value) {
+            Ok(()) => Ok(()),
+            Err(_) => Err(AllocError),
+        }
+    }
+}
+
+impl<T: Eq> PartialEq for SetOf<T> {
+    ghost use Rattle.std.specs.Cmp.{partial_equiv_from_equiv};
+    ghost use Rattle.rasn_types.specs.Bags.{bag_eq, bag_equiv};
+
+    ghost eq = { bag_eq T.eq };
+
+    ghost laws = { partial_equiv_from_equiv (bag_equiv T.Eq.laws) };
+
+    fn eq(&self, other: &SetOf<T>) -> bool {
+        are_as_often(&self.elements, &self.elements, &other.elements)
+            && are_as_often(&other.elements, &self.elements, &other.elements)
+    }
+}
+
+impl<T: Eq> Eq for SetOf<T> {
+    ghost use Rattle.rasn_types.specs.Bags.{bag_equiv};
+
+    ghost laws = { bag_equiv T.Eq.laws };
+}
+
+// Whether each of these stands equally often in both lists.
+fn are_as_often<T: PartialEq>(these: &[T], first: &[T], second: &[T]) -> bool
+    ensures { result ≡ list_all (λ z. nat_eq (count_by (T.eq z) first.now) (count_by (T.eq z) second.now)) these.now }
+{
+    these
+        .iter()
+        .all(|value| count(value, first) == count(value, second))
+}
+
+// How many of these equal the value.
+fn count<T: PartialEq>(value: &T, these: &[T]) -> usize
+    ensures { result ≡ count_by (T.eq value.now) these.now }
+{
+    these.iter().filter(|other| value == *other).count()
+}
+
+impl<T: AsnType> AsnType for SetOf<T> {
+    ghost use Rattle.std.specs.Prelude.{refl, None};
+    ghost use Rattle.rasn_types.specs.Shapes.{bag, walk};
+    ghost use Rattle.rasn_types.specs.Tags.{in_universal};
+    ghost use Rattle.rasn_types.specs.Trees.{list_tree, unconstrained};
+
+    ghost TAG = { in_universal 17 };
+
+    const TAG: Tag = Tag::SET;
+
+    ghost CONSTRAINTS = { unconstrained };
+
+    const CONSTRAINTS: Constraints = Constraints::NONE;
+
+    ghost shape = { bag (in_universal 17) T.shape None };
+
+    ghost tree = { λ v. walk (list_tree T.tree v) };
+
+    ghost own = { refl };
+}
+
+impl<T: LawfulEq + Eq> LawfulEq for SetOf<T> {
+    ghost use Rattle.rasn_types.specs.Bags.{bag_told};
+
+    ghost decides = { bag_told T.Eq.laws T.decides };
+}
+
+impl<T: AsnType> Present for SetOf<T> {
+    ghost use Rattle.rasn_types.specs.Equality.{walk_there};
+
+    ghost present = { λ v. walk_there };
+}
