@@ -10,6 +10,7 @@ pub mod IntoBer
 pub mod Joined
 pub mod Leaves
 pub mod Opened
+pub mod Owed
 pub mod Seconds
 pub mod Steps
 pub mod Strict
@@ -24,6 +25,7 @@ pub mod Unique
 pub mod Worked
 pub mod WorkedCuts
 pub mod WorkedDepths
+pub mod WorkedFractions
 pub mod WorkedLenient
 pub mod WorkedOpens
 pub mod WorkedParts

@@ -1,4 +1,4 @@
--- What DER reads of a tree that meets the depth is written of it: its octets need not be given.
+-- What DER reads of a tree that owes no more is written of it: its octets need not be given.
 use Rattle.std.proofs.Common.{◌≡◌, ℕ, suc, ◌-◌, ◌≤◌, inl, inr, List, [], ◌∷◌, ◌++◌, length, Bool, true, false, Option, Some, None, refl, sym, ap, ◌∙◌, subst, arith, append_assoc, append-nil}
 use Rattle.std.proofs.lemmas.List.{append_cancel_right}
 use Rattle.rasn_types.specs.Tags.{der_form, loose_form, IsTagBelow}
@@ -13,20 +13,21 @@ use Rattle.rasn_types.specs.Order.{Each, IsLess, DoNotFall}
 use Rattle.rasn_types.specs.Contents.{joined_lists}
 use Rattle.rasn_types.specs.Grammar.{Reads, parts_of, family}
 use Rattle.rasn_types.specs.Bytes.{Same, Definite, WritesPart, PartsWritten, WritesChoice, TagsOf, NoneBare, IsBare, IsBareIn, Bytes, fields_of}
-use Rattle.rasn_types.specs.Carried.{PartMeets, EachOf, Meets, MeetsParts, MeetsChoice}
+use Rattle.rasn_types.specs.Carried.{EachOf}
 use Rattle.rasn_types.specs.Lawful.{HasTag, IsLawful, AreAlternatives, AreLawfulByTag}
 use Rattle.rasn_types.proofs.Frames.{frame_next, not_ended}
 use Rattle.rasn_types.proofs.Alike.{items_one}
 use Rattle.rasn.proofs.Back.{EachGood, alternatives_good, in_order_good, by_tag_good}
-use Rattle.rasn.proofs.InParts.{other_index}
+use Rattle.rasn.proofs.Hold.{one_reading, read_again}
 use Rattle.rasn.proofs.Strict.{there}
 use Rattle.rasn.proofs.StrictLeaves.{tail_octets, framed, no_open, in_told}
 use Rattle.rasn.proofs.StrictParts.{IsNeverAbsent, nothing, other_read}
 use Rattle.rasn.proofs.StrictSets.{Components, first_comes, behind, by_part_less, fewer}
-use Rattle.rasn.specs.Laws.{IsOwnDefault, HasOwnDefaults, HaveOwnDefaults, OnlyCarried}
+use Rattle.rasn.proofs.Owed.{PartOwes, Owes, OwesParts, OwesChoice, other_owed, owed_meets, meets_owed, owes_like}
+use Rattle.rasn.specs.Laws.{OnlyCarried, StaysCarried}
 
 abbrev pub IsMade : Shape → ℕ → Type 0
-IsMade s depth = (closing : Bool) (input : List ℕ) (t : Tree) (rest : List ℕ) → AreOctets input → Reads Der s depth closing input t rest → Meets Der s depth t
+IsMade s depth = (closing : Bool) (input : List ℕ) (t : Tree) (rest : List ℕ) → AreOctets input → Reads Der s depth closing input t rest → Owes s depth t
     → (b : List ℕ) × Bytes Der s t b × (input ≡ b ++ rest)
 
 pub record Made (s : Shape) (depth : ℕ) : Type 0 where
@@ -38,77 +39,74 @@ abbrev pub EachMade : ℕ → Parts → Type 0
 EachMade depth none = Unit {0}
 EachMade depth (part presence s ps) = Made s depth × EachMade depth ps
 
-abbrev pub EachOwn : Parts → Type 0
-EachOwn none = Unit {0}
-EachOwn (part presence s ps) = IsOwnDefault presence × EachOwn ps
-
-missing_made : (s : Shape) (depth : ℕ) (presence : Presence) → IsOwnDefault presence → (t : Tree) → IsMissing presence t → PartMeets presence (Meets Der s depth) t
+missing_made : (s : Shape) (depth : ℕ) (presence : Presence) (t : Tree) → IsMissing presence t → PartOwes presence (Owes s depth) t
     → WritesPart presence (Bytes Der s) t []
-missing_made s depth required own t e m = absurd e
-missing_made s depth optional own t e m = inl (e, refl)
-missing_made s depth addition own t e m = absurd (m.0 e)
-missing_made s depth (default d) own t e m = inl (subst (λ x. Same x d) (sym e) own, refl)
+missing_made s depth required t e m = absurd e
+missing_made s depth optional t e m = inl (e, refl)
+missing_made s depth addition t e m = absurd (m.0 e)
+missing_made s depth (default d) t e (inl m) = inl (m, refl)
+missing_made s depth (default d) t e (inr m) = inl (m.1 e, refl)
 
 -- A part, with the rest behind it.
 abbrev pub PartMade : Shape → Presence → List ℕ → Tree → List ℕ → Type 0
 PartMade s presence input t rest = (b : List ℕ) × WritesPart presence (Bytes Der s) t b × (input ≡ b ++ rest)
 
 coming_made : (s : Shape) (depth : ℕ) → Made s depth → (presence : Presence) (closing : Bool) (input : List ℕ) (t : Tree) (rest : List ℕ) → AreOctets input
-    → Reads Der s depth closing input t rest → IsNoDefault presence t → PartMeets presence (Meets Der s depth) t → PartMade s presence input t rest
+    → Reads Der s depth closing input t rest → IsNoDefault presence t → PartOwes presence (Owes s depth) t → PartMade s presence input t rest
 coming_made s depth k required closing input t rest o h n m = k.made closing input t rest o h m
 coming_made s depth k optional closing input t rest o h n (inl m) = absurd (k.there closing input t rest h m)
 coming_made s depth k optional closing input t rest o h n (inr m) = let r = k.made closing input t rest o h m in (r.0, inr (k.there closing input t rest h, r.1), r.2)
 coming_made s depth k addition closing input t rest o h n m = let r = k.made closing input t rest o h m.1 in (r.0, inr (m.0, r.1), r.2)
 coming_made s depth k (default d) closing input t rest o h n (inl m) = absurd (n m)
-coming_made s depth k (default d) closing input t rest o h n (inr m) = let r = k.made closing input t rest o h m in (r.0, inr (n, r.1), r.2)
+coming_made s depth k (default d) closing input t rest o h n (inr m) = let r = k.made closing input t rest o h m.0 in (r.0, inr (n, r.1), r.2)
 
-part_made : (s : Shape) (depth : ℕ) → Made s depth → (presence : Presence) → IsOwnDefault presence → (tag : Option Tag) (c closing : Bool) (input : List ℕ) (t : Tree) (rest : List ℕ) → AreOctets input
-    → ReadsPart Der presence tag (Reads Der s depth c) closing input t rest → PartMeets presence (Meets Der s depth) t → PartMade s presence input t rest
-part_made s depth k required w tag c closing input t rest o h m = coming_made s depth k required c input t rest o h tt m
-part_made s depth k addition w tag c closing input t rest o h m = coming_made s depth k addition c input t rest o h tt m
-part_made s depth k optional w tag c closing input t rest o (inl (p, q, r)) m = ([], missing_made s depth optional w t q m, sym r)
-part_made s depth k optional w tag c closing input t rest o (inr (p, h)) m = coming_made s depth k optional c input t rest o h tt m
-part_made s depth k (default d) w tag c closing input t rest o (inl (p, q, r)) m = ([], missing_made s depth (default d) w t q m, sym r)
-part_made s depth k (default d) w tag c closing input t rest o (inr (p, (h, n))) m = coming_made s depth k (default d) c input t rest o h (n tt) m
+part_made : (s : Shape) (depth : ℕ) → Made s depth → (presence : Presence) (tag : Option Tag) (c closing : Bool) (input : List ℕ) (t : Tree) (rest : List ℕ) → AreOctets input
+    → ReadsPart Der presence tag (Reads Der s depth c) closing input t rest → PartOwes presence (Owes s depth) t → PartMade s presence input t rest
+part_made s depth k required tag c closing input t rest o h m = coming_made s depth k required c input t rest o h tt m
+part_made s depth k addition tag c closing input t rest o h m = coming_made s depth k addition c input t rest o h tt m
+part_made s depth k optional tag c closing input t rest o (inl (p, q, r)) m = ([], missing_made s depth optional t q m, sym r)
+part_made s depth k optional tag c closing input t rest o (inr (p, h)) m = coming_made s depth k optional c input t rest o h tt m
+part_made s depth k (default d) tag c closing input t rest o (inl (p, q, r)) m = ([], missing_made s depth (default d) t q m, sym r)
+part_made s depth k (default d) tag c closing input t rest o (inr (p, (h, n))) m = coming_made s depth k (default d) c input t rest o h (n tt) m
 
 abbrev pub PartsMade : Parts → List ℕ → List Tree → List ℕ → Type 0
 PartsMade ps input ts rest = (bs : List (List ℕ)) × PartsWritten (fields_of Der ps) ts bs × (input ≡ joined_lists bs ++ rest)
 
-in_order_made : (ps : Parts) (depth : ℕ) → EachMade depth ps → EachOwn ps → (c closing : Bool) (input : List ℕ) (ts : List Tree) (rest : List ℕ) → AreOctets input
-    → InOrder Der (parts_of Der ps depth c) closing input ts rest → MeetsParts Der ps depth ts → PartsMade ps input ts rest
-unfolding Reads parts_of Bytes fields_of Meets
-in_order_made none depth k w c closing input ts rest o h m = ([], (h.0, refl), sym h.1)
-in_order_made (part presence s ps) depth k w c closing input ts rest o (t, us, middle, e, h, hs) (t', us', e', m, ms) =
+in_order_made : (ps : Parts) (depth : ℕ) → EachMade depth ps → (c closing : Bool) (input : List ℕ) (ts : List Tree) (rest : List ℕ) → AreOctets input
+    → InOrder Der (parts_of Der ps depth c) closing input ts rest → OwesParts ps depth ts → PartsMade ps input ts rest
+unfolding Reads parts_of Bytes fields_of Owes
+in_order_made none depth k c closing input ts rest o h m = ([], (h.0, refl), sym h.1)
+in_order_made (part presence s ps) depth k c closing input ts rest o (t, us, middle, e, h, hs) (t', us', e', m, ms) =
     let p : t' ≡ t = let x : t' ∷ us' ≡ t ∷ us = sym e' ∙ e in cc in
     let q : us' ≡ us = let x : t' ∷ us' ≡ t ∷ us = sym e' ∙ e in cc in
-    let a = part_made s depth k.0 presence w.0 (own s) c closing input t middle o h (subst (PartMeets presence (Meets Der s depth)) p m) in
-    let r = in_order_made ps depth k.1 w.1 c closing middle us rest (tail_octets input a.0 middle a.2 o) hs (subst (MeetsParts Der ps depth) q ms) in
+    let a = part_made s depth k.0 presence (own s) c closing input t middle o h (subst (PartOwes presence (Owes s depth)) p m) in
+    let r = in_order_made ps depth k.1 c closing middle us rest (tail_octets input a.0 middle a.2 o) hs (subst (OwesParts ps depth) q ms) in
     (a.0 ∷ r.0, (t, us, a.0, r.0, e, refl, a.1, r.1), a.2 ∙ (ap (λ l. a.0 ++ l) r.2 ∙ sym (append_assoc a.0 (joined_lists r.0) rest)))
 
-all_missing_made : (ps : Parts) (depth : ℕ) → EachOwn ps → (c : Bool) (ts : List Tree) → AllMissing (parts_of Der ps depth c) ts → MeetsParts Der ps depth ts
+all_missing_made : (ps : Parts) (depth : ℕ) (c : Bool) (ts : List Tree) → AllMissing (parts_of Der ps depth c) ts → OwesParts ps depth ts
     → (bs : List (List ℕ)) × PartsWritten (fields_of Der ps) ts bs × (joined_lists bs ≡ [])
-unfolding Reads parts_of Bytes fields_of Meets
-all_missing_made none depth w c ts h m = ([], (h, refl), refl)
-all_missing_made (part presence s ps) depth w c ts (t, us, e, h, hs) (t', us', e', m, ms) =
+unfolding Reads parts_of Bytes fields_of Owes
+all_missing_made none depth c ts h m = ([], (h, refl), refl)
+all_missing_made (part presence s ps) depth c ts (t, us, e, h, hs) (t', us', e', m, ms) =
     let p : t' ≡ t = let x : t' ∷ us' ≡ t ∷ us = sym e' ∙ e in cc in
     let q : us' ≡ us = let x : t' ∷ us' ≡ t ∷ us = sym e' ∙ e in cc in
-    let r = all_missing_made ps depth w.1 c us hs (subst (MeetsParts Der ps depth) q ms) in
-    ([] ∷ r.0, (t, us, [], r.0, e, refl, missing_made s depth presence w.0 t h (subst (PartMeets presence (Meets Der s depth)) p m), r.1), r.2)
+    let r = all_missing_made ps depth c us hs (subst (OwesParts ps depth) q ms) in
+    ([] ∷ r.0, (t, us, [], r.0, e, refl, missing_made s depth presence t h (subst (PartOwes presence (Owes s depth)) p m), r.1), r.2)
 
 choice_made : (ps : Parts) (depth : ℕ) → EachMade depth ps → (k : ℕ) (c : Bool) (input : List ℕ) (t : Tree) (rest : List ℕ) → AreOctets input
-    → ReadsChoice der_form k (parts_of Der ps depth c) input t rest → MeetsChoice Der k ps depth t → (b : List ℕ) × WritesChoice k (fields_of Der ps) t b × (input ≡ b ++ rest)
-unfolding Reads parts_of Bytes fields_of Meets
+    → ReadsChoice der_form k (parts_of Der ps depth c) input t rest → OwesChoice k ps depth t → (b : List ℕ) × WritesChoice k (fields_of Der ps) t b × (input ≡ b ++ rest)
+unfolding Reads parts_of Bytes fields_of Owes
 choice_made none depth made k c input t rest o h m = absurd h
 choice_made (part presence s ps) depth made k c input t rest o (inl (u, e, n, next, f, h)) (inl (x, i, m)) =
     let q : x ≡ u = cc in
-    let r = made.0.made c input u rest o h (subst (Meets Der s depth) q m) in
+    let r = made.0.made c input u rest o h (subst (Owes s depth) q m) in
     (r.0, inl (u, e, r.1), r.2)
-choice_made (part presence s ps) depth made k c input t rest o (inl (u, e, n, next, f, h)) (inr m) = absurd (other_index Der ps depth (suc k) k t u (omega arith) e m)
+choice_made (part presence s ps) depth made k c input t rest o (inl (u, e, n, next, f, h)) (inr m) = absurd (other_owed ps depth (suc k) k t u (omega arith) e m)
 choice_made (part presence s ps) depth made k c input t rest o (inr h) (inl m) = absurd (other_read ps depth (suc k) k c input t m.0 rest (omega arith) m.1 h)
 choice_made (part presence s ps) depth made k c input t rest o (inr h) (inr m) = let r = choice_made ps depth made.1 (suc k) c input t rest o h m in (r.0, inr r.1, r.2)
 
 many_made : (s : Shape) (depth : ℕ) → IsMade s depth → (c closing : Bool) (input : List ℕ) (ts : List Tree) (rest : List ℕ) → AreOctets input
-    → Many (Reads Der s depth c) closing input ts rest → EachOf (Meets Der s depth) ts → (bs : List (List ℕ)) × Each (Bytes Der s) ts bs × (input ≡ joined_lists bs ++ rest)
+    → Many (Reads Der s depth c) closing input ts rest → EachOf (Owes s depth) ts → (bs : List (List ℕ)) × Each (Bytes Der s) ts bs × (input ≡ joined_lists bs ++ rest)
 many_made s depth made c closing input [] rest o h m = ([], refl, sym h.1)
 many_made s depth made c closing input (t ∷ ts) rest o (n, middle, h, hs) (m, ms) =
     let a = made c input t middle o h m in
@@ -117,7 +115,7 @@ many_made s depth made c closing input (t ∷ ts) rest o (n, middle, h, hs) (m, 
 
 -- Elements that are read from these octets are written as they.
 from_made : (s : Shape) (depth : ℕ) → IsMade s depth → (c : Bool) (input : List ℕ) (ts : List Tree) (rest : List ℕ) (bs : List (List ℕ)) → AreOctets input
-    → ReadFrom (Reads Der s depth c) input ts rest bs → EachOf (Meets Der s depth) ts → Each (Bytes Der s) ts bs × (input ≡ joined_lists bs ++ rest)
+    → ReadFrom (Reads Der s depth c) input ts rest bs → EachOf (Owes s depth) ts → Each (Bytes Der s) ts bs × (input ≡ joined_lists bs ++ rest)
 from_made s depth made c input [] rest bs o h m = (h.0, nothing input rest (joined_lists bs) (ap joined_lists h.0) h.1)
 from_made s depth made c input (t ∷ ts) rest bs o (b, cs, middle, e, f, h, hs) (m, ms) =
     let a = made c input t middle o h m in
@@ -143,14 +141,14 @@ SetMade ps input ts rest tags = (bs : List (List ℕ)) × PartsWritten (fields_o
 abbrev pub IsSetMade : Parts → ℕ → Type 0
 IsSetMade ps depth = (k : ℕ) (c : Bool) (input : List ℕ) (rs : List Tree) (rest : List ℕ) (os : List (List ℕ)) (tags : List Tag) (ts : List Tree) → AreOctets input
     → ReadFrom (Components ps depth k c) input rs rest os → ByPart Der k (parts_of Der ps depth c) rs ts → Each Begins os tags → DoNotFall IsTagBelow tags
-    → MeetsParts Der ps depth ts → SetMade ps input ts rest tags
+    → OwesParts ps depth ts → SetMade ps input ts rest tags
 
 first_made : (presence : Presence) (s : Shape) (ps : Parts) (depth : ℕ) → EachMade depth (part presence s ps) → HasTag s → ((m n : Tag) → IsFirst s m → IsFirstOf ps n → IsTagBelow m n)
     → IsSetMade ps depth → (k : ℕ) (c : Bool) (input : List ℕ) (rs : List Tree) (rest : List ℕ) (os : List (List ℕ)) (tags : List Tag) (ts : List Tree) (t : Tree) (us : List Tree) → ts ≡ t ∷ us → AreOctets input
     → ReadFrom (Components (part presence s ps) depth k c) input rs rest os → OneOf k t rs → IsNoDefault presence t
-    → ByPart Der (suc k) (parts_of Der ps depth c) rs us → Each Begins os tags → DoNotFall IsTagBelow tags → PartMeets presence (Meets Der s depth) t → MeetsParts Der ps depth us
+    → ByPart Der (suc k) (parts_of Der ps depth c) rs us → Each Begins os tags → DoNotFall IsTagBelow tags → PartOwes presence (Owes s depth) t → OwesParts ps depth us
     → SetMade (part presence s ps) input ts rest tags
-unfolding Reads parts_of Bytes fields_of Meets
+unfolding Reads parts_of Bytes fields_of Owes
 first_made presence s ps depth made has below more k c input rs rest os tags ts t us ets octets h o differs by starts order m ms = go o.before rs h o.is o.none_before by
   where
     go : (before : List Tree) (rs : List Tree) → ReadFrom (Components (part presence s ps) depth k c) input rs rest os → rs ≡ before ++ (chosen k t ∷ o.after) → NoneOf k before
@@ -175,22 +173,22 @@ first_made presence s ps depth made has below more k c input rs rest os tags ts 
           w.2 ∙ (ap (λ l. w.0 ++ l) r.4 ∙ sym (append_assoc w.0 (joined_lists r.0) rest)),
         )
 
-set_made : (ps : Parts) (depth : ℕ) → AreLawfulByTag ps → EachMade depth ps → EachOwn ps → IsSetMade ps depth
-unfolding Reads parts_of Bytes fields_of Meets AreLawfulByTag
-set_made none depth lawful made w k c input [] rest os tags ts o h by starts order m =
+set_made : (ps : Parts) (depth : ℕ) → AreLawfulByTag ps → EachMade depth ps → IsSetMade ps depth
+unfolding Reads parts_of Bytes fields_of Owes AreLawfulByTag
+set_made none depth lawful made k c input [] rest os tags ts o h by starts order m =
     ([], (by, refl), tt, subst (λ l. Each Begins l tags) h.0 starts, sym h.1)
-set_made none depth lawful made w k c input (x ∷ rs) rest os tags ts o h by starts order m = absurd h.5
-set_made (part presence s ps) depth lawful made w k c input rs rest os tags ts o h (t, us, e, inl (y, z), by) starts order (t', us', e', m, ms) =
+set_made none depth lawful made k c input (x ∷ rs) rest os tags ts o h by starts order m = absurd h.5
+set_made (part presence s ps) depth lawful made k c input rs rest os tags ts o h (t, us, e, inl (y, z), by) starts order (t', us', e', m, ms) =
     let p : t' ≡ t = let x : t' ∷ us' ≡ t ∷ us = sym e' ∙ e in cc in
     let q : us' ≡ us = let x : t' ∷ us' ≡ t ∷ us = sym e' ∙ e in cc in
-    first_made presence s ps depth made lawful.1 lawful.4 (set_made ps depth lawful.5 made.1 w.1) k c input rs rest os tags ts t us e o h y (z tt) by starts order
-    (subst (PartMeets presence (Meets Der s depth)) p m) (subst (MeetsParts Der ps depth) q ms)
-set_made (part presence s ps) depth lawful made w k c input rs rest os tags ts o h (t, us, e, inr (y, z), by) starts order (t', us', e', m, ms) =
+    first_made presence s ps depth made lawful.1 lawful.4 (set_made ps depth lawful.5 made.1) k c input rs rest os tags ts t us e o h y (z tt) by starts order
+    (subst (PartOwes presence (Owes s depth)) p m) (subst (OwesParts ps depth) q ms)
+set_made (part presence s ps) depth lawful made k c input rs rest os tags ts o h (t, us, e, inr (y, z), by) starts order (t', us', e', m, ms) =
     let p : t' ≡ t = let x : t' ∷ us' ≡ t ∷ us = sym e' ∙ e in cc in
     let q : us' ≡ us = let x : t' ∷ us' ≡ t ∷ us = sym e' ∙ e in cc in
-    let r = set_made ps depth lawful.5 made.1 w.1 (suc k) c input rs rest os tags us o (behind presence s ps depth k c lawful.4 input rs rest os h y) by starts order (subst (MeetsParts Der ps depth) q ms) in (
+    let r = set_made ps depth lawful.5 made.1 (suc k) c input rs rest os tags us o (behind presence s ps depth k c lawful.4 input rs rest os h y) by starts order (subst (OwesParts ps depth) q ms) in (
       [] ∷ r.0,
-      (t, us, [], r.0, e, refl, missing_made s depth presence w.0 t z (subst (PartMeets presence (Meets Der s depth)) p m), r.1),
+      (t, us, [], r.0, e, refl, missing_made s depth presence t z (subst (PartOwes presence (Owes s depth)) p m), r.1),
       subst (λ l. NoneBare (fields_of Der (part presence s ps)) l ([] ∷ r.0)) (sym e) ((λ b. refl), r.2),
       r.3,
       r.4,
@@ -210,7 +208,7 @@ enclosed_made tag bit e inner P input x rest o made (in_definite contents f h) =
 enclosed_made tag bit e inner P input x rest o made (in_indefinite body f h) = absurd (no_open f)
 
 open_made : (tag : Tag) (depth : ℕ) → IsMade (any (Some tag)) depth
-unfolding Reads parts_of Bytes fields_of Meets
+unfolding Reads parts_of Bytes fields_of Owes
 open_made tag depth closing input t rest o (bit, c, e, z, inr (body, f, w, g)) m = absurd (no_open f)
 open_made tag depth closing input t rest o (bit, c, e, z, inl f) m =
     let w = framed o f in
@@ -220,41 +218,41 @@ open_made tag depth closing input t rest o (bit, c, e, z, inl f) m =
     empty : m.octets ≡ [] → ⊥
     empty k = not_ended false [] m.tag (frame_next (subst (λ l. Frame loose_form l m.tag m.bit [] (definite m.contents)) k m.frame)) (inl refl)
 
-in_seq_made : (tag : Tag) (ps : Parts) (depth : ℕ) → EachMade (depth - 1) ps → EachOwn ps → IsMade (seq tag ps) depth
-unfolding Reads parts_of Bytes fields_of Meets
-in_seq_made tag ps depth k w closing input t rest o (deep, h) (deep', us, f, m) =
+in_seq_made : (tag : Tag) (ps : Parts) (depth : ℕ) → EachMade (depth - 1) ps → IsMade (seq tag ps) depth
+unfolding Reads parts_of Bytes fields_of Owes
+in_seq_made tag ps depth k closing input t rest o (deep, h) (deep', us, f, m) =
     let r = enclosed_made tag true refl _ (λ c. (ts : List Tree) × (bs : List (List ℕ)) × (t ≡ items ts) × PartsWritten (fields_of Der ps) ts bs × (c ≡ joined_lists bs)) input t rest o
     (λ contents p r.
     let vs = r.0 in
     let y : us ≡ vs = items_one us vs (sym f ∙ r.1) in
-    let m' = subst (MeetsParts Der ps (depth - 1)) y m in
+    let m' = subst (OwesParts ps (depth - 1)) y m in
     elim r.2 [
-      | inl a ↦ let q = all_missing_made ps (depth - 1) w false vs a.1 m' in (joined_lists q.0, (vs, q.0, r.1, q.1, refl), a.0.2 ∙ (sym q.2 ∙ sym (append-nil (joined_lists q.0))))
-      | inr a ↦ let q = in_order_made ps (depth - 1) k w false false contents vs [] p a.1 m' in (joined_lists q.0, (vs, q.0, r.1, q.1, refl), q.2)
+      | inl a ↦ let q = all_missing_made ps (depth - 1) false vs a.1 m' in (joined_lists q.0, (vs, q.0, r.1, q.1, refl), a.0.2 ∙ (sym q.2 ∙ sym (append-nil (joined_lists q.0))))
+      | inr a ↦ let q = in_order_made ps (depth - 1) k false false contents vs [] p a.1 m' in (joined_lists q.0, (vs, q.0, r.1, q.1, refl), q.2)
     ]) h in
     (r.2, (r.1.0, r.1.1, r.1.2, r.1.3, subst (λ l. Definite tag true l r.2) r.1.4 r.3), r.4)
 
-in_set_made : (tag : Tag) (ps : Parts) (depth : ℕ) → AreLawfulByTag ps → EachMade (depth - 1) ps → EachOwn ps → IsMade (set tag ps) depth
-unfolding Reads parts_of Bytes fields_of Meets
-in_set_made tag ps depth lawful k w closing input t rest o (deep, h) (deep', us, f, m) =
+in_set_made : (tag : Tag) (ps : Parts) (depth : ℕ) → AreLawfulByTag ps → EachMade (depth - 1) ps → IsMade (set tag ps) depth
+unfolding Reads parts_of Bytes fields_of Owes
+in_set_made tag ps depth lawful k closing input t rest o (deep, h) (deep', us, f, m) =
     let r = enclosed_made tag true refl _ (λ c. (ts : List Tree) × (bs : List (List ℕ)) × (tags : List Tag) × (t ≡ items ts) × PartsWritten (fields_of Der ps) ts bs
     × NoneBare (fields_of Der ps) ts bs × TagsOf bs tags × DoNotFall IsTagBelow tags × (c ≡ joined_lists bs)) input t rest o
     (λ contents p r.
     let vs = r.1 in
     let y : us ≡ vs = items_one us vs (sym f ∙ r.2) in
     let g = r.5 tt in
-    let q = set_made ps (depth - 1) lawful k w 0 false contents r.0 [] g.0 g.2.0 vs p g.1 r.4 g.2.1 g.2.2 (subst (MeetsParts Der ps (depth - 1)) y m) in
+    let q = set_made ps (depth - 1) lawful k 0 false contents r.0 [] g.0 g.2.0 vs p g.1 r.4 g.2.1 g.2.2 (subst (OwesParts ps (depth - 1)) y m) in
     (joined_lists q.0, (vs, q.0, g.2.0, r.2, q.1, q.2, q.3, g.2.2, refl), q.4)) h in
     (r.2, (r.1.0, r.1.1, r.1.2, r.1.3, r.1.4, r.1.5, r.1.6, r.1.7, subst (λ l. Definite tag true l r.2) r.1.8 r.3), r.4)
 
 in_list_made : (tag : Tag) (s : Shape) (size : Option (Bound ℕ)) (depth : ℕ) → IsMade s (depth - 2) → IsMade (list tag s size) depth
-unfolding Reads parts_of Bytes fields_of Meets
+unfolding Reads parts_of Bytes fields_of Owes
 in_list_made tag s size depth made closing input t rest o (deep, h) (deep', us, f, m) =
     let r = enclosed_made tag true refl _ (λ c. (ts : List Tree) × (bs : List (List ℕ)) × (t ≡ items ts) × Admits ◌≤◌ size (length ts) × Each (Bytes Der s) ts bs × (c ≡ joined_lists bs)) input t rest o
     (λ contents p r.
     let vs = r.0 in
     let y : us ≡ vs = items_one us vs (sym f ∙ r.1) in
-    let q = many_made s (depth - 2) made false false contents vs [] p r.3 (subst (EachOf (Meets Der s (depth - 2))) y m) in
+    let q = many_made s (depth - 2) made false false contents vs [] p r.3 (subst (EachOf (Owes s (depth - 2))) y m) in
     (joined_lists q.0, (vs, q.0, r.1, r.2, q.1, refl), q.2)) h in
     (r.2, (r.1.0, r.1.1, r.1.2, r.1.3, r.1.4, subst (λ l. Definite tag true l r.2) r.1.5 r.3), r.4)
 
@@ -262,7 +260,7 @@ walk_one : (ts us : List Tree) → walk (items ts) ≡ walk (items us) → items
 walk_one ts us e = cc
 
 in_bag_made : (tag : Tag) (s : Shape) (size : Option (Bound ℕ)) (depth : ℕ) → IsMade s (depth - 2) → IsMade (bag tag s size) depth
-unfolding Reads parts_of Bytes fields_of Meets
+unfolding Reads parts_of Bytes fields_of Owes
 in_bag_made tag s size depth made closing input t rest o (deep, h) (deep', us, f, m) =
     let r = enclosed_made tag true refl _ (λ c. (ts : List Tree) × (bs : List (List ℕ)) × (t ≡ walk (items ts)) × Admits ◌≤◌ size (length ts) × Each (Bytes Der s) ts bs
     × DoNotFall IsLess bs × (c ≡ joined_lists bs)) input t rest o
@@ -270,18 +268,18 @@ in_bag_made tag s size depth made closing input t rest o (deep, h) (deep', us, f
     let vs = r.0 in
     let y : us ≡ vs = items_one us vs (walk_one us vs (sym f ∙ r.1)) in
     let g = r.4 tt in
-    let q = from_made s (depth - 2) made false contents vs [] g.0 p g.1 (subst (EachOf (Meets Der s (depth - 2))) y m) in
+    let q = from_made s (depth - 2) made false contents vs [] g.0 p g.1 (subst (EachOf (Owes s (depth - 2))) y m) in
     (joined_lists g.0, (vs, g.0, r.1, r.2, q.0, g.2, refl), q.1)) h in
     (r.2, (r.1.0, r.1.1, r.1.2, r.1.3, r.1.4, r.1.5, subst (λ l. Definite tag true l r.2) r.1.6 r.3), r.4)
 
 option_made : (tag : Option Tag) (s : Shape) (depth : ℕ) → Made s depth → IsMade (option tag s) depth
-unfolding Reads parts_of Bytes fields_of Meets
+unfolding Reads parts_of Bytes fields_of Owes
 option_made tag s depth k closing input t rest o (inl (p, q, r)) m = ([], inl (q, refl), sym r)
 option_made tag s depth k closing input t rest o (inr (p, h)) (inl m) = absurd (k.there closing input t rest h m)
 option_made tag s depth k closing input t rest o (inr (p, h)) (inr m) = let r = k.made closing input t rest o h m in (r.0, inr (k.there closing input t rest h, r.1), r.2)
 
 prefix_made : (tag : Tag) (s : Shape) (depth : ℕ) → IsMade s (depth - 1) → IsMade (prefix tag s) depth
-unfolding Reads parts_of Bytes fields_of Meets
+unfolding Reads parts_of Bytes fields_of Owes
 prefix_made tag s depth made closing input t rest o (deep, bit, z, h) (deep', m) =
     let r = enclosed_made tag bit (z tt) (λ c. Reads Der s (depth - 1) c) (λ c. Bytes Der s t c) input t rest o
     (λ contents p r. let q = made false contents t [] p r m in (q.0, q.1, q.2)) h in
@@ -308,31 +306,37 @@ mutual
   none_bare (part presence s ps) lawful k t (inl h) = not_bare s lawful.3 lawful.2 lawful.1 h.0 h.2
   none_bare (part presence s ps) lawful k t (inr h) = none_bare ps lawful.5 (suc k) t h
 
-own_of : (ps : Parts) → HaveOwnDefaults ps → EachOwn ps
-own_of none h = tt
-own_of (part presence s ps) h = (h.0, own_of ps h.2)
-
 mutual
-  unfolding Reads parts_of Bytes fields_of Meets IsLawful
+  unfolding Reads parts_of Bytes fields_of Owes IsLawful
 
-  pub all_made : (s : Shape) → IsLawful s → HasOwnDefaults s → (depth : ℕ) → IsMade s depth
-  all_made (leaf kind tag bounds) lawful own depth = λ closing input t rest o h m.
+  pub all_made : (s : Shape) → IsLawful s → (depth : ℕ) → IsMade s depth
+  all_made (leaf kind tag bounds) lawful depth = λ closing input t rest o h m.
       let r = in_told (family kind) kind tag lawful.1 depth input t rest o h.0 in (r.0, (h.1, r.1), r.2)
-  all_made (any None) lawful own depth = λ closing input t rest o h m. (h.0, h.1, h.3)
-  all_made (any (Some tag)) lawful own depth = open_made tag depth
-  all_made (prefix tag s) lawful own depth = prefix_made tag s depth (all_made s lawful.2 own (depth - 1))
-  all_made (choice ps) lawful own depth = λ closing input t rest o h m. choice_made ps depth (each_made ps (alternatives_good ps lawful) own depth) 0 closing input t rest o h m
-  all_made (option tag s) lawful own depth =
-      option_made tag s depth (record { made = all_made s lawful.2 own depth; there = there s lawful.1 lawful.2 depth; not_bare = λ has t. not_bare s lawful.2 lawful.1 has t })
-  all_made (seq tag ps) lawful own depth = in_seq_made tag ps depth (each_made ps (in_order_good ps lawful.1) own (depth - 1)) (own_of ps own)
-  all_made (set tag ps) lawful own depth = in_set_made tag ps depth lawful.1 (each_made ps (by_tag_good ps lawful.1) own (depth - 1)) (own_of ps own)
-  all_made (list tag s size) lawful own depth = in_list_made tag s size depth (all_made s lawful.2 own (depth - 2))
-  all_made (bag tag s size) lawful own depth = in_bag_made tag s size depth (all_made s lawful.2 own (depth - 2))
+  all_made (any None) lawful depth = λ closing input t rest o h m. (h.0, h.1, h.3)
+  all_made (any (Some tag)) lawful depth = open_made tag depth
+  all_made (prefix tag s) lawful depth = prefix_made tag s depth (all_made s lawful.2 (depth - 1))
+  all_made (choice ps) lawful depth = λ closing input t rest o h m. choice_made ps depth (each_made ps (alternatives_good ps lawful) depth) 0 closing input t rest o h m
+  all_made (option tag s) lawful depth =
+      option_made tag s depth (record { made = all_made s lawful.2 depth; there = there s lawful.1 lawful.2 depth; not_bare = λ has t. not_bare s lawful.2 lawful.1 has t })
+  all_made (seq tag ps) lawful depth = in_seq_made tag ps depth (each_made ps (in_order_good ps lawful.1) (depth - 1))
+  all_made (set tag ps) lawful depth = in_set_made tag ps depth lawful.1 (each_made ps (by_tag_good ps lawful.1) (depth - 1))
+  all_made (list tag s size) lawful depth = in_list_made tag s size depth (all_made s lawful.2 (depth - 2))
+  all_made (bag tag s size) lawful depth = in_bag_made tag s size depth (all_made s lawful.2 (depth - 2))
 
-  each_made : (ps : Parts) → EachGood ps → HaveOwnDefaults ps → (depth : ℕ) → EachMade depth ps
-  each_made none good own depth = tt
-  each_made (part presence s ps) good own depth =
-      (record { made = all_made s good.1 own.1 depth; there = there s good.0 good.1 depth; not_bare = λ has t. not_bare s good.1 good.0 has t }, each_made ps good.2 own.2 depth)
+  each_made : (ps : Parts) → EachGood ps → (depth : ℕ) → EachMade depth ps
+  each_made none good depth = tt
+  each_made (part presence s ps) good depth =
+      (record { made = all_made s good.1 depth; there = there s good.0 good.1 depth; not_bare = λ has t. not_bare s good.1 good.0 has t }, each_made ps good.2 depth)
 
 pub only_carried : OnlyCarried
-only_carried s lawful own input o t rest h m = let r = all_made s lawful own 128 false input t rest o h m in (record { octets = r.0; is = r.1; meets = m }, r.2)
+only_carried s lawful own input o t rest h m =
+    let r = all_made s lawful 128 false input t rest o h (meets_owed s own 128 t m) in
+    (record { octets = r.0; is = r.1; meets = m }, r.2)
+
+pub stays_carried : StaysCarried
+stays_carried s lawful t c o u h =
+    let again = read_again s lawful Der t c in
+    let one = one_reading s lawful Der 128 false c.octets again.0 u [] [] again.2 h in
+    let owes = owes_like s 128 t u c.octets (subst (Same t) one.0 again.1) c.is c.meets in
+    let r = all_made s lawful 128 false c.octets u [] o h owes in
+    (record { octets = r.0; is = r.1; meets = owed_meets s 128 u owes }, sym (append-nil r.0) ∙ sym r.2)

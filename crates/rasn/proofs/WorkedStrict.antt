@@ -19,6 +19,7 @@ use Rattle.rasn_types.specs.declared.ber.time.text.Zone.TheVariants.{Utc}
 use Rattle.rasn_types.specs.Spelling.{Spelling, parts}
 use Rattle.rasn_types.specs.Times.{GeneralGeneralized, CarriedDay, at_utc}
 use Rattle.rasn.proofs.WorkedStrictLeaves.{high_tag, high_tag_next, long_length, long_octets, built_bool, primitive_prefix, primitive_open, padded_integer, padded_negative, padded_arc, set_bits}
+use Rattle.rasn.proofs.WorkedFractions.{tenth_digit}
 use Rattle.rasn.proofs.WorkedStrictSets.{default_there, default_in_set, bag_falls, set_falls}
 
 long_spelling : Spelling
@@ -96,6 +97,7 @@ worked = record {
   default_in_set = default_in_set;
   bag_falls = bag_falls;
   set_falls = set_falls;
+  tenth_digit = tenth_digit;
   lenient_open = lenient_open;
   lenient_inside = lenient_inside;
   fraction_ends_in_zero = fraction_ends_in_zero;

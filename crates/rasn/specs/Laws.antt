@@ -100,6 +100,10 @@ abbrev pub OnlyCarried : Type 0
 OnlyCarried = (s : Shape) → IsLawful s → HasOwnDefaults s → (input : List ℕ) → AreOctets input → (t : Tree) (rest : List ℕ) → Reads Der s 128 (top Der) input t rest → Meets Der s 128 t
     → (c : Carried Der s t) × (input ≡ c.octets ++ rest)
 
+-- What DER reads of a carried tree's octets is carried too, with the same octets.
+abbrev pub StaysCarried : Type 0
+StaysCarried = (s : Shape) → IsLawful s → (t : Tree) (c : Carried Der s t) → AreOctets c.octets → (u : Tree) → Reads Der s 128 (top Der) c.octets u [] → (d : Carried Der s u) × (d.octets ≡ c.octets)
+
 -- Of octets that DER reads as a carried tree, those that are consumed are its DER octets.
 abbrev pub StrictDer : Type 0
 StrictDer = (s : Shape) → IsLawful s → (input : List ℕ) → AreOctets input → (t : Tree) (rest : List ℕ) → Reads Der s 128 (top Der) input t rest → Carried Der s t

@@ -54,6 +54,16 @@ smith = items (numbers (83 ∷ 109 ∷ 105 ∷ 116 ∷ 104 ∷ []) ∷ number (p
 abbrev pub long_leap_text : List ℕ
 long_leap_text = 50 ∷ 48 ∷ 49 ∷ 54 ∷ 49 ∷ 50 ∷ 51 ∷ 49 ∷ 50 ∷ 51 ∷ 53 ∷ 57 ∷ 54 ∷ 48 ∷ 46 ∷ 53 ∷ 48 ∷ 90 ∷ []
 
+abbrev pub afternoon : Moment
+afternoon = record { day = record { year = pos 2018; month = 6; day = 13 }; hour = 12; minute = 29; second = 59; nanosecond = 123456789 }
+
+-- 20180613122959.123456789Z, and one more digit
+abbrev pub nine_digits : List ℕ
+nine_digits = 50 ∷ 48 ∷ 49 ∷ 56 ∷ 48 ∷ 54 ∷ 49 ∷ 51 ∷ 49 ∷ 50 ∷ 50 ∷ 57 ∷ 53 ∷ 57 ∷ 46 ∷ 49 ∷ 50 ∷ 51 ∷ 52 ∷ 53 ∷ 54 ∷ 55 ∷ 56 ∷ 57 ∷ 90 ∷ []
+
+abbrev pub ten_digits : List ℕ
+ten_digits = 50 ∷ 48 ∷ 49 ∷ 56 ∷ 48 ∷ 54 ∷ 49 ∷ 51 ∷ 49 ∷ 50 ∷ 50 ∷ 57 ∷ 53 ∷ 57 ∷ 46 ∷ 49 ∷ 50 ∷ 51 ∷ 52 ∷ 53 ∷ 54 ∷ 55 ∷ 56 ∷ 57 ∷ 49 ∷ 90 ∷ []
+
 -- 1, 2, 3 and the same in falling order
 abbrev pub one_two_three : Tree
 one_two_three = items (number (pos 1) ∷ number (pos 2) ∷ number (pos 3) ∷ [])
@@ -90,6 +100,7 @@ pub record WorkedStrict : Type 0 where
   pub bag_falls : IsLenient bag_of_octets (49 ∷ 6 ∷ 4 ∷ 1 ∷ 2 ∷ 4 ∷ 1 ∷ 1 ∷ []) (walk (items (numbers (2 ∷ []) ∷ numbers (1 ∷ []) ∷ [])))
   pub set_falls : IsLenient three_of_set falling_octets one_two_three
   pub fraction_ends_in_zero : IsLenient (plain generalized_time 24) (24 ∷ 18 ∷ long_leap_text) (instant leap)
+  pub tenth_digit : IsLenient (plain generalized_time 24) (24 ∷ 26 ∷ ten_digits) (instant afternoon)
   pub lenient_open : Gives Der (any None) (2 ∷ 129 ∷ 1 ∷ 5 ∷ []) (numbers (2 ∷ 129 ∷ 1 ∷ 5 ∷ [])) []
   pub lenient_inside : Gives Der (any (Some (contextual 0))) (160 ∷ 4 ∷ 2 ∷ 129 ∷ 1 ∷ 5 ∷ []) (numbers (2 ∷ 129 ∷ 1 ∷ 5 ∷ [])) []
 

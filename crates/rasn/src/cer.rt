@@ -6,6 +6,7 @@ ghost use Rattle.rasn_types.specs.declared.types.rules.Codec.TheVariants.{Cer};
 ghost use Rattle.rasn.specs.Headline.{Answered, AnsweredFirst};
 ghost use Rattle.rasn_enc.specs.Wrote.{Undefined};
 
+pub use crate::ber::{Identifier, de, enc};
 use crate::entry;
 use rasn_de::ber::de::DecoderOptions;
 use rasn_de::de::Decode;

@@ -10,7 +10,7 @@ ghost use Rattle.rasn_enc.specs.Primitives.{WantsMemory};
 ghost use Rattle.rasn_enc.specs.Wrote.{Undefined};
 ghost use Rattle.rasn_enc.specs.Writing.{WritesBehind, Refuses, Outputs};
 
-pub use crate::ber::{de, enc};
+pub use crate::ber::{Identifier, de, enc};
 use crate::entry;
 use rasn_de::ber::de::DecoderOptions;
 use rasn_de::de::Decode;

@@ -4,7 +4,7 @@ ghost use Rattle.rasn.specs.Worked.{Worked, WorkedStrict};
 ghost use Rattle.rasn.specs.WorkedShapes.{LawfulShapes};
 ghost use Rattle.rasn.specs.WorkedDepths.{WorkedDepths};
 ghost use Rattle.rasn.specs.WorkedValues.{WorkedValues, WorkedSets, WorkedOpens};
-ghost use Rattle.rasn.specs.Laws.{OneReading, Included, ReadAgain, Canonical, WrittenOnce, StrictDer, OnlyCarried, OneEncoding, Turns};
+ghost use Rattle.rasn.specs.Laws.{OneReading, Included, ReadAgain, Canonical, WrittenOnce, StrictDer, OnlyCarried, StaysCarried, OneEncoding, Turns};
 
 /// An input is read as at most one value of a kind that holds no others, with one rest.
 pub fn one_leaf()
@@ -61,30 +61,35 @@ pub fn included()
     ensures { Included }
 {}
 
-/// What is written of a carried value is read again under its rule as the same value, with nothing left.
+/// What is written of a carried value of a lawful shape is read again under its rule as the same value, with nothing left.
 /// Where every value of the shape is there, whatever follows is the rest.
 pub fn read_again()
     ensures { ReadAgain }
 {}
 
-/// Carried values of one shape are the same exactly if their DER octets are.
+/// Carried values of one lawful shape are the same exactly if their DER octets are.
 pub fn canonical()
     ensures { Canonical }
 {}
 
-/// Values that are the same are written alike.
+/// Values that are the same are written alike, whatever their shape.
 pub fn written_once()
     ensures { WrittenOnce }
 {}
 
-/// Of octets that DER reads as a carried value, those that are consumed are its DER octets.
+/// Of octets that DER reads as a carried value of a lawful shape, those that are consumed are its DER octets.
 pub fn strict_der()
     ensures { StrictDer }
 {}
 
-/// A value that DER reads, and that meets the depth, is carried, and the octets that are consumed are its DER octets.
+/// A value of a lawful shape that DER reads, and that meets the depth, is carried, and the octets that are consumed are its DER octets.
 pub fn only_carried()
     ensures { OnlyCarried }
+{}
+
+/// What DER reads of a carried value's octets is carried too, with the same octets.
+pub fn stays_carried()
+    ensures { StaysCarried }
 {}
 
 /// No whole encoding begins another, and the turns that pass one are determined.

@@ -6,8 +6,14 @@ pub mod cer;
 pub mod der;
 mod entry;
 pub mod laws;
+pub mod prelude;
 pub mod time_laws;
 
+pub use rasn_de::ber::de::Decoder;
 pub use rasn_de::de;
+pub use rasn_de::de::Decode;
+pub use rasn_enc::ber::enc::Encoder;
 pub use rasn_enc::enc;
+pub use rasn_enc::enc::Encode;
+pub use rasn_types::types::{AsnType, Codec, Tag};
 pub use rasn_types::{error, types};

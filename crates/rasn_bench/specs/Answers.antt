@@ -1,14 +1,14 @@
 -- What the program answers to a line.
-use Rattle.std.specs.Prelude.{◌≡◌, ℕ, ◌⊎◌, List, Some, length, codes}
+use Rattle.std.specs.Prelude.{◌≡◌, ℕ, ◌⊎◌, List, Some, None, length, codes}
 use Rattle.rasn_types.specs.declared.types.rules.Codec.{Codec}
 use Rattle.rasn_types.specs.declared.types.rules.Codec.TheVariants.{Der}
 use Rattle.rasn_types.specs.Tags.{in_universal}
-use Rattle.rasn_types.specs.Shapes.{Tree, Shape, leaf, boolean, integer, octet_string, every, utc_time, generalized_time, date, null, object_identifier, bit_string, enumerated, utf8, ia5, printable, option, seq, part, required}
+use Rattle.rasn_types.specs.Shapes.{Tree, Shape, leaf, boolean, integer, octet_string, every, utc_time, generalized_time, date, null, object_identifier, bit_string, enumerated, utf8, ia5, printable, option, any, seq, part, required, bag}
 use Rattle.rasn_types.specs.Trees.{unconstrained, signed_range, unsigned_range}
 use Rattle.rasn_types.specs.Grammar.{Reads, top}
 use Rattle.rasn_types.specs.Bytes.{Bytes}
 use Rattle.rasn_bench.specs.declared.line.ValueType.{ValueType}
-use Rattle.rasn_bench.specs.declared.line.ValueType.TheVariants.{Bool, I32, U32, Octets, Pair, Integer, UtcTime, GeneralizedTime, Date, Null, ObjectIdentifier, Bits, Colour, Utf8, Ia5, Printable, Foo, OptionalBool, Validity}
+use Rattle.rasn_bench.specs.declared.line.ValueType.TheVariants.{Bool, I32, U32, Octets, Pair, Integer, UtcTime, GeneralizedTime, Date, Null, ObjectIdentifier, Bits, Colour, Utf8, Ia5, Printable, Foo, OptionalBool, Validity, Any, AlgorithmIdentifier, RelativeDistinguishedName, Set3, Bag}
 use Rattle.rasn_bench.specs.declared.answer.Answer.{Answer}
 use Rattle.rasn_bench.specs.declared.answer.Answer.TheVariants.{Read, NotWritten, Refused, Malformed}
 use Rattle.rasn_bench.specs.Lines.{IsRequest, octets_at}
@@ -16,6 +16,9 @@ use Rattle.rasn_types.specs.Shapes.Parts.{none}
 use Rattle.rasn_bench.specs.Pairs.{pair_shape}
 use Rattle.rasn_bench.specs.Choices.{validity_shape}
 use Rattle.rasn_bench.specs.Colours.{colours}
+use Rattle.rasn_bench.specs.Algorithms.{algorithm_shape}
+use Rattle.rasn_bench.specs.Attributes.{name_shape}
+use Rattle.rasn_bench.specs.Set3s.{set3_shape}
 
 abbrev pub shape_of : ValueType → Shape
 shape_of Bool = leaf boolean (in_universal 1) unconstrained
@@ -37,6 +40,11 @@ shape_of Printable = leaf printable (in_universal 19) unconstrained
 shape_of Foo = seq (in_universal 16) (part required (leaf ia5 (in_universal 22) unconstrained) (part required (leaf boolean (in_universal 1) unconstrained) none))
 shape_of OptionalBool = option (Some (in_universal 1)) (leaf boolean (in_universal 1) unconstrained)
 shape_of Validity = validity_shape
+shape_of Any = any None
+shape_of AlgorithmIdentifier = algorithm_shape
+shape_of RelativeDistinguishedName = name_shape
+shape_of Set3 = set3_shape
+shape_of Bag = bag (in_universal 17) (leaf octet_string (in_universal 4) unconstrained) None
 
 abbrev pub kind_of : ValueType → List ℕ
 kind_of Bool = codes "BOOLEAN"
@@ -58,6 +66,11 @@ kind_of Printable = codes "STRING"
 kind_of Foo = codes "SEQUENCE"
 kind_of OptionalBool = codes "OPTIONAL"
 kind_of Validity = codes "SEQUENCE"
+kind_of Any = codes "ANY"
+kind_of AlgorithmIdentifier = codes "SEQUENCE"
+kind_of RelativeDistinguishedName = codes "SET"
+kind_of Set3 = codes "SET"
+kind_of Bag = codes "SET"
 
 -- By these rules the input begins with this value, and so many octets follow it.
 pub record IsRead (rule : Codec) (shape : Shape) (input : List ℕ) (t : Tree) (count : ℕ) : Type 0 where

@@ -1,7 +1,14 @@
 pub mod Lines
 pub mod Answers
+pub mod Normal
+pub mod NormalAnswers
+pub mod WorkedNormals
+pub mod Arguments
 pub mod Groups
 pub mod Pairs
 pub mod Choices
 pub mod Colours
 pub mod Set3s
+pub mod Algorithms
+pub mod Attributes
+pub mod Settings

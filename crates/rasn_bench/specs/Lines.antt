@@ -4,7 +4,7 @@ use Rattle.std.specs.List.{position_or_len, before_first, after_first}
 use Rattle.rasn_types.specs.declared.types.rules.Codec.{Codec}
 use Rattle.rasn_types.specs.declared.types.rules.Codec.TheVariants.{Ber, Cer, Der}
 use Rattle.rasn_bench.specs.declared.line.ValueType.{ValueType}
-use Rattle.rasn_bench.specs.declared.line.ValueType.TheVariants.{Bool as BoolType, I32, U32, Octets, Pair, Integer, UtcTime, GeneralizedTime, Date, Null, ObjectIdentifier, Bits, Colour, Utf8, Ia5, Printable, Foo, OptionalBool, Validity}
+use Rattle.rasn_bench.specs.declared.line.ValueType.TheVariants.{Bool as BoolType, I32, U32, Octets, Pair, Integer, UtcTime, GeneralizedTime, Date, Null, ObjectIdentifier, Bits, Colour, Utf8, Ia5, Printable, Foo, OptionalBool, Validity, Any, AlgorithmIdentifier, RelativeDistinguishedName, Set3, Bag}
 
 abbrev pub name_of : ValueType → List ℕ
 name_of BoolType = codes "bool"
@@ -26,6 +26,11 @@ name_of Printable = codes "printable"
 name_of Foo = codes "foo"
 name_of OptionalBool = codes "optbool"
 name_of Validity = codes "validity"
+name_of Any = codes "any"
+name_of AlgorithmIdentifier = codes "algid"
+name_of RelativeDistinguishedName = codes "rdn"
+name_of Set3 = codes "set3"
+name_of Bag = codes "bag"
 
 abbrev pub rule_name : Codec → List ℕ
 rule_name Ber = codes "ber"

@@ -1,20 +1,21 @@
 //! What the program answers to a line.
 ghost use Rattle.std.specs.Prelude.{IfOk, IsTrue, ◌↔◌, ◌≢◌};
-ghost use Rattle.rasn.specs.Headline.{Answered};
 ghost use Rattle.rasn_bench.specs.Answers.{IsAnswer, IsAnswerTo, shape_of, kind_of};
 ghost use Rattle.rasn_bench.specs.declared.answer.Answer.TheVariants.{Malformed};
 
 use crate::line::{Request, ValueType};
 use crate::names::{decode_error_name, encode_error_name};
-use crate::worked::{Colour, Foo, Pair, Validity};
-use rasn::de::Decode;
-use rasn::enc::Encode;
-use rasn::error::DecodeError;
-use rasn::types::{
-    BitString, Codec, Date, GeneralizedTime, Ia5String, Integer, ObjectIdentifier, OctetString,
-    PrintableString, UtcTime, Utf8String,
+use crate::normal::decode_with_remainder;
+use crate::worked::{
+    AlgorithmIdentifier, Colour, Foo, Pair, RelativeDistinguishedName, Set3, Validity,
 };
-use rasn::{ber, cer, der};
+use rasn::de::Decode;
+use rasn::der;
+use rasn::enc::Encode;
+use rasn::types::{
+    Any, BitString, Codec, Date, GeneralizedTime, Ia5String, Integer, ObjectIdentifier,
+    OctetString, PrintableString, SetOf, UtcTime, Utf8String,
+};
 use std::alloc::{AllocError, Global};
 use std::fmt;
 
@@ -88,6 +89,15 @@ fn answer_to(alloc: Global, request: Request<'_>, octets: &[u8]) -> Answer
         ValueType::Foo => answer_as::<Foo>(alloc, rule, "SEQUENCE", octets),
         ValueType::OptionalBool => answer_as::<Option<bool>>(alloc, rule, "OPTIONAL", octets),
         ValueType::Validity => answer_as::<Validity>(alloc, rule, "SEQUENCE", octets),
+        ValueType::Any => answer_as::<Any>(alloc, rule, "ANY", octets),
+        ValueType::AlgorithmIdentifier => {
+            answer_as::<AlgorithmIdentifier>(alloc, rule, "SEQUENCE", octets)
+        }
+        ValueType::RelativeDistinguishedName => {
+            answer_as::<RelativeDistinguishedName>(alloc, rule, "SET", octets)
+        }
+        ValueType::Set3 => answer_as::<Set3>(alloc, rule, "SET", octets),
+        ValueType::Bag => answer_as::<SetOf<OctetString>>(alloc, rule, "SET", octets),
     }
 }
 
@@ -100,7 +110,7 @@ fn answer_as<T: Decode + Encode>(
 ) -> Answer
     ensures { IsAnswer rule T.shape kind.now octets.now result }
 {
-    match decode_by::<T>(alloc, rule, octets) {
+    match decode_with_remainder::<T>(alloc, rule, octets) {
         Err(error) => Answer::Refused {
             name: decode_error_name(&error.kind),
         },
@@ -119,21 +129,6 @@ fn answer_as<T: Decode + Encode>(
     }
 }
 
-/// Reads the value that begins the octets by these rules.
-fn decode_by<T: Decode>(
-    alloc: Global,
-    rule: Codec,
-    octets: &[u8],
-) -> Result<(T, &[u8]), DecodeError>
-    ensures { Answered rule T.shape T.tree octets.now result }
-{
-    match rule {
-        Codec::Ber => ber::decode_with_remainder(alloc, octets),
-        Codec::Cer => cer::decode_with_remainder(alloc, octets),
-        Codec::Der => der::decode_with_remainder(alloc, octets),
-    }
-}
-
 impl fmt::Display for Answer {
     fn fmt<W: fmt::Write>(&self, f: &mut fmt::Formatter<W>) -> fmt::Result {
         match self {
@@ -142,14 +137,19 @@ impl fmt::Display for Answer {
             Answer::NotWritten { kind, rest, name } => write!(f, "{kind} {rest} refused {name}"),
             Answer::Read { kind, rest, octets } => {
                 write!(f, "{kind} {rest} ")?;
-                if octets.is_empty() {
-                    return f.write_str("-");
-                }
-                for octet in octets {
-                    write!(f, "{octet:02X}")?;
-                }
-                Ok(())
+                write_octets(octets, f)
             }
         }
     }
+}
+
+/// Writes octets as digits, and none as `-`.
+pub(crate) fn write_octets<W: fmt::Write>(octets: &[u8], f: &mut fmt::Formatter<W>) -> fmt::Result {
+    if octets.is_empty() {
+        return f.write_str("-");
+    }
+    for octet in octets {
+        write!(f, "{octet:02X}")?;
+    }
+    Ok(())
 }

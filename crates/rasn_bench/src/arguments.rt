@@ -1,22 +1,36 @@
 //! What the program is called with.
-ghost use Rattle.std.specs.Prelude.{◌≡◌, ◌<◌, [], ◌∷◌, length, MatchResult, MatchOption, string_bytes};
+ghost use Rattle.std.specs.Prelude.{IsTrue, ◌↔◌, ◌≡◌, Bool, map, MatchResult, ℕ, List, Option, string_bytes};
+ghost use Rattle.rasn_bench.specs.Arguments.{option_word, IsCall, name_in};
 
 use thiserror::Error;
 
 /// How the program is called.
 #[derive(Clone, Copy, Debug, PartialEq, Eq, Drop, Error)]
-#[error("usage: rasn-vectors [file]")]
+#[error("usage: rasn-vectors [--normalise] [file]")]
 pub struct Usage;
 
-/// The file that the arguments behind the program's name tell, or none for standard input. More than one is refused.
-pub fn file_of(arguments: &[String]) -> Result<Option<&str>, Usage>
+/// The option that asks for normal encodings.
+const NORMALISE: &str = "--normalise";
+
+/// Whether the word is the option.
+fn is_option(word: &String) -> bool
+    ensures { IsTrue result ↔ (string_bytes word.now ≡ option_word) }
+{
+    word.as_str() == NORMALISE
+}
+
+/// Whether the arguments behind the program's name ask to normalise, and the file that they tell, or none for standard input.
+/// Arguments of another form are refused.
+pub fn file_of(arguments: &[String]) -> Result<(bool, Option<&str>), Usage>
     ensures { MatchResult result
-        (λ file. MatchOption file (arguments.now ≡ []) (λ name. (only : _) × (arguments.now ≡ only ∷ []) × (name.now ≡ string_bytes only)))
-        (λ _. 1 < length arguments.now) }
+        (λ call. IsCall (map string_bytes arguments.now) call.0 (name_in call.1))
+        (λ _. (normalises : Bool) (file : Option (List ℕ)) → IsCall (map string_bytes arguments.now) normalises file → ⊥) }
 {
     match arguments {
-        [] => Ok(None),
-        [name] => Ok(Some(name.as_str())),
+        [] => Ok((false, None)),
+        [word] if is_option(word) => Ok((true, None)),
+        [name] => Ok((false, Some(name.as_str()))),
+        [word, name] if is_option(word) => Ok((true, Some(name.as_str()))),
         _ => Err(Usage),
     }
 }

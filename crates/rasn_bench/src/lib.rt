@@ -5,11 +5,18 @@ mod answer;
 mod arguments;
 mod line;
 mod names;
+mod normal;
+mod normal_answer;
 mod program;
 mod worked;
 
 pub use answer::Answer;
 pub use arguments::{Usage, file_of};
 pub use line::{Request, ValueType};
-pub use program::{RunFault, run};
-pub use worked::{Both, Colour, Foo, Group, Grouped, Pair, Set3, Time, Validity};
+pub use normal::{NormaliseError, normalise, same_exactly_if_equal, worked_normals};
+pub use normal_answer::NormalAnswer;
+pub use program::{RunFault, run, run_normalise};
+pub use worked::{
+    AlgorithmIdentifier, AttributeTypeAndValue, Both, Colour, Foo, Group, Grouped, Pair,
+    RelativeDistinguishedName, Set3, Setting, Time, Validity,
+};

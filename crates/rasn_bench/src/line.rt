@@ -29,6 +29,11 @@ pub enum ValueType {
     Foo,
     OptionalBool,
     Validity,
+    Any,
+    AlgorithmIdentifier,
+    RelativeDistinguishedName,
+    Set3,
+    Bag,
 }
 
 impl ValueType {
@@ -56,6 +61,11 @@ impl ValueType {
             "foo" => Some(ValueType::Foo),
             "optbool" => Some(ValueType::OptionalBool),
             "validity" => Some(ValueType::Validity),
+            "any" => Some(ValueType::Any),
+            "algid" => Some(ValueType::AlgorithmIdentifier),
+            "rdn" => Some(ValueType::RelativeDistinguishedName),
+            "set3" => Some(ValueType::Set3),
+            "bag" => Some(ValueType::Bag),
             _ => None,
         }
     }

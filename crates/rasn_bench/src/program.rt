@@ -1,7 +1,9 @@
 //! The program's work: an answer for each line.
 
 use crate::answer::Answer;
-use std::alloc::Global;
+use crate::normal_answer::NormalAnswer;
+use std::alloc::{AllocError, Global};
+use std::fmt;
 use std::io::{BufRead, ErrorKind, Write};
 use thiserror::Error;
 
@@ -19,9 +21,56 @@ pub enum RunFault {
     Memory,
 }
 
+/// What is answered to a line.
+trait LineAnswer: fmt::Display + Drop {
+    /// The answer to a line without its line feed.
+    fn of_line(alloc: Global, line: &str) -> Result<Self, AllocError>;
+
+    /// Whether the line had a good form.
+    fn has_good_form(&self) -> bool;
+}
+
+impl LineAnswer for Answer {
+    fn of_line(alloc: Global, line: &str) -> Result<Answer, AllocError> {
+        Answer::to_line(alloc, line)
+    }
+
+    fn has_good_form(&self) -> bool {
+        self.is_well_formed()
+    }
+}
+
+impl LineAnswer for NormalAnswer {
+    fn of_line(alloc: Global, line: &str) -> Result<NormalAnswer, AllocError> {
+        NormalAnswer::to_line(alloc, line)
+    }
+
+    fn has_good_form(&self) -> bool {
+        self.is_well_formed()
+    }
+}
+
 /// Answers each line of the input by a line of the output, an empty one by nothing, and tells whether none was
 /// malformed. A line ends by a line feed, the last one also by the end of input. One line is held at a time.
 pub fn run<R: BufRead, W: Write>(
+    alloc: Global,
+    input: &mut R,
+    output: &mut W,
+) -> Result<bool, RunFault> {
+    answer_all::<Answer, R, W>(alloc, input, output)
+}
+
+/// As `run`, but each line is answered by the DER octets of its value alone.
+pub fn run_normalise<R: BufRead, W: Write>(
+    alloc: Global,
+    input: &mut R,
+    output: &mut W,
+) -> Result<bool, RunFault> {
+    answer_all::<NormalAnswer, R, W>(alloc, input, output)
+}
+
+/// Answers all lines.
+fn answer_all<A: LineAnswer, R: BufRead, W: Write>(
     alloc: Global,
     input: &mut R,
     output: &mut W,
@@ -46,7 +95,7 @@ pub fn run<R: BufRead, W: Write>(
             return Err(RunFault::Read);
         };
         if !text.is_empty() {
-            well_formed &= answer_line(alloc, text, output)?;
+            well_formed &= answer_line::<A, W>(alloc, text, output)?;
         }
     }
     match output.flush() {
@@ -64,12 +113,16 @@ fn without_line_feed(line: &[u8]) -> &[u8] {
 }
 
 /// Writes the answer to a line, and tells whether the line had a good form.
-fn answer_line<W: Write>(alloc: Global, line: &str, output: &mut W) -> Result<bool, RunFault> {
-    let Ok(answer) = Answer::to_line(alloc, line) else {
+fn answer_line<A: LineAnswer, W: Write>(
+    alloc: Global,
+    line: &str,
+    output: &mut W,
+) -> Result<bool, RunFault> {
+    let Ok(answer) = A::of_line(alloc, line) else {
         return Err(RunFault::Memory);
     };
     match writeln!(output, "{answer}") {
-        Ok(()) => Ok(answer.is_well_formed()),
+        Ok(()) => Ok(answer.has_good_form()),
         Err(_) => Err(RunFault::Write),
     }
 }

@@ -19,10 +19,10 @@ use Rattle.rasn_types.proofs.Digits.{arcs_one}
 use Rattle.rasn_de.specs.declared.ber.de.parser.Fault.{Fault}
 use Rattle.rasn_de.specs.declared.ber.de.parser.Fault.TheVariants.{OutOfMemory, UnsupportedObjectIdentifierArc, Der}
 use Rattle.rasn_types.specs.declared.error.decode.DerDecodeErrorKind.TheVariants.{NonMinimalArc}
-use Rattle.rasn_de.specs.Headers.{number128_at, is_der}
+use Rattle.rasn_de.specs.Headers.{number128_at, is_padded, is_der}
 use Rattle.rasn_de.specs.Causes.{Cause, fault, out_of_bound, kind_of}
 use Rattle.rasn_de.specs.Leaves.{FromContents, definite_at, Refuses}
-use Rattle.rasn_de.specs.ObjectIdentifiers.{starts_padded, arc_at, ReadsArcs, StopsAt, ObjectIdentifierIn, FindsArcs, GaveArcs, HoldsArcs, GaveObjectIdentifier}
+use Rattle.rasn_de.specs.ObjectIdentifiers.{arc_at, ReadsArcs, StopsAt, ObjectIdentifierIn, FindsArcs, GaveArcs, HoldsArcs, GaveObjectIdentifier}
 use Rattle.rasn_de.specs.State.{State, at}
 use Rattle.rasn_de.specs.Outcomes.{Exact, refusal}
 use Rattle.rasn_de.specs.Taking.{ErrorOf}
@@ -52,16 +52,16 @@ none_before : (p n : ℕ) → 0 * p + n ≡ n
 none_before p n = omega arith
 
 -- where the next octet is looked at, it isn't 80
-short_front : (rule : Codec) (l front rest : List ℕ) → is_der rule && starts_padded l ≡ false → IsChain front → l ≡ front ++ rest → IsStrict rule → IsShortest128 front
+short_front : (rule : Codec) (l front rest : List ℕ) → is_der rule && is_padded l ≡ false → IsChain front → l ≡ front ++ rest → IsStrict rule → IsShortest128 front
 short_front Ber l front rest g c e s = absurd s
 short_front Cer l front rest g c e s = absurd s
 short_front Der l [] rest g c e s = absurd c
-short_front Der l (b ∷ front) rest g c e s = let h : nat_eq b 128 ≡ false = sym (ap starts_padded e) ∙ g in grind (arith, nat_tests)
+short_front Der l (b ∷ front) rest g c e s = let h : nat_eq b 128 ≡ false = sym (ap is_padded e) ∙ g in grind (arith, nat_tests)
 
 -- a subidentifier that was read
 spelled : (rule : Codec) (l : List ℕ) (n : ℕ) (rest : List ℕ) → arc_at rule l ≡ Ok (n, rest) → (front : List ℕ) × Spells128 front n × (l ≡ front ++ rest) × (IsStrict rule → IsShortest128 front)
 spelled rule l n rest e =
-    let g = guarded (is_der rule && starts_padded l) (Der NonMinimalArc) (number128_at UnsupportedObjectIdentifierArc 0 l) (n, rest) e in
+    let g = guarded (is_der rule && is_padded l) (Der NonMinimalArc) (number128_at UnsupportedObjectIdentifierArc 0 l) (n, rest) e in
     let s = number128_found UnsupportedObjectIdentifierArc 0 l (n, rest) g.1 in (
       s.front,
       record { chain = s.chain; is = s.number ∙ none_before (128 ^ length s.front) (number_in 128 s.front); below = s.below },
@@ -183,7 +183,7 @@ arcs_left rule (n ∷ ns) (m ∷ ms) front back (p, q, s, e, a) (u, v, t, w, f, 
     (r.0, r.1, ap₂ ◌∷◌ (sym x) r.2)
 
 -- what is read of a subidentifier by a rule
-not_padded : (rule : Codec) (p q : List ℕ) → IsChain p → (IsStrict rule → IsShortest128 p) → is_der rule && starts_padded (p ++ q) ≡ false
+not_padded : (rule : Codec) (p q : List ℕ) → IsChain p → (IsStrict rule → IsShortest128 p) → is_der rule && is_padded (p ++ q) ≡ false
 not_padded Ber p q c w = refl
 not_padded Cer p q c w = refl
 not_padded Der [] q c w = absurd c
@@ -210,7 +210,7 @@ stops_none rule c f arcs s (n, ns, a, e) w =
 -- A refusal isn't for want of memory.
 pub stops_memory : (rule : Codec) (c : List ℕ) (f : Fault) → StopsAt rule c f → f ≢ OutOfMemory
 stops_memory rule c f s =
-    subst NoMemory s.stops (none_cond (is_der rule && starts_padded s.back) (Err (Der NonMinimalArc)) _ (λ e. cc) (number128_none UnsupportedObjectIdentifierArc 0 s.back (λ e. cc)))
+    subst NoMemory s.stops (none_cond (is_der rule && is_padded s.back) (Err (Der NonMinimalArc)) _ (λ e. cc) (number128_none UnsupportedObjectIdentifierArc 0 s.back (λ e. cc)))
 
 pub memory_or : (f : Fault) → (f ≡ OutOfMemory) ⊎ (f ≢ OutOfMemory)
 memory_or OutOfMemory = inl refl

@@ -77,7 +77,7 @@ module _ {D : Type 0} (s : Shape) (tree : D → Tree) where
       subst (λ z. Came old new (vs ++ u ∷ us) (bs ++ z)) (sym e)
       (subst (λ z. Came old new (vs ++ u ∷ us) z) (append_assoc bs (b ∷ []) bs2) (subst (λ z. Came old new z ((bs ++ (b ∷ [])) ++ bs2)) (append_assoc vs (u ∷ []) us) q))
 
-  came : (old here : State) (vs : List D) (bs : List (List ℕ)) → PassesFrom (Decodes s tree) old vs bs here → Came old here vs bs
+  pub came : (old here : State) (vs : List D) (bs : List (List ℕ)) → PassesFrom (Decodes s tree) old vs bs here → Came old here vs bs
   came old here vs bs p = came_on old old [] [] (came_start old) vs bs here p
 
   -- what is refused as a list is refused as a bag

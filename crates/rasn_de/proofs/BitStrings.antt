@@ -8,27 +8,33 @@ use Rattle.rasn_types.specs.declared.types.rules.Codec.{Codec}
 use Rattle.rasn_types.specs.declared.types.rules.Codec.TheVariants.{Ber, Cer, Der}
 use Rattle.rasn_types.specs.declared.types.constraints.Constraints.{Constraints}
 use Rattle.rasn_types.specs.declared.error.decode.DecodeError.{DecodeError}
-use Rattle.rasn_types.specs.Framing.{AreOctets}
-use Rattle.rasn_types.specs.Tags.{in_universal}
+use Rattle.rasn_types.specs.Framing.{AreOctets, definite}
+use Rattle.rasn_types.specs.Tags.{form, in_universal}
 use Rattle.rasn_types.specs.Shapes.{Tree, bits, leaf, bit_string, Admits, constraint_of}
 use Rattle.rasn_types.specs.Tags.{IsStrict}
 use Rattle.rasn_types.specs.Contents.{Str, AllFalse, ReadBits}
 use Rattle.rasn_types.specs.Bits.{bits_in, but_last}
 use Rattle.rasn_types.specs.Grammar.{Reads, ReadsLeaf, IsBounded}
 use Rattle.rasn_types.proofs.Bits.{length-bits_in}
+use Rattle.rasn_de.specs.declared.ber.de.parser.Fault.{Fault}
 use Rattle.rasn_de.specs.declared.ber.de.parser.Fault.TheVariants.{OutOfMemory, InvalidBitString, LengthExceedsPlatformWidth, SizeConstraintNotSatisfied, Der}
 use Rattle.rasn_types.specs.declared.error.decode.DerDecodeErrorKind.TheVariants.{NonzeroUnusedBits}
-use Rattle.rasn_de.specs.Headers.{is_der}
+use Rattle.rasn_de.specs.Headers.{is_der, Header, header_at}
+use Rattle.rasn_de.specs.declared.ber.de.parser.headers.Expected.TheVariants.{Tagged}
+use Rattle.rasn_de.specs.Strings.{string_of}
 use Rattle.rasn_de.specs.Causes.{Cause, fault, kind_of}
-use Rattle.rasn_de.specs.BitStrings.{is_miscounted, last_bits, is_any_set, segment_bits, bits_at, bits_tree, BitsAt, IsOversized, GaveBits, GathersBits}
+use Rattle.rasn_de.specs.BitStrings.{is_miscounted, last_bits, is_any_set, segment_bits, bits_at, bits_tree, BitsAt, IsOversized, LacksBits, GaveBits, GathersBits}
 use Rattle.rasn_de.specs.State.{State, at, IsEnd}
 use Rattle.rasn_de.specs.Taking.{ErrorOf}
 use Rattle.rasn_de.specs.Outcomes.{Exact, refusal}
 use Rattle.rasn_de.specs.Decodes.{Decodes}
 use Rattle.rasn_de.proofs.Answering.{Agrees, gave_answers}
 use Rattle.rasn_de.proofs.Ends.{IsEnd-refl}
+use Rattle.rasn_de.proofs.Forms.{primitive_form, constructed_form, header_memory}
+use Rattle.rasn_de.proofs.Memory.{NoMemory, none_cond}
 use Rattle.rasn_de.proofs.OctetStrings.{memory_or}
 use Rattle.rasn_de.proofs.Peeks.{kind_memory}
+use Rattle.rasn_de.proofs.Segments.{IsNested, string_plain, string_plain_fault}
 use Rattle.rasn_de.proofs.Refusals.{refuses_fault, same_at}
 use Rattle.rasn_de.proofs.StringEnds.{string_ends}
 use Rattle.rasn_de.proofs.Strs.{Reads as ReadsBy, string_found, string_spelled, string_map}
@@ -140,13 +146,24 @@ pub bits_decodes : (tag : Tag) (bounds : Constraints) (old new : State) (result 
 unfolding Reads
 bits_decodes tag bounds old new (Ok s) o g =
     gave_answers (λ rule. Reads rule (leaf bit_string tag bounds)) bits_tree (λ (s : List Bool). s) (BitsAt bounds old.rule old.depth tag old.rest) old new (Ok s) (bits_agree bounds old.rule old.depth tag old.rest o) g
-bits_decodes tag bounds old new (Err e) o (inr g) =
+bits_decodes tag bounds old new (Err e) o (inr (inr g)) =
     gave_answers (λ rule. Reads rule (leaf bit_string tag bounds)) bits_tree (λ (s : List Bool). s) (BitsAt bounds old.rule old.depth tag old.rest) old new (Err e) (bits_agree bounds old.rule old.depth tag old.rest o) g.1
-bits_decodes tag bounds old new (Err e) o (inl (m, c, s)) = record {
+bits_decodes tag bounds old new (Err e) o (inl (m, c, s, k)) = record {
   stays = same_at old new s;
   end = subst (IsEnd old.rest) (sym (ap (λ (x : State). x.rest) s)) (IsEnd-refl old.rest);
   exact = subst (λ k. Exact (Reads old.rule (leaf bit_string tag bounds) old.depth old.closing) old.rest (refusal k)) (sym m) tt;
 }
+bits_decodes tag bounds old new (Err e) o (inr (inl (m, c, s, k, bs, h))) = record {
+  stays = s;
+  end = bits_end old.rule old.depth tag old.rest o bs new.rest h;
+  exact = subst (λ k. Exact (Reads old.rule (leaf bit_string tag bounds) old.depth old.closing) old.rest (refusal k)) (sym m) tt;
+}
+
+-- A fault leaves an end of the input.
+pub lacks_end : (rule : Codec) (depth : ℕ) (tag : Tag) (l : List ℕ) (f : Fault) (left : List ℕ) → AreOctets l → LacksBits rule depth tag l f left → IsEnd l left
+lacks_end rule depth tag l f left o (inl (n, e, r)) = subst (IsEnd l) (sym r) (IsEnd-refl l)
+lacks_end rule depth tag l f left o (inr (inl (n, e, r))) = subst (IsEnd l) (sym r) (IsEnd-refl l)
+lacks_end rule depth tag l f left o (inr (inr (n, e, bs, h))) = bits_end rule depth tag l o bs left h
 
 -- bits that were gathered
 pub gathered_bits : (tag : Tag) (old new : State) (bs : List Bool) (rest : List ℕ) → bits_at old.rule old.depth tag old.rest ≡ Ok (bs, rest) → new ≡ at old rest → GathersBits tag old (Ok bs) new
@@ -154,9 +171,15 @@ gathered_bits tag old new bs rest h e =
     let P : State → Type 0 = λ n. GathersBits tag old (Ok bs) n in
     subst P (sym e) (h, refl)
 
+-- a fault that was told behind it
+pub lacked_bits : (tag : Tag) (old new : State) (f : Fault) (left : List ℕ) (e : DecodeError) → LacksBits old.rule old.depth tag old.rest f left → new ≡ at old left → ErrorOf f new e → GathersBits tag old (Err e) new
+lacked_bits tag old new f left e w k x =
+    let P : State → Type 0 = λ n. ErrorOf f n e → GathersBits tag old (Err e) n in
+    subst P (sym k) (λ y. (f, y, refl, w)) x
+
 -- bits that weren't
 pub gathers_refused : (tag : Tag) (bounds : Constraints) (old new : State) (e : DecodeError) → GathersBits tag old (Err e) new → GaveBits tag bounds old (Err e) new
-gathers_refused tag bounds old new e (f, k, s, read) = go (memory_or f)
+gathers_refused tag bounds old new e (f, k, s, lacks) = go lacks
   where
     codec_is : e.codec ≡ old.rule
     codec_is = ap (λ (x : DecodeError). x.codec) k
@@ -164,19 +187,18 @@ gathers_refused tag bounds old new e (f, k, s, read) = go (memory_or f)
     kind_is : e.kind ≡ kind_of f
     kind_is = ap (λ (x : DecodeError). x.kind) k
 
-    go : (f ≡ OutOfMemory) ⊎ (f ≢ OutOfMemory) → GaveBits tag bounds old (Err e) new
-    go (inl m) = inl (kind_is ∙ ap kind_of m, codec_is, s)
-    go (inr n) =
-        let r : new.rest ≡ old.rest = ap (λ (x : State). x.rest) s in
-        inr ((λ h. kind_memory f n (sym kind_is ∙ h)), (fault f, inl (f, read n, ap (λ z. (fault f, z)) r), kind_is, codec_is, same_at old new s))
+    go : LacksBits old.rule old.depth tag old.rest f new.rest → GaveBits tag bounds old (Err e) new
+    go (inl (n, read, r)) = inr (inr ((λ h. kind_memory f n (sym kind_is ∙ h)), (fault f, inl (f, read, ap (λ z. (fault f, z)) r), kind_is, codec_is, s)))
+    go (inr (inl (m, w, r))) = inl (kind_is ∙ ap kind_of m, codec_is, s ∙ ap (λ z. at old z) r, w)
+    go (inr (inr (m, w, bs, h))) = inr (inl (kind_is ∙ ap kind_of m, codec_is, s, w, bs, h))
 
 -- 2 ^ 64 bits or more
 pub gathers_wide : (tag : Tag) (bounds : Constraints) (old new : State) (bs : List Bool) (e : DecodeError) → GathersBits tag old (Ok bs) new → 2 ^ 64 ≤ length bs → ErrorOf LengthExceedsPlatformWidth new e → GaveBits tag bounds old (Err e) new
 gathers_wide tag bounds old new bs e (h, k) n x =
-    inr (
+    inr (inr (
       (λ m. kind_memory LengthExceedsPlatformWidth (λ e. cc) (sym (ap (λ (y : DecodeError). y.kind) x) ∙ m)),
       refuses_fault (BitsAt bounds old.rule old.depth tag old.rest) old new LengthExceedsPlatformWidth e (inr (bs, h, inl (n, refl))) k x,
-    )
+    ))
 
 -- bits whose number is within bounds
 pub gathers_admitted : (tag : Tag) (bounds : Constraints) (old new : State) (bs : List Bool) → GathersBits tag old (Ok bs) new → length bs < 2 ^ 64 → Admits ◌≤◌ bounds.size (length bs) → GaveBits tag bounds old (Ok bs) new
@@ -186,8 +208,34 @@ gathers_admitted tag bounds old new bs (h, k) n a = ((h, n, a), k)
 pub gathers_size : (tag : Tag) (bounds : Constraints) (old new : State) (bs : List Bool) (e : DecodeError) → GathersBits tag old (Ok bs) new → length bs < 2 ^ 64 → (Admits ◌≤◌ bounds.size (length bs) → ⊥)
     → ErrorOf (SizeConstraintNotSatisfied (length bs) (constraint_of bounds.size)) new e → GaveBits tag bounds old (Err e) new
 gathers_size tag bounds old new bs e (h, k) w n x =
-    inr (
+    inr (inr (
       (λ m. kind_memory (SizeConstraintNotSatisfied (length bs) (constraint_of bounds.size)) (λ e. cc) (sym (ap (λ (y : DecodeError). y.kind) x) ∙ m)),
       refuses_fault (BitsAt bounds old.rule old.depth tag old.rest) old new (SizeConstraintNotSatisfied (length bs) (constraint_of bounds.size)) e
           (inr (bs, h, inr (w, n, refl))) k x,
-    )
+    ))
+
+-- ---- what a header and its contents tell
+segment_none : (rule : Codec) (l : List ℕ) → NoMemory (segment_bits rule l)
+segment_none rule [] = λ e. cc
+segment_none rule (u ∷ octets) = none_cond (is_miscounted u octets) _ _ (λ e. cc) (none_cond (is_der rule && is_any_set (last_bits u octets)) _ _ (λ e. cc) tt)
+
+module _ (rule : Codec) (d : ℕ) (tag : Tag) (l : List ℕ) where
+  pub no_header : (f : Fault) → header_at (form rule) (Tagged tag) l ≡ Err f → LacksBits rule d tag l f l
+  no_header f e = inl (header_memory rule tag l f e, rw e refl, refl)
+
+  module _ (h : Header) (e : header_at (form rule) (Tagged tag) l ≡ Ok h) where
+    pub one_segment : (c : List ℕ) (bs : List Bool) → (h.bit ≡ false) × (h.extent ≡ definite c) → segment_bits rule c ≡ Ok bs → bits_at rule d tag l ≡ Ok (bs, h.rest)
+    one_segment c bs (b, x) s = rw e (string_plain rule (segment_bits rule) (in_universal 3) d h c bs b x s)
+
+    pub segment_lacks : (c : List ℕ) (f : Fault) → (h.bit ≡ false) × (h.extent ≡ definite c) → segment_bits rule c ≡ Err f → LacksBits rule d tag l f l
+    segment_lacks c f (b, x) s = inl (subst NoMemory s (segment_none rule c), rw e (string_plain_fault rule (segment_bits rule) (in_universal 3) d h c f b x s), refl)
+
+    pub segment_uncopied : (c : List ℕ) (bs : List Bool) → AreOctets l → (h.bit ≡ false) × (h.extent ≡ definite c) → segment_bits rule c ≡ Ok bs → LacksBits rule d tag l OutOfMemory h.rest
+    segment_uncopied c bs o p s = inr (inr (refl, primitive_form rule tag l h c o e p, bs, one_segment c bs p s))
+
+    pub segments_lack : (f : Fault) → AreOctets l → IsNested h → (f ≢ OutOfMemory → string_of rule (segment_bits rule) (in_universal 3) d h ≡ Err f) → LacksBits rule d tag l f l
+    segments_lack f o n w = go (memory_or f)
+      where
+        go : (f ≡ OutOfMemory) ⊎ (f ≢ OutOfMemory) → LacksBits rule d tag l f l
+        go (inl m) = inr (inl (m, constructed_form rule tag l h o e n, refl))
+        go (inr m) = inl (m, rw e (w m), refl)

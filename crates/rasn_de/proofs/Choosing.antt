@@ -15,7 +15,7 @@ use Rattle.rasn_de.proofs.Answering.{Exact-none}
 use Rattle.rasn_de.proofs.Ends.{IsEnd-refl}
 use Rattle.rasn_de.proofs.Perhaps.{peeks_none}
 
-choice_next : (spelling : Form) (k : ℕ) (ps : List Part) (input : List ℕ) (t : Tree) (rest : List ℕ) → ReadsChoice spelling k ps input t rest → (next : Tag) × Next spelling input next
+pub choice_next : (spelling : Form) (k : ℕ) (ps : List Part) (input : List ℕ) (t : Tree) (rest : List ℕ) → ReadsChoice spelling k ps input t rest → (next : Tag) × Next spelling input next
 choice_next spelling k [] input t rest h = absurd h
 choice_next spelling k (p ∷ ps) input t rest (inl (u, e, next, n, f, r)) = (next, n)
 choice_next spelling k (p ∷ ps) input t rest (inr h) = choice_next spelling (suc k) ps input t rest h

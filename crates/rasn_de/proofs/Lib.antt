@@ -26,6 +26,11 @@ pub mod Alternatives
 pub mod Bagged
 pub mod Walked
 pub mod Falling
+pub mod Pieces
+pub mod Tagged
+pub mod Gathering
+pub mod Gathered
+pub mod Components
 pub mod Choosing
 pub mod Given
 pub mod Holding

@@ -1,18 +1,34 @@
 -- Segments one behind the other.
 use Rattle.std.proofs.Common.{◌≡◌, ◌≢◌, ℕ, zero, suc, ◌-◌, ◌<◌, ◌≤◌, ◌⊎◌, inl, inr, Bool, true, false, ◌&&◌, cond, List, [], ◌∷◌, ◌++◌, length, Result, Ok, Err, refl, sym, ap, ◌∙◌, arith, append_assoc, append-nil}
-use Rattle.std.specs.Prelude.{nat_eq}
+use Rattle.std.proofs.lemmas.Bool.Decides.{nat_tests}
+use Rattle.std.specs.Prelude.{nat_eq, MatchBool}
 use Rattle.rasn_types.specs.declared.types.tag.Tag.{Tag}
 use Rattle.rasn_types.specs.declared.types.rules.Codec.{Codec}
 use Rattle.rasn_de.specs.declared.ber.de.parser.Fault.{Fault}
 use Rattle.rasn_de.specs.declared.ber.de.parser.Fault.TheVariants.{Der}
 use Rattle.rasn_types.specs.declared.error.decode.DerDecodeErrorKind.TheVariants.{ConstructedEncodingNotAllowed}
-use Rattle.rasn_types.specs.Framing.{Extent, definite, indefinite}
+use Rattle.rasn_types.specs.Framing.{Extent, definite, indefinite, Ended}
 use Rattle.rasn_types.specs.Tags.{form}
 use Rattle.rasn_de.specs.declared.ber.de.parser.headers.Expected.TheVariants.{Tagged}
 use Rattle.rasn_de.specs.Headers.{◌>>=◌, spelled, Header, header_at, is_der}
 use Rattle.rasn_de.specs.Strings.{ends, segments_at, closed_at, inner, used_up, finished, string_in, too_deep, segments_in, string_of, segment_at}
 use Rattle.rasn_de.proofs.Tools.{bind_ok, chosen, guarded}
 use Rattle.rasn_de.proofs.Shorter.{header_shorter}
+
+-- The test of the end, where closing octets may stand.
+pub ends_tested : (b : Bool) (l : List ℕ) → MatchBool b (Ended true l) (Ended true l → ⊥) → ends l ≡ b
+ends_tested true [] h = refl
+ends_tested false [] h = absurd (h (inl refl))
+ends_tested true (a ∷ []) (inl e) = cc
+ends_tested true (a ∷ []) (inr (c, more, e)) = cc
+ends_tested false (a ∷ []) h = refl
+ends_tested true (a ∷ b ∷ l) (inl e) = cc
+ends_tested true (zero ∷ zero ∷ l) (inr (c, more, e)) = refl
+ends_tested true (zero ∷ suc b ∷ l) (inr (c, more, e)) = cc
+ends_tested true (suc a ∷ b ∷ l) (inr (c, more, e)) = cc
+ends_tested false (zero ∷ zero ∷ l) h = absurd (h (inr (refl, l, refl)))
+ends_tested false (zero ∷ suc b ∷ l) h = let g : nat_eq (suc b) 0 ≡ false = grind (arith, nat_tests) in g
+ends_tested false (suc a ∷ b ∷ l) h = let g : nat_eq (suc a) 0 ≡ false = grind (arith, nat_tests) in ap (λ z. z && nat_eq b 0) g
 
 -- each reading leaves less than there was
 abbrev pub AllShorten : {X : Type 0} → (List ℕ → Result (List X × List ℕ) Fault) → Type 0

@@ -43,7 +43,7 @@ spelled cer_form = record { shortest = false; indefinite = true }
 spelled der_form = record { shortest = true; indefinite = false }
 spelled loose_form = record { shortest = false; indefinite = false }
 
--- The first seven bits of a tag number behind a first octet are zero (8.1.2.4.2).
+-- The first seven bits of a number in base 128 are zero: its first octet says nothing (8.1.2.4.2, 8.19.2).
 abbrev pub is_padded : List ℕ → Bool
 is_padded [] = false
 is_padded (b ∷ l) = nat_eq b 128

@@ -19,6 +19,7 @@ pub mod Texts
 pub mod Inside
 pub mod Doors
 pub mod Sequences
+pub mod Sets
 pub mod TimeTexts
 pub mod NamedNumbers
 pub mod ObjectIdentifiers

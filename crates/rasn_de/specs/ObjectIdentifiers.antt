@@ -1,5 +1,5 @@
 -- OBJECT IDENTIFIER, read from lists.
-use Rattle.std.specs.Prelude.{◌≡◌, ◌≢◌, ◌⊎◌, ℕ, Bool, false, ◌&&◌, nat_eq, if◌then◌else◌, List, [], ◌∷◌, ◌++◌, Result, Ok, Err}
+use Rattle.std.specs.Prelude.{◌≡◌, ◌≢◌, ◌⊎◌, ℕ, ◌&&◌, if◌then◌else◌, List, [], ◌∷◌, ◌++◌, Result, Ok, Err}
 use Rattle.rasn_types.specs.declared.types.tag.Tag.{Tag}
 use Rattle.rasn_types.specs.declared.types.rules.Codec.{Codec}
 use Rattle.rasn_types.specs.declared.error.decode.DecodeError.{DecodeError}
@@ -10,19 +10,14 @@ use Rattle.rasn_types.specs.declared.error.decode.DerDecodeErrorKind.TheVariants
 use Rattle.rasn_types.specs.Errors.{IsMemory}
 use Rattle.rasn_de.specs.declared.ber.de.parser.Fault.{Fault}
 use Rattle.rasn_de.specs.declared.ber.de.parser.Fault.TheVariants.{OutOfMemory, UnsupportedObjectIdentifierArc, Der}
-use Rattle.rasn_de.specs.Headers.{number128_at, is_der}
+use Rattle.rasn_de.specs.Headers.{number128_at, is_padded, is_der}
 use Rattle.rasn_de.specs.Causes.{Cause, fault, out_of_bound, kind_of}
 use Rattle.rasn_de.specs.Leaves.{Readings, LeafAt, Refuses, Gave, definite_at}
 use Rattle.rasn_de.specs.State.{State, at}
 
--- An octet 80 in front of a subidentifier says nothing (8.19.2).
-abbrev pub starts_padded : List ℕ → Bool
-starts_padded [] = false
-starts_padded (b ∷ l) = nat_eq b 128
-
 -- The subidentifier that comes next. Under DER its first octet is looked at before the others.
 abbrev pub arc_at : Codec → List ℕ → Result (ℕ × List ℕ) Fault
-arc_at rule l = if is_der rule && starts_padded l then Err (Der NonMinimalArc) else number128_at UnsupportedObjectIdentifierArc 0 l
+arc_at rule l = if is_der rule && is_padded l then Err (Der NonMinimalArc) else number128_at UnsupportedObjectIdentifierArc 0 l
 
 -- These octets hold these arcs, under the strict rule in as few octets as can be.
 abbrev pub ReadsArcs : Codec → List ℕ → List ℕ → Type 0

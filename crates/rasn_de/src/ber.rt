@@ -1,3 +1,4 @@
 //! The basic encoding rules, and those that build on them.
 
 pub mod de;
+mod rules;

@@ -223,8 +223,8 @@ module _ (r : Codec) (xs c : List ℕ) (ms : List Mark) (s f n : ℕ) (os : List
   put-len : length ys ≡ length xs + length c
   put-len = rw y (length-append xs c)
 
-  pub put-there : (tag : Tag) (t t2 : Option (List Tag)) → t2 ≡ noted t (tag ∷ []) → shown r ys ms s f t2 os ≡ appended (shown r xs ms s f t os) c (tag ∷ [])
-  put-there tag t t2 g =
+  pub put-there : (tags : List Tag) (t t2 : Option (List Tag)) → t2 ≡ noted t tags → shown r ys ms s f t2 os ≡ appended (shown r xs ms s f t os) c tags
+  put-there tags t t2 g =
       let below : map (frame_in ys ms) os ≡ map (frame_in xs ms) os = sym (frames-same xs ys ms ms 0 0 os s f k put-front refl) in
       rw (below, put-list, g) refl
 

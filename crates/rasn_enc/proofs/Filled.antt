@@ -1,12 +1,11 @@
 -- Primitive values behind octets, put there whole or filled in place.
-use Rattle.std.proofs.Common.{◌≡◌, ℕ, ◌+◌, ◌-◌, ◌<◌, List, [], ◌∷◌, ◌++◌, length, take, drop, refl, sym, ap, ap₂, ◌∙◌, subst, arith, Result, Ok, OnOk, Vec, set}
+use Rattle.std.proofs.Common.{◌≡◌, ℕ, ◌+◌, ◌-◌, ◌<◌, List, [], ◌∷◌, ◌++◌, length, take, drop, refl, sym, ap, ap₂, ◌∙◌, subst, arith, Result, Ok, Vec, set}
 use Rattle.std.proofs.lemmas.List.{append_assoc, append-nil, length-append, drop_at, drop_all, take-take, append_cancel_left}
-use Rattle.std.proofs.lemmas.Result.{on_ok_weaker}
 use Rattle.std.proofs.Math.Seq.{set-append_seam, take-append_seam, take-length}
 use Rattle.std.specs.Fn.{FnOnceReturnsAtMut}
 use Rattle.rasn_types.specs.Tags.{tag_bit}
 use Rattle.rasn_types.specs.declared.types.tag.Tag.{Tag}
-use Rattle.rasn_types.specs.declared.error.encode.EncodeError.{EncodeError}
+use Rattle.rasn_enc.specs.declared.ber.enc.filled.Unfilled.{Unfilled}
 use Rattle.rasn_enc.specs.Headers.{id_octets, length_octets, definite}
 use Rattle.rasn_types.specs.Bytes.{Prim}
 use Rattle.rasn_enc.specs.View.{View}
@@ -55,24 +54,24 @@ front_at octets xs l start s e = ap₂ take s e ∙ take-append_seam xs l
 
 -- The closure has filled, and the length is written.
 module _ {F A : Type 0} (g : Filler F A) (f : F) (behind : FillsBehind g f) (tag : Tag) (xs : List ℕ) (v w : Vec ℕ A) (begun : v.items ≡ xs ++ (id_octets tag (tag_bit tag) ++ 0 ∷ [])) where
-  filled_items : (r : Result (Unit {0}) EncodeError) → FnOnceReturnsAtMut g f v r w → (l : List ℕ) × (w.items ≡ xs ++ (id_octets tag (tag_bit tag) ++ 0 ∷ l)) × (w.items ≡ v.items ++ l)
+  filled_items : (r : Result (Unit {0}) Unfilled) → FnOnceReturnsAtMut g f v r w → (l : List ℕ) × (w.items ≡ xs ++ (id_octets tag (tag_bit tag) ++ 0 ∷ l)) × (w.items ≡ v.items ++ l)
   filled_items r ran =
       let k = behind v w r ran in
       (k.0, k.1 ∙ (ap (λ o. o ++ k.0) begun ∙ simp append_assoc), k.1)
 
-  pub filled_there : (r : Result (Unit {0}) EncodeError) → FnOnceReturnsAtMut g f v r w → length xs + length (id_octets tag (tag_bit tag)) < length w.items
+  pub filled_there : (r : Result (Unit {0}) Unfilled) → FnOnceReturnsAtMut g f v r w → length xs + length (id_octets tag (tag_bit tag)) < length w.items
   filled_there r ran =
       let k = filled_items r ran in
       let n = ap length k.1 in
       omega (arith, n, length-append xs (id_octets tag (tag_bit tag) ++ 0 ∷ k.0), length-append (id_octets tag (tag_bit tag)) (0 ∷ k.0))
 
-  pub filled_put : (q : Result (Unit {0}) EncodeError) (start : ℕ) (ys : List ℕ) → FnOnceReturnsAtMut g f v q w → q ≡ Ok tt → start ≡ length xs
+  pub filled_put : (q : Result (Unit {0}) Unfilled) (start : ℕ) (ys : List ℕ) → FnOnceReturnsAtMut g f v q w → q ≡ Ok tt → start ≡ length xs
       → ((zs l : List ℕ) → start ≡ length zs → w.items ≡ zs ++ (id_octets tag (tag_bit tag) ++ 0 ∷ l) → PutsPrim tag l zs ys) → PutsFilled g f tag xs ys
   filled_put q start ys ran e s h =
       let k = filled_items q ran in
       record { contents = k.0; fills = record { before = v; after = w; ran = subst (λ z. FnOnceReturnsAtMut g f v z w) e ran; is = k.2 }; puts = h xs k.0 s k.1 }
 
-  pub filled_cut : (r : Result (Unit {0}) EncodeError) → FnOnceReturnsAtMut g f v r w → take (length xs) w.items ≡ xs
+  pub filled_cut : (r : Result (Unit {0}) Unfilled) → FnOnceReturnsAtMut g f v r w → take (length xs) w.items ≡ xs
   filled_cut r ran = let k = filled_items r ran in front_at w.items xs _ (length xs) refl k.1
 
 -- The contents are moved up for a length of more octets.
@@ -119,9 +118,9 @@ high_filled tag octets new xs l start place count low few s e p n w =
     }
 
 -- A primitive value whose contents are what each run that accepts puts there.
-pub filled_with : {F A : Type 0} (g : Filler F A) (f : F) (P : List ℕ → Type 0) (tag : Tag) (v w : View) (r : Result (Unit {0}) EncodeError) → OnOk r (AppendsFilled g f tag v w)
-    → ((x y : Vec ℕ A) → FnOnceReturnsAtMut g f x (Ok tt) y → (l : List ℕ) × P l × (y.items ≡ x.items ++ l)) → OnOk r ((l : List ℕ) × P l × Appends (Prim tag l) tag v w)
-filled_with g f P tag v w r h puts = on_ok_weaker r (λ k.
+pub filled_with : {F A : Type 0} (g : Filler F A) (f : F) (P : List ℕ → Type 0) (tag : Tag) (v w : View) → AppendsFilled g f tag v w
+    → ((x y : Vec ℕ A) → FnOnceReturnsAtMut g f x (Ok tt) y → (l : List ℕ) × P l × (y.items ≡ x.items ++ l)) → (l : List ℕ) × P l × Appends (Prim tag l) tag v w
+filled_with g f P tag v w k puts =
     let p = puts k.fills.before k.fills.after k.fills.ran in
     let e : p.0 ≡ k.contents = append_cancel_left k.fills.before.items p.0 k.contents (sym p.2 ∙ k.fills.is) in
-    (k.contents, subst P e p.1, k.appends)) h
+    (k.contents, subst P e p.1, k.appends)

@@ -32,3 +32,4 @@ pub mod TimeOctets
 pub mod TimeLeaves
 pub mod Numbered
 pub mod BitSegments
+pub mod OpenTypes

@@ -61,12 +61,12 @@ object_wrote result tag arcs l v w r h c = on_ok_weaker result (λ a.
     (λ o d. (tt, (l, r, d)))) h
 
 -- Its contents are written in place.
-pub object_filled : {F A : Type 0} (g : Filler F A) (f : F) (tag : Tag) (arcs : List ℕ) (v w : View) (r : Result (Unit {0}) EncodeError) → OnOk r (AppendsFilled g f tag v w)
-    → ((x y : Vec ℕ A) → FnOnceReturnsAtMut g f x (Ok tt) y → AppendsContents arcs x.items y.items) → (c : Constraints) → OnOk r (Wrote (leaf object_identifier tag c) (numbers arcs) v w)
-object_filled {F} {A} g f tag arcs v w r h puts c = on_ok_weaker r (λ k.
+pub object_filled : {F A : Type 0} (g : Filler F A) (f : F) (tag : Tag) (arcs : List ℕ) (v w : View) → AppendsFilled g f tag v w
+    → ((x y : Vec ℕ A) → FnOnceReturnsAtMut g f x (Ok tt) y → AppendsContents arcs x.items y.items) → (c : Constraints) → Wrote (leaf object_identifier tag c) (numbers arcs) v w
+object_filled {F} {A} g f tag arcs v w k puts c =
     let p = puts k.fills.before k.fills.after k.fills.ran in
     let e : p.octets ≡ k.contents = append_cancel_left k.fills.before.items p.octets k.contents (sym p.appended ∙ k.fills.is) in
-    object_wrote {R = Unit {0}} {E = Unit {0}} (Ok tt) tag arcs k.contents v w (subst (Written object_identifier (numbers arcs)) e p.written) k.appends c) h
+    object_wrote {R = Unit {0}} {E = Unit {0}} (Ok tt) tag arcs k.contents v w (subst (Written object_identifier (numbers arcs)) e p.written) k.appends c
 
 -- The first subidentifier gives back the arcs that it holds.
 first_low : (x y s : ℕ) → x < 2 → y < 40 → s ≡ 40 * x + y → (min 2 (s / 40) ≡ x) × (s - 40 * min 2 (s / 40) ≡ y)

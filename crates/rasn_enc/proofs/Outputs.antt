@@ -28,9 +28,9 @@ module _ (rule : Codec) (s : Shape) (t : Tree) (v u : View) (e : v ≡ started r
   is_appended : u ≡ appended (started rule false) a.octets a.tags
   is_appended = a.appended ∙ ap (λ x. appended x a.octets a.tags) e
 
-  pub output_ok : {A : Type 0} (r : Result (Vec ℕ A) EncodeError) → IfOk r (λ w. u.below ≡ [] → w.items ≡ u.last.octets) → IfOk r (λ w. Bytes rule s t w.items)
+  pub output_ok : {A : Type 0} (r : Result (Vec ℕ A) EncodeError) → IfOk r (λ w. w.items ≡ u.last.octets) → IfOk r (λ w. Bytes rule s t w.items)
   output_ok r h = IfOk-weaker r _ _ (λ w k.
-      let i : w.items ≡ a.octets = k (ap (λ (x : View). x.below) is_appended) ∙ ap (λ (x : View). x.last.octets) is_appended in
+      let i : w.items ≡ a.octets = k ∙ ap (λ (x : View). x.last.octets) is_appended in
       subst (λ l. Bytes rule s t l) (sym i) (subst (λ c. Bytes c s t a.octets) (ap (λ (x : View). x.rule) e) a.defined)) h
 
   pub output_refused : {R : Type 0} (r : Result R EncodeError) → IfErr r (λ x. WantsMemory u.rule x ⊎ ((AreTagsInOrder u → ⊥) × TellsOrder u.rule x))
@@ -46,11 +46,11 @@ module _ {F : Type 0} (g : Closure F (Unit {0})) (f : F) (rule : Codec) (behind 
   extends : Extends (started rule false) u
   extends = behind q u ran_so
 
-  pub scope_ok : {A : Type 0} (r : Result (Vec ℕ A) EncodeError) → q ≡ Ok tt → IfOk r (λ w. u.below ≡ [] → w.items ≡ u.last.octets) → IfOk r (λ w. Outputs g f rule w.items)
+  pub scope_ok : {A : Type 0} (r : Result (Vec ℕ A) EncodeError) → q ≡ Ok tt → IfOk r (λ w. w.items ≡ u.last.octets) → IfOk r (λ w. Outputs g f rule w.items)
   scope_ok r i h = IfOk-weaker r _ _ (λ w k. record {
     inner = u;
     ran = (tt, subst (λ z. FnOnceReturnsAtMut g f (started rule false) z u) i ran_so);
-    is = k (ap (λ (x : View). x.below) extends.appended);
+    is = k;
   }) h
 
   pub scope_refused : {R : Type 0} (r : Result R EncodeError) → IfErr r (λ x. WantsMemory u.rule x ⊎ ((AreTagsInOrder u → ⊥) × TellsOrder u.rule x))

@@ -45,7 +45,7 @@ use Rattle.rasn_enc.specs.Parts.{WroteParts, WritesParts, PartsMayRefuse, PartsU
 use Rattle.rasn_enc.specs.Writing.{Closure, Encloses, Refuses}
 use Rattle.rasn_enc.proofs.Leaves.{cons_begins, wrote_one}
 
-tags-nil : (o : Option (List Tag)) → o ≡ option_map (λ kept. kept ++ []) o
+pub tags-nil : (o : Option (List Tag)) → o ≡ option_map (λ kept. kept ++ []) o
 tags-nil None = refl
 tags-nil (Some kept) = ap (λ l. Some l) (sym (append-nil kept))
 

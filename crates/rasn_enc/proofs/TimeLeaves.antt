@@ -4,7 +4,6 @@ use Rattle.std.specs.Prelude.{nat_lt}
 use Rattle.std.proofs.lemmas.Result.{on_ok_weaker}
 use Rattle.std.proofs.lemmas.List.{length-append, length-map, append_cancel_left}
 use Rattle.std.specs.Fn.{FnOnceReturnsAtMut}
-use Rattle.rasn_types.specs.declared.error.encode.EncodeError.{EncodeError}
 use Rattle.rasn_enc.specs.Filled.{Filler, AppendsFilled}
 use Rattle.rasn_types.specs.Calendar.{Moment, IsMoment, Day, IsDay}
 use Rattle.rasn_types.specs.Spelling.{two, four}
@@ -99,23 +98,23 @@ date_wrote result tag d xs v w e valid h c =
     text_wrote result tag (leaf date tag c) (on_day d) xs v w (λ n. n) (subst AreOctets (sym e) (date_octets d valid)) (subst (λ l. length l ≤ 1000) (sym e) (omega arith)) (λ b k. (tt, (xs, (d, refl, valid, e), k))) h
 
 -- The same, where a closure puts the text there.
-pub utc_filled : {F A : Type 0} (g : Filler F A) (f : F) (tag : Tag) (m : Moment) (v w : View) (r : Result (Unit {0}) EncodeError) → OnOk r (AppendsFilled g f tag v w)
-    → ((x y : Vec ℕ A) → FnOnceReturnsAtMut g f x (Ok tt) y → (y.items ≡ x.items ++ written_utc m) × IsMoment m) → (c : Constraints) → OnOk r (Wrote (leaf utc_time tag c) (instant m) v w)
-utc_filled g f tag m v w r h puts c = on_ok_weaker r (λ k.
+pub utc_filled : {F A : Type 0} (g : Filler F A) (f : F) (tag : Tag) (m : Moment) (v w : View) → AppendsFilled g f tag v w
+    → ((x y : Vec ℕ A) → FnOnceReturnsAtMut g f x (Ok tt) y → (y.items ≡ x.items ++ written_utc m) × IsMoment m) → (c : Constraints) → Wrote (leaf utc_time tag c) (instant m) v w
+utc_filled g f tag m v w k puts c =
     let p = puts k.fills.before k.fills.after k.fills.ran in
     let e : k.contents ≡ written_utc m = append_cancel_left k.fills.before.items k.contents (written_utc m) (sym k.fills.is ∙ p.0) in
-    utc_wrote {R = Unit {0}} {E = Unit {0}} (Ok tt) tag m k.contents v w e p.1 k.appends c) h
+    utc_wrote {R = Unit {0}} {E = Unit {0}} (Ok tt) tag m k.contents v w e p.1 k.appends c
 
-pub generalized_filled : {F A : Type 0} (g : Filler F A) (f : F) (tag : Tag) (m : Moment) (v w : View) (r : Result (Unit {0}) EncodeError) → OnOk r (AppendsFilled g f tag v w)
-    → ((x y : Vec ℕ A) → FnOnceReturnsAtMut g f x (Ok tt) y → (y.items ≡ x.items ++ written_generalized m) × IsMoment m) → (c : Constraints) → OnOk r (Wrote (leaf generalized_time tag c) (instant m) v w)
-generalized_filled g f tag m v w r h puts c = on_ok_weaker r (λ k.
+pub generalized_filled : {F A : Type 0} (g : Filler F A) (f : F) (tag : Tag) (m : Moment) (v w : View) → AppendsFilled g f tag v w
+    → ((x y : Vec ℕ A) → FnOnceReturnsAtMut g f x (Ok tt) y → (y.items ≡ x.items ++ written_generalized m) × IsMoment m) → (c : Constraints) → Wrote (leaf generalized_time tag c) (instant m) v w
+generalized_filled g f tag m v w k puts c =
     let p = puts k.fills.before k.fills.after k.fills.ran in
     let e : k.contents ≡ written_generalized m = append_cancel_left k.fills.before.items k.contents (written_generalized m) (sym k.fills.is ∙ p.0) in
-    generalized_wrote {R = Unit {0}} {E = Unit {0}} (Ok tt) tag m k.contents v w e p.1 k.appends c) h
+    generalized_wrote {R = Unit {0}} {E = Unit {0}} (Ok tt) tag m k.contents v w e p.1 k.appends c
 
-pub date_filled : {F A : Type 0} (g : Filler F A) (f : F) (tag : Tag) (d : Day) (v w : View) (r : Result (Unit {0}) EncodeError) → OnOk r (AppendsFilled g f tag v w)
-    → ((x y : Vec ℕ A) → FnOnceReturnsAtMut g f x (Ok tt) y → (y.items ≡ x.items ++ written_date d) × IsDay d) → (c : Constraints) → OnOk r (Wrote (leaf date tag c) (on_day d) v w)
-date_filled g f tag d v w r h puts c = on_ok_weaker r (λ k.
+pub date_filled : {F A : Type 0} (g : Filler F A) (f : F) (tag : Tag) (d : Day) (v w : View) → AppendsFilled g f tag v w
+    → ((x y : Vec ℕ A) → FnOnceReturnsAtMut g f x (Ok tt) y → (y.items ≡ x.items ++ written_date d) × IsDay d) → (c : Constraints) → Wrote (leaf date tag c) (on_day d) v w
+date_filled g f tag d v w k puts c =
     let p = puts k.fills.before k.fills.after k.fills.ran in
     let e : k.contents ≡ written_date d = append_cancel_left k.fills.before.items k.contents (written_date d) (sym k.fills.is ∙ p.0) in
-    date_wrote {R = Unit {0}} {E = Unit {0}} (Ok tt) tag d k.contents v w e p.1 k.appends c) h
+    date_wrote {R = Unit {0}} {E = Unit {0}} (Ok tt) tag d k.contents v w e p.1 k.appends c

@@ -10,6 +10,20 @@ pub rising-lower : (a b : ℕ) (ms : List Mark) (e : ℕ) → a ≤ b → Rising
 rising-lower a b [] e h k = omega (arith, h, k)
 rising-lower a b (m ∷ ms) e h k = let q = k.0 in (omega (arith, h, q), k.1)
 
+-- all octets, and those of a list that begins among them
+pub rendered-behind : (xs : List ℕ) (start : ℕ) (ms : List Mark) → Rising start ms (length xs) → rendered xs 0 ms ≡ take start xs ++ rendered xs start ms
+rendered-behind xs start ms h = rendered-front xs 0 start ms (omega arith) h
+
+pub length-rendered-behind : (xs : List ℕ) (start : ℕ) (ms : List Mark) → Rising start ms (length xs) → length (rendered xs 0 ms) ≡ start + length (rendered xs start ms)
+length-rendered-behind xs start ms h =
+    let e = ap length (rendered-behind xs start ms h) in
+    let l = length-take-le start xs (rising-below start ms (length xs) h) in
+    omega (arith, e, l, length-append (take start xs) (rendered xs start ms))
+
+pub rendered-from : (xs ys zs : List ℕ) (start : ℕ) (ms : List Mark) → Rising start ms (length xs) → ys ≡ rendered xs 0 ms → zs ≡ drop start ys → zs ≡ rendered xs start ms
+rendered-from xs ys zs start ms h e f =
+    f ∙ ap (drop start) (e ∙ rendered-behind xs start ms h) ∙ drop_at (take start xs) (rendered xs start ms) start (length-take-le start xs (rising-below start ms (length xs) h))
+
 pub inks-append : (ms ns : List Mark) → inks (ms ++ ns) ≡ inks ms + inks ns
 inks-append [] ns = omega arith
 inks-append (m ∷ ms) ns = let i = inks-append ms ns in omega (arith, i)

@@ -4,17 +4,17 @@ use Rattle.std.specs.Fn.{FnOnceReturnsAtMut, Once}
 use Rattle.std.specs.Borrow.{MutBor}
 use Rattle.rasn_types.specs.Bytes.{Prim}
 use Rattle.rasn_types.specs.declared.types.tag.Tag.{Tag}
-use Rattle.rasn_types.specs.declared.error.encode.EncodeError.{EncodeError}
+use Rattle.rasn_enc.specs.declared.ber.enc.filled.Unfilled.{Unfilled}
 use Rattle.rasn_enc.specs.View.{View}
 use Rattle.rasn_enc.specs.Primitives.{Appends}
 
 -- A closure over octets.
 abbrev pub Filler : Type 0 → Type 0 → Type 1
-Filler F A = Once F (MutBor (Vec ℕ A) × Unit {0}) (Result (Unit {0}) EncodeError × (MutBor (Vec ℕ A) × Unit {0}))
+Filler F A = Once F (MutBor (Vec ℕ A) × Unit {0}) (Result (Unit {0}) Unfilled × (MutBor (Vec ℕ A) × Unit {0}))
 
 -- Whatever f answers, all it does is to put more behind the octets.
 abbrev pub FillsBehind : {F A : Type 0} → Filler F A → F → Type 0
-FillsBehind {F} {A} g f = (v w : Vec ℕ A) (r : Result (Unit {0}) EncodeError) → FnOnceReturnsAtMut g f v r w → (l : List ℕ) × (w.items ≡ v.items ++ l)
+FillsBehind {F} {A} g f = (v w : Vec ℕ A) (r : Result (Unit {0}) Unfilled) → FnOnceReturnsAtMut g f v r w → (l : List ℕ) × (w.items ≡ v.items ++ l)
 
 -- f may accept, and have put these octets behind those that were there.
 pub record Fills {F A : Type 0} (g : Filler F A) (f : F) (l : List ℕ) : Type 0 where
@@ -24,7 +24,7 @@ pub record Fills {F A : Type 0} (g : Filler F A) (f : F) (l : List ℕ) : Type 0
   pub is : after.items ≡ before.items ++ l
 
 -- f may refuse with e.
-abbrev pub RefusesToFill : {F A : Type 0} → Filler F A → F → EncodeError → Type 0
+abbrev pub RefusesToFill : {F A : Type 0} → Filler F A → F → Unfilled → Type 0
 RefusesToFill {F} {A} g f e = (v : Vec ℕ A) × (w : Vec ℕ A) × FnOnceReturnsAtMut g f v (Err e) w
 
 -- A primitive value of these contents stands behind octets.

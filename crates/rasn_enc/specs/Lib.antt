@@ -22,3 +22,4 @@ pub mod Additions
 pub mod Alternatives
 pub mod ObjectIdentifiers
 pub mod BitSegments
+pub mod OpenTypes

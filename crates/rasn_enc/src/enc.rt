@@ -13,7 +13,7 @@ mod times;
 
 use crate::ber::enc::Encoder;
 use rasn_types::error::EncodeError;
-use rasn_types::types::{AsnType, BitString, Constraints, Identifier, OctetString, Tag};
+use rasn_types::types::{Any, AsnType, BitString, Constraints, Identifier, OctetString, Tag};
 
 /// A value that can be written. The forms without a tag or constraints hand in the type's own. The name of a field is ignored.
 pub trait Encode: AsnType {
@@ -120,6 +120,22 @@ impl Encode for BitString {
         identifier: Identifier,
     ) -> Result<(), EncodeError> {
         encoder.encode_bit_string(tag, constraints, &self.as_bitstr(), identifier)
+    }
+
+    fn is_present(&self) -> bool {
+        true
+    }
+}
+
+impl Encode for Any {
+    fn encode_with_tag_and_constraints(
+        &self,
+        encoder: &mut Encoder,
+        tag: Tag,
+        _constraints: &Constraints,
+        identifier: Identifier,
+    ) -> Result<(), EncodeError> {
+        encoder.encode_any(tag, self, identifier)
     }
 
     fn is_present(&self) -> bool {

@@ -4,4 +4,4 @@ mod identifiers;
 mod numbers;
 mod reads;
 mod whole;
-mod writes;
+pub mod writes;

@@ -1,9 +1,24 @@
-//! Open types, kept as their octets, and values that are passed over.
+//! Open types, kept as their octets and written again, and values that are passed over.
 
+use rasn::types::{Any, Class, Tag};
 use std::alloc::{AllocError, Global};
 
 mod kept;
 mod passed;
+mod worked;
+mod written;
+
+/// \[1\]
+const ONE: Tag = Tag {
+    class: Class::Context,
+    value: 1,
+};
+
+/// An open type that holds these octets.
+fn any_of(alloc: Global, octets: &[u8]) -> Result<Option<Any>, AllocError> {
+    let octets = Vec::from_slice(alloc, octets)?;
+    Ok(Some(Any::new(octets)))
+}
 
 /// A million SEQUENCEs of indefinite length in one another.
 fn deep(alloc: Global) -> Result<Vec<u8>, AllocError> {

@@ -15,6 +15,9 @@ use std::process::Abort;
 /// Octets, the rules they are read by, the text of the value or of the error's kind, and how many octets are taken.
 pub type Row = (&'static [u8], Codec, &'static str, usize);
 
+/// Octets, the rules they are read by, and the text of the tag that they begin with or of the error's kind.
+pub type LookRow = (&'static [u8], Codec, &'static str);
+
 /// Octets, the rules they are read by, the octets of the value, and how many octets are taken.
 pub type OctetsRow = (&'static [u8], Codec, &'static [u8], usize);
 
@@ -72,6 +75,21 @@ fn text_of<T: Debug + Drop>(
     }
 }
 
+/// Holds that each of these facts is one. Many calls whose answers stand in a list cost less to prove than as many asserts.
+pub fn facts(rt: &impl Abort, facts: &[bool]) {
+    for (place, fact) in facts.iter().enumerate() {
+        assert!(rt; *fact, "{place}");
+    }
+}
+
+/// The value that a call answers, where it answers one.
+pub fn value<T>(rt: &impl Abort, answer: Result<T, DecodeError>) -> T {
+    match answer {
+        Ok(value) => value,
+        Err(_) => panic!(rt; "no value"),
+    }
+}
+
 /// Holds what a call answers against the text.
 pub fn told<T: Debug + Drop>(
     rt: &impl Abort,
@@ -83,6 +101,25 @@ pub fn told<T: Debug + Drop>(
     match text_of(alloc, rules, answer) {
         Ok(found) => assert_eq!(rt; found.as_str(), text),
         Err(_) => assert!(rt; false, "no memory"),
+    }
+}
+
+/// Reads INTEGER (0..255) DEFAULT 7 from each row's octets, and holds what is told and taken against the row.
+pub fn reads_default(rt: &impl Abort, alloc: Global, rows: &[Row]) {
+    for (octets, rules, text, taken) in rows {
+        let mut decoder = decoder_of(alloc, octets, *rules);
+        let answer = decoder.decode_default::<u8, _>(|| Ok(7));
+        told(rt, alloc, *rules, answer, text);
+        assert!(rt; decoder.decoded_len() == *taken, "{octets:?} {rules:?}");
+    }
+}
+
+/// Looks at the tag that each row's octets begin with, and holds what is told against the row's text. Nothing is taken.
+pub fn looks(rt: &impl Abort, alloc: Global, rows: &[LookRow]) {
+    for (octets, rules, text) in rows {
+        let decoder = decoder_of(alloc, octets, *rules);
+        told(rt, alloc, *rules, decoder.peek_tag(), text);
+        assert!(rt; decoder.decoded_len() == 0 && decoder.remaining() == *octets);
     }
 }
 

@@ -2,4 +2,5 @@
 
 mod closures;
 mod nested;
+mod settings;
 mod whole;

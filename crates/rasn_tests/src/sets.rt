@@ -6,3 +6,5 @@ mod elements;
 mod order;
 mod outputs;
 mod reads;
+mod reads_sets;
+mod refusals;

@@ -1,6 +1,7 @@
 //! What the tests of the entry points share: rows of octets, rules and answers, over whole calls.
 
 use crate::reading::told;
+use crate::writing::{Row, holds};
 use rasn::de::Decode;
 use rasn::enc::Encode;
 use rasn::error::{DecodeError, EncodeError};
@@ -44,6 +45,13 @@ pub fn encoded<T: Encode>(alloc: Global, rules: Codec, value: &T) -> Result<Vec<
         Codec::Ber => ber::encode(alloc, value),
         Codec::Cer => cer::encode(alloc, value),
         Codec::Der => der::encode(alloc, value),
+    }
+}
+
+/// Holds what the entry point writes of each row's value against the row's octets.
+pub fn encodes<T: Encode>(rt: &impl Abort, alloc: Global, rows: &[Row<T>]) {
+    for (value, rules, octets) in rows {
+        holds(rt, encoded(alloc, *rules, value), octets);
     }
 }
 

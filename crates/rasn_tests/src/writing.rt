@@ -125,6 +125,14 @@ pub fn new_encoder(rt: &impl Abort, alloc: Global, rules: Codec) -> Encoder {
     }
 }
 
+/// The same, of the components of a SET.
+pub fn new_set_encoder(rt: &impl Abort, alloc: Global, rules: Codec) -> Encoder {
+    match Encoder::new_set(alloc, options_for(rules)) {
+        Ok(encoder) => encoder,
+        Err(_) => panic!(rt; "no memory"),
+    }
+}
+
 /// Holds that a call writes.
 pub fn done(rt: &impl Abort, answer: Result<(), EncodeError>) {
     match answer {

@@ -1,5 +1,5 @@
 -- Parts of the bits that octets hold.
-use Rattle.std.proofs.Common.{◌≡◌, ℕ, zero, suc, ◌+◌, ◌-◌, ◌*◌, ◌/◌, ◌%◌, ◌^◌, ◌<◌, ◌≤◌, ◌≢◌, inl, inr, Bool, true, false, List, [], ◌∷◌, ◌++◌, length, take, drop, get_or, refl, sym, ap, ap₂, ◌∙◌, subst, arith, nat_eq}
+use Rattle.std.proofs.Common.{◌≡◌, ℕ, zero, suc, ◌+◌, ◌-◌, ◌*◌, ◌/◌, ◌%◌, ◌^◌, ◌<◌, ◌≤◌, ◌≢◌, inl, inr, Bool, true, false, not, List, [], ◌∷◌, ◌++◌, length, take, drop, get_or, refl, sym, ap, ap₂, ◌∙◌, subst, arith, nat_eq}
 use Rattle.std.proofs.lemmas.List.{append_assoc, append-nil, length-append, length-take-le, length-drop, length-replicate, take-take, take-append-le, drop-append-le, drop-drop, take_all, drop-take, take_rest, get_or-take, get_or-drop, get_or_append_left, drop_more}
 use Rattle.std.specs.Bool.{Decides, beq}
 use Rattle.std.specs.Cmp.{booleans_Decides}
@@ -296,3 +296,26 @@ unequal_bits m n k l p q e = same_from_decides (nat_eq m n) (pointwise beq (bits
     back h =
         let a = ap length h in
         absurd (e (omega (arith, a, length-take-le m (bits_in k) (omega (arith, p.held, length-bits_in k)), length-take-le n (bits_in l) (omega (arith, q.held, length-bits_in l)))))
+
+-- Two lists of bits that differ at a place, and two that don't as far as they go.
+pub one_bit : (x y : Bool) → not (beq x y) ≡ false → x ≡ y
+one_bit true true e = refl
+one_bit true false e = cc
+one_bit false true e = cc
+one_bit false false e = refl
+
+other_bit : (x y : Bool) → not (beq x y) ≡ true → x ≢ y
+other_bit true true e f = cc
+other_bit true false e f = cc
+other_bit false true e f = cc
+other_bit false false e f = cc
+
+pub bits_apart : (k l : List Bool) (i : ℕ) (x y : Bool) → x ≡ get_or k i false → y ≡ get_or l i false → not (beq x y) ≡ true → false ≡ pointwise beq k l
+bits_apart k l i x y p q e =
+    same_from_decides false (pointwise beq k l) (λ f. cc, λ f. absurd (other_bit x y e (p ∙ (ap (λ z. get_or z i false) f ∙ sym q))))
+    (pointwise_decides booleans_Decides k l)
+
+pub bits_alike : (k l : List Bool) (i : ℕ) → take i k ≡ take i l → length k ≤ i → length l ≤ i → true ≡ pointwise beq k l
+bits_alike k l i e h n =
+    same_from_decides true (pointwise beq k l) (λ f. sym (take_all i k h) ∙ (e ∙ take_all i l n), λ f. refl)
+    (pointwise_decides booleans_Decides k l)

@@ -10,6 +10,7 @@ pub mod Itself
 pub mod Nested
 pub mod NumberOctets
 pub mod Numbered
+pub mod NumberOrder
 pub mod Once
 pub mod Ordered
 pub mod Powers

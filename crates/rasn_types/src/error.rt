@@ -2,6 +2,7 @@
 
 mod decode;
 mod encode;
+mod text;
 
 pub use decode::{
     BerDecodeErrorKind, CodecDecodeError, DecodeError, DecodeErrorKind, DerDecodeErrorKind, Needed,

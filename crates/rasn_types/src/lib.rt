@@ -3,4 +3,5 @@
 
 pub mod ber;
 pub mod error;
+mod hexadecimal;
 pub mod types;

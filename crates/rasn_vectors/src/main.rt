@@ -1,7 +1,7 @@
-//! Answers lines `rule type hex` from a file, or from standard input where none is named.
+//! Answers lines `rule type hex` from a file, or from standard input where none is named; with `--normalise` by the DER octets alone.
 #![tactic(auto)]
 
-use rasn_bench::{RunFault, Usage, file_of, run};
+use rasn_bench::{RunFault, Usage, file_of, run, run_normalise};
 use std::env;
 use std::fs::File;
 use std::io::{BufReader, BufWriter, ErrorKind, Read, Write};
@@ -37,21 +37,31 @@ fn answer(rt: &HostRuntime) -> Result<bool, Fault> {
             .push(argument)
             .map_err(|_| Fault::Run(RunFault::Memory))?;
     }
-    match file_of(&arguments).map_err(Fault::Usage)? {
-        None => answer_all(rt, rt.stdin()),
+    let (normalises, file) = file_of(&arguments).map_err(Fault::Usage)?;
+    match file {
+        None => answer_all(rt, rt.stdin(), normalises),
         Some(name) => {
             let file = File::open(rt, name).map_err(|error| Fault::Run(fault_of(error.kind())))?;
-            answer_all(rt, file)
+            answer_all(rt, file, normalises)
         }
     }
 }
 
-/// Answers the lines that the reader gives.
-fn answer_all<R: Read + Drop>(rt: &HostRuntime, reader: R) -> Result<bool, Fault> {
+/// Answers the lines that the reader gives, by the DER octets alone where it normalises.
+fn answer_all<R: Read + Drop>(
+    rt: &HostRuntime,
+    reader: R,
+    normalises: bool,
+) -> Result<bool, Fault> {
     let alloc = rt.alloc();
     let mut input = BufReader::new(alloc, reader).map_err(|_| Fault::Run(RunFault::Memory))?;
     let mut output = BufWriter::new(alloc, rt.stdout()).map_err(|_| Fault::Run(RunFault::Memory))?;
-    run(alloc, &mut input, &mut output).map_err(Fault::Run)
+    let answered = if normalises {
+        run_normalise(alloc, &mut input, &mut output)
+    } else {
+        run(alloc, &mut input, &mut output)
+    };
+    answered.map_err(Fault::Run)
 }
 
 /// What a refused read of arguments or of a file's name is.

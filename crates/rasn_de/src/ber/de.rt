@@ -12,6 +12,7 @@ ghost use Rattle.rasn_types.specs.Errors.{IsMemory};
 
 use crate::ber::de::parser::headers::{Expected, Spelling};
 use crate::ber::de::parser::{Fault, Value, read_identifier, read_value};
+use crate::ber::rules::allows_indefinite;
 use rasn_types::error::{
     BerDecodeErrorKind, CodecDecodeError, DecodeError, DecodeErrorKind, Needed,
 };
@@ -31,9 +32,10 @@ mod nesting;
 mod numbered;
 mod open;
 mod optional;
-pub mod parser;
+mod parser;
 mod prefix;
 mod sequences;
+mod sets;
 mod strings;
 mod times;
 
@@ -66,16 +68,6 @@ impl<'input> Model for Decoder<'input> {
     ghost invariant = { λ d. IsEnd d.whole.now d.rest.now };
 }
 
-/// Whether closing octets may stand behind a value at the top.
-fn closes_at_top(rules: Codec) -> bool
-    ensures { result ≡ top rules }
-{
-    match rules {
-        Codec::Ber | Codec::Cer => true,
-        Codec::Der => false,
-    }
-}
-
 /// A kind of error that X.690 8 tells, under any rule.
 fn in_ber(inner: BerDecodeErrorKind) -> DecodeErrorKind
     ensures { result ≡ in_ber inner }
@@ -86,6 +78,8 @@ fn in_ber(inner: BerDecodeErrorKind) -> DecodeErrorKind
 }
 
 /// The kind of error that stands for a fault.
+#[cold]
+#[inline(never)]
 fn kind_of(fault: Fault) -> DecodeErrorKind
     ensures { result ≡ kind_of fault }
 {
@@ -144,7 +138,7 @@ impl<'input> Decoder<'input> {
             rest: input,
             rules,
             depth: MAX_DEPTH,
-            closing: closes_at_top(rules),
+            closing: allows_indefinite(rules),
             alloc,
         }
     }
@@ -193,6 +187,8 @@ impl<'input> Decoder<'input> {
     }
 
     /// The error of a fault, under the decoder's rules.
+    #[cold]
+    #[inline(never)]
     fn error(&self, fault: Fault) -> DecodeError
         ensures { result ≡ record { kind = kind_of fault; codec = self.now.rule } }
     {

@@ -4,6 +4,7 @@ ghost use Rattle.std.specs.Fn.{FnOnceTakesAtMut};
 ghost use Rattle.rasn_types.specs.Bytes.{Prim, IsLess};
 ghost use Rattle.rasn_enc.specs.View.{started, AreTagsInOrder};
 ghost use Rattle.rasn_enc.specs.Primitives.{Appends, WantsMemory, TellsOrder};
+ghost use Rattle.rasn_enc.specs.declared.ber.enc.filled.Unfilled.TheVariants.{NoMemory};
 ghost use Rattle.rasn_enc.specs.Filled.{FillsBehind, RefusesToFill, AppendsFilled};
 
 mod base_128;
@@ -26,6 +27,7 @@ mod lists;
 mod marks;
 mod numbered;
 mod objects;
+mod open;
 mod optional;
 mod prefix;
 mod rendering;
@@ -36,7 +38,7 @@ mod times;
 mod writer;
 
 pub use config::EncoderOptions;
-use filled::{Contents, fill_with};
+use filled::{Contents, Unfilled, fill_with};
 pub use objects::object_identifier_as_bytes;
 use rasn_types::error::{BerEncodeErrorKind, CodecEncodeError, EncodeError, EncodeErrorKind};
 use rasn_types::types::{Codec, Tag};
@@ -110,12 +112,12 @@ impl Encoder {
         self.writer.alloc()
     }
 
-    /// The octets written. No value is open then: one is open only while its closure runs, and that has the encoder by reference.
+    /// The octets written. Where a value is still open, which it is only while its closure runs, they are those of its contents.
     ///
     /// # Errors
     /// `SetOutOfOrder` where the output keeps tags and some tag is below the one before it; else `OutOfMemory` alone.
     pub fn output(self) -> Result<Vec<u8>, EncodeError>
-        ensures ok { IfOk result (λ v. self.below ≡ [] → v.items ≡ self.last.octets) }
+        ensures ok { IfOk result (λ v. v.items ≡ self.last.octets) }
         ensures order { OnOk result (AreTagsInOrder self) }
         ensures refused { IfErr result (λ e. WantsMemory self.rule e ⊎ ((AreTagsInOrder self → ⊥) × TellsOrder self.rule e)) }
     {
@@ -159,16 +161,16 @@ impl Encoder {
     }
 
     // The same, where `contents` writes its contents in place.
-    fn leaf_with<F: FnOnce(&mut Vec<u8>) -> Result<(), EncodeError>>(
+    fn leaf_with<F: FnOnce(&mut Vec<u8>) -> Result<(), Unfilled>>(
         &mut self,
         tag: Tag,
         contents: F,
-    ) -> Result<(), EncodeError>
+    ) -> Result<(), Unfilled>
         requires callable { (v : _) → FnOnceTakesAtMut F.FnOnce contents v }
         requires behind { FillsBehind F.FnOnce contents }
         ensures ok { OnOk result (AppendsFilled F.FnOnce contents tag self.old self.new) }
         ensures err { OnErr result (self.new ≡ self.old) }
-        ensures refused { IfErr result (λ e. WantsMemory self.old.rule e ⊎ RefusesToFill F.FnOnce contents e) }
+        ensures refused { IfErr result (λ e. (e ≡ NoMemory) ⊎ RefusesToFill F.FnOnce contents e) }
     {
         self.writer.leaf_with(tag, contents)
     }
@@ -180,7 +182,10 @@ impl Encoder {
         ensures memory { IfErr result (WantsMemory self.old.rule) }
     {
         let rule = self.codec();
-        self.leaf_with(tag, |octets: &mut Vec<u8>| fill_with(value, octets, rule))
+        match self.leaf_with(tag, |octets: &mut Vec<u8>| fill_with(value, octets)) {
+            Ok(()) => Ok(()),
+            Err(_) => Err(out_of_memory(rule)),
+        }
     }
 }
 

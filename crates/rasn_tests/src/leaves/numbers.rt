@@ -1,5 +1,6 @@
 //! Octets of whole numbers (X.690 8.3).
 
+use crate::reading::facts;
 use rasn_types::types::{Integer, IntegerType};
 use std::alloc::Global;
 use std::process::Abort;
@@ -26,13 +27,9 @@ fn stands_for<T: IntegerType + PartialEq>(rt: &impl Abort, alloc: Global, rows: 
 
 fn is_written<T: IntegerType>(alloc: Global, number: &T, octets: &[u8]) -> bool {
     let mut found = Vec::new(alloc);
-    if found.push(7).is_err() || number.append_octets(&mut found).is_err() {
-        return false;
-    }
-    match found.as_slice() {
-        [7, written @ ..] => written == octets,
-        _ => false,
-    }
+    found.push(7).is_ok()
+        && number.append_octets(&mut found).is_ok()
+        && found.strip_prefix(&[7]) == Some(octets)
 }
 
 /// Writes the number behind another octet, and reads it again.
@@ -80,21 +77,27 @@ fn writes_fewest_octets(rt: HostRuntime) {
     takes(&rt, alloc, u128::MAX, LARGEST);
 }
 
+/// Numbers at the ends of 128 bits and about 0, and their octets.
+const WIDE: &[(i128, &[u8])] = &[
+    (
+        i128::MAX,
+        &[
+            0x7F, 0xFF, 0xFF, 0xFF, 0xFF, 0xFF, 0xFF, 0xFF, 0xFF, 0xFF, 0xFF, 0xFF, 0xFF, 0xFF,
+            0xFF, 0xFF,
+        ],
+    ),
+    (
+        i128::MIN,
+        &[0x80, 0, 0, 0, 0, 0, 0, 0, 0, 0, 0, 0, 0, 0, 0, 0],
+    ),
+    (-1, &[0xFF]),
+    (0, &[0x00]),
+];
+
 #[test]
 fn writes_128_bits(rt: HostRuntime) {
-    let alloc = rt.alloc();
-    let most = &[
-        0x7F, 0xFF, 0xFF, 0xFF, 0xFF, 0xFF, 0xFF, 0xFF, 0xFF, 0xFF, 0xFF, 0xFF, 0xFF, 0xFF, 0xFF,
-        0xFF,
-    ];
-    let least = &[0x80, 0, 0, 0, 0, 0, 0, 0, 0, 0, 0, 0, 0, 0, 0, 0];
-    for (number, octets) in [
-        (i128::MAX, most.as_slice()),
-        (i128::MIN, least.as_slice()),
-        (-1, [0xFF].as_slice()),
-        (0, [0x00].as_slice()),
-    ] {
-        takes(&rt, alloc, number, octets);
+    for (number, octets) in WIDE {
+        takes(&rt, rt.alloc(), *number, octets);
     }
 }
 
@@ -121,8 +124,13 @@ fn are_equal(alloc: Global, one: &[u8], other: &[u8]) -> bool {
 #[test]
 fn keeps_any_length(rt: HostRuntime) {
     let alloc = rt.alloc();
-    assert!(rt; is_kept(alloc, &[0x00, 0x00, 0x80], &[0x00, 0x80]));
-    assert!(rt; is_kept(alloc, &[0x00, 0x80], &[0x00, 0x80]));
-    assert!(rt; is_kept(alloc, &[], &[]));
-    assert!(rt; are_equal(alloc, &[0x00, 0x00, 0x80], &[0x00, 0x80]));
+    facts(
+        &rt,
+        &[
+            is_kept(alloc, &[0x00, 0x00, 0x80], &[0x00, 0x80]),
+            is_kept(alloc, &[0x00, 0x80], &[0x00, 0x80]),
+            is_kept(alloc, &[], &[]),
+            are_equal(alloc, &[0x00, 0x00, 0x80], &[0x00, 0x80]),
+        ],
+    );
 }

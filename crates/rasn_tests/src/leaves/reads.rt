@@ -1,6 +1,6 @@
 //! Leaves are read.
 
-use crate::reading::{answers_octets, decoder_of, gives, reads, told, within};
+use crate::reading::{answers_octets, decoder_of, gives, looks, reads, told, within};
 use crate::types::Ratio;
 use rasn_de::de::Decode;
 use rasn_types::types::{Class, Codec, Constraints, Integer, ObjectIdentifier, OctetString, Tag};
@@ -38,9 +38,9 @@ fn gathers_segments(rt: HostRuntime) {
         0x00, 0x00, 0x00, 0x00, 0x04, 0x03, 0xA1, 0xB2, 0xC3,
     ];
     let mut decoder = decoder_of(rt.alloc(), &octets, Codec::Cer);
-    for is_borrowed in [false, true] {
+    for is_borrowed in &[false, true] {
         let answer = decoder.decode_octet_string(Tag::OCTET_STRING, &Constraints::NONE);
-        assert!(rt; answers_octets(answer, &[0xA1, 0xB2, 0xC3], is_borrowed));
+        assert!(rt; answers_octets(answer, &[0xA1, 0xB2, 0xC3], *is_borrowed));
     }
     assert!(rt; decoder.remaining().is_empty());
 }
@@ -48,19 +48,17 @@ fn gathers_segments(rt: HostRuntime) {
 // A refusal tells how many octets are missing, and takes nothing (X.690 8.1.3).
 #[test]
 fn refuses_cut_contents(rt: HostRuntime) {
-    let octets = &[0x04, 0x05, 0x01, 0x02];
-    let decoder = decoder_of(rt.alloc(), octets, Codec::Ber);
-    told(
+    let found = "Tag { class: Universal, value: 4 }";
+    looks(
         &rt,
         rt.alloc(),
-        Codec::Ber,
-        decoder.peek_tag(),
-        "Tag { class: Universal, value: 4 }",
+        &[(&[0x04, 0x05, 0x01, 0x02], Codec::Ber, found)],
     );
+    let missing = "Incomplete { needed: Size(3) }";
     reads::<OctetString>(
         &rt,
         rt.alloc(),
-        &[(octets, Codec::Ber, "Incomplete { needed: Size(3) }", 0)],
+        &[(&[0x04, 0x05, 0x01, 0x02], Codec::Ber, missing, 0)],
     );
 }
 

@@ -1,5 +1,5 @@
-use crate::reading::{decoder_of, reads, told};
-use crate::whole::{answers, begins, encoded, rewrites};
+use crate::reading::{decoder_of, facts, looks, reads, told, value};
+use crate::whole::{answers, begins, encodes, rewrites};
 use crate::writing::{done, holds, new_encoder};
 use rasn::ber;
 use rasn::de::Decode;
@@ -117,63 +117,62 @@ fn integers_of_any_padding(rt: HostRuntime) {
 // Identifiers and lengths (X.690 8.1.2, 8.1.3).
 #[test]
 fn framing_refusals_consume_nothing(rt: HostRuntime) {
-    let ber = Codec::Ber;
     reads::<OctetString>(
         &rt,
         rt.alloc(),
         &[
             (
                 &[0x04, 0x05, 0x01, 0x02],
-                ber,
+                Codec::Ber,
                 "Incomplete { needed: Size(3) }",
                 0,
             ),
             (
                 &[0x04, 0x82, 0x01],
-                ber,
+                Codec::Ber,
                 "Incomplete { needed: Size(1) }",
                 0,
             ),
-            (&[], ber, "Incomplete { needed: Size(1) }", 0),
+            (&[], Codec::Ber, "Incomplete { needed: Size(1) }", 0),
             (
                 &[0x04, 0xFF],
-                ber,
+                Codec::Ber,
                 "CodecSpecific { inner: Ber(ReservedLengthOctet) }",
                 0,
             ),
             (
                 &[0x04, 0x80, 0x00, 0x00],
-                ber,
+                Codec::Ber,
                 "CodecSpecific { inner: Ber(IndefiniteLengthNotAllowed) }",
                 0,
             ),
             (
                 &[0x04, 0x89, 0x01, 0, 0, 0, 0, 0, 0, 0, 0],
-                ber,
+                Codec::Ber,
                 "LengthExceedsPlatformWidth",
                 0,
             ),
             (
                 &[0x04, 0x88, 0xFF, 0xFF, 0xFF, 0xFF, 0xFF, 0xFF, 0xFF, 0xFF],
-                ber,
+                Codec::Ber,
                 "Incomplete { needed: Size(18446744073709551615) }",
                 0,
             ),
             (
                 &[0x24, 0x05, 0x04, 0x01, 0xA1, 0x00, 0x00],
-                ber,
+                Codec::Ber,
                 "UnexpectedExtraData { length: 2 }",
                 0,
             ),
             (
                 &[0x1F, 0x00, 0x01, 0xFF],
-                ber,
+                Codec::Ber,
                 "CodecSpecific { inner: Ber(UnexpectedEndOfContents) }",
                 0,
             ),
             (
                 &[0x1F, 0x90, 0x80, 0x80, 0x80, 0x00],
-                ber,
+                Codec::Ber,
                 "CodecSpecific { inner: Ber(UnsupportedTagNumber) }",
                 0,
             ),
@@ -203,60 +202,66 @@ fn contents_refusals_consume_the_value(rt: HostRuntime) {
 
 #[test]
 fn tags_are_looked_at(rt: HostRuntime) {
-    let alloc = rt.alloc();
-    for (input, text) in [
-        (
-            [0x1F, 0x8F, 0xFF, 0xFF, 0xFF, 0x7F].as_slice(),
-            "Tag { class: Universal, value: 4294967295 }",
-        ),
-        (
-            [0xFF, 0x83, 0x7F].as_slice(),
-            "Tag { class: Private, value: 511 }",
-        ),
-    ] {
-        let decoder = decoder_of(alloc, input, Codec::Ber);
-        told(&rt, alloc, Codec::Ber, decoder.peek_tag(), text);
-        assert!(rt; decoder.decoded_len() == 0 && decoder.remaining() == input);
-    }
+    looks(
+        &rt,
+        rt.alloc(),
+        &[
+            (
+                &[0x1F, 0x8F, 0xFF, 0xFF, 0xFF, 0x7F],
+                Codec::Ber,
+                "Tag { class: Universal, value: 4294967295 }",
+            ),
+            (
+                &[0xFF, 0x83, 0x7F],
+                Codec::Ber,
+                "Tag { class: Private, value: 511 }",
+            ),
+        ],
+    );
 }
 
 // X.690 8.2.2, 8.3.2.
 #[test]
 fn leaves_have_the_fewest_octets(rt: HostRuntime) {
     let alloc = rt.alloc();
-    holds(&rt, encoded(alloc, Codec::Ber, &true), &[0x01, 0x01, 0xFF]);
-    holds(&rt, encoded(alloc, Codec::Der, &false), &[0x01, 0x01, 0x00]);
-    let octets = [0x02, 0x03, 0xFF, 0x7F, 0x00];
-    holds(&rt, encoded(alloc, Codec::Der, &-33024i32), &octets);
-    let octets = [0x02, 0x02, 0x00, 0x80];
-    holds(&rt, encoded(alloc, Codec::Ber, &128u8), &octets);
-    holds(
+    encodes::<bool>(
         &rt,
-        encoded(alloc, Codec::Ber, &-128i8),
-        &[0x02, 0x01, 0x80],
+        alloc,
+        &[
+            (true, Codec::Ber, &[0x01, 0x01, 0xFF]),
+            (false, Codec::Der, &[0x01, 0x01, 0x00]),
+        ],
     );
+    encodes::<i32>(
+        &rt,
+        alloc,
+        &[(-33024, Codec::Der, &[0x02, 0x03, 0xFF, 0x7F, 0x00])],
+    );
+    encodes::<u8>(&rt, alloc, &[(128, Codec::Ber, &[0x02, 0x02, 0x00, 0x80])]);
+    encodes::<i8>(&rt, alloc, &[(-128, Codec::Ber, &[0x02, 0x01, 0x80])]);
 }
 
+/// A tag's class and number, and the octets of TRUE under the tag.
+type TagRow = (Class, u32, &'static [u8]);
+
 // X.690 8.1.2.
+const TAGS: &[TagRow] = &[
+    (Class::Context, 30, &[0x9E, 0x01, 0xFF]),
+    (Class::Application, 31, &[0x5F, 0x1F, 0x01, 0xFF]),
+    (Class::Private, 511, &[0xDF, 0x83, 0x7F, 0x01, 0xFF]),
+    (
+        Class::Universal,
+        4294967295,
+        &[0x1F, 0x8F, 0xFF, 0xFF, 0xFF, 0x7F, 0x01, 0xFF],
+    ),
+];
+
 #[test]
 fn tags_of_any_number(rt: HostRuntime) {
-    for (class, value, octets) in [
-        (Class::Context, 30, [0x9E, 0x01, 0xFF].as_slice()),
-        (Class::Application, 31, [0x5F, 0x1F, 0x01, 0xFF].as_slice()),
-        (
-            Class::Private,
-            511,
-            [0xDF, 0x83, 0x7F, 0x01, 0xFF].as_slice(),
-        ),
-        (
-            Class::Universal,
-            4294967295,
-            [0x1F, 0x8F, 0xFF, 0xFF, 0xFF, 0x7F, 0x01, 0xFF].as_slice(),
-        ),
-    ] {
+    for (class, value, octets) in TAGS {
         let mut encoder = new_encoder(&rt, rt.alloc(), Codec::Der);
         assert!(rt; encoder.codec() == Codec::Der);
-        let tag = Tag::new(class, value);
+        let tag = Tag::new(*class, *value);
         done(&rt, encoder.encode_bool(tag, true, Identifier::EMPTY));
         holds(&rt, encoder.output(), octets);
     }
@@ -266,34 +271,34 @@ fn tags_of_any_number(rt: HostRuntime) {
 #[test]
 fn colours_are_read_and_written(rt: HostRuntime) {
     let alloc = rt.alloc();
-    let padded = [0x0A, 0x02, 0x00, 0x02];
-    assert!(rt;
-        ber::decode::<Colour>(alloc, &padded).is_ok_and(|colour| colour == Colour::Blue
-            && colour.discriminant() == 2)
-    );
+    let padded = &[0x0A, 0x02, 0x00, 0x02];
+    let colour = value(&rt, ber::decode::<Colour>(alloc, padded));
+    facts(&rt, &[colour == Colour::Blue, colour.discriminant() == 2]);
     rewrites::<Colour>(
         &rt,
         alloc,
-        &[(&padded, Codec::Ber, Codec::Der, &[0x0A, 0x01, 0x02])],
+        &[(padded, Codec::Ber, Codec::Der, &[0x0A, 0x01, 0x02])],
     );
 }
+
+/// What no colours are told as, and how many octets are left behind them.
+const NO_COLOURS: &[(&str, usize)] = &[
+    ("DiscriminantValueNotFound { discriminant: 3 }", 13),
+    ("IntegerOverflow { max_width: 64 }", 2),
+    ("UnexpectedEmptyInput", 0),
+];
 
 // What the type doesn't name, what 64 bits don't hold, and no octets: the value is taken.
 #[test]
 fn other_numbers_are_no_colours(rt: HostRuntime) {
-    let alloc = rt.alloc();
-    let octets = [
+    let octets = &[
         0x0A, 0x01, 0x03, 0x0A, 0x09, 0x00, 0x80, 0x00, 0x00, 0x00, 0x00, 0x00, 0x00, 0x00, 0x0A,
         0x00,
     ];
-    let mut decoder = decoder_of(alloc, &octets, Codec::Ber);
-    for (text, left) in [
-        ("DiscriminantValueNotFound { discriminant: 3 }", 13),
-        ("IntegerOverflow { max_width: 64 }", 2),
-        ("UnexpectedEmptyInput", 0),
-    ] {
+    let mut decoder = decoder_of(rt.alloc(), octets, Codec::Ber);
+    for (text, left) in NO_COLOURS {
         let answer = Colour::decode(&mut decoder);
-        told(&rt, alloc, Codec::Ber, answer, text);
-        assert!(rt; decoder.remaining().len() == left);
+        told(&rt, rt.alloc(), Codec::Ber, answer, text);
+        assert!(rt; decoder.remaining().len() == *left);
     }
 }

@@ -4,9 +4,9 @@ use crate::writing::{
 };
 use rasn_enc::ber::enc::object_identifier_as_bytes;
 use rasn_enc::enc::Encode;
-use rasn_types::error::EncodeError;
 use rasn_types::types::{Bound, Bounded, Class, Codec, Constraints, Identifier, Integer, Tag};
-use std::alloc::{AllocError, Global};
+use std::alloc::Global;
+use std::process::Abort;
 
 // TRUE is FF (X.690 8.2.2, 11.1).
 #[test]
@@ -59,102 +59,99 @@ fn writes_long_integers(rt: HostRuntime) {
     );
 }
 
+/// The tags \[PRIVATE 511\], \[30\], \[APPLICATION 31\] and \[UNIVERSAL 4294967295\].
+const TAGS: &[(Class, u32)] = &[
+    (Class::Private, 511),
+    (Class::Context, 30),
+    (Class::Application, 31),
+    (Class::Universal, 4294967295),
+];
+
 // From number 31 on the identifier has more octets (X.690 8.1.2.4).
 #[test]
 fn writes_high_tag_numbers(rt: HostRuntime) {
-    let alloc = rt.alloc();
-    let mut encoder = new_encoder(&rt, alloc, Codec::Der);
-    for (class, value) in [
-        (Class::Private, 511),
-        (Class::Context, 30),
-        (Class::Application, 31),
-        (Class::Universal, 4294967295),
-    ] {
-        let tag = Tag::new(class, value);
-        done(
-            &rt,
-            true.encode_with_tag(&mut encoder, tag, Identifier::EMPTY),
-        );
+    let mut encoder = new_encoder(&rt, rt.alloc(), Codec::Der);
+    for (class, value) in TAGS {
+        let tag = Tag::new(*class, *value);
+        let answer = true.encode_with_tag(&mut encoder, tag, Identifier::EMPTY);
+        done(&rt, answer);
     }
-    let octets = [
+    let octets = &[
         0xDF, 0x83, 0x7F, 0x01, 0xFF, 0x9E, 0x01, 0xFF, 0x5F, 0x1F, 0x01, 0xFF, 0x1F, 0x8F, 0xFF,
         0xFF, 0xFF, 0x7F, 0x01, 0xFF,
     ];
-    holds(&rt, encoder.output(), &octets);
+    holds(&rt, encoder.output(), octets);
 }
 
-// The arcs {2 999 1}, {2 4294967215} and {1 3 6 1 4 1 311 21 20} (X.690 8.19).
+/// The arcs {2 999 1} and {2 4294967215}.
+const ARCS: &[&[u32]] = &[&[2, 999, 1], &[2, 4294967215]];
+
+// Each arc has seven bits an octet (X.690 8.19).
 #[test]
 fn writes_object_identifiers(rt: HostRuntime) {
-    let alloc = rt.alloc();
-    let mut encoder = new_encoder(&rt, alloc, Codec::Der);
-    for arcs in [[2, 999, 1].as_slice(), [2, 4294967215].as_slice()] {
-        let answer = encoder.encode_object_identifier(
-            Tag::OBJECT_IDENTIFIER,
-            arcs,
-            Identifier::EMPTY,
-        );
+    let mut encoder = new_encoder(&rt, rt.alloc(), Codec::Der);
+    for arcs in ARCS {
+        let tag = Tag::OBJECT_IDENTIFIER;
+        let answer = encoder.encode_object_identifier(tag, arcs, Identifier::EMPTY);
         done(&rt, answer);
     }
-    let octets = [
+    let octets = &[
         0x06, 0x03, 0x88, 0x37, 0x01, 0x06, 0x05, 0x8F, 0xFF, 0xFF, 0xFF, 0x7F,
     ];
-    holds(&rt, encoder.output(), &octets);
-    let microsoft = identifier_of(alloc, &[1, 3, 6, 1, 4, 1, 311, 21, 20]);
-    let octets = [
-        0x06, 0x09, 0x2B, 0x06, 0x01, 0x04, 0x01, 0x82, 0x37, 0x15, 0x14,
-    ];
-    writes_made(&rt, alloc, Codec::Der, microsoft, &octets);
+    holds(&rt, encoder.output(), octets);
 }
 
-/// What stands behind 2A once the arcs are appended to it, or why they aren't.
-fn appended(alloc: Global, arcs: &[u32]) -> Result<(Vec<u8>, Result<(), EncodeError>), AllocError> {
-    let mut octets = vec![in alloc; 0x2A]?;
-    let answer = object_identifier_as_bytes(alloc, arcs, &mut octets);
-    Ok((octets, answer))
+// The arcs {1 3 6 1 4 1 311 21 20} (X.690 8.19).
+#[test]
+fn writes_object_identifiers_as_values(rt: HostRuntime) {
+    let alloc = rt.alloc();
+    let microsoft = identifier_of(alloc, &[1, 3, 6, 1, 4, 1, 311, 21, 20]);
+    let octets = &[
+        0x06, 0x09, 0x2B, 0x06, 0x01, 0x04, 0x01, 0x82, 0x37, 0x15, 0x14,
+    ];
+    writes_made(&rt, alloc, Codec::Der, microsoft, octets);
 }
+
+/// Appends the arcs' octets behind 2A, holds the answer against the text, and what stands there then against the octets.
+fn appends(rt: &impl Abort, alloc: Global, arcs: &[u32], text: &str, octets: &[u8]) {
+    let mut found = Vec::new(alloc);
+    assert!(rt; found.push(0x2A).is_ok(), "no memory");
+    let answer = object_identifier_as_bytes(alloc, arcs, &mut found);
+    refused(rt, alloc, Codec::Ber, answer, text);
+    assert!(rt; found.as_slice() == octets, "{arcs:?}");
+}
+
+/// Arcs that have no octets, and the refusal's kind.
+const NO_IDENTIFIERS: &[(&[u32], &str)] = &[
+    (
+        &[2, 4294967216],
+        "CodecSpecific { inner: Ber(InvalidObjectIdentifier { oid: [2, 4294967216] }) }",
+    ),
+    (
+        &[1, 45],
+        "CodecSpecific { inner: Ber(InvalidObjectIdentifier { oid: [1, 45] }) }",
+    ),
+    (
+        &[3, 1],
+        "CodecSpecific { inner: Ber(InvalidObjectIdentifier { oid: [3, 1] }) }",
+    ),
+    (
+        &[1],
+        "CodecSpecific { inner: Ber(InvalidObjectIdentifier { oid: [1] }) }",
+    ),
+];
 
 // What has no octets is refused by its arcs, under BER, and the vector is unchanged (X.690 8.19.4).
 #[test]
 fn refuses_arcs_without_octets(rt: HostRuntime) {
-    let alloc = rt.alloc();
-    for (arcs, text) in [
-        (
-            [2, 4294967216].as_slice(),
-            "CodecSpecific { inner: Ber(InvalidObjectIdentifier { oid: [2, 4294967216] }) }",
-        ),
-        (
-            [1, 45].as_slice(),
-            "CodecSpecific { inner: Ber(InvalidObjectIdentifier { oid: [1, 45] }) }",
-        ),
-        (
-            [3, 1].as_slice(),
-            "CodecSpecific { inner: Ber(InvalidObjectIdentifier { oid: [3, 1] }) }",
-        ),
-        (
-            [1].as_slice(),
-            "CodecSpecific { inner: Ber(InvalidObjectIdentifier { oid: [1] }) }",
-        ),
-    ] {
-        match appended(alloc, arcs) {
-            Ok((octets, answer)) => {
-                refused(&rt, alloc, Codec::Ber, answer, text);
-                assert!(rt; octets.as_slice() == [0x2A].as_slice());
-            }
-            Err(_) => assert!(rt; false, "no memory"),
-        }
+    for (arcs, text) in NO_IDENTIFIERS {
+        appends(&rt, rt.alloc(), arcs, text, &[0x2A]);
     }
 }
 
 #[test]
 fn appends_the_octets_of_arcs(rt: HostRuntime) {
-    match appended(rt.alloc(), &[1, 2, 1]) {
-        Ok((octets, answer)) => {
-            assert!(rt; answer.is_ok());
-            assert!(rt; octets.as_slice() == [0x2A, 0x2A, 0x01].as_slice());
-        }
-        Err(_) => assert!(rt; false, "no memory"),
-    }
+    appends(&rt, rt.alloc(), &[1, 2, 1], "written", &[0x2A, 0x2A, 0x01]);
 }
 
 // NULL under its own tag and under [0] (X.690 8.8).
@@ -178,27 +175,31 @@ fn refuses_real(rt: HostRuntime) {
     holds(&rt, encoder.output(), &[]);
 }
 
+/// INTEGER (0..100)
+pub const PERCENTAGE: Constraints = Constraints {
+    value: Some(Bound {
+        constraint: Bounded::Range {
+            start: Some(0),
+            end: Some(100),
+        },
+        extensible: false,
+    }),
+    size: None,
+};
+
+/// The kind of the refusal of 200.
+pub const NO_PERCENTAGE: &str =
+    "ValueConstraintNotSatisfied { value: Integer { octets: [0, 200] }, expected: Range { start: Some(0), end: Some(100) } }";
+
 // 100 is within 0 to 100, and 200 isn't.
 #[test]
 fn refuses_numbers_out_of_bounds(rt: HostRuntime) {
     let alloc = rt.alloc();
     let mut encoder = new_encoder(&rt, alloc, Codec::Der);
     assert!(rt; encoder.codec() == Codec::Der);
-    let percentage = Constraints {
-        value: Some(Bound {
-            constraint: Bounded::Range {
-                start: Some(0),
-                end: Some(100),
-            },
-            extensible: false,
-        }),
-        size: None,
-    };
-    let answer = 200u8.encode_with_constraints(&mut encoder, &percentage, Identifier::EMPTY);
-    assert!(rt; answer.is_err());
-    done(
-        &rt,
-        100u8.encode_with_constraints(&mut encoder, &percentage, Identifier::EMPTY),
-    );
+    let answer = 200u8.encode_with_constraints(&mut encoder, &PERCENTAGE, Identifier::EMPTY);
+    refused(&rt, alloc, Codec::Der, answer, NO_PERCENTAGE);
+    let answer = 100u8.encode_with_constraints(&mut encoder, &PERCENTAGE, Identifier::EMPTY);
+    done(&rt, answer);
     holds(&rt, encoder.output(), &[0x02, 0x01, 0x64]);
 }

@@ -1,21 +1,27 @@
-use super::deep;
+use super::{ONE, any_of, deep};
 use crate::reading::{Octets, OctetsRow, decoder_of, gives, reads, reads_octets, told};
 use crate::whole::begins;
+use crate::writing::made;
 use rasn::de::Decode;
-use rasn::types::{Any, Class, Codec, Tag};
+use rasn::types::{Any, Codec};
 use std::alloc::Global;
 use std::process::Abort;
-
-/// \[1\]
-const ONE: Tag = Tag {
-    class: Class::Context,
-    value: 1,
-};
 
 impl Octets for Any {
     fn octets(&self) -> &[u8] {
         self.as_bytes()
     }
+}
+
+// Two are equal exactly if their octets are.
+#[test]
+fn holds_octets(rt: HostRuntime) {
+    let alloc = rt.alloc();
+    let null = made(&rt, any_of(alloc, &[0x05, 0x00]));
+    assert!(rt; null.as_bytes() == [0x05, 0x00].as_slice());
+    assert!(rt; null == made(&rt, any_of(alloc, &[0x05, 0x00])));
+    assert!(rt; null != made(&rt, any_of(alloc, &[0x05, 0x81, 0x00])));
+    assert!(rt; null != made(&rt, any_of(alloc, &[])));
 }
 
 // An open type without a tag is one whole encoding, closing octets included (X.690 8.15).

@@ -59,15 +59,11 @@ fn identifiers(
 #[test]
 fn writes_lists(rt: HostRuntime) {
     let alloc = rt.alloc();
-    let definite = [0x30, 0x06, 0x02, 0x01, 0x05, 0x02, 0x01, 0x07];
-    let indefinite = [0x30, 0x80, 0x02, 0x01, 0x05, 0x02, 0x01, 0x07, 0x00, 0x00];
-    for (rules, octets) in [
-        (Codec::Ber, definite.as_slice()),
-        (Codec::Der, definite.as_slice()),
-        (Codec::Cer, indefinite.as_slice()),
-    ] {
-        writes_made(&rt, alloc, rules, numbers(alloc, &[5, 7]), octets);
-    }
+    let definite = &[0x30, 0x06, 0x02, 0x01, 0x05, 0x02, 0x01, 0x07];
+    let indefinite = &[0x30, 0x80, 0x02, 0x01, 0x05, 0x02, 0x01, 0x07, 0x00, 0x00];
+    writes_made(&rt, alloc, Codec::Ber, numbers(alloc, &[5, 7]), definite);
+    writes_made(&rt, alloc, Codec::Der, numbers(alloc, &[5, 7]), definite);
+    writes_made(&rt, alloc, Codec::Cer, numbers(alloc, &[5, 7]), indefinite);
     writes_made(&rt, alloc, Codec::Der, numbers(alloc, &[]), &[0x30, 0x00]);
     assert!(rt; made(&rt, numbers(alloc, &[])).is_present());
 }

@@ -1,13 +1,12 @@
 //! Optional and default values, prefixes and extension additions are read.
 
-use crate::reading::{decoder_of, reads, told, within};
+use crate::reading::{decoder_of, facts, reads, reads_default, told, within};
 use crate::types::{Counted, Zero};
 use rasn_de::ber::de::Decoder;
 use rasn_de::de::{Decode, Error};
 use rasn_types::error::DecodeError;
 use rasn_types::types::{Class, Codec, Constraints, Explicit, Implicit, Tag};
 use std::alloc::AllocError;
-use std::process::Abort;
 
 const SMALLER_THAN_11: &str =
     "ValueConstraintNotSatisfied { value: Integer { octets: [11] }, expected: Range { start: Some(0), end: Some(10) } }";
@@ -56,11 +55,6 @@ fn is_number(answer: Result<Option<u8>, DecodeError>, number: Option<u8>) -> boo
     }
 }
 
-/// Holds the number that a call answers, or that there is none.
-fn number(rt: &impl Abort, answer: Result<Option<u8>, DecodeError>, number: Option<u8>) {
-    assert!(rt; is_number(answer, number), "{number:?}");
-}
-
 // Each call reads a value, and none at the end.
 #[test]
 fn reads_optional_values(rt: HostRuntime) {
@@ -69,26 +63,28 @@ fn reads_optional_values(rt: HostRuntime) {
         0x01, 0x05,
     ];
     let mut decoder = decoder_of(rt.alloc(), &octets, Codec::Der);
-    number(&rt, decoder.decode_optional(), Some(5));
-    number(&rt, decoder.decode_optional_with_tag(context(0)), Some(5));
-    number(
+    let small = small();
+    facts(
         &rt,
-        decoder.decode_optional_with_constraints(&small()),
-        Some(10),
-    );
-    let answer = decoder.decode_optional_with_tag_and_constraints(context(1), &small());
-    number(&rt, answer, Some(10));
-    number(
-        &rt,
-        decoder.decode_optional_with_explicit_prefix(context(2)),
-        Some(5),
-    );
-    assert!(rt; decoder.remaining().is_empty());
-    number(&rt, decoder.decode_optional_with_tag(context(0)), None);
-    number(
-        &rt,
-        decoder.decode_optional_with_explicit_prefix(context(2)),
-        None,
+        &[
+            is_number(decoder.decode_optional(), Some(5)),
+            is_number(decoder.decode_optional_with_tag(context(0)), Some(5)),
+            is_number(decoder.decode_optional_with_constraints(&small), Some(10)),
+            is_number(
+                decoder.decode_optional_with_tag_and_constraints(context(1), &small),
+                Some(10),
+            ),
+            is_number(
+                decoder.decode_optional_with_explicit_prefix(context(2)),
+                Some(5),
+            ),
+            decoder.remaining().is_empty(),
+            is_number(decoder.decode_optional_with_tag(context(0)), None),
+            is_number(
+                decoder.decode_optional_with_explicit_prefix(context(2)),
+                None,
+            ),
+        ],
     );
 }
 
@@ -104,17 +100,16 @@ fn constrains_optional_values(rt: HostRuntime) {
 // INTEGER DEFAULT 7, where it comes, at the end, and before another tag.
 #[test]
 fn reads_defaults(rt: HostRuntime) {
-    for (octets, text, taken) in [
-        ([0x02, 0x01, 0x05].as_slice(), "5", 3),
-        ([0x02, 0x01, 0x07].as_slice(), "7", 3),
-        ([].as_slice(), "7", 0),
-        ([0x01, 0x01, 0xFF].as_slice(), "7", 0),
-    ] {
-        let mut decoder = decoder_of(rt.alloc(), octets, Codec::Ber);
-        let answer = decoder.decode_default::<u8, _>(|| Ok(7));
-        told(&rt, rt.alloc(), Codec::Ber, answer, text);
-        assert!(rt; decoder.decoded_len() == taken);
-    }
+    reads_default(
+        &rt,
+        rt.alloc(),
+        &[
+            (&[0x02, 0x01, 0x05], Codec::Ber, "5", 3),
+            (&[0x02, 0x01, 0x07], Codec::Ber, "7", 3),
+            (&[], Codec::Ber, "7", 0),
+            (&[0x01, 0x01, 0xFF], Codec::Ber, "7", 0),
+        ],
+    );
 }
 
 // Each call reads a value, and its default at the end.
@@ -165,9 +160,9 @@ fn reads_a_default_in_a_sequence(rt: HostRuntime) {
 // A group of additions is there, or is left out.
 #[test]
 fn reads_a_group(rt: HostRuntime) {
-    let octets = [0x30, 0x03, 0x02, 0x01, 0x05, 0x02, 0x01, 0x07];
-    let mut decoder = decoder_of(rt.alloc(), &octets, Codec::Der);
-    for text in ["Some(Counted { number: 5 })", "None"] {
+    let octets = &[0x30, 0x03, 0x02, 0x01, 0x05, 0x02, 0x01, 0x07];
+    let mut decoder = decoder_of(rt.alloc(), octets, Codec::Der);
+    for text in &["Some(Counted { number: 5 })", "None"] {
         let answer = decoder.decode_extension_addition_group::<1, 0, Counted>();
         told(&rt, rt.alloc(), Codec::Der, answer, text);
     }
@@ -189,9 +184,14 @@ fn prefixed_addition(decoder: &mut Decoder<'_>) -> Result<Option<u8>, DecodeErro
 fn reads_additions(rt: HostRuntime) {
     let octets = [0x81, 0x01, 0x0B, 0xA0, 0x03, 0x02, 0x01, 0x05];
     let mut decoder = decoder_of(rt.alloc(), &octets, Codec::Der);
-    number(&rt, addition(&mut decoder), Some(11));
-    number(&rt, prefixed_addition(&mut decoder), Some(5));
-    number(&rt, addition(&mut decoder), None);
+    facts(
+        &rt,
+        &[
+            is_number(addition(&mut decoder), Some(11)),
+            is_number(prefixed_addition(&mut decoder), Some(5)),
+            is_number(addition(&mut decoder), None),
+        ],
+    );
     let missing = "Incomplete { needed: Size(1) }";
     let mut ber = decoder_of(rt.alloc(), &[], Codec::Ber);
     told(
@@ -206,31 +206,26 @@ fn reads_additions(rt: HostRuntime) {
 // [0] EXPLICIT INTEGER, with the constructed bit and without, of either length form.
 #[test]
 fn reads_prefixes(rt: HostRuntime) {
-    let octets = [
+    let octets = &[
         0xA0, 0x03, 0x02, 0x01, 0x05, 0x80, 0x03, 0x02, 0x01, 0x05, 0xA0, 0x80, 0x02, 0x01, 0x05,
         0x00, 0x00,
     ];
-    let mut decoder = decoder_of(rt.alloc(), &octets, Codec::Ber);
-    for taken in [5, 10, 17] {
+    let mut decoder = decoder_of(rt.alloc(), octets, Codec::Ber);
+    for taken in &[5, 10, 17] {
         let answer = decoder.decode_explicit_prefix::<u8>(context(0));
         told(&rt, rt.alloc(), Codec::Ber, answer, "5");
-        assert!(rt; decoder.decoded_len() == taken);
+        assert!(rt; decoder.decoded_len() == *taken);
     }
 }
 
 // What stands behind the value inside is too much, and takes the prefix with it.
 #[test]
 fn holds_one_value(rt: HostRuntime) {
-    let octets = [0xA0, 0x05, 0x02, 0x01, 0x05, 0x05, 0x00, 0x01];
-    let mut decoder = decoder_of(rt.alloc(), &octets, Codec::Ber);
+    let octets = &[0xA0, 0x05, 0x02, 0x01, 0x05, 0x05, 0x00, 0x01];
+    let mut decoder = decoder_of(rt.alloc(), octets, Codec::Ber);
     let answer = decoder.decode_explicit_prefix::<u8>(context(0));
-    told(
-        &rt,
-        rt.alloc(),
-        Codec::Ber,
-        answer,
-        "UnexpectedExtraData { length: 2 }",
-    );
+    let more = "UnexpectedExtraData { length: 2 }";
+    told(&rt, rt.alloc(), Codec::Ber, answer, more);
     assert!(rt; decoder.decoded_len() == 7);
 }
 
@@ -247,14 +242,14 @@ fn explicit(decoder: &mut Decoder<'_>) -> Result<u8, DecodeError> {
 // [0] IMPLICIT INTEGER and [0] EXPLICIT INTEGER, the latter without the constructed bit, which DER refuses (X.690 8.14.2), and with it.
 #[test]
 fn reads_under_named_tags(rt: HostRuntime) {
-    let octets = [
+    let octets = &[
         0x80, 0x01, 0x05, 0x80, 0x03, 0x02, 0x01, 0x05, 0xA0, 0x03, 0x02, 0x01, 0x05,
     ];
-    for rules in [Codec::Ber, Codec::Cer] {
-        let mut decoder = decoder_of(rt.alloc(), &octets, rules);
-        told(&rt, rt.alloc(), rules, implicit(&mut decoder), "5");
-        told(&rt, rt.alloc(), rules, explicit(&mut decoder), "5");
-        told(&rt, rt.alloc(), rules, explicit(&mut decoder), "5");
+    for rules in &[Codec::Ber, Codec::Cer] {
+        let mut decoder = decoder_of(rt.alloc(), octets, *rules);
+        told(&rt, rt.alloc(), *rules, implicit(&mut decoder), "5");
+        told(&rt, rt.alloc(), *rules, explicit(&mut decoder), "5");
+        told(&rt, rt.alloc(), *rules, explicit(&mut decoder), "5");
         assert!(rt; decoder.remaining().is_empty());
     }
 }

@@ -1,5 +1,5 @@
 use crate::parts::lists::lists;
-use crate::reading::reads;
+use crate::reading::{facts, reads, value};
 use crate::whole::{answers, decoded, encoded, rewrites};
 use crate::writing::{holds_pieces, made};
 use rasn::types::Codec;
@@ -72,29 +72,27 @@ fn lists_of_lists_are_written(rt: HostRuntime) {
 #[test]
 fn additions_may_be_absent(rt: HostRuntime) {
     let alloc = rt.alloc();
-    let all = [
+    let all = &[
         0x30, 0x0E, 0x01, 0x01, 0xFF, 0x81, 0x01, 0x05, 0x30, 0x06, 0x02, 0x01, 0x07, 0x01, 0x01,
         0x00,
     ];
-    let bare = [0x30, 0x03, 0x01, 0x01, 0xFF];
-    assert!(rt;
-        decoded::<Grouped>(alloc, Codec::Ber, &all).is_ok_and(|all| all.truth
-            && all.number.is_some()
-            && all.group.is_some())
+    let bare = &[0x30, 0x03, 0x01, 0x01, 0xFF];
+    let read = value(&rt, decoded::<Grouped>(alloc, Codec::Ber, all));
+    facts(
+        &rt,
+        &[read.truth, read.number.is_some(), read.group.is_some()],
     );
-    assert!(rt;
-        decoded::<Grouped>(alloc, Codec::Ber, &bare).is_ok_and(|bare| bare.number.is_none()
-            && bare.group.is_none())
-    );
+    let read = value(&rt, decoded::<Grouped>(alloc, Codec::Ber, bare));
+    facts(&rt, &[read.number.is_none(), read.group.is_none()]);
     rewrites::<Grouped>(
         &rt,
         alloc,
         &[
-            (&all, Codec::Ber, Codec::Der, &all),
-            (&bare, Codec::Ber, Codec::Der, &bare),
+            (all, Codec::Ber, Codec::Der, all),
+            (bare, Codec::Ber, Codec::Der, bare),
         ],
     );
-    let other = [0x30, 0x06, 0x01, 0x01, 0xFF, 0x82, 0x01, 0x05];
+    let other = &[0x30, 0x06, 0x01, 0x01, 0xFF, 0x82, 0x01, 0x05];
     let kind = "UnexpectedExtraData { length: 3 }";
-    answers::<Grouped>(&rt, alloc, &[(&other, Codec::Ber, kind)]);
+    answers::<Grouped>(&rt, alloc, &[(other, Codec::Ber, kind)]);
 }

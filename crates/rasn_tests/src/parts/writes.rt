@@ -1,12 +1,12 @@
+use crate::leaves::writes::{NO_PERCENTAGE, PERCENTAGE};
+use crate::reading::facts;
 use crate::types::{Counted, Zero};
 use crate::writing::{done, holds, new_encoder, refused, writes};
 use rasn_enc::ber::enc::Encoder;
 use rasn_enc::enc::Encode;
-use rasn_types::error::{EncodeError, EncodeErrorKind};
-use rasn_types::types::{
-    Bound, Bounded, Class, Codec, Constraints, Explicit, Identifier, Implicit, Integer, Tag,
-};
-use std::alloc::{AllocError, Global};
+use rasn_types::error::EncodeError;
+use rasn_types::types::{Class, Codec, Constraints, Explicit, Identifier, Implicit, Tag};
+use std::alloc::AllocError;
 
 /// \[0\]
 const ZERO: Tag = Tag {
@@ -15,21 +15,6 @@ const ZERO: Tag = Tag {
 };
 
 const NONE: Identifier = Identifier::EMPTY;
-
-/// 0 to 100.
-const HUNDRED: Bounded<i128> = Bounded::Range {
-    start: Some(0),
-    end: Some(100),
-};
-
-/// INTEGER (0..100)
-const PERCENTAGE: Constraints = Constraints {
-    value: Some(Bound {
-        constraint: HUNDRED,
-        extensible: false,
-    }),
-    size: None,
-};
 
 #[test]
 fn writes_options(rt: HostRuntime) {
@@ -44,9 +29,11 @@ fn writes_options(rt: HostRuntime) {
     );
     writes::<Option<Option<bool>>>(&rt, alloc, &[(Some(None), Codec::Der, &[])]);
     let absent: Option<bool> = None;
-    assert!(rt; Some(true).is_present());
-    assert!(rt; !absent.is_present());
-    assert!(rt; !Some(absent).is_present());
+    let present = Some(true).is_present();
+    facts(
+        &rt,
+        &[present, !absent.is_present(), !Some(absent).is_present()],
+    );
 }
 
 #[test]
@@ -62,29 +49,13 @@ fn calls_write_options(rt: HostRuntime) {
     holds(&rt, encoder.output(), &octets);
 }
 
-/// Whether a call refuses the number of these octets under DER, as one that isn't a percentage.
-fn is_no_percentage(alloc: Global, answer: Result<(), EncodeError>, octets: &[u8]) -> bool {
-    match (answer, Integer::from_octets(alloc, octets)) {
-        (
-            Err(
-                EncodeError {
-                    kind: EncodeErrorKind::ValueConstraintNotSatisfied { value, expected },
-                    codec: Codec::Der,
-                },
-            ),
-            Ok(Some(number)),
-        ) => value == number && expected == HUNDRED,
-        _ => false,
-    }
-}
-
 // 200 isn't within 0 to 100.
 #[test]
 fn refused_options_write_nothing(rt: HostRuntime) {
     let alloc = rt.alloc();
     let mut encoder = new_encoder(&rt, alloc, Codec::Der);
     let answer = encoder.encode_some_with_tag_and_constraints(ZERO, &PERCENTAGE, &200u8, NONE);
-    assert!(rt; is_no_percentage(alloc, answer, &[0x00, 0xC8]));
+    refused(&rt, alloc, Codec::Der, answer, NO_PERCENTAGE);
     holds(&rt, encoder.output(), &[]);
 }
 
@@ -178,10 +149,15 @@ fn writes_under_named_tags(rt: HostRuntime) {
 
 #[test]
 fn named_tags_keep_presence(rt: HostRuntime) {
-    assert!(rt; Explicit::<Zero, u8>::new(5).is_present());
-    assert!(rt; Implicit::<Zero, u8>::new(5).is_present());
-    assert!(rt; !Explicit::<Zero, Option<u8>>::new(None).is_present());
-    assert!(rt; !Implicit::<Zero, Option<u8>>::new(None).is_present());
+    facts(
+        &rt,
+        &[
+            Explicit::<Zero, u8>::new(5).is_present(),
+            Implicit::<Zero, u8>::new(5).is_present(),
+            !Explicit::<Zero, Option<u8>>::new(None).is_present(),
+            !Implicit::<Zero, Option<u8>>::new(None).is_present(),
+        ],
+    );
 }
 
 #[test]

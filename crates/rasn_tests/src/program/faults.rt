@@ -1,6 +1,7 @@
+use crate::reading::facts;
 use rasn_bench::{RunFault, file_of, run};
 use std::alloc::{AllocError, Global};
-use std::io::{self, BufReader, Error, ErrorKind, Read, Write};
+use std::io::{self, BufRead, BufReader, Error, ErrorKind, Read, Write};
 
 /// Gives some octets, and then fails.
 #[derive(Drop)]
@@ -32,31 +33,38 @@ impl Write for Full {
     }
 }
 
+/// Whether the work stops with this fault, behind the answer to a good line.
+fn stops<R: BufRead>(alloc: Global, input: &mut R, fault: RunFault) -> bool {
+    let mut output = Vec::new(alloc);
+    run(alloc, input, &mut output) == Err(fault)
+        && output.as_slice() == b"BOOLEAN 0 010100\n".as_slice()
+}
+
 /// Whether a reader of a good line that then fails stops the work with this fault, behind the line's answer.
 fn is_stopped(alloc: Global, kind: ErrorKind, fault: RunFault) -> bool {
     let before = b"ber bool 010100\nber";
-    let Ok(mut input) = BufReader::new(alloc, Failing { before, kind }) else {
-        return false;
-    };
-    let mut output = Vec::new(alloc);
-    let answer = run(alloc, &mut input, &mut output);
-    answer == Err(fault) && output.as_slice() == b"BOOLEAN 0 010100\n".as_slice()
+    match BufReader::new(alloc, Failing { before, kind }) {
+        Ok(mut input) => stops(alloc, &mut input, fault),
+        Err(_) => false,
+    }
 }
 
 #[test]
 fn failing_readers_are_faults(rt: HostRuntime) {
     let alloc = rt.alloc();
-    assert!(rt; is_stopped(alloc, ErrorKind::BrokenPipe, RunFault::Read));
-    assert!(rt; is_stopped(alloc, ErrorKind::OutOfMemory, RunFault::Memory));
+    facts(
+        &rt,
+        &[
+            is_stopped(alloc, ErrorKind::BrokenPipe, RunFault::Read),
+            is_stopped(alloc, ErrorKind::OutOfMemory, RunFault::Memory),
+        ],
+    );
 }
 
 #[test]
 fn other_octets_than_utf8_are_faults(rt: HostRuntime) {
     let mut input = b"ber bool 010100\nber bool \xFF\n".as_slice();
-    let mut output = Vec::new(rt.alloc());
-    let answer = run(rt.alloc(), &mut input, &mut output);
-    assert!(rt; answer == Err(RunFault::Read));
-    assert!(rt; output.as_slice() == b"BOOLEAN 0 010100\n".as_slice());
+    assert!(rt; stops(rt.alloc(), &mut input, RunFault::Read));
 }
 
 #[test]
@@ -74,11 +82,52 @@ fn arguments(alloc: Global, words: &[&str]) -> Result<Vec<String>, AllocError> {
     Ok(arguments)
 }
 
+/// Whether the arguments ask to normalise, as told, and tell this file.
+fn are_read(alloc: Global, words: &[&str], normalises: bool, file: Option<&str>) -> bool {
+    match arguments(alloc, words) {
+        Ok(arguments) => file_of(&arguments) == Ok((normalises, file)),
+        Err(_) => false,
+    }
+}
+
+/// Whether the arguments are refused, with the way that the program is called.
+fn are_refused(alloc: Global, words: &[&str]) -> bool {
+    let Ok(arguments) = arguments(alloc, words) else {
+        return false;
+    };
+    match file_of(&arguments) {
+        Ok(_) => false,
+        Err(usage) => match format!(in alloc; "{usage}") {
+            Ok(text) => text.as_str() == "usage: rasn-vectors [--normalise] [file]",
+            Err(_) => false,
+        },
+    }
+}
+
 #[test]
-fn one_file_is_named(rt: HostRuntime) {
-    assert!(rt; file_of(&[]) == Ok(None));
-    let one = arguments(rt.alloc(), &["lines"]);
-    assert!(rt; one.is_ok_and(|one| file_of(&one) == Ok(Some("lines"))));
-    let two = arguments(rt.alloc(), &["a", "b"]);
-    assert!(rt; two.is_ok_and(|two| file_of(&two).is_err()));
+fn an_option_and_a_file_are_named(rt: HostRuntime) {
+    let alloc = rt.alloc();
+    facts(
+        &rt,
+        &[
+            are_read(alloc, &[], false, None),
+            are_read(alloc, &["lines"], false, Some("lines")),
+            are_read(alloc, &["--normalise"], true, None),
+            are_read(alloc, &["--normalise", "lines"], true, Some("lines")),
+            are_read(alloc, &["--normalize"], false, Some("--normalize")),
+        ],
+    );
+}
+
+#[test]
+fn other_arguments_are_refused(rt: HostRuntime) {
+    let alloc = rt.alloc();
+    facts(
+        &rt,
+        &[
+            are_refused(alloc, &["a", "b"]),
+            are_refused(alloc, &["lines", "--normalise"]),
+            are_refused(alloc, &["--normalise", "a", "b"]),
+        ],
+    );
 }

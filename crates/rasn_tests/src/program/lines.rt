@@ -220,6 +220,38 @@ der utctime 17113939313233313233353935392B30303030 -> refused InvalidDate
 der utctime 170B313830313232313332395A -> refused InvalidDate
 der utctime 170D3939313233313233353935395A -> TIME 0 170D3939313233313233353935395A
 der gentime 180E3230313830363133313130303030 -> refused InvalidDate
+ber any 30800201010000 -> ANY 0 30800201010000
+der rdn 310B300906035504030C024142 -> SET 0 310B300906035504030C024142
+ber any 30800500 -> refused Incomplete
+ber any 020105 -> ANY 0 020105
+ber any 30800000 -> ANY 0 30800000
+der any 30800000 -> refused IndefiniteLengthNotAllowed
+ber any 308000 -> refused UnexpectedEndOfContents
+ber any 0000 -> refused UnexpectedEndOfContents
+der algid 300606012A058100 -> SEQUENCE 0 300606012A058100
+ber algid 300606012A058100 -> SEQUENCE 0 300606012A058100
+ber any 3080308002010100000401000000020102 -> ANY 3 3080308002010100000401000000
+ber algid 300D06092A864886F70D0101010500 -> SEQUENCE 0 300D06092A864886F70D0101010500
+ber rdn 310B300906035504030C024142 -> SET 0 310B300906035504030C024142
+cer algid 300D06092A864886F70D0101010500 -> SEQUENCE 0 300D06092A864886F70D0101010500
+cer rdn 310B300906035504030C024142 -> SET 0 310B300906035504030C024142
+der algid 300D06092A864886F70D0101010500 -> SEQUENCE 0 300D06092A864886F70D0101010500
+ber any 1A054A6F6E6573 -> ANY 0 1A054A6F6E6573
+ber any 3080F0F0F0F00000 -> refused Incomplete
+ber set3 3109820103810102800101 -> SET 0 3109800101810102820103
+cer set3 3109820103810102800101 -> SET 0 3109800101810102820103
+der set3 3109820103810102800101 -> refused SetComponentsOutOfOrder
+ber set3 3109800101810102820103 -> SET 0 3109800101810102820103
+cer set3 3109800101810102820103 -> SET 0 3109800101810102820103
+der set3 3109800101810102820103 -> SET 0 3109800101810102820103
+ber set3 3106800101800101 -> refused DuplicateField
+ber set3 3106800101810102 -> refused MissingField
+ber bag 310E040101040102040201FF04020201 -> SET 0 310E040101040102040201FF04020201
+cer bag 310E040101040102040201FF04020201 -> SET 0 310E040101040102040201FF04020201
+der bag 310E040101040102040201FF04020201 -> SET 0 310E040101040102040201FF04020201
+ber bag 3106040102040101 -> SET 0 refused SetOutOfOrder
+cer bag 3106040102040101 -> SET 0 refused SetOutOfOrder
+der bag 3106040102040101 -> refused SetOfOutOfOrder
 ";
 
 /// Whether these lines have these answers, and whether all of them are well-formed.
@@ -251,26 +283,29 @@ fn lines_are_answered(rt: HostRuntime) {
     }
 }
 
+/// Lines, their answers, and whether all of them are well-formed.
+const LINES: &[(&str, &str, bool)] = &[
+    ("", "", true),
+    ("\n\n", "", true),
+    (
+        "ber bool 010100\n\nber u32 020107",
+        "BOOLEAN 0 010100\nINTEGER 0 020107\n",
+        true,
+    ),
+    ("ber bool 010100\n", "BOOLEAN 0 010100\n", true),
+    ("ber bool 010100\r\n", "malformed\n", false),
+    (
+        "\r\nber bool 010100",
+        "malformed\nBOOLEAN 0 010100\n",
+        false,
+    ),
+];
+
 #[test]
 fn lines_end_by_line_feeds(rt: HostRuntime) {
-    for (lines, answers, well_formed) in [
-        ("", "", true),
-        ("\n\n", "", true),
-        (
-            "ber bool 010100\n\nber u32 020107",
-            "BOOLEAN 0 010100\nINTEGER 0 020107\n",
-            true,
-        ),
-        ("ber bool 010100\n", "BOOLEAN 0 010100\n", true),
-        ("ber bool 010100\r\n", "malformed\n", false),
-        (
-            "\r\nber bool 010100",
-            "malformed\nBOOLEAN 0 010100\n",
-            false,
-        ),
-    ] {
+    for (lines, answers, well_formed) in LINES {
         assert!(rt;
-            are_answered(rt.alloc(), lines, answers, well_formed),
+            are_answered(rt.alloc(), lines, answers, *well_formed),
             "{lines}"
         );
     }

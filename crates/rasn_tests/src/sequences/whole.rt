@@ -7,7 +7,6 @@ use rasn_bench::{Both, Pair};
 
 #[test]
 fn refusals_tell_what_is_wrong(rt: HostRuntime) {
-    let ber = Codec::Ber;
     reads::<Pair>(
         &rt,
         rt.alloc(),
@@ -16,25 +15,25 @@ fn refusals_tell_what_is_wrong(rt: HostRuntime) {
                 &[
                     0x30, 0x09, 0x02, 0x01, 0x05, 0x01, 0x01, 0x00, 0x02, 0x01, 0x06,
                 ],
-                ber,
+                Codec::Ber,
                 "UnexpectedExtraData { length: 3 }",
                 11,
             ),
             (
                 &[0x30, 0x03, 0x02, 0x01, 0x05],
-                ber,
+                Codec::Ber,
                 "Incomplete { needed: Size(1) }",
                 5,
             ),
             (
                 &[0x10, 0x00],
-                ber,
+                Codec::Ber,
                 "CodecSpecific { inner: Ber(InvalidConstructedIdentifier) }",
                 2,
             ),
             (
                 &[0x30, 0x80, 0x02, 0x01, 0x05, 0x01, 0x01, 0xFF],
-                ber,
+                Codec::Ber,
                 "Incomplete { needed: Size(2) }",
                 8,
             ),
@@ -42,7 +41,7 @@ fn refusals_tell_what_is_wrong(rt: HostRuntime) {
                 &[
                     0x30, 0x80, 0x02, 0x01, 0x05, 0x01, 0x01, 0xFF, 0x02, 0x01, 0x05,
                 ],
-                ber,
+                Codec::Ber,
                 "CodecSpecific { inner: Ber(MissingEndOfContents) }",
                 8,
             ),

@@ -1,3 +1,4 @@
+use crate::reading::facts;
 use crate::writing::made;
 use rasn_types::types::SetOf;
 use std::alloc::{AllocError, Global};
@@ -14,28 +15,34 @@ fn bag(alloc: Global, numbers: &[u8]) -> Result<Option<SetOf<u8>>, AllocError> {
 fn keeps_the_walk(rt: HostRuntime) {
     let alloc = rt.alloc();
     let mut bag = made(&rt, bag(alloc, &[3, 1, 3]));
-    assert!(rt; bag.len() == 3);
-    assert!(rt; bag.insert(2).is_ok());
-    assert!(rt; bag.as_slice() == [3, 1, 3, 2].as_slice());
-    assert!(rt; bag.iter().eq([3, 1, 3, 2].iter()));
-    assert!(rt; !bag.is_empty());
-    assert!(rt; bag.into_vec().as_slice() == [3, 1, 3, 2].as_slice());
+    facts(
+        &rt,
+        &[
+            bag.len() == 3,
+            bag.insert(2).is_ok(),
+            bag.as_slice() == [3, 1, 3, 2].as_slice(),
+            bag.iter().eq([3, 1, 3, 2].iter()),
+            !bag.is_empty(),
+            bag.into_vec().as_slice() == [3, 1, 3, 2].as_slice(),
+        ],
+    );
 }
 
 #[test]
 fn begins_without_elements(rt: HostRuntime) {
     let empty: SetOf<u8> = SetOf::new(rt.alloc());
-    assert!(rt; empty.is_empty());
-    assert!(rt; empty.len() == 0);
-    assert!(rt; empty.iter().next().is_none());
+    let next = empty.iter().next();
+    facts(&rt, &[empty.is_empty(), empty.len() == 0, next.is_none()]);
 }
 
 /// Holds whether the bags of these numbers are equal, either way round.
 fn are_equal(rt: &impl Abort, alloc: Global, first: &[u8], second: &[u8], equal: bool) {
     let first = made(rt, bag(alloc, first));
     let second = made(rt, bag(alloc, second));
-    assert!(rt; (first == second) == equal);
-    assert!(rt; (second == first) == equal);
+    facts(
+        rt,
+        &[(first == second) == equal, (second == first) == equal],
+    );
 }
 
 // The order doesn't count, but how often each element stands there does (X.680 28).

@@ -12,9 +12,8 @@ pub const OUT_OF_ORDER: &str = "CodecSpecific { inner: Ber(SetOutOfOrder) }";
 
 /// Holds what BER and DER write of the value against the octets: both have definite lengths.
 pub fn rises<T: Encode>(rt: &impl Abort, alloc: Global, value: &T, octets: &[u8]) {
-    for rules in [Codec::Ber, Codec::Der] {
-        holds(rt, encoded(alloc, rules, value), octets);
-    }
+    holds(rt, encoded(alloc, Codec::Ber, value), octets);
+    holds(rt, encoded(alloc, Codec::Der, value), octets);
 }
 
 /// Holds that these rules refuse the value for its order, and that what was written before it stays.
@@ -27,7 +26,7 @@ pub fn falls<T: Encode>(rt: &impl Abort, alloc: Global, rules: Codec, value: &T)
 
 /// Holds the same of each of the rules.
 pub fn always_falls<T: Encode>(rt: &impl Abort, alloc: Global, value: &T) {
-    for rules in [Codec::Ber, Codec::Cer, Codec::Der] {
-        falls(rt, alloc, rules, value);
+    for rules in &[Codec::Ber, Codec::Cer, Codec::Der] {
+        falls(rt, alloc, *rules, value);
     }
 }

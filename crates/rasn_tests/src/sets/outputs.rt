@@ -38,9 +38,9 @@ fn fill<T: Encode>(
 #[test]
 fn fills_vectors(rt: HostRuntime) {
     let alloc = rt.alloc();
-    for rules in [Codec::Ber, Codec::Cer, Codec::Der] {
+    for rules in &[Codec::Ber, Codec::Cer, Codec::Der] {
         let mut buffer = made(&rt, held(alloc));
-        done(&rt, fill(alloc, rules, &true, &mut buffer));
+        done(&rt, fill(alloc, *rules, &true, &mut buffer));
         assert!(rt; buffer.as_slice() == TRUE.as_slice());
     }
 }

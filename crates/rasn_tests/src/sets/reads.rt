@@ -1,26 +1,23 @@
-use crate::reading::{Row, decoder_of, reads, reads_within, sized};
+use super::bags::strings;
+use crate::reading::{Row, decoder_of, facts, reads, reads_within, sized};
 use rasn_de::de::Decode;
 use rasn_types::types::{Codec, OctetString, SetOf};
 use std::alloc::Global;
-use std::process::Abort;
 
 const OUT_OF_ORDER: &str = "CodecSpecific { inner: Der(SetOfOutOfOrder) }";
 
-/// Whether the octets are read, all of them, as a bag of these strings, in whatever walk.
-fn is_bag(rt: &impl Abort, alloc: Global, octets: &[u8], rules: Codec, strings: &[&[u8]]) -> bool {
+/// The bag that all of the octets are read as, where they are.
+fn bag_of(alloc: Global, octets: &[u8], rules: Codec) -> Option<SetOf<OctetString>> {
     let mut decoder = decoder_of(alloc, octets, rules);
-    match SetOf::<OctetString>::decode(&mut decoder) {
-        Ok(bag) => {
-            let expected = super::bags::strings(alloc, strings);
-            match expected {
-                Ok(Some(expected)) => bag == expected && decoder.remaining().is_empty(),
-                _ => {
-                    assert!(rt; false, "no memory");
-                    false
-                }
-            }
-        }
-        Err(_) => false,
+    let bag = SetOf::decode(&mut decoder).ok()?;
+    decoder.remaining().is_empty().then_some(bag)
+}
+
+/// Whether all of the octets are read as a bag, and that equals the bag of these strings, in whatever walk, or doesn't.
+fn is_bag(alloc: Global, octets: &[u8], rules: Codec, walk: &[&[u8]], equal: bool) -> bool {
+    match (bag_of(alloc, octets, rules), strings(alloc, walk)) {
+        (Some(bag), Ok(Some(expected))) => (bag == expected) == equal,
+        _ => false,
     }
 }
 
@@ -28,25 +25,36 @@ fn is_bag(rt: &impl Abort, alloc: Global, octets: &[u8], rules: Codec, strings: 
 #[test]
 fn reads_bags_in_any_order(rt: HostRuntime) {
     let alloc = rt.alloc();
-    let falling = [0x31, 0x06, 0x04, 0x01, 0x02, 0x04, 0x01, 0x01];
-    assert!(rt; is_bag(&rt, alloc, &falling, Codec::Ber, &[&[0x01], &[0x02]]));
-    assert!(rt; is_bag(&rt, alloc, &falling, Codec::Cer, &[&[0x02], &[0x01]]));
-    assert!(rt; !is_bag(&rt, alloc, &falling, Codec::Ber, &[&[0x01], &[0x01]]));
+    let falling = &[0x31, 0x06, 0x04, 0x01, 0x02, 0x04, 0x01, 0x01];
+    facts(
+        &rt,
+        &[
+            is_bag(alloc, falling, Codec::Ber, &[&[0x01], &[0x02]], true),
+            is_bag(alloc, falling, Codec::Cer, &[&[0x02], &[0x01]], true),
+            is_bag(alloc, falling, Codec::Ber, &[&[0x01], &[0x01]], false),
+        ],
+    );
 }
+
+const WALK: &[&[u8]] = &[&[0x01], &[0x02], &[0x01, 0xFF], &[0x02, 0x01]];
 
 // DER reads them in the order of their octets, equal ones too (X.690 11.6).
 #[test]
 fn reads_bags_in_order(rt: HostRuntime) {
     let alloc = rt.alloc();
-    let rising = [
+    let rising = &[
         0x31, 0x0E, 0x04, 0x01, 0x01, 0x04, 0x01, 0x02, 0x04, 0x02, 0x01, 0xFF, 0x04, 0x02, 0x02,
         0x01,
     ];
-    let walk: [&[u8]; 4] = [&[0x01], &[0x02], &[0x01, 0xFF], &[0x02, 0x01]];
-    assert!(rt; is_bag(&rt, alloc, &rising, Codec::Der, &walk));
-    let equal = [0x31, 0x06, 0x04, 0x01, 0x05, 0x04, 0x01, 0x05];
-    assert!(rt; is_bag(&rt, alloc, &equal, Codec::Der, &[&[0x05], &[0x05]]));
-    assert!(rt; is_bag(&rt, alloc, &[0x31, 0x00], Codec::Der, &[]));
+    let equal = &[0x31, 0x06, 0x04, 0x01, 0x05, 0x04, 0x01, 0x05];
+    facts(
+        &rt,
+        &[
+            is_bag(alloc, rising, Codec::Der, WALK, true),
+            is_bag(alloc, equal, Codec::Der, &[&[0x05], &[0x05]], true),
+            is_bag(alloc, &[0x31, 0x00], Codec::Der, &[], true),
+        ],
+    );
 }
 
 const FALLING: [Row; 4] = [

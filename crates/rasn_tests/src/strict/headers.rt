@@ -1,6 +1,6 @@
 //! Identifiers and lengths have one form. A refusal takes nothing.
 
-use crate::reading::{decoder_of, reads, told};
+use crate::reading::{looks, reads};
 use rasn_bench::Pair;
 use rasn_types::types::{Codec, OctetString};
 
@@ -32,20 +32,19 @@ fn tag_numbers_are_short(rt: HostRuntime) {
 // Where a tag is looked at, and where a value may be left out, too.
 #[test]
 fn tags_that_are_looked_at_are_short(rt: HostRuntime) {
-    let alloc = rt.alloc();
-    let octets = [0x1F, 0x01];
-    for (rules, text) in [
-        (Codec::Ber, "Tag { class: Universal, value: 1 }"),
-        (Codec::Cer, "Tag { class: Universal, value: 1 }"),
-        (Codec::Der, LONG_TAG),
-    ] {
-        let decoder = decoder_of(alloc, &octets, rules);
-        told(&rt, alloc, rules, decoder.peek_tag(), text);
-        assert!(rt; decoder.decoded_len() == 0);
-    }
+    let found = "Tag { class: Universal, value: 1 }";
+    looks(
+        &rt,
+        rt.alloc(),
+        &[
+            (&[0x1F, 0x01], Codec::Ber, found),
+            (&[0x1F, 0x01], Codec::Cer, found),
+            (&[0x1F, 0x01], Codec::Der, LONG_TAG),
+        ],
+    );
     reads::<Option<i32>>(
         &rt,
-        alloc,
+        rt.alloc(),
         &[
             (&[0x1F, 0x01], Codec::Ber, "None", 0),
             (&[0x1F, 0x01], Codec::Cer, "None", 0),

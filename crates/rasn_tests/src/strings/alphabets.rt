@@ -7,16 +7,19 @@ use rasn_types::types::{
 use std::alloc::Global;
 use std::process::Abort;
 
+/// An alphabet, octets, and the place of the first octet that isn't in it.
+const ALPHABETS: &[(Alphabet, &[u8], Option<usize>)] = &[
+    (Alphabet::Numeric, b"1 2a", Some(3)),
+    (Alphabet::Printable, b"A?*b", Some(2)),
+    (Alphabet::Visible, b"~ a\x7F", Some(3)),
+    (Alphabet::Ia5, b"A\x80\x81b", Some(1)),
+    (Alphabet::Every, b"\xC8\x00\xFFa", None),
+];
+
 #[test]
 fn alphabets_are_those_of_the_standard(rt: HostRuntime) {
-    for (alphabet, octets, foreign) in [
-        (Alphabet::Numeric, b"1 2a", Some(3)),
-        (Alphabet::Printable, b"A?*b", Some(2)),
-        (Alphabet::Visible, b"~ a\x7F", Some(3)),
-        (Alphabet::Ia5, b"A\x80\x81b", Some(1)),
-        (Alphabet::Every, b"\xC8\x00\xFFa", None),
-    ] {
-        assert!(rt; alphabet.first_foreign(octets) == foreign);
+    for (alphabet, octets, foreign) in ALPHABETS {
+        assert!(rt; alphabet.first_foreign(octets) == *foreign);
     }
 }
 

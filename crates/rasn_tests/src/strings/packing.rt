@@ -1,90 +1,80 @@
 //! Lists of bits as values.
 
+use crate::reading::facts;
+use crate::writing::made;
 use rasn_types::ber::gathered::GatheredBits;
 use rasn_types::types::{BitStr, BitString};
 use std::alloc::{AllocError, Global};
-use std::process::Abort;
 
-/// Holds the octets that the bits take behind another octet.
-fn packs(rt: &impl Abort, alloc: Global, bits: &BitStr<'_>, octets: &[u8]) {
-    let mut out = Vec::new(alloc);
-    assert!(rt;
-        out.push(7).is_ok() && bits.append_to(&mut out).is_ok(),
-        "no memory"
-    );
-    match out.as_slice() {
-        [7, packed @ ..] => assert_eq!(rt; packed, octets),
-        _ => assert!(rt; false, "{octets:?}"),
-    }
+/// Whether the bits take these octets behind another octet.
+fn are_packed(alloc: Global, bits: &BitStr<'_>, octets: &[u8]) -> bool {
+    let mut found = Vec::new(alloc);
+    found.push(7).is_ok()
+        && bits.append_to(&mut found).is_ok()
+        && found.strip_prefix(&[7]) == Some(octets)
 }
 
 // The bits 1,1,0,1,0,1,0,1,1,0,1 take two octets, whatever stands behind them, and from the second on they are ten.
 #[test]
 fn packs_bits(rt: HostRuntime) {
-    let octets = [0xD5, 0xBF];
-    assert!(rt; BitStr::new(&octets, 5, 12).is_none());
-    match BitStr::new(&octets, 0, 11) {
-        None => assert!(rt; false),
-        Some(bits) => {
-            assert!(rt; bits.len() == 11);
-            for (place, bit) in [(3, Some(true)), (9, Some(false)), (11, None)] {
-                assert!(rt; bits.get(place) == bit);
-            }
-            packs(&rt, rt.alloc(), &bits, &[0xD5, 0xA0]);
-            let (front, back) = bits.split_at(1);
-            assert!(rt; front.len() == 1);
-            assert!(rt; back.unused() == 6);
-            packs(&rt, rt.alloc(), &back, &[0xAB, 0x40]);
-        }
-    }
+    let alloc = rt.alloc();
+    let octets = &[0xD5, 0xBF];
+    let bits = made(&rt, Ok(BitStr::new(octets, 0, 11)));
+    assert!(rt; bits.len() == 11);
+    let (front, back) = bits.split_at(1);
+    facts(
+        &rt,
+        &[
+            BitStr::new(octets, 5, 12).is_none(),
+            bits.get(3) == Some(true),
+            bits.get(9) == Some(false),
+            bits.get(11).is_none(),
+            are_packed(alloc, &bits, &[0xD5, 0xA0]),
+            front.len() == 1,
+            back.unused() == 6,
+            are_packed(alloc, &back, &[0xAB, 0x40]),
+        ],
+    );
 }
 
 /// The first so many bits of the octets, where there are so many and memory for them.
-fn first_bits(rt: &impl Abort, alloc: Global, octets: &[u8], len: usize) -> Option<BitString> {
-    match Vec::from_slice(alloc, octets) {
-        Ok(octets) => BitString::new(octets, len),
-        Err(_) => panic!(rt; "no memory"),
-    }
+fn first_bits(alloc: Global, octets: &[u8], len: usize) -> Result<Option<BitString>, AllocError> {
+    let octets = Vec::from_slice(alloc, octets)?;
+    Ok(BitString::new(octets, len))
 }
 
 // Strings are equal by their bits alone.
 #[test]
 fn compares_bits(rt: HostRuntime) {
     let alloc = rt.alloc();
-    match (
-        first_bits(&rt, alloc, &[0xD5, 0xBF, 0x01], 11),
-        first_bits(&rt, alloc, &[0xD5, 0xA0], 11),
-    ) {
-        (Some(one), Some(other)) => {
-            assert!(rt; one == other);
-            assert!(rt; one.len() == 11);
-            assert!(rt; one.get(10) == Some(true));
-            assert!(rt; one.as_bitstr().len() == 11);
-        }
-        _ => assert!(rt; false),
-    }
-    assert!(rt; first_bits(&rt, alloc, &[0xD5], 9).is_none());
+    let one = made(&rt, first_bits(alloc, &[0xD5, 0xBF, 0x01], 11));
+    let other = made(&rt, first_bits(alloc, &[0xD5, 0xA0], 11));
+    facts(
+        &rt,
+        &[
+            one == other,
+            one.len() == 11,
+            one.get(10) == Some(true),
+            one.as_bitstr().len() == 11,
+            first_bits(alloc, &[0xD5], 9).is_ok_and(|none| none.is_none()),
+        ],
+    );
 }
 
-fn gathered(alloc: Global) -> Result<GatheredBits, AllocError> {
+/// Three bits, four and nine.
+fn gathered(alloc: Global) -> Result<Option<BitString>, AllocError> {
     let mut bits = GatheredBits::new(alloc);
     bits.append(&[0xE0], 5)?;
     bits.append(&[0xAF], 4)?;
     bits.append(&[0x80, 0x80], 7)?;
-    Ok(bits)
+    Ok(bits.into_string())
 }
 
 // Three bits and then four are seven, and nine more fill two octets.
 #[test]
 fn gathers_bits(rt: HostRuntime) {
-    match gathered(rt.alloc()) {
-        Ok(bits) => match bits.into_string() {
-            Some(bits) => {
-                assert!(rt; bits.len() == 16);
-                packs(&rt, rt.alloc(), &bits.as_bitstr(), &[0xF5, 0x01]);
-            }
-            None => assert!(rt; false),
-        },
-        Err(_) => assert!(rt; false, "no memory"),
-    }
+    let alloc = rt.alloc();
+    let bits = made(&rt, gathered(alloc));
+    let is_packed = are_packed(alloc, &bits.as_bitstr(), &[0xF5, 0x01]);
+    facts(&rt, &[bits.len() == 16, is_packed]);
 }

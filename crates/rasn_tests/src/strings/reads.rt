@@ -110,12 +110,11 @@ fn reads_each_type(rt: HostRuntime) {
 }
 
 #[test]
-fn calls_read_each_type(rt: HostRuntime) {
-    let octets = [
-        0x12, 0x01, 0x31, 0x13, 0x01, 0x41, 0x14, 0x01, 0xC8, 0x16, 0x01, 0x41, 0x19, 0x01, 0x41,
-        0x1A, 0x01, 0x41, 0x1B, 0x01, 0x41,
+fn calls_read_numeric_to_ia5(rt: HostRuntime) {
+    let octets = &[
+        0x12, 0x01, 0x31, 0x13, 0x01, 0x41, 0x14, 0x01, 0xC8, 0x16, 0x01, 0x41,
     ];
-    let mut decoder = decoder_of(rt.alloc(), &octets, Codec::Der);
+    let mut decoder = decoder_of(rt.alloc(), octets, Codec::Der);
     let any = Constraints::NONE;
     gives(
         &rt,
@@ -133,6 +132,14 @@ fn calls_read_each_type(rt: HostRuntime) {
         &[0xC8],
     );
     gives(&rt, decoder.decode_ia5_string(Tag::IA5_STRING, &any), b"A");
+    assert!(rt; decoder.decoded_len() == 12);
+}
+
+#[test]
+fn calls_read_graphic_to_general(rt: HostRuntime) {
+    let octets = &[0x19, 0x01, 0x41, 0x1A, 0x01, 0x41, 0x1B, 0x01, 0x41];
+    let mut decoder = decoder_of(rt.alloc(), octets, Codec::Der);
+    let any = Constraints::NONE;
     gives(
         &rt,
         decoder.decode_graphic_string(Tag::GRAPHIC_STRING, &any),
@@ -148,7 +155,7 @@ fn calls_read_each_type(rt: HostRuntime) {
         decoder.decode_general_string(Tag::GENERAL_STRING, &any),
         b"A",
     );
-    assert!(rt; decoder.decoded_len() == 21);
+    assert!(rt; decoder.decoded_len() == 9);
 }
 
 // Another length than the type's is told before a handed size.

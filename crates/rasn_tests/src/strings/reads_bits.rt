@@ -1,6 +1,6 @@
 //! BIT STRING is read.
 
-use crate::reading::{decoder_of, reads, reads_within, sized};
+use crate::reading::{decoder_of, reads, reads_within, sized, value};
 use rasn_de::de::Decode;
 use rasn_types::error::DecodeError;
 use rasn_types::types::{BitString, Codec, Constraints, Tag};
@@ -26,7 +26,7 @@ fn gives_bits(
 ) {
     match answer {
         Ok(bits) => {
-            assert_eq!(rt; bits.len(), len);
+            assert!(rt; bits.len() == len);
             match packed(alloc, &bits) {
                 Ok(found) => assert_eq!(rt; found.as_slice(), octets),
                 Err(_) => assert!(rt; false, "no memory"),
@@ -75,14 +75,9 @@ fn reads_bits_of_both_forms(rt: HostRuntime) {
     );
 }
 
-fn read_alike(alloc: Global, one: &[u8], other: &[u8]) -> bool {
-    match (
-        BitString::decode(&mut decoder_of(alloc, one, Codec::Ber)),
-        BitString::decode(&mut decoder_of(alloc, other, Codec::Ber)),
-    ) {
-        (Ok(one), Ok(other)) => one == other,
-        _ => false,
-    }
+fn bits_of(rt: &impl Abort, alloc: Global, octets: &[u8]) -> BitString {
+    let mut decoder = decoder_of(alloc, octets, Codec::Ber);
+    value(rt, BitString::decode(&mut decoder))
 }
 
 #[test]
@@ -90,7 +85,8 @@ fn calls_read_bits(rt: HostRuntime) {
     let mut decoder = decoder_of(rt.alloc(), PRIMITIVE, Codec::Ber);
     let answer = decoder.decode_bit_string(Tag::BIT_STRING, &Constraints::NONE);
     gives_bits(&rt, rt.alloc(), answer, 44, BITS);
-    assert!(rt; read_alike(rt.alloc(), PRIMITIVE, SEGMENTS));
+    let alloc = rt.alloc();
+    assert!(rt; bits_of(&rt, alloc, PRIMITIVE) == bits_of(&rt, alloc, SEGMENTS));
 }
 
 // A segment's faults take nothing; a size takes the value (X.690 8.6.2).

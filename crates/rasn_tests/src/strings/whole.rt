@@ -1,4 +1,4 @@
-use crate::reading::reads;
+use crate::reading::{facts, reads, value};
 use crate::whole::{answers, decoded, encoded, rewrites};
 use crate::writing::{Piece, holds_pieces, made, of_pieces, repeated};
 use rasn::de::Decode;
@@ -124,10 +124,10 @@ fn names_in_segments(rt: HostRuntime) {
     let basic = b"\x30\x80\x36\x80\x04\x02Sm\x04\x03ith\x00\x00\x01\x01\x01\x00\x00";
     let canonical = b"\x30\x80\x16\x05Smith\x01\x01\xFF\x00\x00";
     let distinguished = b"\x30\x0A\x16\x05Smith\x01\x01\xFF";
-    assert!(rt;
-        decoded::<Foo>(alloc, Codec::Ber, basic).is_ok_and(|foo| foo.first.as_octets()
-            == b"Smith".as_slice()
-            && foo.second)
+    let foo = value(&rt, decoded::<Foo>(alloc, Codec::Ber, basic));
+    facts(
+        &rt,
+        &[foo.first.as_octets() == b"Smith".as_slice(), foo.second],
     );
     rewrites::<Foo>(
         &rt,

@@ -3,10 +3,13 @@ use crate::writing::{
 };
 use rasn_enc::enc::Encode;
 use rasn_types::types::{
-    BmpString, Bound, Bounded, Codec, Constraints, FixedOctetString, GeneralString, GraphicString,
-    Ia5String, Identifier, NumericString, PrintableString, Tag, TeletexString, VisibleString,
+    BmpString, Bound, Bounded, Codec, Constraints, FixedOctetString, GeneralString, GeneralType,
+    GraphicString, GraphicType, Ia5String, Ia5Type, Identifier, NumericString, NumericType,
+    PrintableString, PrintableType, RestrictedString, StringType, Tag, TeletexString, TeletexType,
+    VisibleString, VisibleType,
 };
 use std::alloc::{AllocError, Global};
+use std::process::Abort;
 
 /// SIZE (2)
 const TWO: Constraints = Constraints {
@@ -29,36 +32,34 @@ fn letters(alloc: Global, letter: u8, count: usize) -> Result<Option<Ia5String>,
     Ia5String::from_octets(alloc, &octets)
 }
 
+/// Writes the string of these octets under DER, and holds what is written against the others.
+fn writes_string<S: StringType>(rt: &impl Abort, alloc: Global, octets: &[u8], written: &[u8]) {
+    let value = RestrictedString::<S>::from_octets(alloc, octets);
+    writes_made(rt, alloc, Codec::Der, value, written);
+}
+
 // The tags of X.680 8.4, table 1.
 #[test]
 fn writes_numeric_to_graphic(rt: HostRuntime) {
     let alloc = rt.alloc();
-    let der = Codec::Der;
-    let value = NumericString::from_octets(alloc, b"1");
-    writes_made(&rt, alloc, der, value, &[0x12, 0x01, 0x31]);
-    let value = PrintableString::from_octets(alloc, b"A");
-    writes_made(&rt, alloc, der, value, &[0x13, 0x01, 0x41]);
-    let value = TeletexString::from_octets(alloc, &[0xC8]);
-    writes_made(&rt, alloc, der, value, &[0x14, 0x01, 0xC8]);
-    let value = Ia5String::from_octets(alloc, b"Smith");
-    let octets = [0x16, 0x05, 0x53, 0x6D, 0x69, 0x74, 0x68];
-    writes_made(&rt, alloc, der, value, &octets);
-    let value = GraphicString::from_octets(alloc, b"A");
-    writes_made(&rt, alloc, der, value, &[0x19, 0x01, 0x41]);
+    writes_string::<NumericType>(&rt, alloc, b"1", &[0x12, 0x01, 0x31]);
+    writes_string::<PrintableType>(&rt, alloc, b"A", &[0x13, 0x01, 0x41]);
+    writes_string::<TeletexType>(&rt, alloc, &[0xC8], &[0x14, 0x01, 0xC8]);
+    let octets = &[0x16, 0x05, 0x53, 0x6D, 0x69, 0x74, 0x68];
+    writes_string::<Ia5Type>(&rt, alloc, b"Smith", octets);
+    writes_string::<GraphicType>(&rt, alloc, b"A", &[0x19, 0x01, 0x41]);
 }
 
 #[test]
 fn writes_visible_to_utf8(rt: HostRuntime) {
     let alloc = rt.alloc();
     let der = Codec::Der;
-    let value = VisibleString::from_octets(alloc, b"A");
-    writes_made(&rt, alloc, der, value, &[0x1A, 0x01, 0x41]);
-    let value = GeneralString::from_octets(alloc, b"A");
-    writes_made(&rt, alloc, der, value, &[0x1B, 0x01, 0x41]);
+    writes_string::<VisibleType>(&rt, alloc, b"A", &[0x1A, 0x01, 0x41]);
+    writes_string::<GeneralType>(&rt, alloc, b"A", &[0x1B, 0x01, 0x41]);
     let value = BmpString::from_octets(alloc, &[0x00, 0x41]);
     writes_made(&rt, alloc, der, value, &[0x1E, 0x02, 0x00, 0x41]);
-    let octets = [0x0C, 0x05, 0x4A, 0x6F, 0x6E, 0x65, 0x73];
-    writes_made(&rt, alloc, der, text(alloc, "Jones"), &octets);
+    let octets = &[0x0C, 0x05, 0x4A, 0x6F, 0x6E, 0x65, 0x73];
+    writes_made(&rt, alloc, der, text(alloc, "Jones"), octets);
     let value = FixedOctetString::<1>::new([0x41]);
     writes(&rt, alloc, &[(value, der, &[0x04, 0x01, 0x41])]);
 }
@@ -143,17 +144,20 @@ fn refuses_octets_out_of_bounds(rt: HostRuntime) {
     holds(&rt, encoder.output(), &[]);
 }
 
+/// How many octets there are, and the header before them.
+const LENGTHS: &[(usize, &[u8])] = &[
+    (127, &[0x04, 0x7F]),
+    (128, &[0x04, 0x81, 0x80]),
+    (256, &[0x04, 0x82, 0x01, 0x00]),
+];
+
 // From 128 octets on a length has octets of its own (X.690 8.1.3.5).
 #[test]
 fn writes_long_lengths(rt: HostRuntime) {
-    let alloc = rt.alloc();
-    for (count, header) in [
-        (127, [0x04, 0x7F].as_slice()),
-        (128, [0x04, 0x81, 0x80].as_slice()),
-        (256, [0x04, 0x82, 0x01, 0x00].as_slice()),
-    ] {
-        let octets = repeated(alloc, 0xAB, count);
-        writes_pieces(&rt, alloc, Codec::Ber, octets, &[(header, 0xAB, count)]);
+    for (count, header) in LENGTHS {
+        let octets = repeated(rt.alloc(), 0xAB, *count);
+        let pieces = [(*header, 0xAB, *count)];
+        writes_pieces(&rt, rt.alloc(), Codec::Ber, octets, &pieces);
     }
 }
 

@@ -1,7 +1,7 @@
 //! Times are read.
 
 use super::texts::{Seen, Timed, tells};
-use crate::reading::{decoder_of, reads};
+use crate::reading::{decoder_of, facts, reads, value};
 use rasn_de::de::Decode;
 use rasn_types::types::{Codec, Date, GeneralizedTime, UtcTime};
 use std::alloc::Global;
@@ -20,7 +20,7 @@ fn reads_times<T: Decode + Timed>(rt: &impl Abort, alloc: Global, rows: &[TimeRo
                 Err(text) => assert!(rt; tells(&error, *rules, text), "{octets:?} {rules:?}"),
             },
         }
-        assert_eq!(rt; decoder.decoded_len(), *taken, "{octets:?} {rules:?}");
+        assert!(rt; decoder.decoded_len() == *taken, "{octets:?} {rules:?}");
     }
 }
 
@@ -98,14 +98,7 @@ fn reads_days(rt: HostRuntime) {
 fn keeps_offsets(rt: HostRuntime) {
     let two = b"\x18\x1320230122130000-0500\x18\x0F20230122180000Z";
     let mut decoder = decoder_of(rt.alloc(), two, Codec::Ber);
-    match (
-        GeneralizedTime::decode(&mut decoder),
-        GeneralizedTime::decode(&mut decoder),
-    ) {
-        (Ok(west), Ok(utc)) => {
-            assert!(rt; west == utc);
-            assert!(rt; west.offset_minutes() == -300);
-        }
-        _ => assert!(rt; false),
-    }
+    let west = value(&rt, GeneralizedTime::decode(&mut decoder));
+    let utc = value(&rt, GeneralizedTime::decode(&mut decoder));
+    facts(&rt, &[west == utc, west.offset_minutes() == -300]);
 }

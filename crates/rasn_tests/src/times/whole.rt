@@ -1,4 +1,4 @@
-use crate::reading::reads;
+use crate::reading::{facts, reads, value};
 use crate::whole::{decoded, encoded, rewrites};
 use crate::writing::{holds, made};
 use rasn::types::{Codec, Date, GeneralizedTime, UtcTime};
@@ -29,10 +29,10 @@ fn generalized_times_in_utc(rt: HostRuntime) {
 fn leap_seconds(rt: HostRuntime) {
     let alloc = rt.alloc();
     let leap = b"\x18\x1120161231235960.5Z";
-    assert!(rt;
-        decoded::<GeneralizedTime>(alloc, Codec::Ber, leap).is_ok_and(|read| {
-            read.utc().second() == 59 && read.utc().nanosecond() == 1_500_000_000
-        })
+    let read = value(&rt, decoded::<GeneralizedTime>(alloc, Codec::Ber, leap)).utc();
+    facts(
+        &rt,
+        &[read.second() == 59, read.nanosecond() == 1_500_000_000],
     );
     rewrites::<GeneralizedTime>(&rt, alloc, &[(leap, Codec::Ber, Codec::Der, leap)]);
 }
@@ -60,10 +60,14 @@ fn far_days(rt: HostRuntime) {
 fn utc_times_with_a_century(rt: HostRuntime) {
     let alloc = rt.alloc();
     let eve = b"\x17\x11691231235900-0100";
-    assert!(rt;
-        decoded::<UtcTime>(alloc, Codec::Ber, eve).is_ok_and(|read| {
-            read.date().year() == 2070 && read.hour() == 0 && read.minute() == 59
-        })
+    let read = value(&rt, decoded::<UtcTime>(alloc, Codec::Ber, eve));
+    facts(
+        &rt,
+        &[
+            read.date().year() == 2070,
+            read.hour() == 0,
+            read.minute() == 59,
+        ],
     );
     let octets = b"\x17\x0D700101005900Z";
     rewrites::<UtcTime>(&rt, alloc, &[(eve, Codec::Ber, Codec::Der, octets)]);

@@ -2,6 +2,7 @@
 ghost use Rattle.std.specs.Prelude.{◌≡◌, IsTrue, ◌↔◌, if◌then◌else◌, nat_eq};
 ghost use Rattle.rasn_types.specs.Errors.{needed_of, IsMemory};
 
+use crate::hexadecimal::Hexadecimal;
 use crate::types::{Bounded, Codec, Integer, Tag};
 use thiserror::Error;
 
@@ -28,8 +29,8 @@ impl Needed {
 }
 
 /// Why a value isn't read, and under which rules.
-#[derive(Debug, Drop, Error)]
-#[error("{codec:?}: {kind}")]
+#[derive(Debug, PartialEq, Eq, Drop, Error)]
+#[error("{codec}: {kind}")]
 pub struct DecodeError {
     pub kind: DecodeErrorKind,
     pub codec: Codec,
@@ -45,106 +46,86 @@ impl DecodeError {
 }
 
 /// Why a value isn't read. Lengths, counts and positions are in octets unless told otherwise.
-#[derive(Debug, Drop, Error)]
+#[derive(Debug, PartialEq, Eq, Drop)]
 pub enum DecodeErrorKind {
     /// The input ends within a piece (X.690 8.1).
-    #[error("the input ends early: {needed:?}")]
     Incomplete {
         needed: Needed,
     },
     /// Octets are left where a value or an input has to end.
-    #[error("{length} octets are left")]
     UnexpectedExtraData {
         length: usize,
     },
     /// No octets stand where at least one has to.
-    #[error("no octets")]
     UnexpectedEmptyInput,
     /// Values are nested too deep.
-    #[error("values are nested too deep")]
     ExceedsMaxParseDepth,
     /// REAL isn't supported.
-    #[error("REAL isn't supported")]
     RealNotSupported,
     /// A growth of memory was refused.
-    #[error("out of memory")]
     OutOfMemory,
     /// A length, or a count of bits, of 2^64 or more.
-    #[error("a length of 2^64 or more")]
     LengthExceedsPlatformWidth,
     /// A BOOLEAN that is neither `00` nor `FF` under canonical rules (X.690 11.1).
-    #[error("{value} is no canonical BOOLEAN")]
     InvalidBool {
         value: u8,
     },
     /// Contents of a fixed length have another one.
-    #[error("{actual} octets stand where {expected} have to")]
     MismatchedLength {
         expected: usize,
         actual: usize,
     },
     /// The number needs more than `max_width` bits, or is negative where the type isn't.
-    #[error("the number doesn't fit {max_width} bits")]
     IntegerOverflow {
         max_width: u32,
     },
     /// The number isn't one of the enumeration's.
-    #[error("{discriminant} isn't in the enumeration")]
     DiscriminantValueNotFound {
         discriminant: isize,
     },
     /// The count of unused bits of a BIT STRING is above 7, or above 0 with no octet behind it (X.690 8.6.2).
-    #[error("{bits} unused bits")]
     InvalidBitString {
         bits: u8,
     },
     /// The size is out of its bound: of octets, characters, units, bits or elements, as the type counts.
-    #[error("a size of {size:?}, not in {expected:?}")]
     SizeConstraintNotSatisfied {
         size: Option<usize>,
         expected: Bounded<usize>,
     },
     /// The number is out of its bound.
-    #[error("{value:?}, not in {expected:?}")]
     ValueConstraintNotSatisfied {
         value: Integer,
         expected: Bounded<i128>,
     },
     /// The first octet that the alphabet doesn't have, at its place counted from 0.
-    #[error("octet {octet} at {position} isn't in the alphabet")]
     PermittedAlphabetError {
         octet: u8,
         position: usize,
     },
     /// The octets aren't of the string type with this tag.
-    #[error("no string of the type {tag:?}")]
     StringConversionFailed {
         tag: Tag,
     },
     /// No alternative of the CHOICE has the tag.
-    #[error("no alternative of {name}")]
     NoValidChoice {
         name: String,
     },
     /// A required part didn't come.
-    #[error("{name} is missing")]
     MissingField {
         name: String,
     },
     /// A part came twice.
-    #[error("{name} comes twice")]
     DuplicateField {
         name: String,
     },
     /// A cause that only these rules have.
-    #[error("{inner}")]
     CodecSpecific {
         inner: CodecDecodeError,
     },
 }
 
 /// A cause that only some rules have.
-#[derive(Debug, Drop, Error)]
+#[derive(Debug, PartialEq, Eq, Drop, Error)]
 pub enum CodecDecodeError {
     #[error("{0}")]
     Ber(BerDecodeErrorKind),
@@ -153,7 +134,7 @@ pub enum CodecDecodeError {
 }
 
 /// Causes of X.690 8, under all three rules.
-#[derive(Debug, Drop, Error)]
+#[derive(Debug, PartialEq, Eq, Drop, Error)]
 pub enum BerDecodeErrorKind {
     /// A tag number of 2^32 or more (X.690 8.1.2.4).
     #[error("a tag number of 2^32 or more")]
@@ -174,7 +155,7 @@ pub enum BerDecodeErrorKind {
     #[error("the first length octet is FF")]
     ReservedLengthOctet,
     /// Another tag than the expected one.
-    #[error("tag {actual:?} in the place of {expected:?}")]
+    #[error("tag {actual} instead of {expected}")]
     MismatchedTag { expected: Tag, actual: Tag },
     /// A SEQUENCE, SET or list without the constructed bit (X.690 8.9.1).
     #[error("a primitive identifier of a constructed type")]
@@ -183,7 +164,7 @@ pub enum BerDecodeErrorKind {
     #[error("no object identifier")]
     InvalidObjectIdentifier,
     /// The text isn't of the time type.
-    #[error("no time: {octets:?}")]
+    #[error("no time in the octets {}", Hexadecimal(.octets))]
     InvalidDate { octets: Vec<u8> },
 }
 

@@ -6,8 +6,8 @@ use crate::types::{Bounded, Codec, Integer};
 use thiserror::Error;
 
 /// Why a value isn't written, and under which rules.
-#[derive(Debug, Drop, Error)]
-#[error("{codec:?}: {kind}")]
+#[derive(Debug, PartialEq, Eq, Drop, Error)]
+#[error("{codec}: {kind}")]
 pub struct EncodeError {
     pub kind: EncodeErrorKind,
     pub codec: Codec,
@@ -23,16 +23,16 @@ impl EncodeError {
 }
 
 /// Why a value isn't written.
-#[derive(Debug, Drop, Error)]
+#[derive(Debug, PartialEq, Eq, Drop, Error)]
 pub enum EncodeErrorKind {
     /// The size is out of its bound: of octets, characters, units, bits or elements, as the type counts.
-    #[error("a size of {size}, not in {expected:?}")]
+    #[error("size {size}, not in {expected}")]
     SizeConstraintNotSatisfied {
         size: usize,
         expected: Bounded<usize>,
     },
     /// The number is out of its bound.
-    #[error("{value:?}, not in {expected:?}")]
+    #[error("number {value}, not in {expected}")]
     ValueConstraintNotSatisfied {
         value: Integer,
         expected: Bounded<i128>,
@@ -51,14 +51,14 @@ pub enum EncodeErrorKind {
 }
 
 /// A cause that only some rules have.
-#[derive(Debug, Drop, Error)]
+#[derive(Debug, PartialEq, Eq, Drop, Error)]
 pub enum CodecEncodeError {
     #[error("{0}")]
     Ber(BerEncodeErrorKind),
 }
 
 /// Causes of X.690 8 to 11.
-#[derive(Debug, Drop, Error)]
+#[derive(Debug, PartialEq, Eq, Drop, Error)]
 pub enum BerEncodeErrorKind {
     /// The arcs aren't an object identifier's (X.690 8.19.4).
     #[error("no object identifier: {oid:?}")]

@@ -5,6 +5,7 @@ ghost use Rattle.rasn_types.specs.Shapes.{Admits, IsIn, IsWithin, constraint_of}
 ghost use Rattle.rasn_types.specs.Trees.{signed_range};
 
 use crate::types::twos_complement::signed_i128;
+use std::fmt;
 
 /// What a number may be. Both ends are included; an end that is `None` is open.
 #[derive(Clone, Copy, Debug, PartialEq, Eq, Hash, Drop)]
@@ -12,6 +13,32 @@ pub enum Bounded<T> {
     None,
     Single(T),
     Range { start: Option<T>, end: Option<T> },
+}
+
+/// As the standard writes a range, `MIN` and `MAX` for open ends (X.680 51.4).
+impl<T: fmt::Display> fmt::Display for Bounded<T> {
+    fn fmt<W: fmt::Write>(&self, f: &mut fmt::Formatter<W>) -> fmt::Result {
+        match self {
+            Bounded::None => f.write_str("MIN..MAX"),
+            Bounded::Single(only) => write!(f, "{only}"),
+            Bounded::Range { start, end } => {
+                write_end(f, start, "MIN")?;
+                f.write_str("..")?;
+                write_end(f, end, "MAX")
+            }
+        }
+    }
+}
+
+fn write_end<W: fmt::Write, T: fmt::Display>(
+    f: &mut fmt::Formatter<W>,
+    end: &Option<T>,
+    open_end: &str,
+) -> fmt::Result {
+    match end {
+        Some(end) => write!(f, "{end}"),
+        None => f.write_str(open_end),
+    }
 }
 
 /// A constraint. An extensible one isn't checked.
@@ -22,7 +49,7 @@ pub struct Bound<T> {
 }
 
 /// The constraints that a type or a call is given: of a whole number, and of a size.
-#[derive(Clone, Copy, Debug, PartialEq, Eq, Hash)]
+#[derive(Clone, Copy, Debug, Default, PartialEq, Eq, Hash)]
 pub struct Constraints {
     pub value: Option<Bound<i128>>,
     pub size: Option<Bound<usize>>,

@@ -20,6 +20,6 @@ pub trait Constructed<const RC: usize, const EC: usize>: AsnType {
 
     ghost parts: { Parts };
 
-    /// The constant and the counts of fields are those of the parts.
+    /// The constant is that of the parts, and a type without fields has no parts.
     ghost described: { describes RC EC HAS_REQUIRED_FIELDS parts ≡ true };
 }

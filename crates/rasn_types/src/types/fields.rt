@@ -23,7 +23,7 @@ pub struct Field {
 
 impl Field {
     /// A field that has to come.
-    pub fn new_required(index: usize, tag: Tag, name: &'static str) -> Field
+    pub const fn new_required(index: usize, tag: Tag, name: &'static str) -> Field
         ensures { (result.index ≡ index) × (result.tag ≡ tag) × (result.presence ≡ Required) × (result.name ≡ name.entry) }
     {
         Field {
@@ -35,7 +35,7 @@ impl Field {
     }
 
     /// A field that may be left out.
-    pub fn new_optional(index: usize, tag: Tag, name: &'static str) -> Field
+    pub const fn new_optional(index: usize, tag: Tag, name: &'static str) -> Field
         ensures { (result.index ≡ index) × (result.tag ≡ tag) × (result.presence ≡ Optional) × (result.name ≡ name.entry) }
     {
         Field {
@@ -47,7 +47,7 @@ impl Field {
     }
 
     /// A field that may be left out, and then has its default.
-    pub fn new_default(index: usize, tag: Tag, name: &'static str) -> Field
+    pub const fn new_default(index: usize, tag: Tag, name: &'static str) -> Field
         ensures { (result.index ≡ index) × (result.tag ≡ tag) × (result.presence ≡ Default) × (result.name ≡ name.entry) }
     {
         Field {

@@ -4,9 +4,12 @@ ghost use Rattle.rasn_types.specs.Makes.{Makes};
 ghost use Rattle.rasn_types.specs.Numbered.{AreArcs};
 
 use crate::types::{AsnType, Constraints, Tag};
+use std::cmp::Ordering;
 use std::marker::Model;
 
 /// A list of at least two arcs, the first at most 2 (X.660 7.6, X.680 32).
+///
+/// They are ordered by their arcs, the first that differ deciding; one that another begins with comes before it.
 ///
 /// Where the first arc is below 2 and the second above 39, or the first is 2 and the second above 4294967215, it has no octets
 /// (X.690 8.19.4).
@@ -66,6 +69,39 @@ impl Eq for ObjectIdentifier {
     ghost use Rattle.std.specs.Cmp.Rules.{comparing};
 
     ghost laws = { Prim.search (comparing, rules) };
+}
+
+impl PartialOrd for ObjectIdentifier {
+    ghost use Rattle.std.specs.Prelude.{Some};
+    ghost use Rattle.std.specs.Cmp.Lexicographic.{slice_cmp, texts_po};
+    ghost use Rattle.std.specs.Ordering.{nat_cmp};
+
+    ghost partial_cmp = { λ o p. Some (slice_cmp nat_cmp o p) };
+
+    ghost laws = { texts_po };
+
+    fn partial_cmp(&self, other: &ObjectIdentifier) -> Option<Ordering> {
+        Some(self.cmp(other))
+    }
+}
+
+impl Ord for ObjectIdentifier {
+    ghost use Rattle.std.specs.Prelude.{refl};
+    ghost use Rattle.std.specs.Cmp.Lexicographic.{slice_cmp, nat_list_cmp_total, texts_ties};
+    ghost use Rattle.std.specs.Ordering.{nat_cmp};
+    ghost use Rattle.std.proofs.Common.{rules};
+
+    ghost cmp = { slice_cmp nat_cmp };
+
+    ghost total = { nat_list_cmp_total };
+
+    ghost matches_partial_cmp = { Prim.search rules };
+
+    ghost matches_eq = { texts_ties };
+
+    fn cmp(&self, other: &ObjectIdentifier) -> Ordering {
+        self.arcs.cmp(&other.arcs)
+    }
 }
 
 impl AsnType for ObjectIdentifier {

@@ -1,6 +1,8 @@
 //! Tags (X.680 8).
 ghost use Rattle.std.specs.Prelude.{◌≡◌};
 
+use std::fmt;
+
 /// The class of a tag (X.680 8.1), in the order that tags are sorted by (8.6).
 #[derive(Clone, Copy, Debug, PartialEq, Eq, PartialOrd, Ord, Hash)]
 pub enum Class {
@@ -135,19 +137,32 @@ impl Tag {
     };
 
     /// The tag of a class with a number.
-    pub fn new(class: Class, value: u32) -> Tag
+    pub const fn new(class: Class, value: u32) -> Tag
         ensures { result ≡ record { class = class; value = value } }
     {
         Tag { class, value }
     }
 
     /// The same class with another number.
-    pub fn set_value(self, value: u32) -> Tag
+    pub const fn set_value(self, value: u32) -> Tag
         ensures { result ≡ record { class = self.class; value = value } }
     {
         Tag {
             class: self.class,
             value,
+        }
+    }
+}
+
+/// The number in brackets for a context tag, as `[2]`, and else the class and the number, as `universal 16`.
+impl fmt::Display for Tag {
+    fn fmt<W: fmt::Write>(&self, f: &mut fmt::Formatter<W>) -> fmt::Result {
+        let value = self.value;
+        match self.class {
+            Class::Universal => write!(f, "universal {value}"),
+            Class::Application => write!(f, "application {value}"),
+            Class::Context => write!(f, "[{value}]"),
+            Class::Private => write!(f, "private {value}"),
         }
     }
 }

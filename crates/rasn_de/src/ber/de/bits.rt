@@ -12,7 +12,8 @@ use rasn_types::error::DecodeError;
 use rasn_types::types::{BitString, Constraints, Tag};
 
 impl<'input> Decoder<'input> {
-    /// The bits of the next value as a string, gathered from its segments. A refusal takes nothing.
+    /// The bits of the next value as a string, gathered from its segments. A refusal takes nothing, but for want of memory for the bits
+    /// of a primitive value, which takes the value.
     fn bits(&mut self, tag: Tag) -> Result<GatheredBits, DecodeError>
         ensures gathers { GathersBits tag self.old result self.new }
         ensures octets { AreOctets self.old.rest }
@@ -22,7 +23,10 @@ impl<'input> Decoder<'input> {
                 self.advance(rest);
                 Ok(bits)
             }
-            Err(fault) => Err(self.error(fault)),
+            Err((fault, left)) => {
+                self.advance(left);
+                Err(self.error(fault))
+            }
         }
     }
 
@@ -31,8 +35,8 @@ impl<'input> Decoder<'input> {
     ///
     /// # Errors
     /// With nothing taken: framing faults, `UnexpectedEmptyInput` and `InvalidBitString` of a segment (X.690 8.6.2), under DER
-    /// `NonzeroUnusedBits`, and `OutOfMemory`. With the value taken: `LengthExceedsPlatformWidth` for 2^64 bits or more, then
-    /// `SizeConstraintNotSatisfied`.
+    /// `NonzeroUnusedBits`, and `OutOfMemory` while segments are gathered. With the value taken: `OutOfMemory` of a primitive one,
+    /// `LengthExceedsPlatformWidth` for 2^64 bits or more, then `SizeConstraintNotSatisfied`.
     pub fn decode_bit_string(
         &mut self,
         tag: Tag,

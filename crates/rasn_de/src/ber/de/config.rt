@@ -23,21 +23,21 @@ impl Model for DecoderOptions {
 
 impl DecoderOptions {
     /// By the basic encoding rules (X.690 8).
-    pub fn ber() -> DecoderOptions
+    pub const fn ber() -> DecoderOptions
         ensures { result ≡ Ber }
     {
         DecoderOptions { rules: Codec::Ber }
     }
 
     /// By the canonical encoding rules (X.690 9, 11).
-    pub fn cer() -> DecoderOptions
+    pub const fn cer() -> DecoderOptions
         ensures { result ≡ Cer }
     {
         DecoderOptions { rules: Codec::Cer }
     }
 
     /// By the distinguished encoding rules (X.690 10, 11).
-    pub fn der() -> DecoderOptions
+    pub const fn der() -> DecoderOptions
         ensures { result ≡ Der }
     {
         DecoderOptions { rules: Codec::Der }

@@ -7,9 +7,10 @@ ghost use Rattle.rasn_de.specs.Optionals.{Made, ReadOr, DecodesDefault};
 
 use crate::ber::de::Decoder;
 use crate::ber::de::parser::Fault;
+use crate::ber::rules::is_der;
 use crate::de::Decode;
 use rasn_types::error::{DecodeError, DerDecodeErrorKind};
-use rasn_types::types::{Codec, Constraints, LawfulEq, Tag};
+use rasn_types::types::{Constraints, LawfulEq, Tag};
 use std::alloc::AllocError;
 
 impl<'input> Decoder<'input> {
@@ -106,9 +107,6 @@ impl<'input> Decoder<'input> {
     pub(super) fn is_strict(&self) -> bool
         ensures { MatchBool result (IsStrict self.now.rule) (IsStrict self.now.rule → ⊥) }
     {
-        match self.rules {
-            Codec::Der => true,
-            Codec::Ber | Codec::Cer => false,
-        }
+        is_der(self.rules)
     }
 }

@@ -13,8 +13,9 @@ ghost use Rattle.rasn_types.specs.Framing.{AreOctets};
 
 use crate::ber::de::Decoder;
 use crate::ber::de::parser::headers::Expected;
-use crate::ber::de::parser::strings::{is_der_rule, read_octets};
+use crate::ber::de::parser::strings::read_octets;
 use crate::ber::de::parser::{Contents, Fault};
+use crate::ber::rules::is_der;
 use rasn_types::error::{DecodeError, DecodeErrorKind, DerDecodeErrorKind};
 use rasn_types::types::{Bounded, Codec, Constraints, Integer, IntegerType, Tag};
 use std::borrow::CowSlice;
@@ -43,7 +44,7 @@ fn check_number(rules: Codec, octets: &[u8]) -> Result<(), Fault>
 {
     match octets {
         [] => Err(Fault::UnexpectedEmptyInput),
-        [0, 0..=0x7F, ..] | [0xFF, 0x80..=0xFF, ..] if is_der_rule(rules) => {
+        [0, 0..=0x7F, ..] | [0xFF, 0x80..=0xFF, ..] if is_der(rules) => {
             Err(Fault::Der(DerDecodeErrorKind::NonMinimalInteger))
         }
         _ => Ok(()),
@@ -64,6 +65,7 @@ impl<'input> Decoder<'input> {
     }
 
     /// The octets of the next value as a string: borrowed from a primitive one, gathered from segments. A refusal takes nothing.
+    #[inline(always)]
     pub(super) fn octets(&mut self, tag: Tag) -> Result<CowSlice<'input, u8>, DecodeError>
         ensures gathers { Gathers tag self.old result self.new }
         ensures octets { AreOctets self.old.rest }
@@ -95,6 +97,7 @@ impl<'input> Decoder<'input> {
     ///
     /// # Errors
     /// Framing faults; faults of a segment, which take nothing (X.690 8.7.3); `SizeConstraintNotSatisfied`, which takes the value.
+    #[inline(always)]
     pub fn decode_octet_string(
         &mut self,
         tag: Tag,
@@ -148,6 +151,8 @@ impl<'input> Decoder<'input> {
     }
 
     /// The error of a number out of its bound, which tells the number. Where the copy finds no memory, that is the error.
+    #[cold]
+    #[inline(never)]
     fn out_of_bound(&self, octets: &[u8], expected: Bounded<i128>) -> DecodeError
         ensures { Tells (out_of_bound (signed octets.now) expected) result.kind × (result.codec ≡ self.now.rule) }
     {

@@ -4,9 +4,12 @@ ghost use Rattle.rasn_types.specs.Framing.{Ended};
 ghost use Rattle.rasn_types.specs.Shapes.{given, looked_for, option, prefix};
 ghost use Rattle.rasn_types.specs.Trees.{option_tree};
 ghost use Rattle.rasn_de.specs.Decodes.{Decodes};
+ghost use Rattle.rasn_de.specs.Inside.{ReadInside};
 ghost use Rattle.rasn_de.specs.Optionals.{Comes, ReadPerhaps};
+ghost use Rattle.rasn_de.specs.Prefixes.{prefix_door};
 
 use crate::ber::de::Decoder;
+use crate::ber::de::parser::strings::has_ended;
 use crate::de::Decode;
 use rasn_types::error::DecodeError;
 use rasn_types::types::{Constraints, Tag};
@@ -16,11 +19,7 @@ impl<'input> Decoder<'input> {
     pub(super) fn has_ended(&self) -> bool
         ensures { MatchBool result (Ended self.now.closing self.now.rest) (Ended self.now.closing self.now.rest → ⊥) }
     {
-        match self.rest {
-            [] => true,
-            [a, b, ..] => self.closing && *a == 0 && *b == 0,
-            _ => false,
-        }
+        has_ended(self.closing, self.rest)
     }
 
     /// Whether the value that is looked for by this tag comes next; by `Tag::EOC` any value is.
@@ -97,12 +96,12 @@ impl<'input> Decoder<'input> {
     /// A value in an explicit prefix, unless the contents end or another tag comes.
     ///
     /// # Errors
-    /// As `decode_optional`.
+    /// Faults of the next identifier, which take nothing; where the prefix comes, as `decode_explicit_prefix`.
     pub fn decode_optional_with_explicit_prefix<D: Decode>(
         &mut self,
         tag: Tag,
     ) -> Result<Option<D>, DecodeError>
-        ensures called { ReadPerhaps (Decodes (prefix tag D.shape) D.tree) tag self.old result self.new }
+        ensures called { ReadPerhaps (ReadInside (Decodes D.shape D.tree) (prefix_door tag)) tag self.old result self.new }
         ensures reads { Decodes (option (looked_for tag) (prefix tag D.shape)) (option_tree D.tree) self.old result self.new }
     {
         if !self.comes(tag)? {

@@ -115,8 +115,8 @@ fn class_at(n: u8) -> Class
     }
 }
 
-/// Whether the first seven bits of a tag number behind a first octet are zero (X.690 8.1.2.4.2).
-fn is_padded(input: &[u8]) -> bool
+/// Whether the first seven bits of a number in base 128 are zero, so that it doesn't need its first octet (X.690 8.1.2.4.2, 8.19.2).
+pub fn is_padded(input: &[u8]) -> bool
     ensures { result ≡ is_padded input.now }
 {
     match input {
@@ -160,6 +160,7 @@ fn is_end_of_contents(tag: Tag) -> bool
 
 /// The identifier that begins the input, which may have to be the shortest one, and what follows.
 #[tactic(auto, unfolding(crate::specs::Headers::identifier_by))]
+#[inline(always)]
 pub fn read_identifier(shortest: bool, input: &[u8]) -> Result<(Identifier, &[u8]), Fault>
     ensures exact { Gives identified result (identifier_by shortest input.now) }
     ensures octets { AreOctets input.now }
@@ -242,6 +243,7 @@ fn read_long(shortest: bool, count: usize, input: &[u8]) -> Result<(Option<usize
 
 /// A length, or none in the indefinite form, which a constructed encoding may have.
 #[tactic(auto, unfolding(crate::specs::Headers::length_at))]
+#[inline(always)]
 fn read_length(
     spelling: Spelling,
     is_constructed: bool,
@@ -291,6 +293,7 @@ fn read_contents(
 
 /// The header of the value that begins the input, with its contents, and what follows.
 #[tactic(auto, unfolding(crate::specs::Headers::header_by))]
+#[inline(always)]
 pub fn read_value(
     spelling: Spelling,
     expected: Expected,

@@ -12,6 +12,9 @@ use rasn_types::types::{Constraints, Constructed, Identifier, Tag};
 impl Encoder {
     /// Writes an extension addition under this tag and these constraints. The name is ignored.
     ///
+    /// It takes the value. One that is lent and can't be copied is written by its own `encode_with_tag_and_constraints`, which does
+    /// and promises the same.
+    ///
     /// # Errors
     /// What the value refuses. Nothing is written then.
     pub fn encode_extension_addition<E: Encode>(

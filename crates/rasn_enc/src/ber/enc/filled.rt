@@ -3,21 +3,28 @@ ghost use Rattle.std.specs.Prelude.{ℕ, List, ◌≡◌, ◌<◌, ◌≤◌, �
 ghost use Rattle.std.specs.Fn.{FnOnceTakesAtMut, FnOnceReturnsAtMut};
 ghost use Rattle.rasn_types.specs.Tags.{tag_bit};
 ghost use Rattle.rasn_enc.specs.Headers.{id_octets, length_octets};
-ghost use Rattle.rasn_enc.specs.Primitives.{WantsMemory};
+ghost use Rattle.rasn_enc.specs.declared.ber.enc.filled.Unfilled.TheVariants.{NoMemory};
 ghost use Rattle.rasn_enc.specs.Filled.{FillsBehind, RefusesToFill, PutsPrim, PutsFilled};
 
 use super::header::{
     identifier_len, is_always_constructed, length_len, length_octet, write_identifier, write_length,
 };
-use super::out_of_memory;
 use super::rendering::{grow, move_up};
-use rasn_types::error::EncodeError;
-use rasn_types::types::{Codec, Tag};
+use rasn_types::types::Tag;
 use std::alloc::AllocError;
 
 // A primitive value whose contents are written in place has room for so many octets of them at first: no time has more, nor a number
 // of 128 bits.
 const SHORT_CONTENTS: usize = 32;
+
+/// Why contents aren't written in place.
+#[derive(Clone, Copy, Drop)]
+pub enum Unfilled {
+    /// Memory was wanted.
+    NoMemory,
+    /// The value has no contents octets, or is out of its bound.
+    Refused,
+}
 
 /// A value that writes the contents octets of its encoding in place.
 pub trait Contents {
@@ -32,19 +39,15 @@ pub trait Contents {
         ensures err { OnErr result ((l : List ℕ) × (octets.new.items ≡ octets.old.items ++ l)) };
 }
 
-/// The same, with the error of an encoder.
-pub fn fill_with<T: Contents>(
-    value: &T,
-    octets: &mut Vec<u8>,
-    rule: Codec,
-) -> Result<(), EncodeError>
+/// The same, for a value that is written in place.
+pub fn fill_with<T: Contents>(value: &T, octets: &mut Vec<u8>) -> Result<(), Unfilled>
     ensures ok { OnOk result ((l : List ℕ) × T.IsWritten value.now l × (octets.new.items ≡ octets.old.items ++ l)) }
     ensures behind { (l : List ℕ) × (octets.new.items ≡ octets.old.items ++ l) }
-    ensures refused { IfErr result (WantsMemory rule) }
+    ensures refused { IfErr result (λ e. e ≡ NoMemory) }
 {
     match value.append(octets) {
         Ok(()) => Ok(()),
-        Err(_) => Err(out_of_memory(rule)),
+        Err(_) => Err(Unfilled::NoMemory),
     }
 }
 
@@ -65,26 +68,25 @@ pub fn put_whole(octets: &mut Vec<u8>, tag: Tag, contents: &[u8]) -> Result<(), 
 }
 
 /// Puts a primitive value behind octets; `contents` writes its contents in place.
-pub fn put_filled<F: FnOnce(&mut Vec<u8>) -> Result<(), EncodeError>>(
+pub fn put_filled<F: FnOnce(&mut Vec<u8>) -> Result<(), Unfilled>>(
     octets: &mut Vec<u8>,
-    rule: Codec,
     tag: Tag,
     contents: F,
-) -> Result<(), EncodeError>
+) -> Result<(), Unfilled>
     requires callable { (v : _) → FnOnceTakesAtMut F.FnOnce contents v }
     requires behind { FillsBehind F.FnOnce contents }
     ensures ok { OnOk result (PutsFilled F.FnOnce contents tag octets.old.items octets.new.items) }
     ensures err { OnErr result (octets.new.items ≡ octets.old.items) }
-    ensures refused { IfErr result (λ e. WantsMemory rule e ⊎ RefusesToFill F.FnOnce contents e) }
+    ensures refused { IfErr result (λ e. (e ≡ NoMemory) ⊎ RefusesToFill F.FnOnce contents e) }
 {
     let start = octets.len();
     let Ok(()) = begin_filled(octets, tag) else {
-        return Err(out_of_memory(rule));
+        return Err(Unfilled::NoMemory);
     };
     match fill(octets, contents) {
         Ok(()) => match end_filled(octets, tag, start) {
             Ok(()) => Ok(()),
-            Err(_) => Err(out_of_memory(rule)),
+            Err(_) => Err(Unfilled::NoMemory),
         },
         Err(error) => {
             octets.truncate(start);
@@ -93,10 +95,10 @@ pub fn put_filled<F: FnOnce(&mut Vec<u8>) -> Result<(), EncodeError>>(
     }
 }
 
-fn fill<F: FnOnce(&mut Vec<u8>) -> Result<(), EncodeError>>(
+fn fill<F: FnOnce(&mut Vec<u8>) -> Result<(), Unfilled>>(
     octets: &mut Vec<u8>,
     contents: F,
-) -> Result<(), EncodeError>
+) -> Result<(), Unfilled>
     requires { FnOnceTakesAtMut F.FnOnce contents octets.old }
     ensures { FnOnceReturnsAtMut F.FnOnce contents octets.old result octets.new }
 {

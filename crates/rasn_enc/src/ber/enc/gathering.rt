@@ -1,16 +1,14 @@
 //! Primitive values gathered, and counted into the list that they stand in.
-ghost use Rattle.std.specs.Prelude.{◌≡◌, ◌≤◌, ◌+◌, ◌∷◌, [], ◌⊎◌, take, vec_len, IfOk, IfErr, OnOk, OnErr};
+ghost use Rattle.std.specs.Prelude.{◌≡◌, ◌≤◌, ◌+◌, ◌++◌, ◌∷◌, [], ◌⊎◌, length, take, vec_len, IfOk, IfErr, OnOk, OnErr};
 ghost use Rattle.std.specs.Fn.{FnOnceTakesAtMut};
 ghost use Rattle.rasn_enc.specs.Lists.{tags_of};
 ghost use Rattle.rasn_enc.specs.Gathered.{noted, PutsCounted, PutsFilledCounted};
-ghost use Rattle.rasn_enc.specs.Primitives.{WantsMemory};
+ghost use Rattle.rasn_enc.specs.declared.ber.enc.filled.Unfilled.TheVariants.{NoMemory};
 ghost use Rattle.rasn_enc.specs.Filled.{FillsBehind, RefusesToFill};
 
-use super::filled::{put_filled, put_whole};
+use super::filled::{Unfilled, put_filled, put_whole};
 use super::kept_tags::{note, reserve_tag};
-use super::out_of_memory;
-use rasn_types::error::EncodeError;
-use rasn_types::types::{Codec, Tag};
+use rasn_types::types::Tag;
 use std::alloc::AllocError;
 
 // Counts the octets from `at` on to those that were measured. Where they can't be counted, they are taken off.
@@ -51,32 +49,48 @@ pub fn gather(
 }
 
 /// The same, where `contents` writes its contents in place.
-pub fn gather_filled<F: FnOnce(&mut Vec<u8>) -> Result<(), EncodeError>>(
+pub fn gather_filled<F: FnOnce(&mut Vec<u8>) -> Result<(), Unfilled>>(
     gathered: &mut Vec<u8>,
     tags: &mut Option<Vec<Tag>>,
-    rule: Codec,
     measured: usize,
     tag: Tag,
     contents: F,
-) -> Result<usize, EncodeError>
+) -> Result<usize, Unfilled>
     requires callable { (v : _) → FnOnceTakesAtMut F.FnOnce contents v }
     requires behind { FillsBehind F.FnOnce contents }
     ensures ok { IfOk result (PutsFilledCounted F.FnOnce contents tag measured gathered.old.items gathered.new.items) }
     ensures noted { OnOk result (tags_of tags.new ≡ noted (tags_of tags.old) (tag ∷ [])) }
     ensures err { OnErr result (gathered.new.items ≡ gathered.old.items) }
     ensures kept { OnErr result (tags_of tags.new ≡ tags_of tags.old) }
-    ensures refused { IfErr result (λ e. WantsMemory rule e ⊎ RefusesToFill F.FnOnce contents e) }
+    ensures refused { IfErr result (λ e. (e ≡ NoMemory) ⊎ RefusesToFill F.FnOnce contents e) }
 {
     let at = gathered.len();
     let Ok(()) = reserve_tag(tags) else {
-        return Err(out_of_memory(rule));
+        return Err(Unfilled::NoMemory);
     };
-    put_filled(gathered, rule, tag, contents)?;
+    put_filled(gathered, tag, contents)?;
     match count_from(gathered, at, measured) {
         Ok(total) => {
             note(tags, tag);
             Ok(total)
         }
-        Err(_) => Err(out_of_memory(rule)),
+        Err(_) => Err(Unfilled::NoMemory),
     }
+}
+
+/// Gathers octets as they are, and answers how long their list is then.
+pub fn gather_octets(
+    gathered: &mut Vec<u8>,
+    measured: usize,
+    octets: &[u8],
+) -> Result<usize, AllocError>
+    ensures ok { OnOk result (gathered.new.items ≡ gathered.old.items ++ octets.now) }
+    ensures total { IfOk result (λ n. n ≡ measured + length octets.now) }
+    ensures err { OnErr result (gathered.new.items ≡ gathered.old.items) }
+{
+    let Some(total) = measured.checked_add(octets.len()) else {
+        return Err(AllocError);
+    };
+    gathered.extend_from_slice(octets)?;
+    Ok(total)
 }

@@ -1,12 +1,13 @@
 //! Writing INTEGER.
 ghost use Rattle.std.specs.Prelude.{ℕ, List, ◌≡◌, ◌≤ℤ◌, ◌⊎◌, ◌++◌, IfErr, OnOk, OnErr};
 ghost use Rattle.rasn_types.specs.Shapes.{leaf, integer, number as number_tree, Admits, IsIn};
-ghost use Rattle.rasn_types.specs.Contents.{signed};
+ghost use Rattle.rasn_enc.specs.declared.ber.enc.filled.Unfilled.TheVariants.{Refused};
 ghost use Rattle.rasn_enc.specs.Primitives.{WantsMemory};
 ghost use Rattle.rasn_enc.specs.Wrote.{Wrote};
 ghost use Rattle.rasn_enc.specs.Refusals.{RefusesValue};
 ghost use Rattle.rasn_enc.specs.Integers.{PutsInteger};
 
+use super::filled::Unfilled;
 use super::{Encoder, out_of_memory};
 use rasn_types::error::{EncodeError, EncodeErrorKind};
 use rasn_types::types::{Codec, Constraints, Identifier, Integer, IntegerType, Tag};
@@ -29,46 +30,52 @@ impl Encoder {
         ensures refused { IfErr result (λ e. RefusesValue constraints.now (I.number value.now) self.old.rule e ⊎ WantsMemory self.old.rule e) }
     {
         let (alloc, rule) = (self.alloc(), self.codec());
-        self.leaf_with(tag, |octets: &mut Vec<u8>| {
-            write_integer(alloc, rule, constraints, value, octets)
-        })
+        match self.leaf_with(tag, |octets: &mut Vec<u8>| {
+            write_integer(constraints, value, octets)
+        }) {
+            Ok(()) => Ok(()),
+            Err(Unfilled::NoMemory) => Err(out_of_memory(rule)),
+            Err(Unfilled::Refused) => Err(refused_value(alloc, rule, constraints, value)),
+        }
     }
 }
 
 // Puts the octets of a number behind those that are there, where it is within its bound.
 fn write_integer<I: IntegerType>(
-    alloc: Global,
-    rule: Codec,
     constraints: &Constraints,
     value: &I,
     octets: &mut Vec<u8>,
-) -> Result<(), EncodeError>
+) -> Result<(), Unfilled>
     ensures ok { OnOk result (PutsInteger constraints.now (I.number value.now) octets.old.items octets.new.items) }
     ensures held { IsIn I.range (I.number value.now) }
     ensures behind { (l : List ℕ) × (octets.new.items ≡ octets.old.items ++ l) }
-    ensures refused { IfErr result (λ e. RefusesValue constraints.now (I.number value.now) rule e ⊎ WantsMemory rule e) }
+    ensures refused { IfErr result (λ e. e ≡ Refused → (Admits ◌≤ℤ◌ constraints.now.value (I.number value.now) → ⊥)) }
 {
     let start = octets.len();
     let Ok(()) = value.append_octets(octets) else {
-        return Err(out_of_memory(rule));
+        return Err(Unfilled::NoMemory);
     };
-    let contents = &octets[start..];
-    if !constraints.admits_number(contents) {
-        return Err(refused_value(alloc, rule, constraints, contents));
+    if !constraints.admits_number(&octets[start..]) {
+        return Err(Unfilled::Refused);
     }
     Ok(())
 }
 
-fn refused_value(
+// The error of a number that is out of its bound, which tells it. Where the copy finds no memory, that is the error.
+fn refused_value<I: IntegerType>(
     alloc: Global,
     rule: Codec,
     constraints: &Constraints,
-    octets: &[u8],
+    value: &I,
 ) -> EncodeError
-    requires { Admits ◌≤ℤ◌ constraints.now.value (signed octets.now) → ⊥ }
-    ensures { RefusesValue constraints.now (signed octets.now) rule result ⊎ WantsMemory rule result }
+    requires { Admits ◌≤ℤ◌ constraints.now.value (I.number value.now) → ⊥ }
+    ensures { RefusesValue constraints.now (I.number value.now) rule result ⊎ WantsMemory rule result }
 {
-    match Integer::from_octets(alloc, octets) {
+    let mut octets = Vec::new(alloc);
+    let Ok(()) = value.append_octets(&mut octets) else {
+        return out_of_memory(rule);
+    };
+    match Integer::from_octets(alloc, &octets) {
         Ok(Some(value)) => EncodeError {
             kind: EncodeErrorKind::ValueConstraintNotSatisfied {
                 value,

@@ -6,8 +6,9 @@ ghost use Rattle.rasn_enc.specs.Primitives.{WantsMemory};
 ghost use Rattle.rasn_enc.specs.Wrote.{Wrote};
 ghost use Rattle.rasn_enc.specs.ObjectIdentifiers.{RefusesArcs};
 
-use super::Encoder;
-use super::objects::append_contents;
+use super::filled::Unfilled;
+use super::objects::{append_contents, refused_arcs};
+use super::{Encoder, out_of_memory};
 use rasn_types::error::{EncodeError, EncodeErrorKind};
 use rasn_types::types::{Constraints, Enumerated, Identifier, RealType, Tag};
 
@@ -58,9 +59,11 @@ impl Encoder {
         ensures refused { IfErr result (λ e. RefusesArcs value.now self.old.rule e ⊎ WantsMemory self.old.rule e) }
     {
         let (alloc, rule) = (self.alloc(), self.codec());
-        self.leaf_with(tag, |octets: &mut Vec<u8>| {
-            append_contents(alloc, rule, value, octets)
-        })
+        match self.leaf_with(tag, |octets: &mut Vec<u8>| append_contents(value, octets)) {
+            Ok(()) => Ok(()),
+            Err(Unfilled::NoMemory) => Err(out_of_memory(rule)),
+            Err(Unfilled::Refused) => Err(refused_arcs(alloc, rule, value)),
+        }
     }
 
     /// Refuses: REAL (X.690 8.5) isn't supported. Nothing is written.

@@ -3,8 +3,10 @@ ghost use Rattle.std.specs.Prelude.{◌≡◌, ◌⊎◌, ◌∷◌, ◌++◌, L
 ghost use Rattle.rasn_types.specs.declared.types.rules.Codec.TheVariants.{Ber};
 ghost use Rattle.rasn_enc.specs.ObjectIdentifiers.{HasOctets, IsFirst, AppendsOne, AppendsArcs, AppendsContents, RefusesArcs};
 ghost use Rattle.rasn_enc.specs.Primitives.{WantsMemory};
+ghost use Rattle.rasn_enc.specs.declared.ber.enc.filled.Unfilled.TheVariants.{Refused};
 
 use super::base_128::{count_groups, write_groups};
+use super::filled::Unfilled;
 use super::out_of_memory;
 use rasn_types::error::{BerEncodeErrorKind, CodecEncodeError, EncodeError, EncodeErrorKind};
 use rasn_types::types::Codec;
@@ -24,30 +26,31 @@ pub fn object_identifier_as_bytes(
     ensures err { OnErr result (buffer.new.items ≡ buffer.old.items) }
     ensures refused { IfErr result (λ e. RefusesArcs oid.now Ber e ⊎ WantsMemory Ber e) }
 {
-    append_contents(alloc, Codec::Ber, oid, buffer)
+    let length = buffer.len();
+    match append_contents(oid, buffer) {
+        Ok(()) => Ok(()),
+        Err(error) => {
+            buffer.truncate(length);
+            match error {
+                Unfilled::NoMemory => Err(out_of_memory(Codec::Ber)),
+                Unfilled::Refused => Err(refused_arcs(alloc, Codec::Ber, oid)),
+            }
+        }
+    }
 }
 
-/// The same under any rules.
-pub fn append_contents(
-    alloc: Global,
-    rule: Codec,
-    oid: &[u32],
-    buffer: &mut Vec<u8>,
-) -> Result<(), EncodeError>
-    ensures ok { OnOk result (AppendsContents oid.now buffer.old.items buffer.new.items) }
-    ensures err { OnErr result (buffer.new.items ≡ buffer.old.items) }
-    ensures refused { IfErr result (λ e. RefusesArcs oid.now rule e ⊎ WantsMemory rule e) }
+/// Puts the contents octets of an object identifier behind octets, or some of them where memory is wanting.
+pub fn append_contents(oid: &[u32], octets: &mut Vec<u8>) -> Result<(), Unfilled>
+    ensures ok { OnOk result (AppendsContents oid.now octets.old.items octets.new.items) }
+    ensures behind { (l : List ℕ) × (octets.new.items ≡ octets.old.items ++ l) }
+    ensures refused { IfErr result (λ e. e ≡ Refused → (HasOctets oid.now → ⊥)) }
 {
     let Some(first) = first_subidentifier(oid) else {
-        return Err(refused_arcs(alloc, rule, oid));
+        return Err(Unfilled::Refused);
     };
-    let length = buffer.len();
-    match append_arcs(first, &oid[2..], buffer) {
+    match append_arcs(first, &oid[2..], octets) {
         Ok(()) => Ok(()),
-        Err(_) => {
-            buffer.truncate(length);
-            Err(out_of_memory(rule))
-        }
+        Err(_) => Err(Unfilled::NoMemory),
     }
 }
 
@@ -62,8 +65,8 @@ fn first_subidentifier(oid: &[u32]) -> Option<u32>
     }
 }
 
-// The error of arcs that have no octets, which tells them. Where the copy finds no memory, that is the error.
-fn refused_arcs(alloc: Global, codec: Codec, arcs: &[u32]) -> EncodeError
+/// The error of arcs that have no octets, which tells them. Where the copy finds no memory, that is the error.
+pub fn refused_arcs(alloc: Global, codec: Codec, arcs: &[u32]) -> EncodeError
     requires { HasOctets arcs.now → ⊥ }
     ensures { RefusesArcs arcs.now codec result ⊎ WantsMemory codec result }
 {

@@ -85,12 +85,8 @@ fn render(buffer: &mut [u8], gathered: usize, marks: &[Mark]) -> usize
     copies
 }
 
-/// Puts the octets of all marks in between the gathered octets. The vector grows once, where there is a mark.
-pub fn rendered_in(
-    gathered: Vec<u8>,
-    marks: &[Mark],
-    measured: usize,
-) -> Result<Vec<u8>, AllocError>
+// Puts the octets of all marks in between the gathered octets. The vector grows once, where there is a mark.
+fn rendered_in(gathered: Vec<u8>, marks: &[Mark], measured: usize) -> Result<Vec<u8>, AllocError>
     requires rising { Rising 0 marks.now (length gathered.items) }
     requires measure { measured ≡ length (rendered gathered.items 0 marks.now) }
     ensures { IfOk result (λ v. v.items ≡ rendered gathered.items 0 marks.now) }
@@ -103,6 +99,35 @@ pub fn rendered_in(
     grow(&mut buffer, measured)?;
     render(&mut buffer, count, marks);
     Ok(buffer)
+}
+
+/// The same of a list that begins at `start`: the octets before it are taken off.
+pub fn rendered_from(
+    gathered: Vec<u8>,
+    marks: &[Mark],
+    start: usize,
+    measured: usize,
+) -> Result<Vec<u8>, AllocError>
+    requires rising { Rising start marks.now (length gathered.items) }
+    requires measure { measured ≡ length (rendered gathered.items start marks.now) }
+    ensures { IfOk result (λ v. v.items ≡ rendered gathered.items start marks.now) }
+{
+    let Some(whole) = start.checked_add(measured) else {
+        return Err(AllocError);
+    };
+    let mut octets = rendered_in(gathered, marks, whole)?;
+    cut_front(&mut octets, start);
+    Ok(octets)
+}
+
+// Takes so many octets off the front.
+fn cut_front(octets: &mut Vec<u8>, count: usize)
+    requires { count ≤ length octets.old.items }
+    ensures { octets.new.items ≡ drop count octets.old.items }
+{
+    if count > 0 {
+        octets.drain(..count);
+    }
 }
 
 /// Makes a vector longer: it then has so many octets, those that it had first.

@@ -7,6 +7,7 @@ ghost use Rattle.rasn_types.specs.declared.types.rules.Codec.TheVariants.{Ber};
 ghost use Rattle.rasn_enc.specs.Primitives.{WantsMemory};
 ghost use Rattle.rasn_enc.specs.Wrote.{Wrote};
 
+use super::filled::Unfilled;
 use super::{Encoder, out_of_memory};
 use rasn_types::ber::time::{write_date, write_generalized_time, write_utc_time};
 use rasn_types::error::EncodeError;
@@ -27,45 +28,38 @@ fn empty_text(alloc: Global) -> Result<Vec<u8>, EncodeError>
 }
 
 // Puts the text of a UTCTime behind octets.
-fn put_utc(octets: &mut Vec<u8>, value: &UtcTime, codec: Codec) -> Result<(), EncodeError>
+fn put_utc(octets: &mut Vec<u8>, value: &UtcTime) -> Result<(), Unfilled>
     ensures ok { OnOk result (octets.new.items ≡ octets.old.items ++ written_utc value.now) }
     ensures exists { IsMoment value.now }
     ensures behind { (l : List ℕ) × (octets.new.items ≡ octets.old.items ++ l) }
-    ensures refused { IfErr result (WantsMemory codec) }
 {
     match write_utc_time(octets, value) {
         Ok(()) => Ok(()),
-        Err(_) => Err(out_of_memory(codec)),
+        Err(_) => Err(Unfilled::NoMemory),
     }
 }
 
 // Puts the text of a GeneralizedTime behind octets.
-fn put_generalized(
-    octets: &mut Vec<u8>,
-    value: &GeneralizedTime,
-    codec: Codec,
-) -> Result<(), EncodeError>
+fn put_generalized(octets: &mut Vec<u8>, value: &GeneralizedTime) -> Result<(), Unfilled>
     ensures ok { OnOk result (octets.new.items ≡ octets.old.items ++ written_generalized value.now.moment) }
     ensures exists { IsMoment value.now.moment }
     ensures behind { (l : List ℕ) × (octets.new.items ≡ octets.old.items ++ l) }
-    ensures refused { IfErr result (WantsMemory codec) }
 {
     match write_generalized_time(octets, value) {
         Ok(()) => Ok(()),
-        Err(_) => Err(out_of_memory(codec)),
+        Err(_) => Err(Unfilled::NoMemory),
     }
 }
 
 // Puts the text of a DATE behind octets.
-fn put_date(octets: &mut Vec<u8>, value: &Date, codec: Codec) -> Result<(), EncodeError>
+fn put_date(octets: &mut Vec<u8>, value: &Date) -> Result<(), Unfilled>
     ensures ok { OnOk result (octets.new.items ≡ octets.old.items ++ written_date value.now) }
     ensures exists { IsDay value.now }
     ensures behind { (l : List ℕ) × (octets.new.items ≡ octets.old.items ++ l) }
-    ensures refused { IfErr result (WantsMemory codec) }
 {
     match write_date(octets, value) {
         Ok(()) => Ok(()),
-        Err(_) => Err(out_of_memory(codec)),
+        Err(_) => Err(Unfilled::NoMemory),
     }
 }
 
@@ -87,7 +81,10 @@ impl Encoder {
         ensures refused { IfErr result (WantsMemory self.old.rule) }
     {
         let codec = self.codec();
-        self.leaf_with(tag, |octets: &mut Vec<u8>| put_utc(octets, value, codec))
+        match self.leaf_with(tag, |octets: &mut Vec<u8>| put_utc(octets, value)) {
+            Ok(()) => Ok(()),
+            Err(_) => Err(out_of_memory(codec)),
+        }
     }
 
     /// Writes a GeneralizedTime (X.690 11.7), in UTC whatever its offset. A year outside 0 to 9999 has a sign. The name is ignored.
@@ -105,10 +102,10 @@ impl Encoder {
         ensures refused { IfErr result (WantsMemory self.old.rule) }
     {
         let codec = self.codec();
-        self.leaf_with(
-            tag,
-            |octets: &mut Vec<u8>| put_generalized(octets, value, codec),
-        )
+        match self.leaf_with(tag, |octets: &mut Vec<u8>| put_generalized(octets, value)) {
+            Ok(()) => Ok(()),
+            Err(_) => Err(out_of_memory(codec)),
+        }
     }
 
     /// Writes a DATE (X.680 38.4.1). A year outside 0 to 9999 has a sign. The name is ignored.
@@ -126,7 +123,10 @@ impl Encoder {
         ensures refused { IfErr result (WantsMemory self.old.rule) }
     {
         let codec = self.codec();
-        self.leaf_with(tag, |octets: &mut Vec<u8>| put_date(octets, value, codec))
+        match self.leaf_with(tag, |octets: &mut Vec<u8>| put_date(octets, value)) {
+            Ok(()) => Ok(()),
+            Err(_) => Err(out_of_memory(codec)),
+        }
     }
 
     /// The text of a GeneralizedTime (X.690 11.7).
@@ -141,8 +141,10 @@ impl Encoder {
         ensures refused { IfErr result (WantsMemory Ber) }
     {
         let mut text = empty_text(alloc)?;
-        put_generalized(&mut text, value, Codec::Ber)?;
-        Ok(text)
+        match put_generalized(&mut text, value) {
+            Ok(()) => Ok(text),
+            Err(_) => Err(out_of_memory(Codec::Ber)),
+        }
     }
 
     /// The text of a UTCTime (X.690 11.8).
@@ -157,8 +159,10 @@ impl Encoder {
         ensures refused { IfErr result (WantsMemory Ber) }
     {
         let mut text = empty_text(alloc)?;
-        put_utc(&mut text, value, Codec::Ber)?;
-        Ok(text)
+        match put_utc(&mut text, value) {
+            Ok(()) => Ok(text),
+            Err(_) => Err(out_of_memory(Codec::Ber)),
+        }
     }
 
     /// The text of a DATE (X.680 38.4.1).
@@ -170,7 +174,9 @@ impl Encoder {
         ensures refused { IfErr result (WantsMemory Ber) }
     {
         let mut text = empty_text(alloc)?;
-        put_date(&mut text, value, Codec::Ber)?;
-        Ok(text)
+        match put_date(&mut text, value) {
+            Ok(()) => Ok(text),
+            Err(_) => Err(out_of_memory(Codec::Ber)),
+        }
     }
 }

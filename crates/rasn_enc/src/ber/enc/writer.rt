@@ -12,15 +12,19 @@ ghost use Rattle.rasn_enc.specs.Lists.{IsMarked};
 ghost use Rattle.rasn_enc.specs.Gathered.{kept_of};
 ghost use Rattle.rasn_enc.specs.Primitives.{Appends, WantsMemory};
 ghost use Rattle.rasn_enc.specs.Order.{octets_less};
+ghost use Rattle.rasn_enc.specs.declared.ber.enc.filled.Unfilled.TheVariants.{NoMemory};
 ghost use Rattle.rasn_enc.specs.Filled.{FillsBehind, RefusesToFill, AppendsFilled};
+
+mod bare;
 
 use super::cursors::{place, rendered_before};
 use super::cutting::cut;
+use super::filled::Unfilled;
 use super::gathering::{gather, gather_filled};
 use super::kept_tags::{cut_tags, tags_fall};
 use super::marks::{Head, Mark};
 use super::out_of_memory;
-use super::rendering::rendered_in;
+use super::rendering::rendered_from;
 use super::surrounding::surround;
 use rasn_types::error::EncodeError;
 use rasn_types::types::{Codec, Tag};
@@ -126,9 +130,9 @@ impl Writer {
         self.alloc
     }
 
-    /// The octets written, where no value is open.
+    /// The octets of the last list.
     pub fn output(self) -> Result<Vec<u8>, EncodeError>
-        ensures ok { IfOk result (λ v. self.below ≡ [] → v.items ≡ self.last.octets) }
+        ensures ok { IfOk result (λ v. v.items ≡ self.last.octets) }
         ensures refused { IfErr result (WantsMemory self.rule) }
     {
         let Writer {
@@ -136,16 +140,13 @@ impl Writer {
             rule,
             gathered,
             marks,
-            start: _,
-            first: _,
+            start,
+            first,
             measured,
             tags: _,
-            interrupted,
+            interrupted: _,
         } = self;
-        if !interrupted.is_empty() {
-            return Ok(gathered);
-        }
-        match rendered_in(gathered, &marks, measured) {
+        match rendered_from(gathered, &marks[first..], start, measured) {
             Ok(octets) => Ok(octets),
             Err(_) => Err(out_of_memory(rule)),
         }
@@ -292,21 +293,20 @@ impl Writer {
     }
 
     /// Puts a primitive value behind the last list; `contents` writes its contents in place.
-    pub fn leaf_with<F: FnOnce(&mut Vec<u8>) -> Result<(), EncodeError>>(
+    pub fn leaf_with<F: FnOnce(&mut Vec<u8>) -> Result<(), Unfilled>>(
         &mut self,
         tag: Tag,
         contents: F,
-    ) -> Result<(), EncodeError>
+    ) -> Result<(), Unfilled>
         requires callable { (v : _) → FnOnceTakesAtMut F.FnOnce contents v }
         requires behind { FillsBehind F.FnOnce contents }
         ensures ok { OnOk result (AppendsFilled F.FnOnce contents tag self.old self.new) }
         ensures err { OnErr result (self.new ≡ self.old) }
-        ensures refused { IfErr result (λ e. WantsMemory self.old.rule e ⊎ RefusesToFill F.FnOnce contents e) }
+        ensures refused { IfErr result (λ e. (e ≡ NoMemory) ⊎ RefusesToFill F.FnOnce contents e) }
     {
         match gather_filled(
             &mut self.gathered,
             &mut self.tags,
-            self.rule,
             self.measured,
             tag,
             contents,
@@ -318,6 +318,7 @@ impl Writer {
             Err(error) => Err(error),
         }
     }
+
     /// Where the last list ends.
     pub fn end(&self) -> ListEnd
         ensures { IsMarked self.now.last result }

@@ -1,5 +1,7 @@
 //! A view of bits.
-ghost use Rattle.std.specs.Prelude.{◌≡◌, ◌+◌, ◌*◌, ◌/◌, ◌%◌, ◌≤◌, ◌<◌, length, take, drop, OnOk, OnErr, MatchOption, get_or};
+ghost use Rattle.std.specs.Prelude.{◌≡◌, ◌+◌, ◌*◌, ◌/◌, ◌%◌, ◌≤◌, ◌<◌, length, take, drop, OnOk, OnErr, MatchOption, get_or, Bool};
+ghost use Rattle.std.specs.Bool.{beq};
+ghost use Rattle.std.specs.Cmp.Lexicographic.{pointwise};
 ghost use Rattle.rasn_types.specs.Framing.{AreOctets};
 ghost use Rattle.rasn_types.specs.Makes.{Makes};
 ghost use Rattle.rasn_types.specs.Bits.{bits_from, Pushes};
@@ -67,12 +69,34 @@ impl<'a> BitStr<'a> {
     pub fn get(&self, place: usize) -> Option<bool>
         ensures { MatchOption result (length self.now ≤ place) (λ b. (place < length self.now) × (b ≡ get_or self.now place b)) }
     {
-        if place >= self.len {
-            return None;
+        if place < self.len() {
+            Some(self.bit(place))
+        } else {
+            None
         }
+    }
+
+    // The bit at a place.
+    fn bit(&self, place: usize) -> bool
+        requires { place < length self.now }
+        ensures { (b : Bool) → result ≡ get_or self.now place b }
+    {
         let behind = self.shift + place % 8;
         let octet = self.octets[place / 8 + behind / 8];
-        Some((octet >> (7 - behind % 8)) % 2 == 1)
+        (octet >> (7 - behind % 8)) % 2 == 1
+    }
+
+    // Whether two of one length have the same bits.
+    fn agrees(&self, other: &BitStr<'_>) -> bool
+        requires { length self.now ≡ length other.now }
+        ensures { result ≡ pointwise beq self.now other.now }
+    {
+        for place in 0..self.len() {
+            if self.bit(place) != other.bit(place) {
+                return false;
+            }
+        }
+        true
     }
 
     /// The bits before a place, and those from it on.
@@ -123,6 +147,28 @@ impl<'a> BitStr<'a> {
         }
         Ok(())
     }
+}
+
+impl PartialEq for BitStr<'_> {
+    ghost use Rattle.std.specs.Bool.{beq};
+    ghost use Rattle.std.specs.Cmp.Lexicographic.{pointwise};
+    ghost use Rattle.std.proofs.Common.{rules};
+    ghost use Rattle.std.specs.Cmp.Rules.{comparing};
+
+    ghost eq = { pointwise beq };
+
+    ghost laws = { Prim.search (comparing, rules) };
+
+    fn eq(&self, other: &Self) -> bool {
+        other.len() == self.len() && self.agrees(other)
+    }
+}
+
+impl Eq for BitStr<'_> {
+    ghost use Rattle.std.proofs.Common.{rules};
+    ghost use Rattle.std.specs.Cmp.Rules.{comparing};
+
+    ghost laws = { Prim.search (comparing, rules) };
 }
 
 // How many octets hold so many bits behind the first few of them.

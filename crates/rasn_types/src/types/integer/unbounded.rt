@@ -1,14 +1,20 @@
 //! Whole numbers of any length.
 ghost use Rattle.std.specs.Prelude.{◌≡◌, ◌≢◌, ◌<◌, [], length, IfOk, MatchOption};
-ghost use Rattle.rasn_types.specs.Contents.{signed};
+ghost use Rattle.rasn_types.specs.Framing.{AreOctets};
+ghost use Rattle.rasn_types.specs.Contents.{signed, IsShortestInteger};
+ghost use Rattle.std.specs.Ordering.{int_cmp};
 ghost use Rattle.rasn_types.specs.Trees.{IsShortestOf};
 
-use crate::types::twos_complement::shortest;
+use crate::hexadecimal::Hexadecimal;
+use crate::types::twos_complement::{shortest, signed_i128};
 use crate::types::{AsnType, Constraints, IntegerType, Tag};
 use std::alloc::{AllocError, Global};
+use std::cmp::Ordering;
+use std::fmt;
 use std::marker::Model;
 
-/// A whole number of any length, kept as octets in two's complement, most significant first (X.690 8.3).
+/// A whole number of any length, kept as octets in two's complement, most significant first (X.690 8.3), and ordered as numbers
+/// are.
 #[derive(Debug, Drop)]
 pub struct Integer {
     octets: Vec<u8>,
@@ -47,6 +53,16 @@ impl Integer {
     }
 }
 
+/// The number where 128 bits hold it, else its octets in two's complement, in hexadecimal behind `0x`.
+impl fmt::Display for Integer {
+    fn fmt<W: fmt::Write>(&self, f: &mut fmt::Formatter<W>) -> fmt::Result {
+        match signed_i128(&self.octets) {
+            Some(number) => write!(f, "{number}"),
+            None => write!(f, "0x{}", Hexadecimal(&self.octets)),
+        }
+    }
+}
+
 impl PartialEq for Integer {
     ghost use Rattle.std.specs.Ordering.{int_eq};
     ghost use Rattle.std.proofs.Common.{rules};
@@ -66,6 +82,52 @@ impl Eq for Integer {
     ghost use Rattle.std.specs.Cmp.Rules.{comparing};
 
     ghost laws = { Prim.search (comparing, rules) };
+}
+
+impl PartialOrd for Integer {
+    ghost use Rattle.std.specs.Prelude.{Some};
+    ghost use Rattle.std.specs.Cmp.{signed_po};
+    ghost use Rattle.std.specs.Ordering.{int_cmp};
+
+    ghost partial_cmp = { λ a b. Some (int_cmp a b) };
+
+    ghost laws = { signed_po };
+
+    fn partial_cmp(&self, other: &Integer) -> Option<Ordering> {
+        Some(self.cmp(other))
+    }
+}
+
+impl Ord for Integer {
+    ghost use Rattle.std.proofs.Common.{rules};
+    ghost use Rattle.std.specs.Cmp.Rules.{comparing};
+    ghost use Rattle.std.specs.Ordering.{int_cmp};
+
+    ghost cmp = { int_cmp };
+
+    ghost total = { Prim.search (comparing, rules) };
+
+    ghost matches_partial_cmp = { Prim.search (comparing, rules) };
+
+    ghost matches_eq = { Prim.search (comparing, rules) };
+
+    fn cmp(&self, other: &Integer) -> Ordering {
+        order(&self.octets, &other.octets)
+    }
+}
+
+// The order of two numbers in their fewest octets: by sign, then by how many octets there are, then by the octets.
+fn order(octets: &[u8], others: &[u8]) -> Ordering
+    requires short { IsShortestInteger octets.now × IsShortestInteger others.now }
+    requires octets { AreOctets octets.now × AreOctets others.now }
+    ensures { result ≡ int_cmp (signed octets.now) (signed others.now) }
+{
+    match (octets[0] < 128, others[0] < 128) {
+        (true, false) => Ordering::Greater,
+        (false, true) => Ordering::Less,
+        (true, true) => octets.len().cmp(&others.len()).then(octets.cmp(&others)),
+        (false, false) => others.len().cmp(&octets.len()).then(octets.cmp(&others)),
+    }
 }
 
 impl AsnType for Integer {

@@ -1,15 +1,18 @@
 //! Strings of bits (X.690 8.6).
-ghost use Rattle.std.specs.Prelude.{◌≡◌, ◌<◌};
+ghost use Rattle.std.specs.Prelude.{◌≡◌, ◌<◌, ◌≤◌, ◌*◌, length, IfOk};
+ghost use Rattle.rasn_types.specs.Bits.{but_last};
 ghost use Rattle.rasn_types.specs.Framing.{AreOctets};
-ghost use Rattle.rasn_de.specs.BitStrings.{bits_at, segment_bits, is_miscounted, is_any_set, last_bits, FindsBits};
+ghost use Rattle.rasn_de.specs.BitStrings.{segment_bits, is_miscounted, is_any_set, last_bits, FindsBits};
+ghost use Rattle.rasn_de.specs.Views.{Gives};
 
 use crate::ber::de::parser::headers::{Expected, Spelling};
-use crate::ber::de::parser::strings::{Segmented, is_der_rule, string_contents};
+use crate::ber::de::parser::strings::{Segmented, segment_of, string_contents};
 use crate::ber::de::parser::{Fault, read_value};
+use crate::ber::rules::is_der;
 use rasn_types::ber::gathered::GatheredBits;
 use rasn_types::error::DerDecodeErrorKind;
 use rasn_types::types::{Codec, Tag};
-use std::alloc::Global;
+use std::alloc::{AllocError, Global};
 
 /// Whether a segment can't have so many unused bits.
 fn is_miscounted(unused: u8, octets: &[u8]) -> bool
@@ -32,6 +35,23 @@ fn is_any_set(unused: u8, octets: &[u8]) -> bool
     }
 }
 
+/// How many bits of a segment's last octet don't count, and its octets (X.690 8.6.2).
+fn counted(rules: Codec, segment: &[u8]) -> Result<(usize, &[u8]), Fault>
+    ensures bits { Gives (λ p. but_last p.0 p.1.now) result (segment_bits rules segment.now) }
+    ensures few { IfOk result (λ p. (p.0 < 8) × (p.0 ≤ 8 * length p.1.now)) }
+{
+    let [unused, octets @ ..] = segment else {
+        return Err(Fault::UnexpectedEmptyInput);
+    };
+    if is_miscounted(*unused, octets) {
+        return Err(Fault::InvalidBitString { bits: *unused });
+    }
+    if is_der(rules) && is_any_set(*unused, octets) {
+        return Err(Fault::Der(DerDecodeErrorKind::NonzeroUnusedBits));
+    }
+    Ok((usize::from(*unused), octets))
+}
+
 impl Segmented for GatheredBits {
     type Item = bool;
 
@@ -40,35 +60,54 @@ impl Segmented for GatheredBits {
     ghost segment = { segment_bits };
 
     fn append_segment(&mut self, rules: Codec, octets: &[u8]) -> Result<(), Fault> {
-        let [unused, octets @ ..] = octets else {
-            return Err(Fault::UnexpectedEmptyInput);
-        };
-        if is_miscounted(*unused, octets) {
-            return Err(Fault::InvalidBitString { bits: *unused });
-        }
-        if is_der_rule(rules) && is_any_set(*unused, octets) {
-            return Err(Fault::Der(DerDecodeErrorKind::NonzeroUnusedBits));
-        }
-        match self.append(octets, usize::from(*unused)) {
+        let (unused, octets) = counted(rules, octets)?;
+        match self.append(octets, unused) {
             Ok(()) => Ok(()),
             Err(_) => Err(Fault::OutOfMemory),
         }
     }
 }
 
-/// The bits of a string with a tag of its own, and what follows it.
+/// The bits of octets, but the last `unused` ones.
+fn copied(alloc: Global, octets: &[u8], unused: usize) -> Result<GatheredBits, AllocError>
+    requires few { unused < 8 }
+    requires held { unused ≤ 8 * length octets.now }
+    ensures { IfOk result (λ bs. bs ≡ but_last unused octets.now) }
+{
+    let mut bits = GatheredBits::new(alloc);
+    bits.append(octets, unused)?;
+    Ok(bits)
+}
+
+/// The bits of a string with a tag of its own, and what follows it; or a fault and what it leaves: all of the input, but what follows
+/// a primitive string that memory is wanting for.
 pub fn read_bits(
     alloc: Global,
     rules: Codec,
     depth: usize,
     tag: Tag,
     input: &[u8],
-) -> Result<(GatheredBits, &[u8]), Fault>
-    ensures exact { FindsBits (bits_at rules depth tag input.now) result }
+) -> Result<(GatheredBits, &[u8]), (Fault, &[u8])>
+    ensures exact { FindsBits rules depth tag input.now result }
     ensures octets { AreOctets input.now }
 {
-    let (value, rest) = read_value(Spelling::of_rule(rules), Expected::Tagged(tag), input)?;
+    let (value, rest) = match read_value(Spelling::of_rule(rules), Expected::Tagged(tag), input) {
+        Ok(found) => found,
+        Err(fault) => return Err((fault, input)),
+    };
+    if let Some(segment) = segment_of(value) {
+        let (unused, octets) = match counted(rules, segment) {
+            Ok(parts) => parts,
+            Err(fault) => return Err((fault, input)),
+        };
+        return match copied(alloc, octets, unused) {
+            Ok(bits) => Ok((bits, rest)),
+            Err(_) => Err((Fault::OutOfMemory, rest)),
+        };
+    }
     let mut bits = GatheredBits::new(alloc);
-    let rest = string_contents(rules, Tag::BIT_STRING, depth, value, rest, &mut bits)?;
-    Ok((bits, rest))
+    match string_contents(rules, Tag::BIT_STRING, depth, value, rest, &mut bits) {
+        Ok(rest) => Ok((bits, rest)),
+        Err(fault) => Err((fault, input)),
+    }
 }

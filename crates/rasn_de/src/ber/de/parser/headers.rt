@@ -1,11 +1,12 @@
 //! What a header may be: how it may be spelled (X.690 8.1, 10.1), and which tag and constructed bit it has to have.
 ghost use Rattle.std.specs.Prelude.{◌≡◌};
 ghost use Rattle.rasn_types.specs.Numbered.{constructed_bit};
-ghost use Rattle.rasn_types.specs.Tags.{form, tag_bit};
+ghost use Rattle.rasn_types.specs.Tags.{form, loose, tag_bit};
 ghost use Rattle.rasn_de.specs.Headers.{spelled, as_written, tagged_at, expected_at};
 ghost use Rattle.rasn_de.specs.Views.{Gives};
 
 use crate::ber::de::parser::Fault;
+use crate::ber::rules::{allows_indefinite, is_der};
 use rasn_types::ber::Identifier;
 use rasn_types::error::DerDecodeErrorKind;
 use rasn_types::types::{Class, Codec, Tag};
@@ -24,15 +25,19 @@ impl Spelling {
     pub fn of_rule(rule: Codec) -> Spelling
         ensures { result ≡ spelled (form rule) }
     {
-        match rule {
-            Codec::Ber | Codec::Cer => Spelling {
-                shortest: false,
-                indefinite: true,
-            },
-            Codec::Der => Spelling {
-                shortest: true,
-                indefinite: false,
-            },
+        Spelling {
+            shortest: is_der(rule),
+            indefinite: allows_indefinite(rule),
+        }
+    }
+
+    /// As they may be in an open type under these rules: in any number of octets, under DER in the definite form.
+    pub fn loose(rule: Codec) -> Spelling
+        ensures { result ≡ spelled (loose rule) }
+    {
+        Spelling {
+            shortest: false,
+            indefinite: allows_indefinite(rule),
         }
     }
 }
@@ -53,9 +58,10 @@ impl Expected {
     pub fn as_written(rule: Codec, tag: Tag, bit: bool) -> Expected
         ensures { result ≡ as_written rule tag bit }
     {
-        match rule {
-            Codec::Ber | Codec::Cer => Expected::Tagged(tag),
-            Codec::Der => Expected::Exactly(Identifier::from_tag(tag, bit)),
+        if is_der(rule) {
+            Expected::Exactly(Identifier::from_tag(tag, bit))
+        } else {
+            Expected::Tagged(tag)
         }
     }
 

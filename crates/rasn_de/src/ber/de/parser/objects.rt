@@ -1,11 +1,11 @@
 //! The contents of an OBJECT IDENTIFIER (X.690 8.19).
 ghost use Rattle.std.specs.Prelude.{◌≡◌, ◌∷◌, ◌++◌, [], ◌/◌, ◌-◌, ◌*◌, min, OnOk, IfOk, IfErr};
 ghost use Rattle.rasn_de.specs.declared.ber.de.parser.Fault.TheVariants.{OutOfMemory};
-ghost use Rattle.rasn_de.specs.ObjectIdentifiers.{FindsArcs, arc_at, starts_padded};
+ghost use Rattle.rasn_de.specs.ObjectIdentifiers.{FindsArcs, arc_at};
 ghost use Rattle.rasn_de.specs.Views.{Gives, pair};
 
-use crate::ber::de::parser::strings::is_der_rule;
-use crate::ber::de::parser::{Fault, read_number128};
+use crate::ber::de::parser::{Fault, is_padded, read_number128};
+use crate::ber::rules::is_der;
 use rasn_types::error::DerDecodeErrorKind;
 use rasn_types::types::{Codec, ObjectIdentifier};
 use std::alloc::Global;
@@ -33,21 +33,11 @@ fn first_arcs(alloc: Global, subidentifier: u32) -> Result<Vec<u32>, Fault>
     Ok(arcs)
 }
 
-/// Whether the first octet is one that a subidentifier doesn't need (X.690 8.19.2).
-fn starts_padded(input: &[u8]) -> bool
-    ensures { result ≡ starts_padded input.now }
-{
-    match input {
-        [first, ..] => *first == 0x80,
-        [] => false,
-    }
-}
-
 /// The next subidentifier, and what follows it. Under DER it has no octet that it doesn't need.
 fn read_arc(rules: Codec, input: &[u8]) -> Result<(u32, &[u8]), Fault>
     ensures { Gives pair result (arc_at rules input.now) }
 {
-    if is_der_rule(rules) && starts_padded(input) {
+    if is_der(rules) && is_padded(input) {
         return Err(Fault::Der(DerDecodeErrorKind::NonMinimalArc));
     }
     read_number128(Fault::UnsupportedObjectIdentifierArc, input)

@@ -5,7 +5,7 @@ ghost use Rattle.rasn_types.specs.Framing.{AreOctets};
 ghost use Rattle.rasn_types.specs.Shapes.{looked_for};
 ghost use Rattle.rasn_de.specs.State.{IsEnd};
 ghost use Rattle.rasn_de.specs.declared.ber.de.parser.headers.Expected.TheVariants.{AnyTag};
-ghost use Rattle.rasn_de.specs.Headers.{spelled, header_at};
+ghost use Rattle.rasn_de.specs.Headers.{header_at};
 ghost use Rattle.rasn_de.specs.Skipping.{Skipped, Closed, IsStuck, IsFault, Exactly, passed};
 ghost use Rattle.rasn_de.specs.OpenTypes.{OpenAt, as_lists};
 ghost use Rattle.rasn_de.specs.Views.{Gives, header};
@@ -17,28 +17,12 @@ use rasn_types::types::{Codec, Tag};
 /// How many octets close contents of indefinite length (X.690 8.1.5).
 const CLOSING_LENGTH: usize = 2;
 
-/// How the headers may be spelled that an open type holds: in any octets, under DER in the definite form.
-fn loose_spelling(rule: Codec) -> Spelling
-    ensures { result ≡ spelled (loose rule) }
-{
-    match rule {
-        Codec::Ber | Codec::Cer => Spelling {
-            shortest: false,
-            indefinite: true,
-        },
-        Codec::Der => Spelling {
-            shortest: false,
-            indefinite: false,
-        },
-    }
-}
-
 /// The value that begins the input, of any tag and in any spelling, and what follows.
 fn read_any_value(rule: Codec, input: &[u8]) -> Result<(Value<'_>, &[u8]), Fault>
     ensures exact { Gives header result (header_at (loose rule) AnyTag input.now) }
     ensures octets { AreOctets input.now }
 {
-    read_value(loose_spelling(rule), Expected::AnyTag, input)
+    read_value(Spelling::loose(rule), Expected::AnyTag, input)
 }
 
 /// What follows closing octets, where these come.

@@ -1,36 +1,27 @@
 //! Strings: primitive, or gathered from segments (X.690 8.6.4, 8.7.3, 8.23).
-ghost use Rattle.std.specs.Prelude.{◌≡◌, List, ℕ, MatchOption, Result};
+ghost use Rattle.std.specs.Prelude.{◌≡◌, List, ℕ, MatchBool, MatchOption, Result};
 ghost use Rattle.rasn_de.specs.declared.ber.de.parser.Fault.{Fault};
 ghost use Rattle.rasn_types.specs.declared.types.rules.Codec.{Codec};
-ghost use Rattle.rasn_types.specs.Framing.{AreOctets};
-ghost use Rattle.rasn_de.specs.Headers.{is_der};
+ghost use Rattle.rasn_types.specs.Framing.{AreOctets, Ended};
 ghost use Rattle.rasn_de.specs.Octets.{octets_at, Finds, ShowsForm};
-ghost use Rattle.rasn_de.specs.Strings.{ends, closed_at, finished, inner, string_of, octets};
+ghost use Rattle.rasn_de.specs.Strings.{closed_at, finished, inner, string_of, octets};
 ghost use Rattle.rasn_de.specs.Views.{Gives, IsNestedValue, IsPlainValue, Appends, AppendsPart, extent, header};
 
 use crate::ber::de::parser::headers::{Expected, Spelling};
 use crate::ber::de::parser::{Contents, Fault, Value, read_value};
+use crate::ber::rules::is_der;
 use rasn_types::error::DerDecodeErrorKind;
 use rasn_types::types::{Codec, Tag};
 use std::alloc::Global;
 use std::borrow::CowSlice;
 
-pub(crate) fn is_der_rule(rule: Codec) -> bool
-    ensures { result ≡ is_der rule }
-{
-    match rule {
-        Codec::Der => true,
-        _ => false,
-    }
-}
-
-/// Whether nothing is left, or closing octets come.
-fn has_ended(input: &[u8]) -> bool
-    ensures { result ≡ ends input.now }
+/// Whether contents end: nothing is left, or closing octets come where they may.
+pub(crate) fn has_ended(closing: bool, input: &[u8]) -> bool
+    ensures { MatchBool result (Ended closing input.now) (Ended closing input.now → ⊥) }
 {
     match input {
         [] => true,
-        [a, b, ..] => *a == 0 && *b == 0,
+        [a, b, ..] => closing && *a == 0 && *b == 0,
         _ => false,
     }
 }
@@ -112,7 +103,7 @@ impl Segmented for Vec<u8> {
 }
 
 /// The octets of a value that is one segment.
-fn segment_of(value: Value<'_>) -> Option<&[u8]>
+pub(crate) fn segment_of(value: Value<'_>) -> Option<&[u8]>
     ensures { MatchOption result (IsNestedValue value.entry) (λ s. IsPlainValue value.entry s.now) }
 {
     match value.contents {
@@ -140,14 +131,14 @@ pub fn string_contents<'a, T: Segmented>(
         out.append_segment(rule, segment)?;
         return Ok(rest);
     }
-    if is_der_rule(rule) {
+    if is_der(rule) {
         return Err(Fault::Der(DerDecodeErrorKind::ConstructedEncodingNotAllowed));
     }
     if depth == 0 {
         return Err(Fault::ExceedsMaxParseDepth);
     }
     let mut left = held(value.contents, rest);
-    'segments: while !has_ended(left) {
+    'segments: while !has_ended(true, left) {
         let (segment, after) = read_value(Spelling::of_rule(rule), Expected::Tagged(tag), left)?;
         left = string_contents(rule, tag, depth - 1, segment, after, out)?;
     }
@@ -155,6 +146,7 @@ pub fn string_contents<'a, T: Segmented>(
 }
 
 /// The octets of a string with a tag of its own, and what follows it. They are borrowed where they stand in one segment.
+#[inline(always)]
 pub fn read_octets(
     alloc: Global,
     rules: Codec,

@@ -15,19 +15,26 @@ returns-then-not-branch-clause-called g c = (found_out c.args.tag c.args.self.no
 pub returns-in_err-value-clause-called : goal.returns-in_err-value-clause-called
 returns-in_err-value-clause-called g c =
     let p = err_from_is_err_and c.from_residual-in_err-value.result c.from_residual-in_err-value.ensures.1 in
-    rw (p.1, p.2) (inr (found_there c.args.tag c.args.self.now c.in_ok-comes.field-0 c.if-not-branch.false c.in_ok-comes.ensures, c.in_err-value.ensures.reads))
+    rw (p.1, p.2) (inr (found_there c.args.tag c.args.self.now c.in_ok-comes.field-0 c.if-not-branch.false c.in_ok-comes.ensures, c.in_err-value.ensures.called))
 
 pub returns-clause-called : goal.returns-clause-called
-returns-clause-called g c = (found_there c.args.tag c.args.self.now c.in_ok-comes.field-0 c.if-not-branch.false c.in_ok-comes.ensures, c.in_ok-value.ensures.reads)
+returns-clause-called g c = (found_there c.args.tag c.args.self.now c.in_ok-comes.field-0 c.if-not-branch.false c.in_ok-comes.ensures, c.in_ok-value.ensures.called)
 
 pub returns-in_err-comes-clause-reads : goal.returns-in_err-comes-clause-reads
-returns-in_err-comes-clause-reads g c = perhaps_decodes (prefix c.args.tag g.D.AsnType.shape) g.D.AsnType.tree c.args.tag c.args.self.now _ _ (returns-in_err-comes-clause-called g c)
+returns-in_err-comes-clause-reads g c =
+    let p = err_from_is_err_and c.from_residual.result c.from_residual.ensures.1 in
+    perhaps_decodes (prefix c.args.tag g.D.AsnType.shape) g.D.AsnType.tree c.args.tag c.args.self.now _ _ (rw (p.1, p.2) (inl (c.in_err-comes.ensures, refl)))
 
 pub returns-then-not-branch-clause-reads : goal.returns-then-not-branch-clause-reads
 returns-then-not-branch-clause-reads g c = perhaps_decodes (prefix c.args.tag g.D.AsnType.shape) g.D.AsnType.tree c.args.tag c.args.self.now (Ok None) _ (returns-then-not-branch-clause-called g c)
 
 pub returns-in_err-value-clause-reads : goal.returns-in_err-value-clause-reads
-returns-in_err-value-clause-reads g c = perhaps_decodes (prefix c.args.tag g.D.AsnType.shape) g.D.AsnType.tree c.args.tag c.args.self.now _ _ (returns-in_err-value-clause-called g c)
+returns-in_err-value-clause-reads g c =
+    let p = err_from_is_err_and c.from_residual-in_err-value.result c.from_residual-in_err-value.ensures.1 in
+    perhaps_decodes (prefix c.args.tag g.D.AsnType.shape) g.D.AsnType.tree c.args.tag c.args.self.now _ _
+    (rw (p.1, p.2) (inr (found_there c.args.tag c.args.self.now c.in_ok-comes.field-0 c.if-not-branch.false c.in_ok-comes.ensures, c.in_err-value.ensures.reads)))
 
 pub returns-clause-reads : goal.returns-clause-reads
-returns-clause-reads g c = perhaps_decodes (prefix c.args.tag g.D.AsnType.shape) g.D.AsnType.tree c.args.tag c.args.self.now (Ok (Some c.in_ok-value.value)) _ (returns-clause-called g c)
+returns-clause-reads g c =
+    perhaps_decodes (prefix c.args.tag g.D.AsnType.shape) g.D.AsnType.tree c.args.tag c.args.self.now (Ok (Some c.in_ok-value.value)) _
+    (found_there c.args.tag c.args.self.now c.in_ok-comes.field-0 c.if-not-branch.false c.in_ok-comes.ensures, c.in_ok-value.ensures.reads)

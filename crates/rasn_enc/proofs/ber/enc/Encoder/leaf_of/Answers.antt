@@ -2,5 +2,5 @@ use Rattle.std.proofs.Common.{rules}
 use Rattle.rasn_enc.proofs.Filled.{filled_with}
 use Rattle.rasn_enc.proofs.ber.enc.Encoder.leaf_of.Goals as goal
 
-pub returns-clause-ok : goal.returns-clause-ok
-returns-clause-ok g c = filled_with _ _ _ c.args.tag _ _ _ c.leaf_with.ensures.ok (λ x y k. search rules)
+pub returns-in-Ok-clause-ok : goal.returns-in-Ok-clause-ok
+returns-in-Ok-clause-ok g c = filled_with _ _ _ c.args.tag _ _ c.in-Ok.ensures.ok (λ x y k. search rules)

@@ -6,7 +6,7 @@ use Rattle.rasn_de.specs.Headers.{spelled}
 use Rattle.rasn_de.specs.Strings.{segment_at}
 use Rattle.rasn_de.proofs.Frames.{spelled_by}
 use Rattle.rasn_de.proofs.Shorter.{header_shorter}
-use Rattle.rasn_de.proofs.Segments.{gathering_start, gathering_step, gathering_end, gathering_fault, segment_shorter, string_der, string_deep, string_nested, string_plain, string_plain_fault, string_shorter, segment_fault, segment_found}
+use Rattle.rasn_de.proofs.Segments.{ends_tested, gathering_start, gathering_step, gathering_end, gathering_fault, segment_shorter, string_der, string_deep, string_nested, string_plain, string_plain_fault, string_shorter, segment_fault, segment_found}
 use Rattle.rasn_de.specs.Views.{extent, header}
 use Rattle.rasn_de.proofs.Appending.{appends_finished, appends_fault}
 use Rattle.rasn_de.proofs.ber.de.parser.strings.+string_contents.Goals as goal
@@ -24,28 +24,28 @@ returns-in_err-append_segment g t c =
     let p = err_from_is_err_and c.from_residual.result c.from_residual.ensures.1 in
     rw (p.1, p.2) (λ n. string_plain_fault c.args.rule (g.T.Segmented.segment c.args.rule) c.args.tag c.args.depth (header (c.args.value, c.args.rest)) c.in-Some.segment.now _ c.in-Some.ensures.0 c.in-Some.ensures.1 (c.in_err-append_segment.ensures n))
 
-pub returns-then-is_der_rule : goal.returns-then-is_der_rule
-returns-then-is_der_rule g t c = λ n.
-    string_der c.args.rule (g.T.Segmented.segment c.args.rule) c.args.tag c.args.depth (header (c.args.value, c.args.rest)) c.in_default.ensures (sym c.is_der_rule.ensures ∙ c.if-is_der_rule.true)
+pub returns-then-is_der : goal.returns-then-is_der
+returns-then-is_der g t c = λ n.
+    string_der c.args.rule (g.T.Segmented.segment c.args.rule) c.args.tag c.args.depth (header (c.args.value, c.args.rest)) c.in_default.ensures (sym c.is_der.ensures ∙ c.if-is_der.true)
 
 pub returns-then-depth-eq0 : goal.returns-then-depth-eq0
 returns-then-depth-eq0 g t c = λ n.
-    string_deep c.args.rule (g.T.Segmented.segment c.args.rule) c.args.tag c.args.depth (header (c.args.value, c.args.rest)) c.in_default.ensures (sym c.is_der_rule.ensures ∙ c.if-is_der_rule.false) c.if-depth-eq0.true
+    string_deep c.args.rule (g.T.Segmented.segment c.args.rule) c.args.tag c.args.depth (header (c.args.value, c.args.rest)) c.in_default.ensures (sym c.is_der.ensures ∙ c.if-is_der.false) c.if-depth-eq0.true
 
 pub returns-in_err-segment : goal.returns-in_err-segment
 returns-in_err-segment g t c =
     let p = err_from_is_err_and c.from_residual-in_err-segment.result c.from_residual-in_err-segment.ensures.1 in
-    let whole = string_nested c.args.rule (g.T.Segmented.segment c.args.rule) c.args.tag c.args.depth (header (c.args.value, c.args.rest)) c.in_default.ensures (sym c.is_der_rule.ensures ∙ c.if-is_der_rule.false) c.if-depth-eq0.false in
+    let whole = string_nested c.args.rule (g.T.Segmented.segment c.args.rule) c.args.tag c.args.depth (header (c.args.value, c.args.rest)) c.in_default.ensures (sym c.is_der.ensures ∙ c.if-is_der.false) c.if-depth-eq0.false in
     rw (p.1, p.2) (λ n. appends_fault (segment_at c.args.rule (g.T.Segmented.segment c.args.rule) c.args.tag (c.args.depth - 1)) _ (extent c.args.value.contents) c.args.rest.now (g.T.Segmented.items c.args.out.now) (g.T.Segmented.items c.segments.out) _ whole
-    (gathering_fault (segment_at c.args.rule (g.T.Segmented.segment c.args.rule) c.args.tag (c.args.depth - 1)) _ c.segments.left.now _ _ _ c.segments.invariant (sym c.has_ended.ensures ∙ c.segments-test.true)
+    (gathering_fault (segment_at c.args.rule (g.T.Segmented.segment c.args.rule) c.args.tag (c.args.depth - 1)) _ c.segments.left.now _ _ _ c.segments.invariant (ends_tested _ c.segments.left.now c.has_ended.ensures ∙ c.segments-test.true)
     (segment_fault c.args.rule (g.T.Segmented.segment c.args.rule) c.args.tag (c.args.depth - 1) c.segments.left.now _ (spelled_by (form c.args.rule) _ c.of_rule.ensures (Tagged c.args.tag) c.segments.left.now _ c.in_err-segment.ensures.exact))))
 
 pub returns-in_err-left : goal.returns-in_err-left
 returns-in_err-left g t c =
     let p = err_from_is_err_and c.from_residual-in_err-left.result c.from_residual-in_err-left.ensures.1 in
-    let whole = string_nested c.args.rule (g.T.Segmented.segment c.args.rule) c.args.tag c.args.depth (header (c.args.value, c.args.rest)) c.in_default.ensures (sym c.is_der_rule.ensures ∙ c.if-is_der_rule.false) c.if-depth-eq0.false in
+    let whole = string_nested c.args.rule (g.T.Segmented.segment c.args.rule) c.args.tag c.args.depth (header (c.args.value, c.args.rest)) c.in_default.ensures (sym c.is_der.ensures ∙ c.if-is_der.false) c.if-depth-eq0.false in
     rw (p.1, p.2) (λ n. appends_fault (segment_at c.args.rule (g.T.Segmented.segment c.args.rule) c.args.tag (c.args.depth - 1)) _ (extent c.args.value.contents) c.args.rest.now (g.T.Segmented.items c.args.out.now) (g.T.Segmented.items c.segments.out) _ whole
-    (gathering_fault (segment_at c.args.rule (g.T.Segmented.segment c.args.rule) c.args.tag (c.args.depth - 1)) _ c.segments.left.now _ _ _ c.segments.invariant (sym c.has_ended.ensures ∙ c.segments-test.true)
+    (gathering_fault (segment_at c.args.rule (g.T.Segmented.segment c.args.rule) c.args.tag (c.args.depth - 1)) _ c.segments.left.now _ _ _ c.segments.invariant (ends_tested _ c.segments.left.now c.has_ended.ensures ∙ c.segments-test.true)
     (segment_found c.args.rule (g.T.Segmented.segment c.args.rule) c.args.tag (c.args.depth - 1) c.segments.left.now (header (c.in_ok-segment.segment, c.in_ok-segment.after)) (spelled_by (form c.args.rule) _ c.of_rule.ensures (Tagged c.args.tag) c.segments.left.now _ c.in_ok-segment.ensures.exact) ∙ c.in_err-left.ensures n)))
 
 pub segments-smaller : goal.segments-smaller
@@ -59,13 +59,13 @@ pub segments-preserved : goal.segments-preserved
 segments-preserved g t c =
     let e = c.in_ok-left.ensures in
     gathering_step (segment_at c.args.rule (g.T.Segmented.segment c.args.rule) c.args.tag (c.args.depth - 1)) (segment_shorter c.args.rule (g.T.Segmented.segment c.args.rule) c.args.tag (c.args.depth - 1)) _ c.segments.left.now _ _ _ (e.0, c.in_ok-left.left.now)
-    c.segments.invariant (sym c.has_ended.ensures ∙ c.segments-test.true)
+    c.segments.invariant (ends_tested _ c.segments.left.now c.has_ended.ensures ∙ c.segments-test.true)
     (segment_found c.args.rule (g.T.Segmented.segment c.args.rule) c.args.tag (c.args.depth - 1) c.segments.left.now (header (c.in_ok-segment.segment, c.in_ok-segment.after)) (spelled_by (form c.args.rule) _ c.of_rule.ensures (Tagged c.args.tag) c.segments.left.now _ c.in_ok-segment.ensures.exact) ∙ e.1) e.2
 
 pub returns : goal.returns
 returns g t c =
-    let whole = string_nested c.args.rule (g.T.Segmented.segment c.args.rule) c.args.tag c.args.depth (header (c.args.value, c.args.rest)) c.in_default.ensures (sym c.is_der_rule.ensures ∙ c.if-is_der_rule.false) c.if-depth-eq0.false in
-    let e = gathering_end (segment_at c.args.rule (g.T.Segmented.segment c.args.rule) c.args.tag (c.args.depth - 1)) _ c.segments.left.now _ _ c.segments.invariant (sym c.has_ended.ensures ∙ c.segments-test.false) in
+    let whole = string_nested c.args.rule (g.T.Segmented.segment c.args.rule) c.args.tag c.args.depth (header (c.args.value, c.args.rest)) c.in_default.ensures (sym c.is_der.ensures ∙ c.if-is_der.false) c.if-depth-eq0.false in
+    let e = gathering_end (segment_at c.args.rule (g.T.Segmented.segment c.args.rule) c.args.tag (c.args.depth - 1)) _ c.segments.left.now _ _ c.segments.invariant (ends_tested _ c.segments.left.now c.has_ended.ensures ∙ c.segments-test.false) in
     appends_finished (segment_at c.args.rule (g.T.Segmented.segment c.args.rule) c.args.tag (c.args.depth - 1)) _ (extent c.args.value.contents) c.args.rest.now c.segments.left.now _ _ e.0 _ whole e.1 e.2 c.finish.ensures
 
 pub segments-init : goal.segments-init

@@ -1,3 +1,4 @@
+use Rattle.std.proofs.Common.{◌∷◌, []}
 use Rattle.rasn_enc.specs.Lists.{tags_of}
 use Rattle.rasn_enc.proofs.Chains.{put-there, put-sound, put-chain}
 use Rattle.rasn_enc.proofs.ber.enc.writer.Writer.leaf.Goals as goal
@@ -13,5 +14,5 @@ returns-in-Ok-clause-ok c = record {
   octets = c.in-Ok.ensures.ok.puts.octets;
   written = c.in-Ok.ensures.ok.puts.written;
   appended = rw (← c.self.view_is) (
-      put-there c.self.inside.rule c.self.inside.gathered.items c.in-Ok.ensures.ok.puts.octets c.self.inside.marks.items c.self.inside.start c.self.inside.first c.self.inside.measured c.self.inside.interrupted.items c.self.invariant.0 c.self.invariant.1 c.gather.new.gathered.items c.in-Ok.ensures.ok.puts.is c.args.tag (tags_of c.self.inside.tags) (tags_of c.gather.new.tags) c.in-Ok.ensures.noted);
+      put-there c.self.inside.rule c.self.inside.gathered.items c.in-Ok.ensures.ok.puts.octets c.self.inside.marks.items c.self.inside.start c.self.inside.first c.self.inside.measured c.self.inside.interrupted.items c.self.invariant.0 c.self.invariant.1 c.gather.new.gathered.items c.in-Ok.ensures.ok.puts.is (c.args.tag ∷ []) (tags_of c.self.inside.tags) (tags_of c.gather.new.tags) c.in-Ok.ensures.noted);
 }

@@ -1,0 +1,5 @@
+use Rattle.rasn.proofs.StrictMade.{stays_carried as law}
+use Rattle.rasn.proofs.laws.stays_carried.Goals as goal
+
+pub returns : goal.returns
+returns c = law

@@ -1,0 +1,14 @@
+//! What a type of one's own is made of: `use rasn::prelude::*;`.
+
+pub use crate::types::{
+    Alphabet, Any, AsnType, BitStr, BitString, BmpString, Bound, Bounded, Class, Codec,
+    Constraints, Constructed, Date, Enumerated, Explicit, Field, FieldPresence, Fields,
+    FixedOctetString, GeneralString, GeneralizedTime, GraphicString, Ia5String, Identifier,
+    Implicit, Integer, IntegerType, LawfulEq, NumericString, ObjectIdentifier, OctetString,
+    Present, PrintableString, SetOf, Tag, TeletexString, UtcTime, Utf8String, VisibleString,
+};
+pub use rasn_de::ber::de::Decoder;
+pub use rasn_de::de::{Decode, DecodeChoice};
+pub use rasn_enc::ber::enc::Encoder;
+pub use rasn_enc::enc::Encode;
+pub use rasn_types::error::{DecodeError, EncodeError};

@@ -1,0 +1,217 @@
+-- The components of a SET are read one by one, and by part they are the SET's contents.
+use Rattle.std.proofs.Common.{◌≡◌, ◌⊎◌, inl, inr, ℕ, suc, Bool, false, List, [], ◌∷◌, ◌++◌, map, Result, Ok, Err, refl, sym, ap, ap₂, ◌∙◌, subst, append_assoc}
+use Rattle.std.proofs.lemmas.List.{append-nil}
+use Rattle.rasn_types.proofs.Alike.{items_one}
+use Rattle.rasn_types.specs.declared.types.rules.Codec.{Codec}
+use Rattle.rasn_types.specs.declared.types.tag.Tag.{Tag}
+use Rattle.rasn_types.specs.declared.error.decode.DecodeError.{DecodeError}
+use Rattle.rasn_types.specs.Framing.{Begins, Next, Ended}
+use Rattle.rasn_types.specs.Tags.{form, IsStrict, IsTagBelow}
+use Rattle.rasn_types.specs.Order.{Each, DoNotFall}
+use Rattle.rasn_types.specs.Shapes.{Tree, items, chosen, choice, Parts, part, Presence, required, optional, addition, default}
+use Rattle.rasn_types.specs.Shapes.Parts.{none}
+use Rattle.rasn_types.specs.Readers.{Reading, Part, Many, ReadFrom, IsNoDefault, IsMissing, NoneOf, OneOf, ByPart, AreInTagOrder, ReadsSet}
+use Rattle.rasn_types.specs.Grammar.{Reads, parts_of}
+use Rattle.rasn_types.specs.Trees.{list_tree}
+use Rattle.rasn_types.proofs.Frames.{begins_one}
+use Rattle.rasn_de.specs.State.{State}
+use Rattle.rasn_de.specs.Decodes.{Decodes, DecodesBy}
+use Rattle.rasn_de.specs.Lists.{ReadsItems, Stops}
+use Rattle.rasn_de.specs.Sets.{NextTag, Unread, not_told, falls, stops, ReadComponents, Gathers, AreParts, MakesSet}
+use Rattle.rasn_de.specs.Outcomes.{Exact, refusal}
+use Rattle.rasn_de.specs.Taking.{Peeks}
+use Rattle.rasn_de.proofs.Answering.{Exact-none, Exact-refusal}
+use Rattle.rasn_de.proofs.Bagged.{Came, came}
+use Rattle.rasn_de.proofs.Choosing.{choice_next}
+use Rattle.rasn_de.proofs.Listing.{Come, element_refused, element_stuck, elements_starved, elements_end}
+use Rattle.rasn_de.proofs.Perhaps.{peeks_none}
+use Rattle.rasn_de.proofs.Pieces.{begins_more}
+use Rattle.rasn_de.proofs.Tagged.{tags_split, tags_one, front_in_order}
+
+-- Readings are these parts in one way.
+none_here : (k : ℕ) (t : Tree) (before after : List Tree) → NoneOf k (before ++ (chosen k t ∷ after)) → ⊥
+none_here k t [] after h = h.0 t refl
+none_here k t (b ∷ before) after h = none_here k t before after h.1
+
+one_of_one : (k : ℕ) (t u : Tree) (a b c d : List Tree) → NoneOf k a → NoneOf k c → a ++ (chosen k t ∷ b) ≡ c ++ (chosen k u ∷ d) → t ≡ u
+one_of_one k t u [] b [] d h l e = cc
+one_of_one k t u [] b (y ∷ c) d h l e = let f : chosen k t ≡ y = cc in absurd (l.0 t (sym f))
+one_of_one k t u (x ∷ a) b [] d h l e = let f : x ≡ chosen k u = cc in absurd (h.0 u f)
+one_of_one k t u (x ∷ a) b (y ∷ c) d h l e = one_of_one k t u a b c d h.1 l.1 cc
+
+missing_one : (p : Presence) (t u : Tree) → IsMissing p t → IsMissing p u → t ≡ u
+missing_one required t u a b = absurd a
+missing_one optional t u a b = a ∙ sym b
+missing_one addition t u a b = a ∙ sym b
+missing_one (default d) t u a b = a ∙ sym b
+
+pub by_part_one : (rule : Codec) (ps : List Part) (k : ℕ) (readings ts us : List Tree) → ByPart rule k ps readings ts → ByPart rule k ps readings us → ts ≡ us
+by_part_one rule [] k readings ts us h l = h ∙ sym l
+by_part_one rule (p ∷ ps) k readings ts us h l = h.2 ∙ (ap₂ ◌∷◌ (go h.3 l.3) (by_part_one rule ps (suc k) readings h.1 l.1 h.4 l.4) ∙ sym l.2)
+  where
+    go : (OneOf k h.0 readings × (IsStrict rule → IsNoDefault p.presence h.0)) ⊎ (NoneOf k readings × IsMissing p.presence h.0)
+        → (OneOf k l.0 readings × (IsStrict rule → IsNoDefault p.presence l.0)) ⊎ (NoneOf k readings × IsMissing p.presence l.0) → h.0 ≡ l.0
+    go (inl (a, x)) (inl (b, y)) = one_of_one k h.0 l.0 a.before a.after b.before b.after a.none_before b.none_before (sym a.is ∙ b.is)
+    go (inl (a, x)) (inr (b, c)) = absurd (none_here k h.0 a.before a.after (subst (NoneOf k) a.is b))
+    go (inr (b, c)) (inl (a, x)) = absurd (none_here k l.0 a.before a.after (subst (NoneOf k) a.is b))
+    go (inr (b, c)) (inr (d, e)) = missing_one p.presence h.0 l.0 c e
+
+-- Depth and closing octets don't count for which parts they are.
+pub by_part_at : (rule : Codec) (ps : Parts) (k d e : ℕ) (b c : Bool) (readings ts : List Tree) → ByPart rule k (parts_of rule ps d b) readings ts → ByPart rule k (parts_of rule ps e c) readings ts
+unfolding parts_of
+by_part_at rule none k d e b c readings ts h = h
+by_part_at rule (part p s ps) k d e b c readings ts (t, us, f, g, h) = (t, us, f, g, by_part_at rule ps (suc k) d e b c readings us h)
+
+-- What stands in a SET of these parts.
+abbrev pub SetReads : Parts → Codec → ℕ → Bool → Reading Tree
+SetReads ps rule depth closing = ReadsSet rule (parts_of rule ps depth closing) closing
+
+module _ {F S : Type 0} (ps : Parts) (piece : F → Tree) (tree : S → Tree) (old : State) where
+  abbrev pub Whole : Reading Tree
+  Whole = SetReads ps old.rule old.depth old.closing
+
+  abbrev pub R : Reading Tree
+  R = Reads old.rule (choice ps) old.depth old.closing
+
+  as_list : (input : List ℕ) (t : Tree) (r : List ℕ) → Whole input t r → (us : List Tree) × ReadsItems (choice ps) old.rule old.depth old.closing input (items us) r
+  unfolding ReadsItems Reads
+  as_list input t r w = (w.0, (w.0, refl, w.3))
+
+  -- what is refused as a list is refused as a SET
+  from_list : (e : DecodeError) (new : State) → DecodesBy (ReadsItems (choice ps)) (λ (l : List F). list_tree piece l) old (Err e) new → DecodesBy (SetReads ps) tree old (Err e) new
+  from_list e new k = record {
+    stays = k.stays;
+    end = k.end;
+    exact = Exact-refusal e.kind (ReadsItems (choice ps) old.rule old.depth old.closing) Whole old.rest old.rest (λ none t r w. let l = as_list old.rest t r w in none (items l.0) r l.1) k.exact;
+  }
+
+  -- what would be read goes on here
+  goes_on : (here : State) (vs : List F) (bs : List (List ℕ)) → Came (choice ps) piece old here vs bs → (t : Tree) (r : List ℕ) → Whole old.rest t r → IsStrict old.rule
+      → (us : List Tree) × (more : List (List ℕ)) × Many R old.closing here.rest us r × ReadFrom R here.rest us r more × AreInTagOrder (bs ++ more)
+  unfolding Reads
+  goes_on here vs bs k t r x strict =
+      let w = x.5 strict in
+      let g = k.come.2.back x.0 r x.3 in
+      let m = k.ran.back g.0 r w.0 (subst (λ y. ReadFrom R old.rest y r w.0) g.1 w.1) in
+      (g.0, m.0, g.2, m.2, subst AreInTagOrder m.1 w.2)
+
+  strict_there : (here : State) (vs : List F) (bs : List (List ℕ)) → Came (choice ps) piece old here vs bs → IsStrict here.rule → IsStrict old.rule
+  strict_there here vs bs k s = subst (λ (z : State). IsStrict z.rule) k.come.0 s
+
+  ended_there : (here : State) (vs : List F) (bs : List (List ℕ)) → Came (choice ps) piece old here vs bs → (Ended here.closing here.rest → ⊥) → Ended old.closing here.rest → ⊥
+  ended_there here vs bs k n e = n (subst (λ (z : State). Ended z.closing here.rest) (sym k.come.0) e)
+
+  next_there : (here : State) (vs : List F) (bs : List (List ℕ)) → Came (choice ps) piece old here vs bs → (Ended here.closing here.rest → ⊥) → ((tag : Tag) → Next (form here.rule) here.rest tag → ⊥)
+      → (us : List Tree) (r : List ℕ) → Many R old.closing here.rest us r → ⊥
+  unfolding Reads
+  next_there here vs bs k n nothing [] r m = ended_there here vs bs k n m.0
+  next_there here vs bs k n nothing (u ∷ us) r (e, mid, x, m) =
+      let c = choice_next (form old.rule) 0 (parts_of old.rule ps old.depth old.closing) here.rest u mid x in
+      nothing c.0 (subst (λ (z : State). Next (form z.rule) here.rest c.0) (sym k.come.0) c.1)
+
+  untold : (here : State) (vs : List F) (bs : List (List ℕ)) → Came (choice ps) piece old here vs bs → (Ended here.closing here.rest → ⊥) → (e : DecodeError) → Peeks here (Err e) → IsStrict here.rule
+      → DecodesBy (SetReads ps) tree old (Err e) here
+  untold here vs bs k n e p strict = record {
+    stays = k.come.0;
+    end = k.come.1;
+    exact = Exact-none e.kind Whole old.rest (λ t r w.
+        let g = goes_on here vs bs k t r w (strict_there here vs bs k strict) in
+        next_there here vs bs k n (peeks_none here e p) g.0 r g.2);
+  }
+
+  clash : (here : State) (vs : List F) (bs : List (List ℕ)) → Came (choice ps) piece old here vs bs → (Ended here.closing here.rest → ⊥) → NextTag (λ tags. DoNotFall IsTagBelow tags → ⊥) bs here
+      → (us : List Tree) (r : List ℕ) (more : List (List ℕ)) → Many R old.closing here.rest us r → ReadFrom R here.rest us r more → AreInTagOrder (bs ++ more) → ⊥
+  clash here vs bs k n f [] r more m x o = ended_there here vs bs k n m.0
+  clash here vs bs k n (tag, tags, next, heads, below) (u ∷ us) r more m (b, rest, mid, e, g, y, z) (all, h, order) =
+      let s = tags_split bs more all h in
+      let q : Each Begins (b ∷ rest) s.1 = subst (λ l. Each Begins l s.1) e s.4 in
+      let same : q.0 ≡ tag = begins_one here.rest q.0 tag (subst (λ l. Begins l q.0) (sym g) (begins_more b mid q.0 q.3)) next.begins in
+      let front : s.0 ≡ tags = tags_one bs s.0 tags s.3 heads in
+      let w : DoNotFall IsTagBelow (s.0 ++ q.0 ∷ q.1) = subst (DoNotFall IsTagBelow) (s.2 ∙ ap (λ l. s.0 ++ l) q.2) order in
+      let v : DoNotFall IsTagBelow (tags ++ tag ∷ q.1) = subst (λ l. DoNotFall IsTagBelow (l ++ tag ∷ q.1)) front (subst (λ x. DoNotFall IsTagBelow (s.0 ++ x ∷ q.1)) same w) in
+      below (front_in_order IsTagBelow (tags ++ tag ∷ []) q.1 (subst (DoNotFall IsTagBelow) (sym (append_assoc tags (tag ∷ []) q.1)) v))
+
+  fell : (here : State) (vs : List F) (bs : List (List ℕ)) → Came (choice ps) piece old here vs bs → (Ended here.closing here.rest → ⊥) → (e : DecodeError) → NextTag (λ tags. DoNotFall IsTagBelow tags → ⊥) bs here
+      → IsStrict here.rule → DecodesBy (SetReads ps) tree old (Err e) here
+  fell here vs bs k n e f strict = record {
+    stays = k.come.0;
+    end = k.come.1;
+    exact = Exact-none e.kind Whole old.rest (λ t r w.
+        let g = goes_on here vs bs k t r w (strict_there here vs bs k strict) in
+        clash here vs bs k n f g.0 r g.1 g.2 g.3 g.4);
+  }
+
+  stopped : (here : State) (vs : List F) → Come (choice ps) piece old here vs → (Ended here.closing here.rest → ⊥) → (e : DecodeError) (new : State) → Stops (Decodes (choice ps) piece) here e new
+      → DecodesBy (SetReads ps) tree old (Err e) new
+  stopped here vs a n e new (inl k) = from_list e new (element_refused (choice ps) piece old (λ (l : List F). list_tree piece l) here vs a n e new k)
+  stopped here vs a n e new (inr (v, k, inl (l, w))) = from_list e new (element_stuck (choice ps) piece old (λ (l : List F). list_tree piece l) here vs a n v new k l e)
+  stopped here vs a n e new (inr (v, k, inr w)) = from_list e new (elements_starved (choice ps) piece old (λ (l : List F). list_tree piece l) here vs a v new k e (ap (λ (x : DecodeError). x.kind) w))
+
+  unread : (here : State) (vs : List F) (bs : List (List ℕ)) → Came (choice ps) piece old here vs bs → (Ended here.closing here.rest → ⊥) → (e : DecodeError) (new : State)
+      → Unread (Decodes (choice ps) piece) bs here e new → DecodesBy (SetReads ps) tree old (Err e) new
+  unread here vs bs k n e new (not_told s p q) = subst (DecodesBy (SetReads ps) tree old (Err e)) (sym q) (untold here vs bs k n e p s)
+  unread here vs bs k n e new (falls s f w q) = subst (DecodesBy (SetReads ps) tree old (Err e)) (sym q) (fell here vs bs k n e f s)
+  unread here vs bs k n e new (stops f w) = stopped here vs k.come n e new w
+
+  -- All components were read.
+  module _ (new : State) (fs : List F) (bs : List (List ℕ)) (k : Came (choice ps) piece old new fs bs) (order : IsStrict old.rule → AreInTagOrder bs) (end : Ended new.closing new.rest) where
+    listed : DecodesBy (ReadsItems (choice ps)) (λ (l : List F). list_tree piece l) old (Ok fs) new
+    listed = elements_end (choice ps) piece old (λ (l : List F). list_tree piece l) new fs k.come end fs refl
+
+    -- what is read as a SET has these readings
+    only : (t : Tree) (r : List ℕ) → Whole old.rest t r → (ts : List Tree) × (t ≡ items ts) × ByPart old.rule 0 (parts_of old.rule ps 0 false) (map piece fs) ts × (r ≡ new.rest)
+    unfolding as_list
+    only t r w =
+        let l = as_list old.rest t r w in
+        let y = listed.exact.1 (items l.0) r l.1 in
+        let q : w.0 ≡ map piece fs = items_one w.0 (map piece fs) y.0 in
+        (w.1, w.2, by_part_at old.rule ps 0 old.depth 0 old.closing false (map piece fs) w.1 (subst (λ z. ByPart old.rule 0 (parts_of old.rule ps old.depth old.closing) z w.1) q w.4), y.1)
+
+    there : (many : Many R old.closing old.rest (map piece fs) new.rest) (t : Tree) → AreParts old.rule ps (map piece fs) t → Whole old.rest t new.rest
+    unfolding Reads
+    there many t (ts, e, by) = (
+      map piece fs,
+      ts,
+      e,
+      many,
+      by_part_at old.rule ps 0 0 old.depth false old.closing (map piece fs) ts by,
+      λ strict. (
+        bs,
+        subst (λ z. ReadFrom R old.rest z new.rest bs) (append-nil (map piece fs))
+            (subst (λ z. ReadFrom R old.rest (map piece fs ++ []) new.rest z) (append-nil bs) (k.ran.on [] new.rest [] (refl, refl))),
+        order strict,
+      ),
+    )
+
+    many_read : Many R old.closing old.rest (map piece fs) new.rest
+    unfolding ReadsItems
+    many_read =
+        let x = listed.exact.0 in
+        subst (λ z. Many R old.closing old.rest z new.rest) (sym (items_one (map piece fs) x.0 x.1)) x.2
+
+    pub made : (v : S) → AreParts old.rule ps (map piece fs) (tree v) → DecodesBy (SetReads ps) tree old (Ok v) new
+    made v a = record {
+      stays = k.come.0;
+      end = k.come.1;
+      exact = (
+        there many_read (tree v) a,
+        λ t r w.
+            let o = only t r w in
+            (o.1 ∙ ap items (by_part_one old.rule (parts_of old.rule ps 0 false) 0 (map piece fs) o.0 a.0 o.2 a.2) ∙ sym a.1, o.3),
+      );
+    }
+
+    pub not_made : (e : DecodeError) → Exact (λ input t rest. AreParts old.rule ps (map piece fs) t) [] (refusal e.kind) → DecodesBy (SetReads ps) tree old (Err e) new
+    not_made e x = record {
+      stays = k.come.0;
+      end = k.come.1;
+      exact = Exact-refusal e.kind (λ input t rest. AreParts old.rule ps (map piece fs) t) Whole [] old.rest
+          (λ none t r w. let o = only t r w in none t [] (o.0, o.1, o.2)) x;
+    }
+
+  pub set_gathers : {L : Type 0} (elements : L → List F) (by : L → Result S DecodeError → Type 0)
+      → ((fs : L) (r : Result S DecodeError) → by fs r → MakesSet old.rule ps tree (map piece (elements fs)) r)
+      → (result : Result S DecodeError) (new : State) → Gathers (ReadComponents (Decodes (choice ps) piece) elements) by old result new → DecodesBy (SetReads ps) tree old result new
+  set_gathers elements by H (Ok v) new (fs, (bs, p, order, end), m) = made new (elements fs) bs (came (choice ps) piece old new (elements fs) bs p) order end v (H fs (Ok v) m)
+  set_gathers elements by H (Err e) new (inl (vs, bs, here, p, order, n, u)) = unread here vs bs (came (choice ps) piece old here vs bs p) n e new u
+  set_gathers elements by H (Err e) new (inr (fs, (bs, p, order, end), m)) = not_made new (elements fs) bs (came (choice ps) piece old new (elements fs) bs p) order end e (H fs (Err e) m)

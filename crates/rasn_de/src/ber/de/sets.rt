@@ -1,0 +1,99 @@
+//! SET (X.690 8.11).
+ghost use Rattle.std.specs.Prelude.{◌≡◌, MatchBool, map, Vec, Result};
+ghost use Rattle.std.specs.Global.{Global};
+ghost use Rattle.std.specs.Fn.{FnOnceReturnsAtMut};
+ghost use Rattle.rasn_types.specs.declared.error.decode.DecodeError.{DecodeError};
+ghost use Rattle.rasn_types.specs.Shapes.{set, choice};
+ghost use Rattle.rasn_de.specs.Decodes.{Decodes};
+ghost use Rattle.rasn_de.specs.Inside.{ReadInside};
+ghost use Rattle.rasn_de.specs.Sequences.{sequence_door};
+ghost use Rattle.rasn_de.specs.Sets.{IsBelowLast, Looks, ReadComponents, Gathers, MakesSet};
+
+use crate::ber::de::Decoder;
+use crate::ber::de::nesting::Opening;
+use crate::ber::de::parser::Fault;
+use crate::de::Decode;
+use rasn_types::error::{DecodeError, DerDecodeErrorKind};
+use rasn_types::types::{Constructed, Tag};
+
+/// Whether a tag is below the last one (X.680 8.6).
+fn is_below_last(tag: Tag, last: Option<Tag>) -> bool
+    ensures { MatchBool result (IsBelowLast tag last) (IsBelowLast tag last → ⊥) }
+{
+    match last {
+        Some(last) => tag < last,
+        None => false,
+    }
+}
+
+impl<'input> Decoder<'input> {
+    /// Under DER the next tag, which must not be below the last one (X.690 10.3); under the other rules it isn't looked at.
+    fn tag_in_order(&self, last: Option<Tag>) -> Result<Option<Tag>, DecodeError>
+        ensures { Looks last self.now result }
+    {
+        if !self.is_strict() {
+            return Ok(None);
+        }
+        let tag = self.peek_tag()?;
+        if is_below_last(tag, last) {
+            return Err(self.error(Fault::Der(DerDecodeErrorKind::SetComponentsOutOfOrder)));
+        }
+        Ok(Some(tag))
+    }
+
+    /// Components up to the end of the contents, whose tags don't fall under DER (X.690 10.3).
+    fn components<FIELDS: Decode>(&mut self) -> Result<Vec<FIELDS>, DecodeError>
+        ensures { ReadComponents (Decodes FIELDS.shape FIELDS.tree) (λ v. v.items) self.old result self.new }
+    {
+        let mut values = Vec::new(self.alloc);
+        let mut last = None;
+        while !self.has_ended() {
+            last = self.tag_in_order(last)?;
+            let left = self.rest.len();
+            let value = FIELDS::decode(self)?;
+            if self.rest.len() == left {
+                return Err(self.error(Fault::UnexpectedExtraData { length: left }));
+            }
+            match values.push(value) {
+                Ok(()) => {}
+                Err(_) => return Err(self.error(Fault::OutOfMemory)),
+            }
+        }
+        Ok(values)
+    }
+
+    /// A SET (X.690 8.11). Its components are read in any order, each as one `FIELDS`, up to the end of the contents; `f` makes
+    /// the value of them. Under DER the tag of a component must not be below that of the one before (X.690 10.3). The first closure
+    /// isn't called.
+    ///
+    /// # Errors
+    /// `ExceedsMaxParseDepth` before the header; framing faults; with the value taken, `InvalidConstructedIdentifier`; what a
+    /// component refuses, `UnexpectedExtraData` at one that takes nothing, under DER faults of the next identifier and
+    /// `SetComponentsOutOfOrder` before the component is read, and what `f` refuses, which take header and contents, or of an
+    /// indefinite length the header; closing octets that are missing (`Incomplete`, `MissingEndOfContents`), which take what was
+    /// read inside too.
+    pub fn decode_set<
+        const RL: usize,
+        const EL: usize,
+        FIELDS: Decode,
+        SET: Constructed<RL, EL>,
+        D: Fn(&mut Decoder<'_>, usize, Tag) -> Result<FIELDS, DecodeError>,
+        F: FnOnce(Vec<FIELDS>) -> Result<SET, DecodeError>,
+    >(&mut self, tag: Tag, _decode: D, f: F) -> Result<SET, DecodeError>
+        requires callable { F.IsAlwaysCallable f }
+        ensures called { ReadInside (Gathers (ReadComponents (Decodes FIELDS.shape FIELDS.tree) (λ (v : Vec FIELDS Global). v.items)) (λ fields r. F.post f fields r)) (sequence_door tag) self.old result self.new }
+        ensures reads { FIELDS.shape ≡ choice SET.parts
+            → ((fields : Vec FIELDS Global) (r : Result SET DecodeError) → F.post f fields r → MakesSet self.old.rule SET.parts SET.tree (map FIELDS.tree fields.items) r)
+            → Decodes (set tag SET.parts) SET.tree self.old result self.new }
+    {
+        let (mut inner, contents) = self.open(Opening {
+            tag,
+            needs_bit: true,
+            levels: 1,
+        })?;
+        let fields = inner.components::<FIELDS>()?;
+        let value = f(fields)?;
+        self.close(contents, inner.remaining())?;
+        Ok(value)
+    }
+}

@@ -1,0 +1,23 @@
+-- Why octets of an open type aren't written.
+use Rattle.std.specs.Prelude.{ℕ, ◌≡◌, ◌≢◌, ◌⊎◌, List, [], None}
+use Rattle.rasn_types.specs.Shapes.{looked_for}
+use Rattle.rasn_types.specs.declared.types.rules.Codec.{Codec}
+use Rattle.rasn_types.specs.declared.types.tag.Tag.{Tag}
+use Rattle.rasn_types.specs.declared.error.encode.EncodeError.{EncodeError}
+use Rattle.rasn_types.specs.declared.error.encode.EncodeErrorKind.TheVariants.{CodecSpecific}
+use Rattle.rasn_types.specs.declared.error.encode.CodecEncodeError.TheVariants.{Ber}
+use Rattle.rasn_types.specs.declared.error.encode.BerEncodeErrorKind.TheVariants.{AnyInSet}
+use Rattle.rasn_enc.specs.View.{View}
+use Rattle.rasn_enc.specs.Primitives.{WantsMemory}
+
+-- Octets without a tag would stand in a set.
+abbrev pub TellsBare : Codec → EncodeError → Type 0
+TellsBare rule e = e ≡ record { kind = CodecSpecific (Ber AnyInSet); codec = rule }
+
+-- They would stand in a list that keeps tags.
+abbrev pub WouldBeBare : Tag → View → Type 0
+WouldBeBare tag v = (looked_for tag ≡ None) × (v.last.tags ≢ None)
+
+-- There are octets, and they would be bare, or else memory is wanted.
+abbrev pub RefusesAny : Tag → List ℕ → View → EncodeError → Type 0
+RefusesAny tag octets v e = (octets ≢ []) × ((WouldBeBare tag v × TellsBare v.rule e) ⊎ ((WouldBeBare tag v → ⊥) × WantsMemory v.rule e))

@@ -1,0 +1,93 @@
+//! Open types.
+ghost use Rattle.std.specs.Prelude.{◌≡◌, ◌≢◌, ◌⊎◌, None, [], MatchBool, IfErr, OnOk, OnErr};
+ghost use Rattle.rasn_types.specs.Shapes.{any, looked_for};
+ghost use Rattle.rasn_types.specs.Trees.{open_tree, open_octets};
+ghost use Rattle.rasn_types.specs.Bytes.{Cons};
+ghost use Rattle.rasn_enc.specs.View.{appended};
+ghost use Rattle.rasn_enc.specs.Primitives.{Appends, WantsMemory};
+ghost use Rattle.rasn_enc.specs.Wrote.{Wrote};
+ghost use Rattle.rasn_enc.specs.OpenTypes.{TellsBare, RefusesAny};
+
+use super::Encoder;
+use rasn_types::error::{BerEncodeErrorKind, CodecEncodeError, EncodeError, EncodeErrorKind};
+use rasn_types::types::{Any, Codec, Identifier, Tag};
+
+impl Encoder {
+    /// Writes a value of an open type (X.680 30): with a tag as a value of this tag round the octets (X.690 8.14.2), with `Tag::EOC` as
+    /// the octets alone (8.15). One that has no octets is written as nothing. The name is ignored.
+    ///
+    /// # Errors
+    /// `AnyInSet` where octets without a tag would stand directly in a SET, or in the output of an encoder that `new_set` made: their
+    /// order isn't known (X.690 9.3, 10.3). Else `OutOfMemory` alone. Nothing is written then.
+    pub fn encode_any(
+        &mut self,
+        tag: Tag,
+        value: &Any,
+        _identifier: Identifier,
+    ) -> Result<(), EncodeError>
+        ensures ok { OnOk result (Wrote (any (looked_for tag)) (open_tree value.now) self.old self.new) }
+        ensures err { OnErr result (self.new ≡ self.old) }
+        ensures refused { IfErr result (RefusesAny tag (open_octets value.now) self.old) }
+    {
+        let octets = value.as_bytes();
+        if octets.is_empty() {
+            return Ok(());
+        }
+        if tag == Tag::EOC {
+            self.put_bare(octets)
+        } else {
+            self.put_round(tag, octets)
+        }
+    }
+
+    // Puts octets behind the last list, unless that keeps the tags of what stands in it.
+    fn put_bare(&mut self, octets: &[u8]) -> Result<(), EncodeError>
+        ensures ok { OnOk result (self.new ≡ appended self.old octets.now []) }
+        ensures free { OnOk result (self.old.last.tags ≡ None) }
+        ensures err { OnErr result (self.new ≡ self.old) }
+        ensures refused { IfErr result (λ e. ((self.old.last.tags ≢ None) × TellsBare self.old.rule e) ⊎ ((self.old.last.tags ≡ None) × WantsMemory self.old.rule e)) }
+    {
+        if self.keeps_tags() {
+            return Err(any_in_set(self.codec()));
+        }
+        self.put(octets)
+    }
+
+    // Writes a value of this tag round octets.
+    fn put_round(&mut self, tag: Tag, octets: &[u8]) -> Result<(), EncodeError>
+        ensures ok { OnOk result (Appends (Cons self.old.rule tag octets.now) tag self.old self.new) }
+        ensures err { OnErr result (self.new ≡ self.old) }
+        ensures memory { IfErr result (WantsMemory self.old.rule) }
+    {
+        self.open(false)?;
+        let outcome = self.put(octets);
+        self.close(tag, outcome)
+    }
+
+    // Whether the last list keeps the outermost tags of what stands in it.
+    fn keeps_tags(&self) -> bool
+        ensures { MatchBool result (self.now.last.tags ≢ None) (self.now.last.tags ≡ None) }
+    {
+        self.writer.keeps_tags()
+    }
+
+    // Puts octets behind the last list, without a header.
+    fn put(&mut self, octets: &[u8]) -> Result<(), EncodeError>
+        ensures ok { OnOk result (self.new ≡ appended self.old octets.now []) }
+        ensures err { OnErr result (self.new ≡ self.old) }
+        ensures memory { IfErr result (WantsMemory self.old.rule) }
+    {
+        self.writer.put(octets)
+    }
+}
+
+fn any_in_set(codec: Codec) -> EncodeError
+    ensures { TellsBare codec result }
+{
+    EncodeError {
+        kind: EncodeErrorKind::CodecSpecific {
+            inner: CodecEncodeError::Ber(BerEncodeErrorKind::AnyInSet),
+        },
+        codec,
+    }
+}

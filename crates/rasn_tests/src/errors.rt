@@ -1,0 +1,4 @@
+//! Errors and values as text, and values compared.
+
+mod compared;
+mod texts;

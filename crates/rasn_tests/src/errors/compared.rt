@@ -1,0 +1,91 @@
+use crate::reading::decoder_of;
+use crate::writing::made;
+use rasn_de::de::Decode;
+use rasn_types::error::{DecodeError, DecodeErrorKind, Needed};
+use rasn_types::types::{BitStr, Codec, Constraints, Integer, ObjectIdentifier};
+use std::alloc::Global;
+use std::process::Abort;
+
+/// The octets' numbers in two's complement, from the least on (X.690 8.3).
+const NUMBERS: &[&[u8]] = &[
+    &[0xFE, 0, 0, 0, 0, 0, 0, 0, 0, 0, 0, 0, 0, 0, 0, 0, 0, 0],
+    &[0xFF, 0, 0, 0, 0, 0, 0, 0, 0, 0, 0, 0, 0, 0, 0, 0, 0, 0],
+    &[0x80, 0x00],
+    &[0xFF, 0x7F],
+    &[0x80],
+    &[0xFF],
+    &[0x00],
+    &[0x7F],
+    &[0x00, 0x80],
+    &[0x01, 0x00],
+    &[0x01, 0, 0, 0, 0, 0, 0, 0, 0, 0, 0, 0, 0, 0, 0, 0, 0, 0],
+];
+
+fn number(rt: &impl Abort, alloc: Global, octets: &[u8]) -> Integer {
+    made(rt, Integer::from_octets(alloc, octets))
+}
+
+#[test]
+fn orders_numbers(rt: HostRuntime) {
+    let alloc = rt.alloc();
+    for (place, octets) in NUMBERS.iter().enumerate() {
+        let least = number(&rt, alloc, octets);
+        assert!(rt; least == number(&rt, alloc, octets));
+        for others in &NUMBERS[place + 1..] {
+            assert!(rt; least < number(&rt, alloc, others));
+            assert!(rt; number(&rt, alloc, others) > least);
+        }
+    }
+}
+
+fn arcs(rt: &impl Abort, alloc: Global, arcs: &[u32]) -> ObjectIdentifier {
+    match Vec::from_slice(alloc, arcs) {
+        Ok(arcs) => made(rt, Ok(ObjectIdentifier::new(arcs))),
+        Err(_) => panic!(rt; "no memory"),
+    }
+}
+
+// By the first arcs that differ; one that another begins with comes first.
+#[test]
+fn orders_arcs(rt: HostRuntime) {
+    let alloc = rt.alloc();
+    let rows: [&[u32]; 4] = [&[1, 2], &[1, 2, 840], &[1, 3], &[2, 1]];
+    for (place, least) in rows.iter().enumerate() {
+        for more in &rows[place + 1..] {
+            assert!(rt; arcs(&rt, alloc, least) < arcs(&rt, alloc, more));
+        }
+    }
+}
+
+// Views of the bits 1,0,1 at two places, of 1,0,0, and of 1,0.
+#[test]
+fn compares_views_of_bits(rt: HostRuntime) {
+    let front = made(&rt, Ok(BitStr::new(&[0xA0], 0, 3)));
+    assert!(rt; front == made(&rt, Ok(BitStr::new(&[0x01, 0x40], 7, 3))));
+    assert!(rt; front != made(&rt, Ok(BitStr::new(&[0x80], 0, 3))));
+    assert!(rt; front != made(&rt, Ok(BitStr::new(&[0xA0], 0, 2))));
+}
+
+// Errors are equal where their kinds, fields and rules are.
+#[test]
+fn compares_errors(rt: HostRuntime) {
+    let alloc = rt.alloc();
+    let incomplete = |octets, codec| DecodeError {
+        kind: DecodeErrorKind::Incomplete {
+            needed: Needed::new(octets),
+        },
+        codec,
+    };
+    let refused = match bool::decode(&mut decoder_of(alloc, &[0x01], Codec::Ber)) {
+        Err(error) => error,
+        Ok(_) => panic!(rt; "it is read"),
+    };
+    assert!(rt; refused == incomplete(1, Codec::Ber));
+    assert!(rt; refused != incomplete(2, Codec::Ber));
+    assert!(rt; refused != incomplete(1, Codec::Der));
+}
+
+#[test]
+fn has_defaults(rt: HostRuntime) {
+    assert!(rt; Constraints::default() == Constraints::NONE);
+}

@@ -1,0 +1,222 @@
+use crate::reading::{decoder_of, sized, within};
+use rasn_de::de::{Decode, Error};
+use rasn_types::error::{
+    BerEncodeErrorKind, CodecEncodeError, DecodeError, EncodeError, EncodeErrorKind,
+};
+use rasn_types::types::{
+    BmpString, Bounded, Codec, Constraints, Integer, NumericString, OctetString, UtcTime,
+};
+use std::alloc::Global;
+use std::fmt::Display;
+use std::process::Abort;
+
+/// Octets, the rules they are read by, and the text of the refusal.
+type Refused = (&'static [u8], Codec, &'static str);
+
+/// Holds the text of what is shown against another.
+fn shown<T: Display + Drop>(rt: &impl Abort, alloc: Global, value: T, text: &str) {
+    match format!(in alloc; "{value}") {
+        Ok(found) => assert_eq!(rt; found.as_str(), text),
+        Err(_) => assert!(rt; false, "no memory"),
+    }
+}
+
+/// Reads a value of the type from each row's octets, and holds the text of its refusal against the row.
+fn shows<T: Decode>(rt: &impl Abort, alloc: Global, constraints: &Constraints, rows: &[Refused]) {
+    for (octets, rules, text) in rows {
+        let mut decoder = decoder_of(alloc, octets, *rules);
+        match T::decode_with_constraints(&mut decoder, constraints) {
+            Ok(_) => assert!(rt; false, "{octets:?} is read"),
+            Err(error) => shown(rt, alloc, error, text),
+        }
+    }
+}
+
+// One octet and several; tags of all classes.
+#[test]
+fn tells_octets_and_tags(rt: HostRuntime) {
+    let alloc = rt.alloc();
+    let any = &Constraints::NONE;
+    shows::<bool>(
+        &rt,
+        alloc,
+        any,
+        &[
+            (&[0x01], Codec::Ber, "BER: one octet is missing"),
+            (
+                &[0x01, 0x01, 0x05],
+                Codec::Der,
+                "DER: octet 05 is no canonical BOOLEAN",
+            ),
+            (
+                &[0x01, 0x02, 0x05, 0x05],
+                Codec::Cer,
+                "CER: a length of 2 instead of 1",
+            ),
+            (
+                &[0x1F, 0x22],
+                Codec::Ber,
+                "BER: tag universal 34 instead of universal 1",
+            ),
+            (
+                &[0x41, 0x01, 0xFF],
+                Codec::Ber,
+                "BER: tag application 1 instead of universal 1",
+            ),
+            (
+                &[0x82, 0x01, 0xFF],
+                Codec::Ber,
+                "BER: tag [2] instead of universal 1",
+            ),
+            (
+                &[0xC3, 0x01, 0xFF],
+                Codec::Ber,
+                "BER: tag private 3 instead of universal 1",
+            ),
+        ],
+    );
+    shows::<OctetString>(
+        &rt,
+        alloc,
+        any,
+        &[
+            (
+                &[0x04, 0x05, 0x01, 0x02],
+                Codec::Ber,
+                "BER: 3 octets are missing",
+            ),
+            (
+                &[0x24, 0x05, 0x04, 0x01, 0xA1, 0x00, 0x00],
+                Codec::Ber,
+                "BER: 2 octets are left",
+            ),
+        ],
+    );
+    shows::<Vec<Option<bool>>>(
+        &rt,
+        alloc,
+        any,
+        &[(&[0x30, 0x01, 0x02], Codec::Ber, "BER: one octet is left")],
+    );
+}
+
+// Numbers, sizes and their bounds, an open end as the standard writes it (X.680 51.4).
+#[test]
+fn tells_numbers_and_bounds(rt: HostRuntime) {
+    let alloc = rt.alloc();
+    let overflow = "BER: the number doesn't fit 8 bits, or is negative and the type has no sign";
+    shows::<u8>(
+        &rt,
+        alloc,
+        &Constraints::NONE,
+        &[(&[0x02, 0x01, 0xFF], Codec::Ber, overflow)],
+    );
+    shows::<Integer>(
+        &rt,
+        alloc,
+        &within(-5, 255),
+        &[
+            (
+                &[0x02, 0x02, 0x01, 0x2C],
+                Codec::Ber,
+                "BER: number 300, not in -5..255",
+            ),
+            (
+                &[0x02, 0x01, 0xF0],
+                Codec::Ber,
+                "BER: number -16, not in -5..255",
+            ),
+        ],
+    );
+    shows::<OctetString>(
+        &rt,
+        alloc,
+        &sized(2),
+        &[(
+            &[0x04, 0x03, 0x01, 0x02, 0x03],
+            Codec::Der,
+            "DER: size 3, not in 2",
+        )],
+    );
+    shown(&rt, alloc, Bounded::<u8>::None, "MIN..MAX");
+    let upper = Bounded::Range {
+        start: None,
+        end: Some(7u8),
+    };
+    shown(&rt, alloc, upper, "MIN..7");
+    let lower = Bounded::Range {
+        start: Some(7u8),
+        end: None,
+    };
+    shown(&rt, alloc, lower, "7..MAX");
+}
+
+// Octets that aren't of the type.
+#[test]
+fn tells_foreign_octets(rt: HostRuntime) {
+    let alloc = rt.alloc();
+    let any = &Constraints::NONE;
+    shows::<NumericString>(
+        &rt,
+        alloc,
+        any,
+        &[(
+            &[0x12, 0x02, 0x31, 0x2A],
+            Codec::Ber,
+            "BER: octet 2A at place 1 isn't in the alphabet",
+        )],
+    );
+    shows::<BmpString>(
+        &rt,
+        alloc,
+        any,
+        &[(
+            &[0x1E, 0x01, 0x41],
+            Codec::Ber,
+            "BER: no string of the type universal 30",
+        )],
+    );
+    shows::<UtcTime>(
+        &rt,
+        alloc,
+        any,
+        &[(
+            &[0x17, 0x02, 0x31, 0x0A],
+            Codec::Ber,
+            "BER: no time in the octets 310A",
+        )],
+    );
+    shows::<Integer>(
+        &rt,
+        alloc,
+        any,
+        &[(&[0x02, 0x00], Codec::Ber, "BER: no octets")],
+    );
+}
+
+// What a type tells for itself, and what isn't written.
+#[test]
+fn tells_names(rt: HostRuntime) {
+    let alloc = rt.alloc();
+    let time = DecodeError::no_valid_choice(alloc, "Time", Codec::Der);
+    shown(&rt, alloc, time, "DER: no alternative of Time");
+    let number = DecodeError::missing_field(alloc, "number", Codec::Ber);
+    shown(&rt, alloc, number, "BER: number is missing");
+    let number = DecodeError::duplicate_field(alloc, "number", Codec::Ber);
+    shown(&rt, alloc, number, "BER: number comes twice");
+    let kind = EncodeErrorKind::CodecSpecific {
+        inner: CodecEncodeError::Ber(BerEncodeErrorKind::SetOutOfOrder),
+    };
+    let codec = Codec::Cer;
+    shown(
+        &rt,
+        alloc,
+        EncodeError { kind, codec },
+        "CER: components out of order",
+    );
+    let kind = EncodeErrorKind::SizeConstraintNotSatisfied {
+        size: 3,
+        expected: Bounded::Single(4),
+    };
+    shown(&rt, alloc, kind, "size 3, not in 4");
+}

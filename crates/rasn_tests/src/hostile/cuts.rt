@@ -1,0 +1,283 @@
+//! Values of definite length that are cut: each proper front of their octets lacks some, and nothing is taken.
+
+use crate::reading::decoder_of;
+use rasn::de::Decode;
+use rasn::error::{DecodeError, DecodeErrorKind, Needed};
+use rasn::types::{
+    Any, BitString, BmpString, Codec, Date, GeneralizedTime, Ia5String, Integer, ObjectIdentifier,
+    OctetString, SetOf, UtcTime,
+};
+use rasn_bench::{Colour, Foo, Grouped, Pair, Validity};
+use std::alloc::Global;
+use std::process::Abort;
+
+/// Octets of one value of definite length, the rules they are read by, and how many octets its identifier and its length take.
+type Definite = (&'static [u8], Codec, usize, usize);
+
+/// How many octets are missing of a value of so many, of which there are `count`: one of an identifier, one or those that are told
+/// of a length, or those of the contents (X.690 8.1.2, 8.1.3).
+fn missing(total: usize, identifier: usize, length: usize, count: usize) -> usize {
+    let header = identifier.saturating_add(length);
+    if count <= identifier {
+        1
+    } else if count < header {
+        header - count
+    } else {
+        total.saturating_sub(count)
+    }
+}
+
+/// Whether so many octets are missing.
+fn lacks<T: Drop>(answer: Result<T, DecodeError>, needed: usize) -> bool {
+    match answer {
+        Ok(_) => false,
+        Err(error) =>
+            matches!(error.kind, DecodeErrorKind::Incomplete { needed: Needed::Size(found) } if found == needed),
+    }
+}
+
+/// Whether a value is read of all octets.
+pub(super) fn reads_all<T: Decode>(alloc: Global, octets: &[u8], rules: Codec) -> bool {
+    let mut decoder = decoder_of(alloc, octets, rules);
+    T::decode(&mut decoder).is_ok() && decoder.remaining().is_empty()
+}
+
+/// Reads each row, and each proper front of it, which lacks octets and takes nothing.
+fn cuts<T: Decode>(rt: &impl Abort, alloc: Global, rows: &[Definite]) {
+    for (octets, rules, identifier, length) in rows {
+        assert!(rt;
+            reads_all::<T>(alloc, octets, *rules),
+            "{octets:?} {rules:?}"
+        );
+        for count in 0..octets.len() {
+            let (front, _) = octets.split_at(count);
+            let mut decoder = decoder_of(alloc, front, *rules);
+            let needed = missing(octets.len(), *identifier, *length, count);
+            assert!(rt;
+                lacks(T::decode(&mut decoder), needed),
+                "{front:?} {rules:?}"
+            );
+            assert!(rt; decoder.decoded_len() == 0, "{front:?} {rules:?}");
+        }
+    }
+}
+
+// Leaves, also in more header octets than they need.
+#[test]
+fn cut_numbers_are_refused(rt: HostRuntime) {
+    let alloc = rt.alloc();
+    cuts::<bool>(
+        &rt,
+        alloc,
+        &[
+            (&[0x01, 0x01, 0xFF], Codec::Der, 1, 1),
+            (&[0x1F, 0x80, 0x01, 0x01, 0xFF], Codec::Ber, 3, 1),
+            (&[0x01, 0x82, 0x00, 0x01, 0x05], Codec::Ber, 1, 3),
+        ],
+    );
+    cuts::<i32>(
+        &rt,
+        alloc,
+        &[
+            (
+                &[0x02, 0x06, 0xFF, 0xFF, 0xFF, 0xFF, 0x7F, 0x00],
+                Codec::Ber,
+                1,
+                1,
+            ),
+            (&[0x02, 0x02, 0x7F, 0x00], Codec::Der, 1, 1),
+        ],
+    );
+    cuts::<Integer>(
+        &rt,
+        alloc,
+        &[(&[0x02, 0x03, 0x00, 0x00, 0x80], Codec::Cer, 1, 1)],
+    );
+    cuts::<Colour>(&rt, alloc, &[(&[0x0A, 0x02, 0x00, 0x02], Codec::Ber, 1, 1)]);
+    cuts::<()>(&rt, alloc, &[(&[0x05, 0x00], Codec::Der, 1, 1)]);
+    cuts::<ObjectIdentifier>(
+        &rt,
+        alloc,
+        &[(
+            &[
+                0x06, 0x09, 0x2B, 0x06, 0x01, 0x04, 0x01, 0x82, 0x37, 0x15, 0x14,
+            ],
+            Codec::Der,
+            1,
+            1,
+        )],
+    );
+}
+
+// Strings, primitive and in segments of definite length.
+#[test]
+fn cut_strings_are_refused(rt: HostRuntime) {
+    let alloc = rt.alloc();
+    cuts::<OctetString>(
+        &rt,
+        alloc,
+        &[
+            (&[0x04, 0x03, 0xA1, 0xB2, 0xC3], Codec::Der, 1, 1),
+            (&[0x04, 0x81, 0x02, 0xA1, 0xB2], Codec::Cer, 1, 2),
+            (&[0x24, 0x03, 0x04, 0x01, 0xA1], Codec::Ber, 1, 1),
+        ],
+    );
+    cuts::<BitString>(
+        &rt,
+        alloc,
+        &[
+            (&[0x03, 0x03, 0x05, 0xD5, 0xA0], Codec::Der, 1, 1),
+            (
+                &[0x23, 0x08, 0x03, 0x02, 0x05, 0xE0, 0x03, 0x02, 0x04, 0xA0],
+                Codec::Ber,
+                1,
+                1,
+            ),
+        ],
+    );
+    cuts::<Ia5String>(
+        &rt,
+        alloc,
+        &[(
+            &[0x16, 0x05, 0x53, 0x6D, 0x69, 0x74, 0x68],
+            Codec::Der,
+            1,
+            1,
+        )],
+    );
+    cuts::<BmpString>(&rt, alloc, &[(&[0x1E, 0x02, 0x00, 0x41], Codec::Ber, 1, 1)]);
+}
+
+#[test]
+fn cut_times_are_refused(rt: HostRuntime) {
+    let alloc = rt.alloc();
+    cuts::<UtcTime>(
+        &rt,
+        alloc,
+        &[(
+            &[
+                0x17, 0x0D, 0x31, 0x38, 0x30, 0x31, 0x32, 0x32, 0x31, 0x33, 0x32, 0x39, 0x30, 0x30,
+                0x5A,
+            ],
+            Codec::Der,
+            1,
+            1,
+        )],
+    );
+    cuts::<GeneralizedTime>(
+        &rt,
+        alloc,
+        &[(
+            &[
+                0x18, 0x0F, 0x32, 0x30, 0x35, 0x30, 0x30, 0x31, 0x30, 0x31, 0x30, 0x30, 0x30, 0x30,
+                0x30, 0x30, 0x5A,
+            ],
+            Codec::Cer,
+            1,
+            1,
+        )],
+    );
+    cuts::<Date>(
+        &rt,
+        alloc,
+        &[(
+            &[
+                0x1F, 0x1F, 0x08, 0x32, 0x30, 0x31, 0x32, 0x31, 0x32, 0x32, 0x31,
+            ],
+            Codec::Ber,
+            2,
+            1,
+        )],
+    );
+    cuts::<Validity>(
+        &rt,
+        alloc,
+        &[(
+            &[
+                0x30, 0x20, 0x17, 0x0D, 0x31, 0x38, 0x30, 0x31, 0x32, 0x32, 0x31, 0x33, 0x32, 0x39,
+                0x30, 0x30, 0x5A, 0x18, 0x0F, 0x32, 0x30, 0x35, 0x30, 0x30, 0x31, 0x30, 0x31, 0x30,
+                0x30, 0x30, 0x30, 0x30, 0x30, 0x5A,
+            ],
+            Codec::Der,
+            1,
+            1,
+        )],
+    );
+}
+
+// Values that hold others: octets are missing of the value itself, whatever it holds.
+#[test]
+fn cut_holders_are_refused(rt: HostRuntime) {
+    let alloc = rt.alloc();
+    cuts::<Pair>(
+        &rt,
+        alloc,
+        &[(
+            &[0x30, 0x06, 0x02, 0x01, 0x05, 0x01, 0x01, 0xFF],
+            Codec::Der,
+            1,
+            1,
+        )],
+    );
+    cuts::<Foo>(
+        &rt,
+        alloc,
+        &[(
+            &[
+                0x30, 0x0A, 0x16, 0x05, 0x53, 0x6D, 0x69, 0x74, 0x68, 0x01, 0x01, 0xFF,
+            ],
+            Codec::Der,
+            1,
+            1,
+        )],
+    );
+    cuts::<Grouped>(
+        &rt,
+        alloc,
+        &[(
+            &[
+                0x30, 0x0E, 0x01, 0x01, 0xFF, 0x81, 0x01, 0x05, 0x30, 0x06, 0x02, 0x01, 0x07, 0x01,
+                0x01, 0x00,
+            ],
+            Codec::Ber,
+            1,
+            1,
+        )],
+    );
+    cuts::<Vec<bool>>(
+        &rt,
+        alloc,
+        &[(
+            &[0x30, 0x83, 0x00, 0x00, 0x03, 0x01, 0x01, 0xFF],
+            Codec::Ber,
+            1,
+            4,
+        )],
+    );
+    cuts::<SetOf<OctetString>>(
+        &rt,
+        alloc,
+        &[(
+            &[
+                0x31, 0x0E, 0x04, 0x01, 0x01, 0x04, 0x01, 0x02, 0x04, 0x02, 0x01, 0xFF, 0x04, 0x02,
+                0x02, 0x01,
+            ],
+            Codec::Der,
+            1,
+            1,
+        )],
+    );
+    cuts::<Any>(
+        &rt,
+        alloc,
+        &[(
+            &[
+                0x30, 0x0D, 0x06, 0x09, 0x2A, 0x86, 0x48, 0x86, 0xF7, 0x0D, 0x01, 0x01, 0x01, 0x05,
+                0x00,
+            ],
+            Codec::Der,
+            1,
+            1,
+        )],
+    );
+}

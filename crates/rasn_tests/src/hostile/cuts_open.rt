@@ -1,0 +1,182 @@
+//! Values of indefinite length that are cut: each proper front of their octets is refused.
+
+use super::cuts::reads_all;
+use crate::reading::decoder_of;
+use rasn::de::Decode;
+use rasn::error::{BerDecodeErrorKind, CodecDecodeError, DecodeError, DecodeErrorKind};
+use rasn::types::{Any, BitString, Codec, OctetString, SetOf};
+use rasn_bench::{Foo, Grouped, Pair};
+use std::alloc::{AllocError, Global};
+use std::process::Abort;
+
+/// Octets of one value of indefinite length, and the rules they are read by.
+type Indefinite = (&'static [u8], Codec);
+
+/// Whether a value is cut: octets are missing, or a zero octet stands alone where a value may begin.
+fn is_cut<T: Drop>(answer: Result<T, DecodeError>) -> bool {
+    match answer {
+        Ok(_) => false,
+        Err(error) => matches!(
+            error.kind,
+            DecodeErrorKind::Incomplete { .. }
+                | DecodeErrorKind::MissingField { .. }
+                | DecodeErrorKind::CodecSpecific {
+                    inner: CodecDecodeError::Ber(BerDecodeErrorKind::UnexpectedEndOfContents),
+                }
+        ),
+    }
+}
+
+/// Reads each row, and each proper front of it, which is refused as cut.
+fn cuts_open<T: Decode>(rt: &impl Abort, alloc: Global, rows: &[Indefinite]) {
+    for (octets, rules) in rows {
+        assert!(rt;
+            reads_all::<T>(alloc, octets, *rules),
+            "{octets:?} {rules:?}"
+        );
+        for count in 0..octets.len() {
+            let (front, _) = octets.split_at(count);
+            let mut decoder = decoder_of(alloc, front, *rules);
+            assert!(rt; is_cut(T::decode(&mut decoder)), "{front:?} {rules:?}");
+        }
+    }
+}
+
+// Indefinite length, where a front may end in one zero octet, or before closing octets.
+#[test]
+fn cut_open_strings_are_refused(rt: HostRuntime) {
+    let alloc = rt.alloc();
+    cuts_open::<OctetString>(
+        &rt,
+        alloc,
+        &[
+            (
+                &[
+                    0x24, 0x80, 0x04, 0x01, 0xA1, 0x24, 0x03, 0x04, 0x01, 0xB2, 0x24, 0x80, 0x04,
+                    0x01, 0xC3, 0x00, 0x00, 0x00, 0x00,
+                ],
+                Codec::Ber,
+            ),
+            (
+                &[
+                    0x24, 0x80, 0x04, 0x01, 0xA1, 0x24, 0x03, 0x04, 0x01, 0xB2, 0x24, 0x80, 0x04,
+                    0x01, 0xC3, 0x00, 0x00, 0x00, 0x00,
+                ],
+                Codec::Cer,
+            ),
+        ],
+    );
+    cuts_open::<BitString>(
+        &rt,
+        alloc,
+        &[(
+            &[
+                0x23, 0x80, 0x03, 0x03, 0x00, 0x0A, 0x3B, 0x03, 0x05, 0x04, 0x5F, 0x29, 0x1C, 0xD0,
+                0x00, 0x00,
+            ],
+            Codec::Ber,
+        )],
+    );
+    cuts_open::<Any>(
+        &rt,
+        alloc,
+        &[(
+            &[
+                0x30, 0x80, 0x30, 0x80, 0x02, 0x01, 0x01, 0x00, 0x00, 0x04, 0x01, 0x00, 0x00, 0x00,
+            ],
+            Codec::Ber,
+        )],
+    );
+}
+
+#[test]
+fn cut_open_holders_are_refused(rt: HostRuntime) {
+    let alloc = rt.alloc();
+    cuts_open::<Pair>(
+        &rt,
+        alloc,
+        &[(
+            &[0x30, 0x80, 0x02, 0x01, 0x05, 0x01, 0x01, 0x05, 0x00, 0x00],
+            Codec::Ber,
+        )],
+    );
+    cuts_open::<Foo>(
+        &rt,
+        alloc,
+        &[
+            (
+                &[
+                    0x30, 0x80, 0x36, 0x80, 0x04, 0x02, 0x53, 0x6D, 0x04, 0x03, 0x69, 0x74, 0x68,
+                    0x00, 0x00, 0x01, 0x01, 0x01, 0x00, 0x00,
+                ],
+                Codec::Ber,
+            ),
+            (
+                &[
+                    0x30, 0x80, 0x16, 0x05, 0x53, 0x6D, 0x69, 0x74, 0x68, 0x01, 0x01, 0xFF, 0x00,
+                    0x00,
+                ],
+                Codec::Cer,
+            ),
+        ],
+    );
+    cuts_open::<Grouped>(
+        &rt,
+        alloc,
+        &[
+            (
+                &[
+                    0x30, 0x80, 0x01, 0x01, 0xFF, 0x81, 0x01, 0x05, 0x30, 0x80, 0x02, 0x01, 0x07,
+                    0x01, 0x01, 0x00, 0x00, 0x00, 0x00, 0x00,
+                ],
+                Codec::Cer,
+            ),
+            (&[0x30, 0x80, 0x01, 0x01, 0xFF, 0x00, 0x00], Codec::Ber),
+        ],
+    );
+    cuts_open::<Vec<u8>>(
+        &rt,
+        alloc,
+        &[(
+            &[0x30, 0x80, 0x02, 0x01, 0x05, 0x02, 0x01, 0x07, 0x00, 0x00],
+            Codec::Cer,
+        )],
+    );
+    cuts_open::<SetOf<OctetString>>(
+        &rt,
+        alloc,
+        &[(
+            &[0x31, 0x80, 0x04, 0x01, 0x02, 0x04, 0x01, 0x01, 0x00, 0x00],
+            Codec::Ber,
+        )],
+    );
+}
+
+/// A thousand SEQUENCEs of indefinite length in one another.
+fn levels(alloc: Global) -> Result<Vec<u8>, AllocError> {
+    let mut octets = Vec::new(alloc);
+    for _ in 0..1000u32 {
+        octets.extend_from_slice(&[0x30, 0x80])?;
+    }
+    for _ in 0..1000u32 {
+        octets.extend_from_slice(&[0x00, 0x00])?;
+    }
+    Ok(octets)
+}
+
+// Each of the last hundred octets may be missing, with those behind it.
+#[test]
+fn cut_levels_are_refused(rt: HostRuntime) {
+    let alloc = rt.alloc();
+    match levels(alloc) {
+        Ok(octets) => {
+            for count in 1..=100usize {
+                let (front, _) = octets.split_at(octets.len().saturating_sub(count));
+                let mut decoder = decoder_of(alloc, front, Codec::Ber);
+                assert!(rt; is_cut(decoder.skip_value()), "{count}");
+                assert!(rt; decoder.decoded_len() == 0, "{count}");
+            }
+        }
+        Err(_) => assert!(rt; false, "no memory"),
+    }
+}

@@ -1,0 +1,142 @@
+ghost use Rattle.rasn_enc.specs.View.{LeavesOthers};
+
+use super::{ONE, any_of};
+use crate::types::{ApplicationTag, ContextTag, Three};
+use crate::writing::{done, holds, made, new_encoder, new_set_encoder, refused};
+use rasn::ber::enc::Encoder;
+use rasn::enc::Encode;
+use rasn::error::EncodeError;
+use rasn::types::{Any, Codec, Explicit, Identifier, Implicit, Tag};
+use rasn_bench::Set3;
+use std::alloc::{AllocError, Global};
+use std::process::Abort;
+
+/// The kind of a refusal of bare octets in a set.
+const BARE: &str = "CodecSpecific { inner: Ber(AnyInSet) }";
+
+/// \[N\] INTEGER (0..255)
+type At<const N: u32> = Implicit<ContextTag<N>, u8>;
+
+/// Writes an open type that holds these octets, with this tag or with none, and holds what is written against the others.
+fn writes_open(rt: &impl Abort, alloc: Global, rules: Codec, tag: Tag, held: &[u8], octets: &[u8]) {
+    let any = made(rt, any_of(alloc, held));
+    let mut encoder = new_encoder(rt, alloc, rules);
+    done(rt, encoder.encode_any(tag, &any, Identifier::EMPTY));
+    holds(rt, encoder.output(), octets);
+}
+
+// Without a tag the octets are written alone (X.690 8.15), also where no identifier begins them.
+#[test]
+fn writes_octets_alone(rt: HostRuntime) {
+    let alloc = rt.alloc();
+    for rules in [Codec::Ber, Codec::Cer, Codec::Der] {
+        writes_open(&rt, alloc, rules, Tag::EOC, &[0x05, 0x00], &[0x05, 0x00]);
+        writes_open(&rt, alloc, rules, Tag::EOC, &[0x1F], &[0x1F]);
+        writes_open(&rt, alloc, rules, Tag::EOC, &[], &[]);
+        writes_open(&rt, alloc, rules, ONE, &[], &[]);
+    }
+}
+
+// A tag stands round the octets as that of a constructed value (X.690 8.14.2), in the form of the rules (9.1, 10.1).
+#[test]
+fn writes_tags_round_octets(rt: HostRuntime) {
+    let alloc = rt.alloc();
+    let definite = [0xA1, 0x02, 0x05, 0x00];
+    writes_open(&rt, alloc, Codec::Ber, ONE, &[0x05, 0x00], &definite);
+    writes_open(&rt, alloc, Codec::Der, ONE, &[0x05, 0x00], &definite);
+    let indefinite = [0xA1, 0x80, 0x05, 0x00, 0x00, 0x00];
+    writes_open(&rt, alloc, Codec::Cer, ONE, &[0x05, 0x00], &indefinite);
+}
+
+// Where tags are kept, octets without one can't be put in order (X.690 9.3, 10.3).
+#[test]
+fn refuses_bare_octets_where_tags_are_kept(rt: HostRuntime) {
+    let alloc = rt.alloc();
+    let any = made(&rt, any_of(alloc, &[0x05, 0x00]));
+    for rules in [Codec::Ber, Codec::Cer, Codec::Der] {
+        let mut encoder = new_set_encoder(&rt, alloc, rules);
+        done(&rt, true.encode(&mut encoder));
+        refused(&rt, alloc, rules, any.encode(&mut encoder), BARE);
+        holds(&rt, encoder.output(), &[0x01, 0x01, 0xFF]);
+    }
+}
+
+/// A SET of three that ends with these octets, which have no tag there.
+fn ends_open(alloc: Global, octets: &[u8]) -> Result<Option<Three<At<0>, At<1>, Any>>, AllocError> {
+    let octets = Vec::from_slice(alloc, octets)?;
+    Ok(Some(Three {
+        first: Implicit::new(1),
+        second: Implicit::new(2),
+        third: Any::new(octets),
+    }))
+}
+
+// So in a SET; but where there are none, nothing is written.
+#[test]
+fn refuses_bare_octets_in_sets(rt: HostRuntime) {
+    let alloc = rt.alloc();
+    let full = made(&rt, ends_open(alloc, &[0x05, 0x00]));
+    let empty = made(&rt, ends_open(alloc, &[]));
+    let octets = [0x31, 0x06, 0x80, 0x01, 0x01, 0x81, 0x01, 0x02];
+    for rules in [Codec::Ber, Codec::Der] {
+        let mut encoder = new_encoder(&rt, alloc, rules);
+        refused(&rt, alloc, rules, full.encode(&mut encoder), BARE);
+        done(&rt, empty.encode(&mut encoder));
+        holds(&rt, encoder.output(), &octets);
+    }
+}
+
+/// The components of the SET below: a SET, a number, an open type with a tag and a list in a prefix.
+#[derive(Drop)]
+struct Four {
+    set: Three<At<0>, At<1>, Option<At<2>>>,
+    number: Implicit<ApplicationTag<0>, u8>,
+    open: Implicit<ContextTag<2>, Any>,
+    list: Explicit<ContextTag<3>, Vec<u8>>,
+}
+
+fn components(alloc: Global) -> Result<Option<Four>, AllocError> {
+    let null = Vec::from_slice(alloc, &[0x05, 0x00])?;
+    let numbers = Vec::from_slice(alloc, &[9])?;
+    Ok(Some(Four {
+        set: Three {
+            first: Implicit::new(1),
+            second: Implicit::new(2),
+            third: None,
+        },
+        number: Implicit::new(7),
+        open: Implicit::new(Any::new(null)),
+        list: Explicit::new(numbers),
+    }))
+}
+
+/// Writes a SET of these components.
+fn put_four(encoder: &mut Encoder, value: &Four) -> Result<(), EncodeError> {
+    encoder.encode_set::<3, 0, Set3, _>(
+        Tag::SET,
+        |inner: &mut Encoder| -> Result<(), EncodeError>
+            ensures { LeavesOthers inner.old inner.new }
+        {
+            value.set.encode(inner)?;
+            value.number.encode(inner)?;
+            value.open.encode(inner)?;
+            value.list.encode(inner)
+        },
+        Identifier::EMPTY,
+    )
+}
+
+// SET { SET { [0] 1, [1] 2 }, [APPLICATION 0] 7, [2] open type 05 00, [3] EXPLICIT SEQUENCE OF INTEGER { 9 } }: with a tag an open type
+// is a component as any other.
+#[test]
+fn writes_open_types_in_sets(rt: HostRuntime) {
+    let alloc = rt.alloc();
+    let value = made(&rt, components(alloc));
+    let mut encoder = new_encoder(&rt, alloc, Codec::Der);
+    done(&rt, put_four(&mut encoder, &value));
+    let octets = [
+        0x31, 0x16, 0x31, 0x06, 0x80, 0x01, 0x01, 0x81, 0x01, 0x02, 0x40, 0x01, 0x07, 0xA2, 0x02,
+        0x05, 0x00, 0xA3, 0x05, 0x30, 0x03, 0x02, 0x01, 0x09,
+    ];
+    holds(&rt, encoder.output(), &octets);
+}

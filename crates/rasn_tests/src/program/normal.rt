@@ -1,0 +1,185 @@
+use rasn::de::Decode;
+use rasn::enc::Encode;
+use rasn::types::{Codec, LawfulEq, OctetString, SetOf, UtcTime};
+use rasn_bench::{Foo, NormaliseError, RunFault, normalise, run_normalise};
+use std::alloc::Global;
+use std::process::Abort;
+
+/// Each row is a line, an arrow and the answer.
+const TABLE: &str = "\
+ber foo 308036800402536D040369746800000101010000 -> 300A1605536D6974680101FF
+ber algid 308006092A864886F70D01010105000000 -> 300D06092A864886F70D0101010500
+ber bag 3106040102040101 -> refused SetOutOfOrder
+ber bool 0101FF00 -> refused UnexpectedExtraData
+ber any 30800201010000 -> refused NotCanonical
+ber set3 3109820103810102800101 -> 3109800101810102820103
+der rdn 310B300906035504030C024142 -> 310B300906035504030C024142
+ber utctime 17113639313233313233353930302D30313030 -> refused NotCanonical
+ber optbool - -> -
+ber bool 1 -> malformed
+ber bool - -> refused Incomplete
+ber nosuch - -> malformed
+BER bool 0101FF -> malformed
+der bool 010105 -> refused InvalidBool
+ber bool 010105 -> 0101FF
+ber i32 0206FFFFFFFF7F00 -> 0203FF7F00
+ber u32 0206000033445566 -> 020433445566
+ber octets 048102A1B2 -> 0402A1B2
+ber octets 240F0401A124030401B224800401C30000 -> 0403A1B2C3
+ber pair 30800201050101050000 -> 30060201050101FF
+ber integer 0203000080 -> 02020080
+ber gentime 180C323031383036313331322E35 -> 180F32303138303631333132333030305A
+ber date 1F1F083230313231323231 -> 1F1F083230313231323231
+ber null 058100 -> 0500
+ber oid 06058FFFFFFF7F -> 06058FFFFFFF7F
+ber bits 23800303000A3B0305045F291CD00000 -> 0307040A3B5F291CD0
+ber colour 0A020002 -> 0A0102
+ber utf8 2C0904034A6F6E04026573 -> 0C054A6F6E6573
+ber ia5 16024180 -> refused PermittedAlphabetError
+ber printable 130141 -> 130141
+cer foo 30801605536D6974680101FF0000 -> 300A1605536D6974680101FF
+der foo 300A1605536D6974680101FF -> 300A1605536D6974680101FF
+der foo 30801605536D6974680101FF0000 -> refused IndefiniteLengthNotAllowed
+der validity 3020170D3138303132323133323930305A180F32303530303130313030303030305A -> 3020170D3138303132323133323930305A180F32303530303130313030303030305A
+";
+
+/// Whether the answer to the line is this one, and its form told as good exactly where the answer isn't `malformed`.
+fn is_answered(alloc: Global, line: &str, answer: &str) -> bool {
+    let mut output = Vec::new(alloc);
+    match run_normalise(alloc, &mut line.as_bytes(), &mut output) {
+        Ok(well_formed) => {
+            output.strip_suffix(b"\n") == Some(answer.as_bytes())
+                && well_formed == (answer != "malformed")
+        }
+        Err(_) => false,
+    }
+}
+
+// From any of the three rules to the one encoding of DER (X.690 10, 11).
+#[test]
+fn lines_are_normalised(rt: HostRuntime) {
+    for row in TABLE.lines() {
+        match row.split_once(" -> ") {
+            Some((line, answer)) => assert!(rt; is_answered(rt.alloc(), line, answer), "{row}"),
+            None => assert!(rt; false, "{row}"),
+        }
+    }
+}
+
+#[test]
+fn all_lines_are_normalised(rt: HostRuntime) {
+    let mut input = b"ber bool 010101\n\nber u32 02020007\nber\n\xFF".as_slice();
+    let mut output = Vec::new(rt.alloc());
+    let answer = run_normalise(rt.alloc(), &mut input, &mut output);
+    assert!(rt; answer == Err(RunFault::Read));
+    assert!(rt; output.as_slice() == b"0101FF\n020107\nmalformed\n".as_slice());
+}
+
+/// Whether what is answered are these octets.
+fn is_normal(answer: Result<Vec<u8>, NormaliseError>, octets: &[u8]) -> bool {
+    match answer {
+        Ok(found) => found.as_slice() == octets,
+        Err(_) => false,
+    }
+}
+
+/// Name and year: two encodings of `Smith` and TRUE by BER, one by CER, and their DER, which is its own.
+#[test]
+fn equal_values_come_out_alike(rt: HostRuntime) {
+    let smith = [
+        0x30, 0x0A, 0x16, 0x05, 0x53, 0x6D, 0x69, 0x74, 0x68, 0x01, 0x01, 0xFF,
+    ];
+    let inputs: [(Codec, &[u8]); 4] = [
+        (
+            Codec::Ber,
+            &[
+                0x30, 0x80, 0x36, 0x80, 0x04, 0x02, 0x53, 0x6D, 0x04, 0x03, 0x69, 0x74, 0x68, 0x00,
+                0x00, 0x01, 0x01, 0x01, 0x00, 0x00,
+            ],
+        ),
+        (
+            Codec::Ber,
+            &[
+                0x30, 0x81, 0x0A, 0x16, 0x05, 0x53, 0x6D, 0x69, 0x74, 0x68, 0x01, 0x01, 0x7F,
+            ],
+        ),
+        (
+            Codec::Cer,
+            &[
+                0x30, 0x80, 0x16, 0x05, 0x53, 0x6D, 0x69, 0x74, 0x68, 0x01, 0x01, 0xFF, 0x00, 0x00,
+            ],
+        ),
+        (Codec::Der, &smith),
+    ];
+    for (rule, input) in inputs {
+        let answer = normalise::<Foo>(rt.alloc(), rule, input);
+        assert!(rt; is_normal(answer, &smith), "{input:?}");
+    }
+}
+
+/// Holds the refusal of each row's octets against its text.
+fn refuses<T: Decode + Encode + LawfulEq>(
+    rt: &impl Abort,
+    alloc: Global,
+    rows: &[(&[u8], Codec, &'static str)],
+) {
+    for (octets, rule, text) in rows {
+        match normalise::<T>(alloc, *rule, octets) {
+            Ok(found) => assert!(rt; false, "{found:?}"),
+            Err(error) => match format!(in alloc; "{error:?}") {
+                Ok(told) => assert_eq!(rt; told.as_str(), *text),
+                Err(_) => assert!(rt; false, "no memory"),
+            },
+        }
+    }
+}
+
+// What follows the value is refused under the input's rules (X.690 8.1.1.1).
+#[test]
+fn what_is_no_value_alone_is_refused(rt: HostRuntime) {
+    refuses::<bool>(
+        &rt,
+        rt.alloc(),
+        &[
+            (
+                &[0x01, 0x01, 0xFF, 0x00],
+                Codec::Cer,
+                "Decode(DecodeError { kind: UnexpectedExtraData { length: 1 }, codec: Cer })",
+            ),
+            (
+                &[0x01, 0x01, 0xFF, 0x00, 0x00],
+                Codec::Der,
+                "Decode(DecodeError { kind: UnexpectedExtraData { length: 2 }, codec: Der })",
+            ),
+            (
+                &[0x01, 0x01, 0x05],
+                Codec::Der,
+                "Decode(DecodeError { kind: InvalidBool { value: 5 }, codec: Der })",
+            ),
+        ],
+    );
+}
+
+// A SET OF whose elements fall isn't written (X.690 11.6).
+#[test]
+fn what_is_not_written_is_refused(rt: HostRuntime) {
+    refuses::<SetOf<OctetString>>(
+        &rt,
+        rt.alloc(),
+        &[(
+            &[0x31, 0x06, 0x04, 0x01, 0x02, 0x04, 0x01, 0x01],
+            Codec::Ber,
+            "Encode(EncodeError { kind: CodecSpecific { inner: Ber(SetOutOfOrder) }, codec: Der })",
+        )],
+    );
+}
+
+// 1969-12-31 23:59:00 an hour west of Greenwich is in 2070, which two digits of a year don't tell (X.680 47).
+#[test]
+fn what_is_read_back_otherwise_is_refused(rt: HostRuntime) {
+    refuses::<UtcTime>(
+        &rt,
+        rt.alloc(),
+        &[(b"\x17\x11691231235900-0100", Codec::Ber, "NotCanonical")],
+    );
+}

@@ -1,0 +1,210 @@
+use crate::reading::{Row, decoder_of, reads, told};
+use rasn::ber::de::Decoder;
+use rasn::de::Decode;
+use rasn::error::DecodeError;
+use rasn::types::{Codec, Tag};
+use rasn_bench::Set3;
+
+const THREE: &str = "Set3 { zero: 1, one: 2, two: 3 }";
+
+const OUT_OF_ORDER: &str = "CodecSpecific { inner: Der(SetComponentsOutOfOrder) }";
+
+const IN_ORDER: &[u8] = &[
+    0x31, 0x09, 0x80, 0x01, 0x01, 0x81, 0x01, 0x02, 0x82, 0x01, 0x03,
+];
+
+const FALLING: &[u8] = &[
+    0x31, 0x09, 0x82, 0x01, 0x03, 0x81, 0x01, 0x02, 0x80, 0x01, 0x01,
+];
+
+const READ: [Row; 8] = [
+    (IN_ORDER, Codec::Ber, THREE, 11),
+    (IN_ORDER, Codec::Cer, THREE, 11),
+    (IN_ORDER, Codec::Der, THREE, 11),
+    (FALLING, Codec::Ber, THREE, 11),
+    (FALLING, Codec::Cer, THREE, 11),
+    (FALLING, Codec::Der, OUT_OF_ORDER, 11),
+    (
+        &[
+            0x31, 0x80, 0x81, 0x01, 0x02, 0x80, 0x01, 0x01, 0x82, 0x01, 0x03, 0x00, 0x00,
+        ],
+        Codec::Ber,
+        THREE,
+        13,
+    ),
+    (
+        &[0x31, 0x80, 0x00, 0x00],
+        Codec::Der,
+        "CodecSpecific { inner: Ber(IndefiniteLengthNotAllowed) }",
+        0,
+    ),
+];
+
+// The components of a SET come in any order (X.690 8.11.2), in DER in that of their tags (10.3).
+#[test]
+fn reads_sets(rt: HostRuntime) {
+    reads::<Set3>(&rt, rt.alloc(), &READ);
+}
+
+const NOT_GATHERED: [Row; 9] = [
+    (
+        &[0x31, 0x06, 0x80, 0x01, 0x01, 0x80, 0x01, 0x01],
+        Codec::Ber,
+        "DuplicateField { name: \"zero\" }",
+        8,
+    ),
+    (
+        &[0x31, 0x06, 0x81, 0x01, 0x01, 0x81, 0x01, 0x01],
+        Codec::Der,
+        "DuplicateField { name: \"one\" }",
+        8,
+    ),
+    (
+        &[0x31, 0x06, 0x80, 0x01, 0x01, 0x81, 0x01, 0x02],
+        Codec::Ber,
+        "MissingField { name: \"two\" }",
+        8,
+    ),
+    (
+        &[0x31, 0x06, 0x82, 0x01, 0x01, 0x81, 0x01, 0x02],
+        Codec::Cer,
+        "MissingField { name: \"zero\" }",
+        8,
+    ),
+    // A component that comes twice is told before one that doesn't come, and both before closing octets that are missing.
+    (
+        &[0x31, 0x80, 0x82, 0x01, 0x01, 0x82, 0x01, 0x01],
+        Codec::Ber,
+        "DuplicateField { name: \"two\" }",
+        2,
+    ),
+    (
+        &[0x31, 0x80, 0x80, 0x01, 0x01],
+        Codec::Ber,
+        "MissingField { name: \"one\" }",
+        2,
+    ),
+    // A component that is refused is told before one that doesn't come.
+    (
+        &[0x31, 0x06, 0x80, 0x01, 0x01, 0x81, 0x01, 0xFF],
+        Codec::Ber,
+        "IntegerOverflow { max_width: 8 }",
+        8,
+    ),
+    (
+        &[0x31, 0x06, 0x80, 0x01, 0x01, 0x83, 0x01, 0x02],
+        Codec::Ber,
+        "NoValidChoice { name: \"Set3\" }",
+        8,
+    ),
+    (
+        &[
+            0x31, 0x80, 0x80, 0x01, 0x01, 0x81, 0x01, 0x02, 0x82, 0x01, 0x03,
+        ],
+        Codec::Ber,
+        "Incomplete { needed: Size(2) }",
+        11,
+    ),
+];
+
+// Each component has to come once, and no other (X.680 27).
+#[test]
+fn refuses_components_twice_and_missing(rt: HostRuntime) {
+    reads::<Set3>(&rt, rt.alloc(), &NOT_GATHERED);
+}
+
+const ORDERED: [Row; 5] = [
+    // A component is out of order before it is read.
+    (
+        &[0x31, 0x06, 0x81, 0x01, 0x02, 0x41, 0x01, 0x05],
+        Codec::Der,
+        OUT_OF_ORDER,
+        8,
+    ),
+    (
+        &[0x31, 0x06, 0x81, 0x01, 0x02, 0x41, 0x01, 0x05],
+        Codec::Ber,
+        "NoValidChoice { name: \"Set3\" }",
+        8,
+    ),
+    // One that is refused is told before a later one that falls.
+    (
+        &[0x31, 0x07, 0x81, 0x02, 0x01, 0x00, 0x80, 0x01, 0x05],
+        Codec::Der,
+        "IntegerOverflow { max_width: 8 }",
+        9,
+    ),
+    (
+        &[0x31, 0x07, 0x82, 0x01, 0x03, 0x9F, 0x01, 0x01, 0x02],
+        Codec::Der,
+        "CodecSpecific { inner: Der(NonMinimalTagNumber) }",
+        9,
+    ),
+    (
+        &[0x11, 0x00],
+        Codec::Ber,
+        "CodecSpecific { inner: Ber(InvalidConstructedIdentifier) }",
+        2,
+    ),
+];
+
+// DER looks at a component's tag before it reads it (X.690 10.3).
+#[test]
+fn looks_at_tags_in_order(rt: HostRuntime) {
+    reads::<Set3>(&rt, rt.alloc(), &ORDERED);
+}
+
+/// A SET whose components are BOOLEANs that may be left out, counted.
+fn count_booleans(decoder: &mut Decoder<'_>) -> Result<Set3, DecodeError> {
+    decoder.decode_set::<3, 0, Option<bool>, Set3, _, _>(
+        Tag::SET,
+        |inner: &mut Decoder<'_>, _index: usize, _tag: Tag| -> Result<Option<bool>, DecodeError> {
+            Option::<bool>::decode(inner)
+        },
+        |booleans: Vec<Option<bool>>| -> Result<Set3, DecodeError> {
+            let two = if booleans.len() == 2 { 2 } else { 0 };
+            Ok(Set3 {
+                zero: 0,
+                one: 1,
+                two,
+            })
+        },
+    )
+}
+
+// A component that takes nothing is refused with the octets that are left.
+#[test]
+fn refuses_components_of_nothing(rt: HostRuntime) {
+    let alloc = rt.alloc();
+    for (octets, rules, text, taken) in [
+        (
+            [0x31, 0x03, 0x02, 0x01, 0x05].as_slice(),
+            Codec::Ber,
+            "UnexpectedExtraData { length: 3 }",
+            5,
+        ),
+        (
+            [0x31, 0x03, 0x02, 0x01, 0x05].as_slice(),
+            Codec::Der,
+            "UnexpectedExtraData { length: 3 }",
+            5,
+        ),
+        (
+            [0x31, 0x80, 0x01, 0x01, 0xFF, 0x02, 0x01, 0x05, 0x00, 0x00].as_slice(),
+            Codec::Ber,
+            "UnexpectedExtraData { length: 5 }",
+            2,
+        ),
+        (
+            [0x31, 0x06, 0x01, 0x01, 0xFF, 0x01, 0x01, 0x00].as_slice(),
+            Codec::Der,
+            "Set3 { zero: 0, one: 1, two: 2 }",
+            8,
+        ),
+    ] {
+        let mut decoder = decoder_of(alloc, octets, rules);
+        let answer = count_booleans(&mut decoder);
+        told(&rt, alloc, rules, answer, text);
+        assert!(rt; decoder.decoded_len() == taken, "{octets:?}");
+    }
+}
