@@ -1,5 +1,5 @@
--- Which component of Set3 a tag belongs to, and what came of each part.
-use Rattle.std.proofs.Common.{◌≡◌, inl, inr, ℕ, pos, List, [], ◌∷◌, ◌++◌, Option, Some, None, map, ap, sym, ◌∙◌, refl, subst, arith}
+-- What came of each part of Set3.
+use Rattle.std.proofs.Common.{◌≡◌, ℕ, pos, List, [], ◌∷◌, ◌++◌, Option, Some, None, map, ap, sym, ◌∙◌, refl, subst, arith}
 use Rattle.std.proofs.lemmas.List.{map-append}
 use Rattle.rasn_types.specs.declared.types.tag.Tag.{Tag}
 use Rattle.rasn_types.specs.declared.types.tag.Class.TheVariants.{Context}
@@ -7,9 +7,8 @@ use Rattle.rasn_types.specs.declared.types.rules.Codec.{Codec}
 use Rattle.rasn_types.specs.declared.types.rules.Codec.TheVariants.{Ber}
 use Rattle.rasn_types.specs.declared.error.decode.DecodeErrorKind.{DecodeErrorKind}
 use Rattle.rasn_types.specs.declared.error.decode.DecodeErrorKind.TheVariants.{UnexpectedEmptyInput}
-use Rattle.rasn_types.specs.Shapes.{Tree, number, items, chosen, IsFirstOf, part, required}
+use Rattle.rasn_types.specs.Shapes.{Tree, number, items, chosen, part, required}
 use Rattle.rasn_types.specs.Shapes.Parts.{none}
-use Rattle.rasn_de.specs.Choices.{IsOnly}
 use Rattle.rasn_de.specs.Outcomes.{Exact, refusal}
 use Rattle.rasn_de.specs.Sets.{AreParts}
 use Rattle.rasn_de.proofs.Components.{Slot, IsPart, IsRequired, slot_put, slot_kept, component_twice, component_missing, component_there, components_end}
@@ -19,32 +18,6 @@ use Rattle.rasn_bench.specs.Set3s.{octet_at, set3_parts, set3_tree, component_tr
 
 abbrev pub context : ℕ → Tag
 context n = record { class = Context; value = n }
-
-apart : (m n : ℕ) (tag : Tag) → (m ≡ n → ⊥) → tag ≡ context m → tag ≡ context n → ⊥
-apart m n tag d e f = d (ap (λ (t : Tag). t.value) (sym e ∙ f))
-
-pub only_zero : (tag : Tag) → tag ≡ context 0 → IsOnly set3_parts 0 (octet_at 0) tag
-only_zero tag e = (
-  refl,
-  e,
-  elim [
-    | inl f ↦ apart 0 1 tag (λ p. omega (arith, p)) e f
-    | inr (inl f) ↦ apart 0 2 tag (λ p. omega (arith, p)) e f
-    | inr (inr x) ↦ x
-  ],
-)
-
-pub only_one : (tag : Tag) → tag ≡ context 1 → IsOnly set3_parts 1 (octet_at 1) tag
-only_one tag e = (λ f. apart 0 1 tag (λ p. omega (arith, p)) f e, (refl, e, elim [ inl f ↦ apart 1 2 tag (λ p. omega (arith, p)) e f | inr x ↦ x ]))
-
-pub only_two : (tag : Tag) → tag ≡ context 2 → IsOnly set3_parts 2 (octet_at 2) tag
-only_two tag e = (λ f. apart 0 2 tag (λ p. omega (arith, p)) f e, (λ f. apart 1 2 tag (λ p. omega (arith, p)) f e, (refl, e, λ x. x)))
-
-pub no_component : (tag : Tag) → (tag ≡ context 0 → ⊥) → (tag ≡ context 1 → ⊥) → (tag ≡ context 2 → ⊥) → IsFirstOf set3_parts tag → ⊥
-no_component tag l m n (inl e) = l e
-no_component tag l m n (inr (inl e)) = m e
-no_component tag l m n (inr (inr (inl e))) = n e
-no_component tag l m n (inr (inr (inr x))) = x
 
 abbrev pub octet : ℕ → Tree
 octet n = number (pos n)

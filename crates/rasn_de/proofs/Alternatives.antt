@@ -4,6 +4,8 @@
 --     returns-in_err-time c = refused _ _ _ c.from_residual.ensures.1 (alternative_refused _ 0 _ c.args.tag c.requires ONLY _ c.in_err-time.ensures)
 --     returns c = alternative_got _ 0 _ c.args.tag c.requires ONLY c.in_ok-time.ensures
 --     returns-in_default c = no_alternative _ c.args.tag c.requires NONE _
+--
+-- ONLY is `(only _ 0 TAG refl refl (search rules))` of `Telling`, with the alternative's number and tag, and NONE `(nowhere _ _ (search rules, (.., tt)))`.
 use Rattle.std.proofs.Common.{◌≡◌, ◌+◌, ℕ, zero, suc, Bool, List, refl, sym, ap, ◌∙◌, subst, arith, inl, inr}
 use Rattle.rasn_types.specs.declared.types.rules.Codec.{Codec}
 use Rattle.rasn_types.specs.declared.types.tag.Tag.{Tag}

@@ -1,5 +1,6 @@
 -- What is read inside a SEQUENCE, by an initializer or by a closure.
-use Rattle.std.proofs.Common.{◌≡◌, ℕ, ◌⊎◌, inl, inr, Bool, true, false, ◌&&◌, ◌||◌, not, List, [], ◌∷◌, Option, Some, None, Result, Ok, Err, refl, sym, ap, ap₂, ◌∙◌, subst}
+use Rattle.std.proofs.Common.{◌≡◌, ℕ, ◌⊎◌, inl, inr, Bool, true, false, ◌&&◌, ◌||◌, not, List, [], ◌∷◌, Option, Some, None, Result, Ok, Err, refl, sym, ap, ap₂, ◌∙◌, subst, ◌+◌, nat_eq}
+use Rattle.std.proofs.lemmas.Bool.{eqb-true}
 use Rattle.std.specs.declared.alloc.AllocError.{AllocError}
 use Rattle.rasn_types.specs.declared.types.rules.Codec.{Codec}
 use Rattle.rasn_types.specs.declared.error.decode.DecodeError.{DecodeError}
@@ -8,7 +9,7 @@ use Rattle.rasn_types.specs.Shapes.{Tree, items, Parts, part, Presence, required
 use Rattle.rasn_types.specs.Shapes.Parts.{none}
 use Rattle.rasn_types.specs.Readers.{Reading, Part, InOrder, IsMissing, AllMissing, HasRequired, IsBare, ReadsSeq}
 use Rattle.rasn_types.specs.Grammar.{parts_of}
-use Rattle.rasn_types.specs.Described.{has_required, has_none, same_bool, is_fieldless, describes}
+use Rattle.rasn_types.specs.Described.{has_required, count, same_bool, is_fieldless, describes}
 use Rattle.rasn_de.specs.State.{State}
 use Rattle.rasn_de.specs.Outcomes.{Exact, Outcome, Got, refusal, outcome}
 use Rattle.rasn_de.specs.Decodes.{ReadsParts, DecodesParts}
@@ -67,9 +68,12 @@ module _ (root more : ℕ) (flag : Bool) (parts : Parts) (d : describes root mor
   flag_is = same_is (has_required parts) flag (both_true (same_bool (has_required parts) flag) _ d).0
 
   fieldless_none : is_fieldless root more ≡ true → parts ≡ none
-  fieldless_none e = go parts (subst (λ b. not b || has_none parts ≡ true) e (both_true (same_bool (has_required parts) flag) _ d).1)
+  fieldless_none e =
+      let fields = both_true (nat_eq root 0) (nat_eq more 0) e in
+      let counted = both_true (same_bool (has_required parts) flag) (nat_eq (count parts) (root + more)) d in
+      go parts (eqb-true (count parts) (root + more) counted.1 ∙ ap₂ (λ m n. m + n) (eqb-true root 0 fields.0) (eqb-true more 0 fields.1))
     where
-      go : (ps : Parts) → has_none ps ≡ true → ps ≡ none
+      go : (ps : Parts) → count ps ≡ 0 → ps ≡ none
       go none f = refl
       go (part p s ps) f = cc
 

@@ -1,5 +1,5 @@
 -- A SET is read where its components are, and a function makes them its parts.
-use Rattle.std.proofs.Common.{◌≡◌, ◌≢◌, ℕ, ◌-◌, ◌⊎◌, inl, Bool, true, List, map, Result, Ok, refl, subst}
+use Rattle.std.proofs.Common.{◌≡◌, ◌≢◌, ℕ, ◌-◌, ◌⊎◌, inl, inr, Bool, true, List, map, Result, Ok, Err, refl, subst}
 use Rattle.rasn_types.specs.declared.types.tag.Tag.{Tag}
 use Rattle.rasn_types.specs.declared.error.decode.DecodeError.{DecodeError}
 use Rattle.rasn_types.specs.Framing.{AreOctets}
@@ -11,12 +11,36 @@ use Rattle.rasn_de.specs.Strings.{inner}
 use Rattle.rasn_de.specs.State.{State}
 use Rattle.rasn_de.specs.Outcomes.{Exact, outcome}
 use Rattle.rasn_de.specs.Decodes.{Decodes}
-use Rattle.rasn_de.specs.Inside.{door_at, is_open, inner_state, ReadInside}
+use Rattle.rasn_de.specs.Inside.{door_at, is_open, inner_state, Keeps, ReadInside}
 use Rattle.rasn_de.specs.Sequences.{sequence_door}
-use Rattle.rasn_de.specs.Sets.{ReadComponents, Gathers, MakesSet}
+use Rattle.rasn_de.specs.Lists.{PassesFrom, Stops}
+use Rattle.rasn_de.specs.Sets.{Unread, not_told, falls, stops, ReadComponents, Gathers, MakesSet}
 use Rattle.rasn_de.proofs.Holding.{Exact-same, Held, IsCut, held_exact, kept}
 use Rattle.rasn_de.proofs.Insides.{bit_is}
+use Rattle.rasn_de.proofs.Bagged.{came}
+use Rattle.rasn_de.proofs.Entering.{kept_same}
+use Rattle.rasn_de.proofs.Stepping.{kept_after}
 use Rattle.rasn_de.proofs.Gathering.{SetReads, set_gathers}
+
+-- Components that are read, or the one that isn't, leave an end of the input.
+module _ {F : Type 0} (s : Shape) (piece : F → Tree) where
+  passed_keeps : (old here : State) (vs : List F) (bs : List (List ℕ)) → PassesFrom (Decodes s piece) old vs bs here → Keeps old here
+  passed_keeps old here vs bs p = let m = came s piece old here vs bs p in record { stays = m.come.0; end = m.come.1 }
+
+  stops_keeps : (here : State) (e : DecodeError) (new : State) → Stops (Decodes s piece) here e new → Keeps here new
+  stops_keeps here e new (inl k) = record { stays = k.stays; end = k.end }
+  stops_keeps here e new (inr (v, k, x)) = record { stays = k.stays; end = k.end }
+
+  unread_keeps : (bs : List (List ℕ)) (here : State) (e : DecodeError) (new : State) → Unread (Decodes s piece) bs here e new → Keeps here new
+  unread_keeps bs here e new (not_told a p q) = kept_same here new q
+  unread_keeps bs here e new (falls a f w q) = kept_same here new q
+  unread_keeps bs here e new (stops f w) = stops_keeps here e new w
+
+  pub gathers_keeps : {S L : Type 0} (elements : L → List F) (by : L → Result S DecodeError → Type 0) (old : State) (r : Result S DecodeError) (new : State)
+      → Gathers (ReadComponents (Decodes s piece) elements) by old r new → Keeps old new
+  gathers_keeps elements by old (Ok v) new (fields, p, m) = passed_keeps old new (elements fields) p.0 p.1
+  gathers_keeps elements by old (Err e) new (inl (vs, bs, here, p, o, n, u)) = kept_after old here new (passed_keeps old here vs bs p) (unread_keeps bs here e new u)
+  gathers_keeps elements by old (Err e) new (inr (fields, p, m)) = passed_keeps old new (elements fields) p.0 p.1
 
 module _ {F S L : Type 0} (s : Shape) (ps : Parts) (same : s ≡ choice ps) (piece : F → Tree) (tree : S → Tree) (elements : L → List F) (by : L → Result S DecodeError → Type 0)
     (tag : Tag) (old : State) (o : old.depth ≢ 0 → AreOctets old.rest) (H : (fs : L) (r : Result S DecodeError) → by fs r → MakesSet old.rule ps tree (map piece (elements fs)) r) where

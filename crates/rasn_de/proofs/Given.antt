@@ -1,5 +1,5 @@
 -- A value under a tag and constraints that are handed in to a type that is under others already.
-use Rattle.std.proofs.Common.{◌≡◌, sym, subst, Result}
+use Rattle.std.proofs.Common.{sym, subst, Result}
 use Rattle.rasn_types.specs.Shapes.{Shape, Tree, given}
 use Rattle.rasn_types.specs.Given.{given_again}
 use Rattle.rasn_types.specs.declared.types.tag.Tag.{Tag}

@@ -54,3 +54,4 @@ pub mod Skipping
 pub mod Openings
 pub mod OpenTypes
 pub mod LastBits
+pub mod Telling

@@ -1,6 +1,6 @@
 -- What a value's contents are as an extent.
 use Rattle.std.proofs.Common.{◌≡◌, ◌≢◌, refl, ap}
-use Rattle.rasn_types.specs.Framing.{definite, indefinite}
+use Rattle.rasn_types.specs.Framing.{indefinite}
 use Rattle.rasn_de.specs.declared.ber.de.parser.Contents.{Contents}
 use Rattle.rasn_de.specs.declared.ber.de.parser.Contents.TheVariants.{Definite, Indefinite}
 use Rattle.rasn_de.specs.Views.{extent}

@@ -1,5 +1,5 @@
 -- A SEQUENCE is read where what stands in it is.
-use Rattle.std.proofs.Common.{◌≡◌, ◌≢◌, ℕ, ◌-◌, ◌⊎◌, inl, inr, Bool, true, false, ◌&&◌, not, List, [], Option, Result, Ok, refl, subst}
+use Rattle.std.proofs.Common.{◌≡◌, ◌≢◌, ℕ, ◌-◌, ◌⊎◌, inl, inr, Bool, true, List, [], Option, Result, Ok, refl, subst}
 use Rattle.std.specs.declared.alloc.AllocError.{AllocError}
 use Rattle.rasn_types.specs.declared.types.tag.Tag.{Tag}
 use Rattle.rasn_types.specs.declared.types.rules.Codec.{Codec}
@@ -14,12 +14,19 @@ use Rattle.rasn_de.specs.Strings.{inner, finished, closed_at}
 use Rattle.rasn_de.specs.State.{State}
 use Rattle.rasn_de.specs.Outcomes.{Exact, outcome}
 use Rattle.rasn_de.specs.Decodes.{Decodes, DecodesParts}
-use Rattle.rasn_de.specs.Inside.{door_at, is_open, inner_state, ReadInside}
+use Rattle.rasn_de.specs.Inside.{door_at, is_open, inner_state, Keeps, ReadInside}
 use Rattle.rasn_de.specs.Sequences.{sequence_door, is_initial, Initial, Fills, MakesBare}
 use Rattle.rasn_de.proofs.Holding.{Exact-same, Held, related, IsCut, held_exact, kept}
 use Rattle.rasn_de.proofs.Insides.{IsInside, bit_is}
+use Rattle.rasn_de.proofs.Entering.{kept_same}
 use Rattle.rasn_de.proofs.Nothing.{parts_nothing}
 use Rattle.rasn_de.proofs.Filling.{SeqReads, fills_exact}
+
+-- The initializer leaves all, and the closure what it keeps.
+pub fills_keeps : {D : Type 0} (starts : List ℕ → Bool) (initial : State → Result D DecodeError → Type 0) (called : State → Result D DecodeError → State → Type 0)
+    → ((o : State) (r : Result D DecodeError) (n : State) → called o r n → Keeps o n) → (o : State) (r : Result D DecodeError) (n : State) → Fills starts initial called o r n → Keeps o n
+fills_keeps starts initial called keeps o r n (inl (s, i, e)) = kept_same o n e
+fills_keeps starts initial called keeps o r n (inr (s, c)) = keeps o r n c
 
 -- At the end of an input nothing is read in front of closing octets.
 cut_none : (rule : Codec) (parts : Parts) (depth : ℕ) (closing : Bool) (t : Tree) (l : List ℕ) → SeqReads parts rule depth closing [] t l → (closing ≡ true) → l ≡ []

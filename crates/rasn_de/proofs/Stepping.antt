@@ -9,7 +9,7 @@ use Rattle.rasn_de.specs.Views.{extent}
 use Rattle.rasn_de.specs.Causes.{kind_of}
 use Rattle.rasn_de.specs.State.{State, at, IsEnd}
 use Rattle.rasn_de.specs.Taking.{ErrorOf}
-use Rattle.rasn_de.specs.Inside.{Door, inner_state, unclosed, Keeps, Opens, Closes, no_value, inside, not_closed, ReadInside}
+use Rattle.rasn_de.specs.Inside.{Door, inner_state, unclosed, Keeps, Opens, Closes, Failed, no_value, inside, not_closed, ReadInside}
 use Rattle.rasn_de.proofs.Ends.{IsEnd-trans}
 
 pub kept_after : (old mid new : State) → Keeps old mid → Keeps mid new → Keeps old new
@@ -58,3 +58,18 @@ module _ {D : Type 0} (read : State → Result D DecodeError → State → Type 
     pub step_closed : (v : D) (left : State) → read p (Ok v) left → (l : List ℕ) → l ≡ left.rest → (new : State) → Closes (extent c) l mid (Ok tt) new → ReadInside read d old (Ok v) new
     step_closed v left k l m new (g, s) =
         (kept_after old mid new w.5 s, record { header = w.0; opened = w.1; left = left; call = moved (Ok v) left k; closed = closing_at l left.rest (Ok new.rest) m g })
+
+-- What is read inside in one way is read in each way that this implies.
+module _ {D : Type 0} (read other : State → Result D DecodeError → State → Type 0) (d : Door) (old : State) where
+  failed_by : (e : DecodeError) (rest : List ℕ) → Failed read d old e rest → ((o : State) (r : Result D DecodeError) (n : State) → read o r n → other o r n) → Failed other d old e rest
+  failed_by e rest (no_value f h w) by = no_value f h w
+  failed_by e rest (inside h o left c q) by = inside h o left (by _ _ _ c) q
+  failed_by e rest (not_closed h o v left c f g w q) by = not_closed h o v left (by _ _ _ c) f g w q
+
+  pub inside_by : (r : Result D DecodeError) (new : State) → ReadInside read d old r new → ((o : State) (r : Result D DecodeError) (n : State) → read o r n → other o r n) → ReadInside other d old r new
+  inside_by (Ok v) new (k, f) by = (k, record { header = f.header; opened = f.opened; left = f.left; call = by _ _ _ f.call; closed = f.closed })
+  inside_by (Err e) new (k, f) by = (k, failed_by e new.rest f by)
+
+-- What a closure did on a decoder.
+pub did : {D : Type 0} (read : State → Result D DecodeError → State → Type 0) (r : Result D DecodeError) {shown o left n : State} → shown ≡ o → left ≡ n → read shown r left → read o r n
+did read r {shown} {o} {left} {n} s l h = subst (λ z. read o r z) l (subst (λ z. read z r left) s h)

@@ -47,6 +47,6 @@ pub data Cause : Type 0 where
 -- The error has this cause. Where the copy of a number finds no memory, want of memory stands in its place.
 abbrev pub Tells : Cause → DecodeErrorKind → Type 0
 Tells (fault f) k = k ≡ kind_of f
-Tells (out_of_bound z bound) (kind.ValueConstraintNotSatisfied value expected) = (value ≡ z) × (expected ≡ bound)
+Tells (out_of_bound z bound) (kind.ValueConstraintNotSatisfied value expected) = (value ≡ z) × (expected.value ≡ bound)
 Tells (out_of_bound z bound) kind.OutOfMemory = Unit {0}
 Tells (out_of_bound z bound) _ = ⊥

@@ -1,5 +1,5 @@
 -- Errors that tell a name.
-use Rattle.std.specs.Prelude.{ℕ, ◌≡◌, ◌⊎◌, List, String, string_bytes}
+use Rattle.std.specs.Prelude.{ℕ, ◌≡◌, ◌⊎◌, List, string_bytes}
 use Rattle.rasn_types.specs.declared.types.rules.Codec.{Codec}
 use Rattle.rasn_types.specs.declared.error.decode.DecodeError.{DecodeError}
 use Rattle.rasn_types.specs.declared.error.decode.DecodeErrorKind.{DecodeErrorKind}

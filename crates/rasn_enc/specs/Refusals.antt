@@ -1,5 +1,7 @@
 -- The exact refusals of values that hold no others.
-use Rattle.std.specs.Prelude.{ℕ, ℤ, ◌≡◌, ◌≤◌, ◌≤ℤ◌}
+use Rattle.std.specs.Prelude.{ℕ, ℤ, ◌≡◌, ◌≤◌, ◌≤ℤ◌, Box}
+use Rattle.std.specs.Global.{Global}
+use Rattle.rasn_types.specs.declared.types.constraints.Bounded.{Bounded}
 use Rattle.rasn_types.specs.Shapes.{Admits, constraint_of}
 use Rattle.rasn_types.specs.declared.types.constraints.Constraints.{Constraints}
 use Rattle.rasn_types.specs.declared.types.rules.Codec.{Codec}
@@ -20,4 +22,6 @@ pub record MeetsSize (c : Constraints) (size : ℕ) (rule : Codec) (e : EncodeEr
 -- The number isn't admitted.
 pub record RefusesValue (c : Constraints) (number : ℤ) (rule : Codec) (e : EncodeError) : Type 0 where
   pub unmet : Admits ◌≤ℤ◌ c.value number → ⊥
-  pub is : e ≡ record { kind = ValueConstraintNotSatisfied number (constraint_of c.value); codec = rule }
+  pub bound : Box (Bounded ℤ) Global
+  pub tells : bound.value ≡ constraint_of c.value
+  pub is : e ≡ record { kind = ValueConstraintNotSatisfied number bound; codec = rule }

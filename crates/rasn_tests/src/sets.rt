@@ -2,6 +2,7 @@
 
 mod bags;
 mod components;
+mod defaults;
 mod elements;
 mod order;
 mod outputs;

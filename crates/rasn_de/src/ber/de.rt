@@ -40,6 +40,7 @@ mod strings;
 mod times;
 
 pub use config::DecoderOptions;
+pub(crate) use strings::owned;
 
 /// How many values may be nested in one another.
 const MAX_DEPTH: usize = 128;
@@ -207,6 +208,7 @@ impl<'input> Decoder<'input> {
     }
 
     /// Takes the header and contents of the next value, or nothing.
+    #[inline(always)]
     fn header(&mut self, expected: Expected) -> Result<Value<'input>, DecodeError>
         ensures taken { Takes expected self.old result self.new }
         ensures octets { AreOctets self.old.rest }

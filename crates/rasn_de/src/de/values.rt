@@ -1,5 +1,5 @@
 //! Reading of the values that hold no others.
-use crate::ber::de::Decoder;
+use crate::ber::de::{Decoder, owned};
 use crate::de::Decode;
 use rasn_types::error::{DecodeError, DecodeErrorKind};
 use rasn_types::types::{Any, BitString, Constraints, OctetString, Tag};
@@ -23,7 +23,7 @@ impl Decode for OctetString {
         constraints: &Constraints,
     ) -> Result<OctetString, DecodeError> {
         let octets = decoder.decode_octet_string(tag, constraints)?;
-        match octets.into_owned(decoder.alloc()) {
+        match owned(decoder.alloc(), octets) {
             Ok(octets) => Ok(OctetString::from_vec(octets)),
             Err(_) => Err(DecodeError {
                 kind: DecodeErrorKind::OutOfMemory,

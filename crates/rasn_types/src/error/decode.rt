@@ -36,6 +36,9 @@ pub struct DecodeError {
     pub codec: Codec,
 }
 
+// Every layer hands it on.
+const _: () = prove!(size_of::<Result<(), DecodeError>>() == 80);
+
 impl DecodeError {
     /// Whether the cause is want of memory alone.
     pub fn is_out_of_memory(&self) -> bool
@@ -92,10 +95,10 @@ pub enum DecodeErrorKind {
         size: Option<usize>,
         expected: Bounded<usize>,
     },
-    /// The number is out of its bound.
+    /// The number is out of its bound. The bound is boxed, so that no error is made large by it.
     ValueConstraintNotSatisfied {
         value: Integer,
-        expected: Bounded<i128>,
+        expected: Box<Bounded<i128>>,
     },
     /// The first octet that the alphabet doesn't have, at its place counted from 0.
     PermittedAlphabetError {

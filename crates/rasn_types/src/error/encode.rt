@@ -13,6 +13,9 @@ pub struct EncodeError {
     pub codec: Codec,
 }
 
+// Every layer hands it on.
+const _: () = prove!(size_of::<Result<(), EncodeError>>() == 72);
+
 impl EncodeError {
     /// Whether the cause is want of memory alone.
     pub fn is_out_of_memory(&self) -> bool
@@ -31,11 +34,11 @@ pub enum EncodeErrorKind {
         size: usize,
         expected: Bounded<usize>,
     },
-    /// The number is out of its bound.
+    /// The number is out of its bound. The bound is boxed, so that no error is made large by it.
     #[error("number {value}, not in {expected}")]
     ValueConstraintNotSatisfied {
         value: Integer,
-        expected: Bounded<i128>,
+        expected: Box<Bounded<i128>>,
     },
     /// REAL isn't supported.
     #[error("REAL isn't supported")]

@@ -74,6 +74,7 @@ impl Constraints {
 
     /// Whether the whole number that octets in two's complement stand for (X.690 8.3) meets its bound, as each does where
     /// there is none or it is extensible.
+    #[inline(always)]
     pub fn admits_number(&self, octets: &[u8]) -> bool
         requires { 0 < length octets.now }
         ensures { MatchBool result (Admits ◌≤ℤ◌ self.now.value (signed octets.now)) (Admits ◌≤ℤ◌ self.now.value (signed octets.now) → ⊥) }

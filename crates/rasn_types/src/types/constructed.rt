@@ -20,6 +20,6 @@ pub trait Constructed<const RC: usize, const EC: usize>: AsnType {
 
     ghost parts: { Parts };
 
-    /// The constant is that of the parts, and a type without fields has no parts.
+    /// The constant is that of the parts, and there are as many parts as fields, those of the root and those behind the marker together.
     ghost described: { describes RC EC HAS_REQUIRED_FIELDS parts ≡ true };
 }

@@ -62,14 +62,17 @@ impl<'input> Decoder<'input> {
         ensures each { InList (ReadEachInOrder (Decodes D.shape D.tree) (λ v. v)) tag self.old result self.new }
         ensures octets { self.old.depth ≢ 0 → AreOctets self.old.rest }
     {
-        let (mut inner, contents) = self.open(Opening {
+        let opening = Opening {
             tag,
             needs_bit: true,
             levels: 2,
-        })?;
-        let values = inner.elements_in_order::<D>()?;
-        self.close(contents, inner.remaining())?;
-        Ok(values)
+        };
+        self.inside(
+            opening,
+            |inner| -> Result<SetOf<D>, DecodeError>
+                ensures { ReadEachInOrder (Decodes D.shape D.tree) (λ v. v) inner.old result inner.new }
+            { inner.elements_in_order::<D>() },
+        )
     }
 
     /// A SET OF, within a size in elements (X.690 8.12). Under DER the octets of an element must not be less than those of the one

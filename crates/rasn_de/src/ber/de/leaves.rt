@@ -53,6 +53,7 @@ fn check_number(rules: Codec, octets: &[u8]) -> Result<(), Fault>
 
 impl<'input> Decoder<'input> {
     /// The contents of the next value, which has to have a definite length, and under DER the constructed bit that it is written with.
+    #[inline(always)]
     pub(super) fn contents(&mut self, tag: Tag) -> Result<&'input [u8], DecodeError>
         ensures gave { Gave (λ c. c.now) (λ r. definite_at self.old.rule tag self.old.rest ≡ r) self.old result self.new }
         ensures octets { AreOctets self.old.rest }
@@ -150,18 +151,21 @@ impl<'input> Decoder<'input> {
         }
     }
 
-    /// The error of a number out of its bound, which tells the number. Where the copy finds no memory, that is the error.
+    /// The error of a number out of its bound, which tells both. Where these find no memory, that is the error.
     #[cold]
     #[inline(never)]
     fn out_of_bound(&self, octets: &[u8], expected: Bounded<i128>) -> DecodeError
         ensures { Tells (out_of_bound (signed octets.now) expected) result.kind × (result.codec ≡ self.now.rule) }
     {
-        match Integer::from_octets(self.alloc(), octets) {
-            Ok(Some(value)) => DecodeError {
+        let Ok(Some(value)) = Integer::from_octets(self.alloc(), octets) else {
+            return self.error(Fault::OutOfMemory);
+        };
+        match Box::new(self.alloc(), expected) {
+            Ok(expected) => DecodeError {
                 kind: DecodeErrorKind::ValueConstraintNotSatisfied { value, expected },
                 codec: self.codec(),
             },
-            _ => self.error(Fault::OutOfMemory),
+            Err(_) => self.error(Fault::OutOfMemory),
         }
     }
 }

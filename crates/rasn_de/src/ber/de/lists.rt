@@ -40,14 +40,18 @@ impl<'input> Decoder<'input> {
         ensures each { InList (ReadEach (Decodes D.shape D.tree) (λ v. v.items)) tag self.old result self.new }
         ensures octets { self.old.depth ≢ 0 → AreOctets self.old.rest }
     {
-        let (mut inner, contents) = self.open(Opening {
+        let opening = Opening {
             tag,
             needs_bit: true,
             levels: 2,
-        })?;
-        let values = inner.elements::<D>()?;
-        self.close(contents, inner.remaining())?;
-        Ok(values)
+        };
+        self.inside(
+            opening,
+            |inner| -> Result<Vec<D>, DecodeError>
+                ensures elements { DecodesBy (ReadsItems D.shape) (λ v. list_tree D.tree v.items) inner.old result inner.new }
+                ensures each { ReadEach (Decodes D.shape D.tree) (λ v. v.items) inner.old result inner.new }
+            { inner.elements::<D>() },
+        )
     }
 
     /// A SEQUENCE OF, within a size in elements (X.690 8.10). It takes two levels of depth.

@@ -1,10 +1,12 @@
 //! Values that hold others: how they are opened and closed (X.690 8.1).
-ghost use Rattle.std.specs.Prelude.{◌≡◌, ◌≢◌, ◌&&◌, not};
+ghost use Rattle.std.specs.Prelude.{◌≡◌, ◌≢◌, ◌&&◌, not, Result};
+ghost use Rattle.std.specs.Fn.{FnOnceReturnsAtMut};
+ghost use Rattle.rasn_types.specs.declared.error.decode.DecodeError.{DecodeError};
 ghost use Rattle.rasn_types.specs.Numbered.{constructed_bit};
 ghost use Rattle.rasn_types.specs.Framing.{indefinite, AreOctets};
-ghost use Rattle.rasn_de.specs.Inside.{asks, Opens, Closes, is_open};
+ghost use Rattle.rasn_de.specs.Inside.{asks, Opens, Closes, is_open, Keeps, ReadInside};
 ghost use Rattle.rasn_de.specs.Doors.{door_of, Enters};
-ghost use Rattle.rasn_de.specs.State.{IsEnd};
+ghost use Rattle.rasn_de.specs.State.{State, IsEnd};
 ghost use Rattle.rasn_de.specs.Views.{extent};
 
 use crate::ber::de::Decoder;
@@ -107,5 +109,22 @@ impl<'input> Decoder<'input> {
                 Err(self.error(fault))
             }
         }
+    }
+
+    /// Reads inside a value that is opened so. `f` has to read all of its contents.
+    pub(super) fn inside<D: Drop, F: FnOnce(&mut Decoder<'_>) -> Result<D, DecodeError>>(
+        &mut self,
+        opening: Opening,
+        f: F,
+    ) -> Result<D, DecodeError>
+        requires callable { F.IsAlwaysCallable f }
+        requires keeps { (o : State) (r : Result D DecodeError) (n : State) → FnOnceReturnsAtMut F.FnOnce f o r n → Keeps o n }
+        ensures called { ReadInside (FnOnceReturnsAtMut F.FnOnce f) (door_of opening) self.old result self.new }
+        ensures octets { self.old.depth ≢ 0 → AreOctets self.old.rest }
+    {
+        let (mut inner, contents) = self.open(opening)?;
+        let value = f(&mut inner)?;
+        self.close(contents, inner.remaining())?;
+        Ok(value)
     }
 }

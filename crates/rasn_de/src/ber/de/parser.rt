@@ -230,6 +230,7 @@ fn has_spare(octets: &[u8], length: usize) -> bool
 }
 
 #[tactic(auto, unfolding(crate::specs::Headers::long_at))]
+#[inline(always)]
 fn read_long(shortest: bool, count: usize, input: &[u8]) -> Result<(Option<usize>, &[u8]), Fault>
     ensures { Gives pair result (long_at shortest count input.now) }
 {

@@ -22,13 +22,16 @@ impl<'input> Decoder<'input> {
         ensures called { ReadInside (Decodes D.shape D.tree) (prefix_door tag) self.old result self.new }
         ensures reads { Decodes (prefix tag D.shape) D.tree self.old result self.new }
     {
-        let (mut inner, contents) = self.open(Opening {
+        let opening = Opening {
             tag,
             needs_bit: false,
             levels: 1,
-        })?;
-        let value = D::decode(&mut inner)?;
-        self.close(contents, inner.remaining())?;
-        Ok(value)
+        };
+        self.inside(
+            opening,
+            |inner| -> Result<D, DecodeError>
+                ensures { Decodes D.shape D.tree inner.old result inner.new }
+            { D::decode(inner) },
+        )
     }
 }

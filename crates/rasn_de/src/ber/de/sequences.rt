@@ -31,7 +31,8 @@ impl<'input> Decoder<'input> {
     }
 
     /// A SEQUENCE (X.690 8.9). Calls `f` once, on the contents of a value of the tag, all of which it has to read. In its place
-    /// the initializer makes the value of a type without fields, and of empty contents where no root field is required.
+    /// the initializer makes the value of a type without fields (`RC` and `EC` are 0, also where `EXTENDED_FIELDS` are `Some` of none), and
+    /// of empty contents where no root field is required.
     ///
     /// # Errors
     /// `ExceedsMaxParseDepth` before the header; framing faults; with the value taken, `InvalidConstructedIdentifier`; what `f`
@@ -52,20 +53,26 @@ impl<'input> Decoder<'input> {
         ensures reads { ((o : State) (r : Result D DecodeError) (n : State) → FnOnceReturnsAtMut F.FnOnce f o r n → DecodesParts D.parts D.tree o r n)
             → MakesBare D.parts D.tree (λ g r. DF.post g r) default → Decodes (seq tag D.parts) D.tree self.old result self.new }
     {
-        let (mut inner, contents) = self.open(Opening {
+        let opening = Opening {
             tag,
             needs_bit: true,
             levels: 1,
-        })?;
-        if reads_initially(RC, EC, D::HAS_REQUIRED_FIELDS, inner.remaining()) {
-            let value = inner.initial(default)?;
-            self.close(contents, inner.remaining())?;
-            return Ok(value);
-        }
-        drop(default);
-        let value = f(&mut inner)?;
-        self.close(contents, inner.remaining())?;
-        Ok(value)
+        };
+        self.inside(
+            opening,
+            |inner| -> Result<D, DecodeError>
+                requires callable { F.IsAlwaysCallable f }
+                requires makes { IfSome default (λ g. DF.IsAlwaysCallable g) }
+                ensures { Fills (is_initial RC EC D.HAS_REQUIRED_FIELDS) (Initial (λ g r. DF.post g r) default) (FnOnceReturnsAtMut F.FnOnce f) inner.old result inner.new }
+            {
+                if reads_initially(RC, EC, D::HAS_REQUIRED_FIELDS, inner.remaining()) {
+                    return inner.initial(default);
+                }
+                drop(default);
+                let value = f(inner)?;
+                Ok(value)
+            },
+        )
     }
 }
 

@@ -86,14 +86,21 @@ impl<'input> Decoder<'input> {
             → ((fields : Vec FIELDS Global) (r : Result SET DecodeError) → F.post f fields r → MakesSet self.old.rule SET.parts SET.tree (map FIELDS.tree fields.items) r)
             → Decodes (set tag SET.parts) SET.tree self.old result self.new }
     {
-        let (mut inner, contents) = self.open(Opening {
+        let opening = Opening {
             tag,
             needs_bit: true,
             levels: 1,
-        })?;
-        let fields = inner.components::<FIELDS>()?;
-        let value = f(fields)?;
-        self.close(contents, inner.remaining())?;
-        Ok(value)
+        };
+        self.inside(
+            opening,
+            |inner| -> Result<SET, DecodeError>
+                requires { F.IsAlwaysCallable f }
+                ensures { Gathers (ReadComponents (Decodes FIELDS.shape FIELDS.tree) (λ (v : Vec FIELDS Global). v.items)) (λ fields r. F.post f fields r) inner.old result inner.new }
+            {
+                let fields = inner.components::<FIELDS>()?;
+                let value = f(fields)?;
+                Ok(value)
+            },
+        )
     }
 }

@@ -1,5 +1,6 @@
 //! Character strings, and OCTET STRING of a fixed size (X.690 8.7, 8.23).
-ghost use Rattle.std.specs.Prelude.{chars};
+ghost use Rattle.std.specs.Prelude.{◌≡◌, chars, IfOk, IsOk};
+ghost use Rattle.std.specs.Cow.{cow_slice_items, IsOwnedSlice};
 ghost use Rattle.std.specs.String.{string_bytes};
 ghost use Rattle.rasn_types.specs.declared.types.strings.alphabet.Alphabet.TheVariants.{Numeric, Printable, Visible, Ia5, Every};
 ghost use Rattle.rasn_types.specs.declared.types.tag.TheConstants.Tag.{UTF8_STRING, BMP_STRING};
@@ -18,7 +19,19 @@ use rasn_types::types::{
     PrintableType, RestrictedString, StringType, Tag, TeletexString, TeletexType, VisibleString,
     VisibleType,
 };
+use std::alloc::{AllocError, Global};
 use std::borrow::{CowSlice, CowStr};
+
+/// Octets of one's own. Borrowed ones are copied at once, which `into_owned` does one by one.
+pub(crate) fn owned(alloc: Global, octets: CowSlice<'_, u8>) -> Result<Vec<u8>, AllocError>
+    ensures items { IfOk result (λ v. v.items ≡ cow_slice_items octets.entry) }
+    ensures succeeds { IsOwnedSlice octets.entry → IsOk result }
+{
+    match octets {
+        CowSlice::Borrowed(octets) => Vec::from_slice(alloc, octets),
+        CowSlice::Owned(octets) => Ok(octets),
+    }
+}
 
 fn check_size(constraints: &Constraints, size: usize) -> Result<(), Fault>
     ensures { IsWithinSize constraints.now size result }
@@ -213,7 +226,7 @@ impl<'input> Decoder<'input> {
         if let Err(fault) = check_units(constraints, octets.as_slice()) {
             return Err(self.error(fault));
         }
-        match octets.into_owned(self.alloc()) {
+        match owned(self.alloc(), octets) {
             Ok(octets) => Ok(BmpString::from_paired(octets)),
             Err(_) => Err(self.error(Fault::OutOfMemory)),
         }
@@ -285,7 +298,7 @@ impl<'input> Decoder<'input> {
         if let Err(fault) = check_alphabet(S::ALPHABET, constraints, octets.as_slice()) {
             return Err(self.error(fault));
         }
-        match octets.into_owned(self.alloc()) {
+        match owned(self.alloc(), octets) {
             Ok(octets) => Ok(RestrictedString::from_admitted(octets)),
             Err(_) => Err(self.error(Fault::OutOfMemory)),
         }

@@ -75,14 +75,14 @@ fn refused_value<I: IntegerType>(
     let Ok(()) = value.append_octets(&mut octets) else {
         return out_of_memory(rule);
     };
-    match Integer::from_octets(alloc, &octets) {
-        Ok(Some(value)) => EncodeError {
-            kind: EncodeErrorKind::ValueConstraintNotSatisfied {
-                value,
-                expected: constraints.value_bounds(),
-            },
+    let Ok(Some(value)) = Integer::from_octets(alloc, &octets) else {
+        return out_of_memory(rule);
+    };
+    match Box::new(alloc, constraints.value_bounds()) {
+        Ok(expected) => EncodeError {
+            kind: EncodeErrorKind::ValueConstraintNotSatisfied { value, expected },
             codec: rule,
         },
-        _ => out_of_memory(rule),
+        Err(_) => out_of_memory(rule),
     }
 }

@@ -8,6 +8,7 @@ ghost use Rattle.rasn_types.specs.Times.{shown, stamp_of, century, GeneralUtc, C
 use crate::ber::time::text::{Clock, Fields, Zone, date_parts, long_parts, short_parts};
 use crate::types::{Date, GeneralizedTime, UtcTime};
 
+#[inline(always)]
 fn minute(clock: Clock, billionths: u32) -> u8
     requires { billionths < 1000000000 }
     ensures { result ≡ minute_of clock billionths }
@@ -19,6 +20,7 @@ fn minute(clock: Clock, billionths: u32) -> u8
     }
 }
 
+#[inline(always)]
 fn second(clock: Clock, billionths: u32) -> u8
     requires { billionths < 1000000000 }
     ensures { result ≡ second_of clock billionths }
@@ -30,6 +32,7 @@ fn second(clock: Clock, billionths: u32) -> u8
     }
 }
 
+#[inline(always)]
 fn nanosecond(clock: Clock, billionths: u32) -> u32
     requires { billionths < 1000000000 }
     ensures { result ≡ nanosecond_of clock billionths }
@@ -84,6 +87,7 @@ fn offset(zone: Zone) -> i16
 }
 
 /// A day of a year that isn't negative.
+#[inline(always)]
 fn day_of(year: u16, month: u8, day: u8) -> Option<Date>
     ensures { let d : Day = record { year = pos year; month = month; day = day } in Makes result (IsDay d) d }
 {
@@ -91,6 +95,7 @@ fn day_of(year: u16, month: u8, day: u8) -> Option<Date>
 }
 
 /// The instant of a text's fields, where the day and the time of day exist.
+#[inline(always)]
 fn stamp(year: u16, fields: &Fields) -> Option<GeneralizedTime>
     requires year { year < 10000 }
     requires zone { IsZone fields.now.zone }
@@ -169,6 +174,7 @@ fn utc_stamp(text: &[u8]) -> Option<GeneralizedTime>
 }
 
 /// A UTCTime in the canonical form.
+#[inline(always)]
 fn canonical_utc_stamp(text: &[u8]) -> Option<GeneralizedTime>
     ensures { Relates result (CanonicalUtc text.now) }
 {

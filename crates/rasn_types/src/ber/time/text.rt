@@ -34,6 +34,7 @@ pub struct Fields {
 
 /// Two digits.
 #[tactic(auto, unfolding(crate::specs::Reading::two_at))]
+#[inline(always)]
 fn two_digits(text: &[u8]) -> Option<(u8, &[u8])>
     ensures read { Gives (λ x. (x.0, x.1.now)) result (two_at text.now) }
     ensures below { IfSome result (λ x. x.0 < 100) }
@@ -52,6 +53,7 @@ fn two_digits(text: &[u8]) -> Option<(u8, &[u8])>
 
 /// Four digits.
 #[tactic(auto, unfolding(crate::specs::Reading::four_at))]
+#[inline(always)]
 fn four_digits(text: &[u8]) -> Option<(u16, &[u8])>
     ensures read { Gives (λ x. (x.0, x.1.now)) result (four_at text.now) }
     ensures below { IfSome result (λ x. x.0 < 10000) }
@@ -61,6 +63,7 @@ fn four_digits(text: &[u8]) -> Option<(u16, &[u8])>
     Some((100 * u16::from(high) + u16::from(low), rest))
 }
 
+#[inline(always)]
 fn starts_with_digit(text: &[u8]) -> bool
     ensures { result ≡ starts_decimal text.now }
 {
@@ -72,6 +75,7 @@ fn starts_with_digit(text: &[u8]) -> bool
 
 /// Minutes and seconds, where they are given.
 #[tactic(auto, unfolding(crate::specs::Reading::clock_at))]
+#[inline(always)]
 fn read_clock(text: &[u8]) -> Option<(Clock, &[u8])>
     ensures { Gives (λ x. (x.0, x.1.now)) result (clock_at text.now) }
 {
@@ -88,6 +92,7 @@ fn read_clock(text: &[u8]) -> Option<(Clock, &[u8])>
 
 /// The digits at the beginning, as billionths.
 #[tactic(auto, unfolding(crate::specs::Reading::digits_at))]
+#[inline(always)]
 fn read_digits(text: &[u8]) -> (u32, &[u8])
     ensures read { digits_at 9 text.now ≡ (result.0, result.1.now) }
     ensures below { result.0 < 1000000000 }
@@ -110,6 +115,7 @@ fn read_digits(text: &[u8]) -> (u32, &[u8])
 
 /// A fraction, where one is given, with its separator.
 #[tactic(auto, unfolding(crate::specs::Reading::fraction_at))]
+#[inline(always)]
 fn read_fraction(text: &[u8]) -> Option<(Option<(u8, u32)>, &[u8])>
     ensures read { Gives (λ x. (x.0, x.1.now)) result (fraction_at text.now) }
     ensures below { IfSome result (λ x. billionths x.0 < 1000000000) }
@@ -128,6 +134,7 @@ fn read_fraction(text: &[u8]) -> Option<(Option<(u8, u32)>, &[u8])>
 
 /// Hours and minutes of an offset, and nothing behind them.
 #[tactic(auto, unfolding(crate::specs::Reading::offset_at))]
+#[inline(always)]
 fn read_offset(text: &[u8]) -> Option<(u8, u8)>
     ensures read { Gives (λ x. x) result (offset_at text.now) }
     ensures below { IfSome result (λ x. (x.1 < 100) × (60 * x.0 + x.1 < 1440)) }
@@ -143,6 +150,7 @@ fn read_offset(text: &[u8]) -> Option<(u8, u8)>
 
 /// What is left is a zone, or nothing.
 #[tactic(auto, unfolding(crate::specs::Reading::zone_at))]
+#[inline(always)]
 fn read_zone(text: &[u8]) -> Option<Zone>
     ensures read { Gives (λ x. x) result (zone_at text.now) }
     ensures below { IfSome result (λ z. IsZone z) }
@@ -170,6 +178,7 @@ fn read_zone(text: &[u8]) -> Option<Zone>
 
 /// All that stands behind the year.
 #[tactic(auto, unfolding(crate::specs::Reading::fields_at))]
+#[inline(always)]
 fn read_fields(text: &[u8]) -> Option<Fields>
     ensures read { Gives (λ x. x) result (fields_at text.now) }
     ensures zone { IfSome result (λ f. IsZone f.zone) }
@@ -193,6 +202,7 @@ fn read_fields(text: &[u8]) -> Option<Fields>
 
 /// A year of four digits, and what stands behind it.
 #[tactic(auto, unfolding(crate::specs::Reading::long_at))]
+#[inline(always)]
 pub fn long_parts(text: &[u8]) -> Option<(u16, Fields)>
     ensures read { Gives (λ x. x) result (long_at text.now) }
     ensures year { IfSome result (λ x. x.0 < 10000) }
@@ -206,6 +216,7 @@ pub fn long_parts(text: &[u8]) -> Option<(u16, Fields)>
 
 /// A year of two digits, and what stands behind it.
 #[tactic(auto, unfolding(crate::specs::Reading::short_at))]
+#[inline(always)]
 pub fn short_parts(text: &[u8]) -> Option<(u8, Fields)>
     ensures read { Gives (λ x. x) result (short_at text.now) }
     ensures year { IfSome result (λ x. x.0 < 100) }
@@ -219,6 +230,7 @@ pub fn short_parts(text: &[u8]) -> Option<(u8, Fields)>
 
 impl Fields {
     /// Whether this is the form of a UTCTime: minutes, no fraction, a zone.
+    #[inline(always)]
     pub fn is_short(&self) -> bool
         ensures { result ≡ short_form self.now }
     {
@@ -228,6 +240,7 @@ impl Fields {
     }
 
     /// Whether this is the canonical form (X.690 11.7, 11.8).
+    #[inline(always)]
     pub fn is_canonical(&self) -> bool
         ensures { result ≡ canonical_form self.now }
     {

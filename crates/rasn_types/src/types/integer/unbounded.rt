@@ -40,9 +40,8 @@ impl Integer {
         if octets.is_empty() {
             return Ok(None);
         }
-        let mut kept = Vec::new(alloc);
-        kept.extend_from_slice(shortest(octets))?;
-        Ok(Some(Integer { octets: kept }))
+        let octets = Vec::from_slice(alloc, shortest(octets))?;
+        Ok(Some(Integer { octets }))
     }
 
     /// Its octets in two's complement, the fewest (X.690 8.3.2).

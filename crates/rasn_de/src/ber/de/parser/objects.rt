@@ -21,13 +21,15 @@ fn push_arc(arcs: &mut Vec<u32>, arc: u32) -> Result<(), Fault>
     }
 }
 
-/// The first two arcs, which the first subidentifier holds (X.690 8.19.4).
-fn first_arcs(alloc: Global, subidentifier: u32) -> Result<Vec<u32>, Fault>
+/// The first two arcs, which the first subidentifier holds (X.690 8.19.4), with room for as many as the octets behind it can hold.
+fn first_arcs(alloc: Global, subidentifier: u32, behind: usize) -> Result<Vec<u32>, Fault>
     ensures ok { IfOk result (λ v. v.items ≡ min 2 (subidentifier / 40) ∷ (subidentifier - 40 * min 2 (subidentifier / 40)) ∷ []) }
     ensures err { IfErr result (λ f. f ≡ OutOfMemory) }
 {
     let first = (subidentifier / 40).min(2);
-    let mut arcs = Vec::new(alloc);
+    let Ok(mut arcs) = Vec::with_capacity(alloc, behind.saturating_add(2)) else {
+        return Err(Fault::OutOfMemory);
+    };
     push_arc(&mut arcs, first)?;
     push_arc(&mut arcs, subidentifier - 40 * first)?;
     Ok(arcs)
@@ -52,7 +54,7 @@ pub fn read_object_identifier(
     ensures { FindsArcs rules contents.now result }
 {
     let (subidentifier, mut rest) = read_arc(rules, contents)?;
-    let mut arcs = first_arcs(alloc, subidentifier)?;
+    let mut arcs = first_arcs(alloc, subidentifier, rest.len())?;
     while !rest.is_empty() {
         let (arc, after) = read_arc(rules, rest)?;
         push_arc(&mut arcs, arc)?;

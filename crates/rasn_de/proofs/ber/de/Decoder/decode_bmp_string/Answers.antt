@@ -31,22 +31,22 @@ returns-in-Err-clause-reads c =
 
 pub from_paired-requires : goal.from_paired-requires
 from_paired-requires c =
-    subst ArePaired (c.as_slice.ensures.value ∙ sym (c.in-Ok.ensures.items_if_clones_equal (λ x y h. h))) (units_only c.as_slice.result.now (units_of c.as_slice.result.now) c.in_default.ensures.0).0
+    subst ArePaired (c.as_slice.ensures.value ∙ sym c.in-Ok.ensures.items) (units_only c.as_slice.result.now (units_of c.as_slice.result.now) c.in_default.ensures.0).0
 
 pub returns-in-Ok-clause-refused : goal.returns-in-Ok-clause-refused
 returns-in-Ok-clause-refused c =
     string_given units_of (ByCharacters units BMP_STRING c.args.constraints.now.size) c.args.tag c.args.self.now _ c.in_ok-octets.octets c.from_paired.result c.in_ok-octets.ensures.gathers
-    (subst (λ z. (ByCharacters units BMP_STRING c.args.constraints.now.size) (cow_slice_items c.in_ok-octets.octets) (Ok (units_of z))) (sym c.from_paired.ensures) (subst (λ z. (ByCharacters units BMP_STRING c.args.constraints.now.size) (cow_slice_items c.in_ok-octets.octets) (Ok (units_of z))) (sym (c.in-Ok.ensures.items_if_clones_equal (λ x y h. h))) (subst (λ z. (ByCharacters units BMP_STRING c.args.constraints.now.size) z (Ok (units_of z))) c.as_slice.ensures.value c.in_default.ensures)))
+    (subst (λ z. (ByCharacters units BMP_STRING c.args.constraints.now.size) (cow_slice_items c.in_ok-octets.octets) (Ok (units_of z))) (sym c.from_paired.ensures) (subst (λ z. (ByCharacters units BMP_STRING c.args.constraints.now.size) (cow_slice_items c.in_ok-octets.octets) (Ok (units_of z))) (sym c.in-Ok.ensures.items) (subst (λ z. (ByCharacters units BMP_STRING c.args.constraints.now.size) z (Ok (units_of z))) c.as_slice.ensures.value c.in_default.ensures)))
 
 pub returns-in-Ok-clause-reads : goal.returns-in-Ok-clause-reads
 returns-in-Ok-clause-reads c =
     string_decodes bmp c.args.constraints.now (ByCharacters units BMP_STRING c.args.constraints.now.size) (by_units BMP_STRING c.args.constraints.now) units_of c.args.tag c.args.self.now _ (Ok c.from_paired.result) c.octets.ensures.octets (returns-in-Ok-clause-refused c)
 
-pub returns-in-Err-into_owned-clause-refused : goal.returns-in-Err-into_owned-clause-refused
-returns-in-Err-into_owned-clause-refused c =
+pub returns-in-Err-owned-clause-refused : goal.returns-in-Err-owned-clause-refused
+returns-in-Err-owned-clause-refused c =
     string_starved units_of (ByCharacters units BMP_STRING c.args.constraints.now.size) c.args.tag c.args.self.now _ c.in_ok-octets.octets _ _ c.in_ok-octets.ensures.gathers
-    (subst (λ z. (ByCharacters units BMP_STRING c.args.constraints.now.size) z (Ok (units_of z))) c.as_slice.ensures.value c.in_default.ensures) c.in-Err-into_owned.ensures.succeeds c.error-in-Err-into_owned.ensures
+    (subst (λ z. (ByCharacters units BMP_STRING c.args.constraints.now.size) z (Ok (units_of z))) c.as_slice.ensures.value c.in_default.ensures) c.in-Err-owned.ensures.succeeds c.error-in-Err-owned.ensures
 
-pub returns-in-Err-into_owned-clause-reads : goal.returns-in-Err-into_owned-clause-reads
-returns-in-Err-into_owned-clause-reads c =
-    string_decodes bmp c.args.constraints.now (ByCharacters units BMP_STRING c.args.constraints.now.size) (by_units BMP_STRING c.args.constraints.now) units_of c.args.tag c.args.self.now _ (Err c.error-in-Err-into_owned.result) c.octets.ensures.octets (returns-in-Err-into_owned-clause-refused c)
+pub returns-in-Err-owned-clause-reads : goal.returns-in-Err-owned-clause-reads
+returns-in-Err-owned-clause-reads c =
+    string_decodes bmp c.args.constraints.now (ByCharacters units BMP_STRING c.args.constraints.now.size) (by_units BMP_STRING c.args.constraints.now) units_of c.args.tag c.args.self.now _ (Err c.error-in-Err-owned.result) c.octets.ensures.octets (returns-in-Err-owned-clause-refused c)

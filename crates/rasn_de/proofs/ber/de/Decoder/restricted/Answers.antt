@@ -28,17 +28,17 @@ returns-in-Err-clause-reads g c =
 pub returns-in-Ok-clause-refused : goal.returns-in-Ok-clause-refused
 returns-in-Ok-clause-refused g c =
     string_given (λ s. s) (ByAlphabet g.S.StringType.ALPHABET c.args.constraints.now.size) c.args.tag c.args.self.now _ c.in_ok-octets.octets c.from_admitted.result c.in_ok-octets.ensures.gathers
-    (subst (λ z. (ByAlphabet g.S.StringType.ALPHABET c.args.constraints.now.size) (cow_slice_items c.in_ok-octets.octets) (Ok z)) (sym c.from_admitted.ensures) (subst (λ z. (ByAlphabet g.S.StringType.ALPHABET c.args.constraints.now.size) (cow_slice_items c.in_ok-octets.octets) (Ok z)) (sym (c.in-Ok.ensures.items_if_clones_equal (λ x y h. h))) (subst (λ z. (ByAlphabet g.S.StringType.ALPHABET c.args.constraints.now.size) z (Ok z)) c.as_slice.ensures.value (subst (λ a. ByAlphabet a c.args.constraints.now.size c.as_slice.result.now (Ok c.as_slice.result.now)) c.ALPHABET.ensures c.in_default.ensures))))
+    (subst (λ z. (ByAlphabet g.S.StringType.ALPHABET c.args.constraints.now.size) (cow_slice_items c.in_ok-octets.octets) (Ok z)) (sym c.from_admitted.ensures) (subst (λ z. (ByAlphabet g.S.StringType.ALPHABET c.args.constraints.now.size) (cow_slice_items c.in_ok-octets.octets) (Ok z)) (sym c.in-Ok.ensures.items) (subst (λ z. (ByAlphabet g.S.StringType.ALPHABET c.args.constraints.now.size) z (Ok z)) c.as_slice.ensures.value (subst (λ a. ByAlphabet a c.args.constraints.now.size c.as_slice.result.now (Ok c.as_slice.result.now)) c.ALPHABET.ensures c.in_default.ensures))))
 
 pub returns-in-Ok-clause-reads : goal.returns-in-Ok-clause-reads
 returns-in-Ok-clause-reads g c =
     string_decodes (kind_of g.S.StringType.ALPHABET) c.args.constraints.now (ByAlphabet g.S.StringType.ALPHABET c.args.constraints.now.size) (by_alphabet g.S.StringType.ALPHABET c.args.constraints.now) (λ s. s) c.args.tag c.args.self.now _ (Ok c.from_admitted.result) c.octets.ensures.octets (returns-in-Ok-clause-refused g c)
 
-pub returns-in-Err-into_owned-clause-refused : goal.returns-in-Err-into_owned-clause-refused
-returns-in-Err-into_owned-clause-refused g c =
+pub returns-in-Err-owned-clause-refused : goal.returns-in-Err-owned-clause-refused
+returns-in-Err-owned-clause-refused g c =
     string_starved (λ s. s) (ByAlphabet g.S.StringType.ALPHABET c.args.constraints.now.size) c.args.tag c.args.self.now _ c.in_ok-octets.octets _ _ c.in_ok-octets.ensures.gathers
-    (subst (λ z. (ByAlphabet g.S.StringType.ALPHABET c.args.constraints.now.size) z (Ok z)) c.as_slice.ensures.value (subst (λ a. ByAlphabet a c.args.constraints.now.size c.as_slice.result.now (Ok c.as_slice.result.now)) c.ALPHABET.ensures c.in_default.ensures)) c.in-Err-into_owned.ensures.succeeds c.error-in-Err-into_owned.ensures
+    (subst (λ z. (ByAlphabet g.S.StringType.ALPHABET c.args.constraints.now.size) z (Ok z)) c.as_slice.ensures.value (subst (λ a. ByAlphabet a c.args.constraints.now.size c.as_slice.result.now (Ok c.as_slice.result.now)) c.ALPHABET.ensures c.in_default.ensures)) c.in-Err-owned.ensures.succeeds c.error-in-Err-owned.ensures
 
-pub returns-in-Err-into_owned-clause-reads : goal.returns-in-Err-into_owned-clause-reads
-returns-in-Err-into_owned-clause-reads g c =
-    string_decodes (kind_of g.S.StringType.ALPHABET) c.args.constraints.now (ByAlphabet g.S.StringType.ALPHABET c.args.constraints.now.size) (by_alphabet g.S.StringType.ALPHABET c.args.constraints.now) (λ s. s) c.args.tag c.args.self.now _ (Err c.error-in-Err-into_owned.result) c.octets.ensures.octets (returns-in-Err-into_owned-clause-refused g c)
+pub returns-in-Err-owned-clause-reads : goal.returns-in-Err-owned-clause-reads
+returns-in-Err-owned-clause-reads g c =
+    string_decodes (kind_of g.S.StringType.ALPHABET) c.args.constraints.now (ByAlphabet g.S.StringType.ALPHABET c.args.constraints.now.size) (by_alphabet g.S.StringType.ALPHABET c.args.constraints.now) (λ s. s) c.args.tag c.args.self.now _ (Err c.error-in-Err-owned.result) c.octets.ensures.octets (returns-in-Err-owned-clause-refused g c)

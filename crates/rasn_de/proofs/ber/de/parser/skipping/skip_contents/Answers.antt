@@ -1,6 +1,5 @@
-use Rattle.std.proofs.Common.{◌≡◌, ℕ, suc, ◌-◌, Ok, Err, sym, subst, arith}
+use Rattle.std.proofs.Common.{◌≡◌, suc, ◌-◌, arith}
 use Rattle.std.proofs.lemmas.Result.{err_from_is_err_and}
-use Rattle.rasn_types.specs.Framing.{AreOctets}
 use Rattle.rasn_de.proofs.Tools.{octets_all}
 use Rattle.rasn_de.proofs.Skipping.{passing_start, passing_at, passing_end, passing_close, passing_stuck, passing_header, octets_left, header_smaller}
 use Rattle.rasn_de.proofs.Openings.{extent_open, extent_definite}

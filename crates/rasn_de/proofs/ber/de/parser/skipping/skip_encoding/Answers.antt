@@ -1,4 +1,4 @@
-use Rattle.std.proofs.Common.{◌<◌, ◌≤◌, length, Ok, Err, ap, arith}
+use Rattle.std.proofs.Common.{◌<◌, length, ap, arith}
 use Rattle.std.proofs.lemmas.Result.{err_from_is_err_and, IfOk-weaker}
 use Rattle.rasn_de.proofs.Tools.{octets_all}
 use Rattle.rasn_de.proofs.Skipping.{skipped_refused, skipped_plain, skipped_open, header_smaller}

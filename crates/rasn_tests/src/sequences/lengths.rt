@@ -1,0 +1,61 @@
+ghost use Rattle.rasn_enc.specs.View.{LeavesOthers};
+
+use crate::writing::{done, holds_pieces, new_encoder};
+use rasn::ber::enc::Encoder;
+use rasn::error::EncodeError;
+use rasn::types::{Codec, Constraints, Identifier, Tag};
+use rasn_bench::Pair;
+use std::alloc::{AllocError, Global};
+
+/// What stands inside.
+const OCTETS: [u8; 1000] = [0x55; 1000];
+
+/// Writes so many SEQUENCEs in one another round an OCTET STRING.
+fn nest(encoder: &mut Encoder, levels: u8) -> Result<(), EncodeError>
+    ensures { LeavesOthers encoder.old encoder.new }
+{
+    if levels == 0 {
+        return encoder.encode_octet_string(
+            Tag::OCTET_STRING,
+            &Constraints::NONE,
+            &OCTETS,
+            Identifier::EMPTY,
+        );
+    }
+    let below = levels - 1;
+    encoder.encode_sequence::<2, 0, Pair, _>(
+        Tag::SEQUENCE,
+        |inner: &mut Encoder| -> Result<(), EncodeError>
+            ensures { LeavesOthers inner.old inner.new }
+        { nest(inner, below) },
+        Identifier::EMPTY,
+    )
+}
+
+/// The headers of 100 SEQUENCEs in one another, of 1404 octets with what stands inside, and that of the OCTET STRING.
+fn headers(alloc: Global) -> Result<Vec<u8>, AllocError> {
+    let mut octets = Vec::new(alloc);
+    let mut length: u16 = 1404;
+    for _ in 0..100u8 {
+        length = length.wrapping_sub(4);
+        octets.extend_from_slice(&[0x30, 0x82])?;
+        octets.extend_from_slice(&length.to_be_bytes())?;
+    }
+    octets.extend_from_slice(&[0x04, 0x82, 0x03, 0xE8])?;
+    Ok(octets)
+}
+
+// Each header tells how much stands inside: 1400 octets, four less in the next, and so on (X.690 8.1.3).
+#[test]
+fn writes_sequences_in_one_another(rt: HostRuntime) {
+    let alloc = rt.alloc();
+    let mut encoder = new_encoder(&rt, alloc, Codec::Der);
+    done(&rt, nest(&mut encoder, 100));
+    match headers(alloc) {
+        Ok(headers) => {
+            assert!(rt; headers.starts_with(&[0x30, 0x82, 0x05, 0x78]));
+            holds_pieces(&rt, alloc, encoder.output(), &[(&headers, 0x55, 1000)]);
+        }
+        Err(_) => assert!(rt; false, "no memory"),
+    }
+}
