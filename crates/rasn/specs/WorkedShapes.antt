@@ -1,12 +1,13 @@
--- Shapes that are lawful, and shapes that aren't.
-use Rattle.std.specs.Prelude.{ℕ, [], ◌∷◌, pos, Some, None}
+-- Shapes that are lawful, and shapes that aren't; parts that a type describes, and parts that it doesn't.
+use Rattle.std.specs.Prelude.{◌≡◌, ℕ, [], ◌∷◌, pos, Some, None, true, false}
 use Rattle.rasn_types.specs.Tags.{in_universal}
 use Rattle.rasn_types.specs.declared.types.tag.Tag.{Tag}
 use Rattle.rasn_types.specs.declared.types.tag.Class.TheVariants.{Application, Context}
-use Rattle.rasn_types.specs.Shapes.{number, every, Kind, boolean, null, object_identifier, bit_string, octet_string, integer, enumerated, utf8, ia5, printable, utc_time, generalized_time, date, Shape, leaf, any, prefix, choice, option, seq, set, list, bag, part, required, optional, addition, default}
+use Rattle.rasn_types.specs.Shapes.{number, every, Kind, boolean, null, object_identifier, bit_string, octet_string, integer, enumerated, utf8, ia5, printable, utc_time, generalized_time, date, Shape, Parts, leaf, any, prefix, choice, option, seq, set, list, bag, part, required, optional, addition, default}
 use Rattle.rasn_types.specs.Shapes.Parts.{none}
 use Rattle.rasn_types.specs.Trees.{unconstrained, signed_range, unsigned_range}
 use Rattle.rasn_types.specs.Lawful.{IsLawful}
+use Rattle.rasn_types.specs.Described.{describes}
 
 -- a type of this kind with its universal tag and no bounds
 abbrev pub plain : Kind → ℕ → Shape
@@ -85,6 +86,24 @@ mixed = set (in_universal 17) (
     (part required (leaf (integer every) (record { class = Application; value = 0 }) unconstrained)
     (part required (any (Some (contextual 2))) (part required (prefix (contextual 3) (list (in_universal 16) (plain (integer every) 2) None)) none)))
     )
+
+-- the parts of SEQUENCE { INTEGER, BOOLEAN }, of SEQUENCE { INTEGER DEFAULT 7 }, and of SEQUENCE { BOOLEAN, ..., [0] EXPLICIT INTEGER }
+abbrev pub two_parts : Parts
+two_parts = part required (plain (integer every) 2) (part required (plain boolean 1) none)
+
+abbrev pub default_alone : Parts
+default_alone = part (default (number (pos 7))) (plain (integer every) 2) none
+
+abbrev pub added_part : Parts
+added_part = part required (plain boolean 1) (part addition (prefix (contextual 0) (plain (integer every) 2)) none)
+
+pub record DescribedParts : Type 0 where
+  pub two_fields : describes 2 0 true two_parts ≡ true
+  pub field_left_out : describes 1 0 true two_parts ≡ false
+  pub none_said_to_come : describes 2 0 false two_parts ≡ false
+  pub none_has_to_come : describes 1 0 false default_alone ≡ true
+  pub default_said_to_come : describes 1 0 true default_alone ≡ false
+  pub behind_a_marker : describes 1 1 true added_part ≡ true
 
 pub record LawfulShapes : Type 0 where
   pub bool : IsLawful (plain boolean 1)

@@ -1,7 +1,7 @@
 //! The laws of the grammar, for every rule. Each is a promise about its definitions: the functions do nothing when they run.
 ghost use Rattle.rasn.specs.Laws.{OneLeaf, OneOpen, OnePrefix, OneChoice, OneOption, OneSequence, OneSet, OneSequenceOf, OneSetOf};
 ghost use Rattle.rasn.specs.Worked.{Worked, WorkedStrict};
-ghost use Rattle.rasn.specs.WorkedShapes.{LawfulShapes};
+ghost use Rattle.rasn.specs.WorkedShapes.{DescribedParts, LawfulShapes};
 ghost use Rattle.rasn.specs.WorkedDepths.{WorkedDepths};
 ghost use Rattle.rasn.specs.WorkedValues.{WorkedValues, WorkedSets, WorkedOpens};
 ghost use Rattle.rasn.specs.Laws.{OneReading, Included, ReadAgain, Canonical, WrittenOnce, StrictDer, OnlyCarried, StaysCarried, OneEncoding, Turns};
@@ -115,6 +115,11 @@ pub fn worked_strict()
 /// Shapes that are lawful, and shapes that aren't.
 pub fn lawful_shapes()
     ensures { LawfulShapes }
+{}
+
+/// Parts whose count and need a type's fields tell, and parts that they don't.
+pub fn described_parts()
+    ensures { DescribedParts }
 {}
 
 /// Values nested as deep as they may be are read, and those one deeper aren't.
