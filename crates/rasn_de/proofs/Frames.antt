@@ -190,13 +190,13 @@ both_true : (a b : Bool) → a && b ≡ true → (a ≡ true) × (b ≡ true)
 both_true true b e = (refl, e)
 both_true false b e = cc
 
-same_tag_is : (s t : Tag) → same_tag s t ≡ true → s ≡ t
+pub same_tag_is : (s t : Tag) → same_tag s t ≡ true → s ≡ t
 same_tag_is s t e =
     let r = both_true (same_class s.class t.class) (nat_eq s.value t.value) e in
     let q = r.1 in
     tag_is s t (same_class_is s.class t.class r.0) (grind (arith, nat_tests))
 
-same_tag_self : (s t : Tag) → s ≡ t → same_tag s t ≡ true
+pub same_tag_self : (s t : Tag) → s ≡ t → same_tag s t ≡ true
 same_tag_self s t e =
     let h : nat_eq t.value t.value ≡ true = grind (arith, nat_tests) in
     rw e (rw (same_class_self t.class, h) refl)
