@@ -98,8 +98,7 @@ impl<'input> Decoder<'input> {
                 ensures { Gathers (ReadComponents (Decodes FIELDS.shape FIELDS.tree) (λ (v : Vec FIELDS Global). v.items)) (λ fields r. F.post f fields r) inner.old result inner.new }
             {
                 let fields = inner.components::<FIELDS>()?;
-                let value = f(fields)?;
-                Ok(value)
+                f(fields)
             },
         )
     }
