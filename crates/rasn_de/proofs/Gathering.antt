@@ -23,7 +23,7 @@ use Rattle.rasn_de.specs.Taking.{Peeks}
 use Rattle.rasn_de.proofs.Answering.{Exact-none, Exact-refusal}
 use Rattle.rasn_de.proofs.Bagged.{Came, came}
 use Rattle.rasn_de.proofs.Choosing.{choice_next}
-use Rattle.rasn_de.proofs.Listing.{Come, element_refused, element_stuck, elements_starved, elements_end}
+use Rattle.rasn_de.proofs.Listing.{Come, element_stops, elements_end}
 use Rattle.rasn_de.proofs.Parted.{by_part_one}
 use Rattle.rasn_de.proofs.Perhaps.{peeks_none}
 use Rattle.rasn_de.proofs.Pieces.{begins_more}
@@ -116,9 +116,7 @@ module _ {F S : Type 0} (ps : Parts) (piece : F → Tree) (tree : S → Tree) (o
 
   stopped : (here : State) (vs : List F) → Come (choice ps) piece old here vs → (Ended here.closing here.rest → ⊥) → (e : DecodeError) (new : State) → Stops (Decodes (choice ps) piece) here e new
       → DecodesBy (SetReads ps) tree old (Err e) new
-  stopped here vs a n e new (inl k) = from_list e new (element_refused (choice ps) piece old (λ (l : List F). list_tree piece l) here vs a n e new k)
-  stopped here vs a n e new (inr (v, k, inl (l, w))) = from_list e new (element_stuck (choice ps) piece old (λ (l : List F). list_tree piece l) here vs a n v new k l e)
-  stopped here vs a n e new (inr (v, k, inr w)) = from_list e new (elements_starved (choice ps) piece old (λ (l : List F). list_tree piece l) here vs a v new k e (ap (λ (x : DecodeError). x.kind) w))
+  stopped here vs a n e new k = from_list e new (element_stops (choice ps) piece old (λ (l : List F). list_tree piece l) here vs a n e new k)
 
   unread : (here : State) (vs : List F) (bs : List (List ℕ)) → Came (choice ps) piece old here vs bs → (Ended here.closing here.rest → ⊥) → (e : DecodeError) (new : State)
       → Unread (Decodes (choice ps) piece) bs here e new → DecodesBy (SetReads ps) tree old (Err e) new
