@@ -7,6 +7,8 @@ use Rattle.rasn_types.specs.Framing.{Next}
 use Rattle.rasn_types.specs.Shapes.{Tree, items, chosen, absent, Presence, required, optional, addition, default}
 use Rattle.rasn_types.specs.Readers.{Reading, Inside, in_definite, in_indefinite, Many, IsNoDefault, IsLeftOut, IsThere, Perhaps, Part, ReadsPart, InOrder, IsMissing, AllMissing, IsBare, ReadsSeq, ReadsChoice, NoneOf, OneOf, ByPart, ReadsSet}
 use Rattle.rasn_types.proofs.Frames.{frame_one, next_one}
+use Rattle.rasn_de.proofs.Perhaps.{apart}
+use Rattle.rasn_de.proofs.Parted.{all_missing_one, by_part_one}
 
 -- at most one value and rest
 abbrev pub IsOne : {X : Type 0} → Reading X → Type 0
@@ -39,15 +41,10 @@ many_one reads one closing input (x ∷ xs) (y ∷ ys) rest other h k =
     let t = many_one reads one closing k.1 xs ys rest other (subst (λ l. Many reads closing l xs rest) o.1 h.3) k.3 in
     (ap₂ ◌∷◌ o.0 t.0, t.1)
 
-there_or_not : (spelling : Form) (tag : Option Tag) (closing : Bool) (input : List ℕ) → IsLeftOut spelling tag closing input → IsThere spelling tag closing input → ⊥
-there_or_not spelling None closing input h k = k h
-there_or_not spelling (Some tag) closing input (inl h) k = k.0 h
-there_or_not spelling (Some tag) closing input (inr h) k = h.2 (next_one input h.0 tag h.1 k.1)
-
 pub perhaps_one : {X : Type 0} (spelling : Form) (tag : Option Tag) (without : X) (reads : Reading X) → IsOne reads → (closing : Bool) → IsOne (Perhaps spelling tag without reads closing)
 perhaps_one spelling tag without reads one closing input x y rest other (inl (p, q, r)) (inl (u, v, w)) = (cc, cc)
-perhaps_one spelling tag without reads one closing input x y rest other (inl (p, q, r)) (inr (u, v)) = absurd (there_or_not spelling tag closing input p u)
-perhaps_one spelling tag without reads one closing input x y rest other (inr (p, q)) (inl (u, v, w)) = absurd (there_or_not spelling tag closing input u p)
+perhaps_one spelling tag without reads one closing input x y rest other (inl (p, q, r)) (inr (u, v)) = absurd (apart spelling tag closing input p u)
+perhaps_one spelling tag without reads one closing input x y rest other (inr (p, q)) (inl (u, v, w)) = absurd (apart spelling tag closing input u p)
 perhaps_one spelling tag without reads one closing input x y rest other (inr (p, q)) (inr (u, v)) = one input x y rest other q v
 
 part_one : (rule : Codec) (presence : Presence) (tag : Option Tag) (reads : Reading Tree) → IsOne reads → (closing : Bool) → IsOne (ReadsPart rule presence tag reads closing)
@@ -70,16 +67,6 @@ in_order_one rule (p ∷ ps) one closing input ts us rest other h k =
     let o = part_one rule p.presence p.own p.reads one.0 closing input h.0 k.0 h.2 k.2 h.4 k.4 in
     let t = in_order_one rule ps one.1 closing k.2 h.1 k.1 rest other (subst (λ l. InOrder rule ps closing l h.1 rest) o.1 h.5) k.5 in
     (h.3 ∙ (ap₂ ◌∷◌ o.0 t.0 ∙ sym k.3), t.1)
-
-missing_one : (presence : Presence) (t u : Tree) → IsMissing presence t → IsMissing presence u → t ≡ u
-missing_one required t u h k = absurd h
-missing_one optional t u h k = cc
-missing_one addition t u h k = cc
-missing_one (default d) t u h k = cc
-
-all_missing_one : (ps : List Part) (ts us : List Tree) → AllMissing ps ts → AllMissing ps us → ts ≡ us
-all_missing_one [] ts us h k = cc
-all_missing_one (p ∷ ps) ts us h k = h.2 ∙ (ap₂ ◌∷◌ (missing_one p.presence h.0 k.0 h.3 k.3) (all_missing_one ps h.1 k.1 h.4 k.4) ∙ sym k.2)
 
 pub seq_one : (rule : Codec) (ps : List Part) → EachPart ReadsOne ps → (closing : Bool) → IsOne (ReadsSeq rule ps closing)
 seq_one rule ps one closing input t u rest other h k = go h.2 k.2
@@ -118,30 +105,6 @@ choice_one spelling (p ∷ ps) one apart k input t u rest other (inr h) (inl l) 
     let r = choice_first spelling ps (suc k) input t rest h in
     absurd (apart.0 r.0 (subst p.IsFirst (next_one input l.2 r.0 l.3 r.1) l.4) r.2)
 choice_one spelling (p ∷ ps) one apart k input t u rest other (inr h) (inr l) = choice_one spelling ps one.1 apart.1 (suc k) input t u rest other h l
-
-none_here : (k : ℕ) (t : Tree) (before after : List Tree) → NoneOf k (before ++ (chosen k t ∷ after)) → ⊥
-none_here k t [] after h = h.0 t refl
-none_here k t (b ∷ before) after h = none_here k t before after h.1
-
--- The one reading of part k.
-one_of_one : (k : ℕ) (t u : Tree) (a b c d : List Tree) → NoneOf k a → NoneOf k c
-    → a ++ (chosen k t ∷ b) ≡ c ++ (chosen k u ∷ d) → t ≡ u
-one_of_one k t u [] b [] d h l e = cc
-one_of_one k t u [] b (y ∷ c) d h l e = let f : chosen k t ≡ y = cc in absurd (l.0 t (sym f))
-one_of_one k t u (x ∷ a) b [] d h l e = let f : x ≡ chosen k u = cc in absurd (h.0 u f)
-one_of_one k t u (x ∷ a) b (y ∷ c) d h l e = one_of_one k t u a b c d h.1 l.1 cc
-
-by_part_one : (rule : Codec) (ps : List Part) (k : ℕ) (readings ts us : List Tree) → ByPart rule k ps readings ts → ByPart rule k ps readings us → ts ≡ us
-by_part_one rule [] k readings ts us h l = cc
-by_part_one rule (p ∷ ps) k readings ts us h l =
-    h.2 ∙ (ap₂ ◌∷◌ (go h.3 l.3) (by_part_one rule ps (suc k) readings h.1 l.1 h.4 l.4) ∙ sym l.2)
-  where
-    go : (OneOf k h.0 readings × (IsStrict rule → IsNoDefault p.presence h.0)) ⊎ (NoneOf k readings × IsMissing p.presence h.0)
-        → (OneOf k l.0 readings × (IsStrict rule → IsNoDefault p.presence l.0)) ⊎ (NoneOf k readings × IsMissing p.presence l.0) → h.0 ≡ l.0
-    go (inl (a, x)) (inl (b, y)) = one_of_one k h.0 l.0 a.before a.after b.before b.after a.none_before b.none_before (sym a.is ∙ b.is)
-    go (inl (a, x)) (inr (b, c)) = absurd (none_here k h.0 a.before a.after (subst (NoneOf k) a.is b))
-    go (inr (b, c)) (inl (a, x)) = absurd (none_here k l.0 a.before a.after (subst (NoneOf k) a.is b))
-    go (inr (b, c)) (inr (d, e)) = missing_one p.presence h.0 l.0 c e
 
 pub set_one : (rule : Codec) (ps : List Part) → EachPart ReadsOne ps → AreApart ps → (closing : Bool) → IsOne (ReadsSet rule ps closing)
 set_one rule ps one apart closing input t u rest other h k =

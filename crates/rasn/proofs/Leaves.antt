@@ -12,6 +12,7 @@ use Rattle.rasn_types.specs.Contents.{IsBool, IsObjectIdentifier, Contents, bits
 use Rattle.rasn_types.specs.Grammar.{Text, units, Family, plain, bit_family, text_family, family, ReadsIn, ReadsLeaf}
 use Rattle.rasn_types.proofs.Frames.{frame_one, split_one}
 use Rattle.rasn_types.proofs.Digits.{arcs_one}
+use Rattle.rasn_de.proofs.Arcs.{identifier_one}
 use Rattle.rasn.proofs.TimeTexts.{utc_one, generalized_one, date_one}
 use Rattle.rasn.proofs.Joined.{IsOne, inside_one, many_one}
 
@@ -28,13 +29,6 @@ bool_one Der l y z (inl h) (inl k) = let e = h.1 in let f = k.1 in cc
 bool_one Der l y z (inl h) (inr k) = absurd (omega (arith, ap (λ l. number_in 256 l) (sym h.0 ∙ k.0)))
 bool_one Der l y z (inr h) (inl k) = absurd (omega (arith, ap (λ l. number_in 256 l) (sym h.0 ∙ k.0)))
 bool_one Der l y z (inr h) (inr k) = let e = h.1 in let f = k.1 in cc
-
-identifier_one : (l a b : List ℕ) → IsObjectIdentifier l a → IsObjectIdentifier l b → a ≡ b
-identifier_one l a b h k =
-    let e : h.0 ∷ h.1 ≡ k.0 ∷ k.1 = arcs_one (h.0 ∷ h.1) (k.0 ∷ k.1) l h.2 k.2 in
-    let f : h.0 ≡ k.0 = cc in
-    let g : h.1 ≡ k.1 = cc in
-    h.3 ∙ (ap₂ (λ s ns. min 2 (s / 40) ∷ (s - 40 * min 2 (s / 40)) ∷ ns) f g ∙ sym k.3)
 
 contents_one : (rule : Codec) (kind : Kind) (l : List ℕ) (t u : Tree) → Contents rule kind l t → Contents rule kind l u → t ≡ u
 contents_one rule boolean l t u h k = h.1 ∙ (ap number (bool_one rule l h.0 k.0 h.2 k.2) ∙ sym k.1)

@@ -92,7 +92,7 @@ in_list_told tag s size depth told closing input t rest b o (deep, h) (ts, bs, e
     let y : us ≡ vs = items_one us vs (sym f ∙ r.1) in
     many_told s (depth - 2) told false false contents vs [] bs p r.3 (subst (λ l. Each (Bytes Der s) l bs) x w) (subst (EachOf (Meets Der s (depth - 2))) y m)) h
 
-walk_one : (ts us : List Tree) → walk (items ts) ≡ walk (items us) → items ts ≡ items us
+pub walk_one : (ts us : List Tree) → walk (items ts) ≡ walk (items us) → items ts ≡ items us
 walk_one ts us e = cc
 
 in_bag_told : (tag : Tag) (s : Shape) (size : Option (Bound ℕ)) (depth : ℕ) → IsTold s (depth - 2) → IsTold (bag tag s size) depth

@@ -19,7 +19,7 @@ use Rattle.rasn_types.proofs.Frames.{frame_next, not_ended}
 use Rattle.rasn_types.proofs.Alike.{items_one}
 use Rattle.rasn.proofs.Back.{EachGood, alternatives_good, in_order_good, by_tag_good}
 use Rattle.rasn.proofs.Hold.{one_reading, read_again}
-use Rattle.rasn.proofs.Strict.{there}
+use Rattle.rasn.proofs.Strict.{there, walk_one}
 use Rattle.rasn.proofs.StrictLeaves.{tail_octets, framed, no_open, in_told}
 use Rattle.rasn.proofs.StrictParts.{IsNeverAbsent, nothing, other_read}
 use Rattle.rasn.proofs.StrictSets.{Components, first_comes, behind, by_part_less, fewer}
@@ -255,9 +255,6 @@ in_list_made tag s size depth made closing input t rest o (deep, h) (deep', us, 
     let q = many_made s (depth - 2) made false false contents vs [] p r.3 (subst (EachOf (Owes s (depth - 2))) y m) in
     (joined_lists q.0, (vs, q.0, r.1, r.2, q.1, refl), q.2)) h in
     (r.2, (r.1.0, r.1.1, r.1.2, r.1.3, r.1.4, subst (λ l. Definite tag true l r.2) r.1.5 r.3), r.4)
-
-walk_one : (ts us : List Tree) → walk (items ts) ≡ walk (items us) → items ts ≡ items us
-walk_one ts us e = cc
 
 in_bag_made : (tag : Tag) (s : Shape) (size : Option (Bound ℕ)) (depth : ℕ) → IsMade s (depth - 2) → IsMade (bag tag s size) depth
 unfolding Reads parts_of Bytes fields_of Owes

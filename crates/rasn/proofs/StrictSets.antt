@@ -14,6 +14,7 @@ use Rattle.rasn_types.specs.Bytes.{WritesPart, PartsWritten, Bytes, fields_of}
 use Rattle.rasn_types.specs.Carried.{PartMeets, Meets, MeetsParts}
 use Rattle.rasn_types.specs.Lawful.{AreLawfulByTag}
 use Rattle.rasn_types.proofs.Frames.{begins_one}
+use Rattle.rasn_de.proofs.Pieces.{begins_more}
 use Rattle.rasn.proofs.StrictLeaves.{tail_octets}
 use Rattle.rasn.proofs.StrictParts.{EachTold, missing_told, coming_told, nothing, other_read}
 
@@ -28,9 +29,6 @@ unfolding Reads parts_of
 first_of none depth k c input t rest h = absurd h
 first_of (part presence s ps) depth k c input t rest (inl h) = (h.2, h.3, inl h.4)
 first_of (part presence s ps) depth k c input t rest (inr h) = let r = first_of ps depth (suc k) c input t rest h in (r.0, r.1, inr r.2)
-
-begins_more : (b rest : List ℕ) (tag : Tag) → Begins b tag → Begins (b ++ rest) tag
-begins_more b rest tag h = record { id = h.id; bit = h.bit; more = h.more ++ rest; spells = h.spells; is = ap (λ l. l ++ rest) h.is ∙ append_assoc h.id h.more rest }
 
 -- the tag of a piece is the one that comes
 same_first : (input b rest : List ℕ) (t n : Tag) → input ≡ b ++ rest → Begins b t → Next der_form input n → t ≡ n

@@ -60,7 +60,7 @@ ten_general = record {
   meant = refl;
 }
 
-time_lawful : IsLawful (plain generalized_time 24)
+pub time_lawful : IsLawful (plain generalized_time 24)
 unfolding IsLawful
 time_lawful = (no_eoc 24 (omega arith), refl)
 

@@ -19,7 +19,7 @@ use Rattle.rasn_types.specs.declared.ber.time.text.Zone.TheVariants.{Utc}
 use Rattle.rasn_types.specs.Spelling.{Spelling, parts}
 use Rattle.rasn_types.specs.Times.{GeneralGeneralized, CarriedDay, at_utc}
 use Rattle.rasn.proofs.WorkedStrictLeaves.{high_tag, high_tag_next, long_length, long_octets, built_bool, primitive_prefix, primitive_open, padded_integer, padded_negative, padded_arc, set_bits}
-use Rattle.rasn.proofs.WorkedFractions.{tenth_digit}
+use Rattle.rasn.proofs.WorkedFractions.{time_lawful, tenth_digit}
 use Rattle.rasn.proofs.WorkedStrictSets.{default_there, default_in_set, bag_falls, set_falls}
 
 long_spelling : Spelling
@@ -37,10 +37,6 @@ long_general = record {
   exists = (generalized_written leap_text (at_utc leap) leap_strict).0;
   meant = refl;
 }
-
-time_lawful : IsLawful (plain generalized_time 24)
-unfolding IsLawful
-time_lawful = (no_eoc 24 (omega arith), refl)
 
 leap_carried : Carried Der (plain generalized_time 24) (instant leap)
 unfolding Bytes fields_of Meets

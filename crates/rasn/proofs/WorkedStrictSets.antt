@@ -26,7 +26,7 @@ use Rattle.rasn.specs.Worked.{one_two_three, falling_octets}
 use Rattle.rasn.proofs.WorkedShapes.{seven_lawful, octets_lawful, bag_lawful, three_lawful}
 use Rattle.rasn.proofs.WorkedSets.{set_rises}
 use Rattle.rasn.proofs.Hold.{included, one_reading}
-use Rattle.rasn.proofs.Strict.{all_told}
+use Rattle.rasn.proofs.Strict.{all_told, walk_one}
 
 pub default_there : IsLenient seven (48 ∷ 3 ∷ 2 ∷ 1 ∷ 7 ∷ []) (items (number (pos 7) ∷ []))
 unfolding Meets
@@ -53,9 +53,6 @@ bag_order c rest bs o (a, az, m, e, f, h, (b, bz, n, e', f', h', (g, k))) d =
     let q = element_octets 1 (omega arith) m b n (tail_octets c a m f o) f' h' in
     let r : bs ≡ (4 ∷ 1 ∷ 2 ∷ []) ∷ (4 ∷ 1 ∷ 1 ∷ []) ∷ [] = e ∙ (ap₂ ◌∷◌ p (e' ∙ ap₂ ◌∷◌ q g)) in
     (subst (DoNotFall IsLess) r d).0 (inr (refl, inr (refl, inl (omega arith))))
-
-walk_one : (ts us : List Tree) → walk (items ts) ≡ walk (items us) → items ts ≡ items us
-walk_one ts us e = cc
 
 falls : (input : List ℕ) (t : Tree) (rest : List ℕ) → AreOctets input → t ≡ walk (items (numbers (2 ∷ []) ∷ numbers (1 ∷ []) ∷ [])) → Reads Der bag_of_octets 128 false input t rest → ⊥
 unfolding Reads parts_of

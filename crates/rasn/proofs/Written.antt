@@ -10,6 +10,7 @@ use Rattle.rasn_types.specs.Spelling.{Spelling, IsSpelling, IsFraction, fraction
 use Rattle.rasn_types.specs.Times.{DateText, shown, fields_of, century, has_no_comma, digits_of, written_fraction, written_second, within_second, written_date, written_generalized, written_utc, CarriedDay, CarriedUtc, at_utc, StrictGeneralized, IsShortFraction, CanonicalUtc}
 use Rattle.rasn_types.proofs.Fractions.{digits_small, digits_long, digits_end, digits_back, digits_some, test}
 use Rattle.rasn_types.proofs.Dated.{month_end}
+use Rattle.rasn.proofs.Steps.{is_it}
 
 abbrev fraction_for : ℕ → Option (ℕ × List ℕ)
 fraction_for n = cond (n == 0) None (Some (46, digits_of 9 n))
@@ -43,10 +44,6 @@ fraction_written n = elim (test n) [
   | inl p ↦ rw p.0 refl
   | inr p ↦ rw p.0 refl
 ]
-
-is_it : (b : Bool) → (b ≡ true) ⊎ (b ≡ false)
-is_it true = inl refl
-is_it false = inr refl
 
 within : (m : Moment) → IsMoment m → within_second m < 1000000000
 within m h = elim (is_it (ltb m.nanosecond 1000000000)) [

@@ -1,5 +1,5 @@
 -- An OBJECT IDENTIFIER is read exactly where the grammar has one.
-use Rattle.std.proofs.Common.{◌≡◌, ◌≢◌, ℕ, ◌+◌, ◌*◌, ◌-◌, ◌/◌, ◌^◌, ◌<◌, ◌≤◌, ◌⊎◌, inl, inr, false, ◌&&◌, List, [], ◌∷◌, ◌++◌, length, Option, Some, None, Result, Ok, Err, refl, sym, ap, ap₂, ◌∙◌, subst, arith, append_assoc, length-append}
+use Rattle.std.proofs.Common.{◌≡◌, ◌≢◌, ℕ, ◌+◌, ◌*◌, ◌-◌, ◌/◌, ◌^◌, ◌<◌, ◌≤◌, inl, inr, false, ◌&&◌, List, [], ◌∷◌, ◌++◌, length, Option, Some, None, Result, Ok, Err, refl, sym, ap, ap₂, ◌∙◌, subst, arith, append_assoc, length-append}
 use Rattle.std.specs.Prelude.{min, nat_eq}
 use Rattle.std.proofs.lemmas.Bool.Decides.{nat_tests}
 use Rattle.std.proofs.lemmas.List.{append-nil}
@@ -30,7 +30,7 @@ use Rattle.rasn_de.specs.Decodes.{Decodes}
 use Rattle.rasn_de.proofs.Numbers.{number128_found, number128_spelled}
 use Rattle.rasn_de.proofs.Memory.{NoMemory, number128_none, none_cond}
 use Rattle.rasn_de.proofs.Tools.{guarded}
-use Rattle.rasn_de.proofs.Peeks.{kind_memory}
+use Rattle.rasn_de.proofs.Peeks.{kind_memory, memory_or}
 use Rattle.rasn_de.proofs.Refusals.{rule_is, leaf_refused, contents_read}
 use Rattle.rasn_de.proofs.Starving.{leaf_plain, IsPlainCause}
 use Rattle.rasn_de.proofs.Answering.{plain_agrees, gave_answers, definite_end}
@@ -126,7 +126,7 @@ stops_first rule c f e = record { front = []; numbers = []; back = c; whole = re
 pub stops_later : (rule : Codec) (c rest arcs : List ℕ) (f : Fault) → ArcsSoFar rule c rest arcs → rest ≢ [] → arc_at rule rest ≡ Err f → StopsAt rule c f
 stops_later rule c rest arcs f a n e = record { front = a.front; numbers = a.first ∷ a.others; back = rest; whole = a.whole; short = a.short; is = a.is; owed = inr n; stops = e }
 
-identifier_one : (l a b : List ℕ) → IsObjectIdentifier l a → IsObjectIdentifier l b → a ≡ b
+pub identifier_one : (l a b : List ℕ) → IsObjectIdentifier l a → IsObjectIdentifier l b → a ≡ b
 identifier_one l a b h k =
     let e : h.0 ∷ h.1 ≡ k.0 ∷ k.1 = arcs_one (h.0 ∷ h.1) (k.0 ∷ k.1) l h.2 k.2 in
     let f : h.0 ≡ k.0 = cc in
@@ -211,10 +211,6 @@ stops_none rule c f arcs s (n, ns, a, e) w =
 pub stops_memory : (rule : Codec) (c : List ℕ) (f : Fault) → StopsAt rule c f → f ≢ OutOfMemory
 stops_memory rule c f s =
     subst NoMemory s.stops (none_cond (is_der rule && is_padded s.back) (Err (Der NonMinimalArc)) _ (λ e. cc) (number128_none UnsupportedObjectIdentifierArc 0 s.back (λ e. cc)))
-
-pub memory_or : (f : Fault) → (f ≡ OutOfMemory) ⊎ (f ≢ OutOfMemory)
-memory_or OutOfMemory = inl refl
-memory_or _ = inr (λ e. cc)
 
 object_found : (rule : Codec) (c arcs : List ℕ) → AreOctets c → ObjectIdentifierIn rule c (Ok arcs) → Contents rule object_identifier c (numbers arcs) × (IsStrict rule → IsShortest object_identifier c) × Unit {0}
 object_found rule c arcs o a = ((arcs, refl, a.0), a.1, tt)

@@ -16,7 +16,7 @@ use Rattle.rasn_de.specs.Outcomes.{Exact, Got}
 use Rattle.rasn_de.specs.State.{State, at}
 use Rattle.rasn_de.proofs.Answering.{Exact-none, Exact-refusal}
 use Rattle.rasn_de.proofs.Ends.{IsEnd-refl}
-use Rattle.rasn_de.proofs.Listing.{passed_start, Come, exact_at, element_refused, element_stuck, element_read, elements_end, elements_starved}
+use Rattle.rasn_de.proofs.Listing.{passed_start, Come, exact_at, element_stops, element_read, elements_end}
 use Rattle.rasn_de.proofs.Falling.{fall_front}
 
 module _ (R : Reading Tree) where
@@ -92,9 +92,7 @@ module _ {D : Type 0} (s : Shape) (tree : D → Tree) where
 
   stopped : {L : Type 0} (trees walks : L → Tree) (old here : State) (vs : List D) → Come s tree old here vs → (Ended here.closing here.rest → ⊥) → (e : DecodeError) (new : State)
       → Stops (Decodes s tree) here e new → DecodesBy (ReadsWalk s) walks old (Err e) new
-  stopped trees walks old here vs a n e new (inl k) = as_walk trees walks old e new (element_refused s tree old trees here vs a n e new k)
-  stopped trees walks old here vs a n e new (inr (v, k, inl (l, w))) = as_walk trees walks old e new (element_stuck s tree old trees here vs a n v new k l e)
-  stopped trees walks old here vs a n e new (inr (v, k, inr w)) = as_walk trees walks old e new (elements_starved s tree old trees here vs a v new k e (ap (λ (x : DecodeError). x.kind) w))
+  stopped trees walks old here vs a n e new k = as_walk trees walks old e new (element_stops s tree old trees here vs a n e new k)
 
   fell : {L : Type 0} (walks : L → Tree) (old here : State) (vs : List D) (bs : List (List ℕ)) → Came old here vs bs → (Ended here.closing here.rest → ⊥) → (e : DecodeError) (new : State)
       → Falls (Decodes s tree) bs here e new → DecodesBy (ReadsWalk s) walks old (Err e) new

@@ -5,19 +5,17 @@ use Rattle.std.specs.declared.alloc.AllocError.{AllocError}
 use Rattle.rasn_types.specs.declared.types.rules.Codec.{Codec}
 use Rattle.rasn_types.specs.declared.error.decode.DecodeError.{DecodeError}
 use Rattle.rasn_types.specs.declared.error.decode.DecodeErrorKind.{DecodeErrorKind}
-use Rattle.rasn_types.specs.Shapes.{Tree, items, Parts, part, Presence, required, optional, addition, default}
+use Rattle.rasn_types.specs.Shapes.{Tree, items, Parts, part, required, optional, addition, default}
 use Rattle.rasn_types.specs.Shapes.Parts.{none}
-use Rattle.rasn_types.specs.Readers.{Reading, Part, InOrder, IsMissing, AllMissing, HasRequired, IsBare, ReadsSeq}
+use Rattle.rasn_types.specs.Readers.{Reading, Part, InOrder, AllMissing, HasRequired, IsBare, ReadsSeq}
 use Rattle.rasn_types.specs.Grammar.{parts_of}
 use Rattle.rasn_types.specs.Described.{has_required, count, same_bool, is_fieldless, describes}
+use Rattle.rasn_types.proofs.Spelled.{both_true}
+use Rattle.rasn_de.proofs.Parted.{all_missing_one}
 use Rattle.rasn_de.specs.State.{State}
 use Rattle.rasn_de.specs.Outcomes.{Exact, Outcome, Got, refusal, outcome}
 use Rattle.rasn_de.specs.Decodes.{ReadsParts, DecodesParts}
 use Rattle.rasn_de.specs.Sequences.{is_empty, is_initial, Initial, Fills, MakesBare}
-
-both_true : (a b : Bool) → a && b ≡ true → (a ≡ true) × (b ≡ true)
-both_true true b e = (refl, e)
-both_true false b e = cc
 
 same_is : (a b : Bool) → same_bool a b ≡ true → a ≡ b
 same_is true b e = sym e
@@ -50,17 +48,6 @@ not_required rule ps depth closing n = go (has_required ps) refl
     go : (b : Bool) → has_required ps ≡ b → has_required ps ≡ false
     go true e = absurd (n (required_part rule ps depth closing e))
     go false e = e
-
-missing_one : (p : Presence) (t u : Tree) → IsMissing p t → IsMissing p u → t ≡ u
-missing_one required t u a b = absurd a
-missing_one optional t u a b = a ∙ sym b
-missing_one addition t u a b = a ∙ sym b
-missing_one (default d) t u a b = a ∙ sym b
-
-all_missing_one : (ps : List Part) (ts us : List Tree) → AllMissing ps ts → AllMissing ps us → ts ≡ us
-all_missing_one [] ts us a b = a ∙ sym b
-all_missing_one (p ∷ ps) ts us (t, r, e, m, a) (u, q, f, n, b) =
-    e ∙ ap₂ (λ x y. x ∷ y) (missing_one p.presence t u m n) (all_missing_one ps r q a b) ∙ sym f
 
 -- what a description says
 module _ (root more : ℕ) (flag : Bool) (parts : Parts) (d : describes root more flag parts ≡ true) where

@@ -13,7 +13,7 @@ use Rattle.rasn_de.specs.Octets.{octets_at, IsPrimitive, IsConstructed}
 use Rattle.rasn_de.proofs.Frames.{header_found}
 use Rattle.rasn_de.proofs.Memory.{NoMemory, header_none}
 use Rattle.rasn_de.proofs.Segments.{IsNested, string_plain}
-use Rattle.rasn_de.proofs.Strs.{frame_bit}
+use Rattle.rasn_de.proofs.Fronts.{frame_bit}
 
 frame_there : (rule : Codec) (tag : Tag) (l : List ℕ) (h : Header) → AreOctets l → header_at (form rule) (Tagged tag) l ≡ Ok h → Frame (form rule) l tag h.bit h.rest h.extent
 frame_there rule tag l h o e = let f = header_found (form rule) (Tagged tag) l h o e in subst (λ z. Frame (form rule) l z h.bit h.rest h.extent) f.1 f.0

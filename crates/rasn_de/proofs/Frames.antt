@@ -19,6 +19,7 @@ use Rattle.rasn_de.specs.declared.ber.de.parser.headers.Expected.{Expected}
 use Rattle.rasn_de.specs.declared.ber.de.parser.headers.Expected.TheVariants.{AnyTag, Tagged, Exactly}
 use Rattle.rasn_types.specs.Framing.{number_in, IdSpells, LengthSpells, IsShortestId, IsShortestLength, Extent, definite, indefinite, Frame, with_length, without_length, HasIndefinite}
 use Rattle.rasn_de.specs.Headers.{◌>>=◌, number256_at, spelled, Identified, identifier_at, octets_at, has_spare, long_at, length_at, Header, contents_at, same_class, same_tag, tagged_at, expected_at, as_written, header_by, header_at}
+use Rattle.rasn_types.proofs.Spelled.{both_true}
 use Rattle.rasn_de.proofs.Tools.{bind_ok, chosen, guarded, AreOctets, octets_back, octets_front}
 use Rattle.rasn_de.proofs.Numbers.{number256_found, number256_spelled}
 use Rattle.rasn_de.proofs.Identifiers.{strict_shortest, shortest_strict, asked_false, false_asked, neither_true, identifier_found, identifier_spelled, tag_is}
@@ -186,17 +187,13 @@ same_class_self Application = refl
 same_class_self Context = refl
 same_class_self Private = refl
 
-both_true : (a b : Bool) → a && b ≡ true → (a ≡ true) × (b ≡ true)
-both_true true b e = (refl, e)
-both_true false b e = cc
-
-same_tag_is : (s t : Tag) → same_tag s t ≡ true → s ≡ t
+pub same_tag_is : (s t : Tag) → same_tag s t ≡ true → s ≡ t
 same_tag_is s t e =
     let r = both_true (same_class s.class t.class) (nat_eq s.value t.value) e in
     let q = r.1 in
     tag_is s t (same_class_is s.class t.class r.0) (grind (arith, nat_tests))
 
-same_tag_self : (s t : Tag) → s ≡ t → same_tag s t ≡ true
+pub same_tag_self : (s t : Tag) → s ≡ t → same_tag s t ≡ true
 same_tag_self s t e =
     let h : nat_eq t.value t.value ≡ true = grind (arith, nat_tests) in
     rw e (rw (same_class_self t.class, h) refl)

@@ -42,6 +42,11 @@ module _ {F : Type 0} (s : Shape) (piece : F → Tree) where
   gathers_keeps elements by old (Err e) new (inl (vs, bs, here, p, o, n, u)) = kept_after old here new (passed_keeps old here vs bs p) (unread_keeps bs here e new u)
   gathers_keeps elements by old (Err e) new (inr (fields, p, m)) = passed_keeps old new (elements fields) p.0 p.1
 
+  pub gathers_called : {S L : Type 0} (elements : L → List F) (by : L → Result S DecodeError → Type 0) (old : State) (fields : L) (r : Result S DecodeError) (new : State)
+      → ReadComponents (Decodes s piece) elements old (Ok fields) new → by fields r → Gathers (ReadComponents (Decodes s piece) elements) by old r new
+  gathers_called elements by old fields (Ok v) new h m = (fields, h, m)
+  gathers_called elements by old fields (Err e) new h m = inr (fields, h, m)
+
 module _ {F S L : Type 0} (s : Shape) (ps : Parts) (same : s ≡ choice ps) (piece : F → Tree) (tree : S → Tree) (elements : L → List F) (by : L → Result S DecodeError → Type 0)
     (tag : Tag) (old : State) (o : old.depth ≢ 0 → AreOctets old.rest) (H : (fs : L) (r : Result S DecodeError) → by fs r → MakesSet old.rule ps tree (map piece (elements fs)) r) where
   abbrev pub Read : State → Result S DecodeError → State → Type 0

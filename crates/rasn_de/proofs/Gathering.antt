@@ -1,5 +1,5 @@
 -- The components of a SET are read one by one, and by part they are the SET's contents.
-use Rattle.std.proofs.Common.{◌≡◌, ◌⊎◌, inl, inr, ℕ, suc, Bool, false, List, [], ◌∷◌, ◌++◌, map, Result, Ok, Err, refl, sym, ap, ap₂, ◌∙◌, subst, append_assoc}
+use Rattle.std.proofs.Common.{◌≡◌, inl, inr, ℕ, suc, Bool, false, List, [], ◌∷◌, ◌++◌, map, Result, Ok, Err, refl, sym, ap, ◌∙◌, subst, append_assoc}
 use Rattle.std.proofs.lemmas.List.{append-nil}
 use Rattle.rasn_types.proofs.Alike.{items_one}
 use Rattle.rasn_types.specs.declared.types.rules.Codec.{Codec}
@@ -8,9 +8,9 @@ use Rattle.rasn_types.specs.declared.error.decode.DecodeError.{DecodeError}
 use Rattle.rasn_types.specs.Framing.{Begins, Next, Ended}
 use Rattle.rasn_types.specs.Tags.{form, IsStrict, IsTagBelow}
 use Rattle.rasn_types.specs.Order.{Each, DoNotFall}
-use Rattle.rasn_types.specs.Shapes.{Tree, items, chosen, choice, Parts, part, Presence, required, optional, addition, default}
+use Rattle.rasn_types.specs.Shapes.{Tree, items, choice, Parts, part}
 use Rattle.rasn_types.specs.Shapes.Parts.{none}
-use Rattle.rasn_types.specs.Readers.{Reading, Part, Many, ReadFrom, IsNoDefault, IsMissing, NoneOf, OneOf, ByPart, AreInTagOrder, ReadsSet}
+use Rattle.rasn_types.specs.Readers.{Reading, Many, ReadFrom, ByPart, AreInTagOrder, ReadsSet}
 use Rattle.rasn_types.specs.Grammar.{Reads, parts_of}
 use Rattle.rasn_types.specs.Trees.{list_tree}
 use Rattle.rasn_types.proofs.Frames.{begins_one}
@@ -23,38 +23,11 @@ use Rattle.rasn_de.specs.Taking.{Peeks}
 use Rattle.rasn_de.proofs.Answering.{Exact-none, Exact-refusal}
 use Rattle.rasn_de.proofs.Bagged.{Came, came}
 use Rattle.rasn_de.proofs.Choosing.{choice_next}
-use Rattle.rasn_de.proofs.Listing.{Come, element_refused, element_stuck, elements_starved, elements_end}
+use Rattle.rasn_de.proofs.Listing.{Come, element_stops, elements_end}
+use Rattle.rasn_de.proofs.Parted.{by_part_one}
 use Rattle.rasn_de.proofs.Perhaps.{peeks_none}
 use Rattle.rasn_de.proofs.Pieces.{begins_more}
 use Rattle.rasn_de.proofs.Tagged.{tags_split, tags_one, front_in_order}
-
--- Readings are these parts in one way.
-none_here : (k : ℕ) (t : Tree) (before after : List Tree) → NoneOf k (before ++ (chosen k t ∷ after)) → ⊥
-none_here k t [] after h = h.0 t refl
-none_here k t (b ∷ before) after h = none_here k t before after h.1
-
-one_of_one : (k : ℕ) (t u : Tree) (a b c d : List Tree) → NoneOf k a → NoneOf k c → a ++ (chosen k t ∷ b) ≡ c ++ (chosen k u ∷ d) → t ≡ u
-one_of_one k t u [] b [] d h l e = cc
-one_of_one k t u [] b (y ∷ c) d h l e = let f : chosen k t ≡ y = cc in absurd (l.0 t (sym f))
-one_of_one k t u (x ∷ a) b [] d h l e = let f : x ≡ chosen k u = cc in absurd (h.0 u f)
-one_of_one k t u (x ∷ a) b (y ∷ c) d h l e = one_of_one k t u a b c d h.1 l.1 cc
-
-missing_one : (p : Presence) (t u : Tree) → IsMissing p t → IsMissing p u → t ≡ u
-missing_one required t u a b = absurd a
-missing_one optional t u a b = a ∙ sym b
-missing_one addition t u a b = a ∙ sym b
-missing_one (default d) t u a b = a ∙ sym b
-
-pub by_part_one : (rule : Codec) (ps : List Part) (k : ℕ) (readings ts us : List Tree) → ByPart rule k ps readings ts → ByPart rule k ps readings us → ts ≡ us
-by_part_one rule [] k readings ts us h l = h ∙ sym l
-by_part_one rule (p ∷ ps) k readings ts us h l = h.2 ∙ (ap₂ ◌∷◌ (go h.3 l.3) (by_part_one rule ps (suc k) readings h.1 l.1 h.4 l.4) ∙ sym l.2)
-  where
-    go : (OneOf k h.0 readings × (IsStrict rule → IsNoDefault p.presence h.0)) ⊎ (NoneOf k readings × IsMissing p.presence h.0)
-        → (OneOf k l.0 readings × (IsStrict rule → IsNoDefault p.presence l.0)) ⊎ (NoneOf k readings × IsMissing p.presence l.0) → h.0 ≡ l.0
-    go (inl (a, x)) (inl (b, y)) = one_of_one k h.0 l.0 a.before a.after b.before b.after a.none_before b.none_before (sym a.is ∙ b.is)
-    go (inl (a, x)) (inr (b, c)) = absurd (none_here k h.0 a.before a.after (subst (NoneOf k) a.is b))
-    go (inr (b, c)) (inl (a, x)) = absurd (none_here k l.0 a.before a.after (subst (NoneOf k) a.is b))
-    go (inr (b, c)) (inr (d, e)) = missing_one p.presence h.0 l.0 c e
 
 -- Depth and closing octets don't count for which parts they are.
 pub by_part_at : (rule : Codec) (ps : Parts) (k d e : ℕ) (b c : Bool) (readings ts : List Tree) → ByPart rule k (parts_of rule ps d b) readings ts → ByPart rule k (parts_of rule ps e c) readings ts
@@ -143,9 +116,7 @@ module _ {F S : Type 0} (ps : Parts) (piece : F → Tree) (tree : S → Tree) (o
 
   stopped : (here : State) (vs : List F) → Come (choice ps) piece old here vs → (Ended here.closing here.rest → ⊥) → (e : DecodeError) (new : State) → Stops (Decodes (choice ps) piece) here e new
       → DecodesBy (SetReads ps) tree old (Err e) new
-  stopped here vs a n e new (inl k) = from_list e new (element_refused (choice ps) piece old (λ (l : List F). list_tree piece l) here vs a n e new k)
-  stopped here vs a n e new (inr (v, k, inl (l, w))) = from_list e new (element_stuck (choice ps) piece old (λ (l : List F). list_tree piece l) here vs a n v new k l e)
-  stopped here vs a n e new (inr (v, k, inr w)) = from_list e new (elements_starved (choice ps) piece old (λ (l : List F). list_tree piece l) here vs a v new k e (ap (λ (x : DecodeError). x.kind) w))
+  stopped here vs a n e new k = from_list e new (element_stops (choice ps) piece old (λ (l : List F). list_tree piece l) here vs a n e new k)
 
   unread : (here : State) (vs : List F) (bs : List (List ℕ)) → Came (choice ps) piece old here vs bs → (Ended here.closing here.rest → ⊥) → (e : DecodeError) (new : State)
       → Unread (Decodes (choice ps) piece) bs here e new → DecodesBy (SetReads ps) tree old (Err e) new

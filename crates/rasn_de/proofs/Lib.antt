@@ -26,6 +26,7 @@ pub mod Alternatives
 pub mod Bagged
 pub mod Walked
 pub mod Falling
+pub mod Parted
 pub mod Pieces
 pub mod Tagged
 pub mod Gathering

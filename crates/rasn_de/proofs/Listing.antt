@@ -1,5 +1,5 @@
 -- Elements are read one by one, up to the end.
-use Rattle.std.proofs.Common.{◌≡◌, ℕ, suc, ◌+◌, Bool, List, [], ◌∷◌, ◌++◌, length, map, Ok, Err, refl, sym, ap, ◌∙◌, subst, arith, append_assoc, length-append}
+use Rattle.std.proofs.Common.{◌≡◌, inl, inr, ℕ, suc, ◌+◌, Bool, List, [], ◌∷◌, ◌++◌, length, map, Ok, Err, refl, sym, ap, ◌∙◌, subst, arith, append_assoc, length-append}
 use Rattle.std.proofs.lemmas.List.{append-nil}
 use Rattle.rasn_types.specs.declared.error.decode.DecodeError.{DecodeError}
 use Rattle.rasn_types.specs.declared.error.decode.DecodeErrorKind.TheVariants.{OutOfMemory}
@@ -8,7 +8,7 @@ use Rattle.rasn_types.specs.Shapes.{Tree, Shape, items}
 use Rattle.rasn_types.specs.Readers.{Reading, Many}
 use Rattle.rasn_types.specs.Grammar.{Reads}
 use Rattle.rasn_de.specs.Decodes.{Decodes, DecodesBy}
-use Rattle.rasn_de.specs.Lists.{ReadsItems}
+use Rattle.rasn_de.specs.Lists.{ReadsItems, Stops}
 use Rattle.rasn_types.specs.Trees.{list_tree}
 use Rattle.rasn_de.specs.Outcomes.{Exact, Outcome, Got, refusal}
 use Rattle.rasn_de.specs.State.{State, at, IsEnd}
@@ -93,7 +93,7 @@ module _ {D : Type 0} (s : Shape) (tree : D → Tree) (old : State) where
   after : (here : State) (vs : List D) → Come here vs → (new : State) → new ≡ at here new.rest → IsEnd here.rest new.rest → (new ≡ at old new.rest) × IsEnd old.rest new.rest
   after here vs a new k e = (k ∙ ap (λ (z : State). at z new.rest) a.0, IsEnd-trans old.rest here.rest new.rest a.1 e)
 
-  pub element_refused : {L : Type 0} (trees : L → Tree) (here : State) (vs : List D) → Come here vs → (Ended here.closing here.rest → ⊥) → (e : DecodeError) (new : State) → Decodes s tree here (Err e) new
+  element_refused : {L : Type 0} (trees : L → Tree) (here : State) (vs : List D) → Come here vs → (Ended here.closing here.rest → ⊥) → (e : DecodeError) (new : State) → Decodes s tree here (Err e) new
       → DecodesBy (ReadsItems s) trees old (Err e) new
   unfolding ReadsItems
   element_refused trees here vs a n e new k =
@@ -106,7 +106,7 @@ module _ {D : Type 0} (s : Shape) (tree : D → Tree) (old : State) where
             (exact_at here vs a (refusal e.kind) k.exact);
       }
 
-  pub element_stuck : {L : Type 0} (trees : L → Tree) (here : State) (vs : List D) → Come here vs → (Ended here.closing here.rest → ⊥) → (v : D) (new : State) → Decodes s tree here (Ok v) new
+  element_stuck : {L : Type 0} (trees : L → Tree) (here : State) (vs : List D) → Come here vs → (Ended here.closing here.rest → ⊥) → (v : D) (new : State) → Decodes s tree here (Ok v) new
       → length new.rest ≡ length here.rest → (e : DecodeError) → DecodesBy (ReadsItems s) trees old (Err e) new
   unfolding ReadsItems
   element_stuck trees here vs a n v new k l e =
@@ -140,8 +140,14 @@ module _ {D : Type 0} (s : Shape) (tree : D → Tree) (old : State) where
         (passed_end (Reads old.rule s old.depth old.closing) old.closing old.rest here.rest (map tree vs) a.2 (subst (λ (z : State). Ended z.closing here.rest) a.0 e));
   }
 
-  pub elements_starved : {L : Type 0} (trees : L → Tree) (here : State) (vs : List D) → Come here vs → (v : D) (new : State) → Decodes s tree here (Ok v) new → (e : DecodeError) → e.kind ≡ OutOfMemory
+  elements_starved : {L : Type 0} (trees : L → Tree) (here : State) (vs : List D) → Come here vs → (v : D) (new : State) → Decodes s tree here (Ok v) new → (e : DecodeError) → e.kind ≡ OutOfMemory
       → DecodesBy (ReadsItems s) trees old (Err e) new
   elements_starved trees here vs a v new k e m =
       let w = after here vs a new k.stays k.end in
       record { stays = w.0; end = w.1; exact = subst (λ z. Exact (ReadsItems s old.rule old.depth old.closing) old.rest (refusal z)) (sym m) tt }
+
+  pub element_stops : {L : Type 0} (trees : L → Tree) (here : State) (vs : List D) → Come here vs → (Ended here.closing here.rest → ⊥) → (e : DecodeError) (new : State) → Stops (Decodes s tree) here e new
+      → DecodesBy (ReadsItems s) trees old (Err e) new
+  element_stops trees here vs a n e new (inl k) = element_refused trees here vs a n e new k
+  element_stops trees here vs a n e new (inr (v, k, inl (l, w))) = element_stuck trees here vs a n v new k l e
+  element_stops trees here vs a n e new (inr (v, k, inr w)) = elements_starved trees here vs a v new k e (ap (λ (x : DecodeError). x.kind) w)

@@ -10,7 +10,6 @@ use Rattle.rasn_types.specs.declared.error.decode.DecodeError.{DecodeError}
 use Rattle.rasn_types.specs.Framing.{AreOctets}
 use Rattle.rasn_types.specs.Shapes.{Tree, numbers, leaf, octet_string, Admits, constraint_of}
 use Rattle.rasn_types.specs.Grammar.{Reads, ReadsLeaf, IsBounded}
-use Rattle.rasn_de.specs.declared.ber.de.parser.Fault.{Fault}
 use Rattle.rasn_de.specs.declared.ber.de.parser.Fault.TheVariants.{SizeConstraintNotSatisfied}
 use Rattle.rasn_de.specs.declared.ber.de.parser.Fault.TheVariants as fault_is
 use Rattle.rasn_de.specs.Causes.{Cause, fault, kind_of}
@@ -21,7 +20,7 @@ use Rattle.rasn_de.specs.Outcomes.{Exact, refusal}
 use Rattle.rasn_de.specs.Decodes.{Decodes}
 use Rattle.rasn_de.proofs.Answering.{Agrees, gave_answers}
 use Rattle.rasn_de.proofs.Ends.{IsEnd-refl}
-use Rattle.rasn_de.proofs.Peeks.{kind_memory}
+use Rattle.rasn_de.proofs.Peeks.{kind_memory, memory_or}
 use Rattle.rasn_de.proofs.Refusals.{refuses_fault, same_at}
 use Rattle.rasn_de.proofs.StringEnds.{octets_there, octets_only, octets_end}
 
@@ -60,10 +59,6 @@ octets_decodes tag bounds old new (Err e) o (inl (m, c, s, k)) = record {
   end = subst (IsEnd old.rest) (sym (ap (λ (x : State). x.rest) s)) (IsEnd-refl old.rest);
   exact = subst (λ k. Exact (Reads old.rule (leaf octet_string tag bounds) old.depth old.closing) old.rest (refusal k)) (sym m) tt;
 }
-
-pub memory_or : (f : Fault) → (f ≡ fault_is.OutOfMemory) ⊎ (f ≢ fault_is.OutOfMemory)
-memory_or fault_is.OutOfMemory = inl refl
-memory_or _ = inr (λ e. cc)
 
 -- octets that weren't gathered
 pub gathers_refused : (tag : Tag) (bounds : Constraints) (old new : State) (e : DecodeError) → Gathers tag old (Err e) new → GaveOctets tag bounds old (Err e) new

@@ -27,6 +27,7 @@ use Rattle.rasn_de.specs.Outcomes.{Exact, Outcome, Got, refusal, outcome}
 use Rattle.rasn_de.specs.Decodes.{Answers, ReadsParts}
 use Rattle.rasn_de.specs.Optionals.{ReadsDefault}
 use Rattle.rasn_de.proofs.Answering.{Exact-refusal}
+use Rattle.rasn_de.proofs.Refusals.{rule_is}
 use Rattle.rasn_de.proofs.Ends.{IsEnd-refl, IsEnd-trans}
 use Rattle.rasn_de.specs.Inside.{Keeps}
 use Rattle.rasn_de.proofs.Stepping.{kept_after}
@@ -48,9 +49,6 @@ one_refused p s ps old new k a = record {
   end = a.end;
   exact = Exact-refusal k (OnePart p s old.rule old.depth old.closing) (ReadsParts (part p s ps) old.rule old.depth old.closing) old.rest old.rest (λ n t r w. let i = w.2 in n i.0 i.2 i.4) a.exact;
 }
-
-rule_is : (old mid : State) → mid ≡ at old mid.rest → mid.rule ≡ old.rule
-rule_is old mid e = ap (λ (x : State). x.rule) e
 
 depth_is : (old mid : State) → mid ≡ at old mid.rest → mid.depth ≡ old.depth
 depth_is old mid e = ap (λ (x : State). x.depth) e

@@ -1,5 +1,5 @@
 -- The next tag.
-use Rattle.std.proofs.Common.{◌≡◌, ◌≢◌, ℕ, Bool, List, Ok, Err, refl, ap, ◌∙◌, subst}
+use Rattle.std.proofs.Common.{◌≡◌, ◌≢◌, ◌⊎◌, inl, inr, ℕ, Bool, List, Ok, Err, refl, ap, ◌∙◌, subst}
 use Rattle.rasn_types.specs.declared.types.tag.Tag.{Tag}
 use Rattle.rasn_types.specs.Framing.{AreOctets, Next}
 use Rattle.rasn_types.specs.Tags.{Form}
@@ -38,3 +38,7 @@ next_memory shortest l f e = subst NoMemory e (identifier_none shortest l)
 pub kind_memory : (f : Fault) → f ≢ fault.OutOfMemory → IsMemory (kind_of f) → ⊥
 kind_memory fault.OutOfMemory n e = n refl
 kind_memory _ n e = cc
+
+pub memory_or : (f : Fault) → (f ≡ fault.OutOfMemory) ⊎ (f ≢ fault.OutOfMemory)
+memory_or fault.OutOfMemory = inl refl
+memory_or _ = inr (λ e. cc)

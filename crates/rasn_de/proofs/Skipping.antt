@@ -11,7 +11,7 @@ use Rattle.rasn_de.specs.declared.ber.de.parser.headers.Expected.TheVariants.{An
 use Rattle.rasn_de.specs.Headers.{Header, header_at}
 use Rattle.rasn_de.specs.Skipping.{Skipped, Closed, StandsIn, IsStuck, IsFault, Exactly}
 use Rattle.rasn_de.proofs.Tools.{octets_back}
-use Rattle.rasn_de.proofs.Fronts.{frame_not_zero, frame_shorter}
+use Rattle.rasn_de.proofs.Fronts.{frame_not_zero, frame_bit, frame_shorter}
 use Rattle.rasn_de.proofs.Frames.{header_spelled, header_found}
 
 -- What is left, read as so many levels that are still to be closed, takes so many turns and leaves rest.
@@ -220,9 +220,6 @@ passing_definite rule input count turned left tag bit contents after o f p = rec
   twice = let q = p.twice in omega (arith, frame_shorter f);
   fewer = let q = p.fewer in omega arith;
 }
-
-frame_bit : {spelling : Form} {input : List ℕ} {tag : Tag} {bit : Bool} {rest : List ℕ} → Frame spelling input tag bit rest indefinite → bit ≡ true
-frame_bit (without_length id s b h e) = b
 
 pub passing_open : (rule : Codec) (input : List ℕ) (count turned : ℕ) (left : List ℕ) (tag : Tag) (bit : Bool) (after : List ℕ) → AreOctets left
     → Frame (loose rule) left tag bit after indefinite → Passing rule input count turned left → Passing rule input (suc count) (turned + 1) after

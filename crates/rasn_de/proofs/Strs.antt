@@ -14,9 +14,10 @@ use Rattle.rasn_types.specs.Contents.{joined_lists, Str}
 use Rattle.rasn_de.specs.declared.ber.de.parser.headers.Expected.TheVariants.{Tagged}
 use Rattle.rasn_de.specs.Headers.{◌>>=◌, header_at, is_der}
 use Rattle.rasn_de.specs.Strings.{ends, segments_at, closed_at, inner, used_up, string_in, too_deep, segments_in, string_of, segment_at, string_at}
+use Rattle.rasn_types.proofs.Spelled.{both_true}
 use Rattle.rasn_de.proofs.Tools.{bind_ok, chosen, guarded, AreOctets, octets_back, octets_front}
 use Rattle.rasn_de.proofs.Frames.{header_found, header_spelled}
-use Rattle.rasn_de.proofs.Fronts.{frame_not_zero, frame_shorter}
+use Rattle.rasn_de.proofs.Fronts.{frame_not_zero, frame_bit, frame_shorter}
 use Rattle.rasn_de.proofs.Segments.{AllShorten, segment_shorter, with_front, string_plain}
 
 ended_ends : (closing : Bool) (l : List ℕ) → Ended closing l → ends l ≡ true
@@ -70,10 +71,6 @@ frame_octets input {rest = rest} o (without_length id s b h e) = let k = (octets
 used_up_found : (rest left r : List ℕ) → used_up rest left ≡ Ok r → (left ≡ []) × (r ≡ rest)
 used_up_found rest [] r e = (refl, cc)
 used_up_found rest (b ∷ l) r e = cc
-
-both_true : (a b : Bool) → a && b ≡ true → (a ≡ true) × (b ≡ true)
-both_true true b e = (refl, e)
-both_true false b e = cc
 
 pub closed_found : (left r : List ℕ) → closed_at left ≡ Ok r → left ≡ 0 ∷ 0 ∷ r
 unfolding closed_at
@@ -139,9 +136,6 @@ nested_found {X} rule segment inner_tag d s tag l rest indefinite p o f w e =
       inr (not_der rule w, k.0, sym m0 ∙ k.1, in_indefinite rest f (subst (λ z. Many (Str rule (Reads segment) inner_tag d inner_tag) true rest k.0 z) u k.2)),
       (subst AreOctets u k.3).1.1,
     )
-
-pub frame_bit : {spelling : Form} {input : List ℕ} {tag : Tag} {bit : Bool} {rest : List ℕ} → Frame spelling input tag bit rest indefinite → bit ≡ true
-frame_bit (without_length id s b h e) = b
 
 string_case : {X : Type 0} (rule : Codec) (segment : List ℕ → Result (List X) Fault) (inner_tag : Tag) (d : ℕ) → Found rule segment inner_tag d
     → (tag : Tag) (l rest : List ℕ) (bit : Bool) (x : Extent) (p : List X × List ℕ) → AreOctets l → Frame (form rule) l tag bit rest x

@@ -1,16 +1,12 @@
 -- Which alternative a tag belongs to, by computing. Where a tag is that of a type parameter, it is told by hand (`IsOnly`).
-use Rattle.std.proofs.Common.{◌≡◌, ◌==◌, ◌&&◌, ◌||◌, not, ℕ, zero, suc, Bool, true, false, Option, Some, None, refl, sym, ap, ap₂, subst, inl, inr, ◌⊎◌}
-use Rattle.std.proofs.lemmas.Bool.{eqb-true, eq-eqb}
-use Rattle.rasn_types.specs.declared.types.tag.Class.{Class}
-use Rattle.rasn_types.specs.declared.types.tag.Class.TheVariants.{Universal, Application, Context, Private}
+use Rattle.std.proofs.Common.{◌≡◌, ◌&&◌, ◌||◌, not, ℕ, zero, suc, Bool, true, false, Option, Some, None, refl, sym, ap, subst, inl, inr, ◌⊎◌}
 use Rattle.rasn_types.specs.declared.types.tag.Tag.{Tag}
-use Rattle.rasn_types.specs.Tags.{rank}
 use Rattle.rasn_types.specs.Shapes.{Shape, leaf, any, prefix, choice, option, seq, set, list, bag, Parts, part, IsTagOf, IsFirst, IsFirstOf}
 use Rattle.rasn_types.specs.Shapes.Parts.{none}
+use Rattle.rasn_types.proofs.Spelled.{both_true}
+use Rattle.rasn_de.specs.Headers.{same_tag}
 use Rattle.rasn_de.specs.Choices.{IsOnly}
-
-abbrev pub same_tag : Tag → Tag → Bool
-same_tag a b = (rank a.class == rank b.class) && (a.value == b.value)
+use Rattle.rasn_de.proofs.Frames.{same_tag_is, same_tag_self}
 
 abbrev pub has_tag : Option Tag → Tag → Bool
 has_tag None n = true
@@ -33,36 +29,6 @@ abbrev mutual
   some_begins none n = false
   some_begins (part presence s parts) n = begins s n || some_begins parts n
 
-rank_one : (a b : Class) → rank a ≡ rank b → a ≡ b
-rank_one Universal Universal e = refl
-rank_one Application Application e = refl
-rank_one Context Context e = refl
-rank_one Private Private e = refl
-rank_one Universal Application e = cc
-rank_one Universal Context e = cc
-rank_one Universal Private e = cc
-rank_one Application Universal e = cc
-rank_one Application Context e = cc
-rank_one Application Private e = cc
-rank_one Context Universal e = cc
-rank_one Context Application e = cc
-rank_one Context Private e = cc
-rank_one Private Universal e = cc
-rank_one Private Application e = cc
-rank_one Private Context e = cc
-
-both : (a b : Bool) → a && b ≡ true → (a ≡ true) × (b ≡ true)
-both true b e = (refl, e)
-both false b e = cc
-
-same_tag_is : (a b : Tag) → same_tag a b ≡ true → a ≡ b
-same_tag_is a b e =
-    let h = both (rank a.class == rank b.class) (a.value == b.value) e in
-    ap₂ (λ (c : Class) (n : ℕ). record { class = c; value = n }) (rank_one a.class b.class (eqb-true (rank a.class) (rank b.class) h.0)) (eqb-true a.value b.value h.1)
-
-same_tag_itself : (a b : Tag) → a ≡ b → same_tag a b ≡ true
-same_tag_itself a b e = subst (λ z. same_tag a z ≡ true) e (ap₂ (λ x y. x && y) (eq-eqb (rank a.class) (rank a.class) refl) (eq-eqb a.value a.value refl))
-
 by_either : {A B : Type 0} (a b : Bool) → (a ≡ true → A) → (b ≡ true → B) → a || b ≡ true → A ⊎ B
 by_either true b f g e = inl (f refl)
 by_either false b f g e = inr (g e)
@@ -80,7 +46,7 @@ has_tag_is (Some tag) n e = same_tag_is n tag e
 
 has_tag_itself : (t : Option Tag) (n : Tag) → IsTagOf t n → has_tag t n ≡ true
 has_tag_itself None n e = refl
-has_tag_itself (Some tag) n e = same_tag_itself n tag e
+has_tag_itself (Some tag) n e = same_tag_self n tag e
 
 mutual
   begins_is : (s : Shape) (n : Tag) → begins s n ≡ true → IsFirst s n
@@ -100,15 +66,15 @@ mutual
 
 mutual
   first_begins : (s : Shape) (n : Tag) → IsFirst s n → begins s n ≡ true
-  first_begins (leaf kind tag bounds) n e = same_tag_itself n tag e
+  first_begins (leaf kind tag bounds) n e = same_tag_self n tag e
   first_begins (any tag) n e = has_tag_itself tag n e
-  first_begins (prefix tag s) n e = same_tag_itself n tag e
+  first_begins (prefix tag s) n e = same_tag_self n tag e
   first_begins (choice parts) n e = first_of_begins parts n e
   first_begins (option tag s) n e = first_begins s n e
-  first_begins (seq tag parts) n e = same_tag_itself n tag e
-  first_begins (set tag parts) n e = same_tag_itself n tag e
-  first_begins (list tag s size) n e = same_tag_itself n tag e
-  first_begins (bag tag s size) n e = same_tag_itself n tag e
+  first_begins (seq tag parts) n e = same_tag_self n tag e
+  first_begins (set tag parts) n e = same_tag_self n tag e
+  first_begins (list tag s size) n e = same_tag_self n tag e
+  first_begins (bag tag s size) n e = same_tag_self n tag e
 
   first_of_begins : (ps : Parts) (n : Tag) → IsFirstOf ps n → some_begins ps n ≡ true
   first_of_begins none n e = absurd e
@@ -137,11 +103,11 @@ some_is e = cc
 only_at : (ps : Parts) (k : ℕ) (s : Shape) (n : Tag) → alternative_at ps k ≡ Some s → begins_alone ps k n ≡ true → IsOnly ps k s n
 only_at none k s n a b = cc
 only_at (part presence x ps) zero s n a b =
-    let h = both (begins x n) (not (some_begins ps n)) b in
+    let h = both_true (begins x n) (not (some_begins ps n)) b in
     let e : x ≡ s = some_is a in
     (e, subst (λ z. IsFirst z n) e (begins_is x n h.0), λ f. not_true (some_begins ps n) h.1 (first_of_begins ps n f))
 only_at (part presence x ps) (suc k) s n a b =
-    let h = both (not (begins x n)) (begins_alone ps k n) b in
+    let h = both_true (not (begins x n)) (begins_alone ps k n) b in
     (λ f. not_true (begins x n) h.0 (first_begins x n f), only_at ps k s n a h.1)
 
 -- The tag t belongs to the alternative of this number alone. Both tests are `refl` where the parts and t are written out.

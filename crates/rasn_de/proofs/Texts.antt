@@ -22,7 +22,7 @@ use Rattle.rasn_de.specs.Outcomes.{Exact, refusal}
 use Rattle.rasn_de.specs.Decodes.{Decodes}
 use Rattle.rasn_de.proofs.Answering.{Agrees, gave_answers}
 use Rattle.rasn_de.proofs.Ends.{IsEnd-refl}
-use Rattle.rasn_de.proofs.Peeks.{kind_memory}
+use Rattle.rasn_de.proofs.Peeks.{kind_memory, memory_or}
 use Rattle.rasn_de.proofs.Refusals.{refuses_fault, same_at, rule_is}
 use Rattle.rasn_de.proofs.StringEnds.{octets_there, octets_only, octets_end}
 
@@ -93,10 +93,6 @@ module _ (kind : Kind) (bounds : Constraints) (Told : Verdict) (fits : Fits kind
         (λ m. kind_memory f (fits.plain (cow_slice_items s) f a) (sym (ap (λ (y : DecodeError). y.kind) x) ∙ m)),
         refuses_fault (StringAt Told old.rule old.depth tag old.rest) old new f e (inr (cow_slice_items s, f, h, a, refl)) k x,
       ))
-
-memory_or : (f : Fault) → (f ≡ fault_is.OutOfMemory) ⊎ (f ≢ fault_is.OutOfMemory)
-memory_or fault_is.OutOfMemory = inl refl
-memory_or _ = inr (λ e. cc)
 
 -- octets that weren't gathered
 pub string_ungathered : {X : Type 0} (see : X → List ℕ) (Told : Verdict) (tag : Tag) (old new : State) (e : DecodeError) → Gathers tag old (Err e) new → GaveString see Told tag old (Err e) new

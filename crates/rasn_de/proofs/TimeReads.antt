@@ -32,7 +32,7 @@ use Rattle.rasn_de.specs.Decodes.{Decodes, DecodesBy}
 use Rattle.rasn_de.specs.TimeTexts.{AtAnyOffset, TellsText, TellsMemory, Parses, ParsesCopied, GaveTime}
 use Rattle.rasn_de.proofs.Answering.{Exact-none}
 use Rattle.rasn_de.proofs.Ends.{IsEnd-refl}
-use Rattle.rasn_de.proofs.OctetStrings.{memory_or}
+use Rattle.rasn_de.proofs.Peeks.{memory_or}
 use Rattle.rasn_de.proofs.Refusals.{same_at, rule_is}
 use Rattle.rasn_de.proofs.StringEnds.{octets_there, octets_only, octets_end}
 

@@ -40,6 +40,11 @@ module _ {D : Type 0} (read : State → Result D DecodeError → State → Type 
   Stops here e new = read here (Err e) new
       ⊎ ((v : D) × read here (Ok v) new × (((length new.rest ≡ length here.rest) × ErrorOf (UnexpectedExtraData (length here.rest)) here e) ⊎ ErrorOf OutOfMemory here e))
 
+  -- One more element stands behind the others, and took something.
+  abbrev pub AddsElement : State → List D → Result (Unit {0}) DecodeError → State → List D → Type 0
+  AddsElement old vs (Ok u) new all = (v : D) × (all ≡ vs ++ (v ∷ [])) × read old (Ok v) new × (length new.rest ≢ length old.rest)
+  AddsElement old vs (Err e) new all = Stops old e new
+
   -- Elements up to the end, or the refusal of the first that isn't read.
   abbrev pub ReadEach : {L : Type 0} → (L → List D) → State → Result L DecodeError → State → Type 0
   ReadEach elements old (Ok v) new = Passes old (elements v) new × Ended new.closing new.rest

@@ -1,8 +1,8 @@
 //! The reader of BER, CER and DER.
-ghost use Rattle.std.specs.Prelude.{◌≡◌, ◌+◌, length, IfErr, MatchResult, Result};
+ghost use Rattle.std.specs.Prelude.{◌≡◌, ◌+◌, length, IfErr, MatchBool, MatchResult, Result};
 ghost use Rattle.rasn_types.specs.declared.types.rules.Codec.{Codec};
 ghost use Rattle.rasn_types.specs.Framing.{AreOctets, Next};
-ghost use Rattle.rasn_types.specs.Tags.{form};
+ghost use Rattle.rasn_types.specs.Tags.{form, IsStrict};
 ghost use Rattle.rasn_types.specs.Grammar.{top};
 ghost use Rattle.rasn_de.specs.Causes.{in_ber, kind_of};
 ghost use Rattle.rasn_de.specs.State.{State, at, IsEnd};
@@ -12,7 +12,7 @@ ghost use Rattle.rasn_types.specs.Errors.{IsMemory};
 
 use crate::ber::de::parser::headers::{Expected, Spelling};
 use crate::ber::de::parser::{Fault, Value, read_identifier, read_value};
-use crate::ber::rules::allows_indefinite;
+use crate::ber::rules::{allows_indefinite, is_der};
 use rasn_types::error::{
     BerDecodeErrorKind, CodecDecodeError, DecodeError, DecodeErrorKind, Needed,
 };
@@ -26,6 +26,7 @@ mod choice;
 mod config;
 mod default;
 mod extensions;
+mod integers;
 mod leaves;
 mod lists;
 mod nesting;
@@ -149,6 +150,13 @@ impl<'input> Decoder<'input> {
         ensures { result ≡ self.now.rule }
     {
         self.rules
+    }
+
+    /// Whether only what the writer gives is read.
+    fn is_strict(&self) -> bool
+        ensures { MatchBool result (IsStrict self.now.rule) (IsStrict self.now.rule → ⊥) }
+    {
+        is_der(self.rules)
     }
 
     /// What new values are allocated in.

@@ -39,20 +39,12 @@ impl<'input> Decoder<'input> {
         let mut last: &[u8] = &[];
         while !self.has_ended() {
             let start = self.rest;
-            let value = D::decode(self)?;
-            let length = start.len();
-            if self.rest.len() == length {
-                return Err(self.error(Fault::UnexpectedExtraData { length }));
-            }
+            self.push_element(&mut values)?;
             let octets = octets_before(start, self.rest);
             if self.is_strict() && is_less(octets, last) {
                 return Err(self.error(Fault::Der(DerDecodeErrorKind::SetOfOutOfOrder)));
             }
             last = octets;
-            match values.push(value) {
-                Ok(()) => {}
-                Err(_) => return Err(self.error(Fault::OutOfMemory)),
-            }
         }
         Ok(SetOf::from_vec(values))
     }

@@ -1,13 +1,10 @@
 //! Values that have a default where they are left out (X.680 25.8).
-ghost use Rattle.std.specs.Prelude.{MatchBool};
-ghost use Rattle.rasn_types.specs.Tags.{IsStrict};
 ghost use Rattle.rasn_types.specs.Shapes.{given};
 ghost use Rattle.rasn_de.specs.Decodes.{Decodes};
 ghost use Rattle.rasn_de.specs.Optionals.{Made, ReadOr, DecodesDefault};
 
 use crate::ber::de::Decoder;
 use crate::ber::de::parser::Fault;
-use crate::ber::rules::is_der;
 use crate::de::Decode;
 use rasn_types::error::{DecodeError, DerDecodeErrorKind};
 use rasn_types::types::{Constraints, LawfulEq, Tag};
@@ -101,12 +98,5 @@ impl<'input> Decoder<'input> {
             Ok(value) => Ok(value),
             Err(AllocError) => Err(self.error(Fault::OutOfMemory)),
         }
-    }
-
-    /// Whether only what the writer gives is read.
-    pub(super) fn is_strict(&self) -> bool
-        ensures { MatchBool result (IsStrict self.now.rule) (IsStrict self.now.rule → ⊥) }
-    {
-        is_der(self.rules)
     }
 }

@@ -3,7 +3,7 @@ ghost use Rattle.std.specs.Prelude.{◌≢◌, vec_len};
 ghost use Rattle.rasn_types.specs.Framing.{AreOctets};
 ghost use Rattle.rasn_types.specs.Shapes.{list};
 ghost use Rattle.rasn_de.specs.Decodes.{Decodes, DecodesBy};
-ghost use Rattle.rasn_de.specs.Lists.{ReadsItems, ReadEach, InList, ReadSized};
+ghost use Rattle.rasn_de.specs.Lists.{AddsElement, ReadsItems, ReadEach, InList, ReadSized};
 ghost use Rattle.rasn_types.specs.Trees.{list_tree};
 
 use crate::ber::de::Decoder;
@@ -14,6 +14,22 @@ use rasn_types::error::DecodeError;
 use rasn_types::types::{Constraints, Tag};
 
 impl<'input> Decoder<'input> {
+    /// Reads one more element, which has to take something, behind the others.
+    #[inline(always)]
+    pub(super) fn push_element<D: Decode>(&mut self, values: &mut Vec<D>) -> Result<(), DecodeError>
+        ensures { AddsElement (Decodes D.shape D.tree) self.old values.old.items result self.new values.new.items }
+    {
+        let left = self.rest.len();
+        let value = D::decode(self)?;
+        if self.rest.len() == left {
+            return Err(self.error(Fault::UnexpectedExtraData { length: left }));
+        }
+        match values.push(value) {
+            Ok(()) => Ok(()),
+            Err(_) => Err(self.error(Fault::OutOfMemory)),
+        }
+    }
+
     /// Elements up to the end of the contents.
     fn elements<D: Decode>(&mut self) -> Result<Vec<D>, DecodeError>
         ensures reads { DecodesBy (ReadsItems D.shape) (λ v. list_tree D.tree v.items) self.old result self.new }
@@ -21,15 +37,7 @@ impl<'input> Decoder<'input> {
     {
         let mut values = Vec::new(self.alloc);
         while !self.has_ended() {
-            let left = self.rest.len();
-            let value = D::decode(self)?;
-            if self.rest.len() == left {
-                return Err(self.error(Fault::UnexpectedExtraData { length: left }));
-            }
-            match values.push(value) {
-                Ok(()) => {}
-                Err(_) => return Err(self.error(Fault::OutOfMemory)),
-            }
+            self.push_element(&mut values)?;
         }
         Ok(values)
     }

@@ -1,9 +1,9 @@
 //! Values that hold others: how they are opened and closed (X.690 8.1).
-ghost use Rattle.std.specs.Prelude.{◌≡◌, ◌≢◌, ◌&&◌, not, Result};
+ghost use Rattle.std.specs.Prelude.{◌≡◌, ◌≢◌, ◌&&◌, not, MatchBool, Result};
 ghost use Rattle.std.specs.Fn.{FnOnceReturnsAtMut};
 ghost use Rattle.rasn_types.specs.declared.error.decode.DecodeError.{DecodeError};
 ghost use Rattle.rasn_types.specs.Numbered.{constructed_bit};
-ghost use Rattle.rasn_types.specs.Framing.{indefinite, AreOctets};
+ghost use Rattle.rasn_types.specs.Framing.{indefinite, AreOctets, Ended};
 ghost use Rattle.rasn_de.specs.Inside.{asks, Opens, Closes, is_open, Keeps, ReadInside};
 ghost use Rattle.rasn_de.specs.Doors.{door_of, Enters};
 ghost use Rattle.rasn_de.specs.State.{State, IsEnd};
@@ -11,7 +11,7 @@ ghost use Rattle.rasn_de.specs.Views.{extent};
 
 use crate::ber::de::Decoder;
 use crate::ber::de::parser::headers::Expected;
-use crate::ber::de::parser::strings::{finish, held};
+use crate::ber::de::parser::nesting::{finish, has_ended, held};
 use crate::ber::de::parser::{Contents, Fault, Value};
 use rasn_types::error::DecodeError;
 use rasn_types::types::{Codec, Tag};
@@ -109,6 +109,13 @@ impl<'input> Decoder<'input> {
                 Err(self.error(fault))
             }
         }
+    }
+
+    /// Whether the contents end: nothing is left, or closing octets come where they may.
+    pub(super) fn has_ended(&self) -> bool
+        ensures { MatchBool result (Ended self.now.closing self.now.rest) (Ended self.now.closing self.now.rest → ⊥) }
+    {
+        has_ended(self.closing, self.rest)
     }
 
     /// Reads inside a value that is opened so. `f` has to read all of its contents.

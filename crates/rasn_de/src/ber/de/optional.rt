@@ -1,6 +1,4 @@
 //! Values that may be left out (X.680 25.5 to 25.8).
-ghost use Rattle.std.specs.Prelude.{MatchBool};
-ghost use Rattle.rasn_types.specs.Framing.{Ended};
 ghost use Rattle.rasn_types.specs.Shapes.{given, looked_for, option, prefix};
 ghost use Rattle.rasn_types.specs.Trees.{option_tree};
 ghost use Rattle.rasn_de.specs.Decodes.{Decodes};
@@ -9,19 +7,11 @@ ghost use Rattle.rasn_de.specs.Optionals.{Comes, ReadPerhaps};
 ghost use Rattle.rasn_de.specs.Prefixes.{prefix_door};
 
 use crate::ber::de::Decoder;
-use crate::ber::de::parser::strings::has_ended;
 use crate::de::Decode;
 use rasn_types::error::DecodeError;
 use rasn_types::types::{Constraints, Tag};
 
 impl<'input> Decoder<'input> {
-    /// Whether the contents end: nothing is left, or closing octets come where they may.
-    pub(super) fn has_ended(&self) -> bool
-        ensures { MatchBool result (Ended self.now.closing self.now.rest) (Ended self.now.closing self.now.rest → ⊥) }
-    {
-        has_ended(self.closing, self.rest)
-    }
-
     /// Whether the value that is looked for by this tag comes next; by `Tag::EOC` any value is.
     pub(super) fn comes(&self, tag: Tag) -> Result<bool, DecodeError>
         ensures { Comes tag self.now result }

@@ -13,6 +13,7 @@ use rasn_types::types::{Bounded, Class, Tag};
 
 pub mod bits;
 pub mod headers;
+pub mod nesting;
 pub mod objects;
 pub mod skipping;
 pub mod strings;

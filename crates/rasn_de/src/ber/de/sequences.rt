@@ -69,8 +69,7 @@ impl<'input> Decoder<'input> {
                     return inner.initial(default);
                 }
                 drop(default);
-                let value = f(inner)?;
-                Ok(value)
+                f(inner)
             },
         )
     }

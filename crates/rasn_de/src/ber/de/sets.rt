@@ -49,15 +49,7 @@ impl<'input> Decoder<'input> {
         let mut last = None;
         while !self.has_ended() {
             last = self.tag_in_order(last)?;
-            let left = self.rest.len();
-            let value = FIELDS::decode(self)?;
-            if self.rest.len() == left {
-                return Err(self.error(Fault::UnexpectedExtraData { length: left }));
-            }
-            match values.push(value) {
-                Ok(()) => {}
-                Err(_) => return Err(self.error(Fault::OutOfMemory)),
-            }
+            self.push_element(&mut values)?;
         }
         Ok(values)
     }
@@ -98,8 +90,7 @@ impl<'input> Decoder<'input> {
                 ensures { Gathers (ReadComponents (Decodes FIELDS.shape FIELDS.tree) (λ (v : Vec FIELDS Global). v.items)) (λ fields r. F.post f fields r) inner.old result inner.new }
             {
                 let fields = inner.components::<FIELDS>()?;
-                let value = f(fields)?;
-                Ok(value)
+                f(fields)
             },
         )
     }

@@ -1,17 +1,20 @@
-//! Character strings, and OCTET STRING of a fixed size (X.690 8.7, 8.23).
+//! OCTET STRING and character strings (X.690 8.7, 8.23).
 ghost use Rattle.std.specs.Prelude.{◌≡◌, chars, IfOk, IsOk};
 ghost use Rattle.std.specs.Cow.{cow_slice_items, IsOwnedSlice};
 ghost use Rattle.std.specs.String.{string_bytes};
 ghost use Rattle.rasn_types.specs.declared.types.strings.alphabet.Alphabet.TheVariants.{Numeric, Printable, Visible, Ia5, Every};
 ghost use Rattle.rasn_types.specs.declared.types.tag.TheConstants.Tag.{UTF8_STRING, BMP_STRING};
 ghost use Rattle.rasn_types.specs.Characters.{kind_of, units_of};
+ghost use Rattle.rasn_types.specs.Framing.{AreOctets};
 ghost use Rattle.rasn_types.specs.Grammar.{units};
-ghost use Rattle.rasn_types.specs.Shapes.{leaf, numbers, numeric, printable, visible, ia5, any_octets, bmp, utf8, fixed};
+ghost use Rattle.rasn_types.specs.Shapes.{leaf, octet_string, numbers, numeric, printable, visible, ia5, any_octets, bmp, utf8, fixed};
 ghost use Rattle.rasn_de.specs.Decodes.{Decodes};
+ghost use Rattle.rasn_de.specs.Octets.{Gathers, GaveOctets, cow_tree};
 ghost use Rattle.rasn_de.specs.Texts.{ByAlphabet, ByCharacters, ByLength, AreUtf8, GaveString, Checks, IsWithinSize, ReadsText};
 
 use crate::ber::de::Decoder;
 use crate::ber::de::parser::Fault;
+use crate::ber::de::parser::strings::read_octets;
 use rasn_types::error::DecodeError;
 use rasn_types::types::{
     Alphabet, BmpString, Bounded, Constraints, FixedOctetString, GeneralString, GeneralType,
@@ -100,6 +103,70 @@ fn text_of(octets: CowSlice<'_, u8>) -> Result<CowStr<'_>, Fault>
 }
 
 impl<'input> Decoder<'input> {
+    /// The octets of the next value as a string: borrowed from a primitive one, gathered from segments. A refusal takes nothing.
+    #[inline(always)]
+    pub(super) fn octets(&mut self, tag: Tag) -> Result<CowSlice<'input, u8>, DecodeError>
+        ensures gathers { Gathers tag self.old result self.new }
+        ensures octets { AreOctets self.old.rest }
+    {
+        match read_octets(self.alloc, self.rules, self.depth, tag, self.rest) {
+            Ok((octets, rest)) => {
+                self.advance(rest);
+                Ok(octets)
+            }
+            Err(fault) => Err(self.error(fault)),
+        }
+    }
+
+    /// An OCTET STRING within a size in octets (X.690 8.7). The octets are borrowed exactly where the encoding is primitive.
+    ///
+    /// # Errors
+    /// Framing faults; faults of a segment, which take nothing (X.690 8.7.3); `SizeConstraintNotSatisfied`, which takes the value.
+    #[inline(always)]
+    pub fn decode_octet_string(
+        &mut self,
+        tag: Tag,
+        constraints: &Constraints,
+    ) -> Result<CowSlice<'input, u8>, DecodeError>
+        ensures reads { Decodes (leaf octet_string tag constraints.now) cow_tree self.old result self.new }
+        ensures refused { GaveOctets tag constraints.now self.old result self.new }
+    {
+        let octets = self.octets(tag)?;
+        let size = octets.len();
+        if constraints.admits_size(size) {
+            Ok(octets)
+        } else {
+            let expected = constraints.size_bounds();
+            Err(self.error(Fault::SizeConstraintNotSatisfied { size, expected }))
+        }
+    }
+
+    /// An OCTET STRING of `N` octets, which are also within a size (X.690 8.7).
+    ///
+    /// # Errors
+    /// As `decode_octet_string`; another number of octets than `N` is told before the handed size.
+    pub(crate) fn decode_fixed_octet_string<const N: usize>(
+        &mut self,
+        tag: Tag,
+        constraints: &Constraints,
+    ) -> Result<FixedOctetString<N>, DecodeError>
+        ensures reads { Decodes (leaf (fixed N) tag constraints.now) numbers self.old result self.new }
+        ensures refused { GaveString (λ s. s) (ByLength N constraints.now.size) tag self.old result self.new }
+    {
+        let octets = self.octets(tag)?;
+        let Ok(array) = <[u8; N]>::try_from(octets.as_slice()) else {
+            let expected = Bounded::Single(N);
+            return Err(self.error(Fault::SizeConstraintNotSatisfied {
+                size: octets.len(),
+                expected,
+            }));
+        };
+        match check_size(constraints, N) {
+            Ok(()) => Ok(FixedOctetString::new(array)),
+            Err(fault) => Err(self.error(fault)),
+        }
+    }
+
     /// A VisibleString of octets `20` to `7E`, within a size in octets (X.680 41).
     ///
     /// # Errors
@@ -256,32 +323,6 @@ impl<'input> Decoder<'input> {
         match text.into_owned(self.alloc()) {
             Ok(text) => Ok(text),
             Err(_) => Err(self.error(Fault::OutOfMemory)),
-        }
-    }
-
-    /// An OCTET STRING of `N` octets, which are also within a size (X.690 8.7).
-    ///
-    /// # Errors
-    /// As `decode_octet_string`; another number of octets than `N` is told before the handed size.
-    pub(crate) fn decode_fixed_octet_string<const N: usize>(
-        &mut self,
-        tag: Tag,
-        constraints: &Constraints,
-    ) -> Result<FixedOctetString<N>, DecodeError>
-        ensures reads { Decodes (leaf (fixed N) tag constraints.now) numbers self.old result self.new }
-        ensures refused { GaveString (λ s. s) (ByLength N constraints.now.size) tag self.old result self.new }
-    {
-        let octets = self.octets(tag)?;
-        let Ok(array) = <[u8; N]>::try_from(octets.as_slice()) else {
-            let expected = Bounded::Single(N);
-            return Err(self.error(Fault::SizeConstraintNotSatisfied {
-                size: octets.len(),
-                expected,
-            }));
-        };
-        match check_size(constraints, N) {
-            Ok(()) => Ok(FixedOctetString::new(array)),
-            Err(fault) => Err(self.error(fault)),
         }
     }
 

@@ -1,79 +1,20 @@
 //! Strings: primitive, or gathered from segments (X.690 8.6.4, 8.7.3, 8.23).
-ghost use Rattle.std.specs.Prelude.{◌≡◌, List, ℕ, MatchBool, MatchOption, Result};
+ghost use Rattle.std.specs.Prelude.{List, ℕ, MatchOption, Result};
 ghost use Rattle.rasn_de.specs.declared.ber.de.parser.Fault.{Fault};
 ghost use Rattle.rasn_types.specs.declared.types.rules.Codec.{Codec};
-ghost use Rattle.rasn_types.specs.Framing.{AreOctets, Ended};
+ghost use Rattle.rasn_types.specs.Framing.{AreOctets};
 ghost use Rattle.rasn_de.specs.Octets.{octets_at, Finds, ShowsForm};
-ghost use Rattle.rasn_de.specs.Strings.{closed_at, finished, inner, string_of, octets};
-ghost use Rattle.rasn_de.specs.Views.{Gives, IsNestedValue, IsPlainValue, Appends, AppendsPart, extent, header};
+ghost use Rattle.rasn_de.specs.Strings.{string_of, octets};
+ghost use Rattle.rasn_de.specs.Views.{IsNestedValue, IsPlainValue, Appends, AppendsPart, header};
 
 use crate::ber::de::parser::headers::{Expected, Spelling};
+use crate::ber::de::parser::nesting::{finish, has_ended, held};
 use crate::ber::de::parser::{Contents, Fault, Value, read_value};
 use crate::ber::rules::is_der;
 use rasn_types::error::DerDecodeErrorKind;
 use rasn_types::types::{Codec, Tag};
 use std::alloc::Global;
 use std::borrow::CowSlice;
-
-/// Whether contents end: nothing is left, or closing octets come where they may.
-pub(crate) fn has_ended(closing: bool, input: &[u8]) -> bool
-    ensures { MatchBool result (Ended closing input.now) (Ended closing input.now → ⊥) }
-{
-    match input {
-        [] => true,
-        [a, b, ..] => closing && *a == 0 && *b == 0,
-        _ => false,
-    }
-}
-
-/// What follows the closing octets.
-#[tactic(auto, unfolding(crate::specs::Strings::closed_at))]
-pub fn end_of_contents(input: &[u8]) -> Result<&[u8], Fault>
-    ensures { Gives (λ r. r.now) result (closed_at input.now) }
-{
-    match input {
-        [] => Err(Fault::Incomplete { needed: 2 }),
-        [a] => if *a == 0 {
-            Err(Fault::Incomplete { needed: 1 })
-        } else {
-            Err(Fault::MissingEndOfContents)
-        },
-        [a, b, rest @ ..] => if *a == 0 && *b == 0 {
-            Ok(rest)
-        } else {
-            Err(Fault::MissingEndOfContents)
-        },
-    }
-}
-
-/// What follows a value whose segments were read up to what is left.
-pub(crate) fn finish<'a>(
-    contents: Contents<'a>,
-    rest: &'a [u8],
-    left: &'a [u8],
-) -> Result<&'a [u8], Fault>
-    ensures { Gives (λ r. r.now) result (finished (extent contents.entry) rest.now left.now) }
-{
-    match contents {
-        Contents::Definite(_) => {
-            if left.is_empty() {
-                Ok(rest)
-            } else {
-                Err(Fault::UnexpectedExtraData { length: left.len() })
-            }
-        }
-        Contents::Indefinite => end_of_contents(left),
-    }
-}
-
-pub(crate) fn held<'a>(contents: Contents<'a>, rest: &'a [u8]) -> &'a [u8]
-    ensures { result.now ≡ inner (extent contents.entry) rest.now }
-{
-    match contents {
-        Contents::Definite(octets) => octets,
-        Contents::Indefinite => rest,
-    }
-}
 
 /// What gathers segments.
 pub trait Segmented: Drop {

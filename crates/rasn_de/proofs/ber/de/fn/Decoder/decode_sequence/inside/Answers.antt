@@ -1,5 +1,4 @@
 use Rattle.std.proofs.Common.{◌≡◌, refl, sym, ◌∙◌, true, false, inl, inr}
-use Rattle.std.proofs.lemmas.Result.{err_from_is_err_and}
 use Rattle.rasn_de.specs.Sequences.{is_initial}
 use Rattle.rasn_de.proofs.ber.de.fn.Decoder.decode_sequence.inside.Goals as goal
 
@@ -9,15 +8,8 @@ returns-then-reads_initially g c =
     rw (← c.HAS_REQUIRED_FIELDS.ensures, ← c.remaining.ensures.value) (sym c.reads_initially.ensures ∙ c.if-reads_initially.true) in
     inl (s, c.initial.ensures, refl)
 
-pub returns-in_err-value : goal.returns-in_err-value
-returns-in_err-value g c =
-    let p = err_from_is_err_and c.from_residual.result c.from_residual.ensures.1 in
-    let s : is_initial g.row.RC g.row.EC g.D.Constructed.HAS_REQUIRED_FIELDS c.args.inner.now.rest ≡ false =
-    rw (← c.HAS_REQUIRED_FIELDS.ensures, ← c.remaining.ensures.value) (sym c.reads_initially.ensures ∙ c.if-reads_initially.false) in
-    rw (p.1, p.2) (inr (s, record { shown = _; shows = refl; left = _; met = c.in_err-value.ensures; leaves = refl }))
-
 pub returns : goal.returns
 returns g c =
     let s : is_initial g.row.RC g.row.EC g.D.Constructed.HAS_REQUIRED_FIELDS c.args.inner.now.rest ≡ false =
     rw (← c.HAS_REQUIRED_FIELDS.ensures, ← c.remaining.ensures.value) (sym c.reads_initially.ensures ∙ c.if-reads_initially.false) in
-    inr (s, record { shown = _; shows = refl; left = _; met = c.in_ok-value.ensures; leaves = refl })
+    inr (s, record { shown = _; shows = refl; left = _; met = c.f.ensures; leaves = refl })

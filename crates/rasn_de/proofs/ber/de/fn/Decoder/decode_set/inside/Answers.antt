@@ -1,8 +1,6 @@
-use Rattle.std.proofs.Common.{inr}
-use Rattle.std.proofs.lemmas.Result.{err_from_is_err_and}
+use Rattle.std.proofs.Common.{Vec, Global}
+use Rattle.rasn_de.proofs.Gathered.{gathers_called}
 use Rattle.rasn_de.proofs.ber.de.fn.Decoder.decode_set.inside.Goals as goal
 
-pub returns-in_err-value : goal.returns-in_err-value
-returns-in_err-value g c =
-    let p = err_from_is_err_and c.from_residual-in_err-value.result c.from_residual-in_err-value.ensures.1 in
-    rw (p.1, p.2) (inr (c.in_ok-fields.fields, c.in_ok-fields.ensures, c.in_err-value.ensures))
+pub returns : goal.returns
+returns g c = gathers_called g.FIELDS.AsnType.shape g.FIELDS.AsnType.tree (λ (v : Vec g.row.FIELDS.Denot Global). v.items) (goal.F-post g c.captures.f) _ c.in_ok-fields.fields _ _ c.in_ok-fields.ensures c.f.ensures
