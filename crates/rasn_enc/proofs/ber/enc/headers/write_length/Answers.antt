@@ -1,6 +1,6 @@
 use Rattle.std.proofs.Common.{◌+◌, arith, ap, refl, length}
 use Rattle.rasn_enc.proofs.Places.{length_low, length_high, length-length_high, put_one, put_more}
-use Rattle.rasn_enc.proofs.ber.enc.header.write_length.Goals as goal
+use Rattle.rasn_enc.proofs.ber.enc.headers.write_length.Goals as goal
 
 pub push_reserved-requires : goal.push_reserved-requires
 push_reserved-requires c = omega (arith, ap length (length_low c.args.count c.if-count-lt128.true))

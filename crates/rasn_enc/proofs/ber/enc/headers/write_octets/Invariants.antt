@@ -1,6 +1,6 @@
 use Rattle.std.proofs.Common.{◌≡◌, ◌+◌, ◌<◌, ◌≤◌, ◌++◌, vec_len, vec_capacity}
 use Rattle.rasn_enc.specs.Headers.{digits, octet_count}
-use Rattle.rasn_enc.proofs.ber.enc.header.write_octets.Given as goal
+use Rattle.rasn_enc.proofs.ber.enc.headers.write_octets.Given as goal
 
 abbrev pub invariant-loop-left : goal.invariant-loop-left
 invariant-loop-left l = record {

@@ -1,7 +1,7 @@
 use Rattle.std.proofs.Common.{◌+◌, arith, refl, ap, ◌∙◌}
 use Rattle.rasn_enc.proofs.Places.{length_low, length_high, length-length_high}
 use Rattle.rasn_enc.proofs.HeaderOctets.{first_octet, head_octet, later_octet, octet_placed}
-use Rattle.rasn_enc.proofs.ber.enc.header.length_octet.Goals as goal
+use Rattle.rasn_enc.proofs.ber.enc.headers.length_octet.Goals as goal
 
 pub returns-then-count-lt128 : goal.returns-then-count-lt128
 returns-then-count-lt128 c = first_octet _ _ _ c.args.i refl (length_low c.args.count c.if-count-lt128.true) c.requires

@@ -1,4 +1,4 @@
-//! Closures that write: inside a value, or as one of several alternatives.
+//! Values that hold others: how they are opened and closed (X.690 8.1), and what closures write inside them.
 ghost use Rattle.std.specs.Prelude.{◌≡◌, ◌<◌, ◌⊎◌, length, true, Ok, Err, IfErr, OnOk, OnErr};
 ghost use Rattle.std.specs.Fn.{FnOnceTakesAtMut, FnOnceReturnsAtMut};
 ghost use Rattle.rasn_types.specs.Bytes.{Cons};

@@ -2,7 +2,7 @@ use Rattle.std.proofs.Common.{◌≡◌, ◌++◌, ◌∷◌, ◌-◌, arith, ap
 use Rattle.std.proofs.lemmas.List.{append-nil}
 use Rattle.rasn_enc.specs.Headers.{digits}
 use Rattle.rasn_enc.proofs.Places.{octets_step, octets_none, moves}
-use Rattle.rasn_enc.proofs.ber.enc.header.write_octets.Goals as goal
+use Rattle.rasn_enc.proofs.ber.enc.headers.write_octets.Goals as goal
 
 pub loop-left-preserved : goal.loop-left-preserved
 loop-left-preserved c = record {

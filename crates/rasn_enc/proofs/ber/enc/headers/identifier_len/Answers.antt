@@ -1,6 +1,6 @@
 use Rattle.std.proofs.Common.{◌+◌, ap, sym, ◌∙◌}
 use Rattle.rasn_enc.proofs.Places.{length-id_low, length-id_high}
-use Rattle.rasn_enc.proofs.ber.enc.header.identifier_len.Goals as goal
+use Rattle.rasn_enc.proofs.ber.enc.headers.identifier_len.Goals as goal
 
 pub returns-then-tag-lt31-clause-exact : goal.returns-then-tag-lt31-clause-exact
 returns-then-tag-lt31-clause-exact c = length-id_low c.args.tag c.if-tag-lt31.true

@@ -1,6 +1,6 @@
 use Rattle.std.proofs.Common.{arith}
 use Rattle.rasn_enc.proofs.Places.{id_low, id_high, length-id_low, length-id_high, put_one, put_more}
-use Rattle.rasn_enc.proofs.ber.enc.header.write_identifier.Goals as goal
+use Rattle.rasn_enc.proofs.ber.enc.headers.write_identifier.Goals as goal
 
 pub push_reserved-requires : goal.push_reserved-requires
 push_reserved-requires c = omega (arith, length-id_low c.args.tag c.if-tag-lt31.true c.args.constructed)

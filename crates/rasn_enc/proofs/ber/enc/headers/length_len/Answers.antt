@@ -1,6 +1,6 @@
 use Rattle.std.proofs.Common.{◌+◌, length, ap, sym, ◌∙◌}
 use Rattle.rasn_enc.proofs.Places.{length_low, length-length_high}
-use Rattle.rasn_enc.proofs.ber.enc.header.length_len.Goals as goal
+use Rattle.rasn_enc.proofs.ber.enc.headers.length_len.Goals as goal
 
 pub returns-then-count-lt128-clause-exact : goal.returns-then-count-lt128-clause-exact
 returns-then-count-lt128-clause-exact c = ap length (length_low c.args.count c.if-count-lt128.true)

@@ -1,7 +1,7 @@
 use Rattle.std.proofs.Common.{arith}
 use Rattle.rasn_enc.proofs.Places.{id_low, id_high, length-id_high}
 use Rattle.rasn_enc.proofs.HeaderOctets.{first_octet, head_octet, later_octet}
-use Rattle.rasn_enc.proofs.ber.enc.header.identifier_octet.Goals as goal
+use Rattle.rasn_enc.proofs.ber.enc.headers.identifier_octet.Goals as goal
 
 pub returns-then-tag-lt31 : goal.returns-then-tag-lt31
 returns-then-tag-lt31 c = first_octet _ _ _ c.args.i c.leading_octet.ensures (id_low c.args.tag c.args.constructed c.if-tag-lt31.true) c.requires
