@@ -17,7 +17,7 @@ use Rattle.rasn_enc.specs.Writing.{Closure, Encloses, Refuses}
 use Rattle.rasn_enc.specs.Wrote.{Wrote, MayRefuse, Undefined}
 use Rattle.rasn_enc.specs.Elements.{WroteEach, RefusesElement, RefusesList}
 use Rattle.rasn_enc.proofs.Leaves.{cons_begins, wrote_one}
-use Rattle.rasn_enc.proofs.Segments.{joined_one}
+use Rattle.rasn_enc.proofs.Segments.{joined_one, each_one}
 
 pub list_there : (ts : List Tree) → items ts ≢ absent
 list_there [] e = cc
@@ -48,10 +48,6 @@ elements_start s ts v e = record {
   others = record { rule = refl; below = refl };
   no_tags = e;
 }
-
-pub each_one : (R : Tree → List ℕ → Type 0) (ts : List Tree) (bs : List (List ℕ)) (t : Tree) (b : List ℕ) → Each R ts bs → R t b → Each R (ts ++ t ∷ []) (bs ++ b ∷ [])
-each_one R [] bs t b e r = (b, [], ap (λ l. l ++ b ∷ []) e, r, refl)
-each_one R (u ∷ ts) bs t b (c, more, e, q, f) r = (c, more ++ b ∷ [], ap (λ l. l ++ b ∷ []) e, q, each_one R ts more t b f r)
 
 pub each_at : (R : Tree → List ℕ → Type 0) (front : List Tree) (t : Tree) (back : List Tree) (bs : List (List ℕ)) → Each R (front ++ t ∷ back) bs → (b : List ℕ) × R t b
 each_at R [] t back bs (b, more, e, r, f) = (b, r)

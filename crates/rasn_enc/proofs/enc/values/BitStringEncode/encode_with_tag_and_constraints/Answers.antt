@@ -1,4 +1,4 @@
-use Rattle.rasn_enc.proofs.BitSegments.{bits_refused}
+use Rattle.rasn_enc.proofs.BitStrings.{bits_refused}
 use Rattle.rasn_enc.proofs.enc.values.BitStringEncode.encode_with_tag_and_constraints.Goals as goal
 
 pub returns-clause-refused : goal.returns-clause-refused
