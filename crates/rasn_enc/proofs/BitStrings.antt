@@ -1,7 +1,7 @@
 -- Bits as the contents of a BIT STRING.
-use Rattle.std.proofs.Common.{◌≡◌, ℕ, zero, suc, ◌+◌, ◌*◌, ◌%◌, ◌<◌, ◌≤◌, ◌⊎◌, inl, inr, Bool, false, List, [], ◌∷◌, ◌++◌, length, Result, Ok, Err, OnOk, IfErr, refl, sym, ap, ap₂, ◌∙◌, subst, arith}
+use Rattle.std.proofs.Common.{◌≡◌, ℕ, zero, suc, ◌+◌, ◌*◌, ◌%◌, ◌<◌, ◌≤◌, Bool, false, List, [], ◌∷◌, ◌++◌, length, Result, Ok, Err, OnOk, refl, sym, ap, ap₂, ◌∙◌, subst, arith}
 use Rattle.std.proofs.lemmas.List.{append_assoc, length-append, length-replicate}
-use Rattle.std.proofs.lemmas.Result.{on_ok_weaker, IfErr-weaker}
+use Rattle.std.proofs.lemmas.Result.{on_ok_weaker}
 use Rattle.rasn_types.specs.Tags.{in_universal}
 use Rattle.rasn_types.specs.Framing.{AreOctets}
 use Rattle.rasn_types.specs.Shapes.{bits, leaf, bit_string, Admits}
@@ -9,13 +9,11 @@ use Rattle.rasn_types.specs.Bits.{zeros, Pushes}
 use Rattle.rasn_types.specs.Bytes.{IsBare, AllFalse, WrittenBits, WritesStr, Bytes}
 use Rattle.rasn_types.specs.declared.types.tag.Tag.{Tag}
 use Rattle.rasn_types.specs.declared.types.constraints.Constraints.{Constraints}
-use Rattle.rasn_types.specs.declared.error.encode.EncodeError.{EncodeError}
 use Rattle.rasn_types.proofs.Bits.{length-bits_in}
 use Rattle.rasn_types.proofs.Digits.{front_octets}
 use Rattle.rasn_enc.specs.View.{View}
 use Rattle.rasn_enc.specs.Primitives.{Appends}
-use Rattle.rasn_enc.specs.Wrote.{Wrote, MayRefuse}
-use Rattle.rasn_enc.specs.Refusals.{RefusesSize, MeetsSize}
+use Rattle.rasn_enc.specs.Wrote.{Wrote}
 use Rattle.rasn_enc.proofs.Leaves.{wrote_one}
 use Rattle.rasn_enc.proofs.Segments.{str_begins}
 
@@ -68,13 +66,3 @@ bits_wrote result tag c bs v w m h = on_ok_weaker result (λ a.
     wrote_one (WritesStr v.rule WrittenBits 7992 (in_universal 3) tag bs) tag (leaf bit_string tag c) (bits bs) v w a (λ n. n)
     (λ o d. str_begins WrittenBits 7992 (in_universal 3) v.rule tag bs o d)
     (λ b d. (m, (bs, refl, d)))) h
-
--- A size that isn't admitted has no octets.
-pub bits_refused : {R : Type 0} (result : Result R EncodeError) (tag : Tag) (c : Constraints) (bs : List Bool) (v : View)
-    → IfErr result (λ e. RefusesSize c (length bs) v.rule e ⊎ MeetsSize c (length bs) v.rule e)
-    → IfErr result (MayRefuse (leaf bit_string tag c) (bits bs) v)
-unfolding Bytes
-bits_refused result tag c bs v h = IfErr-weaker result _ _ (λ e. elim [
-  | inl r ↦ record { why = inr (inl (record { none = λ octets b. r.unmet b.0 })) }
-  | inr m ↦ record { why = inl (ap (λ (x : EncodeError). x.kind) m.memory) }
-]) h

@@ -7,14 +7,22 @@ use Rattle.rasn_types.specs.Contents.{joined_lists}
 use Rattle.rasn_types.specs.Bytes.{Writing, AreCut, Each, Prim, IsCer, WritesStr}
 use Rattle.rasn_types.specs.declared.types.tag.Tag.{Tag}
 use Rattle.rasn_types.specs.declared.types.rules.Codec.{Codec}
-use Rattle.rasn_enc.specs.View.{View, LeavesOthers}
+use Rattle.rasn_enc.specs.View.{View, LeavesOthers, appended}
 use Rattle.rasn_enc.specs.Primitives.{Appends}
 use Rattle.rasn_enc.specs.Segments.{IsPiece, WroteSegments, PutsSegments}
 use Rattle.rasn_enc.proofs.Leaves.{definite_begins, cons_begins}
 
-pub joined_one : {X : Type 0} (xs : List (List X)) (x : List X) → joined_lists (xs ++ x ∷ []) ≡ joined_lists xs ++ x
+joined_one : {X : Type 0} (xs : List (List X)) (x : List X) → joined_lists (xs ++ x ∷ []) ≡ joined_lists xs ++ x
 joined_one [] x = append-nil x
 joined_one (y ∷ xs) x = ap (λ l. y ++ l) (joined_one xs x) ∙ sym (append_assoc y (joined_lists xs) x)
+
+-- One more piece behind octets that stand behind others.
+pub joined_behind : (a b c piece : List ℕ) (bs : List (List ℕ)) → c ≡ b ++ piece → b ≡ a ++ joined_lists bs → c ≡ a ++ joined_lists (bs ++ piece ∷ [])
+joined_behind a b c piece bs e k = e ∙ (ap (λ l. l ++ piece) k ∙ (append_assoc a (joined_lists bs) piece ∙ ap (λ l. a ++ l) (sym (joined_one bs piece))))
+
+-- A value behind a view that leaves the others alone.
+pub others_more : (v w u : View) (octets : List ℕ) (tags : List Tag) → u ≡ appended w octets tags → LeavesOthers v w → LeavesOthers v u
+others_more v w u octets tags e k = record { rule = ap (λ (x : View). x.rule) e ∙ k.rule; below = ap (λ (x : View). x.below) e ∙ k.below }
 
 pub each_one : {X Y : Type 0} (R : X → Y → Type 0) (ps : List X) (bs : List Y) (p : X) (b : Y) → Each R ps bs → R p b → Each R (ps ++ p ∷ []) (bs ++ b ∷ [])
 each_one R [] bs p b e s = (b, [], ap (λ l. l ++ b ∷ []) e, s, refl)
@@ -53,11 +61,7 @@ module _ {X : Type 0} (writes : Writing (List X)) (size : ℕ) (inner : Tag) whe
 
   module _ (xs rest : List X) (v w u : View) (k : SegmentsSoFar xs rest v w) (piece : List X) (a : Appends (IsPiece writes inner piece) inner w u) where
     octets_more : u.last.octets ≡ v.last.octets ++ joined_lists (k.encoded ++ a.octets ∷ [])
-    octets_more = ap (λ (x : View). x.last.octets) a.appended ∙ (ap (λ l. l ++ a.octets) k.octets ∙ (append_assoc v.last.octets (joined_lists k.encoded) a.octets
-        ∙ ap (λ l. v.last.octets ++ l) (sym (joined_one k.encoded a.octets))))
-
-    pub segments_keep : LeavesOthers v u
-    segments_keep = record { rule = ap (λ (x : View). x.rule) a.appended ∙ k.others.rule; below = ap (λ (x : View). x.below) a.appended ∙ k.others.below }
+    octets_more = joined_behind v.last.octets w.last.octets u.last.octets a.octets k.encoded (ap (λ (x : View). x.last.octets) a.appended) k.octets
 
     pub segments_more : (tail : List X) → rest ≡ piece ++ tail → length piece ≡ size → SegmentsSoFar xs tail v u
     segments_more tail e n = record {
@@ -67,7 +71,7 @@ module _ {X : Type 0} (writes : Writing (List X)) (size : ℕ) (inner : Tag) whe
       full = full_one k.pieces piece k.full n;
       each = each_one (IsPiece writes inner) k.pieces k.encoded piece a.octets k.each a.written;
       octets = octets_more;
-      others = segments_keep;
+      others = others_more v w u a.octets (inner ∷ []) a.appended k.others;
     }
 
     pub segments_done : rest ≡ piece → 0 < length piece → length piece ≤ size → WroteSegments writes size inner xs v u

@@ -18,7 +18,7 @@ use Rattle.rasn_enc.specs.Primitives.{Appends}
 use Rattle.rasn_enc.specs.Wrote.{Wrote, MayRefuse}
 use Rattle.rasn_enc.specs.Refusals.{RefusesSize, MeetsSize}
 use Rattle.rasn_enc.specs.Texts.{IsCounted, PutsText}
-use Rattle.rasn_enc.proofs.Leaves.{wrote_one}
+use Rattle.rasn_enc.proofs.Leaves.{wrote_one, size_refused}
 use Rattle.rasn_enc.proofs.Segments.{appends_piece, in_one, str_begins}
 
 -- Octets in one piece.
@@ -105,8 +105,4 @@ counted_refused result c size n rule (inr k) h = refused_at result c size n rule
 pub text_refused : {R : Type 0} (result : Result R EncodeError) (kind : Kind) (tag : Tag) (c : Constraints) (ns : List ℕ) (v : View) → measure kind ≡ by_size
     → IfErr result (λ e. RefusesSize c (length ns) v.rule e ⊎ MeetsSize c (length ns) v.rule e)
     → IfErr result (MayRefuse (leaf kind tag c) (numbers ns) v)
-unfolding Bytes
-text_refused result kind tag c ns v k h = IfErr-weaker result _ _ (λ e. elim [
-  | inl r ↦ record { why = inr (inl (record { none = λ octets b. r.unmet (subst (λ z. Fulfils z c (numbers ns)) k b.0) })) }
-  | inr m ↦ record { why = inl (ap (λ (x : EncodeError). x.kind) m.memory) }
-]) h
+text_refused result kind tag c ns v k h = size_refused result kind tag c (numbers ns) (length ns) v (λ b. subst (λ z. Fulfils z c (numbers ns)) k b) h
