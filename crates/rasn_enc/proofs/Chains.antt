@@ -142,6 +142,9 @@ module _ (r : Codec) (xs : List ℕ) (ms : List Mark) (os : List Open) (o : Open
   pub cut-chain : Chain (take o.end xs) (take o.last ms) 0 0 os o.start o.first
   cut-chain = chain-same xs (take o.end xs) ms (take o.last ms) 0 0 os o.start o.first h.front (sym (take-take o.start o.end xs start-end)) (sym (take-take o.first o.last ms first-last)) h.sound.start_within h.sound.first_within
 
+  both : (all : List Open) → all ≡ os ++ o ∷ [] → (v : View) → map (frame_in xs ms) all ≡ v.below ++ v.last ∷ [] → (map (frame_in xs ms) os ≡ v.below) × (frame_in xs ms o ≡ v.last)
+  both all is v below = same_from_push _ _ _ _ (sym (map-append (frame_in xs ms) os (o ∷ [])) ∙ ap (map (frame_in xs ms)) (sym is) ∙ below)
+
   module _ (tag : Tag) (n : ℕ) (measured : n ≡ length (list_from xs ms s f)) (ns : List Mark) (e : ns ≡ take o.last ms ++ (mark_at o.end (head_of r tag n) ∷ (drop (suc o.last) ms ++ closing r (length xs)))) (rising : Rising s (drop f ms) (length xs)) where
     finish-marks : drop o.first ns ≡ drop o.first (take o.last ms) ++ (mark_at o.end (head_of r tag n) ∷ (drop f ms ++ closing r (length xs)))
     finish-marks = rw (e, drop-append-le o.first (take o.last ms) _ h.sound.first_within, h.lasts) refl
@@ -185,14 +188,11 @@ module _ (r : Codec) (xs : List ℕ) (ms : List Mark) (os : List Open) (o : Open
     finish-chain = chain-same xs xs ms ns 0 0 os o.start o.first h.front refl finish-front (let a = start-end in let w = h.end_within in omega (arith, a, w)) finish-within
 
     module _ (all : List Open) (is : all ≡ os ++ o ∷ []) (v : View) (rule : r ≡ v.rule) (below : map (frame_in xs ms) all ≡ v.below ++ v.last ∷ []) where
-      finish-both : (map (frame_in xs ms) os ≡ v.below) × (frame_in xs ms o ≡ v.last)
-      finish-both = same_from_push _ _ _ _ (sym (map-append (frame_in xs ms) os (o ∷ [])) ∙ ap (map (frame_in xs ms)) (sym is) ∙ below)
-
       pub finish-view : (t2 : Option (List Tag)) → t2 ≡ noted (tags_of o.tags) (tag ∷ []) → shown r xs ns o.start o.first t2 os ≡ appended v (constructed v.rule tag (list_from xs ms s f)) (tag ∷ [])
       finish-view t2 g =
-          let lower : map (frame_in xs ns) os ≡ v.below = sym (frames-same xs xs ms ns 0 0 os o.start o.first h.front refl finish-front) ∙ finish-both.0 in
-          let octets : list_from xs ns o.start o.first ≡ v.last.octets ++ constructed r tag (list_from xs ms s f) = finish-list ∙ ap (λ z. z.octets ++ constructed r tag (list_from xs ms s f)) finish-both.1 in
-          let tags : tags_of o.tags ≡ v.last.tags = ap (λ z. z.tags) finish-both.1 in
+          let lower : map (frame_in xs ns) os ≡ v.below = sym (frames-same xs xs ms ns 0 0 os o.start o.first h.front refl finish-front) ∙ (both all is v below).0 in
+          let octets : list_from xs ns o.start o.first ≡ v.last.octets ++ constructed r tag (list_from xs ms s f) = finish-list ∙ ap (λ z. z.octets ++ constructed r tag (list_from xs ms s f)) (both all is v below).1 in
+          let tags : tags_of o.tags ≡ v.last.tags = ap (λ z. z.tags) (both all is v below).1 in
           rw (lower, octets, g, tags, rule) refl
 
       pub finish-appends : (t2 : Option (List Tag)) → t2 ≡ noted (tags_of o.tags) (tag ∷ []) → tag.value < 0x1_0000_0000 → n < 0x1_0000_0000_0000_0000
@@ -204,13 +204,10 @@ module _ (r : Codec) (xs : List ℕ) (ms : List Mark) (os : List Open) (o : Open
       }
 
   module _ (all : List Open) (is : all ≡ os ++ o ∷ []) (v : View) (rule : r ≡ v.rule) (below : map (frame_in xs ms) all ≡ v.below ++ v.last ∷ []) where
-    both : (map (frame_in xs ms) os ≡ v.below) × (frame_in xs ms o ≡ v.last)
-    both = same_from_push _ _ _ _ (sym (map-append (frame_in xs ms) os (o ∷ [])) ∙ ap (map (frame_in xs ms)) (sym is) ∙ below)
-
     pub cut-view : shown r (take o.end xs) (take o.last ms) o.start o.first (tags_of o.tags) os ≡ v
     cut-view =
-        let lower : map (frame_in (take o.end xs) (take o.last ms)) os ≡ v.below = sym (frames-same xs (take o.end xs) ms (take o.last ms) 0 0 os o.start o.first h.front (sym (take-take o.start o.end xs start-end)) (sym (take-take o.first o.last ms first-last))) ∙ both.0 in
-        rw (lower, both.1, rule) refl
+        let lower : map (frame_in (take o.end xs) (take o.last ms)) os ≡ v.below = sym (frames-same xs (take o.end xs) ms (take o.last ms) 0 0 os o.start o.first h.front (sym (take-take o.start o.end xs start-end)) (sym (take-take o.first o.last ms first-last))) ∙ (both all is v below).0 in
+        rw (lower, (both all is v below).1, rule) refl
 
 -- octets behind all
 module _ (r : Codec) (xs c : List ℕ) (ms : List Mark) (s f n : ℕ) (os : List Open) (h : Sound xs ms s f n) (k : Chain xs ms 0 0 os s f) (ys : List ℕ) (y : ys ≡ xs ++ c) where

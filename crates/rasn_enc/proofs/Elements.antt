@@ -17,7 +17,7 @@ use Rattle.rasn_enc.specs.Writing.{Closure, Encloses, Refuses}
 use Rattle.rasn_enc.specs.Wrote.{Wrote, MayRefuse, Undefined}
 use Rattle.rasn_enc.specs.Elements.{WroteEach, RefusesElement, RefusesList}
 use Rattle.rasn_enc.proofs.Leaves.{cons_begins, wrote_one}
-use Rattle.rasn_enc.proofs.Segments.{joined_one}
+use Rattle.rasn_enc.proofs.Segments.{each_one, joined_behind, others_more}
 
 pub list_there : (ts : List Tree) → items ts ≢ absent
 list_there [] e = cc
@@ -49,10 +49,6 @@ elements_start s ts v e = record {
   no_tags = e;
 }
 
-pub each_one : (R : Tree → List ℕ → Type 0) (ts : List Tree) (bs : List (List ℕ)) (t : Tree) (b : List ℕ) → Each R ts bs → R t b → Each R (ts ++ t ∷ []) (bs ++ b ∷ [])
-each_one R [] bs t b e r = (b, [], ap (λ l. l ++ b ∷ []) e, r, refl)
-each_one R (u ∷ ts) bs t b (c, more, e, q, f) r = (c, more ++ b ∷ [], ap (λ l. l ++ b ∷ []) e, q, each_one R ts more t b f r)
-
 pub each_at : (R : Tree → List ℕ → Type 0) (front : List Tree) (t : Tree) (back : List Tree) (bs : List (List ℕ)) → Each R (front ++ t ∷ back) bs → (b : List ℕ) × R t b
 each_at R [] t back bs (b, more, e, r, f) = (b, r)
 each_at R (u ∷ front) t back bs (b, more, e, r, f) = each_at R front t back more f
@@ -64,9 +60,8 @@ module _ (s : Shape) (ts rest after : List Tree) (t : Tree) (v u : View) (k : El
     encoded = k.encoded ++ a.octets ∷ [];
     is = k.is ∙ (ap (λ l. k.front ++ l) is ∙ sym (append_assoc k.front (t ∷ []) after));
     each = each_one (Bytes v.rule s) k.front k.encoded t a.octets k.each (subst (λ r. Bytes r s t a.octets) k.others.rule a.defined);
-    octets = ap (λ (x : View). x.last.octets) a.appended ∙ (ap (λ l. l ++ a.octets) k.octets ∙ (append_assoc v.last.octets (joined_lists k.encoded) a.octets
-        ∙ ap (λ l. v.last.octets ++ l) (sym (joined_one k.encoded a.octets))));
-    others = record { rule = ap (λ (x : View). x.rule) a.appended ∙ k.others.rule; below = ap (λ (x : View). x.below) a.appended ∙ k.others.below };
+    octets = joined_behind v.last.octets u.last.octets w.last.octets a.octets k.encoded (ap (λ (x : View). x.last.octets) a.appended) k.octets;
+    others = others_more v u w a.octets a.tags a.appended k.others;
     no_tags = ap (λ (x : View). x.last.tags) a.appended ∙ ap (λ o. option_map (λ kept. kept ++ a.tags) o) k.no_tags;
   }
 

@@ -29,15 +29,15 @@ inner g f keeps x v a u w r e o ran i kept =
       some = rw i (omega (arith, l, length-append v.below (v.last ∷ [])));
     }
 
+pub dropped : (v u w : View) → IsBelow v u → (r : Result (Unit {0}) EncodeError) → OnErr r ((x : View) → IsBelow x u → w ≡ x) → OnErr r (w ≡ v)
+dropped v u w b (Ok x) h = tt
+dropped v u w b (Err e) h = h v b
+
 module _ {F : Type 0} (g : Closure F (Unit {0})) (f : F) (keeps : Bool) (v u w : View) (q : Result (Unit {0}) EncodeError) (i : Inner g f keeps v u q) where
   pub enclosed : (r : Result (Unit {0}) EncodeError) (tag : Tag) → OnOk r (q ≡ Ok tt)
       → OnOk r ((x : View) → IsBelow x u → Appends (Cons x.rule tag u.last.octets) tag x w) → OnOk r (Encloses g f keeps tag v w)
   enclosed (Ok tt) tag e h = record { inner = u; ran = subst (λ z. FnOnceReturnsAtMut g f (opened v keeps) z u) e i.ran; appends = h v i.below }
   enclosed (Err x) tag e h = tt
-
-  pub dropped : (r : Result (Unit {0}) EncodeError) → OnErr r ((x : View) → IsBelow x u → w ≡ x) → OnErr r (w ≡ v)
-  dropped (Ok x) h = tt
-  dropped (Err e) h = h v i.below
 
   pub enclosing_refused : (r : Result (Unit {0}) EncodeError) → IfErr r (λ e. WantsMemory u.rule e ⊎ (q ≡ Err e))
       → IfErr r (λ e. WantsMemory v.rule e ⊎ Refuses g f (opened v keeps) e)

@@ -1,11 +1,12 @@
 -- A leaf's contents in a header are its octets.
-use Rattle.std.proofs.Common.{◌≡◌, ◌≢◌, subst, ℕ, ◌≤ℤ◌, ◌⊎◌, inl, inr, Bool, true, false, cond, List, [], ◌∷◌, ◌++◌, length, refl, sym, ap, Result, OnOk, IfErr, pos, ℤ, arith}
+use Rattle.std.proofs.Common.{◌≡◌, ◌≢◌, subst, ℕ, ◌≤◌, ◌≤ℤ◌, ◌⊎◌, inl, inr, Bool, true, false, cond, List, [], ◌∷◌, ◌++◌, refl, sym, ap, Result, OnOk, IfErr, pos, ℤ, arith}
 use Rattle.std.proofs.lemmas.Result.{on_ok_weaker, IfErr-weaker}
 use Rattle.rasn_types.specs.Tags.{tag_bit}
 use Rattle.rasn_types.specs.Framing.{AnyIdSpells, Begins}
-use Rattle.rasn_types.specs.Shapes.{Shape, Tree, number, numbers, leaf, boolean, octet_string, integer, Interval, IsIn, Admits}
+use Rattle.rasn_types.specs.Shapes.{Shape, Kind, Tree, number, leaf, boolean, integer, Interval, IsIn, Admits}
 use Rattle.rasn_types.specs.Contents.{signed, IsShortestInteger}
 use Rattle.rasn_types.specs.Trees.{bool_tree, IsShortestOf}
+use Rattle.rasn_types.specs.Grammar.{IsBounded}
 use Rattle.rasn_types.specs.Bytes.{Definite, Prim, Cons, TagsOf, Written, Bytes, IsBare}
 use Rattle.rasn_types.specs.declared.types.rules.Codec.{Codec}
 use Rattle.rasn_types.specs.declared.types.rules.Codec.TheVariants.{Ber, Cer, Der}
@@ -82,11 +83,10 @@ integer_refused result range tag c n v h = IfErr-weaker result _ _ (λ e. elim [
 ]) h
 
 -- A size that isn't admitted has no octets.
-pub octets_refused : {R : Type 0} (result : Result R EncodeError) (tag : Tag) (c : Constraints) (xs : List ℕ) (v : View)
-    → IfErr result (λ e. RefusesSize c (length xs) v.rule e ⊎ MeetsSize c (length xs) v.rule e)
-    → IfErr result (MayRefuse (leaf octet_string tag c) (numbers xs) v)
+pub size_refused : {R : Type 0} (result : Result R EncodeError) (kind : Kind) (tag : Tag) (c : Constraints) (t : Tree) (size : ℕ) (v : View) → (IsBounded kind c t → Admits ◌≤◌ c.size size)
+    → IfErr result (λ e. RefusesSize c size v.rule e ⊎ MeetsSize c size v.rule e) → IfErr result (MayRefuse (leaf kind tag c) t v)
 unfolding Bytes
-octets_refused result tag c xs v h = IfErr-weaker result _ _ (λ e. elim [
-  | inl r ↦ record { why = inr (inl (record { none = λ octets b. r.unmet b.0 })) }
+size_refused result kind tag c t size v bounded h = IfErr-weaker result _ _ (λ e. elim [
+  | inl r ↦ record { why = inr (inl (record { none = λ octets b. r.unmet (bounded b.0) })) }
   | inr m ↦ record { why = inl (ap (λ (x : EncodeError). x.kind) m.memory) }
 ]) h

@@ -2,8 +2,8 @@ pub mod Spellings
 pub mod Places
 pub mod Octets
 pub mod Leaves
-pub mod Texts
 pub mod Segments
+pub mod Texts
 pub mod Renders
 pub mod HeaderOctets
 pub mod Few
@@ -31,5 +31,5 @@ pub mod Alternatives
 pub mod TimeOctets
 pub mod TimeLeaves
 pub mod Numbered
-pub mod BitSegments
+pub mod BitStrings
 pub mod OpenTypes

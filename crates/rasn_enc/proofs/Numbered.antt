@@ -5,7 +5,6 @@ use Rattle.std.proofs.lemmas.Result.{on_ok_weaker, IfErr-weaker}
 use Rattle.std.proofs.lemmas.List.{append_assoc, append-nil, append_cancel_left, take_rest}
 use Rattle.std.specs.Fn.{FnOnceReturnsAtMut}
 use Rattle.rasn_types.specs.Tags.{tag_bit}
-use Rattle.rasn_types.specs.Framing.{AreOctets}
 use Rattle.rasn_types.specs.Shapes.{number, numbers, leaf, null, object_identifier, integer, enumerated, Interval}
 use Rattle.rasn_types.specs.Contents.{signed, ShortArcs, IsObjectIdentifier}
 use Rattle.rasn_types.specs.Trees.{unconstrained}
@@ -23,6 +22,7 @@ use Rattle.rasn_enc.specs.Refusals.{RefusesValue}
 use Rattle.rasn_enc.specs.ObjectIdentifiers.{HasOctets, IsFirst, IsSubidentifier, AppendsOne, AppendsArcs, AppendsContents, RefusesArcs}
 use Rattle.rasn_enc.proofs.Leaves.{wrote_one, definite_begins}
 use Rattle.rasn_enc.proofs.Spellings.{groups_spell}
+use Rattle.rasn_enc.proofs.Octets.{joined_octets}
 
 -- A number that a type names is written as a named one.
 pub named_wrote : {R E : Type 0} (result : Result R E) (range : Interval) (known : List ℤ) (tag : Tag) (n z : ℤ) (v w : View) → n ≡ z → Contains known n
@@ -147,10 +147,6 @@ short_more : (ns front piece : List ℕ) (n : ℕ) → ShortArcs front ns → Is
 short_more [] front piece n a s = rw a (piece, [], s.spells, s.shortest, sym (append-nil piece), refl)
 short_more (m ∷ ns) front piece n (p, q, t, u, e, a) s = (p, q ++ piece, t, u, ap (λ l. l ++ piece) e ∙ append_assoc p q piece, short_more ns q piece n a s)
 
-octets_more : (a b : List ℕ) → AreOctets a → AreOctets b → AreOctets (a ++ b)
-octets_more [] b h k = k
-octets_more (x ∷ a) b h k = (h.0, octets_more a b h.1 k)
-
 pub arcs_first : (n : ℕ) (others old new : List ℕ) → AppendsOne n old new → ArcsSoFar (n ∷ others) others old new
 arcs_first n others old new a = record {
   before = n ∷ [];
@@ -164,7 +160,7 @@ arcs_next all rest after old mid new n k e a = record {
   appends = record {
     octets = k.appends.octets ++ a.octets;
     are = short_more k.before k.appends.octets a.octets n k.appends.are a.is;
-    octets_are = octets_more k.appends.octets a.octets k.appends.octets_are a.is.octets;
+    octets_are = joined_octets k.appends.octets a.octets k.appends.octets_are a.is.octets;
     appended = a.appended ∙ (ap (λ l. l ++ a.octets) k.appends.appended ∙ append_assoc old k.appends.octets a.octets);
   };
   is = k.is ∙ (ap (λ l. k.before ++ l) e ∙ sym (append_assoc k.before (n ∷ []) after));

@@ -90,10 +90,6 @@ module _ (v u w : View) (xs : List ℕ) (q : Result (Unit {0}) EncodeError) (i :
       subst (λ l. Appends (Cons v.rule tag l) tag v w) c (h v i.below)
   closed_round (Err x) tag e h = tt
 
-  pub dropped_round : (r : Result (Unit {0}) EncodeError) → OnErr r ((x : View) → IsBelow x u → w ≡ x) → OnErr r (w ≡ v)
-  dropped_round (Ok x) h = tt
-  dropped_round (Err e) h = h v i.below
-
   pub round_refused : (r : Result (Unit {0}) EncodeError) → IfErr r (λ e. WantsMemory u.rule e ⊎ (q ≡ Err e)) → IfErr r (WantsMemory v.rule)
   round_refused r h = IfErr-weaker r _ _ (λ e. elim [
     | inl m ↦ subst (λ (c : Codec). WantsMemory c e) i.below.0 m

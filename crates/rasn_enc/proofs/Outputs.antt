@@ -1,5 +1,5 @@
 -- The output of an encoder that kept no tags.
-use Rattle.std.proofs.Common.{◌≡◌, ◌⊎◌, [], ℕ, List, sym, ap, ◌∙◌, subst, false, inl, inr, Vec, Result, Ok, IfOk, IfErr}
+use Rattle.std.proofs.Common.{◌≡◌, ◌⊎◌, ℕ, List, sym, ap, ◌∙◌, subst, false, inl, inr, Vec, Result, Ok, IfOk, IfErr}
 use Rattle.std.proofs.lemmas.Result.{IfOk-weaker, IfErr-weaker}
 use Rattle.std.specs.Fn.{FnOnceReturnsAtMut}
 use Rattle.rasn_types.specs.Shapes.{Shape, Tree}

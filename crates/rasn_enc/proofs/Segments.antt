@@ -1,104 +1,104 @@
--- Octets cut in segments of 1000.
-use Rattle.std.proofs.Common.{◌≡◌, ℕ, ◌<◌, ◌≤◌, List, [], ◌∷◌, ◌++◌, length, take, drop, refl, sym, ap, ap₂, ◌∙◌, subst, false}
+-- Strings of octets or bits in one piece, and cut in segments.
+use Rattle.std.proofs.Common.{◌≡◌, ℕ, ◌<◌, ◌≤◌, List, [], ◌∷◌, ◌++◌, length, take, drop, inl, inr, refl, sym, ap, ap₂, ◌∙◌}
 use Rattle.std.proofs.lemmas.List.{append_assoc, append-nil, take-append-drop}
-use Rattle.rasn_types.specs.Tags.{in_universal}
-use Rattle.rasn_types.specs.Framing.{AreOctets}
+use Rattle.rasn_types.specs.Tags.{tag_bit}
+use Rattle.rasn_types.specs.Framing.{Begins}
 use Rattle.rasn_types.specs.Contents.{joined_lists}
-use Rattle.rasn_types.specs.Bytes.{AreCut, Each, Prim, Cons}
+use Rattle.rasn_types.specs.Bytes.{Writing, AreCut, Each, Prim, IsCer, WritesStr}
 use Rattle.rasn_types.specs.declared.types.tag.Tag.{Tag}
-use Rattle.rasn_types.proofs.Digits.{front_octets}
-use Rattle.rasn_enc.specs.View.{View, LeavesOthers, opened}
+use Rattle.rasn_types.specs.declared.types.rules.Codec.{Codec}
+use Rattle.rasn_enc.specs.View.{View, LeavesOthers, appended}
 use Rattle.rasn_enc.specs.Primitives.{Appends}
-use Rattle.rasn_enc.specs.Segments.{Segment, WroteSegments, PutsSegments}
+use Rattle.rasn_enc.specs.Segments.{IsPiece, WroteSegments, PutsSegments}
+use Rattle.rasn_enc.proofs.Leaves.{definite_begins, cons_begins}
 
-abbrev pub AreFull : List (List ℕ) → Type 0
-AreFull [] = Unit {0}
-AreFull (p ∷ ps) = (length p ≡ 1000) × AreFull ps
-
--- Whole segments stand behind the last list, and the rest of the octets is left.
-pub record SegmentsSoFar (xs rest : List ℕ) (v w : View) : Type 0 where
-  pub pieces : List (List ℕ)
-  pub encoded : List (List ℕ)
-  pub is : xs ≡ joined_lists pieces ++ rest
-  pub full : AreFull pieces
-  pub each : Each Segment pieces encoded
-  pub octets : w.last.octets ≡ v.last.octets ++ joined_lists encoded
-  pub others : LeavesOthers v w
-
-pub joined_one : {X : Type 0} (xs : List (List X)) (x : List X) → joined_lists (xs ++ x ∷ []) ≡ joined_lists xs ++ x
+joined_one : {X : Type 0} (xs : List (List X)) (x : List X) → joined_lists (xs ++ x ∷ []) ≡ joined_lists xs ++ x
 joined_one [] x = append-nil x
 joined_one (y ∷ xs) x = ap (λ l. y ++ l) (joined_one xs x) ∙ sym (append_assoc y (joined_lists xs) x)
 
-each_one : (ps bs : List (List ℕ)) (p b : List ℕ) → Each Segment ps bs → Segment p b → Each Segment (ps ++ p ∷ []) (bs ++ b ∷ [])
-each_one [] bs p b e s = (b, [], ap (λ l. l ++ b ∷ []) e, s, refl)
-each_one (q ∷ ps) bs p b (c, more, e, r, f) s = (c, more ++ b ∷ [], ap (λ l. l ++ b ∷ []) e, r, each_one ps more p b f s)
+-- One more piece behind octets that stand behind others.
+pub joined_behind : (a b c piece : List ℕ) (bs : List (List ℕ)) → c ≡ b ++ piece → b ≡ a ++ joined_lists bs → c ≡ a ++ joined_lists (bs ++ piece ∷ [])
+joined_behind a b c piece bs e k = e ∙ (ap (λ l. l ++ piece) k ∙ (append_assoc a (joined_lists bs) piece ∙ ap (λ l. a ++ l) (sym (joined_one bs piece))))
 
-full_one : (ps : List (List ℕ)) (p : List ℕ) → AreFull ps → length p ≡ 1000 → AreFull (ps ++ p ∷ [])
-full_one [] p h e = (e, tt)
-full_one (q ∷ ps) p h e = (h.0, full_one ps p h.1 e)
+-- A value behind a view that leaves the others alone.
+pub others_more : (v w u : View) (octets : List ℕ) (tags : List Tag) → u ≡ appended w octets tags → LeavesOthers v w → LeavesOthers v u
+others_more v w u octets tags e k = record { rule = ap (λ (x : View). x.rule) e ∙ k.rule; below = ap (λ (x : View). x.below) e ∙ k.below }
 
-cut_one : (ps : List (List ℕ)) (p : List ℕ) → AreFull ps → 0 < length p → length p ≤ 1000 → AreCut 1000 (ps ++ p ∷ [])
-cut_one [] p h some few = (some, few)
-cut_one (q ∷ []) p h some few = (h.0, (some, few))
-cut_one (q ∷ r ∷ ps) p h some few = (h.0, cut_one (r ∷ ps) p h.1 some few)
+pub each_one : {X Y : Type 0} (R : X → Y → Type 0) (ps : List X) (bs : List Y) (p : X) (b : Y) → Each R ps bs → R p b → Each R (ps ++ p ∷ []) (bs ++ b ∷ [])
+each_one R [] bs p b e s = (b, [], ap (λ l. l ++ b ∷ []) e, s, refl)
+each_one R (q ∷ ps) bs p b (c, more, e, r, f) s = (c, more ++ b ∷ [], ap (λ l. l ++ b ∷ []) e, r, each_one R ps more p b f s)
 
-pub segments_start : (xs : List ℕ) (v : View) → SegmentsSoFar xs xs v v
-segments_start xs v = record {
-  pieces = [];
-  encoded = [];
-  is = refl;
-  full = tt;
-  each = refl;
-  octets = sym (append-nil v.last.octets);
-  others = record { rule = refl; below = refl };
-}
-
-pub rest_octets : (xs rest : List ℕ) (v w : View) → SegmentsSoFar xs rest v w → AreOctets xs → AreOctets rest
-rest_octets xs rest v w k o = (front_octets (joined_lists k.pieces) rest (subst AreOctets k.is o)).1
-
-pub cut_at : (n : ℕ) (rest piece tail : List ℕ) → piece ≡ take n rest → tail ≡ drop n rest → rest ≡ piece ++ tail
+pub cut_at : {X : Type 0} (n : ℕ) (rest piece tail : List X) → piece ≡ take n rest → tail ≡ drop n rest → rest ≡ piece ++ tail
 cut_at n rest piece tail e f = sym (take-append-drop n rest) ∙ ap₂ (λ a b. a ++ b) (sym e) (sym f)
 
-module _ (xs rest : List ℕ) (v w u : View) (k : SegmentsSoFar xs rest v w) (piece : List ℕ) (o : AreOctets piece) (a : Appends (Prim (in_universal 4) piece) (in_universal 4) w u) where
-  segment : Segment piece a.octets
-  segment = (piece, (refl, o), a.written)
+pub appends_piece : {X : Type 0} (writes : Writing (List X)) (tag : Tag) (xs : List X) (contents : List ℕ) (v w : View) → writes xs contents
+    → Appends (Prim tag contents) tag v w → Appends (IsPiece writes tag xs) tag v w
+appends_piece writes tag xs contents v w b a = record { octets = a.octets; written = (contents, b, a.written); appended = a.appended }
 
-  octets_more : u.last.octets ≡ v.last.octets ++ joined_lists (k.encoded ++ a.octets ∷ [])
-  octets_more = ap (λ (x : View). x.last.octets) a.appended ∙ (ap (λ l. l ++ a.octets) k.octets ∙ (append_assoc v.last.octets (joined_lists k.encoded) a.octets
-      ∙ ap (λ l. v.last.octets ++ l) (sym (joined_one k.encoded a.octets))))
+module _ {X : Type 0} (writes : Writing (List X)) (size : ℕ) (inner : Tag) where
+  abbrev pub AreFull : List (List X) → Type 0
+  AreFull [] = Unit {0}
+  AreFull (p ∷ ps) = (length p ≡ size) × AreFull ps
 
-  pub segments_keep : LeavesOthers v u
-  segments_keep = record { rule = ap (λ (x : View). x.rule) a.appended ∙ k.others.rule; below = ap (λ (x : View). x.below) a.appended ∙ k.others.below }
+  -- Whole segments stand behind the last list, and the rest of the string is left.
+  pub record SegmentsSoFar (xs rest : List X) (v w : View) : Type 0 where
+    pub pieces : List (List X)
+    pub encoded : List (List ℕ)
+    pub is : xs ≡ joined_lists pieces ++ rest
+    pub full : AreFull pieces
+    pub each : Each (IsPiece writes inner) pieces encoded
+    pub octets : w.last.octets ≡ v.last.octets ++ joined_lists encoded
+    pub others : LeavesOthers v w
 
-  pub segments_more : (tail : List ℕ) → rest ≡ piece ++ tail → length piece ≡ 1000 → SegmentsSoFar xs tail v u
-  segments_more tail e n = record {
-    pieces = k.pieces ++ piece ∷ [];
-    encoded = k.encoded ++ a.octets ∷ [];
-    is = k.is ∙ (ap (λ l. joined_lists k.pieces ++ l) e ∙ (sym (append_assoc (joined_lists k.pieces) piece tail) ∙ ap (λ l. l ++ tail) (sym (joined_one k.pieces piece))));
-    full = full_one k.pieces piece k.full n;
-    each = each_one k.pieces k.encoded piece a.octets k.each segment;
-    octets = octets_more;
-    others = segments_keep;
+  full_one : (ps : List (List X)) (p : List X) → AreFull ps → length p ≡ size → AreFull (ps ++ p ∷ [])
+  full_one [] p h e = (e, tt)
+  full_one (q ∷ ps) p h e = (h.0, full_one ps p h.1 e)
+
+  cut_one : (ps : List (List X)) (p : List X) → AreFull ps → 0 < length p → length p ≤ size → AreCut size (ps ++ p ∷ [])
+  cut_one [] p h some few = (some, few)
+  cut_one (q ∷ []) p h some few = (h.0, (some, few))
+  cut_one (q ∷ r ∷ ps) p h some few = (h.0, cut_one (r ∷ ps) p h.1 some few)
+
+  module _ (xs rest : List X) (v w u : View) (k : SegmentsSoFar xs rest v w) (piece : List X) (a : Appends (IsPiece writes inner piece) inner w u) where
+    octets_more : u.last.octets ≡ v.last.octets ++ joined_lists (k.encoded ++ a.octets ∷ [])
+    octets_more = joined_behind v.last.octets w.last.octets u.last.octets a.octets k.encoded (ap (λ (x : View). x.last.octets) a.appended) k.octets
+
+    pub segments_more : (tail : List X) → rest ≡ piece ++ tail → length piece ≡ size → SegmentsSoFar xs tail v u
+    segments_more tail e n = record {
+      pieces = k.pieces ++ piece ∷ [];
+      encoded = k.encoded ++ a.octets ∷ [];
+      is = k.is ∙ (ap (λ l. joined_lists k.pieces ++ l) e ∙ (sym (append_assoc (joined_lists k.pieces) piece tail) ∙ ap (λ l. l ++ tail) (sym (joined_one k.pieces piece))));
+      full = full_one k.pieces piece k.full n;
+      each = each_one (IsPiece writes inner) k.pieces k.encoded piece a.octets k.each a.written;
+      octets = octets_more;
+      others = others_more v w u a.octets (inner ∷ []) a.appended k.others;
+    }
+
+    pub segments_done : rest ≡ piece → 0 < length piece → length piece ≤ size → WroteSegments writes size inner xs v u
+    segments_done e some few = record {
+      encoded = k.encoded ++ a.octets ∷ [];
+      segments = record {
+        pieces = k.pieces ++ piece ∷ [];
+        is = k.is ∙ (ap (λ l. joined_lists k.pieces ++ l) e ∙ sym (joined_one k.pieces piece));
+        cut = cut_one k.pieces piece k.full some few;
+        each = each_one (IsPiece writes inner) k.pieces k.encoded piece a.octets k.each a.written;
+      };
+      octets = octets_more;
+    }
+
+  -- A whole string.
+  pub in_one : (tag : Tag) (xs : List X) (v w : View) → (IsCer v.rule → length xs ≤ size) → Appends (IsPiece writes tag xs) tag v w
+      → Appends (WritesStr v.rule writes size inner tag xs) tag v w
+  in_one tag xs v w few a = record { octets = a.octets; written = inl (few, a.written.0, a.written.1, a.written.2); appended = a.appended }
+
+  pub in_segments : (tag : Tag) (xs : List X) (v w : View) → IsCer v.rule → size < length xs → PutsSegments writes size inner tag xs v w
+      → Appends (WritesStr v.rule writes size inner tag xs) tag v w
+  in_segments tag xs v w cer many p = record {
+    octets = p.appends.octets;
+    written = inr (cer, many, p.segments.pieces, p.encoded, p.segments.is, p.segments.cut, p.segments.each, p.appends.written);
+    appended = p.appends.appended;
   }
 
-  pub segments_done : rest ≡ piece → 0 < length piece → length piece ≤ 1000 → WroteSegments xs v u
-  segments_done e some few = record {
-    pieces = k.pieces ++ piece ∷ [];
-    encoded = k.encoded ++ a.octets ∷ [];
-    is = k.is ∙ (ap (λ l. joined_lists k.pieces ++ l) e ∙ sym (joined_one k.pieces piece));
-    cut = cut_one k.pieces piece k.full some few;
-    each = each_one k.pieces k.encoded piece a.octets k.each segment;
-    octets = octets_more;
-  }
-
--- The segments in an open value that is closed.
-pub segments_put : (tag : Tag) (xs : List ℕ) (v u w : View) → WroteSegments xs (opened v false) u → Appends (Cons v.rule tag u.last.octets) tag v w
-    → PutsSegments tag xs v w
-segments_put tag xs v u w s a = record {
-  pieces = s.pieces;
-  encoded = s.encoded;
-  is = s.is;
-  cut = s.cut;
-  each = s.each;
-  appends = subst (λ (l : List ℕ). Appends (Cons v.rule tag l) tag v w) s.octets a;
-}
+  pub str_begins : (rule : Codec) (tag : Tag) (xs : List X) (octets : List ℕ) → WritesStr rule writes size inner tag xs octets → Begins octets tag
+  str_begins rule tag xs octets (inl (few, contents, w, d)) = definite_begins tag (tag_bit tag) contents octets d
+  str_begins rule tag xs octets (inr (cer, many, pieces, bs, is, cut, each, d)) = cons_begins rule tag (joined_lists bs) octets d

@@ -184,6 +184,12 @@ bit_below : (bit : Bool) → bit_of bit < 2
 bit_below true = omega arith
 bit_below false = omega arith
 
+one_group : (n : ℕ) → n < 128 → n / 1 % 128 ≡ 128 → ⊥
+one_group n h e = omega arith
+
+marked : (d : ℕ) → 128 + d ≡ 128 → d % 128 ≡ 0
+marked d e = omega arith
+
 long_identifier : (tag : Tag) (bit : Bool) (count : ℕ) → 31 ≤ tag.value → tag.value < 0x1_0000_0000 → Fewest 128 5 tag.value count
     → Identifier ((64 * rank tag.class + (32 * bit_of bit + 31)) ∷ chained (digits 128 count tag.value)) tag bit
 unfolding digits chained
@@ -208,15 +214,9 @@ long_identifier tag bit (suc count) h k f =
       octets = (leading_below _ _ 31 (rank_below tag.class) (bit_below bit) (omega arith), chained_octets (digits 128 (suc count) n) below);
     }
   where
-    by_one : (n : ℕ) → n < 128 → n / 1 % 128 ≡ 128 → ⊥
-    by_one n h e = omega arith
-
-    marked : (d : ℕ) → 128 + d ≡ 128 → d % 128 ≡ 0
-    marked d e = omega arith
-
     short : (count : ℕ) → Fewest 128 5 tag.value (suc count)
         → IsShortestId ((64 * rank tag.class + (32 * bit_of bit + 31)) ∷ chained (digits 128 (suc count) tag.value)) tag
-    short zero f = (h, by_one tag.value f.below)
+    short zero f = (h, one_group tag.value f.below)
     short (suc j) f = (h, λ e. first_digit 128 5 tag.value (suc j) _ _ (omega arith) f refl (omega arith) (marked _ e))
 
 pub identifier_spells : (tag : Tag) (bit : Bool) → tag.value < 0x1_0000_0000 → Identifier (id_octets tag bit) tag bit
@@ -271,14 +271,8 @@ groups_are n (suc count) h f =
       octets = chained_octets (digits 128 (suc count) n) below;
     }
   where
-    by_one : (n : ℕ) → n < 128 → n / 1 % 128 ≡ 128 → ⊥
-    by_one n h e = omega arith
-
-    marked : (d : ℕ) → 128 + d ≡ 128 → d % 128 ≡ 0
-    marked d e = omega arith
-
     short : (count : ℕ) → Fewest 128 5 n (suc count) → IsShortest128 (chained (digits 128 (suc count) n))
-    short zero f = by_one n f.below
+    short zero f = one_group n f.below
     short (suc j) f = λ e. first_digit 128 5 n (suc j) _ _ (omega arith) f refl (omega arith) (marked _ e)
 
 -- The groups of a number are a subidentifier's octets.

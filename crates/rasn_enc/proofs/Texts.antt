@@ -1,10 +1,9 @@
 -- The octets of a character string in a header are its octets.
-use Rattle.std.proofs.Common.{◌≡◌, ◌⊎◌, inl, inr, ℕ, ◌<◌, ◌≤◌, List, length, refl, sym, ap, ◌∙◌, subst, Result, OnOk, IfErr, None, chars, IsUtf8}
+use Rattle.std.proofs.Common.{◌≡◌, ◌⊎◌, inl, inr, ℕ, ◌≤◌, List, length, refl, sym, ap, ◌∙◌, subst, Result, OnOk, IfErr, None, chars, IsUtf8}
 use Rattle.std.proofs.lemmas.Result.{on_ok_weaker, IfErr-weaker}
-use Rattle.rasn_types.specs.Framing.{AreOctets, Begins}
-use Rattle.rasn_types.specs.Tags.{in_universal, tag_bit}
+use Rattle.rasn_types.specs.Framing.{AreOctets}
+use Rattle.rasn_types.specs.Tags.{in_universal}
 use Rattle.rasn_types.specs.Shapes.{Kind, Tree, numbers, leaf, Admits, octet_string, fixed, bmp, utf8}
-use Rattle.rasn_types.specs.Contents.{joined_lists}
 use Rattle.rasn_types.specs.Grammar.{family, text_family, IsBounded, Fulfils, measure, by_size}
 use Rattle.rasn_types.specs.Bytes.{IsBare, Prim, IsCer, Bytes, WritesIn, WritesText, WritesStr, WritesOctets}
 use Rattle.rasn_types.specs.Characters.{AreAdmitted, kind_of, ArePaired, units_of}
@@ -18,28 +17,14 @@ use Rattle.rasn_enc.specs.View.{View}
 use Rattle.rasn_enc.specs.Primitives.{Appends}
 use Rattle.rasn_enc.specs.Wrote.{Wrote, MayRefuse}
 use Rattle.rasn_enc.specs.Refusals.{RefusesSize, MeetsSize}
-use Rattle.rasn_enc.specs.Segments.{PutsSegments}
 use Rattle.rasn_enc.specs.Texts.{IsCounted, PutsText}
-use Rattle.rasn_enc.proofs.Leaves.{wrote_one, definite_begins, cons_begins}
+use Rattle.rasn_enc.proofs.Leaves.{wrote_one, size_refused}
+use Rattle.rasn_enc.proofs.Segments.{appends_piece, in_one, str_begins}
 
--- Octets in one piece, and in segments.
-pub text_in_one : {R E : Type 0} (result : Result R E) (tag : Tag) (c : Constraints) (xs : List ℕ) (size : ℕ) (v w : View) → Admits ◌≤◌ c.size size → AreOctets xs
-    → (IsCer v.rule → length xs ≤ 1000) → OnOk result (Appends (Prim tag xs) tag v w) → OnOk result (PutsText tag c xs size v w)
-text_in_one result tag c xs size v w m o few h = on_ok_weaker result (λ a. record {
-  admitted = m;
-  appends = record { octets = a.octets; written = inl (few, xs, (refl, o), a.written); appended = a.appended };
-}) h
-
-pub text_in_segments : {R E : Type 0} (result : Result R E) (tag : Tag) (c : Constraints) (xs : List ℕ) (size : ℕ) (v w : View) → Admits ◌≤◌ c.size size → IsCer v.rule → 1000 < length xs
-    → OnOk result (PutsSegments tag xs v w) → OnOk result (PutsText tag c xs size v w)
-text_in_segments result tag c xs size v w m cer many h = on_ok_weaker result (λ p. record {
-  admitted = m;
-  appends = record { octets = p.appends.octets; written = inr (cer, many, p.pieces, p.encoded, p.is, p.cut, p.each, p.appends.written); appended = p.appends.appended };
-}) h
-
-str_begins : (rule : Codec) (tag : Tag) (xs octets : List ℕ) → WritesStr rule WritesOctets 1000 (in_universal 4) tag xs octets → Begins octets tag
-str_begins rule tag xs octets (inl (few, contents, w, d)) = definite_begins tag (tag_bit tag) contents octets d
-str_begins rule tag xs octets (inr (cer, many, pieces, bs, is, cut, each, d)) = cons_begins rule tag (joined_lists bs) octets d
+-- Octets in one piece.
+pub octets_in_one : (tag : Tag) (xs : List ℕ) (v w : View) → AreOctets xs → (IsCer v.rule → length xs ≤ 1000) → Appends (Prim tag xs) tag v w
+    → Appends (WritesStr v.rule WritesOctets 1000 (in_universal 4) tag xs) tag v w
+octets_in_one tag xs v w o few a = in_one WritesOctets 1000 (in_universal 4) tag xs v w few (appends_piece WritesOctets tag xs xs v w (refl, o) a)
 
 -- A kind of string whose octets these are.
 pub text_wrote : {R E : Type 0} (result : Result R E) (kind : Kind) (tag : Tag) (c : Constraints) (xs : List ℕ) (t : Tree) (size : ℕ) (v w : View) → family kind ≡ text_family
@@ -47,7 +32,7 @@ pub text_wrote : {R E : Type 0} (result : Result R E) (kind : Kind) (tag : Tag) 
 unfolding Bytes IsBare
 text_wrote result kind tag c xs t size v w f bounded writes h = on_ok_weaker result (λ p.
     wrote_one (WritesStr v.rule WritesOctets 1000 (in_universal 4) tag xs) tag (leaf kind tag c) t v w p.appends (λ n. n)
-    (λ o d. str_begins v.rule tag xs o d)
+    (λ o d. str_begins WritesOctets 1000 (in_universal 4) v.rule tag xs o d)
     (λ b d. (bounded p.admitted, subst (λ z. WritesIn z v.rule kind tag t b) (sym f) (xs, writes, d)))) h
 
 -- The same with the octets and the size as they were computed.
@@ -120,8 +105,4 @@ counted_refused result c size n rule (inr k) h = refused_at result c size n rule
 pub text_refused : {R : Type 0} (result : Result R EncodeError) (kind : Kind) (tag : Tag) (c : Constraints) (ns : List ℕ) (v : View) → measure kind ≡ by_size
     → IfErr result (λ e. RefusesSize c (length ns) v.rule e ⊎ MeetsSize c (length ns) v.rule e)
     → IfErr result (MayRefuse (leaf kind tag c) (numbers ns) v)
-unfolding Bytes
-text_refused result kind tag c ns v k h = IfErr-weaker result _ _ (λ e. elim [
-  | inl r ↦ record { why = inr (inl (record { none = λ octets b. r.unmet (subst (λ z. Fulfils z c (numbers ns)) k b.0) })) }
-  | inr m ↦ record { why = inl (ap (λ (x : EncodeError). x.kind) m.memory) }
-]) h
+text_refused result kind tag c ns v k h = size_refused result kind tag c (numbers ns) (length ns) v (λ b. subst (λ z. Fulfils z c (numbers ns)) k b) h

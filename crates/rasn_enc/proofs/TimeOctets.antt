@@ -11,10 +11,7 @@ use Rattle.rasn_types.specs.Times.{digits_of, written_fraction, written_second, 
 use Rattle.rasn_types.specs.Framing.{AreOctets}
 use Rattle.rasn_types.proofs.Dated.{month_end}
 use Rattle.rasn_types.proofs.Fractions.{digits_small}
-
-joined_octets : (a b : List ℕ) → AreOctets a → AreOctets b → AreOctets (a ++ b)
-joined_octets [] b h k = k
-joined_octets (x ∷ a) b h k = (h.0, joined_octets a b h.1 k)
+use Rattle.rasn_enc.proofs.Octets.{joined_octets}
 
 two_octets : (n : ℕ) → n < 100 → AreOctets (two n)
 two_octets n h = (omega arith, (omega arith, tt))

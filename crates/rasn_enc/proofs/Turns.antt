@@ -38,6 +38,14 @@ turned xs ys zs o run d n to h k l e y z =
     let f : take (d - n) ys ≡ take (d - n) xs = rw (y, take-append-le (d - n) (take d xs) (run ++ drop to xs) inside) (take-take (d - n) d xs (omega arith)) in
     z ∙ rw (back, b, f) refl
 
+-- the mark read at k, with the marks before it and those behind it
+module _ (ms : List Mark) (k : ℕ) (m d : Mark) (inside : k < length ms) (read : m ≡ get_or ms k d) where
+  pub taken : take (suc k) ms ≡ take k ms ++ m ∷ []
+  taken = take-suc ms k d inside ∙ ap (λ x. take k ms ++ x ∷ []) (sym read)
+
+  pub left : drop k ms ≡ m ∷ drop (suc k) ms
+  left = drop-cons ms k d inside ∙ ap (λ x. x ∷ drop (suc k) ms) (sym read)
+
 -- what holds between turns: k marks are left, which stand from 0 to `from` in the gathered octets g; the rest is rendered
 pub record Rest (g : List ℕ) (ms : List Mark) (buffer : List ℕ) (k from to copies : ℕ) : Type 0 where
   pub below : k ≤ length ms
@@ -55,18 +63,12 @@ inks-split : (ms : List Mark) (k : ℕ) → inks (take k ms) + inks (drop k ms) 
 inks-split ms k = sym (inks-append (take k ms) (drop k ms)) ∙ ap inks (take-append-drop k ms)
 
 module _ (g : List ℕ) (ms : List Mark) (buffer : List ℕ) (k from to copies : ℕ) (m d : Mark) (inside : k < length ms) (read : m ≡ get_or ms k d) (h : Rest g ms buffer (suc k) from to copies) where
-  taken : take (suc k) ms ≡ take k ms ++ m ∷ []
-  taken = take-suc ms k d inside ∙ ap (λ x. take k ms ++ x ∷ []) (sym read)
-
-  left : drop k ms ≡ m ∷ drop (suc k) ms
-  left = drop-cons ms k d inside ∙ ap (λ x. x ∷ drop (suc k) ms) (sym read)
-
   pub turn-order : m.at ≤ from
-  turn-order = rising-back 0 (take k ms) m [] from (rw taken at h.rising)
+  turn-order = rising-back 0 (take k ms) m [] from (rw (taken ms k m d inside read) at h.rising)
 
   room-is : to ≡ from + (inks (take k ms) + length (ink m))
   room-is =
-      let r : to ≡ from + inks (take k ms ++ m ∷ []) = rw taken at h.room in
+      let r : to ≡ from + inks (take k ms ++ m ∷ []) = rw (taken ms k m d inside read) at h.room in
       omega (arith, r, inks-append (take k ms) (m ∷ []))
 
   pub turn-room : from + length (ink m) ≤ to
@@ -88,15 +90,15 @@ module _ (g : List ℕ) (ms : List Mark) (buffer : List ℕ) (k from to copies :
       let none : drop m.at (take m.at g) ≡ [] = drop_all m.at (take m.at g) (omega (arith, length-take-le m.at g (omega (arith, go, o)))) in
       record {
         below = omega arith;
-        rising = rising-front 0 (take k ms) m [] from (rw taken at h.rising);
-        others = rw left (omega arith, rising-lower m.at from (drop (suc k) ms) (length g) o h.others);
+        rising = rising-front 0 (take k ms) m [] from (rw (taken ms k m d inside read) at h.rising);
+        others = rw (left ms k m d inside read) (omega arith, rising-lower m.at from (drop (suc k) ms) (length g) o h.others);
         len = omega (arith, b, ln);
         room = omega (arith, r, w, o);
         within = omega (arith, b, wi);
         front = rw (e, take-append-le m.at (take (to - written) buffer) (ink m ++ (drop m.at (take from buffer) ++ drop to buffer)) (omega (arith, t, there)), take-take m.at (to - written) buffer there) f2;
-        behind = rw (e, left, drop_at (take (to - written) buffer) (ink m ++ (drop m.at (take from buffer) ++ drop to buffer)) (to - written) t, none, h.front, h.behind) (ap (λ z. ink m ++ z) (sym (rendered-front g m.at from (drop (suc k) ms) o h.others)));
+        behind = rw (e, left ms k m d inside read, drop_at (take (to - written) buffer) (ink m ++ (drop m.at (take from buffer) ++ drop to buffer)) (to - written) t, none, h.front, h.behind) (ap (λ z. ink m ++ z) (sym (rendered-front g m.at from (drop (suc k) ms) o h.others)));
         counted = omega (arith, b, ct, r, w, o);
-        first = rw left refl;
+        first = rw (left ms k m d inside read) refl;
       }
 
 pub rest-end : (g : List ℕ) (ms : List Mark) (buffer : List ℕ) (k from to copies : ℕ) → k ≡ 0 → Rest g ms buffer k from to copies → buffer ≡ rendered g 0 ms

@@ -10,7 +10,7 @@ use Rattle.rasn_enc.specs.declared.ber.enc.marks.Mark.{Mark}
 use Rattle.rasn_enc.specs.declared.ber.enc.marks.Head.{Head}
 use Rattle.rasn_enc.specs.declared.ber.enc.cursors.Cursor.{Cursor}
 use Rattle.rasn_enc.proofs.Renders.{rising-below, rising-front, rising-back, rendered-front, rendered-append}
-use Rattle.rasn_enc.proofs.Turns.{rising-lower}
+use Rattle.rasn_enc.proofs.Turns.{rising-lower, taken, left}
 
 rendered-join : (g : List ℕ) (a : ℕ) (ms : List Mark) (b : ℕ) (ns : List Mark) → Rising a ms b → Rising b ns (length g) → rendered g a (ms ++ ns) ≡ rendered (take b g) a ms ++ rendered g b ns
 rendered-join g a [] b ns h k = rendered-front g a b ns h k
@@ -48,17 +48,11 @@ place-run g ms start want k at back n h b r t =
     suffix-is _ _ _ n j (omega (arith, l, c, b, t))
 
 module _ (g : List ℕ) (ms : List Mark) (start want k at back n : ℕ) (m d : Mark) (inside : k < length ms) (read : m ≡ get_or ms k d) (h : Walk g ms start want (suc k) at back) (t : want + n ≡ length (rendered g start ms)) where
-  taken : take (suc k) ms ≡ take k ms ++ m ∷ []
-  taken = take-suc ms k d inside ∙ ap (λ x. take k ms ++ x ∷ []) (sym read)
-
-  left : drop k ms ≡ m ∷ drop (suc k) ms
-  left = drop-cons ms k d inside ∙ ap (λ x. x ∷ drop (suc k) ms) (sym read)
-
   lower-front : Rising start (take k ms) m.at
-  lower-front = rising-front start (take k ms) m [] at (rw taken at h.lower)
+  lower-front = rising-front start (take k ms) m [] at (rw (taken ms k m d inside read) at h.lower)
 
   pub walk-order : m.at ≤ at
-  walk-order = rising-back start (take k ms) m [] at (rw taken at h.lower)
+  walk-order = rising-back start (take k ms) m [] at (rw (taken ms k m d inside read) at h.lower)
 
   pub upper-here : Rising m.at (drop (suc k) ms) (length g)
   upper-here = rising-lower m.at at (drop (suc k) ms) (length g) walk-order h.upper
@@ -69,7 +63,7 @@ module _ (g : List ℕ) (ms : List Mark) (start want k at back n : ℕ) (m d : M
   pub stop-run : back ≤ at - m.at → Rising start (take (suc k) ms) (at - back)
   stop-run b =
       let o = walk-order in
-      rw taken (rising-stop start (take k ms) m (at - back) lower-front (omega (arith, b, o)))
+      rw (taken ms k m d inside read) (rising-stop start (take k ms) m (at - back) lower-front (omega (arith, b, o)))
     where
       rising-stop : (a : ℕ) (ns : List Mark) (m : Mark) (e : ℕ) → Rising a ns m.at → m.at ≤ e → Rising a (ns ++ m ∷ []) e
       rising-stop a [] m e h k = (h, k)
@@ -81,7 +75,7 @@ module _ (g : List ℕ) (ms : List Mark) (start want k at back n : ℕ) (m d : M
       let o = walk-order in
       let l = run-length g (drop (suc k) ms) m.at at o h.upper in
       let c = h.counted in
-      let p : rendered g start ms ≡ rendered (take m.at g) start (take k ms) ++ (ink m ++ rendered g m.at (drop (suc k) ms)) = ap (rendered g start) (sym (take-append-drop k ms) ∙ ap (λ x. take k ms ++ x) left) ∙ rendered-append g start (take k ms) m (drop (suc k) ms) lower-front in
+      let p : rendered g start ms ≡ rendered (take m.at g) start (take k ms) ++ (ink m ++ rendered g m.at (drop (suc k) ms)) = ap (rendered g start) (sym (take-append-drop k ms) ∙ ap (λ x. take k ms ++ x) (left ms k m d inside read)) ∙ rendered-append g start (take k ms) m (drop (suc k) ms) lower-front in
       let q : rendered g start ms ≡ (rendered (take m.at g) start (take k ms) ++ take i (ink m)) ++ (drop i (ink m) ++ rendered g m.at (drop (suc k) ms)) = p ∙ ap (λ x. rendered (take m.at g) start (take k ms) ++ (x ++ rendered g m.at (drop (suc k) ms))) (sym (take-append-drop i (ink m))) ∙ rw (append_assoc, append_assoc) refl in
       suffix-is _ _ _ n q (omega (arith, e, b, o, l, c, t, length-append (drop i (ink m)) (rendered g m.at (drop (suc k) ms)), length-drop i (ink m)))
 
@@ -94,8 +88,8 @@ module _ (g : List ℕ) (ms : List Mark) (start want k at back n : ℕ) (m d : M
       record {
         below = omega arith;
         lower = lower-front;
-        upper = rw left (omega arith, upper-here);
-        counted = rw (left, none) (omega (arith, e, o, l, c, length-append (ink m) (rendered g m.at (drop (suc k) ms))));
+        upper = rw (left ms k m d inside read) (omega arith, upper-here);
+        counted = rw (left ms k m d inside read, none) (omega (arith, e, o, l, c, length-append (ink m) (rendered g m.at (drop (suc k) ms))));
       }
 
 pub walk-end : (g : List ℕ) (ms : List Mark) (start want k at back : ℕ) → Walk g ms start want k at back → k ≡ 0 → want ≤ length (rendered g start ms) → back + start ≤ at

@@ -21,5 +21,4 @@ pub mod Defaults
 pub mod Additions
 pub mod Alternatives
 pub mod ObjectIdentifiers
-pub mod BitSegments
 pub mod OpenTypes

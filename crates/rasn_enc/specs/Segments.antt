@@ -1,29 +1,31 @@
--- Strings in segments, as the canonical rules write them (X.690 9.2).
+-- Strings of octets or bits in one piece, and in segments as the canonical rules write them (X.690 8.6, 8.7, 9.2).
 use Rattle.std.specs.Prelude.{ℕ, ◌≡◌, List, ◌++◌}
-use Rattle.rasn_types.specs.Tags.{in_universal}
 use Rattle.rasn_types.specs.Contents.{joined_lists}
-use Rattle.rasn_types.specs.Bytes.{AreCut, Each, Prim, WritesOctets, Cons}
+use Rattle.rasn_types.specs.Bytes.{Writing, AreCut, Each, Prim, Cons}
 use Rattle.rasn_types.specs.declared.types.tag.Tag.{Tag}
 use Rattle.rasn_enc.specs.Primitives.{Appends}
 use Rattle.rasn_enc.specs.View.{View}
 
-abbrev pub Segment : List ℕ → List ℕ → Type 0
-Segment piece octets = (contents : List ℕ) × WritesOctets piece contents × Prim (in_universal 4) contents octets
+-- The octets are those of a string in one piece.
+abbrev pub IsPiece : {X : Type 0} → Writing (List X) → Tag → List X → List ℕ → Type 0
+IsPiece writes tag piece octets = (contents : List ℕ) × writes piece contents × Prim tag contents octets
 
--- The segments of these octets stand behind the last list.
-pub record WroteSegments (xs : List ℕ) (v w : View) : Type 0 where
-  pub pieces : List (List ℕ)
-  pub encoded : List (List ℕ)
-  pub is : xs ≡ joined_lists pieces
-  pub cut : AreCut 1000 pieces
-  pub each : Each Segment pieces encoded
-  pub octets : w.last.octets ≡ v.last.octets ++ joined_lists encoded
+module _ {X : Type 0} (writes : Writing (List X)) (size : ℕ) (inner : Tag) where
+  -- The segments of this string: so many units each, but the last one, which may have fewer.
+  pub record AreSegments (xs : List X) (encoded : List (List ℕ)) : Type 0 where
+    pub pieces : List (List X)
+    pub is : xs ≡ joined_lists pieces
+    pub cut : AreCut size pieces
+    pub each : Each (IsPiece writes inner) pieces encoded
 
--- A constructed value whose contents are the segments of these octets stands behind the last list.
-pub record PutsSegments (tag : Tag) (xs : List ℕ) (v w : View) : Type 0 where
-  pub pieces : List (List ℕ)
-  pub encoded : List (List ℕ)
-  pub is : xs ≡ joined_lists pieces
-  pub cut : AreCut 1000 pieces
-  pub each : Each Segment pieces encoded
-  pub appends : Appends (Cons v.rule tag (joined_lists encoded)) tag v w
+  -- They stand behind the last list.
+  pub record WroteSegments (xs : List X) (v w : View) : Type 0 where
+    pub encoded : List (List ℕ)
+    pub segments : AreSegments xs encoded
+    pub octets : w.last.octets ≡ v.last.octets ++ joined_lists encoded
+
+  -- A constructed value whose contents they are stands behind the last list.
+  pub record PutsSegments (tag : Tag) (xs : List X) (v w : View) : Type 0 where
+    pub encoded : List (List ℕ)
+    pub segments : AreSegments xs encoded
+    pub appends : Appends (Cons v.rule tag (joined_lists encoded)) tag v w

@@ -10,10 +10,11 @@ mod optional;
 mod prefix;
 mod strings;
 mod times;
+mod values;
 
 use crate::ber::enc::Encoder;
 use rasn_types::error::EncodeError;
-use rasn_types::types::{Any, AsnType, BitString, Constraints, Identifier, OctetString, Tag};
+use rasn_types::types::{AsnType, Constraints, Identifier, Tag};
 
 /// A value that can be written. The forms without a tag or constraints hand in the type's own. The name of a field is ignored.
 pub trait Encode: AsnType {
@@ -77,68 +78,4 @@ pub trait Encode: AsnType {
     /// Whether there is a value: not where an optional one is absent.
     fn is_present(&self) -> bool
         ensures { MatchBool result (Self.tree self.now ≢ absent) (Self.tree self.now ≡ absent) };
-}
-
-impl Encode for bool {
-    fn encode_with_tag_and_constraints(
-        &self,
-        encoder: &mut Encoder,
-        tag: Tag,
-        _constraints: &Constraints,
-        identifier: Identifier,
-    ) -> Result<(), EncodeError> {
-        encoder.encode_bool(tag, *self, identifier)
-    }
-
-    fn is_present(&self) -> bool {
-        true
-    }
-}
-
-impl Encode for OctetString {
-    fn encode_with_tag_and_constraints(
-        &self,
-        encoder: &mut Encoder,
-        tag: Tag,
-        constraints: &Constraints,
-        identifier: Identifier,
-    ) -> Result<(), EncodeError> {
-        encoder.encode_octet_string(tag, constraints, self.as_octets(), identifier)
-    }
-
-    fn is_present(&self) -> bool {
-        true
-    }
-}
-
-impl Encode for BitString {
-    fn encode_with_tag_and_constraints(
-        &self,
-        encoder: &mut Encoder,
-        tag: Tag,
-        constraints: &Constraints,
-        identifier: Identifier,
-    ) -> Result<(), EncodeError> {
-        encoder.encode_bit_string(tag, constraints, &self.as_bitstr(), identifier)
-    }
-
-    fn is_present(&self) -> bool {
-        true
-    }
-}
-
-impl Encode for Any {
-    fn encode_with_tag_and_constraints(
-        &self,
-        encoder: &mut Encoder,
-        tag: Tag,
-        _constraints: &Constraints,
-        identifier: Identifier,
-    ) -> Result<(), EncodeError> {
-        encoder.encode_any(tag, self, identifier)
-    }
-
-    fn is_present(&self) -> bool {
-        true
-    }
 }

@@ -1,17 +1,18 @@
 //! Writing BIT STRING (X.690 8.6).
-ghost use Rattle.std.specs.Prelude.{◌≡◌, ◌<◌, ◌≤◌, ◌⊎◌, length, MatchBool, IfOk, IfErr, OnOk, OnErr};
-ghost use Rattle.rasn_types.specs.Bytes.{IsCer, WrittenBits};
+ghost use Rattle.std.specs.Prelude.{◌≡◌, ◌<◌, ◌⊎◌, length, IfErr, OnOk, OnErr};
+ghost use Rattle.rasn_types.specs.Bytes.{WrittenBits};
+ghost use Rattle.rasn_types.specs.Tags.{in_universal};
 ghost use Rattle.rasn_types.specs.Shapes.{leaf, bit_string, bits};
 ghost use Rattle.rasn_enc.specs.View.{LeavesOthers};
 ghost use Rattle.rasn_enc.specs.Primitives.{Appends, WantsMemory};
 ghost use Rattle.rasn_enc.specs.Wrote.{Wrote};
 ghost use Rattle.rasn_enc.specs.Refusals.{RefusesSize, MeetsSize};
-ghost use Rattle.rasn_enc.specs.BitSegments.{AreBits, WroteBitSegments, PutsBitSegments};
+ghost use Rattle.rasn_enc.specs.Segments.{IsPiece, WroteSegments, PutsSegments};
 
 use super::Encoder;
 use super::filled::Contents;
 use rasn_types::error::EncodeError;
-use rasn_types::types::{BitStr, Codec, Constraints, Identifier, Tag};
+use rasn_types::types::{BitStr, Constraints, Identifier, Tag};
 use std::alloc::AllocError;
 
 // The bits of a segment under the canonical rules: 999 octets, which are 1000 with the count of unused bits (X.690 9.2).
@@ -47,22 +48,15 @@ impl Encoder {
         if !constraints.admits_size(value.len()) {
             return Err(self.refused_size(constraints, value.len()));
         }
-        if self.cuts_bits(value.len()) {
+        if self.is_cut(value.len(), SEGMENT_BITS) {
             return self.put_bit_segments(tag, value);
         }
         self.put_bits(tag, value)
     }
 
-    // The canonical rules write many bits in segments (X.690 9.2).
-    fn cuts_bits(&self, count: usize) -> bool
-        ensures { MatchBool result (IsCer self.now.rule × (SEGMENT_BITS < count)) (IsCer self.now.rule → count ≤ SEGMENT_BITS) }
-    {
-        matches!(self.codec(), Codec::Cer) && count > SEGMENT_BITS
-    }
-
     // Puts bits behind the last list, in one piece.
     fn put_bits(&mut self, tag: Tag, value: &BitStr<'_>) -> Result<(), EncodeError>
-        ensures ok { OnOk result (Appends (AreBits tag value.now) tag self.old self.new) }
+        ensures ok { OnOk result (Appends (IsPiece WrittenBits tag value.now) tag self.old self.new) }
         ensures err { OnErr result (self.new ≡ self.old) }
         ensures memory { IfErr result (WantsMemory self.old.rule) }
     {
@@ -72,7 +66,7 @@ impl Encoder {
     // Writes bits in segments, as one constructed value.
     fn put_bit_segments(&mut self, tag: Tag, value: &BitStr<'_>) -> Result<(), EncodeError>
         requires { SEGMENT_BITS < length value.now }
-        ensures ok { OnOk result (PutsBitSegments tag value.now self.old self.new) }
+        ensures ok { OnOk result (PutsSegments WrittenBits SEGMENT_BITS (in_universal 3) tag value.now self.old self.new) }
         ensures err { OnErr result (self.new ≡ self.old) }
         ensures memory { IfErr result (WantsMemory self.old.rule) }
     {
@@ -84,17 +78,15 @@ impl Encoder {
     fn write_bit_segments(&mut self, value: &BitStr<'_>) -> Result<(), EncodeError>
         requires { 0 < length value.now }
         ensures keeps { LeavesOthers self.old self.new }
-        ensures ok { OnOk result (WroteBitSegments value.now self.old self.new) }
+        ensures ok { OnOk result (WroteSegments WrittenBits SEGMENT_BITS (in_universal 3) value.now self.old self.new) }
         ensures memory { IfErr result (WantsMemory self.old.rule) }
     {
-        let mut place = 0;
-        while value.len() - place > SEGMENT_BITS {
-            let (_, rest) = value.split_at(place);
-            let (segment, _) = rest.split_at(SEGMENT_BITS);
+        let (_, mut rest) = value.split_at(0);
+        while rest.len() > SEGMENT_BITS {
+            let (segment, tail) = rest.split_at(SEGMENT_BITS);
             self.put_bits(Tag::BIT_STRING, &segment)?;
-            place += SEGMENT_BITS;
+            rest = tail;
         }
-        let (_, rest) = value.split_at(place);
         self.put_bits(Tag::BIT_STRING, &rest)
     }
 }

@@ -5,7 +5,7 @@ ghost use Rattle.rasn_types.specs.Bytes.{DoNotFall};
 ghost use Rattle.rasn_enc.specs.Lists.{tags_of, HasRoom};
 ghost use Rattle.rasn_enc.specs.Order.{FallsAt};
 
-use super::header::rank;
+use super::headers::rank;
 use rasn_types::types::Tag;
 use std::alloc::AllocError;
 

@@ -1,15 +1,15 @@
-//! SEQUENCE OF and SET OF (X.690 8.10, 8.12).
-ghost use Rattle.std.specs.Prelude.{◌≡◌, ◌⊎◌, length, None, map, IfErr, OnOk, OnErr};
-ghost use Rattle.rasn_types.specs.Shapes.{bag, list, walk};
+//! Writing SEQUENCE OF (X.690 8.10).
+ghost use Rattle.std.specs.Prelude.{◌≡◌, length, None, map, IfErr, OnOk, OnErr};
+ghost use Rattle.rasn_types.specs.Shapes.{list};
 ghost use Rattle.rasn_types.specs.Trees.{list_tree};
 ghost use Rattle.rasn_enc.specs.View.{LeavesOthers};
-ghost use Rattle.rasn_enc.specs.Elements.{WroteEach, WroteBag, RefusesElement, RefusesInBag, RefusesFall, RefusesList, RefusesBag};
+ghost use Rattle.rasn_enc.specs.Elements.{WroteEach, RefusesElement, RefusesList};
 ghost use Rattle.rasn_enc.specs.Wrote.{Wrote, MayRefuse};
 
-use super::{Encoder, out_of_order};
+use super::Encoder;
 use crate::enc::Encode;
 use rasn_types::error::EncodeError;
-use rasn_types::types::{Constraints, Identifier, SetOf, Tag};
+use rasn_types::types::{Constraints, Identifier, Tag};
 
 impl Encoder {
     /// Writes a SEQUENCE OF, within a size in elements (X.690 8.10). The name is ignored.
@@ -45,54 +45,6 @@ impl Encoder {
         let mut rest = values;
         while let [value, after @ ..] = rest {
             value.encode(self)?;
-            rest = after;
-        }
-        Ok(())
-    }
-
-    /// Writes a SET OF, within a size in elements (X.690 8.12): its elements in the order of the walk. Under any rules the octets of
-    /// an element must not be less than those of the one before it (X.690 11.6). The name is ignored.
-    ///
-    /// # Errors
-    /// `SizeConstraintNotSatisfied`; what an element refuses; `SetOutOfOrder` at the first element whose octets are less; else
-    /// `OutOfMemory` alone. Nothing is written then.
-    pub fn encode_set_of<E: Encode + Eq>(
-        &mut self,
-        tag: Tag,
-        values: &SetOf<E>,
-        constraints: &Constraints,
-        _identifier: Identifier,
-    ) -> Result<(), EncodeError>
-        ensures ok { OnOk result (Wrote (bag tag E.shape constraints.now.size) (walk (list_tree E.tree values.now)) self.old self.new) }
-        ensures err { OnErr result (self.new ≡ self.old) }
-        ensures refused { IfErr result (MayRefuse (bag tag E.shape constraints.now.size) (walk (list_tree E.tree values.now)) self.old) }
-        ensures named { IfErr result (RefusesBag E.shape (map E.tree values.now) (length values.now) constraints.now self.old.rule) }
-    {
-        if !constraints.admits_size(values.len()) {
-            return Err(self.refused_size(constraints, values.len()));
-        }
-        let elements = values.as_slice();
-        self.enclose(tag, false, |encoder: &mut Encoder| {
-            encoder.put_in_order(elements)
-        })
-    }
-
-    // Writes elements whose octets don't fall.
-    fn put_in_order<E: Encode>(&mut self, values: &[E]) -> Result<(), EncodeError>
-        requires { self.old.last.tags ≡ None }
-        ensures keeps { LeavesOthers self.old self.new }
-        ensures ok { OnOk result (WroteBag E.shape (map E.tree values.now) self.old self.new) }
-        ensures refused { IfErr result (λ e. RefusesInBag E.shape (map E.tree values.now) self.old.rule e ⊎ RefusesFall E.shape (map E.tree values.now) self.old.rule e) }
-    {
-        let mut previous = self.last_len();
-        let mut rest = values;
-        while let [value, after @ ..] = rest {
-            let start = self.last_len();
-            value.encode(self)?;
-            if self.neighbours_fall(previous, start) {
-                return Err(out_of_order(self.codec()));
-            }
-            previous = start;
             rest = after;
         }
         Ok(())

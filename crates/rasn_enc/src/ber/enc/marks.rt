@@ -3,7 +3,7 @@ ghost use Rattle.std.specs.Prelude.{ℕ, List, ◌≡◌, ◌<◌, ◌≤◌, �
 ghost use Rattle.rasn_enc.specs.Headers.{id_octets, length_octets};
 ghost use Rattle.rasn_enc.specs.Marks.{ink_of, head_of, mark_at, closing};
 
-use super::header::{
+use super::headers::{
     INDEFINITE_LENGTH, identifier_len, identifier_octet, length_len, length_octet,
 };
 use rasn_types::types::{Codec, Tag};

@@ -1,6 +1,7 @@
 //! Strings of octets: in one piece, or in segments (X.690 8.7, 8.23, 9.2).
 ghost use Rattle.std.specs.Prelude.{◌≡◌, ◌<◌, ◌≤◌, ◌⊎◌, length, MatchBool, IfErr, OnOk, OnErr};
-ghost use Rattle.rasn_types.specs.Bytes.{IsCer};
+ghost use Rattle.rasn_types.specs.Bytes.{IsCer, WritesOctets};
+ghost use Rattle.rasn_types.specs.Tags.{in_universal};
 ghost use Rattle.rasn_types.specs.Shapes.{Admits};
 ghost use Rattle.rasn_enc.specs.View.{LeavesOthers};
 ghost use Rattle.rasn_enc.specs.Primitives.{WantsMemory};
@@ -31,17 +32,17 @@ impl Encoder {
         if !constraints.admits_size(size) {
             return Err(self.refused_size(constraints, size));
         }
-        if self.is_cut(octets.len()) {
+        if self.is_cut(octets.len(), SEGMENT) {
             return self.put_segments(tag, octets);
         }
         self.leaf(tag, octets)
     }
 
-    // The canonical rules write long strings in segments (X.690 9.2).
-    fn is_cut(&self, count: usize) -> bool
-        ensures { MatchBool result (IsCer self.now.rule × (SEGMENT < count)) (IsCer self.now.rule → count ≤ SEGMENT) }
+    // The canonical rules write a string in segments where it is longer than one may be (X.690 9.2).
+    pub(super) fn is_cut(&self, count: usize, most: usize) -> bool
+        ensures { MatchBool result (IsCer self.now.rule × (most < count)) (IsCer self.now.rule → count ≤ most) }
     {
-        matches!(self.codec(), Codec::Cer) && count > SEGMENT
+        matches!(self.codec(), Codec::Cer) && count > most
     }
 
     pub(super) fn refused_size(&self, constraints: &Constraints, size: usize) -> EncodeError
@@ -60,7 +61,7 @@ impl Encoder {
     // Writes octets in segments, as one constructed value.
     fn put_segments(&mut self, tag: Tag, value: &[u8]) -> Result<(), EncodeError>
         requires { SEGMENT < length value.now }
-        ensures ok { OnOk result (PutsSegments tag value.now self.old self.new) }
+        ensures ok { OnOk result (PutsSegments WritesOctets SEGMENT (in_universal 4) tag value.now self.old self.new) }
         ensures err { OnErr result (self.new ≡ self.old) }
         ensures memory { IfErr result (WantsMemory self.old.rule) }
     {
@@ -72,7 +73,7 @@ impl Encoder {
     fn write_segments(&mut self, value: &[u8]) -> Result<(), EncodeError>
         requires { 0 < length value.now }
         ensures keeps { LeavesOthers self.old self.new }
-        ensures ok { OnOk result (WroteSegments value.now self.old self.new) }
+        ensures ok { OnOk result (WroteSegments WritesOctets SEGMENT (in_universal 4) value.now self.old self.new) }
         ensures memory { IfErr result (WantsMemory self.old.rule) }
     {
         let mut rest = value;

@@ -1,4 +1,5 @@
-use Rattle.rasn_enc.proofs.OpenTypes.{filled, closed_round, dropped_round, round_refused}
+use Rattle.rasn_enc.proofs.Enclosed.{dropped}
+use Rattle.rasn_enc.proofs.OpenTypes.{filled, closed_round, round_refused}
 use Rattle.rasn_enc.proofs.ber.enc.Encoder.put_round.Goals as goal
 
 pub close-requires : goal.close-requires
@@ -8,7 +9,7 @@ pub returns-clause-ok : goal.returns-clause-ok
 returns-clause-ok c = closed_round _ _ _ _ _ (filled c.args.self.now _ _ c.args.octets.now _ c.in_ok-open.ensures.ok c.put-outcome.ensures.ok c.put-outcome.ensures.err c.put-outcome.ensures.memory) _ c.args.tag c.close.ensures.accepted c.close.ensures.ok
 
 pub returns-clause-err : goal.returns-clause-err
-returns-clause-err c = dropped_round _ _ _ _ _ (filled c.args.self.now _ _ c.args.octets.now _ c.in_ok-open.ensures.ok c.put-outcome.ensures.ok c.put-outcome.ensures.err c.put-outcome.ensures.memory) _ c.close.ensures.err
+returns-clause-err c = dropped _ c.put-outcome.new.self _ (filled c.args.self.now _ _ c.args.octets.now _ c.in_ok-open.ensures.ok c.put-outcome.ensures.ok c.put-outcome.ensures.err c.put-outcome.ensures.memory).below _ c.close.ensures.err
 
 pub returns-clause-memory : goal.returns-clause-memory
 returns-clause-memory c = round_refused _ _ c.close.new.self _ _ (filled c.args.self.now _ _ c.args.octets.now _ c.in_ok-open.ensures.ok c.put-outcome.ensures.ok c.put-outcome.ensures.err c.put-outcome.ensures.memory) _ c.close.ensures.refused

@@ -1,12 +1,20 @@
 use Rattle.std.proofs.Common.{arith}
+use Rattle.std.proofs.lemmas.Result.{on_ok_weaker}
+use Rattle.rasn_types.specs.Tags.{in_universal}
+use Rattle.rasn_types.specs.Bytes.{WritesOctets}
 use Rattle.rasn_enc.proofs.Octets.{octets_all}
-use Rattle.rasn_enc.proofs.Texts.{text_in_one, text_in_segments}
+use Rattle.rasn_enc.proofs.Segments.{in_segments}
+use Rattle.rasn_enc.proofs.Texts.{octets_in_one}
 use Rattle.rasn_enc.proofs.ber.enc.Encoder.string.Goals as goal
 
 pub returns-then-is_cut-clause-ok : goal.returns-then-is_cut-clause-ok
-returns-then-is_cut-clause-ok c = text_in_segments _ c.args.tag c.args.constraints.now c.args.octets.now c.args.size _ _ c.if-not-admits_size.ensures
-    c.if-is_cut.ensures.0 c.if-is_cut.ensures.1 c.put_segments.ensures.ok
+returns-then-is_cut-clause-ok c = on_ok_weaker c.put_segments.result (λ p. record {
+  admitted = c.if-not-admits_size.ensures;
+  appends = in_segments WritesOctets 1000 (in_universal 4) c.args.tag c.args.octets.now _ _ c.if-is_cut.ensures.0 c.if-is_cut.ensures.1 p;
+}) c.put_segments.ensures.ok
 
 pub returns-clause-ok : goal.returns-clause-ok
-returns-clause-ok c = text_in_one _ c.args.tag c.args.constraints.now c.args.octets.now c.args.size _ _ c.if-not-admits_size.ensures
-    (octets_all c.args.octets.now (λ i. omega (arith, c.type_inv.octets i))) c.if-is_cut.ensures c.leaf.ensures.ok
+returns-clause-ok c = on_ok_weaker c.leaf.result (λ a. record {
+  admitted = c.if-not-admits_size.ensures;
+  appends = octets_in_one c.args.tag c.args.octets.now _ _ (octets_all c.args.octets.now (λ i. omega (arith, c.type_inv.octets i))) c.if-is_cut.ensures a;
+}) c.leaf.ensures.ok

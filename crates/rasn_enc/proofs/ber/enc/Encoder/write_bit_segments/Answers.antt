@@ -1,19 +1,25 @@
-use Rattle.std.proofs.Common.{◌∙◌, ap, take, length, arith}
+use Rattle.std.proofs.Common.{◌∙◌, ap, length, arith, refl}
+use Rattle.std.proofs.lemmas.List.{length-take-le, length-drop}
 use Rattle.std.proofs.lemmas.Result.{on_ok_weaker}
-use Rattle.std.proofs.lemmas.List.{length-drop}
-use Rattle.rasn_enc.proofs.BitSegments.{bits_more, bits_done}
+use Rattle.rasn_types.specs.Tags.{in_universal}
+use Rattle.rasn_types.specs.Bytes.{WrittenBits}
+use Rattle.rasn_enc.proofs.Segments.{segments_more, segments_done, cut_at}
 use Rattle.rasn_enc.proofs.ber.enc.Encoder.write_bit_segments.Goals as goal
 
-pub loop-place-preserved : goal.loop-place-preserved
-loop-place-preserved c = record {
-  some = omega (arith, c.len.ensures);
-  so_far = bits_more c.args.value.now c.loop-place.place _ _ _ c.loop-place.invariant.so_far c.split_at-segment.result.0 c.in_ok-put_bits.ensures.ok
-      (c.split_at-segment.ensures.front ∙ ap (take 7992) c.split_at-rest.ensures.back) (omega (arith, c.len.ensures));
-}
+pub loop-rest-preserved : goal.loop-rest-preserved
+loop-rest-preserved c =
+    let s = c.split_at-segment in
+    let n = ap length s.ensures.back ∙ length-drop 7992 c.loop-rest.rest in
+    record {
+      some = omega (arith, c.len.ensures, n);
+      so_far = segments_more WrittenBits 7992 (in_universal 3) _ _ _ _ _ c.loop-rest.invariant.so_far s.result.0 c.in_ok-put_bits.ensures.ok s.result.1
+          (cut_at 7992 c.loop-rest.rest s.result.0 s.result.1 s.ensures.front s.ensures.back)
+          (ap length s.ensures.front ∙ length-take-le 7992 c.loop-rest.rest (omega (arith, c.len.ensures)));
+    }
+
+pub loop-rest-smaller : goal.loop-rest-smaller
+loop-rest-smaller c = omega (arith, c.len.ensures, ap length c.split_at-segment.ensures.back ∙ length-drop 7992 c.loop-rest.rest)
 
 pub returns-clause-ok : goal.returns-clause-ok
-returns-clause-ok c =
-    let e = c.split_at-rest-2.ensures.back in
-    let n = ap length e ∙ length-drop c.loop-place.place c.args.value.now in
-    on_ok_weaker c.put_bits-2.result (λ a. bits_done c.args.value.now c.loop-place.place _ _ _ c.loop-place.invariant.so_far c.split_at-rest-2.result.1 a e
-    (omega (arith, n, c.loop-place.invariant.some)) (omega (arith, n, c.len.ensures))) c.put_bits-2.ensures.ok
+returns-clause-ok c = on_ok_weaker c.put_bits-2.result (λ a. segments_done WrittenBits 7992 (in_universal 3) _ _ _ _ _ c.loop-rest.invariant.so_far c.loop-rest.rest a refl
+    c.loop-rest.invariant.some (omega (arith, c.len.ensures))) c.put_bits-2.ensures.ok

@@ -1,12 +1,14 @@
-use Rattle.std.proofs.Common.{◌<◌, ◌-◌, length}
-use Rattle.rasn_enc.proofs.BitSegments.{BitsSoFar}
+use Rattle.std.proofs.Common.{◌<◌, length}
+use Rattle.rasn_types.specs.Tags.{in_universal}
+use Rattle.rasn_types.specs.Bytes.{WrittenBits}
+use Rattle.rasn_enc.proofs.Segments.{SegmentsSoFar}
 use Rattle.rasn_enc.proofs.ber.enc.Encoder.write_bit_segments.Given as goal
 
-abbrev pub invariant-loop-place : goal.invariant-loop-place
-invariant-loop-place l = record {
-  some : l.place < length l.value;
-  so_far : BitsSoFar l.value l.place l.fn.self l.self;
+abbrev pub invariant-loop-rest : goal.invariant-loop-rest
+invariant-loop-rest l = record {
+  some : 0 < length l.rest;
+  so_far : SegmentsSoFar WrittenBits 7992 (in_universal 3) l.value l.rest l.fn.self l.self;
 }
 
-abbrev pub decreases-loop-place : goal.decreases-loop-place
-decreases-loop-place l = length l.value - l.place
+abbrev pub decreases-loop-rest : goal.decreases-loop-rest
+decreases-loop-rest l = length l.rest

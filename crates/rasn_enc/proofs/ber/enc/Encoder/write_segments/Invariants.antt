@@ -1,11 +1,13 @@
 use Rattle.std.proofs.Common.{◌<◌, length}
+use Rattle.rasn_types.specs.Tags.{in_universal}
+use Rattle.rasn_types.specs.Bytes.{WritesOctets}
 use Rattle.rasn_enc.proofs.Segments.{SegmentsSoFar}
 use Rattle.rasn_enc.proofs.ber.enc.Encoder.write_segments.Given as goal
 
 abbrev pub invariant-loop-rest : goal.invariant-loop-rest
 invariant-loop-rest l = record {
   some : 0 < length l.rest;
-  so_far : SegmentsSoFar l.value l.rest l.fn.self l.self;
+  so_far : SegmentsSoFar WritesOctets 1000 (in_universal 4) l.value l.rest l.fn.self l.self;
 }
 
 abbrev pub decreases-loop-rest : goal.decreases-loop-rest

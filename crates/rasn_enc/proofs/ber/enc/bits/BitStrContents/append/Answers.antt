@@ -1,4 +1,4 @@
-use Rattle.rasn_enc.proofs.BitSegments.{bits_appended}
+use Rattle.rasn_enc.proofs.BitStrings.{bits_appended}
 use Rattle.rasn_enc.proofs.ber.enc.bits.BitStrContents.append.Goals as goal
 
 pub returns-clause-ok : goal.returns-clause-ok
