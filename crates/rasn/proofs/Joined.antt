@@ -1,11 +1,11 @@
 -- Readings that relate an input to one value and one rest stay so when they are joined.
-use Rattle.std.proofs.Common.{◌≡◌, ℕ, suc, ◌⊎◌, inl, inr, List, [], ◌∷◌, ◌++◌, Bool, true, false, Option, Some, None, refl, sym, ap, ap₂, ◌∙◌, subst}
+use Rattle.std.proofs.Common.{◌≡◌, ℕ, suc, ◌⊎◌, inl, inr, List, [], ◌∷◌, Bool, true, false, Option, refl, sym, ap, ap₂, ◌∙◌, subst}
 use Rattle.rasn_types.specs.Tags.{Form, form, IsStrict}
 use Rattle.rasn_types.specs.declared.types.rules.Codec.{Codec}
 use Rattle.rasn_types.specs.declared.types.tag.Tag.{Tag}
 use Rattle.rasn_types.specs.Framing.{Next}
 use Rattle.rasn_types.specs.Shapes.{Tree, items, chosen, absent, Presence, required, optional, addition, default}
-use Rattle.rasn_types.specs.Readers.{Reading, Inside, in_definite, in_indefinite, Many, IsNoDefault, IsLeftOut, IsThere, Perhaps, Part, ReadsPart, InOrder, IsMissing, AllMissing, IsBare, ReadsSeq, ReadsChoice, NoneOf, OneOf, ByPart, ReadsSet}
+use Rattle.rasn_types.specs.Readers.{Reading, Inside, in_definite, in_indefinite, Many, IsNoDefault, Perhaps, Part, ReadsPart, InOrder, AllMissing, IsBare, ReadsSeq, ReadsChoice, ByPart, ReadsSet}
 use Rattle.rasn_types.proofs.Frames.{frame_one, next_one}
 use Rattle.rasn_de.proofs.Perhaps.{apart}
 use Rattle.rasn_de.proofs.Parted.{all_missing_one, by_part_one}

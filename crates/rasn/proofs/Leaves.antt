@@ -1,5 +1,5 @@
 -- A leaf is read in one way.
-use Rattle.std.proofs.Common.{◌≡◌, ℕ, zero, suc, ◌+◌, ◌*◌, inl, inr, List, [], ◌∷◌, ◌++◌, length, Bool, true, false, ℤ, map, min, ◌/◌, ◌-◌, sym, ap, ap₂, ◌∙◌, subst, arith, length-append}
+use Rattle.std.proofs.Common.{◌≡◌, ℕ, zero, suc, ◌+◌, inl, inr, List, [], ◌∷◌, ◌++◌, length, Bool, true, false, ℤ, map, sym, ap, ◌∙◌, subst, arith, length-append}
 use Rattle.rasn_types.specs.Tags.{form}
 use Rattle.rasn_types.specs.declared.types.rules.Codec.{Codec}
 use Rattle.rasn_types.specs.declared.types.rules.Codec.TheVariants.{Ber, Cer, Der}
@@ -8,10 +8,9 @@ use Rattle.rasn_types.specs.Framing.{definite, Frame, number_in}
 use Rattle.rasn_types.specs.Shapes.{Tree, number, bits, numbers, Kind, boolean, null, object_identifier, octet_string, integer, enumerated, fixed, numeric, printable, visible, ia5, any_octets, bmp, utf8, utc_time, generalized_time, date}
 use Rattle.rasn_types.specs.declared.types.constraints.Constraints.{Constraints}
 use Rattle.rasn_types.specs.Readers.{Reading, Inside, in_definite, in_indefinite, Many}
-use Rattle.rasn_types.specs.Contents.{IsBool, IsObjectIdentifier, Contents, bits_of, joined_lists, BitSegment, ReadBits, OctetSegment, Str}
+use Rattle.rasn_types.specs.Contents.{IsBool, Contents, bits_of, joined_lists, BitSegment, ReadBits, OctetSegment, Str}
 use Rattle.rasn_types.specs.Grammar.{Text, units, Family, plain, bit_family, text_family, family, ReadsIn, ReadsLeaf}
 use Rattle.rasn_types.proofs.Frames.{frame_one, split_one}
-use Rattle.rasn_types.proofs.Digits.{arcs_one}
 use Rattle.rasn_de.proofs.Arcs.{identifier_one}
 use Rattle.rasn.proofs.TimeTexts.{utc_one, generalized_one, date_one}
 use Rattle.rasn.proofs.Joined.{IsOne, inside_one, many_one}

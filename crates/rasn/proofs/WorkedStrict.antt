@@ -7,7 +7,6 @@ use Rattle.rasn_types.specs.Shapes.{number, numbers, instant, any, generalized_t
 use Rattle.rasn_types.specs.Grammar.{Reads, parts_of}
 use Rattle.rasn_types.specs.Bytes.{Bytes, fields_of}
 use Rattle.rasn_types.specs.Carried.{Meets, Carried}
-use Rattle.rasn_types.specs.Lawful.{IsLawful}
 use Rattle.rasn.specs.Worked.{WorkedStrict, Gives, IsLenient, plain, contextual, long_leap_text, leap, leap_text}
 use Rattle.rasn.proofs.Headers.{no_eoc, octets_read, short_written, context_frame}
 use Rattle.rasn.proofs.WorkedLenient.{lenient}
