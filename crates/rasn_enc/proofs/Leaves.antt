@@ -16,7 +16,7 @@ use Rattle.rasn_types.specs.declared.error.encode.EncodeError.{EncodeError}
 use Rattle.rasn_enc.specs.View.{View}
 use Rattle.rasn_enc.specs.Primitives.{Appends, WantsMemory}
 use Rattle.rasn_enc.specs.Wrote.{Wrote, MayRefuse}
-use Rattle.rasn_enc.specs.Refusals.{RefusesSize, MeetsSize, RefusesValue}
+use Rattle.rasn_enc.specs.Refusals.{RefusesString, RefusesValue}
 
 -- What begins with an identifier has one outermost tag.
 pub one_head : (octets : List ℕ) (tag : Tag) → Begins octets tag → TagsOf (octets ∷ []) (tag ∷ [])
@@ -84,7 +84,7 @@ integer_refused result range tag c n v h = IfErr-weaker result _ _ (λ e. elim [
 
 -- A size that isn't admitted has no octets.
 pub size_refused : {R : Type 0} (result : Result R EncodeError) (kind : Kind) (tag : Tag) (c : Constraints) (t : Tree) (size : ℕ) (v : View) → (IsBounded kind c t → Admits ◌≤◌ c.size size)
-    → IfErr result (λ e. RefusesSize c size v.rule e ⊎ MeetsSize c size v.rule e) → IfErr result (MayRefuse (leaf kind tag c) t v)
+    → IfErr result (RefusesString c size v.rule) → IfErr result (MayRefuse (leaf kind tag c) t v)
 unfolding Bytes
 size_refused result kind tag c t size v bounded h = IfErr-weaker result _ _ (λ e. elim [
   | inl r ↦ record { why = inr (inl (record { none = λ octets b. r.unmet (bounded b.0) })) }

@@ -1,5 +1,5 @@
 -- The octets of a character string in a header are its octets.
-use Rattle.std.proofs.Common.{◌≡◌, ◌⊎◌, inl, inr, ℕ, ◌≤◌, List, length, refl, sym, ap, ◌∙◌, subst, Result, OnOk, IfErr, None, chars, IsUtf8}
+use Rattle.std.proofs.Common.{◌≡◌, inl, inr, ℕ, ◌≤◌, List, length, refl, sym, ap, ◌∙◌, subst, Result, OnOk, IfErr, None, chars, IsUtf8}
 use Rattle.std.proofs.lemmas.Result.{on_ok_weaker, IfErr-weaker}
 use Rattle.rasn_types.specs.Framing.{AreOctets}
 use Rattle.rasn_types.specs.Tags.{in_universal}
@@ -16,7 +16,7 @@ use Rattle.rasn_types.specs.declared.error.encode.EncodeError.{EncodeError}
 use Rattle.rasn_enc.specs.View.{View}
 use Rattle.rasn_enc.specs.Primitives.{Appends}
 use Rattle.rasn_enc.specs.Wrote.{Wrote, MayRefuse}
-use Rattle.rasn_enc.specs.Refusals.{RefusesSize, MeetsSize}
+use Rattle.rasn_enc.specs.Refusals.{RefusesString}
 use Rattle.rasn_enc.specs.Texts.{IsCounted, PutsText}
 use Rattle.rasn_enc.proofs.Leaves.{wrote_one, size_refused}
 use Rattle.rasn_enc.proofs.Segments.{appends_piece, in_one, str_begins}
@@ -77,8 +77,8 @@ fixed_wrote result tag c xs n v w k h = on_ok_weaker result (λ a. record {
 
 -- The same refusal of the size as it was computed.
 pub refused_at : {R : Type 0} (result : Result R EncodeError) (c : Constraints) (size n : ℕ) (rule : Codec) → size ≡ n
-    → IfErr result (λ e. RefusesSize c size rule e ⊎ MeetsSize c size rule e) → IfErr result (λ e. RefusesSize c n rule e ⊎ MeetsSize c n rule e)
-refused_at result c size n rule k h = subst (λ z. IfErr result (λ e. RefusesSize c z rule e ⊎ MeetsSize c z rule e)) k h
+    → IfErr result (RefusesString c size rule) → IfErr result (RefusesString c n rule)
+refused_at result c size n rule k h = subst (λ z. IfErr result (RefusesString c z rule)) k h
 
 -- A size that was counted only where there is a bound.
 any_admitted : (c : Constraints) (n : ℕ) → c.size ≡ None → Admits ◌≤◌ c.size n
@@ -94,7 +94,7 @@ counted_put result tag c xs size n v w k h =
     on_ok_weaker result (λ p. record { admitted = counted_admitted c size n k p.admitted; appends = p.appends }) h
 
 pub counted_refused : {R : Type 0} (result : Result R EncodeError) (c : Constraints) (size n : ℕ) (rule : Codec) → IsCounted c size n
-    → IfErr result (λ e. RefusesSize c size rule e ⊎ MeetsSize c size rule e) → IfErr result (λ e. RefusesSize c n rule e ⊎ MeetsSize c n rule e)
+    → IfErr result (RefusesString c size rule) → IfErr result (RefusesString c n rule)
 counted_refused result c size n rule (inl k) h = IfErr-weaker result _ _ (λ e. elim [
   | inl r ↦ absurd (r.unmet (any_admitted c size k))
   | inr m ↦ inr (record { met = any_admitted c n k; memory = m.memory })
@@ -103,6 +103,6 @@ counted_refused result c size n rule (inr k) h = refused_at result c size n rule
 
 -- A size that isn't admitted has no octets.
 pub text_refused : {R : Type 0} (result : Result R EncodeError) (kind : Kind) (tag : Tag) (c : Constraints) (ns : List ℕ) (v : View) → measure kind ≡ by_size
-    → IfErr result (λ e. RefusesSize c (length ns) v.rule e ⊎ MeetsSize c (length ns) v.rule e)
+    → IfErr result (RefusesString c (length ns) v.rule)
     → IfErr result (MayRefuse (leaf kind tag c) (numbers ns) v)
 text_refused result kind tag c ns v k h = size_refused result kind tag c (numbers ns) (length ns) v (λ b. subst (λ z. Fulfils z c (numbers ns)) k b) h

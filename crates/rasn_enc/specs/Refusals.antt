@@ -1,5 +1,5 @@
 -- The exact refusals of values that hold no others.
-use Rattle.std.specs.Prelude.{ℕ, ℤ, ◌≡◌, ◌≤◌, ◌≤ℤ◌, Box}
+use Rattle.std.specs.Prelude.{ℕ, ℤ, ◌≡◌, ◌≤◌, ◌≤ℤ◌, ◌⊎◌, Box}
 use Rattle.std.specs.Global.{Global}
 use Rattle.rasn_types.specs.declared.types.constraints.Bounded.{Bounded}
 use Rattle.rasn_types.specs.Shapes.{Admits, constraint_of}
@@ -18,6 +18,10 @@ pub record RefusesSize (c : Constraints) (size : ℕ) (rule : Codec) (e : Encode
 pub record MeetsSize (c : Constraints) (size : ℕ) (rule : Codec) (e : EncodeError) : Type 0 where
   pub met : Admits ◌≤◌ c.size size
   pub memory : WantsMemory rule e
+
+-- Why a string isn't written: its size isn't admitted; or else memory is wanted.
+abbrev pub RefusesString : Constraints → ℕ → Codec → EncodeError → Type 0
+RefusesString c size rule e = RefusesSize c size rule e ⊎ MeetsSize c size rule e
 
 -- The number isn't admitted.
 pub record RefusesValue (c : Constraints) (number : ℤ) (rule : Codec) (e : EncodeError) : Type 0 where

@@ -2,6 +2,8 @@
 ghost use Rattle.std.specs.Prelude.{ℕ, List, ◌≡◌, ◌≤◌, ◌-◌, ◌⊎◌, [], length, take, drop, MatchBool, IfOk, IfErr, OnOk, OnErr, false, true};
 ghost use Rattle.std.specs.Fn.{FnOnceTakesAtMut};
 ghost use Rattle.rasn_types.specs.Bytes.{Prim, IsLess};
+ghost use Rattle.rasn_types.specs.Shapes.{Admits};
+ghost use Rattle.rasn_enc.specs.Refusals.{RefusesSize};
 ghost use Rattle.rasn_enc.specs.View.{started, AreTagsInOrder};
 ghost use Rattle.rasn_enc.specs.Primitives.{Appends, WantsMemory, TellsOrder};
 ghost use Rattle.rasn_enc.specs.declared.ber.enc.filled.Unfilled.TheVariants.{NoMemory};
@@ -42,7 +44,7 @@ pub use config::EncoderOptions;
 use filled::{Contents, Unfilled, fill_with};
 pub use objects::object_identifier_as_bytes;
 use rasn_types::error::{BerEncodeErrorKind, CodecEncodeError, EncodeError, EncodeErrorKind};
-use rasn_types::types::{Codec, Tag};
+use rasn_types::types::{Codec, Constraints, Tag};
 use std::alloc::Global;
 use std::marker::Model;
 use writer::Writer;
@@ -150,6 +152,24 @@ impl Encoder {
         ensures { MatchBool result (IsLess (drop middle self.now.last.octets) (take (middle - from) (drop from self.now.last.octets))) (IsLess (drop middle self.now.last.octets) (take (middle - from) (drop from self.now.last.octets)) → ⊥) }
     {
         self.writer.neighbours_fall(from, middle)
+    }
+
+    // Refuses a size that isn't within its bound.
+    #[inline(always)]
+    fn check_size(&self, constraints: &Constraints, size: usize) -> Result<(), EncodeError>
+        ensures ok { OnOk result (Admits ◌≤◌ constraints.now.size size) }
+        ensures refused { IfErr result (RefusesSize constraints.now size self.now.rule) }
+    {
+        if constraints.admits_size(size) {
+            return Ok(());
+        }
+        Err(EncodeError {
+            kind: EncodeErrorKind::SizeConstraintNotSatisfied {
+                size,
+                expected: constraints.size_bounds(),
+            },
+            codec: self.codec(),
+        })
     }
 
     // Puts a primitive value behind the last list.

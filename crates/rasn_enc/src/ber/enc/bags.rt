@@ -30,9 +30,7 @@ impl Encoder {
         ensures refused { IfErr result (MayRefuse (bag tag E.shape constraints.now.size) (walk (list_tree E.tree values.now)) self.old) }
         ensures named { IfErr result (RefusesBag E.shape (map E.tree values.now) (length values.now) constraints.now self.old.rule) }
     {
-        if !constraints.admits_size(values.len()) {
-            return Err(self.refused_size(constraints, values.len()));
-        }
+        self.check_size(constraints, values.len())?;
         let elements = values.as_slice();
         self.enclose(tag, false, |encoder: &mut Encoder| {
             encoder.put_in_order(elements)

@@ -1,12 +1,12 @@
 //! Writing BIT STRING (X.690 8.6).
-ghost use Rattle.std.specs.Prelude.{◌≡◌, ◌<◌, ◌⊎◌, length, IfErr, OnOk, OnErr};
+ghost use Rattle.std.specs.Prelude.{◌≡◌, ◌<◌, length, IfErr, OnOk, OnErr};
 ghost use Rattle.rasn_types.specs.Bytes.{WrittenBits};
 ghost use Rattle.rasn_types.specs.Tags.{in_universal};
 ghost use Rattle.rasn_types.specs.Shapes.{leaf, bit_string, bits};
 ghost use Rattle.rasn_enc.specs.View.{LeavesOthers};
 ghost use Rattle.rasn_enc.specs.Primitives.{Appends, WantsMemory};
 ghost use Rattle.rasn_enc.specs.Wrote.{Wrote};
-ghost use Rattle.rasn_enc.specs.Refusals.{RefusesSize, MeetsSize};
+ghost use Rattle.rasn_enc.specs.Refusals.{RefusesString};
 ghost use Rattle.rasn_enc.specs.Segments.{IsPiece, WroteSegments, PutsSegments};
 
 use super::Encoder;
@@ -43,11 +43,9 @@ impl Encoder {
     ) -> Result<(), EncodeError>
         ensures ok { OnOk result (Wrote (leaf bit_string tag constraints.now) (bits value.now) self.old self.new) }
         ensures err { OnErr result (self.new ≡ self.old) }
-        ensures refused { IfErr result (λ e. RefusesSize constraints.now (length value.now) self.old.rule e ⊎ MeetsSize constraints.now (length value.now) self.old.rule e) }
+        ensures refused { IfErr result (RefusesString constraints.now (length value.now) self.old.rule) }
     {
-        if !constraints.admits_size(value.len()) {
-            return Err(self.refused_size(constraints, value.len()));
-        }
+        self.check_size(constraints, value.len())?;
         if self.is_cut(value.len(), SEGMENT_BITS) {
             return self.put_bit_segments(tag, value);
         }

@@ -1,10 +1,10 @@
 //! Writing values that hold no others.
-ghost use Rattle.std.specs.Prelude.{◌≡◌, ◌⊎◌, length, IfErr, OnOk, OnErr};
+ghost use Rattle.std.specs.Prelude.{◌≡◌, length, IfErr, OnOk, OnErr};
 ghost use Rattle.rasn_types.specs.Shapes.{leaf, boolean, octet_string, numbers};
 ghost use Rattle.rasn_types.specs.Trees.{bool_tree};
 ghost use Rattle.rasn_enc.specs.Primitives.{WantsMemory};
 ghost use Rattle.rasn_enc.specs.Wrote.{Wrote};
-ghost use Rattle.rasn_enc.specs.Refusals.{RefusesSize, MeetsSize};
+ghost use Rattle.rasn_enc.specs.Refusals.{RefusesString};
 
 use super::Encoder;
 use rasn_types::error::EncodeError;
@@ -44,7 +44,7 @@ impl Encoder {
     ) -> Result<(), EncodeError>
         ensures ok { OnOk result (Wrote (leaf octet_string tag constraints.now) (numbers value.now) self.old self.new) }
         ensures err { OnErr result (self.new ≡ self.old) }
-        ensures refused { IfErr result (λ e. RefusesSize constraints.now (length value.now) self.old.rule e ⊎ MeetsSize constraints.now (length value.now) self.old.rule e) }
+        ensures refused { IfErr result (RefusesString constraints.now (length value.now) self.old.rule) }
     {
         self.string(tag, constraints, value, value.len())
     }

@@ -28,9 +28,7 @@ impl Encoder {
         ensures refused { IfErr result (MayRefuse (list tag E.shape constraints.now.size) (list_tree E.tree values.now) self.old) }
         ensures named { IfErr result (RefusesList E.shape (map E.tree values.now) (length values.now) constraints.now self.old.rule) }
     {
-        if !constraints.admits_size(values.len()) {
-            return Err(self.refused_size(constraints, values.len()));
-        }
+        self.check_size(constraints, values.len())?;
         self.enclose(tag, false, |encoder: &mut Encoder| {
             encoder.put_elements(values)
         })

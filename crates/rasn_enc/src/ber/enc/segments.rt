@@ -1,16 +1,15 @@
 //! Strings of octets: in one piece, or in segments (X.690 8.7, 8.23, 9.2).
-ghost use Rattle.std.specs.Prelude.{◌≡◌, ◌<◌, ◌≤◌, ◌⊎◌, length, MatchBool, IfErr, OnOk, OnErr};
+ghost use Rattle.std.specs.Prelude.{◌≡◌, ◌<◌, ◌≤◌, length, MatchBool, IfErr, OnOk, OnErr};
 ghost use Rattle.rasn_types.specs.Bytes.{IsCer, WritesOctets};
 ghost use Rattle.rasn_types.specs.Tags.{in_universal};
-ghost use Rattle.rasn_types.specs.Shapes.{Admits};
 ghost use Rattle.rasn_enc.specs.View.{LeavesOthers};
 ghost use Rattle.rasn_enc.specs.Primitives.{WantsMemory};
-ghost use Rattle.rasn_enc.specs.Refusals.{RefusesSize, MeetsSize};
+ghost use Rattle.rasn_enc.specs.Refusals.{RefusesString};
 ghost use Rattle.rasn_enc.specs.Segments.{WroteSegments, PutsSegments};
 ghost use Rattle.rasn_enc.specs.Texts.{PutsText};
 
 use super::Encoder;
-use rasn_types::error::{EncodeError, EncodeErrorKind};
+use rasn_types::error::EncodeError;
 use rasn_types::types::{Codec, Constraints, Tag};
 
 // The contents octets of a segment under the canonical rules (X.690 9.2).
@@ -27,11 +26,9 @@ impl Encoder {
     ) -> Result<(), EncodeError>
         ensures ok { OnOk result (PutsText tag constraints.now octets.now size self.old self.new) }
         ensures err { OnErr result (self.new ≡ self.old) }
-        ensures refused { IfErr result (λ e. RefusesSize constraints.now size self.old.rule e ⊎ MeetsSize constraints.now size self.old.rule e) }
+        ensures refused { IfErr result (RefusesString constraints.now size self.old.rule) }
     {
-        if !constraints.admits_size(size) {
-            return Err(self.refused_size(constraints, size));
-        }
+        self.check_size(constraints, size)?;
         if self.is_cut(octets.len(), SEGMENT) {
             return self.put_segments(tag, octets);
         }
@@ -43,19 +40,6 @@ impl Encoder {
         ensures { MatchBool result (IsCer self.now.rule × (most < count)) (IsCer self.now.rule → count ≤ most) }
     {
         matches!(self.codec(), Codec::Cer) && count > most
-    }
-
-    pub(super) fn refused_size(&self, constraints: &Constraints, size: usize) -> EncodeError
-        requires { Admits ◌≤◌ constraints.now.size size → ⊥ }
-        ensures { RefusesSize constraints.now size self.now.rule result }
-    {
-        EncodeError {
-            kind: EncodeErrorKind::SizeConstraintNotSatisfied {
-                size,
-                expected: constraints.size_bounds(),
-            },
-            codec: self.codec(),
-        }
     }
 
     // Writes octets in segments, as one constructed value.

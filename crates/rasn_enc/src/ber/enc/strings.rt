@@ -1,8 +1,8 @@
 //! Writing character strings (X.690 8.23).
-ghost use Rattle.std.specs.Prelude.{◌≡◌, ◌⊎◌, chars, length, IfErr, OnOk, OnErr};
+ghost use Rattle.std.specs.Prelude.{◌≡◌, chars, length, IfErr, OnOk, OnErr};
 ghost use Rattle.rasn_types.specs.Characters.{kind_of, units_of};
 ghost use Rattle.rasn_types.specs.Shapes.{leaf, numbers, numeric, printable, visible, ia5, any_octets, bmp, utf8};
-ghost use Rattle.rasn_enc.specs.Refusals.{RefusesSize, MeetsSize};
+ghost use Rattle.rasn_enc.specs.Refusals.{RefusesString};
 ghost use Rattle.rasn_enc.specs.Texts.{IsCounted};
 ghost use Rattle.rasn_enc.specs.Wrote.{Wrote};
 
@@ -38,7 +38,7 @@ impl Encoder {
     ) -> Result<(), EncodeError>
         ensures ok { OnOk result (Wrote (leaf visible tag constraints.now) (numbers value.now) self.old self.new) }
         ensures err { OnErr result (self.new ≡ self.old) }
-        ensures refused { IfErr result (λ e. RefusesSize constraints.now (length value.now) self.old.rule e ⊎ MeetsSize constraints.now (length value.now) self.old.rule e) }
+        ensures refused { IfErr result (RefusesString constraints.now (length value.now) self.old.rule) }
     {
         self.restricted::<VisibleType>(tag, constraints, value)
     }
@@ -56,7 +56,7 @@ impl Encoder {
     ) -> Result<(), EncodeError>
         ensures ok { OnOk result (Wrote (leaf ia5 tag constraints.now) (numbers value.now) self.old self.new) }
         ensures err { OnErr result (self.new ≡ self.old) }
-        ensures refused { IfErr result (λ e. RefusesSize constraints.now (length value.now) self.old.rule e ⊎ MeetsSize constraints.now (length value.now) self.old.rule e) }
+        ensures refused { IfErr result (RefusesString constraints.now (length value.now) self.old.rule) }
     {
         self.restricted::<Ia5Type>(tag, constraints, value)
     }
@@ -74,7 +74,7 @@ impl Encoder {
     ) -> Result<(), EncodeError>
         ensures ok { OnOk result (Wrote (leaf printable tag constraints.now) (numbers value.now) self.old self.new) }
         ensures err { OnErr result (self.new ≡ self.old) }
-        ensures refused { IfErr result (λ e. RefusesSize constraints.now (length value.now) self.old.rule e ⊎ MeetsSize constraints.now (length value.now) self.old.rule e) }
+        ensures refused { IfErr result (RefusesString constraints.now (length value.now) self.old.rule) }
     {
         self.restricted::<PrintableType>(tag, constraints, value)
     }
@@ -92,7 +92,7 @@ impl Encoder {
     ) -> Result<(), EncodeError>
         ensures ok { OnOk result (Wrote (leaf numeric tag constraints.now) (numbers value.now) self.old self.new) }
         ensures err { OnErr result (self.new ≡ self.old) }
-        ensures refused { IfErr result (λ e. RefusesSize constraints.now (length value.now) self.old.rule e ⊎ MeetsSize constraints.now (length value.now) self.old.rule e) }
+        ensures refused { IfErr result (RefusesString constraints.now (length value.now) self.old.rule) }
     {
         self.restricted::<NumericType>(tag, constraints, value)
     }
@@ -110,7 +110,7 @@ impl Encoder {
     ) -> Result<(), EncodeError>
         ensures ok { OnOk result (Wrote (leaf any_octets tag constraints.now) (numbers value.now) self.old self.new) }
         ensures err { OnErr result (self.new ≡ self.old) }
-        ensures refused { IfErr result (λ e. RefusesSize constraints.now (length value.now) self.old.rule e ⊎ MeetsSize constraints.now (length value.now) self.old.rule e) }
+        ensures refused { IfErr result (RefusesString constraints.now (length value.now) self.old.rule) }
     {
         self.restricted::<TeletexType>(tag, constraints, value)
     }
@@ -128,7 +128,7 @@ impl Encoder {
     ) -> Result<(), EncodeError>
         ensures ok { OnOk result (Wrote (leaf any_octets tag constraints.now) (numbers value.now) self.old self.new) }
         ensures err { OnErr result (self.new ≡ self.old) }
-        ensures refused { IfErr result (λ e. RefusesSize constraints.now (length value.now) self.old.rule e ⊎ MeetsSize constraints.now (length value.now) self.old.rule e) }
+        ensures refused { IfErr result (RefusesString constraints.now (length value.now) self.old.rule) }
     {
         self.restricted::<GeneralType>(tag, constraints, value)
     }
@@ -146,7 +146,7 @@ impl Encoder {
     ) -> Result<(), EncodeError>
         ensures ok { OnOk result (Wrote (leaf any_octets tag constraints.now) (numbers value.now) self.old self.new) }
         ensures err { OnErr result (self.new ≡ self.old) }
-        ensures refused { IfErr result (λ e. RefusesSize constraints.now (length value.now) self.old.rule e ⊎ MeetsSize constraints.now (length value.now) self.old.rule e) }
+        ensures refused { IfErr result (RefusesString constraints.now (length value.now) self.old.rule) }
     {
         self.restricted::<GraphicType>(tag, constraints, value)
     }
@@ -164,7 +164,7 @@ impl Encoder {
     ) -> Result<(), EncodeError>
         ensures ok { OnOk result (Wrote (leaf bmp tag constraints.now) (numbers (units_of value.now)) self.old self.new) }
         ensures err { OnErr result (self.new ≡ self.old) }
-        ensures refused { IfErr result (λ e. RefusesSize constraints.now (length (units_of value.now)) self.old.rule e ⊎ MeetsSize constraints.now (length (units_of value.now)) self.old.rule e) }
+        ensures refused { IfErr result (RefusesString constraints.now (length (units_of value.now)) self.old.rule) }
     {
         let octets = value.as_octets();
         self.string(tag, constraints, octets, octets.len() / 2)
@@ -183,7 +183,7 @@ impl Encoder {
     ) -> Result<(), EncodeError>
         ensures ok { OnOk result (Wrote (leaf utf8 tag constraints.now) (numbers (chars value.now)) self.old self.new) }
         ensures err { OnErr result (self.new ≡ self.old) }
-        ensures refused { IfErr result (λ e. RefusesSize constraints.now (length (chars value.now)) self.old.rule e ⊎ MeetsSize constraints.now (length (chars value.now)) self.old.rule e) }
+        ensures refused { IfErr result (RefusesString constraints.now (length (chars value.now)) self.old.rule) }
     {
         let size = character_count(constraints, value);
         self.string(tag, constraints, value.as_bytes(), size)
@@ -198,7 +198,7 @@ impl Encoder {
     ) -> Result<(), EncodeError>
         ensures ok { OnOk result (Wrote (leaf (kind_of S.ALPHABET) tag constraints.now) (numbers value.now) self.old self.new) }
         ensures err { OnErr result (self.new ≡ self.old) }
-        ensures refused { IfErr result (λ e. RefusesSize constraints.now (length value.now) self.old.rule e ⊎ MeetsSize constraints.now (length value.now) self.old.rule e) }
+        ensures refused { IfErr result (RefusesString constraints.now (length value.now) self.old.rule) }
     {
         let octets = value.as_octets();
         self.string(tag, constraints, octets, octets.len())

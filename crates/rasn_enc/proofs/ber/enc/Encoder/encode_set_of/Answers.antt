@@ -1,29 +1,31 @@
 use Rattle.std.proofs.Common.{◌≤◌, ◌⊎◌, ◌∙◌, map, sym, subst, inl, false, rules}
 use Rattle.std.proofs.lemmas.List.{length-map}
+use Rattle.std.proofs.lemmas.Result.{err_from_is_err_and}
 use Rattle.rasn_types.specs.Shapes.{Admits}
 use Rattle.rasn_enc.specs.View.{opened}
 use Rattle.rasn_enc.specs.Elements.{WroteBag, RefusesInBag, RefusesFall, RefusesBag}
 use Rattle.rasn_enc.proofs.Bags.{bag_ok, bag_named, bag_may_refuse, bag_none}
 use Rattle.rasn_enc.proofs.ber.enc.Encoder.encode_set_of.Goals as goal
 
-pub returns-then-not-admits_size-clause-refused : goal.returns-then-not-admits_size-clause-refused
-returns-then-not-admits_size-clause-refused g c = bag_none g.E.AsnType.shape (map g.E.AsnType.tree c.args.values.now) c.args.tag c.args.constraints.now c.args.self.now _
-    (subst (λ n. RefusesBag g.E.AsnType.shape (map g.E.AsnType.tree c.args.values.now) n c.args.constraints.now c.args.self.now.rule c.refused_size.result)
-    (c.len-then-not-admits_size.ensures ∙ sym (length-map c.args.values.now g.E.AsnType.tree)) (inl c.refused_size.ensures))
+pub returns-in_err-check_size-clause-refused : goal.returns-in_err-check_size-clause-refused
+returns-in_err-check_size-clause-refused g c = let p = err_from_is_err_and c.from_residual.result c.from_residual.ensures.1 in rw (p.1, p.2)
+    (bag_none g.E.AsnType.shape (map g.E.AsnType.tree c.args.values.now) c.args.tag c.args.constraints.now c.args.self.now _
+    (subst (λ n. RefusesBag g.E.AsnType.shape (map g.E.AsnType.tree c.args.values.now) n c.args.constraints.now c.args.self.now.rule c.in_err-check_size.field-0.0)
+    (c.len.ensures ∙ sym (length-map c.args.values.now g.E.AsnType.tree)) (inl c.in_err-check_size.ensures.refused)))
 
 pub returns-clause-ok : goal.returns-clause-ok
 returns-clause-ok g c = bag_ok _ _ g.E.AsnType.shape (map g.E.AsnType.tree c.args.values.now) c.args.tag c.args.constraints.now.size c.args.self.now _ _
-    (subst (λ n. Admits ◌≤◌ c.args.constraints.now.size n) (c.len.ensures ∙ sym (length-map c.args.values.now g.E.AsnType.tree)) c.if-not-admits_size.ensures) c.enclose.ensures.ok
+    (subst (λ n. Admits ◌≤◌ c.args.constraints.now.size n) (c.len.ensures ∙ sym (length-map c.args.values.now g.E.AsnType.tree)) c.in_ok-check_size.ensures.ok) c.enclose.ensures.ok
     (λ u k. subst (λ l. WroteBag g.E.AsnType.shape (map g.E.AsnType.tree l) (opened c.args.self.now false) u) c.as_slice-elements.ensures (search rules))
 
 pub returns-clause-named : goal.returns-clause-named
 returns-clause-named g c = bag_named _ _ g.E.AsnType.shape (map g.E.AsnType.tree c.args.values.now) c.args.constraints.now _ c.args.self.now _
-    (subst (λ n. Admits ◌≤◌ c.args.constraints.now.size n) c.len.ensures c.if-not-admits_size.ensures) c.enclose.ensures.refused
+    (subst (λ n. Admits ◌≤◌ c.args.constraints.now.size n) c.len.ensures c.in_ok-check_size.ensures.ok) c.enclose.ensures.refused
     (λ e u k. subst (λ l. RefusesInBag g.E.AsnType.shape (map g.E.AsnType.tree l) c.args.self.now.rule e ⊎ RefusesFall g.E.AsnType.shape (map g.E.AsnType.tree l) c.args.self.now.rule e) c.as_slice-elements.ensures (search rules))
 
 pub returns-clause-refused : goal.returns-clause-refused
 returns-clause-refused g c = bag_may_refuse g.E.AsnType.shape (map g.E.AsnType.tree c.args.values.now) c.args.tag c.args.constraints.now _ c.args.self.now _
     (sym (length-map c.args.values.now g.E.AsnType.tree))
     (bag_named _ _ g.E.AsnType.shape (map g.E.AsnType.tree c.args.values.now) c.args.constraints.now _ c.args.self.now _
-    (subst (λ n. Admits ◌≤◌ c.args.constraints.now.size n) c.len.ensures c.if-not-admits_size.ensures) c.enclose.ensures.refused
+    (subst (λ n. Admits ◌≤◌ c.args.constraints.now.size n) c.len.ensures c.in_ok-check_size.ensures.ok) c.enclose.ensures.refused
     (λ e u k. subst (λ l. RefusesInBag g.E.AsnType.shape (map g.E.AsnType.tree l) c.args.self.now.rule e ⊎ RefusesFall g.E.AsnType.shape (map g.E.AsnType.tree l) c.args.self.now.rule e) c.as_slice-elements.ensures (search rules)))
