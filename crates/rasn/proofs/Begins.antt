@@ -120,7 +120,7 @@ mutual
       inl (u, e, n, p, f, solid_closing s solid.0 rule depth c d input u rest h)
   some_closing (part presence s ps) solid k rule depth c d input t rest (inr h) = inr (some_closing ps solid.1 (suc k) rule depth c d input t rest h)
 
--- At the top, where closing octets may stand, what was read without them is read too.
+-- At the top, where end-of-contents octets may stand, what was read without them is read too.
 left_out_wider : (spelling : Form) (tag : Option Tag) (input : List ℕ) → IsLeftOut spelling tag false input → IsLeftOut spelling tag true input
 left_out_wider spelling None input (inl h) = inl h
 left_out_wider spelling None input (inr h) = let e = h.0 in cc

@@ -29,7 +29,7 @@ use Rattle.rasn_de.proofs.Perhaps.{peeks_none}
 use Rattle.rasn_de.proofs.Pieces.{begins_more}
 use Rattle.rasn_de.proofs.Tagged.{tags_split, tags_one, front_in_order}
 
--- Depth and closing octets don't count for which parts they are.
+-- Depth and end-of-contents octets don't count for which parts they are.
 pub by_part_at : (rule : Codec) (ps : Parts) (k d e : ℕ) (b c : Bool) (readings ts : List Tree) → ByPart rule k (parts_of rule ps d b) readings ts → ByPart rule k (parts_of rule ps e c) readings ts
 unfolding parts_of
 by_part_at rule none k d e b c readings ts h = h

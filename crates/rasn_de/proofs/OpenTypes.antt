@@ -88,7 +88,7 @@ module _ (rule : Codec) (tag : Tag) (input : List ℕ) (o : AreOctets input) whe
             (is ∙ ap numbers (sym d), sym k.rest)
         same u r (bit, c, is, strict, inr (body, f, w, b)) = absurd (not_both contents (frame_one input (frame (definite contents) e) f).extent)
 
-    -- contents up to their closing octets
+    -- contents up to their end-of-contents octets
     pub tagged_closed : h.extent ≡ indefinite → (t : ℕ) (after : List ℕ) → Exactly (Closed rule h.rest) (IsStuck rule h.rest) (Ok (t, after))
         → OpenAt rule (Some tag) input (Ok (take (length h.rest - length after - 2) h.rest, after)) × (length after + 2 ≤ length h.rest)
     tagged_closed e t after (closed, one) =

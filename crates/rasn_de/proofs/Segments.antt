@@ -15,7 +15,7 @@ use Rattle.rasn_de.specs.Strings.{ends, segments_at, closed_at, inner, used_up, 
 use Rattle.rasn_de.proofs.Tools.{bind_ok, chosen, guarded}
 use Rattle.rasn_de.proofs.Shorter.{header_shorter}
 
--- The test of the end, where closing octets may stand.
+-- The test of the end, where end-of-contents octets may stand.
 pub ends_tested : (b : Bool) (l : List ℕ) → MatchBool b (Ended true l) (Ended true l → ⊥) → ends l ≡ b
 ends_tested true [] h = refl
 ends_tested false [] h = absurd (h (inl refl))

@@ -28,7 +28,7 @@ pub fills_keeps : {D : Type 0} (starts : List ℕ → Bool) (initial : State →
 fills_keeps starts initial called keeps o r n (inl (s, i, e)) = kept_same o n e
 fills_keeps starts initial called keeps o r n (inr (s, c)) = keeps o r n c
 
--- At the end of an input nothing is read in front of closing octets.
+-- At the end of an input nothing is read in front of end-of-contents octets.
 cut_none : (rule : Codec) (parts : Parts) (depth : ℕ) (closing : Bool) (t : Tree) (l : List ℕ) → SeqReads parts rule depth closing [] t l → (closing ≡ true) → l ≡ []
 cut_none rule parts depth closing t l (ts, e, inl (b, m, r)) c = let f = b.1 in cc
 cut_none rule parts depth closing t l (ts, e, inr (b, r)) c = parts_nothing rule parts depth closing ts l r

@@ -133,7 +133,7 @@ enter_back rule n input tag bit after t rest o f (middle, s, u, c, h, e) = go (f
         (v + (w + u), omega arith, (m, v, w + u, subst (λ z. Closed rule z v m) (sym r) d, (middle, w, u, q, h, refl), refl))
     go (closed_first x y) = absurd (frame_not_zero (0 ∷ middle) f x)
 
--- Where neither a value nor closing octets come, nothing is completed.
+-- Where neither a value nor end-of-contents octets come, nothing is completed.
 pub stuck_back : (rule : Codec) (n : ℕ) (input : List ℕ) (t : ℕ) (rest : List ℕ) (fault : Fault) → AreOctets input → header_at (loose rule) AnyTag input ≡ Err fault
     → ((more : List ℕ) → input ≡ 0 ∷ 0 ∷ more → ⊥) → Levels rule (suc n) input t rest → ⊥
 stuck_back rule n input t rest fault o x y (middle, s, u, c, h, e) = go (first_of_closed rule input s middle c)

@@ -9,7 +9,7 @@ use Rattle.rasn_de.specs.State.{State, at, IsEnd}
 use Rattle.rasn_de.specs.Outcomes.{Exact, Outcome, outcome}
 
 -- A call that reads by R: its outcome is exactly what R has for what remained, it leaves an end of that, and changes nothing
--- else. R takes the rules, the depth that is left, and whether closing octets may end the contents.
+-- else. R takes the rules, the depth that is left, and whether end-of-contents octets may end the contents.
 pub record Answers (R : Codec → ℕ → Bool → Reading Tree) (old : State) (o : Outcome) (new : State) : Type 0 where
   pub stays : new ≡ at old new.rest
   pub end : IsEnd old.rest new.rest

@@ -24,7 +24,7 @@ abbrev pub ReadsOctets : Codec → Option Tag → Reading Tree
 ReadsOctets rule None = ReadsAny rule
 ReadsOctets rule (Some tag) = ReadsOpen rule tag
 
--- The first fault: of the header, or where contents of indefinite length aren't whole encodings and closing octets.
+-- The first fault: of the header, or where contents of indefinite length aren't whole encodings and end-of-contents octets.
 abbrev pub IsOpenFault : Codec → Option Tag → List ℕ → Fault → Type 0
 IsOpenFault rule None input fault = IsFault rule input fault
 IsOpenFault rule (Some tag) input fault =

@@ -16,7 +16,7 @@ pub record Skipped (rule : Codec) (input : List ℕ) (t : ℕ) (rest : List ℕ)
   pub is : input ≡ text ++ rest
   pub turns_are : t ≡ turns whole
 
--- Whole encodings up to their closing octets, with the turn that passes these.
+-- Whole encodings up to their end-of-contents octets, with the turn that passes these.
 pub record Closed (rule : Codec) (input : List ℕ) (t : ℕ) (rest : List ℕ) : Type 0 where
   pub nested : List ℕ
   pub inside : Wholes rule nested

@@ -2,7 +2,7 @@
 use Rattle.std.specs.Prelude.{◌≡◌, ℕ, List, ◌++◌, Bool}
 use Rattle.rasn_types.specs.declared.types.rules.Codec.{Codec}
 
--- The rules, the depth that is left, whether closing octets may end the contents, the whole input and what is left of it.
+-- The rules, the depth that is left, whether end-of-contents octets may end the contents, the whole input and what is left of it.
 pub record State : Type 0 where
   pub rule : Codec
   pub depth : ℕ

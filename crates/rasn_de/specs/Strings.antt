@@ -10,7 +10,7 @@ use Rattle.rasn_types.specs.Tags.{form}
 use Rattle.rasn_de.specs.declared.ber.de.parser.headers.Expected.TheVariants.{Tagged}
 use Rattle.rasn_de.specs.Headers.{◌>>=◌, Header, header_at, is_der}
 
--- nothing is left, or closing octets come
+-- nothing is left, or end-of-contents octets come
 abbrev pub ends : List ℕ → Bool
 ends [] = true
 ends (a ∷ []) = false
@@ -21,7 +21,7 @@ unfoldable pub segments_at : {X : Type 0} → (List ℕ → Result (List X × Li
 segments_at read zero l = Ok ([], l)
 segments_at read (suc n) l = if ends l then Ok ([], l) else (read l >>= λ p. segments_at read n p.1 >>= λ q. Ok (p.0 ++ q.0, q.1))
 
--- what follows closing octets
+-- what follows end-of-contents octets
 unfoldable pub closed_at : List ℕ → Result (List ℕ) Fault
 closed_at [] = Err (Incomplete 2)
 closed_at (a ∷ []) = if nat_eq a 0 then Err (Incomplete 1) else Err MissingEndOfContents

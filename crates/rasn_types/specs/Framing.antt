@@ -94,11 +94,11 @@ pub record Next (spelling : Form) (input : List ℕ) (tag : Tag) : Type 0 where
   pub is_one : tag ≢ eoc
   pub shortest : HasStrictForm spelling → IsShortestId begins.id tag
 
--- The contents end here: nothing is left, or where closing octets may stand, these come.
+-- The contents end here: nothing is left, or where end-of-contents octets may stand, these come.
 abbrev pub Ended : Bool → List ℕ → Type 0
 Ended closing input = (input ≡ []) ⊎ ((closing ≡ true) × (more : List ℕ) × (input ≡ 0 ∷ 0 ∷ more))
 
--- Whole encodings, closing octets included (8.1.4, 8.1.5).
+-- Whole encodings, end-of-contents octets included (8.1.4, 8.1.5).
 mutual
   pub data Whole (rule : Codec) : List ℕ → Type 0 where
     plain : {text : List ℕ} (tag : Tag) (bit : Bool) (contents : List ℕ) → Frame (loose rule) text tag bit [] (definite contents) → Whole rule text

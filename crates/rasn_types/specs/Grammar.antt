@@ -102,7 +102,7 @@ ReadsIn text_family rule kind tag depth input t rest =
 abbrev pub ReadsLeaf : Codec → Kind → Tag → Constraints → ℕ → Reading Tree
 ReadsLeaf rule kind tag bounds depth input t rest = ReadsIn (family kind) rule kind tag depth input t rest × IsBounded kind bounds t
 
--- The contents of a value of the tag, closing octets not included.
+-- The contents of a value of the tag, end-of-contents octets not included.
 abbrev pub ReadsOpen : Codec → Tag → Reading Tree
 ReadsOpen rule tag input t rest = (bit : Bool) × (contents : List ℕ) × (t ≡ numbers contents) × (IsStrict rule → bit ≡ true)
     × (Frame (form rule) input tag bit rest (definite contents)
@@ -139,7 +139,7 @@ unfoldable mutual
   parts_of rule (part presence s ps) depth closing =
       record { presence = presence; own = own s; IsFirst = IsFirst s; reads = Reads rule s depth closing } ∷ parts_of rule ps depth closing
 
--- Whether closing octets may stand behind a value at the top.
+-- Whether end-of-contents octets may stand behind a value at the top.
 abbrev pub top : Codec → Bool
 top Ber = true
 top Cer = true

@@ -8,7 +8,7 @@ use Rattle.rasn_types.specs.Order.{Each, DoNotFall}
 abbrev pub Reading : Type 0 → Type 1
 Reading X = List ℕ → X → List ℕ → Type 0
 
--- What stands in one value's contents: all of them, or up to the closing octets. inner takes closing.
+-- What stands in one value's contents: all of them, or up to the end-of-contents octets. inner takes closing.
 pub data Inside {X : Type 0} (rule : Codec) (tag : Tag) (bit : Bool) (inner : Bool → Reading X) (input : List ℕ) (x : X) (rest : List ℕ) : Type 0 where
   in_definite : (contents : List ℕ) → Frame (form rule) input tag bit rest (definite contents) → inner false contents x [] → Inside rule tag bit inner input x rest
   in_indefinite : (body : List ℕ) → Frame (form rule) input tag bit body indefinite → inner true body x (0 ∷ 0 ∷ rest) → Inside rule tag bit inner input x rest

@@ -48,7 +48,7 @@ const MAX_DEPTH: usize = 128;
 
 /// A reader of values, one behind the other, from one input.
 ///
-/// Contracts see it as a `State`: the rules, the depth that is left, whether closing octets may end the contents, the whole
+/// Contracts see it as a `State`: the rules, the depth that is left, whether end-of-contents octets may end the contents, the whole
 /// input, and what is left of it.
 #[derive(Drop)]
 pub struct Decoder<'input> {

@@ -15,7 +15,7 @@ pub fn is_der(rule: Codec) -> bool
     }
 }
 
-/// Whether lengths may have the indefinite form (X.690 8.1.3.6, 10.1), and so closing octets stand where values do.
+/// Whether lengths may have the indefinite form (X.690 8.1.3.6, 10.1), and so end-of-contents octets stand where values do.
 pub fn allows_indefinite(rule: Codec) -> bool
     ensures { result ≡ top rule }
 {

@@ -76,7 +76,7 @@ fn a_dropped_refusal_leaves_what_it_leaves(rt: HostRuntime) {
     drops_a_boolean(&rt, alloc, &[0x30, 0x80, 0x01, 0x05], unclosed, 2);
 }
 
-// A refused value of definite length is taken whole, one of indefinite length to its header: the closing octets of the inner value
+// A refused value of definite length is taken whole, one of indefinite length to its header: the end-of-contents octets of the inner value
 // close the outer one.
 #[test]
 fn a_dropped_value_is_gone_on_from(rt: HostRuntime) {
@@ -88,7 +88,7 @@ fn a_dropped_value_is_gone_on_from(rt: HostRuntime) {
 }
 
 // An element that answers a value and takes nothing is refused with the length left, also of a list in a list, and of contents of
-// indefinite length, where closing octets are counted as octets.
+// indefinite length, where end-of-contents octets are counted as octets.
 #[test]
 fn refuses_elements_of_nothing(rt: HostRuntime) {
     let alloc = rt.alloc();

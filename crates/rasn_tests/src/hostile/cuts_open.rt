@@ -42,7 +42,7 @@ fn cuts_open<T: Decode>(rt: &impl Abort, alloc: Global, rows: &[Indefinite]) {
     }
 }
 
-// Indefinite length, where a front may end in one zero octet, or before closing octets.
+// Indefinite length, where a front may end in one zero octet, or before end-of-contents octets.
 #[test]
 fn cut_open_strings_are_refused(rt: HostRuntime) {
     let alloc = rt.alloc();

@@ -60,7 +60,7 @@ fn leaves_take_what_was_read(rt: HostRuntime) {
     );
 }
 
-// What is refused inside takes header and contents, of an indefinite length the header; closing octets that are missing, what was
+// What is refused inside takes header and contents, of an indefinite length the header; end-of-contents octets that are missing, what was
 // read inside too.
 #[test]
 fn sequences_take_what_was_read(rt: HostRuntime) {

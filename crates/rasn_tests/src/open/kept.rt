@@ -24,7 +24,7 @@ fn holds_octets(rt: HostRuntime) {
     assert!(rt; null != made(&rt, any_of(alloc, &[])));
 }
 
-// An open type without a tag is one whole encoding, closing octets included (X.690 8.15).
+// An open type without a tag is one whole encoding, end-of-contents octets included (X.690 8.15).
 #[test]
 fn keeps_whole_encodings(rt: HostRuntime) {
     let alloc = rt.alloc();
@@ -92,7 +92,7 @@ fn reads_tagged(rt: &impl Abort, alloc: Global, rows: &[OctetsRow]) {
     }
 }
 
-// A tag of its own stands round the value, and isn't kept, nor are its closing octets (X.690 8.14.2).
+// A tag of its own stands round the value, and isn't kept, nor are its end-of-contents octets (X.690 8.14.2).
 #[test]
 fn keeps_what_a_tag_holds(rt: HostRuntime) {
     reads_tagged(

@@ -13,7 +13,7 @@ fn passes(rt: &impl Abort, alloc: Global, rows: &[Row]) {
     }
 }
 
-// A turn goes for each value inside one of indefinite length, and for each pair of closing octets (X.690 8.1.5).
+// A turn goes for each value inside one of indefinite length, and for each pair of end-of-contents octets (X.690 8.1.5).
 #[test]
 fn passes_values(rt: HostRuntime) {
     passes(

@@ -20,7 +20,7 @@ fn small() -> Constraints {
     within(0, 10)
 }
 
-// Where the contents end or another tag comes there is no value, and what comes stays. Closing octets end contents under BER
+// Where the contents end or another tag comes there is no value, and what comes stays. End-of-contents octets end contents under BER
 // and CER (X.690 8.1.5).
 #[test]
 fn leaves_what_is_no_value(rt: HostRuntime) {

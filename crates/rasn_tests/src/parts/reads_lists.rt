@@ -5,7 +5,7 @@ use rasn_types::types::{Bound, Bounded, Class, Codec, Constraints, Tag};
 
 const INDEFINITE: &[u8] = &[0x30, 0x80, 0x02, 0x01, 0x05, 0x02, 0x01, 0x07, 0x00, 0x00];
 
-// Closing octets end a list of indefinite length, which DER doesn't have (X.690 8.1.3.6, 10.1).
+// End-of-contents octets end a list of indefinite length, which DER doesn't have (X.690 8.1.3.6, 10.1).
 #[test]
 fn reads_lists(rt: HostRuntime) {
     let definite = &[0x30, 0x06, 0x02, 0x01, 0x05, 0x02, 0x01, 0x07];
@@ -25,7 +25,7 @@ fn reads_lists(rt: HostRuntime) {
     );
 }
 
-// Closing octets end no definite contents, and have to end indefinite ones.
+// End-of-contents octets end no definite contents, and have to end indefinite ones.
 #[test]
 fn asks_for_closing_octets(rt: HostRuntime) {
     let closing = "CodecSpecific { inner: Ber(UnexpectedEndOfContents) }";

@@ -71,7 +71,7 @@ const NOT_GATHERED: [Row; 9] = [
         "MissingField { name: \"zero\" }",
         8,
     ),
-    // A component that comes twice is told before one that doesn't come, and both before closing octets that are missing.
+    // A component that comes twice is told before one that doesn't come, and both before end-of-contents octets that are missing.
     (
         &[0x31, 0x80, 0x82, 0x01, 0x01, 0x82, 0x01, 0x01],
         Codec::Ber,

@@ -145,11 +145,11 @@ pub enum BerDecodeErrorKind {
     /// An arc of 2^32 or more (X.690 8.19).
     #[error("an arc of 2^32 or more")]
     UnsupportedObjectIdentifierArc,
-    /// Closing octets stand where a value has to (X.690 8.1.5).
-    #[error("closing octets in the place of a value")]
+    /// End-of-contents octets stand where a value has to (X.690 8.1.5).
+    #[error("end-of-contents octets in the place of a value")]
     UnexpectedEndOfContents,
-    /// A value stands where closing octets have to (X.690 8.1.5).
-    #[error("closing octets are missing")]
+    /// A value stands where end-of-contents octets have to (X.690 8.1.5).
+    #[error("end-of-contents octets are missing")]
     MissingEndOfContents,
     /// The indefinite form isn't allowed here (X.690 8.1.3.2, 10.1).
     #[error("the indefinite form isn't allowed")]

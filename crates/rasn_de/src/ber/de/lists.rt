@@ -67,7 +67,7 @@ impl<'input> Decoder<'input> {
     /// # Errors
     /// `ExceedsMaxParseDepth` before the header; framing faults; with the value taken, `InvalidConstructedIdentifier` and
     /// `SizeConstraintNotSatisfied`; what an element refuses, and `UnexpectedExtraData` at one that takes nothing, which take header and
-    /// contents, or of an indefinite length the header; closing octets that are missing, which take what was read inside too.
+    /// contents, or of an indefinite length the header; end-of-contents octets that are missing, which take what was read inside too.
     pub fn decode_sequence_of<D: Decode>(
         &mut self,
         tag: Tag,

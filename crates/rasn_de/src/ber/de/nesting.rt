@@ -111,7 +111,7 @@ impl<'input> Decoder<'input> {
         }
     }
 
-    /// Whether the contents end: nothing is left, or closing octets come where they may.
+    /// Whether the contents end: nothing is left, or end-of-contents octets come where they may.
     pub(super) fn has_ended(&self) -> bool
         ensures { MatchBool result (Ended self.now.closing self.now.rest) (Ended self.now.closing self.now.rest → ⊥) }
     {

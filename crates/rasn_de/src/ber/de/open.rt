@@ -13,7 +13,7 @@ use rasn_types::types::{Any, Tag};
 
 impl<'input> Decoder<'input> {
     /// A value of an open type, kept as its octets (X.680 30): with a tag the contents of the one value of this tag, in either
-    /// length form and without closing octets; with `Tag::EOC` one whole encoding, closing octets included. What it holds may be
+    /// length form and without end-of-contents octets; with `Tag::EOC` one whole encoding, end-of-contents octets included. What it holds may be
     /// nested to any depth, and is spelled as under BER, but for the indefinite form, which DER never has.
     ///
     /// # Errors
@@ -35,7 +35,7 @@ impl<'input> Decoder<'input> {
     }
 
     /// Passes one whole encoding at any depth (X.690 8.1.1.1), in constant memory. Answers how many turns this took, which are at
-    /// most half as many as the octets: one for each closing octets that it passed, and one for each value inside with a definite
+    /// most half as many as the octets: one for each end-of-contents octets that it passed, and one for each value inside with a definite
     /// length or header of indefinite length; none for a value of definite length.
     ///
     /// # Errors

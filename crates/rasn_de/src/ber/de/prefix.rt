@@ -16,7 +16,7 @@ impl<'input> Decoder<'input> {
     ///
     /// # Errors
     /// `ExceedsMaxParseDepth` before the header; framing faults; what the value refuses, and `UnexpectedExtraData`, which take header and
-    /// contents, or of an indefinite length the header; closing octets that are missing (`Incomplete`, `MissingEndOfContents`), which take
+    /// contents, or of an indefinite length the header; end-of-contents octets that are missing (`Incomplete`, `MissingEndOfContents`), which take
     /// what was read inside too.
     pub fn decode_explicit_prefix<D: Decode>(&mut self, tag: Tag) -> Result<D, DecodeError>
         ensures called { ReadInside (Decodes D.shape D.tree) (prefix_door tag) self.old result self.new }

@@ -37,7 +37,7 @@ impl<'input> Decoder<'input> {
     /// # Errors
     /// `ExceedsMaxParseDepth` before the header; framing faults; with the value taken, `InvalidConstructedIdentifier`; what `f`
     /// or the initializer refuses, `UnexpectedEmptyInput` where an initializer is wanted and none is handed in, and
-    /// `UnexpectedExtraData`, which take header and contents, or of an indefinite length the header; closing octets that are
+    /// `UnexpectedExtraData`, which take header and contents, or of an indefinite length the header; end-of-contents octets that are
     /// missing (`Incomplete`, `MissingEndOfContents`), which take what was read inside too.
     pub fn decode_sequence<
         const RC: usize,

@@ -62,7 +62,7 @@ impl<'input> Decoder<'input> {
     /// `ExceedsMaxParseDepth` before the header; framing faults; with the value taken, `InvalidConstructedIdentifier`; what a
     /// component refuses, `UnexpectedExtraData` at one that takes nothing, under DER faults of the next identifier and
     /// `SetComponentsOutOfOrder` before the component is read, and what `f` refuses, which take header and contents, or of an
-    /// indefinite length the header; closing octets that are missing (`Incomplete`, `MissingEndOfContents`), which take what was
+    /// indefinite length the header; end-of-contents octets that are missing (`Incomplete`, `MissingEndOfContents`), which take what was
     /// read inside too.
     pub fn decode_set<
         const RL: usize,

@@ -97,7 +97,7 @@ pub fn gather_octets(
     Ok(total)
 }
 
-// How many closing octets a rule has.
+// How many end-of-contents octets a rule has.
 fn back_len(rule: Codec) -> usize
     ensures count { result ≡ length (back rule) }
     ensures small { result < 3 }

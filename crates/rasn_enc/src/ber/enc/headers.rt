@@ -7,7 +7,7 @@ ghost use Rattle.rasn_enc.specs.Headers.{digits, octet_count, id_octets, length_
 use super::base_128::{count_groups, group_octet, write_groups};
 use rasn_types::types::{Class, Tag};
 
-/// The first octet of a length that isn't told, which closing octets end (X.690 8.1.3.6).
+/// The first octet of a length that isn't told, which end-of-contents octets end (X.690 8.1.3.6).
 pub const INDEFINITE_LENGTH: u8 = 128;
 
 /// How many octets the identifier of a tag takes.

@@ -16,7 +16,7 @@ pub enum Head {
     Unfinished,
     /// An identifier, and the length of the contents.
     Definite(Tag, usize),
-    /// An identifier, where closing octets end the contents.
+    /// An identifier, where end-of-contents octets end the contents.
     Indefinite(Tag),
     /// The octets that do.
     Closing,
@@ -24,11 +24,11 @@ pub enum Head {
     Part(u8, Tag, usize),
     /// So many first octets of an indefinite one.
     PartIndefinite(u8, Tag),
-    /// The first of two closing octets.
+    /// The first of two end-of-contents octets.
     Zero,
 }
 
-/// Where in the gathered octets a header or closing octets stand.
+/// Where in the gathered octets a header or end-of-contents octets stand.
 #[derive(Clone, Copy, Drop)]
 pub struct Mark {
     pub at: usize,
@@ -73,7 +73,7 @@ fn least(a: usize, b: usize) -> usize
     if a < b { a } else { b }
 }
 
-// Puts behind all a mark for closing octets where the rule has them.
+// Puts behind all a mark for end-of-contents octets where the rule has them.
 fn close(marks: &mut Vec<Mark>, rule: Codec, end: usize) -> Result<(), AllocError>
     ensures ok { OnOk result (marks.new.items ≡ marks.old.items ++ closing rule end) }
     ensures err { OnErr result (marks.new.items ≡ marks.old.items) }

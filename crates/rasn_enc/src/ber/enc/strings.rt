@@ -1,7 +1,7 @@
-//! Writing character strings (X.690 8.23).
+//! Writing OCTET STRING and character strings (X.690 8.7, 8.23).
 ghost use Rattle.std.specs.Prelude.{◌≡◌, chars, length, IfErr, OnOk, OnErr};
 ghost use Rattle.rasn_types.specs.Characters.{kind_of, units_of};
-ghost use Rattle.rasn_types.specs.Shapes.{leaf, numbers, numeric, printable, visible, ia5, any_octets, bmp, utf8};
+ghost use Rattle.rasn_types.specs.Shapes.{leaf, numbers, octet_string, numeric, printable, visible, ia5, any_octets, bmp, utf8};
 ghost use Rattle.rasn_enc.specs.Refusals.{RefusesString};
 ghost use Rattle.rasn_enc.specs.Texts.{IsCounted};
 ghost use Rattle.rasn_enc.specs.Wrote.{Wrote};
@@ -25,6 +25,24 @@ fn character_count(constraints: &Constraints, text: &str) -> usize
 }
 
 impl Encoder {
+    /// Writes an OCTET STRING (X.690 8.7). The canonical rules write more than 1000 octets in segments (9.2). The name is ignored.
+    ///
+    /// # Errors
+    /// `SizeConstraintNotSatisfied` where the number of octets is out of its bound, else `OutOfMemory` alone.
+    pub fn encode_octet_string(
+        &mut self,
+        tag: Tag,
+        constraints: &Constraints,
+        value: &[u8],
+        _identifier: Identifier,
+    ) -> Result<(), EncodeError>
+        ensures ok { OnOk result (Wrote (leaf octet_string tag constraints.now) (numbers value.now) self.old self.new) }
+        ensures err { OnErr result (self.new ≡ self.old) }
+        ensures refused { IfErr result (RefusesString constraints.now (length value.now) self.old.rule) }
+    {
+        self.string(tag, constraints, value, value.len())
+    }
+
     /// Writes a VisibleString (X.690 8.23). The canonical rules write more than 1000 octets in segments (9.2). The name is ignored.
     ///
     /// # Errors

@@ -1,6 +1,6 @@
 //! Where values are written: the output, and a list for each value that is still open.
 //!
-//! Primitive values are gathered whole, one behind the other, in one vector. Headers and closing octets of values that hold others
+//! Primitive values are gathered whole, one behind the other, in one vector. Headers and end-of-contents octets of values that hold others
 //! aren't in it: marks tell what stands between the gathered octets. They are put in once, from the back, when the output is asked for.
 ghost use Rattle.std.specs.Prelude.{ℕ, List, ◌≡◌, ◌<◌, ◌≤◌, ◌-◌, [], ◌⊎◌, length, MatchBool, take, drop, IfOk, IfErr, OnOk, OnErr, false};
 ghost use Rattle.std.specs.Fn.{FnOnceTakesAtMut};

@@ -6,7 +6,7 @@ ghost use Rattle.rasn_de.specs.Views.{Gives, extent};
 
 use crate::ber::de::parser::{Contents, Fault};
 
-/// Whether contents end: nothing is left, or closing octets come where they may.
+/// Whether contents end: nothing is left, or end-of-contents octets come where they may.
 pub(crate) fn has_ended(closing: bool, input: &[u8]) -> bool
     ensures { MatchBool result (Ended closing input.now) (Ended closing input.now → ⊥) }
 {
@@ -17,7 +17,7 @@ pub(crate) fn has_ended(closing: bool, input: &[u8]) -> bool
     }
 }
 
-/// What follows the closing octets.
+/// What follows the end-of-contents octets.
 #[tactic(auto, unfolding(crate::specs::Strings::closed_at))]
 pub fn end_of_contents(input: &[u8]) -> Result<&[u8], Fault>
     ensures { Gives (λ r. r.now) result (closed_at input.now) }

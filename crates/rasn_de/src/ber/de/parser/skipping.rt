@@ -25,7 +25,7 @@ fn read_any_value(rule: Codec, input: &[u8]) -> Result<(Value<'_>, &[u8]), Fault
     read_value(Spelling::loose(rule), Expected::AnyTag, input)
 }
 
-/// What follows closing octets, where these come.
+/// What follows end-of-contents octets, where these come.
 fn after_closing(input: &[u8]) -> Option<&[u8]>
     ensures { MatchOption result ((more : List ℕ) → input.now ≡ 0 ∷ 0 ∷ more → ⊥) (λ after. input.now ≡ 0 ∷ 0 ∷ after.now) }
 {
@@ -35,8 +35,8 @@ fn after_closing(input: &[u8]) -> Option<&[u8]>
     }
 }
 
-/// Passes the contents of a value of indefinite length, which are whole encodings, and their closing octets, with a count of
-/// the values that are open. Answers how many turns it took, and what follows: a turn passes closing octets, or a header with
+/// Passes the contents of a value of indefinite length, which are whole encodings, and their end-of-contents octets, with a count of
+/// the values that are open. Answers how many turns it took, and what follows: a turn passes end-of-contents octets, or a header with
 /// its definite contents.
 pub fn skip_contents(rule: Codec, input: &[u8]) -> Result<(usize, &[u8]), Fault>
     ensures exact { Exactly (Closed rule input.now) (IsStuck rule input.now) (passed result) }
@@ -86,7 +86,7 @@ fn read_encoding(rule: Codec, input: &[u8]) -> Result<(&[u8], &[u8]), Fault>
     Ok((text, after))
 }
 
-/// The contents of the one value of this tag, closing octets not included, and what follows the value.
+/// The contents of the one value of this tag, end-of-contents octets not included, and what follows the value.
 fn read_tagged(rule: Codec, tag: Tag, input: &[u8]) -> Result<(&[u8], &[u8]), Fault>
     ensures { OpenAt rule (Some tag) input.now (as_lists result) }
 {
