@@ -1,8 +1,7 @@
 -- What a tree that DER reads owes to be written: it meets the depth, and a default is the same as what stands for it.
 use Rattle.std.proofs.Common.{◌≡◌, ℕ, suc, ◌-◌, ◌<◌, ◌⊎◌, ◌≢◌, inl, inr, List, [], ◌∷◌, refl, sym, ◌∙◌, subst, arith, Some, None}
-use Rattle.std.proofs.lemmas.List.Sorted.{IsPermutation-refl}
 use Rattle.rasn_types.specs.declared.types.rules.Codec.TheVariants.{Der}
-use Rattle.rasn_types.specs.Shapes.{Tree, joined, done, items, walk, chosen, absent, Shape, leaf, any, prefix, choice, option, seq, set, list, bag, Parts, part, Presence, required, optional, addition, default}
+use Rattle.rasn_types.specs.Shapes.{Tree, joined, items, walk, chosen, absent, Shape, leaf, any, prefix, choice, option, seq, set, list, bag, Parts, part, Presence, required, optional, addition, default}
 use Rattle.rasn_types.specs.Shapes.Parts.{none}
 use Rattle.rasn_types.specs.Grammar.{family}
 use Rattle.rasn_types.specs.Bytes.{Same, Each, WritesPart, PartsWritten, WritesChoice, Bytes, fields_of}

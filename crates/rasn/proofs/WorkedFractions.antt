@@ -6,7 +6,7 @@ use Rattle.rasn_types.specs.Grammar.{Reads, parts_of}
 use Rattle.rasn_types.specs.Bytes.{Bytes, fields_of}
 use Rattle.rasn_types.specs.Carried.{Meets, Carried}
 use Rattle.rasn_types.specs.Lawful.{IsLawful}
-use Rattle.rasn.specs.Worked.{IsLenient, plain, leap}
+use Rattle.rasn.specs.Worked.{IsLenient, plain}
 use Rattle.rasn.proofs.Headers.{no_eoc, octets_read, short_written}
 use Rattle.rasn.proofs.WorkedLenient.{lenient}
 use Rattle.rasn.proofs.StrictTimes.{generalized_written}

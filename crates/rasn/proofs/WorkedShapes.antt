@@ -3,9 +3,9 @@ use Rattle.std.proofs.Common.{◌≡◌, ℕ, ◌<◌, ◌⊎◌, ◌≢◌, inl
 use Rattle.rasn_types.specs.Tags.{eoc, in_universal, IsTagBelow}
 use Rattle.rasn_types.specs.declared.types.tag.Tag.{Tag}
 use Rattle.rasn_types.specs.declared.types.tag.Class.TheVariants.{Universal, Application}
-use Rattle.rasn_types.specs.Shapes.{integer, every, object_identifier, boolean, octet_string, utc_time, generalized_time}
+use Rattle.rasn_types.specs.Shapes.{integer, every, object_identifier, boolean, octet_string}
 use Rattle.rasn_types.specs.Lawful.{IsLawful}
-use Rattle.rasn.specs.WorkedShapes.{plain, contextual, pair, named, either_time, validity, three_of_set, bag_of_octets, algorithm, relative_name, seven, extended, mixed, perhaps_bool, LawfulShapes}
+use Rattle.rasn.specs.WorkedShapes.{plain, contextual, either_time, validity, three_of_set, bag_of_octets, algorithm, relative_name, seven, extended, mixed, LawfulShapes}
 use Rattle.rasn.proofs.Headers.{no_eoc, context_apart}
 
 application_apart : (n : ℕ) → record { class = Application; value = n } ≢ eoc

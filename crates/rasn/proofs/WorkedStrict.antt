@@ -3,7 +3,7 @@ use Rattle.std.proofs.Common.{◌≡◌, ℕ, inl, inr, List, [], ◌∷◌, tru
 use Rattle.rasn_types.specs.Tags.{Form, HasStrictForm, loose_form, in_universal}
 use Rattle.rasn_types.specs.declared.types.rules.Codec.TheVariants.{Ber, Der}
 use Rattle.rasn_types.specs.Framing.{AreOctets, Frame, with_length, definite, plain as whole}
-use Rattle.rasn_types.specs.Shapes.{number, numbers, instant, any, generalized_time}
+use Rattle.rasn_types.specs.Shapes.{numbers, instant, any, generalized_time}
 use Rattle.rasn_types.specs.Grammar.{Reads, parts_of}
 use Rattle.rasn_types.specs.Bytes.{Bytes, fields_of}
 use Rattle.rasn_types.specs.Carried.{Meets, Carried}
