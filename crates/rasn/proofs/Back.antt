@@ -6,11 +6,11 @@ use Rattle.rasn_types.specs.declared.types.rules.Codec.{Codec}
 use Rattle.rasn_types.specs.declared.types.rules.Codec.TheVariants.{Ber, Cer, Der}
 use Rattle.rasn_types.specs.declared.types.tag.Tag.{Tag}
 use Rattle.rasn_types.specs.Framing.{Frame, with_length, definite, Whole, plain, Wholes, none, one_more}
-use Rattle.rasn_types.specs.Shapes.{Tree, numbers, items, walk, absent, Admits, Shape, leaf, any, prefix, choice, option, seq, set, list, bag, Parts, part, own, IsSolid}
+use Rattle.rasn_types.specs.Shapes.{Tree, numbers, items, walk, absent, Admits, Shape, leaf, any, prefix, choice, option, seq, set, list, set_of, Parts, part, own, IsSolid}
 use Rattle.rasn_types.specs.declared.types.constraints.Bound.{Bound}
 use Rattle.rasn_types.specs.Readers.{IsLeftOut, IsThere, Reading, Many, ReadFrom, ReadsSeq, ReadsSet}
 use Rattle.rasn_types.specs.Contents.{joined_lists}
-use Rattle.rasn_types.specs.Grammar.{Reads, parts_of, ReadsOpen, ReadsList, ReadsBag}
+use Rattle.rasn_types.specs.Grammar.{Reads, parts_of, ReadsOpen, ReadsList, ReadsSetOf}
 use Rattle.rasn_types.specs.Bytes.{Same, Cons, Each, Bytes, fields_of}
 use Rattle.rasn_types.specs.Carried.{Meets, MeetsParts, EachOf, Carried}
 use Rattle.rasn_types.specs.Lawful.{IsLawful, AreAlternatives, AreLawfulInOrder, AreLawfulByTag}
@@ -113,21 +113,21 @@ list_back rule tag one s size solid depth back t b (deep, us, e, ms) (ts, bs, f,
       ),
     )
 
-bag_back : (rule : Codec) (tag : Tag) → tag ≢ eoc → (s : Shape) (size : Option (Bound ℕ)) → IsSolid s → (depth : ℕ) → IsBack rule s (depth - 2) → IsBack rule (bag tag s size) depth
+set_of_back : (rule : Codec) (tag : Tag) → tag ≢ eoc → (s : Shape) (size : Option (Bound ℕ)) → IsSolid s → (depth : ℕ) → IsBack rule s (depth - 2) → IsBack rule (set_of tag s size) depth
 unfolding Reads parts_of Bytes fields_of Meets
-bag_back rule tag one s size solid depth back t b (deep, us, e, ms) (ts, bs, f, within, ws, order, c) =
+set_of_back rule tag one s size solid depth back t b (deep, us, e, ms) (ts, bs, f, within, ws, order, c) =
     go (elements rule s solid (depth - 2) back ts us bs (walk_one us ts (sym e ∙ f)) ms ws)
   where
     walk_one : (us ts : List Tree) → walk (items us) ≡ walk (items ts) → items us ≡ items ts
     walk_one us ts e = cc
 
-    go : Elements rule s (depth - 2) ts bs → (u : Tree) × Same t u × ((rest : List ℕ) (closing : Bool) → Reads rule (bag tag s size) depth closing (b ++ rest) u rest)
+    go : Elements rule s (depth - 2) ts bs → (u : Tree) × Same t u × ((rest : List ℕ) (closing : Bool) → Reads rule (set_of tag s size) depth closing (b ++ rest) u rest)
     go (vs, alike, r, from) = (
       walk (items vs),
       subst (λ x. Same x (walk (items vs))) (sym f) (vs, vs, refl, IsPermutation-refl vs, each_same ts vs alike),
       λ rest closing. (
         deep,
-        cons_back rule tag one (joined_lists bs) b c (λ c. ReadsBag rule size (Reads rule s (depth - 2) c) c) (walk (items vs))
+        cons_back rule tag one (joined_lists bs) b c (λ c. ReadsSetOf rule size (Reads rule s (depth - 2) c) c) (walk (items vs))
             (λ closing tail z. (
               vs,
               refl,
@@ -213,7 +213,7 @@ mutual
   back (seq tag ps) solid lawful rule depth = in_seq_back rule tag lawful.0 ps depth lawful.1 (each_back ps (in_order_good ps lawful.1) rule (depth - 1))
   back (set tag ps) solid lawful rule depth = in_set_back rule tag lawful.0 ps depth (by_tag_tagged ps lawful.1) (each_back ps (by_tag_good ps lawful.1) rule (depth - 1))
   back (list tag s size) solid lawful rule depth = list_back rule tag lawful.0 s size lawful.1 depth (back s lawful.1 lawful.2 rule (depth - 2))
-  back (bag tag s size) solid lawful rule depth = bag_back rule tag lawful.0 s size lawful.1 depth (back s lawful.1 lawful.2 rule (depth - 2))
+  back (set_of tag s size) solid lawful rule depth = set_of_back rule tag lawful.0 s size lawful.1 depth (back s lawful.1 lawful.2 rule (depth - 2))
 
   each_back : (ps : Parts) → EachGood ps → (rule : Codec) (depth : ℕ) → EachBack rule depth ps
   each_back Parts.none good rule depth = tt

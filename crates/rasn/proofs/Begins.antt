@@ -4,7 +4,7 @@ use Rattle.rasn_types.specs.Tags.{Form, form, loose}
 use Rattle.rasn_types.specs.declared.types.rules.Codec.{Codec}
 use Rattle.rasn_types.specs.declared.types.tag.Tag.{Tag}
 use Rattle.rasn_types.specs.Framing.{Next}
-use Rattle.rasn_types.specs.Shapes.{Tree, Kind, Shape, leaf, any, prefix, choice, option, seq, set, list, bag, Parts, part, IsFirst, IsFirstOf, IsSolid, AreSolid}
+use Rattle.rasn_types.specs.Shapes.{Tree, Kind, Shape, leaf, any, prefix, choice, option, seq, set, list, set_of, Parts, part, IsFirst, IsFirstOf, IsSolid, AreSolid}
 use Rattle.rasn_types.specs.Shapes.Parts.{none}
 use Rattle.rasn_types.specs.Readers.{Reading, Inside, in_definite, in_indefinite, ReadsChoice, IsLeftOut, IsThere}
 use Rattle.rasn_types.specs.Contents.{Str, ReadBits, OctetSegment}
@@ -55,7 +55,7 @@ begins (option tag s) solid has rule depth closing input t rest h = absurd solid
 begins (seq tag ps) solid has rule depth closing input t rest h = (tag, inside_next h.1, refl)
 begins (set tag ps) solid has rule depth closing input t rest h = (tag, inside_next h.1, refl)
 begins (list tag s size) solid has rule depth closing input t rest h = (tag, inside_next h.1, refl)
-begins (bag tag s size) solid has rule depth closing input t rest h = (tag, inside_next h.1, refl)
+begins (set_of tag s size) solid has rule depth closing input t rest h = (tag, inside_next h.1, refl)
 
 pub tagged : (s : Shape) → HasTag s ⊎ (s ≡ any None)
 tagged (any None) = inr refl
@@ -67,7 +67,7 @@ tagged (option tag s) = inl tt
 tagged (seq tag ps) = inl tt
 tagged (set tag ps) = inl tt
 tagged (list tag s size) = inl tt
-tagged (bag tag s size) = inl tt
+tagged (set_of tag s size) = inl tt
 
 -- Some identifier comes, in a spelling of some form: open octets without a tag stay lenient.
 abbrev pub Comes : List ℕ → Type 0
@@ -111,7 +111,7 @@ mutual
   solid_closing (seq tag ps) solid rule depth c d input t rest h = h
   solid_closing (set tag ps) solid rule depth c d input t rest h = h
   solid_closing (list tag s size) solid rule depth c d input t rest h = h
-  solid_closing (bag tag s size) solid rule depth c d input t rest h = h
+  solid_closing (set_of tag s size) solid rule depth c d input t rest h = h
 
   some_closing : (ps : Parts) → AreSolid ps → (k : ℕ) (rule : Codec) (depth : ℕ) (c d : Bool) (input : List ℕ) (t : Tree) (rest : List ℕ)
       → ReadsChoice (form rule) k (parts_of rule ps depth c) input t rest → ReadsChoice (form rule) k (parts_of rule ps depth d) input t rest

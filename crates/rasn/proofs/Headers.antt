@@ -10,7 +10,7 @@ use Rattle.rasn_types.specs.declared.types.rules.Codec.{Codec}
 use Rattle.rasn_types.specs.Shapes.{Tree, Kind}
 use Rattle.rasn_types.specs.Contents.{Contents, IsShortest, Str, ReadBits, OctetSegment}
 use Rattle.rasn_types.specs.Grammar.{Family, ReadsIn}
-use Rattle.rasn_types.proofs.Frames.{not_ended}
+use Rattle.rasn_types.proofs.Frames.{not_ended, rank_small, bit_small}
 use Rattle.rasn.specs.WorkedShapes.{contextual}
 
 pub no_eoc : (n : ℕ) → 0 < n → in_universal n ≢ eoc
@@ -85,17 +85,7 @@ pub spelled : (c : Class) (n : ℕ) (bit : Bool) → n < 31 → AnyIdSpells ((64
 spelled c n bit h = record { low = n; leading = refl; number = inl (h, refl, refl) }
 
 pub first_octet : (c : Class) (n : ℕ) (bit : Bool) → n < 31 → 64 * rank c + (32 * bit_of bit + n) < 256
-first_octet c n bit h = omega (arith, rank_below c, bit_below bit)
-  where
-    rank_below : (c : Class) → rank c < 4
-    rank_below Universal = omega arith
-    rank_below Application = omega arith
-    rank_below Context = omega arith
-    rank_below Private = omega arith
-
-    bit_below : (bit : Bool) → bit_of bit < 2
-    bit_below true = omega arith
-    bit_below false = omega arith
+first_octet c n bit h = omega (arith, rank_small c, bit_small bit)
 
 pub tag_begins : (c : Class) (n : ℕ) (bit : Bool) (rest : List ℕ) → n < 31 → Begins ((64 * rank c + (32 * bit_of bit + n)) ∷ rest) (record { class = c; value = n })
 tag_begins c n bit rest h = record { id = (64 * rank c + (32 * bit_of bit + n)) ∷ []; bit = bit; more = rest; spells = spelled c n bit h; is = refl }

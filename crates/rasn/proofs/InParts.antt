@@ -4,7 +4,7 @@ use Rattle.rasn_types.specs.Tags.{Form, form, eoc}
 use Rattle.rasn_types.specs.declared.types.rules.Codec.{Codec}
 use Rattle.rasn_types.specs.declared.types.tag.Tag.{Tag}
 use Rattle.rasn_types.specs.Framing.{Next, Ended}
-use Rattle.rasn_types.specs.Shapes.{Tree, items, chosen, absent, Shape, leaf, any, prefix, choice, option, seq, set, list, bag, Parts, part, own, IsFirst, Presence, required, optional, addition, default, IsSolid}
+use Rattle.rasn_types.specs.Shapes.{Tree, items, chosen, absent, Shape, leaf, any, prefix, choice, option, seq, set, list, set_of, Parts, part, own, IsFirst, Presence, required, optional, addition, default, IsSolid}
 use Rattle.rasn_types.specs.Shapes.Parts.{none}
 use Rattle.rasn_types.specs.Readers.{IsLeftOut, IsThere, Part, ReadsPart, InOrder, IsMissing, AllMissing, HasRequired, IsBare, ReadsSeq, ReadsChoice}
 use Rattle.rasn_types.specs.Contents.{joined_lists}
@@ -42,7 +42,7 @@ own_first (option o s) solid tag n e h = absurd solid
 own_first (seq t ps) solid tag n e h = cc
 own_first (set t ps) solid tag n e h = cc
 own_first (list t s size) solid tag n e h = cc
-own_first (bag t s size) solid tag n e h = cc
+own_first (set_of t s size) solid tag n e h = cc
 
 -- The contents end, or one of the parts comes.
 abbrev pub IsFollowed : Form → Parts → Bool → List ℕ → Type 0

@@ -5,11 +5,11 @@ use Rattle.rasn_types.specs.declared.types.rules.Codec.{Codec}
 use Rattle.rasn_types.specs.declared.types.rules.Codec.TheVariants.{Ber, Cer, Der}
 use Rattle.rasn_types.specs.declared.types.tag.Tag.{Tag}
 use Rattle.rasn_types.specs.Framing.{Frame, with_length, without_length, Extent, Next, Whole, plain, closed, Wholes, none, one_more}
-use Rattle.rasn_types.specs.Shapes.{Tree, absent, Kind, boolean, null, object_identifier, integer, enumerated, octet_string, fixed, numeric, printable, visible, ia5, any_octets, bmp, utf8, utc_time, generalized_time, date, Shape, leaf, any, prefix, choice, option, seq, set, list, bag, Parts, part, own, Presence, required, optional, addition, default, IsSolid, AreSolid}
+use Rattle.rasn_types.specs.Shapes.{Tree, absent, Kind, boolean, null, object_identifier, integer, enumerated, octet_string, fixed, numeric, printable, visible, ia5, any_octets, bmp, utf8, utc_time, generalized_time, date, Shape, leaf, any, prefix, choice, option, seq, set, list, set_of, Parts, part, own, Presence, required, optional, addition, default, IsSolid, AreSolid}
 use Rattle.rasn_types.specs.declared.types.constraints.Bound.{Bound}
 use Rattle.rasn_types.specs.Readers.{Reading, Inside, in_definite, in_indefinite, Many, IsLeftOut, IsThere, Perhaps, IsNoDefault, ReadsPart, InOrder, AllMissing, HasRequired, ReadsSeq, ReadsChoice, ByPart, ReadsSet}
 use Rattle.rasn_types.specs.Contents.{Str, ReadBits, OctetSegment, Contents, IsBool}
-use Rattle.rasn_types.specs.Grammar.{Reads, parts_of, top, Family, bit_family, text_family, family, ReadsIn, ReadsOpen, ReadsList, ReadsBag, Text}
+use Rattle.rasn_types.specs.Grammar.{Reads, parts_of, top, Family, bit_family, text_family, family, ReadsIn, ReadsOpen, ReadsList, ReadsSetOf, Text}
 use Rattle.rasn_types.specs.Lawful.{IsLawful, AreAlternatives}
 use Rattle.rasn.proofs.TimeTexts.{utc_in, generalized_in}
 use Rattle.rasn.proofs.Begins.{solid_closing, wider}
@@ -184,8 +184,8 @@ set_in ps rule depth c into closing input t rest (rs, ts, e, m, b, z) =
 list_in : (size : Option (Bound ℕ)) (reads wide : Reading Tree) → IsIn reads wide → (closing : Bool) → IsIn (ReadsList size reads closing) (ReadsList size wide closing)
 list_in size reads wide into closing input t rest (ts, e, b, m) = (ts, e, b, many_in reads wide into closing input ts rest m)
 
-bag_in : (rule : Codec) (size : Option (Bound ℕ)) (reads wide : Reading Tree) → IsIn reads wide → (closing : Bool) → IsIn (ReadsBag rule size reads closing) (ReadsBag Ber size wide closing)
-bag_in rule size reads wide into closing input t rest (ts, e, b, m, z) = (ts, e, b, many_in reads wide into closing input ts rest m, λ s. absurd s)
+set_of_in : (rule : Codec) (size : Option (Bound ℕ)) (reads wide : Reading Tree) → IsIn reads wide → (closing : Bool) → IsIn (ReadsSetOf rule size reads closing) (ReadsSetOf Ber size wide closing)
+set_of_in rule size reads wide into closing input t rest (ts, e, b, m, z) = (ts, e, b, many_in reads wide into closing input ts rest m, λ s. absurd s)
 
 mutual
   unfolding Reads parts_of
@@ -213,10 +213,10 @@ mutual
     inside_in (λ c. ReadsList size (Reads rule s (depth - 2) c) c) (λ c. ReadsList size (Reads Ber s (depth - 2) c) c)
         (λ c. list_in size (Reads rule s (depth - 2) c) (Reads Ber s (depth - 2) c) (reads_in s rule (depth - 2) c) c) input t rest h.1,
   )
-  reads_in (bag tag s size) rule depth closing = λ input t rest h. (
+  reads_in (set_of tag s size) rule depth closing = λ input t rest h. (
     h.0,
-    inside_in (λ c. ReadsBag rule size (Reads rule s (depth - 2) c) c) (λ c. ReadsBag Ber size (Reads Ber s (depth - 2) c) c)
-        (λ c. bag_in rule size (Reads rule s (depth - 2) c) (Reads Ber s (depth - 2) c) (reads_in s rule (depth - 2) c) c) input t rest h.1,
+    inside_in (λ c. ReadsSetOf rule size (Reads rule s (depth - 2) c) c) (λ c. ReadsSetOf Ber size (Reads Ber s (depth - 2) c) c)
+        (λ c. set_of_in rule size (Reads rule s (depth - 2) c) (Reads Ber s (depth - 2) c) (reads_in s rule (depth - 2) c) c) input t rest h.1,
   )
 
   parts_in : (ps : Parts) (rule : Codec) (depth : ℕ) (c : Bool) → EachIn rule depth c ps
@@ -244,7 +244,7 @@ solid_of (option tag s) lawful = inr (tag, s, refl, lawful.1)
 solid_of (seq tag ps) lawful = inl tt
 solid_of (set tag ps) lawful = inl tt
 solid_of (list tag s size) lawful = inl tt
-solid_of (bag tag s size) lawful = inl tt
+solid_of (set_of tag s size) lawful = inl tt
 
 -- What a rule reads at its top, BER reads at its top.
 pub included : (s : Shape) → IsLawful s → (rule : Codec) (depth : ℕ) (input : List ℕ) (t : Tree) (rest : List ℕ)

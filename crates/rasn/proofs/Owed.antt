@@ -1,7 +1,7 @@
 -- What a tree that DER reads owes to be written: it meets the depth, and a default is the same as what stands for it.
 use Rattle.std.proofs.Common.{◌≡◌, ℕ, suc, ◌-◌, ◌<◌, ◌⊎◌, ◌≢◌, inl, inr, List, [], ◌∷◌, refl, sym, ◌∙◌, subst, arith, Some, None}
 use Rattle.rasn_types.specs.declared.types.rules.Codec.TheVariants.{Der}
-use Rattle.rasn_types.specs.Shapes.{Tree, joined, items, walk, chosen, absent, Shape, leaf, any, prefix, choice, option, seq, set, list, bag, Parts, part, Presence, required, optional, addition, default}
+use Rattle.rasn_types.specs.Shapes.{Tree, joined, items, walk, chosen, absent, Shape, leaf, any, prefix, choice, option, seq, set, list, set_of, Parts, part, Presence, required, optional, addition, default}
 use Rattle.rasn_types.specs.Shapes.Parts.{none}
 use Rattle.rasn_types.specs.Grammar.{family}
 use Rattle.rasn_types.specs.Bytes.{Same, Each, WritesPart, PartsWritten, WritesChoice, Bytes, fields_of}
@@ -27,7 +27,7 @@ unfoldable mutual
   Owes (seq tag ps) depth t = (0 < depth) × (ts : List Tree) × (t ≡ items ts) × OwesParts ps (depth - 1) ts
   Owes (set tag ps) depth t = (0 < depth) × (ts : List Tree) × (t ≡ items ts) × OwesParts ps (depth - 1) ts
   Owes (list tag s size) depth t = (0 < depth) × (ts : List Tree) × (t ≡ items ts) × EachOf (Owes s (depth - 2)) ts
-  Owes (bag tag s size) depth t = (0 < depth) × (ts : List Tree) × (t ≡ walk (items ts)) × EachOf (Owes s (depth - 2)) ts
+  Owes (set_of tag s size) depth t = (0 < depth) × (ts : List Tree) × (t ≡ walk (items ts)) × EachOf (Owes s (depth - 2)) ts
 
   pub OwesParts : Parts → ℕ → List Tree → Type 0
   OwesParts none depth ts = ts ≡ []
@@ -71,7 +71,7 @@ mutual
   owed_meets (seq tag ps) depth t h = (h.0, h.1, h.2, parts_meet ps (depth - 1) h.1 h.3)
   owed_meets (set tag ps) depth t h = (h.0, h.1, h.2, parts_meet ps (depth - 1) h.1 h.3)
   owed_meets (list tag s size) depth t h = (h.0, h.1, h.2, each_of (owed_meets s (depth - 2)) h.1 h.3)
-  owed_meets (bag tag s size) depth t h = (h.0, h.1, h.2, each_of (owed_meets s (depth - 2)) h.1 h.3)
+  owed_meets (set_of tag s size) depth t h = (h.0, h.1, h.2, each_of (owed_meets s (depth - 2)) h.1 h.3)
 
   parts_meet : (ps : Parts) (depth : ℕ) (ts : List Tree) → OwesParts ps depth ts → MeetsParts Der ps depth ts
   parts_meet none depth ts h = h
@@ -105,7 +105,7 @@ mutual
   meets_owed (seq tag ps) own depth t h = (h.0, h.1, h.2, parts_owe ps own (depth - 1) h.1 h.3)
   meets_owed (set tag ps) own depth t h = (h.0, h.1, h.2, parts_owe ps own (depth - 1) h.1 h.3)
   meets_owed (list tag s size) own depth t h = (h.0, h.1, h.2, each_of (meets_owed s own (depth - 2)) h.1 h.3)
-  meets_owed (bag tag s size) own depth t h = (h.0, h.1, h.2, each_of (meets_owed s own (depth - 2)) h.1 h.3)
+  meets_owed (set_of tag s size) own depth t h = (h.0, h.1, h.2, each_of (meets_owed s own (depth - 2)) h.1 h.3)
 
   parts_owe : (ps : Parts) → HaveOwnDefaults ps → (depth : ℕ) (ts : List Tree) → MeetsParts Der ps depth ts → OwesParts ps depth ts
   parts_owe none own depth ts h = h
@@ -176,12 +176,12 @@ mutual
   owes_like (list tag s size) depth t u b same (ts, bs, e, n, w, c) (deep, us, f, m) =
       let r = items_alike ts u (subst (λ z. Same z u) e same) in
       (deep, r.0, r.1, elements_like s (depth - 2) (owes_like s (depth - 2)) ts r.0 bs r.2 w (subst (EachOf (Meets Der s (depth - 2))) (items_of t u ts us e f) m))
-  owes_like (bag tag s size) depth t u b same (ts, bs, e, n, w, o, c) (deep, us, f, m) =
-      bag_like (subst (λ z. Same z u) e same) (elements_like s (depth - 2) (owes_like s (depth - 2)) ts)
+  owes_like (set_of tag s size) depth t u b same (ts, bs, e, n, w, o, c) (deep, us, f, m) =
+      set_of_like (subst (λ z. Same z u) e same) (elements_like s (depth - 2) (owes_like s (depth - 2)) ts)
     where
-      bag_like : Same (walk (items ts)) u → ((us : List Tree) (bs : List (List ℕ)) → Each Same ts us → Each (Bytes Der s) ts bs → EachOf (Meets Der s (depth - 2)) ts → EachOf (Owes s (depth - 2)) us)
+      set_of_like : Same (walk (items ts)) u → ((us : List Tree) (bs : List (List ℕ)) → Each Same ts us → Each (Bytes Der s) ts bs → EachOf (Meets Der s (depth - 2)) ts → EachOf (Owes s (depth - 2)) us)
           → (0 < depth) × (ts : List Tree) × (u ≡ walk (items ts)) × EachOf (Owes s (depth - 2)) ts
-      bag_like (vs, ws, g, p, h) like =
+      set_of_like (vs, ws, g, p, h) like =
           let i : walk (items us) ≡ walk (items ts) = sym f ∙ e in
           let j : us ≡ ts = items_one us ts cc in
           let r = items_alike ts (items vs) h in

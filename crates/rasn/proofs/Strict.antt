@@ -4,7 +4,7 @@ use Rattle.rasn_types.specs.Tags.{der_form, loose_form}
 use Rattle.rasn_types.specs.declared.types.rules.Codec.TheVariants.{Der}
 use Rattle.rasn_types.specs.declared.types.tag.Tag.{Tag}
 use Rattle.rasn_types.specs.Framing.{AreOctets, Frame, definite}
-use Rattle.rasn_types.specs.Shapes.{Tree, items, walk, absent, Kind, boolean, null, object_identifier, integer, enumerated, octet_string, fixed, numeric, printable, visible, ia5, any_octets, bmp, utf8, utc_time, generalized_time, date, Shape, leaf, any, prefix, choice, option, seq, set, list, bag, Parts, part, IsSolid}
+use Rattle.rasn_types.specs.Shapes.{Tree, items, walk, absent, Kind, boolean, null, object_identifier, integer, enumerated, octet_string, fixed, numeric, printable, visible, ia5, any_octets, bmp, utf8, utc_time, generalized_time, date, Shape, leaf, any, prefix, choice, option, seq, set, list, set_of, Parts, part, IsSolid}
 use Rattle.rasn_types.specs.declared.types.constraints.Bound.{Bound}
 use Rattle.rasn_types.specs.Shapes.Parts.{none}
 use Rattle.rasn_types.specs.Readers.{Inside, in_definite, in_indefinite, Reading, ReadsChoice}
@@ -95,9 +95,9 @@ in_list_told tag s size depth told closing input t rest b o (deep, h) (ts, bs, e
 pub walk_one : (ts us : List Tree) → walk (items ts) ≡ walk (items us) → items ts ≡ items us
 walk_one ts us e = cc
 
-in_bag_told : (tag : Tag) (s : Shape) (size : Option (Bound ℕ)) (depth : ℕ) → IsTold s (depth - 2) → IsTold (bag tag s size) depth
+in_set_of_told : (tag : Tag) (s : Shape) (size : Option (Bound ℕ)) (depth : ℕ) → IsTold s (depth - 2) → IsTold (set_of tag s size) depth
 unfolding Reads parts_of Bytes fields_of Meets
-in_bag_told tag s size depth told closing input t rest b o (deep, h) (ts, bs, e, n, w, order, d) (deep', us, f, m) =
+in_set_of_told tag s size depth told closing input t rest b o (deep, h) (ts, bs, e, n, w, order, d) (deep', us, f, m) =
     enclosed tag true refl _ input t rest (joined_lists bs) b o d (λ contents p r.
     let vs = r.0 in
     let x : ts ≡ vs = items_one ts vs (walk_one ts vs (sym e ∙ r.1)) in
@@ -161,7 +161,7 @@ there (option tag s) solid lawful depth closing input t rest h = absurd solid
 there (seq tag ps) solid lawful depth closing input t rest h = within (λ x. x ≢ absent) tag true _ input t rest (λ c i r k. items_there k.0 t k.1) h.1
 there (set tag ps) solid lawful depth closing input t rest h = within (λ x. x ≢ absent) tag true _ input t rest (λ c i r k. items_there k.1 t k.2) h.1
 there (list tag s size) solid lawful depth closing input t rest h = within (λ x. x ≢ absent) tag true _ input t rest (λ c i r k. items_there k.0 t k.1) h.1
-there (bag tag s size) solid lawful depth closing input t rest h = within (λ x. x ≢ absent) tag true _ input t rest (λ c i r k e. let f = k.1 in cc) h.1
+there (set_of tag s size) solid lawful depth closing input t rest h = within (λ x. x ≢ absent) tag true _ input t rest (λ c i r k e. let f = k.1 in cc) h.1
 
 mutual
   unfolding Reads parts_of Bytes fields_of Meets IsLawful
@@ -176,7 +176,7 @@ mutual
   all_told (seq tag ps) lawful depth = in_seq_told tag ps depth (each_told ps (in_order_good ps lawful.1) (depth - 1))
   all_told (set tag ps) lawful depth = in_set_told tag ps depth lawful.1 (each_told ps (by_tag_good ps lawful.1) (depth - 1))
   all_told (list tag s size) lawful depth = in_list_told tag s size depth (all_told s lawful.2 (depth - 2))
-  all_told (bag tag s size) lawful depth = in_bag_told tag s size depth (all_told s lawful.2 (depth - 2))
+  all_told (set_of tag s size) lawful depth = in_set_of_told tag s size depth (all_told s lawful.2 (depth - 2))
 
   each_told : (ps : Parts) → EachGood ps → (depth : ℕ) → EachTold depth ps
   each_told none good depth = tt

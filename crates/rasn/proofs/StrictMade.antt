@@ -5,7 +5,7 @@ use Rattle.rasn_types.specs.Tags.{der_form, loose_form, IsTagBelow}
 use Rattle.rasn_types.specs.declared.types.rules.Codec.TheVariants.{Der}
 use Rattle.rasn_types.specs.declared.types.tag.Tag.{Tag}
 use Rattle.rasn_types.specs.Framing.{AreOctets, AnyIdSpells, Begins, Frame, definite}
-use Rattle.rasn_types.specs.Shapes.{Tree, items, walk, chosen, Admits, Shape, leaf, any, prefix, choice, option, seq, set, list, bag, Parts, part, own, IsFirst, IsFirstOf, Presence, required, optional, addition, default, IsSolid}
+use Rattle.rasn_types.specs.Shapes.{Tree, items, walk, chosen, Admits, Shape, leaf, any, prefix, choice, option, seq, set, list, set_of, Parts, part, own, IsFirst, IsFirstOf, Presence, required, optional, addition, default, IsSolid}
 use Rattle.rasn_types.specs.declared.types.constraints.Bound.{Bound}
 use Rattle.rasn_types.specs.Shapes.Parts.{none}
 use Rattle.rasn_types.specs.Readers.{Reading, Inside, in_definite, in_indefinite, Many, ReadFrom, IsNoDefault, ReadsPart, InOrder, IsMissing, AllMissing, ReadsChoice, NoneOf, OneOf, ByPart}
@@ -256,9 +256,9 @@ in_list_made tag s size depth made closing input t rest o (deep, h) (deep', us, 
     (joined_lists q.0, (vs, q.0, r.1, r.2, q.1, refl), q.2)) h in
     (r.2, (r.1.0, r.1.1, r.1.2, r.1.3, r.1.4, subst (λ l. Definite tag true l r.2) r.1.5 r.3), r.4)
 
-in_bag_made : (tag : Tag) (s : Shape) (size : Option (Bound ℕ)) (depth : ℕ) → IsMade s (depth - 2) → IsMade (bag tag s size) depth
+in_set_of_made : (tag : Tag) (s : Shape) (size : Option (Bound ℕ)) (depth : ℕ) → IsMade s (depth - 2) → IsMade (set_of tag s size) depth
 unfolding Reads parts_of Bytes fields_of Owes
-in_bag_made tag s size depth made closing input t rest o (deep, h) (deep', us, f, m) =
+in_set_of_made tag s size depth made closing input t rest o (deep, h) (deep', us, f, m) =
     let r = enclosed_made tag true refl _ (λ c. (ts : List Tree) × (bs : List (List ℕ)) × (t ≡ walk (items ts)) × Admits ◌≤◌ size (length ts) × Each (Bytes Der s) ts bs
     × DoNotFall IsLess bs × (c ≡ joined_lists bs)) input t rest o
     (λ contents p r.
@@ -296,7 +296,7 @@ mutual
   not_bare (seq tag ps) lawful solid has t h = h
   not_bare (set tag ps) lawful solid has t h = h
   not_bare (list tag s size) lawful solid has t h = h
-  not_bare (bag tag s size) lawful solid has t h = h
+  not_bare (set_of tag s size) lawful solid has t h = h
 
   none_bare : (ps : Parts) → AreAlternatives ps → (k : ℕ) (t : Tree) → IsBareIn k ps t → ⊥
   none_bare none lawful k t h = h
@@ -318,7 +318,7 @@ mutual
   all_made (seq tag ps) lawful depth = in_seq_made tag ps depth (each_made ps (in_order_good ps lawful.1) (depth - 1))
   all_made (set tag ps) lawful depth = in_set_made tag ps depth lawful.1 (each_made ps (by_tag_good ps lawful.1) (depth - 1))
   all_made (list tag s size) lawful depth = in_list_made tag s size depth (all_made s lawful.2 (depth - 2))
-  all_made (bag tag s size) lawful depth = in_bag_made tag s size depth (all_made s lawful.2 (depth - 2))
+  all_made (set_of tag s size) lawful depth = in_set_of_made tag s size depth (all_made s lawful.2 (depth - 2))
 
   each_made : (ps : Parts) → EachGood ps → (depth : ℕ) → EachMade depth ps
   each_made none good depth = tt

@@ -3,11 +3,11 @@ use Rattle.std.proofs.Common.{ℕ, ◌-◌, inl, inr, Bool, Option, Some, None, 
 use Rattle.rasn_types.specs.Tags.{form, IsTagBelow}
 use Rattle.rasn_types.specs.declared.types.rules.Codec.{Codec}
 use Rattle.rasn_types.specs.declared.types.tag.Tag.{Tag}
-use Rattle.rasn_types.specs.Shapes.{Tree, items, walk, absent, Shape, leaf, any, prefix, choice, option, seq, set, list, bag, Parts, part, IsFirstOf}
+use Rattle.rasn_types.specs.Shapes.{Tree, items, walk, absent, Shape, leaf, any, prefix, choice, option, seq, set, list, set_of, Parts, part, IsFirstOf}
 use Rattle.rasn_types.specs.declared.types.constraints.Bound.{Bound}
 use Rattle.rasn_types.specs.Shapes.Parts.{none}
 use Rattle.rasn_types.specs.Readers.{Reading, ReadsSeq, ReadsSet}
-use Rattle.rasn_types.specs.Grammar.{Reads, parts_of, ReadsList, ReadsBag}
+use Rattle.rasn_types.specs.Grammar.{Reads, parts_of, ReadsList, ReadsSetOf}
 use Rattle.rasn_types.specs.Lawful.{IsLawful, AreAlternatives, AreLawfulInOrder, AreLawfulByTag}
 use Rattle.rasn.proofs.Joined.{IsOne, inside_one, many_one, perhaps_one, EachPart, ReadsOne, seq_one, IsFirstIn, AreApart, choice_one, set_one}
 use Rattle.rasn.proofs.Leaves.{leaf_one}
@@ -34,8 +34,8 @@ list_one : (size : Option (Bound ℕ)) (reads : Bool → Reading Tree) → ((c :
 list_one size reads one c input t u r s h k =
     let o = many_one (reads c) (one c) c input h.0 k.0 r s h.3 k.3 in (h.1 ∙ (ap items o.0 ∙ sym k.1), o.1)
 
-bag_one : (rule : Codec) (size : Option (Bound ℕ)) (reads : Bool → Reading Tree) → ((c : Bool) → IsOne (reads c)) → (c : Bool) → IsOne (ReadsBag rule size (reads c) c)
-bag_one rule size reads one c input t u r s h k =
+set_of_one : (rule : Codec) (size : Option (Bound ℕ)) (reads : Bool → Reading Tree) → ((c : Bool) → IsOne (reads c)) → (c : Bool) → IsOne (ReadsSetOf rule size (reads c) c)
+set_of_one rule size reads one c input t u r s h k =
     let o = many_one (reads c) (one c) c input h.0 k.0 r s h.3 k.3 in (h.1 ∙ (ap (λ ts. walk (items ts)) o.0 ∙ sym k.1), o.1)
 
 pub one_leaf : OneLeaf
@@ -81,8 +81,8 @@ one_sequence_of rule tag s size one depth closing = λ input t u r o h k.
 pub one_set_of : OneSetOf
 unfolding Reads parts_of
 one_set_of rule tag s size one depth closing = λ input t u r o h k.
-    inside_one (λ c. ReadsBag rule size (Reads rule s (depth - 2) c) c)
-    (bag_one rule size (λ c. Reads rule s (depth - 2) c) (λ c. one (depth - 2) c)) input t u r o h.1 k.1
+    inside_one (λ c. ReadsSetOf rule size (Reads rule s (depth - 2) c) c)
+    (set_of_one rule size (λ c. Reads rule s (depth - 2) c) (λ c. one (depth - 2) c)) input t u r o h.1 k.1
 
 -- The parts of lawful shapes are lawful, and told apart where they must be.
 abbrev pub EachLawful : Parts → Type 0
@@ -120,7 +120,7 @@ mutual
   reads_one (seq tag ps) lawful rule = one_sequence rule tag ps (each_one ps (in_order_lawful ps lawful.1) rule)
   reads_one (set tag ps) lawful rule = let l = by_tag_lawful ps lawful.1 in one_set rule tag ps (each_one ps l.0 rule) l.1
   reads_one (list tag s size) lawful rule = one_sequence_of rule tag s size (reads_one s lawful.2 rule)
-  reads_one (bag tag s size) lawful rule = one_set_of rule tag s size (reads_one s lawful.2 rule)
+  reads_one (set_of tag s size) lawful rule = one_set_of rule tag s size (reads_one s lawful.2 rule)
 
   each_one : (ps : Parts) → EachLawful ps → (rule : Codec) → AreReadOnce rule ps
   each_one none lawful rule = tt

@@ -18,8 +18,8 @@ use Rattle.rasn.specs.Worked.{Worked, Gives, Refuses, plain, nested, perhaps_boo
 use Rattle.rasn.proofs.TimeTexts.{generalized_of}
 use Rattle.rasn.proofs.Headers.{no_eoc, short, without, no_next, plain_read, octets_read}
 use Rattle.rasn.proofs.WorkedStrings.{octets_in_segments, bits_in_segments, zeros_in_definite_string}
-use Rattle.rasn.proofs.WorkedCuts.{bags_in_any_order, lists_in_order, bits_in_one, bits_in_two, octets_in_one, octets_in_two}
-use Rattle.rasn.proofs.WorkedParts.{default_left_out, default_spelled, default_not_written, bag_out_of_order, bag_not_written, smith_in_segments, smith_in_one, smith_in_ber, smith_in_der, smith_in_cer}
+use Rattle.rasn.proofs.WorkedCuts.{sets_of_in_any_order, lists_in_order, bits_in_one, bits_in_two, octets_in_one, octets_in_two}
+use Rattle.rasn.proofs.WorkedParts.{default_left_out, default_spelled, default_not_written, set_of_out_of_order, set_of_not_written, smith_in_segments, smith_in_one, smith_in_ber, smith_in_der, smith_in_cer}
 
 nested_whole : Whole Ber nested
 nested_whole = closed (in_universal 16) true _ (48 ∷ 128 ∷ 2 ∷ 1 ∷ 1 ∷ 0 ∷ 0 ∷ 4 ∷ 1 ∷ 0 ∷ []) (without 16 _ tt (omega arith) (omega arith))
@@ -141,9 +141,9 @@ worked = record {
   default_left_out = default_left_out;
   default_spelled = default_spelled;
   default_not_written = default_not_written;
-  bag_out_of_order = bag_out_of_order;
-  bag_not_written = bag_not_written;
-  bags_in_any_order = bags_in_any_order;
+  set_of_out_of_order = set_of_out_of_order;
+  set_of_not_written = set_of_not_written;
+  sets_of_in_any_order = sets_of_in_any_order;
   lists_in_order = lists_in_order;
   bits_in_one = bits_in_one;
   bits_in_two = bits_in_two;

@@ -11,8 +11,8 @@ use Rattle.rasn_types.proofs.Frames.{split_one}
 use Rattle.rasn.specs.Worked.{plain, octets_each, IsLongPiece, AreTwoPieces}
 use Rattle.rasn.proofs.Headers.{short_written, closed_written}
 
-pub bags_in_any_order : Same (walk (octets_each 2 1)) (walk (octets_each 1 2))
-bags_in_any_order = (
+pub sets_of_in_any_order : Same (walk (octets_each 2 1)) (walk (octets_each 1 2))
+sets_of_in_any_order = (
   numbers (2 ∷ []) ∷ numbers (1 ∷ []) ∷ [],
   numbers (1 ∷ []) ∷ numbers (2 ∷ []) ∷ [],
   refl,

@@ -12,7 +12,7 @@ use Rattle.rasn_types.specs.Carried.{Meets}
 use Rattle.rasn_types.proofs.Frames.{frame_next}
 use Rattle.rasn_types.proofs.Alike.{items_one}
 use Rattle.rasn_types.proofs.Once.{once}
-use Rattle.rasn.specs.Worked.{IsCarriedAs, Gives, plain, seven, bag_of_octets, named, smith}
+use Rattle.rasn.specs.Worked.{IsCarriedAs, Gives, plain, seven, octets_in_set_of, named, smith}
 use Rattle.rasn.proofs.Headers.{short, without, going, short_written, closed_written, plain_read, octets_read}
 use Rattle.rasn_types.specs.Shapes.Parts.{none as no_parts}
 
@@ -67,9 +67,9 @@ octets_element : (rule : Codec) (contents rest : List ℕ) → length contents <
 unfolding Reads parts_of
 octets_element rule contents rest l = ((contents, octets_read rule 4 contents rest 126 (omega arith) (omega arith) l, refl), tt)
 
-pub bag_out_of_order : (rule : Codec) → (IsStrict rule → ⊥) → Gives rule bag_of_octets (49 ∷ 6 ∷ 4 ∷ 1 ∷ 2 ∷ 4 ∷ 1 ∷ 1 ∷ []) (walk (items (numbers (2 ∷ []) ∷ numbers (1 ∷ []) ∷ []))) []
+pub set_of_out_of_order : (rule : Codec) → (IsStrict rule → ⊥) → Gives rule octets_in_set_of (49 ∷ 6 ∷ 4 ∷ 1 ∷ 2 ∷ 4 ∷ 1 ∷ 1 ∷ []) (walk (items (numbers (2 ∷ []) ∷ numbers (1 ∷ []) ∷ []))) []
 unfolding Reads parts_of
-bag_out_of_order rule lax = (
+set_of_out_of_order rule lax = (
   omega arith,
   in_definite (4 ∷ 1 ∷ 2 ∷ 4 ∷ 1 ∷ 1 ∷ []) (short 17 true (4 ∷ 1 ∷ 2 ∷ 4 ∷ 1 ∷ 1 ∷ []) [] (omega arith) (omega arith) (omega arith)) (
     numbers (2 ∷ []) ∷ numbers (1 ∷ []) ∷ [],
@@ -105,9 +105,9 @@ two_fall rule bs (x, cs, e, v, (y, ds, f, w, g)) order =
     let r : bs ≡ (4 ∷ 1 ∷ 2 ∷ []) ∷ (4 ∷ 1 ∷ 1 ∷ []) ∷ [] = cc in
     (subst (DoNotFall IsLess) r order).0 (inr (refl, inr (refl, inl (omega arith))))
 
-pub bag_not_written : (rule : Codec) (b : List ℕ) → Bytes rule bag_of_octets (walk (items (numbers (2 ∷ []) ∷ numbers (1 ∷ []) ∷ []))) b → ⊥
+pub set_of_not_written : (rule : Codec) (b : List ℕ) → Bytes rule octets_in_set_of (walk (items (numbers (2 ∷ []) ∷ numbers (1 ∷ []) ∷ []))) b → ⊥
 unfolding Bytes fields_of
-bag_not_written rule b (ts, bs, e, within, each, order, c) =
+set_of_not_written rule b (ts, bs, e, within, each, order, c) =
     two_fall rule bs (subst (λ l. Each (Bytes rule (plain octet_string 4)) l bs) (sym (items_one (numbers (2 ∷ []) ∷ numbers (1 ∷ []) ∷ []) ts (walked _ _ e))) each) order
   where
     walked : (t u : Tree) → walk t ≡ walk u → t ≡ u

@@ -1,4 +1,4 @@
--- Sets and bags with their octets.
+-- SET and SET OF with their octets.
 use Rattle.std.proofs.Common.{◌≡◌, ℕ, ◌<◌, inl, inr, List, [], ◌∷◌, ◌++◌, pos, rules, true, false, ◌*◌, ◌+◌, refl, sym, ◌∙◌, subst, ap₂, arith}
 use Rattle.rasn_types.specs.Tags.{in_universal, loose_form, IsTagBelow}
 use Rattle.rasn_types.specs.declared.types.rules.Codec.{Codec}
@@ -14,7 +14,7 @@ use Rattle.rasn_types.specs.Carried.{Meets}
 use Rattle.rasn_types.proofs.Alike.{items_one}
 use Rattle.rasn_types.proofs.Frames.{begins_one}
 use Rattle.rasn_types.proofs.Once.{once}
-use Rattle.rasn.specs.WorkedShapes.{plain, contextual, tagged, small, three_of_set, turned_round, bag_of_octets, relative_name, mixed}
+use Rattle.rasn.specs.WorkedShapes.{plain, contextual, tagged, small, three_of_set, turned_round, octets_in_set_of, relative_name, mixed}
 use Rattle.rasn.specs.WorkedValues.{WorkedSets}
 use Rattle.rasn.specs.Worked.{IsCarriedAs, one_two_three, three_two_one, rising_octets}
 use Rattle.rasn.proofs.Headers.{short, short_written, tag_begins, tag_written}
@@ -88,10 +88,10 @@ greater [] a b x y h (inr k) = omega (arith, h, k.0)
 greater (c ∷ front) a b x y h (inl k) = omega (arith, k)
 greater (c ∷ front) a b x y h (inr k) = greater front a b x y h k.1
 
-bag_rises : IsCarriedAs Der bag_of_octets (walk (items (numbers (1 ∷ []) ∷ numbers (2 ∷ []) ∷ numbers (1 ∷ 255 ∷ []) ∷ numbers (2 ∷ 1 ∷ []) ∷ [])))
+set_of_rises : IsCarriedAs Der octets_in_set_of (walk (items (numbers (1 ∷ []) ∷ numbers (2 ∷ []) ∷ numbers (1 ∷ 255 ∷ []) ∷ numbers (2 ∷ 1 ∷ []) ∷ [])))
     (49 ∷ 14 ∷ 4 ∷ 1 ∷ 1 ∷ 4 ∷ 1 ∷ 2 ∷ 4 ∷ 2 ∷ 1 ∷ 255 ∷ 4 ∷ 2 ∷ 2 ∷ 1 ∷ [])
 unfolding Bytes fields_of Meets
-bag_rises = (
+set_of_rises = (
   record {
     octets = 49 ∷ 14 ∷ 4 ∷ 1 ∷ 1 ∷ 4 ∷ 1 ∷ 2 ∷ 4 ∷ 2 ∷ 1 ∷ 255 ∷ 4 ∷ 2 ∷ 2 ∷ 1 ∷ [];
     is = (
@@ -335,4 +335,4 @@ one_name = (
         (omega arith, (omega arith, (omega arith, tt))) (omega arith)
 
 pub worked : WorkedSets
-worked = record { set_rises = set_rises; set_never_falls = set_never_falls; bag_rises = bag_rises; all_in_set = all_in_set; one_name = one_name }
+worked = record { set_rises = set_rises; set_never_falls = set_never_falls; set_of_rises = set_of_rises; all_in_set = all_in_set; one_name = one_name }

@@ -5,7 +5,7 @@ use Rattle.rasn_types.specs.declared.types.tag.Tag.{Tag}
 use Rattle.rasn_types.specs.declared.types.tag.Class.TheVariants.{Universal, Application}
 use Rattle.rasn_types.specs.Shapes.{integer, every, object_identifier, boolean, octet_string}
 use Rattle.rasn_types.specs.Lawful.{IsLawful}
-use Rattle.rasn.specs.WorkedShapes.{plain, contextual, either_time, validity, three_of_set, bag_of_octets, algorithm, relative_name, seven, extended, mixed, LawfulShapes}
+use Rattle.rasn.specs.WorkedShapes.{plain, contextual, either_time, validity, three_of_set, octets_in_set_of, algorithm, relative_name, seven, extended, mixed, LawfulShapes}
 use Rattle.rasn.proofs.Headers.{no_eoc, context_apart}
 
 application_apart : (n : ℕ) → record { class = Application; value = n } ≢ eoc
@@ -31,9 +31,9 @@ pub seven_lawful : IsLawful seven
 unfolding IsLawful
 seven_lawful = (no_eoc 16 (omega arith), (tt, integer_lawful, (λ h. h), tt))
 
-pub bag_lawful : IsLawful bag_of_octets
+pub set_of_lawful : IsLawful octets_in_set_of
 unfolding IsLawful
-bag_lawful = (no_eoc 17 (omega arith), tt, octets_lawful)
+set_of_lawful = (no_eoc 17 (omega arith), tt, octets_lawful)
 
 pub either_time_lawful : IsLawful either_time
 unfolding IsLawful
@@ -159,7 +159,7 @@ shapes = record {
   named = (no_eoc 16 (omega arith), (tt, (no_eoc 22 (omega arith), refl), tt, (tt, bool_lawful, tt, tt)));
   validity = validity_lawful;
   three_of_set = three_lawful;
-  bag_of_octets = bag_lawful;
+  octets_in_set_of = set_of_lawful;
   relative_name = relative_name_lawful;
   algorithm = algorithm_lawful;
   any_value = tt;

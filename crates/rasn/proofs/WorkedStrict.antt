@@ -19,7 +19,7 @@ use Rattle.rasn_types.specs.Spelling.{Spelling, parts}
 use Rattle.rasn_types.specs.Times.{GeneralGeneralized, CarriedDay, at_utc}
 use Rattle.rasn.proofs.WorkedStrictLeaves.{high_tag, high_tag_next, long_length, long_octets, built_bool, primitive_prefix, primitive_open, padded_integer, padded_negative, padded_arc, set_bits}
 use Rattle.rasn.proofs.WorkedFractions.{time_lawful, tenth_digit}
-use Rattle.rasn.proofs.WorkedStrictSets.{default_there, default_in_set, bag_falls, set_falls}
+use Rattle.rasn.proofs.WorkedStrictSets.{default_there, default_in_set, set_of_falls, set_falls}
 
 long_spelling : Spelling
 long_spelling = record { month = 12; day = 31; hour = 23; clock = Seconds 59 60; fraction = Some (46, 5 ∷ 0 ∷ []); zone = Utc }
@@ -90,7 +90,7 @@ worked = record {
   set_bits = set_bits;
   default_there = default_there;
   default_in_set = default_in_set;
-  bag_falls = bag_falls;
+  set_of_falls = set_of_falls;
   set_falls = set_falls;
   tenth_digit = tenth_digit;
   lenient_open = lenient_open;

@@ -1,4 +1,4 @@
--- Defaults, sets and bags that DER doesn't read.
+-- Defaults, SET and SET OF that DER doesn't read.
 use Rattle.std.proofs.Common.{◌≡◌, ℕ, ◌+◌, ◌*◌, ◌<◌, ◌≢◌, inl, inr, List, [], ◌∷◌, ◌++◌, true, false, pos, rules, refl, sym, ap, ap₂, ◌∙◌, subst, arith}
 use Rattle.std.proofs.lemmas.List.{append_cancel_right}
 use Rattle.rasn_types.specs.Tags.{ber_form}
@@ -14,16 +14,16 @@ use Rattle.rasn_types.specs.Carried.{Meets, Carried}
 use Rattle.rasn_types.specs.Lawful.{IsLawful}
 use Rattle.rasn_types.proofs.Frames.{frame_next}
 use Rattle.rasn_types.proofs.Alike.{items_one}
-use Rattle.rasn.specs.Worked.{Refuses, IsLenient, plain, seven, bag_of_octets, contextual}
+use Rattle.rasn.specs.Worked.{Refuses, IsLenient, plain, seven, octets_in_set_of, contextual}
 use Rattle.rasn.proofs.Headers.{no_eoc, short, going, short_written, context_frame, context_apart}
 use Rattle.rasn.proofs.WorkedLenient.{lenient}
 use Rattle.rasn.proofs.StrictLeaves.{framed, no_open, tail_octets}
-use Rattle.rasn.proofs.WorkedParts.{default_spelled, default_not_written, bag_out_of_order, octet_written}
+use Rattle.rasn.proofs.WorkedParts.{default_spelled, default_not_written, set_of_out_of_order, octet_written}
 use Rattle.rasn_types.specs.Shapes.{Interval, IsIn}
 use Rattle.rasn_types.specs.Trees.{unsigned_range}
 use Rattle.rasn.specs.WorkedShapes.{tagged, small, three_of_set, seven_of_set}
 use Rattle.rasn.specs.Worked.{one_two_three, falling_octets}
-use Rattle.rasn.proofs.WorkedShapes.{seven_lawful, octets_lawful, bag_lawful, three_lawful}
+use Rattle.rasn.proofs.WorkedShapes.{seven_lawful, octets_lawful, set_of_lawful, three_lawful}
 use Rattle.rasn.proofs.WorkedSets.{set_rises}
 use Rattle.rasn.proofs.Hold.{included, one_reading}
 use Rattle.rasn.proofs.Strict.{all_told, walk_one}
@@ -47,31 +47,31 @@ element_octets : (o : ℕ) → o < 256 → (input b rest : List ℕ) → AreOcte
 element_octets o h input b rest are e r =
     append_cancel_right b (4 ∷ 1 ∷ o ∷ []) rest (sym e ∙ all_told (plain octet_string 4) octets_lawful 126 false input (numbers (o ∷ [])) rest (4 ∷ 1 ∷ o ∷ []) are r (octet_written Der o h) (one_octet_carried 126 o))
 
-bag_order : (c rest : List ℕ) (bs : List (List ℕ)) → AreOctets c → ReadFrom (Reads Der (plain octet_string 4) 126 false) c (numbers (2 ∷ []) ∷ numbers (1 ∷ []) ∷ []) rest bs → DoNotFall IsLess bs → ⊥
-bag_order c rest bs o (a, az, m, e, f, h, (b, bz, n, e', f', h', (g, k))) d =
+set_of_order : (c rest : List ℕ) (bs : List (List ℕ)) → AreOctets c → ReadFrom (Reads Der (plain octet_string 4) 126 false) c (numbers (2 ∷ []) ∷ numbers (1 ∷ []) ∷ []) rest bs → DoNotFall IsLess bs → ⊥
+set_of_order c rest bs o (a, az, m, e, f, h, (b, bz, n, e', f', h', (g, k))) d =
     let p = element_octets 2 (omega arith) c a m o f h in
     let q = element_octets 1 (omega arith) m b n (tail_octets c a m f o) f' h' in
     let r : bs ≡ (4 ∷ 1 ∷ 2 ∷ []) ∷ (4 ∷ 1 ∷ 1 ∷ []) ∷ [] = e ∙ (ap₂ ◌∷◌ p (e' ∙ ap₂ ◌∷◌ q g)) in
     (subst (DoNotFall IsLess) r d).0 (inr (refl, inr (refl, inl (omega arith))))
 
-falls : (input : List ℕ) (t : Tree) (rest : List ℕ) → AreOctets input → t ≡ walk (items (numbers (2 ∷ []) ∷ numbers (1 ∷ []) ∷ [])) → Reads Der bag_of_octets 128 false input t rest → ⊥
+falls : (input : List ℕ) (t : Tree) (rest : List ℕ) → AreOctets input → t ≡ walk (items (numbers (2 ∷ []) ∷ numbers (1 ∷ []) ∷ [])) → Reads Der octets_in_set_of 128 false input t rest → ⊥
 unfolding Reads parts_of
 falls input t rest o e (deep, in_indefinite body f r) = no_open f
 falls input t rest o e (deep, in_definite c f (ts, g, n, many, order)) =
     let w = order tt in
     let z : ts ≡ numbers (2 ∷ []) ∷ numbers (1 ∷ []) ∷ [] = items_one ts (numbers (2 ∷ []) ∷ numbers (1 ∷ []) ∷ []) (walk_one ts (numbers (2 ∷ []) ∷ numbers (1 ∷ []) ∷ []) (sym g ∙ e)) in
     let h = framed o f in
-    bag_order c [] w.0 h.octets (subst (λ l. ReadFrom (Reads Der (plain octet_string 4) 126 false) c l [] w.0) z w.1) w.2
+    set_of_order c [] w.0 h.octets (subst (λ l. ReadFrom (Reads Der (plain octet_string 4) 126 false) c l [] w.0) z w.1) w.2
 
-bag_refused : Refuses Der bag_of_octets (49 ∷ 6 ∷ 4 ∷ 1 ∷ 2 ∷ 4 ∷ 1 ∷ 1 ∷ [])
-bag_refused t rest r =
+set_of_refused : Refuses Der octets_in_set_of (49 ∷ 6 ∷ 4 ∷ 1 ∷ 2 ∷ 4 ∷ 1 ∷ 1 ∷ [])
+set_of_refused t rest r =
     let input = 49 ∷ 6 ∷ 4 ∷ 1 ∷ 2 ∷ 4 ∷ 1 ∷ 1 ∷ [] in
-    let one = one_reading bag_of_octets bag_lawful Ber 128 true input (walk (items (numbers (2 ∷ []) ∷ numbers (1 ∷ []) ∷ []))) t [] rest (bag_out_of_order Ber (λ z. z))
-    (included bag_of_octets bag_lawful Der 128 input t rest r) in
+    let one = one_reading octets_in_set_of set_of_lawful Ber 128 true input (walk (items (numbers (2 ∷ []) ∷ numbers (1 ∷ []) ∷ []))) t [] rest (set_of_out_of_order Ber (λ z. z))
+    (included octets_in_set_of set_of_lawful Der 128 input t rest r) in
     falls input t rest (omega arith, (omega arith, (omega arith, (omega arith, (omega arith, (omega arith, (omega arith, (omega arith, tt)))))))) (sym one.0) r
 
-pub bag_falls : IsLenient bag_of_octets (49 ∷ 6 ∷ 4 ∷ 1 ∷ 2 ∷ 4 ∷ 1 ∷ 1 ∷ []) (walk (items (numbers (2 ∷ []) ∷ numbers (1 ∷ []) ∷ [])))
-bag_falls = (bag_out_of_order Ber (λ z. z), bag_refused)
+pub set_of_falls : IsLenient octets_in_set_of (49 ∷ 6 ∷ 4 ∷ 1 ∷ 2 ∷ 4 ∷ 1 ∷ 1 ∷ []) (walk (items (numbers (2 ∷ []) ∷ numbers (1 ∷ []) ∷ [])))
+set_of_falls = (set_of_out_of_order Ber (λ z. z), set_of_refused)
 
 -- A component under BER.
 component : (range : Interval) (n o : ℕ) → n < 31 → o < 128 → IsIn range (signed (o ∷ [])) → (rest : List ℕ)

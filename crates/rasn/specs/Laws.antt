@@ -6,7 +6,7 @@ use Rattle.rasn_types.specs.declared.types.tag.Tag.{Tag}
 use Rattle.rasn_types.specs.declared.types.constraints.Bound.{Bound}
 use Rattle.rasn_types.specs.declared.types.constraints.Constraints.{Constraints}
 use Rattle.rasn_types.specs.Framing.{Whole, turns, AreOctets}
-use Rattle.rasn_types.specs.Shapes.{Tree, Kind, Shape, leaf, any, prefix, choice, option, seq, set, list, bag, Parts, part, Presence, default, IsFirst, IsFirstOf, IsSolid}
+use Rattle.rasn_types.specs.Shapes.{Tree, Kind, Shape, leaf, any, prefix, choice, option, seq, set, list, set_of, Parts, part, Presence, default, IsFirst, IsFirstOf, IsSolid}
 use Rattle.rasn_types.specs.Shapes.Parts.{none}
 use Rattle.rasn_types.specs.Grammar.{Reads, top}
 use Rattle.rasn_types.specs.Bytes.{Same, Bytes}
@@ -53,7 +53,7 @@ abbrev pub OneSequenceOf : Type 0
 OneSequenceOf = (rule : Codec) (tag : Tag) (s : Shape) (size : Option (Bound ℕ)) → IsReadOnce rule s → IsReadOnce rule (list tag s size)
 
 abbrev pub OneSetOf : Type 0
-OneSetOf = (rule : Codec) (tag : Tag) (s : Shape) (size : Option (Bound ℕ)) → IsReadOnce rule s → IsReadOnce rule (bag tag s size)
+OneSetOf = (rule : Codec) (tag : Tag) (s : Shape) (size : Option (Bound ℕ)) → IsReadOnce rule s → IsReadOnce rule (set_of tag s size)
 
 abbrev pub OneReading : Type 0
 OneReading = (s : Shape) → IsLawful s → (rule : Codec) (depth : ℕ) (closing : Bool) (input : List ℕ) (t u : Tree) (rest other : List ℕ)
@@ -89,7 +89,7 @@ abbrev mutual
   HasOwnDefaults (seq tag ps) = HaveOwnDefaults ps
   HasOwnDefaults (set tag ps) = HaveOwnDefaults ps
   HasOwnDefaults (list tag s size) = HasOwnDefaults s
-  HasOwnDefaults (bag tag s size) = HasOwnDefaults s
+  HasOwnDefaults (set_of tag s size) = HasOwnDefaults s
 
   pub HaveOwnDefaults : Parts → Type 0
   HaveOwnDefaults none = Unit {0}

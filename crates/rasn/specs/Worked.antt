@@ -10,7 +10,7 @@ use Rattle.rasn_types.specs.Contents.{bits_of, joined_lists}
 use Rattle.rasn_types.specs.Grammar.{Reads, top}
 use Rattle.rasn_types.specs.Bytes.{Same, Bytes}
 use Rattle.rasn_types.specs.Carried.{Carried}
-pub use Rattle.rasn.specs.WorkedShapes.{plain, contextual, named, perhaps_bool, bag_of_octets, seven, seven_of_set, three_of_set}
+pub use Rattle.rasn.specs.WorkedShapes.{plain, contextual, named, perhaps_bool, octets_in_set_of, seven, seven_of_set, three_of_set}
 
 -- Nothing is read.
 abbrev pub Refuses : Codec → Shape → List ℕ → Type 0
@@ -97,7 +97,7 @@ pub record WorkedStrict : Type 0 where
   pub set_bits : IsLenient (plain bit_string 3) (3 ∷ 2 ∷ 5 ∷ 255 ∷ []) (bits (true ∷ true ∷ true ∷ []))
   pub default_there : IsLenient seven (48 ∷ 3 ∷ 2 ∷ 1 ∷ 7 ∷ []) (items (number (pos 7) ∷ []))
   pub default_in_set : IsLenient seven_of_set (49 ∷ 3 ∷ 128 ∷ 1 ∷ 7 ∷ []) (items (number (pos 7) ∷ []))
-  pub bag_falls : IsLenient bag_of_octets (49 ∷ 6 ∷ 4 ∷ 1 ∷ 2 ∷ 4 ∷ 1 ∷ 1 ∷ []) (walk (items (numbers (2 ∷ []) ∷ numbers (1 ∷ []) ∷ [])))
+  pub set_of_falls : IsLenient octets_in_set_of (49 ∷ 6 ∷ 4 ∷ 1 ∷ 2 ∷ 4 ∷ 1 ∷ 1 ∷ []) (walk (items (numbers (2 ∷ []) ∷ numbers (1 ∷ []) ∷ [])))
   pub set_falls : IsLenient three_of_set falling_octets one_two_three
   pub fraction_ends_in_zero : IsLenient (plain generalized_time 24) (24 ∷ 18 ∷ long_leap_text) (instant leap)
   pub tenth_digit : IsLenient (plain generalized_time 24) (24 ∷ 26 ∷ ten_digits) (instant afternoon)
@@ -119,9 +119,9 @@ pub record Worked : Type 0 where
   pub default_left_out : (rule : Codec) → Gives rule seven (48 ∷ 0 ∷ []) (items (number (pos 7) ∷ [])) []
   pub default_spelled : (rule : Codec) → (IsStrict rule → ⊥) → Gives rule seven (48 ∷ 3 ∷ 2 ∷ 1 ∷ 7 ∷ []) (items (number (pos 7) ∷ [])) []
   pub default_not_written : Bytes Der seven (items (number (pos 7) ∷ [])) (48 ∷ 0 ∷ [])
-  pub bag_out_of_order : (rule : Codec) → (IsStrict rule → ⊥) → Gives rule bag_of_octets (49 ∷ 6 ∷ 4 ∷ 1 ∷ 2 ∷ 4 ∷ 1 ∷ 1 ∷ []) (walk (items (numbers (2 ∷ []) ∷ numbers (1 ∷ []) ∷ []))) []
-  pub bag_not_written : (rule : Codec) (b : List ℕ) → Bytes rule bag_of_octets (walk (items (numbers (2 ∷ []) ∷ numbers (1 ∷ []) ∷ []))) b → ⊥
-  pub bags_in_any_order : Same (walk (octets_each 2 1)) (walk (octets_each 1 2))
+  pub set_of_out_of_order : (rule : Codec) → (IsStrict rule → ⊥) → Gives rule octets_in_set_of (49 ∷ 6 ∷ 4 ∷ 1 ∷ 2 ∷ 4 ∷ 1 ∷ 1 ∷ []) (walk (items (numbers (2 ∷ []) ∷ numbers (1 ∷ []) ∷ []))) []
+  pub set_of_not_written : (rule : Codec) (b : List ℕ) → Bytes rule octets_in_set_of (walk (items (numbers (2 ∷ []) ∷ numbers (1 ∷ []) ∷ []))) b → ⊥
+  pub sets_of_in_any_order : Same (walk (octets_each 2 1)) (walk (octets_each 1 2))
   pub lists_in_order : Same (octets_each 2 1) (octets_each 1 2) → ⊥
   pub bits_in_one : (bs : List Bool) (b : List ℕ) → length bs ≡ 7992 → Bytes Cer (plain bit_string 3) (bits bs) b → IsLongPiece b
   pub bits_in_two : (bs : List Bool) (b : List ℕ) → length bs ≡ 8000 → Bytes Cer (plain bit_string 3) (bits bs) b → AreTwoPieces b

@@ -3,7 +3,7 @@ use Rattle.std.specs.Prelude.{◌≡◌, ℕ, [], ◌∷◌, pos, Some, None, tr
 use Rattle.rasn_types.specs.Tags.{in_universal}
 use Rattle.rasn_types.specs.declared.types.tag.Tag.{Tag}
 use Rattle.rasn_types.specs.declared.types.tag.Class.TheVariants.{Application, Context}
-use Rattle.rasn_types.specs.Shapes.{number, every, Kind, boolean, null, object_identifier, bit_string, octet_string, integer, enumerated, utf8, ia5, printable, utc_time, generalized_time, date, Shape, Parts, leaf, any, prefix, choice, option, seq, set, list, bag, part, required, optional, addition, default}
+use Rattle.rasn_types.specs.Shapes.{number, every, Kind, boolean, null, object_identifier, bit_string, octet_string, integer, enumerated, utf8, ia5, printable, utc_time, generalized_time, date, Shape, Parts, leaf, any, prefix, choice, option, seq, set, list, set_of, part, required, optional, addition, default}
 use Rattle.rasn_types.specs.Shapes.Parts.{none}
 use Rattle.rasn_types.specs.Trees.{unconstrained, signed_range, unsigned_range}
 use Rattle.rasn_types.specs.Lawful.{IsLawful}
@@ -56,8 +56,8 @@ abbrev pub turned_round : Shape
 turned_round = set (in_universal 17) (part required (small 2) (part required (small 1) (part required (small 0) none)))
 
 -- SET OF OCTET STRING
-abbrev pub bag_of_octets : Shape
-bag_of_octets = bag (in_universal 17) (plain octet_string 4) None
+abbrev pub octets_in_set_of : Shape
+octets_in_set_of = set_of (in_universal 17) (plain octet_string 4) None
 
 -- AlgorithmIdentifier ::= SEQUENCE { OBJECT IDENTIFIER, ANY OPTIONAL } (RFC 5280, 4.1.1.2)
 abbrev pub algorithm : Shape
@@ -65,7 +65,7 @@ algorithm = seq (in_universal 16) (part required (plain object_identifier 6) (pa
 
 -- RelativeDistinguishedName ::= SET OF SEQUENCE { OBJECT IDENTIFIER, ANY } (RFC 5280, 4.1.2.4)
 abbrev pub relative_name : Shape
-relative_name = bag (in_universal 17) (seq (in_universal 16) (part required (plain object_identifier 6) (part required (any None) none))) None
+relative_name = set_of (in_universal 17) (seq (in_universal 16) (part required (plain object_identifier 6) (part required (any None) none))) None
 
 -- SEQUENCE { INTEGER DEFAULT 7 }
 abbrev pub seven : Shape
@@ -126,7 +126,7 @@ pub record LawfulShapes : Type 0 where
   pub named : IsLawful named
   pub validity : IsLawful validity
   pub three_of_set : IsLawful three_of_set
-  pub bag_of_octets : IsLawful bag_of_octets
+  pub octets_in_set_of : IsLawful octets_in_set_of
   pub relative_name : IsLawful relative_name
   pub algorithm : IsLawful algorithm
   pub any_value : IsLawful (any None)

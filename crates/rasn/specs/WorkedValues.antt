@@ -10,7 +10,7 @@ use Rattle.rasn_types.specs.Trees.{signed_range}
 use Rattle.rasn_types.specs.Bytes.{Bytes}
 use Rattle.rasn_types.specs.Carried.{Carried}
 use Rattle.rasn.specs.Worked.{IsCarriedAs, Refuses, Gives, one_two_three, three_two_one, rising_octets}
-use Rattle.rasn.specs.WorkedShapes.{plain, contextual, perhaps_bool, validity, three_of_set, turned_round, bag_of_octets, algorithm, relative_name, extended, mixed}
+use Rattle.rasn.specs.WorkedShapes.{plain, contextual, perhaps_bool, validity, three_of_set, turned_round, octets_in_set_of, algorithm, relative_name, extended, mixed}
 
 abbrev pub on : ℕ → ℕ → ℕ → Day
 on y m d = record { year = pos y; month = m; day = d }
@@ -42,7 +42,7 @@ pub record WorkedValues : Type 0 where
 pub record WorkedSets : Type 0 where
   pub set_rises : IsCarriedAs Der three_of_set one_two_three rising_octets
   pub set_never_falls : (rule : Codec) (b : List ℕ) → Bytes rule turned_round three_two_one b → ⊥
-  pub bag_rises : IsCarriedAs Der bag_of_octets (walk (items (numbers (1 ∷ []) ∷ numbers (2 ∷ []) ∷ numbers (1 ∷ 255 ∷ []) ∷ numbers (2 ∷ 1 ∷ []) ∷ [])))
+  pub set_of_rises : IsCarriedAs Der octets_in_set_of (walk (items (numbers (1 ∷ []) ∷ numbers (2 ∷ []) ∷ numbers (1 ∷ 255 ∷ []) ∷ numbers (2 ∷ 1 ∷ []) ∷ [])))
       (49 ∷ 14 ∷ 4 ∷ 1 ∷ 1 ∷ 4 ∷ 1 ∷ 2 ∷ 4 ∷ 2 ∷ 1 ∷ 255 ∷ 4 ∷ 2 ∷ 2 ∷ 1 ∷ [])
   pub all_in_set : IsCarriedAs Der mixed (items (items (number (pos 1) ∷ number (pos 2) ∷ []) ∷ number (pos 7) ∷ numbers (5 ∷ 0 ∷ []) ∷ items (number (pos 9) ∷ []) ∷ []))
       (49 ∷ 22 ∷ 49 ∷ 6 ∷ 128 ∷ 1 ∷ 1 ∷ 129 ∷ 1 ∷ 2 ∷ 64 ∷ 1 ∷ 7 ∷ 162 ∷ 2 ∷ 5 ∷ 0 ∷ 163 ∷ 5 ∷ 48 ∷ 3 ∷ 2 ∷ 1 ∷ 9 ∷ [])

@@ -2,11 +2,11 @@
 ghost use Rattle.std.specs.Prelude.{◌≡◌, [], IfOk, IfErr, OnOk, OnErr, ◌⊎◌, false};
 ghost use Rattle.std.specs.Fn.{FnOnceTakesAtMut};
 ghost use Rattle.rasn_types.specs.Bytes.{Bytes};
-ghost use Rattle.rasn_types.specs.Errors.{IsEncodeMemory};
+ghost use Rattle.rasn_types.specs.Errors.{IsEncodeOutOfMemory};
 ghost use Rattle.rasn_types.specs.declared.types.rules.Codec.TheVariants.{Ber};
 ghost use Rattle.rasn.specs.Headline.{Answered, AnsweredFirst};
 ghost use Rattle.rasn_enc.specs.View.{started};
-ghost use Rattle.rasn_enc.specs.Primitives.{WantsMemory};
+ghost use Rattle.rasn_enc.specs.Primitives.{TellsOutOfMemory};
 ghost use Rattle.rasn_enc.specs.Wrote.{Undefined};
 ghost use Rattle.rasn_enc.specs.Writing.{WritesBehind, Refuses, Outputs};
 
@@ -40,10 +40,10 @@ pub fn decode_with_remainder<T: Decode>(
     entry::decode_with_remainder(alloc, input, DecoderOptions::ber())
 }
 
-/// The value's octets. It is refused for want of memory, and where the value has no octets.
+/// The value's octets. It is refused for running out of memory, and where the value has no octets.
 pub fn encode<T: Encode>(alloc: Global, value: &T) -> Result<Vec<u8>, EncodeError>
     ensures ok { IfOk result (λ octets. Bytes Ber T.shape (T.tree value.now) octets.items) }
-    ensures refused { IfErr result (λ error. IsEncodeMemory error.kind ⊎ Undefined Ber T.shape (T.tree value.now)) }
+    ensures refused { IfErr result (λ error. IsEncodeOutOfMemory error.kind ⊎ Undefined Ber T.shape (T.tree value.now)) }
 {
     entry::encode(alloc, value, EncoderOptions::ber())
 }
@@ -57,7 +57,7 @@ pub fn encode_buf<T: Encode>(
 ) -> Result<(), EncodeError>
     ensures ok { OnOk result (Bytes Ber T.shape (T.tree value.now) buffer.new.items) }
     ensures err { OnErr result (buffer.new.items ≡ []) }
-    ensures refused { IfErr result (λ error. IsEncodeMemory error.kind ⊎ Undefined Ber T.shape (T.tree value.now)) }
+    ensures refused { IfErr result (λ error. IsEncodeOutOfMemory error.kind ⊎ Undefined Ber T.shape (T.tree value.now)) }
 {
     entry::encode_buf(alloc, value, buffer, EncoderOptions::ber())
 }
@@ -70,7 +70,7 @@ pub fn encode_scope<F: FnOnce(&mut Encoder) -> Result<(), EncodeError>>(
     requires callable { FnOnceTakesAtMut F.FnOnce values (started Ber false) }
     requires keeps { WritesBehind F.FnOnce values (started Ber false) }
     ensures ok { IfOk result (λ octets. Outputs F.FnOnce values Ber octets.items) }
-    ensures refused { IfErr result (λ error. WantsMemory Ber error ⊎ Refuses F.FnOnce values (started Ber false) error) }
+    ensures refused { IfErr result (λ error. TellsOutOfMemory Ber error ⊎ Refuses F.FnOnce values (started Ber false) error) }
 {
     entry::encode_scope(alloc, values, EncoderOptions::ber())
 }

@@ -1,7 +1,7 @@
 //! Canonical encoding rules (X.690 9, 11): reading and writing one value.
 ghost use Rattle.std.specs.Prelude.{◌≡◌, [], IfOk, IfErr, OnOk, OnErr, ◌⊎◌};
 ghost use Rattle.rasn_types.specs.Bytes.{Bytes};
-ghost use Rattle.rasn_types.specs.Errors.{IsEncodeMemory};
+ghost use Rattle.rasn_types.specs.Errors.{IsEncodeOutOfMemory};
 ghost use Rattle.rasn_types.specs.declared.types.rules.Codec.TheVariants.{Cer};
 ghost use Rattle.rasn.specs.Headline.{Answered, AnsweredFirst};
 ghost use Rattle.rasn_enc.specs.Wrote.{Undefined};
@@ -34,10 +34,10 @@ pub fn decode_with_remainder<T: Decode>(
     entry::decode_with_remainder(alloc, input, DecoderOptions::cer())
 }
 
-/// The value's octets. It is refused for want of memory, and where the value has no octets.
+/// The value's octets. It is refused for running out of memory, and where the value has no octets.
 pub fn encode<T: Encode>(alloc: Global, value: &T) -> Result<Vec<u8>, EncodeError>
     ensures ok { IfOk result (λ octets. Bytes Cer T.shape (T.tree value.now) octets.items) }
-    ensures refused { IfErr result (λ error. IsEncodeMemory error.kind ⊎ Undefined Cer T.shape (T.tree value.now)) }
+    ensures refused { IfErr result (λ error. IsEncodeOutOfMemory error.kind ⊎ Undefined Cer T.shape (T.tree value.now)) }
 {
     entry::encode(alloc, value, EncoderOptions::cer())
 }
@@ -51,7 +51,7 @@ pub fn encode_buf<T: Encode>(
 ) -> Result<(), EncodeError>
     ensures ok { OnOk result (Bytes Cer T.shape (T.tree value.now) buffer.new.items) }
     ensures err { OnErr result (buffer.new.items ≡ []) }
-    ensures refused { IfErr result (λ error. IsEncodeMemory error.kind ⊎ Undefined Cer T.shape (T.tree value.now)) }
+    ensures refused { IfErr result (λ error. IsEncodeOutOfMemory error.kind ⊎ Undefined Cer T.shape (T.tree value.now)) }
 {
     entry::encode_buf(alloc, value, buffer, EncoderOptions::cer())
 }

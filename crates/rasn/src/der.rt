@@ -2,11 +2,11 @@
 ghost use Rattle.std.specs.Prelude.{◌≡◌, [], IfOk, IfErr, OnOk, OnErr, ◌⊎◌, false};
 ghost use Rattle.std.specs.Fn.{FnOnceTakesAtMut};
 ghost use Rattle.rasn_types.specs.Bytes.{Bytes};
-ghost use Rattle.rasn_types.specs.Errors.{IsEncodeMemory};
+ghost use Rattle.rasn_types.specs.Errors.{IsEncodeOutOfMemory};
 ghost use Rattle.rasn_types.specs.declared.types.rules.Codec.TheVariants.{Der};
 ghost use Rattle.rasn.specs.Headline.{Answered, AnsweredAlone, Identify, TakesWritten, IsAsWritten};
 ghost use Rattle.rasn_enc.specs.View.{started};
-ghost use Rattle.rasn_enc.specs.Primitives.{WantsMemory};
+ghost use Rattle.rasn_enc.specs.Primitives.{TellsOutOfMemory};
 ghost use Rattle.rasn_enc.specs.Wrote.{Undefined};
 ghost use Rattle.rasn_enc.specs.Writing.{WritesBehind, Refuses, Outputs};
 
@@ -53,11 +53,11 @@ pub fn decode_with_remainder<T: Decode>(
 }
 
 /// The value's octets, which depend on the value alone: two carried values have the same ones exactly if they are equal. It is
-/// refused for want of memory, and where the value has no octets.
+/// refused for running out of memory, and where the value has no octets.
 pub fn encode<T: Encode>(alloc: Global, value: &T) -> Result<Vec<u8>, EncodeError>
     ensures ok { IfOk result (λ octets. Bytes Der T.shape (T.tree value.now) octets.items) }
     ensures canonical { IfOk result (λ octets. Identify T.shape (T.tree value.now) octets.items) }
-    ensures refused { IfErr result (λ error. IsEncodeMemory error.kind ⊎ Undefined Der T.shape (T.tree value.now)) }
+    ensures refused { IfErr result (λ error. IsEncodeOutOfMemory error.kind ⊎ Undefined Der T.shape (T.tree value.now)) }
 {
     entry::encode(alloc, value, EncoderOptions::der())
 }
@@ -72,7 +72,7 @@ pub fn encode_buf<T: Encode>(
     ensures ok { OnOk result (Bytes Der T.shape (T.tree value.now) buffer.new.items) }
     ensures canonical { OnOk result (Identify T.shape (T.tree value.now) buffer.new.items) }
     ensures err { OnErr result (buffer.new.items ≡ []) }
-    ensures refused { IfErr result (λ error. IsEncodeMemory error.kind ⊎ Undefined Der T.shape (T.tree value.now)) }
+    ensures refused { IfErr result (λ error. IsEncodeOutOfMemory error.kind ⊎ Undefined Der T.shape (T.tree value.now)) }
 {
     entry::encode_buf(alloc, value, buffer, EncoderOptions::der())
 }
@@ -85,7 +85,7 @@ pub fn encode_scope<F: FnOnce(&mut Encoder) -> Result<(), EncodeError>>(
     requires callable { FnOnceTakesAtMut F.FnOnce values (started Der false) }
     requires keeps { WritesBehind F.FnOnce values (started Der false) }
     ensures ok { IfOk result (λ octets. Outputs F.FnOnce values Der octets.items) }
-    ensures refused { IfErr result (λ error. WantsMemory Der error ⊎ Refuses F.FnOnce values (started Der false) error) }
+    ensures refused { IfErr result (λ error. TellsOutOfMemory Der error ⊎ Refuses F.FnOnce values (started Der false) error) }
 {
     entry::encode_scope(alloc, values, EncoderOptions::der())
 }

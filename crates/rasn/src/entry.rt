@@ -2,10 +2,10 @@
 ghost use Rattle.std.specs.Prelude.{◌≡◌, [], IfOk, IfErr, OnOk, OnErr, ◌⊎◌, false};
 ghost use Rattle.std.specs.Fn.{FnOnceTakesAtMut, FnOnceReturnsAtMut};
 ghost use Rattle.rasn_types.specs.Bytes.{Bytes};
-ghost use Rattle.rasn_types.specs.Errors.{IsEncodeMemory};
+ghost use Rattle.rasn_types.specs.Errors.{IsEncodeOutOfMemory};
 ghost use Rattle.rasn.specs.Headline.{Answered};
 ghost use Rattle.rasn_enc.specs.View.{started};
-ghost use Rattle.rasn_enc.specs.Primitives.{WantsMemory};
+ghost use Rattle.rasn_enc.specs.Primitives.{TellsOutOfMemory};
 ghost use Rattle.rasn_enc.specs.Wrote.{Undefined};
 ghost use Rattle.rasn_enc.specs.Writing.{WritesBehind, Refuses, Outputs};
 
@@ -37,7 +37,7 @@ pub(crate) fn encode<T: Encode>(
     options: EncoderOptions,
 ) -> Result<Vec<u8>, EncodeError>
     ensures ok { IfOk result (λ octets. Bytes options T.shape (T.tree value.now) octets.items) }
-    ensures refused { IfErr result (λ error. IsEncodeMemory error.kind ⊎ Undefined options T.shape (T.tree value.now)) }
+    ensures refused { IfErr result (λ error. IsEncodeOutOfMemory error.kind ⊎ Undefined options T.shape (T.tree value.now)) }
 {
     encode_over(alloc, value, Vec::new(alloc), options)
 }
@@ -50,7 +50,7 @@ fn encode_over<T: Encode>(
     options: EncoderOptions,
 ) -> Result<Vec<u8>, EncodeError>
     ensures ok { IfOk result (λ octets. Bytes options T.shape (T.tree value.now) octets.items) }
-    ensures refused { IfErr result (λ error. IsEncodeMemory error.kind ⊎ Undefined options T.shape (T.tree value.now)) }
+    ensures refused { IfErr result (λ error. IsEncodeOutOfMemory error.kind ⊎ Undefined options T.shape (T.tree value.now)) }
 {
     let mut encoder = Encoder::new_with_buffer(alloc, options, buffer)?;
     value.encode(&mut encoder)?;
@@ -66,7 +66,7 @@ pub(crate) fn encode_buf<T: Encode>(
 ) -> Result<(), EncodeError>
     ensures ok { OnOk result (Bytes options T.shape (T.tree value.now) buffer.new.items) }
     ensures err { OnErr result (buffer.new.items ≡ []) }
-    ensures refused { IfErr result (λ error. IsEncodeMemory error.kind ⊎ Undefined options T.shape (T.tree value.now)) }
+    ensures refused { IfErr result (λ error. IsEncodeOutOfMemory error.kind ⊎ Undefined options T.shape (T.tree value.now)) }
 {
     let held = mem::replace(buffer, Vec::new(alloc));
     *buffer = encode_over(alloc, value, held, options)?;
@@ -82,7 +82,7 @@ pub(crate) fn encode_scope<F: FnOnce(&mut Encoder) -> Result<(), EncodeError>>(
     requires callable { FnOnceTakesAtMut F.FnOnce values (started options false) }
     requires keeps { WritesBehind F.FnOnce values (started options false) }
     ensures ok { IfOk result (λ octets. Outputs F.FnOnce values options octets.items) }
-    ensures refused { IfErr result (λ error. WantsMemory options error ⊎ Refuses F.FnOnce values (started options false) error) }
+    ensures refused { IfErr result (λ error. TellsOutOfMemory options error ⊎ Refuses F.FnOnce values (started options false) error) }
 {
     let mut encoder = Encoder::new(alloc, options)?;
     run(&mut encoder, values)?;

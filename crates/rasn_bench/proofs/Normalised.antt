@@ -6,7 +6,7 @@ use Rattle.rasn_types.specs.declared.types.rules.Codec.TheVariants.{Ber, Der}
 use Rattle.rasn_types.specs.declared.error.decode.DecodeErrorKind.{DecodeErrorKind}
 use Rattle.rasn_types.specs.declared.error.decode.DecodeErrorKind.TheVariants.{OutOfMemory}
 use Rattle.rasn_types.specs.declared.error.decode.DecodeError.{DecodeError}
-use Rattle.rasn_types.specs.Errors.{IsMemory}
+use Rattle.rasn_types.specs.Errors.{IsOutOfMemory}
 use Rattle.rasn_types.specs.Equality.{Tells}
 use Rattle.rasn_types.specs.Framing.{AreOctets}
 use Rattle.rasn_types.specs.Shapes.{Tree, Shape}
@@ -23,7 +23,7 @@ use Rattle.rasn.proofs.Hold.{one_reading, included, read_again, canonical, stric
 use Rattle.rasn.proofs.StrictMade.{stays_carried}
 use Rattle.rasn_bench.specs.declared.normal.NormaliseError.{NormaliseError}
 use Rattle.rasn_bench.specs.declared.normal.NormaliseError.TheVariants.{Decode, Encode, NotCanonical}
-use Rattle.rasn_bench.specs.Normal.{Means, IsNormal, IsNotCanonical, IsNoNormal, IsMemoryAlone, IsCarriedIn, IsIdentified, IsStable, IsKept, IsUnchanged, IsAnswered, SameExactlyIfEqual}
+use Rattle.rasn_bench.specs.Normal.{Means, IsNormal, IsNotCanonical, IsNoNormal, IsOutOfMemoryAlone, IsCarriedIn, IsIdentified, IsStable, IsKept, IsUnchanged, IsAnswered, SameExactlyIfEqual}
 
 abbrev answer : (T D : Type 0) → T → Result T D
 answer T D v = Ok v
@@ -51,13 +51,13 @@ read_otherwise {rule} {s} {input} {octets} t u means is e again tells apart = re
       true≢false (sym (tells.equal (same_sym t u (subst (Same t) f k))) ∙ apart);
 }
 
--- A refused read is one for want of memory, or nothing is related.
-memory_or_none : (k : DecodeErrorKind) (R : Reading Tree) (input : List ℕ) → Exact R input (refusal k) → IsMemory k ⊎ ((t : Tree) (rest : List ℕ) → R input t rest → ⊥)
+-- A refused read is one for running out of memory, or nothing is related.
+memory_or_none : (k : DecodeErrorKind) (R : Reading Tree) (input : List ℕ) → Exact R input (refusal k) → IsOutOfMemory k ⊎ ((t : Tree) (rest : List ℕ) → R input t rest → ⊥)
 memory_or_none OutOfMemory R input h = inl refl
 memory_or_none _ R input h = inr h
 
 pub not_read : {rule : Codec} {s : Shape} {input octets text : List ℕ} (t : Tree) (e : DecodeError) → Means rule s input t → Bytes Der s t octets → text ≡ octets
-    → Exact (Reads Der s 128 (top Der)) text (refusal e.kind) ⊎ IsFollowed Der s text e → (IsMemory e.kind → ⊥) → IsNotCanonical rule s input
+    → Exact (Reads Der s 128 (top Der)) text (refusal e.kind) ⊎ IsFollowed Der s text e → (IsOutOfMemory e.kind → ⊥) → IsNotCanonical rule s input
 not_read {rule} {s} {input} {octets} {text} t e means is f refused other = record {
   value = t;
   means = means;
@@ -126,7 +126,7 @@ unfolding carried_as
 same_exactly_if_equal s lawful rule other input second t u c d a b n m = canonical s lawful t u (carried_as n c) (carried_as m d)
 
 -- Where the conversion is refused for another cause than memory, there is no normal encoding.
-pub no_normal : {rule : Codec} {s : Shape} {input : List ℕ} (e : NormaliseError) → IsNoNormal rule s input e → IsMemoryAlone e ⊎ ((octets : List ℕ) → IsNormal rule s input octets → ⊥)
+pub no_normal : {rule : Codec} {s : Shape} {input : List ℕ} (e : NormaliseError) → IsNoNormal rule s input e → IsOutOfMemoryAlone e ⊎ ((octets : List ℕ) → IsNormal rule s input octets → ⊥)
 no_normal {rule} {s} {input} (Decode e) (inl x) = elim (memory_or_none e.kind (Reads rule s 128 (top rule)) input x) [
   | inl m ↦ inl m
   | inr h ↦ inr (λ octets n. h n.value [] n.means.0)

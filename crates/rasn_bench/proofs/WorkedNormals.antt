@@ -7,13 +7,13 @@ use Rattle.rasn_types.specs.Bytes.{Bytes}
 use Rattle.rasn_types.specs.Lawful.{IsLawful}
 use Rattle.rasn_types.specs.Grammar.{top}
 use Rattle.rasn_types.proofs.Itself.{one_writing}
-use Rattle.rasn.specs.WorkedShapes.{named, bag_of_octets}
+use Rattle.rasn.specs.WorkedShapes.{named, octets_in_set_of}
 use Rattle.rasn.specs.Worked.{smith as smith_tree}
 use Rattle.rasn.proofs.Hold.{one_reading, read_again}
 use Rattle.rasn.proofs.Worked.{worked}
 use Rattle.rasn.proofs.WorkedShapes.{shapes}
 use Rattle.rasn_bench.specs.Normal.{IsNormal, IsCarriedIn}
-use Rattle.rasn_bench.specs.WorkedNormals.{smith_in_segments, smith, falling_bag, WorkedNormals}
+use Rattle.rasn_bench.specs.WorkedNormals.{smith_in_segments, smith, falling_set_of, WorkedNormals}
 
 -- The octets of a carried value are its normal encoding.
 normal : (rule : Codec) (s : Shape) → IsLawful s → (input : List ℕ) (t : Tree) (c : IsCarriedIn rule s input t) → IsNormal rule s input c.carried.octets
@@ -40,9 +40,9 @@ not_kept n =
     (subst (λ z. Bytes Der named z smith_in_segments) (k.means.1 n.value [] n.means.0).0 n.written) k.written in
     cc
 
-falls : (octets : List ℕ) → IsNormal Ber bag_of_octets falling_bag octets → ⊥
+falls : (octets : List ℕ) → IsNormal Ber octets_in_set_of falling_set_of octets → ⊥
 falls octets n =
-    worked.bag_not_written Der octets (subst (λ z. Bytes Der bag_of_octets z octets) (sym (n.means.1 _ [] (worked.bag_out_of_order Ber (λ z. z))).0) n.written)
+    worked.set_of_not_written Der octets (subst (λ z. Bytes Der octets_in_set_of z octets) (sym (n.means.1 _ [] (worked.set_of_out_of_order Ber (λ z. z))).0) n.written)
 
 pub worked_normals : WorkedNormals
 worked_normals = record { joined = joined; not_kept = not_kept; falls = falls }

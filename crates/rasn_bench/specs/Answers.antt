@@ -3,7 +3,7 @@ use Rattle.std.specs.Prelude.{◌≡◌, ℕ, ◌⊎◌, List, Some, None, lengt
 use Rattle.rasn_types.specs.declared.types.rules.Codec.{Codec}
 use Rattle.rasn_types.specs.declared.types.rules.Codec.TheVariants.{Der}
 use Rattle.rasn_types.specs.Tags.{in_universal}
-use Rattle.rasn_types.specs.Shapes.{Tree, Shape, leaf, boolean, integer, octet_string, every, utc_time, generalized_time, date, null, object_identifier, bit_string, enumerated, utf8, ia5, printable, option, any, seq, part, required, bag}
+use Rattle.rasn_types.specs.Shapes.{Tree, Shape, leaf, boolean, integer, octet_string, every, utc_time, generalized_time, date, null, object_identifier, bit_string, enumerated, utf8, ia5, printable, option, any, seq, part, required, set_of}
 use Rattle.rasn_types.specs.Trees.{unconstrained, signed_range, unsigned_range}
 use Rattle.rasn_types.specs.Grammar.{Reads, top}
 use Rattle.rasn_types.specs.Bytes.{Bytes}
@@ -11,7 +11,7 @@ use Rattle.rasn_bench.specs.declared.line.ValueType.{ValueType}
 use Rattle.rasn_bench.specs.declared.line.ValueType.TheVariants.{Bool, I32, U32, Octets, Pair, Integer, UtcTime, GeneralizedTime, Date, Null, ObjectIdentifier, Bits, Colour, Utf8, Ia5, Printable, Foo, OptionalBool, Validity, Any, AlgorithmIdentifier, RelativeDistinguishedName, Set3, Bag}
 use Rattle.rasn_bench.specs.declared.answer.Answer.{Answer}
 use Rattle.rasn_bench.specs.declared.answer.Answer.TheVariants.{Read, NotWritten, Refused, Malformed}
-use Rattle.rasn_bench.specs.Lines.{IsRequest, octets_at}
+use Rattle.rasn_bench.specs.Lines.{IsRequest, octets_of_digits}
 use Rattle.rasn_types.specs.Shapes.Parts.{none}
 use Rattle.rasn_bench.specs.Pairs.{pair_shape}
 use Rattle.rasn_bench.specs.Choices.{validity_shape}
@@ -44,33 +44,33 @@ shape_of Any = any None
 shape_of AlgorithmIdentifier = algorithm_shape
 shape_of RelativeDistinguishedName = name_shape
 shape_of Set3 = set3_shape
-shape_of Bag = bag (in_universal 17) (leaf octet_string (in_universal 4) unconstrained) None
+shape_of Bag = set_of (in_universal 17) (leaf octet_string (in_universal 4) unconstrained) None
 
-abbrev pub kind_of : ValueType → List ℕ
-kind_of Bool = codes "BOOLEAN"
-kind_of I32 = codes "INTEGER"
-kind_of U32 = codes "INTEGER"
-kind_of Octets = codes "OCTET-STRING"
-kind_of Pair = codes "SEQUENCE"
-kind_of Integer = codes "INTEGER"
-kind_of UtcTime = codes "TIME"
-kind_of GeneralizedTime = codes "TIME"
-kind_of Date = codes "TIME"
-kind_of Null = codes "NULL"
-kind_of ObjectIdentifier = codes "OID"
-kind_of Bits = codes "BIT-STRING"
-kind_of Colour = codes "ENUMERATED"
-kind_of Utf8 = codes "STRING"
-kind_of Ia5 = codes "STRING"
-kind_of Printable = codes "STRING"
-kind_of Foo = codes "SEQUENCE"
-kind_of OptionalBool = codes "OPTIONAL"
-kind_of Validity = codes "SEQUENCE"
-kind_of Any = codes "ANY"
-kind_of AlgorithmIdentifier = codes "SEQUENCE"
-kind_of RelativeDistinguishedName = codes "SET"
-kind_of Set3 = codes "SET"
-kind_of Bag = codes "SET"
+abbrev pub type_word : ValueType → List ℕ
+type_word Bool = codes "BOOLEAN"
+type_word I32 = codes "INTEGER"
+type_word U32 = codes "INTEGER"
+type_word Octets = codes "OCTET-STRING"
+type_word Pair = codes "SEQUENCE"
+type_word Integer = codes "INTEGER"
+type_word UtcTime = codes "TIME"
+type_word GeneralizedTime = codes "TIME"
+type_word Date = codes "TIME"
+type_word Null = codes "NULL"
+type_word ObjectIdentifier = codes "OID"
+type_word Bits = codes "BIT-STRING"
+type_word Colour = codes "ENUMERATED"
+type_word Utf8 = codes "STRING"
+type_word Ia5 = codes "STRING"
+type_word Printable = codes "STRING"
+type_word Foo = codes "SEQUENCE"
+type_word OptionalBool = codes "OPTIONAL"
+type_word Validity = codes "SEQUENCE"
+type_word Any = codes "ANY"
+type_word AlgorithmIdentifier = codes "SEQUENCE"
+type_word RelativeDistinguishedName = codes "SET"
+type_word Set3 = codes "SET"
+type_word Bag = codes "SET"
 
 -- By these rules the input begins with this value, and so many octets follow it.
 pub record IsRead (rule : Codec) (shape : Shape) (input : List ℕ) (t : Tree) (count : ℕ) : Type 0 where
@@ -90,8 +90,8 @@ IsAnswer rule shape kind input Malformed = ⊥
 pub record Asks (line : List ℕ) (rule : Codec) (kind : ValueType) (octets : List ℕ) : Type 0 where
   pub digits : List ℕ
   pub request : IsRequest line rule kind digits
-  pub spelled : octets_at digits ≡ Some octets
+  pub spelled : octets_of_digits digits ≡ Some octets
 
 abbrev pub IsAnswerTo : List ℕ → Answer → Type 0
 IsAnswerTo line Malformed = (rule : Codec) (kind : ValueType) (octets : List ℕ) → Asks line rule kind octets → ⊥
-IsAnswerTo line answer = (rule : Codec) × (kind : ValueType) × (octets : List ℕ) × Asks line rule kind octets × IsAnswer rule (shape_of kind) (kind_of kind) octets answer
+IsAnswerTo line answer = (rule : Codec) × (kind : ValueType) × (octets : List ℕ) × Asks line rule kind octets × IsAnswer rule (shape_of kind) (type_word kind) octets answer

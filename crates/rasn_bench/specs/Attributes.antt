@@ -1,7 +1,7 @@
 -- AttributeTypeAndValue ::= SEQUENCE { type OBJECT IDENTIFIER, value ANY DEFINED BY type }
 use Rattle.std.specs.Prelude.{[], ◌∷◌, None}
 use Rattle.rasn_types.specs.Tags.{in_universal}
-use Rattle.rasn_types.specs.Shapes.{Shape, Tree, numbers, items, leaf, object_identifier, any, seq, bag, Parts, part, required}
+use Rattle.rasn_types.specs.Shapes.{Shape, Tree, numbers, items, leaf, object_identifier, any, seq, set_of, Parts, part, required}
 use Rattle.rasn_types.specs.Shapes.Parts.{none}
 use Rattle.rasn_types.specs.Trees.{open_tree, unconstrained}
 use Rattle.rasn_bench.specs.declared.worked.attribute.AttributeTypeAndValue.{AttributeTypeAndValue}
@@ -17,4 +17,4 @@ attribute_tree a = items (numbers a.kind ∷ open_tree a.value ∷ [])
 
 -- RelativeDistinguishedName ::= SET OF AttributeTypeAndValue
 abbrev pub name_shape : Shape
-name_shape = bag (in_universal 17) attribute_shape None
+name_shape = set_of (in_universal 17) attribute_shape None

@@ -84,10 +84,10 @@ pairs_at (a ∷ []) = None
 pairs_at (a ∷ b ∷ l) = behind (pair_at a b) (pairs_at l)
 
 -- What digits spell: a hyphen is no octets, and no digits spell nothing.
-abbrev pub octets_at : List ℕ → Option (List ℕ)
-octets_at [] = None
-octets_at (c ∷ []) = if nat_eq c 45 then Some [] else None
-octets_at (a ∷ b ∷ l) = pairs_at (a ∷ b ∷ l)
+abbrev pub octets_of_digits : List ℕ → Option (List ℕ)
+octets_of_digits [] = None
+octets_of_digits (c ∷ []) = if nat_eq c 45 then Some [] else None
+octets_of_digits (a ∷ b ∷ l) = pairs_at (a ∷ b ∷ l)
 
 -- What was read off the digits.
 abbrev pub Spells : {A : Type 0} → (List ℕ → Option (List ℕ)) → List ℕ → Option (Vec ℕ A) → Type 0

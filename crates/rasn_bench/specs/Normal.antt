@@ -3,7 +3,7 @@ use Rattle.std.specs.Prelude.{◌≡◌, ◌⊎◌, ◌↔◌, ℕ, List, [], �
 use Rattle.rasn_types.specs.declared.types.rules.Codec.{Codec}
 use Rattle.rasn_types.specs.declared.types.rules.Codec.TheVariants.{Ber, Der}
 use Rattle.rasn_types.specs.Framing.{AreOctets}
-use Rattle.rasn_types.specs.Errors.{IsMemory, IsEncodeMemory}
+use Rattle.rasn_types.specs.Errors.{IsOutOfMemory, IsEncodeOutOfMemory}
 use Rattle.rasn_types.specs.Shapes.{Tree, Shape}
 use Rattle.rasn_types.specs.Grammar.{Reads, top}
 use Rattle.rasn_types.specs.Bytes.{Same, Bytes}
@@ -40,13 +40,13 @@ pub record IsNotCanonical (rule : Codec) (s : Shape) (input : List ℕ) : Type 0
 -- read back.
 abbrev pub IsNoNormal : Codec → Shape → List ℕ → NormaliseError → Type 0
 IsNoNormal rule s input (Decode e) = Exact (Reads rule s 128 (top rule)) input (refusal e.kind) ⊎ IsFollowed rule s input e
-IsNoNormal rule s input (Encode e) = IsEncodeMemory e.kind ⊎ ((value : Tree) × Means rule s input value × Undefined Der s value)
+IsNoNormal rule s input (Encode e) = IsEncodeOutOfMemory e.kind ⊎ ((value : Tree) × Means rule s input value × Undefined Der s value)
 IsNoNormal rule s input NotCanonical = IsNotCanonical rule s input
 
-abbrev pub IsMemoryAlone : NormaliseError → Type 0
-IsMemoryAlone (Decode e) = IsMemory e.kind
-IsMemoryAlone (Encode e) = IsEncodeMemory e.kind
-IsMemoryAlone NotCanonical = ⊥
+abbrev pub IsOutOfMemoryAlone : NormaliseError → Type 0
+IsOutOfMemoryAlone (Decode e) = IsOutOfMemory e.kind
+IsOutOfMemoryAlone (Encode e) = IsEncodeOutOfMemory e.kind
+IsOutOfMemoryAlone NotCanonical = ⊥
 
 -- All of the input is read as this value, which is carried.
 pub record IsCarriedIn (rule : Codec) (s : Shape) (input : List ℕ) (t : Tree) : Type 0 where
@@ -72,9 +72,9 @@ IsKept rule s input octets = IsLawful s → AreOctets octets → (t : Tree) → 
 abbrev pub IsUnchanged : Codec → Shape → List ℕ → List ℕ → Type 0
 IsUnchanged rule s input octets = IsLawful s → (t : Tree) → IsCarriedIn rule s input t → (u : Tree) → Reads Der s 128 (top Der) input u [] → octets ≡ input
 
--- Only want of memory refuses what is read as a carried value.
+-- Only running out of memory refuses what is read as a carried value.
 abbrev pub IsAnswered : Codec → Shape → List ℕ → NormaliseError → Type 0
-IsAnswered rule s input e = IsLawful s → (t : Tree) → IsCarriedIn rule s input t → IsMemoryAlone e
+IsAnswered rule s input e = IsLawful s → (t : Tree) → IsCarriedIn rule s input t → IsOutOfMemoryAlone e
 
 -- Two inputs of carried values, by any rules, have the same octets exactly if their values are the same.
 abbrev pub SameExactlyIfEqual : Type 0

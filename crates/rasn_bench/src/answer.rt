@@ -1,6 +1,6 @@
 //! What the program answers to a line.
 ghost use Rattle.std.specs.Prelude.{IfOk, IsTrue, ◌↔◌, ◌≢◌};
-ghost use Rattle.rasn_bench.specs.Answers.{IsAnswer, IsAnswerTo, shape_of, kind_of};
+ghost use Rattle.rasn_bench.specs.Answers.{IsAnswer, IsAnswerTo, shape_of, type_word};
 ghost use Rattle.rasn_bench.specs.declared.answer.Answer.TheVariants.{Malformed};
 
 use crate::line::{Request, ValueType};
@@ -66,7 +66,7 @@ impl Answer {
 
 /// The answer to a request for these octets.
 fn answer_to(alloc: Global, request: Request<'_>, octets: &[u8]) -> Answer
-    ensures { IsAnswer request.entry.rule (shape_of request.entry.value_type) (kind_of request.entry.value_type) octets.now result }
+    ensures { IsAnswer request.entry.rule (shape_of request.entry.value_type) (type_word request.entry.value_type) octets.now result }
 {
     let rule = request.rule;
     match request.value_type {

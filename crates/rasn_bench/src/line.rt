@@ -1,7 +1,7 @@
 //! The lines of the program: `rule type hex`.
 ghost use Rattle.std.specs.Prelude.{◌≡◌, ◌≢◌, ◌<◌, MatchOption, IfOk, IfSome, List, [], length, ℕ, Some, None};
 ghost use Rattle.rasn_types.specs.declared.types.rules.Codec.{Codec};
-ghost use Rattle.rasn_bench.specs.Lines.{name_of, rule_name, IsRequest, Spells, octets_at, pairs_at, pair_at, digit_at, behind};
+ghost use Rattle.rasn_bench.specs.Lines.{name_of, rule_name, IsRequest, Spells, octets_of_digits, pairs_at, pair_at, digit_at, behind};
 ghost use Rattle.rasn_bench.specs.declared.line.ValueType.{ValueType};
 
 use rasn::types::Codec;
@@ -111,7 +111,7 @@ impl<'line> Request<'line> {
 
     /// The octets that the digits spell, `-` for none; or nothing where they are no such spelling.
     pub fn octets(&self, alloc: Global) -> Result<Option<Vec<u8>>, AllocError>
-        ensures { IfOk result (Spells octets_at self.now.digits.now) }
+        ensures { IfOk result (Spells octets_of_digits self.now.digits.now) }
     {
         match self.digits.as_bytes() {
             [] => Ok(None),

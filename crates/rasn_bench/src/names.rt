@@ -1,6 +1,6 @@
 //! The names of error kinds, as the program prints them.
 ghost use Rattle.std.specs.Prelude.{◌≡◌, codes};
-ghost use Rattle.rasn_types.specs.Errors.{IsMemory, IsEncodeMemory};
+ghost use Rattle.rasn_types.specs.Errors.{IsOutOfMemory, IsEncodeOutOfMemory};
 
 use rasn::error::{
     BerDecodeErrorKind, BerEncodeErrorKind, CodecDecodeError, CodecEncodeError, DecodeErrorKind,
@@ -9,7 +9,7 @@ use rasn::error::{
 
 /// The name of the innermost kind of a refused read.
 pub(crate) fn decode_error_name(kind: &DecodeErrorKind) -> &'static str
-    ensures { IsMemory kind.now → result.now ≡ codes "OutOfMemory" }
+    ensures { IsOutOfMemory kind.now → result.now ≡ codes "OutOfMemory" }
 {
     match kind {
         DecodeErrorKind::Incomplete { .. } => "Incomplete",
@@ -74,7 +74,7 @@ fn ber_decode_error_name(kind: &BerDecodeErrorKind) -> &'static str {
 
 /// The name of the innermost kind of a refused write.
 pub(crate) fn encode_error_name(kind: &EncodeErrorKind) -> &'static str
-    ensures { IsEncodeMemory kind.now → result.now ≡ codes "OutOfMemory" }
+    ensures { IsEncodeOutOfMemory kind.now → result.now ≡ codes "OutOfMemory" }
 {
     match kind {
         EncodeErrorKind::SizeConstraintNotSatisfied { .. } => "SizeConstraintNotSatisfied",

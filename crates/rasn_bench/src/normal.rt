@@ -2,7 +2,7 @@
 ghost use Rattle.std.specs.Prelude.{IfOk, IfErr, IsTrue, ◌↔◌};
 ghost use Rattle.rasn.specs.Headline.{Answered, AnsweredAlone};
 ghost use Rattle.rasn_bench.specs.WorkedNormals.{WorkedNormals};
-ghost use Rattle.rasn_bench.specs.Normal.{IsNormal, IsNoNormal, IsIdentified, IsKept, IsUnchanged, IsAnswered, IsMemoryAlone, SameExactlyIfEqual};
+ghost use Rattle.rasn_bench.specs.Normal.{IsNormal, IsNoNormal, IsIdentified, IsKept, IsUnchanged, IsAnswered, IsOutOfMemoryAlone, SameExactlyIfEqual};
 
 use rasn::de::Decode;
 use rasn::enc::Encode;
@@ -27,9 +27,9 @@ pub enum NormaliseError {
 }
 
 impl NormaliseError {
-    /// Whether the cause is want of memory alone.
+    /// Whether the cause is running out of memory alone.
     pub fn is_out_of_memory(&self) -> bool
-        ensures { IsTrue result ↔ IsMemoryAlone self.now }
+        ensures { IsTrue result ↔ IsOutOfMemoryAlone self.now }
     {
         match self {
             NormaliseError::Decode(error) => error.is_out_of_memory(),
@@ -42,7 +42,7 @@ impl NormaliseError {
 /// The DER octets of the value that is all of the input by these rules.
 ///
 /// Of inputs of carried values, two have the same octets exactly if their values are equal; the octets of the octets are these
-/// again; what DER reads is its own answer; and only want of memory refuses.
+/// again; what DER reads is its own answer; and only running out of memory refuses.
 ///
 /// # Errors
 /// `Decode` where the rules don't read the input, and `UnexpectedExtraData` with these rules where octets follow the value

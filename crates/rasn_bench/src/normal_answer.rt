@@ -1,7 +1,7 @@
 //! What the program answers to a line where it normalises.
 ghost use Rattle.std.specs.Prelude.{IfOk, IsTrue, ◌↔◌, ◌≢◌, ◌≡◌, codes};
 ghost use Rattle.rasn_bench.specs.Answers.{shape_of};
-ghost use Rattle.rasn_bench.specs.Normal.{IsMemoryAlone};
+ghost use Rattle.rasn_bench.specs.Normal.{IsOutOfMemoryAlone};
 ghost use Rattle.rasn_bench.specs.NormalAnswers.{IsNormalAnswer, IsNormalAnswerTo};
 ghost use Rattle.rasn_bench.specs.declared.normal_answer.NormalAnswer.TheVariants.{Malformed};
 
@@ -107,7 +107,7 @@ fn answer_as<T: Decode + Encode + LawfulEq>(
 
 /// The name of the innermost kind of a refusal.
 fn error_name(error: &NormaliseError) -> &'static str
-    ensures { IsMemoryAlone error.now → result.now ≡ codes "OutOfMemory" }
+    ensures { IsOutOfMemoryAlone error.now → result.now ≡ codes "OutOfMemory" }
 {
     match error {
         NormaliseError::Decode(error) => decode_error_name(&error.kind),

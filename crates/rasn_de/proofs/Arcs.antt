@@ -20,7 +20,7 @@ use Rattle.rasn_de.specs.declared.ber.de.parser.Fault.{Fault}
 use Rattle.rasn_de.specs.declared.ber.de.parser.Fault.TheVariants.{OutOfMemory, UnsupportedObjectIdentifierArc, Der}
 use Rattle.rasn_types.specs.declared.error.decode.DerDecodeErrorKind.TheVariants.{NonMinimalArc}
 use Rattle.rasn_de.specs.Headers.{number128_at, is_padded, is_der}
-use Rattle.rasn_de.specs.Causes.{Cause, fault, out_of_bound, kind_of}
+use Rattle.rasn_de.specs.Causes.{Cause, fault, out_of_bound, error_kind}
 use Rattle.rasn_de.specs.Leaves.{FromContents, definite_at, Refuses}
 use Rattle.rasn_de.specs.ObjectIdentifiers.{arc_at, ReadsArcs, StopsAt, ObjectIdentifierIn, FindsArcs, GaveArcs, HoldsArcs, GaveObjectIdentifier}
 use Rattle.rasn_de.specs.State.{State, at}
@@ -32,7 +32,7 @@ use Rattle.rasn_de.proofs.Memory.{NoMemory, number128_none, none_cond}
 use Rattle.rasn_de.proofs.Tools.{guarded}
 use Rattle.rasn_de.proofs.Peeks.{kind_memory, memory_or}
 use Rattle.rasn_de.proofs.Refusals.{rule_is, leaf_refused, contents_read}
-use Rattle.rasn_de.proofs.Starving.{leaf_plain, IsPlainCause}
+use Rattle.rasn_de.proofs.OutOfMemory.{leaf_plain, IsPlainCause}
 use Rattle.rasn_de.proofs.Answering.{plain_agrees, gave_answers, definite_end}
 
 abbrev pub arcs_of : ℕ → List ℕ → List ℕ
@@ -207,7 +207,7 @@ stops_none rule c f arcs s (n, ns, a, e) w =
         let m = s.stops in
         cc
 
--- A refusal isn't for want of memory.
+-- A refusal isn't for running out of memory.
 pub stops_memory : (rule : Codec) (c : List ℕ) (f : Fault) → StopsAt rule c f → f ≢ OutOfMemory
 stops_memory rule c f s =
     subst NoMemory s.stops (none_cond (is_der rule && is_padded s.back) (Err (Der NonMinimalArc)) _ (λ e. cc) (number128_none UnsupportedObjectIdentifierArc 0 s.back (λ e. cc)))
@@ -262,7 +262,7 @@ pub arcs_told : (rule : Codec) (c : List ℕ) (s : State) (f : Fault) (e : Decod
 arcs_told rule c s f e h k = (
   ap (λ (x : DecodeError). x.codec) k,
   elim (memory_or f) [
-    | inl m ↦ inl (ap (λ (x : DecodeError). x.kind) k ∙ ap kind_of m)
+    | inl m ↦ inl (ap (λ (x : DecodeError). x.kind) k ∙ ap error_kind m)
     | inr n ↦ inr (f, h n, ap (λ (x : DecodeError). x.kind) k)
   ],
 )

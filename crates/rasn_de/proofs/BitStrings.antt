@@ -22,8 +22,8 @@ use Rattle.rasn_types.specs.declared.error.decode.DerDecodeErrorKind.TheVariants
 use Rattle.rasn_de.specs.Headers.{is_der, Header, header_at}
 use Rattle.rasn_de.specs.declared.ber.de.parser.headers.Expected.TheVariants.{Tagged}
 use Rattle.rasn_de.specs.Strings.{string_of}
-use Rattle.rasn_de.specs.Causes.{Cause, fault, kind_of}
-use Rattle.rasn_de.specs.BitStrings.{is_miscounted, last_bits, is_any_set, segment_bits, bits_at, bits_tree, BitsAt, IsOversized, LacksBits, GaveBits, GathersBits}
+use Rattle.rasn_de.specs.Causes.{Cause, fault, error_kind}
+use Rattle.rasn_de.specs.BitStrings.{is_miscounted, last_bits, is_any_set, segment_bits, bit_string_at, bits_tree, BitsAt, IsOversized, LacksBits, GaveBits, GathersBits}
 use Rattle.rasn_de.specs.State.{State, at, IsEnd}
 use Rattle.rasn_de.specs.Taking.{ErrorOf}
 use Rattle.rasn_de.specs.Outcomes.{Exact, refusal}
@@ -102,15 +102,15 @@ segment_only rule l bs (s, w) =
 
 -- ---- the whole string
 module _ (rule : Codec) (d : ℕ) (tag : Tag) (l : List ℕ) (o : AreOctets l) where
-  bits_there : (bs : List Bool) (r : List ℕ) → bits_at rule d tag l ≡ Ok (bs, r) → Str rule (ReadBits rule) (in_universal 3) d tag l bs r
+  bits_there : (bs : List Bool) (r : List ℕ) → bit_string_at rule d tag l ≡ Ok (bs, r) → Str rule (ReadBits rule) (in_universal 3) d tag l bs r
   bits_there bs r e =
       string_map rule (ReadsBy (segment_bits rule)) (ReadBits rule) (segment_there rule) (in_universal 3) d tag l bs r (string_found rule (segment_bits rule) (in_universal 3) d tag l (bs, r) o e).0
 
-  bits_only : (bs : List Bool) (r : List ℕ) → Str rule (ReadBits rule) (in_universal 3) d tag l bs r → bits_at rule d tag l ≡ Ok (bs, r)
+  bits_only : (bs : List Bool) (r : List ℕ) → Str rule (ReadBits rule) (in_universal 3) d tag l bs r → bit_string_at rule d tag l ≡ Ok (bs, r)
   bits_only bs r s =
       string_spelled rule (segment_bits rule) (in_universal 3) d tag l bs r o (string_map rule (ReadBits rule) (ReadsBy (segment_bits rule)) (segment_only rule) (in_universal 3) d tag l bs r s)
 
-  pub bits_end : (bs : List Bool) (r : List ℕ) → bits_at rule d tag l ≡ Ok (bs, r) → IsEnd l r
+  pub bits_end : (bs : List Bool) (r : List ℕ) → bit_string_at rule d tag l ≡ Ok (bs, r) → IsEnd l r
   bits_end bs r e = string_ends rule (ReadBits rule) (in_universal 3) d tag l bs r (bits_there bs r e)
 
 bits_agree : (bounds : Constraints) (rule : Codec) (depth : ℕ) (tag : Tag) (l : List ℕ) → AreOctets l → (r : Result (List Bool × List ℕ) (Cause × List ℕ)) → BitsAt bounds rule depth tag l r
@@ -165,7 +165,7 @@ lacks_end rule depth tag l f left o (inr (inl (n, e, r))) = subst (IsEnd l) (sym
 lacks_end rule depth tag l f left o (inr (inr (n, e, bs, h))) = bits_end rule depth tag l o bs left h
 
 -- bits that were gathered
-pub gathered_bits : (tag : Tag) (old new : State) (bs : List Bool) (rest : List ℕ) → bits_at old.rule old.depth tag old.rest ≡ Ok (bs, rest) → new ≡ at old rest → GathersBits tag old (Ok bs) new
+pub gathered_bits : (tag : Tag) (old new : State) (bs : List Bool) (rest : List ℕ) → bit_string_at old.rule old.depth tag old.rest ≡ Ok (bs, rest) → new ≡ at old rest → GathersBits tag old (Ok bs) new
 gathered_bits tag old new bs rest h e =
     let P : State → Type 0 = λ n. GathersBits tag old (Ok bs) n in
     subst P (sym e) (h, refl)
@@ -183,13 +183,13 @@ gathers_refused tag bounds old new e (f, k, s, lacks) = go lacks
     codec_is : e.codec ≡ old.rule
     codec_is = ap (λ (x : DecodeError). x.codec) k
 
-    kind_is : e.kind ≡ kind_of f
+    kind_is : e.kind ≡ error_kind f
     kind_is = ap (λ (x : DecodeError). x.kind) k
 
     go : LacksBits old.rule old.depth tag old.rest f new.rest → GaveBits tag bounds old (Err e) new
     go (inl (n, read, r)) = inr (inr ((λ h. kind_memory f n (sym kind_is ∙ h)), (fault f, inl (f, read, ap (λ z. (fault f, z)) r), kind_is, codec_is, s)))
-    go (inr (inl (m, w, r))) = inl (kind_is ∙ ap kind_of m, codec_is, s ∙ ap (λ z. at old z) r, w)
-    go (inr (inr (m, w, bs, h))) = inr (inl (kind_is ∙ ap kind_of m, codec_is, s, w, bs, h))
+    go (inr (inl (m, w, r))) = inl (kind_is ∙ ap error_kind m, codec_is, s ∙ ap (λ z. at old z) r, w)
+    go (inr (inr (m, w, bs, h))) = inr (inl (kind_is ∙ ap error_kind m, codec_is, s, w, bs, h))
 
 -- 2 ^ 64 bits or more
 pub gathers_wide : (tag : Tag) (bounds : Constraints) (old new : State) (bs : List Bool) (e : DecodeError) → GathersBits tag old (Ok bs) new → 2 ^ 64 ≤ length bs → ErrorOf LengthExceedsPlatformWidth new e → GaveBits tag bounds old (Err e) new
@@ -223,7 +223,7 @@ module _ (rule : Codec) (d : ℕ) (tag : Tag) (l : List ℕ) where
   no_header f e = inl (header_memory rule tag l f e, rw e refl, refl)
 
   module _ (h : Header) (e : header_at (form rule) (Tagged tag) l ≡ Ok h) where
-    pub one_segment : (c : List ℕ) (bs : List Bool) → (h.bit ≡ false) × (h.extent ≡ definite c) → segment_bits rule c ≡ Ok bs → bits_at rule d tag l ≡ Ok (bs, h.rest)
+    pub one_segment : (c : List ℕ) (bs : List Bool) → (h.bit ≡ false) × (h.extent ≡ definite c) → segment_bits rule c ≡ Ok bs → bit_string_at rule d tag l ≡ Ok (bs, h.rest)
     one_segment c bs (b, x) s = rw e (string_plain rule (segment_bits rule) (in_universal 3) d h c bs b x s)
 
     pub segment_lacks : (c : List ℕ) (f : Fault) → (h.bit ≡ false) × (h.extent ≡ definite c) → segment_bits rule c ≡ Err f → LacksBits rule d tag l f l

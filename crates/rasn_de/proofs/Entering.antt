@@ -49,7 +49,7 @@ enters_none d old new e n x q (f, h, k, s) =
 
 pub enters_primitive : (d : Door) (old new : State) (v : Value) (e : DecodeError) → old.depth ≢ 0 → (x : Expected) → x ≡ asks d old.rule → Takes x old (Ok v) new → d.needed && not (constructed_bit v.identifier) ≡ true → ErrorOf InvalidConstructedIdentifier new e → Enters d old (Err e) new
 enters_primitive d old new v e n x q (h, s, p) b k =
-    (InvalidConstructedIdentifier, door_through d old.rule old.depth old.rest (Ok (framed v new.rest)) n (asked_there d old x (Ok (framed v new.rest)) q h) ∙ rw b refl, k ∙ ap (λ c. record { kind = Rattle.rasn_de.specs.Causes.kind_of InvalidConstructedIdentifier; codec = c }) (ap (λ (x : State). x.rule) s), record { stays = s; end = p })
+    (InvalidConstructedIdentifier, door_through d old.rule old.depth old.rest (Ok (framed v new.rest)) n (asked_there d old x (Ok (framed v new.rest)) q h) ∙ rw b refl, k ∙ ap (λ c. record { kind = Rattle.rasn_de.specs.Causes.error_kind InvalidConstructedIdentifier; codec = c }) (ap (λ (x : State). x.rule) s), record { stays = s; end = p })
 
 pub enters_value : (d : Door) (old new : State) (v : Value) → old.depth ≢ 0 → (x : Expected) → x ≡ asks d old.rule → Takes x old (Ok v) new → d.needed && not (constructed_bit v.identifier) ≡ false → Enters d old (Ok v) new
 enters_value d old new v n x q (h, s, p) b =

@@ -10,7 +10,7 @@ use Rattle.rasn_types.specs.Shapes.{Tree, number, leaf, integer, enumerated, IsI
 use Rattle.rasn_types.specs.Trees.{unconstrained, signed_range}
 use Rattle.rasn_types.specs.Contents.{signed}
 use Rattle.rasn_types.specs.Grammar.{Reads, IsBounded}
-use Rattle.rasn_types.specs.Errors.{IsMemory}
+use Rattle.rasn_types.specs.Errors.{IsOutOfMemory}
 use Rattle.rasn_types.proofs.Numbered.{fits-isize}
 use Rattle.rasn_de.specs.declared.ber.de.parser.Fault.TheVariants.{DiscriminantValueNotFound}
 use Rattle.rasn_de.specs.Causes.{Cause, fault, out_of_bound}
@@ -21,7 +21,7 @@ use Rattle.rasn_de.specs.Taking.{ErrorOf}
 use Rattle.rasn_de.specs.Decodes.{Decodes}
 use Rattle.rasn_de.proofs.Answering.{Exact-none, Exact-refusal}
 use Rattle.rasn_de.proofs.Refusals.{refuses_fault}
-use Rattle.rasn_de.proofs.Starving.{IsPlainCause, leaf_plain, lacks_plain}
+use Rattle.rasn_de.proofs.OutOfMemory.{IsPlainCause, leaf_plain, lacks_plain}
 
 -- a whole number of 64 bits
 abbrev pub Number : Codec → List ℕ → Result ℤ Cause → Type 0
@@ -137,5 +137,5 @@ module _ (known : List ℤ) where
   enumerated_plain rule c (out_of_bound z bound) b = b
 
   -- No memory is taken.
-  pub enumerated_memory : (tag : Tag) (old new : State) (e : DecodeError) → Refuses (EnumeratedAt known old.rule tag old.rest) old e new → IsMemory e.kind → ⊥
+  pub enumerated_memory : (tag : Tag) (old new : State) (e : DecodeError) → Refuses (EnumeratedAt known old.rule tag old.rest) old e new → IsOutOfMemory e.kind → ⊥
   enumerated_memory tag old new e r = leaf_plain (EnumeratedIn old.rule known) (enumerated_plain old.rule) tag old new e r

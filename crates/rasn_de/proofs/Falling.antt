@@ -1,45 +1,15 @@
--- The test of octets, and runs of octets that don't fall.
+-- The test of octets.
 use Rattle.std.proofs.Common.{◌≡◌, ◌<◌, ℕ, Bool, true, false, List, [], ◌∷◌, ◌++◌, inl, inr, arith, refl, sym, ap, ◌∙◌, subst, MatchBool, true≢false, Some, Ordering, Less, Equal, Greater, length, ◌-◌, take, length-append}
 use Rattle.std.specs.Ordering.{nat_cmp, is_lt, is_some_and, as_partial_cmp, partial_ordering_then, MatchOrdering}
 use Rattle.std.specs.Cmp.{ranks}
 use Rattle.std.proofs.Math.Seq.{take-append_seam}
 use Rattle.rasn_de.specs.State.{IsEnd}
 use Rattle.std.specs.Cmp.Lexicographic.{slice_partial_cmp}
-use Rattle.rasn_types.specs.Order.{IsLess, DoNotFall}
+use Rattle.rasn_types.specs.Order.{IsLess}
+use Rattle.rasn_types.proofs.Falling.{nothing_less}
 
 abbrev pub less : List ℕ → List ℕ → Bool
 less xs ys = is_some_and is_lt (slice_partial_cmp (as_partial_cmp nat_cmp) xs ys)
-
--- The last of these octets are the piece; of none it is empty.
-abbrev pub EndsBy : List (List ℕ) → List ℕ → Type 0
-EndsBy [] piece = piece ≡ []
-EndsBy (b ∷ []) piece = piece ≡ b
-EndsBy (a ∷ b ∷ bs) piece = EndsBy (b ∷ bs) piece
-
-pub ends_more : (bs : List (List ℕ)) (next : List ℕ) → EndsBy (bs ++ next ∷ []) next
-ends_more [] next = refl
-ends_more (b ∷ []) next = refl
-ends_more (a ∷ b ∷ bs) next = ends_more (b ∷ bs) next
-
-pub in_order : (bs : List (List ℕ)) (piece next : List ℕ) → DoNotFall IsLess bs → EndsBy bs piece → (IsLess next piece → ⊥) → DoNotFall IsLess (bs ++ next ∷ [])
-in_order [] piece next d e n = tt
-in_order (b ∷ []) piece next d e n = (subst (λ p. IsLess next p → ⊥) e n, tt)
-in_order (a ∷ b ∷ bs) piece next d e n = (d.0, in_order (b ∷ bs) piece next d.1 e n)
-
-nothing_less : (l : List ℕ) → IsLess l [] → ⊥
-nothing_less [] h = h
-nothing_less (x ∷ l) h = h
-
-pub out_of_order : (bs : List (List ℕ)) (piece next : List ℕ) → EndsBy bs piece → IsLess next piece → DoNotFall IsLess (bs ++ next ∷ []) → ⊥
-out_of_order [] piece next e h d = nothing_less next (subst (IsLess next) e h)
-out_of_order (b ∷ []) piece next e h d = d.0 (subst (IsLess next) e h)
-out_of_order (a ∷ b ∷ bs) piece next e h d = out_of_order (b ∷ bs) piece next e h d.1
-
--- the first of these don't fall where none of them does
-pub fall_front : (bs more : List (List ℕ)) → DoNotFall IsLess (bs ++ more) → DoNotFall IsLess bs
-fall_front [] more d = tt
-fall_front (b ∷ []) more d = tt
-fall_front (a ∷ b ∷ bs) more d = (d.0, fall_front (b ∷ bs) more d.1)
 
 one_step : (o : Ordering) (xs ys : List ℕ) → Bool
 one_step o xs ys = is_some_and is_lt (partial_ordering_then (Some o) (slice_partial_cmp (as_partial_cmp nat_cmp) xs ys))

@@ -125,7 +125,7 @@ parts_exact rule ps closing input Rattle.rasn_de.specs.Outcomes.Refused n x = λ
     none : (v : Tree) (s : List ℕ) → ReadsSeq rule ps closing input v s → ⊥
     none v s (ts, f, inl (b, m, k)) = n b
     none v s (ts, f, inr (b, k)) = x v s (ts, f, k)
-parts_exact rule ps closing input Rattle.rasn_de.specs.Outcomes.Starved n x = tt
+parts_exact rule ps closing input Rattle.rasn_de.specs.Outcomes.RanOut n x = tt
 
 -- The answer is exact, or an input ends with its header and is left.
 abbrev pub IsExactOrCut : {D : Type 0} → (D → Tree) → (Codec → ℕ → Bool → Reading Tree) → State → Result D DecodeError → State → Type 0

@@ -9,7 +9,7 @@ use Rattle.rasn_de.specs.declared.ber.de.parser.Fault.TheVariants.{OutOfMemory}
 use Rattle.rasn_de.specs.declared.ber.de.parser.headers.Expected.TheVariants.{Tagged}
 use Rattle.rasn_de.specs.Headers.{spelled, Header, header_at}
 use Rattle.rasn_de.specs.Strings.{octets}
-use Rattle.rasn_de.specs.Octets.{octets_at, IsPrimitive, IsConstructed}
+use Rattle.rasn_de.specs.Octets.{octet_string_at, IsPrimitive, IsConstructed}
 use Rattle.rasn_de.proofs.Frames.{header_found}
 use Rattle.rasn_de.proofs.Memory.{NoMemory, header_none}
 use Rattle.rasn_de.proofs.Segments.{IsNested, string_plain}
@@ -28,7 +28,7 @@ constructed_form rule tag l h o e (inr x) =
     (h.rest, indefinite, subst (λ z. Frame (form rule) l tag z h.rest indefinite) (frame_bit f) f)
 
 -- one segment's octets
-pub plain_octets : (rule : Codec) (depth : ℕ) (tag : Tag) (l : List ℕ) (h : Header) (c : List ℕ) → header_at (form rule) (Tagged tag) l ≡ Ok h → (h.bit ≡ false) × (h.extent ≡ definite c) → octets_at rule depth tag l ≡ Ok (c, h.rest)
+pub plain_octets : (rule : Codec) (depth : ℕ) (tag : Tag) (l : List ℕ) (h : Header) (c : List ℕ) → header_at (form rule) (Tagged tag) l ≡ Ok h → (h.bit ≡ false) × (h.extent ≡ definite c) → octet_string_at rule depth tag l ≡ Ok (c, h.rest)
 plain_octets rule depth tag l h c e (b, x) = rw e (string_plain rule octets (in_universal 4) depth h c c b x refl)
 
 pub header_memory : (rule : Codec) (tag : Tag) (l : List ℕ) (f : Fault) → header_at (form rule) (Tagged tag) l ≡ Err f → f ≢ OutOfMemory

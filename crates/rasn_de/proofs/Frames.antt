@@ -18,7 +18,7 @@ use Rattle.rasn_types.specs.declared.error.decode.DerDecodeErrorKind.TheVariants
 use Rattle.rasn_de.specs.declared.ber.de.parser.headers.Expected.{Expected}
 use Rattle.rasn_de.specs.declared.ber.de.parser.headers.Expected.TheVariants.{AnyTag, Tagged, Exactly}
 use Rattle.rasn_types.specs.Framing.{number_in, IdSpells, LengthSpells, IsShortestId, IsShortestLength, Extent, definite, indefinite, Frame, with_length, without_length, HasIndefinite}
-use Rattle.rasn_de.specs.Headers.{◌>>=◌, number256_at, spelled, Identified, identifier_at, octets_at, has_spare, long_at, length_at, Header, contents_at, same_class, same_tag, tagged_at, expected_at, as_written, header_by, header_at}
+use Rattle.rasn_de.specs.Headers.{◌>>=◌, number256_at, spelled, Identified, identifier_at, first_octets, has_spare, long_at, length_at, Header, contents_at, same_class, same_tag, tagged_at, expected_at, as_written, header_by, header_at}
 use Rattle.rasn_types.proofs.Spelled.{both_true}
 use Rattle.rasn_de.proofs.Tools.{bind_ok, chosen, guarded, AreOctets, octets_back, octets_front}
 use Rattle.rasn_de.proofs.Numbers.{number256_found, number256_spelled}
@@ -29,7 +29,7 @@ abbrev pub SpelledLength : Form → Bool → List ℕ → Option ℕ → List �
 SpelledLength spelling bit l None rest = (bit && (spelled spelling).indefinite ≡ true) × (l ≡ 128 ∷ rest)
 SpelledLength spelling bit l (Some n) rest = (front : List ℕ) × LengthSpells front n × (l ≡ front ++ rest) × (HasStrictForm spelling → IsShortestLength front n)
 
-pub octets_found : (k : ℕ) (l : List ℕ) (p : List ℕ × List ℕ) → octets_at k l ≡ Ok p → (l ≡ p.0 ++ p.1) × (length p.0 ≡ k)
+pub octets_found : (k : ℕ) (l : List ℕ) (p : List ℕ × List ℕ) → first_octets k l ≡ Ok p → (l ≡ p.0 ++ p.1) × (length p.0 ≡ k)
 octets_found k l p e =
     let g = guarded (nat_lt (length l) k) _ _ p e in
     let f = g.1 in
@@ -44,7 +44,7 @@ take_all : (a b : List ℕ) → (take (length a) (a ++ b) ≡ a) × (drop (lengt
 take_all [] b = (refl, refl)
 take_all (x ∷ a) b = let r = take_all a b in (ap (λ z. x ∷ z) r.0, r.1)
 
-pub octets_spelled : (a b : List ℕ) (k : ℕ) → length a ≡ k → octets_at k (a ++ b) ≡ Ok (a, b)
+pub octets_spelled : (a b : List ℕ) (k : ℕ) → length a ≡ k → first_octets k (a ++ b) ≡ Ok (a, b)
 octets_spelled a b k e =
     let h : length a ≤ length (a ++ b) = simp length-append (omega arith) in
     let t : nat_lt (length (a ++ b)) (length a) ≡ false = grind (arith, nat_tests) in
@@ -74,9 +74,9 @@ spare_spelled first (b ∷ l) n h s =
 long_found : (shortest : Bool) (k : ℕ) (l : List ℕ) (q : Option ℕ × List ℕ) → AreOctets l → long_at shortest k l ≡ Ok q
     → (more : List ℕ) × (n : ℕ) × (q.0 ≡ Some n) × (l ≡ more ++ q.1) × (length more ≡ k) × (n ≡ number_in 256 more) × (n < 2 ^ 64) × (shortest ≡ true → has_spare more n ≡ false)
 unfolding long_at
-long_found shortest k l q o e = go (bind_ok (octets_at k l) _ q e)
+long_found shortest k l q o e = go (bind_ok (first_octets k l) _ q e)
   where
-    go : (p : List ℕ × List ℕ) × (octets_at k l ≡ Ok p) × ((number256_at 0 p.0 >>= λ n. cond (shortest && has_spare p.0 n) (Err (Der NonMinimalLength)) (Ok (Some n, p.1))) ≡ Ok q)
+    go : (p : List ℕ × List ℕ) × (first_octets k l ≡ Ok p) × ((number256_at 0 p.0 >>= λ n. cond (shortest && has_spare p.0 n) (Err (Der NonMinimalLength)) (Ok (Some n, p.1))) ≡ Ok q)
         → (more : List ℕ) × (n : ℕ) × (q.0 ≡ Some n) × (l ≡ more ++ q.1) × (length more ≡ k) × (n ≡ number_in 256 more) × (n < 2 ^ 64) × (shortest ≡ true → has_spare more n ≡ false)
     go (p, f, g) =
         let a = octets_found k l p f in
@@ -237,9 +237,9 @@ contents_found spelling input id tag bit None l m h s short e (a, f) g =
     let r : record { tag = tag; bit = bit; extent = indefinite; rest = m } ≡ h = cc in
     let t = indefinite_allowed spelling bit a in
     subst (Framed spelling input tag bit) r (without_length id s t.0 t.1 (e ∙ ap (λ z. id ++ z) f), refl, refl)
-contents_found spelling input id tag bit (Some n) l m h s short e (len, a, f, w) g = go (bind_ok (octets_at n m) _ h g)
+contents_found spelling input id tag bit (Some n) l m h s short e (len, a, f, w) g = go (bind_ok (first_octets n m) _ h g)
   where
-    go : (p : List ℕ × List ℕ) × (octets_at n m ≡ Ok p) × (◌≡◌ {A = Result Header Fault} (Ok (record { tag = tag; bit = bit; extent = definite p.0; rest = p.1 })) (Ok h)) → Framed spelling input tag bit h
+    go : (p : List ℕ × List ℕ) × (first_octets n m ≡ Ok p) × (◌≡◌ {A = Result Header Fault} (Ok (record { tag = tag; bit = bit; extent = definite p.0; rest = p.1 })) (Ok h)) → Framed spelling input tag bit h
     go (p, b, c) =
         let r : record { tag = tag; bit = bit; extent = definite p.0; rest = p.1 } ≡ h = cc in
         let t = octets_found n m p b in

@@ -14,10 +14,10 @@ use Rattle.rasn_de.specs.Decodes.{Decodes}
 use Rattle.rasn_de.specs.Inside.{door_at, is_open, inner_state, Keeps, ReadInside}
 use Rattle.rasn_de.specs.Sequences.{sequence_door}
 use Rattle.rasn_de.specs.Lists.{PassesFrom, Stops}
-use Rattle.rasn_de.specs.Sets.{Unread, not_told, falls, stops, ReadComponents, Gathers, MakesSet}
+use Rattle.rasn_de.specs.Sets.{Unread, not_told, falls, stops, ReadComponents, GathersSet, MakesSet}
 use Rattle.rasn_de.proofs.Holding.{Exact-same, Held, IsCut, held_exact, kept}
 use Rattle.rasn_de.proofs.Insides.{bit_is}
-use Rattle.rasn_de.proofs.Bagged.{came}
+use Rattle.rasn_de.proofs.SetsOf.{came}
 use Rattle.rasn_de.proofs.Entering.{kept_same}
 use Rattle.rasn_de.proofs.Stepping.{kept_after}
 use Rattle.rasn_de.proofs.Gathering.{SetReads, set_gathers}
@@ -37,20 +37,20 @@ module _ {F : Type 0} (s : Shape) (piece : F → Tree) where
   unread_keeps bs here e new (stops f w) = stops_keeps here e new w
 
   pub gathers_keeps : {S L : Type 0} (elements : L → List F) (by : L → Result S DecodeError → Type 0) (old : State) (r : Result S DecodeError) (new : State)
-      → Gathers (ReadComponents (Decodes s piece) elements) by old r new → Keeps old new
+      → GathersSet (ReadComponents (Decodes s piece) elements) by old r new → Keeps old new
   gathers_keeps elements by old (Ok v) new (fields, p, m) = passed_keeps old new (elements fields) p.0 p.1
   gathers_keeps elements by old (Err e) new (inl (vs, bs, here, p, o, n, u)) = kept_after old here new (passed_keeps old here vs bs p) (unread_keeps bs here e new u)
   gathers_keeps elements by old (Err e) new (inr (fields, p, m)) = passed_keeps old new (elements fields) p.0 p.1
 
   pub gathers_called : {S L : Type 0} (elements : L → List F) (by : L → Result S DecodeError → Type 0) (old : State) (fields : L) (r : Result S DecodeError) (new : State)
-      → ReadComponents (Decodes s piece) elements old (Ok fields) new → by fields r → Gathers (ReadComponents (Decodes s piece) elements) by old r new
+      → ReadComponents (Decodes s piece) elements old (Ok fields) new → by fields r → GathersSet (ReadComponents (Decodes s piece) elements) by old r new
   gathers_called elements by old fields (Ok v) new h m = (fields, h, m)
   gathers_called elements by old fields (Err e) new h m = inr (fields, h, m)
 
 module _ {F S L : Type 0} (s : Shape) (ps : Parts) (same : s ≡ choice ps) (piece : F → Tree) (tree : S → Tree) (elements : L → List F) (by : L → Result S DecodeError → Type 0)
     (tag : Tag) (old : State) (o : old.depth ≢ 0 → AreOctets old.rest) (H : (fs : L) (r : Result S DecodeError) → by fs r → MakesSet old.rule ps tree (map piece (elements fs)) r) where
   abbrev pub Read : State → Result S DecodeError → State → Type 0
-  Read = Gathers (ReadComponents (Decodes s piece) elements) by
+  Read = GathersSet (ReadComponents (Decodes s piece) elements) by
 
   abbrev pub R : Bool → Reading Tree
   R c = SetReads ps old.rule (old.depth - 1) c
@@ -59,7 +59,7 @@ module _ {F S L : Type 0} (s : Shape) (ps : Parts) (same : s ≡ choice ps) (pie
       → Exact (R (is_open h.extent)) (inner h.extent h.rest) (outcome tree r left.rest) ⊎ IsCut (sequence_door tag) R old o h left.rest
   inside_exact h e r left k =
       let i = inner_state (sequence_door tag) old h in
-      inl (set_gathers ps piece tree i elements by H r left (subst (λ z. Gathers (ReadComponents (Decodes z piece) elements) by i r left) same k)).exact
+      inl (set_gathers ps piece tree i elements by H r left (subst (λ z. GathersSet (ReadComponents (Decodes z piece) elements) by i r left) same k)).exact
 
   there : (input : List ℕ) (t : Tree) (r : List ℕ) → Held (sequence_door tag) R old o input t r → Reads old.rule (set tag ps) old.depth old.closing input t r
   unfolding Reads

@@ -17,11 +17,11 @@ use Rattle.rasn_types.proofs.Frames.{begins_one}
 use Rattle.rasn_de.specs.State.{State}
 use Rattle.rasn_de.specs.Decodes.{Decodes, DecodesBy}
 use Rattle.rasn_de.specs.Lists.{ReadsItems, Stops}
-use Rattle.rasn_de.specs.Sets.{NextTag, Unread, not_told, falls, stops, ReadComponents, Gathers, AreParts, MakesSet}
+use Rattle.rasn_de.specs.Sets.{NextTag, Unread, not_told, falls, stops, ReadComponents, GathersSet, AreParts, MakesSet}
 use Rattle.rasn_de.specs.Outcomes.{Exact, refusal}
 use Rattle.rasn_de.specs.Taking.{Peeks}
 use Rattle.rasn_de.proofs.Answering.{Exact-none, Exact-refusal}
-use Rattle.rasn_de.proofs.Bagged.{Came, came}
+use Rattle.rasn_de.proofs.SetsOf.{Came, came}
 use Rattle.rasn_de.proofs.Choosing.{choice_next}
 use Rattle.rasn_de.proofs.Listing.{Come, element_stops, elements_end}
 use Rattle.rasn_de.proofs.Parted.{by_part_one}
@@ -182,7 +182,7 @@ module _ {F S : Type 0} (ps : Parts) (piece : F → Tree) (tree : S → Tree) (o
 
   pub set_gathers : {L : Type 0} (elements : L → List F) (by : L → Result S DecodeError → Type 0)
       → ((fs : L) (r : Result S DecodeError) → by fs r → MakesSet old.rule ps tree (map piece (elements fs)) r)
-      → (result : Result S DecodeError) (new : State) → Gathers (ReadComponents (Decodes (choice ps) piece) elements) by old result new → DecodesBy (SetReads ps) tree old result new
+      → (result : Result S DecodeError) (new : State) → GathersSet (ReadComponents (Decodes (choice ps) piece) elements) by old result new → DecodesBy (SetReads ps) tree old result new
   set_gathers elements by H (Ok v) new (fs, (bs, p, order, end), m) = made new (elements fs) bs (came (choice ps) piece old new (elements fs) bs p) order end v (H fs (Ok v) m)
   set_gathers elements by H (Err e) new (inl (vs, bs, here, p, order, n, u)) = unread here vs bs (came (choice ps) piece old here vs bs p) n e new u
   set_gathers elements by H (Err e) new (inr (fs, (bs, p, order, end), m)) = not_made new (elements fs) bs (came (choice ps) piece old new (elements fs) bs p) order end e (H fs (Err e) m)

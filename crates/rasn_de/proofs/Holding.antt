@@ -9,7 +9,7 @@ use Rattle.rasn_de.specs.declared.ber.de.parser.Fault.{Fault}
 use Rattle.rasn_de.specs.Headers.{Header, header_at}
 use Rattle.rasn_de.specs.Strings.{inner, finished}
 use Rattle.rasn_de.specs.State.{State}
-use Rattle.rasn_de.specs.Outcomes.{Exact, Outcome, Got, Refused, Starved, refusal, outcome}
+use Rattle.rasn_de.specs.Outcomes.{Exact, Outcome, Got, Refused, RanOut, refusal, outcome}
 use Rattle.rasn_de.specs.Inside.{Door, asks, door_at, is_open, inner_state, Keeps, Failed, no_value, inside, not_closed, Finished, ReadInside}
 use Rattle.rasn_de.proofs.Answering.{Exact-none, Exact-refusal}
 use Rattle.rasn_types.specs.Tags.{form}
@@ -24,7 +24,7 @@ pub Exact-same : (R S : Reading Tree) (input : List ℕ) (o : Outcome) → ((t :
     → Exact R input o → Exact S input o
 Exact-same R S input (Got t r) to from x = (to t r x.0, λ u s k. x.1 u s (from u s k))
 Exact-same R S input Refused to from x = λ u s k. x u s (from u s k)
-Exact-same R S input Starved to from x = tt
+Exact-same R S input RanOut to from x = tt
 
 -- A value behind the door, whose contents are read by R.
 module _ (d : Door) (R : Bool → Reading Tree) (old : State) (o : old.depth ≢ 0 → AreOctets old.rest) where

@@ -8,6 +8,7 @@ use Rattle.rasn_types.specs.declared.types.tag.Class.TheVariants.{Universal, App
 use Rattle.rasn_types.specs.Tags.{Form, ber_form, cer_form, der_form, loose_form, HasStrictForm, rank, eoc, is_universal, is_eoc}
 use Rattle.rasn_de.specs.declared.ber.de.parser.Fault.{Fault}
 use Rattle.rasn_de.specs.declared.ber.de.parser.Fault.TheVariants.{UnsupportedTagNumber}
+use Rattle.rasn_types.proofs.Frames.{rank_small, bit_small}
 use Rattle.rasn_types.specs.Framing.{number_in, Spells128, bit_of, IdSpells, IsShortestId}
 use Rattle.rasn_de.specs.Headers.{class_of, tag_of, bit_at, number128_at, spelled, is_padded, padding_first, tag_number_at, is_longer, Identified, named, identifier_by, identifier_at}
 use Rattle.rasn_de.proofs.Tools.{bind_ok, chosen, guarded, AreOctets}
@@ -117,12 +118,6 @@ rank_class Application n e = rw e refl
 rank_class Context n e = rw e refl
 rank_class Private n e = rw e refl
 
-pub rank_small : (c : Class) → rank c < 4
-rank_small Universal = omega arith
-rank_small Application = omega arith
-rank_small Context = omega arith
-rank_small Private = omega arith
-
 pub bit_value : (n : ℕ) → bit_of (nat_le 32 n) ≡ n / 32 → Unit {0}
 bit_value n e = tt
 
@@ -187,10 +182,6 @@ identifier_found spelling (b ∷ l) i o e = go (bind_ok (tag_number_at (spelled 
 
 first_parts : (b c d low : ℕ) → c < 4 → d < 2 → low < 32 → b ≡ 64 * c + (32 * d + low) → (b / 64 ≡ c) × (b % 64 ≡ 32 * d + low) × (b % 32 ≡ low)
 first_parts b c d low h k m e = (omega arith, omega arith, omega arith)
-
-bit_small : (b : Bool) → bit_of b < 2
-bit_small true = omega arith
-bit_small false = omega arith
 
 bit_back : (b : Bool) (n low : ℕ) → low < 32 → n ≡ 32 * bit_of b + low → nat_le 32 n ≡ b
 bit_back true n low h e = let k : 32 ≤ n = omega arith in grind (arith, nat_tests)

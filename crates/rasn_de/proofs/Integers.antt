@@ -10,7 +10,7 @@ use Rattle.rasn_types.specs.Shapes.{Tree, number, leaf, integer, Interval, IsIn,
 use Rattle.rasn_types.specs.Tags.{IsStrict}
 use Rattle.rasn_types.specs.Contents.{Contents, signed, IsShortest, IsShortestInteger}
 use Rattle.rasn_types.specs.Grammar.{Reads, IsBounded}
-use Rattle.rasn_de.specs.Causes.{Cause, fault, out_of_bound, Tells}
+use Rattle.rasn_de.specs.Causes.{Cause, fault, out_of_bound, TellsCause}
 use Rattle.std.specs.Prelude.{◌==◌, MatchOption}
 use Rattle.rasn_de.specs.declared.ber.de.parser.Fault.{Fault}
 use Rattle.rasn_de.specs.declared.ber.de.parser.Fault.TheVariants as fault_is
@@ -56,14 +56,14 @@ module _ (width : ℕ) (range : Interval) (bounds : Constraints) where
 
   -- a number out of its bound
   pub bound_refused : (tag : Tag) (old new : State) (c : List ℕ) (e : DecodeError) → definite_at old.rule tag old.rest ≡ Ok (c, new.rest) → new ≡ at old new.rest → HoldsNumber old.rule c → IsIn range (signed c) → (Admits ◌≤ℤ◌ bounds.value (signed c) → ⊥)
-      → Tells (out_of_bound (signed c) (constraint_of bounds.value)) e.kind × (e.codec ≡ new.rule) → Refuses (IntegerAt width range bounds old.rule tag old.rest) old e new
+      → TellsCause (out_of_bound (signed c) (constraint_of bounds.value)) e.kind × (e.codec ≡ new.rule) → Refuses (IntegerAt width range bounds old.rule tag old.rest) old e new
   bound_refused tag old new c e h s n i a (t, k) =
       (out_of_bound (signed c) (constraint_of bounds.value), subst (λ d. FromContents (IntegerIn old.rule width range bounds) d (Err (out_of_bound (signed c) (constraint_of bounds.value), new.rest))) (sym h) ((n, i, a, refl, refl), refl), t, k ∙ rule_is old new s, s)
 
--- want of memory behind contents
-pub number_starved : {X : Type 0} (see : X → ℤ) (Grows : Type 0) (tag : Tag) (Is : Readings ℤ) (old new : State) (c : List ℕ) (e : DecodeError) → definite_at old.rule tag old.rest ≡ Ok (c, new.rest) → new ≡ at old new.rest → Grows → ErrorOf fault_is.OutOfMemory new e
+-- running out of memory behind contents
+pub number_ran_out : {X : Type 0} (see : X → ℤ) (Grows : Type 0) (tag : Tag) (Is : Readings ℤ) (old new : State) (c : List ℕ) (e : DecodeError) → definite_at old.rule tag old.rest ≡ Ok (c, new.rest) → new ≡ at old new.rest → Grows → ErrorOf fault_is.OutOfMemory new e
     → GaveInteger see Grows tag Is old (Err e) new
-number_starved see Grows tag Is old new c e h s g k = inl (ap (λ (x : DecodeError). x.kind) k, g, ap (λ (x : DecodeError). x.codec) k ∙ rule_is old new s, s, c, h)
+number_ran_out see Grows tag Is old new c e h s g k = inl (ap (λ (x : DecodeError). x.kind) k, g, ap (λ (x : DecodeError). x.codec) k ∙ rule_is old new s, s, c, h)
 
 pub empty_is : (l : List ℕ) → true ≡ (length l == 0) → l ≡ []
 empty_is [] e = refl

@@ -19,11 +19,11 @@ pub mod OctetStrings
 pub mod Texts
 pub mod Verdicts
 pub mod Integers
-pub mod Starving
+pub mod OutOfMemory
 pub mod Entering
 pub mod Nothing
 pub mod Alternatives
-pub mod Bagged
+pub mod SetsOf
 pub mod Walked
 pub mod Falling
 pub mod Parted
@@ -33,7 +33,7 @@ pub mod Gathering
 pub mod Gathered
 pub mod Components
 pub mod Choosing
-pub mod Given
+pub mod Tagging
 pub mod Holding
 pub mod Listed
 pub mod Listing

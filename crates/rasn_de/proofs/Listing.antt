@@ -140,9 +140,9 @@ module _ {D : Type 0} (s : Shape) (tree : D → Tree) (old : State) where
         (passed_end (Reads old.rule s old.depth old.closing) old.closing old.rest here.rest (map tree vs) a.2 (subst (λ (z : State). Ended z.closing here.rest) a.0 e));
   }
 
-  elements_starved : {L : Type 0} (trees : L → Tree) (here : State) (vs : List D) → Come here vs → (v : D) (new : State) → Decodes s tree here (Ok v) new → (e : DecodeError) → e.kind ≡ OutOfMemory
+  elements_ran_out : {L : Type 0} (trees : L → Tree) (here : State) (vs : List D) → Come here vs → (v : D) (new : State) → Decodes s tree here (Ok v) new → (e : DecodeError) → e.kind ≡ OutOfMemory
       → DecodesBy (ReadsItems s) trees old (Err e) new
-  elements_starved trees here vs a v new k e m =
+  elements_ran_out trees here vs a v new k e m =
       let w = after here vs a new k.stays k.end in
       record { stays = w.0; end = w.1; exact = subst (λ z. Exact (ReadsItems s old.rule old.depth old.closing) old.rest (refusal z)) (sym m) tt }
 
@@ -150,4 +150,4 @@ module _ {D : Type 0} (s : Shape) (tree : D → Tree) (old : State) where
       → DecodesBy (ReadsItems s) trees old (Err e) new
   element_stops trees here vs a n e new (inl k) = element_refused trees here vs a n e new k
   element_stops trees here vs a n e new (inr (v, k, inl (l, w))) = element_stuck trees here vs a n v new k l e
-  element_stops trees here vs a n e new (inr (v, k, inr w)) = elements_starved trees here vs a v new k e (ap (λ (x : DecodeError). x.kind) w)
+  element_stops trees here vs a n e new (inr (v, k, inr w)) = elements_ran_out trees here vs a v new k e (ap (λ (x : DecodeError). x.kind) w)

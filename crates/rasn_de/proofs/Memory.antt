@@ -10,9 +10,9 @@ use Rattle.rasn_types.specs.Tags.{is_eoc}
 use Rattle.rasn_types.specs.Numbered.{constructed_bit}
 use Rattle.rasn_de.specs.declared.ber.de.parser.Fault.{Fault}
 use Rattle.rasn_de.specs.declared.ber.de.parser.Fault.TheVariants.{OutOfMemory, LengthExceedsPlatformWidth, UnsupportedTagNumber, IndefiniteLengthNotAllowed, ReservedLengthOctet, UnexpectedEndOfContents}
-use Rattle.rasn_de.specs.Headers.{◌>>=◌, number128_at, number256_at, is_padded, padding_first, tag_number_at, is_longer, tag_of, named, identifier_by, octets_at, has_spare, long_at, length_at, contents_at, same_tag, tagged_at, expected_at, header_by}
+use Rattle.rasn_de.specs.Headers.{◌>>=◌, number128_at, number256_at, is_padded, padding_first, tag_number_at, is_longer, tag_of, named, identifier_by, first_octets, has_spare, long_at, length_at, contents_at, same_tag, tagged_at, expected_at, header_by}
 
--- A refusal isn't for want of memory.
+-- A refusal isn't for running out of memory.
 abbrev pub NoMemory : {X : Type 0} → Result X Fault → Type 0
 NoMemory (Ok x) = Unit {0}
 NoMemory (Err e) = e ≢ OutOfMemory
@@ -52,13 +52,13 @@ unfolding number256_at
 number256_none n [] = tt
 number256_none n (b ∷ l) = none_cond (nat_le 0x100_0000_0000_0000 n) (Err LengthExceedsPlatformWidth) _ (λ e. cc) (number256_none (n * 256 + b) l)
 
-octets_none : (k : ℕ) (l : List ℕ) → NoMemory (octets_at k l)
+octets_none : (k : ℕ) (l : List ℕ) → NoMemory (first_octets k l)
 octets_none k l = none_cond (nat_lt (length l) k) _ _ (λ e. cc) tt
 
 long_none : (shortest : Bool) (k : ℕ) (l : List ℕ) → NoMemory (long_at shortest k l)
 unfolding long_at
 long_none shortest k l =
-    none_bind (octets_at k l) _ (octets_none k l) (λ p. none_bind (number256_at 0 p.0) _ (number256_none 0 p.0) (λ n. none_cond (shortest && has_spare p.0 n) _ _ (λ e. cc) tt))
+    none_bind (first_octets k l) _ (octets_none k l) (λ p. none_bind (number256_at 0 p.0) _ (number256_none 0 p.0) (λ n. none_cond (shortest && has_spare p.0 n) _ _ (λ e. cc) tt))
 
 length_none : (spelling : Spelling) (bit : Bool) (l : List ℕ) → NoMemory (length_at spelling bit l)
 unfolding length_at
@@ -70,7 +70,7 @@ length_none spelling bit (b ∷ l) =
 
 contents_none : (tag : Tag) (bit : Bool) (n : Option ℕ) (l : List ℕ) → NoMemory (contents_at tag bit n l)
 contents_none tag bit None l = tt
-contents_none tag bit (Some n) l = none_bind (octets_at n l) _ (octets_none n l) (λ p. tt)
+contents_none tag bit (Some n) l = none_bind (first_octets n l) _ (octets_none n l) (λ p. tt)
 
 tagged_none : (wanted tag : Tag) → NoMemory (tagged_at wanted tag)
 tagged_none wanted tag = none_cond (same_tag tag wanted) (Ok tt) _ tt (λ e. cc)

@@ -4,7 +4,7 @@ use Rattle.rasn_types.specs.declared.types.tag.Tag.{Tag}
 use Rattle.rasn_types.specs.declared.types.rules.Codec.{Codec}
 use Rattle.rasn_types.specs.Tags.{Form, form, IsStrict, in_universal}
 use Rattle.rasn_types.specs.Framing.{Extent, Frame, Next, AnyIdSpells, Whole, plain, closed}
-use Rattle.rasn_types.specs.Shapes.{Tree, absent, Kind, Shape, leaf, any, prefix, choice, option, seq, set, list, bag, Parts, part, Presence, required, optional, addition, default, own}
+use Rattle.rasn_types.specs.Shapes.{Tree, absent, Kind, Shape, leaf, any, prefix, choice, option, seq, set, list, set_of, Parts, part, Presence, required, optional, addition, default, own}
 use Rattle.rasn_types.specs.Shapes.Parts.{none}
 use Rattle.rasn_types.specs.Readers.{Reading, Inside, in_definite, in_indefinite, Perhaps, Part, IsNoDefault, ReadsPart, InOrder, ReadsChoice}
 use Rattle.rasn_types.specs.Contents.{Str, ReadBits, OctetSegment}
@@ -65,7 +65,7 @@ shape_nothing rule (option tag s) depth closing t rest r = perhaps_nothing (form
 shape_nothing rule (seq tag ps) depth closing t rest (d, r) = no_inside rule tag true _ t rest r
 shape_nothing rule (set tag ps) depth closing t rest (d, r) = no_inside rule tag true _ t rest r
 shape_nothing rule (list tag s size) depth closing t rest (d, r) = no_inside rule tag true _ t rest r
-shape_nothing rule (bag tag s size) depth closing t rest (d, r) = no_inside rule tag true _ t rest r
+shape_nothing rule (set_of tag s size) depth closing t rest (d, r) = no_inside rule tag true _ t rest r
 
 part_nothing : (p : Presence) (rule : Codec) (s : Shape) (depth : ℕ) (closing : Bool) (t : Tree) (rest : List ℕ) → ReadsPart rule p (own s) (Reads rule s depth closing) closing [] t rest → rest ≡ []
 part_nothing required rule s depth closing t rest r = shape_nothing rule s depth closing t rest r

@@ -16,7 +16,7 @@ use Rattle.rasn_de.specs.NamedNumbers.{NullIn, NullAt}
 use Rattle.rasn_de.specs.State.{State}
 use Rattle.rasn_de.specs.Decodes.{Decodes}
 use Rattle.rasn_de.proofs.Answering.{plain_agrees, gave_answers}
-use Rattle.rasn_de.proofs.Starving.{IsPlainCause}
+use Rattle.rasn_de.proofs.OutOfMemory.{IsPlainCause}
 
 null_found : (rule : Codec) (c : List ℕ) (u : Unit {0}) → AreOctets c → NullIn c (Ok u) → Contents rule null c (number (pos 0)) × (IsStrict rule → Unit {0}) × Unit {0}
 null_found rule c u o e = ((refl, e), (λ s. tt), tt)

@@ -1,7 +1,7 @@
 -- Numbers read octet by octet are the numbers that the octets spell.
 use Rattle.std.proofs.Common.{◌≡◌, ℕ, ◌+◌, ◌*◌, ◌^◌, ◌%◌, ◌<◌, ◌≤◌, ◌⊎◌, inl, inr, true, false, cond, List, [], ◌∷◌, ◌++◌, length, Result, Ok, refl, sym, ap, ◌∙◌, subst, arith}
 use Rattle.std.specs.Prelude.{nat_lt, nat_le}
-use Rattle.std.proofs.Math.Nat.{pow-succ', one-le-pow, mul-le-mul_left}
+use Rattle.std.proofs.Math.Nat.{pow-succ', mod-eq_of_lt, one-le-pow, mul-le-mul_left}
 use Rattle.std.proofs.lemmas.Bool.Decides.{nat_tests}
 use Rattle.rasn_de.specs.declared.ber.de.parser.Fault.{Fault}
 use Rattle.rasn_types.specs.Framing.{IsChain, number_in}
@@ -76,11 +76,8 @@ number128_spelled wide n (b ∷ l) rest (inr (k, c)) h =
     let i = number128_spelled wide (n * 128 + b % 128) l rest c (subst (λ z. z < 2 ^ 32) (sym m) h) in
     rw (t, u) (i ∙ ap (λ z. Ok (z, rest)) m)
 
-octet_digit : (b : ℕ) → b < 256 → b % 256 ≡ b
-octet_digit b h = omega arith
-
 more_octets : (n b p q s : ℕ) → b < 256 → q ≡ 256 * p → (n * 256 + b) * p + s ≡ n * q + (b % 256 * p + s)
-more_octets n b p q s h e = rw (e, octet_digit b h) (omega arith)
+more_octets n b p q s h e = let m : b % 256 ≡ b = mod-eq_of_lt h in rw (e, m) (omega arith)
 
 pub number256_found : (n : ℕ) (l : List ℕ) (m : ℕ) → AreOctets l → n < 2 ^ 64 → number256_at n l ≡ Ok m → (m ≡ n * 256 ^ length l + number_in 256 l) × (m < 2 ^ 64)
 unfolding number256_at

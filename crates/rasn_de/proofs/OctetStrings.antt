@@ -12,8 +12,8 @@ use Rattle.rasn_types.specs.Shapes.{Tree, numbers, leaf, octet_string, Admits, c
 use Rattle.rasn_types.specs.Grammar.{Reads, ReadsLeaf, IsBounded}
 use Rattle.rasn_de.specs.declared.ber.de.parser.Fault.TheVariants.{SizeConstraintNotSatisfied}
 use Rattle.rasn_de.specs.declared.ber.de.parser.Fault.TheVariants as fault_is
-use Rattle.rasn_de.specs.Causes.{Cause, fault, kind_of}
-use Rattle.rasn_de.specs.Octets.{OctetsAt, GaveOctets, Gathers, cow_tree}
+use Rattle.rasn_de.specs.Causes.{Cause, fault, error_kind}
+use Rattle.rasn_de.specs.Octets.{OctetsAt, GaveOctets, GathersOctets, cow_tree}
 use Rattle.rasn_de.specs.State.{State, IsEnd}
 use Rattle.rasn_de.specs.Taking.{ErrorOf}
 use Rattle.rasn_de.specs.Outcomes.{Exact, refusal}
@@ -61,27 +61,27 @@ octets_decodes tag bounds old new (Err e) o (inl (m, c, s, k)) = record {
 }
 
 -- octets that weren't gathered
-pub gathers_refused : (tag : Tag) (bounds : Constraints) (old new : State) (e : DecodeError) → Gathers tag old (Err e) new → GaveOctets tag bounds old (Err e) new
+pub gathers_refused : (tag : Tag) (bounds : Constraints) (old new : State) (e : DecodeError) → GathersOctets tag old (Err e) new → GaveOctets tag bounds old (Err e) new
 gathers_refused tag bounds old new e (f, k, s, read, memory) = go (memory_or f)
   where
     codec_is : e.codec ≡ old.rule
     codec_is = ap (λ (x : DecodeError). x.codec) k
 
-    kind_is : e.kind ≡ kind_of f
+    kind_is : e.kind ≡ error_kind f
     kind_is = ap (λ (x : DecodeError). x.kind) k
 
     go : (f ≡ fault_is.OutOfMemory) ⊎ (f ≢ fault_is.OutOfMemory) → GaveOctets tag bounds old (Err e) new
-    go (inl m) = inl (kind_is ∙ ap kind_of m, codec_is, s, memory m)
+    go (inl m) = inl (kind_is ∙ ap error_kind m, codec_is, s, memory m)
     go (inr n) =
         let r : new.rest ≡ old.rest = ap (λ (x : State). x.rest) s in
         inr ((λ h. kind_memory f n (sym kind_is ∙ h)), (fault f, inl (f, read n, ap (λ z. (fault f, z)) r), kind_is, codec_is, same_at old new s))
 
 -- octets whose size is within bounds
-pub gathers_admitted : (tag : Tag) (bounds : Constraints) (old new : State) (s : CowSlice ℕ Global) → Gathers tag old (Ok s) new → Admits ◌≤◌ bounds.size (length (cow_slice_items s)) → GaveOctets tag bounds old (Ok s) new
+pub gathers_admitted : (tag : Tag) (bounds : Constraints) (old new : State) (s : CowSlice ℕ Global) → GathersOctets tag old (Ok s) new → Admits ◌≤◌ bounds.size (length (cow_slice_items s)) → GaveOctets tag bounds old (Ok s) new
 gathers_admitted tag bounds old new s (h, k, f) a = (((h, a), k), f)
 
 -- octets whose size isn't
-pub gathers_size : (tag : Tag) (bounds : Constraints) (old new : State) (s : CowSlice ℕ Global) (e : DecodeError) → Gathers tag old (Ok s) new → (Admits ◌≤◌ bounds.size (length (cow_slice_items s)) → ⊥)
+pub gathers_size : (tag : Tag) (bounds : Constraints) (old new : State) (s : CowSlice ℕ Global) (e : DecodeError) → GathersOctets tag old (Ok s) new → (Admits ◌≤◌ bounds.size (length (cow_slice_items s)) → ⊥)
     → ErrorOf (SizeConstraintNotSatisfied (length (cow_slice_items s)) (constraint_of bounds.size)) new e → GaveOctets tag bounds old (Err e) new
 gathers_size tag bounds old new s e (h, k, f) n x =
     inr (

@@ -23,7 +23,7 @@ use Rattle.std.specs.Borrow.{Bor}
 use Rattle.std.specs.Prelude.{IfOk}
 use Rattle.rasn_de.specs.State.{State, at, IsEnd}
 use Rattle.rasn_de.specs.Outcomes.{Exact, Outcome, Got, Refused, refusal}
-use Rattle.rasn_types.specs.Errors.{IsMemory}
+use Rattle.rasn_types.specs.Errors.{IsOutOfMemory}
 use Rattle.rasn_de.specs.Taking.{ErrorOf}
 use Rattle.rasn_de.specs.Decodes.{Decodes}
 use Rattle.rasn_de.proofs.Answering.{Exact-none}
@@ -162,7 +162,7 @@ open_decodes tag old new (Err e) (h, s) = record {
     R : Reading Tree
     R = Reads old.rule (any (looked_for tag)) old.depth old.closing
 
-    exactly : (IsMemory e.kind × (e.codec ≡ old.rule)) ⊎ ((f : Fault) × OpenAt old.rule (looked_for tag) old.rest (Err f) × ErrorOf f old e) → Exact R old.rest (refusal e.kind)
+    exactly : (IsOutOfMemory e.kind × (e.codec ≡ old.rule)) ⊎ ((f : Fault) × OpenAt old.rule (looked_for tag) old.rest (Err f) × ErrorOf f old e) → Exact R old.rest (refusal e.kind)
     exactly (inl (m, c)) = subst (λ k. Exact R old.rest (refusal k)) (sym m) tt
     exactly (inr (f, x, k)) = Exact-none e.kind R old.rest (reads_octets old.rule (looked_for tag) old.depth old.closing old.rest Refused x.0)
 

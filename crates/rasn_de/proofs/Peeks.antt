@@ -3,11 +3,11 @@ use Rattle.std.proofs.Common.{◌≡◌, ◌≢◌, ◌⊎◌, inl, inr, ℕ, Bo
 use Rattle.rasn_types.specs.declared.types.tag.Tag.{Tag}
 use Rattle.rasn_types.specs.Framing.{AreOctets, Next}
 use Rattle.rasn_types.specs.Tags.{Form}
-use Rattle.rasn_types.specs.Errors.{IsMemory}
+use Rattle.rasn_types.specs.Errors.{IsOutOfMemory}
 use Rattle.rasn_de.specs.declared.ber.de.parser.Fault.{Fault}
 use Rattle.rasn_de.specs.declared.ber.de.parser.Fault.TheVariants as fault
 use Rattle.rasn_de.specs.Headers.{spelled, Identified, identifier_by, identifier_at}
-use Rattle.rasn_de.specs.Causes.{kind_of}
+use Rattle.rasn_de.specs.Causes.{error_kind}
 use Rattle.rasn_de.specs.declared.ber.de.parser.headers.Spelling.{Spelling}
 use Rattle.rasn_de.proofs.Identifiers.{identifier_found, identifier_spelled}
 use Rattle.rasn_de.proofs.Memory.{NoMemory, identifier_none}
@@ -34,8 +34,8 @@ next_unread spelling s e l f g = next_none spelling l f (subst (λ (z : Spelling
 pub next_memory : (shortest : Bool) (l : List ℕ) (f : Fault) → identifier_by shortest l ≡ Err f → f ≢ fault.OutOfMemory
 next_memory shortest l f e = subst NoMemory e (identifier_none shortest l)
 
--- A fault but want of memory isn't told as want of memory.
-pub kind_memory : (f : Fault) → f ≢ fault.OutOfMemory → IsMemory (kind_of f) → ⊥
+-- A fault but running out of memory isn't told as running out of memory.
+pub kind_memory : (f : Fault) → f ≢ fault.OutOfMemory → IsOutOfMemory (error_kind f) → ⊥
 kind_memory fault.OutOfMemory n e = n refl
 kind_memory _ n e = cc
 

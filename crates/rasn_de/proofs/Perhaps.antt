@@ -18,7 +18,7 @@ use Rattle.rasn_de.specs.Headers.{Identified, identifier_at}
 use Rattle.rasn_de.specs.Views.{tag_found}
 use Rattle.rasn_de.specs.State.{State}
 use Rattle.rasn_de.specs.Taking.{Peeks}
-use Rattle.rasn_de.specs.Outcomes.{Exact, Outcome, Got, Refused, Starved, refusal}
+use Rattle.rasn_de.specs.Outcomes.{Exact, Outcome, Got, Refused, RanOut, refusal}
 use Rattle.rasn_de.specs.Decodes.{Decodes, DecodesBy}
 use Rattle.rasn_de.specs.Inside.{Keeps}
 use Rattle.rasn_de.specs.Optionals.{Comes, ReadPerhaps, Made, ReadOr, no_look, no_default, no_read, not_compared, present, ReadsDefault, DecodesDefault}
@@ -67,7 +67,7 @@ module _ (spelling : Form) (tag : Option Tag) (without : Tree) (R : Reading Tree
       none : (u : Tree) (s : List ℕ) → Perhaps spelling tag without R closing input u s → ⊥
       none u s (inl (b, e, f)) = apart spelling tag closing input b t
       none u s (inr (b, k)) = x u s k
-  there t Starved x = tt
+  there t RanOut x = tt
 
   nothing : (IsLeftOut spelling tag closing input ⊎ IsThere spelling tag closing input → ⊥) → (u : Tree) (s : List ℕ) → Perhaps spelling tag without R closing input u s → ⊥
   nothing n u s (inl (b, e, f)) = n (inl b)
@@ -102,13 +102,13 @@ perhaps_decodes s tree tag old (Err e) new (inl (c, q)) = subst (λ n. Decodes (
     (record { stays = refl; end = IsEnd-refl old.rest; exact = unread (ReadsIt s old) absent tag old e c })
 perhaps_decodes s tree tag old (Err e) new (inr (t, k)) = record { stays = k.stays; end = k.end; exact = in_it (ReadsIt s old) absent tag old t (refusal e.kind) k.exact }
 
--- Want of memory is told by the same rules before a value is read and behind it.
+-- Running out of memory is told by the same rules before a value is read and behind it.
 pub made_before : {D : Type 0} (made : Result D AllocError → Type 0) (old mid : State) (e : DecodeError) → Keeps old mid → Made made mid (Err e) → Made made old (Err e)
 made_before made old mid e k (x, m, w) = (x, m, rules_same old mid OutOfMemory e k w)
 
--- For want of memory nothing is said of what is read.
-starved : {D : Type 0} (R : Reading Tree) (made : Result D AllocError → Type 0) (old : State) (e : DecodeError) → Made made old (Err e) → Exact R old.rest (refusal e.kind)
-starved R made old e (x, m, w) = subst (λ k. Exact R old.rest (refusal k)) (sym (ap (λ (y : DecodeError). y.kind) w)) tt
+-- For running out of memory nothing is said of what is read.
+ran_out : {D : Type 0} (R : Reading Tree) (made : Result D AllocError → Type 0) (old : State) (e : DecodeError) → Made made old (Err e) → Exact R old.rest (refusal e.kind)
+ran_out R made old e (x, m, w) = subst (λ k. Exact R old.rest (refusal k)) (sym (ap (λ (y : DecodeError). y.kind) w)) tt
 
 -- So the rules are strict before a value is read exactly if they are behind it.
 pub strict_before : (old mid : State) → Keeps old mid → IsStrict mid.rule → IsStrict old.rule
@@ -150,7 +150,7 @@ default_decodes s tree made tag old (Err e) new (no_look c q) without is =
     (record { stays = refl; end = IsEnd-refl old.rest; exact = unread (NotDefault old.rule without (ReadsIt s old)) without tag old e c })
 default_decodes s tree made tag old (Err e) new (no_default a m q) without is =
     subst (λ n. DecodesBy (ReadsDefault tag without s) tree old (Err e) n) (sym q)
-    (record { stays = refl; end = IsEnd-refl old.rest; exact = starved (MayRead (NotDefault old.rule without (ReadsIt s old)) without tag old) made old e m })
+    (record { stays = refl; end = IsEnd-refl old.rest; exact = ran_out (MayRead (NotDefault old.rule without (ReadsIt s old)) without tag old) made old e m })
 default_decodes s tree made tag old (Err e) new (no_read t k) without is =
     record {
       stays = k.stays;
@@ -158,7 +158,7 @@ default_decodes s tree made tag old (Err e) new (no_read t k) without is =
       exact = in_it (NotDefault old.rule without (ReadsIt s old)) without tag old t (refusal e.kind) (other_refused old.rule without (ReadsIt s old) old.rest e.kind k.exact);
     }
 default_decodes s tree made tag old (Err e) new (not_compared t v k h m) without is =
-    record { stays = k.stays; end = k.end; exact = starved (MayRead (NotDefault old.rule without (ReadsIt s old)) without tag old) made old e m }
+    record { stays = k.stays; end = k.end; exact = ran_out (MayRead (NotDefault old.rule without (ReadsIt s old)) without tag old) made old e m }
 default_decodes s tree made tag old (Err e) new (present t v k h d m same w) without is =
     record {
       stays = k.stays;

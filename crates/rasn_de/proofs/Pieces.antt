@@ -6,7 +6,7 @@ use Rattle.rasn_types.specs.declared.types.rules.Codec.{Codec}
 use Rattle.rasn_types.specs.declared.types.rules.Codec.TheVariants.{Ber, Cer, Der}
 use Rattle.rasn_types.specs.Tags.{Form, der_form, IsStrict, in_universal}
 use Rattle.rasn_types.specs.Framing.{Extent, HasIndefinite, Frame, with_length, without_length, Begins, Whole, plain, closed}
-use Rattle.rasn_types.specs.Shapes.{Tree, Kind, Shape, leaf, any, prefix, choice, option, seq, set, list, bag, Parts, part}
+use Rattle.rasn_types.specs.Shapes.{Tree, Kind, Shape, leaf, any, prefix, choice, option, seq, set, list, set_of, Parts, part}
 use Rattle.rasn_types.specs.Shapes.Parts.{none}
 use Rattle.rasn_types.specs.Readers.{Reading, Inside, in_definite, in_indefinite, ReadsChoice}
 use Rattle.rasn_types.specs.Contents.{Str, ReadBits, OctetSegment}
@@ -62,7 +62,7 @@ mutual
   headed (seq tag ps) depth closing input t rest b e n (d, r) = nested input b rest e tag true _ t r
   headed (set tag ps) depth closing input t rest b e n (d, r) = nested input b rest e tag true _ t r
   headed (list tag s size) depth closing input t rest b e n (d, r) = nested input b rest e tag true _ t r
-  headed (bag tag s size) depth closing input t rest b e n (d, r) = nested input b rest e tag true _ t r
+  headed (set_of tag s size) depth closing input t rest b e n (d, r) = nested input b rest e tag true _ t r
 
   headed_choice : (ps : Parts) (k depth : ℕ) (closing : Bool) (input : List ℕ) (t : Tree) (rest b : List ℕ) → input ≡ b ++ rest → b ≢ []
       → ReadsChoice der_form k (parts_of Der ps depth closing) input t rest → IsHeaded b

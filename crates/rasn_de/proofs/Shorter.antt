@@ -8,7 +8,7 @@ use Rattle.rasn_de.specs.declared.ber.de.parser.Fault.{Fault}
 use Rattle.rasn_de.specs.declared.ber.de.parser.Fault.TheVariants.{UnsupportedTagNumber, IndefiniteLengthNotAllowed, ReservedLengthOctet, Der}
 use Rattle.rasn_types.specs.declared.error.decode.DerDecodeErrorKind.TheVariants.{NonMinimalLength}
 use Rattle.rasn_types.specs.Tags.{is_eoc}
-use Rattle.rasn_de.specs.Headers.{◌>>=◌, number128_at, number256_at, is_padded, padding_first, tag_number_at, is_longer, tag_of, Identified, named, identifier_by, octets_at, has_spare, long_at, length_at, Header, contents_at, expected_at, header_by}
+use Rattle.rasn_de.specs.Headers.{◌>>=◌, number128_at, number256_at, is_padded, padding_first, tag_number_at, is_longer, tag_of, Identified, named, identifier_by, first_octets, has_spare, long_at, length_at, Header, contents_at, expected_at, header_by}
 use Rattle.rasn_de.proofs.Tools.{bind_ok, guarded}
 
 -- a reading leaves no more than there was
@@ -55,7 +55,7 @@ identifier_shorter shortest (b ∷ l) i e = go (bind_ok (tag_number_at shortest 
         let t : length p.1 ≡ length i.rest = ap length n in
         omega (arith, s)
 
-octets_shorter : (k : ℕ) (l : List ℕ) (p : List ℕ × List ℕ) → octets_at k l ≡ Ok p → length p.1 ≤ length l
+octets_shorter : (k : ℕ) (l : List ℕ) (p : List ℕ × List ℕ) → first_octets k l ≡ Ok p → length p.1 ≤ length l
 octets_shorter k l p e =
     let g = guarded (nat_lt (length l) k) _ _ p e in
     let f = g.1 in
@@ -65,7 +65,7 @@ octets_shorter k l p e =
 
 long_shorter : (shortest : Bool) (k : ℕ) (l : List ℕ) → Shortens l (long_at shortest k l)
 unfolding long_at
-long_shorter shortest k l = go (octets_at k l) (λ p e. octets_shorter k l p e)
+long_shorter shortest k l = go (first_octets k l) (λ p e. octets_shorter k l p e)
   where
     last : (r : Result ℕ Fault) (c m : List ℕ) → length m ≤ length l → Shortens l (r >>= λ n. cond (shortest && has_spare c n) (Err (Der NonMinimalLength)) (Ok (Some n, m)))
     last (Ok n) c m h = Shortens-cond l (shortest && has_spare c n) (Err (Der NonMinimalLength)) (Ok (Some n, m)) tt h
@@ -86,7 +86,7 @@ length_shorter spelling bit (b ∷ l) =
 contents_shorter : (tag : Tag) (bit : Bool) (n : Option ℕ) (l : List ℕ) (h : Header) → contents_at tag bit n l ≡ Ok h → length h.rest ≤ length l
 contents_shorter tag bit None l h e = let m : l ≡ h.rest = cc in let k : length l ≡ length h.rest = ap length m in omega arith
 contents_shorter tag bit (Some n) l h e =
-    let g = bind_ok (octets_at n l) _ h e in
+    let g = bind_ok (first_octets n l) _ h e in
     let f = g.2 in
     let m : g.0.1 ≡ h.rest = cc in
     let k : length g.0.1 ≡ length h.rest = ap length m in

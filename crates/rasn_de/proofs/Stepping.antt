@@ -6,7 +6,7 @@ use Rattle.rasn_de.specs.declared.ber.de.parser.Fault.{Fault}
 use Rattle.rasn_de.specs.declared.ber.de.parser.Contents.{Contents}
 use Rattle.rasn_de.specs.Strings.{inner, finished}
 use Rattle.rasn_de.specs.Views.{extent}
-use Rattle.rasn_de.specs.Causes.{kind_of}
+use Rattle.rasn_de.specs.Causes.{error_kind}
 use Rattle.rasn_de.specs.State.{State, at, IsEnd}
 use Rattle.rasn_de.specs.Taking.{ErrorOf}
 use Rattle.rasn_de.specs.Inside.{Door, inner_state, unclosed, Keeps, Opens, Closes, Failed, no_value, inside, not_closed, ReadInside}
@@ -16,7 +16,7 @@ pub kept_after : (old mid new : State) → Keeps old mid → Keeps mid new → K
 kept_after old mid new a b = record { stays = b.stays ∙ ap (λ (s : State). at s new.rest) a.stays; end = IsEnd-trans old.rest mid.rest new.rest a.end b.end }
 
 pub rules_same : (old mid : State) (f : Fault) (e : DecodeError) → Keeps old mid → ErrorOf f mid e → ErrorOf f old e
-rules_same old mid f e k w = w ∙ ap (λ c. record { kind = kind_of f; codec = c }) (ap (λ (s : State). s.rule) k.stays)
+rules_same old mid f e k w = w ∙ ap (λ c. record { kind = error_kind f; codec = c }) (ap (λ (s : State). s.rule) k.stays)
 
 module _ {D : Type 0} (read : State → Result D DecodeError → State → Type 0) (d : Door) (old : State) where
   pub step_none : (e : DecodeError) (new : State) → Opens d old (Err e) new → ReadInside read d old (Err e) new

@@ -7,7 +7,7 @@ use Rattle.rasn_types.specs.Framing.{AreOctets}
 use Rattle.rasn_types.specs.Readers.{Reading, Many, in_definite, in_indefinite}
 use Rattle.rasn_types.specs.Contents.{Str, OctetSegment}
 use Rattle.rasn_de.specs.Strings.{octets}
-use Rattle.rasn_de.specs.Octets.{octets_at}
+use Rattle.rasn_de.specs.Octets.{octet_string_at}
 use Rattle.rasn_de.specs.State.{IsEnd}
 use Rattle.rasn_de.proofs.Ends.{IsEnd-refl, IsEnd-trans, IsEnd-zeros, IsEnd-frame}
 use Rattle.rasn_de.proofs.Strs.{Reads, string_found, string_spelled, string_map}
@@ -26,13 +26,13 @@ string_ends rule S inner_tag (suc d) tag l xs rest (inr (i, parts, e, in_indefin
 
 -- Octets are read exactly where a string of octets stands.
 module _ (rule : Codec) (d : ℕ) (tag : Tag) (l : List ℕ) (o : AreOctets l) where
-  pub octets_there : (xs r : List ℕ) → octets_at rule d tag l ≡ Ok (xs, r) → Str rule OctetSegment (in_universal 4) d tag l xs r
+  pub octets_there : (xs r : List ℕ) → octet_string_at rule d tag l ≡ Ok (xs, r) → Str rule OctetSegment (in_universal 4) d tag l xs r
   octets_there xs r e =
       string_map rule (Reads octets) OctetSegment (λ c ys h. cc) (in_universal 4) d tag l xs r (string_found rule octets (in_universal 4) d tag l (xs, r) o e).0
 
-  pub octets_only : (xs r : List ℕ) → Str rule OctetSegment (in_universal 4) d tag l xs r → octets_at rule d tag l ≡ Ok (xs, r)
+  pub octets_only : (xs r : List ℕ) → Str rule OctetSegment (in_universal 4) d tag l xs r → octet_string_at rule d tag l ≡ Ok (xs, r)
   octets_only xs r s =
       string_spelled rule octets (in_universal 4) d tag l xs r o (string_map rule OctetSegment (Reads octets) (λ c ys h. ap Ok (sym h)) (in_universal 4) d tag l xs r s)
 
-  pub octets_end : (xs r : List ℕ) → octets_at rule d tag l ≡ Ok (xs, r) → IsEnd l r
+  pub octets_end : (xs r : List ℕ) → octet_string_at rule d tag l ≡ Ok (xs, r) → IsEnd l r
   octets_end xs r e = string_ends rule OctetSegment (in_universal 4) d tag l xs r (octets_there xs r e)

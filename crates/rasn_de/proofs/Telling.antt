@@ -1,7 +1,7 @@
 -- Which alternative a tag belongs to, by computing. Where a tag is that of a type parameter, it is told by hand (`IsOnly`).
 use Rattle.std.proofs.Common.{◌≡◌, ◌&&◌, ◌||◌, not, ℕ, zero, suc, Bool, true, false, Option, Some, None, refl, sym, ap, subst, inl, inr, ◌⊎◌}
 use Rattle.rasn_types.specs.declared.types.tag.Tag.{Tag}
-use Rattle.rasn_types.specs.Shapes.{Shape, leaf, any, prefix, choice, option, seq, set, list, bag, Parts, part, IsTagOf, IsFirst, IsFirstOf}
+use Rattle.rasn_types.specs.Shapes.{Shape, leaf, any, prefix, choice, option, seq, set, list, set_of, Parts, part, IsTagOf, IsFirst, IsFirstOf}
 use Rattle.rasn_types.specs.Shapes.Parts.{none}
 use Rattle.rasn_types.proofs.Spelled.{both_true}
 use Rattle.rasn_de.specs.Headers.{same_tag}
@@ -23,7 +23,7 @@ abbrev mutual
   begins (seq tag parts) n = same_tag n tag
   begins (set tag parts) n = same_tag n tag
   begins (list tag s size) n = same_tag n tag
-  begins (bag tag s size) n = same_tag n tag
+  begins (set_of tag s size) n = same_tag n tag
 
   pub some_begins : Parts → Tag → Bool
   some_begins none n = false
@@ -58,7 +58,7 @@ mutual
   begins_is (seq tag parts) n e = same_tag_is n tag e
   begins_is (set tag parts) n e = same_tag_is n tag e
   begins_is (list tag s size) n e = same_tag_is n tag e
-  begins_is (bag tag s size) n e = same_tag_is n tag e
+  begins_is (set_of tag s size) n e = same_tag_is n tag e
 
   some_begins_is : (ps : Parts) (n : Tag) → some_begins ps n ≡ true → IsFirstOf ps n
   some_begins_is none n e = cc
@@ -74,7 +74,7 @@ mutual
   first_begins (seq tag parts) n e = same_tag_self n tag e
   first_begins (set tag parts) n e = same_tag_self n tag e
   first_begins (list tag s size) n e = same_tag_self n tag e
-  first_begins (bag tag s size) n e = same_tag_self n tag e
+  first_begins (set_of tag s size) n e = same_tag_self n tag e
 
   first_of_begins : (ps : Parts) (n : Tag) → IsFirstOf ps n → some_begins ps n ≡ true
   first_of_begins none n e = absurd e

@@ -13,8 +13,8 @@ use Rattle.rasn_types.specs.Shapes.{Tree, numbers, Kind, leaf}
 use Rattle.rasn_types.specs.Grammar.{Reads, ReadsIn, ReadsLeaf, IsBounded, Text, family, text_family}
 use Rattle.rasn_de.specs.declared.ber.de.parser.Fault.{Fault}
 use Rattle.rasn_de.specs.declared.ber.de.parser.Fault.TheVariants as fault_is
-use Rattle.rasn_de.specs.Causes.{Cause, fault, kind_of}
-use Rattle.rasn_de.specs.Octets.{Gathers, IsLentAs, IsPrimitive}
+use Rattle.rasn_de.specs.Causes.{Cause, fault, error_kind}
+use Rattle.rasn_de.specs.Octets.{GathersOctets, IsLentAs, IsPrimitive}
 use Rattle.rasn_de.specs.Texts.{Verdict, StringAt, GaveString}
 use Rattle.rasn_de.specs.State.{State, IsEnd}
 use Rattle.rasn_de.specs.Taking.{ErrorOf}
@@ -86,7 +86,7 @@ module _ (kind : Kind) (bounds : Constraints) (Told : Verdict) (fits : Fits kind
       gave_answers {X = List ℕ} {Y = X} (λ rule. Reads rule (leaf kind tag bounds)) numbers see (StringAt Told old.rule old.depth tag old.rest) old new (Err e) (agrees old.rule old.depth tag old.rest o) g.1
 
   -- octets that are refused
-  pub string_refused : {X : Type 0} (see : X → List ℕ) (tag : Tag) (old new : State) (s : CowSlice ℕ Global) (f : Fault) (e : DecodeError) → Gathers tag old (Ok s) new → Told (cow_slice_items s) (Err f)
+  pub string_refused : {X : Type 0} (see : X → List ℕ) (tag : Tag) (old new : State) (s : CowSlice ℕ Global) (f : Fault) (e : DecodeError) → GathersOctets tag old (Ok s) new → Told (cow_slice_items s) (Err f)
       → ErrorOf f new e → GaveString see Told tag old (Err e) new
   string_refused see tag old new s f e (h, k, w) a x =
       inr (inr (
@@ -95,17 +95,17 @@ module _ (kind : Kind) (bounds : Constraints) (Told : Verdict) (fits : Fits kind
       ))
 
 -- octets that weren't gathered
-pub string_ungathered : {X : Type 0} (see : X → List ℕ) (Told : Verdict) (tag : Tag) (old new : State) (e : DecodeError) → Gathers tag old (Err e) new → GaveString see Told tag old (Err e) new
+pub string_ungathered : {X : Type 0} (see : X → List ℕ) (Told : Verdict) (tag : Tag) (old new : State) (e : DecodeError) → GathersOctets tag old (Err e) new → GaveString see Told tag old (Err e) new
 string_ungathered see Told tag old new e (f, k, s, read, memory) = go (memory_or f)
   where
     codec_is : e.codec ≡ old.rule
     codec_is = ap (λ (x : DecodeError). x.codec) k
 
-    kind_is : e.kind ≡ kind_of f
+    kind_is : e.kind ≡ error_kind f
     kind_is = ap (λ (x : DecodeError). x.kind) k
 
     go : (f ≡ fault_is.OutOfMemory) ⊎ (f ≢ fault_is.OutOfMemory) → GaveString see Told tag old (Err e) new
-    go (inl m) = inl (kind_is ∙ ap kind_of m, codec_is, s, memory m)
+    go (inl m) = inl (kind_is ∙ ap error_kind m, codec_is, s, memory m)
     go (inr n) =
         let r : new.rest ≡ old.rest = ap (λ (x : State). x.rest) s in
         inr (inr ((λ h. kind_memory f n (sym kind_is ∙ h)), (fault f, inl (f, read n, ap (λ z. (fault f, z)) r), kind_is, codec_is, same_at old new s)))
@@ -115,9 +115,9 @@ lent rule tag l (Borrowed x) n h = h
 lent rule tag l (Owned v) n h = let k = n tt in cc
 
 -- octets in order that aren't copied
-pub string_starved : {X : Type 0} (see : X → List ℕ) (Told : Verdict) (tag : Tag) (old new : State) (s : CowSlice ℕ Global) (ns : List ℕ) (e : DecodeError) → Gathers tag old (Ok s) new
+pub string_ran_out : {X : Type 0} (see : X → List ℕ) (Told : Verdict) (tag : Tag) (old new : State) (s : CowSlice ℕ Global) (ns : List ℕ) (e : DecodeError) → GathersOctets tag old (Ok s) new
     → Told (cow_slice_items s) (Ok ns) → (IsOwnedSlice s → false ≡ true) → ErrorOf fault_is.OutOfMemory new e → GaveString see Told tag old (Err e) new
-string_starved see Told tag old new s ns e (h, k, w) a n x =
+string_ran_out see Told tag old new s ns e (h, k, w) a n x =
     inr (inl (
       ap (λ (y : DecodeError). y.kind) x,
       ap (λ (y : DecodeError). y.codec) x ∙ rule_is old new k,
@@ -129,6 +129,6 @@ string_starved see Told tag old new s ns e (h, k, w) a n x =
     ))
 
 -- octets in order
-pub string_given : {X : Type 0} (see : X → List ℕ) (Told : Verdict) (tag : Tag) (old new : State) (s : CowSlice ℕ Global) (v : X) → Gathers tag old (Ok s) new
+pub string_given : {X : Type 0} (see : X → List ℕ) (Told : Verdict) (tag : Tag) (old new : State) (s : CowSlice ℕ Global) (v : X) → GathersOctets tag old (Ok s) new
     → Told (cow_slice_items s) (Ok (see v)) → GaveString see Told tag old (Ok v) new
 string_given see Told tag old new s v (h, k, w) a = ((cow_slice_items s, h, a), k)

@@ -24,8 +24,8 @@ use Rattle.rasn_types.proofs.Stamped.{one_stamp}
 use Rattle.rasn_types.proofs.Dated.{one_day}
 use Rattle.rasn_de.specs.declared.ber.de.parser.Fault.{Fault}
 use Rattle.rasn_de.specs.declared.ber.de.parser.Fault.TheVariants.{OutOfMemory}
-use Rattle.rasn_de.specs.Causes.{kind_of}
-use Rattle.rasn_de.specs.Octets.{octets_at, Gathers, IsPrimitive, IsLentAs}
+use Rattle.rasn_de.specs.Causes.{error_kind}
+use Rattle.rasn_de.specs.Octets.{octet_string_at, GathersOctets, IsPrimitive, IsLentAs}
 use Rattle.rasn_de.specs.Outcomes.{Exact, Got, refusal}
 use Rattle.rasn_de.specs.State.{State, IsEnd}
 use Rattle.rasn_de.specs.Decodes.{Decodes, DecodesBy}
@@ -46,7 +46,7 @@ module _ {X : Type 0} (Means : List ℕ → X → Type 0) (tree : X → Tree) (T
     (there : (text : List ℕ) (x : X) → Means text x → T text (tree x))
     (found : (text : List ℕ) (t : Tree) → T text t → (x : X) × Means text x × (t ≡ tree x))
     (one : (text : List ℕ) (x y : X) → Means text x → Means text y → tree x ≡ tree y) where
-  got : (rule : Codec) (depth : ℕ) (tag : Tag) (l text rest : List ℕ) (x : X) → AreOctets l → octets_at rule depth tag l ≡ Ok (text, rest) → Means text x
+  got : (rule : Codec) (depth : ℕ) (tag : Tag) (l text rest : List ℕ) (x : X) → AreOctets l → octet_string_at rule depth tag l ≡ Ok (text, rest) → Means text x
       → Exact (ReadsText T rule tag depth) l (Got (tree x) rest)
   got rule depth tag l text rest x o e m = (((text, octets_there rule depth tag l o text rest e, there text x m), tt), λ t r w. same t r w)
     where
@@ -58,7 +58,7 @@ module _ {X : Type 0} (Means : List ℕ → X → Type 0) (tree : X → Tree) (T
           let y = found other t k in
           (y.2 ∙ one text y.0 x (subst (λ z. Means z y.0) q y.1) m, ap (λ (z : List ℕ × List ℕ). z.1) p)
 
-  no_text : (rule : Codec) (depth : ℕ) (tag : Tag) (l text rest : List ℕ) → AreOctets l → octets_at rule depth tag l ≡ Ok (text, rest) → ((x : X) → Means text x → ⊥)
+  no_text : (rule : Codec) (depth : ℕ) (tag : Tag) (l text rest : List ℕ) → AreOctets l → octet_string_at rule depth tag l ≡ Ok (text, rest) → ((x : X) → Means text x → ⊥)
       → (t : Tree) (r : List ℕ) → ReadsText T rule tag depth l t r → ⊥
   no_text rule depth tag l text rest o e n t r ((other, s, k), u) =
       let h = octets_only rule depth tag l o other r s in
@@ -67,7 +67,7 @@ module _ {X : Type 0} (Means : List ℕ → X → Type 0) (tree : X → Tree) (T
       let y = found other t k in
       n y.0 (subst (λ z. Means z y.0) q y.1)
 
-  no_string : (rule : Codec) (depth : ℕ) (tag : Tag) (l : List ℕ) (f : Fault) → AreOctets l → octets_at rule depth tag l ≡ Err f
+  no_string : (rule : Codec) (depth : ℕ) (tag : Tag) (l : List ℕ) (f : Fault) → AreOctets l → octet_string_at rule depth tag l ≡ Err f
       → (t : Tree) (r : List ℕ) → ReadsText T rule tag depth l t r → ⊥
   no_string rule depth tag l f o e t r ((other, s, k), u) = let h = octets_only rule depth tag l o other r s in cc
 
@@ -90,7 +90,7 @@ module _ {X : Type 0} (Means : List ℕ → X → Type 0) (tree : X → Tree) (T
   }
     where
       go : (f ≡ OutOfMemory) ⊎ (f ≢ OutOfMemory) → Exact (ReadsText T old.rule tag old.depth) old.rest (refusal e.kind)
-      go (inl m) = subst (λ z. Exact (ReadsText T old.rule tag old.depth) old.rest (refusal z)) (sym (ap (λ (x : DecodeError). x.kind) k ∙ ap kind_of m)) tt
+      go (inl m) = subst (λ z. Exact (ReadsText T old.rule tag old.depth) old.rest (refusal z)) (sym (ap (λ (x : DecodeError). x.kind) k ∙ ap error_kind m)) tt
       go (inr n) = Exact-none e.kind (ReadsText T old.rule tag old.depth) old.rest (no_string old.rule old.depth tag old.rest f o (read n))
 
 -- a text has one meaning
@@ -137,12 +137,12 @@ date_decodes tag old new result o g c =
     tag old new result o g
 
 -- The string is a time's.
-pub time_gave : {X : Type 0} (Means : Codec → List ℕ → X → Type 0) (tag : Tag) (old new : State) (s : CowSlice ℕ Global) (rule : Codec) (text : List ℕ) (x : X) → Gathers tag old (Ok s) new
+pub time_gave : {X : Type 0} (Means : Codec → List ℕ → X → Type 0) (tag : Tag) (old new : State) (s : CowSlice ℕ Global) (rule : Codec) (text : List ℕ) (x : X) → GathersOctets tag old (Ok s) new
     → rule ≡ old.rule → text ≡ cow_slice_items s → Means rule text x → GaveTime (Means old.rule) tag old (Ok x) new
 time_gave Means tag old new s rule text x (h, k, f) r e m = (cow_slice_items s, h, k, subst (λ z. Means old.rule z x) e (subst (λ z. Means z text x) r m))
 
 -- The string is no time's.
-pub time_refused : {X : Type 0} (Means : Codec → List ℕ → X → Type 0) (tag : Tag) (old new : State) (s : CowSlice ℕ Global) (rule : Codec) (text : List ℕ) (e : DecodeError) → Gathers tag old (Ok s) new
+pub time_refused : {X : Type 0} (Means : Codec → List ℕ → X → Type 0) (tag : Tag) (old new : State) (s : CowSlice ℕ Global) (rule : Codec) (text : List ℕ) (e : DecodeError) → GathersOctets tag old (Ok s) new
     → rule ≡ old.rule → text ≡ cow_slice_items s → ((x : X) → Means rule text x → ⊥) → TellsText (cow_slice_items s) new.rule e ⊎ (TellsMemory new.rule e × IsBorrowedSlice s)
     → GaveTime (Means old.rule) tag old (Err e) new
 time_refused {X} Means tag old new s rule text e (h, k, f) r q n w =

@@ -17,11 +17,11 @@ use Rattle.rasn_de.proofs.Texts.{Fits}
 size_plain : (size : Option (Bound ℕ)) (n : ℕ) (f : Fault) → IsOutOfSize size n f → f ≢ fault_is.OutOfMemory
 size_plain size n f (a, e) m = cc
 
-pub by_alphabet : (a : Alphabet) (bounds : Constraints) → Fits (characters.kind_of a) bounds (ByAlphabet a bounds.size)
+pub by_alphabet : (a : Alphabet) (bounds : Constraints) → Fits (characters.string_kind a) bounds (ByAlphabet a bounds.size)
 by_alphabet a bounds = record {
   is_text = alphabet_family a;
   found = λ rule xs ns h. (
-    subst (λ z. Text rule (characters.kind_of a) xs (numbers z)) (sym h.0) (alphabet_text a rule xs h.2),
+    subst (λ z. Text rule (characters.string_kind a) xs (numbers z)) (sym h.0) (alphabet_text a rule xs h.2),
     subst (λ m. Fulfils m bounds (numbers ns)) (sym (alphabet_measure a)) (subst (λ z. Admits ◌≤◌ bounds.size (length z)) (sym h.0) h.1),
   );
   only = λ rule xs ns t h k. (alphabet_only a rule xs t k).0 ∙ ap numbers (sym h.0);
@@ -29,10 +29,10 @@ by_alphabet a bounds = record {
   plain = plain;
 }
   where
-    size_of : (xs : List ℕ) (t : Tree) → t ≡ numbers xs → IsBounded (characters.kind_of a) bounds t → Admits ◌≤◌ bounds.size (length xs)
-    size_of xs t e b = subst (λ m. Fulfils m bounds (numbers xs)) (alphabet_measure a) (subst (λ z. IsBounded (characters.kind_of a) bounds z) e b)
+    size_of : (xs : List ℕ) (t : Tree) → t ≡ numbers xs → IsBounded (characters.string_kind a) bounds t → Admits ◌≤◌ bounds.size (length xs)
+    size_of xs t e b = subst (λ m. Fulfils m bounds (numbers xs)) (alphabet_measure a) (subst (λ z. IsBounded (characters.string_kind a) bounds z) e b)
 
-    none : (rule : Codec) (xs : List ℕ) (f : Fault) (t : Tree) → ByAlphabet a bounds.size xs (Err f) → Text rule (characters.kind_of a) xs t → IsBounded (characters.kind_of a) bounds t → ⊥
+    none : (rule : Codec) (xs : List ℕ) (f : Fault) (t : Tree) → ByAlphabet a bounds.size xs (Err f) → Text rule (characters.string_kind a) xs t → IsBounded (characters.string_kind a) bounds t → ⊥
     none rule xs f t (inl (n, e)) k b = n (size_of xs t (alphabet_only a rule xs t k).0 b)
     none rule xs f t (inr (m, (i, lt, w, n, e))) k b = n ((alphabet_only a rule xs t k).1 i 0 lt)
 

@@ -4,9 +4,9 @@ use Rattle.rasn_types.specs.declared.types.tag.Tag.{Tag}
 use Rattle.rasn_types.specs.declared.types.constraints.Constraints.{Constraints}
 use Rattle.rasn_types.specs.declared.error.decode.DecodeError.{DecodeError}
 use Rattle.rasn_types.specs.Framing.{AreOctets}
-use Rattle.rasn_types.specs.Shapes.{Tree, Shape, bag, items, walk, Admits}
+use Rattle.rasn_types.specs.Shapes.{Tree, Shape, set_of, items, walk, Admits}
 use Rattle.rasn_types.specs.Readers.{Reading, Inside, in_definite, in_indefinite}
-use Rattle.rasn_types.specs.Grammar.{Reads, ReadsBag}
+use Rattle.rasn_types.specs.Grammar.{Reads, ReadsSetOf}
 use Rattle.rasn_types.specs.Trees.{list_tree}
 use Rattle.rasn_de.specs.Headers.{Header}
 use Rattle.rasn_de.specs.Strings.{inner}
@@ -16,7 +16,7 @@ use Rattle.rasn_de.specs.Decodes.{Decodes}
 use Rattle.rasn_de.specs.Inside.{door_at, is_open, inner_state}
 use Rattle.rasn_de.specs.Lists.{list_door, ReadsWalk, ReadEachInOrder, InList, ReadSized}
 use Rattle.rasn_de.proofs.Answering.{Exact-none, Exact-refusal}
-use Rattle.rasn_de.proofs.Bagged.{in_order_decodes}
+use Rattle.rasn_de.proofs.SetsOf.{in_order_decodes}
 use Rattle.rasn_de.proofs.Holding.{Held, IsCut, held_exact, kept}
 use Rattle.rasn_de.proofs.Insides.{bit_is}
 use Rattle.rasn_de.proofs.Listed.{inside_map, counted}
@@ -39,7 +39,7 @@ module _ {D : Type 0} (s : Shape) (tree : D → Tree) (tag : Tag) (c : Constrain
   Unsized = Held (list_door tag) R old o
 
   abbrev pub Sized : Reading Tree
-  Sized = Reads old.rule (bag tag s c.size) old.depth old.closing
+  Sized = Reads old.rule (set_of tag s c.size) old.depth old.closing
 
   inside_exact : (h : Header) → door_at (list_door tag) old.rule old.depth old.rest ≡ Ok h → (r : Result (List D) DecodeError) (left : State) → read (inner_state (list_door tag) old h) r left
       → Exact (R (is_open h.extent)) (inner h.extent h.rest) (outcome trees r left.rest) ⊎ IsCut (list_door tag) R old o h left.rest
@@ -51,20 +51,20 @@ module _ {D : Type 0} (s : Shape) (tree : D → Tree) (tag : Tag) (c : Constrain
   to_sized : (input : List ℕ) (t : Tree) (r : List ℕ) → ((ts : List Tree) → t ≡ walk (items ts) → Admits ◌≤◌ c.size (length ts)) → Unsized input t r → Sized input t r
   unfolding Reads ReadsWalk
   to_sized input t r a (n, bit, q, i) =
-      (n, inside_map old.rule tag true R (λ k. ReadsBag old.rule c.size (Reads old.rule s (old.depth - 2) k) k) t (λ k j m w. (w.0, w.1, a w.0 w.1, w.2, w.3)) input r (subst (λ b. Inside old.rule tag b R input t r) (bit_is bit q.0) i))
+      (n, inside_map old.rule tag true R (λ k. ReadsSetOf old.rule c.size (Reads old.rule s (old.depth - 2) k) k) t (λ k j m w. (w.0, w.1, a w.0 w.1, w.2, w.3)) input r (subst (λ b. Inside old.rule tag b R input t r) (bit_is bit q.0) i))
 
   from_sized : (input : List ℕ) (t : Tree) (r : List ℕ) → Sized input t r → Unsized input t r
   unfolding Reads ReadsWalk
   from_sized input t r (n, i) =
-      (n, true, (refl, refl), inside_map old.rule tag true (λ k. ReadsBag old.rule c.size (Reads old.rule s (old.depth - 2) k) k) R t (λ k j m w. (w.0, w.1, w.3, w.4)) input r i)
+      (n, true, (refl, refl), inside_map old.rule tag true (λ k. ReadsSetOf old.rule c.size (Reads old.rule s (old.depth - 2) k) k) R t (λ k j m w. (w.0, w.1, w.3, w.4)) input r i)
 
   admitted : (input : List ℕ) (t : Tree) (r : List ℕ) → Sized input t r → (ts : List Tree) × (t ≡ walk (items ts)) × Admits ◌≤◌ c.size (length ts)
   unfolding Reads
   admitted input t r (n, in_definite contents k w) = (w.0, w.1, w.2)
   admitted input t r (n, in_indefinite body k w) = (w.0, w.1, w.2)
 
-  pub bag_decodes : (result : Result (List D) DecodeError) (new : State) → ReadSized read (λ (v : List D). length v) tag c old result new → Decodes (bag tag s c.size) trees old result new
-  bag_decodes (Ok v) new (a, k) =
+  pub set_of_decodes : (result : Result (List D) DecodeError) (new : State) → ReadSized read (λ (v : List D). length v) tag c old result new → Decodes (set_of tag s c.size) trees old result new
+  set_of_decodes (Ok v) new (a, k) =
       let m = kept read (list_door tag) old (Ok v) new k in
       let x = unsized_exact (Ok v) new k in
       record {
@@ -72,10 +72,10 @@ module _ {D : Type 0} (s : Shape) (tree : D → Tree) (tag : Tag) (c : Constrain
         end = m.end;
         exact = (to_sized old.rest (trees v) new.rest (λ ts e. subst (Admits ◌≤◌ c.size) (sym (counted_walk tree v ts e)) a) x.0, λ u r w. x.1 u r (from_sized old.rest u r w));
       }
-  bag_decodes (Err e) new (inl k) =
+  set_of_decodes (Err e) new (inl k) =
       let m = kept read (list_door tag) old (Err e) new k in
       record { stays = m.stays; end = m.end; exact = Exact-refusal e.kind Unsized Sized old.rest old.rest (λ none t r w. none t r (from_sized old.rest t r w)) (unsized_exact (Err e) new k) }
-  bag_decodes (Err e) new (inr (v, k, n, w)) =
+  set_of_decodes (Err e) new (inr (v, k, n, w)) =
       let m = kept read (list_door tag) old (Ok v) new k in
       let x = unsized_exact (Ok v) new k in
       record {

@@ -8,14 +8,14 @@ use Rattle.rasn_types.specs.declared.error.decode.DecodeError.{DecodeError}
 use Rattle.rasn_types.specs.Tags.{in_universal}
 use Rattle.rasn_types.specs.Shapes.{Tree, bits, Admits, constraint_of}
 use Rattle.rasn_types.specs.Bits.{bits_in, but_last}
-use Rattle.rasn_types.specs.Errors.{IsMemory}
+use Rattle.rasn_types.specs.Errors.{IsOutOfMemory}
 use Rattle.rasn_de.specs.declared.ber.de.parser.Fault.{Fault}
 use Rattle.rasn_de.specs.declared.ber.de.parser.Fault.TheVariants.{OutOfMemory, UnexpectedEmptyInput, InvalidBitString, LengthExceedsPlatformWidth, SizeConstraintNotSatisfied, Der}
 use Rattle.rasn_types.specs.declared.error.decode.DerDecodeErrorKind.TheVariants.{NonzeroUnusedBits}
 use Rattle.rasn_de.specs.Headers.{is_der}
 use Rattle.rasn_de.specs.Strings.{string_at}
 use Rattle.rasn_de.specs.Octets.{IsPrimitive, IsConstructed}
-use Rattle.rasn_de.specs.Texts.{StarvedGathering}
+use Rattle.rasn_de.specs.Texts.{RanOutGathering}
 use Rattle.rasn_de.specs.State.{State, at}
 use Rattle.rasn_de.specs.Causes.{Cause, fault}
 use Rattle.rasn_de.specs.Leaves.{Readings, Refuses, Gave}
@@ -42,8 +42,8 @@ segment_bits rule (unused ∷ octets) =
     if is_miscounted unused octets then Err (InvalidBitString unused)
     else (if is_der rule && is_any_set (last_bits unused octets) then Err (Der NonzeroUnusedBits) else Ok (but_last unused octets))
 
-abbrev pub bits_at : Codec → ℕ → Tag → List ℕ → Result (List Bool × List ℕ) Fault
-bits_at rule depth tag l = string_at rule (segment_bits rule) (in_universal 3) depth tag l
+abbrev pub bit_string_at : Codec → ℕ → Tag → List ℕ → Result (List Bool × List ℕ) Fault
+bit_string_at rule depth tag l = string_at rule (segment_bits rule) (in_universal 3) depth tag l
 
 abbrev pub bits_tree : List Bool → Tree
 bits_tree bs = bits bs
@@ -52,18 +52,18 @@ bits_tree bs = bits bs
 -- value where it is wanting for the bits of a primitive one, which are in order.
 abbrev pub LacksBits : Codec → ℕ → Tag → List ℕ → Fault → List ℕ → Type 0
 LacksBits rule depth tag l f left =
-    ((f ≢ OutOfMemory) × (bits_at rule depth tag l ≡ Err f) × (left ≡ l))
+    ((f ≢ OutOfMemory) × (bit_string_at rule depth tag l ≡ Err f) × (left ≡ l))
     ⊎ (((f ≡ OutOfMemory) × IsConstructed rule tag l × (left ≡ l))
-    ⊎ ((f ≡ OutOfMemory) × IsPrimitive rule tag l × (bs : List Bool) × (bits_at rule depth tag l ≡ Ok (bs, left))))
+    ⊎ ((f ≡ OutOfMemory) × IsPrimitive rule tag l × (bs : List Bool) × (bit_string_at rule depth tag l ≡ Ok (bs, left))))
 
 -- What a function found is what the reading gives; or there are no bits.
 abbrev pub FindsBits : Codec → ℕ → Tag → List ℕ → Result (List Bool × Bor (List ℕ)) (Fault × Bor (List ℕ)) → Type 0
-FindsBits rule depth tag l (Ok p) = bits_at rule depth tag l ≡ Ok (p.0, p.1.now)
+FindsBits rule depth tag l (Ok p) = bit_string_at rule depth tag l ≡ Ok (p.0, p.1.now)
 FindsBits rule depth tag l (Err e) = LacksBits rule depth tag l e.0 e.1.now
 
 -- What a decoder gathers of a string: its bits and what follows.
 abbrev pub GathersBits : Tag → State → Result (List Bool) DecodeError → State → Type 0
-GathersBits tag old (Ok bs) new = (bits_at old.rule old.depth tag old.rest ≡ Ok (bs, new.rest)) × (new ≡ at old new.rest)
+GathersBits tag old (Ok bs) new = (bit_string_at old.rule old.depth tag old.rest ≡ Ok (bs, new.rest)) × (new ≡ at old new.rest)
 GathersBits tag old (Err e) new = (f : Fault) × ErrorOf f old e × (new ≡ at old new.rest) × LacksBits old.rule old.depth tag old.rest f new.rest
 
 -- What is refused of bits that were read, and why: 2 ^ 64 of them or more, and then a size out of bounds.
@@ -74,19 +74,19 @@ IsOversized bounds bs cause =
 
 -- A BIT STRING whose size is within bounds.
 abbrev pub BitsAt : Constraints → Codec → ℕ → Tag → List ℕ → Readings (List Bool)
-BitsAt bounds rule depth tag l (Ok p) = (bits_at rule depth tag l ≡ Ok p) × (length p.0 < 2 ^ 64) × Admits ◌≤◌ bounds.size (length p.0)
+BitsAt bounds rule depth tag l (Ok p) = (bit_string_at rule depth tag l ≡ Ok p) × (length p.0 < 2 ^ 64) × Admits ◌≤◌ bounds.size (length p.0)
 BitsAt bounds rule depth tag l (Err e) =
-    ((f : Fault) × (bits_at rule depth tag l ≡ Err f) × (e ≡ (fault f, l)))
-    ⊎ ((bs : List Bool) × (bits_at rule depth tag l ≡ Ok (bs, e.1)) × IsOversized bounds bs e.0)
+    ((f : Fault) × (bit_string_at rule depth tag l ≡ Err f) × (e ≡ (fault f, l)))
+    ⊎ ((bs : List Bool) × (bit_string_at rule depth tag l ≡ Ok (bs, e.1)) × IsOversized bounds bs e.0)
 
 -- Memory is wanting for the copy of a primitive string's bits, before their number is asked for, and the value is taken.
-abbrev pub StarvedBits : Tag → State → DecodeError → State → Type 0
-StarvedBits tag old e new = IsMemory e.kind × (e.codec ≡ old.rule) × (new ≡ at old new.rest) × IsPrimitive old.rule tag old.rest
-    × (bs : List Bool) × (bits_at old.rule old.depth tag old.rest ≡ Ok (bs, new.rest))
+abbrev pub RanOutCopyingBits : Tag → State → DecodeError → State → Type 0
+RanOutCopyingBits tag old e new = IsOutOfMemory e.kind × (e.codec ≡ old.rule) × (new ≡ at old new.rest) × IsPrimitive old.rule tag old.rest
+    × (bs : List Bool) × (bit_string_at old.rule old.depth tag old.rest ≡ Ok (bs, new.rest))
 
 -- A call answers what the reading is, or memory is wanting.
 abbrev pub GaveBits : Tag → Constraints → State → Result (List Bool) DecodeError → State → Type 0
 GaveBits tag bounds old (Ok bs) new = Gave (λ s. s) (BitsAt bounds old.rule old.depth tag old.rest) old (Ok bs) new
 GaveBits tag bounds old (Err e) new =
-    StarvedGathering tag old e new ⊎ (StarvedBits tag old e new
-    ⊎ ((IsMemory e.kind → ⊥) × Refuses (BitsAt bounds old.rule old.depth tag old.rest) old e new))
+    RanOutGathering tag old e new ⊎ (RanOutCopyingBits tag old e new
+    ⊎ ((IsOutOfMemory e.kind → ⊥) × Refuses (BitsAt bounds old.rule old.depth tag old.rest) old e new))

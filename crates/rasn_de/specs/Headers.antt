@@ -86,8 +86,8 @@ unfoldable pub number256_at : ℕ → List ℕ → Result ℕ Fault
 number256_at n [] = Ok n
 number256_at n (b ∷ l) = if nat_le 0x100_0000_0000_0000 n then Err LengthExceedsPlatformWidth else number256_at (n * 256 + b) l
 
-abbrev pub octets_at : ℕ → List ℕ → Result (List ℕ × List ℕ) Fault
-octets_at k l = if nat_lt (length l) k then Err (Incomplete (k - length l)) else Ok (take k l, drop k l)
+abbrev pub first_octets : ℕ → List ℕ → Result (List ℕ × List ℕ) Fault
+first_octets k l = if nat_lt (length l) k then Err (Incomplete (k - length l)) else Ok (take k l, drop k l)
 
 -- These octets spell a length that fewer would: the first of them is zero, or the length stands in the short form.
 abbrev pub begins_with_zero : List ℕ → Bool
@@ -100,7 +100,7 @@ has_spare l n = begins_with_zero l || nat_lt n 128
 -- The long form: missing octets, then a width of 2 ^ 64 or more, and then octets to spare.
 unfoldable pub long_at : Bool → ℕ → List ℕ → Result (Option ℕ × List ℕ) Fault
 long_at shortest k l =
-    octets_at k l >>= λ p. number256_at 0 p.0 >>= λ n. if shortest && has_spare p.0 n then Err (Der NonMinimalLength) else Ok (Some n, p.1)
+    first_octets k l >>= λ p. number256_at 0 p.0 >>= λ n. if shortest && has_spare p.0 n then Err (Der NonMinimalLength) else Ok (Some n, p.1)
 
 -- A length, or none in the indefinite form, which a constructed encoding may have.
 unfoldable pub length_at : Spelling → Bool → List ℕ → Result (Option ℕ × List ℕ) Fault
@@ -117,7 +117,7 @@ pub record Header : Type 0 where
 
 abbrev pub contents_at : Tag → Bool → Option ℕ → List ℕ → Result Header Fault
 contents_at tag bit None l = Ok (record { tag = tag; bit = bit; extent = indefinite; rest = l })
-contents_at tag bit (Some n) l = octets_at n l >>= λ p. Ok (record { tag = tag; bit = bit; extent = definite p.0; rest = p.1 })
+contents_at tag bit (Some n) l = first_octets n l >>= λ p. Ok (record { tag = tag; bit = bit; extent = definite p.0; rest = p.1 })
 
 abbrev pub is_der : Codec → Bool
 is_der Ber = false

@@ -14,8 +14,8 @@ use Rattle.rasn_types.specs.Shapes.{Interval, IsIn, Admits, constraint_of}
 use Rattle.rasn_types.specs.declared.types.constraints.Constraints.{Constraints}
 use Rattle.rasn_types.specs.declared.types.constraints.Bounded.{Bounded}
 use Rattle.rasn_types.specs.Contents.{signed, IsShortestInteger}
-use Rattle.rasn_types.specs.Errors.{IsMemory}
-use Rattle.rasn_de.specs.Causes.{Cause, fault, out_of_bound, Tells}
+use Rattle.rasn_types.specs.Errors.{IsOutOfMemory}
+use Rattle.rasn_de.specs.Causes.{Cause, fault, out_of_bound, TellsCause}
 use Rattle.rasn_de.specs.State.{State, at}
 
 -- Framing faults leave all of the input.
@@ -88,7 +88,7 @@ IntegerAt width range bounds rule tag l = LeafAt (IntegerIn rule width range bou
 
 -- The call is refused as the reading is, which changes nothing but what is left.
 abbrev pub Refuses : {Y : Type 0} → Readings Y → State → DecodeError → State → Type 0
-Refuses Is old e new = (cause : Cause) × Is (Err (cause, new.rest)) × Tells cause e.kind × (e.codec ≡ old.rule) × (new ≡ at old new.rest)
+Refuses Is old e new = (cause : Cause) × Is (Err (cause, new.rest)) × TellsCause cause e.kind × (e.codec ≡ old.rule) × (new ≡ at old new.rest)
 
 -- A call answers what the reading is of the list that remained; it leaves what is left of it, and changes nothing else.
 abbrev pub Gave : {X Y : Type 0} → (X → Y) → Readings Y → State → Result X DecodeError → State → Type 0
@@ -99,7 +99,7 @@ Gave see Is old (Err e) new = Refuses Is old e new
 abbrev pub GaveInteger : {X : Type 0} → (X → ℤ) → Type 0 → Tag → Readings ℤ → State → Result X DecodeError → State → Type 0
 GaveInteger see Grows tag Is old (Ok v) new = Gave see Is old (Ok v) new
 GaveInteger see Grows tag Is old (Err e) new =
-    (IsMemory e.kind × Grows × (e.codec ≡ old.rule) × (new ≡ at old new.rest) × (c : List ℕ) × (definite_at old.rule tag old.rest ≡ Ok (c, new.rest))) ⊎ Refuses Is old e new
+    (IsOutOfMemory e.kind × Grows × (e.codec ≡ old.rule) × (new ≡ at old new.rest) × (c : List ℕ) × (definite_at old.rule tag old.rest ≡ Ok (c, new.rest))) ⊎ Refuses Is old e new
 
 -- The number is out of its bound.
 abbrev pub IsBeyond : Readings ℤ → List ℕ → Type 0

@@ -35,7 +35,7 @@ module _ {D : Type 0} (read : State → Result D DecodeError → State → Type 
   Passes old [] here = here ≡ old
   Passes old (v ∷ vs) here = (next : State) × (Ended old.closing old.rest → ⊥) × read old (Ok v) next × (length next.rest ≢ length old.rest) × Passes next vs here
 
-  -- An element is refused; or it takes nothing; or memory is wanted behind it.
+  -- An element is refused; or it takes nothing; or memory runs out behind it.
   abbrev pub Stops : State → DecodeError → State → Type 0
   Stops here e new = read here (Err e) new
       ⊎ ((v : D) × read here (Ok v) new × (((length new.rest ≡ length here.rest) × ErrorOf (UnexpectedExtraData (length here.rest)) here e) ⊎ ErrorOf OutOfMemory here e))

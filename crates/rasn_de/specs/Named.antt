@@ -17,6 +17,6 @@ abbrev pub IsDuplicateField : List ℕ → DecodeErrorKind → Type 0
 IsDuplicateField name (DuplicateField told) = string_bytes told ≡ name
 IsDuplicateField name _ = ⊥
 
--- The error is of this kind, or its copy of the name wanted memory.
-abbrev pub Tells : (DecodeErrorKind → Type 0) → Codec → DecodeError → Type 0
-Tells is rule e = (e.codec ≡ rule) × (is e.kind ⊎ (e.kind ≡ OutOfMemory))
+-- The error is of this kind, or memory ran out for its copy of the name.
+abbrev pub TellsNamed : (DecodeErrorKind → Type 0) → Codec → DecodeError → Type 0
+TellsNamed is rule e = (e.codec ≡ rule) × (is e.kind ⊎ (e.kind ≡ OutOfMemory))

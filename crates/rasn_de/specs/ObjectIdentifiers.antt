@@ -7,11 +7,11 @@ use Rattle.rasn_types.specs.Contents.{Arcs, ShortArcs, IsObjectIdentifier, IsSho
 use Rattle.rasn_types.specs.Shapes.{object_identifier}
 use Rattle.rasn_types.specs.Tags.{IsStrict}
 use Rattle.rasn_types.specs.declared.error.decode.DerDecodeErrorKind.TheVariants.{NonMinimalArc}
-use Rattle.rasn_types.specs.Errors.{IsMemory}
+use Rattle.rasn_types.specs.Errors.{IsOutOfMemory}
 use Rattle.rasn_de.specs.declared.ber.de.parser.Fault.{Fault}
 use Rattle.rasn_de.specs.declared.ber.de.parser.Fault.TheVariants.{OutOfMemory, UnsupportedObjectIdentifierArc, Der}
 use Rattle.rasn_de.specs.Headers.{number128_at, is_padded, is_der}
-use Rattle.rasn_de.specs.Causes.{Cause, fault, out_of_bound, kind_of}
+use Rattle.rasn_de.specs.Causes.{Cause, fault, out_of_bound, error_kind}
 use Rattle.rasn_de.specs.Leaves.{Readings, LeafAt, Refuses, Gave, definite_at}
 use Rattle.rasn_de.specs.State.{State, at}
 
@@ -44,7 +44,7 @@ ObjectIdentifierIn rule c (Err (out_of_bound z bound)) = ⊥
 abbrev pub ObjectIdentifierAt : Codec → Tag → List ℕ → Readings (List ℕ)
 ObjectIdentifierAt rule tag l = LeafAt (ObjectIdentifierIn rule) rule tag l
 
--- What a function found in contents; for want of memory nothing is said.
+-- What a function found in contents; for running out of memory nothing is said.
 abbrev pub FindsArcs : Codec → List ℕ → Result (List ℕ) Fault → Type 0
 FindsArcs rule c (Ok arcs) = ReadsArcs rule c arcs
 FindsArcs rule c (Err f) = f ≢ OutOfMemory → StopsAt rule c f
@@ -52,16 +52,16 @@ FindsArcs rule c (Err f) = f ≢ OutOfMemory → StopsAt rule c f
 -- What a decoder, whose rule errors name, answers of contents that are read by a rule; or memory is wanting.
 abbrev pub GaveArcs : Codec → Codec → List ℕ → Result (List ℕ) DecodeError → Type 0
 GaveArcs named rule c (Ok arcs) = ReadsArcs rule c arcs
-GaveArcs named rule c (Err e) = (e.codec ≡ named) × (IsMemory e.kind ⊎ ((f : Fault) × StopsAt rule c f × (e.kind ≡ kind_of f)))
+GaveArcs named rule c (Err e) = (e.codec ≡ named) × (IsOutOfMemory e.kind ⊎ ((f : Fault) × StopsAt rule c f × (e.kind ≡ error_kind f)))
 
 -- The arcs are the only ones that the contents hold; at a refusal but for memory they hold none.
 abbrev pub HoldsArcs : List ℕ → Result (List ℕ) DecodeError → Type 0
 HoldsArcs c (Ok arcs) = IsObjectIdentifier c arcs × ((others : List ℕ) → IsObjectIdentifier c others → others ≡ arcs)
-HoldsArcs c (Err e) = (IsMemory e.kind → ⊥) → (arcs : List ℕ) → IsObjectIdentifier c arcs → ⊥
+HoldsArcs c (Err e) = (IsOutOfMemory e.kind → ⊥) → (arcs : List ℕ) → IsObjectIdentifier c arcs → ⊥
 
 -- A call answers what the reading is; or memory is wanting, and the value was taken.
 abbrev pub GaveObjectIdentifier : Tag → State → Result (List ℕ) DecodeError → State → Type 0
 GaveObjectIdentifier tag old (Ok arcs) new = Gave (λ o. o) (ObjectIdentifierAt old.rule tag old.rest) old (Ok arcs) new
 GaveObjectIdentifier tag old (Err e) new =
-    (IsMemory e.kind × (e.codec ≡ old.rule) × (new ≡ at old new.rest) × (c : List ℕ) × (definite_at old.rule tag old.rest ≡ Ok (c, new.rest)))
-    ⊎ ((IsMemory e.kind → ⊥) × Refuses (ObjectIdentifierAt old.rule tag old.rest) old e new)
+    (IsOutOfMemory e.kind × (e.codec ≡ old.rule) × (new ≡ at old new.rest) × (c : List ℕ) × (definite_at old.rule tag old.rest ≡ Ok (c, new.rest)))
+    ⊎ ((IsOutOfMemory e.kind → ⊥) × Refuses (ObjectIdentifierAt old.rule tag old.rest) old e new)

@@ -16,13 +16,13 @@ use Rattle.rasn_de.specs.declared.ber.de.parser.Fault.TheVariants.{OutOfMemory, 
 use Rattle.rasn_de.specs.Strings.{string_at, octets}
 use Rattle.rasn_de.specs.State.{State, at}
 use Rattle.rasn_types.specs.declared.types.constraints.Constraints.{Constraints}
-use Rattle.rasn_types.specs.Errors.{IsMemory}
+use Rattle.rasn_types.specs.Errors.{IsOutOfMemory}
 use Rattle.rasn_de.specs.Causes.{fault}
 use Rattle.rasn_de.specs.Leaves.{Readings, Refuses, Gave}
 use Rattle.rasn_de.specs.Taking.{ErrorOf}
 
-abbrev pub octets_at : Codec → ℕ → Tag → List ℕ → Result (List ℕ × List ℕ) Fault
-octets_at rule depth tag l = string_at rule octets (in_universal 4) depth tag l
+abbrev pub octet_string_at : Codec → ℕ → Tag → List ℕ → Result (List ℕ × List ℕ) Fault
+octet_string_at rule depth tag l = string_at rule octets (in_universal 4) depth tag l
 
 -- A primitive value of the tag begins the list.
 abbrev pub IsPrimitive : Codec → Tag → List ℕ → Type 0
@@ -40,31 +40,31 @@ IsLentAs rule tag l (Owned v) = IsConstructed rule tag l
 abbrev pub cow_tree : CowSlice ℕ Global → Tree
 cow_tree s = numbers (cow_slice_items s)
 
--- What a function found is what the reading gives; for want of memory nothing is said.
-abbrev pub Finds : Result (List ℕ × List ℕ) Fault → Result (CowSlice ℕ Global × Bor (List ℕ)) Fault → Type 0
-Finds read (Ok p) = read ≡ Ok (cow_slice_items p.0, p.1.now)
-Finds read (Err e) = e ≢ OutOfMemory → read ≡ Err e
+-- What a function found is what the reading gives; for running out of memory nothing is said.
+abbrev pub FindsOctets : Result (List ℕ × List ℕ) Fault → Result (CowSlice ℕ Global × Bor (List ℕ)) Fault → Type 0
+FindsOctets read (Ok p) = read ≡ Ok (cow_slice_items p.0, p.1.now)
+FindsOctets read (Err e) = e ≢ OutOfMemory → read ≡ Err e
 
--- Want of memory is met where segments are gathered, and nowhere else.
+-- Running out of memory is met where segments are gathered, and nowhere else.
 abbrev pub ShowsForm : Codec → Tag → List ℕ → Result (CowSlice ℕ Global × Bor (List ℕ)) Fault → Type 0
 ShowsForm rule tag l (Ok p) = IsLentAs rule tag l p.0
 ShowsForm rule tag l (Err e) = e ≡ OutOfMemory → IsConstructed rule tag l
 
 -- What a decoder gathers of a string: its octets and what follows; a refusal leaves all of the input.
-abbrev pub Gathers : Tag → State → Result (CowSlice ℕ Global) DecodeError → State → Type 0
-Gathers tag old (Ok s) new = (octets_at old.rule old.depth tag old.rest ≡ Ok (cow_slice_items s, new.rest)) × (new ≡ at old new.rest) × IsLentAs old.rule tag old.rest s
-Gathers tag old (Err e) new = (f : Fault) × ErrorOf f old e × (new ≡ old) × (f ≢ OutOfMemory → octets_at old.rule old.depth tag old.rest ≡ Err f) × (f ≡ OutOfMemory → IsConstructed old.rule tag old.rest)
+abbrev pub GathersOctets : Tag → State → Result (CowSlice ℕ Global) DecodeError → State → Type 0
+GathersOctets tag old (Ok s) new = (octet_string_at old.rule old.depth tag old.rest ≡ Ok (cow_slice_items s, new.rest)) × (new ≡ at old new.rest) × IsLentAs old.rule tag old.rest s
+GathersOctets tag old (Err e) new = (f : Fault) × ErrorOf f old e × (new ≡ old) × (f ≢ OutOfMemory → octet_string_at old.rule old.depth tag old.rest ≡ Err f) × (f ≡ OutOfMemory → IsConstructed old.rule tag old.rest)
 
 -- An OCTET STRING whose size is within bounds.
 abbrev pub OctetsAt : Constraints → Codec → ℕ → Tag → List ℕ → Readings (List ℕ)
-OctetsAt bounds rule depth tag l (Ok p) = (octets_at rule depth tag l ≡ Ok p) × Admits ◌≤◌ bounds.size (length p.0)
+OctetsAt bounds rule depth tag l (Ok p) = (octet_string_at rule depth tag l ≡ Ok p) × Admits ◌≤◌ bounds.size (length p.0)
 OctetsAt bounds rule depth tag l (Err e) =
-    ((f : Fault) × (octets_at rule depth tag l ≡ Err f) × (e ≡ (fault f, l)))
-    ⊎ ((xs : List ℕ) × (octets_at rule depth tag l ≡ Ok (xs, e.1)) × (Admits ◌≤◌ bounds.size (length xs) → ⊥) × (e.0 ≡ fault (SizeConstraintNotSatisfied (length xs) (constraint_of bounds.size))))
+    ((f : Fault) × (octet_string_at rule depth tag l ≡ Err f) × (e ≡ (fault f, l)))
+    ⊎ ((xs : List ℕ) × (octet_string_at rule depth tag l ≡ Ok (xs, e.1)) × (Admits ◌≤◌ bounds.size (length xs) → ⊥) × (e.0 ≡ fault (SizeConstraintNotSatisfied (length xs) (constraint_of bounds.size))))
 
 -- A call answers what the reading is; or memory is wanting while segments are gathered, and nothing is taken.
 abbrev pub GaveOctets : Tag → Constraints → State → Result (CowSlice ℕ Global) DecodeError → State → Type 0
 GaveOctets tag bounds old (Ok s) new = Gave cow_slice_items (OctetsAt bounds old.rule old.depth tag old.rest) old (Ok s) new × IsLentAs old.rule tag old.rest s
 GaveOctets tag bounds old (Err e) new =
-    (IsMemory e.kind × (e.codec ≡ old.rule) × (new ≡ old) × IsConstructed old.rule tag old.rest)
-    ⊎ ((IsMemory e.kind → ⊥) × Refuses (OctetsAt bounds old.rule old.depth tag old.rest) old e new)
+    (IsOutOfMemory e.kind × (e.codec ≡ old.rule) × (new ≡ old) × IsConstructed old.rule tag old.rest)
+    ⊎ ((IsOutOfMemory e.kind → ⊥) × Refuses (OctetsAt bounds old.rule old.depth tag old.rest) old e new)

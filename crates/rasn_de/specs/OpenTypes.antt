@@ -5,7 +5,7 @@ use Rattle.rasn_types.specs.declared.types.tag.Tag.{Tag}
 use Rattle.rasn_types.specs.declared.types.rules.Codec.{Codec}
 use Rattle.rasn_types.specs.declared.types.any.Any.{Any}
 use Rattle.rasn_types.specs.declared.error.decode.DecodeError.{DecodeError}
-use Rattle.rasn_types.specs.Errors.{IsMemory}
+use Rattle.rasn_types.specs.Errors.{IsOutOfMemory}
 use Rattle.rasn_types.specs.Tags.{form}
 use Rattle.rasn_types.specs.Framing.{indefinite}
 use Rattle.rasn_types.specs.Shapes.{Tree, numbers, looked_for}
@@ -43,7 +43,7 @@ as_lists (Err e) = Err e
 -- A call answers the octets, or the first fault, or memory is wanting for the copy. A refusal takes nothing.
 abbrev pub GaveOpen : Tag → State → Result Any DecodeError → State → Type 0
 GaveOpen tag old (Ok a) new = OpenAt old.rule (looked_for tag) old.rest (Ok (open_octets a, new.rest)) × (new ≡ at old new.rest)
-GaveOpen tag old (Err e) new = ((IsMemory e.kind × (e.codec ≡ old.rule)) ⊎ ((fault : Fault) × OpenAt old.rule (looked_for tag) old.rest (Err fault) × ErrorOf fault old e)) × (new ≡ old)
+GaveOpen tag old (Err e) new = ((IsOutOfMemory e.kind × (e.codec ≡ old.rule)) ⊎ ((fault : Fault) × OpenAt old.rule (looked_for tag) old.rest (Err fault) × ErrorOf fault old e)) × (new ≡ old)
 
 -- One whole encoding is passed, in so many turns; or there is none, this is the first fault, and nothing is taken.
 abbrev pub Skips : State → Result ℕ DecodeError → State → Type 0

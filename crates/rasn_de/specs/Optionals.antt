@@ -29,7 +29,7 @@ module _ {D : Type 0} (read : State → Result D DecodeError → State → Type 
   ReadPerhaps (Ok (Some v)) new = Comes tag old (Ok true) × read old (Ok v) new
   ReadPerhaps (Err e) new = (Comes tag old (Err e) × (new ≡ old)) ⊎ (Comes tag old (Ok true) × read old (Err e) new)
 
--- The value that is made, or want of memory: made r says that r may be made.
+-- The value that is made, or running out of memory: made r says that r may be made.
 abbrev pub Made : {D : Type 0} → (Result D AllocError → Type 0) → State → Result D DecodeError → Type 0
 Made made s (Ok v) = made (Ok v)
 Made made s (Err e) = (x : AllocError) × made (Err x) × ErrorOf OutOfMemory s e

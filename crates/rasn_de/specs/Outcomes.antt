@@ -6,22 +6,22 @@ use Rattle.rasn_types.specs.declared.error.decode.DecodeError.{DecodeError}
 use Rattle.rasn_types.specs.Shapes.{Tree}
 use Rattle.rasn_types.specs.Readers.{Reading}
 
--- a tree and what is left; a refusal; want of memory
+-- a tree and what is left; a refusal; running out of memory
 pub data Outcome : Type 0 where
   Got : Tree → List ℕ → Outcome
   Refused : Outcome
-  Starved : Outcome
+  RanOut : Outcome
 
 abbrev pub refusal : DecodeErrorKind → Outcome
-refusal OutOfMemory = Starved
+refusal OutOfMemory = RanOut
 refusal _ = Refused
 
 abbrev pub outcome : {T : Type 0} → (T → Tree) → Result T DecodeError → List ℕ → Outcome
 outcome tree (Ok v) r = Got (tree v) r
 outcome tree (Err e) r = refusal e.kind
 
--- The reading relates what was got to the input, and nothing else; at a refusal nothing; for want of memory nothing is said.
+-- The reading relates what was got to the input, and nothing else; at a refusal nothing; for running out of memory nothing is said.
 abbrev pub Exact : Reading Tree → List ℕ → Outcome → Type 0
 Exact R input (Got t r) = R input t r × ((u : Tree) (s : List ℕ) → R input u s → (u ≡ t) × (s ≡ r))
 Exact R input Refused = (u : Tree) (s : List ℕ) → R input u s → ⊥
-Exact R input Starved = Unit {0}
+Exact R input RanOut = Unit {0}

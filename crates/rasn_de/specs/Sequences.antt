@@ -25,7 +25,7 @@ is_empty (b ∷ l) = false
 abbrev pub is_initial : ℕ → ℕ → Bool → List ℕ → Bool
 is_initial root more needs_field input = is_fieldless root more || (not needs_field && is_empty input)
 
--- What an initializer answers: its value, or want of memory; where there is none, that there are no contents.
+-- What an initializer answers: its value, or running out of memory; where there is none, that there are no contents.
 abbrev pub Initial : {I D : Type 0} → (I → Result D AllocError → Type 0) → Option I → State → Result D DecodeError → Type 0
 Initial made None s (Ok v) = ⊥
 Initial made None s (Err e) = ErrorOf UnexpectedEmptyInput s e

@@ -46,9 +46,9 @@ module _ {D : Type 0} (read : State → Result D DecodeError → State → Type 
       × (IsStrict old.rule → AreInTagOrder bs) × (Ended here.closing here.rest → ⊥) × Unread bs here e new
 
 -- A function is called on what was read, once; a refusal is that of the read, or the function's.
-abbrev pub Gathers : {L D : Type 0} → (State → Result L DecodeError → State → Type 0) → (L → Result D DecodeError → Type 0) → State → Result D DecodeError → State → Type 0
-Gathers {L} read made old (Ok v) new = (fields : L) × read old (Ok fields) new × made fields (Ok v)
-Gathers {L} read made old (Err e) new = read old (Err e) new ⊎ ((fields : L) × read old (Ok fields) new × made fields (Err e))
+abbrev pub GathersSet : {L D : Type 0} → (State → Result L DecodeError → State → Type 0) → (L → Result D DecodeError → Type 0) → State → Result D DecodeError → State → Type 0
+GathersSet {L} read made old (Ok v) new = (fields : L) × read old (Ok fields) new × made fields (Ok v)
+GathersSet {L} read made old (Err e) new = read old (Err e) new ⊎ ((fields : L) × read old (Ok fields) new × made fields (Err e))
 
 -- The readings of components are these parts. Of parts their presence alone counts here.
 abbrev pub AreParts : Codec → Parts → List Tree → Tree → Type 0

@@ -8,12 +8,12 @@ use Rattle.rasn_de.specs.declared.ber.de.parser.Value.{Value}
 use Rattle.rasn_de.specs.declared.ber.de.parser.headers.Expected.{Expected}
 use Rattle.rasn_de.specs.Headers.{header_at}
 use Rattle.rasn_de.specs.Views.{framed, peeked}
-use Rattle.rasn_de.specs.Causes.{kind_of}
+use Rattle.rasn_de.specs.Causes.{error_kind}
 use Rattle.rasn_de.specs.State.{State, at, IsEnd}
 
 -- the error of a fault, under the decoder's rules
 abbrev pub ErrorOf : Fault → State → DecodeError → Type 0
-ErrorOf f s e = e ≡ record { kind = kind_of f; codec = s.rule }
+ErrorOf f s e = e ≡ record { kind = error_kind f; codec = s.rule }
 
 -- A value's header and contents are taken, or nothing is.
 abbrev pub Takes : Expected → State → Result Value DecodeError → State → Type 0

@@ -13,14 +13,14 @@ use Rattle.rasn_types.specs.declared.types.constraints.Bounded.TheVariants.{Sing
 use Rattle.rasn_types.specs.declared.types.strings.alphabet.Alphabet.{Alphabet}
 use Rattle.rasn_types.specs.declared.error.decode.DecodeError.{DecodeError}
 use Rattle.rasn_types.specs.Characters.{IsAdmitted, AreAdmitted}
-use Rattle.rasn_types.specs.Errors.{IsMemory}
+use Rattle.rasn_types.specs.Errors.{IsOutOfMemory}
 use Rattle.rasn_types.specs.declared.types.constraints.Bound.{Bound}
 use Rattle.rasn_types.specs.Shapes.{Admits, constraint_of}
 use Rattle.rasn_de.specs.declared.ber.de.parser.Fault.{Fault}
 use Rattle.rasn_de.specs.declared.ber.de.parser.Fault.TheVariants.{SizeConstraintNotSatisfied, PermittedAlphabetError, StringConversionFailed}
 use Rattle.rasn_de.specs.Causes.{fault}
 use Rattle.rasn_de.specs.Leaves.{Readings, Refuses, Gave}
-use Rattle.rasn_de.specs.Octets.{octets_at, IsPrimitive, IsConstructed}
+use Rattle.rasn_de.specs.Octets.{octet_string_at, IsPrimitive, IsConstructed}
 use Rattle.rasn_de.specs.State.{State, at}
 
 -- What is told of all octets of a string: the numbers that they mean, or the first refusal.
@@ -57,26 +57,26 @@ AreUtf8 l ns = IsUtf8 l × (ns ≡ chars l)
 
 -- A refusal of framing leaves all of the input; one of the octets leaves what follows the value.
 abbrev pub StringAt : Verdict → Codec → ℕ → Tag → List ℕ → Readings (List ℕ)
-StringAt Told rule depth tag l (Ok p) = (xs : List ℕ) × (octets_at rule depth tag l ≡ Ok (xs, p.1)) × Told xs (Ok p.0)
+StringAt Told rule depth tag l (Ok p) = (xs : List ℕ) × (octet_string_at rule depth tag l ≡ Ok (xs, p.1)) × Told xs (Ok p.0)
 StringAt Told rule depth tag l (Err e) =
-    ((f : Fault) × (octets_at rule depth tag l ≡ Err f) × (e ≡ (fault f, l)))
-    ⊎ ((xs : List ℕ) × (f : Fault) × (octets_at rule depth tag l ≡ Ok (xs, e.1)) × Told xs (Err f) × (e.0 ≡ fault f))
+    ((f : Fault) × (octet_string_at rule depth tag l ≡ Err f) × (e ≡ (fault f, l)))
+    ⊎ ((xs : List ℕ) × (f : Fault) × (octet_string_at rule depth tag l ≡ Ok (xs, e.1)) × Told xs (Err f) × (e.0 ≡ fault f))
 
 -- Memory is wanting while segments are gathered, and nothing is taken.
-abbrev pub StarvedGathering : Tag → State → DecodeError → State → Type 0
-StarvedGathering tag old e new = IsMemory e.kind × (e.codec ≡ old.rule) × (new ≡ old) × IsConstructed old.rule tag old.rest
+abbrev pub RanOutGathering : Tag → State → DecodeError → State → Type 0
+RanOutGathering tag old e new = IsOutOfMemory e.kind × (e.codec ≡ old.rule) × (new ≡ old) × IsConstructed old.rule tag old.rest
 
 -- Memory is wanting for the copy of a primitive string that is in order, which is taken.
-abbrev pub StarvedCopying : Verdict → Tag → State → DecodeError → State → Type 0
-StarvedCopying Told tag old e new = IsMemory e.kind × (e.codec ≡ old.rule) × (new ≡ at old new.rest) × IsPrimitive old.rule tag old.rest
+abbrev pub RanOutCopying : Verdict → Tag → State → DecodeError → State → Type 0
+RanOutCopying Told tag old e new = IsOutOfMemory e.kind × (e.codec ≡ old.rule) × (new ≡ at old new.rest) × IsPrimitive old.rule tag old.rest
     × (p : List ℕ × List ℕ) × StringAt Told old.rule old.depth tag old.rest (Ok p) × (p.1 ≡ new.rest)
 
 -- A call answers what the reading is, or memory is wanting.
 abbrev pub GaveString : {X : Type 0} → (X → List ℕ) → Verdict → Tag → State → Result X DecodeError → State → Type 0
 GaveString see Told tag old (Ok v) new = Gave see (StringAt Told old.rule old.depth tag old.rest) old (Ok v) new
 GaveString see Told tag old (Err e) new =
-    StarvedGathering tag old e new ⊎ (StarvedCopying Told tag old e new
-    ⊎ ((IsMemory e.kind → ⊥) × Refuses (StringAt Told old.rule old.depth tag old.rest) old e new))
+    RanOutGathering tag old e new ⊎ (RanOutCopying Told tag old e new
+    ⊎ ((IsOutOfMemory e.kind → ⊥) × Refuses (StringAt Told old.rule old.depth tag old.rest) old e new))
 
 -- A function that looks at octets tells their numbers as they are, or the first refusal.
 abbrev pub Checks : Verdict → List ℕ → List ℕ → Result (Unit {0}) Fault → Type 0

@@ -10,7 +10,7 @@ use Rattle.rasn_types.specs.declared.error.decode.DecodeError.{DecodeError}
 use Rattle.rasn_types.specs.declared.error.decode.DecodeErrorKind.TheVariants.{OutOfMemory}
 use Rattle.rasn_types.specs.declared.error.decode.BerDecodeErrorKind.TheVariants.{InvalidDate}
 use Rattle.rasn_de.specs.Causes.{in_ber}
-use Rattle.rasn_de.specs.Octets.{octets_at, Gathers, IsPrimitive}
+use Rattle.rasn_de.specs.Octets.{octet_string_at, GathersOctets, IsPrimitive}
 use Rattle.rasn_de.specs.State.{State, at}
 
 -- The instant of a text, whatever its offset.
@@ -41,8 +41,8 @@ ParsesCopied {X} Means text (Err e) = ((x : X) → Means text x → ⊥) × (Tel
 -- text means nothing. The text of a primitive string is copied for the error.
 abbrev pub GaveTime : {X : Type 0} → (List ℕ → X → Type 0) → Tag → State → Result X DecodeError → State → Type 0
 GaveTime Means tag old (Ok x) new =
-    (text : List ℕ) × (octets_at old.rule old.depth tag old.rest ≡ Ok (text, new.rest)) × (new ≡ at old new.rest) × Means text x
+    (text : List ℕ) × (octet_string_at old.rule old.depth tag old.rest ≡ Ok (text, new.rest)) × (new ≡ at old new.rest) × Means text x
 GaveTime {X} Means tag old (Err e) new =
-    Gathers tag old (Err e) new
-    ⊎ ((text : List ℕ) × (octets_at old.rule old.depth tag old.rest ≡ Ok (text, new.rest)) × (new ≡ at old new.rest) × ((x : X) → Means text x → ⊥)
+    GathersOctets tag old (Err e) new
+    ⊎ ((text : List ℕ) × (octet_string_at old.rule old.depth tag old.rest ≡ Ok (text, new.rest)) × (new ≡ at old new.rest) × ((x : X) → Means text x → ⊥)
     × (TellsText text old.rule e ⊎ (TellsMemory old.rule e × IsPrimitive old.rule tag old.rest)))

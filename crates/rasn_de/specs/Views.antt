@@ -37,7 +37,7 @@ framed v rest = record { tag = v.identifier.tag; bit = constructed_bit v.identif
 abbrev pub header : Value × Bor (List ℕ) → Header
 header p = framed p.0 p.1.now
 
--- What is read is appended, and the rest handed back; an error but want of memory is the first fault.
+-- What is read is appended, and the rest handed back; an error but running out of memory is the first fault.
 abbrev pub Appends : {X : Type 0} → Result (List X × List ℕ) Fault → List X → List X → Result (Bor (List ℕ)) Fault → Type 0
 Appends {X} read old new (Ok r) = (xs : List X) × (read ≡ Ok (xs, r.now)) × (new ≡ old ++ xs)
 Appends read old new (Err e) = e ≢ OutOfMemory → read ≡ Err e

@@ -1,7 +1,7 @@
 //! What a type needs in order to be read.
 ghost use Rattle.rasn_types.specs.Framing.{Next};
 ghost use Rattle.rasn_types.specs.Tags.{form};
-ghost use Rattle.rasn_types.specs.Shapes.{given};
+ghost use Rattle.rasn_types.specs.Shapes.{tagged_as};
 ghost use Rattle.rasn_de.specs.Decodes.{Decodes};
 
 use crate::ber::de::Decoder;
@@ -31,7 +31,7 @@ pub trait Decode: AsnType {
         tag: Tag,
         constraints: &Constraints,
     ) -> Result<Self, DecodeError>
-        ensures { Decodes (given tag constraints.now Self.shape) Self.tree decoder.old result decoder.new };
+        ensures { Decodes (tagged_as tag constraints.now Self.shape) Self.tree decoder.old result decoder.new };
 
     /// Reads a value.
     ///
@@ -48,7 +48,7 @@ pub trait Decode: AsnType {
     /// # Errors
     /// As `decode_with_tag_and_constraints`.
     fn decode_with_tag(decoder: &mut Decoder<'_>, tag: Tag) -> Result<Self, DecodeError>
-        ensures { Decodes (given tag Self.CONSTRAINTS Self.shape) Self.tree decoder.old result decoder.new }
+        ensures { Decodes (tagged_as tag Self.CONSTRAINTS Self.shape) Self.tree decoder.old result decoder.new }
     {
         Self::decode_with_tag_and_constraints(decoder, tag, &Self::CONSTRAINTS)
     }
@@ -61,7 +61,7 @@ pub trait Decode: AsnType {
         decoder: &mut Decoder<'_>,
         constraints: &Constraints,
     ) -> Result<Self, DecodeError>
-        ensures { Decodes (given Self.TAG constraints.now Self.shape) Self.tree decoder.old result decoder.new }
+        ensures { Decodes (tagged_as Self.TAG constraints.now Self.shape) Self.tree decoder.old result decoder.new }
     {
         Self::decode_with_tag_and_constraints(decoder, Self::TAG, constraints)
     }

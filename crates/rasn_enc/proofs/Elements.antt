@@ -12,7 +12,7 @@ use Rattle.rasn_types.specs.declared.types.constraints.Constraints.{Constraints}
 use Rattle.rasn_types.specs.declared.error.encode.EncodeError.{EncodeError}
 use Rattle.rasn_types.proofs.Alike.{items_one}
 use Rattle.rasn_enc.specs.View.{View, LeavesOthers, opened}
-use Rattle.rasn_enc.specs.Primitives.{WantsMemory}
+use Rattle.rasn_enc.specs.Primitives.{TellsOutOfMemory}
 use Rattle.rasn_enc.specs.Writing.{Closure, Encloses, Refuses}
 use Rattle.rasn_enc.specs.Wrote.{Wrote, MayRefuse, Undefined}
 use Rattle.rasn_enc.specs.Elements.{WroteEach, RefusesElement, RefusesList}
@@ -99,7 +99,7 @@ list_ok g f s ts tag size v w r m h written = on_ok_weaker r (λ k.
 
 -- For the clauses on refusals.
 pub list_named : {F : Type 0} (g : Closure F (Unit {0})) (f : F) (s : Shape) (ts : List Tree) (c : Constraints) (size : ℕ) (v : View) (r : Result (Unit {0}) EncodeError)
-    → Admits ◌≤◌ c.size size → IfErr r (λ e. WantsMemory v.rule e ⊎ Refuses g f (opened v false) e)
+    → Admits ◌≤◌ c.size size → IfErr r (λ e. TellsOutOfMemory v.rule e ⊎ Refuses g f (opened v false) e)
     → ((e : EncodeError) (u : View) → FnOnceReturnsAtMut g f (opened v false) (Err e) u → RefusesElement s ts v.rule e)
     → IfErr r (RefusesList s ts size c v.rule)
 list_named g f s ts c size v r m h refused = IfErr-weaker r _ _ (λ e. elim [
@@ -107,7 +107,7 @@ list_named g f s ts c size v r m h refused = IfErr-weaker r _ _ (λ e. elim [
   | inr k ↦ inr (m, inr (refused e k.0 k.1))
 ]) h
 
--- Where a list is refused, it has no octets, or memory was wanted.
+-- Where a list is refused, it has no octets, or memory ran out.
 pub list_refused : (s : Shape) (ts : List Tree) (tag : Tag) (c : Constraints) (v : View) (e : EncodeError)
     → RefusesList s ts (length ts) c v.rule e → MayRefuse (list tag s c.size) (items ts) v e
 unfolding Bytes

@@ -14,7 +14,7 @@ use Rattle.rasn_types.specs.declared.types.tag.Tag.{Tag}
 use Rattle.rasn_types.specs.declared.types.constraints.Constraints.{Constraints}
 use Rattle.rasn_types.specs.declared.error.encode.EncodeError.{EncodeError}
 use Rattle.rasn_enc.specs.View.{View}
-use Rattle.rasn_enc.specs.Primitives.{Appends, WantsMemory}
+use Rattle.rasn_enc.specs.Primitives.{Appends, TellsOutOfMemory}
 use Rattle.rasn_enc.specs.Wrote.{Wrote, MayRefuse}
 use Rattle.rasn_enc.specs.Refusals.{RefusesString, RefusesValue}
 
@@ -75,7 +75,7 @@ integer_wrote result range tag c n l v w s i m h = on_ok_weaker result (λ a.
     written = record { is = (ap number (sym s.is), some l s.shortest, subst (λ z. IsIn range z) (sym s.is) i); octets = s.octets; shortest = s.shortest }
 
 pub integer_refused : {R : Type 0} (result : Result R EncodeError) (range : Interval) (tag : Tag) (c : Constraints) (n : ℤ) (v : View)
-    → IfErr result (λ e. RefusesValue c n v.rule e ⊎ WantsMemory v.rule e) → IfErr result (MayRefuse (leaf (integer range) tag c) (number n) v)
+    → IfErr result (λ e. RefusesValue c n v.rule e ⊎ TellsOutOfMemory v.rule e) → IfErr result (MayRefuse (leaf (integer range) tag c) (number n) v)
 unfolding Bytes
 integer_refused result range tag c n v h = IfErr-weaker result _ _ (λ e. elim [
   | inl r ↦ record { why = inr (inl (record { none = λ octets b. r.unmet b.0 })) }

@@ -24,9 +24,9 @@ pub mod Sets
 pub mod Outputs
 pub mod Optional
 pub mod Prefixed
-pub mod Given
+pub mod Tagging
 pub mod Elements
-pub mod Bags
+pub mod SetsOf
 pub mod Alternatives
 pub mod TimeOctets
 pub mod TimeLeaves

@@ -15,7 +15,7 @@ use Rattle.rasn_types.specs.declared.error.encode.EncodeError.{EncodeError}
 use Rattle.rasn_types.proofs.Digits.{arcs_of}
 use Rattle.rasn_enc.specs.Headers.{digits, chained, group_count}
 use Rattle.rasn_enc.specs.View.{View}
-use Rattle.rasn_enc.specs.Primitives.{Appends, WantsMemory}
+use Rattle.rasn_enc.specs.Primitives.{Appends, TellsOutOfMemory}
 use Rattle.rasn_enc.specs.Filled.{Filler, AppendsFilled}
 use Rattle.rasn_enc.specs.Wrote.{Wrote, MayRefuse}
 use Rattle.rasn_enc.specs.Refusals.{RefusesValue}
@@ -44,7 +44,7 @@ named_wrote result range known tag n z v w e k h c = on_ok_weaker result (λ a. 
         record { is = (ap number (e ∙ g), r.is.1, subst (Contains known) (e ∙ g) k); octets = r.octets; shortest = r.shortest }
 
 -- Nothing bounds it.
-pub named_refused : {R : Type 0} (result : Result R EncodeError) (n : ℤ) (v : View) → IfErr result (λ e. RefusesValue unconstrained n v.rule e ⊎ WantsMemory v.rule e) → IfErr result (WantsMemory v.rule)
+pub named_refused : {R : Type 0} (result : Result R EncodeError) (n : ℤ) (v : View) → IfErr result (λ e. RefusesValue unconstrained n v.rule e ⊎ TellsOutOfMemory v.rule e) → IfErr result (TellsOutOfMemory v.rule)
 named_refused result n v h = IfErr-weaker result _ _ (λ e. elim [ inl r ↦ absurd (r.unmet tt) | inr m ↦ m ]) h
 
 pub null_wrote : {R E : Type 0} (result : Result R E) (tag : Tag) (v w : View) → OnOk result (Appends (Prim tag []) tag v w) → (c : Constraints) → OnOk result (Wrote (leaf null tag c) (number (pos 0)) v w)
@@ -124,7 +124,7 @@ has_octets l arcs (s, ns, (front, back, t, e, a), f) = rw f (held_arcs s ns t.be
 
 -- Arcs that have no octets are undefined.
 pub object_refused : {R : Type 0} (result : Result R EncodeError) (tag : Tag) (c : Constraints) (arcs : List ℕ) (v : View)
-    → IfErr result (λ e. RefusesArcs arcs v.rule e ⊎ WantsMemory v.rule e) → IfErr result (MayRefuse (leaf object_identifier tag c) (numbers arcs) v)
+    → IfErr result (λ e. RefusesArcs arcs v.rule e ⊎ TellsOutOfMemory v.rule e) → IfErr result (MayRefuse (leaf object_identifier tag c) (numbers arcs) v)
 unfolding Bytes
 object_refused result tag c arcs v h = IfErr-weaker result _ _ (λ e. elim [
   | inl r ↦ record { why = inr (inl (record { none = λ octets b. r.unmet (written b.1.0 b.1.1) })) }

@@ -14,7 +14,7 @@ use Rattle.rasn_types.specs.declared.error.encode.EncodeErrorKind.TheVariants.{C
 use Rattle.rasn_types.specs.declared.error.encode.CodecEncodeError.TheVariants.{Ber}
 use Rattle.rasn_types.specs.declared.error.encode.BerEncodeErrorKind.TheVariants.{AnyInSet}
 use Rattle.rasn_enc.specs.View.{View, IsBelow, opened, started, appended}
-use Rattle.rasn_enc.specs.Primitives.{Appends, WantsMemory}
+use Rattle.rasn_enc.specs.Primitives.{Appends, TellsOutOfMemory}
 use Rattle.rasn_enc.specs.Wrote.{Wrote, MayRefuse}
 use Rattle.rasn_enc.specs.OpenTypes.{RefusesAny}
 use Rattle.rasn_enc.proofs.Leaves.{cons_begins, wrote_one}
@@ -65,10 +65,10 @@ pub record Filled (v u : View) (xs : List ℕ) (q : Result (Unit {0}) EncodeErro
   pub below : IsBelow v u
   pub some : 0 < length u.below
   pub contents : OnOk q (u.last.octets ≡ xs)
-  pub memory : IfErr q (WantsMemory v.rule)
+  pub memory : IfErr q (TellsOutOfMemory v.rule)
 
 pub filled : (v a u : View) (xs : List ℕ) (q : Result (Unit {0}) EncodeError) → a ≡ opened v false → OnOk q (u ≡ appended a xs []) → OnErr q (u ≡ a)
-    → IfErr q (WantsMemory a.rule) → Filled v u xs q
+    → IfErr q (TellsOutOfMemory a.rule) → Filled v u xs q
 filled v a u xs (Ok tt) o e n m = rw (e, o) (record {
   below = (refl, refl);
   some = omega (arith, length-append v.below (v.last ∷ []));
@@ -79,7 +79,7 @@ filled v a u xs (Err x) o e n m = rw (n, o) (record {
   below = (refl, refl);
   some = omega (arith, length-append v.below (v.last ∷ []));
   contents = tt;
-  memory = subst (λ (w : View). WantsMemory w.rule x) o m;
+  memory = subst (λ (w : View). TellsOutOfMemory w.rule x) o m;
 })
 
 module _ (v u w : View) (xs : List ℕ) (q : Result (Unit {0}) EncodeError) (i : Filled v u xs q) where
@@ -90,10 +90,10 @@ module _ (v u w : View) (xs : List ℕ) (q : Result (Unit {0}) EncodeError) (i :
       subst (λ l. Appends (Cons v.rule tag l) tag v w) c (h v i.below)
   closed_round (Err x) tag e h = tt
 
-  pub round_refused : (r : Result (Unit {0}) EncodeError) → IfErr r (λ e. WantsMemory u.rule e ⊎ (q ≡ Err e)) → IfErr r (WantsMemory v.rule)
+  pub round_refused : (r : Result (Unit {0}) EncodeError) → IfErr r (λ e. TellsOutOfMemory u.rule e ⊎ (q ≡ Err e)) → IfErr r (TellsOutOfMemory v.rule)
   round_refused r h = IfErr-weaker r _ _ (λ e. elim [
-    | inl m ↦ subst (λ (c : Codec). WantsMemory c e) i.below.0 m
-    | inr p ↦ subst (λ z. IfErr z (WantsMemory v.rule)) p i.memory
+    | inl m ↦ subst (λ (c : Codec). TellsOutOfMemory c e) i.below.0 m
+    | inr p ↦ subst (λ z. IfErr z (TellsOutOfMemory v.rule)) p i.memory
   ]) h
 
 -- NULL without a tag is refused in a set alone, and no octets are refused nowhere.

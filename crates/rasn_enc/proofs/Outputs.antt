@@ -4,12 +4,12 @@ use Rattle.std.proofs.lemmas.Result.{IfOk-weaker, IfErr-weaker}
 use Rattle.std.specs.Fn.{FnOnceReturnsAtMut}
 use Rattle.rasn_types.specs.Shapes.{Shape, Tree}
 use Rattle.rasn_types.specs.Bytes.{Bytes}
-use Rattle.rasn_types.specs.Errors.{IsEncodeMemory}
+use Rattle.rasn_types.specs.Errors.{IsEncodeOutOfMemory}
 use Rattle.rasn_types.specs.declared.types.rules.Codec.{Codec}
 use Rattle.rasn_types.specs.declared.types.tag.Tag.{Tag}
 use Rattle.rasn_types.specs.declared.error.encode.EncodeError.{EncodeError}
 use Rattle.rasn_enc.specs.View.{View, Extends, started, appended, AreTagsInOrder}
-use Rattle.rasn_enc.specs.Primitives.{WantsMemory, TellsOrder}
+use Rattle.rasn_enc.specs.Primitives.{TellsOutOfMemory, TellsOrder}
 use Rattle.rasn_enc.specs.Wrote.{Wrote, Undefined}
 use Rattle.rasn_enc.specs.Writing.{Closure, WritesBehind, Refuses, Outputs}
 
@@ -17,9 +17,9 @@ module _ (rule : Codec) (u : View) (octets : List ℕ) (tags : List Tag) (e : u 
   in_order : AreTagsInOrder u
   in_order = subst AreTagsInOrder (sym e) tt
 
-  memory_alone : {R : Type 0} (r : Result R EncodeError) → IfErr r (λ x. WantsMemory u.rule x ⊎ ((AreTagsInOrder u → ⊥) × TellsOrder u.rule x)) → IfErr r (WantsMemory rule)
+  memory_alone : {R : Type 0} (r : Result R EncodeError) → IfErr r (λ x. TellsOutOfMemory u.rule x ⊎ ((AreTagsInOrder u → ⊥) × TellsOrder u.rule x)) → IfErr r (TellsOutOfMemory rule)
   memory_alone r h = IfErr-weaker r _ _ (λ x. elim [
-    | inl m ↦ subst (λ (c : Codec). WantsMemory c x) (ap (λ (y : View). y.rule) e) m
+    | inl m ↦ subst (λ (c : Codec). TellsOutOfMemory c x) (ap (λ (y : View). y.rule) e) m
     | inr k ↦ absurd (k.0 in_order)
   ]) h
 
@@ -33,8 +33,8 @@ module _ (rule : Codec) (s : Shape) (t : Tree) (v u : View) (e : v ≡ started r
       let i : w.items ≡ a.octets = k ∙ ap (λ (x : View). x.last.octets) is_appended in
       subst (λ l. Bytes rule s t l) (sym i) (subst (λ c. Bytes c s t a.octets) (ap (λ (x : View). x.rule) e) a.defined)) h
 
-  pub output_refused : {R : Type 0} (r : Result R EncodeError) → IfErr r (λ x. WantsMemory u.rule x ⊎ ((AreTagsInOrder u → ⊥) × TellsOrder u.rule x))
-      → IfErr r (λ x. IsEncodeMemory x.kind ⊎ Undefined rule s t)
+  pub output_refused : {R : Type 0} (r : Result R EncodeError) → IfErr r (λ x. TellsOutOfMemory u.rule x ⊎ ((AreTagsInOrder u → ⊥) × TellsOrder u.rule x))
+      → IfErr r (λ x. IsEncodeOutOfMemory x.kind ⊎ Undefined rule s t)
   output_refused r h = IfErr-weaker r _ _ (λ x m. inl (ap (λ (y : EncodeError). y.kind) m)) (memory_alone rule u a.octets a.tags is_appended r h)
 
 -- What a closure writes.
@@ -53,6 +53,6 @@ module _ {F : Type 0} (g : Closure F (Unit {0})) (f : F) (rule : Codec) (behind 
     is = k;
   }) h
 
-  pub scope_refused : {R : Type 0} (r : Result R EncodeError) → IfErr r (λ x. WantsMemory u.rule x ⊎ ((AreTagsInOrder u → ⊥) × TellsOrder u.rule x))
-      → IfErr r (λ x. WantsMemory rule x ⊎ Refuses g f (started rule false) x)
+  pub scope_refused : {R : Type 0} (r : Result R EncodeError) → IfErr r (λ x. TellsOutOfMemory u.rule x ⊎ ((AreTagsInOrder u → ⊥) × TellsOrder u.rule x))
+      → IfErr r (λ x. TellsOutOfMemory rule x ⊎ Refuses g f (started rule false) x)
   scope_refused r h = IfErr-weaker r _ _ (λ x m. inl m) (memory_alone rule u extends.octets extends.tags extends.appended r h)

@@ -7,7 +7,7 @@ use Rattle.rasn_types.specs.Bytes.{Bytes, IsBare, Cons}
 use Rattle.rasn_types.specs.declared.types.tag.Tag.{Tag}
 use Rattle.rasn_types.specs.declared.error.encode.EncodeError.{EncodeError}
 use Rattle.rasn_enc.specs.View.{View, opened}
-use Rattle.rasn_enc.specs.Primitives.{WantsMemory}
+use Rattle.rasn_enc.specs.Primitives.{TellsOutOfMemory}
 use Rattle.rasn_enc.specs.Writing.{Closure, Encloses, Refuses}
 use Rattle.rasn_enc.specs.Wrote.{Wrote, MayRefuse}
 use Rattle.rasn_enc.proofs.Leaves.{cons_begins, wrote_one}
@@ -24,7 +24,7 @@ prefix_ok g f s t tag v w r h written = on_ok_weaker r (λ k.
 
 -- For the clause on refusals.
 pub prefix_refused : {F : Type 0} (g : Closure F (Unit {0})) (f : F) (s : Shape) (t : Tree) (tag : Tag) (v : View) (r : Result (Unit {0}) EncodeError)
-    → IfErr r (λ e. WantsMemory v.rule e ⊎ Refuses g f (opened v false) e)
+    → IfErr r (λ e. TellsOutOfMemory v.rule e ⊎ Refuses g f (opened v false) e)
     → ((e : EncodeError) (u : View) → FnOnceReturnsAtMut g f (opened v false) (Err e) u → MayRefuse s t (opened v false) e)
     → IfErr r (MayRefuse (prefix tag s) t v)
 unfolding Bytes

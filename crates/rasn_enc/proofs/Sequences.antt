@@ -38,8 +38,8 @@ use Rattle.rasn_types.specs.declared.types.rules.Codec.{Codec}
 use Rattle.rasn_types.specs.declared.types.tag.Tag.{Tag}
 use Rattle.rasn_types.specs.declared.error.encode.EncodeError.{EncodeError}
 use Rattle.rasn_enc.specs.View.{View, LeavesOthers, Extends, appended, opened}
-use Rattle.rasn_enc.specs.Primitives.{WantsMemory}
-use Rattle.rasn_types.specs.Errors.{IsEncodeMemory}
+use Rattle.rasn_enc.specs.Primitives.{TellsOutOfMemory}
+use Rattle.rasn_types.specs.Errors.{IsEncodeOutOfMemory}
 use Rattle.rasn_enc.specs.Wrote.{Wrote, WrotePart, MayRefuse, MayRefusePart, UndefinedPart, BarePart}
 use Rattle.rasn_enc.specs.Parts.{WroteParts, WritesParts, PartsMayRefuse, PartsUndefined, PartsBare}
 use Rattle.rasn_enc.specs.Writing.{Closure, Encloses, Refuses}
@@ -132,8 +132,8 @@ bare_rest : (p : Presence) (rule : Codec) (s : Shape) (parts : Parts) (t : Tree)
 unfolding fields_of
 bare_rest p rule s parts t trees others encoded more octets e f n = (rw (e, f) at n).1
 
-first_why : (p : Presence) (s : Shape) (parts : Parts) (t tree : Tree) (v : View) (e : EncodeError) → IsEncodeMemory e.kind ⊎ (UndefinedPart p v.rule s t ⊎ BarePart p s t v)
-    → IsEncodeMemory e.kind ⊎ (PartsUndefined v.rule (part p s parts) (joined t tree) ⊎ PartsBare (part p s parts) (joined t tree) v)
+first_why : (p : Presence) (s : Shape) (parts : Parts) (t tree : Tree) (v : View) (e : EncodeError) → IsEncodeOutOfMemory e.kind ⊎ (UndefinedPart p v.rule s t ⊎ BarePart p s t v)
+    → IsEncodeOutOfMemory e.kind ⊎ (PartsUndefined v.rule (part p s parts) (joined t tree) ⊎ PartsBare (part p s parts) (joined t tree) v)
 first_why p s parts t tree v e (inl m) = inl m
 first_why p s parts t tree v e (inr (inl n)) = inr (inl (record {
   none = λ trees encoded is w.
@@ -155,8 +155,8 @@ keeps_before : (v u : View) (octets : List ℕ) (tags : List Tag) → u ≡ appe
 keeps_before v u octets tags e h k = h (ap (λ (x : View). x.last.tags) e ∙ ap (λ o. option_map (λ kept. kept ++ tags) o) k)
 
 later_why : (p : Presence) (s : Shape) (parts : Parts) (t tree : Tree) (v u : View) (e : EncodeError) → WrotePart p s t v u
-    → IsEncodeMemory e.kind ⊎ (PartsUndefined u.rule parts tree ⊎ PartsBare parts tree u)
-    → IsEncodeMemory e.kind ⊎ (PartsUndefined v.rule (part p s parts) (joined t tree) ⊎ PartsBare (part p s parts) (joined t tree) v)
+    → IsEncodeOutOfMemory e.kind ⊎ (PartsUndefined u.rule parts tree ⊎ PartsBare parts tree u)
+    → IsEncodeOutOfMemory e.kind ⊎ (PartsUndefined v.rule (part p s parts) (joined t tree) ⊎ PartsBare (part p s parts) (joined t tree) v)
 later_why p s parts t tree v u e a (inl m) = inl m
 later_why p s parts t tree v u e a (inr (inl n)) = inr (inl (record {
   none = λ trees encoded is w.
@@ -225,7 +225,7 @@ sequence_ok g f v w tag parts tree r h written = on_ok_weaker r (λ k.
 
 -- For the clause on refusals.
 pub sequence_refused : {F : Type 0} (g : Closure F (Unit {0})) (f : F) (v : View) (tag : Tag) (parts : Parts) (tree : Tree) (r : Result (Unit {0}) EncodeError)
-    → IfErr r (λ e. WantsMemory v.rule e ⊎ Refuses g f (opened v false) e)
+    → IfErr r (λ e. TellsOutOfMemory v.rule e ⊎ Refuses g f (opened v false) e)
     → ((e : EncodeError) (u : View) → FnOnceReturnsAtMut g f (opened v false) (Err e) u → WritesParts parts tree (opened v false) (Err e) u)
     → IfErr r (MayRefuse (seq tag parts) tree v)
 unfolding Bytes

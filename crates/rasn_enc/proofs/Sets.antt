@@ -11,7 +11,7 @@ use Rattle.std.specs.Fn.{FnOnceReturnsAtMut}
 use Rattle.rasn_types.specs.Tags.{IsTagBelow}
 use Rattle.rasn_types.specs.Shapes.{Tree, Parts, set}
 use Rattle.rasn_types.specs.Bytes.{Bytes, IsBare, fields_of, PartsWritten, TagsOf, Cons, DoNotFall}
-use Rattle.rasn_types.specs.Errors.{IsEncodeMemory}
+use Rattle.rasn_types.specs.Errors.{IsEncodeOutOfMemory}
 use Rattle.rasn_types.specs.declared.types.tag.Tag.{Tag}
 use Rattle.rasn_types.specs.declared.error.encode.EncodeError.{EncodeError}
 use Rattle.rasn_types.proofs.Alike.{items_one}
@@ -70,7 +70,7 @@ set_ok g f v w tag parts tree r h written = on_ok_weaker r (λ k.
     (λ o d. set_wrote v tag parts tree k.inner (written k.inner k.ran).ok w k.order o d)) h
 
 parts_why : (v : View) (tag : Tag) (parts : Parts) (tree : Tree) (e : EncodeError)
-    → IsEncodeMemory e.kind ⊎ (PartsUndefined v.rule parts tree ⊎ PartsBare parts tree (opened v true)) → MayRefuse (set tag parts) tree v e
+    → IsEncodeOutOfMemory e.kind ⊎ (PartsUndefined v.rule parts tree ⊎ PartsBare parts tree (opened v true)) → MayRefuse (set tag parts) tree v e
 unfolding Bytes
 parts_why v tag parts tree e (inl m) = record { why = inl m }
 parts_why v tag parts tree e (inr (inl n)) = record { why = inr (inl (record { none = λ octets b. n.none b.0 b.1 b.3 b.4 })) }

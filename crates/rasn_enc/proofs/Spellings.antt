@@ -12,6 +12,7 @@ use Rattle.rasn_types.specs.Framing.{AreOctets, IsChain, number_in, bit_of, AnyI
 use Rattle.rasn_types.specs.Bytes.{Definite, Closed}
 use Rattle.rasn_types.specs.Contents.{IsShortest128}
 use Rattle.rasn_types.proofs.Digits.{number_lt}
+use Rattle.rasn_types.proofs.Frames.{rank_small, bit_small}
 use Rattle.rasn_enc.specs.Headers.{digits, chained, group_count, octet_count, id_octets, length_octets, definite, closed}
 use Rattle.rasn_enc.specs.ObjectIdentifiers.{IsSubidentifier}
 
@@ -174,16 +175,6 @@ pub record Identifier (l : List ℕ) (tag : Tag) (bit : Bool) : Type 0 where
 leading_below : (class bit low : ℕ) → class < 4 → bit < 2 → low < 32 → 64 * class + (32 * bit + low) < 256
 leading_below class bit low h k m = omega arith
 
-rank_below : (class : Class) → rank class < 4
-rank_below Universal = omega arith
-rank_below Application = omega arith
-rank_below Context = omega arith
-rank_below Private = omega arith
-
-bit_below : (bit : Bool) → bit_of bit < 2
-bit_below true = omega arith
-bit_below false = omega arith
-
 one_group : (n : ℕ) → n < 128 → n / 1 % 128 ≡ 128 → ⊥
 one_group n h e = omega arith
 
@@ -211,7 +202,7 @@ long_identifier tag bit (suc count) h k f =
         );
       };
       shortest = short count f;
-      octets = (leading_below _ _ 31 (rank_below tag.class) (bit_below bit) (omega arith), chained_octets (digits 128 (suc count) n) below);
+      octets = (leading_below _ _ 31 (rank_small tag.class) (bit_small bit) (omega arith), chained_octets (digits 128 (suc count) n) below);
     }
   where
     short : (count : ℕ) → Fewest 128 5 tag.value (suc count)
@@ -231,7 +222,7 @@ identifier_spells tag bit h = go (ltb tag.value 31) (ltb-true tag.value 31) (ltb
         record {
           spells = record { low = tag.value; leading = refl; number = inl (k, refl, refl) };
           shortest = tt;
-          octets = (leading_below _ _ tag.value (rank_below tag.class) (bit_below bit) (omega arith), tt);
+          octets = (leading_below _ _ tag.value (rank_small tag.class) (bit_small bit) (omega arith), tt);
         }
     go false p q = long_identifier tag bit (group_count tag.value) (q refl) h (group_fewest tag.value h)
 

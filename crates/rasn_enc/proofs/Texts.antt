@@ -6,7 +6,7 @@ use Rattle.rasn_types.specs.Tags.{in_universal}
 use Rattle.rasn_types.specs.Shapes.{Kind, Tree, numbers, leaf, Admits, octet_string, fixed, bmp, utf8}
 use Rattle.rasn_types.specs.Grammar.{family, text_family, IsBounded, Fulfils, measure, by_size}
 use Rattle.rasn_types.specs.Bytes.{IsBare, Prim, IsCer, Bytes, WritesIn, WritesText, WritesStr, WritesOctets}
-use Rattle.rasn_types.specs.Characters.{AreAdmitted, kind_of, ArePaired, units_of}
+use Rattle.rasn_types.specs.Characters.{AreAdmitted, string_kind, ArePaired, units_of}
 use Rattle.rasn_types.proofs.StringTexts.{alphabet_family, alphabet_measure, alphabet_writes, units_there}
 use Rattle.rasn_types.specs.declared.types.strings.alphabet.Alphabet.{Alphabet}
 use Rattle.rasn_types.specs.declared.types.tag.Tag.{Tag}
@@ -45,8 +45,8 @@ pub octets_wrote : {R E : Type 0} (result : Result R E) (tag : Tag) (c : Constra
 octets_wrote result tag c xs v w p = text_wrote result octet_string tag c xs (numbers xs) (length xs) v w refl (λ m. m) refl p
 
 pub alphabet_wrote : {R E : Type 0} (result : Result R E) (a : Alphabet) (tag : Tag) (c : Constraints) (ys xs : List ℕ) (size : ℕ) (v w : View) → ys ≡ xs → size ≡ length ys → AreAdmitted a xs
-    → OnOk result (PutsText tag c ys size v w) → OnOk result (Wrote (leaf (kind_of a) tag c) (numbers xs) v w)
-alphabet_wrote result a tag c ys xs size v w e k h p = text_wrote result (kind_of a) tag c xs (numbers xs) (length xs) v w (alphabet_family a)
+    → OnOk result (PutsText tag c ys size v w) → OnOk result (Wrote (leaf (string_kind a) tag c) (numbers xs) v w)
+alphabet_wrote result a tag c ys xs size v w e k h p = text_wrote result (string_kind a) tag c xs (numbers xs) (length xs) v w (alphabet_family a)
     (λ m. subst (λ z. Fulfils z c (numbers xs)) (sym (alphabet_measure a)) m) (alphabet_writes a xs h) (with_size result tag c ys xs size (length xs) v w e (k ∙ ap length e) p)
 
 pub units_wrote : {R E : Type 0} (result : Result R E) (tag : Tag) (c : Constraints) (ys xs : List ℕ) (size : ℕ) (v w : View) → ys ≡ xs → size ≡ length (units_of xs) → ArePaired xs

@@ -5,7 +5,7 @@ use Rattle.rasn_types.specs.Shapes.{Shape, Tree, default}
 use Rattle.rasn_types.specs.declared.error.encode.EncodeError.{EncodeError}
 use Rattle.rasn_enc.specs.View.{View}
 use Rattle.rasn_enc.specs.Wrote.{Wrote, WrotePart, MayRefuse, MayRefusePart}
-use Rattle.rasn_enc.specs.Primitives.{WantsMemory}
+use Rattle.rasn_enc.specs.Primitives.{TellsOutOfMemory}
 
 -- made r says that r may be made as the default.
 module _ {E : Type 0} (eq : E → E → Bool) (made : Result E AllocError → Type 0) (s : Shape) (tree : E → Tree) (value : E) (v : View) where
@@ -17,7 +17,7 @@ module _ {E : Type 0} (eq : E → E → Bool) (made : Result E AllocError → Ty
 
   -- The default wants memory, or a value that doesn't equal it isn't written.
   abbrev pub RefusesUnless : EncodeError → Type 0
-  RefusesUnless e = ((x : AllocError) × made (Err x) × WantsMemory v.rule e)
+  RefusesUnless e = ((x : AllocError) × made (Err x) × TellsOutOfMemory v.rule e)
       ⊎ ((without : E) × made (Ok without) × (eq value without ≡ false) × MayRefuse s (tree value) v e)
 
   -- Whatever the default's tree is, the part is written with it.

@@ -3,14 +3,14 @@ use Rattle.std.specs.Prelude.{ℕ, ◌≡◌, ◌≤◌, ◌⊎◌, List, [], �
 use Rattle.rasn_types.specs.Shapes.{Shape, Tree, Admits}
 use Rattle.rasn_types.specs.Contents.{joined_lists}
 use Rattle.rasn_types.specs.Bytes.{Bytes, Each, DoNotFall, IsLess}
-use Rattle.rasn_types.specs.Errors.{IsEncodeMemory}
+use Rattle.rasn_types.specs.Errors.{IsEncodeOutOfMemory}
 use Rattle.rasn_types.specs.declared.types.constraints.Constraints.{Constraints}
 use Rattle.rasn_types.specs.declared.types.rules.Codec.{Codec}
 use Rattle.rasn_types.specs.declared.error.encode.EncodeError.{EncodeError}
 use Rattle.rasn_enc.specs.View.{View}
 use Rattle.rasn_enc.specs.Wrote.{Undefined}
 use Rattle.rasn_enc.specs.Refusals.{RefusesSize}
-use Rattle.rasn_enc.specs.Primitives.{WantsMemory, TellsOrder}
+use Rattle.rasn_enc.specs.Primitives.{TellsOutOfMemory, TellsOrder}
 
 -- The octets of these trees stand behind the last list.
 pub record WroteEach (s : Shape) (ts : List Tree) (v w : View) : Type 0 where
@@ -18,7 +18,7 @@ pub record WroteEach (s : Shape) (ts : List Tree) (v w : View) : Type 0 where
   pub each : Each (Bytes v.rule s) ts encoded
   pub octets : w.last.octets ≡ v.last.octets ++ joined_lists encoded
 
--- An element isn't written: memory was wanted, or it has no octets. Those before it have octets.
+-- An element isn't written: memory ran out, or it has no octets. Those before it have octets.
 pub record RefusesElement (s : Shape) (ts : List Tree) (rule : Codec) (e : EncodeError) : Type 0 where
   pub front : List Tree
   pub tree : Tree
@@ -26,19 +26,19 @@ pub record RefusesElement (s : Shape) (ts : List Tree) (rule : Codec) (e : Encod
   pub is : ts ≡ front ++ tree ∷ back
   pub encoded : List (List ℕ)
   pub before : Each (Bytes rule s) front encoded
-  pub why : IsEncodeMemory e.kind ⊎ Undefined rule s tree
+  pub why : IsEncodeOutOfMemory e.kind ⊎ Undefined rule s tree
 
--- Why a list isn't written: its size isn't admitted; or else memory is wanted, or an element isn't written.
+-- Why a list isn't written: its size isn't admitted; or else memory runs out, or an element isn't written.
 abbrev pub RefusesList : Shape → List Tree → ℕ → Constraints → Codec → EncodeError → Type 0
-RefusesList s ts size c rule e = RefusesSize c size rule e ⊎ (Admits ◌≤◌ c.size size × (WantsMemory rule e ⊎ RefusesElement s ts rule e))
+RefusesList s ts size c rule e = RefusesSize c size rule e ⊎ (Admits ◌≤◌ c.size size × (TellsOutOfMemory rule e ⊎ RefusesElement s ts rule e))
 
 -- Their octets don't fall (X.690 11.6).
-pub record WroteBag (s : Shape) (ts : List Tree) (v w : View) : Type 0 where
+pub record WroteSetOf (s : Shape) (ts : List Tree) (v w : View) : Type 0 where
   pub wrote : WroteEach s ts v w
   pub order : DoNotFall IsLess wrote.encoded
 
 -- An element isn't written, and the octets of those before it don't fall.
-pub record RefusesInBag (s : Shape) (ts : List Tree) (rule : Codec) (e : EncodeError) : Type 0 where
+pub record RefusesInSetOf (s : Shape) (ts : List Tree) (rule : Codec) (e : EncodeError) : Type 0 where
   pub element : RefusesElement s ts rule e
   pub order : DoNotFall IsLess element.encoded
 
@@ -56,7 +56,7 @@ pub record RefusesFall (s : Shape) (ts : List Tree) (rule : Codec) (e : EncodeEr
   pub falls : DoNotFall IsLess (encoded ++ octets ∷ []) → ⊥
   pub told : TellsOrder rule e
 
--- Why a bag isn't written: its size isn't admitted; or else memory is wanted, an element isn't written, or the octets fall.
-abbrev pub RefusesBag : Shape → List Tree → ℕ → Constraints → Codec → EncodeError → Type 0
-RefusesBag s ts size c rule e = RefusesSize c size rule e
-    ⊎ (Admits ◌≤◌ c.size size × (WantsMemory rule e ⊎ (RefusesInBag s ts rule e ⊎ RefusesFall s ts rule e)))
+-- Why a SET OF isn't written: its size isn't admitted; or else memory runs out, an element isn't written, or the octets fall.
+abbrev pub RefusesSetOf : Shape → List Tree → ℕ → Constraints → Codec → EncodeError → Type 0
+RefusesSetOf s ts size c rule e = RefusesSize c size rule e
+    ⊎ (Admits ◌≤◌ c.size size × (TellsOutOfMemory rule e ⊎ (RefusesInSetOf s ts rule e ⊎ RefusesFall s ts rule e)))

@@ -1,7 +1,7 @@
 -- What the view shows of an open value.
 use Rattle.std.specs.Prelude.{ℕ, suc, ◌≡◌, ◌≤◌, ◌+◌, List, [], ◌∷◌, ◌++◌, length, take, Option, option_map}
 pub use Rattle.rasn_enc.specs.View.{kept_of}
-use Rattle.rasn_enc.specs.View.{Frame}
+use Rattle.rasn_enc.specs.View.{OpenList}
 use Rattle.rasn_enc.specs.Lists.{tags_of}
 use Rattle.rasn_types.specs.declared.types.tag.Tag.{Tag}
 use Rattle.rasn_enc.specs.Filled.{Filler, PutsPrim, PutsFilled}
@@ -10,7 +10,7 @@ use Rattle.rasn_enc.specs.declared.ber.enc.marks.Mark.{Mark}
 use Rattle.rasn_enc.specs.declared.ber.enc.writer.Open.{Open}
 
 -- the list that an open value interrupted
-abbrev pub frame_in : List ℕ → List Mark → Open → Frame
+abbrev pub frame_in : List ℕ → List Mark → Open → OpenList
 frame_in xs ms o = record { octets = list_from (take o.end xs) (take o.last ms) o.start o.first; tags = tags_of o.tags }
 
 -- the interrupted lists, one behind the other, with one unfinished mark between; from the first list to the last one

@@ -1,7 +1,7 @@
 -- What the view shows of a list.
 use Rattle.std.specs.Prelude.{ℕ, ◌≡◌, ◌<◌, length, Option, Some, None, Vec, List, option_map, vec_len, vec_capacity}
 use Rattle.rasn_types.specs.declared.types.tag.Tag.{Tag}
-use Rattle.rasn_enc.specs.View.{Frame}
+use Rattle.rasn_enc.specs.View.{OpenList}
 use Rattle.rasn_enc.specs.declared.ber.enc.writer.ListEnd.{ListEnd}
 
 abbrev pub tags_of : {A : Type 0} → Option (Vec Tag A) → Option (List Tag)
@@ -17,6 +17,6 @@ count_of None = 0
 count_of (Some tags) = length tags
 
 -- The mark tells where the list ends.
-pub record IsMarked (f : Frame) (m : ListEnd) : Type 0 where
+pub record IsMarked (f : OpenList) (m : ListEnd) : Type 0 where
   pub octets : m.octets ≡ length f.octets
   pub tags : m.tags ≡ count_of f.tags

@@ -8,7 +8,7 @@ use Rattle.rasn_types.specs.declared.error.encode.EncodeErrorKind.TheVariants.{C
 use Rattle.rasn_types.specs.declared.error.encode.CodecEncodeError.TheVariants.{Ber}
 use Rattle.rasn_types.specs.declared.error.encode.BerEncodeErrorKind.TheVariants.{AnyInSet}
 use Rattle.rasn_enc.specs.View.{View}
-use Rattle.rasn_enc.specs.Primitives.{WantsMemory}
+use Rattle.rasn_enc.specs.Primitives.{TellsOutOfMemory}
 
 -- Octets without a tag would stand in a set.
 abbrev pub TellsBare : Codec → EncodeError → Type 0
@@ -18,6 +18,6 @@ TellsBare rule e = e ≡ record { kind = CodecSpecific (Ber AnyInSet); codec = r
 abbrev pub WouldBeBare : Tag → View → Type 0
 WouldBeBare tag v = (looked_for tag ≡ None) × (v.last.tags ≢ None)
 
--- There are octets, and they would be bare, or else memory is wanted.
+-- There are octets, and they would be bare, or else memory runs out.
 abbrev pub RefusesAny : Tag → List ℕ → View → EncodeError → Type 0
-RefusesAny tag octets v e = (octets ≢ []) × ((WouldBeBare tag v × TellsBare v.rule e) ⊎ ((WouldBeBare tag v → ⊥) × WantsMemory v.rule e))
+RefusesAny tag octets v e = (octets ≢ []) × ((WouldBeBare tag v × TellsBare v.rule e) ⊎ ((WouldBeBare tag v → ⊥) × TellsOutOfMemory v.rule e))

@@ -3,7 +3,7 @@ use Rattle.std.specs.Prelude.{ℕ, ◌≡◌, ◌≢◌, ◌⊎◌, List, None, 
 use Rattle.rasn_types.specs.Shapes.{Tree, items, Parts}
 use Rattle.rasn_types.specs.Contents.{joined_lists}
 use Rattle.rasn_types.specs.Bytes.{fields_of, PartsWritten, NoneBare, TagsOf}
-use Rattle.rasn_types.specs.Errors.{IsEncodeMemory}
+use Rattle.rasn_types.specs.Errors.{IsEncodeOutOfMemory}
 use Rattle.rasn_types.specs.declared.types.rules.Codec.{Codec}
 use Rattle.rasn_types.specs.declared.types.tag.Tag.{Tag}
 use Rattle.rasn_types.specs.declared.error.encode.EncodeError.{EncodeError}
@@ -33,7 +33,7 @@ pub record PartsBare (parts : Parts) (tree : Tree) (v : View) : Type 0 where
 
 -- Why parts aren't written.
 pub record PartsMayRefuse (parts : Parts) (tree : Tree) (v : View) (e : EncodeError) : Type 0 where
-  pub why : IsEncodeMemory e.kind ⊎ (PartsUndefined v.rule parts tree ⊎ PartsBare parts tree v)
+  pub why : IsEncodeOutOfMemory e.kind ⊎ (PartsUndefined v.rule parts tree ⊎ PartsBare parts tree v)
 
 -- What a closure that writes parts answers, and what it does to the view.
 pub record WritesParts (parts : Parts) (tree : Tree) (v : View) (r : Result (Unit {0}) EncodeError) (w : View) : Type 0 where

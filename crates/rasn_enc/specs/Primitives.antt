@@ -14,9 +14,9 @@ pub record Appends (IsWritten : List ℕ → Type 0) (tag : Tag) (v w : View) : 
   pub written : IsWritten octets
   pub appended : w ≡ appended v octets (tag ∷ [])
 
--- Memory was wanted.
-abbrev pub WantsMemory : Codec → EncodeError → Type 0
-WantsMemory rule e = e ≡ record { kind = OutOfMemory; codec = rule }
+-- Memory ran out.
+abbrev pub TellsOutOfMemory : Codec → EncodeError → Type 0
+TellsOutOfMemory rule e = e ≡ record { kind = OutOfMemory; codec = rule }
 
 -- Components or elements of a set fall.
 abbrev pub TellsOrder : Codec → EncodeError → Type 0

@@ -7,7 +7,7 @@ use Rattle.rasn_types.specs.declared.types.constraints.Constraints.{Constraints}
 use Rattle.rasn_types.specs.declared.types.rules.Codec.{Codec}
 use Rattle.rasn_types.specs.declared.error.encode.EncodeError.{EncodeError}
 use Rattle.rasn_types.specs.declared.error.encode.EncodeErrorKind.TheVariants.{SizeConstraintNotSatisfied, ValueConstraintNotSatisfied}
-use Rattle.rasn_enc.specs.Primitives.{WantsMemory}
+use Rattle.rasn_enc.specs.Primitives.{TellsOutOfMemory}
 
 -- The size isn't admitted.
 pub record RefusesSize (c : Constraints) (size : ℕ) (rule : Codec) (e : EncodeError) : Type 0 where
@@ -17,9 +17,9 @@ pub record RefusesSize (c : Constraints) (size : ℕ) (rule : Codec) (e : Encode
 -- Where the size is admitted, memory alone is wanted.
 pub record MeetsSize (c : Constraints) (size : ℕ) (rule : Codec) (e : EncodeError) : Type 0 where
   pub met : Admits ◌≤◌ c.size size
-  pub memory : WantsMemory rule e
+  pub memory : TellsOutOfMemory rule e
 
--- Why a string isn't written: its size isn't admitted; or else memory is wanted.
+-- Why a string isn't written: its size isn't admitted; or else memory runs out.
 abbrev pub RefusesString : Constraints → ℕ → Codec → EncodeError → Type 0
 RefusesString c size rule e = RefusesSize c size rule e ⊎ MeetsSize c size rule e
 

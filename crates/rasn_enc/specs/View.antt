@@ -6,15 +6,15 @@ use Rattle.rasn_types.specs.declared.types.rules.Codec.{Codec}
 use Rattle.rasn_types.specs.declared.types.tag.Tag.{Tag}
 
 -- One list; where tags are kept, the outermost tags of the values in it.
-pub record Frame : Type 0 where
+pub record OpenList : Type 0 where
   pub octets : List ℕ
   pub tags : Option (List Tag)
 
 -- The last list, and those below it, the output first.
 pub record View : Type 0 where
   pub rule : Codec
-  pub below : List Frame
-  pub last : Frame
+  pub below : List OpenList
+  pub last : OpenList
 
 -- the tags that are kept
 abbrev pub kept_of : Option (List Tag) → List Tag
@@ -26,13 +26,13 @@ abbrev pub AreTagsInOrder : View → Type 0
 AreTagsInOrder v = DoNotFall IsTagBelow (kept_of v.last.tags)
 
 -- octets behind a list, and tags behind those that it keeps
-abbrev pub added : Frame → List ℕ → List Tag → Frame
+abbrev pub added : OpenList → List ℕ → List Tag → OpenList
 added f octets tags = record { octets = f.octets ++ octets; tags = option_map (λ kept. kept ++ tags) f.tags }
 
 abbrev pub appended : View → List ℕ → List Tag → View
 appended v octets tags = record { rule = v.rule; below = v.below; last = added v.last octets tags }
 
-abbrev pub fresh : Bool → Frame
+abbrev pub fresh : Bool → OpenList
 fresh keeps = record { octets = []; tags = cond keeps (Some []) None }
 
 -- Nothing is written yet.

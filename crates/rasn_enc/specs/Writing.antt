@@ -7,7 +7,7 @@ use Rattle.rasn_types.specs.declared.types.rules.Codec.{Codec}
 use Rattle.rasn_types.specs.declared.types.tag.Tag.{Tag}
 use Rattle.rasn_types.specs.declared.error.encode.EncodeError.{EncodeError}
 use Rattle.rasn_enc.specs.View.{View, LeavesOthers, Extends, opened, started, AreTagsInOrder}
-use Rattle.rasn_enc.specs.Primitives.{Appends, WantsMemory, TellsOrder}
+use Rattle.rasn_enc.specs.Primitives.{Appends, TellsOutOfMemory, TellsOrder}
 
 -- A closure over an encoder.
 abbrev pub Closure : Type 0 → Type 0 → Type 1
@@ -49,9 +49,9 @@ pub record RefusesOrder {F : Type 0} (g : Closure F (Unit {0})) (f : F) (v : Vie
   pub falls : AreTagsInOrder inner → ⊥
   pub told : TellsOrder v.rule e
 
--- Why such a value isn't written: memory is wanted, f refuses, or the tags fall where f accepts.
+-- Why such a value isn't written: memory runs out, f refuses, or the tags fall where f accepts.
 abbrev pub RefusesInOrder : {F : Type 0} → Closure F (Unit {0}) → F → View → EncodeError → Type 0
-RefusesInOrder g f v e = WantsMemory v.rule e ⊎ (Refuses g f (opened v true) e ⊎ RefusesOrder g f v e)
+RefusesInOrder g f v e = TellsOutOfMemory v.rule e ⊎ (Refuses g f (opened v true) e ⊎ RefusesOrder g f v e)
 
 -- f may accept, and have written these octets into an output that was empty.
 pub record Outputs {F T : Type 0} (g : Closure F T) (f : F) (rule : Codec) (octets : List ℕ) : Type 0 where

@@ -2,7 +2,7 @@
 use Rattle.std.specs.Prelude.{ℕ, ◌≡◌, ◌≢◌, ◌⊎◌, List, [], ◌∷◌, None}
 use Rattle.rasn_types.specs.Shapes.{Shape, Tree, Presence, required}
 use Rattle.rasn_types.specs.Bytes.{Bytes, WritesPart, TagsOf, IsBare}
-use Rattle.rasn_types.specs.Errors.{IsEncodeMemory}
+use Rattle.rasn_types.specs.Errors.{IsEncodeOutOfMemory}
 use Rattle.rasn_types.specs.declared.types.rules.Codec.{Codec}
 use Rattle.rasn_types.specs.declared.types.tag.Tag.{Tag}
 use Rattle.rasn_types.specs.declared.error.encode.EncodeError.{EncodeError}
@@ -28,9 +28,9 @@ pub record BarePart (p : Presence) (s : Shape) (t : Tree) (v : View) : Type 0 wh
   pub some : (octets : List ℕ) → WritesPart p (Bytes v.rule s) t octets → octets ≢ []
   pub keeps : v.last.tags ≢ None
 
--- Why a part isn't written: want of memory, or there are no octets to put there.
+-- Why a part isn't written: running out of memory, or there are no octets to put there.
 pub record MayRefusePart (p : Presence) (s : Shape) (t : Tree) (v : View) (e : EncodeError) : Type 0 where
-  pub why : IsEncodeMemory e.kind ⊎ (UndefinedPart p v.rule s t ⊎ BarePart p s t v)
+  pub why : IsEncodeOutOfMemory e.kind ⊎ (UndefinedPart p v.rule s t ⊎ BarePart p s t v)
 
 -- The octets of the tree stand behind the last list.
 abbrev pub Wrote : Shape → Tree → View → View → Type 0

@@ -1,6 +1,6 @@
 //! The trait of values that can be written.
 ghost use Rattle.std.specs.Prelude.{◌≡◌, ◌≢◌, MatchBool, IfErr, OnOk, OnErr};
-ghost use Rattle.rasn_types.specs.Shapes.{given, absent};
+ghost use Rattle.rasn_types.specs.Shapes.{tagged_as, absent};
 ghost use Rattle.rasn_enc.specs.Wrote.{Wrote, MayRefuse};
 
 mod integers;
@@ -29,9 +29,9 @@ pub trait Encode: AsnType {
         constraints: &Constraints,
         identifier: Identifier,
     ) -> Result<(), EncodeError>
-        ensures ok { OnOk result (Wrote (given tag constraints.now Self.shape) (Self.tree self.now) encoder.old encoder.new) }
+        ensures ok { OnOk result (Wrote (tagged_as tag constraints.now Self.shape) (Self.tree self.now) encoder.old encoder.new) }
         ensures err { OnErr result (encoder.new ≡ encoder.old) }
-        ensures refused { IfErr result (MayRefuse (given tag constraints.now Self.shape) (Self.tree self.now) encoder.old) };
+        ensures refused { IfErr result (MayRefuse (tagged_as tag constraints.now Self.shape) (Self.tree self.now) encoder.old) };
 
     /// Writes the value.
     fn encode(&self, encoder: &mut Encoder) -> Result<(), EncodeError>
@@ -54,9 +54,9 @@ pub trait Encode: AsnType {
         tag: Tag,
         identifier: Identifier,
     ) -> Result<(), EncodeError>
-        ensures ok { OnOk result (Wrote (given tag Self.CONSTRAINTS Self.shape) (Self.tree self.now) encoder.old encoder.new) }
+        ensures ok { OnOk result (Wrote (tagged_as tag Self.CONSTRAINTS Self.shape) (Self.tree self.now) encoder.old encoder.new) }
         ensures err { OnErr result (encoder.new ≡ encoder.old) }
-        ensures refused { IfErr result (MayRefuse (given tag Self.CONSTRAINTS Self.shape) (Self.tree self.now) encoder.old) }
+        ensures refused { IfErr result (MayRefuse (tagged_as tag Self.CONSTRAINTS Self.shape) (Self.tree self.now) encoder.old) }
     {
         self.encode_with_tag_and_constraints(encoder, tag, &Self::CONSTRAINTS, identifier)
     }
@@ -68,9 +68,9 @@ pub trait Encode: AsnType {
         constraints: &Constraints,
         identifier: Identifier,
     ) -> Result<(), EncodeError>
-        ensures ok { OnOk result (Wrote (given Self.TAG constraints.now Self.shape) (Self.tree self.now) encoder.old encoder.new) }
+        ensures ok { OnOk result (Wrote (tagged_as Self.TAG constraints.now Self.shape) (Self.tree self.now) encoder.old encoder.new) }
         ensures err { OnErr result (encoder.new ≡ encoder.old) }
-        ensures refused { IfErr result (MayRefuse (given Self.TAG constraints.now Self.shape) (Self.tree self.now) encoder.old) }
+        ensures refused { IfErr result (MayRefuse (tagged_as Self.TAG constraints.now Self.shape) (Self.tree self.now) encoder.old) }
     {
         self.encode_with_tag_and_constraints(encoder, Self::TAG, constraints, identifier)
     }

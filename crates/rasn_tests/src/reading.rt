@@ -57,6 +57,11 @@ pub fn decoder_of(alloc: Global, octets: &[u8], rules: Codec) -> Decoder<'_> {
     Decoder::new(alloc, octets, options)
 }
 
+/// A value as text.
+pub fn debug_text<T: Debug>(alloc: Global, value: &T) -> Result<String, AllocError> {
+    format!(in alloc; "{value:?}")
+}
+
 /// A value or an error's kind as text; an error under other rules than these has a text of its own.
 fn text_of<T: Debug + Drop>(
     alloc: Global,
@@ -64,10 +69,10 @@ fn text_of<T: Debug + Drop>(
     answer: Result<T, DecodeError>,
 ) -> Result<String, AllocError> {
     match answer {
-        Ok(value) => format!(in alloc; "{value:?}"),
+        Ok(value) => debug_text(alloc, &value),
         Err(error) => {
             if error.codec == rules {
-                format!(in alloc; "{:?}", error.kind)
+                debug_text(alloc, &error.kind)
             } else {
                 String::from_str(alloc, "an error under other rules")
             }

@@ -1,6 +1,5 @@
 //! SET and SET OF, which no rule writes out of order, and the calls that write over a vector or for a closure.
 
-mod bags;
 mod components;
 mod defaults;
 mod elements;
@@ -9,3 +8,4 @@ mod outputs;
 mod reads;
 mod reads_sets;
 mod refusals;
+mod sets_of;

@@ -1,5 +1,6 @@
 //! What the tests of writing share: values held against octets, calls whose answers are told as text, and long strings as pieces.
 
+use crate::reading::debug_text;
 use rasn_enc::ber::enc::{Encoder, EncoderOptions};
 use rasn_enc::enc::Encode;
 use rasn_types::error::EncodeError;
@@ -151,7 +152,7 @@ fn text_of(
         Ok(()) => String::from_str(alloc, "written"),
         Err(error) => {
             if error.codec == rules {
-                format!(in alloc; "{:?}", error.kind)
+                debug_text(alloc, &error.kind)
             } else {
                 String::from_str(alloc, "an error under other rules")
             }

@@ -109,56 +109,44 @@ cleared_end u len old k new h n some c =
 length-zeros : (n : ℕ) → length (zeros n) ≡ n
 length-zeros n = length-replicate n false
 
+-- What is kept of bits that are shifted behind others and cut.
+cut_kept : (shift held n : ℕ) (octets old mid cut : List ℕ) → shift ≤ 8 * held → n ≤ held → held ≤ length octets → (s : Shifts shift (take held octets) old mid) → cut ≡ take (length old + n) mid
+    → (length (take n s.added) ≡ n) × (cut ≡ old ++ take n s.added)
+cut_kept shift held n octets old mid cut f h there s c =
+    (length-take-le n s.added (omega (arith, long)), c ∙ (ap (take (length old + n)) s.is ∙ take_behind old s.added n (length old + n) refl))
+  where
+    long : 8 * length s.added ≡ 8 * held
+    long =
+        let a = ap length s.all in
+        let b = length-append (drop shift (bits_in (take held octets))) (zeros shift) in
+        omega (
+          arith,
+          a,
+          b,
+          length-bits_in s.added,
+          length-drop shift (bits_in (take held octets)),
+          length-bits_in (take held octets),
+          length-take-le held octets there,
+          length-zeros shift,
+        )
+
 -- Bits that are shifted behind others, cut and cleared, are packed.
 pub packed : (shift len held n u : ℕ) (octets old mid cut new : List ℕ) → shift < 8 → 0 < len → shift + len ≤ 8 * held → held ≤ length octets → len + u ≡ 8 * n → u < 8
     → Shifts shift (take held octets) old mid → cut ≡ take (length old + n) mid → Clears u cut new → Pushes (bits_from shift len octets) old new
 packed shift len held n u octets old mid cut new h some fits there e few s c (inl (x, y)) =
-    absurd (omega (arith, ap length (sym x ∙ cut_is), length-append old k, length_k))
-  where
-    wide : length (take held octets) ≡ held
-    wide = length-take-le held octets there
-
-    long : 8 * length s.added ≡ 8 * held
-    long =
-        let a = ap length s.all in
-        let b = length-append (drop shift (bits_in (take held octets))) (zeros shift) in
-        omega (arith, a, b, length-bits_in s.added, length-drop shift (bits_in (take held octets)), length-bits_in (take held octets), wide, length-zeros shift)
-
-    k : List ℕ
-    k = take n s.added
-
-    length_k : length k ≡ n
-    length_k = length-take-le n s.added (omega (arith, long))
-
-    cut_is : cut ≡ old ++ k
-    cut_is = c ∙ (ap (take (length old + n)) s.is ∙ take_behind old s.added n (length old + n) refl)
+    let k = cut_kept shift held n octets old mid cut (omega arith) (omega arith) there s c in
+    absurd (omega (arith, ap length (sym x ∙ k.1), length-append old (take n s.added), k.0))
 packed shift len held n u octets old mid cut new h some fits there e few s c (inr x) =
-    subst (λ z. Pushes z old new) same (cleared_end u len old k new few (omega (arith, length_k)) (omega (arith, length_k)) (subst (λ z. ClearsOne u z new) cut_is x))
+    let k = cut_kept shift held n octets old mid cut (omega arith) (omega arith) there s c in
+    subst (λ z. Pushes z old new) same
+    (cleared_end u len old (take n s.added) new few (omega (arith, k.0)) (omega (arith, k.0)) (subst (λ z. ClearsOne u z new) k.1 x))
   where
-    wide : length (take held octets) ≡ held
-    wide = length-take-le held octets there
-
-    long : 8 * length s.added ≡ 8 * held
-    long =
-        let a = ap length s.all in
-        let b = length-append (drop shift (bits_in (take held octets))) (zeros shift) in
-        omega (arith, a, b, length-bits_in s.added, length-drop shift (bits_in (take held octets)), length-bits_in (take held octets), wide, length-zeros shift)
-
-    k : List ℕ
-    k = take n s.added
-
-    length_k : length k ≡ n
-    length_k = length-take-le n s.added (omega (arith, long))
-
-    cut_is : cut ≡ old ++ k
-    cut_is = c ∙ (ap (take (length old + n)) s.is ∙ take_behind old s.added n (length old + n) refl)
-
-    same : take len (bits_in k) ≡ bits_from shift len octets
+    same : take len (bits_in (take n s.added)) ≡ bits_from shift len octets
     same =
         ap (take len) (bits_in-take n s.added)
         ∙ (take-take len (8 * n) (bits_in s.added) (omega arith)
         ∙ (ap (take len) s.all
-        ∙ (take-append-le len (drop shift (bits_in (take held octets))) (zeros shift) (omega (arith, length-drop shift (bits_in (take held octets)), length-bits_in (take held octets), wide))
+        ∙ (take-append-le len (drop shift (bits_in (take held octets))) (zeros shift) (omega (arith, length-drop shift (bits_in (take held octets)), length-bits_in (take held octets), length-take-le held octets there))
         ∙ bits_from_front held shift len octets fits)))
 
 -- ---- strings and gathered bits

@@ -1,6 +1,6 @@
 -- The shortest spellings are unique.
 use Rattle.std.proofs.Common.{◌≡◌, ℕ, suc, ◌+◌, ◌*◌, ◌^◌, ◌%◌, ◌/◌, ◌<◌, ◌≤◌, ◌⊎◌, ◌≢◌, inl, inr, List, [], ◌∷◌, ◌++◌, length, Bool, refl, sym, ap, ap₂, ◌∙◌, subst, arith, mod-lt, mul-le-mul_right, one-mul}
-use Rattle.std.proofs.Math.Nat.{pow-succ', pow-le-pow_right, one-le-pow}
+use Rattle.std.proofs.Math.Nat.{pow-succ', mod-eq_of_lt, pow-le-pow_right, one-le-pow}
 use Rattle.std.proofs.Math.Arith.{digits_lt}
 use Rattle.std.proofs.lemmas.Nat.{div-mul-add}
 use Rattle.std.proofs.lemmas.Bool.{cases_order}
@@ -143,14 +143,11 @@ id_shortest_one (x ∷ w ∷ a) (y ∷ z ∷ c) t bit h k p q o u = go h.number 
     go (inr (a, b)) (inr (c, d)) = ap₂ ◌∷◌ (h.leading ∙ (ap (λ z. 64 * rank t.class + (32 * bit_of bit + z)) (a ∙ sym c) ∙ sym k.leading))
         (spelling128_one _ _ _ _ b d p.1 q.1 o.1 u.1 refl)
 
-octet_mod : (a : ℕ) → a < 256 → a % 256 ≡ a
-octet_mod a h = omega arith
-
 pub octet_digits : (k l : List ℕ) → AreOctets k → AreOctets l → length k ≡ length l → SameDigits 256 k l → k ≡ l
 octet_digits [] [] o u n s = refl
 octet_digits [] (b ∷ l) o u n s = absurd (omega arith)
 octet_digits (a ∷ k) [] o u n s = absurd (omega arith)
-octet_digits (a ∷ k) (b ∷ l) o u n s = ap₂ ◌∷◌ (sym (octet_mod a o.0) ∙ (s.0 ∙ octet_mod b u.0)) (octet_digits k l o.1 u.1 (omega arith) s.1)
+octet_digits (a ∷ k) (b ∷ l) o u n s = ap₂ ◌∷◌ (sym (mod-eq_of_lt o.0) ∙ (s.0 ∙ mod-eq_of_lt u.0)) (octet_digits k l o.1 u.1 (omega arith) s.1)
 
 pub octets_one : (k l : List ℕ) → AreOctets k → AreOctets l → length k ≡ length l → number_in 256 k ≡ number_in 256 l → k ≡ l
 octets_one k l o u n e = octet_digits k l o u n (same_digits 256 (omega arith) k l n e)

@@ -30,7 +30,7 @@ rank_one Context Context e = refl
 rank_one Private Private e = refl
 rank_one c d e = absurd (omega arith)
 
-rank_small : (c : Class) → rank c < 4
+pub rank_small : (c : Class) → rank c < 4
 rank_small Universal = omega arith
 rank_small Application = omega arith
 rank_small Context = omega arith
@@ -41,7 +41,7 @@ bit_one true true e = refl
 bit_one false false e = refl
 bit_one b c e = absurd (omega arith)
 
-bit_small : (b : Bool) → bit_of b < 2
+pub bit_small : (b : Bool) → bit_of b < 2
 bit_small true = omega arith
 bit_small false = omega arith
 

@@ -6,6 +6,7 @@ use Rattle.std.proofs.lemmas.Bool.{cases_order}
 use Rattle.std.proofs.lemmas.Int.{ints}
 use Rattle.rasn_types.specs.Framing.{number_in, AreOctets}
 use Rattle.rasn_types.specs.Contents.{signed, IsShortestInteger}
+use Rattle.rasn_types.proofs.TwosComplement.{first_digit}
 use Rattle.rasn_types.proofs.Digits.{number_lt, heads, octets_one}
 
 across : (n a m b : ℕ) → pos n -ℤ pos a ≡ pos m -ℤ pos b → n + b ≡ m + a
@@ -90,12 +91,6 @@ apart b p n c d q m hb hc hd hn hm hp low high e = go (cases_order b 128) (cases
 
     go : (b ≡ 128) ⊎ ((b < 128) ⊎ (128 < b)) → (c ≡ 128) ⊎ ((c < 128) ⊎ (128 < c)) → ⊥
     go x y = both (half b x) (half c y)
-
-octet_mod : (a : ℕ) → a < 256 → a % 256 ≡ a
-octet_mod a h = omega arith
-
-first_digit : (b : ℕ) (l : List ℕ) → b < 256 → number_in 256 (b ∷ l) ≡ b * 256 ^ length l + number_in 256 l
-first_digit b l h = ap (λ z. z * 256 ^ length l + number_in 256 l) (octet_mod b h)
 
 shorter : (b : ℕ) (k : List ℕ) (c d : ℕ) (l : List ℕ) → b < 256 → c < 256 → d < 256 → length k ≤ length l → IsShortestInteger (c ∷ d ∷ l)
     → signed (b ∷ k) ≡ signed (c ∷ d ∷ l) → ⊥

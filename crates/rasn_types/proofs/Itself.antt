@@ -2,7 +2,7 @@
 use Rattle.std.proofs.Common.{◌≡◌, ℕ, suc, inl, inr, List, [], ◌∷◌, refl, sym, subst, Some, None}
 use Rattle.std.proofs.lemmas.List.Sorted.{IsPermutation-refl}
 use Rattle.rasn_types.specs.Tags.{Codec}
-use Rattle.rasn_types.specs.Shapes.{Tree, items, absent, Shape, leaf, any, prefix, choice, option, seq, set, list, bag, Parts, part, Presence, required, optional, addition, default}
+use Rattle.rasn_types.specs.Shapes.{Tree, items, absent, Shape, leaf, any, prefix, choice, option, seq, set, list, set_of, Parts, part, Presence, required, optional, addition, default}
 use Rattle.rasn_types.specs.Grammar.{family}
 use Rattle.rasn_types.specs.Bytes.{Writing, Same, Each, WritesPart, PartsWritten, WritesChoice, Bytes, fields_of}
 use Rattle.rasn_types.proofs.Alike.{same_sym, same_trans}
@@ -46,7 +46,7 @@ mutual
   written_same (seq tag ps) rule t b (ts, bs, e, w, c) = subst (λ z. Same z z) (sym e) (items_same ts (parts_same ps rule ts bs w))
   written_same (set tag ps) rule t b (ts, bs, tags, e, w, n, m, d, c) = subst (λ z. Same z z) (sym e) (items_same ts (parts_same ps rule ts bs w))
   written_same (list tag s size) rule t b (ts, bs, e, m, w, c) = subst (λ z. Same z z) (sym e) (items_same ts (elements_same (Bytes rule s) (written_same s rule) ts bs w))
-  written_same (bag tag s size) rule t b (ts, bs, e, m, w, o, c) =
+  written_same (set_of tag s size) rule t b (ts, bs, e, m, w, o, c) =
       subst (λ z. Same z z) (sym e) (ts, ts, refl, IsPermutation-refl ts, items_same ts (elements_same (Bytes rule s) (written_same s rule) ts bs w))
 
   parts_same : (ps : Parts) (rule : Codec) (ts : List Tree) (bs : List (List ℕ)) → PartsWritten (fields_of rule ps) ts bs → AreSame ts

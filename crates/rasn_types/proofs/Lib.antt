@@ -3,6 +3,7 @@ pub mod Contained
 pub mod Dated
 pub mod Determined
 pub mod Digits
+pub mod Falling
 pub mod Fractions
 pub mod Frames
 pub mod Integers

@@ -17,8 +17,8 @@ byte_is : (k n : ℕ) → byte_at k n ≡ n / 256 ^ k % 256
 byte_is zero n = ap (λ x. x % 256) (sym (div-one n))
 byte_is (suc k) n = refl
 
-octet_mod : (n : ℕ) → n % 256 % 256 ≡ n % 256
-octet_mod n = omega arith
+octet_again : (n : ℕ) → n % 256 % 256 ≡ n % 256
+octet_again n = omega arith
 
 pub length_bytes : (k n : ℕ) → length (bytes_high_first k n) ≡ k
 length_bytes zero n = refl
@@ -27,7 +27,7 @@ length_bytes (suc k) n = ap suc (length_bytes k n)
 pub number_of_bytes : (k n : ℕ) → number_in 256 (bytes_high_first k n) ≡ n % 256 ^ k
 number_of_bytes zero n = sym (mod-one n)
 number_of_bytes (suc k) n =
-    ap₂ ◌+◌ (ap₂ ◌*◌ (ap (λ x. x % 256) (byte_is k n) ∙ octet_mod (n / 256 ^ k)) (ap (λ x. 256 ^ x) (length_bytes k n))) (number_of_bytes k n)
+    ap₂ ◌+◌ (ap₂ ◌*◌ (ap (λ x. x % 256) (byte_is k n) ∙ octet_again (n / 256 ^ k)) (ap (λ x. 256 ^ x) (length_bytes k n))) (number_of_bytes k n)
     ∙ (sym (mod-mul n {m = 256} {c = 256 ^ k} (omega arith) (one-le-pow k 256 (omega arith))) ∙ ap (λ x. n % x) (sym (pow-succ' 256 k)))
 
 -- The number that the octets stand for, by the bits.
@@ -91,10 +91,7 @@ digit_step l i number o h few e =
 -- What 128 bits hold without a sign, and what they don't.
 pub without_sign : (l : List ℕ) → AreOctets l → 0 < length l → get_or l 0 0 < 128 → signed l ≡ pos (number_in 256 l)
 without_sign [] o h k = absurd (omega arith)
-without_sign (b ∷ l) o h k = signed_low b l k ∙ ap (λ x. pos (x * 256 ^ length l + number_in 256 l)) (sym (small b o.0))
-  where
-    small : (b : ℕ) → b < 256 → b % 256 ≡ b
-    small b h = omega arith
+without_sign (b ∷ l) o h k = signed_low b l k ∙ ap (λ x. pos (x * 256 ^ length l + number_in 256 l)) (sym (mod-eq_of_lt o.0))
 
 pub without_zero : (l : List ℕ) → 0 < length l → get_or l 0 0 ≡ 0 → number_in 256 (drop 1 l) ≡ number_in 256 l
 without_zero [] h e = absurd (omega arith)

@@ -2,7 +2,7 @@
 use Rattle.std.proofs.Common.{◌≡◌, ℕ, suc, ◌<◌, ◌⊎◌, ◌≢◌, inl, inr, List, [], ◌∷◌, refl, sym, ap, ap₂, ◌∙◌, subst, arith, IsPermutation, Some, None}
 use Rattle.std.proofs.lemmas.List.Sorted.{IsPermutation-sym}
 use Rattle.rasn_types.specs.Tags.{Codec, Der, Tag}
-use Rattle.rasn_types.specs.Shapes.{Tree, number, bits, numbers, instant, on_day, items, walk, chosen, absent, Kind, boolean, null, object_identifier, integer, enumerated, octet_string, fixed, numeric, printable, visible, ia5, any_octets, bmp, utf8, utc_time, generalized_time, date, Shape, leaf, any, prefix, choice, option, seq, set, list, bag, Parts, part, Presence, required, optional, addition, default}
+use Rattle.rasn_types.specs.Shapes.{Tree, number, bits, numbers, instant, on_day, items, walk, chosen, absent, Kind, boolean, null, object_identifier, integer, enumerated, octet_string, fixed, numeric, printable, visible, ia5, any_octets, bmp, utf8, utc_time, generalized_time, date, Shape, leaf, any, prefix, choice, option, seq, set, list, set_of, Parts, part, Presence, required, optional, addition, default}
 use Rattle.rasn_types.specs.Contents.{Contents, joined_lists}
 use Rattle.rasn_types.specs.Grammar.{Family, plain, bit_family, text_family, family}
 use Rattle.rasn_types.specs.Bytes.{Same, Each, Cons, WritesIn, WritesText, WritesPart, PartsWritten, WritesChoice, DoNotFall, IsLess, Bytes, fields_of}
@@ -147,9 +147,9 @@ choice_once rule (part presence s ps) once k t u a b same (inr h) (inr i) = choi
 same_lists : (t u : Tree) (ts us : List Tree) → t ≡ items ts → u ≡ items us → Same t u → Each Same ts us
 same_lists t u ts us e f h = same_each ts us (subst (λ z. Same z (items us)) e (subst (Same t) f h))
 
-bag_once : (rule : Codec) (s : Shape) → IsOnce rule s → (ts us : List Tree) (ls bs : List (List ℕ)) → Same (walk (items ts)) (walk (items us))
+set_of_once : (rule : Codec) (s : Shape) → IsOnce rule s → (ts us : List Tree) (ls bs : List (List ℕ)) → Same (walk (items ts)) (walk (items us))
     → Each (Bytes rule s) ts ls → Each (Bytes rule s) us bs → DoNotFall IsLess ls → DoNotFall IsLess bs → ls ≡ bs
-bag_once rule s once ts us ls bs (vs, ws, e, p, h) w x o q =
+set_of_once rule s once ts us ls bs (vs, ws, e, p, h) w x o q =
     let f : items us ≡ items ws = cc in
     let p' : IsPermutation us vs = subst (λ z. IsPermutation z vs) (sym (items_one us ws f)) (IsPermutation-sym vs ws p) in
     let m = each_moved (Bytes rule s) us bs vs x p' in
@@ -184,9 +184,9 @@ mutual
       cons_one rule tag (joined_lists ls) (joined_lists bs) a b c d (ap joined_lists (parts_once rule ps (each_is_once ps rule) ts us ls bs (same_lists t u ts us e f same) w x))
   once (list tag s size) rule t u a b same (ts, ls, e, n, w, c) (us, bs, f, m, x, d) =
       cons_one rule tag (joined_lists ls) (joined_lists bs) a b c d (ap joined_lists (elements_once rule s (once s rule) ts us ls bs (same_lists t u ts us e f same) w x))
-  once (bag tag s size) rule t u a b same (ts, ls, e, n, w, o, c) (us, bs, f, m, x, q, d) =
+  once (set_of tag s size) rule t u a b same (ts, ls, e, n, w, o, c) (us, bs, f, m, x, q, d) =
       cons_one rule tag (joined_lists ls) (joined_lists bs) a b c d
-      (ap joined_lists (bag_once rule s (once s rule) ts us ls bs (subst (λ z. Same z (walk (items us))) e (subst (Same t) f same)) w x o q))
+      (ap joined_lists (set_of_once rule s (once s rule) ts us ls bs (subst (λ z. Same z (walk (items us))) e (subst (Same t) f same)) w x o q))
 
   pub each_is_once : (ps : Parts) (rule : Codec) → EachOnce rule ps
   each_is_once Parts.none rule = tt

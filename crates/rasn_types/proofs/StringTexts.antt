@@ -10,38 +10,38 @@ use Rattle.rasn_types.specs.declared.types.strings.alphabet.Alphabet.TheVariants
 use Rattle.rasn_types.specs.Shapes.{Tree, numbers}
 use Rattle.rasn_types.specs.Grammar.{Text, units, family, text_family, measure, by_size}
 use Rattle.rasn_types.specs.Bytes.{WritesText}
-use Rattle.rasn_types.specs.Characters.{AreAdmitted, kind_of, ArePaired, units_of}
+use Rattle.rasn_types.specs.Characters.{AreAdmitted, string_kind, ArePaired, units_of}
 
 -- The string types with an alphabet.
-pub alphabet_family : (a : Alphabet) → family (kind_of a) ≡ text_family
+pub alphabet_family : (a : Alphabet) → family (string_kind a) ≡ text_family
 alphabet_family Numeric = refl
 alphabet_family Printable = refl
 alphabet_family Visible = refl
 alphabet_family Ia5 = refl
 alphabet_family Every = refl
 
-pub alphabet_measure : (a : Alphabet) → measure (kind_of a) ≡ by_size
+pub alphabet_measure : (a : Alphabet) → measure (string_kind a) ≡ by_size
 alphabet_measure Numeric = refl
 alphabet_measure Printable = refl
 alphabet_measure Visible = refl
 alphabet_measure Ia5 = refl
 alphabet_measure Every = refl
 
-pub alphabet_text : (a : Alphabet) (rule : Codec) (l : List ℕ) → AreAdmitted a l → Text rule (kind_of a) l (numbers l)
+pub alphabet_text : (a : Alphabet) (rule : Codec) (l : List ℕ) → AreAdmitted a l → Text rule (string_kind a) l (numbers l)
 alphabet_text Numeric rule l h = (refl, h)
 alphabet_text Printable rule l h = (refl, h)
 alphabet_text Visible rule l h = (refl, h)
 alphabet_text Ia5 rule l h = (refl, h)
 alphabet_text Every rule l h = refl
 
-pub alphabet_only : (a : Alphabet) (rule : Codec) (l : List ℕ) (t : Tree) → Text rule (kind_of a) l t → (t ≡ numbers l) × AreAdmitted a l
+pub alphabet_only : (a : Alphabet) (rule : Codec) (l : List ℕ) (t : Tree) → Text rule (string_kind a) l t → (t ≡ numbers l) × AreAdmitted a l
 alphabet_only Numeric rule l t h = h
 alphabet_only Printable rule l t h = h
 alphabet_only Visible rule l t h = h
 alphabet_only Ia5 rule l t h = h
 alphabet_only Every rule l t h = (h, λ k d i. tt)
 
-pub alphabet_writes : (a : Alphabet) (l : List ℕ) → AreAdmitted a l → WritesText (kind_of a) l (numbers l)
+pub alphabet_writes : (a : Alphabet) (l : List ℕ) → AreAdmitted a l → WritesText (string_kind a) l (numbers l)
 alphabet_writes Numeric l h = (refl, h)
 alphabet_writes Printable l h = (refl, h)
 alphabet_writes Visible l h = (refl, h)

@@ -1,7 +1,7 @@
 -- Whole numbers as octets in two's complement (X.690 8.3).
 use Rattle.std.proofs.Common.{◌≡◌, ℕ, zero, suc, ◌+◌, ◌-◌, ◌*◌, ◌^◌, ◌%◌, ◌/◌, ◌<◌, ◌≤◌, ◌⊎◌, inl, inr, List, [], ◌∷◌, ◌++◌, length, get_or, take, drop, ℤ, pos, negsuc, neg_ℤ, ◌+ℤ◌, ◌-ℤ◌, ◌*ℤ◌, ◌≤ℤ◌, ◌<ℤ◌, Fits, w8, FitsSigned, to_z, of_z, add-one, drop-cons, length-take, refl, sym, ap, ap₂, ◌∙◌, subst, arith, mod-lt, mul-le-mul_right, length-append}
 use Rattle.std.specs.Int.{w128}
-use Rattle.std.proofs.Math.Nat.{pow-succ', pow-le-pow_right, one-le-pow}
+use Rattle.std.proofs.Math.Nat.{pow-succ', mod-eq_of_lt, pow-le-pow_right, one-le-pow}
 use Rattle.std.proofs.Math.Arith.{digits_lt}
 use Rattle.std.proofs.Math.Seq.{take-suc}
 use Rattle.std.proofs.lemmas.Bool.{cases_order}
@@ -10,6 +10,7 @@ use Rattle.rasn_types.specs.Framing.{number_in, AreOctets}
 use Rattle.rasn_types.specs.Contents.{signed, IsShortestInteger, RepeatsSign}
 use Rattle.rasn_types.specs.Shapes.{IsIn}
 use Rattle.rasn_types.specs.Trees.{signed_range}
+use Rattle.rasn_types.proofs.Digits.{number_lt}
 
 half : (b : ℕ) → (b < 128) ⊎ (128 ≤ b)
 half b = go (cases_order b 128)
@@ -19,9 +20,6 @@ half b = go (cases_order b 128)
     go (inr (inl e)) = inl e
     go (inr (inr e)) = inr (omega arith)
 
-octet_mod : (a : ℕ) → a < 256 → a % 256 ≡ a
-octet_mod a h = omega arith
-
 small : (x : ℕ) → x < 128 → x / 128 ≡ 0
 small x h = omega arith
 
@@ -29,15 +27,10 @@ great : (x : ℕ) → 128 ≤ x → x < 256 → x / 128 ≡ 1
 great x h k = omega arith
 
 pub below_power : (l : List ℕ) → number_in 256 l < 256 ^ length l
-below_power [] = one-le-pow 0 256 (omega arith)
-below_power (b ∷ l) =
-    let i = below_power l in
-    let m : b % 256 < 256 = mod-lt b (omega arith) in
-    let d : b % 256 * 256 ^ length l + number_in 256 l < 256 * 256 ^ length l = digits_lt m i in
-    subst (λ z. b % 256 * 256 ^ length l + number_in 256 l < z) (sym (pow-succ' 256 (length l))) d
+below_power = number_lt 256 (omega arith)
 
 pub first_digit : (b : ℕ) (l : List ℕ) → b < 256 → number_in 256 (b ∷ l) ≡ b * 256 ^ length l + number_in 256 l
-first_digit b l h = ap (λ z. z * 256 ^ length l + number_in 256 l) (octet_mod b h)
+first_digit b l h = ap (λ z. z * 256 ^ length l + number_in 256 l) (mod-eq_of_lt h)
 
 -- a number whose first octet is below 128
 pub signed_low : (b : ℕ) (l : List ℕ) → b < 128 → signed (b ∷ l) ≡ pos (b * 256 ^ length l + number_in 256 l)

@@ -6,7 +6,7 @@ use Rattle.rasn_types.specs.Calendar.{Day, IsDay, Moment, IsMoment}
 use Rattle.rasn_types.specs.Times.{written_date, written_generalized, written_utc}
 pub use Rattle.rasn_types.specs.Order.{Each, IsLess, DoNotFall}
 pub use Rattle.rasn_types.specs.Shapes.{Same}
-use Rattle.rasn_types.specs.Shapes.{Tree, bits, numbers, instant, on_day, items, walk, chosen, absent, Kind, utc_time, generalized_time, date, Bound, Admits, Shape, leaf, any, prefix, choice, option, seq, set, list, bag, Parts, part, Presence, required, optional, addition, default}
+use Rattle.rasn_types.specs.Shapes.{Tree, bits, numbers, instant, on_day, items, walk, chosen, absent, Kind, utc_time, generalized_time, date, Bound, Admits, Shape, leaf, any, prefix, choice, option, seq, set, list, set_of, Parts, part, Presence, required, optional, addition, default}
 use Rattle.rasn_types.specs.Shapes.Parts.{none}
 pub use Rattle.rasn_types.specs.Contents.{AllFalse}
 use Rattle.rasn_types.specs.Contents.{IsShortest, Contents, BitSegment, joined_lists}
@@ -131,8 +131,8 @@ abbrev pub WritesList : Codec → Tag → Option (Bound ℕ) → Writing Tree �
 WritesList rule tag size writes t b = (ts : List Tree) × (bs : List (List ℕ)) × (t ≡ items ts) × Admits ◌≤◌ size (length ts)
     × Each writes ts bs × Cons rule tag (joined_lists bs) b
 
-abbrev pub WritesBag : Codec → Tag → Option (Bound ℕ) → Writing Tree → Writing Tree
-WritesBag rule tag size writes t b = (ts : List Tree) × (bs : List (List ℕ)) × (t ≡ walk (items ts)) × Admits ◌≤◌ size (length ts)
+abbrev pub WritesSetOf : Codec → Tag → Option (Bound ℕ) → Writing Tree → Writing Tree
+WritesSetOf rule tag size writes t b = (ts : List Tree) × (bs : List (List ℕ)) × (t ≡ walk (items ts)) × Admits ◌≤◌ size (length ts)
     × Each writes ts bs × DoNotFall IsLess bs × Cons rule tag (joined_lists bs) b
 
 -- What is written of the tree are open octets without a tag.
@@ -147,7 +147,7 @@ unfoldable mutual
   IsBare (seq tag ps) t = ⊥
   IsBare (set tag ps) t = ⊥
   IsBare (list tag s size) t = ⊥
-  IsBare (bag tag s size) t = ⊥
+  IsBare (set_of tag s size) t = ⊥
 
   pub IsBareIn : ℕ → Parts → Tree → Type 0
   IsBareIn k none t = ⊥
@@ -166,7 +166,7 @@ unfoldable mutual
   Bytes rule (seq tag ps) = WritesSeq rule tag (fields_of rule ps)
   Bytes rule (set tag ps) = WritesSet rule tag (fields_of rule ps)
   Bytes rule (list tag s size) = WritesList rule tag size (Bytes rule s)
-  Bytes rule (bag tag s size) = WritesBag rule tag size (Bytes rule s)
+  Bytes rule (set_of tag s size) = WritesSetOf rule tag size (Bytes rule s)
 
   pub fields_of : Codec → Parts → List Field
   fields_of rule none = []

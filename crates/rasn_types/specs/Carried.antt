@@ -4,7 +4,7 @@ use Rattle.rasn_types.specs.Tags.{loose_form, Codec, Tag}
 use Rattle.rasn_types.specs.Framing.{Frame, definite}
 use Rattle.rasn_types.specs.Calendar.{Day, Moment}
 use Rattle.rasn_types.specs.Times.{CarriedUtc, CarriedDay}
-use Rattle.rasn_types.specs.Shapes.{Tree, bits, numbers, instant, on_day, items, walk, chosen, absent, Kind, utc_time, generalized_time, date, Shape, leaf, any, prefix, choice, option, seq, set, list, bag, Parts, part, Presence, required, optional, addition, default}
+use Rattle.rasn_types.specs.Shapes.{Tree, bits, numbers, instant, on_day, items, walk, chosen, absent, Kind, utc_time, generalized_time, date, Shape, leaf, any, prefix, choice, option, seq, set, list, set_of, Parts, part, Presence, required, optional, addition, default}
 use Rattle.rasn_types.specs.Shapes.Parts.{none}
 use Rattle.rasn_types.specs.Grammar.{Family, plain, bit_family, text_family, family}
 use Rattle.rasn_types.specs.Bytes.{Same, IsCer, WritesText, Bytes}
@@ -52,7 +52,7 @@ unfoldable mutual
   Meets rule (seq tag ps) depth t = (0 < depth) × (ts : List Tree) × (t ≡ items ts) × MeetsParts rule ps (depth - 1) ts
   Meets rule (set tag ps) depth t = (0 < depth) × (ts : List Tree) × (t ≡ items ts) × MeetsParts rule ps (depth - 1) ts
   Meets rule (list tag s size) depth t = (0 < depth) × (ts : List Tree) × (t ≡ items ts) × EachOf (Meets rule s (depth - 2)) ts
-  Meets rule (bag tag s size) depth t = (0 < depth) × (ts : List Tree) × (t ≡ walk (items ts)) × EachOf (Meets rule s (depth - 2)) ts
+  Meets rule (set_of tag s size) depth t = (0 < depth) × (ts : List Tree) × (t ≡ walk (items ts)) × EachOf (Meets rule s (depth - 2)) ts
 
   pub MeetsParts : Codec → Parts → ℕ → List Tree → Type 0
   MeetsParts rule none depth ts = ts ≡ []

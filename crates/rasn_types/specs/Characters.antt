@@ -16,12 +16,12 @@ abbrev pub AreAdmitted : Alphabet → List ℕ → Type 0
 AreAdmitted a l = All (IsAdmitted a) l
 
 -- the kind of the string types with this alphabet
-abbrev pub kind_of : Alphabet → Kind
-kind_of Numeric = numeric
-kind_of Printable = printable
-kind_of Visible = visible
-kind_of Ia5 = ia5
-kind_of Every = any_octets
+abbrev pub string_kind : Alphabet → Kind
+string_kind Numeric = numeric
+string_kind Printable = printable
+string_kind Visible = visible
+string_kind Ia5 = ia5
+string_kind Every = any_octets
 
 -- Octets that are a whole number of 16-bit units.
 abbrev pub ArePaired : List ℕ → Type 0

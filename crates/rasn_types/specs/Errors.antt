@@ -11,8 +11,8 @@ abbrev pub needed_of : ℕ → Needed
 needed_of zero = Unknown
 needed_of (suc n) = Size (suc n)
 
-abbrev pub IsMemory : DecodeErrorKind → Type 0
-IsMemory kind = kind ≡ OutOfMemory
+abbrev pub IsOutOfMemory : DecodeErrorKind → Type 0
+IsOutOfMemory kind = kind ≡ OutOfMemory
 
-abbrev pub IsEncodeMemory : EncodeErrorKind → Type 0
-IsEncodeMemory kind = kind ≡ NoMemory
+abbrev pub IsEncodeOutOfMemory : EncodeErrorKind → Type 0
+IsEncodeOutOfMemory kind = kind ≡ NoMemory

@@ -5,7 +5,7 @@ use Rattle.rasn_types.specs.Order.{IsLess, DoNotFall}
 use Rattle.rasn_types.specs.Framing.{Frame, definite, indefinite, Whole, Wholes}
 use Rattle.rasn_types.specs.Calendar.{Day, Stamp}
 use Rattle.rasn_types.specs.Times.{GeneralUtc, CanonicalUtc, GeneralGeneralized, CanonicalGeneralized, StrictGeneralized, DateText}
-use Rattle.rasn_types.specs.Shapes.{Tree, number, bits, numbers, instant, on_day, items, walk, absent, Kind, boolean, null, object_identifier, bit_string, octet_string, integer, enumerated, fixed, numeric, printable, visible, ia5, any_octets, bmp, utf8, utc_time, generalized_time, date, Bound, Constraints, Admits, Shape, leaf, any, prefix, choice, option, seq, set, list, bag, Parts, part, own, IsFirst}
+use Rattle.rasn_types.specs.Shapes.{Tree, number, bits, numbers, instant, on_day, items, walk, absent, Kind, boolean, null, object_identifier, bit_string, octet_string, integer, enumerated, fixed, numeric, printable, visible, ia5, any_octets, bmp, utf8, utc_time, generalized_time, date, Bound, Constraints, Admits, Shape, leaf, any, prefix, choice, option, seq, set, list, set_of, Parts, part, own, IsFirst}
 use Rattle.rasn_types.specs.Shapes.Parts.{none}
 use Rattle.rasn_types.specs.Readers.{Reading, Inside, Many, ReadFrom, Perhaps, Part, ReadsSeq, ReadsChoice, ReadsSet}
 use Rattle.rasn_types.specs.Contents.{IsShortest, Contents, Str, ReadBits, OctetSegment}
@@ -116,8 +116,8 @@ ReadsAny rule input t rest = (text : List ℕ) × (t ≡ numbers text) × Whole 
 abbrev pub ReadsList : Option (Bound ℕ) → Reading Tree → Bool → Reading Tree
 ReadsList size reads closing input t rest = (ts : List Tree) × (t ≡ items ts) × Admits ◌≤◌ size (length ts) × Many reads closing input ts rest
 
-abbrev pub ReadsBag : Codec → Option (Bound ℕ) → Reading Tree → Bool → Reading Tree
-ReadsBag rule size reads closing input t rest = (ts : List Tree) × (t ≡ walk (items ts)) × Admits ◌≤◌ size (length ts) × Many reads closing input ts rest
+abbrev pub ReadsSetOf : Codec → Option (Bound ℕ) → Reading Tree → Bool → Reading Tree
+ReadsSetOf rule size reads closing input t rest = (ts : List Tree) × (t ≡ walk (items ts)) × Admits ◌≤◌ size (length ts) × Many reads closing input ts rest
     × (IsStrict rule → (bs : List (List ℕ)) × ReadFrom reads input ts rest bs × DoNotFall IsLess bs)
 
 -- Reads rule shape depth closing input tree rest: the input begins with a value of the shape, and the rest is left.
@@ -132,7 +132,7 @@ unfoldable mutual
   Reads rule (seq tag ps) depth closing = λ input t rest. (0 < depth) × Inside rule tag true (λ c. ReadsSeq rule (parts_of rule ps (depth - 1) c) c) input t rest
   Reads rule (set tag ps) depth closing = λ input t rest. (0 < depth) × Inside rule tag true (λ c. ReadsSet rule (parts_of rule ps (depth - 1) c) c) input t rest
   Reads rule (list tag s size) depth closing = λ input t rest. (0 < depth) × Inside rule tag true (λ c. ReadsList size (Reads rule s (depth - 2) c) c) input t rest
-  Reads rule (bag tag s size) depth closing = λ input t rest. (0 < depth) × Inside rule tag true (λ c. ReadsBag rule size (Reads rule s (depth - 2) c) c) input t rest
+  Reads rule (set_of tag s size) depth closing = λ input t rest. (0 < depth) × Inside rule tag true (λ c. ReadsSetOf rule size (Reads rule s (depth - 2) c) c) input t rest
 
   pub parts_of : Codec → Parts → ℕ → Bool → List Part
   parts_of rule none depth closing = []

@@ -1,7 +1,7 @@
 -- Lawful shapes.
 use Rattle.std.specs.Prelude.{◌≡◌, ◌⊎◌, ◌≢◌, false, Option, Some, None}
 use Rattle.rasn_types.specs.Tags.{tag_bit, Tag, eoc, IsTagBelow}
-use Rattle.rasn_types.specs.Shapes.{Shape, leaf, any, prefix, choice, option, seq, set, list, bag, Parts, part, own, IsFirst, IsFirstOf, Presence, required, optional, addition, default, IsSolid}
+use Rattle.rasn_types.specs.Shapes.{Shape, leaf, any, prefix, choice, option, seq, set, list, set_of, Parts, part, own, IsFirst, IsFirstOf, Presence, required, optional, addition, default, IsSolid}
 use Rattle.rasn_types.specs.Shapes.Parts.{none}
 use Rattle.rasn_types.specs.Grammar.{Family, plain, bit_family, text_family, family}
 
@@ -49,7 +49,7 @@ unfoldable mutual
   IsLawful (seq tag ps) = (tag ≢ eoc) × AreLawfulInOrder ps
   IsLawful (set tag ps) = (tag ≢ eoc) × AreLawfulByTag ps
   IsLawful (list tag s size) = (tag ≢ eoc) × IsSolid s × IsLawful s
-  IsLawful (bag tag s size) = (tag ≢ eoc) × IsSolid s × IsLawful s
+  IsLawful (set_of tag s size) = (tag ≢ eoc) × IsSolid s × IsLawful s
 
   pub AreAlternatives : Parts → Type 0
   AreAlternatives none = Unit {0}

@@ -1,6 +1,6 @@
 pub mod Tags
 pub mod Framing
-pub mod Given
+pub mod Tagging
 pub mod Calendar
 pub mod Spelling
 pub mod Times
@@ -23,4 +23,4 @@ pub mod Bits
 pub mod Packing
 pub mod Equality
 pub mod Alike
-pub mod Bags
+pub mod SetsOf

@@ -85,7 +85,7 @@ mutual
     seq : Tag → Parts → Shape
     set : Tag → Parts → Shape
     list : Tag → Shape → Option (Bound ℕ) → Shape
-    bag : Tag → Shape → Option (Bound ℕ) → Shape
+    set_of : Tag → Shape → Option (Bound ℕ) → Shape
 
   -- the parts of a SEQUENCE or a SET, or the alternatives of a CHOICE, which are all required
   pub data Parts : Type 0 where
@@ -102,7 +102,7 @@ own (option tag s) = own s
 own (seq tag parts) = Some tag
 own (set tag parts) = Some tag
 own (list tag s size) = Some tag
-own (bag tag s size) = Some tag
+own (set_of tag s size) = Some tag
 
 abbrev pub IsTagOf : Option Tag → Tag → Type 0
 IsTagOf None n = Unit {0}
@@ -119,7 +119,7 @@ abbrev mutual
   IsFirst (seq tag parts) n = n ≡ tag
   IsFirst (set tag parts) n = n ≡ tag
   IsFirst (list tag s size) n = n ≡ tag
-  IsFirst (bag tag s size) n = n ≡ tag
+  IsFirst (set_of tag s size) n = n ≡ tag
 
   pub IsFirstOf : Parts → Tag → Type 0
   IsFirstOf none n = ⊥
@@ -131,16 +131,16 @@ looked_for tag = if is_eoc tag then None else Some tag
 
 -- The shape under another outermost tag and other constraints: an implicit tag replaces the outermost one (X.680 31.2.7).
 -- A CHOICE has none to replace, and universal 0 takes an open type's away.
-abbrev pub given : Tag → Constraints → Shape → Shape
-given t c (leaf kind tag bounds) = leaf kind t c
-given t c (any tag) = any (looked_for t)
-given t c (prefix tag s) = prefix t s
-given t c (choice parts) = choice parts
-given t c (option tag s) = option (looked_for t) (given t c s)
-given t c (seq tag parts) = seq t parts
-given t c (set tag parts) = set t parts
-given t c (list tag s size) = list t s c.size
-given t c (bag tag s size) = bag t s c.size
+abbrev pub tagged_as : Tag → Constraints → Shape → Shape
+tagged_as t c (leaf kind tag bounds) = leaf kind t c
+tagged_as t c (any tag) = any (looked_for t)
+tagged_as t c (prefix tag s) = prefix t s
+tagged_as t c (choice parts) = choice parts
+tagged_as t c (option tag s) = option (looked_for t) (tagged_as t c s)
+tagged_as t c (seq tag parts) = seq t parts
+tagged_as t c (set tag parts) = set t parts
+tagged_as t c (list tag s size) = list t s c.size
+tagged_as t c (set_of tag s size) = set_of t s c.size
 
 -- Every value of a solid shape is there.
 abbrev mutual
@@ -153,7 +153,7 @@ abbrev mutual
   IsSolid (seq tag parts) = Unit {0}
   IsSolid (set tag parts) = Unit {0}
   IsSolid (list tag s size) = Unit {0}
-  IsSolid (bag tag s size) = Unit {0}
+  IsSolid (set_of tag s size) = Unit {0}
 
   pub AreSolid : Parts → Type 0
   AreSolid none = Unit {0}

@@ -4,11 +4,11 @@ ghost use Rattle.rasn_types.specs.declared.types.rules.Codec.{Codec};
 ghost use Rattle.rasn_types.specs.Framing.{AreOctets, Next};
 ghost use Rattle.rasn_types.specs.Tags.{form, IsStrict};
 ghost use Rattle.rasn_types.specs.Grammar.{top};
-ghost use Rattle.rasn_de.specs.Causes.{in_ber, kind_of};
+ghost use Rattle.rasn_de.specs.Causes.{in_ber, error_kind};
 ghost use Rattle.rasn_de.specs.State.{State, at, IsEnd};
 ghost use Rattle.rasn_de.specs.Taking.{Takes, Peeks};
 ghost use Rattle.rasn_types.specs.declared.types.tag.Tag.{Tag};
-ghost use Rattle.rasn_types.specs.Errors.{IsMemory};
+ghost use Rattle.rasn_types.specs.Errors.{IsOutOfMemory};
 
 use crate::ber::de::parser::headers::{Expected, Spelling};
 use crate::ber::de::parser::{Fault, Value, read_identifier, read_value};
@@ -20,7 +20,6 @@ use rasn_types::types::{Codec, Tag};
 use std::alloc::Global;
 use std::marker::Model;
 
-mod bags;
 mod bits;
 mod choice;
 mod config;
@@ -37,6 +36,7 @@ mod parser;
 mod prefix;
 mod sequences;
 mod sets;
+mod sets_of;
 mod strings;
 mod times;
 
@@ -82,8 +82,8 @@ fn in_ber(inner: BerDecodeErrorKind) -> DecodeErrorKind
 /// The kind of error that stands for a fault.
 #[cold]
 #[inline(never)]
-fn kind_of(fault: Fault) -> DecodeErrorKind
-    ensures { result ≡ kind_of fault }
+fn error_kind(fault: Fault) -> DecodeErrorKind
+    ensures { result ≡ error_kind fault }
 {
     use BerDecodeErrorKind as Ber;
     use DecodeErrorKind as Kind;
@@ -187,7 +187,7 @@ impl<'input> Decoder<'input> {
     pub fn peek_tag(&self) -> Result<Tag, DecodeError>
         ensures next { MatchResult result (λ t. Next (form self.now.rule) self.now.rest t) (λ _. (t : Tag) → Next (form self.now.rule) self.now.rest t → ⊥) }
         ensures refused { Peeks self.now result }
-        ensures memory { IfErr result (λ e. IsMemory e.kind → ⊥) }
+        ensures memory { IfErr result (λ e. IsOutOfMemory e.kind → ⊥) }
     {
         match read_identifier(Spelling::of_rule(self.rules).shortest, self.rest) {
             Ok((found, _)) => Ok(found.tag),
@@ -199,10 +199,10 @@ impl<'input> Decoder<'input> {
     #[cold]
     #[inline(never)]
     fn error(&self, fault: Fault) -> DecodeError
-        ensures { result ≡ record { kind = kind_of fault; codec = self.now.rule } }
+        ensures { result ≡ record { kind = error_kind fault; codec = self.now.rule } }
     {
         DecodeError {
-            kind: kind_of(fault),
+            kind: error_kind(fault),
             codec: self.rules,
         }
     }

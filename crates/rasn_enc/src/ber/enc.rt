@@ -5,11 +5,10 @@ ghost use Rattle.rasn_types.specs.Bytes.{Prim, IsLess};
 ghost use Rattle.rasn_types.specs.Shapes.{Admits};
 ghost use Rattle.rasn_enc.specs.Refusals.{RefusesSize};
 ghost use Rattle.rasn_enc.specs.View.{started, AreTagsInOrder};
-ghost use Rattle.rasn_enc.specs.Primitives.{Appends, WantsMemory, TellsOrder};
+ghost use Rattle.rasn_enc.specs.Primitives.{Appends, TellsOutOfMemory, TellsOrder};
 ghost use Rattle.rasn_enc.specs.declared.ber.enc.filled.Unfilled.TheVariants.{NoMemory};
 ghost use Rattle.rasn_enc.specs.Filled.{FillsBehind, RefusesToFill, AppendsFilled};
 
-mod bags;
 mod base_128;
 mod bits;
 mod choice;
@@ -36,6 +35,7 @@ mod rendering;
 mod segments;
 mod sequences;
 mod sets;
+mod sets_of;
 mod strings;
 mod times;
 mod writer;
@@ -49,7 +49,8 @@ use std::alloc::Global;
 use std::marker::Model;
 use writer::Writer;
 
-/// Writes values. To contracts it is the list of octets written so far, with a list for each value that is still open.
+/// Writes values. To contracts it is the list of octets written so far, with a list for each value that is still open. The names
+/// that its calls take (`Identifier`) are ignored: no rule of X.690 writes them.
 #[derive(Drop)]
 pub struct Encoder {
     writer: Writer,
@@ -70,7 +71,7 @@ impl Encoder {
     /// `OutOfMemory`: it reserves 1024 octets.
     pub fn new(alloc: Global, options: EncoderOptions) -> Result<Encoder, EncodeError>
         ensures ok { IfOk result (λ e. e ≡ started options false) }
-        ensures refused { IfErr result (WantsMemory options) }
+        ensures refused { IfErr result (TellsOutOfMemory options) }
     {
         Encoder::new_with_buffer(alloc, options, Vec::new(alloc))
     }
@@ -81,7 +82,7 @@ impl Encoder {
     /// `OutOfMemory`: it reserves 1024 octets.
     pub fn new_set(alloc: Global, options: EncoderOptions) -> Result<Encoder, EncodeError>
         ensures ok { IfOk result (λ e. e ≡ started options true) }
-        ensures refused { IfErr result (WantsMemory options) }
+        ensures refused { IfErr result (TellsOutOfMemory options) }
     {
         let writer = Writer::over(alloc, options.current_codec(), Vec::new(alloc), true)?;
         Ok(Encoder { writer })
@@ -97,7 +98,7 @@ impl Encoder {
         buffer: Vec<u8>,
     ) -> Result<Encoder, EncodeError>
         ensures ok { IfOk result (λ e. e ≡ started options false) }
-        ensures refused { IfErr result (WantsMemory options) }
+        ensures refused { IfErr result (TellsOutOfMemory options) }
     {
         let writer = Writer::over(alloc, options.current_codec(), buffer, false)?;
         Ok(Encoder { writer })
@@ -122,7 +123,7 @@ impl Encoder {
     pub fn output(self) -> Result<Vec<u8>, EncodeError>
         ensures ok { IfOk result (λ v. v.items ≡ self.last.octets) }
         ensures order { OnOk result (AreTagsInOrder self) }
-        ensures refused { IfErr result (λ e. WantsMemory self.rule e ⊎ ((AreTagsInOrder self → ⊥) × TellsOrder self.rule e)) }
+        ensures refused { IfErr result (λ e. TellsOutOfMemory self.rule e ⊎ ((AreTagsInOrder self → ⊥) × TellsOrder self.rule e)) }
     {
         if self.tags_fall() {
             return Err(out_of_order(self.codec()));
@@ -176,7 +177,7 @@ impl Encoder {
     fn leaf(&mut self, tag: Tag, contents: &[u8]) -> Result<(), EncodeError>
         ensures ok { OnOk result (Appends (Prim tag contents.now) tag self.old self.new) }
         ensures err { OnErr result (self.new ≡ self.old) }
-        ensures memory { IfErr result (WantsMemory self.old.rule) }
+        ensures memory { IfErr result (TellsOutOfMemory self.old.rule) }
     {
         self.writer.leaf(tag, contents)
     }
@@ -200,7 +201,7 @@ impl Encoder {
     fn leaf_of<T: Contents>(&mut self, tag: Tag, value: &T) -> Result<(), EncodeError>
         ensures ok { OnOk result ((contents : List ℕ) × T.IsWritten value.now contents × Appends (Prim tag contents) tag self.old self.new) }
         ensures err { OnErr result (self.new ≡ self.old) }
-        ensures memory { IfErr result (WantsMemory self.old.rule) }
+        ensures memory { IfErr result (TellsOutOfMemory self.old.rule) }
     {
         let rule = self.codec();
         match self.leaf_with(tag, |octets: &mut Vec<u8>| fill_with(value, octets)) {
@@ -222,7 +223,7 @@ fn out_of_order(codec: Codec) -> EncodeError
 }
 
 fn out_of_memory(codec: Codec) -> EncodeError
-    ensures { WantsMemory codec result }
+    ensures { TellsOutOfMemory codec result }
 {
     EncodeError {
         kind: EncodeErrorKind::OutOfMemory,

@@ -1,4 +1,4 @@
-use crate::reading::decoder_of;
+use crate::reading::{decoder_of, facts};
 use crate::writing::made;
 use rasn_de::de::Decode;
 use rasn_types::error::{DecodeError, DecodeErrorKind, Needed};
@@ -25,15 +25,20 @@ fn number(rt: &impl Abort, alloc: Global, octets: &[u8]) -> Integer {
     made(rt, Integer::from_octets(alloc, octets))
 }
 
+/// What `==`, `<` and `>` say of the numbers of these octets.
+fn compared(rt: &impl Abort, alloc: Global, octets: &[u8], others: &[u8]) -> (bool, bool, bool) {
+    let (one, other) = (number(rt, alloc, octets), number(rt, alloc, others));
+    (one == other, one < other, one > other)
+}
+
 #[test]
 fn orders_numbers(rt: HostRuntime) {
     let alloc = rt.alloc();
     for (place, octets) in NUMBERS.iter().enumerate() {
-        let least = number(&rt, alloc, octets);
-        assert!(rt; least == number(&rt, alloc, octets));
+        assert!(rt; compared(&rt, alloc, octets, octets) == (true, false, false));
         for others in &NUMBERS[place + 1..] {
-            assert!(rt; least < number(&rt, alloc, others));
-            assert!(rt; number(&rt, alloc, others) > least);
+            assert!(rt; compared(&rt, alloc, octets, others) == (false, true, false));
+            assert!(rt; compared(&rt, alloc, others, octets) == (false, false, true));
         }
     }
 }
@@ -45,25 +50,39 @@ fn arcs(rt: &impl Abort, alloc: Global, arcs: &[u32]) -> ObjectIdentifier {
     }
 }
 
-// By the first arcs that differ; one that another begins with comes first.
+/// Arcs from the least on: by the first that differ; one that another begins with comes first.
+const ARCS: &[&[u32]] = &[&[1, 2], &[1, 2, 840], &[1, 3], &[2, 1]];
+
+/// Whether `<` holds of the object identifiers of these arcs.
+fn is_less(rt: &impl Abort, alloc: Global, least: &[u32], more: &[u32]) -> bool {
+    arcs(rt, alloc, least) < arcs(rt, alloc, more)
+}
+
 #[test]
 fn orders_arcs(rt: HostRuntime) {
-    let alloc = rt.alloc();
-    let rows: [&[u32]; 4] = [&[1, 2], &[1, 2, 840], &[1, 3], &[2, 1]];
-    for (place, least) in rows.iter().enumerate() {
-        for more in &rows[place + 1..] {
-            assert!(rt; arcs(&rt, alloc, least) < arcs(&rt, alloc, more));
+    for (place, least) in ARCS.iter().enumerate() {
+        for more in &ARCS[place + 1..] {
+            assert!(rt; is_less(&rt, rt.alloc(), least, more));
         }
     }
+}
+
+fn view<'a>(rt: &impl Abort, octets: &'a [u8], start: usize, len: usize) -> BitStr<'a> {
+    made(rt, Ok(BitStr::new(octets, start, len)))
 }
 
 // Views of the bits 1,0,1 at two places, of 1,0,0, and of 1,0.
 #[test]
 fn compares_views_of_bits(rt: HostRuntime) {
-    let front = made(&rt, Ok(BitStr::new(&[0xA0], 0, 3)));
-    assert!(rt; front == made(&rt, Ok(BitStr::new(&[0x01, 0x40], 7, 3))));
-    assert!(rt; front != made(&rt, Ok(BitStr::new(&[0x80], 0, 3))));
-    assert!(rt; front != made(&rt, Ok(BitStr::new(&[0xA0], 0, 2))));
+    let front = view(&rt, &[0xA0], 0, 3);
+    facts(
+        &rt,
+        &[
+            front == view(&rt, &[0x01, 0x40], 7, 3),
+            front != view(&rt, &[0x80], 0, 3),
+            front != view(&rt, &[0xA0], 0, 2),
+        ],
+    );
 }
 
 // Errors are equal where their kinds, fields and rules are.

@@ -104,12 +104,13 @@ fn tells_octets_and_tags(rt: HostRuntime) {
 #[test]
 fn tells_numbers_and_bounds(rt: HostRuntime) {
     let alloc = rt.alloc();
-    let overflow = "BER: the number doesn't fit 8 bits, or is negative and the type has no sign";
+    const OVERFLOW: &str =
+        "BER: the number doesn't fit 8 bits, or is negative and the type has no sign";
     shows::<u8>(
         &rt,
         alloc,
         &Constraints::NONE,
-        &[(&[0x02, 0x01, 0xFF], Codec::Ber, overflow)],
+        &[(&[0x02, 0x01, 0xFF], Codec::Ber, OVERFLOW)],
     );
     shows::<Integer>(
         &rt,

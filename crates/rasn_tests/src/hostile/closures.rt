@@ -67,13 +67,13 @@ fn drops_a_sequence(rt: &impl Abort, alloc: Global, octets: &[u8], text: &str, t
 #[test]
 fn a_dropped_refusal_leaves_what_it_leaves(rt: HostRuntime) {
     let alloc = rt.alloc();
-    let taken = [0x30, 0x04, 0x01, 0x02, 0x00, 0x00];
-    drops_a_boolean(&rt, alloc, &taken, TRUE_ALONE, 6);
-    let cut = [0x30, 0x02, 0x01, 0x05];
-    let left = "UnexpectedExtraData { length: 2 }";
-    drops_a_boolean(&rt, alloc, &cut, left, 4);
-    let unclosed = "CodecSpecific { inner: Ber(MissingEndOfContents) }";
-    drops_a_boolean(&rt, alloc, &[0x30, 0x80, 0x01, 0x05], unclosed, 2);
+    const TAKEN: &[u8] = &[0x30, 0x04, 0x01, 0x02, 0x00, 0x00];
+    drops_a_boolean(&rt, alloc, TAKEN, TRUE_ALONE, 6);
+    const CUT: &[u8] = &[0x30, 0x02, 0x01, 0x05];
+    const LEFT: &str = "UnexpectedExtraData { length: 2 }";
+    drops_a_boolean(&rt, alloc, CUT, LEFT, 4);
+    const UNCLOSED: &str = "CodecSpecific { inner: Ber(MissingEndOfContents) }";
+    drops_a_boolean(&rt, alloc, &[0x30, 0x80, 0x01, 0x05], UNCLOSED, 2);
 }
 
 // A refused value of definite length is taken whole, one of indefinite length to its header: the end-of-contents octets of the inner value
@@ -81,10 +81,10 @@ fn a_dropped_refusal_leaves_what_it_leaves(rt: HostRuntime) {
 #[test]
 fn a_dropped_value_is_gone_on_from(rt: HostRuntime) {
     let alloc = rt.alloc();
-    let definite = [0x30, 0x05, 0x30, 0x03, 0x02, 0x01, 0x01];
-    drops_a_sequence(&rt, alloc, &definite, TRUE_ALONE, 7);
-    let indefinite = [0x30, 0x80, 0x30, 0x80, 0x00, 0x00, 0x00, 0x00];
-    drops_a_sequence(&rt, alloc, &indefinite, TRUE_ALONE, 6);
+    const DEFINITE: &[u8] = &[0x30, 0x05, 0x30, 0x03, 0x02, 0x01, 0x01];
+    drops_a_sequence(&rt, alloc, DEFINITE, TRUE_ALONE, 7);
+    const INDEFINITE: &[u8] = &[0x30, 0x80, 0x30, 0x80, 0x00, 0x00, 0x00, 0x00];
+    drops_a_sequence(&rt, alloc, INDEFINITE, TRUE_ALONE, 6);
 }
 
 // An element that answers a value and takes nothing is refused with the length left, also of a list in a list, and of contents of
@@ -92,12 +92,12 @@ fn a_dropped_value_is_gone_on_from(rt: HostRuntime) {
 #[test]
 fn refuses_elements_of_nothing(rt: HostRuntime) {
     let alloc = rt.alloc();
-    let nested = &[0x30, 0x05, 0x30, 0x03, 0x02, 0x01, 0x05];
-    let three = "UnexpectedExtraData { length: 3 }";
-    reads::<Vec<Vec<Option<bool>>>>(&rt, alloc, &[(nested, Codec::Der, three, 7)]);
-    let open = &[0x31, 0x80, 0x02, 0x01, 0x05, 0x00, 0x00, 0x01];
-    let six = "UnexpectedExtraData { length: 6 }";
-    reads::<SetOf<Option<bool>>>(&rt, alloc, &[(open, Codec::Cer, six, 2)]);
+    const NESTED: &[u8] = &[0x30, 0x05, 0x30, 0x03, 0x02, 0x01, 0x05];
+    const THREE: &str = "UnexpectedExtraData { length: 3 }";
+    reads::<Vec<Vec<Option<bool>>>>(&rt, alloc, &[(NESTED, Codec::Der, THREE, 7)]);
+    const OPEN: &[u8] = &[0x31, 0x80, 0x02, 0x01, 0x05, 0x00, 0x00, 0x01];
+    const SIX: &str = "UnexpectedExtraData { length: 6 }";
+    reads::<SetOf<Option<bool>>>(&rt, alloc, &[(OPEN, Codec::Cer, SIX, 2)]);
 }
 
 /// SET { \[0\], \[1\] }
@@ -146,6 +146,6 @@ fn write_past_a_set(encoder: &mut Encoder) -> Result<(), EncodeError> {
 fn a_dropped_set_leaves_no_tag(rt: HostRuntime) {
     let mut encoder = new_encoder(&rt, rt.alloc(), Codec::Der);
     done(&rt, write_past_a_set(&mut encoder));
-    let octets = [0x31, 0x06, 0x80, 0x01, 0x01, 0x81, 0x01, 0x02];
-    holds(&rt, encoder.output(), &octets);
+    const OCTETS: &[u8] = &[0x31, 0x06, 0x80, 0x01, 0x01, 0x81, 0x01, 0x02];
+    holds(&rt, encoder.output(), OCTETS);
 }

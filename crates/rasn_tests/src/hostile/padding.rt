@@ -36,8 +36,8 @@ fn lengths_of_126_octets(rt: HostRuntime) {
 #[test]
 fn headers_in_more_octets(rt: HostRuntime) {
     let alloc = rt.alloc();
-    let sequence = [0x30, 0x83, 0x00, 0x00, 0x03, 0x01, 0x01, 0xFF];
-    let mut decoder = decoder_of(alloc, &sequence, Codec::Ber);
+    const SEQUENCE: &[u8] = &[0x30, 0x83, 0x00, 0x00, 0x03, 0x01, 0x01, 0xFF];
+    let mut decoder = decoder_of(alloc, SEQUENCE, Codec::Ber);
     told(
         &rt,
         alloc,
@@ -46,15 +46,15 @@ fn headers_in_more_octets(rt: HostRuntime) {
         TRUE_ALONE,
     );
     assert!(rt; decoder.decoded_len() == 8);
-    let padded = &[0x1F, 0x80, 0x01, 0x01, 0xFF];
-    let kind = "CodecSpecific { inner: Der(NonMinimalTagNumber) }";
+    const PADDED: &[u8] = &[0x1F, 0x80, 0x01, 0x01, 0xFF];
+    const KIND: &str = "CodecSpecific { inner: Der(NonMinimalTagNumber) }";
     reads::<bool>(
         &rt,
         alloc,
         &[
-            (padded, Codec::Ber, "true", 5),
-            (padded, Codec::Cer, "true", 5),
-            (padded, Codec::Der, kind, 0),
+            (PADDED, Codec::Ber, "true", 5),
+            (PADDED, Codec::Cer, "true", 5),
+            (PADDED, Codec::Der, KIND, 0),
         ],
     );
 }
@@ -66,26 +66,26 @@ const NEVER: &str = "Incomplete { needed: Size(18446744073709551615) }";
 #[test]
 fn lengths_beyond_any_input(rt: HostRuntime) {
     let alloc = rt.alloc();
-    let huge = &[0x04, 0x88, 0xFF, 0xFF, 0xFF, 0xFF, 0xFF, 0xFF, 0xFF, 0xFF];
-    let padded = &[
+    const HUGE: &[u8] = &[0x04, 0x88, 0xFF, 0xFF, 0xFF, 0xFF, 0xFF, 0xFF, 0xFF, 0xFF];
+    const PADDED: &[u8] = &[
         0x04, 0x89, 0x00, 0xFF, 0xFF, 0xFF, 0xFF, 0xFF, 0xFF, 0xFF, 0xFF,
     ];
-    let wide = &[
+    const WIDE: &[u8] = &[
         0x04, 0x89, 0x01, 0x00, 0x00, 0x00, 0x00, 0x00, 0x00, 0x00, 0x00,
     ];
-    let segment = &[
+    const SEGMENT: &[u8] = &[
         0x24, 0x0A, 0x04, 0x88, 0xFF, 0xFF, 0xFF, 0xFF, 0xFF, 0xFF, 0xFF, 0xFF,
     ];
     reads::<OctetString>(
         &rt,
         alloc,
         &[
-            (huge, Codec::Ber, NEVER, 0),
-            (huge, Codec::Der, NEVER, 0),
-            (padded, Codec::Cer, NEVER, 0),
-            (wide, Codec::Ber, "LengthExceedsPlatformWidth", 0),
-            (wide, Codec::Der, "LengthExceedsPlatformWidth", 0),
-            (segment, Codec::Ber, NEVER, 0),
+            (HUGE, Codec::Ber, NEVER, 0),
+            (HUGE, Codec::Der, NEVER, 0),
+            (PADDED, Codec::Cer, NEVER, 0),
+            (WIDE, Codec::Ber, "LengthExceedsPlatformWidth", 0),
+            (WIDE, Codec::Der, "LengthExceedsPlatformWidth", 0),
+            (SEGMENT, Codec::Ber, NEVER, 0),
         ],
     );
 }
@@ -93,38 +93,38 @@ fn lengths_beyond_any_input(rt: HostRuntime) {
 // The same of what stands inside: an element's refusal takes the list's contents, an open type's nothing.
 #[test]
 fn lengths_beyond_any_contents(rt: HostRuntime) {
-    let definite = &[
+    const DEFINITE: &[u8] = &[
         0x30, 0x0A, 0x01, 0x88, 0xFF, 0xFF, 0xFF, 0xFF, 0xFF, 0xFF, 0xFF, 0xFF,
     ];
-    let indefinite = &[
+    const INDEFINITE: &[u8] = &[
         0x30, 0x80, 0x01, 0x88, 0xFF, 0xFF, 0xFF, 0xFF, 0xFF, 0xFF, 0xFF, 0xFF,
     ];
     reads::<Vec<bool>>(
         &rt,
         rt.alloc(),
         &[
-            (definite, Codec::Der, NEVER, 12),
-            (indefinite, Codec::Ber, NEVER, 2),
+            (DEFINITE, Codec::Der, NEVER, 12),
+            (INDEFINITE, Codec::Ber, NEVER, 2),
         ],
     );
-    reads::<Any>(&rt, rt.alloc(), &[(indefinite, Codec::Ber, NEVER, 0)]);
+    reads::<Any>(&rt, rt.alloc(), &[(INDEFINITE, Codec::Ber, NEVER, 0)]);
 }
 
 // Universal 0 is the tag of no value, in whatever octets it is spelled (X.690 8.1.2.4, 8.1.5).
 #[test]
 fn universal_0_is_no_value(rt: HostRuntime) {
-    let end = "CodecSpecific { inner: Ber(UnexpectedEndOfContents) }";
+    const END: &str = "CodecSpecific { inner: Ber(UnexpectedEndOfContents) }";
     reads::<bool>(
         &rt,
         rt.alloc(),
         &[
-            (&[0x00, 0x01, 0xFF], Codec::Ber, end, 0),
-            (&[0x20, 0x01, 0xFF], Codec::Cer, end, 0),
-            (&[0x1F, 0x00, 0x01, 0xFF], Codec::Ber, end, 0),
-            (&[0x1F, 0x00, 0x01, 0xFF], Codec::Der, end, 0),
-            (&[0x3F, 0x80, 0x00, 0x01, 0xFF], Codec::Ber, end, 0),
-            (&[0x3F, 0x80, 0x00, 0x01, 0xFF], Codec::Cer, end, 0),
-            (&[0x3F, 0x80, 0x00, 0x01, 0xFF], Codec::Der, end, 0),
+            (&[0x00, 0x01, 0xFF], Codec::Ber, END, 0),
+            (&[0x20, 0x01, 0xFF], Codec::Cer, END, 0),
+            (&[0x1F, 0x00, 0x01, 0xFF], Codec::Ber, END, 0),
+            (&[0x1F, 0x00, 0x01, 0xFF], Codec::Der, END, 0),
+            (&[0x3F, 0x80, 0x00, 0x01, 0xFF], Codec::Ber, END, 0),
+            (&[0x3F, 0x80, 0x00, 0x01, 0xFF], Codec::Cer, END, 0),
+            (&[0x3F, 0x80, 0x00, 0x01, 0xFF], Codec::Der, END, 0),
         ],
     );
 }
@@ -132,23 +132,23 @@ fn universal_0_is_no_value(rt: HostRuntime) {
 // Nor does another spelling of it close contents.
 #[test]
 fn two_zeros_alone_close_contents(rt: HostRuntime) {
-    let end = "CodecSpecific { inner: Ber(UnexpectedEndOfContents) }";
-    let long = &[0x30, 0x80, 0x1F, 0x00, 0x00, 0x00, 0x00];
-    let constructed = &[0x30, 0x80, 0x20, 0x00, 0x00, 0x00];
+    const END: &str = "CodecSpecific { inner: Ber(UnexpectedEndOfContents) }";
+    const LONG: &[u8] = &[0x30, 0x80, 0x1F, 0x00, 0x00, 0x00, 0x00];
+    const CONSTRUCTED: &[u8] = &[0x30, 0x80, 0x20, 0x00, 0x00, 0x00];
     reads::<Vec<bool>>(
         &rt,
         rt.alloc(),
         &[
-            (long, Codec::Ber, end, 2),
-            (constructed, Codec::Cer, end, 2),
+            (LONG, Codec::Ber, END, 2),
+            (CONSTRUCTED, Codec::Cer, END, 2),
         ],
     );
     reads::<Any>(
         &rt,
         rt.alloc(),
         &[
-            (long, Codec::Ber, end, 0),
-            (constructed, Codec::Cer, end, 0),
+            (LONG, Codec::Ber, END, 0),
+            (CONSTRUCTED, Codec::Cer, END, 0),
         ],
     );
 }

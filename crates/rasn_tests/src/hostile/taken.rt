@@ -35,17 +35,17 @@ const END: &str = "CodecSpecific { inner: Ber(UnexpectedEndOfContents) }";
 #[test]
 fn leaves_take_what_was_read(rt: HostRuntime) {
     let alloc = rt.alloc();
-    let length = "MismatchedLength { expected: 1, actual: 2 }";
-    let bit = "CodecSpecific { inner: Der(ConstructedBitMismatch) }";
+    const LENGTH: &str = "MismatchedLength { expected: 1, actual: 2 }";
+    const BIT: &str = "CodecSpecific { inner: Der(ConstructedBitMismatch) }";
     reads::<bool>(
         &rt,
         alloc,
         &[
-            (&[0x01, 0x02, 0x00, 0x00], Codec::Ber, length, 4),
-            (&[0x01, 0x02, 0x00, 0x00], Codec::Der, length, 4),
+            (&[0x01, 0x02, 0x00, 0x00], Codec::Ber, LENGTH, 4),
+            (&[0x01, 0x02, 0x00, 0x00], Codec::Der, LENGTH, 4),
             (&[0x21, 0x80, 0x00, 0x00], Codec::Ber, INDEFINITE, 2),
             (&[0x21, 0x80, 0x00, 0x00], Codec::Cer, INDEFINITE, 2),
-            (&[0x21, 0x80, 0x00, 0x00], Codec::Der, bit, 0),
+            (&[0x21, 0x80, 0x00, 0x00], Codec::Der, BIT, 0),
         ],
     );
     reads::<VisibleString>(
@@ -147,9 +147,9 @@ fn faults_inside_strings_take_nothing(rt: HostRuntime) {
 #[test]
 fn gathered_strings_are_taken(rt: HostRuntime) {
     let alloc = rt.alloc();
-    let size = "SizeConstraintNotSatisfied { size: Some(1), expected: Single(2) }";
-    let segments = &[0x24, 0x80, 0x04, 0x01, 0xA1, 0x00, 0x00];
-    reads_within::<OctetString>(&rt, alloc, &sized(2), &[(segments, Codec::Ber, size, 7)]);
+    const SIZE: &str = "SizeConstraintNotSatisfied { size: Some(1), expected: Single(2) }";
+    const SEGMENTS: &[u8] = &[0x24, 0x80, 0x04, 0x01, 0xA1, 0x00, 0x00];
+    reads_within::<OctetString>(&rt, alloc, &sized(2), &[(SEGMENTS, Codec::Ber, SIZE, 7)]);
     reads::<GeneralizedTime>(
         &rt,
         alloc,

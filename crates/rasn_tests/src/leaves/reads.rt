@@ -26,18 +26,18 @@ fn reads_booleans(rt: HostRuntime) {
 // A number is read in more octets than it needs.
 #[test]
 fn reads_padded_integers(rt: HostRuntime) {
-    let octets = &[0x02, 0x06, 0xFF, 0xFF, 0xFF, 0xFF, 0x7F, 0x00];
-    reads::<i32>(&rt, rt.alloc(), &[(octets, Codec::Ber, "-33024", 8)]);
+    const OCTETS: &[u8] = &[0x02, 0x06, 0xFF, 0xFF, 0xFF, 0xFF, 0x7F, 0x00];
+    reads::<i32>(&rt, rt.alloc(), &[(OCTETS, Codec::Ber, "-33024", 8)]);
 }
 
 // Segments of definite and indefinite length in one another are gathered; one primitive string is borrowed (X.690 8.7).
 #[test]
 fn gathers_segments(rt: HostRuntime) {
-    let octets = [
+    const OCTETS: &[u8] = &[
         0x24, 0x80, 0x04, 0x01, 0xA1, 0x24, 0x03, 0x04, 0x01, 0xB2, 0x24, 0x80, 0x04, 0x01, 0xC3,
         0x00, 0x00, 0x00, 0x00, 0x04, 0x03, 0xA1, 0xB2, 0xC3,
     ];
-    let mut decoder = decoder_of(rt.alloc(), &octets, Codec::Cer);
+    let mut decoder = decoder_of(rt.alloc(), OCTETS, Codec::Cer);
     for is_borrowed in &[false, true] {
         let answer = decoder.decode_octet_string(Tag::OCTET_STRING, &Constraints::NONE);
         assert!(rt; answers_octets(answer, &[0xA1, 0xB2, 0xC3], *is_borrowed));
@@ -48,17 +48,17 @@ fn gathers_segments(rt: HostRuntime) {
 // A refusal tells how many octets are missing, and takes nothing (X.690 8.1.3).
 #[test]
 fn refuses_cut_contents(rt: HostRuntime) {
-    let found = "Tag { class: Universal, value: 4 }";
+    const FOUND: &str = "Tag { class: Universal, value: 4 }";
     looks(
         &rt,
         rt.alloc(),
-        &[(&[0x04, 0x05, 0x01, 0x02], Codec::Ber, found)],
+        &[(&[0x04, 0x05, 0x01, 0x02], Codec::Ber, FOUND)],
     );
-    let missing = "Incomplete { needed: Size(3) }";
+    const MISSING: &str = "Incomplete { needed: Size(3) }";
     reads::<OctetString>(
         &rt,
         rt.alloc(),
-        &[(&[0x04, 0x05, 0x01, 0x02], Codec::Ber, missing, 0)],
+        &[(&[0x04, 0x05, 0x01, 0x02], Codec::Ber, MISSING, 0)],
     );
 }
 
@@ -119,12 +119,12 @@ fn reads_object_identifiers(rt: HostRuntime) {
 #[test]
 fn calls_read_object_identifiers(rt: HostRuntime) {
     let mut decoder = decoder_of(rt.alloc(), &[0x06, 0x01, 0x88], Codec::Der);
-    let contents = [0x2B, 0x06, 0x01, 0x04, 0x01, 0x82, 0x37, 0x15, 0x14];
+    const CONTENTS: &[u8] = &[0x2B, 0x06, 0x01, 0x04, 0x01, 0x82, 0x37, 0x15, 0x14];
     told(
         &rt,
         rt.alloc(),
         Codec::Der,
-        decoder.decode_object_identifier_from_bytes(&contents),
+        decoder.decode_object_identifier_from_bytes(CONTENTS),
         "ObjectIdentifier { arcs: [1, 3, 6, 1, 4, 1, 311, 21, 20] }",
     );
     told(

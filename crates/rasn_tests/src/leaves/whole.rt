@@ -51,17 +51,17 @@ fn what_follows_a_der_value_is_refused(rt: HostRuntime) {
 // A BOOLEAN is primitive, as DER holds it to (X.690 8.1.2.5, 11.1).
 #[test]
 fn canonical_rules_have_one_true(rt: HostRuntime) {
-    let no_bool = "InvalidBool { value: 5 }";
-    let constructed = "CodecSpecific { inner: Der(ConstructedBitMismatch) }";
+    const NO_BOOL: &str = "InvalidBool { value: 5 }";
+    const CONSTRUCTED: &str = "CodecSpecific { inner: Der(ConstructedBitMismatch) }";
     reads::<bool>(
         &rt,
         rt.alloc(),
         &[
-            (&[0x01, 0x01, 0x05], Codec::Cer, no_bool, 3),
-            (&[0x01, 0x01, 0x05], Codec::Der, no_bool, 3),
+            (&[0x01, 0x01, 0x05], Codec::Cer, NO_BOOL, 3),
+            (&[0x01, 0x01, 0x05], Codec::Der, NO_BOOL, 3),
             (&[0x21, 0x01, 0xFF], Codec::Ber, "true", 3),
             (&[0x21, 0x01, 0xFF], Codec::Cer, "true", 3),
-            (&[0x21, 0x01, 0xFF], Codec::Der, constructed, 0),
+            (&[0x21, 0x01, 0xFF], Codec::Der, CONSTRUCTED, 0),
         ],
     );
 }
@@ -182,8 +182,8 @@ fn framing_refusals_consume_nothing(rt: HostRuntime) {
 
 #[test]
 fn contents_refusals_consume_the_value(rt: HostRuntime) {
-    let open = "CodecSpecific { inner: Ber(IndefiniteLengthNotAllowed) }";
-    let constructed = "CodecSpecific { inner: Der(ConstructedBitMismatch) }";
+    const OPEN: &str = "CodecSpecific { inner: Ber(IndefiniteLengthNotAllowed) }";
+    const CONSTRUCTED: &str = "CodecSpecific { inner: Der(ConstructedBitMismatch) }";
     reads::<bool>(
         &rt,
         rt.alloc(),
@@ -194,8 +194,8 @@ fn contents_refusals_consume_the_value(rt: HostRuntime) {
                 "MismatchedLength { expected: 1, actual: 2 }",
                 4,
             ),
-            (&[0x21, 0x80, 0x00, 0x00], Codec::Ber, open, 2),
-            (&[0x21, 0x80, 0x00, 0x00], Codec::Der, constructed, 0),
+            (&[0x21, 0x80, 0x00, 0x00], Codec::Ber, OPEN, 2),
+            (&[0x21, 0x80, 0x00, 0x00], Codec::Der, CONSTRUCTED, 0),
         ],
     );
 }
@@ -271,13 +271,13 @@ fn tags_of_any_number(rt: HostRuntime) {
 #[test]
 fn colours_are_read_and_written(rt: HostRuntime) {
     let alloc = rt.alloc();
-    let padded = &[0x0A, 0x02, 0x00, 0x02];
-    let colour = value(&rt, ber::decode::<Colour>(alloc, padded));
+    const PADDED: &[u8] = &[0x0A, 0x02, 0x00, 0x02];
+    let colour = value(&rt, ber::decode::<Colour>(alloc, PADDED));
     facts(&rt, &[colour == Colour::Blue, colour.discriminant() == 2]);
     rewrites::<Colour>(
         &rt,
         alloc,
-        &[(padded, Codec::Ber, Codec::Der, &[0x0A, 0x01, 0x02])],
+        &[(PADDED, Codec::Ber, Codec::Der, &[0x0A, 0x01, 0x02])],
     );
 }
 
@@ -291,11 +291,11 @@ const NO_COLOURS: &[(&str, usize)] = &[
 // What the type doesn't name, what 64 bits don't hold, and no octets: the value is taken.
 #[test]
 fn other_numbers_are_no_colours(rt: HostRuntime) {
-    let octets = &[
+    const OCTETS: &[u8] = &[
         0x0A, 0x01, 0x03, 0x0A, 0x09, 0x00, 0x80, 0x00, 0x00, 0x00, 0x00, 0x00, 0x00, 0x00, 0x0A,
         0x00,
     ];
-    let mut decoder = decoder_of(rt.alloc(), octets, Codec::Ber);
+    let mut decoder = decoder_of(rt.alloc(), OCTETS, Codec::Ber);
     for (text, left) in NO_COLOURS {
         let answer = Colour::decode(&mut decoder);
         told(&rt, rt.alloc(), Codec::Ber, answer, text);

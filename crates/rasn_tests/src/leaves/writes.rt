@@ -76,11 +76,11 @@ fn writes_high_tag_numbers(rt: HostRuntime) {
         let answer = true.encode_with_tag(&mut encoder, tag, Identifier::EMPTY);
         done(&rt, answer);
     }
-    let octets = &[
+    const OCTETS: &[u8] = &[
         0xDF, 0x83, 0x7F, 0x01, 0xFF, 0x9E, 0x01, 0xFF, 0x5F, 0x1F, 0x01, 0xFF, 0x1F, 0x8F, 0xFF,
         0xFF, 0xFF, 0x7F, 0x01, 0xFF,
     ];
-    holds(&rt, encoder.output(), octets);
+    holds(&rt, encoder.output(), OCTETS);
 }
 
 /// The arcs {2 999 1} and {2 4294967215}.
@@ -95,10 +95,10 @@ fn writes_object_identifiers(rt: HostRuntime) {
         let answer = encoder.encode_object_identifier(tag, arcs, Identifier::EMPTY);
         done(&rt, answer);
     }
-    let octets = &[
+    const OCTETS: &[u8] = &[
         0x06, 0x03, 0x88, 0x37, 0x01, 0x06, 0x05, 0x8F, 0xFF, 0xFF, 0xFF, 0x7F,
     ];
-    holds(&rt, encoder.output(), octets);
+    holds(&rt, encoder.output(), OCTETS);
 }
 
 // The arcs {1 3 6 1 4 1 311 21 20} (X.690 8.19).
@@ -106,10 +106,10 @@ fn writes_object_identifiers(rt: HostRuntime) {
 fn writes_object_identifiers_as_values(rt: HostRuntime) {
     let alloc = rt.alloc();
     let microsoft = identifier_of(alloc, &[1, 3, 6, 1, 4, 1, 311, 21, 20]);
-    let octets = &[
+    const OCTETS: &[u8] = &[
         0x06, 0x09, 0x2B, 0x06, 0x01, 0x04, 0x01, 0x82, 0x37, 0x15, 0x14,
     ];
-    writes_made(&rt, alloc, Codec::Der, microsoft, octets);
+    writes_made(&rt, alloc, Codec::Der, microsoft, OCTETS);
 }
 
 /// Appends the arcs' octets behind 2A, holds the answer against the text, and what stands there then against the octets.

@@ -28,7 +28,8 @@ fn holds_octets(rt: HostRuntime) {
 #[test]
 fn keeps_whole_encodings(rt: HostRuntime) {
     let alloc = rt.alloc();
-    let whole = "(Any { octets: [48, 128, 48, 128, 2, 1, 1, 0, 0, 4, 1, 0, 0, 0] }, [2, 1, 2])";
+    const WHOLE: &str =
+        "(Any { octets: [48, 128, 48, 128, 2, 1, 1, 0, 0, 4, 1, 0, 0, 0] }, [2, 1, 2])";
     begins::<Any>(
         &rt,
         alloc,
@@ -38,7 +39,7 @@ fn keeps_whole_encodings(rt: HostRuntime) {
                 0x02, 0x01, 0x02,
             ],
             Codec::Ber,
-            whole,
+            WHOLE,
         )],
     );
     reads_octets::<Any>(
@@ -64,8 +65,8 @@ fn keeps_whole_encodings(rt: HostRuntime) {
 // A fault inside is one of the whole, which isn't taken.
 #[test]
 fn refuses_broken_encodings(rt: HostRuntime) {
-    let end = "CodecSpecific { inner: Ber(UnexpectedEndOfContents) }";
-    let open = "CodecSpecific { inner: Ber(IndefiniteLengthNotAllowed) }";
+    const END: &str = "CodecSpecific { inner: Ber(UnexpectedEndOfContents) }";
+    const OPEN: &str = "CodecSpecific { inner: Ber(IndefiniteLengthNotAllowed) }";
     reads::<Any>(
         &rt,
         rt.alloc(),
@@ -76,9 +77,9 @@ fn refuses_broken_encodings(rt: HostRuntime) {
                 "Incomplete { needed: Size(1) }",
                 0,
             ),
-            (&[0x30, 0x80, 0x00], Codec::Ber, end, 0),
-            (&[0x00, 0x00], Codec::Ber, end, 0),
-            (&[0x30, 0x80, 0x00, 0x00], Codec::Der, open, 0),
+            (&[0x30, 0x80, 0x00], Codec::Ber, END, 0),
+            (&[0x00, 0x00], Codec::Ber, END, 0),
+            (&[0x30, 0x80, 0x00, 0x00], Codec::Der, OPEN, 0),
         ],
     );
 }
@@ -123,8 +124,8 @@ fn keeps_what_a_tag_holds(rt: HostRuntime) {
 fn der_refuses_a_primitive_tag(rt: HostRuntime) {
     let alloc = rt.alloc();
     let mut decoder = decoder_of(alloc, &[0x81, 0x02, 0x05, 0x00], Codec::Der);
-    let kind = "CodecSpecific { inner: Der(ConstructedBitMismatch) }";
-    told(&rt, alloc, Codec::Der, decoder.decode_any(ONE), kind);
+    const KIND: &str = "CodecSpecific { inner: Der(ConstructedBitMismatch) }";
+    told(&rt, alloc, Codec::Der, decoder.decode_any(ONE), KIND);
     assert!(rt; decoder.decoded_len() == 0);
 }
 

@@ -40,21 +40,21 @@ fn passes_values(rt: HostRuntime) {
 // A refused value isn't taken. DER has no indefinite length (X.690 10.1).
 #[test]
 fn refuses_to_pass(rt: HostRuntime) {
-    let end = "CodecSpecific { inner: Ber(UnexpectedEndOfContents) }";
-    let open = "CodecSpecific { inner: Ber(IndefiniteLengthNotAllowed) }";
+    const END: &str = "CodecSpecific { inner: Ber(UnexpectedEndOfContents) }";
+    const OPEN: &str = "CodecSpecific { inner: Ber(IndefiniteLengthNotAllowed) }";
     passes(
         &rt,
         rt.alloc(),
         &[
-            (&[0x30, 0x80, 0x00, 0x00], Codec::Der, open, 0),
+            (&[0x30, 0x80, 0x00, 0x00], Codec::Der, OPEN, 0),
             (
                 &[0x30, 0x80, 0x05, 0x00],
                 Codec::Ber,
                 "Incomplete { needed: Size(1) }",
                 0,
             ),
-            (&[0x30, 0x80, 0x00], Codec::Ber, end, 0),
-            (&[0x00, 0x00], Codec::Ber, end, 0),
+            (&[0x30, 0x80, 0x00], Codec::Ber, END, 0),
+            (&[0x00, 0x00], Codec::Ber, END, 0),
         ],
     );
 }

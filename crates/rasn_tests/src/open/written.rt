@@ -41,11 +41,11 @@ fn writes_octets_alone(rt: HostRuntime) {
 #[test]
 fn writes_tags_round_octets(rt: HostRuntime) {
     let alloc = rt.alloc();
-    let definite = [0xA1, 0x02, 0x05, 0x00];
-    writes_open(&rt, alloc, Codec::Ber, ONE, &[0x05, 0x00], &definite);
-    writes_open(&rt, alloc, Codec::Der, ONE, &[0x05, 0x00], &definite);
-    let indefinite = [0xA1, 0x80, 0x05, 0x00, 0x00, 0x00];
-    writes_open(&rt, alloc, Codec::Cer, ONE, &[0x05, 0x00], &indefinite);
+    const DEFINITE: &[u8] = &[0xA1, 0x02, 0x05, 0x00];
+    writes_open(&rt, alloc, Codec::Ber, ONE, &[0x05, 0x00], DEFINITE);
+    writes_open(&rt, alloc, Codec::Der, ONE, &[0x05, 0x00], DEFINITE);
+    const INDEFINITE: &[u8] = &[0xA1, 0x80, 0x05, 0x00, 0x00, 0x00];
+    writes_open(&rt, alloc, Codec::Cer, ONE, &[0x05, 0x00], INDEFINITE);
 }
 
 // Where tags are kept, octets without one can't be put in order (X.690 9.3, 10.3).
@@ -77,12 +77,12 @@ fn refuses_bare_octets_in_sets(rt: HostRuntime) {
     let alloc = rt.alloc();
     let full = made(&rt, ends_open(alloc, &[0x05, 0x00]));
     let empty = made(&rt, ends_open(alloc, &[]));
-    let octets = [0x31, 0x06, 0x80, 0x01, 0x01, 0x81, 0x01, 0x02];
+    const OCTETS: &[u8] = &[0x31, 0x06, 0x80, 0x01, 0x01, 0x81, 0x01, 0x02];
     for rules in [Codec::Ber, Codec::Der] {
         let mut encoder = new_encoder(&rt, alloc, rules);
         refused(&rt, alloc, rules, full.encode(&mut encoder), BARE);
         done(&rt, empty.encode(&mut encoder));
-        holds(&rt, encoder.output(), &octets);
+        holds(&rt, encoder.output(), OCTETS);
     }
 }
 
@@ -134,9 +134,9 @@ fn writes_open_types_in_sets(rt: HostRuntime) {
     let value = made(&rt, components(alloc));
     let mut encoder = new_encoder(&rt, alloc, Codec::Der);
     done(&rt, put_four(&mut encoder, &value));
-    let octets = [
+    const OCTETS: &[u8] = &[
         0x31, 0x16, 0x31, 0x06, 0x80, 0x01, 0x01, 0x81, 0x01, 0x02, 0x40, 0x01, 0x07, 0xA2, 0x02,
         0x05, 0x00, 0xA3, 0x05, 0x30, 0x03, 0x02, 0x01, 0x09,
     ];
-    holds(&rt, encoder.output(), &octets);
+    holds(&rt, encoder.output(), OCTETS);
 }

@@ -59,11 +59,11 @@ fn identifiers(
 #[test]
 fn writes_lists(rt: HostRuntime) {
     let alloc = rt.alloc();
-    let definite = &[0x30, 0x06, 0x02, 0x01, 0x05, 0x02, 0x01, 0x07];
-    let indefinite = &[0x30, 0x80, 0x02, 0x01, 0x05, 0x02, 0x01, 0x07, 0x00, 0x00];
-    writes_made(&rt, alloc, Codec::Ber, numbers(alloc, &[5, 7]), definite);
-    writes_made(&rt, alloc, Codec::Der, numbers(alloc, &[5, 7]), definite);
-    writes_made(&rt, alloc, Codec::Cer, numbers(alloc, &[5, 7]), indefinite);
+    const DEFINITE: &[u8] = &[0x30, 0x06, 0x02, 0x01, 0x05, 0x02, 0x01, 0x07];
+    const INDEFINITE: &[u8] = &[0x30, 0x80, 0x02, 0x01, 0x05, 0x02, 0x01, 0x07, 0x00, 0x00];
+    writes_made(&rt, alloc, Codec::Ber, numbers(alloc, &[5, 7]), DEFINITE);
+    writes_made(&rt, alloc, Codec::Der, numbers(alloc, &[5, 7]), DEFINITE);
+    writes_made(&rt, alloc, Codec::Cer, numbers(alloc, &[5, 7]), INDEFINITE);
     writes_made(&rt, alloc, Codec::Der, numbers(alloc, &[]), &[0x30, 0x00]);
     assert!(rt; made(&rt, numbers(alloc, &[])).is_present());
 }
@@ -72,10 +72,10 @@ fn writes_lists(rt: HostRuntime) {
 #[test]
 fn writes_lists_of_lists(rt: HostRuntime) {
     let alloc = rt.alloc();
-    let header = [
+    const HEADER: &[u8] = &[
         0x30, 0x82, 0x01, 0x08, 0x30, 0x82, 0x01, 0x04, 0x04, 0x82, 0x01, 0x00,
     ];
-    let pieces = [(header.as_slice(), 0xAB, 256)];
+    let pieces = [(HEADER, 0xAB, 256)];
     writes_pieces(&rt, alloc, Codec::Der, lists(alloc, 0xAB, 256), &pieces);
 }
 
@@ -90,10 +90,10 @@ fn calls_write_lists(rt: HostRuntime) {
     let nine = made(&rt, numbers(alloc, &[9]));
     let answer = encoder.encode_explicit_prefix(three, &nine, Identifier::EMPTY);
     done(&rt, answer);
-    let octets = [
+    const OCTETS: &[u8] = &[
         0xA0, 0x06, 0x02, 0x01, 0x05, 0x02, 0x01, 0x07, 0xA3, 0x05, 0x30, 0x03, 0x02, 0x01, 0x09,
     ];
-    holds(&rt, encoder.output(), &octets);
+    holds(&rt, encoder.output(), OCTETS);
 }
 
 #[test]
@@ -115,13 +115,13 @@ fn a_refused_element_takes_the_list_along(rt: HostRuntime) {
     let mut encoder = new_encoder(&rt, alloc, Codec::Der);
     done(&rt, true.encode(&mut encoder));
     let identifiers = made(&rt, identifiers(alloc, &[&[1, 2], &[0, 40]]));
-    let kind = "CodecSpecific { inner: Ber(InvalidObjectIdentifier { oid: [0, 40] }) }";
+    const KIND: &str = "CodecSpecific { inner: Ber(InvalidObjectIdentifier { oid: [0, 40] }) }";
     refused(
         &rt,
         alloc,
         Codec::Der,
         identifiers.encode(&mut encoder),
-        kind,
+        KIND,
     );
     holds(&rt, encoder.output(), &[0x01, 0x01, 0xFF]);
 }

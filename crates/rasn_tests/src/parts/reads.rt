@@ -24,19 +24,19 @@ fn small() -> Constraints {
 // and CER (X.690 8.1.5).
 #[test]
 fn leaves_what_is_no_value(rt: HostRuntime) {
-    let end_of_contents = "CodecSpecific { inner: Ber(UnexpectedEndOfContents) }";
-    let wide = "CodecSpecific { inner: Ber(UnsupportedTagNumber) }";
+    const END_OF_CONTENTS: &str = "CodecSpecific { inner: Ber(UnexpectedEndOfContents) }";
+    const WIDE: &str = "CodecSpecific { inner: Ber(UnsupportedTagNumber) }";
     reads::<Option<bool>>(
         &rt,
         rt.alloc(),
         &[
             (&[0x00, 0x00], Codec::Ber, "None", 0),
             (&[0x00, 0x00], Codec::Cer, "None", 0),
-            (&[0x00, 0x00], Codec::Der, end_of_contents, 0),
+            (&[0x00, 0x00], Codec::Der, END_OF_CONTENTS, 0),
             (&[0x02, 0x01, 0x05], Codec::Ber, "None", 0),
             (&[], Codec::Der, "None", 0),
             (&[0x01, 0x01, 0xFF], Codec::Der, "Some(true)", 3),
-            (&[0x1F, 0x90, 0x80, 0x80, 0x80, 0x00], Codec::Ber, wide, 0),
+            (&[0x1F, 0x90, 0x80, 0x80, 0x80, 0x00], Codec::Ber, WIDE, 0),
             (
                 &[0x1F, 0x81],
                 Codec::Ber,
@@ -58,11 +58,11 @@ fn is_number(answer: Result<Option<u8>, DecodeError>, number: Option<u8>) -> boo
 // Each call reads a value, and none at the end.
 #[test]
 fn reads_optional_values(rt: HostRuntime) {
-    let octets = [
+    const OCTETS: &[u8] = &[
         0x02, 0x01, 0x05, 0x80, 0x01, 0x05, 0x02, 0x01, 0x0A, 0x81, 0x01, 0x0A, 0xA2, 0x03, 0x02,
         0x01, 0x05,
     ];
-    let mut decoder = decoder_of(rt.alloc(), &octets, Codec::Der);
+    let mut decoder = decoder_of(rt.alloc(), OCTETS, Codec::Der);
     let small = small();
     facts(
         &rt,
@@ -115,8 +115,8 @@ fn reads_defaults(rt: HostRuntime) {
 // Each call reads a value, and its default at the end.
 #[test]
 fn reads_tagged_defaults(rt: HostRuntime) {
-    let octets = [0x80, 0x01, 0x05, 0x02, 0x01, 0x0A, 0x81, 0x01, 0x0A];
-    let mut decoder = decoder_of(rt.alloc(), &octets, Codec::Der);
+    const OCTETS: &[u8] = &[0x80, 0x01, 0x05, 0x02, 0x01, 0x0A, 0x81, 0x01, 0x0A];
+    let mut decoder = decoder_of(rt.alloc(), OCTETS, Codec::Der);
     let answer = decoder.decode_default_with_tag::<u8, _>(context(0), || Ok(7));
     told(&rt, rt.alloc(), Codec::Der, answer, "5");
     let answer = decoder.decode_default_with_constraints::<u8, _>(|| Ok(7), &small());
@@ -143,16 +143,16 @@ fn tells_that_a_default_has_no_memory(rt: HostRuntime) {
 // No contents and a default that is there are the same value.
 #[test]
 fn reads_a_default_in_a_sequence(rt: HostRuntime) {
-    let seven = "Counted { number: 7 }";
-    let more = "UnexpectedExtraData { length: 3 }";
+    const SEVEN: &str = "Counted { number: 7 }";
+    const MORE: &str = "UnexpectedExtraData { length: 3 }";
     reads::<Counted>(
         &rt,
         rt.alloc(),
         &[
-            (&[0x30, 0x00], Codec::Ber, seven, 2),
-            (&[0x30, 0x03, 0x02, 0x01, 0x07], Codec::Ber, seven, 5),
-            (&[0x30, 0x80, 0x00, 0x00], Codec::Ber, seven, 4),
-            (&[0x30, 0x03, 0x01, 0x01, 0xFF], Codec::Ber, more, 5),
+            (&[0x30, 0x00], Codec::Ber, SEVEN, 2),
+            (&[0x30, 0x03, 0x02, 0x01, 0x07], Codec::Ber, SEVEN, 5),
+            (&[0x30, 0x80, 0x00, 0x00], Codec::Ber, SEVEN, 4),
+            (&[0x30, 0x03, 0x01, 0x01, 0xFF], Codec::Ber, MORE, 5),
         ],
     );
 }
@@ -160,8 +160,8 @@ fn reads_a_default_in_a_sequence(rt: HostRuntime) {
 // A group of additions is there, or is left out.
 #[test]
 fn reads_a_group(rt: HostRuntime) {
-    let octets = &[0x30, 0x03, 0x02, 0x01, 0x05, 0x02, 0x01, 0x07];
-    let mut decoder = decoder_of(rt.alloc(), octets, Codec::Der);
+    const OCTETS: &[u8] = &[0x30, 0x03, 0x02, 0x01, 0x05, 0x02, 0x01, 0x07];
+    let mut decoder = decoder_of(rt.alloc(), OCTETS, Codec::Der);
     for text in &["Some(Counted { number: 5 })", "None"] {
         let answer = decoder.decode_extension_addition_group::<1, 0, Counted>();
         told(&rt, rt.alloc(), Codec::Der, answer, text);
@@ -182,8 +182,8 @@ fn prefixed_addition(decoder: &mut Decoder<'_>) -> Result<Option<u8>, DecodeErro
 // An addition under a tag of its own may be left out; one in an explicit prefix has to be there. Constraints are ignored.
 #[test]
 fn reads_additions(rt: HostRuntime) {
-    let octets = [0x81, 0x01, 0x0B, 0xA0, 0x03, 0x02, 0x01, 0x05];
-    let mut decoder = decoder_of(rt.alloc(), &octets, Codec::Der);
+    const OCTETS: &[u8] = &[0x81, 0x01, 0x0B, 0xA0, 0x03, 0x02, 0x01, 0x05];
+    let mut decoder = decoder_of(rt.alloc(), OCTETS, Codec::Der);
     facts(
         &rt,
         &[
@@ -192,25 +192,25 @@ fn reads_additions(rt: HostRuntime) {
             is_number(addition(&mut decoder), None),
         ],
     );
-    let missing = "Incomplete { needed: Size(1) }";
+    const MISSING: &str = "Incomplete { needed: Size(1) }";
     let mut ber = decoder_of(rt.alloc(), &[], Codec::Ber);
     told(
         &rt,
         rt.alloc(),
         Codec::Ber,
         prefixed_addition(&mut ber),
-        missing,
+        MISSING,
     );
 }
 
 // [0] EXPLICIT INTEGER, with the constructed bit and without, of either length form.
 #[test]
 fn reads_prefixes(rt: HostRuntime) {
-    let octets = &[
+    const OCTETS: &[u8] = &[
         0xA0, 0x03, 0x02, 0x01, 0x05, 0x80, 0x03, 0x02, 0x01, 0x05, 0xA0, 0x80, 0x02, 0x01, 0x05,
         0x00, 0x00,
     ];
-    let mut decoder = decoder_of(rt.alloc(), octets, Codec::Ber);
+    let mut decoder = decoder_of(rt.alloc(), OCTETS, Codec::Ber);
     for taken in &[5, 10, 17] {
         let answer = decoder.decode_explicit_prefix::<u8>(context(0));
         told(&rt, rt.alloc(), Codec::Ber, answer, "5");
@@ -221,11 +221,11 @@ fn reads_prefixes(rt: HostRuntime) {
 // What stands behind the value inside is too much, and takes the prefix with it.
 #[test]
 fn holds_one_value(rt: HostRuntime) {
-    let octets = &[0xA0, 0x05, 0x02, 0x01, 0x05, 0x05, 0x00, 0x01];
-    let mut decoder = decoder_of(rt.alloc(), octets, Codec::Ber);
+    const OCTETS: &[u8] = &[0xA0, 0x05, 0x02, 0x01, 0x05, 0x05, 0x00, 0x01];
+    let mut decoder = decoder_of(rt.alloc(), OCTETS, Codec::Ber);
     let answer = decoder.decode_explicit_prefix::<u8>(context(0));
-    let more = "UnexpectedExtraData { length: 2 }";
-    told(&rt, rt.alloc(), Codec::Ber, answer, more);
+    const MORE: &str = "UnexpectedExtraData { length: 2 }";
+    told(&rt, rt.alloc(), Codec::Ber, answer, MORE);
     assert!(rt; decoder.decoded_len() == 7);
 }
 
@@ -242,11 +242,11 @@ fn explicit(decoder: &mut Decoder<'_>) -> Result<u8, DecodeError> {
 // [0] IMPLICIT INTEGER and [0] EXPLICIT INTEGER, the latter without the constructed bit, which DER refuses (X.690 8.14.2), and with it.
 #[test]
 fn reads_under_named_tags(rt: HostRuntime) {
-    let octets = &[
+    const OCTETS: &[u8] = &[
         0x80, 0x01, 0x05, 0x80, 0x03, 0x02, 0x01, 0x05, 0xA0, 0x03, 0x02, 0x01, 0x05,
     ];
     for rules in &[Codec::Ber, Codec::Cer] {
-        let mut decoder = decoder_of(rt.alloc(), octets, *rules);
+        let mut decoder = decoder_of(rt.alloc(), OCTETS, *rules);
         told(&rt, rt.alloc(), *rules, implicit(&mut decoder), "5");
         told(&rt, rt.alloc(), *rules, explicit(&mut decoder), "5");
         told(&rt, rt.alloc(), *rules, explicit(&mut decoder), "5");
@@ -256,8 +256,8 @@ fn reads_under_named_tags(rt: HostRuntime) {
 
 #[test]
 fn reads_named_tags_by_der(rt: HostRuntime) {
-    let octets = [0x80, 0x01, 0x05, 0xA0, 0x03, 0x02, 0x01, 0x05];
-    let mut decoder = decoder_of(rt.alloc(), &octets, Codec::Der);
+    const OCTETS: &[u8] = &[0x80, 0x01, 0x05, 0xA0, 0x03, 0x02, 0x01, 0x05];
+    let mut decoder = decoder_of(rt.alloc(), OCTETS, Codec::Der);
     told(&rt, rt.alloc(), Codec::Der, implicit(&mut decoder), "5");
     told(&rt, rt.alloc(), Codec::Der, explicit(&mut decoder), "5");
     assert!(rt; decoder.remaining().is_empty());
@@ -267,8 +267,8 @@ fn reads_named_tags_by_der(rt: HostRuntime) {
 #[test]
 fn der_refuses_a_primitive_prefix(rt: HostRuntime) {
     let mut decoder = decoder_of(rt.alloc(), &[0x80, 0x03, 0x02, 0x01, 0x05], Codec::Der);
-    let kind = "CodecSpecific { inner: Der(ConstructedBitMismatch) }";
-    told(&rt, rt.alloc(), Codec::Der, explicit(&mut decoder), kind);
+    const KIND: &str = "CodecSpecific { inner: Der(ConstructedBitMismatch) }";
+    told(&rt, rt.alloc(), Codec::Der, explicit(&mut decoder), KIND);
     assert!(rt; decoder.decoded_len() == 0);
 }
 

@@ -33,26 +33,26 @@ fn a_validity_has_times_of_two_types(rt: HostRuntime) {
 
 #[test]
 fn a_number_is_no_time(rt: HostRuntime) {
-    let kind = "NoValidChoice { name: \"Time\" }";
+    const KIND: &str = "NoValidChoice { name: \"Time\" }";
     reads::<Time>(
         &rt,
         rt.alloc(),
-        &[(&[0x02, 0x01, 0x05], Codec::Ber, kind, 0)],
+        &[(&[0x02, 0x01, 0x05], Codec::Ber, KIND, 0)],
     );
 }
 
 #[test]
 fn lists_are_written_as_they_are_read(rt: HostRuntime) {
     let alloc = rt.alloc();
-    let closed = [0x30, 0x80, 0x02, 0x01, 0x05, 0x02, 0x01, 0x07, 0x00, 0x00];
-    let definite = [0x30, 0x06, 0x02, 0x01, 0x05, 0x02, 0x01, 0x07];
-    answers::<Vec<u8>>(&rt, alloc, &[(&closed, Codec::Ber, "[5, 7]")]);
+    const CLOSED: &[u8] = &[0x30, 0x80, 0x02, 0x01, 0x05, 0x02, 0x01, 0x07, 0x00, 0x00];
+    const DEFINITE: &[u8] = &[0x30, 0x06, 0x02, 0x01, 0x05, 0x02, 0x01, 0x07];
+    answers::<Vec<u8>>(&rt, alloc, &[(CLOSED, Codec::Ber, "[5, 7]")]);
     rewrites::<Vec<u8>>(
         &rt,
         alloc,
         &[
-            (&closed, Codec::Ber, Codec::Der, &definite),
-            (&closed, Codec::Ber, Codec::Cer, &closed),
+            (CLOSED, Codec::Ber, Codec::Der, DEFINITE),
+            (CLOSED, Codec::Ber, Codec::Cer, CLOSED),
         ],
     );
 }
@@ -61,38 +61,38 @@ fn lists_are_written_as_they_are_read(rt: HostRuntime) {
 #[test]
 fn lists_of_lists_are_written(rt: HostRuntime) {
     let alloc = rt.alloc();
-    let header = [
+    const HEADER: &[u8] = &[
         0x30, 0x82, 0x01, 0x08, 0x30, 0x82, 0x01, 0x04, 0x04, 0x82, 0x01, 0x00,
     ];
     let lists = made(&rt, lists(alloc, 0xAB, 256));
     let answer = encoded(alloc, Codec::Der, &lists);
-    holds_pieces(&rt, alloc, answer, &[(&header, 0xAB, 256)]);
+    holds_pieces(&rt, alloc, answer, &[(HEADER, 0xAB, 256)]);
 }
 
 #[test]
 fn additions_may_be_absent(rt: HostRuntime) {
     let alloc = rt.alloc();
-    let all = &[
+    const ALL: &[u8] = &[
         0x30, 0x0E, 0x01, 0x01, 0xFF, 0x81, 0x01, 0x05, 0x30, 0x06, 0x02, 0x01, 0x07, 0x01, 0x01,
         0x00,
     ];
-    let bare = &[0x30, 0x03, 0x01, 0x01, 0xFF];
-    let read = value(&rt, decoded::<Grouped>(alloc, Codec::Ber, all));
+    const BARE: &[u8] = &[0x30, 0x03, 0x01, 0x01, 0xFF];
+    let read = value(&rt, decoded::<Grouped>(alloc, Codec::Ber, ALL));
     facts(
         &rt,
         &[read.truth, read.number.is_some(), read.group.is_some()],
     );
-    let read = value(&rt, decoded::<Grouped>(alloc, Codec::Ber, bare));
+    let read = value(&rt, decoded::<Grouped>(alloc, Codec::Ber, BARE));
     facts(&rt, &[read.number.is_none(), read.group.is_none()]);
     rewrites::<Grouped>(
         &rt,
         alloc,
         &[
-            (all, Codec::Ber, Codec::Der, all),
-            (bare, Codec::Ber, Codec::Der, bare),
+            (ALL, Codec::Ber, Codec::Der, ALL),
+            (BARE, Codec::Ber, Codec::Der, BARE),
         ],
     );
-    let other = &[0x30, 0x06, 0x01, 0x01, 0xFF, 0x82, 0x01, 0x05];
-    let kind = "UnexpectedExtraData { length: 3 }";
-    answers::<Grouped>(&rt, alloc, &[(other, Codec::Ber, kind)]);
+    const OTHER: &[u8] = &[0x30, 0x06, 0x01, 0x01, 0xFF, 0x82, 0x01, 0x05];
+    const KIND: &str = "UnexpectedExtraData { length: 3 }";
+    answers::<Grouped>(&rt, alloc, &[(OTHER, Codec::Ber, KIND)]);
 }

@@ -45,8 +45,8 @@ fn calls_write_options(rt: HostRuntime) {
     done(&rt, encoder.encode_none_with_tag(ZERO, NONE));
     let answer = encoder.encode_some_with_tag_and_constraints(ZERO, &PERCENTAGE, &5u8, NONE);
     done(&rt, answer);
-    let octets = [0x01, 0x01, 0xFF, 0x80, 0x01, 0xFF, 0x80, 0x01, 0x05];
-    holds(&rt, encoder.output(), &octets);
+    const OCTETS: &[u8] = &[0x01, 0x01, 0xFF, 0x80, 0x01, 0xFF, 0x80, 0x01, 0x05];
+    holds(&rt, encoder.output(), OCTETS);
 }
 
 // 200 isn't within 0 to 100.
@@ -181,6 +181,6 @@ fn writes_extension_additions(rt: HostRuntime) {
     let group = Counted { number: 5 };
     let answer = encoder.encode_extension_addition_group::<1, 0, Counted>(Some(&group), NONE);
     done(&rt, answer);
-    let octets = [0x81, 0x01, 0x05, 0x30, 0x03, 0x02, 0x01, 0x05];
-    holds(&rt, encoder.output(), &octets);
+    const OCTETS: &[u8] = &[0x81, 0x01, 0x05, 0x30, 0x03, 0x02, 0x01, 0x05];
+    holds(&rt, encoder.output(), OCTETS);
 }

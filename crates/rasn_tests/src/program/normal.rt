@@ -1,3 +1,4 @@
+use crate::reading::debug_text;
 use rasn::de::Decode;
 use rasn::enc::Encode;
 use rasn::types::{Codec, LawfulEq, OctetString, SetOf, UtcTime};
@@ -86,7 +87,7 @@ fn is_normal(answer: Result<Vec<u8>, NormaliseError>, octets: &[u8]) -> bool {
 /// Name and year: two encodings of `Smith` and TRUE by BER, one by CER, and their DER, which is its own.
 #[test]
 fn equal_values_come_out_alike(rt: HostRuntime) {
-    let smith = [
+    const SMITH: &[u8] = &[
         0x30, 0x0A, 0x16, 0x05, 0x53, 0x6D, 0x69, 0x74, 0x68, 0x01, 0x01, 0xFF,
     ];
     let inputs: [(Codec, &[u8]); 4] = [
@@ -109,11 +110,11 @@ fn equal_values_come_out_alike(rt: HostRuntime) {
                 0x30, 0x80, 0x16, 0x05, 0x53, 0x6D, 0x69, 0x74, 0x68, 0x01, 0x01, 0xFF, 0x00, 0x00,
             ],
         ),
-        (Codec::Der, &smith),
+        (Codec::Der, SMITH),
     ];
     for (rule, input) in inputs {
         let answer = normalise::<Foo>(rt.alloc(), rule, input);
-        assert!(rt; is_normal(answer, &smith), "{input:?}");
+        assert!(rt; is_normal(answer, SMITH), "{input:?}");
     }
 }
 
@@ -126,7 +127,7 @@ fn refuses<T: Decode + Encode + LawfulEq>(
     for (octets, rule, text) in rows {
         match normalise::<T>(alloc, *rule, octets) {
             Ok(found) => assert!(rt; false, "{found:?}"),
-            Err(error) => match format!(in alloc; "{error:?}") {
+            Err(error) => match debug_text(alloc, &error) {
                 Ok(told) => assert_eq!(rt; told.as_str(), *text),
                 Err(_) => assert!(rt; false, "no memory"),
             },

@@ -60,11 +60,11 @@ fn write_past_a_refusal(encoder: &mut Encoder) -> Result<(), EncodeError> {
 #[test]
 fn a_dropped_refusal_is_gone_on_from(rt: HostRuntime) {
     let alloc = rt.alloc();
-    let input = [0x30, 0x03, 0x02, 0x01, 0x05];
-    let mut decoder = decoder_of(alloc, &input, Codec::Ber);
+    const INPUT: &[u8] = &[0x30, 0x03, 0x02, 0x01, 0x05];
+    let mut decoder = decoder_of(alloc, INPUT, Codec::Ber);
     let answer = read_past_a_refusal(&mut decoder);
-    let read = "Pair { number: 5, truth: false }";
-    told(&rt, alloc, Codec::Ber, answer, read);
+    const READ: &str = "Pair { number: 5, truth: false }";
+    told(&rt, alloc, Codec::Ber, answer, READ);
     assert!(rt; decoder.decoded_len() == 5);
 }
 

@@ -6,22 +6,22 @@ use rasn_bench::Setting;
 #[test]
 fn settings_have_a_default(rt: HostRuntime) {
     let alloc = rt.alloc();
-    let usual = "Setting { truth: true, level: 7 }";
-    let refused = "CodecSpecific { inner: Der(DefaultValuePresent) }";
+    const USUAL: &str = "Setting { truth: true, level: 7 }";
+    const REFUSED: &str = "CodecSpecific { inner: Der(DefaultValuePresent) }";
     answers::<Setting>(
         &rt,
         alloc,
         &[
-            (&[0x30, 0x03, 0x01, 0x01, 0xFF], Codec::Der, usual),
+            (&[0x30, 0x03, 0x01, 0x01, 0xFF], Codec::Der, USUAL),
             (
                 &[0x30, 0x06, 0x01, 0x01, 0xFF, 0x02, 0x01, 0x07],
                 Codec::Ber,
-                usual,
+                USUAL,
             ),
             (
                 &[0x30, 0x06, 0x01, 0x01, 0xFF, 0x02, 0x01, 0x07],
                 Codec::Der,
-                refused,
+                REFUSED,
             ),
             (
                 &[0x30, 0x06, 0x01, 0x01, 0x00, 0x02, 0x01, 0x09],

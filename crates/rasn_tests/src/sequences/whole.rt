@@ -57,15 +57,15 @@ fn a_canonical_value_is_closed_by_octets(rt: HostRuntime) {
         number: 5,
         truth: true,
     };
-    let canonical = [0x30, 0x80, 0x02, 0x01, 0x05, 0x01, 0x01, 0xFF, 0x00, 0x00];
-    let distinguished = [0x30, 0x06, 0x02, 0x01, 0x05, 0x01, 0x01, 0xFF];
-    holds(&rt, encoded(alloc, Codec::Cer, &pair), &canonical);
-    let read = "Pair { number: 5, truth: true }";
-    answers::<Pair>(&rt, alloc, &[(&canonical, Codec::Cer, read)]);
+    const CANONICAL: &[u8] = &[0x30, 0x80, 0x02, 0x01, 0x05, 0x01, 0x01, 0xFF, 0x00, 0x00];
+    const DISTINGUISHED: &[u8] = &[0x30, 0x06, 0x02, 0x01, 0x05, 0x01, 0x01, 0xFF];
+    holds(&rt, encoded(alloc, Codec::Cer, &pair), CANONICAL);
+    const READ: &str = "Pair { number: 5, truth: true }";
+    answers::<Pair>(&rt, alloc, &[(CANONICAL, Codec::Cer, READ)]);
     rewrites::<Pair>(
         &rt,
         alloc,
-        &[(&canonical, Codec::Cer, Codec::Der, &distinguished)],
+        &[(CANONICAL, Codec::Cer, Codec::Der, DISTINGUISHED)],
     );
     reads::<Pair>(
         &rt,
@@ -82,12 +82,12 @@ fn a_canonical_value_is_closed_by_octets(rt: HostRuntime) {
 #[test]
 fn sequences_hold_sequences(rt: HostRuntime) {
     let alloc = rt.alloc();
-    let short = [0x30, 0x08, 0x01, 0x01, 0x00, 0x30, 0x03, 0x01, 0x01, 0xFF];
-    assert!(rt; ber::decode::<Both<bool, Both<bool, bool>>>(alloc, &short).is_err());
-    let whole = [
+    const SHORT: &[u8] = &[0x30, 0x08, 0x01, 0x01, 0x00, 0x30, 0x03, 0x01, 0x01, 0xFF];
+    assert!(rt; ber::decode::<Both<bool, Both<bool, bool>>>(alloc, SHORT).is_err());
+    const WHOLE: &[u8] = &[
         0x30, 0x0B, 0x01, 0x01, 0x00, 0x30, 0x06, 0x01, 0x01, 0xFF, 0x02, 0x01, 0x07,
     ];
-    let read = "Both { first: false, second: Both { first: true, second: 7 } }";
-    answers::<Both<bool, Both<bool, u8>>>(&rt, alloc, &[(&whole, Codec::Der, read)]);
-    rewrites::<Both<bool, Both<bool, u8>>>(&rt, alloc, &[(&whole, Codec::Der, Codec::Ber, &whole)]);
+    const READ: &str = "Both { first: false, second: Both { first: true, second: 7 } }";
+    answers::<Both<bool, Both<bool, u8>>>(&rt, alloc, &[(WHOLE, Codec::Der, READ)]);
+    rewrites::<Both<bool, Both<bool, u8>>>(&rt, alloc, &[(WHOLE, Codec::Der, Codec::Ber, WHOLE)]);
 }

@@ -24,14 +24,14 @@ fn writes_sets(rt: HostRuntime) {
         one: 2,
         two: 3,
     };
-    let definite = [
+    const DEFINITE: &[u8] = &[
         0x31, 0x09, 0x80, 0x01, 0x01, 0x81, 0x01, 0x02, 0x82, 0x01, 0x03,
     ];
-    rises(&rt, alloc, &set, &definite);
-    let indefinite = [
+    rises(&rt, alloc, &set, DEFINITE);
+    const INDEFINITE: &[u8] = &[
         0x31, 0x80, 0x80, 0x01, 0x01, 0x81, 0x01, 0x02, 0x82, 0x01, 0x03, 0x00, 0x00,
     ];
-    holds(&rt, encoded(alloc, Codec::Cer, &set), &indefinite);
+    holds(&rt, encoded(alloc, Codec::Cer, &set), INDEFINITE);
 }
 
 // [2], [1], [0], and [0], [2], [1].
@@ -61,10 +61,10 @@ fn constructed_components_go_by_their_tags(rt: HostRuntime) {
         second: Explicit::new(2),
         third: Implicit::new(3),
     };
-    let octets = [
+    const OCTETS: &[u8] = &[
         0x31, 0x0B, 0x80, 0x01, 0x01, 0xA2, 0x03, 0x02, 0x01, 0x02, 0x83, 0x01, 0x03,
     ];
-    rises(&rt, alloc, &rising, &octets);
+    rises(&rt, alloc, &rising, OCTETS);
     let falling: Three<At<0>, At<3>, Explicit<ContextTag<2>, u8>> = Three {
         first: Implicit::new(1),
         second: Implicit::new(2),
@@ -90,9 +90,9 @@ fn nested(alloc: Global) -> Result<Option<Nested>, AllocError> {
 #[test]
 fn writes_sets_in_sets(rt: HostRuntime) {
     let value = made(&rt, nested(rt.alloc()));
-    let octets = [
+    const OCTETS: &[u8] = &[
         0x31, 0x12, 0x31, 0x06, 0x80, 0x01, 0x01, 0x81, 0x01, 0x02, 0x40, 0x01, 0x07, 0xA3, 0x05,
         0x30, 0x03, 0x02, 0x01, 0x09,
     ];
-    rises(&rt, rt.alloc(), &value, &octets);
+    rises(&rt, rt.alloc(), &value, OCTETS);
 }

@@ -49,19 +49,15 @@ fn read_number(decoder: &mut Decoder<'_>) -> Result<Set3, DecodeError> {
 fn refuses_defaults_in_sets(rt: HostRuntime) {
     const PRESENT: &str = "CodecSpecific { inner: Der(DefaultValuePresent) }";
     const SEVEN: &str = "Set3 { zero: 7, one: 0, two: 0 }";
-    let there = [0x31, 0x03, 0x80, 0x01, 0x07];
-    let other = [0x31, 0x03, 0x80, 0x01, 0x08];
+    const THERE: &[u8] = &[0x31, 0x03, 0x80, 0x01, 0x07];
+    const OTHER: &[u8] = &[0x31, 0x03, 0x80, 0x01, 0x08];
     let alloc = rt.alloc();
     for (octets, rules, text) in [
-        (there.as_slice(), Codec::Der, PRESENT),
-        (there.as_slice(), Codec::Ber, SEVEN),
-        (there.as_slice(), Codec::Cer, SEVEN),
+        (THERE, Codec::Der, PRESENT),
+        (THERE, Codec::Ber, SEVEN),
+        (THERE, Codec::Cer, SEVEN),
         (&[0x31, 0x00], Codec::Der, SEVEN),
-        (
-            other.as_slice(),
-            Codec::Der,
-            "Set3 { zero: 8, one: 0, two: 0 }",
-        ),
+        (OTHER, Codec::Der, "Set3 { zero: 8, one: 0, two: 0 }"),
     ] {
         let mut decoder = decoder_of(alloc, octets, rules);
         told(&rt, alloc, rules, read_number(&mut decoder), text);

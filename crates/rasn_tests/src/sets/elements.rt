@@ -5,7 +5,7 @@ use std::alloc::{AllocError, Global};
 use std::process::Abort;
 
 /// A SET OF of these numbers.
-fn bag(alloc: Global, numbers: &[u8]) -> Result<Option<SetOf<u8>>, AllocError> {
+fn set_of(alloc: Global, numbers: &[u8]) -> Result<Option<SetOf<u8>>, AllocError> {
     let numbers = Vec::from_slice(alloc, numbers)?;
     Ok(Some(SetOf::from_vec(numbers)))
 }
@@ -14,16 +14,16 @@ fn bag(alloc: Global, numbers: &[u8]) -> Result<Option<SetOf<u8>>, AllocError> {
 #[test]
 fn keeps_the_walk(rt: HostRuntime) {
     let alloc = rt.alloc();
-    let mut bag = made(&rt, bag(alloc, &[3, 1, 3]));
+    let mut set_of = made(&rt, set_of(alloc, &[3, 1, 3]));
     facts(
         &rt,
         &[
-            bag.len() == 3,
-            bag.insert(2).is_ok(),
-            bag.as_slice() == [3, 1, 3, 2].as_slice(),
-            bag.iter().eq([3, 1, 3, 2].iter()),
-            !bag.is_empty(),
-            bag.into_vec().as_slice() == [3, 1, 3, 2].as_slice(),
+            set_of.len() == 3,
+            set_of.insert(2).is_ok(),
+            set_of.as_slice() == [3, 1, 3, 2].as_slice(),
+            set_of.iter().eq([3, 1, 3, 2].iter()),
+            !set_of.is_empty(),
+            set_of.into_vec().as_slice() == [3, 1, 3, 2].as_slice(),
         ],
     );
 }
@@ -35,10 +35,10 @@ fn begins_without_elements(rt: HostRuntime) {
     facts(&rt, &[empty.is_empty(), empty.len() == 0, next.is_none()]);
 }
 
-/// Holds whether the bags of these numbers are equal, either way round.
+/// Holds whether the SETs OF of these numbers are equal, either way round.
 fn are_equal(rt: &impl Abort, alloc: Global, first: &[u8], second: &[u8], equal: bool) {
-    let first = made(rt, bag(alloc, first));
-    let second = made(rt, bag(alloc, second));
+    let first = made(rt, set_of(alloc, first));
+    let second = made(rt, set_of(alloc, second));
     facts(
         rt,
         &[(first == second) == equal, (second == first) == equal],
@@ -47,7 +47,7 @@ fn are_equal(rt: &impl Abort, alloc: Global, first: &[u8], second: &[u8], equal:
 
 // The order doesn't count, but how often each element stands there does (X.680 28).
 #[test]
-fn equal_bags_have_equal_elements_equally_often(rt: HostRuntime) {
+fn equal_sets_of_have_equal_elements_equally_often(rt: HostRuntime) {
     let alloc = rt.alloc();
     are_equal(&rt, alloc, &[1, 2, 2], &[2, 1, 2], true);
     are_equal(&rt, alloc, &[1, 2, 2], &[1, 1, 2], false);

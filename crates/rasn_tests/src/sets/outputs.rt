@@ -1,7 +1,7 @@
 ghost use Rattle.rasn_enc.specs.View.{Extends};
 
-use super::bags::lists;
 use super::order::OUT_OF_ORDER;
+use super::sets_of::lists;
 use crate::writing::{done, holds, made, refused};
 use rasn::ber::enc::{Encoder, EncoderOptions};
 use rasn::enc::Encode;
@@ -115,6 +115,6 @@ fn outputs_of_sets_are_in_order(rt: HostRuntime) {
     let answer = outputs_falling(&rt, encoder).map(|_| ());
     refused(&rt, alloc, Codec::Der, answer, OUT_OF_ORDER);
     let encoder = started(&rt, Encoder::new(alloc, EncoderOptions::der()));
-    let octets = [0x02, 0x01, 0x02, 0x01, 0x01, 0xFF];
-    holds(&rt, outputs_falling(&rt, encoder), &octets);
+    const OCTETS: &[u8] = &[0x02, 0x01, 0x02, 0x01, 0x01, 0xFF];
+    holds(&rt, outputs_falling(&rt, encoder), OCTETS);
 }

@@ -38,6 +38,6 @@ fn write_past_a_refused_set(encoder: &mut Encoder) -> Result<(), EncodeError> {
 fn a_refused_set_leaves_no_tag(rt: HostRuntime) {
     let mut encoder = new_encoder(&rt, rt.alloc(), Codec::Der);
     done(&rt, write_past_a_refused_set(&mut encoder));
-    let octets = [0x31, 0x06, 0x80, 0x01, 0x01, 0x81, 0x01, 0x02];
-    holds(&rt, encoder.output(), &octets);
+    const OCTETS: &[u8] = &[0x31, 0x06, 0x80, 0x01, 0x01, 0x81, 0x01, 0x02];
+    holds(&rt, encoder.output(), OCTETS);
 }

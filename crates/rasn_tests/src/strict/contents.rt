@@ -13,19 +13,19 @@ const SET_BITS: &str = "CodecSpecific { inner: Der(NonzeroUnusedBits) }";
 // The first nine bits of a number aren't equal (X.690 8.3.2). The value is taken.
 #[test]
 fn integers_have_the_fewest_octets(rt: HostRuntime) {
-    let five = "Integer { octets: [5] }";
-    let low = "Integer { octets: [128] }";
+    const FIVE: &str = "Integer { octets: [5] }";
+    const LOW: &str = "Integer { octets: [128] }";
     reads::<Integer>(
         &rt,
         rt.alloc(),
         &[
-            (&[0x02, 0x02, 0x00, 0x05], Codec::Ber, five, 4),
-            (&[0x02, 0x02, 0x00, 0x05], Codec::Cer, five, 4),
+            (&[0x02, 0x02, 0x00, 0x05], Codec::Ber, FIVE, 4),
+            (&[0x02, 0x02, 0x00, 0x05], Codec::Cer, FIVE, 4),
             (&[0x02, 0x02, 0x00, 0x05], Codec::Der, LONG_NUMBER, 4),
-            (&[0x02, 0x02, 0xFF, 0x80], Codec::Ber, low, 4),
-            (&[0x02, 0x02, 0xFF, 0x80], Codec::Cer, low, 4),
+            (&[0x02, 0x02, 0xFF, 0x80], Codec::Ber, LOW, 4),
+            (&[0x02, 0x02, 0xFF, 0x80], Codec::Cer, LOW, 4),
             (&[0x02, 0x02, 0xFF, 0x80], Codec::Der, LONG_NUMBER, 4),
-            (&[0x02, 0x01, 0x80], Codec::Der, low, 3),
+            (&[0x02, 0x01, 0x80], Codec::Der, LOW, 3),
         ],
     );
 }
@@ -46,13 +46,13 @@ fn numbers_have_the_fewest_octets(rt: HostRuntime) {
             (&[0x02, 0x00], Codec::Der, "UnexpectedEmptyInput", 2),
         ],
     );
-    let wide = "IntegerOverflow { max_width: 8 }";
+    const WIDE: &str = "IntegerOverflow { max_width: 8 }";
     reads::<u8>(
         &rt,
         rt.alloc(),
         &[
-            (&[0x02, 0x02, 0xFF, 0x80], Codec::Ber, wide, 4),
-            (&[0x02, 0x02, 0xFF, 0x80], Codec::Cer, wide, 4),
+            (&[0x02, 0x02, 0xFF, 0x80], Codec::Ber, WIDE, 4),
+            (&[0x02, 0x02, 0xFF, 0x80], Codec::Cer, WIDE, 4),
             (&[0x02, 0x02, 0xFF, 0x80], Codec::Der, LONG_NUMBER, 4),
         ],
     );
@@ -76,19 +76,19 @@ fn enumerated_values_have_the_fewest_octets(rt: HostRuntime) {
 // No subidentifier begins with 80 (X.690 8.19.2). The value is taken.
 #[test]
 fn arcs_have_the_fewest_octets(rt: HostRuntime) {
-    let found = "ObjectIdentifier { arcs: [1, 2, 1] }";
-    let first = "ObjectIdentifier { arcs: [1, 2] }";
+    const FOUND: &str = "ObjectIdentifier { arcs: [1, 2, 1] }";
+    const FIRST: &str = "ObjectIdentifier { arcs: [1, 2] }";
     reads::<ObjectIdentifier>(
         &rt,
         rt.alloc(),
         &[
-            (&[0x06, 0x03, 0x2A, 0x80, 0x01], Codec::Ber, found, 5),
-            (&[0x06, 0x03, 0x2A, 0x80, 0x01], Codec::Cer, found, 5),
+            (&[0x06, 0x03, 0x2A, 0x80, 0x01], Codec::Ber, FOUND, 5),
+            (&[0x06, 0x03, 0x2A, 0x80, 0x01], Codec::Cer, FOUND, 5),
             (&[0x06, 0x03, 0x2A, 0x80, 0x01], Codec::Der, LONG_ARC, 5),
-            (&[0x06, 0x02, 0x80, 0x2A], Codec::Ber, first, 4),
-            (&[0x06, 0x02, 0x80, 0x2A], Codec::Cer, first, 4),
+            (&[0x06, 0x02, 0x80, 0x2A], Codec::Ber, FIRST, 4),
+            (&[0x06, 0x02, 0x80, 0x2A], Codec::Cer, FIRST, 4),
             (&[0x06, 0x02, 0x80, 0x2A], Codec::Der, LONG_ARC, 4),
-            (&[0x06, 0x02, 0x2A, 0x01], Codec::Der, found, 4),
+            (&[0x06, 0x02, 0x2A, 0x01], Codec::Der, FOUND, 4),
         ],
     );
 }
@@ -96,14 +96,14 @@ fn arcs_have_the_fewest_octets(rt: HostRuntime) {
 // Unused bits are 0 (X.690 11.2.1). Nothing is taken.
 #[test]
 fn unused_bits_are_zero(rt: HostRuntime) {
-    let kind = "InvalidBitString { bits: 8 }";
+    const KIND: &str = "InvalidBitString { bits: 8 }";
     reads::<BitString>(
         &rt,
         rt.alloc(),
         &[
             (&[0x03, 0x02, 0x05, 0xFF], Codec::Der, SET_BITS, 0),
             (&[0x03, 0x02, 0x01, 0x01], Codec::Der, SET_BITS, 0),
-            (&[0x03, 0x02, 0x08, 0xFF], Codec::Der, kind, 0),
+            (&[0x03, 0x02, 0x08, 0xFF], Codec::Der, KIND, 0),
         ],
     );
 }

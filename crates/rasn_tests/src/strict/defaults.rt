@@ -10,17 +10,17 @@ const PRESENT: &str = "CodecSpecific { inner: Der(DefaultValuePresent) }";
 // SEQUENCE { INTEGER DEFAULT 7 }. The header and the contents are taken.
 #[test]
 fn defaults_are_left_out_of_a_sequence(rt: HostRuntime) {
-    let seven = "Counted { number: 7 }";
-    let five = "Counted { number: 5 }";
+    const SEVEN: &str = "Counted { number: 7 }";
+    const FIVE: &str = "Counted { number: 5 }";
     reads::<Counted>(
         &rt,
         rt.alloc(),
         &[
-            (&[0x30, 0x03, 0x02, 0x01, 0x07], Codec::Ber, seven, 5),
-            (&[0x30, 0x03, 0x02, 0x01, 0x07], Codec::Cer, seven, 5),
+            (&[0x30, 0x03, 0x02, 0x01, 0x07], Codec::Ber, SEVEN, 5),
+            (&[0x30, 0x03, 0x02, 0x01, 0x07], Codec::Cer, SEVEN, 5),
             (&[0x30, 0x03, 0x02, 0x01, 0x07], Codec::Der, PRESENT, 5),
-            (&[0x30, 0x03, 0x02, 0x01, 0x05], Codec::Der, five, 5),
-            (&[0x30, 0x00], Codec::Der, seven, 2),
+            (&[0x30, 0x03, 0x02, 0x01, 0x05], Codec::Der, FIVE, 5),
+            (&[0x30, 0x00], Codec::Der, SEVEN, 2),
         ],
     );
 }

@@ -13,18 +13,18 @@ const LONG_LENGTH: &str = "CodecSpecific { inner: Der(NonMinimalLength) }";
 // A number below 31 has the low form, and no number has a leading octet 80 (X.690 8.1.2.2, 8.1.2.4.2).
 #[test]
 fn tag_numbers_are_short(rt: HostRuntime) {
-    let low = &[0x1F, 0x01, 0x01, 0xFF];
-    let padded = &[0x1F, 0x80, 0x01, 0x01, 0xFF];
+    const LOW: &[u8] = &[0x1F, 0x01, 0x01, 0xFF];
+    const PADDED: &[u8] = &[0x1F, 0x80, 0x01, 0x01, 0xFF];
     reads::<bool>(
         &rt,
         rt.alloc(),
         &[
-            (low, Codec::Ber, "true", 4),
-            (low, Codec::Cer, "true", 4),
-            (low, Codec::Der, LONG_TAG, 0),
-            (padded, Codec::Ber, "true", 5),
-            (padded, Codec::Cer, "true", 5),
-            (padded, Codec::Der, LONG_TAG, 0),
+            (LOW, Codec::Ber, "true", 4),
+            (LOW, Codec::Cer, "true", 4),
+            (LOW, Codec::Der, LONG_TAG, 0),
+            (PADDED, Codec::Ber, "true", 5),
+            (PADDED, Codec::Cer, "true", 5),
+            (PADDED, Codec::Der, LONG_TAG, 0),
         ],
     );
 }
@@ -32,13 +32,13 @@ fn tag_numbers_are_short(rt: HostRuntime) {
 // Where a tag is looked at, and where a value may be left out, too.
 #[test]
 fn tags_that_are_looked_at_are_short(rt: HostRuntime) {
-    let found = "Tag { class: Universal, value: 1 }";
+    const FOUND: &str = "Tag { class: Universal, value: 1 }";
     looks(
         &rt,
         rt.alloc(),
         &[
-            (&[0x1F, 0x01], Codec::Ber, found),
-            (&[0x1F, 0x01], Codec::Cer, found),
+            (&[0x1F, 0x01], Codec::Ber, FOUND),
+            (&[0x1F, 0x01], Codec::Cer, FOUND),
             (&[0x1F, 0x01], Codec::Der, LONG_TAG),
         ],
     );
@@ -56,7 +56,7 @@ fn tags_that_are_looked_at_are_short(rt: HostRuntime) {
 // A BOOLEAN is primitive, whatever its length is (X.690 8.1.2.5, 8.2.1).
 #[test]
 fn booleans_are_primitive(rt: HostRuntime) {
-    let open = "CodecSpecific { inner: Ber(IndefiniteLengthNotAllowed) }";
+    const OPEN: &str = "CodecSpecific { inner: Ber(IndefiniteLengthNotAllowed) }";
     reads::<bool>(
         &rt,
         rt.alloc(),
@@ -64,8 +64,8 @@ fn booleans_are_primitive(rt: HostRuntime) {
             (&[0x21, 0x01, 0xFF], Codec::Ber, "true", 3),
             (&[0x21, 0x01, 0xFF], Codec::Cer, "true", 3),
             (&[0x21, 0x01, 0xFF], Codec::Der, OTHER_BIT, 0),
-            (&[0x21, 0x80, 0x00, 0x00], Codec::Ber, open, 2),
-            (&[0x21, 0x80, 0x00, 0x00], Codec::Cer, open, 2),
+            (&[0x21, 0x80, 0x00, 0x00], Codec::Ber, OPEN, 2),
+            (&[0x21, 0x80, 0x00, 0x00], Codec::Cer, OPEN, 2),
             (&[0x21, 0x80, 0x00, 0x00], Codec::Der, OTHER_BIT, 0),
         ],
     );
@@ -107,19 +107,19 @@ fn lengths_are_short(rt: HostRuntime) {
             (&[0x01, 0x81, 0x01, 0xFF], Codec::Der, LONG_LENGTH, 0),
         ],
     );
-    let two = "OctetString { octets: [161, 178] }";
-    let long = &[0x04, 0x81, 0x02, 0xA1, 0xB2];
-    let longer = &[0x04, 0x82, 0x00, 0x02, 0xA1, 0xB2];
+    const TWO: &str = "OctetString { octets: [161, 178] }";
+    const LONG: &[u8] = &[0x04, 0x81, 0x02, 0xA1, 0xB2];
+    const LONGER: &[u8] = &[0x04, 0x82, 0x00, 0x02, 0xA1, 0xB2];
     reads::<OctetString>(
         &rt,
         alloc,
         &[
-            (long, Codec::Ber, two, 5),
-            (long, Codec::Cer, two, 5),
-            (long, Codec::Der, LONG_LENGTH, 0),
-            (longer, Codec::Ber, two, 6),
-            (longer, Codec::Cer, two, 6),
-            (longer, Codec::Der, LONG_LENGTH, 0),
+            (LONG, Codec::Ber, TWO, 5),
+            (LONG, Codec::Cer, TWO, 5),
+            (LONG, Codec::Der, LONG_LENGTH, 0),
+            (LONGER, Codec::Ber, TWO, 6),
+            (LONGER, Codec::Cer, TWO, 6),
+            (LONGER, Codec::Der, LONG_LENGTH, 0),
         ],
     );
 }
@@ -127,15 +127,15 @@ fn lengths_are_short(rt: HostRuntime) {
 // That of a SEQUENCE too (X.690 10.1).
 #[test]
 fn lengths_of_sequences_are_short(rt: HostRuntime) {
-    let octets = &[0x30, 0x81, 0x06, 0x02, 0x01, 0x05, 0x01, 0x01, 0xFF];
-    let pair = "Pair { number: 5, truth: true }";
+    const OCTETS: &[u8] = &[0x30, 0x81, 0x06, 0x02, 0x01, 0x05, 0x01, 0x01, 0xFF];
+    const PAIR: &str = "Pair { number: 5, truth: true }";
     reads::<Pair>(
         &rt,
         rt.alloc(),
         &[
-            (octets, Codec::Ber, pair, 9),
-            (octets, Codec::Cer, pair, 9),
-            (octets, Codec::Der, LONG_LENGTH, 0),
+            (OCTETS, Codec::Ber, PAIR, 9),
+            (OCTETS, Codec::Cer, PAIR, 9),
+            (OCTETS, Codec::Der, LONG_LENGTH, 0),
         ],
     );
 }

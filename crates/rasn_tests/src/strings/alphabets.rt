@@ -55,13 +55,13 @@ fn admits_its_alphabet(rt: HostRuntime) {
 #[test]
 fn has_whole_units(rt: HostRuntime) {
     let alloc = rt.alloc();
-    let letter = &[0x00, 0x41];
+    const LETTER: &[u8] = &[0x00, 0x41];
     match (
-        BmpString::from_octets(alloc, letter),
-        BmpString::from_octets(alloc, letter),
+        BmpString::from_octets(alloc, LETTER),
+        BmpString::from_octets(alloc, LETTER),
     ) {
         (Ok(Some(one)), Ok(Some(other))) => {
-            assert_eq!(rt; one.as_octets(), letter.as_slice());
+            assert_eq!(rt; one.as_octets(), LETTER);
             assert!(rt; one == other);
         }
         _ => assert!(rt; false),

@@ -19,10 +19,10 @@ fn writes_bits(rt: HostRuntime) {
         );
         done(&rt, answer);
     }
-    let octets = [
+    const OCTETS: &[u8] = &[
         0x03, 0x03, 0x05, 0xD5, 0xA0, 0x03, 0x03, 0x06, 0xAB, 0x40, 0x03, 0x01, 0x00,
     ];
-    holds(&rt, encoder.output(), &octets);
+    holds(&rt, encoder.output(), OCTETS);
 }
 
 // More than 999 octets of bits are cut under the canonical rules (X.690 9.2).
@@ -56,6 +56,6 @@ fn refuses_bits_out_of_bounds(rt: HostRuntime) {
     };
     let three = made(&rt, set_bits(encoder.alloc(), 3));
     let answer = three.encode_with_constraints(&mut encoder, &four, Identifier::EMPTY);
-    let kind = "SizeConstraintNotSatisfied { size: 3, expected: Single(4) }";
-    refused(&rt, alloc, Codec::Der, answer, kind);
+    const KIND: &str = "SizeConstraintNotSatisfied { size: 3, expected: Single(4) }";
+    refused(&rt, alloc, Codec::Der, answer, KIND);
 }

@@ -18,14 +18,14 @@ fn are_packed(alloc: Global, bits: &BitStr<'_>, octets: &[u8]) -> bool {
 #[test]
 fn packs_bits(rt: HostRuntime) {
     let alloc = rt.alloc();
-    let octets = &[0xD5, 0xBF];
-    let bits = made(&rt, Ok(BitStr::new(octets, 0, 11)));
+    const OCTETS: &[u8] = &[0xD5, 0xBF];
+    let bits = made(&rt, Ok(BitStr::new(OCTETS, 0, 11)));
     assert!(rt; bits.len() == 11);
     let (front, back) = bits.split_at(1);
     facts(
         &rt,
         &[
-            BitStr::new(octets, 5, 12).is_none(),
+            BitStr::new(OCTETS, 5, 12).is_none(),
             bits.get(3) == Some(true),
             bits.get(9) == Some(false),
             bits.get(11).is_none(),

@@ -40,11 +40,11 @@ fn reads_utf8_across_segments(rt: HostRuntime) {
 // The size of a UTF8String is in characters, that of a BMPString in units, after the conversion.
 #[test]
 fn counts_characters_and_units(rt: HostRuntime) {
-    let octets = [
+    const OCTETS: &[u8] = &[
         0x0C, 0x03, 0xC3, 0xAB, 0x61, 0x0C, 0x01, 0xC3, 0x1E, 0x02, 0x00, 0x41, 0x1E, 0x03, 0x00,
         0x41, 0x00,
     ];
-    let mut decoder = decoder_of(rt.alloc(), &octets, Codec::Ber);
+    let mut decoder = decoder_of(rt.alloc(), OCTETS, Codec::Ber);
     told(
         &rt,
         rt.alloc(),
@@ -79,15 +79,15 @@ fn counts_characters_and_units(rt: HostRuntime) {
 #[test]
 fn refuses_foreign_octets(rt: HostRuntime) {
     let kind = "PermittedAlphabetError { octet: 128, position: 1 }";
-    let octets = &[0x16, 0x02, 0x41, 0x80];
-    reads::<Ia5String>(&rt, rt.alloc(), &[(octets, Codec::Ber, kind, 4)]);
+    const OCTETS: &[u8] = &[0x16, 0x02, 0x41, 0x80];
+    reads::<Ia5String>(&rt, rt.alloc(), &[(OCTETS, Codec::Ber, kind, 4)]);
     reads::<VisibleString>(
         &rt,
         rt.alloc(),
         &[(&[0x1A, 0x02, 0x41, 0x80], Codec::Ber, kind, 4)],
     );
     let kind = "SizeConstraintNotSatisfied { size: Some(2), expected: Single(1) }";
-    reads_within::<Ia5String>(&rt, rt.alloc(), &sized(1), &[(octets, Codec::Ber, kind, 4)]);
+    reads_within::<Ia5String>(&rt, rt.alloc(), &sized(1), &[(OCTETS, Codec::Ber, kind, 4)]);
 }
 
 // The example of X.690 8.21.5.4, and the tags of X.680 table 8.
@@ -95,26 +95,26 @@ fn refuses_foreign_octets(rt: HostRuntime) {
 fn reads_each_type(rt: HostRuntime) {
     let alloc = rt.alloc();
     let ber = Codec::Ber;
-    let smith = &[
+    const SMITH: &[u8] = &[
         0x36, 0x80, 0x04, 0x02, 0x53, 0x6D, 0x04, 0x03, 0x69, 0x74, 0x68, 0x00, 0x00,
     ];
-    reads_octets::<Ia5String>(&rt, alloc, &[(smith, ber, b"Smith", 13)]);
+    reads_octets::<Ia5String>(&rt, alloc, &[(SMITH, ber, b"Smith", 13)]);
     reads_octets::<NumericString>(&rt, alloc, &[(&[0x12, 0x01, 0x31], ber, b"1", 3)]);
     reads_octets::<PrintableString>(&rt, alloc, &[(&[0x13, 0x01, 0x41], ber, b"A", 3)]);
     reads_octets::<TeletexString>(&rt, alloc, &[(&[0x14, 0x01, 0xC8], ber, &[0xC8], 3)]);
     reads_octets::<GraphicString>(&rt, alloc, &[(&[0x19, 0x01, 0x41], ber, b"A", 3)]);
     reads_octets::<VisibleString>(&rt, alloc, &[(&[0x1A, 0x01, 0x41], ber, b"A", 3)]);
     reads_octets::<GeneralString>(&rt, alloc, &[(&[0x1B, 0x01, 0x41], ber, b"A", 3)]);
-    let letter = &[0x1E, 0x02, 0x00, 0x41];
-    reads_octets::<BmpString>(&rt, alloc, &[(letter, ber, &[0x00, 0x41], 4)]);
+    const LETTER: &[u8] = &[0x1E, 0x02, 0x00, 0x41];
+    reads_octets::<BmpString>(&rt, alloc, &[(LETTER, ber, &[0x00, 0x41], 4)]);
 }
 
 #[test]
 fn calls_read_numeric_to_ia5(rt: HostRuntime) {
-    let octets = &[
+    const OCTETS: &[u8] = &[
         0x12, 0x01, 0x31, 0x13, 0x01, 0x41, 0x14, 0x01, 0xC8, 0x16, 0x01, 0x41,
     ];
-    let mut decoder = decoder_of(rt.alloc(), octets, Codec::Der);
+    let mut decoder = decoder_of(rt.alloc(), OCTETS, Codec::Der);
     let any = Constraints::NONE;
     gives(
         &rt,
@@ -137,8 +137,8 @@ fn calls_read_numeric_to_ia5(rt: HostRuntime) {
 
 #[test]
 fn calls_read_graphic_to_general(rt: HostRuntime) {
-    let octets = &[0x19, 0x01, 0x41, 0x1A, 0x01, 0x41, 0x1B, 0x01, 0x41];
-    let mut decoder = decoder_of(rt.alloc(), octets, Codec::Der);
+    const OCTETS: &[u8] = &[0x19, 0x01, 0x41, 0x1A, 0x01, 0x41, 0x1B, 0x01, 0x41];
+    let mut decoder = decoder_of(rt.alloc(), OCTETS, Codec::Der);
     let any = Constraints::NONE;
     gives(
         &rt,
@@ -166,11 +166,11 @@ fn reads_a_fixed_size(rt: HostRuntime) {
         rt.alloc(),
         &[(&[0x04, 0x01, 0x41], Codec::Ber, b"A", 3)],
     );
-    let kind = "SizeConstraintNotSatisfied { size: Some(2), expected: Single(1) }";
+    const KIND: &str = "SizeConstraintNotSatisfied { size: Some(2), expected: Single(1) }";
     reads_within::<FixedOctetString<1>>(
         &rt,
         rt.alloc(),
         &sized(5),
-        &[(&[0x04, 0x02, 0x41, 0x42], Codec::Ber, kind, 4)],
+        &[(&[0x04, 0x02, 0x41, 0x42], Codec::Ber, KIND, 4)],
     );
 }

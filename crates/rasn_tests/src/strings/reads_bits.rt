@@ -117,11 +117,11 @@ fn refuses_bits(rt: HostRuntime) {
             ),
         ],
     );
-    let kind = "SizeConstraintNotSatisfied { size: Some(3), expected: Single(4) }";
+    const KIND: &str = "SizeConstraintNotSatisfied { size: Some(3), expected: Single(4) }";
     reads_within::<BitString>(
         &rt,
         rt.alloc(),
         &sized(4),
-        &[(&[0x03, 0x02, 0x05, 0xE0], Codec::Der, kind, 4)],
+        &[(&[0x03, 0x02, 0x05, 0xE0], Codec::Der, KIND, 4)],
     );
 }

@@ -12,20 +12,20 @@ use std::process::Abort;
 #[test]
 fn strings_are_gathered_from_segments(rt: HostRuntime) {
     let alloc = rt.alloc();
-    let input = [
+    const INPUT: &[u8] = &[
         0x24, 0x80, 0x04, 0x01, 0xA1, 0x24, 0x03, 0x04, 0x01, 0xB2, 0x24, 0x80, 0x04, 0x01, 0xC3,
         0x00, 0x00, 0x00, 0x00,
     ];
-    let three = "OctetString { octets: [161, 178, 195] }";
-    let two = "OctetString { octets: [161, 178] }";
-    let cut = "CodecSpecific { inner: Der(ConstructedEncodingNotAllowed) }";
+    const THREE: &str = "OctetString { octets: [161, 178, 195] }";
+    const TWO: &str = "OctetString { octets: [161, 178] }";
+    const CUT: &str = "CodecSpecific { inner: Der(ConstructedEncodingNotAllowed) }";
     answers::<OctetString>(
         &rt,
         alloc,
         &[
-            (&input, Codec::Ber, three),
-            (&[0x24, 0x03, 0x04, 0x01, 0xA1], Codec::Der, cut),
-            (&[0x04, 0x81, 0x02, 0xA1, 0xB2], Codec::Ber, two),
+            (INPUT, Codec::Ber, THREE),
+            (&[0x24, 0x03, 0x04, 0x01, 0xA1], Codec::Der, CUT),
+            (&[0x04, 0x81, 0x02, 0xA1, 0xB2], Codec::Ber, TWO),
         ],
     );
     reads::<OctetString>(

@@ -45,8 +45,8 @@ fn writes_numeric_to_graphic(rt: HostRuntime) {
     writes_string::<NumericType>(&rt, alloc, b"1", &[0x12, 0x01, 0x31]);
     writes_string::<PrintableType>(&rt, alloc, b"A", &[0x13, 0x01, 0x41]);
     writes_string::<TeletexType>(&rt, alloc, &[0xC8], &[0x14, 0x01, 0xC8]);
-    let octets = &[0x16, 0x05, 0x53, 0x6D, 0x69, 0x74, 0x68];
-    writes_string::<Ia5Type>(&rt, alloc, b"Smith", octets);
+    const OCTETS: &[u8] = &[0x16, 0x05, 0x53, 0x6D, 0x69, 0x74, 0x68];
+    writes_string::<Ia5Type>(&rt, alloc, b"Smith", OCTETS);
     writes_string::<GraphicType>(&rt, alloc, b"A", &[0x19, 0x01, 0x41]);
 }
 
@@ -58,8 +58,8 @@ fn writes_visible_to_utf8(rt: HostRuntime) {
     writes_string::<GeneralType>(&rt, alloc, b"A", &[0x1B, 0x01, 0x41]);
     let value = BmpString::from_octets(alloc, &[0x00, 0x41]);
     writes_made(&rt, alloc, der, value, &[0x1E, 0x02, 0x00, 0x41]);
-    let octets = &[0x0C, 0x05, 0x4A, 0x6F, 0x6E, 0x65, 0x73];
-    writes_made(&rt, alloc, der, text(alloc, "Jones"), octets);
+    const OCTETS: &[u8] = &[0x0C, 0x05, 0x4A, 0x6F, 0x6E, 0x65, 0x73];
+    writes_made(&rt, alloc, der, text(alloc, "Jones"), OCTETS);
     let value = FixedOctetString::<1>::new([0x41]);
     writes(&rt, alloc, &[(value, der, &[0x04, 0x01, 0x41])]);
 }
@@ -82,10 +82,10 @@ fn calls_write_numeric_to_ia5(rt: HostRuntime) {
     let value = made(&rt, Ia5String::from_octets(alloc, b"A"));
     let answer = encoder.encode_ia5_string(Tag::IA5_STRING, &any, &value, none);
     done(&rt, answer);
-    let octets = [
+    const OCTETS: &[u8] = &[
         0x12, 0x01, 0x31, 0x13, 0x01, 0x41, 0x14, 0x01, 0xC8, 0x16, 0x01, 0x41,
     ];
-    holds(&rt, encoder.output(), &octets);
+    holds(&rt, encoder.output(), OCTETS);
 }
 
 #[test]
@@ -103,8 +103,8 @@ fn calls_write_graphic_to_general(rt: HostRuntime) {
     let value = made(&rt, GeneralString::from_octets(alloc, b"A"));
     let answer = encoder.encode_general_string(Tag::GENERAL_STRING, &any, &value, none);
     done(&rt, answer);
-    let octets = [0x19, 0x01, 0x41, 0x1A, 0x01, 0x41, 0x1B, 0x01, 0x41];
-    holds(&rt, encoder.output(), &octets);
+    const OCTETS: &[u8] = &[0x19, 0x01, 0x41, 0x1A, 0x01, 0x41, 0x1B, 0x01, 0x41];
+    holds(&rt, encoder.output(), OCTETS);
 }
 
 // The size of a UTF8String is in characters, that of a BMPString in units.
@@ -124,12 +124,12 @@ fn checks_sizes_in_characters_and_units(rt: HostRuntime) {
     let answer = encoder.encode_bmp_string(Tag::BMP_STRING, &TWO, &units, none);
     done(&rt, answer);
     let answer = encoder.encode_utf8_string(Tag::UTF8_STRING, &TWO, "abc", none);
-    let kind = "SizeConstraintNotSatisfied { size: 3, expected: Single(2) }";
-    refused(&rt, alloc, Codec::Der, answer, kind);
-    let octets = [
+    const KIND: &str = "SizeConstraintNotSatisfied { size: 3, expected: Single(2) }";
+    refused(&rt, alloc, Codec::Der, answer, KIND);
+    const OCTETS: &[u8] = &[
         0x0C, 0x03, 0xC3, 0xAB, 0x61, 0x1E, 0x04, 0x00, 0x41, 0x00, 0x42,
     ];
-    holds(&rt, encoder.output(), &octets);
+    holds(&rt, encoder.output(), OCTETS);
 }
 
 // Three octets where there have to be two; nothing is written.
@@ -139,8 +139,8 @@ fn refuses_octets_out_of_bounds(rt: HostRuntime) {
     let mut encoder = new_encoder(&rt, alloc, Codec::Der);
     let three = made(&rt, repeated(encoder.alloc(), 0x01, 3));
     let answer = three.encode_with_constraints(&mut encoder, &TWO, Identifier::EMPTY);
-    let kind = "SizeConstraintNotSatisfied { size: 3, expected: Single(2) }";
-    refused(&rt, alloc, Codec::Der, answer, kind);
+    const KIND: &str = "SizeConstraintNotSatisfied { size: 3, expected: Single(2) }";
+    refused(&rt, alloc, Codec::Der, answer, KIND);
     holds(&rt, encoder.output(), &[]);
 }
 

@@ -72,8 +72,8 @@ fn reads_generalized_times(rt: HostRuntime) {
         ],
     );
     // Strings in segments are refused under DER (X.690 10.2).
-    let kind = "CodecSpecific { inner: Der(ConstructedEncodingNotAllowed) }";
-    reads::<GeneralizedTime>(&rt, rt.alloc(), &[(segments, Codec::Der, kind, 0)]);
+    const KIND: &str = "CodecSpecific { inner: Der(ConstructedEncodingNotAllowed) }";
+    reads::<GeneralizedTime>(&rt, rt.alloc(), &[(segments, Codec::Der, KIND, 0)]);
 }
 
 #[test]

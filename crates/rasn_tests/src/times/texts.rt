@@ -372,9 +372,9 @@ fn writes_far_days_and_leap_seconds(rt: HostRuntime) {
     let alloc = rt.alloc();
     writes_day(&rt, alloc, &some(&rt, Date::new(10000, 1, 1)), "+100000101");
     writes_day(&rt, alloc, &some(&rt, Date::new(-5, 1, 1)), "-00050101");
-    let text = "20161231235960.5Z";
-    let leap = some(&rt, parse_generalized_time(text.as_bytes()));
-    writes_general(&rt, alloc, &leap, text);
+    const TEXT: &str = "20161231235960.5Z";
+    let leap = some(&rt, parse_generalized_time(TEXT.as_bytes()));
+    writes_general(&rt, alloc, &leap, TEXT);
 }
 
 // Times are compared as instants; a leap second has second 59 alone, and offsets are below a day.

@@ -1,6 +1,6 @@
 //! Errors of reading.
 ghost use Rattle.std.specs.Prelude.{◌≡◌, IsTrue, ◌↔◌, if◌then◌else◌, nat_eq};
-ghost use Rattle.rasn_types.specs.Errors.{needed_of, IsMemory};
+ghost use Rattle.rasn_types.specs.Errors.{needed_of, IsOutOfMemory};
 
 use crate::hexadecimal::Hexadecimal;
 use crate::types::{Bounded, Codec, Integer, Tag};
@@ -40,9 +40,9 @@ pub struct DecodeError {
 const _: () = prove!(size_of::<Result<(), DecodeError>>() == 80);
 
 impl DecodeError {
-    /// Whether the cause is want of memory alone.
+    /// Whether the cause is running out of memory alone.
     pub fn is_out_of_memory(&self) -> bool
-        ensures { IsTrue result ↔ IsMemory self.now.kind }
+        ensures { IsTrue result ↔ IsOutOfMemory self.now.kind }
     {
         matches!(&self.kind, DecodeErrorKind::OutOfMemory)
     }

@@ -1,6 +1,6 @@
 //! Errors of writing.
 ghost use Rattle.std.specs.Prelude.{IsTrue, ◌↔◌};
-ghost use Rattle.rasn_types.specs.Errors.{IsEncodeMemory};
+ghost use Rattle.rasn_types.specs.Errors.{IsEncodeOutOfMemory};
 
 use crate::types::{Bounded, Codec, Integer};
 use thiserror::Error;
@@ -17,9 +17,9 @@ pub struct EncodeError {
 const _: () = prove!(size_of::<Result<(), EncodeError>>() == 72);
 
 impl EncodeError {
-    /// Whether the cause is want of memory alone.
+    /// Whether the cause is running out of memory alone.
     pub fn is_out_of_memory(&self) -> bool
-        ensures { IsTrue result ↔ IsEncodeMemory self.now.kind }
+        ensures { IsTrue result ↔ IsEncodeOutOfMemory self.now.kind }
     {
         matches!(&self.kind, EncodeErrorKind::OutOfMemory)
     }

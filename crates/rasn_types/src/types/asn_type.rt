@@ -6,7 +6,7 @@ pub trait AsnType: Drop {
     ghost use Rattle.std.specs.Prelude.{◌≡◌};
     ghost use Rattle.rasn_types.specs.declared.types.tag.Tag.{Tag};
     ghost use Rattle.rasn_types.specs.declared.types.constraints.Constraints.{Constraints};
-    ghost use Rattle.rasn_types.specs.Shapes.{Shape, Tree, given};
+    ghost use Rattle.rasn_types.specs.Shapes.{Shape, Tree, tagged_as};
 
     ghost TAG: { Tag };
 
@@ -23,7 +23,7 @@ pub trait AsnType: Drop {
     ghost tree: { Self → Tree };
 
     /// Its own tag and constraints change nothing.
-    ghost own: { given TAG CONSTRAINTS shape ≡ shape };
+    ghost own: { tagged_as TAG CONSTRAINTS shape ≡ shape };
 }
 
 impl AsnType for bool {

@@ -71,8 +71,8 @@ impl<G: AsnType, T: Eq> Eq for Implicit<G, T> {
 }
 
 impl<G: AsnType, T: AsnType> AsnType for Implicit<G, T> {
-    ghost use Rattle.rasn_types.specs.Shapes.{given};
-    ghost use Rattle.rasn_types.specs.Given.{given_again};
+    ghost use Rattle.rasn_types.specs.Shapes.{tagged_as};
+    ghost use Rattle.rasn_types.specs.Tagging.{tagged_again};
 
     ghost TAG = { G.TAG };
 
@@ -82,11 +82,11 @@ impl<G: AsnType, T: AsnType> AsnType for Implicit<G, T> {
 
     const CONSTRAINTS: Constraints = T::CONSTRAINTS;
 
-    ghost shape = { given G.TAG T.CONSTRAINTS T.shape };
+    ghost shape = { tagged_as G.TAG T.CONSTRAINTS T.shape };
 
     ghost tree = { T.tree };
 
-    ghost own = { given_again G.TAG T.CONSTRAINTS G.TAG T.CONSTRAINTS T.shape };
+    ghost own = { tagged_again G.TAG T.CONSTRAINTS G.TAG T.CONSTRAINTS T.shape };
 }
 
 /// A value behind a prefix of the tag of `G`, in front of its own tag (X.680 31.2.7).

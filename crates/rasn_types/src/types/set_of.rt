@@ -82,7 +82,7 @@ impl<T: Drop> SetOf<T> {
     /// Puts an element at the end of the walk.
     ///
     /// # Errors
-    /// Want of memory, and the elements stay as they were.
+    /// Running out of memory, and the elements stay as they were.
     pub fn insert(&mut self, value: T) -> Result<(), AllocError>
         ensures ok { OnOk result (self.new ≡ self.old ++ value ∷ []) }
         ensures err { OnErr result (self.new ≡ self.old) }
@@ -96,11 +96,11 @@ impl<T: Drop> SetOf<T> {
 
 impl<T: Eq> PartialEq for SetOf<T> {
     ghost use Rattle.std.specs.Cmp.{partial_equiv_from_equiv};
-    ghost use Rattle.rasn_types.specs.Bags.{bag_eq, bag_equiv};
+    ghost use Rattle.rasn_types.specs.SetsOf.{set_of_eq, set_of_equiv};
 
-    ghost eq = { bag_eq T.eq };
+    ghost eq = { set_of_eq T.eq };
 
-    ghost laws = { partial_equiv_from_equiv (bag_equiv T.Eq.laws) };
+    ghost laws = { partial_equiv_from_equiv (set_of_equiv T.Eq.laws) };
 
     fn eq(&self, other: &SetOf<T>) -> bool {
         are_as_often(&self.elements, &self.elements, &other.elements)
@@ -109,9 +109,9 @@ impl<T: Eq> PartialEq for SetOf<T> {
 }
 
 impl<T: Eq> Eq for SetOf<T> {
-    ghost use Rattle.rasn_types.specs.Bags.{bag_equiv};
+    ghost use Rattle.rasn_types.specs.SetsOf.{set_of_equiv};
 
-    ghost laws = { bag_equiv T.Eq.laws };
+    ghost laws = { set_of_equiv T.Eq.laws };
 }
 
 // Whether each of these stands equally often in both lists.
@@ -132,7 +132,7 @@ fn count<T: PartialEq>(value: &T, these: &[T]) -> usize
 
 impl<T: AsnType> AsnType for SetOf<T> {
     ghost use Rattle.std.specs.Prelude.{refl, None};
-    ghost use Rattle.rasn_types.specs.Shapes.{bag, walk};
+    ghost use Rattle.rasn_types.specs.Shapes.{set_of, walk};
     ghost use Rattle.rasn_types.specs.Tags.{in_universal};
     ghost use Rattle.rasn_types.specs.Trees.{list_tree, unconstrained};
 
@@ -144,7 +144,7 @@ impl<T: AsnType> AsnType for SetOf<T> {
 
     const CONSTRAINTS: Constraints = Constraints::NONE;
 
-    ghost shape = { bag (in_universal 17) T.shape None };
+    ghost shape = { set_of (in_universal 17) T.shape None };
 
     ghost tree = { λ v. walk (list_tree T.tree v) };
 
@@ -152,9 +152,9 @@ impl<T: AsnType> AsnType for SetOf<T> {
 }
 
 impl<T: LawfulEq + Eq> LawfulEq for SetOf<T> {
-    ghost use Rattle.rasn_types.specs.Bags.{bag_told};
+    ghost use Rattle.rasn_types.specs.SetsOf.{set_of_told};
 
-    ghost decides = { bag_told T.Eq.laws T.decides };
+    ghost decides = { set_of_told T.Eq.laws T.decides };
 }
 
 impl<T: AsnType> Present for SetOf<T> {

@@ -12,7 +12,7 @@ use rasn_types::error::DecodeError;
 use rasn_types::types::{BitString, Constraints, Tag};
 
 impl<'input> Decoder<'input> {
-    /// The bits of the next value as a string, gathered from its segments. A refusal takes nothing, but for want of memory for the bits
+    /// The bits of the next value as a string, gathered from its segments. A refusal takes nothing, but for running out of memory for the bits
     /// of a primitive value, which takes the value.
     fn bits(&mut self, tag: Tag) -> Result<GatheredBits, DecodeError>
         ensures gathers { GathersBits tag self.old result self.new }

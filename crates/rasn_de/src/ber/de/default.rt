@@ -1,5 +1,5 @@
 //! Values that have a default where they are left out (X.680 25.8).
-ghost use Rattle.rasn_types.specs.Shapes.{given};
+ghost use Rattle.rasn_types.specs.Shapes.{tagged_as};
 ghost use Rattle.rasn_de.specs.Decodes.{Decodes};
 ghost use Rattle.rasn_de.specs.Optionals.{Made, ReadOr, DecodesDefault};
 
@@ -14,9 +14,9 @@ impl<'input> Decoder<'input> {
     /// A value, or its default where the contents end or another tag than the type's own comes.
     ///
     /// # Errors
-    /// Faults of the next identifier, which take nothing; what the value refuses; want of memory of the default. Under DER the
+    /// Faults of the next identifier, which take nothing; what the value refuses; running out of memory of the default. Under DER the
     /// default is also made where a value comes, and `DefaultValuePresent` refuses the value that equals it (X.690 11.5); this
-    /// refusal, and want of memory then, take the value.
+    /// refusal, and running out of memory then, take the value.
     pub fn decode_default<D: Decode + LawfulEq, F: FnOnce() -> Result<D, AllocError>>(
         &mut self,
         default: F,
@@ -38,8 +38,8 @@ impl<'input> Decoder<'input> {
         default: F,
     ) -> Result<D, DecodeError>
         requires { F.IsAlwaysCallable default }
-        ensures called { ReadOr (Decodes (given tag D.CONSTRAINTS D.shape) D.tree) D.tree (F.post default) tag self.old result self.new }
-        ensures reads { DecodesDefault tag (given tag D.CONSTRAINTS D.shape) D.tree (F.post default) self.old result self.new }
+        ensures called { ReadOr (Decodes (tagged_as tag D.CONSTRAINTS D.shape) D.tree) D.tree (F.post default) tag self.old result self.new }
+        ensures reads { DecodesDefault tag (tagged_as tag D.CONSTRAINTS D.shape) D.tree (F.post default) self.old result self.new }
     {
         self.decode_default_with_tag_and_constraints(tag, default, &D::CONSTRAINTS)
     }
@@ -53,8 +53,8 @@ impl<'input> Decoder<'input> {
         F: FnOnce() -> Result<D, AllocError>,
     >(&mut self, default: F, constraints: &Constraints) -> Result<D, DecodeError>
         requires { F.IsAlwaysCallable default }
-        ensures called { ReadOr (Decodes (given D.TAG constraints.now D.shape) D.tree) D.tree (F.post default) D.TAG self.old result self.new }
-        ensures reads { DecodesDefault D.TAG (given D.TAG constraints.now D.shape) D.tree (F.post default) self.old result self.new }
+        ensures called { ReadOr (Decodes (tagged_as D.TAG constraints.now D.shape) D.tree) D.tree (F.post default) D.TAG self.old result self.new }
+        ensures reads { DecodesDefault D.TAG (tagged_as D.TAG constraints.now D.shape) D.tree (F.post default) self.old result self.new }
     {
         self.decode_default_with_tag_and_constraints(D::TAG, default, constraints)
     }
@@ -68,8 +68,8 @@ impl<'input> Decoder<'input> {
         F: FnOnce() -> Result<D, AllocError>,
     >(&mut self, tag: Tag, default: F, constraints: &Constraints) -> Result<D, DecodeError>
         requires { F.IsAlwaysCallable default }
-        ensures called { ReadOr (Decodes (given tag constraints.now D.shape) D.tree) D.tree (F.post default) tag self.old result self.new }
-        ensures reads { DecodesDefault tag (given tag constraints.now D.shape) D.tree (F.post default) self.old result self.new }
+        ensures called { ReadOr (Decodes (tagged_as tag constraints.now D.shape) D.tree) D.tree (F.post default) tag self.old result self.new }
+        ensures reads { DecodesDefault tag (tagged_as tag constraints.now D.shape) D.tree (F.post default) self.old result self.new }
     {
         if !self.comes(tag)? {
             return self.made(default);

@@ -1,5 +1,5 @@
 //! Extension additions (X.680 25.4).
-ghost use Rattle.rasn_types.specs.Shapes.{given, looked_for, option, prefix};
+ghost use Rattle.rasn_types.specs.Shapes.{tagged_as, looked_for, option, prefix};
 ghost use Rattle.rasn_types.specs.Trees.{option_tree};
 ghost use Rattle.rasn_de.specs.Decodes.{Decodes};
 ghost use Rattle.rasn_de.specs.Inside.{ReadInside};
@@ -21,8 +21,8 @@ impl<'input> Decoder<'input> {
         tag: Tag,
         _constraints: &Constraints,
     ) -> Result<Option<D>, DecodeError>
-        ensures called { ReadPerhaps (Decodes (given tag D.CONSTRAINTS D.shape) D.tree) tag self.old result self.new }
-        ensures reads { Decodes (option (looked_for tag) (given tag D.CONSTRAINTS D.shape)) (option_tree D.tree) self.old result self.new }
+        ensures called { ReadPerhaps (Decodes (tagged_as tag D.CONSTRAINTS D.shape) D.tree) tag self.old result self.new }
+        ensures reads { Decodes (option (looked_for tag) (tagged_as tag D.CONSTRAINTS D.shape)) (option_tree D.tree) self.old result self.new }
     {
         self.decode_optional_with_tag(tag)
     }

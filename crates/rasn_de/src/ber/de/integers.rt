@@ -2,8 +2,8 @@
 ghost use Rattle.std.specs.Prelude.{◌≡◌, ◌⊎◌, true, IfErr};
 ghost use Rattle.rasn_types.specs.Shapes.{leaf, integer, number};
 ghost use Rattle.rasn_types.specs.Contents.{signed};
-ghost use Rattle.rasn_types.specs.Errors.{IsMemory};
-ghost use Rattle.rasn_de.specs.Causes.{Tells, out_of_bound};
+ghost use Rattle.rasn_types.specs.Errors.{IsOutOfMemory};
+ghost use Rattle.rasn_de.specs.Causes.{TellsCause, out_of_bound};
 ghost use Rattle.rasn_de.specs.Decodes.{Decodes};
 ghost use Rattle.rasn_de.specs.Leaves.{IntegerAt, GaveInteger, IsBeyond, ChecksNumber};
 
@@ -39,7 +39,7 @@ impl<'input> Decoder<'input> {
     ) -> Result<I, DecodeError>
         ensures reads { Decodes (leaf (integer I.range) tag constraints.now) (λ v. number (I.number v)) self.old result self.new }
         ensures refused { GaveInteger I.number (I.grows ≡ true) tag (IntegerAt I.WIDTH I.range constraints.now self.old.rule tag self.old.rest) self.old result self.new }
-        ensures memory { IfErr result (λ e. IsMemory e.kind → (I.grows ≡ true) ⊎ IsBeyond (IntegerAt I.WIDTH I.range constraints.now self.old.rule tag self.old.rest) self.new.rest) }
+        ensures memory { IfErr result (λ e. IsOutOfMemory e.kind → (I.grows ≡ true) ⊎ IsBeyond (IntegerAt I.WIDTH I.range constraints.now self.old.rule tag self.old.rest) self.new.rest) }
     {
         let rules = self.codec();
         let contents = self.contents(tag)?;
@@ -65,7 +65,7 @@ impl<'input> Decoder<'input> {
     #[cold]
     #[inline(never)]
     fn out_of_bound(&self, octets: &[u8], expected: Bounded<i128>) -> DecodeError
-        ensures { Tells (out_of_bound (signed octets.now) expected) result.kind × (result.codec ≡ self.now.rule) }
+        ensures { TellsCause (out_of_bound (signed octets.now) expected) result.kind × (result.codec ≡ self.now.rule) }
     {
         let Ok(Some(value)) = Integer::from_octets(self.alloc(), octets) else {
             return self.error(Fault::OutOfMemory);

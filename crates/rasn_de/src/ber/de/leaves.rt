@@ -4,7 +4,7 @@ ghost use Rattle.rasn_types.specs.Shapes.{leaf, boolean};
 ghost use Rattle.rasn_types.specs.Trees.{bool_tree, unconstrained};
 ghost use Rattle.rasn_de.specs.Decodes.{Decodes};
 ghost use Rattle.rasn_de.specs.Leaves.{bool_in, BoolAt, definite_at, Gave};
-ghost use Rattle.rasn_types.specs.Errors.{IsMemory};
+ghost use Rattle.rasn_types.specs.Errors.{IsOutOfMemory};
 ghost use Rattle.rasn_de.specs.Views.{Gives};
 ghost use Rattle.rasn_types.specs.Framing.{AreOctets};
 
@@ -50,7 +50,7 @@ impl<'input> Decoder<'input> {
     pub fn decode_bool(&mut self, tag: Tag) -> Result<bool, DecodeError>
         ensures reads { Decodes (leaf boolean tag unconstrained) bool_tree self.old result self.new }
         ensures refused { Gave (λ b. b) (BoolAt self.old.rule tag self.old.rest) self.old result self.new }
-        ensures memory { IfErr result (λ e. IsMemory e.kind → ⊥) }
+        ensures memory { IfErr result (λ e. IsOutOfMemory e.kind → ⊥) }
     {
         let rules = self.codec();
         let contents = self.contents(tag)?;

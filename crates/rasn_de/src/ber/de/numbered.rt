@@ -1,6 +1,6 @@
 //! Named numbers, NULL, object identifiers and REAL (X.690 8.4, 8.5, 8.8, 8.19).
 ghost use Rattle.std.specs.Prelude.{◌≡◌, Err, IfErr, pos};
-ghost use Rattle.rasn_types.specs.Errors.{IsMemory};
+ghost use Rattle.rasn_types.specs.Errors.{IsOutOfMemory};
 ghost use Rattle.rasn_types.specs.Shapes.{leaf, enumerated, null, object_identifier, number, numbers};
 ghost use Rattle.rasn_types.specs.Trees.{unconstrained};
 ghost use Rattle.rasn_types.specs.declared.error.decode.DecodeErrorKind.TheVariants.{RealNotSupported};
@@ -25,7 +25,7 @@ impl<'input> Decoder<'input> {
     pub fn decode_enumerated<E: Enumerated>(&mut self, tag: Tag) -> Result<E, DecodeError>
         ensures reads { Decodes (leaf (enumerated E.known) tag unconstrained) (λ v. number (E.number v)) self.old result self.new }
         ensures refused { Gave E.number (EnumeratedAt E.known self.old.rule tag self.old.rest) self.old result self.new }
-        ensures memory { IfErr result (λ e. IsMemory e.kind → ⊥) }
+        ensures memory { IfErr result (λ e. IsOutOfMemory e.kind → ⊥) }
     {
         let discriminant = self.decode_integer::<isize>(tag, &Constraints::NONE)?;
         match E::from_discriminant(discriminant) {
@@ -41,7 +41,7 @@ impl<'input> Decoder<'input> {
     pub fn decode_null(&mut self, tag: Tag) -> Result<(), DecodeError>
         ensures reads { Decodes (leaf null tag unconstrained) (λ _. number (pos 0)) self.old result self.new }
         ensures refused { Gave (λ u. u) (NullAt self.old.rule tag self.old.rest) self.old result self.new }
-        ensures memory { IfErr result (λ e. IsMemory e.kind → ⊥) }
+        ensures memory { IfErr result (λ e. IsOutOfMemory e.kind → ⊥) }
     {
         let contents = self.contents(tag)?;
         if contents.is_empty() {

@@ -1,5 +1,5 @@
 //! Values that may be left out (X.680 25.5 to 25.8).
-ghost use Rattle.rasn_types.specs.Shapes.{given, looked_for, option, prefix};
+ghost use Rattle.rasn_types.specs.Shapes.{tagged_as, looked_for, option, prefix};
 ghost use Rattle.rasn_types.specs.Trees.{option_tree};
 ghost use Rattle.rasn_de.specs.Decodes.{Decodes};
 ghost use Rattle.rasn_de.specs.Inside.{ReadInside};
@@ -44,8 +44,8 @@ impl<'input> Decoder<'input> {
         &mut self,
         tag: Tag,
     ) -> Result<Option<D>, DecodeError>
-        ensures called { ReadPerhaps (Decodes (given tag D.CONSTRAINTS D.shape) D.tree) tag self.old result self.new }
-        ensures reads { Decodes (option (looked_for tag) (given tag D.CONSTRAINTS D.shape)) (option_tree D.tree) self.old result self.new }
+        ensures called { ReadPerhaps (Decodes (tagged_as tag D.CONSTRAINTS D.shape) D.tree) tag self.old result self.new }
+        ensures reads { Decodes (option (looked_for tag) (tagged_as tag D.CONSTRAINTS D.shape)) (option_tree D.tree) self.old result self.new }
     {
         self.decode_optional_with_tag_and_constraints(tag, &D::CONSTRAINTS)
     }
@@ -58,8 +58,8 @@ impl<'input> Decoder<'input> {
         &mut self,
         constraints: &Constraints,
     ) -> Result<Option<D>, DecodeError>
-        ensures called { ReadPerhaps (Decodes (given D.TAG constraints.now D.shape) D.tree) D.TAG self.old result self.new }
-        ensures reads { Decodes (option (looked_for D.TAG) (given D.TAG constraints.now D.shape)) (option_tree D.tree) self.old result self.new }
+        ensures called { ReadPerhaps (Decodes (tagged_as D.TAG constraints.now D.shape) D.tree) D.TAG self.old result self.new }
+        ensures reads { Decodes (option (looked_for D.TAG) (tagged_as D.TAG constraints.now D.shape)) (option_tree D.tree) self.old result self.new }
     {
         self.decode_optional_with_tag_and_constraints(D::TAG, constraints)
     }
@@ -73,8 +73,8 @@ impl<'input> Decoder<'input> {
         tag: Tag,
         constraints: &Constraints,
     ) -> Result<Option<D>, DecodeError>
-        ensures called { ReadPerhaps (Decodes (given tag constraints.now D.shape) D.tree) tag self.old result self.new }
-        ensures reads { Decodes (option (looked_for tag) (given tag constraints.now D.shape)) (option_tree D.tree) self.old result self.new }
+        ensures called { ReadPerhaps (Decodes (tagged_as tag constraints.now D.shape) D.tree) tag self.old result self.new }
+        ensures reads { Decodes (option (looked_for tag) (tagged_as tag constraints.now D.shape)) (option_tree D.tree) self.old result self.new }
     {
         if !self.comes(tag)? {
             return Ok(None);

@@ -3,7 +3,7 @@ ghost use Rattle.std.specs.Prelude.{◌≡◌};
 ghost use Rattle.rasn_types.specs.Framing.{AreOctets};
 ghost use Rattle.rasn_types.specs.Numbered.{constructed_bit};
 ghost use Rattle.rasn_types.specs.Tags.{is_eoc};
-ghost use Rattle.rasn_de.specs.Headers.{number128_at, number256_at, octets_at, is_padded, is_longer, tag_number_at, identifier_by, begins_with_zero, has_spare, length_at, header_by, long_at, contents_at, class_of};
+ghost use Rattle.rasn_de.specs.Headers.{number128_at, number256_at, first_octets, is_padded, is_longer, tag_number_at, identifier_by, begins_with_zero, has_spare, length_at, header_by, long_at, contents_at, class_of};
 ghost use Rattle.rasn_de.specs.Views.{Gives, pair, both, identified, header};
 
 use crate::ber::de::parser::headers::{Expected, Spelling};
@@ -204,7 +204,7 @@ fn read_number256(octets: &[u8]) -> Result<usize, Fault>
 
 /// So many octets, and what follows them.
 fn take_octets(count: usize, input: &[u8]) -> Result<(&[u8], &[u8]), Fault>
-    ensures { Gives both result (octets_at count input.now) }
+    ensures { Gives both result (first_octets count input.now) }
 {
     if input.len() < count {
         return Err(Fault::Incomplete {

@@ -7,7 +7,7 @@ ghost use Rattle.rasn_types.specs.Shapes.{set, choice};
 ghost use Rattle.rasn_de.specs.Decodes.{Decodes};
 ghost use Rattle.rasn_de.specs.Inside.{ReadInside};
 ghost use Rattle.rasn_de.specs.Sequences.{sequence_door};
-ghost use Rattle.rasn_de.specs.Sets.{IsBelowLast, Looks, ReadComponents, Gathers, MakesSet};
+ghost use Rattle.rasn_de.specs.Sets.{IsBelowLast, Looks, ReadComponents, GathersSet, MakesSet};
 
 use crate::ber::de::Decoder;
 use crate::ber::de::nesting::Opening;
@@ -73,7 +73,7 @@ impl<'input> Decoder<'input> {
         F: FnOnce(Vec<FIELDS>) -> Result<SET, DecodeError>,
     >(&mut self, tag: Tag, _decode: D, f: F) -> Result<SET, DecodeError>
         requires callable { F.IsAlwaysCallable f }
-        ensures called { ReadInside (Gathers (ReadComponents (Decodes FIELDS.shape FIELDS.tree) (λ (v : Vec FIELDS Global). v.items)) (λ fields r. F.post f fields r)) (sequence_door tag) self.old result self.new }
+        ensures called { ReadInside (GathersSet (ReadComponents (Decodes FIELDS.shape FIELDS.tree) (λ (v : Vec FIELDS Global). v.items)) (λ fields r. F.post f fields r)) (sequence_door tag) self.old result self.new }
         ensures reads { FIELDS.shape ≡ choice SET.parts
             → ((fields : Vec FIELDS Global) (r : Result SET DecodeError) → F.post f fields r → MakesSet self.old.rule SET.parts SET.tree (map FIELDS.tree fields.items) r)
             → Decodes (set tag SET.parts) SET.tree self.old result self.new }
@@ -87,7 +87,7 @@ impl<'input> Decoder<'input> {
             opening,
             |inner| -> Result<SET, DecodeError>
                 requires { F.IsAlwaysCallable f }
-                ensures { Gathers (ReadComponents (Decodes FIELDS.shape FIELDS.tree) (λ (v : Vec FIELDS Global). v.items)) (λ fields r. F.post f fields r) inner.old result inner.new }
+                ensures { GathersSet (ReadComponents (Decodes FIELDS.shape FIELDS.tree) (λ (v : Vec FIELDS Global). v.items)) (λ fields r. F.post f fields r) inner.old result inner.new }
             {
                 let fields = inner.components::<FIELDS>()?;
                 f(fields)

@@ -4,12 +4,12 @@ ghost use Rattle.std.specs.Cow.{cow_slice_items, IsOwnedSlice};
 ghost use Rattle.std.specs.String.{string_bytes};
 ghost use Rattle.rasn_types.specs.declared.types.strings.alphabet.Alphabet.TheVariants.{Numeric, Printable, Visible, Ia5, Every};
 ghost use Rattle.rasn_types.specs.declared.types.tag.TheConstants.Tag.{UTF8_STRING, BMP_STRING};
-ghost use Rattle.rasn_types.specs.Characters.{kind_of, units_of};
+ghost use Rattle.rasn_types.specs.Characters.{string_kind, units_of};
 ghost use Rattle.rasn_types.specs.Framing.{AreOctets};
 ghost use Rattle.rasn_types.specs.Grammar.{units};
 ghost use Rattle.rasn_types.specs.Shapes.{leaf, octet_string, numbers, numeric, printable, visible, ia5, any_octets, bmp, utf8, fixed};
 ghost use Rattle.rasn_de.specs.Decodes.{Decodes};
-ghost use Rattle.rasn_de.specs.Octets.{Gathers, GaveOctets, cow_tree};
+ghost use Rattle.rasn_de.specs.Octets.{GathersOctets, GaveOctets, cow_tree};
 ghost use Rattle.rasn_de.specs.Texts.{ByAlphabet, ByCharacters, ByLength, AreUtf8, GaveString, Checks, IsWithinSize, ReadsText};
 
 use crate::ber::de::Decoder;
@@ -106,7 +106,7 @@ impl<'input> Decoder<'input> {
     /// The octets of the next value as a string: borrowed from a primitive one, gathered from segments. A refusal takes nothing.
     #[inline(always)]
     pub(super) fn octets(&mut self, tag: Tag) -> Result<CowSlice<'input, u8>, DecodeError>
-        ensures gathers { Gathers tag self.old result self.new }
+        ensures gathers { GathersOctets tag self.old result self.new }
         ensures octets { AreOctets self.old.rest }
     {
         match read_octets(self.alloc, self.rules, self.depth, tag, self.rest) {
@@ -332,7 +332,7 @@ impl<'input> Decoder<'input> {
         tag: Tag,
         constraints: &Constraints,
     ) -> Result<RestrictedString<S>, DecodeError>
-        ensures reads { Decodes (leaf (kind_of S.ALPHABET) tag constraints.now) numbers self.old result self.new }
+        ensures reads { Decodes (leaf (string_kind S.ALPHABET) tag constraints.now) numbers self.old result self.new }
         ensures refused { GaveString (λ s. s) (ByAlphabet S.ALPHABET constraints.now.size) tag self.old result self.new }
     {
         let octets = self.octets(tag)?;

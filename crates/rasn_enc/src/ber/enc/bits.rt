@@ -4,7 +4,7 @@ ghost use Rattle.rasn_types.specs.Bytes.{WrittenBits};
 ghost use Rattle.rasn_types.specs.Tags.{in_universal};
 ghost use Rattle.rasn_types.specs.Shapes.{leaf, bit_string, bits};
 ghost use Rattle.rasn_enc.specs.View.{LeavesOthers};
-ghost use Rattle.rasn_enc.specs.Primitives.{Appends, WantsMemory};
+ghost use Rattle.rasn_enc.specs.Primitives.{Appends, TellsOutOfMemory};
 ghost use Rattle.rasn_enc.specs.Wrote.{Wrote};
 ghost use Rattle.rasn_enc.specs.Refusals.{RefusesString};
 ghost use Rattle.rasn_enc.specs.Segments.{IsPiece, WroteSegments, PutsSegments};
@@ -30,7 +30,7 @@ impl Contents for BitStr<'_> {
 
 impl Encoder {
     /// Writes a BIT STRING (X.690 8.6). Unused bits aren't set. The canonical rules write more than 1000 contents octets in
-    /// segments (9.2). The name is ignored.
+    /// segments (9.2).
     ///
     /// # Errors
     /// `SizeConstraintNotSatisfied` where the number of bits is out of its bound, else `OutOfMemory` alone.
@@ -56,7 +56,7 @@ impl Encoder {
     fn put_bits(&mut self, tag: Tag, value: &BitStr<'_>) -> Result<(), EncodeError>
         ensures ok { OnOk result (Appends (IsPiece WrittenBits tag value.now) tag self.old self.new) }
         ensures err { OnErr result (self.new ≡ self.old) }
-        ensures memory { IfErr result (WantsMemory self.old.rule) }
+        ensures memory { IfErr result (TellsOutOfMemory self.old.rule) }
     {
         self.leaf_of(tag, value)
     }
@@ -66,7 +66,7 @@ impl Encoder {
         requires { SEGMENT_BITS < length value.now }
         ensures ok { OnOk result (PutsSegments WrittenBits SEGMENT_BITS (in_universal 3) tag value.now self.old self.new) }
         ensures err { OnErr result (self.new ≡ self.old) }
-        ensures memory { IfErr result (WantsMemory self.old.rule) }
+        ensures memory { IfErr result (TellsOutOfMemory self.old.rule) }
     {
         self.open(false)?;
         let outcome = self.write_bit_segments(value);
@@ -77,7 +77,7 @@ impl Encoder {
         requires { 0 < length value.now }
         ensures keeps { LeavesOthers self.old self.new }
         ensures ok { OnOk result (WroteSegments WrittenBits SEGMENT_BITS (in_universal 3) value.now self.old self.new) }
-        ensures memory { IfErr result (WantsMemory self.old.rule) }
+        ensures memory { IfErr result (TellsOutOfMemory self.old.rule) }
     {
         let (_, mut rest) = value.split_at(0);
         while rest.len() > SEGMENT_BITS {

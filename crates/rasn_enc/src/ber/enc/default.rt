@@ -1,6 +1,6 @@
 //! Values that have a default where they are left out (X.680 25.8).
 ghost use Rattle.std.specs.Prelude.{◌≡◌, IfErr, OnOk, OnErr};
-ghost use Rattle.rasn_types.specs.Shapes.{given};
+ghost use Rattle.rasn_types.specs.Shapes.{tagged_as};
 ghost use Rattle.rasn_enc.specs.Defaults.{WroteUnless, RefusesUnless, WritesDefault};
 
 use super::{Encoder, out_of_memory};
@@ -10,10 +10,10 @@ use rasn_types::types::{Constraints, Identifier, LawfulEq, Tag};
 use std::alloc::AllocError;
 
 impl Encoder {
-    /// Writes a value under its own tag, but nothing where it equals its default (X.690 11.5). The name is ignored.
+    /// Writes a value under its own tag, but nothing where it equals its default (X.690 11.5).
     ///
     /// # Errors
-    /// What the value refuses; want of memory of the default. Nothing is written then.
+    /// What the value refuses; running out of memory of the default. Nothing is written then.
     pub fn encode_default<E: Encode + LawfulEq, F: FnOnce() -> Result<E, AllocError>>(
         &mut self,
         value: &E,
@@ -47,10 +47,10 @@ impl Encoder {
         identifier: Identifier,
     ) -> Result<(), EncodeError>
         requires { F.IsAlwaysCallable default }
-        ensures ok { OnOk result (WroteUnless E.eq (F.post default) (given tag E.CONSTRAINTS E.shape) E.tree value.now self.old self.new) }
+        ensures ok { OnOk result (WroteUnless E.eq (F.post default) (tagged_as tag E.CONSTRAINTS E.shape) E.tree value.now self.old self.new) }
         ensures err { OnErr result (self.new ≡ self.old) }
-        ensures refused { IfErr result (RefusesUnless E.eq (F.post default) (given tag E.CONSTRAINTS E.shape) E.tree value.now self.old) }
-        ensures writes { WritesDefault E.eq (F.post default) (given tag E.CONSTRAINTS E.shape) E.tree value.now self.old result self.new }
+        ensures refused { IfErr result (RefusesUnless E.eq (F.post default) (tagged_as tag E.CONSTRAINTS E.shape) E.tree value.now self.old) }
+        ensures writes { WritesDefault E.eq (F.post default) (tagged_as tag E.CONSTRAINTS E.shape) E.tree value.now self.old result self.new }
     {
         self.encode_default_with_tag_and_constraints(
             tag,
@@ -76,10 +76,10 @@ impl Encoder {
         identifier: Identifier,
     ) -> Result<(), EncodeError>
         requires { F.IsAlwaysCallable default }
-        ensures ok { OnOk result (WroteUnless E.eq (F.post default) (given E.TAG constraints.now E.shape) E.tree value.now self.old self.new) }
+        ensures ok { OnOk result (WroteUnless E.eq (F.post default) (tagged_as E.TAG constraints.now E.shape) E.tree value.now self.old self.new) }
         ensures err { OnErr result (self.new ≡ self.old) }
-        ensures refused { IfErr result (RefusesUnless E.eq (F.post default) (given E.TAG constraints.now E.shape) E.tree value.now self.old) }
-        ensures writes { WritesDefault E.eq (F.post default) (given E.TAG constraints.now E.shape) E.tree value.now self.old result self.new }
+        ensures refused { IfErr result (RefusesUnless E.eq (F.post default) (tagged_as E.TAG constraints.now E.shape) E.tree value.now self.old) }
+        ensures writes { WritesDefault E.eq (F.post default) (tagged_as E.TAG constraints.now E.shape) E.tree value.now self.old result self.new }
     {
         self.encode_default_with_tag_and_constraints(
             E::TAG,
@@ -106,10 +106,10 @@ impl Encoder {
         identifier: Identifier,
     ) -> Result<(), EncodeError>
         requires { F.IsAlwaysCallable default }
-        ensures ok { OnOk result (WroteUnless E.eq (F.post default) (given tag constraints.now E.shape) E.tree value.now self.old self.new) }
+        ensures ok { OnOk result (WroteUnless E.eq (F.post default) (tagged_as tag constraints.now E.shape) E.tree value.now self.old self.new) }
         ensures err { OnErr result (self.new ≡ self.old) }
-        ensures refused { IfErr result (RefusesUnless E.eq (F.post default) (given tag constraints.now E.shape) E.tree value.now self.old) }
-        ensures writes { WritesDefault E.eq (F.post default) (given tag constraints.now E.shape) E.tree value.now self.old result self.new }
+        ensures refused { IfErr result (RefusesUnless E.eq (F.post default) (tagged_as tag constraints.now E.shape) E.tree value.now self.old) }
+        ensures writes { WritesDefault E.eq (F.post default) (tagged_as tag constraints.now E.shape) E.tree value.now self.old result self.new }
     {
         match default() {
             Ok(default) if *value == default => Ok(()),

@@ -1,6 +1,6 @@
 //! Extension additions (X.680 25.4).
 ghost use Rattle.std.specs.Prelude.{◌≡◌, IfErr, OnOk, OnErr};
-ghost use Rattle.rasn_types.specs.Shapes.{given, looked_for, option};
+ghost use Rattle.rasn_types.specs.Shapes.{tagged_as, looked_for, option};
 ghost use Rattle.rasn_enc.specs.Additions.{group_tree};
 ghost use Rattle.rasn_enc.specs.Wrote.{Wrote, MayRefuse};
 
@@ -10,7 +10,7 @@ use rasn_types::error::EncodeError;
 use rasn_types::types::{Constraints, Constructed, Identifier, Tag};
 
 impl Encoder {
-    /// Writes an extension addition under this tag and these constraints. The name is ignored.
+    /// Writes an extension addition under this tag and these constraints.
     ///
     /// It takes the value. One that is lent and can't be copied is written by its own `encode_with_tag_and_constraints`, which does
     /// and promises the same.
@@ -24,9 +24,9 @@ impl Encoder {
         value: E,
         identifier: Identifier,
     ) -> Result<(), EncodeError>
-        ensures ok { OnOk result (Wrote (given tag constraints.now E.shape) (E.tree value) self.old self.new) }
+        ensures ok { OnOk result (Wrote (tagged_as tag constraints.now E.shape) (E.tree value) self.old self.new) }
         ensures err { OnErr result (self.new ≡ self.old) }
-        ensures refused { IfErr result (MayRefuse (given tag constraints.now E.shape) (E.tree value) self.old) }
+        ensures refused { IfErr result (MayRefuse (tagged_as tag constraints.now E.shape) (E.tree value) self.old) }
     {
         value.encode_with_tag_and_constraints(self, tag, constraints, identifier)
     }

@@ -20,7 +20,7 @@ const SHORT_CONTENTS: usize = 32;
 /// Why contents aren't written in place.
 #[derive(Clone, Copy, Drop)]
 pub enum Unfilled {
-    /// Memory was wanted.
+    /// Memory ran out.
     NoMemory,
     /// The value has no contents octets, or is out of its bound.
     Refused,

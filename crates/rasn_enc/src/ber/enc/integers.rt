@@ -2,7 +2,7 @@
 ghost use Rattle.std.specs.Prelude.{ℕ, List, ◌≡◌, ◌≤ℤ◌, ◌⊎◌, ◌++◌, IfErr, OnOk, OnErr};
 ghost use Rattle.rasn_types.specs.Shapes.{leaf, integer, number as number_tree, Admits, IsIn};
 ghost use Rattle.rasn_enc.specs.declared.ber.enc.filled.Unfilled.TheVariants.{Refused};
-ghost use Rattle.rasn_enc.specs.Primitives.{WantsMemory};
+ghost use Rattle.rasn_enc.specs.Primitives.{TellsOutOfMemory};
 ghost use Rattle.rasn_enc.specs.Wrote.{Wrote};
 ghost use Rattle.rasn_enc.specs.Refusals.{RefusesValue};
 ghost use Rattle.rasn_enc.specs.Integers.{PutsInteger};
@@ -14,7 +14,7 @@ use rasn_types::types::{Codec, Constraints, Identifier, Integer, IntegerType, Ta
 use std::alloc::Global;
 
 impl Encoder {
-    /// Writes an INTEGER in the fewest octets (X.690 8.3). The name is ignored.
+    /// Writes an INTEGER in the fewest octets (X.690 8.3).
     ///
     /// # Errors
     /// `ValueConstraintNotSatisfied` where the number is out of its bound and memory holds a copy of it, else `OutOfMemory` alone.
@@ -27,7 +27,7 @@ impl Encoder {
     ) -> Result<(), EncodeError>
         ensures ok { OnOk result (Wrote (leaf (integer I.range) tag constraints.now) (number_tree (I.number value.now)) self.old self.new) }
         ensures err { OnErr result (self.new ≡ self.old) }
-        ensures refused { IfErr result (λ e. RefusesValue constraints.now (I.number value.now) self.old.rule e ⊎ WantsMemory self.old.rule e) }
+        ensures refused { IfErr result (λ e. RefusesValue constraints.now (I.number value.now) self.old.rule e ⊎ TellsOutOfMemory self.old.rule e) }
     {
         let (alloc, rule) = (self.alloc(), self.codec());
         match self.leaf_with(tag, |octets: &mut Vec<u8>| {
@@ -69,7 +69,7 @@ fn refused_value<I: IntegerType>(
     value: &I,
 ) -> EncodeError
     requires { Admits ◌≤ℤ◌ constraints.now.value (I.number value.now) → ⊥ }
-    ensures { RefusesValue constraints.now (I.number value.now) rule result ⊎ WantsMemory rule result }
+    ensures { RefusesValue constraints.now (I.number value.now) rule result ⊎ TellsOutOfMemory rule result }
 {
     let mut octets = Vec::new(alloc);
     let Ok(()) = value.append_octets(&mut octets) else {

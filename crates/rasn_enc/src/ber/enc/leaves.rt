@@ -2,7 +2,7 @@
 ghost use Rattle.std.specs.Prelude.{◌≡◌, IfErr, OnOk, OnErr};
 ghost use Rattle.rasn_types.specs.Shapes.{leaf, boolean};
 ghost use Rattle.rasn_types.specs.Trees.{bool_tree};
-ghost use Rattle.rasn_enc.specs.Primitives.{WantsMemory};
+ghost use Rattle.rasn_enc.specs.Primitives.{TellsOutOfMemory};
 ghost use Rattle.rasn_enc.specs.Wrote.{Wrote};
 
 use super::Encoder;
@@ -12,7 +12,7 @@ use rasn_types::types::{Identifier, Tag};
 impl Encoder {
     ghost use Rattle.rasn_types.specs.declared.types.constraints.Constraints.{Constraints};
 
-    /// Writes a BOOLEAN (X.690 8.2, 11.1). The name is ignored.
+    /// Writes a BOOLEAN (X.690 8.2, 11.1).
     ///
     /// # Errors
     /// `OutOfMemory` alone.
@@ -24,7 +24,7 @@ impl Encoder {
     ) -> Result<(), EncodeError>
         ensures ok { (c : Constraints) → OnOk result (Wrote (leaf boolean tag c) (bool_tree value) self.old self.new) }
         ensures err { OnErr result (self.new ≡ self.old) }
-        ensures refused { IfErr result (WantsMemory self.old.rule) }
+        ensures refused { IfErr result (TellsOutOfMemory self.old.rule) }
     {
         let octet = if value { 0xff } else { 0x00 };
         self.leaf(tag, &[octet])

@@ -12,7 +12,7 @@ use rasn_types::error::EncodeError;
 use rasn_types::types::{Constraints, Identifier, Tag};
 
 impl Encoder {
-    /// Writes a SEQUENCE OF, within a size in elements (X.690 8.10). The name is ignored.
+    /// Writes a SEQUENCE OF, within a size in elements (X.690 8.10).
     ///
     /// # Errors
     /// `SizeConstraintNotSatisfied`; what an element refuses; else `OutOfMemory` alone. Nothing is written then.

@@ -3,7 +3,7 @@ ghost use Rattle.std.specs.Prelude.{◌≡◌, ◌<◌, ◌⊎◌, length, true,
 ghost use Rattle.std.specs.Fn.{FnOnceTakesAtMut, FnOnceReturnsAtMut};
 ghost use Rattle.rasn_types.specs.Bytes.{Cons};
 ghost use Rattle.rasn_enc.specs.View.{View, IsBelow, opened, AreTagsInOrder};
-ghost use Rattle.rasn_enc.specs.Primitives.{Appends, WantsMemory, TellsOrder};
+ghost use Rattle.rasn_enc.specs.Primitives.{Appends, TellsOutOfMemory, TellsOrder};
 ghost use Rattle.rasn_enc.specs.Writing.{WritesInside, WritesBehind, Refuses, Encloses, EnclosesInOrder, RefusesInOrder, Ran};
 
 use super::{Encoder, out_of_order};
@@ -22,7 +22,7 @@ impl Encoder {
         requires keeps { WritesInside F.FnOnce contents (opened self.old keeps_tags) }
         ensures ok { OnOk result (Encloses F.FnOnce contents keeps_tags tag self.old self.new) }
         ensures err { OnErr result (self.new ≡ self.old) }
-        ensures refused { IfErr result (λ e. WantsMemory self.old.rule e ⊎ Refuses F.FnOnce contents (opened self.old keeps_tags) e) }
+        ensures refused { IfErr result (λ e. TellsOutOfMemory self.old.rule e ⊎ Refuses F.FnOnce contents (opened self.old keeps_tags) e) }
     {
         self.open(keeps_tags)?;
         let outcome = run(self, contents);
@@ -62,7 +62,7 @@ impl Encoder {
     pub(super) fn open(&mut self, keeps_tags: bool) -> Result<(), EncodeError>
         ensures ok { OnOk result (self.new ≡ opened self.old keeps_tags) }
         ensures err { OnErr result (self.new ≡ self.old) }
-        ensures memory { IfErr result (WantsMemory self.old.rule) }
+        ensures memory { IfErr result (TellsOutOfMemory self.old.rule) }
     {
         self.writer.begin(keeps_tags)
     }
@@ -77,7 +77,7 @@ impl Encoder {
         ensures ok { OnOk result ((v : View) → IsBelow v self.old → Appends (Cons v.rule tag self.old.last.octets) tag v self.new) }
         ensures accepted { OnOk result (outcome ≡ Ok tt) }
         ensures err { OnErr result ((v : View) → IsBelow v self.old → self.new ≡ v) }
-        ensures refused { IfErr result (λ e. WantsMemory self.old.rule e ⊎ (outcome ≡ Err e)) }
+        ensures refused { IfErr result (λ e. TellsOutOfMemory self.old.rule e ⊎ (outcome ≡ Err e)) }
     {
         match outcome {
             Ok(()) => self.writer.finish(tag),

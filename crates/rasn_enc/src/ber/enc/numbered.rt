@@ -2,7 +2,7 @@
 ghost use Rattle.std.specs.Prelude.{◌≡◌, ◌⊎◌, Err, IfErr, OnOk, OnErr, pos};
 ghost use Rattle.rasn_types.specs.Shapes.{leaf, enumerated, null, object_identifier, number as number_tree, numbers};
 ghost use Rattle.rasn_types.specs.declared.error.encode.EncodeErrorKind.TheVariants.{RealNotSupported};
-ghost use Rattle.rasn_enc.specs.Primitives.{WantsMemory};
+ghost use Rattle.rasn_enc.specs.Primitives.{TellsOutOfMemory};
 ghost use Rattle.rasn_enc.specs.Wrote.{Wrote};
 ghost use Rattle.rasn_enc.specs.ObjectIdentifiers.{RefusesArcs};
 
@@ -15,7 +15,7 @@ use rasn_types::types::{Constraints, Enumerated, Identifier, RealType, Tag};
 impl Encoder {
     ghost use Rattle.rasn_types.specs.declared.types.constraints.Constraints.{Constraints};
 
-    /// Writes an ENUMERATED (X.690 8.4) in the fewest octets. The name is ignored.
+    /// Writes an ENUMERATED (X.690 8.4) in the fewest octets.
     ///
     /// # Errors
     /// `OutOfMemory` alone.
@@ -27,24 +27,24 @@ impl Encoder {
     ) -> Result<(), EncodeError>
         ensures ok { (c : Constraints) → OnOk result (Wrote (leaf (enumerated E.known) tag c) (number_tree (E.number value.now)) self.old self.new) }
         ensures err { OnErr result (self.new ≡ self.old) }
-        ensures refused { IfErr result (WantsMemory self.old.rule) }
+        ensures refused { IfErr result (TellsOutOfMemory self.old.rule) }
     {
         self.encode_integer(tag, &Constraints::NONE, &value.discriminant(), identifier)
     }
 
-    /// Writes a NULL (X.690 8.8). The name is ignored.
+    /// Writes a NULL (X.690 8.8).
     ///
     /// # Errors
     /// `OutOfMemory` alone.
     pub fn encode_null(&mut self, tag: Tag, _identifier: Identifier) -> Result<(), EncodeError>
         ensures ok { (c : Constraints) → OnOk result (Wrote (leaf null tag c) (number_tree (pos 0)) self.old self.new) }
         ensures err { OnErr result (self.new ≡ self.old) }
-        ensures refused { IfErr result (WantsMemory self.old.rule) }
+        ensures refused { IfErr result (TellsOutOfMemory self.old.rule) }
     {
         self.leaf(tag, &[])
     }
 
-    /// Writes an OBJECT IDENTIFIER of these arcs (X.690 8.19) in the fewest octets. The name is ignored.
+    /// Writes an OBJECT IDENTIFIER of these arcs (X.690 8.19) in the fewest octets.
     ///
     /// # Errors
     /// `InvalidObjectIdentifier` where the arcs have no octets and memory holds a copy of them, else `OutOfMemory` alone.
@@ -56,7 +56,7 @@ impl Encoder {
     ) -> Result<(), EncodeError>
         ensures ok { (c : Constraints) → OnOk result (Wrote (leaf object_identifier tag c) (numbers value.now) self.old self.new) }
         ensures err { OnErr result (self.new ≡ self.old) }
-        ensures refused { IfErr result (λ e. RefusesArcs value.now self.old.rule e ⊎ WantsMemory self.old.rule e) }
+        ensures refused { IfErr result (λ e. RefusesArcs value.now self.old.rule e ⊎ TellsOutOfMemory self.old.rule e) }
     {
         let (alloc, rule) = (self.alloc(), self.codec());
         match self.leaf_with(tag, |octets: &mut Vec<u8>| append_contents(value, octets)) {

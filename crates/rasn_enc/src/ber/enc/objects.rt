@@ -2,7 +2,7 @@
 ghost use Rattle.std.specs.Prelude.{◌≡◌, ◌⊎◌, ◌∷◌, ◌++◌, List, ℕ, MatchOption, OnOk, OnErr, IfErr};
 ghost use Rattle.rasn_types.specs.declared.types.rules.Codec.TheVariants.{Ber};
 ghost use Rattle.rasn_enc.specs.ObjectIdentifiers.{HasOctets, IsFirst, AppendsOne, AppendsArcs, AppendsContents, RefusesArcs};
-ghost use Rattle.rasn_enc.specs.Primitives.{WantsMemory};
+ghost use Rattle.rasn_enc.specs.Primitives.{TellsOutOfMemory};
 ghost use Rattle.rasn_enc.specs.declared.ber.enc.filled.Unfilled.TheVariants.{Refused};
 
 use super::base_128::{count_groups, write_groups};
@@ -24,7 +24,7 @@ pub fn object_identifier_as_bytes(
 ) -> Result<(), EncodeError>
     ensures ok { OnOk result (AppendsContents oid.now buffer.old.items buffer.new.items) }
     ensures err { OnErr result (buffer.new.items ≡ buffer.old.items) }
-    ensures refused { IfErr result (λ e. RefusesArcs oid.now Ber e ⊎ WantsMemory Ber e) }
+    ensures refused { IfErr result (λ e. RefusesArcs oid.now Ber e ⊎ TellsOutOfMemory Ber e) }
 {
     let length = buffer.len();
     match append_contents(oid, buffer) {
@@ -68,7 +68,7 @@ fn first_subidentifier(oid: &[u32]) -> Option<u32>
 /// The error of arcs that have no octets, which tells them. Where the copy finds no memory, that is the error.
 pub fn refused_arcs(alloc: Global, codec: Codec, arcs: &[u32]) -> EncodeError
     requires { HasOctets arcs.now → ⊥ }
-    ensures { RefusesArcs arcs.now codec result ⊎ WantsMemory codec result }
+    ensures { RefusesArcs arcs.now codec result ⊎ TellsOutOfMemory codec result }
 {
     let mut oid = Vec::new(alloc);
     match oid.extend_from_slice(arcs) {

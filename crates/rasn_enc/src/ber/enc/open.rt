@@ -4,7 +4,7 @@ ghost use Rattle.rasn_types.specs.Shapes.{any, looked_for};
 ghost use Rattle.rasn_types.specs.Trees.{open_tree, open_octets};
 ghost use Rattle.rasn_types.specs.Bytes.{Cons};
 ghost use Rattle.rasn_enc.specs.View.{appended};
-ghost use Rattle.rasn_enc.specs.Primitives.{Appends, WantsMemory};
+ghost use Rattle.rasn_enc.specs.Primitives.{Appends, TellsOutOfMemory};
 ghost use Rattle.rasn_enc.specs.Wrote.{Wrote};
 ghost use Rattle.rasn_enc.specs.OpenTypes.{TellsBare, RefusesAny};
 
@@ -14,7 +14,7 @@ use rasn_types::types::{Any, Codec, Identifier, Tag};
 
 impl Encoder {
     /// Writes a value of an open type (X.680 30): with a tag as a value of this tag round the octets (X.690 8.14.2), with `Tag::EOC` as
-    /// the octets alone (8.15). One that has no octets is written as nothing. The name is ignored.
+    /// the octets alone (8.15). One that has no octets is written as nothing.
     ///
     /// # Errors
     /// `AnyInSet` where octets without a tag would stand directly in a SET, or in the output of an encoder that `new_set` made: their
@@ -45,7 +45,7 @@ impl Encoder {
         ensures ok { OnOk result (self.new ≡ appended self.old octets.now []) }
         ensures free { OnOk result (self.old.last.tags ≡ None) }
         ensures err { OnErr result (self.new ≡ self.old) }
-        ensures refused { IfErr result (λ e. ((self.old.last.tags ≢ None) × TellsBare self.old.rule e) ⊎ ((self.old.last.tags ≡ None) × WantsMemory self.old.rule e)) }
+        ensures refused { IfErr result (λ e. ((self.old.last.tags ≢ None) × TellsBare self.old.rule e) ⊎ ((self.old.last.tags ≡ None) × TellsOutOfMemory self.old.rule e)) }
     {
         if self.keeps_tags() {
             return Err(any_in_set(self.codec()));
@@ -57,7 +57,7 @@ impl Encoder {
     fn put_round(&mut self, tag: Tag, octets: &[u8]) -> Result<(), EncodeError>
         ensures ok { OnOk result (Appends (Cons self.old.rule tag octets.now) tag self.old self.new) }
         ensures err { OnErr result (self.new ≡ self.old) }
-        ensures memory { IfErr result (WantsMemory self.old.rule) }
+        ensures memory { IfErr result (TellsOutOfMemory self.old.rule) }
     {
         self.open(false)?;
         let outcome = self.put(octets);
@@ -75,7 +75,7 @@ impl Encoder {
     fn put(&mut self, octets: &[u8]) -> Result<(), EncodeError>
         ensures ok { OnOk result (self.new ≡ appended self.old octets.now []) }
         ensures err { OnErr result (self.new ≡ self.old) }
-        ensures memory { IfErr result (WantsMemory self.old.rule) }
+        ensures memory { IfErr result (TellsOutOfMemory self.old.rule) }
     {
         self.writer.put(octets)
     }

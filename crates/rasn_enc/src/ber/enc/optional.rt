@@ -1,6 +1,6 @@
 //! Values that may be left out (X.680 25.5 to 25.8).
 ghost use Rattle.std.specs.Prelude.{◌≡◌, Ok, IfErr, OnOk, OnErr};
-ghost use Rattle.rasn_types.specs.Shapes.{given};
+ghost use Rattle.rasn_types.specs.Shapes.{tagged_as};
 ghost use Rattle.rasn_enc.specs.Wrote.{Wrote, MayRefuse};
 
 use super::Encoder;
@@ -9,7 +9,7 @@ use rasn_types::error::EncodeError;
 use rasn_types::types::{Constraints, Identifier, Tag};
 
 impl Encoder {
-    /// Writes an optional value that is there. The name is ignored.
+    /// Writes an optional value that is there.
     ///
     /// # Errors
     /// What the value refuses. Nothing is written then.
@@ -35,9 +35,9 @@ impl Encoder {
         value: &E,
         identifier: Identifier,
     ) -> Result<(), EncodeError>
-        ensures ok { OnOk result (Wrote (given tag E.CONSTRAINTS E.shape) (E.tree value.now) self.old self.new) }
+        ensures ok { OnOk result (Wrote (tagged_as tag E.CONSTRAINTS E.shape) (E.tree value.now) self.old self.new) }
         ensures err { OnErr result (self.new ≡ self.old) }
-        ensures refused { IfErr result (MayRefuse (given tag E.CONSTRAINTS E.shape) (E.tree value.now) self.old) }
+        ensures refused { IfErr result (MayRefuse (tagged_as tag E.CONSTRAINTS E.shape) (E.tree value.now) self.old) }
     {
         value.encode_with_tag(self, tag, identifier)
     }
@@ -53,9 +53,9 @@ impl Encoder {
         value: &E,
         identifier: Identifier,
     ) -> Result<(), EncodeError>
-        ensures ok { OnOk result (Wrote (given tag constraints.now E.shape) (E.tree value.now) self.old self.new) }
+        ensures ok { OnOk result (Wrote (tagged_as tag constraints.now E.shape) (E.tree value.now) self.old self.new) }
         ensures err { OnErr result (self.new ≡ self.old) }
-        ensures refused { IfErr result (MayRefuse (given tag constraints.now E.shape) (E.tree value.now) self.old) }
+        ensures refused { IfErr result (MayRefuse (tagged_as tag constraints.now E.shape) (E.tree value.now) self.old) }
     {
         value.encode_with_tag_and_constraints(self, tag, constraints, identifier)
     }

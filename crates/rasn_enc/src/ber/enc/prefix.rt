@@ -10,7 +10,6 @@ use rasn_types::types::{Identifier, Tag};
 
 impl Encoder {
     /// Writes a value behind a prefix of this tag, in front of its own (X.690 8.14.2; X.680 31.2.7); nothing where it isn't present.
-    /// The name is ignored.
     ///
     /// # Errors
     /// What the value refuses, else `OutOfMemory` alone. Nothing is written then.

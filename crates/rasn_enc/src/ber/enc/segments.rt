@@ -3,7 +3,7 @@ ghost use Rattle.std.specs.Prelude.{◌≡◌, ◌<◌, ◌≤◌, length, Match
 ghost use Rattle.rasn_types.specs.Bytes.{IsCer, WritesOctets};
 ghost use Rattle.rasn_types.specs.Tags.{in_universal};
 ghost use Rattle.rasn_enc.specs.View.{LeavesOthers};
-ghost use Rattle.rasn_enc.specs.Primitives.{WantsMemory};
+ghost use Rattle.rasn_enc.specs.Primitives.{TellsOutOfMemory};
 ghost use Rattle.rasn_enc.specs.Refusals.{RefusesString};
 ghost use Rattle.rasn_enc.specs.Segments.{WroteSegments, PutsSegments};
 ghost use Rattle.rasn_enc.specs.Texts.{PutsText};
@@ -47,7 +47,7 @@ impl Encoder {
         requires { SEGMENT < length value.now }
         ensures ok { OnOk result (PutsSegments WritesOctets SEGMENT (in_universal 4) tag value.now self.old self.new) }
         ensures err { OnErr result (self.new ≡ self.old) }
-        ensures memory { IfErr result (WantsMemory self.old.rule) }
+        ensures memory { IfErr result (TellsOutOfMemory self.old.rule) }
     {
         self.enclose(tag, false, |encoder: &mut Encoder| {
             encoder.write_segments(value)
@@ -58,7 +58,7 @@ impl Encoder {
         requires { 0 < length value.now }
         ensures keeps { LeavesOthers self.old self.new }
         ensures ok { OnOk result (WroteSegments WritesOctets SEGMENT (in_universal 4) value.now self.old self.new) }
-        ensures memory { IfErr result (WantsMemory self.old.rule) }
+        ensures memory { IfErr result (TellsOutOfMemory self.old.rule) }
     {
         let mut rest = value;
         while rest.len() > SEGMENT {

@@ -2,7 +2,7 @@
 ghost use Rattle.std.specs.Prelude.{◌≡◌, ◌⊎◌, IfErr, OnOk, OnErr, false};
 ghost use Rattle.std.specs.Fn.{FnOnceTakesAtMut};
 ghost use Rattle.rasn_enc.specs.View.{opened};
-ghost use Rattle.rasn_enc.specs.Primitives.{WantsMemory};
+ghost use Rattle.rasn_enc.specs.Primitives.{TellsOutOfMemory};
 ghost use Rattle.rasn_enc.specs.Writing.{WritesInside, Refuses, Encloses};
 
 use super::Encoder;
@@ -10,7 +10,7 @@ use rasn_types::error::EncodeError;
 use rasn_types::types::{Constructed, Identifier, Tag};
 
 impl Encoder {
-    /// Writes a SEQUENCE (X.690 8.9): `parts` writes its components, one behind the other. The name is ignored.
+    /// Writes a SEQUENCE (X.690 8.9): `parts` writes its components, one behind the other.
     ///
     /// # Errors
     /// What `parts` refuses, else `OutOfMemory` alone. Nothing is written then.
@@ -24,7 +24,7 @@ impl Encoder {
         requires keeps { WritesInside F.FnOnce parts (opened self.old false) }
         ensures ok { OnOk result (Encloses F.FnOnce parts false tag self.old self.new) }
         ensures err { OnErr result (self.new ≡ self.old) }
-        ensures refused { IfErr result (λ e. WantsMemory self.old.rule e ⊎ Refuses F.FnOnce parts (opened self.old false) e) }
+        ensures refused { IfErr result (λ e. TellsOutOfMemory self.old.rule e ⊎ Refuses F.FnOnce parts (opened self.old false) e) }
     {
         self.enclose(tag, false, parts)
     }

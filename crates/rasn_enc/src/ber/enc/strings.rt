@@ -1,6 +1,6 @@
 //! Writing OCTET STRING and character strings (X.690 8.7, 8.23).
 ghost use Rattle.std.specs.Prelude.{◌≡◌, chars, length, IfErr, OnOk, OnErr};
-ghost use Rattle.rasn_types.specs.Characters.{kind_of, units_of};
+ghost use Rattle.rasn_types.specs.Characters.{string_kind, units_of};
 ghost use Rattle.rasn_types.specs.Shapes.{leaf, numbers, octet_string, numeric, printable, visible, ia5, any_octets, bmp, utf8};
 ghost use Rattle.rasn_enc.specs.Refusals.{RefusesString};
 ghost use Rattle.rasn_enc.specs.Texts.{IsCounted};
@@ -25,7 +25,7 @@ fn character_count(constraints: &Constraints, text: &str) -> usize
 }
 
 impl Encoder {
-    /// Writes an OCTET STRING (X.690 8.7). The canonical rules write more than 1000 octets in segments (9.2). The name is ignored.
+    /// Writes an OCTET STRING (X.690 8.7). The canonical rules write more than 1000 octets in segments (9.2).
     ///
     /// # Errors
     /// `SizeConstraintNotSatisfied` where the number of octets is out of its bound, else `OutOfMemory` alone.
@@ -43,7 +43,7 @@ impl Encoder {
         self.string(tag, constraints, value, value.len())
     }
 
-    /// Writes a VisibleString (X.690 8.23). The canonical rules write more than 1000 octets in segments (9.2). The name is ignored.
+    /// Writes a VisibleString (X.690 8.23). The canonical rules write more than 1000 octets in segments (9.2).
     ///
     /// # Errors
     /// `SizeConstraintNotSatisfied` where the number of octets is out of its bound, else `OutOfMemory` alone.
@@ -61,7 +61,7 @@ impl Encoder {
         self.restricted::<VisibleType>(tag, constraints, value)
     }
 
-    /// Writes an IA5String (X.690 8.23). The canonical rules write more than 1000 octets in segments (9.2). The name is ignored.
+    /// Writes an IA5String (X.690 8.23). The canonical rules write more than 1000 octets in segments (9.2).
     ///
     /// # Errors
     /// `SizeConstraintNotSatisfied` where the number of octets is out of its bound, else `OutOfMemory` alone.
@@ -79,7 +79,7 @@ impl Encoder {
         self.restricted::<Ia5Type>(tag, constraints, value)
     }
 
-    /// Writes a PrintableString (X.690 8.23). The canonical rules write more than 1000 octets in segments (9.2). The name is ignored.
+    /// Writes a PrintableString (X.690 8.23). The canonical rules write more than 1000 octets in segments (9.2).
     ///
     /// # Errors
     /// `SizeConstraintNotSatisfied` where the number of octets is out of its bound, else `OutOfMemory` alone.
@@ -97,7 +97,7 @@ impl Encoder {
         self.restricted::<PrintableType>(tag, constraints, value)
     }
 
-    /// Writes a NumericString (X.690 8.23). The canonical rules write more than 1000 octets in segments (9.2). The name is ignored.
+    /// Writes a NumericString (X.690 8.23). The canonical rules write more than 1000 octets in segments (9.2).
     ///
     /// # Errors
     /// `SizeConstraintNotSatisfied` where the number of octets is out of its bound, else `OutOfMemory` alone.
@@ -115,7 +115,7 @@ impl Encoder {
         self.restricted::<NumericType>(tag, constraints, value)
     }
 
-    /// Writes a TeletexString (X.690 8.23). The canonical rules write more than 1000 octets in segments (9.2). The name is ignored.
+    /// Writes a TeletexString (X.690 8.23). The canonical rules write more than 1000 octets in segments (9.2).
     ///
     /// # Errors
     /// `SizeConstraintNotSatisfied` where the number of octets is out of its bound, else `OutOfMemory` alone.
@@ -133,7 +133,7 @@ impl Encoder {
         self.restricted::<TeletexType>(tag, constraints, value)
     }
 
-    /// Writes a GeneralString (X.690 8.23). The canonical rules write more than 1000 octets in segments (9.2). The name is ignored.
+    /// Writes a GeneralString (X.690 8.23). The canonical rules write more than 1000 octets in segments (9.2).
     ///
     /// # Errors
     /// `SizeConstraintNotSatisfied` where the number of octets is out of its bound, else `OutOfMemory` alone.
@@ -151,7 +151,7 @@ impl Encoder {
         self.restricted::<GeneralType>(tag, constraints, value)
     }
 
-    /// Writes a GraphicString (X.690 8.23). The canonical rules write more than 1000 octets in segments (9.2). The name is ignored.
+    /// Writes a GraphicString (X.690 8.23). The canonical rules write more than 1000 octets in segments (9.2).
     ///
     /// # Errors
     /// `SizeConstraintNotSatisfied` where the number of octets is out of its bound, else `OutOfMemory` alone.
@@ -169,7 +169,7 @@ impl Encoder {
         self.restricted::<GraphicType>(tag, constraints, value)
     }
 
-    /// Writes a BMPString: 16-bit units, the high octet first (X.690 8.23.8). The canonical rules write more than 1000 octets in segments (9.2). The name is ignored.
+    /// Writes a BMPString: 16-bit units, the high octet first (X.690 8.23.8). The canonical rules write more than 1000 octets in segments (9.2).
     ///
     /// # Errors
     /// `SizeConstraintNotSatisfied` where the number of units is out of its bound, else `OutOfMemory` alone.
@@ -188,7 +188,7 @@ impl Encoder {
         self.string(tag, constraints, octets, octets.len() / 2)
     }
 
-    /// Writes a UTF8String (X.690 8.23.10). The canonical rules write more than 1000 octets in segments (9.2). The name is ignored.
+    /// Writes a UTF8String (X.690 8.23.10). The canonical rules write more than 1000 octets in segments (9.2).
     ///
     /// # Errors
     /// `SizeConstraintNotSatisfied` where the number of characters is out of its bound, else `OutOfMemory` alone.
@@ -214,7 +214,7 @@ impl Encoder {
         constraints: &Constraints,
         value: &RestrictedString<S>,
     ) -> Result<(), EncodeError>
-        ensures ok { OnOk result (Wrote (leaf (kind_of S.ALPHABET) tag constraints.now) (numbers value.now) self.old self.new) }
+        ensures ok { OnOk result (Wrote (leaf (string_kind S.ALPHABET) tag constraints.now) (numbers value.now) self.old self.new) }
         ensures err { OnErr result (self.new ≡ self.old) }
         ensures refused { IfErr result (RefusesString constraints.now (length value.now) self.old.rule) }
     {

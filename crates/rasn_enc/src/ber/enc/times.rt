@@ -4,7 +4,7 @@ ghost use Rattle.rasn_types.specs.Calendar.{IsDay, IsMoment};
 ghost use Rattle.rasn_types.specs.Shapes.{leaf, utc_time, generalized_time, date, instant, on_day};
 ghost use Rattle.rasn_types.specs.Times.{written_utc, written_generalized, written_date};
 ghost use Rattle.rasn_types.specs.declared.types.rules.Codec.TheVariants.{Ber};
-ghost use Rattle.rasn_enc.specs.Primitives.{WantsMemory};
+ghost use Rattle.rasn_enc.specs.Primitives.{TellsOutOfMemory};
 ghost use Rattle.rasn_enc.specs.Wrote.{Wrote};
 
 use super::filled::Unfilled;
@@ -19,7 +19,7 @@ const TEXT_CAPACITY: usize = 27;
 
 fn empty_text(alloc: Global) -> Result<Vec<u8>, EncodeError>
     ensures ok { IfOk result (λ v. v.items ≡ []) }
-    ensures refused { IfErr result (WantsMemory Ber) }
+    ensures refused { IfErr result (TellsOutOfMemory Ber) }
 {
     match Vec::with_capacity(alloc, TEXT_CAPACITY) {
         Ok(text) => Ok(text),
@@ -66,7 +66,7 @@ fn put_date(octets: &mut Vec<u8>, value: &Date) -> Result<(), Unfilled>
 impl Encoder {
     ghost use Rattle.rasn_types.specs.declared.types.constraints.Constraints.{Constraints};
 
-    /// Writes a UTCTime (X.690 11.8): the year without its century, and no fraction. The name is ignored.
+    /// Writes a UTCTime (X.690 11.8): the year without its century, and no fraction.
     ///
     /// # Errors
     /// `OutOfMemory` alone.
@@ -78,7 +78,7 @@ impl Encoder {
     ) -> Result<(), EncodeError>
         ensures ok { (c : Constraints) → OnOk result (Wrote (leaf utc_time tag c) (instant value.now) self.old self.new) }
         ensures err { OnErr result (self.new ≡ self.old) }
-        ensures refused { IfErr result (WantsMemory self.old.rule) }
+        ensures refused { IfErr result (TellsOutOfMemory self.old.rule) }
     {
         let codec = self.codec();
         match self.leaf_with(tag, |octets: &mut Vec<u8>| put_utc(octets, value)) {
@@ -87,7 +87,7 @@ impl Encoder {
         }
     }
 
-    /// Writes a GeneralizedTime (X.690 11.7), in UTC whatever its offset. A year outside 0 to 9999 has a sign. The name is ignored.
+    /// Writes a GeneralizedTime (X.690 11.7), in UTC whatever its offset. A year outside 0 to 9999 has a sign.
     ///
     /// # Errors
     /// `OutOfMemory` alone.
@@ -99,7 +99,7 @@ impl Encoder {
     ) -> Result<(), EncodeError>
         ensures ok { (c : Constraints) → OnOk result (Wrote (leaf generalized_time tag c) (instant value.now.moment) self.old self.new) }
         ensures err { OnErr result (self.new ≡ self.old) }
-        ensures refused { IfErr result (WantsMemory self.old.rule) }
+        ensures refused { IfErr result (TellsOutOfMemory self.old.rule) }
     {
         let codec = self.codec();
         match self.leaf_with(tag, |octets: &mut Vec<u8>| put_generalized(octets, value)) {
@@ -108,7 +108,7 @@ impl Encoder {
         }
     }
 
-    /// Writes a DATE (X.680 38.4.1). A year outside 0 to 9999 has a sign. The name is ignored.
+    /// Writes a DATE (X.680 38.4.1). A year outside 0 to 9999 has a sign.
     ///
     /// # Errors
     /// `OutOfMemory` alone.
@@ -120,7 +120,7 @@ impl Encoder {
     ) -> Result<(), EncodeError>
         ensures ok { (c : Constraints) → OnOk result (Wrote (leaf date tag c) (on_day value.now) self.old self.new) }
         ensures err { OnErr result (self.new ≡ self.old) }
-        ensures refused { IfErr result (WantsMemory self.old.rule) }
+        ensures refused { IfErr result (TellsOutOfMemory self.old.rule) }
     {
         let codec = self.codec();
         match self.leaf_with(tag, |octets: &mut Vec<u8>| put_date(octets, value)) {
@@ -138,7 +138,7 @@ impl Encoder {
         value: &GeneralizedTime,
     ) -> Result<Vec<u8>, EncodeError>
         ensures ok { IfOk result (λ v. v.items ≡ written_generalized value.now.moment) }
-        ensures refused { IfErr result (WantsMemory Ber) }
+        ensures refused { IfErr result (TellsOutOfMemory Ber) }
     {
         let mut text = empty_text(alloc)?;
         match put_generalized(&mut text, value) {
@@ -156,7 +156,7 @@ impl Encoder {
         value: &UtcTime,
     ) -> Result<Vec<u8>, EncodeError>
         ensures ok { IfOk result (λ v. v.items ≡ written_utc value.now) }
-        ensures refused { IfErr result (WantsMemory Ber) }
+        ensures refused { IfErr result (TellsOutOfMemory Ber) }
     {
         let mut text = empty_text(alloc)?;
         match put_utc(&mut text, value) {
@@ -171,7 +171,7 @@ impl Encoder {
     /// `OutOfMemory` alone, under the name of BER.
     pub fn naivedate_to_date_bytes(alloc: Global, value: &Date) -> Result<Vec<u8>, EncodeError>
         ensures ok { IfOk result (λ v. v.items ≡ written_date value.now) }
-        ensures refused { IfErr result (WantsMemory Ber) }
+        ensures refused { IfErr result (TellsOutOfMemory Ber) }
     {
         let mut text = empty_text(alloc)?;
         match put_date(&mut text, value) {

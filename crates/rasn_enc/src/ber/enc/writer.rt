@@ -10,7 +10,7 @@ ghost use Rattle.rasn_types.specs.Tags.{IsTagBelow};
 ghost use Rattle.rasn_enc.specs.View.{View, started, opened, appended, IsBelow};
 ghost use Rattle.rasn_enc.specs.Lists.{IsMarked};
 ghost use Rattle.rasn_enc.specs.Gathered.{kept_of};
-ghost use Rattle.rasn_enc.specs.Primitives.{Appends, WantsMemory};
+ghost use Rattle.rasn_enc.specs.Primitives.{Appends, TellsOutOfMemory};
 ghost use Rattle.rasn_enc.specs.Order.{octets_less};
 ghost use Rattle.rasn_enc.specs.declared.ber.enc.filled.Unfilled.TheVariants.{NoMemory};
 ghost use Rattle.rasn_enc.specs.Filled.{FillsBehind, RefusesToFill, AppendsFilled};
@@ -92,7 +92,7 @@ impl Writer {
         keeps_tags: bool,
     ) -> Result<Writer, EncodeError>
         ensures ok { IfOk result (λ w. w ≡ started rule keeps_tags) }
-        ensures refused { IfErr result (WantsMemory rule) }
+        ensures refused { IfErr result (TellsOutOfMemory rule) }
     {
         let mut gathered = buffer;
         gathered.clear();
@@ -132,7 +132,7 @@ impl Writer {
     /// The octets of the last list.
     pub fn output(self) -> Result<Vec<u8>, EncodeError>
         ensures ok { IfOk result (λ v. v.items ≡ self.last.octets) }
-        ensures refused { IfErr result (WantsMemory self.rule) }
+        ensures refused { IfErr result (TellsOutOfMemory self.rule) }
     {
         let Writer {
             alloc: _,
@@ -155,7 +155,7 @@ impl Writer {
     pub fn begin(&mut self, keeps_tags: bool) -> Result<(), EncodeError>
         ensures ok { OnOk result (self.new ≡ opened self.old keeps_tags) }
         ensures err { OnErr result (self.new ≡ self.old) }
-        ensures memory { IfErr result (WantsMemory self.old.rule) }
+        ensures memory { IfErr result (TellsOutOfMemory self.old.rule) }
     {
         let end = self.gathered.len();
         let last = self.marks.len();
@@ -230,7 +230,7 @@ impl Writer {
         requires { 0 < length self.old.below }
         ensures ok { OnOk result ((v : View) → IsBelow v self.old → Appends (Cons v.rule tag self.old.last.octets) tag v self.new) }
         ensures err { OnErr result ((v : View) → IsBelow v self.old → self.new ≡ v) }
-        ensures memory { IfErr result (WantsMemory self.old.rule) }
+        ensures memory { IfErr result (TellsOutOfMemory self.old.rule) }
     {
         let rule = self.rule;
         let inner = self.measured;
@@ -274,7 +274,7 @@ impl Writer {
     pub fn leaf(&mut self, tag: Tag, contents: &[u8]) -> Result<(), EncodeError>
         ensures ok { OnOk result (Appends (Prim tag contents.now) tag self.old self.new) }
         ensures err { OnErr result (self.new ≡ self.old) }
-        ensures memory { IfErr result (WantsMemory self.old.rule) }
+        ensures memory { IfErr result (TellsOutOfMemory self.old.rule) }
     {
         match gather(
             &mut self.gathered,

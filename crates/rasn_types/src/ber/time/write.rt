@@ -56,7 +56,7 @@ fn push_year(out: &mut Vec<u8>, year: i32) -> Result<(), AllocError>
     }
 }
 
-/// Appends a day's text, a year outside 0 to 9999 with its sign. Fails where memory is wanted.
+/// Appends a day's text, a year outside 0 to 9999 with its sign. Fails where memory runs out.
 #[tactic(auto, unfolding(crate::specs::Times::written_date))]
 pub fn write_date(out: &mut Vec<u8>, value: &Date) -> Result<(), AllocError>
     ensures ok { IfOk result (λ _. out.new.items ≡ out.old.items ++ written_date value.now) }
@@ -130,7 +130,7 @@ fn push_clock(out: &mut Vec<u8>, value: &UtcTime) -> Result<(), AllocError>
     push_two(out, shown_second(value))
 }
 
-/// Appends an instant as a GeneralizedTime in the canonical form (X.690 11.7). Fails where memory is wanted.
+/// Appends an instant as a GeneralizedTime in the canonical form (X.690 11.7). Fails where memory runs out.
 #[tactic(auto, unfolding(crate::specs::Times::written_generalized))]
 pub fn write_generalized_time(out: &mut Vec<u8>, value: &GeneralizedTime) -> Result<(), AllocError>
     ensures ok { IfOk result (λ _. out.new.items ≡ out.old.items ++ written_generalized value.now.moment) }

@@ -31,7 +31,7 @@ impl BmpString {
     /// A copy of these octets as a string; none where their number is odd.
     ///
     /// # Errors
-    /// Want of memory.
+    /// Running out of memory.
     pub fn from_octets(alloc: Global, octets: &[u8]) -> Result<Option<BmpString>, AllocError>
         ensures { IfOk result (λ v. MatchOption v (ArePaired octets.now → ⊥) (λ s. ArePaired octets.now × (s ≡ octets.now))) }
     {

@@ -1,6 +1,6 @@
 //! String types whose octets are single characters.
 ghost use Rattle.std.specs.Prelude.{◌≡◌, IfOk, MatchOption, Option};
-ghost use Rattle.rasn_types.specs.Characters.{AreAdmitted, kind_of};
+ghost use Rattle.rasn_types.specs.Characters.{AreAdmitted, string_kind};
 
 use crate::types::{Alphabet, AsnType, Constraints, Tag};
 use std::alloc::{AllocError, Global};
@@ -46,7 +46,7 @@ impl<S: StringType> RestrictedString<S> {
     /// A copy of these octets as a string; none where the alphabet lacks one of them.
     ///
     /// # Errors
-    /// Want of memory.
+    /// Running out of memory.
     pub fn from_octets(
         alloc: Global,
         octets: &[u8],
@@ -104,7 +104,7 @@ impl<S: StringType> Eq for RestrictedString<S> {
 impl<S: StringType> AsnType for RestrictedString<S> {
     ghost use Rattle.std.specs.Prelude.{refl};
     ghost use Rattle.rasn_types.specs.Shapes.{leaf, numbers};
-    ghost use Rattle.rasn_types.specs.Characters.{kind_of};
+    ghost use Rattle.rasn_types.specs.Characters.{string_kind};
     ghost use Rattle.rasn_types.specs.Trees.{unconstrained};
 
     ghost TAG = { S.TAG };
@@ -115,7 +115,7 @@ impl<S: StringType> AsnType for RestrictedString<S> {
 
     const CONSTRAINTS: Constraints = Constraints::NONE;
 
-    ghost shape = { leaf (kind_of S.ALPHABET) S.TAG unconstrained };
+    ghost shape = { leaf (string_kind S.ALPHABET) S.TAG unconstrained };
 
     ghost tree = { λ s. numbers s };
 

@@ -3,7 +3,7 @@ ghost use Rattle.std.specs.Prelude.{List, ℕ, MatchOption, Result};
 ghost use Rattle.rasn_de.specs.declared.ber.de.parser.Fault.{Fault};
 ghost use Rattle.rasn_types.specs.declared.types.rules.Codec.{Codec};
 ghost use Rattle.rasn_types.specs.Framing.{AreOctets};
-ghost use Rattle.rasn_de.specs.Octets.{octets_at, Finds, ShowsForm};
+ghost use Rattle.rasn_de.specs.Octets.{octet_string_at, FindsOctets, ShowsForm};
 ghost use Rattle.rasn_de.specs.Strings.{string_of, octets};
 ghost use Rattle.rasn_de.specs.Views.{IsNestedValue, IsPlainValue, Appends, AppendsPart, header};
 
@@ -95,7 +95,7 @@ pub fn read_octets(
     tag: Tag,
     input: &[u8],
 ) -> Result<(CowSlice<'_, u8>, &[u8]), Fault>
-    ensures exact { Finds (octets_at rules depth tag input.now) result }
+    ensures exact { FindsOctets (octet_string_at rules depth tag input.now) result }
     ensures form { ShowsForm rules tag input.now result }
     ensures octets { AreOctets input.now }
 {

@@ -1,7 +1,7 @@
 //! Octets without a header of their own.
 ghost use Rattle.std.specs.Prelude.{◌≡◌, ◌≢◌, None, [], MatchBool, IfErr, OnOk, OnErr};
 ghost use Rattle.rasn_enc.specs.View.{appended};
-ghost use Rattle.rasn_enc.specs.Primitives.{WantsMemory};
+ghost use Rattle.rasn_enc.specs.Primitives.{TellsOutOfMemory};
 
 use super::Writer;
 use crate::ber::enc::gathering::gather_octets;
@@ -20,7 +20,7 @@ impl Writer {
     pub fn put(&mut self, octets: &[u8]) -> Result<(), EncodeError>
         ensures ok { OnOk result (self.new ≡ appended self.old octets.now []) }
         ensures err { OnErr result (self.new ≡ self.old) }
-        ensures memory { IfErr result (WantsMemory self.old.rule) }
+        ensures memory { IfErr result (TellsOutOfMemory self.old.rule) }
     {
         match gather_octets(&mut self.gathered, self.measured, octets) {
             Ok(total) => {

@@ -1,5 +1,5 @@
 use Rattle.std.proofs.Common.{◌≡◌, Ok}
-use Rattle.rasn_de.specs.BitStrings.{bits_at, LacksBits}
+use Rattle.rasn_de.specs.BitStrings.{bit_string_at, LacksBits}
 use Rattle.rasn_de.proofs.BitStrings.{bits_end, gathered_bits, lacks_end, lacked_bits}
 use Rattle.rasn_de.proofs.ber.de.Decoder.bits.Goals as goal
 
@@ -8,7 +8,7 @@ advance-requires c = rw (← c.self.view_is) (bits_end c.self.inside.rules c.sel
 
 pub returns-in-Ok-clause-gathers : goal.returns-in-Ok-clause-gathers
 returns-in-Ok-clause-gathers c =
-    let e : bits_at c.args.self.now.rule c.args.self.now.depth c.args.tag c.args.self.now.rest ≡ Ok (c.in-Ok.bits, c.in-Ok.rest.now) = rw (← c.self.view_is) c.in-Ok.ensures.exact in
+    let e : bit_string_at c.args.self.now.rule c.args.self.now.depth c.args.tag c.args.self.now.rest ≡ Ok (c.in-Ok.bits, c.in-Ok.rest.now) = rw (← c.self.view_is) c.in-Ok.ensures.exact in
     gathered_bits c.args.tag c.args.self.now _ c.in-Ok.bits c.in-Ok.rest.now e c.advance.ensures
 
 pub advance-requires-in-Err : goal.advance-requires-in-Err

@@ -2,7 +2,7 @@ use Rattle.std.proofs.Common.{[], ◌∷◌, ◌++◌}
 use Rattle.std.proofs.lemmas.Result.{err_from_is_err_and}
 use Rattle.rasn_de.specs.Decodes.{Decodes}
 use Rattle.rasn_de.specs.Sets.{stops}
-use Rattle.rasn_de.proofs.Bagged.{passes_from, came_stays}
+use Rattle.rasn_de.proofs.SetsOf.{passes_from, came_stays}
 use Rattle.rasn_de.proofs.Tagged.{tagged_order, look_refused, look_follows, look_kept}
 use Rattle.rasn_de.proofs.ber.de.Decoder.components.Goals as goal
 

@@ -8,7 +8,7 @@ use Rattle.rasn_types.specs.Shapes.{bmp}
 use Rattle.rasn_types.proofs.StringTexts.{units_only}
 use Rattle.rasn_de.specs.Texts.{ByCharacters}
 use Rattle.rasn_de.proofs.Verdicts.{by_units}
-use Rattle.rasn_de.proofs.Texts.{string_decodes, string_refused, string_ungathered, string_starved, string_given}
+use Rattle.rasn_de.proofs.Texts.{string_decodes, string_refused, string_ungathered, string_ran_out, string_given}
 use Rattle.rasn_de.proofs.ber.de.Decoder.decode_bmp_string.Goals as goal
 
 pub returns-in_err-octets-clause-refused : goal.returns-in_err-octets-clause-refused
@@ -44,7 +44,7 @@ returns-in-Ok-clause-reads c =
 
 pub returns-in-Err-owned-clause-refused : goal.returns-in-Err-owned-clause-refused
 returns-in-Err-owned-clause-refused c =
-    string_starved units_of (ByCharacters units BMP_STRING c.args.constraints.now.size) c.args.tag c.args.self.now _ c.in_ok-octets.octets _ _ c.in_ok-octets.ensures.gathers
+    string_ran_out units_of (ByCharacters units BMP_STRING c.args.constraints.now.size) c.args.tag c.args.self.now _ c.in_ok-octets.octets _ _ c.in_ok-octets.ensures.gathers
     (subst (λ z. (ByCharacters units BMP_STRING c.args.constraints.now.size) z (Ok (units_of z))) c.as_slice.ensures.value c.in_default.ensures) c.in-Err-owned.ensures.succeeds c.error-in-Err-owned.ensures
 
 pub returns-in-Err-owned-clause-reads : goal.returns-in-Err-owned-clause-reads

@@ -3,7 +3,7 @@ use Rattle.std.proofs.lemmas.Result.{err_from_is_err_and}
 use Rattle.rasn_de.specs.Leaves.{as_cause}
 use Rattle.rasn_de.proofs.Bools.{bool_decodes, reads_bool}
 use Rattle.rasn_de.proofs.Refusals.{leaf_refused, contents_refused, contents_read}
-use Rattle.rasn_de.proofs.Starving.{leaf_plain, bool_plain}
+use Rattle.rasn_de.proofs.OutOfMemory.{leaf_plain, bool_plain}
 use Rattle.rasn_de.proofs.ber.de.Decoder.decode_bool.Goals as goal
 
 pub returns-in_err-contents-clause-refused : goal.returns-in_err-contents-clause-refused

@@ -1,6 +1,6 @@
 use Rattle.std.proofs.Common.{Ok, Err, inr, refl, sym, ◌∙◌, true≢false}
 use Rattle.std.proofs.lemmas.Result.{err_from_is_err_and}
-use Rattle.rasn_types.specs.Shapes.{given}
+use Rattle.rasn_types.specs.Shapes.{tagged_as}
 use Rattle.rasn_de.specs.Decodes.{Decodes}
 use Rattle.rasn_types.specs.declared.error.decode.DerDecodeErrorKind.TheVariants.{DefaultValuePresent}
 use Rattle.rasn_de.specs.declared.ber.de.parser.Fault.TheVariants.{Der}
@@ -17,7 +17,7 @@ returns-in_err-comes-clause-called g c =
 
 pub returns-then-not-branch-clause-called : goal.returns-then-not-branch-clause-called
 returns-then-not-branch-clause-called g c =
-    or_made (Decodes (given c.args.tag c.args.constraints.now g.D.AsnType.shape) g.D.AsnType.tree) g.D.AsnType.tree (goal.F-post g c.args.default) c.args.tag c.args.self.now _
+    or_made (Decodes (tagged_as c.args.tag c.args.constraints.now g.D.AsnType.shape) g.D.AsnType.tree) g.D.AsnType.tree (goal.F-post g c.args.default) c.args.tag c.args.self.now _
     (found_out c.args.tag c.args.self.now c.in_ok-comes.field-0 c.if-not-branch.true c.in_ok-comes.ensures) c.made.ensures
 
 pub returns-in_err-value-clause-called : goal.returns-in_err-value-clause-called
@@ -50,22 +50,22 @@ returns-clause-called g c =
     )
 
 pub returns-in_err-comes-clause-reads : goal.returns-in_err-comes-clause-reads
-returns-in_err-comes-clause-reads g c = default_decodes (given c.args.tag c.args.constraints.now g.D.AsnType.shape) g.D.AsnType.tree (goal.F-post g c.args.default) c.args.tag c.args.self.now _ _ (returns-in_err-comes-clause-called g c)
+returns-in_err-comes-clause-reads g c = default_decodes (tagged_as c.args.tag c.args.constraints.now g.D.AsnType.shape) g.D.AsnType.tree (goal.F-post g c.args.default) c.args.tag c.args.self.now _ _ (returns-in_err-comes-clause-called g c)
 
 pub returns-then-not-branch-clause-reads : goal.returns-then-not-branch-clause-reads
-returns-then-not-branch-clause-reads g c = default_decodes (given c.args.tag c.args.constraints.now g.D.AsnType.shape) g.D.AsnType.tree (goal.F-post g c.args.default) c.args.tag c.args.self.now _ _ (returns-then-not-branch-clause-called g c)
+returns-then-not-branch-clause-reads g c = default_decodes (tagged_as c.args.tag c.args.constraints.now g.D.AsnType.shape) g.D.AsnType.tree (goal.F-post g c.args.default) c.args.tag c.args.self.now _ _ (returns-then-not-branch-clause-called g c)
 
 pub returns-in_err-value-clause-reads : goal.returns-in_err-value-clause-reads
-returns-in_err-value-clause-reads g c = default_decodes (given c.args.tag c.args.constraints.now g.D.AsnType.shape) g.D.AsnType.tree (goal.F-post g c.args.default) c.args.tag c.args.self.now _ _ (returns-in_err-value-clause-called g c)
+returns-in_err-value-clause-reads g c = default_decodes (tagged_as c.args.tag c.args.constraints.now g.D.AsnType.shape) g.D.AsnType.tree (goal.F-post g c.args.default) c.args.tag c.args.self.now _ _ (returns-in_err-value-clause-called g c)
 
 pub returns-then-not-is_strict-clause-reads : goal.returns-then-not-is_strict-clause-reads
-returns-then-not-is_strict-clause-reads g c = default_decodes (given c.args.tag c.args.constraints.now g.D.AsnType.shape) g.D.AsnType.tree (goal.F-post g c.args.default) c.args.tag c.args.self.now (Ok c.in_ok-value.value) _ (returns-then-not-is_strict-clause-called g c)
+returns-then-not-is_strict-clause-reads g c = default_decodes (tagged_as c.args.tag c.args.constraints.now g.D.AsnType.shape) g.D.AsnType.tree (goal.F-post g c.args.default) c.args.tag c.args.self.now (Ok c.in_ok-value.value) _ (returns-then-not-is_strict-clause-called g c)
 
 pub returns-in_err-without-clause-reads : goal.returns-in_err-without-clause-reads
-returns-in_err-without-clause-reads g c = default_decodes (given c.args.tag c.args.constraints.now g.D.AsnType.shape) g.D.AsnType.tree (goal.F-post g c.args.default) c.args.tag c.args.self.now _ _ (returns-in_err-without-clause-called g c)
+returns-in_err-without-clause-reads g c = default_decodes (tagged_as c.args.tag c.args.constraints.now g.D.AsnType.shape) g.D.AsnType.tree (goal.F-post g c.args.default) c.args.tag c.args.self.now _ _ (returns-in_err-without-clause-called g c)
 
 pub returns-then-means_same-clause-reads : goal.returns-then-means_same-clause-reads
-returns-then-means_same-clause-reads g c = default_decodes (given c.args.tag c.args.constraints.now g.D.AsnType.shape) g.D.AsnType.tree (goal.F-post g c.args.default) c.args.tag c.args.self.now (Err c.error.result) _ (returns-then-means_same-clause-called g c)
+returns-then-means_same-clause-reads g c = default_decodes (tagged_as c.args.tag c.args.constraints.now g.D.AsnType.shape) g.D.AsnType.tree (goal.F-post g c.args.default) c.args.tag c.args.self.now (Err c.error.result) _ (returns-then-means_same-clause-called g c)
 
 pub returns-clause-reads : goal.returns-clause-reads
-returns-clause-reads g c = default_decodes (given c.args.tag c.args.constraints.now g.D.AsnType.shape) g.D.AsnType.tree (goal.F-post g c.args.default) c.args.tag c.args.self.now (Ok c.in_ok-value.value) _ (returns-clause-called g c)
+returns-clause-reads g c = default_decodes (tagged_as c.args.tag c.args.constraints.now g.D.AsnType.shape) g.D.AsnType.tree (goal.F-post g c.args.default) c.args.tag c.args.self.now (Ok c.in_ok-value.value) _ (returns-clause-called g c)

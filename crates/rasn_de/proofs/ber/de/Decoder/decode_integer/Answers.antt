@@ -1,9 +1,9 @@
 use Rattle.std.proofs.Common.{◌≡◌, Ok, Err, inl, inr, true, refl}
 use Rattle.std.proofs.lemmas.Result.{err_from_is_err_and}
 use Rattle.rasn_de.specs.Leaves.{IntegerIn, IntegerAt}
-use Rattle.rasn_de.proofs.Integers.{integer_decodes, bound_refused, number_starved, match_some, match_none}
+use Rattle.rasn_de.proofs.Integers.{integer_decodes, bound_refused, number_ran_out, match_some, match_none}
 use Rattle.rasn_de.proofs.Refusals.{leaf_refused, contents_refused, contents_read}
-use Rattle.rasn_de.proofs.Starving.{integer_memory}
+use Rattle.rasn_de.proofs.OutOfMemory.{integer_memory}
 use Rattle.rasn_de.proofs.ber.de.Decoder.decode_integer.Goals as goal
 
 pub returns-in_err-contents-clause-refused : goal.returns-in_err-contents-clause-refused
@@ -75,7 +75,7 @@ returns-in-Err-clause-memory g c =
 pub returns-in-Err-from_octets-clause-refused : goal.returns-in-Err-from_octets-clause-refused
 returns-in-Err-from_octets-clause-refused g c =
     let t = c.in_ok-contents.ensures.gave in
-    number_starved g.I.IntegerType.number (g.I.IntegerType.grows ≡ true) c.args.tag (IntegerAt g.I.IntegerType.WIDTH g.I.IntegerType.range c.args.constraints.now c.args.self.now.rule c.args.tag c.args.self.now.rest) c.args.self.now _ _ c.error-in-Err-from_octets.result t.0 t.1 c.in-Err-from_octets.ensures.memory c.error-in-Err-from_octets.ensures
+    number_ran_out g.I.IntegerType.number (g.I.IntegerType.grows ≡ true) c.args.tag (IntegerAt g.I.IntegerType.WIDTH g.I.IntegerType.range c.args.constraints.now c.args.self.now.rule c.args.tag c.args.self.now.rest) c.args.self.now _ _ c.error-in-Err-from_octets.result t.0 t.1 c.in-Err-from_octets.ensures.memory c.error-in-Err-from_octets.ensures
 
 pub returns-in-Err-from_octets-clause-reads : goal.returns-in-Err-from_octets-clause-reads
 returns-in-Err-from_octets-clause-reads g c =

@@ -4,7 +4,7 @@ use Rattle.rasn_de.specs.NamedNumbers.{NullIn}
 use Rattle.rasn_de.proofs.Integers.{empty_is, not_empty}
 use Rattle.rasn_de.proofs.Nulls.{null_decodes, null_plain}
 use Rattle.rasn_de.proofs.Refusals.{leaf_refused, contents_refused, contents_read}
-use Rattle.rasn_de.proofs.Starving.{leaf_plain}
+use Rattle.rasn_de.proofs.OutOfMemory.{leaf_plain}
 use Rattle.rasn_de.proofs.ber.de.Decoder.decode_null.Goals as goal
 
 pub returns-in_err-contents-clause-refused : goal.returns-in_err-contents-clause-refused

@@ -6,7 +6,7 @@ use Rattle.rasn_de.specs.Decodes.{Decodes}
 use Rattle.rasn_de.specs.Lists.{list_door, ReadEachInOrder}
 use Rattle.rasn_de.proofs.Holding.{kept}
 use Rattle.rasn_de.proofs.Stepping.{rules_same}
-use Rattle.rasn_de.proofs.Walked.{bag_decodes}
+use Rattle.rasn_de.proofs.Walked.{set_of_decodes}
 use Rattle.rasn_de.proofs.ber.de.Decoder.decode_set_of.Goals as goal
 
 pub returns-in_err-values-clause-called : goal.returns-in_err-values-clause-called
@@ -29,15 +29,15 @@ returns-else-admits_size-clause-called g c = inr (
 )
 
 pub returns-in_err-values-clause-reads : goal.returns-in_err-values-clause-reads
-returns-in_err-values-clause-reads g c = bag_decodes g.D.AsnType.shape g.D.AsnType.tree c.args.tag c.args.constraints.now c.args.self.now c.walk.ensures.octets _ _
+returns-in_err-values-clause-reads g c = set_of_decodes g.D.AsnType.shape g.D.AsnType.tree c.args.tag c.args.constraints.now c.args.self.now c.walk.ensures.octets _ _
     (let p = err_from_is_err_and c.from_residual.result c.from_residual.ensures.1 in rw (p.1, p.2) (inl c.in_err-values.ensures.each))
 
 pub returns-then-admits_size-clause-reads : goal.returns-then-admits_size-clause-reads
-returns-then-admits_size-clause-reads g c = bag_decodes g.D.AsnType.shape g.D.AsnType.tree c.args.tag c.args.constraints.now c.args.self.now c.walk.ensures.octets (Ok c.in_ok-values.values) _
+returns-then-admits_size-clause-reads g c = set_of_decodes g.D.AsnType.shape g.D.AsnType.tree c.args.tag c.args.constraints.now c.args.self.now c.walk.ensures.octets (Ok c.in_ok-values.values) _
     (rw (← c.len-size.ensures) c.if-admits_size.ensures, c.in_ok-values.ensures.each)
 
 pub returns-else-admits_size-clause-reads : goal.returns-else-admits_size-clause-reads
-returns-else-admits_size-clause-reads g c = bag_decodes g.D.AsnType.shape g.D.AsnType.tree c.args.tag c.args.constraints.now c.args.self.now c.walk.ensures.octets (Err c.error.result) _ (inr (
+returns-else-admits_size-clause-reads g c = set_of_decodes g.D.AsnType.shape g.D.AsnType.tree c.args.tag c.args.constraints.now c.args.self.now c.walk.ensures.octets (Err c.error.result) _ (inr (
   c.in_ok-values.values,
   c.in_ok-values.ensures.each,
   rw (← c.len-size.ensures) c.if-admits_size.ensures,

@@ -7,7 +7,7 @@ use Rattle.rasn_types.specs.declared.types.tag.TheConstants.Tag.{UTF8_STRING}
 use Rattle.rasn_types.specs.Shapes.{utf8}
 use Rattle.rasn_de.specs.Texts.{ByCharacters, AreUtf8}
 use Rattle.rasn_de.proofs.Verdicts.{by_utf8}
-use Rattle.rasn_de.proofs.Texts.{string_decodes, string_refused, string_ungathered, string_starved, string_given}
+use Rattle.rasn_de.proofs.Texts.{string_decodes, string_refused, string_ungathered, string_ran_out, string_given}
 use Rattle.rasn_de.proofs.ber.de.Decoder.decode_utf8_string.Goals as goal
 
 pub returns-in_err-octets-clause-refused : goal.returns-in_err-octets-clause-refused
@@ -49,7 +49,7 @@ returns-in-Ok-into_owned-clause-reads c =
 
 pub returns-in-Err-into_owned-clause-refused : goal.returns-in-Err-into_owned-clause-refused
 returns-in-Err-into_owned-clause-refused c =
-    string_starved (λ s. chars (string_bytes {Z = Global} s)) (ByCharacters AreUtf8 UTF8_STRING c.args.constraints.now.size) c.args.tag c.args.self.now _ c.in_ok-octets.octets _ _ c.in_ok-octets.ensures.gathers
+    string_ran_out (λ s. chars (string_bytes {Z = Global} s)) (ByCharacters AreUtf8 UTF8_STRING c.args.constraints.now.size) c.args.tag c.args.self.now _ c.in_ok-octets.octets _ _ c.in_ok-octets.ensures.gathers
     (subst (λ z. (ByCharacters AreUtf8 UTF8_STRING c.args.constraints.now.size) z (Ok (chars z))) (c.as_str.ensures.value ∙ c.in-Ok.ensures.0) c.in_default.ensures)
     (λ o. c.in-Err-into_owned.ensures.succeeds (c.in-Ok.ensures.1 o)) c.error-in-Err-into_owned.ensures
 

@@ -7,8 +7,8 @@ use Rattle.rasn_de.specs.Decodes.{Decodes}
 use Rattle.rasn_de.specs.State.{State}
 use Rattle.rasn_de.specs.declared.ber.de.parser.Fault.TheVariants.{Der}
 use Rattle.rasn_de.proofs.Stepping.{rules_same}
-use Rattle.rasn_de.proofs.Falling.{ends_more, in_order, out_of_order}
-use Rattle.rasn_de.proofs.Bagged.{passes_from, came_stays}
+use Rattle.rasn_types.proofs.Falling.{ends_more, in_order, out_of_order}
+use Rattle.rasn_de.proofs.SetsOf.{passes_from, came_stays}
 use Rattle.rasn_de.proofs.ber.de.Decoder.elements_in_order.Goals.{else-is_strict-via-then-is_strict+else-is_less, else-is_strict-via-else-is_strict}
 use Rattle.rasn_de.proofs.ber.de.Decoder.elements_in_order.Goals as goal
 

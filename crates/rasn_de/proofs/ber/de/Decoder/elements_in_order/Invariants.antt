@@ -3,7 +3,7 @@ use Rattle.rasn_types.specs.Tags.{IsStrict}
 use Rattle.rasn_types.specs.Order.{IsLess, DoNotFall}
 use Rattle.rasn_de.specs.Decodes.{Decodes}
 use Rattle.rasn_de.specs.Lists.{PassesFrom}
-use Rattle.rasn_de.proofs.Falling.{EndsBy}
+use Rattle.rasn_types.proofs.Falling.{EndsBy}
 use Rattle.rasn_de.proofs.ber.de.Decoder.elements_in_order.Given as goal
 
 abbrev pub invariant-loop-last : goal.invariant-loop-last

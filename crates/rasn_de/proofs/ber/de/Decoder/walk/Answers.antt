@@ -1,7 +1,7 @@
 use Rattle.std.proofs.Common.{List}
 use Rattle.rasn_de.specs.Lists.{ReadEachInOrder}
 use Rattle.rasn_de.specs.Decodes.{Decodes}
-use Rattle.rasn_de.proofs.Bagged.{in_order_decodes}
+use Rattle.rasn_de.proofs.SetsOf.{in_order_decodes}
 use Rattle.rasn_de.proofs.Stepping.{inside_by, did}
 use Rattle.rasn_de.proofs.ber.de.Decoder.walk.Goals as goal
 

@@ -1,11 +1,11 @@
 use Rattle.std.proofs.Common.{ap}
-use Rattle.rasn_enc.proofs.Given.{given_wrote, given_refused}
+use Rattle.rasn_enc.proofs.Tagging.{tagged_wrote, tagged_refused}
 use Rattle.rasn_enc.proofs.enc.prefix.ImplicitEncode.encode_with_tag_and_constraints.Goals as goal
 
 pub returns-clause-ok : goal.returns-clause-ok
-returns-clause-ok g c = given_wrote c.args.tag c.args.constraints.now g.G.AsnType.TAG g.T.AsnType.CONSTRAINTS g.T.AsnType.shape _ _ (ap g.T.AsnType.tree c.deref-value.ensures) _ _ _
+returns-clause-ok g c = tagged_wrote c.args.tag c.args.constraints.now g.G.AsnType.TAG g.T.AsnType.CONSTRAINTS g.T.AsnType.shape _ _ (ap g.T.AsnType.tree c.deref-value.ensures) _ _ _
     c.encode_with_tag_and_constraints.ensures.ok
 
 pub returns-clause-refused : goal.returns-clause-refused
-returns-clause-refused g c = given_refused c.args.tag c.args.constraints.now g.G.AsnType.TAG g.T.AsnType.CONSTRAINTS g.T.AsnType.shape _ _ (ap g.T.AsnType.tree c.deref-value.ensures) _ _
+returns-clause-refused g c = tagged_refused c.args.tag c.args.constraints.now g.G.AsnType.TAG g.T.AsnType.CONSTRAINTS g.T.AsnType.shape _ _ (ap g.T.AsnType.tree c.deref-value.ensures) _ _
     c.encode_with_tag_and_constraints.ensures.refused

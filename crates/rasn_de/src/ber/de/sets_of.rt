@@ -2,7 +2,7 @@
 ghost use Rattle.std.specs.Prelude.{◌≡◌, ◌≢◌, ◌++◌, MatchBool, length};
 ghost use Rattle.rasn_types.specs.Framing.{AreOctets};
 ghost use Rattle.rasn_types.specs.Order.{IsLess};
-ghost use Rattle.rasn_types.specs.Shapes.{bag, walk};
+ghost use Rattle.rasn_types.specs.Shapes.{set_of, walk};
 ghost use Rattle.rasn_types.specs.Trees.{list_tree};
 ghost use Rattle.rasn_de.specs.Decodes.{Decodes};
 ghost use Rattle.rasn_de.specs.Lists.{ReadEachInOrder, InList, ReadSized};
@@ -79,7 +79,7 @@ impl<'input> Decoder<'input> {
         constraints: &Constraints,
     ) -> Result<SetOf<D>, DecodeError>
         ensures called { ReadSized (ReadEachInOrder (Decodes D.shape D.tree) (λ v. v)) (λ v. length v) tag constraints.now self.old result self.new }
-        ensures reads { Decodes (bag tag D.shape constraints.now.size) (λ v. walk (list_tree D.tree v)) self.old result self.new }
+        ensures reads { Decodes (set_of tag D.shape constraints.now.size) (λ v. walk (list_tree D.tree v)) self.old result self.new }
     {
         let values = self.walk::<D>(tag)?;
         let size = values.len();

@@ -29,7 +29,7 @@ fn strings_fall(rt: &impl Abort, alloc: Global, walk: &[&[u8]]) {
 
 // The elements stand in the order of their octets (X.690 11.6), equal ones too.
 #[test]
-fn writes_bags(rt: HostRuntime) {
+fn writes_sets_of(rt: HostRuntime) {
     let alloc = rt.alloc();
     let octets = [
         0x31, 0x0E, 0x04, 0x01, 0x01, 0x04, 0x01, 0x02, 0x04, 0x02, 0x01, 0xFF, 0x04, 0x02, 0x02,
@@ -43,7 +43,7 @@ fn writes_bags(rt: HostRuntime) {
 }
 
 #[test]
-fn refuses_bags_that_fall(rt: HostRuntime) {
+fn refuses_sets_of_that_fall(rt: HostRuntime) {
     let alloc = rt.alloc();
     strings_fall(&rt, alloc, &[&[0x02], &[0x01]]);
     strings_fall(&rt, alloc, &[&[0x01], &[0x02], &[0x01]]);
@@ -94,10 +94,10 @@ pub fn lists(alloc: Global, walk: &[&[u8]]) -> Result<Option<SetOf<Vec<u8>>>, Al
 fn each_rule_orders_by_its_octets(rt: HostRuntime) {
     let alloc = rt.alloc();
     let longer_last = made(&rt, lists(alloc, &[&[2], &[1, 1]]));
-    let octets = [
+    const OCTETS: &[u8] = &[
         0x31, 0x0D, 0x30, 0x03, 0x02, 0x01, 0x02, 0x30, 0x06, 0x02, 0x01, 0x01, 0x02, 0x01, 0x01,
     ];
-    rises(&rt, alloc, &longer_last, &octets);
+    rises(&rt, alloc, &longer_last, OCTETS);
     falls(&rt, alloc, Codec::Cer, &longer_last);
 }
 
@@ -105,11 +105,11 @@ fn each_rule_orders_by_its_octets(rt: HostRuntime) {
 fn lengths_that_are_not_told_are_not_compared(rt: HostRuntime) {
     let alloc = rt.alloc();
     let longer_first = made(&rt, lists(alloc, &[&[1, 1], &[2]]));
-    let octets = [
+    const OCTETS: &[u8] = &[
         0x31, 0x80, 0x30, 0x80, 0x02, 0x01, 0x01, 0x02, 0x01, 0x01, 0x00, 0x00, 0x30, 0x80, 0x02,
         0x01, 0x02, 0x00, 0x00, 0x00, 0x00,
     ];
-    holds(&rt, encoded(alloc, Codec::Cer, &longer_first), &octets);
+    holds(&rt, encoded(alloc, Codec::Cer, &longer_first), OCTETS);
     falls(&rt, alloc, Codec::Ber, &longer_first);
     falls(&rt, alloc, Codec::Der, &longer_first);
 }

@@ -1,4 +1,4 @@
--- `==` of bags by counting decides whether their walks are the same.
+-- `==` of SET OF by counting decides whether their walks are the same.
 use Rattle.std.proofs.Common.{◌≡◌, ℕ, zero, suc, ◌+◌, ◌<◌, List, [], ◌∷◌, Bool, true, false, ◌&&◌, cond, map, refl, sym, ap, ◌∙◌, subst, arith, true≢false, IsPermutation, nat_eq}
 use Rattle.std.specs.List.{count_by, list_all}
 use Rattle.std.specs.Cmp.{IsEquivalence, equiv, first_so, second_so, unsigned_Decides}
@@ -12,8 +12,8 @@ use Rattle.rasn_types.specs.Trees.{list_tree}
 use Rattle.rasn_types.specs.Equality.{Tells, TellsTrees, list_told}
 
 -- Each element of either is as often in the one as in the other.
-abbrev pub bag_eq : {T : Type 0} → (T → T → Bool) → List T → List T → Bool
-bag_eq eq xs ys = list_all (λ z. nat_eq (count_by (eq z) xs) (count_by (eq z) ys)) xs && list_all (λ z. nat_eq (count_by (eq z) xs) (count_by (eq z) ys)) ys
+abbrev pub set_of_eq : {T : Type 0} → (T → T → Bool) → List T → List T → Bool
+set_of_eq eq xs ys = list_all (λ z. nat_eq (count_by (eq z) xs) (count_by (eq z) ys)) xs && list_all (λ z. nat_eq (count_by (eq z) xs) (count_by (eq z) ys)) ys
 
 module _ {T : Type 0} {eq : T → T → Bool} (o : IsEquivalence eq) where
   abbrev AsOften : List T → List T → Type 0
@@ -99,7 +99,7 @@ module _ {T : Type 0} {eq : T → T → Bool} (o : IsEquivalence eq) where
   all_true p h [] = refl
   all_true p h (x ∷ l) = both_true (h x) (all_true p h l)
 
-  often_flag : (xs ys : List T) → AsOften xs ys → bag_eq eq xs ys ≡ true
+  often_flag : (xs ys : List T) → AsOften xs ys → set_of_eq eq xs ys ≡ true
   often_flag xs ys h =
       let p : T → Bool = λ z. nat_eq (count_by (eq z) xs) (count_by (eq z) ys) in
       let q : (z : T) → p z ≡ true = λ z. (unsigned_Decides (count_by (eq z) xs) (count_by (eq z) ys)).1 (h z) in
@@ -119,7 +119,7 @@ module _ {T : Type 0} {eq : T → T → Bool} (o : IsEquivalence eq) where
   either_way zero (suc n) f g = g (omega arith)
   either_way (suc m) n f g = f (omega arith)
 
-  flag_often : (xs ys : List T) → bag_eq eq xs ys ≡ true → AsOften xs ys
+  flag_often : (xs ys : List T) → set_of_eq eq xs ys ≡ true → AsOften xs ys
   flag_often xs ys e z = either_way (count_by (eq z) xs) (count_by (eq z) ys)
       (λ k. via (found p z xs (first_so (list_all p xs) (list_all p ys) e) k))
       (λ k. via (found p z ys (second_so (list_all p xs) (list_all p ys) e) k))
@@ -130,9 +130,9 @@ module _ {T : Type 0} {eq : T → T → Bool} (o : IsEquivalence eq) where
       via : (y : T) × (eq z y ≡ true) × (nat_eq (count_by (eq y) xs) (count_by (eq y) ys) ≡ true) → count_by (eq z) xs ≡ count_by (eq z) ys
       via (y, f, g) = counts_one z y f xs ∙ ((unsigned_Decides (count_by (eq y) xs) (count_by (eq y) ys)).0 g ∙ sym (counts_one z y f ys))
 
-  pub bag_equiv : IsEquivalence (bag_eq eq)
-  bag_equiv = equiv (record {
-    symm = λ xs ys. one_truth (bag_eq eq xs ys) (bag_eq eq ys xs) (λ e. often_flag ys xs (λ z. sym (flag_often xs ys e z))) (λ e. often_flag xs ys (λ z. sym (flag_often ys xs e z)));
+  pub set_of_equiv : IsEquivalence (set_of_eq eq)
+  set_of_equiv = equiv (record {
+    symm = λ xs ys. one_truth (set_of_eq eq xs ys) (set_of_eq eq ys xs) (λ e. often_flag ys xs (λ z. sym (flag_often xs ys e z))) (λ e. often_flag xs ys (λ z. sym (flag_often ys xs e z)));
     trans = λ xs ys zs d e. often_flag xs zs (λ z. flag_often xs ys d z ∙ flag_often ys zs e z);
   }) (λ xs. often_flag xs xs (λ z. refl))
 
@@ -145,15 +145,15 @@ module _ {T : Type 0} {eq : T → T → Bool} (o : IsEquivalence eq) where
     trees_of [] l h = sym (ap (map tree) h)
     trees_of (t ∷ ts) l (y, m, e, f, h) = (λ i. f i ∷ trees_of ts m h i) ∙ sym (ap (map tree) e)
 
-    pub bag_told : (xs ys : List T) → Tells (bag_eq eq xs ys) (walk (list_tree tree xs)) (walk (list_tree tree ys))
-    bag_told xs ys = record { same = to; equal = from }
+    pub set_of_told : (xs ys : List T) → Tells (set_of_eq eq xs ys) (walk (list_tree tree xs)) (walk (list_tree tree ys))
+    set_of_told xs ys = record { same = to; equal = from }
       where
-        to : bag_eq eq xs ys ≡ true → Same (walk (list_tree tree xs)) (walk (list_tree tree ys))
+        to : set_of_eq eq xs ys ≡ true → Same (walk (list_tree tree xs)) (walk (list_tree tree ys))
         to e =
             let m = matched xs ys (flag_often xs ys e) in
             (map tree m.0, map tree ys, refl, IsPermutation-map tree m.0 ys m.2, (list_told told xs m.0).same m.1)
 
-        from : Same (walk (list_tree tree xs)) (walk (list_tree tree ys)) → bag_eq eq xs ys ≡ true
+        from : Same (walk (list_tree tree xs)) (walk (list_tree tree ys)) → set_of_eq eq xs ys ≡ true
         from (vs, ws, e, p, h) =
             let f : items (map tree ys) ≡ items ws = cc in
             let g : map tree ys ≡ ws = items_one (map tree ys) ws f in

@@ -17,7 +17,7 @@ use Rattle.rasn_de.specs.State.{State, at}
 use Rattle.rasn_de.proofs.Answering.{Exact-none, Exact-refusal}
 use Rattle.rasn_de.proofs.Ends.{IsEnd-refl}
 use Rattle.rasn_de.proofs.Listing.{passed_start, Come, exact_at, element_stops, element_read, elements_end}
-use Rattle.rasn_de.proofs.Falling.{fall_front}
+use Rattle.rasn_types.proofs.Falling.{fall_front}
 
 module _ (R : Reading Tree) where
   -- Up to here these were read from these octets, and from no others.
@@ -80,7 +80,7 @@ module _ {D : Type 0} (s : Shape) (tree : D → Tree) where
   pub came : (old here : State) (vs : List D) (bs : List (List ℕ)) → PassesFrom (Decodes s tree) old vs bs here → Came old here vs bs
   came old here vs bs p = came_on old old [] [] (came_start old) vs bs here p
 
-  -- what is refused as a list is refused as a bag
+  -- what is refused as a SEQUENCE OF is refused as a SET OF
   as_walk : {L : Type 0} (trees walks : L → Tree) (old : State) (e : DecodeError) (new : State) → DecodesBy (ReadsItems s) trees old (Err e) new → DecodesBy (ReadsWalk s) walks old (Err e) new
   unfolding ReadsItems ReadsWalk
   as_walk trees walks old e new k = record {

@@ -1,9 +1,10 @@
 -- Elements whose octets don't fall.
 use Rattle.std.proofs.Common.{◌≡◌, ◌<◌, ◌≤◌, ◌-◌, ◌+◌, ◌⊎◌, ℕ, arith, List, [], ◌∷◌, ◌++◌, length, take, drop, map, refl, sym, ap, ap₂, ◌∙◌, subst, inl, inr, Option, None, false, Result, Ok, Err, OnOk, IfErr}
 use Rattle.std.proofs.lemmas.List.{append_assoc, append-nil, length-append}
+use Rattle.std.proofs.Math.Seq.{take-append_seam, drop-append_seam}
 use Rattle.std.proofs.lemmas.Result.{on_ok_weaker, IfErr-weaker}
 use Rattle.std.specs.Fn.{FnOnceReturnsAtMut}
-use Rattle.rasn_types.specs.Shapes.{Shape, Tree, items, walk, bag, Admits}
+use Rattle.rasn_types.specs.Shapes.{Shape, Tree, items, walk, set_of, Admits}
 use Rattle.rasn_types.specs.declared.types.constraints.Bound.{Bound}
 use Rattle.rasn_types.specs.declared.types.constraints.Constraints.{Constraints}
 use Rattle.rasn_types.specs.declared.types.rules.Codec.{Codec}
@@ -11,42 +12,18 @@ use Rattle.rasn_types.specs.declared.types.tag.Tag.{Tag}
 use Rattle.rasn_types.specs.declared.error.encode.EncodeError.{EncodeError}
 use Rattle.rasn_types.specs.Bytes.{Bytes, IsBare, Cons, Each, DoNotFall, IsLess}
 use Rattle.rasn_types.proofs.Alike.{items_one}
+use Rattle.rasn_types.proofs.Falling.{EndsBy, ends_more, in_order, out_of_order}
 use Rattle.rasn_types.proofs.Itself.{one_writing}
 use Rattle.rasn_enc.specs.View.{View, opened}
-use Rattle.rasn_enc.specs.Primitives.{WantsMemory, TellsOrder}
+use Rattle.rasn_enc.specs.Primitives.{TellsOutOfMemory, TellsOrder}
 use Rattle.rasn_enc.specs.Writing.{Closure, Encloses, Refuses}
 use Rattle.rasn_enc.specs.Wrote.{Wrote, MayRefuse}
-use Rattle.rasn_enc.specs.Elements.{WroteBag, RefusesInBag, RefusesFall, RefusesBag}
+use Rattle.rasn_enc.specs.Elements.{WroteSetOf, RefusesInSetOf, RefusesFall, RefusesSetOf}
 use Rattle.rasn_enc.proofs.Leaves.{cons_begins, wrote_one}
 use Rattle.rasn_enc.proofs.Elements.{ElementsSoFar, elements_start, elements_more, elements_end, element_refused, each_at}
 
--- The last of these octets are the piece; of none it is empty.
-abbrev pub EndsBy : List (List ℕ) → List ℕ → Type 0
-EndsBy [] piece = piece ≡ []
-EndsBy (b ∷ []) piece = piece ≡ b
-EndsBy (a ∷ b ∷ bs) piece = EndsBy (b ∷ bs) piece
-
-ends_more : (bs : List (List ℕ)) (next : List ℕ) → EndsBy (bs ++ next ∷ []) next
-ends_more [] next = refl
-ends_more (b ∷ []) next = refl
-ends_more (a ∷ b ∷ bs) next = ends_more (b ∷ bs) next
-
-in_order : (bs : List (List ℕ)) (piece next : List ℕ) → DoNotFall IsLess bs → EndsBy bs piece → (IsLess next piece → ⊥) → DoNotFall IsLess (bs ++ next ∷ [])
-in_order [] piece next d e n = tt
-in_order (b ∷ []) piece next d e n = (subst (λ p. IsLess next p → ⊥) e n, tt)
-in_order (a ∷ b ∷ bs) piece next d e n = (d.0, in_order (b ∷ bs) piece next d.1 e n)
-
-nothing_less : (l : List ℕ) → IsLess l [] → ⊥
-nothing_less [] h = h
-nothing_less (x ∷ l) h = h
-
-out_of_order : (bs : List (List ℕ)) (piece next : List ℕ) → EndsBy bs piece → IsLess next piece → DoNotFall IsLess (bs ++ next ∷ []) → ⊥
-out_of_order [] piece next e h d = nothing_less next (subst (IsLess next) e h)
-out_of_order (b ∷ []) piece next e h d = d.0 (subst (IsLess next) e h)
-out_of_order (a ∷ b ∷ bs) piece next e h d = out_of_order (b ∷ bs) piece next e h d.1
-
 -- Elements stand behind the last list and don't fall; the last of them begins at this place.
-pub record BagSoFar (s : Shape) (ts rest : List Tree) (v w : View) (start : ℕ) : Type 0 where
+pub record SetOfSoFar (s : Shape) (ts rest : List Tree) (v w : View) (start : ℕ) : Type 0 where
   pub so_far : ElementsSoFar s ts rest v w
   pub order : DoNotFall IsLess so_far.encoded
   pub before : List ℕ
@@ -55,22 +32,14 @@ pub record BagSoFar (s : Shape) (ts rest : List Tree) (v w : View) (start : ℕ)
   pub is : w.last.octets ≡ before ++ piece
   pub starts : start ≡ length before
 
-drop_seam : (a l : List ℕ) → drop (length a) (a ++ l) ≡ l
-drop_seam [] l = refl
-drop_seam (x ∷ a) l = drop_seam a l
-
-take_seam : (a l : List ℕ) → take (length a) (a ++ l) ≡ a
-take_seam [] l = refl
-take_seam (x ∷ a) l = ap (λ m. x ∷ m) (take_seam a l)
-
 -- what stands between two places
 between_is : (whole a b c : List ℕ) (i j : ℕ) → whole ≡ a ++ (b ++ c) → i ≡ length a → j ≡ length a + length b → take (j - i) (drop i whole) ≡ b
 between_is whole a b c i j e p q =
     let n : j - i ≡ length b = omega (arith, p, q) in
-    rw (n, p, e) (ap (λ l. take (length b) l) (drop_seam a (b ++ c)) ∙ take_seam b c)
+    rw (n, p, e) (ap (λ l. take (length b) l) (drop-append_seam a (b ++ c)) ∙ take-append_seam b c)
 
-pub bag_start : (s : Shape) (ts : List Tree) (v : View) (start : ℕ) → v.last.tags ≡ None → start ≡ length v.last.octets → BagSoFar s ts ts v v start
-bag_start s ts v start n e = record {
+pub set_of_start : (s : Shape) (ts : List Tree) (v : View) (start : ℕ) → v.last.tags ≡ None → start ≡ length v.last.octets → SetOfSoFar s ts ts v v start
+set_of_start s ts v start n e = record {
   so_far = elements_start s ts v n;
   order = tt;
   before = v.last.octets;
@@ -80,11 +49,11 @@ bag_start s ts v start n e = record {
   starts = e;
 }
 
-pub bag_end : (s : Shape) (ts : List Tree) (v u : View) (start : ℕ) → BagSoFar s ts [] v u start → WroteBag s ts v u
-bag_end s ts v u start k = record { wrote = elements_end s ts v u k.so_far; order = k.order }
+pub set_of_end : (s : Shape) (ts : List Tree) (v u : View) (start : ℕ) → SetOfSoFar s ts [] v u start → WroteSetOf s ts v u
+set_of_end s ts v u start k = record { wrote = elements_end s ts v u k.so_far; order = k.order }
 
 -- One more element is written: its octets, and those before it.
-module _ (s : Shape) (ts rest after : List Tree) (t : Tree) (v u w : View) (start middle : ℕ) (k : BagSoFar s ts rest v u start) (is : rest ≡ t ∷ after) (a : Wrote s t u w)
+module _ (s : Shape) (ts rest after : List Tree) (t : Tree) (v u w : View) (start middle : ℕ) (k : SetOfSoFar s ts rest v u start) (is : rest ≡ t ∷ after) (a : Wrote s t u w)
     (e : middle ≡ length u.last.octets) where
   more_is : w.last.octets ≡ u.last.octets ++ a.octets
   more_is = ap (λ (x : View). x.last.octets) a.appended
@@ -96,14 +65,14 @@ module _ (s : Shape) (ts rest after : List Tree) (t : Tree) (v u w : View) (star
   place_within = let l = ap length more_is ∙ length-append u.last.octets a.octets in omega (arith, e, l)
 
   next_is : drop middle w.last.octets ≡ a.octets
-  next_is = rw (e, more_is) (drop_seam u.last.octets a.octets)
+  next_is = rw (e, more_is) (drop-append_seam u.last.octets a.octets)
 
   piece_is : take (middle - start) (drop start w.last.octets) ≡ k.piece
   piece_is = between_is w.last.octets k.before k.piece a.octets start middle (more_is ∙ (ap (λ l. l ++ a.octets) k.is ∙ append_assoc k.before k.piece a.octets)) k.starts
       (e ∙ (ap length k.is ∙ length-append k.before k.piece))
 
-  pub bag_more : (IsLess (drop middle w.last.octets) (take (middle - start) (drop start w.last.octets)) → ⊥) → BagSoFar s ts after v w middle
-  bag_more n = record {
+  pub set_of_more : (IsLess (drop middle w.last.octets) (take (middle - start) (drop start w.last.octets)) → ⊥) → SetOfSoFar s ts after v w middle
+  set_of_more n = record {
     so_far = elements_more s ts rest after t v u k.so_far is w a;
     order = in_order k.so_far.encoded k.piece a.octets k.order k.ends (λ h. n (rw (next_is, piece_is) h));
     before = u.last.octets;
@@ -128,9 +97,9 @@ module _ (s : Shape) (ts rest after : List Tree) (t : Tree) (v u w : View) (star
     told = subst (λ r. TellsOrder r x) (i ∙ (ap (λ (y : View). y.rule) a.appended ∙ k.so_far.others.rule)) q;
   }
 
-pub bag_element_refused : (s : Shape) (ts rest after : List Tree) (t : Tree) (v u : View) (start : ℕ) → BagSoFar s ts rest v u start → rest ≡ t ∷ after
-    → (e : EncodeError) → MayRefuse s t u e → RefusesInBag s ts v.rule e
-bag_element_refused s ts rest after t v u start k is e h = record { element = element_refused s ts rest after t v u k.so_far is e h; order = k.order }
+pub set_of_element_refused : (s : Shape) (ts rest after : List Tree) (t : Tree) (v u : View) (start : ℕ) → SetOfSoFar s ts rest v u start → rest ≡ t ∷ after
+    → (e : EncodeError) → MayRefuse s t u e → RefusesInSetOf s ts v.rule e
+set_of_element_refused s ts rest after t v u start k is e h = record { element = element_refused s ts rest after t v u k.so_far is e h; order = k.order }
 
 walk_one : (t u : Tree) → walk t ≡ walk u → t ≡ u
 walk_one t u e = cc
@@ -148,17 +117,17 @@ order_front [] b more d = tt
 order_front (a ∷ []) b more d = (d.0, tt)
 order_front (a ∷ c ∷ bs) b more d = (d.0, order_front (c ∷ bs) b more d.1)
 
--- Where a bag is refused, it has no octets, or memory was wanted.
-pub bag_none : (s : Shape) (ts : List Tree) (tag : Tag) (c : Constraints) (v : View) (e : EncodeError)
-    → RefusesBag s ts (length ts) c v.rule e → MayRefuse (bag tag s c.size) (walk (items ts)) v e
+-- Where a SET OF is refused, it has no octets, or memory ran out.
+pub set_of_none : (s : Shape) (ts : List Tree) (tag : Tag) (c : Constraints) (v : View) (e : EncodeError)
+    → RefusesSetOf s ts (length ts) c v.rule e → MayRefuse (set_of tag s c.size) (walk (items ts)) v e
 unfolding Bytes
-bag_none s ts tag c v e (inl r) = record {
+set_of_none s ts tag c v e (inl r) = record {
   why = inr (inl (record {
     none = λ octets b. r.unmet (subst (λ l. Admits ◌≤◌ c.size (length l)) (sym (items_one ts b.0 (walk_one (items ts) (items b.0) b.2))) b.3);
   }));
 }
-bag_none s ts tag c v e (inr (m, inl w)) = record { why = inl (ap (λ (x : EncodeError). x.kind) w) }
-bag_none s ts tag c v e (inr (m, inr (inl r))) = record {
+set_of_none s ts tag c v e (inr (m, inl w)) = record { why = inl (ap (λ (x : EncodeError). x.kind) w) }
+set_of_none s ts tag c v e (inr (m, inr (inl r))) = record {
   why = elim r.element.why [
     | inl w ↦ inl w
     | inr n ↦ inr (inl (record {
@@ -168,7 +137,7 @@ bag_none s ts tag c v e (inr (m, inr (inl r))) = record {
     }))
   ];
 }
-bag_none s ts tag c v e (inr (m, inr (inr r))) = record {
+set_of_none s ts tag c v e (inr (m, inr (inr r))) = record {
   why = inr (inl (record {
     none = λ octets b.
         let f = front_is (Bytes v.rule s) (one_writing s v.rule) r.front r.tree r.back r.encoded b.1 r.octets r.before r.defined
@@ -178,28 +147,28 @@ bag_none s ts tag c v e (inr (m, inr (inr r))) = record {
 }
 
 -- For the clause on success.
-pub bag_ok : {F : Type 0} (g : Closure F (Unit {0})) (f : F) (s : Shape) (ts : List Tree) (tag : Tag) (size : Option (Bound ℕ)) (v w : View) (r : Result (Unit {0}) EncodeError)
+pub set_of_ok : {F : Type 0} (g : Closure F (Unit {0})) (f : F) (s : Shape) (ts : List Tree) (tag : Tag) (size : Option (Bound ℕ)) (v w : View) (r : Result (Unit {0}) EncodeError)
     → Admits ◌≤◌ size (length ts) → OnOk r (Encloses g f false tag v w)
-    → ((u : View) → FnOnceReturnsAtMut g f (opened v false) (Ok tt) u → WroteBag s ts (opened v false) u) → OnOk r (Wrote (bag tag s size) (walk (items ts)) v w)
+    → ((u : View) → FnOnceReturnsAtMut g f (opened v false) (Ok tt) u → WroteSetOf s ts (opened v false) u) → OnOk r (Wrote (set_of tag s size) (walk (items ts)) v w)
 unfolding Bytes IsBare
-bag_ok g f s ts tag size v w r m h written = on_ok_weaker r (λ k.
+set_of_ok g f s ts tag size v w r m h written = on_ok_weaker r (λ k.
     let a = written k.inner k.ran in
-    wrote_one (Cons v.rule tag k.inner.last.octets) tag (bag tag s size) (walk (items ts)) v w k.appends (λ n. n)
+    wrote_one (Cons v.rule tag k.inner.last.octets) tag (set_of tag s size) (walk (items ts)) v w k.appends (λ n. n)
     (λ b d. cons_begins v.rule tag k.inner.last.octets b d) (λ b d. (ts, a.wrote.encoded, refl, m, a.wrote.each, a.order, subst (λ l. Cons v.rule tag l b) a.wrote.octets d))) h
 
 -- For the clauses on refusals.
-pub bag_named : {F : Type 0} (g : Closure F (Unit {0})) (f : F) (s : Shape) (ts : List Tree) (c : Constraints) (size : ℕ) (v : View) (r : Result (Unit {0}) EncodeError)
-    → Admits ◌≤◌ c.size size → IfErr r (λ e. WantsMemory v.rule e ⊎ Refuses g f (opened v false) e)
-    → ((e : EncodeError) (u : View) → FnOnceReturnsAtMut g f (opened v false) (Err e) u → RefusesInBag s ts v.rule e ⊎ RefusesFall s ts v.rule e)
-    → IfErr r (RefusesBag s ts size c v.rule)
-bag_named g f s ts c size v r m h refused = IfErr-weaker r _ _ (λ e. elim [
+pub set_of_named : {F : Type 0} (g : Closure F (Unit {0})) (f : F) (s : Shape) (ts : List Tree) (c : Constraints) (size : ℕ) (v : View) (r : Result (Unit {0}) EncodeError)
+    → Admits ◌≤◌ c.size size → IfErr r (λ e. TellsOutOfMemory v.rule e ⊎ Refuses g f (opened v false) e)
+    → ((e : EncodeError) (u : View) → FnOnceReturnsAtMut g f (opened v false) (Err e) u → RefusesInSetOf s ts v.rule e ⊎ RefusesFall s ts v.rule e)
+    → IfErr r (RefusesSetOf s ts size c v.rule)
+set_of_named g f s ts c size v r m h refused = IfErr-weaker r _ _ (λ e. elim [
   | inl k ↦ inr (m, inl k)
   | inr k ↦ inr (m, inr (refused e k.0 k.1))
 ]) h
 
-pub bag_may_refuse : (s : Shape) (ts : List Tree) (tag : Tag) (c : Constraints) (size : ℕ) (v : View) (r : Result (Unit {0}) EncodeError) → size ≡ length ts
-    → IfErr r (RefusesBag s ts size c v.rule) → IfErr r (MayRefuse (bag tag s c.size) (walk (items ts)) v)
-bag_may_refuse s ts tag c size v r n h = IfErr-weaker r _ _ (λ e k. bag_none s ts tag c v e (subst (λ z. RefusesBag s ts z c v.rule e) n k)) h
+pub set_of_may_refuse : (s : Shape) (ts : List Tree) (tag : Tag) (c : Constraints) (size : ℕ) (v : View) (r : Result (Unit {0}) EncodeError) → size ≡ length ts
+    → IfErr r (RefusesSetOf s ts size c v.rule) → IfErr r (MayRefuse (set_of tag s c.size) (walk (items ts)) v)
+set_of_may_refuse s ts tag c size v r n h = IfErr-weaker r _ _ (λ e k. set_of_none s ts tag c v e (subst (λ z. RefusesSetOf s ts z c v.rule e) n k)) h
 
 pub none_left : {X : Type 0} (f : X → Tree) (l : List X) → length l < 1 → map f l ≡ []
 none_left f [] h = refl

@@ -6,12 +6,12 @@ use Rattle.rasn_types.specs.declared.types.rules.Codec.{Codec}
 use Rattle.rasn_types.specs.declared.error.decode.DecodeError.{DecodeError}
 use Rattle.rasn_types.specs.declared.error.decode.DecodeErrorKind.{DecodeErrorKind}
 use Rattle.rasn_types.specs.Framing.{Extent, definite, indefinite}
-use Rattle.rasn_types.specs.Errors.{IsMemory}
+use Rattle.rasn_types.specs.Errors.{IsOutOfMemory}
 use Rattle.rasn_de.specs.declared.ber.de.parser.Fault.{Fault}
 use Rattle.rasn_de.specs.declared.ber.de.parser.Fault.TheVariants.{OutOfMemory, InvalidBool}
 use Rattle.rasn_types.specs.Tags.{form, tag_bit}
 use Rattle.rasn_de.specs.Headers.{spelled, Header, header_at, as_written}
-use Rattle.rasn_de.specs.Causes.{Cause, fault, out_of_bound, Tells}
+use Rattle.rasn_de.specs.Causes.{Cause, fault, out_of_bound, TellsCause}
 use Rattle.rasn_de.specs.Leaves.{on_header, definite_in, definite_at, FromContents, LeafAt, as_cause, is_ber, bool_in, Refuses, LacksNumber, IntegerIn, IntegerAt, GaveInteger, IsBeyond}
 use Rattle.rasn_types.specs.declared.types.constraints.Constraints.{Constraints}
 use Rattle.rasn_types.specs.Shapes.{Interval}
@@ -19,12 +19,12 @@ use Rattle.rasn_de.specs.State.{State}
 use Rattle.rasn_de.proofs.Memory.{NoMemory, header_none, none_cond}
 use Rattle.rasn_de.proofs.Peeks.{kind_memory}
 
--- The cause isn't want of memory.
+-- The cause isn't running out of memory.
 abbrev pub IsPlainCause : Cause → Type 0
 IsPlainCause (fault f) = f ≢ OutOfMemory
 IsPlainCause (out_of_bound z bound) = ⊥
 
-pub tells_plain : (cause : Cause) (k : DecodeErrorKind) → IsPlainCause cause → Tells cause k → IsMemory k → ⊥
+pub tells_plain : (cause : Cause) (k : DecodeErrorKind) → IsPlainCause cause → TellsCause cause k → IsOutOfMemory k → ⊥
 tells_plain (fault f) k n t m = kind_memory f n (sym t ∙ m)
 tells_plain (out_of_bound z bound) k n t m = n
 
@@ -50,7 +50,7 @@ contents_plain {X} read f (Err d) n e a = let z : e ≡ d = cc in subst (λ (u :
 
 -- A leaf whose contents are refused plainly is refused plainly.
 pub leaf_plain : {X : Type 0} (read : List ℕ → Result X Cause → Type 0) → ((c : List ℕ) (e : Cause) → read c (Err e) → IsPlainCause e) → (tag : Tag) (old new : State) (e : DecodeError)
-    → Refuses (LeafAt read old.rule tag old.rest) old e new → IsMemory e.kind → ⊥
+    → Refuses (LeafAt read old.rule tag old.rest) old e new → IsOutOfMemory e.kind → ⊥
 leaf_plain read f tag old new e (cause, a, t, c, s) m =
     tells_plain cause e.kind (contents_plain read f (definite_at old.rule tag old.rest) (definite_plain old.rule tag old.rest) (cause, new.rest) a) t m
 
@@ -66,7 +66,7 @@ cause_plain (Err f) n e h = let z : fault f ≡ e = cc in subst IsPlainCause z n
 pub bool_plain : (rule : Codec) (c : List ℕ) (e : Cause) → as_cause (bool_in rule c) ≡ Err e → IsPlainCause e
 bool_plain rule c e h = cause_plain (bool_in rule c) (bool_none rule c) e h
 
--- The cause isn't want of memory, or it is a number out of its bound, which is copied.
+-- The cause isn't running out of memory, or it is a number out of its bound, which is copied.
 abbrev pub IsPlainOrBound : Cause → Type 0
 IsPlainOrBound (fault f) = f ≢ OutOfMemory
 IsPlainOrBound (out_of_bound z bound) = Unit {0}
@@ -90,11 +90,11 @@ integer_cause rule width range bounds c (fault f) (inr (n, i, g)) = λ h. cc
 integer_cause rule width range bounds c (out_of_bound z bound) a = tt
 
 pub integer_memory : {X : Type 0} (see : X → ℤ) (Grows : Type 0) (width : ℕ) (range : Interval) (bounds : Constraints) (tag : Tag) (old new : State) (e : DecodeError)
-    → GaveInteger see Grows tag (IntegerAt width range bounds old.rule tag old.rest) old (Err e) new → IsMemory e.kind → Grows ⊎ IsBeyond (IntegerAt width range bounds old.rule tag old.rest) new.rest
+    → GaveInteger see Grows tag (IntegerAt width range bounds old.rule tag old.rest) old (Err e) new → IsOutOfMemory e.kind → Grows ⊎ IsBeyond (IntegerAt width range bounds old.rule tag old.rest) new.rest
 integer_memory see Grows width range bounds tag old new e (inl (m, g, c, s, l, h)) n = inl g
 integer_memory see Grows width range bounds tag old new e (inr (cause, a, t, c, s)) n =
     inr (go cause a t (contents_bound (IntegerIn old.rule width range bounds) (integer_cause old.rule width range bounds) (definite_at old.rule tag old.rest) (definite_plain old.rule tag old.rest) (cause, new.rest) a))
   where
-    go : (x : Cause) → IntegerAt width range bounds old.rule tag old.rest (Err (x, new.rest)) → Tells x e.kind → IsPlainOrBound x → IsBeyond (IntegerAt width range bounds old.rule tag old.rest) new.rest
+    go : (x : Cause) → IntegerAt width range bounds old.rule tag old.rest (Err (x, new.rest)) → TellsCause x e.kind → IsPlainOrBound x → IsBeyond (IntegerAt width range bounds old.rule tag old.rest) new.rest
     go (fault f) a t p = absurd (tells_plain (fault f) e.kind p t n)
     go (out_of_bound z bound) a t p = (z, bound, a)

@@ -1,9 +1,9 @@
 //! Writing SET OF (X.690 8.12).
 ghost use Rattle.std.specs.Prelude.{◌≡◌, ◌⊎◌, length, None, map, IfErr, OnOk, OnErr};
-ghost use Rattle.rasn_types.specs.Shapes.{bag, walk};
+ghost use Rattle.rasn_types.specs.Shapes.{set_of, walk};
 ghost use Rattle.rasn_types.specs.Trees.{list_tree};
 ghost use Rattle.rasn_enc.specs.View.{LeavesOthers};
-ghost use Rattle.rasn_enc.specs.Elements.{WroteBag, RefusesInBag, RefusesFall, RefusesBag};
+ghost use Rattle.rasn_enc.specs.Elements.{WroteSetOf, RefusesInSetOf, RefusesFall, RefusesSetOf};
 ghost use Rattle.rasn_enc.specs.Wrote.{Wrote, MayRefuse};
 
 use super::{Encoder, out_of_order};
@@ -13,7 +13,7 @@ use rasn_types::types::{Constraints, Identifier, SetOf, Tag};
 
 impl Encoder {
     /// Writes a SET OF, within a size in elements (X.690 8.12): its elements in the order of the walk. Under any rules the octets of
-    /// an element must not be less than those of the one before it (X.690 11.6). The name is ignored.
+    /// an element must not be less than those of the one before it (X.690 11.6).
     ///
     /// # Errors
     /// `SizeConstraintNotSatisfied`; what an element refuses; `SetOutOfOrder` at the first element whose octets are less; else
@@ -25,10 +25,10 @@ impl Encoder {
         constraints: &Constraints,
         _identifier: Identifier,
     ) -> Result<(), EncodeError>
-        ensures ok { OnOk result (Wrote (bag tag E.shape constraints.now.size) (walk (list_tree E.tree values.now)) self.old self.new) }
+        ensures ok { OnOk result (Wrote (set_of tag E.shape constraints.now.size) (walk (list_tree E.tree values.now)) self.old self.new) }
         ensures err { OnErr result (self.new ≡ self.old) }
-        ensures refused { IfErr result (MayRefuse (bag tag E.shape constraints.now.size) (walk (list_tree E.tree values.now)) self.old) }
-        ensures named { IfErr result (RefusesBag E.shape (map E.tree values.now) (length values.now) constraints.now self.old.rule) }
+        ensures refused { IfErr result (MayRefuse (set_of tag E.shape constraints.now.size) (walk (list_tree E.tree values.now)) self.old) }
+        ensures named { IfErr result (RefusesSetOf E.shape (map E.tree values.now) (length values.now) constraints.now self.old.rule) }
     {
         self.check_size(constraints, values.len())?;
         let elements = values.as_slice();
@@ -41,8 +41,8 @@ impl Encoder {
     fn put_in_order<E: Encode>(&mut self, values: &[E]) -> Result<(), EncodeError>
         requires { self.old.last.tags ≡ None }
         ensures keeps { LeavesOthers self.old self.new }
-        ensures ok { OnOk result (WroteBag E.shape (map E.tree values.now) self.old self.new) }
-        ensures refused { IfErr result (λ e. RefusesInBag E.shape (map E.tree values.now) self.old.rule e ⊎ RefusesFall E.shape (map E.tree values.now) self.old.rule e) }
+        ensures ok { OnOk result (WroteSetOf E.shape (map E.tree values.now) self.old self.new) }
+        ensures refused { IfErr result (λ e. RefusesInSetOf E.shape (map E.tree values.now) self.old.rule e ⊎ RefusesFall E.shape (map E.tree values.now) self.old.rule e) }
     {
         let mut previous = self.last_len();
         let mut rest = values;
