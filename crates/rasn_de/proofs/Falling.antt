@@ -1,5 +1,5 @@
 -- The test of octets.
-use Rattle.std.proofs.Common.{◌≡◌, ◌<◌, ℕ, Bool, true, false, List, [], ◌∷◌, ◌++◌, inl, inr, arith, refl, sym, ap, ◌∙◌, subst, MatchBool, true≢false, Some, Ordering, Less, Equal, Greater, length, ◌-◌, take, length-append}
+use Rattle.std.proofs.Common.{◌≡◌, ◌<◌, ℕ, Bool, true, false, List, [], ◌∷◌, ◌++◌, inl, inr, arith, sym, ap, ◌∙◌, MatchBool, true≢false, Some, Ordering, Less, Equal, Greater, length, ◌-◌, take, length-append}
 use Rattle.std.specs.Ordering.{nat_cmp, is_lt, is_some_and, as_partial_cmp, partial_ordering_then, MatchOrdering}
 use Rattle.std.specs.Cmp.{ranks}
 use Rattle.std.proofs.Math.Seq.{take-append_seam}

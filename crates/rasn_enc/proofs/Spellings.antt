@@ -6,8 +6,6 @@ use Rattle.std.proofs.Math.Arith.{mod-mul}
 use borrow.Author.Tests.{ltb-true, ltb-false}
 use Rattle.rasn_types.specs.Tags.{rank}
 use Rattle.rasn_types.specs.declared.types.tag.Tag.{Tag}
-use Rattle.rasn_types.specs.declared.types.tag.Class.{Class}
-use Rattle.rasn_types.specs.declared.types.tag.Class.TheVariants.{Universal, Application, Context, Private}
 use Rattle.rasn_types.specs.Framing.{AreOctets, IsChain, number_in, bit_of, AnyIdSpells, LengthSpells, IsShortestId, IsShortestLength}
 use Rattle.rasn_types.specs.Bytes.{Definite, Closed}
 use Rattle.rasn_types.specs.Contents.{IsShortest128}
