@@ -6,7 +6,7 @@ use Rattle.rasn_types.specs.declared.types.rules.Codec.{Codec}
 use Rattle.rasn_types.specs.declared.types.rules.Codec.TheVariants.{Ber, Cer, Der}
 use Rattle.rasn_types.specs.declared.types.tag.Tag.{Tag}
 use Rattle.rasn_types.specs.Framing.{Frame, with_length, definite, Whole, plain, Wholes, none, one_more}
-use Rattle.rasn_types.specs.Shapes.{Tree, numbers, items, walk, absent, Admits, Shape, leaf, any, prefix, choice, option, seq, set, list, set_of, Parts, part, own, IsSolid}
+use Rattle.rasn_types.specs.Shapes.{Tree, numbers, items, walk, absent, Admits, Shape, leaf, any, prefix, choice, option, seq, set, list, set_of, Parts, part, own, presences, IsSolid}
 use Rattle.rasn_types.specs.declared.types.constraints.Bound.{Bound}
 use Rattle.rasn_types.specs.Readers.{IsLeftOut, IsThere, Reading, Many, ReadFrom, ReadsSeq, ReadsSet}
 use Rattle.rasn_types.specs.Contents.{joined_lists}
@@ -20,8 +20,8 @@ use Rattle.rasn.proofs.Begins.{comes}
 use Rattle.rasn.proofs.Enclosed.{IsReadAs, definite_back, closed_back, cons_back, EachReadBack, many_back}
 use Rattle.rasn_types.proofs.Alike.{items_one, each_same, each_length}
 use Rattle.rasn.proofs.Strings.{leaf_back}
-use Rattle.rasn.proofs.InParts.{EachTagged, is_there, IsBack, EachBack, seq_back, choice_back}
-use Rattle.rasn.proofs.Components.{set_back}
+use Rattle.rasn.proofs.InParts.{EachTagged, AllRequired, is_there, IsBack, EachBack, seq_back, choice_back}
+use Rattle.rasn.proofs.Components.{Component, set_back}
 
 whole_frame : (rule : Codec) {input rest c : List ℕ} {s : Tag} {b : Bool} → Frame loose_form input s b rest (definite c) → Frame (loose rule) input s b rest (definite c)
 whole_frame Ber (with_length id len c p q z e) = with_length id len c p q (λ h. absurd h) e
@@ -166,7 +166,7 @@ in_set_back rule tag one ps depth has back t b (deep, us, e, ms) (ts, bs, tags, 
       subst (λ x. Same x r.0) (sym f) r.1,
       λ rest closing. (
         deep,
-        cons_back rule tag one (joined_lists bs) b c (λ c. ReadsSet rule (parts_of rule ps (depth - 1) c) c) r.0 r.2 rest,
+        cons_back rule tag one (joined_lists bs) b c (λ c. ReadsSet rule (presences ps) (Component rule (depth - 1) ps c) c) r.0 r.2 rest,
       ),
     )
 
@@ -177,7 +177,7 @@ EachGood (part presence s ps) = IsSolid s × IsLawful s × EachGood ps
 pub alternatives_good : (ps : Parts) → AreAlternatives ps → EachGood ps
 unfolding IsLawful
 alternatives_good Parts.none h = tt
-alternatives_good (part presence s ps) h = (h.2, h.3, alternatives_good ps h.5)
+alternatives_good (part presence s ps) h = (h.2, h.3, alternatives_good ps h.4)
 
 pub in_order_good : (ps : Parts) → AreLawfulInOrder ps → EachGood ps
 unfolding IsLawful
@@ -192,7 +192,12 @@ by_tag_good (part presence s ps) h = (h.2, h.3, by_tag_good ps h.5)
 alternatives_tagged : (ps : Parts) → AreAlternatives ps → EachTagged ps
 unfolding IsLawful
 alternatives_tagged Parts.none h = tt
-alternatives_tagged (part presence s ps) h = (h.1, alternatives_tagged ps h.5)
+alternatives_tagged (part presence s ps) h = (h.1, alternatives_tagged ps h.4)
+
+alternatives_required : (ps : Parts) → AreAlternatives ps → AllRequired ps
+unfolding IsLawful
+alternatives_required Parts.none h = tt
+alternatives_required (part presence s ps) h = (h.0, alternatives_required ps h.4)
 
 by_tag_tagged : (ps : Parts) → AreLawfulByTag ps → EachTagged ps
 unfolding IsLawful
@@ -208,7 +213,7 @@ mutual
   back (any (Some tag)) solid lawful rule depth = open_back rule tag lawful depth
   back (any None) solid lawful rule depth = any_back rule depth
   back (prefix tag s) solid lawful rule depth = prefix_back rule tag lawful.0 s lawful.1 depth (back s lawful.1 lawful.2 rule (depth - 1))
-  back (choice ps) solid lawful rule depth = λ t b m w. choice_back rule depth ps (alternatives_tagged ps lawful) (each_back ps (alternatives_good ps lawful) rule depth) 0 t b m w
+  back (choice ps) solid lawful rule depth = λ t b m w. choice_back rule depth ps (alternatives_tagged ps lawful.0) (alternatives_required ps lawful.0) (each_back ps (alternatives_good ps lawful.0) rule depth) 0 t b m w
   back (option tag s) solid lawful rule depth = absurd solid
   back (seq tag ps) solid lawful rule depth = in_seq_back rule tag lawful.0 ps depth lawful.1 (each_back ps (in_order_good ps lawful.1) rule (depth - 1))
   back (set tag ps) solid lawful rule depth = in_set_back rule tag lawful.0 ps depth (by_tag_tagged ps lawful.1) (each_back ps (by_tag_good ps lawful.1) rule (depth - 1))

@@ -1,5 +1,5 @@
 -- A value that is there begins with one of its shape's first tags, and doesn't ask whether contents end.
-use Rattle.std.proofs.Common.{◌≡◌, ℕ, zero, suc, ◌⊎◌, inl, inr, List, Bool, true, false, Option, Some, None, refl, sym, subst}
+use Rattle.std.proofs.Common.{◌≡◌, ℕ, suc, ◌⊎◌, inl, inr, List, Bool, true, false, Option, Some, None, refl, sym, subst}
 use Rattle.rasn_types.specs.Tags.{Form, form, loose}
 use Rattle.rasn_types.specs.declared.types.rules.Codec.{Codec}
 use Rattle.rasn_types.specs.declared.types.tag.Tag.{Tag}
@@ -7,8 +7,8 @@ use Rattle.rasn_types.specs.Framing.{Next}
 use Rattle.rasn_types.specs.Shapes.{Tree, Kind, Shape, leaf, any, prefix, choice, option, seq, set, list, set_of, Parts, part, IsFirst, IsFirstOf, IsSolid, AreSolid}
 use Rattle.rasn_types.specs.Shapes.Parts.{none}
 use Rattle.rasn_types.specs.Readers.{Reading, Inside, in_definite, in_indefinite, ReadsChoice, IsLeftOut, IsThere}
-use Rattle.rasn_types.specs.Contents.{Str, ReadBits, OctetSegment}
-use Rattle.rasn_types.specs.Grammar.{Reads, parts_of, Family, plain, bit_family, text_family, family, ReadsIn, ReadsOpen}
+use Rattle.rasn_types.specs.Contents.{Str, primitive, segments, closed_segments, ReadBits, OctetSegment}
+use Rattle.rasn_types.specs.Grammar.{Reads, parts_of, Family, plain_family, bit_family, text_family, family, ReadsIn, ReadsOpen}
 use Rattle.rasn_types.specs.Lawful.{HasTag}
 use Rattle.rasn_types.proofs.Frames.{frame_next, not_ended}
 use Rattle.rasn_types.proofs.Nested.{whole_next}
@@ -20,13 +20,13 @@ inside_next (in_indefinite b f r) = frame_next f
 
 pub str_next : {X : Type 0} (rule : Codec) (segment : List ℕ → List X → Type 0) (inner : Tag) (depth : ℕ) (tag : Tag) (input : List ℕ) (xs : List X) (rest : List ℕ)
     → Str rule segment inner depth tag input xs rest → Next (form rule) input tag
-str_next rule segment inner zero tag input xs rest h = frame_next h.1
-str_next rule segment inner (suc depth) tag input xs rest (inl h) = frame_next h.1
-str_next rule segment inner (suc depth) tag input xs rest (inr h) = inside_next h.3
+str_next rule segment inner depth tag input xs rest (primitive c f s) = frame_next f
+str_next rule segment inner depth tag input xs rest (segments c has f m) = frame_next f
+str_next rule segment inner depth tag input xs rest (closed_segments body has f m) = frame_next f
 
 in_next : (which : Family) (rule : Codec) (kind : Kind) (tag : Tag) (depth : ℕ) (input : List ℕ) (t : Tree) (rest : List ℕ)
     → ReadsIn which rule kind tag depth input t rest → Next (form rule) input tag
-in_next plain rule kind tag depth input t rest h = frame_next h.2
+in_next plain_family rule kind tag depth input t rest h = frame_next h.2
 in_next bit_family rule kind tag depth input t rest h = str_next rule (ReadBits rule) _ depth tag input h.0 rest h.3
 in_next text_family rule kind tag depth input t rest h = str_next rule OctetSegment _ depth tag input h.0 rest h.1
 
@@ -47,7 +47,7 @@ begins (any None) solid has rule depth closing input t rest h = absurd has
 begins (prefix tag s) solid has rule depth closing input t rest h = (tag, inside_next h.3, refl)
 begins (choice ps) solid has rule depth closing input t rest h = some_begins ps 0 h
   where
-    some_begins : (ps : Parts) (k : ℕ) → ReadsChoice (form rule) k (parts_of rule ps depth closing) input t rest → BeginsIn (form rule) (IsFirstOf ps) input
+    some_begins : (ps : Parts) (k : ℕ) → ReadsChoice rule k (parts_of rule ps depth closing) input t rest → BeginsIn (form rule) (IsFirstOf ps) input
     some_begins none k h = absurd h
     some_begins (part presence s ps) k (inl h) = (h.2, h.3, inl h.4)
     some_begins (part presence s ps) k (inr h) = let r = some_begins ps (suc k) h in (r.0, r.1, inr r.2)
@@ -114,10 +114,10 @@ mutual
   solid_closing (set_of tag s size) solid rule depth c d input t rest h = h
 
   some_closing : (ps : Parts) → AreSolid ps → (k : ℕ) (rule : Codec) (depth : ℕ) (c d : Bool) (input : List ℕ) (t : Tree) (rest : List ℕ)
-      → ReadsChoice (form rule) k (parts_of rule ps depth c) input t rest → ReadsChoice (form rule) k (parts_of rule ps depth d) input t rest
+      → ReadsChoice rule k (parts_of rule ps depth c) input t rest → ReadsChoice rule k (parts_of rule ps depth d) input t rest
   some_closing none solid k rule depth c d input t rest h = h
-  some_closing (part presence s ps) solid k rule depth c d input t rest (inl (u, e, n, p, f, h)) =
-      inl (u, e, n, p, f, solid_closing s solid.0 rule depth c d input u rest h)
+  some_closing (part presence s ps) solid k rule depth c d input t rest (inl (u, e, n, p, f, h, z)) =
+      inl (u, e, n, p, f, solid_closing s solid.0 rule depth c d input u rest h, z)
   some_closing (part presence s ps) solid k rule depth c d input t rest (inr h) = inr (some_closing ps solid.1 (suc k) rule depth c d input t rest h)
 
 -- At the top, where end-of-contents octets may stand, what was read without them is read too.

@@ -1,11 +1,11 @@
 -- The components of a SET are read as they were written.
 use Rattle.std.proofs.Common.{◌≡◌, ℕ, suc, ◌<◌, ◌⊎◌, ◌≢◌, inl, inr, List, [], ◌∷◌, ◌++◌, Bool, false, refl, sym, ap, ◌∙◌, subst, arith, append_assoc}
-use Rattle.rasn_types.specs.Tags.{form, IsTagBelow}
+use Rattle.rasn_types.specs.Tags.{IsTagBelow}
 use Rattle.rasn_types.specs.Order.{DoNotFall}
 use Rattle.rasn_types.specs.declared.types.rules.Codec.{Codec}
 use Rattle.rasn_types.specs.declared.types.tag.Tag.{Tag}
 use Rattle.rasn_types.specs.Framing.{Begins, Ended}
-use Rattle.rasn_types.specs.Shapes.{Tree, items, chosen, absent, Shape, Parts, part, Presence, required, optional, addition, default, IsSolid}
+use Rattle.rasn_types.specs.Shapes.{Tree, items, chosen, absent, Shape, Parts, part, presences, Presence, required, optional, addition, default, IsSolid}
 use Rattle.rasn_types.specs.Shapes.Parts.{none}
 use Rattle.rasn_types.specs.Readers.{Many, ReadFrom, IsNoDefault, IsMissing, ReadsChoice, NoneOf, ByPart, ReadsSet}
 use Rattle.rasn_types.specs.Contents.{joined_lists}
@@ -23,32 +23,27 @@ use Rattle.rasn.proofs.InParts.{EachTagged, nothing_comes, IsBack, EachBack}
 none_more : (j k : ℕ) (u : Tree) (rs : List Tree) → (j ≡ k → ⊥) → NoneOf j rs → NoneOf j (chosen k u ∷ rs)
 none_more j k u rs h n = ((λ v e. h cc), n)
 
-by_part_more : (rule : Codec) (ps : Parts) (depth : ℕ) (c : Bool) (j k : ℕ) (u : Tree) (rs us : List Tree) → k < j
-    → ByPart rule j (parts_of rule ps depth c) rs us → ByPart rule j (parts_of rule ps depth c) (chosen k u ∷ rs) us
-unfolding Reads parts_of Bytes fields_of Meets
-by_part_more rule none depth c j k u rs us h b = b
-by_part_more rule (part presence s ps) depth c j k u rs us h (t, vs, e, inl (o, z), b) = (
+by_part_more : (ps : List Presence) (j k : ℕ) (u : Tree) (rs us : List Tree) → k < j → ByPart j ps rs us → ByPart j ps (chosen k u ∷ rs) us
+by_part_more [] j k u rs us h b = b
+by_part_more (presence ∷ ps) j k u rs us h (t, vs, e, inl o, b) = (
   t,
   vs,
   e,
-  inl (
-    record {
-      before = chosen k u ∷ o.before;
-      after = o.after;
-      is = ap (λ l. chosen k u ∷ l) o.is;
-      none_before = none_more j k u o.before (λ f. omega arith) o.none_before;
-      none_after = o.none_after;
-    },
-    z,
-  ),
-  by_part_more rule ps depth c (suc j) k u rs vs (omega arith) b,
+  inl (record {
+    before = chosen k u ∷ o.before;
+    after = o.after;
+    is = ap (λ l. chosen k u ∷ l) o.is;
+    none_before = none_more j k u o.before (λ f. omega arith) o.none_before;
+    none_after = o.none_after;
+  }),
+  by_part_more ps (suc j) k u rs vs (omega arith) b,
 )
-by_part_more rule (part presence s ps) depth c j k u rs us h (t, vs, e, inr o, b) =
-    (t, vs, e, inr (none_more j k u rs (λ f. omega arith) o.0, o.1), by_part_more rule ps depth c (suc j) k u rs vs (omega arith) b)
+by_part_more (presence ∷ ps) j k u rs us h (t, vs, e, inr o, b) =
+    (t, vs, e, inr (none_more j k u rs (λ f. omega arith) o.0, o.1), by_part_more ps (suc j) k u rs vs (omega arith) b)
 
 -- The readings of these parts within those of all.
 abbrev pub Component : Codec → ℕ → Parts → Bool → List ℕ → Tree → List ℕ → Type 0
-Component rule depth all c = ReadsChoice (form rule) 0 (parts_of rule all depth c)
+Component rule depth all c = ReadsChoice rule 0 (parts_of rule all depth c)
 
 -- They are read from the octets of those that are there.
 abbrev pub FromBack : Codec → ℕ → Parts → List (List ℕ) → List Tree → Type 0
@@ -56,7 +51,7 @@ FromBack rule depth all bs rs = (os : List (List ℕ)) × ((tags : List Tag) →
     × ((c : Bool) (tail : List ℕ) → ReadFrom (Component rule depth all c) (joined_lists bs ++ tail) rs tail os)
 
 abbrev pub SetBack : Codec → ℕ → Parts → ℕ → Parts → List Tree → List (List ℕ) → List Tree → List Tree → Type 0
-SetBack rule depth all k ps ts bs rs us = Each Same ts us × ((c : Bool) → ByPart rule k (parts_of rule ps depth c) rs us)
+SetBack rule depth all k ps ts bs rs us = Each Same ts us × ByPart k (presences ps) rs us
     × ((j : ℕ) → j < k → NoneOf j rs) × FromBack rule depth all bs rs
     × IsReadAs (λ c. Many (Component rule depth all c) c) (joined_lists bs) rs
 
@@ -66,7 +61,7 @@ tags_more (o ∷ b) x y some f tags (t, more, e, n, h) = (t, more, e, n, f more 
 
 abbrev pub IsAmong : Codec → ℕ → Parts → ℕ → Parts → Type 0
 IsAmong rule depth all k ps = (c : Bool) (input : List ℕ) (t : Tree) (rest : List ℕ)
-    → ReadsChoice (form rule) k (parts_of rule ps depth c) input t rest → ReadsChoice (form rule) 0 (parts_of rule all depth c) input t rest
+    → ReadsChoice rule k (parts_of rule ps depth c) input t rest → ReadsChoice rule 0 (parts_of rule all depth c) input t rest
 
 -- a component, read or left out for v
 abbrev pub ComponentBack : Codec → ℕ → Presence → Shape → Tree → List ℕ → Type 0
@@ -91,13 +86,13 @@ pub record ReadMore (rule : Codec) (depth : ℕ) (all : Parts) (b : List ℕ) (t
   pub begins : (rest : List ℕ) → Comes (b ++ rest)
 
 read_more : (rule : Codec) (depth : ℕ) (all : Parts) (k : ℕ) (presence : Presence) (s : Shape) (ps : Parts) → IsSolid s → HasTag s
-    → IsAmong rule depth all k (part presence s ps) → (v : Tree) (b : List ℕ)
+    → IsAmong rule depth all k (part presence s ps) → (v : Tree) (b : List ℕ) → IsNoDefault presence v
     → ((rest : List ℕ) (closing : Bool) → Reads rule s depth closing (b ++ rest) v rest) → ReadMore rule depth all b (chosen k v)
 unfolding Reads parts_of
-read_more rule depth all k presence s ps solid has among v b again = record {
+read_more rule depth all k presence s ps solid has among v b differs again = record {
   again = λ rest closing.
       let first = begins s solid has rule depth closing (b ++ rest) v rest (again rest closing) in
-      among closing (b ++ rest) (chosen k v) rest (inl (v, refl, first.0, first.1, first.2, again rest closing));
+      among closing (b ++ rest) (chosen k v) rest (inl (v, refl, first.0, first.1, first.2, again rest closing, λ z. differs));
   begins = λ rest. comes s solid rule depth false (b ++ rest) v rest (again rest false);
 }
 
@@ -128,7 +123,7 @@ set_parts_back rule depth all none has back k among ts bs meets (e, f) = (
   [],
   (
     subst (λ l. Each Same l []) (sym e) refl,
-    (λ c. refl),
+    refl,
     (λ j h. tt),
     ([], (λ tags h. subst (λ l. TagsOf l tags) f h), λ c tail. (refl, sym (ap (λ l. joined_lists l ++ tail) f))),
     λ closing tail t.
@@ -149,7 +144,7 @@ set_parts_back rule depth all (part presence s ps) has back k among ts bs (t, us
       v ∷ vs,
       (
         subst (λ l. Each Same l (v ∷ vs)) (sym e) (v, vs, refl, same, alike),
-        (λ c. (v, vs, refl, inr (low k (omega arith), m), by c)),
+        (v, vs, refl, inr (low k (omega arith), m), by),
         (λ j h. low j (omega arith)),
         subst (λ l. FromBack rule depth all l rs) (sym f) (subst (λ l. FromBack rule depth all (l ∷ cs) rs) (sym g) from),
         subst (λ l. IsReadAs (λ c. Many (Component rule depth all c) c) (joined_lists l) rs) (sym f)
@@ -157,18 +152,18 @@ set_parts_back rule depth all (part presence s ps) has back k among ts bs (t, us
       ),
     )
     go (v, same, inr (differs, again)) (rs, vs, (alike, by, low, from, many)) =
-        let more = read_more rule depth all k presence s ps back.0 has.0 among v b again in (
+        let more = read_more rule depth all k presence s ps back.0 has.0 among v b differs again in (
           chosen k v ∷ rs,
           v ∷ vs,
           (
             subst (λ l. Each Same l (v ∷ vs)) (sym e) (v, vs, refl, same, alike),
-            (λ c. (
+            (
               v,
               vs,
               refl,
-              inl (record { before = []; after = rs; is = refl; none_before = tt; none_after = low k (omega arith) }, λ z. differs),
-              by_part_more rule ps depth c (suc k) k v rs vs (omega arith) (by c),
-            )),
+              inl (record { before = []; after = rs; is = refl; none_before = tt; none_after = low k (omega arith) }),
+              by_part_more (presences ps) (suc k) k v rs vs (omega arith) by,
+            ),
             (λ j h. none_more j k v rs (λ g. omega arith) (low j (omega arith))),
             subst (λ l. FromBack rule depth all l (chosen k v ∷ rs)) (sym f) (from_more rule depth all b (chosen k v) more cs rs from),
             subst (λ l. IsReadAs (λ c. Many (Component rule depth all c) c) (joined_lists l) (chosen k v ∷ rs)) (sym f)
@@ -178,11 +173,11 @@ set_parts_back rule depth all (part presence s ps) has back k among ts bs (t, us
 
 pub set_back : (rule : Codec) (depth : ℕ) (ps : Parts) → EachTagged ps → EachBack rule depth ps → (ts : List Tree) (bs : List (List ℕ)) (tags : List Tag)
     → MeetsParts rule ps depth ts → PartsWritten (fields_of rule ps) ts bs → TagsOf bs tags → DoNotFall IsTagBelow tags
-    → (u : Tree) × Same (items ts) u × IsReadAs (λ c. ReadsSet rule (parts_of rule ps depth c) c) (joined_lists bs) u
+    → (u : Tree) × Same (items ts) u × IsReadAs (λ c. ReadsSet rule (presences ps) (Component rule depth ps c) c) (joined_lists bs) u
 set_back rule depth ps has back ts bs tags meets w firsts order =
     go (set_parts_back rule depth ps ps has back 0 (λ c input t rest h. h) ts bs meets w)
   where
     go : (rs : List Tree) × (us : List Tree) × SetBack rule depth ps 0 ps ts bs rs us
-        → (u : Tree) × Same (items ts) u × IsReadAs (λ c. ReadsSet rule (parts_of rule ps depth c) c) (joined_lists bs) u
+        → (u : Tree) × Same (items ts) u × IsReadAs (λ c. ReadsSet rule (presences ps) (Component rule depth ps c) c) (joined_lists bs) u
     go (rs, us, (alike, by, low, (os, begin, from), many)) =
-        (items us, each_same ts us alike, λ closing tail t. (rs, us, refl, many closing tail t, by closing, λ z. (os, from closing tail, (tags, begin tags firsts, order))))
+        (items us, each_same ts us alike, λ closing tail t. (rs, us, refl, many closing tail t, by, λ z. (os, from closing tail, (tags, begin tags firsts, order))))

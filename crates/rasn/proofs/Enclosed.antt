@@ -1,6 +1,6 @@
 -- What is written round contents is read as they are.
 use Rattle.std.proofs.Common.{◌≡◌, ℕ, ◌≢◌, inl, inr, List, [], ◌∷◌, ◌++◌, Bool, true, false, refl, sym, ap, ap₂, ◌∙◌, subst, append_assoc, append-nil}
-use Rattle.rasn_types.specs.Tags.{eoc, Form, cer_form}
+use Rattle.rasn_types.specs.Tags.{eoc, Form, basic_form}
 use Rattle.rasn_types.specs.declared.types.rules.Codec.{Codec}
 use Rattle.rasn_types.specs.declared.types.rules.Codec.TheVariants.{Ber, Cer, Der}
 use Rattle.rasn_types.specs.declared.types.tag.Tag.{Tag}
@@ -26,7 +26,7 @@ definite_back {contents = contents} rest one d =
     with_length d.id d.len contents (record { spells = d.id_spells; is_one = one }) d.len_spells (λ z. (d.id_shortest, d.len_shortest)) (ap (λ l. l ++ rest) d.is ∙ simp append_assoc)
 
 pub closed_back : {tag : Tag} {contents b : List ℕ} (rest : List ℕ) → tag ≢ eoc → Closed tag contents b
-    → Frame cer_form (b ++ rest) tag true (contents ++ (0 ∷ 0 ∷ rest)) indefinite
+    → Frame basic_form (b ++ rest) tag true (contents ++ (0 ∷ 0 ∷ rest)) indefinite
 closed_back rest one d = without_length d.id (record { spells = d.id_spells; is_one = one }) refl tt (ap (λ l. l ++ rest) d.is ∙ simp append_assoc)
 
 -- The contents are read as x, whatever ends them.

@@ -1,15 +1,15 @@
 -- Headers of short values, and values in one primitive encoding.
-use Rattle.std.proofs.Common.{◌≡◌, ℕ, zero, suc, ◌+◌, ◌*◌, ◌<◌, ◌≢◌, inl, inr, List, [], ◌∷◌, ◌++◌, length, Bool, true, false, refl, ap, arith}
+use Rattle.std.proofs.Common.{◌≡◌, ℕ, ◌+◌, ◌*◌, ◌<◌, ◌≢◌, inl, inr, List, [], ◌∷◌, ◌++◌, length, Bool, true, false, refl, ap, arith}
 use Rattle.rasn_types.specs.Tags.{Form, eoc, in_universal, rank, IsStrict, tag_bit}
 use Rattle.rasn_types.specs.declared.types.tag.Class.{Class}
-use Rattle.rasn_types.specs.declared.types.tag.Class.TheVariants.{Universal, Application, Context, Private}
+use Rattle.rasn_types.specs.declared.types.tag.Class.TheVariants.{Universal, Context}
 use Rattle.rasn_types.specs.declared.types.tag.Tag.{Tag}
 use Rattle.rasn_types.specs.Framing.{bit_of, AnyIdSpells, IdSpells, HasIndefinite, Frame, with_length, without_length, definite, indefinite, Begins, Ended, Next}
 use Rattle.rasn_types.specs.Bytes.{Definite, Closed}
 use Rattle.rasn_types.specs.declared.types.rules.Codec.{Codec}
 use Rattle.rasn_types.specs.Shapes.{Tree, Kind}
-use Rattle.rasn_types.specs.Contents.{Contents, IsShortest, Str, ReadBits, OctetSegment}
-use Rattle.rasn_types.specs.Grammar.{Family, ReadsIn}
+use Rattle.rasn_types.specs.Contents.{Contents, IsShortest, Str, primitive, ReadBits, OctetSegment}
+use Rattle.rasn_types.specs.Grammar.{Family, plain_family, ReadsIn}
 use Rattle.rasn_types.proofs.Frames.{not_ended, rank_small, bit_small}
 use Rattle.rasn.specs.WorkedShapes.{contextual}
 
@@ -62,20 +62,18 @@ closed_written n contents k = record {
 
 -- A value of a plain kind, whose contents are the shortest where they have to be.
 pub plain_read : (rule : Codec) (kind : Kind) (n : ℕ) (contents rest : List ℕ) (t : Tree) (depth : ℕ) → 0 < n → n < 31 → length contents < 128
-    → Contents rule kind contents t → (IsStrict rule → (false ≡ tag_bit (in_universal n)) × IsShortest kind contents) → ReadsIn Family.plain rule kind (in_universal n) depth ((32 * bit_of false + n) ∷ length contents ∷ (contents ++ rest)) t rest
+    → Contents rule kind contents t → (IsStrict rule → (false ≡ tag_bit (in_universal n)) × IsShortest kind contents) → ReadsIn plain_family rule kind (in_universal n) depth ((32 * bit_of false + n) ∷ length contents ∷ (contents ++ rest)) t rest
 plain_read rule kind n contents rest t depth h k l c s = (false, contents, short n false contents rest h k l, c, s)
 
 -- A primitive string of octets.
 pub octets_read : (rule : Codec) (n : ℕ) (contents rest : List ℕ) (depth : ℕ) → 0 < n → n < 31 → length contents < 128
     → Str rule OctetSegment (in_universal 4) depth (in_universal n) ((32 * bit_of false + n) ∷ length contents ∷ (contents ++ rest)) contents rest
-octets_read rule n contents rest zero h k l = (contents, short n false contents rest h k l, refl)
-octets_read rule n contents rest (suc depth) h k l = inl (contents, short n false contents rest h k l, refl)
+octets_read rule n contents rest depth h k l = primitive contents (short n false contents rest h k l) refl
 
 -- A primitive piece of bits.
 pub bits_read : (rule : Codec) (n : ℕ) (contents rest : List ℕ) (bs : List Bool) (depth : ℕ) → 0 < n → n < 31 → length contents < 128 → ReadBits rule contents bs
     → Str rule (ReadBits rule) (in_universal 3) depth (in_universal n) ((32 * bit_of false + n) ∷ length contents ∷ (contents ++ rest)) bs rest
-bits_read rule n contents rest bs zero h k l s = (contents, short n false contents rest h k l, s)
-bits_read rule n contents rest bs (suc depth) h k l s = inl (contents, short n false contents rest h k l, s)
+bits_read rule n contents rest bs depth h k l s = primitive contents (short n false contents rest h k l) s
 
 pub no_next : (spelling : Form) (tag : Tag) → Next spelling (0 ∷ 0 ∷ []) tag → ⊥
 no_next spelling tag h = not_ended true (0 ∷ 0 ∷ []) tag h (inr (refl, [], refl))

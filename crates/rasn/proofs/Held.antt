@@ -4,7 +4,7 @@ use Rattle.rasn_types.specs.declared.ber.time.text.Fields.{Fields}
 use Rattle.rasn_types.specs.Calendar.{Stamp}
 use Rattle.rasn_types.specs.Spelling.{two, four}
 use Rattle.rasn_types.specs.Times.{TimeText, DateText, CanonicalUtc, CanonicalGeneralized, as_given, century, short_form, long_form, canonical_form, both, fields_of, at_utc, written_utc, written_generalized, written_date}
-use Rattle.rasn.specs.TimeLaws.{OneMeaning, Included, ReadBack, Distinct}
+use Rattle.rasn.specs.TimeLaws.{OneMeaning, IncludedTexts, ReadBack, Distinct}
 use Rattle.rasn_types.specs.Reading.{two_at, four_at}
 use Rattle.rasn_types.proofs.Spelled.{two_again, two_takes, four_again, four_takes, both_true}
 use Rattle.rasn_types.proofs.Stamped.{one_stamp}
@@ -32,7 +32,7 @@ narrowed year_text limit year_of a b text t r = record {
   meant = r.meant;
 }
 
-pub included : Included
+pub included : IncludedTexts
 included = record { utc = narrowed two 100 century short_form canonical_form; generalized = narrowed four 10000 as_given long_form canonical_form }
 
 pub read_back : ReadBack

@@ -6,7 +6,7 @@ use Rattle.rasn_types.specs.declared.types.tag.Tag.{Tag}
 use Rattle.rasn_types.specs.Framing.{Next, Ended}
 use Rattle.rasn_types.specs.Shapes.{Tree, items, chosen, absent, Shape, leaf, any, prefix, choice, option, seq, set, list, set_of, Parts, part, own, IsFirst, Presence, required, optional, addition, default, IsSolid}
 use Rattle.rasn_types.specs.Shapes.Parts.{none}
-use Rattle.rasn_types.specs.Readers.{IsLeftOut, IsThere, Part, ReadsPart, InOrder, IsMissing, AllMissing, HasRequired, IsBare, ReadsSeq, ReadsChoice}
+use Rattle.rasn_types.specs.Readers.{IsLeftOut, IsThere, Part, IsNoDefault, ReadsPart, InOrder, IsMissing, AllMissing, HasRequired, AreAllLeftOut, ReadsSeq, ReadsChoice}
 use Rattle.rasn_types.specs.Contents.{joined_lists}
 use Rattle.rasn_types.specs.Grammar.{Reads, parts_of}
 use Rattle.rasn_types.specs.Bytes.{Each, Same, WritesPart, PartsWritten, WritesChoice, Bytes, fields_of}
@@ -228,12 +228,12 @@ has_required (p ∷ ps) = go (is_required p.presence) (has_required ps)
     go (inr e) (inl k) = inl (inr k)
     go (inr e) (inr k) = inr (elim [ inl f ↦ e f | inr f ↦ k f ])
 
-is_bare : (ps : List Part) (closing : Bool) (input : List ℕ) → IsBare ps closing input ⊎ (IsBare ps closing input → ⊥)
+is_bare : (ps : List Part) (closing : Bool) (input : List ℕ) → AreAllLeftOut ps closing input ⊎ (AreAllLeftOut ps closing input → ⊥)
 is_bare ps true input = inr (λ b. let e = b.1 in cc)
 is_bare ps false (x ∷ input) = inr (λ b. let e = b.2 in cc)
 is_bare ps false [] = go (has_required ps)
   where
-    go : HasRequired ps ⊎ (HasRequired ps → ⊥) → IsBare ps false [] ⊎ (IsBare ps false [] → ⊥)
+    go : HasRequired ps ⊎ (HasRequired ps → ⊥) → AreAllLeftOut ps false [] ⊎ (AreAllLeftOut ps false [] → ⊥)
     go (inl h) = inr (λ b. b.0 h)
     go (inr h) = inl (h, refl, refl)
 
@@ -242,7 +242,7 @@ pub seq_back : (rule : Codec) (depth : ℕ) (ps : Parts) → AreLawfulInOrder ps
     → (u : Tree) × Same (items ts) u × IsReadAs (λ c. ReadsSeq rule (parts_of rule ps depth c) c) (joined_lists bs) u
 seq_back rule depth ps lawful back ts bs meets w = go (in_order_back rule depth ps lawful back ts bs meets w)
   where
-    bare : (us : List Tree) (closing : Bool) (tail : List ℕ) → IsTail closing tail → IsBare (parts_of rule ps depth closing) closing (joined_lists bs ++ tail)
+    bare : (us : List Tree) (closing : Bool) (tail : List ℕ) → IsTail closing tail → AreAllLeftOut (parts_of rule ps depth closing) closing (joined_lists bs ++ tail)
         → InOrder rule (parts_of rule ps depth closing) closing (joined_lists bs ++ tail) us tail
         → ReadsSeq rule (parts_of rule ps depth closing) closing (joined_lists bs ++ tail) (items us) tail
     bare us true tail t b h = let e = b.1 in cc
@@ -272,6 +272,10 @@ seq_back rule depth ps lawful back ts bs meets w = go (in_order_back rule depth 
         ⊎_case (inl x) f g = f x
         ⊎_case (inr x) f g = g x
 
+abbrev pub AllRequired : Parts → Type 0
+AllRequired none = Unit {0}
+AllRequired (part presence s ps) = (presence ≡ required) × AllRequired ps
+
 pub other_index : (rule : Codec) (ps : Parts) (depth k j : ℕ) (t u : Tree) → j < k → t ≡ chosen j u → MeetsChoice rule k ps depth t → ⊥
 unfolding Reads parts_of Bytes fields_of Meets
 other_index rule none depth k j t u h e m = m
@@ -279,21 +283,21 @@ other_index rule (part presence s ps) depth k j t u h e (inl m) =
     let f = m.1 in let g : j ≡ k = cc in omega arith
 other_index rule (part presence s ps) depth k j t u h e (inr m) = other_index rule ps depth (suc k) j t u (omega arith) e m
 
-pub choice_back : (rule : Codec) (depth : ℕ) (ps : Parts) → EachTagged ps → EachBack rule depth ps → (k : ℕ) (t : Tree) (b : List ℕ)
+pub choice_back : (rule : Codec) (depth : ℕ) (ps : Parts) → EachTagged ps → AllRequired ps → EachBack rule depth ps → (k : ℕ) (t : Tree) (b : List ℕ)
     → MeetsChoice rule k ps depth t → WritesChoice k (fields_of rule ps) t b
-    → (u : Tree) × Same t u × ((rest : List ℕ) (closing : Bool) → ReadsChoice (form rule) k (parts_of rule ps depth closing) (b ++ rest) u rest)
+    → (u : Tree) × Same t u × ((rest : List ℕ) (closing : Bool) → ReadsChoice rule k (parts_of rule ps depth closing) (b ++ rest) u rest)
 unfolding Reads parts_of Bytes fields_of Meets
-choice_back rule depth none has back k t b m w = absurd m
-choice_back rule depth (part presence s ps) has back k t b (inl (u, e, m)) (inl (v, f, w)) =
+choice_back rule depth none has needed back k t b m w = absurd m
+choice_back rule depth (part presence s ps) has needed back k t b (inl (u, e, m)) (inl (v, f, w)) =
     let g : v ≡ u = cc in
     let r = back.1 u b m (subst (λ x. Bytes rule s x b) g w) in (
       chosen k r.0,
       subst (λ x. Same x (chosen k r.0)) (sym e) (r.0, refl, r.1),
       λ rest closing.
           let first = begins s back.0 has.0 rule depth closing (b ++ rest) r.0 rest (r.2 rest closing) in
-          inl (r.0, refl, first.0, first.1, first.2, r.2 rest closing),
+          inl (r.0, refl, first.0, first.1, first.2, r.2 rest closing, λ z. subst (λ p. IsNoDefault p r.0) (sym needed.0) tt),
     )
-choice_back rule depth (part presence s ps) has back k t b (inl (u, e, m)) (inr w) = absurd (other_written rule ps (suc k) k t u b (omega arith) e w)
-choice_back rule depth (part presence s ps) has back k t b (inr m) (inl (v, f, w)) = absurd (other_index rule ps depth (suc k) k t v (omega arith) f m)
-choice_back rule depth (part presence s ps) has back k t b (inr m) (inr w) =
-    let r = choice_back rule depth ps has.1 back.2 (suc k) t b m w in (r.0, r.1, λ rest closing. inr (r.2 rest closing))
+choice_back rule depth (part presence s ps) has needed back k t b (inl (u, e, m)) (inr w) = absurd (other_written rule ps (suc k) k t u b (omega arith) e w)
+choice_back rule depth (part presence s ps) has needed back k t b (inr m) (inl (v, f, w)) = absurd (other_index rule ps depth (suc k) k t v (omega arith) f m)
+choice_back rule depth (part presence s ps) has needed back k t b (inr m) (inr w) =
+    let r = choice_back rule depth ps has.1 needed.1 back.2 (suc k) t b m w in (r.0, r.1, λ rest closing. inr (r.2 rest closing))

@@ -1,15 +1,15 @@
 -- What CER or DER reads, BER reads.
-use Rattle.std.proofs.Common.{◌≡◌, ℕ, zero, suc, ◌-◌, ◌⊎◌, inl, inr, List, [], ◌∷◌, Bool, true, false, ℤ, Option, Some, None, refl, sym, subst}
-use Rattle.rasn_types.specs.Tags.{Form, ber_form, form, IsStrict}
+use Rattle.std.proofs.Common.{◌≡◌, ℕ, suc, ◌-◌, ◌⊎◌, inl, inr, List, [], ◌∷◌, Bool, true, false, ℤ, Option, Some, None, refl, sym, subst}
+use Rattle.rasn_types.specs.Tags.{Form, basic_form, form, IsStrict}
 use Rattle.rasn_types.specs.declared.types.rules.Codec.{Codec}
 use Rattle.rasn_types.specs.declared.types.rules.Codec.TheVariants.{Ber, Cer, Der}
 use Rattle.rasn_types.specs.declared.types.tag.Tag.{Tag}
 use Rattle.rasn_types.specs.Framing.{Frame, with_length, without_length, Extent, Next, Whole, plain, closed, Wholes, none, one_more}
-use Rattle.rasn_types.specs.Shapes.{Tree, absent, Kind, boolean, null, object_identifier, integer, enumerated, octet_string, fixed, numeric, printable, visible, ia5, any_octets, bmp, utf8, utc_time, generalized_time, date, Shape, leaf, any, prefix, choice, option, seq, set, list, set_of, Parts, part, own, Presence, required, optional, addition, default, IsSolid, AreSolid}
+use Rattle.rasn_types.specs.Shapes.{Tree, absent, Kind, boolean, null, object_identifier, integer, enumerated, octet_string, fixed, numeric, printable, visible, ia5, any_octets, bmp, utf8, utc_time, generalized_time, date, Shape, leaf, any, prefix, choice, option, seq, set, list, set_of, Parts, part, own, presences, Presence, required, optional, addition, default, IsSolid, AreSolid}
 use Rattle.rasn_types.specs.declared.types.constraints.Bound.{Bound}
-use Rattle.rasn_types.specs.Readers.{Reading, Inside, in_definite, in_indefinite, Many, IsLeftOut, IsThere, Perhaps, IsNoDefault, ReadsPart, InOrder, AllMissing, HasRequired, ReadsSeq, ReadsChoice, ByPart, ReadsSet}
-use Rattle.rasn_types.specs.Contents.{Str, ReadBits, OctetSegment, Contents, IsBool}
-use Rattle.rasn_types.specs.Grammar.{Reads, parts_of, top, Family, bit_family, text_family, family, ReadsIn, ReadsOpen, ReadsList, ReadsSetOf, Text}
+use Rattle.rasn_types.specs.Readers.{Reading, Inside, in_definite, in_indefinite, Many, IsLeftOut, IsThere, Perhaps, IsNoDefault, ReadsPart, InOrder, AllMissing, HasRequired, ReadsSeq, ReadsChoice, ReadsSet}
+use Rattle.rasn_types.specs.Contents.{Str, primitive, segments, closed_segments, Segments, ReadBits, OctetSegment, Contents, IsBool}
+use Rattle.rasn_types.specs.Grammar.{Reads, parts_of, top, Family, plain_family, bit_family, text_family, family, ReadsIn, ReadsOpen, ReadsList, ReadsSetOf, Text}
 use Rattle.rasn_types.specs.Lawful.{IsLawful, AreAlternatives}
 use Rattle.rasn.proofs.TimeTexts.{utc_in, generalized_in}
 use Rattle.rasn.proofs.Begins.{solid_closing, wider}
@@ -22,11 +22,11 @@ IsOptional s = (tag : Option Tag) × (u : Shape) × (s ≡ option tag u) × IsSo
 abbrev pub IsIn : {X : Type 0} → Reading X → Reading X → Type 0
 IsIn {X} reads wide = (input : List ℕ) (x : X) (rest : List ℕ) → reads input x rest → wide input x rest
 
-frame_ber : {rule : Form} {input rest : List ℕ} {s : Tag} {b : Bool} {m : Extent} → Frame rule input s b rest m → Frame ber_form input s b rest m
+frame_ber : {rule : Form} {input rest : List ℕ} {s : Tag} {b : Bool} {m : Extent} → Frame rule input s b rest m → Frame basic_form input s b rest m
 frame_ber (with_length id len c p q z e) = with_length id len c p q (λ h. absurd h) e
 frame_ber (without_length id p q r e) = without_length id p q tt e
 
-next_ber : {spelling : Form} {input : List ℕ} {tag : Tag} → Next spelling input tag → Next ber_form input tag
+next_ber : {spelling : Form} {input : List ℕ} {tag : Tag} → Next spelling input tag → Next basic_form input tag
 next_ber n = record { begins = n.begins; is_one = n.is_one; shortest = λ h. absurd h }
 
 mutual
@@ -47,17 +47,17 @@ pub many_in : {X : Type 0} (reads wide : Reading X) → IsIn reads wide → (clo
 many_in reads wide into closing input [] rest h = h
 many_in reads wide into closing input (x ∷ xs) rest (p, m, q, r) = (p, m, into input x m q, many_in reads wide into closing m xs rest r)
 
-left_out_ber : (spelling : Form) (tag : Option Tag) (closing : Bool) (input : List ℕ) → IsLeftOut spelling tag closing input → IsLeftOut ber_form tag closing input
+left_out_ber : (spelling : Form) (tag : Option Tag) (closing : Bool) (input : List ℕ) → IsLeftOut spelling tag closing input → IsLeftOut basic_form tag closing input
 left_out_ber spelling None closing input h = h
 left_out_ber spelling (Some tag) closing input (inl h) = inl h
 left_out_ber spelling (Some tag) closing input (inr (n, next, h)) = inr (n, next_ber next, h)
 
-there_ber : (spelling : Form) (tag : Option Tag) (closing : Bool) (input : List ℕ) → IsThere spelling tag closing input → IsThere ber_form tag closing input
+there_ber : (spelling : Form) (tag : Option Tag) (closing : Bool) (input : List ℕ) → IsThere spelling tag closing input → IsThere basic_form tag closing input
 there_ber spelling None closing input h = h
 there_ber spelling (Some tag) closing input h = (h.0, next_ber h.1)
 
 perhaps_in : {X : Type 0} (spelling : Form) (tag : Option Tag) (without : X) (reads wide : Reading X) → IsIn reads wide → (closing : Bool)
-    → IsIn (Perhaps spelling tag without reads closing) (Perhaps ber_form tag without wide closing)
+    → IsIn (Perhaps spelling tag without reads closing) (Perhaps basic_form tag without wide closing)
 perhaps_in spelling tag without reads wide into closing input x rest (inl (p, q, r)) = inl (left_out_ber spelling tag closing input p, q, r)
 perhaps_in spelling tag without reads wide into closing input x rest (inr (p, q)) = inr (there_ber spelling tag closing input p, into input x rest q)
 
@@ -91,21 +91,23 @@ text_in rule generalized_time l t h = generalized_in rule l t h
 text_in rule date l t h = h
 text_in rule kind l t h = absurd h
 
-str_in : {X : Type 0} (rule : Codec) (segment wide : List ℕ → List X → Type 0) → ((l : List ℕ) (xs : List X) → segment l xs → wide l xs) → (inner : Tag) (depth : ℕ) (tag : Tag)
-    → IsIn (Str rule segment inner depth tag) (Str Ber wide inner depth tag)
-str_in rule segment wide into inner zero tag input xs rest (c, f, h) = (c, frame_ber f, into c xs h)
-str_in rule segment wide into inner (suc depth) tag input xs rest (inl (c, f, h)) = inl (c, frame_ber f, into c xs h)
-str_in rule segment wide into inner (suc depth) tag input xs rest (inr (a, ls, e, h)) =
-    inr (
-      tt,
-      ls,
-      e,
-      inside_in (λ c. Many (Str rule segment inner depth inner) c) (λ c. Many (Str Ber wide inner depth inner) c)
-          (λ c. many_in (Str rule segment inner depth inner) (Str Ber wide inner depth inner) (str_in rule segment wide into inner depth inner) c) input ls rest h,
-    )
+mutual
+  str_in : {X : Type 0} (rule : Codec) (segment wide : List ℕ → List X → Type 0) → ((l : List ℕ) (xs : List X) → segment l xs → wide l xs) → (inner : Tag) (depth : ℕ) (tag : Tag)
+      → IsIn (Str rule segment inner depth tag) (Str Ber wide inner depth tag)
+  str_in rule segment wide into inner depth tag input xs rest (primitive c f s) = primitive c (frame_ber f) (into c xs s)
+  str_in rule segment wide into inner (suc depth) tag input xs rest (segments c has f m) =
+      segments c (λ s. s) (frame_ber f) (segments_in rule segment wide into inner depth false c xs [] m)
+  str_in rule segment wide into inner (suc depth) tag input xs rest (closed_segments body has f m) =
+      closed_segments body (λ s. s) (frame_ber f) (segments_in rule segment wide into inner depth true body xs (0 ∷ 0 ∷ rest) m)
+
+  segments_in : {X : Type 0} (rule : Codec) (segment wide : List ℕ → List X → Type 0) → ((l : List ℕ) (xs : List X) → segment l xs → wide l xs) → (inner : Tag) (depth : ℕ) (closing : Bool)
+      → IsIn (Segments rule segment inner depth closing) (Segments Ber wide inner depth closing)
+  segments_in rule segment wide into inner depth closing input xs rest (Segments.none e) = Segments.none e
+  segments_in rule segment wide into inner depth closing input xs rest (Segments.one_more first others middle n s more is) =
+      Segments.one_more first others middle n (str_in rule segment wide into inner depth inner input first middle s) (segments_in rule segment wide into inner depth closing middle others rest more) is
 
 in_in : (which : Family) (rule : Codec) (kind : Kind) (tag : Tag) (depth : ℕ) → IsIn (ReadsIn which rule kind tag depth) (ReadsIn which Ber kind tag depth)
-in_in Family.plain rule kind tag depth input t rest (b, c, f, h, z) = (b, c, frame_ber f, contents_in rule kind c t h, λ e. absurd e)
+in_in plain_family rule kind tag depth input t rest (b, c, f, h, z) = (b, c, frame_ber f, contents_in rule kind c t h, λ e. absurd e)
 in_in bit_family rule kind tag depth input t rest (bs, e, n, h) = (bs, e, n, str_in rule (ReadBits rule) (ReadBits Ber) (λ l xs s. (s.0, λ z. absurd z)) _ depth tag input bs rest h)
 in_in text_family rule kind tag depth input t rest (l, h, k) = (l, str_in rule OctetSegment OctetSegment (λ c xs s. s) _ depth tag input l rest h, text_in rule kind l t k)
 
@@ -145,13 +147,6 @@ unfolding Reads parts_of
 missing_same Parts.none rule other depth c ts h = h
 missing_same (part presence s ps) rule other depth c ts (t, us, e, h, k) = (t, us, e, h, missing_same ps rule other depth c us k)
 
-by_part_ber : (ps : Parts) (rule : Codec) (depth : ℕ) (c : Bool) (k : ℕ) (readings ts : List Tree)
-    → ByPart rule k (parts_of rule ps depth c) readings ts → ByPart Ber k (parts_of Ber ps depth c) readings ts
-unfolding Reads parts_of
-by_part_ber Parts.none rule depth c k readings ts h = h
-by_part_ber (part presence s ps) rule depth c k readings ts (t, us, e, inl (o, z), l) = (t, us, e, inl (o, (λ s. absurd s)), by_part_ber ps rule depth c (suc k) readings us l)
-by_part_ber (part presence s ps) rule depth c k readings ts (t, us, e, inr h, l) = (t, us, e, inr h, by_part_ber ps rule depth c (suc k) readings us l)
-
 seq_in : (ps : Parts) (rule : Codec) (depth : ℕ) (c : Bool) → EachIn rule depth c ps → (closing : Bool)
     → IsIn (ReadsSeq rule (parts_of rule ps depth c) closing) (ReadsSeq Ber (parts_of Ber ps depth c) closing)
 unfolding Reads parts_of
@@ -161,25 +156,18 @@ seq_in ps rule depth c into closing input t rest (ts, e, inr (a, m)) =
     (ts, e, inr ((λ b. a ((λ r. b.0 (required_same ps rule Ber depth c r)), b.1, b.2)), in_order_in ps rule depth c into closing input ts rest m))
 
 choice_in : (ps : Parts) (rule : Codec) (depth : ℕ) (c : Bool) → EachIn rule depth c ps → (k : ℕ)
-    → IsIn (ReadsChoice (form rule) k (parts_of rule ps depth c)) (ReadsChoice ber_form k (parts_of Ber ps depth c))
+    → IsIn (ReadsChoice rule k (parts_of rule ps depth c)) (ReadsChoice Ber k (parts_of Ber ps depth c))
 unfolding Reads parts_of
 choice_in Parts.none rule depth c into k input t rest h = h
-choice_in (part presence s ps) rule depth c into k input t rest (inl (u, e, n, p, f, h)) = inl (u, e, n, next_ber p, f, into.0 input u rest h)
+choice_in (part presence s ps) rule depth c into k input t rest (inl (u, e, n, p, f, h, z)) = inl (u, e, n, next_ber p, f, into.0 input u rest h, λ y. absurd y)
 choice_in (part presence s ps) rule depth c into k input t rest (inr h) = inr (choice_in ps rule depth c into.1 (suc k) input t rest h)
 
 set_in : (ps : Parts) (rule : Codec) (depth : ℕ) (c : Bool) → EachIn rule depth c ps → (closing : Bool)
-    → IsIn (ReadsSet rule (parts_of rule ps depth c) closing) (ReadsSet Ber (parts_of Ber ps depth c) closing)
-unfolding Reads parts_of
+    → IsIn (ReadsSet rule (presences ps) (ReadsChoice rule 0 (parts_of rule ps depth c)) closing) (ReadsSet Ber (presences ps) (ReadsChoice Ber 0 (parts_of Ber ps depth c)) closing)
 set_in ps rule depth c into closing input t rest (rs, ts, e, m, b, z) =
-    let reads = ReadsChoice (form rule) 0 (parts_of rule ps depth c) in
-    let wide = ReadsChoice ber_form 0 (parts_of Ber ps depth c) in (
-      rs,
-      ts,
-      e,
-      many_in reads wide (choice_in ps rule depth c into 0) closing input rs rest m,
-      by_part_ber ps rule depth c 0 rs ts b,
-      λ s. absurd s,
-    )
+    let reads = ReadsChoice rule 0 (parts_of rule ps depth c) in
+    let wide = ReadsChoice Ber 0 (parts_of Ber ps depth c) in
+    (rs, ts, e, many_in reads wide (choice_in ps rule depth c into 0) closing input rs rest m, b, λ s. absurd s)
 
 list_in : (size : Option (Bound ℕ)) (reads wide : Reading Tree) → IsIn reads wide → (closing : Bool) → IsIn (ReadsList size reads closing) (ReadsList size wide closing)
 list_in size reads wide into closing input t rest (ts, e, b, m) = (ts, e, b, many_in reads wide into closing input ts rest m)
@@ -205,7 +193,7 @@ mutual
   )
   reads_in (set tag ps) rule depth closing = λ input t rest h. (
     h.0,
-    inside_in (λ c. ReadsSet rule (parts_of rule ps (depth - 1) c) c) (λ c. ReadsSet Ber (parts_of Ber ps (depth - 1) c) c)
+    inside_in (λ c. ReadsSet rule (presences ps) (ReadsChoice rule 0 (parts_of rule ps (depth - 1) c)) c) (λ c. ReadsSet Ber (presences ps) (ReadsChoice Ber 0 (parts_of Ber ps (depth - 1) c)) c)
         (λ c. set_in ps rule (depth - 1) c (parts_in ps rule (depth - 1) c) c) input t rest h.1,
   )
   reads_in (list tag s size) rule depth closing = λ input t rest h. (
@@ -232,14 +220,14 @@ to_top s rule depth input t rest h (inr (tag, u, e, solid)) =
 alternatives_solid : (ps : Parts) → AreAlternatives ps → AreSolid ps
 unfolding IsLawful
 alternatives_solid Parts.none h = tt
-alternatives_solid (part presence s ps) h = (h.2, alternatives_solid ps h.5)
+alternatives_solid (part presence s ps) h = (h.2, alternatives_solid ps h.4)
 
 pub solid_of : (s : Shape) → IsLawful s → IsSolid s ⊎ IsOptional s
 unfolding IsLawful
 solid_of (leaf kind tag bounds) lawful = inl tt
 solid_of (any tag) lawful = inl tt
 solid_of (prefix tag s) lawful = inl tt
-solid_of (choice ps) lawful = inl (alternatives_solid ps lawful)
+solid_of (choice ps) lawful = inl (alternatives_solid ps lawful.0)
 solid_of (option tag s) lawful = inr (tag, s, refl, lawful.1)
 solid_of (seq tag ps) lawful = inl tt
 solid_of (set tag ps) lawful = inl tt

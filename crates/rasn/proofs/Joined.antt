@@ -5,7 +5,7 @@ use Rattle.rasn_types.specs.declared.types.rules.Codec.{Codec}
 use Rattle.rasn_types.specs.declared.types.tag.Tag.{Tag}
 use Rattle.rasn_types.specs.Framing.{Next}
 use Rattle.rasn_types.specs.Shapes.{Tree, items, chosen, absent, Presence, required, optional, addition, default}
-use Rattle.rasn_types.specs.Readers.{Reading, Inside, in_definite, in_indefinite, Many, IsNoDefault, Perhaps, Part, ReadsPart, InOrder, AllMissing, IsBare, ReadsSeq, ReadsChoice, ByPart, ReadsSet}
+use Rattle.rasn_types.specs.Readers.{Reading, Inside, in_definite, in_indefinite, Many, IsNoDefault, Perhaps, Part, ReadsPart, InOrder, AllMissing, AreAllLeftOut, ReadsSeq, ReadsChoice, ByPart, ReadsSet}
 use Rattle.rasn_types.proofs.Frames.{frame_one, next_one}
 use Rattle.rasn_de.proofs.Perhaps.{apart}
 use Rattle.rasn_de.proofs.Parted.{all_missing_one, by_part_one}
@@ -71,8 +71,8 @@ in_order_one rule (p ∷ ps) one closing input ts us rest other h k =
 pub seq_one : (rule : Codec) (ps : List Part) → EachPart ReadsOne ps → (closing : Bool) → IsOne (ReadsSeq rule ps closing)
 seq_one rule ps one closing input t u rest other h k = go h.2 k.2
   where
-    go : (IsBare ps closing input × AllMissing ps h.0 × (rest ≡ input)) ⊎ ((IsBare ps closing input → ⊥) × InOrder rule ps closing input h.0 rest)
-        → (IsBare ps closing input × AllMissing ps k.0 × (other ≡ input)) ⊎ ((IsBare ps closing input → ⊥) × InOrder rule ps closing input k.0 other)
+    go : (AreAllLeftOut ps closing input × AllMissing ps h.0 × (rest ≡ input)) ⊎ ((AreAllLeftOut ps closing input → ⊥) × InOrder rule ps closing input h.0 rest)
+        → (AreAllLeftOut ps closing input × AllMissing ps k.0 × (other ≡ input)) ⊎ ((AreAllLeftOut ps closing input → ⊥) × InOrder rule ps closing input k.0 other)
         → (t ≡ u) × (rest ≡ other)
     go (inl (a, b, c)) (inl (d, e, f)) = (h.1 ∙ (ap items (all_missing_one ps h.0 k.0 b e) ∙ sym k.1), c ∙ sym f)
     go (inl (a, b, c)) (inr (d, e)) = absurd (d a)
@@ -89,25 +89,25 @@ abbrev pub AreApart : List Part → Type 0
 AreApart [] = Unit {0}
 AreApart (p ∷ ps) = ((n : Tag) → p.IsFirst n → IsFirstIn ps n → ⊥) × AreApart ps
 
-choice_first : (spelling : Form) (ps : List Part) (k : ℕ) (input : List ℕ) (t : Tree) (rest : List ℕ) → ReadsChoice spelling k ps input t rest → (n : Tag) × Next spelling input n × IsFirstIn ps n
-choice_first spelling [] k input t rest h = absurd h
-choice_first spelling (p ∷ ps) k input t rest (inl h) = (h.2, h.3, inl h.4)
-choice_first spelling (p ∷ ps) k input t rest (inr h) = let r = choice_first spelling ps (suc k) input t rest h in (r.0, r.1, inr r.2)
+choice_first : (rule : Codec) (ps : List Part) (k : ℕ) (input : List ℕ) (t : Tree) (rest : List ℕ) → ReadsChoice rule k ps input t rest → (n : Tag) × Next (form rule) input n × IsFirstIn ps n
+choice_first rule [] k input t rest h = absurd h
+choice_first rule (p ∷ ps) k input t rest (inl h) = (h.2, h.3, inl h.4)
+choice_first rule (p ∷ ps) k input t rest (inr h) = let r = choice_first rule ps (suc k) input t rest h in (r.0, r.1, inr r.2)
 
-pub choice_one : (spelling : Form) (ps : List Part) → EachPart ReadsOne ps → AreApart ps → (k : ℕ) → IsOne (ReadsChoice spelling k ps)
-choice_one spelling [] one apart k input t u rest other h l = absurd h
-choice_one spelling (p ∷ ps) one apart k input t u rest other (inl h) (inl l) =
+pub choice_one : (rule : Codec) (ps : List Part) → EachPart ReadsOne ps → AreApart ps → (k : ℕ) → IsOne (ReadsChoice rule k ps)
+choice_one rule [] one apart k input t u rest other h l = absurd h
+choice_one rule (p ∷ ps) one apart k input t u rest other (inl h) (inl l) =
     let o = one.0 input h.0 l.0 rest other h.5 l.5 in (h.1 ∙ (ap (chosen k) o.0 ∙ sym l.1), o.1)
-choice_one spelling (p ∷ ps) one apart k input t u rest other (inl h) (inr l) =
-    let r = choice_first spelling ps (suc k) input u other l in
+choice_one rule (p ∷ ps) one apart k input t u rest other (inl h) (inr l) =
+    let r = choice_first rule ps (suc k) input u other l in
     absurd (apart.0 r.0 (subst p.IsFirst (next_one input h.2 r.0 h.3 r.1) h.4) r.2)
-choice_one spelling (p ∷ ps) one apart k input t u rest other (inr h) (inl l) =
-    let r = choice_first spelling ps (suc k) input t rest h in
+choice_one rule (p ∷ ps) one apart k input t u rest other (inr h) (inl l) =
+    let r = choice_first rule ps (suc k) input t rest h in
     absurd (apart.0 r.0 (subst p.IsFirst (next_one input l.2 r.0 l.3 r.1) l.4) r.2)
-choice_one spelling (p ∷ ps) one apart k input t u rest other (inr h) (inr l) = choice_one spelling ps one.1 apart.1 (suc k) input t u rest other h l
+choice_one rule (p ∷ ps) one apart k input t u rest other (inr h) (inr l) = choice_one rule ps one.1 apart.1 (suc k) input t u rest other h l
 
-pub set_one : (rule : Codec) (ps : List Part) → EachPart ReadsOne ps → AreApart ps → (closing : Bool) → IsOne (ReadsSet rule ps closing)
-set_one rule ps one apart closing input t u rest other h k =
-    let m = many_one (ReadsChoice (form rule) 0 ps) (choice_one (form rule) ps one apart 0) closing input h.0 k.0 rest other h.3 k.3 in
-    let b = by_part_one rule ps 0 k.0 h.1 k.1 (subst (λ r. ByPart rule 0 ps r h.1) m.0 h.4) k.4 in
+pub set_one : (rule : Codec) (ps : List Presence) (reads : Reading Tree) → IsOne reads → (closing : Bool) → IsOne (ReadsSet rule ps reads closing)
+set_one rule ps reads one closing input t u rest other h k =
+    let m = many_one reads one closing input h.0 k.0 rest other h.3 k.3 in
+    let b = by_part_one ps 0 k.0 h.1 k.1 (subst (λ r. ByPart 0 ps r h.1) m.0 h.4) k.4 in
     (h.2 ∙ (ap items b ∙ sym k.2), m.1)

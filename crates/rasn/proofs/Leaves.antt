@@ -1,19 +1,18 @@
 -- A leaf is read in one way.
-use Rattle.std.proofs.Common.{◌≡◌, ℕ, zero, suc, ◌+◌, inl, inr, List, [], ◌∷◌, ◌++◌, length, Bool, true, false, ℤ, map, sym, ap, ◌∙◌, subst, arith, length-append}
-use Rattle.rasn_types.specs.Tags.{form}
+use Rattle.std.proofs.Common.{◌≡◌, ℕ, suc, ◌+◌, inl, inr, List, [], ◌∷◌, ◌++◌, length, Bool, true, false, ℤ, map, refl, sym, ap, ap₂, ◌∙◌, subst, arith, length-append}
+use Rattle.rasn_types.specs.Tags.{Form, form}
 use Rattle.rasn_types.specs.declared.types.rules.Codec.{Codec}
 use Rattle.rasn_types.specs.declared.types.rules.Codec.TheVariants.{Ber, Cer, Der}
 use Rattle.rasn_types.specs.declared.types.tag.Tag.{Tag}
-use Rattle.rasn_types.specs.Framing.{definite, Frame, number_in}
+use Rattle.rasn_types.specs.Framing.{Extent, definite, indefinite, Frame, number_in}
 use Rattle.rasn_types.specs.Shapes.{Tree, number, bits, numbers, Kind, boolean, null, object_identifier, octet_string, integer, enumerated, fixed, numeric, printable, visible, ia5, any_octets, bmp, utf8, utc_time, generalized_time, date}
 use Rattle.rasn_types.specs.declared.types.constraints.Constraints.{Constraints}
-use Rattle.rasn_types.specs.Readers.{Reading, Inside, in_definite, in_indefinite, Many}
-use Rattle.rasn_types.specs.Contents.{IsBool, Contents, bits_of, joined_lists, BitSegment, ReadBits, OctetSegment, Str}
-use Rattle.rasn_types.specs.Grammar.{Text, units, Family, plain, bit_family, text_family, family, ReadsIn, ReadsLeaf}
+use Rattle.rasn_types.specs.Contents.{IsBool, Contents, bits_of, joined_lists, BitSegment, ReadBits, OctetSegment, Str, primitive, segments, closed_segments, Segments}
+use Rattle.rasn_types.specs.Grammar.{Text, units, Family, plain_family, bit_family, text_family, family, ReadsIn, ReadsLeaf}
 use Rattle.rasn_types.proofs.Frames.{frame_one, split_one}
 use Rattle.rasn_de.proofs.Arcs.{identifier_one}
 use Rattle.rasn.proofs.TimeTexts.{utc_one, generalized_one, date_one}
-use Rattle.rasn.proofs.Joined.{IsOne, inside_one, many_one}
+use Rattle.rasn.proofs.Joined.{IsOne}
 
 bool_one : (rule : Codec) (l : List ℕ) (y z : ℤ) → IsBool rule l y → IsBool rule l z → y ≡ z
 bool_one Ber l y z (b, p, inl q) (c, r, inl s) = let e = q.1 in let f = s.1 in cc
@@ -66,10 +65,11 @@ segment_one l a b h k =
     let n : length a + length h.unused ≡ length b + length k.unused = sym (length-append a h.unused) ∙ (ap length g ∙ length-append b k.unused) in
     (split_one a b h.unused k.unused (omega arith) g).0
 
-primitive_built : {rule : Codec} {X : Type 0} {inner : Bool → Reading X} {input r s c : List ℕ} {t u : Tag} {x : X}
-    → Frame (form rule) input t false r (definite c) → Inside rule u true inner input x s → ⊥
-primitive_built f (in_definite c g h) = let e = (frame_one _ f g).bit in cc
-primitive_built f (in_indefinite c g h) = let e = (frame_one _ f g).bit in cc
+primitive_built : {spelling other : Form} {input r s c : List ℕ} {t u : Tag} {x : Extent} → Frame spelling input t false r (definite c) → Frame other input u true s x → ⊥
+primitive_built f g = let e = (frame_one _ f g).bit in cc
+
+definite_closed : {spelling other : Form} {input r s c : List ℕ} {t u : Tag} {b d : Bool} → Frame spelling input t b r (definite c) → Frame other input u d s indefinite → ⊥
+definite_closed f g = let e = (frame_one _ f g).extent in cc
 
 primitive_one : {X : Type 0} (rule : Codec) (segment : List ℕ → List X → Type 0) → ((l : List ℕ) (a b : List X) → segment l a → segment l b → a ≡ b)
     → (t u : Tag) (input : List ℕ) (a b : List X) (r s : List ℕ)
@@ -81,19 +81,41 @@ primitive_one rule segment one t u input a b r s h k =
     let f : h.0 ≡ k.0 = cc in
     (one k.0 a b (subst (λ l. segment l a) f h.2) k.2, o.rest)
 
-pub str_one : {X : Type 0} (rule : Codec) (segment : List ℕ → List X → Type 0) → ((l : List ℕ) (a b : List X) → segment l a → segment l b → a ≡ b)
-    → (inner : Tag) (depth : ℕ) (tag : Tag) → IsOne (Str rule segment inner depth tag)
-str_one rule segment one inner zero tag input a b r s h k = primitive_one rule segment one tag tag input a b r s h k
-str_one rule segment one inner (suc depth) tag input a b r s (inl h) (inl k) = primitive_one rule segment one tag tag input a b r s h k
-str_one rule segment one inner (suc depth) tag input a b r s (inl h) (inr k) = absurd (primitive_built h.1 k.3)
-str_one rule segment one inner (suc depth) tag input a b r s (inr h) (inl k) = absurd (primitive_built k.1 h.3)
-str_one rule segment one inner (suc depth) tag input a b r s (inr h) (inr k) =
-    let o = inside_one (λ closing. Many (Str rule segment inner depth inner) closing)
-    (λ c. many_one (Str rule segment inner depth inner) (str_one rule segment one inner depth inner) c) input h.1 k.1 r s h.3 k.3 in
-    (h.2 ∙ (ap joined_lists o.0 ∙ sym k.2), o.1)
+zeros_one : (r s : List ℕ) → 0 ∷ 0 ∷ r ≡ 0 ∷ 0 ∷ s → r ≡ s
+zeros_one r s e = cc
+
+mutual
+  pub str_one : {X : Type 0} (rule : Codec) (segment : List ℕ → List X → Type 0) → ((l : List ℕ) (a b : List X) → segment l a → segment l b → a ≡ b)
+      → (inner : Tag) (depth : ℕ) (tag : Tag) → IsOne (Str rule segment inner depth tag)
+  str_one rule segment one inner depth tag input a b r s (primitive c f p) (primitive d g q) = primitive_one rule segment one tag tag input a b r s (c, f, p) (d, g, q)
+  str_one rule segment one inner depth tag input a b r s (primitive c f p) (segments d has g m) = absurd (primitive_built f g)
+  str_one rule segment one inner depth tag input a b r s (primitive c f p) (closed_segments d has g m) = absurd (primitive_built f g)
+  str_one rule segment one inner depth tag input a b r s (segments c has f m) (primitive d g q) = absurd (primitive_built g f)
+  str_one rule segment one inner depth tag input a b r s (closed_segments c has f m) (primitive d g q) = absurd (primitive_built g f)
+  str_one rule segment one inner (suc depth) tag input a b r s (segments c has f m) (segments d too g n) =
+      let o = frame_one input f g in
+      let e = o.extent in
+      let k : c ≡ d = cc in
+      ((segments_one rule segment one inner depth false d a b [] [] (subst (λ l. Segments rule segment inner depth false l a []) k m) n).0, o.rest)
+  str_one rule segment one inner depth tag input a b r s (segments c has f m) (closed_segments d too g n) = absurd (definite_closed f g)
+  str_one rule segment one inner depth tag input a b r s (closed_segments c has f m) (segments d too g n) = absurd (definite_closed g f)
+  str_one rule segment one inner (suc depth) tag input a b r s (closed_segments c has f m) (closed_segments d too g n) =
+      let k = (frame_one input f g).rest in
+      let o = segments_one rule segment one inner depth true d a b (0 ∷ 0 ∷ r) (0 ∷ 0 ∷ s) (subst (λ l. Segments rule segment inner depth true l a (0 ∷ 0 ∷ r)) k m) n in
+      (o.0, zeros_one r s o.1)
+
+  segments_one : {X : Type 0} (rule : Codec) (segment : List ℕ → List X → Type 0) → ((l : List ℕ) (a b : List X) → segment l a → segment l b → a ≡ b)
+      → (inner : Tag) (depth : ℕ) (closing : Bool) → IsOne (Segments rule segment inner depth closing)
+  segments_one rule segment one inner depth closing input a b r s (Segments.none e) (Segments.none f) = (refl, refl)
+  segments_one rule segment one inner depth closing input a b r s (Segments.none e) (Segments.one_more first others middle n h more is) = absurd (n e)
+  segments_one rule segment one inner depth closing input a b r s (Segments.one_more first others middle n h more is) (Segments.none e) = absurd (n e)
+  segments_one rule segment one inner depth closing input a b r s (Segments.one_more x xs l n h more is) (Segments.one_more y ys m o k others are) =
+      let p = str_one rule segment one inner depth inner input x y l m h k in
+      let q = segments_one rule segment one inner depth closing m xs ys r s (subst (λ i. Segments rule segment inner depth closing i xs r) p.1 more) others in
+      (is ∙ (ap₂ (λ v w. v ++ w) p.0 q.0 ∙ sym are), q.1)
 
 reads_in_one : (which : Family) (rule : Codec) (kind : Kind) (tag : Tag) (depth : ℕ) → IsOne (ReadsIn which rule kind tag depth)
-reads_in_one plain rule kind tag depth input t u r s h k =
+reads_in_one plain_family rule kind tag depth input t u r s h k =
     let o = frame_one input h.2 k.2 in
     let e = o.extent in
     let f : h.1 ≡ k.1 = cc in

@@ -1,3 +1,4 @@
+pub mod AllCarried
 pub mod Back
 pub mod Begins
 pub mod Components
@@ -26,7 +27,9 @@ pub mod Worked
 pub mod WorkedCuts
 pub mod WorkedDepths
 pub mod WorkedFractions
+pub mod WorkedHeaders
 pub mod WorkedLenient
+pub mod WorkedNested
 pub mod WorkedOpens
 pub mod WorkedParts
 pub mod WorkedSets

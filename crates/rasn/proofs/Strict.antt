@@ -1,6 +1,6 @@
 -- What DER reads of a carried tree is what is written of it.
 use Rattle.std.proofs.Common.{◌≡◌, ℕ, suc, ◌-◌, ◌≢◌, inl, inr, List, [], ◌∷◌, ◌++◌, Bool, true, false, Option, Some, None, refl, sym, ap, ◌∙◌, subst, append-nil}
-use Rattle.rasn_types.specs.Tags.{der_form, loose_form}
+use Rattle.rasn_types.specs.Tags.{loose_form}
 use Rattle.rasn_types.specs.declared.types.rules.Codec.TheVariants.{Der}
 use Rattle.rasn_types.specs.declared.types.tag.Tag.{Tag}
 use Rattle.rasn_types.specs.Framing.{AreOctets, Frame, definite}
@@ -9,7 +9,7 @@ use Rattle.rasn_types.specs.declared.types.constraints.Bound.{Bound}
 use Rattle.rasn_types.specs.Shapes.Parts.{none}
 use Rattle.rasn_types.specs.Readers.{Inside, in_definite, in_indefinite, Reading, ReadsChoice}
 use Rattle.rasn_types.specs.Contents.{Contents, joined_lists}
-use Rattle.rasn_types.specs.Grammar.{Reads, parts_of, Family, plain, bit_family, text_family, family, ReadsIn, Text}
+use Rattle.rasn_types.specs.Grammar.{Reads, parts_of, Family, plain_family, bit_family, text_family, family, ReadsIn, Text}
 use Rattle.rasn_types.specs.Bytes.{Definite, Each, PartsWritten, Bytes, fields_of}
 use Rattle.rasn_types.specs.Carried.{Meets, MeetsParts, EachOf}
 use Rattle.rasn_types.specs.Lawful.{IsLawful, AreLawfulByTag}
@@ -130,11 +130,11 @@ text_there date l t h e = let f = h.1 in cc
 text_there kind l t h e = h
 
 in_there : (which : Family) (kind : Kind) (tag : Tag) (depth : ℕ) (input : List ℕ) (t : Tree) (rest : List ℕ) → ReadsIn which Der kind tag depth input t rest → t ≢ absent
-in_there plain kind tag depth input t rest h e = contents_there kind h.1 t h.3 e
+in_there plain_family kind tag depth input t rest h e = contents_there kind h.1 t h.3 e
 in_there bit_family kind tag depth input t rest h e = let f = h.1 in cc
 in_there text_family kind tag depth input t rest h e = text_there kind h.0 t h.2 e
 
-choice_there : (ps : Parts) (depth k : ℕ) (c : Bool) (input : List ℕ) (t : Tree) (rest : List ℕ) → ReadsChoice der_form k (parts_of Der ps depth c) input t rest → t ≢ absent
+choice_there : (ps : Parts) (depth k : ℕ) (c : Bool) (input : List ℕ) (t : Tree) (rest : List ℕ) → ReadsChoice Der k (parts_of Der ps depth c) input t rest → t ≢ absent
 unfolding Reads parts_of
 choice_there none depth k c input t rest h e = h
 choice_there (part presence s ps) depth k c input t rest (inl h) e = let f = h.1 in cc
@@ -171,7 +171,7 @@ mutual
   all_told (any None) lawful depth = any_told depth
   all_told (any (Some tag)) lawful depth = open_told tag depth
   all_told (prefix tag s) lawful depth = prefix_told tag s depth (all_told s lawful.2 (depth - 1))
-  all_told (choice ps) lawful depth = λ closing input t rest b o h w m. choice_told ps depth (each_told ps (alternatives_good ps lawful) depth) 0 closing input t rest b o h w m
+  all_told (choice ps) lawful depth = λ closing input t rest b o h w m. choice_told ps depth (each_told ps (alternatives_good ps lawful.0) depth) 0 closing input t rest b o h w m
   all_told (option tag s) lawful depth = option_told tag s depth (record { told = all_told s lawful.2 depth; there = there s lawful.1 lawful.2 depth; back = back s lawful.1 lawful.2 Der depth })
   all_told (seq tag ps) lawful depth = in_seq_told tag ps depth (each_told ps (in_order_good ps lawful.1) (depth - 1))
   all_told (set tag ps) lawful depth = in_set_told tag ps depth lawful.1 (each_told ps (by_tag_good ps lawful.1) (depth - 1))

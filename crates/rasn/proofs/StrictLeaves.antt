@@ -1,12 +1,12 @@
 -- A leaf that DER reads stands as it is written.
-use Rattle.std.proofs.Common.{◌≡◌, ℕ, zero, suc, inl, inr, List, ◌++◌, Bool, false, refl, sym, ap, ◌∙◌, subst, append_assoc}
+use Rattle.std.proofs.Common.{◌≡◌, ℕ, inl, List, ◌++◌, Bool, false, refl, sym, ap, ◌∙◌, subst, append_assoc}
 use Rattle.rasn_types.specs.Tags.{der_form, in_universal}
 use Rattle.rasn_types.specs.declared.types.rules.Codec.TheVariants.{Der}
 use Rattle.rasn_types.specs.declared.types.tag.Tag.{Tag}
 use Rattle.rasn_types.specs.Framing.{Frame, with_length, without_length, definite, indefinite, AreOctets}
 use Rattle.rasn_types.specs.Shapes.{Tree, Kind, octet_string, fixed, numeric, printable, visible, ia5, any_octets, bmp, utf8, utc_time, generalized_time, date}
-use Rattle.rasn_types.specs.Contents.{Str, ReadBits, OctetSegment}
-use Rattle.rasn_types.specs.Grammar.{Family, plain, bit_family, text_family, family, ReadsIn, Text}
+use Rattle.rasn_types.specs.Contents.{Str, primitive, segments, closed_segments, ReadBits, OctetSegment}
+use Rattle.rasn_types.specs.Grammar.{Family, plain_family, bit_family, text_family, family, ReadsIn, Text}
 use Rattle.rasn_types.specs.Bytes.{Definite, WritesIn, WritesText}
 use Rattle.rasn_types.specs.Lawful.{IsBitFree}
 use Rattle.rasn_types.proofs.Digits.{front_octets}
@@ -58,13 +58,13 @@ text_written kind l t h = absurd h
 -- Under DER a string is in one piece.
 str_whole : {X : Type 0} (segment : List ℕ → List X → Type 0) (inner : Tag) (depth : ℕ) (tag : Tag) (input : List ℕ) (xs : List X) (rest : List ℕ)
     → Str Der segment inner depth tag input xs rest → (contents : List ℕ) × Frame der_form input tag false rest (definite contents) × segment contents xs
-str_whole segment inner zero tag input xs rest h = h
-str_whole segment inner (suc depth) tag input xs rest (inl h) = h
-str_whole segment inner (suc depth) tag input xs rest (inr h) = absurd h.0
+str_whole segment inner depth tag input xs rest (primitive c f s) = (c, f, s)
+str_whole segment inner depth tag input xs rest (segments c has f m) = absurd (has tt)
+str_whole segment inner depth tag input xs rest (closed_segments c has f m) = absurd (has tt)
 
 pub in_told : (which : Family) (kind : Kind) (tag : Tag) → IsBitFree which tag → (depth : ℕ) (input : List ℕ) (t : Tree) (rest : List ℕ) → AreOctets input
     → ReadsIn which Der kind tag depth input t rest → (text : List ℕ) × WritesIn which Der kind tag t text × (input ≡ text ++ rest)
-in_told plain kind tag free depth input t rest o (bit, c, f, h, z) =
+in_told plain_family kind tag free depth input t rest o (bit, c, f, h, z) =
     let s = z tt in
     let w = framed o f in
     (w.text, (c, record { is = h; octets = w.octets; shortest = s.1 }, subst (λ b. Definite tag b c w.text) s.0 w.is), w.input_is)

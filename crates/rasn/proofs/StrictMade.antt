@@ -1,18 +1,18 @@
 -- What DER reads of a tree that owes no more is written of it: its octets need not be given.
 use Rattle.std.proofs.Common.{◌≡◌, ℕ, suc, ◌-◌, ◌≤◌, inl, inr, List, [], ◌∷◌, ◌++◌, length, Bool, true, false, Option, Some, None, refl, sym, ap, ◌∙◌, subst, arith, append_assoc, append-nil}
 use Rattle.std.proofs.lemmas.List.{append_cancel_right}
-use Rattle.rasn_types.specs.Tags.{der_form, loose_form, IsTagBelow}
+use Rattle.rasn_types.specs.Tags.{loose_form, IsTagBelow}
 use Rattle.rasn_types.specs.declared.types.rules.Codec.TheVariants.{Der}
 use Rattle.rasn_types.specs.declared.types.tag.Tag.{Tag}
 use Rattle.rasn_types.specs.Framing.{AreOctets, AnyIdSpells, Begins, Frame, definite}
-use Rattle.rasn_types.specs.Shapes.{Tree, items, walk, chosen, Admits, Shape, leaf, any, prefix, choice, option, seq, set, list, set_of, Parts, part, own, IsFirst, IsFirstOf, Presence, required, optional, addition, default, IsSolid}
+use Rattle.rasn_types.specs.Shapes.{Tree, items, walk, chosen, Admits, Shape, leaf, any, prefix, choice, option, seq, set, list, set_of, Parts, part, own, IsFirst, IsFirstOf, Presence, presences, required, optional, addition, default, IsSolid}
 use Rattle.rasn_types.specs.declared.types.constraints.Bound.{Bound}
 use Rattle.rasn_types.specs.Shapes.Parts.{none}
 use Rattle.rasn_types.specs.Readers.{Reading, Inside, in_definite, in_indefinite, Many, ReadFrom, IsNoDefault, ReadsPart, InOrder, IsMissing, AllMissing, ReadsChoice, NoneOf, OneOf, ByPart}
 use Rattle.rasn_types.specs.Order.{Each, IsLess, DoNotFall}
 use Rattle.rasn_types.specs.Contents.{joined_lists}
 use Rattle.rasn_types.specs.Grammar.{Reads, parts_of, family}
-use Rattle.rasn_types.specs.Bytes.{Same, Definite, WritesPart, PartsWritten, WritesChoice, TagsOf, NoneBare, IsBare, IsBareIn, Bytes, fields_of}
+use Rattle.rasn_types.specs.Bytes.{Same, Definite, WritesPart, PartsWritten, WritesChoice, TagsOf, NoneUntaggedOpen, IsUntaggedOpen, IsUntaggedOpenIn, Bytes, fields_of}
 use Rattle.rasn_types.specs.Carried.{EachOf}
 use Rattle.rasn_types.specs.Lawful.{HasTag, IsLawful, AreAlternatives, AreLawfulByTag}
 use Rattle.rasn_types.proofs.Frames.{frame_next, not_ended}
@@ -33,7 +33,7 @@ IsMade s depth = (closing : Bool) (input : List ℕ) (t : Tree) (rest : List ℕ
 pub record Made (s : Shape) (depth : ℕ) : Type 0 where
   pub made : IsMade s depth
   pub there : IsNeverAbsent s depth
-  pub not_bare : HasTag s → (t : Tree) → IsBare s t → ⊥
+  pub not_bare : HasTag s → (t : Tree) → IsUntaggedOpen s t → ⊥
 
 abbrev pub EachMade : ℕ → Parts → Type 0
 EachMade depth none = Unit {0}
@@ -94,14 +94,14 @@ all_missing_made (part presence s ps) depth c ts (t, us, e, h, hs) (t', us', e',
     ([] ∷ r.0, (t, us, [], r.0, e, refl, missing_made s depth presence t h (subst (PartOwes presence (Owes s depth)) p m), r.1), r.2)
 
 choice_made : (ps : Parts) (depth : ℕ) → EachMade depth ps → (k : ℕ) (c : Bool) (input : List ℕ) (t : Tree) (rest : List ℕ) → AreOctets input
-    → ReadsChoice der_form k (parts_of Der ps depth c) input t rest → OwesChoice k ps depth t → (b : List ℕ) × WritesChoice k (fields_of Der ps) t b × (input ≡ b ++ rest)
+    → ReadsChoice Der k (parts_of Der ps depth c) input t rest → OwesChoice k ps depth t → (b : List ℕ) × WritesChoice k (fields_of Der ps) t b × (input ≡ b ++ rest)
 unfolding Reads parts_of Bytes fields_of Owes
 choice_made none depth made k c input t rest o h m = absurd h
-choice_made (part presence s ps) depth made k c input t rest o (inl (u, e, n, next, f, h)) (inl (x, i, m)) =
+choice_made (part presence s ps) depth made k c input t rest o (inl (u, e, n, next, f, h, z)) (inl (x, i, m)) =
     let q : x ≡ u = cc in
     let r = made.0.made c input u rest o h (subst (Owes s depth) q m) in
     (r.0, inl (u, e, r.1), r.2)
-choice_made (part presence s ps) depth made k c input t rest o (inl (u, e, n, next, f, h)) (inr m) = absurd (other_owed ps depth (suc k) k t u (omega arith) e m)
+choice_made (part presence s ps) depth made k c input t rest o (inl (u, e, n, next, f, h, z)) (inr m) = absurd (other_owed ps depth (suc k) k t u (omega arith) e m)
 choice_made (part presence s ps) depth made k c input t rest o (inr h) (inl m) = absurd (other_read ps depth (suc k) k c input t m.0 rest (omega arith) m.1 h)
 choice_made (part presence s ps) depth made k c input t rest o (inr h) (inr m) = let r = choice_made ps depth made.1 (suc k) c input t rest o h m in (r.0, inr r.1, r.2)
 
@@ -136,39 +136,39 @@ tags_cons [] cs tags ms m e h t = absurd (begins_some m h)
 tags_cons (x ∷ b) cs tags ms m e h t = (m, ms, e, h, t)
 
 abbrev pub SetMade : Parts → List ℕ → List Tree → List ℕ → List Tag → Type 0
-SetMade ps input ts rest tags = (bs : List (List ℕ)) × PartsWritten (fields_of Der ps) ts bs × NoneBare (fields_of Der ps) ts bs × TagsOf bs tags × (input ≡ joined_lists bs ++ rest)
+SetMade ps input ts rest tags = (bs : List (List ℕ)) × PartsWritten (fields_of Der ps) ts bs × NoneUntaggedOpen (fields_of Der ps) ts bs × TagsOf bs tags × (input ≡ joined_lists bs ++ rest)
 
 abbrev pub IsSetMade : Parts → ℕ → Type 0
 IsSetMade ps depth = (k : ℕ) (c : Bool) (input : List ℕ) (rs : List Tree) (rest : List ℕ) (os : List (List ℕ)) (tags : List Tag) (ts : List Tree) → AreOctets input
-    → ReadFrom (Components ps depth k c) input rs rest os → ByPart Der k (parts_of Der ps depth c) rs ts → Each Begins os tags → DoNotFall IsTagBelow tags
+    → ReadFrom (Components ps depth k c) input rs rest os → ByPart k (presences ps) rs ts → Each Begins os tags → DoNotFall IsTagBelow tags
     → OwesParts ps depth ts → SetMade ps input ts rest tags
 
 first_made : (presence : Presence) (s : Shape) (ps : Parts) (depth : ℕ) → EachMade depth (part presence s ps) → HasTag s → ((m n : Tag) → IsFirst s m → IsFirstOf ps n → IsTagBelow m n)
     → IsSetMade ps depth → (k : ℕ) (c : Bool) (input : List ℕ) (rs : List Tree) (rest : List ℕ) (os : List (List ℕ)) (tags : List Tag) (ts : List Tree) (t : Tree) (us : List Tree) → ts ≡ t ∷ us → AreOctets input
-    → ReadFrom (Components (part presence s ps) depth k c) input rs rest os → OneOf k t rs → IsNoDefault presence t
-    → ByPart Der (suc k) (parts_of Der ps depth c) rs us → Each Begins os tags → DoNotFall IsTagBelow tags → PartOwes presence (Owes s depth) t → OwesParts ps depth us
+    → ReadFrom (Components (part presence s ps) depth k c) input rs rest os → OneOf k t rs
+    → ByPart (suc k) (presences ps) rs us → Each Begins os tags → DoNotFall IsTagBelow tags → PartOwes presence (Owes s depth) t → OwesParts ps depth us
     → SetMade (part presence s ps) input ts rest tags
 unfolding Reads parts_of Bytes fields_of Owes
-first_made presence s ps depth made has below more k c input rs rest os tags ts t us ets octets h o differs by starts order m ms = go o.before rs h o.is o.none_before by
+first_made presence s ps depth made has below more k c input rs rest os tags ts t us ets octets h o by starts order m ms = go o.before rs h o.is o.none_before by
   where
     go : (before : List Tree) (rs : List Tree) → ReadFrom (Components (part presence s ps) depth k c) input rs rest os → rs ≡ before ++ (chosen k t ∷ o.after) → NoneOf k before
-        → ByPart Der (suc k) (parts_of Der ps depth c) rs us → SetMade (part presence s ps) input ts rest tags
+        → ByPart (suc k) (presences ps) rs us → SetMade (part presence s ps) input ts rest tags
     go (x ∷ before) rs h e f by = absurd (first_comes presence s ps depth k c below input rs rest os tags x before o.after t h starts order e f)
     go [] [] h e f by = cc
     go [] (x ∷ rs) (a, az, middle, g, i, inr h, hs) e f by = let v : x ≡ chosen k t = cc in absurd (other_read ps depth (suc k) k c input x t middle (omega arith) v h)
-    go [] (x ∷ rs) (a, az, middle, g, i, inl (u, y, n, next, first, h), hs) e f by =
+    go [] (x ∷ rs) (a, az, middle, g, i, inl (u, y, n, next, first, h, differs), hs) e f by =
         let z : u ≡ t = cc in
         let v : x ≡ chosen k t = cc in
         let l : rs ≡ o.after = cc in
-        let w = coming_made s depth made.0 presence c input t middle octets (subst (λ q. Reads Der s depth c input q middle) z h) differs m in
+        let w = coming_made s depth made.0 presence c input t middle octets (subst (λ q. Reads Der s depth c input q middle) z h) (subst (IsNoDefault presence) z (differs tt)) m in
         let p : a ≡ w.0 = append_cancel_right a w.0 middle (sym i ∙ w.2) in
         let q : Each Begins (a ∷ az) tags = subst (λ l. Each Begins l tags) g starts in
         let r = more (suc k) c middle rs rest az q.1 us (tail_octets input a middle i octets) (behind presence s ps depth k c below middle rs rest az hs (subst (NoneOf k) (sym l) o.none_after))
-        (by_part_less ps depth c (suc k) k t rs us (omega arith) (subst (λ q. ByPart Der (suc k) (parts_of Der ps depth c) (q ∷ rs) us) v by))
+        (by_part_less (presences ps) (suc k) k t rs us (omega arith) (subst (λ q. ByPart (suc k) (presences ps) (q ∷ rs) us) v by))
         q.4 (fewer q.0 q.1 (subst (DoNotFall IsTagBelow) q.2 order)) ms in (
           w.0 ∷ r.0,
           (t, us, w.0, r.0, ets, refl, w.1, r.1),
-          subst (λ l. NoneBare (fields_of Der (part presence s ps)) l (w.0 ∷ r.0)) (sym ets) ((λ b. absurd (made.0.not_bare has t b)), r.2),
+          subst (λ l. NoneUntaggedOpen (fields_of Der (part presence s ps)) l (w.0 ∷ r.0)) (sym ets) ((λ b. absurd (made.0.not_bare has t b)), r.2),
           tags_cons w.0 r.0 tags q.1 q.0 q.2 (subst (λ l. Begins l q.0) p q.3) r.3,
           w.2 ∙ (ap (λ l. w.0 ++ l) r.4 ∙ sym (append_assoc w.0 (joined_lists r.0) rest)),
         )
@@ -178,10 +178,10 @@ unfolding Reads parts_of Bytes fields_of Owes AreLawfulByTag
 set_made none depth lawful made k c input [] rest os tags ts o h by starts order m =
     ([], (by, refl), tt, subst (λ l. Each Begins l tags) h.0 starts, sym h.1)
 set_made none depth lawful made k c input (x ∷ rs) rest os tags ts o h by starts order m = absurd h.5
-set_made (part presence s ps) depth lawful made k c input rs rest os tags ts o h (t, us, e, inl (y, z), by) starts order (t', us', e', m, ms) =
+set_made (part presence s ps) depth lawful made k c input rs rest os tags ts o h (t, us, e, inl y, by) starts order (t', us', e', m, ms) =
     let p : t' ≡ t = let x : t' ∷ us' ≡ t ∷ us = sym e' ∙ e in cc in
     let q : us' ≡ us = let x : t' ∷ us' ≡ t ∷ us = sym e' ∙ e in cc in
-    first_made presence s ps depth made lawful.1 lawful.4 (set_made ps depth lawful.5 made.1) k c input rs rest os tags ts t us e o h y (z tt) by starts order
+    first_made presence s ps depth made lawful.1 lawful.4 (set_made ps depth lawful.5 made.1) k c input rs rest os tags ts t us e o h y by starts order
     (subst (PartOwes presence (Owes s depth)) p m) (subst (OwesParts ps depth) q ms)
 set_made (part presence s ps) depth lawful made k c input rs rest os tags ts o h (t, us, e, inr (y, z), by) starts order (t', us', e', m, ms) =
     let p : t' ≡ t = let x : t' ∷ us' ≡ t ∷ us = sym e' ∙ e in cc in
@@ -189,7 +189,7 @@ set_made (part presence s ps) depth lawful made k c input rs rest os tags ts o h
     let r = set_made ps depth lawful.5 made.1 (suc k) c input rs rest os tags us o (behind presence s ps depth k c lawful.4 input rs rest os h y) by starts order (subst (OwesParts ps depth) q ms) in (
       [] ∷ r.0,
       (t, us, [], r.0, e, refl, missing_made s depth presence t z (subst (PartOwes presence (Owes s depth)) p m), r.1),
-      subst (λ l. NoneBare (fields_of Der (part presence s ps)) l ([] ∷ r.0)) (sym e) ((λ b. refl), r.2),
+      subst (λ l. NoneUntaggedOpen (fields_of Der (part presence s ps)) l ([] ∷ r.0)) (sym e) ((λ b. refl), r.2),
       r.3,
       r.4,
     )
@@ -236,7 +236,7 @@ in_set_made : (tag : Tag) (ps : Parts) (depth : ℕ) → AreLawfulByTag ps → E
 unfolding Reads parts_of Bytes fields_of Owes
 in_set_made tag ps depth lawful k closing input t rest o (deep, h) (deep', us, f, m) =
     let r = enclosed_made tag true refl _ (λ c. (ts : List Tree) × (bs : List (List ℕ)) × (tags : List Tag) × (t ≡ items ts) × PartsWritten (fields_of Der ps) ts bs
-    × NoneBare (fields_of Der ps) ts bs × TagsOf bs tags × DoNotFall IsTagBelow tags × (c ≡ joined_lists bs)) input t rest o
+    × NoneUntaggedOpen (fields_of Der ps) ts bs × TagsOf bs tags × DoNotFall IsTagBelow tags × (c ≡ joined_lists bs)) input t rest o
     (λ contents p r.
     let vs = r.1 in
     let y : us ≡ vs = items_one us vs (sym f ∙ r.2) in
@@ -284,24 +284,24 @@ prefix_made tag s depth made closing input t rest o (deep, bit, z, h) (deep', m)
 
 -- What is written of a lawful shape that has a tag isn't bare.
 mutual
-  unfolding IsBare IsLawful
+  unfolding IsUntaggedOpen IsLawful
 
-  not_bare : (s : Shape) → IsLawful s → IsSolid s → HasTag s → (t : Tree) → IsBare s t → ⊥
+  not_bare : (s : Shape) → IsLawful s → IsSolid s → HasTag s → (t : Tree) → IsUntaggedOpen s t → ⊥
   not_bare (leaf kind tag bounds) lawful solid has t h = h
   not_bare (any None) lawful solid has t h = has
   not_bare (any (Some tag)) lawful solid has t h = h
   not_bare (prefix tag s) lawful solid has t h = h
-  not_bare (choice ps) lawful solid has t h = none_bare ps lawful 0 t h
+  not_bare (choice ps) lawful solid has t h = none_bare ps lawful.0 0 t h
   not_bare (option tag s) lawful solid has t h = solid
   not_bare (seq tag ps) lawful solid has t h = h
   not_bare (set tag ps) lawful solid has t h = h
   not_bare (list tag s size) lawful solid has t h = h
   not_bare (set_of tag s size) lawful solid has t h = h
 
-  none_bare : (ps : Parts) → AreAlternatives ps → (k : ℕ) (t : Tree) → IsBareIn k ps t → ⊥
+  none_bare : (ps : Parts) → AreAlternatives ps → (k : ℕ) (t : Tree) → IsUntaggedOpenIn k ps t → ⊥
   none_bare none lawful k t h = h
   none_bare (part presence s ps) lawful k t (inl h) = not_bare s lawful.3 lawful.2 lawful.1 h.0 h.2
-  none_bare (part presence s ps) lawful k t (inr h) = none_bare ps lawful.5 (suc k) t h
+  none_bare (part presence s ps) lawful k t (inr h) = none_bare ps lawful.4 (suc k) t h
 
 mutual
   unfolding Reads parts_of Bytes fields_of Owes IsLawful
@@ -312,7 +312,7 @@ mutual
   all_made (any None) lawful depth = λ closing input t rest o h m. (h.0, h.1, h.3)
   all_made (any (Some tag)) lawful depth = open_made tag depth
   all_made (prefix tag s) lawful depth = prefix_made tag s depth (all_made s lawful.2 (depth - 1))
-  all_made (choice ps) lawful depth = λ closing input t rest o h m. choice_made ps depth (each_made ps (alternatives_good ps lawful) depth) 0 closing input t rest o h m
+  all_made (choice ps) lawful depth = λ closing input t rest o h m. choice_made ps depth (each_made ps (alternatives_good ps lawful.0) depth) 0 closing input t rest o h m
   all_made (option tag s) lawful depth =
       option_made tag s depth (record { made = all_made s lawful.2 depth; there = there s lawful.1 lawful.2 depth; not_bare = λ has t. not_bare s lawful.2 lawful.1 has t })
   all_made (seq tag ps) lawful depth = in_seq_made tag ps depth (each_made ps (in_order_good ps lawful.1) (depth - 1))

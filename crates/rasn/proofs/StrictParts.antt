@@ -1,6 +1,5 @@
 -- What DER reads of parts and elements stands as it is written.
 use Rattle.std.proofs.Common.{◌≡◌, ℕ, suc, ◌<◌, ◌≢◌, inl, inr, List, [], ◌∷◌, ◌++◌, Bool, Option, sym, ap, ap₂, ◌∙◌, subst, arith, append_assoc}
-use Rattle.rasn_types.specs.Tags.{der_form}
 use Rattle.rasn_types.specs.declared.types.rules.Codec.TheVariants.{Der}
 use Rattle.rasn_types.specs.declared.types.tag.Tag.{Tag}
 use Rattle.rasn_types.specs.Framing.{AreOctets}
@@ -107,22 +106,22 @@ all_missing_told (part presence s ps) depth k c ts bs (t, us, e, h, hs) (t', us'
     ap joined_lists f ∙ (ap₂ ◌++◌ a r)
 
 -- The alternative that is read is the one that is written.
-pub other_read : (ps : Parts) (depth k j : ℕ) (c : Bool) (input : List ℕ) (t u : Tree) (rest : List ℕ) → j < k → t ≡ chosen j u → ReadsChoice der_form k (parts_of Der ps depth c) input t rest → ⊥
+pub other_read : (ps : Parts) (depth k j : ℕ) (c : Bool) (input : List ℕ) (t u : Tree) (rest : List ℕ) → j < k → t ≡ chosen j u → ReadsChoice Der k (parts_of Der ps depth c) input t rest → ⊥
 unfolding Reads parts_of
 other_read none depth k j c input t u rest h e m = m
 other_read (part presence s ps) depth k j c input t u rest h e (inl m) = let f = m.1 in let g : j ≡ k = cc in omega arith
 other_read (part presence s ps) depth k j c input t u rest h e (inr m) = other_read ps depth (suc k) j c input t u rest (omega arith) e m
 
 pub choice_told : (ps : Parts) (depth : ℕ) → EachTold depth ps → (k : ℕ) (c : Bool) (input : List ℕ) (t : Tree) (rest b : List ℕ) → AreOctets input
-    → ReadsChoice der_form k (parts_of Der ps depth c) input t rest → WritesChoice k (fields_of Der ps) t b → MeetsChoice Der k ps depth t → input ≡ b ++ rest
+    → ReadsChoice Der k (parts_of Der ps depth c) input t rest → WritesChoice k (fields_of Der ps) t b → MeetsChoice Der k ps depth t → input ≡ b ++ rest
 unfolding Reads parts_of Bytes fields_of Meets
 choice_told none depth told k c input t rest b o h w m = absurd h
-choice_told (part presence s ps) depth told k c input t rest b o (inl (u, e, n, next, f, h)) (inl (v, g, w)) (inl (x, i, m)) =
+choice_told (part presence s ps) depth told k c input t rest b o (inl (u, e, n, next, f, h, z)) (inl (v, g, w)) (inl (x, i, m)) =
     let p : v ≡ u = cc in
     let q : x ≡ u = cc in
     told.0.told c input u rest b o h (subst (λ z. Bytes Der s z b) p w) (subst (Meets Der s depth) q m)
-choice_told (part presence s ps) depth told k c input t rest b o (inl (u, e, n, next, f, h)) (inr w) m = absurd (other_written Der ps (suc k) k t u b (omega arith) e w)
-choice_told (part presence s ps) depth told k c input t rest b o (inl (u, e, n, next, f, h)) (inl w) (inr m) = absurd (other_index Der ps depth (suc k) k t u (omega arith) e m)
+choice_told (part presence s ps) depth told k c input t rest b o (inl (u, e, n, next, f, h, z)) (inr w) m = absurd (other_written Der ps (suc k) k t u b (omega arith) e w)
+choice_told (part presence s ps) depth told k c input t rest b o (inl (u, e, n, next, f, h, z)) (inl w) (inr m) = absurd (other_index Der ps depth (suc k) k t u (omega arith) e m)
 choice_told (part presence s ps) depth told k c input t rest b o (inr h) (inl w) m = absurd (other_read ps depth (suc k) k c input t w.0 rest (omega arith) w.1 h)
 choice_told (part presence s ps) depth told k c input t rest b o (inr h) (inr w) (inl m) = absurd (other_read ps depth (suc k) k c input t m.0 rest (omega arith) m.1 h)
 choice_told (part presence s ps) depth told k c input t rest b o (inr h) (inr w) (inr m) = choice_told ps depth told.1 (suc k) c input t rest b o h w m

@@ -4,7 +4,7 @@ use Rattle.rasn_types.specs.Tags.{der_form, IsTagBelow}
 use Rattle.rasn_types.specs.declared.types.rules.Codec.TheVariants.{Der}
 use Rattle.rasn_types.specs.declared.types.tag.Tag.{Tag}
 use Rattle.rasn_types.specs.Framing.{AreOctets, Begins, Next}
-use Rattle.rasn_types.specs.Shapes.{Tree, chosen, Parts, part, IsFirst, IsFirstOf, Shape, Presence}
+use Rattle.rasn_types.specs.Shapes.{Tree, chosen, Parts, part, IsFirst, IsFirstOf, Shape, Presence, presences}
 use Rattle.rasn_types.specs.Shapes.Parts.{none}
 use Rattle.rasn_types.specs.Readers.{ReadFrom, IsNoDefault, IsMissing, ReadsChoice, NoneOf, OneOf, ByPart, AreInTagOrder}
 use Rattle.rasn_types.specs.Order.{Each, DoNotFall}
@@ -20,10 +20,10 @@ use Rattle.rasn.proofs.StrictParts.{EachTold, missing_told, coming_told, nothing
 
 -- The components of these parts.
 abbrev pub Components : Parts → ℕ → ℕ → Bool → List ℕ → Tree → List ℕ → Type 0
-Components ps depth k c = ReadsChoice der_form k (parts_of Der ps depth c)
+Components ps depth k c = ReadsChoice Der k (parts_of Der ps depth c)
 
 -- A component's first tag.
-first_of : (ps : Parts) (depth k : ℕ) (c : Bool) (input : List ℕ) (t : Tree) (rest : List ℕ) → ReadsChoice der_form k (parts_of Der ps depth c) input t rest
+first_of : (ps : Parts) (depth k : ℕ) (c : Bool) (input : List ℕ) (t : Tree) (rest : List ℕ) → ReadsChoice Der k (parts_of Der ps depth c) input t rest
     → (n : Tag) × Next der_form input n × IsFirstOf ps n
 unfolding Reads parts_of
 first_of none depth k c input t rest h = absurd h
@@ -46,7 +46,7 @@ module _ (presence : Presence) (s : Shape) (ps : Parts) (depth k : ℕ) (c : Boo
   unfolding Reads parts_of
   neither input x y a d middle rest t m n f e i (inl h) j g p q = absurd (f h.0 h.1)
   neither input x y a d middle rest t m n f e i (inr h) j (inr g) p q = absurd (other_read ps depth (suc k) k c middle y t rest (omega arith) e g)
-  neither input x y a d middle rest t m n f e i (inr h) j (inl (u, v, o, next, first, g)) p q =
+  neither input x y a d middle rest t m n f e i (inr h) j (inl (u, v, o, next, first, g, differs)) p q =
       let r = first_of ps depth (suc k) c input x middle h in
       let w : m ≡ r.0 = same_first input a middle m r.0 i p r.1 in
       let z : n ≡ o = same_first middle d rest n o j q next in
@@ -79,13 +79,10 @@ module _ (presence : Presence) (s : Shape) (ps : Parts) (depth k : ℕ) (c : Boo
   behind input (x ∷ rs) rest os (a, az, middle, g, i, inr h, hs) f = (a, az, middle, g, i, h, behind middle rs rest az hs f.1)
 
 -- The reading of part k says nothing of later parts.
-pub by_part_less : (ps : Parts) (depth : ℕ) (c : Bool) (j k : ℕ) (u : Tree) (rs us : List Tree) → k < j
-    → ByPart Der j (parts_of Der ps depth c) (chosen k u ∷ rs) us → ByPart Der j (parts_of Der ps depth c) rs us
-unfolding Reads parts_of
-by_part_less none depth c j k u rs us h b = b
-by_part_less (part presence s ps) depth c j k u rs us h (t, vs, e, inr (f, m), b) = (t, vs, e, inr (f.1, m), by_part_less ps depth c (suc j) k u rs vs (omega arith) b)
-by_part_less (part presence s ps) depth c j k u rs us h (t, vs, e, inl (o, z), b) =
-    (t, vs, e, inl (less o.before o.is o.none_before, z), by_part_less ps depth c (suc j) k u rs vs (omega arith) b)
+pub by_part_less : (ps : List Presence) (j k : ℕ) (u : Tree) (rs us : List Tree) → k < j → ByPart j ps (chosen k u ∷ rs) us → ByPart j ps rs us
+by_part_less [] j k u rs us h b = b
+by_part_less (presence ∷ ps) j k u rs us h (t, vs, e, inr (f, m), b) = (t, vs, e, inr (f.1, m), by_part_less ps (suc j) k u rs vs (omega arith) b)
+by_part_less (presence ∷ ps) j k u rs us h (t, vs, e, inl o, b) = (t, vs, e, inl (less o.before o.is o.none_before), by_part_less ps (suc j) k u rs vs (omega arith) b)
   where
     less : (before : List Tree) → chosen k u ∷ rs ≡ before ++ (chosen j t ∷ o.after) → NoneOf j before → OneOf j t rs
     less [] i f = let w : k ≡ j = cc in absurd (omega arith)
@@ -96,33 +93,33 @@ in_order_less b bs (tags, (m, ms, i, h, hs), d) = (ms, hs, fewer m ms (subst (Do
 
 abbrev pub IsSetTold : Parts → ℕ → Type 0
 IsSetTold ps depth = (k : ℕ) (c : Bool) (input : List ℕ) (rs : List Tree) (rest : List ℕ) (os : List (List ℕ)) (ts : List Tree) (bs : List (List ℕ)) → AreOctets input
-    → ReadFrom (Components ps depth k c) input rs rest os → ByPart Der k (parts_of Der ps depth c) rs ts → AreInTagOrder os
+    → ReadFrom (Components ps depth k c) input rs rest os → ByPart k (presences ps) rs ts → AreInTagOrder os
     → PartsWritten (fields_of Der ps) ts bs → MeetsParts Der ps depth ts → input ≡ joined_lists bs ++ rest
 
 -- The component of part k comes first, and then those of the parts behind it.
 comes_first : (presence : Presence) (s : Shape) (ps : Parts) (depth : ℕ) → EachTold depth (part presence s ps) → ((m n : Tag) → IsFirst s m → IsFirstOf ps n → IsTagBelow m n)
     → IsSetTold ps depth → (k : ℕ) (c : Bool) (input : List ℕ) (rs : List Tree) (rest : List ℕ) (os : List (List ℕ)) (t : Tree) (us : List Tree) (b : List ℕ) (cs : List (List ℕ)) → AreOctets input
-    → ReadFrom (Components (part presence s ps) depth k c) input rs rest os → OneOf k t rs → IsNoDefault presence t
-    → ByPart Der (suc k) (parts_of Der ps depth c) rs us → AreInTagOrder os
+    → ReadFrom (Components (part presence s ps) depth k c) input rs rest os → OneOf k t rs
+    → ByPart (suc k) (presences ps) rs us → AreInTagOrder os
     → WritesPart presence (Bytes Der s) t b → PartsWritten (fields_of Der ps) us cs → PartMeets presence (Meets Der s depth) t → MeetsParts Der ps depth us
     → input ≡ b ++ (joined_lists cs ++ rest)
 unfolding Reads parts_of Bytes fields_of Meets
-comes_first presence s ps depth told below more k c input rs rest os t us b cs octets h o differs by order w ws m ms = go o.before rs h o.is o.none_before by
+comes_first presence s ps depth told below more k c input rs rest os t us b cs octets h o by order w ws m ms = go o.before rs h o.is o.none_before by
   where
     go : (before : List Tree) (rs : List Tree) → ReadFrom (Components (part presence s ps) depth k c) input rs rest os → rs ≡ before ++ (chosen k t ∷ o.after) → NoneOf k before
-        → ByPart Der (suc k) (parts_of Der ps depth c) rs us → input ≡ b ++ (joined_lists cs ++ rest)
+        → ByPart (suc k) (presences ps) rs us → input ≡ b ++ (joined_lists cs ++ rest)
     go (x ∷ before) rs h e f by = absurd (first_comes presence s ps depth k c below input rs rest os order.0 x before o.after t h order.1 order.2 e f)
     go [] [] h e f by = cc
     go [] (x ∷ rs) (a, az, middle, g, i, inr h, hs) e f by = let v : x ≡ chosen k t = cc in absurd (other_read ps depth (suc k) k c input x t middle (omega arith) v h)
-    go [] (x ∷ rs) (a, az, middle, g, i, inl (u, y, n, next, first, h), hs) e f by =
+    go [] (x ∷ rs) (a, az, middle, g, i, inl (u, y, n, next, first, h, differs), hs) e f by =
         let z : u ≡ t = cc in
         let v : x ≡ chosen k t = cc in
         let l : rs ≡ o.after = cc in
-        let d : input ≡ b ++ middle = coming_told s depth told.0 presence c input t middle b octets (subst (λ q. Reads Der s depth c input q middle) z h) differs w m in
+        let d : input ≡ b ++ middle = coming_told s depth told.0 presence c input t middle b octets (subst (λ q. Reads Der s depth c input q middle) z h) (subst (IsNoDefault presence) z (differs tt)) w m in
         let none_of : NoneOf k rs = subst (NoneOf k) (sym l) o.none_after in
         let r : middle ≡ joined_lists cs ++ rest = more (suc k) c middle rs rest az us cs (tail_octets input b middle d octets)
         (behind presence s ps depth k c below middle rs rest az hs none_of)
-        (by_part_less ps depth c (suc k) k t rs us (omega arith) (subst (λ q. ByPart Der (suc k) (parts_of Der ps depth c) (q ∷ rs) us) v by))
+        (by_part_less (presences ps) (suc k) k t rs us (omega arith) (subst (λ q. ByPart (suc k) (presences ps) (q ∷ rs) us) v by))
         (in_order_less a az (subst AreInTagOrder g order)) ws ms in
         d ∙ ap (λ q. b ++ q) r
 
@@ -159,9 +156,9 @@ set_told (part presence s ps) depth lawful told k c input rs rest os ts bs o h (
     joined : joined_lists bs ++ rest ≡ b ++ (joined_lists cs ++ rest)
     joined = ap (λ l. joined_lists l ++ rest) f ∙ append_assoc b (joined_lists cs) rest
 
-    go : IsSetTold ps depth → (OneOf k t rs × (Unit {0} → IsNoDefault presence t)) ⊎ (NoneOf k rs × IsMissing presence t) → input ≡ joined_lists bs ++ rest
-    go more (inl (y, z)) =
-        comes_first presence s ps depth told lawful.4 more k c input rs rest os t us b cs o h y (z tt) by order write writes meet meets ∙ sym joined
+    go : IsSetTold ps depth → OneOf k t rs ⊎ (NoneOf k rs × IsMissing presence t) → input ≡ joined_lists bs ++ rest
+    go more (inl y) =
+        comes_first presence s ps depth told lawful.4 more k c input rs rest os t us b cs o h y by order write writes meet meets ∙ sym joined
     go more (inr (y, z)) =
         let r = more (suc k) c input rs rest os us cs o (behind presence s ps depth k c lawful.4 input rs rest os h y) by order writes meets in
         let a : b ≡ [] = missing_told s depth told.0.back presence t b z write meet in

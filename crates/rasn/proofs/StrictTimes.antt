@@ -1,6 +1,7 @@
 -- The texts that DER reads are those that are written.
-use Rattle.std.proofs.Common.{◌≡◌, ℕ, ◌+◌, ◌%◌, ◌<◌, true, false, ◌==◌, List, ◌++◌, Option, Some, None, refl, sym, ap, ◌∙◌, subst, arith, inl, inr, pos}
+use Rattle.std.proofs.Common.{◌≡◌, ◌⊎◌, ℕ, suc, ◌+◌, ◌%◌, ◌<◌, ◌≤◌, true, false, ◌==◌, List, ◌++◌, Option, Some, None, refl, sym, ap, ◌∙◌, subst, arith, inl, inr, pos}
 use Rattle.std.proofs.lemmas.Bool.{lt-ltb, le-ltb, eqb-true}
+use Rattle.std.proofs.lemmas.Bool.Decides.{leb_tells}
 use Rattle.std.proofs.Math.Dec.{ltb}
 use Rattle.rasn_types.specs.declared.ber.time.text.Clock.{Clock}
 use Rattle.rasn_types.specs.declared.ber.time.text.Clock.TheVariants.{Hours, Minutes, Seconds}
@@ -8,7 +9,7 @@ use Rattle.rasn_types.specs.declared.ber.time.text.Zone.{Zone}
 use Rattle.rasn_types.specs.declared.ber.time.text.Zone.TheVariants.{Utc}
 use Rattle.rasn_types.specs.Calendar.{Moment, IsMoment, Day, Stamp}
 use Rattle.rasn_types.specs.Spelling.{Spelling, IsFraction, tail_text, two, four, fraction_text, fraction_of, billionths, second_of, nanosecond_of, parts, in_utc}
-use Rattle.rasn_types.specs.Times.{DateText, shown, fields_of, century, short_form, long_form, canonical_form, both, written_fraction, written_second, within_second, written_date, written_generalized, written_utc, CanonicalUtc, StrictGeneralized, IsShortFraction, digits_of, has_no_comma}
+use Rattle.rasn_types.specs.Times.{DateText, shown, fields_of, century, short_form, long_form, canonical_form, both, written_fraction, written_second, within_second, written_date, written_generalized, written_utc, CanonicalUtc, StrictGeneralized, IsShortFraction, digits_of, has_no_comma, CarriedUtc, CarriedDay}
 use Rattle.rasn_types.proofs.Fractions.{positive, parts_below, parts_some, digits_again}
 use Rattle.rasn_types.proofs.Spelled.{both_true}
 use Rattle.rasn.proofs.Steps.{is_it}
@@ -70,6 +71,39 @@ utc_written l t r =
     let e : t.moment ≡ meaning (century r.year) s = ap (λ (x : Stamp). x.moment) r.meant ∙ c.0 in
     (subst IsMoment (sym e) r.exists, r.is ∙ (c.1 ∙ ap written_utc (sym e)))
 
+century_between : (y : ℕ) → y < 100 → (1970 ≤ century y) × (century y ≤ 2069)
+century_between y h = elim (leb_tells (suc y) 70) [
+  | inl p ↦ (rw p.0 (omega arith), rw p.0 (omega arith))
+  | inr p ↦ (rw p.0 (omega arith), rw p.0 (omega arith))
+]
+
+utc_whole : (y mo d h : ℕ) (c : Clock) (f : Option (ℕ × List ℕ)) (z : Zone) → both short_form canonical_form (fields_of (spelling mo d h c f z)) ≡ true
+    → ((meaning y (spelling mo d h c f z)).nanosecond ≡ 0) ⊎ ((meaning y (spelling mo d h c f z)).nanosecond ≡ 1000000000)
+utc_whole y mo d h (Seconds m s) None Utc e = elim (is_it (s == 60)) [
+  | inl p ↦ inr (rw p refl)
+  | inr p ↦ inl (rw p refl)
+]
+utc_whole y mo d h c f z e =
+    let p = both_true (short_form (fields_of (spelling mo d h c f z))) (canonical_form (fields_of (spelling mo d h c f z))) e in
+    let a : short_form (fields_of (spelling mo d h c f z)) ≡ true = p.0 in
+    let b : canonical_form (fields_of (spelling mo d h c f z)) ≡ true = p.1 in
+    absurd (cc)
+
+-- What such a text means is carried.
+pub utc_carried : (l : List ℕ) (t : Stamp) → CanonicalUtc l t → CarriedUtc t.moment
+utc_carried l t r =
+    let s = r.rest in
+    let c = utc_cases r.year s.month s.day s.hour s.clock s.fraction s.zone r.below r.allowed r.exists in
+    let e : t.moment ≡ meaning (century r.year) s = ap (λ (x : Stamp). x.moment) r.meant ∙ c.0 in
+    let b = century_between r.year r.below in
+    subst CarriedUtc (sym e) (record {
+      year = century r.year;
+      same = refl;
+      from = b.0;
+      to = b.1;
+      whole = utc_whole (century r.year) s.month s.day s.hour s.clock s.fraction s.zone r.allowed;
+    })
+
 -- a fraction without a comma that is short is that of its number
 fraction_written : (f : Option (ℕ × List ℕ)) → has_no_comma (fraction_of f) ≡ true → IsFraction f → IsShortFraction f
     → (billionths (fraction_of f) < 1000000000) × (written_fraction (billionths (fraction_of f)) ≡ fraction_text f)
@@ -109,6 +143,17 @@ generalized_written l t w =
     let c = generalized_cases r.year s.month s.day s.hour s.clock s.fraction s.zone r.below r.allowed r.spelled.fraction w.short r.exists in
     let e : t.moment ≡ meaning r.year s = ap (λ (x : Stamp). x.moment) r.meant ∙ c.0 in
     (subst IsMoment (sym e) r.exists, r.is ∙ (c.1 ∙ ap written_generalized (sym e)))
+
+pub generalized_carried : (l : List ℕ) (t : Stamp) → StrictGeneralized l t → CarriedDay t.moment.day
+generalized_carried l t w =
+    let r = w.is in
+    let s = r.rest in
+    let c = generalized_cases r.year s.month s.day s.hour s.clock s.fraction s.zone r.below r.allowed r.spelled.fraction w.short r.exists in
+    let e : t.moment ≡ meaning r.year s = ap (λ (x : Stamp). x.moment) r.meant ∙ c.0 in
+    subst (λ (m : Moment). CarriedDay m.day) (sym e) (record { year = r.year; same = refl; below = r.below })
+
+pub date_carried : (l : List ℕ) (d : Day) → DateText l d → CarriedDay d
+date_carried l d r = record { year = r.year; same = r.same; below = r.below }
 
 pub date_written : (l : List ℕ) (d : Day) → DateText l d → l ≡ written_date d
 unfolding written_date

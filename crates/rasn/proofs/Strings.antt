@@ -1,19 +1,20 @@
 -- A leaf that is written is read again.
-use Rattle.std.proofs.Common.{◌≡◌, ℕ, zero, suc, ◌<◌, ◌≢◌, inl, inr, List, [], ◌∷◌, ◌++◌, length, false, ℤ, refl, sym, subst, arith}
-use Rattle.rasn_types.specs.Tags.{tag_bit, eoc, form, in_universal}
+use Rattle.std.proofs.Common.{◌≡◌, ℕ, zero, suc, ◌<◌, ◌≢◌, inl, inr, List, [], ◌∷◌, ◌++◌, length, true, false, ℤ, refl, sym, subst, arith}
+use Rattle.rasn_types.specs.Tags.{tag_bit, eoc, form, IsStrict, in_universal}
 use Rattle.rasn_types.specs.declared.types.rules.Codec.{Codec}
 use Rattle.rasn_types.specs.declared.types.rules.Codec.TheVariants.{Ber, Cer, Der}
 use Rattle.rasn_types.specs.declared.types.tag.Tag.{Tag}
-use Rattle.rasn_types.specs.Framing.{Frame, HasSegments, definite}
+use Rattle.rasn_types.specs.Framing.{Frame, definite}
 use Rattle.rasn_types.specs.Shapes.{Tree, Kind, boolean, null, object_identifier, integer, enumerated, octet_string, fixed, numeric, printable, visible, ia5, any_octets, bmp, utf8, utc_time, generalized_time, date}
 use Rattle.rasn_types.specs.declared.types.constraints.Constraints.{Constraints}
-use Rattle.rasn_types.specs.Readers.{Many}
-use Rattle.rasn_types.specs.Contents.{joined_lists, Str, ReadBits, OctetSegment, Contents, IsBool}
-use Rattle.rasn_types.specs.Grammar.{Family, plain, bit_family, text_family, family, ReadsIn, ReadsLeaf, Text, IsBounded}
+use Rattle.rasn_types.specs.Readers.{Inside, in_definite, in_indefinite, Many}
+use Rattle.rasn_types.specs.Contents.{joined_lists, Str, primitive, segments, closed_segments, ReadBits, OctetSegment, Contents, IsBool}
+use Rattle.rasn_types.specs.Grammar.{Family, plain_family, bit_family, text_family, family, ReadsIn, ReadsLeaf, Text, IsBounded}
 use Rattle.rasn_types.specs.Bytes.{Writing, Same, Prim, Each, IsCer, WritesStr, WrittenBits, WritesText, WritesOctets, WritesIn}
 use Rattle.rasn_types.specs.Carried.{MeetsIn, IsCarriedTime}
 use Rattle.rasn_types.specs.Lawful.{IsBitFree}
 use Rattle.rasn_types.proofs.Frames.{frame_next}
+use Rattle.rasn_types.proofs.Segmented.{many_segments}
 use Rattle.rasn_types.proofs.Once.{in_flat, flat_same}
 use Rattle.rasn.proofs.Headers.{no_eoc}
 use Rattle.rasn.proofs.TimeTexts.{utc_back, generalized_back, date_back}
@@ -24,10 +25,10 @@ use Rattle.rasn.proofs.Enclosed.{definite_back, IsReadAs, cons_back, EachReadBac
 abbrev pub IsSegment : {X : Type 0} → Writing (List X) → (List ℕ → List X → Type 0) → Type 0
 IsSegment {X} writes segment = (xs : List X) (l : List ℕ) → writes xs l → segment l xs
 
-primitive : {X : Type 0} (rule : Codec) (segment : List ℕ → List X → Type 0) (inner : Tag) (depth : ℕ) (tag : Tag) (input : List ℕ) (xs : List X) (rest : List ℕ)
-    → (c : List ℕ) × Frame (form rule) input tag false rest (definite c) × segment c xs → Str rule segment inner depth tag input xs rest
-primitive rule segment inner zero tag input xs rest h = h
-primitive rule segment inner (suc depth) tag input xs rest h = inl h
+in_segments : {X : Type 0} {rule : Codec} {segment : List ℕ → List X → Type 0} {inner : Tag} {depth : ℕ} {tag : Tag} {input : List ℕ} (parts : List (List X)) {rest : List ℕ}
+    → (IsStrict rule → ⊥) → Inside rule tag true (λ c. Many (Str rule segment inner depth inner) c) input parts rest → Str rule segment inner (suc depth) tag input (joined_lists parts) rest
+in_segments parts has (in_definite c f m) = segments c has f (many_segments c parts [] m)
+in_segments parts has (in_indefinite body f m) = closed_segments body has f (many_segments body parts _ m)
 
 prim_frame : (rule : Codec) (tag : Tag) (c b rest : List ℕ) → tag ≢ eoc → tag_bit tag ≡ false → Prim tag c b → Frame (form rule) (b ++ rest) tag false rest (definite c)
 prim_frame rule tag c b rest one e p = subst (λ x. Frame (form rule) (b ++ rest) tag x rest (definite c)) e (definite_back rest one p)
@@ -44,15 +45,15 @@ pieces_back rule writes segment is inner one e depth (p ∷ ps) bs (b, cs, f, (c
   record {
     is = p;
     same = refl;
-    again = λ rest. primitive rule segment inner depth inner (b ++ rest) p rest (c, prim_frame rule inner c b rest one e d, is p c w);
+    again = λ rest. primitive c (prim_frame rule inner c b rest one e d) (is p c w);
     begins = λ rest. (form rule, inner, frame_next (definite_back {rule = form rule} rest one d));
   },
   pieces_back rule writes segment is inner one e depth ps cs h,
 )
 
-cer_segments : (rule : Codec) → IsCer rule → HasSegments rule
+cer_segments : (rule : Codec) → IsCer rule → IsStrict rule → ⊥
 cer_segments Ber h = absurd h
-cer_segments Cer h = tt
+cer_segments Cer h = λ s. s
 cer_segments Der h = absurd h
 
 str_back : {X : Type 0} (rule : Codec) (writes : Writing (List X)) (segment : List ℕ → List X → Type 0) → IsSegment writes segment
@@ -60,7 +61,7 @@ str_back : {X : Type 0} (rule : Codec) (writes : Writing (List X)) (segment : Li
     → (IsCer rule → size < length xs → 0 < depth) → WritesStr rule writes size inner tag xs b
     → (rest : List ℕ) → Str rule segment inner depth tag (b ++ rest) xs rest
 str_back rule writes segment is size inner tag one two e f depth xs b deep (inl (short, c, w, d)) rest =
-    primitive rule segment inner depth tag (b ++ rest) xs rest (c, prim_frame rule tag c b rest two f d, is xs c w)
+    primitive c (prim_frame rule tag c b rest two f d) (is xs c w)
 str_back {X} rule writes segment is size inner tag one two e f depth xs b deep (inr (cut, long, ps, bs, g, sizes, each, d)) rest = go depth (deep cut long)
   where
     go : (depth : ℕ) → 0 < depth → Str rule segment inner depth tag (b ++ rest) xs rest
@@ -69,7 +70,8 @@ str_back {X} rule writes segment is size inner tag one two e f depth xs b deep (
         let m = many_back (λ x y. y ≡ x) (Str rule segment inner n inner) ps bs (pieces_back rule writes segment is inner one e n ps bs each) in
         let q : IsReadAs (λ c. Many (Str rule segment inner n inner) c) (joined_lists bs) ps =
         subst (λ us. IsReadAs (λ c. Many (Str rule segment inner n inner) c) (joined_lists bs) us) (each_equal ps m.0 m.1) m.2 in
-        inr (cer_segments rule cut, ps, g, cons_back rule tag two (joined_lists bs) b d (λ c. Many (Str rule segment inner n inner) c) ps q rest)
+        subst (λ ys. Str rule segment inner (suc n) tag (b ++ rest) ys rest) (sym g)
+        (in_segments ps (cer_segments rule cut) (cons_back rule tag two (joined_lists bs) b d (λ c. Many (Str rule segment inner n inner) c) ps q rest))
 
 text_back : (rule : Codec) (kind : Kind) (l : List ℕ) (t : Tree) → IsCarriedTime kind t → WritesText kind l t → Text rule kind l t
 text_back rule octet_string l t c h = h
@@ -101,7 +103,7 @@ contents_der rule kind l t h = absurd h
 
 in_back : (which : Family) (rule : Codec) (kind : Kind) (tag : Tag) → tag ≢ eoc → IsBitFree which tag → (depth : ℕ) (t : Tree) (b : List ℕ)
     → MeetsIn which rule kind depth t → WritesIn which rule kind tag t b → (rest : List ℕ) → ReadsIn which rule kind tag depth (b ++ rest) t rest
-in_back plain rule kind tag one free depth t b meets (c, w, d) rest = (tag_bit tag, c, definite_back rest one d, contents_der rule kind c t w.is, λ z. (refl, w.shortest))
+in_back plain_family rule kind tag one free depth t b meets (c, w, d) rest = (tag_bit tag, c, definite_back rest one d, contents_der rule kind c t w.is, λ z. (refl, w.shortest))
 in_back bit_family rule kind tag one free depth t b meets (bs, e, w) rest =
     (bs, e, (meets bs e).0, str_back rule WrittenBits (ReadBits rule) (λ xs l w. (w.is, λ z. w.zeros)) 7992 (in_universal 3) tag (no_eoc 3 (omega arith)) one refl free depth bs b (meets bs e).1 w rest)
 in_back text_family rule kind tag one free depth t b meets (l, x, w) rest = (

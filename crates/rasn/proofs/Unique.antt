@@ -3,16 +3,16 @@ use Rattle.std.proofs.Common.{ℕ, ◌-◌, inl, inr, Bool, Option, Some, None, 
 use Rattle.rasn_types.specs.Tags.{form, IsTagBelow}
 use Rattle.rasn_types.specs.declared.types.rules.Codec.{Codec}
 use Rattle.rasn_types.specs.declared.types.tag.Tag.{Tag}
-use Rattle.rasn_types.specs.Shapes.{Tree, items, walk, absent, Shape, leaf, any, prefix, choice, option, seq, set, list, set_of, Parts, part, IsFirstOf}
+use Rattle.rasn_types.specs.Shapes.{Tree, items, walk, absent, Shape, leaf, any, prefix, choice, option, seq, set, list, set_of, Parts, part, IsFirstOf, presences}
 use Rattle.rasn_types.specs.declared.types.constraints.Bound.{Bound}
 use Rattle.rasn_types.specs.Shapes.Parts.{none}
-use Rattle.rasn_types.specs.Readers.{Reading, ReadsSeq, ReadsSet}
+use Rattle.rasn_types.specs.Readers.{Reading, ReadsSeq, ReadsChoice, ReadsSet}
 use Rattle.rasn_types.specs.Grammar.{Reads, parts_of, ReadsList, ReadsSetOf}
-use Rattle.rasn_types.specs.Lawful.{IsLawful, AreAlternatives, AreLawfulInOrder, AreLawfulByTag}
+use Rattle.rasn_types.specs.Lawful.{AreToldApart, IsLawful, AreAlternatives, AreLawfulInOrder, AreLawfulByTag}
 use Rattle.rasn.proofs.Joined.{IsOne, inside_one, many_one, perhaps_one, EachPart, ReadsOne, seq_one, IsFirstIn, AreApart, choice_one, set_one}
 use Rattle.rasn.proofs.Leaves.{leaf_one}
 use Rattle.rasn.proofs.Opened.{any_one, open_one}
-use Rattle.rasn.specs.Laws.{IsReadOnce, AreReadOnce, AreToldApart, OneLeaf, OneOpen, OnePrefix, OneChoice, OneOption, OneSequence, OneSet, OneSequenceOf, OneSetOf}
+use Rattle.rasn.specs.Laws.{IsReadOnce, AreReadOnce, OneLeaf, OneOpen, OnePrefix, OneChoice, OneOption, OneSequence, OneSet, OneSequenceOf, OneSetOf}
 
 first_in : (rule : Codec) (ps : Parts) (depth : ℕ) (closing : Bool) (n : Tag) → IsFirstIn (parts_of rule ps depth closing) n → IsFirstOf ps n
 unfolding Reads parts_of
@@ -54,7 +54,7 @@ one_prefix rule tag s one depth closing = λ input t u r o h k.
 
 pub one_choice : OneChoice
 unfolding Reads parts_of
-one_choice rule ps one told depth closing = choice_one (form rule) (parts_of rule ps depth closing) (parts_one rule ps one depth closing) (apart rule ps depth closing told) 0
+one_choice rule ps one told depth closing = choice_one rule (parts_of rule ps depth closing) (parts_one rule ps one depth closing) (apart rule ps depth closing told) 0
 
 pub one_option : OneOption
 unfolding Reads parts_of
@@ -69,8 +69,9 @@ one_sequence rule tag ps one depth closing = λ input t u r o h k.
 pub one_set : OneSet
 unfolding Reads parts_of
 one_set rule tag ps one told depth closing = λ input t u r o h k.
-    inside_one (λ c. ReadsSet rule (parts_of rule ps (depth - 1) c) c)
-    (λ c. set_one rule (parts_of rule ps (depth - 1) c) (parts_one rule ps one (depth - 1) c) (apart rule ps (depth - 1) c told) c) input t u r o h.1 k.1
+    inside_one (λ c. ReadsSet rule (presences ps) (ReadsChoice rule 0 (parts_of rule ps (depth - 1) c)) c)
+    (λ c. set_one rule (presences ps) (ReadsChoice rule 0 (parts_of rule ps (depth - 1) c))
+    (choice_one rule (parts_of rule ps (depth - 1) c) (parts_one rule ps one (depth - 1) c) (apart rule ps (depth - 1) c told) 0) c) input t u r o h.1 k.1
 
 pub one_sequence_of : OneSequenceOf
 unfolding Reads parts_of
@@ -89,10 +90,10 @@ abbrev pub EachLawful : Parts → Type 0
 EachLawful none = Unit {0}
 EachLawful (part presence s ps) = IsLawful s × EachLawful ps
 
-alternatives_lawful : (ps : Parts) → AreAlternatives ps → EachLawful ps × AreToldApart ps
+alternatives_lawful : (ps : Parts) → AreAlternatives ps → EachLawful ps
 unfolding IsLawful
-alternatives_lawful none h = (tt, tt)
-alternatives_lawful (part presence s ps) h = let r = alternatives_lawful ps h.5 in ((h.3, r.0), (h.4, r.1))
+alternatives_lawful none h = tt
+alternatives_lawful (part presence s ps) h = (h.3, alternatives_lawful ps h.4)
 
 in_order_lawful : (ps : Parts) → AreLawfulInOrder ps → EachLawful ps
 unfolding IsLawful
@@ -115,7 +116,7 @@ mutual
   reads_one (leaf kind tag bounds) lawful rule = one_leaf rule kind tag bounds
   reads_one (any tag) lawful rule = one_open rule tag
   reads_one (prefix tag s) lawful rule = one_prefix rule tag s (reads_one s lawful.2 rule)
-  reads_one (choice ps) lawful rule = let l = alternatives_lawful ps lawful in one_choice rule ps (each_one ps l.0 rule) l.1
+  reads_one (choice ps) lawful rule = one_choice rule ps (each_one ps (alternatives_lawful ps lawful.0) rule) lawful.1
   reads_one (option tag s) lawful rule = one_option rule tag s (reads_one s lawful.2 rule)
   reads_one (seq tag ps) lawful rule = one_sequence rule tag ps (each_one ps (in_order_lawful ps lawful.1) rule)
   reads_one (set tag ps) lawful rule = let l = by_tag_lawful ps lawful.1 in one_set rule tag ps (each_one ps l.0 rule) l.1

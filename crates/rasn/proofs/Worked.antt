@@ -1,6 +1,6 @@
 -- The octets that were worked out by hand.
 use Rattle.std.proofs.Common.{◌≡◌, ℕ, ◌≢◌, inl, inr, List, [], ◌∷◌, ◌++◌, true, false, ℤ, pos, negsuc, rules, Some, None, refl, ap, ◌∙◌, arith}
-use Rattle.rasn_types.specs.Tags.{Form, form, cer_form, der_form, IsStrict, in_universal}
+use Rattle.rasn_types.specs.Tags.{Form, form, basic_form, der_form, IsStrict, in_universal}
 use Rattle.rasn_types.specs.declared.types.rules.Codec.{Codec}
 use Rattle.rasn_types.specs.declared.types.rules.Codec.TheVariants.{Ber, Cer, Der}
 use Rattle.rasn_types.specs.declared.types.tag.Tag.{Tag}
@@ -43,7 +43,7 @@ lenient_true = ((false, 5 ∷ [], short 1 false (5 ∷ []) [] (omega arith) (ome
 strict_true : Refuses Cer (plain boolean 1) (1 ∷ 1 ∷ 5 ∷ [])
 unfolding Reads parts_of
 strict_true t rest ((bit, contents, frame, (z, e, h), s), w) =
-    let o = frame_one _ (short {spelling = cer_form} 1 false (5 ∷ []) [] (omega arith) (omega arith) (omega arith)) frame in
+    let o = frame_one _ (short {spelling = basic_form} 1 false (5 ∷ []) [] (omega arith) (omega arith) (omega arith)) frame in
     let f : definite (5 ∷ []) ≡ definite contents = o.extent in
     let g : 5 ∷ [] ≡ contents = cc in
     neither contents z g h

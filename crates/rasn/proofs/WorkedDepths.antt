@@ -1,59 +1,55 @@
 -- Values nested as deep as they may be, and one deeper.
 use Rattle.std.proofs.Common.{◌≡◌, ℕ, zero, suc, ◌*◌, ◌+◌, ◌-◌, ◌<◌, inl, inr, List, [], ◌∷◌, ◌++◌, length, Bool, true, false, refl, sym, ap, ◌∙◌, subst, arith, append_assoc, append-nil}
-use Rattle.rasn_types.specs.Tags.{ber_form, in_universal}
+use Rattle.rasn_types.specs.Tags.{basic_form, in_universal}
 use Rattle.rasn_types.specs.declared.types.rules.Codec.TheVariants.{Ber}
 use Rattle.rasn_types.specs.Framing.{Frame, with_length, definite, indefinite, Ended}
 use Rattle.rasn_types.specs.Shapes.{Tree, numbers, octet_string}
 use Rattle.rasn_types.specs.Readers.{in_definite, in_indefinite, Many}
-use Rattle.rasn_types.specs.Contents.{Str, OctetSegment}
+use Rattle.rasn_types.specs.Contents.{Str, Segments, OctetSegment}
 use Rattle.rasn_types.specs.Grammar.{Reads, parts_of}
 use Rattle.rasn_types.proofs.Frames.{frame_one}
 use Rattle.rasn.specs.Worked.{Gives, Refuses}
 use Rattle.rasn.specs.WorkedShapes.{plain}
-use Rattle.rasn.specs.WorkedDepths.{segments, lists, nested_lists, empty_in, WorkedDepths}
+use Rattle.rasn.specs.WorkedDepths.{nested_in, segments, lists, nested_lists, empty_in, WorkedDepths}
 use Rattle.rasn.proofs.Headers.{short_id, short, without, going}
+use Rattle.rasn.proofs.WorkedNested.{sequences_128, sequences_129, sets_128, sets_129, prefixes_128, prefixes_129}
 
 same_contents : (c d : List ℕ) → definite c ≡ definite d → c ≡ d
 same_contents c d e = cc
 
 segments_read : (n depth : ℕ) (rest : List ℕ) → n < depth → Str Ber OctetSegment (in_universal 4) depth (in_universal 4) (segments (suc n) ++ rest) [] rest
-unfolding segments
+unfolding nested_in
 segments_read n zero rest h = absurd (omega (arith, h))
-segments_read zero (suc depth) rest h = inr (tt, [], refl, in_indefinite (0 ∷ 0 ∷ rest) (without 4 _ tt (omega arith) (omega arith)) (inr (refl, rest, refl), refl))
-segments_read (suc n) (suc depth) rest h = inr (
-  tt,
-  [] ∷ [],
-  refl,
-  in_indefinite _ (without 4 _ tt (omega arith) (omega arith)) (subst (λ l. Many (Str Ber OctetSegment (in_universal 4) depth (in_universal 4)) true l ([] ∷ []) (0 ∷ 0 ∷ rest))
-      (sym (append_assoc (segments (suc n)) (0 ∷ 0 ∷ []) rest))
-      (going true 36 _ (omega arith), 0 ∷ 0 ∷ rest, segments_read n depth (0 ∷ 0 ∷ rest) (omega (arith, h)), (inr (refl, rest, refl), refl))),
-)
+segments_read zero (suc depth) rest h = Str.closed_segments (0 ∷ 0 ∷ rest) (λ s. s) (without 4 _ tt (omega arith) (omega arith)) (Segments.none (inr (refl, rest, refl)))
+segments_read (suc n) (suc depth) rest h = Str.closed_segments _ (λ s. s) (without 4 _ tt (omega arith) (omega arith)) (
+    subst (λ l. Segments Ber OctetSegment (in_universal 4) depth true l [] (0 ∷ 0 ∷ rest)) (sym (append_assoc (segments (suc n)) (0 ∷ 0 ∷ []) rest))
+    (Segments.one_more [] [] (0 ∷ 0 ∷ rest) (going true 36 _ (omega arith)) (segments_read n depth (0 ∷ 0 ∷ rest) (omega (arith, h))) (Segments.none (inr (refl, rest, refl))) refl)
+    )
 
 -- The frame of nested segments.
-outer : (n : ℕ) (rest : List ℕ) → Frame ber_form (segments (suc n) ++ rest) (in_universal 4) true ((segments n ++ (0 ∷ 0 ∷ [])) ++ rest) indefinite
-unfolding segments
+outer : (n : ℕ) (rest : List ℕ) → Frame basic_form (segments (suc n) ++ rest) (in_universal 4) true ((segments n ++ (0 ∷ 0 ∷ [])) ++ rest) indefinite
+unfolding nested_in
 outer n rest = without 4 _ tt (omega arith) (omega arith)
 
-not_primitive : (n : ℕ) (rest c more : List ℕ) → Frame ber_form (segments (suc n) ++ rest) (in_universal 4) false more (definite c) → ⊥
+not_primitive : (n : ℕ) (rest c more : List ℕ) → Frame basic_form (segments (suc n) ++ rest) (in_universal 4) false more (definite c) → ⊥
 not_primitive n rest c more f = let e = (frame_one _ (outer n rest) f).bit in cc
 
 -- Segments in such a segment are nested one less deep.
-inner_deep : (n depth : ℕ) (parts : List (List ℕ)) (rest more : List ℕ)
+inner_deep : (n depth : ℕ) (input xs rest more : List ℕ)
     → ((m : ℕ) (x l : List ℕ) → n ≡ suc m → Str Ber OctetSegment (in_universal 4) depth (in_universal 4) (segments (suc m) ++ (0 ∷ 0 ∷ rest)) x l → m < depth)
-    → Many (Str Ber OctetSegment (in_universal 4) depth (in_universal 4)) true (segments n ++ (0 ∷ 0 ∷ rest)) parts more → n < suc depth
-unfolding segments
-inner_deep zero depth parts rest more deep m = omega arith
-inner_deep (suc n) depth [] rest more deep (e, f) = absurd (going true 36 _ (omega arith) e)
-inner_deep (suc n) depth (x ∷ xs) rest more deep (e, middle, h, m) = let i = deep n x middle refl h in omega (arith, i)
+    → Segments Ber OctetSegment (in_universal 4) depth true input xs more → input ≡ segments n ++ (0 ∷ 0 ∷ rest) → n < suc depth
+unfolding nested_in
+inner_deep zero depth input xs rest more deep m f = omega arith
+inner_deep (suc n) depth input xs rest more deep (Segments.none e) f = absurd (going true 36 _ (omega arith) (subst (Ended true) f e))
+inner_deep (suc n) depth input xs rest more deep (Segments.one_more first others middle e h m is) f =
+    let i = deep n first middle refl (subst (λ l. Str Ber OctetSegment (in_universal 4) depth (in_universal 4) l first middle) f h) in omega (arith, i)
 
 segments_deep : (n depth : ℕ) (xs rest more : List ℕ) → Str Ber OctetSegment (in_universal 4) depth (in_universal 4) (segments (suc n) ++ rest) xs more → n < depth
-segments_deep n zero xs rest more (c, f, g) = absurd (not_primitive n rest c more f)
-segments_deep n (suc depth) xs rest more (inl (c, f, g)) = absurd (not_primitive n rest c more f)
-segments_deep n (suc depth) xs rest more (inr (a, parts, e, in_definite c f g)) = let o = (frame_one _ (outer n rest) f).extent in absurd cc
-segments_deep n (suc depth) xs rest more (inr (a, parts, e, in_indefinite body f g)) =
+segments_deep n depth xs rest more (Str.primitive c f g) = absurd (not_primitive n rest c more f)
+segments_deep n (suc depth) xs rest more (Str.segments c has f g) = let o = (frame_one _ (outer n rest) f).extent in absurd cc
+segments_deep n (suc depth) xs rest more (Str.closed_segments body has f g) =
     let o = (frame_one _ (outer n rest) f).rest in
-    let m = subst (λ l. Many (Str Ber OctetSegment (in_universal 4) depth (in_universal 4)) true l parts (0 ∷ 0 ∷ more)) (sym o ∙ append_assoc (segments n) (0 ∷ 0 ∷ []) rest) g in
-    inner_deep n depth parts rest (0 ∷ 0 ∷ more) (λ k x l e h. segments_deep k depth x (0 ∷ 0 ∷ rest) l h) m
+    inner_deep n depth body xs rest (0 ∷ 0 ∷ more) (λ k x l e h. segments_deep k depth x (0 ∷ 0 ∷ rest) l h) g (sym o ∙ append_assoc (segments n) (0 ∷ 0 ∷ []) rest)
 
 segments_128 : Gives Ber (plain octet_string 4) (segments 128) (numbers []) []
 unfolding Reads parts_of
@@ -103,17 +99,17 @@ lists_deep : (n depth : ℕ) (closing : Bool) (rest : List ℕ) (t : Tree) (more
 unfolding Reads parts_of lists nested_lists
 lists_deep zero depth closing rest t more k h = h.0
 lists_deep (suc n) depth closing rest t more k (deep, in_definite c f (ts, e, a, m)) =
-    let p = same_contents (nested_lists n) c (frame_one _ (short {spelling = ber_form} 16 true (nested_lists n) rest (omega arith) (omega arith) (omega (arith, lists_length n, k))) f).extent in
+    let p = same_contents (nested_lists n) c (frame_one _ (short {spelling = basic_form} 16 true (nested_lists n) rest (omega arith) (omega arith) (omega (arith, lists_length n, k))) f).extent in
     let i = many_deep n (depth - 2) c ts [] (λ u v w. lists_deep n (depth - 2) false [] u v (omega (arith, k)) w) p m in
     omega (arith, i)
 lists_deep (suc n) depth closing rest t more k (deep, in_indefinite body f g) =
-    let o = (frame_one _ (short {spelling = ber_form} 16 true (nested_lists n) rest (omega arith) (omega arith) (omega (arith, lists_length n, k))) f).extent in absurd cc
+    let o = (frame_one _ (short {spelling = basic_form} 16 true (nested_lists n) rest (omega arith) (omega arith) (omega (arith, lists_length n, k))) f).extent in absurd cc
 
 lists_64 : Gives Ber (lists 63) (nested_lists 63) (empty_in 63) []
 lists_64 = subst (λ l. Reads Ber (lists 63) 128 true l (empty_in 63) []) (append-nil (nested_lists 63)) (lists_read 63 128 true [] (omega arith) (omega arith))
 
 -- 30 81 80
-long_list : Frame ber_form (48 ∷ 129 ∷ 128 ∷ nested_lists 63) (in_universal 16) true [] (definite (nested_lists 63))
+long_list : Frame basic_form (48 ∷ 129 ∷ 128 ∷ nested_lists 63) (in_universal 16) true [] (definite (nested_lists 63))
 long_list = with_length (48 ∷ []) (129 ∷ 128 ∷ []) (nested_lists 63) (short_id 16 true (omega arith) (omega arith))
     (inr (refl, omega arith, omega arith, lists_length 63, omega (arith, lists_length 63))) (λ s. absurd s) (ap (λ l. 48 ∷ 129 ∷ 128 ∷ l) (sym (append-nil (nested_lists 63))))
 
@@ -126,4 +122,15 @@ lists_65 t rest (deep, in_definite c f (ts, e, a, m)) =
 lists_65 t rest (deep, in_indefinite body f g) = let o = (frame_one _ long_list f).extent in cc
 
 pub worked : WorkedDepths
-worked = record { segments_128 = segments_128; segments_129 = segments_129; lists_64 = lists_64; lists_65 = lists_65 }
+worked = record {
+  segments_128 = segments_128;
+  segments_129 = segments_129;
+  lists_64 = lists_64;
+  lists_65 = lists_65;
+  sequences_128 = sequences_128;
+  sequences_129 = sequences_129;
+  sets_128 = sets_128;
+  sets_129 = sets_129;
+  prefixes_128 = prefixes_128;
+  prefixes_129 = prefixes_129;
+}

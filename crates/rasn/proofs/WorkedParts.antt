@@ -5,7 +5,7 @@ use Rattle.rasn_types.specs.declared.types.rules.Codec.{Codec}
 use Rattle.rasn_types.specs.declared.types.rules.Codec.TheVariants.{Ber, Cer, Der}
 use Rattle.rasn_types.specs.Shapes.{Tree, number, numbers, items, walk, default, required, every, boolean, integer, octet_string, ia5, part}
 use Rattle.rasn_types.specs.Readers.{in_definite, in_indefinite}
-use Rattle.rasn_types.specs.Contents.{IsBool}
+use Rattle.rasn_types.specs.Contents.{IsBool, closed_segments, none, one_more}
 use Rattle.rasn_types.specs.Grammar.{Reads, parts_of}
 use Rattle.rasn_types.specs.Bytes.{Bytes, fields_of, PartsWritten, Each, DoNotFall, IsLess}
 use Rattle.rasn_types.specs.Carried.{Meets}
@@ -130,22 +130,12 @@ smith_in_segments = (
         (
           (
             83 ∷ 109 ∷ 105 ∷ 116 ∷ 104 ∷ [],
-            inr (
-              tt,
-              (83 ∷ 109 ∷ []) ∷ (105 ∷ 116 ∷ 104 ∷ []) ∷ [],
-              refl,
-              in_indefinite _ (without 22 _ tt (omega arith) (omega arith)) (
-                going true 4 _ (omega arith),
-                _,
-                octets_read Ber 4 (83 ∷ 109 ∷ []) _ 126 (omega arith) (omega arith) (omega arith),
-                (
-                  going true 4 _ (omega arith),
-                  _,
-                  octets_read Ber 4 (105 ∷ 116 ∷ 104 ∷ []) _ 126 (omega arith) (omega arith) (omega arith),
-                  (inr (refl, 1 ∷ 1 ∷ 1 ∷ 0 ∷ 0 ∷ [], refl), refl),
+            closed_segments _ (λ s. s) (without 22 _ tt (omega arith) (omega arith)) (
+                one_more (83 ∷ 109 ∷ []) (105 ∷ 116 ∷ 104 ∷ []) _ (going true 4 _ (omega arith)) (octets_read Ber 4 (83 ∷ 109 ∷ []) _ 126 (omega arith) (omega arith) (omega arith)) (
+                one_more (105 ∷ 116 ∷ 104 ∷ []) [] _ (going true 4 _ (omega arith)) (octets_read Ber 4 (105 ∷ 116 ∷ 104 ∷ []) _ 126 (omega arith) (omega arith) (omega arith))
+                (none (inr (refl, 1 ∷ 1 ∷ 1 ∷ 0 ∷ 0 ∷ [], refl))) refl
+                ) refl
                 ),
-              ),
-            ),
             (refl, search rules),
           ),
           tt,

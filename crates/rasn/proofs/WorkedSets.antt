@@ -9,7 +9,7 @@ use Rattle.rasn_types.specs.Shapes.{number, numbers, items, walk, IsIn, integer,
 use Rattle.rasn_types.specs.Shapes.Parts.{none}
 use Rattle.rasn_types.specs.Contents.{signed}
 use Rattle.rasn_types.specs.Trees.{unsigned_range}
-use Rattle.rasn_types.specs.Bytes.{IsLess, DoNotFall, PartsWritten, TagsOf, Bytes, fields_of, IsBare}
+use Rattle.rasn_types.specs.Bytes.{IsLess, DoNotFall, PartsWritten, TagsOf, Bytes, fields_of, IsUntaggedOpen}
 use Rattle.rasn_types.specs.Carried.{Meets}
 use Rattle.rasn_types.proofs.Alike.{items_one}
 use Rattle.rasn_types.proofs.Frames.{begins_one}
@@ -29,7 +29,7 @@ rises low high h (inl k) = omega (arith, k)
 rises low high h (inr k) = omega (arith, h, k.1)
 
 pub set_rises : IsCarriedAs Der three_of_set one_two_three rising_octets
-unfolding Bytes fields_of Meets IsBare
+unfolding Bytes fields_of Meets IsUntaggedOpen
 set_rises = (
   record {
     octets = rising_octets;
@@ -136,7 +136,7 @@ set_of_rises = (
 
 two_written : Bytes Der (set (in_universal 17) (part required (tagged (integer every) 0) (part required (tagged (integer every) 1) none))) (items (number (pos 1) ∷ number (pos 2) ∷ []))
     (49 ∷ 6 ∷ 128 ∷ 1 ∷ 1 ∷ 129 ∷ 1 ∷ 2 ∷ [])
-unfolding Bytes fields_of IsBare
+unfolding Bytes fields_of IsUntaggedOpen
 two_written = (
   number (pos 1) ∷ number (pos 2) ∷ [],
   (128 ∷ 1 ∷ 1 ∷ []) ∷ (129 ∷ 1 ∷ 2 ∷ []) ∷ [],
@@ -160,7 +160,7 @@ two_written = (
 
 all_in_set : IsCarriedAs Der mixed (items (items (number (pos 1) ∷ number (pos 2) ∷ []) ∷ number (pos 7) ∷ numbers (5 ∷ 0 ∷ []) ∷ items (number (pos 9) ∷ []) ∷ []))
     (49 ∷ 22 ∷ 49 ∷ 6 ∷ 128 ∷ 1 ∷ 1 ∷ 129 ∷ 1 ∷ 2 ∷ 64 ∷ 1 ∷ 7 ∷ 162 ∷ 2 ∷ 5 ∷ 0 ∷ 163 ∷ 5 ∷ 48 ∷ 3 ∷ 2 ∷ 1 ∷ 9 ∷ [])
-unfolding Bytes fields_of Meets IsBare
+unfolding Bytes fields_of Meets IsUntaggedOpen
 all_in_set = (
   record {
     octets = 49 ∷ 22 ∷ 49 ∷ 6 ∷ 128 ∷ 1 ∷ 1 ∷ 129 ∷ 1 ∷ 2 ∷ 64 ∷ 1 ∷ 7 ∷ 162 ∷ 2 ∷ 5 ∷ 0 ∷ 163 ∷ 5 ∷ 48 ∷ 3 ∷ 2 ∷ 1 ∷ 9 ∷ [];

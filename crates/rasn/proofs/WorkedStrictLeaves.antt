@@ -1,11 +1,12 @@
 -- Headers and contents that DER doesn't read.
 use Rattle.std.proofs.Common.{◌≡◌, ℕ, ◌^◌, ◌<◌, ◌≢◌, inl, inr, List, [], ◌∷◌, length, Bool, true, false, pos, negsuc, Some, refl, sym, ap, subst, arith}
-use Rattle.rasn_types.specs.Tags.{ber_form, der_form, loose_form, in_universal}
+use Rattle.rasn_types.specs.Tags.{basic_form, der_form, loose_form, in_universal}
 use Rattle.rasn_types.specs.declared.types.rules.Codec.TheVariants.{Ber, Der}
 use Rattle.rasn_types.specs.declared.types.tag.Class.TheVariants.{Context}
 use Rattle.rasn_types.specs.Framing.{number_in, AreOctets, IdSpells, Spells128, Frame, with_length, definite, IsShortestId, Next}
 use Rattle.rasn_types.specs.Shapes.{number, bits, numbers, any, prefix, every, boolean, integer, object_identifier, bit_string, octet_string}
 use Rattle.rasn_types.specs.Readers.{in_definite}
+use Rattle.rasn_types.specs.Contents.{primitive}
 use Rattle.rasn_types.specs.Grammar.{Reads, parts_of}
 use Rattle.rasn_types.specs.Bytes.{Bytes, fields_of}
 use Rattle.rasn_types.specs.Carried.{Meets, Carried}
@@ -31,7 +32,7 @@ high_spells = record {
   is_one = no_eoc 1 (omega arith);
 }
 
-bool_refused : (bit : Bool) (input : List ℕ) → AreOctets input → Frame ber_form input (in_universal 1) bit [] (definite (255 ∷ [])) → 1 ∷ 1 ∷ 255 ∷ [] ≢ input → IsLenient (plain boolean 1) input (number (pos 1))
+bool_refused : (bit : Bool) (input : List ℕ) → AreOctets input → Frame basic_form input (in_universal 1) bit [] (definite (255 ∷ [])) → 1 ∷ 1 ∷ 255 ∷ [] ≢ input → IsLenient (plain boolean 1) input (number (pos 1))
 unfolding Reads parts_of true_carried
 bool_refused bit input o f n = lenient (plain boolean 1) bool_lawful input o (number (pos 1))
     ((bit, 255 ∷ [], f, (pos 1, refl, (255, refl, inr ((λ e. omega arith), refl))), λ z. absurd z), tt) true_carried n
@@ -182,11 +183,9 @@ unfolding Reads parts_of Meets
 long_octets = lenient (plain octet_string 4) octets_lawful (4 ∷ 129 ∷ 2 ∷ 161 ∷ 178 ∷ []) (omega arith, (omega arith, (omega arith, (omega arith, (omega arith, tt))))) (numbers (161 ∷ 178 ∷ [])) (
   (
     161 ∷ 178 ∷ [],
-    inl (
-      161 ∷ 178 ∷ [],
-      with_length (4 ∷ []) (129 ∷ 2 ∷ []) (161 ∷ 178 ∷ []) (short_id 4 false (omega arith) (omega arith)) (inr (refl, omega arith, omega arith, refl, omega arith)) (λ s. absurd s) refl,
-      refl,
-    ),
+    primitive (161 ∷ 178 ∷ [])
+        (with_length (4 ∷ []) (129 ∷ 2 ∷ []) (161 ∷ 178 ∷ []) (short_id 4 false (omega arith) (omega arith)) (inr (refl, omega arith, omega arith, refl, omega arith)) (λ s. absurd s) refl)
+        refl,
     refl,
   ),
   tt,

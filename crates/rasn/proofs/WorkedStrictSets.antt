@@ -1,13 +1,13 @@
 -- Defaults, SET and SET OF that DER doesn't read.
 use Rattle.std.proofs.Common.{◌≡◌, ℕ, ◌+◌, ◌*◌, ◌<◌, ◌≢◌, inl, inr, List, [], ◌∷◌, ◌++◌, true, false, pos, rules, refl, sym, ap, ap₂, ◌∙◌, subst, arith}
 use Rattle.std.proofs.lemmas.List.{append_cancel_right}
-use Rattle.rasn_types.specs.Tags.{ber_form}
+use Rattle.rasn_types.specs.Tags.{basic_form}
 use Rattle.rasn_types.specs.declared.types.rules.Codec.TheVariants.{Ber, Der}
 use Rattle.rasn_types.specs.Framing.{number_in, AreOctets, Next}
 use Rattle.rasn_types.specs.Shapes.{Tree, number, numbers, items, walk, chosen, part, required, every, integer, octet_string}
 use Rattle.rasn_types.specs.Shapes.Parts.{none}
 use Rattle.rasn_types.specs.Contents.{signed}
-use Rattle.rasn_types.specs.Readers.{in_definite, in_indefinite, ReadFrom, ReadsSet}
+use Rattle.rasn_types.specs.Readers.{in_definite, in_indefinite, ReadFrom, ReadsChoice, ReadsSet}
 use Rattle.rasn_types.specs.Grammar.{Reads, parts_of}
 use Rattle.rasn_types.specs.Bytes.{Bytes, fields_of, DoNotFall, IsLess}
 use Rattle.rasn_types.specs.Carried.{Meets, Carried}
@@ -79,13 +79,13 @@ component : (range : Interval) (n o : ℕ) → n < 31 → o < 128 → IsIn range
 unfolding Reads parts_of
 component range n o h k within rest = ((false, o ∷ [], context_frame n false (o ∷ []) rest h (omega arith), (refl, (λ e. cc), within), λ z. absurd z), tt)
 
-component_next : (n o : ℕ) → n < 31 → (rest : List ℕ) → Next ber_form ((64 * 2 + (32 * 0 + n)) ∷ 1 ∷ o ∷ rest) (contextual n)
-component_next n o h rest = frame_next (context_frame {spelling = ber_form} n false (o ∷ []) rest h (omega arith))
+component_next : (n o : ℕ) → n < 31 → (rest : List ℕ) → Next basic_form ((64 * 2 + (32 * 0 + n)) ∷ 1 ∷ o ∷ rest) (contextual n)
+component_next n o h rest = frame_next (context_frame {spelling = basic_form} n false (o ∷ []) rest h (omega arith))
 
 other : (j k : ℕ) → j ≢ k → (t u : Tree) → chosen j t ≡ chosen k u → ⊥
 other j k n t u e = n cc
 
-set_contents : ReadsSet Ber (parts_of Ber (part required (small 0) (part required (small 1) (part required (small 2) none))) 127 false) false
+set_contents : ReadsSet Ber (required ∷ required ∷ required ∷ []) (ReadsChoice Ber 0 (parts_of Ber (part required (small 0) (part required (small 1) (part required (small 2) none))) 127 false)) false
     (130 ∷ 1 ∷ 3 ∷ 129 ∷ 1 ∷ 2 ∷ 128 ∷ 1 ∷ 1 ∷ []) one_two_three []
 unfolding Reads parts_of
 set_contents = (
@@ -95,15 +95,15 @@ set_contents = (
   (
     going false 130 _ (omega arith),
     129 ∷ 1 ∷ 2 ∷ 128 ∷ 1 ∷ 1 ∷ [],
-    inr (inr (inl (number (pos 3), refl, contextual 2, component_next 2 3 (omega arith) _, refl, component (unsigned_range 8) 2 3 (omega arith) (omega arith) (search rules, search rules) _))),
+    inr (inr (inl (number (pos 3), refl, contextual 2, component_next 2 3 (omega arith) _, refl, component (unsigned_range 8) 2 3 (omega arith) (omega arith) (search rules, search rules) _, λ z. tt))),
     (
       going false 129 _ (omega arith),
       128 ∷ 1 ∷ 1 ∷ [],
-      inr (inl (number (pos 2), refl, contextual 1, component_next 1 2 (omega arith) _, refl, component (unsigned_range 8) 1 2 (omega arith) (omega arith) (search rules, search rules) _)),
+      inr (inl (number (pos 2), refl, contextual 1, component_next 1 2 (omega arith) _, refl, component (unsigned_range 8) 1 2 (omega arith) (omega arith) (search rules, search rules) _, λ z. tt)),
       (
         going false 128 _ (omega arith),
         [],
-        inl (number (pos 1), refl, contextual 0, component_next 0 1 (omega arith) [], refl, component (unsigned_range 8) 0 1 (omega arith) (omega arith) (search rules, search rules) []),
+        inl (number (pos 1), refl, contextual 0, component_next 0 1 (omega arith) [], refl, component (unsigned_range 8) 0 1 (omega arith) (omega arith) (search rules, search rules) [], λ z. tt),
         (inl refl, refl),
       ),
     ),
@@ -112,44 +112,35 @@ set_contents = (
     number (pos 1),
     number (pos 2) ∷ number (pos 3) ∷ [],
     refl,
-    inl (
-      record {
-        before = chosen 2 (number (pos 3)) ∷ chosen 1 (number (pos 2)) ∷ [];
-        after = [];
-        is = refl;
-        none_before = ((λ u e. other 2 0 (λ z. omega arith) _ u e), ((λ u e. other 1 0 (λ z. omega arith) _ u e), tt));
-        none_after = tt;
-      },
-      λ z. absurd z,
-    ),
+    inl (record {
+      before = chosen 2 (number (pos 3)) ∷ chosen 1 (number (pos 2)) ∷ [];
+      after = [];
+      is = refl;
+      none_before = ((λ u e. other 2 0 (λ z. omega arith) _ u e), ((λ u e. other 1 0 (λ z. omega arith) _ u e), tt));
+      none_after = tt;
+    }),
     (
       number (pos 2),
       number (pos 3) ∷ [],
       refl,
-      inl (
-        record {
-          before = chosen 2 (number (pos 3)) ∷ [];
-          after = chosen 0 (number (pos 1)) ∷ [];
-          is = refl;
-          none_before = ((λ u e. other 2 1 (λ z. omega arith) _ u e), tt);
-          none_after = ((λ u e. other 0 1 (λ z. omega arith) _ u e), tt);
-        },
-        λ z. absurd z,
-      ),
+      inl (record {
+        before = chosen 2 (number (pos 3)) ∷ [];
+        after = chosen 0 (number (pos 1)) ∷ [];
+        is = refl;
+        none_before = ((λ u e. other 2 1 (λ z. omega arith) _ u e), tt);
+        none_after = ((λ u e. other 0 1 (λ z. omega arith) _ u e), tt);
+      }),
       (
         number (pos 3),
         [],
         refl,
-        inl (
-          record {
-            before = [];
-            after = chosen 1 (number (pos 2)) ∷ chosen 0 (number (pos 1)) ∷ [];
-            is = refl;
-            none_before = tt;
-            none_after = ((λ u e. other 1 2 (λ z. omega arith) _ u e), ((λ u e. other 0 2 (λ z. omega arith) _ u e), tt));
-          },
-          λ z. absurd z,
-        ),
+        inl (record {
+          before = [];
+          after = chosen 1 (number (pos 2)) ∷ chosen 0 (number (pos 1)) ∷ [];
+          is = refl;
+          none_before = tt;
+          none_after = ((λ u e. other 1 2 (λ z. omega arith) _ u e), ((λ u e. other 0 2 (λ z. omega arith) _ u e), tt));
+        }),
         refl,
       ),
     ),
@@ -187,10 +178,10 @@ default_in_set = lenient seven_of_set seven_of_set_lawful (49 ∷ 3 ∷ 128 ∷ 
     (
       going false 128 _ (omega arith),
       [],
-      inl (number (pos 7), refl, contextual 0, component_next 0 7 (omega arith) [], refl, component every 0 7 (omega arith) (omega arith) tt []),
+      inl (number (pos 7), refl, contextual 0, component_next 0 7 (omega arith) [], refl, component every 0 7 (omega arith) (omega arith) tt [], λ z. absurd z),
       (inl refl, refl),
     ),
-    (number (pos 7), [], refl, inl (record { before = []; after = []; is = refl; none_before = tt; none_after = tt }, λ z. absurd z), refl),
+    (number (pos 7), [], refl, inl (record { before = []; after = []; is = refl; none_before = tt; none_after = tt }), refl),
     λ z. absurd z,
   ),
 ) seven_carried (λ e. cc)

@@ -1,14 +1,12 @@
 -- Strings in segments that were worked out by hand.
-use Rattle.std.proofs.Common.{◌≡◌, ℕ, inl, inr, List, [], ◌∷◌, ◌++◌, map, true, false, refl, sym, ◌∙◌, subst, arith}
-use Rattle.rasn_types.specs.Tags.{ber_form, in_universal}
+use Rattle.std.proofs.Common.{◌≡◌, ℕ, suc, inl, inr, List, [], ◌∷◌, ◌++◌, map, true, false, refl, sym, ◌∙◌, subst, arith}
+use Rattle.rasn_types.specs.Tags.{basic_form, in_universal}
 use Rattle.rasn_types.specs.declared.types.rules.Codec.TheVariants.{Ber}
-use Rattle.rasn_types.specs.Framing.{Frame, definite}
+use Rattle.rasn_types.specs.Framing.{Frame, definite, Next}
 use Rattle.rasn_types.specs.Shapes.{bits, numbers, bit_string, octet_string}
-use Rattle.rasn_types.specs.Readers.{in_definite, in_indefinite, Many}
-use Rattle.rasn_types.specs.Contents.{bits_of, joined_lists, Str, BitSegment, OctetSegment}
+use Rattle.rasn_types.specs.Contents.{bits_of, joined_lists, Str, primitive, segments, closed_segments, Segments, BitSegment, OctetSegment}
 use Rattle.rasn_types.specs.Grammar.{Reads, parts_of}
 use Rattle.rasn_types.proofs.Frames.{frame_one}
-use Rattle.rasn_types.specs.Spelling.{parts}
 use Rattle.rasn.specs.Worked.{Gives, Refuses, plain}
 use Rattle.rasn.proofs.Headers.{short, without, going, no_next, octets_read, bits_read}
 use Rattle.rasn.proofs.Leaves.{str_one}
@@ -20,39 +18,22 @@ unfolding Reads parts_of
 octets_in_segments = (
   (
     (161 ∷ 178 ∷ 195 ∷ []),
-    inr (
-      tt,
-      (161 ∷ []) ∷ (178 ∷ []) ∷ (195 ∷ []) ∷ [],
-      refl,
-      in_indefinite _ (without 4 _ tt (omega arith) (omega arith)) (
-        going true 4 _ (omega arith),
-        _,
-        octets_read Ber 4 (161 ∷ []) _ 127 (omega arith) (omega arith) (omega arith),
-        (
-          going true 36 _ (omega arith),
-          _,
-          inr (
-            tt,
-            (178 ∷ []) ∷ [],
-            refl,
-            in_definite (4 ∷ 1 ∷ 178 ∷ []) (short 4 true (4 ∷ 1 ∷ 178 ∷ []) _ (omega arith) (omega arith) (omega arith))
-                (going false 4 _ (omega arith), [], octets_read Ber 4 (178 ∷ []) [] 126 (omega arith) (omega arith) (omega arith), (inl refl, refl)),
-          ),
-          (
-            going true 36 _ (omega arith),
-            _,
-            inr (
-              tt,
-              (195 ∷ []) ∷ [],
-              refl,
-              in_indefinite _ (without 4 _ tt (omega arith) (omega arith))
-                  (going true 4 _ (omega arith), 0 ∷ 0 ∷ 0 ∷ 0 ∷ [], octets_read Ber 4 (195 ∷ []) _ 126 (omega arith) (omega arith) (omega arith), (inr (refl, 0 ∷ 0 ∷ [], refl), refl)),
-            ),
-            (inr (refl, [], refl), refl),
-          ),
+    closed_segments _ (λ s. s) (without 4 _ tt (omega arith) (omega arith)) (
+        Segments.one_more (161 ∷ []) (178 ∷ 195 ∷ []) _ (going true 4 _ (omega arith)) (octets_read Ber 4 (161 ∷ []) _ 127 (omega arith) (omega arith) (omega arith)) (
+        Segments.one_more (178 ∷ []) (195 ∷ []) _ (going true 36 _ (omega arith)) (
+        segments (4 ∷ 1 ∷ 178 ∷ []) (λ s. s) (short 4 true (4 ∷ 1 ∷ 178 ∷ []) _ (omega arith) (omega arith) (omega arith)) (
+        Segments.one_more (178 ∷ []) [] [] (going false 4 _ (omega arith)) (octets_read Ber 4 (178 ∷ []) [] 126 (omega arith) (omega arith) (omega arith)) (Segments.none (inl refl)) refl
+        )
+        ) (
+        Segments.one_more (195 ∷ []) [] _ (going true 36 _ (omega arith)) (
+        closed_segments _ (λ s. s) (without 4 _ tt (omega arith) (omega arith)) (
+        Segments.one_more (195 ∷ []) [] (0 ∷ 0 ∷ 0 ∷ 0 ∷ []) (going true 4 _ (omega arith)) (octets_read Ber 4 (195 ∷ []) _ 126 (omega arith) (omega arith) (omega arith))
+        (Segments.none (inr (refl, 0 ∷ 0 ∷ [], refl))) refl
+        )
+        ) (Segments.none (inr (refl, [], refl))) refl
+        ) refl
+        ) refl
         ),
-      ),
-    ),
     refl,
   ),
   tt,
@@ -73,49 +54,41 @@ bits_in_segments = (
     joined_lists (map bits_of (10 ∷ 59 ∷ 95 ∷ 41 ∷ 28 ∷ [])) ++ (true ∷ true ∷ false ∷ true ∷ []),
     refl,
     omega arith,
-    inr (
-      tt,
-      joined_lists (map bits_of (10 ∷ 59 ∷ [])) ∷ (joined_lists (map bits_of (95 ∷ 41 ∷ 28 ∷ [])) ++ (true ∷ true ∷ false ∷ true ∷ [])) ∷ [],
-      refl,
-      in_indefinite _ (without 3 _ tt (omega arith) (omega arith)) (
-        going true 3 _ (omega arith),
-        _,
-        bits_read Ber 3 (0 ∷ 10 ∷ 59 ∷ []) _ _ 127 (omega arith) (omega arith) (omega arith) (first_bits, λ z. absurd z),
-        (
-          going true 3 _ (omega arith),
-          _,
-          bits_read Ber 3 (4 ∷ 95 ∷ 41 ∷ 28 ∷ 208 ∷ []) _ _ 127 (omega arith) (omega arith) (omega arith) (last_bits, λ z. absurd z),
-          (inr (refl, [], refl), refl),
+    closed_segments _ (λ s. s) (without 3 _ tt (omega arith) (omega arith)) (
+        Segments.one_more (joined_lists (map bits_of (10 ∷ 59 ∷ []))) (joined_lists (map bits_of (95 ∷ 41 ∷ 28 ∷ [])) ++ (true ∷ true ∷ false ∷ true ∷ [])) _ (going true 3 _ (omega arith))
+        (bits_read Ber 3 (0 ∷ 10 ∷ 59 ∷ []) _ _ 127 (omega arith) (omega arith) (omega arith) (first_bits, λ z. absurd z)) (
+        Segments.one_more (joined_lists (map bits_of (95 ∷ 41 ∷ 28 ∷ [])) ++ (true ∷ true ∷ false ∷ true ∷ [])) [] _ (going true 3 _ (omega arith))
+        (bits_read Ber 3 (4 ∷ 95 ∷ 41 ∷ 28 ∷ 208 ∷ []) _ _ 127 (omega arith) (omega arith) (omega arith) (last_bits, λ z. absurd z)) (Segments.none (inr (refl, [], refl))) refl
+        ) refl
         ),
-      ),
-    ),
   ),
   tt,
 )
 
 pub zeros_in_definite_string : Refuses Ber (plain octet_string 4) (36 ∷ 5 ∷ 4 ∷ 1 ∷ 161 ∷ 0 ∷ 0 ∷ [])
 unfolding Reads parts_of
-zeros_in_definite_string t rest ((octets, str, text), w) = no_string str
+zeros_in_definite_string t rest ((octets, str, text), w) = no_string 128 octets rest str
   where
-    known : Frame ber_form (36 ∷ 5 ∷ 4 ∷ 1 ∷ 161 ∷ 0 ∷ 0 ∷ []) (in_universal 4) true [] (definite (4 ∷ 1 ∷ 161 ∷ 0 ∷ 0 ∷ []))
+    known : Frame basic_form (36 ∷ 5 ∷ 4 ∷ 1 ∷ 161 ∷ 0 ∷ 0 ∷ []) (in_universal 4) true [] (definite (4 ∷ 1 ∷ 161 ∷ 0 ∷ 0 ∷ []))
     known = short 4 true (4 ∷ 1 ∷ 161 ∷ 0 ∷ 0 ∷ []) [] (omega arith) (omega arith) (omega arith)
 
-    behind : (parts : List (List ℕ)) → Many (Str Ber OctetSegment (in_universal 4) 127 (in_universal 4)) false (0 ∷ 0 ∷ []) parts [] → ⊥
-    behind [] (inl e, f) = cc
-    behind [] (inr e, f) = let g = e.0 in cc
-    behind (x ∷ xs) (n, m, h, more) = no_next ber_form (in_universal 4) (str_next Ber OctetSegment (in_universal 4) 127 (in_universal 4) (0 ∷ 0 ∷ []) x m h)
+    -- Two zeros don't end definite contents, and no segment begins with them.
+    behind : (depth : ℕ) (input xs rest : List ℕ) → Segments Ber OctetSegment (in_universal 4) depth false input xs rest → input ≡ 0 ∷ 0 ∷ [] → rest ≡ [] → ⊥
+    behind depth input xs rest (Segments.none e) f g = cc
+    behind depth input xs rest (Segments.one_more first others middle n s more is) f g =
+        no_next basic_form (in_universal 4) (subst (λ l. Next basic_form l (in_universal 4)) f (str_next Ber OctetSegment (in_universal 4) depth (in_universal 4) input first middle s))
 
-    segments : (parts : List (List ℕ)) → Many (Str Ber OctetSegment (in_universal 4) 127 (in_universal 4)) false (4 ∷ 1 ∷ 161 ∷ 0 ∷ 0 ∷ []) parts [] → ⊥
-    segments [] (e, f) = going false 4 _ (omega arith) e
-    segments (x ∷ xs) (n, m, h, more) =
-        let o = str_one Ber OctetSegment (λ l a b p q. p ∙ sym q) (in_universal 4) 127 (in_universal 4) (4 ∷ 1 ∷ 161 ∷ 0 ∷ 0 ∷ []) x (161 ∷ []) m (0 ∷ 0 ∷ [])
-        h (octets_read Ber 4 (161 ∷ []) (0 ∷ 0 ∷ []) 127 (omega arith) (omega arith) (omega arith)) in
-        behind xs (subst (λ i. Many (Str Ber OctetSegment (in_universal 4) 127 (in_universal 4)) false i xs []) o.1 more)
+    held : (depth : ℕ) (input xs rest : List ℕ) → Segments Ber OctetSegment (in_universal 4) depth false input xs rest → input ≡ 4 ∷ 1 ∷ 161 ∷ 0 ∷ 0 ∷ [] → rest ≡ [] → ⊥
+    held depth input xs rest (Segments.none e) f g = cc
+    held depth input xs rest (Segments.one_more x others m n h more is) f g =
+        let o = str_one Ber OctetSegment (λ l a b p q. p ∙ sym q) (in_universal 4) depth (in_universal 4) (4 ∷ 1 ∷ 161 ∷ 0 ∷ 0 ∷ []) x (161 ∷ []) m (0 ∷ 0 ∷ [])
+        (subst (λ l. Str Ber OctetSegment (in_universal 4) depth (in_universal 4) l x m) f h) (octets_read Ber 4 (161 ∷ []) (0 ∷ 0 ∷ []) depth (omega arith) (omega arith) (omega arith)) in
+        behind depth m others rest more o.1 g
 
-    no_string : Str Ber OctetSegment (in_universal 4) 128 (in_universal 4) (36 ∷ 5 ∷ 4 ∷ 1 ∷ 161 ∷ 0 ∷ 0 ∷ []) octets rest → ⊥
-    no_string (inl (c, f, g)) = let e = (frame_one _ known f).bit in cc
-    no_string (inr (a, parts, e, in_definite c f g)) =
+    no_string : (depth : ℕ) (xs rest : List ℕ) → Str Ber OctetSegment (in_universal 4) depth (in_universal 4) (36 ∷ 5 ∷ 4 ∷ 1 ∷ 161 ∷ 0 ∷ 0 ∷ []) xs rest → ⊥
+    no_string depth xs rest (primitive c f g) = let e = (frame_one _ known f).bit in cc
+    no_string (suc depth) xs rest (segments c has f m) =
         let o : definite (4 ∷ 1 ∷ 161 ∷ 0 ∷ 0 ∷ []) ≡ definite c = (frame_one _ known f).extent in
         let p : c ≡ 4 ∷ 1 ∷ 161 ∷ 0 ∷ 0 ∷ [] = cc in
-        segments parts (subst (λ i. Many (Str Ber OctetSegment (in_universal 4) 127 (in_universal 4)) false i parts []) p g)
-    no_string (inr (a, parts, e, in_indefinite c f g)) = let o = (frame_one _ known f).extent in cc
+        held depth c xs [] m p refl
+    no_string depth xs rest (closed_segments c has f m) = let o = (frame_one _ known f).extent in cc

@@ -76,7 +76,7 @@ far_below = (
       tt,
       (
         255 ∷ 127 ∷ 0 ∷ [],
-        record { is = (refl, (λ e. cc), (search rules, search rules)); octets = (omega arith, (omega arith, (omega arith, tt))); shortest = ((λ h. omega (arith, h.0)), (λ h. omega (arith, h.1))) },
+        record { is = (refl, (λ e. cc), (search rules, search rules)); octets = (omega arith, (omega arith, (omega arith, tt))); shortest = λ r. elim r [ inl h ↦ omega (arith, h.0) | inr h ↦ omega (arith, h.1) ] },
         short_written 2 false (255 ∷ 127 ∷ 0 ∷ []) (omega arith) (omega arith),
       ),
     );

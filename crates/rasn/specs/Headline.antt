@@ -7,7 +7,7 @@ use Rattle.rasn_types.specs.declared.error.decode.DecodeError.{DecodeError}
 use Rattle.rasn_types.specs.declared.error.decode.DecodeErrorKind.TheVariants.{UnexpectedExtraData}
 use Rattle.rasn_types.specs.Shapes.{Shape, Tree}
 use Rattle.rasn_types.specs.Grammar.{Reads, top}
-use Rattle.rasn_types.specs.Bytes.{Same, Bytes}
+use Rattle.rasn_types.specs.Bytes.{Same}
 use Rattle.rasn_types.specs.Carried.{Carried, Meets}
 use Rattle.rasn_types.specs.Lawful.{IsLawful}
 use Rattle.rasn_de.specs.Outcomes.{Exact, Outcome, Got, refusal}
@@ -43,12 +43,12 @@ AnsweredAlone rule shape tree input (Err e) = Exact (Reads rule shape 128 (top r
 abbrev pub Identify : Shape → Tree → List ℕ → Type 0
 Identify s t octets = IsLawful s → Meets Der s 128 t → (u : Tree) (c : Carried Der s u) → (Same t u ↔ (octets ≡ c.octets))
 
--- Where a carried value is answered, the octets that it was read from are all those that DER writes of it, in front of the rest.
+-- Where a carried value is answered, it was read from its octets, in front of the rest.
 abbrev pub TakesWritten : {T : Type 0} → Shape → (T → Tree) → List ℕ → Result (T × Bor (List ℕ)) DecodeError → Type 0
-TakesWritten s tree input (Ok p) = IsLawful s → Meets Der s 128 (tree p.0) → (octets : List ℕ) → Bytes Der s (tree p.0) octets → input ≡ octets ++ p.1.now
+TakesWritten s tree input (Ok p) = IsLawful s → (c : Carried Der s (tree p.0)) → input ≡ c.octets ++ p.1.now
 TakesWritten s tree input (Err e) = Unit {0}
 
 -- The same of a value that is all of the input.
 abbrev pub IsAsWritten : {T : Type 0} → Shape → (T → Tree) → List ℕ → Result T DecodeError → Type 0
-IsAsWritten s tree input (Ok v) = IsLawful s → Meets Der s 128 (tree v) → (octets : List ℕ) → Bytes Der s (tree v) octets → input ≡ octets
+IsAsWritten s tree input (Ok v) = IsLawful s → (c : Carried Der s (tree v)) → input ≡ c.octets
 IsAsWritten s tree input (Err e) = Unit {0}

@@ -6,12 +6,14 @@ use Rattle.rasn_types.specs.declared.types.tag.Tag.{Tag}
 use Rattle.rasn_types.specs.declared.types.constraints.Bound.{Bound}
 use Rattle.rasn_types.specs.declared.types.constraints.Constraints.{Constraints}
 use Rattle.rasn_types.specs.Framing.{Whole, turns, AreOctets}
-use Rattle.rasn_types.specs.Shapes.{Tree, Kind, Shape, leaf, any, prefix, choice, option, seq, set, list, set_of, Parts, part, Presence, default, IsFirst, IsFirstOf, IsSolid}
+use Rattle.rasn_types.specs.Shapes.{Tree, Kind, Shape, leaf, any, prefix, choice, option, seq, set, list, set_of, Parts, part, Presence, default, IsSolid}
 use Rattle.rasn_types.specs.Shapes.Parts.{none}
 use Rattle.rasn_types.specs.Grammar.{Reads, top}
 use Rattle.rasn_types.specs.Bytes.{Same, Bytes}
 use Rattle.rasn_types.specs.Carried.{Meets, Carried}
-use Rattle.rasn_types.specs.Lawful.{IsLawful, AreDisjoint}
+use Rattle.rasn_types.specs.Lawful.{AreToldApart, IsLawful}
+use Rattle.rasn_types.specs.LawfulTest.{is_lawful}
+use Rattle.rasn.specs.Carries.{carries_all}
 
 -- At most one value and one rest, at each depth.
 abbrev pub IsReadOnce : Codec → Shape → Type 0
@@ -22,10 +24,9 @@ abbrev pub AreReadOnce : Codec → Parts → Type 0
 AreReadOnce rule none = Unit {0}
 AreReadOnce rule (part presence s ps) = IsReadOnce rule s × AreReadOnce rule ps
 
--- No two parts begin with one tag.
-abbrev pub AreToldApart : Parts → Type 0
-AreToldApart none = Unit {0}
-AreToldApart (part presence s ps) = AreDisjoint (IsFirst s) (IsFirstOf ps) × AreToldApart ps
+-- The test of a lawful shape decides.
+abbrev pub LawfulTested : Type 0
+LawfulTested = (s : Shape) → (IsLawful s ↔ (is_lawful s ≡ true))
 
 -- Each case, resting on its parts.
 abbrev pub OneLeaf : Type 0
@@ -98,6 +99,11 @@ abbrev mutual
 -- What DER reads, and meets the depth, is carried.
 abbrev pub OnlyCarried : Type 0
 OnlyCarried = (s : Shape) → IsLawful s → HasOwnDefaults s → (input : List ℕ) → AreOctets input → (t : Tree) (rest : List ℕ) → Reads Der s 128 (top Der) input t rest → Meets Der s 128 t
+    → (c : Carried Der s t) × (input ≡ c.octets ++ rest)
+
+-- What DER reads of a shape that passes the test is carried.
+abbrev pub AllCarried : Type 0
+AllCarried = (s : Shape) → IsLawful s → carries_all s ≡ true → (input : List ℕ) → AreOctets input → (t : Tree) (rest : List ℕ) → Reads Der s 128 (top Der) input t rest
     → (c : Carried Der s t) × (input ≡ c.octets ++ rest)
 
 -- What DER reads of a carried tree's octets is carried too, with the same octets.

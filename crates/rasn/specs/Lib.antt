@@ -1,7 +1,9 @@
 pub mod Headline
 pub mod Laws
+pub mod Carries
 pub mod TimeLaws
 pub mod Worked
 pub mod WorkedShapes
 pub mod WorkedDepths
+pub mod WorkedHeaders
 pub mod WorkedValues

@@ -10,7 +10,7 @@ pub record OneMeaning : Type 0 where
   pub date : (text : List ℕ) (d e : Day) → DateText text d → DateText text e → d ≡ e
 
 -- a canonical text is a general one
-pub record Included : Type 0 where
+pub record IncludedTexts : Type 0 where
   pub utc : (text : List ℕ) (t : Stamp) → CanonicalUtc text t → GeneralUtc text t
   pub generalized : (text : List ℕ) (t : Stamp) → CanonicalGeneralized text t → GeneralGeneralized text t
 

@@ -1,15 +1,33 @@
 -- Values nested as deep as they may be, and one deeper.
-use Rattle.std.specs.Prelude.{ℕ, zero, suc, List, [], ◌∷◌, ◌++◌, length, None}
+use Rattle.std.specs.Prelude.{ℕ, zero, suc, List, [], ◌∷◌, ◌++◌, length, pos, None}
 use Rattle.rasn_types.specs.Tags.{in_universal}
 use Rattle.rasn_types.specs.declared.types.rules.Codec.TheVariants.{Ber}
-use Rattle.rasn_types.specs.Shapes.{Tree, numbers, items, integer, every, octet_string, Shape, list}
+use Rattle.rasn_types.specs.Shapes.{Tree, number, numbers, items, integer, every, null, octet_string, Shape, prefix, seq, set, list, part, required}
+use Rattle.rasn_types.specs.Shapes.Parts.{none}
 use Rattle.rasn.specs.Worked.{Refuses, Gives}
-use Rattle.rasn.specs.WorkedShapes.{plain}
+use Rattle.rasn.specs.WorkedShapes.{plain, contextual}
 
--- Segments of no octets, nested so deep: `24 80` so often, and `00 00` as often.
-unfoldable pub segments : ℕ → List ℕ
-segments zero = []
-segments (suc n) = 36 ∷ 128 ∷ (segments n ++ (0 ∷ 0 ∷ []))
+-- Octets in the indefinite form, nested so deep: each value begins with this octet and `80`, and ends in `00 00`.
+unfoldable pub nested_in : ℕ → List ℕ → ℕ → List ℕ
+nested_in first inner zero = inner
+nested_in first inner (suc n) = first ∷ 128 ∷ (nested_in first inner n ++ (0 ∷ 0 ∷ []))
+
+-- Segments of no octets, nested so deep.
+abbrev pub segments : ℕ → List ℕ
+segments n = nested_in 36 [] n
+
+-- An empty SEQUENCE in so many others, an empty SET in so many others, and NULL behind so many prefixes.
+unfoldable pub sequences : ℕ → Shape
+sequences zero = seq (in_universal 16) none
+sequences (suc n) = seq (in_universal 16) (part required (sequences n) none)
+
+unfoldable pub sets : ℕ → Shape
+sets zero = set (in_universal 17) none
+sets (suc n) = set (in_universal 17) (part required (sets n) none)
+
+unfoldable pub prefixes : ℕ → Shape
+prefixes zero = plain null 5
+prefixes (suc n) = prefix (contextual 0) (prefixes n)
 
 -- SEQUENCE OF, nested so deep in another one, and an empty one in as many: `30 00`, `30 02 30 00`, ..
 unfoldable pub lists : ℕ → Shape
@@ -29,3 +47,9 @@ pub record WorkedDepths : Type 0 where
   pub segments_129 : Refuses Ber (plain octet_string 4) (segments 129)
   pub lists_64 : Gives Ber (lists 63) (nested_lists 63) (empty_in 63) []
   pub lists_65 : Refuses Ber (lists 64) (48 ∷ 129 ∷ 128 ∷ nested_lists 63)
+  pub sequences_128 : Gives Ber (sequences 127) (nested_in 48 [] 128) (empty_in 127) []
+  pub sequences_129 : Refuses Ber (sequences 128) (nested_in 48 [] 129)
+  pub sets_128 : Gives Ber (sets 127) (nested_in 49 [] 128) (empty_in 127) []
+  pub sets_129 : Refuses Ber (sets 128) (nested_in 49 [] 129)
+  pub prefixes_128 : Gives Ber (prefixes 128) (nested_in 160 (5 ∷ 0 ∷ []) 128) (number (pos 0)) []
+  pub prefixes_129 : Refuses Ber (prefixes 129) (nested_in 160 (5 ∷ 0 ∷ []) 129)

@@ -3,11 +3,17 @@ use Rattle.std.specs.Prelude.{◌≡◌, ℕ, [], ◌∷◌, pos, Some, None, tr
 use Rattle.rasn_types.specs.Tags.{in_universal}
 use Rattle.rasn_types.specs.declared.types.tag.Tag.{Tag}
 use Rattle.rasn_types.specs.declared.types.tag.Class.TheVariants.{Application, Context}
-use Rattle.rasn_types.specs.Shapes.{number, every, Kind, boolean, null, object_identifier, bit_string, octet_string, integer, enumerated, utf8, ia5, printable, utc_time, generalized_time, date, Shape, Parts, leaf, any, prefix, choice, option, seq, set, list, set_of, part, required, optional, addition, default}
+use Rattle.rasn_types.specs.Shapes.{number, walk, items, absent, every, Kind, boolean, object_identifier, bit_string, octet_string, integer, ia5, utc_time, generalized_time, Shape, Parts, leaf, any, prefix, choice, option, seq, set, list, set_of, part, required, optional, addition, default}
 use Rattle.rasn_types.specs.Shapes.Parts.{none}
-use Rattle.rasn_types.specs.Trees.{unconstrained, signed_range, unsigned_range}
+use Rattle.rasn_types.specs.Trees.{unconstrained, unsigned_range}
+use Rattle.rasn_types.specs.declared.types.rules.Codec.TheVariants.{Der}
 use Rattle.rasn_types.specs.Lawful.{IsLawful}
-use Rattle.rasn_types.specs.Described.{describes}
+use Rattle.rasn_types.specs.Described.{count, describes}
+use Rattle.rasn_de.proofs.Telling.{begins_alone}
+use Rattle.rasn_types.specs.Grammar.{Reads}
+use Rattle.rasn_types.specs.Carried.{Carried}
+use Rattle.rasn.specs.Laws.{HasOwnDefaults}
+use Rattle.rasn.specs.Carries.{carries_all}
 
 -- a type of this kind with its universal tag and no bounds
 abbrev pub plain : Kind → ℕ → Shape
@@ -19,14 +25,6 @@ contextual n = record { class = Context; value = n }
 -- a type of this kind with the implicit tag [n]
 abbrev pub tagged : Kind → ℕ → Shape
 tagged kind n = leaf kind (contextual n) unconstrained
-
--- SEQUENCE { INTEGER (-2147483648..2147483647), BOOLEAN }
-abbrev pub pair : Shape
-pair = seq (in_universal 16) (part required (plain (integer (signed_range 32)) 2) (part required (plain boolean 1) none))
-
--- ENUMERATED { red (0), green (1), blue (2) }
-abbrev pub colour : Shape
-colour = plain (enumerated (pos 0 ∷ pos 1 ∷ pos 2 ∷ [])) 10
 
 -- SEQUENCE { IA5String, BOOLEAN }
 abbrev pub named : Shape
@@ -91,6 +89,9 @@ mixed = set (in_universal 17) (
 abbrev pub two_parts : Parts
 two_parts = part required (plain (integer every) 2) (part required (plain boolean 1) none)
 
+abbrev pub two_alike : Parts
+two_alike = part required (plain boolean 1) (part required (plain boolean 1) none)
+
 abbrev pub default_alone : Parts
 default_alone = part (default (number (pos 7))) (plain (integer every) 2) none
 
@@ -98,43 +99,109 @@ abbrev pub added_part : Parts
 added_part = part required (plain boolean 1) (part addition (prefix (contextual 0) (plain (integer every) 2)) none)
 
 pub record DescribedParts : Type 0 where
-  pub two_fields : describes 2 0 true two_parts ≡ true
-  pub field_left_out : describes 1 0 true two_parts ≡ false
-  pub none_said_to_come : describes 2 0 false two_parts ≡ false
-  pub none_has_to_come : describes 1 0 false default_alone ≡ true
-  pub default_said_to_come : describes 1 0 true default_alone ≡ false
-  pub behind_a_marker : describes 1 1 true added_part ≡ true
+  pub two_fields : describes 2 0 false true two_parts ≡ true
+  pub field_left_out : describes 1 0 false true two_parts ≡ false
+  pub none_said_to_come : describes 2 0 false false two_parts ≡ false
+  pub none_has_to_come : describes 1 0 false false default_alone ≡ true
+  pub default_said_to_come : describes 1 0 false true default_alone ≡ false
+  pub behind_a_marker : describes 1 1 true true added_part ≡ true
+  pub no_marker : describes 1 1 false true added_part ≡ false
+  pub marker_alone : describes 2 0 true true two_parts ≡ true
+  pub both_counted : count two_parts ≡ 2
+  pub no_other_count : count two_parts ≡ 1 → ⊥
+  pub one_alone : begins_alone two_parts 1 (in_universal 1) ≡ true
+  pub one_of_two_alike : begins_alone two_alike 1 (in_universal 1) ≡ false
+
+-- INTEGER
+abbrev pub whole_number : Shape
+whole_number = plain (integer every) 2
+
+-- BOOLEAN
+abbrev pub truth : Shape
+truth = plain boolean 1
+
+-- Name ::= CHOICE { SEQUENCE OF RelativeDistinguishedName } (RFC 5280, 4.1.2.4)
+abbrev pub name : Shape
+name = choice (part required (list (in_universal 16) relative_name None) none)
+
+-- SubjectPublicKeyInfo ::= SEQUENCE { AlgorithmIdentifier, BIT STRING } (RFC 5280, 4.1)
+abbrev pub public_key : Shape
+public_key = seq (in_universal 16) (part required algorithm (part required (plain bit_string 3) none))
+
+-- Extension ::= SEQUENCE { OBJECT IDENTIFIER, BOOLEAN DEFAULT FALSE, OCTET STRING } (RFC 5280, 4.1)
+abbrev pub extension : Shape
+extension = seq (in_universal 16) (part required (plain object_identifier 6) (part (default (number (pos 0))) truth (part required (plain octet_string 4) none)))
+
+-- TBSCertificate and Certificate (RFC 5280, 4.1)
+abbrev pub to_be_signed : Shape
+to_be_signed = seq (in_universal 16) (
+    part (default (number (pos 0))) (prefix (contextual 0) whole_number) (part required whole_number (part required algorithm (part required name
+    (part required validity (part required name (part required public_key (part optional (tagged bit_string 1) (part optional (tagged bit_string 2)
+    (part optional (prefix (contextual 3) (list (in_universal 16) extension None)) none)))))))))
+    )
+
+abbrev pub certificate : Shape
+certificate = seq (in_universal 16) (part required to_be_signed (part required algorithm (part required (plain bit_string 3) none)))
+
+-- SEQUENCE { BOOLEAN OPTIONAL, INTEGER DEFAULT 7, OCTET STRING }
+abbrev pub left_out_before : Shape
+left_out_before = seq (in_universal 16) (part optional truth (part (default (number (pos 7))) whole_number (part required (plain octet_string 4) none)))
+
+-- SET { BOOLEAN OPTIONAL, CHOICE { UTCTime, GeneralizedTime }, [0] INTEGER DEFAULT 7 }
+abbrev pub choice_in_set : Shape
+choice_in_set = set (in_universal 17) (part optional truth (part required either_time (part (default (number (pos 7))) (tagged (integer every) 0) none)))
+
+-- SET { CHOICE { BOOLEAN, [0] INTEGER }, INTEGER }: universal 2 lies between the first tags of the CHOICE
+abbrev pub overlapping : Shape
+overlapping = set (in_universal 17) (part required (choice (part required truth (part required (tagged (integer every) 0) none))) (part required whole_number none))
+
+-- SEQUENCE { BOOLEAN, ..., [[ INTEGER, BOOLEAN ]] }: the group is one optional SEQUENCE
+abbrev pub with_group : Shape
+with_group = seq (in_universal 16) (part required truth (part optional (seq (in_universal 16) (part required whole_number (part required truth none))) none))
+
+-- SEQUENCE { ..., [0] EXPLICIT INTEGER }
+abbrev pub added_alone : Shape
+added_alone = seq (in_universal 16) (part addition (prefix (contextual 0) whole_number) none)
+
+-- a default that is the tree of no value: the walk of a SET OF goes over a list
+abbrev pub no_value : Shape
+no_value = seq (in_universal 16) (part (default (walk (number (pos 0)))) (set_of (in_universal 17) whole_number None) none)
 
 pub record LawfulShapes : Type 0 where
-  pub bool : IsLawful (plain boolean 1)
-  pub signed_32 : IsLawful (plain (integer (signed_range 32)) 2)
-  pub unsigned_32 : IsLawful (plain (integer (unsigned_range 32)) 2)
-  pub octets : IsLawful (plain octet_string 4)
-  pub pair : IsLawful pair
-  pub whole_number : IsLawful (plain (integer every) 2)
-  pub null : IsLawful (plain null 5)
-  pub identifier : IsLawful (plain object_identifier 6)
-  pub bits : IsLawful (plain bit_string 3)
-  pub colour : IsLawful colour
-  pub utf8 : IsLawful (plain utf8 12)
-  pub ia5 : IsLawful (plain ia5 22)
-  pub printable : IsLawful (plain printable 19)
-  pub utc_time : IsLawful (plain utc_time 23)
-  pub generalized_time : IsLawful (plain generalized_time 24)
-  pub date : IsLawful (plain date 31)
-  pub perhaps_bool : IsLawful perhaps_bool
-  pub named : IsLawful named
-  pub validity : IsLawful validity
-  pub three_of_set : IsLawful three_of_set
-  pub octets_in_set_of : IsLawful octets_in_set_of
-  pub relative_name : IsLawful relative_name
-  pub algorithm : IsLawful algorithm
+  pub certificate : IsLawful certificate
+  pub optional_alone : IsLawful perhaps_bool
   pub any_value : IsLawful (any None)
   pub seven : IsLawful seven
+  pub seven_of_set : IsLawful seven_of_set
   pub extended : IsLawful extended
+  pub added_alone : IsLawful added_alone
   pub mixed : IsLawful mixed
-  pub two_optional_integers : IsLawful (seq (in_universal 16) (part optional (plain (integer every) 2) (part optional (plain (integer every) 2) none))) → ⊥
-  pub one_of_two_integers : IsLawful (choice (part required (plain (integer every) 2) (part required (plain (integer every) 2) none))) → ⊥
+  pub left_out_before : IsLawful left_out_before
+  pub choice_in_set : IsLawful choice_in_set
+  pub with_group : IsLawful with_group
+  pub two_optional_integers : IsLawful (seq (in_universal 16) (part optional whole_number (part optional whole_number none))) → ⊥
+  pub optional_open : IsLawful (seq (in_universal 16) (part optional (any None) (part required truth none))) → ⊥
+  pub optional_within : IsLawful (seq (in_universal 16) (part required perhaps_bool none)) → ⊥
+  pub optional_in_prefix : IsLawful (prefix (contextual 0) perhaps_bool) → ⊥
+  pub other_looked_for : IsLawful (option (Some (in_universal 2)) truth) → ⊥
+  pub one_of_two_integers : IsLawful (choice (part required whole_number (part required whole_number none))) → ⊥
+  pub open_alternative : IsLawful (choice (part required whole_number (part required (any None) none))) → ⊥
   pub turned_round : IsLawful turned_round → ⊥
+  pub overlapping : IsLawful overlapping → ⊥
   pub open_in_set : IsLawful (set (in_universal 17) (part required (any None) none)) → ⊥
+  pub addition_in_set : IsLawful (set (in_universal 17) (part addition (prefix (contextual 0) whole_number) none)) → ⊥
+  pub string_as_sequence : IsLawful (plain octet_string 16) → ⊥
   pub value_of_no_tag : IsLawful (plain (integer every) 0) → ⊥
+
+-- Shapes of which all that DER reads is carried, and shapes of which it isn't; defaults that are the same as themselves, and one that isn't.
+pub record CarriedShapes : Type 0 where
+  pub whole_certificate : carries_all certificate ≡ true
+  pub default_alone : carries_all seven ≡ true
+  pub addition_behind_a_part : carries_all extended ≡ true
+  pub tagged_open : carries_all (any (Some (contextual 1))) ≡ false
+  pub addition_alone : carries_all added_alone ≡ false
+  pub default_of_no_value : carries_all no_value ≡ false
+  pub own_default : HasOwnDefaults seven
+  pub no_own_default : HasOwnDefaults no_value → ⊥
+  pub addition_left_out : Reads Der added_alone 128 false (48 ∷ 0 ∷ []) (items (absent ∷ [])) []
+  pub left_out_not_carried : Carried Der added_alone (items (absent ∷ [])) → ⊥

@@ -1,10 +1,11 @@
 //! The laws of the grammar, for every rule. Each is a promise about its definitions: the functions do nothing when they run.
 ghost use Rattle.rasn.specs.Laws.{OneLeaf, OneOpen, OnePrefix, OneChoice, OneOption, OneSequence, OneSet, OneSequenceOf, OneSetOf};
 ghost use Rattle.rasn.specs.Worked.{Worked, WorkedStrict};
-ghost use Rattle.rasn.specs.WorkedShapes.{DescribedParts, LawfulShapes};
+ghost use Rattle.rasn.specs.WorkedShapes.{DescribedParts, LawfulShapes, CarriedShapes};
 ghost use Rattle.rasn.specs.WorkedDepths.{WorkedDepths};
+ghost use Rattle.rasn.specs.WorkedHeaders.{WorkedHeaders};
 ghost use Rattle.rasn.specs.WorkedValues.{WorkedValues, WorkedSets, WorkedOpens};
-ghost use Rattle.rasn.specs.Laws.{OneReading, Included, ReadAgain, Canonical, WrittenOnce, StrictDer, OnlyCarried, StaysCarried, OneEncoding, Turns};
+ghost use Rattle.rasn.specs.Laws.{OneReading, Included, ReadAgain, Canonical, WrittenOnce, StrictDer, OnlyCarried, AllCarried, StaysCarried, LawfulTested, OneEncoding, Turns};
 
 /// An input is read as at most one value of a kind that holds no others, with one rest.
 pub fn one_leaf()
@@ -82,9 +83,20 @@ pub fn strict_der()
     ensures { StrictDer }
 {}
 
-/// A value of a lawful shape that DER reads, and that meets the depth, is carried, and the octets that are consumed are its DER octets.
+/// A shape is lawful exactly if it passes the test `is_lawful`.
+pub fn lawful_tested()
+    ensures { LawfulTested }
+{}
+
+/// A value of a lawful shape that DER reads is carried where it meets the depth and what open octets, times and additions owe; the octets
+/// that are consumed are its DER octets.
 pub fn only_carried()
     ensures { OnlyCarried }
+{}
+
+/// A value that DER reads of a lawful shape that passes the test `carries_all` is carried, and the octets that are consumed are its DER octets.
+pub fn all_carried()
+    ensures { AllCarried }
 {}
 
 /// What DER reads of a carried value's octets is carried too, with the same octets.
@@ -117,9 +129,19 @@ pub fn lawful_shapes()
     ensures { LawfulShapes }
 {}
 
+/// Shapes of which all that DER reads is carried, and shapes of which it isn't.
+pub fn carried_shapes()
+    ensures { CarriedShapes }
+{}
+
 /// Parts whose count and need a type's fields tell, and parts that they don't.
 pub fn described_parts()
     ensures { DescribedParts }
+{}
+
+/// A tag number and a length are the shortest in their fewest octets, and in no more.
+pub fn worked_headers()
+    ensures { WorkedHeaders }
 {}
 
 /// Values nested as deep as they may be are read, and those one deeper aren't.

@@ -8,6 +8,7 @@ mod entry;
 pub mod laws;
 pub mod prelude;
 pub mod time_laws;
+pub mod types;
 
 pub use rasn_de::ber::de::Decoder;
 pub use rasn_de::de;
@@ -15,5 +16,5 @@ pub use rasn_de::de::Decode;
 pub use rasn_enc::ber::enc::Encoder;
 pub use rasn_enc::enc;
 pub use rasn_enc::enc::Encode;
+pub use rasn_types::error;
 pub use rasn_types::types::{AsnType, Codec, Tag};
-pub use rasn_types::{error, types};

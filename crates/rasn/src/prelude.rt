@@ -8,7 +8,7 @@ pub use crate::types::{
     Present, PrintableString, SetOf, Tag, TeletexString, UtcTime, Utf8String, VisibleString,
 };
 pub use rasn_de::ber::de::Decoder;
-pub use rasn_de::de::{Decode, DecodeChoice};
+pub use rasn_de::de::{Decode, DecodeChoice, Error};
 pub use rasn_enc::ber::enc::Encoder;
 pub use rasn_enc::enc::Encode;
 pub use rasn_types::error::{DecodeError, EncodeError};

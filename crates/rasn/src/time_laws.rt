@@ -1,5 +1,5 @@
 //! The laws of the texts of times, and of instants and days.
-ghost use Rattle.rasn.specs.TimeLaws.{OneMeaning, Included, ReadBack, Distinct, Steps, Seconds};
+ghost use Rattle.rasn.specs.TimeLaws.{OneMeaning, IncludedTexts, ReadBack, Distinct, Steps, Seconds};
 
 /// A text has at most one meaning.
 pub fn one_meaning()
@@ -8,7 +8,7 @@ pub fn one_meaning()
 
 /// A canonical text is a general one.
 pub fn included()
-    ensures { Included }
+    ensures { IncludedTexts }
 {}
 
 /// What is written is read back.

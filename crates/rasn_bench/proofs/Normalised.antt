@@ -85,9 +85,9 @@ pub identified : {rule : Codec} {s : Shape} {input octets : List ℕ} → IsNorm
 unfolding carried_as written_of
 identified {rule} {s} n = λ lawful t c u d. canonical s lawful t u (carried_as n c) d
 
-pub kept : {rule : Codec} {s : Shape} {input octets : List ℕ} → IsNormal rule s input octets → IsKept rule s input octets
+pub kept : {rule : Codec} {s : Shape} {input octets : List ℕ} → AreOctets octets → IsNormal rule s input octets → IsKept rule s input octets
 unfolding carried_as written_of
-kept {rule} {s} {input} {octets} n = λ lawful o t c.
+kept {rule} {s} {input} {octets} o n = λ lawful t c.
     let u = n.again in
     let h = stays_carried s lawful t (carried_as n c) o u n.read_again.0 in
     let is : Bytes Der s u octets = subst (Bytes Der s u) h.1 h.0.is in
@@ -142,6 +142,10 @@ no_normal {rule} {s} NotCanonical x = inr (λ octets n.
 pub if_ok : {T E : Type 0} {P Q : T → Type 0} (r : Result T E) → ((v : T) → P v → Q v) → IfOk r P → IfOk r Q
 if_ok (Ok v) f h = f v h
 if_ok (Err e) f h = h
+
+pub if_ok_both : {T E : Type 0} {O P Q : T → Type 0} (r : Result T E) → ((v : T) → O v → P v → Q v) → IfOk r O → IfOk r P → IfOk r Q
+if_ok_both (Ok v) f o h = f v o h
+if_ok_both (Err e) f o h = h
 
 pub if_err : {T E : Type 0} {P Q : E → Type 0} (r : Result T E) → ((e : E) → P e → Q e) → IfErr r P → IfErr r Q
 if_err (Ok v) f h = h

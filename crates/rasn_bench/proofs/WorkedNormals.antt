@@ -1,5 +1,5 @@
 -- Normal encodings that were worked out by hand.
-use Rattle.std.proofs.Common.{◌≡◌, ℕ, List, [], ◌∷◌, sym, ◌∙◌, subst}
+use Rattle.std.proofs.Common.{◌≡◌, ℕ, List, [], ◌∷◌, refl, sym, ◌∙◌, subst}
 use Rattle.rasn_types.specs.declared.types.rules.Codec.{Codec}
 use Rattle.rasn_types.specs.declared.types.rules.Codec.TheVariants.{Ber, Der}
 use Rattle.rasn_types.specs.Shapes.{Shape, Tree, numbers, items, walk}
@@ -7,11 +7,11 @@ use Rattle.rasn_types.specs.Bytes.{Bytes}
 use Rattle.rasn_types.specs.Lawful.{IsLawful}
 use Rattle.rasn_types.specs.Grammar.{top}
 use Rattle.rasn_types.proofs.Itself.{one_writing}
+use Rattle.rasn_types.proofs.Lawful.{lawful}
 use Rattle.rasn.specs.WorkedShapes.{named, octets_in_set_of}
 use Rattle.rasn.specs.Worked.{smith as smith_tree}
 use Rattle.rasn.proofs.Hold.{one_reading, read_again}
 use Rattle.rasn.proofs.Worked.{worked}
-use Rattle.rasn.proofs.WorkedShapes.{shapes}
 use Rattle.rasn_bench.specs.Normal.{IsNormal, IsCarriedIn}
 use Rattle.rasn_bench.specs.WorkedNormals.{smith_in_segments, smith, falling_set_of, WorkedNormals}
 
@@ -31,7 +31,7 @@ normal rule s lawful input t c =
 joined : IsNormal Ber named smith_in_segments smith
 joined =
     let c = worked.smith_in_der in
-    subst (IsNormal Ber named smith_in_segments) c.1 (normal Ber named shapes.named smith_in_segments smith_tree (record { reads = worked.smith_in_segments; carried = c.0 }))
+    subst (IsNormal Ber named smith_in_segments) c.1 (normal Ber named (lawful named refl) smith_in_segments smith_tree (record { reads = worked.smith_in_segments; carried = c.0 }))
 
 not_kept : IsNormal Ber named smith_in_segments smith_in_segments → ⊥
 not_kept n =

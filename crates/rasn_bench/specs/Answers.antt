@@ -3,7 +3,7 @@ use Rattle.std.specs.Prelude.{◌≡◌, ℕ, ◌⊎◌, List, Some, None, lengt
 use Rattle.rasn_types.specs.declared.types.rules.Codec.{Codec}
 use Rattle.rasn_types.specs.declared.types.rules.Codec.TheVariants.{Der}
 use Rattle.rasn_types.specs.Tags.{in_universal}
-use Rattle.rasn_types.specs.Shapes.{Tree, Shape, leaf, boolean, integer, octet_string, every, utc_time, generalized_time, date, null, object_identifier, bit_string, enumerated, utf8, ia5, printable, option, any, seq, part, required, set_of}
+use Rattle.rasn_types.specs.Shapes.{Tree, Shape, leaf, boolean, integer, octet_string, every, utc_time, generalized_time, date, null, object_identifier, bit_string, enumerated, utf8, ia5, printable, any}
 use Rattle.rasn_types.specs.Trees.{unconstrained, signed_range, unsigned_range}
 use Rattle.rasn_types.specs.Grammar.{Reads, top}
 use Rattle.rasn_types.specs.Bytes.{Bytes}
@@ -12,7 +12,7 @@ use Rattle.rasn_bench.specs.declared.line.ValueType.TheVariants.{Bool, I32, U32,
 use Rattle.rasn_bench.specs.declared.answer.Answer.{Answer}
 use Rattle.rasn_bench.specs.declared.answer.Answer.TheVariants.{Read, NotWritten, Refused, Malformed}
 use Rattle.rasn_bench.specs.Lines.{IsRequest, octets_of_digits}
-use Rattle.rasn_types.specs.Shapes.Parts.{none}
+use Rattle.rasn.specs.WorkedShapes.{named, perhaps_bool, octets_in_set_of}
 use Rattle.rasn_bench.specs.Pairs.{pair_shape}
 use Rattle.rasn_bench.specs.Choices.{validity_shape}
 use Rattle.rasn_bench.specs.Colours.{colours}
@@ -37,14 +37,14 @@ shape_of Colour = leaf (enumerated colours) (in_universal 10) unconstrained
 shape_of Utf8 = leaf utf8 (in_universal 12) unconstrained
 shape_of Ia5 = leaf ia5 (in_universal 22) unconstrained
 shape_of Printable = leaf printable (in_universal 19) unconstrained
-shape_of Foo = seq (in_universal 16) (part required (leaf ia5 (in_universal 22) unconstrained) (part required (leaf boolean (in_universal 1) unconstrained) none))
-shape_of OptionalBool = option (Some (in_universal 1)) (leaf boolean (in_universal 1) unconstrained)
+shape_of Foo = named
+shape_of OptionalBool = perhaps_bool
 shape_of Validity = validity_shape
 shape_of Any = any None
 shape_of AlgorithmIdentifier = algorithm_shape
 shape_of RelativeDistinguishedName = name_shape
 shape_of Set3 = set3_shape
-shape_of Bag = set_of (in_universal 17) (leaf octet_string (in_universal 4) unconstrained) None
+shape_of Bag = octets_in_set_of
 
 abbrev pub type_word : ValueType → List ℕ
 type_word Bool = codes "BOOLEAN"

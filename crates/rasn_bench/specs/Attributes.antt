@@ -3,7 +3,7 @@ use Rattle.std.specs.Prelude.{[], ◌∷◌, None}
 use Rattle.rasn_types.specs.Tags.{in_universal}
 use Rattle.rasn_types.specs.Shapes.{Shape, Tree, numbers, items, leaf, object_identifier, any, seq, set_of, Parts, part, required}
 use Rattle.rasn_types.specs.Shapes.Parts.{none}
-use Rattle.rasn_types.specs.Trees.{open_tree, unconstrained}
+use Rattle.rasn_types.specs.Trees.{unconstrained}
 use Rattle.rasn_bench.specs.declared.worked.attribute.AttributeTypeAndValue.{AttributeTypeAndValue}
 
 abbrev pub attribute_parts : Parts
@@ -13,7 +13,7 @@ abbrev pub attribute_shape : Shape
 attribute_shape = seq (in_universal 16) attribute_parts
 
 abbrev pub attribute_tree : AttributeTypeAndValue → Tree
-attribute_tree a = items (numbers a.kind ∷ open_tree a.value ∷ [])
+attribute_tree a = items (numbers a.kind ∷ numbers a.value ∷ [])
 
 -- RelativeDistinguishedName ::= SET OF AttributeTypeAndValue
 abbrev pub name_shape : Shape

@@ -1,4 +1,5 @@
 pub mod Lines
+pub mod LawfulTypes
 pub mod Answers
 pub mod Normal
 pub mod NormalAnswers
@@ -9,6 +10,7 @@ pub mod Pairs
 pub mod Choices
 pub mod Colours
 pub mod Set3s
+pub mod Events
 pub mod Algorithms
 pub mod Attributes
 pub mod Settings

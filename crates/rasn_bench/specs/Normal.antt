@@ -2,7 +2,6 @@
 use Rattle.std.specs.Prelude.{◌≡◌, ◌⊎◌, ◌↔◌, ℕ, List, [], ◌∷◌, codes}
 use Rattle.rasn_types.specs.declared.types.rules.Codec.{Codec}
 use Rattle.rasn_types.specs.declared.types.rules.Codec.TheVariants.{Ber, Der}
-use Rattle.rasn_types.specs.Framing.{AreOctets}
 use Rattle.rasn_types.specs.Errors.{IsOutOfMemory, IsEncodeOutOfMemory}
 use Rattle.rasn_types.specs.Shapes.{Tree, Shape}
 use Rattle.rasn_types.specs.Grammar.{Reads, top}
@@ -64,9 +63,9 @@ pub record IsStable (s : Shape) (octets : List ℕ) : Type 0 where
   pub again : IsNormal Der s octets octets
   pub only : (other : List ℕ) → IsNormal Der s octets other → other ≡ octets
 
--- The octets (as every vector holds) are their own normal encoding.
+-- The octets are their own normal encoding.
 abbrev pub IsKept : Codec → Shape → List ℕ → List ℕ → Type 0
-IsKept rule s input octets = IsLawful s → AreOctets octets → (t : Tree) → IsCarriedIn rule s input t → IsStable s octets
+IsKept rule s input octets = IsLawful s → (t : Tree) → IsCarriedIn rule s input t → IsStable s octets
 
 -- An input of a carried value that DER reads is its own answer.
 abbrev pub IsUnchanged : Codec → Shape → List ℕ → List ℕ → Type 0

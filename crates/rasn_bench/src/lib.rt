@@ -3,6 +3,7 @@
 
 mod answer;
 mod arguments;
+mod lawful;
 mod line;
 mod names;
 mod normal;
@@ -12,11 +13,12 @@ mod worked;
 
 pub use answer::Answer;
 pub use arguments::{Usage, file_of};
+pub use lawful::{lawful_both, lawful_types};
 pub use line::{Request, ValueType};
 pub use normal::{NormaliseError, normalise, same_exactly_if_equal, worked_normals};
 pub use normal_answer::NormalAnswer;
 pub use program::{RunFault, run, run_normalise};
 pub use worked::{
-    AlgorithmIdentifier, AttributeTypeAndValue, Both, Colour, Foo, Group, Grouped, Pair,
+    AlgorithmIdentifier, AttributeTypeAndValue, Both, Colour, Event, Foo, Group, Grouped, Pair,
     RelativeDistinguishedName, Set3, Setting, Time, Validity,
 };

@@ -1,5 +1,7 @@
 //! From an encoding of any of the three rules to the one that DER has (X.690 10).
 ghost use Rattle.std.specs.Prelude.{IfOk, IfErr, IsTrue, ◌↔◌};
+ghost use Rattle.rasn_types.specs.declared.types.rules.Codec.TheVariants.{Der};
+ghost use Rattle.rasn_types.specs.Framing.{AreOctets};
 ghost use Rattle.rasn.specs.Headline.{Answered, AnsweredAlone};
 ghost use Rattle.rasn_bench.specs.WorkedNormals.{WorkedNormals};
 ghost use Rattle.rasn_bench.specs.Normal.{IsNormal, IsNoNormal, IsIdentified, IsKept, IsUnchanged, IsAnswered, IsOutOfMemoryAlone, SameExactlyIfEqual};
@@ -13,7 +15,7 @@ use std::alloc::Global;
 use thiserror::Error;
 
 /// Why an input has no DER encoding.
-#[derive(Debug, Drop, Error)]
+#[derive(Debug, PartialEq, Eq, Drop, Error)]
 pub enum NormaliseError {
     /// The input isn't one value of the type, alone.
     #[error("{0}")]
@@ -80,15 +82,24 @@ fn convert<T: Decode + Encode + LawfulEq>(
     input: &[u8],
 ) -> Result<Vec<u8>, NormaliseError>
     ensures normal { IfOk result (λ octets. IsNormal rule T.shape input.now octets.items) }
+    ensures octets { IfOk result (λ octets. AreOctets octets.items) }
     ensures refused { IfErr result (λ error. IsNoNormal rule T.shape input.now error) }
 {
     let value = decode::<T>(alloc, rule, input).map_err(NormaliseError::Decode)?;
     let octets = der::encode(alloc, &value).map_err(NormaliseError::Encode)?;
-    match der::decode::<T>(alloc, &octets) {
+    match read_back::<T>(alloc, &octets) {
         Ok(again) if again.means_same(&value) => Ok(octets),
         Err(error) if error.is_out_of_memory() => Err(NormaliseError::Decode(error)),
         _ => Err(NormaliseError::NotCanonical),
     }
+}
+
+/// The value that is all of what was written.
+fn read_back<T: Decode>(alloc: Global, written: &[u8]) -> Result<T, DecodeError>
+    ensures exact { AnsweredAlone Der T.shape T.tree written.now result }
+    ensures octets { AreOctets written.now }
+{
+    der::decode(alloc, written)
 }
 
 /// The value that is all of the input by these rules.

@@ -10,7 +10,7 @@ use Rattle.rasn_types.specs.Tags.{IsStrict, form, tag_bit}
 use Rattle.rasn_types.specs.Shapes.{Tree, Kind}
 use Rattle.rasn_types.specs.Readers.{Reading}
 use Rattle.rasn_types.specs.Contents.{Contents, IsShortest}
-use Rattle.rasn_types.specs.Grammar.{ReadsIn, plain}
+use Rattle.rasn_types.specs.Grammar.{ReadsIn, plain_family}
 use Rattle.rasn_de.specs.Headers.{Header, header_at, as_written}
 use Rattle.rasn_de.specs.Causes.{Cause}
 use Rattle.rasn_de.specs.Leaves.{on_header, definite_in, definite_at, Readings, FromContents, LeafAt, Gave}
@@ -76,7 +76,7 @@ module _ (rule : Codec) (tag : Tag) (l : List ℕ) (o : AreOctets l) where
       (only : (c : List ℕ) (x : X) (t : Tree) → AreOctets c → read c (Ok x) → Contents rule kind c t → B t → t ≡ tree x)
       (none : (c : List ℕ) (e : Cause) (t : Tree) → AreOctets c → read c (Err e) → Contents rule kind c t → (IsStrict rule → IsShortest kind c) → B t → ⊥) where
     abbrev pub PlainReads : Reading Tree
-    PlainReads input t rest = ReadsIn plain rule kind tag depth input t rest × B t
+    PlainReads input t rest = ReadsIn plain_family rule kind tag depth input t rest × B t
 
     -- what is related has the contents that were read
     contents_there : (d : Result (List ℕ × List ℕ) (Cause × List ℕ)) → definite_at rule tag l ≡ d → (t : Tree) (r : List ℕ) → PlainReads l t r
@@ -86,7 +86,7 @@ module _ (rule : Codec) (tag : Tag) (l : List ℕ) (o : AreOctets l) where
     agree : (d : Result (List ℕ × List ℕ) (Cause × List ℕ)) → definite_at rule tag l ≡ d → Framed d → (r : Result (X × List ℕ) (Cause × List ℕ)) → FromContents read d r → Agrees PlainReads tree l r
     agree (Ok p) e (bit, f, w) (Ok q) (a, b) =
         let k = found p.0 q.0 (frame_octets l o f).1 a in
-        (((subst (λ z. ReadsIn plain rule kind tag depth l (tree q.0) z) (sym b) (bit, p.0, f, k.0, λ s. (w s, k.1 s)), k.2), λ t r h. same t r (contents_there (Ok p) e t r h)), subst (IsEnd l) (sym b) (IsEnd-frame l f))
+        (((subst (λ z. ReadsIn plain_family rule kind tag depth l (tree q.0) z) (sym b) (bit, p.0, f, k.0, λ s. (w s, k.1 s)), k.2), λ t r h. same t r (contents_there (Ok p) e t r h)), subst (IsEnd l) (sym b) (IsEnd-frame l f))
       where
         same : (t : Tree) (r : List ℕ) → (c : List ℕ) × (◌≡◌ {A = Result (List ℕ × List ℕ) (Cause × List ℕ)} (Ok p) (Ok (c, r))) × AreOctets c × Contents rule kind c t × (IsStrict rule → IsShortest kind c) × B t
             → (t ≡ tree q.0) × (r ≡ q.1)

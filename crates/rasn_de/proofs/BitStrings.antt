@@ -23,7 +23,7 @@ use Rattle.rasn_de.specs.Headers.{is_der, Header, header_at}
 use Rattle.rasn_de.specs.declared.ber.de.parser.headers.Expected.TheVariants.{Tagged}
 use Rattle.rasn_de.specs.Strings.{string_of}
 use Rattle.rasn_de.specs.Causes.{Cause, fault, error_kind}
-use Rattle.rasn_de.specs.BitStrings.{is_miscounted, last_bits, is_any_set, segment_bits, bit_string_at, bits_tree, BitsAt, IsOversized, LacksBits, GaveBits, GathersBits}
+use Rattle.rasn_de.specs.BitStrings.{is_miscounted, last_bits, is_any_set, segment_bits, bit_string_at, bits_tree, BitsAt, IsOversized, LacksBits, refused, gathering, copying, GaveBits, GathersBits}
 use Rattle.rasn_de.specs.State.{State, at, IsEnd}
 use Rattle.rasn_de.specs.Taking.{ErrorOf}
 use Rattle.rasn_de.specs.Outcomes.{Exact, refusal}
@@ -160,9 +160,9 @@ bits_decodes tag bounds old new (Err e) o (inr (inl (m, c, s, k, bs, h))) = reco
 
 -- A fault leaves an end of the input.
 pub lacks_end : (rule : Codec) (depth : ℕ) (tag : Tag) (l : List ℕ) (f : Fault) (left : List ℕ) → AreOctets l → LacksBits rule depth tag l f left → IsEnd l left
-lacks_end rule depth tag l f left o (inl (n, e, r)) = subst (IsEnd l) (sym r) (IsEnd-refl l)
-lacks_end rule depth tag l f left o (inr (inl (n, e, r))) = subst (IsEnd l) (sym r) (IsEnd-refl l)
-lacks_end rule depth tag l f left o (inr (inr (n, e, bs, h))) = bits_end rule depth tag l o bs left h
+lacks_end rule depth tag l f left o (refused g n e) = IsEnd-refl l
+lacks_end rule depth tag l f left o (gathering w) = IsEnd-refl l
+lacks_end rule depth tag l f left o (copying bs rest w h) = bits_end rule depth tag l o bs rest h
 
 -- bits that were gathered
 pub gathered_bits : (tag : Tag) (old new : State) (bs : List Bool) (rest : List ℕ) → bit_string_at old.rule old.depth tag old.rest ≡ Ok (bs, rest) → new ≡ at old rest → GathersBits tag old (Ok bs) new
@@ -178,18 +178,15 @@ lacked_bits tag old new f left e w k x =
 
 -- bits that weren't
 pub gathers_refused : (tag : Tag) (bounds : Constraints) (old new : State) (e : DecodeError) → GathersBits tag old (Err e) new → GaveBits tag bounds old (Err e) new
-gathers_refused tag bounds old new e (f, k, s, lacks) = go lacks
+gathers_refused tag bounds old new e (f, k, s, lacks) = go f new.rest lacks (ap (λ (x : DecodeError). x.kind) k) refl
   where
     codec_is : e.codec ≡ old.rule
     codec_is = ap (λ (x : DecodeError). x.codec) k
 
-    kind_is : e.kind ≡ error_kind f
-    kind_is = ap (λ (x : DecodeError). x.kind) k
-
-    go : LacksBits old.rule old.depth tag old.rest f new.rest → GaveBits tag bounds old (Err e) new
-    go (inl (n, read, r)) = inr (inr ((λ h. kind_memory f n (sym kind_is ∙ h)), (fault f, inl (f, read, ap (λ z. (fault f, z)) r), kind_is, codec_is, s)))
-    go (inr (inl (m, w, r))) = inl (kind_is ∙ ap error_kind m, codec_is, s ∙ ap (λ z. at old z) r, w)
-    go (inr (inr (m, w, bs, h))) = inr (inl (kind_is ∙ ap error_kind m, codec_is, s, w, bs, h))
+    go : (f : Fault) (left : List ℕ) → LacksBits old.rule old.depth tag old.rest f left → e.kind ≡ error_kind f → new.rest ≡ left → GaveBits tag bounds old (Err e) new
+    go f left (refused g n read) m r = inr (inr ((λ h. kind_memory g n (sym m ∙ h)), (fault g, inl (g, read, ap (λ z. (fault g, z)) r), m, codec_is, s)))
+    go f left (gathering w) m r = inl (m, codec_is, s ∙ ap (λ z. at old z) r, w)
+    go f left (copying bs rest w h) m r = inr (inl (m, codec_is, s, w, bs, h ∙ ap (λ z. Ok (bs, z)) (sym r)))
 
 -- 2 ^ 64 bits or more
 pub gathers_wide : (tag : Tag) (bounds : Constraints) (old new : State) (bs : List Bool) (e : DecodeError) → GathersBits tag old (Ok bs) new → 2 ^ 64 ≤ length bs → ErrorOf LengthExceedsPlatformWidth new e → GaveBits tag bounds old (Err e) new
@@ -220,21 +217,21 @@ segment_none rule (u ∷ octets) = none_cond (is_miscounted u octets) _ _ (λ e.
 
 module _ (rule : Codec) (d : ℕ) (tag : Tag) (l : List ℕ) where
   pub no_header : (f : Fault) → header_at (form rule) (Tagged tag) l ≡ Err f → LacksBits rule d tag l f l
-  no_header f e = inl (header_memory rule tag l f e, rw e refl, refl)
+  no_header f e = refused f (header_memory rule tag l f e) (rw e refl)
 
   module _ (h : Header) (e : header_at (form rule) (Tagged tag) l ≡ Ok h) where
     pub one_segment : (c : List ℕ) (bs : List Bool) → (h.bit ≡ false) × (h.extent ≡ definite c) → segment_bits rule c ≡ Ok bs → bit_string_at rule d tag l ≡ Ok (bs, h.rest)
     one_segment c bs (b, x) s = rw e (string_plain rule (segment_bits rule) (in_universal 3) d h c bs b x s)
 
     pub segment_lacks : (c : List ℕ) (f : Fault) → (h.bit ≡ false) × (h.extent ≡ definite c) → segment_bits rule c ≡ Err f → LacksBits rule d tag l f l
-    segment_lacks c f (b, x) s = inl (subst NoMemory s (segment_none rule c), rw e (string_plain_fault rule (segment_bits rule) (in_universal 3) d h c f b x s), refl)
+    segment_lacks c f (b, x) s = refused f (subst NoMemory s (segment_none rule c)) (rw e (string_plain_fault rule (segment_bits rule) (in_universal 3) d h c f b x s))
 
     pub segment_uncopied : (c : List ℕ) (bs : List Bool) → AreOctets l → (h.bit ≡ false) × (h.extent ≡ definite c) → segment_bits rule c ≡ Ok bs → LacksBits rule d tag l OutOfMemory h.rest
-    segment_uncopied c bs o p s = inr (inr (refl, primitive_form rule tag l h c o e p, bs, one_segment c bs p s))
+    segment_uncopied c bs o p s = copying bs h.rest (primitive_form rule tag l h c o e p) (one_segment c bs p s)
 
     pub segments_lack : (f : Fault) → AreOctets l → IsNested h → (f ≢ OutOfMemory → string_of rule (segment_bits rule) (in_universal 3) d h ≡ Err f) → LacksBits rule d tag l f l
     segments_lack f o n w = go (memory_or f)
       where
         go : (f ≡ OutOfMemory) ⊎ (f ≢ OutOfMemory) → LacksBits rule d tag l f l
-        go (inl m) = inr (inl (m, constructed_form rule tag l h o e n, refl))
-        go (inr m) = inl (m, rw e (w m), refl)
+        go (inl m) = subst (λ z. LacksBits rule d tag l z l) (sym m) (gathering (constructed_form rule tag l h o e n))
+        go (inr m) = refused f m (rw e (w m))

@@ -3,7 +3,7 @@ use Rattle.std.proofs.Common.{◌≡◌, inl, inr, ℕ, Bool, suc, List, [], ◌
 use Rattle.rasn_types.specs.declared.types.rules.Codec.{Codec}
 use Rattle.rasn_types.specs.declared.types.tag.Tag.{Tag}
 use Rattle.rasn_types.specs.declared.error.decode.DecodeError.{DecodeError}
-use Rattle.rasn_types.specs.Tags.{Form, form}
+use Rattle.rasn_types.specs.Tags.{form}
 use Rattle.rasn_types.specs.Framing.{Next}
 use Rattle.rasn_types.specs.Shapes.{Tree, Shape, choice, Parts}
 use Rattle.rasn_types.specs.Readers.{Part, ReadsChoice}
@@ -15,16 +15,16 @@ use Rattle.rasn_de.proofs.Answering.{Exact-none}
 use Rattle.rasn_de.proofs.Ends.{IsEnd-refl}
 use Rattle.rasn_de.proofs.Perhaps.{peeks_none}
 
-pub choice_next : (spelling : Form) (k : ℕ) (ps : List Part) (input : List ℕ) (t : Tree) (rest : List ℕ) → ReadsChoice spelling k ps input t rest → (next : Tag) × Next spelling input next
-choice_next spelling k [] input t rest h = absurd h
-choice_next spelling k (p ∷ ps) input t rest (inl (u, e, next, n, f, r)) = (next, n)
-choice_next spelling k (p ∷ ps) input t rest (inr h) = choice_next spelling (suc k) ps input t rest h
+pub choice_next : (rule : Codec) (k : ℕ) (ps : List Part) (input : List ℕ) (t : Tree) (rest : List ℕ) → ReadsChoice rule k ps input t rest → (next : Tag) × Next (form rule) input next
+choice_next rule k [] input t rest h = absurd h
+choice_next rule k (p ∷ ps) input t rest (inl (u, e, next, n, f, r, z)) = (next, n)
+choice_next rule k (p ∷ ps) input t rest (inr h) = choice_next rule (suc k) ps input t rest h
 
 choice_none : (rule : Codec) (s : Shape) (ps : Parts) → s ≡ choice ps → (depth : ℕ) (closing : Bool) (input : List ℕ) → ((next : Tag) → Next (form rule) input next → ⊥)
     → (t : Tree) (rest : List ℕ) → Reads rule s depth closing input t rest → ⊥
 unfolding Reads
 choice_none rule s ps e depth closing input n t rest h =
-    let c = choice_next (form rule) 0 (parts_of rule ps depth closing) input t rest (subst (λ z. Reads rule z depth closing input t rest) e h) in
+    let c = choice_next rule 0 (parts_of rule ps depth closing) input t rest (subst (λ z. Reads rule z depth closing input t rest) e h) in
     n c.0 c.1
 
 pub choice_decodes : {D : Type 0} (s : Shape) (ps : Parts) → s ≡ choice ps → (tree : D → Tree) (old : State) (result : Result D DecodeError) (new : State) → ReadChosen (Decodes s tree) old result new → Decodes s tree old result new

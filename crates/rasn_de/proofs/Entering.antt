@@ -5,7 +5,6 @@ use Rattle.std.proofs.lemmas.Bool.Decides.{nat_tests}
 use Rattle.rasn_types.specs.declared.types.rules.Codec.{Codec}
 use Rattle.rasn_types.specs.declared.error.decode.DecodeError.{DecodeError}
 use Rattle.rasn_types.specs.Framing.{Extent, definite, indefinite}
-use Rattle.rasn_types.specs.Numbered.{constructed_bit}
 use Rattle.rasn_de.specs.declared.ber.de.parser.Fault.{Fault}
 use Rattle.rasn_de.specs.declared.ber.de.parser.Fault.TheVariants.{ExceedsMaxParseDepth, InvalidConstructedIdentifier}
 use Rattle.rasn_de.specs.declared.ber.de.parser.Value.{Value}
@@ -47,11 +46,11 @@ pub enters_none : (d : Door) (old new : State) (e : DecodeError) → old.depth �
 enters_none d old new e n x q (f, h, k, s) =
     (f, door_through d old.rule old.depth old.rest (Err f) n (asked_there d old x (Err f) q h) ∙ ap (λ (z : State). Err (f, z.rest)) (sym s), k, kept_same old new s)
 
-pub enters_primitive : (d : Door) (old new : State) (v : Value) (e : DecodeError) → old.depth ≢ 0 → (x : Expected) → x ≡ asks d old.rule → Takes x old (Ok v) new → d.needed && not (constructed_bit v.identifier) ≡ true → ErrorOf InvalidConstructedIdentifier new e → Enters d old (Err e) new
+pub enters_primitive : (d : Door) (old new : State) (v : Value) (e : DecodeError) → old.depth ≢ 0 → (x : Expected) → x ≡ asks d old.rule → Takes x old (Ok v) new → d.needed && not v.is_constructed ≡ true → ErrorOf InvalidConstructedIdentifier new e → Enters d old (Err e) new
 enters_primitive d old new v e n x q (h, s, p) b k =
     (InvalidConstructedIdentifier, door_through d old.rule old.depth old.rest (Ok (framed v new.rest)) n (asked_there d old x (Ok (framed v new.rest)) q h) ∙ rw b refl, k ∙ ap (λ c. record { kind = Rattle.rasn_de.specs.Causes.error_kind InvalidConstructedIdentifier; codec = c }) (ap (λ (x : State). x.rule) s), record { stays = s; end = p })
 
-pub enters_value : (d : Door) (old new : State) (v : Value) → old.depth ≢ 0 → (x : Expected) → x ≡ asks d old.rule → Takes x old (Ok v) new → d.needed && not (constructed_bit v.identifier) ≡ false → Enters d old (Ok v) new
+pub enters_value : (d : Door) (old new : State) (v : Value) → old.depth ≢ 0 → (x : Expected) → x ≡ asks d old.rule → Takes x old (Ok v) new → d.needed && not v.is_constructed ≡ false → Enters d old (Ok v) new
 enters_value d old new v n x q (h, s, p) b =
     (door_through d old.rule old.depth old.rest (Ok (framed v new.rest)) n (asked_there d old x (Ok (framed v new.rest)) q h) ∙ rw b refl, record { stays = s; end = p })
 

@@ -7,7 +7,7 @@ use Rattle.rasn_types.specs.declared.error.decode.DecodeError.{DecodeError}
 use Rattle.rasn_types.specs.declared.error.decode.DecodeErrorKind.{DecodeErrorKind}
 use Rattle.rasn_types.specs.Shapes.{Tree, items, Parts, part, required, optional, addition, default}
 use Rattle.rasn_types.specs.Shapes.Parts.{none}
-use Rattle.rasn_types.specs.Readers.{Reading, Part, InOrder, AllMissing, HasRequired, IsBare, ReadsSeq}
+use Rattle.rasn_types.specs.Readers.{Reading, Part, InOrder, AllMissing, HasRequired, AreAllLeftOut, ReadsSeq}
 use Rattle.rasn_types.specs.Grammar.{parts_of}
 use Rattle.rasn_types.specs.Described.{has_required, count, same_bool, is_fieldless, describes}
 use Rattle.rasn_types.proofs.Spelled.{both_true}
@@ -15,7 +15,7 @@ use Rattle.rasn_de.proofs.Parted.{all_missing_one}
 use Rattle.rasn_de.specs.State.{State}
 use Rattle.rasn_de.specs.Outcomes.{Exact, Outcome, Got, refusal, outcome}
 use Rattle.rasn_de.specs.Decodes.{ReadsParts, DecodesParts}
-use Rattle.rasn_de.specs.Sequences.{is_empty, is_initial, Initial, Fills, MakesBare}
+use Rattle.rasn_de.specs.Sequences.{is_empty, is_initial, Initial, Fills, AreMissing, MakesBare}
 
 same_is : (a b : Bool) → same_bool a b ≡ true → a ≡ b
 same_is true b e = sym e
@@ -49,40 +49,53 @@ not_required rule ps depth closing n = go (has_required ps) refl
     go true e = absurd (n (required_part rule ps depth closing e))
     go false e = e
 
--- what a description says
-module _ (root more : ℕ) (flag : Bool) (parts : Parts) (d : describes root more flag parts ≡ true) where
-  flag_is : has_required parts ≡ flag
-  flag_is = same_is (has_required parts) flag (both_true (same_bool (has_required parts) flag) _ d).0
+-- Parts of which none comes are missing wherever they are read.
+are_missing : (rule : Codec) (ps : Parts) (depth : ℕ) (closing : Bool) (ts : List Tree) → AreMissing ps ts → AllMissing (parts_of rule ps depth closing) ts
+unfolding parts_of
+are_missing rule none depth closing ts e = e
+are_missing rule (part p s ps) depth closing ts (t, us, e, m, h) = (t, us, e, m, are_missing rule ps depth closing us h)
 
-  fieldless_none : is_fieldless root more ≡ true → parts ≡ none
+-- what a description says
+module _ (root more : ℕ) (extensible flag : Bool) (parts : Parts) (d : describes root more extensible flag parts ≡ true) where
+  told : (same_bool (has_required parts) flag && nat_eq (count parts) (root + more) ≡ true) × (extensible || nat_eq more 0 ≡ true)
+  told = both_true (same_bool (has_required parts) flag && nat_eq (count parts) (root + more)) (extensible || nat_eq more 0) d
+
+  flag_is : has_required parts ≡ flag
+  flag_is = same_is (has_required parts) flag (both_true (same_bool (has_required parts) flag) _ told.0).0
+
+  fieldless_none : is_fieldless root extensible ≡ true → parts ≡ none
   fieldless_none e =
-      let fields = both_true (nat_eq root 0) (nat_eq more 0) e in
-      let counted = both_true (same_bool (has_required parts) flag) (nat_eq (count parts) (root + more)) d in
-      go parts (eqb-true (count parts) (root + more) counted.1 ∙ ap₂ (λ m n. m + n) (eqb-true root 0 fields.0) (eqb-true more 0 fields.1))
+      let fields = both_true (nat_eq root 0) (not extensible) e in
+      let counted = both_true (same_bool (has_required parts) flag) (nat_eq (count parts) (root + more)) told.0 in
+      go parts (eqb-true (count parts) (root + more) counted.1 ∙ ap₂ (λ m n. m + n) (eqb-true root 0 fields.0) (eqb-true more 0 (unmarked extensible fields.1 told.1)))
     where
+      unmarked : (b : Bool) → not b ≡ true → b || nat_eq more 0 ≡ true → nat_eq more 0 ≡ true
+      unmarked true f g = cc
+      unmarked false f g = g
+
       go : (ps : Parts) → count ps ≡ 0 → ps ≡ none
       go none f = refl
       go (part p s ps) f = cc
 
   -- why the initializer reads
-  initial_why : (input : List ℕ) → is_initial root more flag input ≡ true → (parts ≡ none) ⊎ ((has_required parts ≡ false) × (input ≡ []))
-  initial_why input e = go (is_fieldless root more) refl flag refl input e
+  initial_why : (input : List ℕ) → is_initial root extensible flag input ≡ true → (parts ≡ none) ⊎ ((has_required parts ≡ false) × (input ≡ []))
+  initial_why input e = go (is_fieldless root extensible) refl flag refl input e
     where
-      go : (b : Bool) → is_fieldless root more ≡ b → (c : Bool) → flag ≡ c → (i : List ℕ) → b || (not c && is_empty i) ≡ true → (parts ≡ none) ⊎ ((has_required parts ≡ false) × (i ≡ []))
+      go : (b : Bool) → is_fieldless root extensible ≡ b → (c : Bool) → flag ≡ c → (i : List ℕ) → b || (not c && is_empty i) ≡ true → (parts ≡ none) ⊎ ((has_required parts ≡ false) × (i ≡ []))
       go true p c q i f = inl (fieldless_none p)
       go false p true q i f = cc
       go false p false q [] f = inr (flag_is ∙ q, refl)
       go false p false q (x ∷ i) f = cc
 
-  initial_none : (input : List ℕ) → is_initial root more flag input ≡ true → has_required parts ≡ false
+  initial_none : (input : List ℕ) → is_initial root extensible flag input ≡ true → has_required parts ≡ false
   initial_none input e = go (initial_why input e)
     where
       go : (parts ≡ none) ⊎ ((has_required parts ≡ false) × (input ≡ [])) → has_required parts ≡ false
       go (inl p) = ap has_required p
       go (inr p) = p.0
 
-  not_bare : (rule : Codec) (depth : ℕ) (closing : Bool) (input : List ℕ) → is_initial root more flag input ≡ false → IsBare (parts_of rule parts depth closing) closing input → ⊥
-  not_bare rule depth closing input e (n, c, i) = go (is_fieldless root more) flag refl (sym flag_is ∙ not_required rule parts depth closing n) (subst (λ z. is_initial root more flag z ≡ false) i e)
+  not_bare : (rule : Codec) (depth : ℕ) (closing : Bool) (input : List ℕ) → is_initial root extensible flag input ≡ false → AreAllLeftOut (parts_of rule parts depth closing) closing input → ⊥
+  not_bare rule depth closing input e (n, c, i) = go (is_fieldless root extensible) flag refl (sym flag_is ∙ not_required rule parts depth closing n) (subst (λ z. is_initial root extensible flag z ≡ false) i e)
     where
       go : (b c : Bool) → flag ≡ c → flag ≡ false → b || (not c && true) ≡ false → ⊥
       go true c f q p = cc
@@ -113,7 +126,7 @@ bare_exact rule ps t ts n e m = ((ts, e, inl ((n, refl, refl), m, refl)), only)
     only u s (us, f, inl (b, k, r)) = (f ∙ ap items (all_missing_one ps us ts k m) ∙ sym e, r)
     only u s (us, f, inr (b, k)) = absurd (b (n, refl, refl))
 
-parts_exact : (rule : Codec) (ps : List Part) (closing : Bool) (input : List ℕ) (o : Outcome) → (IsBare ps closing input → ⊥)
+parts_exact : (rule : Codec) (ps : List Part) (closing : Bool) (input : List ℕ) (o : Outcome) → (AreAllLeftOut ps closing input → ⊥)
     → Exact (λ i t r. (ts : List Tree) × (t ≡ items ts) × InOrder rule ps closing i ts r) input o → Exact (ReadsSeq rule ps closing) input o
 parts_exact rule ps closing input (Got t r) n (x, u) = ((x.0, x.1, inr (n, x.2)), only)
   where
@@ -134,11 +147,11 @@ IsExactOrCut tree R o r n = Exact (R o.rule o.depth o.closing) o.rest (outcome t
 abbrev pub SeqReads : Parts → Codec → ℕ → Bool → Reading Tree
 SeqReads parts rule depth closing = ReadsSeq rule (parts_of rule parts depth closing) closing
 
-module _ {I D : Type 0} (root more : ℕ) (flag : Bool) (parts : Parts) (d : describes root more flag parts ≡ true) (tree : D → Tree) (made : I → Result D AllocError → Type 0) (init : Option I) (bare : MakesBare parts tree made init)
+module _ {I D : Type 0} (root more : ℕ) (extensible flag : Bool) (parts : Parts) (d : describes root more extensible flag parts ≡ true) (tree : D → Tree) (made : I → Result D AllocError → Type 0) (init : Option I) (bare : MakesBare parts tree made init)
     (called : State → Result D DecodeError → State → Type 0) (H : (o : State) (r : Result D DecodeError) (n : State) → called o r n → DecodesParts parts tree o r n) where
-  made_exact : (o : State) (v : D) → is_initial root more flag o.rest ≡ true → (ts : List Tree) → tree v ≡ items ts → AllMissing (parts_of o.rule parts o.depth o.closing) ts → IsExactOrCut tree (SeqReads parts) o (Ok v) o
+  made_exact : (o : State) (v : D) → is_initial root extensible flag o.rest ≡ true → (ts : List Tree) → tree v ≡ items ts → AllMissing (parts_of o.rule parts o.depth o.closing) ts → IsExactOrCut tree (SeqReads parts) o (Ok v) o
   unfolding parts_of
-  made_exact o v s ts e m = go (initial_why root more flag parts d o.rest s)
+  made_exact o v s ts e m = go (initial_why root more extensible flag parts d o.rest s)
     where
       at_none : (ps : Parts) → ps ≡ none → AllMissing (parts_of o.rule ps o.depth o.closing) ts → Exact (ReadsSeq o.rule (parts_of o.rule ps o.depth o.closing) o.closing) o.rest (Got (tree v) o.rest)
       at_none none p m = none_exact o.rule o.closing o.rest (tree v) (e ∙ ap items m)
@@ -157,16 +170,16 @@ module _ {I D : Type 0} (root more : ℕ) (flag : Bool) (parts : Parts) (d : des
       go (inl p) = inl (at_none parts p m)
       go (inr p) = at_empty o.closing refl p.0 p.1
 
-  made_one : (o : State) (r : Result D DecodeError) → is_initial root more flag o.rest ≡ true → (i : Option I) → MakesBare parts tree made i → Initial made i o r → IsExactOrCut tree (SeqReads parts) o r o
+  made_one : (o : State) (r : Result D DecodeError) → is_initial root extensible flag o.rest ≡ true → (i : Option I) → MakesBare parts tree made i → Initial made i o r → IsExactOrCut tree (SeqReads parts) o r o
   made_one o (Ok v) s None b k = absurd k
-  made_one o (Err e) s None b k = let q = initial_none root more flag parts d o.rest s in cc
-  made_one o (Ok v) s (Some i) b k = let m = b v k o.rule o.depth o.closing in made_exact o v s m.0 m.1 m.2
+  made_one o (Err e) s None b k = let q = initial_none root more extensible flag parts d o.rest s in cc
+  made_one o (Ok v) s (Some i) b k = let m = b v k in made_exact o v s m.0 m.1 (are_missing o.rule parts o.depth o.closing m.0 m.2)
   made_one o (Err e) s (Some i) b (x, k, w) =
       let P : DecodeErrorKind → Type 0 = λ z. Exact (SeqReads parts o.rule o.depth o.closing) o.rest (refusal z) in
       inl (subst P (sym (ap (λ (y : DecodeError). y.kind) w)) tt)
 
-  pub fills_exact : (o : State) (r : Result D DecodeError) (n : State) → Fills (is_initial root more flag) (Initial made init) called o r n → IsExactOrCut tree (SeqReads parts) o r n
+  pub fills_exact : (o : State) (r : Result D DecodeError) (n : State) → Fills (is_initial root extensible flag) (Initial made init) called o r n → IsExactOrCut tree (SeqReads parts) o r n
   unfolding ReadsParts
   fills_exact o r n (inl (s, k, e)) = subst (IsExactOrCut tree (SeqReads parts) o r) (sym e) (made_one o r s init bare k)
   fills_exact o r n (inr (s, k)) =
-      inl (parts_exact o.rule (parts_of o.rule parts o.depth o.closing) o.closing o.rest (outcome tree r n.rest) (not_bare root more flag parts d o.rule o.depth o.closing o.rest s) (H o r n k).exact)
+      inl (parts_exact o.rule (parts_of o.rule parts o.depth o.closing) o.closing o.rest (outcome tree r n.rest) (not_bare root more extensible flag parts d o.rule o.depth o.closing o.rest s) (H o r n k).exact)

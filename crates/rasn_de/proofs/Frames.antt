@@ -10,8 +10,7 @@ use Rattle.rasn_types.specs.declared.types.tag.Class.TheVariants.{Universal, App
 use Rattle.rasn_types.specs.declared.types.rules.Codec.{Codec}
 use Rattle.rasn_types.specs.declared.types.rules.Codec.TheVariants.{Ber, Cer, Der as der_rule}
 use Rattle.rasn_de.specs.declared.ber.de.parser.headers.Spelling.{Spelling}
-use Rattle.rasn_types.specs.Tags.{Form, ber_form, cer_form, der_form, loose_form, HasStrictForm, IsStrict}
-use Rattle.rasn_types.specs.Numbered.{constructed_bit}
+use Rattle.rasn_types.specs.Tags.{Form, basic_form, der_form, loose_form, HasStrictForm, IsStrict}
 use Rattle.rasn_de.specs.declared.ber.de.parser.Fault.{Fault}
 use Rattle.rasn_de.specs.declared.ber.de.parser.Fault.TheVariants.{IndefiniteLengthNotAllowed, ReservedLengthOctet, MismatchedTag, Der}
 use Rattle.rasn_types.specs.declared.error.decode.DerDecodeErrorKind.TheVariants.{ConstructedBitMismatch, NonMinimalLength}
@@ -156,15 +155,13 @@ length_spelled spelling bit l (Some n) rest o (b ∷ more, inr (f, h, k, g, w), 
     rw e (rw (t, u, v) r)
 
 indefinite_allowed : (spelling : Form) (bit : Bool) → bit && (spelled spelling).indefinite ≡ true → (bit ≡ true) × HasIndefinite spelling
-indefinite_allowed ber_form true e = (refl, tt)
-indefinite_allowed cer_form true e = (refl, tt)
+indefinite_allowed basic_form true e = (refl, tt)
 indefinite_allowed der_form true e = cc
 indefinite_allowed loose_form true e = cc
 indefinite_allowed spelling false e = cc
 
 allowed_indefinite : (spelling : Form) (bit : Bool) → bit ≡ true → HasIndefinite spelling → bit && (spelled spelling).indefinite ≡ true
-allowed_indefinite ber_form bit e h = rw e refl
-allowed_indefinite cer_form bit e h = rw e refl
+allowed_indefinite basic_form bit e h = rw e refl
 allowed_indefinite der_form bit e h = absurd h
 allowed_indefinite loose_form bit e h = absurd h
 
@@ -172,7 +169,7 @@ allowed_indefinite loose_form bit e h = absurd h
 abbrev pub IsExpected : Expected → Tag → Bool → Type 0
 IsExpected AnyTag tag bit = Unit {0}
 IsExpected (Tagged wanted) tag bit = tag ≡ wanted
-IsExpected (Exactly wanted) tag bit = (tag ≡ wanted.tag) × (bit ≡ constructed_bit wanted)
+IsExpected (Exactly wanted) tag bit = (tag ≡ wanted.tag) × (bit ≡ wanted.bit)
 
 same_class_is : (c d : Class) → same_class c d ≡ true → c ≡ d
 same_class_is Universal Universal e = refl
@@ -220,12 +217,12 @@ expected_found AnyTag tag bit u e = tt
 expected_found (Tagged wanted) tag bit u e = tagged_found wanted tag u e
 expected_found (Exactly wanted) tag bit u e =
     let t = bind_ok (tagged_at wanted.tag tag) _ u e in
-    (tagged_found wanted.tag tag t.0 t.1, bit_found bit (constructed_bit wanted) u t.2)
+    (tagged_found wanted.tag tag t.0 t.1, bit_found bit wanted.bit u t.2)
 
 expected_spelled : (expected : Expected) (tag : Tag) (bit : Bool) → IsExpected expected tag bit → expected_at expected tag bit ≡ Ok tt
 expected_spelled AnyTag tag bit h = refl
 expected_spelled (Tagged wanted) tag bit h = rw (same_tag_self tag wanted h) refl
-expected_spelled (Exactly wanted) tag bit (h, k) = rw (same_tag_self tag wanted.tag h, k, bit_self (constructed_bit wanted)) refl
+expected_spelled (Exactly wanted) tag bit (h, k) = rw (same_tag_self tag wanted.tag h, k, bit_self wanted.bit) refl
 
 -- what a header that is read has of its identifier
 abbrev pub Framed : Form → List ℕ → Tag → Bool → Header → Type 0
@@ -248,8 +245,7 @@ contents_found spelling input id tag bit (Some n) l m h s short e (len, a, f, w)
 
 -- No form has both shortest spellings and an indefinite one.
 strict_closed : (spelling : Form) → HasStrictForm spelling → HasIndefinite spelling → ⊥
-strict_closed ber_form s i = s
-strict_closed cer_form s i = s
+strict_closed basic_form s i = s
 strict_closed der_form s i = i
 strict_closed loose_form s i = i
 

@@ -14,7 +14,7 @@ use Rattle.rasn_de.specs.Decodes.{Decodes}
 use Rattle.rasn_de.specs.Inside.{door_at, is_open, inner_state, Keeps, ReadInside}
 use Rattle.rasn_de.specs.Sequences.{sequence_door}
 use Rattle.rasn_de.specs.Lists.{PassesFrom, Stops}
-use Rattle.rasn_de.specs.Sets.{Unread, not_told, falls, stops, ReadComponents, GathersSet, MakesSet}
+use Rattle.rasn_de.specs.Sets.{Unread, no_tag, falls, not_read, ReadComponents, GathersSet, MakesSet}
 use Rattle.rasn_de.proofs.Holding.{Exact-same, Held, IsCut, held_exact, kept}
 use Rattle.rasn_de.proofs.Insides.{bit_is}
 use Rattle.rasn_de.proofs.SetsOf.{came}
@@ -32,15 +32,15 @@ module _ {F : Type 0} (s : Shape) (piece : F → Tree) where
   stops_keeps here e new (inr (v, k, x)) = record { stays = k.stays; end = k.end }
 
   unread_keeps : (bs : List (List ℕ)) (here : State) (e : DecodeError) (new : State) → Unread (Decodes s piece) bs here e new → Keeps here new
-  unread_keeps bs here e new (not_told a p q) = kept_same here new q
-  unread_keeps bs here e new (falls a f w q) = kept_same here new q
-  unread_keeps bs here e new (stops f w) = stops_keeps here e new w
+  unread_keeps bs here e new (no_tag a p q) = kept_same here new q
+  unread_keeps bs here e new (falls a t n f w q) = kept_same here new q
+  unread_keeps bs here e new (not_read f w) = stops_keeps here e new w
 
   pub gathers_keeps : {S L : Type 0} (elements : L → List F) (by : L → Result S DecodeError → Type 0) (old : State) (r : Result S DecodeError) (new : State)
       → GathersSet (ReadComponents (Decodes s piece) elements) by old r new → Keeps old new
-  gathers_keeps elements by old (Ok v) new (fields, p, m) = passed_keeps old new (elements fields) p.0 p.1
-  gathers_keeps elements by old (Err e) new (inl (vs, bs, here, p, o, n, u)) = kept_after old here new (passed_keeps old here vs bs p) (unread_keeps bs here e new u)
-  gathers_keeps elements by old (Err e) new (inr (fields, p, m)) = passed_keeps old new (elements fields) p.0 p.1
+  gathers_keeps elements by old (Ok v) new (fields, p, m) = passed_keeps old new (elements fields) p.0 p.1.0
+  gathers_keeps elements by old (Err e) new (inl (vs, bs, here, (p, o), n, u)) = kept_after old here new (passed_keeps old here vs bs p) (unread_keeps bs here e new u)
+  gathers_keeps elements by old (Err e) new (inr (fields, p, m)) = passed_keeps old new (elements fields) p.0 p.1.0
 
   pub gathers_called : {S L : Type 0} (elements : L → List F) (by : L → Result S DecodeError → Type 0) (old : State) (fields : L) (r : Result S DecodeError) (new : State)
       → ReadComponents (Decodes s piece) elements old (Ok fields) new → by fields r → GathersSet (ReadComponents (Decodes s piece) elements) by old r new
@@ -48,7 +48,7 @@ module _ {F : Type 0} (s : Shape) (piece : F → Tree) where
   gathers_called elements by old fields (Err e) new h m = inr (fields, h, m)
 
 module _ {F S L : Type 0} (s : Shape) (ps : Parts) (same : s ≡ choice ps) (piece : F → Tree) (tree : S → Tree) (elements : L → List F) (by : L → Result S DecodeError → Type 0)
-    (tag : Tag) (old : State) (o : old.depth ≢ 0 → AreOctets old.rest) (H : (fs : L) (r : Result S DecodeError) → by fs r → MakesSet old.rule ps tree (map piece (elements fs)) r) where
+    (tag : Tag) (old : State) (o : old.depth ≢ 0 → AreOctets old.rest) (H : (fs : L) (r : Result S DecodeError) → by fs r → MakesSet ps tree (map piece (elements fs)) r) where
   abbrev pub Read : State → Result S DecodeError → State → Type 0
   Read = GathersSet (ReadComponents (Decodes s piece) elements) by
 

@@ -1,5 +1,5 @@
 -- The components of a SET are read one by one, and by part they are the SET's contents.
-use Rattle.std.proofs.Common.{◌≡◌, inl, inr, ℕ, suc, Bool, false, List, [], ◌∷◌, ◌++◌, map, Result, Ok, Err, refl, sym, ap, ◌∙◌, subst, append_assoc}
+use Rattle.std.proofs.Common.{◌≡◌, inl, inr, ℕ, Bool, List, [], ◌∷◌, ◌++◌, map, Result, Ok, Err, refl, sym, ap, ◌∙◌, subst, append_assoc}
 use Rattle.std.proofs.lemmas.List.{append-nil}
 use Rattle.rasn_types.proofs.Alike.{items_one}
 use Rattle.rasn_types.specs.declared.types.rules.Codec.{Codec}
@@ -8,16 +8,14 @@ use Rattle.rasn_types.specs.declared.error.decode.DecodeError.{DecodeError}
 use Rattle.rasn_types.specs.Framing.{Begins, Next, Ended}
 use Rattle.rasn_types.specs.Tags.{form, IsStrict, IsTagBelow}
 use Rattle.rasn_types.specs.Order.{Each, DoNotFall}
-use Rattle.rasn_types.specs.Shapes.{Tree, items, choice, Parts, part}
-use Rattle.rasn_types.specs.Shapes.Parts.{none}
-use Rattle.rasn_types.specs.Readers.{Reading, Many, ReadFrom, ByPart, AreInTagOrder, ReadsSet}
+use Rattle.rasn_types.specs.Shapes.{Tree, items, choice, Parts, presences}
+use Rattle.rasn_types.specs.Readers.{Reading, Many, ReadFrom, ReadsChoice, ByPart, AreInTagOrder, ReadsSet}
 use Rattle.rasn_types.specs.Grammar.{Reads, parts_of}
 use Rattle.rasn_types.specs.Trees.{list_tree}
-use Rattle.rasn_types.proofs.Frames.{begins_one}
 use Rattle.rasn_de.specs.State.{State}
 use Rattle.rasn_de.specs.Decodes.{Decodes, DecodesBy}
 use Rattle.rasn_de.specs.Lists.{ReadsItems, Stops}
-use Rattle.rasn_de.specs.Sets.{NextTag, Unread, not_told, falls, stops, ReadComponents, GathersSet, AreParts, MakesSet}
+use Rattle.rasn_de.specs.Sets.{Unread, no_tag, falls, not_read, ReadComponents, GathersSet, AreParts, MakesSet}
 use Rattle.rasn_de.specs.Outcomes.{Exact, refusal}
 use Rattle.rasn_de.specs.Taking.{Peeks}
 use Rattle.rasn_de.proofs.Answering.{Exact-none, Exact-refusal}
@@ -27,17 +25,11 @@ use Rattle.rasn_de.proofs.Listing.{Come, element_stops, elements_end}
 use Rattle.rasn_de.proofs.Parted.{by_part_one}
 use Rattle.rasn_de.proofs.Perhaps.{peeks_none}
 use Rattle.rasn_de.proofs.Pieces.{begins_more}
-use Rattle.rasn_de.proofs.Tagged.{tags_split, tags_one, front_in_order}
-
--- Depth and end-of-contents octets don't count for which parts they are.
-pub by_part_at : (rule : Codec) (ps : Parts) (k d e : ℕ) (b c : Bool) (readings ts : List Tree) → ByPart rule k (parts_of rule ps d b) readings ts → ByPart rule k (parts_of rule ps e c) readings ts
-unfolding parts_of
-by_part_at rule none k d e b c readings ts h = h
-by_part_at rule (part p s ps) k d e b c readings ts (t, us, f, g, h) = (t, us, f, g, by_part_at rule ps (suc k) d e b c readings us h)
+use Rattle.rasn_de.proofs.Tagged.{tags_split, tags_more, front_in_order}
 
 -- What stands in a SET of these parts.
 abbrev pub SetReads : Parts → Codec → ℕ → Bool → Reading Tree
-SetReads ps rule depth closing = ReadsSet rule (parts_of rule ps depth closing) closing
+SetReads ps rule depth closing = ReadsSet rule (presences ps) (ReadsChoice rule 0 (parts_of rule ps depth closing)) closing
 
 module _ {F S : Type 0} (ps : Parts) (piece : F → Tree) (tree : S → Tree) (old : State) where
   abbrev pub Whole : Reading Tree
@@ -79,7 +71,7 @@ module _ {F S : Type 0} (ps : Parts) (piece : F → Tree) (tree : S → Tree) (o
   unfolding Reads
   next_there here vs bs k n nothing [] r m = ended_there here vs bs k n m.0
   next_there here vs bs k n nothing (u ∷ us) r (e, mid, x, m) =
-      let c = choice_next (form old.rule) 0 (parts_of old.rule ps old.depth old.closing) here.rest u mid x in
+      let c = choice_next old.rule 0 (parts_of old.rule ps old.depth old.closing) here.rest u mid x in
       nothing c.0 (subst (λ (z : State). Next (form z.rule) here.rest c.0) (sym k.come.0) c.1)
 
   untold : (here : State) (vs : List F) (bs : List (List ℕ)) → Came (choice ps) piece old here vs bs → (Ended here.closing here.rest → ⊥) → (e : DecodeError) → Peeks here (Err e) → IsStrict here.rule
@@ -92,19 +84,20 @@ module _ {F S : Type 0} (ps : Parts) (piece : F → Tree) (tree : S → Tree) (o
         next_there here vs bs k n (peeks_none here e p) g.0 r g.2);
   }
 
-  clash : (here : State) (vs : List F) (bs : List (List ℕ)) → Came (choice ps) piece old here vs bs → (Ended here.closing here.rest → ⊥) → NextTag (λ tags. DoNotFall IsTagBelow tags → ⊥) bs here
+  clash : (here : State) (vs : List F) (bs : List (List ℕ)) → Came (choice ps) piece old here vs bs → (Ended here.closing here.rest → ⊥) → (AreInTagOrder (bs ++ here.rest ∷ []) → ⊥)
       → (us : List Tree) (r : List ℕ) (more : List (List ℕ)) → Many R old.closing here.rest us r → ReadFrom R here.rest us r more → AreInTagOrder (bs ++ more) → ⊥
   clash here vs bs k n f [] r more m x o = ended_there here vs bs k n m.0
-  clash here vs bs k n (tag, tags, next, heads, below) (u ∷ us) r more m (b, rest, mid, e, g, y, z) (all, h, order) =
+  clash here vs bs k n f (u ∷ us) r more m (b, rest, mid, e, g, y, z) (all, h, order) =
       let s = tags_split bs more all h in
       let q : Each Begins (b ∷ rest) s.1 = subst (λ l. Each Begins l s.1) e s.4 in
-      let same : q.0 ≡ tag = begins_one here.rest q.0 tag (subst (λ l. Begins l q.0) (sym g) (begins_more b mid q.0 q.3)) next.begins in
-      let front : s.0 ≡ tags = tags_one bs s.0 tags s.3 heads in
       let w : DoNotFall IsTagBelow (s.0 ++ q.0 ∷ q.1) = subst (DoNotFall IsTagBelow) (s.2 ∙ ap (λ l. s.0 ++ l) q.2) order in
-      let v : DoNotFall IsTagBelow (tags ++ tag ∷ q.1) = subst (λ l. DoNotFall IsTagBelow (l ++ tag ∷ q.1)) front (subst (λ x. DoNotFall IsTagBelow (s.0 ++ x ∷ q.1)) same w) in
-      below (front_in_order IsTagBelow (tags ++ tag ∷ []) q.1 (subst (DoNotFall IsTagBelow) (sym (append_assoc tags (tag ∷ []) q.1)) v))
+      f (
+        s.0 ++ q.0 ∷ [],
+        tags_more bs s.0 here.rest q.0 s.3 (subst (λ l. Begins l q.0) (sym g) (begins_more b mid q.0 q.3)),
+        front_in_order IsTagBelow (s.0 ++ q.0 ∷ []) q.1 (subst (DoNotFall IsTagBelow) (sym (append_assoc s.0 (q.0 ∷ []) q.1)) w),
+      )
 
-  fell : (here : State) (vs : List F) (bs : List (List ℕ)) → Came (choice ps) piece old here vs bs → (Ended here.closing here.rest → ⊥) → (e : DecodeError) → NextTag (λ tags. DoNotFall IsTagBelow tags → ⊥) bs here
+  fell : (here : State) (vs : List F) (bs : List (List ℕ)) → Came (choice ps) piece old here vs bs → (Ended here.closing here.rest → ⊥) → (e : DecodeError) → (AreInTagOrder (bs ++ here.rest ∷ []) → ⊥)
       → IsStrict here.rule → DecodesBy (SetReads ps) tree old (Err e) here
   fell here vs bs k n e f strict = record {
     stays = k.come.0;
@@ -120,9 +113,9 @@ module _ {F S : Type 0} (ps : Parts) (piece : F → Tree) (tree : S → Tree) (o
 
   unread : (here : State) (vs : List F) (bs : List (List ℕ)) → Came (choice ps) piece old here vs bs → (Ended here.closing here.rest → ⊥) → (e : DecodeError) (new : State)
       → Unread (Decodes (choice ps) piece) bs here e new → DecodesBy (SetReads ps) tree old (Err e) new
-  unread here vs bs k n e new (not_told s p q) = subst (DecodesBy (SetReads ps) tree old (Err e)) (sym q) (untold here vs bs k n e p s)
-  unread here vs bs k n e new (falls s f w q) = subst (DecodesBy (SetReads ps) tree old (Err e)) (sym q) (fell here vs bs k n e f s)
-  unread here vs bs k n e new (stops f w) = stopped here vs k.come n e new w
+  unread here vs bs k n e new (no_tag s p q) = subst (DecodesBy (SetReads ps) tree old (Err e)) (sym q) (untold here vs bs k n e p s)
+  unread here vs bs k n e new (falls s t i f w q) = subst (DecodesBy (SetReads ps) tree old (Err e)) (sym q) (fell here vs bs k n e f s)
+  unread here vs bs k n e new (not_read f w) = stopped here vs k.come n e new w
 
   -- All components were read.
   module _ (new : State) (fs : List F) (bs : List (List ℕ)) (k : Came (choice ps) piece old new fs bs) (order : IsStrict old.rule → AreInTagOrder bs) (end : Ended new.closing new.rest) where
@@ -130,22 +123,22 @@ module _ {F S : Type 0} (ps : Parts) (piece : F → Tree) (tree : S → Tree) (o
     listed = elements_end (choice ps) piece old (λ (l : List F). list_tree piece l) new fs k.come end fs refl
 
     -- what is read as a SET has these readings
-    only : (t : Tree) (r : List ℕ) → Whole old.rest t r → (ts : List Tree) × (t ≡ items ts) × ByPart old.rule 0 (parts_of old.rule ps 0 false) (map piece fs) ts × (r ≡ new.rest)
+    only : (t : Tree) (r : List ℕ) → Whole old.rest t r → (ts : List Tree) × (t ≡ items ts) × ByPart 0 (presences ps) (map piece fs) ts × (r ≡ new.rest)
     unfolding as_list
     only t r w =
         let l = as_list old.rest t r w in
         let y = listed.exact.1 (items l.0) r l.1 in
         let q : w.0 ≡ map piece fs = items_one w.0 (map piece fs) y.0 in
-        (w.1, w.2, by_part_at old.rule ps 0 old.depth 0 old.closing false (map piece fs) w.1 (subst (λ z. ByPart old.rule 0 (parts_of old.rule ps old.depth old.closing) z w.1) q w.4), y.1)
+        (w.1, w.2, subst (λ z. ByPart 0 (presences ps) z w.1) q w.4, y.1)
 
-    there : (many : Many R old.closing old.rest (map piece fs) new.rest) (t : Tree) → AreParts old.rule ps (map piece fs) t → Whole old.rest t new.rest
+    there : (many : Many R old.closing old.rest (map piece fs) new.rest) (t : Tree) → AreParts ps (map piece fs) t → Whole old.rest t new.rest
     unfolding Reads
     there many t (ts, e, by) = (
       map piece fs,
       ts,
       e,
       many,
-      by_part_at old.rule ps 0 0 old.depth false old.closing (map piece fs) ts by,
+      by,
       λ strict. (
         bs,
         subst (λ z. ReadFrom R old.rest z new.rest bs) (append-nil (map piece fs))
@@ -160,7 +153,7 @@ module _ {F S : Type 0} (ps : Parts) (piece : F → Tree) (tree : S → Tree) (o
         let x = listed.exact.0 in
         subst (λ z. Many R old.closing old.rest z new.rest) (sym (items_one (map piece fs) x.0 x.1)) x.2
 
-    pub made : (v : S) → AreParts old.rule ps (map piece fs) (tree v) → DecodesBy (SetReads ps) tree old (Ok v) new
+    pub made : (v : S) → AreParts ps (map piece fs) (tree v) → DecodesBy (SetReads ps) tree old (Ok v) new
     made v a = record {
       stays = k.come.0;
       end = k.come.1;
@@ -168,21 +161,21 @@ module _ {F S : Type 0} (ps : Parts) (piece : F → Tree) (tree : S → Tree) (o
         there many_read (tree v) a,
         λ t r w.
             let o = only t r w in
-            (o.1 ∙ ap items (by_part_one old.rule (parts_of old.rule ps 0 false) 0 (map piece fs) o.0 a.0 o.2 a.2) ∙ sym a.1, o.3),
+            (o.1 ∙ ap items (by_part_one (presences ps) 0 (map piece fs) o.0 a.0 o.2 a.2) ∙ sym a.1, o.3),
       );
     }
 
-    pub not_made : (e : DecodeError) → Exact (λ input t rest. AreParts old.rule ps (map piece fs) t) [] (refusal e.kind) → DecodesBy (SetReads ps) tree old (Err e) new
+    pub not_made : (e : DecodeError) → Exact (λ input t rest. AreParts ps (map piece fs) t) [] (refusal e.kind) → DecodesBy (SetReads ps) tree old (Err e) new
     not_made e x = record {
       stays = k.come.0;
       end = k.come.1;
-      exact = Exact-refusal e.kind (λ input t rest. AreParts old.rule ps (map piece fs) t) Whole [] old.rest
+      exact = Exact-refusal e.kind (λ input t rest. AreParts ps (map piece fs) t) Whole [] old.rest
           (λ none t r w. let o = only t r w in none t [] (o.0, o.1, o.2)) x;
     }
 
   pub set_gathers : {L : Type 0} (elements : L → List F) (by : L → Result S DecodeError → Type 0)
-      → ((fs : L) (r : Result S DecodeError) → by fs r → MakesSet old.rule ps tree (map piece (elements fs)) r)
+      → ((fs : L) (r : Result S DecodeError) → by fs r → MakesSet ps tree (map piece (elements fs)) r)
       → (result : Result S DecodeError) (new : State) → GathersSet (ReadComponents (Decodes (choice ps) piece) elements) by old result new → DecodesBy (SetReads ps) tree old result new
-  set_gathers elements by H (Ok v) new (fs, (bs, p, order, end), m) = made new (elements fs) bs (came (choice ps) piece old new (elements fs) bs p) order end v (H fs (Ok v) m)
-  set_gathers elements by H (Err e) new (inl (vs, bs, here, p, order, n, u)) = unread here vs bs (came (choice ps) piece old here vs bs p) n e new u
-  set_gathers elements by H (Err e) new (inr (fs, (bs, p, order, end), m)) = not_made new (elements fs) bs (came (choice ps) piece old new (elements fs) bs p) order end e (H fs (Err e) m)
+  set_gathers elements by H (Ok v) new (fs, (bs, (p, order), end), m) = made new (elements fs) bs (came (choice ps) piece old new (elements fs) bs p) order end v (H fs (Ok v) m)
+  set_gathers elements by H (Err e) new (inl (vs, bs, here, (p, order), n, u)) = unread here vs bs (came (choice ps) piece old here vs bs p) n e new u
+  set_gathers elements by H (Err e) new (inr (fs, (bs, (p, order), end), m)) = not_made new (elements fs) bs (came (choice ps) piece old new (elements fs) bs p) order end e (H fs (Err e) m)

@@ -1,16 +1,16 @@
 -- An identifier and a length read octet by octet are those that the octets spell.
-use Rattle.std.proofs.Common.{◌≡◌, ◌≢◌, ℕ, ◌+◌, ◌*◌, ◌/◌, ◌^◌, ◌%◌, ◌<◌, ◌≤◌, ◌⊎◌, inl, inr, Bool, true, false, ◌&&◌, cond, List, [], ◌∷◌, ◌++◌, length, Result, Ok, Err, refl, sym, ap, ap₂, ◌∙◌, subst, arith}
+use Rattle.std.proofs.Common.{◌≡◌, ◌≢◌, ℕ, ◌+◌, ◌*◌, ◌/◌, ◌^◌, ◌%◌, ◌<◌, ◌≤◌, ◌⊎◌, inl, inr, Bool, true, false, ◌&&◌, cond, List, [], ◌∷◌, ◌++◌, length, Result, Ok, refl, sym, ap, ap₂, ◌∙◌, subst, arith}
 use Rattle.std.specs.Prelude.{nat_le, nat_lt, nat_eq, ◌||◌}
 use Rattle.std.proofs.lemmas.Bool.Decides.{nat_tests}
 use Rattle.rasn_types.specs.declared.types.tag.Tag.{Tag}
 use Rattle.rasn_types.specs.declared.types.tag.Class.{Class}
 use Rattle.rasn_types.specs.declared.types.tag.Class.TheVariants.{Universal, Application, Context, Private}
-use Rattle.rasn_types.specs.Tags.{Form, ber_form, cer_form, der_form, loose_form, HasStrictForm, rank, eoc, is_universal, is_eoc}
+use Rattle.rasn_types.specs.Tags.{Form, basic_form, der_form, loose_form, HasStrictForm, rank, eoc, is_universal, is_eoc}
 use Rattle.rasn_de.specs.declared.ber.de.parser.Fault.{Fault}
 use Rattle.rasn_de.specs.declared.ber.de.parser.Fault.TheVariants.{UnsupportedTagNumber}
 use Rattle.rasn_types.proofs.Frames.{rank_small, bit_small}
 use Rattle.rasn_types.specs.Framing.{number_in, Spells128, bit_of, IdSpells, IsShortestId}
-use Rattle.rasn_de.specs.Headers.{class_of, tag_of, bit_at, number128_at, spelled, is_padded, padding_first, tag_number_at, is_longer, Identified, named, identifier_by, identifier_at}
+use Rattle.rasn_de.specs.Headers.{class_of, tag_of, bit_at, number128_at, spelled, tag_number_at, is_longer, Identified, named, identifier_by, identifier_at}
 use Rattle.rasn_de.proofs.Tools.{bind_ok, chosen, guarded, AreOctets}
 use Rattle.rasn_de.proofs.Numbers.{number128_found, number128_spelled}
 
@@ -20,14 +20,12 @@ IsTagNumber low more n = ((low < 31) × (more ≡ []) × (n ≡ low)) ⊎ ((low 
 
 -- The forms whose spellings are the shortest ones, as the code tells them.
 pub strict_shortest : (spelling : Form) → (spelled spelling).shortest ≡ true → HasStrictForm spelling
-strict_shortest ber_form e = cc
-strict_shortest cer_form e = cc
+strict_shortest basic_form e = cc
 strict_shortest der_form e = tt
 strict_shortest loose_form e = cc
 
 pub shortest_strict : (spelling : Form) → HasStrictForm spelling → (spelled spelling).shortest ≡ true
-shortest_strict ber_form h = absurd h
-shortest_strict cer_form h = absurd h
+shortest_strict basic_form h = absurd h
 shortest_strict der_form h = refl
 shortest_strict loose_form h = absurd h
 
@@ -44,21 +42,16 @@ pub neither_true : (a b : Bool) → a || b ≡ false → (a ≡ false) × (b ≡
 neither_true true b e = cc
 neither_true false b e = (refl, e)
 
-padding_found : (padded : Bool) (r : Result (ℕ × List ℕ) Fault) (p : ℕ × List ℕ) → padding_first padded r ≡ Ok p → r ≡ Ok p
-padding_found padded (Ok q) p e = e
-padding_found true (Err f) p e = cc
-padding_found false (Err f) p e = cc
-
-pub tag_number_found : (shortest : Bool) (first : ℕ) (l : List ℕ) (p : ℕ × List ℕ) → tag_number_at shortest first l ≡ Ok p
+pub tag_number_found : (first : ℕ) (l : List ℕ) (p : ℕ × List ℕ) → tag_number_at first l ≡ Ok p
     → (more : List ℕ) × IsTagNumber (first % 32) more p.0 × (l ≡ more ++ p.1)
 unfolding tag_number_at
-tag_number_found shortest first l p e = go (chosen (nat_eq (first % 32) 31) _ _ _ e)
+tag_number_found first l p e = go (chosen (nat_eq (first % 32) 31) _ _ _ e)
   where
-    go : ((nat_eq (first % 32) 31 ≡ true) × (padding_first (shortest && is_padded l) (number128_at UnsupportedTagNumber 0 l) ≡ Ok p)) ⊎ ((nat_eq (first % 32) 31 ≡ false) × (◌≡◌ {A = Result (ℕ × List ℕ) Fault} (Ok (first % 32, l)) (Ok p)))
+    go : ((nat_eq (first % 32) 31 ≡ true) × (number128_at UnsupportedTagNumber 0 l ≡ Ok p)) ⊎ ((nat_eq (first % 32) 31 ≡ false) × (◌≡◌ {A = Result (ℕ × List ℕ) Fault} (Ok (first % 32, l)) (Ok p)))
         → (more : List ℕ) × IsTagNumber (first % 32) more p.0 × (l ≡ more ++ p.1)
     go (inl (t, f)) =
         let k : first % 32 ≡ 31 = grind (arith, nat_tests) in
-        let s = number128_found UnsupportedTagNumber 0 l p (padding_found (shortest && is_padded l) (number128_at UnsupportedTagNumber 0 l) p f) in
+        let s = number128_found UnsupportedTagNumber 0 l p f in
         (s.front, inr (k, record { chain = s.chain; is = s.number ∙ omega arith; below = s.below }), s.is)
     go (inr (t, f)) =
         let k : first % 32 ≢ 31 = grind (arith, nat_tests) in
@@ -67,17 +60,17 @@ tag_number_found shortest first l p e = go (chosen (nat_eq (first % 32) 31) _ _ 
         let g1 : l ≡ p.1 = ap (λ (z : ℕ × List ℕ). z.1) g in
         ([], inl (omega arith, refl, sym g0), g1)
 
-pub tag_number_spelled : (shortest : Bool) (first low : ℕ) (more rest : List ℕ) (n : ℕ) → first % 32 ≡ low → IsTagNumber low more n
-    → tag_number_at shortest first (more ++ rest) ≡ Ok (n, rest)
+pub tag_number_spelled : (first low : ℕ) (more rest : List ℕ) (n : ℕ) → first % 32 ≡ low → IsTagNumber low more n
+    → tag_number_at first (more ++ rest) ≡ Ok (n, rest)
 unfolding tag_number_at
-tag_number_spelled shortest first low more rest n e (inl (h, p, q)) =
+tag_number_spelled first low more rest n e (inl (h, p, q)) =
     let t : nat_eq (first % 32) 31 ≡ false = grind (arith, nat_tests) in
     rw (t, p, q, e) refl
-tag_number_spelled shortest first low more rest n e (inr (h, s)) =
+tag_number_spelled first low more rest n e (inr (h, s)) =
     let t : nat_eq (first % 32) 31 ≡ true = grind (arith, nat_tests) in
     let f : 0 * 128 ^ length more + number_in 128 more ≡ n = sym (s.is ∙ omega arith) in
     let g = number128_spelled UnsupportedTagNumber 0 more rest s.chain (subst (λ z. z < 2 ^ 32) (sym f) s.below) ∙ ap (λ z. Ok (z, rest)) f in
-    rw t (ap (padding_first (shortest && is_padded (more ++ rest))) g)
+    rw t g
 
 -- A spelling that isn't longer than another is the shortest one.
 short_found : (first : ℕ) (more rest : List ℕ) (tag : Tag) → IsTagNumber (first % 32) more tag.value → is_longer first (more ++ rest) tag.value ≡ false → IsShortestId (first ∷ more) tag
@@ -159,13 +152,13 @@ pub record SpelledId (spelling : Form) (l : List ℕ) (i : Identified) : Type 0 
 pub identifier_found : (spelling : Form) (l : List ℕ) (i : Identified) → AreOctets l → identifier_at spelling l ≡ Ok i → SpelledId spelling l i
 unfolding identifier_by
 identifier_found spelling [] i o e = cc
-identifier_found spelling (b ∷ l) i o e = go (bind_ok (tag_number_at (spelled spelling).shortest b l) (named (spelled spelling).shortest b l) i e)
+identifier_found spelling (b ∷ l) i o e = go (bind_ok (tag_number_at b l) (named (spelled spelling).shortest b l) i e)
   where
-    go : (p : ℕ × List ℕ) × (tag_number_at (spelled spelling).shortest b l ≡ Ok p) × (named (spelled spelling).shortest b l p ≡ Ok i) → SpelledId spelling (b ∷ l) i
+    go : (p : ℕ × List ℕ) × (tag_number_at b l ≡ Ok p) × (named (spelled spelling).shortest b l p ≡ Ok i) → SpelledId spelling (b ∷ l) i
     go (p, t, f) =
         let g = guarded (is_eoc (tag_of b p.0)) _ _ i f in
         let k = guarded ((spelled spelling).shortest && is_longer b l p.0) _ _ i g.1 in
-        let s = tag_number_found (spelled spelling).shortest b l p t in
+        let s = tag_number_found b l p t in
         let n = k.1 in
         let short = λ (h : HasStrictForm spelling). short_found b s.0 p.1 (tag_of b p.0) s.1
         (subst (λ z. is_longer b z p.0 ≡ false) s.2 (false_asked (spelled spelling).shortest (is_longer b l p.0) k.0 (shortest_strict spelling h))) in
@@ -199,7 +192,7 @@ identifier_spelled spelling (b ∷ more) rest tag bit i short =
     let h = i.spells in
     let s = low_small more tag.value h.low h.number in
     let q = first_parts b (rank tag.class) (bit_of bit) h.low (rank_small tag.class) (bit_small bit) s h.leading in
-    let n = tag_number_spelled (spelled spelling).shortest b h.low more rest tag.value q.2 h.number in
+    let n = tag_number_spelled b h.low more rest tag.value q.2 h.number in
     let c : tag_of b tag.value ≡ tag = tag_is (tag_of b tag.value) tag (rank_class tag.class (b / 64) q.0) refl in
     let d : bit_at b ≡ bit = bit_back bit (b % 64) h.low s q.1 in
     let z : is_eoc (tag_of b tag.value) ≡ false = ap is_eoc c ∙ not_eoc tag i.is_one in

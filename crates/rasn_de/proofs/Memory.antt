@@ -7,10 +7,9 @@ use Rattle.rasn_de.specs.declared.ber.de.parser.headers.Spelling.{Spelling}
 use Rattle.rasn_de.specs.declared.ber.de.parser.headers.Expected.{Expected}
 use Rattle.rasn_de.specs.declared.ber.de.parser.headers.Expected.TheVariants.{AnyTag, Tagged, Exactly}
 use Rattle.rasn_types.specs.Tags.{is_eoc}
-use Rattle.rasn_types.specs.Numbered.{constructed_bit}
 use Rattle.rasn_de.specs.declared.ber.de.parser.Fault.{Fault}
 use Rattle.rasn_de.specs.declared.ber.de.parser.Fault.TheVariants.{OutOfMemory, LengthExceedsPlatformWidth, UnsupportedTagNumber, IndefiniteLengthNotAllowed, ReservedLengthOctet, UnexpectedEndOfContents}
-use Rattle.rasn_de.specs.Headers.{◌>>=◌, number128_at, number256_at, is_padded, padding_first, tag_number_at, is_longer, tag_of, named, identifier_by, first_octets, has_spare, long_at, length_at, contents_at, same_tag, tagged_at, expected_at, header_by}
+use Rattle.rasn_de.specs.Headers.{◌>>=◌, number128_at, number256_at, tag_number_at, is_longer, tag_of, named, identifier_by, first_octets, has_spare, long_at, length_at, contents_at, same_tag, tagged_at, expected_at, header_by}
 
 -- A refusal isn't for running out of memory.
 abbrev pub NoMemory : {X : Type 0} → Result X Fault → Type 0
@@ -30,21 +29,15 @@ unfolding number128_at
 number128_none wide n [] h = λ e. cc
 number128_none wide n (b ∷ l) h = none_cond (nat_le 0x2000000 n) (Err wide) _ h (none_cond (nat_lt b 128) (Ok (n * 128 + b, l)) _ tt (number128_none wide (n * 128 + b % 128) l h))
 
-padding_none : (padded : Bool) (r : Result (ℕ × List ℕ) Fault) → NoMemory r → NoMemory (padding_first padded r)
-padding_none padded (Ok p) n = tt
-padding_none true (Err f) n = λ e. cc
-padding_none false (Err f) n = n
-
-tag_number_none : (shortest : Bool) (first : ℕ) (l : List ℕ) → NoMemory (tag_number_at shortest first l)
+tag_number_none : (first : ℕ) (l : List ℕ) → NoMemory (tag_number_at first l)
 unfolding tag_number_at
-tag_number_none shortest first l =
-    none_cond (nat_eq (first % 32) 31) _ (Ok (first % 32, l)) (padding_none (shortest && is_padded l) _ (number128_none UnsupportedTagNumber 0 l (λ e. cc))) tt
+tag_number_none first l = none_cond (nat_eq (first % 32) 31) _ (Ok (first % 32, l)) (number128_none UnsupportedTagNumber 0 l (λ e. cc)) tt
 
 pub identifier_none : (shortest : Bool) (l : List ℕ) → NoMemory (identifier_by shortest l)
 unfolding identifier_by
 identifier_none shortest [] = λ e. cc
 identifier_none shortest (b ∷ l) =
-    none_bind (tag_number_at shortest b l) (named shortest b l) (tag_number_none shortest b l)
+    none_bind (tag_number_at b l) (named shortest b l) (tag_number_none b l)
     (λ p. none_cond (is_eoc (tag_of b p.0)) (Err UnexpectedEndOfContents) _ (λ e. cc) (none_cond (shortest && is_longer b l p.0) _ _ (λ e. cc) tt))
 
 number256_none : (n : ℕ) (l : List ℕ) → NoMemory (number256_at n l)
@@ -78,7 +71,7 @@ tagged_none wanted tag = none_cond (same_tag tag wanted) (Ok tt) _ tt (λ e. cc)
 expected_none : (expected : Expected) (tag : Tag) (bit : Bool) → NoMemory (expected_at expected tag bit)
 expected_none AnyTag tag bit = tt
 expected_none (Tagged wanted) tag bit = tagged_none wanted tag
-expected_none (Exactly wanted) tag bit = none_bind (tagged_at wanted.tag tag) _ (tagged_none wanted.tag tag) (λ u. none_cond (beq bit (constructed_bit wanted)) (Ok tt) _ tt (λ e. cc))
+expected_none (Exactly wanted) tag bit = none_bind (tagged_at wanted.tag tag) _ (tagged_none wanted.tag tag) (λ u. none_cond (beq bit wanted.bit) (Ok tt) _ tt (λ e. cc))
 
 pub header_none : (spelling : Spelling) (expected : Expected) (l : List ℕ) → NoMemory (header_by spelling expected l)
 unfolding header_by

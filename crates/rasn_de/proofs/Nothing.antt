@@ -1,5 +1,5 @@
 -- What is read of nothing leaves nothing.
-use Rattle.std.proofs.Common.{◌≡◌, ℕ, zero, suc, inl, inr, Bool, true, List, [], ◌∷◌, ◌++◌, Option, Some, None, refl, subst, arith}
+use Rattle.std.proofs.Common.{◌≡◌, ℕ, suc, inl, inr, Bool, true, List, [], ◌∷◌, ◌++◌, Option, Some, None, refl, subst, arith}
 use Rattle.rasn_types.specs.declared.types.tag.Tag.{Tag}
 use Rattle.rasn_types.specs.declared.types.rules.Codec.{Codec}
 use Rattle.rasn_types.specs.Tags.{Form, form, IsStrict, in_universal}
@@ -8,7 +8,7 @@ use Rattle.rasn_types.specs.Shapes.{Tree, absent, Kind, Shape, leaf, any, prefix
 use Rattle.rasn_types.specs.Shapes.Parts.{none}
 use Rattle.rasn_types.specs.Readers.{Reading, Inside, in_definite, in_indefinite, Perhaps, Part, IsNoDefault, ReadsPart, InOrder, ReadsChoice}
 use Rattle.rasn_types.specs.Contents.{Str, ReadBits, OctetSegment}
-use Rattle.rasn_types.specs.Grammar.{Family, plain as plain_family, bit_family, text_family, family, ReadsIn, Reads, parts_of}
+use Rattle.rasn_types.specs.Grammar.{Family, plain_family, bit_family, text_family, family, ReadsIn, Reads, parts_of}
 use Rattle.rasn_de.proofs.Fronts.{frame_shorter}
 
 no_frame : {A : Type 0} {spelling : Form} {tag : Tag} {bit : Bool} {rest : List ℕ} {x : Extent} → Frame spelling [] tag bit rest x → A
@@ -26,9 +26,9 @@ no_inside rule tag bit inner x rest (in_definite c f r) = no_frame f
 no_inside rule tag bit inner x rest (in_indefinite b f r) = no_frame f
 
 no_string : {A X : Type 0} (rule : Codec) (S : List ℕ → List X → Type 0) (inner : Tag) (d : ℕ) (tag : Tag) (xs : List X) (rest : List ℕ) → Str rule S inner d tag [] xs rest → A
-no_string rule S inner zero tag xs rest (c, f, s) = no_frame f
-no_string rule S inner (suc d) tag xs rest (inl (c, f, s)) = no_frame f
-no_string rule S inner (suc d) tag xs rest (inr (i, ps, e, r)) = no_inside rule tag true _ ps rest r
+no_string rule S inner d tag xs rest (Str.primitive c f s) = no_frame f
+no_string rule S inner (suc d) tag xs rest (Str.segments c h f m) = no_frame f
+no_string rule S inner (suc d) tag xs rest (Str.closed_segments c h f m) = no_frame f
 
 no_leaf : {A : Type 0} (f : Family) (rule : Codec) (kind : Kind) (tag : Tag) (depth : ℕ) (t : Tree) (rest : List ℕ) → ReadsIn f rule kind tag depth [] t rest → A
 no_leaf plain_family rule kind tag depth t rest (bit, c, f, k, m) = no_frame f
@@ -43,10 +43,10 @@ no_text : {A : Type 0} (rule : Codec) (text rest : List ℕ) → Whole rule text
 no_text rule [] rest w e = no_whole rule w
 no_text rule (b ∷ l) rest w e = cc
 
-no_choice : {A : Type 0} (spelling : Form) (k : ℕ) (ps : List Part) (t : Tree) (rest : List ℕ) → ReadsChoice spelling k ps [] t rest → A
-no_choice spelling k [] t rest c = absurd c
-no_choice spelling k (p ∷ ps) t rest (inl (u, e, n, s, m, r)) = no_next n s
-no_choice spelling k (p ∷ ps) t rest (inr c) = no_choice spelling (suc k) ps t rest c
+no_choice : {A : Type 0} (rule : Codec) (k : ℕ) (ps : List Part) (t : Tree) (rest : List ℕ) → ReadsChoice rule k ps [] t rest → A
+no_choice rule k [] t rest c = absurd c
+no_choice rule k (p ∷ ps) t rest (inl (u, e, n, s, m, r, z)) = no_next n s
+no_choice rule k (p ∷ ps) t rest (inr c) = no_choice rule (suc k) ps t rest c
 
 perhaps_nothing : {X : Type 0} (spelling : Form) (tag : Option Tag) (without : X) (reads : Reading X) (closing : Bool) (x : X) (rest : List ℕ) → Perhaps spelling tag without reads closing [] x rest → rest ≡ []
 perhaps_nothing spelling tag without reads closing x rest (inl (a, e, f)) = f
@@ -60,7 +60,7 @@ shape_nothing rule (any None) depth closing t rest (text, e, w, f) = no_text rul
 shape_nothing rule (any (Some tag)) depth closing t rest (bit, c, e, m, inl f) = no_frame f
 shape_nothing rule (any (Some tag)) depth closing t rest (bit, c, e, m, inr (b, f, w, g)) = no_frame f
 shape_nothing rule (prefix tag s) depth closing t rest (d, bit, m, r) = no_inside rule tag bit _ t rest r
-shape_nothing rule (choice ps) depth closing t rest r = no_choice (form rule) 0 (parts_of rule ps depth closing) t rest r
+shape_nothing rule (choice ps) depth closing t rest r = no_choice rule 0 (parts_of rule ps depth closing) t rest r
 shape_nothing rule (option tag s) depth closing t rest r = perhaps_nothing (form rule) tag absent (Reads rule s depth closing) closing t rest r
 shape_nothing rule (seq tag ps) depth closing t rest (d, r) = no_inside rule tag true _ t rest r
 shape_nothing rule (set tag ps) depth closing t rest (d, r) = no_inside rule tag true _ t rest r

@@ -8,7 +8,6 @@ use Rattle.rasn_types.specs.declared.types.rules.Codec.TheVariants.{Ber, Cer, De
 use Rattle.rasn_types.specs.Tags.{form, IsStrict}
 use Rattle.rasn_types.specs.Framing.{AreOctets, Extent, definite, indefinite, Frame}
 use Rattle.rasn_types.specs.Shapes.{Tree, numbers, any, looked_for}
-use Rattle.rasn_types.specs.Trees.{open_octets, open_tree}
 use Rattle.rasn_types.specs.declared.types.any.Any.{Any}
 use Rattle.rasn_types.specs.declared.error.decode.DecodeError.{DecodeError}
 use Rattle.rasn_types.specs.Readers.{Reading}
@@ -147,11 +146,11 @@ reads_octets rule None depth closing input o h = h
 reads_octets rule (Some tag) depth closing input o h = h
 
 -- What a call answers of an open type is what the grammar has.
-pub open_decodes : (tag : Tag) (old new : State) (result : Result Any DecodeError) → GaveOpen tag old result new → Decodes (any (looked_for tag)) open_tree old result new
+pub open_decodes : (tag : Tag) (old new : State) (result : Result Any DecodeError) → GaveOpen tag old result new → Decodes (any (looked_for tag)) numbers old result new
 open_decodes tag old new (Ok a) (x, s) = record {
   stays = s;
-  end = open_end old.rule (looked_for tag) old.rest (open_octets a, new.rest) x;
-  exact = reads_octets old.rule (looked_for tag) old.depth old.closing old.rest (Got (open_tree a) new.rest) x;
+  end = open_end old.rule (looked_for tag) old.rest (a, new.rest) x;
+  exact = reads_octets old.rule (looked_for tag) old.depth old.closing old.rest (Got (numbers a) new.rest) x;
 }
 open_decodes tag old new (Err e) (h, s) = record {
   stays = same_at old new s;

@@ -1,20 +1,25 @@
 -- Readings that take no memory.
-use Rattle.std.proofs.Common.{◌≡◌, ◌≢◌, ℕ, ℤ, ◌⊎◌, inl, inr, Bool, true, false, List, [], ◌∷◌, Result, Ok, Err, sym, ◌∙◌, subst}
+use Rattle.std.proofs.Common.{◌≡◌, ◌≢◌, ℕ, ℤ, ◌⊎◌, inl, inr, Bool, true, false, List, [], ◌∷◌, Result, Ok, Err, sym, ap, ◌∙◌, subst}
 use Rattle.std.specs.Prelude.{nat_eq}
 use Rattle.rasn_types.specs.declared.types.tag.Tag.{Tag}
 use Rattle.rasn_types.specs.declared.types.rules.Codec.{Codec}
 use Rattle.rasn_types.specs.declared.error.decode.DecodeError.{DecodeError}
 use Rattle.rasn_types.specs.declared.error.decode.DecodeErrorKind.{DecodeErrorKind}
 use Rattle.rasn_types.specs.Framing.{Extent, definite, indefinite}
+use Rattle.rasn_types.proofs.Frames.{frame_one}
 use Rattle.rasn_types.specs.Errors.{IsOutOfMemory}
 use Rattle.rasn_de.specs.declared.ber.de.parser.Fault.{Fault}
 use Rattle.rasn_de.specs.declared.ber.de.parser.Fault.TheVariants.{OutOfMemory, InvalidBool}
-use Rattle.rasn_types.specs.Tags.{form, tag_bit}
+use Rattle.rasn_types.specs.Tags.{form, loose, tag_bit}
 use Rattle.rasn_de.specs.Headers.{spelled, Header, header_at, as_written}
 use Rattle.rasn_de.specs.Causes.{Cause, fault, out_of_bound, TellsCause}
 use Rattle.rasn_de.specs.Leaves.{on_header, definite_in, definite_at, FromContents, LeafAt, as_cause, is_ber, bool_in, Refuses, LacksNumber, IntegerIn, IntegerAt, GaveInteger, IsBeyond}
 use Rattle.rasn_types.specs.declared.types.constraints.Constraints.{Constraints}
 use Rattle.rasn_types.specs.Shapes.{Interval}
+use Rattle.rasn_de.specs.declared.ber.de.parser.headers.Expected.TheVariants.{AnyTag}
+use Rattle.rasn_de.specs.Octets.{IsPrimitive, GaveOctets}
+use Rattle.rasn_de.specs.OpenTypes.{Skips}
+use Rattle.rasn_de.specs.Skipping.{IsFault}
 use Rattle.rasn_de.specs.State.{State}
 use Rattle.rasn_de.proofs.Memory.{NoMemory, header_none, none_cond}
 use Rattle.rasn_de.proofs.Peeks.{kind_memory}
@@ -98,3 +103,16 @@ integer_memory see Grows width range bounds tag old new e (inr (cause, a, t, c, 
     go : (x : Cause) → IntegerAt width range bounds old.rule tag old.rest (Err (x, new.rest)) → TellsCause x e.kind → IsPlainOrBound x → IsBeyond (IntegerAt width range bounds old.rule tag old.rest) new.rest
     go (fault f) a t p = absurd (tells_plain (fault f) e.kind p t n)
     go (out_of_bound z bound) a t p = (z, bound, a)
+
+-- A primitive OCTET STRING is lent, so it asks for no memory.
+pub primitive_plain : (tag : Tag) (bounds : Constraints) (old new : State) (e : DecodeError) → GaveOctets tag bounds old (Err e) new → IsPrimitive old.rule tag old.rest → IsOutOfMemory e.kind → ⊥
+primitive_plain tag bounds old new e (inl (m, c, s, (rest, x, f))) (after, contents, p) h = let b : false ≡ true = (frame_one old.rest p f).bit in cc
+primitive_plain tag bounds old new e (inr (n, g)) p h = n h
+
+-- The first fault where a whole encoding has to come is one of a header.
+fault_plain : (rule : Codec) (input : List ℕ) (f : Fault) → IsFault rule input f → f ≢ OutOfMemory
+fault_plain rule input f (inl e) = subst NoMemory e (header_none (spelled (loose rule)) AnyTag input)
+fault_plain rule input f (inr (tag, body, x, stuck)) = subst NoMemory stuck.refused (header_none (spelled (loose rule)) AnyTag stuck.left)
+
+pub skips_plain : (old new : State) (e : DecodeError) → Skips old (Err e) new → IsOutOfMemory e.kind → ⊥
+skips_plain old new e (f, (never, refused), k, s) h = kind_memory f (fault_plain old.rule old.rest f refused) (sym (ap (λ (x : DecodeError). x.kind) k) ∙ h)

@@ -1,9 +1,7 @@
 -- Parts that are missing, and parts of readings, are so in one way.
 use Rattle.std.proofs.Common.{◌≡◌, ◌⊎◌, inl, inr, ℕ, suc, List, [], ◌∷◌, ◌++◌, refl, sym, ap₂, ◌∙◌, subst}
-use Rattle.rasn_types.specs.declared.types.rules.Codec.{Codec}
-use Rattle.rasn_types.specs.Tags.{IsStrict}
 use Rattle.rasn_types.specs.Shapes.{Tree, chosen, Presence, required, optional, addition, default}
-use Rattle.rasn_types.specs.Readers.{Part, IsNoDefault, IsMissing, AllMissing, NoneOf, OneOf, ByPart}
+use Rattle.rasn_types.specs.Readers.{Part, IsMissing, AllMissing, NoneOf, OneOf, ByPart}
 
 missing_one : (p : Presence) (t u : Tree) → IsMissing p t → IsMissing p u → t ≡ u
 missing_one required t u a b = absurd a
@@ -27,13 +25,12 @@ one_of_one k t u [] b (y ∷ c) d h l e = let f : chosen k t ≡ y = cc in absur
 one_of_one k t u (x ∷ a) b [] d h l e = let f : x ≡ chosen k u = cc in absurd (h.0 u f)
 one_of_one k t u (x ∷ a) b (y ∷ c) d h l e = one_of_one k t u a b c d h.1 l.1 cc
 
-pub by_part_one : (rule : Codec) (ps : List Part) (k : ℕ) (readings ts us : List Tree) → ByPart rule k ps readings ts → ByPart rule k ps readings us → ts ≡ us
-by_part_one rule [] k readings ts us h l = h ∙ sym l
-by_part_one rule (p ∷ ps) k readings ts us h l = h.2 ∙ (ap₂ ◌∷◌ (go h.3 l.3) (by_part_one rule ps (suc k) readings h.1 l.1 h.4 l.4) ∙ sym l.2)
+pub by_part_one : (ps : List Presence) (k : ℕ) (readings ts us : List Tree) → ByPart k ps readings ts → ByPart k ps readings us → ts ≡ us
+by_part_one [] k readings ts us h l = h ∙ sym l
+by_part_one (p ∷ ps) k readings ts us h l = h.2 ∙ (ap₂ ◌∷◌ (go h.3 l.3) (by_part_one ps (suc k) readings h.1 l.1 h.4 l.4) ∙ sym l.2)
   where
-    go : (OneOf k h.0 readings × (IsStrict rule → IsNoDefault p.presence h.0)) ⊎ (NoneOf k readings × IsMissing p.presence h.0)
-        → (OneOf k l.0 readings × (IsStrict rule → IsNoDefault p.presence l.0)) ⊎ (NoneOf k readings × IsMissing p.presence l.0) → h.0 ≡ l.0
-    go (inl (a, x)) (inl (b, y)) = one_of_one k h.0 l.0 a.before a.after b.before b.after a.none_before b.none_before (sym a.is ∙ b.is)
-    go (inl (a, x)) (inr (b, c)) = absurd (none_here k h.0 a.before a.after (subst (NoneOf k) a.is b))
-    go (inr (b, c)) (inl (a, x)) = absurd (none_here k l.0 a.before a.after (subst (NoneOf k) a.is b))
-    go (inr (b, c)) (inr (d, e)) = missing_one p.presence h.0 l.0 c e
+    go : OneOf k h.0 readings ⊎ (NoneOf k readings × IsMissing p h.0) → OneOf k l.0 readings ⊎ (NoneOf k readings × IsMissing p l.0) → h.0 ≡ l.0
+    go (inl a) (inl b) = one_of_one k h.0 l.0 a.before a.after b.before b.after a.none_before b.none_before (sym a.is ∙ b.is)
+    go (inl a) (inr (b, c)) = absurd (none_here k h.0 a.before a.after (subst (NoneOf k) a.is b))
+    go (inr (b, c)) (inl a) = absurd (none_here k l.0 a.before a.after (subst (NoneOf k) a.is b))
+    go (inr (b, c)) (inr (d, e)) = missing_one p h.0 l.0 c e

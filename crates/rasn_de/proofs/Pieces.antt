@@ -1,16 +1,16 @@
 -- What a strict read takes, where it takes something, begins with an identifier.
-use Rattle.std.proofs.Common.{◌≡◌, ◌≢◌, inl, inr, ℕ, zero, suc, Bool, true, List, [], ◌++◌, Some, None, sym, ap, ◌∙◌, subst, append_assoc}
+use Rattle.std.proofs.Common.{◌≡◌, ◌≢◌, inl, inr, ℕ, suc, Bool, true, List, [], ◌++◌, Some, None, sym, ap, ◌∙◌, subst, append_assoc}
 use Rattle.std.proofs.lemmas.List.{append-nil, append_cancel_right}
 use Rattle.rasn_types.specs.declared.types.tag.Tag.{Tag}
 use Rattle.rasn_types.specs.declared.types.rules.Codec.{Codec}
 use Rattle.rasn_types.specs.declared.types.rules.Codec.TheVariants.{Ber, Cer, Der}
-use Rattle.rasn_types.specs.Tags.{Form, der_form, IsStrict, in_universal}
+use Rattle.rasn_types.specs.Tags.{Form, IsStrict, in_universal}
 use Rattle.rasn_types.specs.Framing.{Extent, HasIndefinite, Frame, with_length, without_length, Begins, Whole, plain, closed}
 use Rattle.rasn_types.specs.Shapes.{Tree, Kind, Shape, leaf, any, prefix, choice, option, seq, set, list, set_of, Parts, part}
 use Rattle.rasn_types.specs.Shapes.Parts.{none}
 use Rattle.rasn_types.specs.Readers.{Reading, Inside, in_definite, in_indefinite, ReadsChoice}
 use Rattle.rasn_types.specs.Contents.{Str, ReadBits, OctetSegment}
-use Rattle.rasn_types.specs.Grammar.{Family, plain as plain_family, bit_family, text_family, family, ReadsIn, Reads, parts_of}
+use Rattle.rasn_types.specs.Grammar.{Family, plain_family, bit_family, text_family, family, ReadsIn, Reads, parts_of}
 use Rattle.rasn_types.proofs.Frames.{begins_one}
 
 -- the octets begin with some identifier
@@ -29,9 +29,9 @@ module _ (input b rest : List ℕ) (is : input ≡ b ++ rest) where
   nested tag bit inner x (in_indefinite body (without_length id s p h e) r) = absurd h
 
   string : {X : Type 0} (S : List ℕ → List X → Type 0) (inner : Tag) (d : ℕ) (tag : Tag) (xs : List X) → Str Der S inner d tag input xs rest → IsHeaded b
-  string S inner zero tag xs (c, f, s) = (tag, framed (λ h. h) f)
-  string S inner (suc d) tag xs (inl (c, f, s)) = (tag, framed (λ h. h) f)
-  string S inner (suc d) tag xs (inr (h, ps, e, r)) = absurd h
+  string S inner d tag xs (Str.primitive c f s) = (tag, framed (λ h. h) f)
+  string S inner (suc d) tag xs (Str.segments c h f m) = absurd (h tt)
+  string S inner (suc d) tag xs (Str.closed_segments c h f m) = absurd (h tt)
 
   leaf_headed : (f : Family) (kind : Kind) (tag : Tag) (depth : ℕ) (t : Tree) → ReadsIn f Der kind tag depth input t rest → IsHeaded b
   leaf_headed plain_family kind tag depth t (bit, c, f, k, m) = (tag, framed (λ h. h) f)
@@ -65,9 +65,9 @@ mutual
   headed (set_of tag s size) depth closing input t rest b e n (d, r) = nested input b rest e tag true _ t r
 
   headed_choice : (ps : Parts) (k depth : ℕ) (closing : Bool) (input : List ℕ) (t : Tree) (rest b : List ℕ) → input ≡ b ++ rest → b ≢ []
-      → ReadsChoice der_form k (parts_of Der ps depth closing) input t rest → IsHeaded b
+      → ReadsChoice Der k (parts_of Der ps depth closing) input t rest → IsHeaded b
   headed_choice none k depth closing input t rest b e n r = absurd r
-  headed_choice (part presence s ps) k depth closing input t rest b e n (inl (u, f, next, m, g, r)) = headed s depth closing input u rest b e n r
+  headed_choice (part presence s ps) k depth closing input t rest b e n (inl (u, f, next, m, g, r, z)) = headed s depth closing input u rest b e n r
   headed_choice (part presence s ps) k depth closing input t rest b e n (inr r) = headed_choice ps (suc k) depth closing input t rest b e n r
 
 pub begins_more : (b rest : List ℕ) (tag : Tag) → Begins b tag → Begins (b ++ rest) tag

@@ -53,15 +53,15 @@ module _ (tag : Tag) (parts : Parts) (old : State) (o : old.depth ≢ 0 → AreO
           let z = cut_none old.rule parts (old.depth - 1) (is_open h.extent) t m (subst (λ u. R parts old (is_open h.extent) u t m) i y) c in
           cut_open h.extent h.rest s c (subst (λ u. finished h.extent h.rest u ≡ Ok s) z k)
 
-module _ {I D : Type 0} (root more : ℕ) (flag : Bool) (parts : Parts) (d : describes root more flag parts ≡ true) (tree : D → Tree) (made : I → Result D AllocError → Type 0) (init : Option I)
+module _ {I D : Type 0} (root more : ℕ) (extensible flag : Bool) (parts : Parts) (d : describes root more extensible flag parts ≡ true) (tree : D → Tree) (made : I → Result D AllocError → Type 0) (init : Option I)
     (called : State → Result D DecodeError → State → Type 0) (tag : Tag) (old : State) (o : old.depth ≢ 0 → AreOctets old.rest)
     (H : (s : State) (r : Result D DecodeError) (n : State) → called s r n → DecodesParts parts tree s r n) (bare : MakesBare parts tree made init) where
   abbrev pub Read : State → Result D DecodeError → State → Type 0
-  Read = Fills (is_initial root more flag) (Initial made init) called
+  Read = Fills (is_initial root extensible flag) (Initial made init) called
 
   inside_exact : (h : Header) → door_at (sequence_door tag) old.rule old.depth old.rest ≡ Ok h → (r : Result D DecodeError) (left : State) → Read (inner_state (sequence_door tag) old h) r left
       → Exact (R parts old (is_open h.extent)) (inner h.extent h.rest) (outcome tree r left.rest) ⊎ IsCut (sequence_door tag) (R parts old) old o h left.rest
-  inside_exact h e r left k = elim (fills_exact root more flag parts d tree made init bare called H (inner_state (sequence_door tag) old h) r left k) [
+  inside_exact h e r left k = elim (fills_exact root more extensible flag parts d tree made init bare called H (inner_state (sequence_door tag) old h) r left k) [
     | inl x ↦ inl x
     | inr (a, b, m) ↦ inr (record {
       none = cut_inside tag parts old o h e a b;

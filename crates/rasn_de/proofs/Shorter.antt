@@ -8,7 +8,7 @@ use Rattle.rasn_de.specs.declared.ber.de.parser.Fault.{Fault}
 use Rattle.rasn_de.specs.declared.ber.de.parser.Fault.TheVariants.{UnsupportedTagNumber, IndefiniteLengthNotAllowed, ReservedLengthOctet, Der}
 use Rattle.rasn_types.specs.declared.error.decode.DerDecodeErrorKind.TheVariants.{NonMinimalLength}
 use Rattle.rasn_types.specs.Tags.{is_eoc}
-use Rattle.rasn_de.specs.Headers.{◌>>=◌, number128_at, number256_at, is_padded, padding_first, tag_number_at, is_longer, tag_of, Identified, named, identifier_by, first_octets, has_spare, long_at, length_at, Header, contents_at, expected_at, header_by}
+use Rattle.rasn_de.specs.Headers.{◌>>=◌, number128_at, number256_at, tag_number_at, is_longer, tag_of, Identified, named, identifier_by, first_octets, has_spare, long_at, length_at, Header, contents_at, expected_at, header_by}
 use Rattle.rasn_de.proofs.Tools.{bind_ok, guarded}
 
 -- a reading leaves no more than there was
@@ -31,27 +31,21 @@ number128_shorter wide n (b ∷ l) =
     Shortens-cond (b ∷ l) (nat_le 0x2000000 n) (Err wide) _ tt
     (Shortens-cond (b ∷ l) (nat_lt b 128) (Ok (n * 128 + b, l)) _ (omega arith) (Shortens-cons b l _ (number128_shorter wide (n * 128 + b % 128) l)))
 
-padding_shorter : (l : List ℕ) (padded : Bool) (r : Result (ℕ × List ℕ) Fault) → Shortens l r → Shortens l (padding_first padded r)
-padding_shorter l padded (Ok p) h = h
-padding_shorter l true (Err f) h = tt
-padding_shorter l false (Err f) h = tt
-
-pub tag_number_shorter : (shortest : Bool) (first : ℕ) (l : List ℕ) → Shortens l (tag_number_at shortest first l)
+pub tag_number_shorter : (first : ℕ) (l : List ℕ) → Shortens l (tag_number_at first l)
 unfolding tag_number_at
-tag_number_shorter shortest first l =
-    Shortens-cond l (nat_eq (first % 32) 31) _ (Ok (first % 32, l)) (padding_shorter l (shortest && is_padded l) _ (number128_shorter UnsupportedTagNumber 0 l)) (omega arith)
+tag_number_shorter first l = Shortens-cond l (nat_eq (first % 32) 31) _ (Ok (first % 32, l)) (number128_shorter UnsupportedTagNumber 0 l) (omega arith)
 
 identifier_shorter : (shortest : Bool) (l : List ℕ) (i : Identified) → identifier_by shortest l ≡ Ok i → length i.rest < length l
 unfolding identifier_by
 identifier_shorter shortest [] i e = cc
-identifier_shorter shortest (b ∷ l) i e = go (bind_ok (tag_number_at shortest b l) (named shortest b l) i e)
+identifier_shorter shortest (b ∷ l) i e = go (bind_ok (tag_number_at b l) (named shortest b l) i e)
   where
-    go : (p : ℕ × List ℕ) × (tag_number_at shortest b l ≡ Ok p) × (named shortest b l p ≡ Ok i) → length i.rest < length (b ∷ l)
+    go : (p : ℕ × List ℕ) × (tag_number_at b l ≡ Ok p) × (named shortest b l p ≡ Ok i) → length i.rest < length (b ∷ l)
     go (p, f, g) =
         let k = guarded (is_eoc (tag_of b p.0)) _ _ i g in
         let m = (guarded (shortest && is_longer b l p.0) _ _ i k.1).1 in
         let n : p.1 ≡ i.rest = cc in
-        let s : Shortens l (Ok p) = subst (Shortens l) f (tag_number_shorter shortest b l) in
+        let s : Shortens l (Ok p) = subst (Shortens l) f (tag_number_shorter b l) in
         let t : length p.1 ≡ length i.rest = ap length n in
         omega (arith, s)
 

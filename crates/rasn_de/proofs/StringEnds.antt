@@ -1,28 +1,28 @@
 -- What follows a string ends the input.
-use Rattle.std.proofs.Common.{◌≡◌, ℕ, zero, suc, inl, inr, Bool, true, List, [], ◌∷◌, Ok, refl, sym, ap, subst}
+use Rattle.std.proofs.Common.{◌≡◌, ℕ, suc, Bool, true, List, ◌∷◌, Ok, refl, sym, ap}
 use Rattle.rasn_types.specs.declared.types.tag.Tag.{Tag}
 use Rattle.rasn_types.specs.declared.types.rules.Codec.{Codec}
 use Rattle.rasn_types.specs.Tags.{in_universal}
 use Rattle.rasn_types.specs.Framing.{AreOctets}
-use Rattle.rasn_types.specs.Readers.{Reading, Many, in_definite, in_indefinite}
-use Rattle.rasn_types.specs.Contents.{Str, OctetSegment}
+use Rattle.rasn_types.specs.Contents.{Str, primitive, segments, closed_segments, Segments, OctetSegment}
 use Rattle.rasn_de.specs.Strings.{octets}
 use Rattle.rasn_de.specs.Octets.{octet_string_at}
 use Rattle.rasn_de.specs.State.{IsEnd}
 use Rattle.rasn_de.proofs.Ends.{IsEnd-refl, IsEnd-trans, IsEnd-zeros, IsEnd-frame}
 use Rattle.rasn_de.proofs.Strs.{Reads, string_found, string_spelled, string_map}
 
-many_ends : {X : Type 0} (R : Reading X) → ((l : List ℕ) (x : X) (r : List ℕ) → R l x r → IsEnd l r) → (closing : Bool) (l : List ℕ) (xs : List X) (r : List ℕ) → Many R closing l xs r → IsEnd l r
-many_ends R f closing l [] r (e, m) = subst (IsEnd l) (sym m) (IsEnd-refl l)
-many_ends R f closing l (x ∷ xs) r (e, middle, a, m) = IsEnd-trans l middle r (f l x middle a) (many_ends R f closing middle xs r m)
+mutual
+  pub string_ends : {X : Type 0} (rule : Codec) (S : List ℕ → List X → Type 0) (inner_tag : Tag) (d : ℕ) (tag : Tag) (l : List ℕ) (xs : List X) (rest : List ℕ) → Str rule S inner_tag d tag l xs rest → IsEnd l rest
+  string_ends rule S inner_tag d tag l xs rest (primitive c f h) = IsEnd-frame l f
+  string_ends rule S inner_tag (suc d) tag l xs rest (segments c has f m) = IsEnd-frame l f
+  string_ends rule S inner_tag (suc d) tag l xs rest (closed_segments body has f m) =
+      IsEnd-trans l body rest (IsEnd-frame l f)
+      (IsEnd-trans body (0 ∷ 0 ∷ rest) rest (segments_end rule S inner_tag d true body xs (0 ∷ 0 ∷ rest) m) (IsEnd-zeros (0 ∷ 0 ∷ rest) rest refl))
 
-pub string_ends : {X : Type 0} (rule : Codec) (S : List ℕ → List X → Type 0) (inner_tag : Tag) (d : ℕ) (tag : Tag) (l : List ℕ) (xs : List X) (rest : List ℕ) → Str rule S inner_tag d tag l xs rest → IsEnd l rest
-string_ends rule S inner_tag zero tag l xs rest (c, f, h) = IsEnd-frame l f
-string_ends rule S inner_tag (suc d) tag l xs rest (inl (c, f, h)) = IsEnd-frame l f
-string_ends rule S inner_tag (suc d) tag l xs rest (inr (i, parts, e, in_definite c f m)) = IsEnd-frame l f
-string_ends rule S inner_tag (suc d) tag l xs rest (inr (i, parts, e, in_indefinite body f m)) =
-    IsEnd-trans l body rest (IsEnd-frame l f)
-    (IsEnd-trans body (0 ∷ 0 ∷ rest) rest (many_ends (Str rule S inner_tag d inner_tag) (string_ends rule S inner_tag d inner_tag) true body parts (0 ∷ 0 ∷ rest) m) (IsEnd-zeros (0 ∷ 0 ∷ rest) rest refl))
+  segments_end : {X : Type 0} (rule : Codec) (S : List ℕ → List X → Type 0) (inner_tag : Tag) (d : ℕ) (closing : Bool) (l : List ℕ) (xs : List X) (rest : List ℕ) → Segments rule S inner_tag d closing l xs rest → IsEnd l rest
+  segments_end rule S inner_tag d closing l xs rest (Segments.none e) = IsEnd-refl l
+  segments_end rule S inner_tag d closing l xs rest (Segments.one_more first others middle n s more is) =
+      IsEnd-trans l middle rest (string_ends rule S inner_tag d inner_tag l first middle s) (segments_end rule S inner_tag d closing middle others rest more)
 
 -- Octets are read exactly where a string of octets stands.
 module _ (rule : Codec) (d : ℕ) (tag : Tag) (l : List ℕ) (o : AreOctets l) where

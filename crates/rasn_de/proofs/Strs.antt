@@ -7,13 +7,14 @@ use Rattle.rasn_types.specs.declared.types.rules.Codec.{Codec}
 use Rattle.rasn_types.specs.declared.types.rules.Codec.TheVariants.{Ber, Cer, Der}
 use Rattle.rasn_de.specs.declared.ber.de.parser.Fault.{Fault}
 use Rattle.rasn_de.specs.declared.ber.de.parser.Fault.TheVariants.{Incomplete, MissingEndOfContents}
-use Rattle.rasn_types.specs.Framing.{Extent, definite, indefinite, Frame, with_length, without_length, HasSegments, Ended}
-use Rattle.rasn_types.specs.Tags.{Form, form}
-use Rattle.rasn_types.specs.Readers.{Reading, Many, in_definite, in_indefinite}
-use Rattle.rasn_types.specs.Contents.{joined_lists, Str}
+use Rattle.rasn_types.specs.Framing.{Extent, definite, indefinite, Frame, with_length, without_length, Ended}
+use Rattle.rasn_types.specs.Tags.{Form, form, IsStrict}
+use Rattle.rasn_types.specs.Readers.{Many}
+use Rattle.rasn_types.specs.Contents.{joined_lists, Str, primitive, segments, closed_segments, Segments}
 use Rattle.rasn_de.specs.declared.ber.de.parser.headers.Expected.TheVariants.{Tagged}
 use Rattle.rasn_de.specs.Headers.{◌>>=◌, header_at, is_der}
 use Rattle.rasn_de.specs.Strings.{ends, segments_at, closed_at, inner, used_up, string_in, too_deep, segments_in, string_of, segment_at, string_at}
+use Rattle.rasn_types.proofs.Segmented.{many_segments, segments_many}
 use Rattle.rasn_types.proofs.Spelled.{both_true}
 use Rattle.rasn_de.proofs.Tools.{bind_ok, chosen, guarded, AreOctets, octets_back, octets_front}
 use Rattle.rasn_de.proofs.Frames.{header_found, header_spelled}
@@ -92,15 +93,15 @@ closed_found (a ∷ b ∷ l) r e = go (chosen (nat_eq a 0 && nat_eq b 0) _ _ _ e
         rw (x, y, z) refl
     go (inr (t, f)) = cc
 
-not_der : (rule : Codec) → is_der rule ≡ false → HasSegments rule
-not_der Ber e = tt
-not_der Cer e = tt
+not_der : (rule : Codec) → is_der rule ≡ false → IsStrict rule → ⊥
+not_der Ber e = λ s. s
+not_der Cer e = λ s. s
 not_der Der e = cc
 
-der_not : (rule : Codec) → HasSegments rule → is_der rule ≡ false
+der_not : (rule : Codec) → (IsStrict rule → ⊥) → is_der rule ≡ false
 der_not Ber h = refl
 der_not Cer h = refl
-der_not Der h = absurd h
+der_not Der h = absurd (h tt)
 
 -- what reads one segment's contents
 abbrev pub Reads : {X : Type 0} → (List ℕ → Result (List X) Fault) → List ℕ → List X → Type 0
@@ -108,6 +109,11 @@ Reads segment c xs = segment c ≡ Ok xs
 
 abbrev pub Found : {X : Type 0} → Codec → (List ℕ → Result (List X) Fault) → Tag → ℕ → Type 0
 Found {X} rule segment inner_tag d = (tag : Tag) (l : List ℕ) (p : List X × List ℕ) → AreOctets l → string_at rule segment inner_tag d tag l ≡ Ok p → Str rule (Reads segment) inner_tag d tag l p.0 p.1 × AreOctets p.1
+
+segments_found : {X : Type 0} {rule : Codec} {segment : List ℕ → List X → Type 0} {inner : Tag} {depth : ℕ} {closing : Bool} {input rest : List ℕ} (xs : List X) (parts : List (List X))
+    → xs ≡ joined_lists parts → Many (Str rule segment inner depth inner) closing input parts rest → Segments rule segment inner depth closing input xs rest
+segments_found {rule = rule} {segment} {inner} {depth} {closing} {input} {rest} xs parts e m =
+    subst (λ ys. Segments rule segment inner depth closing input ys rest) (sym e) (many_segments input parts rest m)
 
 nested_found : {X : Type 0} (rule : Codec) (segment : List ℕ → Result (List X) Fault) (inner_tag : Tag) (d : ℕ) → Found rule segment inner_tag d
     → (tag : Tag) (l : List ℕ) (rest : List ℕ) (x : Extent) (p : List X × List ℕ) → AreOctets l → Frame (form rule) l tag true rest x → is_der rule ≡ false → segments_in (segment_at rule segment inner_tag d) x rest ≡ Ok p
@@ -121,7 +127,8 @@ nested_found {X} rule segment inner_tag d s tag l rest (definite c) p o f w e =
     let u = used_up_found rest q.0.1 r.0 r.1 in
     let v = frame_octets l o f in
     let k = many_found (segment_at rule segment inner_tag d) (Str rule (Reads segment) inner_tag d inner_tag) (s inner_tag) false (length c) c q.0 v.1 q.1 (inl u.0) in (
-      inr (not_der rule w, k.0, sym m0 ∙ k.1, in_definite c (subst (λ z. Frame (form rule) l tag true z (definite c)) (sym u.1 ∙ m1) f) (subst (λ z. Many (Str rule (Reads segment) inner_tag d inner_tag) false c k.0 z) u.0 k.2)),
+      segments c (not_der rule w) (subst (λ z. Frame (form rule) l tag true z (definite c)) (sym u.1 ∙ m1) f)
+          (segments_found p.0 k.0 (sym m0 ∙ k.1) (subst (λ z. Many (Str rule (Reads segment) inner_tag d inner_tag) false c k.0 z) u.0 k.2)),
       subst AreOctets (sym u.1 ∙ m1) v.0,
     )
 nested_found {X} rule segment inner_tag d s tag l rest indefinite p o f w e =
@@ -133,7 +140,7 @@ nested_found {X} rule segment inner_tag d s tag l rest indefinite p o f w e =
     let u : q.0.1 ≡ 0 ∷ 0 ∷ p.1 = closed_found q.0.1 r.0 r.1 ∙ ap (λ z. 0 ∷ 0 ∷ z) m1 in
     let v = frame_octets l o f in
     let k = many_found (segment_at rule segment inner_tag d) (Str rule (Reads segment) inner_tag d inner_tag) (s inner_tag) true (length rest) rest q.0 v.1 q.1 (inr (refl, p.1, u)) in (
-      inr (not_der rule w, k.0, sym m0 ∙ k.1, in_indefinite rest f (subst (λ z. Many (Str rule (Reads segment) inner_tag d inner_tag) true rest k.0 z) u k.2)),
+      closed_segments rest (not_der rule w) f (segments_found p.0 k.0 (sym m0 ∙ k.1) (subst (λ z. Many (Str rule (Reads segment) inner_tag d inner_tag) true rest k.0 z) u k.2)),
       (subst AreOctets u k.3).1.1,
     )
 
@@ -145,7 +152,7 @@ string_case rule segment inner_tag d s tag l rest false (definite c) p o f e =
     let g = q.2 in
     let m0 : q.0 ≡ p.0 = cc in
     let m1 : rest ≡ p.1 = cc in
-    (inl (c, subst (λ z. Frame (form rule) l tag false z (definite c)) m1 f, q.1 ∙ ap Ok m0), subst AreOctets m1 (frame_octets l o f).0)
+    (primitive c (subst (λ z. Frame (form rule) l tag false z (definite c)) m1 f) (q.1 ∙ ap Ok m0), subst AreOctets m1 (frame_octets l o f).0)
 string_case rule segment inner_tag d s tag l rest false indefinite p o f e = let b = frame_bit f in cc
 string_case rule segment inner_tag d s tag l rest true x p o f e =
     let g = guarded (is_der rule) _ _ p e in nested_found rule segment inner_tag d s tag l rest x p o f g.0 g.1
@@ -158,7 +165,7 @@ string_last rule segment inner_tag tag l rest false (definite c) p o f e =
     let g = q.2 in
     let m0 : q.0 ≡ p.0 = cc in
     let m1 : rest ≡ p.1 = cc in
-    ((c, subst (λ z. Frame (form rule) l tag false z (definite c)) m1 f, q.1 ∙ ap Ok m0), subst AreOctets m1 (frame_octets l o f).0)
+    (primitive c (subst (λ z. Frame (form rule) l tag false z (definite c)) m1 f) (q.1 ∙ ap Ok m0), subst AreOctets m1 (frame_octets l o f).0)
 string_last rule segment inner_tag tag l rest false indefinite p o f e = let b = frame_bit f in cc
 string_last rule segment inner_tag tag l rest true x p o f e = let g = (guarded (is_der rule) _ _ p e).1 in cc
 
@@ -205,31 +212,32 @@ plain_spelled rule segment inner_tag d tag l xs rest c o f g =
 -- A string is read.
 pub string_spelled : {X : Type 0} (rule : Codec) (segment : List ℕ → Result (List X) Fault) (inner_tag : Tag) (d : ℕ) → Spelled rule segment inner_tag d
 unfolding string_of closed_at
-string_spelled rule segment inner_tag zero tag l xs rest o (c, f, g) = plain_spelled rule segment inner_tag zero tag l xs rest c o f g
-string_spelled rule segment inner_tag (suc d) tag l xs rest o (inl (c, f, g)) = plain_spelled rule segment inner_tag (suc d) tag l xs rest c o f g
-string_spelled rule segment inner_tag (suc d) tag l xs rest o (inr (i, parts, e, in_definite c f m)) =
+string_spelled rule segment inner_tag d tag l xs rest o (primitive c f g) = plain_spelled rule segment inner_tag d tag l xs rest c o f g
+string_spelled rule segment inner_tag (suc d) tag l xs rest o (segments c i f m) =
     let h = header_spelled (form rule) (Tagged tag) l tag true rest (definite c) o refl f in
+    let p = segments_many m in
     let k = many_spelled (segment_at rule segment inner_tag d) (Str rule (Reads segment) inner_tag d inner_tag) (segment_shorter rule segment inner_tag d)
-    (part_spelled rule segment inner_tag d (string_spelled rule segment inner_tag d)) false (length c) parts c [] (frame_octets l o f).1 (omega arith) m in
+    (part_spelled rule segment inner_tag d (string_spelled rule segment inner_tag d)) false (length c) p.0 c [] (frame_octets l o f).1 (omega arith) p.2 in
     let n = der_not rule i in
-    rw h (rw (n, k, e) refl)
-string_spelled rule segment inner_tag (suc d) tag l xs rest o (inr (i, parts, e, in_indefinite body f m)) =
+    rw h (rw (n, k) (ap (λ ys. Ok (ys, rest)) (sym p.1)))
+string_spelled rule segment inner_tag (suc d) tag l xs rest o (closed_segments body i f m) =
     let h = header_spelled (form rule) (Tagged tag) l tag true body indefinite o refl f in
+    let p = segments_many m in
     let k = many_spelled (segment_at rule segment inner_tag d) (Str rule (Reads segment) inner_tag d inner_tag) (segment_shorter rule segment inner_tag d)
-    (part_spelled rule segment inner_tag d (string_spelled rule segment inner_tag d)) true (length body) parts body (0 ∷ 0 ∷ rest) (frame_octets l o f).0 (omega arith) m in
+    (part_spelled rule segment inner_tag d (string_spelled rule segment inner_tag d)) true (length body) p.0 body (0 ∷ 0 ∷ rest) (frame_octets l o f).0 (omega arith) p.2 in
     let n = der_not rule i in
-    rw h (rw (n, k, e) refl)
+    rw h (rw (n, k) (ap (λ ys. Ok (ys, rest)) (sym p.1)))
 
 -- Segments that are read in one way are read in another that holds of all of them.
-many_map : {X : Type 0} (R S : Reading X) → ((l : List ℕ) (x : X) (r : List ℕ) → R l x r → S l x r) → (closing : Bool) (l : List ℕ) (xs : List X) (r : List ℕ) → Many R closing l xs r → Many S closing l xs r
-many_map R S f closing l [] r m = m
-many_map R S f closing l (x ∷ xs) r (e, middle, a, m) = (e, middle, f l x middle a, many_map R S f closing middle xs r m)
+mutual
+  pub string_map : {X : Type 0} (rule : Codec) (R S : List ℕ → List X → Type 0) → ((l : List ℕ) (xs : List X) → R l xs → S l xs)
+      → (inner_tag : Tag) (d : ℕ) (tag : Tag) (l : List ℕ) (xs : List X) (rest : List ℕ) → Str rule R inner_tag d tag l xs rest → Str rule S inner_tag d tag l xs rest
+  string_map rule R S f inner_tag d tag l xs rest (primitive c g h) = primitive c g (f c xs h)
+  string_map rule R S f inner_tag (suc d) tag l xs rest (segments c i g m) = segments c i g (segments_map rule R S f inner_tag d false c xs [] m)
+  string_map rule R S f inner_tag (suc d) tag l xs rest (closed_segments body i g m) = closed_segments body i g (segments_map rule R S f inner_tag d true body xs (0 ∷ 0 ∷ rest) m)
 
-pub string_map : {X : Type 0} (rule : Codec) (R S : List ℕ → List X → Type 0) → ((l : List ℕ) (xs : List X) → R l xs → S l xs)
-    → (inner_tag : Tag) (d : ℕ) (tag : Tag) (l : List ℕ) (xs : List X) (rest : List ℕ) → Str rule R inner_tag d tag l xs rest → Str rule S inner_tag d tag l xs rest
-string_map rule R S f inner_tag zero tag l xs rest (c, g, h) = (c, g, f c xs h)
-string_map rule R S f inner_tag (suc d) tag l xs rest (inl (c, g, h)) = inl (c, g, f c xs h)
-string_map rule R S f inner_tag (suc d) tag l xs rest (inr (i, parts, e, in_definite c g m)) =
-    inr (i, parts, e, in_definite c g (many_map (Str rule R inner_tag d inner_tag) (Str rule S inner_tag d inner_tag) (string_map rule R S f inner_tag d inner_tag) false c parts [] m))
-string_map rule R S f inner_tag (suc d) tag l xs rest (inr (i, parts, e, in_indefinite body g m)) =
-    inr (i, parts, e, in_indefinite body g (many_map (Str rule R inner_tag d inner_tag) (Str rule S inner_tag d inner_tag) (string_map rule R S f inner_tag d inner_tag) true body parts (0 ∷ 0 ∷ rest) m))
+  segments_map : {X : Type 0} (rule : Codec) (R S : List ℕ → List X → Type 0) → ((l : List ℕ) (xs : List X) → R l xs → S l xs)
+      → (inner_tag : Tag) (d : ℕ) (closing : Bool) (l : List ℕ) (xs : List X) (rest : List ℕ) → Segments rule R inner_tag d closing l xs rest → Segments rule S inner_tag d closing l xs rest
+  segments_map rule R S f inner_tag d closing l xs rest (Segments.none e) = Segments.none e
+  segments_map rule R S f inner_tag d closing l xs rest (Segments.one_more first others middle n s more is) =
+      Segments.one_more first others middle n (string_map rule R S f inner_tag d inner_tag l first middle s) (segments_map rule R S f inner_tag d closing middle others rest more) is

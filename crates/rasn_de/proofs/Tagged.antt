@@ -2,15 +2,15 @@
 use Rattle.std.proofs.Common.{◌≡◌, ◌≢◌, inl, inr, ℕ, List, [], ◌∷◌, ◌++◌, length, Option, Some, None, Result, Ok, Err, refl, sym, ap, ap₂, ◌∙◌, subst}
 use Rattle.rasn_types.specs.declared.types.tag.Tag.{Tag}
 use Rattle.rasn_types.specs.declared.error.decode.DecodeError.{DecodeError}
-use Rattle.rasn_types.specs.Tags.{IsStrict, IsTagBelow}
-use Rattle.rasn_types.specs.Framing.{Begins}
+use Rattle.rasn_types.specs.Tags.{form, IsStrict, IsTagBelow}
+use Rattle.rasn_types.specs.Framing.{Begins, Next}
 use Rattle.rasn_types.specs.Shapes.{Tree, Shape}
 use Rattle.rasn_types.specs.Readers.{AreInTagOrder}
 use Rattle.rasn_types.specs.Order.{Each, DoNotFall}
 use Rattle.rasn_types.proofs.Frames.{begins_one}
 use Rattle.rasn_de.specs.State.{State, at}
 use Rattle.rasn_de.specs.Decodes.{Decodes}
-use Rattle.rasn_de.specs.Sets.{IsBelowLast, Looks, NextTag, Unread, not_told, falls}
+use Rattle.rasn_de.specs.Sets.{IsBelowLast, Looks, Unread, no_tag, falls}
 use Rattle.rasn_de.proofs.Pieces.{strict_begins}
 
 -- the last of these tags, where there is one
@@ -69,14 +69,21 @@ module _ (old here : State) (stays : here ≡ at old here.rest) (bs : List (List
   strict_here h = subst (λ (s : State). IsStrict s.rule) (sym stays) h
 
   pub look_refused : {D : Type 0} (read : State → Result D DecodeError → State → Type 0) (e : DecodeError) → Looks last here (Err e) → Unread read bs here e here
-  look_refused read e (strict, inl p) = not_told strict p refl
-  look_refused read e (strict, inr (tag, next, below, w)) =
-      let t = k (strict_before strict) in
-      falls strict (tag, t.0, next, t.1, tags_out_of_order t.0 last tag t.3 below) w refl
+  look_refused read e (strict, inl p) = no_tag strict p refl
+  look_refused read e (strict, inr (tag, next, below, w)) = falls strict tag next (λ (all, h, d). out_of_order all h d) w refl
+    where
+      t : (tags : List Tag) × Each Begins bs tags × DoNotFall IsTagBelow tags × EndsAt tags last
+      t = k (strict_before strict)
 
-  pub look_follows : (found : Option Tag) → Looks last here (Ok found) → IsStrict here.rule → NextTag (DoNotFall IsTagBelow) bs here
+      out_of_order : (all : List Tag) → Each Begins (bs ++ here.rest ∷ []) all → DoNotFall IsTagBelow all → ⊥
+      out_of_order all h d = tags_out_of_order t.0 last tag t.3 below
+          (subst (DoNotFall IsTagBelow) (tags_one (bs ++ here.rest ∷ []) all (t.0 ++ tag ∷ []) h (tags_more bs t.0 here.rest tag t.1 next.begins)) d)
+
+  pub look_follows : (found : Option Tag) → Looks last here (Ok found) → IsStrict here.rule → (tag : Tag) × Next (form here.rule) here.rest tag × AreInTagOrder (bs ++ here.rest ∷ [])
   look_follows None l strict = absurd (l strict)
-  look_follows (Some tag) l strict = let t = k (strict_before strict) in (tag, t.0, l.0, t.1, tags_in_order t.0 last tag t.2 t.3 l.1)
+  look_follows (Some tag) l strict =
+      let t = k (strict_before strict) in
+      (tag, l.0, (t.0 ++ tag ∷ [], tags_more bs t.0 here.rest tag t.1 l.0.begins, tags_in_order t.0 last tag t.2 t.3 l.1))
 
   taken : (b rest : List ℕ) → here.rest ≡ b ++ rest → length rest ≢ length here.rest → b ≢ []
   taken b rest e n f = n (ap length (sym (e ∙ ap (λ l. l ++ rest) f)))

@@ -1,7 +1,10 @@
 -- Which alternative a tag belongs to, by computing. Where a tag is that of a type parameter, it is told by hand (`IsOnly`).
-use Rattle.std.proofs.Common.{◌≡◌, ◌&&◌, ◌||◌, not, ℕ, zero, suc, Bool, true, false, Option, Some, None, refl, sym, ap, subst, inl, inr, ◌⊎◌}
+use Rattle.std.proofs.Common.{rules, ◌≡◌, ◌&&◌, ◌||◌, not, ℕ, zero, suc, Bool, true, false, Option, Some, None, refl, sym, ap, subst, inl, inr, ◌⊎◌}
+use denote.Enum.Bare.{sameb}
+use lib.Dec.{eqb}
+use Rattle.rasn_types.specs.contracts.types.tag.Class.{the_type as the_class}
 use Rattle.rasn_types.specs.declared.types.tag.Tag.{Tag}
-use Rattle.rasn_types.specs.Shapes.{Shape, leaf, any, prefix, choice, option, seq, set, list, set_of, Parts, part, IsTagOf, IsFirst, IsFirstOf}
+use Rattle.rasn_types.specs.Shapes.{Shape, leaf, any, prefix, choice, option, seq, set, list, set_of, Parts, part, Presence, IsTagOf, IsFirst, IsFirstOf}
 use Rattle.rasn_types.specs.Shapes.Parts.{none}
 use Rattle.rasn_types.proofs.Spelled.{both_true}
 use Rattle.rasn_de.specs.Headers.{same_tag}
@@ -82,9 +85,9 @@ mutual
   first_of_begins (part presence s ps) n (inr f) = or_right (begins s n) (some_begins ps n) (first_of_begins ps n f)
 
 -- the alternative of this number
-abbrev pub alternative_at : Parts → ℕ → Option Shape
+abbrev pub alternative_at : Parts → ℕ → Option (Presence × Shape)
 alternative_at none k = None
-alternative_at (part presence s ps) zero = Some s
+alternative_at (part presence s ps) zero = Some (presence, s)
 alternative_at (part presence s ps) (suc k) = alternative_at ps k
 
 -- whether it alone may begin with the tag
@@ -97,22 +100,23 @@ not_true : (b : Bool) → not b ≡ true → b ≡ true → ⊥
 not_true true e f = cc
 not_true false e f = cc
 
-some_is : {x s : Shape} → Some x ≡ Some s → x ≡ s
+some_is : {x s : Presence × Shape} → Some x ≡ Some s → x ≡ s
 some_is e = cc
 
-only_at : (ps : Parts) (k : ℕ) (s : Shape) (n : Tag) → alternative_at ps k ≡ Some s → begins_alone ps k n ≡ true → IsOnly ps k s n
-only_at none k s n a b = cc
-only_at (part presence x ps) zero s n a b =
+only_at : (ps : Parts) (k : ℕ) (p : Presence) (s : Shape) (n : Tag) → alternative_at ps k ≡ Some (p, s) → begins_alone ps k n ≡ true → IsOnly ps k p s n
+only_at none k p s n a b = cc
+only_at (part presence x ps) zero p s n a b =
     let h = both_true (begins x n) (not (some_begins ps n)) b in
-    let e : x ≡ s = some_is a in
-    (e, subst (λ z. IsFirst z n) e (begins_is x n h.0), λ f. not_true (some_begins ps n) h.1 (first_of_begins ps n f))
-only_at (part presence x ps) (suc k) s n a b =
+    let w = some_is a in
+    let e : x ≡ s = ap (λ (z : Presence × Shape). z.1) w in
+    (ap (λ (z : Presence × Shape). z.0) w, e, subst (λ z. IsFirst z n) e (begins_is x n h.0), λ f. not_true (some_begins ps n) h.1 (first_of_begins ps n f))
+only_at (part presence x ps) (suc k) p s n a b =
     let h = both_true (not (begins x n)) (begins_alone ps k n) b in
-    (λ f. not_true (begins x n) h.0 (first_begins x n f), only_at ps k s n a h.1)
+    (λ f. not_true (begins x n) h.0 (first_begins x n f), only_at ps k p s n a h.1)
 
 -- The tag t belongs to the alternative of this number alone. Both tests are `refl` where the parts and t are written out.
-pub only : (ps : Parts) (k : ℕ) {s : Shape} (t : Tag) → alternative_at ps k ≡ Some s → begins_alone ps k t ≡ true → {tag : Tag} → tag ≡ t → IsOnly ps k s tag
-only ps k {s} t a b {tag} e = subst (λ z. IsOnly ps k s z) (sym e) (only_at ps k s t a b)
+pub only : (ps : Parts) (k : ℕ) {p : Presence} {s : Shape} (t : Tag) → alternative_at ps k ≡ Some (p, s) → begins_alone ps k t ≡ true → {tag : Tag} → tag ≡ t → IsOnly ps k p s tag
+only ps k {p} {s} t a b {tag} e = subst (λ z. IsOnly ps k p s z) (sym e) (only_at ps k p s t a b)
 
 abbrev pub NoneBegins : Parts → Tag → Type 0
 NoneBegins none n = Unit {0}
@@ -123,3 +127,7 @@ pub nowhere : (ps : Parts) (n : Tag) → NoneBegins ps n → IsFirstOf ps n → 
 nowhere none n h f = f
 nowhere (part presence s ps) n h (inl f) = h.0 f
 nowhere (part presence s ps) n h (inr f) = nowhere ps n h.1 f
+
+-- What `==` found of two tags, where `search rules` has too much beside it to read.
+pub tag_is : (tag t : Tag) → true ≡ sameb the_class tag.class t.class && eqb tag.value t.value → tag ≡ t
+tag_is tag t e = search rules

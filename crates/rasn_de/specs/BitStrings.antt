@@ -48,13 +48,12 @@ bit_string_at rule depth tag l = string_at rule (segment_bits rule) (in_universa
 abbrev pub bits_tree : List Bool → Tree
 bits_tree bs = bits bs
 
--- No bits, and what is left: all of the input for a fault, and where memory is wanting while segments are gathered; what follows the
--- value where it is wanting for the bits of a primitive one, which are in order.
-abbrev pub LacksBits : Codec → ℕ → Tag → List ℕ → Fault → List ℕ → Type 0
-LacksBits rule depth tag l f left =
-    ((f ≢ OutOfMemory) × (bit_string_at rule depth tag l ≡ Err f) × (left ≡ l))
-    ⊎ (((f ≡ OutOfMemory) × IsConstructed rule tag l × (left ≡ l))
-    ⊎ ((f ≡ OutOfMemory) × IsPrimitive rule tag l × (bs : List Bool) × (bit_string_at rule depth tag l ≡ Ok (bs, left))))
+-- Why there are no bits, and what is left. The reading refuses them, or memory is wanting while segments are gathered: all of the input is
+-- left. Memory is wanting for the bits of a primitive value, which are in order: what follows the value is left.
+pub data LacksBits (rule : Codec) (depth : ℕ) (tag : Tag) (l : List ℕ) : Fault → List ℕ → Type 0 where
+  refused : (f : Fault) → f ≢ OutOfMemory → bit_string_at rule depth tag l ≡ Err f → LacksBits rule depth tag l f l
+  gathering : IsConstructed rule tag l → LacksBits rule depth tag l OutOfMemory l
+  copying : (bs : List Bool) (rest : List ℕ) → IsPrimitive rule tag l → bit_string_at rule depth tag l ≡ Ok (bs, rest) → LacksBits rule depth tag l OutOfMemory rest
 
 -- What a function found is what the reading gives; or there are no bits.
 abbrev pub FindsBits : Codec → ℕ → Tag → List ℕ → Result (List Bool × Bor (List ℕ)) (Fault × Bor (List ℕ)) → Type 0

@@ -4,7 +4,7 @@ use Rattle.rasn_types.specs.declared.types.tag.Tag.{Tag}
 use Rattle.rasn_types.specs.declared.error.decode.DecodeError.{DecodeError}
 use Rattle.rasn_types.specs.Tags.{form}
 use Rattle.rasn_types.specs.Framing.{Next}
-use Rattle.rasn_types.specs.Shapes.{Shape, Parts, part, IsFirst, IsFirstOf}
+use Rattle.rasn_types.specs.Shapes.{Shape, Parts, part, Presence, IsFirst, IsFirstOf}
 use Rattle.rasn_types.specs.Shapes.Parts.{none}
 use Rattle.rasn_de.specs.State.{State}
 use Rattle.rasn_de.specs.Taking.{Peeks}
@@ -14,8 +14,8 @@ abbrev pub ReadChosen : {D : Type 0} → (State → Result D DecodeError → Sta
 ReadChosen read old (Ok v) new = (tag : Tag) × Next (form old.rule) old.rest tag × read old (Ok v) new
 ReadChosen read old (Err e) new = (Peeks old (Err e) × (new ≡ old)) ⊎ ((tag : Tag) × Next (form old.rule) old.rest tag × read old (Err e) new)
 
--- The alternative of this number has this shape, and it alone may begin with the tag. The first has the number 0.
-abbrev pub IsOnly : Parts → ℕ → Shape → Tag → Type 0
-IsOnly none k s tag = ⊥
-IsOnly (part presence x ps) zero s tag = (x ≡ s) × IsFirst s tag × (IsFirstOf ps tag → ⊥)
-IsOnly (part presence x ps) (suc k) s tag = (IsFirst x tag → ⊥) × IsOnly ps k s tag
+-- The alternative of this number has this presence and shape, and it alone may begin with the tag. The first has the number 0.
+abbrev pub IsOnly : Parts → ℕ → Presence → Shape → Tag → Type 0
+IsOnly none k p s tag = ⊥
+IsOnly (part presence x ps) zero p s tag = (presence ≡ p) × (x ≡ s) × IsFirst s tag × (IsFirstOf ps tag → ⊥)
+IsOnly (part presence x ps) (suc k) p s tag = (IsFirst x tag → ⊥) × IsOnly ps k p s tag

@@ -4,8 +4,8 @@ use Rattle.std.specs.Bool.{beq}
 use Rattle.rasn_types.specs.declared.types.tag.Tag.{Tag}
 use Rattle.rasn_types.specs.declared.types.tag.Class.{Class}
 use Rattle.rasn_types.specs.declared.types.tag.Class.TheVariants.{Universal, Application, Context, Private}
-use Rattle.rasn_types.specs.Tags.{is_eoc, Form, ber_form, cer_form, der_form, loose_form}
-use Rattle.rasn_types.specs.Numbered.{identifier_of, constructed_bit}
+use Rattle.rasn_types.specs.Tags.{is_eoc, Form, basic_form, der_form, loose_form}
+pub use Rattle.rasn_types.specs.Tags.{is_der}
 use Rattle.rasn_types.specs.declared.types.rules.Codec.{Codec}
 use Rattle.rasn_types.specs.declared.types.rules.Codec.TheVariants.{Ber, Cer, Der}
 use Rattle.rasn_de.specs.declared.ber.de.parser.Fault.{Fault}
@@ -38,8 +38,7 @@ number128_at wide n (b ∷ l) =
 
 -- How the headers of a form may be spelled.
 abbrev pub spelled : Form → Spelling
-spelled ber_form = record { shortest = false; indefinite = true }
-spelled cer_form = record { shortest = false; indefinite = true }
+spelled basic_form = record { shortest = false; indefinite = true }
 spelled der_form = record { shortest = true; indefinite = false }
 spelled loose_form = record { shortest = false; indefinite = false }
 
@@ -48,15 +47,9 @@ abbrev pub is_padded : List ℕ → Bool
 is_padded [] = false
 is_padded (b ∷ l) = nat_eq b 128
 
--- No fault behind a padded beginning is told in its place.
-abbrev pub padding_first : Bool → Result (ℕ × List ℕ) Fault → Result (ℕ × List ℕ) Fault
-padding_first padded (Ok p) = Ok p
-padding_first padded (Err e) = if padded then Err (Der NonMinimalTagNumber) else Err e
-
 -- the tag number of an identifier
-unfoldable pub tag_number_at : Bool → ℕ → List ℕ → Result (ℕ × List ℕ) Fault
-tag_number_at shortest first l =
-    if nat_eq (first % 32) 31 then padding_first (shortest && is_padded l) (number128_at UnsupportedTagNumber 0 l) else Ok (first % 32, l)
+unfoldable pub tag_number_at : ℕ → List ℕ → Result (ℕ × List ℕ) Fault
+tag_number_at first l = if nat_eq (first % 32) 31 then number128_at UnsupportedTagNumber 0 l else Ok (first % 32, l)
 
 -- The number n in the octets behind a first one could be spelled in fewer.
 abbrev pub is_longer : ℕ → List ℕ → ℕ → Bool
@@ -68,7 +61,7 @@ pub record Identified : Type 0 where
   pub bit : Bool
   pub rest : List ℕ
 
--- Universal 0 is told in any spelling.
+-- Universal 0 is told before the spelling.
 abbrev pub named : Bool → ℕ → List ℕ → ℕ × List ℕ → Result Identified Fault
 named shortest first l p =
     if is_eoc (tag_of first p.0) then Err UnexpectedEndOfContents else (if shortest && is_longer first l p.0 then Err (Der NonMinimalTagNumber)
@@ -76,7 +69,7 @@ named shortest first l p =
 
 unfoldable pub identifier_by : Bool → List ℕ → Result Identified Fault
 identifier_by shortest [] = Err (Incomplete 1)
-identifier_by shortest (b ∷ l) = tag_number_at shortest b l >>= named shortest b l
+identifier_by shortest (b ∷ l) = tag_number_at b l >>= named shortest b l
 
 abbrev pub identifier_at : Form → List ℕ → Result Identified Fault
 identifier_at spelling l = identifier_by (spelled spelling).shortest l
@@ -119,11 +112,6 @@ abbrev pub contents_at : Tag → Bool → Option ℕ → List ℕ → Result Hea
 contents_at tag bit None l = Ok (record { tag = tag; bit = bit; extent = indefinite; rest = l })
 contents_at tag bit (Some n) l = first_octets n l >>= λ p. Ok (record { tag = tag; bit = bit; extent = definite p.0; rest = p.1 })
 
-abbrev pub is_der : Codec → Bool
-is_der Ber = false
-is_der Cer = false
-is_der Der = true
-
 abbrev pub same_class : Class → Class → Bool
 same_class Universal Universal = true
 same_class Application Application = true
@@ -141,13 +129,13 @@ tagged_at wanted tag = if same_tag tag wanted then Ok tt else Err (MismatchedTag
 abbrev pub expected_at : Expected → Tag → Bool → Result (Unit {0}) Fault
 expected_at AnyTag tag bit = Ok tt
 expected_at (Tagged wanted) tag bit = tagged_at wanted tag
-expected_at (Exactly wanted) tag bit = tagged_at wanted.tag tag >>= λ u. if beq bit (constructed_bit wanted) then Ok tt else Err (Der ConstructedBitMismatch)
+expected_at (Exactly wanted) tag bit = tagged_at wanted.tag tag >>= λ u. if beq bit wanted.bit then Ok tt else Err (Der ConstructedBitMismatch)
 
 -- A tag that under DER has the constructed bit that it is written with, and under the other rules either one.
 abbrev pub as_written : Codec → Tag → Bool → Expected
 as_written Ber tag bit = Tagged tag
 as_written Cer tag bit = Tagged tag
-as_written Der tag bit = Exactly (identifier_of tag bit)
+as_written Der tag bit = Exactly (record { tag = tag; bit = bit })
 
 -- The header of the value that begins a list, with its contents.
 unfoldable pub header_by : Spelling → Expected → List ℕ → Result Header Fault

@@ -9,7 +9,6 @@ use Rattle.rasn_types.specs.Errors.{IsOutOfMemory}
 use Rattle.rasn_types.specs.Tags.{form}
 use Rattle.rasn_types.specs.Framing.{indefinite}
 use Rattle.rasn_types.specs.Shapes.{Tree, numbers, looked_for}
-use Rattle.rasn_types.specs.Trees.{open_octets}
 use Rattle.rasn_types.specs.Readers.{Reading}
 use Rattle.rasn_types.specs.Grammar.{ReadsAny, ReadsOpen}
 use Rattle.rasn_de.specs.declared.ber.de.parser.Fault.{Fault}
@@ -42,7 +41,7 @@ as_lists (Err e) = Err e
 
 -- A call answers the octets, or the first fault, or memory is wanting for the copy. A refusal takes nothing.
 abbrev pub GaveOpen : Tag → State → Result Any DecodeError → State → Type 0
-GaveOpen tag old (Ok a) new = OpenAt old.rule (looked_for tag) old.rest (Ok (open_octets a, new.rest)) × (new ≡ at old new.rest)
+GaveOpen tag old (Ok a) new = OpenAt old.rule (looked_for tag) old.rest (Ok (a, new.rest)) × (new ≡ at old new.rest)
 GaveOpen tag old (Err e) new = ((IsOutOfMemory e.kind × (e.codec ≡ old.rule)) ⊎ ((fault : Fault) × OpenAt old.rule (looked_for tag) old.rest (Err fault) × ErrorOf fault old e)) × (new ≡ old)
 
 -- One whole encoding is passed, in so many turns; or there is none, this is the first fault, and nothing is taken.

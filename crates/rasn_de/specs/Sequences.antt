@@ -2,11 +2,10 @@
 use Rattle.std.specs.Prelude.{◌≡◌, ◌⊎◌, ℕ, Bool, true, false, ◌&&◌, ◌||◌, not, List, [], ◌∷◌, Option, Some, None, Result, Ok, Err}
 use Rattle.std.specs.declared.alloc.AllocError.{AllocError}
 use Rattle.rasn_types.specs.declared.types.tag.Tag.{Tag}
-use Rattle.rasn_types.specs.declared.types.rules.Codec.{Codec}
 use Rattle.rasn_types.specs.declared.error.decode.DecodeError.{DecodeError}
-use Rattle.rasn_types.specs.Shapes.{Tree, items, Parts}
-use Rattle.rasn_types.specs.Readers.{AllMissing}
-use Rattle.rasn_types.specs.Grammar.{parts_of}
+use Rattle.rasn_types.specs.Shapes.{Tree, items, Parts, part}
+use Rattle.rasn_types.specs.Shapes.Parts.{none}
+use Rattle.rasn_types.specs.Readers.{IsMissing}
 use Rattle.rasn_types.specs.Described.{is_fieldless, has_required}
 use Rattle.rasn_de.specs.declared.ber.de.parser.Fault.TheVariants.{UnexpectedEmptyInput}
 use Rattle.rasn_de.specs.State.{State}
@@ -21,9 +20,9 @@ abbrev pub is_empty : List ℕ → Bool
 is_empty [] = true
 is_empty (b ∷ l) = false
 
--- An initializer reads a type without fields, and empty contents of a type without required fields.
-abbrev pub is_initial : ℕ → ℕ → Bool → List ℕ → Bool
-is_initial root more needs_field input = is_fieldless root more || (not needs_field && is_empty input)
+-- An initializer reads a type without fields and extension marker, and empty contents of a type without required fields.
+abbrev pub is_initial : ℕ → Bool → Bool → List ℕ → Bool
+is_initial root extensible needs_field input = is_fieldless root extensible || (not needs_field && is_empty input)
 
 -- What an initializer answers: its value, or running out of memory; where there is none, that there are no contents.
 abbrev pub Initial : {I D : Type 0} → (I → Result D AllocError → Type 0) → Option I → State → Result D DecodeError → Type 0
@@ -36,7 +35,12 @@ Initial made (Some i) s (Err e) = Made (made i) s (Err e)
 abbrev pub Fills : {D : Type 0} → (List ℕ → Bool) → (State → Result D DecodeError → Type 0) → (State → Result D DecodeError → State → Type 0) → State → Result D DecodeError → State → Type 0
 Fills starts initial called o r n = ((starts o.rest ≡ true) × initial o r × (n ≡ o)) ⊎ ((starts o.rest ≡ false) × called o r n)
 
--- Each value that the initializer makes has every part left out. Only a type with a required part does without one.
+-- These are the trees of parts of which none comes.
+abbrev pub AreMissing : Parts → List Tree → Type 0
+AreMissing none ts = ts ≡ []
+AreMissing (part presence s parts) ts = (t : Tree) × (us : List Tree) × (ts ≡ t ∷ us) × IsMissing presence t × AreMissing parts us
+
+-- Each value that the initializer makes is that of parts of which none comes. Only a type with a required part does without an initializer.
 abbrev pub MakesBare : {I D : Type 0} → Parts → (D → Tree) → (I → Result D AllocError → Type 0) → Option I → Type 0
 MakesBare {I} {D} parts tree made None = has_required parts ≡ true
-MakesBare {I} {D} parts tree made (Some i) = (v : D) → made i (Ok v) → (rule : Codec) (depth : ℕ) (closing : Bool) → (ts : List Tree) × (tree v ≡ items ts) × AllMissing (parts_of rule parts depth closing) ts
+MakesBare {I} {D} parts tree made (Some i) = (v : D) → made i (Ok v) → (ts : List Tree) × (tree v ≡ items ts) × AreMissing parts ts

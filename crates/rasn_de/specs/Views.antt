@@ -5,10 +5,8 @@ use Rattle.rasn_types.specs.declared.types.tag.Tag.{Tag}
 use Rattle.rasn_de.specs.declared.ber.de.parser.Fault.{Fault}
 use Rattle.rasn_de.specs.declared.ber.de.parser.Fault.TheVariants.{OutOfMemory}
 use Rattle.rasn_types.specs.Framing.{Extent, definite, indefinite}
-use Rattle.rasn_types.specs.Tags.{Form}
+use Rattle.rasn_types.specs.Tags.{Form, TagAndBit}
 use Rattle.rasn_de.specs.Headers.{Identified, Header, identifier_at}
-use Rattle.rasn_types.specs.declared.ber.identifier.Identifier.{Identifier}
-use Rattle.rasn_types.specs.Numbered.{constructed_bit}
 use Rattle.rasn_de.specs.declared.ber.de.parser.Contents.{Contents}
 use Rattle.rasn_de.specs.declared.ber.de.parser.Contents.TheVariants.{Definite, Indefinite}
 use Rattle.rasn_de.specs.declared.ber.de.parser.Value.{Value}
@@ -24,15 +22,15 @@ pair p = (p.0, p.1.now)
 abbrev pub both : Bor (List ℕ) × Bor (List ℕ) → List ℕ × List ℕ
 both p = (p.0.now, p.1.now)
 
-abbrev pub identified : Identifier × Bor (List ℕ) → Identified
-identified p = record { tag = p.0.tag; bit = constructed_bit p.0; rest = p.1.now }
+abbrev pub identified : TagAndBit × Bor (List ℕ) → Identified
+identified p = record { tag = p.0.tag; bit = p.0.bit; rest = p.1.now }
 
 abbrev pub extent : Contents → Extent
 extent (Definite s) = definite s.now
 extent Indefinite = indefinite
 
 abbrev pub framed : Value → List ℕ → Header
-framed v rest = record { tag = v.identifier.tag; bit = constructed_bit v.identifier; extent = extent v.contents; rest = rest }
+framed v rest = record { tag = v.tag; bit = v.is_constructed; extent = extent v.contents; rest = rest }
 
 abbrev pub header : Value × Bor (List ℕ) → Header
 header p = framed p.0 p.1.now
@@ -47,10 +45,10 @@ AppendsPart {X} read old new (Ok u) = (xs : List X) × (read ≡ Ok xs) × (new 
 AppendsPart read old new (Err e) = e ≢ OutOfMemory → read ≡ Err e
 
 abbrev pub IsNestedValue : Value → Type 0
-IsNestedValue v = (constructed_bit v.identifier ≡ true) ⊎ (extent v.contents ≡ indefinite)
+IsNestedValue v = (v.is_constructed ≡ true) ⊎ (extent v.contents ≡ indefinite)
 
 abbrev pub IsPlainValue : Value → List ℕ → Type 0
-IsPlainValue v s = (constructed_bit v.identifier ≡ false) × (extent v.contents ≡ definite s)
+IsPlainValue v s = (v.is_constructed ≡ false) × (extent v.contents ≡ definite s)
 
 abbrev pub tag_found : Result Identified Fault → Result Tag Fault
 tag_found (Ok i) = Ok i.tag

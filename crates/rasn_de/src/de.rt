@@ -74,7 +74,8 @@ pub trait DecodeChoice: AsnType {
 
     ghost alternatives: { Parts };
 
-    /// Reads the alternative that begins with this tag, which is the next one.
+    /// Reads the alternative that begins with this tag. A caller has looked at it: it is the tag of the value that comes next, as
+    /// `Decoder::peek_tag` answers it, and isn't universal 0. `Decoder::decode_choice` calls it so.
     ///
     /// # Errors
     /// `NoValidChoice` where no alternative does; what the alternative refuses.

@@ -30,7 +30,7 @@ use Rattle.std.specs.Result.{IsErrAnd}
 use Rattle.std.specs.Fn.{FnOnceReturnsAtMut}
 use Rattle.rasn_types.specs.Shapes.{Shape, Tree, chosen, choice, Parts, part}
 use Rattle.rasn_types.specs.Shapes.Parts.{none}
-use Rattle.rasn_types.specs.Bytes.{Bytes, fields_of, WritesChoice, IsBare, IsBareIn}
+use Rattle.rasn_types.specs.Bytes.{Bytes, fields_of, WritesChoice, IsUntaggedOpen, IsUntaggedOpenIn}
 use Rattle.rasn_types.specs.declared.types.rules.Codec.{Codec}
 use Rattle.rasn_types.specs.declared.types.tag.Tag.{Tag}
 use Rattle.rasn_types.specs.declared.error.encode.EncodeError.{EncodeError}
@@ -56,29 +56,29 @@ alone_at rule (part presence x ps) j zero n s t b e a (inr h) = absurd (other_wr
 alone_at rule (part presence x ps) j (suc k) n s t b e a (inl (u, f, h)) = let g : n ≡ j = cc in absurd (omega arith)
 alone_at rule (part presence x ps) j (suc k) n s t b e a (inr h) = alone_at rule ps (suc j) k n s t b (omega arith) a h
 
-bare_at : (ps : Parts) (j k n : ℕ) (s : Shape) (t : Tree) → n ≡ j + k → IsAlternative ps k s → IsBare s t → IsBareIn j ps (chosen n t)
-unfolding IsBare
+bare_at : (ps : Parts) (j k n : ℕ) (s : Shape) (t : Tree) → n ≡ j + k → IsAlternative ps k s → IsUntaggedOpen s t → IsUntaggedOpenIn j ps (chosen n t)
+unfolding IsUntaggedOpen
 bare_at none j k n s t e a h = absurd a
-bare_at (part presence x ps) j zero n s t e a h = inl (t, ap (λ i. chosen i t) (omega arith), subst (λ z. IsBare z t) (sym a) h)
+bare_at (part presence x ps) j zero n s t e a h = inl (t, ap (λ i. chosen i t) (omega arith), subst (λ z. IsUntaggedOpen z t) (sym a) h)
 bare_at (part presence x ps) j (suc k) n s t e a h = inr (bare_at ps (suc j) k n s t (omega arith) a h)
 
-other_bare : (ps : Parts) (k j : ℕ) (t u : Tree) → j < k → t ≡ chosen j u → IsBareIn k ps t → ⊥
-unfolding IsBare
+other_bare : (ps : Parts) (k j : ℕ) (t u : Tree) → j < k → t ≡ chosen j u → IsUntaggedOpenIn k ps t → ⊥
+unfolding IsUntaggedOpen
 other_bare none k j t u h e m = m
 other_bare (part presence s ps) k j t u h e (inl m) = let f = m.1 in let g : j ≡ k = cc in omega arith
 other_bare (part presence s ps) k j t u h e (inr m) = other_bare ps (suc k) j t u (omega arith) e m
 
-bare_alone : (ps : Parts) (j k n : ℕ) (s : Shape) (t : Tree) → n ≡ j + k → IsAlternative ps k s → IsBareIn j ps (chosen n t) → IsBare s t
-unfolding IsBare
+bare_alone : (ps : Parts) (j k n : ℕ) (s : Shape) (t : Tree) → n ≡ j + k → IsAlternative ps k s → IsUntaggedOpenIn j ps (chosen n t) → IsUntaggedOpen s t
+unfolding IsUntaggedOpen
 bare_alone none j k n s t e a h = absurd a
-bare_alone (part presence x ps) j zero n s t e a (inl (u, f, h)) = let g : u ≡ t = cc in subst (λ z. IsBare z t) a (subst (IsBare x) g h)
+bare_alone (part presence x ps) j zero n s t e a (inl (u, f, h)) = let g : u ≡ t = cc in subst (λ z. IsUntaggedOpen z t) a (subst (IsUntaggedOpen x) g h)
 bare_alone (part presence x ps) j zero n s t e a (inr h) = absurd (other_bare ps (suc j) n (chosen n t) t (omega arith) refl h)
 bare_alone (part presence x ps) j (suc k) n s t e a (inl (u, f, h)) = let g : n ≡ j = cc in absurd (omega arith)
 bare_alone (part presence x ps) j (suc k) n s t e a (inr h) = bare_alone ps (suc j) k n s t (omega arith) a h
 
 module _ (ps : Parts) (k : ℕ) (s : Shape) (t : Tree) (a : IsAlternative ps k s) (v w : View) where
   chosen_wrote : Wrote s t v w → Wrote (choice ps) (chosen k t) v w
-  unfolding Bytes IsBare
+  unfolding Bytes IsUntaggedOpen
   chosen_wrote h = record {
     octets = h.octets;
     defined = written_at v.rule ps 0 k k s t h.octets (omega arith) a h.defined;
@@ -89,7 +89,7 @@ module _ (ps : Parts) (k : ℕ) (s : Shape) (t : Tree) (a : IsAlternative ps k s
   }
 
   chosen_refused : (e : EncodeError) → MayRefuse s t v e → MayRefuse (choice ps) (chosen k t) v e
-  unfolding Bytes IsBare
+  unfolding Bytes IsUntaggedOpen
   chosen_refused e h = record {
     why = elim h.why [
       | inl m ↦ inl m

@@ -6,7 +6,7 @@ use Rattle.rasn_types.specs.Tags.{in_universal}
 use Rattle.rasn_types.specs.Framing.{AreOctets}
 use Rattle.rasn_types.specs.Shapes.{bits, leaf, bit_string, Admits}
 use Rattle.rasn_types.specs.Bits.{zeros, Pushes}
-use Rattle.rasn_types.specs.Bytes.{IsBare, AllFalse, WrittenBits, WritesStr, Bytes}
+use Rattle.rasn_types.specs.Bytes.{IsUntaggedOpen, AllFalse, WrittenBits, WritesStr, Bytes}
 use Rattle.rasn_types.specs.declared.types.tag.Tag.{Tag}
 use Rattle.rasn_types.specs.declared.types.constraints.Constraints.{Constraints}
 use Rattle.rasn_types.proofs.Bits.{length-bits_in}
@@ -61,7 +61,7 @@ bits_appended (Err x) bs unused old counted new few whole e p o = tt
 -- ---- a whole string
 pub bits_wrote : {R E : Type 0} (result : Result R E) (tag : Tag) (c : Constraints) (bs : List Bool) (v w : View) → Admits ◌≤◌ c.size (length bs)
     → OnOk result (Appends (WritesStr v.rule WrittenBits 7992 (in_universal 3) tag bs) tag v w) → OnOk result (Wrote (leaf bit_string tag c) (bits bs) v w)
-unfolding Bytes IsBare
+unfolding Bytes IsUntaggedOpen
 bits_wrote result tag c bs v w m h = on_ok_weaker result (λ a.
     wrote_one (WritesStr v.rule WrittenBits 7992 (in_universal 3) tag bs) tag (leaf bit_string tag c) (bits bs) v w a (λ n. n)
     (λ o d. str_begins WrittenBits 7992 (in_universal 3) v.rule tag bs o d)

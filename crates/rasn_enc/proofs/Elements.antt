@@ -5,7 +5,7 @@ use Rattle.std.proofs.lemmas.Result.{on_ok_weaker, IfErr-weaker}
 use Rattle.std.specs.Fn.{FnOnceReturnsAtMut}
 use Rattle.rasn_types.specs.Shapes.{Shape, Tree, items, absent, list, Admits}
 use Rattle.rasn_types.specs.Contents.{joined_lists}
-use Rattle.rasn_types.specs.Bytes.{Bytes, IsBare, Cons, Each}
+use Rattle.rasn_types.specs.Bytes.{Bytes, IsUntaggedOpen, Cons, Each}
 use Rattle.rasn_types.specs.declared.types.tag.Tag.{Tag}
 use Rattle.rasn_types.specs.declared.types.constraints.Bound.{Bound}
 use Rattle.rasn_types.specs.declared.types.constraints.Constraints.{Constraints}
@@ -91,7 +91,7 @@ elements_end s ts v u k = record {
 pub list_ok : {F : Type 0} (g : Closure F (Unit {0})) (f : F) (s : Shape) (ts : List Tree) (tag : Tag) (size : Option (Bound ℕ)) (v w : View) (r : Result (Unit {0}) EncodeError)
     → Admits ◌≤◌ size (length ts) → OnOk r (Encloses g f false tag v w)
     → ((u : View) → FnOnceReturnsAtMut g f (opened v false) (Ok tt) u → WroteEach s ts (opened v false) u) → OnOk r (Wrote (list tag s size) (items ts) v w)
-unfolding Bytes IsBare
+unfolding Bytes IsUntaggedOpen
 list_ok g f s ts tag size v w r m h written = on_ok_weaker r (λ k.
     let a = written k.inner k.ran in
     wrote_one (Cons v.rule tag k.inner.last.octets) tag (list tag s size) (items ts) v w k.appends (λ n. n)

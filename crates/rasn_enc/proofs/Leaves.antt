@@ -7,7 +7,7 @@ use Rattle.rasn_types.specs.Shapes.{Shape, Kind, Tree, number, leaf, boolean, in
 use Rattle.rasn_types.specs.Contents.{signed, IsShortestInteger}
 use Rattle.rasn_types.specs.Trees.{bool_tree, IsShortestOf}
 use Rattle.rasn_types.specs.Grammar.{IsBounded}
-use Rattle.rasn_types.specs.Bytes.{Definite, Prim, Cons, TagsOf, Written, Bytes, IsBare}
+use Rattle.rasn_types.specs.Bytes.{Definite, Prim, Cons, TagsOf, Written, Bytes, IsUntaggedOpen}
 use Rattle.rasn_types.specs.declared.types.rules.Codec.{Codec}
 use Rattle.rasn_types.specs.declared.types.rules.Codec.TheVariants.{Ber, Cer, Der}
 use Rattle.rasn_types.specs.declared.types.tag.Tag.{Tag}
@@ -36,7 +36,7 @@ cons_begins Cer tag contents octets d = record { id = d.id; bit = true; more = 1
 cons_begins Der tag contents octets d = definite_begins tag true contents octets d
 
 -- One value with an identifier is written.
-pub wrote_one : (R : List ℕ → Type 0) (tag : Tag) (s : Shape) (t : Tree) (v w : View) → Appends R tag v w → (IsBare s t → ⊥)
+pub wrote_one : (R : List ℕ → Type 0) (tag : Tag) (s : Shape) (t : Tree) (v w : View) → Appends R tag v w → (IsUntaggedOpen s t → ⊥)
     → ((octets : List ℕ) → R octets → Begins octets tag) → ((octets : List ℕ) → R octets → Bytes v.rule s t octets) → Wrote s t v w
 wrote_one R tag s t v w a tagged begins defined = record {
   octets = a.octets;
@@ -53,7 +53,7 @@ bool_written false = record { is = (pos 0, refl, inl (refl, refl)); octets = (om
 
 pub bool_wrote : {R E : Type 0} (result : Result R E) (tag : Tag) (b : Bool) (contents : List ℕ) (v w : View) → contents ≡ cond b 255 0 ∷ []
     → OnOk result (Appends (Prim tag contents) tag v w) → (c : Constraints) → OnOk result (Wrote (leaf boolean tag c) (bool_tree b) v w)
-unfolding Bytes IsBare
+unfolding Bytes IsUntaggedOpen
 bool_wrote result tag b contents v w e h c = on_ok_weaker result (λ a.
     wrote_one (Prim tag contents) tag (leaf boolean tag c) (bool_tree b) v w a (λ n. n) (λ o d. definite_begins tag (tag_bit tag) contents o d)
     (λ o d. (tt, (contents, rw e (bool_written b), d)))) h
@@ -62,7 +62,7 @@ bool_wrote result tag b contents v w e h c = on_ok_weaker result (λ a.
 pub integer_wrote : {R E : Type 0} (result : Result R E) (range : Interval) (tag : Tag) (c : Constraints) (n : ℤ) (l : List ℕ) (v w : View)
     → IsShortestOf n l → IsIn range n → Admits ◌≤ℤ◌ c.value (signed l) → OnOk result (Appends (Prim tag l) tag v w)
     → OnOk result (Wrote (leaf (integer range) tag c) (number n) v w)
-unfolding Bytes IsBare
+unfolding Bytes IsUntaggedOpen
 integer_wrote result range tag c n l v w s i m h = on_ok_weaker result (λ a.
     wrote_one (Prim tag l) tag (leaf (integer range) tag c) (number n) v w a (λ n. n) (λ o d. definite_begins tag (tag_bit tag) l o d)
     (λ o d. (subst (λ z. Admits ◌≤ℤ◌ c.value z) s.is m, (l, written, d)))) h

@@ -8,7 +8,7 @@ use Rattle.rasn_types.specs.Tags.{tag_bit}
 use Rattle.rasn_types.specs.Shapes.{number, numbers, leaf, null, object_identifier, integer, enumerated, Interval}
 use Rattle.rasn_types.specs.Contents.{signed, ShortArcs, IsObjectIdentifier}
 use Rattle.rasn_types.specs.Trees.{unconstrained}
-use Rattle.rasn_types.specs.Bytes.{IsBare, Prim, Written, Bytes}
+use Rattle.rasn_types.specs.Bytes.{IsUntaggedOpen, Prim, Written, Bytes}
 use Rattle.rasn_types.specs.declared.types.tag.Tag.{Tag}
 use Rattle.rasn_types.specs.declared.types.constraints.Constraints.{Constraints}
 use Rattle.rasn_types.specs.declared.error.encode.EncodeError.{EncodeError}
@@ -27,7 +27,7 @@ use Rattle.rasn_enc.proofs.Octets.{joined_octets}
 -- A number that a type names is written as a named one.
 pub named_wrote : {R E : Type 0} (result : Result R E) (range : Interval) (known : List ℤ) (tag : Tag) (n z : ℤ) (v w : View) → n ≡ z → Contains known n
     → OnOk result (Wrote (leaf (integer range) tag unconstrained) (number z) v w) → (c : Constraints) → OnOk result (Wrote (leaf (enumerated known) tag c) (number n) v w)
-unfolding Bytes IsBare
+unfolding Bytes IsUntaggedOpen
 named_wrote result range known tag n z v w e k h c = on_ok_weaker result (λ a. record {
   octets = a.octets;
   defined = (tt, (a.defined.1.0, named a.defined.1.0 a.defined.1.1, a.defined.1.2));
@@ -48,14 +48,14 @@ pub named_refused : {R : Type 0} (result : Result R EncodeError) (n : ℤ) (v : 
 named_refused result n v h = IfErr-weaker result _ _ (λ e. elim [ inl r ↦ absurd (r.unmet tt) | inr m ↦ m ]) h
 
 pub null_wrote : {R E : Type 0} (result : Result R E) (tag : Tag) (v w : View) → OnOk result (Appends (Prim tag []) tag v w) → (c : Constraints) → OnOk result (Wrote (leaf null tag c) (number (pos 0)) v w)
-unfolding Bytes IsBare
+unfolding Bytes IsUntaggedOpen
 null_wrote result tag v w h c = on_ok_weaker result (λ a.
     wrote_one (Prim tag []) tag (leaf null tag c) (number (pos 0)) v w a (λ n. n) (λ o d. definite_begins tag (tag_bit tag) [] o d)
     (λ o d. (tt, ([], record { is = (refl, refl); octets = tt; shortest = tt }, d)))) h
 
 pub object_wrote : {R E : Type 0} (result : Result R E) (tag : Tag) (arcs l : List ℕ) (v w : View) → Written object_identifier (numbers arcs) l → OnOk result (Appends (Prim tag l) tag v w)
     → (c : Constraints) → OnOk result (Wrote (leaf object_identifier tag c) (numbers arcs) v w)
-unfolding Bytes IsBare
+unfolding Bytes IsUntaggedOpen
 object_wrote result tag arcs l v w r h c = on_ok_weaker result (λ a.
     wrote_one (Prim tag l) tag (leaf object_identifier tag c) (numbers arcs) v w a (λ n. n) (λ o d. definite_begins tag (tag_bit tag) l o d)
     (λ o d. (tt, (l, r, d)))) h

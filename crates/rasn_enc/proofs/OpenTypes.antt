@@ -3,7 +3,7 @@ use Rattle.std.proofs.Common.{◌≡◌, ◌≢◌, ◌⊎◌, ◌<◌, inl, inr
 use Rattle.std.proofs.lemmas.List.{length-append}
 use Rattle.std.proofs.lemmas.Result.{on_ok_weaker, IfErr-weaker}
 use Rattle.rasn_types.specs.Shapes.{any, numbers, looked_for}
-use Rattle.rasn_types.specs.Bytes.{Bytes, IsBare, Cons}
+use Rattle.rasn_types.specs.Bytes.{Bytes, IsUntaggedOpen, Cons}
 use Rattle.rasn_types.specs.Tags.{eoc}
 use Rattle.rasn_types.specs.declared.types.rules.Codec.{Codec}
 use Rattle.rasn_types.specs.declared.types.rules.Codec.TheVariants.{Der}
@@ -22,25 +22,25 @@ use Rattle.rasn_enc.proofs.Sequences.{appended-nil}
 
 -- No octets are written as nothing.
 pub none_wrote : (o : Option Tag) (xs : List ℕ) (v : View) → length xs ≡ 0 → Wrote (any o) (numbers xs) v v
-unfolding Bytes IsBare
+unfolding Bytes IsUntaggedOpen
 none_wrote None [] v e = record { octets = []; defined = refl; tags = []; heads = λ k. refl; tagged = λ k b. refl; appended = appended-nil v }
 none_wrote (Some tag) [] v e = record { octets = []; defined = ([], refl, inl (refl, refl)); tags = []; heads = λ k. refl; tagged = λ k b. refl; appended = appended-nil v }
 none_wrote o (x ∷ xs) v e = absurd (omega (arith, e))
 
 pub bare_wrote : {R : Type 0} (r : Result R EncodeError) (o : Option Tag) (xs : List ℕ) (v w : View) → o ≡ None → OnOk r (w ≡ appended v xs []) → OnOk r (v.last.tags ≡ None)
     → OnOk r (Wrote (any o) (numbers xs) v w)
-unfolding Bytes IsBare
+unfolding Bytes IsUntaggedOpen
 bare_wrote (Ok x) o xs v w f e n = rw f (record { octets = xs; defined = refl; tags = []; heads = λ k. absurd (k n); tagged = λ k b. absurd (k n); appended = e })
 bare_wrote (Err x) o xs v w f e n = tt
 
 pub round_wrote : {R : Type 0} (r : Result R EncodeError) (o : Option Tag) (tag : Tag) (xs : List ℕ) (v w : View) → o ≡ Some tag → xs ≢ []
     → OnOk r (Appends (Cons v.rule tag xs) tag v w) → OnOk r (Wrote (any o) (numbers xs) v w)
-unfolding Bytes IsBare
+unfolding Bytes IsUntaggedOpen
 round_wrote r o tag xs v w f some h = rw f (on_ok_weaker r (λ a.
     wrote_one (Cons v.rule tag xs) tag (any (Some tag)) (numbers xs) v w a (λ n. n) (λ b d. cons_begins v.rule tag xs b d) (λ b d. (xs, refl, inr (some, d)))) h)
 
 bare_refused : (o : Option Tag) (xs : List ℕ) (v : View) (e : EncodeError) → o ≡ None → v.last.tags ≢ None → xs ≢ [] → MayRefuse (any o) (numbers xs) v e
-unfolding Bytes IsBare
+unfolding Bytes IsUntaggedOpen
 bare_refused None xs v e f k some = record {
   why = inr (inr (record {
     bare = tt;

@@ -2,7 +2,7 @@
 use Rattle.std.proofs.Common.{◌≡◌, ◌≢◌, [], refl, Option, Result, OnOk, IfErr, inl, inr}
 use Rattle.std.proofs.lemmas.Result.{on_ok_weaker, IfErr-weaker}
 use Rattle.rasn_types.specs.Shapes.{Shape, Tree, option, absent}
-use Rattle.rasn_types.specs.Bytes.{Bytes, IsBare}
+use Rattle.rasn_types.specs.Bytes.{Bytes, IsUntaggedOpen}
 use Rattle.rasn_types.specs.declared.types.tag.Tag.{Tag}
 use Rattle.rasn_types.specs.declared.error.encode.EncodeError.{EncodeError}
 use Rattle.rasn_enc.specs.View.{View}
@@ -12,11 +12,11 @@ use Rattle.rasn_enc.proofs.Sequences.{appended-nil}
 module _ (s : Shape) (t u : Tree) (v : View) (r : Result (Unit {0}) EncodeError) (e : t ≡ u) (n : u ≢ absent) where
   -- One that is there is written as such.
   pub there_wrote : (g : Option Tag) (w : View) → OnOk r (Wrote s u v w) → OnOk r (Wrote (option g s) t v w)
-  unfolding Bytes IsBare
+  unfolding Bytes IsUntaggedOpen
   there_wrote g w h = rw e (on_ok_weaker r (λ a. record { octets = a.octets; defined = inr (n, a.defined); tags = a.tags; heads = a.heads; tagged = a.tagged; appended = a.appended }) h)
 
   pub there_refused : (g : Option Tag) → IfErr r (MayRefuse s u v) → IfErr r (MayRefuse (option g s) t v)
-  unfolding Bytes IsBare
+  unfolding Bytes IsUntaggedOpen
   there_refused g h = rw e (IfErr-weaker r _ _ (λ x k. record {
     why = elim k.why [
       | inl m ↦ inl m

@@ -3,7 +3,7 @@ use Rattle.std.proofs.Common.{◌≡◌, ◌⊎◌, refl, ap, subst, Result, Ok,
 use Rattle.std.proofs.lemmas.Result.{on_ok_weaker, IfErr-weaker}
 use Rattle.std.specs.Fn.{FnOnceReturnsAtMut}
 use Rattle.rasn_types.specs.Shapes.{Shape, Tree, prefix}
-use Rattle.rasn_types.specs.Bytes.{Bytes, IsBare, Cons}
+use Rattle.rasn_types.specs.Bytes.{Bytes, IsUntaggedOpen, Cons}
 use Rattle.rasn_types.specs.declared.types.tag.Tag.{Tag}
 use Rattle.rasn_types.specs.declared.error.encode.EncodeError.{EncodeError}
 use Rattle.rasn_enc.specs.View.{View, opened}
@@ -15,7 +15,7 @@ use Rattle.rasn_enc.proofs.Leaves.{cons_begins, wrote_one}
 -- For the clause on success.
 pub prefix_ok : {F : Type 0} (g : Closure F (Unit {0})) (f : F) (s : Shape) (t : Tree) (tag : Tag) (v w : View) (r : Result (Unit {0}) EncodeError) → OnOk r (Encloses g f false tag v w)
     → ((u : View) → FnOnceReturnsAtMut g f (opened v false) (Ok tt) u → Wrote s t (opened v false) u) → OnOk r (Wrote (prefix tag s) t v w)
-unfolding Bytes IsBare
+unfolding Bytes IsUntaggedOpen
 prefix_ok g f s t tag v w r h written = on_ok_weaker r (λ k.
     let a = written k.inner k.ran in
     let i : k.inner.last.octets ≡ a.octets = ap (λ (x : View). x.last.octets) a.appended in

@@ -33,7 +33,7 @@ use Rattle.std.specs.Fn.{FnOnceReturnsAtMut}
 use Rattle.rasn_types.specs.Shapes.{Shape, seq, option, Tree, items, done, joined, Parts, part, Presence, optional, addition, default, absent}
 use Rattle.rasn_types.specs.Shapes.Parts.{none}
 use Rattle.rasn_types.specs.Contents.{joined_lists}
-use Rattle.rasn_types.specs.Bytes.{Bytes, fields_of, WritesPart, PartsWritten, NoneBare, TagsOf, IsBare, Cons, Same}
+use Rattle.rasn_types.specs.Bytes.{Bytes, fields_of, WritesPart, PartsWritten, NoneUntaggedOpen, TagsOf, IsUntaggedOpen, Cons, Same}
 use Rattle.rasn_types.specs.declared.types.rules.Codec.{Codec}
 use Rattle.rasn_types.specs.declared.types.tag.Tag.{Tag}
 use Rattle.rasn_types.specs.declared.error.encode.EncodeError.{EncodeError}
@@ -90,7 +90,7 @@ part_written p s parts t tree v u w a q = record {
   written = (t, q.trees, a.octets, q.encoded, refl, refl, a.defined, subst (λ r. PartsWritten (fields_of r parts) q.trees q.encoded) (ap (λ (x : View). x.rule) a.appended) q.written);
   tags = a.tags ++ q.tags;
   heads = λ k. heads_more a.octets q.encoded a.tags q.tags (a.heads k) (q.heads (keeps_after v u a.octets a.tags a.appended k));
-  tagged = λ k. (a.tagged k, subst (λ r. NoneBare (fields_of r parts) q.trees q.encoded) (ap (λ (x : View). x.rule) a.appended) (q.tagged (keeps_after v u a.octets a.tags a.appended k)));
+  tagged = λ k. (a.tagged k, subst (λ r. NoneUntaggedOpen (fields_of r parts) q.trees q.encoded) (ap (λ (x : View). x.rule) a.appended) (q.tagged (keeps_after v u a.octets a.tags a.appended k)));
   appended = q.appended ∙ (ap (λ x. appended x (joined_lists q.encoded) q.tags) a.appended ∙ appended-more v a.octets (joined_lists q.encoded) a.tags q.tags);
 }
 
@@ -123,12 +123,12 @@ divided p rule s parts t tree trees encoded is (x, us, b, cs, f, g, h, k) =
     }
 
 bare_first : (p : Presence) (rule : Codec) (s : Shape) (parts : Parts) (t : Tree) (trees others : List Tree) (encoded more : List (List ℕ)) (octets : List ℕ)
-    → trees ≡ t ∷ others → encoded ≡ octets ∷ more → NoneBare (fields_of rule (part p s parts)) trees encoded → IsBare s t → octets ≡ []
+    → trees ≡ t ∷ others → encoded ≡ octets ∷ more → NoneUntaggedOpen (fields_of rule (part p s parts)) trees encoded → IsUntaggedOpen s t → octets ≡ []
 unfolding fields_of
 bare_first p rule s parts t trees others encoded more octets e f n b = (rw (e, f) at n).0 b
 
 bare_rest : (p : Presence) (rule : Codec) (s : Shape) (parts : Parts) (t : Tree) (trees others : List Tree) (encoded more : List (List ℕ)) (octets : List ℕ)
-    → trees ≡ t ∷ others → encoded ≡ octets ∷ more → NoneBare (fields_of rule (part p s parts)) trees encoded → NoneBare (fields_of rule parts) others more
+    → trees ≡ t ∷ others → encoded ≡ octets ∷ more → NoneUntaggedOpen (fields_of rule (part p s parts)) trees encoded → NoneUntaggedOpen (fields_of rule parts) others more
 unfolding fields_of
 bare_rest p rule s parts t trees others encoded more octets e f n = (rw (e, f) at n).1
 
@@ -168,7 +168,7 @@ later_why p s parts t tree v u e a (inr (inr n)) = inr (inr (record {
       let d = divided p v.rule s parts t tree trees encoded is w in
       let r : v.rule ≡ u.rule = sym (ap (λ (x : View). x.rule) a.appended) in
       n.bare d.others d.more d.tree_is (subst (λ r. PartsWritten (fields_of r parts) d.others d.more) r d.rest)
-      (subst (λ r. NoneBare (fields_of r parts) d.others d.more) r (bare_rest p v.rule s parts t trees d.others encoded d.more d.octets d.trees_are d.encoded_are nb));
+      (subst (λ r. NoneUntaggedOpen (fields_of r parts) d.others d.more) r (bare_rest p v.rule s parts t trees d.others encoded d.more d.octets d.trees_are d.encoded_are nb));
   keeps = keeps_before v u a.octets a.tags a.appended n.keeps;
 }))
 
@@ -215,7 +215,7 @@ last_part {p} s t v w (Err e) a b c = refused_by p s none t done v w (Err e) e c
 pub sequence_ok : {F : Type 0} (g : Closure F (Unit {0})) (f : F) (v w : View) (tag : Tag) (parts : Parts) (tree : Tree) (r : Result (Unit {0}) EncodeError)
     → OnOk r (Encloses g f false tag v w)
     → ((u : View) → FnOnceReturnsAtMut g f (opened v false) (Ok tt) u → WritesParts parts tree (opened v false) (Ok tt) u) → OnOk r (Wrote (seq tag parts) tree v w)
-unfolding Bytes IsBare
+unfolding Bytes IsUntaggedOpen
 sequence_ok g f v w tag parts tree r h written = on_ok_weaker r (λ k.
     let p = (written k.inner k.ran).ok in
     let i : k.inner.last.octets ≡ joined_lists p.encoded = ap (λ (x : View). x.last.octets) p.appended in
@@ -255,11 +255,11 @@ default_left s t d v e = record { octets = []; defined = inl (e, refl); tags = [
 
 -- A part that may be left out is written as the value of such a type is.
 pub optional_wrote : {g : Option Tag} (s : Shape) (t : Tree) (v w : View) → Wrote (option g s) t v w → WrotePart optional s t v w
-unfolding Bytes IsBare
+unfolding Bytes IsUntaggedOpen
 optional_wrote s t v w a = record { octets = a.octets; defined = a.defined; tags = a.tags; heads = a.heads; tagged = a.tagged; appended = a.appended }
 
 pub optional_refused : {g : Option Tag} (s : Shape) (t : Tree) (v : View) (e : EncodeError) → MayRefuse (option g s) t v e → MayRefusePart optional s t v e
-unfolding Bytes IsBare
+unfolding Bytes IsUntaggedOpen
 optional_refused s t v e h = record {
   why = elim h.why [
     | inl m ↦ inl m
@@ -270,11 +270,11 @@ optional_refused s t v e h = record {
 
 -- So is an extension addition.
 pub addition_wrote : {g : Option Tag} (s : Shape) (t : Tree) (v w : View) → Wrote (option g s) t v w → WrotePart addition s t v w
-unfolding Bytes IsBare
+unfolding Bytes IsUntaggedOpen
 addition_wrote s t v w a = record { octets = a.octets; defined = a.defined; tags = a.tags; heads = a.heads; tagged = a.tagged; appended = a.appended }
 
 pub addition_refused : {g : Option Tag} (s : Shape) (t : Tree) (v : View) (e : EncodeError) → MayRefuse (option g s) t v e → MayRefusePart addition s t v e
-unfolding Bytes IsBare
+unfolding Bytes IsUntaggedOpen
 addition_refused s t v e h = record {
   why = elim h.why [
     | inl m ↦ inl m

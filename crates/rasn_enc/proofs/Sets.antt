@@ -10,7 +10,7 @@ use Rattle.std.proofs.lemmas.Result.{on_ok_weaker, IfErr-weaker}
 use Rattle.std.specs.Fn.{FnOnceReturnsAtMut}
 use Rattle.rasn_types.specs.Tags.{IsTagBelow}
 use Rattle.rasn_types.specs.Shapes.{Tree, Parts, set}
-use Rattle.rasn_types.specs.Bytes.{Bytes, IsBare, fields_of, PartsWritten, TagsOf, Cons, DoNotFall}
+use Rattle.rasn_types.specs.Bytes.{Bytes, IsUntaggedOpen, fields_of, PartsWritten, TagsOf, Cons, DoNotFall}
 use Rattle.rasn_types.specs.Errors.{IsEncodeOutOfMemory}
 use Rattle.rasn_types.specs.declared.types.tag.Tag.{Tag}
 use Rattle.rasn_types.specs.declared.error.encode.EncodeError.{EncodeError}
@@ -63,7 +63,7 @@ module _ (v : View) (tag : Tag) (parts : Parts) (tree : Tree) (u : View) (p : Wr
 pub set_ok : {F : Type 0} (g : Closure F (Unit {0})) (f : F) (v w : View) (tag : Tag) (parts : Parts) (tree : Tree) (r : Result (Unit {0}) EncodeError)
     → OnOk r (EnclosesInOrder g f tag v w)
     → ((u : View) → FnOnceReturnsAtMut g f (opened v true) (Ok tt) u → WritesParts parts tree (opened v true) (Ok tt) u) → OnOk r (Wrote (set tag parts) tree v w)
-unfolding IsBare
+unfolding IsUntaggedOpen
 set_ok g f v w tag parts tree r h written = on_ok_weaker r (λ k.
     wrote_one (Cons v.rule tag k.inner.last.octets) tag (set tag parts) tree v w k.appends (λ n. n)
     (λ o d. cons_begins v.rule tag k.inner.last.octets o d)

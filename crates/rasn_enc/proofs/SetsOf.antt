@@ -10,7 +10,7 @@ use Rattle.rasn_types.specs.declared.types.constraints.Constraints.{Constraints}
 use Rattle.rasn_types.specs.declared.types.rules.Codec.{Codec}
 use Rattle.rasn_types.specs.declared.types.tag.Tag.{Tag}
 use Rattle.rasn_types.specs.declared.error.encode.EncodeError.{EncodeError}
-use Rattle.rasn_types.specs.Bytes.{Bytes, IsBare, Cons, Each, DoNotFall, IsLess}
+use Rattle.rasn_types.specs.Bytes.{Bytes, IsUntaggedOpen, Cons, Each, DoNotFall, IsLess}
 use Rattle.rasn_types.proofs.Alike.{items_one}
 use Rattle.rasn_types.proofs.Falling.{EndsBy, ends_more, in_order, out_of_order}
 use Rattle.rasn_types.proofs.Itself.{one_writing}
@@ -150,7 +150,7 @@ set_of_none s ts tag c v e (inr (m, inr (inr r))) = record {
 pub set_of_ok : {F : Type 0} (g : Closure F (Unit {0})) (f : F) (s : Shape) (ts : List Tree) (tag : Tag) (size : Option (Bound ℕ)) (v w : View) (r : Result (Unit {0}) EncodeError)
     → Admits ◌≤◌ size (length ts) → OnOk r (Encloses g f false tag v w)
     → ((u : View) → FnOnceReturnsAtMut g f (opened v false) (Ok tt) u → WroteSetOf s ts (opened v false) u) → OnOk r (Wrote (set_of tag s size) (walk (items ts)) v w)
-unfolding Bytes IsBare
+unfolding Bytes IsUntaggedOpen
 set_of_ok g f s ts tag size v w r m h written = on_ok_weaker r (λ k.
     let a = written k.inner k.ran in
     wrote_one (Cons v.rule tag k.inner.last.octets) tag (set_of tag s size) (walk (items ts)) v w k.appends (λ n. n)

@@ -5,7 +5,7 @@ use Rattle.rasn_types.specs.Framing.{AreOctets}
 use Rattle.rasn_types.specs.Tags.{in_universal}
 use Rattle.rasn_types.specs.Shapes.{Kind, Tree, numbers, leaf, Admits, octet_string, fixed, bmp, utf8}
 use Rattle.rasn_types.specs.Grammar.{family, text_family, IsBounded, Fulfils, measure, by_size}
-use Rattle.rasn_types.specs.Bytes.{IsBare, Prim, IsCer, Bytes, WritesIn, WritesText, WritesStr, WritesOctets}
+use Rattle.rasn_types.specs.Bytes.{IsUntaggedOpen, Prim, IsCer, Bytes, WritesIn, WritesText, WritesStr, WritesOctets}
 use Rattle.rasn_types.specs.Characters.{AreAdmitted, string_kind, ArePaired, units_of}
 use Rattle.rasn_types.proofs.StringTexts.{alphabet_family, alphabet_measure, alphabet_writes, units_there}
 use Rattle.rasn_types.specs.declared.types.strings.alphabet.Alphabet.{Alphabet}
@@ -29,7 +29,7 @@ octets_in_one tag xs v w o few a = in_one WritesOctets 1000 (in_universal 4) tag
 -- A kind of string whose octets these are.
 pub text_wrote : {R E : Type 0} (result : Result R E) (kind : Kind) (tag : Tag) (c : Constraints) (xs : List ℕ) (t : Tree) (size : ℕ) (v w : View) → family kind ≡ text_family
     → (Admits ◌≤◌ c.size size → IsBounded kind c t) → WritesText kind xs t → OnOk result (PutsText tag c xs size v w) → OnOk result (Wrote (leaf kind tag c) t v w)
-unfolding Bytes IsBare
+unfolding Bytes IsUntaggedOpen
 text_wrote result kind tag c xs t size v w f bounded writes h = on_ok_weaker result (λ p.
     wrote_one (WritesStr v.rule WritesOctets 1000 (in_universal 4) tag xs) tag (leaf kind tag c) t v w p.appends (λ n. n)
     (λ o d. str_begins WritesOctets 1000 (in_universal 4) v.rule tag xs o d)
@@ -62,7 +62,7 @@ characters_wrote result tag c ys xs size v w e k h p = text_wrote result utf8 ta
 -- An OCTET STRING of n octets.
 pub fixed_wrote : {R E : Type 0} (result : Result R E) (tag : Tag) (c : Constraints) (xs : List ℕ) (n : ℕ) (v w : View) → length xs ≡ n
     → OnOk result (Wrote (leaf octet_string tag c) (numbers xs) v w) → OnOk result (Wrote (leaf (fixed n) tag c) (numbers xs) v w)
-unfolding Bytes IsBare
+unfolding Bytes IsUntaggedOpen
 fixed_wrote result tag c xs n v w k h = on_ok_weaker result (λ a. record {
   octets = a.octets;
   defined = (a.defined.0, as_fixed a.octets a.defined.1);

@@ -11,7 +11,7 @@ use Rattle.rasn_types.specs.Times.{digits_of, written_fraction, within_second, c
 use Rattle.rasn_types.specs.Tags.{in_universal, tag_bit}
 use Rattle.rasn_types.specs.Framing.{AreOctets}
 use Rattle.rasn_types.specs.Shapes.{Shape, Tree, leaf, utc_time, generalized_time, date, instant, on_day}
-use Rattle.rasn_types.specs.Bytes.{Prim, WritesStr, WritesOctets, Bytes, IsBare}
+use Rattle.rasn_types.specs.Bytes.{Prim, WritesStr, WritesOctets, Bytes, IsUntaggedOpen}
 use Rattle.rasn_types.specs.declared.types.tag.Tag.{Tag}
 use Rattle.rasn_types.specs.declared.types.constraints.Constraints.{Constraints}
 use Rattle.rasn_enc.specs.View.{View}
@@ -73,26 +73,26 @@ unfolding written_utc
 utc_few m = omega arith
 
 -- A text in one piece.
-time_wrote : {R E : Type 0} (result : Result R E) (tag : Tag) (s : Shape) (t : Tree) (xs : List ℕ) (v w : View) → (IsBare s t → ⊥) → AreOctets xs → length xs ≤ 1000
+time_wrote : {R E : Type 0} (result : Result R E) (tag : Tag) (s : Shape) (t : Tree) (xs : List ℕ) (v w : View) → (IsUntaggedOpen s t → ⊥) → AreOctets xs → length xs ≤ 1000
     → ((b : List ℕ) → WritesStr v.rule WritesOctets 1000 (in_universal 4) tag xs b → Bytes v.rule s t b) → OnOk result (Appends (Prim tag xs) tag v w) → OnOk result (Wrote s t v w)
 time_wrote result tag s t xs v w n o few bytes h = on_ok_weaker result (λ a.
     wrote_one (Prim tag xs) tag s t v w a n (λ b d. definite_begins tag (tag_bit tag) xs b d) (λ b d. bytes b (inl ((λ c. few), xs, (refl, o), d)))) h
 
 utc_wrote : {R E : Type 0} (result : Result R E) (tag : Tag) (m : Moment) (xs : List ℕ) (v w : View) → xs ≡ written_utc m → IsMoment m
     → OnOk result (Appends (Prim tag xs) tag v w) → (c : Constraints) → OnOk result (Wrote (leaf utc_time tag c) (instant m) v w)
-unfolding Bytes IsBare
+unfolding Bytes IsUntaggedOpen
 utc_wrote result tag m xs v w e valid h c =
     time_wrote result tag (leaf utc_time tag c) (instant m) xs v w (λ n. n) (subst AreOctets (sym e) (utc_octets m valid)) (subst (λ l. length l ≤ 1000) (sym e) (utc_few m)) (λ b d. (tt, (xs, (m, refl, valid, e), d))) h
 
 generalized_wrote : {R E : Type 0} (result : Result R E) (tag : Tag) (m : Moment) (xs : List ℕ) (v w : View) → xs ≡ written_generalized m → IsMoment m
     → OnOk result (Appends (Prim tag xs) tag v w) → (c : Constraints) → OnOk result (Wrote (leaf generalized_time tag c) (instant m) v w)
-unfolding Bytes IsBare
+unfolding Bytes IsUntaggedOpen
 generalized_wrote result tag m xs v w e valid h c =
     time_wrote result tag (leaf generalized_time tag c) (instant m) xs v w (λ n. n) (subst AreOctets (sym e) (generalized_octets m valid)) (subst (λ l. length l ≤ 1000) (sym e) (generalized_few m)) (λ b d. (tt, (xs, (m, refl, valid, e), d))) h
 
 date_wrote : {R E : Type 0} (result : Result R E) (tag : Tag) (d : Day) (xs : List ℕ) (v w : View) → xs ≡ written_date d → IsDay d
     → OnOk result (Appends (Prim tag xs) tag v w) → (c : Constraints) → OnOk result (Wrote (leaf date tag c) (on_day d) v w)
-unfolding Bytes IsBare
+unfolding Bytes IsUntaggedOpen
 date_wrote result tag d xs v w e valid h c =
     let few = date_few d in
     time_wrote result tag (leaf date tag c) (on_day d) xs v w (λ n. n) (subst AreOctets (sym e) (date_octets d valid)) (subst (λ l. length l ≤ 1000) (sym e) (omega arith)) (λ b k. (tt, (xs, (d, refl, valid, e), k))) h

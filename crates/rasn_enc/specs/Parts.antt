@@ -2,7 +2,7 @@
 use Rattle.std.specs.Prelude.{ℕ, ◌≡◌, ◌≢◌, ◌⊎◌, List, None, Result, OnOk, IfErr}
 use Rattle.rasn_types.specs.Shapes.{Tree, items, Parts}
 use Rattle.rasn_types.specs.Contents.{joined_lists}
-use Rattle.rasn_types.specs.Bytes.{fields_of, PartsWritten, NoneBare, TagsOf}
+use Rattle.rasn_types.specs.Bytes.{fields_of, PartsWritten, NoneUntaggedOpen, TagsOf}
 use Rattle.rasn_types.specs.Errors.{IsEncodeOutOfMemory}
 use Rattle.rasn_types.specs.declared.types.rules.Codec.{Codec}
 use Rattle.rasn_types.specs.declared.types.tag.Tag.{Tag}
@@ -18,7 +18,7 @@ pub record WroteParts (parts : Parts) (tree : Tree) (v w : View) : Type 0 where
   pub written : PartsWritten (fields_of v.rule parts) trees encoded
   pub tags : List Tag
   pub heads : v.last.tags ≢ None → TagsOf encoded tags
-  pub tagged : v.last.tags ≢ None → NoneBare (fields_of v.rule parts) trees encoded
+  pub tagged : v.last.tags ≢ None → NoneUntaggedOpen (fields_of v.rule parts) trees encoded
   pub appended : w ≡ appended v (joined_lists encoded) tags
 
 -- Some part has no octets.
@@ -28,7 +28,7 @@ pub record PartsUndefined (rule : Codec) (parts : Parts) (tree : Tree) : Type 0 
 -- Octets of an open type without a tag would stand in a list that keeps tags.
 pub record PartsBare (parts : Parts) (tree : Tree) (v : View) : Type 0 where
   pub bare : (trees : List Tree) (encoded : List (List ℕ)) → tree ≡ items trees → PartsWritten (fields_of v.rule parts) trees encoded
-      → NoneBare (fields_of v.rule parts) trees encoded → ⊥
+      → NoneUntaggedOpen (fields_of v.rule parts) trees encoded → ⊥
   pub keeps : v.last.tags ≢ None
 
 -- Why parts aren't written.

@@ -1,7 +1,7 @@
 -- What a call that writes a tree does to an encoder's view, and why it may refuse.
 use Rattle.std.specs.Prelude.{ℕ, ◌≡◌, ◌≢◌, ◌⊎◌, List, [], ◌∷◌, None}
 use Rattle.rasn_types.specs.Shapes.{Shape, Tree, Presence, required}
-use Rattle.rasn_types.specs.Bytes.{Bytes, WritesPart, TagsOf, IsBare}
+use Rattle.rasn_types.specs.Bytes.{Bytes, WritesPart, TagsOf, IsUntaggedOpen}
 use Rattle.rasn_types.specs.Errors.{IsEncodeOutOfMemory}
 use Rattle.rasn_types.specs.declared.types.rules.Codec.{Codec}
 use Rattle.rasn_types.specs.declared.types.tag.Tag.{Tag}
@@ -15,7 +15,7 @@ pub record WrotePart (p : Presence) (s : Shape) (t : Tree) (v w : View) : Type 0
   pub defined : WritesPart p (Bytes v.rule s) t octets
   pub tags : List Tag
   pub heads : v.last.tags ≢ None → TagsOf (octets ∷ []) tags
-  pub tagged : v.last.tags ≢ None → IsBare s t → octets ≡ []
+  pub tagged : v.last.tags ≢ None → IsUntaggedOpen s t → octets ≡ []
   pub appended : w ≡ appended v octets tags
 
 -- The part has no octets under this rule.
@@ -24,7 +24,7 @@ pub record UndefinedPart (p : Presence) (rule : Codec) (s : Shape) (t : Tree) : 
 
 -- Octets of an open type without a tag would stand in a list that keeps tags.
 pub record BarePart (p : Presence) (s : Shape) (t : Tree) (v : View) : Type 0 where
-  pub bare : IsBare s t
+  pub bare : IsUntaggedOpen s t
   pub some : (octets : List ℕ) → WritesPart p (Bytes v.rule s) t octets → octets ≢ []
   pub keeps : v.last.tags ≢ None
 

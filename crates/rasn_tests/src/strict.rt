@@ -3,3 +3,4 @@
 mod contents;
 mod defaults;
 mod headers;
+mod rules;

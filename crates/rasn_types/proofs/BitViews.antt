@@ -8,7 +8,7 @@ use Rattle.std.proofs.lemmas.Bool.Decides.{Decides-eqb, same_from_decides}
 use Rattle.rasn_types.specs.Framing.{AreOctets}
 use Rattle.rasn_types.specs.Contents.{bits_of, is_set}
 use Rattle.rasn_types.specs.Packing.{Shifts, Clears, ClearsOne, Joins}
-use Rattle.rasn_types.specs.Bits.{bits_in, zeros, bits_from, Pushes, IsKept, but_last}
+use Rattle.rasn_types.specs.Bits.{bits_in, zeros, bits_from, Pushes, HoldsBits, but_last}
 use Rattle.rasn_types.proofs.Bits.{length-bits_in, bits_in-append, bits_in-drop, bits_in-take, take_behind, value, value_octet}
 
 pub length-bits_from : (start len : ℕ) (octets : List ℕ) → start + len ≤ 8 * length octets → length (bits_from start len octets) ≡ len
@@ -152,7 +152,7 @@ packed shift len held n u octets old mid cut new h some fits there e few s c (in
 -- ---- strings and gathered bits
 -- So many bits in as few octets as they take.
 pub kept : (len n u : ℕ) (octets cut new : List ℕ) → len + u ≡ 8 * n → u < 8 → n ≤ length octets → cut ≡ take n octets → Clears u cut new → AreOctets new
-    → IsKept len new × (bits_from 0 len new ≡ bits_from 0 len octets)
+    → HoldsBits len new × (bits_from 0 len new ≡ bits_from 0 len octets)
 kept len n u octets cut new e few there c (inl (x, y)) o =
     let m = ap length (sym c ∙ x) in
     let z : len ≡ 0 = omega (arith, m, length-take-le n octets there) in
@@ -252,7 +252,7 @@ same_count : (n u v a b : ℕ) → n + u ≡ 8 * a → n + v ≡ 8 * b → u < 8
 same_count n u v a b h k i j = omega arith
 
 -- As few octets as they take hold the same bits in one way.
-pub kept_one : (len : ℕ) (k l : List ℕ) → IsKept len k → IsKept len l → bits_from 0 len k ≡ bits_from 0 len l → k ≡ l
+pub kept_one : (len : ℕ) (k l : List ℕ) → HoldsBits len k → HoldsBits len l → bits_from 0 len k ≡ bits_from 0 len l → k ≡ l
 kept_one len k l p q e =
     let a = ap length p.packs.all in
     let b = ap length q.packs.all in
@@ -262,7 +262,7 @@ kept_one len k l p q e =
     p.packs.few q.packs.few in
     octets_one k l p.are q.are (p.packs.all ∙ (ap₂ (λ x y. x ++ zeros y) e c ∙ sym q.packs.all))
 
-pub equal_bits : (m n : ℕ) (k l : List ℕ) (r : Bool) → IsKept m k → IsKept n l → m ≡ n → r ≡ pointwise nat_eq k l → r ≡ pointwise beq (bits_from 0 m k) (bits_from 0 n l)
+pub equal_bits : (m n : ℕ) (k l : List ℕ) (r : Bool) → HoldsBits m k → HoldsBits n l → m ≡ n → r ≡ pointwise nat_eq k l → r ≡ pointwise beq (bits_from 0 m k) (bits_from 0 n l)
 equal_bits m n k l r p q e f = same_from_decides r (pointwise beq (bits_from 0 m k) (bits_from 0 n l)) (there, back) (pointwise_decides booleans_Decides (bits_from 0 m k) (bits_from 0 n l))
   where
     told : Decides (pointwise nat_eq k l) (k ≡ l)
@@ -272,9 +272,9 @@ equal_bits m n k l r p q e f = same_from_decides r (pointwise beq (bits_from 0 m
     there h = ap₂ (λ x y. bits_from 0 x y) e (told.0 (sym f ∙ h))
 
     back : bits_from 0 m k ≡ bits_from 0 n l → r ≡ true
-    back h = f ∙ told.1 (kept_one m k l p (subst (λ z. IsKept z l) (sym e) q) (h ∙ ap (λ z. bits_from 0 z l) (sym e)))
+    back h = f ∙ told.1 (kept_one m k l p (subst (λ z. HoldsBits z l) (sym e) q) (h ∙ ap (λ z. bits_from 0 z l) (sym e)))
 
-pub unequal_bits : (m n : ℕ) (k l : List ℕ) → IsKept m k → IsKept n l → m ≢ n → nat_eq m n ≡ pointwise beq (bits_from 0 m k) (bits_from 0 n l)
+pub unequal_bits : (m n : ℕ) (k l : List ℕ) → HoldsBits m k → HoldsBits n l → m ≢ n → nat_eq m n ≡ pointwise beq (bits_from 0 m k) (bits_from 0 n l)
 unequal_bits m n k l p q e = same_from_decides (nat_eq m n) (pointwise beq (bits_from 0 m k) (bits_from 0 n l)) (there, back) (pointwise_decides booleans_Decides (bits_from 0 m k) (bits_from 0 n l))
   where
     there : nat_eq m n ≡ true → bits_from 0 m k ≡ bits_from 0 n l

@@ -8,7 +8,7 @@ use Rattle.rasn_types.specs.Calendar.{Day, Moment}
 use Rattle.rasn_types.specs.Times.{written_date, written_generalized, written_utc}
 use Rattle.rasn_types.specs.Shapes.{Tree, number, bits, numbers, instant, on_day, Kind, boolean, null, object_identifier, integer, enumerated, octet_string, fixed, numeric, printable, visible, ia5, any_octets, bmp, utf8, utc_time, generalized_time, date}
 use Rattle.rasn_types.specs.Contents.{ShortArcs, signed, IsBool, IsObjectIdentifier, joined_lists, bits_of, is_set}
-use Rattle.rasn_types.specs.Grammar.{Family, plain, bit_family, text_family, units}
+use Rattle.rasn_types.specs.Grammar.{Family, plain_family, bit_family, text_family, units}
 use Rattle.rasn_types.specs.Bytes.{Writing, Each, Definite, Closed, Prim, Cons, AreCut, AllFalse, WritesStr, WrittenBits, WritesText, WritesOctets, Written, WritesIn}
 use Rattle.rasn_types.proofs.Frames.{split_one}
 use Rattle.rasn_types.proofs.Digits.{id_shortest_one, length_shortest_one, short_arcs_one, arcs_of, arcs_one}
@@ -267,7 +267,7 @@ str_octets rule size inner tag xs b (inl (s, c, (e, o), d)) = subst AreOctets e 
 str_octets rule size inner tag xs b (inr (c, n, ps, bs, e, cut, each, d)) = subst AreOctets (sym e) (pieces_octets inner ps bs each)
 
 pub in_once : (which : Family) (rule : Codec) (kind : Kind) (tag : Tag) → IsWrittenOnce (WritesIn which rule kind tag)
-in_once plain rule kind tag t a b (k, h, i) (l, j, m) = definite_one tag _ k l a b i m (contents_once kind t k l h j)
+in_once plain_family rule kind tag t a b (k, h, i) (l, j, m) = definite_one tag _ k l a b i m (contents_once kind t k l h j)
 in_once bit_family rule kind tag t a b (k, e, h) (l, f, i) =
     str_once rule WrittenBits bits_once 7992 (in_universal 3) tag l a b (subst (λ z. WritesStr rule WrittenBits 7992 (in_universal 3) tag z a) (bits_one k l (sym e ∙ f)) h) i
 in_once text_family rule kind tag t a b (k, x, h) (l, y, i) =

@@ -1,6 +1,6 @@
 -- A header is read in one way.
 use Rattle.std.proofs.Common.{◌≡◌, ℕ, ◌+◌, ◌*◌, ◌<◌, ◌⊎◌, inl, inr, List, [], ◌∷◌, ◌++◌, length, Bool, true, false, refl, sym, ap, ap₂, ◌∙◌, arith}
-use Rattle.rasn_types.specs.Tags.{Form, ber_form, cer_form, der_form, loose_form, HasStrictForm, Class, Universal, Application, Context, Private, Tag, rank, eoc}
+use Rattle.rasn_types.specs.Tags.{Form, basic_form, der_form, loose_form, HasStrictForm, Class, Universal, Application, Context, Private, Tag, rank, eoc}
 use Rattle.rasn_types.specs.Framing.{IsChain, number_in, Spells128, bit_of, AnyIdSpells, LengthSpells, Extent, definite, Frame, with_length, without_length, HasIndefinite, Begins, Next, Ended}
 
 pub split_one : {X : Type 0} (a c b d : List X) → length a ≡ length c → a ++ b ≡ c ++ d → (a ≡ c) × (b ≡ d)
@@ -168,8 +168,7 @@ not_ended closing input s n (inr (c, more, e)) =
 
 -- No form with indefinite lengths is strict.
 not_strict : (rule : Form) → HasIndefinite rule → HasStrictForm rule → ⊥
-not_strict ber_form h k = k
-not_strict cer_form h k = k
+not_strict basic_form h k = k
 not_strict der_form h k = h
 not_strict loose_form h k = h
 

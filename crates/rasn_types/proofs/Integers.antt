@@ -104,7 +104,7 @@ shorter b k c d l hb hc hd n s e =
     let nc : number_in 256 (c ∷ d ∷ l) ≡ c * (256 * 256 ^ length l) + (d * 256 ^ length l + number_in 256 l) =
     first_digit c (d ∷ l) hc ∙ ap₂ (λ x y. c * x + y) pd (first_digit d l hd) in
     apart b (256 ^ length k) (number_in 256 k) c d (256 ^ length l) (number_in 256 l) hb hc hd
-    (number_lt 256 (omega arith) k) (number_lt 256 (omega arith) l) (pow-le-pow_right (omega arith) n) s.0 s.1
+    (number_lt 256 (omega arith) k) (number_lt 256 (omega arith) l) (pow-le-pow_right (omega arith) n) (λ e. s (inl e)) (λ e. s (inr e))
     (ap₂ (λ x y. x + c / 128 * y) (sym nk) (sym pc) ∙ (f ∙ ap₂ (λ x y. x + b / 128 * y) nc pk))
 
 pub signed_one : (k l : List ℕ) → IsShortestInteger k → IsShortestInteger l → AreOctets k → AreOctets l → signed k ≡ signed l → k ≡ l

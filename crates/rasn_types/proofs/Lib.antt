@@ -8,6 +8,7 @@ pub mod Fractions
 pub mod Frames
 pub mod Integers
 pub mod Itself
+pub mod Lawful
 pub mod Nested
 pub mod NumberOctets
 pub mod Numbered
@@ -15,6 +16,7 @@ pub mod NumberOrder
 pub mod Once
 pub mod Ordered
 pub mod Powers
+pub mod Segmented
 pub mod ShortestOctets
 pub mod Spelled
 pub mod Stamped

@@ -146,9 +146,9 @@ beyond_octets c d l o s = go (half c)
 
     go : (c < 128) ⊎ (128 ≤ c) → ((signed (c ∷ d ∷ l) +ℤ signed (c ∷ d ∷ l)) <ℤ neg_ℤ (pos (256 ^ length (d ∷ l)))) ⊎ (pos (256 ^ length (d ∷ l)) ≤ℤ (signed (c ∷ d ∷ l) +ℤ signed (c ∷ d ∷ l)))
     go (inl k) = inr (above (256 ^ length l) (c * 256 ^ length (d ∷ l) + number_in 256 (d ∷ l)) (256 ^ length (d ∷ l)) (c * (256 * 256 ^ length l) + (d * 256 ^ length l + number_in 256 l))
-        (signed (c ∷ d ∷ l)) (signed_low c (d ∷ l) k) number_is (far c d (number_in 256 l) (256 ^ length l) (below_power l) s.0) pd)
+        (signed (c ∷ d ∷ l)) (signed_low c (d ∷ l) k) number_is (far c d (number_in 256 l) (256 ^ length l) (below_power l) (λ e. s (inl e))) pd)
     go (inr k) = inl (under (256 ^ length l) (c * 256 ^ length (d ∷ l) + number_in 256 (d ∷ l)) (256 ^ length (d ∷ l)) (c * (256 * 256 ^ length l) + (d * 256 ^ length l + number_in 256 l))
-        (signed (c ∷ d ∷ l)) (signed_high c (d ∷ l) k o.0) number_is (deep c d (number_in 256 l) (256 ^ length l) o.0 o.1.0 (below_power l) s.1) pd)
+        (signed (c ∷ d ∷ l)) (signed_high c (d ∷ l) k o.0) number_is (deep c d (number_in 256 l) (256 ^ length l) o.0 o.1.0 (below_power l) (λ e. s (inr e))) pd)
 
 pub shortest_some : (l : List ℕ) → IsShortestInteger l → 0 < length l
 shortest_some [] s = absurd s
@@ -181,7 +181,7 @@ pub short_behind : (i : ℕ) (l : List ℕ) → i < length l → (suc i < length
     → IsShortestInteger (drop i l)
 short_behind zero [] h r = absurd (omega arith)
 short_behind zero (a ∷ []) h r = tt
-short_behind zero (a ∷ b ∷ l) h r = (λ e. r (omega arith) (inl e), λ e. r (omega arith) (inr e))
+short_behind zero (a ∷ b ∷ l) h r = r (omega arith)
 short_behind (suc i) [] h r = absurd (omega arith)
 short_behind (suc i) (a ∷ l) h r = short_behind i l (omega arith) (λ k. r (omega arith))
 

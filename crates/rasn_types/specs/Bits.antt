@@ -28,7 +28,7 @@ pub record Pushes (bs : List Bool) (old new : List ℕ) : Type 0 where
   pub packs : Packs bs octets
 
 -- The octets hold so many bits, and are as few as these take.
-pub record IsKept (len : ℕ) (octets : List ℕ) : Type 0 where
+pub record HoldsBits (len : ℕ) (octets : List ℕ) : Type 0 where
   pub held : len ≤ 8 * length octets
   pub packs : Packs (bits_from 0 len octets) octets
   pub are : AreOctets octets

@@ -10,7 +10,7 @@ use Rattle.rasn_types.specs.Shapes.{Tree, bits, numbers, instant, on_day, items,
 use Rattle.rasn_types.specs.Shapes.Parts.{none}
 pub use Rattle.rasn_types.specs.Contents.{AllFalse}
 use Rattle.rasn_types.specs.Contents.{IsShortest, Contents, BitSegment, joined_lists}
-use Rattle.rasn_types.specs.Grammar.{Family, plain, bit_family, text_family, family, IsBounded, Text}
+use Rattle.rasn_types.specs.Grammar.{Family, plain_family, bit_family, text_family, family, IsBounded, Text}
 
 abbrev pub Writing : Type 0 → Type 1
 Writing X = X → List ℕ → Type 0
@@ -48,7 +48,7 @@ Cons Der tag = Definite tag true
 pub record Field : Type 1 where
   pub presence : Presence
   pub writes : Writing Tree
-  pub is_bare : Tree → Type 0
+  pub is_untagged_open : Tree → Type 0
 
 abbrev pub WritesPart : Presence → Writing Tree → Writing Tree
 WritesPart required writes t b = writes t b
@@ -68,9 +68,9 @@ TagsOf ([] ∷ bs) tags = TagsOf bs tags
 TagsOf ((o ∷ b) ∷ bs) tags = (tag : Tag) × (more : List Tag) × (tags ≡ tag ∷ more) × Begins (o ∷ b) tag × TagsOf bs more
 
 -- No part of a SET is written as open octets without a tag: their order isn't known.
-abbrev pub NoneBare : List Field → List Tree → List (List ℕ) → Type 0
-NoneBare (f ∷ fs) (t ∷ ts) (b ∷ bs) = (f.is_bare t → b ≡ []) × NoneBare fs ts bs
-NoneBare fs ts bs = Unit {0}
+abbrev pub NoneUntaggedOpen : List Field → List Tree → List (List ℕ) → Type 0
+NoneUntaggedOpen (f ∷ fs) (t ∷ ts) (b ∷ bs) = (f.is_untagged_open t → b ≡ []) × NoneUntaggedOpen fs ts bs
+NoneUntaggedOpen fs ts bs = Unit {0}
 
 -- Contents as they are written.
 pub record Written (kind : Kind) (t : Tree) (l : List ℕ) : Type 0 where
@@ -112,7 +112,7 @@ abbrev pub WritesOctets : Writing (List ℕ)
 WritesOctets xs l = (l ≡ xs) × AreOctets l
 
 abbrev pub WritesIn : Family → Codec → Kind → Tag → Writing Tree
-WritesIn plain rule kind tag t b = (contents : List ℕ) × Written kind t contents × Prim tag contents b
+WritesIn plain_family rule kind tag t b = (contents : List ℕ) × Written kind t contents × Prim tag contents b
 WritesIn bit_family rule kind tag t b = (bs : List Bool) × (t ≡ bits bs) × WritesStr rule WrittenBits 7992 (in_universal 3) tag bs b
 WritesIn text_family rule kind tag t b = (octets : List ℕ) × WritesText kind octets t × WritesStr rule WritesOctets 1000 (in_universal 4) tag octets b
 
@@ -125,7 +125,7 @@ WritesSeq rule tag fs t b = (ts : List Tree) × (bs : List (List ℕ)) × (t ≡
 
 abbrev pub WritesSet : Codec → Tag → List Field → Writing Tree
 WritesSet rule tag fs t b = (ts : List Tree) × (bs : List (List ℕ)) × (tags : List Tag) × (t ≡ items ts) × PartsWritten fs ts bs
-    × NoneBare fs ts bs × TagsOf bs tags × DoNotFall IsTagBelow tags × Cons rule tag (joined_lists bs) b
+    × NoneUntaggedOpen fs ts bs × TagsOf bs tags × DoNotFall IsTagBelow tags × Cons rule tag (joined_lists bs) b
 
 abbrev pub WritesList : Codec → Tag → Option (Bound ℕ) → Writing Tree → Writing Tree
 WritesList rule tag size writes t b = (ts : List Tree) × (bs : List (List ℕ)) × (t ≡ items ts) × Admits ◌≤◌ size (length ts)
@@ -137,21 +137,21 @@ WritesSetOf rule tag size writes t b = (ts : List Tree) × (bs : List (List ℕ)
 
 -- What is written of the tree are open octets without a tag.
 unfoldable mutual
-  pub IsBare : Shape → Tree → Type 0
-  IsBare (leaf kind tag bounds) t = ⊥
-  IsBare (any None) t = Unit {0}
-  IsBare (any (Some tag)) t = ⊥
-  IsBare (prefix tag s) t = ⊥
-  IsBare (choice ps) t = IsBareIn 0 ps t
-  IsBare (option tag s) t = IsBare s t
-  IsBare (seq tag ps) t = ⊥
-  IsBare (set tag ps) t = ⊥
-  IsBare (list tag s size) t = ⊥
-  IsBare (set_of tag s size) t = ⊥
+  pub IsUntaggedOpen : Shape → Tree → Type 0
+  IsUntaggedOpen (leaf kind tag bounds) t = ⊥
+  IsUntaggedOpen (any None) t = Unit {0}
+  IsUntaggedOpen (any (Some tag)) t = ⊥
+  IsUntaggedOpen (prefix tag s) t = ⊥
+  IsUntaggedOpen (choice ps) t = IsUntaggedOpenIn 0 ps t
+  IsUntaggedOpen (option tag s) t = IsUntaggedOpen s t
+  IsUntaggedOpen (seq tag ps) t = ⊥
+  IsUntaggedOpen (set tag ps) t = ⊥
+  IsUntaggedOpen (list tag s size) t = ⊥
+  IsUntaggedOpen (set_of tag s size) t = ⊥
 
-  pub IsBareIn : ℕ → Parts → Tree → Type 0
-  IsBareIn k none t = ⊥
-  IsBareIn k (part presence s ps) t = ((u : Tree) × (t ≡ chosen k u) × IsBare s u) ⊎ IsBareIn (suc k) ps t
+  pub IsUntaggedOpenIn : ℕ → Parts → Tree → Type 0
+  IsUntaggedOpenIn k none t = ⊥
+  IsUntaggedOpenIn k (part presence s ps) t = ((u : Tree) × (t ≡ chosen k u) × IsUntaggedOpen s u) ⊎ IsUntaggedOpenIn (suc k) ps t
 
 -- Bytes rule shape tree octets
 unfoldable mutual
@@ -170,4 +170,4 @@ unfoldable mutual
 
   pub fields_of : Codec → Parts → List Field
   fields_of rule none = []
-  fields_of rule (part presence s ps) = record { presence = presence; writes = Bytes rule s; is_bare = IsBare s } ∷ fields_of rule ps
+  fields_of rule (part presence s ps) = record { presence = presence; writes = Bytes rule s; is_untagged_open = IsUntaggedOpen s } ∷ fields_of rule ps

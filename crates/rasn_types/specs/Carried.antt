@@ -6,7 +6,7 @@ use Rattle.rasn_types.specs.Calendar.{Day, Moment}
 use Rattle.rasn_types.specs.Times.{CarriedUtc, CarriedDay}
 use Rattle.rasn_types.specs.Shapes.{Tree, bits, numbers, instant, on_day, items, walk, chosen, absent, Kind, utc_time, generalized_time, date, Shape, leaf, any, prefix, choice, option, seq, set, list, set_of, Parts, part, Presence, required, optional, addition, default}
 use Rattle.rasn_types.specs.Shapes.Parts.{none}
-use Rattle.rasn_types.specs.Grammar.{Family, plain, bit_family, text_family, family}
+use Rattle.rasn_types.specs.Grammar.{Family, plain_family, bit_family, text_family, family}
 use Rattle.rasn_types.specs.Bytes.{Same, IsCer, WritesText, Bytes}
 
 abbrev pub EachOf : (Tree → Type 0) → List Tree → Type 0
@@ -29,7 +29,7 @@ IsCarriedTime kind t = Unit {0}
 
 -- The depth, where a string is written in segments; and fewer than 2 ^ 64 bits.
 abbrev pub MeetsIn : Family → Codec → Kind → ℕ → Tree → Type 0
-MeetsIn plain rule kind depth t = Unit {0}
+MeetsIn plain_family rule kind depth t = Unit {0}
 MeetsIn bit_family rule kind depth t = (bs : List Bool) → t ≡ bits bs → (length bs < 2 ^ 64) × (IsCer rule → 7992 < length bs → 0 < depth)
 MeetsIn text_family rule kind depth t = IsCarriedTime kind t × ((octets : List ℕ) → WritesText kind octets t → IsCer rule → 1000 < length octets → 0 < depth)
 

@@ -1,9 +1,19 @@
 -- Which octets the restricted character string types admit, and the characters that they mean (X.680 41).
-use Rattle.std.specs.Prelude.{◌≡◌, ℕ, ◌+◌, ◌*◌, ◌<◌, ◌≤◌, ◌%◌, List, [], ◌∷◌, length, All}
+use Rattle.std.specs.Prelude.{◌≡◌, ℕ, ◌+◌, ◌*◌, ◌<◌, ◌≤◌, ◌⊎◌, ◌%◌, List, [], ◌∷◌, length, All, Contains}
 use Rattle.rasn_types.specs.declared.types.strings.alphabet.Alphabet.{Alphabet}
 use Rattle.rasn_types.specs.declared.types.strings.alphabet.Alphabet.TheVariants.{Numeric, Printable, Visible, Ia5, Every}
 use Rattle.rasn_types.specs.Shapes.{Kind, numeric, printable, visible, ia5, any_octets}
-use Rattle.rasn_types.specs.Grammar.{IsDigitOrSpace, IsPrintable}
+
+abbrev pub IsDigitOrSpace : ℕ → Type 0
+IsDigitOrSpace c = ((48 ≤ c) × (c < 58)) ⊎ (c ≡ 32)
+
+-- what PrintableString admits besides letters and digits: space and ' ( ) + , - . / : = ?
+abbrev pub printable_marks : List ℕ
+printable_marks = 32 ∷ 39 ∷ 40 ∷ 41 ∷ 43 ∷ 44 ∷ 45 ∷ 46 ∷ 47 ∷ 58 ∷ 61 ∷ 63 ∷ []
+
+-- letters, digits and these (X.680 41.4)
+abbrev pub IsPrintable : ℕ → Type 0
+IsPrintable c = ((65 ≤ c) × (c < 91)) ⊎ (((97 ≤ c) × (c < 123)) ⊎ (((48 ≤ c) × (c < 58)) ⊎ Contains printable_marks c))
 
 abbrev pub IsAdmitted : Alphabet → ℕ → Type 0
 IsAdmitted Numeric c = IsDigitOrSpace c
@@ -32,7 +42,3 @@ abbrev pub units_of : List ℕ → List ℕ
 units_of [] = []
 units_of (a ∷ []) = []
 units_of (a ∷ b ∷ l) = (256 * a + b) ∷ units_of l
-
--- what PrintableString admits besides letters and digits
-abbrev pub printable_marks : List ℕ
-printable_marks = 32 ∷ 39 ∷ 40 ∷ 41 ∷ 43 ∷ 44 ∷ 45 ∷ 46 ∷ 47 ∷ 58 ∷ 61 ∷ 63 ∷ []

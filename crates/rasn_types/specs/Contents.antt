@@ -1,9 +1,8 @@
 -- Contents octets of values that hold no others (X.690 8.2 to 8.4, 8.6 to 8.8, 8.19, 8.23, 11.1).
 use Rattle.std.specs.Prelude.{◌≡◌, ℕ, zero, suc, ◌*◌, ◌^◌, ◌%◌, ◌/◌, ◌-◌, ◌<◌, ◌≤◌, ◌⊎◌, ◌≢◌, List, [], ◌∷◌, ◌++◌, length, Bool, true, false, ℤ, pos, ◌-ℤ◌, Contains, min, map}
 use Rattle.rasn_types.specs.Tags.{form, IsStrict, Codec, Ber, Cer, Der, Tag}
-use Rattle.rasn_types.specs.Framing.{Frame, definite, Spells128, number_in, HasSegments}
+use Rattle.rasn_types.specs.Framing.{Frame, definite, indefinite, Ended, Spells128, number_in}
 use Rattle.rasn_types.specs.Shapes.{Tree, number, numbers, Kind, boolean, null, object_identifier, integer, IsIn, enumerated}
-use Rattle.rasn_types.specs.Readers.{Reading, Inside, Many}
 
 -- The whole number that octets in two's complement stand for (8.3.3).
 abbrev pub signed : List ℕ → ℤ
@@ -34,15 +33,15 @@ Contents rule null l t = (t ≡ number (pos 0)) × (l ≡ [])
 Contents rule object_identifier l t = (arcs : List ℕ) × (t ≡ numbers arcs) × IsObjectIdentifier l arcs
 Contents rule kind l t = ⊥
 
--- The first nine bits aren't equal (8.3.2).
+-- An octet in front of another is nothing but its sign: the first nine bits are equal.
+abbrev pub RepeatsSign : ℕ → ℕ → Type 0
+RepeatsSign a b = ((a ≡ 0) × (b < 128)) ⊎ ((a ≡ 255) × (128 ≤ b))
+
+-- An integer in its fewest octets (8.3.2).
 abbrev pub IsShortestInteger : List ℕ → Type 0
 IsShortestInteger [] = ⊥
 IsShortestInteger (a ∷ []) = Unit {0}
-IsShortestInteger (a ∷ b ∷ l) = (((a ≡ 0) × (b < 128)) → ⊥) × (((a ≡ 255) × (128 ≤ b)) → ⊥)
-
--- An octet in front of another is nothing but its sign.
-abbrev pub RepeatsSign : ℕ → ℕ → Type 0
-RepeatsSign a b = ((a ≡ 0) × (b < 128)) ⊎ ((a ≡ 255) × (128 ≤ b))
+IsShortestInteger (a ∷ b ∷ l) = RepeatsSign a b → ⊥
 
 abbrev pub IsShortest128 : List ℕ → Type 0
 IsShortest128 [] = ⊥
@@ -91,11 +90,19 @@ ReadBits rule l bs = (s : BitSegment l bs) × (IsStrict rule → AllFalse s.unus
 abbrev pub OctetSegment : List ℕ → List ℕ → Type 0
 OctetSegment l octets = octets ≡ l
 
--- A string: primitive, or segments (8.6.4, 8.7.3, 8.23). segment reads a primitive one's contents.
-abbrev pub Str : {X : Type 0} → Codec → (List ℕ → List X → Type 0) → Tag → ℕ → Tag → Reading (List X)
-Str rule segment inner zero tag input xs rest =
-    (contents : List ℕ) × Frame (form rule) input tag false rest (definite contents) × segment contents xs
-Str rule segment inner (suc depth) tag input xs rest =
-    ((contents : List ℕ) × Frame (form rule) input tag false rest (definite contents) × segment contents xs)
-    ⊎ (HasSegments rule × (parts : List (List _)) × (xs ≡ joined_lists parts)
-    × Inside rule tag true (λ closing. Many (Str rule segment inner depth inner) closing) input parts rest)
+mutual
+  -- A string: primitive, or segments, which are strings nested one less deep (8.6.4, 8.7.3, 8.23). segment reads a primitive one's contents.
+  pub data Str {X : Type 0} (rule : Codec) (segment : List ℕ → List X → Type 0) (inner : Tag) : ℕ → Tag → List ℕ → List X → List ℕ → Type 0 where
+    primitive : {depth : ℕ} {tag : Tag} {input : List ℕ} {xs : List X} {rest : List ℕ} (contents : List ℕ)
+        → Frame (form rule) input tag false rest (definite contents) → segment contents xs → Str rule segment inner depth tag input xs rest
+    segments : {depth : ℕ} {tag : Tag} {input : List ℕ} {xs : List X} {rest : List ℕ} (contents : List ℕ) → (IsStrict rule → ⊥)
+        → Frame (form rule) input tag true rest (definite contents) → Segments rule segment inner depth false contents xs [] → Str rule segment inner (suc depth) tag input xs rest
+    closed_segments : {depth : ℕ} {tag : Tag} {input : List ℕ} {xs : List X} {rest : List ℕ} (body : List ℕ) → (IsStrict rule → ⊥)
+        → Frame (form rule) input tag true body indefinite → Segments rule segment inner depth true body xs (0 ∷ 0 ∷ rest) → Str rule segment inner (suc depth) tag input xs rest
+
+  -- Segments one behind the other, up to the end of the contents.
+  pub data Segments {X : Type 0} (rule : Codec) (segment : List ℕ → List X → Type 0) (inner : Tag) : ℕ → Bool → List ℕ → List X → List ℕ → Type 0 where
+    none : {depth : ℕ} {closing : Bool} {input : List ℕ} → Ended closing input → Segments rule segment inner depth closing input [] input
+    one_more : {depth : ℕ} {closing : Bool} {input rest : List ℕ} {xs : List X} (first others : List X) (middle : List ℕ) → (Ended closing input → ⊥)
+        → Str rule segment inner depth inner input first middle → Segments rule segment inner depth closing middle others rest → xs ≡ first ++ others
+        → Segments rule segment inner depth closing input xs rest

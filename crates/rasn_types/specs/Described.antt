@@ -1,7 +1,9 @@
--- What a constructed type tells of its parts.
-use Rattle.std.specs.Prelude.{ℕ, suc, ◌+◌, Bool, true, false, ◌&&◌, not, nat_eq}
+-- What a constructed type tells of its parts, and of its fields.
+use Rattle.std.specs.Prelude.{ℕ, suc, ◌+◌, Bool, true, false, ◌&&◌, ◌||◌, not, nat_eq}
 use Rattle.rasn_types.specs.Shapes.{Parts, part, required}
 use Rattle.rasn_types.specs.Shapes.Parts.{none}
+use Rattle.rasn_types.specs.declared.types.fields.FieldPresence.{FieldPresence}
+use Rattle.rasn_types.specs.declared.types.fields.FieldPresence.TheVariants.{Required, Optional, Default}
 
 -- whether some part has to come
 abbrev pub has_required : Parts → Bool
@@ -18,10 +20,17 @@ abbrev pub same_bool : Bool → Bool → Bool
 same_bool true b = b
 same_bool false b = not b
 
--- whether a type has no fields, in its root or behind a marker
-abbrev pub is_fieldless : ℕ → ℕ → Bool
-is_fieldless root more = nat_eq root 0 && nat_eq more 0
+-- whether a type has no fields and no extension marker
+abbrev pub is_fieldless : ℕ → Bool → Bool
+is_fieldless root extensible = nat_eq root 0 && not extensible
 
--- There are as many parts as fields, in the root and behind a marker together, and the flag tells whether some part has to come.
-abbrev pub describes : ℕ → ℕ → Bool → Parts → Bool
-describes root more flag parts = same_bool (has_required parts) flag && nat_eq (count parts) (root + more)
+-- There are as many parts as fields, in the root and behind an extension marker together; fields stand behind one only where there is one; and
+-- the flag tells whether some part has to come.
+abbrev pub describes : ℕ → ℕ → Bool → Bool → Parts → Bool
+describes root more extensible flag parts = same_bool (has_required parts) flag && nat_eq (count parts) (root + more) && (extensible || nat_eq more 0)
+
+-- whether a value may do without a field of this presence
+abbrev pub is_optional_or_default : FieldPresence → Bool
+is_optional_or_default Required = false
+is_optional_or_default Optional = true
+is_optional_or_default Default = true

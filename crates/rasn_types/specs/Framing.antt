@@ -1,6 +1,6 @@
 -- Identifier, length and contents octets (X.690 8.1).
 use Rattle.std.specs.Prelude.{◌≡◌, ℕ, ◌+◌, ◌*◌, ◌^◌, ◌%◌, ◌<◌, ◌≤◌, ◌⊎◌, ◌≢◌, List, [], ◌∷◌, ◌++◌, length, Bool, true, false}
-use Rattle.rasn_types.specs.Tags.{Form, ber_form, cer_form, der_form, loose_form, loose, HasStrictForm, Codec, Ber, Cer, Der, Tag, rank, eoc}
+use Rattle.rasn_types.specs.Tags.{Form, basic_form, der_form, loose_form, loose, HasStrictForm, Codec, Tag, rank, eoc}
 
 -- Every octet but the last has its high bit set.
 abbrev pub IsChain : List ℕ → Type 0
@@ -60,15 +60,8 @@ pub data Extent : Type 0 where
   definite : List ℕ → Extent
   indefinite : Extent
 
--- The rules that read strings in segments.
-abbrev pub HasSegments : Codec → Type 0
-HasSegments Ber = Unit {0}
-HasSegments Cer = Unit {0}
-HasSegments Der = ⊥
-
 abbrev pub HasIndefinite : Form → Type 0
-HasIndefinite ber_form = Unit {0}
-HasIndefinite cer_form = Unit {0}
+HasIndefinite basic_form = Unit {0}
 HasIndefinite der_form = ⊥
 HasIndefinite loose_form = ⊥
 
@@ -118,10 +111,6 @@ abbrev mutual
   pub turns_of : {rule : Codec} {text : List ℕ} → Wholes rule text → ℕ
   turns_of none = 0
   turns_of (one_more front back first others is) = (1 + turns first) + turns_of others
-
--- Whole encodings one behind the other, closed by two zeros.
-abbrev pub Values : Codec → List ℕ → List ℕ → List ℕ → Type 0
-Values rule input contents rest = Wholes rule contents × (input ≡ contents ++ (0 ∷ 0 ∷ rest))
 
 -- a list of octets
 abbrev pub AreOctets : List ℕ → Type 0

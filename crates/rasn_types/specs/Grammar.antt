@@ -5,8 +5,10 @@ use Rattle.rasn_types.specs.Order.{IsLess, DoNotFall}
 use Rattle.rasn_types.specs.Framing.{Frame, definite, indefinite, Whole, Wholes}
 use Rattle.rasn_types.specs.Calendar.{Day, Stamp}
 use Rattle.rasn_types.specs.Times.{GeneralUtc, CanonicalUtc, GeneralGeneralized, CanonicalGeneralized, StrictGeneralized, DateText}
-use Rattle.rasn_types.specs.Shapes.{Tree, number, bits, numbers, instant, on_day, items, walk, absent, Kind, boolean, null, object_identifier, bit_string, octet_string, integer, enumerated, fixed, numeric, printable, visible, ia5, any_octets, bmp, utf8, utc_time, generalized_time, date, Bound, Constraints, Admits, Shape, leaf, any, prefix, choice, option, seq, set, list, set_of, Parts, part, own, IsFirst}
+use Rattle.rasn_types.specs.Shapes.{Tree, number, bits, numbers, instant, on_day, items, walk, absent, Kind, boolean, null, object_identifier, bit_string, octet_string, integer, enumerated, fixed, numeric, printable, visible, ia5, any_octets, bmp, utf8, utc_time, generalized_time, date, Bound, Constraints, Admits, Shape, leaf, any, prefix, choice, option, seq, set, list, set_of, Parts, part, own, IsFirst, presences}
 use Rattle.rasn_types.specs.Shapes.Parts.{none}
+use Rattle.rasn_types.specs.declared.types.strings.alphabet.Alphabet.TheVariants.{Numeric, Printable, Visible, Ia5}
+use Rattle.rasn_types.specs.Characters.{AreAdmitted}
 use Rattle.rasn_types.specs.Readers.{Reading, Inside, Many, ReadFrom, Perhaps, Part, ReadsSeq, ReadsChoice, ReadsSet}
 use Rattle.rasn_types.specs.Contents.{IsShortest, Contents, Str, ReadBits, OctetSegment}
 
@@ -21,13 +23,6 @@ GeneralizedText Ber = GeneralGeneralized
 GeneralizedText Cer = CanonicalGeneralized
 GeneralizedText Der = StrictGeneralized
 
-abbrev pub IsDigitOrSpace : ℕ → Type 0
-IsDigitOrSpace c = ((48 ≤ c) × (c < 58)) ⊎ (c ≡ 32)
-
--- letters, digits, space and ' ( ) + , - . / : = ? (X.680 41.4)
-abbrev pub IsPrintable : ℕ → Type 0
-IsPrintable c = ((65 ≤ c) × (c < 91)) ⊎ (((97 ≤ c) × (c < 123)) ⊎ (((48 ≤ c) × (c < 58)) ⊎ Contains (32 ∷ 39 ∷ 40 ∷ 41 ∷ 43 ∷ 44 ∷ 45 ∷ 46 ∷ 47 ∷ 58 ∷ 61 ∷ 63 ∷ []) c))
-
 -- 16-bit units, the high octet first
 abbrev pub units : List ℕ → List ℕ → Type 0
 units [] us = us ≡ []
@@ -38,10 +33,10 @@ units (a ∷ b ∷ l) us = (vs : List ℕ) × (us ≡ (256 * a + b) ∷ vs) × u
 abbrev pub Text : Codec → Kind → List ℕ → Tree → Type 0
 Text rule octet_string l t = t ≡ numbers l
 Text rule (fixed n) l t = (t ≡ numbers l) × (length l ≡ n)
-Text rule numeric l t = (t ≡ numbers l) × All IsDigitOrSpace l
-Text rule printable l t = (t ≡ numbers l) × All IsPrintable l
-Text rule visible l t = (t ≡ numbers l) × All (λ c. (32 ≤ c) × (c < 127)) l
-Text rule ia5 l t = (t ≡ numbers l) × All (λ c. c < 128) l
+Text rule numeric l t = (t ≡ numbers l) × AreAdmitted Numeric l
+Text rule printable l t = (t ≡ numbers l) × AreAdmitted Printable l
+Text rule visible l t = (t ≡ numbers l) × AreAdmitted Visible l
+Text rule ia5 l t = (t ≡ numbers l) × AreAdmitted Ia5 l
 Text rule any_octets l t = t ≡ numbers l
 Text rule bmp l t = (us : List ℕ) × (t ≡ numbers us) × units l us
 Text rule utf8 l t = (t ≡ numbers (chars l)) × IsUtf8 l
@@ -63,7 +58,16 @@ measure utc_time = unmeasured
 measure generalized_time = unmeasured
 measure date = unmeasured
 measure (integer range) = by_value
-measure kind = by_size
+measure bit_string = by_size
+measure octet_string = by_size
+measure (fixed n) = by_size
+measure numeric = by_size
+measure printable = by_size
+measure visible = by_size
+measure ia5 = by_size
+measure any_octets = by_size
+measure bmp = by_size
+measure utf8 = by_size
 
 -- The constraints hold of the tree, as far as its kind has them (X.680 51).
 abbrev pub Fulfils : Measure → Constraints → Tree → Type 0
@@ -78,20 +82,31 @@ IsBounded kind c t = Fulfils (measure kind) c t
 
 -- How contents are read: at once, or as bits or octets gathered from segments.
 pub data Family : Type 0 where
-  plain bit_family text_family : Family
+  plain_family bit_family text_family : Family
 
 abbrev pub family : Kind → Family
-family boolean = plain
-family null = plain
-family object_identifier = plain
+family boolean = plain_family
+family null = plain_family
+family object_identifier = plain_family
 family bit_string = bit_family
-family (integer range) = plain
-family (enumerated known) = plain
-family kind = text_family
+family (integer range) = plain_family
+family (enumerated known) = plain_family
+family octet_string = text_family
+family (fixed n) = text_family
+family numeric = text_family
+family printable = text_family
+family visible = text_family
+family ia5 = text_family
+family any_octets = text_family
+family bmp = text_family
+family utf8 = text_family
+family utc_time = text_family
+family generalized_time = text_family
+family date = text_family
 
 -- A value that holds no others.
 abbrev pub ReadsIn : Family → Codec → Kind → Tag → ℕ → Reading Tree
-ReadsIn plain rule kind tag depth input t rest =
+ReadsIn plain_family rule kind tag depth input t rest =
     (bit : Bool) × (contents : List ℕ) × Frame (form rule) input tag bit rest (definite contents) × Contents rule kind contents t
     × (IsStrict rule → (bit ≡ tag_bit tag) × IsShortest kind contents)
 ReadsIn bit_family rule kind tag depth input t rest =
@@ -127,10 +142,10 @@ unfoldable mutual
   Reads rule (any None) depth closing = ReadsAny rule
   Reads rule (any (Some tag)) depth closing = ReadsOpen rule tag
   Reads rule (prefix tag s) depth closing = λ input t rest. (0 < depth) × (bit : Bool) × (IsStrict rule → bit ≡ true) × Inside rule tag bit (λ c. Reads rule s (depth - 1) c) input t rest
-  Reads rule (choice ps) depth closing = ReadsChoice (form rule) 0 (parts_of rule ps depth closing)
+  Reads rule (choice ps) depth closing = ReadsChoice rule 0 (parts_of rule ps depth closing)
   Reads rule (option tag s) depth closing = Perhaps (form rule) tag absent (Reads rule s depth closing) closing
   Reads rule (seq tag ps) depth closing = λ input t rest. (0 < depth) × Inside rule tag true (λ c. ReadsSeq rule (parts_of rule ps (depth - 1) c) c) input t rest
-  Reads rule (set tag ps) depth closing = λ input t rest. (0 < depth) × Inside rule tag true (λ c. ReadsSet rule (parts_of rule ps (depth - 1) c) c) input t rest
+  Reads rule (set tag ps) depth closing = λ input t rest. (0 < depth) × Inside rule tag true (λ c. ReadsSet rule (presences ps) (ReadsChoice rule 0 (parts_of rule ps (depth - 1) c)) c) input t rest
   Reads rule (list tag s size) depth closing = λ input t rest. (0 < depth) × Inside rule tag true (λ c. ReadsList size (Reads rule s (depth - 2) c) c) input t rest
   Reads rule (set_of tag s size) depth closing = λ input t rest. (0 < depth) × Inside rule tag true (λ c. ReadsSetOf rule size (Reads rule s (depth - 2) c) c) input t rest
 

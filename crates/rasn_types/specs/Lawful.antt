@@ -3,10 +3,15 @@ use Rattle.std.specs.Prelude.{◌≡◌, ◌⊎◌, ◌≢◌, false, Option, So
 use Rattle.rasn_types.specs.Tags.{tag_bit, Tag, eoc, IsTagBelow}
 use Rattle.rasn_types.specs.Shapes.{Shape, leaf, any, prefix, choice, option, seq, set, list, set_of, Parts, part, own, IsFirst, IsFirstOf, Presence, required, optional, addition, default, IsSolid}
 use Rattle.rasn_types.specs.Shapes.Parts.{none}
-use Rattle.rasn_types.specs.Grammar.{Family, plain, bit_family, text_family, family}
+use Rattle.rasn_types.specs.Grammar.{Family, plain_family, bit_family, text_family, family}
 
 abbrev pub AreDisjoint : (Tag → Type 0) → (Tag → Type 0) → Type 0
 AreDisjoint P Q = (n : Tag) → P n → Q n → ⊥
+
+-- No two parts begin with one tag.
+abbrev pub AreToldApart : Parts → Type 0
+AreToldApart none = Unit {0}
+AreToldApart (part presence s ps) = AreDisjoint (IsFirst s) (IsFirstOf ps) × AreToldApart ps
 
 -- The first tags of the parts, up to and with the next one that is always there.
 abbrev pub IsFirstBehind : Parts → Tag → Type 0
@@ -29,7 +34,7 @@ MayBeLeftOut (default d) tag ps = IsToldApart tag ps
 
 -- no string and no time has a tag that is always written as constructed
 abbrev pub IsBitFree : Family → Tag → Type 0
-IsBitFree plain tag = Unit {0}
+IsBitFree plain_family tag = Unit {0}
 IsBitFree bit_family tag = tag_bit tag ≡ false
 IsBitFree text_family tag = tag_bit tag ≡ false
 
@@ -44,7 +49,7 @@ unfoldable mutual
   IsLawful (any None) = Unit {0}
   IsLawful (any (Some tag)) = tag ≢ eoc
   IsLawful (prefix tag s) = (tag ≢ eoc) × IsSolid s × IsLawful s
-  IsLawful (choice ps) = AreAlternatives ps
+  IsLawful (choice ps) = AreAlternatives ps × AreToldApart ps
   IsLawful (option tag s) = (tag ≡ own s) × IsSolid s × IsLawful s
   IsLawful (seq tag ps) = (tag ≢ eoc) × AreLawfulInOrder ps
   IsLawful (set tag ps) = (tag ≢ eoc) × AreLawfulByTag ps
@@ -53,7 +58,7 @@ unfoldable mutual
 
   pub AreAlternatives : Parts → Type 0
   AreAlternatives none = Unit {0}
-  AreAlternatives (part presence s ps) = (presence ≡ required) × HasTag s × IsSolid s × IsLawful s × AreDisjoint (IsFirst s) (IsFirstOf ps) × AreAlternatives ps
+  AreAlternatives (part presence s ps) = (presence ≡ required) × HasTag s × IsSolid s × IsLawful s × AreAlternatives ps
 
   pub AreLawfulInOrder : Parts → Type 0
   AreLawfulInOrder none = Unit {0}

@@ -15,8 +15,10 @@ pub mod Characters
 pub mod Errors
 pub mod Trees
 pub mod Bytes
+pub mod Rules
 pub mod Carried
 pub mod Lawful
+pub mod LawfulTest
 pub mod Described
 pub mod Numbered
 pub mod Bits

@@ -1,8 +1,6 @@
--- ENUMERATED and OBJECT IDENTIFIER as types of values, and identifier octets.
+-- ENUMERATED and OBJECT IDENTIFIER as types of values.
 use Rattle.std.specs.Prelude.{ℕ, ◌≤◌, ℤ, pos, neg_ℤ, ◌^◌, ◌-◌, Bool, true, ◌&&◌, List, [], ◌∷◌}
 use Rattle.std.specs.Int.Signed.{le_z}
-use Rattle.rasn_types.specs.declared.types.tag.Tag.{Tag}
-use Rattle.rasn_types.specs.declared.ber.identifier.Identifier.{Identifier}
 
 -- 64 bits hold each number of the list.
 abbrev pub fit_isize : List ℤ → Bool
@@ -14,9 +12,3 @@ abbrev pub AreArcs : List ℕ → Type 0
 AreArcs [] = ⊥
 AreArcs (x ∷ []) = ⊥
 AreArcs (x ∷ y ∷ l) = x ≤ 2
-
-abbrev pub identifier_of : Tag → Bool → Identifier
-identifier_of tag bit = record { tag = tag; is_constructed = bit }
-
-abbrev pub constructed_bit : Identifier → Bool
-constructed_bit i = i.is_constructed

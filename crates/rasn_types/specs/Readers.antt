@@ -79,21 +79,22 @@ abbrev pub HasRequired : List Part → Type 0
 HasRequired [] = ⊥
 HasRequired (p ∷ ps) = (p.presence ≡ required) ⊎ HasRequired ps
 
--- An initializer reads these contents.
-abbrev pub IsBare : List Part → Bool → List ℕ → Type 0
-IsBare ps closing input = (HasRequired ps → ⊥) × (closing ≡ false) × (input ≡ [])
+-- The contents are empty and in the definite form, and none of the parts has to come: all are left out.
+abbrev pub AreAllLeftOut : List Part → Bool → List ℕ → Type 0
+AreAllLeftOut ps closing input = (HasRequired ps → ⊥) × (closing ≡ false) × (input ≡ [])
 
 -- The contents of a SEQUENCE.
 abbrev pub ReadsSeq : Codec → List Part → Bool → Reading Tree
 ReadsSeq rule ps closing input t rest = (ts : List Tree) × (t ≡ items ts)
-    × ((IsBare ps closing input × AllMissing ps ts × (rest ≡ input)) ⊎ ((IsBare ps closing input → ⊥) × InOrder rule ps closing input ts rest))
+    × ((AreAllLeftOut ps closing input × AllMissing ps ts × (rest ≡ input)) ⊎ ((AreAllLeftOut ps closing input → ⊥) × InOrder rule ps closing input ts rest))
 
--- The alternative whose first tags hold the next one; the first has the number k.
-abbrev pub ReadsChoice : Form → ℕ → List Part → Reading Tree
-ReadsChoice spelling k [] input t rest = ⊥
-ReadsChoice spelling k (p ∷ ps) input t rest =
-    ((u : Tree) × (t ≡ chosen k u) × (next : Tag) × Next spelling input next × p.IsFirst next × p.reads input u rest)
-    ⊎ ReadsChoice spelling (suc k) ps input t rest
+-- The alternative whose first tags hold the next one; the first has the number k. A CHOICE's are all required; where they are
+-- the parts of a SET, one that has a default isn't its default.
+abbrev pub ReadsChoice : Codec → ℕ → List Part → Reading Tree
+ReadsChoice rule k [] input t rest = ⊥
+ReadsChoice rule k (p ∷ ps) input t rest =
+    ((u : Tree) × (t ≡ chosen k u) × (next : Tag) × Next (form rule) input next × p.IsFirst next × p.reads input u rest × (IsStrict rule → IsNoDefault p.presence u))
+    ⊎ ReadsChoice rule (suc k) ps input t rest
 
 -- The reading of part k is among these, and no other of it.
 abbrev pub NoneOf : ℕ → List Tree → Type 0
@@ -107,18 +108,18 @@ pub record OneOf (k : ℕ) (t : Tree) (readings : List Tree) : Type 0 where
   pub none_before : NoneOf k before
   pub none_after : NoneOf k after
 
--- The readings, in any order, are these by part: none twice, and each required one there.
-abbrev pub ByPart : Codec → ℕ → List Part → List Tree → List Tree → Type 0
-ByPart rule k [] readings ts = ts ≡ []
-ByPart rule k (p ∷ ps) readings ts = (t : Tree) × (us : List Tree) × (ts ≡ t ∷ us)
-    × ((OneOf k t readings × (IsStrict rule → IsNoDefault p.presence t)) ⊎ (NoneOf k readings × IsMissing p.presence t)) × ByPart rule (suc k) ps readings us
+-- The readings, in any order, are these by part: none twice, and each required one there. The first part has the number k.
+abbrev pub ByPart : ℕ → List Presence → List Tree → List Tree → Type 0
+ByPart k [] readings ts = ts ≡ []
+ByPart k (p ∷ ps) readings ts = (t : Tree) × (us : List Tree) × (ts ≡ t ∷ us)
+    × (OneOf k t readings ⊎ (NoneOf k readings × IsMissing p t)) × ByPart (suc k) ps readings us
 
 -- The tags that these begin with don't fall (9.3, 10.3).
 abbrev pub AreInTagOrder : List (List ℕ) → Type 0
 AreInTagOrder bs = (tags : List Tag) × Each Begins bs tags × DoNotFall IsTagBelow tags
 
--- The contents of a SET.
-abbrev pub ReadsSet : Codec → List Part → Bool → Reading Tree
-ReadsSet rule ps closing input t rest = (readings : List Tree) × (ts : List Tree) × (t ≡ items ts)
-    × Many (ReadsChoice (form rule) 0 ps) closing input readings rest × ByPart rule 0 ps readings ts
-    × (IsStrict rule → (bs : List (List ℕ)) × ReadFrom (ReadsChoice (form rule) 0 ps) input readings rest bs × AreInTagOrder bs)
+-- The contents of a SET whose parts have these presences: components, each of which is read as one of the parts.
+abbrev pub ReadsSet : Codec → List Presence → Reading Tree → Bool → Reading Tree
+ReadsSet rule ps reads closing input t rest = (readings : List Tree) × (ts : List Tree) × (t ≡ items ts)
+    × Many reads closing input readings rest × ByPart 0 ps readings ts
+    × (IsStrict rule → (bs : List (List ℕ)) × ReadFrom reads input readings rest bs × AreInTagOrder bs)

@@ -81,9 +81,9 @@ unfoldable pub short_at : List ℕ → Option (ℕ × Fields)
 short_at l = parts_at two_at l
 
 -- What a function answered, seen by view, is what reading gives.
-abbrev pub Gives : {X Y : Type 0} → (X → Y) → Option X → Option Y → Type 0
-Gives view None r = r ≡ None
-Gives view (Some x) r = r ≡ Some (view x)
+abbrev pub Yields : {X Y : Type 0} → (X → Y) → Option X → Option Y → Type 0
+Yields view None r = r ≡ None
+Yields view (Some x) r = r ≡ Some (view x)
 
 unfoldable pub date_at : List ℕ → Option (ℕ × ℕ × ℕ)
 date_at l = do

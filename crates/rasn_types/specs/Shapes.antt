@@ -92,6 +92,10 @@ mutual
     none : Parts
     part : Presence → Shape → Parts → Parts
 
+abbrev pub presences : Parts → List Presence
+presences none = []
+presences (part presence s parts) = presence ∷ presences parts
+
 -- The tag that all values of the shape begin with, where there is one.
 abbrev pub own : Shape → Option Tag
 own (leaf kind tag bounds) = Some tag

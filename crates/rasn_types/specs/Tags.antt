@@ -1,44 +1,51 @@
 -- Tags (X.680 8) and encoding rules.
-use Rattle.std.specs.Prelude.{Bool, true, false, ◌==◌, ◌||◌, ◌&&◌, ◌≡◌, ℕ, ◌<◌, ◌⊎◌}
+use Rattle.std.specs.Prelude.{T, Bool, true, false, ◌==◌, ◌||◌, ◌&&◌, ◌≡◌, ℕ, ◌<◌, ◌⊎◌}
 pub use Rattle.rasn_types.specs.declared.types.rules.Codec.{Codec}
 pub use Rattle.rasn_types.specs.declared.types.rules.Codec.TheVariants.{Ber, Cer, Der}
 pub use Rattle.rasn_types.specs.declared.types.tag.Class.{Class}
 pub use Rattle.rasn_types.specs.declared.types.tag.Class.TheVariants.{Universal, Application, Context, Private}
 pub use Rattle.rasn_types.specs.declared.types.tag.Tag.{Tag}
 
--- How headers are spelled: as the rule does, or as DER does but with spellings of any length.
+-- How headers are spelled: as BER and CER do, as DER does, or as DER does but in any number of octets.
 pub data Form : Type 0 where
-  ber_form cer_form der_form loose_form : Form
+  basic_form der_form loose_form : Form
 
 abbrev pub form : Codec → Form
-form Ber = ber_form
-form Cer = cer_form
+form Ber = basic_form
+form Cer = basic_form
 form Der = der_form
 
 -- Open octets stay lenient under DER.
 abbrev pub loose : Codec → Form
-loose Ber = ber_form
-loose Cer = cer_form
+loose Ber = basic_form
+loose Cer = basic_form
 loose Der = loose_form
 
--- The forms whose spellings are the shortest ones.
+-- The form whose spellings are the shortest ones.
 abbrev pub HasStrictForm : Form → Type 0
-HasStrictForm ber_form = ⊥
-HasStrictForm cer_form = ⊥
+HasStrictForm basic_form = ⊥
 HasStrictForm der_form = Unit {0}
 HasStrictForm loose_form = ⊥
 
--- The rules whose reader takes what their writer gives alone.
+-- Whether the rule is the one whose reader takes what its writer gives alone.
+abbrev pub is_der : Codec → Bool
+is_der Ber = false
+is_der Cer = false
+is_der Der = true
+
 abbrev pub IsStrict : Codec → Type 0
-IsStrict Ber = ⊥
-IsStrict Cer = ⊥
-IsStrict Der = Unit {0}
+IsStrict rule = T (is_der rule)
 
 abbrev pub rank : Class → ℕ
 rank Universal = 0
 rank Application = 1
 rank Context = 2
 rank Private = 3
+
+-- What an identifier tells (X.690 8.1.2): a tag, and whether the encoding is constructed.
+pub record TagAndBit : Type 0 where
+  pub tag : Tag
+  pub bit : Bool
 
 -- The tag of no value, which closes contents of indefinite length.
 abbrev pub eoc : Tag

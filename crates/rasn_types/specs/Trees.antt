@@ -2,9 +2,7 @@
 use Rattle.std.specs.Prelude.{◌≡◌, ◌-◌, ◌^◌, ℕ, Bool, ℤ, pos, neg_ℤ, true, false, List, map, Option, Some, None}
 use Rattle.rasn_types.specs.Framing.{AreOctets}
 use Rattle.rasn_types.specs.Contents.{signed, IsShortestInteger}
-use Rattle.rasn_types.specs.Shapes.{Tree, number, numbers, items, absent, Constraints, Interval, between}
-use Rattle.rasn_types.specs.declared.types.octet.OctetString.{OctetString}
-use Rattle.rasn_types.specs.declared.types.any.Any.{Any}
+use Rattle.rasn_types.specs.Shapes.{Tree, number, items, absent, Constraints, Interval, between}
 
 abbrev pub truth : Bool → ℤ
 truth true = pos 1
@@ -12,20 +10,6 @@ truth false = pos 0
 
 abbrev pub bool_tree : Bool → Tree
 bool_tree b = number (truth b)
-
--- the octets of an OCTET STRING
-abbrev pub octets_of : OctetString → List ℕ
-octets_of s = s.octets.items
-
-abbrev pub octets_tree : OctetString → Tree
-octets_tree s = numbers (octets_of s)
-
--- the octets of a value of an open type
-abbrev pub open_octets : Any → List ℕ
-open_octets a = a.octets.items
-
-abbrev pub open_tree : Any → Tree
-open_tree a = numbers (open_octets a)
 
 abbrev pub unconstrained : Constraints
 unconstrained = record { value = None; size = None }

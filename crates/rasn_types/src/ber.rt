@@ -2,6 +2,7 @@
 
 pub mod gathered;
 mod identifier;
+pub mod rules;
 pub mod time;
 
 pub use identifier::Identifier;

@@ -33,7 +33,7 @@ pub use constraints::{Bound, Bounded, Constraints};
 pub use constructed::Constructed;
 pub use date::Date;
 pub use enumerated::Enumerated;
-pub use fields::{Field, FieldPresence, Fields};
+pub use fields::{Field, FieldPresence, Fields, HasPresence};
 pub use generalized_time::GeneralizedTime;
 pub use identifier::Identifier;
 pub use integer::{Integer, IntegerType};

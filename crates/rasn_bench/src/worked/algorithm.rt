@@ -57,7 +57,7 @@ impl Present for AlgorithmIdentifier {
 }
 
 impl Constructed<2, 0> for AlgorithmIdentifier {
-    ghost use Rattle.std.specs.Prelude.{refl, true};
+    ghost use Rattle.std.specs.Prelude.{refl, true, false};
     ghost use Rattle.rasn_bench.specs.Algorithms.{algorithm_parts};
 
     const FIELDS: Fields<2> = Fields {
@@ -78,6 +78,10 @@ impl Constructed<2, 0> for AlgorithmIdentifier {
     };
 
     const EXTENDED_FIELDS: Option<Fields<0>> = None;
+
+    ghost IS_EXTENSIBLE = { false };
+
+    const IS_EXTENSIBLE: bool = false;
 
     ghost HAS_REQUIRED_FIELDS = { true };
 

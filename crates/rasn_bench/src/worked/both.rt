@@ -59,7 +59,7 @@ impl<A: AsnType, B: AsnType> Present for Both<A, B> {
 }
 
 impl<A: AsnType, B: AsnType> Constructed<2, 0> for Both<A, B> {
-    ghost use Rattle.std.specs.Prelude.{refl, true};
+    ghost use Rattle.std.specs.Prelude.{refl, true, false};
     ghost use Rattle.rasn_types.specs.Shapes.{part, required};
     ghost use Rattle.rasn_types.specs.Shapes.Parts.{none};
 
@@ -81,6 +81,10 @@ impl<A: AsnType, B: AsnType> Constructed<2, 0> for Both<A, B> {
     };
 
     const EXTENDED_FIELDS: Option<Fields<0>> = None;
+
+    ghost IS_EXTENSIBLE = { false };
+
+    const IS_EXTENSIBLE: bool = false;
 
     ghost HAS_REQUIRED_FIELDS = { true };
 

@@ -91,6 +91,10 @@ impl Constructed<1, 2> for Grouped {
         ],
     });
 
+    ghost IS_EXTENSIBLE = { true };
+
+    const IS_EXTENSIBLE: bool = true;
+
     ghost HAS_REQUIRED_FIELDS = { true };
 
     const HAS_REQUIRED_FIELDS: bool = true;

@@ -56,7 +56,7 @@ impl Present for Pair {
 }
 
 impl Constructed<2, 0> for Pair {
-    ghost use Rattle.std.specs.Prelude.{refl, true};
+    ghost use Rattle.std.specs.Prelude.{refl, true, false};
     ghost use Rattle.rasn_bench.specs.Pairs.{pair_parts};
 
     const FIELDS: Fields<2> = Fields {
@@ -77,6 +77,10 @@ impl Constructed<2, 0> for Pair {
     };
 
     const EXTENDED_FIELDS: Option<Fields<0>> = None;
+
+    ghost IS_EXTENSIBLE = { false };
+
+    const IS_EXTENSIBLE: bool = false;
 
     ghost HAS_REQUIRED_FIELDS = { true };
 

@@ -73,7 +73,7 @@ impl Present for Set3 {
 }
 
 impl Constructed<3, 0> for Set3 {
-    ghost use Rattle.std.specs.Prelude.{refl, true};
+    ghost use Rattle.std.specs.Prelude.{refl, true, false};
     ghost use Rattle.rasn_bench.specs.Set3s.{set3_parts};
 
     const FIELDS: Fields<3> = Fields {
@@ -100,6 +100,10 @@ impl Constructed<3, 0> for Set3 {
     };
 
     const EXTENDED_FIELDS: Option<Fields<0>> = None;
+
+    ghost IS_EXTENSIBLE = { false };
+
+    const IS_EXTENSIBLE: bool = false;
 
     ghost HAS_REQUIRED_FIELDS = { true };
 
@@ -177,7 +181,7 @@ impl DecodeChoice for Component {
 
 /// The value of these components, each of which has to come once.
 fn gather(alloc: Global, codec: Codec, components: Vec<Component>) -> Result<Set3, DecodeError>
-    ensures { MakesSet codec set3_parts set3_tree (map component_tree components.items) result }
+    ensures { MakesSet set3_parts set3_tree (map component_tree components.items) result }
 {
     let mut zero = None;
     let mut one = None;
@@ -228,7 +232,7 @@ impl Decode for Set3 {
                 DecodeError,
             > { Component::decode(decoder) },
             |components: Vec<Component>| -> Result<Set3, DecodeError>
-                ensures { MakesSet codec set3_parts set3_tree (map component_tree components.items) result }
+                ensures { MakesSet set3_parts set3_tree (map component_tree components.items) result }
             { gather(alloc, codec, components) },
         )
     }

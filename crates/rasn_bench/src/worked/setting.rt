@@ -41,7 +41,7 @@ impl AsnType for Setting {
 }
 
 impl Constructed<2, 0> for Setting {
-    ghost use Rattle.std.specs.Prelude.{refl, true};
+    ghost use Rattle.std.specs.Prelude.{refl, true, false};
     ghost use Rattle.rasn_bench.specs.Settings.{setting_parts};
 
     const FIELDS: Fields<2> = Fields {
@@ -62,6 +62,10 @@ impl Constructed<2, 0> for Setting {
     };
 
     const EXTENDED_FIELDS: Option<Fields<0>> = None;
+
+    ghost IS_EXTENSIBLE = { false };
+
+    const IS_EXTENSIBLE: bool = false;
 
     ghost HAS_REQUIRED_FIELDS = { true };
 

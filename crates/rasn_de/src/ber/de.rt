@@ -182,17 +182,18 @@ impl<'input> Decoder<'input> {
     /// The tag of the next value, which stays where it is.
     ///
     /// # Errors
-    /// Where no value's identifier comes next (X.690 8.1.2): `Incomplete`, `UnsupportedTagNumber` or `UnexpectedEndOfContents`,
-    /// under DER also `NonMinimalTagNumber`.
+    /// Where no value's identifier comes next (X.690 8.1.2): `Incomplete` or `UnsupportedTagNumber`, octet by octet, then
+    /// `UnexpectedEndOfContents`, and under DER then `NonMinimalTagNumber`.
     pub fn peek_tag(&self) -> Result<Tag, DecodeError>
         ensures next { MatchResult result (λ t. Next (form self.now.rule) self.now.rest t) (λ _. (t : Tag) → Next (form self.now.rule) self.now.rest t → ⊥) }
         ensures refused { Peeks self.now result }
         ensures memory { IfErr result (λ e. IsOutOfMemory e.kind → ⊥) }
     {
-        match read_identifier(Spelling::of_rule(self.rules).shortest, self.rest) {
-            Ok((found, _)) => Ok(found.tag),
-            Err(fault) => Err(self.error(fault)),
-        }
+        let (found, _) = match read_identifier(Spelling::of_rule(self.rules).shortest, self.rest) {
+            Ok(found) => found,
+            Err(fault) => return Err(self.error(fault)),
+        };
+        Ok(found.tag)
     }
 
     /// The error of a fault, under the decoder's rules.

@@ -1,4 +1,8 @@
 //! Reading of character strings, and of OCTET STRING of a fixed size.
+ghost use Rattle.rasn_types.specs.Shapes.{leaf, fixed, numbers};
+ghost use Rattle.rasn_de.specs.Decodes.{Decodes};
+ghost use Rattle.rasn_de.specs.Texts.{ByLength, GaveString};
+
 use crate::ber::de::Decoder;
 use crate::de::Decode;
 use rasn_types::error::DecodeError;
@@ -41,7 +45,10 @@ impl<const N: usize> Decode for FixedOctetString<N> {
         decoder: &mut Decoder<'_>,
         tag: Tag,
         constraints: &Constraints,
-    ) -> Result<FixedOctetString<N>, DecodeError> {
+    ) -> Result<FixedOctetString<N>, DecodeError>
+        ensures reads { Decodes (leaf (fixed N) tag constraints.now) numbers decoder.old result decoder.new }
+        ensures refused { GaveString (λ s. s) (ByLength N constraints.now.size) tag decoder.old result decoder.new }
+    {
         decoder.decode_fixed_octet_string(tag, constraints)
     }
 }

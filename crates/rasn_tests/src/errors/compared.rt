@@ -2,7 +2,7 @@ use crate::reading::{decoder_of, facts};
 use crate::writing::made;
 use rasn_de::de::Decode;
 use rasn_types::error::{DecodeError, DecodeErrorKind, Needed};
-use rasn_types::types::{BitStr, Codec, Constraints, Integer, ObjectIdentifier};
+use rasn_types::types::{Any, BitStr, Codec, Constraints, Integer, ObjectIdentifier, OctetString};
 use std::alloc::Global;
 use std::process::Abort;
 
@@ -107,4 +107,49 @@ fn compares_errors(rt: HostRuntime) {
 #[test]
 fn has_defaults(rt: HostRuntime) {
     assert!(rt; Constraints::default() == Constraints::NONE);
+}
+
+fn string(rt: &impl Abort, alloc: Global, octets: &[u8]) -> OctetString {
+    match Vec::from_slice(alloc, octets) {
+        Ok(octets) => OctetString::from_vec(octets),
+        Err(_) => panic!(rt; "no memory"),
+    }
+}
+
+/// Octets from the least on: by the first that differ; those that others begin with come first.
+const STRINGS: &[&[u8]] = &[&[], &[0x00], &[0x01, 0xFF], &[0x02], &[0x02, 0x00], &[0xFF]];
+
+#[test]
+fn orders_octets(rt: HostRuntime) {
+    let alloc = rt.alloc();
+    for (place, octets) in STRINGS.iter().enumerate() {
+        let one = string(&rt, alloc, octets);
+        assert!(rt; one == string(&rt, alloc, octets));
+        for others in &STRINGS[place + 1..] {
+            let other = string(&rt, alloc, others);
+            facts(&rt, &[one < other, other > one, one != other]);
+        }
+    }
+}
+
+fn open(rt: &impl Abort, alloc: Global, octets: &[u8]) -> Any {
+    match Vec::from_slice(alloc, octets) {
+        Ok(octets) => Any::new(octets),
+        Err(_) => panic!(rt; "no memory"),
+    }
+}
+
+// Two open values are one exactly if their octets are, however these are to be read: 05 00 and 05 81 00 are both NULL.
+#[test]
+fn compares_open_values(rt: HostRuntime) {
+    let alloc = rt.alloc();
+    let null = open(&rt, alloc, &[0x05, 0x00]);
+    facts(
+        &rt,
+        &[
+            null == open(&rt, alloc, &[0x05, 0x00]),
+            null != open(&rt, alloc, &[0x05, 0x81, 0x00]),
+            null != open(&rt, alloc, &[0x01, 0x00]),
+        ],
+    );
 }

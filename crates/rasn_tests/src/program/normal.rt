@@ -1,6 +1,7 @@
 use crate::reading::debug_text;
 use rasn::de::Decode;
 use rasn::enc::Encode;
+use rasn::error::{DecodeError, DecodeErrorKind};
 use rasn::types::{Codec, LawfulEq, OctetString, SetOf, UtcTime};
 use rasn_bench::{Foo, NormaliseError, RunFault, normalise, run_normalise};
 use std::alloc::Global;
@@ -183,4 +184,26 @@ fn what_is_read_back_otherwise_is_refused(rt: HostRuntime) {
         rt.alloc(),
         &[(b"\x17\x11691231235900-0100", Codec::Ber, "NotCanonical")],
     );
+}
+
+/// Whether the octets are refused for this cause.
+fn is_refused_for(alloc: Global, octets: &[u8], rule: Codec, cause: &NormaliseError) -> bool {
+    match normalise::<bool>(alloc, rule, octets) {
+        Ok(_) => false,
+        Err(error) => error == *cause,
+    }
+}
+
+// Causes are equal where they tell the same, with the same rules.
+#[test]
+fn causes_are_compared(rt: HostRuntime) {
+    let cause = NormaliseError::Decode(DecodeError {
+        kind: DecodeErrorKind::UnexpectedExtraData { length: 1 },
+        codec: Codec::Cer,
+    });
+    let alloc = rt.alloc();
+    assert!(rt; is_refused_for(alloc, &[0x01, 0x01, 0xFF, 0x00], Codec::Cer, &cause));
+    assert!(rt; !is_refused_for(alloc, &[0x01, 0x01, 0xFF, 0x00], Codec::Der, &cause));
+    assert!(rt; !is_refused_for(alloc, &[0x01, 0x01, 0xFF, 0x00, 0x00], Codec::Der, &cause));
+    assert!(rt; cause != NormaliseError::NotCanonical);
 }

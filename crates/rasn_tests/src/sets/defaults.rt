@@ -1,66 +1,174 @@
-use crate::reading::{decoder_of, told};
-use crate::types::ContextTag;
-use rasn::ber::de::Decoder;
-use rasn::de::Decode;
-use rasn::error::{CodecDecodeError, DecodeError, DecodeErrorKind, DerDecodeErrorKind};
-use rasn::types::{Codec, Implicit, Tag};
-use rasn_bench::Set3;
+use crate::reading::{Row, facts, reads, value};
+use crate::whole::{Rewritten, decoded, rewrites};
+use rasn::types::Codec;
+use rasn_bench::Event;
 
-/// \[0\] INTEGER (0..255)
-type Zero = Implicit<ContextTag<0>, u8>;
+const DEFAULT_PRESENT: &str = "CodecSpecific { inner: Der(DefaultValuePresent) }";
 
-/// The number of a SET { \[0\] INTEGER (0..255) DEFAULT 7 }. What is gathered is a CHOICE, which has no defaults, so the function
-/// that makes the value refuses one that is there under DER (X.690 11.5).
-fn number_of(rules: Codec, components: &[Zero]) -> Result<u8, DecodeError> {
-    let [zero, ..] = components else {
-        return Ok(7);
-    };
-    let number: u8 = **zero;
-    if number == 7 && rules == Codec::Der {
-        let inner = CodecDecodeError::Der(DerDecodeErrorKind::DefaultValuePresent);
-        return Err(DecodeError {
-            kind: DecodeErrorKind::CodecSpecific { inner },
-            codec: rules,
-        });
-    }
-    Ok(number)
+const OUT_OF_ORDER: &str = "CodecSpecific { inner: Der(SetComponentsOutOfOrder) }";
+
+/// A UTCTime alone, with the level that is meant where none is written.
+const USUAL: &[u8] = &[
+    0x31, 0x0F, 0x17, 0x0D, 0x39, 0x39, 0x31, 0x32, 0x33, 0x31, 0x32, 0x33, 0x35, 0x39, 0x35, 0x39,
+    0x5A,
+];
+
+/// The same, and that it is confirmed.
+const CONFIRMED: &[u8] = &[
+    0x31, 0x12, 0x17, 0x0D, 0x39, 0x39, 0x31, 0x32, 0x33, 0x31, 0x32, 0x33, 0x35, 0x39, 0x35, 0x39,
+    0x5A, 0x81, 0x01, 0xFF,
+];
+
+/// The level of 7 is written, which is the default.
+const SEVEN: &[u8] = &[
+    0x31, 0x12, 0x17, 0x0D, 0x39, 0x39, 0x31, 0x32, 0x33, 0x31, 0x32, 0x33, 0x35, 0x39, 0x35, 0x39,
+    0x5A, 0x80, 0x01, 0x07,
+];
+
+/// The same, behind the other components; the BOOLEAN's octet is another than FF.
+const LAST_SEVEN: &[u8] = &[
+    0x31, 0x15, 0x81, 0x01, 0x05, 0x17, 0x0D, 0x39, 0x39, 0x31, 0x32, 0x33, 0x31, 0x32, 0x33, 0x35,
+    0x39, 0x35, 0x39, 0x5A, 0x80, 0x01, 0x07,
+];
+
+/// A GeneralizedTime and a level of 8.
+const GENERAL: &[u8] = &[
+    0x31, 0x14, 0x18, 0x0F, 0x31, 0x39, 0x39, 0x39, 0x31, 0x32, 0x33, 0x31, 0x32, 0x33, 0x35, 0x39,
+    0x35, 0x39, 0x5A, 0x80, 0x01, 0x08,
+];
+
+/// The same out of order.
+const GENERAL_LAST: &[u8] = &[
+    0x31, 0x14, 0x80, 0x01, 0x08, 0x18, 0x0F, 0x31, 0x39, 0x39, 0x39, 0x31, 0x32, 0x33, 0x31, 0x32,
+    0x33, 0x35, 0x39, 0x35, 0x39, 0x5A,
+];
+
+/// The same in the form that CER writes.
+const GENERAL_INDEFINITE: &[u8] = &[
+    0x31, 0x80, 0x18, 0x0F, 0x31, 0x39, 0x39, 0x39, 0x31, 0x32, 0x33, 0x31, 0x32, 0x33, 0x35, 0x39,
+    0x35, 0x39, 0x5A, 0x80, 0x01, 0x08, 0x00, 0x00,
+];
+
+const REWRITTEN: [Rewritten<'static>; 9] = [
+    (USUAL, Codec::Der, Codec::Der, USUAL),
+    (CONFIRMED, Codec::Der, Codec::Der, CONFIRMED),
+    (GENERAL, Codec::Der, Codec::Der, GENERAL),
+    (SEVEN, Codec::Ber, Codec::Der, USUAL),
+    (SEVEN, Codec::Cer, Codec::Ber, USUAL),
+    (LAST_SEVEN, Codec::Ber, Codec::Der, CONFIRMED),
+    (GENERAL_LAST, Codec::Ber, Codec::Der, GENERAL),
+    (GENERAL, Codec::Ber, Codec::Cer, GENERAL_INDEFINITE),
+    (GENERAL_INDEFINITE, Codec::Cer, Codec::Der, GENERAL),
+];
+
+// Components are read in any order (X.690 8.11.2) and written in that of their tags (9.3, 10.3), the default is left out (11.5).
+#[test]
+fn rewrites_sets_with_defaults(rt: HostRuntime) {
+    let alloc = rt.alloc();
+    rewrites::<Event>(&rt, alloc, &REWRITTEN);
+    let usual = value(&rt, decoded::<Event>(alloc, Codec::Der, USUAL));
+    let read = value(&rt, decoded::<Event>(alloc, Codec::Ber, LAST_SEVEN));
+    let other = value(&rt, decoded::<Event>(alloc, Codec::Der, GENERAL));
+    facts(
+        &rt,
+        &[
+            usual.level == 7 && usual.confirmed.is_none(),
+            read.level == 7 && read.confirmed == Some(true),
+            other.level == 8 && other.confirmed.is_none(),
+            read.time == usual.time,
+        ],
+    );
 }
 
-fn read_number(decoder: &mut Decoder<'_>) -> Result<Set3, DecodeError> {
-    let rules = decoder.codec();
-    decoder.decode_set::<3, 0, Zero, Set3, _, _>(
-        Tag::SET,
-        |inner: &mut Decoder<'_>, _index: usize, _tag: Tag| -> Result<Zero, DecodeError> {
-            Zero::decode(inner)
-        },
-        |components: Vec<Zero>| -> Result<Set3, DecodeError> {
-            let zero = number_of(rules, &components)?;
-            Ok(Set3 {
-                zero,
-                one: 0,
-                two: 0,
-            })
-        },
-    )
-}
+const PRESENT: [Row; 7] = [
+    (SEVEN, Codec::Der, DEFAULT_PRESENT, 20),
+    (
+        &[0x31, 0x03, 0x80, 0x01, 0x07],
+        Codec::Der,
+        DEFAULT_PRESENT,
+        5,
+    ),
+    // The default is told at its component, before a fault of a later one and before one that doesn't come.
+    (
+        &[0x31, 0x06, 0x80, 0x01, 0x07, 0x81, 0x01, 0x05],
+        Codec::Der,
+        DEFAULT_PRESENT,
+        8,
+    ),
+    (
+        &[0x31, 0x06, 0x80, 0x01, 0x08, 0x81, 0x01, 0x05],
+        Codec::Der,
+        "InvalidBool { value: 5 }",
+        8,
+    ),
+    (
+        &[0x31, 0x06, 0x80, 0x01, 0x07, 0x81, 0x01, 0x05],
+        Codec::Ber,
+        "MissingField { name: \"time\" }",
+        8,
+    ),
+    // It comes behind the order of the tags, and behind what is wrong with the component itself.
+    (
+        &[0x31, 0x06, 0x81, 0x01, 0xFF, 0x80, 0x01, 0x07],
+        Codec::Der,
+        OUT_OF_ORDER,
+        8,
+    ),
+    (
+        &[0x31, 0x04, 0x80, 0x02, 0x01, 0x07],
+        Codec::Der,
+        "IntegerOverflow { max_width: 8 }",
+        6,
+    ),
+];
 
-// A default that is there is read by BER and CER; DER refuses it, with the SET taken (X.690 11.5).
+// A default that is there is refused by DER alone (X.690 11.5).
 #[test]
 fn refuses_defaults_in_sets(rt: HostRuntime) {
-    const PRESENT: &str = "CodecSpecific { inner: Der(DefaultValuePresent) }";
-    const SEVEN: &str = "Set3 { zero: 7, one: 0, two: 0 }";
-    const THERE: &[u8] = &[0x31, 0x03, 0x80, 0x01, 0x07];
-    const OTHER: &[u8] = &[0x31, 0x03, 0x80, 0x01, 0x08];
-    let alloc = rt.alloc();
-    for (octets, rules, text) in [
-        (THERE, Codec::Der, PRESENT),
-        (THERE, Codec::Ber, SEVEN),
-        (THERE, Codec::Cer, SEVEN),
-        (&[0x31, 0x00], Codec::Der, SEVEN),
-        (OTHER, Codec::Der, "Set3 { zero: 8, one: 0, two: 0 }"),
-    ] {
-        let mut decoder = decoder_of(alloc, octets, rules);
-        told(&rt, alloc, rules, read_number(&mut decoder), text);
-        assert!(rt; decoder.decoded_len() == octets.len(), "{octets:?}");
-    }
+    reads::<Event>(&rt, rt.alloc(), &PRESENT);
+}
+
+const NOT_GATHERED: [Row; 6] = [
+    (GENERAL_LAST, Codec::Der, OUT_OF_ORDER, 22),
+    (
+        &[0x31, 0x06, 0x80, 0x01, 0x08, 0x80, 0x01, 0x08],
+        Codec::Der,
+        "DuplicateField { name: \"level\" }",
+        8,
+    ),
+    // Both alternatives of the CHOICE are the one part.
+    (
+        &[
+            0x31, 0x20, 0x17, 0x0D, 0x39, 0x39, 0x31, 0x32, 0x33, 0x31, 0x32, 0x33, 0x35, 0x39,
+            0x35, 0x39, 0x5A, 0x18, 0x0F, 0x31, 0x39, 0x39, 0x39, 0x31, 0x32, 0x33, 0x31, 0x32,
+            0x33, 0x35, 0x39, 0x35, 0x39, 0x5A,
+        ],
+        Codec::Der,
+        "DuplicateField { name: \"time\" }",
+        34,
+    ),
+    (
+        &[0x31, 0x06, 0x81, 0x01, 0xFF, 0x81, 0x01, 0xFF],
+        Codec::Cer,
+        "DuplicateField { name: \"confirmed\" }",
+        8,
+    ),
+    (
+        &[0x31, 0x00],
+        Codec::Der,
+        "MissingField { name: \"time\" }",
+        2,
+    ),
+    (
+        &[0x31, 0x03, 0x82, 0x01, 0x08],
+        Codec::Ber,
+        "NoValidChoice { name: \"Event\" }",
+        5,
+    ),
+];
+
+// No component may come twice, a required one has to come, and no other may (X.680 27).
+#[test]
+fn refuses_events_that_are_none(rt: HostRuntime) {
+    reads::<Event>(&rt, rt.alloc(), &NOT_GATHERED);
 }

@@ -1,6 +1,6 @@
 //! Identifiers and lengths have one form. A refusal takes nothing.
 
-use crate::reading::{looks, reads};
+use crate::reading::{Row, looks, reads};
 use rasn_bench::Pair;
 use rasn_types::types::{Codec, OctetString};
 
@@ -25,6 +25,74 @@ fn tag_numbers_are_short(rt: HostRuntime) {
             (PADDED, Codec::Ber, "true", 5),
             (PADDED, Codec::Cer, "true", 5),
             (PADDED, Codec::Der, LONG_TAG, 0),
+        ],
+    );
+}
+
+const MISSING: &str = "Incomplete { needed: Size(1) }";
+
+const WIDE: &str = "CodecSpecific { inner: Ber(UnsupportedTagNumber) }";
+
+const END: &str = "CodecSpecific { inner: Ber(UnexpectedEndOfContents) }";
+
+// Of a number with a leading octet 80, a missing octet and a width are told first, and that it is universal 0 (X.690 8.1.2.4).
+const PADDED_FAULTS: [Row; 15] = [
+    (&[0x1F, 0x80], Codec::Ber, MISSING, 0),
+    (&[0x1F, 0x80], Codec::Cer, MISSING, 0),
+    (&[0x1F, 0x80], Codec::Der, MISSING, 0),
+    (&[0x1F, 0x80, 0x80], Codec::Ber, MISSING, 0),
+    (&[0x1F, 0x80, 0x80], Codec::Cer, MISSING, 0),
+    (&[0x1F, 0x80, 0x80], Codec::Der, MISSING, 0),
+    (
+        &[0x1F, 0x80, 0x90, 0x80, 0x80, 0x80, 0x00],
+        Codec::Ber,
+        WIDE,
+        0,
+    ),
+    (
+        &[0x1F, 0x80, 0x90, 0x80, 0x80, 0x80, 0x00],
+        Codec::Cer,
+        WIDE,
+        0,
+    ),
+    (
+        &[0x1F, 0x80, 0x90, 0x80, 0x80, 0x80, 0x00],
+        Codec::Der,
+        WIDE,
+        0,
+    ),
+    (&[0x1F, 0x80, 0x00], Codec::Ber, END, 0),
+    (&[0x1F, 0x80, 0x00], Codec::Cer, END, 0),
+    (&[0x1F, 0x80, 0x00], Codec::Der, END, 0),
+    (&[0x1F, 0x80, 0x01], Codec::Ber, MISSING, 0),
+    (&[0x1F, 0x80, 0x01], Codec::Cer, MISSING, 0),
+    (&[0x1F, 0x80, 0x01], Codec::Der, LONG_TAG, 0),
+];
+
+#[test]
+fn padded_tag_numbers_have_other_faults_first(rt: HostRuntime) {
+    reads::<bool>(&rt, rt.alloc(), &PADDED_FAULTS);
+}
+
+// The same where a tag is looked at.
+#[test]
+fn padded_tags_that_are_looked_at(rt: HostRuntime) {
+    const FOUND: &str = "Tag { class: Universal, value: 1 }";
+    looks(
+        &rt,
+        rt.alloc(),
+        &[
+            (&[0x1F, 0x80], Codec::Der, MISSING),
+            (&[0x1F, 0x80, 0x80], Codec::Der, MISSING),
+            (
+                &[0x1F, 0x80, 0x90, 0x80, 0x80, 0x80, 0x00],
+                Codec::Der,
+                WIDE,
+            ),
+            (&[0x1F, 0x80, 0x00], Codec::Der, END),
+            (&[0x1F, 0x80, 0x01], Codec::Ber, FOUND),
+            (&[0x1F, 0x80, 0x01], Codec::Cer, FOUND),
+            (&[0x1F, 0x80, 0x01], Codec::Der, LONG_TAG),
         ],
     );
 }

@@ -62,6 +62,10 @@ impl Constructed<1, 0> for Counted {
 
     const EXTENDED_FIELDS: Option<Fields<0>> = None;
 
+    ghost IS_EXTENSIBLE = { false };
+
+    const IS_EXTENSIBLE: bool = false;
+
     ghost HAS_REQUIRED_FIELDS = { false };
 
     const HAS_REQUIRED_FIELDS: bool = false;

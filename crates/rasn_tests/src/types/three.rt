@@ -98,7 +98,7 @@ impl<A: AsnType, B: AsnType, C: AsnType> AsnType for Three<A, B, C> {
 }
 
 impl<A: AsnType, B: AsnType, C: AsnType> Constructed<3, 0> for Three<A, B, C> {
-    ghost use Rattle.std.specs.Prelude.{refl, true};
+    ghost use Rattle.std.specs.Prelude.{refl, true, false};
     ghost use Rattle.rasn_types.specs.Shapes.{part, required};
     ghost use Rattle.rasn_types.specs.Shapes.Parts.{none};
 
@@ -126,6 +126,10 @@ impl<A: AsnType, B: AsnType, C: AsnType> Constructed<3, 0> for Three<A, B, C> {
     };
 
     const EXTENDED_FIELDS: Option<Fields<0>> = None;
+
+    ghost IS_EXTENSIBLE = { false };
+
+    const IS_EXTENSIBLE: bool = false;
 
     ghost HAS_REQUIRED_FIELDS = { true };
 

@@ -1,8 +1,8 @@
 //! Identifier octets as a value (X.690 8.1.2).
 ghost use Rattle.std.specs.Prelude.{◌≡◌, not};
-ghost use Rattle.rasn_types.specs.Numbered.{identifier_of, constructed_bit};
 
 use crate::types::{Class, Tag};
+use std::marker::Model;
 use std::ops::Deref;
 
 /// A tag and whether the encoding is constructed, ordered by the tag and then primitive before constructed.
@@ -12,17 +12,27 @@ pub struct Identifier {
     is_constructed: bool,
 }
 
+impl Model for Identifier {
+    ghost use Rattle.rasn_types.specs.Tags.{TagAndBit};
+
+    ghost Value = { TagAndBit };
+
+    ghost view = { λ i. record { tag = i.tag; bit = i.is_constructed } };
+
+    ghost inverse = { λ i. record { tag = i.tag; is_constructed = i.bit } };
+}
+
 impl Identifier {
     /// The identifier of a class, a bit and a tag number.
     pub fn new(class: Class, is_constructed: bool, tag: u32) -> Identifier
-        ensures { result ≡ identifier_of (record { class = class; value = tag }) is_constructed }
+        ensures { result ≡ record { tag = record { class = class; value = tag }; bit = is_constructed } }
     {
         Identifier::from_tag(Tag::new(class, tag), is_constructed)
     }
 
     /// The identifier of a tag and a bit.
     pub fn from_tag(tag: Tag, is_constructed: bool) -> Identifier
-        ensures { result ≡ identifier_of tag is_constructed }
+        ensures { result ≡ record { tag = tag; bit = is_constructed } }
     {
         Identifier {
             tag,
@@ -32,7 +42,7 @@ impl Identifier {
 
     /// The same class and bit with another tag number.
     pub fn tag(self, tag: u32) -> Identifier
-        ensures { result ≡ identifier_of (record { class = self.tag.class; value = tag }) (constructed_bit self) }
+        ensures { result ≡ record { tag = record { class = self.tag.class; value = tag }; bit = self.bit } }
     {
         Identifier {
             tag: self.tag.set_value(tag),
@@ -42,14 +52,14 @@ impl Identifier {
 
     /// Whether the encoding is constructed.
     pub fn is_constructed(&self) -> bool
-        ensures { result ≡ constructed_bit self.now }
+        ensures { result ≡ self.now.bit }
     {
         self.is_constructed
     }
 
     /// Whether the encoding is primitive.
     pub fn is_primitive(&self) -> bool
-        ensures { result ≡ not (constructed_bit self.now) }
+        ensures { result ≡ not self.now.bit }
     {
         !self.is_constructed
     }

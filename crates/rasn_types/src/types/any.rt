@@ -1,37 +1,65 @@
 //! Open types.
 ghost use Rattle.std.specs.Prelude.{◌≡◌};
-ghost use Rattle.rasn_types.specs.Trees.{open_octets};
 
 use crate::types::{AsnType, Constraints, LawfulEq, Present, Tag};
+use std::marker::Model;
 
 /// A value of a type that isn't known here, kept as its octets (X.680 30): one whole encoding, or, under a tag of its own, what
-/// stands inside the value with this tag.
-#[derive(Debug, PartialEq, Eq, Drop)]
+/// stands inside the value with this tag. To contracts it is the list of its octets.
+#[derive(Debug, Drop)]
 pub struct Any {
     octets: Vec<u8>,
+}
+
+impl Model for Any {
+    ghost use Rattle.std.specs.Prelude.{List, ℕ};
+
+    ghost Value = { List ℕ };
+
+    ghost view = { λ a. a.octets.items };
 }
 
 impl Any {
     /// The value with these octets.
     pub fn new(octets: Vec<u8>) -> Any
-        ensures { open_octets result ≡ octets.items }
+        ensures { result ≡ octets.items }
     {
         Any { octets }
     }
 
     /// Its octets.
     pub fn as_bytes(&self) -> &[u8]
-        ensures { result.now ≡ open_octets self.now }
+        ensures { result.now ≡ self.now }
     {
         &self.octets
     }
 }
 
+impl PartialEq for Any {
+    ghost use Rattle.std.specs.Prelude.{nat_eq};
+    ghost use Rattle.std.specs.Cmp.{partial_equiv_from_equiv};
+    ghost use Rattle.std.specs.Cmp.Lexicographic.{pointwise, nat_list_eq_equiv};
+
+    ghost eq = { pointwise nat_eq };
+
+    ghost laws = { partial_equiv_from_equiv nat_list_eq_equiv };
+
+    fn eq(&self, other: &Any) -> bool {
+        self.octets == other.octets
+    }
+}
+
+impl Eq for Any {
+    ghost use Rattle.std.specs.Cmp.Lexicographic.{nat_list_eq_equiv};
+
+    ghost laws = { nat_list_eq_equiv };
+}
+
 impl AsnType for Any {
     ghost use Rattle.std.specs.Prelude.{refl, None};
-    ghost use Rattle.rasn_types.specs.Shapes.{any};
+    ghost use Rattle.rasn_types.specs.Shapes.{any, numbers};
     ghost use Rattle.rasn_types.specs.Tags.{eoc};
-    ghost use Rattle.rasn_types.specs.Trees.{open_tree, unconstrained};
+    ghost use Rattle.rasn_types.specs.Trees.{unconstrained};
 
     ghost TAG = { eoc };
 
@@ -43,7 +71,7 @@ impl AsnType for Any {
 
     ghost shape = { any None };
 
-    ghost tree = { open_tree };
+    ghost tree = { numbers };
 
     ghost own = { refl };
 }
@@ -51,11 +79,11 @@ impl AsnType for Any {
 impl LawfulEq for Any {
     ghost use Rattle.rasn_types.specs.Equality.{octets_told};
 
-    ghost decides = { λ s t. octets_told s.octets.items t.octets.items };
+    ghost decides = { octets_told };
 }
 
 impl Present for Any {
     ghost use Rattle.rasn_types.specs.Equality.{numbers_there};
 
-    ghost present = { λ s. numbers_there s.octets.items };
+    ghost present = { numbers_there };
 }

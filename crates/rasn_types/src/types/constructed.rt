@@ -13,6 +13,11 @@ pub trait Constructed<const RC: usize, const EC: usize>: AsnType {
     /// The fields behind the extension marker, where there is one.
     const EXTENDED_FIELDS: Option<Fields<EC>>;
 
+    ghost IS_EXTENSIBLE: { Bool };
+
+    /// Whether there is an extension marker: whether `EXTENDED_FIELDS` is `Some`. Where there is none, an initializer reads a type without fields.
+    const IS_EXTENSIBLE: bool;
+
     ghost HAS_REQUIRED_FIELDS: { Bool };
 
     /// Whether some root field has to come. Where none has to, an initializer reads empty contents.
@@ -20,6 +25,7 @@ pub trait Constructed<const RC: usize, const EC: usize>: AsnType {
 
     ghost parts: { Parts };
 
-    /// The constant is that of the parts, and there are as many parts as fields, those of the root and those behind the marker together.
-    ghost described: { describes RC EC HAS_REQUIRED_FIELDS parts ≡ true };
+    /// Whether a field has to come is told of the parts, there are as many parts as fields, those of the root and those behind the marker together,
+    /// and a type with fields behind a marker has one.
+    ghost described: { describes RC EC IS_EXTENSIBLE HAS_REQUIRED_FIELDS parts ≡ true };
 }

@@ -1,5 +1,6 @@
 //! The fields of constructed types.
-ghost use Rattle.std.specs.Prelude.{◌≡◌};
+ghost use Rattle.std.specs.Prelude.{◌≡◌, IsTrue, ◌↔◌, count_by};
+ghost use Rattle.rasn_types.specs.Described.{is_optional_or_default};
 ghost use Rattle.rasn_types.specs.declared.types.fields.FieldPresence.TheVariants.{Required, Optional, Default};
 
 use crate::types::Tag;
@@ -59,8 +60,67 @@ impl Field {
     }
 }
 
+/// What has a presence: a field.
+pub trait HasPresence {
+    ghost use Rattle.std.specs.Prelude.{◌≡◌};
+    ghost use Rattle.rasn_types.specs.declared.types.fields.FieldPresence.{FieldPresence};
+
+    ghost presence_of: { Self → FieldPresence };
+
+    /// Whether it has to come.
+    fn presence(&self) -> FieldPresence
+        ensures { result ≡ presence_of self.now };
+}
+
+impl HasPresence for Field {
+    ghost presence_of = { λ field. field.presence };
+
+    fn presence(&self) -> FieldPresence {
+        self.presence
+    }
+}
+
 /// The fields of a constructed type, in their order.
-#[derive(Clone, Copy)]
-pub struct Fields<const N: usize> {
-    pub fields: [Field; N],
+#[derive(Clone, Copy, Debug)]
+pub struct Fields<const N: usize, F = Field> {
+    pub fields: [F; N],
+}
+
+impl<const N: usize, F: HasPresence + Copy> Fields<N, F> {
+    /// These fields.
+    pub const fn from_static(fields: [F; N]) -> Fields<N, F>
+        ensures { result.fields ≡ fields }
+    {
+        Fields { fields }
+    }
+
+    /// How many there are.
+    pub const fn len(&self) -> usize
+        ensures { result ≡ N }
+    {
+        N
+    }
+
+    /// Whether there are none.
+    pub const fn is_empty(&self) -> bool
+        ensures { IsTrue result ↔ (N ≡ 0) }
+    {
+        N == 0
+    }
+
+    /// How many of them may be left out.
+    pub fn number_of_optional_and_default_fields(&self) -> usize
+        ensures { result ≡ count_by (λ field. is_optional_or_default (F.presence_of field)) self.now.fields }
+    {
+        count_optional_and_default(&self.fields)
+    }
+}
+
+fn count_optional_and_default<F: HasPresence + Copy>(fields: &[F]) -> usize
+    ensures { result ≡ count_by (λ field. is_optional_or_default (F.presence_of field)) fields.now }
+{
+    fields
+        .iter()
+        .filter(|field| field.presence() != FieldPresence::Required)
+        .count()
 }

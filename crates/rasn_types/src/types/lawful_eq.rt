@@ -250,13 +250,13 @@ impl Present for BitString {
 impl LawfulEq for OctetString {
     ghost use Rattle.rasn_types.specs.Equality.{octets_told};
 
-    ghost decides = { λ s t. octets_told s.octets.items t.octets.items };
+    ghost decides = { octets_told };
 }
 
 impl Present for OctetString {
     ghost use Rattle.rasn_types.specs.Equality.{numbers_there};
 
-    ghost present = { λ s. numbers_there s.octets.items };
+    ghost present = { numbers_there };
 }
 
 impl<const N: usize> LawfulEq for FixedOctetString<N> {

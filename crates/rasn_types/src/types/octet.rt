@@ -1,36 +1,99 @@
 //! OCTET STRING.
 ghost use Rattle.std.specs.Prelude.{◌≡◌};
-ghost use Rattle.rasn_types.specs.Trees.{octets_of};
 
 use crate::types::{AsnType, Constraints, Tag};
+use std::cmp::Ordering;
+use std::marker::Model;
 
-/// A list of octets (X.680 23).
-#[derive(Debug, PartialEq, Eq, PartialOrd, Ord, Drop)]
+/// A list of octets (X.680 23), which is what contracts see.
+///
+/// They are ordered by their octets, the first that differ deciding; one that another begins with comes before it.
+#[derive(Debug, Drop)]
 pub struct OctetString {
     octets: Vec<u8>,
+}
+
+impl Model for OctetString {
+    ghost use Rattle.std.specs.Prelude.{List, ℕ};
+
+    ghost Value = { List ℕ };
+
+    ghost view = { λ s. s.octets.items };
 }
 
 impl OctetString {
     /// The string of these octets.
     pub fn from_vec(octets: Vec<u8>) -> OctetString
-        ensures { octets_of result ≡ octets.items }
+        ensures { result ≡ octets.items }
     {
         OctetString { octets }
     }
 
     /// Its octets.
     pub fn as_octets(&self) -> &[u8]
-        ensures { result.now ≡ octets_of self.now }
+        ensures { result.now ≡ self.now }
     {
         &self.octets
     }
 }
 
+impl PartialEq for OctetString {
+    ghost use Rattle.std.specs.Prelude.{nat_eq};
+    ghost use Rattle.std.specs.Cmp.{partial_equiv_from_equiv};
+    ghost use Rattle.std.specs.Cmp.Lexicographic.{pointwise, nat_list_eq_equiv};
+
+    ghost eq = { pointwise nat_eq };
+
+    ghost laws = { partial_equiv_from_equiv nat_list_eq_equiv };
+
+    fn eq(&self, other: &OctetString) -> bool {
+        self.octets == other.octets
+    }
+}
+
+impl Eq for OctetString {
+    ghost use Rattle.std.specs.Cmp.Lexicographic.{nat_list_eq_equiv};
+
+    ghost laws = { nat_list_eq_equiv };
+}
+
+impl PartialOrd for OctetString {
+    ghost use Rattle.std.specs.Prelude.{Some};
+    ghost use Rattle.std.specs.Cmp.Lexicographic.{slice_cmp, texts_po};
+    ghost use Rattle.std.specs.Ordering.{nat_cmp};
+
+    ghost partial_cmp = { λ s t. Some (slice_cmp nat_cmp s t) };
+
+    ghost laws = { texts_po };
+
+    fn partial_cmp(&self, other: &OctetString) -> Option<Ordering> {
+        Some(self.cmp(other))
+    }
+}
+
+impl Ord for OctetString {
+    ghost use Rattle.std.specs.Cmp.Lexicographic.{slice_cmp, nat_list_cmp_total, texts_ties};
+    ghost use Rattle.std.specs.Ordering.{nat_cmp};
+    ghost use Rattle.std.proofs.Common.{rules};
+
+    ghost cmp = { slice_cmp nat_cmp };
+
+    ghost total = { nat_list_cmp_total };
+
+    ghost matches_partial_cmp = { Prim.search rules };
+
+    ghost matches_eq = { texts_ties };
+
+    fn cmp(&self, other: &OctetString) -> Ordering {
+        self.octets.cmp(&other.octets)
+    }
+}
+
 impl AsnType for OctetString {
     ghost use Rattle.std.specs.Prelude.{refl};
-    ghost use Rattle.rasn_types.specs.Shapes.{leaf, octet_string};
+    ghost use Rattle.rasn_types.specs.Shapes.{leaf, octet_string, numbers};
     ghost use Rattle.rasn_types.specs.Tags.{in_universal};
-    ghost use Rattle.rasn_types.specs.Trees.{octets_tree, unconstrained};
+    ghost use Rattle.rasn_types.specs.Trees.{unconstrained};
 
     ghost TAG = { in_universal 4 };
 
@@ -45,7 +108,7 @@ impl AsnType for OctetString {
 
     ghost shape = { leaf octet_string (in_universal 4) unconstrained };
 
-    ghost tree = { octets_tree };
+    ghost tree = { numbers };
 
     ghost own = { refl };
 }

@@ -1,6 +1,7 @@
 use Rattle.std.proofs.Common.{true, false, sym, ◌∙◌, subst, true≢false}
 use Rattle.std.specs.Prelude.{IfOk}
 use Rattle.rasn_types.specs.declared.types.rules.Codec.TheVariants.{Der}
+use Rattle.rasn_types.specs.Framing.{AreOctets}
 use Rattle.rasn_types.specs.Bytes.{Bytes}
 use Rattle.rasn.specs.Headline.{AnsweredAlone}
 use Rattle.rasn_bench.proofs.Normalised.{was_ok, normal, read_otherwise, not_read}
@@ -28,3 +29,6 @@ returns-clause-refused g c =
       | in_default-via-in-Err+else-is_out_of_memory w ↦
           not_read (g.T.AsnType.tree c.in_ok-value.value) w.in-Err.error means is c.deref.ensures.value w.in-Err.ensures.exact (λ m. true≢false (sym (w.is_out_of_memory.ensures.1 m) ∙ w.if-is_out_of_memory.false))
     ]
+
+pub returns-in-Ok-clause-octets : goal.returns-in-Ok-clause-octets
+returns-in-Ok-clause-octets g c = subst AreOctets c.deref.ensures.value c.in-Ok.ensures.octets

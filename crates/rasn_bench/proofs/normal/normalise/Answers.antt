@@ -1,13 +1,13 @@
 use Rattle.std.proofs.Common.{arith}
 use Rattle.rasn_de.proofs.Tools.{octets_all}
-use Rattle.rasn_bench.proofs.Normalised.{if_ok, if_err, identified, kept, unchanged, answered}
+use Rattle.rasn_bench.proofs.Normalised.{if_ok, if_ok_both, if_err, identified, kept, unchanged, answered}
 use Rattle.rasn_bench.proofs.normal.normalise.Goals as goal
 
 pub returns-clause-identifies : goal.returns-clause-identifies
 returns-clause-identifies g c = if_ok c.convert.result (λ octets. identified) c.convert.ensures.normal
 
 pub returns-clause-kept : goal.returns-clause-kept
-returns-clause-kept g c = if_ok c.convert.result (λ octets. kept) c.convert.ensures.normal
+returns-clause-kept g c = if_ok_both c.convert.result (λ octets. kept) c.convert.ensures.octets c.convert.ensures.normal
 
 pub returns-clause-unchanged : goal.returns-clause-unchanged
 returns-clause-unchanged g c = if_ok c.convert.result (λ octets. unchanged (octets_all c.args.input.now (λ i. omega (arith, c.type_inv.input i)))) c.convert.ensures.normal

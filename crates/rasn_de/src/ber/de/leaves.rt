@@ -11,6 +11,7 @@ ghost use Rattle.rasn_types.specs.Framing.{AreOctets};
 use crate::ber::de::Decoder;
 use crate::ber::de::parser::headers::Expected;
 use crate::ber::de::parser::{Contents, Fault};
+use crate::ber::rules::is_ber;
 use rasn_types::error::DecodeError;
 use rasn_types::types::{Codec, Tag};
 
@@ -21,10 +22,8 @@ fn read_bool(rules: Codec, contents: &[u8]) -> Result<bool, Fault>
     match contents {
         [0] => Ok(false),
         [0xFF] => Ok(true),
-        [value] => match rules {
-            Codec::Ber => Ok(true),
-            Codec::Cer | Codec::Der => Err(Fault::InvalidBool { value: *value }),
-        },
+        [_] if is_ber(rules) => Ok(true),
+        [value] => Err(Fault::InvalidBool { value: *value }),
         _ => Err(Fault::MismatchedLength {
             expected: 1,
             actual: contents.len(),

@@ -2,7 +2,6 @@
 ghost use Rattle.std.specs.Prelude.{◌≡◌, ◌≢◌, ◌&&◌, not, MatchBool, Result};
 ghost use Rattle.std.specs.Fn.{FnOnceReturnsAtMut};
 ghost use Rattle.rasn_types.specs.declared.error.decode.DecodeError.{DecodeError};
-ghost use Rattle.rasn_types.specs.Numbered.{constructed_bit};
 ghost use Rattle.rasn_types.specs.Framing.{indefinite, AreOctets, Ended};
 ghost use Rattle.rasn_de.specs.Inside.{asks, Opens, Closes, is_open, Keeps, ReadInside};
 ghost use Rattle.rasn_de.specs.Doors.{door_of, Enters};
@@ -26,9 +25,9 @@ pub(crate) struct Opening {
 
 /// Whether the value has to be constructed, and isn't.
 fn lacks_bit(opening: Opening, value: Value<'_>) -> bool
-    ensures { result ≡ (opening.needs_bit && not (constructed_bit value.entry.identifier)) }
+    ensures { result ≡ (opening.needs_bit && not value.entry.is_constructed) }
 {
-    opening.needs_bit && !value.identifier.is_constructed()
+    opening.needs_bit && !value.is_constructed
 }
 
 /// Which header begins the value: one that needn't be constructed is asked under DER for the bit that it is written with.

@@ -1,7 +1,7 @@
 //! Open types, and values that are passed over.
-ghost use Rattle.std.specs.Prelude.{◌+◌, ◌*◌, ◌≤◌, length, IfOk};
-ghost use Rattle.rasn_types.specs.Shapes.{any, looked_for};
-ghost use Rattle.rasn_types.specs.Trees.{open_tree};
+ghost use Rattle.std.specs.Prelude.{◌+◌, ◌*◌, ◌≤◌, length, IfOk, IfErr};
+ghost use Rattle.rasn_types.specs.Errors.{IsOutOfMemory};
+ghost use Rattle.rasn_types.specs.Shapes.{any, looked_for, numbers};
 ghost use Rattle.rasn_de.specs.Decodes.{Decodes};
 ghost use Rattle.rasn_de.specs.OpenTypes.{GaveOpen, Skips};
 
@@ -19,7 +19,7 @@ impl<'input> Decoder<'input> {
     /// # Errors
     /// Framing faults of the value and of those that it holds, which take nothing.
     pub fn decode_any(&mut self, tag: Tag) -> Result<Any, DecodeError>
-        ensures reads { Decodes (any (looked_for tag)) open_tree self.old result self.new }
+        ensures reads { Decodes (any (looked_for tag)) numbers self.old result self.new }
         ensures refused { GaveOpen tag self.old result self.new }
     {
         match read_open(self.rules, tag, self.rest) {
@@ -43,6 +43,7 @@ impl<'input> Decoder<'input> {
     pub fn skip_value(&mut self) -> Result<usize, DecodeError>
         ensures exact { Skips self.old result self.new }
         ensures half { IfOk result (λ turns. 2 * turns + length self.new.rest ≤ length self.old.rest) }
+        ensures memory { IfErr result (λ e. IsOutOfMemory e.kind → ⊥) }
     {
         match skip_encoding(self.rules, self.rest) {
             Ok((turns, rest)) => {

@@ -1,7 +1,6 @@
 //! Framing: identifier, length and contents octets (X.690 8.1).
 ghost use Rattle.std.specs.Prelude.{◌≡◌};
 ghost use Rattle.rasn_types.specs.Framing.{AreOctets};
-ghost use Rattle.rasn_types.specs.Numbered.{constructed_bit};
 ghost use Rattle.rasn_types.specs.Tags.{is_eoc};
 ghost use Rattle.rasn_de.specs.Headers.{number128_at, number256_at, first_octets, is_padded, is_longer, tag_number_at, identifier_by, begins_with_zero, has_spare, length_at, header_by, long_at, contents_at, class_of};
 ghost use Rattle.rasn_de.specs.Views.{Gives, pair, both, identified, header};
@@ -82,7 +81,8 @@ pub enum Contents<'input> {
 /// A value's header and contents.
 #[derive(Clone, Copy, Debug)]
 pub struct Value<'input> {
-    pub identifier: Identifier,
+    pub tag: Tag,
+    pub is_constructed: bool,
     pub contents: Contents<'input>,
 }
 
@@ -127,20 +127,13 @@ pub fn is_padded(input: &[u8]) -> bool
 }
 
 #[tactic(auto, unfolding(crate::specs::Headers::tag_number_at))]
-fn read_tag_number(shortest: bool, first: u8, input: &[u8]) -> Result<(u32, &[u8]), Fault>
-    ensures { Gives pair result (tag_number_at shortest first input.now) }
+fn read_tag_number(first: u8, input: &[u8]) -> Result<(u32, &[u8]), Fault>
+    ensures { Gives pair result (tag_number_at first input.now) }
 {
     if first % 32 != 31 {
         return Ok((u32::from(first % 32), input));
     }
-    match read_number128(Fault::UnsupportedTagNumber, input) {
-        Ok(read) => Ok(read),
-        Err(fault) => if shortest && is_padded(input) {
-            Err(Fault::Der(DerDecodeErrorKind::NonMinimalTagNumber))
-        } else {
-            Err(fault)
-        },
-    }
+    read_number128(Fault::UnsupportedTagNumber, input)
 }
 
 /// Whether a number in the octets behind a first one could be spelled in fewer.
@@ -169,7 +162,7 @@ pub fn read_identifier(shortest: bool, input: &[u8]) -> Result<(Identifier, &[u8
     match input {
         [] => Err(Fault::Incomplete { needed: 1 }),
         [first, more @ ..] => {
-            let (number, rest) = read_tag_number(shortest, *first, more)?;
+            let (number, rest) = read_tag_number(*first, more)?;
             let tag = Tag {
                 class: class_at(*first / 64),
                 value: number,
@@ -270,12 +263,13 @@ fn read_contents(
     length: Option<usize>,
     input: &[u8],
 ) -> Result<(Value<'_>, &[u8]), Fault>
-    ensures { Gives header result (contents_at identifier.tag (constructed_bit identifier) length input.now) }
+    ensures { Gives header result (contents_at identifier.tag identifier.bit length input.now) }
 {
     match length {
         None => Ok((
             Value {
-                identifier,
+                tag: identifier.tag,
+                is_constructed: identifier.is_constructed(),
                 contents: Contents::Indefinite,
             },
             input,
@@ -284,7 +278,8 @@ fn read_contents(
             let (contents, rest) = take_octets(n, input)?;
             Ok((
                 Value {
-                    identifier,
+                    tag: identifier.tag,
+                    is_constructed: identifier.is_constructed(),
                     contents: Contents::Definite(contents),
                 },
                 rest,
@@ -304,7 +299,10 @@ pub fn read_value(
     ensures exact { Gives header result (header_by spelling expected input.now) }
     ensures octets { AreOctets input.now }
 {
-    let (identifier, rest) = read_identifier(spelling.shortest, input)?;
+    let (identifier, rest) = match read_identifier(spelling.shortest, input) {
+        Ok(found) => found,
+        Err(fault) => return Err(fault),
+    };
     expected.check(identifier)?;
     let (length, rest) = read_length(spelling, identifier.is_constructed(), rest)?;
     read_contents(identifier, length, rest)

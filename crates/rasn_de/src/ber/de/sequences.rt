@@ -31,8 +31,7 @@ impl<'input> Decoder<'input> {
     }
 
     /// A SEQUENCE (X.690 8.9). Calls `f` once, on the contents of a value of the tag, all of which it has to read. In its place
-    /// the initializer makes the value of a type without fields (`RC` and `EC` are 0, also where `EXTENDED_FIELDS` are `Some` of none), and
-    /// of empty contents where no root field is required.
+    /// the initializer makes the value of a type without root fields and extension marker, and of empty contents where no root field is required.
     ///
     /// # Errors
     /// `ExceedsMaxParseDepth` before the header; framing faults; with the value taken, `InvalidConstructedIdentifier`; what `f`
@@ -49,7 +48,7 @@ impl<'input> Decoder<'input> {
         requires callable { F.IsAlwaysCallable f }
         requires makes { IfSome default (λ g. DF.IsAlwaysCallable g) }
         requires keeps { (o : State) (r : Result D DecodeError) (n : State) → FnOnceReturnsAtMut F.FnOnce f o r n → Keeps o n }
-        ensures called { ReadInside (Fills (is_initial RC EC D.HAS_REQUIRED_FIELDS) (Initial (λ g r. DF.post g r) default) (FnOnceReturnsAtMut F.FnOnce f)) (sequence_door tag) self.old result self.new }
+        ensures called { ReadInside (Fills (is_initial RC D.IS_EXTENSIBLE D.HAS_REQUIRED_FIELDS) (Initial (λ g r. DF.post g r) default) (FnOnceReturnsAtMut F.FnOnce f)) (sequence_door tag) self.old result self.new }
         ensures reads { ((o : State) (r : Result D DecodeError) (n : State) → FnOnceReturnsAtMut F.FnOnce f o r n → DecodesParts D.parts D.tree o r n)
             → MakesBare D.parts D.tree (λ g r. DF.post g r) default → Decodes (seq tag D.parts) D.tree self.old result self.new }
     {
@@ -63,9 +62,14 @@ impl<'input> Decoder<'input> {
             |inner| -> Result<D, DecodeError>
                 requires callable { F.IsAlwaysCallable f }
                 requires makes { IfSome default (λ g. DF.IsAlwaysCallable g) }
-                ensures { Fills (is_initial RC EC D.HAS_REQUIRED_FIELDS) (Initial (λ g r. DF.post g r) default) (FnOnceReturnsAtMut F.FnOnce f) inner.old result inner.new }
+                ensures { Fills (is_initial RC D.IS_EXTENSIBLE D.HAS_REQUIRED_FIELDS) (Initial (λ g r. DF.post g r) default) (FnOnceReturnsAtMut F.FnOnce f) inner.old result inner.new }
             {
-                if reads_initially(RC, EC, D::HAS_REQUIRED_FIELDS, inner.remaining()) {
+                if reads_initially(
+                    RC,
+                    D::IS_EXTENSIBLE,
+                    D::HAS_REQUIRED_FIELDS,
+                    inner.remaining(),
+                ) {
                     return inner.initial(default);
                 }
                 drop(default);
@@ -75,9 +79,9 @@ impl<'input> Decoder<'input> {
     }
 }
 
-/// Whether a type with so many fields is read by an initializer.
-fn reads_initially(root: usize, more: usize, needs_field: bool, input: &[u8]) -> bool
-    ensures { result ≡ is_initial root more needs_field input.now }
+/// Whether a type with so many root fields is read by an initializer.
+fn reads_initially(root: usize, is_extensible: bool, needs_field: bool, input: &[u8]) -> bool
+    ensures { result ≡ is_initial root is_extensible needs_field input.now }
 {
-    (root == 0 && more == 0) || (!needs_field && input.is_empty())
+    (root == 0 && !is_extensible) || (!needs_field && input.is_empty())
 }

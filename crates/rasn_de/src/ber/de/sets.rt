@@ -75,7 +75,7 @@ impl<'input> Decoder<'input> {
         requires callable { F.IsAlwaysCallable f }
         ensures called { ReadInside (GathersSet (ReadComponents (Decodes FIELDS.shape FIELDS.tree) (λ (v : Vec FIELDS Global). v.items)) (λ fields r. F.post f fields r)) (sequence_door tag) self.old result self.new }
         ensures reads { FIELDS.shape ≡ choice SET.parts
-            → ((fields : Vec FIELDS Global) (r : Result SET DecodeError) → F.post f fields r → MakesSet self.old.rule SET.parts SET.tree (map FIELDS.tree fields.items) r)
+            → ((fields : Vec FIELDS Global) (r : Result SET DecodeError) → F.post f fields r → MakesSet SET.parts SET.tree (map FIELDS.tree fields.items) r)
             → Decodes (set tag SET.parts) SET.tree self.old result self.new }
     {
         let opening = Opening {

@@ -1,15 +1,16 @@
 //! OCTET STRING and character strings (X.690 8.7, 8.23).
-ghost use Rattle.std.specs.Prelude.{◌≡◌, chars, IfOk, IsOk};
+ghost use Rattle.std.specs.Prelude.{◌≡◌, chars, IfOk, IfErr, IsOk};
 ghost use Rattle.std.specs.Cow.{cow_slice_items, IsOwnedSlice};
 ghost use Rattle.std.specs.String.{string_bytes};
 ghost use Rattle.rasn_types.specs.declared.types.strings.alphabet.Alphabet.TheVariants.{Numeric, Printable, Visible, Ia5, Every};
 ghost use Rattle.rasn_types.specs.declared.types.tag.TheConstants.Tag.{UTF8_STRING, BMP_STRING};
 ghost use Rattle.rasn_types.specs.Characters.{string_kind, units_of};
+ghost use Rattle.rasn_types.specs.Errors.{IsOutOfMemory};
 ghost use Rattle.rasn_types.specs.Framing.{AreOctets};
 ghost use Rattle.rasn_types.specs.Grammar.{units};
 ghost use Rattle.rasn_types.specs.Shapes.{leaf, octet_string, numbers, numeric, printable, visible, ia5, any_octets, bmp, utf8, fixed};
 ghost use Rattle.rasn_de.specs.Decodes.{Decodes};
-ghost use Rattle.rasn_de.specs.Octets.{GathersOctets, GaveOctets, cow_tree};
+ghost use Rattle.rasn_de.specs.Octets.{GathersOctets, GaveOctets, IsPrimitive, cow_tree};
 ghost use Rattle.rasn_de.specs.Texts.{ByAlphabet, ByCharacters, ByLength, AreUtf8, GaveString, Checks, IsWithinSize, ReadsText};
 
 use crate::ber::de::Decoder;
@@ -130,6 +131,7 @@ impl<'input> Decoder<'input> {
     ) -> Result<CowSlice<'input, u8>, DecodeError>
         ensures reads { Decodes (leaf octet_string tag constraints.now) cow_tree self.old result self.new }
         ensures refused { GaveOctets tag constraints.now self.old result self.new }
+        ensures memory { IsPrimitive self.old.rule tag self.old.rest → IfErr result (λ e. IsOutOfMemory e.kind → ⊥) }
     {
         let octets = self.octets(tag)?;
         let size = octets.len();

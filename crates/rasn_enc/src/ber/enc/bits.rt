@@ -11,12 +11,13 @@ ghost use Rattle.rasn_enc.specs.Segments.{IsPiece, WroteSegments, PutsSegments};
 
 use super::Encoder;
 use super::filled::Contents;
+use rasn_types::ber::rules::MAX_SEGMENT_LENGTH;
 use rasn_types::error::EncodeError;
 use rasn_types::types::{BitStr, Constraints, Identifier, Tag};
 use std::alloc::AllocError;
 
-// The bits of a segment under the canonical rules: 999 octets, which are 1000 with the count of unused bits (X.690 9.2).
-const SEGMENT_BITS: usize = 7992;
+// The bits of a segment under the canonical rules: those of its contents octets but the count of unused bits (X.690 8.6.2, 9.2).
+const SEGMENT_BITS: usize = 8 * (MAX_SEGMENT_LENGTH - 1);
 
 // The contents of bits in one piece: the count of unused bits, and octets (X.690 8.6.2).
 impl Contents for BitStr<'_> {

@@ -10,6 +10,7 @@ ghost use Rattle.rasn_enc.specs.Filled.{FillsBehind, RefusesToFill};
 use super::filled::{Unfilled, put_filled, put_whole};
 use super::kept_tags::{note, reserve_tag};
 use super::marks::{Mark, head_for, head_len, seal};
+use rasn_types::ber::rules::EncodingRules;
 use rasn_types::types::{Codec, Tag};
 use std::alloc::AllocError;
 
@@ -102,9 +103,10 @@ fn back_len(rule: Codec) -> usize
     ensures count { result ≡ length (back rule) }
     ensures small { result < 3 }
 {
-    match rule {
-        Codec::Cer => 2,
-        Codec::Ber | Codec::Der => 0,
+    if EncodingRules::of_codec(rule).is_cer() {
+        2
+    } else {
+        0
     }
 }
 

@@ -6,6 +6,7 @@ ghost use Rattle.rasn_enc.specs.Marks.{ink_of, head_of, mark_at, closing};
 use super::headers::{
     INDEFINITE_LENGTH, identifier_len, identifier_octet, length_len, length_octet,
 };
+use rasn_types::ber::rules::EncodingRules;
 use rasn_types::types::{Codec, Tag};
 use std::alloc::AllocError;
 
@@ -42,9 +43,10 @@ const _: () = prove!(size_of::<Mark>() == 32);
 pub fn head_for(rule: Codec, tag: Tag, count: usize) -> Head
     ensures { result ≡ head_of rule tag count }
 {
-    match rule {
-        Codec::Cer => Head::Indefinite(tag),
-        Codec::Ber | Codec::Der => Head::Definite(tag, count),
+    if EncodingRules::of_codec(rule).is_cer() {
+        Head::Indefinite(tag)
+    } else {
+        Head::Definite(tag, count)
     }
 }
 
@@ -78,15 +80,15 @@ fn close(marks: &mut Vec<Mark>, rule: Codec, end: usize) -> Result<(), AllocErro
     ensures ok { OnOk result (marks.new.items ≡ marks.old.items ++ closing rule end) }
     ensures err { OnErr result (marks.new.items ≡ marks.old.items) }
 {
-    match rule {
-        Codec::Cer => match marks.push(Mark {
-            at: end,
-            head: Head::Closing,
-        }) {
-            Ok(()) => Ok(()),
-            Err(_) => Err(AllocError),
-        },
-        Codec::Ber | Codec::Der => Ok(()),
+    if !EncodingRules::of_codec(rule).is_cer() {
+        return Ok(());
+    }
+    match marks.push(Mark {
+        at: end,
+        head: Head::Closing,
+    }) {
+        Ok(()) => Ok(()),
+        Err(_) => Err(AllocError),
     }
 }
 

@@ -1,7 +1,6 @@
 //! Open types.
 ghost use Rattle.std.specs.Prelude.{◌≡◌, ◌≢◌, ◌⊎◌, None, [], MatchBool, IfErr, OnOk, OnErr};
-ghost use Rattle.rasn_types.specs.Shapes.{any, looked_for};
-ghost use Rattle.rasn_types.specs.Trees.{open_tree, open_octets};
+ghost use Rattle.rasn_types.specs.Shapes.{any, looked_for, numbers};
 ghost use Rattle.rasn_types.specs.Bytes.{Cons};
 ghost use Rattle.rasn_enc.specs.View.{appended};
 ghost use Rattle.rasn_enc.specs.Primitives.{Appends, TellsOutOfMemory};
@@ -25,9 +24,9 @@ impl Encoder {
         value: &Any,
         _identifier: Identifier,
     ) -> Result<(), EncodeError>
-        ensures ok { OnOk result (Wrote (any (looked_for tag)) (open_tree value.now) self.old self.new) }
+        ensures ok { OnOk result (Wrote (any (looked_for tag)) (numbers value.now) self.old self.new) }
         ensures err { OnErr result (self.new ≡ self.old) }
-        ensures refused { IfErr result (RefusesAny tag (open_octets value.now) self.old) }
+        ensures refused { IfErr result (RefusesAny tag value.now self.old) }
     {
         let octets = value.as_bytes();
         if octets.is_empty() {

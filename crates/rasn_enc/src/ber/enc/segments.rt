@@ -9,11 +9,12 @@ ghost use Rattle.rasn_enc.specs.Segments.{WroteSegments, PutsSegments};
 ghost use Rattle.rasn_enc.specs.Texts.{PutsText};
 
 use super::Encoder;
+use rasn_types::ber::rules::{EncodingRules, MAX_SEGMENT_LENGTH};
 use rasn_types::error::EncodeError;
-use rasn_types::types::{Codec, Constraints, Tag};
+use rasn_types::types::{Constraints, Tag};
 
 // The contents octets of a segment under the canonical rules (X.690 9.2).
-const SEGMENT: usize = 1000;
+const SEGMENT: usize = MAX_SEGMENT_LENGTH;
 
 impl Encoder {
     // Writes the octets of a string of so many characters, where these are within the size.
@@ -39,7 +40,7 @@ impl Encoder {
     pub(super) fn is_cut(&self, count: usize, most: usize) -> bool
         ensures { MatchBool result (IsCer self.now.rule × (most < count)) (IsCer self.now.rule → count ≤ most) }
     {
-        matches!(self.codec(), Codec::Cer) && count > most
+        EncodingRules::of_codec(self.codec()).is_cer() && count > most
     }
 
     // Writes octets in segments, as one constructed value.

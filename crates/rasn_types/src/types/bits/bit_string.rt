@@ -17,13 +17,13 @@ pub struct BitString {
 
 impl Model for BitString {
     ghost use Rattle.std.specs.Prelude.{List, Bool};
-    ghost use Rattle.rasn_types.specs.Bits.{bits_from, IsKept};
+    ghost use Rattle.rasn_types.specs.Bits.{bits_from, HoldsBits};
 
     ghost Value = { List Bool };
 
     ghost view = { λ s. bits_from 0 s.len s.octets.items };
 
-    ghost invariant = { λ s. IsKept s.len s.octets.items };
+    ghost invariant = { λ s. HoldsBits s.len s.octets.items };
 }
 
 impl BitString {

@@ -1,7 +1,8 @@
 use Rattle.std.proofs.Common.{rules, ◌≡◌, ◌∷◌, [], ◌++◌, List, length, sym, ap, ◌∙◌, append_assoc, append-nil, arith, refl}
 use Rattle.std.specs.Vec.Iter.{into_iter_items}
-use Rattle.rasn_bench.specs.Set3s.{component_tree}
-use Rattle.rasn_bench.proofs.Sets.{octet, put_zero, put_one, put_two, twice, missed, all_there}
+use Rattle.rasn_de.proofs.Components.{component_twice}
+use Rattle.rasn_bench.specs.Set3s.{set3_parts, component_tree}
+use Rattle.rasn_bench.proofs.Sets.{octet, put_zero, put_one, put_two, missed, all_there}
 use Rattle.rasn_bench.proofs.worked.set3.gather.Goals as goal
 
 nothing_left : {X : Type 0} (l : List X) → length l ≡ 0 → l ≡ []
@@ -13,7 +14,7 @@ returns-then-is_some c =
     let at = c.loop-component in
     let steps : into_iter_items at.component-iterator ≡ c.in-Some.component ∷ into_iter_items c.next.new.self = c.in-Some.ensures.steps.0 in
     let all = sym c.into_iter-component-iterator.ensures.into_iter_gives.0 ∙ (sym at.invariant.0 ∙ ap (λ l. at.yielded ++ l) steps) in
-    twice c.args.codec 0 tt c.args.components.items at.yielded (into_iter_items c.next.new.self) c.in-Some.component (octet c.in-Zero.number) (ap component_tree c.in-Zero.is) all at.zero (search rules) at.invariant.2.0 c.duplicate_field.result.kind
+    component_twice component_tree set3_parts 0 tt c.args.components.items at.yielded (into_iter_items c.next.new.self) c.in-Some.component (octet c.in-Zero.number) (ap component_tree c.in-Zero.is) all octet at.zero (search rules) at.invariant.2.0 c.duplicate_field.result.kind
 
 pub loop-component-preserved-else-is_some : goal.loop-component-preserved-else-is_some
 loop-component-preserved-else-is_some c =
@@ -32,7 +33,7 @@ returns-then-is_some-2 c =
     let at = c.loop-component in
     let steps : into_iter_items at.component-iterator ≡ c.in-Some.component ∷ into_iter_items c.next.new.self = c.in-Some.ensures.steps.0 in
     let all = sym c.into_iter-component-iterator.ensures.into_iter_gives.0 ∙ (sym at.invariant.0 ∙ ap (λ l. at.yielded ++ l) steps) in
-    twice c.args.codec 1 tt c.args.components.items at.yielded (into_iter_items c.next.new.self) c.in-Some.component (octet c.in-One.number) (ap component_tree c.in-One.is) all at.one (search rules) at.invariant.2.1 c.duplicate_field-then-is_some-2.result.kind
+    component_twice component_tree set3_parts 1 tt c.args.components.items at.yielded (into_iter_items c.next.new.self) c.in-Some.component (octet c.in-One.number) (ap component_tree c.in-One.is) all octet at.one (search rules) at.invariant.2.1 c.duplicate_field-then-is_some-2.result.kind
 
 pub loop-component-preserved-else-is_some-2 : goal.loop-component-preserved-else-is_some-2
 loop-component-preserved-else-is_some-2 c =
@@ -51,7 +52,7 @@ returns-then-is_some-3 c =
     let at = c.loop-component in
     let steps : into_iter_items at.component-iterator ≡ c.in-Some.component ∷ into_iter_items c.next.new.self = c.in-Some.ensures.steps.0 in
     let all = sym c.into_iter-component-iterator.ensures.into_iter_gives.0 ∙ (sym at.invariant.0 ∙ ap (λ l. at.yielded ++ l) steps) in
-    twice c.args.codec 2 tt c.args.components.items at.yielded (into_iter_items c.next.new.self) c.in-Some.component (octet c.in-Two.number) (ap component_tree c.in-Two.is) all at.two (search rules) at.invariant.2.2 c.duplicate_field-then-is_some-3.result.kind
+    component_twice component_tree set3_parts 2 tt c.args.components.items at.yielded (into_iter_items c.next.new.self) c.in-Some.component (octet c.in-Two.number) (ap component_tree c.in-Two.is) all octet at.two (search rules) at.invariant.2.2 c.duplicate_field-then-is_some-3.result.kind
 
 pub loop-component-preserved : goal.loop-component-preserved
 loop-component-preserved c =
@@ -70,25 +71,25 @@ returns-in_default c =
     let at = c.loop-component in
     let gone : into_iter_items at.component-iterator ≡ [] = nothing_left _ (sym at.invariant.1 ∙ c.in-None.ensures.steps.0) in
     let all = sym (append-nil at.yielded) ∙ (rw gone at at.invariant.0 ∙ c.into_iter-component-iterator.ensures.into_iter_gives.0) in
-    missed c.args.codec 0 refl c.args.components.items at.yielded all at.zero (search rules) at.invariant.2.0 c.missing_field.result.kind
+    missed 0 refl c.args.components.items at.yielded all at.zero (search rules) at.invariant.2.0 c.missing_field.result.kind
 
 pub returns-in_default-one : goal.returns-in_default-one
 returns-in_default-one c =
     let at = c.loop-component in
     let gone : into_iter_items at.component-iterator ≡ [] = nothing_left _ (sym at.invariant.1 ∙ c.in-None.ensures.steps.0) in
     let all = sym (append-nil at.yielded) ∙ (rw gone at at.invariant.0 ∙ c.into_iter-component-iterator.ensures.into_iter_gives.0) in
-    missed c.args.codec 1 refl c.args.components.items at.yielded all at.one (search rules) at.invariant.2.1 c.missing_field-in_default-one.result.kind
+    missed 1 refl c.args.components.items at.yielded all at.one (search rules) at.invariant.2.1 c.missing_field-in_default-one.result.kind
 
 pub returns-in_default-two : goal.returns-in_default-two
 returns-in_default-two c =
     let at = c.loop-component in
     let gone : into_iter_items at.component-iterator ≡ [] = nothing_left _ (sym at.invariant.1 ∙ c.in-None.ensures.steps.0) in
     let all = sym (append-nil at.yielded) ∙ (rw gone at at.invariant.0 ∙ c.into_iter-component-iterator.ensures.into_iter_gives.0) in
-    missed c.args.codec 2 refl c.args.components.items at.yielded all at.two (search rules) at.invariant.2.2 c.missing_field-in_default-two.result.kind
+    missed 2 refl c.args.components.items at.yielded all at.two (search rules) at.invariant.2.2 c.missing_field-in_default-two.result.kind
 
 pub returns : goal.returns
 returns c =
     let at = c.loop-component in
     let gone : into_iter_items at.component-iterator ≡ [] = nothing_left _ (sym at.invariant.1 ∙ c.in-None.ensures.steps.0) in
     let all = sym (append-nil at.yielded) ∙ (rw gone at at.invariant.0 ∙ c.into_iter-component-iterator.ensures.into_iter_gives.0) in
-    all_there c.args.codec c.in-Some-zero.zero c.in-Some-one.one c.in-Some-two.two at.zero at.one at.two c.in-Some-zero.is c.in-Some-one.is c.in-Some-two.is c.args.components.items at.yielded all at.invariant.2
+    all_there c.in-Some-zero.zero c.in-Some-one.one c.in-Some-two.two at.zero at.one at.two c.in-Some-zero.is c.in-Some-one.is c.in-Some-two.is c.args.components.items at.yielded all at.invariant.2

@@ -1,6 +1,5 @@
 //! What a header may be: how it may be spelled (X.690 8.1, 10.1), and which tag and constructed bit it has to have.
 ghost use Rattle.std.specs.Prelude.{◌≡◌};
-ghost use Rattle.rasn_types.specs.Numbered.{constructed_bit};
 ghost use Rattle.rasn_types.specs.Tags.{form, loose, tag_bit};
 ghost use Rattle.rasn_de.specs.Headers.{spelled, as_written, tagged_at, expected_at};
 ghost use Rattle.rasn_de.specs.Views.{Gives};
@@ -74,7 +73,7 @@ impl Expected {
 
     /// Refuses another identifier: first another tag, then another constructed bit.
     pub fn check(self, identifier: Identifier) -> Result<(), Fault>
-        ensures { Gives (λ _. record {}) result (expected_at self identifier.tag (constructed_bit identifier)) }
+        ensures { Gives (λ _. record {}) result (expected_at self identifier.tag identifier.bit) }
     {
         match self {
             Expected::AnyTag => Ok(()),

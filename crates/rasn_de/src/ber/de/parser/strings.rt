@@ -48,7 +48,7 @@ pub(crate) fn segment_of(value: Value<'_>) -> Option<&[u8]>
     ensures { MatchOption result (IsNestedValue value.entry) (λ s. IsPlainValue value.entry s.now) }
 {
     match value.contents {
-        Contents::Definite(segment) => if value.identifier.is_constructed() {
+        Contents::Definite(segment) => if value.is_constructed {
             None
         } else {
             Some(segment)

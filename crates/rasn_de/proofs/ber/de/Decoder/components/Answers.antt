@@ -1,7 +1,7 @@
 use Rattle.std.proofs.Common.{[], ◌∷◌, ◌++◌}
 use Rattle.std.proofs.lemmas.Result.{err_from_is_err_and}
 use Rattle.rasn_de.specs.Decodes.{Decodes}
-use Rattle.rasn_de.specs.Sets.{stops}
+use Rattle.rasn_de.specs.Sets.{not_read}
 use Rattle.rasn_de.proofs.SetsOf.{passes_from, came_stays}
 use Rattle.rasn_de.proofs.Tagged.{tagged_order, look_refused, look_follows, look_kept}
 use Rattle.rasn_de.proofs.ber.de.Decoder.components.Goals as goal
@@ -14,8 +14,7 @@ returns-in_err-last g c =
       c.loop-last.values.items,
       c.loop-last.invariant.0,
       c.loop-last.self,
-      c.loop-last.invariant.1,
-      tagged_order c.args.self.now c.loop-last.invariant.0 c.loop-last.last c.loop-last.invariant.2,
+      (c.loop-last.invariant.1, tagged_order c.args.self.now c.loop-last.invariant.0 c.loop-last.last c.loop-last.invariant.2),
       c.loop-last-test.ensures,
       look_refused c.args.self.now c.loop-last.self s c.loop-last.invariant.0 c.loop-last.last c.loop-last.invariant.2 (Decodes g.FIELDS.AsnType.shape g.FIELDS.AsnType.tree) _ c.in_err-last.ensures,
     )
@@ -28,10 +27,9 @@ returns-in_err-push_element g c =
       c.loop-last.values.items,
       c.loop-last.invariant.0,
       c.loop-last.self,
-      c.loop-last.invariant.1,
-      tagged_order c.args.self.now c.loop-last.invariant.0 c.loop-last.last c.loop-last.invariant.2,
+      (c.loop-last.invariant.1, tagged_order c.args.self.now c.loop-last.invariant.0 c.loop-last.last c.loop-last.invariant.2),
       c.loop-last-test.ensures,
-      stops (look_follows c.args.self.now c.loop-last.self s c.loop-last.invariant.0 c.loop-last.last c.loop-last.invariant.2 _ c.in_ok-last.ensures) c.in_err-push_element.ensures,
+      not_read (look_follows c.args.self.now c.loop-last.self s c.loop-last.invariant.0 c.loop-last.last c.loop-last.invariant.2 _ c.in_ok-last.ensures) c.in_err-push_element.ensures,
     )
 
 pub loop-last-preserved : goal.loop-last-preserved

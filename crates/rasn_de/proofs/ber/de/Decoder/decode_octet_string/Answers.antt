@@ -1,6 +1,7 @@
 use Rattle.std.proofs.Common.{Ok, Err}
 use Rattle.std.proofs.lemmas.Result.{err_from_is_err_and}
 use Rattle.rasn_de.proofs.OctetStrings.{octets_decodes, gathers_refused, gathers_admitted, gathers_size}
+use Rattle.rasn_de.proofs.OutOfMemory.{primitive_plain}
 use Rattle.rasn_de.proofs.ber.de.Decoder.decode_octet_string.Goals as goal
 
 pub returns-in_err-octets-clause-refused : goal.returns-in_err-octets-clause-refused
@@ -22,3 +23,11 @@ returns-clause-refused c =
 
 pub returns-clause-reads : goal.returns-clause-reads
 returns-clause-reads c = octets_decodes c.args.tag c.args.constraints.now c.args.self.now _ (Err c.error.result) c.octets.ensures.octets (returns-clause-refused c)
+
+pub returns-in_err-octets-clause-memory : goal.returns-in_err-octets-clause-memory
+returns-in_err-octets-clause-memory c =
+    let p = err_from_is_err_and c.from_residual.result c.from_residual.ensures.1 in
+    rw (p.1, p.2) (primitive_plain c.args.tag c.args.constraints.now c.args.self.now _ _ (gathers_refused c.args.tag c.args.constraints.now c.args.self.now _ _ c.in_err-octets.ensures.gathers))
+
+pub returns-clause-memory : goal.returns-clause-memory
+returns-clause-memory c = primitive_plain c.args.tag c.args.constraints.now c.args.self.now _ _ (returns-clause-refused c)

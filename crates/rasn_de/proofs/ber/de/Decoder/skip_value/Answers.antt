@@ -1,5 +1,6 @@
 use Rattle.std.proofs.Common.{refl}
 use Rattle.rasn_de.proofs.OpenTypes.{skipped_at}
+use Rattle.rasn_de.proofs.OutOfMemory.{skips_plain}
 use Rattle.rasn_de.proofs.ber.de.Decoder.skip_value.Goals as goal
 
 pub returns-in-Ok-clause-exact : goal.returns-in-Ok-clause-exact
@@ -7,3 +8,6 @@ returns-in-Ok-clause-exact c = skipped_at c.args.self.now _ c.in-Ok.turns c.in-O
 
 pub returns-in-Err-clause-exact : goal.returns-in-Err-clause-exact
 returns-in-Err-clause-exact c = (c.in-Err.fault, rw (← c.self.view_is) c.in-Err.ensures.exact, c.error.ensures, refl)
+
+pub returns-in-Err-clause-memory : goal.returns-in-Err-clause-memory
+returns-in-Err-clause-memory c = skips_plain c.args.self.now _ _ (returns-in-Err-clause-exact c)

@@ -4,12 +4,12 @@ use Rattle.rasn_de.proofs.ber.de.fn.Decoder.decode_sequence.inside.Goals as goal
 
 pub returns-then-reads_initially : goal.returns-then-reads_initially
 returns-then-reads_initially g c =
-    let s : is_initial g.row.RC g.row.EC g.D.Constructed.HAS_REQUIRED_FIELDS c.args.inner.now.rest ≡ true =
-    rw (← c.HAS_REQUIRED_FIELDS.ensures, ← c.remaining.ensures.value) (sym c.reads_initially.ensures ∙ c.if-reads_initially.true) in
+    let s : is_initial g.row.RC g.D.Constructed.IS_EXTENSIBLE g.D.Constructed.HAS_REQUIRED_FIELDS c.args.inner.now.rest ≡ true =
+    rw (← c.IS_EXTENSIBLE.ensures, ← c.HAS_REQUIRED_FIELDS.ensures, ← c.remaining.ensures.value) (sym c.reads_initially.ensures ∙ c.if-reads_initially.true) in
     inl (s, c.initial.ensures, refl)
 
 pub returns : goal.returns
 returns g c =
-    let s : is_initial g.row.RC g.row.EC g.D.Constructed.HAS_REQUIRED_FIELDS c.args.inner.now.rest ≡ false =
-    rw (← c.HAS_REQUIRED_FIELDS.ensures, ← c.remaining.ensures.value) (sym c.reads_initially.ensures ∙ c.if-reads_initially.false) in
+    let s : is_initial g.row.RC g.D.Constructed.IS_EXTENSIBLE g.D.Constructed.HAS_REQUIRED_FIELDS c.args.inner.now.rest ≡ false =
+    rw (← c.IS_EXTENSIBLE.ensures, ← c.HAS_REQUIRED_FIELDS.ensures, ← c.remaining.ensures.value) (sym c.reads_initially.ensures ∙ c.if-reads_initially.false) in
     inr (s, record { shown = _; shows = refl; left = _; met = c.f.ensures; leaves = refl })

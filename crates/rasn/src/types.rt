@@ -1,0 +1,12 @@
+//! Values and schema: tags, constraints, and the types that have a value of their own.
+
+pub use rasn_de::de::DecodeChoice;
+pub use rasn_types::types::{
+    Alphabet, Any, AsnType, BitStr, BitString, BmpString, Bound, Bounded, Class, Codec,
+    Constraints, Constructed, Date, Enumerated, Explicit, Field, FieldPresence, Fields,
+    FixedOctetString, GeneralString, GeneralType, GeneralizedTime, GraphicString, GraphicType,
+    HasPresence, Ia5String, Ia5Type, Identifier, Implicit, Integer, IntegerType, LawfulEq,
+    NumericString, NumericType, ObjectIdentifier, OctetString, Present, PrintableString,
+    PrintableType, RealType, RestrictedString, SetOf, StringType, Tag, TeletexString, TeletexType,
+    UtcTime, Utf8String, VisibleString, VisibleType,
+};

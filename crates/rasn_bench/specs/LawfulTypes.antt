@@ -1,0 +1,16 @@
+-- Types whose shapes are lawful.
+use Rattle.std.specs.Prelude.{◌≡◌, true, List, [], ◌∷◌}
+use Rattle.rasn_types.specs.Shapes.{Shape}
+use Rattle.rasn_types.specs.Lawful.{IsLawful}
+use Rattle.rasn.specs.Carries.{carries_all}
+use Rattle.rasn_bench.specs.declared.line.ValueType.{ValueType}
+use Rattle.rasn_bench.specs.Answers.{shape_of}
+
+-- The shapes are lawful, and all that DER reads of them is carried.
+unfoldable pub AreLawful : List Shape → Type 0
+AreLawful [] = Unit {0}
+AreLawful (s ∷ shapes) = IsLawful s × (carries_all s ≡ true) × AreLawful shapes
+
+-- The same of every type that a line may name.
+abbrev pub AreLawfulInLines : Type 0
+AreLawfulInLines = (kind : ValueType) → IsLawful (shape_of kind) × (carries_all (shape_of kind) ≡ true)

@@ -1,0 +1,299 @@
+-- The test of a lawful shape decides.
+use Rattle.std.proofs.Common.{◌≡◌, ℕ, ◌<◌, ◌⊎◌, ◌≢◌, inl, inr, Bool, true, false, not, ◌&&◌, ◌||◌, List, [], ◌∷◌, ◌++◌, Option, Some, None, refl, sym, ap, ap₂, ◌∙◌, subst, arith}
+use Rattle.std.specs.Bool.{Decides}
+use Rattle.std.specs.List.{list_all, list_any}
+use Rattle.std.proofs.lemmas.Bool.Decides.{Decides-eqb, Decides-ltb, Decides-and, Decides-or, Decides-not, Decides-like, not_from_Decides}
+use Rattle.rasn_types.specs.Tags.{Class, Universal, Application, Context, Private, Tag, tag_bit, rank, eoc, is_universal, is_eoc, IsTagBelow}
+use Rattle.rasn_types.specs.Shapes.{Shape, leaf, any, prefix, choice, option, seq, set, list, set_of, Parts, part, own, IsFirst, IsFirstOf, IsSolid, AreSolid, Presence, required, optional, addition, default}
+use Rattle.rasn_types.specs.Shapes.Parts.{none}
+use Rattle.rasn_types.specs.Grammar.{Family, plain_family, bit_family, text_family, family}
+use Rattle.rasn_types.specs.Lawful.{AreDisjoint, AreToldApart, IsFirstBehind, IsToldApart, MayBeLeftOut, IsBitFree, HasTag, IsLawful, AreAlternatives, AreLawfulInOrder, AreLawfulByTag}
+use Rattle.rasn_types.specs.LawfulTest.{is_same_tag, is_other_tag, is_tag_below, Firsts, either_first, firsts, firsts_of, firsts_behind, is_first, holds_between, are_told_apart, is_none, is_told_apart, may_be_left_out, is_bit_free, has_tag, is_solid, are_solid, is_required, is_addition, is_same_own, is_lawful, are_alternatives, are_lawful_in_order, are_lawful_by_tag}
+
+-- ---- tests that are fixed
+
+decides_yes : Decides true (Unit {0})
+decides_yes = (λ e. tt, λ h. refl)
+
+decides_no : {P : Type 0} → (P → ⊥) → Decides false P
+decides_no n = (λ e. cc, λ h. absurd (n h))
+
+-- ---- tags
+
+rank_one : (a b : Class) → rank a ≡ rank b → a ≡ b
+rank_one Universal Universal e = refl
+rank_one Universal Application e = absurd (omega arith)
+rank_one Universal Context e = absurd (omega arith)
+rank_one Universal Private e = absurd (omega arith)
+rank_one Application Universal e = absurd (omega arith)
+rank_one Application Application e = refl
+rank_one Application Context e = absurd (omega arith)
+rank_one Application Private e = absurd (omega arith)
+rank_one Context Universal e = absurd (omega arith)
+rank_one Context Application e = absurd (omega arith)
+rank_one Context Context e = refl
+rank_one Context Private e = absurd (omega arith)
+rank_one Private Universal e = absurd (omega arith)
+rank_one Private Application e = absurd (omega arith)
+rank_one Private Context e = absurd (omega arith)
+rank_one Private Private e = refl
+
+same_tag : (s t : Tag) → Decides (is_same_tag s t) (s ≡ t)
+same_tag s t = Decides-like (is_same_tag s t) there (λ e. (ap (λ (x : Tag). rank x.class) e, ap (λ (x : Tag). x.value) e))
+    (Decides-and _ _ (Decides-eqb (rank s.class) (rank t.class)) (Decides-eqb s.value t.value))
+  where
+    there : (rank s.class ≡ rank t.class) × (s.value ≡ t.value) → s ≡ t
+    there h = ap₂ (λ (c : Class) (n : ℕ). record { class = c; value = n }) (rank_one s.class t.class h.0) h.1
+
+other_tag : (s t : Tag) → Decides (is_other_tag s t) (s ≢ t)
+other_tag s t = Decides-not (is_same_tag s t) (same_tag s t)
+
+tag_below : (s t : Tag) → Decides (is_tag_below s t) (IsTagBelow s t)
+tag_below s t = Decides-or _ _ (Decides-ltb (rank s.class) (rank t.class)) (Decides-and _ _ (Decides-eqb (rank s.class) (rank t.class)) (Decides-ltb s.value t.value))
+
+universal : (c : Class) → Decides (is_universal c) (c ≡ Universal)
+universal Universal = (λ e. refl, λ e. refl)
+universal Application = decides_no (λ e. cc)
+universal Context = decides_no (λ e. cc)
+universal Private = decides_no (λ e. cc)
+
+no_value : (tag : Tag) → Decides (not (is_eoc tag)) (tag ≢ eoc)
+no_value tag = Decides-not (is_eoc tag) (Decides-like (is_eoc tag) (λ h. ap₂ (λ (c : Class) (n : ℕ). record { class = c; value = n }) h.0 h.1) (λ e. (ap (λ (x : Tag). x.class) e, ap (λ (x : Tag). x.value) e))
+    (Decides-and _ _ (universal tag.class) (Decides-eqb tag.value 0)))
+
+-- ---- first tags
+
+abbrev IsAmong : List Tag → Tag → Type 0
+IsAmong [] n = ⊥
+IsAmong (t ∷ ts) n = (n ≡ t) ⊎ IsAmong ts n
+
+abbrev IsIn : Firsts → Tag → Type 0
+IsIn None n = Unit {0}
+IsIn (Some tags) n = IsAmong tags n
+
+-- The list says which tags P holds of.
+abbrev Tells : Firsts → (Tag → Type 0) → Type 0
+Tells f P = (n : Tag) → (P n → IsIn f n) × (IsIn f n → P n)
+
+among_left : (a b : List Tag) (n : Tag) → IsAmong a n → IsAmong (a ++ b) n
+among_left [] b n h = absurd h
+among_left (t ∷ a) b n (inl e) = inl e
+among_left (t ∷ a) b n (inr h) = inr (among_left a b n h)
+
+among_right : (a b : List Tag) (n : Tag) → IsAmong b n → IsAmong (a ++ b) n
+among_right [] b n h = h
+among_right (t ∷ a) b n h = inr (among_right a b n h)
+
+among_either : (a b : List Tag) (n : Tag) → IsAmong (a ++ b) n → IsAmong a n ⊎ IsAmong b n
+among_either [] b n h = inr h
+among_either (t ∷ a) b n (inl e) = inl (inl e)
+among_either (t ∷ a) b n (inr h) = elim (among_either a b n h) [ inl x ↦ inl (inr x) | inr x ↦ inr x ]
+
+tells_either : (f g : Firsts) (P Q : Tag → Type 0) → Tells f P → Tells g Q → Tells (either_first f g) (λ n. P n ⊎ Q n)
+tells_either None g P Q p q n = (λ h. tt, λ h. inl ((p n).1 tt))
+tells_either (Some a) None P Q p q n = (λ h. tt, λ h. inr ((q n).1 tt))
+tells_either (Some a) (Some b) P Q p q n = (
+  λ h. elim h [ inl x ↦ among_left a b n ((p n).0 x) | inr x ↦ among_right a b n ((q n).0 x) ],
+  λ h. elim (among_either a b n h) [ inl x ↦ inl ((p n).1 x) | inr x ↦ inr ((q n).1 x) ],
+)
+
+tells_one : (tag : Tag) → Tells (Some (tag ∷ [])) (λ n. n ≡ tag)
+tells_one tag n = (λ e. inl e, λ h. elim h [ inl e ↦ e | inr x ↦ absurd x ])
+
+mutual
+  firsts_tell : (s : Shape) → Tells (firsts s) (IsFirst s)
+  firsts_tell (leaf kind tag bounds) = tells_one tag
+  firsts_tell (any None) = λ n. (λ h. tt, λ h. tt)
+  firsts_tell (any (Some tag)) = tells_one tag
+  firsts_tell (prefix tag s) = tells_one tag
+  firsts_tell (choice ps) = all_tell ps
+  firsts_tell (option tag s) = firsts_tell s
+  firsts_tell (seq tag ps) = tells_one tag
+  firsts_tell (set tag ps) = tells_one tag
+  firsts_tell (list tag s size) = tells_one tag
+  firsts_tell (set_of tag s size) = tells_one tag
+
+  all_tell : (ps : Parts) → Tells (firsts_of ps) (IsFirstOf ps)
+  all_tell none = λ n. (λ h. h, λ h. h)
+  all_tell (part presence s ps) = tells_either (firsts s) (firsts_of ps) (IsFirst s) (IsFirstOf ps) (firsts_tell s) (all_tell ps)
+
+behind_tell : (ps : Parts) → Tells (firsts_behind ps) (IsFirstBehind ps)
+behind_tell none = λ n. (λ h. h, λ h. h)
+behind_tell (part required s ps) = firsts_tell s
+behind_tell (part addition s ps) = firsts_tell s
+behind_tell (part optional s ps) = tells_either (firsts s) (firsts_behind ps) (IsFirst s) (IsFirstBehind ps) (firsts_tell s) (behind_tell ps)
+behind_tell (part (default d) s ps) = tells_either (firsts s) (firsts_behind ps) (IsFirst s) (IsFirstBehind ps) (firsts_tell s) (behind_tell ps)
+
+among : (tags : List Tag) (n : Tag) → Decides (list_any (is_same_tag n) tags) (IsAmong tags n)
+among [] n = decides_no (λ h. h)
+among (t ∷ ts) n = Decides-or _ _ (same_tag n t) (among ts n)
+
+is_in : (f : Firsts) (n : Tag) → Decides (is_first f n) (IsIn f n)
+is_in None n = decides_yes
+is_in (Some tags) n = among tags n
+
+-- ---- what holds between first tags
+
+abbrev Between : (Tag → Tag → Type 0) → (Tag → Type 0) → (Tag → Type 0) → Type 0
+Between R P Q = (m n : Tag) → P m → Q n → R m n
+
+module _ (test : Tag → Tag → Bool) (R : Tag → Tag → Type 0) (decides : (m n : Tag) → Decides (test m n) (R m n)) where
+  holds_of : (m : Tag) (b : List Tag) → Decides (list_all (test m) b) ((n : Tag) → IsAmong b n → R m n)
+  holds_of m [] = (λ e n h. absurd h, λ h. refl)
+  holds_of m (t ∷ b) = Decides-like (list_all (test m) (t ∷ b))
+      (λ h n x. elim x [ inl e ↦ subst (R m) (sym e) h.0 | inr y ↦ h.1 n y ])
+      (λ h. (h t (inl refl), λ n x. h n (inr x)))
+      (Decides-and _ _ (decides m t) (holds_of m b))
+
+  holds_of_all : (a b : List Tag) → Decides (list_all (λ m. list_all (test m) b) a) (Between R (IsAmong a) (IsAmong b))
+  holds_of_all [] b = (λ e m n h. absurd h, λ h. refl)
+  holds_of_all (t ∷ a) b = Decides-like (list_all (λ m. list_all (test m) b) (t ∷ a))
+      (λ h m n x y. elim x [ inl e ↦ subst (λ z. R z n) (sym e) (h.0 n y) | inr z ↦ h.1 m n z y ])
+      (λ h. (λ n x. h t n (inl refl) x, λ m n x y. h m n (inr x) y))
+      (Decides-and _ _ (holds_of t b) (holds_of_all a b))
+
+  between_firsts : ((m : Tag) → R m m → ⊥) → (f g : Firsts) → Decides (holds_between test f g) (Between R (IsIn f) (IsIn g))
+  between_firsts apart (Some a) (Some b) = holds_of_all a b
+  between_firsts apart (Some []) None = (λ e m n h. absurd h, λ h. refl)
+  between_firsts apart (Some (t ∷ a)) None = decides_no (λ h. apart t (h t t (inl refl) tt))
+  between_firsts apart None (Some []) = (λ e m n h x. absurd x, λ h. refl)
+  between_firsts apart None (Some (t ∷ b)) = decides_no (λ h. apart t (h t t tt (inl refl)))
+  between_firsts apart None None = decides_no (λ h. apart eoc (h eoc eoc tt tt))
+
+  between_told : ((m : Tag) → R m m → ⊥) → (f g : Firsts) (P Q : Tag → Type 0) → Tells f P → Tells g Q → Decides (holds_between test f g) (Between R P Q)
+  between_told apart f g P Q p q = Decides-like (holds_between test f g)
+      (λ h m n x y. h m n ((p m).0 x) ((q n).0 y))
+      (λ h m n x y. h m n ((p m).1 x) ((q n).1 y))
+      (between_firsts apart f g)
+
+below_itself : (m : Tag) → IsTagBelow m m → ⊥
+below_itself m (inl h) = omega arith
+below_itself m (inr h) = omega (arith, h.1)
+
+disjoint : (f g : Firsts) (P Q : Tag → Type 0) → Tells f P → Tells g Q → Decides (holds_between is_other_tag f g) (AreDisjoint P Q)
+disjoint f g P Q p q = Decides-like (holds_between is_other_tag f g)
+    (λ h n x y. h n n x y refl)
+    (λ h m n x y e. h n (subst P e x) y)
+    (between_told is_other_tag (λ m n. m ≢ n) other_tag (λ m h. h refl) f g P Q p q)
+
+told_apart : (ps : Parts) → Decides (are_told_apart ps) (AreToldApart ps)
+told_apart none = decides_yes
+told_apart (part presence s ps) = Decides-and _ _ (disjoint (firsts s) (firsts_of ps) (IsFirst s) (IsFirstOf ps) (firsts_tell s) (all_tell ps)) (told_apart ps)
+
+no_parts : (ps : Parts) → Decides (is_none ps) (ps ≡ none)
+no_parts none = (λ e. refl, λ e. refl)
+no_parts (part presence s ps) = decides_no (λ e. cc)
+
+told_behind : (tag : Option Tag) (ps : Parts) → Decides (is_told_apart tag ps) (IsToldApart tag ps)
+told_behind (Some tag) ps = Decides-not (is_first (firsts_behind ps) tag)
+    (Decides-like (is_first (firsts_behind ps) tag) (behind_tell ps tag).1 (behind_tell ps tag).0 (is_in (firsts_behind ps) tag))
+told_behind None ps = no_parts ps
+
+left_out : (presence : Presence) (tag : Option Tag) (ps : Parts) → Decides (may_be_left_out presence tag ps) (MayBeLeftOut presence tag ps)
+left_out required tag ps = decides_yes
+left_out addition tag ps = decides_yes
+left_out optional tag ps = told_behind tag ps
+left_out (default d) tag ps = told_behind tag ps
+
+-- ---- what is asked of one shape
+
+unset : (b : Bool) → Decides (not b) (b ≡ false)
+unset true = decides_no (λ e. cc)
+unset false = (λ e. refl, λ e. refl)
+
+bit_free : (f : Family) (tag : Tag) → Decides (is_bit_free f tag) (IsBitFree f tag)
+bit_free plain_family tag = decides_yes
+bit_free bit_family tag = unset (tag_bit tag)
+bit_free text_family tag = unset (tag_bit tag)
+
+tagged : (s : Shape) → Decides (has_tag s) (HasTag s)
+tagged (leaf kind tag bounds) = decides_yes
+tagged (any None) = decides_no (λ h. h)
+tagged (any (Some tag)) = decides_yes
+tagged (prefix tag s) = decides_yes
+tagged (choice ps) = decides_yes
+tagged (option tag s) = decides_yes
+tagged (seq tag ps) = decides_yes
+tagged (set tag ps) = decides_yes
+tagged (list tag s size) = decides_yes
+tagged (set_of tag s size) = decides_yes
+
+mutual
+  solid : (s : Shape) → Decides (is_solid s) (IsSolid s)
+  solid (leaf kind tag bounds) = decides_yes
+  solid (any tag) = decides_yes
+  solid (prefix tag s) = decides_yes
+  solid (choice ps) = all_solid ps
+  solid (option tag s) = decides_no (λ h. h)
+  solid (seq tag ps) = decides_yes
+  solid (set tag ps) = decides_yes
+  solid (list tag s size) = decides_yes
+  solid (set_of tag s size) = decides_yes
+
+  all_solid : (ps : Parts) → Decides (are_solid ps) (AreSolid ps)
+  all_solid none = decides_yes
+  all_solid (part presence s ps) = Decides-and _ _ (solid s) (all_solid ps)
+
+is_root : (presence : Presence) → Decides (is_required presence) (presence ≡ required)
+is_root required = (λ e. refl, λ e. refl)
+is_root optional = decides_no (λ e. cc)
+is_root addition = decides_no (λ e. cc)
+is_root (default d) = decides_no (λ e. cc)
+
+no_addition : (presence : Presence) → Decides (not (is_addition presence)) (presence ≢ addition)
+no_addition required = (λ e f. cc, λ h. refl)
+no_addition optional = (λ e f. cc, λ h. refl)
+no_addition addition = decides_no (λ h. h refl)
+no_addition (default d) = (λ e f. cc, λ h. refl)
+
+same_own : (s t : Option Tag) → Decides (is_same_own s t) (s ≡ t)
+same_own None None = (λ e. refl, λ e. refl)
+same_own None (Some t) = decides_no (λ e. cc)
+same_own (Some s) None = decides_no (λ e. cc)
+same_own (Some s) (Some t) = Decides-like (is_same_tag s t) (λ e. ap Some e) (λ e. cc) (same_tag s t)
+
+-- Three and more in one.
+both : {P Q R : Type 0} (x y z : Bool) → Decides x P → Decides y Q → Decides z R → Decides (x && (y && z)) (P × Q × R)
+both x y z p q r = Decides-like (x && (y && z)) (λ h. (h.0, h.1.0, h.1.1)) (λ h. (h.0, (h.1, h.2))) (Decides-and x (y && z) p (Decides-and y z q r))
+
+rising : (s : Shape) (ps : Parts) → Decides (holds_between is_tag_below (firsts s) (firsts_of ps)) (Between IsTagBelow (IsFirst s) (IsFirstOf ps))
+rising s ps = between_told is_tag_below IsTagBelow tag_below below_itself (firsts s) (firsts_of ps) (IsFirst s) (IsFirstOf ps) (firsts_tell s) (all_tell ps)
+
+-- ---- shapes
+
+mutual
+  unfolding IsLawful AreAlternatives AreLawfulInOrder AreLawfulByTag
+
+  pub lawful_decides : (s : Shape) → Decides (is_lawful s) (IsLawful s)
+  lawful_decides (leaf kind tag bounds) = Decides-and _ _ (no_value tag) (bit_free (family kind) tag)
+  lawful_decides (any None) = decides_yes
+  lawful_decides (any (Some tag)) = no_value tag
+  lawful_decides (prefix tag s) = both _ _ _ (no_value tag) (solid s) (lawful_decides s)
+  lawful_decides (choice ps) = Decides-and _ _ (alternatives ps) (told_apart ps)
+  lawful_decides (option tag s) = both _ _ _ (same_own tag (own s)) (solid s) (lawful_decides s)
+  lawful_decides (seq tag ps) = Decides-and _ _ (no_value tag) (in_order ps)
+  lawful_decides (set tag ps) = Decides-and _ _ (no_value tag) (by_tag ps)
+  lawful_decides (list tag s size) = both _ _ _ (no_value tag) (solid s) (lawful_decides s)
+  lawful_decides (set_of tag s size) = both _ _ _ (no_value tag) (solid s) (lawful_decides s)
+
+  alternatives : (ps : Parts) → Decides (are_alternatives ps) (AreAlternatives ps)
+  alternatives none = decides_yes
+  alternatives (part presence s ps) = Decides-like (are_alternatives (part presence s ps)) (λ h. (h.0, h.1, h.2.0, h.2.1, h.2.2)) (λ h. (h.0, h.1, (h.2, h.3, h.4)))
+      (both _ _ _ (is_root presence) (tagged s) (both _ _ _ (solid s) (lawful_decides s) (alternatives ps)))
+
+  in_order : (ps : Parts) → Decides (are_lawful_in_order ps) (AreLawfulInOrder ps)
+  in_order none = decides_yes
+  in_order (part presence s ps) = Decides-like (are_lawful_in_order (part presence s ps)) (λ h. (h.0, h.1, h.2.0, h.2.1)) (λ h. (h.0, h.1, (h.2, h.3)))
+      (both _ _ _ (solid s) (lawful_decides s) (Decides-and _ _ (left_out presence (own s) ps) (in_order ps)))
+
+  by_tag : (ps : Parts) → Decides (are_lawful_by_tag ps) (AreLawfulByTag ps)
+  by_tag none = decides_yes
+  by_tag (part presence s ps) = Decides-like (are_lawful_by_tag (part presence s ps)) (λ h. (h.0, h.1, h.2.0, h.2.1, h.2.2.0, h.2.2.1)) (λ h. (h.0, h.1, (h.2, h.3, (h.4, h.5))))
+      (both _ _ _ (no_addition presence) (tagged s) (both _ _ _ (solid s) (lawful_decides s) (Decides-and _ _ (rising s ps) (by_tag ps))))
+
+-- A shape that passes the test is lawful, and one that doesn't isn't.
+pub lawful : (s : Shape) → is_lawful s ≡ true → IsLawful s
+lawful s = (lawful_decides s).0
+
+pub unlawful : (s : Shape) → is_lawful s ≡ false → IsLawful s → ⊥
+unlawful s = not_from_Decides (is_lawful s) (lawful_decides s)

@@ -1,0 +1,156 @@
+-- The test of a lawful shape, which computes. First tags are a list, or None where every tag is one.
+use Rattle.std.specs.Prelude.{ℕ, Bool, true, false, not, ◌&&◌, ◌||◌, nat_eq, nat_lt, List, [], ◌∷◌, ◌++◌, Option, Some, None}
+use Rattle.std.specs.List.{list_all, list_any}
+use Rattle.rasn_types.specs.Tags.{tag_bit, Tag, rank, is_eoc}
+use Rattle.rasn_types.specs.Shapes.{Shape, leaf, any, prefix, choice, option, seq, set, list, set_of, Parts, part, own, Presence, required, optional, addition, default}
+use Rattle.rasn_types.specs.Shapes.Parts.{none}
+use Rattle.rasn_types.specs.Grammar.{Family, plain_family, bit_family, text_family, family}
+
+abbrev pub is_same_tag : Tag → Tag → Bool
+is_same_tag s t = nat_eq (rank s.class) (rank t.class) && nat_eq s.value t.value
+
+abbrev pub is_other_tag : Tag → Tag → Bool
+is_other_tag s t = not (is_same_tag s t)
+
+abbrev pub is_tag_below : Tag → Tag → Bool
+is_tag_below s t = nat_lt (rank s.class) (rank t.class) || (nat_eq (rank s.class) (rank t.class) && nat_lt s.value t.value)
+
+abbrev pub Firsts : Type 0
+Firsts = Option (List Tag)
+
+abbrev pub either_first : Firsts → Firsts → Firsts
+either_first None b = None
+either_first (Some a) None = None
+either_first (Some a) (Some b) = Some (a ++ b)
+
+abbrev mutual
+  pub firsts : Shape → Firsts
+  firsts (leaf kind tag bounds) = Some (tag ∷ [])
+  firsts (any None) = None
+  firsts (any (Some tag)) = Some (tag ∷ [])
+  firsts (prefix tag s) = Some (tag ∷ [])
+  firsts (choice ps) = firsts_of ps
+  firsts (option tag s) = firsts s
+  firsts (seq tag ps) = Some (tag ∷ [])
+  firsts (set tag ps) = Some (tag ∷ [])
+  firsts (list tag s size) = Some (tag ∷ [])
+  firsts (set_of tag s size) = Some (tag ∷ [])
+
+  pub firsts_of : Parts → Firsts
+  firsts_of none = Some []
+  firsts_of (part presence s ps) = either_first (firsts s) (firsts_of ps)
+
+abbrev pub firsts_behind : Parts → Firsts
+firsts_behind none = Some []
+firsts_behind (part required s ps) = firsts s
+firsts_behind (part addition s ps) = firsts s
+firsts_behind (part optional s ps) = either_first (firsts s) (firsts_behind ps)
+firsts_behind (part (default d) s ps) = either_first (firsts s) (firsts_behind ps)
+
+abbrev pub is_first : Firsts → Tag → Bool
+is_first None n = true
+is_first (Some tags) n = list_any (is_same_tag n) tags
+
+-- The test holds of each of these and each of those; none that is asked here holds of a tag and itself.
+abbrev pub holds_between : (Tag → Tag → Bool) → Firsts → Firsts → Bool
+holds_between test (Some a) (Some b) = list_all (λ s. list_all (test s) b) a
+holds_between test (Some []) None = true
+holds_between test (Some (s ∷ a)) None = false
+holds_between test None (Some []) = true
+holds_between test None (Some (t ∷ b)) = false
+holds_between test None None = false
+
+abbrev pub are_told_apart : Parts → Bool
+are_told_apart none = true
+are_told_apart (part presence s ps) = holds_between is_other_tag (firsts s) (firsts_of ps) && are_told_apart ps
+
+abbrev pub is_none : Parts → Bool
+is_none none = true
+is_none (part presence s ps) = false
+
+abbrev pub is_told_apart : Option Tag → Parts → Bool
+is_told_apart (Some tag) ps = not (is_first (firsts_behind ps) tag)
+is_told_apart None ps = is_none ps
+
+abbrev pub may_be_left_out : Presence → Option Tag → Parts → Bool
+may_be_left_out required tag ps = true
+may_be_left_out addition tag ps = true
+may_be_left_out optional tag ps = is_told_apart tag ps
+may_be_left_out (default d) tag ps = is_told_apart tag ps
+
+abbrev pub is_bit_free : Family → Tag → Bool
+is_bit_free plain_family tag = true
+is_bit_free bit_family tag = not (tag_bit tag)
+is_bit_free text_family tag = not (tag_bit tag)
+
+abbrev pub has_tag : Shape → Bool
+has_tag (leaf kind tag bounds) = true
+has_tag (any None) = false
+has_tag (any (Some tag)) = true
+has_tag (prefix tag s) = true
+has_tag (choice ps) = true
+has_tag (option tag s) = true
+has_tag (seq tag ps) = true
+has_tag (set tag ps) = true
+has_tag (list tag s size) = true
+has_tag (set_of tag s size) = true
+
+abbrev mutual
+  pub is_solid : Shape → Bool
+  is_solid (leaf kind tag bounds) = true
+  is_solid (any tag) = true
+  is_solid (prefix tag s) = true
+  is_solid (choice ps) = are_solid ps
+  is_solid (option tag s) = false
+  is_solid (seq tag ps) = true
+  is_solid (set tag ps) = true
+  is_solid (list tag s size) = true
+  is_solid (set_of tag s size) = true
+
+  pub are_solid : Parts → Bool
+  are_solid none = true
+  are_solid (part presence s ps) = is_solid s && are_solid ps
+
+abbrev pub is_required : Presence → Bool
+is_required required = true
+is_required optional = false
+is_required addition = false
+is_required (default d) = false
+
+abbrev pub is_addition : Presence → Bool
+is_addition required = false
+is_addition optional = false
+is_addition addition = true
+is_addition (default d) = false
+
+abbrev pub is_same_own : Option Tag → Option Tag → Bool
+is_same_own None None = true
+is_same_own None (Some t) = false
+is_same_own (Some s) None = false
+is_same_own (Some s) (Some t) = is_same_tag s t
+
+abbrev mutual
+  pub is_lawful : Shape → Bool
+  is_lawful (leaf kind tag bounds) = not (is_eoc tag) && is_bit_free (family kind) tag
+  is_lawful (any None) = true
+  is_lawful (any (Some tag)) = not (is_eoc tag)
+  is_lawful (prefix tag s) = not (is_eoc tag) && (is_solid s && is_lawful s)
+  is_lawful (choice ps) = are_alternatives ps && are_told_apart ps
+  is_lawful (option tag s) = is_same_own tag (own s) && (is_solid s && is_lawful s)
+  is_lawful (seq tag ps) = not (is_eoc tag) && are_lawful_in_order ps
+  is_lawful (set tag ps) = not (is_eoc tag) && are_lawful_by_tag ps
+  is_lawful (list tag s size) = not (is_eoc tag) && (is_solid s && is_lawful s)
+  is_lawful (set_of tag s size) = not (is_eoc tag) && (is_solid s && is_lawful s)
+
+  pub are_alternatives : Parts → Bool
+  are_alternatives none = true
+  are_alternatives (part presence s ps) = is_required presence && (has_tag s && (is_solid s && (is_lawful s && are_alternatives ps)))
+
+  pub are_lawful_in_order : Parts → Bool
+  are_lawful_in_order none = true
+  are_lawful_in_order (part presence s ps) = is_solid s && (is_lawful s && (may_be_left_out presence (own s) ps && are_lawful_in_order ps))
+
+  pub are_lawful_by_tag : Parts → Bool
+  are_lawful_by_tag none = true
+  are_lawful_by_tag (part presence s ps) = not (is_addition presence) && (has_tag s && (is_solid s && (is_lawful s
+      && (holds_between is_tag_below (firsts s) (firsts_of ps) && are_lawful_by_tag ps))))

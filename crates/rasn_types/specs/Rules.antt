@@ -1,0 +1,11 @@
+-- The encoding rules and their names.
+pub use Rattle.rasn_types.specs.declared.types.rules.Codec.{Codec}
+use Rattle.rasn_types.specs.declared.types.rules.Codec.TheVariants.{Ber, Cer, Der}
+pub use Rattle.rasn_types.specs.declared.ber.rules.EncodingRules.{EncodingRules}
+use Rattle.rasn_types.specs.declared.ber.rules.EncodingRules.TheVariants.{Ber as basic, Cer as canonical, Der as distinguished}
+
+-- the rules' name, in which the grammar speaks of what they allow
+abbrev pub codec_of : EncodingRules → Codec
+codec_of basic = Ber
+codec_of canonical = Cer
+codec_of distinguished = Der
