@@ -10,14 +10,14 @@ use Rattle.rasn_types.specs.declared.types.constraints.Constraints.{Constraints}
 use Rattle.rasn_types.specs.declared.error.decode.DecodeError.{DecodeError}
 use Rattle.rasn_types.specs.Framing.{AreOctets, definite}
 use Rattle.rasn_types.specs.Tags.{form, in_universal}
-use Rattle.rasn_types.specs.Shapes.{Tree, bits, leaf, bit_string, Admits, constraint_of}
+use Rattle.rasn_types.specs.Shapes.{Tree, bits, leaf, bit_string, Admits}
 use Rattle.rasn_types.specs.Tags.{IsStrict}
 use Rattle.rasn_types.specs.Contents.{Str, AllFalse, ReadBits}
 use Rattle.rasn_types.specs.Bits.{bits_in, but_last}
 use Rattle.rasn_types.specs.Grammar.{Reads, ReadsLeaf, IsBounded}
 use Rattle.rasn_types.proofs.Bits.{length-bits_in}
 use Rattle.rasn_de.specs.declared.ber.de.parser.Fault.{Fault}
-use Rattle.rasn_de.specs.declared.ber.de.parser.Fault.TheVariants.{OutOfMemory, InvalidBitString, LengthExceedsPlatformWidth, SizeConstraintNotSatisfied, Der}
+use Rattle.rasn_de.specs.declared.ber.de.parser.Fault.TheVariants.{OutOfMemory, InvalidBitString, LengthExceedsPlatformWidth, Der}
 use Rattle.rasn_types.specs.declared.error.decode.DerDecodeErrorKind.TheVariants.{NonzeroUnusedBits}
 use Rattle.rasn_de.specs.Headers.{is_der, Header, header_at}
 use Rattle.rasn_de.specs.declared.ber.de.parser.headers.Expected.TheVariants.{Tagged}
@@ -26,6 +26,7 @@ use Rattle.rasn_de.specs.Causes.{Cause, fault, error_kind}
 use Rattle.rasn_de.specs.BitStrings.{is_miscounted, last_bits, is_any_set, segment_bits, bit_string_at, bits_tree, BitsAt, IsOversized, LacksBits, refused, gathering, copying, GaveBits, GathersBits}
 use Rattle.rasn_de.specs.State.{State, at, IsEnd}
 use Rattle.rasn_de.specs.Taking.{ErrorOf}
+use Rattle.rasn_de.specs.Texts.{IsOutOfSize}
 use Rattle.rasn_de.specs.Outcomes.{Exact, refusal}
 use Rattle.rasn_de.specs.Decodes.{Decodes}
 use Rattle.rasn_de.proofs.Answering.{Agrees, gave_answers}
@@ -38,6 +39,7 @@ use Rattle.rasn_de.proofs.Refusals.{refuses_fault, same_at}
 use Rattle.rasn_de.proofs.StringEnds.{string_ends}
 use Rattle.rasn_de.proofs.Strs.{Reads as ReadsBy, string_found, string_spelled, string_map}
 use Rattle.rasn_de.proofs.Tools.{guarded}
+use Rattle.rasn_de.proofs.Verdicts.{size_plain}
 
 -- ---- one segment
 counted : (u : ℕ) (octets : List ℕ) → is_miscounted u octets ≡ false → (u < 8) × (u ≤ 8 * length octets)
@@ -201,13 +203,12 @@ pub gathers_admitted : (tag : Tag) (bounds : Constraints) (old new : State) (bs 
 gathers_admitted tag bounds old new bs (h, k) n a = ((h, n, a), k)
 
 -- bits whose number isn't
-pub gathers_size : (tag : Tag) (bounds : Constraints) (old new : State) (bs : List Bool) (e : DecodeError) → GathersBits tag old (Ok bs) new → length bs < 2 ^ 64 → (Admits ◌≤◌ bounds.size (length bs) → ⊥)
-    → ErrorOf (SizeConstraintNotSatisfied (length bs) (constraint_of bounds.size)) new e → GaveBits tag bounds old (Err e) new
-gathers_size tag bounds old new bs e (h, k) w n x =
+pub gathers_size : (tag : Tag) (bounds : Constraints) (old new : State) (bs : List Bool) (f : Fault) (e : DecodeError) → GathersBits tag old (Ok bs) new → length bs < 2 ^ 64 → IsOutOfSize bounds.size (length bs) f
+    → ErrorOf f new e → GaveBits tag bounds old (Err e) new
+gathers_size tag bounds old new bs f e (h, k) w (n, i) x =
     inr (inr (
-      (λ m. kind_memory (SizeConstraintNotSatisfied (length bs) (constraint_of bounds.size)) (λ e. cc) (sym (ap (λ (y : DecodeError). y.kind) x) ∙ m)),
-      refuses_fault (BitsAt bounds old.rule old.depth tag old.rest) old new (SizeConstraintNotSatisfied (length bs) (constraint_of bounds.size)) e
-          (inr (bs, h, inr (w, n, refl))) k x,
+      (λ m. kind_memory f (size_plain bounds.size (length bs) f (n, i)) (sym (ap (λ (y : DecodeError). y.kind) x) ∙ m)),
+      refuses_fault (BitsAt bounds old.rule old.depth tag old.rest) old new f e (inr (bs, h, inr (w, n, ap fault i))) k x,
     ))
 
 -- ---- what a header and its contents tell

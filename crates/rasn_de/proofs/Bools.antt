@@ -1,11 +1,12 @@
 -- A BOOLEAN is read exactly where the grammar has one.
 use Rattle.std.proofs.Common.{◌≡◌, ◌≢◌, ℕ, ◌⊎◌, inl, inr, Bool, true, false, cond, List, [], ◌∷◌, Result, Ok, Err, refl, ap, ◌∙◌, subst, arith}
-use Rattle.std.specs.Prelude.{nat_eq, pos}
+use Rattle.std.specs.Prelude.{nat_eq, pos, IfErr}
 use Rattle.std.proofs.lemmas.Bool.Decides.{nat_tests}
 use Rattle.rasn_types.specs.declared.types.tag.Tag.{Tag}
 use Rattle.rasn_types.specs.declared.types.rules.Codec.{Codec}
 use Rattle.rasn_types.specs.declared.types.rules.Codec.TheVariants.{Ber, Cer, Der}
 use Rattle.rasn_types.specs.declared.error.decode.DecodeError.{DecodeError}
+use Rattle.rasn_types.specs.Errors.{IsOutOfMemory}
 use Rattle.rasn_types.specs.Framing.{AreOctets}
 use Rattle.rasn_types.specs.Tags.{IsStrict}
 use Rattle.rasn_types.specs.Shapes.{Tree, number, leaf, boolean}
@@ -20,6 +21,7 @@ use Rattle.rasn_de.specs.State.{State}
 use Rattle.rasn_de.specs.Decodes.{Decodes}
 use Rattle.rasn_de.proofs.Tools.{chosen}
 use Rattle.rasn_de.proofs.Answering.{plain_agrees, gave_answers}
+use Rattle.rasn_de.proofs.OutOfMemory.{bool_plain, gave_plain}
 
 -- how contents are read
 abbrev pub reads_bool : Codec → List ℕ → Result Bool Cause → Type 0
@@ -85,8 +87,13 @@ bool_only rule c x t o e k u = let s = bool_spelled rule c t o k u in let f = s.
 bool_none : (rule : Codec) (c : List ℕ) (e : Cause) (t : Tree) → AreOctets c → as_cause (bool_in rule c) ≡ Err e → Contents rule boolean c t → (IsStrict rule → Unit {0}) → Unit {0} → ⊥
 bool_none rule c e t o f k n u = let s = bool_spelled rule c t o k u in let g = s.1 in cc
 
-pub bool_decodes : (tag : Tag) (old new : State) (result : Result Bool DecodeError) → AreOctets old.rest → Gave (λ b. b) (BoolAt old.rule tag old.rest) old result new → Decodes (leaf boolean tag unconstrained) bool_tree old result new
+bool_decodes : (tag : Tag) (old new : State) (result : Result Bool DecodeError) → AreOctets old.rest → Gave (λ b. b) (BoolAt old.rule tag old.rest) old result new → Decodes (leaf boolean tag unconstrained) bool_tree old result new
 unfolding Reads
 bool_decodes tag old new result o g =
     gave_answers (λ rule. Reads rule (leaf boolean tag unconstrained)) bool_tree (λ b. b) _ old new result
     (plain_agrees old.rule tag old.rest o boolean old.depth (λ t. Unit {0}) bool_tree (reads_bool old.rule) (bool_found old.rule) (bool_only old.rule) (bool_none old.rule)) g
+
+-- What `decode_bool` ensures follows from its exact clause.
+pub bool_ensured : (tag : Tag) (old new : State) (result : Result Bool DecodeError) → AreOctets old.rest → Gave (λ b. b) (BoolAt old.rule tag old.rest) old result new
+    → record { reads : Decodes (leaf boolean tag unconstrained) bool_tree old result new; refused : Gave (λ b. b) (BoolAt old.rule tag old.rest) old result new; memory : IfErr result (λ e. IsOutOfMemory e.kind → ⊥) }
+bool_ensured tag old new result o g = record { reads = bool_decodes tag old new result o g; refused = g; memory = gave_plain (λ b. b) (reads_bool old.rule) (bool_plain old.rule) tag old new result g }

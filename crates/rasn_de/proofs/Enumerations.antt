@@ -137,5 +137,10 @@ module _ (known : List ℤ) where
   enumerated_plain rule c (out_of_bound z bound) b = b
 
   -- No memory is taken.
-  pub enumerated_memory : (tag : Tag) (old new : State) (e : DecodeError) → Refuses (EnumeratedAt known old.rule tag old.rest) old e new → IsOutOfMemory e.kind → ⊥
+  enumerated_memory : (tag : Tag) (old new : State) (e : DecodeError) → Refuses (EnumeratedAt known old.rule tag old.rest) old e new → IsOutOfMemory e.kind → ⊥
   enumerated_memory tag old new e r = leaf_plain (EnumeratedIn old.rule known) (enumerated_plain old.rule) tag old new e r
+
+  -- What `decode_enumerated` ensures of an error.
+  pub enumerated_fails : {E : Type 0} (see : E → ℤ) (tag : Tag) (old new : State) (e : DecodeError) → Decodes {T = E} (leaf (enumerated known) tag unconstrained) (λ v. number (see v)) old (Err e) new → Refuses (EnumeratedAt known old.rule tag old.rest) old e new
+      → record { reads : Decodes {T = E} (leaf (enumerated known) tag unconstrained) (λ v. number (see v)) old (Err e) new; refused : Refuses (EnumeratedAt known old.rule tag old.rest) old e new; memory : IsOutOfMemory e.kind → ⊥ }
+  enumerated_fails see tag old new e d r = record { reads = d; refused = r; memory = enumerated_memory tag old new e r }

@@ -5,21 +5,23 @@ use Rattle.rasn_types.specs.declared.types.tag.Tag.{Tag}
 use Rattle.rasn_types.specs.declared.types.rules.Codec.{Codec}
 use Rattle.rasn_types.specs.declared.types.constraints.Constraints.{Constraints}
 use Rattle.rasn_types.specs.declared.error.decode.DecodeError.{DecodeError}
+use Rattle.rasn_types.specs.Errors.{IsOutOfMemory}
 use Rattle.rasn_types.specs.Framing.{AreOctets}
 use Rattle.rasn_types.specs.Shapes.{Tree, number, leaf, integer, Interval, IsIn, Admits, constraint_of}
 use Rattle.rasn_types.specs.Tags.{IsStrict}
 use Rattle.rasn_types.specs.Contents.{Contents, signed, IsShortest, IsShortestInteger}
 use Rattle.rasn_types.specs.Grammar.{Reads, IsBounded}
 use Rattle.rasn_de.specs.Causes.{Cause, fault, out_of_bound, TellsCause}
-use Rattle.std.specs.Prelude.{◌==◌, MatchOption}
+use Rattle.std.specs.Prelude.{◌==◌, ◌⊎◌, IfErr, MatchOption}
 use Rattle.rasn_de.specs.declared.ber.de.parser.Fault.{Fault}
 use Rattle.rasn_de.specs.declared.ber.de.parser.Fault.TheVariants as fault_is
 use Rattle.rasn_de.specs.Taking.{ErrorOf}
 use Rattle.rasn_de.proofs.Refusals.{rule_is}
-use Rattle.rasn_de.specs.Leaves.{Readings, FromContents, HoldsNumber, LacksNumber, IntegerIn, IntegerAt, definite_at, Refuses, GaveInteger}
+use Rattle.rasn_de.specs.Leaves.{Readings, FromContents, HoldsNumber, LacksNumber, IntegerIn, IntegerAt, definite_at, Refuses, GaveInteger, IsBeyond}
 use Rattle.rasn_de.specs.State.{State, at}
 use Rattle.rasn_de.specs.Outcomes.{Exact, refusal}
 use Rattle.rasn_de.specs.Decodes.{Decodes}
+use Rattle.rasn_de.proofs.OutOfMemory.{gave_integer_memory}
 use Rattle.rasn_de.proofs.Answering.{plain_agrees, gave_answers, definite_end}
 
 -- Octets that hold a number don't lack one.
@@ -39,7 +41,7 @@ module _ (width : ℕ) (range : Interval) (bounds : Constraints) where
   integer_none rule c (fault f) t o (inr (n, i, g)) k s b = i k.2
   integer_none rule c (out_of_bound z bound) t o (n, i, a, e, g) k s b = a (subst (IsBounded (integer range) bounds) k.0 b)
 
-  pub integer_decodes : {X : Type 0} (see : X → ℤ) (Grows : Type 0) (tag : Tag) (old new : State) (result : Result X DecodeError) → AreOctets old.rest
+  integer_decodes : {X : Type 0} (see : X → ℤ) (Grows : Type 0) (tag : Tag) (old new : State) (result : Result X DecodeError) → AreOctets old.rest
       → GaveInteger see Grows tag (IntegerAt width range bounds old.rule tag old.rest) old result new → Decodes (leaf (integer range) tag bounds) (λ v. number (see v)) old result new
   unfolding Reads
   integer_decodes see Grows tag old new (Ok v) o g =
@@ -53,6 +55,16 @@ module _ (width : ℕ) (range : Interval) (bounds : Constraints) where
     end = definite_end old.rule tag old.rest o c new.rest h;
     exact = subst (λ k. Exact (Reads old.rule (leaf (integer range) tag bounds) old.depth old.closing) old.rest (refusal k)) (sym m) tt;
   }
+
+  -- What `decode_integer` ensures follows from its exact clause.
+  pub integer_ensured : {X : Type 0} (see : X → ℤ) (Grows : Type 0) (tag : Tag) (old new : State) (result : Result X DecodeError) → AreOctets old.rest
+      → GaveInteger see Grows tag (IntegerAt width range bounds old.rule tag old.rest) old result new
+      → record {
+        reads : Decodes (leaf (integer range) tag bounds) (λ v. number (see v)) old result new;
+        refused : GaveInteger see Grows tag (IntegerAt width range bounds old.rule tag old.rest) old result new;
+        memory : IfErr result (λ e. IsOutOfMemory e.kind → Grows ⊎ IsBeyond (IntegerAt width range bounds old.rule tag old.rest) new.rest);
+      }
+  integer_ensured see Grows tag old new result o g = record { reads = integer_decodes see Grows tag old new result o g; refused = g; memory = gave_integer_memory see Grows width range bounds tag old new result g }
 
   -- a number out of its bound
   pub bound_refused : (tag : Tag) (old new : State) (c : List ℕ) (e : DecodeError) → definite_at old.rule tag old.rest ≡ Ok (c, new.rest) → new ≡ at old new.rest → HoldsNumber old.rule c → IsIn range (signed c) → (Admits ◌≤ℤ◌ bounds.value (signed c) → ⊥)

@@ -2,6 +2,7 @@ pub mod Tools
 pub mod Numbers
 pub mod Identifiers
 pub mod Frames
+pub mod Returns
 pub mod Segments
 pub mod Shorter
 pub mod Fronts

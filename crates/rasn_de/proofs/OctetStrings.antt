@@ -1,5 +1,6 @@
 -- An OCTET STRING is read exactly where the grammar has one.
 use Rattle.std.proofs.Common.{◌≡◌, ◌≢◌, ◌≤◌, ℕ, ◌⊎◌, inl, inr, List, length, Result, Ok, Err, refl, sym, ap, ◌∙◌, subst}
+use Rattle.std.specs.Prelude.{IfErr}
 use Rattle.std.specs.Cow.{cow_slice_items}
 use Rattle.std.specs.declared.alloc.Global.{Global}
 use Rattle.std.specs.declared.borrow.CowSlice.{CowSlice}
@@ -7,22 +8,26 @@ use Rattle.rasn_types.specs.declared.types.tag.Tag.{Tag}
 use Rattle.rasn_types.specs.declared.types.rules.Codec.{Codec}
 use Rattle.rasn_types.specs.declared.types.constraints.Constraints.{Constraints}
 use Rattle.rasn_types.specs.declared.error.decode.DecodeError.{DecodeError}
+use Rattle.rasn_types.specs.Errors.{IsOutOfMemory}
 use Rattle.rasn_types.specs.Framing.{AreOctets}
-use Rattle.rasn_types.specs.Shapes.{Tree, numbers, leaf, octet_string, Admits, constraint_of}
+use Rattle.rasn_types.specs.Shapes.{Tree, numbers, leaf, octet_string, Admits}
 use Rattle.rasn_types.specs.Grammar.{Reads, ReadsLeaf, IsBounded}
-use Rattle.rasn_de.specs.declared.ber.de.parser.Fault.TheVariants.{SizeConstraintNotSatisfied}
+use Rattle.rasn_de.specs.declared.ber.de.parser.Fault.{Fault}
 use Rattle.rasn_de.specs.declared.ber.de.parser.Fault.TheVariants as fault_is
 use Rattle.rasn_de.specs.Causes.{Cause, fault, error_kind}
-use Rattle.rasn_de.specs.Octets.{OctetsAt, GaveOctets, GathersOctets, cow_tree}
+use Rattle.rasn_de.specs.Octets.{OctetsAt, GaveOctets, GathersOctets, IsPrimitive, cow_tree}
+use Rattle.rasn_de.specs.Texts.{IsOutOfSize}
 use Rattle.rasn_de.specs.State.{State, IsEnd}
 use Rattle.rasn_de.specs.Taking.{ErrorOf}
 use Rattle.rasn_de.specs.Outcomes.{Exact, refusal}
 use Rattle.rasn_de.specs.Decodes.{Decodes}
 use Rattle.rasn_de.proofs.Answering.{Agrees, gave_answers}
 use Rattle.rasn_de.proofs.Ends.{IsEnd-refl}
+use Rattle.rasn_de.proofs.OutOfMemory.{primitive_plain}
 use Rattle.rasn_de.proofs.Peeks.{kind_memory, memory_or}
 use Rattle.rasn_de.proofs.Refusals.{refuses_fault, same_at}
 use Rattle.rasn_de.proofs.StringEnds.{octets_there, octets_only, octets_end}
+use Rattle.rasn_de.proofs.Verdicts.{size_plain}
 
 octets_agree : (bounds : Constraints) (rule : Codec) (depth : ℕ) (tag : Tag) (l : List ℕ) → AreOctets l → (r : Result (List ℕ × List ℕ) (Cause × List ℕ)) → OctetsAt bounds rule depth tag l r
     → Agrees (ReadsLeaf rule octet_string tag bounds depth) numbers l r
@@ -81,11 +86,16 @@ pub gathers_admitted : (tag : Tag) (bounds : Constraints) (old new : State) (s :
 gathers_admitted tag bounds old new s (h, k, f) a = (((h, a), k), f)
 
 -- octets whose size isn't
-pub gathers_size : (tag : Tag) (bounds : Constraints) (old new : State) (s : CowSlice ℕ Global) (e : DecodeError) → GathersOctets tag old (Ok s) new → (Admits ◌≤◌ bounds.size (length (cow_slice_items s)) → ⊥)
-    → ErrorOf (SizeConstraintNotSatisfied (length (cow_slice_items s)) (constraint_of bounds.size)) new e → GaveOctets tag bounds old (Err e) new
-gathers_size tag bounds old new s e (h, k, f) n x =
+pub gathers_size : (tag : Tag) (bounds : Constraints) (old new : State) (s : CowSlice ℕ Global) (f : Fault) (e : DecodeError) → GathersOctets tag old (Ok s) new → IsOutOfSize bounds.size (length (cow_slice_items s)) f
+    → ErrorOf f new e → GaveOctets tag bounds old (Err e) new
+gathers_size tag bounds old new s f e (h, k, w) (n, i) x =
     inr (
-      (λ m. kind_memory (SizeConstraintNotSatisfied (length (cow_slice_items s)) (constraint_of bounds.size)) (λ e. cc) (sym (ap (λ (y : DecodeError). y.kind) x) ∙ m)),
-      refuses_fault (OctetsAt bounds old.rule old.depth tag old.rest) old new (SizeConstraintNotSatisfied (length (cow_slice_items s)) (constraint_of bounds.size)) e
-          (inr (cow_slice_items s, h, n, refl)) k x,
+      (λ m. kind_memory f (size_plain bounds.size (length (cow_slice_items s)) f (n, i)) (sym (ap (λ (y : DecodeError). y.kind) x) ∙ m)),
+      refuses_fault (OctetsAt bounds old.rule old.depth tag old.rest) old new f e (inr (cow_slice_items s, h, n, ap fault i)) k x,
     )
+
+-- What `decode_octet_string` ensures follows from its exact clause.
+pub octets_ensured : (tag : Tag) (bounds : Constraints) (old new : State) (result : Result (CowSlice ℕ Global) DecodeError) → AreOctets old.rest → GaveOctets tag bounds old result new
+    → record { reads : Decodes (leaf octet_string tag bounds) cow_tree old result new; refused : GaveOctets tag bounds old result new; memory : IsPrimitive old.rule tag old.rest → IfErr result (λ e. IsOutOfMemory e.kind → ⊥) }
+octets_ensured tag bounds old new (Ok s) o g = record { reads = octets_decodes tag bounds old new (Ok s) o g; refused = g; memory = λ p. tt }
+octets_ensured tag bounds old new (Err e) o g = record { reads = octets_decodes tag bounds old new (Err e) o g; refused = g; memory = primitive_plain tag bounds old new e g }

@@ -1,6 +1,6 @@
 -- Readings that take no memory.
 use Rattle.std.proofs.Common.{◌≡◌, ◌≢◌, ℕ, ℤ, ◌⊎◌, inl, inr, Bool, true, false, List, [], ◌∷◌, Result, Ok, Err, sym, ap, ◌∙◌, subst}
-use Rattle.std.specs.Prelude.{nat_eq}
+use Rattle.std.specs.Prelude.{nat_eq, IfErr}
 use Rattle.rasn_types.specs.declared.types.tag.Tag.{Tag}
 use Rattle.rasn_types.specs.declared.types.rules.Codec.{Codec}
 use Rattle.rasn_types.specs.declared.error.decode.DecodeError.{DecodeError}
@@ -13,7 +13,7 @@ use Rattle.rasn_de.specs.declared.ber.de.parser.Fault.TheVariants.{OutOfMemory, 
 use Rattle.rasn_types.specs.Tags.{form, loose, tag_bit}
 use Rattle.rasn_de.specs.Headers.{spelled, Header, header_at, as_written}
 use Rattle.rasn_de.specs.Causes.{Cause, fault, out_of_bound, TellsCause}
-use Rattle.rasn_de.specs.Leaves.{on_header, definite_in, definite_at, FromContents, LeafAt, as_cause, is_ber, bool_in, Refuses, LacksNumber, IntegerIn, IntegerAt, GaveInteger, IsBeyond}
+use Rattle.rasn_de.specs.Leaves.{on_header, definite_in, definite_at, FromContents, LeafAt, as_cause, is_ber, bool_in, Refuses, Gave, LacksNumber, IntegerIn, IntegerAt, GaveInteger, IsBeyond}
 use Rattle.rasn_types.specs.declared.types.constraints.Constraints.{Constraints}
 use Rattle.rasn_types.specs.Shapes.{Interval}
 use Rattle.rasn_de.specs.declared.ber.de.parser.headers.Expected.TheVariants.{AnyTag}
@@ -59,6 +59,11 @@ pub leaf_plain : {X : Type 0} (read : List ℕ → Result X Cause → Type 0) �
 leaf_plain read f tag old new e (cause, a, t, c, s) m =
     tells_plain cause e.kind (contents_plain read f (definite_at old.rule tag old.rest) (definite_plain old.rule tag old.rest) (cause, new.rest) a) t m
 
+pub gave_plain : {X Y : Type 0} (see : Y → X) (read : List ℕ → Result X Cause → Type 0) → ((c : List ℕ) (e : Cause) → read c (Err e) → IsPlainCause e) → (tag : Tag) (old new : State) (result : Result Y DecodeError)
+    → Gave see (LeafAt read old.rule tag old.rest) old result new → IfErr result (λ e. IsOutOfMemory e.kind → ⊥)
+gave_plain see read f tag old new (Ok v) g = tt
+gave_plain see read f tag old new (Err e) g = leaf_plain read f tag old new e g
+
 bool_none : (rule : Codec) (c : List ℕ) → NoMemory (bool_in rule c)
 bool_none rule [] = λ e. cc
 bool_none rule (b ∷ []) = none_cond (nat_eq b 0) (Ok false) _ tt (none_cond (nat_eq b 255) (Ok true) _ tt (none_cond (is_ber rule) (Ok true) (Err (InvalidBool b)) tt (λ e. cc)))
@@ -94,7 +99,7 @@ integer_cause rule width range bounds c (fault f) (inl h) = lacks_plain rule c f
 integer_cause rule width range bounds c (fault f) (inr (n, i, g)) = λ h. cc
 integer_cause rule width range bounds c (out_of_bound z bound) a = tt
 
-pub integer_memory : {X : Type 0} (see : X → ℤ) (Grows : Type 0) (width : ℕ) (range : Interval) (bounds : Constraints) (tag : Tag) (old new : State) (e : DecodeError)
+integer_memory : {X : Type 0} (see : X → ℤ) (Grows : Type 0) (width : ℕ) (range : Interval) (bounds : Constraints) (tag : Tag) (old new : State) (e : DecodeError)
     → GaveInteger see Grows tag (IntegerAt width range bounds old.rule tag old.rest) old (Err e) new → IsOutOfMemory e.kind → Grows ⊎ IsBeyond (IntegerAt width range bounds old.rule tag old.rest) new.rest
 integer_memory see Grows width range bounds tag old new e (inl (m, g, c, s, l, h)) n = inl g
 integer_memory see Grows width range bounds tag old new e (inr (cause, a, t, c, s)) n =
@@ -103,6 +108,11 @@ integer_memory see Grows width range bounds tag old new e (inr (cause, a, t, c, 
     go : (x : Cause) → IntegerAt width range bounds old.rule tag old.rest (Err (x, new.rest)) → TellsCause x e.kind → IsPlainOrBound x → IsBeyond (IntegerAt width range bounds old.rule tag old.rest) new.rest
     go (fault f) a t p = absurd (tells_plain (fault f) e.kind p t n)
     go (out_of_bound z bound) a t p = (z, bound, a)
+
+pub gave_integer_memory : {X : Type 0} (see : X → ℤ) (Grows : Type 0) (width : ℕ) (range : Interval) (bounds : Constraints) (tag : Tag) (old new : State) (result : Result X DecodeError)
+    → GaveInteger see Grows tag (IntegerAt width range bounds old.rule tag old.rest) old result new → IfErr result (λ e. IsOutOfMemory e.kind → Grows ⊎ IsBeyond (IntegerAt width range bounds old.rule tag old.rest) new.rest)
+gave_integer_memory see Grows width range bounds tag old new (Ok v) g = tt
+gave_integer_memory see Grows width range bounds tag old new (Err e) g = integer_memory see Grows width range bounds tag old new e g
 
 -- A primitive OCTET STRING is lent, so it asks for no memory.
 pub primitive_plain : (tag : Tag) (bounds : Constraints) (old new : State) (e : DecodeError) → GaveOctets tag bounds old (Err e) new → IsPrimitive old.rule tag old.rest → IsOutOfMemory e.kind → ⊥

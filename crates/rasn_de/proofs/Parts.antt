@@ -10,9 +10,8 @@
 --
 --     pub returns : goal.returns
 --     returns c = part_got _ _ _ c.in_ok-first.ensures (part_got _ _ _ c.in_ok-second.ensures no_parts)
-use Rattle.std.proofs.Common.{◌≡◌, ℕ, Bool, List, [], ◌∷◌, Option, Result, Err, refl, sym, ap, ◌∙◌, subst}
+use Rattle.std.proofs.Common.{◌≡◌, ℕ, Bool, List, [], ◌∷◌, Option, Result, refl, sym, ap, ◌∙◌, subst}
 use Rattle.std.specs.Prelude.{IsErrAnd}
-use Rattle.std.proofs.lemmas.Result.{err_from_is_err_and}
 use Rattle.rasn_types.specs.declared.types.rules.Codec.{Codec}
 use Rattle.rasn_types.specs.declared.types.tag.Tag.{Tag}
 use Rattle.rasn_types.specs.declared.error.decode.DecodeError.{DecodeError}
@@ -26,6 +25,7 @@ use Rattle.rasn_de.specs.State.{State, at}
 use Rattle.rasn_de.specs.Outcomes.{Exact, Outcome, Got, refusal, outcome}
 use Rattle.rasn_de.specs.Decodes.{Answers, ReadsParts}
 use Rattle.rasn_de.specs.Optionals.{ReadsDefault}
+use Rattle.rasn_de.proofs.Returns.{residual}
 use Rattle.rasn_de.proofs.Answering.{Exact-refusal}
 use Rattle.rasn_de.proofs.Refusals.{rule_is}
 use Rattle.rasn_de.proofs.Ends.{IsEnd-refl, IsEnd-trans}
@@ -117,10 +117,7 @@ part_got p s ps {old} {mid} {new} {t} {u} a b = others_got p s ps old mid new t 
 
 -- The error that `?` answers is the one that was met.
 pub refused : {X : Type 0} {R : Codec → ℕ → Bool → Reading Tree} {old new : State} (tree : X → Tree) (r : Result X DecodeError) (e : DecodeError) → IsErrAnd r (λ y. y ≡ e) → Answers R old (refusal e.kind) new → Answers R old (outcome tree r new.rest) new
-refused {X} {R} {old} {new} tree r e h a =
-    let p = err_from_is_err_and r h in
-    let q : r ≡ Err e = p.1 ∙ ap Err p.2 in
-    subst (λ z. Answers R old (outcome tree z new.rest) new) (sym q) a
+refused {X} {R} {old} {new} tree r e h a = subst (λ z. Answers R old (outcome tree z new.rest) new) (sym (residual r h)) a
 
 -- What a reading closure owes of any calls: each one keeps it, and so do two, one behind the other.
 pub call_keeps : {R : Codec → ℕ → Bool → Reading Tree} {o : Outcome} {old new : State} → Answers R old o new → Keeps old new

@@ -34,7 +34,7 @@ pub record Fits (kind : Kind) (bounds : Constraints) (Told : Verdict) : Type 0 w
   pub none : (rule : Codec) (xs : List ℕ) (f : Fault) (t : Tree) → Told xs (Err f) → Text rule kind xs t → IsBounded kind bounds t → ⊥
   pub plain : (xs : List ℕ) (f : Fault) → Told xs (Err f) → f ≢ fault_is.OutOfMemory
 
-module _ (kind : Kind) (bounds : Constraints) (Told : Verdict) (fits : Fits kind bounds Told) where
+module _ {kind : Kind} {bounds : Constraints} {Told : Verdict} (fits : Fits kind bounds Told) where
   into_leaf : (rule : Codec) (depth : ℕ) (tag : Tag) (l : List ℕ) (t : Tree) (r : List ℕ) → ReadsIn text_family rule kind tag depth l t r → ReadsIn (family kind) rule kind tag depth l t r
   into_leaf rule depth tag l t r h = subst (λ f. ReadsIn f rule kind tag depth l t r) (sym fits.is_text) h
 
@@ -67,7 +67,7 @@ module _ (kind : Kind) (bounds : Constraints) (Told : Verdict) (fits : Fits kind
           let m : ys ≡ xs = ap (λ (z : List ℕ × List ℕ). z.0) q in
           fits.none rule xs f t a (subst (λ z. Text rule kind z t) m j) b
 
-  pub string_decodes : {X : Type 0} (see : X → List ℕ) (tag : Tag) (old new : State) (result : Result X DecodeError) → AreOctets old.rest → GaveString see Told tag old result new
+  string_decodes : {X : Type 0} (see : X → List ℕ) (tag : Tag) (old new : State) (result : Result X DecodeError) → AreOctets old.rest → GaveString see Told tag old result new
       → Decodes (leaf kind tag bounds) (λ x. numbers (see x)) old result new
   unfolding Reads
   string_decodes see tag old new (Ok v) o g =
@@ -85,50 +85,56 @@ module _ (kind : Kind) (bounds : Constraints) (Told : Verdict) (fits : Fits kind
   string_decodes {X} see tag old new (Err e) o (inr (inr g)) =
       gave_answers {X = List ℕ} {Y = X} (λ rule. Reads rule (leaf kind tag bounds)) numbers see (StringAt Told old.rule old.depth tag old.rest) old new (Err e) (agrees old.rule old.depth tag old.rest o) g.1
 
-  -- octets that are refused
-  pub string_refused : {X : Type 0} (see : X → List ℕ) (tag : Tag) (old new : State) (s : CowSlice ℕ Global) (f : Fault) (e : DecodeError) → GathersOctets tag old (Ok s) new → Told (cow_slice_items s) (Err f)
-      → ErrorOf f new e → GaveString see Told tag old (Err e) new
-  string_refused see tag old new s f e (h, k, w) a x =
-      inr (inr (
-        (λ m. kind_memory f (fits.plain (cow_slice_items s) f a) (sym (ap (λ (y : DecodeError). y.kind) x) ∙ m)),
-        refuses_fault (StringAt Told old.rule old.depth tag old.rest) old new f e (inr (cow_slice_items s, f, h, a, refl)) k x,
-      ))
-
--- octets that weren't gathered
-pub string_ungathered : {X : Type 0} (see : X → List ℕ) (Told : Verdict) (tag : Tag) (old new : State) (e : DecodeError) → GathersOctets tag old (Err e) new → GaveString see Told tag old (Err e) new
-string_ungathered see Told tag old new e (f, k, s, read, memory) = go (memory_or f)
-  where
-    codec_is : e.codec ≡ old.rule
-    codec_is = ap (λ (x : DecodeError). x.codec) k
-
-    kind_is : e.kind ≡ error_kind f
-    kind_is = ap (λ (x : DecodeError). x.kind) k
-
-    go : (f ≡ fault_is.OutOfMemory) ⊎ (f ≢ fault_is.OutOfMemory) → GaveString see Told tag old (Err e) new
-    go (inl m) = inl (kind_is ∙ ap error_kind m, codec_is, s, memory m)
-    go (inr n) =
-        let r : new.rest ≡ old.rest = ap (λ (x : State). x.rest) s in
-        inr (inr ((λ h. kind_memory f n (sym kind_is ∙ h)), (fault f, inl (f, read n, ap (λ z. (fault f, z)) r), kind_is, codec_is, same_at old new s)))
-
 lent : (rule : Codec) (tag : Tag) (l : List ℕ) (s : CowSlice ℕ Global) → (IsOwnedSlice s → false ≡ true) → IsLentAs rule tag l s → IsPrimitive rule tag l
 lent rule tag l (Borrowed x) n h = h
 lent rule tag l (Owned v) n h = let k = n tt in cc
 
--- octets in order that aren't copied
-pub string_ran_out : {X : Type 0} (see : X → List ℕ) (Told : Verdict) (tag : Tag) (old new : State) (s : CowSlice ℕ Global) (ns : List ℕ) (e : DecodeError) → GathersOctets tag old (Ok s) new
-    → Told (cow_slice_items s) (Ok ns) → (IsOwnedSlice s → false ≡ true) → ErrorOf fault_is.OutOfMemory new e → GaveString see Told tag old (Err e) new
-string_ran_out see Told tag old new s ns e (h, k, w) a n x =
-    inr (inl (
-      ap (λ (y : DecodeError). y.kind) x,
-      ap (λ (y : DecodeError). y.codec) x ∙ rule_is old new k,
-      k,
-      lent old.rule tag old.rest s n w,
-      (ns, new.rest),
-      (cow_slice_items s, h, a),
-      refl,
-    ))
+-- What a function that reads a string ensures: `reads` follows from the exact clause.
+module _ {kind : Kind} {bounds : Constraints} {Told : Verdict} (fits : Fits kind bounds Told) {X : Type 0} (see : X → List ℕ) (tag : Tag) (old new : State) (o : AreOctets old.rest) where
+  abbrev pub Ensured : Result X DecodeError → Type 0
+  Ensured result = record { reads : Decodes (leaf kind tag bounds) (λ x. numbers (see x)) old result new; refused : GaveString see Told tag old result new }
 
--- octets in order
-pub string_given : {X : Type 0} (see : X → List ℕ) (Told : Verdict) (tag : Tag) (old new : State) (s : CowSlice ℕ Global) (v : X) → GathersOctets tag old (Ok s) new
-    → Told (cow_slice_items s) (Ok (see v)) → GaveString see Told tag old (Ok v) new
-string_given see Told tag old new s v (h, k, w) a = ((cow_slice_items s, h, a), k)
+  ensured : (result : Result X DecodeError) → GaveString see Told tag old result new → Ensured result
+  ensured result g = record { reads = string_decodes fits see tag old new result o g; refused = g }
+
+  -- octets that weren't gathered
+  pub string_ungathered : (e : DecodeError) → GathersOctets tag old (Err e) new → Ensured (Err e)
+  string_ungathered e (f, k, s, read, memory) = ensured (Err e) (go (memory_or f))
+    where
+      kind_is : e.kind ≡ error_kind f
+      kind_is = ap (λ (x : DecodeError). x.kind) k
+
+      codec_is : e.codec ≡ old.rule
+      codec_is = ap (λ (x : DecodeError). x.codec) k
+
+      go : (f ≡ fault_is.OutOfMemory) ⊎ (f ≢ fault_is.OutOfMemory) → GaveString see Told tag old (Err e) new
+      go (inl m) = inl (kind_is ∙ ap error_kind m, codec_is, s, memory m)
+      go (inr n) =
+          let r : new.rest ≡ old.rest = ap (λ (x : State). x.rest) s in
+          inr (inr ((λ h. kind_memory f n (sym kind_is ∙ h)), (fault f, inl (f, read n, ap (λ z. (fault f, z)) r), kind_is, codec_is, same_at old new s)))
+
+  module _ (s : CowSlice ℕ Global) (g : GathersOctets tag old (Ok s) new) where
+    -- octets that are refused
+    pub string_refused : (f : Fault) (e : DecodeError) → Told (cow_slice_items s) (Err f) → ErrorOf f new e → Ensured (Err e)
+    string_refused f e a x =
+        ensured (Err e) (inr (inr (
+          (λ m. kind_memory f (fits.plain (cow_slice_items s) f a) (sym (ap (λ (y : DecodeError). y.kind) x) ∙ m)),
+          refuses_fault (StringAt Told old.rule old.depth tag old.rest) old new f e (inr (cow_slice_items s, f, g.0, a, refl)) g.1 x,
+        )))
+
+    -- octets in order that aren't copied
+    pub string_ran_out : (ns : List ℕ) (e : DecodeError) → Told (cow_slice_items s) (Ok ns) → (IsOwnedSlice s → false ≡ true) → ErrorOf fault_is.OutOfMemory new e → Ensured (Err e)
+    string_ran_out ns e a n x =
+        ensured (Err e) (inr (inl (
+          ap (λ (y : DecodeError). y.kind) x,
+          ap (λ (y : DecodeError). y.codec) x ∙ rule_is old new g.1,
+          g.1,
+          lent old.rule tag old.rest s n g.2,
+          (ns, new.rest),
+          (cow_slice_items s, g.0, a),
+          refl,
+        )))
+
+    -- octets in order
+    pub string_given : (v : X) → Told (cow_slice_items s) (Ok (see v)) → Ensured (Ok v)
+    string_given v a = ensured (Ok v) ((cow_slice_items s, g.0, a), g.1)

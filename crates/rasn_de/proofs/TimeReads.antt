@@ -29,7 +29,7 @@ use Rattle.rasn_de.specs.Octets.{octet_string_at, GathersOctets, IsPrimitive, Is
 use Rattle.rasn_de.specs.Outcomes.{Exact, Got, refusal}
 use Rattle.rasn_de.specs.State.{State, IsEnd}
 use Rattle.rasn_de.specs.Decodes.{Decodes, DecodesBy}
-use Rattle.rasn_de.specs.TimeTexts.{AtAnyOffset, TellsText, TellsMemory, Parses, ParsesCopied, GaveTime}
+use Rattle.rasn_de.specs.TimeTexts.{AtAnyOffset, TellsText, TellsMemory, TellsString, Parses, ParsesCopied, GaveTime}
 use Rattle.rasn_de.proofs.Answering.{Exact-none}
 use Rattle.rasn_de.proofs.Ends.{IsEnd-refl}
 use Rattle.rasn_de.proofs.Peeks.{memory_or}
@@ -143,10 +143,10 @@ time_gave Means tag old new s rule text x (h, k, f) r e m = (cow_slice_items s, 
 
 -- The string is no time's.
 pub time_refused : {X : Type 0} (Means : Codec → List ℕ → X → Type 0) (tag : Tag) (old new : State) (s : CowSlice ℕ Global) (rule : Codec) (text : List ℕ) (e : DecodeError) → GathersOctets tag old (Ok s) new
-    → rule ≡ old.rule → text ≡ cow_slice_items s → ((x : X) → Means rule text x → ⊥) → TellsText (cow_slice_items s) new.rule e ⊎ (TellsMemory new.rule e × IsBorrowedSlice s)
+    → rule ≡ old.rule → text ≡ cow_slice_items s → ((x : X) → Means rule text x → ⊥) → TellsString s new.rule e
     → GaveTime (Means old.rule) tag old (Err e) new
 time_refused {X} Means tag old new s rule text e (h, k, f) r q n w =
-    inr (cow_slice_items s, h, k, none, told (subst (λ z. TellsText (cow_slice_items s) z e ⊎ (TellsMemory z e × IsBorrowedSlice s)) (rule_is old new k) w))
+    inr (cow_slice_items s, h, k, none, told (subst (λ z. TellsString s z e) (rule_is old new k) w))
   where
     none : (x : X) → Means old.rule (cow_slice_items s) x → ⊥
     none x m = n x (subst (λ z. Means z text x) (sym r) (subst (λ z. Means old.rule z x) (sym q) m))
@@ -155,7 +155,7 @@ time_refused {X} Means tag old new s rule text e (h, k, f) r q n w =
     lent (Borrowed b) f u = f
     lent (Owned v) f u = absurd u
 
-    told : TellsText (cow_slice_items s) old.rule e ⊎ (TellsMemory old.rule e × IsBorrowedSlice s) → TellsText (cow_slice_items s) old.rule e ⊎ (TellsMemory old.rule e × IsPrimitive old.rule tag old.rest)
+    told : TellsString s old.rule e → TellsText (cow_slice_items s) old.rule e ⊎ (TellsMemory old.rule e × IsPrimitive old.rule tag old.rest)
     told (inl t) = inl t
     told (inr (m, b)) = inr (m, lent s f b)
 

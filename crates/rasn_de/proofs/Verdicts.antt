@@ -1,6 +1,5 @@
 -- What is told of a string's octets is what its kind says of them.
 use Rattle.std.proofs.Common.{◌≡◌, ◌≢◌, ◌≤◌, ℕ, ◌/◌, inl, inr, List, length, Option, Result, Ok, Err, refl, sym, ap, ◌∙◌, subst, chars, IsUtf8}
-use Rattle.rasn_types.specs.declared.types.tag.Tag.{Tag}
 use Rattle.rasn_types.specs.declared.types.rules.Codec.{Codec}
 use Rattle.rasn_types.specs.declared.types.constraints.Bound.{Bound}
 use Rattle.rasn_types.specs.declared.types.constraints.Constraints.{Constraints}
@@ -11,10 +10,10 @@ use Rattle.rasn_types.specs.Characters as characters
 use Rattle.rasn_types.proofs.StringTexts.{alphabet_family, alphabet_measure, alphabet_text, alphabet_only, units_only, units_there, length-units_of}
 use Rattle.rasn_de.specs.declared.ber.de.parser.Fault.{Fault}
 use Rattle.rasn_de.specs.declared.ber.de.parser.Fault.TheVariants as fault_is
-use Rattle.rasn_de.specs.Texts.{ByAlphabet, ByCharacters, ByLength, IsOutOfSize, IsWithinSize, Checks, AreUtf8}
+use Rattle.rasn_de.specs.Texts.{ByAlphabet, ByUnits, ByUtf8, ByLength, IsOutOfSize, IsWithinSize, Checks}
 use Rattle.rasn_de.proofs.Texts.{Fits}
 
-size_plain : (size : Option (Bound ℕ)) (n : ℕ) (f : Fault) → IsOutOfSize size n f → f ≢ fault_is.OutOfMemory
+pub size_plain : (size : Option (Bound ℕ)) (n : ℕ) (f : Fault) → IsOutOfSize size n f → f ≢ fault_is.OutOfMemory
 size_plain size n f (a, e) m = cc
 
 pub by_alphabet : (a : Alphabet) (bounds : Constraints) → Fits (characters.string_kind a) bounds (ByAlphabet a bounds.size)
@@ -40,8 +39,8 @@ by_alphabet a bounds = record {
     plain xs f (inl h) = size_plain bounds.size (length xs) f h
     plain xs f (inr (m, (i, lt, w, n, e))) = λ k. cc
 
-pub by_utf8 : (tag : Tag) (bounds : Constraints) → Fits utf8 bounds (ByCharacters AreUtf8 tag bounds.size)
-by_utf8 tag bounds = record {
+pub by_utf8 : (bounds : Constraints) → Fits utf8 bounds (ByUtf8 bounds.size)
+by_utf8 bounds = record {
   is_text = refl;
   found = λ rule xs ns h. ((ap numbers h.0.1, h.0.0), h.1);
   only = λ rule xs ns t h k. k.0 ∙ ap numbers (sym h.0.1);
@@ -49,20 +48,20 @@ by_utf8 tag bounds = record {
   plain = plain;
 }
   where
-    none : (rule : Codec) (xs : List ℕ) (f : Fault) (t : Tree) → ByCharacters AreUtf8 tag bounds.size xs (Err f) → Text rule utf8 xs t → IsBounded utf8 bounds t → ⊥
+    none : (rule : Codec) (xs : List ℕ) (f : Fault) (t : Tree) → ByUtf8 bounds.size xs (Err f) → Text rule utf8 xs t → IsBounded utf8 bounds t → ⊥
     none rule xs f t (inl (n, e)) k b = n (chars xs) (k.1, refl)
     none rule xs f t (inr (ns, m, (n, e))) k b =
         n (subst (λ z. Admits ◌≤◌ bounds.size (length z)) (sym m.1) (subst (λ z. IsBounded utf8 bounds z) k.0 b))
 
-    plain : (xs : List ℕ) (f : Fault) → ByCharacters AreUtf8 tag bounds.size xs (Err f) → f ≢ fault_is.OutOfMemory
+    plain : (xs : List ℕ) (f : Fault) → ByUtf8 bounds.size xs (Err f) → f ≢ fault_is.OutOfMemory
     plain xs f (inl (n, e)) = λ k. cc
     plain xs f (inr (ns, m, h)) = size_plain bounds.size (length ns) f h
 
 units_same : (xs us vs : List ℕ) → units xs us → units xs vs → us ≡ vs
 units_same xs us vs h k = (units_only xs us h).1 ∙ sym (units_only xs vs k).1
 
-pub by_units : (tag : Tag) (bounds : Constraints) → Fits bmp bounds (ByCharacters units tag bounds.size)
-by_units tag bounds = record {
+pub by_units : (bounds : Constraints) → Fits bmp bounds (ByUnits bounds.size)
+by_units bounds = record {
   is_text = refl;
   found = λ rule xs ns h. ((ns, refl, h.0), h.1);
   only = only;
@@ -70,15 +69,15 @@ by_units tag bounds = record {
   plain = plain;
 }
   where
-    only : (rule : Codec) (xs ns : List ℕ) (t : Tree) → ByCharacters units tag bounds.size xs (Ok ns) → Text rule bmp xs t → t ≡ numbers ns
+    only : (rule : Codec) (xs ns : List ℕ) (t : Tree) → ByUnits bounds.size xs (Ok ns) → Text rule bmp xs t → t ≡ numbers ns
     only rule xs ns t h (us, e, k) = e ∙ ap numbers (units_same xs us ns k h.0)
 
-    none : (rule : Codec) (xs : List ℕ) (f : Fault) (t : Tree) → ByCharacters units tag bounds.size xs (Err f) → Text rule bmp xs t → IsBounded bmp bounds t → ⊥
+    none : (rule : Codec) (xs : List ℕ) (f : Fault) (t : Tree) → ByUnits bounds.size xs (Err f) → Text rule bmp xs t → IsBounded bmp bounds t → ⊥
     none rule xs f t (inl (n, e)) (us, d, k) b = n us k
     none rule xs f t (inr (ns, m, (n, e))) (us, d, k) b =
         n (subst (λ z. Admits ◌≤◌ bounds.size (length z)) (units_same xs us ns k m) (subst (λ z. IsBounded bmp bounds z) d b))
 
-    plain : (xs : List ℕ) (f : Fault) → ByCharacters units tag bounds.size xs (Err f) → f ≢ fault_is.OutOfMemory
+    plain : (xs : List ℕ) (f : Fault) → ByUnits bounds.size xs (Err f) → f ≢ fault_is.OutOfMemory
     plain xs f (inl (n, e)) = λ k. cc
     plain xs f (inr (ns, m, h)) = size_plain bounds.size (length ns) f h
 
@@ -100,12 +99,12 @@ by_length n bounds = record {
     plain xs f (inr (m, h)) = size_plain bounds.size (length xs) f h
 
 -- Sizes that were checked.
-pub units_checked : (tag : Tag) (bounds : Constraints) (l : List ℕ) (r : Result (Unit {0}) Fault) → characters.ArePaired l → IsWithinSize bounds (length l / 2) r
-    → Checks (ByCharacters units tag bounds.size) l (characters.units_of l) r
-units_checked tag bounds l (Ok u) p h = (units_there l p, subst (λ n. Admits ◌≤◌ bounds.size n) (sym (length-units_of l)) h)
-units_checked tag bounds l (Err f) p h = inr (characters.units_of l, units_there l p, subst (λ n. IsOutOfSize bounds.size n f) (sym (length-units_of l)) h)
+pub units_checked : (bounds : Constraints) (l : List ℕ) (r : Result (Unit {0}) Fault) → characters.ArePaired l → IsWithinSize bounds (length l / 2) r
+    → Checks (ByUnits bounds.size) l (characters.units_of l) r
+units_checked bounds l (Ok u) p h = (units_there l p, subst (λ n. Admits ◌≤◌ bounds.size n) (sym (length-units_of l)) h)
+units_checked bounds l (Err f) p h = inr (characters.units_of l, units_there l p, subst (λ n. IsOutOfSize bounds.size n f) (sym (length-units_of l)) h)
 
-pub characters_checked : (tag : Tag) (bounds : Constraints) (l : List ℕ) (n : ℕ) (r : Result (Unit {0}) Fault) → IsUtf8 l → n ≡ length (chars l) → IsWithinSize bounds n r
-    → Checks (ByCharacters AreUtf8 tag bounds.size) l (chars l) r
-characters_checked tag bounds l n (Ok u) p e h = ((p, refl), subst (λ n. Admits ◌≤◌ bounds.size n) e h)
-characters_checked tag bounds l n (Err f) p e h = inr (chars l, (p, refl), subst (λ n. IsOutOfSize bounds.size n f) e h)
+pub characters_checked : (bounds : Constraints) (l : List ℕ) (n : ℕ) (r : Result (Unit {0}) Fault) → IsUtf8 l → n ≡ length (chars l) → IsWithinSize bounds n r
+    → Checks (ByUtf8 bounds.size) l (chars l) r
+characters_checked bounds l n (Ok u) p e h = ((p, refl), subst (λ n. Admits ◌≤◌ bounds.size n) e h)
+characters_checked bounds l n (Err f) p e h = inr (chars l, (p, refl), subst (λ n. IsOutOfSize bounds.size n f) e h)

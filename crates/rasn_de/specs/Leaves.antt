@@ -101,6 +101,14 @@ GaveInteger see Grows tag Is old (Ok v) new = Gave see Is old (Ok v) new
 GaveInteger see Grows tag Is old (Err e) new =
     (IsOutOfMemory e.kind × Grows × (e.codec ≡ old.rule) × (new ≡ at old new.rest) × (c : List ℕ) × (definite_at old.rule tag old.rest ≡ Ok (c, new.rest))) ⊎ Refuses Is old e new
 
+-- The same of a type that has these numbers, so many bits wide, within bounds.
+abbrev pub GaveNumber : {X : Type 0} → (X → ℤ) → Bool → ℕ → Interval → Tag → Constraints → State → Result X DecodeError → State → Type 0
+GaveNumber see grows width range tag bounds old result new = GaveInteger see (grows ≡ true) tag (IntegerAt width range bounds old.rule tag old.rest) old result new
+
 -- The number is out of its bound.
 abbrev pub IsBeyond : Readings ℤ → List ℕ → Type 0
 IsBeyond Is rest = (z : ℤ) × (bound : Bounded ℤ) × Is (Err (out_of_bound z bound, rest))
+
+-- Memory is taken for a number of a type whose numbers may take it, and for the error of a number out of its bound.
+abbrev pub TakesMemory : Bool → ℕ → Interval → Tag → Constraints → State → State → Type 0
+TakesMemory grows width range tag bounds old new = (grows ≡ true) ⊎ IsBeyond (IntegerAt width range bounds old.rule tag old.rest) new.rest

@@ -1,5 +1,5 @@
 -- OBJECT IDENTIFIER, read from lists.
-use Rattle.std.specs.Prelude.{◌≡◌, ◌≢◌, ◌⊎◌, ℕ, ◌&&◌, if◌then◌else◌, List, [], ◌++◌, Result, Ok, Err}
+use Rattle.std.specs.Prelude.{◌≡◌, ◌≢◌, ◌⊎◌, ℕ, ◌-◌, ◌*◌, ◌/◌, min, ◌&&◌, if◌then◌else◌, List, [], ◌∷◌, ◌++◌, Result, Ok, Err}
 use Rattle.rasn_types.specs.declared.types.tag.Tag.{Tag}
 use Rattle.rasn_types.specs.declared.types.rules.Codec.{Codec}
 use Rattle.rasn_types.specs.declared.error.decode.DecodeError.{DecodeError}
@@ -18,6 +18,10 @@ use Rattle.rasn_de.specs.State.{State, at}
 -- The subidentifier that comes next. Under DER its first octet is looked at before the others.
 abbrev pub arc_at : Codec → List ℕ → Result (ℕ × List ℕ) Fault
 arc_at rule l = if is_der rule && is_padded l then Err (Der NonMinimalArc) else number128_at UnsupportedObjectIdentifierArc 0 l
+
+-- the first two arcs, which the first subidentifier holds (8.19.4)
+abbrev pub first_two : ℕ → List ℕ
+first_two s = min 2 (s / 40) ∷ (s - 40 * min 2 (s / 40)) ∷ []
 
 -- These octets hold these arcs, under the strict rule in as few octets as can be.
 abbrev pub ReadsArcs : Codec → List ℕ → List ℕ → Type 0

@@ -7,8 +7,10 @@ use Rattle.rasn_de.specs.declared.ber.de.parser.Fault.TheVariants.{Incomplete, U
 use Rattle.rasn_types.specs.declared.error.decode.DerDecodeErrorKind.TheVariants.{ConstructedEncodingNotAllowed}
 use Rattle.rasn_types.specs.Framing.{Extent, definite, indefinite}
 use Rattle.rasn_types.specs.Tags.{form}
+use Rattle.rasn_de.specs.declared.ber.de.parser.Value.{Value}
 use Rattle.rasn_de.specs.declared.ber.de.parser.headers.Expected.TheVariants.{Tagged}
 use Rattle.rasn_de.specs.Headers.{◌>>=◌, Header, header_at, is_der}
+use Rattle.rasn_de.specs.Views.{framed}
 
 -- nothing is left, or end-of-contents octets come
 abbrev pub ends : List ℕ → Bool
@@ -58,6 +60,10 @@ unfoldable pub string_of : {X : Type 0} → Codec → (List ℕ → Result (List
 string_of rule segment tag zero h = string_in rule segment too_deep h.bit h.extent h.rest
 string_of rule segment tag (suc d) h =
     string_in rule segment (segments_in (λ l. header_at (form rule) (Tagged tag) l >>= string_of rule segment tag d)) h.bit h.extent h.rest
+
+-- the same of what the code has of a header
+abbrev pub string_from : {X : Type 0} → Codec → (Codec → List ℕ → Result (List X) Fault) → Tag → ℕ → Value → List ℕ → Result (List X × List ℕ) Fault
+string_from rule segment tag depth value rest = string_of rule (segment rule) tag depth (framed value rest)
 
 -- one segment
 abbrev pub segment_at : {X : Type 0} → Codec → (List ℕ → Result (List X) Fault) → Tag → ℕ → List ℕ → Result (List X × List ℕ) Fault

@@ -1,6 +1,7 @@
 -- What the private steps of a decoder take.
-use Rattle.std.specs.Prelude.{◌≡◌, Result, Ok, Err}
+use Rattle.std.specs.Prelude.{◌≡◌, MatchResult, Result, Ok, Err}
 use Rattle.rasn_types.specs.declared.types.tag.Tag.{Tag}
+use Rattle.rasn_types.specs.Framing.{Next}
 use Rattle.rasn_types.specs.Tags.{form}
 use Rattle.rasn_types.specs.declared.error.decode.DecodeError.{DecodeError}
 use Rattle.rasn_de.specs.declared.ber.de.parser.Fault.{Fault}
@@ -19,6 +20,10 @@ ErrorOf f s e = e ≡ record { kind = error_kind f; codec = s.rule }
 abbrev pub Takes : Expected → State → Result Value DecodeError → State → Type 0
 Takes expected old (Ok v) new = (header_at (form old.rule) expected old.rest ≡ Ok (framed v new.rest)) × (new ≡ at old new.rest) × IsEnd old.rest new.rest
 Takes expected old (Err e) new = (f : Fault) × (header_at (form old.rule) expected old.rest ≡ Err f) × ErrorOf f old e × (new ≡ old)
+
+-- The tag of the value that comes next, or no value comes next.
+abbrev pub IsNextTag : State → Result Tag DecodeError → Type 0
+IsNextTag s result = MatchResult result (λ t. Next (form s.rule) s.rest t) (λ e. (t : Tag) → Next (form s.rule) s.rest t → ⊥)
 
 -- The next tag, or the first fault of its identifier.
 abbrev pub Peeks : State → Result Tag DecodeError → Type 0

@@ -8,12 +8,14 @@ use Rattle.std.specs.declared.borrow.CowStr.{CowStr}
 use Rattle.rasn_types.specs.declared.types.constraints.Constraints.{Constraints}
 use Rattle.rasn_types.specs.Tags.{in_universal}
 use Rattle.rasn_types.specs.declared.types.tag.Tag.{Tag}
+use Rattle.rasn_types.specs.declared.types.tag.TheConstants.Tag.{UTF8_STRING, BMP_STRING}
 use Rattle.rasn_types.specs.declared.types.rules.Codec.{Codec}
 use Rattle.rasn_types.specs.declared.types.constraints.Bounded.TheVariants.{Single}
 use Rattle.rasn_types.specs.declared.types.strings.alphabet.Alphabet.{Alphabet}
 use Rattle.rasn_types.specs.declared.error.decode.DecodeError.{DecodeError}
 use Rattle.rasn_types.specs.Characters.{IsAdmitted, AreAdmitted}
 use Rattle.rasn_types.specs.Errors.{IsOutOfMemory}
+use Rattle.rasn_types.specs.Grammar.{units}
 use Rattle.rasn_types.specs.declared.types.constraints.Bound.{Bound}
 use Rattle.rasn_types.specs.Shapes.{Admits, constraint_of}
 use Rattle.rasn_de.specs.declared.ber.de.parser.Fault.{Fault}
@@ -54,6 +56,14 @@ ByLength n size l (Err f) =
 
 abbrev pub AreUtf8 : List ℕ → List ℕ → Type 0
 AreUtf8 l ns = IsUtf8 l × (ns ≡ chars l)
+
+-- The octets are UTF-8, and then the number of characters is within the size.
+abbrev pub ByUtf8 : Option (Bound ℕ) → Verdict
+ByUtf8 size = ByCharacters AreUtf8 UTF8_STRING size
+
+-- The octets are 16-bit units, and then the number of these is within the size.
+abbrev pub ByUnits : Option (Bound ℕ) → Verdict
+ByUnits size = ByCharacters units BMP_STRING size
 
 -- A refusal of framing leaves all of the input; one of the octets leaves what follows the value.
 abbrev pub StringAt : Verdict → Codec → ℕ → Tag → List ℕ → Readings (List ℕ)

@@ -1,6 +1,8 @@
 -- Times, read as strings whose octets are the text of an instant or a day.
 use Rattle.std.specs.Prelude.{◌≡◌, ◌⊎◌, ℕ, ℤ, List, Result, Ok, Err}
+use Rattle.std.specs.Cow.{cow_slice_items, IsBorrowedSlice}
 use Rattle.std.specs.declared.alloc.Global.{Global}
+use Rattle.std.specs.declared.borrow.CowSlice.{CowSlice}
 use Rattle.std.specs.declared.vec.Vec.{Vec}
 use Rattle.rasn_types.specs.Calendar.{Moment, Stamp}
 use Rattle.rasn_types.specs.declared.types.tag.Tag.{Tag}
@@ -26,6 +28,10 @@ pub record TellsText (text : List ℕ) (rule : Codec) (e : DecodeError) : Type 0
 -- No memory was found for the error's copy of the text.
 abbrev pub TellsMemory : Codec → DecodeError → Type 0
 TellsMemory rule e = e ≡ record { kind = OutOfMemory; codec = rule }
+
+-- The error tells the octets of a string that is no time's. Those that are borrowed are copied for it.
+abbrev pub TellsString : CowSlice ℕ Global → Codec → DecodeError → Type 0
+TellsString s rule e = TellsText (cow_slice_items s) rule e ⊎ (TellsMemory rule e × IsBorrowedSlice s)
 
 -- A text is parsed to what it means; where it means nothing, the error tells it.
 abbrev pub Parses : {X : Type 0} → (List ℕ → X → Type 0) → List ℕ → Result X DecodeError → Type 0

@@ -1,12 +1,13 @@
 //! The reader of BER, CER and DER.
-ghost use Rattle.std.specs.Prelude.{◌≡◌, ◌+◌, length, IfErr, MatchBool, MatchResult, Result};
+ghost use Rattle.std.specs.Prelude.{◌≡◌, ◌+◌, length, IfErr, MatchBool, Result};
 ghost use Rattle.rasn_types.specs.declared.types.rules.Codec.{Codec};
-ghost use Rattle.rasn_types.specs.Framing.{AreOctets, Next};
-ghost use Rattle.rasn_types.specs.Tags.{form, IsStrict};
+ghost use Rattle.rasn_types.specs.Framing.{AreOctets};
+ghost use Rattle.rasn_types.specs.Tags.{IsStrict};
 ghost use Rattle.rasn_types.specs.Grammar.{top};
 ghost use Rattle.rasn_de.specs.Causes.{in_ber, error_kind};
 ghost use Rattle.rasn_de.specs.State.{State, at, IsEnd};
-ghost use Rattle.rasn_de.specs.Taking.{Takes, Peeks};
+ghost use Rattle.rasn_de.specs.Taking.{Takes, Peeks, IsNextTag};
+ghost use Rattle.rasn_de.specs.Texts.{IsWithinSize};
 ghost use Rattle.rasn_types.specs.declared.types.tag.Tag.{Tag};
 ghost use Rattle.rasn_types.specs.Errors.{IsOutOfMemory};
 
@@ -16,7 +17,7 @@ use crate::ber::rules::{allows_indefinite, is_der};
 use rasn_types::error::{
     BerDecodeErrorKind, CodecDecodeError, DecodeError, DecodeErrorKind, Needed,
 };
-use rasn_types::types::{Codec, Tag};
+use rasn_types::types::{Codec, Constraints, Tag};
 use std::alloc::Global;
 use std::marker::Model;
 
@@ -129,6 +130,19 @@ fn error_kind(fault: Fault) -> DecodeErrorKind
     }
 }
 
+/// Whether a size is within its bound, in octets, bits, characters or elements.
+#[inline]
+fn check_size(constraints: &Constraints, size: usize) -> Result<(), Fault>
+    ensures { IsWithinSize constraints.now size result }
+{
+    if constraints.admits_size(size) {
+        Ok(())
+    } else {
+        let expected = constraints.size_bounds();
+        Err(Fault::SizeConstraintNotSatisfied { size, expected })
+    }
+}
+
 impl<'input> Decoder<'input> {
     /// A reader of the input from its start, at depth 128.
     pub fn new(alloc: Global, input: &'input [u8], options: DecoderOptions) -> Decoder<'input>
@@ -185,7 +199,7 @@ impl<'input> Decoder<'input> {
     /// Where no value's identifier comes next (X.690 8.1.2): `Incomplete` or `UnsupportedTagNumber`, octet by octet, then
     /// `UnexpectedEndOfContents`, and under DER then `NonMinimalTagNumber`.
     pub fn peek_tag(&self) -> Result<Tag, DecodeError>
-        ensures next { MatchResult result (λ t. Next (form self.now.rule) self.now.rest t) (λ _. (t : Tag) → Next (form self.now.rule) self.now.rest t → ⊥) }
+        ensures next { IsNextTag self.now result }
         ensures refused { Peeks self.now result }
         ensures memory { IfErr result (λ e. IsOutOfMemory e.kind → ⊥) }
     {

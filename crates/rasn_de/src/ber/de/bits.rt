@@ -4,9 +4,9 @@ ghost use Rattle.rasn_types.specs.Shapes.{leaf, bit_string};
 ghost use Rattle.rasn_de.specs.BitStrings.{bits_tree, GathersBits, GaveBits};
 ghost use Rattle.rasn_de.specs.Decodes.{Decodes};
 
-use crate::ber::de::Decoder;
 use crate::ber::de::parser::Fault;
 use crate::ber::de::parser::bits::read_bits;
+use crate::ber::de::{Decoder, check_size};
 use rasn_types::ber::gathered::GatheredBits;
 use rasn_types::error::DecodeError;
 use rasn_types::types::{BitString, Constraints, Tag};
@@ -49,12 +49,9 @@ impl<'input> Decoder<'input> {
         let Some(bits) = gathered.into_string() else {
             return Err(self.error(Fault::LengthExceedsPlatformWidth));
         };
-        let size = bits.len();
-        if constraints.admits_size(size) {
-            Ok(bits)
-        } else {
-            let expected = constraints.size_bounds();
-            Err(self.error(Fault::SizeConstraintNotSatisfied { size, expected }))
+        match check_size(constraints, bits.len()) {
+            Ok(()) => Ok(bits),
+            Err(fault) => Err(self.error(fault)),
         }
     }
 }

@@ -3,19 +3,17 @@ ghost use Rattle.std.specs.Prelude.{◌≡◌, chars, IfOk, IfErr, IsOk};
 ghost use Rattle.std.specs.Cow.{cow_slice_items, IsOwnedSlice};
 ghost use Rattle.std.specs.String.{string_bytes};
 ghost use Rattle.rasn_types.specs.declared.types.strings.alphabet.Alphabet.TheVariants.{Numeric, Printable, Visible, Ia5, Every};
-ghost use Rattle.rasn_types.specs.declared.types.tag.TheConstants.Tag.{UTF8_STRING, BMP_STRING};
 ghost use Rattle.rasn_types.specs.Characters.{string_kind, units_of};
 ghost use Rattle.rasn_types.specs.Errors.{IsOutOfMemory};
 ghost use Rattle.rasn_types.specs.Framing.{AreOctets};
-ghost use Rattle.rasn_types.specs.Grammar.{units};
 ghost use Rattle.rasn_types.specs.Shapes.{leaf, octet_string, numbers, numeric, printable, visible, ia5, any_octets, bmp, utf8, fixed};
 ghost use Rattle.rasn_de.specs.Decodes.{Decodes};
 ghost use Rattle.rasn_de.specs.Octets.{GathersOctets, GaveOctets, IsPrimitive, cow_tree};
-ghost use Rattle.rasn_de.specs.Texts.{ByAlphabet, ByCharacters, ByLength, AreUtf8, GaveString, Checks, IsWithinSize, ReadsText};
+ghost use Rattle.rasn_de.specs.Texts.{ByAlphabet, ByUnits, ByUtf8, ByLength, GaveString, Checks, ReadsText};
 
-use crate::ber::de::Decoder;
 use crate::ber::de::parser::Fault;
 use crate::ber::de::parser::strings::read_octets;
+use crate::ber::de::{Decoder, check_size};
 use rasn_types::error::DecodeError;
 use rasn_types::types::{
     Alphabet, BmpString, Bounded, Constraints, FixedOctetString, GeneralString, GeneralType,
@@ -37,17 +35,6 @@ pub(crate) fn owned(alloc: Global, octets: CowSlice<'_, u8>) -> Result<Vec<u8>, 
     }
 }
 
-fn check_size(constraints: &Constraints, size: usize) -> Result<(), Fault>
-    ensures { IsWithinSize constraints.now size result }
-{
-    if constraints.admits_size(size) {
-        Ok(())
-    } else {
-        let expected = constraints.size_bounds();
-        Err(Fault::SizeConstraintNotSatisfied { size, expected })
-    }
-}
-
 /// Whether octets are within a size, and then all in the alphabet.
 fn check_alphabet(alphabet: Alphabet, constraints: &Constraints, octets: &[u8]) -> Result<(), Fault>
     ensures { Checks (ByAlphabet alphabet constraints.now.size) octets.now octets.now result }
@@ -64,7 +51,7 @@ fn check_alphabet(alphabet: Alphabet, constraints: &Constraints, octets: &[u8]) 
 
 /// Whether octets are 16-bit units, and these within a size.
 fn check_units(constraints: &Constraints, octets: &[u8]) -> Result<(), Fault>
-    ensures { Checks (ByCharacters units BMP_STRING constraints.now.size) octets.now (units_of octets.now) result }
+    ensures { Checks (ByUnits constraints.now.size) octets.now (units_of octets.now) result }
 {
     if octets.len() % 2 != 0 {
         return Err(Fault::StringConversionFailed {
@@ -76,7 +63,7 @@ fn check_units(constraints: &Constraints, octets: &[u8]) -> Result<(), Fault>
 
 /// Whether the characters are within a size. They are counted only where there is a bound.
 fn check_characters(constraints: &Constraints, text: &str) -> Result<(), Fault>
-    ensures { Checks (ByCharacters AreUtf8 UTF8_STRING constraints.now.size) text.now (chars text.now) result }
+    ensures { Checks (ByUtf8 constraints.now.size) text.now (chars text.now) result }
 {
     match constraints.size {
         None => Ok(()),
@@ -134,12 +121,9 @@ impl<'input> Decoder<'input> {
         ensures memory { IsPrimitive self.old.rule tag self.old.rest → IfErr result (λ e. IsOutOfMemory e.kind → ⊥) }
     {
         let octets = self.octets(tag)?;
-        let size = octets.len();
-        if constraints.admits_size(size) {
-            Ok(octets)
-        } else {
-            let expected = constraints.size_bounds();
-            Err(self.error(Fault::SizeConstraintNotSatisfied { size, expected }))
+        match check_size(constraints, octets.len()) {
+            Ok(()) => Ok(octets),
+            Err(fault) => Err(self.error(fault)),
         }
     }
 
@@ -289,7 +273,7 @@ impl<'input> Decoder<'input> {
         constraints: &Constraints,
     ) -> Result<BmpString, DecodeError>
         ensures reads { Decodes (leaf bmp tag constraints.now) (λ s. numbers (units_of s)) self.old result self.new }
-        ensures refused { GaveString units_of (ByCharacters units BMP_STRING constraints.now.size) tag self.old result self.new }
+        ensures refused { GaveString units_of (ByUnits constraints.now.size) tag self.old result self.new }
     {
         let octets = self.octets(tag)?;
         if let Err(fault) = check_units(constraints, octets.as_slice()) {
@@ -312,7 +296,7 @@ impl<'input> Decoder<'input> {
         constraints: &Constraints,
     ) -> Result<String, DecodeError>
         ensures reads { Decodes (leaf utf8 tag constraints.now) (λ s. numbers (chars (string_bytes s))) self.old result self.new }
-        ensures refused { GaveString (λ s. chars (string_bytes s)) (ByCharacters AreUtf8 UTF8_STRING constraints.now.size) tag self.old result self.new }
+        ensures refused { GaveString (λ s. chars (string_bytes s)) (ByUtf8 constraints.now.size) tag self.old result self.new }
     {
         let octets = self.octets(tag)?;
         let text = match text_of(octets) {

@@ -1,14 +1,13 @@
 //! Times (X.680 38.4.1, 46, 47; X.690 11.7, 11.8).
 ghost use Rattle.std.specs.Prelude.{◌⊎◌};
 ghost use Rattle.std.specs.String.{string_bytes};
-ghost use Rattle.std.specs.Cow.{cow_slice_items, IsBorrowedSlice};
 ghost use Rattle.rasn_types.specs.declared.types.constraints.Constraints.{Constraints};
 ghost use Rattle.rasn_types.specs.Makes.{Relates};
 ghost use Rattle.rasn_types.specs.Shapes.{leaf, utc_time, generalized_time, date, instant, on_day};
 ghost use Rattle.rasn_types.specs.Times.{GeneralUtc, CanonicalUtc, GeneralGeneralized, StrictGeneralized, DateText};
 ghost use Rattle.rasn_types.specs.Grammar.{UtcText, GeneralizedText};
 ghost use Rattle.rasn_de.specs.Decodes.{Decodes};
-ghost use Rattle.rasn_de.specs.TimeTexts.{AtAnyOffset, TellsText, TellsMemory, Parses, ParsesCopied, GaveTime};
+ghost use Rattle.rasn_de.specs.TimeTexts.{AtAnyOffset, TellsText, TellsMemory, TellsString, Parses, ParsesCopied, GaveTime};
 
 use crate::ber::de::Decoder;
 use rasn_types::ber::time::{
@@ -68,7 +67,7 @@ fn invalid_text(alloc: Global, text: &[u8], codec: Codec) -> DecodeError
 impl<'input> Decoder<'input> {
     /// The error of a string that is no time's. Only borrowed octets are copied.
     fn invalid_date(&self, text: CowSlice<'_, u8>) -> DecodeError
-        ensures { TellsText (cow_slice_items text.entry) self.now.rule result ⊎ (TellsMemory self.now.rule result × IsBorrowedSlice text.entry) }
+        ensures { TellsString text.entry self.now.rule result }
     {
         match text {
             CowSlice::Borrowed(octets) => invalid_text(self.alloc(), octets, self.codec()),

@@ -1,7 +1,7 @@
 //! The contents of an OBJECT IDENTIFIER (X.690 8.19).
-ghost use Rattle.std.specs.Prelude.{◌≡◌, ◌∷◌, ◌++◌, [], ◌/◌, ◌-◌, ◌*◌, min, OnOk, IfOk, IfErr};
+ghost use Rattle.std.specs.Prelude.{◌≡◌, ◌∷◌, ◌++◌, [], OnOk, IfOk, IfErr};
 ghost use Rattle.rasn_de.specs.declared.ber.de.parser.Fault.TheVariants.{OutOfMemory};
-ghost use Rattle.rasn_de.specs.ObjectIdentifiers.{FindsArcs, arc_at};
+ghost use Rattle.rasn_de.specs.ObjectIdentifiers.{FindsArcs, arc_at, first_two};
 ghost use Rattle.rasn_de.specs.Views.{Gives, pair};
 
 use crate::ber::de::parser::{Fault, is_padded, read_number128};
@@ -23,7 +23,7 @@ fn push_arc(arcs: &mut Vec<u32>, arc: u32) -> Result<(), Fault>
 
 /// The first two arcs, which the first subidentifier holds (X.690 8.19.4), with room for as many as the octets behind it can hold.
 fn first_arcs(alloc: Global, subidentifier: u32, behind: usize) -> Result<Vec<u32>, Fault>
-    ensures ok { IfOk result (λ v. v.items ≡ min 2 (subidentifier / 40) ∷ (subidentifier - 40 * min 2 (subidentifier / 40)) ∷ []) }
+    ensures ok { IfOk result (λ v. v.items ≡ first_two subidentifier) }
     ensures err { IfErr result (λ f. f ≡ OutOfMemory) }
 {
     let first = (subidentifier / 40).min(2);

@@ -4,8 +4,8 @@ ghost use Rattle.rasn_de.specs.declared.ber.de.parser.Fault.{Fault};
 ghost use Rattle.rasn_types.specs.declared.types.rules.Codec.{Codec};
 ghost use Rattle.rasn_types.specs.Framing.{AreOctets};
 ghost use Rattle.rasn_de.specs.Octets.{octet_string_at, FindsOctets, ShowsForm};
-ghost use Rattle.rasn_de.specs.Strings.{string_of, octets};
-ghost use Rattle.rasn_de.specs.Views.{IsNestedValue, IsPlainValue, Appends, AppendsPart, header};
+ghost use Rattle.rasn_de.specs.Strings.{string_from, octets};
+ghost use Rattle.rasn_de.specs.Views.{IsNestedValue, IsPlainValue, Appends, AppendsPart};
 
 use crate::ber::de::parser::headers::{Expected, Spelling};
 use crate::ber::de::parser::nesting::{finish, has_ended, held};
@@ -66,7 +66,7 @@ pub fn string_contents<'a, T: Segmented>(
     rest: &'a [u8],
     out: &mut T,
 ) -> Result<&'a [u8], Fault>
-    ensures { Appends (string_of rule (T.segment rule) tag depth (header (value.entry, rest.entry))) (T.items out.old) (T.items out.new) result }
+    ensures { Appends (string_from rule T.segment tag depth value.entry rest.entry.now) (T.items out.old) (T.items out.new) result }
 {
     if let Some(segment) = segment_of(value) {
         out.append_segment(rule, segment)?;

@@ -1,11 +1,10 @@
-use Rattle.std.proofs.lemmas.Result.{err_from_is_err_and}
 use Rattle.rasn_de.proofs.Refusals.{indefinite_refused, header_refused}
+use Rattle.rasn_de.proofs.Returns.{residual}
 use Rattle.rasn_de.proofs.ber.de.Decoder.contents.Goals as goal
 
 pub returns-in_err-value-clause-gave : goal.returns-in_err-value-clause-gave
 returns-in_err-value-clause-gave c =
-    let p = err_from_is_err_and c.from_residual.result c.from_residual.ensures.1 in
-    rw (p.1, p.2) (header_refused c.args.tag c.args.self.now _ _ c.leaf.result (rw (← c.codec.ensures) c.leaf.ensures) c.in_err-value.ensures.taken)
+    rw (residual _ c.from_residual.ensures.1) (header_refused c.args.tag c.args.self.now _ _ c.leaf.result (rw (← c.codec.ensures) c.leaf.ensures) c.in_err-value.ensures.taken)
 
 pub returns-in-Indefinite-clause-gave : goal.returns-in-Indefinite-clause-gave
 returns-in-Indefinite-clause-gave c =

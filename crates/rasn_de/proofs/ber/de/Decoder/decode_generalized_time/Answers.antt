@@ -1,27 +1,19 @@
 use Rattle.std.proofs.Common.{inl, Ok, Err}
-use Rattle.std.proofs.lemmas.Result.{err_from_is_err_and}
 use Rattle.rasn_types.specs.Grammar.{GeneralizedText}
+use Rattle.rasn_de.proofs.Returns.{residual, with_reads}
 use Rattle.rasn_de.proofs.TimeReads.{generalized_decodes, time_gave, time_refused}
 use Rattle.rasn_de.proofs.ber.de.Decoder.decode_generalized_time.Goals as goal
 
-pub returns-in_err-text-clause-refused : goal.returns-in_err-text-clause-refused
-returns-in_err-text-clause-refused c =
-    let p = err_from_is_err_and c.from_residual.result c.from_residual.ensures.1 in
-    rw (p.1, p.2) (inl c.in_err-text.ensures.gathers)
+pub returns-in_err-text : goal.returns-in_err-text
+returns-in_err-text c =
+    rw (residual _ c.from_residual.ensures.1) (with_reads (generalized_decodes c.args.tag c.args.self.now _ (Err c.in_err-text.field-0.0) c.octets.ensures.octets) (inl c.in_err-text.ensures.gathers))
 
-pub returns-in_err-text-clause-reads : goal.returns-in_err-text-clause-reads
-returns-in_err-text-clause-reads c = generalized_decodes c.args.tag c.args.self.now _ _ c.octets.ensures.octets (returns-in_err-text-clause-refused c)
+pub returns-in-Some : goal.returns-in-Some
+returns-in-Some c =
+    with_reads (generalized_decodes c.args.tag c.args.self.now _ (Ok c.in-Some.time) c.octets.ensures.octets)
+    (time_gave GeneralizedText c.args.tag c.args.self.now _ c.in_ok-text.text _ _ c.in-Some.time c.in_ok-text.ensures.gathers c.codec-rules.ensures c.deref.ensures.value c.in-Some.ensures)
 
-pub returns-in-Some-clause-refused : goal.returns-in-Some-clause-refused
-returns-in-Some-clause-refused c =
-    time_gave GeneralizedText c.args.tag c.args.self.now _ c.in_ok-text.text _ _ c.in-Some.time c.in_ok-text.ensures.gathers c.codec-rules.ensures c.deref.ensures.value c.in-Some.ensures
-
-pub returns-in-Some-clause-reads : goal.returns-in-Some-clause-reads
-returns-in-Some-clause-reads c = generalized_decodes c.args.tag c.args.self.now _ (Ok c.in-Some.time) c.octets.ensures.octets (returns-in-Some-clause-refused c)
-
-pub returns-in-None-clause-refused : goal.returns-in-None-clause-refused
-returns-in-None-clause-refused c =
-    time_refused GeneralizedText c.args.tag c.args.self.now _ c.in_ok-text.text _ _ c.invalid_date.result c.in_ok-text.ensures.gathers c.codec-rules.ensures c.deref.ensures.value c.in-None.ensures c.invalid_date.ensures
-
-pub returns-in-None-clause-reads : goal.returns-in-None-clause-reads
-returns-in-None-clause-reads c = generalized_decodes c.args.tag c.args.self.now _ (Err c.invalid_date.result) c.octets.ensures.octets (returns-in-None-clause-refused c)
+pub returns-in-None : goal.returns-in-None
+returns-in-None c =
+    with_reads (generalized_decodes c.args.tag c.args.self.now _ (Err c.invalid_date.result) c.octets.ensures.octets)
+    (time_refused GeneralizedText c.args.tag c.args.self.now _ c.in_ok-text.text _ _ c.invalid_date.result c.in_ok-text.ensures.gathers c.codec-rules.ensures c.deref.ensures.value c.in-None.ensures c.invalid_date.ensures)

@@ -1,5 +1,4 @@
 use Rattle.std.proofs.Common.{◌-◌, ◌<◌, ◌≤◌, length, sym, ◌∙◌, arith}
-use Rattle.std.proofs.lemmas.Result.{err_from_is_err_and}
 use Rattle.rasn_types.specs.Tags.{form}
 use Rattle.rasn_de.specs.declared.ber.de.parser.headers.Expected.TheVariants.{Tagged}
 use Rattle.rasn_de.specs.Headers.{spelled}
@@ -9,6 +8,7 @@ use Rattle.rasn_de.proofs.Shorter.{header_shorter}
 use Rattle.rasn_de.proofs.Segments.{ends_tested, gathering_start, gathering_step, gathering_end, gathering_fault, segment_shorter, string_der, string_deep, string_nested, string_plain, string_plain_fault, string_shorter, segment_fault, segment_found}
 use Rattle.rasn_de.specs.Views.{extent, header}
 use Rattle.rasn_de.proofs.Appending.{appends_finished, appends_fault}
+use Rattle.rasn_de.proofs.Returns.{residual}
 use Rattle.rasn_de.proofs.ber.de.parser.strings.+string_contents.Goals as goal
 
 pub returns-in-Some : goal.returns-in-Some
@@ -21,8 +21,7 @@ returns-in-Some g t c =
 
 pub returns-in_err-append_segment : goal.returns-in_err-append_segment
 returns-in_err-append_segment g t c =
-    let p = err_from_is_err_and c.from_residual.result c.from_residual.ensures.1 in
-    rw (p.1, p.2) (λ n. string_plain_fault c.args.rule (g.T.Segmented.segment c.args.rule) c.args.tag c.args.depth (header (c.args.value, c.args.rest)) c.in-Some.segment.now _ c.in-Some.ensures.0 c.in-Some.ensures.1 (c.in_err-append_segment.ensures n))
+    rw (residual _ c.from_residual.ensures.1) (λ n. string_plain_fault c.args.rule (g.T.Segmented.segment c.args.rule) c.args.tag c.args.depth (header (c.args.value, c.args.rest)) c.in-Some.segment.now _ c.in-Some.ensures.0 c.in-Some.ensures.1 (c.in_err-append_segment.ensures n))
 
 pub returns-then-is_der : goal.returns-then-is_der
 returns-then-is_der g t c = λ n.
@@ -34,17 +33,15 @@ returns-then-depth-eq0 g t c = λ n.
 
 pub returns-in_err-segment : goal.returns-in_err-segment
 returns-in_err-segment g t c =
-    let p = err_from_is_err_and c.from_residual-in_err-segment.result c.from_residual-in_err-segment.ensures.1 in
     let whole = string_nested c.args.rule (g.T.Segmented.segment c.args.rule) c.args.tag c.args.depth (header (c.args.value, c.args.rest)) c.in_default.ensures (sym c.is_der.ensures ∙ c.if-is_der.false) c.if-depth-eq0.false in
-    rw (p.1, p.2) (λ n. appends_fault (segment_at c.args.rule (g.T.Segmented.segment c.args.rule) c.args.tag (c.args.depth - 1)) _ (extent c.args.value.contents) c.args.rest.now (g.T.Segmented.items c.args.out.now) (g.T.Segmented.items c.segments.out) _ whole
+    rw (residual _ c.from_residual-in_err-segment.ensures.1) (λ n. appends_fault (segment_at c.args.rule (g.T.Segmented.segment c.args.rule) c.args.tag (c.args.depth - 1)) _ (extent c.args.value.contents) c.args.rest.now (g.T.Segmented.items c.args.out.now) (g.T.Segmented.items c.segments.out) _ whole
     (gathering_fault (segment_at c.args.rule (g.T.Segmented.segment c.args.rule) c.args.tag (c.args.depth - 1)) _ c.segments.left.now _ _ _ c.segments.invariant (ends_tested _ c.segments.left.now c.has_ended.ensures ∙ c.segments-test.true)
     (segment_fault c.args.rule (g.T.Segmented.segment c.args.rule) c.args.tag (c.args.depth - 1) c.segments.left.now _ (spelled_by (form c.args.rule) _ c.of_rule.ensures (Tagged c.args.tag) c.segments.left.now _ c.in_err-segment.ensures.exact))))
 
 pub returns-in_err-left : goal.returns-in_err-left
 returns-in_err-left g t c =
-    let p = err_from_is_err_and c.from_residual-in_err-left.result c.from_residual-in_err-left.ensures.1 in
     let whole = string_nested c.args.rule (g.T.Segmented.segment c.args.rule) c.args.tag c.args.depth (header (c.args.value, c.args.rest)) c.in_default.ensures (sym c.is_der.ensures ∙ c.if-is_der.false) c.if-depth-eq0.false in
-    rw (p.1, p.2) (λ n. appends_fault (segment_at c.args.rule (g.T.Segmented.segment c.args.rule) c.args.tag (c.args.depth - 1)) _ (extent c.args.value.contents) c.args.rest.now (g.T.Segmented.items c.args.out.now) (g.T.Segmented.items c.segments.out) _ whole
+    rw (residual _ c.from_residual-in_err-left.ensures.1) (λ n. appends_fault (segment_at c.args.rule (g.T.Segmented.segment c.args.rule) c.args.tag (c.args.depth - 1)) _ (extent c.args.value.contents) c.args.rest.now (g.T.Segmented.items c.args.out.now) (g.T.Segmented.items c.segments.out) _ whole
     (gathering_fault (segment_at c.args.rule (g.T.Segmented.segment c.args.rule) c.args.tag (c.args.depth - 1)) _ c.segments.left.now _ _ _ c.segments.invariant (ends_tested _ c.segments.left.now c.has_ended.ensures ∙ c.segments-test.true)
     (segment_found c.args.rule (g.T.Segmented.segment c.args.rule) c.args.tag (c.args.depth - 1) c.segments.left.now (header (c.in_ok-segment.segment, c.in_ok-segment.after)) (spelled_by (form c.args.rule) _ c.of_rule.ensures (Tagged c.args.tag) c.segments.left.now _ c.in_ok-segment.ensures.exact) ∙ c.in_err-left.ensures n)))
 
