@@ -36,6 +36,7 @@ pub mod Components
 pub mod Choosing
 pub mod Tagging
 pub mod Holding
+pub mod Sized
 pub mod Listed
 pub mod Listing
 pub mod Passing

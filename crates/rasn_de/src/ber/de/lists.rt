@@ -6,9 +6,9 @@ ghost use Rattle.rasn_de.specs.Decodes.{Decodes, DecodesBy};
 ghost use Rattle.rasn_de.specs.Lists.{AddsElement, ReadsItems, ReadEach, InList, ReadSized};
 ghost use Rattle.rasn_types.specs.Trees.{list_tree};
 
-use crate::ber::de::Decoder;
 use crate::ber::de::nesting::Opening;
 use crate::ber::de::parser::Fault;
+use crate::ber::de::{Decoder, check_size};
 use crate::de::Decode;
 use rasn_types::error::DecodeError;
 use rasn_types::types::{Constraints, Tag};
@@ -77,12 +77,9 @@ impl<'input> Decoder<'input> {
         ensures reads { Decodes (list tag D.shape constraints.now.size) (λ v. list_tree D.tree v.items) self.old result self.new }
     {
         let values = self.list::<D>(tag)?;
-        let size = values.len();
-        if constraints.admits_size(size) {
-            Ok(values)
-        } else {
-            let expected = constraints.size_bounds();
-            Err(self.error(Fault::SizeConstraintNotSatisfied { size, expected }))
+        match check_size(constraints, values.len()) {
+            Ok(()) => Ok(values),
+            Err(fault) => Err(self.error(fault)),
         }
     }
 }

@@ -8,9 +8,9 @@ ghost use Rattle.rasn_de.specs.Decodes.{Decodes};
 ghost use Rattle.rasn_de.specs.Lists.{ReadEachInOrder, InList, ReadSized};
 ghost use Rattle.rasn_de.specs.State.{IsEnd};
 
-use crate::ber::de::Decoder;
 use crate::ber::de::nesting::Opening;
 use crate::ber::de::parser::Fault;
+use crate::ber::de::{Decoder, check_size};
 use crate::de::Decode;
 use rasn_types::error::{DecodeError, DerDecodeErrorKind};
 use rasn_types::types::{Constraints, SetOf, Tag};
@@ -82,12 +82,9 @@ impl<'input> Decoder<'input> {
         ensures reads { Decodes (set_of tag D.shape constraints.now.size) (λ v. walk (list_tree D.tree v)) self.old result self.new }
     {
         let values = self.walk::<D>(tag)?;
-        let size = values.len();
-        if constraints.admits_size(size) {
-            Ok(values)
-        } else {
-            let expected = constraints.size_bounds();
-            Err(self.error(Fault::SizeConstraintNotSatisfied { size, expected }))
+        match check_size(constraints, values.len()) {
+            Ok(()) => Ok(values),
+            Err(fault) => Err(self.error(fault)),
         }
     }
 }
