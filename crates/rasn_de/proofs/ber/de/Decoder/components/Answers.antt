@@ -1,16 +1,15 @@
 use Rattle.std.proofs.Common.{[], ◌∷◌, ◌++◌}
-use Rattle.std.proofs.lemmas.Result.{err_from_is_err_and}
 use Rattle.rasn_de.specs.Decodes.{Decodes}
 use Rattle.rasn_de.specs.Sets.{not_read}
 use Rattle.rasn_de.proofs.SetsOf.{passes_from, came_stays}
 use Rattle.rasn_de.proofs.Tagged.{tagged_order, look_refused, look_follows, look_kept}
+use Rattle.rasn_de.proofs.Returns.{residual}
 use Rattle.rasn_de.proofs.ber.de.Decoder.components.Goals as goal
 
 pub returns-in_err-last : goal.returns-in_err-last
 returns-in_err-last g c =
-    let p = err_from_is_err_and c.from_residual.result c.from_residual.ensures.1 in
     let s = came_stays g.FIELDS.AsnType.shape g.FIELDS.AsnType.tree c.args.self.now c.loop-last.self c.loop-last.values.items c.loop-last.invariant.0 c.loop-last.invariant.1 in
-    rw (p.1, p.2) (
+    rw (residual _ c.from_residual.ensures.1) (
       c.loop-last.values.items,
       c.loop-last.invariant.0,
       c.loop-last.self,
@@ -21,9 +20,8 @@ returns-in_err-last g c =
 
 pub returns-in_err-push_element : goal.returns-in_err-push_element
 returns-in_err-push_element g c =
-    let p = err_from_is_err_and c.from_residual-in_err-push_element.result c.from_residual-in_err-push_element.ensures.1 in
     let s = came_stays g.FIELDS.AsnType.shape g.FIELDS.AsnType.tree c.args.self.now c.loop-last.self c.loop-last.values.items c.loop-last.invariant.0 c.loop-last.invariant.1 in
-    rw (p.1, p.2) (
+    rw (residual _ c.from_residual-in_err-push_element.ensures.1) (
       c.loop-last.values.items,
       c.loop-last.invariant.0,
       c.loop-last.self,

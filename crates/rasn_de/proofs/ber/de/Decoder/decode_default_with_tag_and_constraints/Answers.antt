@@ -1,5 +1,4 @@
 use Rattle.std.proofs.Common.{Ok, Err, inr, refl, sym, ◌∙◌, true≢false}
-use Rattle.std.proofs.lemmas.Result.{err_from_is_err_and}
 use Rattle.rasn_types.specs.Shapes.{tagged_as}
 use Rattle.rasn_de.specs.Decodes.{Decodes}
 use Rattle.rasn_types.specs.declared.error.decode.DerDecodeErrorKind.TheVariants.{DefaultValuePresent}
@@ -8,12 +7,12 @@ use Rattle.rasn_de.specs.Optionals.{no_look, no_read, not_compared, present}
 use Rattle.rasn_de.proofs.Perhaps.{default_decodes, found_out, found_there, or_made, made_before, strict_before, strict_after}
 use Rattle.rasn_de.proofs.Parts.{call_keeps}
 use Rattle.rasn_de.proofs.Stepping.{rules_same}
+use Rattle.rasn_de.proofs.Returns.{residual}
 use Rattle.rasn_de.proofs.ber.de.Decoder.decode_default_with_tag_and_constraints.Goals as goal
 
 pub returns-in_err-comes-clause-called : goal.returns-in_err-comes-clause-called
 returns-in_err-comes-clause-called g c =
-    let p = err_from_is_err_and c.from_residual.result c.from_residual.ensures.1 in
-    rw (p.1, p.2) (no_look c.in_err-comes.ensures refl)
+    rw (residual _ c.from_residual.ensures.1) (no_look c.in_err-comes.ensures refl)
 
 pub returns-then-not-branch-clause-called : goal.returns-then-not-branch-clause-called
 returns-then-not-branch-clause-called g c =
@@ -22,8 +21,7 @@ returns-then-not-branch-clause-called g c =
 
 pub returns-in_err-value-clause-called : goal.returns-in_err-value-clause-called
 returns-in_err-value-clause-called g c =
-    let p = err_from_is_err_and c.from_residual-in_err-value.result c.from_residual-in_err-value.ensures.1 in
-    rw (p.1, p.2) (no_read (found_there c.args.tag c.args.self.now c.in_ok-comes.field-0 c.if-not-branch.false c.in_ok-comes.ensures) c.in_err-value.ensures)
+    rw (residual _ c.from_residual-in_err-value.ensures.1) (no_read (found_there c.args.tag c.args.self.now c.in_ok-comes.field-0 c.if-not-branch.false c.in_ok-comes.ensures) c.in_err-value.ensures)
 
 pub returns-then-not-is_strict-clause-called : goal.returns-then-not-is_strict-clause-called
 returns-then-not-is_strict-clause-called g c =
@@ -31,8 +29,7 @@ returns-then-not-is_strict-clause-called g c =
 
 pub returns-in_err-without-clause-called : goal.returns-in_err-without-clause-called
 returns-in_err-without-clause-called g c =
-    let p = err_from_is_err_and c.from_residual-in_err-without.result c.from_residual-in_err-without.ensures.1 in
-    rw (p.1, p.2) (not_compared (found_there c.args.tag c.args.self.now c.in_ok-comes.field-0 c.if-not-branch.false c.in_ok-comes.ensures) c.in_ok-value.value c.in_ok-value.ensures
+    rw (residual _ c.from_residual-in_err-without.ensures.1) (not_compared (found_there c.args.tag c.args.self.now c.in_ok-comes.field-0 c.if-not-branch.false c.in_ok-comes.ensures) c.in_ok-value.value c.in_ok-value.ensures
     (strict_before c.args.self.now _ (call_keeps c.in_ok-value.ensures) c.if-not-is_strict.ensures) (made_before (goal.F-post g c.args.default) c.args.self.now _ _ (call_keeps c.in_ok-value.ensures) c.in_err-without.ensures))
 
 pub returns-then-means_same-clause-called : goal.returns-then-means_same-clause-called

@@ -1,5 +1,4 @@
 use Rattle.std.proofs.Common.{refl, sym, subst, inl, inr, [], ◌∷◌, ◌++◌}
-use Rattle.std.proofs.lemmas.Result.{err_from_is_err_and}
 use Rattle.rasn_types.specs.Tags.{IsStrict}
 use Rattle.rasn_types.specs.Order.{IsLess}
 use Rattle.rasn_types.specs.declared.error.decode.DerDecodeErrorKind.TheVariants.{SetOfOutOfOrder}
@@ -9,6 +8,7 @@ use Rattle.rasn_de.specs.declared.ber.de.parser.Fault.TheVariants.{Der}
 use Rattle.rasn_de.proofs.Stepping.{rules_same}
 use Rattle.rasn_types.proofs.Falling.{ends_more, in_order, out_of_order}
 use Rattle.rasn_de.proofs.SetsOf.{passes_from, came_stays}
+use Rattle.rasn_de.proofs.Returns.{residual}
 use Rattle.rasn_de.proofs.ber.de.Decoder.elements_in_order.Goals.{else-is_strict-via-then-is_strict+else-is_less, else-is_strict-via-else-is_strict}
 use Rattle.rasn_de.proofs.ber.de.Decoder.elements_in_order.Goals as goal
 
@@ -17,8 +17,7 @@ loop-last-init g c = rw c.new-values.ensures.items ([], (refl, refl), (λ strict
 
 pub returns-in_err-push_element : goal.returns-in_err-push_element
 returns-in_err-push_element g c =
-    let p = err_from_is_err_and c.from_residual.result c.from_residual.ensures.1 in
-    rw (p.1, p.2) (c.loop-last.values.items, c.loop-last.invariant.0, c.loop-last.self, c.loop-last.invariant.1, c.loop-last.invariant.2, c.loop-last-test.ensures, inl c.in_err-push_element.ensures)
+    rw (residual _ c.from_residual.ensures.1) (c.loop-last.values.items, c.loop-last.invariant.0, c.loop-last.self, c.loop-last.invariant.1, c.loop-last.invariant.2, c.loop-last-test.ensures, inl c.in_err-push_element.ensures)
 
 pub returns-then-is_less : goal.returns-then-is_less
 returns-then-is_less g c = (

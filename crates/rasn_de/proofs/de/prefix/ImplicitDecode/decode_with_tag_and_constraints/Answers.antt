@@ -1,11 +1,10 @@
 use Rattle.std.proofs.Common.{Ok, Err}
-use Rattle.std.proofs.lemmas.Result.{err_from_is_err_and}
 use Rattle.rasn_de.proofs.Tagging.{tagged_decodes}
+use Rattle.rasn_de.proofs.Returns.{residual}
 use Rattle.rasn_de.proofs.de.prefix.ImplicitDecode.decode_with_tag_and_constraints.Goals as goal
 
 pub returns-in_err-value : goal.returns-in_err-value
-returns-in_err-value g c = let p = err_from_is_err_and c.from_residual.result c.from_residual.ensures.1 in
-    rw (p.1, p.2) (tagged_decodes g.T.AsnType.tree c.args.tag c.args.constraints.now g.G.AsnType.TAG g.T.AsnType.CONSTRAINTS g.T.AsnType.shape c.args.decoder.now _ (Err c.in_err-value.field-0.0) c.in_err-value.ensures)
+returns-in_err-value g c = rw (residual _ c.from_residual.ensures.1) (tagged_decodes g.T.AsnType.tree c.args.tag c.args.constraints.now g.G.AsnType.TAG g.T.AsnType.CONSTRAINTS g.T.AsnType.shape c.args.decoder.now _ (Err c.in_err-value.field-0.0) c.in_err-value.ensures)
 
 pub returns : goal.returns
 returns g c = rw c.new.ensures

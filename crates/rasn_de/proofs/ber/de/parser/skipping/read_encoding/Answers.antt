@@ -1,11 +1,10 @@
-use Rattle.std.proofs.lemmas.Result.{err_from_is_err_and}
 use Rattle.rasn_de.proofs.OpenTypes.{encoding_open, encoding_refused}
+use Rattle.rasn_de.proofs.Returns.{residual}
 use Rattle.rasn_de.proofs.ber.de.parser.skipping.read_encoding.Goals as goal
 
 pub returns-in_err-after : goal.returns-in_err-after
 returns-in_err-after c =
-    let p = err_from_is_err_and c.from_residual.result c.from_residual.ensures.1 in
-    rw (p.1, p.2) (encoding_refused c.args.rule c.args.input.now _ c.in_err-after.ensures.exact)
+    rw (residual _ c.from_residual.ensures.1) (encoding_refused c.args.rule c.args.input.now _ c.in_err-after.ensures.exact)
 
 pub returns : goal.returns
 returns c = rw c.split_at.ensures.front (encoding_open c.args.rule c.args.input.now _ c.in_ok-after.after.now c.in_ok-after.ensures.exact)

@@ -1,15 +1,15 @@
 use Rattle.std.proofs.Common.{◌<◌, length, ap, arith}
-use Rattle.std.proofs.lemmas.Result.{err_from_is_err_and, IfOk-weaker}
+use Rattle.std.proofs.lemmas.Result.{IfOk-weaker}
 use Rattle.rasn_de.proofs.Tools.{octets_all}
 use Rattle.rasn_de.proofs.Skipping.{skipped_refused, skipped_plain, skipped_open, header_smaller}
 use Rattle.rasn_de.specs.Skipping.{passed}
 use Rattle.rasn_de.specs.Views.{header, extent}
+use Rattle.rasn_de.proofs.Returns.{residual}
 use Rattle.rasn_de.proofs.ber.de.parser.skipping.skip_encoding.Goals as goal
 
 pub returns-in_err-value-clause-exact : goal.returns-in_err-value-clause-exact
 returns-in_err-value-clause-exact c =
-    let p = err_from_is_err_and c.from_residual.result c.from_residual.ensures.1 in
-    rw (p.1, p.2) (skipped_refused c.args.rule c.args.input.now _ (octets_all c.args.input.now (λ i. omega (arith, c.type_inv.input i))) c.in_err-value.ensures.exact)
+    rw (residual _ c.from_residual.ensures.1) (skipped_refused c.args.rule c.args.input.now _ (octets_all c.args.input.now (λ i. omega (arith, c.type_inv.input i))) c.in_err-value.ensures.exact)
 
 pub returns-in-Definite-clause-exact : goal.returns-in-Definite-clause-exact
 returns-in-Definite-clause-exact c =
