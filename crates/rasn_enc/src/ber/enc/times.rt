@@ -1,11 +1,11 @@
 //! Writing times, in their canonical forms (X.680 38.4.1; X.690 11.7, 11.8).
 ghost use Rattle.std.specs.Prelude.{◌≡◌, IfOk, IfErr, OnOk, OnErr};
 ghost use Rattle.rasn_types.specs.Calendar.{IsDay, IsMoment};
-ghost use Rattle.rasn_types.specs.Shapes.{leaf, utc_time, generalized_time, date, instant, on_day};
+ghost use Rattle.rasn_types.specs.Shapes.{utc_time, generalized_time, date, instant, on_day};
 ghost use Rattle.rasn_types.specs.Times.{written_utc, written_generalized, written_date};
 ghost use Rattle.rasn_types.specs.declared.types.rules.Codec.TheVariants.{Ber};
 ghost use Rattle.rasn_enc.specs.Primitives.{TellsOutOfMemory};
-ghost use Rattle.rasn_enc.specs.Wrote.{Wrote};
+ghost use Rattle.rasn_enc.specs.Wrote.{WritesLeaf};
 
 use super::filled::Contents;
 use super::{Encoder, out_of_memory};
@@ -59,8 +59,6 @@ fn canonical_text<T: Contents>(alloc: Global, value: &T) -> Result<Vec<u8>, Enco
 }
 
 impl Encoder {
-    ghost use Rattle.rasn_types.specs.declared.types.constraints.Constraints.{Constraints};
-
     /// Writes a UTCTime (X.690 11.8): the year without its century, and no fraction.
     ///
     /// # Errors
@@ -71,7 +69,7 @@ impl Encoder {
         value: &UtcTime,
         _identifier: Identifier,
     ) -> Result<(), EncodeError>
-        ensures ok { (c : Constraints) → OnOk result (Wrote (leaf utc_time tag c) (instant value.now) self.old self.new) }
+        ensures ok { WritesLeaf utc_time tag (instant value.now) result self.old self.new }
         ensures err { OnErr result (self.new ≡ self.old) }
         ensures refused { IfErr result (TellsOutOfMemory self.old.rule) }
     {
@@ -88,7 +86,7 @@ impl Encoder {
         value: &GeneralizedTime,
         _identifier: Identifier,
     ) -> Result<(), EncodeError>
-        ensures ok { (c : Constraints) → OnOk result (Wrote (leaf generalized_time tag c) (instant value.now.moment) self.old self.new) }
+        ensures ok { WritesLeaf generalized_time tag (instant value.now.moment) result self.old self.new }
         ensures err { OnErr result (self.new ≡ self.old) }
         ensures refused { IfErr result (TellsOutOfMemory self.old.rule) }
     {
@@ -105,7 +103,7 @@ impl Encoder {
         value: &Date,
         _identifier: Identifier,
     ) -> Result<(), EncodeError>
-        ensures ok { (c : Constraints) → OnOk result (Wrote (leaf date tag c) (on_day value.now) self.old self.new) }
+        ensures ok { WritesLeaf date tag (on_day value.now) result self.old self.new }
         ensures err { OnErr result (self.new ≡ self.old) }
         ensures refused { IfErr result (TellsOutOfMemory self.old.rule) }
     {
