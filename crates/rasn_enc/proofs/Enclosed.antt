@@ -9,7 +9,7 @@ use Rattle.rasn_types.specs.declared.types.tag.Tag.{Tag}
 use Rattle.rasn_types.specs.declared.error.encode.EncodeError.{EncodeError}
 use Rattle.rasn_enc.specs.View.{View, IsBelow, opened, AreTagsInOrder}
 use Rattle.rasn_enc.specs.Primitives.{Appends, TellsOutOfMemory, TellsOrder}
-use Rattle.rasn_enc.specs.Writing.{Closure, WritesInside, Refuses, Encloses, EnclosesInOrder, RefusesInOrder}
+use Rattle.rasn_enc.specs.Writing.{Closure, WritesInside, Encloses, EnclosesInOrder, RefusesInside, RefusesInOrder, RefusesTags}
 
 -- v before, a after it was opened; the closure answers r and leaves u.
 pub record Inner {F T : Type 0} (g : Closure F T) (f : F) (keeps : Bool) (v u : View) (r : Result T EncodeError) : Type 0 where
@@ -40,7 +40,7 @@ module _ {F : Type 0} (g : Closure F (Unit {0})) (f : F) (keeps : Bool) (v u w :
   enclosed (Err x) tag e h = tt
 
   pub enclosing_refused : (r : Result (Unit {0}) EncodeError) → IfErr r (λ e. TellsOutOfMemory u.rule e ⊎ (q ≡ Err e))
-      → IfErr r (λ e. TellsOutOfMemory v.rule e ⊎ Refuses g f (opened v keeps) e)
+      → IfErr r (RefusesInside g f keeps v)
   enclosing_refused r h = IfErr-weaker r _ _ (λ e. elim [
     | inl m ↦ inl (subst (λ (c : Codec). TellsOutOfMemory c e) i.below.0 m)
     | inr p ↦ inr (u, subst (λ z. FnOnceReturnsAtMut g f (opened v keeps) z u) p i.ran)
@@ -56,17 +56,17 @@ module _ {F : Type 0} (g : Closure F (Unit {0})) (f : F) (v u w : View) (q : Res
   enclosed_in_order (Err x) tag k e h = tt
 
   pub enclosing_in_order_refused : (r : Result (Unit {0}) EncodeError)
-      → IfErr o (λ e. (q ≡ Err e) ⊎ ((q ≡ Ok tt) × (AreTagsInOrder u → ⊥) × TellsOrder u.rule e)) → IfErr r (λ e. TellsOutOfMemory u.rule e ⊎ (o ≡ Err e))
+      → IfErr o (λ e. (q ≡ Err e) ⊎ ((q ≡ Ok tt) × RefusesTags u e)) → IfErr r (λ e. TellsOutOfMemory u.rule e ⊎ (o ≡ Err e))
       → IfErr r (RefusesInOrder g f v)
   enclosing_in_order_refused r k h = IfErr-weaker r _ _ (λ e. elim [
     | inl m ↦ inl (subst (λ (c : Codec). TellsOutOfMemory c e) i.below.0 m)
-    | inr p ↦ inr (elim (subst (λ z. IfErr z (λ x. (q ≡ Err x) ⊎ ((q ≡ Ok tt) × (AreTagsInOrder u → ⊥) × TellsOrder u.rule x))) p k) [
+    | inr p ↦ inr (elim (subst (λ z. IfErr z (λ x. (q ≡ Err x) ⊎ ((q ≡ Ok tt) × RefusesTags u x))) p k) [
       | inl n ↦ inl (u, subst (λ z. FnOnceReturnsAtMut g f (opened v true) z u) n i.ran)
       | inr n ↦ inr (record {
         inner = u;
         ran = subst (λ z. FnOnceReturnsAtMut g f (opened v true) z u) n.0 i.ran;
-        falls = n.1;
-        told = subst (λ (c : Codec). TellsOrder c e) i.below.0 n.2;
+        falls = n.1.0;
+        told = subst (λ (c : Codec). TellsOrder c e) i.below.0 n.1.1;
       })
     ])
   ]) h

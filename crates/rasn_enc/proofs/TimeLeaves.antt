@@ -1,10 +1,8 @@
 -- The texts of times in a header are their octets.
-use Rattle.std.proofs.Common.{◌≡◌, ℕ, zero, suc, ◌+◌, ◌/◌, ◌%◌, ◌^◌, ◌≤◌, ◌==◌, inl, Bool, true, false, cond, List, [], ◌∷◌, ◌++◌, map, length, refl, sym, ◌∙◌, Result, Ok, OnOk, Vec, pos, negsuc, ℤ, arith, subst}
+use Rattle.std.proofs.Common.{◌≡◌, ℕ, zero, suc, ◌+◌, ◌/◌, ◌%◌, ◌^◌, ◌≤◌, ◌==◌, inl, Bool, true, false, cond, List, [], ◌∷◌, ◌++◌, map, length, refl, Result, OnOk, pos, negsuc, ℤ, arith, subst}
 use Rattle.std.specs.Prelude.{nat_lt}
 use Rattle.std.proofs.lemmas.Result.{on_ok_weaker}
-use Rattle.std.proofs.lemmas.List.{length-append, length-map, append_cancel_left}
-use Rattle.std.specs.Fn.{FnOnceReturnsAtMut}
-use Rattle.rasn_enc.specs.Filled.{Filler, AppendsFilled}
+use Rattle.std.proofs.lemmas.List.{length-append, length-map}
 use Rattle.rasn_types.specs.Calendar.{Moment, IsMoment, Day, IsDay}
 use Rattle.rasn_types.specs.Spelling.{two, four}
 use Rattle.rasn_types.specs.Times.{digits_of, written_fraction, within_second, clock_written, long_year, written_year, written_date, written_generalized, written_utc}
@@ -73,48 +71,28 @@ unfolding written_utc
 utc_few m = omega arith
 
 -- A text in one piece.
-time_wrote : {R E : Type 0} (result : Result R E) (tag : Tag) (s : Shape) (t : Tree) (xs : List ℕ) (v w : View) → (IsUntaggedOpen s t → ⊥) → AreOctets xs → length xs ≤ 1000
-    → ((b : List ℕ) → WritesStr v.rule WritesOctets 1000 (in_universal 4) tag xs b → Bytes v.rule s t b) → OnOk result (Appends (Prim tag xs) tag v w) → OnOk result (Wrote s t v w)
-time_wrote result tag s t xs v w n o few bytes h = on_ok_weaker result (λ a.
-    wrote_one (Prim tag xs) tag s t v w a n (λ b d. definite_begins tag (tag_bit tag) xs b d) (λ b d. bytes b (inl ((λ c. few), xs, (refl, o), d)))) h
+time_wrote : {R E Valid : Type 0} (result : Result R E) (tag : Tag) (s : Shape) (t : Tree) (text : List ℕ) (v w : View) → (IsUntaggedOpen s t → ⊥) → (Valid → AreOctets text) → length text ≤ 1000
+    → (Valid → (b : List ℕ) → WritesStr v.rule WritesOctets 1000 (in_universal 4) tag text b → Bytes v.rule s t b)
+    → OnOk result ((l : List ℕ) × ((l ≡ text) × Valid) × Appends (Prim tag l) tag v w) → OnOk result (Wrote s t v w)
+time_wrote result tag s t text v w n o few bytes h = on_ok_weaker result (λ (l, (e, valid), a).
+    let a : Appends (Prim tag text) tag v w = subst (λ l. Appends (Prim tag l) tag v w) e a in
+    wrote_one (Prim tag text) tag s t v w a n (λ b d. definite_begins tag (tag_bit tag) text b d) (λ b d. bytes valid b (inl ((λ c. few), text, (refl, o valid), d)))) h
 
-utc_wrote : {R E : Type 0} (result : Result R E) (tag : Tag) (m : Moment) (xs : List ℕ) (v w : View) → xs ≡ written_utc m → IsMoment m
-    → OnOk result (Appends (Prim tag xs) tag v w) → (c : Constraints) → OnOk result (Wrote (leaf utc_time tag c) (instant m) v w)
+pub utc_wrote : {R E : Type 0} (result : Result R E) (tag : Tag) (m : Moment) (v w : View)
+    → OnOk result ((l : List ℕ) × ((l ≡ written_utc m) × IsMoment m) × Appends (Prim tag l) tag v w) → (c : Constraints) → OnOk result (Wrote (leaf utc_time tag c) (instant m) v w)
 unfolding Bytes IsUntaggedOpen
-utc_wrote result tag m xs v w e valid h c =
-    time_wrote result tag (leaf utc_time tag c) (instant m) xs v w (λ n. n) (subst AreOctets (sym e) (utc_octets m valid)) (subst (λ l. length l ≤ 1000) (sym e) (utc_few m)) (λ b d. (tt, (xs, (m, refl, valid, e), d))) h
+utc_wrote result tag m v w h c =
+    time_wrote result tag (leaf utc_time tag c) (instant m) (written_utc m) v w (λ n. n) (utc_octets m) (utc_few m) (λ valid b d. (tt, (written_utc m, (m, refl, valid, refl), d))) h
 
-generalized_wrote : {R E : Type 0} (result : Result R E) (tag : Tag) (m : Moment) (xs : List ℕ) (v w : View) → xs ≡ written_generalized m → IsMoment m
-    → OnOk result (Appends (Prim tag xs) tag v w) → (c : Constraints) → OnOk result (Wrote (leaf generalized_time tag c) (instant m) v w)
+pub generalized_wrote : {R E : Type 0} (result : Result R E) (tag : Tag) (m : Moment) (v w : View)
+    → OnOk result ((l : List ℕ) × ((l ≡ written_generalized m) × IsMoment m) × Appends (Prim tag l) tag v w) → (c : Constraints) → OnOk result (Wrote (leaf generalized_time tag c) (instant m) v w)
 unfolding Bytes IsUntaggedOpen
-generalized_wrote result tag m xs v w e valid h c =
-    time_wrote result tag (leaf generalized_time tag c) (instant m) xs v w (λ n. n) (subst AreOctets (sym e) (generalized_octets m valid)) (subst (λ l. length l ≤ 1000) (sym e) (generalized_few m)) (λ b d. (tt, (xs, (m, refl, valid, e), d))) h
+generalized_wrote result tag m v w h c =
+    time_wrote result tag (leaf generalized_time tag c) (instant m) (written_generalized m) v w (λ n. n) (generalized_octets m) (generalized_few m) (λ valid b d. (tt, (written_generalized m, (m, refl, valid, refl), d))) h
 
-date_wrote : {R E : Type 0} (result : Result R E) (tag : Tag) (d : Day) (xs : List ℕ) (v w : View) → xs ≡ written_date d → IsDay d
-    → OnOk result (Appends (Prim tag xs) tag v w) → (c : Constraints) → OnOk result (Wrote (leaf date tag c) (on_day d) v w)
+pub date_wrote : {R E : Type 0} (result : Result R E) (tag : Tag) (d : Day) (v w : View)
+    → OnOk result ((l : List ℕ) × ((l ≡ written_date d) × IsDay d) × Appends (Prim tag l) tag v w) → (c : Constraints) → OnOk result (Wrote (leaf date tag c) (on_day d) v w)
 unfolding Bytes IsUntaggedOpen
-date_wrote result tag d xs v w e valid h c =
+date_wrote result tag d v w h c =
     let few = date_few d in
-    time_wrote result tag (leaf date tag c) (on_day d) xs v w (λ n. n) (subst AreOctets (sym e) (date_octets d valid)) (subst (λ l. length l ≤ 1000) (sym e) (omega arith)) (λ b k. (tt, (xs, (d, refl, valid, e), k))) h
-
--- The same, where a closure puts the text there.
-pub utc_filled : {F A : Type 0} (g : Filler F A) (f : F) (tag : Tag) (m : Moment) (v w : View) → AppendsFilled g f tag v w
-    → ((x y : Vec ℕ A) → FnOnceReturnsAtMut g f x (Ok tt) y → (y.items ≡ x.items ++ written_utc m) × IsMoment m) → (c : Constraints) → Wrote (leaf utc_time tag c) (instant m) v w
-utc_filled g f tag m v w k puts c =
-    let p = puts k.fills.before k.fills.after k.fills.ran in
-    let e : k.contents ≡ written_utc m = append_cancel_left k.fills.before.items k.contents (written_utc m) (sym k.fills.is ∙ p.0) in
-    utc_wrote {R = Unit {0}} {E = Unit {0}} (Ok tt) tag m k.contents v w e p.1 k.appends c
-
-pub generalized_filled : {F A : Type 0} (g : Filler F A) (f : F) (tag : Tag) (m : Moment) (v w : View) → AppendsFilled g f tag v w
-    → ((x y : Vec ℕ A) → FnOnceReturnsAtMut g f x (Ok tt) y → (y.items ≡ x.items ++ written_generalized m) × IsMoment m) → (c : Constraints) → Wrote (leaf generalized_time tag c) (instant m) v w
-generalized_filled g f tag m v w k puts c =
-    let p = puts k.fills.before k.fills.after k.fills.ran in
-    let e : k.contents ≡ written_generalized m = append_cancel_left k.fills.before.items k.contents (written_generalized m) (sym k.fills.is ∙ p.0) in
-    generalized_wrote {R = Unit {0}} {E = Unit {0}} (Ok tt) tag m k.contents v w e p.1 k.appends c
-
-pub date_filled : {F A : Type 0} (g : Filler F A) (f : F) (tag : Tag) (d : Day) (v w : View) → AppendsFilled g f tag v w
-    → ((x y : Vec ℕ A) → FnOnceReturnsAtMut g f x (Ok tt) y → (y.items ≡ x.items ++ written_date d) × IsDay d) → (c : Constraints) → Wrote (leaf date tag c) (on_day d) v w
-date_filled g f tag d v w k puts c =
-    let p = puts k.fills.before k.fills.after k.fills.ran in
-    let e : k.contents ≡ written_date d = append_cancel_left k.fills.before.items k.contents (written_date d) (sym k.fills.is ∙ p.0) in
-    date_wrote {R = Unit {0}} {E = Unit {0}} (Ok tt) tag d k.contents v w e p.1 k.appends c
+    time_wrote result tag (leaf date tag c) (on_day d) (written_date d) v w (λ n. n) (date_octets d) (omega arith) (λ valid b k. (tt, (written_date d, (d, refl, valid, refl), k))) h

@@ -56,7 +56,11 @@ pub record RefusesFall (s : Shape) (ts : List Tree) (rule : Codec) (e : EncodeEr
   pub falls : DoNotFall IsLess (encoded ++ octets ∷ []) → ⊥
   pub told : TellsOrder rule e
 
+-- Why elements aren't written: one has no octets or finds no memory, or the octets of one are less than those before it.
+abbrev pub RefusesElements : Shape → List Tree → Codec → EncodeError → Type 0
+RefusesElements s ts rule e = RefusesInSetOf s ts rule e ⊎ RefusesFall s ts rule e
+
 -- Why a SET OF isn't written: its size isn't admitted; or else memory runs out, an element isn't written, or the octets fall.
 abbrev pub RefusesSetOf : Shape → List Tree → ℕ → Constraints → Codec → EncodeError → Type 0
 RefusesSetOf s ts size c rule e = RefusesSize c size rule e
-    ⊎ (Admits ◌≤◌ c.size size × (TellsOutOfMemory rule e ⊎ (RefusesInSetOf s ts rule e ⊎ RefusesFall s ts rule e)))
+    ⊎ (Admits ◌≤◌ c.size size × (TellsOutOfMemory rule e ⊎ RefusesElements s ts rule e))

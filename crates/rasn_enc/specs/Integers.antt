@@ -1,9 +1,12 @@
 -- The contents of an INTEGER, put behind octets.
 use Rattle.std.specs.Prelude.{ℕ, ℤ, ◌≡◌, ◌≤ℤ◌, List, ◌++◌}
-use Rattle.rasn_types.specs.Shapes.{Admits}
+use Rattle.rasn_types.specs.Shapes.{Interval, Admits, leaf, integer, number}
 use Rattle.rasn_types.specs.Contents.{signed}
 use Rattle.rasn_types.specs.Trees.{IsShortestOf}
 use Rattle.rasn_types.specs.declared.types.constraints.Constraints.{Constraints}
+use Rattle.rasn_types.specs.declared.types.tag.Tag.{Tag}
+use Rattle.rasn_enc.specs.View.{View}
+use Rattle.rasn_enc.specs.Wrote.{Wrote}
 
 -- The fewest octets of a number stand behind xs, and the number is admitted.
 pub record PutsInteger (c : Constraints) (n : ℤ) (xs ys : List ℕ) : Type 0 where
@@ -11,3 +14,7 @@ pub record PutsInteger (c : Constraints) (n : ℤ) (xs ys : List ℕ) : Type 0 w
   pub shortest : IsShortestOf n octets
   pub admitted : Admits ◌≤ℤ◌ c.value (signed octets)
   pub is : ys ≡ xs ++ octets
+
+-- A number of a type of this range is written as an INTEGER.
+abbrev pub WroteInteger : Interval → Tag → Constraints → ℤ → View → View → Type 0
+WroteInteger range tag c n = Wrote (leaf (integer range) tag c) (number n)

@@ -14,6 +14,10 @@ use Rattle.rasn_enc.specs.Primitives.{TellsOutOfMemory}
 abbrev pub TellsBare : Codec → EncodeError → Type 0
 TellsBare rule e = e ≡ record { kind = CodecSpecific (Ber AnyInSet); codec = rule }
 
+-- Why octets without a tag aren't put behind the last list: it keeps tags, or else memory runs out.
+abbrev pub RefusesBare : View → EncodeError → Type 0
+RefusesBare v e = ((v.last.tags ≢ None) × TellsBare v.rule e) ⊎ ((v.last.tags ≡ None) × TellsOutOfMemory v.rule e)
+
 -- They would stand in a list that keeps tags.
 abbrev pub WouldBeBare : Tag → View → Type 0
 WouldBeBare tag v = (looked_for tag ≡ None) × (v.last.tags ≢ None)

@@ -6,6 +6,7 @@ use Rattle.rasn_types.specs.declared.error.encode.EncodeError.{EncodeError}
 use Rattle.rasn_types.specs.declared.error.encode.EncodeErrorKind.TheVariants.{OutOfMemory, CodecSpecific}
 use Rattle.rasn_types.specs.declared.error.encode.CodecEncodeError.TheVariants.{Ber}
 use Rattle.rasn_types.specs.declared.error.encode.BerEncodeErrorKind.TheVariants.{SetOutOfOrder}
+use Rattle.rasn_types.specs.Bytes.{Prim}
 use Rattle.rasn_enc.specs.View.{View, appended}
 
 -- A value of this tag is put behind the last list.
@@ -13,6 +14,10 @@ pub record Appends (IsWritten : List ℕ → Type 0) (tag : Tag) (v w : View) : 
   pub octets : List ℕ
   pub written : IsWritten octets
   pub appended : w ≡ appended v octets (tag ∷ [])
+
+-- So is a primitive value of contents that may be written.
+abbrev pub AppendsPrimitive : (List ℕ → Type 0) → Tag → View → View → Type 0
+AppendsPrimitive IsWritten tag v w = (contents : List ℕ) × IsWritten contents × Appends (Prim tag contents) tag v w
 
 -- Memory ran out.
 abbrev pub TellsOutOfMemory : Codec → EncodeError → Type 0

@@ -29,3 +29,7 @@ pub record RefusesValue (c : Constraints) (number : ℤ) (rule : Codec) (e : Enc
   pub bound : Box (Bounded ℤ) Global
   pub tells : bound.value ≡ constraint_of c.value
   pub is : e ≡ record { kind = ValueConstraintNotSatisfied number bound; codec = rule }
+
+-- Why an INTEGER isn't written: the number isn't admitted, or memory runs out.
+abbrev pub RefusesInteger : Constraints → ℤ → Codec → EncodeError → Type 0
+RefusesInteger c number rule e = RefusesValue c number rule e ⊎ TellsOutOfMemory rule e

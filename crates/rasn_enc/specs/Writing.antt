@@ -42,6 +42,14 @@ pub record EnclosesInOrder {F : Type 0} (g : Closure F (Unit {0})) (f : F) (tag 
   pub order : AreTagsInOrder inner
   pub appends : Appends (Cons v.rule tag inner.last.octets) tag v w
 
+-- Why such a value isn't written: memory runs out, or f refuses.
+abbrev pub RefusesInside : {F : Type 0} → Closure F (Unit {0}) → F → Bool → View → EncodeError → Type 0
+RefusesInside g f keeps v e = TellsOutOfMemory v.rule e ⊎ Refuses g f (opened v keeps) e
+
+-- The kept tags of the last list fall.
+abbrev pub RefusesTags : View → EncodeError → Type 0
+RefusesTags v e = (AreTagsInOrder v → ⊥) × TellsOrder v.rule e
+
 -- f may accept, and the tags of what it wrote fall.
 pub record RefusesOrder {F : Type 0} (g : Closure F (Unit {0})) (f : F) (v : View) (e : EncodeError) : Type 0 where
   pub inner : View

@@ -1,6 +1,7 @@
 -- What a call that writes a tree does to an encoder's view, and why it may refuse.
-use Rattle.std.specs.Prelude.{ℕ, ◌≡◌, ◌≢◌, ◌⊎◌, List, [], ◌∷◌, None}
-use Rattle.rasn_types.specs.Shapes.{Shape, Tree, Presence, required}
+use Rattle.std.specs.Prelude.{ℕ, ◌≡◌, ◌≢◌, ◌⊎◌, List, [], ◌∷◌, None, Result, OnOk}
+use Rattle.rasn_types.specs.Shapes.{Shape, Kind, Tree, Presence, required, leaf}
+use Rattle.rasn_types.specs.declared.types.constraints.Constraints.{Constraints}
 use Rattle.rasn_types.specs.Bytes.{Bytes, WritesPart, TagsOf, IsUntaggedOpen}
 use Rattle.rasn_types.specs.Errors.{IsEncodeOutOfMemory}
 use Rattle.rasn_types.specs.declared.types.rules.Codec.{Codec}
@@ -35,6 +36,10 @@ pub record MayRefusePart (p : Presence) (s : Shape) (t : Tree) (v : View) (e : E
 -- The octets of the tree stand behind the last list.
 abbrev pub Wrote : Shape → Tree → View → View → Type 0
 Wrote = WrotePart required
+
+-- A primitive value is written, whatever its constraints are: none bounds a value of this kind.
+abbrev pub WritesLeaf : Kind → Tag → Tree → Result (Unit {0}) EncodeError → View → View → Type 0
+WritesLeaf kind tag tree result v w = (c : Constraints) → OnOk result (Wrote (leaf kind tag c) tree v w)
 
 -- The tree has no octets under this rule.
 abbrev pub Undefined : Codec → Shape → Tree → Type 0

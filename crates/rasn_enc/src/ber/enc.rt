@@ -1,13 +1,15 @@
 //! The encoder: it writes values one behind the other.
-ghost use Rattle.std.specs.Prelude.{ℕ, List, ◌≡◌, ◌≤◌, ◌-◌, ◌⊎◌, [], length, take, drop, MatchBool, IfOk, IfErr, OnOk, OnErr, false, true};
+ghost use Rattle.std.specs.Prelude.{◌≡◌, ◌≤◌, ◌⊎◌, length, MatchBool, IfOk, IfErr, OnOk, OnErr, false, true};
 ghost use Rattle.std.specs.Fn.{FnOnceTakesAtMut};
-ghost use Rattle.rasn_types.specs.Bytes.{Prim, IsLess};
+ghost use Rattle.rasn_types.specs.Bytes.{Prim};
 ghost use Rattle.rasn_types.specs.Shapes.{Admits};
 ghost use Rattle.rasn_enc.specs.Refusals.{RefusesSize};
 ghost use Rattle.rasn_enc.specs.View.{started, AreTagsInOrder};
-ghost use Rattle.rasn_enc.specs.Primitives.{Appends, TellsOutOfMemory, TellsOrder};
+ghost use Rattle.rasn_enc.specs.Primitives.{Appends, AppendsPrimitive, TellsOutOfMemory, TellsOrder};
+ghost use Rattle.rasn_enc.specs.Order.{FallsBetween};
 ghost use Rattle.rasn_enc.specs.declared.ber.enc.filled.Unfilled.TheVariants.{NoMemory};
 ghost use Rattle.rasn_enc.specs.Filled.{FillsBehind, RefusesToFill, AppendsFilled};
+ghost use Rattle.rasn_enc.specs.Writing.{RefusesTags};
 
 mod base_128;
 mod bits;
@@ -123,39 +125,32 @@ impl Encoder {
     pub fn output(self) -> Result<Vec<u8>, EncodeError>
         ensures ok { IfOk result (λ v. v.items ≡ self.last.octets) }
         ensures order { OnOk result (AreTagsInOrder self) }
-        ensures refused { IfErr result (λ e. TellsOutOfMemory self.rule e ⊎ ((AreTagsInOrder self → ⊥) × TellsOrder self.rule e)) }
+        ensures refused { IfErr result (λ e. TellsOutOfMemory self.rule e ⊎ RefusesTags self e) }
     {
-        if self.tags_fall() {
+        if self.writer.kept_tags_fall() {
             return Err(out_of_order(self.codec()));
         }
         let Encoder { writer } = self;
         writer.output()
     }
 
-    // Whether the tags that the last list keeps fall.
-    fn tags_fall(&self) -> bool
-        ensures { MatchBool result (AreTagsInOrder self.now → ⊥) (AreTagsInOrder self.now) }
-    {
-        self.writer.kept_tags_fall()
-    }
-
-    // How many octets the last list has.
+    /// Counts the octets of the last list.
     fn last_len(&self) -> usize
         ensures { result ≡ length self.now.last.octets }
     {
         self.writer.last_len()
     }
 
-    // Whether the octets of the last list from `middle` on are less than those from `from` to it (X.690 11.6).
+    /// Whether the octets of the last list from `middle` on are less than those from `from` to it (X.690 11.6).
     fn neighbours_fall(&self, from: usize, middle: usize) -> bool
         requires order { from ≤ middle }
         requires within { middle ≤ length self.now.last.octets }
-        ensures { MatchBool result (IsLess (drop middle self.now.last.octets) (take (middle - from) (drop from self.now.last.octets))) (IsLess (drop middle self.now.last.octets) (take (middle - from) (drop from self.now.last.octets)) → ⊥) }
+        ensures { MatchBool result (FallsBetween from middle self.now.last.octets) (FallsBetween from middle self.now.last.octets → ⊥) }
     {
         self.writer.neighbours_fall(from, middle)
     }
 
-    // Refuses a size that isn't within its bound.
+    /// Refuses a size that isn't within its bound.
     #[inline(always)]
     fn check_size(&self, constraints: &Constraints, size: usize) -> Result<(), EncodeError>
         ensures ok { OnOk result (Admits ◌≤◌ constraints.now.size size) }
@@ -173,7 +168,7 @@ impl Encoder {
         })
     }
 
-    // Puts a primitive value behind the last list.
+    /// Puts a primitive value behind the last list.
     fn leaf(&mut self, tag: Tag, contents: &[u8]) -> Result<(), EncodeError>
         ensures ok { OnOk result (Appends (Prim tag contents.now) tag self.old self.new) }
         ensures err { OnErr result (self.new ≡ self.old) }
@@ -182,7 +177,7 @@ impl Encoder {
         self.writer.leaf(tag, contents)
     }
 
-    // The same, where `contents` writes its contents in place.
+    /// Puts a primitive value behind the last list; `contents` writes its contents in place.
     fn leaf_with<F: FnOnce(&mut Vec<u8>) -> Result<(), Unfilled>>(
         &mut self,
         tag: Tag,
@@ -197,9 +192,9 @@ impl Encoder {
         self.writer.leaf_with(tag, contents)
     }
 
-    // The same, where a value writes its contents in place.
+    /// Puts a primitive value behind the last list, whose contents it writes in place.
     fn leaf_of<T: Contents>(&mut self, tag: Tag, value: &T) -> Result<(), EncodeError>
-        ensures ok { OnOk result ((contents : List ℕ) × T.IsWritten value.now contents × Appends (Prim tag contents) tag self.old self.new) }
+        ensures ok { OnOk result (AppendsPrimitive (T.IsWritten value.now) tag self.old self.new) }
         ensures err { OnErr result (self.new ≡ self.old) }
         ensures memory { IfErr result (TellsOutOfMemory self.old.rule) }
     {

@@ -22,7 +22,7 @@ impl<G: AsnType, T: Encode> Encode for Implicit<G, T> {
     }
 }
 
-// The prefix is written where the value is absent too, so that it is read again.
+/// The prefix is written where the value is absent too, so that it is read again.
 impl<G: AsnType, T: Encode> Encode for Explicit<G, T> {
     fn encode_with_tag_and_constraints(
         &self,

@@ -16,10 +16,10 @@ use rasn_types::error::EncodeError;
 use rasn_types::types::{BitStr, Constraints, Identifier, Tag};
 use std::alloc::AllocError;
 
-// The bits of a segment under the canonical rules: those of its contents octets but the count of unused bits (X.690 8.6.2, 9.2).
+/// The bits of a segment under the canonical rules: those of its contents octets but the count of unused bits (X.690 8.6.2, 9.2).
 const SEGMENT_BITS: usize = 8 * (MAX_SEGMENT_LENGTH - 1);
 
-// The contents of bits in one piece: the count of unused bits, and octets (X.690 8.6.2).
+/// The contents of bits in one piece: the count of unused bits, and octets (X.690 8.6.2).
 impl Contents for BitStr<'_> {
     ghost IsWritten = { λ value contents. WrittenBits value contents };
 
@@ -53,7 +53,7 @@ impl Encoder {
         self.put_bits(tag, value)
     }
 
-    // Puts bits behind the last list, in one piece.
+    /// Puts bits behind the last list, in one piece.
     fn put_bits(&mut self, tag: Tag, value: &BitStr<'_>) -> Result<(), EncodeError>
         ensures ok { OnOk result (Appends (IsPiece WrittenBits tag value.now) tag self.old self.new) }
         ensures err { OnErr result (self.new ≡ self.old) }
@@ -62,7 +62,7 @@ impl Encoder {
         self.leaf_of(tag, value)
     }
 
-    // Writes bits in segments, as one constructed value.
+    /// Writes bits in segments, as one constructed value.
     fn put_bit_segments(&mut self, tag: Tag, value: &BitStr<'_>) -> Result<(), EncodeError>
         requires { SEGMENT_BITS < length value.now }
         ensures ok { OnOk result (PutsSegments WrittenBits SEGMENT_BITS (in_universal 3) tag value.now self.old self.new) }

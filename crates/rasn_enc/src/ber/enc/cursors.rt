@@ -6,7 +6,7 @@ ghost use Rattle.rasn_enc.specs.Ahead.{ahead, Placed, Away};
 
 use super::marks::{Head, Mark, head_len, head_octet};
 
-// What is left of a head, then the gathered octets from `at` on with the marks from `mark` on.
+/// A place in rendered octets: what is left of a head, then the gathered octets from `at` on with the marks from `mark` on.
 #[derive(Clone, Copy, Drop)]
 pub struct Cursor {
     pub head: Head,
@@ -15,7 +15,7 @@ pub struct Cursor {
     pub mark: usize,
 }
 
-// The place behind the first n octets of a list of `total`, found from its back.
+/// Finds the place behind the first n octets of a list of `total`, from its back.
 pub fn place(gathered: &[u8], marks: &[Mark], start: usize, total: usize, n: usize) -> Cursor
     requires rising { Rising start marks.now (length gathered.now) }
     requires measured { total ≡ length (rendered gathered.now start marks.now) }
@@ -58,7 +58,7 @@ pub fn place(gathered: &[u8], marks: &[Mark], start: usize, total: usize, n: usi
     }
 }
 
-// The mark that stands here, if it does.
+/// Gives the mark that stands at a place, if one does.
 fn mark_here(marks: &[Mark], k: usize, at: usize) -> Option<Head>
     requires { k ≤ length marks.now }
     ensures { MatchOption result (Away at (drop k marks.now)) (λ h. drop k marks.now ≡ mark_at at h ∷ drop (suc k) marks.now) }
@@ -72,7 +72,7 @@ fn mark_here(marks: &[Mark], k: usize, at: usize) -> Option<Head>
     None
 }
 
-// The octet at a place, and the place behind it.
+/// Gives the octet at a place, and the place behind it.
 fn next(gathered: &[u8], marks: &[Mark], cursor: Cursor) -> Option<(u8, Cursor)>
     requires { Placed gathered.now marks.now cursor }
     ensures { MatchOption result (ahead gathered.now marks.now cursor ≡ []) (λ p. (ahead gathered.now marks.now cursor ≡ p.0 ∷ ahead gathered.now marks.now p.1) × Placed gathered.now marks.now p.1) }
@@ -115,7 +115,7 @@ fn next(gathered: &[u8], marks: &[Mark], cursor: Cursor) -> Option<(u8, Cursor)>
     }
 }
 
-// Whether what stands ahead of `left` is less than the first n octets that stand ahead of `right`.
+/// Whether what stands ahead of `left` is less than the first n octets that stand ahead of `right`.
 pub fn rendered_before(
     gathered: &[u8],
     marks: &[Mark],

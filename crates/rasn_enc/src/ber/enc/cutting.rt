@@ -41,7 +41,7 @@ pub fn cut(
     gathered.truncate(gathered.len() - left);
 }
 
-// The first octets of a mark: some, and not all of them.
+/// The first octets of a mark: some, and not all of them.
 fn first_of(head: Head, count: usize) -> Head
     requires some { 0 < count }
     requires few { count < length (ink_of head) }

@@ -35,7 +35,7 @@ impl Encoder {
         )
     }
 
-    /// The same under this tag.
+    /// Writes a value under this tag, but nothing where it equals its default (X.690 11.5).
     ///
     /// # Errors
     /// As `encode_default`.
@@ -47,10 +47,13 @@ impl Encoder {
         identifier: Identifier,
     ) -> Result<(), EncodeError>
         requires { F.IsAlwaysCallable default }
-        ensures ok { OnOk result (WroteUnless E.eq (F.post default) (tagged_as tag E.CONSTRAINTS E.shape) E.tree value.now self.old self.new) }
+        ensures ok { let shape = tagged_as tag E.CONSTRAINTS E.shape in
+            OnOk result (WroteUnless E.eq (F.post default) shape E.tree value.now self.old self.new) }
         ensures err { OnErr result (self.new ≡ self.old) }
-        ensures refused { IfErr result (RefusesUnless E.eq (F.post default) (tagged_as tag E.CONSTRAINTS E.shape) E.tree value.now self.old) }
-        ensures writes { WritesDefault E.eq (F.post default) (tagged_as tag E.CONSTRAINTS E.shape) E.tree value.now self.old result self.new }
+        ensures refused { let shape = tagged_as tag E.CONSTRAINTS E.shape in
+            IfErr result (RefusesUnless E.eq (F.post default) shape E.tree value.now self.old) }
+        ensures writes { let shape = tagged_as tag E.CONSTRAINTS E.shape in
+            WritesDefault E.eq (F.post default) shape E.tree value.now self.old result self.new }
     {
         self.encode_default_with_tag_and_constraints(
             tag,
@@ -61,7 +64,7 @@ impl Encoder {
         )
     }
 
-    /// The same under these constraints.
+    /// Writes a value under its own tag and these constraints, but nothing where it equals its default (X.690 11.5).
     ///
     /// # Errors
     /// As `encode_default`.
@@ -76,10 +79,13 @@ impl Encoder {
         identifier: Identifier,
     ) -> Result<(), EncodeError>
         requires { F.IsAlwaysCallable default }
-        ensures ok { OnOk result (WroteUnless E.eq (F.post default) (tagged_as E.TAG constraints.now E.shape) E.tree value.now self.old self.new) }
+        ensures ok { let shape = tagged_as E.TAG constraints.now E.shape in
+            OnOk result (WroteUnless E.eq (F.post default) shape E.tree value.now self.old self.new) }
         ensures err { OnErr result (self.new ≡ self.old) }
-        ensures refused { IfErr result (RefusesUnless E.eq (F.post default) (tagged_as E.TAG constraints.now E.shape) E.tree value.now self.old) }
-        ensures writes { WritesDefault E.eq (F.post default) (tagged_as E.TAG constraints.now E.shape) E.tree value.now self.old result self.new }
+        ensures refused { let shape = tagged_as E.TAG constraints.now E.shape in
+            IfErr result (RefusesUnless E.eq (F.post default) shape E.tree value.now self.old) }
+        ensures writes { let shape = tagged_as E.TAG constraints.now E.shape in
+            WritesDefault E.eq (F.post default) shape E.tree value.now self.old result self.new }
     {
         self.encode_default_with_tag_and_constraints(
             E::TAG,
@@ -90,7 +96,7 @@ impl Encoder {
         )
     }
 
-    /// The same under this tag and these constraints.
+    /// Writes a value under this tag and these constraints, but nothing where it equals its default (X.690 11.5).
     ///
     /// # Errors
     /// As `encode_default`.
@@ -106,10 +112,13 @@ impl Encoder {
         identifier: Identifier,
     ) -> Result<(), EncodeError>
         requires { F.IsAlwaysCallable default }
-        ensures ok { OnOk result (WroteUnless E.eq (F.post default) (tagged_as tag constraints.now E.shape) E.tree value.now self.old self.new) }
+        ensures ok { let shape = tagged_as tag constraints.now E.shape in
+            OnOk result (WroteUnless E.eq (F.post default) shape E.tree value.now self.old self.new) }
         ensures err { OnErr result (self.new ≡ self.old) }
-        ensures refused { IfErr result (RefusesUnless E.eq (F.post default) (tagged_as tag constraints.now E.shape) E.tree value.now self.old) }
-        ensures writes { WritesDefault E.eq (F.post default) (tagged_as tag constraints.now E.shape) E.tree value.now self.old result self.new }
+        ensures refused { let shape = tagged_as tag constraints.now E.shape in
+            IfErr result (RefusesUnless E.eq (F.post default) shape E.tree value.now self.old) }
+        ensures writes { let shape = tagged_as tag constraints.now E.shape in
+            WritesDefault E.eq (F.post default) shape E.tree value.now self.old result self.new }
     {
         match default() {
             Ok(default) if *value == default => Ok(()),

@@ -13,8 +13,8 @@ use super::rendering::{grow, move_up};
 use rasn_types::types::Tag;
 use std::alloc::AllocError;
 
-// A primitive value whose contents are written in place has room for so many octets of them at first: no time has more, nor a number
-// of 128 bits.
+/// A primitive value whose contents are written in place has room for so many octets of them at first: no time has more, nor a number
+/// of 128 bits.
 const SHORT_CONTENTS: usize = 32;
 
 /// Why contents aren't written in place.
@@ -39,7 +39,7 @@ pub trait Contents {
         ensures err { OnErr result ((l : List ℕ) × (octets.new.items ≡ octets.old.items ++ l)) };
 }
 
-/// The same, for a value that is written in place.
+/// Puts the contents of a value behind octets. Only an allocation fails.
 pub fn fill_with<T: Contents>(value: &T, octets: &mut Vec<u8>) -> Result<(), Unfilled>
     ensures ok { OnOk result ((l : List ℕ) × T.IsWritten value.now l × (octets.new.items ≡ octets.old.items ++ l)) }
     ensures behind { (l : List ℕ) × (octets.new.items ≡ octets.old.items ++ l) }
@@ -105,7 +105,7 @@ fn fill<F: FnOnce(&mut Vec<u8>) -> Result<(), Unfilled>>(
     contents(octets)
 }
 
-// The identifier, and room for one length octet and for short contents.
+/// Writes the identifier, with room for one length octet and for short contents.
 fn begin_filled(octets: &mut Vec<u8>, tag: Tag) -> Result<(), AllocError>
     ensures ok { OnOk result (octets.new.items ≡ octets.old.items ++ (id_octets tag (tag_bit tag) ++ 0 ∷ [])) }
     ensures err { OnErr result (octets.new.items ≡ octets.old.items) }
@@ -116,7 +116,7 @@ fn begin_filled(octets: &mut Vec<u8>, tag: Tag) -> Result<(), AllocError>
     Ok(())
 }
 
-// Writes the length of the contents, which stand behind the room for one octet of it. Where that isn't enough, they are moved up.
+/// Writes the length of the contents, which stand behind the room for one octet of it. Where that isn't enough, they are moved up.
 fn end_filled(octets: &mut Vec<u8>, tag: Tag, start: usize) -> Result<(), AllocError>
     requires { start + length (id_octets tag (tag_bit tag)) < vec_len octets.old }
     ensures ok { OnOk result ((xs l : List ℕ) → start ≡ length xs → octets.old.items ≡ xs ++ (id_octets tag (tag_bit tag) ++ 0 ∷ l) → PutsPrim tag l xs octets.new.items) }
@@ -137,7 +137,7 @@ fn end_filled(octets: &mut Vec<u8>, tag: Tag, start: usize) -> Result<(), AllocE
     }
 }
 
-// Writes a length in the place of one octet. What stands behind it is moved up.
+/// Writes a length in the place of one octet. What stands behind it is moved up.
 fn insert_length(octets: &mut Vec<u8>, place: usize, count: usize) -> Result<(), AllocError>
     requires { place < vec_len octets.old }
     ensures ok { OnOk result (octets.new.items ≡ take place octets.old.items ++ (length_octets count ++ drop (place + 1) octets.old.items)) }
@@ -149,7 +149,7 @@ fn insert_length(octets: &mut Vec<u8>, place: usize, count: usize) -> Result<(),
     Ok(())
 }
 
-// Moves what stands behind one octet up to the end of all, and writes a length in front of it.
+/// Moves what stands behind one octet up to the end of all, and writes a length in front of it.
 fn widen_length(octets: &mut [u8], place: usize, end: usize, count: usize)
     requires order { place < end }
     requires within { end ≤ length octets.old }
@@ -161,7 +161,7 @@ fn widen_length(octets: &mut [u8], place: usize, end: usize, count: usize)
     put_length(octets, place, count);
 }
 
-// Writes the octets of a length from a place on.
+/// Writes the octets of a length from a place on.
 fn put_length(octets: &mut [u8], place: usize, count: usize)
     requires { place + length (length_octets count) ≤ length octets.old }
     ensures { octets.new ≡ take place octets.old ++ (length_octets count ++ drop (place + length (length_octets count)) octets.old) }

@@ -14,7 +14,7 @@ use rasn_types::ber::rules::EncodingRules;
 use rasn_types::types::{Codec, Tag};
 use std::alloc::AllocError;
 
-// Counts the octets from `at` on to those that were measured. Where they can't be counted, they are taken off.
+/// Counts the octets from `at` on to those that were measured. Where they can't be counted, they are taken off.
 fn count_from(gathered: &mut Vec<u8>, at: usize, measured: usize) -> Result<usize, AllocError>
     requires { at ≤ vec_len gathered.old }
     ensures total { IfOk result (λ n. n + at ≡ measured + vec_len gathered.old) }
@@ -51,7 +51,7 @@ pub fn gather(
     Ok(total)
 }
 
-/// The same, where `contents` writes its contents in place.
+/// Gathers a primitive value, whose contents `contents` writes in place.
 pub fn gather_filled<F: FnOnce(&mut Vec<u8>) -> Result<(), Unfilled>>(
     gathered: &mut Vec<u8>,
     tags: &mut Option<Vec<Tag>>,
@@ -98,7 +98,7 @@ pub fn gather_octets(
     Ok(total)
 }
 
-// How many end-of-contents octets a rule has.
+/// Counts the end-of-contents octets of a rule.
 fn back_len(rule: Codec) -> usize
     ensures count { result ≡ length (back rule) }
     ensures small { result < 3 }

@@ -63,7 +63,7 @@ pub fn write_length(out: &mut Vec<u8>, count: usize)
     }
 }
 
-// The class, the constructed bit and five bits of the number.
+/// Gives the first identifier octet: the class, the constructed bit and five bits of the number.
 fn leading_octet(class: Class, constructed: bool, low: u8) -> u8
     requires { low < 32 }
     ensures { result ≡ 64 * rank_of class + (32 * bit_of constructed + low) }
@@ -85,7 +85,7 @@ pub fn rank(class: Class) -> u8
     }
 }
 
-// How many octets a number takes.
+/// Counts the octets that a number takes.
 fn count_octets(number: usize) -> usize
     ensures { result ≡ octet_count number }
 {
@@ -108,7 +108,7 @@ fn count_octets(number: usize) -> usize
     }
 }
 
-// Writes a number in base 256.
+/// Writes a number in base 256.
 fn write_octets(out: &mut Vec<u8>, number: usize)
     requires { vec_len out.old + octet_count number ≤ vec_capacity out.old }
     ensures items { out.new.items ≡ out.old.items ++ digits 256 (octet_count number) number }

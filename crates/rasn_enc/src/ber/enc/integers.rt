@@ -1,11 +1,9 @@
 //! Writing INTEGER.
-ghost use Rattle.std.specs.Prelude.{ℕ, List, ◌≡◌, ◌≤ℤ◌, ◌⊎◌, ◌++◌, IfErr, OnOk, OnErr};
-ghost use Rattle.rasn_types.specs.Shapes.{leaf, integer, number as number_tree, Admits, IsIn};
+ghost use Rattle.std.specs.Prelude.{ℕ, List, ◌≡◌, ◌≤ℤ◌, ◌++◌, IfErr, OnOk, OnErr};
+ghost use Rattle.rasn_types.specs.Shapes.{Admits, IsIn};
 ghost use Rattle.rasn_enc.specs.declared.ber.enc.filled.Unfilled.TheVariants.{Refused};
-ghost use Rattle.rasn_enc.specs.Primitives.{TellsOutOfMemory};
-ghost use Rattle.rasn_enc.specs.Wrote.{Wrote};
-ghost use Rattle.rasn_enc.specs.Refusals.{RefusesValue};
-ghost use Rattle.rasn_enc.specs.Integers.{PutsInteger};
+ghost use Rattle.rasn_enc.specs.Refusals.{RefusesInteger};
+ghost use Rattle.rasn_enc.specs.Integers.{PutsInteger, WroteInteger};
 
 use super::filled::Unfilled;
 use super::{Encoder, out_of_memory};
@@ -25,14 +23,13 @@ impl Encoder {
         value: &I,
         _identifier: Identifier,
     ) -> Result<(), EncodeError>
-        ensures ok { OnOk result (Wrote (leaf (integer I.range) tag constraints.now) (number_tree (I.number value.now)) self.old self.new) }
+        ensures ok { OnOk result (WroteInteger I.range tag constraints.now (I.number value.now) self.old self.new) }
         ensures err { OnErr result (self.new ≡ self.old) }
-        ensures refused { IfErr result (λ e. RefusesValue constraints.now (I.number value.now) self.old.rule e ⊎ TellsOutOfMemory self.old.rule e) }
+        ensures refused { IfErr result (RefusesInteger constraints.now (I.number value.now) self.old.rule) }
     {
         let (alloc, rule) = (self.alloc(), self.codec());
-        match self.leaf_with(tag, |octets: &mut Vec<u8>| {
-            write_integer(constraints, value, octets)
-        }) {
+        let contents = |octets: &mut Vec<u8>| write_integer(constraints, value, octets);
+        match self.leaf_with(tag, contents) {
             Ok(()) => Ok(()),
             Err(Unfilled::NoMemory) => Err(out_of_memory(rule)),
             Err(Unfilled::Refused) => Err(refused_value(alloc, rule, constraints, value)),
@@ -40,7 +37,7 @@ impl Encoder {
     }
 }
 
-// Puts the octets of a number behind those that are there, where it is within its bound.
+/// Puts the octets of a number behind those that are there, where it is within its bound.
 fn write_integer<I: IntegerType>(
     constraints: &Constraints,
     value: &I,
@@ -61,7 +58,7 @@ fn write_integer<I: IntegerType>(
     Ok(())
 }
 
-// The error of a number that is out of its bound, which tells it. Where the copy finds no memory, that is the error.
+/// Makes the error of a number that is out of its bound, with a copy of the number; if the copy finds no memory, that is the error.
 fn refused_value<I: IntegerType>(
     alloc: Global,
     rule: Codec,
@@ -69,7 +66,7 @@ fn refused_value<I: IntegerType>(
     value: &I,
 ) -> EncodeError
     requires { Admits ◌≤ℤ◌ constraints.now.value (I.number value.now) → ⊥ }
-    ensures { RefusesValue constraints.now (I.number value.now) rule result ⊎ TellsOutOfMemory rule result }
+    ensures { RefusesInteger constraints.now (I.number value.now) rule result }
 {
     let mut octets = Vec::new(alloc);
     let Ok(()) = value.append_octets(&mut octets) else {

@@ -5,7 +5,6 @@ ghost use Rattle.rasn_types.specs.Bytes.{DoNotFall};
 ghost use Rattle.rasn_enc.specs.Lists.{tags_of, HasRoom};
 ghost use Rattle.rasn_enc.specs.Order.{FallsAt};
 
-use super::headers::rank;
 use rasn_types::types::Tag;
 use std::alloc::AllocError;
 
@@ -53,19 +52,12 @@ pub fn tags_fall(tags: &[Tag]) -> bool
     false
 }
 
-// Whether the tag that follows is below this one.
+/// Whether the tag that follows is below this one.
 fn falls_at(tag: Tag, after: &[Tag]) -> bool
     ensures { MatchBool result (FallsAt tag after.now) (FallsAt tag after.now → ⊥) }
 {
     match after {
-        [next, ..] => is_below(*next, tag),
+        [next, ..] => *next < tag,
         [] => false,
     }
-}
-
-fn is_below(tag: Tag, other: Tag) -> bool
-    ensures { MatchBool result (IsTagBelow tag other) (IsTagBelow tag other → ⊥) }
-{
-    let (a, b) = (rank(tag.class), rank(other.class));
-    a < b || (a == b && tag.value < other.value)
 }

@@ -1,17 +1,15 @@
 //! Writing a BOOLEAN (X.690 8.2, 11.1).
 ghost use Rattle.std.specs.Prelude.{◌≡◌, IfErr, OnOk, OnErr};
-ghost use Rattle.rasn_types.specs.Shapes.{leaf, boolean};
+ghost use Rattle.rasn_types.specs.Shapes.{boolean};
 ghost use Rattle.rasn_types.specs.Trees.{bool_tree};
 ghost use Rattle.rasn_enc.specs.Primitives.{TellsOutOfMemory};
-ghost use Rattle.rasn_enc.specs.Wrote.{Wrote};
+ghost use Rattle.rasn_enc.specs.Wrote.{WritesLeaf};
 
 use super::Encoder;
 use rasn_types::error::EncodeError;
 use rasn_types::types::{Identifier, Tag};
 
 impl Encoder {
-    ghost use Rattle.rasn_types.specs.declared.types.constraints.Constraints.{Constraints};
-
     /// Writes a BOOLEAN (X.690 8.2, 11.1).
     ///
     /// # Errors
@@ -22,7 +20,7 @@ impl Encoder {
         value: bool,
         _identifier: Identifier,
     ) -> Result<(), EncodeError>
-        ensures ok { (c : Constraints) → OnOk result (Wrote (leaf boolean tag c) (bool_tree value) self.old self.new) }
+        ensures ok { WritesLeaf boolean tag (bool_tree value) result self.old self.new }
         ensures err { OnErr result (self.new ≡ self.old) }
         ensures refused { IfErr result (TellsOutOfMemory self.old.rule) }
     {

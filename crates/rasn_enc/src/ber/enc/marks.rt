@@ -36,7 +36,7 @@ pub struct Mark {
     pub head: Head,
 }
 
-// There are many of them.
+// There are many marks, so they stay small.
 const _: () = prove!(size_of::<Mark>() == 32);
 
 /// What stands before the contents of a constructed value.
@@ -75,7 +75,7 @@ fn least(a: usize, b: usize) -> usize
     if a < b { a } else { b }
 }
 
-// Puts behind all a mark for end-of-contents octets where the rule has them.
+/// Puts behind all a mark for end-of-contents octets where the rule has them.
 fn close(marks: &mut Vec<Mark>, rule: Codec, end: usize) -> Result<(), AllocError>
     ensures ok { OnOk result (marks.new.items ≡ marks.old.items ++ closing rule end) }
     ensures err { OnErr result (marks.new.items ≡ marks.old.items) }

@@ -3,15 +3,15 @@ ghost use Rattle.std.specs.Prelude.{◌≡◌, ◌<◌, ◌⊎◌, length, true,
 ghost use Rattle.std.specs.Fn.{FnOnceTakesAtMut, FnOnceReturnsAtMut};
 ghost use Rattle.rasn_types.specs.Bytes.{Cons};
 ghost use Rattle.rasn_enc.specs.View.{View, IsBelow, opened, AreTagsInOrder};
-ghost use Rattle.rasn_enc.specs.Primitives.{Appends, TellsOutOfMemory, TellsOrder};
-ghost use Rattle.rasn_enc.specs.Writing.{WritesInside, WritesBehind, Refuses, Encloses, EnclosesInOrder, RefusesInOrder, Ran};
+ghost use Rattle.rasn_enc.specs.Primitives.{Appends, TellsOutOfMemory};
+ghost use Rattle.rasn_enc.specs.Writing.{WritesInside, WritesBehind, Refuses, Encloses, EnclosesInOrder, RefusesInside, RefusesInOrder, RefusesTags, Ran};
 
 use super::{Encoder, out_of_order};
 use rasn_types::error::EncodeError;
 use rasn_types::types::Tag;
 
 impl Encoder {
-    // Writes a constructed value, whose contents are what `contents` writes. Where that refuses, nothing is written.
+    /// Writes a constructed value, whose contents are what `contents` writes. Where that refuses, nothing is written.
     pub(super) fn enclose<F: FnOnce(&mut Encoder) -> Result<(), EncodeError>>(
         &mut self,
         tag: Tag,
@@ -22,14 +22,14 @@ impl Encoder {
         requires keeps { WritesInside F.FnOnce contents (opened self.old keeps_tags) }
         ensures ok { OnOk result (Encloses F.FnOnce contents keeps_tags tag self.old self.new) }
         ensures err { OnErr result (self.new ≡ self.old) }
-        ensures refused { IfErr result (λ e. TellsOutOfMemory self.old.rule e ⊎ Refuses F.FnOnce contents (opened self.old keeps_tags) e) }
+        ensures refused { IfErr result (RefusesInside F.FnOnce contents keeps_tags self.old) }
     {
         self.open(keeps_tags)?;
         let outcome = run(self, contents);
         self.close(tag, outcome)
     }
 
-    // The same, where the outermost tags of what `contents` writes must not fall.
+    /// Writes a constructed value as `enclose` does, and refuses one whose outermost tags fall.
     pub(super) fn enclose_in_order<F: FnOnce(&mut Encoder) -> Result<(), EncodeError>>(
         &mut self,
         tag: Tag,
@@ -47,18 +47,18 @@ impl Encoder {
         self.close(tag, ordered)
     }
 
-    // The outcome, but a refusal where the tags that the last list keeps fall.
+    /// Passes on an outcome, but refuses where the tags that the last list keeps fall.
     fn in_order(&self, outcome: Result<(), EncodeError>) -> Result<(), EncodeError>
         ensures ok { OnOk result ((outcome ≡ Ok tt) × AreTagsInOrder self.now) }
-        ensures refused { IfErr result (λ e. (outcome ≡ Err e) ⊎ ((outcome ≡ Ok tt) × (AreTagsInOrder self.now → ⊥) × TellsOrder self.now.rule e)) }
+        ensures refused { IfErr result (λ e. (outcome ≡ Err e) ⊎ ((outcome ≡ Ok tt) × RefusesTags self.now e)) }
     {
         match outcome {
-            Ok(()) if self.tags_fall() => Err(out_of_order(self.codec())),
+            Ok(()) if self.writer.kept_tags_fall() => Err(out_of_order(self.codec())),
             outcome => outcome,
         }
     }
 
-    // Opens a value: its contents are the last list now.
+    /// Opens a value: its contents are the last list now.
     pub(super) fn open(&mut self, keeps_tags: bool) -> Result<(), EncodeError>
         ensures ok { OnOk result (self.new ≡ opened self.old keeps_tags) }
         ensures err { OnErr result (self.new ≡ self.old) }
@@ -67,7 +67,7 @@ impl Encoder {
         self.writer.begin(keeps_tags)
     }
 
-    // Closes the value that was opened last, or drops it where its contents were refused.
+    /// Closes the value that was opened last, or drops it where its contents were refused.
     pub(super) fn close(
         &mut self,
         tag: Tag,
@@ -88,7 +88,7 @@ impl Encoder {
         }
     }
 
-    // Writes what `values` does, or nothing where that refuses.
+    /// Writes what `values` does, or nothing where that refuses.
     pub(super) fn attempt<T, F: FnOnce(&mut Encoder) -> Result<T, EncodeError>>(
         &mut self,
         values: F,
@@ -110,7 +110,7 @@ impl Encoder {
     }
 }
 
-// The call of a closure that writes.
+/// Calls a closure that writes.
 fn run<T, F: FnOnce(&mut Encoder) -> Result<T, EncodeError>>(
     encoder: &mut Encoder,
     writes: F,

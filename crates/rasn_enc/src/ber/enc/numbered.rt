@@ -1,9 +1,9 @@
 //! Writing named numbers, NULL, object identifiers and REAL (X.690 8.4, 8.5, 8.8, 8.19).
 ghost use Rattle.std.specs.Prelude.{◌≡◌, ◌⊎◌, Err, IfErr, OnOk, OnErr, pos};
-ghost use Rattle.rasn_types.specs.Shapes.{leaf, enumerated, null, object_identifier, number as number_tree, numbers};
+ghost use Rattle.rasn_types.specs.Shapes.{enumerated, null, object_identifier, number as number_tree, numbers};
 ghost use Rattle.rasn_types.specs.declared.error.encode.EncodeErrorKind.TheVariants.{RealNotSupported};
 ghost use Rattle.rasn_enc.specs.Primitives.{TellsOutOfMemory};
-ghost use Rattle.rasn_enc.specs.Wrote.{Wrote};
+ghost use Rattle.rasn_enc.specs.Wrote.{WritesLeaf};
 ghost use Rattle.rasn_enc.specs.ObjectIdentifiers.{RefusesArcs};
 
 use super::filled::Unfilled;
@@ -13,8 +13,6 @@ use rasn_types::error::{EncodeError, EncodeErrorKind};
 use rasn_types::types::{Constraints, Enumerated, Identifier, RealType, Tag};
 
 impl Encoder {
-    ghost use Rattle.rasn_types.specs.declared.types.constraints.Constraints.{Constraints};
-
     /// Writes an ENUMERATED (X.690 8.4) in the fewest octets.
     ///
     /// # Errors
@@ -25,7 +23,7 @@ impl Encoder {
         value: &E,
         identifier: Identifier,
     ) -> Result<(), EncodeError>
-        ensures ok { (c : Constraints) → OnOk result (Wrote (leaf (enumerated E.known) tag c) (number_tree (E.number value.now)) self.old self.new) }
+        ensures ok { WritesLeaf (enumerated E.known) tag (number_tree (E.number value.now)) result self.old self.new }
         ensures err { OnErr result (self.new ≡ self.old) }
         ensures refused { IfErr result (TellsOutOfMemory self.old.rule) }
     {
@@ -37,7 +35,7 @@ impl Encoder {
     /// # Errors
     /// `OutOfMemory` alone.
     pub fn encode_null(&mut self, tag: Tag, _identifier: Identifier) -> Result<(), EncodeError>
-        ensures ok { (c : Constraints) → OnOk result (Wrote (leaf null tag c) (number_tree (pos 0)) self.old self.new) }
+        ensures ok { WritesLeaf null tag (number_tree (pos 0)) result self.old self.new }
         ensures err { OnErr result (self.new ≡ self.old) }
         ensures refused { IfErr result (TellsOutOfMemory self.old.rule) }
     {
@@ -54,12 +52,13 @@ impl Encoder {
         value: &[u32],
         _identifier: Identifier,
     ) -> Result<(), EncodeError>
-        ensures ok { (c : Constraints) → OnOk result (Wrote (leaf object_identifier tag c) (numbers value.now) self.old self.new) }
+        ensures ok { WritesLeaf object_identifier tag (numbers value.now) result self.old self.new }
         ensures err { OnErr result (self.new ≡ self.old) }
         ensures refused { IfErr result (λ e. RefusesArcs value.now self.old.rule e ⊎ TellsOutOfMemory self.old.rule e) }
     {
         let (alloc, rule) = (self.alloc(), self.codec());
-        match self.leaf_with(tag, |octets: &mut Vec<u8>| append_contents(value, octets)) {
+        let contents = |octets: &mut Vec<u8>| append_contents(value, octets);
+        match self.leaf_with(tag, contents) {
             Ok(()) => Ok(()),
             Err(Unfilled::NoMemory) => Err(out_of_memory(rule)),
             Err(Unfilled::Refused) => Err(refused_arcs(alloc, rule, value)),

@@ -54,7 +54,7 @@ pub fn append_contents(oid: &[u32], octets: &mut Vec<u8>) -> Result<(), Unfilled
     }
 }
 
-// The first subidentifier, where the arcs have octets.
+/// Gives the first subidentifier, where the arcs have octets.
 fn first_subidentifier(oid: &[u32]) -> Option<u32>
     ensures { MatchOption result (HasOctets oid.now → ⊥) (λ s. HasOctets oid.now × IsFirst oid.now s) }
 {
@@ -82,7 +82,7 @@ pub fn refused_arcs(alloc: Global, codec: Codec, arcs: &[u32]) -> EncodeError
     }
 }
 
-// Puts subidentifiers behind the octets, or some of them where memory is wanting.
+/// Puts subidentifiers behind the octets, or some of them if an allocation fails.
 fn append_arcs(first: u32, others: &[u32], octets: &mut Vec<u8>) -> Result<(), AllocError>
     ensures ok { OnOk result (AppendsArcs (first ∷ others.now) octets.old.items octets.new.items) }
     ensures err { OnErr result ((l : List ℕ) × (octets.new.items ≡ octets.old.items ++ l)) }
@@ -96,7 +96,7 @@ fn append_arcs(first: u32, others: &[u32], octets: &mut Vec<u8>) -> Result<(), A
     Ok(())
 }
 
-// Puts one behind the octets.
+/// Puts one subidentifier behind the octets.
 fn append_arc(arc: u32, octets: &mut Vec<u8>) -> Result<(), AllocError>
     ensures ok { OnOk result (AppendsOne arc octets.old.items octets.new.items) }
     ensures err { OnErr result (octets.new.items ≡ octets.old.items) }

@@ -1,11 +1,11 @@
 //! Open types.
-ghost use Rattle.std.specs.Prelude.{◌≡◌, ◌≢◌, ◌⊎◌, None, [], MatchBool, IfErr, OnOk, OnErr};
+ghost use Rattle.std.specs.Prelude.{◌≡◌, ◌≢◌, None, [], IfErr, OnOk, OnErr};
 ghost use Rattle.rasn_types.specs.Shapes.{any, looked_for, numbers};
 ghost use Rattle.rasn_types.specs.Bytes.{Cons};
 ghost use Rattle.rasn_enc.specs.View.{appended};
 ghost use Rattle.rasn_enc.specs.Primitives.{Appends, TellsOutOfMemory};
 ghost use Rattle.rasn_enc.specs.Wrote.{Wrote};
-ghost use Rattle.rasn_enc.specs.OpenTypes.{TellsBare, RefusesAny};
+ghost use Rattle.rasn_enc.specs.OpenTypes.{TellsBare, RefusesBare, RefusesAny};
 
 use super::Encoder;
 use rasn_types::error::{BerEncodeErrorKind, CodecEncodeError, EncodeError, EncodeErrorKind};
@@ -39,20 +39,20 @@ impl Encoder {
         }
     }
 
-    // Puts octets behind the last list, unless that keeps the tags of what stands in it.
+    /// Puts octets behind the last list, unless that keeps the tags of what stands in it.
     fn put_bare(&mut self, octets: &[u8]) -> Result<(), EncodeError>
         ensures ok { OnOk result (self.new ≡ appended self.old octets.now []) }
         ensures free { OnOk result (self.old.last.tags ≡ None) }
         ensures err { OnErr result (self.new ≡ self.old) }
-        ensures refused { IfErr result (λ e. ((self.old.last.tags ≢ None) × TellsBare self.old.rule e) ⊎ ((self.old.last.tags ≡ None) × TellsOutOfMemory self.old.rule e)) }
+        ensures refused { IfErr result (RefusesBare self.old) }
     {
-        if self.keeps_tags() {
+        if self.writer.keeps_tags() {
             return Err(any_in_set(self.codec()));
         }
         self.put(octets)
     }
 
-    // Writes a value of this tag round octets.
+    /// Writes a value of this tag round octets.
     fn put_round(&mut self, tag: Tag, octets: &[u8]) -> Result<(), EncodeError>
         ensures ok { OnOk result (Appends (Cons self.old.rule tag octets.now) tag self.old self.new) }
         ensures err { OnErr result (self.new ≡ self.old) }
@@ -63,14 +63,7 @@ impl Encoder {
         self.close(tag, outcome)
     }
 
-    // Whether the last list keeps the outermost tags of what stands in it.
-    fn keeps_tags(&self) -> bool
-        ensures { MatchBool result (self.now.last.tags ≢ None) (self.now.last.tags ≡ None) }
-    {
-        self.writer.keeps_tags()
-    }
-
-    // Puts octets behind the last list, without a header.
+    /// Puts octets behind the last list, without a header.
     fn put(&mut self, octets: &[u8]) -> Result<(), EncodeError>
         ensures ok { OnOk result (self.new ≡ appended self.old octets.now []) }
         ensures err { OnErr result (self.new ≡ self.old) }

@@ -25,7 +25,7 @@ impl Encoder {
         value.encode(self)
     }
 
-    /// The same under this tag.
+    /// Writes an optional value that is there, under this tag.
     ///
     /// # Errors
     /// What the value refuses. Nothing is written then.
@@ -42,7 +42,7 @@ impl Encoder {
         value.encode_with_tag(self, tag, identifier)
     }
 
-    /// The same under this tag and these constraints.
+    /// Writes an optional value that is there, under this tag and these constraints.
     ///
     /// # Errors
     /// What the value refuses. Nothing is written then.

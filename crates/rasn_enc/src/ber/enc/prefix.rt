@@ -30,7 +30,7 @@ impl Encoder {
         }
     }
 
-    // Writes the prefix also where the value isn't present.
+    /// Writes a value under a prefix, which is written where the value isn't present too.
     pub(crate) fn put_prefixed<V: Encode>(&mut self, tag: Tag, value: &V) -> Result<(), EncodeError>
         ensures ok { OnOk result (Wrote (prefix tag V.shape) (V.tree value.now) self.old self.new) }
         ensures err { OnErr result (self.new ≡ self.old) }

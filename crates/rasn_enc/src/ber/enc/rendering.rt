@@ -7,7 +7,7 @@ use super::marks::{Head, Mark, head_len, head_octet};
 use std::alloc::AllocError;
 use std::simd::Simd;
 
-// Moves octets up in blocks, the last first, until fewer than a block are left in front of them. The answer is where those end.
+/// Moves octets up in blocks, the last first, until fewer than a block are left in front of them. The answer is where those end.
 fn move_blocks<const N: usize>(buffer: &mut [u8], at: usize, end: usize, by: usize) -> usize
     requires some { 0 < N }
     requires order { at ≤ end }
@@ -34,7 +34,7 @@ pub fn move_up(buffer: &mut [u8], at: usize, end: usize, by: usize)
     buffer.copy_within(at..left, at + by);
 }
 
-// Writes the octets of a mark from a place on.
+/// Writes the octets of a mark from a place on.
 fn write_head(buffer: &mut [u8], at: usize, head: Head)
     requires { at + length (ink_of head) ≤ length buffer.old }
     ensures { buffer.new ≡ take at buffer.old ++ (ink_of head ++ drop (at + length (ink_of head)) buffer.old) }
@@ -45,8 +45,8 @@ fn write_head(buffer: &mut [u8], at: usize, head: Head)
     }
 }
 
-// Moves the octets from the mark to `from` behind all that is unrendered, to end at `to`, and puts the mark's own in front of them.
-// The answer is how many octets were written.
+/// Moves the octets from the mark to `from` behind all that is unrendered, to end at `to`, and puts the mark's own in front of them.
+/// The answer is how many octets were written.
 fn turn(buffer: &mut [u8], mark: Mark, from: usize, to: usize) -> usize
     requires order { mark.at ≤ from }
     requires within { to ≤ length buffer.old }
@@ -61,8 +61,8 @@ fn turn(buffer: &mut [u8], mark: Mark, from: usize, to: usize) -> usize
     run + n
 }
 
-// The buffer holds `gathered` octets in front, and is as long as what they and the marks stand for, which it then holds. The answer
-// is the number of copies: of gathered octets that were put in their places, and of octets of marks.
+/// The buffer holds `gathered` octets in front, and is as long as what they and the marks stand for, which it then holds. The answer
+/// is the number of copies: of gathered octets that were put in their places, and of octets of marks.
 fn render(buffer: &mut [u8], gathered: usize, marks: &[Mark]) -> usize
     requires rising { Rising 0 marks.now gathered }
     requires room { length buffer.old ≡ gathered + inks marks.now }
@@ -85,7 +85,7 @@ fn render(buffer: &mut [u8], gathered: usize, marks: &[Mark]) -> usize
     copies
 }
 
-// Puts the octets of all marks in between the gathered octets. The vector grows once, where there is a mark.
+/// Puts the octets of all marks in between the gathered octets. The vector grows once, where there is a mark.
 fn rendered_in(gathered: Vec<u8>, marks: &[Mark], measured: usize) -> Result<Vec<u8>, AllocError>
     requires rising { Rising 0 marks.now (length gathered.items) }
     requires measure { measured ≡ length (rendered gathered.items 0 marks.now) }
@@ -101,7 +101,7 @@ fn rendered_in(gathered: Vec<u8>, marks: &[Mark], measured: usize) -> Result<Vec
     Ok(buffer)
 }
 
-/// The same of a list that begins at `start`: the octets before it are taken off.
+/// Puts the octets of all marks in between the gathered octets of a list that begins at `start`: the octets before it are taken off.
 pub fn rendered_from(
     gathered: Vec<u8>,
     marks: &[Mark],
@@ -120,7 +120,7 @@ pub fn rendered_from(
     Ok(octets)
 }
 
-// Takes so many octets off the front.
+/// Takes so many octets off the front.
 fn cut_front(octets: &mut Vec<u8>, count: usize)
     requires { count ≤ length octets.old.items }
     ensures { octets.new.items ≡ drop count octets.old.items }

@@ -13,11 +13,11 @@ use rasn_types::ber::rules::{EncodingRules, MAX_SEGMENT_LENGTH};
 use rasn_types::error::EncodeError;
 use rasn_types::types::{Constraints, Tag};
 
-// The contents octets of a segment under the canonical rules (X.690 9.2).
+/// The contents octets of a segment under the canonical rules (X.690 9.2).
 const SEGMENT: usize = MAX_SEGMENT_LENGTH;
 
 impl Encoder {
-    // Writes the octets of a string of so many characters, where these are within the size.
+    /// Writes the octets of a string of so many characters, where these are within the size.
     pub(super) fn string(
         &mut self,
         tag: Tag,
@@ -36,14 +36,14 @@ impl Encoder {
         self.leaf(tag, octets)
     }
 
-    // The canonical rules write a string in segments where it is longer than one may be (X.690 9.2).
+    /// The canonical rules write a string in segments where it is longer than one may be (X.690 9.2).
     pub(super) fn is_cut(&self, count: usize, most: usize) -> bool
         ensures { MatchBool result (IsCer self.now.rule × (most < count)) (IsCer self.now.rule → count ≤ most) }
     {
         EncodingRules::of_codec(self.codec()).is_cer() && count > most
     }
 
-    // Writes octets in segments, as one constructed value.
+    /// Writes octets in segments, as one constructed value.
     fn put_segments(&mut self, tag: Tag, value: &[u8]) -> Result<(), EncodeError>
         requires { SEGMENT < length value.now }
         ensures ok { OnOk result (PutsSegments WritesOctets SEGMENT (in_universal 4) tag value.now self.old self.new) }

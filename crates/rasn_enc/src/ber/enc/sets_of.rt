@@ -1,9 +1,9 @@
 //! Writing SET OF (X.690 8.12).
-ghost use Rattle.std.specs.Prelude.{◌≡◌, ◌⊎◌, length, None, map, IfErr, OnOk, OnErr};
+ghost use Rattle.std.specs.Prelude.{◌≡◌, length, None, map, IfErr, OnOk, OnErr};
 ghost use Rattle.rasn_types.specs.Shapes.{set_of, walk};
 ghost use Rattle.rasn_types.specs.Trees.{list_tree};
 ghost use Rattle.rasn_enc.specs.View.{LeavesOthers};
-ghost use Rattle.rasn_enc.specs.Elements.{WroteSetOf, RefusesInSetOf, RefusesFall, RefusesSetOf};
+ghost use Rattle.rasn_enc.specs.Elements.{WroteSetOf, RefusesElements, RefusesSetOf};
 ghost use Rattle.rasn_enc.specs.Wrote.{Wrote, MayRefuse};
 
 use super::{Encoder, out_of_order};
@@ -25,10 +25,13 @@ impl Encoder {
         constraints: &Constraints,
         _identifier: Identifier,
     ) -> Result<(), EncodeError>
-        ensures ok { OnOk result (Wrote (set_of tag E.shape constraints.now.size) (walk (list_tree E.tree values.now)) self.old self.new) }
+        ensures ok { let tree = walk (list_tree E.tree values.now) in
+            OnOk result (Wrote (set_of tag E.shape constraints.now.size) tree self.old self.new) }
         ensures err { OnErr result (self.new ≡ self.old) }
-        ensures refused { IfErr result (MayRefuse (set_of tag E.shape constraints.now.size) (walk (list_tree E.tree values.now)) self.old) }
-        ensures named { IfErr result (RefusesSetOf E.shape (map E.tree values.now) (length values.now) constraints.now self.old.rule) }
+        ensures refused { let tree = walk (list_tree E.tree values.now) in
+            IfErr result (MayRefuse (set_of tag E.shape constraints.now.size) tree self.old) }
+        ensures named { let trees = map E.tree values.now in
+            IfErr result (RefusesSetOf E.shape trees (length values.now) constraints.now self.old.rule) }
     {
         self.check_size(constraints, values.len())?;
         let elements = values.as_slice();
@@ -37,12 +40,12 @@ impl Encoder {
         })
     }
 
-    // Writes elements whose octets don't fall.
+    /// Writes elements whose octets don't fall.
     fn put_in_order<E: Encode>(&mut self, values: &[E]) -> Result<(), EncodeError>
         requires { self.old.last.tags ≡ None }
         ensures keeps { LeavesOthers self.old self.new }
         ensures ok { OnOk result (WroteSetOf E.shape (map E.tree values.now) self.old self.new) }
-        ensures refused { IfErr result (λ e. RefusesInSetOf E.shape (map E.tree values.now) self.old.rule e ⊎ RefusesFall E.shape (map E.tree values.now) self.old.rule e) }
+        ensures refused { IfErr result (RefusesElements E.shape (map E.tree values.now) self.old.rule) }
     {
         let mut previous = self.last_len();
         let mut rest = values;

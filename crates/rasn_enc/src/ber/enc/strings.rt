@@ -14,7 +14,7 @@ use rasn_types::types::{
     RestrictedString, StringType, Tag, TeletexString, TeletexType, VisibleString, VisibleType,
 };
 
-// The characters of a text, which are counted only where there is a bound.
+/// Counts the characters of a text where there is a bound on them.
 fn character_count(constraints: &Constraints, text: &str) -> usize
     ensures { IsCounted constraints.now result (length (chars text.now)) }
 {
@@ -207,7 +207,7 @@ impl Encoder {
         self.string(tag, constraints, value.as_bytes(), size)
     }
 
-    // A string whose octets are characters of one alphabet.
+    /// Writes a string whose octets are characters of one alphabet.
     pub(crate) fn restricted<S: StringType>(
         &mut self,
         tag: Tag,

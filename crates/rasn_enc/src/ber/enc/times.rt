@@ -1,71 +1,64 @@
 //! Writing times, in their canonical forms (X.680 38.4.1; X.690 11.7, 11.8).
-ghost use Rattle.std.specs.Prelude.{ℕ, List, ◌≡◌, ◌++◌, [], IfOk, IfErr, OnOk, OnErr};
+ghost use Rattle.std.specs.Prelude.{◌≡◌, IfOk, IfErr, OnOk, OnErr};
 ghost use Rattle.rasn_types.specs.Calendar.{IsDay, IsMoment};
-ghost use Rattle.rasn_types.specs.Shapes.{leaf, utc_time, generalized_time, date, instant, on_day};
+ghost use Rattle.rasn_types.specs.Shapes.{utc_time, generalized_time, date, instant, on_day};
 ghost use Rattle.rasn_types.specs.Times.{written_utc, written_generalized, written_date};
 ghost use Rattle.rasn_types.specs.declared.types.rules.Codec.TheVariants.{Ber};
 ghost use Rattle.rasn_enc.specs.Primitives.{TellsOutOfMemory};
-ghost use Rattle.rasn_enc.specs.Wrote.{Wrote};
+ghost use Rattle.rasn_enc.specs.Wrote.{WritesLeaf};
 
-use super::filled::Unfilled;
+use super::filled::Contents;
 use super::{Encoder, out_of_memory};
 use rasn_types::ber::time::{write_date, write_generalized_time, write_utc_time};
 use rasn_types::error::EncodeError;
 use rasn_types::types::{Codec, Date, GeneralizedTime, Identifier, Tag, UtcTime};
-use std::alloc::Global;
+use std::alloc::{AllocError, Global};
 
-// The octets that a time's text has room for at first: none has more.
+/// The octets that a time's text has room for at first: none has more.
 const TEXT_CAPACITY: usize = 27;
 
-fn empty_text(alloc: Global) -> Result<Vec<u8>, EncodeError>
-    ensures ok { IfOk result (λ v. v.items ≡ []) }
+impl Contents for UtcTime {
+    ghost IsWritten = { λ value text. (text ≡ written_utc value) × IsMoment value };
+
+    fn append(&self, octets: &mut Vec<u8>) -> Result<(), AllocError> {
+        write_utc_time(octets, self)
+    }
+}
+
+impl Contents for GeneralizedTime {
+    ghost IsWritten = { λ value text. (text ≡ written_generalized value.moment) × IsMoment value.moment };
+
+    fn append(&self, octets: &mut Vec<u8>) -> Result<(), AllocError> {
+        write_generalized_time(octets, self)
+    }
+}
+
+impl Contents for Date {
+    ghost IsWritten = { λ value text. (text ≡ written_date value) × IsDay value };
+
+    fn append(&self, octets: &mut Vec<u8>) -> Result<(), AllocError> {
+        write_date(octets, self)
+    }
+}
+
+/// The text of a time in a vector of its own. Only an allocation fails.
+fn text_of<T: Contents>(alloc: Global, value: &T) -> Result<Vec<u8>, AllocError>
+    ensures { IfOk result (λ v. T.IsWritten value.now v.items) }
+{
+    let mut text = Vec::with_capacity(alloc, TEXT_CAPACITY)?;
+    value.append(&mut text)?;
+    Ok(text)
+}
+
+/// The text of a time as the public calls give it: a failed allocation is an error under the name of BER.
+fn canonical_text<T: Contents>(alloc: Global, value: &T) -> Result<Vec<u8>, EncodeError>
+    ensures ok { IfOk result (λ v. T.IsWritten value.now v.items) }
     ensures refused { IfErr result (TellsOutOfMemory Ber) }
 {
-    match Vec::with_capacity(alloc, TEXT_CAPACITY) {
-        Ok(text) => Ok(text),
-        Err(_) => Err(out_of_memory(Codec::Ber)),
-    }
-}
-
-// Puts the text of a UTCTime behind octets.
-fn put_utc(octets: &mut Vec<u8>, value: &UtcTime) -> Result<(), Unfilled>
-    ensures ok { OnOk result (octets.new.items ≡ octets.old.items ++ written_utc value.now) }
-    ensures exists { IsMoment value.now }
-    ensures behind { (l : List ℕ) × (octets.new.items ≡ octets.old.items ++ l) }
-{
-    match write_utc_time(octets, value) {
-        Ok(()) => Ok(()),
-        Err(_) => Err(Unfilled::NoMemory),
-    }
-}
-
-// Puts the text of a GeneralizedTime behind octets.
-fn put_generalized(octets: &mut Vec<u8>, value: &GeneralizedTime) -> Result<(), Unfilled>
-    ensures ok { OnOk result (octets.new.items ≡ octets.old.items ++ written_generalized value.now.moment) }
-    ensures exists { IsMoment value.now.moment }
-    ensures behind { (l : List ℕ) × (octets.new.items ≡ octets.old.items ++ l) }
-{
-    match write_generalized_time(octets, value) {
-        Ok(()) => Ok(()),
-        Err(_) => Err(Unfilled::NoMemory),
-    }
-}
-
-// Puts the text of a DATE behind octets.
-fn put_date(octets: &mut Vec<u8>, value: &Date) -> Result<(), Unfilled>
-    ensures ok { OnOk result (octets.new.items ≡ octets.old.items ++ written_date value.now) }
-    ensures exists { IsDay value.now }
-    ensures behind { (l : List ℕ) × (octets.new.items ≡ octets.old.items ++ l) }
-{
-    match write_date(octets, value) {
-        Ok(()) => Ok(()),
-        Err(_) => Err(Unfilled::NoMemory),
-    }
+    text_of(alloc, value).map_err(|_| out_of_memory(Codec::Ber))
 }
 
 impl Encoder {
-    ghost use Rattle.rasn_types.specs.declared.types.constraints.Constraints.{Constraints};
-
     /// Writes a UTCTime (X.690 11.8): the year without its century, and no fraction.
     ///
     /// # Errors
@@ -76,15 +69,11 @@ impl Encoder {
         value: &UtcTime,
         _identifier: Identifier,
     ) -> Result<(), EncodeError>
-        ensures ok { (c : Constraints) → OnOk result (Wrote (leaf utc_time tag c) (instant value.now) self.old self.new) }
+        ensures ok { WritesLeaf utc_time tag (instant value.now) result self.old self.new }
         ensures err { OnErr result (self.new ≡ self.old) }
         ensures refused { IfErr result (TellsOutOfMemory self.old.rule) }
     {
-        let codec = self.codec();
-        match self.leaf_with(tag, |octets: &mut Vec<u8>| put_utc(octets, value)) {
-            Ok(()) => Ok(()),
-            Err(_) => Err(out_of_memory(codec)),
-        }
+        self.leaf_of(tag, value)
     }
 
     /// Writes a GeneralizedTime (X.690 11.7), in UTC whatever its offset. A year outside 0 to 9999 has a sign.
@@ -97,15 +86,11 @@ impl Encoder {
         value: &GeneralizedTime,
         _identifier: Identifier,
     ) -> Result<(), EncodeError>
-        ensures ok { (c : Constraints) → OnOk result (Wrote (leaf generalized_time tag c) (instant value.now.moment) self.old self.new) }
+        ensures ok { WritesLeaf generalized_time tag (instant value.now.moment) result self.old self.new }
         ensures err { OnErr result (self.new ≡ self.old) }
         ensures refused { IfErr result (TellsOutOfMemory self.old.rule) }
     {
-        let codec = self.codec();
-        match self.leaf_with(tag, |octets: &mut Vec<u8>| put_generalized(octets, value)) {
-            Ok(()) => Ok(()),
-            Err(_) => Err(out_of_memory(codec)),
-        }
+        self.leaf_of(tag, value)
     }
 
     /// Writes a DATE (X.680 38.4.1). A year outside 0 to 9999 has a sign.
@@ -118,15 +103,11 @@ impl Encoder {
         value: &Date,
         _identifier: Identifier,
     ) -> Result<(), EncodeError>
-        ensures ok { (c : Constraints) → OnOk result (Wrote (leaf date tag c) (on_day value.now) self.old self.new) }
+        ensures ok { WritesLeaf date tag (on_day value.now) result self.old self.new }
         ensures err { OnErr result (self.new ≡ self.old) }
         ensures refused { IfErr result (TellsOutOfMemory self.old.rule) }
     {
-        let codec = self.codec();
-        match self.leaf_with(tag, |octets: &mut Vec<u8>| put_date(octets, value)) {
-            Ok(()) => Ok(()),
-            Err(_) => Err(out_of_memory(codec)),
-        }
+        self.leaf_of(tag, value)
     }
 
     /// The text of a GeneralizedTime (X.690 11.7).
@@ -140,11 +121,7 @@ impl Encoder {
         ensures ok { IfOk result (λ v. v.items ≡ written_generalized value.now.moment) }
         ensures refused { IfErr result (TellsOutOfMemory Ber) }
     {
-        let mut text = empty_text(alloc)?;
-        match put_generalized(&mut text, value) {
-            Ok(()) => Ok(text),
-            Err(_) => Err(out_of_memory(Codec::Ber)),
-        }
+        canonical_text(alloc, value)
     }
 
     /// The text of a UTCTime (X.690 11.8).
@@ -158,11 +135,7 @@ impl Encoder {
         ensures ok { IfOk result (λ v. v.items ≡ written_utc value.now) }
         ensures refused { IfErr result (TellsOutOfMemory Ber) }
     {
-        let mut text = empty_text(alloc)?;
-        match put_utc(&mut text, value) {
-            Ok(()) => Ok(text),
-            Err(_) => Err(out_of_memory(Codec::Ber)),
-        }
+        canonical_text(alloc, value)
     }
 
     /// The text of a DATE (X.680 38.4.1).
@@ -173,10 +146,6 @@ impl Encoder {
         ensures ok { IfOk result (λ v. v.items ≡ written_date value.now) }
         ensures refused { IfErr result (TellsOutOfMemory Ber) }
     {
-        let mut text = empty_text(alloc)?;
-        match put_date(&mut text, value) {
-            Ok(()) => Ok(text),
-            Err(_) => Err(out_of_memory(Codec::Ber)),
-        }
+        canonical_text(alloc, value)
     }
 }

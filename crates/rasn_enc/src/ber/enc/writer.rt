@@ -4,14 +4,14 @@
 //! aren't in it: marks tell what stands between the gathered octets. They are put in once, from the back, when the output is asked for.
 ghost use Rattle.std.specs.Prelude.{ℕ, List, ◌≡◌, ◌<◌, ◌≤◌, ◌-◌, [], ◌⊎◌, length, MatchBool, take, drop, IfOk, IfErr, OnOk, OnErr, false};
 ghost use Rattle.std.specs.Fn.{FnOnceTakesAtMut};
-ghost use Rattle.rasn_types.specs.Bytes.{Prim, Cons, IsLess, DoNotFall};
+ghost use Rattle.rasn_types.specs.Bytes.{Prim, Cons, DoNotFall};
 ghost use Rattle.rasn_types.specs.declared.types.tag.Tag.{Tag};
 ghost use Rattle.rasn_types.specs.Tags.{IsTagBelow};
 ghost use Rattle.rasn_enc.specs.View.{View, started, opened, appended, IsBelow};
 ghost use Rattle.rasn_enc.specs.Lists.{IsMarked};
 ghost use Rattle.rasn_enc.specs.Gathered.{kept_of};
 ghost use Rattle.rasn_enc.specs.Primitives.{Appends, TellsOutOfMemory};
-ghost use Rattle.rasn_enc.specs.Order.{octets_less};
+ghost use Rattle.rasn_enc.specs.Order.{octets_less, FallsBetween};
 ghost use Rattle.rasn_enc.specs.declared.ber.enc.filled.Unfilled.TheVariants.{NoMemory};
 ghost use Rattle.rasn_enc.specs.Filled.{FillsBehind, RefusesToFill, AppendsFilled};
 
@@ -31,7 +31,7 @@ use std::alloc::Global;
 use std::marker::Model;
 use std::mem;
 
-// The octets that an encoder's output has room for at first.
+/// The octets that an encoder's output has room for at first.
 const INITIAL_CAPACITY: usize = 1024;
 
 /// Where a list ends: how many octets and tags it has.
@@ -41,8 +41,8 @@ pub struct ListEnd {
     tags: usize,
 }
 
-// The list that an open value interrupted: gathered octets from `start` to `end`, marks from number `first` to `last`, where the
-// value's own unfinished mark stands.
+/// The list that an open value interrupted: gathered octets from `start` to `end`, marks from number `first` to `last`, where the
+/// value's own unfinished mark stands.
 #[derive(Drop)]
 struct Open {
     start: usize,
@@ -60,10 +60,13 @@ pub struct Writer {
     rule: Codec,
     gathered: Vec<u8>,
     marks: Vec<Mark>,
-    // where the last list begins, how long it is once rendered, and its tags
+    /// Where the last list begins in the gathered octets.
     start: usize,
+    /// The number of the first mark of the last list.
     first: usize,
+    /// How many octets the last list has once it is rendered.
     measured: usize,
+    /// The tags of the values in the last list, where they are kept.
     tags: Option<Vec<Tag>>,
     interrupted: Vec<Open>,
 }
@@ -358,7 +361,7 @@ impl Writer {
     pub fn neighbours_fall(&self, from: usize, middle: usize) -> bool
         requires order { from ≤ middle }
         requires within { middle ≤ length self.now.last.octets }
-        ensures { MatchBool result (IsLess (drop middle self.now.last.octets) (take (middle - from) (drop from self.now.last.octets))) (IsLess (drop middle self.now.last.octets) (take (middle - from) (drop from self.now.last.octets)) → ⊥) }
+        ensures { MatchBool result (FallsBetween from middle self.now.last.octets) (FallsBetween from middle self.now.last.octets → ⊥) }
     {
         self.is_less_at(from, middle)
     }
