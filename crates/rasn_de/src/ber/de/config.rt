@@ -22,6 +22,13 @@ impl Model for DecoderOptions {
 }
 
 impl DecoderOptions {
+    /// By the rules of this name.
+    pub const fn of(codec: Codec) -> DecoderOptions
+        ensures { result ≡ codec }
+    {
+        DecoderOptions { rules: codec }
+    }
+
     /// By the basic encoding rules (X.690 8).
     pub const fn ber() -> DecoderOptions
         ensures { result ≡ Ber }

@@ -21,6 +21,13 @@ impl Model for EncoderOptions {
 }
 
 impl EncoderOptions {
+    /// The rules of this name.
+    pub const fn of(codec: Codec) -> EncoderOptions
+        ensures { result ≡ codec }
+    {
+        EncoderOptions { rule: codec }
+    }
+
     /// The basic encoding rules (X.690 8).
     pub const fn ber() -> EncoderOptions
         ensures { result ≡ Codec.Ber }
