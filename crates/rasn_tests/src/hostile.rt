@@ -1,5 +1,5 @@
-//! Octets from strangers: padding, lengths beyond any input, universal 0, values that are cut, closures that drop refusals, and what
-//! each refusal has taken.
+//! Untrusted input: headers that are padded, lengths beyond any input, universal 0 and values that are cut (X.690 8.1), closures that
+//! drop refusals, and how many octets each refusal consumes.
 ghost use Rattle.rasn_de.specs.Inside.{Keeps};
 
 use rasn::ber::de::Decoder;
@@ -30,5 +30,5 @@ fn one_boolean(decoder: &mut Decoder<'_>) -> Result<Pair, DecodeError>
     )
 }
 
-/// What is read of SEQUENCE { BOOLEAN } that holds TRUE.
+/// What SEQUENCE { BOOLEAN } is read as where it holds TRUE.
 const TRUE_ALONE: &str = "Pair { number: 0, truth: true }";

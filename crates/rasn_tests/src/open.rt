@@ -1,4 +1,4 @@
-//! Open types, kept as their octets and written again, and values that are passed over.
+//! Open types, kept as their octets and written again (X.690 8.15), and values that are skipped (8.1.5).
 
 use rasn::types::{Any, Class, Tag};
 use std::alloc::{AllocError, Global};
@@ -9,7 +9,7 @@ mod worked;
 mod written;
 
 /// \[1\]
-const ONE: Tag = Tag {
+const TAG_1: Tag = Tag {
     class: Class::Context,
     value: 1,
 };

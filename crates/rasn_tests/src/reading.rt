@@ -12,16 +12,16 @@ use std::borrow::CowSlice;
 use std::fmt::Debug;
 use std::process::Abort;
 
-/// Octets, the rules they are read by, the text of the value or of the error's kind, and how many octets are taken.
+/// Octets, the rules they are read by, the text of the value or of the error's kind, and how many octets are consumed.
 pub type Row = (&'static [u8], Codec, &'static str, usize);
 
 /// Octets, the rules they are read by, and the text of the tag that they begin with or of the error's kind.
-pub type LookRow = (&'static [u8], Codec, &'static str);
+pub type PeekRow = (&'static [u8], Codec, &'static str);
 
-/// Octets, the rules they are read by, the octets of the value, and how many octets are taken.
+/// Octets, the rules they are read by, the octets of the value, and how many octets are consumed.
 pub type OctetsRow = (&'static [u8], Codec, &'static [u8], usize);
 
-/// Numbers from the first to the last.
+/// The constraint that a number is in this range.
 pub fn within(start: i128, end: i128) -> Constraints {
     let constraint = Bounded::Range {
         start: Some(start),
@@ -36,7 +36,7 @@ pub fn within(start: i128, end: i128) -> Constraints {
     }
 }
 
-/// Values of this size.
+/// The constraint that a value has this size.
 pub fn sized(size: usize) -> Constraints {
     Constraints {
         value: None,
@@ -47,7 +47,7 @@ pub fn sized(size: usize) -> Constraints {
     }
 }
 
-/// A reader of the octets by these rules.
+/// A decoder of the octets by these rules.
 pub fn decoder_of(alloc: Global, octets: &[u8], rules: Codec) -> Decoder<'_> {
     let options = match rules {
         Codec::Ber => DecoderOptions::ber(),
@@ -62,32 +62,28 @@ pub fn debug_text<T: Debug>(alloc: Global, value: &T) -> Result<String, AllocErr
     format!(in alloc; "{value:?}")
 }
 
-/// A value or an error's kind as text; an error under other rules than these has a text of its own.
-fn text_of<T: Debug + Drop>(
+/// An error's kind as text, if the error is one under these rules; else a text that no kind has.
+pub fn kind_text<K: Debug>(
     alloc: Global,
     rules: Codec,
-    answer: Result<T, DecodeError>,
+    codec: Codec,
+    kind: &K,
 ) -> Result<String, AllocError> {
-    match answer {
-        Ok(value) => debug_text(alloc, &value),
-        Err(error) => {
-            if error.codec == rules {
-                debug_text(alloc, &error.kind)
-            } else {
-                String::from_str(alloc, "an error under other rules")
-            }
-        }
+    if codec == rules {
+        debug_text(alloc, kind)
+    } else {
+        String::from_str(alloc, "an error under other rules")
     }
 }
 
-/// Holds that each of these facts is one. Many calls whose answers stand in a list cost less to prove than as many asserts.
-pub fn facts(rt: &impl Abort, facts: &[bool]) {
+/// Asserts that each of these is true. Many calls whose answers stand in a list cost less to prove than as many asserts.
+pub fn assert_facts(rt: &impl Abort, facts: &[bool]) {
     for (place, fact) in facts.iter().enumerate() {
         assert!(rt; *fact, "{place}");
     }
 }
 
-/// The value that a call answers, where it answers one.
+/// The value that a call answers, which has to be one.
 pub fn value<T>(rt: &impl Abort, answer: Result<T, DecodeError>) -> T {
     match answer {
         Ok(value) => value,
@@ -95,60 +91,64 @@ pub fn value<T>(rt: &impl Abort, answer: Result<T, DecodeError>) -> T {
     }
 }
 
-/// Holds what a call answers against the text.
-pub fn told<T: Debug + Drop>(
+/// Asserts that a call answers the value or the error's kind of this text.
+pub fn assert_answer<T: Debug + Drop>(
     rt: &impl Abort,
     alloc: Global,
     rules: Codec,
     answer: Result<T, DecodeError>,
     text: &str,
 ) {
-    match text_of(alloc, rules, answer) {
+    let found = match &answer {
+        Ok(value) => debug_text(alloc, value),
+        Err(error) => kind_text(alloc, rules, error.codec, &error.kind),
+    };
+    match found {
         Ok(found) => assert_eq!(rt; found.as_str(), text),
         Err(_) => assert!(rt; false, "no memory"),
     }
 }
 
-/// Reads INTEGER (0..255) DEFAULT 7 from each row's octets, and holds what is told and taken against the row.
-pub fn reads_default(rt: &impl Abort, alloc: Global, rows: &[Row]) {
-    for (octets, rules, text, taken) in rows {
+/// Asserts what INTEGER (0..255) DEFAULT 7 is read as from each row's octets, and how many are consumed.
+pub fn assert_reads_default(rt: &impl Abort, alloc: Global, rows: &[Row]) {
+    for (octets, rules, text, consumed) in rows {
         let mut decoder = decoder_of(alloc, octets, *rules);
         let answer = decoder.decode_default::<u8, _>(|| Ok(7));
-        told(rt, alloc, *rules, answer, text);
-        assert!(rt; decoder.decoded_len() == *taken, "{octets:?} {rules:?}");
+        assert_answer(rt, alloc, *rules, answer, text);
+        assert!(rt; decoder.decoded_len() == *consumed, "{octets:?} {rules:?}");
     }
 }
 
-/// Looks at the tag that each row's octets begin with, and holds what is told against the row's text. Nothing is taken.
-pub fn looks(rt: &impl Abort, alloc: Global, rows: &[LookRow]) {
+/// Asserts which tag each row's octets begin with, and that nothing is consumed by peeking at it.
+pub fn assert_peeks(rt: &impl Abort, alloc: Global, rows: &[PeekRow]) {
     for (octets, rules, text) in rows {
         let decoder = decoder_of(alloc, octets, *rules);
-        told(rt, alloc, *rules, decoder.peek_tag(), text);
+        assert_answer(rt, alloc, *rules, decoder.peek_tag(), text);
         assert!(rt; decoder.decoded_len() == 0 && decoder.remaining() == *octets);
     }
 }
 
-/// Reads a value of the type from each row's octets, and holds what is told and taken against the row.
-pub fn reads<T: Decode + Debug>(rt: &impl Abort, alloc: Global, rows: &[Row]) {
-    for (octets, rules, text, taken) in rows {
+/// Asserts what a value of the type is read as from each row's octets, and how many are consumed.
+pub fn assert_reads<T: Decode + Debug>(rt: &impl Abort, alloc: Global, rows: &[Row]) {
+    for (octets, rules, text, consumed) in rows {
         let mut decoder = decoder_of(alloc, octets, *rules);
-        told(rt, alloc, *rules, T::decode(&mut decoder), text);
-        assert!(rt; decoder.decoded_len() == *taken, "{octets:?} {rules:?}");
+        assert_answer(rt, alloc, *rules, T::decode(&mut decoder), text);
+        assert!(rt; decoder.decoded_len() == *consumed, "{octets:?} {rules:?}");
     }
 }
 
-/// Reads as `reads`, under these constraints.
-pub fn reads_within<T: Decode + Debug>(
+/// Asserts what a value of the type under these constraints is read as from each row's octets, and how many are consumed.
+pub fn assert_reads_within<T: Decode + Debug>(
     rt: &impl Abort,
     alloc: Global,
     constraints: &Constraints,
     rows: &[Row],
 ) {
-    for (octets, rules, text, taken) in rows {
+    for (octets, rules, text, consumed) in rows {
         let mut decoder = decoder_of(alloc, octets, *rules);
         let answer = T::decode_with_constraints(&mut decoder, constraints);
-        told(rt, alloc, *rules, answer, text);
-        assert!(rt; decoder.decoded_len() == *taken, "{octets:?} {rules:?}");
+        assert_answer(rt, alloc, *rules, answer, text);
+        assert!(rt; decoder.decoded_len() == *consumed, "{octets:?} {rules:?}");
     }
 }
 
@@ -182,8 +182,12 @@ impl<const N: usize> Octets for FixedOctetString<N> {
     }
 }
 
-/// Holds what a call answers against the octets.
-pub fn gives<T: Octets>(rt: &impl Abort, answer: Result<T, DecodeError>, octets: &[u8]) {
+/// Asserts that a call answers a value of these octets.
+pub fn assert_has_octets<T: Octets>(
+    rt: &impl Abort,
+    answer: Result<T, DecodeError>,
+    octets: &[u8],
+) {
     match answer {
         Ok(value) => assert_eq!(rt; value.octets(), octets),
         Err(error) => assert!(rt; false, "{:?}", error.kind),
@@ -204,11 +208,11 @@ pub fn answers_octets(
     }
 }
 
-/// Reads a value of the type from each row's octets, and holds its octets and what is taken against the row.
-pub fn reads_octets<T: Decode + Octets>(rt: &impl Abort, alloc: Global, rows: &[OctetsRow]) {
-    for (octets, rules, found, taken) in rows {
+/// Asserts which octets a value of the type that is read from each row's octets has, and how many are consumed.
+pub fn assert_reads_octets<T: Decode + Octets>(rt: &impl Abort, alloc: Global, rows: &[OctetsRow]) {
+    for (octets, rules, found, consumed) in rows {
         let mut decoder = decoder_of(alloc, octets, *rules);
-        gives(rt, T::decode(&mut decoder), found);
-        assert!(rt; decoder.decoded_len() == *taken, "{octets:?} {rules:?}");
+        assert_has_octets(rt, T::decode(&mut decoder), found);
+        assert!(rt; decoder.decoded_len() == *consumed, "{octets:?} {rules:?}");
     }
 }

@@ -1,4 +1,4 @@
-//! SEQUENCE: what is read and written inside, and what a refusal says and has consumed.
+//! SEQUENCE (X.690 8.9): what is read and written inside, and what a refusal says and consumes.
 
 mod closures;
 mod fieldless;

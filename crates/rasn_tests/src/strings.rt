@@ -1,4 +1,4 @@
-//! BIT STRING, OCTET STRING and the character strings.
+//! BIT STRING (X.690 8.6), OCTET STRING (8.7) and the character strings (8.23).
 
 mod alphabets;
 mod bits;

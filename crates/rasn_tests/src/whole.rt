@@ -1,7 +1,7 @@
 //! What the tests of the entry points share: rows of octets, rules and answers, over whole calls.
 
-use crate::reading::told;
-use crate::writing::{Row, holds};
+use crate::reading::assert_answer;
+use crate::writing::{Row, assert_output};
 use rasn::de::Decode;
 use rasn::enc::Encode;
 use rasn::error::{DecodeError, EncodeError};
@@ -26,7 +26,7 @@ pub fn decoded<T: Decode>(alloc: Global, rules: Codec, octets: &[u8]) -> Result<
     }
 }
 
-/// The same, and what follows the value.
+/// The value that the octets begin with and the octets that follow it, by the entry point of these rules.
 fn decoded_with_remainder<T: Decode>(
     alloc: Global,
     rules: Codec,
@@ -48,29 +48,37 @@ pub fn encoded<T: Encode>(alloc: Global, rules: Codec, value: &T) -> Result<Vec<
     }
 }
 
-/// Holds what the entry point writes of each row's value against the row's octets.
-pub fn encodes<T: Encode>(rt: &impl Abort, alloc: Global, rows: &[Row<T>]) {
+/// Asserts that the entry point writes each row's value as the row's octets.
+pub fn assert_encodes<T: Encode>(rt: &impl Abort, alloc: Global, rows: &[Row<T>]) {
     for (value, rules, octets) in rows {
-        holds(rt, encoded(alloc, *rules, value), octets);
+        assert_output(rt, encoded(alloc, *rules, value), octets);
     }
 }
 
-/// Holds what each row's octets are read as against its text.
-pub fn answers<T: Decode + Debug + Drop>(rt: &impl Abort, alloc: Global, rows: &[Answer<'_>]) {
+/// Asserts what the entry point reads each row's octets as.
+pub fn assert_decodes<T: Decode + Debug + Drop>(
+    rt: &impl Abort,
+    alloc: Global,
+    rows: &[Answer<'_>],
+) {
     for (octets, rules, text) in rows {
-        told(rt, alloc, *rules, decoded::<T>(alloc, *rules, octets), text);
+        assert_answer(rt, alloc, *rules, decoded::<T>(alloc, *rules, octets), text);
     }
 }
 
-/// The same of a pair, of the value and the octets that follow it.
-pub fn begins<T: Decode + Debug + Drop>(rt: &impl Abort, alloc: Global, rows: &[Answer<'_>]) {
+/// Asserts what the entry point reads each row's octets as: a pair of the value and the octets that follow it.
+pub fn assert_decodes_with_remainder<T: Decode + Debug + Drop>(
+    rt: &impl Abort,
+    alloc: Global,
+    rows: &[Answer<'_>],
+) {
     for (octets, rules, text) in rows {
         let answer = decoded_with_remainder::<T>(alloc, *rules, octets);
-        told(rt, alloc, *rules, answer, text);
+        assert_answer(rt, alloc, *rules, answer, text);
     }
 }
 
-/// What is written of a value that is read, where it is read and written.
+/// What is written of the value that is read, if it is read and written.
 fn rewritten<T: Decode + Encode>(
     alloc: Global,
     octets: &[u8],
@@ -81,8 +89,8 @@ fn rewritten<T: Decode + Encode>(
     encoded(alloc, to, &value).ok()
 }
 
-/// Reads each row's octets, and holds what is written of the value against the row's.
-pub fn rewrites<T: Decode + Encode>(rt: &impl Abort, alloc: Global, rows: &[Rewritten<'_>]) {
+/// Asserts that each row's octets are read, and that the value is written as the row's other octets.
+pub fn assert_rewrites<T: Decode + Encode>(rt: &impl Abort, alloc: Global, rows: &[Rewritten<'_>]) {
     for (octets, from, to, written) in rows {
         match rewritten::<T>(alloc, octets, *from, *to) {
             Some(found) => assert_eq!(rt; found.as_slice(), *written, "{octets:?}"),

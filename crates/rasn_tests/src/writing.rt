@@ -1,6 +1,6 @@
 //! What the tests of writing share: values held against octets, calls whose answers are told as text, and long strings as pieces.
 
-use crate::reading::debug_text;
+use crate::reading::kind_text;
 use rasn_enc::ber::enc::{Encoder, EncoderOptions};
 use rasn_enc::enc::Encode;
 use rasn_types::error::EncodeError;
@@ -11,7 +11,7 @@ use std::process::Abort;
 /// A value, the rules it is written by, and its octets.
 pub type Row<T> = (T, Codec, &'static [u8]);
 
-/// Octets, and behind them one octet so many times; long strings are a few of these.
+/// Octets, and behind them one octet so many times. A long string is a few of these.
 pub type Piece<'octets> = (&'octets [u8], u8, usize);
 
 /// How values are written by these rules.
@@ -30,22 +30,22 @@ fn octets_of<T: Encode>(alloc: Global, rules: Codec, value: &T) -> Result<Vec<u8
     encoder.output()
 }
 
-/// Holds what is written against the octets.
-pub fn holds(rt: &impl Abort, answer: Result<Vec<u8>, EncodeError>, octets: &[u8]) {
+/// Asserts that a call writes these octets.
+pub fn assert_output(rt: &impl Abort, answer: Result<Vec<u8>, EncodeError>, octets: &[u8]) {
     match answer {
         Ok(found) => assert_eq!(rt; found.as_slice(), octets),
         Err(error) => assert!(rt; false, "{:?}", error.kind),
     }
 }
 
-/// Writes each row's value, and holds what is written against the row's octets.
-pub fn writes<T: Encode>(rt: &impl Abort, alloc: Global, rows: &[Row<T>]) {
+/// Asserts that each row's value is written as the row's octets.
+pub fn assert_writes<T: Encode>(rt: &impl Abort, alloc: Global, rows: &[Row<T>]) {
     for (value, rules, octets) in rows {
-        holds(rt, octets_of(alloc, *rules, value), octets);
+        assert_output(rt, octets_of(alloc, *rules, value), octets);
     }
 }
 
-/// The value that is made, where there is one and memory for it.
+/// The value that is made, which has to be one, with memory for it.
 pub fn made<T>(rt: &impl Abort, value: Result<Option<T>, AllocError>) -> T {
     match value {
         Ok(Some(value)) => value,
@@ -54,32 +54,32 @@ pub fn made<T>(rt: &impl Abort, value: Result<Option<T>, AllocError>) -> T {
     }
 }
 
-/// Writes a value that is made, and holds what is written against the octets.
-pub fn writes_made<T: Encode>(
+/// Asserts that a value is made, and is written as these octets.
+pub fn assert_writes_made<T: Encode>(
     rt: &impl Abort,
     alloc: Global,
     rules: Codec,
     value: Result<Option<T>, AllocError>,
     octets: &[u8],
 ) {
-    holds(rt, octets_of(alloc, rules, &made(rt, value)), octets);
+    assert_output(rt, octets_of(alloc, rules, &made(rt, value)), octets);
 }
 
-/// Holds what is written against these pieces.
-pub fn holds_pieces(
+/// Asserts that a call writes the octets of these pieces.
+pub fn assert_output_pieces(
     rt: &impl Abort,
     alloc: Global,
     answer: Result<Vec<u8>, EncodeError>,
     pieces: &[Piece<'_>],
 ) {
     match of_pieces(alloc, pieces) {
-        Ok(octets) => holds(rt, answer, &octets),
+        Ok(octets) => assert_output(rt, answer, &octets),
         Err(_) => assert!(rt; false, "no memory"),
     }
 }
 
-/// Writes a value that is made, and holds what is written against these pieces.
-pub fn writes_pieces<T: Encode>(
+/// Asserts that a value is made, and is written as the octets of these pieces.
+pub fn assert_writes_pieces<T: Encode>(
     rt: &impl Abort,
     alloc: Global,
     rules: Codec,
@@ -87,7 +87,7 @@ pub fn writes_pieces<T: Encode>(
     pieces: &[Piece<'_>],
 ) {
     let value = made(rt, value);
-    holds_pieces(rt, alloc, octets_of(alloc, rules, &value), pieces);
+    assert_output_pieces(rt, alloc, octets_of(alloc, rules, &value), pieces);
 }
 
 /// The octets of some pieces.
@@ -126,7 +126,7 @@ pub fn new_encoder(rt: &impl Abort, alloc: Global, rules: Codec) -> Encoder {
     }
 }
 
-/// The same, of the components of a SET.
+/// An encoder of the components of a SET, with no output yet.
 pub fn new_set_encoder(rt: &impl Abort, alloc: Global, rules: Codec) -> Encoder {
     match Encoder::new_set(alloc, options_for(rules)) {
         Ok(encoder) => encoder,
@@ -134,41 +134,27 @@ pub fn new_set_encoder(rt: &impl Abort, alloc: Global, rules: Codec) -> Encoder 
     }
 }
 
-/// Holds that a call writes.
-pub fn done(rt: &impl Abort, answer: Result<(), EncodeError>) {
+/// Asserts that a call succeeds.
+pub fn assert_written(rt: &impl Abort, answer: Result<(), EncodeError>) {
     match answer {
         Ok(()) => {}
         Err(error) => assert!(rt; false, "{:?}", error.kind),
     }
 }
 
-/// A refusal's kind as text; one under other rules than these has a text of its own, and so has a call that writes.
-fn text_of(
-    alloc: Global,
-    rules: Codec,
-    answer: Result<(), EncodeError>,
-) -> Result<String, AllocError> {
-    match answer {
-        Ok(()) => String::from_str(alloc, "written"),
-        Err(error) => {
-            if error.codec == rules {
-                debug_text(alloc, &error.kind)
-            } else {
-                String::from_str(alloc, "an error under other rules")
-            }
-        }
-    }
-}
-
-/// Holds that a call refuses under these rules, and the error's kind against the text.
-pub fn refused(
+/// Asserts that a call refuses under these rules, with the error's kind of this text.
+pub fn assert_refuses(
     rt: &impl Abort,
     alloc: Global,
     rules: Codec,
     answer: Result<(), EncodeError>,
     text: &str,
 ) {
-    match text_of(alloc, rules, answer) {
+    let found = match &answer {
+        Ok(()) => String::from_str(alloc, "written"),
+        Err(error) => kind_text(alloc, rules, error.codec, &error.kind),
+    };
+    match found {
         Ok(found) => assert_eq!(rt; found.as_str(), text),
         Err(_) => assert!(rt; false, "no memory"),
     }

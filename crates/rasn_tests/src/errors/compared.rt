@@ -1,4 +1,7 @@
-use crate::reading::{decoder_of, facts};
+//! Values and errors compared: INTEGER by its number (X.690 8.3), OBJECT IDENTIFIER by its arcs, BIT STRING by its bits, OCTET STRING and
+//! open types by their octets.
+
+use crate::reading::{assert_facts, decoder_of};
 use crate::writing::made;
 use rasn_de::de::Decode;
 use rasn_types::error::{DecodeError, DecodeErrorKind, Needed};
@@ -6,7 +9,7 @@ use rasn_types::types::{Any, BitStr, Codec, Constraints, Integer, ObjectIdentifi
 use std::alloc::Global;
 use std::process::Abort;
 
-/// The octets' numbers in two's complement, from the least on (X.690 8.3).
+/// Numbers in two's complement, in ascending order (X.690 8.3).
 const NUMBERS: &[&[u8]] = &[
     &[0xFE, 0, 0, 0, 0, 0, 0, 0, 0, 0, 0, 0, 0, 0, 0, 0, 0, 0],
     &[0xFF, 0, 0, 0, 0, 0, 0, 0, 0, 0, 0, 0, 0, 0, 0, 0, 0, 0],
@@ -50,7 +53,7 @@ fn arcs(rt: &impl Abort, alloc: Global, arcs: &[u32]) -> ObjectIdentifier {
     }
 }
 
-/// Arcs from the least on: by the first that differ; one that another begins with comes first.
+/// Arcs in ascending order: the first arc that differs decides, and a prefix comes first.
 const ARCS: &[&[u32]] = &[&[1, 2], &[1, 2, 840], &[1, 3], &[2, 1]];
 
 /// Whether `<` holds of the object identifiers of these arcs.
@@ -71,11 +74,11 @@ fn view<'a>(rt: &impl Abort, octets: &'a [u8], start: usize, len: usize) -> BitS
     made(rt, Ok(BitStr::new(octets, start, len)))
 }
 
-// Views of the bits 1,0,1 at two places, of 1,0,0, and of 1,0.
+// The bits 1,0,1 at two places of octets are equal; they differ from 1,0,0 and from 1,0.
 #[test]
 fn compares_views_of_bits(rt: HostRuntime) {
     let front = view(&rt, &[0xA0], 0, 3);
-    facts(
+    assert_facts(
         &rt,
         &[
             front == view(&rt, &[0x01, 0x40], 7, 3),
@@ -85,7 +88,7 @@ fn compares_views_of_bits(rt: HostRuntime) {
     );
 }
 
-// Errors are equal where their kinds, fields and rules are.
+// Errors are equal exactly if their kinds, fields and rules are.
 #[test]
 fn compares_errors(rt: HostRuntime) {
     let alloc = rt.alloc();
@@ -116,7 +119,7 @@ fn string(rt: &impl Abort, alloc: Global, octets: &[u8]) -> OctetString {
     }
 }
 
-/// Octets from the least on: by the first that differ; those that others begin with come first.
+/// Octets in ascending order: the first octet that differs decides, and a prefix comes first.
 const STRINGS: &[&[u8]] = &[&[], &[0x00], &[0x01, 0xFF], &[0x02], &[0x02, 0x00], &[0xFF]];
 
 #[test]
@@ -127,7 +130,7 @@ fn orders_octets(rt: HostRuntime) {
         assert!(rt; one == string(&rt, alloc, octets));
         for others in &STRINGS[place + 1..] {
             let other = string(&rt, alloc, others);
-            facts(&rt, &[one < other, other > one, one != other]);
+            assert_facts(&rt, &[one < other, other > one, one != other]);
         }
     }
 }
@@ -139,12 +142,12 @@ fn open(rt: &impl Abort, alloc: Global, octets: &[u8]) -> Any {
     }
 }
 
-// Two open values are one exactly if their octets are, however these are to be read: 05 00 and 05 81 00 are both NULL.
+// Open types are equal exactly if their octets are, whatever these mean: 05 00 and 05 81 00 are both NULL.
 #[test]
 fn compares_open_values(rt: HostRuntime) {
     let alloc = rt.alloc();
     let null = open(&rt, alloc, &[0x05, 0x00]);
-    facts(
+    assert_facts(
         &rt,
         &[
             null == open(&rt, alloc, &[0x05, 0x00]),

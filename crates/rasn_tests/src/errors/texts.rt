@@ -1,3 +1,5 @@
+//! The texts of errors, with ranges as X.680 51.4 writes them.
+
 use crate::reading::{decoder_of, sized, within};
 use rasn_de::de::{Decode, Error};
 use rasn_types::error::{
@@ -13,31 +15,36 @@ use std::process::Abort;
 /// Octets, the rules they are read by, and the text of the refusal.
 type Refused = (&'static [u8], Codec, &'static str);
 
-/// Holds the text of what is shown against another.
-fn shown<T: Display + Drop>(rt: &impl Abort, alloc: Global, value: T, text: &str) {
+/// Asserts that the value is shown as this text.
+fn assert_shown<T: Display + Drop>(rt: &impl Abort, alloc: Global, value: T, text: &str) {
     match format!(in alloc; "{value}") {
         Ok(found) => assert_eq!(rt; found.as_str(), text),
         Err(_) => assert!(rt; false, "no memory"),
     }
 }
 
-/// Reads a value of the type from each row's octets, and holds the text of its refusal against the row.
-fn shows<T: Decode>(rt: &impl Abort, alloc: Global, constraints: &Constraints, rows: &[Refused]) {
+/// Asserts that no value of the type is read from each row's octets, and that the refusal is shown as the row's text.
+fn assert_refusals_shown<T: Decode>(
+    rt: &impl Abort,
+    alloc: Global,
+    constraints: &Constraints,
+    rows: &[Refused],
+) {
     for (octets, rules, text) in rows {
         let mut decoder = decoder_of(alloc, octets, *rules);
         match T::decode_with_constraints(&mut decoder, constraints) {
             Ok(_) => assert!(rt; false, "{octets:?} is read"),
-            Err(error) => shown(rt, alloc, error, text),
+            Err(error) => assert_shown(rt, alloc, error, text),
         }
     }
 }
 
-// One octet and several; tags of all classes.
+// The texts count one octet and several, and show tags of all classes.
 #[test]
 fn tells_octets_and_tags(rt: HostRuntime) {
     let alloc = rt.alloc();
     let any = &Constraints::NONE;
-    shows::<bool>(
+    assert_refusals_shown::<bool>(
         &rt,
         alloc,
         any,
@@ -75,7 +82,7 @@ fn tells_octets_and_tags(rt: HostRuntime) {
             ),
         ],
     );
-    shows::<OctetString>(
+    assert_refusals_shown::<OctetString>(
         &rt,
         alloc,
         any,
@@ -92,7 +99,7 @@ fn tells_octets_and_tags(rt: HostRuntime) {
             ),
         ],
     );
-    shows::<Vec<Option<bool>>>(
+    assert_refusals_shown::<Vec<Option<bool>>>(
         &rt,
         alloc,
         any,
@@ -100,19 +107,19 @@ fn tells_octets_and_tags(rt: HostRuntime) {
     );
 }
 
-// Numbers, sizes and their bounds, an open end as the standard writes it (X.680 51.4).
+// The texts show numbers, sizes and their ranges, an open end as MIN or MAX (X.680 51.4).
 #[test]
 fn tells_numbers_and_bounds(rt: HostRuntime) {
     let alloc = rt.alloc();
     const OVERFLOW: &str =
         "BER: the number doesn't fit 8 bits, or is negative and the type has no sign";
-    shows::<u8>(
+    assert_refusals_shown::<u8>(
         &rt,
         alloc,
         &Constraints::NONE,
         &[(&[0x02, 0x01, 0xFF], Codec::Ber, OVERFLOW)],
     );
-    shows::<Integer>(
+    assert_refusals_shown::<Integer>(
         &rt,
         alloc,
         &within(-5, 255),
@@ -129,7 +136,7 @@ fn tells_numbers_and_bounds(rt: HostRuntime) {
             ),
         ],
     );
-    shows::<OctetString>(
+    assert_refusals_shown::<OctetString>(
         &rt,
         alloc,
         &sized(2),
@@ -139,25 +146,25 @@ fn tells_numbers_and_bounds(rt: HostRuntime) {
             "DER: size 3, not in 2",
         )],
     );
-    shown(&rt, alloc, Bounded::<u8>::None, "MIN..MAX");
+    assert_shown(&rt, alloc, Bounded::<u8>::None, "MIN..MAX");
     let upper = Bounded::Range {
         start: None,
         end: Some(7u8),
     };
-    shown(&rt, alloc, upper, "MIN..7");
+    assert_shown(&rt, alloc, upper, "MIN..7");
     let lower = Bounded::Range {
         start: Some(7u8),
         end: None,
     };
-    shown(&rt, alloc, lower, "7..MAX");
+    assert_shown(&rt, alloc, lower, "7..MAX");
 }
 
-// Octets that aren't of the type.
+// The texts show contents that are none of the type's.
 #[test]
 fn tells_foreign_octets(rt: HostRuntime) {
     let alloc = rt.alloc();
     let any = &Constraints::NONE;
-    shows::<NumericString>(
+    assert_refusals_shown::<NumericString>(
         &rt,
         alloc,
         any,
@@ -167,7 +174,7 @@ fn tells_foreign_octets(rt: HostRuntime) {
             "BER: octet 2A at place 1 isn't in the alphabet",
         )],
     );
-    shows::<BmpString>(
+    assert_refusals_shown::<BmpString>(
         &rt,
         alloc,
         any,
@@ -177,7 +184,7 @@ fn tells_foreign_octets(rt: HostRuntime) {
             "BER: no string of the type universal 30",
         )],
     );
-    shows::<UtcTime>(
+    assert_refusals_shown::<UtcTime>(
         &rt,
         alloc,
         any,
@@ -187,7 +194,7 @@ fn tells_foreign_octets(rt: HostRuntime) {
             "BER: no time in the octets 310A",
         )],
     );
-    shows::<Integer>(
+    assert_refusals_shown::<Integer>(
         &rt,
         alloc,
         any,
@@ -195,21 +202,21 @@ fn tells_foreign_octets(rt: HostRuntime) {
     );
 }
 
-// What a type tells for itself, and what isn't written.
+// The texts show the names that a type reports, and why a value isn't written.
 #[test]
 fn tells_names(rt: HostRuntime) {
     let alloc = rt.alloc();
     let time = DecodeError::no_valid_choice(alloc, "Time", Codec::Der);
-    shown(&rt, alloc, time, "DER: no alternative of Time");
+    assert_shown(&rt, alloc, time, "DER: no alternative of Time");
     let number = DecodeError::missing_field(alloc, "number", Codec::Ber);
-    shown(&rt, alloc, number, "BER: number is missing");
+    assert_shown(&rt, alloc, number, "BER: number is missing");
     let number = DecodeError::duplicate_field(alloc, "number", Codec::Ber);
-    shown(&rt, alloc, number, "BER: number comes twice");
+    assert_shown(&rt, alloc, number, "BER: number comes twice");
     let kind = EncodeErrorKind::CodecSpecific {
         inner: CodecEncodeError::Ber(BerEncodeErrorKind::SetOutOfOrder),
     };
     let codec = Codec::Cer;
-    shown(
+    assert_shown(
         &rt,
         alloc,
         EncodeError { kind, codec },
@@ -219,5 +226,5 @@ fn tells_names(rt: HostRuntime) {
         size: 3,
         expected: Bounded::Single(4),
     };
-    shown(&rt, alloc, kind, "size 3, not in 4");
+    assert_shown(&rt, alloc, kind, "size 3, not in 4");
 }

@@ -1,11 +1,11 @@
-//! Closures that drop refusals, and elements that take nothing.
+//! Closures that drop refusals, and elements that consume nothing: what is read and written behind them (X.690 8.9 to 8.12).
 ghost use Rattle.rasn_de.specs.Inside.{Keeps};
 ghost use Rattle.rasn_enc.specs.View.{LeavesOthers};
 
 use super::{TRUE_ALONE, one_boolean};
-use crate::reading::{decoder_of, reads, told};
+use crate::reading::{assert_answer, assert_reads, decoder_of};
 use crate::types::{ContextTag, Three};
-use crate::writing::{done, holds, new_encoder};
+use crate::writing::{assert_output, assert_written, new_encoder};
 use rasn::ber::de::Decoder;
 use rasn::ber::enc::Encoder;
 use rasn::enc::Encode;
@@ -15,13 +15,13 @@ use rasn_bench::Pair;
 use std::alloc::{AllocError, Global};
 use std::process::Abort;
 
-/// What the closures here answer, whatever they read.
+/// What the closures return, whatever they read.
 const ANSWER: Pair = Pair {
     number: 0,
     truth: true,
 };
 
-/// A SEQUENCE whose closure drops what a BOOLEAN answers.
+/// Reads a SEQUENCE whose closure drops the result of reading a BOOLEAN.
 fn past_a_boolean(decoder: &mut Decoder<'_>) -> Result<Pair, DecodeError> {
     decoder.decode_sequence::<2, 0, Pair, fn() -> Result<Pair, AllocError>, _>(
         Tag::SEQUENCE,
@@ -35,7 +35,7 @@ fn past_a_boolean(decoder: &mut Decoder<'_>) -> Result<Pair, DecodeError> {
     )
 }
 
-/// A SEQUENCE whose closure drops what SEQUENCE { BOOLEAN } answers.
+/// Reads a SEQUENCE whose closure drops the result of reading SEQUENCE { BOOLEAN }.
 fn past_a_sequence(decoder: &mut Decoder<'_>) -> Result<Pair, DecodeError> {
     decoder.decode_sequence::<2, 0, Pair, fn() -> Result<Pair, AllocError>, _>(
         Tag::SEQUENCE,
@@ -49,55 +49,81 @@ fn past_a_sequence(decoder: &mut Decoder<'_>) -> Result<Pair, DecodeError> {
     )
 }
 
-/// Holds what a SEQUENCE round a dropped BOOLEAN answers and takes.
-fn drops_a_boolean(rt: &impl Abort, alloc: Global, octets: &[u8], text: &str, taken: usize) {
+/// Asserts what a SEQUENCE whose closure drops a BOOLEAN is read as, and how many octets it consumes.
+fn assert_drops_a_boolean(
+    rt: &impl Abort,
+    alloc: Global,
+    octets: &[u8],
+    text: &str,
+    consumed: usize,
+) {
     let mut decoder = decoder_of(alloc, octets, Codec::Ber);
-    told(rt, alloc, Codec::Ber, past_a_boolean(&mut decoder), text);
-    assert!(rt; decoder.decoded_len() == taken);
+    assert_answer(rt, alloc, Codec::Ber, past_a_boolean(&mut decoder), text);
+    assert!(rt; decoder.decoded_len() == consumed);
 }
 
-/// Holds what a SEQUENCE round a dropped SEQUENCE answers and takes.
-fn drops_a_sequence(rt: &impl Abort, alloc: Global, octets: &[u8], text: &str, taken: usize) {
+/// Asserts what a SEQUENCE whose closure drops a SEQUENCE is read as, and how many octets it consumes.
+fn assert_drops_a_sequence(
+    rt: &impl Abort,
+    alloc: Global,
+    octets: &[u8],
+    text: &str,
+    consumed: usize,
+) {
     let mut decoder = decoder_of(alloc, octets, Codec::Ber);
-    told(rt, alloc, Codec::Ber, past_a_sequence(&mut decoder), text);
-    assert!(rt; decoder.decoded_len() == taken);
+    assert_answer(rt, alloc, Codec::Ber, past_a_sequence(&mut decoder), text);
+    assert!(rt; decoder.decoded_len() == consumed);
 }
 
-// Contents that are no BOOLEAN's are taken; a fault of framing takes nothing, so something is left that nobody reads.
+// Contents that are no BOOLEAN's are consumed. A fault of identifier or length consumes nothing, so octets are left.
 #[test]
 fn a_dropped_refusal_leaves_what_it_leaves(rt: HostRuntime) {
     let alloc = rt.alloc();
-    const TAKEN: &[u8] = &[0x30, 0x04, 0x01, 0x02, 0x00, 0x00];
-    drops_a_boolean(&rt, alloc, TAKEN, TRUE_ALONE, 6);
-    const CUT: &[u8] = &[0x30, 0x02, 0x01, 0x05];
-    const LEFT: &str = "UnexpectedExtraData { length: 2 }";
-    drops_a_boolean(&rt, alloc, CUT, LEFT, 4);
-    const UNCLOSED: &str = "CodecSpecific { inner: Ber(MissingEndOfContents) }";
-    drops_a_boolean(&rt, alloc, &[0x30, 0x80, 0x01, 0x05], UNCLOSED, 2);
+    const NO_BOOLEAN: &[u8] = &[0x30, 0x04, 0x01, 0x02, 0x00, 0x00];
+    assert_drops_a_boolean(&rt, alloc, NO_BOOLEAN, TRUE_ALONE, 6);
+    const CUT_BOOLEAN: &[u8] = &[0x30, 0x02, 0x01, 0x05];
+    const TWO_OCTETS_LEFT: &str = "UnexpectedExtraData { length: 2 }";
+    assert_drops_a_boolean(&rt, alloc, CUT_BOOLEAN, TWO_OCTETS_LEFT, 4);
+    const MISSING_END_OF_CONTENTS: &str = "CodecSpecific { inner: Ber(MissingEndOfContents) }";
+    assert_drops_a_boolean(
+        &rt,
+        alloc,
+        &[0x30, 0x80, 0x01, 0x05],
+        MISSING_END_OF_CONTENTS,
+        2,
+    );
 }
 
-// A refused value of definite length is taken whole, one of indefinite length to its header: the end-of-contents octets of the inner value
-// close the outer one.
+// A refused value of definite length is consumed whole, of one of indefinite length the header alone: then the end-of-contents octets of
+// the inner value close the outer one.
 #[test]
 fn a_dropped_value_is_gone_on_from(rt: HostRuntime) {
     let alloc = rt.alloc();
-    const DEFINITE: &[u8] = &[0x30, 0x05, 0x30, 0x03, 0x02, 0x01, 0x01];
-    drops_a_sequence(&rt, alloc, DEFINITE, TRUE_ALONE, 7);
-    const INDEFINITE: &[u8] = &[0x30, 0x80, 0x30, 0x80, 0x00, 0x00, 0x00, 0x00];
-    drops_a_sequence(&rt, alloc, INDEFINITE, TRUE_ALONE, 6);
+    const DEFINITE_IN_DEFINITE: &[u8] = &[0x30, 0x05, 0x30, 0x03, 0x02, 0x01, 0x01];
+    assert_drops_a_sequence(&rt, alloc, DEFINITE_IN_DEFINITE, TRUE_ALONE, 7);
+    const INDEFINITE_IN_INDEFINITE: &[u8] = &[0x30, 0x80, 0x30, 0x80, 0x00, 0x00, 0x00, 0x00];
+    assert_drops_a_sequence(&rt, alloc, INDEFINITE_IN_INDEFINITE, TRUE_ALONE, 6);
 }
 
-// An element that answers a value and takes nothing is refused with the length left, also of a list in a list, and of contents of
-// indefinite length, where end-of-contents octets are counted as octets.
+// An element that is a value and consumes nothing is refused with the number of octets that are left, in a list in a list too. In
+// contents of indefinite length the end-of-contents octets are counted.
 #[test]
 fn refuses_elements_of_nothing(rt: HostRuntime) {
     let alloc = rt.alloc();
-    const NESTED: &[u8] = &[0x30, 0x05, 0x30, 0x03, 0x02, 0x01, 0x05];
-    const THREE: &str = "UnexpectedExtraData { length: 3 }";
-    reads::<Vec<Vec<Option<bool>>>>(&rt, alloc, &[(NESTED, Codec::Der, THREE, 7)]);
-    const OPEN: &[u8] = &[0x31, 0x80, 0x02, 0x01, 0x05, 0x00, 0x00, 0x01];
-    const SIX: &str = "UnexpectedExtraData { length: 6 }";
-    reads::<SetOf<Option<bool>>>(&rt, alloc, &[(OPEN, Codec::Cer, SIX, 2)]);
+    const LIST_IN_LIST: &[u8] = &[0x30, 0x05, 0x30, 0x03, 0x02, 0x01, 0x05];
+    const THREE_OCTETS_LEFT: &str = "UnexpectedExtraData { length: 3 }";
+    assert_reads::<Vec<Vec<Option<bool>>>>(
+        &rt,
+        alloc,
+        &[(LIST_IN_LIST, Codec::Der, THREE_OCTETS_LEFT, 7)],
+    );
+    const INDEFINITE_SET_OF: &[u8] = &[0x31, 0x80, 0x02, 0x01, 0x05, 0x00, 0x00, 0x01];
+    const SIX_OCTETS_LEFT: &str = "UnexpectedExtraData { length: 6 }";
+    assert_reads::<SetOf<Option<bool>>>(
+        &rt,
+        alloc,
+        &[(INDEFINITE_SET_OF, Codec::Cer, SIX_OCTETS_LEFT, 2)],
+    );
 }
 
 /// SET { \[0\], \[1\] }
@@ -110,7 +136,7 @@ fn write_at(encoder: &mut Encoder, number: u32, value: u8) -> Result<(), EncodeE
     value.encode_with_tag(encoder, Tag::new(Class::Context, number), Identifier::EMPTY)
 }
 
-/// A SET whose closure calls \[1\] before \[0\], which is refused.
+/// Writes a SET whose closure writes \[1\] before \[0\], which is refused.
 fn write_falling(encoder: &mut Encoder) -> Result<(), EncodeError>
     ensures { LeavesOthers encoder.old encoder.new }
 {
@@ -126,7 +152,7 @@ fn write_falling(encoder: &mut Encoder) -> Result<(), EncodeError>
     )
 }
 
-/// A SET round it, whose closure drops the refusal.
+/// Writes a SET whose closure writes \[0\] and \[1\], and between them drops the refusal of a SET out of order.
 fn write_past_a_set(encoder: &mut Encoder) -> Result<(), EncodeError> {
     encoder.encode_set::<3, 0, Components, _>(
         Tag::SET,
@@ -141,11 +167,11 @@ fn write_past_a_set(encoder: &mut Encoder) -> Result<(), EncodeError> {
     )
 }
 
-// Of a SET that is refused neither octets nor a tag stay: universal 17 would stand before [1] in place of it (X.690 10.3).
+// A SET that is refused leaves neither octets nor its tag, which would be out of order before [1] (X.690 10.3).
 #[test]
 fn a_dropped_set_leaves_no_tag(rt: HostRuntime) {
     let mut encoder = new_encoder(&rt, rt.alloc(), Codec::Der);
-    done(&rt, write_past_a_set(&mut encoder));
-    const OCTETS: &[u8] = &[0x31, 0x06, 0x80, 0x01, 0x01, 0x81, 0x01, 0x02];
-    holds(&rt, encoder.output(), OCTETS);
+    assert_written(&rt, write_past_a_set(&mut encoder));
+    const TWO_COMPONENTS: &[u8] = &[0x31, 0x06, 0x80, 0x01, 0x01, 0x81, 0x01, 0x02];
+    assert_output(&rt, encoder.output(), TWO_COMPONENTS);
 }

@@ -1,4 +1,4 @@
-//! Values of definite length that are cut: each proper front of their octets lacks some, and nothing is taken.
+//! Values of definite length that are cut (X.690 8.1.3.3 to 8.1.3.5): each proper prefix of their octets lacks some, and nothing is consumed.
 
 use crate::reading::decoder_of;
 use rasn::de::Decode;
@@ -14,8 +14,8 @@ use std::process::Abort;
 /// Octets of one value of definite length, the rules they are read by, and how many octets its identifier and its length take.
 type Definite = (&'static [u8], Codec, usize, usize);
 
-/// How many octets are missing of a value of so many, of which there are `count`: one of an identifier, one or those that are told
-/// of a length, or those of the contents (X.690 8.1.2, 8.1.3).
+/// How many octets are reported missing where `count` of a value's `total` octets are there: one of an identifier, one or the rest of a
+/// length, or the rest of the contents (X.690 8.1.2, 8.1.3).
 fn missing(total: usize, identifier: usize, length: usize, count: usize) -> usize {
     let header = identifier.saturating_add(length);
     if count <= identifier {
@@ -27,7 +27,7 @@ fn missing(total: usize, identifier: usize, length: usize, count: usize) -> usiz
     }
 }
 
-/// Whether so many octets are missing.
+/// Whether the answer is that so many octets are missing.
 fn lacks<T: Drop>(answer: Result<T, DecodeError>, needed: usize) -> bool {
     match answer {
         Ok(_) => false,
@@ -36,14 +36,14 @@ fn lacks<T: Drop>(answer: Result<T, DecodeError>, needed: usize) -> bool {
     }
 }
 
-/// Whether a value is read of all octets.
+/// Whether all of the octets are read as a value.
 pub(super) fn reads_all<T: Decode>(alloc: Global, octets: &[u8], rules: Codec) -> bool {
     let mut decoder = decoder_of(alloc, octets, rules);
     T::decode(&mut decoder).is_ok() && decoder.remaining().is_empty()
 }
 
-/// Reads each row, and each proper front of it, which lacks octets and takes nothing.
-fn cuts<T: Decode>(rt: &impl Abort, alloc: Global, rows: &[Definite]) {
+/// Asserts that each row's octets are a value, and that each proper prefix lacks octets and consumes nothing.
+fn assert_cuts<T: Decode>(rt: &impl Abort, alloc: Global, rows: &[Definite]) {
     for (octets, rules, identifier, length) in rows {
         assert!(rt;
             reads_all::<T>(alloc, octets, *rules),
@@ -62,11 +62,11 @@ fn cuts<T: Decode>(rt: &impl Abort, alloc: Global, rows: &[Definite]) {
     }
 }
 
-// Leaves, also in more header octets than they need.
+// Some of the headers have more octets than they need.
 #[test]
 fn cut_numbers_are_refused(rt: HostRuntime) {
     let alloc = rt.alloc();
-    cuts::<bool>(
+    assert_cuts::<bool>(
         &rt,
         alloc,
         &[
@@ -75,7 +75,7 @@ fn cut_numbers_are_refused(rt: HostRuntime) {
             (&[0x01, 0x82, 0x00, 0x01, 0x05], Codec::Ber, 1, 3),
         ],
     );
-    cuts::<i32>(
+    assert_cuts::<i32>(
         &rt,
         alloc,
         &[
@@ -88,14 +88,14 @@ fn cut_numbers_are_refused(rt: HostRuntime) {
             (&[0x02, 0x02, 0x7F, 0x00], Codec::Der, 1, 1),
         ],
     );
-    cuts::<Integer>(
+    assert_cuts::<Integer>(
         &rt,
         alloc,
         &[(&[0x02, 0x03, 0x00, 0x00, 0x80], Codec::Cer, 1, 1)],
     );
-    cuts::<Colour>(&rt, alloc, &[(&[0x0A, 0x02, 0x00, 0x02], Codec::Ber, 1, 1)]);
-    cuts::<()>(&rt, alloc, &[(&[0x05, 0x00], Codec::Der, 1, 1)]);
-    cuts::<ObjectIdentifier>(
+    assert_cuts::<Colour>(&rt, alloc, &[(&[0x0A, 0x02, 0x00, 0x02], Codec::Ber, 1, 1)]);
+    assert_cuts::<()>(&rt, alloc, &[(&[0x05, 0x00], Codec::Der, 1, 1)]);
+    assert_cuts::<ObjectIdentifier>(
         &rt,
         alloc,
         &[(
@@ -109,11 +109,11 @@ fn cut_numbers_are_refused(rt: HostRuntime) {
     );
 }
 
-// Strings, primitive and in segments of definite length.
+// The strings are in one piece and in segments of definite length.
 #[test]
 fn cut_strings_are_refused(rt: HostRuntime) {
     let alloc = rt.alloc();
-    cuts::<OctetString>(
+    assert_cuts::<OctetString>(
         &rt,
         alloc,
         &[
@@ -122,7 +122,7 @@ fn cut_strings_are_refused(rt: HostRuntime) {
             (&[0x24, 0x03, 0x04, 0x01, 0xA1], Codec::Ber, 1, 1),
         ],
     );
-    cuts::<BitString>(
+    assert_cuts::<BitString>(
         &rt,
         alloc,
         &[
@@ -135,7 +135,7 @@ fn cut_strings_are_refused(rt: HostRuntime) {
             ),
         ],
     );
-    cuts::<Ia5String>(
+    assert_cuts::<Ia5String>(
         &rt,
         alloc,
         &[(
@@ -145,13 +145,13 @@ fn cut_strings_are_refused(rt: HostRuntime) {
             1,
         )],
     );
-    cuts::<BmpString>(&rt, alloc, &[(&[0x1E, 0x02, 0x00, 0x41], Codec::Ber, 1, 1)]);
+    assert_cuts::<BmpString>(&rt, alloc, &[(&[0x1E, 0x02, 0x00, 0x41], Codec::Ber, 1, 1)]);
 }
 
 #[test]
 fn cut_times_are_refused(rt: HostRuntime) {
     let alloc = rt.alloc();
-    cuts::<UtcTime>(
+    assert_cuts::<UtcTime>(
         &rt,
         alloc,
         &[(
@@ -164,7 +164,7 @@ fn cut_times_are_refused(rt: HostRuntime) {
             1,
         )],
     );
-    cuts::<GeneralizedTime>(
+    assert_cuts::<GeneralizedTime>(
         &rt,
         alloc,
         &[(
@@ -177,7 +177,7 @@ fn cut_times_are_refused(rt: HostRuntime) {
             1,
         )],
     );
-    cuts::<Date>(
+    assert_cuts::<Date>(
         &rt,
         alloc,
         &[(
@@ -189,7 +189,7 @@ fn cut_times_are_refused(rt: HostRuntime) {
             1,
         )],
     );
-    cuts::<Validity>(
+    assert_cuts::<Validity>(
         &rt,
         alloc,
         &[(
@@ -205,11 +205,11 @@ fn cut_times_are_refused(rt: HostRuntime) {
     );
 }
 
-// Values that hold others: octets are missing of the value itself, whatever it holds.
+// Octets are missing of the outer value, whatever it holds.
 #[test]
 fn cut_holders_are_refused(rt: HostRuntime) {
     let alloc = rt.alloc();
-    cuts::<Pair>(
+    assert_cuts::<Pair>(
         &rt,
         alloc,
         &[(
@@ -219,7 +219,7 @@ fn cut_holders_are_refused(rt: HostRuntime) {
             1,
         )],
     );
-    cuts::<Foo>(
+    assert_cuts::<Foo>(
         &rt,
         alloc,
         &[(
@@ -231,7 +231,7 @@ fn cut_holders_are_refused(rt: HostRuntime) {
             1,
         )],
     );
-    cuts::<Grouped>(
+    assert_cuts::<Grouped>(
         &rt,
         alloc,
         &[(
@@ -244,7 +244,7 @@ fn cut_holders_are_refused(rt: HostRuntime) {
             1,
         )],
     );
-    cuts::<Vec<bool>>(
+    assert_cuts::<Vec<bool>>(
         &rt,
         alloc,
         &[(
@@ -254,7 +254,7 @@ fn cut_holders_are_refused(rt: HostRuntime) {
             4,
         )],
     );
-    cuts::<SetOf<OctetString>>(
+    assert_cuts::<SetOf<OctetString>>(
         &rt,
         alloc,
         &[(
@@ -267,7 +267,7 @@ fn cut_holders_are_refused(rt: HostRuntime) {
             1,
         )],
     );
-    cuts::<Any>(
+    assert_cuts::<Any>(
         &rt,
         alloc,
         &[(

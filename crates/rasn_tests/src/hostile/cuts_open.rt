@@ -1,4 +1,4 @@
-//! Values of indefinite length that are cut: each proper front of their octets is refused.
+//! Values of indefinite length that are cut (X.690 8.1.3.6): each proper prefix of their octets is refused.
 
 use super::cuts::reads_all;
 use crate::reading::decoder_of;
@@ -27,8 +27,8 @@ fn is_cut<T: Drop>(answer: Result<T, DecodeError>) -> bool {
     }
 }
 
-/// Reads each row, and each proper front of it, which is refused as cut.
-fn cuts_open<T: Decode>(rt: &impl Abort, alloc: Global, rows: &[Indefinite]) {
+/// Asserts that each row's octets are a value, and that each proper prefix is refused as cut.
+fn assert_cuts_open<T: Decode>(rt: &impl Abort, alloc: Global, rows: &[Indefinite]) {
     for (octets, rules) in rows {
         assert!(rt;
             reads_all::<T>(alloc, octets, *rules),
@@ -42,11 +42,11 @@ fn cuts_open<T: Decode>(rt: &impl Abort, alloc: Global, rows: &[Indefinite]) {
     }
 }
 
-// Indefinite length, where a front may end in one zero octet, or before end-of-contents octets.
+// A prefix may end in one zero octet, or before end-of-contents octets.
 #[test]
 fn cut_open_strings_are_refused(rt: HostRuntime) {
     let alloc = rt.alloc();
-    cuts_open::<OctetString>(
+    assert_cuts_open::<OctetString>(
         &rt,
         alloc,
         &[
@@ -66,7 +66,7 @@ fn cut_open_strings_are_refused(rt: HostRuntime) {
             ),
         ],
     );
-    cuts_open::<BitString>(
+    assert_cuts_open::<BitString>(
         &rt,
         alloc,
         &[(
@@ -77,7 +77,7 @@ fn cut_open_strings_are_refused(rt: HostRuntime) {
             Codec::Ber,
         )],
     );
-    cuts_open::<Any>(
+    assert_cuts_open::<Any>(
         &rt,
         alloc,
         &[(
@@ -92,7 +92,7 @@ fn cut_open_strings_are_refused(rt: HostRuntime) {
 #[test]
 fn cut_open_holders_are_refused(rt: HostRuntime) {
     let alloc = rt.alloc();
-    cuts_open::<Pair>(
+    assert_cuts_open::<Pair>(
         &rt,
         alloc,
         &[(
@@ -100,7 +100,7 @@ fn cut_open_holders_are_refused(rt: HostRuntime) {
             Codec::Ber,
         )],
     );
-    cuts_open::<Foo>(
+    assert_cuts_open::<Foo>(
         &rt,
         alloc,
         &[
@@ -120,7 +120,7 @@ fn cut_open_holders_are_refused(rt: HostRuntime) {
             ),
         ],
     );
-    cuts_open::<Grouped>(
+    assert_cuts_open::<Grouped>(
         &rt,
         alloc,
         &[
@@ -134,7 +134,7 @@ fn cut_open_holders_are_refused(rt: HostRuntime) {
             (&[0x30, 0x80, 0x01, 0x01, 0xFF, 0x00, 0x00], Codec::Ber),
         ],
     );
-    cuts_open::<Vec<u8>>(
+    assert_cuts_open::<Vec<u8>>(
         &rt,
         alloc,
         &[(
@@ -142,7 +142,7 @@ fn cut_open_holders_are_refused(rt: HostRuntime) {
             Codec::Cer,
         )],
     );
-    cuts_open::<SetOf<OctetString>>(
+    assert_cuts_open::<SetOf<OctetString>>(
         &rt,
         alloc,
         &[(
@@ -164,7 +164,7 @@ fn levels(alloc: Global) -> Result<Vec<u8>, AllocError> {
     Ok(octets)
 }
 
-// Each of the last hundred octets may be missing, with those behind it.
+// The prefixes lack one to a hundred octets.
 #[test]
 fn cut_levels_are_refused(rt: HostRuntime) {
     let alloc = rt.alloc();

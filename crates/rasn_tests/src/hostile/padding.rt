@@ -1,44 +1,44 @@
-//! More octets than are needed, lengths beyond any input, and universal 0.
+//! Headers in more octets than are needed (X.690 8.1.2.4, 8.1.3.5), lengths beyond any input, and universal 0 (8.1.5).
 
 use super::{TRUE_ALONE, one_boolean};
-use crate::reading::{answers_octets, decoder_of, reads, told};
+use crate::reading::{answers_octets, assert_answer, assert_reads, decoder_of};
 use crate::writing::of_pieces;
 use rasn::types::{Any, Codec, Constraints, OctetString, Tag};
 use std::alloc::Global;
 use std::process::Abort;
 
-/// Reads an OCTET STRING of one octet, which a long header stands in front of.
-fn reads_one_octet(rt: &impl Abort, alloc: Global, octets: &[u8]) {
+/// Asserts that the octets are an OCTET STRING of one octet behind a long header.
+fn assert_reads_one_octet(rt: &impl Abort, alloc: Global, octets: &[u8]) {
     let mut decoder = decoder_of(alloc, octets, Codec::Ber);
     let answer = decoder.decode_octet_string(Tag::OCTET_STRING, &Constraints::NONE);
     assert!(rt; answers_octets(answer, &[0xA1], true));
     assert!(rt; decoder.remaining().is_empty());
 }
 
-// A length may stand in 126 octets, all but the last of them zero, but under DER (X.690 8.1.3.5, 10.1).
+// A length may have 126 octets, all but the last of them zero, but not under DER (X.690 8.1.3.5, 10.1).
 #[test]
 fn lengths_of_126_octets(rt: HostRuntime) {
     let alloc = rt.alloc();
     match of_pieces(alloc, &[(&[0x04, 0xFE], 0, 125), (&[0x01, 0xA1], 0, 0)]) {
         Ok(octets) => {
-            reads_one_octet(&rt, alloc, &octets);
+            assert_reads_one_octet(&rt, alloc, &octets);
             let mut decoder = decoder_of(alloc, &octets, Codec::Der);
             let answer = decoder.decode_octet_string(Tag::OCTET_STRING, &Constraints::NONE);
             let kind = "CodecSpecific { inner: Der(NonMinimalLength) }";
-            told(&rt, alloc, Codec::Der, answer, kind);
+            assert_answer(&rt, alloc, Codec::Der, answer, kind);
             assert!(rt; decoder.decoded_len() == 0);
         }
         Err(_) => assert!(rt; false, "no memory"),
     }
 }
 
-// The same of a value that holds others, and of tag numbers (X.690 8.1.2.4.2, 8.1.3.5).
+// The length of a SEQUENCE and a tag number may have leading zeros, but not under DER (X.690 8.1.2.4.2, 8.1.3.5, 10.1).
 #[test]
 fn headers_in_more_octets(rt: HostRuntime) {
     let alloc = rt.alloc();
-    const SEQUENCE: &[u8] = &[0x30, 0x83, 0x00, 0x00, 0x03, 0x01, 0x01, 0xFF];
-    let mut decoder = decoder_of(alloc, SEQUENCE, Codec::Ber);
-    told(
+    const PADDED_LENGTH: &[u8] = &[0x30, 0x83, 0x00, 0x00, 0x03, 0x01, 0x01, 0xFF];
+    let mut decoder = decoder_of(alloc, PADDED_LENGTH, Codec::Ber);
+    assert_answer(
         &rt,
         alloc,
         Codec::Ber,
@@ -46,109 +46,138 @@ fn headers_in_more_octets(rt: HostRuntime) {
         TRUE_ALONE,
     );
     assert!(rt; decoder.decoded_len() == 8);
-    const PADDED: &[u8] = &[0x1F, 0x80, 0x01, 0x01, 0xFF];
-    const KIND: &str = "CodecSpecific { inner: Der(NonMinimalTagNumber) }";
-    reads::<bool>(
+    const PADDED_TAG_NUMBER: &[u8] = &[0x1F, 0x80, 0x01, 0x01, 0xFF];
+    const NON_MINIMAL_TAG_NUMBER: &str = "CodecSpecific { inner: Der(NonMinimalTagNumber) }";
+    assert_reads::<bool>(
         &rt,
         alloc,
         &[
-            (PADDED, Codec::Ber, "true", 5),
-            (PADDED, Codec::Cer, "true", 5),
-            (PADDED, Codec::Der, KIND, 0),
+            (PADDED_TAG_NUMBER, Codec::Ber, "true", 5),
+            (PADDED_TAG_NUMBER, Codec::Cer, "true", 5),
+            (PADDED_TAG_NUMBER, Codec::Der, NON_MINIMAL_TAG_NUMBER, 0),
         ],
     );
 }
 
-/// A length of 2^64 - 1, which no input has.
-const NEVER: &str = "Incomplete { needed: Size(18446744073709551615) }";
+/// What is reported of a length of 2^64 - 1, which no input has.
+const U64_MAX_MISSING: &str = "Incomplete { needed: Size(18446744073709551615) }";
 
-// The missing octets are counted, and nothing is reserved for them (X.690 8.1.3.5).
+// The missing octets are counted, and no memory is reserved for them (X.690 8.1.3.5).
 #[test]
 fn lengths_beyond_any_input(rt: HostRuntime) {
     let alloc = rt.alloc();
-    const HUGE: &[u8] = &[0x04, 0x88, 0xFF, 0xFF, 0xFF, 0xFF, 0xFF, 0xFF, 0xFF, 0xFF];
-    const PADDED: &[u8] = &[
+    const LENGTH_U64_MAX: &[u8] = &[0x04, 0x88, 0xFF, 0xFF, 0xFF, 0xFF, 0xFF, 0xFF, 0xFF, 0xFF];
+    const PADDED_LENGTH_U64_MAX: &[u8] = &[
         0x04, 0x89, 0x00, 0xFF, 0xFF, 0xFF, 0xFF, 0xFF, 0xFF, 0xFF, 0xFF,
     ];
-    const WIDE: &[u8] = &[
+    const LENGTH_OF_65_BITS: &[u8] = &[
         0x04, 0x89, 0x01, 0x00, 0x00, 0x00, 0x00, 0x00, 0x00, 0x00, 0x00,
     ];
-    const SEGMENT: &[u8] = &[
+    const SEGMENT_OF_U64_MAX: &[u8] = &[
         0x24, 0x0A, 0x04, 0x88, 0xFF, 0xFF, 0xFF, 0xFF, 0xFF, 0xFF, 0xFF, 0xFF,
     ];
-    reads::<OctetString>(
+    assert_reads::<OctetString>(
         &rt,
         alloc,
         &[
-            (HUGE, Codec::Ber, NEVER, 0),
-            (HUGE, Codec::Der, NEVER, 0),
-            (PADDED, Codec::Cer, NEVER, 0),
-            (WIDE, Codec::Ber, "LengthExceedsPlatformWidth", 0),
-            (WIDE, Codec::Der, "LengthExceedsPlatformWidth", 0),
-            (SEGMENT, Codec::Ber, NEVER, 0),
+            (LENGTH_U64_MAX, Codec::Ber, U64_MAX_MISSING, 0),
+            (LENGTH_U64_MAX, Codec::Der, U64_MAX_MISSING, 0),
+            (PADDED_LENGTH_U64_MAX, Codec::Cer, U64_MAX_MISSING, 0),
+            (
+                LENGTH_OF_65_BITS,
+                Codec::Ber,
+                "LengthExceedsPlatformWidth",
+                0,
+            ),
+            (
+                LENGTH_OF_65_BITS,
+                Codec::Der,
+                "LengthExceedsPlatformWidth",
+                0,
+            ),
+            (SEGMENT_OF_U64_MAX, Codec::Ber, U64_MAX_MISSING, 0),
         ],
     );
 }
 
-// The same of what stands inside: an element's refusal takes the list's contents, an open type's nothing.
+// Missing octets of an element are counted too. The refusal consumes the contents of a list, and nothing of an open type.
 #[test]
 fn lengths_beyond_any_contents(rt: HostRuntime) {
-    const DEFINITE: &[u8] = &[
+    const DEFINITE_LIST: &[u8] = &[
         0x30, 0x0A, 0x01, 0x88, 0xFF, 0xFF, 0xFF, 0xFF, 0xFF, 0xFF, 0xFF, 0xFF,
     ];
-    const INDEFINITE: &[u8] = &[
+    const INDEFINITE_LIST: &[u8] = &[
         0x30, 0x80, 0x01, 0x88, 0xFF, 0xFF, 0xFF, 0xFF, 0xFF, 0xFF, 0xFF, 0xFF,
     ];
-    reads::<Vec<bool>>(
+    assert_reads::<Vec<bool>>(
         &rt,
         rt.alloc(),
         &[
-            (DEFINITE, Codec::Der, NEVER, 12),
-            (INDEFINITE, Codec::Ber, NEVER, 2),
+            (DEFINITE_LIST, Codec::Der, U64_MAX_MISSING, 12),
+            (INDEFINITE_LIST, Codec::Ber, U64_MAX_MISSING, 2),
         ],
     );
-    reads::<Any>(&rt, rt.alloc(), &[(INDEFINITE, Codec::Ber, NEVER, 0)]);
+    assert_reads::<Any>(
+        &rt,
+        rt.alloc(),
+        &[(INDEFINITE_LIST, Codec::Ber, U64_MAX_MISSING, 0)],
+    );
 }
 
-// Universal 0 is the tag of no value, in whatever octets it is spelled (X.690 8.1.2.4, 8.1.5).
+// Universal 0 is the tag of no value, in whatever form it is written (X.690 8.1.2.4, 8.1.5).
 #[test]
 fn universal_0_is_no_value(rt: HostRuntime) {
-    const END: &str = "CodecSpecific { inner: Ber(UnexpectedEndOfContents) }";
-    reads::<bool>(
+    const END_OF_CONTENTS: &str = "CodecSpecific { inner: Ber(UnexpectedEndOfContents) }";
+    assert_reads::<bool>(
         &rt,
         rt.alloc(),
         &[
-            (&[0x00, 0x01, 0xFF], Codec::Ber, END, 0),
-            (&[0x20, 0x01, 0xFF], Codec::Cer, END, 0),
-            (&[0x1F, 0x00, 0x01, 0xFF], Codec::Ber, END, 0),
-            (&[0x1F, 0x00, 0x01, 0xFF], Codec::Der, END, 0),
-            (&[0x3F, 0x80, 0x00, 0x01, 0xFF], Codec::Ber, END, 0),
-            (&[0x3F, 0x80, 0x00, 0x01, 0xFF], Codec::Cer, END, 0),
-            (&[0x3F, 0x80, 0x00, 0x01, 0xFF], Codec::Der, END, 0),
+            (&[0x00, 0x01, 0xFF], Codec::Ber, END_OF_CONTENTS, 0),
+            (&[0x20, 0x01, 0xFF], Codec::Cer, END_OF_CONTENTS, 0),
+            (&[0x1F, 0x00, 0x01, 0xFF], Codec::Ber, END_OF_CONTENTS, 0),
+            (&[0x1F, 0x00, 0x01, 0xFF], Codec::Der, END_OF_CONTENTS, 0),
+            (
+                &[0x3F, 0x80, 0x00, 0x01, 0xFF],
+                Codec::Ber,
+                END_OF_CONTENTS,
+                0,
+            ),
+            (
+                &[0x3F, 0x80, 0x00, 0x01, 0xFF],
+                Codec::Cer,
+                END_OF_CONTENTS,
+                0,
+            ),
+            (
+                &[0x3F, 0x80, 0x00, 0x01, 0xFF],
+                Codec::Der,
+                END_OF_CONTENTS,
+                0,
+            ),
         ],
     );
 }
 
-// Nor does another spelling of it close contents.
+// Universal 0 in another form than 00 00 closes no contents (X.690 8.1.5).
 #[test]
 fn two_zeros_alone_close_contents(rt: HostRuntime) {
-    const END: &str = "CodecSpecific { inner: Ber(UnexpectedEndOfContents) }";
-    const LONG: &[u8] = &[0x30, 0x80, 0x1F, 0x00, 0x00, 0x00, 0x00];
-    const CONSTRUCTED: &[u8] = &[0x30, 0x80, 0x20, 0x00, 0x00, 0x00];
-    reads::<Vec<bool>>(
+    const END_OF_CONTENTS: &str = "CodecSpecific { inner: Ber(UnexpectedEndOfContents) }";
+    const HIGH_FORM: &[u8] = &[0x30, 0x80, 0x1F, 0x00, 0x00, 0x00, 0x00];
+    const CONSTRUCTED_FORM: &[u8] = &[0x30, 0x80, 0x20, 0x00, 0x00, 0x00];
+    assert_reads::<Vec<bool>>(
         &rt,
         rt.alloc(),
         &[
-            (LONG, Codec::Ber, END, 2),
-            (CONSTRUCTED, Codec::Cer, END, 2),
+            (HIGH_FORM, Codec::Ber, END_OF_CONTENTS, 2),
+            (CONSTRUCTED_FORM, Codec::Cer, END_OF_CONTENTS, 2),
         ],
     );
-    reads::<Any>(
+    assert_reads::<Any>(
         &rt,
         rt.alloc(),
         &[
-            (LONG, Codec::Ber, END, 0),
-            (CONSTRUCTED, Codec::Cer, END, 0),
+            (HIGH_FORM, Codec::Ber, END_OF_CONTENTS, 0),
+            (CONSTRUCTED_FORM, Codec::Cer, END_OF_CONTENTS, 0),
         ],
     );
 }

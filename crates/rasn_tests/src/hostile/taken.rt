@@ -1,54 +1,55 @@
-//! What a refusal has taken: nothing for a fault of framing, else the value, its header, or what was read inside.
+//! How many octets a refusal consumes: none for a fault of the identifier or length (X.690 8.1.2, 8.1.3), else the value, its header, or
+//! what was read inside.
 
 use super::one_boolean;
-use crate::reading::{Row, decoder_of, reads, reads_within, sized, told};
+use crate::reading::{Row, assert_answer, assert_reads, assert_reads_within, decoder_of, sized};
 use rasn::types::{Any, BitString, Class, Codec, GeneralizedTime, OctetString, Tag, VisibleString};
 use std::alloc::Global;
 use std::process::Abort;
 
-/// Reads SEQUENCE { BOOLEAN } from each row's octets.
-fn reads_one_boolean(rt: &impl Abort, alloc: Global, rows: &[Row]) {
-    for (octets, rules, text, taken) in rows {
+/// Asserts what SEQUENCE { BOOLEAN } is read as from each row's octets, and how many are consumed.
+fn assert_reads_one_boolean(rt: &impl Abort, alloc: Global, rows: &[Row]) {
+    for (octets, rules, text, consumed) in rows {
         let mut decoder = decoder_of(alloc, octets, *rules);
-        told(rt, alloc, *rules, one_boolean(&mut decoder), text);
-        assert!(rt; decoder.decoded_len() == *taken, "{octets:?} {rules:?}");
+        assert_answer(rt, alloc, *rules, one_boolean(&mut decoder), text);
+        assert!(rt; decoder.decoded_len() == *consumed, "{octets:?} {rules:?}");
     }
 }
 
-/// An INTEGER where a BOOLEAN is expected.
-const NUMBER: &str =
+/// What is reported of an INTEGER where a BOOLEAN is expected.
+const FOUND_INTEGER: &str =
     "CodecSpecific { inner: Ber(MismatchedTag { expected: Tag { class: Universal, value: 1 }, actual: Tag { class: Universal, value: 2 } }) }";
 
-/// A NULL where a segment of octets is expected.
-const NULL: &str =
+/// What is reported of a NULL where a segment of an OCTET STRING is expected.
+const FOUND_NULL: &str =
     "CodecSpecific { inner: Ber(MismatchedTag { expected: Tag { class: Universal, value: 4 }, actual: Tag { class: Universal, value: 5 } }) }";
 
-const INDEFINITE: &str = "CodecSpecific { inner: Ber(IndefiniteLengthNotAllowed) }";
+const INDEFINITE_LENGTH: &str = "CodecSpecific { inner: Ber(IndefiniteLengthNotAllowed) }";
 
-const PRIMITIVE: &str = "CodecSpecific { inner: Ber(InvalidConstructedIdentifier) }";
+const NOT_CONSTRUCTED: &str = "CodecSpecific { inner: Ber(InvalidConstructedIdentifier) }";
 
-const UNCLOSED: &str = "CodecSpecific { inner: Ber(MissingEndOfContents) }";
+const MISSING_END_OF_CONTENTS: &str = "CodecSpecific { inner: Ber(MissingEndOfContents) }";
 
-const END: &str = "CodecSpecific { inner: Ber(UnexpectedEndOfContents) }";
+const END_OF_CONTENTS: &str = "CodecSpecific { inner: Ber(UnexpectedEndOfContents) }";
 
-// Contents that are no value's take the value; a length that the type hasn't takes the header.
+// Contents that are none of the type's consume the value. An indefinite length, which the type hasn't, consumes the header.
 #[test]
 fn leaves_take_what_was_read(rt: HostRuntime) {
     let alloc = rt.alloc();
-    const LENGTH: &str = "MismatchedLength { expected: 1, actual: 2 }";
-    const BIT: &str = "CodecSpecific { inner: Der(ConstructedBitMismatch) }";
-    reads::<bool>(
+    const MISMATCHED_LENGTH: &str = "MismatchedLength { expected: 1, actual: 2 }";
+    const CONSTRUCTED_BIT: &str = "CodecSpecific { inner: Der(ConstructedBitMismatch) }";
+    assert_reads::<bool>(
         &rt,
         alloc,
         &[
-            (&[0x01, 0x02, 0x00, 0x00], Codec::Ber, LENGTH, 4),
-            (&[0x01, 0x02, 0x00, 0x00], Codec::Der, LENGTH, 4),
-            (&[0x21, 0x80, 0x00, 0x00], Codec::Ber, INDEFINITE, 2),
-            (&[0x21, 0x80, 0x00, 0x00], Codec::Cer, INDEFINITE, 2),
-            (&[0x21, 0x80, 0x00, 0x00], Codec::Der, BIT, 0),
+            (&[0x01, 0x02, 0x00, 0x00], Codec::Ber, MISMATCHED_LENGTH, 4),
+            (&[0x01, 0x02, 0x00, 0x00], Codec::Der, MISMATCHED_LENGTH, 4),
+            (&[0x21, 0x80, 0x00, 0x00], Codec::Ber, INDEFINITE_LENGTH, 2),
+            (&[0x21, 0x80, 0x00, 0x00], Codec::Cer, INDEFINITE_LENGTH, 2),
+            (&[0x21, 0x80, 0x00, 0x00], Codec::Der, CONSTRUCTED_BIT, 0),
         ],
     );
-    reads::<VisibleString>(
+    assert_reads::<VisibleString>(
         &rt,
         alloc,
         &[(
@@ -60,21 +61,36 @@ fn leaves_take_what_was_read(rt: HostRuntime) {
     );
 }
 
-// What is refused inside takes header and contents, of an indefinite length the header; end-of-contents octets that are missing, what was
-// read inside too.
+// A refusal inside consumes header and contents, of an indefinite length the header alone. Where end-of-contents octets are missing, it
+// consumes what was read inside too.
 #[test]
 fn sequences_take_what_was_read(rt: HostRuntime) {
-    reads_one_boolean(
+    assert_reads_one_boolean(
         &rt,
         rt.alloc(),
         &[
-            (&[0x30, 0x80, 0x02, 0x01, 0x01], Codec::Ber, NUMBER, 2),
-            (&[0x30, 0x03, 0x02, 0x01, 0x01], Codec::Ber, NUMBER, 5),
-            (&[0x10, 0x03, 0x01, 0x01, 0xFF], Codec::Ber, PRIMITIVE, 5),
+            (
+                &[0x30, 0x80, 0x02, 0x01, 0x01],
+                Codec::Ber,
+                FOUND_INTEGER,
+                2,
+            ),
+            (
+                &[0x30, 0x03, 0x02, 0x01, 0x01],
+                Codec::Ber,
+                FOUND_INTEGER,
+                5,
+            ),
+            (
+                &[0x10, 0x03, 0x01, 0x01, 0xFF],
+                Codec::Ber,
+                NOT_CONSTRUCTED,
+                5,
+            ),
             (
                 &[0x30, 0x80, 0x01, 0x01, 0xFF, 0x05, 0x00],
                 Codec::Ber,
-                UNCLOSED,
+                MISSING_END_OF_CONTENTS,
                 5,
             ),
             (
@@ -93,18 +109,18 @@ fn sequences_take_what_was_read(rt: HostRuntime) {
     );
 }
 
-// A fault of a segment takes nothing (X.690 8.7.3); nor does one inside an open type.
+// A fault in a segment (X.690 8.7.3) or inside an open type consumes nothing.
 #[test]
 fn faults_inside_strings_take_nothing(rt: HostRuntime) {
     let alloc = rt.alloc();
-    reads::<OctetString>(
+    assert_reads::<OctetString>(
         &rt,
         alloc,
         &[
             (
                 &[0x24, 0x05, 0x04, 0x02, 0xA1, 0xB2, 0x05],
                 Codec::Ber,
-                NULL,
+                FOUND_NULL,
                 0,
             ),
             (
@@ -121,7 +137,7 @@ fn faults_inside_strings_take_nothing(rt: HostRuntime) {
             ),
         ],
     );
-    reads::<BitString>(
+    assert_reads::<BitString>(
         &rt,
         alloc,
         &[(
@@ -131,26 +147,31 @@ fn faults_inside_strings_take_nothing(rt: HostRuntime) {
             0,
         )],
     );
-    reads::<Any>(
+    assert_reads::<Any>(
         &rt,
         alloc,
         &[(
             &[0x30, 0x80, 0x05, 0x80, 0x00, 0x00],
             Codec::Ber,
-            INDEFINITE,
+            INDEFINITE_LENGTH,
             0,
         )],
     );
 }
 
-// Once the octets of a string are gathered, a refusal takes them all.
+// Once the octets of a string are gathered, a refusal consumes the value.
 #[test]
 fn gathered_strings_are_taken(rt: HostRuntime) {
     let alloc = rt.alloc();
-    const SIZE: &str = "SizeConstraintNotSatisfied { size: Some(1), expected: Single(2) }";
-    const SEGMENTS: &[u8] = &[0x24, 0x80, 0x04, 0x01, 0xA1, 0x00, 0x00];
-    reads_within::<OctetString>(&rt, alloc, &sized(2), &[(SEGMENTS, Codec::Ber, SIZE, 7)]);
-    reads::<GeneralizedTime>(
+    const ONE_NOT_TWO: &str = "SizeConstraintNotSatisfied { size: Some(1), expected: Single(2) }";
+    const ONE_SEGMENT: &[u8] = &[0x24, 0x80, 0x04, 0x01, 0xA1, 0x00, 0x00];
+    assert_reads_within::<OctetString>(
+        &rt,
+        alloc,
+        &sized(2),
+        &[(ONE_SEGMENT, Codec::Ber, ONE_NOT_TWO, 7)],
+    );
+    assert_reads::<GeneralizedTime>(
         &rt,
         alloc,
         &[(
@@ -162,21 +183,31 @@ fn gathered_strings_are_taken(rt: HostRuntime) {
     );
 }
 
-/// Reads an optional BOOLEAN in a prefix \[0\] from each row's octets.
-fn reads_optional_prefix(rt: &impl Abort, alloc: Global, rows: &[Row]) {
-    for (octets, rules, text, taken) in rows {
+/// Asserts what \[0\] EXPLICIT BOOLEAN OPTIONAL is read as from each row's octets, and how many are consumed.
+fn assert_reads_optional_prefix(rt: &impl Abort, alloc: Global, rows: &[Row]) {
+    for (octets, rules, text, consumed) in rows {
         let mut decoder = decoder_of(alloc, octets, *rules);
         let tag = Tag::new(Class::Context, 0);
         let answer = decoder.decode_optional_with_explicit_prefix::<bool>(tag);
-        told(rt, alloc, *rules, answer, text);
-        assert!(rt; decoder.decoded_len() == *taken, "{octets:?} {rules:?}");
+        assert_answer(rt, alloc, *rules, answer, text);
+        assert!(rt; decoder.decoded_len() == *consumed, "{octets:?} {rules:?}");
     }
 }
 
-/// Rows of a BOOLEAN in a prefix that is there.
-const PREFIXED: [Row; 5] = [
-    (&[0xA0, 0x03, 0x02, 0x01, 0x01], Codec::Der, NUMBER, 5),
-    (&[0xA0, 0x80, 0x02, 0x01, 0x01], Codec::Cer, NUMBER, 2),
+/// Octets of \[0\] EXPLICIT BOOLEAN that are refused.
+const PREFIXED_BOOLEANS: [Row; 5] = [
+    (
+        &[0xA0, 0x03, 0x02, 0x01, 0x01],
+        Codec::Der,
+        FOUND_INTEGER,
+        5,
+    ),
+    (
+        &[0xA0, 0x80, 0x02, 0x01, 0x01],
+        Codec::Cer,
+        FOUND_INTEGER,
+        2,
+    ),
     (
         &[0xA0, 0x05, 0x01, 0x01, 0xFF, 0x05, 0x00],
         Codec::Ber,
@@ -186,7 +217,7 @@ const PREFIXED: [Row; 5] = [
     (
         &[0xA0, 0x80, 0x01, 0x01, 0xFF, 0x05, 0x00],
         Codec::Ber,
-        UNCLOSED,
+        MISSING_END_OF_CONTENTS,
         5,
     ),
     (
@@ -197,33 +228,33 @@ const PREFIXED: [Row; 5] = [
     ),
 ];
 
-// A prefix that is there is refused alike whether it may be left out or not; the look at a tag takes nothing.
+// An OPTIONAL prefix that is there is refused as one that is required. Where another tag comes, nothing is consumed.
 #[test]
 fn prefixes_take_what_was_read(rt: HostRuntime) {
     let alloc = rt.alloc();
-    reads_optional_prefix(&rt, alloc, &PREFIXED);
-    reads_optional_prefix(
+    assert_reads_optional_prefix(&rt, alloc, &PREFIXED_BOOLEANS);
+    assert_reads_optional_prefix(
         &rt,
         alloc,
         &[
             (&[0x01, 0x01, 0xFF], Codec::Der, "None", 0),
-            (&[0x00, 0x00], Codec::Der, END, 0),
+            (&[0x00, 0x00], Codec::Der, END_OF_CONTENTS, 0),
             (&[0x1F], Codec::Ber, "Incomplete { needed: Size(1) }", 0),
         ],
     );
 }
 
-/// Reads a BOOLEAN in a prefix \[0\] that has to be there from each row's octets.
-fn reads_prefix(rt: &impl Abort, alloc: Global, rows: &[Row]) {
-    for (octets, rules, text, taken) in rows {
+/// Asserts what \[0\] EXPLICIT BOOLEAN is read as from each row's octets, and how many are consumed.
+fn assert_reads_prefix(rt: &impl Abort, alloc: Global, rows: &[Row]) {
+    for (octets, rules, text, consumed) in rows {
         let mut decoder = decoder_of(alloc, octets, *rules);
         let answer = decoder.decode_explicit_prefix::<bool>(Tag::new(Class::Context, 0));
-        told(rt, alloc, *rules, answer, text);
-        assert!(rt; decoder.decoded_len() == *taken, "{octets:?} {rules:?}");
+        assert_answer(rt, alloc, *rules, answer, text);
+        assert!(rt; decoder.decoded_len() == *consumed, "{octets:?} {rules:?}");
     }
 }
 
 #[test]
 fn prefixes_that_are_required_too(rt: HostRuntime) {
-    reads_prefix(&rt, rt.alloc(), &PREFIXED);
+    assert_reads_prefix(&rt, rt.alloc(), &PREFIXED_BOOLEANS);
 }

@@ -1,6 +1,6 @@
-//! Octets of whole numbers (X.690 8.3).
+//! The octets of whole numbers in two's complement (X.690 8.3).
 
-use crate::reading::facts;
+use crate::reading::assert_facts;
 use rasn_types::types::{Integer, IntegerType};
 use std::alloc::Global;
 use std::process::Abort;
@@ -18,8 +18,8 @@ fn is_read<T: IntegerType + PartialEq>(alloc: Global, octets: &[u8], number: &Op
     }
 }
 
-/// Reads a number of the type from each row's octets.
-fn stands_for<T: IntegerType + PartialEq>(rt: &impl Abort, alloc: Global, rows: &[Row<T>]) {
+/// Asserts that each row's octets are the row's number of the type.
+fn assert_stands_for<T: IntegerType + PartialEq>(rt: &impl Abort, alloc: Global, rows: &[Row<T>]) {
     for (octets, number) in rows {
         assert!(rt; is_read(alloc, octets, number), "{octets:?}");
     }
@@ -32,28 +32,37 @@ fn is_written<T: IntegerType>(alloc: Global, number: &T, octets: &[u8]) -> bool 
         && found.strip_prefix(&[7]) == Some(octets)
 }
 
-/// Writes the number behind another octet, and reads it again.
-fn takes<T: IntegerType + PartialEq>(rt: &impl Abort, alloc: Global, number: T, octets: &[u8]) {
+/// Asserts that the number is written as these octets, behind another octet, and read back.
+fn assert_takes<T: IntegerType + PartialEq>(
+    rt: &impl Abort,
+    alloc: Global,
+    number: T,
+    octets: &[u8],
+) {
     assert!(rt; is_written(alloc, &number, octets), "{octets:?}");
     assert!(rt; is_read(alloc, octets, &Some(number)), "{octets:?}");
 }
 
-const PADDED: &[u8] = &[0xFF, 0xFF, 0xFF, 0xFF, 0x7F, 0x00];
+const PADDED_MINUS_33024: &[u8] = &[0xFF, 0xFF, 0xFF, 0xFF, 0x7F, 0x00];
 
-const LARGEST: &[u8] = &[
+const U128_MAX: &[u8] = &[
     0x00, 0xFF, 0xFF, 0xFF, 0xFF, 0xFF, 0xFF, 0xFF, 0xFF, 0xFF, 0xFF, 0xFF, 0xFF, 0xFF, 0xFF, 0xFF,
     0xFF,
 ];
 
-// Octets are read as the same number in each type that has it.
+// Octets are one number, in each type that has it.
 #[test]
 fn reads_fixed_widths(rt: HostRuntime) {
     let alloc = rt.alloc();
-    stands_for::<i32>(&rt, alloc, &[(PADDED, Some(-33024))]);
-    stands_for::<i16>(&rt, alloc, &[(PADDED, None)]);
+    assert_stands_for::<i32>(&rt, alloc, &[(PADDED_MINUS_33024, Some(-33024))]);
+    assert_stands_for::<i16>(&rt, alloc, &[(PADDED_MINUS_33024, None)]);
     let largest = &[0x00, 0xFF, 0xFF, 0xFF, 0xFF, 0xFF, 0xFF, 0xFF, 0xFF];
-    stands_for::<u64>(&rt, alloc, &[(PADDED, None), (largest, Some(u64::MAX))]);
-    stands_for::<u32>(
+    assert_stands_for::<u64>(
+        &rt,
+        alloc,
+        &[(PADDED_MINUS_33024, None), (largest, Some(u64::MAX))],
+    );
+    assert_stands_for::<u32>(
         &rt,
         alloc,
         &[
@@ -61,24 +70,24 @@ fn reads_fixed_widths(rt: HostRuntime) {
             (&[0x11, 0x22, 0x33, 0x44, 0x55, 0x66], None),
         ],
     );
-    stands_for::<u8>(&rt, alloc, &[(&[0xFF], None)]);
-    stands_for::<i8>(&rt, alloc, &[(&[0xFF], Some(-1))]);
-    stands_for::<i128>(&rt, alloc, &[(LARGEST, None)]);
+    assert_stands_for::<u8>(&rt, alloc, &[(&[0xFF], None)]);
+    assert_stands_for::<i8>(&rt, alloc, &[(&[0xFF], Some(-1))]);
+    assert_stands_for::<i128>(&rt, alloc, &[(U128_MAX, None)]);
 }
 
 #[test]
 fn writes_fewest_octets(rt: HostRuntime) {
     let alloc = rt.alloc();
-    takes(&rt, alloc, -33024i64, &[0xFF, 0x7F, 0x00]);
-    takes(&rt, alloc, 860116326u32, &[0x33, 0x44, 0x55, 0x66]);
-    takes(&rt, alloc, 128u8, &[0x00, 0x80]);
-    takes(&rt, alloc, -128i8, &[0x80]);
-    takes(&rt, alloc, 0usize, &[0x00]);
-    takes(&rt, alloc, u128::MAX, LARGEST);
+    assert_takes(&rt, alloc, -33024i64, &[0xFF, 0x7F, 0x00]);
+    assert_takes(&rt, alloc, 860116326u32, &[0x33, 0x44, 0x55, 0x66]);
+    assert_takes(&rt, alloc, 128u8, &[0x00, 0x80]);
+    assert_takes(&rt, alloc, -128i8, &[0x80]);
+    assert_takes(&rt, alloc, 0usize, &[0x00]);
+    assert_takes(&rt, alloc, u128::MAX, U128_MAX);
 }
 
 /// Numbers at the ends of 128 bits and about 0, and their octets.
-const WIDE: &[(i128, &[u8])] = &[
+const NUMBERS_OF_128_BITS: &[(i128, &[u8])] = &[
     (
         i128::MAX,
         &[
@@ -96,8 +105,8 @@ const WIDE: &[(i128, &[u8])] = &[
 
 #[test]
 fn writes_128_bits(rt: HostRuntime) {
-    for (number, octets) in WIDE {
-        takes(&rt, rt.alloc(), *number, octets);
+    for (number, octets) in NUMBERS_OF_128_BITS {
+        assert_takes(&rt, rt.alloc(), *number, octets);
     }
 }
 
@@ -124,7 +133,7 @@ fn are_equal(alloc: Global, one: &[u8], other: &[u8]) -> bool {
 #[test]
 fn keeps_any_length(rt: HostRuntime) {
     let alloc = rt.alloc();
-    facts(
+    assert_facts(
         &rt,
         &[
             is_kept(alloc, &[0x00, 0x00, 0x80], &[0x00, 0x80]),

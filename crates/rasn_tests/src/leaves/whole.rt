@@ -1,6 +1,11 @@
-use crate::reading::{decoder_of, facts, looks, reads, told, value};
-use crate::whole::{answers, begins, encodes, rewrites};
-use crate::writing::{done, holds, new_encoder};
+//! BOOLEAN (X.690 8.2), INTEGER (8.3), ENUMERATED (8.4) and OCTET STRING (8.7) by the entry points, and their identifiers and lengths
+//! (8.1.2, 8.1.3).
+
+use crate::reading::{assert_answer, assert_facts, assert_peeks, assert_reads, decoder_of, value};
+use crate::whole::{
+    assert_decodes, assert_decodes_with_remainder, assert_encodes, assert_rewrites,
+};
+use crate::writing::{assert_output, assert_written, new_encoder};
 use rasn::ber;
 use rasn::de::Decode;
 use rasn::types::{Class, Codec, Enumerated, Identifier, OctetString, Tag};
@@ -10,12 +15,12 @@ use rasn_bench::Colour;
 #[test]
 fn what_follows_is_the_rest(rt: HostRuntime) {
     let alloc = rt.alloc();
-    begins::<bool>(
+    assert_decodes_with_remainder::<bool>(
         &rt,
         alloc,
         &[(&[0x01, 0x01, 0xFF, 0x00], Codec::Ber, "(true, [0])")],
     );
-    answers::<bool>(
+    assert_decodes::<bool>(
         &rt,
         alloc,
         &[
@@ -29,7 +34,7 @@ fn what_follows_is_the_rest(rt: HostRuntime) {
 #[test]
 fn what_follows_a_der_value_is_refused(rt: HostRuntime) {
     let alloc = rt.alloc();
-    answers::<bool>(
+    assert_decodes::<bool>(
         &rt,
         alloc,
         &[
@@ -41,7 +46,7 @@ fn what_follows_a_der_value_is_refused(rt: HostRuntime) {
             (&[0x01, 0x01, 0xFF, 0x00], Codec::Cer, "true"),
         ],
     );
-    begins::<bool>(
+    assert_decodes_with_remainder::<bool>(
         &rt,
         alloc,
         &[(&[0x01, 0x01, 0xFF, 0x00], Codec::Der, "(true, [0])")],
@@ -51,17 +56,17 @@ fn what_follows_a_der_value_is_refused(rt: HostRuntime) {
 // A BOOLEAN is primitive, as DER holds it to (X.690 8.1.2.5, 11.1).
 #[test]
 fn canonical_rules_have_one_true(rt: HostRuntime) {
-    const NO_BOOL: &str = "InvalidBool { value: 5 }";
-    const CONSTRUCTED: &str = "CodecSpecific { inner: Der(ConstructedBitMismatch) }";
-    reads::<bool>(
+    const INVALID_BOOL: &str = "InvalidBool { value: 5 }";
+    const CONSTRUCTED_BIT: &str = "CodecSpecific { inner: Der(ConstructedBitMismatch) }";
+    assert_reads::<bool>(
         &rt,
         rt.alloc(),
         &[
-            (&[0x01, 0x01, 0x05], Codec::Cer, NO_BOOL, 3),
-            (&[0x01, 0x01, 0x05], Codec::Der, NO_BOOL, 3),
+            (&[0x01, 0x01, 0x05], Codec::Cer, INVALID_BOOL, 3),
+            (&[0x01, 0x01, 0x05], Codec::Der, INVALID_BOOL, 3),
             (&[0x21, 0x01, 0xFF], Codec::Ber, "true", 3),
             (&[0x21, 0x01, 0xFF], Codec::Cer, "true", 3),
-            (&[0x21, 0x01, 0xFF], Codec::Der, CONSTRUCTED, 0),
+            (&[0x21, 0x01, 0xFF], Codec::Der, CONSTRUCTED_BIT, 0),
         ],
     );
 }
@@ -69,7 +74,7 @@ fn canonical_rules_have_one_true(rt: HostRuntime) {
 #[test]
 fn integers_of_any_padding(rt: HostRuntime) {
     let alloc = rt.alloc();
-    answers::<i32>(
+    assert_decodes::<i32>(
         &rt,
         alloc,
         &[(
@@ -78,7 +83,7 @@ fn integers_of_any_padding(rt: HostRuntime) {
             "-33024",
         )],
     );
-    answers::<u32>(
+    assert_decodes::<u32>(
         &rt,
         alloc,
         &[(
@@ -87,7 +92,7 @@ fn integers_of_any_padding(rt: HostRuntime) {
             "860116326",
         )],
     );
-    reads::<u32>(
+    assert_reads::<u32>(
         &rt,
         alloc,
         &[(
@@ -97,7 +102,7 @@ fn integers_of_any_padding(rt: HostRuntime) {
             8,
         )],
     );
-    reads::<u8>(
+    assert_reads::<u8>(
         &rt,
         alloc,
         &[(
@@ -107,17 +112,17 @@ fn integers_of_any_padding(rt: HostRuntime) {
             3,
         )],
     );
-    reads::<i32>(
+    assert_reads::<i32>(
         &rt,
         alloc,
         &[(&[0x02, 0x00], Codec::Ber, "UnexpectedEmptyInput", 2)],
     );
 }
 
-// Identifiers and lengths (X.690 8.1.2, 8.1.3).
+// A fault of the identifier or length consumes nothing (X.690 8.1.2, 8.1.3).
 #[test]
 fn framing_refusals_consume_nothing(rt: HostRuntime) {
-    reads::<OctetString>(
+    assert_reads::<OctetString>(
         &rt,
         rt.alloc(),
         &[
@@ -182,9 +187,9 @@ fn framing_refusals_consume_nothing(rt: HostRuntime) {
 
 #[test]
 fn contents_refusals_consume_the_value(rt: HostRuntime) {
-    const OPEN: &str = "CodecSpecific { inner: Ber(IndefiniteLengthNotAllowed) }";
-    const CONSTRUCTED: &str = "CodecSpecific { inner: Der(ConstructedBitMismatch) }";
-    reads::<bool>(
+    const INDEFINITE_LENGTH: &str = "CodecSpecific { inner: Ber(IndefiniteLengthNotAllowed) }";
+    const CONSTRUCTED_BIT: &str = "CodecSpecific { inner: Der(ConstructedBitMismatch) }";
+    assert_reads::<bool>(
         &rt,
         rt.alloc(),
         &[
@@ -194,15 +199,15 @@ fn contents_refusals_consume_the_value(rt: HostRuntime) {
                 "MismatchedLength { expected: 1, actual: 2 }",
                 4,
             ),
-            (&[0x21, 0x80, 0x00, 0x00], Codec::Ber, OPEN, 2),
-            (&[0x21, 0x80, 0x00, 0x00], Codec::Der, CONSTRUCTED, 0),
+            (&[0x21, 0x80, 0x00, 0x00], Codec::Ber, INDEFINITE_LENGTH, 2),
+            (&[0x21, 0x80, 0x00, 0x00], Codec::Der, CONSTRUCTED_BIT, 0),
         ],
     );
 }
 
 #[test]
 fn tags_are_looked_at(rt: HostRuntime) {
-    looks(
+    assert_peeks(
         &rt,
         rt.alloc(),
         &[
@@ -220,11 +225,11 @@ fn tags_are_looked_at(rt: HostRuntime) {
     );
 }
 
-// X.690 8.2.2, 8.3.2.
+// A BOOLEAN is one octet, and an INTEGER has the fewest that hold it (X.690 8.2.2, 8.3.2).
 #[test]
 fn leaves_have_the_fewest_octets(rt: HostRuntime) {
     let alloc = rt.alloc();
-    encodes::<bool>(
+    assert_encodes::<bool>(
         &rt,
         alloc,
         &[
@@ -232,19 +237,19 @@ fn leaves_have_the_fewest_octets(rt: HostRuntime) {
             (false, Codec::Der, &[0x01, 0x01, 0x00]),
         ],
     );
-    encodes::<i32>(
+    assert_encodes::<i32>(
         &rt,
         alloc,
         &[(-33024, Codec::Der, &[0x02, 0x03, 0xFF, 0x7F, 0x00])],
     );
-    encodes::<u8>(&rt, alloc, &[(128, Codec::Ber, &[0x02, 0x02, 0x00, 0x80])]);
-    encodes::<i8>(&rt, alloc, &[(-128, Codec::Ber, &[0x02, 0x01, 0x80])]);
+    assert_encodes::<u8>(&rt, alloc, &[(128, Codec::Ber, &[0x02, 0x02, 0x00, 0x80])]);
+    assert_encodes::<i8>(&rt, alloc, &[(-128, Codec::Ber, &[0x02, 0x01, 0x80])]);
 }
 
 /// A tag's class and number, and the octets of TRUE under the tag.
 type TagRow = (Class, u32, &'static [u8]);
 
-// X.690 8.1.2.
+// Tags of each class, and the identifiers that they have (X.690 8.1.2).
 const TAGS: &[TagRow] = &[
     (Class::Context, 30, &[0x9E, 0x01, 0xFF]),
     (Class::Application, 31, &[0x5F, 0x1F, 0x01, 0xFF]),
@@ -262,8 +267,8 @@ fn tags_of_any_number(rt: HostRuntime) {
         let mut encoder = new_encoder(&rt, rt.alloc(), Codec::Der);
         assert!(rt; encoder.codec() == Codec::Der);
         let tag = Tag::new(*class, *value);
-        done(&rt, encoder.encode_bool(tag, true, Identifier::EMPTY));
-        holds(&rt, encoder.output(), octets);
+        assert_written(&rt, encoder.encode_bool(tag, true, Identifier::EMPTY));
+        assert_output(&rt, encoder.output(), octets);
     }
 }
 
@@ -271,34 +276,34 @@ fn tags_of_any_number(rt: HostRuntime) {
 #[test]
 fn colours_are_read_and_written(rt: HostRuntime) {
     let alloc = rt.alloc();
-    const PADDED: &[u8] = &[0x0A, 0x02, 0x00, 0x02];
-    let colour = value(&rt, ber::decode::<Colour>(alloc, PADDED));
-    facts(&rt, &[colour == Colour::Blue, colour.discriminant() == 2]);
-    rewrites::<Colour>(
+    const PADDED_BLUE: &[u8] = &[0x0A, 0x02, 0x00, 0x02];
+    let colour = value(&rt, ber::decode::<Colour>(alloc, PADDED_BLUE));
+    assert_facts(&rt, &[colour == Colour::Blue, colour.discriminant() == 2]);
+    assert_rewrites::<Colour>(
         &rt,
         alloc,
-        &[(PADDED, Codec::Ber, Codec::Der, &[0x0A, 0x01, 0x02])],
+        &[(PADDED_BLUE, Codec::Ber, Codec::Der, &[0x0A, 0x01, 0x02])],
     );
 }
 
-/// What no colours are told as, and how many octets are left behind them.
+/// What is reported of numbers that are no colours, and how many octets are left behind each.
 const NO_COLOURS: &[(&str, usize)] = &[
     ("DiscriminantValueNotFound { discriminant: 3 }", 13),
     ("IntegerOverflow { max_width: 64 }", 2),
     ("UnexpectedEmptyInput", 0),
 ];
 
-// What the type doesn't name, what 64 bits don't hold, and no octets: the value is taken.
+// A number that the type doesn't name, one wider than 64 bits, and no octets are refused, and the value is consumed.
 #[test]
 fn other_numbers_are_no_colours(rt: HostRuntime) {
-    const OCTETS: &[u8] = &[
+    const THREE_NO_COLOURS: &[u8] = &[
         0x0A, 0x01, 0x03, 0x0A, 0x09, 0x00, 0x80, 0x00, 0x00, 0x00, 0x00, 0x00, 0x00, 0x00, 0x0A,
         0x00,
     ];
-    let mut decoder = decoder_of(rt.alloc(), OCTETS, Codec::Ber);
+    let mut decoder = decoder_of(rt.alloc(), THREE_NO_COLOURS, Codec::Ber);
     for (text, left) in NO_COLOURS {
         let answer = Colour::decode(&mut decoder);
-        told(&rt, rt.alloc(), Codec::Ber, answer, text);
+        assert_answer(&rt, rt.alloc(), Codec::Ber, answer, text);
         assert!(rt; decoder.remaining().len() == *left);
     }
 }

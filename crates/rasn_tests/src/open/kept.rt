@@ -1,6 +1,11 @@
-use super::{ONE, any_of, deep};
-use crate::reading::{Octets, OctetsRow, decoder_of, gives, reads, reads_octets, told};
-use crate::whole::begins;
+//! Open types are decoded: without a tag as one whole encoding (X.690 8.15), under a tag as what the tag holds (8.14).
+
+use super::{TAG_1, any_of, deep};
+use crate::reading::{
+    Octets, OctetsRow, assert_answer, assert_has_octets, assert_reads, assert_reads_octets,
+    decoder_of,
+};
+use crate::whole::assert_decodes_with_remainder;
 use crate::writing::made;
 use rasn::de::Decode;
 use rasn::types::{Any, Codec};
@@ -13,7 +18,7 @@ impl Octets for Any {
     }
 }
 
-// Two are equal exactly if their octets are.
+// Open types are equal exactly if their octets are.
 #[test]
 fn holds_octets(rt: HostRuntime) {
     let alloc = rt.alloc();
@@ -28,9 +33,9 @@ fn holds_octets(rt: HostRuntime) {
 #[test]
 fn keeps_whole_encodings(rt: HostRuntime) {
     let alloc = rt.alloc();
-    const WHOLE: &str =
+    const ANY_AND_REST: &str =
         "(Any { octets: [48, 128, 48, 128, 2, 1, 1, 0, 0, 4, 1, 0, 0, 0] }, [2, 1, 2])";
-    begins::<Any>(
+    assert_decodes_with_remainder::<Any>(
         &rt,
         alloc,
         &[(
@@ -39,10 +44,10 @@ fn keeps_whole_encodings(rt: HostRuntime) {
                 0x02, 0x01, 0x02,
             ],
             Codec::Ber,
-            WHOLE,
+            ANY_AND_REST,
         )],
     );
-    reads_octets::<Any>(
+    assert_reads_octets::<Any>(
         &rt,
         alloc,
         &[
@@ -62,12 +67,12 @@ fn keeps_whole_encodings(rt: HostRuntime) {
     );
 }
 
-// A fault inside is one of the whole, which isn't taken.
+// A fault inside consumes nothing.
 #[test]
 fn refuses_broken_encodings(rt: HostRuntime) {
-    const END: &str = "CodecSpecific { inner: Ber(UnexpectedEndOfContents) }";
-    const OPEN: &str = "CodecSpecific { inner: Ber(IndefiniteLengthNotAllowed) }";
-    reads::<Any>(
+    const END_OF_CONTENTS: &str = "CodecSpecific { inner: Ber(UnexpectedEndOfContents) }";
+    const INDEFINITE_LENGTH: &str = "CodecSpecific { inner: Ber(IndefiniteLengthNotAllowed) }";
+    assert_reads::<Any>(
         &rt,
         rt.alloc(),
         &[
@@ -77,26 +82,26 @@ fn refuses_broken_encodings(rt: HostRuntime) {
                 "Incomplete { needed: Size(1) }",
                 0,
             ),
-            (&[0x30, 0x80, 0x00], Codec::Ber, END, 0),
-            (&[0x00, 0x00], Codec::Ber, END, 0),
-            (&[0x30, 0x80, 0x00, 0x00], Codec::Der, OPEN, 0),
+            (&[0x30, 0x80, 0x00], Codec::Ber, END_OF_CONTENTS, 0),
+            (&[0x00, 0x00], Codec::Ber, END_OF_CONTENTS, 0),
+            (&[0x30, 0x80, 0x00, 0x00], Codec::Der, INDEFINITE_LENGTH, 0),
         ],
     );
 }
 
-/// Reads an open type of the tag \[1\] from each row's octets, and holds its octets and what is taken against the row.
-fn reads_tagged(rt: &impl Abort, alloc: Global, rows: &[OctetsRow]) {
-    for (octets, rules, found, taken) in rows {
+/// Asserts which octets an open type under the tag \[1\] keeps of each row's octets, and how many are consumed.
+fn assert_reads_tagged(rt: &impl Abort, alloc: Global, rows: &[OctetsRow]) {
+    for (octets, rules, found, consumed) in rows {
         let mut decoder = decoder_of(alloc, octets, *rules);
-        gives(rt, decoder.decode_any(ONE), found);
-        assert!(rt; decoder.decoded_len() == *taken, "{octets:?} {rules:?}");
+        assert_has_octets(rt, decoder.decode_any(TAG_1), found);
+        assert!(rt; decoder.decoded_len() == *consumed, "{octets:?} {rules:?}");
     }
 }
 
-// A tag of its own stands round the value, and isn't kept, nor are its end-of-contents octets (X.690 8.14.2).
+// A tag stands round the open type and isn't kept, nor are its end-of-contents octets (X.690 8.14.2).
 #[test]
 fn keeps_what_a_tag_holds(rt: HostRuntime) {
-    reads_tagged(
+    assert_reads_tagged(
         &rt,
         rt.alloc(),
         &[
@@ -119,17 +124,23 @@ fn keeps_what_a_tag_holds(rt: HostRuntime) {
     );
 }
 
-// DER holds the tag of its own to be constructed, as it is written (X.690 8.14.3).
+// Under DER a tag round an open type is constructed (X.690 8.14.3).
 #[test]
 fn der_refuses_a_primitive_tag(rt: HostRuntime) {
     let alloc = rt.alloc();
     let mut decoder = decoder_of(alloc, &[0x81, 0x02, 0x05, 0x00], Codec::Der);
-    const KIND: &str = "CodecSpecific { inner: Der(ConstructedBitMismatch) }";
-    told(&rt, alloc, Codec::Der, decoder.decode_any(ONE), KIND);
+    const CONSTRUCTED_BIT: &str = "CodecSpecific { inner: Der(ConstructedBitMismatch) }";
+    assert_answer(
+        &rt,
+        alloc,
+        Codec::Der,
+        decoder.decode_any(TAG_1),
+        CONSTRUCTED_BIT,
+    );
     assert!(rt; decoder.decoded_len() == 0);
 }
 
-// No level is kept in memory, so there may be any number.
+// No level is kept in memory, so values may be in one another to any depth.
 #[test]
 fn keeps_a_million_levels(rt: HostRuntime) {
     let alloc = rt.alloc();

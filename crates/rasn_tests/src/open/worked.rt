@@ -1,4 +1,6 @@
-use crate::whole::{answers, rewrites};
+//! AlgorithmIdentifier, AttributeTypeAndValue and RelativeDistinguishedName, whose last component is an open type (X.690 8.15).
+
+use crate::whole::{assert_decodes, assert_rewrites};
 use rasn::types::Codec;
 use rasn_bench::{AlgorithmIdentifier, AttributeTypeAndValue, RelativeDistinguishedName};
 
@@ -7,8 +9,8 @@ const RSA: [u8; 15] = [
     0x30, 0x0D, 0x06, 0x09, 0x2A, 0x86, 0x48, 0x86, 0xF7, 0x0D, 0x01, 0x01, 0x01, 0x05, 0x00,
 ];
 
-/// The same in the indefinite form.
-const RSA_INDEFINITE: [u8; 17] = [
+/// The algorithm rsaEncryption with NULL as its parameters, of indefinite length as CER writes it.
+const RSA_IN_CER: [u8; 17] = [
     0x30, 0x80, 0x06, 0x09, 0x2A, 0x86, 0x48, 0x86, 0xF7, 0x0D, 0x01, 0x01, 0x01, 0x05, 0x00, 0x00,
     0x00,
 ];
@@ -16,43 +18,43 @@ const RSA_INDEFINITE: [u8; 17] = [
 /// Ed25519, which has no parameters (RFC 8410, 3).
 const ED25519: [u8; 7] = [0x30, 0x05, 0x06, 0x03, 0x2B, 0x65, 0x70];
 
-/// commonName AB.
+/// A RelativeDistinguishedName with the commonName AB.
 const COMMON_NAME: [u8; 13] = [
     0x31, 0x0B, 0x30, 0x09, 0x06, 0x03, 0x55, 0x04, 0x03, 0x0C, 0x02, 0x41, 0x42,
 ];
 
-// The open type is all that is left, where something is left (X.680 25.5).
+// The parameters are the open type that stands behind the algorithm, if one does (X.680 25.5).
 #[test]
 fn algorithms_may_have_parameters(rt: HostRuntime) {
     let rsa =
         "AlgorithmIdentifier { algorithm: ObjectIdentifier { arcs: [1, 2, 840, 113549, 1, 1, 1] }, parameters: Some(Any { octets: [5, 0] }) }";
     let ed25519 =
         "AlgorithmIdentifier { algorithm: ObjectIdentifier { arcs: [1, 3, 101, 112] }, parameters: None }";
-    answers::<AlgorithmIdentifier>(
+    assert_decodes::<AlgorithmIdentifier>(
         &rt,
         rt.alloc(),
         &[
             (&RSA, Codec::Der, rsa),
-            (&RSA_INDEFINITE, Codec::Ber, rsa),
+            (&RSA_IN_CER, Codec::Ber, rsa),
             (&ED25519, Codec::Der, ed25519),
         ],
     );
-    rewrites::<AlgorithmIdentifier>(
+    assert_rewrites::<AlgorithmIdentifier>(
         &rt,
         rt.alloc(),
         &[
             (&RSA, Codec::Der, Codec::Der, &RSA),
-            (&RSA, Codec::Ber, Codec::Cer, &RSA_INDEFINITE),
-            (&RSA_INDEFINITE, Codec::Cer, Codec::Der, &RSA),
+            (&RSA, Codec::Ber, Codec::Cer, &RSA_IN_CER),
+            (&RSA_IN_CER, Codec::Cer, Codec::Der, &RSA),
             (&ED25519, Codec::Ber, Codec::Der, &ED25519),
         ],
     );
 }
 
-// A second value behind the parameters is too much.
+// Octets behind the parameters are refused.
 #[test]
 fn parameters_are_one_value(rt: HostRuntime) {
-    answers::<AlgorithmIdentifier>(
+    assert_decodes::<AlgorithmIdentifier>(
         &rt,
         rt.alloc(),
         &[(
@@ -68,8 +70,12 @@ fn names_are_sets_of_attributes(rt: HostRuntime) {
     let alloc = rt.alloc();
     let attribute =
         "AttributeTypeAndValue { kind: ObjectIdentifier { arcs: [2, 5, 4, 3] }, value: Any { octets: [12, 2, 65, 66] } }";
-    answers::<AttributeTypeAndValue>(&rt, alloc, &[(&COMMON_NAME[2..], Codec::Der, attribute)]);
-    rewrites::<RelativeDistinguishedName>(
+    assert_decodes::<AttributeTypeAndValue>(
+        &rt,
+        alloc,
+        &[(&COMMON_NAME[2..], Codec::Der, attribute)],
+    );
+    assert_rewrites::<RelativeDistinguishedName>(
         &rt,
         alloc,
         &[(&COMMON_NAME, Codec::Der, Codec::Der, &COMMON_NAME)],

@@ -1,8 +1,12 @@
+//! Open types are encoded: without a tag as their octets alone (X.690 8.15), under a tag as a constructed value (8.14.2), and in a SET only
+//! under a tag (9.3, 10.3).
 ghost use Rattle.rasn_enc.specs.View.{LeavesOthers};
 
-use super::{ONE, any_of};
+use super::{TAG_1, any_of};
 use crate::types::{ApplicationTag, ContextTag, Three};
-use crate::writing::{done, holds, made, new_encoder, new_set_encoder, refused};
+use crate::writing::{
+    assert_output, assert_refuses, assert_written, made, new_encoder, new_set_encoder,
+};
 use rasn::ber::enc::Encoder;
 use rasn::enc::Encode;
 use rasn::error::EncodeError;
@@ -11,57 +15,71 @@ use rasn_bench::Set3;
 use std::alloc::{AllocError, Global};
 use std::process::Abort;
 
-/// The kind of a refusal of bare octets in a set.
-const BARE: &str = "CodecSpecific { inner: Ber(AnyInSet) }";
+/// The kind of the refusal of an open type without a tag in a SET.
+const ANY_IN_SET: &str = "CodecSpecific { inner: Ber(AnyInSet) }";
 
 /// \[N\] INTEGER (0..255)
 type At<const N: u32> = Implicit<ContextTag<N>, u8>;
 
-/// Writes an open type that holds these octets, with this tag or with none, and holds what is written against the others.
-fn writes_open(rt: &impl Abort, alloc: Global, rules: Codec, tag: Tag, held: &[u8], octets: &[u8]) {
+/// Asserts what is written of an open type that holds these octets, under this tag or under none.
+fn assert_writes_open(
+    rt: &impl Abort,
+    alloc: Global,
+    rules: Codec,
+    tag: Tag,
+    held: &[u8],
+    octets: &[u8],
+) {
     let any = made(rt, any_of(alloc, held));
     let mut encoder = new_encoder(rt, alloc, rules);
-    done(rt, encoder.encode_any(tag, &any, Identifier::EMPTY));
-    holds(rt, encoder.output(), octets);
+    assert_written(rt, encoder.encode_any(tag, &any, Identifier::EMPTY));
+    assert_output(rt, encoder.output(), octets);
 }
 
-// Without a tag the octets are written alone (X.690 8.15), also where no identifier begins them.
+// Without a tag the octets are written alone (X.690 8.15), whether an identifier begins them or not.
 #[test]
 fn writes_octets_alone(rt: HostRuntime) {
     let alloc = rt.alloc();
     for rules in [Codec::Ber, Codec::Cer, Codec::Der] {
-        writes_open(&rt, alloc, rules, Tag::EOC, &[0x05, 0x00], &[0x05, 0x00]);
-        writes_open(&rt, alloc, rules, Tag::EOC, &[0x1F], &[0x1F]);
-        writes_open(&rt, alloc, rules, Tag::EOC, &[], &[]);
-        writes_open(&rt, alloc, rules, ONE, &[], &[]);
+        assert_writes_open(&rt, alloc, rules, Tag::EOC, &[0x05, 0x00], &[0x05, 0x00]);
+        assert_writes_open(&rt, alloc, rules, Tag::EOC, &[0x1F], &[0x1F]);
+        assert_writes_open(&rt, alloc, rules, Tag::EOC, &[], &[]);
+        assert_writes_open(&rt, alloc, rules, TAG_1, &[], &[]);
     }
 }
 
-// A tag stands round the octets as that of a constructed value (X.690 8.14.2), in the form of the rules (9.1, 10.1).
+// A tag stands round the octets as that of a constructed value (X.690 8.14.2), of indefinite length under CER (9.1, 10.1).
 #[test]
 fn writes_tags_round_octets(rt: HostRuntime) {
     let alloc = rt.alloc();
-    const DEFINITE: &[u8] = &[0xA1, 0x02, 0x05, 0x00];
-    writes_open(&rt, alloc, Codec::Ber, ONE, &[0x05, 0x00], DEFINITE);
-    writes_open(&rt, alloc, Codec::Der, ONE, &[0x05, 0x00], DEFINITE);
-    const INDEFINITE: &[u8] = &[0xA1, 0x80, 0x05, 0x00, 0x00, 0x00];
-    writes_open(&rt, alloc, Codec::Cer, ONE, &[0x05, 0x00], INDEFINITE);
+    const TAGGED_NULL: &[u8] = &[0xA1, 0x02, 0x05, 0x00];
+    assert_writes_open(&rt, alloc, Codec::Ber, TAG_1, &[0x05, 0x00], TAGGED_NULL);
+    assert_writes_open(&rt, alloc, Codec::Der, TAG_1, &[0x05, 0x00], TAGGED_NULL);
+    const TAGGED_NULL_IN_CER: &[u8] = &[0xA1, 0x80, 0x05, 0x00, 0x00, 0x00];
+    assert_writes_open(
+        &rt,
+        alloc,
+        Codec::Cer,
+        TAG_1,
+        &[0x05, 0x00],
+        TAGGED_NULL_IN_CER,
+    );
 }
 
-// Where tags are kept, octets without one can't be put in order (X.690 9.3, 10.3).
+// In a SET octets without a tag can't be put in order (X.690 9.3, 10.3).
 #[test]
 fn refuses_bare_octets_where_tags_are_kept(rt: HostRuntime) {
     let alloc = rt.alloc();
     let any = made(&rt, any_of(alloc, &[0x05, 0x00]));
     for rules in [Codec::Ber, Codec::Cer, Codec::Der] {
         let mut encoder = new_set_encoder(&rt, alloc, rules);
-        done(&rt, true.encode(&mut encoder));
-        refused(&rt, alloc, rules, any.encode(&mut encoder), BARE);
-        holds(&rt, encoder.output(), &[0x01, 0x01, 0xFF]);
+        assert_written(&rt, true.encode(&mut encoder));
+        assert_refuses(&rt, alloc, rules, any.encode(&mut encoder), ANY_IN_SET);
+        assert_output(&rt, encoder.output(), &[0x01, 0x01, 0xFF]);
     }
 }
 
-/// A SET of three that ends with these octets, which have no tag there.
+/// A SET of three components, the last of them an open type without a tag that holds these octets.
 fn ends_open(alloc: Global, octets: &[u8]) -> Result<Option<Three<At<0>, At<1>, Any>>, AllocError> {
     let octets = Vec::from_slice(alloc, octets)?;
     Ok(Some(Three {
@@ -71,18 +89,18 @@ fn ends_open(alloc: Global, octets: &[u8]) -> Result<Option<Three<At<0>, At<1>, 
     }))
 }
 
-// So in a SET; but where there are none, nothing is written.
+// An open type without a tag is refused in a SET, but an empty one writes nothing and is in order.
 #[test]
 fn refuses_bare_octets_in_sets(rt: HostRuntime) {
     let alloc = rt.alloc();
     let full = made(&rt, ends_open(alloc, &[0x05, 0x00]));
     let empty = made(&rt, ends_open(alloc, &[]));
-    const OCTETS: &[u8] = &[0x31, 0x06, 0x80, 0x01, 0x01, 0x81, 0x01, 0x02];
+    const TWO_COMPONENTS: &[u8] = &[0x31, 0x06, 0x80, 0x01, 0x01, 0x81, 0x01, 0x02];
     for rules in [Codec::Ber, Codec::Der] {
         let mut encoder = new_encoder(&rt, alloc, rules);
-        refused(&rt, alloc, rules, full.encode(&mut encoder), BARE);
-        done(&rt, empty.encode(&mut encoder));
-        holds(&rt, encoder.output(), OCTETS);
+        assert_refuses(&rt, alloc, rules, full.encode(&mut encoder), ANY_IN_SET);
+        assert_written(&rt, empty.encode(&mut encoder));
+        assert_output(&rt, encoder.output(), TWO_COMPONENTS);
     }
 }
 
@@ -133,10 +151,10 @@ fn writes_open_types_in_sets(rt: HostRuntime) {
     let alloc = rt.alloc();
     let value = made(&rt, components(alloc));
     let mut encoder = new_encoder(&rt, alloc, Codec::Der);
-    done(&rt, put_four(&mut encoder, &value));
-    const OCTETS: &[u8] = &[
+    assert_written(&rt, put_four(&mut encoder, &value));
+    const FOUR_COMPONENTS: &[u8] = &[
         0x31, 0x16, 0x31, 0x06, 0x80, 0x01, 0x01, 0x81, 0x01, 0x02, 0x40, 0x01, 0x07, 0xA2, 0x02,
         0x05, 0x00, 0xA3, 0x05, 0x30, 0x03, 0x02, 0x01, 0x09,
     ];
-    holds(&rt, encoder.output(), OCTETS);
+    assert_output(&rt, encoder.output(), FOUR_COMPONENTS);
 }

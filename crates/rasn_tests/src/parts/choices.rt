@@ -1,6 +1,7 @@
+//! A CHOICE is encoded as its alternative (X.690 8.13).
 ghost use Rattle.rasn_enc.specs.View.{Extends};
 
-use crate::writing::{done, holds, new_encoder, refused};
+use crate::writing::{assert_output, assert_refuses, assert_written, new_encoder};
 use rasn_enc::ber::enc::Encoder;
 use rasn_types::error::{EncodeError, EncodeErrorKind};
 use rasn_types::types::{Codec, Constraints, Identifier, Tag};
@@ -20,7 +21,7 @@ fn choose_true(encoder: &mut Encoder) -> Result<(), EncodeError> {
     )
 }
 
-/// Refuses, after FALSE is written as the alternative.
+/// Writes FALSE as the alternative of a CHOICE, and then refuses.
 fn choose_nothing(encoder: &mut Encoder) -> Result<(), EncodeError> {
     encoder.encode_choice::<bool, _>(
         &Constraints::NONE,
@@ -41,18 +42,18 @@ fn choose_nothing(encoder: &mut Encoder) -> Result<(), EncodeError> {
 #[test]
 fn writes_choices(rt: HostRuntime) {
     let mut encoder = new_encoder(&rt, rt.alloc(), Codec::Der);
-    done(&rt, choose_true(&mut encoder));
-    holds(&rt, encoder.output(), &[0x01, 0x01, 0xFF]);
+    assert_written(&rt, choose_true(&mut encoder));
+    assert_output(&rt, encoder.output(), &[0x01, 0x01, 0xFF]);
 }
 
-// What the closure writes before it refuses is taken back.
+// What a closure writes before it refuses is removed.
 #[test]
 fn a_refused_choice_leaves_no_octets(rt: HostRuntime) {
     let alloc = rt.alloc();
     let mut encoder = new_encoder(&rt, alloc, Codec::Der);
     let answer = encoder.encode_bool(Tag::BOOL, true, Identifier::EMPTY);
-    done(&rt, answer);
+    assert_written(&rt, answer);
     let answer = choose_nothing(&mut encoder);
-    refused(&rt, alloc, Codec::Der, answer, "RealNotSupported");
-    holds(&rt, encoder.output(), &[0x01, 0x01, 0xFF]);
+    assert_refuses(&rt, alloc, Codec::Der, answer, "RealNotSupported");
+    assert_output(&rt, encoder.output(), &[0x01, 0x01, 0xFF]);
 }

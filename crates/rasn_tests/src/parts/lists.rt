@@ -1,5 +1,8 @@
+//! SEQUENCE OF is encoded (X.690 8.10), of definite length but under CER (9.1).
+
 use crate::writing::{
-    done, holds, identifier_of, made, new_encoder, refused, repeated, writes_made, writes_pieces,
+    assert_output, assert_refuses, assert_writes_made, assert_writes_pieces, assert_written,
+    identifier_of, made, new_encoder, repeated,
 };
 use rasn_enc::enc::Encode;
 use rasn_types::types::{
@@ -8,7 +11,7 @@ use rasn_types::types::{
 use std::alloc::{AllocError, Global};
 
 /// SIZE (2..2)
-const PAIR: Constraints = Constraints {
+const SIZE_2: Constraints = Constraints {
     value: None,
     size: Some(Bound {
         constraint: Bounded::Range {
@@ -55,28 +58,34 @@ fn identifiers(
     Ok(Some(identifiers))
 }
 
-// A constructed value is definite, but for CER (X.690 9.1).
+// A constructed value is of definite length, but under CER (X.690 9.1).
 #[test]
 fn writes_lists(rt: HostRuntime) {
     let alloc = rt.alloc();
-    const DEFINITE: &[u8] = &[0x30, 0x06, 0x02, 0x01, 0x05, 0x02, 0x01, 0x07];
-    const INDEFINITE: &[u8] = &[0x30, 0x80, 0x02, 0x01, 0x05, 0x02, 0x01, 0x07, 0x00, 0x00];
-    writes_made(&rt, alloc, Codec::Ber, numbers(alloc, &[5, 7]), DEFINITE);
-    writes_made(&rt, alloc, Codec::Der, numbers(alloc, &[5, 7]), DEFINITE);
-    writes_made(&rt, alloc, Codec::Cer, numbers(alloc, &[5, 7]), INDEFINITE);
-    writes_made(&rt, alloc, Codec::Der, numbers(alloc, &[]), &[0x30, 0x00]);
+    const FIVE_SEVEN: &[u8] = &[0x30, 0x06, 0x02, 0x01, 0x05, 0x02, 0x01, 0x07];
+    const FIVE_SEVEN_IN_CER: &[u8] = &[0x30, 0x80, 0x02, 0x01, 0x05, 0x02, 0x01, 0x07, 0x00, 0x00];
+    assert_writes_made(&rt, alloc, Codec::Ber, numbers(alloc, &[5, 7]), FIVE_SEVEN);
+    assert_writes_made(&rt, alloc, Codec::Der, numbers(alloc, &[5, 7]), FIVE_SEVEN);
+    assert_writes_made(
+        &rt,
+        alloc,
+        Codec::Cer,
+        numbers(alloc, &[5, 7]),
+        FIVE_SEVEN_IN_CER,
+    );
+    assert_writes_made(&rt, alloc, Codec::Der, numbers(alloc, &[]), &[0x30, 0x00]);
     assert!(rt; made(&rt, numbers(alloc, &[])).is_present());
 }
 
-// Each header tells a length of more than 255 octets.
+// Each of the headers has a length of more than 255 octets.
 #[test]
 fn writes_lists_of_lists(rt: HostRuntime) {
     let alloc = rt.alloc();
-    const HEADER: &[u8] = &[
+    const THREE_HEADERS: &[u8] = &[
         0x30, 0x82, 0x01, 0x08, 0x30, 0x82, 0x01, 0x04, 0x04, 0x82, 0x01, 0x00,
     ];
-    let pieces = [(HEADER, 0xAB, 256)];
-    writes_pieces(&rt, alloc, Codec::Der, lists(alloc, 0xAB, 256), &pieces);
+    let pieces = [(THREE_HEADERS, 0xAB, 256)];
+    assert_writes_pieces(&rt, alloc, Codec::Der, lists(alloc, 0xAB, 256), &pieces);
 }
 
 #[test]
@@ -84,16 +93,16 @@ fn calls_write_lists(rt: HostRuntime) {
     let alloc = rt.alloc();
     let mut encoder = new_encoder(&rt, alloc, Codec::Der);
     let zero = Tag::new(Class::Context, 0);
-    let answer = encoder.encode_sequence_of::<u8>(zero, &[5, 7], &PAIR, Identifier::EMPTY);
-    done(&rt, answer);
+    let answer = encoder.encode_sequence_of::<u8>(zero, &[5, 7], &SIZE_2, Identifier::EMPTY);
+    assert_written(&rt, answer);
     let three = Tag::new(Class::Context, 3);
     let nine = made(&rt, numbers(alloc, &[9]));
     let answer = encoder.encode_explicit_prefix(three, &nine, Identifier::EMPTY);
-    done(&rt, answer);
-    const OCTETS: &[u8] = &[
+    assert_written(&rt, answer);
+    const FIVE_SEVEN_THEN_NINE: &[u8] = &[
         0xA0, 0x06, 0x02, 0x01, 0x05, 0x02, 0x01, 0x07, 0xA3, 0x05, 0x30, 0x03, 0x02, 0x01, 0x09,
     ];
-    holds(&rt, encoder.output(), OCTETS);
+    assert_output(&rt, encoder.output(), FIVE_SEVEN_THEN_NINE);
 }
 
 #[test]
@@ -101,27 +110,28 @@ fn refuses_sizes_of_lists(rt: HostRuntime) {
     let alloc = rt.alloc();
     let mut encoder = new_encoder(&rt, alloc, Codec::Der);
     let one = made(&rt, numbers(encoder.alloc(), &[5]));
-    let answer = one.encode_with_constraints(&mut encoder, &PAIR, Identifier::EMPTY);
+    let answer = one.encode_with_constraints(&mut encoder, &SIZE_2, Identifier::EMPTY);
     let kind =
         "SizeConstraintNotSatisfied { size: 1, expected: Range { start: Some(2), end: Some(2) } }";
-    refused(&rt, alloc, Codec::Der, answer, kind);
-    holds(&rt, encoder.output(), &[]);
+    assert_refuses(&rt, alloc, Codec::Der, answer, kind);
+    assert_output(&rt, encoder.output(), &[]);
 }
 
-// 1.2 has octets, and 0.40 has none (X.690 8.19.4).
+// The object identifier 1.2 has an encoding, and 0.40 has none (X.690 8.19.4).
 #[test]
 fn a_refused_element_takes_the_list_along(rt: HostRuntime) {
     let alloc = rt.alloc();
     let mut encoder = new_encoder(&rt, alloc, Codec::Der);
-    done(&rt, true.encode(&mut encoder));
+    assert_written(&rt, true.encode(&mut encoder));
     let identifiers = made(&rt, identifiers(alloc, &[&[1, 2], &[0, 40]]));
-    const KIND: &str = "CodecSpecific { inner: Ber(InvalidObjectIdentifier { oid: [0, 40] }) }";
-    refused(
+    const INVALID_0_40: &str =
+        "CodecSpecific { inner: Ber(InvalidObjectIdentifier { oid: [0, 40] }) }";
+    assert_refuses(
         &rt,
         alloc,
         Codec::Der,
         identifiers.encode(&mut encoder),
-        KIND,
+        INVALID_0_40,
     );
-    holds(&rt, encoder.output(), &[0x01, 0x01, 0xFF]);
+    assert_output(&rt, encoder.output(), &[0x01, 0x01, 0xFF]);
 }

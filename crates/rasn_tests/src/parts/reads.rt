@@ -1,6 +1,8 @@
-//! Optional and default values, prefixes and extension additions are read.
+//! Components that are OPTIONAL or DEFAULT (X.690 8.9.3), explicit and implicit tags (8.14) and extension additions are decoded.
 
-use crate::reading::{decoder_of, facts, reads, reads_default, told, within};
+use crate::reading::{
+    assert_answer, assert_facts, assert_reads, assert_reads_default, decoder_of, within,
+};
 use crate::types::{Counted, Zero};
 use rasn_de::ber::de::Decoder;
 use rasn_de::de::{Decode, Error};
@@ -8,7 +10,7 @@ use rasn_types::error::DecodeError;
 use rasn_types::types::{Class, Codec, Constraints, Explicit, Implicit, Tag};
 use std::alloc::AllocError;
 
-const SMALLER_THAN_11: &str =
+const ELEVEN_IS_TOO_LARGE: &str =
     "ValueConstraintNotSatisfied { value: Integer { octets: [11] }, expected: Range { start: Some(0), end: Some(10) } }";
 
 fn context(value: u32) -> Tag {
@@ -20,13 +22,13 @@ fn small() -> Constraints {
     within(0, 10)
 }
 
-// Where the contents end or another tag comes there is no value, and what comes stays. End-of-contents octets end contents under BER
+// There is no value where the contents end or another tag comes, and nothing is consumed. End-of-contents octets end contents under BER
 // and CER (X.690 8.1.5).
 #[test]
 fn leaves_what_is_no_value(rt: HostRuntime) {
     const END_OF_CONTENTS: &str = "CodecSpecific { inner: Ber(UnexpectedEndOfContents) }";
-    const WIDE: &str = "CodecSpecific { inner: Ber(UnsupportedTagNumber) }";
-    reads::<Option<bool>>(
+    const WIDE_TAG_NUMBER: &str = "CodecSpecific { inner: Ber(UnsupportedTagNumber) }";
+    assert_reads::<Option<bool>>(
         &rt,
         rt.alloc(),
         &[
@@ -36,7 +38,12 @@ fn leaves_what_is_no_value(rt: HostRuntime) {
             (&[0x02, 0x01, 0x05], Codec::Ber, "None", 0),
             (&[], Codec::Der, "None", 0),
             (&[0x01, 0x01, 0xFF], Codec::Der, "Some(true)", 3),
-            (&[0x1F, 0x90, 0x80, 0x80, 0x80, 0x00], Codec::Ber, WIDE, 0),
+            (
+                &[0x1F, 0x90, 0x80, 0x80, 0x80, 0x00],
+                Codec::Ber,
+                WIDE_TAG_NUMBER,
+                0,
+            ),
             (
                 &[0x1F, 0x81],
                 Codec::Ber,
@@ -55,16 +62,16 @@ fn is_number(answer: Result<Option<u8>, DecodeError>, number: Option<u8>) -> boo
     }
 }
 
-// Each call reads a value, and none at the end.
+// Each call reads a value, and at the end there is none.
 #[test]
 fn reads_optional_values(rt: HostRuntime) {
-    const OCTETS: &[u8] = &[
+    const FIVE_VALUES: &[u8] = &[
         0x02, 0x01, 0x05, 0x80, 0x01, 0x05, 0x02, 0x01, 0x0A, 0x81, 0x01, 0x0A, 0xA2, 0x03, 0x02,
         0x01, 0x05,
     ];
-    let mut decoder = decoder_of(rt.alloc(), OCTETS, Codec::Der);
+    let mut decoder = decoder_of(rt.alloc(), FIVE_VALUES, Codec::Der);
     let small = small();
-    facts(
+    assert_facts(
         &rt,
         &[
             is_number(decoder.decode_optional(), Some(5)),
@@ -88,19 +95,19 @@ fn reads_optional_values(rt: HostRuntime) {
     );
 }
 
-// An optional value that comes has to meet its constraints.
+// An OPTIONAL value that is there has to meet its constraints.
 #[test]
 fn constrains_optional_values(rt: HostRuntime) {
     let mut decoder = decoder_of(rt.alloc(), &[0x02, 0x01, 0x0B], Codec::Der);
     let answer = decoder.decode_optional_with_constraints::<u8>(&small());
-    told(&rt, rt.alloc(), Codec::Der, answer, SMALLER_THAN_11);
+    assert_answer(&rt, rt.alloc(), Codec::Der, answer, ELEVEN_IS_TOO_LARGE);
     assert!(rt; decoder.decoded_len() == 3);
 }
 
-// INTEGER DEFAULT 7, where it comes, at the end, and before another tag.
+// An INTEGER DEFAULT 7 is the number that is there, and 7 at the end and before another tag.
 #[test]
 fn reads_defaults(rt: HostRuntime) {
-    reads_default(
+    assert_reads_default(
         &rt,
         rt.alloc(),
         &[
@@ -112,59 +119,64 @@ fn reads_defaults(rt: HostRuntime) {
     );
 }
 
-// Each call reads a value, and its default at the end.
+// Each call reads a value, and at the end it answers the default.
 #[test]
 fn reads_tagged_defaults(rt: HostRuntime) {
-    const OCTETS: &[u8] = &[0x80, 0x01, 0x05, 0x02, 0x01, 0x0A, 0x81, 0x01, 0x0A];
-    let mut decoder = decoder_of(rt.alloc(), OCTETS, Codec::Der);
+    const THREE_VALUES: &[u8] = &[0x80, 0x01, 0x05, 0x02, 0x01, 0x0A, 0x81, 0x01, 0x0A];
+    let mut decoder = decoder_of(rt.alloc(), THREE_VALUES, Codec::Der);
     let answer = decoder.decode_default_with_tag::<u8, _>(context(0), || Ok(7));
-    told(&rt, rt.alloc(), Codec::Der, answer, "5");
+    assert_answer(&rt, rt.alloc(), Codec::Der, answer, "5");
     let answer = decoder.decode_default_with_constraints::<u8, _>(|| Ok(7), &small());
-    told(&rt, rt.alloc(), Codec::Der, answer, "10");
+    assert_answer(&rt, rt.alloc(), Codec::Der, answer, "10");
     let answer = decoder.decode_default_with_tag_and_constraints::<u8, _>(
         context(1),
         || Ok(7),
         &small(),
     );
-    told(&rt, rt.alloc(), Codec::Der, answer, "10");
+    assert_answer(&rt, rt.alloc(), Codec::Der, answer, "10");
     assert!(rt; decoder.remaining().is_empty());
     let answer = decoder.decode_default_with_tag::<u8, _>(context(0), || Ok(7));
-    told(&rt, rt.alloc(), Codec::Der, answer, "7");
+    assert_answer(&rt, rt.alloc(), Codec::Der, answer, "7");
 }
 
 #[test]
 fn tells_that_a_default_has_no_memory(rt: HostRuntime) {
     let mut decoder = decoder_of(rt.alloc(), &[0x01, 0x01, 0xFF], Codec::Ber);
     let answer = decoder.decode_default::<u8, _>(|| Err(AllocError));
-    told(&rt, rt.alloc(), Codec::Ber, answer, "OutOfMemory");
+    assert_answer(&rt, rt.alloc(), Codec::Ber, answer, "OutOfMemory");
     assert!(rt; decoder.decoded_len() == 0);
 }
 
-// No contents and a default that is there are the same value.
+// A default that is left out and one that is there are one value.
 #[test]
 fn reads_a_default_in_a_sequence(rt: HostRuntime) {
     const SEVEN: &str = "Counted { number: 7 }";
-    const MORE: &str = "UnexpectedExtraData { length: 3 }";
-    reads::<Counted>(
+    const THREE_OCTETS_LEFT: &str = "UnexpectedExtraData { length: 3 }";
+    assert_reads::<Counted>(
         &rt,
         rt.alloc(),
         &[
             (&[0x30, 0x00], Codec::Ber, SEVEN, 2),
             (&[0x30, 0x03, 0x02, 0x01, 0x07], Codec::Ber, SEVEN, 5),
             (&[0x30, 0x80, 0x00, 0x00], Codec::Ber, SEVEN, 4),
-            (&[0x30, 0x03, 0x01, 0x01, 0xFF], Codec::Ber, MORE, 5),
+            (
+                &[0x30, 0x03, 0x01, 0x01, 0xFF],
+                Codec::Ber,
+                THREE_OCTETS_LEFT,
+                5,
+            ),
         ],
     );
 }
 
-// A group of additions is there, or is left out.
+// A group of extension additions may be left out.
 #[test]
 fn reads_a_group(rt: HostRuntime) {
-    const OCTETS: &[u8] = &[0x30, 0x03, 0x02, 0x01, 0x05, 0x02, 0x01, 0x07];
-    let mut decoder = decoder_of(rt.alloc(), OCTETS, Codec::Der);
+    const GROUP_THEN_SEVEN: &[u8] = &[0x30, 0x03, 0x02, 0x01, 0x05, 0x02, 0x01, 0x07];
+    let mut decoder = decoder_of(rt.alloc(), GROUP_THEN_SEVEN, Codec::Der);
     for text in &["Some(Counted { number: 5 })", "None"] {
         let answer = decoder.decode_extension_addition_group::<1, 0, Counted>();
-        told(&rt, rt.alloc(), Codec::Der, answer, text);
+        assert_answer(&rt, rt.alloc(), Codec::Der, answer, text);
     }
     assert!(rt; decoder.decoded_len() == 5);
 }
@@ -179,12 +191,12 @@ fn prefixed_addition(decoder: &mut Decoder<'_>) -> Result<Option<u8>, DecodeErro
     decoder.decode_extension_addition_with_explicit_tag_and_constraints(context(0), &small())
 }
 
-// An addition under a tag of its own may be left out; one in an explicit prefix has to be there. Constraints are ignored.
+// An addition under a tag may be left out; one in an explicit prefix has to be there. Constraints are ignored.
 #[test]
 fn reads_additions(rt: HostRuntime) {
-    const OCTETS: &[u8] = &[0x81, 0x01, 0x0B, 0xA0, 0x03, 0x02, 0x01, 0x05];
-    let mut decoder = decoder_of(rt.alloc(), OCTETS, Codec::Der);
-    facts(
+    const ELEVEN_THEN_FIVE: &[u8] = &[0x81, 0x01, 0x0B, 0xA0, 0x03, 0x02, 0x01, 0x05];
+    let mut decoder = decoder_of(rt.alloc(), ELEVEN_THEN_FIVE, Codec::Der);
+    assert_facts(
         &rt,
         &[
             is_number(addition(&mut decoder), Some(11)),
@@ -192,40 +204,40 @@ fn reads_additions(rt: HostRuntime) {
             is_number(addition(&mut decoder), None),
         ],
     );
-    const MISSING: &str = "Incomplete { needed: Size(1) }";
+    const ONE_OCTET_MISSING: &str = "Incomplete { needed: Size(1) }";
     let mut ber = decoder_of(rt.alloc(), &[], Codec::Ber);
-    told(
+    assert_answer(
         &rt,
         rt.alloc(),
         Codec::Ber,
         prefixed_addition(&mut ber),
-        MISSING,
+        ONE_OCTET_MISSING,
     );
 }
 
-// [0] EXPLICIT INTEGER, with the constructed bit and without, of either length form.
+// An explicit tag is read with the constructed bit and without it, and of definite and indefinite length.
 #[test]
 fn reads_prefixes(rt: HostRuntime) {
-    const OCTETS: &[u8] = &[
+    const THREE_PREFIXES: &[u8] = &[
         0xA0, 0x03, 0x02, 0x01, 0x05, 0x80, 0x03, 0x02, 0x01, 0x05, 0xA0, 0x80, 0x02, 0x01, 0x05,
         0x00, 0x00,
     ];
-    let mut decoder = decoder_of(rt.alloc(), OCTETS, Codec::Ber);
-    for taken in &[5, 10, 17] {
+    let mut decoder = decoder_of(rt.alloc(), THREE_PREFIXES, Codec::Ber);
+    for consumed in &[5, 10, 17] {
         let answer = decoder.decode_explicit_prefix::<u8>(context(0));
-        told(&rt, rt.alloc(), Codec::Ber, answer, "5");
-        assert!(rt; decoder.decoded_len() == *taken);
+        assert_answer(&rt, rt.alloc(), Codec::Ber, answer, "5");
+        assert!(rt; decoder.decoded_len() == *consumed);
     }
 }
 
-// What stands behind the value inside is too much, and takes the prefix with it.
+// Octets behind the value inside a prefix are refused, and the prefix is consumed.
 #[test]
 fn holds_one_value(rt: HostRuntime) {
-    const OCTETS: &[u8] = &[0xA0, 0x05, 0x02, 0x01, 0x05, 0x05, 0x00, 0x01];
-    let mut decoder = decoder_of(rt.alloc(), OCTETS, Codec::Ber);
+    const FIVE_AND_NULL: &[u8] = &[0xA0, 0x05, 0x02, 0x01, 0x05, 0x05, 0x00, 0x01];
+    let mut decoder = decoder_of(rt.alloc(), FIVE_AND_NULL, Codec::Ber);
     let answer = decoder.decode_explicit_prefix::<u8>(context(0));
-    const MORE: &str = "UnexpectedExtraData { length: 2 }";
-    told(&rt, rt.alloc(), Codec::Ber, answer, MORE);
+    const TWO_OCTETS_LEFT: &str = "UnexpectedExtraData { length: 2 }";
+    assert_answer(&rt, rt.alloc(), Codec::Ber, answer, TWO_OCTETS_LEFT);
     assert!(rt; decoder.decoded_len() == 7);
 }
 
@@ -239,27 +251,27 @@ fn explicit(decoder: &mut Decoder<'_>) -> Result<u8, DecodeError> {
     Ok(*value)
 }
 
-// [0] IMPLICIT INTEGER and [0] EXPLICIT INTEGER, the latter without the constructed bit, which DER refuses (X.690 8.14.2), and with it.
+// The types are [0] IMPLICIT INTEGER and [0] EXPLICIT INTEGER. DER refuses the latter without the constructed bit (X.690 8.14.2).
 #[test]
 fn reads_under_named_tags(rt: HostRuntime) {
-    const OCTETS: &[u8] = &[
+    const IMPLICIT_AND_TWO_EXPLICIT: &[u8] = &[
         0x80, 0x01, 0x05, 0x80, 0x03, 0x02, 0x01, 0x05, 0xA0, 0x03, 0x02, 0x01, 0x05,
     ];
     for rules in &[Codec::Ber, Codec::Cer] {
-        let mut decoder = decoder_of(rt.alloc(), OCTETS, *rules);
-        told(&rt, rt.alloc(), *rules, implicit(&mut decoder), "5");
-        told(&rt, rt.alloc(), *rules, explicit(&mut decoder), "5");
-        told(&rt, rt.alloc(), *rules, explicit(&mut decoder), "5");
+        let mut decoder = decoder_of(rt.alloc(), IMPLICIT_AND_TWO_EXPLICIT, *rules);
+        assert_answer(&rt, rt.alloc(), *rules, implicit(&mut decoder), "5");
+        assert_answer(&rt, rt.alloc(), *rules, explicit(&mut decoder), "5");
+        assert_answer(&rt, rt.alloc(), *rules, explicit(&mut decoder), "5");
         assert!(rt; decoder.remaining().is_empty());
     }
 }
 
 #[test]
 fn reads_named_tags_by_der(rt: HostRuntime) {
-    const OCTETS: &[u8] = &[0x80, 0x01, 0x05, 0xA0, 0x03, 0x02, 0x01, 0x05];
-    let mut decoder = decoder_of(rt.alloc(), OCTETS, Codec::Der);
-    told(&rt, rt.alloc(), Codec::Der, implicit(&mut decoder), "5");
-    told(&rt, rt.alloc(), Codec::Der, explicit(&mut decoder), "5");
+    const IMPLICIT_AND_EXPLICIT: &[u8] = &[0x80, 0x01, 0x05, 0xA0, 0x03, 0x02, 0x01, 0x05];
+    let mut decoder = decoder_of(rt.alloc(), IMPLICIT_AND_EXPLICIT, Codec::Der);
+    assert_answer(&rt, rt.alloc(), Codec::Der, implicit(&mut decoder), "5");
+    assert_answer(&rt, rt.alloc(), Codec::Der, explicit(&mut decoder), "5");
     assert!(rt; decoder.remaining().is_empty());
 }
 
@@ -267,29 +279,35 @@ fn reads_named_tags_by_der(rt: HostRuntime) {
 #[test]
 fn der_refuses_a_primitive_prefix(rt: HostRuntime) {
     let mut decoder = decoder_of(rt.alloc(), &[0x80, 0x03, 0x02, 0x01, 0x05], Codec::Der);
-    const KIND: &str = "CodecSpecific { inner: Der(ConstructedBitMismatch) }";
-    told(&rt, rt.alloc(), Codec::Der, explicit(&mut decoder), KIND);
+    const CONSTRUCTED_BIT: &str = "CodecSpecific { inner: Der(ConstructedBitMismatch) }";
+    assert_answer(
+        &rt,
+        rt.alloc(),
+        Codec::Der,
+        explicit(&mut decoder),
+        CONSTRUCTED_BIT,
+    );
     assert!(rt; decoder.decoded_len() == 0);
 }
 
 #[test]
 fn named_errors_tell_their_name(rt: HostRuntime) {
     let alloc = rt.alloc();
-    told::<()>(
+    assert_answer::<()>(
         &rt,
         alloc,
         Codec::Cer,
         Err(DecodeError::no_valid_choice(alloc, "Time", Codec::Cer)),
         "NoValidChoice { name: \"Time\" }",
     );
-    told::<()>(
+    assert_answer::<()>(
         &rt,
         alloc,
         Codec::Ber,
         Err(DecodeError::missing_field(alloc, "version", Codec::Ber)),
         "MissingField { name: \"version\" }",
     );
-    told::<()>(
+    assert_answer::<()>(
         &rt,
         alloc,
         Codec::Der,

@@ -1,51 +1,56 @@
-//! Lists are read.
+//! SEQUENCE OF is decoded (X.690 8.10), of definite length under DER (10.1).
 
-use crate::reading::{decoder_of, reads, told};
+use crate::reading::{assert_answer, assert_reads, decoder_of};
 use rasn_types::types::{Bound, Bounded, Class, Codec, Constraints, Tag};
 
-const INDEFINITE: &[u8] = &[0x30, 0x80, 0x02, 0x01, 0x05, 0x02, 0x01, 0x07, 0x00, 0x00];
+const FIVE_SEVEN_INDEFINITE: &[u8] = &[0x30, 0x80, 0x02, 0x01, 0x05, 0x02, 0x01, 0x07, 0x00, 0x00];
 
 // End-of-contents octets end a list of indefinite length, which DER doesn't have (X.690 8.1.3.6, 10.1).
 #[test]
 fn reads_lists(rt: HostRuntime) {
-    const DEFINITE: &[u8] = &[0x30, 0x06, 0x02, 0x01, 0x05, 0x02, 0x01, 0x07];
+    const FIVE_SEVEN: &[u8] = &[0x30, 0x06, 0x02, 0x01, 0x05, 0x02, 0x01, 0x07];
     let indefinite = "CodecSpecific { inner: Ber(IndefiniteLengthNotAllowed) }";
-    const PRIMITIVE: &str = "CodecSpecific { inner: Ber(InvalidConstructedIdentifier) }";
-    reads::<Vec<u8>>(
+    const NOT_CONSTRUCTED: &str = "CodecSpecific { inner: Ber(InvalidConstructedIdentifier) }";
+    assert_reads::<Vec<u8>>(
         &rt,
         rt.alloc(),
         &[
-            (DEFINITE, Codec::Der, "[5, 7]", 8),
-            (INDEFINITE, Codec::Ber, "[5, 7]", 10),
-            (INDEFINITE, Codec::Cer, "[5, 7]", 10),
-            (INDEFINITE, Codec::Der, indefinite, 0),
+            (FIVE_SEVEN, Codec::Der, "[5, 7]", 8),
+            (FIVE_SEVEN_INDEFINITE, Codec::Ber, "[5, 7]", 10),
+            (FIVE_SEVEN_INDEFINITE, Codec::Cer, "[5, 7]", 10),
+            (FIVE_SEVEN_INDEFINITE, Codec::Der, indefinite, 0),
             (&[0x30, 0x00], Codec::Der, "[]", 2),
-            (&[0x10, 0x00], Codec::Ber, PRIMITIVE, 2),
+            (&[0x10, 0x00], Codec::Ber, NOT_CONSTRUCTED, 2),
         ],
     );
 }
 
-// End-of-contents octets end no definite contents, and have to end indefinite ones.
+// End-of-contents octets end contents of indefinite length, and no others.
 #[test]
 fn asks_for_closing_octets(rt: HostRuntime) {
-    const CLOSING: &str = "CodecSpecific { inner: Ber(UnexpectedEndOfContents) }";
-    const MISSING: &str = "Incomplete { needed: Size(2) }";
-    reads::<Vec<bool>>(
+    const END_OF_CONTENTS: &str = "CodecSpecific { inner: Ber(UnexpectedEndOfContents) }";
+    const TWO_OCTETS_MISSING: &str = "Incomplete { needed: Size(2) }";
+    assert_reads::<Vec<bool>>(
         &rt,
         rt.alloc(),
         &[
-            (&[0x30, 0x02, 0x00, 0x00], Codec::Ber, CLOSING, 4),
-            (&[0x30, 0x80, 0x01, 0x01, 0xFF], Codec::Ber, MISSING, 5),
+            (&[0x30, 0x02, 0x00, 0x00], Codec::Ber, END_OF_CONTENTS, 4),
+            (
+                &[0x30, 0x80, 0x01, 0x01, 0xFF],
+                Codec::Ber,
+                TWO_OCTETS_MISSING,
+                5,
+            ),
             (&[0x30, 0x80, 0x00, 0x00], Codec::Ber, "[]", 4),
         ],
     );
 }
 
-// An element that takes nothing is refused, with all that is left told.
+// An element that consumes nothing is refused with the number of octets that are left.
 #[test]
 fn refuses_elements_of_nothing(rt: HostRuntime) {
-    const UNCLOSED: &[u8] = &[0x30, 0x80, 0x02, 0x01, 0x05, 0x00, 0x00, 0x01];
-    reads::<Vec<Option<bool>>>(
+    const UNCLOSED_LIST: &[u8] = &[0x30, 0x80, 0x02, 0x01, 0x05, 0x00, 0x00, 0x01];
+    assert_reads::<Vec<Option<bool>>>(
         &rt,
         rt.alloc(),
         &[
@@ -55,7 +60,12 @@ fn refuses_elements_of_nothing(rt: HostRuntime) {
                 "UnexpectedExtraData { length: 3 }",
                 5,
             ),
-            (UNCLOSED, Codec::Ber, "UnexpectedExtraData { length: 6 }", 2),
+            (
+                UNCLOSED_LIST,
+                Codec::Ber,
+                "UnexpectedExtraData { length: 6 }",
+                2,
+            ),
             (
                 &[0x30, 0x03, 0x01, 0x01, 0xFF],
                 Codec::Ber,
@@ -68,11 +78,15 @@ fn refuses_elements_of_nothing(rt: HostRuntime) {
 
 #[test]
 fn reads_lists_of_lists(rt: HostRuntime) {
-    const OCTETS: &[u8] = &[0x30, 0x07, 0x30, 0x03, 0x01, 0x01, 0xFF, 0x30, 0x00];
-    reads::<Vec<Vec<bool>>>(&rt, rt.alloc(), &[(OCTETS, Codec::Der, "[[true], []]", 9)]);
+    const TWO_LISTS: &[u8] = &[0x30, 0x07, 0x30, 0x03, 0x01, 0x01, 0xFF, 0x30, 0x00];
+    assert_reads::<Vec<Vec<bool>>>(
+        &rt,
+        rt.alloc(),
+        &[(TWO_LISTS, Codec::Der, "[[true], []]", 9)],
+    );
 }
 
-// A list under another tag of exactly two elements, and one of one, which is taken.
+// A list has exactly two elements. One of a single element is refused and consumed.
 #[test]
 fn counts_elements(rt: HostRuntime) {
     let constraint = Bounded::Range {
@@ -84,14 +98,14 @@ fn counts_elements(rt: HostRuntime) {
         extensible: false,
     });
     let two = Constraints { value: None, size };
-    const OCTETS: &[u8] = &[
+    const TWO_ELEMENTS_THEN_ONE: &[u8] = &[
         0xA0, 0x06, 0x02, 0x01, 0x05, 0x02, 0x01, 0x07, 0x30, 0x03, 0x02, 0x01, 0x05,
     ];
-    let mut decoder = decoder_of(rt.alloc(), OCTETS, Codec::Der);
+    let mut decoder = decoder_of(rt.alloc(), TWO_ELEMENTS_THEN_ONE, Codec::Der);
     let answer = decoder.decode_sequence_of::<u8>(Tag::new(Class::Context, 0), &two);
-    told(&rt, rt.alloc(), Codec::Der, answer, "[5, 7]");
+    assert_answer(&rt, rt.alloc(), Codec::Der, answer, "[5, 7]");
     let answer = decoder.decode_sequence_of::<u8>(Tag::SEQUENCE, &two);
-    told(
+    assert_answer(
         &rt,
         rt.alloc(),
         Codec::Der,

@@ -1,7 +1,9 @@
+//! CHOICE (X.690 8.13), SEQUENCE OF (8.10) and extension additions by the entry points.
+
 use crate::parts::lists::lists;
-use crate::reading::{facts, reads, value};
-use crate::whole::{answers, decoded, encoded, rewrites};
-use crate::writing::{holds_pieces, made};
+use crate::reading::{assert_facts, assert_reads, value};
+use crate::whole::{assert_decodes, assert_rewrites, decoded, encoded};
+use crate::writing::{assert_output_pieces, made};
 use rasn::types::Codec;
 use rasn_bench::{Grouped, Time, Validity};
 
@@ -18,7 +20,7 @@ fn is_from_2018_to_2050(validity: &Validity) -> bool {
     }
 }
 
-// Two times of the certificate profile: until 2049 as UTCTime, then as GeneralizedTime (RFC 5280, 4.1.2.5).
+// A time of a certificate is a UTCTime until 2049, and then a GeneralizedTime (RFC 5280, 4.1.2.5).
 #[test]
 fn a_validity_has_times_of_two_types(rt: HostRuntime) {
     let alloc = rt.alloc();
@@ -28,71 +30,75 @@ fn a_validity_has_times_of_two_types(rt: HostRuntime) {
             &validity
         ))
     );
-    rewrites::<Validity>(&rt, alloc, &[(octets, Codec::Der, Codec::Der, octets)]);
+    assert_rewrites::<Validity>(&rt, alloc, &[(octets, Codec::Der, Codec::Der, octets)]);
 }
 
 #[test]
 fn a_number_is_no_time(rt: HostRuntime) {
-    const KIND: &str = "NoValidChoice { name: \"Time\" }";
-    reads::<Time>(
+    const NO_TIME: &str = "NoValidChoice { name: \"Time\" }";
+    assert_reads::<Time>(
         &rt,
         rt.alloc(),
-        &[(&[0x02, 0x01, 0x05], Codec::Ber, KIND, 0)],
+        &[(&[0x02, 0x01, 0x05], Codec::Ber, NO_TIME, 0)],
     );
 }
 
 #[test]
 fn lists_are_written_as_they_are_read(rt: HostRuntime) {
     let alloc = rt.alloc();
-    const CLOSED: &[u8] = &[0x30, 0x80, 0x02, 0x01, 0x05, 0x02, 0x01, 0x07, 0x00, 0x00];
-    const DEFINITE: &[u8] = &[0x30, 0x06, 0x02, 0x01, 0x05, 0x02, 0x01, 0x07];
-    answers::<Vec<u8>>(&rt, alloc, &[(CLOSED, Codec::Ber, "[5, 7]")]);
-    rewrites::<Vec<u8>>(
+    const FIVE_SEVEN_IN_CER: &[u8] = &[0x30, 0x80, 0x02, 0x01, 0x05, 0x02, 0x01, 0x07, 0x00, 0x00];
+    const FIVE_SEVEN: &[u8] = &[0x30, 0x06, 0x02, 0x01, 0x05, 0x02, 0x01, 0x07];
+    assert_decodes::<Vec<u8>>(&rt, alloc, &[(FIVE_SEVEN_IN_CER, Codec::Ber, "[5, 7]")]);
+    assert_rewrites::<Vec<u8>>(
         &rt,
         alloc,
         &[
-            (CLOSED, Codec::Ber, Codec::Der, DEFINITE),
-            (CLOSED, Codec::Ber, Codec::Cer, CLOSED),
+            (FIVE_SEVEN_IN_CER, Codec::Ber, Codec::Der, FIVE_SEVEN),
+            (FIVE_SEVEN_IN_CER, Codec::Ber, Codec::Cer, FIVE_SEVEN_IN_CER),
         ],
     );
 }
 
-// Each header tells a length of more than 255 octets.
+// Each of the headers has a length of more than 255 octets.
 #[test]
 fn lists_of_lists_are_written(rt: HostRuntime) {
     let alloc = rt.alloc();
-    const HEADER: &[u8] = &[
+    const THREE_HEADERS: &[u8] = &[
         0x30, 0x82, 0x01, 0x08, 0x30, 0x82, 0x01, 0x04, 0x04, 0x82, 0x01, 0x00,
     ];
     let lists = made(&rt, lists(alloc, 0xAB, 256));
     let answer = encoded(alloc, Codec::Der, &lists);
-    holds_pieces(&rt, alloc, answer, &[(HEADER, 0xAB, 256)]);
+    assert_output_pieces(&rt, alloc, answer, &[(THREE_HEADERS, 0xAB, 256)]);
 }
 
 #[test]
 fn additions_may_be_absent(rt: HostRuntime) {
     let alloc = rt.alloc();
-    const ALL: &[u8] = &[
+    const ALL_ADDITIONS: &[u8] = &[
         0x30, 0x0E, 0x01, 0x01, 0xFF, 0x81, 0x01, 0x05, 0x30, 0x06, 0x02, 0x01, 0x07, 0x01, 0x01,
         0x00,
     ];
-    const BARE: &[u8] = &[0x30, 0x03, 0x01, 0x01, 0xFF];
-    let read = value(&rt, decoded::<Grouped>(alloc, Codec::Ber, ALL));
-    facts(
+    const NO_ADDITIONS: &[u8] = &[0x30, 0x03, 0x01, 0x01, 0xFF];
+    let read = value(&rt, decoded::<Grouped>(alloc, Codec::Ber, ALL_ADDITIONS));
+    assert_facts(
         &rt,
         &[read.truth, read.number.is_some(), read.group.is_some()],
     );
-    let read = value(&rt, decoded::<Grouped>(alloc, Codec::Ber, BARE));
-    facts(&rt, &[read.number.is_none(), read.group.is_none()]);
-    rewrites::<Grouped>(
+    let read = value(&rt, decoded::<Grouped>(alloc, Codec::Ber, NO_ADDITIONS));
+    assert_facts(&rt, &[read.number.is_none(), read.group.is_none()]);
+    assert_rewrites::<Grouped>(
         &rt,
         alloc,
         &[
-            (ALL, Codec::Ber, Codec::Der, ALL),
-            (BARE, Codec::Ber, Codec::Der, BARE),
+            (ALL_ADDITIONS, Codec::Ber, Codec::Der, ALL_ADDITIONS),
+            (NO_ADDITIONS, Codec::Ber, Codec::Der, NO_ADDITIONS),
         ],
     );
-    const OTHER: &[u8] = &[0x30, 0x06, 0x01, 0x01, 0xFF, 0x82, 0x01, 0x05];
-    const KIND: &str = "UnexpectedExtraData { length: 3 }";
-    answers::<Grouped>(&rt, alloc, &[(OTHER, Codec::Ber, KIND)]);
+    const OTHER_ADDITION: &[u8] = &[0x30, 0x06, 0x01, 0x01, 0xFF, 0x82, 0x01, 0x05];
+    const THREE_OCTETS_LEFT: &str = "UnexpectedExtraData { length: 3 }";
+    assert_decodes::<Grouped>(
+        &rt,
+        alloc,
+        &[(OTHER_ADDITION, Codec::Ber, THREE_OCTETS_LEFT)],
+    );
 }

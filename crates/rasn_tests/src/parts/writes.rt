@@ -1,7 +1,9 @@
+//! Components that are OPTIONAL or DEFAULT (X.690 8.9.3, 11.5), explicit and implicit tags (8.14) and extension additions are encoded.
+
 use crate::leaves::writes::{NO_PERCENTAGE, PERCENTAGE};
-use crate::reading::facts;
+use crate::reading::assert_facts;
 use crate::types::{Counted, Zero};
-use crate::writing::{done, holds, new_encoder, refused, writes};
+use crate::writing::{assert_output, assert_refuses, assert_writes, assert_written, new_encoder};
 use rasn_enc::ber::enc::Encoder;
 use rasn_enc::enc::Encode;
 use rasn_types::error::EncodeError;
@@ -9,17 +11,17 @@ use rasn_types::types::{Class, Codec, Constraints, Explicit, Identifier, Implici
 use std::alloc::AllocError;
 
 /// \[0\]
-const ZERO: Tag = Tag {
+const TAG_0: Tag = Tag {
     class: Class::Context,
     value: 0,
 };
 
-const NONE: Identifier = Identifier::EMPTY;
+const NO_IDENTIFIER: Identifier = Identifier::EMPTY;
 
 #[test]
 fn writes_options(rt: HostRuntime) {
     let alloc = rt.alloc();
-    writes::<Option<bool>>(
+    assert_writes::<Option<bool>>(
         &rt,
         alloc,
         &[
@@ -27,10 +29,10 @@ fn writes_options(rt: HostRuntime) {
             (None, Codec::Der, &[]),
         ],
     );
-    writes::<Option<Option<bool>>>(&rt, alloc, &[(Some(None), Codec::Der, &[])]);
+    assert_writes::<Option<Option<bool>>>(&rt, alloc, &[(Some(None), Codec::Der, &[])]);
     let absent: Option<bool> = None;
     let present = Some(true).is_present();
-    facts(
+    assert_facts(
         &rt,
         &[present, !absent.is_present(), !Some(absent).is_present()],
     );
@@ -39,30 +41,43 @@ fn writes_options(rt: HostRuntime) {
 #[test]
 fn calls_write_options(rt: HostRuntime) {
     let mut encoder = new_encoder(&rt, rt.alloc(), Codec::Der);
-    done(&rt, encoder.encode_some(&true, NONE));
-    done(&rt, encoder.encode_none::<bool>(NONE));
-    done(&rt, encoder.encode_some_with_tag(ZERO, &true, NONE));
-    done(&rt, encoder.encode_none_with_tag(ZERO, NONE));
-    let answer = encoder.encode_some_with_tag_and_constraints(ZERO, &PERCENTAGE, &5u8, NONE);
-    done(&rt, answer);
-    const OCTETS: &[u8] = &[0x01, 0x01, 0xFF, 0x80, 0x01, 0xFF, 0x80, 0x01, 0x05];
-    holds(&rt, encoder.output(), OCTETS);
+    assert_written(&rt, encoder.encode_some(&true, NO_IDENTIFIER));
+    assert_written(&rt, encoder.encode_none::<bool>(NO_IDENTIFIER));
+    assert_written(
+        &rt,
+        encoder.encode_some_with_tag(TAG_0, &true, NO_IDENTIFIER),
+    );
+    assert_written(&rt, encoder.encode_none_with_tag(TAG_0, NO_IDENTIFIER));
+    let answer = encoder.encode_some_with_tag_and_constraints(
+        TAG_0,
+        &PERCENTAGE,
+        &5u8,
+        NO_IDENTIFIER,
+    );
+    assert_written(&rt, answer);
+    const TRUE_TRUE_FIVE: &[u8] = &[0x01, 0x01, 0xFF, 0x80, 0x01, 0xFF, 0x80, 0x01, 0x05];
+    assert_output(&rt, encoder.output(), TRUE_TRUE_FIVE);
 }
 
-// 200 isn't within 0 to 100.
+// The number 200 isn't in 0..100.
 #[test]
 fn refused_options_write_nothing(rt: HostRuntime) {
     let alloc = rt.alloc();
     let mut encoder = new_encoder(&rt, alloc, Codec::Der);
-    let answer = encoder.encode_some_with_tag_and_constraints(ZERO, &PERCENTAGE, &200u8, NONE);
-    refused(&rt, alloc, Codec::Der, answer, NO_PERCENTAGE);
-    holds(&rt, encoder.output(), &[]);
+    let answer = encoder.encode_some_with_tag_and_constraints(
+        TAG_0,
+        &PERCENTAGE,
+        &200u8,
+        NO_IDENTIFIER,
+    );
+    assert_refuses(&rt, alloc, Codec::Der, answer, NO_PERCENTAGE);
+    assert_output(&rt, encoder.output(), &[]);
 }
 
-// The default is 7. A SEQUENCE of it is empty where the value is.
+// The default is 7, and a SEQUENCE of that alone is empty.
 #[test]
 fn leaves_out_defaults_in_a_sequence(rt: HostRuntime) {
-    writes::<Counted>(
+    assert_writes::<Counted>(
         &rt,
         rt.alloc(),
         &[
@@ -78,14 +93,20 @@ fn leaves_out_defaults_in_a_sequence(rt: HostRuntime) {
 
 /// Writes a number whose default is 7 by the two calls without constraints.
 fn write_twice(encoder: &mut Encoder, number: u8) -> Result<(), EncodeError> {
-    encoder.encode_default(&number, || Ok(7), NONE)?;
-    encoder.encode_default_with_tag(ZERO, &number, || Ok(7), NONE)
+    encoder.encode_default(&number, || Ok(7), NO_IDENTIFIER)?;
+    encoder.encode_default_with_tag(TAG_0, &number, || Ok(7), NO_IDENTIFIER)
 }
 
 /// Writes a percentage whose default is 7 by the two calls with constraints.
 fn write_percentage_twice(encoder: &mut Encoder, number: u8) -> Result<(), EncodeError> {
-    encoder.encode_default_with_constraints(&PERCENTAGE, &number, || Ok(7), NONE)?;
-    encoder.encode_default_with_tag_and_constraints(ZERO, &PERCENTAGE, &number, || Ok(7), NONE)
+    encoder.encode_default_with_constraints(&PERCENTAGE, &number, || Ok(7), NO_IDENTIFIER)?;
+    encoder.encode_default_with_tag_and_constraints(
+        TAG_0,
+        &PERCENTAGE,
+        &number,
+        || Ok(7),
+        NO_IDENTIFIER,
+    )
 }
 
 #[test]
@@ -93,11 +114,11 @@ fn calls_leave_out_defaults(rt: HostRuntime) {
     let octets = [0x02, 0x01, 0x05, 0x80, 0x01, 0x05];
     for (number, octets) in [(7u8, [].as_slice()), (5, octets.as_slice())] {
         let mut encoder = new_encoder(&rt, rt.alloc(), Codec::Der);
-        done(&rt, write_twice(&mut encoder, number));
-        holds(&rt, encoder.output(), octets);
+        assert_written(&rt, write_twice(&mut encoder, number));
+        assert_output(&rt, encoder.output(), octets);
         let mut encoder = new_encoder(&rt, rt.alloc(), Codec::Der);
-        done(&rt, write_percentage_twice(&mut encoder, number));
-        holds(&rt, encoder.output(), octets);
+        assert_written(&rt, write_percentage_twice(&mut encoder, number));
+        assert_output(&rt, encoder.output(), octets);
     }
 }
 
@@ -105,17 +126,17 @@ fn calls_leave_out_defaults(rt: HostRuntime) {
 fn a_default_may_want_memory(rt: HostRuntime) {
     let alloc = rt.alloc();
     let mut encoder = new_encoder(&rt, alloc, Codec::Cer);
-    let answer = encoder.encode_default(&5u8, || Err(AllocError), NONE);
+    let answer = encoder.encode_default(&5u8, || Err(AllocError), NO_IDENTIFIER);
     assert!(rt; answer.as_ref().is_err_and(|error| error.is_out_of_memory()));
-    refused(&rt, alloc, Codec::Cer, answer, "OutOfMemory");
-    holds(&rt, encoder.output(), &[]);
+    assert_refuses(&rt, alloc, Codec::Cer, answer, "OutOfMemory");
+    assert_output(&rt, encoder.output(), &[]);
 }
 
 // An explicit tag stands round the value's own, an implicit one in its place (X.690 8.14).
 #[test]
 fn writes_under_named_tags(rt: HostRuntime) {
     let alloc = rt.alloc();
-    writes::<Explicit<Zero, u8>>(
+    assert_writes::<Explicit<Zero, u8>>(
         &rt,
         alloc,
         &[
@@ -136,7 +157,7 @@ fn writes_under_named_tags(rt: HostRuntime) {
             ),
         ],
     );
-    writes::<Implicit<Zero, u8>>(
+    assert_writes::<Implicit<Zero, u8>>(
         &rt,
         alloc,
         &[
@@ -149,7 +170,7 @@ fn writes_under_named_tags(rt: HostRuntime) {
 
 #[test]
 fn named_tags_keep_presence(rt: HostRuntime) {
-    facts(
+    assert_facts(
         &rt,
         &[
             Explicit::<Zero, u8>::new(5).is_present(),
@@ -164,23 +185,32 @@ fn named_tags_keep_presence(rt: HostRuntime) {
 fn writes_explicit_prefixes(rt: HostRuntime) {
     let mut encoder = new_encoder(&rt, rt.alloc(), Codec::Der);
     let absent: Option<u8> = None;
-    done(&rt, encoder.encode_explicit_prefix(ZERO, &absent, NONE));
-    done(&rt, encoder.encode_explicit_prefix(ZERO, &Some(5u8), NONE));
-    holds(&rt, encoder.output(), &[0xA0, 0x03, 0x02, 0x01, 0x05]);
+    assert_written(
+        &rt,
+        encoder.encode_explicit_prefix(TAG_0, &absent, NO_IDENTIFIER),
+    );
+    assert_written(
+        &rt,
+        encoder.encode_explicit_prefix(TAG_0, &Some(5u8), NO_IDENTIFIER),
+    );
+    assert_output(&rt, encoder.output(), &[0xA0, 0x03, 0x02, 0x01, 0x05]);
 }
 
-// SEQUENCE { [[ INTEGER DEFAULT 7 ]] } has a SEQUENCE for its group, where there is one.
+// A group of extension additions is written as a SEQUENCE, and as nothing where there is none.
 #[test]
 fn writes_extension_additions(rt: HostRuntime) {
     let mut encoder = new_encoder(&rt, rt.alloc(), Codec::Der);
     let one = Tag::new(Class::Context, 1);
-    let answer = encoder.encode_extension_addition(one, &Constraints::NONE, 5u8, NONE);
-    done(&rt, answer);
-    let answer = encoder.encode_extension_addition_group::<1, 0, Counted>(None, NONE);
-    done(&rt, answer);
+    let answer = encoder.encode_extension_addition(one, &Constraints::NONE, 5u8, NO_IDENTIFIER);
+    assert_written(&rt, answer);
+    let answer = encoder.encode_extension_addition_group::<1, 0, Counted>(None, NO_IDENTIFIER);
+    assert_written(&rt, answer);
     let group = Counted { number: 5 };
-    let answer = encoder.encode_extension_addition_group::<1, 0, Counted>(Some(&group), NONE);
-    done(&rt, answer);
-    const OCTETS: &[u8] = &[0x81, 0x01, 0x05, 0x30, 0x03, 0x02, 0x01, 0x05];
-    holds(&rt, encoder.output(), OCTETS);
+    let answer = encoder.encode_extension_addition_group::<1, 0, Counted>(
+        Some(&group),
+        NO_IDENTIFIER,
+    );
+    assert_written(&rt, answer);
+    const FIVE_AND_GROUP: &[u8] = &[0x81, 0x01, 0x05, 0x30, 0x03, 0x02, 0x01, 0x05];
+    assert_output(&rt, encoder.output(), FIVE_AND_GROUP);
 }

@@ -1,9 +1,11 @@
-use crate::reading::facts;
+//! Readers and writers that fail, and the arguments of the program.
+
+use crate::reading::assert_facts;
 use rasn_bench::{RunFault, file_of, run};
 use std::alloc::{AllocError, Global};
 use std::io::{self, BufRead, BufReader, Error, ErrorKind, Read, Write};
 
-/// Gives some octets, and then fails.
+/// A reader of some octets that then fails.
 #[derive(Drop)]
 struct Failing<'octets> {
     before: &'octets [u8],
@@ -19,7 +21,7 @@ impl Read for Failing<'_> {
     }
 }
 
-/// Takes nothing.
+/// A writer that takes nothing.
 #[derive(Drop)]
 struct Full;
 
@@ -33,14 +35,14 @@ impl Write for Full {
     }
 }
 
-/// Whether the work stops with this fault, behind the answer to a good line.
+/// Whether the work stops with this fault after a good line was answered.
 fn stops<R: BufRead>(alloc: Global, input: &mut R, fault: RunFault) -> bool {
     let mut output = Vec::new(alloc);
     run(alloc, input, &mut output) == Err(fault)
         && output.as_slice() == b"BOOLEAN 0 010100\n".as_slice()
 }
 
-/// Whether a reader of a good line that then fails stops the work with this fault, behind the line's answer.
+/// Whether the work stops with this fault where the reader fails after a good line.
 fn is_stopped(alloc: Global, kind: ErrorKind, fault: RunFault) -> bool {
     let before = b"ber bool 010100\nber";
     match BufReader::new(alloc, Failing { before, kind }) {
@@ -52,7 +54,7 @@ fn is_stopped(alloc: Global, kind: ErrorKind, fault: RunFault) -> bool {
 #[test]
 fn failing_readers_are_faults(rt: HostRuntime) {
     let alloc = rt.alloc();
-    facts(
+    assert_facts(
         &rt,
         &[
             is_stopped(alloc, ErrorKind::BrokenPipe, RunFault::Read),
@@ -73,7 +75,7 @@ fn failing_writers_are_faults(rt: HostRuntime) {
     assert!(rt; run(rt.alloc(), &mut input, &mut Full) == Err(RunFault::Write));
 }
 
-/// Arguments of the program.
+/// The words as arguments of the program.
 fn arguments(alloc: Global, words: &[&str]) -> Result<Vec<String>, AllocError> {
     let mut arguments = Vec::new(alloc);
     for word in words {
@@ -82,7 +84,7 @@ fn arguments(alloc: Global, words: &[&str]) -> Result<Vec<String>, AllocError> {
     Ok(arguments)
 }
 
-/// Whether the arguments ask to normalise, as told, and tell this file.
+/// Whether the arguments name this file, and ask to normalise exactly if `normalises`.
 fn are_read(alloc: Global, words: &[&str], normalises: bool, file: Option<&str>) -> bool {
     match arguments(alloc, words) {
         Ok(arguments) => file_of(&arguments) == Ok((normalises, file)),
@@ -90,7 +92,7 @@ fn are_read(alloc: Global, words: &[&str], normalises: bool, file: Option<&str>)
     }
 }
 
-/// Whether the arguments are refused, with the way that the program is called.
+/// Whether the arguments are refused with the text of the usage.
 fn are_refused(alloc: Global, words: &[&str]) -> bool {
     let Ok(arguments) = arguments(alloc, words) else {
         return false;
@@ -107,7 +109,7 @@ fn are_refused(alloc: Global, words: &[&str]) -> bool {
 #[test]
 fn an_option_and_a_file_are_named(rt: HostRuntime) {
     let alloc = rt.alloc();
-    facts(
+    assert_facts(
         &rt,
         &[
             are_read(alloc, &[], false, None),
@@ -122,7 +124,7 @@ fn an_option_and_a_file_are_named(rt: HostRuntime) {
 #[test]
 fn other_arguments_are_refused(rt: HostRuntime) {
     let alloc = rt.alloc();
-    facts(
+    assert_facts(
         &rt,
         &[
             are_refused(alloc, &["a", "b"]),

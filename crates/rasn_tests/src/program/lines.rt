@@ -1,3 +1,5 @@
+//! Lines that the program answers: values are decoded by BER, CER or DER and encoded by DER (X.690 8 to 11).
+
 use rasn_bench::run;
 use std::alloc::{AllocError, Global};
 
@@ -261,7 +263,7 @@ fn are_answered(alloc: Global, lines: &str, answers: &str, well_formed: bool) ->
     answer == Ok(well_formed) && output.as_slice() == answers.as_bytes()
 }
 
-/// Whether the answer to the line is this one, and its form told as good exactly where the answer isn't `malformed`.
+/// Whether the answer to the line is this one, and the line is reported as malformed exactly where the answer is `malformed`.
 fn is_answered(alloc: Global, line: &str, answer: &str) -> bool {
     let mut output = Vec::new(alloc);
     match run(alloc, &mut line.as_bytes(), &mut output) {
@@ -311,14 +313,14 @@ fn lines_end_by_line_feeds(rt: HostRuntime) {
     }
 }
 
-/// Whether a small number is answered by itself.
+/// Whether the answer to a small number is the number itself.
 fn is_echoed(alloc: Global, number: u8) -> Result<bool, AllocError> {
     let line = format!(in alloc; "ber u32 0201{number:02x}")?;
     let answer = format!(in alloc; "INTEGER 0 0201{number:02X}")?;
     Ok(is_answered(alloc, &line, &answer))
 }
 
-/// Values that no table has: the answer is computed.
+/// The numbers stand in no table, so their answers are computed.
 #[test]
 fn other_values_are_answered(rt: HostRuntime) {
     for number in 0..128u8 {

@@ -1,3 +1,5 @@
+//! Lines that the program normalises: from an encoding of any of the three rules to the one that DER has (X.690 10, 11).
+
 use crate::reading::debug_text;
 use rasn::de::Decode;
 use rasn::enc::Encode;
@@ -45,7 +47,7 @@ der foo 30801605536D6974680101FF0000 -> refused IndefiniteLengthNotAllowed
 der validity 3020170D3138303132323133323930305A180F32303530303130313030303030305A -> 3020170D3138303132323133323930305A180F32303530303130313030303030305A
 ";
 
-/// Whether the answer to the line is this one, and its form told as good exactly where the answer isn't `malformed`.
+/// Whether the answer to the line is this one, and the line is reported as malformed exactly where the answer is `malformed`.
 fn is_answered(alloc: Global, line: &str, answer: &str) -> bool {
     let mut output = Vec::new(alloc);
     match run_normalise(alloc, &mut line.as_bytes(), &mut output) {
@@ -57,7 +59,7 @@ fn is_answered(alloc: Global, line: &str, answer: &str) -> bool {
     }
 }
 
-// From any of the three rules to the one encoding of DER (X.690 10, 11).
+// Encodings of any of the three rules come out as the one that DER has (X.690 10, 11).
 #[test]
 fn lines_are_normalised(rt: HostRuntime) {
     for row in TABLE.lines() {
@@ -77,7 +79,7 @@ fn all_lines_are_normalised(rt: HostRuntime) {
     assert!(rt; output.as_slice() == b"0101FF\n020107\nmalformed\n".as_slice());
 }
 
-/// Whether what is answered are these octets.
+/// Whether the answer is these octets.
 fn is_normal(answer: Result<Vec<u8>, NormaliseError>, octets: &[u8]) -> bool {
     match answer {
         Ok(found) => found.as_slice() == octets,
@@ -85,7 +87,7 @@ fn is_normal(answer: Result<Vec<u8>, NormaliseError>, octets: &[u8]) -> bool {
     }
 }
 
-/// Name and year: two encodings of `Smith` and TRUE by BER, one by CER, and their DER, which is its own.
+/// Two encodings of `Smith` and TRUE by BER and one by CER come out as the one by DER, which comes out as itself.
 #[test]
 fn equal_values_come_out_alike(rt: HostRuntime) {
     const SMITH: &[u8] = &[
@@ -119,8 +121,8 @@ fn equal_values_come_out_alike(rt: HostRuntime) {
     }
 }
 
-/// Holds the refusal of each row's octets against its text.
-fn refuses<T: Decode + Encode + LawfulEq>(
+/// Asserts that each row's octets are refused, and that the refusal is shown as the row's text.
+fn assert_refuses<T: Decode + Encode + LawfulEq>(
     rt: &impl Abort,
     alloc: Global,
     rows: &[(&[u8], Codec, &'static str)],
@@ -139,7 +141,7 @@ fn refuses<T: Decode + Encode + LawfulEq>(
 // What follows the value is refused under the input's rules (X.690 8.1.1.1).
 #[test]
 fn what_is_no_value_alone_is_refused(rt: HostRuntime) {
-    refuses::<bool>(
+    assert_refuses::<bool>(
         &rt,
         rt.alloc(),
         &[
@@ -162,10 +164,10 @@ fn what_is_no_value_alone_is_refused(rt: HostRuntime) {
     );
 }
 
-// A SET OF whose elements fall isn't written (X.690 11.6).
+// A SET OF whose elements are out of order isn't written (X.690 11.6).
 #[test]
 fn what_is_not_written_is_refused(rt: HostRuntime) {
-    refuses::<SetOf<OctetString>>(
+    assert_refuses::<SetOf<OctetString>>(
         &rt,
         rt.alloc(),
         &[(
@@ -176,10 +178,10 @@ fn what_is_not_written_is_refused(rt: HostRuntime) {
     );
 }
 
-// 1969-12-31 23:59:00 an hour west of Greenwich is in 2070, which two digits of a year don't tell (X.680 47).
+// The time 691231235900-0100 is in 2070 by UTC, which two digits of a year can't say (X.680 47).
 #[test]
 fn what_is_read_back_otherwise_is_refused(rt: HostRuntime) {
-    refuses::<UtcTime>(
+    assert_refuses::<UtcTime>(
         &rt,
         rt.alloc(),
         &[(b"\x17\x11691231235900-0100", Codec::Ber, "NotCanonical")],
@@ -194,7 +196,7 @@ fn is_refused_for(alloc: Global, octets: &[u8], rule: Codec, cause: &NormaliseEr
     }
 }
 
-// Causes are equal where they tell the same, with the same rules.
+// Causes are equal exactly if their errors and rules are.
 #[test]
 fn causes_are_compared(rt: HostRuntime) {
     let cause = NormaliseError::Decode(DecodeError {

@@ -1,8 +1,9 @@
+//! Closures of a SEQUENCE (X.690 8.9) that drop a refusal and go on.
 ghost use Rattle.rasn_de.specs.Inside.{Keeps};
 ghost use Rattle.rasn_enc.specs.View.{LeavesOthers};
 
-use crate::reading::{decoder_of, told};
-use crate::writing::{done, holds, new_encoder};
+use crate::reading::{assert_answer, decoder_of};
+use crate::writing::{assert_output, assert_written, new_encoder};
 use rasn::ber::de::Decoder;
 use rasn::ber::enc::Encoder;
 use rasn::error::{DecodeError, EncodeError};
@@ -11,7 +12,7 @@ use rasn_bench::Pair;
 use std::alloc::AllocError;
 
 /// SIZE (3)
-const THREE: Constraints = Constraints {
+const SIZE_3: Constraints = Constraints {
     value: None,
     size: Some(Bound {
         constraint: Bounded::Single(3),
@@ -19,7 +20,7 @@ const THREE: Constraints = Constraints {
     }),
 };
 
-/// Reads a number where a BOOLEAN is refused.
+/// Reads a SEQUENCE whose closure drops the refusal of a BOOLEAN and then reads a number.
 fn read_past_a_refusal(decoder: &mut Decoder<'_>) -> Result<Pair, DecodeError> {
     decoder.decode_sequence::<2, 0, Pair, fn() -> Result<Pair, AllocError>, _>(
         Tag::SEQUENCE,
@@ -37,7 +38,7 @@ fn read_past_a_refusal(decoder: &mut Decoder<'_>) -> Result<Pair, DecodeError> {
     )
 }
 
-/// Writes TRUE where two octets are refused.
+/// Writes a SEQUENCE whose closure drops the refusal of two octets and then writes TRUE.
 fn write_past_a_refusal(encoder: &mut Encoder) -> Result<(), EncodeError> {
     encoder.encode_sequence::<2, 0, Pair, _>(
         Tag::SEQUENCE,
@@ -46,7 +47,7 @@ fn write_past_a_refusal(encoder: &mut Encoder) -> Result<(), EncodeError> {
         {
             let _ = inner.encode_octet_string(
                 Tag::OCTET_STRING,
-                &THREE,
+                &SIZE_3,
                 &[1, 2],
                 Identifier::EMPTY,
             );
@@ -60,18 +61,18 @@ fn write_past_a_refusal(encoder: &mut Encoder) -> Result<(), EncodeError> {
 #[test]
 fn a_dropped_refusal_is_gone_on_from(rt: HostRuntime) {
     let alloc = rt.alloc();
-    const INPUT: &[u8] = &[0x30, 0x03, 0x02, 0x01, 0x05];
-    let mut decoder = decoder_of(alloc, INPUT, Codec::Ber);
+    const FIVE_ALONE: &[u8] = &[0x30, 0x03, 0x02, 0x01, 0x05];
+    let mut decoder = decoder_of(alloc, FIVE_ALONE, Codec::Ber);
     let answer = read_past_a_refusal(&mut decoder);
-    const READ: &str = "Pair { number: 5, truth: false }";
-    told(&rt, alloc, Codec::Ber, answer, READ);
+    const FIVE_AND_FALSE: &str = "Pair { number: 5, truth: false }";
+    assert_answer(&rt, alloc, Codec::Ber, answer, FIVE_AND_FALSE);
     assert!(rt; decoder.decoded_len() == 5);
 }
 
-// A refused call inside leaves nothing behind.
+// A refused call inside writes nothing.
 #[test]
 fn a_dropped_refusal_leaves_no_octets(rt: HostRuntime) {
     let mut encoder = new_encoder(&rt, rt.alloc(), Codec::Der);
-    done(&rt, write_past_a_refusal(&mut encoder));
-    holds(&rt, encoder.output(), &[0x30, 0x03, 0x01, 0x01, 0xFF]);
+    assert_written(&rt, write_past_a_refusal(&mut encoder));
+    assert_output(&rt, encoder.output(), &[0x30, 0x03, 0x01, 0x01, 0xFF]);
 }

@@ -1,7 +1,7 @@
-//! A SEQUENCE without fields: who reads it.
+//! A SEQUENCE without components (X.690 8.9), with and without an extension marker (X.680 25): which closure reads it.
 ghost use Rattle.rasn_de.specs.Inside.{Keeps};
 
-use crate::reading::{Row, decoder_of, told};
+use crate::reading::{Row, assert_answer, decoder_of};
 use crate::types::{Closed, Extensible};
 use rasn::ber::de::Decoder;
 use rasn::error::DecodeError;
@@ -37,65 +37,65 @@ fn read_extensible(decoder: &mut Decoder<'_>) -> Result<Extensible, DecodeError>
     )
 }
 
-/// Holds what is told of SEQUENCE {} and taken against each row.
-fn reads_closed(rt: &impl Abort, alloc: Global, rows: &[Row]) {
-    for (octets, rules, text, taken) in rows {
+/// Asserts what SEQUENCE {} is read as from each row's octets, and how many are consumed.
+fn assert_reads_closed(rt: &impl Abort, alloc: Global, rows: &[Row]) {
+    for (octets, rules, text, consumed) in rows {
         let mut decoder = decoder_of(alloc, octets, *rules);
-        told(rt, alloc, *rules, read_closed(&mut decoder), text);
-        assert!(rt; decoder.decoded_len() == *taken, "{octets:?} {rules:?}");
+        assert_answer(rt, alloc, *rules, read_closed(&mut decoder), text);
+        assert!(rt; decoder.decoded_len() == *consumed, "{octets:?} {rules:?}");
     }
 }
 
-/// The same of SEQUENCE { ... }.
-fn reads_extensible(rt: &impl Abort, alloc: Global, rows: &[Row]) {
-    for (octets, rules, text, taken) in rows {
+/// Asserts what SEQUENCE { ... } is read as from each row's octets, and how many are consumed.
+fn assert_reads_extensible(rt: &impl Abort, alloc: Global, rows: &[Row]) {
+    for (octets, rules, text, consumed) in rows {
         let mut decoder = decoder_of(alloc, octets, *rules);
-        told(rt, alloc, *rules, read_extensible(&mut decoder), text);
-        assert!(rt; decoder.decoded_len() == *taken, "{octets:?} {rules:?}");
+        assert_answer(rt, alloc, *rules, read_extensible(&mut decoder), text);
+        assert!(rt; decoder.decoded_len() == *consumed, "{octets:?} {rules:?}");
     }
 }
 
 const TRUE_ALONE: &[u8] = &[0x30, 0x03, 0x01, 0x01, 0xFF];
 
-const INDEFINITE: &[u8] = &[0x30, 0x80, 0x01, 0x01, 0xFF, 0x00, 0x00];
+const TRUE_ALONE_INDEFINITE: &[u8] = &[0x30, 0x80, 0x01, 0x01, 0xFF, 0x00, 0x00];
 
-// Without fields and extension marker the closure is never called, and the initializer reads nothing.
+// Where there are neither components nor an extension marker, the initializer makes the value and the closure isn't called.
 #[test]
 fn initializers_read_types_without_fields(rt: HostRuntime) {
-    const EMPTY: &str = "Closed { by_closure: false }";
-    const EXTRA: &str = "UnexpectedExtraData { length: 3 }";
-    reads_closed(
+    const BY_INITIALIZER: &str = "Closed { by_closure: false }";
+    const THREE_OCTETS_LEFT: &str = "UnexpectedExtraData { length: 3 }";
+    assert_reads_closed(
         &rt,
         rt.alloc(),
         &[
-            (&[0x30, 0x00], Codec::Ber, EMPTY, 2),
-            (&[0x30, 0x00], Codec::Cer, EMPTY, 2),
-            (&[0x30, 0x00], Codec::Der, EMPTY, 2),
-            (&[0x30, 0x80, 0x00, 0x00], Codec::Ber, EMPTY, 4),
-            (TRUE_ALONE, Codec::Ber, EXTRA, 5),
-            (TRUE_ALONE, Codec::Cer, EXTRA, 5),
-            (TRUE_ALONE, Codec::Der, EXTRA, 5),
+            (&[0x30, 0x00], Codec::Ber, BY_INITIALIZER, 2),
+            (&[0x30, 0x00], Codec::Cer, BY_INITIALIZER, 2),
+            (&[0x30, 0x00], Codec::Der, BY_INITIALIZER, 2),
+            (&[0x30, 0x80, 0x00, 0x00], Codec::Ber, BY_INITIALIZER, 4),
+            (TRUE_ALONE, Codec::Ber, THREE_OCTETS_LEFT, 5),
+            (TRUE_ALONE, Codec::Cer, THREE_OCTETS_LEFT, 5),
+            (TRUE_ALONE, Codec::Der, THREE_OCTETS_LEFT, 5),
         ],
     );
 }
 
-// With a marker the closure is called, but where the contents are empty.
+// Where there is an extension marker, the closure is called, unless the contents are empty.
 #[test]
 fn closures_read_extensible_types(rt: HostRuntime) {
-    const EMPTY: &str = "Extensible { by_closure: false }";
-    const READ: &str = "Extensible { by_closure: true }";
-    reads_extensible(
+    const BY_INITIALIZER: &str = "Extensible { by_closure: false }";
+    const BY_CLOSURE: &str = "Extensible { by_closure: true }";
+    assert_reads_extensible(
         &rt,
         rt.alloc(),
         &[
-            (&[0x30, 0x00], Codec::Ber, EMPTY, 2),
-            (&[0x30, 0x00], Codec::Cer, EMPTY, 2),
-            (&[0x30, 0x00], Codec::Der, EMPTY, 2),
-            (TRUE_ALONE, Codec::Ber, READ, 5),
-            (TRUE_ALONE, Codec::Cer, READ, 5),
-            (TRUE_ALONE, Codec::Der, READ, 5),
-            (INDEFINITE, Codec::Ber, READ, 7),
-            (INDEFINITE, Codec::Cer, READ, 7),
+            (&[0x30, 0x00], Codec::Ber, BY_INITIALIZER, 2),
+            (&[0x30, 0x00], Codec::Cer, BY_INITIALIZER, 2),
+            (&[0x30, 0x00], Codec::Der, BY_INITIALIZER, 2),
+            (TRUE_ALONE, Codec::Ber, BY_CLOSURE, 5),
+            (TRUE_ALONE, Codec::Cer, BY_CLOSURE, 5),
+            (TRUE_ALONE, Codec::Der, BY_CLOSURE, 5),
+            (TRUE_ALONE_INDEFINITE, Codec::Ber, BY_CLOSURE, 7),
+            (TRUE_ALONE_INDEFINITE, Codec::Cer, BY_CLOSURE, 7),
         ],
     );
 }

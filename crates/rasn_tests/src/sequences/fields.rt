@@ -1,9 +1,9 @@
-//! The fields of a SEQUENCE or a SET, as readers of the schema see them.
+//! The components of a SEQUENCE (X.680 25) or a SET (X.680 27), as readers of the schema see them.
 
-use crate::reading::facts;
+use crate::reading::assert_facts;
 use rasn_types::types::{Field, FieldPresence, Fields, HasPresence, Tag};
 
-// SEQUENCE { first BOOLEAN, second INTEGER OPTIONAL, third NULL DEFAULT NULL }: two of its fields may be left out.
+// Two components of SEQUENCE { first BOOLEAN, second INTEGER OPTIONAL, third NULL DEFAULT NULL } may be left out.
 #[test]
 fn counts_fields(rt: HostRuntime) {
     let fields = Fields::from_static([
@@ -12,7 +12,7 @@ fn counts_fields(rt: HostRuntime) {
         Field::new_default(2, Tag::NULL, "third"),
     ]);
     let [_, second, third] = fields.fields;
-    facts(
+    assert_facts(
         &rt,
         &[
             fields.len() == 3,
@@ -27,7 +27,7 @@ fn counts_fields(rt: HostRuntime) {
 #[test]
 fn tells_that_there_are_none(rt: HostRuntime) {
     let none: Fields<0> = Fields::from_static([]);
-    facts(
+    assert_facts(
         &rt,
         &[
             none.is_empty(),

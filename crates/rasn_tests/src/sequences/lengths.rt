@@ -1,14 +1,15 @@
+//! The lengths of SEQUENCEs in one another (X.690 8.1.3).
 ghost use Rattle.rasn_enc.specs.View.{LeavesOthers};
 
-use crate::writing::{done, holds_pieces, new_encoder};
+use crate::writing::{assert_output_pieces, assert_written, new_encoder};
 use rasn::ber::enc::Encoder;
 use rasn::error::EncodeError;
 use rasn::types::{Codec, Constraints, Identifier, Tag};
 use rasn_bench::Pair;
 use std::alloc::{AllocError, Global};
 
-/// What stands inside.
-const OCTETS: [u8; 1000] = [0x55; 1000];
+/// The octets of the OCTET STRING inside.
+const THOUSAND_OCTETS: [u8; 1000] = [0x55; 1000];
 
 /// Writes so many SEQUENCEs in one another round an OCTET STRING.
 fn nest(encoder: &mut Encoder, levels: u8) -> Result<(), EncodeError>
@@ -18,7 +19,7 @@ fn nest(encoder: &mut Encoder, levels: u8) -> Result<(), EncodeError>
         return encoder.encode_octet_string(
             Tag::OCTET_STRING,
             &Constraints::NONE,
-            &OCTETS,
+            &THOUSAND_OCTETS,
             Identifier::EMPTY,
         );
     }
@@ -32,7 +33,7 @@ fn nest(encoder: &mut Encoder, levels: u8) -> Result<(), EncodeError>
     )
 }
 
-/// The headers of 100 SEQUENCEs in one another, of 1404 octets with what stands inside, and that of the OCTET STRING.
+/// The headers of 100 SEQUENCEs in one another, the outermost of 1404 octets, and that of the OCTET STRING inside.
 fn headers(alloc: Global) -> Result<Vec<u8>, AllocError> {
     let mut octets = Vec::new(alloc);
     let mut length: u16 = 1404;
@@ -45,16 +46,16 @@ fn headers(alloc: Global) -> Result<Vec<u8>, AllocError> {
     Ok(octets)
 }
 
-// Each header tells how much stands inside: 1400 octets, four less in the next, and so on (X.690 8.1.3).
+// The outermost SEQUENCE has 1400 octets of contents, and each further one four less (X.690 8.1.3).
 #[test]
 fn writes_sequences_in_one_another(rt: HostRuntime) {
     let alloc = rt.alloc();
     let mut encoder = new_encoder(&rt, alloc, Codec::Der);
-    done(&rt, nest(&mut encoder, 100));
+    assert_written(&rt, nest(&mut encoder, 100));
     match headers(alloc) {
         Ok(headers) => {
             assert!(rt; headers.starts_with(&[0x30, 0x82, 0x05, 0x78]));
-            holds_pieces(&rt, alloc, encoder.output(), &[(&headers, 0x55, 1000)]);
+            assert_output_pieces(&rt, alloc, encoder.output(), &[(&headers, 0x55, 1000)]);
         }
         Err(_) => assert!(rt; false, "no memory"),
     }

@@ -1,6 +1,7 @@
+//! SEQUENCEs of indefinite length in one another (X.690 8.1.3.6) are decoded to a depth of 128.
 ghost use Rattle.rasn_de.specs.Inside.{Keeps};
 
-use crate::reading::{decoder_of, told};
+use crate::reading::{assert_answer, decoder_of};
 use rasn::ber::de::Decoder;
 use rasn::error::DecodeError;
 use rasn::types::{Codec, Tag};
@@ -39,12 +40,19 @@ fn nest(alloc: Global) -> Result<Vec<u8>, AllocError> {
     Ok(octets)
 }
 
-/// Reads so many levels, and holds the answer against the text, and how many octets it took.
-fn is_told(rt: &impl Abort, alloc: Global, octets: &[u8], levels: u8, text: &str, taken: usize) {
+/// Asserts what so many SEQUENCEs in one another are read as, and how many octets are consumed.
+fn assert_reads_nested(
+    rt: &impl Abort,
+    alloc: Global,
+    octets: &[u8],
+    levels: u8,
+    text: &str,
+    consumed: usize,
+) {
     let mut decoder = decoder_of(alloc, octets, Codec::Ber);
     let answer = nested(&mut decoder, levels);
-    told(rt, alloc, Codec::Ber, answer, text);
-    assert!(rt; decoder.decoded_len() == taken);
+    assert_answer(rt, alloc, Codec::Ber, answer, text);
+    assert!(rt; decoder.decoded_len() == consumed);
 }
 
 #[test]
@@ -53,8 +61,8 @@ fn sequences_are_128_deep_at_most(rt: HostRuntime) {
     match nest(alloc) {
         Ok(octets) => {
             let truth = "Pair { number: 0, truth: true }";
-            is_told(&rt, alloc, &octets, 128, truth, 515);
-            is_told(&rt, alloc, &octets, 129, "ExceedsMaxParseDepth", 2);
+            assert_reads_nested(&rt, alloc, &octets, 128, truth, 515);
+            assert_reads_nested(&rt, alloc, &octets, 129, "ExceedsMaxParseDepth", 2);
         }
         Err(_) => assert!(rt; false, "no memory"),
     }

@@ -1,14 +1,16 @@
-use crate::whole::{answers, rewrites};
+//! A SEQUENCE with a DEFAULT component (X.690 11.5), and the items that the modules of the rules share.
+
+use crate::whole::{assert_decodes, assert_rewrites};
 use rasn::{Codec, cer, der};
 use rasn_bench::Setting;
 
-// A part that equals its default is left out by CER and DER, and may be there under BER and CER alone (X.690 11.5).
+// A component that equals its default is left out by CER and DER; it may be there under BER and CER alone (X.690 11.5).
 #[test]
 fn settings_have_a_default(rt: HostRuntime) {
     let alloc = rt.alloc();
     const USUAL: &str = "Setting { truth: true, level: 7 }";
-    const REFUSED: &str = "CodecSpecific { inner: Der(DefaultValuePresent) }";
-    answers::<Setting>(
+    const DEFAULT_PRESENT: &str = "CodecSpecific { inner: Der(DefaultValuePresent) }";
+    assert_decodes::<Setting>(
         &rt,
         alloc,
         &[
@@ -21,7 +23,7 @@ fn settings_have_a_default(rt: HostRuntime) {
             (
                 &[0x30, 0x06, 0x01, 0x01, 0xFF, 0x02, 0x01, 0x07],
                 Codec::Der,
-                REFUSED,
+                DEFAULT_PRESENT,
             ),
             (
                 &[0x30, 0x06, 0x01, 0x01, 0x00, 0x02, 0x01, 0x09],
@@ -30,7 +32,7 @@ fn settings_have_a_default(rt: HostRuntime) {
             ),
         ],
     );
-    rewrites::<Setting>(
+    assert_rewrites::<Setting>(
         &rt,
         alloc,
         &[
@@ -50,7 +52,7 @@ fn settings_have_a_default(rt: HostRuntime) {
     );
 }
 
-// One type under the names of all three modules.
+// A type has a name in each of the modules of the rules.
 #[test]
 fn modules_share_their_items(rt: HostRuntime) {
     let sequence = cer::Identifier::from_tag(rasn::Tag::SEQUENCE, true);

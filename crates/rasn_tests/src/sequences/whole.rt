@@ -1,13 +1,15 @@
-use crate::reading::reads;
-use crate::whole::{answers, encoded, rewrites};
-use crate::writing::holds;
+//! SEQUENCE by the entry points (X.690 8.9): of indefinite length under CER (9.1), of definite length under DER (10.1).
+
+use crate::reading::assert_reads;
+use crate::whole::{assert_decodes, assert_rewrites, encoded};
+use crate::writing::assert_output;
 use rasn::ber;
 use rasn::types::Codec;
 use rasn_bench::{Both, Pair};
 
 #[test]
 fn refusals_tell_what_is_wrong(rt: HostRuntime) {
-    reads::<Pair>(
+    assert_reads::<Pair>(
         &rt,
         rt.alloc(),
         &[
@@ -49,7 +51,7 @@ fn refusals_tell_what_is_wrong(rt: HostRuntime) {
     );
 }
 
-// X.690 9.1, 10.1.
+// A SEQUENCE is of indefinite length under CER, and of definite length under DER (X.690 9.1, 10.1).
 #[test]
 fn a_canonical_value_is_closed_by_octets(rt: HostRuntime) {
     let alloc = rt.alloc();
@@ -57,17 +59,17 @@ fn a_canonical_value_is_closed_by_octets(rt: HostRuntime) {
         number: 5,
         truth: true,
     };
-    const CANONICAL: &[u8] = &[0x30, 0x80, 0x02, 0x01, 0x05, 0x01, 0x01, 0xFF, 0x00, 0x00];
-    const DISTINGUISHED: &[u8] = &[0x30, 0x06, 0x02, 0x01, 0x05, 0x01, 0x01, 0xFF];
-    holds(&rt, encoded(alloc, Codec::Cer, &pair), CANONICAL);
-    const READ: &str = "Pair { number: 5, truth: true }";
-    answers::<Pair>(&rt, alloc, &[(CANONICAL, Codec::Cer, READ)]);
-    rewrites::<Pair>(
+    const PAIR_IN_CER: &[u8] = &[0x30, 0x80, 0x02, 0x01, 0x05, 0x01, 0x01, 0xFF, 0x00, 0x00];
+    const PAIR_IN_DER: &[u8] = &[0x30, 0x06, 0x02, 0x01, 0x05, 0x01, 0x01, 0xFF];
+    assert_output(&rt, encoded(alloc, Codec::Cer, &pair), PAIR_IN_CER);
+    const FIVE_AND_TRUE: &str = "Pair { number: 5, truth: true }";
+    assert_decodes::<Pair>(&rt, alloc, &[(PAIR_IN_CER, Codec::Cer, FIVE_AND_TRUE)]);
+    assert_rewrites::<Pair>(
         &rt,
         alloc,
-        &[(CANONICAL, Codec::Cer, Codec::Der, DISTINGUISHED)],
+        &[(PAIR_IN_CER, Codec::Cer, Codec::Der, PAIR_IN_DER)],
     );
-    reads::<Pair>(
+    assert_reads::<Pair>(
         &rt,
         alloc,
         &[(
@@ -82,12 +84,27 @@ fn a_canonical_value_is_closed_by_octets(rt: HostRuntime) {
 #[test]
 fn sequences_hold_sequences(rt: HostRuntime) {
     let alloc = rt.alloc();
-    const SHORT: &[u8] = &[0x30, 0x08, 0x01, 0x01, 0x00, 0x30, 0x03, 0x01, 0x01, 0xFF];
-    assert!(rt; ber::decode::<Both<bool, Both<bool, bool>>>(alloc, SHORT).is_err());
-    const WHOLE: &[u8] = &[
+    const INNER_WITHOUT_NUMBER: &[u8] = &[
+        0x30, 0x08, 0x01, 0x01, 0x00, 0x30, 0x03, 0x01, 0x01, 0xFF,
+    ];
+    assert!(rt; ber::decode::<Both<bool, Both<bool, bool>>>(alloc, INNER_WITHOUT_NUMBER).is_err());
+    const SEQUENCE_IN_SEQUENCE: &[u8] = &[
         0x30, 0x0B, 0x01, 0x01, 0x00, 0x30, 0x06, 0x01, 0x01, 0xFF, 0x02, 0x01, 0x07,
     ];
-    const READ: &str = "Both { first: false, second: Both { first: true, second: 7 } }";
-    answers::<Both<bool, Both<bool, u8>>>(&rt, alloc, &[(WHOLE, Codec::Der, READ)]);
-    rewrites::<Both<bool, Both<bool, u8>>>(&rt, alloc, &[(WHOLE, Codec::Der, Codec::Ber, WHOLE)]);
+    const BOTH_IN_BOTH: &str = "Both { first: false, second: Both { first: true, second: 7 } }";
+    assert_decodes::<Both<bool, Both<bool, u8>>>(
+        &rt,
+        alloc,
+        &[(SEQUENCE_IN_SEQUENCE, Codec::Der, BOTH_IN_BOTH)],
+    );
+    assert_rewrites::<Both<bool, Both<bool, u8>>>(
+        &rt,
+        alloc,
+        &[(
+            SEQUENCE_IN_SEQUENCE,
+            Codec::Der,
+            Codec::Ber,
+            SEQUENCE_IN_SEQUENCE,
+        )],
+    );
 }

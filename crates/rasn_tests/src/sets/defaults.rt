@@ -1,5 +1,7 @@
-use crate::reading::{Row, facts, reads, value};
-use crate::whole::{Rewritten, decoded, rewrites};
+//! A SET with a DEFAULT component and a CHOICE (X.690 8.11, 10.3, 11.5).
+
+use crate::reading::{Row, assert_facts, assert_reads, value};
+use crate::whole::{Rewritten, assert_rewrites, decoded};
 use rasn::types::Codec;
 use rasn_bench::Event;
 
@@ -7,25 +9,25 @@ const DEFAULT_PRESENT: &str = "CodecSpecific { inner: Der(DefaultValuePresent) }
 
 const OUT_OF_ORDER: &str = "CodecSpecific { inner: Der(SetComponentsOutOfOrder) }";
 
-/// A UTCTime alone, with the level that is meant where none is written.
+/// A UTCTime alone, with the level left out, which is the default of 7.
 const USUAL: &[u8] = &[
     0x31, 0x0F, 0x17, 0x0D, 0x39, 0x39, 0x31, 0x32, 0x33, 0x31, 0x32, 0x33, 0x35, 0x39, 0x35, 0x39,
     0x5A,
 ];
 
-/// The same, and that it is confirmed.
+/// The UTCTime, and that it is confirmed.
 const CONFIRMED: &[u8] = &[
     0x31, 0x12, 0x17, 0x0D, 0x39, 0x39, 0x31, 0x32, 0x33, 0x31, 0x32, 0x33, 0x35, 0x39, 0x35, 0x39,
     0x5A, 0x81, 0x01, 0xFF,
 ];
 
-/// The level of 7 is written, which is the default.
+/// The UTCTime, and the default level of 7.
 const SEVEN: &[u8] = &[
     0x31, 0x12, 0x17, 0x0D, 0x39, 0x39, 0x31, 0x32, 0x33, 0x31, 0x32, 0x33, 0x35, 0x39, 0x35, 0x39,
     0x5A, 0x80, 0x01, 0x07,
 ];
 
-/// The same, behind the other components; the BOOLEAN's octet is another than FF.
+/// That it is confirmed, by another octet than FF, the UTCTime, and the default level of 7.
 const LAST_SEVEN: &[u8] = &[
     0x31, 0x15, 0x81, 0x01, 0x05, 0x17, 0x0D, 0x39, 0x39, 0x31, 0x32, 0x33, 0x31, 0x32, 0x33, 0x35,
     0x39, 0x35, 0x39, 0x5A, 0x80, 0x01, 0x07,
@@ -37,14 +39,14 @@ const GENERAL: &[u8] = &[
     0x35, 0x39, 0x5A, 0x80, 0x01, 0x08,
 ];
 
-/// The same out of order.
+/// The level of 8 and the GeneralizedTime, out of order.
 const GENERAL_LAST: &[u8] = &[
     0x31, 0x14, 0x80, 0x01, 0x08, 0x18, 0x0F, 0x31, 0x39, 0x39, 0x39, 0x31, 0x32, 0x33, 0x31, 0x32,
     0x33, 0x35, 0x39, 0x35, 0x39, 0x5A,
 ];
 
-/// The same in the form that CER writes.
-const GENERAL_INDEFINITE: &[u8] = &[
+/// The GeneralizedTime and the level of 8, as CER writes them.
+const GENERAL_IN_CER: &[u8] = &[
     0x31, 0x80, 0x18, 0x0F, 0x31, 0x39, 0x39, 0x39, 0x31, 0x32, 0x33, 0x31, 0x32, 0x33, 0x35, 0x39,
     0x35, 0x39, 0x5A, 0x80, 0x01, 0x08, 0x00, 0x00,
 ];
@@ -57,19 +59,19 @@ const REWRITTEN: [Rewritten<'static>; 9] = [
     (SEVEN, Codec::Cer, Codec::Ber, USUAL),
     (LAST_SEVEN, Codec::Ber, Codec::Der, CONFIRMED),
     (GENERAL_LAST, Codec::Ber, Codec::Der, GENERAL),
-    (GENERAL, Codec::Ber, Codec::Cer, GENERAL_INDEFINITE),
-    (GENERAL_INDEFINITE, Codec::Cer, Codec::Der, GENERAL),
+    (GENERAL, Codec::Ber, Codec::Cer, GENERAL_IN_CER),
+    (GENERAL_IN_CER, Codec::Cer, Codec::Der, GENERAL),
 ];
 
-// Components are read in any order (X.690 8.11.2) and written in that of their tags (9.3, 10.3), the default is left out (11.5).
+// Components are read in any order (X.690 8.11.2) and written in that of their tags (9.3, 10.3), without the default (11.5).
 #[test]
 fn rewrites_sets_with_defaults(rt: HostRuntime) {
     let alloc = rt.alloc();
-    rewrites::<Event>(&rt, alloc, &REWRITTEN);
+    assert_rewrites::<Event>(&rt, alloc, &REWRITTEN);
     let usual = value(&rt, decoded::<Event>(alloc, Codec::Der, USUAL));
     let read = value(&rt, decoded::<Event>(alloc, Codec::Ber, LAST_SEVEN));
     let other = value(&rt, decoded::<Event>(alloc, Codec::Der, GENERAL));
-    facts(
+    assert_facts(
         &rt,
         &[
             usual.level == 7 && usual.confirmed.is_none(),
@@ -80,7 +82,7 @@ fn rewrites_sets_with_defaults(rt: HostRuntime) {
     );
 }
 
-const PRESENT: [Row; 7] = [
+const PRESENT_DEFAULTS: [Row; 7] = [
     (SEVEN, Codec::Der, DEFAULT_PRESENT, 20),
     (
         &[0x31, 0x03, 0x80, 0x01, 0x07],
@@ -88,7 +90,7 @@ const PRESENT: [Row; 7] = [
         DEFAULT_PRESENT,
         5,
     ),
-    // The default is told at its component, before a fault of a later one and before one that doesn't come.
+    // The default is reported at its component, before a fault of a later one and before one that is missing.
     (
         &[0x31, 0x06, 0x80, 0x01, 0x07, 0x81, 0x01, 0x05],
         Codec::Der,
@@ -107,7 +109,7 @@ const PRESENT: [Row; 7] = [
         "MissingField { name: \"time\" }",
         8,
     ),
-    // It comes behind the order of the tags, and behind what is wrong with the component itself.
+    // The default is reported after a tag out of order, and after a fault of the component itself.
     (
         &[0x31, 0x06, 0x81, 0x01, 0xFF, 0x80, 0x01, 0x07],
         Codec::Der,
@@ -125,10 +127,10 @@ const PRESENT: [Row; 7] = [
 // A default that is there is refused by DER alone (X.690 11.5).
 #[test]
 fn refuses_defaults_in_sets(rt: HostRuntime) {
-    reads::<Event>(&rt, rt.alloc(), &PRESENT);
+    assert_reads::<Event>(&rt, rt.alloc(), &PRESENT_DEFAULTS);
 }
 
-const NOT_GATHERED: [Row; 6] = [
+const NO_EVENTS: [Row; 6] = [
     (GENERAL_LAST, Codec::Der, OUT_OF_ORDER, 22),
     (
         &[0x31, 0x06, 0x80, 0x01, 0x08, 0x80, 0x01, 0x08],
@@ -136,7 +138,7 @@ const NOT_GATHERED: [Row; 6] = [
         "DuplicateField { name: \"level\" }",
         8,
     ),
-    // Both alternatives of the CHOICE are the one part.
+    // Both alternatives of the CHOICE are one component.
     (
         &[
             0x31, 0x20, 0x17, 0x0D, 0x39, 0x39, 0x31, 0x32, 0x33, 0x31, 0x32, 0x33, 0x35, 0x39,
@@ -170,5 +172,5 @@ const NOT_GATHERED: [Row; 6] = [
 // No component may come twice, a required one has to come, and no other may (X.680 27).
 #[test]
 fn refuses_events_that_are_none(rt: HostRuntime) {
-    reads::<Event>(&rt, rt.alloc(), &NOT_GATHERED);
+    assert_reads::<Event>(&rt, rt.alloc(), &NO_EVENTS);
 }

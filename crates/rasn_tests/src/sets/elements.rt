@@ -1,4 +1,6 @@
-use crate::reading::facts;
+//! A SET OF as a value: its elements keep the order that they were put in, which doesn't count (X.680 28).
+
+use crate::reading::assert_facts;
 use crate::writing::made;
 use rasn_types::types::SetOf;
 use std::alloc::{AllocError, Global};
@@ -10,12 +12,12 @@ fn set_of(alloc: Global, numbers: &[u8]) -> Result<Option<SetOf<u8>>, AllocError
     Ok(Some(SetOf::from_vec(numbers)))
 }
 
-// A new number goes to the end of the walk.
+// A new number is the last of the elements.
 #[test]
-fn keeps_the_walk(rt: HostRuntime) {
+fn keeps_the_order_of_elements(rt: HostRuntime) {
     let alloc = rt.alloc();
     let mut set_of = made(&rt, set_of(alloc, &[3, 1, 3]));
-    facts(
+    assert_facts(
         &rt,
         &[
             set_of.len() == 3,
@@ -32,26 +34,26 @@ fn keeps_the_walk(rt: HostRuntime) {
 fn begins_without_elements(rt: HostRuntime) {
     let empty: SetOf<u8> = SetOf::new(rt.alloc());
     let next = empty.iter().next();
-    facts(&rt, &[empty.is_empty(), empty.len() == 0, next.is_none()]);
+    assert_facts(&rt, &[empty.is_empty(), empty.len() == 0, next.is_none()]);
 }
 
-/// Holds whether the SETs OF of these numbers are equal, either way round.
-fn are_equal(rt: &impl Abort, alloc: Global, first: &[u8], second: &[u8], equal: bool) {
+/// Asserts that the SETs OF of these numbers are equal, either way round, exactly if `equal`.
+fn assert_equality(rt: &impl Abort, alloc: Global, first: &[u8], second: &[u8], equal: bool) {
     let first = made(rt, set_of(alloc, first));
     let second = made(rt, set_of(alloc, second));
-    facts(
+    assert_facts(
         rt,
         &[(first == second) == equal, (second == first) == equal],
     );
 }
 
-// The order doesn't count, but how often each element stands there does (X.680 28).
+// The order of the elements doesn't count, but how often each is there does (X.680 28).
 #[test]
 fn equal_sets_of_have_equal_elements_equally_often(rt: HostRuntime) {
     let alloc = rt.alloc();
-    are_equal(&rt, alloc, &[1, 2, 2], &[2, 1, 2], true);
-    are_equal(&rt, alloc, &[1, 2, 2], &[1, 1, 2], false);
-    are_equal(&rt, alloc, &[1, 2], &[1, 2, 2], false);
-    are_equal(&rt, alloc, &[1], &[2], false);
-    are_equal(&rt, alloc, &[], &[], true);
+    assert_equality(&rt, alloc, &[1, 2, 2], &[2, 1, 2], true);
+    assert_equality(&rt, alloc, &[1, 2, 2], &[1, 1, 2], false);
+    assert_equality(&rt, alloc, &[1, 2], &[1, 2, 2], false);
+    assert_equality(&rt, alloc, &[1], &[2], false);
+    assert_equality(&rt, alloc, &[], &[], true);
 }

@@ -1,8 +1,9 @@
+//! The calls that write over a vector, for a closure, and the components of a SET (X.690 9.3, 10.3).
 ghost use Rattle.rasn_enc.specs.View.{Extends};
 
 use super::order::OUT_OF_ORDER;
 use super::sets_of::lists;
-use crate::writing::{done, holds, made, refused};
+use crate::writing::{assert_output, assert_refuses, assert_written, made};
 use rasn::ber::enc::{Encoder, EncoderOptions};
 use rasn::enc::Encode;
 use rasn::error::EncodeError;
@@ -11,10 +12,10 @@ use rasn::{ber, cer, der};
 use std::alloc::{AllocError, Global};
 use std::process::Abort;
 
-/// TRUE.
+/// The octets of TRUE.
 const TRUE: [u8; 3] = [0x01, 0x01, 0xFF];
 
-/// A vector that holds something else.
+/// A vector that holds an octet.
 fn held(alloc: Global) -> Result<Option<Vec<u8>>, AllocError> {
     let octets = Vec::from_slice(alloc, &[0xAA])?;
     Ok(Some(octets))
@@ -40,7 +41,7 @@ fn fills_vectors(rt: HostRuntime) {
     let alloc = rt.alloc();
     for rules in &[Codec::Ber, Codec::Cer, Codec::Der] {
         let mut buffer = made(&rt, held(alloc));
-        done(&rt, fill(alloc, *rules, &true, &mut buffer));
+        assert_written(&rt, fill(alloc, *rules, &true, &mut buffer));
         assert!(rt; buffer.as_slice() == TRUE.as_slice());
     }
 }
@@ -52,7 +53,7 @@ fn a_refused_value_empties_the_vector(rt: HostRuntime) {
     let mut buffer = made(&rt, held(alloc));
     let falling = made(&rt, lists(alloc, &[&[1, 1], &[2]]));
     let answer = fill(alloc, Codec::Der, &falling, &mut buffer);
-    refused(&rt, alloc, Codec::Der, answer, OUT_OF_ORDER);
+    assert_refuses(&rt, alloc, Codec::Der, answer, OUT_OF_ORDER);
     assert!(rt; buffer.is_empty());
 }
 
@@ -65,7 +66,7 @@ fn an_empty_scope_has_no_octets_by_ber(rt: HostRuntime) {
             ensures { Extends encoder.old encoder.new }
         { Ok(()) },
     );
-    holds(&rt, answer, &[]);
+    assert_output(&rt, answer, &[]);
 }
 
 #[test]
@@ -76,10 +77,10 @@ fn an_empty_scope_has_no_octets_by_der(rt: HostRuntime) {
             ensures { Extends encoder.old encoder.new }
         { Ok(()) },
     );
-    holds(&rt, answer, &[]);
+    assert_output(&rt, answer, &[]);
 }
 
-/// The encoder that is made, where there is memory for it.
+/// The encoder that is made, with memory for it.
 fn started(rt: &impl Abort, encoder: Result<Encoder, EncodeError>) -> Encoder {
     match encoder {
         Ok(encoder) => encoder,
@@ -93,28 +94,28 @@ fn encoders_begin_without_octets(rt: HostRuntime) {
     let buffer = made(&rt, held(alloc));
     let answer = Encoder::new_with_buffer(alloc, EncoderOptions::der(), buffer);
     let mut encoder = started(&rt, answer);
-    done(&rt, true.encode(&mut encoder));
-    holds(&rt, encoder.output(), &TRUE);
+    assert_written(&rt, true.encode(&mut encoder));
+    assert_output(&rt, encoder.output(), &TRUE);
     let mut encoder = started(&rt, Encoder::new_set(alloc, EncoderOptions::der()));
-    done(&rt, true.encode(&mut encoder));
-    holds(&rt, encoder.output(), &TRUE);
+    assert_written(&rt, true.encode(&mut encoder));
+    assert_output(&rt, encoder.output(), &TRUE);
 }
 
-/// What the encoder puts out after an INTEGER and a BOOLEAN, whose tag is the lower one.
+/// What the encoder puts out after an INTEGER and a BOOLEAN, whose tags are out of order.
 fn outputs_falling(rt: &impl Abort, mut encoder: Encoder) -> Result<Vec<u8>, EncodeError> {
-    done(rt, 2u8.encode(&mut encoder));
-    done(rt, true.encode(&mut encoder));
+    assert_written(rt, 2u8.encode(&mut encoder));
+    assert_written(rt, true.encode(&mut encoder));
     encoder.output()
 }
 
-// Only the output of `new_set` has to be in order.
+// Only what is written to an encoder of `new_set` has to be in order.
 #[test]
 fn outputs_of_sets_are_in_order(rt: HostRuntime) {
     let alloc = rt.alloc();
     let encoder = started(&rt, Encoder::new_set(alloc, EncoderOptions::der()));
     let answer = outputs_falling(&rt, encoder).map(|_| ());
-    refused(&rt, alloc, Codec::Der, answer, OUT_OF_ORDER);
+    assert_refuses(&rt, alloc, Codec::Der, answer, OUT_OF_ORDER);
     let encoder = started(&rt, Encoder::new(alloc, EncoderOptions::der()));
-    const OCTETS: &[u8] = &[0x02, 0x01, 0x02, 0x01, 0x01, 0xFF];
-    holds(&rt, outputs_falling(&rt, encoder), OCTETS);
+    const TWO_AND_TRUE: &[u8] = &[0x02, 0x01, 0x02, 0x01, 0x01, 0xFF];
+    assert_output(&rt, outputs_falling(&rt, encoder), TWO_AND_TRUE);
 }

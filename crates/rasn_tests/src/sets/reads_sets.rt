@@ -1,11 +1,13 @@
-use crate::reading::{Row, decoder_of, reads, told};
+//! SET is decoded (X.690 8.11): in any order under BER and CER, in the order of its tags under DER (10.3).
+
+use crate::reading::{Row, assert_answer, assert_reads, decoder_of};
 use rasn::ber::de::Decoder;
 use rasn::de::Decode;
 use rasn::error::DecodeError;
 use rasn::types::{Codec, Tag};
 use rasn_bench::Set3;
 
-const THREE: &str = "Set3 { zero: 1, one: 2, two: 3 }";
+const ONE_TWO_THREE: &str = "Set3 { zero: 1, one: 2, two: 3 }";
 
 const OUT_OF_ORDER: &str = "CodecSpecific { inner: Der(SetComponentsOutOfOrder) }";
 
@@ -17,19 +19,19 @@ const FALLING: &[u8] = &[
     0x31, 0x09, 0x82, 0x01, 0x03, 0x81, 0x01, 0x02, 0x80, 0x01, 0x01,
 ];
 
-const READ: [Row; 8] = [
-    (IN_ORDER, Codec::Ber, THREE, 11),
-    (IN_ORDER, Codec::Cer, THREE, 11),
-    (IN_ORDER, Codec::Der, THREE, 11),
-    (FALLING, Codec::Ber, THREE, 11),
-    (FALLING, Codec::Cer, THREE, 11),
+const SETS: [Row; 8] = [
+    (IN_ORDER, Codec::Ber, ONE_TWO_THREE, 11),
+    (IN_ORDER, Codec::Cer, ONE_TWO_THREE, 11),
+    (IN_ORDER, Codec::Der, ONE_TWO_THREE, 11),
+    (FALLING, Codec::Ber, ONE_TWO_THREE, 11),
+    (FALLING, Codec::Cer, ONE_TWO_THREE, 11),
     (FALLING, Codec::Der, OUT_OF_ORDER, 11),
     (
         &[
             0x31, 0x80, 0x81, 0x01, 0x02, 0x80, 0x01, 0x01, 0x82, 0x01, 0x03, 0x00, 0x00,
         ],
         Codec::Ber,
-        THREE,
+        ONE_TWO_THREE,
         13,
     ),
     (
@@ -43,10 +45,10 @@ const READ: [Row; 8] = [
 // The components of a SET come in any order (X.690 8.11.2), in DER in that of their tags (10.3).
 #[test]
 fn reads_sets(rt: HostRuntime) {
-    reads::<Set3>(&rt, rt.alloc(), &READ);
+    assert_reads::<Set3>(&rt, rt.alloc(), &SETS);
 }
 
-const NOT_GATHERED: [Row; 9] = [
+const NO_SETS: [Row; 9] = [
     (
         &[0x31, 0x06, 0x80, 0x01, 0x01, 0x80, 0x01, 0x01],
         Codec::Ber,
@@ -71,7 +73,7 @@ const NOT_GATHERED: [Row; 9] = [
         "MissingField { name: \"zero\" }",
         8,
     ),
-    // A component that comes twice is told before one that doesn't come, and both before end-of-contents octets that are missing.
+    // A component that comes twice is reported before one that is missing, and both before end-of-contents octets that are missing.
     (
         &[0x31, 0x80, 0x82, 0x01, 0x01, 0x82, 0x01, 0x01],
         Codec::Ber,
@@ -84,7 +86,7 @@ const NOT_GATHERED: [Row; 9] = [
         "MissingField { name: \"one\" }",
         2,
     ),
-    // A component that is refused is told before one that doesn't come.
+    // A component that is refused is reported before one that is missing.
     (
         &[0x31, 0x06, 0x80, 0x01, 0x01, 0x81, 0x01, 0xFF],
         Codec::Ber,
@@ -110,10 +112,10 @@ const NOT_GATHERED: [Row; 9] = [
 // Each component has to come once, and no other (X.680 27).
 #[test]
 fn refuses_components_twice_and_missing(rt: HostRuntime) {
-    reads::<Set3>(&rt, rt.alloc(), &NOT_GATHERED);
+    assert_reads::<Set3>(&rt, rt.alloc(), &NO_SETS);
 }
 
-const ORDERED: [Row; 5] = [
+const FIRST_FAULTS: [Row; 5] = [
     // A component is out of order before it is read.
     (
         &[0x31, 0x06, 0x81, 0x01, 0x02, 0x41, 0x01, 0x05],
@@ -127,7 +129,7 @@ const ORDERED: [Row; 5] = [
         "NoValidChoice { name: \"Set3\" }",
         8,
     ),
-    // One that is refused is told before a later one that falls.
+    // A component that is refused is reported before a later one that is out of order.
     (
         &[0x31, 0x07, 0x81, 0x02, 0x01, 0x00, 0x80, 0x01, 0x05],
         Codec::Der,
@@ -151,10 +153,10 @@ const ORDERED: [Row; 5] = [
 // DER looks at a component's tag before it reads it (X.690 10.3).
 #[test]
 fn looks_at_tags_in_order(rt: HostRuntime) {
-    reads::<Set3>(&rt, rt.alloc(), &ORDERED);
+    assert_reads::<Set3>(&rt, rt.alloc(), &FIRST_FAULTS);
 }
 
-/// A SET whose components are BOOLEANs that may be left out, counted.
+/// Reads a SET of BOOLEANs that may be left out, and counts them.
 fn count_booleans(decoder: &mut Decoder<'_>) -> Result<Set3, DecodeError> {
     decoder.decode_set::<3, 0, Option<bool>, Set3, _, _>(
         Tag::SET,
@@ -172,11 +174,11 @@ fn count_booleans(decoder: &mut Decoder<'_>) -> Result<Set3, DecodeError> {
     )
 }
 
-// A component that takes nothing is refused with the octets that are left.
+// A component that consumes nothing is refused with the number of octets that are left.
 #[test]
 fn refuses_components_of_nothing(rt: HostRuntime) {
     let alloc = rt.alloc();
-    for (octets, rules, text, taken) in [
+    for (octets, rules, text, consumed) in [
         (
             [0x31, 0x03, 0x02, 0x01, 0x05].as_slice(),
             Codec::Ber,
@@ -204,7 +206,7 @@ fn refuses_components_of_nothing(rt: HostRuntime) {
     ] {
         let mut decoder = decoder_of(alloc, octets, rules);
         let answer = count_booleans(&mut decoder);
-        told(&rt, alloc, rules, answer, text);
-        assert!(rt; decoder.decoded_len() == taken, "{octets:?}");
+        assert_answer(&rt, alloc, rules, answer, text);
+        assert!(rt; decoder.decoded_len() == consumed, "{octets:?}");
     }
 }

@@ -1,7 +1,8 @@
+//! A SET that is refused leaves neither octets nor a tag (X.690 9.3, 10.3).
 ghost use Rattle.rasn_enc.specs.View.{LeavesOthers};
 
 use crate::types::{ContextTag, Three};
-use crate::writing::{done, holds, new_encoder};
+use crate::writing::{assert_output, assert_written, new_encoder};
 use rasn::ber::enc::Encoder;
 use rasn::enc::Encode;
 use rasn::error::EncodeError;
@@ -13,7 +14,7 @@ type At<const N: u32> = Implicit<ContextTag<N>, u8>;
 /// SET { \[1\] INTEGER (0..255), \[0\] INTEGER (0..255), \[2\] INTEGER (0..255) OPTIONAL }
 type Falling = Three<At<1>, At<0>, Option<At<2>>>;
 
-/// Writes a SET of \[0\] 1 and \[1\] 2. Between them it tries one whose tags fall, and drops the refusal.
+/// Writes a SET of \[0\] 1 and \[1\] 2. Between them it drops the refusal of a SET whose tags are out of order.
 fn write_past_a_refused_set(encoder: &mut Encoder) -> Result<(), EncodeError> {
     encoder.encode_set::<3, 0, Falling, _>(
         Tag::SET,
@@ -37,7 +38,7 @@ fn write_past_a_refused_set(encoder: &mut Encoder) -> Result<(), EncodeError> {
 #[test]
 fn a_refused_set_leaves_no_tag(rt: HostRuntime) {
     let mut encoder = new_encoder(&rt, rt.alloc(), Codec::Der);
-    done(&rt, write_past_a_refused_set(&mut encoder));
-    const OCTETS: &[u8] = &[0x31, 0x06, 0x80, 0x01, 0x01, 0x81, 0x01, 0x02];
-    holds(&rt, encoder.output(), OCTETS);
+    assert_written(&rt, write_past_a_refused_set(&mut encoder));
+    const TWO_COMPONENTS: &[u8] = &[0x31, 0x06, 0x80, 0x01, 0x01, 0x81, 0x01, 0x02];
+    assert_output(&rt, encoder.output(), TWO_COMPONENTS);
 }

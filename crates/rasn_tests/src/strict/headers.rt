@@ -1,122 +1,122 @@
-//! Identifiers and lengths have one form. A refusal takes nothing.
+//! DER has one form of identifier (X.690 8.1.2) and length (10.1). A refusal consumes nothing.
 
-use crate::reading::{Row, looks, reads};
+use crate::reading::{Row, assert_peeks, assert_reads};
 use rasn_bench::Pair;
 use rasn_types::types::{Codec, OctetString};
 
-const LONG_TAG: &str = "CodecSpecific { inner: Der(NonMinimalTagNumber) }";
+const LONG_TAG_NUMBER: &str = "CodecSpecific { inner: Der(NonMinimalTagNumber) }";
 
-const OTHER_BIT: &str = "CodecSpecific { inner: Der(ConstructedBitMismatch) }";
+const CONSTRUCTED_BIT: &str = "CodecSpecific { inner: Der(ConstructedBitMismatch) }";
 
 const LONG_LENGTH: &str = "CodecSpecific { inner: Der(NonMinimalLength) }";
 
 // A number below 31 has the low form, and no number has a leading octet 80 (X.690 8.1.2.2, 8.1.2.4.2).
 #[test]
 fn tag_numbers_are_short(rt: HostRuntime) {
-    const LOW: &[u8] = &[0x1F, 0x01, 0x01, 0xFF];
-    const PADDED: &[u8] = &[0x1F, 0x80, 0x01, 0x01, 0xFF];
-    reads::<bool>(
+    const HIGH_FORM_OF_1: &[u8] = &[0x1F, 0x01, 0x01, 0xFF];
+    const PADDED_1: &[u8] = &[0x1F, 0x80, 0x01, 0x01, 0xFF];
+    assert_reads::<bool>(
         &rt,
         rt.alloc(),
         &[
-            (LOW, Codec::Ber, "true", 4),
-            (LOW, Codec::Cer, "true", 4),
-            (LOW, Codec::Der, LONG_TAG, 0),
-            (PADDED, Codec::Ber, "true", 5),
-            (PADDED, Codec::Cer, "true", 5),
-            (PADDED, Codec::Der, LONG_TAG, 0),
+            (HIGH_FORM_OF_1, Codec::Ber, "true", 4),
+            (HIGH_FORM_OF_1, Codec::Cer, "true", 4),
+            (HIGH_FORM_OF_1, Codec::Der, LONG_TAG_NUMBER, 0),
+            (PADDED_1, Codec::Ber, "true", 5),
+            (PADDED_1, Codec::Cer, "true", 5),
+            (PADDED_1, Codec::Der, LONG_TAG_NUMBER, 0),
         ],
     );
 }
 
-const MISSING: &str = "Incomplete { needed: Size(1) }";
+const ONE_OCTET_MISSING: &str = "Incomplete { needed: Size(1) }";
 
-const WIDE: &str = "CodecSpecific { inner: Ber(UnsupportedTagNumber) }";
+const WIDE_TAG_NUMBER: &str = "CodecSpecific { inner: Ber(UnsupportedTagNumber) }";
 
-const END: &str = "CodecSpecific { inner: Ber(UnexpectedEndOfContents) }";
+const END_OF_CONTENTS: &str = "CodecSpecific { inner: Ber(UnexpectedEndOfContents) }";
 
-// Of a number with a leading octet 80, a missing octet and a width are told first, and that it is universal 0 (X.690 8.1.2.4).
+// A missing octet, too wide a number and universal 0 are reported before a leading octet 80 of a tag number (X.690 8.1.2.4).
 const PADDED_FAULTS: [Row; 15] = [
-    (&[0x1F, 0x80], Codec::Ber, MISSING, 0),
-    (&[0x1F, 0x80], Codec::Cer, MISSING, 0),
-    (&[0x1F, 0x80], Codec::Der, MISSING, 0),
-    (&[0x1F, 0x80, 0x80], Codec::Ber, MISSING, 0),
-    (&[0x1F, 0x80, 0x80], Codec::Cer, MISSING, 0),
-    (&[0x1F, 0x80, 0x80], Codec::Der, MISSING, 0),
+    (&[0x1F, 0x80], Codec::Ber, ONE_OCTET_MISSING, 0),
+    (&[0x1F, 0x80], Codec::Cer, ONE_OCTET_MISSING, 0),
+    (&[0x1F, 0x80], Codec::Der, ONE_OCTET_MISSING, 0),
+    (&[0x1F, 0x80, 0x80], Codec::Ber, ONE_OCTET_MISSING, 0),
+    (&[0x1F, 0x80, 0x80], Codec::Cer, ONE_OCTET_MISSING, 0),
+    (&[0x1F, 0x80, 0x80], Codec::Der, ONE_OCTET_MISSING, 0),
     (
         &[0x1F, 0x80, 0x90, 0x80, 0x80, 0x80, 0x00],
         Codec::Ber,
-        WIDE,
+        WIDE_TAG_NUMBER,
         0,
     ),
     (
         &[0x1F, 0x80, 0x90, 0x80, 0x80, 0x80, 0x00],
         Codec::Cer,
-        WIDE,
+        WIDE_TAG_NUMBER,
         0,
     ),
     (
         &[0x1F, 0x80, 0x90, 0x80, 0x80, 0x80, 0x00],
         Codec::Der,
-        WIDE,
+        WIDE_TAG_NUMBER,
         0,
     ),
-    (&[0x1F, 0x80, 0x00], Codec::Ber, END, 0),
-    (&[0x1F, 0x80, 0x00], Codec::Cer, END, 0),
-    (&[0x1F, 0x80, 0x00], Codec::Der, END, 0),
-    (&[0x1F, 0x80, 0x01], Codec::Ber, MISSING, 0),
-    (&[0x1F, 0x80, 0x01], Codec::Cer, MISSING, 0),
-    (&[0x1F, 0x80, 0x01], Codec::Der, LONG_TAG, 0),
+    (&[0x1F, 0x80, 0x00], Codec::Ber, END_OF_CONTENTS, 0),
+    (&[0x1F, 0x80, 0x00], Codec::Cer, END_OF_CONTENTS, 0),
+    (&[0x1F, 0x80, 0x00], Codec::Der, END_OF_CONTENTS, 0),
+    (&[0x1F, 0x80, 0x01], Codec::Ber, ONE_OCTET_MISSING, 0),
+    (&[0x1F, 0x80, 0x01], Codec::Cer, ONE_OCTET_MISSING, 0),
+    (&[0x1F, 0x80, 0x01], Codec::Der, LONG_TAG_NUMBER, 0),
 ];
 
 #[test]
 fn padded_tag_numbers_have_other_faults_first(rt: HostRuntime) {
-    reads::<bool>(&rt, rt.alloc(), &PADDED_FAULTS);
+    assert_reads::<bool>(&rt, rt.alloc(), &PADDED_FAULTS);
 }
 
-// The same where a tag is looked at.
+// Peeking at a tag reports a missing octet, too wide a number and universal 0 before a leading octet 80.
 #[test]
 fn padded_tags_that_are_looked_at(rt: HostRuntime) {
-    const FOUND: &str = "Tag { class: Universal, value: 1 }";
-    looks(
+    const BOOLEAN_TAG: &str = "Tag { class: Universal, value: 1 }";
+    assert_peeks(
         &rt,
         rt.alloc(),
         &[
-            (&[0x1F, 0x80], Codec::Der, MISSING),
-            (&[0x1F, 0x80, 0x80], Codec::Der, MISSING),
+            (&[0x1F, 0x80], Codec::Der, ONE_OCTET_MISSING),
+            (&[0x1F, 0x80, 0x80], Codec::Der, ONE_OCTET_MISSING),
             (
                 &[0x1F, 0x80, 0x90, 0x80, 0x80, 0x80, 0x00],
                 Codec::Der,
-                WIDE,
+                WIDE_TAG_NUMBER,
             ),
-            (&[0x1F, 0x80, 0x00], Codec::Der, END),
-            (&[0x1F, 0x80, 0x01], Codec::Ber, FOUND),
-            (&[0x1F, 0x80, 0x01], Codec::Cer, FOUND),
-            (&[0x1F, 0x80, 0x01], Codec::Der, LONG_TAG),
+            (&[0x1F, 0x80, 0x00], Codec::Der, END_OF_CONTENTS),
+            (&[0x1F, 0x80, 0x01], Codec::Ber, BOOLEAN_TAG),
+            (&[0x1F, 0x80, 0x01], Codec::Cer, BOOLEAN_TAG),
+            (&[0x1F, 0x80, 0x01], Codec::Der, LONG_TAG_NUMBER),
         ],
     );
 }
 
-// Where a tag is looked at, and where a value may be left out, too.
+// Peeking at a tag, and reading a value that may be left out, refuse a tag number below 31 in the high form.
 #[test]
 fn tags_that_are_looked_at_are_short(rt: HostRuntime) {
-    const FOUND: &str = "Tag { class: Universal, value: 1 }";
-    looks(
+    const BOOLEAN_TAG: &str = "Tag { class: Universal, value: 1 }";
+    assert_peeks(
         &rt,
         rt.alloc(),
         &[
-            (&[0x1F, 0x01], Codec::Ber, FOUND),
-            (&[0x1F, 0x01], Codec::Cer, FOUND),
-            (&[0x1F, 0x01], Codec::Der, LONG_TAG),
+            (&[0x1F, 0x01], Codec::Ber, BOOLEAN_TAG),
+            (&[0x1F, 0x01], Codec::Cer, BOOLEAN_TAG),
+            (&[0x1F, 0x01], Codec::Der, LONG_TAG_NUMBER),
         ],
     );
-    reads::<Option<i32>>(
+    assert_reads::<Option<i32>>(
         &rt,
         rt.alloc(),
         &[
             (&[0x1F, 0x01], Codec::Ber, "None", 0),
             (&[0x1F, 0x01], Codec::Cer, "None", 0),
-            (&[0x1F, 0x01], Codec::Der, LONG_TAG, 0),
+            (&[0x1F, 0x01], Codec::Der, LONG_TAG_NUMBER, 0),
         ],
     );
 }
@@ -124,40 +124,40 @@ fn tags_that_are_looked_at_are_short(rt: HostRuntime) {
 // A BOOLEAN is primitive, whatever its length is (X.690 8.1.2.5, 8.2.1).
 #[test]
 fn booleans_are_primitive(rt: HostRuntime) {
-    const OPEN: &str = "CodecSpecific { inner: Ber(IndefiniteLengthNotAllowed) }";
-    reads::<bool>(
+    const INDEFINITE_LENGTH: &str = "CodecSpecific { inner: Ber(IndefiniteLengthNotAllowed) }";
+    assert_reads::<bool>(
         &rt,
         rt.alloc(),
         &[
             (&[0x21, 0x01, 0xFF], Codec::Ber, "true", 3),
             (&[0x21, 0x01, 0xFF], Codec::Cer, "true", 3),
-            (&[0x21, 0x01, 0xFF], Codec::Der, OTHER_BIT, 0),
-            (&[0x21, 0x80, 0x00, 0x00], Codec::Ber, OPEN, 2),
-            (&[0x21, 0x80, 0x00, 0x00], Codec::Cer, OPEN, 2),
-            (&[0x21, 0x80, 0x00, 0x00], Codec::Der, OTHER_BIT, 0),
+            (&[0x21, 0x01, 0xFF], Codec::Der, CONSTRUCTED_BIT, 0),
+            (&[0x21, 0x80, 0x00, 0x00], Codec::Ber, INDEFINITE_LENGTH, 2),
+            (&[0x21, 0x80, 0x00, 0x00], Codec::Cer, INDEFINITE_LENGTH, 2),
+            (&[0x21, 0x80, 0x00, 0x00], Codec::Der, CONSTRUCTED_BIT, 0),
         ],
     );
 }
 
-// So are numbers and NULL (X.690 8.1.2.5, 8.3.1, 8.8.1).
+// INTEGER and NULL are primitive (X.690 8.1.2.5, 8.3.1, 8.8.1).
 #[test]
 fn numbers_and_null_are_primitive(rt: HostRuntime) {
-    reads::<i32>(
+    assert_reads::<i32>(
         &rt,
         rt.alloc(),
         &[
             (&[0x22, 0x01, 0x05], Codec::Ber, "5", 3),
             (&[0x22, 0x01, 0x05], Codec::Cer, "5", 3),
-            (&[0x22, 0x01, 0x05], Codec::Der, OTHER_BIT, 0),
+            (&[0x22, 0x01, 0x05], Codec::Der, CONSTRUCTED_BIT, 0),
         ],
     );
-    reads::<()>(
+    assert_reads::<()>(
         &rt,
         rt.alloc(),
         &[
             (&[0x25, 0x00], Codec::Ber, "()", 2),
             (&[0x25, 0x00], Codec::Cer, "()", 2),
-            (&[0x25, 0x00], Codec::Der, OTHER_BIT, 0),
+            (&[0x25, 0x00], Codec::Der, CONSTRUCTED_BIT, 0),
         ],
     );
 }
@@ -166,7 +166,7 @@ fn numbers_and_null_are_primitive(rt: HostRuntime) {
 #[test]
 fn lengths_are_short(rt: HostRuntime) {
     let alloc = rt.alloc();
-    reads::<bool>(
+    assert_reads::<bool>(
         &rt,
         alloc,
         &[
@@ -175,35 +175,35 @@ fn lengths_are_short(rt: HostRuntime) {
             (&[0x01, 0x81, 0x01, 0xFF], Codec::Der, LONG_LENGTH, 0),
         ],
     );
-    const TWO: &str = "OctetString { octets: [161, 178] }";
-    const LONG: &[u8] = &[0x04, 0x81, 0x02, 0xA1, 0xB2];
-    const LONGER: &[u8] = &[0x04, 0x82, 0x00, 0x02, 0xA1, 0xB2];
-    reads::<OctetString>(
+    const TWO_OCTETS: &str = "OctetString { octets: [161, 178] }";
+    const LENGTH_81_02: &[u8] = &[0x04, 0x81, 0x02, 0xA1, 0xB2];
+    const LENGTH_82_00_02: &[u8] = &[0x04, 0x82, 0x00, 0x02, 0xA1, 0xB2];
+    assert_reads::<OctetString>(
         &rt,
         alloc,
         &[
-            (LONG, Codec::Ber, TWO, 5),
-            (LONG, Codec::Cer, TWO, 5),
-            (LONG, Codec::Der, LONG_LENGTH, 0),
-            (LONGER, Codec::Ber, TWO, 6),
-            (LONGER, Codec::Cer, TWO, 6),
-            (LONGER, Codec::Der, LONG_LENGTH, 0),
+            (LENGTH_81_02, Codec::Ber, TWO_OCTETS, 5),
+            (LENGTH_81_02, Codec::Cer, TWO_OCTETS, 5),
+            (LENGTH_81_02, Codec::Der, LONG_LENGTH, 0),
+            (LENGTH_82_00_02, Codec::Ber, TWO_OCTETS, 6),
+            (LENGTH_82_00_02, Codec::Cer, TWO_OCTETS, 6),
+            (LENGTH_82_00_02, Codec::Der, LONG_LENGTH, 0),
         ],
     );
 }
 
-// That of a SEQUENCE too (X.690 10.1).
+// A length of a SEQUENCE below 128 has the short form (X.690 10.1).
 #[test]
 fn lengths_of_sequences_are_short(rt: HostRuntime) {
-    const OCTETS: &[u8] = &[0x30, 0x81, 0x06, 0x02, 0x01, 0x05, 0x01, 0x01, 0xFF];
-    const PAIR: &str = "Pair { number: 5, truth: true }";
-    reads::<Pair>(
+    const LENGTH_81_06: &[u8] = &[0x30, 0x81, 0x06, 0x02, 0x01, 0x05, 0x01, 0x01, 0xFF];
+    const FIVE_AND_TRUE: &str = "Pair { number: 5, truth: true }";
+    assert_reads::<Pair>(
         &rt,
         rt.alloc(),
         &[
-            (OCTETS, Codec::Ber, PAIR, 9),
-            (OCTETS, Codec::Cer, PAIR, 9),
-            (OCTETS, Codec::Der, LONG_LENGTH, 0),
+            (LENGTH_81_06, Codec::Ber, FIVE_AND_TRUE, 9),
+            (LENGTH_81_06, Codec::Cer, FIVE_AND_TRUE, 9),
+            (LENGTH_81_06, Codec::Der, LONG_LENGTH, 0),
         ],
     );
 }

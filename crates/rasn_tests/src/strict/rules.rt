@@ -1,6 +1,6 @@
-//! What the rules allow (X.690 9, 10).
+//! What each of the rules allows (X.690 9, 10).
 
-use crate::reading::facts;
+use crate::reading::assert_facts;
 use rasn_types::ber::rules::EncodingRules;
 use rasn_types::types::Codec;
 
@@ -8,7 +8,7 @@ use rasn_types::types::Codec;
 type Row = (EncodingRules, Codec, bool, usize);
 
 // Constructed strings and the indefinite form are of BER and CER (10.1, 10.2); a segment of CER has 1000 contents octets (9.2).
-const ROWS: &[Row] = &[
+const EACH_RULE: &[Row] = &[
     (EncodingRules::Ber, Codec::Ber, true, usize::MAX),
     (EncodingRules::Cer, Codec::Cer, true, 1000),
     (EncodingRules::Der, Codec::Der, false, usize::MAX),
@@ -16,8 +16,8 @@ const ROWS: &[Row] = &[
 
 #[test]
 fn rules_allow(rt: HostRuntime) {
-    for (rules, codec, more_forms, longest) in ROWS {
-        facts(
+    for (rules, codec, more_forms, longest) in EACH_RULE {
+        assert_facts(
             &rt,
             &[
                 rules.codec() == *codec,
@@ -32,7 +32,7 @@ fn rules_allow(rt: HostRuntime) {
 
 #[test]
 fn each_is_one_of_three(rt: HostRuntime) {
-    facts(
+    assert_facts(
         &rt,
         &[
             EncodingRules::Ber.is_ber(),

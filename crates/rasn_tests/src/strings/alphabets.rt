@@ -1,4 +1,4 @@
-//! Strings as values, and their alphabets (X.680 41).
+//! Character strings as values, and their alphabets (X.680 41).
 
 use rasn_types::types::{
     Alphabet, BmpString, FixedOctetString, GeneralType, GraphicType, Ia5Type, NumericType,
@@ -32,7 +32,7 @@ fn is_string<S: StringType>(alloc: Global, octets: &[u8], is_admitted: bool) -> 
     }
 }
 
-fn admits<S: StringType>(rt: &impl Abort, alloc: Global, octets: &[u8], is_admitted: bool) {
+fn assert_admits<S: StringType>(rt: &impl Abort, alloc: Global, octets: &[u8], is_admitted: bool) {
     assert!(rt; is_string::<S>(alloc, octets, is_admitted), "{octets:?}");
 }
 
@@ -40,16 +40,16 @@ fn admits<S: StringType>(rt: &impl Abort, alloc: Global, octets: &[u8], is_admit
 #[test]
 fn admits_its_alphabet(rt: HostRuntime) {
     let alloc = rt.alloc();
-    admits::<Ia5Type>(&rt, alloc, b"Smith", true);
-    admits::<Ia5Type>(&rt, alloc, &[0x41, 0x80], false);
-    admits::<VisibleType>(&rt, alloc, &[0x41, 0x0A], false);
-    admits::<NumericType>(&rt, alloc, b"12 3", true);
-    admits::<NumericType>(&rt, alloc, b"1-2", false);
-    admits::<PrintableType>(&rt, alloc, b"it's (1/2)?", true);
-    admits::<PrintableType>(&rt, alloc, b"a@b", false);
-    admits::<TeletexType>(&rt, alloc, &[0xC8], true);
-    admits::<GeneralType>(&rt, alloc, &[0x1B, 0xFF], true);
-    admits::<GraphicType>(&rt, alloc, &[], true);
+    assert_admits::<Ia5Type>(&rt, alloc, b"Smith", true);
+    assert_admits::<Ia5Type>(&rt, alloc, &[0x41, 0x80], false);
+    assert_admits::<VisibleType>(&rt, alloc, &[0x41, 0x0A], false);
+    assert_admits::<NumericType>(&rt, alloc, b"12 3", true);
+    assert_admits::<NumericType>(&rt, alloc, b"1-2", false);
+    assert_admits::<PrintableType>(&rt, alloc, b"it's (1/2)?", true);
+    assert_admits::<PrintableType>(&rt, alloc, b"a@b", false);
+    assert_admits::<TeletexType>(&rt, alloc, &[0xC8], true);
+    assert_admits::<GeneralType>(&rt, alloc, &[0x1B, 0xFF], true);
+    assert_admits::<GraphicType>(&rt, alloc, &[], true);
 }
 
 #[test]

@@ -1,6 +1,6 @@
-//! Lists of bits as values.
+//! BIT STRING as a value: bits in octets (X.690 8.6.2), and bits gathered from segments (8.6.4).
 
-use crate::reading::facts;
+use crate::reading::assert_facts;
 use crate::writing::made;
 use rasn_types::ber::gathered::GatheredBits;
 use rasn_types::types::{BitStr, BitString};
@@ -14,18 +14,18 @@ fn are_packed(alloc: Global, bits: &BitStr<'_>, octets: &[u8]) -> bool {
         && found.strip_prefix(&[7]) == Some(octets)
 }
 
-// The bits 1,1,0,1,0,1,0,1,1,0,1 take two octets, whatever stands behind them, and from the second on they are ten.
+// The bits 1,1,0,1,0,1,0,1,1,0,1 have two octets, whatever stands behind them, and from the second on they are ten.
 #[test]
 fn packs_bits(rt: HostRuntime) {
     let alloc = rt.alloc();
-    const OCTETS: &[u8] = &[0xD5, 0xBF];
-    let bits = made(&rt, Ok(BitStr::new(OCTETS, 0, 11)));
+    const SIXTEEN_BITS: &[u8] = &[0xD5, 0xBF];
+    let bits = made(&rt, Ok(BitStr::new(SIXTEEN_BITS, 0, 11)));
     assert!(rt; bits.len() == 11);
     let (front, back) = bits.split_at(1);
-    facts(
+    assert_facts(
         &rt,
         &[
-            BitStr::new(OCTETS, 5, 12).is_none(),
+            BitStr::new(SIXTEEN_BITS, 5, 12).is_none(),
             bits.get(3) == Some(true),
             bits.get(9) == Some(false),
             bits.get(11).is_none(),
@@ -37,7 +37,7 @@ fn packs_bits(rt: HostRuntime) {
     );
 }
 
-/// The first so many bits of the octets, where there are so many and memory for them.
+/// The first `len` bits of the octets, if there are so many and memory for them.
 fn first_bits(alloc: Global, octets: &[u8], len: usize) -> Result<Option<BitString>, AllocError> {
     let octets = Vec::from_slice(alloc, octets)?;
     Ok(BitString::new(octets, len))
@@ -49,7 +49,7 @@ fn compares_bits(rt: HostRuntime) {
     let alloc = rt.alloc();
     let one = made(&rt, first_bits(alloc, &[0xD5, 0xBF, 0x01], 11));
     let other = made(&rt, first_bits(alloc, &[0xD5, 0xA0], 11));
-    facts(
+    assert_facts(
         &rt,
         &[
             one == other,
@@ -76,5 +76,5 @@ fn gathers_bits(rt: HostRuntime) {
     let alloc = rt.alloc();
     let bits = made(&rt, gathered(alloc));
     let is_packed = are_packed(alloc, &bits.as_bitstr(), &[0xF5, 0x01]);
-    facts(&rt, &[bits.len() == 16, is_packed]);
+    assert_facts(&rt, &[bits.len() == 16, is_packed]);
 }

@@ -1,15 +1,18 @@
-//! Character strings and octets of a fixed size are read.
+//! Character strings (X.690 8.23) and OCTET STRING of a fixed size (8.7) are decoded.
 
-use crate::reading::{decoder_of, gives, reads, reads_octets, reads_within, sized, told};
+use crate::reading::{
+    assert_answer, assert_has_octets, assert_reads, assert_reads_octets, assert_reads_within,
+    decoder_of, sized,
+};
 use rasn_types::types::{
     BmpString, Codec, Constraints, FixedOctetString, GeneralString, GraphicString, Ia5String,
     NumericString, PrintableString, Tag, TeletexString, VisibleString,
 };
 
-// UTF-8 is judged over all segments: a character may be cut in two (X.690 8.23.10).
+// UTF-8 is checked over all segments, since a character may be cut in two (X.690 8.23.10).
 #[test]
 fn reads_utf8_across_segments(rt: HostRuntime) {
-    reads::<String>(
+    assert_reads::<String>(
         &rt,
         rt.alloc(),
         &[
@@ -37,35 +40,35 @@ fn reads_utf8_across_segments(rt: HostRuntime) {
     );
 }
 
-// The size of a UTF8String is in characters, that of a BMPString in units, after the conversion.
+// The size of a UTF8String counts characters, that of a BMPString units, and the octets are checked before the size.
 #[test]
 fn counts_characters_and_units(rt: HostRuntime) {
-    const OCTETS: &[u8] = &[
+    const FOUR_STRINGS: &[u8] = &[
         0x0C, 0x03, 0xC3, 0xAB, 0x61, 0x0C, 0x01, 0xC3, 0x1E, 0x02, 0x00, 0x41, 0x1E, 0x03, 0x00,
         0x41, 0x00,
     ];
-    let mut decoder = decoder_of(rt.alloc(), OCTETS, Codec::Ber);
-    told(
+    let mut decoder = decoder_of(rt.alloc(), FOUR_STRINGS, Codec::Ber);
+    assert_answer(
         &rt,
         rt.alloc(),
         Codec::Ber,
         decoder.decode_utf8_string(Tag::UTF8_STRING, &sized(2)),
         "\"ëa\"",
     );
-    told(
+    assert_answer(
         &rt,
         rt.alloc(),
         Codec::Ber,
         decoder.decode_utf8_string(Tag::UTF8_STRING, &Constraints::NONE),
         "StringConversionFailed { tag: Tag { class: Universal, value: 12 } }",
     );
-    gives(
+    assert_has_octets(
         &rt,
         decoder.decode_bmp_string(Tag::BMP_STRING, &sized(1)),
         &[0x00, 0x41],
     );
     assert!(rt; decoder.decoded_len() == 12);
-    told(
+    assert_answer(
         &rt,
         rt.alloc(),
         Codec::Ber,
@@ -75,22 +78,27 @@ fn counts_characters_and_units(rt: HostRuntime) {
     assert!(rt; decoder.decoded_len() == 17);
 }
 
-// The first octet that isn't in the alphabet is told, with the whole value taken; the size is told before (X.680 41).
+// The first octet that isn't in the alphabet is reported, after the size, and the value is consumed (X.680 41).
 #[test]
 fn refuses_foreign_octets(rt: HostRuntime) {
     let kind = "PermittedAlphabetError { octet: 128, position: 1 }";
-    const OCTETS: &[u8] = &[0x16, 0x02, 0x41, 0x80];
-    reads::<Ia5String>(&rt, rt.alloc(), &[(OCTETS, Codec::Ber, kind, 4)]);
-    reads::<VisibleString>(
+    const LETTER_AND_80: &[u8] = &[0x16, 0x02, 0x41, 0x80];
+    assert_reads::<Ia5String>(&rt, rt.alloc(), &[(LETTER_AND_80, Codec::Ber, kind, 4)]);
+    assert_reads::<VisibleString>(
         &rt,
         rt.alloc(),
         &[(&[0x1A, 0x02, 0x41, 0x80], Codec::Ber, kind, 4)],
     );
     let kind = "SizeConstraintNotSatisfied { size: Some(2), expected: Single(1) }";
-    reads_within::<Ia5String>(&rt, rt.alloc(), &sized(1), &[(OCTETS, Codec::Ber, kind, 4)]);
+    assert_reads_within::<Ia5String>(
+        &rt,
+        rt.alloc(),
+        &sized(1),
+        &[(LETTER_AND_80, Codec::Ber, kind, 4)],
+    );
 }
 
-// The example of X.690 8.21.5.4, and the tags of X.680 table 8.
+// The octets of `Smith` are the example of X.690 8.21.5.4, and the tags stand in X.680, table 8.
 #[test]
 fn reads_each_type(rt: HostRuntime) {
     let alloc = rt.alloc();
@@ -98,59 +106,59 @@ fn reads_each_type(rt: HostRuntime) {
     const SMITH: &[u8] = &[
         0x36, 0x80, 0x04, 0x02, 0x53, 0x6D, 0x04, 0x03, 0x69, 0x74, 0x68, 0x00, 0x00,
     ];
-    reads_octets::<Ia5String>(&rt, alloc, &[(SMITH, ber, b"Smith", 13)]);
-    reads_octets::<NumericString>(&rt, alloc, &[(&[0x12, 0x01, 0x31], ber, b"1", 3)]);
-    reads_octets::<PrintableString>(&rt, alloc, &[(&[0x13, 0x01, 0x41], ber, b"A", 3)]);
-    reads_octets::<TeletexString>(&rt, alloc, &[(&[0x14, 0x01, 0xC8], ber, &[0xC8], 3)]);
-    reads_octets::<GraphicString>(&rt, alloc, &[(&[0x19, 0x01, 0x41], ber, b"A", 3)]);
-    reads_octets::<VisibleString>(&rt, alloc, &[(&[0x1A, 0x01, 0x41], ber, b"A", 3)]);
-    reads_octets::<GeneralString>(&rt, alloc, &[(&[0x1B, 0x01, 0x41], ber, b"A", 3)]);
+    assert_reads_octets::<Ia5String>(&rt, alloc, &[(SMITH, ber, b"Smith", 13)]);
+    assert_reads_octets::<NumericString>(&rt, alloc, &[(&[0x12, 0x01, 0x31], ber, b"1", 3)]);
+    assert_reads_octets::<PrintableString>(&rt, alloc, &[(&[0x13, 0x01, 0x41], ber, b"A", 3)]);
+    assert_reads_octets::<TeletexString>(&rt, alloc, &[(&[0x14, 0x01, 0xC8], ber, &[0xC8], 3)]);
+    assert_reads_octets::<GraphicString>(&rt, alloc, &[(&[0x19, 0x01, 0x41], ber, b"A", 3)]);
+    assert_reads_octets::<VisibleString>(&rt, alloc, &[(&[0x1A, 0x01, 0x41], ber, b"A", 3)]);
+    assert_reads_octets::<GeneralString>(&rt, alloc, &[(&[0x1B, 0x01, 0x41], ber, b"A", 3)]);
     const LETTER: &[u8] = &[0x1E, 0x02, 0x00, 0x41];
-    reads_octets::<BmpString>(&rt, alloc, &[(LETTER, ber, &[0x00, 0x41], 4)]);
+    assert_reads_octets::<BmpString>(&rt, alloc, &[(LETTER, ber, &[0x00, 0x41], 4)]);
 }
 
 #[test]
 fn calls_read_numeric_to_ia5(rt: HostRuntime) {
-    const OCTETS: &[u8] = &[
+    const FOUR_STRINGS: &[u8] = &[
         0x12, 0x01, 0x31, 0x13, 0x01, 0x41, 0x14, 0x01, 0xC8, 0x16, 0x01, 0x41,
     ];
-    let mut decoder = decoder_of(rt.alloc(), OCTETS, Codec::Der);
+    let mut decoder = decoder_of(rt.alloc(), FOUR_STRINGS, Codec::Der);
     let any = Constraints::NONE;
-    gives(
+    assert_has_octets(
         &rt,
         decoder.decode_numeric_string(Tag::NUMERIC_STRING, &any),
         b"1",
     );
-    gives(
+    assert_has_octets(
         &rt,
         decoder.decode_printable_string(Tag::PRINTABLE_STRING, &any),
         b"A",
     );
-    gives(
+    assert_has_octets(
         &rt,
         decoder.decode_teletex_string(Tag::TELETEX_STRING, &any),
         &[0xC8],
     );
-    gives(&rt, decoder.decode_ia5_string(Tag::IA5_STRING, &any), b"A");
+    assert_has_octets(&rt, decoder.decode_ia5_string(Tag::IA5_STRING, &any), b"A");
     assert!(rt; decoder.decoded_len() == 12);
 }
 
 #[test]
 fn calls_read_graphic_to_general(rt: HostRuntime) {
-    const OCTETS: &[u8] = &[0x19, 0x01, 0x41, 0x1A, 0x01, 0x41, 0x1B, 0x01, 0x41];
-    let mut decoder = decoder_of(rt.alloc(), OCTETS, Codec::Der);
+    const THREE_STRINGS: &[u8] = &[0x19, 0x01, 0x41, 0x1A, 0x01, 0x41, 0x1B, 0x01, 0x41];
+    let mut decoder = decoder_of(rt.alloc(), THREE_STRINGS, Codec::Der);
     let any = Constraints::NONE;
-    gives(
+    assert_has_octets(
         &rt,
         decoder.decode_graphic_string(Tag::GRAPHIC_STRING, &any),
         b"A",
     );
-    gives(
+    assert_has_octets(
         &rt,
         decoder.decode_visible_string(Tag::VISIBLE_STRING, &any),
         b"A",
     );
-    gives(
+    assert_has_octets(
         &rt,
         decoder.decode_general_string(Tag::GENERAL_STRING, &any),
         b"A",
@@ -158,19 +166,19 @@ fn calls_read_graphic_to_general(rt: HostRuntime) {
     assert!(rt; decoder.decoded_len() == 9);
 }
 
-// Another length than the type's is told before a handed size.
+// Another length than the type's is reported before a size that is handed in.
 #[test]
 fn reads_a_fixed_size(rt: HostRuntime) {
-    reads_octets::<FixedOctetString<1>>(
+    assert_reads_octets::<FixedOctetString<1>>(
         &rt,
         rt.alloc(),
         &[(&[0x04, 0x01, 0x41], Codec::Ber, b"A", 3)],
     );
-    const KIND: &str = "SizeConstraintNotSatisfied { size: Some(2), expected: Single(1) }";
-    reads_within::<FixedOctetString<1>>(
+    const TWO_NOT_ONE: &str = "SizeConstraintNotSatisfied { size: Some(2), expected: Single(1) }";
+    assert_reads_within::<FixedOctetString<1>>(
         &rt,
         rt.alloc(),
         &sized(5),
-        &[(&[0x04, 0x02, 0x41, 0x42], Codec::Ber, KIND, 4)],
+        &[(&[0x04, 0x02, 0x41, 0x42], Codec::Ber, TWO_NOT_ONE, 4)],
     );
 }

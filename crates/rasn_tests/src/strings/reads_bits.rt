@@ -1,13 +1,13 @@
-//! BIT STRING is read.
+//! BIT STRING is decoded, in one piece and in segments (X.690 8.6).
 
-use crate::reading::{decoder_of, reads, reads_within, sized, value};
+use crate::reading::{assert_reads, assert_reads_within, decoder_of, sized, value};
 use rasn_de::de::Decode;
 use rasn_types::error::DecodeError;
 use rasn_types::types::{BitString, Codec, Constraints, Tag};
 use std::alloc::{AllocError, Global};
 use std::process::Abort;
 
-/// Octets, the rules they are read by, how many bits there are, their octets, and how many octets are taken.
+/// Octets, the rules they are read by, how many bits there are, their octets, and how many octets are consumed.
 type BitsRow = (&'static [u8], Codec, usize, &'static [u8], usize);
 
 fn packed(alloc: Global, bits: &BitString) -> Result<Vec<u8>, AllocError> {
@@ -16,8 +16,8 @@ fn packed(alloc: Global, bits: &BitString) -> Result<Vec<u8>, AllocError> {
     Ok(octets)
 }
 
-/// Holds the bits that a call answers against their count and octets.
-fn gives_bits(
+/// Asserts that a call answers so many bits, which have these octets.
+fn assert_has_bits(
     rt: &impl Abort,
     alloc: Global,
     answer: Result<BitString, DecodeError>,
@@ -36,32 +36,32 @@ fn gives_bits(
     }
 }
 
-fn reads_bits(rt: &impl Abort, alloc: Global, rows: &[BitsRow]) {
-    for (octets, rules, len, found, taken) in rows {
+fn assert_reads_bits(rt: &impl Abort, alloc: Global, rows: &[BitsRow]) {
+    for (octets, rules, len, found, consumed) in rows {
         let mut decoder = decoder_of(alloc, octets, *rules);
-        gives_bits(rt, alloc, BitString::decode(&mut decoder), *len, found);
-        assert_eq!(rt; decoder.decoded_len(), *taken, "{octets:?} {rules:?}");
+        assert_has_bits(rt, alloc, BitString::decode(&mut decoder), *len, found);
+        assert_eq!(rt; decoder.decoded_len(), *consumed, "{octets:?} {rules:?}");
     }
 }
 
-// The example of X.690 8.6.4.2, primitive and in segments.
-const PRIMITIVE: &[u8] = &[0x03, 0x07, 0x04, 0x0A, 0x3B, 0x5F, 0x29, 0x1C, 0xD0];
+// The bits of the example of X.690 8.6.4.2 in one piece.
+const BITS_44_IN_ONE_PIECE: &[u8] = &[0x03, 0x07, 0x04, 0x0A, 0x3B, 0x5F, 0x29, 0x1C, 0xD0];
 
-const SEGMENTS: &[u8] = &[
+const BITS_44_IN_SEGMENTS: &[u8] = &[
     0x23, 0x80, 0x03, 0x03, 0x00, 0x0A, 0x3B, 0x03, 0x05, 0x04, 0x5F, 0x29, 0x1C, 0xD0, 0x00, 0x00,
 ];
 
-const BITS: &[u8] = &[0x0A, 0x3B, 0x5F, 0x29, 0x1C, 0xD0];
+const BITS_44: &[u8] = &[0x0A, 0x3B, 0x5F, 0x29, 0x1C, 0xD0];
 
 // A segment that isn't the last may have unused bits. Unused bits may be set, but not under DER (X.690 11.2.1).
 #[test]
 fn reads_bits_of_both_forms(rt: HostRuntime) {
-    reads_bits(
+    assert_reads_bits(
         &rt,
         rt.alloc(),
         &[
-            (PRIMITIVE, Codec::Ber, 44, BITS, 9),
-            (SEGMENTS, Codec::Ber, 44, BITS, 16),
+            (BITS_44_IN_ONE_PIECE, Codec::Ber, 44, BITS_44, 9),
+            (BITS_44_IN_SEGMENTS, Codec::Ber, 44, BITS_44, 16),
             (
                 &[0x23, 0x08, 0x03, 0x02, 0x05, 0xE0, 0x03, 0x02, 0x04, 0xA0],
                 Codec::Ber,
@@ -82,17 +82,19 @@ fn bits_of(rt: &impl Abort, alloc: Global, octets: &[u8]) -> BitString {
 
 #[test]
 fn calls_read_bits(rt: HostRuntime) {
-    let mut decoder = decoder_of(rt.alloc(), PRIMITIVE, Codec::Ber);
+    let mut decoder = decoder_of(rt.alloc(), BITS_44_IN_ONE_PIECE, Codec::Ber);
     let answer = decoder.decode_bit_string(Tag::BIT_STRING, &Constraints::NONE);
-    gives_bits(&rt, rt.alloc(), answer, 44, BITS);
+    assert_has_bits(&rt, rt.alloc(), answer, 44, BITS_44);
     let alloc = rt.alloc();
-    assert!(rt; bits_of(&rt, alloc, PRIMITIVE) == bits_of(&rt, alloc, SEGMENTS));
+    assert!(rt;
+        bits_of(&rt, alloc, BITS_44_IN_ONE_PIECE) == bits_of(&rt, alloc, BITS_44_IN_SEGMENTS)
+    );
 }
 
-// A segment's faults take nothing; a size takes the value (X.690 8.6.2).
+// A fault in a segment consumes nothing; a wrong size consumes the value (X.690 8.6.2).
 #[test]
 fn refuses_bits(rt: HostRuntime) {
-    reads::<BitString>(
+    assert_reads::<BitString>(
         &rt,
         rt.alloc(),
         &[
@@ -117,11 +119,12 @@ fn refuses_bits(rt: HostRuntime) {
             ),
         ],
     );
-    const KIND: &str = "SizeConstraintNotSatisfied { size: Some(3), expected: Single(4) }";
-    reads_within::<BitString>(
+    const THREE_NOT_FOUR: &str =
+        "SizeConstraintNotSatisfied { size: Some(3), expected: Single(4) }";
+    assert_reads_within::<BitString>(
         &rt,
         rt.alloc(),
         &sized(4),
-        &[(&[0x03, 0x02, 0x05, 0xE0], Codec::Der, KIND, 4)],
+        &[(&[0x03, 0x02, 0x05, 0xE0], Codec::Der, THREE_NOT_FOUR, 4)],
     );
 }

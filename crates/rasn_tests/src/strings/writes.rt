@@ -1,5 +1,8 @@
+//! Character strings (X.690 8.23) and OCTET STRING (8.7) are encoded, in segments under CER (9.2).
+
 use crate::writing::{
-    done, holds, made, new_encoder, refused, repeated, writes, writes_made, writes_pieces,
+    assert_output, assert_refuses, assert_writes, assert_writes_made, assert_writes_pieces,
+    assert_written, made, new_encoder, repeated,
 };
 use rasn_enc::enc::Encode;
 use rasn_types::types::{
@@ -12,7 +15,7 @@ use std::alloc::{AllocError, Global};
 use std::process::Abort;
 
 /// SIZE (2)
-const TWO: Constraints = Constraints {
+const SIZE_2: Constraints = Constraints {
     value: None,
     size: Some(Bound {
         constraint: Bounded::Single(2),
@@ -32,36 +35,41 @@ fn letters(alloc: Global, letter: u8, count: usize) -> Result<Option<Ia5String>,
     Ia5String::from_octets(alloc, &octets)
 }
 
-/// Writes the string of these octets under DER, and holds what is written against the others.
-fn writes_string<S: StringType>(rt: &impl Abort, alloc: Global, octets: &[u8], written: &[u8]) {
+/// Asserts that the string of these octets is written by DER as the others.
+fn assert_writes_string<S: StringType>(
+    rt: &impl Abort,
+    alloc: Global,
+    octets: &[u8],
+    written: &[u8],
+) {
     let value = RestrictedString::<S>::from_octets(alloc, octets);
-    writes_made(rt, alloc, Codec::Der, value, written);
+    assert_writes_made(rt, alloc, Codec::Der, value, written);
 }
 
-// The tags of X.680 8.4, table 1.
+// Each type has its tag (X.680 8.4, table 1).
 #[test]
 fn writes_numeric_to_graphic(rt: HostRuntime) {
     let alloc = rt.alloc();
-    writes_string::<NumericType>(&rt, alloc, b"1", &[0x12, 0x01, 0x31]);
-    writes_string::<PrintableType>(&rt, alloc, b"A", &[0x13, 0x01, 0x41]);
-    writes_string::<TeletexType>(&rt, alloc, &[0xC8], &[0x14, 0x01, 0xC8]);
-    const OCTETS: &[u8] = &[0x16, 0x05, 0x53, 0x6D, 0x69, 0x74, 0x68];
-    writes_string::<Ia5Type>(&rt, alloc, b"Smith", OCTETS);
-    writes_string::<GraphicType>(&rt, alloc, b"A", &[0x19, 0x01, 0x41]);
+    assert_writes_string::<NumericType>(&rt, alloc, b"1", &[0x12, 0x01, 0x31]);
+    assert_writes_string::<PrintableType>(&rt, alloc, b"A", &[0x13, 0x01, 0x41]);
+    assert_writes_string::<TeletexType>(&rt, alloc, &[0xC8], &[0x14, 0x01, 0xC8]);
+    const SMITH: &[u8] = &[0x16, 0x05, 0x53, 0x6D, 0x69, 0x74, 0x68];
+    assert_writes_string::<Ia5Type>(&rt, alloc, b"Smith", SMITH);
+    assert_writes_string::<GraphicType>(&rt, alloc, b"A", &[0x19, 0x01, 0x41]);
 }
 
 #[test]
 fn writes_visible_to_utf8(rt: HostRuntime) {
     let alloc = rt.alloc();
     let der = Codec::Der;
-    writes_string::<VisibleType>(&rt, alloc, b"A", &[0x1A, 0x01, 0x41]);
-    writes_string::<GeneralType>(&rt, alloc, b"A", &[0x1B, 0x01, 0x41]);
+    assert_writes_string::<VisibleType>(&rt, alloc, b"A", &[0x1A, 0x01, 0x41]);
+    assert_writes_string::<GeneralType>(&rt, alloc, b"A", &[0x1B, 0x01, 0x41]);
     let value = BmpString::from_octets(alloc, &[0x00, 0x41]);
-    writes_made(&rt, alloc, der, value, &[0x1E, 0x02, 0x00, 0x41]);
-    const OCTETS: &[u8] = &[0x0C, 0x05, 0x4A, 0x6F, 0x6E, 0x65, 0x73];
-    writes_made(&rt, alloc, der, text(alloc, "Jones"), OCTETS);
+    assert_writes_made(&rt, alloc, der, value, &[0x1E, 0x02, 0x00, 0x41]);
+    const JONES: &[u8] = &[0x0C, 0x05, 0x4A, 0x6F, 0x6E, 0x65, 0x73];
+    assert_writes_made(&rt, alloc, der, text(alloc, "Jones"), JONES);
     let value = FixedOctetString::<1>::new([0x41]);
-    writes(&rt, alloc, &[(value, der, &[0x04, 0x01, 0x41])]);
+    assert_writes(&rt, alloc, &[(value, der, &[0x04, 0x01, 0x41])]);
 }
 
 #[test]
@@ -72,20 +80,20 @@ fn calls_write_numeric_to_ia5(rt: HostRuntime) {
     let none = Identifier::EMPTY;
     let value = made(&rt, NumericString::from_octets(alloc, b"1"));
     let answer = encoder.encode_numeric_string(Tag::NUMERIC_STRING, &any, &value, none);
-    done(&rt, answer);
+    assert_written(&rt, answer);
     let value = made(&rt, PrintableString::from_octets(alloc, b"A"));
     let answer = encoder.encode_printable_string(Tag::PRINTABLE_STRING, &any, &value, none);
-    done(&rt, answer);
+    assert_written(&rt, answer);
     let value = made(&rt, TeletexString::from_octets(alloc, &[0xC8]));
     let answer = encoder.encode_teletex_string(Tag::TELETEX_STRING, &any, &value, none);
-    done(&rt, answer);
+    assert_written(&rt, answer);
     let value = made(&rt, Ia5String::from_octets(alloc, b"A"));
     let answer = encoder.encode_ia5_string(Tag::IA5_STRING, &any, &value, none);
-    done(&rt, answer);
-    const OCTETS: &[u8] = &[
+    assert_written(&rt, answer);
+    const FOUR_STRINGS: &[u8] = &[
         0x12, 0x01, 0x31, 0x13, 0x01, 0x41, 0x14, 0x01, 0xC8, 0x16, 0x01, 0x41,
     ];
-    holds(&rt, encoder.output(), OCTETS);
+    assert_output(&rt, encoder.output(), FOUR_STRINGS);
 }
 
 #[test]
@@ -96,52 +104,52 @@ fn calls_write_graphic_to_general(rt: HostRuntime) {
     let none = Identifier::EMPTY;
     let value = made(&rt, GraphicString::from_octets(alloc, b"A"));
     let answer = encoder.encode_graphic_string(Tag::GRAPHIC_STRING, &any, &value, none);
-    done(&rt, answer);
+    assert_written(&rt, answer);
     let value = made(&rt, VisibleString::from_octets(alloc, b"A"));
     let answer = encoder.encode_visible_string(Tag::VISIBLE_STRING, &any, &value, none);
-    done(&rt, answer);
+    assert_written(&rt, answer);
     let value = made(&rt, GeneralString::from_octets(alloc, b"A"));
     let answer = encoder.encode_general_string(Tag::GENERAL_STRING, &any, &value, none);
-    done(&rt, answer);
-    const OCTETS: &[u8] = &[0x19, 0x01, 0x41, 0x1A, 0x01, 0x41, 0x1B, 0x01, 0x41];
-    holds(&rt, encoder.output(), OCTETS);
+    assert_written(&rt, answer);
+    const THREE_STRINGS: &[u8] = &[0x19, 0x01, 0x41, 0x1A, 0x01, 0x41, 0x1B, 0x01, 0x41];
+    assert_output(&rt, encoder.output(), THREE_STRINGS);
 }
 
-// The size of a UTF8String is in characters, that of a BMPString in units.
+// The size of a UTF8String counts characters, that of a BMPString units.
 #[test]
 fn checks_sizes_in_characters_and_units(rt: HostRuntime) {
     let alloc = rt.alloc();
     let mut encoder = new_encoder(&rt, alloc, Codec::Der);
     let none = Identifier::EMPTY;
-    done(
+    assert_written(
         &rt,
-        encoder.encode_utf8_string(Tag::UTF8_STRING, &TWO, "ëa", none),
+        encoder.encode_utf8_string(Tag::UTF8_STRING, &SIZE_2, "ëa", none),
     );
     let units = made(
         &rt,
         BmpString::from_octets(alloc, &[0x00, 0x41, 0x00, 0x42]),
     );
-    let answer = encoder.encode_bmp_string(Tag::BMP_STRING, &TWO, &units, none);
-    done(&rt, answer);
-    let answer = encoder.encode_utf8_string(Tag::UTF8_STRING, &TWO, "abc", none);
-    const KIND: &str = "SizeConstraintNotSatisfied { size: 3, expected: Single(2) }";
-    refused(&rt, alloc, Codec::Der, answer, KIND);
-    const OCTETS: &[u8] = &[
+    let answer = encoder.encode_bmp_string(Tag::BMP_STRING, &SIZE_2, &units, none);
+    assert_written(&rt, answer);
+    let answer = encoder.encode_utf8_string(Tag::UTF8_STRING, &SIZE_2, "abc", none);
+    const THREE_NOT_TWO: &str = "SizeConstraintNotSatisfied { size: 3, expected: Single(2) }";
+    assert_refuses(&rt, alloc, Codec::Der, answer, THREE_NOT_TWO);
+    const TWO_CHARACTERS_AND_TWO_UNITS: &[u8] = &[
         0x0C, 0x03, 0xC3, 0xAB, 0x61, 0x1E, 0x04, 0x00, 0x41, 0x00, 0x42,
     ];
-    holds(&rt, encoder.output(), OCTETS);
+    assert_output(&rt, encoder.output(), TWO_CHARACTERS_AND_TWO_UNITS);
 }
 
-// Three octets where there have to be two; nothing is written.
+// Three octets are refused where there have to be two, and nothing is written.
 #[test]
 fn refuses_octets_out_of_bounds(rt: HostRuntime) {
     let alloc = rt.alloc();
     let mut encoder = new_encoder(&rt, alloc, Codec::Der);
     let three = made(&rt, repeated(encoder.alloc(), 0x01, 3));
-    let answer = three.encode_with_constraints(&mut encoder, &TWO, Identifier::EMPTY);
-    const KIND: &str = "SizeConstraintNotSatisfied { size: 3, expected: Single(2) }";
-    refused(&rt, alloc, Codec::Der, answer, KIND);
-    holds(&rt, encoder.output(), &[]);
+    let answer = three.encode_with_constraints(&mut encoder, &SIZE_2, Identifier::EMPTY);
+    const THREE_NOT_TWO: &str = "SizeConstraintNotSatisfied { size: 3, expected: Single(2) }";
+    assert_refuses(&rt, alloc, Codec::Der, answer, THREE_NOT_TWO);
+    assert_output(&rt, encoder.output(), &[]);
 }
 
 /// How many octets there are, and the header before them.
@@ -151,30 +159,30 @@ const LENGTHS: &[(usize, &[u8])] = &[
     (256, &[0x04, 0x82, 0x01, 0x00]),
 ];
 
-// From 128 octets on a length has octets of its own (X.690 8.1.3.5).
+// A length of 128 octets or more has the long form (X.690 8.1.3.5).
 #[test]
 fn writes_long_lengths(rt: HostRuntime) {
     for (count, header) in LENGTHS {
         let octets = repeated(rt.alloc(), 0xAB, *count);
         let pieces = [(*header, 0xAB, *count)];
-        writes_pieces(&rt, rt.alloc(), Codec::Ber, octets, &pieces);
+        assert_writes_pieces(&rt, rt.alloc(), Codec::Ber, octets, &pieces);
     }
 }
 
-// More than 1000 octets are cut under the canonical rules (X.690 9.2).
+// More than 1000 octets are cut into segments under CER (X.690 9.2).
 #[test]
 fn cuts_octets_under_canonical_rules(rt: HostRuntime) {
     let alloc = rt.alloc();
     let whole = [([0x04, 0x82, 0x03, 0xE8].as_slice(), 0x55, 1000)];
     let octets = repeated(alloc, 0x55, 1000);
-    writes_pieces(&rt, alloc, Codec::Cer, octets, &whole);
+    assert_writes_pieces(&rt, alloc, Codec::Cer, octets, &whole);
     let cut = [
         ([0x24, 0x80, 0x04, 0x82, 0x03, 0xE8].as_slice(), 0x55, 1000),
         ([0x04, 0x82, 0x01, 0xF4].as_slice(), 0x55, 500),
         ([0x00, 0x00].as_slice(), 0, 0),
     ];
     let octets = repeated(alloc, 0x55, 1500);
-    writes_pieces(&rt, alloc, Codec::Cer, octets, &cut);
+    assert_writes_pieces(&rt, alloc, Codec::Cer, octets, &cut);
 }
 
 // The segments of a character string are OCTET STRINGs (X.690 8.23.6).
@@ -187,5 +195,5 @@ fn cuts_text_under_canonical_rules(rt: HostRuntime) {
         ([0x00, 0x00].as_slice(), 0, 0),
     ];
     let text = letters(alloc, 0x55, 1500);
-    writes_pieces(&rt, alloc, Codec::Cer, text, &cut);
+    assert_writes_pieces(&rt, alloc, Codec::Cer, text, &cut);
 }

@@ -1,17 +1,17 @@
-//! Times are read.
+//! UTCTime (X.690 11.8), GeneralizedTime (11.7) and DATE (8.26) are decoded.
 
 use super::texts::{Seen, Timed, tells};
-use crate::reading::{decoder_of, facts, reads, value};
+use crate::reading::{assert_facts, assert_reads, decoder_of, value};
 use rasn_de::de::Decode;
 use rasn_types::types::{Codec, Date, GeneralizedTime, UtcTime};
 use std::alloc::Global;
 use std::process::Abort;
 
-/// Octets, the rules they are read by, the time or the text that isn't one, and how many octets are taken.
+/// Octets, the rules they are read by, the time or the text that isn't one, and how many octets are consumed.
 type TimeRow = (&'static [u8], Codec, Result<Seen, &'static str>, usize);
 
-fn reads_times<T: Decode + Timed>(rt: &impl Abort, alloc: Global, rows: &[TimeRow]) {
-    for (octets, rules, time, taken) in rows {
+fn assert_reads_times<T: Decode + Timed>(rt: &impl Abort, alloc: Global, rows: &[TimeRow]) {
+    for (octets, rules, time, consumed) in rows {
         let mut decoder = decoder_of(alloc, octets, *rules);
         match T::decode(&mut decoder) {
             Ok(value) => assert!(rt; *time == Ok(value.seen()), "{octets:?} {rules:?}"),
@@ -20,17 +20,17 @@ fn reads_times<T: Decode + Timed>(rt: &impl Abort, alloc: Global, rows: &[TimeRo
                 Err(text) => assert!(rt; tells(&error, *rules, text), "{octets:?} {rules:?}"),
             },
         }
-        assert!(rt; decoder.decoded_len() == *taken, "{octets:?} {rules:?}");
+        assert!(rt; decoder.decoded_len() == *consumed, "{octets:?} {rules:?}");
     }
 }
 
-// Segments are gathered under BER and CER. A text that isn't of the form that the rules have is taken (X.690 11.8).
+// Segments are gathered under BER and CER. A text of another form than the rules have is refused and consumed (X.690 11.8).
 #[test]
 fn reads_utc_times(rt: HostRuntime) {
     let octets = b"\x17\x0D180122132900Z";
     let untimely = b"\x37\x80\x04\x041801\x04\x0822132900\x00\x00";
     let time = (2018, 1, 22, 13, 29, 0, 0);
-    reads_times::<UtcTime>(
+    assert_reads_times::<UtcTime>(
         &rt,
         rt.alloc(),
         &[
@@ -53,7 +53,7 @@ fn reads_generalized_times(rt: HostRuntime) {
     let eleven = (2018, 6, 13, 11, 0, 0, 0);
     let half = (2018, 6, 13, 11, 0, 0, 500000000);
     let nine = (2018, 6, 13, 12, 29, 59, 123456789);
-    reads_times::<GeneralizedTime>(
+    assert_reads_times::<GeneralizedTime>(
         &rt,
         rt.alloc(),
         &[
@@ -72,13 +72,17 @@ fn reads_generalized_times(rt: HostRuntime) {
         ],
     );
     // Strings in segments are refused under DER (X.690 10.2).
-    const KIND: &str = "CodecSpecific { inner: Der(ConstructedEncodingNotAllowed) }";
-    reads::<GeneralizedTime>(&rt, rt.alloc(), &[(segments, Codec::Der, KIND, 0)]);
+    const CONSTRUCTED_STRING: &str = "CodecSpecific { inner: Der(ConstructedEncodingNotAllowed) }";
+    assert_reads::<GeneralizedTime>(
+        &rt,
+        rt.alloc(),
+        &[(segments, Codec::Der, CONSTRUCTED_STRING, 0)],
+    );
 }
 
 #[test]
 fn reads_days(rt: HostRuntime) {
-    reads_times::<Date>(
+    assert_reads_times::<Date>(
         &rt,
         rt.alloc(),
         &[
@@ -100,5 +104,5 @@ fn keeps_offsets(rt: HostRuntime) {
     let mut decoder = decoder_of(rt.alloc(), two, Codec::Ber);
     let west = value(&rt, GeneralizedTime::decode(&mut decoder));
     let utc = value(&rt, GeneralizedTime::decode(&mut decoder));
-    facts(&rt, &[west == utc, west.offset_minutes() == -300]);
+    assert_facts(&rt, &[west == utc, west.offset_minutes() == -300]);
 }

@@ -1,6 +1,6 @@
-//! Texts of times are parsed and written.
+//! The texts of GeneralizedTime (X.680 46, X.690 11.7), UTCTime (X.680 47, X.690 11.8) and DATE are parsed and written.
 
-use crate::reading::facts;
+use crate::reading::assert_facts;
 use rasn_de::ber::de::Decoder;
 use rasn_types::ber::time::{
     parse_canonical_generalized_time, parse_canonical_utc_time, parse_date, parse_generalized_time,
@@ -17,7 +17,7 @@ pub type Seen = (i32, u8, u8, u8, u8, u8, u32);
 
 /// Values that lie in time.
 pub trait Timed {
-    /// When; days begin at midnight.
+    /// The time by UTC; a day begins at midnight.
     fn seen(&self) -> Seen;
 }
 
@@ -55,7 +55,7 @@ fn seen<T: Timed + Drop>(time: Option<T>) -> Option<Seen> {
     }
 }
 
-/// Whether the error says under these rules that the text isn't of the type.
+/// Whether the error is that, by these rules, the text is no time.
 pub fn tells(error: &DecodeError, rules: Codec, text: &str) -> bool {
     match &error.kind {
         DecodeErrorKind::CodecSpecific {
@@ -65,7 +65,7 @@ pub fn tells(error: &DecodeError, rules: Codec, text: &str) -> bool {
     }
 }
 
-/// What a call answers, or none where the error tells this text.
+/// The time that a call answers, or none where the error names this text.
 fn answered<T: Timed + Drop>(
     rt: &impl Abort,
     answer: Result<T, DecodeError>,
@@ -123,7 +123,7 @@ fn general_short(rt: &impl Abort, alloc: Global, text: &str) -> Option<Seen> {
     answered(rt, Decoder::parse_any_utc_time_string(owned), text)
 }
 
-fn told(rt: &impl Abort, alloc: Global, form: Form, text: &str) -> Option<Seen> {
+fn decoded(rt: &impl Abort, alloc: Global, form: Form, text: &str) -> Option<Seen> {
     match form {
         Form::General => general(rt, alloc, text),
         Form::Strict => strict(rt, alloc, text),
@@ -136,14 +136,14 @@ fn told(rt: &impl Abort, alloc: Global, form: Form, text: &str) -> Option<Seen> 
     }
 }
 
-/// A text, and when it is, where it is a time's.
+/// A text, and its time, if it is one.
 type TextRow = (&'static str, Option<Seen>);
 
-/// Parses each text, by the function on octets and by the decoder's.
-fn parses(rt: &impl Abort, alloc: Global, form: Form, rows: &[TextRow]) {
+/// Asserts what each text is parsed as, by the function on octets and by the decoder's.
+fn assert_parses(rt: &impl Abort, alloc: Global, form: Form, rows: &[TextRow]) {
     for (text, time) in rows {
         assert!(rt; parsed(form, text.as_bytes()) == *time, "{text}");
-        assert!(rt; told(rt, alloc, form, text) == *time, "{text}");
+        assert!(rt; decoded(rt, alloc, form, text) == *time, "{text}");
     }
 }
 
@@ -151,7 +151,7 @@ fn parses(rt: &impl Abort, alloc: Global, form: Form, rows: &[TextRow]) {
 #[test]
 fn parses_general_times(rt: HostRuntime) {
     let eleven = Some((2018, 6, 13, 11, 0, 0, 0));
-    parses(
+    assert_parses(
         &rt,
         rt.alloc(),
         Form::General,
@@ -189,7 +189,7 @@ fn parses_general_times(rt: HostRuntime) {
 // Whole offsets are below a day, whatever their minutes.
 #[test]
 fn parses_far_zones(rt: HostRuntime) {
-    parses(
+    assert_parses(
         &rt,
         rt.alloc(),
         Form::General,
@@ -208,7 +208,7 @@ fn parses_far_zones(rt: HostRuntime) {
 }
 
 // The first four are the examples of X.690 11.7.5.
-const CANONICAL: &[TextRow] = &[
+const CANONICAL_TEXTS: &[TextRow] = &[
     ("19920521000000Z", Some((1992, 5, 21, 0, 0, 0, 0))),
     ("19920622123421Z", Some((1992, 6, 22, 12, 34, 21, 0))),
     (
@@ -232,8 +232,8 @@ const CANONICAL: &[TextRow] = &[
     ("", None),
 ];
 
-/// Parses each text of the canonical form, whose fraction may have any digits.
-fn parses_canonical(rt: &impl Abort, rows: &[TextRow]) {
+/// Asserts what each text of the canonical form is parsed as; its fraction may have any digits.
+fn assert_parses_canonical(rt: &impl Abort, rows: &[TextRow]) {
     for (text, time) in rows {
         let found = seen(parse_canonical_generalized_time(text.as_bytes()));
         assert!(rt; found == *time, "{text}");
@@ -242,15 +242,15 @@ fn parses_canonical(rt: &impl Abort, rows: &[TextRow]) {
 
 #[test]
 fn parses_canonical_times(rt: HostRuntime) {
-    parses_canonical(&rt, CANONICAL);
-    parses(&rt, rt.alloc(), Form::Strict, CANONICAL);
+    assert_parses_canonical(&rt, CANONICAL_TEXTS);
+    assert_parses(&rt, rt.alloc(), Form::Strict, CANONICAL_TEXTS);
 }
 
 // A fraction has no 0 at its end under DER (X.690 11.7.3), nor more digits than are kept.
 #[test]
 fn strict_fractions_are_the_shortest(rt: HostRuntime) {
     let half = Some((2018, 6, 13, 11, 0, 0, 500000000));
-    parses_canonical(
+    assert_parses_canonical(
         &rt,
         &[
             (
@@ -261,7 +261,7 @@ fn strict_fractions_are_the_shortest(rt: HostRuntime) {
             ("20180613110000.5Z", half),
         ],
     );
-    parses(
+    assert_parses(
         &rt,
         rt.alloc(),
         Form::Strict,
@@ -277,7 +277,7 @@ fn strict_fractions_are_the_shortest(rt: HostRuntime) {
 // The last four are the examples of X.690 11.8.3.
 #[test]
 fn parses_short_times(rt: HostRuntime) {
-    parses(
+    assert_parses(
         &rt,
         rt.alloc(),
         Form::GeneralShort,
@@ -288,7 +288,7 @@ fn parses_short_times(rt: HostRuntime) {
             ("180122132900.5Z", None),
         ],
     );
-    parses(
+    assert_parses(
         &rt,
         rt.alloc(),
         Form::CanonicalShort,
@@ -305,7 +305,7 @@ fn parses_short_times(rt: HostRuntime) {
 
 #[test]
 fn parses_days(rt: HostRuntime) {
-    parses(
+    assert_parses(
         &rt,
         rt.alloc(),
         Form::Day,
@@ -315,7 +315,7 @@ fn parses_days(rt: HostRuntime) {
             ("+100000101", None),
         ],
     );
-    facts(
+    assert_facts(
         &rt,
         &[
             Date::new(1900, 2, 29).is_none(),
@@ -331,50 +331,50 @@ fn some<T>(rt: &impl Abort, value: Option<T>) -> T {
     }
 }
 
-fn text_of(rt: &impl Abort, written: Result<(), AllocError>, text: &[u8], expected: &str) {
+fn assert_text(rt: &impl Abort, written: Result<(), AllocError>, text: &[u8], expected: &str) {
     assert!(rt;
         written.is_ok() && text == expected.as_bytes(),
         "{expected}"
     );
 }
 
-fn writes_general(rt: &impl Abort, alloc: Global, time: &GeneralizedTime, expected: &str) {
+fn assert_writes_general(rt: &impl Abort, alloc: Global, time: &GeneralizedTime, expected: &str) {
     let mut text = Vec::new(alloc);
     let written = write_generalized_time(&mut text, time);
-    text_of(rt, written, &text, expected);
+    assert_text(rt, written, &text, expected);
 }
 
-fn writes_short(rt: &impl Abort, alloc: Global, time: &UtcTime, expected: &str) {
+fn assert_writes_utc(rt: &impl Abort, alloc: Global, time: &UtcTime, expected: &str) {
     let mut text = Vec::new(alloc);
     let written = write_utc_time(&mut text, time);
-    text_of(rt, written, &text, expected);
+    assert_text(rt, written, &text, expected);
 }
 
-fn writes_day(rt: &impl Abort, alloc: Global, date: &Date, expected: &str) {
+fn assert_writes_date(rt: &impl Abort, alloc: Global, date: &Date, expected: &str) {
     let mut text = Vec::new(alloc);
     let written = write_date(&mut text, date);
-    text_of(rt, written, &text, expected);
+    assert_text(rt, written, &text, expected);
 }
 
 #[test]
 fn writes_texts(rt: HostRuntime) {
     let alloc = rt.alloc();
     let date = some(&rt, Date::new(2018, 6, 13));
-    writes_day(&rt, alloc, &date, "20180613");
+    assert_writes_date(&rt, alloc, &date, "20180613");
     let time = some(&rt, UtcTime::new(date, 11, 0, 0, 0));
-    writes_short(&rt, alloc, &time, "180613110000Z");
+    assert_writes_utc(&rt, alloc, &time, "180613110000Z");
     let east = some(&rt, GeneralizedTime::new(time, 120));
-    writes_general(&rt, alloc, &east, "20180613110000Z");
+    assert_writes_general(&rt, alloc, &east, "20180613110000Z");
 }
 
 #[test]
 fn writes_far_days_and_leap_seconds(rt: HostRuntime) {
     let alloc = rt.alloc();
-    writes_day(&rt, alloc, &some(&rt, Date::new(10000, 1, 1)), "+100000101");
-    writes_day(&rt, alloc, &some(&rt, Date::new(-5, 1, 1)), "-00050101");
-    const TEXT: &str = "20161231235960.5Z";
-    let leap = some(&rt, parse_generalized_time(TEXT.as_bytes()));
-    writes_general(&rt, alloc, &leap, TEXT);
+    assert_writes_date(&rt, alloc, &some(&rt, Date::new(10000, 1, 1)), "+100000101");
+    assert_writes_date(&rt, alloc, &some(&rt, Date::new(-5, 1, 1)), "-00050101");
+    const LEAP_SECOND: &str = "20161231235960.5Z";
+    let leap = some(&rt, parse_generalized_time(LEAP_SECOND.as_bytes()));
+    assert_writes_general(&rt, alloc, &leap, LEAP_SECOND);
 }
 
 // Times are compared as instants; a leap second has second 59 alone, and offsets are below a day.
@@ -383,7 +383,7 @@ fn compares_times(rt: HostRuntime) {
     let west = some(&rt, parse_generalized_time(b"20230122130000-0500"));
     let utc = some(&rt, parse_generalized_time(b"20230122180000Z"));
     let later = some(&rt, parse_generalized_time(b"20230122180000.1Z"));
-    facts(
+    assert_facts(
         &rt,
         &[
             west == utc,

@@ -1,14 +1,16 @@
-use crate::reading::{facts, reads, value};
-use crate::whole::{decoded, encoded, rewrites};
-use crate::writing::{holds, made};
+//! Times by the entry points, which are written in their canonical forms (X.690 11.7, 11.8).
+
+use crate::reading::{assert_facts, assert_reads, value};
+use crate::whole::{assert_rewrites, decoded, encoded};
+use crate::writing::{assert_output, made};
 use rasn::types::{Codec, Date, GeneralizedTime, UtcTime};
 
-// X.690 11.7.
+// A GeneralizedTime is written by UTC, with seconds (X.690 11.7).
 #[test]
 fn generalized_times_in_utc(rt: HostRuntime) {
     let utc = b"\x18\x0F20230122180000Z";
     let segments = b"\x38\x80\x04\x042023\x04\x0F0122130000-0500\x00\x00";
-    rewrites::<GeneralizedTime>(
+    assert_rewrites::<GeneralizedTime>(
         &rt,
         rt.alloc(),
         &[
@@ -30,11 +32,11 @@ fn leap_seconds(rt: HostRuntime) {
     let alloc = rt.alloc();
     let leap = b"\x18\x1120161231235960.5Z";
     let read = value(&rt, decoded::<GeneralizedTime>(alloc, Codec::Ber, leap)).utc();
-    facts(
+    assert_facts(
         &rt,
         &[read.second() == 59, read.nanosecond() == 1_500_000_000],
     );
-    rewrites::<GeneralizedTime>(&rt, alloc, &[(leap, Codec::Ber, Codec::Der, leap)]);
+    assert_rewrites::<GeneralizedTime>(&rt, alloc, &[(leap, Codec::Ber, Codec::Der, leap)]);
 }
 
 // A year of five digits is written and isn't read.
@@ -42,26 +44,26 @@ fn leap_seconds(rt: HostRuntime) {
 fn far_days(rt: HostRuntime) {
     let alloc = rt.alloc();
     let last = b"\x1F\x1F\x0820121221";
-    rewrites::<Date>(&rt, alloc, &[(last, Codec::Ber, Codec::Der, last)]);
+    assert_rewrites::<Date>(&rt, alloc, &[(last, Codec::Ber, Codec::Der, last)]);
     let far = made(&rt, Ok(Date::new(10000, 1, 1)));
     let octets = b"\x1F\x1F\x0A+100000101";
-    holds(&rt, encoded(alloc, Codec::Der, &far), octets);
+    assert_output(&rt, encoded(alloc, Codec::Der, &far), octets);
     let kind =
         "CodecSpecific { inner: Ber(InvalidDate { octets: [43, 49, 48, 48, 48, 48, 48, 49, 48, 49] }) }";
-    reads::<Date>(
+    assert_reads::<Date>(
         &rt,
         alloc,
         &[(b"\x1F\x1F\x0A+100000101", Codec::Der, kind, 13)],
     );
 }
 
-// Years from 70 on are of the century before.
+// Two digits from 70 on are a year of the twentieth century, and others one of the next.
 #[test]
 fn utc_times_with_a_century(rt: HostRuntime) {
     let alloc = rt.alloc();
     let eve = b"\x17\x11691231235900-0100";
     let read = value(&rt, decoded::<UtcTime>(alloc, Codec::Ber, eve));
-    facts(
+    assert_facts(
         &rt,
         &[
             read.date().year() == 2070,
@@ -70,5 +72,5 @@ fn utc_times_with_a_century(rt: HostRuntime) {
         ],
     );
     let octets = b"\x17\x0D700101005900Z";
-    rewrites::<UtcTime>(&rt, alloc, &[(eve, Codec::Ber, Codec::Der, octets)]);
+    assert_rewrites::<UtcTime>(&rt, alloc, &[(eve, Codec::Ber, Codec::Der, octets)]);
 }

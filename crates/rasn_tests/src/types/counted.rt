@@ -1,3 +1,4 @@
+//! A SEQUENCE with a DEFAULT component (X.680 25), for tests.
 ghost use Rattle.std.specs.Prelude.{◌≡◌, ◌∷◌, [], pos, IfOk};
 ghost use Rattle.rasn_types.specs.Shapes.{part, default, leaf, integer, number, items};
 ghost use Rattle.rasn_types.specs.Shapes.Parts.{none};

@@ -1,3 +1,5 @@
+//! SEQUENCEs without components, with and without an extension marker (X.680 25), for tests.
+
 use rasn_types::types::{AsnType, Constraints, Constructed, Fields, Tag};
 
 /// SEQUENCE {}

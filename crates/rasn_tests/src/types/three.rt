@@ -1,4 +1,4 @@
-//! SETs of any components, for tests.
+//! Tags of any number (X.690 8.1.2) and SETs of any three components (X.680 27), for tests.
 ghost use Rattle.std.specs.Prelude.{◌∷◌, []};
 ghost use Rattle.rasn_types.specs.Shapes.{part, required, items};
 ghost use Rattle.rasn_types.specs.Shapes.Parts.{none};

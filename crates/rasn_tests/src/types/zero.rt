@@ -1,3 +1,5 @@
+//! The tag [0] (X.690 8.1.2), for tests.
+
 use rasn_types::types::{AsnType, Class, Constraints, Tag};
 
 /// The tag \[0\].
