@@ -160,12 +160,6 @@ bits_decodes tag bounds old new (Err e) o (inr (inl (m, c, s, k, bs, h))) = reco
   exact = subst (λ k. Exact (Reads old.rule (leaf bit_string tag bounds) old.depth old.closing) old.rest (refusal k)) (sym m) tt;
 }
 
--- A fault leaves an end of the input.
-pub lacks_end : (rule : Codec) (depth : ℕ) (tag : Tag) (l : List ℕ) (f : Fault) (left : List ℕ) → AreOctets l → LacksBits rule depth tag l f left → IsEnd l left
-lacks_end rule depth tag l f left o (refused g n e) = IsEnd-refl l
-lacks_end rule depth tag l f left o (gathering w) = IsEnd-refl l
-lacks_end rule depth tag l f left o (copying bs rest w h) = bits_end rule depth tag l o bs rest h
-
 -- bits that were gathered
 pub gathered_bits : (tag : Tag) (old new : State) (bs : List Bool) (rest : List ℕ) → bit_string_at old.rule old.depth tag old.rest ≡ Ok (bs, rest) → new ≡ at old rest → GathersBits tag old (Ok bs) new
 gathered_bits tag old new bs rest h e =
@@ -229,6 +223,9 @@ module _ (rule : Codec) (d : ℕ) (tag : Tag) (l : List ℕ) where
 
     pub segment_uncopied : (c : List ℕ) (bs : List Bool) → AreOctets l → (h.bit ≡ false) × (h.extent ≡ definite c) → segment_bits rule c ≡ Ok bs → LacksBits rule d tag l OutOfMemory h.rest
     segment_uncopied c bs o p s = copying bs h.rest (primitive_form rule tag l h c o e p) (one_segment c bs p s)
+
+    pub many_segments : (p : List Bool × List ℕ) → string_of rule (segment_bits rule) (in_universal 3) d h ≡ Ok p → bit_string_at rule d tag l ≡ Ok p
+    many_segments p w = rw e w
 
     pub segments_lack : (f : Fault) → AreOctets l → IsNested h → (f ≢ OutOfMemory → string_of rule (segment_bits rule) (in_universal 3) d h ≡ Err f) → LacksBits rule d tag l f l
     segments_lack f o n w = go (memory_or f)
