@@ -93,7 +93,7 @@ GaveString see Told tag old (Err e) new =
     RanOutGathering tag old e new ⊎ (RanOutCopying Told tag old e new
     ⊎ ((IsOutOfMemory e.kind → ⊥) × Refuses (StringAt Told old.rule old.depth tag old.rest) old e new))
 
--- The same of octets that are lent where the string is primitive, so that nothing is copied.
+-- A call answers what the reading is, or memory is wanting while segments are gathered. Octets of a primitive string are lent, so nothing is copied.
 abbrev pub GaveOctets : Tag → Constraints → State → Result (CowSlice ℕ Global) DecodeError → State → Type 0
 GaveOctets tag bounds old (Ok s) new =
     Gave cow_slice_items (StringAt (BySize bounds.size) old.rule old.depth tag old.rest) old (Ok s) new × IsLentAs old.rule tag old.rest s

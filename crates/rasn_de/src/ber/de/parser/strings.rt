@@ -12,7 +12,7 @@ use crate::ber::rules::is_der;
 use rasn_types::error::DerDecodeErrorKind;
 use rasn_types::types::{Codec, Tag};
 
-/// What gathers segments.
+/// What gathers the segments of a string, one behind the other.
 pub trait Segmented: Drop {
     type Item;
 
@@ -20,6 +20,7 @@ pub trait Segmented: Drop {
 
     ghost segment: { Codec → List ℕ → Result (List Self.Item) Fault };
 
+    /// Puts what the octets of a segment hold behind the rest.
     fn append_segment(&mut self, rules: Codec, octets: &[u8]) -> Result<(), Fault>
         ensures { AppendsPart (segment rules octets.now) (items self.old) (items self.new) result };
 }
