@@ -27,9 +27,8 @@ use Rattle.rasn_de.specs.BitStrings.{is_miscounted, last_bits, is_any_set, segme
 use Rattle.rasn_de.specs.State.{State, at, IsEnd}
 use Rattle.rasn_de.specs.Taking.{ErrorOf}
 use Rattle.rasn_de.specs.Texts.{IsOutOfSize}
-use Rattle.rasn_de.specs.Outcomes.{Exact, refusal}
 use Rattle.rasn_de.specs.Decodes.{Decodes}
-use Rattle.rasn_de.proofs.Answering.{Agrees, gave_answers}
+use Rattle.rasn_de.proofs.Answering.{Agrees, gave_answers, ran_out, ran_out_before}
 use Rattle.rasn_de.proofs.Ends.{IsEnd-refl}
 use Rattle.rasn_de.proofs.Forms.{primitive_form, constructed_form, header_memory}
 use Rattle.rasn_de.proofs.Memory.{NoMemory, none_cond}
@@ -149,16 +148,9 @@ bits_decodes tag bounds old new (Ok s) o g =
     gave_answers (λ rule. Reads rule (leaf bit_string tag bounds)) bits_tree (λ (s : List Bool). s) (BitsAt bounds old.rule old.depth tag old.rest) old new (Ok s) (bits_agree bounds old.rule old.depth tag old.rest o) g
 bits_decodes tag bounds old new (Err e) o (inr (inr g)) =
     gave_answers (λ rule. Reads rule (leaf bit_string tag bounds)) bits_tree (λ (s : List Bool). s) (BitsAt bounds old.rule old.depth tag old.rest) old new (Err e) (bits_agree bounds old.rule old.depth tag old.rest o) g.1
-bits_decodes tag bounds old new (Err e) o (inl (m, c, s, k)) = record {
-  stays = same_at old new s;
-  end = subst (IsEnd old.rest) (sym (ap (λ (x : State). x.rest) s)) (IsEnd-refl old.rest);
-  exact = subst (λ k. Exact (Reads old.rule (leaf bit_string tag bounds) old.depth old.closing) old.rest (refusal k)) (sym m) tt;
-}
-bits_decodes tag bounds old new (Err e) o (inr (inl (m, c, s, k, bs, h))) = record {
-  stays = s;
-  end = bits_end old.rule old.depth tag old.rest o bs new.rest h;
-  exact = subst (λ k. Exact (Reads old.rule (leaf bit_string tag bounds) old.depth old.closing) old.rest (refusal k)) (sym m) tt;
-}
+bits_decodes tag bounds old new (Err e) o (inl (m, c, s, k)) = ran_out_before (λ rule. Reads rule (leaf bit_string tag bounds)) bits_tree old new e m s
+bits_decodes tag bounds old new (Err e) o (inr (inl (m, c, s, k, bs, h))) =
+    ran_out (λ rule. Reads rule (leaf bit_string tag bounds)) bits_tree old new e m s (bits_end old.rule old.depth tag old.rest o bs new.rest h)
 
 -- bits that were gathered
 pub gathered_bits : (tag : Tag) (old new : State) (bs : List Bool) (rest : List ℕ) → bit_string_at old.rule old.depth tag old.rest ≡ Ok (bs, rest) → new ≡ at old rest → GathersBits tag old (Ok bs) new

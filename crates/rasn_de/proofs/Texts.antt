@@ -20,9 +20,8 @@ use Rattle.rasn_de.specs.Leaves.{Refuses}
 use Rattle.rasn_de.specs.Texts.{Verdict, StringAt, RanOutGathering, GaveString}
 use Rattle.rasn_de.specs.State.{State, IsEnd}
 use Rattle.rasn_de.specs.Taking.{ErrorOf}
-use Rattle.rasn_de.specs.Outcomes.{Exact, refusal}
 use Rattle.rasn_de.specs.Decodes.{Decodes}
-use Rattle.rasn_de.proofs.Answering.{Agrees, gave_answers}
+use Rattle.rasn_de.proofs.Answering.{Agrees, gave_answers, ran_out, ran_out_before}
 use Rattle.rasn_de.proofs.Ends.{IsEnd-refl}
 use Rattle.rasn_de.proofs.Peeks.{kind_memory, memory_or}
 use Rattle.rasn_de.proofs.Refusals.{refuses_fault, same_at, rule_is}
@@ -74,16 +73,9 @@ module _ {kind : Kind} {bounds : Constraints} {Told : Verdict} (fits : Fits kind
   unfolding Reads
   string_decodes see tag old new (Ok v) o g =
       gave_answers (λ rule. Reads rule (leaf kind tag bounds)) numbers see (StringAt Told old.rule old.depth tag old.rest) old new (Ok v) (agrees old.rule old.depth tag old.rest o) g
-  string_decodes see tag old new (Err e) o (inl (m, c, s, k)) = record {
-    stays = same_at old new s;
-    end = subst (IsEnd old.rest) (sym (ap (λ (x : State). x.rest) s)) (IsEnd-refl old.rest);
-    exact = subst (λ k. Exact (Reads old.rule (leaf kind tag bounds) old.depth old.closing) old.rest (refusal k)) (sym m) tt;
-  }
-  string_decodes see tag old new (Err e) o (inr (inl (m, c, s, k, p, (xs, h, a), r))) = record {
-    stays = s;
-    end = subst (IsEnd old.rest) r (octets_end old.rule old.depth tag old.rest o xs p.1 h);
-    exact = subst (λ k. Exact (Reads old.rule (leaf kind tag bounds) old.depth old.closing) old.rest (refusal k)) (sym m) tt;
-  }
+  string_decodes see tag old new (Err e) o (inl (m, c, s, k)) = ran_out_before (λ rule. Reads rule (leaf kind tag bounds)) (λ x. numbers (see x)) old new e m s
+  string_decodes see tag old new (Err e) o (inr (inl (m, c, s, k, p, (xs, h, a), r))) =
+      ran_out (λ rule. Reads rule (leaf kind tag bounds)) (λ x. numbers (see x)) old new e m s (subst (IsEnd old.rest) r (octets_end old.rule old.depth tag old.rest o xs p.1 h))
   string_decodes {X} see tag old new (Err e) o (inr (inr g)) =
       gave_answers {X = List ℕ} {Y = X} (λ rule. Reads rule (leaf kind tag bounds)) numbers see (StringAt Told old.rule old.depth tag old.rest) old new (Err e) (agrees old.rule old.depth tag old.rest o) g.1
 
