@@ -34,7 +34,7 @@ use Rattle.rasn_de.proofs.Forms.{primitive_form, constructed_form, header_memory
 use Rattle.rasn_de.proofs.Memory.{NoMemory, none_cond}
 use Rattle.rasn_de.proofs.Peeks.{kind_memory, memory_or}
 use Rattle.rasn_de.proofs.Segments.{IsNested, string_plain, string_plain_fault}
-use Rattle.rasn_de.proofs.Refusals.{refuses_fault, same_at}
+use Rattle.rasn_de.proofs.Refusals.{refuses_fault}
 use Rattle.rasn_de.proofs.StringEnds.{string_ends}
 use Rattle.rasn_de.proofs.Strs.{Reads as ReadsBy, string_found, string_spelled, string_map}
 use Rattle.rasn_de.proofs.Tools.{guarded}

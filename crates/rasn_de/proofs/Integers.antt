@@ -1,5 +1,5 @@
 -- An INTEGER is read exactly where the grammar has one.
-use Rattle.std.proofs.Common.{◌≡◌, ◌≢◌, ℕ, ℤ, ◌≤ℤ◌, inl, inr, true, false, List, [], ◌∷◌, length, Option, Some, None, Result, Ok, Err, refl, sym, ap, ◌∙◌, subst, arith}
+use Rattle.std.proofs.Common.{◌≡◌, ◌≢◌, ℕ, ℤ, ◌≤ℤ◌, inl, inr, true, false, List, [], ◌∷◌, length, Result, Ok, Err, refl, sym, ap, ◌∙◌, subst, arith}
 use Rattle.std.proofs.lemmas.Bool.Decides.{nat_tests}
 use Rattle.rasn_types.specs.declared.types.tag.Tag.{Tag}
 use Rattle.rasn_types.specs.declared.types.rules.Codec.{Codec}
@@ -12,7 +12,7 @@ use Rattle.rasn_types.specs.Tags.{IsStrict}
 use Rattle.rasn_types.specs.Contents.{Contents, signed, IsShortest, IsShortestInteger}
 use Rattle.rasn_types.specs.Grammar.{Reads, IsBounded}
 use Rattle.rasn_de.specs.Causes.{Cause, fault, out_of_bound, TellsCause}
-use Rattle.std.specs.Prelude.{◌==◌, ◌⊎◌, IfErr, MatchOption}
+use Rattle.std.specs.Prelude.{◌==◌, ◌⊎◌, IfErr}
 use Rattle.rasn_de.specs.declared.ber.de.parser.Fault.{Fault}
 use Rattle.rasn_de.specs.declared.ber.de.parser.Fault.TheVariants as fault_is
 use Rattle.rasn_de.specs.Taking.{ErrorOf}

@@ -157,7 +157,7 @@ fn is_end_of_contents(tag: Tag) -> bool
 }
 
 /// The identifier that begins the input, which may have to be the shortest one, and what follows.
-#[tactic(auto, unfolding(crate::specs::Headers::identifier_by))]
+#[tactic(auto, using(crate::proofs::Tools::octets_all), unfolding(crate::specs::Headers::identifier_by))]
 #[inline(always)]
 pub fn read_identifier(shortest: bool, input: &[u8]) -> Result<(Identifier, &[u8]), Fault>
     ensures exact { Gives identified result (identifier_by shortest input.now) }
