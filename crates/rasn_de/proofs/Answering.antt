@@ -1,5 +1,5 @@
 -- What a call answers of lists is what it answers of the grammar.
-use Rattle.std.proofs.Common.{◌≡◌, ℕ, Bool, List, Result, Ok, Err, refl, sym, ◌∙◌, subst}
+use Rattle.std.proofs.Common.{◌≡◌, ℕ, Bool, List, Result, Ok, Err, refl, sym, ap, ◌∙◌, subst}
 use Rattle.rasn_types.specs.declared.types.tag.Tag.{Tag}
 use Rattle.rasn_types.specs.declared.types.rules.Codec.{Codec}
 use Rattle.rasn_types.specs.declared.error.decode.DecodeError.{DecodeError}
@@ -7,6 +7,7 @@ use Rattle.rasn_types.specs.declared.error.decode.DecodeErrorKind.{DecodeErrorKi
 use Rattle.rasn_types.specs.declared.error.decode.DecodeErrorKind.TheVariants.{OutOfMemory}
 use Rattle.rasn_types.specs.Framing.{AreOctets, Extent, definite, indefinite, Frame}
 use Rattle.rasn_types.specs.Tags.{IsStrict, form, tag_bit}
+use Rattle.rasn_types.specs.Errors.{IsOutOfMemory}
 use Rattle.rasn_types.specs.Shapes.{Tree, Kind}
 use Rattle.rasn_types.specs.Readers.{Reading}
 use Rattle.rasn_types.specs.Contents.{Contents, IsShortest}
@@ -14,9 +15,10 @@ use Rattle.rasn_types.specs.Grammar.{ReadsIn, plain_family}
 use Rattle.rasn_de.specs.Headers.{Header, header_at, as_written}
 use Rattle.rasn_de.specs.Causes.{Cause}
 use Rattle.rasn_de.specs.Leaves.{on_header, definite_in, definite_at, Readings, FromContents, LeafAt, Gave}
-use Rattle.rasn_de.specs.State.{State, IsEnd}
+use Rattle.rasn_de.specs.State.{State, at, IsEnd}
 use Rattle.rasn_de.specs.Outcomes.{Exact, Got, refusal}
 use Rattle.rasn_de.specs.Decodes.{DecodesBy}
+use Rattle.rasn_de.proofs.Refusals.{same_at}
 use Rattle.rasn_de.proofs.Frames.{header_found, header_spelled, written_tag, written_bit, as_it_is}
 use Rattle.rasn_de.specs.declared.ber.de.parser.Fault.{Fault}
 use Rattle.rasn_de.proofs.Strs.{frame_octets}
@@ -45,6 +47,14 @@ gave_answers {X} R tree see Is old new (Ok v) a g =
 gave_answers {X} R tree see Is old new (Err e) a (cause, f, t, c, s) =
     let h = a (Err (cause, new.rest)) f in
     record { stays = s; end = h.1; exact = Exact-none e.kind (R old.rule old.depth old.closing) old.rest h.0 }
+
+-- Running out of memory says nothing of the reading.
+pub ran_out : {X : Type 0} (R : Codec → ℕ → Bool → Reading Tree) (tree : X → Tree) (old new : State) (e : DecodeError) → IsOutOfMemory e.kind → new ≡ at old new.rest → IsEnd old.rest new.rest
+    → DecodesBy R tree old (Err e) new
+ran_out R tree old new e m s d = record { stays = s; end = d; exact = subst (λ k. Exact (R old.rule old.depth old.closing) old.rest (refusal k)) (sym m) tt }
+
+pub ran_out_before : {X : Type 0} (R : Codec → ℕ → Bool → Reading Tree) (tree : X → Tree) (old new : State) (e : DecodeError) → IsOutOfMemory e.kind → new ≡ old → DecodesBy R tree old (Err e) new
+ran_out_before R tree old new e m s = ran_out R tree old new e m (same_at old new s) (subst (IsEnd old.rest) (sym (ap (λ (x : State). x.rest) s)) (IsEnd-refl old.rest))
 
 -- Definite contents are read exactly where a frame has them.
 module _ (rule : Codec) (tag : Tag) (l : List ℕ) (o : AreOctets l) where

@@ -21,10 +21,9 @@ use Rattle.rasn_de.specs.declared.ber.de.parser.Fault.TheVariants.{OutOfMemory, 
 use Rattle.rasn_types.specs.declared.error.decode.DerDecodeErrorKind.TheVariants.{NonMinimalArc}
 use Rattle.rasn_de.specs.Headers.{number128_at, is_padded, is_der}
 use Rattle.rasn_de.specs.Causes.{Cause, fault, out_of_bound, error_kind}
-use Rattle.rasn_de.specs.Leaves.{FromContents, definite_at, Refuses}
-use Rattle.rasn_de.specs.ObjectIdentifiers.{arc_at, ReadsArcs, StopsAt, ObjectIdentifierIn, FindsArcs, GaveArcs, HoldsArcs, GaveObjectIdentifier}
+use Rattle.rasn_de.specs.Leaves.{FromContents, definite_at, Refuses, Gave}
+use Rattle.rasn_de.specs.ObjectIdentifiers.{arc_at, ReadsArcs, StopsAt, ObjectIdentifierIn, ObjectIdentifierAt, FindsArcs, GaveArcs, HoldsArcs, GaveObjectIdentifier}
 use Rattle.rasn_de.specs.State.{State, at}
-use Rattle.rasn_de.specs.Outcomes.{Exact, refusal}
 use Rattle.rasn_de.specs.Taking.{ErrorOf}
 use Rattle.rasn_de.specs.Decodes.{Decodes}
 use Rattle.rasn_de.proofs.Numbers.{number128_found, number128_spelled}
@@ -33,7 +32,7 @@ use Rattle.rasn_de.proofs.Tools.{guarded}
 use Rattle.rasn_de.proofs.Peeks.{kind_memory, memory_or}
 use Rattle.rasn_de.proofs.Refusals.{rule_is, leaf_refused, contents_read}
 use Rattle.rasn_de.proofs.OutOfMemory.{leaf_plain, IsPlainCause}
-use Rattle.rasn_de.proofs.Answering.{plain_agrees, gave_answers, definite_end}
+use Rattle.rasn_de.proofs.Answering.{plain_agrees, gave_answers, definite_end, ran_out}
 
 abbrev pub arcs_of : ℕ → List ℕ → List ℕ
 arcs_of s ns = min 2 (s / 40) ∷ (s - 40 * min 2 (s / 40)) ∷ ns
@@ -222,19 +221,18 @@ object_none : (rule : Codec) (c : List ℕ) (e : Cause) (t : Tree) → AreOctets
 object_none rule c (fault f) t o s (arcs, e, a) w u = stops_none rule c f arcs s a w
 object_none rule c (out_of_bound z bound) t o s k w u = s
 
-pub object_decodes : (tag : Tag) (old new : State) (result : Result (List ℕ) DecodeError) → AreOctets old.rest → GaveObjectIdentifier tag old result new → Decodes (leaf object_identifier tag unconstrained) numbers old result new
+object_gave : (tag : Tag) (old new : State) (result : Result (List ℕ) DecodeError) → AreOctets old.rest → Gave (λ a. a) (ObjectIdentifierAt old.rule tag old.rest) old result new
+    → Decodes (leaf object_identifier tag unconstrained) numbers old result new
 unfolding Reads
-object_decodes tag old new (Ok v) o g =
-    gave_answers (λ rule. Reads rule (leaf object_identifier tag unconstrained)) numbers (λ a. a) _ old new (Ok v)
+object_gave tag old new result o g =
+    gave_answers (λ rule. Reads rule (leaf object_identifier tag unconstrained)) numbers (λ a. a) _ old new result
     (plain_agrees old.rule tag old.rest o object_identifier old.depth (λ t. Unit {0}) numbers (ObjectIdentifierIn old.rule) (object_found old.rule) (object_only old.rule) (object_none old.rule)) g
-object_decodes tag old new (Err e) o (inr (n, g)) =
-    gave_answers (λ rule. Reads rule (leaf object_identifier tag unconstrained)) numbers (λ a. a) _ old new (Err e)
-    (plain_agrees old.rule tag old.rest o object_identifier old.depth (λ t. Unit {0}) numbers (ObjectIdentifierIn old.rule) (object_found old.rule) (object_only old.rule) (object_none old.rule)) g
-object_decodes tag old new (Err e) o (inl (m, d, s, c, h)) = record {
-  stays = s;
-  end = definite_end old.rule tag old.rest o c new.rest h;
-  exact = subst (λ k. Exact (Reads old.rule (leaf object_identifier tag unconstrained) old.depth old.closing) old.rest (refusal k)) (sym m) tt;
-}
+
+pub object_decodes : (tag : Tag) (old new : State) (result : Result (List ℕ) DecodeError) → AreOctets old.rest → GaveObjectIdentifier tag old result new → Decodes (leaf object_identifier tag unconstrained) numbers old result new
+object_decodes tag old new (Ok v) o g = object_gave tag old new (Ok v) o g
+object_decodes tag old new (Err e) o (inr (n, g)) = object_gave tag old new (Err e) o g
+object_decodes tag old new (Err e) o (inl (m, d, s, c, h)) =
+    ran_out (λ rule. Reads rule (leaf object_identifier tag unconstrained)) numbers old new e m s (definite_end old.rule tag old.rest o c new.rest h)
 
 object_plain : (rule : Codec) (c : List ℕ) (e : Cause) → ObjectIdentifierIn rule c (Err e) → IsPlainCause e
 object_plain rule c (fault f) s = stops_memory rule c f s

@@ -27,15 +27,14 @@ use Rattle.rasn_de.specs.BitStrings.{is_miscounted, last_bits, is_any_set, segme
 use Rattle.rasn_de.specs.State.{State, at, IsEnd}
 use Rattle.rasn_de.specs.Taking.{ErrorOf}
 use Rattle.rasn_de.specs.Texts.{IsOutOfSize}
-use Rattle.rasn_de.specs.Outcomes.{Exact, refusal}
 use Rattle.rasn_de.specs.Decodes.{Decodes}
-use Rattle.rasn_de.proofs.Answering.{Agrees, gave_answers}
+use Rattle.rasn_de.proofs.Answering.{Agrees, gave_answers, ran_out, ran_out_before}
 use Rattle.rasn_de.proofs.Ends.{IsEnd-refl}
 use Rattle.rasn_de.proofs.Forms.{primitive_form, constructed_form, header_memory}
 use Rattle.rasn_de.proofs.Memory.{NoMemory, none_cond}
 use Rattle.rasn_de.proofs.Peeks.{kind_memory, memory_or}
 use Rattle.rasn_de.proofs.Segments.{IsNested, string_plain, string_plain_fault}
-use Rattle.rasn_de.proofs.Refusals.{refuses_fault, same_at}
+use Rattle.rasn_de.proofs.Refusals.{refuses_fault}
 use Rattle.rasn_de.proofs.StringEnds.{string_ends}
 use Rattle.rasn_de.proofs.Strs.{Reads as ReadsBy, string_found, string_spelled, string_map}
 use Rattle.rasn_de.proofs.Tools.{guarded}
@@ -149,22 +148,9 @@ bits_decodes tag bounds old new (Ok s) o g =
     gave_answers (λ rule. Reads rule (leaf bit_string tag bounds)) bits_tree (λ (s : List Bool). s) (BitsAt bounds old.rule old.depth tag old.rest) old new (Ok s) (bits_agree bounds old.rule old.depth tag old.rest o) g
 bits_decodes tag bounds old new (Err e) o (inr (inr g)) =
     gave_answers (λ rule. Reads rule (leaf bit_string tag bounds)) bits_tree (λ (s : List Bool). s) (BitsAt bounds old.rule old.depth tag old.rest) old new (Err e) (bits_agree bounds old.rule old.depth tag old.rest o) g.1
-bits_decodes tag bounds old new (Err e) o (inl (m, c, s, k)) = record {
-  stays = same_at old new s;
-  end = subst (IsEnd old.rest) (sym (ap (λ (x : State). x.rest) s)) (IsEnd-refl old.rest);
-  exact = subst (λ k. Exact (Reads old.rule (leaf bit_string tag bounds) old.depth old.closing) old.rest (refusal k)) (sym m) tt;
-}
-bits_decodes tag bounds old new (Err e) o (inr (inl (m, c, s, k, bs, h))) = record {
-  stays = s;
-  end = bits_end old.rule old.depth tag old.rest o bs new.rest h;
-  exact = subst (λ k. Exact (Reads old.rule (leaf bit_string tag bounds) old.depth old.closing) old.rest (refusal k)) (sym m) tt;
-}
-
--- A fault leaves an end of the input.
-pub lacks_end : (rule : Codec) (depth : ℕ) (tag : Tag) (l : List ℕ) (f : Fault) (left : List ℕ) → AreOctets l → LacksBits rule depth tag l f left → IsEnd l left
-lacks_end rule depth tag l f left o (refused g n e) = IsEnd-refl l
-lacks_end rule depth tag l f left o (gathering w) = IsEnd-refl l
-lacks_end rule depth tag l f left o (copying bs rest w h) = bits_end rule depth tag l o bs rest h
+bits_decodes tag bounds old new (Err e) o (inl (m, c, s, k)) = ran_out_before (λ rule. Reads rule (leaf bit_string tag bounds)) bits_tree old new e m s
+bits_decodes tag bounds old new (Err e) o (inr (inl (m, c, s, k, bs, h))) =
+    ran_out (λ rule. Reads rule (leaf bit_string tag bounds)) bits_tree old new e m s (bits_end old.rule old.depth tag old.rest o bs new.rest h)
 
 -- bits that were gathered
 pub gathered_bits : (tag : Tag) (old new : State) (bs : List Bool) (rest : List ℕ) → bit_string_at old.rule old.depth tag old.rest ≡ Ok (bs, rest) → new ≡ at old rest → GathersBits tag old (Ok bs) new
@@ -229,6 +215,9 @@ module _ (rule : Codec) (d : ℕ) (tag : Tag) (l : List ℕ) where
 
     pub segment_uncopied : (c : List ℕ) (bs : List Bool) → AreOctets l → (h.bit ≡ false) × (h.extent ≡ definite c) → segment_bits rule c ≡ Ok bs → LacksBits rule d tag l OutOfMemory h.rest
     segment_uncopied c bs o p s = copying bs h.rest (primitive_form rule tag l h c o e p) (one_segment c bs p s)
+
+    pub many_segments : (p : List Bool × List ℕ) → string_of rule (segment_bits rule) (in_universal 3) d h ≡ Ok p → bit_string_at rule d tag l ≡ Ok p
+    many_segments p w = rw e w
 
     pub segments_lack : (f : Fault) → AreOctets l → IsNested h → (f ≢ OutOfMemory → string_of rule (segment_bits rule) (in_universal 3) d h ≡ Err f) → LacksBits rule d tag l f l
     segments_lack f o n w = go (memory_or f)

@@ -1,5 +1,5 @@
 -- Whether a value is primitive, as its header tells.
-use Rattle.std.proofs.Common.{◌≡◌, ◌≢◌, ℕ, inl, inr, false, List, Ok, Err, refl, subst}
+use Rattle.std.proofs.Common.{◌≡◌, ◌≢◌, ℕ, inl, inr, false, List, Result, Ok, Err, refl, subst}
 use Rattle.rasn_types.specs.declared.types.tag.Tag.{Tag}
 use Rattle.rasn_types.specs.declared.types.rules.Codec.{Codec}
 use Rattle.rasn_types.specs.Tags.{form, in_universal}
@@ -8,7 +8,7 @@ use Rattle.rasn_de.specs.declared.ber.de.parser.Fault.{Fault}
 use Rattle.rasn_de.specs.declared.ber.de.parser.Fault.TheVariants.{OutOfMemory}
 use Rattle.rasn_de.specs.declared.ber.de.parser.headers.Expected.TheVariants.{Tagged}
 use Rattle.rasn_de.specs.Headers.{spelled, Header, header_at}
-use Rattle.rasn_de.specs.Strings.{octets}
+use Rattle.rasn_de.specs.Strings.{octets, string_of}
 use Rattle.rasn_de.specs.Octets.{octet_string_at, IsPrimitive, IsConstructed}
 use Rattle.rasn_de.proofs.Frames.{header_found}
 use Rattle.rasn_de.proofs.Memory.{NoMemory, header_none}
@@ -26,6 +26,11 @@ constructed_form rule tag l h o e (inl b) = (h.rest, h.extent, subst (λ z. Fram
 constructed_form rule tag l h o e (inr x) =
     let f = subst (λ z. Frame (form rule) l tag h.bit h.rest z) x (frame_there rule tag l h o e) in
     (h.rest, indefinite, subst (λ z. Frame (form rule) l tag z h.rest indefinite) (frame_bit f) f)
+
+-- the octets of segments, or why there are none
+pub nested_octets : (rule : Codec) (depth : ℕ) (tag : Tag) (l : List ℕ) (h : Header) (r : Result (List ℕ × List ℕ) Fault) → header_at (form rule) (Tagged tag) l ≡ Ok h → string_of rule octets (in_universal 4) depth h ≡ r
+    → octet_string_at rule depth tag l ≡ r
+nested_octets rule depth tag l h r e w = rw e w
 
 -- one segment's octets
 pub plain_octets : (rule : Codec) (depth : ℕ) (tag : Tag) (l : List ℕ) (h : Header) (c : List ℕ) → header_at (form rule) (Tagged tag) l ≡ Ok h → (h.bit ≡ false) × (h.extent ≡ definite c) → octet_string_at rule depth tag l ≡ Ok (c, h.rest)

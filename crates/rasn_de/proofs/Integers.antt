@@ -1,5 +1,5 @@
 -- An INTEGER is read exactly where the grammar has one.
-use Rattle.std.proofs.Common.{◌≡◌, ◌≢◌, ℕ, ℤ, ◌≤ℤ◌, inl, inr, true, false, List, [], ◌∷◌, length, Option, Some, None, Result, Ok, Err, refl, sym, ap, ◌∙◌, subst, arith}
+use Rattle.std.proofs.Common.{◌≡◌, ◌≢◌, ℕ, ℤ, ◌≤ℤ◌, inl, inr, true, false, List, [], ◌∷◌, length, Result, Ok, Err, refl, sym, ap, ◌∙◌, subst, arith}
 use Rattle.std.proofs.lemmas.Bool.Decides.{nat_tests}
 use Rattle.rasn_types.specs.declared.types.tag.Tag.{Tag}
 use Rattle.rasn_types.specs.declared.types.rules.Codec.{Codec}
@@ -12,17 +12,16 @@ use Rattle.rasn_types.specs.Tags.{IsStrict}
 use Rattle.rasn_types.specs.Contents.{Contents, signed, IsShortest, IsShortestInteger}
 use Rattle.rasn_types.specs.Grammar.{Reads, IsBounded}
 use Rattle.rasn_de.specs.Causes.{Cause, fault, out_of_bound, TellsCause}
-use Rattle.std.specs.Prelude.{◌==◌, ◌⊎◌, IfErr, MatchOption}
+use Rattle.std.specs.Prelude.{◌==◌, ◌⊎◌, IfErr}
 use Rattle.rasn_de.specs.declared.ber.de.parser.Fault.{Fault}
 use Rattle.rasn_de.specs.declared.ber.de.parser.Fault.TheVariants as fault_is
 use Rattle.rasn_de.specs.Taking.{ErrorOf}
 use Rattle.rasn_de.proofs.Refusals.{rule_is}
-use Rattle.rasn_de.specs.Leaves.{Readings, FromContents, HoldsNumber, LacksNumber, IntegerIn, IntegerAt, definite_at, Refuses, GaveInteger, IsBeyond}
+use Rattle.rasn_de.specs.Leaves.{Readings, FromContents, HoldsNumber, LacksNumber, IntegerIn, IntegerAt, definite_at, Refuses, Gave, GaveInteger, IsBeyond}
 use Rattle.rasn_de.specs.State.{State, at}
-use Rattle.rasn_de.specs.Outcomes.{Exact, refusal}
 use Rattle.rasn_de.specs.Decodes.{Decodes}
 use Rattle.rasn_de.proofs.OutOfMemory.{gave_integer_memory}
-use Rattle.rasn_de.proofs.Answering.{plain_agrees, gave_answers, definite_end}
+use Rattle.rasn_de.proofs.Answering.{plain_agrees, gave_answers, definite_end, ran_out}
 
 -- Octets that hold a number don't lack one.
 number_lacks : (rule : Codec) (c : List ℕ) (f : Fault) → LacksNumber rule c f → c ≢ [] → (IsStrict rule → IsShortestInteger c) → ⊥
@@ -41,20 +40,19 @@ module _ (width : ℕ) (range : Interval) (bounds : Constraints) where
   integer_none rule c (fault f) t o (inr (n, i, g)) k s b = i k.2
   integer_none rule c (out_of_bound z bound) t o (n, i, a, e, g) k s b = a (subst (IsBounded (integer range) bounds) k.0 b)
 
+  integer_gave : {X : Type 0} (see : X → ℤ) (tag : Tag) (old new : State) (result : Result X DecodeError) → AreOctets old.rest → Gave see (IntegerAt width range bounds old.rule tag old.rest) old result new
+      → Decodes (leaf (integer range) tag bounds) (λ v. number (see v)) old result new
+  unfolding Reads
+  integer_gave see tag old new result o g =
+      gave_answers (λ rule. Reads rule (leaf (integer range) tag bounds)) number see _ old new result
+      (plain_agrees old.rule tag old.rest o (integer range) old.depth (IsBounded (integer range) bounds) number (IntegerIn old.rule width range bounds) (integer_found old.rule) (integer_only old.rule) (integer_none old.rule)) g
+
   integer_decodes : {X : Type 0} (see : X → ℤ) (Grows : Type 0) (tag : Tag) (old new : State) (result : Result X DecodeError) → AreOctets old.rest
       → GaveInteger see Grows tag (IntegerAt width range bounds old.rule tag old.rest) old result new → Decodes (leaf (integer range) tag bounds) (λ v. number (see v)) old result new
-  unfolding Reads
-  integer_decodes see Grows tag old new (Ok v) o g =
-      gave_answers (λ rule. Reads rule (leaf (integer range) tag bounds)) number see _ old new (Ok v)
-      (plain_agrees old.rule tag old.rest o (integer range) old.depth (IsBounded (integer range) bounds) number (IntegerIn old.rule width range bounds) (integer_found old.rule) (integer_only old.rule) (integer_none old.rule)) g
-  integer_decodes see Grows tag old new (Err e) o (inr g) =
-      gave_answers (λ rule. Reads rule (leaf (integer range) tag bounds)) number see _ old new (Err e)
-      (plain_agrees old.rule tag old.rest o (integer range) old.depth (IsBounded (integer range) bounds) number (IntegerIn old.rule width range bounds) (integer_found old.rule) (integer_only old.rule) (integer_none old.rule)) g
-  integer_decodes see Grows tag old new (Err e) o (inl (m, g, d, s, c, h)) = record {
-    stays = s;
-    end = definite_end old.rule tag old.rest o c new.rest h;
-    exact = subst (λ k. Exact (Reads old.rule (leaf (integer range) tag bounds) old.depth old.closing) old.rest (refusal k)) (sym m) tt;
-  }
+  integer_decodes see Grows tag old new (Ok v) o g = integer_gave see tag old new (Ok v) o g
+  integer_decodes see Grows tag old new (Err e) o (inr g) = integer_gave see tag old new (Err e) o g
+  integer_decodes see Grows tag old new (Err e) o (inl (m, g, d, s, c, h)) =
+      ran_out (λ rule. Reads rule (leaf (integer range) tag bounds)) (λ v. number (see v)) old new e m s (definite_end old.rule tag old.rest o c new.rest h)
 
   -- What `decode_integer` ensures follows from its exact clause.
   pub integer_ensured : {X : Type 0} (see : X → ℤ) (Grows : Type 0) (tag : Tag) (old new : State) (result : Result X DecodeError) → AreOctets old.rest
@@ -84,11 +82,3 @@ empty_is (b ∷ l) e = let k : length (b ∷ l) ≡ 0 = grind (arith, nat_tests)
 pub not_empty : (l : List ℕ) → false ≡ (length l == 0) → l ≢ []
 not_empty [] e = cc
 not_empty (b ∷ l) e = λ f. cc
-
-pub match_some : {A : Type 0} (o : Option A) (v : A) (N : Type 0) (S : A → Type 0) → MatchOption o N S → o ≡ Some v → S v
-match_some (Some w) v N S m e = let z : w ≡ v = cc in subst S z m
-match_some None v N S m e = cc
-
-pub match_none : {A : Type 0} (o : Option A) (N : Type 0) (S : A → Type 0) → MatchOption o N S → o ≡ None → N
-match_none (Some w) N S m e = cc
-match_none None N S m e = m

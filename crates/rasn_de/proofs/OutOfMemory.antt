@@ -17,7 +17,8 @@ use Rattle.rasn_de.specs.Leaves.{on_header, definite_in, definite_at, FromConten
 use Rattle.rasn_types.specs.declared.types.constraints.Constraints.{Constraints}
 use Rattle.rasn_types.specs.Shapes.{Interval}
 use Rattle.rasn_de.specs.declared.ber.de.parser.headers.Expected.TheVariants.{AnyTag}
-use Rattle.rasn_de.specs.Octets.{IsPrimitive, GaveOctets}
+use Rattle.rasn_de.specs.Octets.{IsPrimitive}
+use Rattle.rasn_de.specs.Texts.{GaveOctets}
 use Rattle.rasn_de.specs.OpenTypes.{Skips}
 use Rattle.rasn_de.specs.Skipping.{IsFault}
 use Rattle.rasn_de.specs.State.{State}

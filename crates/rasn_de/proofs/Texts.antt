@@ -8,6 +8,7 @@ use Rattle.rasn_types.specs.declared.types.tag.Tag.{Tag}
 use Rattle.rasn_types.specs.declared.types.rules.Codec.{Codec}
 use Rattle.rasn_types.specs.declared.types.constraints.Constraints.{Constraints}
 use Rattle.rasn_types.specs.declared.error.decode.DecodeError.{DecodeError}
+use Rattle.rasn_types.specs.Errors.{IsOutOfMemory}
 use Rattle.rasn_types.specs.Framing.{AreOctets}
 use Rattle.rasn_types.specs.Shapes.{Tree, numbers, Kind, leaf}
 use Rattle.rasn_types.specs.Grammar.{Reads, ReadsIn, ReadsLeaf, IsBounded, Text, family, text_family}
@@ -15,12 +16,12 @@ use Rattle.rasn_de.specs.declared.ber.de.parser.Fault.{Fault}
 use Rattle.rasn_de.specs.declared.ber.de.parser.Fault.TheVariants as fault_is
 use Rattle.rasn_de.specs.Causes.{Cause, fault, error_kind}
 use Rattle.rasn_de.specs.Octets.{GathersOctets, IsLentAs, IsPrimitive}
-use Rattle.rasn_de.specs.Texts.{Verdict, StringAt, GaveString}
+use Rattle.rasn_de.specs.Leaves.{Refuses}
+use Rattle.rasn_de.specs.Texts.{Verdict, StringAt, RanOutGathering, GaveString}
 use Rattle.rasn_de.specs.State.{State, IsEnd}
 use Rattle.rasn_de.specs.Taking.{ErrorOf}
-use Rattle.rasn_de.specs.Outcomes.{Exact, refusal}
 use Rattle.rasn_de.specs.Decodes.{Decodes}
-use Rattle.rasn_de.proofs.Answering.{Agrees, gave_answers}
+use Rattle.rasn_de.proofs.Answering.{Agrees, gave_answers, ran_out, ran_out_before}
 use Rattle.rasn_de.proofs.Ends.{IsEnd-refl}
 use Rattle.rasn_de.proofs.Peeks.{kind_memory, memory_or}
 use Rattle.rasn_de.proofs.Refusals.{refuses_fault, same_at, rule_is}
@@ -67,23 +68,41 @@ module _ {kind : Kind} {bounds : Constraints} {Told : Verdict} (fits : Fits kind
           let m : ys ≡ xs = ap (λ (z : List ℕ × List ℕ). z.0) q in
           fits.none rule xs f t a (subst (λ z. Text rule kind z t) m j) b
 
-  string_decodes : {X : Type 0} (see : X → List ℕ) (tag : Tag) (old new : State) (result : Result X DecodeError) → AreOctets old.rest → GaveString see Told tag old result new
+  pub string_decodes : {X : Type 0} (see : X → List ℕ) (tag : Tag) (old new : State) (result : Result X DecodeError) → AreOctets old.rest → GaveString see Told tag old result new
       → Decodes (leaf kind tag bounds) (λ x. numbers (see x)) old result new
   unfolding Reads
   string_decodes see tag old new (Ok v) o g =
       gave_answers (λ rule. Reads rule (leaf kind tag bounds)) numbers see (StringAt Told old.rule old.depth tag old.rest) old new (Ok v) (agrees old.rule old.depth tag old.rest o) g
-  string_decodes see tag old new (Err e) o (inl (m, c, s, k)) = record {
-    stays = same_at old new s;
-    end = subst (IsEnd old.rest) (sym (ap (λ (x : State). x.rest) s)) (IsEnd-refl old.rest);
-    exact = subst (λ k. Exact (Reads old.rule (leaf kind tag bounds) old.depth old.closing) old.rest (refusal k)) (sym m) tt;
-  }
-  string_decodes see tag old new (Err e) o (inr (inl (m, c, s, k, p, (xs, h, a), r))) = record {
-    stays = s;
-    end = subst (IsEnd old.rest) r (octets_end old.rule old.depth tag old.rest o xs p.1 h);
-    exact = subst (λ k. Exact (Reads old.rule (leaf kind tag bounds) old.depth old.closing) old.rest (refusal k)) (sym m) tt;
-  }
+  string_decodes see tag old new (Err e) o (inl (m, c, s, k)) = ran_out_before (λ rule. Reads rule (leaf kind tag bounds)) (λ x. numbers (see x)) old new e m s
+  string_decodes see tag old new (Err e) o (inr (inl (m, c, s, k, p, (xs, h, a), r))) =
+      ran_out (λ rule. Reads rule (leaf kind tag bounds)) (λ x. numbers (see x)) old new e m s (subst (IsEnd old.rest) r (octets_end old.rule old.depth tag old.rest o xs p.1 h))
   string_decodes {X} see tag old new (Err e) o (inr (inr g)) =
       gave_answers {X = List ℕ} {Y = X} (λ rule. Reads rule (leaf kind tag bounds)) numbers see (StringAt Told old.rule old.depth tag old.rest) old new (Err e) (agrees old.rule old.depth tag old.rest o) g.1
+
+  -- octets that are refused
+  pub untold : (tag : Tag) (old new : State) (s : CowSlice ℕ Global) → GathersOctets tag old (Ok s) new → (f : Fault) (e : DecodeError) → Told (cow_slice_items s) (Err f) → ErrorOf f new e
+      → (IsOutOfMemory e.kind → ⊥) × Refuses (StringAt Told old.rule old.depth tag old.rest) old e new
+  untold tag old new s (h, k, w) f e a x = (
+    (λ m. kind_memory f (fits.plain (cow_slice_items s) f a) (sym (ap (λ (y : DecodeError). y.kind) x) ∙ m)),
+    refuses_fault (StringAt Told old.rule old.depth tag old.rest) old new f e (inr (cow_slice_items s, f, h, a, refl)) k x,
+  )
+
+-- octets that weren't gathered
+pub ungathered : (Told : Verdict) (tag : Tag) (old new : State) (e : DecodeError) → GathersOctets tag old (Err e) new
+    → RanOutGathering tag old e new ⊎ ((IsOutOfMemory e.kind → ⊥) × Refuses (StringAt Told old.rule old.depth tag old.rest) old e new)
+ungathered Told tag old new e (f, k, s, read, memory) = go (memory_or f)
+  where
+    kind_is : e.kind ≡ error_kind f
+    kind_is = ap (λ (x : DecodeError). x.kind) k
+
+    codec_is : e.codec ≡ old.rule
+    codec_is = ap (λ (x : DecodeError). x.codec) k
+
+    go : (f ≡ fault_is.OutOfMemory) ⊎ (f ≢ fault_is.OutOfMemory) → RanOutGathering tag old e new ⊎ ((IsOutOfMemory e.kind → ⊥) × Refuses (StringAt Told old.rule old.depth tag old.rest) old e new)
+    go (inl m) = inl (kind_is ∙ ap error_kind m, codec_is, s, memory m)
+    go (inr n) =
+        let r : new.rest ≡ old.rest = ap (λ (x : State). x.rest) s in
+        inr ((λ h. kind_memory f n (sym kind_is ∙ h)), (fault f, inl (f, read n, ap (λ z. (fault f, z)) r), kind_is, codec_is, same_at old new s))
 
 lent : (rule : Codec) (tag : Tag) (l : List ℕ) (s : CowSlice ℕ Global) → (IsOwnedSlice s → false ≡ true) → IsLentAs rule tag l s → IsPrimitive rule tag l
 lent rule tag l (Borrowed x) n h = h
@@ -99,28 +118,12 @@ module _ {kind : Kind} {bounds : Constraints} {Told : Verdict} (fits : Fits kind
 
   -- octets that weren't gathered
   pub string_ungathered : (e : DecodeError) → GathersOctets tag old (Err e) new → Ensured (Err e)
-  string_ungathered e (f, k, s, read, memory) = ensured (Err e) (go (memory_or f))
-    where
-      kind_is : e.kind ≡ error_kind f
-      kind_is = ap (λ (x : DecodeError). x.kind) k
-
-      codec_is : e.codec ≡ old.rule
-      codec_is = ap (λ (x : DecodeError). x.codec) k
-
-      go : (f ≡ fault_is.OutOfMemory) ⊎ (f ≢ fault_is.OutOfMemory) → GaveString see Told tag old (Err e) new
-      go (inl m) = inl (kind_is ∙ ap error_kind m, codec_is, s, memory m)
-      go (inr n) =
-          let r : new.rest ≡ old.rest = ap (λ (x : State). x.rest) s in
-          inr (inr ((λ h. kind_memory f n (sym kind_is ∙ h)), (fault f, inl (f, read n, ap (λ z. (fault f, z)) r), kind_is, codec_is, same_at old new s)))
+  string_ungathered e g = ensured (Err e) (elim (ungathered Told tag old new e g) [ inl r ↦ inl r | inr r ↦ inr (inr r) ])
 
   module _ (s : CowSlice ℕ Global) (g : GathersOctets tag old (Ok s) new) where
     -- octets that are refused
     pub string_refused : (f : Fault) (e : DecodeError) → Told (cow_slice_items s) (Err f) → ErrorOf f new e → Ensured (Err e)
-    string_refused f e a x =
-        ensured (Err e) (inr (inr (
-          (λ m. kind_memory f (fits.plain (cow_slice_items s) f a) (sym (ap (λ (y : DecodeError). y.kind) x) ∙ m)),
-          refuses_fault (StringAt Told old.rule old.depth tag old.rest) old new f e (inr (cow_slice_items s, f, g.0, a, refl)) g.1 x,
-        )))
+    string_refused f e a x = ensured (Err e) (inr (inr (untold fits tag old new s g f e a x)))
 
     -- octets in order that aren't copied
     pub string_ran_out : (ns : List ℕ) (e : DecodeError) → Told (cow_slice_items s) (Ok ns) → (IsOwnedSlice s → false ≡ true) → ErrorOf fault_is.OutOfMemory new e → Ensured (Err e)

@@ -4,13 +4,13 @@ use Rattle.rasn_types.specs.declared.types.rules.Codec.{Codec}
 use Rattle.rasn_types.specs.declared.types.constraints.Bound.{Bound}
 use Rattle.rasn_types.specs.declared.types.constraints.Constraints.{Constraints}
 use Rattle.rasn_types.specs.declared.types.strings.alphabet.Alphabet.{Alphabet}
-use Rattle.rasn_types.specs.Shapes.{Tree, numbers, Admits, bmp, utf8, fixed}
+use Rattle.rasn_types.specs.Shapes.{Tree, numbers, Admits, octet_string, bmp, utf8, fixed}
 use Rattle.rasn_types.specs.Grammar.{Text, IsBounded, Fulfils, units}
 use Rattle.rasn_types.specs.Characters as characters
 use Rattle.rasn_types.proofs.StringTexts.{alphabet_family, alphabet_measure, alphabet_text, alphabet_only, units_only, units_there, length-units_of}
 use Rattle.rasn_de.specs.declared.ber.de.parser.Fault.{Fault}
 use Rattle.rasn_de.specs.declared.ber.de.parser.Fault.TheVariants as fault_is
-use Rattle.rasn_de.specs.Texts.{ByAlphabet, ByUnits, ByUtf8, ByLength, IsOutOfSize, IsWithinSize, Checks}
+use Rattle.rasn_de.specs.Texts.{ByAlphabet, BySize, ByUnits, ByUtf8, ByLength, IsOutOfSize, IsWithinSize, Checks}
 use Rattle.rasn_de.proofs.Texts.{Fits}
 
 pub size_plain : (size : Option (Bound ℕ)) (n : ℕ) (f : Fault) → IsOutOfSize size n f → f ≢ fault_is.OutOfMemory
@@ -97,6 +97,15 @@ by_length n bounds = record {
     plain : (xs : List ℕ) (f : Fault) → ByLength n bounds.size xs (Err f) → f ≢ fault_is.OutOfMemory
     plain xs f (inl (m, e)) = λ k. cc
     plain xs f (inr (m, h)) = size_plain bounds.size (length xs) f h
+
+pub by_size : (bounds : Constraints) → Fits octet_string bounds (BySize bounds.size)
+by_size bounds = record {
+  is_text = refl;
+  found = λ rule xs ns h. (ap numbers h.0, subst (λ z. Admits ◌≤◌ bounds.size (length z)) (sym h.0) h.1);
+  only = λ rule xs ns t h k. k ∙ ap numbers (sym h.0);
+  none = λ rule xs f t h k b. h.0 (subst (λ z. IsBounded octet_string bounds z) k b);
+  plain = λ xs f h. size_plain bounds.size (length xs) f h;
+}
 
 -- Sizes that were checked.
 pub units_checked : (bounds : Constraints) (l : List ℕ) (r : Result (Unit {0}) Fault) → characters.ArePaired l → IsWithinSize bounds (length l / 2) r

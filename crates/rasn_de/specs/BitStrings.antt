@@ -1,6 +1,5 @@
 -- BIT STRING, read from lists.
 use Rattle.std.specs.Prelude.{◌≡◌, ◌≢◌, ◌≤◌, ◌<◌, ◌^◌, ◌⊎◌, ℕ, ◌-◌, ◌*◌, Bool, false, ◌||◌, ◌&&◌, nat_lt, if◌then◌else◌, List, [], ◌∷◌, length, drop, Result, Ok, Err}
-use Rattle.std.specs.Borrow.{Bor}
 use Rattle.rasn_types.specs.declared.types.tag.Tag.{Tag}
 use Rattle.rasn_types.specs.declared.types.rules.Codec.{Codec}
 use Rattle.rasn_types.specs.declared.types.constraints.Constraints.{Constraints}
@@ -54,11 +53,6 @@ pub data LacksBits (rule : Codec) (depth : ℕ) (tag : Tag) (l : List ℕ) : Fau
   refused : (f : Fault) → f ≢ OutOfMemory → bit_string_at rule depth tag l ≡ Err f → LacksBits rule depth tag l f l
   gathering : IsConstructed rule tag l → LacksBits rule depth tag l OutOfMemory l
   copying : (bs : List Bool) (rest : List ℕ) → IsPrimitive rule tag l → bit_string_at rule depth tag l ≡ Ok (bs, rest) → LacksBits rule depth tag l OutOfMemory rest
-
--- What a function found is what the reading gives; or there are no bits.
-abbrev pub FindsBits : Codec → ℕ → Tag → List ℕ → Result (List Bool × Bor (List ℕ)) (Fault × Bor (List ℕ)) → Type 0
-FindsBits rule depth tag l (Ok p) = bit_string_at rule depth tag l ≡ Ok (p.0, p.1.now)
-FindsBits rule depth tag l (Err e) = LacksBits rule depth tag l e.0 e.1.now
 
 -- What a decoder gathers of a string: its bits and what follows.
 abbrev pub GathersBits : Tag → State → Result (List Bool) DecodeError → State → Type 0

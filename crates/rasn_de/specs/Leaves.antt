@@ -95,13 +95,13 @@ abbrev pub Gave : {X Y : Type 0} → (X → Y) → Readings Y → State → Resu
 Gave see Is old (Ok v) new = Is (Ok (see v, new.rest)) × (new ≡ at old new.rest)
 Gave see Is old (Err e) new = Refuses Is old e new
 
--- The same of an INTEGER of a type whose numbers may take memory: where that is wanting, the value was taken.
+-- A call answers what the reading of an INTEGER is, of a type whose numbers may take memory: where that is wanting, the value was taken.
 abbrev pub GaveInteger : {X : Type 0} → (X → ℤ) → Type 0 → Tag → Readings ℤ → State → Result X DecodeError → State → Type 0
 GaveInteger see Grows tag Is old (Ok v) new = Gave see Is old (Ok v) new
 GaveInteger see Grows tag Is old (Err e) new =
     (IsOutOfMemory e.kind × Grows × (e.codec ≡ old.rule) × (new ≡ at old new.rest) × (c : List ℕ) × (definite_at old.rule tag old.rest ≡ Ok (c, new.rest))) ⊎ Refuses Is old e new
 
--- The same of a type that has these numbers, so many bits wide, within bounds.
+-- A call reads an INTEGER of a type that has these numbers and so many bits, and may grow, within bounds.
 abbrev pub GaveNumber : {X : Type 0} → (X → ℤ) → Bool → ℕ → Interval → Tag → Constraints → State → Result X DecodeError → State → Type 0
 GaveNumber see grows width range tag bounds old result new = GaveInteger see (grows ≡ true) tag (IntegerAt width range bounds old.rule tag old.rest) old result new
 

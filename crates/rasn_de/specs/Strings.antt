@@ -61,7 +61,7 @@ string_of rule segment tag zero h = string_in rule segment too_deep h.bit h.exte
 string_of rule segment tag (suc d) h =
     string_in rule segment (segments_in (λ l. header_at (form rule) (Tagged tag) l >>= string_of rule segment tag d)) h.bit h.extent h.rest
 
--- the same of what the code has of a header
+-- The string of a value whose header and contents were read, with what follows it.
 abbrev pub string_from : {X : Type 0} → Codec → (Codec → List ℕ → Result (List X) Fault) → Tag → ℕ → Value → List ℕ → Result (List X × List ℕ) Fault
 string_from rule segment tag depth value rest = string_of rule (segment rule) tag depth (framed value rest)
 

@@ -22,7 +22,7 @@ use Rattle.rasn_de.specs.declared.ber.de.parser.Fault.{Fault}
 use Rattle.rasn_de.specs.declared.ber.de.parser.Fault.TheVariants.{SizeConstraintNotSatisfied, PermittedAlphabetError, StringConversionFailed}
 use Rattle.rasn_de.specs.Causes.{fault}
 use Rattle.rasn_de.specs.Leaves.{Readings, Refuses, Gave}
-use Rattle.rasn_de.specs.Octets.{octet_string_at, IsPrimitive, IsConstructed}
+use Rattle.rasn_de.specs.Octets.{octet_string_at, IsPrimitive, IsConstructed, IsLentAs}
 use Rattle.rasn_de.specs.State.{State, at}
 
 -- What is told of all octets of a string: the numbers that they mean, or the first refusal.
@@ -57,6 +57,11 @@ ByLength n size l (Err f) =
 abbrev pub AreUtf8 : List ℕ → List ℕ → Type 0
 AreUtf8 l ns = IsUtf8 l × (ns ≡ chars l)
 
+-- The number of octets is within the size.
+abbrev pub BySize : Option (Bound ℕ) → Verdict
+BySize size l (Ok ns) = (ns ≡ l) × Admits ◌≤◌ size (length l)
+BySize size l (Err f) = IsOutOfSize size (length l) f
+
 -- The octets are UTF-8, and then the number of characters is within the size.
 abbrev pub ByUtf8 : Option (Bound ℕ) → Verdict
 ByUtf8 size = ByCharacters AreUtf8 UTF8_STRING size
@@ -87,6 +92,13 @@ GaveString see Told tag old (Ok v) new = Gave see (StringAt Told old.rule old.de
 GaveString see Told tag old (Err e) new =
     RanOutGathering tag old e new ⊎ (RanOutCopying Told tag old e new
     ⊎ ((IsOutOfMemory e.kind → ⊥) × Refuses (StringAt Told old.rule old.depth tag old.rest) old e new))
+
+-- A call answers what the reading is, or memory is wanting while segments are gathered. Octets of a primitive string are lent, so nothing is copied.
+abbrev pub GaveOctets : Tag → Constraints → State → Result (CowSlice ℕ Global) DecodeError → State → Type 0
+GaveOctets tag bounds old (Ok s) new =
+    Gave cow_slice_items (StringAt (BySize bounds.size) old.rule old.depth tag old.rest) old (Ok s) new × IsLentAs old.rule tag old.rest s
+GaveOctets tag bounds old (Err e) new =
+    RanOutGathering tag old e new ⊎ ((IsOutOfMemory e.kind → ⊥) × Refuses (StringAt (BySize bounds.size) old.rule old.depth tag old.rest) old e new)
 
 -- A function that looks at octets tells their numbers as they are, or the first refusal.
 abbrev pub Checks : Verdict → List ℕ → List ℕ → Result (Unit {0}) Fault → Type 0

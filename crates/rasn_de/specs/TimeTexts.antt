@@ -38,7 +38,7 @@ abbrev pub Parses : {X : Type 0} → (List ℕ → X → Type 0) → List ℕ �
 Parses Means text (Ok x) = Means text x
 Parses {X} Means text (Err e) = ((x : X) → Means text x → ⊥) × TellsText text Ber e
 
--- The same of a text that has to be copied for the error.
+-- A text is parsed to what it means; where it means nothing, the error tells it, or that no memory was found for its copy.
 abbrev pub ParsesCopied : {X : Type 0} → (List ℕ → X → Type 0) → List ℕ → Result X DecodeError → Type 0
 ParsesCopied Means text (Ok x) = Means text x
 ParsesCopied {X} Means text (Err e) = ((x : X) → Means text x → ⊥) × (TellsText text Ber e ⊎ TellsMemory Ber e)

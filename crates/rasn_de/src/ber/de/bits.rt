@@ -4,29 +4,49 @@ ghost use Rattle.rasn_types.specs.Shapes.{leaf, bit_string};
 ghost use Rattle.rasn_de.specs.BitStrings.{bits_tree, GathersBits, GaveBits};
 ghost use Rattle.rasn_de.specs.Decodes.{Decodes};
 
-use crate::ber::de::parser::Fault;
-use crate::ber::de::parser::bits::read_bits;
+use crate::ber::de::parser::bits::counted;
+use crate::ber::de::parser::headers::{Expected, Spelling};
+use crate::ber::de::parser::strings::{segment_of, string_contents};
+use crate::ber::de::parser::{Fault, read_value};
 use crate::ber::de::{Decoder, check_size};
 use rasn_types::ber::gathered::GatheredBits;
 use rasn_types::error::DecodeError;
 use rasn_types::types::{BitString, Constraints, Tag};
 
 impl<'input> Decoder<'input> {
-    /// The bits of the next value as a string, gathered from its segments. A refusal takes nothing, but for running out of memory for the bits
-    /// of a primitive value, which takes the value.
+    /// The bits of the next value as a string, gathered from its segments. A refusal takes nothing, but for running out of memory
+    /// for the bits of a primitive value, which takes the value.
     fn bits(&mut self, tag: Tag) -> Result<GatheredBits, DecodeError>
         ensures gathers { GathersBits tag self.old result self.new }
         ensures octets { AreOctets self.old.rest }
     {
-        match read_bits(self.alloc, self.rules, self.depth, tag, self.rest) {
-            Ok((bits, rest)) => {
-                self.advance(rest);
-                Ok(bits)
-            }
-            Err((fault, left)) => {
-                self.advance(left);
-                Err(self.error(fault))
-            }
+        let (value, rest) = match read_value(
+            Spelling::of_rule(self.rules),
+            Expected::Tagged(tag),
+            self.rest,
+        ) {
+            Ok(found) => found,
+            Err(fault) => return Err(self.error(fault)),
+        };
+        let mut bits = GatheredBits::new(self.alloc);
+        let Some(segment) = segment_of(value) else {
+            let inner = Tag::BIT_STRING;
+            return match string_contents(self.rules, inner, self.depth, value, rest, &mut bits) {
+                Ok(rest) => {
+                    self.advance(rest);
+                    Ok(bits)
+                }
+                Err(fault) => Err(self.error(fault)),
+            };
+        };
+        let (unused, octets) = match counted(self.rules, segment) {
+            Ok(parts) => parts,
+            Err(fault) => return Err(self.error(fault)),
+        };
+        self.advance(rest);
+        match bits.append(octets, unused) {
+            Ok(()) => Ok(bits),
+            Err(_) => Err(self.error(Fault::OutOfMemory)),
         }
     }
 

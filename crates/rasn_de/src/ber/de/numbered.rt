@@ -71,6 +71,7 @@ impl<'input> Decoder<'input> {
     }
 
     /// The object identifier that contents octets hold as these rules read them.
+    #[tactic(auto, using(crate::proofs::Arcs::arcs_told))]
     fn object_identifier(
         &self,
         rules: Codec,
@@ -89,6 +90,7 @@ impl<'input> Decoder<'input> {
     ///
     /// # Errors
     /// As `decode_object_identifier` under BER, but for framing faults. They name the rules of the decoder.
+    #[tactic(auto, using(crate::proofs::Arcs::arcs_held))]
     pub fn decode_object_identifier_from_bytes(
         &self,
         contents: &[u8],

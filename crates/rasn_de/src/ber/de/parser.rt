@@ -86,6 +86,7 @@ pub struct Value<'input> {
     pub contents: Contents<'input>,
 }
 
+/// A number below 2^32 in base 128, whose last octet is below 128, and what follows. A number of 2^32 or more is the fault `wide`.
 #[tactic(auto, unfolding(crate::specs::Headers::number128_at))]
 pub fn read_number128(wide: Fault, input: &[u8]) -> Result<(u32, &[u8]), Fault>
     ensures { Gives pair result (number128_at wide 0 input.now) }
@@ -105,6 +106,7 @@ pub fn read_number128(wide: Fault, input: &[u8]) -> Result<(u32, &[u8]), Fault>
     Err(Fault::Incomplete { needed: 1 })
 }
 
+/// The class that the first two bits of an identifier name.
 fn class_at(n: u8) -> Class
     ensures { result ≡ class_of n }
 {
@@ -126,6 +128,7 @@ pub fn is_padded(input: &[u8]) -> bool
     }
 }
 
+/// The tag number of an identifier, from its first octet and from those that follow (X.690 8.1.2.2, 8.1.2.4), and what follows them.
 #[tactic(auto, unfolding(crate::specs::Headers::tag_number_at))]
 fn read_tag_number(first: u8, input: &[u8]) -> Result<(u32, &[u8]), Fault>
     ensures { Gives pair result (tag_number_at first input.now) }
@@ -143,6 +146,7 @@ fn is_longer(first: u8, input: &[u8], number: u32) -> bool
     first % 32 == 31 && (is_padded(input) || number < 31)
 }
 
+/// Whether this is the tag of end-of-contents octets, which no value has (X.690 8.1.5).
 fn is_end_of_contents(tag: Tag) -> bool
     ensures { result ≡ is_eoc tag }
 {
@@ -153,7 +157,7 @@ fn is_end_of_contents(tag: Tag) -> bool
 }
 
 /// The identifier that begins the input, which may have to be the shortest one, and what follows.
-#[tactic(auto, unfolding(crate::specs::Headers::identifier_by))]
+#[tactic(auto, using(crate::proofs::Tools::octets_all), unfolding(crate::specs::Headers::identifier_by))]
 #[inline(always)]
 pub fn read_identifier(shortest: bool, input: &[u8]) -> Result<(Identifier, &[u8]), Fault>
     ensures exact { Gives identified result (identifier_by shortest input.now) }
@@ -207,6 +211,7 @@ fn take_octets(count: usize, input: &[u8]) -> Result<(&[u8], &[u8]), Fault>
     Ok(input.split_at(count))
 }
 
+/// Whether the first octet is zero.
 fn begins_with_zero(octets: &[u8]) -> bool
     ensures { result ≡ begins_with_zero octets.now }
 {
@@ -223,6 +228,7 @@ fn has_spare(octets: &[u8], length: usize) -> bool
     begins_with_zero(octets) || length < 128
 }
 
+/// A length in so many octets (X.690 8.1.3.5), and what follows.
 #[tactic(auto, unfolding(crate::specs::Headers::long_at))]
 #[inline(always)]
 fn read_long(shortest: bool, count: usize, input: &[u8]) -> Result<(Option<usize>, &[u8]), Fault>
@@ -258,6 +264,7 @@ fn read_length(
     }
 }
 
+/// A value of so many octets, or of indefinite length, behind its header, and what follows.
 fn read_contents(
     identifier: Identifier,
     length: Option<usize>,

@@ -8,11 +8,12 @@ ghost use Rattle.rasn_types.specs.Errors.{IsOutOfMemory};
 ghost use Rattle.rasn_types.specs.Framing.{AreOctets};
 ghost use Rattle.rasn_types.specs.Shapes.{leaf, octet_string, numbers, numeric, printable, visible, ia5, any_octets, bmp, utf8, fixed};
 ghost use Rattle.rasn_de.specs.Decodes.{Decodes};
-ghost use Rattle.rasn_de.specs.Octets.{GathersOctets, GaveOctets, IsPrimitive, cow_tree};
-ghost use Rattle.rasn_de.specs.Texts.{ByAlphabet, ByUnits, ByUtf8, ByLength, GaveString, Checks, ReadsText};
+ghost use Rattle.rasn_de.specs.Octets.{GathersOctets, IsPrimitive, cow_tree};
+ghost use Rattle.rasn_de.specs.Texts.{ByAlphabet, ByUnits, ByUtf8, ByLength, GaveOctets, GaveString, Checks, ReadsText};
 
-use crate::ber::de::parser::Fault;
-use crate::ber::de::parser::strings::read_octets;
+use crate::ber::de::parser::headers::{Expected, Spelling};
+use crate::ber::de::parser::strings::{segment_of, string_contents};
+use crate::ber::de::parser::{Fault, read_value};
 use crate::ber::de::{Decoder, check_size};
 use rasn_types::error::DecodeError;
 use rasn_types::types::{
@@ -97,10 +98,24 @@ impl<'input> Decoder<'input> {
         ensures gathers { GathersOctets tag self.old result self.new }
         ensures octets { AreOctets self.old.rest }
     {
-        match read_octets(self.alloc, self.rules, self.depth, tag, self.rest) {
-            Ok((octets, rest)) => {
+        let (value, rest) = match read_value(
+            Spelling::of_rule(self.rules),
+            Expected::Tagged(tag),
+            self.rest,
+        ) {
+            Ok(found) => found,
+            Err(fault) => return Err(self.error(fault)),
+        };
+        if let Some(segment) = segment_of(value) {
+            self.advance(rest);
+            return Ok(CowSlice::Borrowed(segment));
+        }
+        let mut gathered = Vec::new(self.alloc);
+        let inner = Tag::OCTET_STRING;
+        match string_contents(self.rules, inner, self.depth, value, rest, &mut gathered) {
+            Ok(rest) => {
                 self.advance(rest);
-                Ok(octets)
+                Ok(CowSlice::Owned(gathered))
             }
             Err(fault) => Err(self.error(fault)),
         }

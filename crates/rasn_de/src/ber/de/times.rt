@@ -51,7 +51,7 @@ fn invalid_date(octets: Vec<u8>, codec: Codec) -> DecodeError
     }
 }
 
-/// The same of a text that has to be copied. Where the copy finds no memory, that is the error.
+/// The error of a text that is no time's and has to be copied. Where the copy finds no memory, that is the error.
 fn invalid_text(alloc: Global, text: &[u8], codec: Codec) -> DecodeError
     ensures { TellsText text.now codec result ⊎ TellsMemory codec result }
 {
@@ -65,7 +65,7 @@ fn invalid_text(alloc: Global, text: &[u8], codec: Codec) -> DecodeError
 }
 
 impl<'input> Decoder<'input> {
-    /// The error of a string that is no time's. Only borrowed octets are copied.
+    /// The error of a string that is no time's. Only borrowed octets are copied for it.
     fn invalid_date(&self, text: CowSlice<'_, u8>) -> DecodeError
         ensures { TellsString text.entry self.now.rule result }
     {

@@ -1,18 +1,15 @@
-//! Strings of bits (X.690 8.6).
+//! The bits of a segment (X.690 8.6.2).
 ghost use Rattle.std.specs.Prelude.{◌≡◌, ◌<◌, ◌≤◌, ◌*◌, length, IfOk};
 ghost use Rattle.rasn_types.specs.Bits.{but_last};
-ghost use Rattle.rasn_types.specs.Framing.{AreOctets};
-ghost use Rattle.rasn_de.specs.BitStrings.{segment_bits, is_miscounted, is_any_set, last_bits, FindsBits};
+ghost use Rattle.rasn_de.specs.BitStrings.{segment_bits, is_miscounted, is_any_set, last_bits};
 ghost use Rattle.rasn_de.specs.Views.{Gives};
 
-use crate::ber::de::parser::headers::{Expected, Spelling};
-use crate::ber::de::parser::strings::{Segmented, segment_of, string_contents};
-use crate::ber::de::parser::{Fault, read_value};
+use crate::ber::de::parser::Fault;
+use crate::ber::de::parser::strings::Segmented;
 use crate::ber::rules::is_der;
 use rasn_types::ber::gathered::GatheredBits;
 use rasn_types::error::DerDecodeErrorKind;
-use rasn_types::types::{Codec, Tag};
-use std::alloc::{AllocError, Global};
+use rasn_types::types::Codec;
 
 /// Whether a segment can't have so many unused bits.
 fn is_miscounted(unused: u8, octets: &[u8]) -> bool
@@ -36,7 +33,7 @@ fn is_any_set(unused: u8, octets: &[u8]) -> bool
 }
 
 /// How many bits of a segment's last octet don't count, and its octets (X.690 8.6.2).
-fn counted(rules: Codec, segment: &[u8]) -> Result<(usize, &[u8]), Fault>
+pub fn counted(rules: Codec, segment: &[u8]) -> Result<(usize, &[u8]), Fault>
     ensures bits { Gives (λ p. but_last p.0 p.1.now) result (segment_bits rules segment.now) }
     ensures few { IfOk result (λ p. (p.0 < 8) × (p.0 ≤ 8 * length p.1.now)) }
 {
@@ -65,49 +62,5 @@ impl Segmented for GatheredBits {
             Ok(()) => Ok(()),
             Err(_) => Err(Fault::OutOfMemory),
         }
-    }
-}
-
-/// The bits of octets, but the last `unused` ones.
-fn copied(alloc: Global, octets: &[u8], unused: usize) -> Result<GatheredBits, AllocError>
-    requires few { unused < 8 }
-    requires held { unused ≤ 8 * length octets.now }
-    ensures { IfOk result (λ bs. bs ≡ but_last unused octets.now) }
-{
-    let mut bits = GatheredBits::new(alloc);
-    bits.append(octets, unused)?;
-    Ok(bits)
-}
-
-/// The bits of a string with a tag of its own, and what follows it; or a fault and what it leaves: all of the input, but what follows
-/// a primitive string that memory is wanting for.
-pub fn read_bits(
-    alloc: Global,
-    rules: Codec,
-    depth: usize,
-    tag: Tag,
-    input: &[u8],
-) -> Result<(GatheredBits, &[u8]), (Fault, &[u8])>
-    ensures exact { FindsBits rules depth tag input.now result }
-    ensures octets { AreOctets input.now }
-{
-    let (value, rest) = match read_value(Spelling::of_rule(rules), Expected::Tagged(tag), input) {
-        Ok(found) => found,
-        Err(fault) => return Err((fault, input)),
-    };
-    if let Some(segment) = segment_of(value) {
-        let (unused, octets) = match counted(rules, segment) {
-            Ok(parts) => parts,
-            Err(fault) => return Err((fault, input)),
-        };
-        return match copied(alloc, octets, unused) {
-            Ok(bits) => Ok((bits, rest)),
-            Err(_) => Err((Fault::OutOfMemory, rest)),
-        };
-    }
-    let mut bits = GatheredBits::new(alloc);
-    match string_contents(rules, Tag::BIT_STRING, depth, value, rest, &mut bits) {
-        Ok(rest) => Ok((bits, rest)),
-        Err(fault) => Err((fault, input)),
     }
 }

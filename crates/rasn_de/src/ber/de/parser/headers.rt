@@ -90,6 +90,7 @@ impl Expected {
     }
 }
 
+/// Whether this is the tag that has to come.
 fn check_tag(wanted: Tag, tag: Tag) -> Result<(), Fault>
     ensures { Gives (λ _. record {}) result (tagged_at wanted tag) }
 {

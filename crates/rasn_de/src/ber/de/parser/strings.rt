@@ -2,8 +2,6 @@
 ghost use Rattle.std.specs.Prelude.{List, ℕ, MatchOption, Result};
 ghost use Rattle.rasn_de.specs.declared.ber.de.parser.Fault.{Fault};
 ghost use Rattle.rasn_types.specs.declared.types.rules.Codec.{Codec};
-ghost use Rattle.rasn_types.specs.Framing.{AreOctets};
-ghost use Rattle.rasn_de.specs.Octets.{octet_string_at, FindsOctets, ShowsForm};
 ghost use Rattle.rasn_de.specs.Strings.{string_from, octets};
 ghost use Rattle.rasn_de.specs.Views.{IsNestedValue, IsPlainValue, Appends, AppendsPart};
 
@@ -13,10 +11,8 @@ use crate::ber::de::parser::{Contents, Fault, Value, read_value};
 use crate::ber::rules::is_der;
 use rasn_types::error::DerDecodeErrorKind;
 use rasn_types::types::{Codec, Tag};
-use std::alloc::Global;
-use std::borrow::CowSlice;
 
-/// What gathers segments.
+/// What gathers the segments of a string, one behind the other.
 pub trait Segmented: Drop {
     type Item;
 
@@ -24,6 +20,7 @@ pub trait Segmented: Drop {
 
     ghost segment: { Codec → List ℕ → Result (List Self.Item) Fault };
 
+    /// Puts what the octets of a segment hold behind the rest.
     fn append_segment(&mut self, rules: Codec, octets: &[u8]) -> Result<(), Fault>
         ensures { AppendsPart (segment rules octets.now) (items self.old) (items self.new) result };
 }
@@ -84,26 +81,4 @@ pub fn string_contents<'a, T: Segmented>(
         left = string_contents(rule, tag, depth - 1, segment, after, out)?;
     }
     finish(value.contents, rest, left)
-}
-
-/// The octets of a string with a tag of its own, and what follows it. They are borrowed where they stand in one segment.
-#[inline(always)]
-pub fn read_octets(
-    alloc: Global,
-    rules: Codec,
-    depth: usize,
-    tag: Tag,
-    input: &[u8],
-) -> Result<(CowSlice<'_, u8>, &[u8]), Fault>
-    ensures exact { FindsOctets (octet_string_at rules depth tag input.now) result }
-    ensures form { ShowsForm rules tag input.now result }
-    ensures octets { AreOctets input.now }
-{
-    let (value, rest) = read_value(Spelling::of_rule(rules), Expected::Tagged(tag), input)?;
-    if let Some(segment) = segment_of(value) {
-        return Ok((CowSlice::Borrowed(segment), rest));
-    }
-    let mut gathered = Vec::new(alloc);
-    let rest = string_contents(rules, Tag::OCTET_STRING, depth, value, rest, &mut gathered)?;
-    Ok((CowSlice::Owned(gathered), rest))
 }
