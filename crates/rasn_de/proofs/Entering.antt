@@ -15,8 +15,8 @@ use Rattle.rasn_de.specs.Views.{framed}
 use Rattle.rasn_de.specs.State.{State, at, IsEnd}
 use Rattle.rasn_de.specs.Taking.{ErrorOf, Takes}
 use Rattle.rasn_types.specs.Tags.{form}
-use Rattle.rasn_de.specs.Inside.{Door, asks, door_at, through, Keeps, Closes}
-use Rattle.rasn_de.specs.Doors.{Enters}
+use Rattle.rasn_de.specs.declared.ber.de.nesting.ConstructedHeader.{ConstructedHeader}
+use Rattle.rasn_de.specs.Inside.{asks, door_at, through, inner_state, Keeps, Opens, Closes}
 use Rattle.rasn_de.proofs.Ends.{IsEnd-refl, IsEnd-trans, IsEnd-zeros}
 use Rattle.rasn_de.proofs.Strs.{closed_found}
 
@@ -32,27 +32,28 @@ kept_at old new r e p = subst (Keeps old) (sym e) (record { stays = refl; end = 
 deep_enough : (depth : ℕ) → depth ≢ 0 → nat_eq depth 0 ≡ false
 deep_enough depth n = grind (arith, nat_tests)
 
-door_through : (d : Door) (rule : Codec) (depth : ℕ) (l : List ℕ) (r : Result Header Fault) → depth ≢ 0 → header_at (form rule) (asks d rule) l ≡ r → door_at d rule depth l ≡ through d.needed l r
+door_through : (d : ConstructedHeader) (rule : Codec) (depth : ℕ) (l : List ℕ) (r : Result Header Fault) → depth ≢ 0 → header_at (form rule) (asks d rule) l ≡ r → door_at d rule depth l ≡ through d.must_be_constructed l r
 door_through d rule depth l r n e = rw (deep_enough depth n, e) refl
 
--- the header that the door asks for
-asked_there : (d : Door) (old : State) (x : Expected) (r : Result Header Fault) → x ≡ asks d old.rule → header_at (form old.rule) x old.rest ≡ r → header_at (form old.rule) (asks d old.rule) old.rest ≡ r
+-- the header that is asked for
+asked_there : (d : ConstructedHeader) (old : State) (x : Expected) (r : Result Header Fault) → x ≡ asks d old.rule → header_at (form old.rule) x old.rest ≡ r → header_at (form old.rule) (asks d old.rule) old.rest ≡ r
 asked_there d old x r q h = subst (λ z. header_at (form old.rule) z old.rest ≡ r) q h
 
-pub enters_deep : (d : Door) (old : State) (e : DecodeError) → old.depth ≡ 0 → ErrorOf ExceedsMaxParseDepth old e → Enters d old (Err e) old
-enters_deep d old e z k = (ExceedsMaxParseDepth, rw z refl, k, kept old)
+pub opens_deep : (d : ConstructedHeader) (old : State) (e : DecodeError) → old.depth ≡ 0 → ErrorOf ExceedsMaxParseDepth old e → Opens d old (Err e) old
+opens_deep d old e z k = (ExceedsMaxParseDepth, rw z refl, k, kept old)
 
-pub enters_none : (d : Door) (old new : State) (e : DecodeError) → old.depth ≢ 0 → (x : Expected) → x ≡ asks d old.rule → Takes x old (Err e) new → Enters d old (Err e) new
-enters_none d old new e n x q (f, h, k, s) =
+pub opens_none : (d : ConstructedHeader) (old new : State) (e : DecodeError) → old.depth ≢ 0 → (x : Expected) → x ≡ asks d old.rule → Takes x old (Err e) new → Opens d old (Err e) new
+opens_none d old new e n x q (f, h, k, s) =
     (f, door_through d old.rule old.depth old.rest (Err f) n (asked_there d old x (Err f) q h) ∙ ap (λ (z : State). Err (f, z.rest)) (sym s), k, kept_same old new s)
 
-pub enters_primitive : (d : Door) (old new : State) (v : Value) (e : DecodeError) → old.depth ≢ 0 → (x : Expected) → x ≡ asks d old.rule → Takes x old (Ok v) new → d.needed && not v.is_constructed ≡ true → ErrorOf InvalidConstructedIdentifier new e → Enters d old (Err e) new
-enters_primitive d old new v e n x q (h, s, p) b k =
+pub opens_primitive : (d : ConstructedHeader) (old new : State) (v : Value) (e : DecodeError) → old.depth ≢ 0 → (x : Expected) → x ≡ asks d old.rule → Takes x old (Ok v) new → d.must_be_constructed && not v.is_constructed ≡ true → ErrorOf InvalidConstructedIdentifier new e → Opens d old (Err e) new
+opens_primitive d old new v e n x q (h, s, p) b k =
     (InvalidConstructedIdentifier, door_through d old.rule old.depth old.rest (Ok (framed v new.rest)) n (asked_there d old x (Ok (framed v new.rest)) q h) ∙ rw b refl, k ∙ ap (λ c. record { kind = Rattle.rasn_de.specs.Causes.error_kind InvalidConstructedIdentifier; codec = c }) (ap (λ (x : State). x.rule) s), record { stays = s; end = p })
 
-pub enters_value : (d : Door) (old new : State) (v : Value) → old.depth ≢ 0 → (x : Expected) → x ≡ asks d old.rule → Takes x old (Ok v) new → d.needed && not v.is_constructed ≡ false → Enters d old (Ok v) new
-enters_value d old new v n x q (h, s, p) b =
-    (door_through d old.rule old.depth old.rest (Ok (framed v new.rest)) n (asked_there d old x (Ok (framed v new.rest)) q h) ∙ rw b refl, record { stays = s; end = p })
+pub opens_value : (d : ConstructedHeader) (old new inner : State) (v : Value) → old.depth ≢ 0 → (x : Expected) → x ≡ asks d old.rule → Takes x old (Ok v) new → d.must_be_constructed && not v.is_constructed ≡ false
+    → inner ≡ inner_state d old (framed v new.rest) → Opens d old (Ok (inner, v.contents)) new
+opens_value d old new inner v n x q (h, s, p) b i =
+    (framed v new.rest, door_through d old.rule old.depth old.rest (Ok (framed v new.rest)) n (asked_there d old x (Ok (framed v new.rest)) q h) ∙ rw b refl, i, refl, s, record { stays = s; end = p })
 
 -- Where a value is closed, an end of what is left is.
 used_up_rest : (rest left r : List ℕ) → used_up rest left ≡ Ok r → r ≡ rest

@@ -1,22 +1,20 @@
 -- A SET is read where its components are, and a function makes them its parts.
-use Rattle.std.proofs.Common.{◌≡◌, ◌≢◌, ℕ, ◌-◌, ◌⊎◌, inl, inr, Bool, true, List, map, Result, Ok, Err, refl, subst}
+use Rattle.std.proofs.Common.{◌≡◌, ◌≢◌, ℕ, ◌-◌, ◌⊎◌, inl, inr, Bool, List, map, Result, Ok, Err, subst}
 use Rattle.rasn_types.specs.declared.types.tag.Tag.{Tag}
 use Rattle.rasn_types.specs.declared.error.decode.DecodeError.{DecodeError}
 use Rattle.rasn_types.specs.Framing.{AreOctets}
 use Rattle.rasn_types.specs.Shapes.{Tree, Shape, choice, set, Parts}
-use Rattle.rasn_types.specs.Readers.{Reading, Inside}
+use Rattle.rasn_types.specs.Readers.{Reading}
 use Rattle.rasn_types.specs.Grammar.{Reads}
 use Rattle.rasn_de.specs.Headers.{Header}
 use Rattle.rasn_de.specs.Strings.{inner}
-use Rattle.rasn_de.specs.State.{State}
+use Rattle.rasn_de.specs.State.{State, Call}
 use Rattle.rasn_de.specs.Outcomes.{Exact, outcome}
 use Rattle.rasn_de.specs.Decodes.{Decodes}
-use Rattle.rasn_de.specs.Inside.{door_at, is_open, inner_state, Keeps, ReadInside}
-use Rattle.rasn_de.specs.Sequences.{sequence_door}
+use Rattle.rasn_de.specs.Inside.{sequence_header, door_at, is_open, inner_state, Keeps, ReadInside}
 use Rattle.rasn_de.specs.Lists.{PassesFrom, Stops}
 use Rattle.rasn_de.specs.Sets.{Unread, no_tag, falls, not_read, ReadComponents, GathersSet, MakesSet}
-use Rattle.rasn_de.proofs.Holding.{Exact-same, Held, IsCut, held_exact, kept}
-use Rattle.rasn_de.proofs.Insides.{bit_is}
+use Rattle.rasn_de.proofs.Holding.{IsCut, held_decodes, held_constructed, constructed_held}
 use Rattle.rasn_de.proofs.SetsOf.{came}
 use Rattle.rasn_de.proofs.Entering.{kept_same}
 use Rattle.rasn_de.proofs.Stepping.{kept_after}
@@ -49,32 +47,19 @@ module _ {F : Type 0} (s : Shape) (piece : F → Tree) where
 
 module _ {F S L : Type 0} (s : Shape) (ps : Parts) (same : s ≡ choice ps) (piece : F → Tree) (tree : S → Tree) (elements : L → List F) (by : L → Result S DecodeError → Type 0)
     (tag : Tag) (old : State) (o : old.depth ≢ 0 → AreOctets old.rest) (H : (fs : L) (r : Result S DecodeError) → by fs r → MakesSet ps tree (map piece (elements fs)) r) where
-  abbrev pub Read : State → Result S DecodeError → State → Type 0
+  abbrev pub Read : Call S
   Read = GathersSet (ReadComponents (Decodes s piece) elements) by
 
   abbrev pub R : Bool → Reading Tree
   R c = SetReads ps old.rule (old.depth - 1) c
 
-  inside_exact : (h : Header) → door_at (sequence_door tag) old.rule old.depth old.rest ≡ Ok h → (r : Result S DecodeError) (left : State) → Read (inner_state (sequence_door tag) old h) r left
-      → Exact (R (is_open h.extent)) (inner h.extent h.rest) (outcome tree r left.rest) ⊎ IsCut (sequence_door tag) R old o h left.rest
+  inside_exact : (h : Header) → door_at (sequence_header tag) old.rule old.depth old.rest ≡ Ok h → (r : Result S DecodeError) (left : State) → Read (inner_state (sequence_header tag) old h) r left
+      → Exact (R (is_open h.extent)) (inner h.extent h.rest) (outcome tree r left.rest) ⊎ IsCut (sequence_header tag) R old o h left.rest
   inside_exact h e r left k =
-      let i = inner_state (sequence_door tag) old h in
+      let i = inner_state (sequence_header tag) old h in
       inl (set_gathers ps piece tree i elements by H r left (subst (λ z. GathersSet (ReadComponents (Decodes z piece) elements) by i r left) same k)).exact
 
-  there : (input : List ℕ) (t : Tree) (r : List ℕ) → Held (sequence_door tag) R old o input t r → Reads old.rule (set tag ps) old.depth old.closing input t r
+  pub set_decodes : (result : Result S DecodeError) (new : State) → ReadInside Read (sequence_header tag) old result new → Decodes (set tag ps) tree old result new
   unfolding Reads
-  there input t r (n, bit, q, i) = (n, subst (λ b. Inside old.rule tag b R input t r) (bit_is bit q.0) i)
-
-  back : (input : List ℕ) (t : Tree) (r : List ℕ) → Reads old.rule (set tag ps) old.depth old.closing input t r → Held (sequence_door tag) R old o input t r
-  unfolding Reads
-  back input t r (n, i) = (n, true, (refl, refl), i)
-
-  pub set_decodes : (result : Result S DecodeError) (new : State) → ReadInside Read (sequence_door tag) old result new → Decodes (set tag ps) tree old result new
   set_decodes result new k =
-      let m = kept Read (sequence_door tag) old result new k in
-      record {
-        stays = m.stays;
-        end = m.end;
-        exact = Exact-same (Held (sequence_door tag) R old o) (Reads old.rule (set tag ps) old.depth old.closing) old.rest (outcome tree result new.rest)
-            (there old.rest) (back old.rest) (held_exact (sequence_door tag) R old o tree Read inside_exact result new k);
-      }
+      held_decodes (sequence_header tag) R old o tree Read inside_exact (λ rule. Reads rule (set tag ps)) (held_constructed tag 1 R old o old.rest) (constructed_held tag 1 R old o old.rest) result new k

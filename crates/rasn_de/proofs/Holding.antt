@@ -1,5 +1,7 @@
 -- A value that holds others is read where what stands in it is.
-use Rattle.std.proofs.Common.{◌≡◌, ◌≢◌, ℕ, ◌<◌, ◌⊎◌, inl, inr, Bool, false, ◌&&◌, not, List, Result, Ok, Err, sym, subst, arith}
+use Rattle.std.proofs.Common.{◌≡◌, ◌≢◌, ℕ, ◌<◌, ◌⊎◌, inl, inr, Bool, true, false, ◌&&◌, not, List, Result, Ok, Err, refl, sym, subst, arith}
+use Rattle.rasn_types.specs.declared.types.tag.Tag.{Tag}
+use Rattle.rasn_types.specs.declared.types.rules.Codec.{Codec}
 use Rattle.rasn_types.specs.declared.error.decode.DecodeError.{DecodeError}
 use Rattle.rasn_types.specs.declared.error.decode.DecodeErrorKind.{DecodeErrorKind}
 use Rattle.rasn_types.specs.Framing.{AreOctets}
@@ -8,13 +10,15 @@ use Rattle.rasn_types.specs.Readers.{Reading, Inside}
 use Rattle.rasn_de.specs.declared.ber.de.parser.Fault.{Fault}
 use Rattle.rasn_de.specs.Headers.{Header, header_at}
 use Rattle.rasn_de.specs.Strings.{inner, finished}
-use Rattle.rasn_de.specs.State.{State}
+use Rattle.rasn_de.specs.State.{State, Call}
 use Rattle.rasn_de.specs.Outcomes.{Exact, Outcome, Got, Refused, RanOut, refusal, outcome}
-use Rattle.rasn_de.specs.Inside.{Door, asks, door_at, is_open, inner_state, Keeps, Failed, no_value, inside, not_closed, Finished, ReadInside}
+use Rattle.rasn_de.specs.declared.ber.de.nesting.ConstructedHeader.{ConstructedHeader}
+use Rattle.rasn_de.specs.Inside.{asks, door_at, is_open, inner_state, Keeps, Failed, no_value, inside, not_closed, Finished, ReadInside}
+use Rattle.rasn_de.specs.Decodes.{DecodesBy}
 use Rattle.rasn_de.proofs.Answering.{Exact-none, Exact-refusal}
 use Rattle.rasn_types.specs.Tags.{form}
 use Rattle.rasn_de.proofs.Frames.{IsExpected, header_found}
-use Rattle.rasn_de.proofs.Insides.{IsInside, IsLetIn, door_tag, inside_header, header_inside, inside_of, door_found, door_spelled}
+use Rattle.rasn_de.proofs.Insides.{IsInside, IsLetIn, bit_is, door_tag, inside_header, header_inside, inside_of, door_found, door_spelled}
 
 deep : (depth : ℕ) → depth ≢ 0 → 0 < depth
 deep depth n = omega arith
@@ -26,8 +30,14 @@ Exact-same R S input (Got t r) to from x = (to t r x.0, λ u s k. x.1 u s (from 
 Exact-same R S input Refused to from x = λ u s k. x u s (from u s k)
 Exact-same R S input RanOut to from x = tt
 
--- A value behind the door, whose contents are read by R.
-module _ (d : Door) (R : Bool → Reading Tree) (old : State) (o : old.depth ≢ 0 → AreOctets old.rest) where
+-- A call that reads inside leaves an end of the input.
+pub kept : {D : Type 0} (read : Call D) (d : ConstructedHeader) (old : State) (result : Result D DecodeError) (new : State) → ReadInside read d old result new
+    → Keeps old new
+kept read d old (Ok v) new (k, f) = k
+kept read d old (Err e) new (k, f) = k
+
+-- A value with this header, whose contents are read by R.
+module _ (d : ConstructedHeader) (R : Bool → Reading Tree) (old : State) (o : old.depth ≢ 0 → AreOctets old.rest) where
   abbrev pub Held : Reading Tree
   Held input t rest = (0 < old.depth) × (bit : Bool) × IsLetIn d old.rule bit × Inside old.rule d.tag bit R input t rest
 
@@ -40,7 +50,7 @@ module _ (d : Door) (R : Bool → Reading Tree) (old : State) (o : old.depth ≢
     where
       go : (h : Header) × (header_at (form old.rule) (asks d old.rule) old.rest ≡ Ok h) × (h.bit ≡ bit) × IsInside R h t s → ⊥
       go (h, k, b, x) =
-          let p = door_spelled d old.rule old.depth old.rest h n k (subst (λ z. d.needed && not z ≡ false) (sym b) q.0) in
+          let p = door_spelled d old.rule old.depth old.rest h n k (subst (λ z. d.must_be_constructed && not z ≡ false) (sym b) q.0) in
           cc
 
   -- what is related is inside the header that is there
@@ -82,7 +92,7 @@ module _ (d : Door) (R : Bool → Reading Tree) (old : State) (o : old.depth ≢
     pub none : (t : Tree) (s : List ℕ) → Held old.rest t s → ⊥
     pub unfinished : (s : List ℕ) → finished h.extent h.rest left ≡ Ok s → ⊥
 
-  module _ {D : Type 0} (tree : D → Tree) (read : State → Result D DecodeError → State → Type 0)
+  module _ {D : Type 0} (tree : D → Tree) (read : Call D)
       (H : (h : Header) → door_at d old.rule old.depth old.rest ≡ Ok h → (r : Result D DecodeError) (left : State) → read (inner_state d old h) r left
       → Exact (R (is_open h.extent)) (inner h.extent h.rest) (outcome tree r left.rest) ⊎ IsCut h left.rest) where
     failed : (e : DecodeError) (rest : List ℕ) → Failed read d old e rest → Exact Held old.rest (refusal e.kind)
@@ -106,7 +116,17 @@ module _ (d : Door) (R : Bool → Reading Tree) (old : State) (o : old.depth ≢
     held_exact (Ok v) new (k, f) = done v new.rest f
     held_exact (Err e) new (k, f) = failed e new.rest f
 
-pub kept : {D : Type 0} (read : State → Result D DecodeError → State → Type 0) (d : Door) (old : State) (result : Result D DecodeError) (new : State) → ReadInside read d old result new
-    → Keeps old new
-kept read d old (Ok v) new (k, f) = k
-kept read d old (Err e) new (k, f) = k
+    -- A grammar that has exactly such values is read.
+    pub held_decodes : (S : Codec → ℕ → Bool → Reading Tree) → ((t : Tree) (r : List ℕ) → Held old.rest t r → S old.rule old.depth old.closing old.rest t r)
+        → ((t : Tree) (r : List ℕ) → S old.rule old.depth old.closing old.rest t r → Held old.rest t r) → (result : Result D DecodeError) (new : State) → ReadInside read d old result new → DecodesBy S tree old result new
+    held_decodes S to from result new k =
+        let m = kept read d old result new k in
+        record { stays = m.stays; end = m.end; exact = Exact-same Held (S old.rule old.depth old.closing) old.rest (outcome tree result new.rest) to from (held_exact result new k) }
+
+-- A header that has to be constructed is.
+module _ (tag : Tag) (levels : ℕ) (R : Bool → Reading Tree) (old : State) (o : old.depth ≢ 0 → AreOctets old.rest) (input : List ℕ) (t : Tree) (rest : List ℕ) where
+  pub held_constructed : Held (record { tag = tag; must_be_constructed = true; levels = levels }) R old o input t rest → (0 < old.depth) × Inside old.rule tag true R input t rest
+  held_constructed (n, bit, q, i) = (n, subst (λ b. Inside old.rule tag b R input t rest) (bit_is bit q.0) i)
+
+  pub constructed_held : (0 < old.depth) × Inside old.rule tag true R input t rest → Held (record { tag = tag; must_be_constructed = true; levels = levels }) R old o input t rest
+  constructed_held (n, i) = (n, true, (refl, refl), i)

@@ -13,7 +13,8 @@ use Rattle.rasn_de.specs.declared.ber.de.parser.Fault.{Fault}
 use Rattle.rasn_de.specs.declared.ber.de.parser.headers.Expected.TheVariants.{Tagged}
 use Rattle.rasn_de.specs.Headers.{Header, header_at, as_written}
 use Rattle.rasn_de.specs.Strings.{inner, finished, closed_at, used_up}
-use Rattle.rasn_de.specs.Inside.{Door, asks, door_at, is_open}
+use Rattle.rasn_de.specs.declared.ber.de.nesting.ConstructedHeader.{ConstructedHeader}
+use Rattle.rasn_de.specs.Inside.{asks, door_at, is_open}
 use Rattle.rasn_de.proofs.Frames.{IsExpected, header_found, header_spelled, written_tag}
 use Rattle.rasn_de.proofs.Strs.{closed_found}
 
@@ -52,8 +53,8 @@ module _ (rule : Codec) (tag : Tag) (expected : Expected) (R : Bool → Reading 
       go (k, f, b, r) = let m : k ≡ h = cc in subst (λ z. IsInside R z t s) m r
 
 -- the constructed bit is one that the door lets through
-abbrev pub IsLetIn : Door → Codec → Bool → Type 0
-IsLetIn d rule bit = (d.needed && not bit ≡ false) × IsExpected (asks d rule) d.tag bit
+abbrev pub IsLetIn : ConstructedHeader → Codec → Bool → Type 0
+IsLetIn d rule bit = (d.must_be_constructed && not bit ≡ false) × IsExpected (asks d rule) d.tag bit
 
 -- what has to be constructed is
 pub bit_is : (b : Bool) → true && not b ≡ false → b ≡ true
@@ -65,28 +66,28 @@ asked_tag : (needed : Bool) (rule : Codec) (tag found : Tag) (bit : Bool) → Is
 asked_tag true rule tag found bit e = e
 asked_tag false rule tag found bit e = written_tag rule tag found true bit e
 
-pub door_tag : (d : Door) (rule : Codec) (found : Tag) (bit : Bool) → IsExpected (asks d rule) found bit → found ≡ d.tag
-door_tag d rule found bit e = asked_tag d.needed rule d.tag found bit e
+pub door_tag : (d : ConstructedHeader) (rule : Codec) (found : Tag) (bit : Bool) → IsExpected (asks d rule) found bit → found ≡ d.tag
+door_tag d rule found bit e = asked_tag d.must_be_constructed rule d.tag found bit e
 
 -- the header of a value behind the door
-module _ (d : Door) (rule : Codec) (depth : ℕ) (l : List ℕ) where
-  door_cases : (b : Bool) → nat_eq depth 0 ≡ b → (r : Result Header Fault) → header_at (form rule) (asks d rule) l ≡ r → (h : Header) → door_at d rule depth l ≡ Ok h → (depth ≢ 0) × (header_at (form rule) (asks d rule) l ≡ Ok h) × (d.needed && not h.bit ≡ false)
+module _ (d : ConstructedHeader) (rule : Codec) (depth : ℕ) (l : List ℕ) where
+  door_cases : (b : Bool) → nat_eq depth 0 ≡ b → (r : Result Header Fault) → header_at (form rule) (asks d rule) l ≡ r → (h : Header) → door_at d rule depth l ≡ Ok h → (depth ≢ 0) × (header_at (form rule) (asks d rule) l ≡ Ok h) × (d.must_be_constructed && not h.bit ≡ false)
   door_cases true e r f h g = let k : nat_eq depth 0 ≡ true = e in absurd (let m : door_at d rule depth l ≡ Err (Rattle.rasn_de.specs.declared.ber.de.parser.Fault.TheVariants.ExceedsMaxParseDepth, l) = rw e refl in cc)
   door_cases false e (Err x) f h g = absurd (let m : door_at d rule depth l ≡ Err (x, l) = rw (e, f) refl in cc)
-  door_cases false e (Ok k) f h g = go (d.needed && not k.bit) refl
+  door_cases false e (Ok k) f h g = go (d.must_be_constructed && not k.bit) refl
     where
       deep : depth ≢ 0
       deep = grind (arith, nat_tests)
 
-      go : (b : Bool) → d.needed && not k.bit ≡ b → (depth ≢ 0) × (header_at (form rule) (asks d rule) l ≡ Ok h) × (d.needed && not h.bit ≡ false)
+      go : (b : Bool) → d.must_be_constructed && not k.bit ≡ b → (depth ≢ 0) × (header_at (form rule) (asks d rule) l ≡ Ok h) × (d.must_be_constructed && not h.bit ≡ false)
       go true p = absurd (let m : door_at d rule depth l ≡ Err (Rattle.rasn_de.specs.declared.ber.de.parser.Fault.TheVariants.InvalidConstructedIdentifier, k.rest) = rw (e, f, p) refl in cc)
       go false p =
           let m : door_at d rule depth l ≡ Ok k = rw (e, f, p) refl in
           let q : k ≡ h = cc in
-          (deep, f ∙ ap Ok q, subst (λ (z : Header). d.needed && not z.bit ≡ false) q p)
+          (deep, f ∙ ap Ok q, subst (λ (z : Header). d.must_be_constructed && not z.bit ≡ false) q p)
 
-  pub door_found : (h : Header) → door_at d rule depth l ≡ Ok h → (depth ≢ 0) × (header_at (form rule) (asks d rule) l ≡ Ok h) × (d.needed && not h.bit ≡ false)
+  pub door_found : (h : Header) → door_at d rule depth l ≡ Ok h → (depth ≢ 0) × (header_at (form rule) (asks d rule) l ≡ Ok h) × (d.must_be_constructed && not h.bit ≡ false)
   door_found h g = door_cases (nat_eq depth 0) refl (header_at (form rule) (asks d rule) l) refl h g
 
-  pub door_spelled : (h : Header) → 0 < depth → header_at (form rule) (asks d rule) l ≡ Ok h → d.needed && not h.bit ≡ false → door_at d rule depth l ≡ Ok h
+  pub door_spelled : (h : Header) → 0 < depth → header_at (form rule) (asks d rule) l ≡ Ok h → d.must_be_constructed && not h.bit ≡ false → door_at d rule depth l ≡ Ok h
   door_spelled h n e b = let k : nat_eq depth 0 ≡ false = grind (arith, nat_tests) in rw (k, e, b) refl

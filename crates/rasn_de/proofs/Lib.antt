@@ -25,7 +25,6 @@ pub mod Entering
 pub mod Nothing
 pub mod Alternatives
 pub mod SetsOf
-pub mod Walked
 pub mod Falling
 pub mod Parted
 pub mod Pieces

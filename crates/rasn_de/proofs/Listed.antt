@@ -1,5 +1,5 @@
--- A SEQUENCE OF is read where its elements are, and their number is admitted.
-use Rattle.std.proofs.Common.{◌≡◌, ◌≢◌, ℕ, ◌-◌, ◌≤◌, ◌⊎◌, inl, inr, Bool, true, false, List, [], ◌∷◌, length, map, Result, Ok, Err, refl, sym, ap, ◌∙◌, subst}
+-- A SEQUENCE OF or SET OF is read where its elements are, and their number is admitted.
+use Rattle.std.proofs.Common.{◌≡◌, ◌≢◌, ℕ, ◌-◌, ◌≤◌, ◌<◌, inl, inr, Bool, true, false, List, [], ◌∷◌, length, map, Vec, vec_len, Global, Result, Ok, Err, sym, ap, ◌∙◌, subst}
 use Rattle.std.proofs.lemmas.List.{length-map}
 use Rattle.rasn_types.proofs.Alike.{items_one}
 use Rattle.rasn_types.specs.declared.types.tag.Tag.{Tag}
@@ -7,81 +7,106 @@ use Rattle.rasn_types.specs.declared.types.rules.Codec.{Codec}
 use Rattle.rasn_types.specs.declared.types.constraints.Constraints.{Constraints}
 use Rattle.rasn_types.specs.declared.error.decode.DecodeError.{DecodeError}
 use Rattle.rasn_types.specs.Framing.{AreOctets}
-use Rattle.rasn_types.specs.Shapes.{Tree, Shape, list, items, Admits}
+use Rattle.rasn_types.specs.Shapes.{Tree, Shape, items, walk, Admits}
 use Rattle.rasn_types.specs.Readers.{Reading, Inside, in_definite, in_indefinite}
-use Rattle.rasn_types.specs.Grammar.{Reads, ReadsList}
+use Rattle.rasn_types.specs.Grammar.{Reads, ReadsList, ReadsSetOf}
+use Rattle.rasn_types.specs.Trees.{list_tree}
 use Rattle.rasn_de.specs.Headers.{Header}
 use Rattle.rasn_de.specs.Strings.{inner}
-use Rattle.rasn_de.specs.State.{State}
+use Rattle.rasn_de.specs.State.{State, Call}
 use Rattle.rasn_de.specs.Outcomes.{Exact, outcome}
-use Rattle.rasn_de.specs.Decodes.{Decodes, DecodesBy}
-use Rattle.rasn_de.specs.Inside.{door_at, is_open, inner_state}
-use Rattle.rasn_de.specs.Lists.{list_door, ReadsItems, InList, ReadSized}
-use Rattle.rasn_types.specs.Trees.{list_tree}
+use Rattle.rasn_de.specs.Decodes.{Decodes}
+use Rattle.rasn_de.specs.Inside.{list_header, is_open, inner_state, Keeps}
+use Rattle.rasn_de.specs.Lists.{ReadsItems, ReadsWalk, ReadEach, ReadEachInOrder, InList, ReadSized, ReadSequenceOf, ReadSetOf, DecodesSequenceOf, DecodesSetOf}
 use Rattle.rasn_de.proofs.Answering.{Exact-none, Exact-refusal}
-use Rattle.rasn_de.proofs.Holding.{Held, IsCut, held_exact, kept}
-use Rattle.rasn_de.proofs.Insides.{bit_is}
-
-pub inside_map : (rule : Codec) (tag : Tag) (bit : Bool) (R S : Bool → Reading Tree) (t : Tree) → ((c : Bool) (i r : List ℕ) → R c i t r → S c i t r) → (input rest : List ℕ) → Inside rule tag bit R input t rest → Inside rule tag bit S input t rest
-inside_map rule tag bit R S t f input rest (in_definite contents k r) = in_definite contents k (f false contents [] r)
-inside_map rule tag bit R S t f input rest (in_indefinite body k r) = in_indefinite body k (f true body (0 ∷ 0 ∷ rest) r)
+use Rattle.rasn_de.proofs.Holding.{Held, held_exact, kept, held_constructed, constructed_held}
+use Rattle.rasn_de.proofs.SetsOf.{each_decodes, in_order_decodes}
 
 -- the number of a list's elements is that of its tree
-pub counted : {D : Type 0} (tree : D → Tree) (l : List D) (ts : List Tree) → list_tree tree l ≡ items ts → length ts ≡ length l
+counted : {D : Type 0} (tree : D → Tree) (l : List D) (ts : List Tree) → list_tree tree l ≡ items ts → length ts ≡ length l
 counted tree l ts e = sym (ap length (items_one (map tree l) ts e)) ∙ length-map l tree
 
-module _ {L : Type 0} (s : Shape) (trees : L → Tree) (size : L → ℕ) (tag : Tag) (c : Constraints) (old : State) (o : old.depth ≢ 0 → AreOctets old.rest) (count : (v : L) (ts : List Tree) → trees v ≡ items ts → length ts ≡ size v) where
-  abbrev pub R : Bool → Reading Tree
-  R k = ReadsItems s old.rule (old.depth - 2) k
+-- Lists whose tree node makes of their elements', read as R says, and with their number admitted as Admitted says.
+module _ (node : List Tree → Tree) (R Admitted : Bool → Reading Tree) (c : Constraints)
+    (to : (k : Bool) (input : List ℕ) (t : Tree) (rest : List ℕ) → ((ts : List Tree) → t ≡ node ts → Admits ◌≤◌ c.size (length ts)) → R k input t rest → Admitted k input t rest)
+    (from : (k : Bool) (input : List ℕ) (t : Tree) (rest : List ℕ) → Admitted k input t rest → R k input t rest × (ts : List Tree) × (t ≡ node ts) × Admits ◌≤◌ c.size (length ts)) where
+  admit : (rule : Codec) (tag : Tag) (t : Tree) → ((ts : List Tree) → t ≡ node ts → Admits ◌≤◌ c.size (length ts)) → (input rest : List ℕ) → Inside rule tag true R input t rest → Inside rule tag true Admitted input t rest
+  admit rule tag t a input rest (in_definite contents f r) = in_definite contents f (to false contents t [] a r)
+  admit rule tag t a input rest (in_indefinite body f r) = in_indefinite body f (to true body t (0 ∷ 0 ∷ rest) a r)
 
-  abbrev pub Unsized : Reading Tree
-  Unsized = Held (list_door tag) R old o
+  admitted : (rule : Codec) (tag : Tag) (t : Tree) (input rest : List ℕ) → Inside rule tag true Admitted input t rest → Inside rule tag true R input t rest × (ts : List Tree) × (t ≡ node ts) × Admits ◌≤◌ c.size (length ts)
+  admitted rule tag t input rest (in_definite contents f r) = let w = from false contents t [] r in (in_definite contents f w.0, w.1, w.2, w.3)
+  admitted rule tag t input rest (in_indefinite body f r) = let w = from true body t (0 ∷ 0 ∷ rest) r in (in_indefinite body f w.0, w.1, w.2, w.3)
 
-  abbrev pub Sized : Reading Tree
-  Sized = Reads old.rule (list tag s c.size) old.depth old.closing
+  module _ {L : Type 0} (trees : L → Tree) (size : L → ℕ) (count : (v : L) (ts : List Tree) → trees v ≡ node ts → length ts ≡ size v) (read : Call L) (tag : Tag) (old : State) (o : old.depth ≢ 0 → AreOctets old.rest)
+      (H : (h : Header) (r : Result L DecodeError) (left : State) → read (inner_state (list_header tag) old h) r left → Exact (R (is_open h.extent)) (inner h.extent h.rest) (outcome trees r left.rest)) where
+    abbrev pub Unsized : Reading Tree
+    Unsized = Held (list_header tag) R old o
 
-  inside_exact : (h : Header) → door_at (list_door tag) old.rule old.depth old.rest ≡ Ok h → (r : Result L DecodeError) (left : State) → DecodesBy (ReadsItems s) trees (inner_state (list_door tag) old h) r left
-      → Exact (R (is_open h.extent)) (inner h.extent h.rest) (outcome trees r left.rest) ⊎ IsCut (list_door tag) R old o h left.rest
-  inside_exact h e r left k = inl k.exact
+    abbrev pub Sized : Reading Tree
+    Sized input t rest = (0 < old.depth) × Inside old.rule tag true Admitted input t rest
 
-  unsized_exact : (result : Result L DecodeError) (new : State) → InList (DecodesBy (ReadsItems s) trees) tag old result new → Exact Unsized old.rest (outcome trees result new.rest)
-  unsized_exact result new k = held_exact (list_door tag) R old o trees (DecodesBy (ReadsItems s) trees) inside_exact result new k
+    unsized_exact : (result : Result L DecodeError) (new : State) → InList read tag old result new → Exact Unsized old.rest (outcome trees result new.rest)
+    unsized_exact result new k = held_exact (list_header tag) R old o trees read (λ h e r left w. inl (H h r left w)) result new k
 
-  to_sized : (input : List ℕ) (t : Tree) (r : List ℕ) → ((ts : List Tree) → t ≡ items ts → Admits ◌≤◌ c.size (length ts)) → Unsized input t r → Sized input t r
+    to_sized : (t : Tree) (rest : List ℕ) → ((ts : List Tree) → t ≡ node ts → Admits ◌≤◌ c.size (length ts)) → Unsized old.rest t rest → Sized old.rest t rest
+    to_sized t rest a w = let u = held_constructed tag 2 R old o old.rest t rest w in (u.0, admit old.rule tag t a old.rest rest u.1)
+
+    from_sized : (t : Tree) (rest : List ℕ) → Sized old.rest t rest → Unsized old.rest t rest
+    from_sized t rest (n, i) = constructed_held tag 2 R old o old.rest t rest (n, (admitted old.rule tag t old.rest rest i).0)
+
+    sized_keeps : (result : Result L DecodeError) (new : State) → ReadSized read size tag c old result new → Keeps old new
+    sized_keeps (Ok v) new (a, k) = kept read (list_header tag) old (Ok v) new k
+    sized_keeps (Err e) new (inl k) = kept read (list_header tag) old (Err e) new k
+    sized_keeps (Err e) new (inr (v, k, n, w)) = kept read (list_header tag) old (Ok v) new k
+
+    sized_exact : (result : Result L DecodeError) (new : State) → ReadSized read size tag c old result new → Exact Sized old.rest (outcome trees result new.rest)
+    sized_exact (Ok v) new (a, k) =
+        let x = unsized_exact (Ok v) new k in
+        (to_sized (trees v) new.rest (λ ts e. subst (Admits ◌≤◌ c.size) (sym (count v ts e)) a) x.0, λ u r w. x.1 u r (from_sized u r w))
+    sized_exact (Err e) new (inl k) = Exact-refusal e.kind Unsized Sized old.rest old.rest (λ none t r w. none t r (from_sized t r w)) (unsized_exact (Err e) new k)
+    sized_exact (Err e) new (inr (v, k, n, w)) =
+        let x = unsized_exact (Ok v) new k in
+        Exact-none e.kind Sized old.rest (λ t r y.
+        let a = admitted old.rule tag t old.rest r y.1 in
+        let q = (x.1 t r (from_sized t r y)).0 in
+        n (subst (Admits ◌≤◌ c.size) (count v a.1 (sym q ∙ a.2)) a.3))
+
+    pub sized : (result : Result L DecodeError) (new : State) → ReadSized read size tag c old result new → Keeps old new × Exact Sized old.rest (outcome trees result new.rest)
+    sized result new k = (sized_keeps result new k, sized_exact result new k)
+
+module _ {D : Type 0} (s : Shape) (tree : D → Tree) (tag : Tag) (c : Constraints) (old : State) (o : old.depth ≢ 0 → AreOctets old.rest) where
+  -- the elements, without a bound and within it
+  abbrev pub Items : Bool → Reading Tree
+  Items k = ReadsItems s old.rule (old.depth - 2) k
+
+  abbrev pub SizedItems : Bool → Reading Tree
+  SizedItems k = ReadsList c.size (Reads old.rule s (old.depth - 2) k) k
+
+  abbrev pub Walk : Bool → Reading Tree
+  Walk k = ReadsWalk s old.rule (old.depth - 2) k
+
+  abbrev pub SizedWalk : Bool → Reading Tree
+  SizedWalk k = ReadsSetOf old.rule c.size (Reads old.rule s (old.depth - 2) k) k
+
+  abbrev pub node : List Tree → Tree
+  node ts = walk (items ts)
+
+  pub sequence_of_decodes : (result : Result (Vec D Global) DecodeError) (new : State) → ReadSequenceOf (Decodes s tree) tag c old result new → DecodesSequenceOf s tree tag c old result new
   unfolding Reads ReadsItems
-  to_sized input t r a (n, bit, q, i) =
-      (n, inside_map old.rule tag true R (λ k. ReadsList c.size (Reads old.rule s (old.depth - 2) k) k) t (λ k j m w. (w.0, w.1, a w.0 w.1, w.2)) input r (subst (λ b. Inside old.rule tag b R input t r) (bit_is bit q.0) i))
+  sequence_of_decodes result new k =
+      let trees : Vec D Global → Tree = λ v. list_tree tree v.items in
+      let m = sized items Items SizedItems c (λ k i t r a w. (w.0, w.1, a w.0 w.1, w.2)) (λ k i t r w. ((w.0, w.1, w.3), w.0, w.1, w.2)) trees (λ (v : Vec D Global). vec_len v)
+      (λ v ts e. counted tree v.items ts e ∙ sym v.ok.0) (ReadEach (Decodes s tree) (λ (v : Vec D Global). v.items)) tag old o
+      (λ h r left w. (each_decodes s tree (λ (v : Vec D Global). v.items) (inner_state (list_header tag) old h) r left w).exact) result new k in
+      record { stays = m.0.stays; end = m.0.end; exact = m.1 }
 
-  from_sized : (input : List ℕ) (t : Tree) (r : List ℕ) → Sized input t r → Unsized input t r
-  unfolding Reads ReadsItems
-  from_sized input t r (n, i) =
-      (n, true, (refl, refl), inside_map old.rule tag true (λ k. ReadsList c.size (Reads old.rule s (old.depth - 2) k) k) R t (λ k j m w. (w.0, w.1, w.3)) input r i)
-
-  admitted : (input : List ℕ) (t : Tree) (r : List ℕ) → Sized input t r → (ts : List Tree) × (t ≡ items ts) × Admits ◌≤◌ c.size (length ts)
-  unfolding Reads
-  admitted input t r (n, in_definite contents k w) = (w.0, w.1, w.2)
-  admitted input t r (n, in_indefinite body k w) = (w.0, w.1, w.2)
-
-  pub list_decodes : (result : Result L DecodeError) (new : State) → ReadSized (DecodesBy (ReadsItems s) trees) size tag c old result new → Decodes (list tag s c.size) trees old result new
-  list_decodes (Ok v) new (a, k) =
-      let m = kept (DecodesBy (ReadsItems s) trees) (list_door tag) old (Ok v) new k in
-      let x = unsized_exact (Ok v) new k in
-      record {
-        stays = m.stays;
-        end = m.end;
-        exact = (to_sized old.rest (trees v) new.rest (λ ts e. subst (Admits ◌≤◌ c.size) (sym (count v ts e)) a) x.0, λ u r w. x.1 u r (from_sized old.rest u r w));
-      }
-  list_decodes (Err e) new (inl k) =
-      let m = kept (DecodesBy (ReadsItems s) trees) (list_door tag) old (Err e) new k in
-      record { stays = m.stays; end = m.end; exact = Exact-refusal e.kind Unsized Sized old.rest old.rest (λ none t r w. none t r (from_sized old.rest t r w)) (unsized_exact (Err e) new k) }
-  list_decodes (Err e) new (inr (v, k, n, w)) =
-      let m = kept (DecodesBy (ReadsItems s) trees) (list_door tag) old (Ok v) new k in
-      let x = unsized_exact (Ok v) new k in
-      record {
-        stays = m.stays;
-        end = m.end;
-        exact = Exact-none e.kind Sized old.rest (λ t r y.
-            let a = admitted old.rest t r y in
-            let q = (x.1 t r (from_sized old.rest t r y)).0 in
-            n (subst (Admits ◌≤◌ c.size) (count v a.0 (sym q ∙ a.1)) a.2));
-      }
+  pub set_of_decodes : (result : Result (List D) DecodeError) (new : State) → ReadSetOf (Decodes s tree) tag c old result new → DecodesSetOf s tree tag c old result new
+  unfolding Reads ReadsWalk
+  set_of_decodes result new k =
+      let trees : List D → Tree = λ v. walk (list_tree tree v) in
+      let count : (v : List D) (ts : List Tree) → trees v ≡ node ts → length ts ≡ length v = λ v ts e. let f : list_tree tree v ≡ items ts = cc in counted tree v ts f in
+      let m = sized node Walk SizedWalk c (λ k i t r a w. (w.0, w.1, a w.0 w.1, w.2, w.3)) (λ k i t r w. ((w.0, w.1, w.3, w.4), w.0, w.1, w.2)) trees (λ (v : List D). length v)
+      count (ReadEachInOrder (Decodes s tree) (λ (v : List D). v)) tag old o
+      (λ h r left w. (in_order_decodes s tree (λ (v : List D). v) (inner_state (list_header tag) old h) r left w).exact) result new k in
+      record { stays = m.0.stays; end = m.0.end; exact = m.1 }

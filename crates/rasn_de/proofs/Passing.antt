@@ -1,11 +1,10 @@
 -- One more element is read.
-use Rattle.std.proofs.Common.{◌≡◌, ◌≢◌, List, [], ◌∷◌, ◌++◌, length, Result, Ok, refl, sym, subst}
-use Rattle.rasn_types.specs.declared.error.decode.DecodeError.{DecodeError}
+use Rattle.std.proofs.Common.{◌≡◌, ◌≢◌, List, [], ◌∷◌, ◌++◌, length, Ok, refl, sym, subst}
 use Rattle.rasn_types.specs.Framing.{Ended}
-use Rattle.rasn_de.specs.State.{State}
+use Rattle.rasn_de.specs.State.{State, Call}
 use Rattle.rasn_de.specs.Lists.{Passes}
 
-module _ {D : Type 0} (read : State → Result D DecodeError → State → Type 0) (here next : State) (v : D) (d : Ended here.closing here.rest → ⊥) (r : read here (Ok v) next) (n : length next.rest ≢ length here.rest) where
+module _ {D : Type 0} (read : Call D) (here next : State) (v : D) (d : Ended here.closing here.rest → ⊥) (r : read here (Ok v) next) (n : length next.rest ≢ length here.rest) where
   behind : (old : State) (vs : List D) → Passes read old vs here → Passes read old (vs ++ v ∷ []) next
   behind old [] e =
       let t : (Ended old.closing old.rest → ⊥) × read old (Ok v) next × (length next.rest ≢ length old.rest) = subst (λ (x : State). (Ended x.closing x.rest → ⊥) × read x (Ok v) next × (length next.rest ≢ length x.rest)) e (d, r, n) in

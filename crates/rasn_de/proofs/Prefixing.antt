@@ -11,33 +11,25 @@ use Rattle.rasn_de.specs.Strings.{inner}
 use Rattle.rasn_de.specs.State.{State}
 use Rattle.rasn_de.specs.Outcomes.{Exact, outcome}
 use Rattle.rasn_de.specs.Decodes.{Decodes}
-use Rattle.rasn_de.specs.Inside.{door_at, is_open, inner_state, ReadInside}
-use Rattle.rasn_de.specs.Prefixes.{prefix_door}
+use Rattle.rasn_de.specs.Inside.{prefix_header, door_at, is_open, inner_state, ReadInside}
 use Rattle.rasn_de.proofs.Frames.{written_bit, as_it_is}
-use Rattle.rasn_de.proofs.Holding.{Exact-same, Held, IsCut, held_exact, kept}
+use Rattle.rasn_de.proofs.Holding.{Held, IsCut, held_decodes}
 
 module _ {D : Type 0} (tree : D → Tree) (s : Shape) (tag : Tag) (old : State) (o : old.depth ≢ 0 → AreOctets old.rest) where
   abbrev pub R : Bool → Reading Tree
   R c = Reads old.rule s (old.depth - 1) c
 
-  inside_exact : (h : Header) → door_at (prefix_door tag) old.rule old.depth old.rest ≡ Ok h → (r : Result D DecodeError) (left : State) → Decodes s tree (inner_state (prefix_door tag) old h) r left
-      → Exact (R (is_open h.extent)) (inner h.extent h.rest) (outcome tree r left.rest) ⊎ IsCut (prefix_door tag) R old o h left.rest
+  inside_exact : (h : Header) → door_at (prefix_header tag) old.rule old.depth old.rest ≡ Ok h → (r : Result D DecodeError) (left : State) → Decodes s tree (inner_state (prefix_header tag) old h) r left
+      → Exact (R (is_open h.extent)) (inner h.extent h.rest) (outcome tree r left.rest) ⊎ IsCut (prefix_header tag) R old o h left.rest
   inside_exact h e r left k = inl k.exact
 
-  there : (input : List ℕ) (t : Tree) (r : List ℕ) → Held (prefix_door tag) R old o input t r → Reads old.rule (prefix tag s) old.depth old.closing input t r
+  there : (input : List ℕ) (t : Tree) (r : List ℕ) → Held (prefix_header tag) R old o input t r → Reads old.rule (prefix tag s) old.depth old.closing input t r
   unfolding Reads
   there input t r (n, bit, q, i) = (n, bit, written_bit old.rule tag tag true bit q.1, i)
 
-  back : (input : List ℕ) (t : Tree) (r : List ℕ) → Reads old.rule (prefix tag s) old.depth old.closing input t r → Held (prefix_door tag) R old o input t r
+  back : (input : List ℕ) (t : Tree) (r : List ℕ) → Reads old.rule (prefix tag s) old.depth old.closing input t r → Held (prefix_header tag) R old o input t r
   unfolding Reads
   back input t r (n, bit, w, i) = (n, bit, (refl, as_it_is old.rule tag true bit w), i)
 
-  pub prefix_decodes : (result : Result D DecodeError) (new : State) → ReadInside (Decodes s tree) (prefix_door tag) old result new → Decodes (prefix tag s) tree old result new
-  prefix_decodes result new k =
-      let m = kept (Decodes s tree) (prefix_door tag) old result new k in
-      record {
-        stays = m.stays;
-        end = m.end;
-        exact = Exact-same (Held (prefix_door tag) R old o) (Reads old.rule (prefix tag s) old.depth old.closing) old.rest (outcome tree result new.rest)
-            (there old.rest) (back old.rest) (held_exact (prefix_door tag) R old o tree (Decodes s tree) inside_exact result new k);
-      }
+  pub prefix_decodes : (result : Result D DecodeError) (new : State) → ReadInside (Decodes s tree) (prefix_header tag) old result new → Decodes (prefix tag s) tree old result new
+  prefix_decodes result new k = held_decodes (prefix_header tag) R old o tree (Decodes s tree) inside_exact (λ rule. Reads rule (prefix tag s)) (there old.rest) (back old.rest) result new k

@@ -10,3 +10,7 @@ residual r h = let p = err_from_is_err_and r h in p.1 ∙ ap Err p.2
 -- Where the clause `reads` follows from the exact one, both hold.
 pub with_reads : {A B : Type 0} → (B → A) → B → record { reads : A; refused : B }
 with_reads f b = record { reads = f b; refused = b }
+
+-- Where it follows from `called`, both hold.
+pub also_reads : {A B : Type 0} → (B → A) → B → record { called : B; reads : A }
+also_reads f b = record { called = b; reads = f b }

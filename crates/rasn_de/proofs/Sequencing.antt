@@ -1,30 +1,30 @@
 -- A SEQUENCE is read where what stands in it is.
-use Rattle.std.proofs.Common.{◌≡◌, ◌≢◌, ℕ, ◌-◌, ◌⊎◌, inl, inr, Bool, true, List, [], Option, Result, Ok, refl, subst}
+use Rattle.std.proofs.Common.{◌≡◌, ◌≢◌, ℕ, ◌-◌, ◌⊎◌, inl, inr, Bool, true, List, [], Option, Result, Ok, subst}
 use Rattle.std.specs.declared.alloc.AllocError.{AllocError}
 use Rattle.rasn_types.specs.declared.types.tag.Tag.{Tag}
 use Rattle.rasn_types.specs.declared.types.rules.Codec.{Codec}
 use Rattle.rasn_types.specs.declared.error.decode.DecodeError.{DecodeError}
 use Rattle.rasn_types.specs.Framing.{AreOctets, Extent, definite, indefinite}
 use Rattle.rasn_types.specs.Shapes.{Tree, seq, Parts}
-use Rattle.rasn_types.specs.Readers.{Reading, Inside}
+use Rattle.rasn_types.specs.Readers.{Reading}
 use Rattle.rasn_types.specs.Grammar.{Reads}
 use Rattle.rasn_types.specs.Described.{describes}
 use Rattle.rasn_de.specs.Headers.{Header}
 use Rattle.rasn_de.specs.Strings.{inner, finished, closed_at}
-use Rattle.rasn_de.specs.State.{State}
+use Rattle.rasn_de.specs.State.{State, Call, EachCall}
 use Rattle.rasn_de.specs.Outcomes.{Exact, outcome}
 use Rattle.rasn_de.specs.Decodes.{Decodes, DecodesParts}
-use Rattle.rasn_de.specs.Inside.{door_at, is_open, inner_state, Keeps, ReadInside}
-use Rattle.rasn_de.specs.Sequences.{sequence_door, is_initial, Initial, Fills, MakesBare}
-use Rattle.rasn_de.proofs.Holding.{Exact-same, Held, related, IsCut, held_exact, kept}
-use Rattle.rasn_de.proofs.Insides.{IsInside, bit_is}
+use Rattle.rasn_de.specs.Inside.{sequence_header, door_at, is_open, inner_state, Keeps, ReadInside}
+use Rattle.rasn_de.specs.Sequences.{is_initial, Initial, Fills, MakesBare}
+use Rattle.rasn_de.proofs.Holding.{Held, related, IsCut, held_decodes, held_constructed, constructed_held}
+use Rattle.rasn_de.proofs.Insides.{IsInside}
 use Rattle.rasn_de.proofs.Entering.{kept_same}
 use Rattle.rasn_de.proofs.Nothing.{parts_nothing}
 use Rattle.rasn_de.proofs.Filling.{SeqReads, fills_exact}
 
 -- The initializer leaves all, and the closure what it keeps.
-pub fills_keeps : {D : Type 0} (starts : List ℕ → Bool) (initial : State → Result D DecodeError → Type 0) (called : State → Result D DecodeError → State → Type 0)
-    → ((o : State) (r : Result D DecodeError) (n : State) → called o r n → Keeps o n) → (o : State) (r : Result D DecodeError) (n : State) → Fills starts initial called o r n → Keeps o n
+pub fills_keeps : {D : Type 0} (starts : List ℕ → Bool) (initial : State → Result D DecodeError → Type 0) (called : Call D)
+    → EachCall called (λ o r n. Keeps o n) → EachCall (Fills starts initial called) (λ o r n. Keeps o n)
 fills_keeps starts initial called keeps o r n (inl (s, i, e)) = kept_same o n e
 fills_keeps starts initial called keeps o r n (inr (s, c)) = keeps o r n c
 
@@ -44,9 +44,9 @@ R parts old c = SeqReads parts old.rule (old.depth - 1) c
 
 module _ (tag : Tag) (parts : Parts) (old : State) (o : old.depth ≢ 0 → AreOctets old.rest) where
   -- an input that ends with an indefinite header
-  cut_inside : (h : Header) → door_at (sequence_door tag) old.rule old.depth old.rest ≡ Ok h → is_open h.extent ≡ true → inner h.extent h.rest ≡ [] → (t : Tree) (s : List ℕ)
-      → Held (sequence_door tag) (R parts old) old o old.rest t s → ⊥
-  cut_inside h e c i t s w = go (related (sequence_door tag) (R parts old) old o h e t s w)
+  cut_inside : (h : Header) → door_at (sequence_header tag) old.rule old.depth old.rest ≡ Ok h → is_open h.extent ≡ true → inner h.extent h.rest ≡ [] → (t : Tree) (s : List ℕ)
+      → Held (sequence_header tag) (R parts old) old o old.rest t s → ⊥
+  cut_inside h e c i t s w = go (related (sequence_header tag) (R parts old) old o h e t s w)
     where
       go : IsInside (R parts old) h t s → ⊥
       go (m, y, k) =
@@ -54,14 +54,14 @@ module _ (tag : Tag) (parts : Parts) (old : State) (o : old.depth ≢ 0 → AreO
           cut_open h.extent h.rest s c (subst (λ u. finished h.extent h.rest u ≡ Ok s) z k)
 
 module _ {I D : Type 0} (root more : ℕ) (extensible flag : Bool) (parts : Parts) (d : describes root more extensible flag parts ≡ true) (tree : D → Tree) (made : I → Result D AllocError → Type 0) (init : Option I)
-    (called : State → Result D DecodeError → State → Type 0) (tag : Tag) (old : State) (o : old.depth ≢ 0 → AreOctets old.rest)
-    (H : (s : State) (r : Result D DecodeError) (n : State) → called s r n → DecodesParts parts tree s r n) (bare : MakesBare parts tree made init) where
-  abbrev pub Read : State → Result D DecodeError → State → Type 0
+    (called : Call D) (tag : Tag) (old : State) (o : old.depth ≢ 0 → AreOctets old.rest)
+    (H : EachCall called (DecodesParts parts tree)) (bare : MakesBare parts tree made init) where
+  abbrev pub Read : Call D
   Read = Fills (is_initial root extensible flag) (Initial made init) called
 
-  inside_exact : (h : Header) → door_at (sequence_door tag) old.rule old.depth old.rest ≡ Ok h → (r : Result D DecodeError) (left : State) → Read (inner_state (sequence_door tag) old h) r left
-      → Exact (R parts old (is_open h.extent)) (inner h.extent h.rest) (outcome tree r left.rest) ⊎ IsCut (sequence_door tag) (R parts old) old o h left.rest
-  inside_exact h e r left k = elim (fills_exact root more extensible flag parts d tree made init bare called H (inner_state (sequence_door tag) old h) r left k) [
+  inside_exact : (h : Header) → door_at (sequence_header tag) old.rule old.depth old.rest ≡ Ok h → (r : Result D DecodeError) (left : State) → Read (inner_state (sequence_header tag) old h) r left
+      → Exact (R parts old (is_open h.extent)) (inner h.extent h.rest) (outcome tree r left.rest) ⊎ IsCut (sequence_header tag) (R parts old) old o h left.rest
+  inside_exact h e r left k = elim (fills_exact root more extensible flag parts d tree made init bare called H (inner_state (sequence_header tag) old h) r left k) [
     | inl x ↦ inl x
     | inr (a, b, m) ↦ inr (record {
       none = cut_inside tag parts old o h e a b;
@@ -69,20 +69,7 @@ module _ {I D : Type 0} (root more : ℕ) (extensible flag : Bool) (parts : Part
     })
   ]
 
-  there : (input : List ℕ) (t : Tree) (r : List ℕ) → Held (sequence_door tag) (R parts old) old o input t r → Reads old.rule (seq tag parts) old.depth old.closing input t r
+  pub sequence_decodes : (result : Result D DecodeError) (new : State) → ReadInside Read (sequence_header tag) old result new → Decodes (seq tag parts) tree old result new
   unfolding Reads
-  there input t r (n, bit, q, i) = (n, subst (λ b. Inside old.rule tag b (R parts old) input t r) (bit_is bit q.0) i)
-
-  back : (input : List ℕ) (t : Tree) (r : List ℕ) → Reads old.rule (seq tag parts) old.depth old.closing input t r → Held (sequence_door tag) (R parts old) old o input t r
-  unfolding Reads
-  back input t r (n, i) = (n, true, (refl, refl), i)
-
-  pub sequence_decodes : (result : Result D DecodeError) (new : State) → ReadInside Read (sequence_door tag) old result new → Decodes (seq tag parts) tree old result new
   sequence_decodes result new k =
-      let m = kept Read (sequence_door tag) old result new k in
-      record {
-        stays = m.stays;
-        end = m.end;
-        exact = Exact-same (Held (sequence_door tag) (R parts old) old o) (Reads old.rule (seq tag parts) old.depth old.closing) old.rest (outcome tree result new.rest)
-            (there old.rest) (back old.rest) (held_exact (sequence_door tag) (R parts old) old o tree Read inside_exact result new k);
-      }
+      held_decodes (sequence_header tag) (R parts old) old o tree Read inside_exact (λ rule. Reads rule (seq tag parts)) (held_constructed tag 1 (R parts old) old o old.rest) (constructed_held tag 1 (R parts old) old o old.rest) result new k

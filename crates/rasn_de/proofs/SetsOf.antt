@@ -1,5 +1,5 @@
 -- The elements of a SET OF are read one by one, each from its octets.
-use Rattle.std.proofs.Common.{◌≡◌, ◌≢◌, ℕ, List, [], ◌∷◌, ◌++◌, length, map, Result, Ok, Err, inl, inr, refl, sym, ap, ◌∙◌, subst, append_assoc}
+use Rattle.std.proofs.Common.{◌≡◌, ◌≢◌, ℕ, List, [], ◌∷◌, ◌++◌, length, map, Ok, Err, inl, inr, refl, sym, ap, ◌∙◌, subst, append_assoc}
 use Rattle.std.proofs.lemmas.List.{append-nil, append_cancel_right}
 use Rattle.rasn_types.proofs.Alike.{items_one}
 use Rattle.rasn_types.specs.declared.error.decode.DecodeError.{DecodeError}
@@ -11,9 +11,10 @@ use Rattle.rasn_types.specs.Readers.{Reading, Many, ReadFrom}
 use Rattle.rasn_types.specs.Grammar.{Reads}
 use Rattle.rasn_types.specs.Trees.{list_tree}
 use Rattle.rasn_de.specs.Decodes.{Decodes, DecodesBy}
-use Rattle.rasn_de.specs.Lists.{ReadsItems, ReadsWalk, PassesFrom, Stops, Falls, ReadEachInOrder}
+use Rattle.rasn_de.specs.Lists.{ReadsItems, ReadsWalk, Passes, PassesFrom, Stops, Falls, ReadEach, ReadEachInOrder}
+use Rattle.rasn_de.specs.Inside.{Keeps}
 use Rattle.rasn_de.specs.Outcomes.{Exact, Got}
-use Rattle.rasn_de.specs.State.{State, at}
+use Rattle.rasn_de.specs.State.{State, at, Call, EachCall}
 use Rattle.rasn_de.proofs.Answering.{Exact-none, Exact-refusal}
 use Rattle.rasn_de.proofs.Ends.{IsEnd-refl}
 use Rattle.rasn_de.proofs.Listing.{passed_start, Come, exact_at, element_stops, element_read, elements_end}
@@ -80,6 +81,18 @@ module _ {D : Type 0} (s : Shape) (tree : D → Tree) where
   pub came : (old here : State) (vs : List D) (bs : List (List ℕ)) → PassesFrom (Decodes s tree) old vs bs here → Came old here vs bs
   came old here vs bs p = came_on old old [] [] (came_start old) vs bs here p
 
+  -- Each element was read from octets, which its call says.
+  from_passes : (old here : State) (vs : List D) → Passes (Decodes s tree) old vs here → (bs : List (List ℕ)) × PassesFrom (Decodes s tree) old vs bs here
+  from_passes old here [] e = ([], (refl, e))
+  from_passes old here (v ∷ vs) (next, n, d, l, p) = let k = from_passes next here vs p in (d.end.0 ∷ k.0, (d.end.0, k.0, next, refl, d.end.1, n, d, l, k.1))
+
+  come_by : (old here : State) (vs : List D) → Passes (Decodes s tree) old vs here → Come s tree old here vs
+  come_by old here vs p = let k = from_passes old here vs p in (came old here vs k.0 k.1).come
+
+  pub each_decodes : {L : Type 0} (elements : L → List D) → EachCall (ReadEach (Decodes s tree) elements) (DecodesBy (ReadsItems s) (λ l. list_tree tree (elements l)))
+  each_decodes elements old (Ok v) new (p, e) = elements_end s tree old (λ l. list_tree tree (elements l)) new (elements v) (come_by old new (elements v) p) e v refl
+  each_decodes elements old (Err e) new (vs, here, p, n, k) = element_stops s tree old (λ l. list_tree tree (elements l)) here vs (come_by old here vs p) n e new k
+
   -- what is refused as a SEQUENCE OF is refused as a SET OF
   as_walk : {L : Type 0} (trees walks : L → Tree) (old : State) (e : DecodeError) (new : State) → DecodesBy (ReadsItems s) trees old (Err e) new → DecodesBy (ReadsWalk s) walks old (Err e) new
   unfolding ReadsItems ReadsWalk
@@ -134,19 +147,25 @@ module _ {D : Type 0} (s : Shape) (tree : D → Tree) where
         );
       }
 
-  pub in_order_decodes : {L : Type 0} (elements : L → List D) (old : State) (result : Result L DecodeError) (new : State) → ReadEachInOrder (Decodes s tree) elements old result new
-      → DecodesBy (ReadsWalk s) (λ l. walk (list_tree tree (elements l))) old result new
+  pub in_order_decodes : {L : Type 0} (elements : L → List D) → EachCall (ReadEachInOrder (Decodes s tree) elements) (DecodesBy (ReadsWalk s) (λ l. walk (list_tree tree (elements l))))
   in_order_decodes elements old (Ok v) new (bs, p, order, e) = finished elements old new v bs (came old new (elements v) bs p) order e
   in_order_decodes elements old (Err e) new (vs, bs, here, p, order, n, inl k) =
       stopped (λ l. list_tree tree (elements l)) (λ l. walk (list_tree tree (elements l))) old here vs (came old here vs bs p).come n e new k
   in_order_decodes elements old (Err e) new (vs, bs, here, p, order, n, inr k) = fell (λ l. walk (list_tree tree (elements l))) old here vs bs (came old here vs bs p) n e new k
+
+  -- So a call leaves an end of the input.
+  pub each_keeps : {L : Type 0} (elements : L → List D) → EachCall (ReadEach (Decodes s tree) elements) (λ o r n. Keeps o n)
+  each_keeps elements o r n k = let d = each_decodes elements o r n k in record { stays = d.stays; end = d.end }
+
+  pub in_order_keeps : {L : Type 0} (elements : L → List D) → EachCall (ReadEachInOrder (Decodes s tree) elements) (λ o r n. Keeps o n)
+  in_order_keeps elements o r n k = let d = in_order_decodes elements o r n k in record { stays = d.stays; end = d.end }
 
 -- where elements have come to, only less is left
 pub came_stays : {D : Type 0} (s : Shape) (tree : D → Tree) (old here : State) (vs : List D) (bs : List (List ℕ)) → PassesFrom (Decodes s tree) old vs bs here → here ≡ at old here.rest
 came_stays s tree old here vs bs p = (came s tree old here vs bs p).come.0
 
 -- one more element is read from its octets
-module _ {D : Type 0} (read : State → Result D DecodeError → State → Type 0) (here next : State) (v : D) (b : List ℕ) (e : here.rest ≡ b ++ next.rest) (d : Ended here.closing here.rest → ⊥)
+module _ {D : Type 0} (read : Call D) (here next : State) (v : D) (b : List ℕ) (e : here.rest ≡ b ++ next.rest) (d : Ended here.closing here.rest → ⊥)
     (r : read here (Ok v) next) (n : length next.rest ≢ length here.rest) where
   abbrev One : State → Type 0
   One x = (x.rest ≡ b ++ next.rest) × (Ended x.closing x.rest → ⊥) × read x (Ok v) next × (length next.rest ≢ length x.rest)

@@ -1,5 +1,7 @@
 -- The steps of a call that reads inside a value.
 use Rattle.std.proofs.Common.{◌≡◌, ℕ, List, Result, Ok, Err, sym, ap, ◌∙◌, subst}
+use Rattle.std.specs.Fn.{FnOnceReturnsAtMut}
+use Rattle.std.specs.Borrow.{MutBor}
 use Rattle.rasn_types.specs.declared.error.decode.DecodeError.{DecodeError}
 use Rattle.rasn_types.specs.Framing.{Extent, definite, indefinite}
 use Rattle.rasn_de.specs.declared.ber.de.parser.Fault.{Fault}
@@ -7,9 +9,10 @@ use Rattle.rasn_de.specs.declared.ber.de.parser.Contents.{Contents}
 use Rattle.rasn_de.specs.Strings.{inner, finished}
 use Rattle.rasn_de.specs.Views.{extent}
 use Rattle.rasn_de.specs.Causes.{error_kind}
-use Rattle.rasn_de.specs.State.{State, at, IsEnd}
+use Rattle.rasn_de.specs.State.{State, at, IsEnd, Call, EachCall}
 use Rattle.rasn_de.specs.Taking.{ErrorOf}
-use Rattle.rasn_de.specs.Inside.{Door, inner_state, unclosed, Keeps, Opens, Closes, Failed, no_value, inside, not_closed, ReadInside}
+use Rattle.rasn_de.specs.declared.ber.de.nesting.ConstructedHeader.{ConstructedHeader}
+use Rattle.rasn_de.specs.Inside.{inner_state, unclosed, Keeps, Opens, Closes, Failed, no_value, inside, not_closed, ReadInside, Closure, KeepsSettings}
 use Rattle.rasn_de.proofs.Ends.{IsEnd-trans}
 
 pub kept_after : (old mid new : State) → Keeps old mid → Keeps mid new → Keeps old new
@@ -18,7 +21,7 @@ kept_after old mid new a b = record { stays = b.stays ∙ ap (λ (s : State). at
 pub rules_same : (old mid : State) (f : Fault) (e : DecodeError) → Keeps old mid → ErrorOf f mid e → ErrorOf f old e
 rules_same old mid f e k w = w ∙ ap (λ c. record { kind = error_kind f; codec = c }) (ap (λ (s : State). s.rule) k.stays)
 
-module _ {D : Type 0} (read : State → Result D DecodeError → State → Type 0) (d : Door) (old : State) where
+module _ {D : Type 0} (read : Call D) (d : ConstructedHeader) (old : State) where
   pub step_none : (e : DecodeError) (new : State) → Opens d old (Err e) new → ReadInside read d old (Err e) new
   step_none e new (f, h, w, k) = (k, no_value f h w)
 
@@ -60,16 +63,23 @@ module _ {D : Type 0} (read : State → Result D DecodeError → State → Type 
         (kept_after old mid new w.5 s, record { header = w.0; opened = w.1; left = left; call = moved (Ok v) left k; closed = closing_at l left.rest (Ok new.rest) m g })
 
 -- What is read inside in one way is read in each way that this implies.
-module _ {D : Type 0} (read other : State → Result D DecodeError → State → Type 0) (d : Door) (old : State) where
-  failed_by : (e : DecodeError) (rest : List ℕ) → Failed read d old e rest → ((o : State) (r : Result D DecodeError) (n : State) → read o r n → other o r n) → Failed other d old e rest
+module _ {D : Type 0} (read other : Call D) (d : ConstructedHeader) (old : State) where
+  failed_by : (e : DecodeError) (rest : List ℕ) → Failed read d old e rest → EachCall read other → Failed other d old e rest
   failed_by e rest (no_value f h w) by = no_value f h w
   failed_by e rest (inside h o left c q) by = inside h o left (by _ _ _ c) q
   failed_by e rest (not_closed h o v left c f g w q) by = not_closed h o v left (by _ _ _ c) f g w q
 
-  pub inside_by : (r : Result D DecodeError) (new : State) → ReadInside read d old r new → ((o : State) (r : Result D DecodeError) (n : State) → read o r n → other o r n) → ReadInside other d old r new
+  pub inside_by : (r : Result D DecodeError) (new : State) → ReadInside read d old r new → EachCall read other → ReadInside other d old r new
   inside_by (Ok v) new (k, f) by = (k, record { header = f.header; opened = f.opened; left = f.left; call = by _ _ _ f.call; closed = f.closed })
   inside_by (Err e) new (k, f) by = (k, failed_by e new.rest f by)
 
--- What a closure did on a decoder.
-pub did : {D : Type 0} (read : State → Result D DecodeError → State → Type 0) (r : Result D DecodeError) {shown o left n : State} → shown ≡ o → left ≡ n → read shown r left → read o r n
-did read r {shown} {o} {left} {n} s l h = subst (λ z. read o r z) l (subst (λ z. read z r left) s h)
+-- A closure whose clauses say, of the decoder before and after a call, that it reads so.
+module _ {F D : Type 0} (g : Closure F D) (f : F) (read : Call D) (says : (p : MutBor State) (r : Result D DecodeError) (q : MutBor State) → g.post f (p, tt) (r, (q, tt)) → read p.now r q.now) where
+  closure_reads : EachCall (FnOnceReturnsAtMut g f) read
+  closure_reads o r n w = subst (λ z. read o r z) w.leaves (subst (λ z. read z r w.left.now) w.shows (says w.shown r w.left w.met))
+
+  pub closure_keeps : EachCall read (λ o r n. Keeps o n) → KeepsSettings g f
+  closure_keeps keeps o r n w = keeps o r n (closure_reads o r n w)
+
+  pub closure_inside : (d e : ConstructedHeader) → d ≡ e → (old : State) (r : Result D DecodeError) (new : State) → ReadInside (FnOnceReturnsAtMut g f) d old r new → ReadInside read e old r new
+  closure_inside d e q old r new k = subst (λ z. ReadInside read z old r new) q (inside_by (FnOnceReturnsAtMut g f) read d old r new k closure_reads)

@@ -1,16 +1,15 @@
 -- Values of alternatives.
-use Rattle.std.specs.Prelude.{ℕ, zero, suc, ◌≡◌, ◌⊎◌, Result, Ok, Err}
+use Rattle.std.specs.Prelude.{ℕ, zero, suc, ◌≡◌, ◌⊎◌, Ok, Err}
 use Rattle.rasn_types.specs.declared.types.tag.Tag.{Tag}
-use Rattle.rasn_types.specs.declared.error.decode.DecodeError.{DecodeError}
 use Rattle.rasn_types.specs.Tags.{form}
 use Rattle.rasn_types.specs.Framing.{Next}
 use Rattle.rasn_types.specs.Shapes.{Shape, Parts, part, Presence, IsFirst, IsFirstOf}
 use Rattle.rasn_types.specs.Shapes.Parts.{none}
-use Rattle.rasn_de.specs.State.{State}
+use Rattle.rasn_de.specs.State.{Call}
 use Rattle.rasn_de.specs.Taking.{Peeks}
 
--- read o r n says that on the decoder o, r may be answered and n be left. It answers where a tag comes; else nothing is taken.
-abbrev pub ReadChosen : {D : Type 0} → (State → Result D DecodeError → State → Type 0) → State → Result D DecodeError → State → Type 0
+-- The value is read where a tag comes; else nothing is taken.
+abbrev pub ReadChosen : {D : Type 0} → Call D → Call D
 ReadChosen read old (Ok v) new = (tag : Tag) × Next (form old.rule) old.rest tag × read old (Ok v) new
 ReadChosen read old (Err e) new = (Peeks old (Err e) × (new ≡ old)) ⊎ ((tag : Tag) × Next (form old.rule) old.rest tag × read old (Err e) new)
 

@@ -17,7 +17,6 @@ pub mod Taking
 pub mod Octets
 pub mod Texts
 pub mod Inside
-pub mod Doors
 pub mod Sequences
 pub mod Sets
 pub mod TimeTexts

@@ -1,8 +1,10 @@
 -- Explicit prefixes.
-use Rattle.std.specs.Prelude.{false}
 use Rattle.rasn_types.specs.declared.types.tag.Tag.{Tag}
-use Rattle.rasn_de.specs.Inside.{Door}
+use Rattle.rasn_types.specs.Shapes.{Tree, Shape}
+use Rattle.rasn_de.specs.State.{Call}
+use Rattle.rasn_de.specs.Decodes.{Decodes}
+use Rattle.rasn_de.specs.Inside.{prefix_header, ReadInside}
 
--- The constructed bit is looked at under DER alone.
-abbrev pub prefix_door : Tag → Door
-prefix_door tag = record { tag = tag; needed = false; levels = 1 }
+-- A value of the shape stands alone in the contents of one of the tag, whose constructed bit is looked at under DER alone.
+abbrev pub ReadPrefixed : {D : Type 0} → Shape → (D → Tree) → Tag → Call D
+ReadPrefixed s tree tag = ReadInside (Decodes s tree) (prefix_header tag)

@@ -3,18 +3,17 @@ use Rattle.std.specs.Prelude.{◌≡◌, ◌⊎◌, ℕ, Bool, true, false, ◌&
 use Rattle.std.specs.declared.alloc.AllocError.{AllocError}
 use Rattle.rasn_types.specs.declared.types.tag.Tag.{Tag}
 use Rattle.rasn_types.specs.declared.error.decode.DecodeError.{DecodeError}
-use Rattle.rasn_types.specs.Shapes.{Tree, items, Parts, part}
+use Rattle.rasn_types.specs.Shapes.{Tree, items, Parts, part, seq}
 use Rattle.rasn_types.specs.Shapes.Parts.{none}
 use Rattle.rasn_types.specs.Readers.{IsMissing}
 use Rattle.rasn_types.specs.Described.{is_fieldless, has_required}
 use Rattle.rasn_de.specs.declared.ber.de.parser.Fault.TheVariants.{UnexpectedEmptyInput}
-use Rattle.rasn_de.specs.State.{State}
+use Rattle.std.specs.Fn.{FnOnceReturnsAtMut}
+use Rattle.rasn_de.specs.State.{State, Call, EachCall}
+use Rattle.rasn_de.specs.Decodes.{Decodes, DecodesParts}
 use Rattle.rasn_de.specs.Taking.{ErrorOf}
 use Rattle.rasn_de.specs.Optionals.{Made}
-use Rattle.rasn_de.specs.Inside.{Door}
-
-abbrev pub sequence_door : Tag → Door
-sequence_door tag = record { tag = tag; needed = true; levels = 1 }
+use Rattle.rasn_de.specs.Inside.{sequence_header, Closure, ReadInside}
 
 abbrev pub is_empty : List ℕ → Bool
 is_empty [] = true
@@ -32,8 +31,13 @@ Initial made (Some i) s (Ok v) = Made (made i) s (Ok v)
 Initial made (Some i) s (Err e) = Made (made i) s (Err e)
 
 -- Inside the initializer answers, or else the closure, once.
-abbrev pub Fills : {D : Type 0} → (List ℕ → Bool) → (State → Result D DecodeError → Type 0) → (State → Result D DecodeError → State → Type 0) → State → Result D DecodeError → State → Type 0
+abbrev pub Fills : {D : Type 0} → (List ℕ → Bool) → (State → Result D DecodeError → Type 0) → Call D → Call D
 Fills starts initial called o r n = ((starts o.rest ≡ true) × initial o r × (n ≡ o)) ⊎ ((starts o.rest ≡ false) × called o r n)
+
+-- A SEQUENCE of a type with so many root fields is read by the initializer or by f.
+abbrev pub ReadSequence : {I F D : Type 0} → ℕ → Bool → Bool → (I → Result D AllocError → Type 0) → Option I → Closure F D → F → Tag → Call D
+ReadSequence root extensible needs_field made init g f tag =
+    ReadInside (Fills (is_initial root extensible needs_field) (Initial made init) (FnOnceReturnsAtMut g f)) (sequence_header tag)
 
 -- These are the trees of parts of which none comes.
 abbrev pub AreMissing : Parts → List Tree → Type 0
@@ -44,3 +48,8 @@ AreMissing (part presence s parts) ts = (t : Tree) × (us : List Tree) × (ts �
 abbrev pub MakesBare : {I D : Type 0} → Parts → (D → Tree) → (I → Result D AllocError → Type 0) → Option I → Type 0
 MakesBare {I} {D} parts tree made None = has_required parts ≡ true
 MakesBare {I} {D} parts tree made (Some i) = (v : D) → made i (Ok v) → (ts : List Tree) × (tree v ≡ items ts) × AreMissing parts ts
+
+-- A SEQUENCE of these parts is read, where each call of f reads them and the initializer makes what they are where none comes.
+abbrev pub DecodesSequence : {I F D : Type 0} → Closure F D → F → (I → Result D AllocError → Type 0) → Option I → Parts → (D → Tree) → Tag → Call D
+DecodesSequence g f made init parts tree tag old result new =
+    EachCall (FnOnceReturnsAtMut g f) (DecodesParts parts tree) → MakesBare parts tree made init → Decodes (seq tag parts) tree old result new

@@ -1,14 +1,17 @@
 -- SET: components in any order, of which a function makes the value.
-use Rattle.std.specs.Prelude.{◌≡◌, ◌⊎◌, ℕ, List, [], ◌∷◌, ◌++◌, Option, Some, None, Result, Ok, Err}
+use Rattle.std.specs.Prelude.{◌≡◌, ◌⊎◌, ℕ, List, [], ◌∷◌, ◌++◌, map, Vec, Option, Some, None, Result, Ok, Err}
+use Rattle.std.specs.Global.{Global}
 use Rattle.rasn_types.specs.declared.types.tag.Tag.{Tag}
 use Rattle.rasn_types.specs.declared.error.decode.DecodeError.{DecodeError}
 use Rattle.rasn_types.specs.declared.error.decode.DerDecodeErrorKind.TheVariants.{SetComponentsOutOfOrder}
 use Rattle.rasn_types.specs.Tags.{form, IsStrict, IsTagBelow}
 use Rattle.rasn_types.specs.Framing.{Next, Ended}
-use Rattle.rasn_types.specs.Shapes.{Tree, items, Parts, presences}
+use Rattle.rasn_types.specs.Shapes.{Tree, Shape, items, choice, set, Parts, presences}
 use Rattle.rasn_types.specs.Readers.{ByPart, AreInTagOrder}
 use Rattle.rasn_de.specs.declared.ber.de.parser.Fault.TheVariants.{Der}
-use Rattle.rasn_de.specs.State.{State}
+use Rattle.rasn_de.specs.State.{State, Call}
+use Rattle.rasn_de.specs.Decodes.{Decodes}
+use Rattle.rasn_de.specs.Inside.{sequence_header, ReadInside}
 use Rattle.rasn_de.specs.Taking.{ErrorOf, Peeks}
 use Rattle.rasn_de.specs.Lists.{PassesFrom, Stops}
 use Rattle.rasn_de.specs.Outcomes.{Exact, refusal}
@@ -25,7 +28,7 @@ Looks last s (Ok (Some tag)) = Next (form s.rule) s.rest tag × (IsBelowLast tag
 Looks last s (Err e) = IsStrict s.rule
     × (Peeks s (Err e) ⊎ ((tag : Tag) × Next (form s.rule) s.rest tag × IsBelowLast tag last × ErrorOf (Der SetComponentsOutOfOrder) s e))
 
-module _ {D : Type 0} (read : State → Result D DecodeError → State → Type 0) where
+module _ {D : Type 0} (read : Call D) where
   -- Components are read from these octets, whose tags don't fall under the strict rule (10.3).
   abbrev pub PassesInOrder : State → List D → List (List ℕ) → State → Type 0
   PassesInOrder old vs bs here = PassesFrom read old vs bs here × (IsStrict old.rule → AreInTagOrder bs)
@@ -37,14 +40,18 @@ module _ {D : Type 0} (read : State → Result D DecodeError → State → Type 
     not_read : (IsStrict here.rule → (tag : Tag) × Next (form here.rule) here.rest tag × AreInTagOrder (bs ++ here.rest ∷ [])) → Stops read here e new → Unread bs here e new
 
   -- Components up to the end, or up to the first that isn't read.
-  abbrev pub ReadComponents : {L : Type 0} → (L → List D) → State → Result L DecodeError → State → Type 0
+  abbrev pub ReadComponents : {L : Type 0} → (L → List D) → Call L
   ReadComponents elements old (Ok v) new = (bs : List (List ℕ)) × PassesInOrder old (elements v) bs new × Ended new.closing new.rest
   ReadComponents elements old (Err e) new = (vs : List D) × (bs : List (List ℕ)) × (here : State) × PassesInOrder old vs bs here × (Ended here.closing here.rest → ⊥) × Unread bs here e new
 
 -- A function is called on what was read, once; a refusal is that of the read, or the function's.
-abbrev pub GathersSet : {L D : Type 0} → (State → Result L DecodeError → State → Type 0) → (L → Result D DecodeError → Type 0) → State → Result D DecodeError → State → Type 0
+abbrev pub GathersSet : {L D : Type 0} → Call L → (L → Result D DecodeError → Type 0) → Call D
 GathersSet {L} read made old (Ok v) new = (fields : L) × read old (Ok fields) new × made fields (Ok v)
 GathersSet {L} read made old (Err e) new = read old (Err e) new ⊎ ((fields : L) × read old (Ok fields) new × made fields (Err e))
+
+-- The components of a SET are read one by one by read, and made is what a function makes of them.
+abbrev pub ReadSet : {F D : Type 0} → Call F → (Vec F Global → Result D DecodeError → Type 0) → Tag → Call D
+ReadSet {F} read made tag = ReadInside (GathersSet (ReadComponents read (λ (v : Vec F Global). v.items)) made) (sequence_header tag)
 
 -- The readings of components are these parts.
 abbrev pub AreParts : Parts → List Tree → Tree → Type 0
@@ -54,3 +61,9 @@ AreParts parts readings t = (ts : List Tree) × (t ≡ items ts) × ByPart 0 (pr
 abbrev pub MakesSet : {D : Type 0} → Parts → (D → Tree) → List Tree → Result D DecodeError → Type 0
 MakesSet parts tree readings (Ok v) = AreParts parts readings (tree v)
 MakesSet parts tree readings (Err e) = Exact (λ input t rest. AreParts parts readings t) [] (refusal e.kind)
+
+-- A SET of these parts is read, where a component is one of them, and the function makes the parts of what was read.
+abbrev pub DecodesSet : {F D : Type 0} → Shape → (F → Tree) → (Vec F Global → Result D DecodeError → Type 0) → Parts → (D → Tree) → Tag → Call D
+DecodesSet {F} {D} component reading made parts tree tag old result new = component ≡ choice parts
+    → ((fields : Vec F Global) (r : Result D DecodeError) → made fields r → MakesSet parts tree (map reading fields.items) r)
+    → Decodes (set tag parts) tree old result new

@@ -1,6 +1,7 @@
 -- What a decoder is to its callers.
-use Rattle.std.specs.Prelude.{◌≡◌, ℕ, List, ◌++◌, Bool}
+use Rattle.std.specs.Prelude.{◌≡◌, ℕ, List, ◌++◌, Bool, Result}
 use Rattle.rasn_types.specs.declared.types.rules.Codec.{Codec}
+use Rattle.rasn_types.specs.declared.error.decode.DecodeError.{DecodeError}
 
 -- The rules, the depth that is left, whether end-of-contents octets may end the contents, the whole input and what is left of it.
 pub record State : Type 0 where
@@ -17,3 +18,11 @@ at s r = record s { rest = r }
 -- l ends m
 abbrev pub IsEnd : List ℕ → List ℕ → Type 0
 IsEnd m l = (front : List ℕ) × (m ≡ front ++ l)
+
+-- What calls of a decoder do: read o r n says that on the decoder o, r may be answered and n be left.
+abbrev pub Call : Type 0 → Type 1
+Call D = State → Result D DecodeError → State → Type 0
+
+-- Each of these calls is one of those.
+abbrev pub EachCall : {D : Type 0} → Call D → Call D → Type 0
+EachCall {D} these those = (o : State) (r : Result D DecodeError) (n : State) → these o r n → those o r n

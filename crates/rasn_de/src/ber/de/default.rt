@@ -1,7 +1,6 @@
 //! Values that have a default where they are left out (X.680 25.8).
-ghost use Rattle.rasn_types.specs.Shapes.{tagged_as};
 ghost use Rattle.rasn_de.specs.Decodes.{Decodes};
-ghost use Rattle.rasn_de.specs.Optionals.{Made, ReadOr, DecodesDefault};
+ghost use Rattle.rasn_de.specs.Optionals.{Made, ReadOr, ReadOrAs, DecodesDefault, DecodesOrAs};
 
 use crate::ber::de::Decoder;
 use crate::ber::de::parser::Fault;
@@ -38,8 +37,8 @@ impl<'input> Decoder<'input> {
         default: F,
     ) -> Result<D, DecodeError>
         requires { F.IsAlwaysCallable default }
-        ensures called { ReadOr (Decodes (tagged_as tag D.CONSTRAINTS D.shape) D.tree) D.tree (F.post default) tag self.old result self.new }
-        ensures reads { DecodesDefault tag (tagged_as tag D.CONSTRAINTS D.shape) D.tree (F.post default) self.old result self.new }
+        ensures called { ReadOrAs tag D.CONSTRAINTS D.shape D.tree (F.post default) self.old result self.new }
+        ensures reads { DecodesOrAs tag D.CONSTRAINTS D.shape D.tree (F.post default) self.old result self.new }
     {
         self.decode_default_with_tag_and_constraints(tag, default, &D::CONSTRAINTS)
     }
@@ -53,8 +52,8 @@ impl<'input> Decoder<'input> {
         F: FnOnce() -> Result<D, AllocError>,
     >(&mut self, default: F, constraints: &Constraints) -> Result<D, DecodeError>
         requires { F.IsAlwaysCallable default }
-        ensures called { ReadOr (Decodes (tagged_as D.TAG constraints.now D.shape) D.tree) D.tree (F.post default) D.TAG self.old result self.new }
-        ensures reads { DecodesDefault D.TAG (tagged_as D.TAG constraints.now D.shape) D.tree (F.post default) self.old result self.new }
+        ensures called { ReadOrAs D.TAG constraints.now D.shape D.tree (F.post default) self.old result self.new }
+        ensures reads { DecodesOrAs D.TAG constraints.now D.shape D.tree (F.post default) self.old result self.new }
     {
         self.decode_default_with_tag_and_constraints(D::TAG, default, constraints)
     }
@@ -68,8 +67,8 @@ impl<'input> Decoder<'input> {
         F: FnOnce() -> Result<D, AllocError>,
     >(&mut self, tag: Tag, default: F, constraints: &Constraints) -> Result<D, DecodeError>
         requires { F.IsAlwaysCallable default }
-        ensures called { ReadOr (Decodes (tagged_as tag constraints.now D.shape) D.tree) D.tree (F.post default) tag self.old result self.new }
-        ensures reads { DecodesDefault tag (tagged_as tag constraints.now D.shape) D.tree (F.post default) self.old result self.new }
+        ensures called { ReadOrAs tag constraints.now D.shape D.tree (F.post default) self.old result self.new }
+        ensures reads { DecodesOrAs tag constraints.now D.shape D.tree (F.post default) self.old result self.new }
     {
         if !self.comes(tag)? {
             return self.made(default);

@@ -1,10 +1,9 @@
 //! Extension additions (X.680 25.4).
-ghost use Rattle.rasn_types.specs.Shapes.{tagged_as, looked_for, option, prefix};
+ghost use Rattle.rasn_types.specs.Shapes.{prefix};
 ghost use Rattle.rasn_types.specs.Trees.{option_tree};
 ghost use Rattle.rasn_de.specs.Decodes.{Decodes};
-ghost use Rattle.rasn_de.specs.Inside.{ReadInside};
-ghost use Rattle.rasn_de.specs.Optionals.{AlwaysThere, ReadPerhaps};
-ghost use Rattle.rasn_de.specs.Prefixes.{prefix_door};
+ghost use Rattle.rasn_de.specs.Optionals.{AlwaysThere, ReadPerhaps, ReadPerhapsAs, DecodesOption, DecodesOptionAs};
+ghost use Rattle.rasn_de.specs.Prefixes.{ReadPrefixed};
 
 use crate::ber::de::Decoder;
 use crate::de::Decode;
@@ -21,8 +20,8 @@ impl<'input> Decoder<'input> {
         tag: Tag,
         _constraints: &Constraints,
     ) -> Result<Option<D>, DecodeError>
-        ensures called { ReadPerhaps (Decodes (tagged_as tag D.CONSTRAINTS D.shape) D.tree) tag self.old result self.new }
-        ensures reads { Decodes (option (looked_for tag) (tagged_as tag D.CONSTRAINTS D.shape)) (option_tree D.tree) self.old result self.new }
+        ensures called { ReadPerhapsAs tag D.CONSTRAINTS D.shape D.tree self.old result self.new }
+        ensures reads { DecodesOptionAs tag D.CONSTRAINTS D.shape D.tree self.old result self.new }
     {
         self.decode_optional_with_tag(tag)
     }
@@ -37,7 +36,7 @@ impl<'input> Decoder<'input> {
         tag: Tag,
         _constraints: &Constraints,
     ) -> Result<Option<D>, DecodeError>
-        ensures called { AlwaysThere (ReadInside (Decodes D.shape D.tree) (prefix_door tag)) self.old result self.new }
+        ensures called { AlwaysThere (ReadPrefixed D.shape D.tree tag) self.old result self.new }
         ensures reads { Decodes (prefix tag D.shape) (option_tree D.tree) self.old result self.new }
     {
         let value = self.decode_explicit_prefix::<D>(tag)?;
@@ -54,7 +53,7 @@ impl<'input> Decoder<'input> {
         D: Decode + Constructed<RC, EC>,
     >(&mut self) -> Result<Option<D>, DecodeError>
         ensures called { ReadPerhaps (Decodes D.shape D.tree) D.TAG self.old result self.new }
-        ensures reads { Decodes (option (looked_for D.TAG) D.shape) (option_tree D.tree) self.old result self.new }
+        ensures reads { DecodesOption D.TAG D.shape D.tree self.old result self.new }
     {
         self.decode_optional::<D>()
     }

@@ -1,12 +1,8 @@
 //! SEQUENCE OF (X.690 8.10).
-ghost use Rattle.std.specs.Prelude.{◌≢◌, vec_len};
-ghost use Rattle.rasn_types.specs.Framing.{AreOctets};
-ghost use Rattle.rasn_types.specs.Shapes.{list};
-ghost use Rattle.rasn_de.specs.Decodes.{Decodes, DecodesBy};
-ghost use Rattle.rasn_de.specs.Lists.{AddsElement, ReadsItems, ReadEach, InList, ReadSized};
-ghost use Rattle.rasn_types.specs.Trees.{list_tree};
+ghost use Rattle.rasn_de.specs.Decodes.{Decodes};
+ghost use Rattle.rasn_de.specs.Lists.{AddsElement, ReadEach, ReadSequenceOf, DecodesSequenceOf};
 
-use crate::ber::de::nesting::Opening;
+use crate::ber::de::nesting::ConstructedHeader;
 use crate::ber::de::parser::Fault;
 use crate::ber::de::{Decoder, check_size};
 use crate::de::Decode;
@@ -32,34 +28,13 @@ impl<'input> Decoder<'input> {
 
     /// Elements up to the end of the contents.
     fn elements<D: Decode>(&mut self) -> Result<Vec<D>, DecodeError>
-        ensures reads { DecodesBy (ReadsItems D.shape) (λ v. list_tree D.tree v.items) self.old result self.new }
-        ensures each { ReadEach (Decodes D.shape D.tree) (λ v. v.items) self.old result self.new }
+        ensures { ReadEach (Decodes D.shape D.tree) (λ v. v.items) self.old result self.new }
     {
         let mut values = Vec::new(self.alloc);
         while !self.has_ended() {
             self.push_element(&mut values)?;
         }
         Ok(values)
-    }
-
-    /// The elements that stand inside a value of the tag.
-    fn list<D: Decode>(&mut self, tag: Tag) -> Result<Vec<D>, DecodeError>
-        ensures elements { InList (DecodesBy (ReadsItems D.shape) (λ v. list_tree D.tree v.items)) tag self.old result self.new }
-        ensures each { InList (ReadEach (Decodes D.shape D.tree) (λ v. v.items)) tag self.old result self.new }
-        ensures octets { self.old.depth ≢ 0 → AreOctets self.old.rest }
-    {
-        let opening = Opening {
-            tag,
-            needs_bit: true,
-            levels: 2,
-        };
-        self.inside(
-            opening,
-            |inner| -> Result<Vec<D>, DecodeError>
-                ensures elements { DecodesBy (ReadsItems D.shape) (λ v. list_tree D.tree v.items) inner.old result inner.new }
-                ensures each { ReadEach (Decodes D.shape D.tree) (λ v. v.items) inner.old result inner.new }
-            { inner.elements::<D>() },
-        )
     }
 
     /// A SEQUENCE OF, within a size in elements (X.690 8.10). It takes two levels of depth.
@@ -73,10 +48,15 @@ impl<'input> Decoder<'input> {
         tag: Tag,
         constraints: &Constraints,
     ) -> Result<Vec<D>, DecodeError>
-        ensures called { ReadSized (ReadEach (Decodes D.shape D.tree) (λ v. v.items)) (λ v. vec_len v) tag constraints.now self.old result self.new }
-        ensures reads { Decodes (list tag D.shape constraints.now.size) (λ v. list_tree D.tree v.items) self.old result self.new }
+        ensures called { ReadSequenceOf (Decodes D.shape D.tree) tag constraints.now self.old result self.new }
+        ensures reads { DecodesSequenceOf D.shape D.tree tag constraints.now self.old result self.new }
     {
-        let values = self.list::<D>(tag)?;
+        let values = self.inside(
+            ConstructedHeader::list(tag),
+            |inner| -> Result<Vec<D>, DecodeError>
+                ensures { ReadEach (Decodes D.shape D.tree) (λ v. v.items) inner.old result inner.new }
+            { inner.elements() },
+        )?;
         match check_size(constraints, values.len()) {
             Ok(()) => Ok(values),
             Err(fault) => Err(self.error(fault)),

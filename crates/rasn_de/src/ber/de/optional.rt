@@ -1,10 +1,8 @@
 //! Values that may be left out (X.680 25.5 to 25.8).
-ghost use Rattle.rasn_types.specs.Shapes.{tagged_as, looked_for, option, prefix};
-ghost use Rattle.rasn_types.specs.Trees.{option_tree};
+ghost use Rattle.rasn_types.specs.Shapes.{prefix};
 ghost use Rattle.rasn_de.specs.Decodes.{Decodes};
-ghost use Rattle.rasn_de.specs.Inside.{ReadInside};
-ghost use Rattle.rasn_de.specs.Optionals.{Comes, ReadPerhaps};
-ghost use Rattle.rasn_de.specs.Prefixes.{prefix_door};
+ghost use Rattle.rasn_de.specs.Optionals.{Comes, ReadPerhaps, ReadPerhapsAs, DecodesOption, DecodesOptionAs};
+ghost use Rattle.rasn_de.specs.Prefixes.{ReadPrefixed};
 
 use crate::ber::de::Decoder;
 use crate::de::Decode;
@@ -31,7 +29,7 @@ impl<'input> Decoder<'input> {
     /// Faults of the next identifier, which take nothing; what the value refuses.
     pub fn decode_optional<D: Decode>(&mut self) -> Result<Option<D>, DecodeError>
         ensures called { ReadPerhaps (Decodes D.shape D.tree) D.TAG self.old result self.new }
-        ensures reads { Decodes (option (looked_for D.TAG) D.shape) (option_tree D.tree) self.old result self.new }
+        ensures reads { DecodesOption D.TAG D.shape D.tree self.old result self.new }
     {
         self.decode_optional_with_tag_and_constraints(D::TAG, &D::CONSTRAINTS)
     }
@@ -44,8 +42,8 @@ impl<'input> Decoder<'input> {
         &mut self,
         tag: Tag,
     ) -> Result<Option<D>, DecodeError>
-        ensures called { ReadPerhaps (Decodes (tagged_as tag D.CONSTRAINTS D.shape) D.tree) tag self.old result self.new }
-        ensures reads { Decodes (option (looked_for tag) (tagged_as tag D.CONSTRAINTS D.shape)) (option_tree D.tree) self.old result self.new }
+        ensures called { ReadPerhapsAs tag D.CONSTRAINTS D.shape D.tree self.old result self.new }
+        ensures reads { DecodesOptionAs tag D.CONSTRAINTS D.shape D.tree self.old result self.new }
     {
         self.decode_optional_with_tag_and_constraints(tag, &D::CONSTRAINTS)
     }
@@ -58,8 +56,8 @@ impl<'input> Decoder<'input> {
         &mut self,
         constraints: &Constraints,
     ) -> Result<Option<D>, DecodeError>
-        ensures called { ReadPerhaps (Decodes (tagged_as D.TAG constraints.now D.shape) D.tree) D.TAG self.old result self.new }
-        ensures reads { Decodes (option (looked_for D.TAG) (tagged_as D.TAG constraints.now D.shape)) (option_tree D.tree) self.old result self.new }
+        ensures called { ReadPerhapsAs D.TAG constraints.now D.shape D.tree self.old result self.new }
+        ensures reads { DecodesOptionAs D.TAG constraints.now D.shape D.tree self.old result self.new }
     {
         self.decode_optional_with_tag_and_constraints(D::TAG, constraints)
     }
@@ -73,8 +71,8 @@ impl<'input> Decoder<'input> {
         tag: Tag,
         constraints: &Constraints,
     ) -> Result<Option<D>, DecodeError>
-        ensures called { ReadPerhaps (Decodes (tagged_as tag constraints.now D.shape) D.tree) tag self.old result self.new }
-        ensures reads { Decodes (option (looked_for tag) (tagged_as tag constraints.now D.shape)) (option_tree D.tree) self.old result self.new }
+        ensures called { ReadPerhapsAs tag constraints.now D.shape D.tree self.old result self.new }
+        ensures reads { DecodesOptionAs tag constraints.now D.shape D.tree self.old result self.new }
     {
         if !self.comes(tag)? {
             return Ok(None);
@@ -91,8 +89,8 @@ impl<'input> Decoder<'input> {
         &mut self,
         tag: Tag,
     ) -> Result<Option<D>, DecodeError>
-        ensures called { ReadPerhaps (ReadInside (Decodes D.shape D.tree) (prefix_door tag)) tag self.old result self.new }
-        ensures reads { Decodes (option (looked_for tag) (prefix tag D.shape)) (option_tree D.tree) self.old result self.new }
+        ensures called { ReadPerhaps (ReadPrefixed D.shape D.tree tag) tag self.old result self.new }
+        ensures reads { DecodesOption tag (prefix tag D.shape) D.tree self.old result self.new }
     {
         if !self.comes(tag)? {
             return Ok(None);

@@ -1,11 +1,10 @@
 //! Explicit prefixes (X.690 8.14.2).
 ghost use Rattle.rasn_types.specs.Shapes.{prefix};
 ghost use Rattle.rasn_de.specs.Decodes.{Decodes};
-ghost use Rattle.rasn_de.specs.Inside.{ReadInside};
-ghost use Rattle.rasn_de.specs.Prefixes.{prefix_door};
+ghost use Rattle.rasn_de.specs.Prefixes.{ReadPrefixed};
 
 use crate::ber::de::Decoder;
-use crate::ber::de::nesting::Opening;
+use crate::ber::de::nesting::ConstructedHeader;
 use crate::de::Decode;
 use rasn_types::error::DecodeError;
 use rasn_types::types::Tag;
@@ -19,16 +18,11 @@ impl<'input> Decoder<'input> {
     /// contents, or of an indefinite length the header; end-of-contents octets that are missing (`Incomplete`, `MissingEndOfContents`), which take
     /// what was read inside too.
     pub fn decode_explicit_prefix<D: Decode>(&mut self, tag: Tag) -> Result<D, DecodeError>
-        ensures called { ReadInside (Decodes D.shape D.tree) (prefix_door tag) self.old result self.new }
+        ensures called { ReadPrefixed D.shape D.tree tag self.old result self.new }
         ensures reads { Decodes (prefix tag D.shape) D.tree self.old result self.new }
     {
-        let opening = Opening {
-            tag,
-            needs_bit: false,
-            levels: 1,
-        };
         self.inside(
-            opening,
+            ConstructedHeader::prefix(tag),
             |inner| -> Result<D, DecodeError>
                 ensures { Decodes D.shape D.tree inner.old result inner.new }
             { D::decode(inner) },

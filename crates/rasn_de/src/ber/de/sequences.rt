@@ -1,15 +1,11 @@
 //! SEQUENCE (X.690 8.9).
-ghost use Rattle.std.specs.Prelude.{◌≡◌, IfSome, Result};
+ghost use Rattle.std.specs.Prelude.{◌≡◌, IfSome};
 ghost use Rattle.std.specs.Fn.{FnOnceReturnsAtMut};
-ghost use Rattle.rasn_types.specs.declared.error.decode.DecodeError.{DecodeError};
-ghost use Rattle.rasn_types.specs.Shapes.{seq};
-ghost use Rattle.rasn_de.specs.State.{State};
-ghost use Rattle.rasn_de.specs.Decodes.{Decodes, DecodesParts};
-ghost use Rattle.rasn_de.specs.Inside.{Keeps, ReadInside};
-ghost use Rattle.rasn_de.specs.Sequences.{sequence_door, is_initial, Initial, Fills, MakesBare};
+ghost use Rattle.rasn_de.specs.Inside.{KeepsSettings};
+ghost use Rattle.rasn_de.specs.Sequences.{is_initial, Initial, Fills, ReadSequence, DecodesSequence};
 
 use crate::ber::de::Decoder;
-use crate::ber::de::nesting::Opening;
+use crate::ber::de::nesting::ConstructedHeader;
 use crate::ber::de::parser::Fault;
 use rasn_types::error::DecodeError;
 use rasn_types::types::{Constructed, Tag};
@@ -22,7 +18,7 @@ impl<'input> Decoder<'input> {
         default: Option<DF>,
     ) -> Result<D, DecodeError>
         requires { IfSome default (λ g. DF.IsAlwaysCallable g) }
-        ensures { Initial (λ g r. DF.post g r) default self.now result }
+        ensures { Initial DF.post default self.now result }
     {
         match default {
             Some(initial) => self.made(initial),
@@ -47,22 +43,16 @@ impl<'input> Decoder<'input> {
     >(&mut self, tag: Tag, default: Option<DF>, f: F) -> Result<D, DecodeError>
         requires callable { F.IsAlwaysCallable f }
         requires makes { IfSome default (λ g. DF.IsAlwaysCallable g) }
-        requires keeps { (o : State) (r : Result D DecodeError) (n : State) → FnOnceReturnsAtMut F.FnOnce f o r n → Keeps o n }
-        ensures called { ReadInside (Fills (is_initial RC D.IS_EXTENSIBLE D.HAS_REQUIRED_FIELDS) (Initial (λ g r. DF.post g r) default) (FnOnceReturnsAtMut F.FnOnce f)) (sequence_door tag) self.old result self.new }
-        ensures reads { ((o : State) (r : Result D DecodeError) (n : State) → FnOnceReturnsAtMut F.FnOnce f o r n → DecodesParts D.parts D.tree o r n)
-            → MakesBare D.parts D.tree (λ g r. DF.post g r) default → Decodes (seq tag D.parts) D.tree self.old result self.new }
+        requires keeps { KeepsSettings F.FnOnce f }
+        ensures called { ReadSequence RC D.IS_EXTENSIBLE D.HAS_REQUIRED_FIELDS DF.post default F.FnOnce f tag self.old result self.new }
+        ensures reads { DecodesSequence F.FnOnce f DF.post default D.parts D.tree tag self.old result self.new }
     {
-        let opening = Opening {
-            tag,
-            needs_bit: true,
-            levels: 1,
-        };
         self.inside(
-            opening,
+            ConstructedHeader::sequence(tag),
             |inner| -> Result<D, DecodeError>
                 requires callable { F.IsAlwaysCallable f }
                 requires makes { IfSome default (λ g. DF.IsAlwaysCallable g) }
-                ensures { Fills (is_initial RC D.IS_EXTENSIBLE D.HAS_REQUIRED_FIELDS) (Initial (λ g r. DF.post g r) default) (FnOnceReturnsAtMut F.FnOnce f) inner.old result inner.new }
+                ensures { Fills (is_initial RC D.IS_EXTENSIBLE D.HAS_REQUIRED_FIELDS) (Initial DF.post default) (FnOnceReturnsAtMut F.FnOnce f) inner.old result inner.new }
             {
                 if reads_initially(
                     RC,

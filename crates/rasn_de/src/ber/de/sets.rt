@@ -1,16 +1,11 @@
 //! SET (X.690 8.11).
-ghost use Rattle.std.specs.Prelude.{◌≡◌, MatchBool, map, Vec, Result};
+ghost use Rattle.std.specs.Prelude.{MatchBool, Vec};
 ghost use Rattle.std.specs.Global.{Global};
-ghost use Rattle.std.specs.Fn.{FnOnceReturnsAtMut};
-ghost use Rattle.rasn_types.specs.declared.error.decode.DecodeError.{DecodeError};
-ghost use Rattle.rasn_types.specs.Shapes.{set, choice};
 ghost use Rattle.rasn_de.specs.Decodes.{Decodes};
-ghost use Rattle.rasn_de.specs.Inside.{ReadInside};
-ghost use Rattle.rasn_de.specs.Sequences.{sequence_door};
-ghost use Rattle.rasn_de.specs.Sets.{IsBelowLast, Looks, ReadComponents, GathersSet, MakesSet};
+ghost use Rattle.rasn_de.specs.Sets.{IsBelowLast, Looks, ReadComponents, GathersSet, ReadSet, DecodesSet};
 
 use crate::ber::de::Decoder;
-use crate::ber::de::nesting::Opening;
+use crate::ber::de::nesting::ConstructedHeader;
 use crate::ber::de::parser::Fault;
 use crate::de::Decode;
 use rasn_types::error::{DecodeError, DerDecodeErrorKind};
@@ -73,21 +68,14 @@ impl<'input> Decoder<'input> {
         F: FnOnce(Vec<FIELDS>) -> Result<SET, DecodeError>,
     >(&mut self, tag: Tag, _decode: D, f: F) -> Result<SET, DecodeError>
         requires callable { F.IsAlwaysCallable f }
-        ensures called { ReadInside (GathersSet (ReadComponents (Decodes FIELDS.shape FIELDS.tree) (λ (v : Vec FIELDS Global). v.items)) (λ fields r. F.post f fields r)) (sequence_door tag) self.old result self.new }
-        ensures reads { FIELDS.shape ≡ choice SET.parts
-            → ((fields : Vec FIELDS Global) (r : Result SET DecodeError) → F.post f fields r → MakesSet SET.parts SET.tree (map FIELDS.tree fields.items) r)
-            → Decodes (set tag SET.parts) SET.tree self.old result self.new }
+        ensures called { ReadSet (Decodes FIELDS.shape FIELDS.tree) (F.post f) tag self.old result self.new }
+        ensures reads { DecodesSet FIELDS.shape FIELDS.tree (F.post f) SET.parts SET.tree tag self.old result self.new }
     {
-        let opening = Opening {
-            tag,
-            needs_bit: true,
-            levels: 1,
-        };
         self.inside(
-            opening,
+            ConstructedHeader::sequence(tag),
             |inner| -> Result<SET, DecodeError>
                 requires { F.IsAlwaysCallable f }
-                ensures { GathersSet (ReadComponents (Decodes FIELDS.shape FIELDS.tree) (λ (v : Vec FIELDS Global). v.items)) (λ fields r. F.post f fields r) inner.old result inner.new }
+                ensures { GathersSet (ReadComponents (Decodes FIELDS.shape FIELDS.tree) (λ (v : Vec FIELDS Global). v.items)) (F.post f) inner.old result inner.new }
             {
                 let fields = inner.components::<FIELDS>()?;
                 f(fields)

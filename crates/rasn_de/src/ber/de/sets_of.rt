@@ -1,14 +1,11 @@
 //! SET OF (X.690 8.12).
-ghost use Rattle.std.specs.Prelude.{◌≡◌, ◌≢◌, ◌++◌, MatchBool, length};
-ghost use Rattle.rasn_types.specs.Framing.{AreOctets};
+ghost use Rattle.std.specs.Prelude.{◌≡◌, ◌++◌, MatchBool};
 ghost use Rattle.rasn_types.specs.Order.{IsLess};
-ghost use Rattle.rasn_types.specs.Shapes.{set_of, walk};
-ghost use Rattle.rasn_types.specs.Trees.{list_tree};
 ghost use Rattle.rasn_de.specs.Decodes.{Decodes};
-ghost use Rattle.rasn_de.specs.Lists.{ReadEachInOrder, InList, ReadSized};
+ghost use Rattle.rasn_de.specs.Lists.{ReadEachInOrder, ReadSetOf, DecodesSetOf};
 ghost use Rattle.rasn_de.specs.State.{IsEnd};
 
-use crate::ber::de::nesting::Opening;
+use crate::ber::de::nesting::ConstructedHeader;
 use crate::ber::de::parser::Fault;
 use crate::ber::de::{Decoder, check_size};
 use crate::de::Decode;
@@ -16,6 +13,7 @@ use rasn_types::error::{DecodeError, DerDecodeErrorKind};
 use rasn_types::types::{Constraints, SetOf, Tag};
 
 /// Whether octets are less than others, a proper beginning being less (X.690 11.6).
+#[tactic(auto, using(crate::proofs::Falling::less_told))]
 fn is_less(octets: &[u8], others: &[u8]) -> bool
     ensures { MatchBool result (IsLess octets.now others.now) (IsLess octets.now others.now → ⊥) }
 {
@@ -23,6 +21,7 @@ fn is_less(octets: &[u8], others: &[u8]) -> bool
 }
 
 /// What was passed of the input.
+#[tactic(auto, using(crate::proofs::Falling::cut_before))]
 fn octets_before<'input>(start: &'input [u8], rest: &[u8]) -> &'input [u8]
     requires { IsEnd start.now rest.now }
     ensures { start.now ≡ result.now ++ rest.now }
@@ -49,24 +48,6 @@ impl<'input> Decoder<'input> {
         Ok(SetOf::from_vec(values))
     }
 
-    /// The elements that stand inside a value of the tag, in order under DER.
-    fn walk<D: Decode>(&mut self, tag: Tag) -> Result<SetOf<D>, DecodeError>
-        ensures each { InList (ReadEachInOrder (Decodes D.shape D.tree) (λ v. v)) tag self.old result self.new }
-        ensures octets { self.old.depth ≢ 0 → AreOctets self.old.rest }
-    {
-        let opening = Opening {
-            tag,
-            needs_bit: true,
-            levels: 2,
-        };
-        self.inside(
-            opening,
-            |inner| -> Result<SetOf<D>, DecodeError>
-                ensures { ReadEachInOrder (Decodes D.shape D.tree) (λ v. v) inner.old result inner.new }
-            { inner.elements_in_order::<D>() },
-        )
-    }
-
     /// A SET OF, within a size in elements (X.690 8.12). Under DER the octets of an element must not be less than those of the one
     /// before (X.690 11.6). It takes two levels of depth.
     ///
@@ -78,10 +59,15 @@ impl<'input> Decoder<'input> {
         tag: Tag,
         constraints: &Constraints,
     ) -> Result<SetOf<D>, DecodeError>
-        ensures called { ReadSized (ReadEachInOrder (Decodes D.shape D.tree) (λ v. v)) (λ v. length v) tag constraints.now self.old result self.new }
-        ensures reads { Decodes (set_of tag D.shape constraints.now.size) (λ v. walk (list_tree D.tree v)) self.old result self.new }
+        ensures called { ReadSetOf (Decodes D.shape D.tree) tag constraints.now self.old result self.new }
+        ensures reads { DecodesSetOf D.shape D.tree tag constraints.now self.old result self.new }
     {
-        let values = self.walk::<D>(tag)?;
+        let values = self.inside(
+            ConstructedHeader::list(tag),
+            |inner| -> Result<SetOf<D>, DecodeError>
+                ensures { ReadEachInOrder (Decodes D.shape D.tree) (λ v. v) inner.old result inner.new }
+            { inner.elements_in_order() },
+        )?;
         match check_size(constraints, values.len()) {
             Ok(()) => Ok(values),
             Err(fault) => Err(self.error(fault)),

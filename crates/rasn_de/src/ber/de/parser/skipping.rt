@@ -103,6 +103,7 @@ fn read_tagged(rule: Codec, tag: Tag, input: &[u8]) -> Result<(&[u8], &[u8]), Fa
 }
 
 /// The octets of an open type, and what follows: one whole encoding by `Tag::EOC`, else the contents of the one value of the tag.
+#[tactic(auto, using(crate::proofs::OpenTypes::opens_end))]
 pub fn read_open(rule: Codec, tag: Tag, input: &[u8]) -> Result<(&[u8], &[u8]), Fault>
     ensures found { OpenAt rule (looked_for tag) input.now (as_lists result) }
     ensures end { IfOk result (λ p. IsEnd input.now p.1.now) }

@@ -1,30 +1,32 @@
-use Rattle.std.proofs.Common.{Ok, Err, inl, vec_len, Vec, Global, sym, ◌∙◌}
-use Rattle.rasn_de.specs.Decodes.{DecodesBy, Decodes}
-use Rattle.rasn_de.specs.Lists.{ReadsItems, ReadEach}
-use Rattle.rasn_types.specs.Trees.{list_tree}
-use Rattle.rasn_de.proofs.Listed.{list_decodes, counted}
-use Rattle.rasn_de.proofs.Returns.{residual}
+use Rattle.std.proofs.Common.{Ok, Err, inl, Vec, vec_len, Global}
+use Rattle.rasn_de.specs.Decodes.{Decodes}
+use Rattle.rasn_de.specs.Lists.{ReadEach}
+use Rattle.rasn_de.proofs.Stepping.{closure_keeps, closure_inside}
+use Rattle.rasn_de.proofs.SetsOf.{each_keeps}
+use Rattle.rasn_de.proofs.Listed.{sequence_of_decodes}
+use Rattle.rasn_de.proofs.Returns.{residual, also_reads}
 use Rattle.rasn_de.proofs.Sized.{unsized}
 use Rattle.rasn_de.proofs.ber.de.Decoder.decode_sequence_of.Goals as goal
 
+pub inside-requires-clause-keeps : goal.inside-requires-clause-keeps
+inside-requires-clause-keeps g c =
+    closure_keeps _ _ (ReadEach (Decodes g.D.AsnType.shape g.D.AsnType.tree) (λ (v : Vec g.row.D.Denot Global). v.items)) (λ p r q m. m) (each_keeps g.D.AsnType.shape g.D.AsnType.tree (λ (v : Vec g.row.D.Denot Global). v.items))
+
 pub returns-in_err-values : goal.returns-in_err-values
 returns-in_err-values g c =
-    rw (residual _ c.from_residual.ensures.1) (record {
-      called = inl c.in_err-values.ensures.each;
-      reads = list_decodes g.D.AsnType.shape (λ (v : Vec g.row.D.Denot Global). list_tree g.D.AsnType.tree v.items) (λ (v : Vec g.row.D.Denot Global). vec_len v) c.args.tag c.args.constraints.now c.args.self.now c.list.ensures.octets (λ v ts e. counted g.D.AsnType.tree v.items ts e ∙ sym v.ok.0) (Err c.in_err-values.field-0.0) _ (inl c.in_err-values.ensures.elements);
-    })
+    let read = ReadEach (Decodes g.D.AsnType.shape g.D.AsnType.tree) (λ (v : Vec g.row.D.Denot Global). v.items) in
+    let k = closure_inside _ _ read (λ p r q m. m) _ _ c.list.ensures c.args.self.now (Err c.in_err-values.field-0.0) c.inside.new.self c.in_err-values.ensures.called in
+    rw (residual _ c.from_residual.ensures.1) (also_reads (sequence_of_decodes g.D.AsnType.shape g.D.AsnType.tree c.args.tag c.args.constraints.now c.args.self.now c.inside.ensures.octets (Err c.in_err-values.field-0.0) _) (inl k))
 
 pub returns-in-Ok : goal.returns-in-Ok
-returns-in-Ok g c = record {
-  called = (rw (← c.len.ensures) c.in-Ok.ensures, c.in_ok-values.ensures.each);
-  reads = list_decodes g.D.AsnType.shape (λ (v : Vec g.row.D.Denot Global). list_tree g.D.AsnType.tree v.items) (λ (v : Vec g.row.D.Denot Global). vec_len v) c.args.tag c.args.constraints.now c.args.self.now c.list.ensures.octets (λ v ts e. counted g.D.AsnType.tree v.items ts e ∙ sym v.ok.0) (Ok c.in_ok-values.values) _ (rw (← c.len.ensures) c.in-Ok.ensures, c.in_ok-values.ensures.elements);
-}
+returns-in-Ok g c =
+    let read = ReadEach (Decodes g.D.AsnType.shape g.D.AsnType.tree) (λ (v : Vec g.row.D.Denot Global). v.items) in
+    let k = closure_inside _ _ read (λ p r q m. m) _ _ c.list.ensures c.args.self.now (Ok c.in_ok-values.values) c.inside.new.self c.in_ok-values.ensures.called in
+    also_reads (sequence_of_decodes g.D.AsnType.shape g.D.AsnType.tree c.args.tag c.args.constraints.now c.args.self.now c.inside.ensures.octets (Ok c.in_ok-values.values) _) (rw (← c.len.ensures) c.in-Ok.ensures, k)
 
 pub returns-in-Err : goal.returns-in-Err
-returns-in-Err g c = record {
-  called = unsized (ReadEach (Decodes g.D.AsnType.shape g.D.AsnType.tree) (λ (v : Vec g.row.D.Denot Global). v.items)) (λ (v : Vec g.row.D.Denot Global). vec_len v) c.args.tag c.args.constraints.now c.args.self.now _ c.in_ok-values.values _ _
-      c.in_ok-values.ensures.each (rw (← c.len.ensures) c.in-Err.ensures) c.error.ensures;
-  reads = list_decodes g.D.AsnType.shape (λ (v : Vec g.row.D.Denot Global). list_tree g.D.AsnType.tree v.items) (λ (v : Vec g.row.D.Denot Global). vec_len v) c.args.tag c.args.constraints.now c.args.self.now c.list.ensures.octets (λ v ts e. counted g.D.AsnType.tree v.items ts e ∙ sym v.ok.0) (Err c.error.result) _
-      (unsized (DecodesBy (ReadsItems g.D.AsnType.shape) (λ (v : Vec g.row.D.Denot Global). list_tree g.D.AsnType.tree v.items)) (λ (v : Vec g.row.D.Denot Global). vec_len v) c.args.tag c.args.constraints.now c.args.self.now _ c.in_ok-values.values _ _
-      c.in_ok-values.ensures.elements (rw (← c.len.ensures) c.in-Err.ensures) c.error.ensures);
-}
+returns-in-Err g c =
+    let read = ReadEach (Decodes g.D.AsnType.shape g.D.AsnType.tree) (λ (v : Vec g.row.D.Denot Global). v.items) in
+    let k = closure_inside _ _ read (λ p r q m. m) _ _ c.list.ensures c.args.self.now (Ok c.in_ok-values.values) c.inside.new.self c.in_ok-values.ensures.called in
+    also_reads (sequence_of_decodes g.D.AsnType.shape g.D.AsnType.tree c.args.tag c.args.constraints.now c.args.self.now c.inside.ensures.octets (Err c.error.result) _)
+    (unsized read (λ (v : Vec g.row.D.Denot Global). vec_len v) c.args.tag c.args.constraints.now c.args.self.now _ c.in_ok-values.values _ _ k (rw (← c.len.ensures) c.in-Err.ensures) c.error.ensures)
