@@ -1,6 +1,7 @@
 -- The test of octets, and runs that don't fall.
-use Rattle.std.proofs.Common.{◌≡◌, ◌<◌, ◌⊎◌, ℕ, Bool, true, false, ◌||◌, ◌&&◌, List, [], ◌∷◌, inl, inr, arith, ltb, eqb, sym, MatchBool}
+use Rattle.std.proofs.Common.{◌≡◌, ◌<◌, ◌⊎◌, ℕ, Bool, true, false, ◌||◌, ◌&&◌, List, [], ◌∷◌, inl, inr, arith, ltb, eqb, sym}
 use Rattle.std.proofs.lemmas.Grind.{common_steps}
+use Rattle.rasn_types.specs.Truth.{Decides}
 use Rattle.rasn_types.specs.Bytes.{IsLess, DoNotFall}
 use Rattle.rasn_types.specs.Tags.{IsTagBelow}
 use Rattle.rasn_types.specs.declared.types.tag.Tag.{Tag}
@@ -53,6 +54,6 @@ falls all rest after t h e f k = (one_back t after (rw e at (h.back k))).0 f
 pub same_end : (all rest : List Tag) → Same all rest → rest ≡ [] → DoNotFall IsTagBelow all
 same_end all rest h e = h.on (rw e tt)
 
-pub fall_told : (b : Bool) (x y : List ℕ) → b ≡ octets_less x y → MatchBool b (IsLess x y) (IsLess x y → ⊥)
+pub fall_told : (b : Bool) (x y : List ℕ) → b ≡ octets_less x y → Decides b (IsLess x y)
 fall_told true x y e = less_is x y (sym e)
 fall_told false x y e = less_not x y (sym e)
