@@ -136,9 +136,6 @@ module _ (r : Codec) (xs : List ℕ) (ms : List Mark) (os : List Open) (o : Open
   first-last : o.first ≤ o.last
   first-last = let a = h.sound.first_within in let b = length-take-le o.last ms h.last_within in omega (arith, a, b)
 
-  pub still-open : f ≤ length ms → o.last < length ms
-  still-open q = let l = h.lasts in omega (arith, l, q)
-
   pub cut-chain : Chain (take o.end xs) (take o.last ms) 0 0 os o.start o.first
   cut-chain = chain-same xs (take o.end xs) ms (take o.last ms) 0 0 os o.start o.first h.front (sym (take-take o.start o.end xs start-end)) (sym (take-take o.first o.last ms first-last)) h.sound.start_within h.sound.first_within
 

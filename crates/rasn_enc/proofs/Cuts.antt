@@ -3,12 +3,9 @@ use Rattle.std.proofs.Common.{◌≡◌, ◌≤◌, ◌<◌, ◌+◌, ◌-◌, �
 use Rattle.std.proofs.lemmas.List.{append-nil, length-append, length-drop, take-append-le, take-append-drop, take-take, drop-append-le, drop_all, length-take-le, set_split}
 use Rattle.std.proofs.Math.Seq.{drop-cons, take-length}
 use Rattle.rasn_enc.specs.Marks.{ink, rendered, Rising}
-use Rattle.rasn_enc.specs.Cuts.{list_from, Sound, Cut}
+use Rattle.rasn_enc.specs.Cuts.{list_from, Cut}
 use Rattle.rasn_enc.specs.declared.ber.enc.marks.Mark.{Mark}
 use Rattle.rasn_enc.proofs.Renders.{rising-below, rising-front, rising-back, rising-append, rendered-append, rendered-more, drop-all}
-
-pub cut_start : (xs : List ℕ) (ms : List Mark) (start first m : ℕ) → Sound xs ms start first m → Cut xs ms start first m xs ms
-cut_start xs ms start first m h = record { front = refl; marks_front = refl; sound = h; rest = []; list = sym (append-nil (list_from xs ms start first)) }
 
 module _ (xs : List ℕ) (ms : List Mark) (start first m : ℕ) (ys : List ℕ) (ns : List Mark) (h : Cut xs ms start first m ys ns) where
   -- gathered octets, from place q on

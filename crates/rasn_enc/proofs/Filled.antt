@@ -59,20 +59,11 @@ module _ {F A : Type 0} (g : Filler F A) (f : F) (behind : FillsBehind g f) (tag
       let k = behind v w r ran in
       (k.0, k.1 ∙ (ap (λ o. o ++ k.0) begun ∙ simp append_assoc), k.1)
 
-  pub filled_there : (r : Result (Unit {0}) Unfilled) → FnOnceReturnsAtMut g f v r w → length xs + length (id_octets tag (tag_bit tag)) < length w.items
-  filled_there r ran =
-      let k = filled_items r ran in
-      let n = ap length k.1 in
-      omega (arith, n, length-append xs (id_octets tag (tag_bit tag) ++ 0 ∷ k.0), length-append (id_octets tag (tag_bit tag)) (0 ∷ k.0))
-
   pub filled_put : (q : Result (Unit {0}) Unfilled) (start : ℕ) (ys : List ℕ) → FnOnceReturnsAtMut g f v q w → q ≡ Ok tt → start ≡ length xs
       → ((zs l : List ℕ) → start ≡ length zs → w.items ≡ zs ++ (id_octets tag (tag_bit tag) ++ 0 ∷ l) → PutsPrim tag l zs ys) → PutsFilled g f tag xs ys
   filled_put q start ys ran e s h =
       let k = filled_items q ran in
       record { contents = k.0; fills = record { before = v; after = w; ran = subst (λ z. FnOnceReturnsAtMut g f v z w) e ran; is = k.2 }; puts = h xs k.0 s k.1 }
-
-  pub filled_cut : (r : Result (Unit {0}) Unfilled) → FnOnceReturnsAtMut g f v r w → take (length xs) w.items ≡ xs
-  filled_cut r ran = let k = filled_items r ran in front_at w.items xs _ (length xs) refl k.1
 
 -- The contents are moved up for a length of more octets.
 pub widened : (xs ys zs o : List ℕ) (place end more : ℕ) → place < end → end + more ≡ length xs → more + 1 ≡ length o → Moves xs ys (place + 1) end more

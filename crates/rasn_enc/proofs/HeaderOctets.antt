@@ -35,9 +35,6 @@ pub later_octet : (l more : List ℕ) (x y i : ℕ) → l ≡ x ∷ more → 0 <
 later_octet l more x y zero f h e = absurd (omega arith)
 later_octet l more x y (suc i) f h e = let k : suc i - 1 ≡ i = omega arith in rw f (rw k at e)
 
-pub later_within : (l more : List ℕ) (x i : ℕ) → l ≡ x ∷ more → 0 < i → i < length l → i - 1 < length more
-later_within l more x i f h k = let n = ap length f in omega (arith, n, h, k)
-
 pub octet_placed : (k j place n : ℕ) → place + 1 + j ≡ k → n / 256 ^ place % 256 ≡ get_or (digits 256 k n) j 0
 octet_placed k j place n e = let q : place + 1 - 1 ≡ place = omega arith in sym (rw (e, q) at (octet_more j (place + 1) n (omega arith)))
 

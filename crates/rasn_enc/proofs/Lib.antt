@@ -6,7 +6,6 @@ pub mod Segments
 pub mod Texts
 pub mod Renders
 pub mod HeaderOctets
-pub mod Few
 pub mod Cuts
 pub mod Gathers
 pub mod Chains

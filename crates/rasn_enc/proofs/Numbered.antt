@@ -18,7 +18,6 @@ use Rattle.rasn_enc.specs.View.{View}
 use Rattle.rasn_enc.specs.Primitives.{Appends, TellsOutOfMemory}
 use Rattle.rasn_enc.specs.Filled.{Filler, AppendsFilled}
 use Rattle.rasn_enc.specs.Wrote.{Wrote, MayRefuse}
-use Rattle.rasn_enc.specs.Refusals.{RefusesValue}
 use Rattle.rasn_enc.specs.ObjectIdentifiers.{HasOctets, IsFirst, IsSubidentifier, AppendsOne, AppendsArcs, AppendsContents, RefusesArcs}
 use Rattle.rasn_enc.proofs.Leaves.{wrote_one, definite_begins}
 use Rattle.rasn_enc.proofs.Spellings.{groups_spell}
@@ -42,10 +41,6 @@ named_wrote result range known tag n z v w e k h c = on_ok_weaker result (λ a. 
         let f = r.is.0 in
         let g : z ≡ signed l = cc in
         record { is = (ap number (e ∙ g), r.is.1, subst (Contains known) (e ∙ g) k); octets = r.octets; shortest = r.shortest }
-
--- Nothing bounds it.
-pub named_refused : {R : Type 0} (result : Result R EncodeError) (n : ℤ) (v : View) → IfErr result (λ e. RefusesValue unconstrained n v.rule e ⊎ TellsOutOfMemory v.rule e) → IfErr result (TellsOutOfMemory v.rule)
-named_refused result n v h = IfErr-weaker result _ _ (λ e. elim [ inl r ↦ absurd (r.unmet tt) | inr m ↦ m ]) h
 
 pub null_wrote : {R E : Type 0} (result : Result R E) (tag : Tag) (v w : View) → OnOk result (Appends (Prim tag []) tag v w) → (c : Constraints) → OnOk result (Wrote (leaf null tag c) (number (pos 0)) v w)
 unfolding Bytes IsUntaggedOpen
@@ -165,9 +160,6 @@ arcs_next all rest after old mid new n k e a = record {
   };
   is = k.is ∙ (ap (λ l. k.before ++ l) e ∙ sym (append_assoc k.before (n ∷ []) after));
 }
-
-pub arcs_done : (all rest old new : List ℕ) → ArcsSoFar all rest old new → rest ≡ [] → AppendsArcs all old new
-arcs_done all rest old new k e = subst (λ ns. AppendsArcs ns old new) (sym (k.is ∙ (ap (λ l. k.before ++ l) e ∙ append-nil k.before))) k.appends
 
 pub rest_is : (l : List ℕ) → 1 ≤ length l → l ≡ get_or l 0 0 ∷ take (length l - 1) (drop 1 l)
 rest_is [] h = absurd (omega arith)

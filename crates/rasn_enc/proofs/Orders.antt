@@ -1,6 +1,7 @@
 -- The test of octets, and runs that don't fall.
-use Rattle.std.proofs.Common.{◌≡◌, ◌<◌, ◌⊎◌, ℕ, Bool, true, false, ◌||◌, ◌&&◌, List, [], ◌∷◌, inl, inr, arith, ltb, eqb, sym, MatchBool}
+use Rattle.std.proofs.Common.{◌≡◌, ◌<◌, ◌⊎◌, ℕ, Bool, true, false, ◌||◌, ◌&&◌, List, [], ◌∷◌, inl, inr, arith, ltb, eqb, sym}
 use Rattle.std.proofs.lemmas.Grind.{common_steps}
+use Rattle.rasn_types.specs.Truth.{Decides}
 use Rattle.rasn_types.specs.Bytes.{IsLess, DoNotFall}
 use Rattle.rasn_types.specs.Tags.{IsTagBelow}
 use Rattle.rasn_types.specs.declared.types.tag.Tag.{Tag}
@@ -38,21 +39,6 @@ one_back : (t : Tag) (after : List Tag) → DoNotFall IsTagBelow (t ∷ after) �
 one_back t [] k = ((λ h. h), tt)
 one_back t (u ∷ us) k = (k.0, k.1)
 
-pub same_start : (all : List Tag) → Same all all
-same_start all = record { on = λ k. k; back = λ k. k }
-
-pub same_more : (all rest after : List Tag) (t : Tag) → Same all rest → rest ≡ t ∷ after → (FallsAt t after → ⊥) → Same all after
-same_more all rest after t h e n = record {
-  on = λ k. h.on (rw e (one_on t after n k));
-  back = λ k. (one_back t after (rw e at (h.back k))).1;
-}
-
-pub falls : (all rest after : List Tag) (t : Tag) → Same all rest → rest ≡ t ∷ after → FallsAt t after → DoNotFall IsTagBelow all → ⊥
-falls all rest after t h e f k = (one_back t after (rw e at (h.back k))).0 f
-
-pub same_end : (all rest : List Tag) → Same all rest → rest ≡ [] → DoNotFall IsTagBelow all
-same_end all rest h e = h.on (rw e tt)
-
-pub fall_told : (b : Bool) (x y : List ℕ) → b ≡ octets_less x y → MatchBool b (IsLess x y) (IsLess x y → ⊥)
+pub fall_told : (b : Bool) (x y : List ℕ) → b ≡ octets_less x y → Decides b (IsLess x y)
 fall_told true x y e = less_is x y (sym e)
 fall_told false x y e = less_not x y (sym e)

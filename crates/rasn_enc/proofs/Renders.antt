@@ -1,7 +1,7 @@
 -- Rendering, taken apart.
 use Rattle.std.proofs.Common.{length-append, ◌≡◌, ◌≤◌, ◌+◌, ◌++◌, ℕ, [], ◌∷◌, List, drop, take, length, refl, ap, arith, ◌∙◌, sym, length-drop}
 use Rattle.std.proofs.lemmas.List.{take-append-le, take-append-drop, take-take, drop-append-le, length-take-le, append-nil, append_assoc}
-use Rattle.std.proofs.Math.Seq.{take-append_seam, drop-append_seam, take-length}
+use Rattle.std.proofs.Math.Seq.{take-length}
 use Rattle.rasn_enc.specs.Marks.{back}
 use Rattle.rasn_enc.specs.Marks.{ink, rendered, Rising, inks, closing}
 use Rattle.rasn_enc.specs.declared.ber.enc.marks.Mark.{Mark}
@@ -49,11 +49,6 @@ pub rising-closed : (r : Codec) (n a : ℕ) (ms : List Mark) → Rising a ms n �
 rising-closed Ber n a ms h = rw append-nil h
 rising-closed Cer n a ms h = rising-append a ms _ [] n h (omega arith)
 rising-closed Der n a ms h = rw append-nil h
-
--- a leaf behind all
-pub rendered-leaf : (xs c : List ℕ) (a : ℕ) (ms : List Mark) (m : Mark) → m.at ≡ length xs → Rising a ms (length xs) → rendered (xs ++ c) a (ms ++ m ∷ []) ≡ rendered xs a ms ++ (ink m ++ c)
-rendered-leaf xs c a ms m e h =
-    rendered-append (xs ++ c) a ms m [] (rw e h) ∙ rw (e, take-append_seam xs c, drop-append_seam xs c) refl
 
 pub drop-split : {X : Type 0} (a b : ℕ) (xs : List X) → a ≤ b → b ≤ length xs → drop a xs ≡ drop a (take b xs) ++ drop b xs
 drop-split a b xs h k =

@@ -30,7 +30,7 @@ use Rattle.std.proofs.lemmas.List.{append-nil, append_assoc}
 use Rattle.std.proofs.lemmas.Result.{on_ok_weaker, IfErr-weaker, err_from_is_err_and}
 use Rattle.std.specs.Result.{IsErrAnd}
 use Rattle.std.specs.Fn.{FnOnceReturnsAtMut}
-use Rattle.rasn_types.specs.Shapes.{Shape, seq, option, Tree, items, done, joined, Parts, part, Presence, optional, addition, default, absent}
+use Rattle.rasn_types.specs.Shapes.{Shape, seq, option, Tree, items, done, joined, Parts, part, Presence, optional, default, absent}
 use Rattle.rasn_types.specs.Shapes.Parts.{none}
 use Rattle.rasn_types.specs.Contents.{joined_lists}
 use Rattle.rasn_types.specs.Bytes.{Bytes, fields_of, WritesPart, PartsWritten, NoneUntaggedOpen, TagsOf, IsUntaggedOpen, Cons, Same}
@@ -268,29 +268,7 @@ optional_refused s t v e h = record {
   ];
 }
 
--- So is an extension addition.
-pub addition_wrote : {g : Option Tag} (s : Shape) (t : Tree) (v w : View) → Wrote (option g s) t v w → WrotePart addition s t v w
-unfolding Bytes IsUntaggedOpen
-addition_wrote s t v w a = record { octets = a.octets; defined = a.defined; tags = a.tags; heads = a.heads; tagged = a.tagged; appended = a.appended }
-
-pub addition_refused : {g : Option Tag} (s : Shape) (t : Tree) (v : View) (e : EncodeError) → MayRefuse (option g s) t v e → MayRefusePart addition s t v e
-unfolding Bytes IsUntaggedOpen
-addition_refused s t v e h = record {
-  why = elim h.why [
-    | inl m ↦ inl m
-    | inr (inl n) ↦ inr (inl (record { none = n.none }))
-    | inr (inr n) ↦ inr (inr (record { bare = n.bare; some = n.some; keeps = n.keeps }))
-  ];
-}
-
 -- The same of a closure that only puts more behind the last list.
 pub call_extends : {T : Type 0} (s : Shape) (t : Tree) {v w : View} (r : Result T EncodeError) → OnOk r (Wrote s t v w) → OnErr r (w ≡ v) → Extends v w
 call_extends {T} s t {v} {w} (Ok x) a e = record { octets = a.octets; tags = a.tags; appended = a.appended }
 call_extends {T} s t {v} {w} (Err x) a e = record { octets = []; tags = []; appended = e ∙ appended-nil v }
-
-pub extends_then : {u v w : View} → Extends u v → Extends v w → Extends u w
-extends_then {u} {v} {w} a b = record {
-  octets = a.octets ++ b.octets;
-  tags = a.tags ++ b.tags;
-  appended = b.appended ∙ (ap (λ x. appended x b.octets b.tags) a.appended ∙ appended-more u a.octets b.octets a.tags b.tags);
-}

@@ -59,9 +59,6 @@ pub record Rest (g : List ℕ) (ms : List Mark) (buffer : List ℕ) (k from to c
   pub counted : copies + to ≡ length buffer
   pub first : from ≡ front_run (drop k ms) (length g)
 
-inks-split : (ms : List Mark) (k : ℕ) → inks (take k ms) + inks (drop k ms) ≡ inks ms
-inks-split ms k = sym (inks-append (take k ms) (drop k ms)) ∙ ap inks (take-append-drop k ms)
-
 module _ (g : List ℕ) (ms : List Mark) (buffer : List ℕ) (k from to copies : ℕ) (m d : Mark) (inside : k < length ms) (read : m ≡ get_or ms k d) (h : Rest g ms buffer (suc k) from to copies) where
   pub turn-order : m.at ≤ from
   turn-order = rising-back 0 (take k ms) m [] from (rw (taken ms k m d inside read) at h.rising)

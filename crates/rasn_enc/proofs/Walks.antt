@@ -51,16 +51,16 @@ module _ (g : List ℕ) (ms : List Mark) (start want k at back n : ℕ) (m d : M
   lower-front : Rising start (take k ms) m.at
   lower-front = rising-front start (take k ms) m [] at (rw (taken ms k m d inside read) at h.lower)
 
-  pub walk-order : m.at ≤ at
+  walk-order : m.at ≤ at
   walk-order = rising-back start (take k ms) m [] at (rw (taken ms k m d inside read) at h.lower)
 
-  pub upper-here : Rising m.at (drop (suc k) ms) (length g)
+  upper-here : Rising m.at (drop (suc k) ms) (length g)
   upper-here = rising-lower m.at at (drop (suc k) ms) (length g) walk-order h.upper
 
   pub walk-within : at ≤ length g
   walk-within = rising-below at (drop (suc k) ms) (length g) h.upper
 
-  pub stop-run : back ≤ at - m.at → Rising start (take (suc k) ms) (at - back)
+  stop-run : back ≤ at - m.at → Rising start (take (suc k) ms) (at - back)
   stop-run b =
       let o = walk-order in
       rw (taken ms k m d inside read) (rising-stop start (take k ms) m (at - back) lower-front (omega (arith, b, o)))
@@ -70,7 +70,7 @@ module _ (g : List ℕ) (ms : List Mark) (start want k at back n : ℕ) (m d : M
       rising-stop a (n ∷ ns) m e h k = (h.0, rising-stop n.at ns m e h.1 k)
 
   -- a place in a head
-  pub stop-head : (i : ℕ) → i + (back - (at - m.at)) ≡ length (ink m) → at - m.at ≤ back → drop i (ink m) ++ rendered g m.at (drop (suc k) ms) ≡ drop n (rendered g start ms)
+  stop-head : (i : ℕ) → i + (back - (at - m.at)) ≡ length (ink m) → at - m.at ≤ back → drop i (ink m) ++ rendered g m.at (drop (suc k) ms) ≡ drop n (rendered g start ms)
   stop-head i e b =
       let o = walk-order in
       let l = run-length g (drop (suc k) ms) m.at at o h.upper in
@@ -79,7 +79,7 @@ module _ (g : List ℕ) (ms : List Mark) (start want k at back n : ℕ) (m d : M
       let q : rendered g start ms ≡ (rendered (take m.at g) start (take k ms) ++ take i (ink m)) ++ (drop i (ink m) ++ rendered g m.at (drop (suc k) ms)) = p ∙ ap (λ x. rendered (take m.at g) start (take k ms) ++ (x ++ rendered g m.at (drop (suc k) ms))) (sym (take-append-drop i (ink m))) ∙ rw (append_assoc, append_assoc) refl in
       suffix-is _ _ _ n q (omega (arith, e, b, o, l, c, t, length-append (drop i (ink m)) (rendered g m.at (drop (suc k) ms)), length-drop i (ink m)))
 
-  pub walk-more : (rest : ℕ) → rest + (at - m.at) + length (ink m) ≡ back → Walk g ms start want k m.at rest
+  walk-more : (rest : ℕ) → rest + (at - m.at) + length (ink m) ≡ back → Walk g ms start want k m.at rest
   walk-more rest e =
       let o = walk-order in
       let l = run-length g (drop (suc k) ms) m.at at o h.upper in
@@ -91,6 +91,31 @@ module _ (g : List ℕ) (ms : List Mark) (start want k at back n : ℕ) (m d : M
         upper = rw (left ms k m d inside read) (omega arith, upper-here);
         counted = rw (left ms k m d inside read, none) (omega (arith, e, o, l, c, length-append (ink m) (rendered g m.at (drop (suc k) ms))));
       }
+
+-- What is known at the mark that the walk comes to: the place stands in the run behind it, in its head, or further in front.
+pub record AtMark (g : List ℕ) (ms : List Mark) (start want k at back n : ℕ) (m : Mark) : Type 0 where
+  pub order : m.at ≤ at
+  pub upper : Rising m.at (drop k ms) (length g)
+  pub run : back ≤ at - m.at → rendered g (at - back) (drop k ms) ≡ drop n (rendered g start ms)
+  pub head : (i : ℕ) → i + (back - (at - m.at)) ≡ length (ink m) → at - m.at ≤ back → drop i (ink m) ++ rendered g m.at (drop k ms) ≡ drop n (rendered g start ms)
+  pub more : (rest : ℕ) → rest + (at - m.at) + length (ink m) ≡ back → Walk g ms start want (k - 1) m.at rest
+
+pub at_mark : (g : List ℕ) (ms : List Mark) (start total k at back n : ℕ) (d : Mark) → 0 < k → Walk g ms start (total - n) k at back → total ≡ length (rendered g start ms) → n ≤ total
+    → AtMark g ms start (total - n) k at back n (get_or ms (k - 1) d)
+at_mark g ms start total zero at back n d p h e w = absurd (omega arith)
+at_mark g ms start total (suc k) at back n d p h e w =
+    let b = h.below in
+    let inside : k < length ms = omega (arith, b) in
+    let all : total - n + n ≡ length (rendered g start ms) = omega (arith, e, w) in
+    let last : suc k - 1 ≡ k = omega arith in
+    let m = get_or ms k d in
+    rw last (record {
+      order = walk-order g ms start (total - n) k at back n m d inside refl h all;
+      upper = upper-here g ms start (total - n) k at back n m d inside refl h all;
+      run = λ r. place-run g ms start (total - n) (suc k) at back n h (omega (arith, r)) (stop-run g ms start (total - n) k at back n m d inside refl h all r) all;
+      head = stop-head g ms start (total - n) k at back n m d inside refl h all;
+      more = λ rest r. rw last (walk-more g ms start (total - n) k at back n m d inside refl h all rest r);
+    })
 
 pub walk-end : (g : List ℕ) (ms : List Mark) (start want k at back : ℕ) → Walk g ms start want k at back → k ≡ 0 → want ≤ length (rendered g start ms) → back + start ≤ at
 walk-end g ms start want k at back h e w =

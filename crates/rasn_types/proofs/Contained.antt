@@ -1,5 +1,6 @@
 -- A search in a list answers whether the number is in it.
-use Rattle.std.proofs.Common.{◌≡◌, ℕ, zero, suc, Bool, true, false, ◌||◌, nat_eq, List, [], ◌∷◌, Contains, MatchBool, refl, sym, arith}
+use Rattle.std.proofs.Common.{◌≡◌, ℕ, zero, suc, Bool, true, false, ◌||◌, nat_eq, List, [], ◌∷◌, Contains, refl, sym, arith}
+use Rattle.rasn_types.specs.Truth.{Decides}
 use Rattle.std.specs.List.{list_any}
 use Rattle.std.proofs.lemmas.Bool.{eqb-true, eq-eqb}
 
@@ -23,6 +24,6 @@ finds (x ∷ xs) n (suc k, i, e) = go (finds xs n (k, omega arith, e)) (nat_eq x
     go h true = refl
     go h false = h
 
-pub any_tells : (b : Bool) (xs : List ℕ) (n : ℕ) → b ≡ list_any (λ y. nat_eq y n) xs → MatchBool b (Contains xs n) (Contains xs n → ⊥)
+pub any_tells : (b : Bool) (xs : List ℕ) (n : ℕ) → b ≡ list_any (λ y. nat_eq y n) xs → Decides b (Contains xs n)
 any_tells true xs n e = is_found xs n (sym e)
 any_tells false xs n e = λ c. let k = finds xs n c in cc

@@ -25,3 +25,4 @@ pub mod ShortTexts
 pub mod TwosComplement
 pub mod Bits
 pub mod BitViews
+pub mod Truth

@@ -1,3 +1,4 @@
+pub mod Truth
 pub mod Tags
 pub mod Framing
 pub mod Tagging

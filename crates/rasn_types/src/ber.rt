@@ -5,4 +5,4 @@ mod identifier;
 pub mod rules;
 pub mod time;
 
-pub use identifier::Identifier;
+pub use identifier::{Identifier, is_always_constructed};

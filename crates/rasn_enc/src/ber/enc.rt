@@ -1,6 +1,7 @@
 //! The encoder: it writes values one behind the other.
-ghost use Rattle.std.specs.Prelude.{◌≡◌, ◌≤◌, ◌⊎◌, length, MatchBool, IfOk, IfErr, OnOk, OnErr, false, true};
+ghost use Rattle.std.specs.Prelude.{◌≡◌, ◌≤◌, ◌⊎◌, length, IfOk, IfErr, OnOk, OnErr, false, true};
 ghost use Rattle.std.specs.Fn.{FnOnceTakesAtMut};
+ghost use Rattle.rasn_types.specs.Truth.{Decides};
 ghost use Rattle.rasn_types.specs.Bytes.{Prim};
 ghost use Rattle.rasn_types.specs.Shapes.{Admits};
 ghost use Rattle.rasn_enc.specs.Refusals.{RefusesSize};
@@ -145,7 +146,7 @@ impl Encoder {
     fn neighbours_fall(&self, from: usize, middle: usize) -> bool
         requires order { from ≤ middle }
         requires within { middle ≤ length self.now.last.octets }
-        ensures { MatchBool result (FallsBetween from middle self.now.last.octets) (FallsBetween from middle self.now.last.octets → ⊥) }
+        ensures { Decides result (FallsBetween from middle self.now.last.octets) }
     {
         self.writer.neighbours_fall(from, middle)
     }

@@ -1,5 +1,6 @@
 //! Identifier octets as a value (X.690 8.1.2).
 ghost use Rattle.std.specs.Prelude.{◌≡◌, not};
+ghost use Rattle.rasn_types.specs.Tags.{tag_bit};
 
 use crate::types::{Class, Tag};
 use std::marker::Model;
@@ -62,6 +63,17 @@ impl Identifier {
         ensures { result ≡ not self.now.bit }
     {
         !self.is_constructed
+    }
+}
+
+/// Whether values of this tag are constructed whatever is written: EXTERNAL, SEQUENCE and SET (X.690 8.18, 8.9, 8.11).
+#[inline]
+pub fn is_always_constructed(tag: Tag) -> bool
+    ensures { result ≡ tag_bit tag }
+{
+    match tag.class {
+        Class::Universal => tag.value == 8 || tag.value == 16 || tag.value == 17,
+        _ => false,
     }
 }
 

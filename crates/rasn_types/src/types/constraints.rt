@@ -1,5 +1,6 @@
 //! Constraints on values and on sizes (X.680 51).
-ghost use Rattle.std.specs.Prelude.{◌≡◌, ◌^◌, ◌<◌, ◌≤◌, ◌≤ℤ◌, ◌<ℤ◌, length, MatchBool, ℤ, pos, neg_ℤ};
+ghost use Rattle.std.specs.Prelude.{◌≡◌, ◌^◌, ◌<◌, ◌≤◌, ◌≤ℤ◌, ◌<ℤ◌, length, ℤ, pos, neg_ℤ};
+ghost use Rattle.rasn_types.specs.Truth.{Decides};
 ghost use Rattle.rasn_types.specs.Contents.{signed};
 ghost use Rattle.rasn_types.specs.Shapes.{Admits, IsIn, IsWithin, constraint_of};
 ghost use Rattle.rasn_types.specs.Trees.{signed_range};
@@ -64,7 +65,7 @@ impl Constraints {
 
     /// Whether a size meets its bound, as each does where there is none or it is extensible.
     pub fn admits_size(&self, size: usize) -> bool
-        ensures { MatchBool result (Admits ◌≤◌ self.now.size size) (Admits ◌≤◌ self.now.size size → ⊥) }
+        ensures { Decides result (Admits ◌≤◌ self.now.size size) }
     {
         match self.size {
             None => true,
@@ -77,7 +78,7 @@ impl Constraints {
     #[inline(always)]
     pub fn admits_number(&self, octets: &[u8]) -> bool
         requires { 0 < length octets.now }
-        ensures { MatchBool result (Admits ◌≤ℤ◌ self.now.value (signed octets.now)) (Admits ◌≤ℤ◌ self.now.value (signed octets.now) → ⊥) }
+        ensures { Decides result (Admits ◌≤ℤ◌ self.now.value (signed octets.now)) }
     {
         match self.value {
             None => true,
@@ -101,7 +102,7 @@ impl Constraints {
 }
 
 fn is_size_within(bounded: Bounded<usize>, size: usize) -> bool
-    ensures { MatchBool result (IsWithin ◌≤◌ bounded size) (IsWithin ◌≤◌ bounded size → ⊥) }
+    ensures { Decides result (IsWithin ◌≤◌ bounded size) }
 {
     match bounded {
         Bounded::None => true,
@@ -114,7 +115,7 @@ fn is_size_within(bounded: Bounded<usize>, size: usize) -> bool
 
 fn is_number_within(bounded: Bounded<i128>, octets: &[u8]) -> bool
     requires { 0 < length octets.now }
-    ensures { MatchBool result (IsWithin ◌≤ℤ◌ bounded (signed octets.now)) (IsWithin ◌≤ℤ◌ bounded (signed octets.now) → ⊥) }
+    ensures { Decides result (IsWithin ◌≤ℤ◌ bounded (signed octets.now)) }
 {
     match bounded {
         Bounded::None => true,
@@ -126,7 +127,7 @@ fn is_number_within(bounded: Bounded<i128>, octets: &[u8]) -> bool
 }
 
 fn is_within(bounded: Bounded<i128>, number: i128) -> bool
-    ensures { MatchBool result (IsWithin ◌≤ℤ◌ bounded number) (IsWithin ◌≤ℤ◌ bounded number → ⊥) }
+    ensures { Decides result (IsWithin ◌≤ℤ◌ bounded number) }
 {
     match bounded {
         Bounded::None => true,
@@ -141,7 +142,7 @@ fn is_within(bounded: Bounded<i128>, number: i128) -> bool
 fn is_far_within(bounded: Bounded<i128>, octets: &[u8]) -> bool
     requires some { 0 < length octets.now }
     requires far { IsIn (signed_range 128) (signed octets.now) → ⊥ }
-    ensures { MatchBool result (IsWithin ◌≤ℤ◌ bounded (signed octets.now)) (IsWithin ◌≤ℤ◌ bounded (signed octets.now) → ⊥) }
+    ensures { Decides result (IsWithin ◌≤ℤ◌ bounded (signed octets.now)) }
 {
     if octets[0] < 128 {
         is_open_above(bounded)
@@ -151,7 +152,7 @@ fn is_far_within(bounded: Bounded<i128>, octets: &[u8]) -> bool
 }
 
 fn is_open_above(bounded: Bounded<i128>) -> bool
-    ensures { (z : ℤ) → pos (2 ^ 127) ≤ℤ z → MatchBool result (IsWithin ◌≤ℤ◌ bounded z) (IsWithin ◌≤ℤ◌ bounded z → ⊥) }
+    ensures { (z : ℤ) → pos (2 ^ 127) ≤ℤ z → Decides result (IsWithin ◌≤ℤ◌ bounded z) }
 {
     match bounded {
         Bounded::None => true,
@@ -161,7 +162,7 @@ fn is_open_above(bounded: Bounded<i128>) -> bool
 }
 
 fn is_open_below(bounded: Bounded<i128>) -> bool
-    ensures { (z : ℤ) → z <ℤ neg_ℤ (pos (2 ^ 127)) → MatchBool result (IsWithin ◌≤ℤ◌ bounded z) (IsWithin ◌≤ℤ◌ bounded z → ⊥) }
+    ensures { (z : ℤ) → z <ℤ neg_ℤ (pos (2 ^ 127)) → Decides result (IsWithin ◌≤ℤ◌ bounded z) }
 {
     match bounded {
         Bounded::None => true,

@@ -6,10 +6,9 @@ ghost use Rattle.rasn_enc.specs.Headers.{id_octets, length_octets};
 ghost use Rattle.rasn_enc.specs.declared.ber.enc.filled.Unfilled.TheVariants.{NoMemory};
 ghost use Rattle.rasn_enc.specs.Filled.{FillsBehind, RefusesToFill, PutsPrim, PutsFilled};
 
-use super::headers::{
-    identifier_len, is_always_constructed, length_len, length_octet, write_identifier, write_length,
-};
+use super::headers::{identifier_len, length_len, length_octet, write_identifier, write_length};
 use super::rendering::{grow, move_up};
+use rasn_types::ber::is_always_constructed;
 use rasn_types::types::Tag;
 use std::alloc::AllocError;
 

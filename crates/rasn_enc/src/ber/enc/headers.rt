@@ -155,13 +155,3 @@ pub fn length_octet(count: usize, i: usize) -> u8
         octet_at(count, count_octets(count) - i)
     }
 }
-
-/// Whether the identifier of a tag has the constructed bit whatever is written.
-pub fn is_always_constructed(tag: Tag) -> bool
-    ensures { result ≡ tag_bit tag }
-{
-    match tag.class {
-        Class::Universal => tag.value == 8 || tag.value == 16 || tag.value == 17,
-        _ => false,
-    }
-}

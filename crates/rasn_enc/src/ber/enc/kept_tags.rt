@@ -1,5 +1,6 @@
 //! The tags that a list keeps, where it does.
 ghost use Rattle.std.specs.Prelude.{◌≡◌, ◌++◌, ◌∷◌, [], take, option_map, MatchBool, OnOk};
+ghost use Rattle.rasn_types.specs.Truth.{Decides};
 ghost use Rattle.rasn_types.specs.Tags.{IsTagBelow};
 ghost use Rattle.rasn_types.specs.Bytes.{DoNotFall};
 ghost use Rattle.rasn_enc.specs.Lists.{tags_of, HasRoom};
@@ -54,7 +55,7 @@ pub fn tags_fall(tags: &[Tag]) -> bool
 
 /// Whether the tag that follows is below this one.
 fn falls_at(tag: Tag, after: &[Tag]) -> bool
-    ensures { MatchBool result (FallsAt tag after.now) (FallsAt tag after.now → ⊥) }
+    ensures { Decides result (FallsAt tag after.now) }
 {
     match after {
         [next, ..] => *next < tag,

@@ -4,6 +4,7 @@
 //! aren't in it: marks tell what stands between the gathered octets. They are put in once, from the back, when the output is asked for.
 ghost use Rattle.std.specs.Prelude.{ℕ, List, ◌≡◌, ◌<◌, ◌≤◌, ◌-◌, [], ◌⊎◌, length, MatchBool, take, drop, IfOk, IfErr, OnOk, OnErr, false};
 ghost use Rattle.std.specs.Fn.{FnOnceTakesAtMut};
+ghost use Rattle.rasn_types.specs.Truth.{Decides};
 ghost use Rattle.rasn_types.specs.Bytes.{Prim, Cons, DoNotFall};
 ghost use Rattle.rasn_types.specs.declared.types.tag.Tag.{Tag};
 ghost use Rattle.rasn_types.specs.Tags.{IsTagBelow};
@@ -361,7 +362,7 @@ impl Writer {
     pub fn neighbours_fall(&self, from: usize, middle: usize) -> bool
         requires order { from ≤ middle }
         requires within { middle ≤ length self.now.last.octets }
-        ensures { MatchBool result (FallsBetween from middle self.now.last.octets) (FallsBetween from middle self.now.last.octets → ⊥) }
+        ensures { Decides result (FallsBetween from middle self.now.last.octets) }
     {
         self.is_less_at(from, middle)
     }

@@ -6,9 +6,9 @@ ghost use Rattle.rasn_de.specs.Views.{Gives};
 
 use crate::ber::de::parser::Fault;
 use crate::ber::rules::{allows_indefinite, is_der};
-use rasn_types::ber::Identifier;
+use rasn_types::ber::{Identifier, is_always_constructed};
 use rasn_types::error::DerDecodeErrorKind;
-use rasn_types::types::{Class, Codec, Tag};
+use rasn_types::types::{Codec, Tag};
 
 /// How headers may be spelled.
 #[derive(Clone, Copy, Debug)]
@@ -101,15 +101,5 @@ fn check_tag(wanted: Tag, tag: Tag) -> Result<(), Fault>
             expected: wanted,
             actual: tag,
         })
-    }
-}
-
-/// Whether values of this tag are constructed whatever is written: EXTERNAL, SEQUENCE and SET.
-fn is_always_constructed(tag: Tag) -> bool
-    ensures { result ≡ tag_bit tag }
-{
-    match tag.class {
-        Class::Universal => tag.value == 8 || tag.value == 16 || tag.value == 17,
-        _ => false,
     }
 }

@@ -7,7 +7,7 @@ use Rattle.rasn_types.proofs.types.twos_complement.shortest.Goals.{then-loop-sta
 
 pub loop-start-preserved : goal.loop-start-preserved
 loop-start-preserved c =
-    let r : RepeatsSign (get_or c.args.octets.now c.loop-start.start 0) (get_or c.args.octets.now (c.loop-start.start + 1) 0) = c.if-repeats_sign.ensures.0 refl in
+    let r : RepeatsSign (get_or c.args.octets.now c.loop-start.start 0) (get_or c.args.octets.now (c.loop-start.start + 1) 0) = c.if-repeats_sign.ensures in
     (c.loop-start-test.true, rw add-one (one_dropped c.loop-start.start c.args.octets.now (omega arith) c.type_inv.octets (rw add-one at r) ∙ c.loop-start.invariant.1))
 
 pub returns-clause-short : goal.returns-clause-short
@@ -16,7 +16,7 @@ returns-clause-short c =
     omega (arith, length-drop c.loop-start.start c.args.octets.now) in
     let short : IsShortestInteger (drop c.loop-start.start c.args.octets.now) =
     short_behind c.loop-start.start c.args.octets.now c.loop-start.invariant.0 (elim c.loop-start-test.branch [
-      | then-loop-start-test+else-repeats_sign w ↦ (λ h r. let e = w.if-repeats_sign.ensures.1 (rw (← add-one c.loop-start.start) at r) in cc)
+      | then-loop-start-test+else-repeats_sign w ↦ (λ h r. w.if-repeats_sign.ensures (rw (← add-one c.loop-start.start) at r))
       | else-loop-start-test w ↦ (λ h r. absurd (omega arith))
     ]) in
     rw (take_all (length c.args.octets.now - c.loop-start.start) (drop c.loop-start.start c.args.octets.now) k) short

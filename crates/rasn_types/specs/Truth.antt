@@ -1,0 +1,6 @@
+-- Tests that decide a fact.
+use Rattle.std.specs.Prelude.{Bool, MatchBool}
+
+-- b is true exactly where P holds.
+abbrev pub Decides : Bool → Type 0 → Type 0
+Decides b P = MatchBool b P (P → ⊥)
