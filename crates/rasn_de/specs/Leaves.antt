@@ -1,5 +1,5 @@
 -- Values that hold no others, read from lists: the value and what follows it, or the first refusal and what is left.
-use Rattle.std.specs.Prelude.{◌≡◌, ◌≢◌, ◌⊎◌, ℕ, ℤ, ◌≤ℤ◌, Bool, true, false, nat_eq, if◌then◌else◌, List, [], ◌∷◌, length, Result, Ok, Err}
+use Rattle.std.specs.Prelude.{◌≡◌, ◌≢◌, ◌⊎◌, ℕ, ℤ, ◌≤ℤ◌, Bool, true, false, nat_eq, IfErr, if◌then◌else◌, List, [], ◌∷◌, length, Result, Ok, Err}
 use Rattle.rasn_types.specs.declared.types.tag.Tag.{Tag}
 use Rattle.rasn_types.specs.declared.types.rules.Codec.{Codec}
 use Rattle.rasn_types.specs.declared.types.rules.Codec.TheVariants.{Ber, Cer, Der}
@@ -109,6 +109,7 @@ GaveNumber see grows width range tag bounds old result new = GaveInteger see (gr
 abbrev pub IsBeyond : Readings ℤ → List ℕ → Type 0
 IsBeyond Is rest = (z : ℤ) × (bound : Bounded ℤ) × Is (Err (out_of_bound z bound, rest))
 
--- Memory is taken for a number of a type whose numbers may take it, and for the error of a number out of its bound.
-abbrev pub TakesMemory : Bool → ℕ → Interval → Tag → Constraints → State → State → Type 0
-TakesMemory grows width range tag bounds old new = (grows ≡ true) ⊎ IsBeyond (IntegerAt width range bounds old.rule tag old.rest) new.rest
+-- Memory may be wanting for a number of a type whose numbers may grow, and for the error of a number out of its bound, and for nothing else.
+abbrev pub MayRunOut : {X : Type 0} → Bool → ℕ → Interval → Tag → Constraints → State → Result X DecodeError → State → Type 0
+MayRunOut grows width range tag bounds old result new =
+    IfErr result (λ e. IsOutOfMemory e.kind → (grows ≡ true) ⊎ IsBeyond (IntegerAt width range bounds old.rule tag old.rest) new.rest)

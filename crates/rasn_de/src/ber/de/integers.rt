@@ -1,11 +1,10 @@
 //! INTEGER (X.690 8.3).
-ghost use Rattle.std.specs.Prelude.{◌≡◌, IfErr};
+ghost use Rattle.std.specs.Prelude.{◌≡◌};
 ghost use Rattle.rasn_types.specs.Shapes.{leaf, integer, number};
 ghost use Rattle.rasn_types.specs.Contents.{signed};
-ghost use Rattle.rasn_types.specs.Errors.{IsOutOfMemory};
 ghost use Rattle.rasn_de.specs.Causes.{TellsCause, out_of_bound};
 ghost use Rattle.rasn_de.specs.Decodes.{Decodes};
-ghost use Rattle.rasn_de.specs.Leaves.{GaveNumber, TakesMemory, ChecksNumber};
+ghost use Rattle.rasn_de.specs.Leaves.{GaveNumber, MayRunOut, ChecksNumber};
 
 use crate::ber::de::Decoder;
 use crate::ber::de::parser::Fault;
@@ -39,7 +38,7 @@ impl<'input> Decoder<'input> {
     ) -> Result<I, DecodeError>
         ensures reads { Decodes (leaf (integer I.range) tag constraints.now) (λ v. number (I.number v)) self.old result self.new }
         ensures refused { GaveNumber I.number I.grows I.WIDTH I.range tag constraints.now self.old result self.new }
-        ensures memory { IfErr result (λ e. IsOutOfMemory e.kind → TakesMemory I.grows I.WIDTH I.range tag constraints.now self.old self.new) }
+        ensures memory { MayRunOut I.grows I.WIDTH I.range tag constraints.now self.old result self.new }
     {
         let rules = self.codec();
         let contents = self.contents(tag)?;
