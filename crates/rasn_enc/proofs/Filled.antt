@@ -49,9 +49,6 @@ contents_at id octets xs l start s e =
     let q : octets ≡ (xs ++ (id ++ 0 ∷ [])) ++ l = e ∙ simp append_assoc in
     ap (drop (start + length id + 1)) q ∙ drop_at (xs ++ (id ++ 0 ∷ [])) l (start + length id + 1) (omega (arith, s, length-append xs (id ++ 0 ∷ []), length-append id (0 ∷ [])))
 
-pub front_at : (octets xs l : List ℕ) (start : ℕ) → start ≡ length xs → octets ≡ xs ++ l → take start octets ≡ xs
-front_at octets xs l start s e = ap₂ take s e ∙ take-append_seam xs l
-
 -- The closure has filled, and the length is written.
 module _ {F A : Type 0} (g : Filler F A) (f : F) (behind : FillsBehind g f) (tag : Tag) (xs : List ℕ) (v w : Vec ℕ A) (begun : v.items ≡ xs ++ (id_octets tag (tag_bit tag) ++ 0 ∷ [])) where
   filled_items : (r : Result (Unit {0}) Unfilled) → FnOnceReturnsAtMut g f v r w → (l : List ℕ) × (w.items ≡ xs ++ (id_octets tag (tag_bit tag) ++ 0 ∷ l)) × (w.items ≡ v.items ++ l)

@@ -5,7 +5,7 @@ use Rattle.rasn_types.specs.Truth.{Decides}
 use Rattle.rasn_types.specs.Bytes.{IsLess, DoNotFall}
 use Rattle.rasn_types.specs.Tags.{IsTagBelow}
 use Rattle.rasn_types.specs.declared.types.tag.Tag.{Tag}
-use Rattle.rasn_enc.specs.Order.{octets_less, FallsAt}
+use Rattle.rasn_enc.specs.Order.{octets_less}
 
 step_less : (x y : ℕ) (b : Bool) → ltb x y || (eqb x y && b) ≡ true → (x < y) ⊎ ((x ≡ y) × (b ≡ true))
 step_less x y true e = grind (arith, common_steps)
@@ -30,14 +30,6 @@ less_not (x ∷ xs) (y ∷ ys) e (inr h) = less_not xs ys ((step_not x y (octets
 pub record Same (all rest : List Tag) : Type 0 where
   pub on : DoNotFall IsTagBelow rest → DoNotFall IsTagBelow all
   pub back : DoNotFall IsTagBelow all → DoNotFall IsTagBelow rest
-
-one_on : (t : Tag) (after : List Tag) → (FallsAt t after → ⊥) → DoNotFall IsTagBelow after → DoNotFall IsTagBelow (t ∷ after)
-one_on t [] n k = tt
-one_on t (u ∷ us) n k = (n, k)
-
-one_back : (t : Tag) (after : List Tag) → DoNotFall IsTagBelow (t ∷ after) → (FallsAt t after → ⊥) × DoNotFall IsTagBelow after
-one_back t [] k = ((λ h. h), tt)
-one_back t (u ∷ us) k = (k.0, k.1)
 
 pub fall_told : (b : Bool) (x y : List ℕ) → b ≡ octets_less x y → Decides b (IsLess x y)
 fall_told true x y e = less_is x y (sym e)

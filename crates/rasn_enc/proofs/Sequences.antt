@@ -37,7 +37,7 @@ use Rattle.rasn_types.specs.Bytes.{Bytes, fields_of, WritesPart, PartsWritten, N
 use Rattle.rasn_types.specs.declared.types.rules.Codec.{Codec}
 use Rattle.rasn_types.specs.declared.types.tag.Tag.{Tag}
 use Rattle.rasn_types.specs.declared.error.encode.EncodeError.{EncodeError}
-use Rattle.rasn_enc.specs.View.{View, LeavesOthers, Extends, appended, opened}
+use Rattle.rasn_enc.specs.View.{View, LeavesOthers, appended, opened}
 use Rattle.rasn_enc.specs.Primitives.{TellsOutOfMemory}
 use Rattle.rasn_types.specs.Errors.{IsEncodeOutOfMemory}
 use Rattle.rasn_enc.specs.Wrote.{Wrote, WrotePart, MayRefuse, MayRefusePart, UndefinedPart, BarePart}
@@ -267,8 +267,3 @@ optional_refused s t v e h = record {
     | inr (inr n) ↦ inr (inr (record { bare = n.bare; some = n.some; keeps = n.keeps }))
   ];
 }
-
--- The same of a closure that only puts more behind the last list.
-pub call_extends : {T : Type 0} (s : Shape) (t : Tree) {v w : View} (r : Result T EncodeError) → OnOk r (Wrote s t v w) → OnErr r (w ≡ v) → Extends v w
-call_extends {T} s t {v} {w} (Ok x) a e = record { octets = a.octets; tags = a.tags; appended = a.appended }
-call_extends {T} s t {v} {w} (Err x) a e = record { octets = []; tags = []; appended = e ∙ appended-nil v }
