@@ -25,4 +25,3 @@ pub mod ShortTexts
 pub mod TwosComplement
 pub mod Bits
 pub mod BitViews
-pub mod Truth

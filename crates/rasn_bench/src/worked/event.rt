@@ -1,10 +1,11 @@
 //! `Event ::= SET { time Time, level [0] IMPLICIT INTEGER (0..255) DEFAULT 7, confirmed [1] IMPLICIT BOOLEAN OPTIONAL }`
-ghost use Rattle.std.specs.Prelude.{◌≡◌, IfOk, MatchBool, map};
+ghost use Rattle.std.specs.Prelude.{◌≡◌, IfOk, map};
 ghost use Rattle.rasn_types.specs.Shapes.{IsFirst};
 ghost use Rattle.rasn_de.specs.Sets.{MakesSet};
 ghost use Rattle.rasn_enc.specs.Parts.{WritesParts};
 ghost use Rattle.rasn_bench.specs.Choices.{time_shape};
 ghost use Rattle.rasn_bench.specs.Events.{event_parts, event_tree, component_tree};
+ghost use Rattle.rasn_types.specs.Truth.{Decides};
 
 use crate::worked::Time;
 use rasn::de::{DecodeChoice, Error};
@@ -120,7 +121,7 @@ fn usual() -> Result<u8, AllocError>
 
 /// Whether values of a `Time` may begin with the tag.
 fn is_time(tag: Tag) -> bool
-    ensures { MatchBool result (IsFirst time_shape tag) (IsFirst time_shape tag → ⊥) }
+    ensures { Decides result (IsFirst time_shape tag) }
 {
     tag == UtcTime::TAG || tag == GeneralizedTime::TAG
 }

@@ -1,5 +1,5 @@
 //! The reader of BER, CER and DER.
-ghost use Rattle.std.specs.Prelude.{◌≡◌, ◌+◌, length, IfErr, MatchBool, Result};
+ghost use Rattle.std.specs.Prelude.{◌≡◌, ◌+◌, length, IfErr, Result};
 ghost use Rattle.rasn_types.specs.declared.types.rules.Codec.{Codec};
 ghost use Rattle.rasn_types.specs.Framing.{AreOctets};
 ghost use Rattle.rasn_types.specs.Tags.{IsStrict};
@@ -10,6 +10,7 @@ ghost use Rattle.rasn_de.specs.Taking.{Takes, Peeks, IsNextTag};
 ghost use Rattle.rasn_de.specs.Texts.{IsWithinSize};
 ghost use Rattle.rasn_types.specs.declared.types.tag.Tag.{Tag};
 ghost use Rattle.rasn_types.specs.Errors.{IsOutOfMemory};
+ghost use Rattle.rasn_types.specs.Truth.{Decides};
 
 use crate::ber::de::parser::headers::{Expected, Spelling};
 use crate::ber::de::parser::{Fault, Value, read_identifier, read_value};
@@ -168,7 +169,7 @@ impl<'input> Decoder<'input> {
 
     /// Whether only what the writer gives is read.
     fn is_strict(&self) -> bool
-        ensures { MatchBool result (IsStrict self.now.rule) (IsStrict self.now.rule → ⊥) }
+        ensures { Decides result (IsStrict self.now.rule) }
     {
         is_der(self.rules)
     }

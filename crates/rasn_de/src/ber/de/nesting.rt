@@ -1,10 +1,11 @@
 //! Values that hold others: how they are opened and closed (X.690 8.1).
-ghost use Rattle.std.specs.Prelude.{◌≡◌, ◌≢◌, MatchBool};
+ghost use Rattle.std.specs.Prelude.{◌≡◌, ◌≢◌};
 ghost use Rattle.std.specs.Fn.{FnOnceReturnsAtMut};
 ghost use Rattle.rasn_types.specs.Framing.{indefinite, AreOctets, Ended};
 ghost use Rattle.rasn_de.specs.Inside.{sequence_header, list_header, prefix_header, asks, Opens, Closes, is_open, KeepsSettings, ReadInside};
 ghost use Rattle.rasn_de.specs.State.{IsEnd};
 ghost use Rattle.rasn_de.specs.Views.{extent};
+ghost use Rattle.rasn_types.specs.Truth.{Decides};
 
 use crate::ber::de::Decoder;
 use crate::ber::de::parser::headers::Expected;
@@ -127,7 +128,7 @@ impl<'input> Decoder<'input> {
 
     /// Whether the contents end: nothing is left, or end-of-contents octets come where they may.
     pub(super) fn has_ended(&self) -> bool
-        ensures { MatchBool result (Ended self.now.closing self.now.rest) (Ended self.now.closing self.now.rest → ⊥) }
+        ensures { Decides result (Ended self.now.closing self.now.rest) }
     {
         has_ended(self.closing, self.rest)
     }

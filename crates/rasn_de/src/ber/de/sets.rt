@@ -1,8 +1,9 @@
 //! SET (X.690 8.11).
-ghost use Rattle.std.specs.Prelude.{MatchBool, Vec};
+ghost use Rattle.std.specs.Prelude.{Vec};
 ghost use Rattle.std.specs.Global.{Global};
 ghost use Rattle.rasn_de.specs.Decodes.{Decodes};
 ghost use Rattle.rasn_de.specs.Sets.{IsBelowLast, Looks, ReadComponents, GathersSet, ReadSet, DecodesSet};
+ghost use Rattle.rasn_types.specs.Truth.{Decides};
 
 use crate::ber::de::Decoder;
 use crate::ber::de::nesting::ConstructedHeader;
@@ -13,7 +14,7 @@ use rasn_types::types::{Constructed, Tag};
 
 /// Whether a tag is below the last one (X.680 8.6).
 fn is_below_last(tag: Tag, last: Option<Tag>) -> bool
-    ensures { MatchBool result (IsBelowLast tag last) (IsBelowLast tag last → ⊥) }
+    ensures { Decides result (IsBelowLast tag last) }
 {
     match last {
         Some(last) => tag < last,

@@ -1,9 +1,10 @@
 //! SET OF (X.690 8.12).
-ghost use Rattle.std.specs.Prelude.{◌≡◌, ◌++◌, MatchBool};
+ghost use Rattle.std.specs.Prelude.{◌≡◌, ◌++◌};
 ghost use Rattle.rasn_types.specs.Order.{IsLess};
 ghost use Rattle.rasn_de.specs.Decodes.{Decodes};
 ghost use Rattle.rasn_de.specs.Lists.{ReadEachInOrder, ReadSetOf, DecodesSetOf};
 ghost use Rattle.rasn_de.specs.State.{IsEnd};
+ghost use Rattle.rasn_types.specs.Truth.{Decides};
 
 use crate::ber::de::nesting::ConstructedHeader;
 use crate::ber::de::parser::Fault;
@@ -15,7 +16,7 @@ use rasn_types::types::{Constraints, SetOf, Tag};
 /// Whether octets are less than others, a proper beginning being less (X.690 11.6).
 #[tactic(auto, using(crate::proofs::Falling::less_told))]
 fn is_less(octets: &[u8], others: &[u8]) -> bool
-    ensures { MatchBool result (IsLess octets.now others.now) (IsLess octets.now others.now → ⊥) }
+    ensures { Decides result (IsLess octets.now others.now) }
 {
     octets < others
 }

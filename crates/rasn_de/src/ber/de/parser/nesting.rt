@@ -1,14 +1,15 @@
 //! Values that hold others: what they hold, and how they are closed (X.690 8.1.5).
-ghost use Rattle.std.specs.Prelude.{◌≡◌, MatchBool};
+ghost use Rattle.std.specs.Prelude.{◌≡◌};
 ghost use Rattle.rasn_types.specs.Framing.{Ended};
 ghost use Rattle.rasn_de.specs.Strings.{closed_at, finished, inner};
 ghost use Rattle.rasn_de.specs.Views.{Gives, extent};
+ghost use Rattle.rasn_types.specs.Truth.{Decides};
 
 use crate::ber::de::parser::{Contents, Fault};
 
 /// Whether contents end: nothing is left, or end-of-contents octets come where they may.
 pub(crate) fn has_ended(closing: bool, input: &[u8]) -> bool
-    ensures { MatchBool result (Ended closing input.now) (Ended closing input.now → ⊥) }
+    ensures { Decides result (Ended closing input.now) }
 {
     match input {
         [] => true,
