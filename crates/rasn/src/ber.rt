@@ -40,7 +40,7 @@ pub fn decode_with_remainder<T: Decode>(
     entry::decode_with_remainder(alloc, input, DecoderOptions::ber())
 }
 
-/// The value's octets. It is refused for running out of memory, and where the value has no octets.
+/// The value's octets. Fails if an allocation fails or the value has no encoding under these rules.
 pub fn encode<T: Encode>(alloc: Global, value: &T) -> Result<Vec<u8>, EncodeError>
     ensures ok { IfOk result (λ octets. Bytes Ber T.shape (T.tree value.now) octets.items) }
     ensures refused { IfErr result (λ error. IsEncodeOutOfMemory error.kind ⊎ Undefined Ber T.shape (T.tree value.now)) }

@@ -47,7 +47,7 @@ bit_string_at rule depth tag l = string_at rule (segment_bits rule) (in_universa
 abbrev pub bits_tree : List Bool → Tree
 bits_tree bs = bits bs
 
--- Why there are no bits, and what is left. The reading refuses them, or memory is wanting while segments are gathered: all of the input is
+-- Why there are no bits, and what is left. The reading refuses them, or an allocation fails while segments are gathered: all of the input is
 -- left. Memory is wanting for the bits of a primitive value, which are in order: what follows the value is left.
 pub data LacksBits (rule : Codec) (depth : ℕ) (tag : Tag) (l : List ℕ) : Fault → List ℕ → Type 0 where
   refused : (f : Fault) → f ≢ OutOfMemory → bit_string_at rule depth tag l ≡ Err f → LacksBits rule depth tag l f l
@@ -77,7 +77,7 @@ abbrev pub RanOutCopyingBits : Tag → State → DecodeError → State → Type 
 RanOutCopyingBits tag old e new = IsOutOfMemory e.kind × (e.codec ≡ old.rule) × (new ≡ at old new.rest) × IsPrimitive old.rule tag old.rest
     × (bs : List Bool) × (bit_string_at old.rule old.depth tag old.rest ≡ Ok (bs, new.rest))
 
--- A call answers what the reading is, or memory is wanting.
+-- A call answers what the reading is, or an allocation fails.
 abbrev pub GaveBits : Tag → Constraints → State → Result (List Bool) DecodeError → State → Type 0
 GaveBits tag bounds old (Ok bs) new = Gave (λ s. s) (BitsAt bounds old.rule old.depth tag old.rest) old (Ok bs) new
 GaveBits tag bounds old (Err e) new =

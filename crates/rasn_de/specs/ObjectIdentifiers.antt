@@ -53,7 +53,7 @@ abbrev pub FindsArcs : Codec → List ℕ → Result (List ℕ) Fault → Type 0
 FindsArcs rule c (Ok arcs) = ReadsArcs rule c arcs
 FindsArcs rule c (Err f) = f ≢ OutOfMemory → StopsAt rule c f
 
--- What a decoder, whose rule errors name, answers of contents that are read by a rule; or memory is wanting.
+-- What a decoder, whose rule errors name, answers of contents that are read by a rule; or an allocation fails.
 abbrev pub GaveArcs : Codec → Codec → List ℕ → Result (List ℕ) DecodeError → Type 0
 GaveArcs named rule c (Ok arcs) = ReadsArcs rule c arcs
 GaveArcs named rule c (Err e) = (e.codec ≡ named) × (IsOutOfMemory e.kind ⊎ ((f : Fault) × StopsAt rule c f × (e.kind ≡ error_kind f)))
@@ -63,7 +63,7 @@ abbrev pub HoldsArcs : List ℕ → Result (List ℕ) DecodeError → Type 0
 HoldsArcs c (Ok arcs) = IsObjectIdentifier c arcs × ((others : List ℕ) → IsObjectIdentifier c others → others ≡ arcs)
 HoldsArcs c (Err e) = (IsOutOfMemory e.kind → ⊥) → (arcs : List ℕ) → IsObjectIdentifier c arcs → ⊥
 
--- A call answers what the reading is; or memory is wanting, and the value was taken.
+-- A call answers what the reading is; or an allocation fails, and the value was taken.
 abbrev pub GaveObjectIdentifier : Tag → State → Result (List ℕ) DecodeError → State → Type 0
 GaveObjectIdentifier tag old (Ok arcs) new = Gave (λ o. o) (ObjectIdentifierAt old.rule tag old.rest) old (Ok arcs) new
 GaveObjectIdentifier tag old (Err e) new =

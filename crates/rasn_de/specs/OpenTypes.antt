@@ -39,7 +39,7 @@ abbrev pub as_lists : Result (Bor (List ℕ) × Bor (List ℕ)) Fault → Result
 as_lists (Ok p) = Ok (p.0.now, p.1.now)
 as_lists (Err e) = Err e
 
--- A call answers the octets, or the first fault, or memory is wanting for the copy. A refusal takes nothing.
+-- A call answers the octets, or the first fault, or an allocation fails for the copy. A refusal takes nothing.
 abbrev pub GaveOpen : Tag → State → Result Any DecodeError → State → Type 0
 GaveOpen tag old (Ok a) new = OpenAt old.rule (looked_for tag) old.rest (Ok (a, new.rest)) × (new ≡ at old new.rest)
 GaveOpen tag old (Err e) new = ((IsOutOfMemory e.kind × (e.codec ≡ old.rule)) ⊎ ((fault : Fault) × OpenAt old.rule (looked_for tag) old.rest (Err fault) × ErrorOf fault old e)) × (new ≡ old)

@@ -86,14 +86,14 @@ abbrev pub RanOutCopying : Verdict → Tag → State → DecodeError → State �
 RanOutCopying Told tag old e new = IsOutOfMemory e.kind × (e.codec ≡ old.rule) × (new ≡ at old new.rest) × IsPrimitive old.rule tag old.rest
     × (p : List ℕ × List ℕ) × StringAt Told old.rule old.depth tag old.rest (Ok p) × (p.1 ≡ new.rest)
 
--- A call answers what the reading is, or memory is wanting.
+-- A call answers what the reading is, or an allocation fails.
 abbrev pub GaveString : {X : Type 0} → (X → List ℕ) → Verdict → Tag → State → Result X DecodeError → State → Type 0
 GaveString see Told tag old (Ok v) new = Gave see (StringAt Told old.rule old.depth tag old.rest) old (Ok v) new
 GaveString see Told tag old (Err e) new =
     RanOutGathering tag old e new ⊎ (RanOutCopying Told tag old e new
     ⊎ ((IsOutOfMemory e.kind → ⊥) × Refuses (StringAt Told old.rule old.depth tag old.rest) old e new))
 
--- A call answers what the reading is, or memory is wanting while segments are gathered. Octets of a primitive string are lent, so nothing is copied.
+-- A call answers what the reading is, or an allocation fails while segments are gathered. Octets of a primitive string are lent, so nothing is copied.
 abbrev pub GaveOctets : Tag → Constraints → State → Result (CowSlice ℕ Global) DecodeError → State → Type 0
 GaveOctets tag bounds old (Ok s) new =
     Gave cow_slice_items (StringAt (BySize bounds.size) old.rule old.depth tag old.rest) old (Ok s) new × IsLentAs old.rule tag old.rest s

@@ -25,7 +25,7 @@ pub trait Decode: AsnType {
     /// Reads a value with this outermost tag and these constraints in place of the type's own.
     ///
     /// # Errors
-    /// Where no such value comes next, and where memory is wanting.
+    /// Where no such value comes next; if an allocation fails.
     fn decode_with_tag_and_constraints(
         decoder: &mut Decoder<'_>,
         tag: Tag,

@@ -191,7 +191,7 @@ fn tells_foreign_octets(rt: HostRuntime) {
         &[(
             &[0x17, 0x02, 0x31, 0x0A],
             Codec::Ber,
-            "BER: no time in the octets 310A",
+            "BER: invalid time 310A",
         )],
     );
     assert_refusals_shown::<Integer>(
@@ -220,7 +220,7 @@ fn tells_names(rt: HostRuntime) {
         &rt,
         alloc,
         EncodeError { kind, codec },
-        "CER: components out of order",
+        "CER: not in ascending order",
     );
     let kind = EncodeErrorKind::SizeConstraintNotSatisfied {
         size: 3,

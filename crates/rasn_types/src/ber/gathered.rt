@@ -36,7 +36,7 @@ impl GatheredBits {
         }
     }
 
-    /// Puts the bits of octets behind the others, but the last `unused` ones. Where memory is wanting, nothing is put.
+    /// Puts the bits of octets behind the others, but the last `unused` ones. If an allocation fails, nothing is put.
     pub fn append(&mut self, octets: &[u8], unused: usize) -> Result<(), AllocError>
         requires few { unused < 8 }
         requires held { unused ≤ 8 * length octets.now }

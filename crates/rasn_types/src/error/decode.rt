@@ -161,13 +161,13 @@ pub enum BerDecodeErrorKind {
     #[error("tag {actual} instead of {expected}")]
     MismatchedTag { expected: Tag, actual: Tag },
     /// A SEQUENCE, SET or list without the constructed bit (X.690 8.9.1).
-    #[error("a primitive identifier of a constructed type")]
+    #[error("a primitive encoding of a constructed type")]
     InvalidConstructedIdentifier,
     /// Arcs that aren't an object identifier's.
-    #[error("no object identifier")]
+    #[error("invalid OBJECT IDENTIFIER")]
     InvalidObjectIdentifier,
     /// The text isn't of the time type.
-    #[error("no time in the octets {}", Hexadecimal(.octets))]
+    #[error("invalid time {}", Hexadecimal(.octets))]
     InvalidDate { octets: Vec<u8> },
 }
 
@@ -181,7 +181,7 @@ pub enum DerDecodeErrorKind {
     #[error("a tag number in more octets than it needs")]
     NonMinimalTagNumber,
     /// The constructed bit isn't the one that the type is written with (X.690 8.1.2.5).
-    #[error("another constructed bit than the type is written with")]
+    #[error("the wrong constructed bit for the type")]
     ConstructedBitMismatch,
     /// A length in more octets than it needs (X.690 10.1).
     #[error("a length in more octets than it needs")]
@@ -196,12 +196,12 @@ pub enum DerDecodeErrorKind {
     #[error("an unused bit is set")]
     NonzeroUnusedBits,
     /// A part that equals its default is there (X.690 11.5).
-    #[error("a part that equals its default is there")]
+    #[error("a component equals its DEFAULT value")]
     DefaultValuePresent,
     /// The tags of the components of a SET fall (X.690 10.3).
-    #[error("the components of a SET aren't in the order of their tags")]
+    #[error("the components of a SET aren't in ascending order of their tags")]
     SetComponentsOutOfOrder,
     /// The octets of the elements of a SET OF fall (X.690 11.6).
-    #[error("the elements of a SET OF aren't in the order of their octets")]
+    #[error("the elements of a SET OF aren't in ascending order")]
     SetOfOutOfOrder,
 }

@@ -64,12 +64,12 @@ pub enum CodecEncodeError {
 #[derive(Debug, PartialEq, Eq, Drop, Error)]
 pub enum BerEncodeErrorKind {
     /// The arcs aren't an object identifier's (X.690 8.19.4).
-    #[error("no object identifier: {oid:?}")]
+    #[error("invalid OBJECT IDENTIFIER: {oid:?}")]
     InvalidObjectIdentifier { oid: Vec<u32> },
     /// Open octets without a tag directly in a SET.
     #[error("an open type without a tag in a SET")]
     AnyInSet,
     /// The tags of a SET's components, or the octets of a SET OF's elements, fall (X.690 9.3, 10.3, 11.6).
-    #[error("components out of order")]
+    #[error("not in ascending order")]
     SetOutOfOrder,
 }

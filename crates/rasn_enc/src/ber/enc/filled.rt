@@ -32,7 +32,7 @@ pub trait Contents {
     /// The contents that it may write.
     ghost IsWritten: { Self → List ℕ → Type 0 };
 
-    /// Puts them behind octets, or some of them where memory is wanting.
+    /// Puts them behind octets, or some of them if an allocation fails.
     fn append(&self, octets: &mut Vec<u8>) -> Result<(), AllocError>
         ensures ok { OnOk result ((l : List ℕ) × IsWritten self.now l × (octets.new.items ≡ octets.old.items ++ l)) }
         ensures err { OnErr result ((l : List ℕ) × (octets.new.items ≡ octets.old.items ++ l)) };

@@ -39,7 +39,7 @@ pub fn object_identifier_as_bytes(
     }
 }
 
-/// Puts the contents octets of an object identifier behind octets, or some of them where memory is wanting.
+/// Puts the contents octets of an object identifier behind octets, or some of them if an allocation fails.
 pub fn append_contents(oid: &[u32], octets: &mut Vec<u8>) -> Result<(), Unfilled>
     ensures ok { OnOk result (AppendsContents oid.now octets.old.items octets.new.items) }
     ensures behind { (l : List ℕ) × (octets.new.items ≡ octets.old.items ++ l) }
