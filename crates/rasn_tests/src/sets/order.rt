@@ -8,7 +8,7 @@ use rasn_types::types::Codec;
 use std::alloc::Global;
 use std::process::Abort;
 
-/// The kind of the refusal of elements or not in ascending order.
+/// The kind of the refusal of elements or components that are not in ascending order.
 pub const OUT_OF_ORDER: &str = "CodecSpecific { inner: Ber(SetOutOfOrder) }";
 
 /// Asserts that BER and DER, which both write definite lengths, write the value as these octets.
