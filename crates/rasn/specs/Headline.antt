@@ -21,7 +21,7 @@ remainder_of tree (Err e) = refusal e.kind
 abbrev pub Answered : {T : Type 0} → Codec → Shape → (T → Tree) → List ℕ → Result (T × Bor (List ℕ)) DecodeError → Type 0
 Answered rule shape tree input result = Exact (Reads rule shape 128 (top rule)) input (remainder_of tree result)
 
--- The same of the value alone.
+-- A value is answered where the grammar relates the input to it and some rest; a refusal is as in Answered.
 abbrev pub AnsweredFirst : {T : Type 0} → Codec → Shape → (T → Tree) → List ℕ → Result T DecodeError → Type 0
 AnsweredFirst rule shape tree input (Ok v) = (rest : List ℕ) × Exact (Reads rule shape 128 (top rule)) input (Got (tree v) rest)
 AnsweredFirst rule shape tree input (Err e) = Exact (Reads rule shape 128 (top rule)) input (refusal e.kind)
@@ -34,7 +34,7 @@ pub record IsFollowed (rule : Codec) (shape : Shape) (input : List ℕ) (e : Dec
   pub read : Exact (Reads rule shape 128 (top rule)) input (Got t rest)
   pub told : e ≡ record { kind = UnexpectedExtraData (length rest); codec = rule }
 
--- The same of a value that has to be all of the input.
+-- A value is answered exactly where the grammar relates the input to it and to no rest; a refusal says that there is none, or that octets follow.
 abbrev pub AnsweredAlone : {T : Type 0} → Codec → Shape → (T → Tree) → List ℕ → Result T DecodeError → Type 0
 AnsweredAlone rule shape tree input (Ok v) = Exact (Reads rule shape 128 (top rule)) input (Got (tree v) [])
 AnsweredAlone rule shape tree input (Err e) = Exact (Reads rule shape 128 (top rule)) input (refusal e.kind) ⊎ IsFollowed rule shape input e
@@ -48,7 +48,7 @@ abbrev pub TakesWritten : {T : Type 0} → Shape → (T → Tree) → List ℕ �
 TakesWritten s tree input (Ok p) = IsLawful s → (c : Carried Der s (tree p.0)) → input ≡ c.octets ++ p.1.now
 TakesWritten s tree input (Err e) = Unit {0}
 
--- The same of a value that is all of the input.
+-- Where a carried value is answered, the input is its octets.
 abbrev pub IsAsWritten : {T : Type 0} → Shape → (T → Tree) → List ℕ → Result T DecodeError → Type 0
 IsAsWritten s tree input (Ok v) = IsLawful s → (c : Carried Der s (tree v)) → input ≡ c.octets
 IsAsWritten s tree input (Err e) = Unit {0}

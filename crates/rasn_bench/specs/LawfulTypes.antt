@@ -11,6 +11,6 @@ unfoldable pub AreLawful : List Shape → Type 0
 AreLawful [] = Unit {0}
 AreLawful (s ∷ shapes) = IsLawful s × (carries_all s ≡ true) × AreLawful shapes
 
--- The same of every type that a line may name.
+-- The shape of every type that a line may name is lawful, and all that DER reads of it is carried.
 abbrev pub AreLawfulInLines : Type 0
 AreLawfulInLines = (kind : ValueType) → IsLawful (shape_of kind) × (carries_all (shape_of kind) ≡ true)

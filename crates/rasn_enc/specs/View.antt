@@ -47,7 +47,7 @@ opened v keeps = record { rule = v.rule; below = v.below ++ v.last ∷ []; last 
 abbrev pub IsBelow : View → View → Type 0
 IsBelow v u = (u.rule ≡ v.rule) × (u.below ≡ v.below ++ v.last ∷ [])
 
--- The same rule, and the same lists below the last one.
+-- The rule and the lists below the last one stay as they are.
 pub record LeavesOthers (v w : View) : Type 0 where
   pub rule : w.rule ≡ v.rule
   pub below : w.below ≡ v.below

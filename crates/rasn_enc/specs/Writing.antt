@@ -35,7 +35,7 @@ pub record Encloses {F : Type 0} (g : Closure F (Unit {0})) (f : F) (keeps : Boo
   pub ran : FnOnceReturnsAtMut g f (opened v keeps) (Ok tt) inner
   pub appends : Appends (Cons v.rule tag inner.last.octets) tag v w
 
--- The same of a list that keeps the outermost tags of what is written in it, where they don't fall.
+-- A constructed value stands behind the last list, and the outermost tags of what was written in it are ascending.
 pub record EnclosesInOrder {F : Type 0} (g : Closure F (Unit {0})) (f : F) (tag : Tag) (v w : View) : Type 0 where
   pub inner : View
   pub ran : FnOnceReturnsAtMut g f (opened v true) (Ok tt) inner

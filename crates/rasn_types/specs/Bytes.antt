@@ -27,7 +27,7 @@ pub record Definite (tag : Tag) (bit : Bool) (contents b : List ℕ) : Type 0 wh
   pub len_octets : AreOctets len
   pub is : b ≡ id ++ (len ++ contents)
 
--- The same of constructed contents in the indefinite form.
+-- An identifier, the octet 80, constructed contents and end-of-contents octets (8.1.3.6, 8.1.5).
 pub record Closed (tag : Tag) (contents b : List ℕ) : Type 0 where
   pub id : List ℕ
   pub id_spells : AnyIdSpells id tag true

@@ -41,7 +41,7 @@ impl Identifier {
         }
     }
 
-    /// The same class and bit with another tag number.
+    /// An identifier of this class and bit with another tag number.
     pub fn tag(self, tag: u32) -> Identifier
         ensures { result ≡ record { tag = record { class = self.tag.class; value = tag }; bit = self.bit } }
     {

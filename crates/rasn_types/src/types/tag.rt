@@ -143,7 +143,7 @@ impl Tag {
         Tag { class, value }
     }
 
-    /// The same class with another number.
+    /// A tag of this class with another number.
     pub const fn set_value(self, value: u32) -> Tag
         ensures { result ≡ record { class = self.class; value = value } }
     {

@@ -89,7 +89,7 @@ impl UtcTime {
         self.nanosecond
     }
 
-    /// The same second of another minute of the day.
+    /// This second of another minute of the day.
     fn at_minute(self, date: Date, minute: u16) -> UtcTime
         requires { minute < 1440 }
         ensures { result ≡ at_minute date minute self }
