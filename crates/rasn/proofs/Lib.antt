@@ -41,3 +41,4 @@ pub mod WorkedStrings
 pub mod WorkedValues
 pub mod Written
 pub mod Read
+pub mod AllLaws

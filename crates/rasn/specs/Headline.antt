@@ -1,16 +1,20 @@
 -- What an entry point answers.
-use Rattle.std.specs.Prelude.{◌≡◌, ◌≢◌, ◌⊎◌, ◌↔◌, ℕ, List, [], ◌++◌, length, Result, Ok, Err}
+use Rattle.std.specs.Prelude.{◌≡◌, ◌≢◌, ◌⊎◌, ◌↔◌, ℕ, List, [], ◌++◌, length, Result, Ok, Err, false}
 use Rattle.std.specs.Borrow.{Bor}
 use Rattle.rasn_types.specs.declared.types.rules.Codec.{Codec}
 use Rattle.rasn_types.specs.declared.types.rules.Codec.TheVariants.{Der}
 use Rattle.rasn_types.specs.declared.error.decode.DecodeError.{DecodeError}
 use Rattle.rasn_types.specs.declared.error.decode.DecodeErrorKind.TheVariants.{UnexpectedExtraData}
+use Rattle.rasn_types.specs.declared.error.encode.EncodeError.{EncodeError}
 use Rattle.rasn_types.specs.Shapes.{Shape, Tree}
 use Rattle.rasn_types.specs.Grammar.{Reads, top}
 use Rattle.rasn_types.specs.Bytes.{Same}
 use Rattle.rasn_types.specs.Carried.{Carried, Meets}
 use Rattle.rasn_types.specs.Lawful.{IsLawful}
 use Rattle.rasn_de.specs.Outcomes.{Exact, Outcome, Got, refusal}
+use Rattle.rasn_enc.specs.View.{started}
+use Rattle.rasn_enc.specs.Primitives.{TellsOutOfMemory}
+use Rattle.rasn_enc.specs.Writing.{Closure, Refuses}
 
 abbrev pub remainder_of : {T : Type 0} → (T → Tree) → Result (T × Bor (List ℕ)) DecodeError → Outcome
 remainder_of tree (Ok p) = Got (tree p.0) p.1.now
@@ -52,3 +56,7 @@ TakesWritten s tree input (Err e) = Unit {0}
 abbrev pub IsAsWritten : {T : Type 0} → Shape → (T → Tree) → List ℕ → Result T DecodeError → Type 0
 IsAsWritten s tree input (Ok v) = IsLawful s → (c : Carried Der s (tree v)) → input ≡ c.octets
 IsAsWritten s tree input (Err e) = Unit {0}
+
+-- What a closure writes is refused: memory runs out, or the closure refuses from a new encoder on.
+abbrev pub ScopeRefuses : {F T : Type 0} → Closure F T → F → Codec → EncodeError → Type 0
+ScopeRefuses g f rule e = TellsOutOfMemory rule e ⊎ Refuses g f (started rule false) e

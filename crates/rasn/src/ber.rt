@@ -4,11 +4,10 @@ ghost use Rattle.std.specs.Fn.{FnOnceTakesAtMut};
 ghost use Rattle.rasn_types.specs.Bytes.{Bytes};
 ghost use Rattle.rasn_types.specs.Errors.{IsEncodeOutOfMemory};
 ghost use Rattle.rasn_types.specs.declared.types.rules.Codec.TheVariants.{Ber};
-ghost use Rattle.rasn.specs.Headline.{Answered, AnsweredFirst};
+ghost use Rattle.rasn.specs.Headline.{Answered, AnsweredFirst, ScopeRefuses};
 ghost use Rattle.rasn_enc.specs.View.{started};
-ghost use Rattle.rasn_enc.specs.Primitives.{TellsOutOfMemory};
 ghost use Rattle.rasn_enc.specs.Wrote.{Undefined};
-ghost use Rattle.rasn_enc.specs.Writing.{WritesBehind, Refuses, Outputs};
+ghost use Rattle.rasn_enc.specs.Writing.{WritesBehind, Outputs};
 
 use crate::entry;
 pub use rasn_de::ber::de;
@@ -70,7 +69,7 @@ pub fn encode_scope<F: FnOnce(&mut Encoder) -> Result<(), EncodeError>>(
     requires callable { FnOnceTakesAtMut F.FnOnce values (started Ber false) }
     requires keeps { WritesBehind F.FnOnce values (started Ber false) }
     ensures ok { IfOk result (λ octets. Outputs F.FnOnce values Ber octets.items) }
-    ensures refused { IfErr result (λ error. TellsOutOfMemory Ber error ⊎ Refuses F.FnOnce values (started Ber false) error) }
+    ensures refused { IfErr result (ScopeRefuses F.FnOnce values Ber) }
 {
     entry::encode_scope(alloc, values, EncoderOptions::ber())
 }

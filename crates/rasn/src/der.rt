@@ -4,11 +4,10 @@ ghost use Rattle.std.specs.Fn.{FnOnceTakesAtMut};
 ghost use Rattle.rasn_types.specs.Bytes.{Bytes};
 ghost use Rattle.rasn_types.specs.Errors.{IsEncodeOutOfMemory};
 ghost use Rattle.rasn_types.specs.declared.types.rules.Codec.TheVariants.{Der};
-ghost use Rattle.rasn.specs.Headline.{Answered, AnsweredAlone, Identify, TakesWritten, IsAsWritten};
+ghost use Rattle.rasn.specs.Headline.{Answered, AnsweredAlone, Identify, TakesWritten, IsAsWritten, ScopeRefuses};
 ghost use Rattle.rasn_enc.specs.View.{started};
-ghost use Rattle.rasn_enc.specs.Primitives.{TellsOutOfMemory};
 ghost use Rattle.rasn_enc.specs.Wrote.{Undefined};
-ghost use Rattle.rasn_enc.specs.Writing.{WritesBehind, Refuses, Outputs};
+ghost use Rattle.rasn_enc.specs.Writing.{WritesBehind, Outputs};
 
 pub use crate::ber::{Identifier, de, enc};
 use crate::entry;
@@ -85,7 +84,7 @@ pub fn encode_scope<F: FnOnce(&mut Encoder) -> Result<(), EncodeError>>(
     requires callable { FnOnceTakesAtMut F.FnOnce values (started Der false) }
     requires keeps { WritesBehind F.FnOnce values (started Der false) }
     ensures ok { IfOk result (λ octets. Outputs F.FnOnce values Der octets.items) }
-    ensures refused { IfErr result (λ error. TellsOutOfMemory Der error ⊎ Refuses F.FnOnce values (started Der false) error) }
+    ensures refused { IfErr result (ScopeRefuses F.FnOnce values Der) }
 {
     entry::encode_scope(alloc, values, EncoderOptions::der())
 }

@@ -3,11 +3,10 @@ ghost use Rattle.std.specs.Prelude.{◌≡◌, [], IfOk, IfErr, OnOk, OnErr, ◌
 ghost use Rattle.std.specs.Fn.{FnOnceTakesAtMut, FnOnceReturnsAtMut};
 ghost use Rattle.rasn_types.specs.Bytes.{Bytes};
 ghost use Rattle.rasn_types.specs.Errors.{IsEncodeOutOfMemory};
-ghost use Rattle.rasn.specs.Headline.{Answered};
+ghost use Rattle.rasn.specs.Headline.{Answered, ScopeRefuses};
 ghost use Rattle.rasn_enc.specs.View.{started};
-ghost use Rattle.rasn_enc.specs.Primitives.{TellsOutOfMemory};
 ghost use Rattle.rasn_enc.specs.Wrote.{Undefined};
-ghost use Rattle.rasn_enc.specs.Writing.{WritesBehind, Refuses, Outputs};
+ghost use Rattle.rasn_enc.specs.Writing.{WritesBehind, Outputs};
 
 use rasn_de::ber::de::{Decoder, DecoderOptions};
 use rasn_de::de::Decode;
@@ -82,7 +81,7 @@ pub(crate) fn encode_scope<F: FnOnce(&mut Encoder) -> Result<(), EncodeError>>(
     requires callable { FnOnceTakesAtMut F.FnOnce values (started options false) }
     requires keeps { WritesBehind F.FnOnce values (started options false) }
     ensures ok { IfOk result (λ octets. Outputs F.FnOnce values options octets.items) }
-    ensures refused { IfErr result (λ error. TellsOutOfMemory options error ⊎ Refuses F.FnOnce values (started options false) error) }
+    ensures refused { IfErr result (ScopeRefuses F.FnOnce values options) }
 {
     let mut encoder = Encoder::new(alloc, options)?;
     run(&mut encoder, values)?;

@@ -1,4 +1,6 @@
 //! The laws of the grammar, for every rule. Each is a promise about its definitions: the functions do nothing when they run.
+#![tactic(auto, using(crate::proofs::AllLaws::laws))]
+
 ghost use Rattle.rasn.specs.Laws.{OneLeaf, OneOpen, OnePrefix, OneChoice, OneOption, OneSequence, OneSet, OneSequenceOf, OneSetOf};
 ghost use Rattle.rasn.specs.Worked.{Worked, WorkedStrict};
 ghost use Rattle.rasn.specs.WorkedShapes.{DescribedParts, LawfulShapes, CarriedShapes};

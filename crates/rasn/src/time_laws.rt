@@ -1,4 +1,6 @@
 //! The laws of the texts of times, and of instants and days.
+#![tactic(auto, using(crate::proofs::AllLaws::time_laws))]
+
 ghost use Rattle.rasn.specs.TimeLaws.{OneMeaning, IncludedTexts, ReadBack, Distinct, Steps, Seconds};
 
 /// A text has at most one meaning.
