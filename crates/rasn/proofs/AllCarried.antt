@@ -10,7 +10,7 @@ use Rattle.rasn_types.specs.Shapes.{presences, Tree, number, bits, numbers, inst
 use Rattle.rasn_types.specs.declared.types.constraints.Bound.{Bound}
 use Rattle.rasn_types.specs.Shapes.Parts.{none}
 use Rattle.rasn_types.specs.Described.{has_required}
-use Rattle.rasn_types.specs.Readers.{Reading, Inside, in_definite, in_indefinite, Many, ReadsPart, InOrder, IsMissing, AllMissing, HasRequired, ReadsSeq, ReadsSet, ReadsChoice, OneOf, ByPart}
+use Rattle.rasn_types.specs.Readers.{Reading, Inside, in_definite, in_indefinite, Many, ReadsPart, InOrder, IsMissing, AllMissing, presences_in, HasRequired, ReadsSeq, ReadsSet, ReadsChoice, OneOf, ByPart}
 use Rattle.rasn_types.specs.Grammar.{Reads, parts_of, Family, plain_family, bit_family, text_family, family, ReadsIn, Text, ReadsList, ReadsSetOf}
 use Rattle.rasn_types.specs.Carried.{EachOf, PartMeets, IsCarriedTime, MeetsIn, IsOneEncoding, Meets, MeetsParts, MeetsChoice}
 use Rattle.rasn_types.specs.Lawful.{IsLawful, AreLawfulByTag}
@@ -165,7 +165,7 @@ some_required (part optional s ps) depth c e = inr (some_required ps depth c e)
 some_required (part addition s ps) depth c e = inr (some_required ps depth c e)
 some_required (part (default d) s ps) depth c e = inr (some_required ps depth c e)
 
-all_missing_met : (ps : Parts) (depth : ℕ) → EachMet depth ps → HasNoAddition ps → (c : Bool) (ts : List Tree) → AllMissing (parts_of Der ps depth c) ts → MeetsParts Der ps depth ts
+all_missing_met : (ps : Parts) (depth : ℕ) → EachMet depth ps → HasNoAddition ps → (c : Bool) (ts : List Tree) → AllMissing (presences_in (parts_of Der ps depth c)) ts → MeetsParts Der ps depth ts
 unfolding Reads parts_of Meets
 all_missing_met none depth k n c ts h = h
 all_missing_met (part presence s ps) depth k n c ts (t, us, e, h, hs) =

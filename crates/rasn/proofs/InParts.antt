@@ -6,7 +6,7 @@ use Rattle.rasn_types.specs.declared.types.tag.Tag.{Tag}
 use Rattle.rasn_types.specs.Framing.{Next, Ended}
 use Rattle.rasn_types.specs.Shapes.{Tree, items, chosen, absent, Shape, leaf, any, prefix, choice, option, seq, set, list, set_of, Parts, part, own, IsFirst, Presence, required, optional, addition, default, IsSolid}
 use Rattle.rasn_types.specs.Shapes.Parts.{none}
-use Rattle.rasn_types.specs.Readers.{IsLeftOut, IsThere, Part, IsNoDefault, ReadsPart, InOrder, IsMissing, AllMissing, HasRequired, AreAllLeftOut, ReadsSeq, ReadsChoice}
+use Rattle.rasn_types.specs.Readers.{IsLeftOut, IsThere, Part, IsNoDefault, ReadsPart, InOrder, IsMissing, AllMissing, presences_in, HasRequired, AreAllLeftOut, ReadsSeq, ReadsChoice}
 use Rattle.rasn_types.specs.Contents.{joined_lists}
 use Rattle.rasn_types.specs.Grammar.{Reads, parts_of}
 use Rattle.rasn_types.specs.Bytes.{Each, Same, WritesPart, PartsWritten, WritesChoice, Bytes, fields_of}
@@ -201,7 +201,7 @@ EachSolid none = Unit {0}
 EachSolid (part presence s ps) = IsSolid s × EachSolid ps
 
 all_missing_in_nothing : (rule : Codec) (depth : ℕ) (c : Bool) (ps : Parts) → EachSolid ps → (ts : List Tree) (rest : List ℕ)
-    → InOrder rule (parts_of rule ps depth c) false [] ts rest → AllMissing (parts_of rule ps depth c) ts
+    → InOrder rule (parts_of rule ps depth c) false [] ts rest → AllMissing (presences_in (parts_of rule ps depth c)) ts
 unfolding Reads parts_of Bytes fields_of Meets
 all_missing_in_nothing rule depth c none solid ts rest h = h.0
 all_missing_in_nothing rule depth c (part presence s ps) solid ts rest (t, us, m, e, h, k) =

@@ -7,7 +7,7 @@ use Rattle.rasn_types.specs.declared.types.tag.Tag.{Tag}
 use Rattle.rasn_types.specs.Framing.{Frame, with_length, without_length, Extent, Next, Whole, plain, closed, Wholes, none, one_more}
 use Rattle.rasn_types.specs.Shapes.{Tree, absent, Kind, boolean, null, object_identifier, integer, enumerated, octet_string, fixed, numeric, printable, visible, ia5, any_octets, bmp, utf8, utc_time, generalized_time, date, Shape, leaf, any, prefix, choice, option, seq, set, list, set_of, Parts, part, own, presences, Presence, required, optional, addition, default, IsSolid, AreSolid}
 use Rattle.rasn_types.specs.declared.types.constraints.Bound.{Bound}
-use Rattle.rasn_types.specs.Readers.{Reading, Inside, in_definite, in_indefinite, Many, IsLeftOut, IsThere, Perhaps, IsNoDefault, ReadsPart, InOrder, AllMissing, HasRequired, ReadsSeq, ReadsChoice, ReadsSet}
+use Rattle.rasn_types.specs.Readers.{Reading, Inside, in_definite, in_indefinite, Many, IsLeftOut, IsThere, Perhaps, IsNoDefault, ReadsPart, InOrder, AllMissing, presences_in, HasRequired, ReadsSeq, ReadsChoice, ReadsSet}
 use Rattle.rasn_types.specs.Contents.{Str, primitive, segments, closed_segments, Segments, ReadBits, OctetSegment, Contents, IsBool}
 use Rattle.rasn_types.specs.Grammar.{Reads, parts_of, top, Family, plain_family, bit_family, text_family, family, ReadsIn, ReadsOpen, ReadsList, ReadsSetOf, Text}
 use Rattle.rasn_types.specs.Lawful.{IsLawful, AreAlternatives}
@@ -142,7 +142,7 @@ required_same Parts.none rule other depth c h = h
 required_same (part presence s ps) rule other depth c (inl h) = inl h
 required_same (part presence s ps) rule other depth c (inr h) = inr (required_same ps rule other depth c h)
 
-missing_same : (ps : Parts) (rule other : Codec) (depth : ℕ) (c : Bool) (ts : List Tree) → AllMissing (parts_of rule ps depth c) ts → AllMissing (parts_of other ps depth c) ts
+missing_same : (ps : Parts) (rule other : Codec) (depth : ℕ) (c : Bool) (ts : List Tree) → AllMissing (presences_in (parts_of rule ps depth c)) ts → AllMissing (presences_in (parts_of other ps depth c)) ts
 unfolding Reads parts_of
 missing_same Parts.none rule other depth c ts h = h
 missing_same (part presence s ps) rule other depth c ts (t, us, e, h, k) = (t, us, e, h, missing_same ps rule other depth c us k)

@@ -5,7 +5,7 @@ use Rattle.rasn_types.specs.declared.types.rules.Codec.{Codec}
 use Rattle.rasn_types.specs.declared.types.tag.Tag.{Tag}
 use Rattle.rasn_types.specs.Framing.{Next}
 use Rattle.rasn_types.specs.Shapes.{Tree, items, chosen, absent, Presence, required, optional, addition, default}
-use Rattle.rasn_types.specs.Readers.{Reading, Inside, in_definite, in_indefinite, Many, IsNoDefault, Perhaps, Part, ReadsPart, InOrder, AllMissing, AreAllLeftOut, ReadsSeq, ReadsChoice, ByPart, ReadsSet}
+use Rattle.rasn_types.specs.Readers.{Reading, Inside, in_definite, in_indefinite, Many, IsNoDefault, Perhaps, Part, ReadsPart, InOrder, AllMissing, presences_in, AreAllLeftOut, ReadsSeq, ReadsChoice, ByPart, ReadsSet}
 use Rattle.rasn_types.proofs.Frames.{frame_one, next_one}
 use Rattle.rasn_de.proofs.Perhaps.{apart}
 use Rattle.rasn_de.proofs.Parted.{all_missing_one, by_part_one}
@@ -71,8 +71,8 @@ in_order_one rule (p ∷ ps) one closing input ts us rest other h k =
 pub seq_one : (rule : Codec) (ps : List Part) → EachPart ReadsOne ps → (closing : Bool) → IsOne (ReadsSeq rule ps closing)
 seq_one rule ps one closing input t u rest other h k = go h.2 k.2
   where
-    go : (AreAllLeftOut ps closing input × AllMissing ps h.0 × (rest ≡ input)) ⊎ ((AreAllLeftOut ps closing input → ⊥) × InOrder rule ps closing input h.0 rest)
-        → (AreAllLeftOut ps closing input × AllMissing ps k.0 × (other ≡ input)) ⊎ ((AreAllLeftOut ps closing input → ⊥) × InOrder rule ps closing input k.0 other)
+    go : (AreAllLeftOut ps closing input × AllMissing (presences_in ps) h.0 × (rest ≡ input)) ⊎ ((AreAllLeftOut ps closing input → ⊥) × InOrder rule ps closing input h.0 rest)
+        → (AreAllLeftOut ps closing input × AllMissing (presences_in ps) k.0 × (other ≡ input)) ⊎ ((AreAllLeftOut ps closing input → ⊥) × InOrder rule ps closing input k.0 other)
         → (t ≡ u) × (rest ≡ other)
     go (inl (a, b, c)) (inl (d, e, f)) = (h.1 ∙ (ap items (all_missing_one ps h.0 k.0 b e) ∙ sym k.1), c ∙ sym f)
     go (inl (a, b, c)) (inr (d, e)) = absurd (d a)

@@ -8,7 +8,7 @@ use Rattle.rasn_types.specs.Framing.{AreOctets, AnyIdSpells, Begins, Frame, defi
 use Rattle.rasn_types.specs.Shapes.{Tree, items, walk, chosen, Admits, Shape, leaf, any, prefix, choice, option, seq, set, list, set_of, Parts, part, own, IsFirst, IsFirstOf, Presence, presences, required, optional, addition, default, IsSolid}
 use Rattle.rasn_types.specs.declared.types.constraints.Bound.{Bound}
 use Rattle.rasn_types.specs.Shapes.Parts.{none}
-use Rattle.rasn_types.specs.Readers.{Reading, Inside, in_definite, in_indefinite, Many, ReadFrom, IsNoDefault, ReadsPart, InOrder, IsMissing, AllMissing, ReadsChoice, NoneOf, OneOf, ByPart}
+use Rattle.rasn_types.specs.Readers.{Reading, Inside, in_definite, in_indefinite, Many, ReadFrom, IsNoDefault, ReadsPart, InOrder, IsMissing, AllMissing, presences_in, ReadsChoice, NoneOf, OneOf, ByPart}
 use Rattle.rasn_types.specs.Order.{Each, IsLess, DoNotFall}
 use Rattle.rasn_types.specs.Contents.{joined_lists}
 use Rattle.rasn_types.specs.Grammar.{Reads, parts_of, family}
@@ -83,7 +83,7 @@ in_order_made (part presence s ps) depth k c closing input ts rest o (t, us, mid
     let r = in_order_made ps depth k.1 c closing middle us rest (tail_octets input a.0 middle a.2 o) hs (subst (OwesParts ps depth) q ms) in
     (a.0 ∷ r.0, (t, us, a.0, r.0, e, refl, a.1, r.1), a.2 ∙ (ap (λ l. a.0 ++ l) r.2 ∙ sym (append_assoc a.0 (joined_lists r.0) rest)))
 
-all_missing_made : (ps : Parts) (depth : ℕ) (c : Bool) (ts : List Tree) → AllMissing (parts_of Der ps depth c) ts → OwesParts ps depth ts
+all_missing_made : (ps : Parts) (depth : ℕ) (c : Bool) (ts : List Tree) → AllMissing (presences_in (parts_of Der ps depth c)) ts → OwesParts ps depth ts
     → (bs : List (List ℕ)) × PartsWritten (fields_of Der ps) ts bs × (joined_lists bs ≡ [])
 unfolding Reads parts_of Bytes fields_of Owes
 all_missing_made none depth c ts h m = ([], (h, refl), refl)

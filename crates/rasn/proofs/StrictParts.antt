@@ -5,7 +5,7 @@ use Rattle.rasn_types.specs.declared.types.tag.Tag.{Tag}
 use Rattle.rasn_types.specs.Framing.{AreOctets}
 use Rattle.rasn_types.specs.Shapes.{Tree, chosen, absent, Shape, Parts, part, own, Presence, required, optional, addition, default}
 use Rattle.rasn_types.specs.Shapes.Parts.{none}
-use Rattle.rasn_types.specs.Readers.{Many, IsNoDefault, ReadsPart, InOrder, IsMissing, AllMissing, ReadsChoice}
+use Rattle.rasn_types.specs.Readers.{Many, IsNoDefault, ReadsPart, InOrder, IsMissing, AllMissing, presences_in, ReadsChoice}
 use Rattle.rasn_types.specs.Order.{Each}
 use Rattle.rasn_types.specs.Contents.{joined_lists}
 use Rattle.rasn_types.specs.Grammar.{Reads, parts_of}
@@ -92,7 +92,7 @@ in_order_told (part presence s ps) depth k c closing input ts rest bs o (t, us, 
     a ∙ (ap (λ l. b ++ l) r ∙ (sym (append_assoc b (joined_lists cs) rest) ∙ ap (λ l. joined_lists l ++ rest) (sym f)))
 
 -- Where nothing comes, nothing is written.
-pub all_missing_told : (ps : Parts) (depth : ℕ) → EachTold depth ps → (c : Bool) (ts : List Tree) (bs : List (List ℕ)) → AllMissing (parts_of Der ps depth c) ts
+pub all_missing_told : (ps : Parts) (depth : ℕ) → EachTold depth ps → (c : Bool) (ts : List Tree) (bs : List (List ℕ)) → AllMissing (presences_in (parts_of Der ps depth c)) ts
     → PartsWritten (fields_of Der ps) ts bs → MeetsParts Der ps depth ts → joined_lists bs ≡ []
 unfolding Reads parts_of Bytes fields_of Meets
 all_missing_told none depth k c ts bs h w m = ap joined_lists w.1

@@ -5,9 +5,9 @@ use Rattle.std.specs.declared.alloc.AllocError.{AllocError}
 use Rattle.rasn_types.specs.declared.types.rules.Codec.{Codec}
 use Rattle.rasn_types.specs.declared.error.decode.DecodeError.{DecodeError}
 use Rattle.rasn_types.specs.declared.error.decode.DecodeErrorKind.{DecodeErrorKind}
-use Rattle.rasn_types.specs.Shapes.{Tree, items, Parts, part, required, optional, addition, default}
+use Rattle.rasn_types.specs.Shapes.{Tree, items, Parts, part, presences, required, optional, addition, default}
 use Rattle.rasn_types.specs.Shapes.Parts.{none}
-use Rattle.rasn_types.specs.Readers.{Reading, Part, InOrder, AllMissing, HasRequired, AreAllLeftOut, ReadsSeq}
+use Rattle.rasn_types.specs.Readers.{Reading, Part, InOrder, AllMissing, presences_in, HasRequired, AreAllLeftOut, ReadsSeq}
 use Rattle.rasn_types.specs.Grammar.{parts_of}
 use Rattle.rasn_types.specs.Described.{has_required, count, same_bool, is_fieldless, describes}
 use Rattle.rasn_types.proofs.Spelled.{both_true}
@@ -15,7 +15,7 @@ use Rattle.rasn_de.proofs.Parted.{all_missing_one}
 use Rattle.rasn_de.specs.State.{State}
 use Rattle.rasn_de.specs.Outcomes.{Exact, Outcome, Got, refusal, outcome}
 use Rattle.rasn_de.specs.Decodes.{ReadsParts, DecodesParts}
-use Rattle.rasn_de.specs.Sequences.{is_empty, is_initial, Initial, Fills, AreMissing, MakesBare}
+use Rattle.rasn_de.specs.Sequences.{is_empty, is_initial, Initial, Fills, MakesBare}
 
 same_is : (a b : Bool) → same_bool a b ≡ true → a ≡ b
 same_is true b e = sym e
@@ -50,7 +50,7 @@ not_required rule ps depth closing n = go (has_required ps) refl
     go false e = e
 
 -- Parts of which none comes are missing wherever they are read.
-are_missing : (rule : Codec) (ps : Parts) (depth : ℕ) (closing : Bool) (ts : List Tree) → AreMissing ps ts → AllMissing (parts_of rule ps depth closing) ts
+are_missing : (rule : Codec) (ps : Parts) (depth : ℕ) (closing : Bool) (ts : List Tree) → AllMissing (presences ps) ts → AllMissing (presences_in (parts_of rule ps depth closing)) ts
 unfolding parts_of
 are_missing rule none depth closing ts e = e
 are_missing rule (part p s ps) depth closing ts (t, us, e, m, h) = (t, us, e, m, are_missing rule ps depth closing us h)
@@ -119,7 +119,7 @@ none_exact rule closing input t e = (there (bare_or closing input), only)
     only u s (ts, f, inl (b, m, r)) = (f ∙ ap items m ∙ sym e, r)
     only u s (ts, f, inr (b, (m, r))) = (f ∙ ap items m ∙ sym e, r)
 
-bare_exact : (rule : Codec) (ps : List Part) (t : Tree) (ts : List Tree) → (HasRequired ps → ⊥) → t ≡ items ts → AllMissing ps ts → Exact (ReadsSeq rule ps false) [] (Got t [])
+bare_exact : (rule : Codec) (ps : List Part) (t : Tree) (ts : List Tree) → (HasRequired ps → ⊥) → t ≡ items ts → AllMissing (presences_in ps) ts → Exact (ReadsSeq rule ps false) [] (Got t [])
 bare_exact rule ps t ts n e m = ((ts, e, inl ((n, refl, refl), m, refl)), only)
   where
     only : (u : Tree) (s : List ℕ) → ReadsSeq rule ps false [] u s → (u ≡ t) × (s ≡ [])
@@ -149,18 +149,18 @@ SeqReads parts rule depth closing = ReadsSeq rule (parts_of rule parts depth clo
 
 module _ {I D : Type 0} (root more : ℕ) (extensible flag : Bool) (parts : Parts) (d : describes root more extensible flag parts ≡ true) (tree : D → Tree) (made : I → Result D AllocError → Type 0) (init : Option I) (bare : MakesBare parts tree made init)
     (called : State → Result D DecodeError → State → Type 0) (H : (o : State) (r : Result D DecodeError) (n : State) → called o r n → DecodesParts parts tree o r n) where
-  made_exact : (o : State) (v : D) → is_initial root extensible flag o.rest ≡ true → (ts : List Tree) → tree v ≡ items ts → AllMissing (parts_of o.rule parts o.depth o.closing) ts → IsExactOrCut tree (SeqReads parts) o (Ok v) o
+  made_exact : (o : State) (v : D) → is_initial root extensible flag o.rest ≡ true → (ts : List Tree) → tree v ≡ items ts → AllMissing (presences_in (parts_of o.rule parts o.depth o.closing)) ts → IsExactOrCut tree (SeqReads parts) o (Ok v) o
   unfolding parts_of
   made_exact o v s ts e m = go (initial_why root more extensible flag parts d o.rest s)
     where
-      at_none : (ps : Parts) → ps ≡ none → AllMissing (parts_of o.rule ps o.depth o.closing) ts → Exact (ReadsSeq o.rule (parts_of o.rule ps o.depth o.closing) o.closing) o.rest (Got (tree v) o.rest)
+      at_none : (ps : Parts) → ps ≡ none → AllMissing (presences_in (parts_of o.rule ps o.depth o.closing)) ts → Exact (ReadsSeq o.rule (parts_of o.rule ps o.depth o.closing) o.closing) o.rest (Got (tree v) o.rest)
       at_none none p m = none_exact o.rule o.closing o.rest (tree v) (e ∙ ap items m)
       at_none (part p s ps) q m = cc
 
       at_empty : (c : Bool) → o.closing ≡ c → has_required parts ≡ false → o.rest ≡ [] → IsExactOrCut tree (SeqReads parts) o (Ok v) o
       at_empty true q f i = inr (q, i, i)
       at_empty false q f i =
-          let P : Bool → Type 0 = λ c. AllMissing (parts_of o.rule parts o.depth c) ts in
+          let P : Bool → Type 0 = λ c. AllMissing (presences_in (parts_of o.rule parts o.depth c)) ts in
           let x = bare_exact o.rule (parts_of o.rule parts o.depth false) (tree v) ts (no_required o.rule parts o.depth false f) e (subst P q m) in
           let Q : List ℕ → Type 0 = λ l. Exact (ReadsSeq o.rule (parts_of o.rule parts o.depth false) false) l (Got (tree v) l) in
           let S : Bool → Type 0 = λ c. Exact (ReadsSeq o.rule (parts_of o.rule parts o.depth c) c) o.rest (Got (tree v) o.rest) in

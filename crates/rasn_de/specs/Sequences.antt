@@ -3,9 +3,8 @@ use Rattle.std.specs.Prelude.{◌≡◌, ◌⊎◌, ℕ, Bool, true, false, ◌&
 use Rattle.std.specs.declared.alloc.AllocError.{AllocError}
 use Rattle.rasn_types.specs.declared.types.tag.Tag.{Tag}
 use Rattle.rasn_types.specs.declared.error.decode.DecodeError.{DecodeError}
-use Rattle.rasn_types.specs.Shapes.{Tree, items, Parts, part, seq}
-use Rattle.rasn_types.specs.Shapes.Parts.{none}
-use Rattle.rasn_types.specs.Readers.{IsMissing}
+use Rattle.rasn_types.specs.Shapes.{Tree, items, Parts, presences, seq}
+use Rattle.rasn_types.specs.Readers.{AllMissing}
 use Rattle.rasn_types.specs.Described.{is_fieldless, has_required}
 use Rattle.rasn_de.specs.declared.ber.de.parser.Fault.TheVariants.{UnexpectedEmptyInput}
 use Rattle.std.specs.Fn.{FnOnceReturnsAtMut}
@@ -39,15 +38,10 @@ abbrev pub ReadSequence : {I F D : Type 0} → ℕ → Bool → Bool → (I → 
 ReadSequence root extensible needs_field made init g f tag =
     ReadInside (Fills (is_initial root extensible needs_field) (Initial made init) (FnOnceReturnsAtMut g f)) (sequence_header tag)
 
--- These are the trees of parts of which none comes.
-abbrev pub AreMissing : Parts → List Tree → Type 0
-AreMissing none ts = ts ≡ []
-AreMissing (part presence s parts) ts = (t : Tree) × (us : List Tree) × (ts ≡ t ∷ us) × IsMissing presence t × AreMissing parts us
-
 -- Each value that the initializer makes is that of parts of which none comes. Only a type with a required part does without an initializer.
 abbrev pub MakesBare : {I D : Type 0} → Parts → (D → Tree) → (I → Result D AllocError → Type 0) → Option I → Type 0
 MakesBare {I} {D} parts tree made None = has_required parts ≡ true
-MakesBare {I} {D} parts tree made (Some i) = (v : D) → made i (Ok v) → (ts : List Tree) × (tree v ≡ items ts) × AreMissing parts ts
+MakesBare {I} {D} parts tree made (Some i) = (v : D) → made i (Ok v) → (ts : List Tree) × (tree v ≡ items ts) × AllMissing (presences parts) ts
 
 -- A SEQUENCE of these parts is read, where each call of f reads them and the initializer makes what they are where none comes.
 abbrev pub DecodesSequence : {I F D : Type 0} → Closure F D → F → (I → Result D AllocError → Type 0) → Option I → Parts → (D → Tree) → Tag → Call D

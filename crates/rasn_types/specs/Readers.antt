@@ -71,9 +71,14 @@ IsMissing optional t = t ≡ absent
 IsMissing addition t = t ≡ absent
 IsMissing (default d) t = t ≡ d
 
-abbrev pub AllMissing : List Part → List Tree → Type 0
+abbrev pub presences_in : List Part → List Presence
+presences_in [] = []
+presences_in (p ∷ ps) = p.presence ∷ presences_in ps
+
+-- These are the trees of parts of which none comes.
+abbrev pub AllMissing : List Presence → List Tree → Type 0
 AllMissing [] ts = ts ≡ []
-AllMissing (p ∷ ps) ts = (t : Tree) × (us : List Tree) × (ts ≡ t ∷ us) × IsMissing p.presence t × AllMissing ps us
+AllMissing (p ∷ ps) ts = (t : Tree) × (us : List Tree) × (ts ≡ t ∷ us) × IsMissing p t × AllMissing ps us
 
 abbrev pub HasRequired : List Part → Type 0
 HasRequired [] = ⊥
@@ -86,7 +91,7 @@ AreAllLeftOut ps closing input = (HasRequired ps → ⊥) × (closing ≡ false)
 -- The contents of a SEQUENCE.
 abbrev pub ReadsSeq : Codec → List Part → Bool → Reading Tree
 ReadsSeq rule ps closing input t rest = (ts : List Tree) × (t ≡ items ts)
-    × ((AreAllLeftOut ps closing input × AllMissing ps ts × (rest ≡ input)) ⊎ ((AreAllLeftOut ps closing input → ⊥) × InOrder rule ps closing input ts rest))
+    × ((AreAllLeftOut ps closing input × AllMissing (presences_in ps) ts × (rest ≡ input)) ⊎ ((AreAllLeftOut ps closing input → ⊥) × InOrder rule ps closing input ts rest))
 
 -- The alternative whose first tags hold the next one; the first has the number k. A CHOICE's are all required; where they are
 -- the parts of a SET, one that has a default isn't its default.
