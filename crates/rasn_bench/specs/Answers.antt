@@ -72,6 +72,10 @@ type_word RelativeDistinguishedName = codes "SET"
 type_word Set3 = codes "SET"
 type_word Bag = codes "SET"
 
+-- What is so of a rule, a shape, the word for a type, octets and an answer, of the shape and the word of the type that a line names.
+abbrev pub OfNamedType : {A : Type 0} → (Codec → Shape → List ℕ → List ℕ → A → Type 0) → Codec → ValueType → List ℕ → A → Type 0
+OfNamedType Is rule kind octets answer = Is rule (shape_of kind) (type_word kind) octets answer
+
 -- By these rules the input begins with this value, and so many octets follow it.
 pub record IsRead (rule : Codec) (shape : Shape) (input : List ℕ) (t : Tree) (count : ℕ) : Type 0 where
   pub rest : List ℕ

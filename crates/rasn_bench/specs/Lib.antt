@@ -7,6 +7,7 @@ pub mod WorkedNormals
 pub mod Arguments
 pub mod Groups
 pub mod Pairs
+pub mod Boths
 pub mod Choices
 pub mod Colours
 pub mod Set3s

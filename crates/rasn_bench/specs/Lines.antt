@@ -1,5 +1,5 @@
 -- The lines of the program.
-use Rattle.std.specs.Prelude.{◌≡◌, ℕ, ◌+◌, ◌-◌, ◌*◌, ◌<◌, ◌==◌, length, Bool, ◌&&◌, nat_le, nat_eq, if◌then◌else◌, List, [], ◌∷◌, Option, Some, None, Vec, codes}
+use Rattle.std.specs.Prelude.{◌≡◌, ◌≢◌, ℕ, ◌+◌, ◌-◌, ◌*◌, ◌<◌, ◌==◌, length, Bool, ◌&&◌, nat_le, nat_eq, if◌then◌else◌, List, [], ◌∷◌, Option, Some, None, Vec, codes}
 use Rattle.std.specs.List.{position_or_len, before_first, after_first}
 use Rattle.rasn_types.specs.declared.types.rules.Codec.{Codec}
 use Rattle.rasn_types.specs.declared.types.rules.Codec.TheVariants.{Ber, Cer, Der}
@@ -82,6 +82,14 @@ unfoldable pub pairs_at : List ℕ → Option (List ℕ)
 pairs_at [] = Some []
 pairs_at (a ∷ []) = None
 pairs_at (a ∷ b ∷ l) = behind (pair_at a b) (pairs_at l)
+
+-- The digits begin with two that spell this octet, and the rest follows them.
+abbrev pub BeginsWithPair : List ℕ → ℕ → List ℕ → Type 0
+BeginsWithPair digits octet rest = pairs_at digits ≡ behind (Some octet) (pairs_at rest)
+
+-- There are digits, and they spell no octets.
+abbrev pub BeginsWithoutPair : List ℕ → Type 0
+BeginsWithoutPair digits = digits ≢ [] → pairs_at digits ≡ None
 
 -- What digits spell: a hyphen is no octets, and no digits spell nothing.
 abbrev pub octets_of_digits : List ℕ → Option (List ℕ)

@@ -9,6 +9,7 @@ mod names;
 mod normal;
 mod normal_answer;
 mod program;
+mod typed_answer;
 mod worked;
 
 pub use answer::Answer;

@@ -1,7 +1,7 @@
 //! The lines of the program: `rule type hex`.
-ghost use Rattle.std.specs.Prelude.{◌≡◌, ◌≢◌, ◌<◌, MatchOption, IfOk, IfSome, List, [], length, ℕ, Some, None};
+ghost use Rattle.std.specs.Prelude.{◌≡◌, ◌<◌, MatchOption, IfOk, IfSome, List, length, ℕ};
 ghost use Rattle.rasn_types.specs.declared.types.rules.Codec.{Codec};
-ghost use Rattle.rasn_bench.specs.Lines.{name_of, rule_name, IsRequest, Spells, octets_of_digits, pairs_at, pair_at, digit_at, behind};
+ghost use Rattle.rasn_bench.specs.Lines.{name_of, rule_name, IsRequest, Spells, octets_of_digits, pairs_at, pair_at, digit_at, BeginsWithPair, BeginsWithoutPair};
 ghost use Rattle.rasn_bench.specs.declared.line.ValueType.{ValueType};
 
 use rasn::types::Codec;
@@ -145,7 +145,7 @@ fn octets_of_digits(alloc: Global, digits: &[u8]) -> Result<Option<Vec<u8>>, All
 /// The octet of the first two digits, and what follows them.
 #[tactic(auto, unfolding(crate::specs::Lines::pairs_at))]
 fn first_octet(digits: &[u8]) -> Option<(u8, &[u8])>
-    ensures read { MatchOption result (digits.now ≢ [] → pairs_at digits.now ≡ None) (λ p. pairs_at digits.now ≡ behind (Some p.0) (pairs_at p.1.now)) }
+    ensures read { MatchOption result (BeginsWithoutPair digits.now) (λ p. BeginsWithPair digits.now p.0 p.1.now) }
     ensures fewer { IfSome result (λ p. length p.1.now < length digits.now) }
 {
     let (high, after) = digits.split_first()?;

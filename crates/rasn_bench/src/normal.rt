@@ -6,11 +6,12 @@ ghost use Rattle.rasn.specs.Headline.{Answered, AnsweredAlone};
 ghost use Rattle.rasn_bench.specs.WorkedNormals.{WorkedNormals};
 ghost use Rattle.rasn_bench.specs.Normal.{IsNormal, IsNoNormal, IsIdentified, IsKept, IsUnchanged, IsAnswered, IsOutOfMemoryAlone, SameExactlyIfEqual};
 
+use rasn::ber::de::{Decoder, DecoderOptions};
 use rasn::de::Decode;
+use rasn::der;
 use rasn::enc::Encode;
 use rasn::error::{DecodeError, DecodeErrorKind, EncodeError};
 use rasn::types::{Codec, LawfulEq};
-use rasn::{ber, cer, der};
 use std::alloc::Global;
 use thiserror::Error;
 
@@ -125,9 +126,7 @@ pub(crate) fn decode_with_remainder<T: Decode>(
 ) -> Result<(T, &[u8]), DecodeError>
     ensures { Answered rule T.shape T.tree input.now result }
 {
-    match rule {
-        Codec::Ber => ber::decode_with_remainder(alloc, input),
-        Codec::Cer => cer::decode_with_remainder(alloc, input),
-        Codec::Der => der::decode_with_remainder(alloc, input),
-    }
+    let mut decoder = Decoder::new(alloc, input, DecoderOptions::of(rule));
+    let value = T::decode(&mut decoder)?;
+    Ok((value, decoder.remaining()))
 }

@@ -1,9 +1,8 @@
 //! `Both ::= SEQUENCE { first A, second B }`, of any two types.
-ghost use Rattle.std.specs.Prelude.{◌∷◌, [], IfOk};
-ghost use Rattle.rasn_types.specs.Shapes.{part, required, items};
-ghost use Rattle.rasn_types.specs.Shapes.Parts.{none};
+ghost use Rattle.std.specs.Prelude.{IfOk};
 ghost use Rattle.rasn_de.specs.Decodes.{DecodesParts};
 ghost use Rattle.rasn_enc.specs.Parts.{WritesParts};
+ghost use Rattle.rasn_bench.specs.Boths.{both_parts, both_tree};
 
 use rasn::ber::de::Decoder;
 use rasn::ber::enc::Encoder;
@@ -24,11 +23,10 @@ pub struct Both<A, B> {
 }
 
 impl<A: AsnType, B: AsnType> AsnType for Both<A, B> {
-    ghost use Rattle.std.specs.Prelude.{refl, ◌∷◌, []};
-    ghost use Rattle.rasn_types.specs.Shapes.{seq, part, required, items};
-    ghost use Rattle.rasn_types.specs.Shapes.Parts.{none};
+    ghost use Rattle.std.specs.Prelude.{refl};
     ghost use Rattle.rasn_types.specs.Tags.{in_universal};
     ghost use Rattle.rasn_types.specs.Trees.{unconstrained};
+    ghost use Rattle.rasn_bench.specs.Boths.{both_shape, both_tree};
 
     ghost TAG = { in_universal 16 };
 
@@ -38,9 +36,9 @@ impl<A: AsnType, B: AsnType> AsnType for Both<A, B> {
 
     const CONSTRAINTS: Constraints = Constraints::NONE;
 
-    ghost shape = { seq (in_universal 16) (part required A.shape (part required B.shape none)) };
+    ghost shape = { both_shape A.shape B.shape };
 
-    ghost tree = { λ both. items (A.tree both.first ∷ B.tree both.second ∷ []) };
+    ghost tree = { both_tree A.tree B.tree };
 
     ghost own = { refl };
 }
@@ -60,8 +58,7 @@ impl<A: AsnType, B: AsnType> Present for Both<A, B> {
 
 impl<A: AsnType, B: AsnType> Constructed<2, 0> for Both<A, B> {
     ghost use Rattle.std.specs.Prelude.{refl, true, false};
-    ghost use Rattle.rasn_types.specs.Shapes.{part, required};
-    ghost use Rattle.rasn_types.specs.Shapes.Parts.{none};
+    ghost use Rattle.rasn_bench.specs.Boths.{both_parts};
 
     const FIELDS: Fields<2> = Fields {
         fields: [
@@ -90,7 +87,7 @@ impl<A: AsnType, B: AsnType> Constructed<2, 0> for Both<A, B> {
 
     const HAS_REQUIRED_FIELDS: bool = true;
 
-    ghost parts = { part required A.shape (part required B.shape none) };
+    ghost parts = { both_parts A.shape B.shape };
 
     ghost described = { refl };
 }
@@ -109,7 +106,7 @@ impl<A: Decode, B: Decode> Decode for Both<A, B> {
                 { Err(AllocError) },
             ),
             |decoder|
-                ensures { DecodesParts (part required A.shape (part required B.shape none)) (λ both. items (A.tree both.first ∷ B.tree both.second ∷ [])) decoder.old result decoder.new }
+                ensures { DecodesParts (both_parts A.shape B.shape) (both_tree A.tree B.tree) decoder.old result decoder.new }
             {
                 let first = A::decode(decoder)?;
                 let second = B::decode(decoder)?;
@@ -130,7 +127,7 @@ impl<A: Encode, B: Encode> Encode for Both<A, B> {
         encoder.encode_sequence::<2, 0, Both<A, B>, _>(
             tag,
             |inner: &mut Encoder| -> Result<(), EncodeError>
-                ensures { WritesParts (part required A.shape (part required B.shape none)) (items (A.tree self.entry.now.first ∷ B.tree self.entry.now.second ∷ [])) inner.old result inner.new }
+                ensures { WritesParts (both_parts A.shape B.shape) (both_tree A.tree B.tree self.entry.now) inner.old result inner.new }
             {
                 self.first.encode(inner)?;
                 self.second.encode(inner)

@@ -1,0 +1,68 @@
+//! The types that a line may name, each in a line of one list, and answers that are of a type.
+ghost use Rattle.std.specs.Prelude.{List, ℕ};
+ghost use Rattle.rasn_types.specs.declared.types.rules.Codec.{Codec};
+ghost use Rattle.rasn_types.specs.Shapes.{Shape};
+ghost use Rattle.rasn_bench.specs.Answers.{OfNamedType};
+
+use crate::line::{Request, ValueType};
+use crate::worked::{
+    AlgorithmIdentifier, Colour, Foo, Pair, RelativeDistinguishedName, Set3, Validity,
+};
+use rasn::de::Decode;
+use rasn::enc::Encode;
+use rasn::types::{
+    Any, BitString, Codec, Date, GeneralizedTime, Ia5String, Integer, LawfulEq, ObjectIdentifier,
+    OctetString, PrintableString, SetOf, UtcTime, Utf8String,
+};
+use std::alloc::Global;
+
+/// Answers to octets that are read as a value of a type.
+pub(crate) trait TypedAnswer {
+    ghost IsOfType: { Codec → Shape → List ℕ → List ℕ → Self → Type 0 };
+
+    /// The answer to these octets, read by the rule as a value of the type, which the program calls by this word.
+    fn of_type<T: Decode + Encode + LawfulEq>(
+        alloc: Global,
+        rule: Codec,
+        word: &'static str,
+        octets: &[u8],
+    ) -> Self
+        ensures { IsOfType rule T.shape word.now octets.now result };
+}
+
+/// The answer to a request for these octets.
+pub(crate) fn answer_to<A: TypedAnswer>(alloc: Global, request: Request<'_>, octets: &[u8]) -> A
+    ensures { OfNamedType A.IsOfType request.entry.rule request.entry.value_type octets.now result }
+{
+    let rule = request.rule;
+    match request.value_type {
+        ValueType::Bool => A::of_type::<bool>(alloc, rule, "BOOLEAN", octets),
+        ValueType::I32 => A::of_type::<i32>(alloc, rule, "INTEGER", octets),
+        ValueType::U32 => A::of_type::<u32>(alloc, rule, "INTEGER", octets),
+        ValueType::Octets => A::of_type::<OctetString>(alloc, rule, "OCTET-STRING", octets),
+        ValueType::Pair => A::of_type::<Pair>(alloc, rule, "SEQUENCE", octets),
+        ValueType::Integer => A::of_type::<Integer>(alloc, rule, "INTEGER", octets),
+        ValueType::UtcTime => A::of_type::<UtcTime>(alloc, rule, "TIME", octets),
+        ValueType::GeneralizedTime => A::of_type::<GeneralizedTime>(alloc, rule, "TIME", octets),
+        ValueType::Date => A::of_type::<Date>(alloc, rule, "TIME", octets),
+        ValueType::Null => A::of_type::<()>(alloc, rule, "NULL", octets),
+        ValueType::ObjectIdentifier => A::of_type::<ObjectIdentifier>(alloc, rule, "OID", octets),
+        ValueType::Bits => A::of_type::<BitString>(alloc, rule, "BIT-STRING", octets),
+        ValueType::Colour => A::of_type::<Colour>(alloc, rule, "ENUMERATED", octets),
+        ValueType::Utf8 => A::of_type::<Utf8String>(alloc, rule, "STRING", octets),
+        ValueType::Ia5 => A::of_type::<Ia5String>(alloc, rule, "STRING", octets),
+        ValueType::Printable => A::of_type::<PrintableString>(alloc, rule, "STRING", octets),
+        ValueType::Foo => A::of_type::<Foo>(alloc, rule, "SEQUENCE", octets),
+        ValueType::OptionalBool => A::of_type::<Option<bool>>(alloc, rule, "OPTIONAL", octets),
+        ValueType::Validity => A::of_type::<Validity>(alloc, rule, "SEQUENCE", octets),
+        ValueType::Any => A::of_type::<Any>(alloc, rule, "ANY", octets),
+        ValueType::AlgorithmIdentifier => {
+            A::of_type::<AlgorithmIdentifier>(alloc, rule, "SEQUENCE", octets)
+        }
+        ValueType::RelativeDistinguishedName => {
+            A::of_type::<RelativeDistinguishedName>(alloc, rule, "SET", octets)
+        }
+        ValueType::Set3 => A::of_type::<Set3>(alloc, rule, "SET", octets),
+        ValueType::Bag => A::of_type::<SetOf<OctetString>>(alloc, rule, "SET", octets),
+    }
+}
