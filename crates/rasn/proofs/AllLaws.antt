@@ -1,17 +1,17 @@
 -- The laws that the functions of src/laws.rt and src/time_laws.rt promise, but for those that need an answer.
-use Rattle.rasn.proofs.AllCarried.{lawful_tested}
-use Rattle.rasn.proofs.Hold.{included, one_choice, one_leaf, one_open, one_option, one_prefix, one_reading, one_sequence, one_sequence_of, one_set, one_set_of, read_again, strict_der, turns, written_once}
-use Rattle.rasn.proofs.WorkedShapes.{carried, shapes}
-use Rattle.rasn.proofs.WorkedDepths.{worked as worked_depths}
-use Rattle.rasn.proofs.WorkedHeaders.{worked as worked_headers}
-use Rattle.rasn.proofs.Worked.{worked as worked_octets}
-use Rattle.rasn.proofs.WorkedOpens.{worked as worked_opens}
-use Rattle.rasn.proofs.WorkedSets.{worked as worked_sets}
-use Rattle.rasn.proofs.WorkedStrict.{worked as worked_strict}
-use Rattle.rasn.proofs.WorkedValues.{worked as worked_values}
-use Rattle.rasn.proofs.Held.{distinct, included as included_texts, one_meaning, read_back}
-use Rattle.rasn.proofs.Seconds.{seconds}
-use Rattle.rasn.proofs.Steps.{steps}
+use Rattle.rasn.proofs.StrictDer.AllCarried.{lawful_tested}
+use Rattle.rasn.proofs.LawsHold.Written.{included, one_choice, one_leaf, one_open, one_option, one_prefix, one_reading, one_sequence, one_sequence_of, one_set, one_set_of, read_again, strict_der, turns, written_once}
+use Rattle.rasn.proofs.Worked.Shapes.{carried, shapes}
+use Rattle.rasn.proofs.Worked.Depths.{worked as worked_depths}
+use Rattle.rasn.proofs.Worked.Headers.{worked as worked_headers}
+use Rattle.rasn.proofs.Worked.Octets.{worked as worked_octets}
+use Rattle.rasn.proofs.Worked.Any.{worked as worked_opens}
+use Rattle.rasn.proofs.Worked.Sets.{worked as worked_sets}
+use Rattle.rasn.proofs.Worked.Strict.{worked as worked_strict}
+use Rattle.rasn.proofs.Worked.Values.{worked as worked_values}
+use Rattle.rasn.proofs.LawsHold.Grammar.{distinct, included as included_texts, one_meaning, read_back}
+use Rattle.rasn.proofs.Time.Seconds.{seconds}
+use Rattle.rasn.proofs.Time.Steps.{steps}
 
 pub ruleset laws = (lawful_tested, included, one_choice, one_leaf, one_open, one_option, one_prefix, one_reading, one_sequence, one_sequence_of, one_set, one_set_of, read_again, strict_der, turns, written_once, carried, shapes, worked_depths, worked_headers, worked_octets, worked_opens, worked_sets, worked_strict, worked_values)
 

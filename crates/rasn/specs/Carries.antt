@@ -1,6 +1,6 @@
 -- The test of shapes of which all that DER reads is carried.
 use Rattle.std.specs.Prelude.{Bool, true, false, not, ◌&&◌, ◌||◌, Some, None}
-use Rattle.rasn_types.specs.Shapes.{Tree, number, bits, numbers, instant, on_day, done, joined, walk, chosen, absent, Shape, leaf, any, prefix, choice, option, seq, set, list, set_of, Parts, part, Presence, required, optional, addition, default}
+use Rattle.rasn_types.specs.Shapes.{Tree, number, bits, numbers, instant, on_day, done, joined, set_elements, chosen, absent, Shape, leaf, any, prefix, choice, option, seq, set, list, set_of, Parts, part, Presence, required, optional, addition, default}
 use Rattle.rasn_types.specs.Shapes.Parts.{none}
 use Rattle.rasn_types.specs.Described.{has_required}
 
@@ -12,7 +12,7 @@ is_list (instant m) = false
 is_list (on_day d) = false
 is_list done = true
 is_list (joined t ts) = is_list ts
-is_list (walk ts) = false
+is_list (set_elements ts) = false
 is_list (chosen k t) = false
 is_list absent = false
 
@@ -25,7 +25,7 @@ is_same_as_itself (instant m) = true
 is_same_as_itself (on_day d) = true
 is_same_as_itself done = true
 is_same_as_itself (joined t ts) = is_same_as_itself t && is_same_as_itself ts
-is_same_as_itself (walk ts) = is_list ts && is_same_as_itself ts
+is_same_as_itself (set_elements ts) = is_list ts && is_same_as_itself ts
 is_same_as_itself (chosen k t) = is_same_as_itself t
 is_same_as_itself absent = true
 

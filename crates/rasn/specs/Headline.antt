@@ -1,20 +1,20 @@
 -- What an entry point answers.
 use Rattle.std.specs.Prelude.{◌≡◌, ◌≢◌, ◌⊎◌, ◌↔◌, ℕ, List, [], ◌++◌, length, Result, Ok, Err, false}
 use Rattle.std.specs.Borrow.{Bor}
-use Rattle.rasn_types.specs.declared.types.rules.Codec.{Codec}
-use Rattle.rasn_types.specs.declared.types.rules.Codec.TheVariants.{Der}
+use Rattle.rasn_types.specs.declared.types.codec.Codec.{Codec}
+use Rattle.rasn_types.specs.declared.types.codec.Codec.TheVariants.{Der}
 use Rattle.rasn_types.specs.declared.error.decode.DecodeError.{DecodeError}
 use Rattle.rasn_types.specs.declared.error.decode.DecodeErrorKind.TheVariants.{UnexpectedExtraData}
 use Rattle.rasn_types.specs.declared.error.encode.EncodeError.{EncodeError}
 use Rattle.rasn_types.specs.Shapes.{Shape, Tree}
 use Rattle.rasn_types.specs.Grammar.{Reads, top}
 use Rattle.rasn_types.specs.Bytes.{Same}
-use Rattle.rasn_types.specs.Carried.{Carried, Meets}
+use Rattle.rasn_types.specs.Carried.{Carried, IsWithinLimits}
 use Rattle.rasn_types.specs.Lawful.{IsLawful}
 use Rattle.rasn_de.specs.Outcomes.{Exact, Outcome, Got, refusal}
 use Rattle.rasn_enc.specs.View.{started}
-use Rattle.rasn_enc.specs.Primitives.{TellsOutOfMemory}
-use Rattle.rasn_enc.specs.Writing.{Closure, Refuses}
+use Rattle.rasn_enc.specs.Primitive.{IsAllocError}
+use Rattle.rasn_enc.specs.Closures.{EncodeClosure, MayFail}
 
 abbrev pub remainder_of : {T : Type 0} → (T → Tree) → Result (T × Bor (List ℕ)) DecodeError → Outcome
 remainder_of tree (Ok p) = Got (tree p.0) p.1.now
@@ -45,12 +45,12 @@ AnsweredAlone rule shape tree input (Err e) = Exact (Reads rule shape 128 (top r
 
 -- The octets of a carried value are those that DER writes of the same carried values, and of no others.
 abbrev pub Identify : Shape → Tree → List ℕ → Type 0
-Identify s t octets = IsLawful s → Meets Der s 128 t → (u : Tree) (c : Carried Der s u) → (Same t u ↔ (octets ≡ c.octets))
+Identify s t octets = IsLawful s → IsWithinLimits Der s 128 t → (u : Tree) (c : Carried Der s u) → (Same t u ↔ (octets ≡ c.octets))
 
 -- Where a carried value is answered, it was read from its octets, in front of the rest.
-abbrev pub TakesWritten : {T : Type 0} → Shape → (T → Tree) → List ℕ → Result (T × Bor (List ℕ)) DecodeError → Type 0
-TakesWritten s tree input (Ok p) = IsLawful s → (c : Carried Der s (tree p.0)) → input ≡ c.octets ++ p.1.now
-TakesWritten s tree input (Err e) = Unit {0}
+abbrev pub ConsumesWritten : {T : Type 0} → Shape → (T → Tree) → List ℕ → Result (T × Bor (List ℕ)) DecodeError → Type 0
+ConsumesWritten s tree input (Ok p) = IsLawful s → (c : Carried Der s (tree p.0)) → input ≡ c.octets ++ p.1.now
+ConsumesWritten s tree input (Err e) = Unit {0}
 
 -- Where a carried value is answered, the input is its octets.
 abbrev pub IsAsWritten : {T : Type 0} → Shape → (T → Tree) → List ℕ → Result T DecodeError → Type 0
@@ -58,5 +58,5 @@ IsAsWritten s tree input (Ok v) = IsLawful s → (c : Carried Der s (tree v)) �
 IsAsWritten s tree input (Err e) = Unit {0}
 
 -- What a closure writes is refused: memory runs out, or the closure refuses from a new encoder on.
-abbrev pub ScopeRefuses : {F T : Type 0} → Closure F T → F → Codec → EncodeError → Type 0
-ScopeRefuses g f rule e = TellsOutOfMemory rule e ⊎ Refuses g f (started rule false) e
+abbrev pub ScopeRefuses : {F T : Type 0} → EncodeClosure F T → F → Codec → EncodeError → Type 0
+ScopeRefuses g f rule e = IsAllocError rule e ⊎ MayFail g f (started rule false) e

@@ -1,17 +1,17 @@
 -- Laws of the grammar.
 use Rattle.std.specs.Prelude.{◌≡◌, ◌↔◌, ℕ, ◌*◌, ◌≤◌, List, [], ◌++◌, length, Bool, true, Option}
-use Rattle.rasn_types.specs.declared.types.rules.Codec.{Codec}
-use Rattle.rasn_types.specs.declared.types.rules.Codec.TheVariants.{Ber, Der}
+use Rattle.rasn_types.specs.declared.types.codec.Codec.{Codec}
+use Rattle.rasn_types.specs.declared.types.codec.Codec.TheVariants.{Ber, Der}
 use Rattle.rasn_types.specs.declared.types.tag.Tag.{Tag}
 use Rattle.rasn_types.specs.declared.types.constraints.Bound.{Bound}
 use Rattle.rasn_types.specs.declared.types.constraints.Constraints.{Constraints}
-use Rattle.rasn_types.specs.Framing.{Whole, turns, AreOctets}
-use Rattle.rasn_types.specs.Shapes.{Tree, Kind, Shape, leaf, any, prefix, choice, option, seq, set, list, set_of, Parts, part, Presence, default, IsSolid}
+use Rattle.rasn_types.specs.Framing.{CompleteEncoding, steps_in, AreOctets}
+use Rattle.rasn_types.specs.Shapes.{Tree, Kind, Shape, leaf, any, prefix, choice, option, seq, set, list, set_of, Parts, part, Presence, default, IsAlwaysPresent}
 use Rattle.rasn_types.specs.Shapes.Parts.{none}
 use Rattle.rasn_types.specs.Grammar.{Reads, top}
 use Rattle.rasn_types.specs.Bytes.{Same, Bytes}
-use Rattle.rasn_types.specs.Carried.{Meets, Carried}
-use Rattle.rasn_types.specs.Lawful.{AreToldApart, IsLawful}
+use Rattle.rasn_types.specs.Carried.{IsWithinLimits, Carried}
+use Rattle.rasn_types.specs.Lawful.{AreDistinguished, IsLawful}
 use Rattle.rasn_types.specs.LawfulTest.{is_lawful}
 use Rattle.rasn.specs.Carries.{carries_all}
 
@@ -39,7 +39,7 @@ abbrev pub OnePrefix : Type 0
 OnePrefix = (rule : Codec) (tag : Tag) (s : Shape) → IsReadOnce rule s → IsReadOnce rule (prefix tag s)
 
 abbrev pub OneChoice : Type 0
-OneChoice = (rule : Codec) (ps : Parts) → AreReadOnce rule ps → AreToldApart ps → IsReadOnce rule (choice ps)
+OneChoice = (rule : Codec) (ps : Parts) → AreReadOnce rule ps → AreDistinguished ps → IsReadOnce rule (choice ps)
 
 abbrev pub OneOption : Type 0
 OneOption = (rule : Codec) (tag : Option Tag) (s : Shape) → IsReadOnce rule s → IsReadOnce rule (option tag s)
@@ -48,7 +48,7 @@ abbrev pub OneSequence : Type 0
 OneSequence = (rule : Codec) (tag : Tag) (ps : Parts) → AreReadOnce rule ps → IsReadOnce rule (seq tag ps)
 
 abbrev pub OneSet : Type 0
-OneSet = (rule : Codec) (tag : Tag) (ps : Parts) → AreReadOnce rule ps → AreToldApart ps → IsReadOnce rule (set tag ps)
+OneSet = (rule : Codec) (tag : Tag) (ps : Parts) → AreReadOnce rule ps → AreDistinguished ps → IsReadOnce rule (set tag ps)
 
 abbrev pub OneSequenceOf : Type 0
 OneSequenceOf = (rule : Codec) (tag : Tag) (s : Shape) (size : Option (Bound ℕ)) → IsReadOnce rule s → IsReadOnce rule (list tag s size)
@@ -67,7 +67,7 @@ Included = (s : Shape) → IsLawful s → (rule : Codec) (depth : ℕ) (input : 
 abbrev pub ReadAgain : Type 0
 ReadAgain = (s : Shape) → IsLawful s → (rule : Codec) (t : Tree) (c : Carried rule s t)
     → (u : Tree) × Same t u × Reads rule s 128 (top rule) c.octets u []
-    × (IsSolid s → (rest : List ℕ) → Reads rule s 128 (top rule) (c.octets ++ rest) u rest)
+    × (IsAlwaysPresent s → (rest : List ℕ) → Reads rule s 128 (top rule) (c.octets ++ rest) u rest)
 
 abbrev pub Canonical : Type 0
 Canonical = (s : Shape) → IsLawful s → (t u : Tree) (c : Carried Der s t) (d : Carried Der s u) → (Same t u ↔ (c.octets ≡ d.octets))
@@ -98,7 +98,7 @@ abbrev mutual
 
 -- What DER reads, and meets the depth, is carried.
 abbrev pub OnlyCarried : Type 0
-OnlyCarried = (s : Shape) → IsLawful s → HasOwnDefaults s → (input : List ℕ) → AreOctets input → (t : Tree) (rest : List ℕ) → Reads Der s 128 (top Der) input t rest → Meets Der s 128 t
+OnlyCarried = (s : Shape) → IsLawful s → HasOwnDefaults s → (input : List ℕ) → AreOctets input → (t : Tree) (rest : List ℕ) → Reads Der s 128 (top Der) input t rest → IsWithinLimits Der s 128 t
     → (c : Carried Der s t) × (input ≡ c.octets ++ rest)
 
 -- What DER reads of a shape that passes the test is carried.
@@ -117,9 +117,9 @@ StrictDer = (s : Shape) → IsLawful s → (input : List ℕ) → AreOctets inpu
 
 -- Of two whole encodings at the front of one input, each is the other, and both take the same turns.
 abbrev pub OneEncoding : Type 0
-OneEncoding = (rule other : Codec) (a b x y : List ℕ) (v : Whole rule a) (w : Whole other b) → a ++ x ≡ b ++ y
-    → (a ≡ b) × (x ≡ y) × (turns v ≡ turns w)
+OneEncoding = (rule other : Codec) (a b x y : List ℕ) (v : CompleteEncoding rule a) (w : CompleteEncoding other b) → a ++ x ≡ b ++ y
+    → (a ≡ b) × (x ≡ y) × (steps_in v ≡ steps_in w)
 
 -- A turn passes two octets at least.
-abbrev pub Turns : Type 0
-Turns = (rule : Codec) (text : List ℕ) (w : Whole rule text) → 2 * turns w ≤ length text
+abbrev pub EncodingSteps : Type 0
+EncodingSteps = (rule : Codec) (text : List ℕ) (w : CompleteEncoding rule text) → 2 * steps_in w ≤ length text

@@ -1,7 +1,7 @@
 -- What holds of the texts of times, and of instants as numbers of seconds.
 use Rattle.std.specs.Prelude.{◌≡◌, ℕ, zero, suc, ◌+◌, ◌-◌, ◌*◌, ◌<◌, ◌⊎◌, List, ℤ, pos, negsuc, ◌≤ℤ◌, ◌+ℤ◌, ◌-ℤ◌, if◌then◌else◌, unsigned_abs}
 use Rattle.rasn_types.specs.Calendar.{Day, IsDay, Moment, IsMoment, Stamp, is_leap, days_of_month, next_day, previous_day, later, earlier, Before}
-use Rattle.rasn_types.specs.Times.{GeneralUtc, CanonicalUtc, GeneralGeneralized, CanonicalGeneralized, StrictGeneralized, DateText, written_date, written_generalized, written_utc, CarriedDay, CarriedUtc, at_utc}
+use Rattle.rasn_types.specs.Time.{GeneralUtc, CanonicalUtc, GeneralGeneralized, CanonicalGeneralized, StrictGeneralized, DateText, written_date, written_generalized, written_utc, CarriedDay, CarriedUtc, at_utc}
 
 -- a text has at most one meaning
 pub record OneMeaning : Type 0 where
@@ -30,7 +30,7 @@ pub record Distinct : Type 0 where
 pub record Steps : Type 0 where
   pub back : (d : Day) → IsDay d → next_day (previous_day d) ≡ d
   pub forth : (d : Day) → IsDay d → previous_day (next_day d) ≡ d
-  pub put_on : (n : ℕ) (m : Moment) → n < 1440 → IsMoment m → later n (earlier n m) ≡ m
+  pub appended_on : (n : ℕ) (m : Moment) → n < 1440 → IsMoment m → later n (earlier n m) ≡ m
   pub taken_off : (n : ℕ) (m : Moment) → n < 1440 → IsMoment m → earlier n (later n m) ≡ m
 
 -- UTC seconds as whole numbers, from the beginning of the year -100000 on: the plain account of days and instants.
@@ -55,7 +55,7 @@ utc_second m = 86400 * day_number m.day + 3600 * m.hour + 60 * m.minute + m.seco
 
 pub record Seconds : Type 0 where
   pub next : (d : Day) → IsDay d → day_number (next_day d) ≡ day_number d + 1
-  pub put_on : (n : ℕ) (m : Moment) → n < 1440 → IsMoment m → utc_second (later n m) ≡ utc_second m + 60 * n
+  pub appended_on : (n : ℕ) (m : Moment) → n < 1440 → IsMoment m → utc_second (later n m) ≡ utc_second m + 60 * n
   pub taken_off : (n : ℕ) (m : Moment) → n < 1440 → IsMoment m → negsuc 99997 ≤ℤ m.day.year → utc_second (earlier n m) + 60 * n ≡ utc_second m
   pub same_day : (d e : Day) → IsDay d → IsDay e → day_number d ≡ day_number e → d ≡ e
   pub same : (m n : Moment) → IsMoment m → IsMoment n → utc_second m ≡ utc_second n → m.nanosecond ≡ n.nanosecond → m ≡ n

@@ -1,11 +1,11 @@
 -- Octets that were worked out by hand, and what they are read as and written from.
 use Rattle.std.specs.Prelude.{◌≡◌, ℕ, List, [], ◌∷◌, ◌++◌, length, Bool, true, false, pos, negsuc, map, Some, None}
 use Rattle.rasn_types.specs.Tags.{Form, der_form, IsStrict, in_universal}
-use Rattle.rasn_types.specs.declared.types.rules.Codec.{Codec}
-use Rattle.rasn_types.specs.declared.types.rules.Codec.TheVariants.{Ber, Cer, Der}
-use Rattle.rasn_types.specs.Framing.{Whole, turns, Next}
+use Rattle.rasn_types.specs.declared.types.codec.Codec.{Codec}
+use Rattle.rasn_types.specs.declared.types.codec.Codec.TheVariants.{Ber, Cer, Der}
+use Rattle.rasn_types.specs.Framing.{CompleteEncoding, steps_in, NextTag}
 use Rattle.rasn_types.specs.Calendar.{Moment}
-use Rattle.rasn_types.specs.Shapes.{Tree, number, bits, numbers, instant, items, walk, absent, every, between, boolean, integer, object_identifier, bit_string, octet_string, generalized_time, Shape, any, prefix}
+use Rattle.rasn_types.specs.Shapes.{Tree, number, bits, numbers, instant, items, set_elements, absent, every, between, boolean, integer, object_identifier, bit_string, octet_string, generalized_time, Shape, any, prefix}
 use Rattle.rasn_types.specs.Contents.{bits_of, joined_lists}
 use Rattle.rasn_types.specs.Grammar.{Reads, top}
 use Rattle.rasn_types.specs.Bytes.{Same, Bytes}
@@ -13,12 +13,12 @@ use Rattle.rasn_types.specs.Carried.{Carried}
 pub use Rattle.rasn.specs.WorkedShapes.{plain, contextual, named, perhaps_bool, octets_in_set_of, seven, seven_of_set, three_of_set}
 
 -- Nothing is read.
-abbrev pub Refuses : Codec → Shape → List ℕ → Type 0
-Refuses rule s input = (t : Tree) (rest : List ℕ) → Reads rule s 128 (top rule) input t rest → ⊥
+abbrev pub IsRefusedBy : Codec → Shape → List ℕ → Type 0
+IsRefusedBy rule s input = (t : Tree) (rest : List ℕ) → Reads rule s 128 (top rule) input t rest → ⊥
 
 -- This tree is read, and this is left.
-abbrev pub Gives : Codec → Shape → List ℕ → Tree → List ℕ → Type 0
-Gives rule s input t rest = Reads rule s 128 (top rule) input t rest
+abbrev pub IsReadAs : Codec → Shape → List ℕ → Tree → List ℕ → Type 0
+IsReadAs rule s input t rest = Reads rule s 128 (top rule) input t rest
 
 -- The tree is carried, and these are its octets.
 abbrev pub IsCarriedAs : Codec → Shape → Tree → List ℕ → Type 0
@@ -80,12 +80,12 @@ falling_octets = 49 ∷ 9 ∷ 130 ∷ 1 ∷ 3 ∷ 129 ∷ 1 ∷ 2 ∷ 128 ∷ 1 
 
 -- BER reads this tree of all the octets, and DER reads nothing.
 abbrev pub IsLenient : Shape → List ℕ → Tree → Type 0
-IsLenient s input t = Gives Ber s input t [] × Refuses Der s input
+IsLenient s input t = IsReadAs Ber s input t [] × IsRefusedBy Der s input
 
 -- What BER reads and DER doesn't, since another spelling is written; open octets stay as they are.
 pub record WorkedStrict : Type 0 where
   pub high_tag : IsLenient (plain boolean 1) (31 ∷ 1 ∷ 1 ∷ 255 ∷ []) (number (pos 1))
-  pub high_tag_next : Next der_form (31 ∷ 1 ∷ 1 ∷ 255 ∷ []) (in_universal 1) → ⊥
+  pub high_tag_next : NextTag der_form (31 ∷ 1 ∷ 1 ∷ 255 ∷ []) (in_universal 1) → ⊥
   pub long_length : IsLenient (plain boolean 1) (1 ∷ 129 ∷ 1 ∷ 255 ∷ []) (number (pos 1))
   pub long_octets : IsLenient (plain octet_string 4) (4 ∷ 129 ∷ 2 ∷ 161 ∷ 178 ∷ []) (numbers (161 ∷ 178 ∷ []))
   pub built_bool : IsLenient (plain boolean 1) (33 ∷ 1 ∷ 255 ∷ []) (number (pos 1))
@@ -97,46 +97,46 @@ pub record WorkedStrict : Type 0 where
   pub set_bits : IsLenient (plain bit_string 3) (3 ∷ 2 ∷ 5 ∷ 255 ∷ []) (bits (true ∷ true ∷ true ∷ []))
   pub default_there : IsLenient seven (48 ∷ 3 ∷ 2 ∷ 1 ∷ 7 ∷ []) (items (number (pos 7) ∷ []))
   pub default_in_set : IsLenient seven_of_set (49 ∷ 3 ∷ 128 ∷ 1 ∷ 7 ∷ []) (items (number (pos 7) ∷ []))
-  pub set_of_falls : IsLenient octets_in_set_of (49 ∷ 6 ∷ 4 ∷ 1 ∷ 2 ∷ 4 ∷ 1 ∷ 1 ∷ []) (walk (items (numbers (2 ∷ []) ∷ numbers (1 ∷ []) ∷ [])))
-  pub set_falls : IsLenient three_of_set falling_octets one_two_three
+  pub set_of_falls : IsLenient octets_in_set_of (49 ∷ 6 ∷ 4 ∷ 1 ∷ 2 ∷ 4 ∷ 1 ∷ 1 ∷ []) (set_elements (items (numbers (2 ∷ []) ∷ numbers (1 ∷ []) ∷ [])))
+  pub set_out_of_order : IsLenient three_of_set falling_octets one_two_three
   pub fraction_ends_in_zero : IsLenient (plain generalized_time 24) (24 ∷ 18 ∷ long_leap_text) (instant leap)
   pub tenth_digit : IsLenient (plain generalized_time 24) (24 ∷ 26 ∷ ten_digits) (instant afternoon)
-  pub lenient_open : Gives Der (any None) (2 ∷ 129 ∷ 1 ∷ 5 ∷ []) (numbers (2 ∷ 129 ∷ 1 ∷ 5 ∷ [])) []
-  pub lenient_inside : Gives Der (any (Some (contextual 0))) (160 ∷ 4 ∷ 2 ∷ 129 ∷ 1 ∷ 5 ∷ []) (numbers (2 ∷ 129 ∷ 1 ∷ 5 ∷ [])) []
+  pub lenient_open : IsReadAs Der (any None) (2 ∷ 129 ∷ 1 ∷ 5 ∷ []) (numbers (2 ∷ 129 ∷ 1 ∷ 5 ∷ [])) []
+  pub lenient_inside : IsReadAs Der (any (Some (contextual 0))) (160 ∷ 4 ∷ 2 ∷ 129 ∷ 1 ∷ 5 ∷ []) (numbers (2 ∷ 129 ∷ 1 ∷ 5 ∷ [])) []
 
 pub record Worked : Type 0 where
-  pub any_value : Gives Ber (any None) (nested ++ (2 ∷ 1 ∷ 2 ∷ [])) (numbers nested) (2 ∷ 1 ∷ 2 ∷ [])
-  pub five_turns : (w : Whole Ber nested) → turns w ≡ 5
-  pub lenient_true : Gives Ber (plain boolean 1) (1 ∷ 1 ∷ 5 ∷ []) (number (pos 1)) []
-  pub strict_true : Refuses Cer (plain boolean 1) (1 ∷ 1 ∷ 5 ∷ [])
-  pub padded_integer : (rule : Codec) → (IsStrict rule → ⊥) → Gives rule (plain (integer (between (negsuc 2147483647) (pos 2147483647))) 2)
+  pub any_value : IsReadAs Ber (any None) (nested ++ (2 ∷ 1 ∷ 2 ∷ [])) (numbers nested) (2 ∷ 1 ∷ 2 ∷ [])
+  pub five_steps : (w : CompleteEncoding Ber nested) → steps_in w ≡ 5
+  pub lenient_true : IsReadAs Ber (plain boolean 1) (1 ∷ 1 ∷ 5 ∷ []) (number (pos 1)) []
+  pub strict_true : IsRefusedBy Cer (plain boolean 1) (1 ∷ 1 ∷ 5 ∷ [])
+  pub padded_integer : (rule : Codec) → (IsStrict rule → ⊥) → IsReadAs rule (plain (integer (between (negsuc 2147483647) (pos 2147483647))) 2)
       (2 ∷ 6 ∷ 255 ∷ 255 ∷ 255 ∷ 255 ∷ 127 ∷ 0 ∷ []) (number (negsuc 33023)) []
-  pub octets_in_segments : Gives Ber (plain octet_string 4)
+  pub octets_in_segments : IsReadAs Ber (plain octet_string 4)
       (36 ∷ 128 ∷ 4 ∷ 1 ∷ 161 ∷ 36 ∷ 3 ∷ 4 ∷ 1 ∷ 178 ∷ 36 ∷ 128 ∷ 4 ∷ 1 ∷ 195 ∷ 0 ∷ 0 ∷ 0 ∷ 0 ∷ []) (numbers (161 ∷ 178 ∷ 195 ∷ [])) []
-  pub bits_in_segments : Gives Ber (plain bit_string 3)
+  pub bits_in_segments : IsReadAs Ber (plain bit_string 3)
       (35 ∷ 128 ∷ 3 ∷ 3 ∷ 0 ∷ 10 ∷ 59 ∷ 3 ∷ 5 ∷ 4 ∷ 95 ∷ 41 ∷ 28 ∷ 208 ∷ 0 ∷ 0 ∷ [])
       (bits (joined_lists (map bits_of (10 ∷ 59 ∷ 95 ∷ 41 ∷ 28 ∷ [])) ++ (true ∷ true ∷ false ∷ true ∷ []))) []
-  pub default_left_out : (rule : Codec) → Gives rule seven (48 ∷ 0 ∷ []) (items (number (pos 7) ∷ [])) []
-  pub default_spelled : (rule : Codec) → (IsStrict rule → ⊥) → Gives rule seven (48 ∷ 3 ∷ 2 ∷ 1 ∷ 7 ∷ []) (items (number (pos 7) ∷ [])) []
+  pub default_left_out : (rule : Codec) → IsReadAs rule seven (48 ∷ 0 ∷ []) (items (number (pos 7) ∷ [])) []
+  pub default_spelled : (rule : Codec) → (IsStrict rule → ⊥) → IsReadAs rule seven (48 ∷ 3 ∷ 2 ∷ 1 ∷ 7 ∷ []) (items (number (pos 7) ∷ [])) []
   pub default_not_written : Bytes Der seven (items (number (pos 7) ∷ [])) (48 ∷ 0 ∷ [])
-  pub set_of_out_of_order : (rule : Codec) → (IsStrict rule → ⊥) → Gives rule octets_in_set_of (49 ∷ 6 ∷ 4 ∷ 1 ∷ 2 ∷ 4 ∷ 1 ∷ 1 ∷ []) (walk (items (numbers (2 ∷ []) ∷ numbers (1 ∷ []) ∷ []))) []
-  pub set_of_not_written : (rule : Codec) (b : List ℕ) → Bytes rule octets_in_set_of (walk (items (numbers (2 ∷ []) ∷ numbers (1 ∷ []) ∷ []))) b → ⊥
-  pub sets_of_in_any_order : Same (walk (octets_each 2 1)) (walk (octets_each 1 2))
+  pub set_of_out_of_order : (rule : Codec) → (IsStrict rule → ⊥) → IsReadAs rule octets_in_set_of (49 ∷ 6 ∷ 4 ∷ 1 ∷ 2 ∷ 4 ∷ 1 ∷ 1 ∷ []) (set_elements (items (numbers (2 ∷ []) ∷ numbers (1 ∷ []) ∷ []))) []
+  pub set_of_not_written : (rule : Codec) (b : List ℕ) → Bytes rule octets_in_set_of (set_elements (items (numbers (2 ∷ []) ∷ numbers (1 ∷ []) ∷ []))) b → ⊥
+  pub sets_of_in_any_order : Same (set_elements (octets_each 2 1)) (set_elements (octets_each 1 2))
   pub lists_in_order : Same (octets_each 2 1) (octets_each 1 2) → ⊥
   pub bits_in_one : (bs : List Bool) (b : List ℕ) → length bs ≡ 7992 → Bytes Cer (plain bit_string 3) (bits bs) b → IsLongPiece b
   pub bits_in_two : (bs : List Bool) (b : List ℕ) → length bs ≡ 8000 → Bytes Cer (plain bit_string 3) (bits bs) b → AreTwoPieces b
   pub octets_in_one : (front b : List ℕ) → length front ≡ 1000 → Bytes Cer (plain octet_string 4) (numbers front) b → b ≡ 4 ∷ 130 ∷ 3 ∷ 232 ∷ front
   pub octets_in_two : (front : List ℕ) (last : ℕ) (b : List ℕ) → length front ≡ 1000 → Bytes Cer (plain octet_string 4) (numbers (front ++ (last ∷ []))) b
       → b ≡ 36 ∷ 128 ∷ 4 ∷ 130 ∷ 3 ∷ 232 ∷ (front ++ (4 ∷ 1 ∷ last ∷ 0 ∷ 0 ∷ []))
-  pub absent_before_end : Gives Ber perhaps_bool (0 ∷ 0 ∷ []) absent (0 ∷ 0 ∷ [])
-  pub no_end_under_der : Refuses Der perhaps_bool (0 ∷ 0 ∷ [])
-  pub absent_before_another : (rule : Codec) → Gives rule perhaps_bool (2 ∷ 1 ∷ 5 ∷ []) absent (2 ∷ 1 ∷ 5 ∷ [])
-  pub great_tag : (spelling : Form) → Next spelling (31 ∷ 143 ∷ 255 ∷ 255 ∷ 255 ∷ 127 ∷ []) (in_universal 4294967295)
-  pub great_arc : (rule : Codec) → Gives rule (plain object_identifier 6) (6 ∷ 5 ∷ 143 ∷ 255 ∷ 255 ∷ 255 ∷ 127 ∷ []) (numbers (2 ∷ 4294967215 ∷ [])) []
-  pub leap_second : (rule : Codec) → Gives rule (plain generalized_time 24) (24 ∷ 17 ∷ leap_text) (instant leap) []
-  pub zeros_in_definite_string : Refuses Ber (plain octet_string 4) (36 ∷ 5 ∷ 4 ∷ 1 ∷ 161 ∷ 0 ∷ 0 ∷ [])
-  pub smith_in_segments : Gives Ber named (48 ∷ 128 ∷ 54 ∷ 128 ∷ 4 ∷ 2 ∷ 83 ∷ 109 ∷ 4 ∷ 3 ∷ 105 ∷ 116 ∷ 104 ∷ 0 ∷ 0 ∷ 1 ∷ 1 ∷ 1 ∷ 0 ∷ 0 ∷ []) smith []
-  pub smith_in_one : (rule : Codec) → Gives rule named (48 ∷ 10 ∷ 22 ∷ 5 ∷ 83 ∷ 109 ∷ 105 ∷ 116 ∷ 104 ∷ 1 ∷ 1 ∷ 255 ∷ []) smith []
+  pub absent_before_end : IsReadAs Ber perhaps_bool (0 ∷ 0 ∷ []) absent (0 ∷ 0 ∷ [])
+  pub no_end_under_der : IsRefusedBy Der perhaps_bool (0 ∷ 0 ∷ [])
+  pub absent_before_another : (rule : Codec) → IsReadAs rule perhaps_bool (2 ∷ 1 ∷ 5 ∷ []) absent (2 ∷ 1 ∷ 5 ∷ [])
+  pub great_tag : (spelling : Form) → NextTag spelling (31 ∷ 143 ∷ 255 ∷ 255 ∷ 255 ∷ 127 ∷ []) (in_universal 4294967295)
+  pub great_arc : (rule : Codec) → IsReadAs rule (plain object_identifier 6) (6 ∷ 5 ∷ 143 ∷ 255 ∷ 255 ∷ 255 ∷ 127 ∷ []) (numbers (2 ∷ 4294967215 ∷ [])) []
+  pub leap_second : (rule : Codec) → IsReadAs rule (plain generalized_time 24) (24 ∷ 17 ∷ leap_text) (instant leap) []
+  pub zeros_in_definite_string : IsRefusedBy Ber (plain octet_string 4) (36 ∷ 5 ∷ 4 ∷ 1 ∷ 161 ∷ 0 ∷ 0 ∷ [])
+  pub smith_in_segments : IsReadAs Ber named (48 ∷ 128 ∷ 54 ∷ 128 ∷ 4 ∷ 2 ∷ 83 ∷ 109 ∷ 4 ∷ 3 ∷ 105 ∷ 116 ∷ 104 ∷ 0 ∷ 0 ∷ 1 ∷ 1 ∷ 1 ∷ 0 ∷ 0 ∷ []) smith []
+  pub smith_in_one : (rule : Codec) → IsReadAs rule named (48 ∷ 10 ∷ 22 ∷ 5 ∷ 83 ∷ 109 ∷ 105 ∷ 116 ∷ 104 ∷ 1 ∷ 1 ∷ 255 ∷ []) smith []
   pub smith_in_ber : IsCarriedAs Ber named smith (48 ∷ 10 ∷ 22 ∷ 5 ∷ 83 ∷ 109 ∷ 105 ∷ 116 ∷ 104 ∷ 1 ∷ 1 ∷ 255 ∷ [])
   pub smith_in_der : IsCarriedAs Der named smith (48 ∷ 10 ∷ 22 ∷ 5 ∷ 83 ∷ 109 ∷ 105 ∷ 116 ∷ 104 ∷ 1 ∷ 1 ∷ 255 ∷ [])
   pub smith_in_cer : IsCarriedAs Cer named smith (48 ∷ 128 ∷ 22 ∷ 5 ∷ 83 ∷ 109 ∷ 105 ∷ 116 ∷ 104 ∷ 1 ∷ 1 ∷ 255 ∷ 0 ∷ 0 ∷ [])

@@ -1,10 +1,10 @@
 -- Values nested as deep as they may be, and one deeper.
 use Rattle.std.specs.Prelude.{ℕ, zero, suc, List, [], ◌∷◌, ◌++◌, length, pos, None}
 use Rattle.rasn_types.specs.Tags.{in_universal}
-use Rattle.rasn_types.specs.declared.types.rules.Codec.TheVariants.{Ber}
+use Rattle.rasn_types.specs.declared.types.codec.Codec.TheVariants.{Ber}
 use Rattle.rasn_types.specs.Shapes.{Tree, number, numbers, items, integer, every, null, octet_string, Shape, prefix, seq, set, list, part, required}
 use Rattle.rasn_types.specs.Shapes.Parts.{none}
-use Rattle.rasn.specs.Worked.{Refuses, Gives}
+use Rattle.rasn.specs.Worked.{IsRefusedBy, IsReadAs}
 use Rattle.rasn.specs.WorkedShapes.{plain, contextual}
 
 -- Octets in the indefinite form, nested so deep: each value begins with this octet and `80`, and ends in `00 00`.
@@ -43,13 +43,13 @@ empty_in zero = items []
 empty_in (suc n) = items (empty_in n ∷ [])
 
 pub record WorkedDepths : Type 0 where
-  pub segments_128 : Gives Ber (plain octet_string 4) (segments 128) (numbers []) []
-  pub segments_129 : Refuses Ber (plain octet_string 4) (segments 129)
-  pub lists_64 : Gives Ber (lists 63) (nested_lists 63) (empty_in 63) []
-  pub lists_65 : Refuses Ber (lists 64) (48 ∷ 129 ∷ 128 ∷ nested_lists 63)
-  pub sequences_128 : Gives Ber (sequences 127) (nested_in 48 [] 128) (empty_in 127) []
-  pub sequences_129 : Refuses Ber (sequences 128) (nested_in 48 [] 129)
-  pub sets_128 : Gives Ber (sets 127) (nested_in 49 [] 128) (empty_in 127) []
-  pub sets_129 : Refuses Ber (sets 128) (nested_in 49 [] 129)
-  pub prefixes_128 : Gives Ber (prefixes 128) (nested_in 160 (5 ∷ 0 ∷ []) 128) (number (pos 0)) []
-  pub prefixes_129 : Refuses Ber (prefixes 129) (nested_in 160 (5 ∷ 0 ∷ []) 129)
+  pub segments_128 : IsReadAs Ber (plain octet_string 4) (segments 128) (numbers []) []
+  pub segments_129 : IsRefusedBy Ber (plain octet_string 4) (segments 129)
+  pub lists_64 : IsReadAs Ber (lists 63) (nested_lists 63) (empty_in 63) []
+  pub lists_65 : IsRefusedBy Ber (lists 64) (48 ∷ 129 ∷ 128 ∷ nested_lists 63)
+  pub sequences_128 : IsReadAs Ber (sequences 127) (nested_in 48 [] 128) (empty_in 127) []
+  pub sequences_129 : IsRefusedBy Ber (sequences 128) (nested_in 48 [] 129)
+  pub sets_128 : IsReadAs Ber (sets 127) (nested_in 49 [] 128) (empty_in 127) []
+  pub sets_129 : IsRefusedBy Ber (sets 128) (nested_in 49 [] 129)
+  pub prefixes_128 : IsReadAs Ber (prefixes 128) (nested_in 160 (5 ∷ 0 ∷ []) 128) (number (pos 0)) []
+  pub prefixes_129 : IsRefusedBy Ber (prefixes 129) (nested_in 160 (5 ∷ 0 ∷ []) 129)

@@ -3,13 +3,13 @@ use Rattle.std.specs.Prelude.{◌≡◌, ℕ, [], ◌∷◌, pos, Some, None, tr
 use Rattle.rasn_types.specs.Tags.{in_universal}
 use Rattle.rasn_types.specs.declared.types.tag.Tag.{Tag}
 use Rattle.rasn_types.specs.declared.types.tag.Class.TheVariants.{Application, Context}
-use Rattle.rasn_types.specs.Shapes.{number, walk, items, absent, every, Kind, boolean, object_identifier, bit_string, octet_string, integer, ia5, utc_time, generalized_time, Shape, Parts, leaf, any, prefix, choice, option, seq, set, list, set_of, part, required, optional, addition, default}
+use Rattle.rasn_types.specs.Shapes.{number, set_elements, items, absent, every, Kind, boolean, object_identifier, bit_string, octet_string, integer, ia5, utc_time, generalized_time, Shape, Parts, leaf, any, prefix, choice, option, seq, set, list, set_of, part, required, optional, addition, default}
 use Rattle.rasn_types.specs.Shapes.Parts.{none}
 use Rattle.rasn_types.specs.Trees.{unconstrained, unsigned_range}
-use Rattle.rasn_types.specs.declared.types.rules.Codec.TheVariants.{Der}
+use Rattle.rasn_types.specs.declared.types.codec.Codec.TheVariants.{Der}
 use Rattle.rasn_types.specs.Lawful.{IsLawful}
 use Rattle.rasn_types.specs.Described.{count, describes}
-use Rattle.rasn_de.proofs.Telling.{begins_alone}
+use Rattle.rasn_de.proofs.OwnTypes.Tags.{begins_alone}
 use Rattle.rasn_types.specs.Grammar.{Reads}
 use Rattle.rasn_types.specs.Carried.{Carried}
 use Rattle.rasn.specs.Laws.{HasOwnDefaults}
@@ -165,7 +165,7 @@ added_alone = seq (in_universal 16) (part addition (prefix (contextual 0) whole_
 
 -- a default that is the tree of no value: the walk of a SET OF goes over a list
 abbrev pub no_value : Shape
-no_value = seq (in_universal 16) (part (default (walk (number (pos 0)))) (set_of (in_universal 17) whole_number None) none)
+no_value = seq (in_universal 16) (part (default (set_elements (number (pos 0)))) (set_of (in_universal 17) whole_number None) none)
 
 pub record LawfulShapes : Type 0 where
   pub certificate : IsLawful certificate

@@ -1,15 +1,15 @@
 -- Values with their octets, worked out by hand: which are carried, and which aren't written or aren't carried.
 use Rattle.std.specs.Prelude.{◌≡◌, ℕ, ◌<◌, List, [], ◌∷◌, ◌++◌, length, true, false, pos, negsuc, Some, None}
 use Rattle.rasn_types.specs.Tags.{in_universal}
-use Rattle.rasn_types.specs.declared.types.rules.Codec.{Codec}
-use Rattle.rasn_types.specs.declared.types.rules.Codec.TheVariants.{Ber, Cer, Der}
+use Rattle.rasn_types.specs.declared.types.codec.Codec.{Codec}
+use Rattle.rasn_types.specs.declared.types.codec.Codec.TheVariants.{Ber, Cer, Der}
 use Rattle.rasn_types.specs.Framing.{AreOctets}
 use Rattle.rasn_types.specs.Calendar.{Day}
-use Rattle.rasn_types.specs.Shapes.{Tree, number, bits, numbers, instant, on_day, items, walk, chosen, absent, integer, every, null, object_identifier, bit_string, octet_string, date, any, prefix, list}
+use Rattle.rasn_types.specs.Shapes.{Tree, number, bits, numbers, instant, on_day, items, set_elements, chosen, absent, integer, every, null, object_identifier, bit_string, octet_string, date, any, prefix, list}
 use Rattle.rasn_types.specs.Trees.{signed_range}
 use Rattle.rasn_types.specs.Bytes.{Bytes}
 use Rattle.rasn_types.specs.Carried.{Carried}
-use Rattle.rasn.specs.Worked.{IsCarriedAs, Refuses, Gives, one_two_three, three_two_one, rising_octets}
+use Rattle.rasn.specs.Worked.{IsCarriedAs, IsRefusedBy, IsReadAs, one_two_three, three_two_one, rising_octets}
 use Rattle.rasn.specs.WorkedShapes.{plain, contextual, perhaps_bool, validity, three_of_set, turned_round, octets_in_set_of, algorithm, relative_name, extended, mixed}
 
 abbrev pub on : ℕ → ℕ → ℕ → Day
@@ -41,25 +41,25 @@ pub record WorkedValues : Type 0 where
 
 pub record WorkedSets : Type 0 where
   pub set_rises : IsCarriedAs Der three_of_set one_two_three rising_octets
-  pub set_never_falls : (rule : Codec) (b : List ℕ) → Bytes rule turned_round three_two_one b → ⊥
-  pub set_of_rises : IsCarriedAs Der octets_in_set_of (walk (items (numbers (1 ∷ []) ∷ numbers (2 ∷ []) ∷ numbers (1 ∷ 255 ∷ []) ∷ numbers (2 ∷ 1 ∷ []) ∷ [])))
+  pub set_never_out_of_order : (rule : Codec) (b : List ℕ) → Bytes rule turned_round three_two_one b → ⊥
+  pub set_of_rises : IsCarriedAs Der octets_in_set_of (set_elements (items (numbers (1 ∷ []) ∷ numbers (2 ∷ []) ∷ numbers (1 ∷ 255 ∷ []) ∷ numbers (2 ∷ 1 ∷ []) ∷ [])))
       (49 ∷ 14 ∷ 4 ∷ 1 ∷ 1 ∷ 4 ∷ 1 ∷ 2 ∷ 4 ∷ 2 ∷ 1 ∷ 255 ∷ 4 ∷ 2 ∷ 2 ∷ 1 ∷ [])
   pub all_in_set : IsCarriedAs Der mixed (items (items (number (pos 1) ∷ number (pos 2) ∷ []) ∷ number (pos 7) ∷ numbers (5 ∷ 0 ∷ []) ∷ items (number (pos 9) ∷ []) ∷ []))
       (49 ∷ 22 ∷ 49 ∷ 6 ∷ 128 ∷ 1 ∷ 1 ∷ 129 ∷ 1 ∷ 2 ∷ 64 ∷ 1 ∷ 7 ∷ 162 ∷ 2 ∷ 5 ∷ 0 ∷ 163 ∷ 5 ∷ 48 ∷ 3 ∷ 2 ∷ 1 ∷ 9 ∷ [])
-  pub one_name : IsCarriedAs Der relative_name (walk (items (items (numbers (2 ∷ 5 ∷ 4 ∷ 3 ∷ []) ∷ numbers (12 ∷ 2 ∷ 65 ∷ 66 ∷ []) ∷ []) ∷ [])))
+  pub one_name : IsCarriedAs Der relative_name (set_elements (items (items (numbers (2 ∷ 5 ∷ 4 ∷ 3 ∷ []) ∷ numbers (12 ∷ 2 ∷ 65 ∷ 66 ∷ []) ∷ []) ∷ [])))
       (49 ∷ 11 ∷ 48 ∷ 9 ∷ 6 ∷ 3 ∷ 85 ∷ 4 ∷ 3 ∷ 12 ∷ 2 ∷ 65 ∷ 66 ∷ [])
 
 pub record WorkedOpens : Type 0 where
   pub identified : IsCarriedAs Der algorithm (items (numbers (1 ∷ 2 ∷ 840 ∷ 113549 ∷ 1 ∷ 1 ∷ 1 ∷ []) ∷ numbers (5 ∷ 0 ∷ []) ∷ []))
       (48 ∷ 13 ∷ 6 ∷ 9 ∷ 42 ∷ 134 ∷ 72 ∷ 134 ∷ 247 ∷ 13 ∷ 1 ∷ 1 ∷ 1 ∷ 5 ∷ 0 ∷ [])
-  pub open_to_the_end : Gives Ber (any (Some (contextual 1))) (161 ∷ 128 ∷ 4 ∷ 2 ∷ 171 ∷ 205 ∷ 0 ∷ 0 ∷ []) (numbers (4 ∷ 2 ∷ 171 ∷ 205 ∷ [])) []
+  pub open_to_the_end : IsReadAs Ber (any (Some (contextual 1))) (161 ∷ 128 ∷ 4 ∷ 2 ∷ 171 ∷ 205 ∷ 0 ∷ 0 ∷ []) (numbers (4 ∷ 2 ∷ 171 ∷ 205 ∷ [])) []
   pub open_closed : IsCarriedAs Cer (any (Some (contextual 1))) (numbers (4 ∷ 2 ∷ 171 ∷ 205 ∷ [])) (161 ∷ 128 ∷ 4 ∷ 2 ∷ 171 ∷ 205 ∷ 0 ∷ 0 ∷ [])
-  pub open_empty : (rule : Codec) → Gives rule (any (Some (contextual 1))) (161 ∷ 0 ∷ []) (numbers []) []
+  pub open_empty : (rule : Codec) → IsReadAs rule (any (Some (contextual 1))) (161 ∷ 0 ∷ []) (numbers []) []
   pub empty_not_written : (rule : Codec) → Bytes rule (any (Some (contextual 1))) (numbers []) []
   pub empty_not_carried : (rule : Codec) → Carried rule (any (Some (contextual 1))) (numbers []) → ⊥
   pub addition_there : IsCarriedAs Der extended (items (number (pos 1) ∷ number (pos 5) ∷ [])) (48 ∷ 8 ∷ 1 ∷ 1 ∷ 255 ∷ 160 ∷ 3 ∷ 2 ∷ 1 ∷ 5 ∷ [])
   pub addition_left_out : Bytes Der extended (items (number (pos 1) ∷ absent ∷ [])) (48 ∷ 3 ∷ 1 ∷ 1 ∷ 255 ∷ [])
-  pub addition_awaited : (rule : Codec) → Refuses rule extended (48 ∷ 3 ∷ 1 ∷ 1 ∷ 255 ∷ [])
+  pub addition_awaited : (rule : Codec) → IsRefusedBy rule extended (48 ∷ 3 ∷ 1 ∷ 1 ∷ 255 ∷ [])
   pub absent_not_carried : (rule : Codec) → Carried rule extended (items (number (pos 1) ∷ absent ∷ [])) → ⊥
   pub two_segments : (front : List ℕ) (last : ℕ) → length front ≡ 1000 → AreOctets front → last < 256
       → IsCarriedAs Cer (plain octet_string 4) (numbers (front ++ (last ∷ []))) (36 ∷ 128 ∷ 4 ∷ 130 ∷ 3 ∷ 232 ∷ (front ++ (4 ∷ 1 ∷ last ∷ 0 ∷ 0 ∷ [])))

@@ -3,11 +3,11 @@ ghost use Rattle.std.specs.Prelude.{◌≡◌, [], IfOk, IfErr, OnOk, OnErr, ◌
 ghost use Rattle.std.specs.Fn.{FnOnceTakesAtMut};
 ghost use Rattle.rasn_types.specs.Bytes.{Bytes};
 ghost use Rattle.rasn_types.specs.Errors.{IsEncodeOutOfMemory};
-ghost use Rattle.rasn_types.specs.declared.types.rules.Codec.TheVariants.{Ber};
+ghost use Rattle.rasn_types.specs.declared.types.codec.Codec.TheVariants.{Ber};
 ghost use Rattle.rasn.specs.Headline.{Answered, AnsweredFirst, ScopeRefuses};
 ghost use Rattle.rasn_enc.specs.View.{started};
-ghost use Rattle.rasn_enc.specs.Wrote.{Undefined};
-ghost use Rattle.rasn_enc.specs.Writing.{WritesBehind, Outputs};
+ghost use Rattle.rasn_enc.specs.Encoding.{NoEncoding};
+ghost use Rattle.rasn_enc.specs.Closures.{OnlyAppends, WritesOutput};
 
 use crate::entry;
 pub use rasn_de::ber::de;
@@ -42,7 +42,7 @@ pub fn decode_with_remainder<T: Decode>(
 /// The value's octets. Fails if an allocation fails or the value has no encoding under these rules.
 pub fn encode<T: Encode>(alloc: Global, value: &T) -> Result<Vec<u8>, EncodeError>
     ensures ok { IfOk result (λ octets. Bytes Ber T.shape (T.tree value.now) octets.items) }
-    ensures refused { IfErr result (λ error. IsEncodeOutOfMemory error.kind ⊎ Undefined Ber T.shape (T.tree value.now)) }
+    ensures refused { IfErr result (λ error. IsEncodeOutOfMemory error.kind ⊎ NoEncoding Ber T.shape (T.tree value.now)) }
 {
     entry::encode(alloc, value, EncoderOptions::ber())
 }
@@ -56,7 +56,7 @@ pub fn encode_buf<T: Encode>(
 ) -> Result<(), EncodeError>
     ensures ok { OnOk result (Bytes Ber T.shape (T.tree value.now) buffer.new.items) }
     ensures err { OnErr result (buffer.new.items ≡ []) }
-    ensures refused { IfErr result (λ error. IsEncodeOutOfMemory error.kind ⊎ Undefined Ber T.shape (T.tree value.now)) }
+    ensures refused { IfErr result (λ error. IsEncodeOutOfMemory error.kind ⊎ NoEncoding Ber T.shape (T.tree value.now)) }
 {
     entry::encode_buf(alloc, value, buffer, EncoderOptions::ber())
 }
@@ -67,8 +67,8 @@ pub fn encode_scope<F: FnOnce(&mut Encoder) -> Result<(), EncodeError>>(
     values: F,
 ) -> Result<Vec<u8>, EncodeError>
     requires callable { FnOnceTakesAtMut F.FnOnce values (started Ber false) }
-    requires keeps { WritesBehind F.FnOnce values (started Ber false) }
-    ensures ok { IfOk result (λ octets. Outputs F.FnOnce values Ber octets.items) }
+    requires keeps { OnlyAppends F.FnOnce values (started Ber false) }
+    ensures ok { IfOk result (λ octets. WritesOutput F.FnOnce values Ber octets.items) }
     ensures refused { IfErr result (ScopeRefuses F.FnOnce values Ber) }
 {
     entry::encode_scope(alloc, values, EncoderOptions::ber())

@@ -3,11 +3,11 @@ ghost use Rattle.std.specs.Prelude.{◌≡◌, [], IfOk, IfErr, OnOk, OnErr, ◌
 ghost use Rattle.std.specs.Fn.{FnOnceTakesAtMut};
 ghost use Rattle.rasn_types.specs.Bytes.{Bytes};
 ghost use Rattle.rasn_types.specs.Errors.{IsEncodeOutOfMemory};
-ghost use Rattle.rasn_types.specs.declared.types.rules.Codec.TheVariants.{Der};
-ghost use Rattle.rasn.specs.Headline.{Answered, AnsweredAlone, Identify, TakesWritten, IsAsWritten, ScopeRefuses};
+ghost use Rattle.rasn_types.specs.declared.types.codec.Codec.TheVariants.{Der};
+ghost use Rattle.rasn.specs.Headline.{Answered, AnsweredAlone, Identify, ConsumesWritten, IsAsWritten, ScopeRefuses};
 ghost use Rattle.rasn_enc.specs.View.{started};
-ghost use Rattle.rasn_enc.specs.Wrote.{Undefined};
-ghost use Rattle.rasn_enc.specs.Writing.{WritesBehind, Outputs};
+ghost use Rattle.rasn_enc.specs.Encoding.{NoEncoding};
+ghost use Rattle.rasn_enc.specs.Closures.{OnlyAppends, WritesOutput};
 
 pub use crate::ber::{Identifier, de, enc};
 use crate::entry;
@@ -46,7 +46,7 @@ pub fn decode_with_remainder<T: Decode>(
     input: &[u8],
 ) -> Result<(T, &[u8]), DecodeError>
     ensures exact { Answered Der T.shape T.tree input.now result }
-    ensures written { TakesWritten T.shape T.tree input.now result }
+    ensures written { ConsumesWritten T.shape T.tree input.now result }
 {
     entry::decode_with_remainder(alloc, input, DecoderOptions::der())
 }
@@ -56,7 +56,7 @@ pub fn decode_with_remainder<T: Decode>(
 pub fn encode<T: Encode>(alloc: Global, value: &T) -> Result<Vec<u8>, EncodeError>
     ensures ok { IfOk result (λ octets. Bytes Der T.shape (T.tree value.now) octets.items) }
     ensures canonical { IfOk result (λ octets. Identify T.shape (T.tree value.now) octets.items) }
-    ensures refused { IfErr result (λ error. IsEncodeOutOfMemory error.kind ⊎ Undefined Der T.shape (T.tree value.now)) }
+    ensures refused { IfErr result (λ error. IsEncodeOutOfMemory error.kind ⊎ NoEncoding Der T.shape (T.tree value.now)) }
 {
     entry::encode(alloc, value, EncoderOptions::der())
 }
@@ -71,7 +71,7 @@ pub fn encode_buf<T: Encode>(
     ensures ok { OnOk result (Bytes Der T.shape (T.tree value.now) buffer.new.items) }
     ensures canonical { OnOk result (Identify T.shape (T.tree value.now) buffer.new.items) }
     ensures err { OnErr result (buffer.new.items ≡ []) }
-    ensures refused { IfErr result (λ error. IsEncodeOutOfMemory error.kind ⊎ Undefined Der T.shape (T.tree value.now)) }
+    ensures refused { IfErr result (λ error. IsEncodeOutOfMemory error.kind ⊎ NoEncoding Der T.shape (T.tree value.now)) }
 {
     entry::encode_buf(alloc, value, buffer, EncoderOptions::der())
 }
@@ -82,8 +82,8 @@ pub fn encode_scope<F: FnOnce(&mut Encoder) -> Result<(), EncodeError>>(
     values: F,
 ) -> Result<Vec<u8>, EncodeError>
     requires callable { FnOnceTakesAtMut F.FnOnce values (started Der false) }
-    requires keeps { WritesBehind F.FnOnce values (started Der false) }
-    ensures ok { IfOk result (λ octets. Outputs F.FnOnce values Der octets.items) }
+    requires keeps { OnlyAppends F.FnOnce values (started Der false) }
+    ensures ok { IfOk result (λ octets. WritesOutput F.FnOnce values Der octets.items) }
     ensures refused { IfErr result (ScopeRefuses F.FnOnce values Der) }
 {
     entry::encode_scope(alloc, values, EncoderOptions::der())

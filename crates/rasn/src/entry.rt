@@ -5,8 +5,8 @@ ghost use Rattle.rasn_types.specs.Bytes.{Bytes};
 ghost use Rattle.rasn_types.specs.Errors.{IsEncodeOutOfMemory};
 ghost use Rattle.rasn.specs.Headline.{Answered, ScopeRefuses};
 ghost use Rattle.rasn_enc.specs.View.{started};
-ghost use Rattle.rasn_enc.specs.Wrote.{Undefined};
-ghost use Rattle.rasn_enc.specs.Writing.{WritesBehind, Outputs};
+ghost use Rattle.rasn_enc.specs.Encoding.{NoEncoding};
+ghost use Rattle.rasn_enc.specs.Closures.{OnlyAppends, WritesOutput};
 
 use rasn_de::ber::de::{Decoder, DecoderOptions};
 use rasn_de::de::Decode;
@@ -36,7 +36,7 @@ pub(crate) fn encode<T: Encode>(
     options: EncoderOptions,
 ) -> Result<Vec<u8>, EncodeError>
     ensures ok { IfOk result (λ octets. Bytes options T.shape (T.tree value.now) octets.items) }
-    ensures refused { IfErr result (λ error. IsEncodeOutOfMemory error.kind ⊎ Undefined options T.shape (T.tree value.now)) }
+    ensures refused { IfErr result (λ error. IsEncodeOutOfMemory error.kind ⊎ NoEncoding options T.shape (T.tree value.now)) }
 {
     encode_over(alloc, value, Vec::new(alloc), options)
 }
@@ -49,7 +49,7 @@ fn encode_over<T: Encode>(
     options: EncoderOptions,
 ) -> Result<Vec<u8>, EncodeError>
     ensures ok { IfOk result (λ octets. Bytes options T.shape (T.tree value.now) octets.items) }
-    ensures refused { IfErr result (λ error. IsEncodeOutOfMemory error.kind ⊎ Undefined options T.shape (T.tree value.now)) }
+    ensures refused { IfErr result (λ error. IsEncodeOutOfMemory error.kind ⊎ NoEncoding options T.shape (T.tree value.now)) }
 {
     let mut encoder = Encoder::new_with_buffer(alloc, options, buffer)?;
     value.encode(&mut encoder)?;
@@ -65,7 +65,7 @@ pub(crate) fn encode_buf<T: Encode>(
 ) -> Result<(), EncodeError>
     ensures ok { OnOk result (Bytes options T.shape (T.tree value.now) buffer.new.items) }
     ensures err { OnErr result (buffer.new.items ≡ []) }
-    ensures refused { IfErr result (λ error. IsEncodeOutOfMemory error.kind ⊎ Undefined options T.shape (T.tree value.now)) }
+    ensures refused { IfErr result (λ error. IsEncodeOutOfMemory error.kind ⊎ NoEncoding options T.shape (T.tree value.now)) }
 {
     let held = mem::replace(buffer, Vec::new(alloc));
     *buffer = encode_over(alloc, value, held, options)?;
@@ -79,8 +79,8 @@ pub(crate) fn encode_scope<F: FnOnce(&mut Encoder) -> Result<(), EncodeError>>(
     options: EncoderOptions,
 ) -> Result<Vec<u8>, EncodeError>
     requires callable { FnOnceTakesAtMut F.FnOnce values (started options false) }
-    requires keeps { WritesBehind F.FnOnce values (started options false) }
-    ensures ok { IfOk result (λ octets. Outputs F.FnOnce values options octets.items) }
+    requires keeps { OnlyAppends F.FnOnce values (started options false) }
+    ensures ok { IfOk result (λ octets. WritesOutput F.FnOnce values options octets.items) }
     ensures refused { IfErr result (ScopeRefuses F.FnOnce values options) }
 {
     let mut encoder = Encoder::new(alloc, options)?;

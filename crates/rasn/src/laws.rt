@@ -7,7 +7,7 @@ ghost use Rattle.rasn.specs.WorkedShapes.{DescribedParts, LawfulShapes, CarriedS
 ghost use Rattle.rasn.specs.WorkedDepths.{WorkedDepths};
 ghost use Rattle.rasn.specs.WorkedHeaders.{WorkedHeaders};
 ghost use Rattle.rasn.specs.WorkedValues.{WorkedValues, WorkedSets, WorkedOpens};
-ghost use Rattle.rasn.specs.Laws.{OneReading, Included, ReadAgain, Canonical, WrittenOnce, StrictDer, OnlyCarried, AllCarried, StaysCarried, LawfulTested, OneEncoding, Turns};
+ghost use Rattle.rasn.specs.Laws.{OneReading, Included, ReadAgain, Canonical, WrittenOnce, StrictDer, OnlyCarried, AllCarried, StaysCarried, LawfulTested, OneEncoding, EncodingSteps};
 
 /// An input is read as at most one value of a kind that holds no others, with one rest.
 pub fn one_leaf()
@@ -112,8 +112,8 @@ pub fn one_encoding()
 {}
 
 /// A whole encoding is passed in at most half as many turns as it has octets.
-pub fn turns()
-    ensures { Turns }
+pub fn encoding_steps()
+    ensures { EncodingSteps }
 {}
 
 /// Octets that were worked out by hand are read and written as they must be.

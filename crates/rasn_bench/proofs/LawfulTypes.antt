@@ -4,7 +4,7 @@ use Rattle.std.specs.List.{list_all}
 use Rattle.rasn_types.specs.Shapes.{Shape}
 use Rattle.rasn_types.specs.LawfulTest.{is_lawful}
 use Rattle.rasn_types.proofs.Lawful.{lawful}
-use Rattle.rasn_types.proofs.Spelled.{both_true}
+use Rattle.rasn_types.proofs.Time.Spellings.{both_true}
 use Rattle.rasn.specs.Carries.{carries_all}
 use Rattle.rasn_bench.specs.declared.line.ValueType.{ValueType}
 use Rattle.rasn_bench.specs.declared.line.ValueType.TheVariants.{Bool as BoolType}

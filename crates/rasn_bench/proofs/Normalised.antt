@@ -1,26 +1,26 @@
 -- What the laws of the grammar say of a normal encoding.
 use Rattle.std.proofs.Common.{◌≡◌, ◌⊎◌, ◌↔◌, inl, inr, ℕ, List, [], ◌++◌, Bool, true, false, Result, Ok, Err, refl, sym, ◌∙◌, subst, append-nil, true≢false}
 use Rattle.std.specs.Prelude.{MatchResult, IfOk, IfErr, is_ok}
-use Rattle.rasn_types.specs.declared.types.rules.Codec.{Codec}
-use Rattle.rasn_types.specs.declared.types.rules.Codec.TheVariants.{Ber, Der}
+use Rattle.rasn_types.specs.declared.types.codec.Codec.{Codec}
+use Rattle.rasn_types.specs.declared.types.codec.Codec.TheVariants.{Ber, Der}
 use Rattle.rasn_types.specs.declared.error.decode.DecodeErrorKind.{DecodeErrorKind}
 use Rattle.rasn_types.specs.declared.error.decode.DecodeErrorKind.TheVariants.{OutOfMemory}
 use Rattle.rasn_types.specs.declared.error.decode.DecodeError.{DecodeError}
 use Rattle.rasn_types.specs.Errors.{IsOutOfMemory}
-use Rattle.rasn_types.specs.Equality.{Tells}
+use Rattle.rasn_types.specs.Equality.{DecidesSame}
 use Rattle.rasn_types.specs.Framing.{AreOctets}
 use Rattle.rasn_types.specs.Shapes.{Tree, Shape}
-use Rattle.rasn_types.specs.Readers.{Reading}
+use Rattle.rasn_types.specs.Readings.{Reading}
 use Rattle.rasn_types.specs.Grammar.{Reads, top}
 use Rattle.rasn_types.specs.Bytes.{Same, Bytes}
 use Rattle.rasn_types.specs.Carried.{Carried}
 use Rattle.rasn_types.specs.Lawful.{IsLawful}
-use Rattle.rasn_types.proofs.Alike.{same_sym}
-use Rattle.rasn_types.proofs.Itself.{one_writing, written_same}
+use Rattle.rasn_types.proofs.SetOf.Same.{same_sym}
+use Rattle.rasn_types.proofs.Encoding.SameAsItself.{one_writing, written_same}
 use Rattle.rasn_de.specs.Outcomes.{Exact, refusal}
 use Rattle.rasn.specs.Headline.{IsFollowed}
-use Rattle.rasn.proofs.Hold.{one_reading, included, read_again, canonical, strict_der}
-use Rattle.rasn.proofs.StrictMade.{stays_carried}
+use Rattle.rasn.proofs.LawsHold.Written.{one_reading, included, read_again, canonical, strict_der}
+use Rattle.rasn.proofs.StrictDer.Carried.{stays_carried}
 use Rattle.rasn_bench.specs.declared.normal.NormaliseError.{NormaliseError}
 use Rattle.rasn_bench.specs.declared.normal.NormaliseError.TheVariants.{Decode, Encode, NotCanonical}
 use Rattle.rasn_bench.specs.Normal.{Means, IsNormal, IsNotCanonical, IsNoNormal, IsOutOfMemoryAlone, IsCarriedIn, IsIdentified, IsStable, IsKept, IsUnchanged, IsAnswered, SameExactlyIfEqual}
@@ -35,12 +35,12 @@ was_ok D Q (Err e) v h i = absurd (true≢false i)
 
 -- The value, its octets, and what DER reads of these.
 pub normal : {rule : Codec} {s : Shape} {input octets text : List ℕ} {same : Bool} (t u : Tree) → Means rule s input t → Bytes Der s t octets → text ≡ octets → Means Der s text u
-    → Tells same u t → same ≡ true → IsNormal rule s input octets
+    → DecidesSame same u t → same ≡ true → IsNormal rule s input octets
 normal {rule} {s} t u means is e again tells equal =
     record { value = t; means = means; written = is; again = u; read_again = subst (λ l. Means Der s l u) e again; same = same_sym u t (tells.same equal) }
 
 pub read_otherwise : {rule : Codec} {s : Shape} {input octets text : List ℕ} {same : Bool} (t u : Tree) → Means rule s input t → Bytes Der s t octets → text ≡ octets → Means Der s text u
-    → Tells same u t → same ≡ false → IsNotCanonical rule s input
+    → DecidesSame same u t → same ≡ false → IsNotCanonical rule s input
 read_otherwise {rule} {s} {input} {octets} t u means is e again tells apart = record {
   value = t;
   means = means;
@@ -79,7 +79,7 @@ module _ {rule : Codec} {s : Shape} {input octets : List ℕ} (n : IsNormal rule
   written_of = subst (λ z. Bytes Der s z octets) (sym (n.means.1 t [] c.reads).0) n.written
 
   carried_as : Carried Der s t
-  carried_as = record { octets = octets; is = written_of; meets = c.carried.meets }
+  carried_as = record { octets = octets; is = written_of; within_limits = c.carried.within_limits }
 
 pub identified : {rule : Codec} {s : Shape} {input octets : List ℕ} → IsNormal rule s input octets → IsIdentified rule s input octets
 unfolding carried_as written_of
@@ -93,7 +93,7 @@ kept {rule} {s} {input} {octets} o n = λ lawful t c.
     let is : Bytes Der s u octets = subst (Bytes Der s u) h.1 h.0.is in
     record {
       value = u;
-      carried = record { reads = n.read_again.0; carried = record { octets = octets; is = is; meets = h.0.meets } };
+      carried = record { reads = n.read_again.0; carried = record { octets = octets; is = is; within_limits = h.0.within_limits } };
       again = record { value = u; means = n.read_again; written = is; again = u; read_again = n.read_again; same = written_same s Der u octets is };
       only = λ other m. one_writing s Der u other octets (subst (λ z. Bytes Der s z other) (n.read_again.1 m.value [] m.means.0).0 m.written) is;
     }

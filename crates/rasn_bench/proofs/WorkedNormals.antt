@@ -1,17 +1,17 @@
 -- Normal encodings that were worked out by hand.
 use Rattle.std.proofs.Common.{◌≡◌, ℕ, List, [], ◌∷◌, refl, sym, ◌∙◌, subst}
-use Rattle.rasn_types.specs.declared.types.rules.Codec.{Codec}
-use Rattle.rasn_types.specs.declared.types.rules.Codec.TheVariants.{Ber, Der}
-use Rattle.rasn_types.specs.Shapes.{Shape, Tree, numbers, items, walk}
+use Rattle.rasn_types.specs.declared.types.codec.Codec.{Codec}
+use Rattle.rasn_types.specs.declared.types.codec.Codec.TheVariants.{Ber, Der}
+use Rattle.rasn_types.specs.Shapes.{Shape, Tree, numbers, items, set_elements}
 use Rattle.rasn_types.specs.Bytes.{Bytes}
 use Rattle.rasn_types.specs.Lawful.{IsLawful}
 use Rattle.rasn_types.specs.Grammar.{top}
-use Rattle.rasn_types.proofs.Itself.{one_writing}
+use Rattle.rasn_types.proofs.Encoding.SameAsItself.{one_writing}
 use Rattle.rasn_types.proofs.Lawful.{lawful}
 use Rattle.rasn.specs.WorkedShapes.{named, octets_in_set_of}
 use Rattle.rasn.specs.Worked.{smith as smith_tree}
-use Rattle.rasn.proofs.Hold.{one_reading, read_again}
-use Rattle.rasn.proofs.Worked.{worked}
+use Rattle.rasn.proofs.LawsHold.Written.{one_reading, read_again}
+use Rattle.rasn.proofs.Worked.Octets.{worked}
 use Rattle.rasn_bench.specs.Normal.{IsNormal, IsCarriedIn}
 use Rattle.rasn_bench.specs.WorkedNormals.{smith_in_segments, smith, falling_set_of, WorkedNormals}
 

@@ -1,7 +1,7 @@
 -- What the program answers to a line.
 use Rattle.std.specs.Prelude.{◌≡◌, ℕ, ◌⊎◌, List, Some, None, length, codes}
-use Rattle.rasn_types.specs.declared.types.rules.Codec.{Codec}
-use Rattle.rasn_types.specs.declared.types.rules.Codec.TheVariants.{Der}
+use Rattle.rasn_types.specs.declared.types.codec.Codec.{Codec}
+use Rattle.rasn_types.specs.declared.types.codec.Codec.TheVariants.{Der}
 use Rattle.rasn_types.specs.Tags.{in_universal}
 use Rattle.rasn_types.specs.Shapes.{Tree, Shape, leaf, boolean, integer, octet_string, every, utc_time, generalized_time, date, null, object_identifier, bit_string, enumerated, utf8, ia5, printable, any}
 use Rattle.rasn_types.specs.Trees.{unconstrained, signed_range, unsigned_range}
@@ -13,12 +13,12 @@ use Rattle.rasn_bench.specs.declared.answer.Answer.{Answer}
 use Rattle.rasn_bench.specs.declared.answer.Answer.TheVariants.{Read, NotWritten, Refused, Malformed}
 use Rattle.rasn_bench.specs.Lines.{IsRequest, octets_of_digits}
 use Rattle.rasn.specs.WorkedShapes.{named, perhaps_bool, octets_in_set_of}
-use Rattle.rasn_bench.specs.Pairs.{pair_shape}
-use Rattle.rasn_bench.specs.Choices.{validity_shape}
-use Rattle.rasn_bench.specs.Colours.{colours}
-use Rattle.rasn_bench.specs.Algorithms.{algorithm_shape}
-use Rattle.rasn_bench.specs.Attributes.{name_shape}
-use Rattle.rasn_bench.specs.Set3s.{set3_shape}
+use Rattle.rasn_bench.specs.Pair.{pair_shape}
+use Rattle.rasn_bench.specs.Time.{validity_shape}
+use Rattle.rasn_bench.specs.Colour.{colours}
+use Rattle.rasn_bench.specs.AlgorithmIdentifier.{algorithm_shape}
+use Rattle.rasn_bench.specs.Attribute.{name_shape}
+use Rattle.rasn_bench.specs.Set3.{set3_shape}
 
 abbrev pub shape_of : ValueType → Shape
 shape_of Bool = leaf boolean (in_universal 1) unconstrained

@@ -1,7 +1,7 @@
 -- The one encoding that DER has of what an input means.
 use Rattle.std.specs.Prelude.{◌≡◌, ◌⊎◌, ◌↔◌, ℕ, List, [], ◌∷◌, codes}
-use Rattle.rasn_types.specs.declared.types.rules.Codec.{Codec}
-use Rattle.rasn_types.specs.declared.types.rules.Codec.TheVariants.{Ber, Der}
+use Rattle.rasn_types.specs.declared.types.codec.Codec.{Codec}
+use Rattle.rasn_types.specs.declared.types.codec.Codec.TheVariants.{Ber, Der}
 use Rattle.rasn_types.specs.Errors.{IsOutOfMemory, IsEncodeOutOfMemory}
 use Rattle.rasn_types.specs.Shapes.{Tree, Shape}
 use Rattle.rasn_types.specs.Grammar.{Reads, top}
@@ -9,7 +9,7 @@ use Rattle.rasn_types.specs.Bytes.{Same, Bytes}
 use Rattle.rasn_types.specs.Carried.{Carried}
 use Rattle.rasn_types.specs.Lawful.{IsLawful}
 use Rattle.rasn_de.specs.Outcomes.{Exact, Got, refusal}
-use Rattle.rasn_enc.specs.Wrote.{Undefined}
+use Rattle.rasn_enc.specs.Encoding.{NoEncoding}
 use Rattle.rasn.specs.Headline.{IsFollowed}
 use Rattle.rasn_bench.specs.declared.normal.NormaliseError.{NormaliseError}
 use Rattle.rasn_bench.specs.declared.normal.NormaliseError.TheVariants.{Decode, Encode, NotCanonical}
@@ -39,7 +39,7 @@ pub record IsNotCanonical (rule : Codec) (s : Shape) (input : List ℕ) : Type 0
 -- read back.
 abbrev pub IsNoNormal : Codec → Shape → List ℕ → NormaliseError → Type 0
 IsNoNormal rule s input (Decode e) = Exact (Reads rule s 128 (top rule)) input (refusal e.kind) ⊎ IsFollowed rule s input e
-IsNoNormal rule s input (Encode e) = IsEncodeOutOfMemory e.kind ⊎ ((value : Tree) × Means rule s input value × Undefined Der s value)
+IsNoNormal rule s input (Encode e) = IsEncodeOutOfMemory e.kind ⊎ ((value : Tree) × Means rule s input value × NoEncoding Der s value)
 IsNoNormal rule s input NotCanonical = IsNotCanonical rule s input
 
 abbrev pub IsOutOfMemoryAlone : NormaliseError → Type 0

@@ -1,6 +1,6 @@
 -- What the program answers to a line where it normalises.
 use Rattle.std.specs.Prelude.{◌≡◌, ℕ, ◌⊎◌, List, codes}
-use Rattle.rasn_types.specs.declared.types.rules.Codec.{Codec}
+use Rattle.rasn_types.specs.declared.types.codec.Codec.{Codec}
 use Rattle.rasn_types.specs.Shapes.{Shape}
 use Rattle.rasn_bench.specs.declared.line.ValueType.{ValueType}
 use Rattle.rasn_bench.specs.declared.normal_answer.NormalAnswer.{NormalAnswer}

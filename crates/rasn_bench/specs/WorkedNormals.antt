@@ -1,6 +1,6 @@
 -- Normal encodings that were worked out by hand.
 use Rattle.std.specs.Prelude.{◌≡◌, ℕ, List, [], ◌∷◌}
-use Rattle.rasn_types.specs.declared.types.rules.Codec.TheVariants.{Ber}
+use Rattle.rasn_types.specs.declared.types.codec.Codec.TheVariants.{Ber}
 use Rattle.rasn.specs.WorkedShapes.{named, octets_in_set_of}
 use Rattle.rasn_bench.specs.Normal.{IsNormal}
 

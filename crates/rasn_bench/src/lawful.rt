@@ -1,7 +1,7 @@
 //! The shapes of the types are lawful, so what the laws say of lawful shapes holds of them. Each is a promise about the types: the
 //! functions do nothing when they run.
 ghost use Rattle.std.specs.Prelude.{◌≡◌, ◌∷◌, []};
-ghost use Rattle.rasn_types.specs.Shapes.{IsSolid};
+ghost use Rattle.rasn_types.specs.Shapes.{IsAlwaysPresent};
 ghost use Rattle.rasn_types.specs.Lawful.{IsLawful};
 ghost use Rattle.rasn.specs.WorkedShapes.{named, validity, perhaps_bool, three_of_set, octets_in_set_of, algorithm, relative_name};
 ghost use Rattle.rasn_bench.specs.LawfulTypes.{AreLawful, AreLawfulInLines};
@@ -61,5 +61,5 @@ pub fn lawful_types()
 
 /// The shape of `Both` is lawful where those of its fields are, and their values are always there.
 pub fn lawful_both<A: AsnType, B: AsnType>()
-    ensures { IsLawful A.shape → IsSolid A.shape → IsLawful B.shape → IsSolid B.shape → IsLawful ⟦<Both<A, B> as AsnType>⟧.shape }
+    ensures { IsLawful A.shape → IsAlwaysPresent A.shape → IsLawful B.shape → IsAlwaysPresent B.shape → IsLawful ⟦<Both<A, B> as AsnType>⟧.shape }
 {}

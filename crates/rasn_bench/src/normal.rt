@@ -1,6 +1,6 @@
 //! From an encoding of any of the three rules to the one that DER has (X.690 10).
 ghost use Rattle.std.specs.Prelude.{IfOk, IfErr, IsTrue, ◌↔◌};
-ghost use Rattle.rasn_types.specs.declared.types.rules.Codec.TheVariants.{Der};
+ghost use Rattle.rasn_types.specs.declared.types.codec.Codec.TheVariants.{Der};
 ghost use Rattle.rasn_types.specs.Framing.{AreOctets};
 ghost use Rattle.rasn.specs.Headline.{Answered, AnsweredAlone};
 ghost use Rattle.rasn_bench.specs.WorkedNormals.{WorkedNormals};

@@ -1,6 +1,6 @@
 //! The types that a line may name, each in a line of one list, and answers that are of a type.
 ghost use Rattle.std.specs.Prelude.{List, ℕ};
-ghost use Rattle.rasn_types.specs.declared.types.rules.Codec.{Codec};
+ghost use Rattle.rasn_types.specs.declared.types.codec.Codec.{Codec};
 ghost use Rattle.rasn_types.specs.Shapes.{Shape};
 ghost use Rattle.rasn_bench.specs.Answers.{OfNamedType};
 

@@ -7,14 +7,14 @@ use Rattle.rasn_types.specs.declared.error.decode.DecodeErrorKind.TheVariants as
 use Rattle.rasn_types.specs.declared.error.decode.CodecDecodeError.TheVariants as codec
 use Rattle.rasn_types.specs.declared.error.decode.BerDecodeErrorKind.{BerDecodeErrorKind}
 use Rattle.rasn_types.specs.declared.error.decode.BerDecodeErrorKind.TheVariants as ber
-use Rattle.rasn_de.specs.declared.ber.de.parser.Fault.{Fault}
-use Rattle.rasn_de.specs.declared.ber.de.parser.Fault.TheVariants.{Incomplete, UnexpectedExtraData, UnexpectedEmptyInput, ExceedsMaxParseDepth, OutOfMemory, LengthExceedsPlatformWidth, InvalidBool, MismatchedLength, IntegerOverflow, SizeConstraintNotSatisfied, UnsupportedTagNumber, UnexpectedEndOfContents, MissingEndOfContents, IndefiniteLengthNotAllowed, ReservedLengthOctet, MismatchedTag, InvalidConstructedIdentifier, Der, DiscriminantValueNotFound, UnsupportedObjectIdentifierArc, InvalidBitString, PermittedAlphabetError, StringConversionFailed}
+use Rattle.rasn_de.specs.declared.ber.de.parser.ParseError.{ParseError}
+use Rattle.rasn_de.specs.declared.ber.de.parser.ParseError.TheVariants.{Incomplete, UnexpectedExtraData, UnexpectedEmptyInput, ExceedsMaxParseDepth, OutOfMemory, LengthExceedsPlatformWidth, InvalidBool, MismatchedLength, IntegerOverflow, SizeConstraintNotSatisfied, UnsupportedTagNumber, UnexpectedEndOfContents, MissingEndOfContents, IndefiniteLengthNotAllowed, ReservedLengthOctet, MismatchedTag, InvalidConstructedIdentifier, Der, DiscriminantValueNotFound, UnsupportedObjectIdentifierArc, InvalidBitString, PermittedAlphabetError, StringConversionFailed}
 
 abbrev pub in_ber : BerDecodeErrorKind → DecodeErrorKind
 in_ber k = kind.CodecSpecific (codec.Ber k)
 
 -- the kind of error that stands for a fault
-abbrev pub error_kind : Fault → DecodeErrorKind
+abbrev pub error_kind : ParseError → DecodeErrorKind
 error_kind (Incomplete needed) = kind.Incomplete (needed_of needed)
 error_kind (UnexpectedExtraData length) = kind.UnexpectedExtraData length
 error_kind UnexpectedEmptyInput = kind.UnexpectedEmptyInput
@@ -41,12 +41,12 @@ error_kind (Der k) = kind.CodecSpecific (codec.Der k)
 
 -- Why a value is refused: a fault, or a number out of its bound.
 pub data Cause : Type 0 where
-  fault : Fault → Cause
+  fault : ParseError → Cause
   out_of_bound : ℤ → Bounded ℤ → Cause
 
 -- The error has this cause. Where the copy of a number finds no memory, running out of memory stands in its place.
-abbrev pub TellsCause : Cause → DecodeErrorKind → Type 0
-TellsCause (fault f) k = k ≡ error_kind f
-TellsCause (out_of_bound z bound) (kind.ValueConstraintNotSatisfied value expected) = (value ≡ z) × (expected.value ≡ bound)
-TellsCause (out_of_bound z bound) kind.OutOfMemory = Unit {0}
-TellsCause (out_of_bound z bound) _ = ⊥
+abbrev pub HasCause : Cause → DecodeErrorKind → Type 0
+HasCause (fault f) k = k ≡ error_kind f
+HasCause (out_of_bound z bound) (kind.ValueConstraintNotSatisfied value expected) = (value ≡ z) × (expected.value ≡ bound)
+HasCause (out_of_bound z bound) kind.OutOfMemory = Unit {0}
+HasCause (out_of_bound z bound) _ = ⊥

@@ -6,10 +6,10 @@ use Rattle.rasn_types.specs.declared.types.tag.Class.{Class}
 use Rattle.rasn_types.specs.declared.types.tag.Class.TheVariants.{Universal, Application, Context, Private}
 use Rattle.rasn_types.specs.Tags.{is_eoc, Form, basic_form, der_form, loose_form}
 pub use Rattle.rasn_types.specs.Tags.{is_der}
-use Rattle.rasn_types.specs.declared.types.rules.Codec.{Codec}
-use Rattle.rasn_types.specs.declared.types.rules.Codec.TheVariants.{Ber, Cer, Der}
-use Rattle.rasn_de.specs.declared.ber.de.parser.Fault.{Fault}
-use Rattle.rasn_de.specs.declared.ber.de.parser.Fault.TheVariants.{Incomplete, LengthExceedsPlatformWidth, UnsupportedTagNumber, UnexpectedEndOfContents, IndefiniteLengthNotAllowed, ReservedLengthOctet, MismatchedTag, Der}
+use Rattle.rasn_types.specs.declared.types.codec.Codec.{Codec}
+use Rattle.rasn_types.specs.declared.types.codec.Codec.TheVariants.{Ber, Cer, Der}
+use Rattle.rasn_de.specs.declared.ber.de.parser.ParseError.{ParseError}
+use Rattle.rasn_de.specs.declared.ber.de.parser.ParseError.TheVariants.{Incomplete, LengthExceedsPlatformWidth, UnsupportedTagNumber, UnexpectedEndOfContents, IndefiniteLengthNotAllowed, ReservedLengthOctet, MismatchedTag, Der}
 use Rattle.rasn_types.specs.declared.error.decode.DerDecodeErrorKind.TheVariants.{NonMinimalTagNumber, ConstructedBitMismatch, NonMinimalLength}
 use Rattle.rasn_de.specs.declared.ber.de.parser.headers.Spelling.{Spelling}
 use Rattle.rasn_de.specs.declared.ber.de.parser.headers.Expected.{Expected}
@@ -17,7 +17,7 @@ use Rattle.rasn_de.specs.declared.ber.de.parser.headers.Expected.TheVariants.{An
 use Rattle.rasn_types.specs.Framing.{Extent, definite, indefinite}
 
 infixl 10 ◌>>=◌
-abbrev pub ◌>>=◌ : {A B : Type 0} → Result A Fault → (A → Result B Fault) → Result B Fault
+abbrev pub ◌>>=◌ : {A B : Type 0} → Result A ParseError → (A → Result B ParseError) → Result B ParseError
 (Ok x) >>= f = f x
 (Err e) >>= f = Err e
 
@@ -31,7 +31,7 @@ abbrev pub bit_at : ℕ → Bool
 bit_at first = nat_le 32 (first % 64)
 
 -- A number in base 128 behind groups that are worth n; groups worth 2 ^ 25 or more leave no room for another.
-unfoldable pub number128_at : Fault → ℕ → List ℕ → Result (ℕ × List ℕ) Fault
+unfoldable pub number128_at : ParseError → ℕ → List ℕ → Result (ℕ × List ℕ) ParseError
 number128_at wide n [] = Err (Incomplete 1)
 number128_at wide n (b ∷ l) =
     if nat_le 0x2000000 n then Err wide else (if nat_lt b 128 then Ok (n * 128 + b, l) else number128_at wide (n * 128 + b % 128) l)
@@ -48,7 +48,7 @@ is_padded [] = false
 is_padded (b ∷ l) = nat_eq b 128
 
 -- the tag number of an identifier
-unfoldable pub tag_number_at : ℕ → List ℕ → Result (ℕ × List ℕ) Fault
+unfoldable pub tag_number_at : ℕ → List ℕ → Result (ℕ × List ℕ) ParseError
 tag_number_at first l = if nat_eq (first % 32) 31 then number128_at UnsupportedTagNumber 0 l else Ok (first % 32, l)
 
 -- The number n in the octets behind a first one could be spelled in fewer.
@@ -62,24 +62,24 @@ pub record Identified : Type 0 where
   pub rest : List ℕ
 
 -- Universal 0 is told before the spelling.
-abbrev pub named : Bool → ℕ → List ℕ → ℕ × List ℕ → Result Identified Fault
-named shortest first l p =
+abbrev pub checked_identifier : Bool → ℕ → List ℕ → ℕ × List ℕ → Result Identified ParseError
+checked_identifier shortest first l p =
     if is_eoc (tag_of first p.0) then Err UnexpectedEndOfContents else (if shortest && is_longer first l p.0 then Err (Der NonMinimalTagNumber)
     else Ok (record { tag = tag_of first p.0; bit = bit_at first; rest = p.1 }))
 
-unfoldable pub identifier_by : Bool → List ℕ → Result Identified Fault
+unfoldable pub identifier_by : Bool → List ℕ → Result Identified ParseError
 identifier_by shortest [] = Err (Incomplete 1)
-identifier_by shortest (b ∷ l) = tag_number_at b l >>= named shortest b l
+identifier_by shortest (b ∷ l) = tag_number_at b l >>= checked_identifier shortest b l
 
-abbrev pub identifier_at : Form → List ℕ → Result Identified Fault
+abbrev pub identifier_at : Form → List ℕ → Result Identified ParseError
 identifier_at spelling l = identifier_by (spelled spelling).shortest l
 
 -- The number of octets, most significant first, behind octets that are worth n.
-unfoldable pub number256_at : ℕ → List ℕ → Result ℕ Fault
+unfoldable pub number256_at : ℕ → List ℕ → Result ℕ ParseError
 number256_at n [] = Ok n
 number256_at n (b ∷ l) = if nat_le 0x100_0000_0000_0000 n then Err LengthExceedsPlatformWidth else number256_at (n * 256 + b) l
 
-abbrev pub first_octets : ℕ → List ℕ → Result (List ℕ × List ℕ) Fault
+abbrev pub first_octets : ℕ → List ℕ → Result (List ℕ × List ℕ) ParseError
 first_octets k l = if nat_lt (length l) k then Err (Incomplete (k - length l)) else Ok (take k l, drop k l)
 
 -- These octets spell a length that fewer would: the first of them is zero, or the length stands in the short form.
@@ -91,12 +91,12 @@ abbrev pub has_spare : List ℕ → ℕ → Bool
 has_spare l n = begins_with_zero l || nat_lt n 128
 
 -- The long form: missing octets, then a width of 2 ^ 64 or more, and then octets to spare.
-unfoldable pub long_at : Bool → ℕ → List ℕ → Result (Option ℕ × List ℕ) Fault
+unfoldable pub long_at : Bool → ℕ → List ℕ → Result (Option ℕ × List ℕ) ParseError
 long_at shortest k l =
     first_octets k l >>= λ p. number256_at 0 p.0 >>= λ n. if shortest && has_spare p.0 n then Err (Der NonMinimalLength) else Ok (Some n, p.1)
 
 -- A length, or none in the indefinite form, which a constructed encoding may have.
-unfoldable pub length_at : Spelling → Bool → List ℕ → Result (Option ℕ × List ℕ) Fault
+unfoldable pub length_at : Spelling → Bool → List ℕ → Result (Option ℕ × List ℕ) ParseError
 length_at spelling bit [] = Err (Incomplete 1)
 length_at spelling bit (b ∷ l) =
     if nat_lt b 128 then Ok (Some b, l) else (if nat_eq b 128 then (if bit && spelling.indefinite then Ok (None, l) else Err IndefiniteLengthNotAllowed)
@@ -108,7 +108,7 @@ pub record Header : Type 0 where
   pub extent : Extent
   pub rest : List ℕ
 
-abbrev pub contents_at : Tag → Bool → Option ℕ → List ℕ → Result Header Fault
+abbrev pub contents_at : Tag → Bool → Option ℕ → List ℕ → Result Header ParseError
 contents_at tag bit None l = Ok (record { tag = tag; bit = bit; extent = indefinite; rest = l })
 contents_at tag bit (Some n) l = first_octets n l >>= λ p. Ok (record { tag = tag; bit = bit; extent = definite p.0; rest = p.1 })
 
@@ -122,11 +122,11 @@ same_class c d = false
 abbrev pub same_tag : Tag → Tag → Bool
 same_tag s t = same_class s.class t.class && nat_eq s.value t.value
 
-abbrev pub tagged_at : Tag → Tag → Result (Unit {0}) Fault
+abbrev pub tagged_at : Tag → Tag → Result (Unit {0}) ParseError
 tagged_at wanted tag = if same_tag tag wanted then Ok tt else Err (MismatchedTag wanted tag)
 
 -- The tag is told before the constructed bit.
-abbrev pub expected_at : Expected → Tag → Bool → Result (Unit {0}) Fault
+abbrev pub expected_at : Expected → Tag → Bool → Result (Unit {0}) ParseError
 expected_at AnyTag tag bit = Ok tt
 expected_at (Tagged wanted) tag bit = tagged_at wanted tag
 expected_at (Exactly wanted) tag bit = tagged_at wanted.tag tag >>= λ u. if beq bit wanted.bit then Ok tt else Err (Der ConstructedBitMismatch)
@@ -138,9 +138,9 @@ as_written Cer tag bit = Tagged tag
 as_written Der tag bit = Exactly (record { tag = tag; bit = bit })
 
 -- The header of the value that begins a list, with its contents.
-unfoldable pub header_by : Spelling → Expected → List ℕ → Result Header Fault
+unfoldable pub header_by : Spelling → Expected → List ℕ → Result Header ParseError
 header_by spelling expected l =
     identifier_by spelling.shortest l >>= λ i. expected_at expected i.tag i.bit >>= λ u. length_at spelling i.bit i.rest >>= λ n. contents_at i.tag i.bit n.0 n.1
 
-abbrev pub header_at : Form → Expected → List ℕ → Result Header Fault
+abbrev pub header_at : Form → Expected → List ℕ → Result Header ParseError
 header_at spelling expected l = header_by (spelled spelling) expected l

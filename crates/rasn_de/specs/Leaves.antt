@@ -1,25 +1,25 @@
 -- Values that hold no others, read from lists: the value and what follows it, or the first refusal and what is left.
 use Rattle.std.specs.Prelude.{◌≡◌, ◌≢◌, ◌⊎◌, ℕ, ℤ, ◌≤ℤ◌, Bool, true, false, nat_eq, IfErr, if◌then◌else◌, List, [], ◌∷◌, length, Result, Ok, Err}
 use Rattle.rasn_types.specs.declared.types.tag.Tag.{Tag}
-use Rattle.rasn_types.specs.declared.types.rules.Codec.{Codec}
-use Rattle.rasn_types.specs.declared.types.rules.Codec.TheVariants.{Ber, Cer, Der}
+use Rattle.rasn_types.specs.declared.types.codec.Codec.{Codec}
+use Rattle.rasn_types.specs.declared.types.codec.Codec.TheVariants.{Ber, Cer, Der}
 use Rattle.rasn_types.specs.declared.error.decode.DecodeError.{DecodeError}
 use Rattle.rasn_types.specs.declared.error.decode.DerDecodeErrorKind.TheVariants.{NonMinimalInteger}
 use Rattle.rasn_types.specs.Framing.{Extent, definite, indefinite}
 use Rattle.rasn_types.specs.Tags.{form, tag_bit, IsStrict}
-use Rattle.rasn_de.specs.declared.ber.de.parser.Fault.{Fault}
-use Rattle.rasn_de.specs.declared.ber.de.parser.Fault.TheVariants.{IndefiniteLengthNotAllowed, InvalidBool, MismatchedLength, UnexpectedEmptyInput, IntegerOverflow, Der}
+use Rattle.rasn_de.specs.declared.ber.de.parser.ParseError.{ParseError}
+use Rattle.rasn_de.specs.declared.ber.de.parser.ParseError.TheVariants.{IndefiniteLengthNotAllowed, InvalidBool, MismatchedLength, UnexpectedEmptyInput, IntegerOverflow, Der}
 use Rattle.rasn_de.specs.Headers.{Header, header_at, as_written}
 use Rattle.rasn_types.specs.Shapes.{Interval, IsIn, Admits, constraint_of}
 use Rattle.rasn_types.specs.declared.types.constraints.Constraints.{Constraints}
 use Rattle.rasn_types.specs.declared.types.constraints.Bounded.{Bounded}
 use Rattle.rasn_types.specs.Contents.{signed, IsShortestInteger}
 use Rattle.rasn_types.specs.Errors.{IsOutOfMemory}
-use Rattle.rasn_de.specs.Causes.{Cause, fault, out_of_bound, TellsCause}
+use Rattle.rasn_de.specs.Causes.{Cause, fault, out_of_bound, HasCause}
 use Rattle.rasn_de.specs.State.{State, at}
 
 -- Framing faults leave all of the input.
-abbrev pub on_header : {Y : Type 0} → List ℕ → Result Header Fault → (Header → Result Y (Cause × List ℕ)) → Result Y (Cause × List ℕ)
+abbrev pub on_header : {Y : Type 0} → List ℕ → Result Header ParseError → (Header → Result Y (Cause × List ℕ)) → Result Y (Cause × List ℕ)
 on_header l (Ok h) f = f h
 on_header l (Err e) f = Err (fault e, l)
 
@@ -44,7 +44,7 @@ FromContents read (Err e) r = r ≡ Err e
 abbrev pub LeafAt : {X : Type 0} → (List ℕ → Result X Cause → Type 0) → Codec → Tag → List ℕ → Readings X
 LeafAt read rule tag l = FromContents read (definite_at rule tag l)
 
-abbrev pub as_cause : {X : Type 0} → Result X Fault → Result X Cause
+abbrev pub as_cause : {X : Type 0} → Result X ParseError → Result X Cause
 as_cause (Ok x) = Ok x
 as_cause (Err e) = Err (fault e)
 
@@ -54,7 +54,7 @@ is_ber Cer = false
 is_ber Der = false
 
 -- The contents of a BOOLEAN (8.2, 11.1).
-abbrev pub bool_in : Codec → List ℕ → Result Bool Fault
+abbrev pub bool_in : Codec → List ℕ → Result Bool ParseError
 bool_in rule [] = Err (MismatchedLength 1 0)
 bool_in rule (b ∷ []) =
     if nat_eq b 0 then Ok false else (if nat_eq b 255 then Ok true else (if is_ber rule then Ok true else Err (InvalidBool b)))
@@ -64,52 +64,52 @@ abbrev pub BoolAt : Codec → Tag → List ℕ → Readings Bool
 BoolAt rule tag l = LeafAt (λ c r. as_cause (bool_in rule c) ≡ r) rule tag l
 
 -- Octets hold a number (8.3.1, 8.3.2): there are some, and under the strict rule they are as few as can be.
-abbrev pub HoldsNumber : Codec → List ℕ → Type 0
-HoldsNumber rule c = (c ≢ []) × (IsStrict rule → IsShortestInteger c)
+abbrev pub IsIntegerContents : Codec → List ℕ → Type 0
+IsIntegerContents rule c = (c ≢ []) × (IsStrict rule → IsShortestInteger c)
 
 -- why octets don't: there are none, or the first only repeats the sign
-abbrev pub LacksNumber : Codec → List ℕ → Fault → Type 0
-LacksNumber rule c f =
+abbrev pub IsNotIntegerContents : Codec → List ℕ → ParseError → Type 0
+IsNotIntegerContents rule c f =
     ((c ≡ []) × (f ≡ UnexpectedEmptyInput)) ⊎ ((c ≢ []) × IsStrict rule × (IsShortestInteger c → ⊥) × (f ≡ Der NonMinimalInteger))
 
-abbrev pub ChecksNumber : Codec → List ℕ → Result (Unit {0}) Fault → Type 0
-ChecksNumber rule c (Ok u) = HoldsNumber rule c
-ChecksNumber rule c (Err f) = LacksNumber rule c f
+abbrev pub ChecksIntegerContents : Codec → List ℕ → Result (Unit {0}) ParseError → Type 0
+ChecksIntegerContents rule c (Ok u) = IsIntegerContents rule c
+ChecksIntegerContents rule c (Err f) = IsNotIntegerContents rule c f
 
 -- The contents of an INTEGER (8.3): of a type of so many bits that has these numbers, within bounds.
 abbrev pub IntegerIn : Codec → ℕ → Interval → Constraints → List ℕ → Result ℤ Cause → Type 0
-IntegerIn rule width range bounds c (Ok z) = HoldsNumber rule c × IsIn range (signed c) × Admits ◌≤ℤ◌ bounds.value (signed c) × (z ≡ signed c)
-IntegerIn rule width range bounds c (Err (fault f)) = LacksNumber rule c f ⊎ (HoldsNumber rule c × (IsIn range (signed c) → ⊥) × (f ≡ IntegerOverflow width))
+IntegerIn rule width range bounds c (Ok z) = IsIntegerContents rule c × IsIn range (signed c) × Admits ◌≤ℤ◌ bounds.value (signed c) × (z ≡ signed c)
+IntegerIn rule width range bounds c (Err (fault f)) = IsNotIntegerContents rule c f ⊎ (IsIntegerContents rule c × (IsIn range (signed c) → ⊥) × (f ≡ IntegerOverflow width))
 IntegerIn rule width range bounds c (Err (out_of_bound z bound)) =
-    HoldsNumber rule c × IsIn range (signed c) × (Admits ◌≤ℤ◌ bounds.value (signed c) → ⊥) × (z ≡ signed c) × (bound ≡ constraint_of bounds.value)
+    IsIntegerContents rule c × IsIn range (signed c) × (Admits ◌≤ℤ◌ bounds.value (signed c) → ⊥) × (z ≡ signed c) × (bound ≡ constraint_of bounds.value)
 
 abbrev pub IntegerAt : ℕ → Interval → Constraints → Codec → Tag → List ℕ → Readings ℤ
 IntegerAt width range bounds rule tag l = LeafAt (IntegerIn rule width range bounds) rule tag l
 
 -- The call is refused as the reading is, which changes nothing but what is left.
-abbrev pub Refuses : {Y : Type 0} → Readings Y → State → DecodeError → State → Type 0
-Refuses Is old e new = (cause : Cause) × Is (Err (cause, new.rest)) × TellsCause cause e.kind × (e.codec ≡ old.rule) × (new ≡ at old new.rest)
+abbrev pub FailsAs : {Y : Type 0} → Readings Y → State → DecodeError → State → Type 0
+FailsAs Is old e new = (cause : Cause) × Is (Err (cause, new.rest)) × HasCause cause e.kind × (e.codec ≡ old.rule) × (new ≡ at old new.rest)
 
 -- A call answers what the reading is of the list that remained; it leaves what is left of it, and changes nothing else.
-abbrev pub Gave : {X Y : Type 0} → (X → Y) → Readings Y → State → Result X DecodeError → State → Type 0
-Gave see Is old (Ok v) new = Is (Ok (see v, new.rest)) × (new ≡ at old new.rest)
-Gave see Is old (Err e) new = Refuses Is old e new
+abbrev pub DecodesLeaf : {X Y : Type 0} → (X → Y) → Readings Y → State → Result X DecodeError → State → Type 0
+DecodesLeaf see Is old (Ok v) new = Is (Ok (see v, new.rest)) × (new ≡ at old new.rest)
+DecodesLeaf see Is old (Err e) new = FailsAs Is old e new
 
 -- A call answers what the reading of an INTEGER is, of a type whose numbers may take memory: where that is wanting, the value was taken.
-abbrev pub GaveInteger : {X : Type 0} → (X → ℤ) → Type 0 → Tag → Readings ℤ → State → Result X DecodeError → State → Type 0
-GaveInteger see Grows tag Is old (Ok v) new = Gave see Is old (Ok v) new
-GaveInteger see Grows tag Is old (Err e) new =
-    (IsOutOfMemory e.kind × Grows × (e.codec ≡ old.rule) × (new ≡ at old new.rest) × (c : List ℕ) × (definite_at old.rule tag old.rest ≡ Ok (c, new.rest))) ⊎ Refuses Is old e new
+abbrev pub DecodesInteger : {X : Type 0} → (X → ℤ) → Type 0 → Tag → Readings ℤ → State → Result X DecodeError → State → Type 0
+DecodesInteger see Grows tag Is old (Ok v) new = DecodesLeaf see Is old (Ok v) new
+DecodesInteger see Grows tag Is old (Err e) new =
+    (IsOutOfMemory e.kind × Grows × (e.codec ≡ old.rule) × (new ≡ at old new.rest) × (c : List ℕ) × (definite_at old.rule tag old.rest ≡ Ok (c, new.rest))) ⊎ FailsAs Is old e new
 
 -- A call reads an INTEGER of a type that has these numbers and so many bits, and may grow, within bounds.
-abbrev pub GaveNumber : {X : Type 0} → (X → ℤ) → Bool → ℕ → Interval → Tag → Constraints → State → Result X DecodeError → State → Type 0
-GaveNumber see grows width range tag bounds old result new = GaveInteger see (grows ≡ true) tag (IntegerAt width range bounds old.rule tag old.rest) old result new
+abbrev pub DecodesNumber : {X : Type 0} → (X → ℤ) → Bool → ℕ → Interval → Tag → Constraints → State → Result X DecodeError → State → Type 0
+DecodesNumber see grows width range tag bounds old result new = DecodesInteger see (grows ≡ true) tag (IntegerAt width range bounds old.rule tag old.rest) old result new
 
 -- The number is out of its bound.
-abbrev pub IsBeyond : Readings ℤ → List ℕ → Type 0
-IsBeyond Is rest = (z : ℤ) × (bound : Bounded ℤ) × Is (Err (out_of_bound z bound, rest))
+abbrev pub IsOutOfBound : Readings ℤ → List ℕ → Type 0
+IsOutOfBound Is rest = (z : ℤ) × (bound : Bounded ℤ) × Is (Err (out_of_bound z bound, rest))
 
 -- Memory may be wanting for a number of a type whose numbers may grow, and for the error of a number out of its bound, and for nothing else.
-abbrev pub MayRunOut : {X : Type 0} → Bool → ℕ → Interval → Tag → Constraints → State → Result X DecodeError → State → Type 0
-MayRunOut grows width range tag bounds old result new =
-    IfErr result (λ e. IsOutOfMemory e.kind → (grows ≡ true) ⊎ IsBeyond (IntegerAt width range bounds old.rule tag old.rest) new.rest)
+abbrev pub AllocMayFail : {X : Type 0} → Bool → ℕ → Interval → Tag → Constraints → State → Result X DecodeError → State → Type 0
+AllocMayFail grows width range tag bounds old result new =
+    IfErr result (λ e. IsOutOfMemory e.kind → (grows ≡ true) ⊎ IsOutOfBound (IntegerAt width range bounds old.rule tag old.rest) new.rest)

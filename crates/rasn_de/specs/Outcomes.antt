@@ -4,16 +4,16 @@ use Rattle.rasn_types.specs.declared.error.decode.DecodeErrorKind.{DecodeErrorKi
 use Rattle.rasn_types.specs.declared.error.decode.DecodeErrorKind.TheVariants.{OutOfMemory}
 use Rattle.rasn_types.specs.declared.error.decode.DecodeError.{DecodeError}
 use Rattle.rasn_types.specs.Shapes.{Tree}
-use Rattle.rasn_types.specs.Readers.{Reading}
+use Rattle.rasn_types.specs.Readings.{Reading}
 
 -- a tree and what is left; a refusal; running out of memory
 pub data Outcome : Type 0 where
   Got : Tree → List ℕ → Outcome
   Refused : Outcome
-  RanOut : Outcome
+  AllocFailed : Outcome
 
 abbrev pub refusal : DecodeErrorKind → Outcome
-refusal OutOfMemory = RanOut
+refusal OutOfMemory = AllocFailed
 refusal _ = Refused
 
 abbrev pub outcome : {T : Type 0} → (T → Tree) → Result T DecodeError → List ℕ → Outcome
@@ -24,4 +24,4 @@ outcome tree (Err e) r = refusal e.kind
 abbrev pub Exact : Reading Tree → List ℕ → Outcome → Type 0
 Exact R input (Got t r) = R input t r × ((u : Tree) (s : List ℕ) → R input u s → (u ≡ t) × (s ≡ r))
 Exact R input Refused = (u : Tree) (s : List ℕ) → R input u s → ⊥
-Exact R input RanOut = Unit {0}
+Exact R input AllocFailed = Unit {0}

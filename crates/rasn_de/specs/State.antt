@@ -1,6 +1,6 @@
 -- What a decoder is to its callers.
 use Rattle.std.specs.Prelude.{◌≡◌, ℕ, List, ◌++◌, Bool, Result}
-use Rattle.rasn_types.specs.declared.types.rules.Codec.{Codec}
+use Rattle.rasn_types.specs.declared.types.codec.Codec.{Codec}
 use Rattle.rasn_types.specs.declared.error.decode.DecodeError.{DecodeError}
 
 -- The rules, the depth that is left, whether end-of-contents octets may end the contents, the whole input and what is left of it.

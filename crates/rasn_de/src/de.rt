@@ -1,5 +1,5 @@
 //! What a type needs in order to be read.
-ghost use Rattle.rasn_types.specs.Framing.{Next};
+ghost use Rattle.rasn_types.specs.Framing.{NextTag};
 ghost use Rattle.rasn_types.specs.Tags.{form};
 ghost use Rattle.rasn_types.specs.Shapes.{tagged_as};
 ghost use Rattle.rasn_de.specs.Decodes.{Decodes};
@@ -10,14 +10,6 @@ use rasn_types::error::DecodeError;
 use rasn_types::types::{AsnType, Constraints, Tag};
 
 mod error;
-mod integers;
-mod lists;
-mod numbered;
-mod optional;
-mod prefix;
-mod strings;
-mod times;
-mod values;
 
 /// A type whose values are read: a call succeeds exactly where the grammar relates what is left of the input to a tree and a
 /// rest, and then the value has this tree and the rest is left.
@@ -80,7 +72,7 @@ pub trait DecodeChoice: AsnType {
     /// # Errors
     /// `NoValidChoice` where no alternative does; what the alternative refuses.
     fn from_tag(decoder: &mut Decoder<'_>, tag: Tag) -> Result<Self, DecodeError>
-        requires { Next (form decoder.old.rule) decoder.old.rest tag }
+        requires { NextTag (form decoder.old.rule) decoder.old.rest tag }
         ensures { Decodes Self.shape Self.tree decoder.old result decoder.new };
 
     ghost chooses: { Self.AsnType.shape ≡ choice alternatives };

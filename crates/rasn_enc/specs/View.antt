@@ -1,8 +1,8 @@
 -- What an encoder holds: the output, then one list for each open value. Headers that aren't finished aren't in it.
 use Rattle.std.specs.Prelude.{ℕ, ◌≡◌, Bool, cond, List, [], ◌∷◌, ◌++◌, Option, Some, None, option_map}
-use Rattle.rasn_types.specs.Order.{DoNotFall}
+use Rattle.rasn_types.specs.Order.{AreAscending}
 use Rattle.rasn_types.specs.Tags.{IsTagBelow}
-use Rattle.rasn_types.specs.declared.types.rules.Codec.{Codec}
+use Rattle.rasn_types.specs.declared.types.codec.Codec.{Codec}
 use Rattle.rasn_types.specs.declared.types.tag.Tag.{Tag}
 
 -- One list; where tags are kept, the outermost tags of the values in it.
@@ -23,7 +23,7 @@ kept_of (Some tags) = tags
 
 -- The tags that the last list keeps don't fall: none is below the one before it (X.690 9.3, 10.3; X.680 8.6).
 abbrev pub AreTagsInOrder : View → Type 0
-AreTagsInOrder v = DoNotFall IsTagBelow (kept_of v.last.tags)
+AreTagsInOrder v = AreAscending IsTagBelow (kept_of v.last.tags)
 
 -- octets behind a list, and tags behind those that it keeps
 abbrev pub added : OpenList → List ℕ → List Tag → OpenList

@@ -1,16 +1,7 @@
 //! The trait of values that can be written.
 ghost use Rattle.std.specs.Prelude.{◌≡◌, ◌≢◌, MatchBool, IfErr, OnOk, OnErr};
 ghost use Rattle.rasn_types.specs.Shapes.{tagged_as, absent};
-ghost use Rattle.rasn_enc.specs.Wrote.{Wrote, MayRefuse};
-
-mod integers;
-mod lists;
-mod numbered;
-mod optional;
-mod prefix;
-mod strings;
-mod times;
-mod values;
+ghost use Rattle.rasn_enc.specs.Encoding.{AppendsEncoding, EncodeFails};
 
 use crate::ber::enc::Encoder;
 use rasn_types::error::EncodeError;
@@ -29,15 +20,15 @@ pub trait Encode: AsnType {
         constraints: &Constraints,
         identifier: Identifier,
     ) -> Result<(), EncodeError>
-        ensures ok { OnOk result (Wrote (tagged_as tag constraints.now Self.shape) (Self.tree self.now) encoder.old encoder.new) }
+        ensures ok { OnOk result (AppendsEncoding (tagged_as tag constraints.now Self.shape) (Self.tree self.now) encoder.old encoder.new) }
         ensures err { OnErr result (encoder.new ≡ encoder.old) }
-        ensures refused { IfErr result (MayRefuse (tagged_as tag constraints.now Self.shape) (Self.tree self.now) encoder.old) };
+        ensures refused { IfErr result (EncodeFails (tagged_as tag constraints.now Self.shape) (Self.tree self.now) encoder.old) };
 
     /// Writes the value.
     fn encode(&self, encoder: &mut Encoder) -> Result<(), EncodeError>
-        ensures ok { OnOk result (Wrote Self.shape (Self.tree self.now) encoder.old encoder.new) }
+        ensures ok { OnOk result (AppendsEncoding Self.shape (Self.tree self.now) encoder.old encoder.new) }
         ensures err { OnErr result (encoder.new ≡ encoder.old) }
-        ensures refused { IfErr result (MayRefuse Self.shape (Self.tree self.now) encoder.old) }
+        ensures refused { IfErr result (EncodeFails Self.shape (Self.tree self.now) encoder.old) }
     {
         self.encode_with_tag_and_constraints(
             encoder,
@@ -54,9 +45,9 @@ pub trait Encode: AsnType {
         tag: Tag,
         identifier: Identifier,
     ) -> Result<(), EncodeError>
-        ensures ok { OnOk result (Wrote (tagged_as tag Self.CONSTRAINTS Self.shape) (Self.tree self.now) encoder.old encoder.new) }
+        ensures ok { OnOk result (AppendsEncoding (tagged_as tag Self.CONSTRAINTS Self.shape) (Self.tree self.now) encoder.old encoder.new) }
         ensures err { OnErr result (encoder.new ≡ encoder.old) }
-        ensures refused { IfErr result (MayRefuse (tagged_as tag Self.CONSTRAINTS Self.shape) (Self.tree self.now) encoder.old) }
+        ensures refused { IfErr result (EncodeFails (tagged_as tag Self.CONSTRAINTS Self.shape) (Self.tree self.now) encoder.old) }
     {
         self.encode_with_tag_and_constraints(encoder, tag, &Self::CONSTRAINTS, identifier)
     }
@@ -68,9 +59,9 @@ pub trait Encode: AsnType {
         constraints: &Constraints,
         identifier: Identifier,
     ) -> Result<(), EncodeError>
-        ensures ok { OnOk result (Wrote (tagged_as Self.TAG constraints.now Self.shape) (Self.tree self.now) encoder.old encoder.new) }
+        ensures ok { OnOk result (AppendsEncoding (tagged_as Self.TAG constraints.now Self.shape) (Self.tree self.now) encoder.old encoder.new) }
         ensures err { OnErr result (encoder.new ≡ encoder.old) }
-        ensures refused { IfErr result (MayRefuse (tagged_as Self.TAG constraints.now Self.shape) (Self.tree self.now) encoder.old) }
+        ensures refused { IfErr result (EncodeFails (tagged_as Self.TAG constraints.now Self.shape) (Self.tree self.now) encoder.old) }
     {
         self.encode_with_tag_and_constraints(encoder, Self::TAG, constraints, identifier)
     }

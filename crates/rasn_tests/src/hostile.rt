@@ -1,6 +1,6 @@
 //! Untrusted input: headers that are padded, lengths beyond any input, universal 0 and values that are cut (X.690 8.1), closures that
 //! drop refusals, and how many octets each refusal consumes.
-ghost use Rattle.rasn_de.specs.Inside.{Keeps};
+ghost use Rattle.rasn_de.specs.Constructed.{Keeps};
 
 use rasn::ber::de::Decoder;
 use rasn::error::DecodeError;

@@ -3,13 +3,13 @@
 #![tactic(auto)]
 
 #[cfg(test)]
+mod any;
+#[cfg(test)]
 mod errors;
 #[cfg(test)]
 mod hostile;
 #[cfg(test)]
 mod leaves;
-#[cfg(test)]
-mod open;
 #[cfg(test)]
 mod parts;
 #[cfg(test)]
@@ -17,15 +17,15 @@ mod program;
 #[cfg(test)]
 mod reading;
 #[cfg(test)]
-mod sequences;
+mod sequence;
 #[cfg(test)]
-mod sets;
+mod set;
 #[cfg(test)]
 mod strict;
 #[cfg(test)]
 mod strings;
 #[cfg(test)]
-mod times;
+mod time;
 #[cfg(test)]
 mod types;
 #[cfg(test)]

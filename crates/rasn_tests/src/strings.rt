@@ -1,9 +1,9 @@
 //! BIT STRING (X.690 8.6), OCTET STRING (8.7) and the character strings (8.23).
 
 mod alphabets;
-mod bits;
+mod bit_string;
 mod packing;
 mod reads;
-mod reads_bits;
+mod reads_bit_string;
 mod whole;
 mod writes;

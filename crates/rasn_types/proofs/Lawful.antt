@@ -4,11 +4,11 @@ use Rattle.std.specs.Bool.{Decides}
 use Rattle.std.specs.List.{list_all, list_any}
 use Rattle.std.proofs.lemmas.Bool.Decides.{Decides-eqb, Decides-ltb, Decides-and, Decides-or, Decides-not, Decides-like, not_from_Decides}
 use Rattle.rasn_types.specs.Tags.{Class, Universal, Application, Context, Private, Tag, tag_bit, rank, eoc, is_universal, is_eoc, IsTagBelow}
-use Rattle.rasn_types.specs.Shapes.{Shape, leaf, any, prefix, choice, option, seq, set, list, set_of, Parts, part, own, IsFirst, IsFirstOf, IsSolid, AreSolid, Presence, required, optional, addition, default}
+use Rattle.rasn_types.specs.Shapes.{Shape, leaf, any, prefix, choice, option, seq, set, list, set_of, Parts, part, own, IsFirst, IsFirstOf, IsAlwaysPresent, AreAlwaysPresent, Presence, required, optional, addition, default}
 use Rattle.rasn_types.specs.Shapes.Parts.{none}
 use Rattle.rasn_types.specs.Grammar.{Family, plain_family, bit_family, text_family, family}
-use Rattle.rasn_types.specs.Lawful.{AreDisjoint, AreToldApart, IsFirstBehind, IsToldApart, MayBeLeftOut, IsBitFree, HasTag, IsLawful, AreAlternatives, AreLawfulInOrder, AreLawfulByTag}
-use Rattle.rasn_types.specs.LawfulTest.{is_same_tag, is_other_tag, is_tag_below, Firsts, either_first, firsts, firsts_of, firsts_behind, is_first, holds_between, are_told_apart, is_none, is_told_apart, may_be_left_out, is_bit_free, has_tag, is_solid, are_solid, is_required, is_addition, is_same_own, is_lawful, are_alternatives, are_lawful_in_order, are_lawful_by_tag}
+use Rattle.rasn_types.specs.Lawful.{AreDisjoint, AreDistinguished, IsFirstBehind, IsDistinguished, MayBeLeftOut, IsBitFree, HasTag, IsLawful, AreAlternatives, AreLawfulInOrder, AreLawfulByTag}
+use Rattle.rasn_types.specs.LawfulTest.{is_same_tag, is_other_tag, is_tag_below, Firsts, either_first, firsts, firsts_of, firsts_behind, is_first, holds_between, are_distinguished, is_none, is_distinguished, may_be_left_out, is_bit_free, has_tag, is_always_present, are_always_present, is_required, is_addition, is_same_own, is_lawful, are_alternatives, are_lawful_in_order, are_lawful_by_tag}
 
 -- ---- tests that are fixed
 
@@ -72,8 +72,8 @@ IsIn None n = Unit {0}
 IsIn (Some tags) n = IsAmong tags n
 
 -- The list says which tags P holds of.
-abbrev Tells : Firsts → (Tag → Type 0) → Type 0
-Tells f P = (n : Tag) → (P n → IsIn f n) × (IsIn f n → P n)
+abbrev DescribesFirsts : Firsts → (Tag → Type 0) → Type 0
+DescribesFirsts f P = (n : Tag) → (P n → IsIn f n) × (IsIn f n → P n)
 
 among_left : (a b : List Tag) (n : Tag) → IsAmong a n → IsAmong (a ++ b) n
 among_left [] b n h = absurd h
@@ -89,7 +89,7 @@ among_either [] b n h = inr h
 among_either (t ∷ a) b n (inl e) = inl (inl e)
 among_either (t ∷ a) b n (inr h) = elim (among_either a b n h) [ inl x ↦ inl (inr x) | inr x ↦ inr x ]
 
-tells_either : (f g : Firsts) (P Q : Tag → Type 0) → Tells f P → Tells g Q → Tells (either_first f g) (λ n. P n ⊎ Q n)
+tells_either : (f g : Firsts) (P Q : Tag → Type 0) → DescribesFirsts f P → DescribesFirsts g Q → DescribesFirsts (either_first f g) (λ n. P n ⊎ Q n)
 tells_either None g P Q p q n = (λ h. tt, λ h. inl ((p n).1 tt))
 tells_either (Some a) None P Q p q n = (λ h. tt, λ h. inr ((q n).1 tt))
 tells_either (Some a) (Some b) P Q p q n = (
@@ -97,11 +97,11 @@ tells_either (Some a) (Some b) P Q p q n = (
   λ h. elim (among_either a b n h) [ inl x ↦ inl ((p n).1 x) | inr x ↦ inr ((q n).1 x) ],
 )
 
-tells_one : (tag : Tag) → Tells (Some (tag ∷ [])) (λ n. n ≡ tag)
+tells_one : (tag : Tag) → DescribesFirsts (Some (tag ∷ [])) (λ n. n ≡ tag)
 tells_one tag n = (λ e. inl e, λ h. elim h [ inl e ↦ e | inr x ↦ absurd x ])
 
 mutual
-  firsts_tell : (s : Shape) → Tells (firsts s) (IsFirst s)
+  firsts_tell : (s : Shape) → DescribesFirsts (firsts s) (IsFirst s)
   firsts_tell (leaf kind tag bounds) = tells_one tag
   firsts_tell (any None) = λ n. (λ h. tt, λ h. tt)
   firsts_tell (any (Some tag)) = tells_one tag
@@ -113,11 +113,11 @@ mutual
   firsts_tell (list tag s size) = tells_one tag
   firsts_tell (set_of tag s size) = tells_one tag
 
-  all_tell : (ps : Parts) → Tells (firsts_of ps) (IsFirstOf ps)
+  all_tell : (ps : Parts) → DescribesFirsts (firsts_of ps) (IsFirstOf ps)
   all_tell none = λ n. (λ h. h, λ h. h)
   all_tell (part presence s ps) = tells_either (firsts s) (firsts_of ps) (IsFirst s) (IsFirstOf ps) (firsts_tell s) (all_tell ps)
 
-behind_tell : (ps : Parts) → Tells (firsts_behind ps) (IsFirstBehind ps)
+behind_tell : (ps : Parts) → DescribesFirsts (firsts_behind ps) (IsFirstBehind ps)
 behind_tell none = λ n. (λ h. h, λ h. h)
 behind_tell (part required s ps) = firsts_tell s
 behind_tell (part addition s ps) = firsts_tell s
@@ -160,7 +160,7 @@ module _ (test : Tag → Tag → Bool) (R : Tag → Tag → Type 0) (decides : (
   between_firsts apart None (Some (t ∷ b)) = decides_no (λ h. apart t (h t t tt (inl refl)))
   between_firsts apart None None = decides_no (λ h. apart eoc (h eoc eoc tt tt))
 
-  between_told : ((m : Tag) → R m m → ⊥) → (f g : Firsts) (P Q : Tag → Type 0) → Tells f P → Tells g Q → Decides (holds_between test f g) (Between R P Q)
+  between_told : ((m : Tag) → R m m → ⊥) → (f g : Firsts) (P Q : Tag → Type 0) → DescribesFirsts f P → DescribesFirsts g Q → Decides (holds_between test f g) (Between R P Q)
   between_told apart f g P Q p q = Decides-like (holds_between test f g)
       (λ h m n x y. h m n ((p m).0 x) ((q n).0 y))
       (λ h m n x y. h m n ((p m).1 x) ((q n).1 y))
@@ -170,13 +170,13 @@ below_itself : (m : Tag) → IsTagBelow m m → ⊥
 below_itself m (inl h) = omega arith
 below_itself m (inr h) = omega (arith, h.1)
 
-disjoint : (f g : Firsts) (P Q : Tag → Type 0) → Tells f P → Tells g Q → Decides (holds_between is_other_tag f g) (AreDisjoint P Q)
+disjoint : (f g : Firsts) (P Q : Tag → Type 0) → DescribesFirsts f P → DescribesFirsts g Q → Decides (holds_between is_other_tag f g) (AreDisjoint P Q)
 disjoint f g P Q p q = Decides-like (holds_between is_other_tag f g)
     (λ h n x y. h n n x y refl)
     (λ h m n x y e. h n (subst P e x) y)
     (between_told is_other_tag (λ m n. m ≢ n) other_tag (λ m h. h refl) f g P Q p q)
 
-told_apart : (ps : Parts) → Decides (are_told_apart ps) (AreToldApart ps)
+told_apart : (ps : Parts) → Decides (are_distinguished ps) (AreDistinguished ps)
 told_apart none = decides_yes
 told_apart (part presence s ps) = Decides-and _ _ (disjoint (firsts s) (firsts_of ps) (IsFirst s) (IsFirstOf ps) (firsts_tell s) (all_tell ps)) (told_apart ps)
 
@@ -184,7 +184,7 @@ no_parts : (ps : Parts) → Decides (is_none ps) (ps ≡ none)
 no_parts none = (λ e. refl, λ e. refl)
 no_parts (part presence s ps) = decides_no (λ e. cc)
 
-told_behind : (tag : Option Tag) (ps : Parts) → Decides (is_told_apart tag ps) (IsToldApart tag ps)
+told_behind : (tag : Option Tag) (ps : Parts) → Decides (is_distinguished tag ps) (IsDistinguished tag ps)
 told_behind (Some tag) ps = Decides-not (is_first (firsts_behind ps) tag)
     (Decides-like (is_first (firsts_behind ps) tag) (behind_tell ps tag).1 (behind_tell ps tag).0 (is_in (firsts_behind ps) tag))
 told_behind None ps = no_parts ps
@@ -219,7 +219,7 @@ tagged (list tag s size) = decides_yes
 tagged (set_of tag s size) = decides_yes
 
 mutual
-  solid : (s : Shape) → Decides (is_solid s) (IsSolid s)
+  solid : (s : Shape) → Decides (is_always_present s) (IsAlwaysPresent s)
   solid (leaf kind tag bounds) = decides_yes
   solid (any tag) = decides_yes
   solid (prefix tag s) = decides_yes
@@ -230,7 +230,7 @@ mutual
   solid (list tag s size) = decides_yes
   solid (set_of tag s size) = decides_yes
 
-  all_solid : (ps : Parts) → Decides (are_solid ps) (AreSolid ps)
+  all_solid : (ps : Parts) → Decides (are_always_present ps) (AreAlwaysPresent ps)
   all_solid none = decides_yes
   all_solid (part presence s ps) = Decides-and _ _ (solid s) (all_solid ps)
 

@@ -1,12 +1,12 @@
 -- The octets that are written of a tree: a plain recursion on the shape. Octets are related, or none are.
 use Rattle.std.specs.Prelude.{◌≡◌, ℕ, suc, ◌<◌, ◌≤◌, ◌⊎◌, ◌≢◌, List, [], ◌∷◌, ◌++◌, length, Bool, true, Option, Some, None}
 use Rattle.rasn_types.specs.Tags.{tag_bit, Codec, Ber, Cer, Der, Tag, in_universal, IsTagBelow}
-use Rattle.rasn_types.specs.Framing.{AnyIdSpells, LengthSpells, IsShortestId, IsShortestLength, Begins, AreOctets}
+use Rattle.rasn_types.specs.Framing.{SpellsAnyIdentifier, SpellsLength, IsShortestIdentifier, IsShortestLength, Begins, AreOctets}
 use Rattle.rasn_types.specs.Calendar.{Day, IsDay, Moment, IsMoment}
-use Rattle.rasn_types.specs.Times.{written_date, written_generalized, written_utc}
-pub use Rattle.rasn_types.specs.Order.{Each, IsLess, DoNotFall}
+use Rattle.rasn_types.specs.Time.{written_date, written_generalized, written_utc}
+pub use Rattle.rasn_types.specs.Order.{Each, IsLess, AreAscending}
 pub use Rattle.rasn_types.specs.Shapes.{Same}
-use Rattle.rasn_types.specs.Shapes.{Tree, bits, numbers, instant, on_day, items, walk, chosen, absent, Kind, utc_time, generalized_time, date, Bound, Admits, Shape, leaf, any, prefix, choice, option, seq, set, list, set_of, Parts, part, Presence, required, optional, addition, default}
+use Rattle.rasn_types.specs.Shapes.{Tree, bits, numbers, instant, on_day, items, set_elements, chosen, absent, Kind, utc_time, generalized_time, date, Bound, Admits, Shape, leaf, any, prefix, choice, option, seq, set, list, set_of, Parts, part, Presence, required, optional, addition, default}
 use Rattle.rasn_types.specs.Shapes.Parts.{none}
 pub use Rattle.rasn_types.specs.Contents.{AllFalse}
 use Rattle.rasn_types.specs.Contents.{IsShortest, Contents, BitSegment, joined_lists}
@@ -16,33 +16,33 @@ abbrev pub Writing : Type 0 → Type 1
 Writing X = X → List ℕ → Type 0
 
 -- An identifier and a length before contents, each in its fewest octets (8.1).
-pub record Definite (tag : Tag) (bit : Bool) (contents b : List ℕ) : Type 0 where
+pub record DefiniteForm (tag : Tag) (bit : Bool) (contents b : List ℕ) : Type 0 where
   pub id : List ℕ
   pub len : List ℕ
-  pub id_spells : AnyIdSpells id tag bit
-  pub id_shortest : IsShortestId id tag
+  pub id_spells : SpellsAnyIdentifier id tag bit
+  pub id_shortest : IsShortestIdentifier id tag
   pub id_octets : AreOctets id
-  pub len_spells : LengthSpells len (length contents)
+  pub len_spells : SpellsLength len (length contents)
   pub len_shortest : IsShortestLength len (length contents)
   pub len_octets : AreOctets len
   pub is : b ≡ id ++ (len ++ contents)
 
 -- An identifier, the octet 80, constructed contents and end-of-contents octets (8.1.3.6, 8.1.5).
-pub record Closed (tag : Tag) (contents b : List ℕ) : Type 0 where
+pub record IndefiniteForm (tag : Tag) (contents b : List ℕ) : Type 0 where
   pub id : List ℕ
-  pub id_spells : AnyIdSpells id tag true
-  pub id_shortest : IsShortestId id tag
+  pub id_spells : SpellsAnyIdentifier id tag true
+  pub id_shortest : IsShortestIdentifier id tag
   pub id_octets : AreOctets id
   pub is : b ≡ id ++ (128 ∷ (contents ++ (0 ∷ 0 ∷ [])))
 
 -- EXTERNAL, SEQUENCE and SET have the constructed bit whatever is written.
-abbrev pub Prim : Tag → List ℕ → List ℕ → Type 0
-Prim tag = Definite tag (tag_bit tag)
+abbrev pub PrimitiveEncoding : Tag → List ℕ → List ℕ → Type 0
+PrimitiveEncoding tag = DefiniteForm tag (tag_bit tag)
 
-abbrev pub Cons : Codec → Tag → List ℕ → List ℕ → Type 0
-Cons Ber tag = Definite tag true
-Cons Cer tag = Closed tag
-Cons Der tag = Definite tag true
+abbrev pub ConstructedEncoding : Codec → Tag → List ℕ → List ℕ → Type 0
+ConstructedEncoding Ber tag = DefiniteForm tag true
+ConstructedEncoding Cer tag = IndefiniteForm tag
+ConstructedEncoding Der tag = DefiniteForm tag true
 
 -- A part, as it is written, and the trees of it that are written as open octets without a tag.
 pub record Field : Type 1 where
@@ -90,11 +90,11 @@ IsCer Cer = Unit {0}
 IsCer Der = ⊥
 
 -- A string is written as one piece, but under CER in segments where it has more than size units (9.2).
-abbrev pub WritesStr : {X : Type 0} → Codec → Writing (List X) → ℕ → Tag → Tag → Writing (List X)
-WritesStr {X} rule writes size inner tag xs b =
-    ((IsCer rule → length xs ≤ size) × (contents : List ℕ) × writes xs contents × Prim tag contents b)
+abbrev pub WritesString : {X : Type 0} → Codec → Writing (List X) → ℕ → Tag → Tag → Writing (List X)
+WritesString {X} rule writes size inner tag xs b =
+    ((IsCer rule → length xs ≤ size) × (contents : List ℕ) × writes xs contents × PrimitiveEncoding tag contents b)
     ⊎ (IsCer rule × (size < length xs) × (pieces : List (List X)) × (bs : List (List ℕ)) × (xs ≡ joined_lists pieces) × AreCut size pieces
-    × Each (λ p c. (contents : List ℕ) × writes p contents × Prim inner contents c) pieces bs × Cons rule tag (joined_lists bs) b)
+    × Each (λ p c. (contents : List ℕ) × writes p contents × PrimitiveEncoding inner contents c) pieces bs × ConstructedEncoding rule tag (joined_lists bs) b)
 
 pub record WrittenBits (bs : List Bool) (l : List ℕ) : Type 0 where
   pub is : BitSegment l bs
@@ -112,28 +112,28 @@ abbrev pub WritesOctets : Writing (List ℕ)
 WritesOctets xs l = (l ≡ xs) × AreOctets l
 
 abbrev pub WritesIn : Family → Codec → Kind → Tag → Writing Tree
-WritesIn plain_family rule kind tag t b = (contents : List ℕ) × Written kind t contents × Prim tag contents b
-WritesIn bit_family rule kind tag t b = (bs : List Bool) × (t ≡ bits bs) × WritesStr rule WrittenBits 7992 (in_universal 3) tag bs b
-WritesIn text_family rule kind tag t b = (octets : List ℕ) × WritesText kind octets t × WritesStr rule WritesOctets 1000 (in_universal 4) tag octets b
+WritesIn plain_family rule kind tag t b = (contents : List ℕ) × Written kind t contents × PrimitiveEncoding tag contents b
+WritesIn bit_family rule kind tag t b = (bs : List Bool) × (t ≡ bits bs) × WritesString rule WrittenBits 7992 (in_universal 3) tag bs b
+WritesIn text_family rule kind tag t b = (octets : List ℕ) × WritesText kind octets t × WritesString rule WritesOctets 1000 (in_universal 4) tag octets b
 
 abbrev pub WritesChoice : ℕ → List Field → Writing Tree
 WritesChoice k [] t b = ⊥
 WritesChoice k (f ∷ fs) t b = ((u : Tree) × (t ≡ chosen k u) × f.writes u b) ⊎ WritesChoice (suc k) fs t b
 
 abbrev pub WritesSeq : Codec → Tag → List Field → Writing Tree
-WritesSeq rule tag fs t b = (ts : List Tree) × (bs : List (List ℕ)) × (t ≡ items ts) × PartsWritten fs ts bs × Cons rule tag (joined_lists bs) b
+WritesSeq rule tag fs t b = (ts : List Tree) × (bs : List (List ℕ)) × (t ≡ items ts) × PartsWritten fs ts bs × ConstructedEncoding rule tag (joined_lists bs) b
 
 abbrev pub WritesSet : Codec → Tag → List Field → Writing Tree
 WritesSet rule tag fs t b = (ts : List Tree) × (bs : List (List ℕ)) × (tags : List Tag) × (t ≡ items ts) × PartsWritten fs ts bs
-    × NoneUntaggedOpen fs ts bs × TagsOf bs tags × DoNotFall IsTagBelow tags × Cons rule tag (joined_lists bs) b
+    × NoneUntaggedOpen fs ts bs × TagsOf bs tags × AreAscending IsTagBelow tags × ConstructedEncoding rule tag (joined_lists bs) b
 
 abbrev pub WritesList : Codec → Tag → Option (Bound ℕ) → Writing Tree → Writing Tree
 WritesList rule tag size writes t b = (ts : List Tree) × (bs : List (List ℕ)) × (t ≡ items ts) × Admits ◌≤◌ size (length ts)
-    × Each writes ts bs × Cons rule tag (joined_lists bs) b
+    × Each writes ts bs × ConstructedEncoding rule tag (joined_lists bs) b
 
 abbrev pub WritesSetOf : Codec → Tag → Option (Bound ℕ) → Writing Tree → Writing Tree
-WritesSetOf rule tag size writes t b = (ts : List Tree) × (bs : List (List ℕ)) × (t ≡ walk (items ts)) × Admits ◌≤◌ size (length ts)
-    × Each writes ts bs × DoNotFall IsLess bs × Cons rule tag (joined_lists bs) b
+WritesSetOf rule tag size writes t b = (ts : List Tree) × (bs : List (List ℕ)) × (t ≡ set_elements (items ts)) × Admits ◌≤◌ size (length ts)
+    × Each writes ts bs × AreAscending IsLess bs × ConstructedEncoding rule tag (joined_lists bs) b
 
 -- What is written of the tree are open octets without a tag.
 unfoldable mutual
@@ -159,8 +159,8 @@ unfoldable mutual
   Bytes rule (leaf kind tag bounds) = λ t b. IsBounded kind bounds t × WritesIn (family kind) rule kind tag t b
   Bytes rule (any None) = λ t b. t ≡ numbers b
   Bytes rule (any (Some tag)) = λ t b. (octets : List ℕ) × (t ≡ numbers octets)
-      × (((octets ≡ []) × (b ≡ [])) ⊎ ((octets ≢ []) × Cons rule tag octets b))
-  Bytes rule (prefix tag s) = λ t b. (inner : List ℕ) × Bytes rule s t inner × Cons rule tag inner b
+      × (((octets ≡ []) × (b ≡ [])) ⊎ ((octets ≢ []) × ConstructedEncoding rule tag octets b))
+  Bytes rule (prefix tag s) = λ t b. (inner : List ℕ) × Bytes rule s t inner × ConstructedEncoding rule tag inner b
   Bytes rule (choice ps) = WritesChoice 0 (fields_of rule ps)
   Bytes rule (option tag s) = λ t b. ((t ≡ absent) × (b ≡ [])) ⊎ ((t ≢ absent) × Bytes rule s t b)
   Bytes rule (seq tag ps) = WritesSeq rule tag (fields_of rule ps)

@@ -84,25 +84,25 @@ AllFalse [] = Unit {0}
 AllFalse (x ∷ xs) = (x ≡ false) × AllFalse xs
 
 -- Unused bits are zero where the writer's contents alone are read (11.2).
-abbrev pub ReadBits : Codec → List ℕ → List Bool → Type 0
-ReadBits rule l bs = (s : BitSegment l bs) × (IsStrict rule → AllFalse s.unused)
+abbrev pub ReadsBitSegment : Codec → List ℕ → List Bool → Type 0
+ReadsBitSegment rule l bs = (s : BitSegment l bs) × (IsStrict rule → AllFalse s.unused)
 
 abbrev pub OctetSegment : List ℕ → List ℕ → Type 0
 OctetSegment l octets = octets ≡ l
 
 mutual
   -- A string: primitive, or segments, which are strings nested one less deep (8.6.4, 8.7.3, 8.23). segment reads a primitive one's contents.
-  pub data Str {X : Type 0} (rule : Codec) (segment : List ℕ → List X → Type 0) (inner : Tag) : ℕ → Tag → List ℕ → List X → List ℕ → Type 0 where
+  pub data ReadsString {X : Type 0} (rule : Codec) (segment : List ℕ → List X → Type 0) (inner : Tag) : ℕ → Tag → List ℕ → List X → List ℕ → Type 0 where
     primitive : {depth : ℕ} {tag : Tag} {input : List ℕ} {xs : List X} {rest : List ℕ} (contents : List ℕ)
-        → Frame (form rule) input tag false rest (definite contents) → segment contents xs → Str rule segment inner depth tag input xs rest
+        → Frame (form rule) input tag false rest (definite contents) → segment contents xs → ReadsString rule segment inner depth tag input xs rest
     segments : {depth : ℕ} {tag : Tag} {input : List ℕ} {xs : List X} {rest : List ℕ} (contents : List ℕ) → (IsStrict rule → ⊥)
-        → Frame (form rule) input tag true rest (definite contents) → Segments rule segment inner depth false contents xs [] → Str rule segment inner (suc depth) tag input xs rest
+        → Frame (form rule) input tag true rest (definite contents) → ReadsSegments rule segment inner depth false contents xs [] → ReadsString rule segment inner (suc depth) tag input xs rest
     closed_segments : {depth : ℕ} {tag : Tag} {input : List ℕ} {xs : List X} {rest : List ℕ} (body : List ℕ) → (IsStrict rule → ⊥)
-        → Frame (form rule) input tag true body indefinite → Segments rule segment inner depth true body xs (0 ∷ 0 ∷ rest) → Str rule segment inner (suc depth) tag input xs rest
+        → Frame (form rule) input tag true body indefinite → ReadsSegments rule segment inner depth true body xs (0 ∷ 0 ∷ rest) → ReadsString rule segment inner (suc depth) tag input xs rest
 
   -- Segments one behind the other, up to the end of the contents.
-  pub data Segments {X : Type 0} (rule : Codec) (segment : List ℕ → List X → Type 0) (inner : Tag) : ℕ → Bool → List ℕ → List X → List ℕ → Type 0 where
-    none : {depth : ℕ} {closing : Bool} {input : List ℕ} → Ended closing input → Segments rule segment inner depth closing input [] input
+  pub data ReadsSegments {X : Type 0} (rule : Codec) (segment : List ℕ → List X → Type 0) (inner : Tag) : ℕ → Bool → List ℕ → List X → List ℕ → Type 0 where
+    none : {depth : ℕ} {closing : Bool} {input : List ℕ} → Ended closing input → ReadsSegments rule segment inner depth closing input [] input
     one_more : {depth : ℕ} {closing : Bool} {input rest : List ℕ} {xs : List X} (first others : List X) (middle : List ℕ) → (Ended closing input → ⊥)
-        → Str rule segment inner depth inner input first middle → Segments rule segment inner depth closing middle others rest → xs ≡ first ++ others
-        → Segments rule segment inner depth closing input xs rest
+        → ReadsString rule segment inner depth inner input first middle → ReadsSegments rule segment inner depth closing middle others rest → xs ≡ first ++ others
+        → ReadsSegments rule segment inner depth closing input xs rest

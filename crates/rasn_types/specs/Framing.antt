@@ -29,27 +29,27 @@ pub record IsIdentifier (first : ℕ) (more : List ℕ) (tag : Tag) (bit : Bool)
   pub number : ((low < 31) × (more ≡ []) × (tag.value ≡ low)) ⊎ ((low ≡ 31) × Spells128 more tag.value)
 
 -- The octets spell the tag, universal 0 too.
-abbrev pub AnyIdSpells : List ℕ → Tag → Bool → Type 0
-AnyIdSpells [] tag bit = ⊥
-AnyIdSpells (first ∷ more) tag bit = IsIdentifier first more tag bit
+abbrev pub SpellsAnyIdentifier : List ℕ → Tag → Bool → Type 0
+SpellsAnyIdentifier [] tag bit = ⊥
+SpellsAnyIdentifier (first ∷ more) tag bit = IsIdentifier first more tag bit
 
 -- The octets spell the tag of a value, which isn't universal 0.
-pub record IdSpells (l : List ℕ) (tag : Tag) (bit : Bool) : Type 0 where
-  pub spells : AnyIdSpells l tag bit
+pub record SpellsIdentifier (l : List ℕ) (tag : Tag) (bit : Bool) : Type 0 where
+  pub spells : SpellsAnyIdentifier l tag bit
   pub is_one : tag ≢ eoc
 
 -- A length's first octet, and those behind it (8.1.3).
-abbrev pub LengthSpells : List ℕ → ℕ → Type 0
-LengthSpells [] n = ⊥
-LengthSpells (first ∷ more) n =
+abbrev pub SpellsLength : List ℕ → ℕ → Type 0
+SpellsLength [] n = ⊥
+SpellsLength (first ∷ more) n =
     ((first < 128) × (more ≡ []) × (n ≡ first))
     ⊎ ((first ≡ 128 + length more) × (0 < length more) × (length more < 127) × (n ≡ number_in 256 more) × (n < 2 ^ 64))
 
 -- The shortest spellings.
-abbrev pub IsShortestId : List ℕ → Tag → Type 0
-IsShortestId [] tag = ⊥
-IsShortestId (first ∷ []) tag = Unit {0}
-IsShortestId (first ∷ b ∷ more) tag = (31 ≤ tag.value) × (b ≢ 128)
+abbrev pub IsShortestIdentifier : List ℕ → Tag → Type 0
+IsShortestIdentifier [] tag = ⊥
+IsShortestIdentifier (first ∷ []) tag = Unit {0}
+IsShortestIdentifier (first ∷ b ∷ more) tag = (31 ≤ tag.value) × (b ≢ 128)
 
 abbrev pub IsShortestLength : List ℕ → ℕ → Type 0
 IsShortestLength [] n = ⊥
@@ -67,10 +67,10 @@ HasIndefinite loose_form = ⊥
 
 -- The input begins with a value's header: its contents stand behind it where the length is definite.
 pub data Frame (spelling : Form) (input : List ℕ) (tag : Tag) (bit : Bool) (rest : List ℕ) : Extent → Type 0 where
-  with_length : (id len contents : List ℕ) → IdSpells id tag bit → LengthSpells len (length contents)
-      → (HasStrictForm spelling → IsShortestId id tag × IsShortestLength len (length contents))
+  with_length : (id len contents : List ℕ) → SpellsIdentifier id tag bit → SpellsLength len (length contents)
+      → (HasStrictForm spelling → IsShortestIdentifier id tag × IsShortestLength len (length contents))
       → input ≡ id ++ (len ++ (contents ++ rest)) → Frame spelling input tag bit rest (definite contents)
-  without_length : (id : List ℕ) → IdSpells id tag bit → bit ≡ true → HasIndefinite spelling
+  without_length : (id : List ℕ) → SpellsIdentifier id tag bit → bit ≡ true → HasIndefinite spelling
       → input ≡ id ++ (128 ∷ rest) → Frame spelling input tag bit rest indefinite
 
 -- The octets begin with an identifier of this tag, which may be universal 0.
@@ -78,14 +78,14 @@ pub record Begins (octets : List ℕ) (tag : Tag) : Type 0 where
   pub id : List ℕ
   pub bit : Bool
   pub more : List ℕ
-  pub spells : AnyIdSpells id tag bit
+  pub spells : SpellsAnyIdentifier id tag bit
   pub is : octets ≡ id ++ more
 
 -- A value of this tag comes next.
-pub record Next (spelling : Form) (input : List ℕ) (tag : Tag) : Type 0 where
+pub record NextTag (spelling : Form) (input : List ℕ) (tag : Tag) : Type 0 where
   pub begins : Begins input tag
   pub is_one : tag ≢ eoc
-  pub shortest : HasStrictForm spelling → IsShortestId begins.id tag
+  pub shortest : HasStrictForm spelling → IsShortestIdentifier begins.id tag
 
 -- The contents end here: nothing is left, or where end-of-contents octets may stand, these come.
 abbrev pub Ended : Bool → List ℕ → Type 0
@@ -93,24 +93,24 @@ Ended closing input = (input ≡ []) ⊎ ((closing ≡ true) × (more : List ℕ
 
 -- Whole encodings, end-of-contents octets included (8.1.4, 8.1.5).
 mutual
-  pub data Whole (rule : Codec) : List ℕ → Type 0 where
-    plain : {text : List ℕ} (tag : Tag) (bit : Bool) (contents : List ℕ) → Frame (loose rule) text tag bit [] (definite contents) → Whole rule text
+  pub data CompleteEncoding (rule : Codec) : List ℕ → Type 0 where
+    plain : {text : List ℕ} (tag : Tag) (bit : Bool) (contents : List ℕ) → Frame (loose rule) text tag bit [] (definite contents) → CompleteEncoding rule text
     closed : {text : List ℕ} (tag : Tag) (bit : Bool) (body nested : List ℕ) → Frame (loose rule) text tag bit body indefinite
-        → Wholes rule nested → body ≡ nested ++ (0 ∷ 0 ∷ []) → Whole rule text
+        → CompleteEncodings rule nested → body ≡ nested ++ (0 ∷ 0 ∷ []) → CompleteEncoding rule text
 
-  pub data Wholes (rule : Codec) : List ℕ → Type 0 where
-    none : Wholes rule []
-    one_more : {text : List ℕ} (front back : List ℕ) → Whole rule front → Wholes rule back → text ≡ front ++ back → Wholes rule text
+  pub data CompleteEncodings (rule : Codec) : List ℕ → Type 0 where
+    none : CompleteEncodings rule []
+    one_more : {text : List ℕ} (front back : List ℕ) → CompleteEncoding rule front → CompleteEncodings rule back → text ≡ front ++ back → CompleteEncodings rule text
 
 -- What passing a whole encoding counts: a closing pair, or a nested header with its definite contents.
 abbrev mutual
-  pub turns : {rule : Codec} {text : List ℕ} → Whole rule text → ℕ
-  turns (plain tag bit contents frame) = 0
-  turns (closed tag bit body nested frame inside is) = 1 + turns_of inside
+  pub steps_in : {rule : Codec} {text : List ℕ} → CompleteEncoding rule text → ℕ
+  steps_in (plain tag bit contents frame) = 0
+  steps_in (closed tag bit body nested frame inside is) = 1 + steps_of inside
 
-  pub turns_of : {rule : Codec} {text : List ℕ} → Wholes rule text → ℕ
-  turns_of none = 0
-  turns_of (one_more front back first others is) = (1 + turns first) + turns_of others
+  pub steps_of : {rule : Codec} {text : List ℕ} → CompleteEncodings rule text → ℕ
+  steps_of none = 0
+  steps_of (one_more front back first others is) = (1 + steps_in first) + steps_of others
 
 -- a list of octets
 abbrev pub AreOctets : List ℕ → Type 0

@@ -1,16 +1,16 @@
 -- The grammar: which inputs begin with a value of a shape, which value, and what is left.
 use Rattle.std.specs.Prelude.{◌≡◌, ℕ, ◌+◌, ◌*◌, ◌-◌, ◌^◌, ◌<◌, ◌≤◌, ◌⊎◌, List, [], ◌∷◌, ◌++◌, length, Bool, true, false, ◌≤ℤ◌, chars, IsUtf8, All, Contains, Option, Some, None}
 use Rattle.rasn_types.specs.Tags.{tag_bit, form, IsStrict, Codec, Ber, Cer, Der, Tag, in_universal}
-use Rattle.rasn_types.specs.Order.{IsLess, DoNotFall}
-use Rattle.rasn_types.specs.Framing.{Frame, definite, indefinite, Whole, Wholes}
+use Rattle.rasn_types.specs.Order.{IsLess, AreAscending}
+use Rattle.rasn_types.specs.Framing.{Frame, definite, indefinite, CompleteEncoding, CompleteEncodings}
 use Rattle.rasn_types.specs.Calendar.{Day, Stamp}
-use Rattle.rasn_types.specs.Times.{GeneralUtc, CanonicalUtc, GeneralGeneralized, CanonicalGeneralized, StrictGeneralized, DateText}
-use Rattle.rasn_types.specs.Shapes.{Tree, number, bits, numbers, instant, on_day, items, walk, absent, Kind, boolean, null, object_identifier, bit_string, octet_string, integer, enumerated, fixed, numeric, printable, visible, ia5, any_octets, bmp, utf8, utc_time, generalized_time, date, Bound, Constraints, Admits, Shape, leaf, any, prefix, choice, option, seq, set, list, set_of, Parts, part, own, IsFirst, presences}
+use Rattle.rasn_types.specs.Time.{GeneralUtc, CanonicalUtc, GeneralGeneralized, CanonicalGeneralized, StrictGeneralized, DateText}
+use Rattle.rasn_types.specs.Shapes.{Tree, number, bits, numbers, instant, on_day, items, set_elements, absent, Kind, boolean, null, object_identifier, bit_string, octet_string, integer, enumerated, fixed, numeric, printable, visible, ia5, any_octets, bmp, utf8, utc_time, generalized_time, date, Bound, Constraints, Admits, Shape, leaf, any, prefix, choice, option, seq, set, list, set_of, Parts, part, own, IsFirst, presences}
 use Rattle.rasn_types.specs.Shapes.Parts.{none}
 use Rattle.rasn_types.specs.declared.types.strings.alphabet.Alphabet.TheVariants.{Numeric, Printable, Visible, Ia5}
-use Rattle.rasn_types.specs.Characters.{AreAdmitted}
-use Rattle.rasn_types.specs.Readers.{Reading, Inside, Many, ReadFrom, Perhaps, Part, ReadsSeq, ReadsChoice, ReadsSet}
-use Rattle.rasn_types.specs.Contents.{IsShortest, Contents, Str, ReadBits, OctetSegment}
+use Rattle.rasn_types.specs.CharacterString.{AreAdmitted}
+use Rattle.rasn_types.specs.Readings.{Reading, ReadsContents, ReadsMany, ReadsFrom, ReadsOptional, Part, ReadsSeq, ReadsChoice, ReadsSet}
+use Rattle.rasn_types.specs.Contents.{IsShortest, Contents, ReadsString, ReadsBitSegment, OctetSegment}
 
 -- BER reads the general forms of times, CER and DER the canonical ones, DER the shortest of these (11.7, 11.8).
 abbrev pub UtcText : Codec → List ℕ → Stamp → Type 0
@@ -110,9 +110,9 @@ ReadsIn plain_family rule kind tag depth input t rest =
     (bit : Bool) × (contents : List ℕ) × Frame (form rule) input tag bit rest (definite contents) × Contents rule kind contents t
     × (IsStrict rule → (bit ≡ tag_bit tag) × IsShortest kind contents)
 ReadsIn bit_family rule kind tag depth input t rest =
-    (bs : List Bool) × (t ≡ bits bs) × (length bs < 2 ^ 64) × Str rule (ReadBits rule) (in_universal 3) depth tag input bs rest
+    (bs : List Bool) × (t ≡ bits bs) × (length bs < 2 ^ 64) × ReadsString rule (ReadsBitSegment rule) (in_universal 3) depth tag input bs rest
 ReadsIn text_family rule kind tag depth input t rest =
-    (octets : List ℕ) × Str rule OctetSegment (in_universal 4) depth tag input octets rest × Text rule kind octets t
+    (octets : List ℕ) × ReadsString rule OctetSegment (in_universal 4) depth tag input octets rest × Text rule kind octets t
 
 abbrev pub ReadsLeaf : Codec → Kind → Tag → Constraints → ℕ → Reading Tree
 ReadsLeaf rule kind tag bounds depth input t rest = ReadsIn (family kind) rule kind tag depth input t rest × IsBounded kind bounds t
@@ -121,19 +121,19 @@ ReadsLeaf rule kind tag bounds depth input t rest = ReadsIn (family kind) rule k
 abbrev pub ReadsOpen : Codec → Tag → Reading Tree
 ReadsOpen rule tag input t rest = (bit : Bool) × (contents : List ℕ) × (t ≡ numbers contents) × (IsStrict rule → bit ≡ true)
     × (Frame (form rule) input tag bit rest (definite contents)
-    ⊎ ((body : List ℕ) × Frame (form rule) input tag bit body indefinite × Wholes rule contents × (body ≡ contents ++ (0 ∷ 0 ∷ rest))))
+    ⊎ ((body : List ℕ) × Frame (form rule) input tag bit body indefinite × CompleteEncodings rule contents × (body ≡ contents ++ (0 ∷ 0 ∷ rest))))
 
 -- One whole encoding, octets and all.
 abbrev pub ReadsAny : Codec → Reading Tree
-ReadsAny rule input t rest = (text : List ℕ) × (t ≡ numbers text) × Whole rule text × (input ≡ text ++ rest)
+ReadsAny rule input t rest = (text : List ℕ) × (t ≡ numbers text) × CompleteEncoding rule text × (input ≡ text ++ rest)
 
 -- Elements up to the end, as a list and as a walk, whose octets don't fall where the writer's order alone is read (11.6).
 abbrev pub ReadsList : Option (Bound ℕ) → Reading Tree → Bool → Reading Tree
-ReadsList size reads closing input t rest = (ts : List Tree) × (t ≡ items ts) × Admits ◌≤◌ size (length ts) × Many reads closing input ts rest
+ReadsList size reads closing input t rest = (ts : List Tree) × (t ≡ items ts) × Admits ◌≤◌ size (length ts) × ReadsMany reads closing input ts rest
 
 abbrev pub ReadsSetOf : Codec → Option (Bound ℕ) → Reading Tree → Bool → Reading Tree
-ReadsSetOf rule size reads closing input t rest = (ts : List Tree) × (t ≡ walk (items ts)) × Admits ◌≤◌ size (length ts) × Many reads closing input ts rest
-    × (IsStrict rule → (bs : List (List ℕ)) × ReadFrom reads input ts rest bs × DoNotFall IsLess bs)
+ReadsSetOf rule size reads closing input t rest = (ts : List Tree) × (t ≡ set_elements (items ts)) × Admits ◌≤◌ size (length ts) × ReadsMany reads closing input ts rest
+    × (IsStrict rule → (bs : List (List ℕ)) × ReadsFrom reads input ts rest bs × AreAscending IsLess bs)
 
 -- Reads rule shape depth closing input tree rest: the input begins with a value of the shape, and the rest is left.
 unfoldable mutual
@@ -141,13 +141,13 @@ unfoldable mutual
   Reads rule (leaf kind tag bounds) depth closing = ReadsLeaf rule kind tag bounds depth
   Reads rule (any None) depth closing = ReadsAny rule
   Reads rule (any (Some tag)) depth closing = ReadsOpen rule tag
-  Reads rule (prefix tag s) depth closing = λ input t rest. (0 < depth) × (bit : Bool) × (IsStrict rule → bit ≡ true) × Inside rule tag bit (λ c. Reads rule s (depth - 1) c) input t rest
+  Reads rule (prefix tag s) depth closing = λ input t rest. (0 < depth) × (bit : Bool) × (IsStrict rule → bit ≡ true) × ReadsContents rule tag bit (λ c. Reads rule s (depth - 1) c) input t rest
   Reads rule (choice ps) depth closing = ReadsChoice rule 0 (parts_of rule ps depth closing)
-  Reads rule (option tag s) depth closing = Perhaps (form rule) tag absent (Reads rule s depth closing) closing
-  Reads rule (seq tag ps) depth closing = λ input t rest. (0 < depth) × Inside rule tag true (λ c. ReadsSeq rule (parts_of rule ps (depth - 1) c) c) input t rest
-  Reads rule (set tag ps) depth closing = λ input t rest. (0 < depth) × Inside rule tag true (λ c. ReadsSet rule (presences ps) (ReadsChoice rule 0 (parts_of rule ps (depth - 1) c)) c) input t rest
-  Reads rule (list tag s size) depth closing = λ input t rest. (0 < depth) × Inside rule tag true (λ c. ReadsList size (Reads rule s (depth - 2) c) c) input t rest
-  Reads rule (set_of tag s size) depth closing = λ input t rest. (0 < depth) × Inside rule tag true (λ c. ReadsSetOf rule size (Reads rule s (depth - 2) c) c) input t rest
+  Reads rule (option tag s) depth closing = ReadsOptional (form rule) tag absent (Reads rule s depth closing) closing
+  Reads rule (seq tag ps) depth closing = λ input t rest. (0 < depth) × ReadsContents rule tag true (λ c. ReadsSeq rule (parts_of rule ps (depth - 1) c) c) input t rest
+  Reads rule (set tag ps) depth closing = λ input t rest. (0 < depth) × ReadsContents rule tag true (λ c. ReadsSet rule (presences ps) (ReadsChoice rule 0 (parts_of rule ps (depth - 1) c)) c) input t rest
+  Reads rule (list tag s size) depth closing = λ input t rest. (0 < depth) × ReadsContents rule tag true (λ c. ReadsList size (Reads rule s (depth - 2) c) c) input t rest
+  Reads rule (set_of tag s size) depth closing = λ input t rest. (0 < depth) × ReadsContents rule tag true (λ c. ReadsSetOf rule size (Reads rule s (depth - 2) c) c) input t rest
 
   pub parts_of : Codec → Parts → ℕ → Bool → List Part
   parts_of rule none depth closing = []

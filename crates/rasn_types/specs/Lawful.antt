@@ -1,7 +1,7 @@
 -- Lawful shapes.
 use Rattle.std.specs.Prelude.{◌≡◌, ◌⊎◌, ◌≢◌, false, Option, Some, None}
 use Rattle.rasn_types.specs.Tags.{tag_bit, Tag, eoc, IsTagBelow}
-use Rattle.rasn_types.specs.Shapes.{Shape, leaf, any, prefix, choice, option, seq, set, list, set_of, Parts, part, own, IsFirst, IsFirstOf, Presence, required, optional, addition, default, IsSolid}
+use Rattle.rasn_types.specs.Shapes.{Shape, leaf, any, prefix, choice, option, seq, set, list, set_of, Parts, part, own, IsFirst, IsFirstOf, Presence, required, optional, addition, default, IsAlwaysPresent}
 use Rattle.rasn_types.specs.Shapes.Parts.{none}
 use Rattle.rasn_types.specs.Grammar.{Family, plain_family, bit_family, text_family, family}
 
@@ -9,9 +9,9 @@ abbrev pub AreDisjoint : (Tag → Type 0) → (Tag → Type 0) → Type 0
 AreDisjoint P Q = (n : Tag) → P n → Q n → ⊥
 
 -- No two parts begin with one tag.
-abbrev pub AreToldApart : Parts → Type 0
-AreToldApart none = Unit {0}
-AreToldApart (part presence s ps) = AreDisjoint (IsFirst s) (IsFirstOf ps) × AreToldApart ps
+abbrev pub AreDistinguished : Parts → Type 0
+AreDistinguished none = Unit {0}
+AreDistinguished (part presence s ps) = AreDisjoint (IsFirst s) (IsFirstOf ps) × AreDistinguished ps
 
 -- The first tags of the parts, up to and with the next one that is always there.
 abbrev pub IsFirstBehind : Parts → Tag → Type 0
@@ -22,15 +22,15 @@ IsFirstBehind (part optional s ps) n = IsFirst s n ⊎ IsFirstBehind ps n
 IsFirstBehind (part (default d) s ps) n = IsFirst s n ⊎ IsFirstBehind ps n
 
 -- A part that may be left out is told from what follows by its own tag, or nothing follows it.
-abbrev pub IsToldApart : Option Tag → Parts → Type 0
-IsToldApart (Some tag) ps = IsFirstBehind ps tag → ⊥
-IsToldApart None ps = ps ≡ none
+abbrev pub IsDistinguished : Option Tag → Parts → Type 0
+IsDistinguished (Some tag) ps = IsFirstBehind ps tag → ⊥
+IsDistinguished None ps = ps ≡ none
 
 abbrev pub MayBeLeftOut : Presence → Option Tag → Parts → Type 0
 MayBeLeftOut required tag ps = Unit {0}
 MayBeLeftOut addition tag ps = Unit {0}
-MayBeLeftOut optional tag ps = IsToldApart tag ps
-MayBeLeftOut (default d) tag ps = IsToldApart tag ps
+MayBeLeftOut optional tag ps = IsDistinguished tag ps
+MayBeLeftOut (default d) tag ps = IsDistinguished tag ps
 
 -- no string and no time has a tag that is always written as constructed
 abbrev pub IsBitFree : Family → Tag → Type 0
@@ -48,24 +48,24 @@ unfoldable mutual
   IsLawful (leaf kind tag bounds) = (tag ≢ eoc) × IsBitFree (family kind) tag
   IsLawful (any None) = Unit {0}
   IsLawful (any (Some tag)) = tag ≢ eoc
-  IsLawful (prefix tag s) = (tag ≢ eoc) × IsSolid s × IsLawful s
-  IsLawful (choice ps) = AreAlternatives ps × AreToldApart ps
-  IsLawful (option tag s) = (tag ≡ own s) × IsSolid s × IsLawful s
+  IsLawful (prefix tag s) = (tag ≢ eoc) × IsAlwaysPresent s × IsLawful s
+  IsLawful (choice ps) = AreAlternatives ps × AreDistinguished ps
+  IsLawful (option tag s) = (tag ≡ own s) × IsAlwaysPresent s × IsLawful s
   IsLawful (seq tag ps) = (tag ≢ eoc) × AreLawfulInOrder ps
   IsLawful (set tag ps) = (tag ≢ eoc) × AreLawfulByTag ps
-  IsLawful (list tag s size) = (tag ≢ eoc) × IsSolid s × IsLawful s
-  IsLawful (set_of tag s size) = (tag ≢ eoc) × IsSolid s × IsLawful s
+  IsLawful (list tag s size) = (tag ≢ eoc) × IsAlwaysPresent s × IsLawful s
+  IsLawful (set_of tag s size) = (tag ≢ eoc) × IsAlwaysPresent s × IsLawful s
 
   pub AreAlternatives : Parts → Type 0
   AreAlternatives none = Unit {0}
-  AreAlternatives (part presence s ps) = (presence ≡ required) × HasTag s × IsSolid s × IsLawful s × AreAlternatives ps
+  AreAlternatives (part presence s ps) = (presence ≡ required) × HasTag s × IsAlwaysPresent s × IsLawful s × AreAlternatives ps
 
   pub AreLawfulInOrder : Parts → Type 0
   AreLawfulInOrder none = Unit {0}
-  AreLawfulInOrder (part presence s ps) = IsSolid s × IsLawful s × MayBeLeftOut presence (own s) ps × AreLawfulInOrder ps
+  AreLawfulInOrder (part presence s ps) = IsAlwaysPresent s × IsLawful s × MayBeLeftOut presence (own s) ps × AreLawfulInOrder ps
 
   -- by rising tags, in ranges that don't overlap
   pub AreLawfulByTag : Parts → Type 0
   AreLawfulByTag none = Unit {0}
-  AreLawfulByTag (part presence s ps) = (presence ≢ addition) × HasTag s × IsSolid s × IsLawful s
+  AreLawfulByTag (part presence s ps) = (presence ≢ addition) × HasTag s × IsAlwaysPresent s × IsLawful s
       × ((m n : Tag) → IsFirst s m → IsFirstOf ps n → IsTagBelow m n) × AreLawfulByTag ps

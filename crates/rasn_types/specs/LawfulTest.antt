@@ -60,23 +60,23 @@ holds_between test None (Some []) = true
 holds_between test None (Some (t ∷ b)) = false
 holds_between test None None = false
 
-abbrev pub are_told_apart : Parts → Bool
-are_told_apart none = true
-are_told_apart (part presence s ps) = holds_between is_other_tag (firsts s) (firsts_of ps) && are_told_apart ps
+abbrev pub are_distinguished : Parts → Bool
+are_distinguished none = true
+are_distinguished (part presence s ps) = holds_between is_other_tag (firsts s) (firsts_of ps) && are_distinguished ps
 
 abbrev pub is_none : Parts → Bool
 is_none none = true
 is_none (part presence s ps) = false
 
-abbrev pub is_told_apart : Option Tag → Parts → Bool
-is_told_apart (Some tag) ps = not (is_first (firsts_behind ps) tag)
-is_told_apart None ps = is_none ps
+abbrev pub is_distinguished : Option Tag → Parts → Bool
+is_distinguished (Some tag) ps = not (is_first (firsts_behind ps) tag)
+is_distinguished None ps = is_none ps
 
 abbrev pub may_be_left_out : Presence → Option Tag → Parts → Bool
 may_be_left_out required tag ps = true
 may_be_left_out addition tag ps = true
-may_be_left_out optional tag ps = is_told_apart tag ps
-may_be_left_out (default d) tag ps = is_told_apart tag ps
+may_be_left_out optional tag ps = is_distinguished tag ps
+may_be_left_out (default d) tag ps = is_distinguished tag ps
 
 abbrev pub is_bit_free : Family → Tag → Bool
 is_bit_free plain_family tag = true
@@ -96,20 +96,20 @@ has_tag (list tag s size) = true
 has_tag (set_of tag s size) = true
 
 abbrev mutual
-  pub is_solid : Shape → Bool
-  is_solid (leaf kind tag bounds) = true
-  is_solid (any tag) = true
-  is_solid (prefix tag s) = true
-  is_solid (choice ps) = are_solid ps
-  is_solid (option tag s) = false
-  is_solid (seq tag ps) = true
-  is_solid (set tag ps) = true
-  is_solid (list tag s size) = true
-  is_solid (set_of tag s size) = true
+  pub is_always_present : Shape → Bool
+  is_always_present (leaf kind tag bounds) = true
+  is_always_present (any tag) = true
+  is_always_present (prefix tag s) = true
+  is_always_present (choice ps) = are_always_present ps
+  is_always_present (option tag s) = false
+  is_always_present (seq tag ps) = true
+  is_always_present (set tag ps) = true
+  is_always_present (list tag s size) = true
+  is_always_present (set_of tag s size) = true
 
-  pub are_solid : Parts → Bool
-  are_solid none = true
-  are_solid (part presence s ps) = is_solid s && are_solid ps
+  pub are_always_present : Parts → Bool
+  are_always_present none = true
+  are_always_present (part presence s ps) = is_always_present s && are_always_present ps
 
 abbrev pub is_required : Presence → Bool
 is_required required = true
@@ -134,23 +134,23 @@ abbrev mutual
   is_lawful (leaf kind tag bounds) = not (is_eoc tag) && is_bit_free (family kind) tag
   is_lawful (any None) = true
   is_lawful (any (Some tag)) = not (is_eoc tag)
-  is_lawful (prefix tag s) = not (is_eoc tag) && (is_solid s && is_lawful s)
-  is_lawful (choice ps) = are_alternatives ps && are_told_apart ps
-  is_lawful (option tag s) = is_same_own tag (own s) && (is_solid s && is_lawful s)
+  is_lawful (prefix tag s) = not (is_eoc tag) && (is_always_present s && is_lawful s)
+  is_lawful (choice ps) = are_alternatives ps && are_distinguished ps
+  is_lawful (option tag s) = is_same_own tag (own s) && (is_always_present s && is_lawful s)
   is_lawful (seq tag ps) = not (is_eoc tag) && are_lawful_in_order ps
   is_lawful (set tag ps) = not (is_eoc tag) && are_lawful_by_tag ps
-  is_lawful (list tag s size) = not (is_eoc tag) && (is_solid s && is_lawful s)
-  is_lawful (set_of tag s size) = not (is_eoc tag) && (is_solid s && is_lawful s)
+  is_lawful (list tag s size) = not (is_eoc tag) && (is_always_present s && is_lawful s)
+  is_lawful (set_of tag s size) = not (is_eoc tag) && (is_always_present s && is_lawful s)
 
   pub are_alternatives : Parts → Bool
   are_alternatives none = true
-  are_alternatives (part presence s ps) = is_required presence && (has_tag s && (is_solid s && (is_lawful s && are_alternatives ps)))
+  are_alternatives (part presence s ps) = is_required presence && (has_tag s && (is_always_present s && (is_lawful s && are_alternatives ps)))
 
   pub are_lawful_in_order : Parts → Bool
   are_lawful_in_order none = true
-  are_lawful_in_order (part presence s ps) = is_solid s && (is_lawful s && (may_be_left_out presence (own s) ps && are_lawful_in_order ps))
+  are_lawful_in_order (part presence s ps) = is_always_present s && (is_lawful s && (may_be_left_out presence (own s) ps && are_lawful_in_order ps))
 
   pub are_lawful_by_tag : Parts → Bool
   are_lawful_by_tag none = true
-  are_lawful_by_tag (part presence s ps) = not (is_addition presence) && (has_tag s && (is_solid s && (is_lawful s
+  are_lawful_by_tag (part presence s ps) = not (is_addition presence) && (has_tag s && (is_always_present s && (is_lawful s
       && (holds_between is_tag_below (firsts s) (firsts_of ps) && are_lawful_by_tag ps))))

@@ -12,7 +12,7 @@ IsLess a [] = ⊥
 IsLess [] (c ∷ d) = Unit {0}
 IsLess (a ∷ b) (c ∷ d) = (a < c) ⊎ ((a ≡ c) × IsLess b d)
 
-abbrev pub DoNotFall : {X : Type 0} → (X → X → Type 0) → List X → Type 0
-DoNotFall less [] = Unit {0}
-DoNotFall less (x ∷ []) = Unit {0}
-DoNotFall less (x ∷ y ∷ xs) = (less y x → ⊥) × DoNotFall less (y ∷ xs)
+abbrev pub AreAscending : {X : Type 0} → (X → X → Type 0) → List X → Type 0
+AreAscending less [] = Unit {0}
+AreAscending less (x ∷ []) = Unit {0}
+AreAscending less (x ∷ y ∷ xs) = (less y x → ⊥) × AreAscending less (y ∷ xs)

@@ -1,6 +1,6 @@
 -- The encoding rules and their names.
-pub use Rattle.rasn_types.specs.declared.types.rules.Codec.{Codec}
-use Rattle.rasn_types.specs.declared.types.rules.Codec.TheVariants.{Ber, Cer, Der}
+pub use Rattle.rasn_types.specs.declared.types.codec.Codec.{Codec}
+use Rattle.rasn_types.specs.declared.types.codec.Codec.TheVariants.{Ber, Cer, Der}
 pub use Rattle.rasn_types.specs.declared.ber.rules.EncodingRules.{EncodingRules}
 use Rattle.rasn_types.specs.declared.ber.rules.EncodingRules.TheVariants.{Ber as basic, Cer as canonical, Der as distinguished}
 

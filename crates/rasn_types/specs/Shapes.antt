@@ -16,7 +16,7 @@ pub data Tree : Type 0 where
   on_day : Day → Tree
   done : Tree
   joined : Tree → Tree → Tree
-  walk : Tree → Tree
+  set_elements : Tree → Tree
   chosen : ℕ → Tree → Tree
   absent : Tree
 
@@ -31,7 +31,7 @@ Same (bits bs) u = u ≡ bits bs
 Same (numbers ns) u = u ≡ numbers ns
 Same done u = u ≡ done
 Same (joined t ts) u = (v : Tree) × (vs : Tree) × (u ≡ joined v vs) × Same t v × Same ts vs
-Same (walk ts) u = (vs : List Tree) × (ws : List Tree) × (u ≡ walk (items ws)) × IsPermutation vs ws × Same ts (items vs)
+Same (set_elements ts) u = (vs : List Tree) × (ws : List Tree) × (u ≡ set_elements (items ws)) × IsPermutation vs ws × Same ts (items vs)
 Same (chosen k t) u = (v : Tree) × (u ≡ chosen k v) × Same t v
 Same (instant m) u = u ≡ instant m
 Same (on_day d) u = u ≡ on_day d
@@ -148,17 +148,17 @@ tagged_as t c (set_of tag s size) = set_of t s c.size
 
 -- Every value of a solid shape is there.
 abbrev mutual
-  pub IsSolid : Shape → Type 0
-  IsSolid (leaf kind tag bounds) = Unit {0}
-  IsSolid (any tag) = Unit {0}
-  IsSolid (prefix tag s) = Unit {0}
-  IsSolid (choice parts) = AreSolid parts
-  IsSolid (option tag s) = ⊥
-  IsSolid (seq tag parts) = Unit {0}
-  IsSolid (set tag parts) = Unit {0}
-  IsSolid (list tag s size) = Unit {0}
-  IsSolid (set_of tag s size) = Unit {0}
+  pub IsAlwaysPresent : Shape → Type 0
+  IsAlwaysPresent (leaf kind tag bounds) = Unit {0}
+  IsAlwaysPresent (any tag) = Unit {0}
+  IsAlwaysPresent (prefix tag s) = Unit {0}
+  IsAlwaysPresent (choice parts) = AreAlwaysPresent parts
+  IsAlwaysPresent (option tag s) = ⊥
+  IsAlwaysPresent (seq tag parts) = Unit {0}
+  IsAlwaysPresent (set tag parts) = Unit {0}
+  IsAlwaysPresent (list tag s size) = Unit {0}
+  IsAlwaysPresent (set_of tag s size) = Unit {0}
 
-  pub AreSolid : Parts → Type 0
-  AreSolid none = Unit {0}
-  AreSolid (part presence s parts) = IsSolid s × AreSolid parts
+  pub AreAlwaysPresent : Parts → Type 0
+  AreAlwaysPresent none = Unit {0}
+  AreAlwaysPresent (part presence s parts) = IsAlwaysPresent s × AreAlwaysPresent parts

@@ -1,7 +1,7 @@
 -- Tags (X.680 8) and encoding rules.
 use Rattle.std.specs.Prelude.{T, Bool, true, false, ◌==◌, ◌||◌, ◌&&◌, ◌≡◌, ℕ, ◌<◌, ◌⊎◌}
-pub use Rattle.rasn_types.specs.declared.types.rules.Codec.{Codec}
-pub use Rattle.rasn_types.specs.declared.types.rules.Codec.TheVariants.{Ber, Cer, Der}
+pub use Rattle.rasn_types.specs.declared.types.codec.Codec.{Codec}
+pub use Rattle.rasn_types.specs.declared.types.codec.Codec.TheVariants.{Ber, Cer, Der}
 pub use Rattle.rasn_types.specs.declared.types.tag.Class.{Class}
 pub use Rattle.rasn_types.specs.declared.types.tag.Class.TheVariants.{Universal, Application, Context, Private}
 pub use Rattle.rasn_types.specs.declared.types.tag.Tag.{Tag}

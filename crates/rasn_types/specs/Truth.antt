@@ -2,5 +2,5 @@
 use Rattle.std.specs.Prelude.{Bool, MatchBool}
 
 -- b is true exactly where P holds.
-abbrev pub Decides : Bool → Type 0 → Type 0
-Decides b P = MatchBool b P (P → ⊥)
+abbrev pub IsWhether : Bool → Type 0 → Type 0
+IsWhether b P = MatchBool b P (P → ⊥)

@@ -1,6 +1,6 @@
 //! What the encoding rules share: rules, identifiers, gathered bits and times.
 
-pub mod gathered;
+pub mod collected_bits;
 mod identifier;
 pub mod rules;
 pub mod time;

@@ -1,7 +1,7 @@
 //! `AlgorithmIdentifier ::= SEQUENCE { algorithm OBJECT IDENTIFIER, parameters ANY DEFINED BY algorithm OPTIONAL }` (RFC 5280, 4.1.1.2).
 ghost use Rattle.rasn_de.specs.Decodes.{DecodesParts};
-ghost use Rattle.rasn_enc.specs.Parts.{WritesParts};
-ghost use Rattle.rasn_bench.specs.Algorithms.{algorithm_parts, algorithm_tree};
+ghost use Rattle.rasn_enc.specs.Sequence.{EncodesParts};
+ghost use Rattle.rasn_bench.specs.AlgorithmIdentifier.{algorithm_parts, algorithm_tree};
 
 use rasn::ber::de::Decoder;
 use rasn::ber::enc::Encoder;
@@ -26,7 +26,7 @@ impl AsnType for AlgorithmIdentifier {
     ghost use Rattle.std.specs.Prelude.{refl};
     ghost use Rattle.rasn_types.specs.Tags.{in_universal};
     ghost use Rattle.rasn_types.specs.Trees.{unconstrained};
-    ghost use Rattle.rasn_bench.specs.Algorithms.{algorithm_shape, algorithm_tree};
+    ghost use Rattle.rasn_bench.specs.AlgorithmIdentifier.{algorithm_shape, algorithm_tree};
 
     ghost TAG = { in_universal 16 };
 
@@ -45,20 +45,20 @@ impl AsnType for AlgorithmIdentifier {
 
 impl LawfulEq for AlgorithmIdentifier {
     ghost use Rattle.std.proofs.Common.{rules};
-    ghost use Rattle.rasn_types.specs.Equality.{telling};
+    ghost use Rattle.rasn_types.specs.Equality.{deciding};
 
-    ghost decides = { Prim.search (telling, rules) };
+    ghost decides = { Prim.search (deciding, rules) };
 }
 
 impl Present for AlgorithmIdentifier {
-    ghost use Rattle.rasn_types.specs.Equality.{parts_there};
+    ghost use Rattle.rasn_types.specs.Equality.{parts_not_absent};
 
-    ghost present = { λ _. parts_there };
+    ghost present = { λ _. parts_not_absent };
 }
 
 impl Constructed<2, 0> for AlgorithmIdentifier {
     ghost use Rattle.std.specs.Prelude.{refl, true, false};
-    ghost use Rattle.rasn_bench.specs.Algorithms.{algorithm_parts};
+    ghost use Rattle.rasn_bench.specs.AlgorithmIdentifier.{algorithm_parts};
 
     const FIELDS: Fields<2> = Fields {
         fields: [
@@ -132,7 +132,7 @@ impl Encode for AlgorithmIdentifier {
         encoder.encode_sequence::<2, 0, AlgorithmIdentifier, _>(
             tag,
             |inner: &mut Encoder| -> Result<(), EncodeError>
-                ensures { WritesParts algorithm_parts (algorithm_tree self.entry.now) inner.old result inner.new }
+                ensures { EncodesParts algorithm_parts (algorithm_tree self.entry.now) inner.old result inner.new }
             {
                 self.algorithm.encode(inner)?;
                 self.parameters.encode(inner)

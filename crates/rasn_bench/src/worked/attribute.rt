@@ -1,7 +1,7 @@
 //! `AttributeTypeAndValue ::= SEQUENCE { type OBJECT IDENTIFIER, value ANY DEFINED BY type }` (RFC 5280, 4.1.2.4).
 ghost use Rattle.rasn_de.specs.Decodes.{DecodesParts};
-ghost use Rattle.rasn_enc.specs.Parts.{WritesParts};
-ghost use Rattle.rasn_bench.specs.Attributes.{attribute_parts, attribute_tree};
+ghost use Rattle.rasn_enc.specs.Sequence.{EncodesParts};
+ghost use Rattle.rasn_bench.specs.Attribute.{attribute_parts, attribute_tree};
 
 use rasn::ber::de::Decoder;
 use rasn::ber::enc::Encoder;
@@ -25,7 +25,7 @@ impl AsnType for AttributeTypeAndValue {
     ghost use Rattle.std.specs.Prelude.{refl};
     ghost use Rattle.rasn_types.specs.Tags.{in_universal};
     ghost use Rattle.rasn_types.specs.Trees.{unconstrained};
-    ghost use Rattle.rasn_bench.specs.Attributes.{attribute_shape, attribute_tree};
+    ghost use Rattle.rasn_bench.specs.Attribute.{attribute_shape, attribute_tree};
 
     ghost TAG = { in_universal 16 };
 
@@ -44,20 +44,20 @@ impl AsnType for AttributeTypeAndValue {
 
 impl LawfulEq for AttributeTypeAndValue {
     ghost use Rattle.std.proofs.Common.{rules};
-    ghost use Rattle.rasn_types.specs.Equality.{telling};
+    ghost use Rattle.rasn_types.specs.Equality.{deciding};
 
-    ghost decides = { Prim.search (telling, rules) };
+    ghost decides = { Prim.search (deciding, rules) };
 }
 
 impl Present for AttributeTypeAndValue {
-    ghost use Rattle.rasn_types.specs.Equality.{parts_there};
+    ghost use Rattle.rasn_types.specs.Equality.{parts_not_absent};
 
-    ghost present = { λ _. parts_there };
+    ghost present = { λ _. parts_not_absent };
 }
 
 impl Constructed<2, 0> for AttributeTypeAndValue {
     ghost use Rattle.std.specs.Prelude.{refl, true, false};
-    ghost use Rattle.rasn_bench.specs.Attributes.{attribute_parts};
+    ghost use Rattle.rasn_bench.specs.Attribute.{attribute_parts};
 
     const FIELDS: Fields<2> = Fields {
         fields: [
@@ -128,7 +128,7 @@ impl Encode for AttributeTypeAndValue {
         encoder.encode_sequence::<2, 0, AttributeTypeAndValue, _>(
             tag,
             |inner: &mut Encoder| -> Result<(), EncodeError>
-                ensures { WritesParts attribute_parts (attribute_tree self.entry.now) inner.old result inner.new }
+                ensures { EncodesParts attribute_parts (attribute_tree self.entry.now) inner.old result inner.new }
             {
                 self.kind.encode(inner)?;
                 self.value.encode(inner)

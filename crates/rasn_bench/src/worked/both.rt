@@ -1,8 +1,8 @@
 //! `Both ::= SEQUENCE { first A, second B }`, of any two types.
 ghost use Rattle.std.specs.Prelude.{IfOk};
 ghost use Rattle.rasn_de.specs.Decodes.{DecodesParts};
-ghost use Rattle.rasn_enc.specs.Parts.{WritesParts};
-ghost use Rattle.rasn_bench.specs.Boths.{both_parts, both_tree};
+ghost use Rattle.rasn_enc.specs.Sequence.{EncodesParts};
+ghost use Rattle.rasn_bench.specs.Both.{both_parts, both_tree};
 
 use rasn::ber::de::Decoder;
 use rasn::ber::enc::Encoder;
@@ -26,7 +26,7 @@ impl<A: AsnType, B: AsnType> AsnType for Both<A, B> {
     ghost use Rattle.std.specs.Prelude.{refl};
     ghost use Rattle.rasn_types.specs.Tags.{in_universal};
     ghost use Rattle.rasn_types.specs.Trees.{unconstrained};
-    ghost use Rattle.rasn_bench.specs.Boths.{both_shape, both_tree};
+    ghost use Rattle.rasn_bench.specs.Both.{both_shape, both_tree};
 
     ghost TAG = { in_universal 16 };
 
@@ -45,20 +45,20 @@ impl<A: AsnType, B: AsnType> AsnType for Both<A, B> {
 
 impl<A: LawfulEq, B: LawfulEq> LawfulEq for Both<A, B> {
     ghost use Rattle.std.proofs.Common.{rules};
-    ghost use Rattle.rasn_types.specs.Equality.{telling};
+    ghost use Rattle.rasn_types.specs.Equality.{deciding};
 
-    ghost decides = { Prim.search (telling, rules) };
+    ghost decides = { Prim.search (deciding, rules) };
 }
 
 impl<A: AsnType, B: AsnType> Present for Both<A, B> {
-    ghost use Rattle.rasn_types.specs.Equality.{parts_there};
+    ghost use Rattle.rasn_types.specs.Equality.{parts_not_absent};
 
-    ghost present = { λ _. parts_there };
+    ghost present = { λ _. parts_not_absent };
 }
 
 impl<A: AsnType, B: AsnType> Constructed<2, 0> for Both<A, B> {
     ghost use Rattle.std.specs.Prelude.{refl, true, false};
-    ghost use Rattle.rasn_bench.specs.Boths.{both_parts};
+    ghost use Rattle.rasn_bench.specs.Both.{both_parts};
 
     const FIELDS: Fields<2> = Fields {
         fields: [
@@ -127,7 +127,7 @@ impl<A: Encode, B: Encode> Encode for Both<A, B> {
         encoder.encode_sequence::<2, 0, Both<A, B>, _>(
             tag,
             |inner: &mut Encoder| -> Result<(), EncodeError>
-                ensures { WritesParts (both_parts A.shape B.shape) (both_tree A.tree B.tree self.entry.now) inner.old result inner.new }
+                ensures { EncodesParts (both_parts A.shape B.shape) (both_tree A.tree B.tree self.entry.now) inner.old result inner.new }
             {
                 self.first.encode(inner)?;
                 self.second.encode(inner)

@@ -19,7 +19,7 @@ impl AsnType for Colour {
     ghost use Rattle.rasn_types.specs.Shapes.{leaf, enumerated, number};
     ghost use Rattle.rasn_types.specs.Tags.{in_universal};
     ghost use Rattle.rasn_types.specs.Trees.{unconstrained};
-    ghost use Rattle.rasn_bench.specs.Colours.{colours, colour_number};
+    ghost use Rattle.rasn_bench.specs.Colour.{colours, colour_number};
 
     ghost TAG = { in_universal 10 };
 
@@ -38,7 +38,7 @@ impl AsnType for Colour {
 
 impl Enumerated for Colour {
     ghost use Rattle.std.specs.Prelude.{refl};
-    ghost use Rattle.rasn_bench.specs.Colours.{colours, colour_number, colour_listed, colour_distinct};
+    ghost use Rattle.rasn_bench.specs.Colour.{colours, colour_number, colour_listed, colour_distinct};
 
     ghost known = { colours };
 
@@ -69,11 +69,11 @@ impl Enumerated for Colour {
 }
 
 impl LawfulEq for Colour {
-    ghost use Rattle.rasn_types.specs.Equality.{named_told};
+    ghost use Rattle.rasn_types.specs.Equality.{enumerated_decided};
     ghost use Rattle.rasn_bench.specs.contracts.worked.colour.Colour.{the_type};
-    ghost use Rattle.rasn_bench.specs.Colours.{colour_number, colour_distinct};
+    ghost use Rattle.rasn_bench.specs.Colour.{colour_number, colour_distinct};
 
-    ghost decides = { named_told the_type tt colour_number colour_distinct };
+    ghost decides = { enumerated_decided the_type tt colour_number colour_distinct };
 }
 
 impl Decode for Colour {

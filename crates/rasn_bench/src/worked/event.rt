@@ -1,11 +1,11 @@
 //! `Event ::= SET { time Time, level [0] IMPLICIT INTEGER (0..255) DEFAULT 7, confirmed [1] IMPLICIT BOOLEAN OPTIONAL }`
 ghost use Rattle.std.specs.Prelude.{◌≡◌, IfOk, map};
 ghost use Rattle.rasn_types.specs.Shapes.{IsFirst};
-ghost use Rattle.rasn_de.specs.Sets.{MakesSet};
-ghost use Rattle.rasn_enc.specs.Parts.{WritesParts};
-ghost use Rattle.rasn_bench.specs.Choices.{time_shape};
-ghost use Rattle.rasn_bench.specs.Events.{event_parts, event_tree, component_tree};
-ghost use Rattle.rasn_types.specs.Truth.{Decides};
+ghost use Rattle.rasn_de.specs.Set.{MakesSet};
+ghost use Rattle.rasn_enc.specs.Sequence.{EncodesParts};
+ghost use Rattle.rasn_bench.specs.Time.{time_shape};
+ghost use Rattle.rasn_bench.specs.Event.{event_parts, event_tree, component_tree};
+ghost use Rattle.rasn_types.specs.Truth.{IsWhether};
 
 use crate::worked::Time;
 use rasn::de::{DecodeChoice, Error};
@@ -39,7 +39,7 @@ impl AsnType for Event {
     ghost use Rattle.std.specs.Prelude.{refl};
     ghost use Rattle.rasn_types.specs.Tags.{in_universal};
     ghost use Rattle.rasn_types.specs.Trees.{unconstrained};
-    ghost use Rattle.rasn_bench.specs.Events.{event_shape, event_tree};
+    ghost use Rattle.rasn_bench.specs.Event.{event_shape, event_tree};
 
     ghost TAG = { in_universal 17 };
 
@@ -58,21 +58,21 @@ impl AsnType for Event {
 
 impl LawfulEq for Event {
     ghost use Rattle.std.proofs.Common.{rules};
-    ghost use Rattle.rasn_types.specs.Equality.{telling};
+    ghost use Rattle.rasn_types.specs.Equality.{deciding};
     ghost use Rattle.rasn_bench.specs.contracts.worked.time.TimeLawfulEq.TheImpl.Laws.{decides-law as time_law};
 
-    ghost decides = { Prim.search (time_law, telling, rules) };
+    ghost decides = { Prim.search (time_law, deciding, rules) };
 }
 
 impl Present for Event {
-    ghost use Rattle.rasn_types.specs.Equality.{parts_there};
+    ghost use Rattle.rasn_types.specs.Equality.{parts_not_absent};
 
-    ghost present = { λ _. parts_there };
+    ghost present = { λ _. parts_not_absent };
 }
 
 impl Constructed<3, 0> for Event {
     ghost use Rattle.std.specs.Prelude.{refl, true, false};
-    ghost use Rattle.rasn_bench.specs.Events.{event_parts};
+    ghost use Rattle.rasn_bench.specs.Event.{event_parts};
 
     const FIELDS: Fields<3> = Fields {
         fields: [
@@ -121,7 +121,7 @@ fn usual() -> Result<u8, AllocError>
 
 /// Whether values of a `Time` may begin with the tag.
 fn is_time(tag: Tag) -> bool
-    ensures { Decides result (IsFirst time_shape tag) }
+    ensures { IsWhether result (IsFirst time_shape tag) }
 {
     tag == UtcTime::TAG || tag == GeneralizedTime::TAG
 }
@@ -139,7 +139,7 @@ impl AsnType for Component {
     ghost use Rattle.rasn_types.specs.Tags.{eoc};
     ghost use Rattle.rasn_types.specs.Shapes.{choice};
     ghost use Rattle.rasn_types.specs.Trees.{unconstrained};
-    ghost use Rattle.rasn_bench.specs.Events.{event_parts, component_tree};
+    ghost use Rattle.rasn_bench.specs.Event.{event_parts, component_tree};
 
     ghost TAG = { eoc };
 
@@ -168,7 +168,7 @@ impl Decode for Component {
 
 impl DecodeChoice for Component {
     ghost use Rattle.std.specs.Prelude.{refl};
-    ghost use Rattle.rasn_bench.specs.Events.{event_parts};
+    ghost use Rattle.rasn_bench.specs.Event.{event_parts};
 
     ghost alternatives = { event_parts };
 
@@ -260,7 +260,7 @@ impl Encode for Event {
         encoder.encode_set::<3, 0, Event, _>(
             tag,
             |inner: &mut Encoder| -> Result<(), EncodeError>
-                ensures { WritesParts event_parts (event_tree self.entry.now) inner.old result inner.new }
+                ensures { EncodesParts event_parts (event_tree self.entry.now) inner.old result inner.new }
             {
                 self.time.encode(inner)?;
                 inner.encode_default_with_tag(LEVEL, &self.level, usual, Identifier::EMPTY)?;

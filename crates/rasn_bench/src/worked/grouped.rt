@@ -1,7 +1,7 @@
 //! `Grouped ::= SEQUENCE { truth BOOLEAN, ..., number [1] INTEGER, [[ first INTEGER, second BOOLEAN ]] }`
 ghost use Rattle.rasn_de.specs.Decodes.{DecodesParts};
-ghost use Rattle.rasn_enc.specs.Parts.{WritesParts};
-ghost use Rattle.rasn_bench.specs.Groups.{grouped_parts, grouped_tree};
+ghost use Rattle.rasn_enc.specs.Sequence.{EncodesParts};
+ghost use Rattle.rasn_bench.specs.Grouped.{grouped_parts, grouped_tree};
 
 use crate::worked::Both;
 use rasn::ber::de::Decoder;
@@ -37,7 +37,7 @@ impl AsnType for Grouped {
     ghost use Rattle.rasn_types.specs.Shapes.{seq};
     ghost use Rattle.rasn_types.specs.Tags.{in_universal};
     ghost use Rattle.rasn_types.specs.Trees.{unconstrained};
-    ghost use Rattle.rasn_bench.specs.Groups.{grouped_parts, grouped_tree};
+    ghost use Rattle.rasn_bench.specs.Grouped.{grouped_parts, grouped_tree};
 
     ghost TAG = { in_universal 16 };
 
@@ -56,14 +56,14 @@ impl AsnType for Grouped {
 
 impl LawfulEq for Grouped {
     ghost use Rattle.std.proofs.Common.{rules};
-    ghost use Rattle.rasn_types.specs.Equality.{telling};
+    ghost use Rattle.rasn_types.specs.Equality.{deciding};
 
-    ghost decides = { Prim.search (telling, rules) };
+    ghost decides = { Prim.search (deciding, rules) };
 }
 
 impl Constructed<1, 2> for Grouped {
     ghost use Rattle.std.specs.Prelude.{refl, true};
-    ghost use Rattle.rasn_bench.specs.Groups.{grouped_parts};
+    ghost use Rattle.rasn_bench.specs.Grouped.{grouped_parts};
 
     const FIELDS: Fields<1> = Fields {
         fields: [Field {
@@ -143,7 +143,7 @@ impl Encode for Grouped {
         encoder.encode_sequence::<1, 2, Grouped, _>(
             tag,
             |inner: &mut Encoder| -> Result<(), EncodeError>
-                ensures { WritesParts grouped_parts (grouped_tree self.entry.now) inner.old result inner.new }
+                ensures { EncodesParts grouped_parts (grouped_tree self.entry.now) inner.old result inner.new }
             {
                 self.truth.encode(inner)?;
                 self.number

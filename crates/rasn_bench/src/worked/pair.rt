@@ -1,7 +1,7 @@
 //! `Pair ::= SEQUENCE { number INTEGER (-2147483648..2147483647), truth BOOLEAN }`
 ghost use Rattle.rasn_de.specs.Decodes.{DecodesParts};
-ghost use Rattle.rasn_enc.specs.Parts.{WritesParts};
-ghost use Rattle.rasn_bench.specs.Pairs.{pair_parts, pair_tree};
+ghost use Rattle.rasn_enc.specs.Sequence.{EncodesParts};
+ghost use Rattle.rasn_bench.specs.Pair.{pair_parts, pair_tree};
 
 use rasn::ber::de::Decoder;
 use rasn::ber::enc::Encoder;
@@ -25,7 +25,7 @@ impl AsnType for Pair {
     ghost use Rattle.std.specs.Prelude.{refl};
     ghost use Rattle.rasn_types.specs.Tags.{in_universal};
     ghost use Rattle.rasn_types.specs.Trees.{unconstrained};
-    ghost use Rattle.rasn_bench.specs.Pairs.{pair_shape, pair_tree};
+    ghost use Rattle.rasn_bench.specs.Pair.{pair_shape, pair_tree};
 
     ghost TAG = { in_universal 16 };
 
@@ -44,20 +44,20 @@ impl AsnType for Pair {
 
 impl LawfulEq for Pair {
     ghost use Rattle.std.proofs.Common.{rules};
-    ghost use Rattle.rasn_types.specs.Equality.{telling};
+    ghost use Rattle.rasn_types.specs.Equality.{deciding};
 
-    ghost decides = { Prim.search (telling, rules) };
+    ghost decides = { Prim.search (deciding, rules) };
 }
 
 impl Present for Pair {
-    ghost use Rattle.rasn_types.specs.Equality.{parts_there};
+    ghost use Rattle.rasn_types.specs.Equality.{parts_not_absent};
 
-    ghost present = { λ _. parts_there };
+    ghost present = { λ _. parts_not_absent };
 }
 
 impl Constructed<2, 0> for Pair {
     ghost use Rattle.std.specs.Prelude.{refl, true, false};
-    ghost use Rattle.rasn_bench.specs.Pairs.{pair_parts};
+    ghost use Rattle.rasn_bench.specs.Pair.{pair_parts};
 
     const FIELDS: Fields<2> = Fields {
         fields: [
@@ -122,7 +122,7 @@ impl Encode for Pair {
         encoder.encode_sequence::<2, 0, Pair, _>(
             tag,
             |inner: &mut Encoder| -> Result<(), EncodeError>
-                ensures { WritesParts pair_parts (pair_tree self.entry.now) inner.old result inner.new }
+                ensures { EncodesParts pair_parts (pair_tree self.entry.now) inner.old result inner.new }
             {
                 self.number.encode(inner)?;
                 self.truth.encode(inner)

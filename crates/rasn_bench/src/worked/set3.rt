@@ -1,8 +1,8 @@
 //! `Set3 ::= SET { zero [0] IMPLICIT INTEGER (0..255), one [1] IMPLICIT INTEGER (0..255), two [2] IMPLICIT INTEGER (0..255) }`
 ghost use Rattle.std.specs.Prelude.{map};
-ghost use Rattle.rasn_de.specs.Sets.{MakesSet};
-ghost use Rattle.rasn_enc.specs.Parts.{WritesParts};
-ghost use Rattle.rasn_bench.specs.Set3s.{set3_parts, set3_tree, component_tree};
+ghost use Rattle.rasn_de.specs.Set.{MakesSet};
+ghost use Rattle.rasn_enc.specs.Sequence.{EncodesParts};
+ghost use Rattle.rasn_bench.specs.Set3.{set3_parts, set3_tree, component_tree};
 
 use rasn::ber::de::Decoder;
 use rasn::ber::enc::Encoder;
@@ -42,7 +42,7 @@ impl AsnType for Set3 {
     ghost use Rattle.std.specs.Prelude.{refl};
     ghost use Rattle.rasn_types.specs.Tags.{in_universal};
     ghost use Rattle.rasn_types.specs.Trees.{unconstrained};
-    ghost use Rattle.rasn_bench.specs.Set3s.{set3_shape, set3_tree};
+    ghost use Rattle.rasn_bench.specs.Set3.{set3_shape, set3_tree};
 
     ghost TAG = { in_universal 17 };
 
@@ -61,20 +61,20 @@ impl AsnType for Set3 {
 
 impl LawfulEq for Set3 {
     ghost use Rattle.std.proofs.Common.{rules};
-    ghost use Rattle.rasn_types.specs.Equality.{telling};
+    ghost use Rattle.rasn_types.specs.Equality.{deciding};
 
-    ghost decides = { Prim.search (telling, rules) };
+    ghost decides = { Prim.search (deciding, rules) };
 }
 
 impl Present for Set3 {
-    ghost use Rattle.rasn_types.specs.Equality.{parts_there};
+    ghost use Rattle.rasn_types.specs.Equality.{parts_not_absent};
 
-    ghost present = { λ _. parts_there };
+    ghost present = { λ _. parts_not_absent };
 }
 
 impl Constructed<3, 0> for Set3 {
     ghost use Rattle.std.specs.Prelude.{refl, true, false};
-    ghost use Rattle.rasn_bench.specs.Set3s.{set3_parts};
+    ghost use Rattle.rasn_bench.specs.Set3.{set3_parts};
 
     const FIELDS: Fields<3> = Fields {
         fields: [
@@ -127,7 +127,7 @@ impl AsnType for Component {
     ghost use Rattle.rasn_types.specs.Tags.{eoc};
     ghost use Rattle.rasn_types.specs.Shapes.{choice};
     ghost use Rattle.rasn_types.specs.Trees.{unconstrained};
-    ghost use Rattle.rasn_bench.specs.Set3s.{set3_parts, component_tree};
+    ghost use Rattle.rasn_bench.specs.Set3.{set3_parts, component_tree};
 
     ghost TAG = { eoc };
 
@@ -156,7 +156,7 @@ impl Decode for Component {
 
 impl DecodeChoice for Component {
     ghost use Rattle.std.specs.Prelude.{refl};
-    ghost use Rattle.rasn_bench.specs.Set3s.{set3_parts};
+    ghost use Rattle.rasn_bench.specs.Set3.{set3_parts};
 
     ghost alternatives = { set3_parts };
 
@@ -249,7 +249,7 @@ impl Encode for Set3 {
         encoder.encode_set::<3, 0, Set3, _>(
             tag,
             |inner: &mut Encoder| -> Result<(), EncodeError>
-                ensures { WritesParts set3_parts (set3_tree self.entry.now) inner.old result inner.new }
+                ensures { EncodesParts set3_parts (set3_tree self.entry.now) inner.old result inner.new }
             {
                 self.zero.encode_with_tag(inner, ZERO, Identifier::EMPTY)?;
                 self.one.encode_with_tag(inner, ONE, Identifier::EMPTY)?;

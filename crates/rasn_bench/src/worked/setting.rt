@@ -1,8 +1,8 @@
 //! `Setting ::= SEQUENCE { truth BOOLEAN, level INTEGER (0..255) DEFAULT 7 }`
 ghost use Rattle.std.specs.Prelude.{◌≡◌, IfOk};
 ghost use Rattle.rasn_de.specs.Decodes.{DecodesParts};
-ghost use Rattle.rasn_enc.specs.Parts.{WritesParts};
-ghost use Rattle.rasn_bench.specs.Settings.{setting_parts, setting_tree};
+ghost use Rattle.rasn_enc.specs.Sequence.{EncodesParts};
+ghost use Rattle.rasn_bench.specs.Setting.{setting_parts, setting_tree};
 
 use rasn::error::{DecodeError, EncodeError};
 use rasn::types::{
@@ -23,7 +23,7 @@ impl AsnType for Setting {
     ghost use Rattle.std.specs.Prelude.{refl};
     ghost use Rattle.rasn_types.specs.Tags.{in_universal};
     ghost use Rattle.rasn_types.specs.Trees.{unconstrained};
-    ghost use Rattle.rasn_bench.specs.Settings.{setting_shape, setting_tree};
+    ghost use Rattle.rasn_bench.specs.Setting.{setting_shape, setting_tree};
 
     ghost TAG = { in_universal 16 };
 
@@ -42,7 +42,7 @@ impl AsnType for Setting {
 
 impl Constructed<2, 0> for Setting {
     ghost use Rattle.std.specs.Prelude.{refl, true, false};
-    ghost use Rattle.rasn_bench.specs.Settings.{setting_parts};
+    ghost use Rattle.rasn_bench.specs.Setting.{setting_parts};
 
     const FIELDS: Fields<2> = Fields {
         fields: [
@@ -78,15 +78,15 @@ impl Constructed<2, 0> for Setting {
 
 impl LawfulEq for Setting {
     ghost use Rattle.std.proofs.Common.{rules};
-    ghost use Rattle.rasn_types.specs.Equality.{telling};
+    ghost use Rattle.rasn_types.specs.Equality.{deciding};
 
-    ghost decides = { Prim.search (telling, rules) };
+    ghost decides = { Prim.search (deciding, rules) };
 }
 
 impl Present for Setting {
-    ghost use Rattle.rasn_types.specs.Equality.{parts_there};
+    ghost use Rattle.rasn_types.specs.Equality.{parts_not_absent};
 
-    ghost present = { λ _. parts_there };
+    ghost present = { λ _. parts_not_absent };
 }
 
 /// The level that is meant where none is written.
@@ -127,7 +127,7 @@ impl Encode for Setting {
         encoder.encode_sequence::<2, 0, Setting, _>(
             tag,
             |inner: &mut Encoder| -> Result<(), EncodeError>
-                ensures { WritesParts setting_parts (setting_tree self.entry.now) inner.old result inner.new }
+                ensures { EncodesParts setting_parts (setting_tree self.entry.now) inner.old result inner.new }
             {
                 self.truth.encode(inner)?;
                 inner.encode_default(&self.level, usual, Identifier::EMPTY)

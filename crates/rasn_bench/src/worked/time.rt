@@ -1,6 +1,6 @@
 //! `Time ::= CHOICE { utcTime UTCTime, generalTime GeneralizedTime }` (RFC 5280, 4.1).
-ghost use Rattle.rasn_enc.specs.Alternatives.{WritesAlternative};
-ghost use Rattle.rasn_bench.specs.Choices.{time_alternatives, time_tree};
+ghost use Rattle.rasn_enc.specs.Choice.{EncodesAlternative};
+ghost use Rattle.rasn_bench.specs.Time.{time_alternatives, time_tree};
 
 use rasn::ber::de::Decoder;
 use rasn::ber::enc::Encoder;
@@ -20,7 +20,7 @@ impl AsnType for Time {
     ghost use Rattle.std.specs.Prelude.{refl};
     ghost use Rattle.rasn_types.specs.Tags.{eoc};
     ghost use Rattle.rasn_types.specs.Trees.{unconstrained};
-    ghost use Rattle.rasn_bench.specs.Choices.{time_shape, time_tree};
+    ghost use Rattle.rasn_bench.specs.Time.{time_shape, time_tree};
 
     ghost TAG = { eoc };
 
@@ -38,11 +38,11 @@ impl AsnType for Time {
 }
 
 impl LawfulEq for Time {
-    ghost use Rattle.rasn_types.specs.Equality.{choice_told, alternative, instant_told};
+    ghost use Rattle.rasn_types.specs.Equality.{choice_decided, alternative, instant_decided};
     ghost use Rattle.rasn_bench.specs.contracts.worked.time.Time.{enum as time_enum};
-    ghost use Rattle.rasn_bench.specs.Choices.{time_tree};
+    ghost use Rattle.rasn_bench.specs.Time.{time_tree};
 
-    ghost decides = { choice_told time_enum _ time_tree (alternative (λ x. x.0) instant_told, (alternative (λ x. x.0) (λ s t. instant_told s.moment t.moment), tt)) };
+    ghost decides = { choice_decided time_enum _ time_tree (alternative (λ x. x.0) instant_decided, (alternative (λ x. x.0) (λ s t. instant_decided s.moment t.moment), tt)) };
 }
 
 impl Decode for Time {
@@ -57,7 +57,7 @@ impl Decode for Time {
 
 impl DecodeChoice for Time {
     ghost use Rattle.std.specs.Prelude.{refl};
-    ghost use Rattle.rasn_bench.specs.Choices.{time_alternatives};
+    ghost use Rattle.rasn_bench.specs.Time.{time_alternatives};
 
     ghost alternatives = { time_alternatives };
 
@@ -88,7 +88,7 @@ impl Encode for Time {
             constraints,
             tag,
             |inner: &mut Encoder| -> Result<Tag, EncodeError>
-                ensures { WritesAlternative time_alternatives (time_tree self.entry.now) inner.old result inner.new }
+                ensures { EncodesAlternative time_alternatives (time_tree self.entry.now) inner.old result inner.new }
             {
                 match self {
                     Time::Utc(time) => {

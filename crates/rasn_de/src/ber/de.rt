@@ -1,19 +1,19 @@
 //! The reader of BER, CER and DER.
 ghost use Rattle.std.specs.Prelude.{◌≡◌, ◌+◌, length, IfErr, Result};
-ghost use Rattle.rasn_types.specs.declared.types.rules.Codec.{Codec};
+ghost use Rattle.rasn_types.specs.declared.types.codec.Codec.{Codec};
 ghost use Rattle.rasn_types.specs.Framing.{AreOctets};
 ghost use Rattle.rasn_types.specs.Tags.{IsStrict};
 ghost use Rattle.rasn_types.specs.Grammar.{top};
 ghost use Rattle.rasn_de.specs.Causes.{in_ber, error_kind};
 ghost use Rattle.rasn_de.specs.State.{State, at, IsEnd};
-ghost use Rattle.rasn_de.specs.Taking.{Takes, Peeks, IsNextTag};
-ghost use Rattle.rasn_de.specs.Texts.{IsWithinSize};
+ghost use Rattle.rasn_de.specs.Steps.{Consumes, PeeksTag, IsNextTag};
+ghost use Rattle.rasn_de.specs.CharacterString.{IsWithinSize};
 ghost use Rattle.rasn_types.specs.declared.types.tag.Tag.{Tag};
 ghost use Rattle.rasn_types.specs.Errors.{IsOutOfMemory};
-ghost use Rattle.rasn_types.specs.Truth.{Decides};
+ghost use Rattle.rasn_types.specs.Truth.{IsWhether};
 
 use crate::ber::de::parser::headers::{Expected, Spelling};
-use crate::ber::de::parser::{Fault, Value, read_identifier, read_value};
+use crate::ber::de::parser::{ParseError, Value, read_identifier, read_value};
 use crate::ber::rules::{allows_indefinite, is_der};
 use rasn_types::error::{
     BerDecodeErrorKind, CodecDecodeError, DecodeError, DecodeErrorKind, Needed,
@@ -22,28 +22,34 @@ use rasn_types::types::{Codec, Constraints, Tag};
 use std::alloc::Global;
 use std::marker::Model;
 
-mod bits;
+mod any;
+mod bit_string;
+mod boolean;
+mod character_string;
 mod choice;
 mod config;
+mod constructed;
+mod contents;
 mod default;
-mod extensions;
-mod integers;
-mod leaves;
-mod lists;
-mod nesting;
-mod numbered;
-mod open;
+mod enumerated;
+mod extension;
+mod fixed_octet_string;
+mod integer;
+mod null;
+mod object_identifier;
+mod octet_string;
 mod optional;
 mod parser;
 mod prefix;
-mod sequences;
-mod sets;
-mod sets_of;
-mod strings;
-mod times;
+mod real;
+mod sequence;
+mod sequence_of;
+mod set;
+mod set_of;
+mod time;
 
 pub use config::DecoderOptions;
-pub(crate) use strings::owned;
+pub(crate) use octet_string::owned;
 
 /// How many values may be nested in one another.
 const MAX_DEPTH: usize = 128;
@@ -84,63 +90,67 @@ fn in_ber(inner: BerDecodeErrorKind) -> DecodeErrorKind
 /// The kind of error that stands for a fault.
 #[cold]
 #[inline(never)]
-fn error_kind(fault: Fault) -> DecodeErrorKind
+fn error_kind(fault: ParseError) -> DecodeErrorKind
     ensures { result ≡ error_kind fault }
 {
     use BerDecodeErrorKind as Ber;
     use DecodeErrorKind as Kind;
     match fault {
-        Fault::Incomplete { needed } => Kind::Incomplete {
+        ParseError::Incomplete { needed } => Kind::Incomplete {
             needed: Needed::new(needed),
         },
-        Fault::UnexpectedExtraData { length } => Kind::UnexpectedExtraData { length },
-        Fault::UnexpectedEmptyInput => Kind::UnexpectedEmptyInput,
-        Fault::ExceedsMaxParseDepth => Kind::ExceedsMaxParseDepth,
-        Fault::OutOfMemory => Kind::OutOfMemory,
-        Fault::LengthExceedsPlatformWidth => Kind::LengthExceedsPlatformWidth,
-        Fault::InvalidBool { value } => Kind::InvalidBool { value },
-        Fault::MismatchedLength { expected, actual } => Kind::MismatchedLength { expected, actual },
-        Fault::IntegerOverflow { max_width } => Kind::IntegerOverflow { max_width },
-        Fault::InvalidBitString { bits } => Kind::InvalidBitString { bits },
-        Fault::SizeConstraintNotSatisfied { size, expected } => Kind::SizeConstraintNotSatisfied {
-            size: Some(size),
+        ParseError::UnexpectedExtraData { length } => Kind::UnexpectedExtraData { length },
+        ParseError::UnexpectedEmptyInput => Kind::UnexpectedEmptyInput,
+        ParseError::ExceedsMaxParseDepth => Kind::ExceedsMaxParseDepth,
+        ParseError::OutOfMemory => Kind::OutOfMemory,
+        ParseError::LengthExceedsPlatformWidth => Kind::LengthExceedsPlatformWidth,
+        ParseError::InvalidBool { value } => Kind::InvalidBool { value },
+        ParseError::MismatchedLength { expected, actual } => Kind::MismatchedLength {
             expected,
+            actual,
         },
-        Fault::DiscriminantValueNotFound { discriminant } => Kind::DiscriminantValueNotFound {
+        ParseError::IntegerOverflow { max_width } => Kind::IntegerOverflow { max_width },
+        ParseError::InvalidBitString { bits } => Kind::InvalidBitString { bits },
+        ParseError::SizeConstraintNotSatisfied { size, expected } =>
+            Kind::SizeConstraintNotSatisfied {
+                size: Some(size),
+                expected,
+            },
+        ParseError::DiscriminantValueNotFound { discriminant } => Kind::DiscriminantValueNotFound {
             discriminant,
         },
-        Fault::PermittedAlphabetError { octet, position } => Kind::PermittedAlphabetError {
+        ParseError::PermittedAlphabetError { octet, position } => Kind::PermittedAlphabetError {
             octet,
             position,
         },
-        Fault::StringConversionFailed { tag } => Kind::StringConversionFailed { tag },
-        Fault::Der(kind) => Kind::CodecSpecific {
+        ParseError::StringConversionFailed { tag } => Kind::StringConversionFailed { tag },
+        ParseError::Der(kind) => Kind::CodecSpecific {
             inner: CodecDecodeError::Der(kind),
         },
-        Fault::UnsupportedObjectIdentifierArc => in_ber(Ber::UnsupportedObjectIdentifierArc),
-        Fault::UnsupportedTagNumber => in_ber(Ber::UnsupportedTagNumber),
-        Fault::UnexpectedEndOfContents => in_ber(Ber::UnexpectedEndOfContents),
-        Fault::MissingEndOfContents => in_ber(Ber::MissingEndOfContents),
-        Fault::IndefiniteLengthNotAllowed => in_ber(Ber::IndefiniteLengthNotAllowed),
-        Fault::ReservedLengthOctet => in_ber(Ber::ReservedLengthOctet),
-        Fault::MismatchedTag { expected, actual } => in_ber(Ber::MismatchedTag {
+        ParseError::UnsupportedObjectIdentifierArc => in_ber(Ber::UnsupportedObjectIdentifierArc),
+        ParseError::UnsupportedTagNumber => in_ber(Ber::UnsupportedTagNumber),
+        ParseError::UnexpectedEndOfContents => in_ber(Ber::UnexpectedEndOfContents),
+        ParseError::MissingEndOfContents => in_ber(Ber::MissingEndOfContents),
+        ParseError::IndefiniteLengthNotAllowed => in_ber(Ber::IndefiniteLengthNotAllowed),
+        ParseError::ReservedLengthOctet => in_ber(Ber::ReservedLengthOctet),
+        ParseError::MismatchedTag { expected, actual } => in_ber(Ber::MismatchedTag {
             expected,
             actual,
         }),
-        Fault::InvalidConstructedIdentifier => in_ber(Ber::InvalidConstructedIdentifier),
+        ParseError::InvalidConstructedIdentifier => in_ber(Ber::InvalidConstructedIdentifier),
     }
 }
 
 /// Whether a size is within its bound, in octets, bits, characters or elements.
 #[inline]
-fn check_size(constraints: &Constraints, size: usize) -> Result<(), Fault>
+fn check_size(constraints: &Constraints, size: usize) -> Result<(), ParseError>
     ensures { IsWithinSize constraints.now size result }
 {
     if constraints.admits_size(size) {
         Ok(())
     } else {
         let expected = constraints.size_bounds();
-        Err(Fault::SizeConstraintNotSatisfied { size, expected })
+        Err(ParseError::SizeConstraintNotSatisfied { size, expected })
     }
 }
 
@@ -169,7 +179,7 @@ impl<'input> Decoder<'input> {
 
     /// Whether only what the writer gives is read.
     fn is_strict(&self) -> bool
-        ensures { Decides result (IsStrict self.now.rule) }
+        ensures { IsWhether result (IsStrict self.now.rule) }
     {
         is_der(self.rules)
     }
@@ -201,7 +211,7 @@ impl<'input> Decoder<'input> {
     /// `UnexpectedEndOfContents`, and under DER then `NonMinimalTagNumber`.
     pub fn peek_tag(&self) -> Result<Tag, DecodeError>
         ensures next { IsNextTag self.now result }
-        ensures refused { Peeks self.now result }
+        ensures exact { PeeksTag self.now result }
         ensures memory { IfErr result (λ e. IsOutOfMemory e.kind → ⊥) }
     {
         let (found, _) = match read_identifier(Spelling::of_rule(self.rules).shortest, self.rest) {
@@ -214,7 +224,7 @@ impl<'input> Decoder<'input> {
     /// The error of a fault, under the decoder's rules.
     #[cold]
     #[inline(never)]
-    fn error(&self, fault: Fault) -> DecodeError
+    fn error(&self, fault: ParseError) -> DecodeError
         ensures { result ≡ record { kind = error_kind fault; codec = self.now.rule } }
     {
         DecodeError {
@@ -234,7 +244,7 @@ impl<'input> Decoder<'input> {
     /// Takes the header and contents of the next value, or nothing.
     #[inline(always)]
     fn header(&mut self, expected: Expected) -> Result<Value<'input>, DecodeError>
-        ensures taken { Takes expected self.old result self.new }
+        ensures taken { Consumes expected self.old result self.new }
         ensures octets { AreOctets self.old.rest }
     {
         match read_value(Spelling::of_rule(self.rules), expected, self.rest) {

@@ -1,5 +1,5 @@
 //! Errors that types make while they are read.
-ghost use Rattle.rasn_de.specs.Named.{TellsNamed, IsNoValidChoice, IsMissingField, IsDuplicateField};
+ghost use Rattle.rasn_de.specs.NamedErrors.{IsNamedError, IsNoValidChoice, IsMissingField, IsDuplicateField};
 
 use rasn_types::error::{DecodeError, DecodeErrorKind};
 use rasn_types::types::Codec;
@@ -20,7 +20,7 @@ pub trait Error: Drop {
 
 impl Error for DecodeError {
     fn no_valid_choice(alloc: Global, name: &str, codec: Codec) -> DecodeError
-        ensures { TellsNamed (IsNoValidChoice name.now) codec result }
+        ensures { IsNamedError (IsNoValidChoice name.now) codec result }
     {
         let kind = match String::from_str(alloc, name) {
             Ok(name) => DecodeErrorKind::NoValidChoice { name },
@@ -30,7 +30,7 @@ impl Error for DecodeError {
     }
 
     fn missing_field(alloc: Global, name: &str, codec: Codec) -> DecodeError
-        ensures { TellsNamed (IsMissingField name.now) codec result }
+        ensures { IsNamedError (IsMissingField name.now) codec result }
     {
         let kind = match String::from_str(alloc, name) {
             Ok(name) => DecodeErrorKind::MissingField { name },
@@ -40,7 +40,7 @@ impl Error for DecodeError {
     }
 
     fn duplicate_field(alloc: Global, name: &str, codec: Codec) -> DecodeError
-        ensures { TellsNamed (IsDuplicateField name.now) codec result }
+        ensures { IsNamedError (IsDuplicateField name.now) codec result }
     {
         let kind = match String::from_str(alloc, name) {
             Ok(name) => DecodeErrorKind::DuplicateField { name },

@@ -1,56 +1,51 @@
 //! The encoder: it writes values one behind the other.
 ghost use Rattle.std.specs.Prelude.{◌≡◌, ◌≤◌, ◌⊎◌, length, IfOk, IfErr, OnOk, OnErr, false, true};
 ghost use Rattle.std.specs.Fn.{FnOnceTakesAtMut};
-ghost use Rattle.rasn_types.specs.Truth.{Decides};
-ghost use Rattle.rasn_types.specs.Bytes.{Prim};
+ghost use Rattle.rasn_types.specs.Truth.{IsWhether};
+ghost use Rattle.rasn_types.specs.Bytes.{PrimitiveEncoding};
 ghost use Rattle.rasn_types.specs.Shapes.{Admits};
-ghost use Rattle.rasn_enc.specs.Refusals.{RefusesSize};
+ghost use Rattle.rasn_enc.specs.Errors.{FailsAtSize};
 ghost use Rattle.rasn_enc.specs.View.{started, AreTagsInOrder};
-ghost use Rattle.rasn_enc.specs.Primitives.{Appends, AppendsPrimitive, TellsOutOfMemory, TellsOrder};
+ghost use Rattle.rasn_enc.specs.Primitive.{Appends, AppendsPrimitive, IsAllocError, IsOrderError};
 ghost use Rattle.rasn_enc.specs.Order.{FallsBetween};
-ghost use Rattle.rasn_enc.specs.declared.ber.enc.filled.Unfilled.TheVariants.{NoMemory};
-ghost use Rattle.rasn_enc.specs.Filled.{FillsBehind, RefusesToFill, AppendsFilled};
-ghost use Rattle.rasn_enc.specs.Writing.{RefusesTags};
+ghost use Rattle.rasn_enc.specs.declared.ber.enc.writer.filled.FillError.TheVariants.{NoMemory};
+ghost use Rattle.rasn_enc.specs.Buffer.Filled.{OnlyAppendsOctets, MayFailToFill, AppendsFilled};
+ghost use Rattle.rasn_enc.specs.Closures.{FailsAtTags};
 
-mod base_128;
-mod bits;
+mod any;
+mod bit_string;
+mod boolean;
+mod character_string;
 mod choice;
 mod config;
-mod cursors;
-mod cutting;
+mod constructed;
 mod default;
-mod extensions;
-mod filled;
-mod gathering;
-mod headers;
-mod integers;
-mod kept_tags;
-mod leaves;
-mod lists;
-mod marks;
-mod nesting;
-mod numbered;
-mod objects;
-mod open;
+mod enumerated;
+mod extension;
+mod fixed_octet_string;
+mod integer;
+mod null;
+mod object_identifier;
+mod octet_string;
 mod optional;
 mod prefix;
-mod rendering;
+mod real;
 mod segments;
-mod sequences;
-mod sets;
-mod sets_of;
-mod strings;
-mod times;
+mod sequence;
+mod sequence_of;
+mod set;
+mod set_of;
+mod time;
 mod writer;
 
 pub use config::EncoderOptions;
-use filled::{Contents, Unfilled, fill_with};
-pub use objects::object_identifier_as_bytes;
+pub use object_identifier::object_identifier_as_bytes;
 use rasn_types::error::{BerEncodeErrorKind, CodecEncodeError, EncodeError, EncodeErrorKind};
 use rasn_types::types::{Codec, Constraints, Tag};
 use std::alloc::Global;
 use std::marker::Model;
 use writer::Writer;
+use writer::filled::{Contents, FillError, fill_with};
 
 /// Writes values. To contracts it is the list of octets written so far, with a list for each value that is still open. The names
 /// that its calls take (`Identifier`) are ignored: no rule of X.690 writes them.
@@ -74,7 +69,7 @@ impl Encoder {
     /// `OutOfMemory`: it reserves 1024 octets.
     pub fn new(alloc: Global, options: EncoderOptions) -> Result<Encoder, EncodeError>
         ensures ok { IfOk result (λ e. e ≡ started options false) }
-        ensures refused { IfErr result (TellsOutOfMemory options) }
+        ensures refused { IfErr result (IsAllocError options) }
     {
         Encoder::new_with_buffer(alloc, options, Vec::new(alloc))
     }
@@ -85,7 +80,7 @@ impl Encoder {
     /// `OutOfMemory`: it reserves 1024 octets.
     pub fn new_set(alloc: Global, options: EncoderOptions) -> Result<Encoder, EncodeError>
         ensures ok { IfOk result (λ e. e ≡ started options true) }
-        ensures refused { IfErr result (TellsOutOfMemory options) }
+        ensures refused { IfErr result (IsAllocError options) }
     {
         let writer = Writer::over(alloc, options.current_codec(), Vec::new(alloc), true)?;
         Ok(Encoder { writer })
@@ -101,7 +96,7 @@ impl Encoder {
         buffer: Vec<u8>,
     ) -> Result<Encoder, EncodeError>
         ensures ok { IfOk result (λ e. e ≡ started options false) }
-        ensures refused { IfErr result (TellsOutOfMemory options) }
+        ensures refused { IfErr result (IsAllocError options) }
     {
         let writer = Writer::over(alloc, options.current_codec(), buffer, false)?;
         Ok(Encoder { writer })
@@ -126,9 +121,9 @@ impl Encoder {
     pub fn output(self) -> Result<Vec<u8>, EncodeError>
         ensures ok { IfOk result (λ v. v.items ≡ self.last.octets) }
         ensures order { OnOk result (AreTagsInOrder self) }
-        ensures refused { IfErr result (λ e. TellsOutOfMemory self.rule e ⊎ RefusesTags self e) }
+        ensures refused { IfErr result (λ e. IsAllocError self.rule e ⊎ FailsAtTags self e) }
     {
-        if self.writer.kept_tags_fall() {
+        if self.writer.kept_tags_out_of_order() {
             return Err(out_of_order(self.codec()));
         }
         let Encoder { writer } = self;
@@ -143,19 +138,19 @@ impl Encoder {
     }
 
     /// Whether the octets of the last list from `middle` on are less than those from `from` to it (X.690 11.6).
-    fn neighbours_fall(&self, from: usize, middle: usize) -> bool
+    fn neighbours_out_of_order(&self, from: usize, middle: usize) -> bool
         requires order { from ≤ middle }
         requires within { middle ≤ length self.now.last.octets }
-        ensures { Decides result (FallsBetween from middle self.now.last.octets) }
+        ensures { IsWhether result (FallsBetween from middle self.now.last.octets) }
     {
-        self.writer.neighbours_fall(from, middle)
+        self.writer.neighbours_out_of_order(from, middle)
     }
 
     /// Refuses a size that isn't within its bound.
     #[inline(always)]
     fn check_size(&self, constraints: &Constraints, size: usize) -> Result<(), EncodeError>
         ensures ok { OnOk result (Admits ◌≤◌ constraints.now.size size) }
-        ensures refused { IfErr result (RefusesSize constraints.now size self.now.rule) }
+        ensures refused { IfErr result (FailsAtSize constraints.now size self.now.rule) }
     {
         if constraints.admits_size(size) {
             return Ok(());
@@ -171,24 +166,24 @@ impl Encoder {
 
     /// Puts a primitive value behind the last list.
     fn leaf(&mut self, tag: Tag, contents: &[u8]) -> Result<(), EncodeError>
-        ensures ok { OnOk result (Appends (Prim tag contents.now) tag self.old self.new) }
+        ensures ok { OnOk result (Appends (PrimitiveEncoding tag contents.now) tag self.old self.new) }
         ensures err { OnErr result (self.new ≡ self.old) }
-        ensures memory { IfErr result (TellsOutOfMemory self.old.rule) }
+        ensures memory { IfErr result (IsAllocError self.old.rule) }
     {
         self.writer.leaf(tag, contents)
     }
 
     /// Puts a primitive value behind the last list; `contents` writes its contents in place.
-    fn leaf_with<F: FnOnce(&mut Vec<u8>) -> Result<(), Unfilled>>(
+    fn leaf_with<F: FnOnce(&mut Vec<u8>) -> Result<(), FillError>>(
         &mut self,
         tag: Tag,
         contents: F,
-    ) -> Result<(), Unfilled>
+    ) -> Result<(), FillError>
         requires callable { (v : _) → FnOnceTakesAtMut F.FnOnce contents v }
-        requires behind { FillsBehind F.FnOnce contents }
+        requires behind { OnlyAppendsOctets F.FnOnce contents }
         ensures ok { OnOk result (AppendsFilled F.FnOnce contents tag self.old self.new) }
         ensures err { OnErr result (self.new ≡ self.old) }
-        ensures refused { IfErr result (λ e. (e ≡ NoMemory) ⊎ RefusesToFill F.FnOnce contents e) }
+        ensures refused { IfErr result (λ e. (e ≡ NoMemory) ⊎ MayFailToFill F.FnOnce contents e) }
     {
         self.writer.leaf_with(tag, contents)
     }
@@ -197,7 +192,7 @@ impl Encoder {
     fn leaf_of<T: Contents>(&mut self, tag: Tag, value: &T) -> Result<(), EncodeError>
         ensures ok { OnOk result (AppendsPrimitive (T.IsWritten value.now) tag self.old self.new) }
         ensures err { OnErr result (self.new ≡ self.old) }
-        ensures memory { IfErr result (TellsOutOfMemory self.old.rule) }
+        ensures memory { IfErr result (IsAllocError self.old.rule) }
     {
         let rule = self.codec();
         match self.leaf_with(tag, |octets: &mut Vec<u8>| fill_with(value, octets)) {
@@ -208,7 +203,7 @@ impl Encoder {
 }
 
 fn out_of_order(codec: Codec) -> EncodeError
-    ensures { TellsOrder codec result }
+    ensures { IsOrderError codec result }
 {
     EncodeError {
         kind: EncodeErrorKind::CodecSpecific {
@@ -219,7 +214,7 @@ fn out_of_order(codec: Codec) -> EncodeError
 }
 
 fn out_of_memory(codec: Codec) -> EncodeError
-    ensures { TellsOutOfMemory codec result }
+    ensures { IsAllocError codec result }
 {
     EncodeError {
         kind: EncodeErrorKind::OutOfMemory,

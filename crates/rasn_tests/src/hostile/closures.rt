@@ -1,8 +1,8 @@
 //! Closures that drop refusals, and elements that consume nothing: what is read and written behind them (X.690 8.9 to 8.12).
-ghost use Rattle.rasn_de.specs.Inside.{Keeps};
+ghost use Rattle.rasn_de.specs.Constructed.{Keeps};
 ghost use Rattle.rasn_enc.specs.View.{LeavesOthers};
 
-use super::{TRUE_ALONE, one_boolean};
+use crate::hostile::{TRUE_ALONE, one_boolean};
 use crate::reading::{assert_answer, assert_reads, decoder_of};
 use crate::types::{ContextTag, Three};
 use crate::writing::{assert_output, assert_written, new_encoder};

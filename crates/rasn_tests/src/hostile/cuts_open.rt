@@ -1,6 +1,6 @@
 //! Values of indefinite length that are cut (X.690 8.1.3.6): each proper prefix of their octets is refused.
 
-use super::cuts::reads_all;
+use crate::hostile::cuts::reads_all;
 use crate::reading::decoder_of;
 use rasn::de::Decode;
 use rasn::error::{BerDecodeErrorKind, CodecDecodeError, DecodeError, DecodeErrorKind};

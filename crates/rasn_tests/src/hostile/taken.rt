@@ -1,7 +1,7 @@
 //! How many octets a refusal consumes: none for a fault of the identifier or length (X.690 8.1.2, 8.1.3), else the value, its header, or
 //! what was read inside.
 
-use super::one_boolean;
+use crate::hostile::one_boolean;
 use crate::reading::{Row, assert_answer, assert_reads, assert_reads_within, decoder_of, sized};
 use rasn::types::{Any, BitString, Class, Codec, GeneralizedTime, OctetString, Tag, VisibleString};
 use std::alloc::Global;

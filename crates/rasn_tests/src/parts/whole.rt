@@ -1,6 +1,6 @@
 //! CHOICE (X.690 8.13), SEQUENCE OF (8.10) and extension additions by the entry points.
 
-use crate::parts::lists::lists;
+use crate::parts::sequence_of::lists;
 use crate::reading::{assert_facts, assert_reads, value};
 use crate::whole::{assert_decodes, assert_rewrites, decoded, encoded};
 use crate::writing::{assert_output_pieces, made};

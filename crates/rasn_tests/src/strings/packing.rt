@@ -2,7 +2,7 @@
 
 use crate::reading::assert_facts;
 use crate::writing::made;
-use rasn_types::ber::gathered::GatheredBits;
+use rasn_types::ber::collected_bits::CollectedBits;
 use rasn_types::types::{BitStr, BitString};
 use std::alloc::{AllocError, Global};
 
@@ -63,7 +63,7 @@ fn compares_bits(rt: HostRuntime) {
 
 /// Three bits, four and nine.
 fn gathered(alloc: Global) -> Result<Option<BitString>, AllocError> {
-    let mut bits = GatheredBits::new(alloc);
+    let mut bits = CollectedBits::new(alloc);
     bits.append(&[0xE0], 5)?;
     bits.append(&[0xAF], 4)?;
     bits.append(&[0x80, 0x80], 7)?;

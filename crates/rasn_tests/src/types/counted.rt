@@ -5,7 +5,7 @@ ghost use Rattle.rasn_types.specs.Shapes.Parts.{none};
 ghost use Rattle.rasn_types.specs.Tags.{in_universal};
 ghost use Rattle.rasn_types.specs.Trees.{unconstrained, unsigned_range};
 ghost use Rattle.rasn_de.specs.Decodes.{DecodesParts};
-ghost use Rattle.rasn_enc.specs.Parts.{WritesParts};
+ghost use Rattle.rasn_enc.specs.Sequence.{EncodesParts};
 
 use rasn_de::ber::de::Decoder;
 use rasn_de::de::Decode;
@@ -114,7 +114,7 @@ impl Encode for Counted {
         encoder.encode_sequence::<1, 0, Counted, _>(
             tag,
             |inner: &mut Encoder| -> Result<(), EncodeError>
-                ensures { WritesParts (part (default (number (pos 7))) (leaf (integer (unsigned_range 8)) (in_universal 2) unconstrained) none) (items (number (pos self.entry.now.number) ∷ [])) inner.old result inner.new }
+                ensures { EncodesParts (part (default (number (pos 7))) (leaf (integer (unsigned_range 8)) (in_universal 2) unconstrained) none) (items (number (pos self.entry.now.number) ∷ [])) inner.old result inner.new }
             { inner.encode_default(&self.number, || Ok(7), Identifier::EMPTY) },
             identifier,
         )

@@ -2,7 +2,7 @@
 ghost use Rattle.std.specs.Prelude.{◌∷◌, []};
 ghost use Rattle.rasn_types.specs.Shapes.{part, required, items};
 ghost use Rattle.rasn_types.specs.Shapes.Parts.{none};
-ghost use Rattle.rasn_enc.specs.Parts.{WritesParts};
+ghost use Rattle.rasn_enc.specs.Sequence.{EncodesParts};
 
 use rasn_enc::ber::enc::Encoder;
 use rasn_enc::enc::Encode;
@@ -151,7 +151,7 @@ impl<A: Encode, B: Encode, C: Encode> Encode for Three<A, B, C> {
         encoder.encode_set::<3, 0, Three<A, B, C>, _>(
             tag,
             |inner: &mut Encoder| -> Result<(), EncodeError>
-                ensures { WritesParts (part required A.shape (part required B.shape (part required C.shape none))) (items (A.tree self.entry.now.first ∷ B.tree self.entry.now.second ∷ C.tree self.entry.now.third ∷ [])) inner.old result inner.new }
+                ensures { EncodesParts (part required A.shape (part required B.shape (part required C.shape none))) (items (A.tree self.entry.now.first ∷ B.tree self.entry.now.second ∷ C.tree self.entry.now.third ∷ [])) inner.old result inner.new }
             {
                 self.first.encode(inner)?;
                 self.second.encode(inner)?;

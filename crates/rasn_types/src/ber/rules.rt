@@ -1,11 +1,11 @@
 //! What the encoding rules allow (X.690 9, 10, 11): the one place where reader and writer ask it.
 ghost use Rattle.std.specs.Prelude.{◌≡◌, ◌^◌, ◌-◌};
-ghost use Rattle.rasn_types.specs.Truth.{Decides};
+ghost use Rattle.rasn_types.specs.Truth.{IsWhether};
 ghost use Rattle.rasn_types.specs.Tags.{form, IsStrict};
 ghost use Rattle.rasn_types.specs.Framing.{HasIndefinite};
 ghost use Rattle.rasn_types.specs.Bytes.{IsCer};
 ghost use Rattle.rasn_types.specs.Rules.{codec_of};
-ghost use Rattle.rasn_types.specs.declared.types.rules.Codec.TheVariants.{Ber};
+ghost use Rattle.rasn_types.specs.declared.types.codec.Codec.TheVariants.{Ber};
 
 use crate::types::Codec;
 
@@ -51,7 +51,7 @@ impl EncodingRules {
     /// Whether these are the basic rules, under which any encoding of a value may stand for it.
     #[inline]
     pub fn is_ber(self) -> bool
-        ensures { Decides result (codec_of self ≡ Ber) }
+        ensures { IsWhether result (codec_of self ≡ Ber) }
     {
         matches!(self, EncodingRules::Ber)
     }
@@ -60,7 +60,7 @@ impl EncodingRules {
     /// segments (X.690 9.1, 9.2).
     #[inline]
     pub fn is_cer(self) -> bool
-        ensures { Decides result (IsCer (codec_of self)) }
+        ensures { IsWhether result (IsCer (codec_of self)) }
     {
         matches!(self, EncodingRules::Cer)
     }
@@ -68,7 +68,7 @@ impl EncodingRules {
     /// Whether these are the distinguished rules, under which only what their writer gives is read (X.690 10, 11).
     #[inline]
     pub fn is_der(self) -> bool
-        ensures { Decides result (IsStrict (codec_of self)) }
+        ensures { IsWhether result (IsStrict (codec_of self)) }
     {
         matches!(self, EncodingRules::Der)
     }
@@ -76,7 +76,7 @@ impl EncodingRules {
     /// Whether strings may be constructed, of segments (X.690 8.6.4, 8.7.3, 10.2).
     #[inline]
     pub fn allows_constructed_strings(self) -> bool
-        ensures { Decides result (IsStrict (codec_of self) → ⊥) }
+        ensures { IsWhether result (IsStrict (codec_of self) → ⊥) }
     {
         matches!(self, EncodingRules::Ber | EncodingRules::Cer)
     }
@@ -84,7 +84,7 @@ impl EncodingRules {
     /// Whether lengths may have the indefinite form (X.690 8.1.3.6, 10.1), and so end-of-contents octets stand where values do.
     #[inline]
     pub fn allows_indefinite(self) -> bool
-        ensures { Decides result (HasIndefinite (form (codec_of self))) }
+        ensures { IsWhether result (HasIndefinite (form (codec_of self))) }
     {
         matches!(self, EncodingRules::Ber | EncodingRules::Cer)
     }

@@ -77,13 +77,13 @@ impl AsnType for Any {
 }
 
 impl LawfulEq for Any {
-    ghost use Rattle.rasn_types.specs.Equality.{octets_told};
+    ghost use Rattle.rasn_types.specs.Equality.{octets_decided};
 
-    ghost decides = { octets_told };
+    ghost decides = { octets_decided };
 }
 
 impl Present for Any {
-    ghost use Rattle.rasn_types.specs.Equality.{numbers_there};
+    ghost use Rattle.rasn_types.specs.Equality.{numbers_not_absent};
 
-    ghost present = { numbers_there };
+    ghost present = { numbers_not_absent };
 }

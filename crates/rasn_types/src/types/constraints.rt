@@ -1,6 +1,6 @@
 //! Constraints on values and on sizes (X.680 51).
 ghost use Rattle.std.specs.Prelude.{◌≡◌, ◌^◌, ◌<◌, ◌≤◌, ◌≤ℤ◌, ◌<ℤ◌, length, ℤ, pos, neg_ℤ};
-ghost use Rattle.rasn_types.specs.Truth.{Decides};
+ghost use Rattle.rasn_types.specs.Truth.{IsWhether};
 ghost use Rattle.rasn_types.specs.Contents.{signed};
 ghost use Rattle.rasn_types.specs.Shapes.{Admits, IsIn, IsWithin, constraint_of};
 ghost use Rattle.rasn_types.specs.Trees.{signed_range};
@@ -65,7 +65,7 @@ impl Constraints {
 
     /// Whether a size meets its bound, as each does where there is none or it is extensible.
     pub fn admits_size(&self, size: usize) -> bool
-        ensures { Decides result (Admits ◌≤◌ self.now.size size) }
+        ensures { IsWhether result (Admits ◌≤◌ self.now.size size) }
     {
         match self.size {
             None => true,
@@ -78,7 +78,7 @@ impl Constraints {
     #[inline(always)]
     pub fn admits_number(&self, octets: &[u8]) -> bool
         requires { 0 < length octets.now }
-        ensures { Decides result (Admits ◌≤ℤ◌ self.now.value (signed octets.now)) }
+        ensures { IsWhether result (Admits ◌≤ℤ◌ self.now.value (signed octets.now)) }
     {
         match self.value {
             None => true,
@@ -102,7 +102,7 @@ impl Constraints {
 }
 
 fn is_size_within(bounded: Bounded<usize>, size: usize) -> bool
-    ensures { Decides result (IsWithin ◌≤◌ bounded size) }
+    ensures { IsWhether result (IsWithin ◌≤◌ bounded size) }
 {
     match bounded {
         Bounded::None => true,
@@ -115,7 +115,7 @@ fn is_size_within(bounded: Bounded<usize>, size: usize) -> bool
 
 fn is_number_within(bounded: Bounded<i128>, octets: &[u8]) -> bool
     requires { 0 < length octets.now }
-    ensures { Decides result (IsWithin ◌≤ℤ◌ bounded (signed octets.now)) }
+    ensures { IsWhether result (IsWithin ◌≤ℤ◌ bounded (signed octets.now)) }
 {
     match bounded {
         Bounded::None => true,
@@ -127,7 +127,7 @@ fn is_number_within(bounded: Bounded<i128>, octets: &[u8]) -> bool
 }
 
 fn is_within(bounded: Bounded<i128>, number: i128) -> bool
-    ensures { Decides result (IsWithin ◌≤ℤ◌ bounded number) }
+    ensures { IsWhether result (IsWithin ◌≤ℤ◌ bounded number) }
 {
     match bounded {
         Bounded::None => true,
@@ -142,7 +142,7 @@ fn is_within(bounded: Bounded<i128>, number: i128) -> bool
 fn is_far_within(bounded: Bounded<i128>, octets: &[u8]) -> bool
     requires some { 0 < length octets.now }
     requires far { IsIn (signed_range 128) (signed octets.now) → ⊥ }
-    ensures { Decides result (IsWithin ◌≤ℤ◌ bounded (signed octets.now)) }
+    ensures { IsWhether result (IsWithin ◌≤ℤ◌ bounded (signed octets.now)) }
 {
     if octets[0] < 128 {
         is_open_above(bounded)
@@ -152,7 +152,7 @@ fn is_far_within(bounded: Bounded<i128>, octets: &[u8]) -> bool
 }
 
 fn is_open_above(bounded: Bounded<i128>) -> bool
-    ensures { (z : ℤ) → pos (2 ^ 127) ≤ℤ z → Decides result (IsWithin ◌≤ℤ◌ bounded z) }
+    ensures { (z : ℤ) → pos (2 ^ 127) ≤ℤ z → IsWhether result (IsWithin ◌≤ℤ◌ bounded z) }
 {
     match bounded {
         Bounded::None => true,
@@ -162,7 +162,7 @@ fn is_open_above(bounded: Bounded<i128>) -> bool
 }
 
 fn is_open_below(bounded: Bounded<i128>) -> bool
-    ensures { (z : ℤ) → z <ℤ neg_ℤ (pos (2 ^ 127)) → Decides result (IsWithin ◌≤ℤ◌ bounded z) }
+    ensures { (z : ℤ) → z <ℤ neg_ℤ (pos (2 ^ 127)) → IsWhether result (IsWithin ◌≤ℤ◌ bounded z) }
 {
     match bounded {
         Bounded::None => true,

@@ -1,7 +1,7 @@
 //! DATE: days of the calendar.
 ghost use Rattle.std.specs.Prelude.{◌≡◌, ◌<ℤ◌, pos, negsuc, IsTrue, ◌↔◌};
 ghost use Rattle.rasn_types.specs.Calendar.{Day, IsDay, DayBefore, is_leap, days_of_month, next_day, previous_day};
-ghost use Rattle.rasn_types.specs.Makes.{Makes};
+ghost use Rattle.rasn_types.specs.Options.{IsSomeExactlyIf};
 
 use crate::types::{AsnType, Constraints, Tag};
 use std::marker::Model;
@@ -48,7 +48,7 @@ fn month_length(year: i32, month: u8) -> u8
 impl Date {
     /// The day, where there is one.
     pub fn new(year: i32, month: u8, day: u8) -> Option<Date>
-        ensures { let d : Day = record { year = year; month = month; day = day } in Makes result (IsDay d) d }
+        ensures { let d : Day = record { year = year; month = month; day = day } in IsSomeExactlyIf result (IsDay d) d }
     {
         if -99999 <= year
             && year <= 99999

@@ -1,7 +1,7 @@
 //! GeneralizedTime: instants with an offset.
 ghost use Rattle.std.specs.Prelude.{◌≡◌, ◌≤ℤ◌, pos, negsuc, IsTrue, ◌↔◌};
 ghost use Rattle.rasn_types.specs.Calendar.{Before};
-ghost use Rattle.rasn_types.specs.Makes.{Makes};
+ghost use Rattle.rasn_types.specs.Options.{IsSomeExactlyIf};
 
 use crate::types::{AsnType, Constraints, Tag, UtcTime};
 use std::cmp::Ordering;
@@ -30,7 +30,7 @@ impl Model for GeneralizedTime {
 impl GeneralizedTime {
     /// The instant with an offset, where that is below a day.
     pub fn new(utc: UtcTime, offset_minutes: i16) -> Option<GeneralizedTime>
-        ensures { Makes result ((negsuc 1438 ≤ℤ offset_minutes) × (offset_minutes ≤ℤ pos 1439)) (record { moment = utc; offset = offset_minutes }) }
+        ensures { IsSomeExactlyIf result ((negsuc 1438 ≤ℤ offset_minutes) × (offset_minutes ≤ℤ pos 1439)) (record { moment = utc; offset = offset_minutes }) }
     {
         if -1440 < offset_minutes && offset_minutes < 1440 {
             Some(GeneralizedTime {

@@ -1,6 +1,6 @@
 //! OBJECT IDENTIFIER.
 ghost use Rattle.std.specs.Prelude.{◌≡◌};
-ghost use Rattle.rasn_types.specs.Makes.{Makes};
+ghost use Rattle.rasn_types.specs.Options.{IsSomeExactlyIf};
 ghost use Rattle.rasn_types.specs.Numbered.{AreArcs};
 
 use crate::types::{AsnType, Constraints, Tag};
@@ -32,7 +32,7 @@ impl Model for ObjectIdentifier {
 impl ObjectIdentifier {
     /// The object identifier of these arcs, where there are at least two and the first is at most 2. No memory is taken.
     pub fn new(arcs: Vec<u32>) -> Option<ObjectIdentifier>
-        ensures { Makes result (AreArcs arcs.items) arcs.items }
+        ensures { IsSomeExactlyIf result (AreArcs arcs.items) arcs.items }
     {
         match arcs.as_slice() {
             [first, _, ..] if *first <= 2 => Some(ObjectIdentifier { arcs }),

@@ -96,7 +96,7 @@ impl<T: Drop> SetOf<T> {
 
 impl<T: Eq> PartialEq for SetOf<T> {
     ghost use Rattle.std.specs.Cmp.{partial_equiv_from_equiv};
-    ghost use Rattle.rasn_types.specs.SetsOf.{set_of_eq, set_of_equiv};
+    ghost use Rattle.rasn_types.specs.SetOf.{set_of_eq, set_of_equiv};
 
     ghost eq = { set_of_eq T.eq };
 
@@ -109,7 +109,7 @@ impl<T: Eq> PartialEq for SetOf<T> {
 }
 
 impl<T: Eq> Eq for SetOf<T> {
-    ghost use Rattle.rasn_types.specs.SetsOf.{set_of_equiv};
+    ghost use Rattle.rasn_types.specs.SetOf.{set_of_equiv};
 
     ghost laws = { set_of_equiv T.Eq.laws };
 }
@@ -132,7 +132,7 @@ fn count<T: PartialEq>(value: &T, these: &[T]) -> usize
 
 impl<T: AsnType> AsnType for SetOf<T> {
     ghost use Rattle.std.specs.Prelude.{refl, None};
-    ghost use Rattle.rasn_types.specs.Shapes.{set_of, walk};
+    ghost use Rattle.rasn_types.specs.Shapes.{set_of, set_elements};
     ghost use Rattle.rasn_types.specs.Tags.{in_universal};
     ghost use Rattle.rasn_types.specs.Trees.{list_tree, unconstrained};
 
@@ -146,19 +146,19 @@ impl<T: AsnType> AsnType for SetOf<T> {
 
     ghost shape = { set_of (in_universal 17) T.shape None };
 
-    ghost tree = { λ v. walk (list_tree T.tree v) };
+    ghost tree = { λ v. set_elements (list_tree T.tree v) };
 
     ghost own = { refl };
 }
 
 impl<T: LawfulEq + Eq> LawfulEq for SetOf<T> {
-    ghost use Rattle.rasn_types.specs.SetsOf.{set_of_told};
+    ghost use Rattle.rasn_types.specs.SetOf.{set_of_told};
 
     ghost decides = { set_of_told T.Eq.laws T.decides };
 }
 
 impl<T: AsnType> Present for SetOf<T> {
-    ghost use Rattle.rasn_types.specs.Equality.{walk_there};
+    ghost use Rattle.rasn_types.specs.Equality.{set_elements_not_absent};
 
-    ghost present = { λ v. walk_there };
+    ghost present = { λ v. set_elements_not_absent };
 }

@@ -1,6 +1,6 @@
 //! Whole numbers as octets in two's complement, most significant first (X.690 8.3).
 ghost use Rattle.std.specs.Prelude.{◌≡◌, ◌<◌, ◌≤◌, length, MatchOption, pos, ℤ, OnOk, OnErr, List, ℕ, ◌++◌};
-ghost use Rattle.rasn_types.specs.Truth.{Decides};
+ghost use Rattle.rasn_types.specs.Truth.{IsWhether};
 ghost use Rattle.rasn_types.specs.Framing.{number_in, AreOctets};
 ghost use Rattle.rasn_types.specs.Contents.{signed, IsShortestInteger, RepeatsSign};
 ghost use Rattle.rasn_types.specs.Shapes.{IsIn};
@@ -24,7 +24,7 @@ pub fn shortest(octets: &[u8]) -> &[u8]
 
 // Whether an octet in front of another is nothing but its sign.
 fn repeats_sign(octet: u8, next: u8) -> bool
-    ensures { Decides result (RepeatsSign octet next) }
+    ensures { IsWhether result (RepeatsSign octet next) }
 {
     if next < 128 { octet == 0 } else { octet == 255 }
 }

@@ -1,7 +1,7 @@
 //! UTCTime: instants.
 ghost use Rattle.std.specs.Prelude.{◌≡◌, ◌<◌, ◌<ℤ◌, pos, negsuc, IsTrue, ◌↔◌};
 ghost use Rattle.rasn_types.specs.Calendar.{Moment, IsMoment, Before, later, earlier, at_minute};
-ghost use Rattle.rasn_types.specs.Makes.{Makes};
+ghost use Rattle.rasn_types.specs.Options.{IsSomeExactlyIf};
 
 use crate::types::{AsnType, Constraints, Date, Tag};
 use std::marker::Model;
@@ -32,7 +32,7 @@ impl UtcTime {
     /// The instant, where there is one.
     pub fn new(date: Date, hour: u8, minute: u8, second: u8, nanosecond: u32) -> Option<UtcTime>
         ensures { let m : Moment = record { day = date; hour = hour; minute = minute; second = second; nanosecond = nanosecond } in
-            Makes result (IsMoment m) m }
+            IsSomeExactlyIf result (IsMoment m) m }
     {
         if hour < 24
             && minute < 60

@@ -1,5 +1,5 @@
 use Rattle.std.proofs.Common.{sym, ◌∙◌}
-use Rattle.rasn.proofs.Read.{all_of}
+use Rattle.rasn.proofs.ReadBack.Der.{all_of}
 use Rattle.rasn.proofs.der.decode.Goals as goal
 
 pub returns-then-is_empty-clause-written : goal.returns-then-is_empty-clause-written

@@ -1,8 +1,8 @@
 use Rattle.std.proofs.Common.{arith}
-use Rattle.rasn_de.proofs.Tools.{octets_all}
-use Rattle.rasn.proofs.Read.{takes_written}
+use Rattle.rasn_de.proofs.Headers.Results.{octets_all}
+use Rattle.rasn.proofs.ReadBack.Der.{consumes_written}
 use Rattle.rasn.proofs.der.decode_with_remainder.Goals as goal
 
 pub returns-clause-written : goal.returns-clause-written
 returns-clause-written g c =
-    takes_written g.T.AsnType.shape g.T.AsnType.tree c.der.result c.args.input.now c.der.ensures (octets_all c.args.input.now (λ i. omega (arith, c.type_inv.input i))) c.decode_with_remainder.result c.decode_with_remainder.ensures
+    consumes_written g.T.AsnType.shape g.T.AsnType.tree c.der.result c.args.input.now c.der.ensures (octets_all c.args.input.now (λ i. omega (arith, c.type_inv.input i))) c.decode_with_remainder.result c.decode_with_remainder.ensures

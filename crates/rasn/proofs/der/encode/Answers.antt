@@ -1,11 +1,11 @@
 use Rattle.std.proofs.Common.{◌≡◌, ℕ, List, Result, Ok, Err, subst}
 use Rattle.std.specs.Prelude.{IfOk}
-use Rattle.rasn_types.specs.declared.types.rules.Codec.{Codec}
-use Rattle.rasn_types.specs.declared.types.rules.Codec.TheVariants.{Der}
+use Rattle.rasn_types.specs.declared.types.codec.Codec.{Codec}
+use Rattle.rasn_types.specs.declared.types.codec.Codec.TheVariants.{Der}
 use Rattle.rasn_types.specs.Shapes.{Shape, Tree}
 use Rattle.rasn_types.specs.Bytes.{Bytes}
 use Rattle.rasn.specs.Headline.{Identify}
-use Rattle.rasn.proofs.Hold.{identify}
+use Rattle.rasn.proofs.LawsHold.Written.{identify}
 use Rattle.rasn.proofs.der.encode.Goals as goal
 
 identified : {V E : Type 0} (items : V → List ℕ) (s : Shape) (t : Tree) (rule : Codec) (r : Result V E) → rule ≡ Der → IfOk r (λ v. Bytes rule s t (items v)) → IfOk r (λ v. Identify s t (items v))

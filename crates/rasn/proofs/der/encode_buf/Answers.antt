@@ -1,11 +1,11 @@
 use Rattle.std.proofs.Common.{◌≡◌, ℕ, List, Result, Ok, Err, subst}
 use Rattle.std.specs.Prelude.{OnOk}
-use Rattle.rasn_types.specs.declared.types.rules.Codec.{Codec}
-use Rattle.rasn_types.specs.declared.types.rules.Codec.TheVariants.{Der}
+use Rattle.rasn_types.specs.declared.types.codec.Codec.{Codec}
+use Rattle.rasn_types.specs.declared.types.codec.Codec.TheVariants.{Der}
 use Rattle.rasn_types.specs.Shapes.{Shape, Tree}
 use Rattle.rasn_types.specs.Bytes.{Bytes}
 use Rattle.rasn.specs.Headline.{Identify}
-use Rattle.rasn.proofs.Hold.{identify}
+use Rattle.rasn.proofs.LawsHold.Written.{identify}
 use Rattle.rasn.proofs.der.encode_buf.Goals as goal
 
 identified : {V E : Type 0} (octets : List ℕ) (s : Shape) (t : Tree) (rule : Codec) (r : Result V E) → rule ≡ Der → OnOk r (Bytes rule s t octets) → OnOk r (Identify s t octets)

@@ -1,4 +1,4 @@
-use Rattle.rasn_enc.proofs.Outputs.{output_ok, output_refused}
+use Rattle.rasn_enc.proofs.Buffer.Output.{output_ok, output_refused}
 use Rattle.rasn.proofs.entry.encode_over.Goals as goal
 
 pub returns-clause-ok : goal.returns-clause-ok

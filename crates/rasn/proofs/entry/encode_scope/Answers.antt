@@ -1,7 +1,7 @@
 use Rattle.std.proofs.Common.{Err, refl, subst, inr}
 use Rattle.std.proofs.lemmas.Result.{err_from_is_err_and}
 use Rattle.std.specs.Fn.{FnOnceReturnsAtMut}
-use Rattle.rasn_enc.proofs.Outputs.{scope_ok, scope_refused}
+use Rattle.rasn_enc.proofs.Buffer.Output.{scope_ok, scope_refused}
 use Rattle.rasn.proofs.entry.encode_scope.Goals as goal
 
 pub returns-in_err-run-clause-refused : goal.returns-in_err-run-clause-refused

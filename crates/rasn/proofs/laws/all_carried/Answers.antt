@@ -1,4 +1,4 @@
-use Rattle.rasn.proofs.AllCarried.{all_carried as law}
+use Rattle.rasn.proofs.StrictDer.AllCarried.{all_carried as law}
 use Rattle.rasn.proofs.laws.all_carried.Goals as goal
 
 pub returns : goal.returns

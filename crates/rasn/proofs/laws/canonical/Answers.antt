@@ -1,4 +1,4 @@
-use Rattle.rasn.proofs.Hold.{canonical as law}
+use Rattle.rasn.proofs.LawsHold.Written.{canonical as law}
 use Rattle.rasn.proofs.laws.canonical.Goals as goal
 
 pub returns : goal.returns

@@ -1,4 +1,4 @@
-use Rattle.rasn.proofs.Hold.{one_encoding as law}
+use Rattle.rasn.proofs.LawsHold.Written.{one_encoding as law}
 use Rattle.rasn.proofs.laws.one_encoding.Goals as goal
 
 pub returns : goal.returns

@@ -1,4 +1,4 @@
-use Rattle.rasn.proofs.StrictMade.{stays_carried as law}
+use Rattle.rasn.proofs.StrictDer.Carried.{stays_carried as law}
 use Rattle.rasn.proofs.laws.stays_carried.Goals as goal
 
 pub returns : goal.returns

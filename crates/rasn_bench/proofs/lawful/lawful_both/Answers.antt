@@ -1,6 +1,6 @@
 use Rattle.std.proofs.Common.{arith}
 use Rattle.rasn_types.specs.Lawful.{IsLawful}
-use Rattle.rasn.proofs.Headers.{no_eoc}
+use Rattle.rasn.proofs.ReadBack.Headers.{no_eoc}
 use Rattle.rasn_bench.proofs.lawful.lawful_both.Goals as goal
 
 pub returns : goal.returns

@@ -1,5 +1,5 @@
 use Rattle.std.proofs.Common.{arith}
-use Rattle.rasn_de.proofs.Tools.{octets_all}
+use Rattle.rasn_de.proofs.Headers.Results.{octets_all}
 use Rattle.rasn_bench.proofs.Normalised.{if_ok, if_ok_both, if_err, identified, kept, unchanged, answered}
 use Rattle.rasn_bench.proofs.normal.normalise.Goals as goal
 

@@ -1,5 +1,5 @@
 use Rattle.std.proofs.Common.{arith}
-use Rattle.rasn_de.proofs.Tools.{octets_all}
+use Rattle.rasn_de.proofs.Headers.Results.{octets_all}
 use Rattle.rasn_bench.proofs.normal.read_back.Goals as goal
 
 pub returns-clause-octets : goal.returns-clause-octets

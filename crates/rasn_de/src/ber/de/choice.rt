@@ -1,6 +1,6 @@
 //! CHOICE (X.690 8.13).
 ghost use Rattle.rasn_de.specs.Decodes.{Decodes};
-ghost use Rattle.rasn_de.specs.Choices.{ReadChosen};
+ghost use Rattle.rasn_de.specs.Choice.{DecodesChosen};
 
 use crate::ber::de::Decoder;
 use crate::de::DecodeChoice;
@@ -16,7 +16,7 @@ impl<'input> Decoder<'input> {
         &mut self,
         _constraints: &Constraints,
     ) -> Result<D, DecodeError>
-        ensures called { ReadChosen (Decodes D.shape D.tree) self.old result self.new }
+        ensures exact { DecodesChosen (Decodes D.shape D.tree) self.old result self.new }
         ensures reads { Decodes D.shape D.tree self.old result self.new }
     {
         let tag = self.peek_tag()?;

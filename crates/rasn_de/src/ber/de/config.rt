@@ -1,6 +1,6 @@
 //! The rules that a decoder reads by.
 ghost use Rattle.std.specs.Prelude.{◌≡◌};
-ghost use Rattle.rasn_types.specs.declared.types.rules.Codec.TheVariants.{Ber, Cer, Der};
+ghost use Rattle.rasn_types.specs.declared.types.codec.Codec.TheVariants.{Ber, Cer, Der};
 
 use rasn_types::types::Codec;
 use std::marker::Model;
@@ -12,7 +12,7 @@ pub struct DecoderOptions {
 }
 
 impl Model for DecoderOptions {
-    ghost use Rattle.rasn_types.specs.declared.types.rules.Codec.{Codec};
+    ghost use Rattle.rasn_types.specs.declared.types.codec.Codec.{Codec};
 
     ghost Value = { Codec };
 

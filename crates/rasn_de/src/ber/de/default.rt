@@ -1,9 +1,9 @@
 //! Values that have a default where they are left out (X.680 25.8).
 ghost use Rattle.rasn_de.specs.Decodes.{Decodes};
-ghost use Rattle.rasn_de.specs.Optionals.{Made, ReadOr, ReadOrAs, DecodesDefault, DecodesOrAs};
+ghost use Rattle.rasn_de.specs.Optional.{MakesValue, DecodesOrDefault, DecodesOrDefaultAs, DecodesDefault, DecodesDefaultAs};
 
 use crate::ber::de::Decoder;
-use crate::ber::de::parser::Fault;
+use crate::ber::de::parser::ParseError;
 use crate::de::Decode;
 use rasn_types::error::{DecodeError, DerDecodeErrorKind};
 use rasn_types::types::{Constraints, LawfulEq, Tag};
@@ -21,7 +21,7 @@ impl<'input> Decoder<'input> {
         default: F,
     ) -> Result<D, DecodeError>
         requires { F.IsAlwaysCallable default }
-        ensures called { ReadOr (Decodes D.shape D.tree) D.tree (F.post default) D.TAG self.old result self.new }
+        ensures exact { DecodesOrDefault (Decodes D.shape D.tree) D.tree (F.post default) D.TAG self.old result self.new }
         ensures reads { DecodesDefault D.TAG D.shape D.tree (F.post default) self.old result self.new }
     {
         self.decode_default_with_tag_and_constraints(D::TAG, default, &D::CONSTRAINTS)
@@ -37,8 +37,8 @@ impl<'input> Decoder<'input> {
         default: F,
     ) -> Result<D, DecodeError>
         requires { F.IsAlwaysCallable default }
-        ensures called { ReadOrAs tag D.CONSTRAINTS D.shape D.tree (F.post default) self.old result self.new }
-        ensures reads { DecodesOrAs tag D.CONSTRAINTS D.shape D.tree (F.post default) self.old result self.new }
+        ensures exact { DecodesOrDefaultAs tag D.CONSTRAINTS D.shape D.tree (F.post default) self.old result self.new }
+        ensures reads { DecodesDefaultAs tag D.CONSTRAINTS D.shape D.tree (F.post default) self.old result self.new }
     {
         self.decode_default_with_tag_and_constraints(tag, default, &D::CONSTRAINTS)
     }
@@ -52,8 +52,8 @@ impl<'input> Decoder<'input> {
         F: FnOnce() -> Result<D, AllocError>,
     >(&mut self, default: F, constraints: &Constraints) -> Result<D, DecodeError>
         requires { F.IsAlwaysCallable default }
-        ensures called { ReadOrAs D.TAG constraints.now D.shape D.tree (F.post default) self.old result self.new }
-        ensures reads { DecodesOrAs D.TAG constraints.now D.shape D.tree (F.post default) self.old result self.new }
+        ensures exact { DecodesOrDefaultAs D.TAG constraints.now D.shape D.tree (F.post default) self.old result self.new }
+        ensures reads { DecodesDefaultAs D.TAG constraints.now D.shape D.tree (F.post default) self.old result self.new }
     {
         self.decode_default_with_tag_and_constraints(D::TAG, default, constraints)
     }
@@ -67,35 +67,35 @@ impl<'input> Decoder<'input> {
         F: FnOnce() -> Result<D, AllocError>,
     >(&mut self, tag: Tag, default: F, constraints: &Constraints) -> Result<D, DecodeError>
         requires { F.IsAlwaysCallable default }
-        ensures called { ReadOrAs tag constraints.now D.shape D.tree (F.post default) self.old result self.new }
-        ensures reads { DecodesOrAs tag constraints.now D.shape D.tree (F.post default) self.old result self.new }
+        ensures exact { DecodesOrDefaultAs tag constraints.now D.shape D.tree (F.post default) self.old result self.new }
+        ensures reads { DecodesDefaultAs tag constraints.now D.shape D.tree (F.post default) self.old result self.new }
     {
-        if !self.comes(tag)? {
-            return self.made(default);
+        if !self.next_tag_is(tag)? {
+            return self.default_value(default);
         }
         let value = D::decode_with_tag_and_constraints(self, tag, constraints)?;
         if !self.is_strict() {
             drop(default);
             return Ok(value);
         }
-        let without = self.made(default)?;
+        let without = self.default_value(default)?;
         if value.means_same(&without) {
-            return Err(self.error(Fault::Der(DerDecodeErrorKind::DefaultValuePresent)));
+            return Err(self.error(ParseError::Der(DerDecodeErrorKind::DefaultValuePresent)));
         }
         Ok(value)
     }
 
     /// The value that the closure makes.
-    pub(super) fn made<D: Drop, F: FnOnce() -> Result<D, AllocError>>(
+    pub(super) fn default_value<D: Drop, F: FnOnce() -> Result<D, AllocError>>(
         &self,
         make: F,
     ) -> Result<D, DecodeError>
         requires { F.IsAlwaysCallable make }
-        ensures { Made (F.post make) self.now result }
+        ensures { MakesValue (F.post make) self.now result }
     {
         match make() {
             Ok(value) => Ok(value),
-            Err(AllocError) => Err(self.error(Fault::OutOfMemory)),
+            Err(AllocError) => Err(self.error(ParseError::OutOfMemory)),
         }
     }
 }

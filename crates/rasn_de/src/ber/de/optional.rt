@@ -1,8 +1,8 @@
 //! Values that may be left out (X.680 25.5 to 25.8).
 ghost use Rattle.rasn_types.specs.Shapes.{prefix};
 ghost use Rattle.rasn_de.specs.Decodes.{Decodes};
-ghost use Rattle.rasn_de.specs.Optionals.{Comes, ReadPerhaps, ReadPerhapsAs, DecodesOption, DecodesOptionAs};
-ghost use Rattle.rasn_de.specs.Prefixes.{ReadPrefixed};
+ghost use Rattle.rasn_de.specs.Optional.{NextTagIs, DecodesIfPresent, DecodesIfPresentAs, DecodesOption, DecodesOptionAs};
+ghost use Rattle.rasn_de.specs.Prefix.{DecodesPrefixBy};
 
 use crate::ber::de::Decoder;
 use crate::de::Decode;
@@ -11,8 +11,8 @@ use rasn_types::types::{Constraints, Tag};
 
 impl<'input> Decoder<'input> {
     /// Whether the value that is looked for by this tag comes next; by `Tag::EOC` any value is.
-    pub(super) fn comes(&self, tag: Tag) -> Result<bool, DecodeError>
-        ensures { Comes tag self.now result }
+    pub(super) fn next_tag_is(&self, tag: Tag) -> Result<bool, DecodeError>
+        ensures { NextTagIs tag self.now result }
     {
         if self.has_ended() {
             return Ok(false);
@@ -28,7 +28,7 @@ impl<'input> Decoder<'input> {
     /// # Errors
     /// Faults of the next identifier, which take nothing; what the value refuses.
     pub fn decode_optional<D: Decode>(&mut self) -> Result<Option<D>, DecodeError>
-        ensures called { ReadPerhaps (Decodes D.shape D.tree) D.TAG self.old result self.new }
+        ensures exact { DecodesIfPresent (Decodes D.shape D.tree) D.TAG self.old result self.new }
         ensures reads { DecodesOption D.TAG D.shape D.tree self.old result self.new }
     {
         self.decode_optional_with_tag_and_constraints(D::TAG, &D::CONSTRAINTS)
@@ -42,7 +42,7 @@ impl<'input> Decoder<'input> {
         &mut self,
         tag: Tag,
     ) -> Result<Option<D>, DecodeError>
-        ensures called { ReadPerhapsAs tag D.CONSTRAINTS D.shape D.tree self.old result self.new }
+        ensures exact { DecodesIfPresentAs tag D.CONSTRAINTS D.shape D.tree self.old result self.new }
         ensures reads { DecodesOptionAs tag D.CONSTRAINTS D.shape D.tree self.old result self.new }
     {
         self.decode_optional_with_tag_and_constraints(tag, &D::CONSTRAINTS)
@@ -56,7 +56,7 @@ impl<'input> Decoder<'input> {
         &mut self,
         constraints: &Constraints,
     ) -> Result<Option<D>, DecodeError>
-        ensures called { ReadPerhapsAs D.TAG constraints.now D.shape D.tree self.old result self.new }
+        ensures exact { DecodesIfPresentAs D.TAG constraints.now D.shape D.tree self.old result self.new }
         ensures reads { DecodesOptionAs D.TAG constraints.now D.shape D.tree self.old result self.new }
     {
         self.decode_optional_with_tag_and_constraints(D::TAG, constraints)
@@ -71,10 +71,10 @@ impl<'input> Decoder<'input> {
         tag: Tag,
         constraints: &Constraints,
     ) -> Result<Option<D>, DecodeError>
-        ensures called { ReadPerhapsAs tag constraints.now D.shape D.tree self.old result self.new }
+        ensures exact { DecodesIfPresentAs tag constraints.now D.shape D.tree self.old result self.new }
         ensures reads { DecodesOptionAs tag constraints.now D.shape D.tree self.old result self.new }
     {
-        if !self.comes(tag)? {
+        if !self.next_tag_is(tag)? {
             return Ok(None);
         }
         let value = D::decode_with_tag_and_constraints(self, tag, constraints)?;
@@ -89,13 +89,23 @@ impl<'input> Decoder<'input> {
         &mut self,
         tag: Tag,
     ) -> Result<Option<D>, DecodeError>
-        ensures called { ReadPerhaps (ReadPrefixed D.shape D.tree tag) tag self.old result self.new }
+        ensures exact { DecodesIfPresent (DecodesPrefixBy D.shape D.tree tag) tag self.old result self.new }
         ensures reads { DecodesOption tag (prefix tag D.shape) D.tree self.old result self.new }
     {
-        if !self.comes(tag)? {
+        if !self.next_tag_is(tag)? {
             return Ok(None);
         }
         let value = self.decode_explicit_prefix::<D>(tag)?;
         Ok(Some(value))
+    }
+}
+
+impl<T: Decode> Decode for Option<T> {
+    fn decode_with_tag_and_constraints(
+        decoder: &mut Decoder<'_>,
+        tag: Tag,
+        constraints: &Constraints,
+    ) -> Result<Option<T>, DecodeError> {
+        decoder.decode_optional_with_tag_and_constraints(tag, constraints)
     }
 }

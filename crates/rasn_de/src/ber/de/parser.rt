@@ -3,23 +3,23 @@ ghost use Rattle.std.specs.Prelude.{◌≡◌};
 ghost use Rattle.rasn_types.specs.Framing.{AreOctets};
 ghost use Rattle.rasn_types.specs.Tags.{is_eoc};
 ghost use Rattle.rasn_de.specs.Headers.{number128_at, number256_at, first_octets, is_padded, is_longer, tag_number_at, identifier_by, begins_with_zero, has_spare, length_at, header_by, long_at, contents_at, class_of};
-ghost use Rattle.rasn_de.specs.Views.{Gives, pair, both, identified, header};
+ghost use Rattle.rasn_de.specs.ParserViews.{ParsesAs, pair, both, identified, header};
 
 use crate::ber::de::parser::headers::{Expected, Spelling};
 use rasn_types::ber::Identifier;
 use rasn_types::error::DerDecodeErrorKind;
 use rasn_types::types::{Bounded, Class, Tag};
 
-pub mod bits;
+pub mod bit_string;
+pub mod constructed;
 pub mod headers;
-pub mod nesting;
-pub mod objects;
+pub mod object_identifier;
+pub mod segments;
 pub mod skipping;
-pub mod strings;
 
 /// Why a read is refused, as far as a refusal holds nothing in memory.
 #[derive(Clone, Copy, Debug)]
-pub enum Fault {
+pub enum ParseError {
     Incomplete {
         needed: usize,
     },
@@ -88,8 +88,8 @@ pub struct Value<'input> {
 
 /// A number below 2^32 in base 128, whose last octet is below 128, and what follows. A number of 2^32 or more is the fault `wide`.
 #[tactic(auto, unfolding(crate::specs::Headers::number128_at))]
-pub fn read_number128(wide: Fault, input: &[u8]) -> Result<(u32, &[u8]), Fault>
-    ensures { Gives pair result (number128_at wide 0 input.now) }
+pub fn read_number128(wide: ParseError, input: &[u8]) -> Result<(u32, &[u8]), ParseError>
+    ensures { ParsesAs pair result (number128_at wide 0 input.now) }
 {
     let mut number: u32 = 0;
     let mut rest = input;
@@ -103,7 +103,7 @@ pub fn read_number128(wide: Fault, input: &[u8]) -> Result<(u32, &[u8]), Fault>
         number = number * 128 + u32::from(*octet % 128);
         rest = after;
     }
-    Err(Fault::Incomplete { needed: 1 })
+    Err(ParseError::Incomplete { needed: 1 })
 }
 
 /// The class that the first two bits of an identifier name.
@@ -130,13 +130,13 @@ pub fn is_padded(input: &[u8]) -> bool
 
 /// The tag number of an identifier, from its first octet and from those that follow (X.690 8.1.2.2, 8.1.2.4), and what follows them.
 #[tactic(auto, unfolding(crate::specs::Headers::tag_number_at))]
-fn read_tag_number(first: u8, input: &[u8]) -> Result<(u32, &[u8]), Fault>
-    ensures { Gives pair result (tag_number_at first input.now) }
+fn read_tag_number(first: u8, input: &[u8]) -> Result<(u32, &[u8]), ParseError>
+    ensures { ParsesAs pair result (tag_number_at first input.now) }
 {
     if first % 32 != 31 {
         return Ok((u32::from(first % 32), input));
     }
-    read_number128(Fault::UnsupportedTagNumber, input)
+    read_number128(ParseError::UnsupportedTagNumber, input)
 }
 
 /// Whether a number in the octets behind a first one could be spelled in fewer.
@@ -157,14 +157,14 @@ fn is_end_of_contents(tag: Tag) -> bool
 }
 
 /// The identifier that begins the input, which may have to be the shortest one, and what follows.
-#[tactic(auto, using(crate::proofs::Tools::octets_all), unfolding(crate::specs::Headers::identifier_by))]
+#[tactic(auto, using(crate::proofs::Headers::Results::octets_all), unfolding(crate::specs::Headers::identifier_by))]
 #[inline(always)]
-pub fn read_identifier(shortest: bool, input: &[u8]) -> Result<(Identifier, &[u8]), Fault>
-    ensures exact { Gives identified result (identifier_by shortest input.now) }
+pub fn read_identifier(shortest: bool, input: &[u8]) -> Result<(Identifier, &[u8]), ParseError>
+    ensures exact { ParsesAs identified result (identifier_by shortest input.now) }
     ensures octets { AreOctets input.now }
 {
     match input {
-        [] => Err(Fault::Incomplete { needed: 1 }),
+        [] => Err(ParseError::Incomplete { needed: 1 }),
         [first, more @ ..] => {
             let (number, rest) = read_tag_number(*first, more)?;
             let tag = Tag {
@@ -172,10 +172,10 @@ pub fn read_identifier(shortest: bool, input: &[u8]) -> Result<(Identifier, &[u8
                 value: number,
             };
             if is_end_of_contents(tag) {
-                return Err(Fault::UnexpectedEndOfContents);
+                return Err(ParseError::UnexpectedEndOfContents);
             }
             if shortest && is_longer(*first, more, number) {
-                return Err(Fault::Der(DerDecodeErrorKind::NonMinimalTagNumber));
+                return Err(ParseError::Der(DerDecodeErrorKind::NonMinimalTagNumber));
             }
             Ok((Identifier::from_tag(tag, *first % 64 >= 32), rest))
         }
@@ -184,14 +184,14 @@ pub fn read_identifier(shortest: bool, input: &[u8]) -> Result<(Identifier, &[u8
 
 /// The length that these octets spell, where it is below 2^64.
 #[tactic(auto, unfolding(crate::specs::Headers::number256_at))]
-fn read_number256(octets: &[u8]) -> Result<usize, Fault>
-    ensures { Gives (λ n. n) result (number256_at 0 octets.now) }
+fn read_number256(octets: &[u8]) -> Result<usize, ParseError>
+    ensures { ParsesAs (λ n. n) result (number256_at 0 octets.now) }
 {
     let mut number: usize = 0;
     let mut rest = octets;
     while let [octet, after @ ..] = rest {
         if number >= 0x100_0000_0000_0000 {
-            return Err(Fault::LengthExceedsPlatformWidth);
+            return Err(ParseError::LengthExceedsPlatformWidth);
         }
         number = number * 256 + usize::from(*octet);
         rest = after;
@@ -200,11 +200,11 @@ fn read_number256(octets: &[u8]) -> Result<usize, Fault>
 }
 
 /// So many octets, and what follows them.
-fn take_octets(count: usize, input: &[u8]) -> Result<(&[u8], &[u8]), Fault>
-    ensures { Gives both result (first_octets count input.now) }
+fn take_octets(count: usize, input: &[u8]) -> Result<(&[u8], &[u8]), ParseError>
+    ensures { ParsesAs both result (first_octets count input.now) }
 {
     if input.len() < count {
-        return Err(Fault::Incomplete {
+        return Err(ParseError::Incomplete {
             needed: count - input.len(),
         });
     }
@@ -231,13 +231,17 @@ fn has_spare(octets: &[u8], length: usize) -> bool
 /// A length in so many octets (X.690 8.1.3.5), and what follows.
 #[tactic(auto, unfolding(crate::specs::Headers::long_at))]
 #[inline(always)]
-fn read_long(shortest: bool, count: usize, input: &[u8]) -> Result<(Option<usize>, &[u8]), Fault>
-    ensures { Gives pair result (long_at shortest count input.now) }
+fn read_long(
+    shortest: bool,
+    count: usize,
+    input: &[u8],
+) -> Result<(Option<usize>, &[u8]), ParseError>
+    ensures { ParsesAs pair result (long_at shortest count input.now) }
 {
     let (octets, rest) = take_octets(count, input)?;
     let length = read_number256(octets)?;
     if shortest && has_spare(octets, length) {
-        return Err(Fault::Der(DerDecodeErrorKind::NonMinimalLength));
+        return Err(ParseError::Der(DerDecodeErrorKind::NonMinimalLength));
     }
     Ok((Some(length), rest))
 }
@@ -249,16 +253,16 @@ fn read_length(
     spelling: Spelling,
     is_constructed: bool,
     input: &[u8],
-) -> Result<(Option<usize>, &[u8]), Fault>
-    ensures { Gives pair result (length_at spelling is_constructed input.now) }
+) -> Result<(Option<usize>, &[u8]), ParseError>
+    ensures { ParsesAs pair result (length_at spelling is_constructed input.now) }
 {
     match input {
-        [] => Err(Fault::Incomplete { needed: 1 }),
+        [] => Err(ParseError::Incomplete { needed: 1 }),
         [first, rest @ ..] => match *first {
             0..=0x7F => Ok((Some(usize::from(*first)), rest)),
             0x80 if is_constructed && spelling.indefinite => Ok((None, rest)),
-            0x80 => Err(Fault::IndefiniteLengthNotAllowed),
-            0xFF => Err(Fault::ReservedLengthOctet),
+            0x80 => Err(ParseError::IndefiniteLengthNotAllowed),
+            0xFF => Err(ParseError::ReservedLengthOctet),
             _ => read_long(spelling.shortest, usize::from(*first - 128), rest),
         },
     }
@@ -269,8 +273,8 @@ fn read_contents(
     identifier: Identifier,
     length: Option<usize>,
     input: &[u8],
-) -> Result<(Value<'_>, &[u8]), Fault>
-    ensures { Gives header result (contents_at identifier.tag identifier.bit length input.now) }
+) -> Result<(Value<'_>, &[u8]), ParseError>
+    ensures { ParsesAs header result (contents_at identifier.tag identifier.bit length input.now) }
 {
     match length {
         None => Ok((
@@ -302,8 +306,8 @@ pub fn read_value(
     spelling: Spelling,
     expected: Expected,
     input: &[u8],
-) -> Result<(Value<'_>, &[u8]), Fault>
-    ensures exact { Gives header result (header_by spelling expected input.now) }
+) -> Result<(Value<'_>, &[u8]), ParseError>
+    ensures exact { ParsesAs header result (header_by spelling expected input.now) }
     ensures octets { AreOctets input.now }
 {
     let (identifier, rest) = match read_identifier(spelling.shortest, input) {

@@ -1,13 +1,13 @@
 //! Explicit prefixes (X.690 8.14.2).
 ghost use Rattle.rasn_types.specs.Shapes.{prefix};
 ghost use Rattle.rasn_de.specs.Decodes.{Decodes};
-ghost use Rattle.rasn_de.specs.Prefixes.{ReadPrefixed};
+ghost use Rattle.rasn_de.specs.Prefix.{DecodesPrefixBy};
 
 use crate::ber::de::Decoder;
-use crate::ber::de::nesting::ConstructedHeader;
+use crate::ber::de::constructed::ConstructedHeader;
 use crate::de::Decode;
 use rasn_types::error::DecodeError;
-use rasn_types::types::Tag;
+use rasn_types::types::{AsnType, Constraints, Explicit, Implicit, Tag};
 
 impl<'input> Decoder<'input> {
     /// A value under a tag in front of its own (X.690 8.14.2; X.680 31.2.7): it stands alone in the contents of a value of the tag,
@@ -18,7 +18,7 @@ impl<'input> Decoder<'input> {
     /// contents, or of an indefinite length the header; end-of-contents octets that are missing (`Incomplete`, `MissingEndOfContents`), which take
     /// what was read inside too.
     pub fn decode_explicit_prefix<D: Decode>(&mut self, tag: Tag) -> Result<D, DecodeError>
-        ensures called { ReadPrefixed D.shape D.tree tag self.old result self.new }
+        ensures exact { DecodesPrefixBy D.shape D.tree tag self.old result self.new }
         ensures reads { Decodes (prefix tag D.shape) D.tree self.old result self.new }
     {
         self.inside(
@@ -27,5 +27,27 @@ impl<'input> Decoder<'input> {
                 ensures { Decodes D.shape D.tree inner.old result inner.new }
             { D::decode(inner) },
         )
+    }
+}
+
+impl<G: AsnType, T: Decode> Decode for Implicit<G, T> {
+    fn decode_with_tag_and_constraints(
+        decoder: &mut Decoder<'_>,
+        tag: Tag,
+        constraints: &Constraints,
+    ) -> Result<Implicit<G, T>, DecodeError> {
+        let value = T::decode_with_tag_and_constraints(decoder, tag, constraints)?;
+        Ok(Implicit::new(value))
+    }
+}
+
+impl<G: AsnType, T: Decode> Decode for Explicit<G, T> {
+    fn decode_with_tag_and_constraints(
+        decoder: &mut Decoder<'_>,
+        tag: Tag,
+        _constraints: &Constraints,
+    ) -> Result<Explicit<G, T>, DecodeError> {
+        let value = decoder.decode_explicit_prefix::<T>(tag)?;
+        Ok(Explicit::new(value))
     }
 }

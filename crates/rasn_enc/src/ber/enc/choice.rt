@@ -1,9 +1,9 @@
 //! CHOICE (X.690 8.13).
 ghost use Rattle.std.specs.Prelude.{◌≡◌, IfErr, OnOk, OnErr};
 ghost use Rattle.std.specs.Fn.{FnOnceTakesAtMut};
-ghost use Rattle.rasn_enc.specs.Writing.{WritesBehind, Refuses, Ran};
+ghost use Rattle.rasn_enc.specs.Closures.{OnlyAppends, MayFail, MaySucceed};
 
-use super::Encoder;
+use crate::ber::enc::Encoder;
 use rasn_types::error::EncodeError;
 use rasn_types::types::{AsnType, Constraints, Identifier, Tag};
 
@@ -21,10 +21,10 @@ impl Encoder {
         _identifier: Identifier,
     ) -> Result<(), EncodeError>
         requires callable { FnOnceTakesAtMut F.FnOnce alternative self.old }
-        requires keeps { WritesBehind F.FnOnce alternative self.old }
-        ensures ok { OnOk result (Ran F.FnOnce alternative self.old self.new) }
+        requires keeps { OnlyAppends F.FnOnce alternative self.old }
+        ensures ok { OnOk result (MaySucceed F.FnOnce alternative self.old self.new) }
         ensures err { OnErr result (self.new ≡ self.old) }
-        ensures refused { IfErr result (Refuses F.FnOnce alternative self.old) }
+        ensures refused { IfErr result (MayFail F.FnOnce alternative self.old) }
     {
         let _ = self.attempt(alternative)?;
         Ok(())

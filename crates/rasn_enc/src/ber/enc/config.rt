@@ -11,7 +11,7 @@ pub struct EncoderOptions {
 }
 
 impl Model for EncoderOptions {
-    ghost use Rattle.rasn_types.specs.declared.types.rules.Codec.{Codec};
+    ghost use Rattle.rasn_types.specs.declared.types.codec.Codec.{Codec};
 
     ghost Value = { Codec };
 

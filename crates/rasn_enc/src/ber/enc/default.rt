@@ -1,9 +1,9 @@
 //! Values that have a default where they are left out (X.680 25.8).
 ghost use Rattle.std.specs.Prelude.{◌≡◌, IfErr, OnOk, OnErr};
 ghost use Rattle.rasn_types.specs.Shapes.{tagged_as};
-ghost use Rattle.rasn_enc.specs.Defaults.{WroteUnless, RefusesUnless, WritesDefault};
+ghost use Rattle.rasn_enc.specs.Default.{AppendsUnlessDefault, FailsUnlessDefault, EncodesDefault};
 
-use super::{Encoder, out_of_memory};
+use crate::ber::enc::{Encoder, out_of_memory};
 use crate::enc::Encode;
 use rasn_types::error::EncodeError;
 use rasn_types::types::{Constraints, Identifier, LawfulEq, Tag};
@@ -21,10 +21,10 @@ impl Encoder {
         identifier: Identifier,
     ) -> Result<(), EncodeError>
         requires { F.IsAlwaysCallable default }
-        ensures ok { OnOk result (WroteUnless E.eq (F.post default) E.shape E.tree value.now self.old self.new) }
+        ensures ok { OnOk result (AppendsUnlessDefault E.eq (F.post default) E.shape E.tree value.now self.old self.new) }
         ensures err { OnErr result (self.new ≡ self.old) }
-        ensures refused { IfErr result (RefusesUnless E.eq (F.post default) E.shape E.tree value.now self.old) }
-        ensures writes { WritesDefault E.eq (F.post default) E.shape E.tree value.now self.old result self.new }
+        ensures refused { IfErr result (FailsUnlessDefault E.eq (F.post default) E.shape E.tree value.now self.old) }
+        ensures writes { EncodesDefault E.eq (F.post default) E.shape E.tree value.now self.old result self.new }
     {
         self.encode_default_with_tag_and_constraints(
             E::TAG,
@@ -48,12 +48,12 @@ impl Encoder {
     ) -> Result<(), EncodeError>
         requires { F.IsAlwaysCallable default }
         ensures ok { let shape = tagged_as tag E.CONSTRAINTS E.shape in
-            OnOk result (WroteUnless E.eq (F.post default) shape E.tree value.now self.old self.new) }
+            OnOk result (AppendsUnlessDefault E.eq (F.post default) shape E.tree value.now self.old self.new) }
         ensures err { OnErr result (self.new ≡ self.old) }
         ensures refused { let shape = tagged_as tag E.CONSTRAINTS E.shape in
-            IfErr result (RefusesUnless E.eq (F.post default) shape E.tree value.now self.old) }
+            IfErr result (FailsUnlessDefault E.eq (F.post default) shape E.tree value.now self.old) }
         ensures writes { let shape = tagged_as tag E.CONSTRAINTS E.shape in
-            WritesDefault E.eq (F.post default) shape E.tree value.now self.old result self.new }
+            EncodesDefault E.eq (F.post default) shape E.tree value.now self.old result self.new }
     {
         self.encode_default_with_tag_and_constraints(
             tag,
@@ -80,12 +80,12 @@ impl Encoder {
     ) -> Result<(), EncodeError>
         requires { F.IsAlwaysCallable default }
         ensures ok { let shape = tagged_as E.TAG constraints.now E.shape in
-            OnOk result (WroteUnless E.eq (F.post default) shape E.tree value.now self.old self.new) }
+            OnOk result (AppendsUnlessDefault E.eq (F.post default) shape E.tree value.now self.old self.new) }
         ensures err { OnErr result (self.new ≡ self.old) }
         ensures refused { let shape = tagged_as E.TAG constraints.now E.shape in
-            IfErr result (RefusesUnless E.eq (F.post default) shape E.tree value.now self.old) }
+            IfErr result (FailsUnlessDefault E.eq (F.post default) shape E.tree value.now self.old) }
         ensures writes { let shape = tagged_as E.TAG constraints.now E.shape in
-            WritesDefault E.eq (F.post default) shape E.tree value.now self.old result self.new }
+            EncodesDefault E.eq (F.post default) shape E.tree value.now self.old result self.new }
     {
         self.encode_default_with_tag_and_constraints(
             E::TAG,
@@ -113,12 +113,12 @@ impl Encoder {
     ) -> Result<(), EncodeError>
         requires { F.IsAlwaysCallable default }
         ensures ok { let shape = tagged_as tag constraints.now E.shape in
-            OnOk result (WroteUnless E.eq (F.post default) shape E.tree value.now self.old self.new) }
+            OnOk result (AppendsUnlessDefault E.eq (F.post default) shape E.tree value.now self.old self.new) }
         ensures err { OnErr result (self.new ≡ self.old) }
         ensures refused { let shape = tagged_as tag constraints.now E.shape in
-            IfErr result (RefusesUnless E.eq (F.post default) shape E.tree value.now self.old) }
+            IfErr result (FailsUnlessDefault E.eq (F.post default) shape E.tree value.now self.old) }
         ensures writes { let shape = tagged_as tag constraints.now E.shape in
-            WritesDefault E.eq (F.post default) shape E.tree value.now self.old result self.new }
+            EncodesDefault E.eq (F.post default) shape E.tree value.now self.old result self.new }
     {
         match default() {
             Ok(default) if *value == default => Ok(()),

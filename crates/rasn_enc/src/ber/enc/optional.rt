@@ -1,9 +1,9 @@
 //! Values that may be left out (X.680 25.5 to 25.8).
 ghost use Rattle.std.specs.Prelude.{◌≡◌, Ok, IfErr, OnOk, OnErr};
 ghost use Rattle.rasn_types.specs.Shapes.{tagged_as};
-ghost use Rattle.rasn_enc.specs.Wrote.{Wrote, MayRefuse};
+ghost use Rattle.rasn_enc.specs.Encoding.{AppendsEncoding, EncodeFails};
 
-use super::Encoder;
+use crate::ber::enc::Encoder;
 use crate::enc::Encode;
 use rasn_types::error::EncodeError;
 use rasn_types::types::{Constraints, Identifier, Tag};
@@ -18,9 +18,9 @@ impl Encoder {
         value: &E,
         _identifier: Identifier,
     ) -> Result<(), EncodeError>
-        ensures ok { OnOk result (Wrote E.shape (E.tree value.now) self.old self.new) }
+        ensures ok { OnOk result (AppendsEncoding E.shape (E.tree value.now) self.old self.new) }
         ensures err { OnErr result (self.new ≡ self.old) }
-        ensures refused { IfErr result (MayRefuse E.shape (E.tree value.now) self.old) }
+        ensures refused { IfErr result (EncodeFails E.shape (E.tree value.now) self.old) }
     {
         value.encode(self)
     }
@@ -35,9 +35,9 @@ impl Encoder {
         value: &E,
         identifier: Identifier,
     ) -> Result<(), EncodeError>
-        ensures ok { OnOk result (Wrote (tagged_as tag E.CONSTRAINTS E.shape) (E.tree value.now) self.old self.new) }
+        ensures ok { OnOk result (AppendsEncoding (tagged_as tag E.CONSTRAINTS E.shape) (E.tree value.now) self.old self.new) }
         ensures err { OnErr result (self.new ≡ self.old) }
-        ensures refused { IfErr result (MayRefuse (tagged_as tag E.CONSTRAINTS E.shape) (E.tree value.now) self.old) }
+        ensures refused { IfErr result (EncodeFails (tagged_as tag E.CONSTRAINTS E.shape) (E.tree value.now) self.old) }
     {
         value.encode_with_tag(self, tag, identifier)
     }
@@ -53,9 +53,9 @@ impl Encoder {
         value: &E,
         identifier: Identifier,
     ) -> Result<(), EncodeError>
-        ensures ok { OnOk result (Wrote (tagged_as tag constraints.now E.shape) (E.tree value.now) self.old self.new) }
+        ensures ok { OnOk result (AppendsEncoding (tagged_as tag constraints.now E.shape) (E.tree value.now) self.old self.new) }
         ensures err { OnErr result (self.new ≡ self.old) }
-        ensures refused { IfErr result (MayRefuse (tagged_as tag constraints.now E.shape) (E.tree value.now) self.old) }
+        ensures refused { IfErr result (EncodeFails (tagged_as tag constraints.now E.shape) (E.tree value.now) self.old) }
     {
         value.encode_with_tag_and_constraints(self, tag, constraints, identifier)
     }
@@ -78,5 +78,29 @@ impl Encoder {
         ensures same { self.new ≡ self.old }
     {
         Ok(())
+    }
+}
+
+impl<T: Encode> Encode for Option<T> {
+    fn encode_with_tag_and_constraints(
+        &self,
+        encoder: &mut Encoder,
+        tag: Tag,
+        constraints: &Constraints,
+        identifier: Identifier,
+    ) -> Result<(), EncodeError> {
+        match self {
+            Some(value) if value.is_present() => {
+                value.encode_with_tag_and_constraints(encoder, tag, constraints, identifier)
+            }
+            _ => Ok(()),
+        }
+    }
+
+    fn is_present(&self) -> bool {
+        match self {
+            Some(value) => value.is_present(),
+            None => false,
+        }
     }
 }

@@ -1,12 +1,12 @@
 //! Explicit prefixes (X.690 8.14.2).
 ghost use Rattle.std.specs.Prelude.{◌≡◌, IfErr, OnOk, OnErr};
 ghost use Rattle.rasn_types.specs.Shapes.{prefix, optional};
-ghost use Rattle.rasn_enc.specs.Wrote.{Wrote, WrotePart, MayRefuse, MayRefusePart};
+ghost use Rattle.rasn_enc.specs.Encoding.{AppendsEncoding, AppendsPart, EncodeFails, EncodePartFails};
 
-use super::Encoder;
+use crate::ber::enc::Encoder;
 use crate::enc::Encode;
 use rasn_types::error::EncodeError;
-use rasn_types::types::{Identifier, Tag};
+use rasn_types::types::{AsnType, Constraints, Explicit, Identifier, Implicit, Tag};
 
 impl Encoder {
     /// Writes a value behind a prefix of this tag, in front of its own (X.690 8.14.2; X.680 31.2.7); nothing where it isn't present.
@@ -19,25 +19,66 @@ impl Encoder {
         value: &V,
         _identifier: Identifier,
     ) -> Result<(), EncodeError>
-        ensures ok { OnOk result (WrotePart optional (prefix tag V.shape) (V.tree value.now) self.old self.new) }
+        ensures ok { OnOk result (AppendsPart optional (prefix tag V.shape) (V.tree value.now) self.old self.new) }
         ensures err { OnErr result (self.new ≡ self.old) }
-        ensures refused { IfErr result (MayRefusePart optional (prefix tag V.shape) (V.tree value.now) self.old) }
+        ensures refused { IfErr result (EncodePartFails optional (prefix tag V.shape) (V.tree value.now) self.old) }
     {
         if value.is_present() {
-            self.put_prefixed(tag, value)
+            self.append_prefixed(tag, value)
         } else {
             Ok(())
         }
     }
 
     /// Writes a value under a prefix, which is written where the value isn't present too.
-    pub(crate) fn put_prefixed<V: Encode>(&mut self, tag: Tag, value: &V) -> Result<(), EncodeError>
-        ensures ok { OnOk result (Wrote (prefix tag V.shape) (V.tree value.now) self.old self.new) }
+    pub(crate) fn append_prefixed<V: Encode>(
+        &mut self,
+        tag: Tag,
+        value: &V,
+    ) -> Result<(), EncodeError>
+        ensures ok { OnOk result (AppendsEncoding (prefix tag V.shape) (V.tree value.now) self.old self.new) }
         ensures err { OnErr result (self.new ≡ self.old) }
-        ensures refused { IfErr result (MayRefuse (prefix tag V.shape) (V.tree value.now) self.old) }
+        ensures refused { IfErr result (EncodeFails (prefix tag V.shape) (V.tree value.now) self.old) }
     {
         self.enclose(tag, false, |encoder: &mut Encoder| {
             value.encode(encoder)
         })
+    }
+}
+
+impl<G: AsnType, T: Encode> Encode for Implicit<G, T> {
+    fn encode_with_tag_and_constraints(
+        &self,
+        encoder: &mut Encoder,
+        tag: Tag,
+        constraints: &Constraints,
+        identifier: Identifier,
+    ) -> Result<(), EncodeError> {
+        let value: &T = self;
+        value.encode_with_tag_and_constraints(encoder, tag, constraints, identifier)
+    }
+
+    fn is_present(&self) -> bool {
+        let value: &T = self;
+        value.is_present()
+    }
+}
+
+/// The prefix is written where the value is absent too, so that it is read again.
+impl<G: AsnType, T: Encode> Encode for Explicit<G, T> {
+    fn encode_with_tag_and_constraints(
+        &self,
+        encoder: &mut Encoder,
+        tag: Tag,
+        _constraints: &Constraints,
+        _identifier: Identifier,
+    ) -> Result<(), EncodeError> {
+        let value: &T = self;
+        encoder.append_prefixed(tag, value)
+    }
+
+    fn is_present(&self) -> bool {
+        let value: &T = self;
+        value.is_present()
     }
 }

@@ -3,12 +3,12 @@ ghost use Rattle.std.specs.Prelude.{◌≡◌, ◌<◌, ◌≤◌, length, Match
 ghost use Rattle.rasn_types.specs.Bytes.{IsCer, WritesOctets};
 ghost use Rattle.rasn_types.specs.Tags.{in_universal};
 ghost use Rattle.rasn_enc.specs.View.{LeavesOthers};
-ghost use Rattle.rasn_enc.specs.Primitives.{TellsOutOfMemory};
-ghost use Rattle.rasn_enc.specs.Refusals.{RefusesString};
-ghost use Rattle.rasn_enc.specs.Segments.{WroteSegments, PutsSegments};
-ghost use Rattle.rasn_enc.specs.Texts.{PutsText};
+ghost use Rattle.rasn_enc.specs.Primitive.{IsAllocError};
+ghost use Rattle.rasn_enc.specs.Errors.{FailsAtString};
+ghost use Rattle.rasn_enc.specs.Segments.{AppendsSegments, AppendsSegmented};
+ghost use Rattle.rasn_enc.specs.CharacterString.{AppendsText};
 
-use super::Encoder;
+use crate::ber::enc::Encoder;
 use rasn_types::ber::rules::{EncodingRules, MAX_SEGMENT_LENGTH};
 use rasn_types::error::EncodeError;
 use rasn_types::types::{Constraints, Tag};
@@ -25,13 +25,13 @@ impl Encoder {
         octets: &[u8],
         size: usize,
     ) -> Result<(), EncodeError>
-        ensures ok { OnOk result (PutsText tag constraints.now octets.now size self.old self.new) }
+        ensures ok { OnOk result (AppendsText tag constraints.now octets.now size self.old self.new) }
         ensures err { OnErr result (self.new ≡ self.old) }
-        ensures refused { IfErr result (RefusesString constraints.now size self.old.rule) }
+        ensures refused { IfErr result (FailsAtString constraints.now size self.old.rule) }
     {
         self.check_size(constraints, size)?;
         if self.is_cut(octets.len(), SEGMENT) {
-            return self.put_segments(tag, octets);
+            return self.append_segments(tag, octets);
         }
         self.leaf(tag, octets)
     }
@@ -44,11 +44,11 @@ impl Encoder {
     }
 
     /// Writes octets in segments, as one constructed value.
-    fn put_segments(&mut self, tag: Tag, value: &[u8]) -> Result<(), EncodeError>
+    fn append_segments(&mut self, tag: Tag, value: &[u8]) -> Result<(), EncodeError>
         requires { SEGMENT < length value.now }
-        ensures ok { OnOk result (PutsSegments WritesOctets SEGMENT (in_universal 4) tag value.now self.old self.new) }
+        ensures ok { OnOk result (AppendsSegmented WritesOctets SEGMENT (in_universal 4) tag value.now self.old self.new) }
         ensures err { OnErr result (self.new ≡ self.old) }
-        ensures memory { IfErr result (TellsOutOfMemory self.old.rule) }
+        ensures memory { IfErr result (IsAllocError self.old.rule) }
     {
         self.enclose(tag, false, |encoder: &mut Encoder| {
             encoder.write_segments(value)
@@ -58,8 +58,8 @@ impl Encoder {
     fn write_segments(&mut self, value: &[u8]) -> Result<(), EncodeError>
         requires { 0 < length value.now }
         ensures keeps { LeavesOthers self.old self.new }
-        ensures ok { OnOk result (WroteSegments WritesOctets SEGMENT (in_universal 4) value.now self.old self.new) }
-        ensures memory { IfErr result (TellsOutOfMemory self.old.rule) }
+        ensures ok { OnOk result (AppendsSegments WritesOctets SEGMENT (in_universal 4) value.now self.old self.new) }
+        ensures memory { IfErr result (IsAllocError self.old.rule) }
     {
         let mut rest = value;
         while rest.len() > SEGMENT {

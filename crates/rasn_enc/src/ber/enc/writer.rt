@@ -4,33 +4,42 @@
 //! aren't in it: marks tell what stands between the gathered octets. They are put in once, from the back, when the output is asked for.
 ghost use Rattle.std.specs.Prelude.{ℕ, List, ◌≡◌, ◌<◌, ◌≤◌, ◌-◌, [], ◌⊎◌, length, MatchBool, take, drop, IfOk, IfErr, OnOk, OnErr, false};
 ghost use Rattle.std.specs.Fn.{FnOnceTakesAtMut};
-ghost use Rattle.rasn_types.specs.Truth.{Decides};
-ghost use Rattle.rasn_types.specs.Bytes.{Prim, Cons, DoNotFall};
+ghost use Rattle.rasn_types.specs.Truth.{IsWhether};
+ghost use Rattle.rasn_types.specs.Bytes.{PrimitiveEncoding, ConstructedEncoding, AreAscending};
 ghost use Rattle.rasn_types.specs.declared.types.tag.Tag.{Tag};
 ghost use Rattle.rasn_types.specs.Tags.{IsTagBelow};
 ghost use Rattle.rasn_enc.specs.View.{View, started, opened, appended, IsBelow};
-ghost use Rattle.rasn_enc.specs.Lists.{IsMarked};
-ghost use Rattle.rasn_enc.specs.Gathered.{kept_of};
-ghost use Rattle.rasn_enc.specs.Primitives.{Appends, TellsOutOfMemory};
+ghost use Rattle.rasn_enc.specs.Buffer.Lists.{IsMarked};
+ghost use Rattle.rasn_enc.specs.Buffer.OpenValues.{kept_of};
+ghost use Rattle.rasn_enc.specs.Primitive.{Appends, IsAllocError};
 ghost use Rattle.rasn_enc.specs.Order.{octets_less, FallsBetween};
-ghost use Rattle.rasn_enc.specs.declared.ber.enc.filled.Unfilled.TheVariants.{NoMemory};
-ghost use Rattle.rasn_enc.specs.Filled.{FillsBehind, RefusesToFill, AppendsFilled};
+ghost use Rattle.rasn_enc.specs.declared.ber.enc.writer.filled.FillError.TheVariants.{NoMemory};
+ghost use Rattle.rasn_enc.specs.Buffer.Filled.{OnlyAppendsOctets, MayFailToFill, AppendsFilled};
 
-mod bare;
-
-use super::cursors::{place, rendered_before};
-use super::cutting::cut;
-use super::filled::Unfilled;
-use super::gathering::{gather, gather_filled, surround};
-use super::kept_tags::{cut_tags, tags_fall};
-use super::marks::{Head, Mark};
-use super::out_of_memory;
-use super::rendering::rendered_from;
+use crate::ber::enc::out_of_memory;
+use crate::ber::enc::writer::cursors::{place, rendered_before};
+use crate::ber::enc::writer::cutting::cut;
+use crate::ber::enc::writer::deferred_headers::{DeferredHeader, HeaderForm};
+use crate::ber::enc::writer::filled::FillError;
+use crate::ber::enc::writer::gathering::{gather, gather_filled, surround};
+use crate::ber::enc::writer::kept_tags::{cut_tags, tags_out_of_order};
+use crate::ber::enc::writer::rendering::rendered_from;
 use rasn_types::error::EncodeError;
 use rasn_types::types::{Codec, Tag};
 use std::alloc::Global;
 use std::marker::Model;
 use std::mem;
+
+pub(super) mod base_128;
+pub(super) mod cursors;
+pub(super) mod cutting;
+pub(super) mod deferred_headers;
+pub(super) mod filled;
+pub(super) mod gathering;
+pub(super) mod headers;
+pub(super) mod kept_tags;
+pub(super) mod rendering;
+mod untagged;
 
 /// The octets that an encoder's output has room for at first.
 const INITIAL_CAPACITY: usize = 1024;
@@ -60,7 +69,7 @@ pub struct Writer {
     alloc: Global,
     rule: Codec,
     gathered: Vec<u8>,
-    marks: Vec<Mark>,
+    marks: Vec<DeferredHeader>,
     /// Where the last list begins in the gathered octets.
     start: usize,
     /// The number of the first mark of the last list.
@@ -78,9 +87,9 @@ impl Model for Writer {
 
     ghost Value = { View };
 
-    ghost use Rattle.rasn_enc.specs.Lists.{tags_of};
-    ghost use Rattle.rasn_enc.specs.Gathered.{frame_in, Chain};
-    ghost use Rattle.rasn_enc.specs.Cuts.{list_from, Sound};
+    ghost use Rattle.rasn_enc.specs.Buffer.Lists.{tags_of};
+    ghost use Rattle.rasn_enc.specs.Buffer.OpenValues.{frame_in, Chain};
+    ghost use Rattle.rasn_enc.specs.Buffer.Cuts.{list_from, Sound};
 
     ghost view = { λ e. record { rule = e.rule; below = map (frame_in e.gathered.items e.marks.items) e.interrupted.items; last = record { octets = list_from e.gathered.items e.marks.items e.start e.first; tags = tags_of e.tags } } };
 
@@ -96,7 +105,7 @@ impl Writer {
         keeps_tags: bool,
     ) -> Result<Writer, EncodeError>
         ensures ok { IfOk result (λ w. w ≡ started rule keeps_tags) }
-        ensures refused { IfErr result (TellsOutOfMemory rule) }
+        ensures refused { IfErr result (IsAllocError rule) }
     {
         let mut gathered = buffer;
         gathered.clear();
@@ -136,7 +145,7 @@ impl Writer {
     /// The octets of the last list.
     pub fn output(self) -> Result<Vec<u8>, EncodeError>
         ensures ok { IfOk result (λ v. v.items ≡ self.last.octets) }
-        ensures refused { IfErr result (TellsOutOfMemory self.rule) }
+        ensures refused { IfErr result (IsAllocError self.rule) }
     {
         let Writer {
             alloc: _,
@@ -159,7 +168,7 @@ impl Writer {
     pub fn begin(&mut self, keeps_tags: bool) -> Result<(), EncodeError>
         ensures ok { OnOk result (self.new ≡ opened self.old keeps_tags) }
         ensures err { OnErr result (self.new ≡ self.old) }
-        ensures memory { IfErr result (TellsOutOfMemory self.old.rule) }
+        ensures memory { IfErr result (IsAllocError self.old.rule) }
     {
         let end = self.gathered.len();
         let last = self.marks.len();
@@ -169,9 +178,9 @@ impl Writer {
         } else {
             None
         };
-        let mark = Mark {
+        let mark = DeferredHeader {
             at: end,
-            head: Head::Unfinished,
+            head: HeaderForm::Unfinished,
         };
         if self.marks.push(mark).is_err() {
             return Err(out_of_memory(rule));
@@ -232,9 +241,9 @@ impl Writer {
     /// Closes the value that was opened last: it stands behind the list below.
     pub fn finish(&mut self, tag: Tag) -> Result<(), EncodeError>
         requires { 0 < length self.old.below }
-        ensures ok { OnOk result ((v : View) → IsBelow v self.old → Appends (Cons v.rule tag self.old.last.octets) tag v self.new) }
+        ensures ok { OnOk result ((v : View) → IsBelow v self.old → Appends (ConstructedEncoding v.rule tag self.old.last.octets) tag v self.new) }
         ensures err { OnErr result ((v : View) → IsBelow v self.old → self.new ≡ v) }
-        ensures memory { IfErr result (TellsOutOfMemory self.old.rule) }
+        ensures memory { IfErr result (IsAllocError self.old.rule) }
     {
         let rule = self.rule;
         let inner = self.measured;
@@ -276,9 +285,9 @@ impl Writer {
 
     /// Puts a primitive value behind the last list.
     pub fn leaf(&mut self, tag: Tag, contents: &[u8]) -> Result<(), EncodeError>
-        ensures ok { OnOk result (Appends (Prim tag contents.now) tag self.old self.new) }
+        ensures ok { OnOk result (Appends (PrimitiveEncoding tag contents.now) tag self.old self.new) }
         ensures err { OnErr result (self.new ≡ self.old) }
-        ensures memory { IfErr result (TellsOutOfMemory self.old.rule) }
+        ensures memory { IfErr result (IsAllocError self.old.rule) }
     {
         match gather(
             &mut self.gathered,
@@ -296,16 +305,16 @@ impl Writer {
     }
 
     /// Puts a primitive value behind the last list; `contents` writes its contents in place.
-    pub fn leaf_with<F: FnOnce(&mut Vec<u8>) -> Result<(), Unfilled>>(
+    pub fn leaf_with<F: FnOnce(&mut Vec<u8>) -> Result<(), FillError>>(
         &mut self,
         tag: Tag,
         contents: F,
-    ) -> Result<(), Unfilled>
+    ) -> Result<(), FillError>
         requires callable { (v : _) → FnOnceTakesAtMut F.FnOnce contents v }
-        requires behind { FillsBehind F.FnOnce contents }
+        requires behind { OnlyAppendsOctets F.FnOnce contents }
         ensures ok { OnOk result (AppendsFilled F.FnOnce contents tag self.old self.new) }
         ensures err { OnErr result (self.new ≡ self.old) }
-        ensures refused { IfErr result (λ e. (e ≡ NoMemory) ⊎ RefusesToFill F.FnOnce contents e) }
+        ensures refused { IfErr result (λ e. (e ≡ NoMemory) ⊎ MayFailToFill F.FnOnce contents e) }
     {
         match gather_filled(
             &mut self.gathered,
@@ -359,10 +368,10 @@ impl Writer {
     }
 
     /// Whether the octets of the last list from `middle` on are less than those from `from` to it (X.690 11.6).
-    pub fn neighbours_fall(&self, from: usize, middle: usize) -> bool
+    pub fn neighbours_out_of_order(&self, from: usize, middle: usize) -> bool
         requires order { from ≤ middle }
         requires within { middle ≤ length self.now.last.octets }
-        ensures { Decides result (FallsBetween from middle self.now.last.octets) }
+        ensures { IsWhether result (FallsBetween from middle self.now.last.octets) }
     {
         self.is_less_at(from, middle)
     }
@@ -379,11 +388,11 @@ impl Writer {
     }
 
     /// Whether the tags that the last list keeps fall, each compared with the one before it (X.690 9.3).
-    pub fn kept_tags_fall(&self) -> bool
-        ensures { MatchBool result (DoNotFall IsTagBelow (kept_of self.now.last.tags) → ⊥) (DoNotFall IsTagBelow (kept_of self.now.last.tags)) }
+    pub fn kept_tags_out_of_order(&self) -> bool
+        ensures { MatchBool result (AreAscending IsTagBelow (kept_of self.now.last.tags) → ⊥) (AreAscending IsTagBelow (kept_of self.now.last.tags)) }
     {
         match &self.tags {
-            Some(tags) => tags_fall(tags),
+            Some(tags) => tags_out_of_order(tags),
             None => false,
         }
     }

@@ -1,9 +1,9 @@
 //! Texts of times read.
 ghost use Rattle.std.specs.Prelude.{◌≡◌, ◌<◌, ◌<ℤ◌, ◌≤ℤ◌, pos, negsuc, IsTrue, ◌↔◌};
 ghost use Rattle.rasn_types.specs.Calendar.{Day, IsDay, IsMoment, Stamp};
-ghost use Rattle.rasn_types.specs.Makes.{Makes, Relates};
-ghost use Rattle.rasn_types.specs.Spelling.{IsZone, billionths, minute_of, second_of, nanosecond_of, in_utc, offset_of};
-ghost use Rattle.rasn_types.specs.Times.{shown, stamp_of, century, GeneralUtc, CanonicalUtc, GeneralGeneralized, CanonicalGeneralized, StrictGeneralized, IsShortFraction, DateText};
+ghost use Rattle.rasn_types.specs.Options.{IsSomeExactlyIf, IsSomeRelated};
+ghost use Rattle.rasn_types.specs.TimeSpelling.{IsZone, billionths, minute_of, second_of, nanosecond_of, in_utc, offset_of};
+ghost use Rattle.rasn_types.specs.Time.{shown, stamp_of, century, GeneralUtc, CanonicalUtc, GeneralGeneralized, CanonicalGeneralized, StrictGeneralized, IsShortFraction, DateText};
 
 use crate::ber::time::text::{Clock, Fields, Zone, date_parts, long_parts, short_parts};
 use crate::types::{Date, GeneralizedTime, UtcTime};
@@ -89,7 +89,7 @@ fn offset(zone: Zone) -> i16
 /// A day of a year that isn't negative.
 #[inline(always)]
 fn day_of(year: u16, month: u8, day: u8) -> Option<Date>
-    ensures { let d : Day = record { year = pos year; month = month; day = day } in Makes result (IsDay d) d }
+    ensures { let d : Day = record { year = pos year; month = month; day = day } in IsSomeExactlyIf result (IsDay d) d }
 {
     Date::new(i32::from(year), month, day)
 }
@@ -100,7 +100,7 @@ fn stamp(year: u16, fields: &Fields) -> Option<GeneralizedTime>
     requires year { year < 10000 }
     requires zone { IsZone fields.now.zone }
     requires below { billionths fields.now.fraction < 1000000000 }
-    ensures { Makes result (IsMoment (shown (pos year) fields.now)) (stamp_of (pos year) fields.now) }
+    ensures { IsSomeExactlyIf result (IsMoment (shown (pos year) fields.now)) (stamp_of (pos year) fields.now) }
 {
     let date = day_of(year, fields.month, fields.day)?;
     let billionths = billionths_of(fields.fraction);
@@ -114,7 +114,7 @@ fn stamp(year: u16, fields: &Fields) -> Option<GeneralizedTime>
 /// The GeneralizedTime of a text in a general form (X.680 46), as BER reads it. `None` where the text has no such form, or where its day or its
 /// time of day isn't there.
 pub fn parse_generalized_time(text: &[u8]) -> Option<GeneralizedTime>
-    ensures { Relates result (GeneralGeneralized text.now) }
+    ensures { IsSomeRelated result (GeneralGeneralized text.now) }
 {
     let (year, fields) = long_parts(text)?;
     stamp(year, &fields)
@@ -122,7 +122,7 @@ pub fn parse_generalized_time(text: &[u8]) -> Option<GeneralizedTime>
 
 /// The GeneralizedTime of a text in the canonical form (X.690 11.7), as CER reads it: with seconds, a point before a fraction, and `Z`.
 pub fn parse_canonical_generalized_time(text: &[u8]) -> Option<GeneralizedTime>
-    ensures { Relates result (CanonicalGeneralized text.now) }
+    ensures { IsSomeRelated result (CanonicalGeneralized text.now) }
 {
     let (year, parts) = long_parts(text)?;
     if !parts.is_canonical() {
@@ -144,7 +144,7 @@ fn is_shortest(text: &[u8]) -> bool
 /// The GeneralizedTime of a text in the canonical form, as DER reads it: a fraction has at most nine digits, the last of which isn't 0
 /// (X.690 11.7).
 pub fn parse_strict_generalized_time(text: &[u8]) -> Option<GeneralizedTime>
-    ensures { Relates result (StrictGeneralized text.now) }
+    ensures { IsSomeRelated result (StrictGeneralized text.now) }
 {
     let time = parse_canonical_generalized_time(text)?;
     if is_shortest(text) { Some(time) } else { None }
@@ -164,7 +164,7 @@ fn full_year(year: u8) -> u16
 
 /// A UTCTime in a general form; the offset of its text is kept beside it.
 fn utc_stamp(text: &[u8]) -> Option<GeneralizedTime>
-    ensures { Relates result (GeneralUtc text.now) }
+    ensures { IsSomeRelated result (GeneralUtc text.now) }
 {
     let (year, fields) = short_parts(text)?;
     if !fields.is_short() {
@@ -176,7 +176,7 @@ fn utc_stamp(text: &[u8]) -> Option<GeneralizedTime>
 /// A UTCTime in the canonical form.
 #[inline(always)]
 fn canonical_utc_stamp(text: &[u8]) -> Option<GeneralizedTime>
-    ensures { Relates result (CanonicalUtc text.now) }
+    ensures { IsSomeRelated result (CanonicalUtc text.now) }
 {
     let (year, fields) = short_parts(text)?;
     if !fields.is_short() {
@@ -191,7 +191,7 @@ fn canonical_utc_stamp(text: &[u8]) -> Option<GeneralizedTime>
 /// The UTCTime of a text in a general form (X.680 47), as BER reads it. `None` where the text has no such form, or where its day or its time of
 /// day isn't there.
 pub fn parse_utc_time(text: &[u8]) -> Option<UtcTime>
-    ensures { Relates result (λ m. (offset : _) × GeneralUtc text.now (record { moment = m; offset = offset })) }
+    ensures { IsSomeRelated result (λ m. (offset : _) × GeneralUtc text.now (record { moment = m; offset = offset })) }
 {
     let stamp = utc_stamp(text)?;
     Some(stamp.utc())
@@ -199,7 +199,7 @@ pub fn parse_utc_time(text: &[u8]) -> Option<UtcTime>
 
 /// The UTCTime of a text in the canonical form (X.690 11.8), as CER and DER read it: with seconds and `Z`.
 pub fn parse_canonical_utc_time(text: &[u8]) -> Option<UtcTime>
-    ensures { Relates result (λ m. (offset : _) × CanonicalUtc text.now (record { moment = m; offset = offset })) }
+    ensures { IsSomeRelated result (λ m. (offset : _) × CanonicalUtc text.now (record { moment = m; offset = offset })) }
 {
     let stamp = canonical_utc_stamp(text)?;
     Some(stamp.utc())
@@ -207,7 +207,7 @@ pub fn parse_canonical_utc_time(text: &[u8]) -> Option<UtcTime>
 
 /// The DATE of a text of eight digits. `None` where it isn't that, or where the day isn't there.
 pub fn parse_date(text: &[u8]) -> Option<Date>
-    ensures { Relates result (DateText text.now) }
+    ensures { IsSomeRelated result (DateText text.now) }
 {
     let (year, month, day) = date_parts(text)?;
     day_of(year, month, day)

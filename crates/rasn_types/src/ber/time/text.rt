@@ -1,8 +1,8 @@
 //! What a time's text gives, by its parts.
 ghost use Rattle.std.specs.Prelude.{◌≡◌, ◌+◌, ◌*◌, ◌<◌, IfSome};
-ghost use Rattle.rasn_types.specs.Reading.{Yields, starts_decimal, two_at, four_at, clock_at, digits_at, fraction_at, offset_at, zone_at, fields_at, short_at, long_at, date_at};
-ghost use Rattle.rasn_types.specs.Spelling.{IsZone, billionths};
-ghost use Rattle.rasn_types.specs.Times.{short_form, canonical_form};
+ghost use Rattle.rasn_types.specs.TimeParsing.{ParsesOption, starts_decimal, two_at, four_at, clock_at, digits_at, fraction_at, offset_at, zone_at, fields_at, short_at, long_at, date_at};
+ghost use Rattle.rasn_types.specs.TimeSpelling.{IsZone, billionths};
+ghost use Rattle.rasn_types.specs.Time.{short_form, canonical_form};
 
 /// What a time's text gives behind its hour.
 #[derive(Clone, Copy, Debug)]
@@ -33,10 +33,10 @@ pub struct Fields {
 }
 
 /// Two digits.
-#[tactic(auto, unfolding(crate::specs::Reading::two_at))]
+#[tactic(auto, unfolding(crate::specs::TimeParsing::two_at))]
 #[inline(always)]
 fn two_digits(text: &[u8]) -> Option<(u8, &[u8])>
-    ensures read { Yields (λ x. (x.0, x.1.now)) result (two_at text.now) }
+    ensures read { ParsesOption (λ x. (x.0, x.1.now)) result (two_at text.now) }
     ensures below { IfSome result (λ x. x.0 < 100) }
 {
     match text {
@@ -52,10 +52,10 @@ fn two_digits(text: &[u8]) -> Option<(u8, &[u8])>
 }
 
 /// Four digits.
-#[tactic(auto, unfolding(crate::specs::Reading::four_at))]
+#[tactic(auto, unfolding(crate::specs::TimeParsing::four_at))]
 #[inline(always)]
 fn four_digits(text: &[u8]) -> Option<(u16, &[u8])>
-    ensures read { Yields (λ x. (x.0, x.1.now)) result (four_at text.now) }
+    ensures read { ParsesOption (λ x. (x.0, x.1.now)) result (four_at text.now) }
     ensures below { IfSome result (λ x. x.0 < 10000) }
 {
     let (high, rest) = two_digits(text)?;
@@ -74,10 +74,10 @@ fn starts_with_digit(text: &[u8]) -> bool
 }
 
 /// Minutes and seconds, where they are given.
-#[tactic(auto, unfolding(crate::specs::Reading::clock_at))]
+#[tactic(auto, unfolding(crate::specs::TimeParsing::clock_at))]
 #[inline(always)]
 fn read_clock(text: &[u8]) -> Option<(Clock, &[u8])>
-    ensures { Yields (λ x. (x.0, x.1.now)) result (clock_at text.now) }
+    ensures { ParsesOption (λ x. (x.0, x.1.now)) result (clock_at text.now) }
 {
     if !starts_with_digit(text) {
         return Some((Clock::Hours, text));
@@ -91,7 +91,7 @@ fn read_clock(text: &[u8]) -> Option<(Clock, &[u8])>
 }
 
 /// The digits at the beginning, as billionths.
-#[tactic(auto, unfolding(crate::specs::Reading::digits_at))]
+#[tactic(auto, unfolding(crate::specs::TimeParsing::digits_at))]
 #[inline(always)]
 fn read_digits(text: &[u8]) -> (u32, &[u8])
     ensures read { digits_at 9 text.now ≡ (result.0, result.1.now) }
@@ -114,10 +114,10 @@ fn read_digits(text: &[u8]) -> (u32, &[u8])
 }
 
 /// A fraction, where one is given, with its separator.
-#[tactic(auto, unfolding(crate::specs::Reading::fraction_at))]
+#[tactic(auto, unfolding(crate::specs::TimeParsing::fraction_at))]
 #[inline(always)]
 fn read_fraction(text: &[u8]) -> Option<(Option<(u8, u32)>, &[u8])>
-    ensures read { Yields (λ x. (x.0, x.1.now)) result (fraction_at text.now) }
+    ensures read { ParsesOption (λ x. (x.0, x.1.now)) result (fraction_at text.now) }
     ensures below { IfSome result (λ x. billionths x.0 < 1000000000) }
 {
     match text {
@@ -133,10 +133,10 @@ fn read_fraction(text: &[u8]) -> Option<(Option<(u8, u32)>, &[u8])>
 }
 
 /// Hours and minutes of an offset, and nothing behind them.
-#[tactic(auto, unfolding(crate::specs::Reading::offset_at))]
+#[tactic(auto, unfolding(crate::specs::TimeParsing::offset_at))]
 #[inline(always)]
 fn read_offset(text: &[u8]) -> Option<(u8, u8)>
-    ensures read { Yields (λ x. x) result (offset_at text.now) }
+    ensures read { ParsesOption (λ x. x) result (offset_at text.now) }
     ensures below { IfSome result (λ x. (x.1 < 100) × (60 * x.0 + x.1 < 1440)) }
 {
     let (hours, rest) = two_digits(text)?;
@@ -149,10 +149,10 @@ fn read_offset(text: &[u8]) -> Option<(u8, u8)>
 }
 
 /// What is left is a zone, or nothing.
-#[tactic(auto, unfolding(crate::specs::Reading::zone_at))]
+#[tactic(auto, unfolding(crate::specs::TimeParsing::zone_at))]
 #[inline(always)]
 fn read_zone(text: &[u8]) -> Option<Zone>
-    ensures read { Yields (λ x. x) result (zone_at text.now) }
+    ensures read { ParsesOption (λ x. x) result (zone_at text.now) }
     ensures below { IfSome result (λ z. IsZone z) }
 {
     match text {
@@ -177,10 +177,10 @@ fn read_zone(text: &[u8]) -> Option<Zone>
 }
 
 /// All that stands behind the year.
-#[tactic(auto, unfolding(crate::specs::Reading::fields_at))]
+#[tactic(auto, unfolding(crate::specs::TimeParsing::fields_at))]
 #[inline(always)]
 fn read_fields(text: &[u8]) -> Option<Fields>
-    ensures read { Yields (λ x. x) result (fields_at text.now) }
+    ensures read { ParsesOption (λ x. x) result (fields_at text.now) }
     ensures zone { IfSome result (λ f. IsZone f.zone) }
     ensures below { IfSome result (λ f. billionths f.fraction < 1000000000) }
 {
@@ -201,10 +201,10 @@ fn read_fields(text: &[u8]) -> Option<Fields>
 }
 
 /// A year of four digits, and what stands behind it.
-#[tactic(auto, unfolding(crate::specs::Reading::long_at))]
+#[tactic(auto, unfolding(crate::specs::TimeParsing::long_at))]
 #[inline(always)]
 pub fn long_parts(text: &[u8]) -> Option<(u16, Fields)>
-    ensures read { Yields (λ x. x) result (long_at text.now) }
+    ensures read { ParsesOption (λ x. x) result (long_at text.now) }
     ensures year { IfSome result (λ x. x.0 < 10000) }
     ensures zone { IfSome result (λ x. IsZone x.1.zone) }
     ensures below { IfSome result (λ x. billionths x.1.fraction < 1000000000) }
@@ -215,10 +215,10 @@ pub fn long_parts(text: &[u8]) -> Option<(u16, Fields)>
 }
 
 /// A year of two digits, and what stands behind it.
-#[tactic(auto, unfolding(crate::specs::Reading::short_at))]
+#[tactic(auto, unfolding(crate::specs::TimeParsing::short_at))]
 #[inline(always)]
 pub fn short_parts(text: &[u8]) -> Option<(u8, Fields)>
-    ensures read { Yields (λ x. x) result (short_at text.now) }
+    ensures read { ParsesOption (λ x. x) result (short_at text.now) }
     ensures year { IfSome result (λ x. x.0 < 100) }
     ensures zone { IfSome result (λ x. IsZone x.1.zone) }
     ensures below { IfSome result (λ x. billionths x.1.fraction < 1000000000) }
@@ -253,9 +253,9 @@ impl Fields {
 }
 
 /// The year, month and day of a DATE.
-#[tactic(auto, unfolding(crate::specs::Reading::date_at))]
+#[tactic(auto, unfolding(crate::specs::TimeParsing::date_at))]
 pub fn date_parts(text: &[u8]) -> Option<(u16, u8, u8)>
-    ensures read { Yields (λ x. x) result (date_at text.now) }
+    ensures read { ParsesOption (λ x. x) result (date_at text.now) }
     ensures year { IfSome result (λ x. x.0 < 10000) }
 {
     let (year, rest) = four_digits(text)?;

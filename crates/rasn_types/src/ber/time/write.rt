@@ -2,8 +2,8 @@
 ghost use Rattle.std.specs.Prelude.{ℕ, List, ◌≡◌, ◌<◌, ◌≤ℤ◌, ◌++◌, IfOk, OnErr, map, ◌+◌, pos, negsuc, unsigned_abs};
 ghost use Rattle.std.specs.Int.{int_rem_euclid};
 ghost use Rattle.rasn_types.specs.Calendar.{IsDay, IsMoment};
-ghost use Rattle.rasn_types.specs.Spelling.{two, four};
-ghost use Rattle.rasn_types.specs.Times.{written_date, written_year, long_year, written_utc, written_generalized, clock_written, written_second, within_second, written_fraction, digits_of};
+ghost use Rattle.rasn_types.specs.TimeSpelling.{two, four};
+ghost use Rattle.rasn_types.specs.Time.{written_date, written_year, long_year, written_utc, written_generalized, clock_written, written_second, within_second, written_fraction, digits_of};
 
 use crate::types::{Date, GeneralizedTime, UtcTime};
 use std::alloc::AllocError;
@@ -57,7 +57,7 @@ fn push_year(out: &mut Vec<u8>, year: i32) -> Result<(), AllocError>
 }
 
 /// Appends a day's text, a year outside 0 to 9999 with its sign. Fails where memory runs out.
-#[tactic(auto, unfolding(crate::specs::Times::written_date))]
+#[tactic(auto, unfolding(crate::specs::Time::written_date))]
 pub fn write_date(out: &mut Vec<u8>, value: &Date) -> Result<(), AllocError>
     ensures ok { IfOk result (λ _. out.new.items ≡ out.old.items ++ written_date value.now) }
     ensures err { OnErr result ((l : List ℕ) × (out.new.items ≡ out.old.items ++ l)) }
@@ -131,7 +131,7 @@ fn push_clock(out: &mut Vec<u8>, value: &UtcTime) -> Result<(), AllocError>
 }
 
 /// Appends an instant as a GeneralizedTime in the canonical form (X.690 11.7). Fails where memory runs out.
-#[tactic(auto, unfolding(crate::specs::Times::written_generalized))]
+#[tactic(auto, unfolding(crate::specs::Time::written_generalized))]
 pub fn write_generalized_time(out: &mut Vec<u8>, value: &GeneralizedTime) -> Result<(), AllocError>
     ensures ok { IfOk result (λ _. out.new.items ≡ out.old.items ++ written_generalized value.now.moment) }
     ensures err { OnErr result ((l : List ℕ) × (out.new.items ≡ out.old.items ++ l)) }
@@ -155,7 +155,7 @@ fn year_in_century(date: &Date) -> u8
 
 /// Appends an instant as a UTCTime in the canonical form (X.690 11.8): the year without its century, and no fraction. Fails where memory is
 /// wanted.
-#[tactic(auto, unfolding(crate::specs::Times::written_utc))]
+#[tactic(auto, unfolding(crate::specs::Time::written_utc))]
 pub fn write_utc_time(out: &mut Vec<u8>, value: &UtcTime) -> Result<(), AllocError>
     ensures ok { IfOk result (λ _. out.new.items ≡ out.old.items ++ written_utc value.now) }
     ensures err { OnErr result ((l : List ℕ) × (out.new.items ≡ out.old.items ++ l)) }

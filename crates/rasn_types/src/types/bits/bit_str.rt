@@ -3,8 +3,8 @@ ghost use Rattle.std.specs.Prelude.{◌≡◌, ◌+◌, ◌*◌, ◌/◌, ◌%�
 ghost use Rattle.std.specs.Bool.{beq};
 ghost use Rattle.std.specs.Cmp.Lexicographic.{pointwise};
 ghost use Rattle.rasn_types.specs.Framing.{AreOctets};
-ghost use Rattle.rasn_types.specs.Makes.{Makes};
-ghost use Rattle.rasn_types.specs.Bits.{bits_from, Pushes};
+ghost use Rattle.rasn_types.specs.Options.{IsSomeExactlyIf};
+ghost use Rattle.rasn_types.specs.BitString.{bits_from, Pushes};
 
 use crate::types::bits::packing::{clear_last, octets_for, push_shifted, unused_by};
 use std::alloc::AllocError;
@@ -20,7 +20,7 @@ pub struct BitStr<'a> {
 
 impl<'a> Model for BitStr<'a> {
     ghost use Rattle.std.specs.Prelude.{List, Bool, ◌+◌, ◌*◌, ◌<◌, ◌≤◌, length};
-    ghost use Rattle.rasn_types.specs.Bits.{bits_from};
+    ghost use Rattle.rasn_types.specs.BitString.{bits_from};
 
     ghost Value = { List Bool };
 
@@ -33,7 +33,7 @@ impl<'a> BitStr<'a> {
     /// So many bits of the octets, the highest bit of each octet first, from the place `start` on. `None` where the octets
     /// hold fewer.
     pub fn new(octets: &'a [u8], start: usize, len: usize) -> Option<BitStr<'a>>
-        ensures { Makes result (start + len ≤ 8 * length octets.now) (bits_from start len octets.now) }
+        ensures { IsSomeExactlyIf result (start + len ≤ 8 * length octets.now) (bits_from start len octets.now) }
     {
         if start / 8 > octets.len() {
             return None;

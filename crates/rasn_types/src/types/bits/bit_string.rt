@@ -1,7 +1,7 @@
 //! A list of bits.
 ghost use Rattle.std.specs.Prelude.{◌≡◌, ◌*◌, ◌≤◌, ◌<◌, length, get_or, MatchOption};
-ghost use Rattle.rasn_types.specs.Makes.{Makes};
-ghost use Rattle.rasn_types.specs.Bits.{bits_from};
+ghost use Rattle.rasn_types.specs.Options.{IsSomeExactlyIf};
+ghost use Rattle.rasn_types.specs.BitString.{bits_from};
 
 use crate::types::bits::BitStr;
 use crate::types::bits::packing::{clear_last, octets_for, unused_by};
@@ -17,7 +17,7 @@ pub struct BitString {
 
 impl Model for BitString {
     ghost use Rattle.std.specs.Prelude.{List, Bool};
-    ghost use Rattle.rasn_types.specs.Bits.{bits_from, HoldsBits};
+    ghost use Rattle.rasn_types.specs.BitString.{bits_from, HoldsBits};
 
     ghost Value = { List Bool };
 
@@ -29,7 +29,7 @@ impl Model for BitString {
 impl BitString {
     /// The first so many bits of the octets, the highest bit of each octet first. `None` where the octets hold fewer.
     pub fn new(octets: Vec<u8>, len: usize) -> Option<BitString>
-        ensures { Makes result (len ≤ 8 * length octets.items) (bits_from 0 len octets.items) }
+        ensures { IsSomeExactlyIf result (len ≤ 8 * length octets.items) (bits_from 0 len octets.items) }
     {
         let mut octets = octets;
         let kept = octets_for(len);

@@ -2,8 +2,8 @@
 ghost use Rattle.std.specs.Prelude.{◌≡◌, ◌+◌, ◌-◌, ◌*◌, ◌/◌, ◌%◌, ◌<◌, ◌≤◌, ◌++◌, ◌∷◌, length, take, drop, vec_len, vec_capacity};
 ghost use Rattle.rasn_types.specs.Framing.{AreOctets};
 ghost use Rattle.rasn_types.specs.Contents.{bits_of};
-ghost use Rattle.rasn_types.specs.Bits.{zeros, but_last};
-ghost use Rattle.rasn_types.specs.Packing.{Shifts, Clears, Joins};
+ghost use Rattle.rasn_types.specs.BitString.{zeros, but_last};
+ghost use Rattle.rasn_types.specs.BitPacking.{Shifts, Clears, Joins};
 
 /// How many octets so many bits take.
 pub(crate) fn octets_for(bits: usize) -> usize

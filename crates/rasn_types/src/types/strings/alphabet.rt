@@ -1,8 +1,8 @@
 //! The octets that a string type admits.
 ghost use Rattle.std.specs.Prelude.{◌<◌, length, slice_index, Contains, MatchOption};
 ghost use Rattle.std.specs.List.{AllWithin};
-ghost use Rattle.rasn_types.specs.Truth.{Decides};
-ghost use Rattle.rasn_types.specs.Characters.{IsAdmitted, AreAdmitted, printable_marks};
+ghost use Rattle.rasn_types.specs.Truth.{IsWhether};
+ghost use Rattle.rasn_types.specs.CharacterString.{IsAdmitted, AreAdmitted, printable_marks};
 ghost use Rattle.rasn_types.specs.declared.types.strings.alphabet.Alphabet.TheVariants.{Numeric, Printable};
 
 /// The octets that a string type admits, each being one character (X.680 41).
@@ -23,7 +23,7 @@ pub enum Alphabet {
 impl Alphabet {
     /// Whether it has this octet.
     pub fn admits(self, octet: u8) -> bool
-        ensures { Decides result (IsAdmitted self octet) }
+        ensures { IsWhether result (IsAdmitted self octet) }
     {
         match self {
             Alphabet::Numeric => is_digit_or_space(octet),
@@ -48,13 +48,13 @@ impl Alphabet {
 }
 
 fn is_digit_or_space(octet: u8) -> bool
-    ensures { Decides result (IsAdmitted Numeric octet) }
+    ensures { IsWhether result (IsAdmitted Numeric octet) }
 {
     octet.is_ascii_digit() || octet == b' '
 }
 
 fn is_printable(octet: u8) -> bool
-    ensures { Decides result (IsAdmitted Printable octet) }
+    ensures { IsWhether result (IsAdmitted Printable octet) }
 {
     octet.is_ascii_uppercase()
         || octet.is_ascii_lowercase()
@@ -63,7 +63,7 @@ fn is_printable(octet: u8) -> bool
 }
 
 fn is_printable_mark(octet: u8) -> bool
-    ensures { Decides result (Contains printable_marks octet) }
+    ensures { IsWhether result (Contains printable_marks octet) }
 {
     b" '()+,-./:=?".contains(&octet)
 }

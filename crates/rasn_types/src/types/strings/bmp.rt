@@ -1,7 +1,7 @@
 //! BMPString.
 ghost use Rattle.std.specs.Prelude.{◌≡◌, nat_eq, IfOk, MatchOption};
 ghost use Rattle.std.specs.Cmp.Lexicographic.{pointwise};
-ghost use Rattle.rasn_types.specs.Characters.{ArePaired, units_of};
+ghost use Rattle.rasn_types.specs.CharacterString.{ArePaired, units_of};
 ghost use Rattle.rasn_types.specs.Framing.{AreOctets};
 
 use crate::types::{AsnType, Constraints, Tag};
@@ -18,7 +18,7 @@ pub struct BmpString {
 
 impl Model for BmpString {
     ghost use Rattle.std.specs.Prelude.{List, ℕ};
-    ghost use Rattle.rasn_types.specs.Characters.{ArePaired};
+    ghost use Rattle.rasn_types.specs.CharacterString.{ArePaired};
 
     ghost Value = { List ℕ };
 
@@ -74,7 +74,7 @@ impl PartialEq for BmpString {
     ghost use Rattle.std.specs.Cmp.{on_per, partial_equiv_from_equiv};
     ghost use Rattle.std.specs.Cmp.Lexicographic.{pointwise, nat_list_eq_equiv};
     ghost use Rattle.std.specs.Ordering.{on};
-    ghost use Rattle.rasn_types.specs.Characters.{units_of};
+    ghost use Rattle.rasn_types.specs.CharacterString.{units_of};
 
     ghost eq = { on units_of (pointwise nat_eq) };
 
@@ -90,14 +90,14 @@ impl PartialEq for BmpString {
 impl Eq for BmpString {
     ghost use Rattle.std.specs.Cmp.{on_equiv};
     ghost use Rattle.std.specs.Cmp.Lexicographic.{nat_list_eq_equiv};
-    ghost use Rattle.rasn_types.specs.Characters.{units_of};
+    ghost use Rattle.rasn_types.specs.CharacterString.{units_of};
 
     ghost laws = { on_equiv units_of nat_list_eq_equiv };
 }
 
 impl AsnType for BmpString {
     ghost use Rattle.std.specs.Prelude.{refl};
-    ghost use Rattle.rasn_types.specs.Characters.{units_of};
+    ghost use Rattle.rasn_types.specs.CharacterString.{units_of};
     ghost use Rattle.rasn_types.specs.Shapes.{leaf, bmp, numbers};
     ghost use Rattle.rasn_types.specs.Tags.{in_universal};
     ghost use Rattle.rasn_types.specs.Trees.{unconstrained};

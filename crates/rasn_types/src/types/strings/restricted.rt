@@ -1,6 +1,6 @@
 //! String types whose octets are single characters.
 ghost use Rattle.std.specs.Prelude.{◌≡◌, IfOk, MatchOption, Option};
-ghost use Rattle.rasn_types.specs.Characters.{AreAdmitted, string_kind};
+ghost use Rattle.rasn_types.specs.CharacterString.{AreAdmitted, string_kind};
 
 use crate::types::{Alphabet, AsnType, Constraints, Tag};
 use std::alloc::{AllocError, Global};
@@ -33,7 +33,7 @@ pub struct RestrictedString<S: StringType> {
 
 impl<S: StringType> Model for RestrictedString<S> {
     ghost use Rattle.std.specs.Prelude.{List, ℕ};
-    ghost use Rattle.rasn_types.specs.Characters.{AreAdmitted};
+    ghost use Rattle.rasn_types.specs.CharacterString.{AreAdmitted};
 
     ghost Value = { List ℕ };
 
@@ -104,7 +104,7 @@ impl<S: StringType> Eq for RestrictedString<S> {
 impl<S: StringType> AsnType for RestrictedString<S> {
     ghost use Rattle.std.specs.Prelude.{refl};
     ghost use Rattle.rasn_types.specs.Shapes.{leaf, numbers};
-    ghost use Rattle.rasn_types.specs.Characters.{string_kind};
+    ghost use Rattle.rasn_types.specs.CharacterString.{string_kind};
     ghost use Rattle.rasn_types.specs.Trees.{unconstrained};
 
     ghost TAG = { S.TAG };

@@ -1,10 +1,10 @@
 use Rattle.std.proofs.Common.{rules, ◌≡◌, ◌∷◌, [], ◌++◌, List, length, sym, ap, ◌∙◌, append_assoc, append-nil, arith, refl}
 use Rattle.std.specs.Vec.Iter.{into_iter_items}
 use Rattle.rasn_types.specs.Trees.{bool_tree}
-use Rattle.rasn_de.proofs.Components.{component_twice}
-use Rattle.rasn_bench.specs.Choices.{time_tree}
-use Rattle.rasn_bench.specs.Events.{event_parts, level_tree, component_tree}
-use Rattle.rasn_bench.proofs.Events.{put_time, put_level, put_confirmed, no_time, all_there}
+use Rattle.rasn_de.proofs.OwnTypes.Components.{component_twice}
+use Rattle.rasn_bench.specs.Time.{time_tree}
+use Rattle.rasn_bench.specs.Event.{event_parts, level_tree, component_tree}
+use Rattle.rasn_bench.proofs.EventComponents.{appended_time, appended_level, appended_confirmed, no_time, all_there}
 use Rattle.rasn_bench.proofs.worked.event.gather.Goals as goal
 
 nothing_left : {X : Type 0} (l : List X) → length l ≡ 0 → l ≡ []
@@ -27,7 +27,7 @@ loop-component-preserved-else-is_some c =
           let gone = c.in-Some.ensures.steps.1 in
           let short = ap length steps in
           omega arith,
-      rw (c.replace.ensures.after, c.in-At.is) (put_time at.yielded at.time at.level at.confirmed at.invariant.2 c.in-At.moment (search rules)),
+      rw (c.replace.ensures.after, c.in-At.is) (appended_time at.yielded at.time at.level at.confirmed at.invariant.2 c.in-At.moment (search rules)),
     )
 
 pub returns-then-is_some-2 : goal.returns-then-is_some-2
@@ -46,7 +46,7 @@ loop-component-preserved-else-is_some-2 c =
           let gone = c.in-Some.ensures.steps.1 in
           let short = ap length steps in
           omega arith,
-      rw (c.replace-in-Level.ensures.after, c.in-Level.is) (put_level at.yielded at.time at.level at.confirmed at.invariant.2 c.in-Level.number (search rules)),
+      rw (c.replace-in-Level.ensures.after, c.in-Level.is) (appended_level at.yielded at.time at.level at.confirmed at.invariant.2 c.in-Level.number (search rules)),
     )
 
 pub returns-then-is_some-3 : goal.returns-then-is_some-3
@@ -65,7 +65,7 @@ loop-component-preserved c =
           let gone = c.in-Some.ensures.steps.1 in
           let short = ap length steps in
           omega arith,
-      rw (c.replace-in-Confirmed.ensures.after, c.in-Confirmed.is) (put_confirmed at.yielded at.time at.level at.confirmed at.invariant.2 c.in-Confirmed.truth (search rules)),
+      rw (c.replace-in-Confirmed.ensures.after, c.in-Confirmed.is) (appended_confirmed at.yielded at.time at.level at.confirmed at.invariant.2 c.in-Confirmed.truth (search rules)),
     )
 
 pub returns-in_default : goal.returns-in_default

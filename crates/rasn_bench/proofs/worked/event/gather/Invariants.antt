@@ -1,7 +1,7 @@
 use Rattle.std.proofs.Common.{◌≡◌, ◌++◌, length, map}
 use Rattle.std.specs.Vec.Iter.{into_iter_items, into_iter_len}
-use Rattle.rasn_bench.specs.Events.{component_tree}
-use Rattle.rasn_bench.proofs.Events.{Slots}
+use Rattle.rasn_bench.specs.Event.{component_tree}
+use Rattle.rasn_bench.proofs.EventComponents.{Slots}
 use Rattle.rasn_bench.proofs.worked.event.gather.Given as goal
 
 abbrev pub invariant-loop-component : goal.invariant-loop-component

@@ -1,8 +1,8 @@
 use Rattle.std.proofs.Common.{rules, ◌≡◌, ◌∷◌, [], ◌++◌, List, length, sym, ap, ◌∙◌, append_assoc, append-nil, arith, refl}
 use Rattle.std.specs.Vec.Iter.{into_iter_items}
-use Rattle.rasn_de.proofs.Components.{component_twice}
-use Rattle.rasn_bench.specs.Set3s.{set3_parts, component_tree}
-use Rattle.rasn_bench.proofs.Sets.{octet, put_zero, put_one, put_two, missed, all_there}
+use Rattle.rasn_de.proofs.OwnTypes.Components.{component_twice}
+use Rattle.rasn_bench.specs.Set3.{set3_parts, component_tree}
+use Rattle.rasn_bench.proofs.Set3Components.{octet, appended_zero, appended_one, appended_two, missed, all_there}
 use Rattle.rasn_bench.proofs.worked.set3.gather.Goals as goal
 
 nothing_left : {X : Type 0} (l : List X) → length l ≡ 0 → l ≡ []
@@ -25,7 +25,7 @@ loop-component-preserved-else-is_some c =
           let gone = c.in-Some.ensures.steps.1 in
           let short = ap length steps in
           omega arith,
-      rw (c.replace.ensures.after, c.in-Zero.is) (put_zero at.yielded c.in-Zero.number at.zero at.one at.two (search rules) at.invariant.2),
+      rw (c.replace.ensures.after, c.in-Zero.is) (appended_zero at.yielded c.in-Zero.number at.zero at.one at.two (search rules) at.invariant.2),
     )
 
 pub returns-then-is_some-2 : goal.returns-then-is_some-2
@@ -44,7 +44,7 @@ loop-component-preserved-else-is_some-2 c =
           let gone = c.in-Some.ensures.steps.1 in
           let short = ap length steps in
           omega arith,
-      rw (c.replace-in-One.ensures.after, c.in-One.is) (put_one at.yielded c.in-One.number at.zero at.one at.two (search rules) at.invariant.2),
+      rw (c.replace-in-One.ensures.after, c.in-One.is) (appended_one at.yielded c.in-One.number at.zero at.one at.two (search rules) at.invariant.2),
     )
 
 pub returns-then-is_some-3 : goal.returns-then-is_some-3
@@ -63,7 +63,7 @@ loop-component-preserved c =
           let gone = c.in-Some.ensures.steps.1 in
           let short = ap length steps in
           omega arith,
-      rw (c.replace-in-Two.ensures.after, c.in-Two.is) (put_two at.yielded c.in-Two.number at.zero at.one at.two (search rules) at.invariant.2),
+      rw (c.replace-in-Two.ensures.after, c.in-Two.is) (appended_two at.yielded c.in-Two.number at.zero at.one at.two (search rules) at.invariant.2),
     )
 
 pub returns-in_default : goal.returns-in_default

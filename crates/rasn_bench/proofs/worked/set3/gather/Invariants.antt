@@ -1,7 +1,7 @@
 use Rattle.std.proofs.Common.{◌≡◌, ◌++◌, length, map}
 use Rattle.std.specs.Vec.Iter.{into_iter_items, into_iter_len}
-use Rattle.rasn_bench.specs.Set3s.{component_tree}
-use Rattle.rasn_bench.proofs.Sets.{Slots}
+use Rattle.rasn_bench.specs.Set3.{component_tree}
+use Rattle.rasn_bench.proofs.Set3Components.{Slots}
 use Rattle.rasn_bench.proofs.worked.set3.gather.Given as goal
 
 abbrev pub invariant-loop-component : goal.invariant-loop-component

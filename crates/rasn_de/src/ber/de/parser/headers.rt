@@ -2,9 +2,9 @@
 ghost use Rattle.std.specs.Prelude.{◌≡◌};
 ghost use Rattle.rasn_types.specs.Tags.{form, loose, tag_bit};
 ghost use Rattle.rasn_de.specs.Headers.{spelled, as_written, tagged_at, expected_at};
-ghost use Rattle.rasn_de.specs.Views.{Gives};
+ghost use Rattle.rasn_de.specs.ParserViews.{ParsesAs};
 
-use crate::ber::de::parser::Fault;
+use crate::ber::de::parser::ParseError;
 use crate::ber::rules::{allows_indefinite, is_der};
 use rasn_types::ber::{Identifier, is_always_constructed};
 use rasn_types::error::DerDecodeErrorKind;
@@ -72,8 +72,8 @@ impl Expected {
     }
 
     /// Refuses another identifier: first another tag, then another constructed bit.
-    pub fn check(self, identifier: Identifier) -> Result<(), Fault>
-        ensures { Gives (λ _. record {}) result (expected_at self identifier.tag identifier.bit) }
+    pub fn check(self, identifier: Identifier) -> Result<(), ParseError>
+        ensures { ParsesAs (λ _. record {}) result (expected_at self identifier.tag identifier.bit) }
     {
         match self {
             Expected::AnyTag => Ok(()),
@@ -83,7 +83,7 @@ impl Expected {
                 if identifier.is_constructed() == wanted.is_constructed() {
                     Ok(())
                 } else {
-                    Err(Fault::Der(DerDecodeErrorKind::ConstructedBitMismatch))
+                    Err(ParseError::Der(DerDecodeErrorKind::ConstructedBitMismatch))
                 }
             }
         }
@@ -91,13 +91,13 @@ impl Expected {
 }
 
 /// Whether this is the tag that has to come.
-fn check_tag(wanted: Tag, tag: Tag) -> Result<(), Fault>
-    ensures { Gives (λ _. record {}) result (tagged_at wanted tag) }
+fn check_tag(wanted: Tag, tag: Tag) -> Result<(), ParseError>
+    ensures { ParsesAs (λ _. record {}) result (tagged_at wanted tag) }
 {
     if tag == wanted {
         Ok(())
     } else {
-        Err(Fault::MismatchedTag {
+        Err(ParseError::MismatchedTag {
             expected: wanted,
             actual: tag,
         })

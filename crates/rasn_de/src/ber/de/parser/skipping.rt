@@ -6,20 +6,20 @@ ghost use Rattle.rasn_types.specs.Shapes.{looked_for};
 ghost use Rattle.rasn_de.specs.State.{IsEnd};
 ghost use Rattle.rasn_de.specs.declared.ber.de.parser.headers.Expected.TheVariants.{AnyTag};
 ghost use Rattle.rasn_de.specs.Headers.{header_at};
-ghost use Rattle.rasn_de.specs.Skipping.{Skipped, Closed, IsStuck, IsFault, Exactly, passed};
-ghost use Rattle.rasn_de.specs.OpenTypes.{OpenAt, as_lists};
-ghost use Rattle.rasn_de.specs.Views.{Gives, header};
+ghost use Rattle.rasn_de.specs.Skipping.{Skipped, EncodingsToEnd, IsUnparsable, IsFault, Exactly, passed};
+ghost use Rattle.rasn_de.specs.Any.{OpenAt, as_lists};
+ghost use Rattle.rasn_de.specs.ParserViews.{ParsesAs, header};
 
 use crate::ber::de::parser::headers::{Expected, Spelling};
-use crate::ber::de::parser::{Contents, Fault, Value, read_value};
+use crate::ber::de::parser::{Contents, ParseError, Value, read_value};
 use rasn_types::types::{Codec, Tag};
 
 /// How many octets close contents of indefinite length (X.690 8.1.5).
 const CLOSING_LENGTH: usize = 2;
 
 /// The value that begins the input, of any tag and in any spelling, and what follows.
-fn read_any_value(rule: Codec, input: &[u8]) -> Result<(Value<'_>, &[u8]), Fault>
-    ensures exact { Gives header result (header_at (loose rule) AnyTag input.now) }
+fn read_any_value(rule: Codec, input: &[u8]) -> Result<(Value<'_>, &[u8]), ParseError>
+    ensures exact { ParsesAs header result (header_at (loose rule) AnyTag input.now) }
     ensures octets { AreOctets input.now }
 {
     read_value(Spelling::loose(rule), Expected::AnyTag, input)
@@ -38,8 +38,8 @@ fn after_closing(input: &[u8]) -> Option<&[u8]>
 /// Passes the contents of a value of indefinite length, which are whole encodings, and their end-of-contents octets, with a count of
 /// the values that are open. Answers how many turns it took, and what follows: a turn passes end-of-contents octets, or a header with
 /// its definite contents.
-pub fn skip_contents(rule: Codec, input: &[u8]) -> Result<(usize, &[u8]), Fault>
-    ensures exact { Exactly (Closed rule input.now) (IsStuck rule input.now) (passed result) }
+pub fn skip_contents(rule: Codec, input: &[u8]) -> Result<(usize, &[u8]), ParseError>
+    ensures exact { Exactly (EncodingsToEnd rule input.now) (IsUnparsable rule input.now) (passed result) }
     ensures half { IfOk result (λ p. 2 * p.0 + length p.1.now ≤ length input.now) }
     ensures some { IfOk result (λ p. 1 ≤ p.0) }
 {
@@ -66,7 +66,7 @@ pub fn skip_contents(rule: Codec, input: &[u8]) -> Result<(usize, &[u8]), Fault>
 }
 
 /// Passes one whole encoding. Answers how many turns its contents took, none where its length is definite, and what follows.
-pub fn skip_encoding(rule: Codec, input: &[u8]) -> Result<(usize, &[u8]), Fault>
+pub fn skip_encoding(rule: Codec, input: &[u8]) -> Result<(usize, &[u8]), ParseError>
     ensures exact { Exactly (Skipped rule input.now) (IsFault rule input.now) (passed result) }
     ensures half { IfOk result (λ p. 2 * p.0 + length p.1.now ≤ length input.now) }
 {
@@ -78,7 +78,7 @@ pub fn skip_encoding(rule: Codec, input: &[u8]) -> Result<(usize, &[u8]), Fault>
 }
 
 /// One whole encoding, and what follows.
-fn read_encoding(rule: Codec, input: &[u8]) -> Result<(&[u8], &[u8]), Fault>
+fn read_encoding(rule: Codec, input: &[u8]) -> Result<(&[u8], &[u8]), ParseError>
     ensures { OpenAt rule None input.now (as_lists result) }
 {
     let (_, after) = skip_encoding(rule, input)?;
@@ -87,7 +87,7 @@ fn read_encoding(rule: Codec, input: &[u8]) -> Result<(&[u8], &[u8]), Fault>
 }
 
 /// The contents of the one value of this tag, end-of-contents octets not included, and what follows the value.
-fn read_tagged(rule: Codec, tag: Tag, input: &[u8]) -> Result<(&[u8], &[u8]), Fault>
+fn read_tagged(rule: Codec, tag: Tag, input: &[u8]) -> Result<(&[u8], &[u8]), ParseError>
     ensures { OpenAt rule (Some tag) input.now (as_lists result) }
 {
     let expected = Expected::as_written(rule, tag, true);
@@ -103,8 +103,8 @@ fn read_tagged(rule: Codec, tag: Tag, input: &[u8]) -> Result<(&[u8], &[u8]), Fa
 }
 
 /// The octets of an open type, and what follows: one whole encoding by `Tag::EOC`, else the contents of the one value of the tag.
-#[tactic(auto, using(crate::proofs::OpenTypes::opens_end))]
-pub fn read_open(rule: Codec, tag: Tag, input: &[u8]) -> Result<(&[u8], &[u8]), Fault>
+#[tactic(auto, using(crate::proofs::Any::Reads::opens_end))]
+pub fn read_open(rule: Codec, tag: Tag, input: &[u8]) -> Result<(&[u8], &[u8]), ParseError>
     ensures found { OpenAt rule (looked_for tag) input.now (as_lists result) }
     ensures end { IfOk result (λ p. IsEnd input.now p.1.now) }
 {

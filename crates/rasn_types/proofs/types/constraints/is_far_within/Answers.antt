@@ -1,5 +1,5 @@
 use Rattle.rasn_types.specs.Contents.{signed}
-use Rattle.rasn_types.proofs.TwosComplement.{are_octets, far_below}
+use Rattle.rasn_types.proofs.Integer.TwosComplement.{are_octets, far_below}
 use Rattle.rasn_types.proofs.types.constraints.is_far_within.Goals as goal
 
 pub returns-else-octets-lt128 : goal.returns-else-octets-lt128

@@ -3,7 +3,7 @@ use Rattle.std.specs.Int.{w128, to_be_bytes}
 use Rattle.std.proofs.lemmas.Int.{to_z-of_z}
 use Rattle.rasn_types.specs.Contents.{signed}
 use Rattle.rasn_types.specs.Trees.{IsShortestOf}
-use Rattle.rasn_types.proofs.NumberOctets.{signed_128}
+use Rattle.rasn_types.proofs.Integer.Octets.{signed_128}
 use Rattle.rasn_types.proofs.types.twos_complement.append_i128.Goals as goal
 
 pub returns-clause-ok : goal.returns-clause-ok

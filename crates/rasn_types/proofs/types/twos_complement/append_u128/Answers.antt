@@ -2,7 +2,7 @@ use Rattle.std.proofs.Common.{◌≡◌, ◌++◌, ◌∷◌, [], ◌∙◌, Lis
 use Rattle.std.specs.Int.{w128, to_be_bytes}
 use Rattle.rasn_types.specs.Contents.{signed}
 use Rattle.rasn_types.specs.Trees.{IsShortestOf}
-use Rattle.rasn_types.proofs.NumberOctets.{signed_after_zero}
+use Rattle.rasn_types.proofs.Integer.Octets.{signed_after_zero}
 use Rattle.rasn_types.proofs.types.twos_complement.append_u128.Goals as goal
 
 pub returns-clause-ok : goal.returns-clause-ok

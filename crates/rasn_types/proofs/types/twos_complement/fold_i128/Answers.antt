@@ -1,6 +1,6 @@
 use Rattle.std.proofs.Common.{arith, to_z}
 use Rattle.std.specs.Int.{w128}
-use Rattle.rasn_types.proofs.TwosComplement.{FoldStep, fold_step, stepped, are_octets}
+use Rattle.rasn_types.proofs.Integer.TwosComplement.{FoldStep, fold_step, stepped, are_octets}
 use Rattle.rasn_types.proofs.types.twos_complement.fold_i128.Goals as goal
 
 pub overflow_mul-number : goal.overflow_mul-number

@@ -1,5 +1,5 @@
 use Rattle.std.proofs.Common.{◌≡◌, ◌/◌, take, get_or}
-use Rattle.rasn_types.proofs.TwosComplement.{folded}
+use Rattle.rasn_types.proofs.Integer.TwosComplement.{folded}
 use Rattle.rasn_types.proofs.types.twos_complement.fold_i128.Given as goal
 
 abbrev pub invariant-loop-octet : goal.invariant-loop-octet

@@ -1,6 +1,6 @@
 use Rattle.std.proofs.Common.{◌+◌, ◌*◌, ◌∙◌, ap, arith}
-use Rattle.rasn_types.proofs.TwosComplement.{are_octets}
-use Rattle.rasn_types.proofs.NumberOctets.{DigitStep, digit_step}
+use Rattle.rasn_types.proofs.Integer.TwosComplement.{are_octets}
+use Rattle.rasn_types.proofs.Integer.Octets.{DigitStep, digit_step}
 use Rattle.rasn_types.proofs.types.twos_complement.fold_u128.Goals as goal
 
 pub overflow_mul-number : goal.overflow_mul-number

@@ -1,7 +1,7 @@
 use Rattle.std.proofs.Common.{◌+◌, ◌-◌, ◌≤◌, ◌∙◌, length, arith, add-one, drop, get_or, refl, length-drop}
 use Rattle.std.proofs.lemmas.List.{take_all}
 use Rattle.rasn_types.specs.Contents.{IsShortestInteger, RepeatsSign}
-use Rattle.rasn_types.proofs.TwosComplement.{are_octets, octets_behind, one_dropped, short_behind}
+use Rattle.rasn_types.proofs.Integer.TwosComplement.{are_octets, octets_behind, one_dropped, short_behind}
 use Rattle.rasn_types.proofs.types.twos_complement.shortest.Goals as goal
 use Rattle.rasn_types.proofs.types.twos_complement.shortest.Goals.{then-loop-start-test+else-repeats_sign, else-loop-start-test}
 

@@ -1,7 +1,7 @@
 use Rattle.std.proofs.Common.{subst}
 use Rattle.rasn_types.specs.Shapes.{IsIn}
 use Rattle.rasn_types.specs.Trees.{signed_range}
-use Rattle.rasn_types.proofs.TwosComplement.{not_in_128}
+use Rattle.rasn_types.proofs.Integer.TwosComplement.{not_in_128}
 use Rattle.rasn_types.proofs.types.twos_complement.signed_i128.Goals as goal
 
 pub returns-else-octets-le16 : goal.returns-else-octets-le16

@@ -1,8 +1,8 @@
 use Rattle.std.proofs.Common.{subst}
 use Rattle.rasn_types.specs.Shapes.{IsIn}
 use Rattle.rasn_types.specs.Trees.{unsigned_range}
-use Rattle.rasn_types.proofs.TwosComplement.{shortest_some}
-use Rattle.rasn_types.proofs.NumberOctets.{not_unsigned, not_in_unsigned}
+use Rattle.rasn_types.proofs.Integer.TwosComplement.{shortest_some}
+use Rattle.rasn_types.proofs.Integer.Octets.{not_unsigned, not_in_unsigned}
 use Rattle.rasn_types.proofs.types.twos_complement.unsigned_u128.Goals as goal
 use Rattle.rasn_types.proofs.types.twos_complement.unsigned_u128.Goals.{else-octets-eq17-via-then-octets-eq17+else-octets-eq0, else-octets-eq17-via-else-octets-eq17}
 

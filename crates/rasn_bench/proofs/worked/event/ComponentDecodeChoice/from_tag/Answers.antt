@@ -1,9 +1,9 @@
 use Rattle.std.proofs.Common.{rules, refl, ap}
-use Rattle.rasn_de.proofs.Parts.{refused}
-use Rattle.rasn_de.proofs.Alternatives.{alternative_got, alternative_refused, no_alternative}
-use Rattle.rasn_de.proofs.Telling.{only, nowhere, tag_is}
-use Rattle.rasn_bench.specs.Events.{context, event_parts, level_tree, component_tree}
-use Rattle.rasn_bench.proofs.Events.{time_alone}
+use Rattle.rasn_de.proofs.OwnTypes.Parts.{refused}
+use Rattle.rasn_de.proofs.OwnTypes.Alternatives.{alternative_got, alternative_refused, no_alternative}
+use Rattle.rasn_de.proofs.OwnTypes.Tags.{only, nowhere, tag_is}
+use Rattle.rasn_bench.specs.Event.{context, event_parts, level_tree, component_tree}
+use Rattle.rasn_bench.proofs.EventComponents.{time_alone}
 use Rattle.rasn_bench.proofs.worked.event.ComponentDecodeChoice.from_tag.Goals as goal
 
 pub returns-in_err-time : goal.returns-in_err-time

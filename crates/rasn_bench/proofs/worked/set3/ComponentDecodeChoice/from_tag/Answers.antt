@@ -1,9 +1,9 @@
 use Rattle.std.proofs.Common.{rules, refl}
-use Rattle.rasn_de.proofs.Parts.{refused}
-use Rattle.rasn_de.proofs.Alternatives.{alternative_got, alternative_refused, no_alternative}
-use Rattle.rasn_de.proofs.Telling.{only, nowhere}
-use Rattle.rasn_bench.specs.Set3s.{set3_parts, component_tree}
-use Rattle.rasn_bench.proofs.Sets.{context}
+use Rattle.rasn_de.proofs.OwnTypes.Parts.{refused}
+use Rattle.rasn_de.proofs.OwnTypes.Alternatives.{alternative_got, alternative_refused, no_alternative}
+use Rattle.rasn_de.proofs.OwnTypes.Tags.{only, nowhere}
+use Rattle.rasn_bench.specs.Set3.{set3_parts, component_tree}
+use Rattle.rasn_bench.proofs.Set3Components.{context}
 use Rattle.rasn_bench.proofs.worked.set3.ComponentDecodeChoice.from_tag.Goals as goal
 
 pub returns-in_err-number : goal.returns-in_err-number

@@ -1,5 +1,5 @@
 use Rattle.std.proofs.Common.{rules}
-use Rattle.rasn_enc.proofs.Sets.{set_ok, set_refused}
+use Rattle.rasn_enc.proofs.OwnTypes.Set.{set_ok, set_refused}
 use Rattle.rasn_bench.proofs.worked.set3.Set3Encode.encode_with_tag_and_constraints.Goals as goal
 
 pub returns-clause-ok : goal.returns-clause-ok

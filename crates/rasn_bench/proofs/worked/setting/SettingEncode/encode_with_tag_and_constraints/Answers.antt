@@ -1,5 +1,5 @@
 use Rattle.std.proofs.Common.{rules}
-use Rattle.rasn_enc.proofs.Sequences.{sequence_ok, sequence_refused}
+use Rattle.rasn_enc.proofs.OwnTypes.Sequence.{sequence_ok, sequence_refused}
 use Rattle.rasn_bench.proofs.worked.setting.SettingEncode.encode_with_tag_and_constraints.Goals as goal
 
 pub returns-clause-ok : goal.returns-clause-ok

@@ -1,9 +1,9 @@
 use Rattle.std.proofs.Common.{rules, refl}
 use Rattle.rasn_types.specs.Tags.{in_universal}
-use Rattle.rasn_de.proofs.Parts.{refused}
-use Rattle.rasn_de.proofs.Alternatives.{alternative_got, alternative_refused, no_alternative}
-use Rattle.rasn_de.proofs.Telling.{only, nowhere}
-use Rattle.rasn_bench.specs.Choices.{time_alternatives, time_tree}
+use Rattle.rasn_de.proofs.OwnTypes.Parts.{refused}
+use Rattle.rasn_de.proofs.OwnTypes.Alternatives.{alternative_got, alternative_refused, no_alternative}
+use Rattle.rasn_de.proofs.OwnTypes.Tags.{only, nowhere}
+use Rattle.rasn_bench.specs.Time.{time_alternatives, time_tree}
 use Rattle.rasn_bench.proofs.worked.time.TimeDecodeChoice.from_tag.Goals as goal
 
 pub returns-in_err-time : goal.returns-in_err-time

@@ -1,5 +1,5 @@
 use Rattle.std.proofs.Common.{rules}
-use Rattle.rasn_enc.proofs.Alternatives.{choice_ok, choice_refused}
+use Rattle.rasn_enc.proofs.OwnTypes.Choice.{choice_ok, choice_refused}
 use Rattle.rasn_bench.proofs.worked.time.TimeEncode.encode_with_tag_and_constraints.Goals as goal
 
 pub returns-clause-ok : goal.returns-clause-ok

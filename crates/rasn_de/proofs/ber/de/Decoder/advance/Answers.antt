@@ -1,6 +1,6 @@
 use Rattle.std.proofs.Common.{subst, sym}
 use Rattle.rasn_de.specs.State.{State, IsEnd}
-use Rattle.rasn_de.proofs.Ends.{IsEnd-trans}
+use Rattle.rasn_de.proofs.Headers.Ends.{IsEnd-trans}
 use Rattle.rasn_de.proofs.ber.de.Decoder.advance.Goals as goal
 
 pub invariant_of-self : goal.invariant_of-self

@@ -1,9 +1,9 @@
 use Rattle.std.proofs.Common.{[], ◌∷◌, ◌++◌}
 use Rattle.rasn_de.specs.Decodes.{Decodes}
-use Rattle.rasn_de.specs.Sets.{not_read}
-use Rattle.rasn_de.proofs.SetsOf.{passes_from, came_stays}
-use Rattle.rasn_de.proofs.Tagged.{tagged_order, look_refused, look_follows, look_kept}
-use Rattle.rasn_de.proofs.Returns.{residual}
+use Rattle.rasn_de.specs.Set.{not_read}
+use Rattle.rasn_de.proofs.Constructed.SetOfElements.{passes_from, came_stays}
+use Rattle.rasn_de.proofs.Headers.Tags.{tagged_order, look_refused, look_follows, look_kept}
+use Rattle.rasn_de.proofs.Leaves.Returns.{residual}
 use Rattle.rasn_de.proofs.ber.de.Decoder.components.Goals as goal
 
 pub returns-in_err-last : goal.returns-in_err-last

@@ -1,11 +1,11 @@
 use Rattle.std.proofs.Common.{List, ℕ, length}
 use Rattle.rasn_de.specs.Decodes.{Decodes}
-use Rattle.rasn_de.specs.Lists.{PassesFrom}
-use Rattle.rasn_de.proofs.Tagged.{Tagged}
+use Rattle.rasn_de.specs.SequenceOf.{DecodesInTurnFrom}
+use Rattle.rasn_de.proofs.Headers.Tags.{Tagged}
 use Rattle.rasn_de.proofs.ber.de.Decoder.components.Given as goal
 
 abbrev pub invariant-loop-last : goal.invariant-loop-last
-invariant-loop-last g l = (bs : List (List ℕ)) × PassesFrom (Decodes g.FIELDS.AsnType.shape g.FIELDS.AsnType.tree) l.fn.self l.values.items bs l.self
+invariant-loop-last g l = (bs : List (List ℕ)) × DecodesInTurnFrom (Decodes g.FIELDS.AsnType.shape g.FIELDS.AsnType.tree) l.fn.self l.values.items bs l.self
     × Tagged l.fn.self bs l.last
 
 abbrev pub decreases-loop-last : goal.decreases-loop-last

@@ -1,5 +1,5 @@
 use Rattle.std.proofs.Common.{rules, Ok, Err}
-use Rattle.rasn_de.proofs.OpenTypes.{open_decodes}
+use Rattle.rasn_de.proofs.Any.Reads.{open_decodes}
 use Rattle.rasn_de.proofs.ber.de.Decoder.decode_any.Goals as goal
 
 pub returns-in-Ok-to_vec-clause-reads : goal.returns-in-Ok-to_vec-clause-reads

@@ -1,18 +1,18 @@
 use Rattle.std.proofs.Common.{sym, ◌∙◌, subst}
-use Rattle.rasn_types.specs.Characters.{ArePaired, units_of}
-use Rattle.rasn_types.proofs.StringTexts.{units_only}
-use Rattle.rasn_de.proofs.Returns.{residual}
-use Rattle.rasn_de.proofs.Verdicts.{by_units}
-use Rattle.rasn_de.proofs.Texts.{string_refused, string_ungathered, string_ran_out, string_given}
+use Rattle.rasn_types.specs.CharacterString.{ArePaired, units_of}
+use Rattle.rasn_types.proofs.CharacterString.Texts.{units_only}
+use Rattle.rasn_de.proofs.Leaves.Returns.{residual}
+use Rattle.rasn_de.proofs.Strings.Checks.{by_units}
+use Rattle.rasn_de.proofs.Strings.CharacterString.{string_refused, string_ungathered, string_alloc_failed, string_given}
 use Rattle.rasn_de.proofs.ber.de.Decoder.decode_bmp_string.Goals as goal
 
 pub returns-in_err-octets : goal.returns-in_err-octets
 returns-in_err-octets c =
-    rw (residual _ c.from_residual.ensures.1) (string_ungathered (by_units c.args.constraints.now) units_of c.args.tag c.args.self.now _ c.octets.ensures.octets _ c.in_err-octets.ensures.gathers)
+    rw (residual _ c.from_residual.ensures.1) (string_ungathered (by_units c.args.constraints.now) units_of c.args.tag c.args.self.now _ c.octets.ensures.octets _ c.in_err-octets.ensures.exact)
 
 pub returns-in-Err : goal.returns-in-Err
 returns-in-Err c =
-    string_refused (by_units c.args.constraints.now) units_of c.args.tag c.args.self.now _ c.octets.ensures.octets c.in_ok-octets.octets c.in_ok-octets.ensures.gathers
+    string_refused (by_units c.args.constraints.now) units_of c.args.tag c.args.self.now _ c.octets.ensures.octets c.in_ok-octets.octets c.in_ok-octets.ensures.exact
     c.in-Err.fault _ (rw (← c.as_slice.ensures.value) c.in-Err.ensures) c.error.ensures
 
 pub from_paired-requires : goal.from_paired-requires
@@ -21,10 +21,10 @@ from_paired-requires c =
 
 pub returns-in-Ok : goal.returns-in-Ok
 returns-in-Ok c =
-    string_given (by_units c.args.constraints.now) units_of c.args.tag c.args.self.now _ c.octets.ensures.octets c.in_ok-octets.octets c.in_ok-octets.ensures.gathers c.from_paired.result
+    string_given (by_units c.args.constraints.now) units_of c.args.tag c.args.self.now _ c.octets.ensures.octets c.in_ok-octets.octets c.in_ok-octets.ensures.exact c.from_paired.result
     (rw (c.from_paired.ensures, c.in-Ok.ensures.items, ← c.as_slice.ensures.value) c.in_default.ensures)
 
 pub returns-in-Err-owned : goal.returns-in-Err-owned
 returns-in-Err-owned c =
-    string_ran_out (by_units c.args.constraints.now) units_of c.args.tag c.args.self.now _ c.octets.ensures.octets c.in_ok-octets.octets c.in_ok-octets.ensures.gathers
+    string_alloc_failed (by_units c.args.constraints.now) units_of c.args.tag c.args.self.now _ c.octets.ensures.octets c.in_ok-octets.octets c.in_ok-octets.ensures.exact
     (units_of c.as_slice.result.now) _ (rw (← c.as_slice.ensures.value) c.in_default.ensures) c.in-Err-owned.ensures.succeeds c.error-in-Err-owned.ensures

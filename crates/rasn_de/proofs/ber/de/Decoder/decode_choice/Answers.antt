@@ -1,8 +1,8 @@
 use Rattle.std.proofs.Common.{Err, inl, refl}
-use Rattle.rasn_de.proofs.Choosing.{choice_decodes}
-use Rattle.rasn_de.proofs.Returns.{residual}
+use Rattle.rasn_de.proofs.Constructed.Choice.{choice_decodes}
+use Rattle.rasn_de.proofs.Leaves.Returns.{residual}
 use Rattle.rasn_de.proofs.ber.de.Decoder.decode_choice.Goals as goal
 
 pub returns-in_err-tag-clause-reads : goal.returns-in_err-tag-clause-reads
 returns-in_err-tag-clause-reads g c =
-    rw (residual _ c.from_residual.ensures.1) (choice_decodes g.D.AsnType.shape g.D.DecodeChoice.alternatives g.met.D.DecodeChoice.chooses g.D.AsnType.tree c.args.self.now (Err c.in_err-tag.field-0.0) c.args.self.now (inl (c.in_err-tag.ensures.refused, refl)))
+    rw (residual _ c.from_residual.ensures.1) (choice_decodes g.D.AsnType.shape g.D.DecodeChoice.alternatives g.met.D.DecodeChoice.chooses g.D.AsnType.tree c.args.self.now (Err c.in_err-tag.field-0.0) c.args.self.now (inl (c.in_err-tag.ensures.exact, refl)))

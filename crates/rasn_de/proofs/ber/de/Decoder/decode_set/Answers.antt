@@ -1,22 +1,22 @@
 use Rattle.std.proofs.Common.{Vec, Global}
 use Rattle.rasn_de.specs.Decodes.{Decodes}
-use Rattle.rasn_de.specs.Sets.{ReadComponents, GathersSet}
-use Rattle.rasn_de.proofs.Gathered.{set_decodes, gathers_keeps}
-use Rattle.rasn_de.proofs.Stepping.{closure_keeps, closure_inside}
+use Rattle.rasn_de.specs.Set.{DecodesComponents, DecodesSetContents}
+use Rattle.rasn_de.proofs.Constructed.Set.{set_decodes, collects_keeps}
+use Rattle.rasn_de.proofs.Constructed.Steps.{closure_keeps, closure_inside}
 use Rattle.rasn_de.proofs.ber.de.Decoder.decode_set.Goals as goal
 
 pub inside-requires-clause-keeps : goal.inside-requires-clause-keeps
 inside-requires-clause-keeps g c =
     let elements = λ (v : Vec g.row.FIELDS.Denot Global). v.items in
-    let read = GathersSet (ReadComponents (Decodes g.FIELDS.AsnType.shape g.FIELDS.AsnType.tree) elements) (goal.F-post g c.args.f) in
-    closure_keeps _ _ read (λ p r q m. m) (gathers_keeps g.FIELDS.AsnType.shape g.FIELDS.AsnType.tree elements (goal.F-post g c.args.f))
+    let read = DecodesSetContents (DecodesComponents (Decodes g.FIELDS.AsnType.shape g.FIELDS.AsnType.tree) elements) (goal.F-post g c.args.f) in
+    closure_keeps _ _ read (λ p r q m. m) (collects_keeps g.FIELDS.AsnType.shape g.FIELDS.AsnType.tree elements (goal.F-post g c.args.f))
 
 pub returns : goal.returns
 returns g c =
     let elements = λ (v : Vec g.row.FIELDS.Denot Global). v.items in
-    let read = GathersSet (ReadComponents (Decodes g.FIELDS.AsnType.shape g.FIELDS.AsnType.tree) elements) (goal.F-post g c.args.f) in
-    let k = closure_inside _ _ read (λ p r q m. m) _ _ c.sequence.ensures _ _ _ c.inside.ensures.called in
+    let read = DecodesSetContents (DecodesComponents (Decodes g.FIELDS.AsnType.shape g.FIELDS.AsnType.tree) elements) (goal.F-post g c.args.f) in
+    let k = closure_inside _ _ read (λ p r q m. m) _ _ c.sequence.ensures _ _ _ c.inside.ensures.exact in
     record {
-      called = k;
+      exact = k;
       reads = λ same h. set_decodes g.FIELDS.AsnType.shape g.SET.Constructed.parts same g.FIELDS.AsnType.tree g.SET.AsnType.tree elements _ c.args.tag c.args.self.now c.inside.ensures.octets h _ _ k;
     }

@@ -1,6 +1,6 @@
 use Rattle.rasn_de.specs.Decodes.{Decodes}
-use Rattle.rasn_de.proofs.Passing.{passes_more}
-use Rattle.rasn_de.proofs.Returns.{residual}
+use Rattle.rasn_de.proofs.Constructed.NextElement.{passes_more}
+use Rattle.rasn_de.proofs.Leaves.Returns.{residual}
 use Rattle.rasn_de.proofs.ber.de.Decoder.elements.Goals as goal
 
 pub returns-in_err-push_element : goal.returns-in_err-push_element

@@ -4,11 +4,11 @@ use Rattle.rasn_types.specs.Order.{IsLess}
 use Rattle.rasn_types.specs.declared.error.decode.DerDecodeErrorKind.TheVariants.{SetOfOutOfOrder}
 use Rattle.rasn_de.specs.Decodes.{Decodes}
 use Rattle.rasn_de.specs.State.{State}
-use Rattle.rasn_de.specs.declared.ber.de.parser.Fault.TheVariants.{Der}
-use Rattle.rasn_de.proofs.Stepping.{rules_same}
-use Rattle.rasn_types.proofs.Falling.{ends_more, in_order, out_of_order}
-use Rattle.rasn_de.proofs.SetsOf.{passes_from, came_stays}
-use Rattle.rasn_de.proofs.Returns.{residual}
+use Rattle.rasn_de.specs.declared.ber.de.parser.ParseError.TheVariants.{Der}
+use Rattle.rasn_de.proofs.Constructed.Steps.{rules_same}
+use Rattle.rasn_types.proofs.SetOf.Ascending.{ends_more, in_order, out_of_order}
+use Rattle.rasn_de.proofs.Constructed.SetOfElements.{passes_from, came_stays}
+use Rattle.rasn_de.proofs.Leaves.Returns.{residual}
 use Rattle.rasn_de.proofs.ber.de.Decoder.elements_in_order.Goals.{else-is_strict-via-then-is_strict+else-is_less, else-is_strict-via-else-is_strict}
 use Rattle.rasn_de.proofs.ber.de.Decoder.elements_in_order.Goals as goal
 

@@ -1,6 +1,6 @@
 use Rattle.std.proofs.Common.{◌≡◌, false, ◌&&◌, not, refl, rules}
-use Rattle.rasn_de.proofs.Entering.{opens_deep, opens_none, opens_primitive, opens_value}
-use Rattle.rasn_de.proofs.Returns.{residual}
+use Rattle.rasn_de.proofs.Constructed.Opening.{opens_deep, opens_none, opens_primitive, opens_value}
+use Rattle.rasn_de.proofs.Leaves.Returns.{residual}
 use Rattle.rasn_de.proofs.ber.de.Decoder.open.Goals.{else-header-via-then-header+else-not-value, else-header-via-else-header}
 use Rattle.rasn_de.proofs.ber.de.Decoder.open.Goals as goal
 

@@ -1,8 +1,8 @@
 use Rattle.std.proofs.Common.{ℕ, ap}
 use Rattle.std.specs.declared.alloc.Global.{Global}
 use Rattle.std.specs.declared.vec.Vec.{Vec}
-use Rattle.rasn_types.specs.Times.{GeneralGeneralized}
-use Rattle.rasn_de.proofs.TimeReads.{parsed_none}
+use Rattle.rasn_types.specs.Time.{GeneralGeneralized}
+use Rattle.rasn_de.proofs.Strings.Time.{parsed_none}
 use Rattle.rasn_de.proofs.ber.de.Decoder.parse_any_generalized_time_string.Goals as goal
 
 pub returns-in-None : goal.returns-in-None

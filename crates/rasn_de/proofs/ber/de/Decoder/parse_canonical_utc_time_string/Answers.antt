@@ -1,6 +1,6 @@
-use Rattle.rasn_types.specs.Times.{CanonicalUtc}
-use Rattle.rasn_de.specs.TimeTexts.{AtAnyOffset}
-use Rattle.rasn_de.proofs.TimeReads.{copied_none}
+use Rattle.rasn_types.specs.Time.{CanonicalUtc}
+use Rattle.rasn_de.specs.Time.{AtAnyOffset}
+use Rattle.rasn_de.proofs.Strings.Time.{copied_none}
 use Rattle.rasn_de.proofs.ber.de.Decoder.parse_canonical_utc_time_string.Goals as goal
 
 pub returns-in-None : goal.returns-in-None

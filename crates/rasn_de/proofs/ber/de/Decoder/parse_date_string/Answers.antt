@@ -1,5 +1,5 @@
-use Rattle.rasn_types.specs.Times.{DateText}
-use Rattle.rasn_de.proofs.TimeReads.{copied_none}
+use Rattle.rasn_types.specs.Time.{DateText}
+use Rattle.rasn_de.proofs.Strings.Time.{copied_none}
 use Rattle.rasn_de.proofs.ber.de.Decoder.parse_date_string.Goals as goal
 
 pub returns-in-None : goal.returns-in-None

@@ -1,6 +1,6 @@
 use Rattle.std.proofs.Common.{◌≡◌, ap}
 use Rattle.rasn_types.specs.Tags.{form, TagAndBit}
-use Rattle.rasn_de.proofs.Peeks.{next_read, next_unread, next_memory, kind_memory}
+use Rattle.rasn_de.proofs.Headers.NextTag.{next_read, next_unread, next_memory, kind_memory}
 use Rattle.rasn_de.proofs.ber.de.Decoder.peek_tag.Goals as goal
 
 pub returns-clause-next : goal.returns-clause-next

@@ -1,6 +1,6 @@
 use Rattle.std.proofs.Common.{refl}
-use Rattle.rasn_de.proofs.OpenTypes.{skipped_at}
-use Rattle.rasn_de.proofs.OutOfMemory.{skips_plain}
+use Rattle.rasn_de.proofs.Any.Reads.{skipped_at}
+use Rattle.rasn_de.proofs.Leaves.Memory.{skips_plain}
 use Rattle.rasn_de.proofs.ber.de.Decoder.skip_value.Goals as goal
 
 pub returns-in-Ok-clause-exact : goal.returns-in-Ok-clause-exact

@@ -1,5 +1,5 @@
 use Rattle.std.proofs.Common.{refl}
-use Rattle.rasn_enc.proofs.Enclosed.{inner, enclosed, dropped, enclosing_refused}
+use Rattle.rasn_enc.proofs.Constructed.Enclosed.{inner, enclosed, dropped, enclosing_refused}
 use Rattle.rasn_enc.proofs.ber.enc.Encoder.enclose.Goals as goal
 
 pub close-requires : goal.close-requires

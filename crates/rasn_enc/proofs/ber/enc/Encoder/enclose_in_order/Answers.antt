@@ -1,5 +1,5 @@
 use Rattle.std.proofs.Common.{refl, true}
-use Rattle.rasn_enc.proofs.Enclosed.{inner, dropped, enclosed_in_order, enclosing_in_order_refused}
+use Rattle.rasn_enc.proofs.Constructed.Enclosed.{inner, dropped, enclosed_in_order, enclosing_in_order_refused}
 use Rattle.rasn_enc.proofs.ber.enc.Encoder.enclose_in_order.Goals as goal
 
 pub close-requires : goal.close-requires

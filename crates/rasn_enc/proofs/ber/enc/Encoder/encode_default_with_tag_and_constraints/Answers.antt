@@ -1,6 +1,6 @@
 use Rattle.std.proofs.Common.{subst, sym}
 use Rattle.rasn_types.specs.Bytes.{Same}
-use Rattle.rasn_enc.proofs.Sequences.{default_left}
+use Rattle.rasn_enc.proofs.OwnTypes.Sequence.{default_left}
 use Rattle.rasn_enc.proofs.ber.enc.Encoder.encode_default_with_tag_and_constraints.Goals as goal
 
 pub returns-in-Ok-clause-writes : goal.returns-in-Ok-clause-writes

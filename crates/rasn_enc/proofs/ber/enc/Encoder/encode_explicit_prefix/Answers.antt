@@ -1,4 +1,4 @@
-use Rattle.rasn_enc.proofs.Sequences.{absent_left}
+use Rattle.rasn_enc.proofs.OwnTypes.Sequence.{absent_left}
 use Rattle.rasn_enc.proofs.ber.enc.Encoder.encode_explicit_prefix.Goals as goal
 
 pub returns-else-is_present-clause-ok : goal.returns-else-is_present-clause-ok

@@ -1,5 +1,5 @@
 use Rattle.std.proofs.Common.{rules}
-use Rattle.rasn_enc.proofs.Integers.{integer_filled}
+use Rattle.rasn_enc.proofs.Leaves.Integer.{integer_filled}
 use Rattle.rasn_enc.proofs.ber.enc.Encoder.encode_integer.Goals as goal
 
 pub returns-in-Ok-clause-ok : goal.returns-in-Ok-clause-ok

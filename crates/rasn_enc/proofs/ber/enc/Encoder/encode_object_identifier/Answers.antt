@@ -1,5 +1,5 @@
 use Rattle.std.proofs.Common.{rules}
-use Rattle.rasn_enc.proofs.Numbered.{object_filled}
+use Rattle.rasn_enc.proofs.Leaves.ObjectIdentifier.{object_filled}
 use Rattle.rasn_enc.proofs.ber.enc.Encoder.encode_object_identifier.Goals as goal
 
 pub returns-in-Ok-clause-ok : goal.returns-in-Ok-clause-ok

@@ -3,29 +3,29 @@ use Rattle.std.proofs.lemmas.List.{length-map}
 use Rattle.std.proofs.lemmas.Result.{err_from_is_err_and}
 use Rattle.rasn_types.specs.Shapes.{Admits}
 use Rattle.rasn_enc.specs.View.{opened}
-use Rattle.rasn_enc.specs.Elements.{WroteSetOf, RefusesInSetOf, RefusesFall, RefusesSetOf}
-use Rattle.rasn_enc.proofs.SetsOf.{set_of_ok, set_of_named, set_of_may_refuse, set_of_none}
+use Rattle.rasn_enc.specs.SequenceOf.{AppendsSetOf, FailsInSetOf, FailsOutOfOrder, FailsAtSetOf}
+use Rattle.rasn_enc.proofs.Constructed.SetOf.{set_of_ok, set_of_named, set_of_may_refuse, set_of_none}
 use Rattle.rasn_enc.proofs.ber.enc.Encoder.encode_set_of.Goals as goal
 
 pub returns-in_err-check_size-clause-refused : goal.returns-in_err-check_size-clause-refused
 returns-in_err-check_size-clause-refused g c = let p = err_from_is_err_and c.from_residual.result c.from_residual.ensures.1 in rw (p.1, p.2)
     (set_of_none g.E.AsnType.shape (map g.E.AsnType.tree c.args.values.now) c.args.tag c.args.constraints.now c.args.self.now _
-    (subst (λ n. RefusesSetOf g.E.AsnType.shape (map g.E.AsnType.tree c.args.values.now) n c.args.constraints.now c.args.self.now.rule c.in_err-check_size.field-0.0)
+    (subst (λ n. FailsAtSetOf g.E.AsnType.shape (map g.E.AsnType.tree c.args.values.now) n c.args.constraints.now c.args.self.now.rule c.in_err-check_size.field-0.0)
     (c.len.ensures ∙ sym (length-map c.args.values.now g.E.AsnType.tree)) (inl c.in_err-check_size.ensures.refused)))
 
 pub returns-clause-ok : goal.returns-clause-ok
 returns-clause-ok g c = set_of_ok _ _ g.E.AsnType.shape (map g.E.AsnType.tree c.args.values.now) c.args.tag c.args.constraints.now.size c.args.self.now _ _
     (subst (λ n. Admits ◌≤◌ c.args.constraints.now.size n) (c.len.ensures ∙ sym (length-map c.args.values.now g.E.AsnType.tree)) c.in_ok-check_size.ensures.ok) c.enclose.ensures.ok
-    (λ u k. subst (λ l. WroteSetOf g.E.AsnType.shape (map g.E.AsnType.tree l) (opened c.args.self.now false) u) c.as_slice-elements.ensures (search rules))
+    (λ u k. subst (λ l. AppendsSetOf g.E.AsnType.shape (map g.E.AsnType.tree l) (opened c.args.self.now false) u) c.as_slice-elements.ensures (search rules))
 
 pub returns-clause-named : goal.returns-clause-named
 returns-clause-named g c = set_of_named _ _ g.E.AsnType.shape (map g.E.AsnType.tree c.args.values.now) c.args.constraints.now _ c.args.self.now _
     (subst (λ n. Admits ◌≤◌ c.args.constraints.now.size n) c.len.ensures c.in_ok-check_size.ensures.ok) c.enclose.ensures.refused
-    (λ e u k. subst (λ l. RefusesInSetOf g.E.AsnType.shape (map g.E.AsnType.tree l) c.args.self.now.rule e ⊎ RefusesFall g.E.AsnType.shape (map g.E.AsnType.tree l) c.args.self.now.rule e) c.as_slice-elements.ensures (search rules))
+    (λ e u k. subst (λ l. FailsInSetOf g.E.AsnType.shape (map g.E.AsnType.tree l) c.args.self.now.rule e ⊎ FailsOutOfOrder g.E.AsnType.shape (map g.E.AsnType.tree l) c.args.self.now.rule e) c.as_slice-elements.ensures (search rules))
 
 pub returns-clause-refused : goal.returns-clause-refused
 returns-clause-refused g c = set_of_may_refuse g.E.AsnType.shape (map g.E.AsnType.tree c.args.values.now) c.args.tag c.args.constraints.now _ c.args.self.now _
     (sym (length-map c.args.values.now g.E.AsnType.tree))
     (set_of_named _ _ g.E.AsnType.shape (map g.E.AsnType.tree c.args.values.now) c.args.constraints.now _ c.args.self.now _
     (subst (λ n. Admits ◌≤◌ c.args.constraints.now.size n) c.len.ensures c.in_ok-check_size.ensures.ok) c.enclose.ensures.refused
-    (λ e u k. subst (λ l. RefusesInSetOf g.E.AsnType.shape (map g.E.AsnType.tree l) c.args.self.now.rule e ⊎ RefusesFall g.E.AsnType.shape (map g.E.AsnType.tree l) c.args.self.now.rule e) c.as_slice-elements.ensures (search rules)))
+    (λ e u k. subst (λ l. FailsInSetOf g.E.AsnType.shape (map g.E.AsnType.tree l) c.args.self.now.rule e ⊎ FailsOutOfOrder g.E.AsnType.shape (map g.E.AsnType.tree l) c.args.self.now.rule e) c.as_slice-elements.ensures (search rules)))

@@ -1,5 +1,5 @@
 use Rattle.std.proofs.Common.{rules}
-use Rattle.rasn_enc.proofs.Filled.{filled_with}
+use Rattle.rasn_enc.proofs.Buffer.Filled.{filled_with}
 use Rattle.rasn_enc.proofs.ber.enc.Encoder.leaf_of.Goals as goal
 
 pub returns-in-Ok-clause-ok : goal.returns-in-Ok-clause-ok

@@ -1,7 +1,7 @@
 use Rattle.std.proofs.Common.{◌<◌, length}
 use Rattle.rasn_types.specs.Tags.{in_universal}
 use Rattle.rasn_types.specs.Bytes.{WrittenBits}
-use Rattle.rasn_enc.proofs.Segments.{SegmentsSoFar}
+use Rattle.rasn_enc.proofs.Leaves.Segments.{SegmentsSoFar}
 use Rattle.rasn_enc.proofs.ber.enc.Encoder.write_bit_segments.Given as goal
 
 abbrev pub invariant-loop-rest : goal.invariant-loop-rest

@@ -4,10 +4,10 @@ use Rattle.rasn_types.specs.Tags.{in_universal}
 use Rattle.rasn_types.specs.Framing.{AreOctets}
 use Rattle.rasn_types.specs.Contents.{joined_lists}
 use Rattle.rasn_types.specs.Bytes.{WritesOctets}
-use Rattle.rasn_types.proofs.Digits.{front_octets}
+use Rattle.rasn_types.proofs.Headers.Digits.{front_octets}
 use Rattle.rasn_enc.specs.View.{View}
-use Rattle.rasn_enc.proofs.Octets.{octets_all}
-use Rattle.rasn_enc.proofs.Segments.{SegmentsSoFar, appends_piece, segments_more, segments_done, cut_at}
+use Rattle.rasn_enc.proofs.Buffer.Octets.{octets_all}
+use Rattle.rasn_enc.proofs.Leaves.Segments.{SegmentsSoFar, appends_piece, segments_more, segments_done, cut_at}
 use Rattle.rasn_enc.proofs.ber.enc.Encoder.write_segments.Goals as goal
 
 rest_octets : (xs rest : List ℕ) (v w : View) → SegmentsSoFar WritesOctets 1000 (in_universal 4) xs rest v w → ((i : ℕ) → get_or xs i 0 < 256) → AreOctets rest

@@ -3,7 +3,7 @@ use Rattle.rasn_types.specs.Shapes.{Tree, Parts, part, presences, default, leaf,
 use Rattle.rasn_types.specs.Shapes.Parts.{none}
 use Rattle.rasn_types.specs.Tags.{in_universal}
 use Rattle.rasn_types.specs.Trees.{unconstrained, unsigned_range}
-use Rattle.rasn_types.specs.Readers.{AllMissing}
+use Rattle.rasn_types.specs.Readings.{AllMissing}
 use Rattle.rasn_tests.proofs.types.counted.CountedDecode.decode_with_tag_and_constraints.Goals as goal
 
 abbrev parts : Parts

@@ -1,6 +1,6 @@
 use Rattle.std.proofs.Common.{◌≡◌, true, false, refl}
-use Rattle.rasn_types.specs.Times.{short_form, canonical_form, both}
-use Rattle.rasn_types.proofs.Stamped.{utc_none, utc_unlike, utc_made, both_off, both_on}
+use Rattle.rasn_types.specs.Time.{short_form, canonical_form, both}
+use Rattle.rasn_types.proofs.Time.Stamps.{utc_none, utc_unlike, utc_made, both_off, both_on}
 use Rattle.rasn_types.proofs.ber.time.parse.canonical_utc_stamp.Goals as goal
 
 pub returns-in_err-year : goal.returns-in_err-year

@@ -1,4 +1,4 @@
-use Rattle.rasn_types.proofs.ShortTexts.{last_told}
+use Rattle.rasn_types.proofs.Time.ShortestTexts.{last_told}
 use Rattle.rasn_types.proofs.ber.time.parse.is_shortest.Goals as goal
 
 pub returns-then-text-le25 : goal.returns-then-text-le25

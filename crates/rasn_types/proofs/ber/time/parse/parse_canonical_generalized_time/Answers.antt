@@ -1,5 +1,5 @@
-use Rattle.rasn_types.specs.Times.{long_form, canonical_form, both}
-use Rattle.rasn_types.proofs.Stamped.{generalized_none, generalized_unlike, generalized_made}
+use Rattle.rasn_types.specs.Time.{long_form, canonical_form, both}
+use Rattle.rasn_types.proofs.Time.Stamps.{generalized_none, generalized_unlike, generalized_made}
 use Rattle.rasn_types.proofs.ber.time.parse.parse_canonical_generalized_time.Goals as goal
 
 pub returns-in_err-year : goal.returns-in_err-year

@@ -1,5 +1,5 @@
-use Rattle.rasn_types.specs.Times.{CanonicalUtc}
-use Rattle.rasn_types.proofs.Stamped.{moment_none}
+use Rattle.rasn_types.specs.Time.{CanonicalUtc}
+use Rattle.rasn_types.proofs.Time.Stamps.{moment_none}
 use Rattle.rasn_types.proofs.ber.time.parse.parse_canonical_utc_time.Goals as goal
 
 pub returns-in_err-stamp : goal.returns-in_err-stamp

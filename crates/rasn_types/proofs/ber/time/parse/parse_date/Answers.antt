@@ -1,4 +1,4 @@
-use Rattle.rasn_types.proofs.Dated.{date_none, date_made}
+use Rattle.rasn_types.proofs.Time.Dates.{date_none, date_made}
 use Rattle.rasn_types.proofs.ber.time.parse.parse_date.Goals as goal
 
 pub returns-in_err-year : goal.returns-in_err-year

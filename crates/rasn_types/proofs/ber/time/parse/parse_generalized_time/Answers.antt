@@ -1,6 +1,6 @@
 use Rattle.std.proofs.Common.{refl}
-use Rattle.rasn_types.specs.Times.{long_form}
-use Rattle.rasn_types.proofs.Stamped.{generalized_none, generalized_made}
+use Rattle.rasn_types.specs.Time.{long_form}
+use Rattle.rasn_types.proofs.Time.Stamps.{generalized_none, generalized_made}
 use Rattle.rasn_types.proofs.ber.time.parse.parse_generalized_time.Goals as goal
 
 pub returns-in_err-year : goal.returns-in_err-year

@@ -1,5 +1,5 @@
-use Rattle.rasn_types.specs.Times.{GeneralUtc}
-use Rattle.rasn_types.proofs.Stamped.{moment_none}
+use Rattle.rasn_types.specs.Time.{GeneralUtc}
+use Rattle.rasn_types.proofs.Time.Stamps.{moment_none}
 use Rattle.rasn_types.proofs.ber.time.parse.parse_utc_time.Goals as goal
 
 pub returns-in_err-stamp : goal.returns-in_err-stamp

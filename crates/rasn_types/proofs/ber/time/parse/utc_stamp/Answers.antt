@@ -1,5 +1,5 @@
-use Rattle.rasn_types.specs.Times.{short_form}
-use Rattle.rasn_types.proofs.Stamped.{utc_none, utc_unlike, utc_made}
+use Rattle.rasn_types.specs.Time.{short_form}
+use Rattle.rasn_types.proofs.Time.Stamps.{utc_none, utc_unlike, utc_made}
 use Rattle.rasn_types.proofs.ber.time.parse.utc_stamp.Goals as goal
 
 pub returns-in_err-year : goal.returns-in_err-year

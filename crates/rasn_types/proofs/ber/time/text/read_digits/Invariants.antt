@@ -1,5 +1,5 @@
 use Rattle.std.proofs.Common.{◌≡◌, ◌+◌, ◌^◌, ◌≤◌, length}
-use Rattle.rasn_types.specs.Reading.{digits_at}
+use Rattle.rasn_types.specs.TimeParsing.{digits_at}
 use Rattle.rasn_types.proofs.ber.time.text.read_digits.Given as goal
 
 abbrev pub invariant-loop-rest : goal.invariant-loop-rest

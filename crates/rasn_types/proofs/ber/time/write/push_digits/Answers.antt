@@ -1,6 +1,6 @@
 use Rattle.std.proofs.Common.{ℕ, List, ◌+◌, ◌/◌, arith, ◌≡◌, ◌-◌, sym, ◌∙◌, append-nil, append_assoc, ap, ◌++◌, ◌∷◌, []}
-use Rattle.rasn_types.proofs.Fractions.{pushed, digits_of_zero, digits_of_none}
-use Rattle.rasn_types.proofs.Powers.{ten_pos}
+use Rattle.rasn_types.proofs.Time.Fractions.{pushed, digits_of_zero, digits_of_none}
+use Rattle.rasn_types.proofs.Time.Powers.{ten_pos}
 use Rattle.std.proofs.Math.Nat.{mod-lt}
 use Rattle.rasn_types.proofs.ber.time.write.push_digits.Goals as goal
 

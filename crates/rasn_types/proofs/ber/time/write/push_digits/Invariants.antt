@@ -1,5 +1,5 @@
 use Rattle.std.proofs.Common.{ℕ, List, ◌≡◌, ◌+◌, ◌^◌, ◌<◌, ◌≤◌, ◌++◌, map}
-use Rattle.rasn_types.specs.Times.{digits_of}
+use Rattle.rasn_types.specs.Time.{digits_of}
 use Rattle.rasn_types.proofs.ber.time.write.push_digits.Given as goal
 
 abbrev pub invariant-loop-place : goal.invariant-loop-place

@@ -1,6 +1,6 @@
 use Rattle.std.proofs.Common.{ap₂, ◌+◌, ◌*◌, ◌/◌, ◌%◌, ◌-◌, ◌^◌, ◌∙◌}
 use Rattle.rasn_types.specs.Contents.{bits_of}
-use Rattle.rasn_types.proofs.Bits.{across_bits}
+use Rattle.rasn_types.proofs.BitString.Bits.{across_bits}
 use Rattle.rasn_types.proofs.types.bits.packing.across.Goals as goal
 
 pub returns : goal.returns

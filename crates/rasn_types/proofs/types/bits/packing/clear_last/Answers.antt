@@ -1,4 +1,4 @@
-use Rattle.rasn_types.proofs.BitViews.{octets_by}
+use Rattle.rasn_types.proofs.BitString.Views.{octets_by}
 use Rattle.rasn_types.proofs.types.bits.packing.clear_last.Goals as goal
 
 pub returns-in-Some-clause-octets : goal.returns-in-Some-clause-octets

@@ -2,7 +2,7 @@ use Rattle.std.proofs.Common.{◌<◌, ◌*◌, ◌/◌, ◌^◌, ◌∙◌, ap,
 use Rattle.std.proofs.Math.Nat.{mod-eq_of_lt}
 use Rattle.std.proofs.lemmas.Nat.{shr_split}
 use Rattle.rasn_types.specs.Contents.{bits_of}
-use Rattle.rasn_types.proofs.Bits.{cleared_bits}
+use Rattle.rasn_types.proofs.BitString.Bits.{cleared_bits}
 use Rattle.rasn_types.proofs.types.bits.packing.cleared.Goals as goal
 
 pub returns : goal.returns

@@ -1,4 +1,4 @@
-use Rattle.rasn_types.proofs.Bits.{moved_bits}
+use Rattle.rasn_types.proofs.BitString.Bits.{moved_bits}
 use Rattle.rasn_types.proofs.types.bits.packing.moved_down.Goals as goal
 
 pub returns : goal.returns

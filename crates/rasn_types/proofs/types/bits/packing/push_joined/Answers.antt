@@ -1,4 +1,4 @@
-use Rattle.rasn_types.proofs.BitViews.{joins}
+use Rattle.rasn_types.proofs.BitString.Views.{joins}
 use Rattle.rasn_types.proofs.types.bits.packing.push_joined.Goals as goal
 
 pub returns-in-Some : goal.returns-in-Some

@@ -1,5 +1,5 @@
 use Rattle.std.proofs.Common.{arith, refl}
-use Rattle.rasn_types.proofs.Bits.{shifting_start, shifting_step, shifting_end}
+use Rattle.rasn_types.proofs.BitString.Bits.{shifting_start, shifting_step, shifting_end}
 use Rattle.rasn_types.proofs.types.bits.packing.push_shifted.Goals as goal
 
 pub loop-octet-init : goal.loop-octet-init

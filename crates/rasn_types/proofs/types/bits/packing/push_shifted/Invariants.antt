@@ -1,5 +1,5 @@
 use Rattle.std.proofs.Common.{◌+◌, ◌-◌, ◌≤◌, length, vec_len, vec_capacity}
-use Rattle.rasn_types.proofs.Bits.{Shifting}
+use Rattle.rasn_types.proofs.BitString.Bits.{Shifting}
 use Rattle.rasn_types.proofs.types.bits.packing.push_shifted.Given as goal
 
 abbrev pub invariant-loop-octet : goal.invariant-loop-octet

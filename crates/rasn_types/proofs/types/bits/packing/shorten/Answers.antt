@@ -1,6 +1,6 @@
 use Rattle.std.proofs.Common.{◌≡◌, ◌∙◌, ap, arith, take, length, vec_len, ◌-◌}
-use Rattle.rasn_types.specs.Bits.{but_last}
-use Rattle.rasn_types.proofs.BitViews.{but_last_popped}
+use Rattle.rasn_types.specs.BitString.{but_last}
+use Rattle.rasn_types.proofs.BitString.Views.{but_last_popped}
 use Rattle.rasn_types.proofs.types.bits.packing.shorten.Goals as goal
 
 pub returns-clause-same : goal.returns-clause-same

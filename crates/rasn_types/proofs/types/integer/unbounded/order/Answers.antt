@@ -1,6 +1,6 @@
 use Rattle.std.proofs.Common.{◌∙◌, ap₂}
 use Rattle.std.specs.Ordering.{ordering_then}
-use Rattle.rasn_types.proofs.NumberOrder.{positive_order, negative_order, signs_apart}
+use Rattle.rasn_types.proofs.Integer.Order.{positive_order, negative_order, signs_apart}
 use Rattle.rasn_types.proofs.types.integer.unbounded.order.Goals as goal
 
 pub returns-in-true-true : goal.returns-in-true-true

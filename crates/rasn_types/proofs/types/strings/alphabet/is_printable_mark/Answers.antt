@@ -1,5 +1,5 @@
-use Rattle.rasn_types.specs.Characters.{printable_marks}
-use Rattle.rasn_types.proofs.Contained.{any_tells}
+use Rattle.rasn_types.specs.CharacterString.{printable_marks}
+use Rattle.rasn_types.proofs.Enumerated.Contained.{any_tells}
 use Rattle.rasn_types.proofs.types.strings.alphabet.is_printable_mark.Goals as goal
 
 pub returns : goal.returns

@@ -1,4 +1,4 @@
-use Rattle.rasn_types.proofs.StringTexts.{units_told}
+use Rattle.rasn_types.proofs.CharacterString.Texts.{units_told}
 use Rattle.rasn_types.proofs.types.strings.bmp.are_equal.Goals as goal
 
 pub returns : goal.returns

@@ -1,5 +1,5 @@
-use Rattle.rasn_de.proofs.OpenTypes.{encoding_open, encoding_refused}
-use Rattle.rasn_de.proofs.Returns.{residual}
+use Rattle.rasn_de.proofs.Any.Reads.{encoding_open, encoding_refused}
+use Rattle.rasn_de.proofs.Leaves.Returns.{residual}
 use Rattle.rasn_de.proofs.ber.de.parser.skipping.read_encoding.Goals as goal
 
 pub returns-in_err-after : goal.returns-in_err-after

@@ -1,8 +1,8 @@
 use Rattle.std.proofs.Common.{◌≡◌, suc, ◌-◌, arith}
-use Rattle.rasn_de.proofs.Tools.{octets_all}
-use Rattle.rasn_de.proofs.Skipping.{passing_start, passing_at, passing_end, passing_close, passing_stuck, passing_header, octets_left, header_smaller}
-use Rattle.rasn_de.proofs.Openings.{extent_open, extent_definite}
-use Rattle.rasn_de.proofs.Returns.{residual}
+use Rattle.rasn_de.proofs.Headers.Results.{octets_all}
+use Rattle.rasn_de.proofs.Any.Skipping.{passing_start, passing_at, passing_end, passing_close, passing_unparsable, passing_header, octets_left, header_smaller}
+use Rattle.rasn_de.proofs.Headers.Extents.{extent_open, extent_definite}
+use Rattle.rasn_de.proofs.Leaves.Returns.{residual}
 use Rattle.rasn_de.proofs.ber.de.parser.skipping.skip_contents.Goals as goal
 use Rattle.rasn_de.proofs.ber.de.parser.skipping.skip_contents.Goals.{in-Indefinite, in_default-contents}
 
@@ -22,7 +22,7 @@ values-preserved-in-Some c =
 
 pub returns-in_err-value-clause-exact : goal.returns-in_err-value-clause-exact
 returns-in_err-value-clause-exact c =
-    rw (residual _ c.from_residual.ensures.1) (passing_stuck c.args.rule c.args.input.now c.values.open c.values.turns c.values.rest.now _
+    rw (residual _ c.from_residual.ensures.1) (passing_unparsable c.args.rule c.args.input.now c.values.open c.values.turns c.values.rest.now _
     (octets_left c.args.rule c.args.input.now c.values.open c.values.turns c.values.rest.now (octets_all c.args.input.now (λ i. omega (arith, c.type_inv.input i))) c.values.invariant)
     c.in_err-value.ensures.exact c.in_default.ensures c.values.invariant)
 

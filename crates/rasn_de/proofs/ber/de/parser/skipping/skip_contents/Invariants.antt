@@ -1,5 +1,5 @@
 use Rattle.std.proofs.Common.{length}
-use Rattle.rasn_de.proofs.Skipping.{Passing}
+use Rattle.rasn_de.proofs.Any.Skipping.{Passing}
 use Rattle.rasn_de.proofs.ber.de.parser.skipping.skip_contents.Given as goal
 
 abbrev pub invariant-values : goal.invariant-values

@@ -1,10 +1,10 @@
 use Rattle.std.proofs.Common.{◌<◌, length, ap, arith}
 use Rattle.std.proofs.lemmas.Result.{IfOk-weaker}
-use Rattle.rasn_de.proofs.Tools.{octets_all}
-use Rattle.rasn_de.proofs.Skipping.{skipped_refused, skipped_plain, skipped_open, header_smaller}
+use Rattle.rasn_de.proofs.Headers.Results.{octets_all}
+use Rattle.rasn_de.proofs.Any.Skipping.{skipped_refused, skipped_plain, skipped_open, header_smaller}
 use Rattle.rasn_de.specs.Skipping.{passed}
-use Rattle.rasn_de.specs.Views.{header, extent}
-use Rattle.rasn_de.proofs.Returns.{residual}
+use Rattle.rasn_de.specs.ParserViews.{header, extent}
+use Rattle.rasn_de.proofs.Leaves.Returns.{residual}
 use Rattle.rasn_de.proofs.ber.de.parser.skipping.skip_encoding.Goals as goal
 
 pub returns-in_err-value-clause-exact : goal.returns-in_err-value-clause-exact

@@ -1,5 +1,5 @@
 use Rattle.std.proofs.Common.{ap, ◌∙◌, ◌++◌, ◌∷◌, [], ◌≡◌}
-use Rattle.rasn_enc.proofs.Chains.{top, cut-chain, cut-view}
+use Rattle.rasn_enc.proofs.Buffer.OpenValues.{top, cut-chain, cut-view}
 use Rattle.rasn_enc.proofs.ber.enc.writer.Writer.abandon.Goals as goal
 
 pub invariant_of-self : goal.invariant_of-self

@@ -1,9 +1,9 @@
 use Rattle.std.proofs.Common.{refl, rules, ◌≡◌, ◌++◌, ◌∷◌, [], length, Some, None, cond}
-use Rattle.rasn_enc.specs.Lists.{tags_of}
-use Rattle.rasn_enc.specs.Marks.{mark_at}
+use Rattle.rasn_enc.specs.Buffer.Lists.{tags_of}
+use Rattle.rasn_enc.specs.Buffer.DeferredHeaders.{mark_at}
 use Rattle.rasn_enc.specs.declared.ber.enc.writer.Open.{Open}
-use Rattle.rasn_enc.specs.declared.ber.enc.marks.Head.TheVariants.{Unfinished}
-use Rattle.rasn_enc.proofs.Chains.{begun, begun-sound, begun-chain}
+use Rattle.rasn_enc.specs.declared.ber.enc.writer.deferred_headers.HeaderForm.TheVariants.{Unfinished}
+use Rattle.rasn_enc.proofs.Buffer.OpenValues.{begun, begun-sound, begun-chain}
 use Rattle.rasn_enc.proofs.ber.enc.writer.Writer.begin.Goals as goal
 
 pub invariant_of-self-in-Ok : goal.invariant_of-self-in-Ok

@@ -1,6 +1,6 @@
 use Rattle.std.proofs.Common.{rules, length, ap, ◌∙◌, ◌++◌, ◌∷◌, [], ◌≡◌, arith}
-use Rattle.rasn_enc.specs.Lists.{tags_of}
-use Rattle.rasn_enc.proofs.Chains.{top, cut-chain, cut-view, finish-sound, finish-chain, finish-appends}
+use Rattle.rasn_enc.specs.Buffer.Lists.{tags_of}
+use Rattle.rasn_enc.proofs.Buffer.OpenValues.{top, cut-chain, cut-view, finish-sound, finish-chain, finish-appends}
 use Rattle.rasn_enc.proofs.ber.enc.writer.Writer.finish.Goals as goal
 
 pub surround-requires : goal.surround-requires

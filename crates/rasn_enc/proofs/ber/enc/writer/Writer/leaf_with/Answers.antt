@@ -1,6 +1,6 @@
 use Rattle.std.proofs.Common.{◌∷◌, []}
-use Rattle.rasn_enc.specs.Lists.{tags_of}
-use Rattle.rasn_enc.proofs.Chains.{put-there, put-sound, put-chain}
+use Rattle.rasn_enc.specs.Buffer.Lists.{tags_of}
+use Rattle.rasn_enc.proofs.Buffer.OpenValues.{put-there, put-sound, put-chain}
 use Rattle.rasn_enc.proofs.ber.enc.writer.Writer.leaf_with.Goals as goal
 
 pub invariant_of-self : goal.invariant_of-self

@@ -1,6 +1,6 @@
 use Rattle.std.proofs.Common.{false, arith}
 use Rattle.std.proofs.lemmas.List.{take_more_same}
-use Rattle.rasn_types.proofs.BitViews.{one_bit, bits_apart, bits_alike}
+use Rattle.rasn_types.proofs.BitString.Views.{one_bit, bits_apart, bits_alike}
 use Rattle.rasn_types.proofs.types.bits.bit_str.BitStr.agrees.Goals as goal
 
 pub returns-then-bit : goal.returns-then-bit

@@ -1,6 +1,6 @@
 use Rattle.std.proofs.Common.{◌≡◌, ◌+◌, ◌∙◌, ap, subst, length, take, List, ℕ, arith}
-use Rattle.rasn_types.specs.Packing.{Shifts}
-use Rattle.rasn_types.proofs.BitViews.{packed, first_more, octets_by}
+use Rattle.rasn_types.specs.BitPacking.{Shifts}
+use Rattle.rasn_types.proofs.BitString.Views.{packed, first_more, octets_by}
 use Rattle.rasn_types.proofs.types.bits.bit_str.BitStr.append_to.Goals as goal
 
 pub returns-in-len1-up-clause-ok : goal.returns-in-len1-up-clause-ok

@@ -1,5 +1,5 @@
 use Rattle.std.proofs.Common.{◌/◌, ◌%◌, ◌+◌, ◌<◌, length, ap, arith}
-use Rattle.rasn_types.proofs.BitViews.{bit_from, length-bits_from}
+use Rattle.rasn_types.proofs.BitString.Views.{bit_from, length-bits_from}
 use Rattle.rasn_types.proofs.types.bits.bit_str.BitStr.bit.Goals as goal
 
 pub returns : goal.returns

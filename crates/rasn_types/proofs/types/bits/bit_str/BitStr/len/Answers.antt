@@ -1,5 +1,5 @@
 use Rattle.std.proofs.Common.{sym}
-use Rattle.rasn_types.proofs.BitViews.{length-bits_from}
+use Rattle.rasn_types.proofs.BitString.Views.{length-bits_from}
 use Rattle.rasn_types.proofs.types.bits.bit_str.BitStr.len.Goals as goal
 
 pub returns : goal.returns

@@ -1,5 +1,5 @@
 use Rattle.std.proofs.Common.{◌/◌, ◌%◌, arith}
-use Rattle.rasn_types.proofs.BitViews.{bits_from_part}
+use Rattle.rasn_types.proofs.BitString.Views.{bits_from_part}
 use Rattle.rasn_types.proofs.types.bits.bit_str.BitStr.new.Goals as goal
 
 pub returns : goal.returns

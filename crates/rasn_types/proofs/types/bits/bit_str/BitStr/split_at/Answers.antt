@@ -1,5 +1,5 @@
 use Rattle.std.proofs.Common.{◌/◌, ◌%◌, ◌+◌, ◌-◌, ◌≤◌, ◌∙◌, subst, sym, length, List, Bool, arith}
-use Rattle.rasn_types.proofs.BitViews.{bits_from_part, back_bits, length-bits_from}
+use Rattle.rasn_types.proofs.BitString.Views.{bits_from_part, back_bits, length-bits_from}
 use Rattle.rasn_types.proofs.types.bits.bit_str.BitStr.split_at.Goals as goal
 
 pub returns-clause-back : goal.returns-clause-back

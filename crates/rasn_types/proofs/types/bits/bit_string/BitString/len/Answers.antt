@@ -1,5 +1,5 @@
 use Rattle.std.proofs.Common.{sym, arith}
-use Rattle.rasn_types.proofs.BitViews.{length-bits_from}
+use Rattle.rasn_types.proofs.BitString.Views.{length-bits_from}
 use Rattle.rasn_types.proofs.types.bits.bit_string.BitString.len.Goals as goal
 
 pub returns : goal.returns

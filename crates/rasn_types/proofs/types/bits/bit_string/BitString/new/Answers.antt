@@ -1,5 +1,5 @@
 use Rattle.std.proofs.Common.{arith}
-use Rattle.rasn_types.proofs.BitViews.{kept}
+use Rattle.rasn_types.proofs.BitString.Views.{kept}
 use Rattle.rasn_types.proofs.types.bits.bit_string.BitString.new.Goals as goal
 
 pub invariant_of-result : goal.invariant_of-result

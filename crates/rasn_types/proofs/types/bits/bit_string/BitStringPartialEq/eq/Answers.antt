@@ -1,4 +1,4 @@
-use Rattle.rasn_types.proofs.BitViews.{equal_bits, unequal_bits}
+use Rattle.rasn_types.proofs.BitString.Views.{equal_bits, unequal_bits}
 use Rattle.rasn_types.proofs.types.bits.bit_string.BitStringPartialEq.eq.Goals as goal
 
 pub returns-then-self-other : goal.returns-then-self-other

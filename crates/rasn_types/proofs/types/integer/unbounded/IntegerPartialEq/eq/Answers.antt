@@ -1,4 +1,4 @@
-use Rattle.rasn_types.proofs.ShortestOctets.{equal_octets}
+use Rattle.rasn_types.proofs.Integer.Shortest.{equal_octets}
 use Rattle.rasn_types.proofs.types.integer.unbounded.IntegerPartialEq.eq.Goals as goal
 
 pub returns : goal.returns

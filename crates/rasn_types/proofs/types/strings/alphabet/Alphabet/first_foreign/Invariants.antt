@@ -1,5 +1,5 @@
 use Rattle.std.specs.List.{AllWithin}
-use Rattle.rasn_types.specs.Characters.{IsAdmitted}
+use Rattle.rasn_types.specs.CharacterString.{IsAdmitted}
 use Rattle.rasn_types.proofs.types.strings.alphabet.Alphabet.first_foreign.Given as goal
 
 abbrev pub invariant-loop-position : goal.invariant-loop-position

@@ -1,4 +1,4 @@
-use Rattle.rasn_types.proofs.TwosComplement.{are_octets}
+use Rattle.rasn_types.proofs.Integer.TwosComplement.{are_octets}
 use Rattle.rasn_types.proofs.types.strings.bmp.BmpStringPartialEq.eq.Goals as goal
 
 pub are_equal-requires-clause-octets : goal.are_equal-requires-clause-octets

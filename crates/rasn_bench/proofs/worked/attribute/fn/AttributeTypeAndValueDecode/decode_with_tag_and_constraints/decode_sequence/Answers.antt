@@ -1,4 +1,4 @@
-use Rattle.rasn_de.proofs.Parts.{refused, part_refused, after_part_refused, part_got, no_parts}
+use Rattle.rasn_de.proofs.OwnTypes.Parts.{refused, part_refused, after_part_refused, part_got, no_parts}
 use Rattle.rasn_bench.proofs.worked.attribute.fn.AttributeTypeAndValueDecode.decode_with_tag_and_constraints.decode_sequence.Goals as goal
 
 pub returns-in_err-kind : goal.returns-in_err-kind

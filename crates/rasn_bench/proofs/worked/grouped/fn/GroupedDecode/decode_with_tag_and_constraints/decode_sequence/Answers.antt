@@ -1,5 +1,5 @@
 use Rattle.std.proofs.Common.{refl}
-use Rattle.rasn_de.proofs.Parts.{refused, optional_part, part_refused, after_part_refused, part_got, no_parts}
+use Rattle.rasn_de.proofs.OwnTypes.Parts.{refused, optional_part, part_refused, after_part_refused, part_got, no_parts}
 use Rattle.rasn_bench.proofs.worked.grouped.fn.GroupedDecode.decode_with_tag_and_constraints.decode_sequence.Goals as goal
 
 pub returns-in_err-truth : goal.returns-in_err-truth

@@ -1,7 +1,7 @@
 use Rattle.std.proofs.Common.{rules}
 use Rattle.std.specs.Int.{w32}
 use Rattle.std.proofs.lemmas.Int.{to_z-of_z}
-use Rattle.rasn_de.proofs.Parts.{refused, part_refused, after_part_refused, part_got, no_parts}
+use Rattle.rasn_de.proofs.OwnTypes.Parts.{refused, part_refused, after_part_refused, part_got, no_parts}
 use Rattle.rasn_bench.proofs.worked.pair.fn.PairDecode.decode_with_tag_and_constraints.decode_sequence.Goals as goal
 
 pub returns-in_err-number : goal.returns-in_err-number

@@ -1,6 +1,6 @@
 use Rattle.std.proofs.Common.{ap, pos}
 use Rattle.rasn_types.specs.Shapes.{number}
-use Rattle.rasn_de.proofs.Parts.{refused, part_refused, after_part_refused, part_got, no_parts}
+use Rattle.rasn_de.proofs.OwnTypes.Parts.{refused, part_refused, after_part_refused, part_got, no_parts}
 use Rattle.rasn_bench.proofs.worked.setting.fn.SettingDecode.decode_with_tag_and_constraints.decode_sequence.Goals as goal
 
 pub returns-in_err-truth : goal.returns-in_err-truth

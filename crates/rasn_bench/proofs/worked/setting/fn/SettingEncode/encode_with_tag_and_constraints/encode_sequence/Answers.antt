@@ -1,6 +1,6 @@
 use Rattle.std.proofs.Common.{rules, pos}
 use Rattle.rasn_types.specs.Shapes.{number}
-use Rattle.rasn_enc.proofs.Sequences.{part_refused, part_put, last_part}
+use Rattle.rasn_enc.proofs.OwnTypes.Sequence.{part_refused, part_appended, last_part}
 use Rattle.rasn_bench.proofs.worked.setting.fn.SettingEncode.encode_with_tag_and_constraints.encode_sequence.Goals as goal
 
 pub returns-in_err-encode : goal.returns-in_err-encode
@@ -9,4 +9,4 @@ returns-in_err-encode c = part_refused _ _ _ _ _ _ _ _ c.in_err-encode.ensures.r
 pub returns : goal.returns
 returns c =
     let put = c.encode_default.ensures.writes (number (pos 7)) (λ d m. search rules) in
-    part_put _ _ _ _ _ _ _ _ c.in_ok-encode.ensures.ok (last_part _ _ _ _ _ put.0 c.encode_default.ensures.err put.1)
+    part_appended _ _ _ _ _ _ _ _ c.in_ok-encode.ensures.ok (last_part _ _ _ _ _ put.0 c.encode_default.ensures.err put.1)

@@ -1,7 +1,7 @@
 use Rattle.std.proofs.Common.{refl}
 use Rattle.rasn_types.specs.Shapes.{instant}
-use Rattle.rasn_enc.proofs.Alternatives.{alternative_put, alternative_refused}
-use Rattle.rasn_bench.specs.Choices.{time_alternatives}
+use Rattle.rasn_enc.proofs.OwnTypes.Choice.{alternative_appended, alternative_refused}
+use Rattle.rasn_bench.specs.Time.{time_alternatives}
 use Rattle.rasn_bench.proofs.worked.time.fn.TimeEncode.encode_with_tag_and_constraints.encode_choice.Goals as goal
 
 pub returns-in_err-encode-in-Utc : goal.returns-in_err-encode-in-Utc
@@ -13,7 +13,7 @@ returns-in_err-encode-in-General c = rw c.in-General.is (alternative_refused tim
     c.in_err-encode-in-General.ensures.refused c.in_err-encode-in-General.ensures.err c.from_residual-in_err-encode-in-General.ensures.1)
 
 pub returns-in_ok-encode-in-Utc : goal.returns-in_ok-encode-in-Utc
-returns-in_ok-encode-in-Utc c = rw c.in-Utc.is (alternative_put time_alternatives 0 _ (instant c.in-Utc.time) refl _ _ _ c.in_ok-encode-in-Utc.ensures.ok)
+returns-in_ok-encode-in-Utc c = rw c.in-Utc.is (alternative_appended time_alternatives 0 _ (instant c.in-Utc.time) refl _ _ _ c.in_ok-encode-in-Utc.ensures.ok)
 
 pub returns-in_ok-encode-in-General : goal.returns-in_ok-encode-in-General
-returns-in_ok-encode-in-General c = rw c.in-General.is (alternative_put time_alternatives 1 _ (instant c.in-General.time.moment) refl _ _ _ c.in_ok-encode-in-General.ensures.ok)
+returns-in_ok-encode-in-General c = rw c.in-General.is (alternative_appended time_alternatives 1 _ (instant c.in-General.time.moment) refl _ _ _ c.in_ok-encode-in-General.ensures.ok)

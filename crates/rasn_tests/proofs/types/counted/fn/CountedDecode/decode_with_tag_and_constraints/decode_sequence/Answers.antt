@@ -3,7 +3,7 @@ use Rattle.rasn_types.specs.Shapes.{Shape, default, leaf, integer, number}
 use Rattle.rasn_types.specs.Shapes.Parts.{none}
 use Rattle.rasn_types.specs.Tags.{in_universal}
 use Rattle.rasn_types.specs.Trees.{unconstrained, unsigned_range}
-use Rattle.rasn_de.proofs.Parts.{refused, one_refused, others_got, no_parts}
+use Rattle.rasn_de.proofs.OwnTypes.Parts.{refused, one_refused, others_got, no_parts}
 use Rattle.rasn_tests.proofs.types.counted.fn.CountedDecode.decode_with_tag_and_constraints.decode_sequence.Goals as goal
 
 abbrev octet : Shape

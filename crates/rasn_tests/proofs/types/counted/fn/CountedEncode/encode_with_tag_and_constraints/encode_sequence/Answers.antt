@@ -1,6 +1,6 @@
 use Rattle.std.proofs.Common.{rules, pos}
 use Rattle.rasn_types.specs.Shapes.{number}
-use Rattle.rasn_enc.proofs.Sequences.{last_part}
+use Rattle.rasn_enc.proofs.OwnTypes.Sequence.{last_part}
 use Rattle.rasn_tests.proofs.types.counted.fn.CountedEncode.encode_with_tag_and_constraints.encode_sequence.Goals as goal
 
 pub returns : goal.returns

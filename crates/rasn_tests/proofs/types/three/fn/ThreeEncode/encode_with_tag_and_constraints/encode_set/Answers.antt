@@ -1,13 +1,13 @@
-use Rattle.rasn_enc.proofs.Sequences.{part_refused, part_put, last_part}
+use Rattle.rasn_enc.proofs.OwnTypes.Sequence.{part_refused, part_appended, last_part}
 use Rattle.rasn_tests.proofs.types.three.fn.ThreeEncode.encode_with_tag_and_constraints.encode_set.Goals as goal
 
 pub returns-in_err-encode : goal.returns-in_err-encode
 returns-in_err-encode g c = part_refused _ _ _ _ _ _ _ _ c.in_err-encode.ensures.refused c.in_err-encode.ensures.err c.from_residual.ensures.1
 
 pub returns-in_err-encode-2 : goal.returns-in_err-encode-2
-returns-in_err-encode-2 g c = part_put _ _ _ _ _ _ _ _ c.in_ok-encode.ensures.ok
+returns-in_err-encode-2 g c = part_appended _ _ _ _ _ _ _ _ c.in_ok-encode.ensures.ok
     (part_refused _ _ _ _ _ _ _ _ c.in_err-encode-2.ensures.refused c.in_err-encode-2.ensures.err c.from_residual-in_err-encode-2.ensures.1)
 
 pub returns : goal.returns
-returns g c = part_put _ _ _ _ _ _ _ _ c.in_ok-encode.ensures.ok (part_put _ _ _ _ _ _ _ _ c.in_ok-encode-2.ensures.ok
+returns g c = part_appended _ _ _ _ _ _ _ _ c.in_ok-encode.ensures.ok (part_appended _ _ _ _ _ _ _ _ c.in_ok-encode-2.ensures.ok
     (last_part _ _ _ _ _ c.encode-3.ensures.ok c.encode-3.ensures.err c.encode-3.ensures.refused))

@@ -1,0 +1,4 @@
+pub mod Shapes
+pub mod Leaves
+pub mod Any
+pub mod Joined

@@ -1,0 +1,9 @@
+pub mod Shapes
+pub mod Begins
+pub mod Set
+pub mod Constructed
+pub mod Headers
+pub mod Parts
+pub mod Leaves
+pub mod Written
+pub mod Der

@@ -1,0 +1,303 @@
+-- The parts of a SEQUENCE and the alternatives of a CHOICE are read as they were written.
+use Rattle.std.proofs.Common.{◌≡◌, ℕ, suc, ◌<◌, ◌⊎◌, ◌≢◌, inl, inr, List, [], ◌∷◌, ◌++◌, Bool, true, false, Option, Some, None, refl, sym, ap, ◌∙◌, subst, arith, append_assoc}
+use Rattle.rasn_types.specs.Tags.{Form, form, eoc}
+use Rattle.rasn_types.specs.declared.types.codec.Codec.{Codec}
+use Rattle.rasn_types.specs.declared.types.tag.Tag.{Tag}
+use Rattle.rasn_types.specs.Framing.{NextTag, Ended}
+use Rattle.rasn_types.specs.Shapes.{Tree, items, chosen, absent, Shape, leaf, any, prefix, choice, option, seq, set, list, set_of, Parts, part, own, IsFirst, Presence, required, optional, addition, default, IsAlwaysPresent}
+use Rattle.rasn_types.specs.Shapes.Parts.{none}
+use Rattle.rasn_types.specs.Readings.{IsLeftOut, IsPresent, Part, IsNoDefault, ReadsPart, ReadsInOrder, IsMissing, AllMissing, presences_in, HasRequired, AreAllLeftOut, ReadsSeq, ReadsChoice}
+use Rattle.rasn_types.specs.Contents.{joined_lists}
+use Rattle.rasn_types.specs.Grammar.{Reads, parts_of}
+use Rattle.rasn_types.specs.Bytes.{Each, Same, WritesPart, PartsWritten, WritesChoice, Bytes, fields_of}
+use Rattle.rasn_types.specs.Carried.{PartIsWithinLimits, IsWithinLimits, AreWithinLimits, ChosenIsWithinLimits}
+use Rattle.rasn_types.specs.Lawful.{HasTag, IsFirstBehind, IsDistinguished, MayBeLeftOut, AreLawfulInOrder}
+use Rattle.rasn_types.proofs.Headers.Frames.{not_ended}
+use Rattle.rasn.proofs.ReadBack.Begins.{begins, Comes, comes, tagged, Starts, starts}
+use Rattle.rasn.proofs.ReadBack.Constructed.{IsTail, tail_ended, IsReadAs}
+use Rattle.rasn_types.proofs.SetOf.Same.{each_same, same_trans}
+use Rattle.rasn_types.proofs.Encoding.SameOctets.{other_written}
+
+-- What is written of the shape is read again at this depth, as a tree that is the same.
+abbrev pub IsBack : Codec → Shape → ℕ → Type 0
+IsBack rule s depth = (t : Tree) (b : List ℕ) → IsWithinLimits rule s depth t → Bytes rule s t b
+    → (u : Tree) × Same t u × ((rest : List ℕ) (closing : Bool) → Reads rule s depth closing (b ++ rest) u rest)
+
+abbrev pub EachBack : Codec → ℕ → Parts → Type 0
+EachBack rule depth none = Unit {0}
+EachBack rule depth (part presence s ps) = IsAlwaysPresent s × IsBack rule s depth × EachBack rule depth ps
+
+-- each has a tag
+abbrev pub EachTagged : Parts → Type 0
+EachTagged none = Unit {0}
+EachTagged (part presence s ps) = HasTag s × EachTagged ps
+
+own_first : (s : Shape) → IsAlwaysPresent s → (tag n : Tag) → own s ≡ Some tag → IsFirst s n → n ≡ tag
+own_first (leaf kind t bounds) solid tag n e h = cc
+own_first (any (Some t)) solid tag n e h = cc
+own_first (any None) solid tag n e h = cc
+own_first (prefix t s) solid tag n e h = cc
+own_first (choice ps) solid tag n e h = cc
+own_first (option o s) solid tag n e h = absurd solid
+own_first (seq t ps) solid tag n e h = cc
+own_first (set t ps) solid tag n e h = cc
+own_first (list t s size) solid tag n e h = cc
+own_first (set_of t s size) solid tag n e h = cc
+
+-- The contents end, or one of the parts comes.
+abbrev pub IsFollowed : Form → Parts → Bool → List ℕ → Type 0
+IsFollowed spelling ps closing input = Ended closing input ⊎ Starts spelling (IsFirstBehind ps) input
+
+left_out : (spelling : Form) (tag : Option Tag) (ps : Parts) → IsDistinguished tag ps → (closing : Bool) (input : List ℕ) → IsFollowed spelling ps closing input → IsLeftOut spelling tag closing input
+left_out spelling None ps told closing input (inl e) = e
+left_out spelling None ps told closing input (inr (inl (n, next, f))) = absurd (subst (λ q. IsFirstBehind q n) told f)
+left_out spelling None ps told closing input (inr (inr f)) = absurd (subst (λ q. IsFirstBehind q eoc) told (f eoc))
+left_out spelling (Some tag) ps told closing input (inl e) = inl e
+left_out spelling (Some tag) ps told closing input (inr (inl (n, next, f))) = inr (n, next, λ e. told (subst (IsFirstBehind ps) e f))
+left_out spelling (Some tag) ps told closing input (inr (inr f)) = absurd (told (f tag))
+
+there : (spelling : Form) (tag : Option Tag) (closing : Bool) (input : List ℕ) (n : Tag) → NextTag spelling input n → ((t : Tag) → tag ≡ Some t → n ≡ t) → IsPresent spelling tag closing input
+there spelling None closing input n next e = not_ended closing input n next
+there spelling (Some tag) closing input n next e = (not_ended closing input n next, subst (NextTag spelling input) (e tag refl) next)
+
+-- What is read of a shape is there.
+pub is_there : (s : Shape) → IsAlwaysPresent s → (rule : Codec) (depth : ℕ) (closing : Bool) (input : List ℕ) (t : Tree) (rest : List ℕ)
+    → Reads rule s depth closing input t rest → IsPresent (form rule) (own s) closing input
+is_there s solid rule depth closing input t rest h = go (tagged s)
+  where
+    untagged : Comes input → IsPresent (form rule) None closing input
+    untagged (f, n, next) = not_ended closing input n next
+
+    go : HasTag s ⊎ (s ≡ any None) → IsPresent (form rule) (own s) closing input
+    go (inl has) = let b = begins s solid has rule depth closing input t rest h in there (form rule) (own s) closing input b.0 b.1 (λ t e. own_first s solid t b.0 e b.2)
+    go (inr e) = subst (λ x. IsPresent (form rule) (own x) closing input) (sym e) (untagged (comes s solid rule depth closing input t rest h))
+
+-- One part, with what it is followed by.
+abbrev pub PartBack : Codec → ℕ → Presence → Shape → Parts → Tree → List ℕ → Tree → Type 0
+PartBack rule depth presence s ps t b u = Same t u × ((closing : Bool) (input : List ℕ) → IsFollowed (form rule) ps closing input
+    → ReadsPart rule presence (own s) (Reads rule s depth closing) closing (b ++ input) u input × IsFollowed (form rule) (part presence s ps) closing (b ++ input))
+
+behind_first : (presence : Presence) (s : Shape) (ps : Parts) (n : Tag) → IsFirst s n → IsFirstBehind (part presence s ps) n
+behind_first required s ps n h = h
+behind_first addition s ps n h = h
+behind_first optional s ps n h = inl h
+behind_first (default d) s ps n h = inl h
+
+part_begins : {spelling : Form} (presence : Presence) (s : Shape) (ps : Parts) (closing : Bool) (input : List ℕ) → Starts spelling (IsFirst s) input → IsFollowed spelling (part presence s ps) closing input
+part_begins presence s ps closing input (inl (n, next, f)) = inr (inl (n, next, behind_first presence s ps n f))
+part_begins presence s ps closing input (inr f) = inr (inr (λ n. behind_first presence s ps n (f n)))
+
+skips : {spelling : Form} (presence : Presence) (s : Shape) (ps : Parts) → ((n : Tag) → IsFirstBehind ps n → IsFirstBehind (part presence s ps) n)
+    → (closing : Bool) (input : List ℕ) → IsFollowed spelling ps closing input → IsFollowed spelling (part presence s ps) closing input
+skips presence s ps more closing input (inl e) = inl e
+skips presence s ps more closing input (inr (inl (n, next, f))) = inr (inl (n, next, more n f))
+skips presence s ps more closing input (inr (inr f)) = inr (inr (λ n. more n (f n)))
+
+module _ (rule : Codec) (depth : ℕ) (s : Shape) (solid : IsAlwaysPresent s) (back : IsBack rule s depth) (ps : Parts) where
+  -- the part is written
+  written : (presence : Presence) (t : Tree) (b : List ℕ) → IsWithinLimits rule s depth t → Bytes rule s t b
+      → ((closing : Bool) (input : List ℕ) (u : Tree) (rest : List ℕ) → Same t u → IsPresent (form rule) (own s) closing input → Reads rule s depth closing input u rest
+      → ReadsPart rule presence (own s) (Reads rule s depth closing) closing input u rest)
+      → (u : Tree) × PartBack rule depth presence s ps t b u
+  written presence t b within_limits w read =
+      let r = back t b within_limits w in (
+        r.0,
+        (
+          r.1,
+          λ closing input f.
+              let again = r.2 input closing in
+              let first = is_there s solid rule depth closing (b ++ input) r.0 input again in
+              (read closing (b ++ input) r.0 input r.1 first again, part_begins presence s ps closing (b ++ input) (starts s solid rule depth closing (b ++ input) r.0 input again)),
+        ),
+      )
+
+  -- the part is left out, for v
+  left : (presence : Presence) (t v : Tree) (b : List ℕ) → b ≡ [] → Same t v → ((n : Tag) → IsFirstBehind ps n → IsFirstBehind (part presence s ps) n)
+      → ((closing : Bool) (input : List ℕ) → IsFollowed (form rule) ps closing input → ReadsPart rule presence (own s) (Reads rule s depth closing) closing input v input)
+      → (u : Tree) × PartBack rule depth presence s ps t b u
+  left presence t v b e same more read = (
+    v,
+    (
+      same,
+      λ closing input f.
+          let g : input ≡ b ++ input = ap (λ l. l ++ input) (sym e) in (
+            subst (λ i. ReadsPart rule presence (own s) (Reads rule s depth closing) closing i v input) g (read closing input f),
+            subst (λ i. IsFollowed (form rule) (part presence s ps) closing i) g (skips presence s ps more closing input f),
+          ),
+    ),
+  )
+
+  part_back : (presence : Presence) → MayBeLeftOut presence (own s) ps → (t : Tree) (b : List ℕ)
+      → PartIsWithinLimits presence (IsWithinLimits rule s depth) t → WritesPart presence (Bytes rule s) t b → (u : Tree) × PartBack rule depth presence s ps t b u
+  part_back required told t b within_limits w = written required t b within_limits w (λ closing input u rest same first r. r)
+  part_back addition told t b within_limits (inl w) = absurd (within_limits.0 w.0)
+  part_back addition told t b within_limits (inr w) = written addition t b within_limits.1 w.1 (λ closing input u rest same first r. r)
+  part_back optional told t b within_limits (inl (e, f)) =
+      left optional t absent b f (subst (λ x. Same x absent) (sym e) refl) (λ n h. inr h)
+      (λ closing input g. inl (left_out (form rule) (own s) ps told closing input g, refl, refl))
+  part_back optional told t b (inl e) (inr w) = absurd (w.0 e)
+  part_back optional told t b (inr within_limits) (inr w) =
+      written optional t b within_limits w.1 (λ closing input u rest same first r. inr (first, r))
+  part_back (default d) told t b within_limits (inl (e, f)) =
+      left (default d) t d b f e (λ n h. inr h) (λ closing input g. inl (left_out (form rule) (own s) ps told closing input g, refl, refl))
+  part_back (default d) told t b (inl e) (inr w) = absurd (w.0 e)
+  part_back (default d) told t b (inr within_limits) (inr w) =
+      written (default d) t b within_limits w.1 (λ closing input u rest same first r. inr (first, (r, λ z e. w.0 (same_trans t u d same e))))
+
+abbrev pub PartsBack : Codec → ℕ → Parts → List Tree → List (List ℕ) → List Tree → Type 0
+PartsBack rule depth ps ts bs us = Each Same ts us × ((closing : Bool) (tail : List ℕ) → IsTail closing tail
+    → ReadsInOrder rule (parts_of rule ps depth closing) closing (joined_lists bs ++ tail) us tail × IsFollowed (form rule) ps closing (joined_lists bs ++ tail))
+
+pub in_order_back : (rule : Codec) (depth : ℕ) (ps : Parts) → AreLawfulInOrder ps → EachBack rule depth ps → (ts : List Tree) (bs : List (List ℕ))
+    → AreWithinLimits rule ps depth ts → PartsWritten (fields_of rule ps) ts bs → (us : List Tree) × PartsBack rule depth ps ts bs us
+unfolding Reads parts_of Bytes fields_of IsWithinLimits AreLawfulInOrder
+in_order_back rule depth none lawful back ts bs within_limits (e, f) = (
+  [],
+  (
+    subst (λ l. Each Same l []) (sym e) refl,
+    λ closing tail t.
+        let g : joined_lists bs ++ tail ≡ tail = ap (λ l. joined_lists l ++ tail) f in
+        ((refl, sym g), inl (subst (Ended closing) (sym g) (tail_ended closing tail t))),
+  ),
+)
+in_order_back rule depth (part presence s ps) lawful back ts bs (t, us, e, within_limits, others) (t', us', b, cs, e', f, w, ws) =
+    let eq : t' ∷ us' ≡ t ∷ us = sym e' ∙ e in
+    let p : t' ≡ t = cc in
+    let q : us' ≡ us = cc in
+    go (part_back rule depth s back.0 back.1 ps presence lawful.2 t b within_limits (subst (λ x. WritesPart presence (Bytes rule s) x b) p w))
+    (in_order_back rule depth ps lawful.3 back.2 us cs others (subst (λ x. PartsWritten (fields_of rule ps) x cs) q ws))
+  where
+    go : (v : Tree) × PartBack rule depth presence s ps t b v → (vs : List Tree) × PartsBack rule depth ps us cs vs
+        → (us : List Tree) × PartsBack rule depth (part presence s ps) ts bs us
+    go (v, (same, one)) (vs, (alike, all)) = (
+      v ∷ vs,
+      (
+        subst (λ l. Each Same l (v ∷ vs)) (sym e) (v, vs, refl, same, alike),
+        λ closing tail z.
+            let g : joined_lists bs ++ tail ≡ b ++ (joined_lists cs ++ tail) = ap (λ l. joined_lists l ++ tail) f ∙ append_assoc b (joined_lists cs) tail in
+            let a = all closing tail z in
+            let o = one closing (joined_lists cs ++ tail) a.1 in (
+              subst (λ i. ReadsInOrder rule (parts_of rule (part presence s ps) depth closing) closing i (v ∷ vs) tail) (sym g) (v, vs, (joined_lists cs ++ tail), refl, o.0, a.0),
+              subst (λ i. IsFollowed (form rule) (part presence s ps) closing i) (sym g) o.1,
+            ),
+      ),
+    )
+
+-- Of nothing only what may be left out is read.
+pub nothing_is_next : Comes [] → ⊥
+nothing_is_next (f, n, next) = not_ended false [] n next (inl refl)
+
+missing_in_nothing : (rule : Codec) (depth : ℕ) (c : Bool) (presence : Presence) (s : Shape) → IsAlwaysPresent s → (t : Tree) (rest : List ℕ)
+    → ReadsPart rule presence (own s) (Reads rule s depth c) false [] t rest → IsMissing presence t × (rest ≡ [])
+missing_in_nothing rule depth c required s solid t rest h = absurd (nothing_is_next (comes s solid rule depth c [] t rest h))
+missing_in_nothing rule depth c addition s solid t rest h = absurd (nothing_is_next (comes s solid rule depth c [] t rest h))
+missing_in_nothing rule depth c optional s solid t rest (inl (p, q, r)) = (q, r)
+missing_in_nothing rule depth c optional s solid t rest (inr (p, h)) = absurd (nothing_is_next (comes s solid rule depth c [] t rest h))
+missing_in_nothing rule depth c (default d) s solid t rest (inl (p, q, r)) = (q, r)
+missing_in_nothing rule depth c (default d) s solid t rest (inr (p, h)) = absurd (nothing_is_next (comes s solid rule depth c [] t rest h.0))
+
+abbrev pub EachSolid : Parts → Type 0
+EachSolid none = Unit {0}
+EachSolid (part presence s ps) = IsAlwaysPresent s × EachSolid ps
+
+all_missing_in_nothing : (rule : Codec) (depth : ℕ) (c : Bool) (ps : Parts) → EachSolid ps → (ts : List Tree) (rest : List ℕ)
+    → ReadsInOrder rule (parts_of rule ps depth c) false [] ts rest → AllMissing (presences_in (parts_of rule ps depth c)) ts
+unfolding Reads parts_of Bytes fields_of IsWithinLimits
+all_missing_in_nothing rule depth c none solid ts rest h = h.0
+all_missing_in_nothing rule depth c (part presence s ps) solid ts rest (t, us, m, e, h, k) =
+    let r = missing_in_nothing rule depth c presence s solid.0 t m h in
+    (t, us, e, r.0, all_missing_in_nothing rule depth c ps solid.1 us rest (subst (λ i. ReadsInOrder rule (parts_of rule ps depth c) false i us rest) r.1 k))
+
+solid_of : (rule : Codec) (depth : ℕ) (ps : Parts) → EachBack rule depth ps → EachSolid ps
+solid_of rule depth none h = tt
+solid_of rule depth (part presence s ps) h = (h.0, solid_of rule depth ps h.2)
+
+is_required : (presence : Presence) → (presence ≡ required) ⊎ (presence ≢ required)
+is_required required = inl refl
+is_required optional = inr (λ e. cc)
+is_required addition = inr (λ e. cc)
+is_required (default d) = inr (λ e. cc)
+
+has_required : (ps : List Part) → HasRequired ps ⊎ (HasRequired ps → ⊥)
+has_required [] = inr (λ h. h)
+has_required (p ∷ ps) = go (is_required p.presence) (has_required ps)
+  where
+    go : (p.presence ≡ required) ⊎ (p.presence ≢ required) → HasRequired ps ⊎ (HasRequired ps → ⊥)
+        → ((p.presence ≡ required) ⊎ HasRequired ps) ⊎ ((p.presence ≡ required) ⊎ HasRequired ps → ⊥)
+    go (inl e) k = inl (inl e)
+    go (inr e) (inl k) = inl (inr k)
+    go (inr e) (inr k) = inr (elim [ inl f ↦ e f | inr f ↦ k f ])
+
+is_untagged : (ps : List Part) (closing : Bool) (input : List ℕ) → AreAllLeftOut ps closing input ⊎ (AreAllLeftOut ps closing input → ⊥)
+is_untagged ps true input = inr (λ b. let e = b.1 in cc)
+is_untagged ps false (x ∷ input) = inr (λ b. let e = b.2 in cc)
+is_untagged ps false [] = go (has_required ps)
+  where
+    go : HasRequired ps ⊎ (HasRequired ps → ⊥) → AreAllLeftOut ps false [] ⊎ (AreAllLeftOut ps false [] → ⊥)
+    go (inl h) = inr (λ b. b.0 h)
+    go (inr h) = inl (h, refl, refl)
+
+pub seq_back : (rule : Codec) (depth : ℕ) (ps : Parts) → AreLawfulInOrder ps → EachBack rule depth ps → (ts : List Tree) (bs : List (List ℕ))
+    → AreWithinLimits rule ps depth ts → PartsWritten (fields_of rule ps) ts bs
+    → (u : Tree) × Same (items ts) u × IsReadAs (λ c. ReadsSeq rule (parts_of rule ps depth c) c) (joined_lists bs) u
+seq_back rule depth ps lawful back ts bs within_limits w = go (in_order_back rule depth ps lawful back ts bs within_limits w)
+  where
+    bare : (us : List Tree) (closing : Bool) (tail : List ℕ) → IsTail closing tail → AreAllLeftOut (parts_of rule ps depth closing) closing (joined_lists bs ++ tail)
+        → ReadsInOrder rule (parts_of rule ps depth closing) closing (joined_lists bs ++ tail) us tail
+        → ReadsSeq rule (parts_of rule ps depth closing) closing (joined_lists bs ++ tail) (items us) tail
+    bare us true tail t b h = let e = b.1 in cc
+    bare us false tail t b h = (
+      us,
+      refl,
+      inl (
+        b,
+        all_missing_in_nothing rule depth false ps (solid_of rule depth ps back) us tail
+            (subst (λ i. ReadsInOrder rule (parts_of rule ps depth false) false i us tail) b.2 h),
+        t ∙ sym b.2,
+      ),
+    )
+
+    go : (us : List Tree) × PartsBack rule depth ps ts bs us
+        → (u : Tree) × Same (items ts) u × IsReadAs (λ c. ReadsSeq rule (parts_of rule ps depth c) c) (joined_lists bs) u
+    go (us, (alike, all)) = (
+      items us,
+      each_same ts us alike,
+      λ closing tail t.
+          let a = all closing tail t in
+          ⊎_case (is_untagged (parts_of rule ps depth closing) closing (joined_lists bs ++ tail))
+          (λ b. bare us closing tail t b a.0) (λ b. (us, refl, inr (b, a.0))),
+    )
+      where
+        ⊎_case : {A B C : Type 0} → A ⊎ B → (A → C) → (B → C) → C
+        ⊎_case (inl x) f g = f x
+        ⊎_case (inr x) f g = g x
+
+abbrev pub AllRequired : Parts → Type 0
+AllRequired none = Unit {0}
+AllRequired (part presence s ps) = (presence ≡ required) × AllRequired ps
+
+pub other_index : (rule : Codec) (ps : Parts) (depth k j : ℕ) (t u : Tree) → j < k → t ≡ chosen j u → ChosenIsWithinLimits rule k ps depth t → ⊥
+unfolding Reads parts_of Bytes fields_of IsWithinLimits
+other_index rule none depth k j t u h e m = m
+other_index rule (part presence s ps) depth k j t u h e (inl m) =
+    let f = m.1 in let g : j ≡ k = cc in omega arith
+other_index rule (part presence s ps) depth k j t u h e (inr m) = other_index rule ps depth (suc k) j t u (omega arith) e m
+
+pub choice_back : (rule : Codec) (depth : ℕ) (ps : Parts) → EachTagged ps → AllRequired ps → EachBack rule depth ps → (k : ℕ) (t : Tree) (b : List ℕ)
+    → ChosenIsWithinLimits rule k ps depth t → WritesChoice k (fields_of rule ps) t b
+    → (u : Tree) × Same t u × ((rest : List ℕ) (closing : Bool) → ReadsChoice rule k (parts_of rule ps depth closing) (b ++ rest) u rest)
+unfolding Reads parts_of Bytes fields_of IsWithinLimits
+choice_back rule depth none has needed back k t b m w = absurd m
+choice_back rule depth (part presence s ps) has needed back k t b (inl (u, e, m)) (inl (v, f, w)) =
+    let g : v ≡ u = cc in
+    let r = back.1 u b m (subst (λ x. Bytes rule s x b) g w) in (
+      chosen k r.0,
+      subst (λ x. Same x (chosen k r.0)) (sym e) (r.0, refl, r.1),
+      λ rest closing.
+          let first = begins s back.0 has.0 rule depth closing (b ++ rest) r.0 rest (r.2 rest closing) in
+          inl (r.0, refl, first.0, first.1, first.2, r.2 rest closing, λ z. subst (λ p. IsNoDefault p r.0) (sym needed.0) tt),
+    )
+choice_back rule depth (part presence s ps) has needed back k t b (inl (u, e, m)) (inr w) = absurd (other_written rule ps (suc k) k t u b (omega arith) e w)
+choice_back rule depth (part presence s ps) has needed back k t b (inr m) (inl (v, f, w)) = absurd (other_index rule ps depth (suc k) k t v (omega arith) f m)
+choice_back rule depth (part presence s ps) has needed back k t b (inr m) (inr w) =
+    let r = choice_back rule depth ps has.1 needed.1 back.2 (suc k) t b m w in (r.0, r.1, λ rest closing. inr (r.2 rest closing))

@@ -1,0 +1,258 @@
+-- What is written of a carried tree is read back.
+use Rattle.std.proofs.Common.{◌≡◌, ℕ, ◌-◌, ◌≤◌, ◌⊎◌, ◌≢◌, inl, inr, List, [], ◌∷◌, ◌++◌, Bool, true, false, Option, Some, None, refl, sym, ◌∙◌, subst, append-nil}
+use Rattle.std.proofs.lemmas.List.Sorted.{IsPermutation-refl}
+use Rattle.rasn_types.specs.Tags.{Form, form, eoc, loose_form, loose}
+use Rattle.rasn_types.specs.declared.types.codec.Codec.{Codec}
+use Rattle.rasn_types.specs.declared.types.codec.Codec.TheVariants.{Ber, Cer, Der}
+use Rattle.rasn_types.specs.declared.types.tag.Tag.{Tag}
+use Rattle.rasn_types.specs.Framing.{Frame, with_length, definite, CompleteEncoding, plain, CompleteEncodings, none, one_more}
+use Rattle.rasn_types.specs.Shapes.{Tree, numbers, items, set_elements, absent, Admits, Shape, leaf, any, prefix, choice, option, seq, set, list, set_of, Parts, part, own, presences, IsAlwaysPresent}
+use Rattle.rasn_types.specs.declared.types.constraints.Bound.{Bound}
+use Rattle.rasn_types.specs.Readings.{IsLeftOut, IsPresent, Reading, ReadsMany, ReadsFrom, ReadsSeq, ReadsSet}
+use Rattle.rasn_types.specs.Contents.{joined_lists}
+use Rattle.rasn_types.specs.Grammar.{Reads, parts_of, ReadsOpen, ReadsList, ReadsSetOf}
+use Rattle.rasn_types.specs.Bytes.{Same, ConstructedEncoding, Each, Bytes, fields_of}
+use Rattle.rasn_types.specs.Carried.{IsWithinLimits, AreWithinLimits, EachOf, Carried}
+use Rattle.rasn_types.specs.Lawful.{IsLawful, AreAlternatives, AreLawfulInOrder, AreLawfulByTag}
+use Rattle.rasn_types.proofs.Headers.Frames.{frame_next, not_ended}
+use Rattle.rasn.proofs.Included.IntoBer.{IsOptional, IsIn, many_in, solid_of}
+use Rattle.rasn.proofs.ReadBack.Begins.{comes}
+use Rattle.rasn.proofs.ReadBack.Constructed.{IsReadAs, definite_back, closed_back, cons_back, EachReadBack, many_back}
+use Rattle.rasn_types.proofs.SetOf.Same.{items_one, each_same, each_length}
+use Rattle.rasn.proofs.ReadBack.Leaves.{leaf_back}
+use Rattle.rasn.proofs.ReadBack.Parts.{EachTagged, AllRequired, is_there, IsBack, EachBack, seq_back, choice_back}
+use Rattle.rasn.proofs.ReadBack.Set.{Component, set_back}
+
+whole_frame : (rule : Codec) {input rest c : List ℕ} {s : Tag} {b : Bool} → Frame loose_form input s b rest (definite c) → Frame (loose rule) input s b rest (definite c)
+whole_frame Ber (with_length id len c p q z e) = with_length id len c p q (λ h. absurd h) e
+whole_frame Cer (with_length id len c p q z e) = with_length id len c p q (λ h. absurd h) e
+whole_frame Der (with_length id len c p q z e) = with_length id len c p q (λ h. absurd h) e
+
+-- Octets in a constructed value of the tag.
+enclosed_back : (rule : Codec) (tag : Tag) → tag ≢ eoc → (octets b rest : List ℕ) → CompleteEncodings rule octets → ConstructedEncoding rule tag octets b → ReadsOpen rule tag (b ++ rest) (numbers octets) rest
+enclosed_back Ber tag one octets b rest w c = (true, octets, refl, (λ z. refl), inl (definite_back rest one c))
+enclosed_back Cer tag one octets b rest w c = (true, octets, refl, (λ z. refl), inr (octets ++ (0 ∷ 0 ∷ rest), closed_back rest one c, w, refl))
+enclosed_back Der tag one octets b rest w c = (true, octets, refl, (λ z. refl), inl (definite_back rest one c))
+
+empty_frame : (rule : Form) (s : Tag) (b : Bool) (c : List ℕ) → Frame rule [] s b [] (definite c) → ⊥
+empty_frame rule s b c f = not_ended false [] s (frame_next f) (inl refl)
+
+open_back : (rule : Codec) (tag : Tag) → tag ≢ eoc → (depth : ℕ) → IsBack rule (any (Some tag)) depth
+unfolding Reads parts_of Bytes fields_of IsWithinLimits
+open_back rule tag one depth t b m (octets, e, inl (f, g)) =
+    let h : m.octets ≡ [] = let i = m.is in cc in
+    absurd (empty_frame loose_form m.tag m.bit m.contents (subst (λ l. Frame loose_form l m.tag m.bit [] (definite m.contents)) h m.frame))
+open_back rule tag one depth t b m (octets, e, inr (f, c)) =
+    let h : m.octets ≡ octets = let i = m.is in cc in
+    let w : CompleteEncoding rule octets = subst (CompleteEncoding rule) h (plain m.tag m.bit m.contents (whole_frame rule m.frame)) in (
+      t,
+      subst (λ x. Same x x) (sym e) refl,
+      λ rest closing. subst (λ x. ReadsOpen rule tag (b ++ rest) x rest) (sym e)
+          (enclosed_back rule tag one octets b rest (one_more octets [] w none (sym (append-nil octets))) c),
+    )
+
+any_back : (rule : Codec) (depth : ℕ) → IsBack rule (any None) depth
+unfolding Reads parts_of Bytes fields_of IsWithinLimits
+any_back rule depth t b m e =
+    let h : m.octets ≡ b = let i = m.is in cc in
+    let w : CompleteEncoding rule b = subst (CompleteEncoding rule) h (plain m.tag m.bit m.contents (whole_frame rule m.frame)) in
+    (t, subst (λ x. Same x x) (sym e) refl, λ rest closing. (b, e, w, refl))
+
+abbrev pub AtAny : Codec → Shape → ℕ → Reading Tree
+AtAny rule s depth input t rest = (c : Bool) → Reads rule s depth c input t rest
+
+elements_back : (rule : Codec) (s : Shape) → IsAlwaysPresent s → (depth : ℕ) → IsBack rule s depth → (ts : List Tree) (bs : List (List ℕ))
+    → EachOf (IsWithinLimits rule s depth) ts → Each (Bytes rule s) ts bs → EachReadBack Same (AtAny rule s depth) ts bs
+elements_back rule s solid depth back [] bs m w = w
+elements_back rule s solid depth back (t ∷ ts) bs (m, ms) (b, cs, e, w, ws) =
+    let r = back t b m w in (
+      b,
+      cs,
+      e,
+      record {
+        is = r.0;
+        same = r.1;
+        again = λ rest c. r.2 rest c;
+        begins = λ rest. comes s solid rule depth true (b ++ rest) r.0 rest (r.2 rest true);
+      },
+      elements_back rule s solid depth back ts cs ms ws,
+    )
+
+from_in : {X : Type 0} (reads wide : Reading X) → IsIn reads wide → (input : List ℕ) (xs : List X) (rest : List ℕ) (bs : List (List ℕ))
+    → ReadsFrom reads input xs rest bs → ReadsFrom wide input xs rest bs
+from_in reads wide into input [] rest bs h = h
+from_in reads wide into input (x ∷ xs) rest bs (b, more, middle, e, f, h, hs) = (b, more, middle, e, f, into input x middle h, from_in reads wide into middle xs rest more hs)
+
+abbrev pub Elements : Codec → Shape → ℕ → List Tree → List (List ℕ) → Type 0
+Elements rule s depth ts bs = (us : List Tree) × Each Same ts us × IsReadAs (λ c. ReadsMany (Reads rule s depth c) c) (joined_lists bs) us
+    × ((c : Bool) (tail : List ℕ) → ReadsFrom (Reads rule s depth c) (joined_lists bs ++ tail) us tail bs)
+
+elements : (rule : Codec) (s : Shape) → IsAlwaysPresent s → (depth : ℕ) → IsBack rule s depth → (ts us : List Tree) (bs : List (List ℕ)) → items us ≡ items ts
+    → EachOf (IsWithinLimits rule s depth) us → Each (Bytes rule s) ts bs → Elements rule s depth ts bs
+elements rule s solid depth back ts us bs e m w =
+    let r = many_back Same (AtAny rule s depth) ts bs (elements_back rule s solid depth back ts bs (subst (EachOf (IsWithinLimits rule s depth)) (items_one us ts e) m) w) in (
+      r.0,
+      r.1,
+      λ closing tail t. many_in (AtAny rule s depth) (Reads rule s depth closing) (λ i x o h. h closing) closing (joined_lists bs ++ tail) r.0 tail (r.2 closing tail t),
+      λ c tail. from_in (AtAny rule s depth) (Reads rule s depth c) (λ i x o h. h c) (joined_lists bs ++ tail) r.0 tail bs (r.3 tail),
+    )
+
+list_back : (rule : Codec) (tag : Tag) → tag ≢ eoc → (s : Shape) (size : Option (Bound ℕ)) → IsAlwaysPresent s → (depth : ℕ) → IsBack rule s (depth - 2) → IsBack rule (list tag s size) depth
+unfolding Reads parts_of Bytes fields_of IsWithinLimits
+list_back rule tag one s size solid depth back t b (deep, us, e, ms) (ts, bs, f, within, ws, c) =
+    go (elements rule s solid (depth - 2) back ts us bs (sym e ∙ f) ms ws)
+  where
+    go : Elements rule s (depth - 2) ts bs → (u : Tree) × Same t u × ((rest : List ℕ) (closing : Bool) → Reads rule (list tag s size) depth closing (b ++ rest) u rest)
+    go (vs, alike, r, from) = (
+      items vs,
+      subst (λ x. Same x (items vs)) (sym f) (each_same ts vs alike),
+      λ rest closing. (
+        deep,
+        cons_back rule tag one (joined_lists bs) b c (λ c. ReadsList size (Reads rule s (depth - 2) c) c) (items vs)
+            (λ closing tail z. (vs, refl, subst (λ n. Admits ◌≤◌ size n) (sym (each_length Same ts vs alike)) within, r closing tail z)) rest,
+      ),
+    )
+
+set_of_back : (rule : Codec) (tag : Tag) → tag ≢ eoc → (s : Shape) (size : Option (Bound ℕ)) → IsAlwaysPresent s → (depth : ℕ) → IsBack rule s (depth - 2) → IsBack rule (set_of tag s size) depth
+unfolding Reads parts_of Bytes fields_of IsWithinLimits
+set_of_back rule tag one s size solid depth back t b (deep, us, e, ms) (ts, bs, f, within, ws, order, c) =
+    go (elements rule s solid (depth - 2) back ts us bs (set_elements_one us ts (sym e ∙ f)) ms ws)
+  where
+    set_elements_one : (us ts : List Tree) → set_elements (items us) ≡ set_elements (items ts) → items us ≡ items ts
+    set_elements_one us ts e = cc
+
+    go : Elements rule s (depth - 2) ts bs → (u : Tree) × Same t u × ((rest : List ℕ) (closing : Bool) → Reads rule (set_of tag s size) depth closing (b ++ rest) u rest)
+    go (vs, alike, r, from) = (
+      set_elements (items vs),
+      subst (λ x. Same x (set_elements (items vs))) (sym f) (vs, vs, refl, IsPermutation-refl vs, each_same ts vs alike),
+      λ rest closing. (
+        deep,
+        cons_back rule tag one (joined_lists bs) b c (λ c. ReadsSetOf rule size (Reads rule s (depth - 2) c) c) (set_elements (items vs))
+            (λ closing tail z. (
+              vs,
+              refl,
+              subst (λ n. Admits ◌≤◌ size n) (sym (each_length Same ts vs alike)) within,
+              r closing tail z,
+              λ y. (bs, from closing tail, order),
+            )) rest,
+      ),
+    )
+
+prefix_back : (rule : Codec) (tag : Tag) → tag ≢ eoc → (s : Shape) → IsAlwaysPresent s → (depth : ℕ) → IsBack rule s (depth - 1) → IsBack rule (prefix tag s) depth
+unfolding Reads parts_of Bytes fields_of IsWithinLimits
+prefix_back rule tag one s solid depth back t b (deep, m) (inner, w, c) =
+    let r = back t inner m w in
+    (r.0, r.1, λ rest closing. (deep, true, (λ z. refl), cons_back rule tag one inner b c (λ c. Reads rule s (depth - 1) c) r.0 (λ closing tail z. r.2 tail closing) rest))
+
+in_seq_back : (rule : Codec) (tag : Tag) → tag ≢ eoc → (ps : Parts) (depth : ℕ) → AreLawfulInOrder ps → EachBack rule (depth - 1) ps → IsBack rule (seq tag ps) depth
+unfolding Reads parts_of Bytes fields_of IsWithinLimits
+in_seq_back rule tag one ps depth lawful back t b (deep, us, e, ms) (ts, bs, f, ws, c) =
+    let g : us ≡ ts = items_one us ts (sym e ∙ f) in
+    let r = seq_back rule (depth - 1) ps lawful back ts bs (subst (AreWithinLimits rule ps (depth - 1)) g ms) ws in (
+      r.0,
+      subst (λ x. Same x r.0) (sym f) r.1,
+      λ rest closing. (
+        deep,
+        cons_back rule tag one (joined_lists bs) b c (λ c. ReadsSeq rule (parts_of rule ps (depth - 1) c) c) r.0 r.2 rest,
+      ),
+    )
+
+in_set_back : (rule : Codec) (tag : Tag) → tag ≢ eoc → (ps : Parts) (depth : ℕ) → EachTagged ps → EachBack rule (depth - 1) ps → IsBack rule (set tag ps) depth
+unfolding Reads parts_of Bytes fields_of IsWithinLimits
+in_set_back rule tag one ps depth has back t b (deep, us, e, ms) (ts, bs, tags, f, ws, bare, firsts, order, c) =
+    let g : us ≡ ts = items_one us ts (sym e ∙ f) in
+    let r = set_back rule (depth - 1) ps has back ts bs tags (subst (AreWithinLimits rule ps (depth - 1)) g ms) ws firsts order in (
+      r.0,
+      subst (λ x. Same x r.0) (sym f) r.1,
+      λ rest closing. (
+        deep,
+        cons_back rule tag one (joined_lists bs) b c (λ c. ReadsSet rule (presences ps) (Component rule (depth - 1) ps c) c) r.0 r.2 rest,
+      ),
+    )
+
+abbrev pub EachGood : Parts → Type 0
+EachGood Parts.none = Unit {0}
+EachGood (part presence s ps) = IsAlwaysPresent s × IsLawful s × EachGood ps
+
+pub alternatives_good : (ps : Parts) → AreAlternatives ps → EachGood ps
+unfolding IsLawful
+alternatives_good Parts.none h = tt
+alternatives_good (part presence s ps) h = (h.2, h.3, alternatives_good ps h.4)
+
+pub in_order_good : (ps : Parts) → AreLawfulInOrder ps → EachGood ps
+unfolding IsLawful
+in_order_good Parts.none h = tt
+in_order_good (part presence s ps) h = (h.0, h.1, in_order_good ps h.3)
+
+pub by_tag_good : (ps : Parts) → AreLawfulByTag ps → EachGood ps
+unfolding IsLawful
+by_tag_good Parts.none h = tt
+by_tag_good (part presence s ps) h = (h.2, h.3, by_tag_good ps h.5)
+
+alternatives_tagged : (ps : Parts) → AreAlternatives ps → EachTagged ps
+unfolding IsLawful
+alternatives_tagged Parts.none h = tt
+alternatives_tagged (part presence s ps) h = (h.1, alternatives_tagged ps h.4)
+
+alternatives_required : (ps : Parts) → AreAlternatives ps → AllRequired ps
+unfolding IsLawful
+alternatives_required Parts.none h = tt
+alternatives_required (part presence s ps) h = (h.0, alternatives_required ps h.4)
+
+by_tag_tagged : (ps : Parts) → AreLawfulByTag ps → EachTagged ps
+unfolding IsLawful
+by_tag_tagged Parts.none h = tt
+by_tag_tagged (part presence s ps) h = (h.1, by_tag_tagged ps h.5)
+
+mutual
+  unfolding Reads parts_of Bytes fields_of IsWithinLimits IsLawful
+
+  pub back : (s : Shape) → IsAlwaysPresent s → IsLawful s → (rule : Codec) (depth : ℕ) → IsBack rule s depth
+  back (leaf kind tag bounds) solid lawful rule depth = λ t b m w.
+      let r = leaf_back rule kind tag bounds lawful.0 lawful.1 depth t b m w.0 w.1 in (r.0, r.1, λ rest closing. r.2 rest)
+  back (any (Some tag)) solid lawful rule depth = open_back rule tag lawful depth
+  back (any None) solid lawful rule depth = any_back rule depth
+  back (prefix tag s) solid lawful rule depth = prefix_back rule tag lawful.0 s lawful.1 depth (back s lawful.1 lawful.2 rule (depth - 1))
+  back (choice ps) solid lawful rule depth = λ t b m w. choice_back rule depth ps (alternatives_tagged ps lawful.0) (alternatives_required ps lawful.0) (each_back ps (alternatives_good ps lawful.0) rule depth) 0 t b m w
+  back (option tag s) solid lawful rule depth = absurd solid
+  back (seq tag ps) solid lawful rule depth = in_seq_back rule tag lawful.0 ps depth lawful.1 (each_back ps (in_order_good ps lawful.1) rule (depth - 1))
+  back (set tag ps) solid lawful rule depth = in_set_back rule tag lawful.0 ps depth (by_tag_tagged ps lawful.1) (each_back ps (by_tag_good ps lawful.1) rule (depth - 1))
+  back (list tag s size) solid lawful rule depth = list_back rule tag lawful.0 s size lawful.1 depth (back s lawful.1 lawful.2 rule (depth - 2))
+  back (set_of tag s size) solid lawful rule depth = set_of_back rule tag lawful.0 s size lawful.1 depth (back s lawful.1 lawful.2 rule (depth - 2))
+
+  each_back : (ps : Parts) → EachGood ps → (rule : Codec) (depth : ℕ) → EachBack rule depth ps
+  each_back Parts.none good rule depth = tt
+  each_back (part presence s ps) good rule depth = (good.0, back s good.0 good.1 rule depth, each_back ps good.2 rule depth)
+
+option_back : (tag : Option Tag) (s : Shape) → tag ≡ own s → IsAlwaysPresent s → IsLawful s → (rule : Codec) (depth : ℕ) (t : Tree) (b : List ℕ)
+    → IsWithinLimits rule (option tag s) depth t → Bytes rule (option tag s) t b → (closing : Bool) → (u : Tree) × Same t u × Reads rule (option tag s) depth closing b u []
+unfolding Reads parts_of Bytes fields_of IsWithinLimits
+option_back tag s own solid lawful rule depth t b m (inl (e, f)) closing =
+    (absent, subst (λ x. Same x absent) (sym e) refl, inl (subst (IsLeftOut (form rule) tag closing) (sym f) (nothing tag), refl, sym f))
+  where
+    nothing : (tag : Option Tag) → IsLeftOut (form rule) tag closing []
+    nothing None = inl refl
+    nothing (Some tag) = inl (inl refl)
+option_back tag s own solid lawful rule depth t b (inl m) (inr w) closing = absurd (w.0 m)
+option_back tag s own solid lawful rule depth t b (inr m) (inr w) closing =
+    let r = back s solid lawful rule depth t b m w.1 in
+    let h : Reads rule s depth closing b r.0 [] = subst (λ i. Reads rule s depth closing i r.0 []) (append-nil b) (r.2 [] closing) in
+    (r.0, r.1, inr (subst (λ x. IsPresent (form rule) x closing b) (sym own) (is_there s solid rule depth closing b r.0 [] h), h))
+
+optional_lawful : (tag : Option Tag) (s : Shape) → IsLawful (option tag s) → (tag ≡ own s) × IsAlwaysPresent s × IsLawful s
+unfolding IsLawful
+optional_lawful tag s h = h
+
+-- What is written of a carried tree is read as one that is the same, with nothing left.
+pub carried_back : (s : Shape) → IsLawful s → (rule : Codec) (t : Tree) (c : Carried rule s t) (closing : Bool)
+    → (u : Tree) × Same t u × Reads rule s 128 closing c.octets u []
+carried_back s lawful rule t c closing = go (solid_of s lawful)
+  where
+    go : IsAlwaysPresent s ⊎ IsOptional s → (u : Tree) × Same t u × Reads rule s 128 closing c.octets u []
+    go (inl solid) =
+        let r = back s solid lawful rule 128 t c.octets c.within_limits c.is in
+        (r.0, r.1, subst (λ i. Reads rule s 128 closing i r.0 []) (append-nil c.octets) (r.2 [] closing))
+    go (inr (tag, u, e, solid)) =
+        let l = optional_lawful tag u (subst IsLawful e lawful) in
+        let r = option_back tag u l.0 solid l.2 rule 128 t c.octets (subst (λ x. IsWithinLimits rule x 128 t) e c.within_limits) (subst (λ x. Bytes rule x t c.octets) e c.is) closing in
+        (r.0, r.1, subst (λ x. Reads rule x 128 closing c.octets r.0 []) (sym e) r.2)

@@ -1,0 +1,298 @@
+-- What DER reads of a shape that passes the test meets all that a carried value must.
+use Rattle.std.proofs.Common.{◌≡◌, ◌≢◌, ◌⊎◌, ◌^◌, ℕ, suc, ◌-◌, ◌<◌, ◌≤◌, inl, inr, List, [], ◌∷◌, ◌++◌, length, Bool, true, false, not, ◌&&◌, ◌||◌, Option, Some, None, refl, sym, ap, ◌∙◌, subst, arith}
+use Rattle.std.proofs.lemmas.List.Sorted.{IsPermutation-refl}
+use Rattle.rasn_types.specs.declared.types.tag.Tag.{Tag}
+use Rattle.rasn_types.specs.declared.types.codec.Codec.TheVariants.{Der}
+use Rattle.rasn_types.specs.Framing.{Frame, without_length, indefinite, CompleteEncoding}
+use Rattle.rasn_types.specs.Calendar.{Moment, Day}
+use Rattle.rasn_types.specs.Time.{CarriedUtc, CarriedDay}
+use Rattle.rasn_types.specs.Shapes.{presences, Tree, number, bits, numbers, instant, on_day, done, joined, items, set_elements, chosen, absent, Same, Kind, octet_string, fixed, numeric, printable, visible, ia5, any_octets, bmp, utf8, utc_time, generalized_time, date, Shape, leaf, any, prefix, choice, option, seq, set, list, set_of, Parts, part, own, Presence, required, optional, addition, default}
+use Rattle.rasn_types.specs.declared.types.constraints.Bound.{Bound}
+use Rattle.rasn_types.specs.Shapes.Parts.{none}
+use Rattle.rasn_types.specs.Described.{has_required}
+use Rattle.rasn_types.specs.Readings.{Reading, ReadsContents, definite_form, indefinite_form, ReadsMany, ReadsPart, ReadsInOrder, IsMissing, AllMissing, presences_in, HasRequired, ReadsSeq, ReadsSet, ReadsChoice, OneOf, ByPart}
+use Rattle.rasn_types.specs.Grammar.{Reads, parts_of, Family, plain_family, bit_family, text_family, family, ReadsIn, Text, ReadsList, ReadsSetOf}
+use Rattle.rasn_types.specs.Carried.{EachOf, PartIsWithinLimits, IsCarriedTime, LeafIsWithinLimits, IsOneEncoding, IsWithinLimits, AreWithinLimits, ChosenIsWithinLimits}
+use Rattle.rasn_types.specs.Lawful.{IsLawful, AreLawfulByTag}
+use Rattle.rasn_types.specs.LawfulTest.{is_lawful}
+use Rattle.rasn_types.proofs.Lawful.{lawful_decides}
+use Rattle.rasn_types.proofs.Time.Spellings.{both_true}
+use Rattle.rasn.specs.Carries.{is_list, is_same_as_itself, is_own_default, has_addition, carries_all, all_carry}
+use Rattle.rasn.specs.Laws.{LawfulTested, AllCarried, IsOwnDefault, HasOwnDefaults, HaveOwnDefaults}
+use Rattle.rasn.proofs.ReadBack.Shapes.{EachGood, alternatives_good, in_order_good, by_tag_good}
+use Rattle.rasn.proofs.ReadBack.Parts.{other_index}
+use Rattle.rasn.proofs.StrictDer.Shapes.{there}
+use Rattle.rasn.proofs.StrictDer.Leaves.{no_open}
+use Rattle.rasn.proofs.StrictDer.Carried.{only_carried}
+use Rattle.rasn.proofs.StrictDer.Parts.{IsNeverAbsent}
+use Rattle.rasn.proofs.StrictDer.Time.{utc_carried, generalized_carried, date_carried}
+
+pub lawful_tested : LawfulTested
+lawful_tested s = let d = lawful_decides s in (d.1, d.0)
+
+-- ---- defaults
+
+list_items : (t : Tree) → is_list t ≡ true → (ts : List Tree) × (t ≡ items ts)
+list_items (number z) e = absurd (cc)
+list_items (bits bs) e = absurd (cc)
+list_items (numbers ns) e = absurd (cc)
+list_items (instant m) e = absurd (cc)
+list_items (on_day d) e = absurd (cc)
+list_items done e = ([], refl)
+list_items (joined t ts) e = let r = list_items ts e in (t ∷ r.0, ap (joined t) r.1)
+list_items (set_elements ts) e = absurd (cc)
+list_items (chosen k t) e = absurd (cc)
+list_items absent e = absurd (cc)
+
+itself : (t : Tree) → is_same_as_itself t ≡ true → Same t t
+itself (number z) e = refl
+itself (bits bs) e = refl
+itself (numbers ns) e = refl
+itself (instant m) e = refl
+itself (on_day d) e = refl
+itself done e = refl
+itself (joined t ts) e = let p = both_true (is_same_as_itself t) (is_same_as_itself ts) e in (t, ts, refl, itself t p.0, itself ts p.1)
+itself (set_elements ts) e =
+    let p = both_true (is_list ts) (is_same_as_itself ts) e in
+    let l = list_items ts p.0 in
+    (l.0, l.0, ap set_elements l.1, IsPermutation-refl l.0, subst (Same ts) l.1 (itself ts p.1))
+itself (chosen k t) e = (t, refl, itself t e)
+itself absent e = refl
+
+own_default : (presence : Presence) → is_own_default presence ≡ true → IsOwnDefault presence
+own_default required e = tt
+own_default optional e = tt
+own_default addition e = tt
+own_default (default d) e = itself d e
+
+-- The three parts of the test of parts.
+three : (a b c : Bool) → (a && (b && c)) ≡ true → (a ≡ true) × (b ≡ true) × (c ≡ true)
+three a b c e = let p = both_true a (b && c) e in let q = both_true b c p.1 in (p.0, q.0, q.1)
+
+mutual
+  own_defaults : (s : Shape) → carries_all s ≡ true → HasOwnDefaults s
+  own_defaults (leaf kind tag bounds) e = tt
+  own_defaults (any tag) e = tt
+  own_defaults (prefix tag s) e = own_defaults s e
+  own_defaults (choice ps) e = all_own ps e
+  own_defaults (option tag s) e = own_defaults s e
+  own_defaults (seq tag ps) e = all_own ps (both_true (has_required ps || not (has_addition ps)) (all_carry ps) e).1
+  own_defaults (set tag ps) e = all_own ps e
+  own_defaults (list tag s size) e = own_defaults s e
+  own_defaults (set_of tag s size) e = own_defaults s e
+
+  all_own : (ps : Parts) → all_carry ps ≡ true → HaveOwnDefaults ps
+  all_own none e = tt
+  all_own (part presence s ps) e =
+      let p = three (is_own_default presence) (carries_all s) (all_carry ps) e in (own_default presence p.0, own_defaults s p.1, all_own ps p.2)
+
+-- ---- values that hold no others
+
+time_met : (kind : Kind) (l : List ℕ) (t : Tree) → Text Der kind l t → IsCarriedTime kind t
+time_met utc_time l t (s, e, h) = λ m f. let g : s.moment ≡ m = cc in subst CarriedUtc g (utc_carried l s h)
+time_met generalized_time l t (s, e, h) = λ m f. let g : s.moment ≡ m = cc in subst (λ (x : Moment). CarriedDay x.day) g (generalized_carried l s h)
+time_met date l t (d, e, h) = λ x f. let g : d ≡ x = cc in subst CarriedDay g (date_carried l d h)
+time_met kind l t h = tt
+
+in_met : (which : Family) (kind : Kind) (tag : Tag) (depth : ℕ) (input : List ℕ) (t : Tree) (rest : List ℕ) → ReadsIn which Der kind tag depth input t rest → LeafIsWithinLimits which Der kind depth t
+in_met plain_family kind tag depth input t rest h = tt
+in_met bit_family kind tag depth input t rest (bs, e, n, h) = λ cs f. let g : bs ≡ cs = cc in (subst (λ (l : List Bool). length l < 2 ^ 64) g n, λ z. absurd z)
+in_met text_family kind tag depth input t rest (l, h, w) = (time_met kind l t w, λ octets x z. absurd z)
+
+one_encoding_met : (t : Tree) (text : List ℕ) → t ≡ numbers text → CompleteEncoding Der text → IsOneEncoding t
+one_encoding_met t text e (CompleteEncoding.plain tag bit contents frame) = record { octets = text; is = e; tag = tag; bit = bit; contents = contents; frame = frame }
+one_encoding_met t text e (CompleteEncoding.closed tag bit body nested (without_length id p q r f) w g) = absurd r
+
+-- ---- parts and elements
+
+abbrev IsMet : Shape → ℕ → Type 0
+IsMet s depth = (closing : Bool) (input : List ℕ) (t : Tree) (rest : List ℕ) → Reads Der s depth closing input t rest → IsWithinLimits Der s depth t
+
+record Met (presence : Presence) (s : Shape) (depth : ℕ) : Type 0 where
+  met : IsMet s depth
+  there : IsNeverAbsent s depth
+  own_default : IsOwnDefault presence
+
+abbrev EachMet : ℕ → Parts → Type 0
+EachMet depth none = Unit {0}
+EachMet depth (part presence s ps) = Met presence s depth × EachMet depth ps
+
+next_met : (s : Shape) (depth : ℕ) (presence : Presence) → Met presence s depth → (c : Bool) (input : List ℕ) (t : Tree) (rest : List ℕ)
+    → Reads Der s depth c input t rest → PartIsWithinLimits presence (IsWithinLimits Der s depth) t
+next_met s depth required k c input t rest h = k.met c input t rest h
+next_met s depth optional k c input t rest h = inr (k.met c input t rest h)
+next_met s depth addition k c input t rest h = (k.there c input t rest h, k.met c input t rest h)
+next_met s depth (default d) k c input t rest h = inr (k.met c input t rest h)
+
+missing_met : (s : Shape) (depth : ℕ) (presence : Presence) → presence ≢ addition → IsOwnDefault presence → (t : Tree) → IsMissing presence t → PartIsWithinLimits presence (IsWithinLimits Der s depth) t
+missing_met s depth required n own t e = absurd e
+missing_met s depth optional n own t e = inl e
+missing_met s depth addition n own t e = absurd (n refl)
+missing_met s depth (default d) n own t e = inl (subst (λ x. Same x d) (sym e) own)
+
+part_met : (s : Shape) (depth : ℕ) (presence : Presence) → Met presence s depth → (tag : Option Tag) (c closing : Bool) (input : List ℕ) (t : Tree) (rest : List ℕ)
+    → ReadsPart Der presence tag (Reads Der s depth c) closing input t rest → PartIsWithinLimits presence (IsWithinLimits Der s depth) t
+part_met s depth required k tag c closing input t rest h = next_met s depth required k c input t rest h
+part_met s depth addition k tag c closing input t rest h = next_met s depth addition k c input t rest h
+part_met s depth optional k tag c closing input t rest (inl h) = inl h.1
+part_met s depth optional k tag c closing input t rest (inr h) = next_met s depth optional k c input t rest h.1
+part_met s depth (default d) k tag c closing input t rest (inl h) = inl (subst (λ x. Same x d) (sym h.1) k.own_default)
+part_met s depth (default d) k tag c closing input t rest (inr h) = next_met s depth (default d) k c input t rest h.1.0
+
+in_order_met : (ps : Parts) (depth : ℕ) → EachMet depth ps → (c closing : Bool) (input : List ℕ) (ts : List Tree) (rest : List ℕ)
+    → ReadsInOrder Der (parts_of Der ps depth c) closing input ts rest → AreWithinLimits Der ps depth ts
+unfolding Reads parts_of IsWithinLimits
+in_order_met none depth k c closing input ts rest h = h.0
+in_order_met (part presence s ps) depth k c closing input ts rest (t, us, middle, e, h, hs) =
+    (t, us, e, part_met s depth presence k.0 (own s) c closing input t middle h, in_order_met ps depth k.1 c closing middle us rest hs)
+
+abbrev HasNoAddition : Parts → Type 0
+HasNoAddition none = Unit {0}
+HasNoAddition (part presence s ps) = (presence ≢ addition) × HasNoAddition ps
+
+no_addition : (ps : Parts) → has_addition ps ≡ false → HasNoAddition ps
+no_addition none e = tt
+no_addition (part required s ps) e = (λ f. cc, no_addition ps e)
+no_addition (part optional s ps) e = (λ f. cc, no_addition ps e)
+no_addition (part addition s ps) e = absurd (cc)
+no_addition (part (default d) s ps) e = (λ f. cc, no_addition ps e)
+
+some_required : (ps : Parts) (depth : ℕ) (c : Bool) → has_required ps ≡ true → HasRequired (parts_of Der ps depth c)
+unfolding Reads parts_of
+some_required none depth c e = absurd (cc)
+some_required (part required s ps) depth c e = inl refl
+some_required (part optional s ps) depth c e = inr (some_required ps depth c e)
+some_required (part addition s ps) depth c e = inr (some_required ps depth c e)
+some_required (part (default d) s ps) depth c e = inr (some_required ps depth c e)
+
+all_missing_met : (ps : Parts) (depth : ℕ) → EachMet depth ps → HasNoAddition ps → (c : Bool) (ts : List Tree) → AllMissing (presences_in (parts_of Der ps depth c)) ts → AreWithinLimits Der ps depth ts
+unfolding Reads parts_of IsWithinLimits
+all_missing_met none depth k n c ts h = h
+all_missing_met (part presence s ps) depth k n c ts (t, us, e, h, hs) =
+    (t, us, e, missing_met s depth presence n.0 k.0.own_default t h, all_missing_met ps depth k.1 n.1 c us hs)
+
+choice_met : (ps : Parts) (depth : ℕ) → EachMet depth ps → (k : ℕ) (c : Bool) (input : List ℕ) (t : Tree) (rest : List ℕ)
+    → ReadsChoice Der k (parts_of Der ps depth c) input t rest → ChosenIsWithinLimits Der k ps depth t
+unfolding Reads parts_of IsWithinLimits
+choice_met none depth met k c input t rest h = h
+choice_met (part presence s ps) depth met k c input t rest (inl h) = inl (h.0, h.1, met.0.met c input h.0 rest h.5)
+choice_met (part presence s ps) depth met k c input t rest (inr h) = inr (choice_met ps depth met.1 (suc k) c input t rest h)
+
+many_met : (P : Tree → Type 0) (reads : Reading Tree) → ((input : List ℕ) (t : Tree) (rest : List ℕ) → reads input t rest → P t)
+    → (closing : Bool) (input : List ℕ) (ts : List Tree) (rest : List ℕ) → ReadsMany reads closing input ts rest → EachOf P ts
+many_met P reads met closing input [] rest h = tt
+many_met P reads met closing input (t ∷ ts) rest (n, middle, h, hs) = (met input t middle h, many_met P reads met closing middle ts rest hs)
+
+-- What holds of each reading holds of one of them.
+one_met : (P : Tree → Type 0) (before : List Tree) (t : Tree) (after : List Tree) → EachOf P (before ++ (t ∷ after)) → P t
+one_met P [] t after h = h.0
+one_met P (x ∷ before) t after h = one_met P before t after h.1
+
+abbrev ComponentsMet : Parts → ℕ → ℕ → List Tree → Type 0
+ComponentsMet ps depth k readings = (j : ℕ) (t : Tree) → k ≤ j → OneOf j t readings → ChosenIsWithinLimits Der k ps depth (chosen j t)
+
+by_part_met : (ps : Parts) (depth : ℕ) → EachMet depth ps → HasNoAddition ps → (k : ℕ) (c : Bool) (readings ts : List Tree) → ComponentsMet ps depth k readings
+    → ByPart k (presences ps) readings ts → AreWithinLimits Der ps depth ts
+unfolding Reads parts_of IsWithinLimits
+by_part_met none depth met n k c readings ts one h = h
+by_part_met (part presence s ps) depth met n k c readings ts one (t, us, e, h, hs) = (t, us, e, elim h [ inl o ↦ come presence n.0 (first o) | inr o ↦ missing_met s depth presence n.0 met.0.own_default t o.1 ], by_part_met ps depth met.1 n.1 (suc k) c readings us behind hs)
+  where
+    first : OneOf k t readings → IsWithinLimits Der s depth t
+    first o = elim (one k t (omega arith) o) [
+      | inl m ↦ let f = m.1 in let g : m.0 ≡ t = cc in subst (IsWithinLimits Der s depth) g m.2
+      | inr m ↦ absurd (other_index Der ps depth (suc k) k (chosen k t) t (omega arith) refl m)
+    ]
+
+    come : (presence : Presence) → presence ≢ addition → IsWithinLimits Der s depth t → PartIsWithinLimits presence (IsWithinLimits Der s depth) t
+    come required n m = m
+    come optional n m = inr m
+    come addition n m = absurd (n refl)
+    come (default d) n m = inr m
+
+    behind : ComponentsMet ps depth (suc k) readings
+    behind j x l o = elim (one j x (omega arith) o) [
+      | inl m ↦ let f = m.1 in let g : j ≡ k = cc in absurd (omega (arith, l, g))
+      | inr m ↦ m
+    ]
+
+by_tag_has_none : (ps : Parts) → AreLawfulByTag ps → HasNoAddition ps
+unfolding AreLawfulByTag
+by_tag_has_none none h = tt
+by_tag_has_none (part presence s ps) h = (h.0, by_tag_has_none ps h.5)
+
+-- ---- values that hold others
+
+inside_met : {X : Type 0} {P : Type 0} (tag : Tag) (bit : Bool) (inner : Bool → Reading X) (input : List ℕ) (x : X) (rest : List ℕ)
+    → ((contents : List ℕ) → inner false contents x [] → P) → ReadsContents Der tag bit inner input x rest → P
+inside_met tag bit inner input x rest met (definite_form contents f h) = met contents h
+inside_met tag bit inner input x rest met (indefinite_form body f h) = absurd (no_open f)
+
+in_seq_met : (tag : Tag) (ps : Parts) (depth : ℕ) → EachMet (depth - 1) ps → (has_required ps || not (has_addition ps)) ≡ true → IsMet (seq tag ps) depth
+unfolding Reads parts_of IsWithinLimits
+in_seq_met tag ps depth met e closing input t rest (deep, h) = let r = inside_met tag true _ input t rest within h in (deep, r.0, r.1, r.2)
+  where
+    bare : (a b : Bool) → has_required ps ≡ a → has_addition ps ≡ b → (a || not b) ≡ true → (HasRequired (parts_of Der ps (depth - 1) false) → ⊥) → HasNoAddition ps
+    bare true b p q r n = absurd (n (some_required ps (depth - 1) false p))
+    bare false true p q r n = absurd (cc)
+    bare false false p q r n = no_addition ps q
+
+    within : (contents : List ℕ) → ReadsSeq Der (parts_of Der ps (depth - 1) false) false contents t [] → (ts : List Tree) × (t ≡ items ts) × AreWithinLimits Der ps (depth - 1) ts
+    within contents (ts, f, inl r) = (ts, f, all_missing_met ps (depth - 1) met (bare (has_required ps) (has_addition ps) refl refl e r.0.0) false ts r.1)
+    within contents (ts, f, inr r) = (ts, f, in_order_met ps (depth - 1) met false false contents ts [] r.1)
+
+in_set_met : (tag : Tag) (ps : Parts) (depth : ℕ) → EachMet (depth - 1) ps → HasNoAddition ps → IsMet (set tag ps) depth
+unfolding Reads parts_of IsWithinLimits
+in_set_met tag ps depth met n closing input t rest (deep, h) = let r = inside_met tag true _ input t rest within h in (deep, r.0, r.1, r.2)
+  where
+    within : (contents : List ℕ) → ReadsSet Der (presences ps) (ReadsChoice Der 0 (parts_of Der ps (depth - 1) false)) false contents t [] → (ts : List Tree) × (t ≡ items ts) × AreWithinLimits Der ps (depth - 1) ts
+    within contents r =
+        let each = many_met (ChosenIsWithinLimits Der 0 ps (depth - 1)) (ReadsChoice Der 0 (parts_of Der ps (depth - 1) false)) (λ i x l k. choice_met ps (depth - 1) met 0 false i x l k) false contents r.0 [] r.3 in (
+          r.1,
+          r.2,
+          by_part_met ps (depth - 1) met n 0 false r.0 r.1
+              (λ j x l o. one_met (ChosenIsWithinLimits Der 0 ps (depth - 1)) o.before (chosen j x) o.after (subst (EachOf (ChosenIsWithinLimits Der 0 ps (depth - 1))) o.is each)) r.4,
+        )
+
+in_list_met : (tag : Tag) (s : Shape) (size : Option (Bound ℕ)) (depth : ℕ) → IsMet s (depth - 2) → IsMet (list tag s size) depth
+unfolding Reads parts_of IsWithinLimits
+in_list_met tag s size depth met closing input t rest (deep, h) = let r = inside_met tag true _ input t rest within h in (deep, r.0, r.1, r.2)
+  where
+    within : (contents : List ℕ) → ReadsList size (Reads Der s (depth - 2) false) false contents t [] → (ts : List Tree) × (t ≡ items ts) × EachOf (IsWithinLimits Der s (depth - 2)) ts
+    within contents r = (r.0, r.1, many_met (IsWithinLimits Der s (depth - 2)) (Reads Der s (depth - 2) false) (λ i x l k. met false i x l k) false contents r.0 [] r.3)
+
+in_set_of_met : (tag : Tag) (s : Shape) (size : Option (Bound ℕ)) (depth : ℕ) → IsMet s (depth - 2) → IsMet (set_of tag s size) depth
+unfolding Reads parts_of IsWithinLimits
+in_set_of_met tag s size depth met closing input t rest (deep, h) = let r = inside_met tag true _ input t rest within h in (deep, r.0, r.1, r.2)
+  where
+    within : (contents : List ℕ) → ReadsSetOf Der size (Reads Der s (depth - 2) false) false contents t [] → (ts : List Tree) × (t ≡ set_elements (items ts)) × EachOf (IsWithinLimits Der s (depth - 2)) ts
+    within contents r = (r.0, r.1, many_met (IsWithinLimits Der s (depth - 2)) (Reads Der s (depth - 2) false) (λ i x l k. met false i x l k) false contents r.0 [] r.3)
+
+mutual
+  unfolding Reads parts_of IsWithinLimits IsLawful
+
+  all_met : (s : Shape) → IsLawful s → carries_all s ≡ true → (depth : ℕ) → IsMet s depth
+  all_met (leaf kind tag bounds) lawful e depth = λ closing input t rest h. in_met (family kind) kind tag depth input t rest h.0
+  all_met (any None) lawful e depth = λ closing input t rest h. one_encoding_met t h.0 h.1 h.2
+  all_met (any (Some tag)) lawful e depth = absurd (cc)
+  all_met (prefix tag s) lawful e depth = λ closing input t rest h.
+      (h.0, inside_met tag h.1 (λ c. Reads Der s (depth - 1) c) input t rest (λ contents r. all_met s lawful.2 e (depth - 1) false contents t [] r) h.3)
+  all_met (choice ps) lawful e depth = λ closing input t rest h. choice_met ps depth (each_met ps (alternatives_good ps lawful.0) e depth) 0 closing input t rest h
+  all_met (option tag s) lawful e depth = λ closing input t rest h. elim h [
+    | inl r ↦ inl r.1
+    | inr r ↦ inr (all_met s lawful.2 e depth closing input t rest r.1)
+  ]
+  all_met (seq tag ps) lawful e depth =
+      let p = both_true (has_required ps || not (has_addition ps)) (all_carry ps) e in
+      in_seq_met tag ps depth (each_met ps (in_order_good ps lawful.1) p.1 (depth - 1)) p.0
+  all_met (set tag ps) lawful e depth = in_set_met tag ps depth (each_met ps (by_tag_good ps lawful.1) e (depth - 1)) (by_tag_has_none ps lawful.1)
+  all_met (list tag s size) lawful e depth = in_list_met tag s size depth (all_met s lawful.2 e (depth - 2))
+  all_met (set_of tag s size) lawful e depth = in_set_of_met tag s size depth (all_met s lawful.2 e (depth - 2))
+
+  each_met : (ps : Parts) → EachGood ps → all_carry ps ≡ true → (depth : ℕ) → EachMet depth ps
+  each_met none good e depth = tt
+  each_met (part presence s ps) good e depth =
+      let p = three (is_own_default presence) (carries_all s) (all_carry ps) e in
+      (record { met = all_met s good.1 p.1 depth; there = there s good.0 good.1 depth; own_default = own_default presence p.0 }, each_met ps good.2 p.2 depth)
+
+pub all_carried : AllCarried
+all_carried s lawful e input o t rest h = only_carried s lawful (own_defaults s e) input o t rest h (all_met s lawful e 128 false input t rest h)

@@ -1,0 +1,3 @@
+pub mod Seconds
+pub mod Steps
+pub mod Texts

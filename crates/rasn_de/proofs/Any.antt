@@ -1,0 +1,3 @@
+pub mod Skipping
+pub mod Reads
+pub mod Nothing

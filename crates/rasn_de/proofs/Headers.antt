@@ -1,0 +1,14 @@
+pub mod Numbers
+pub mod Identifiers
+pub mod Frames
+pub mod Fronts
+pub mod NextTag
+pub mod Begins
+pub mod Tags
+pub mod Results
+pub mod Shorter
+pub mod Ends
+pub mod Memory
+pub mod Extents
+pub mod Forms
+pub mod Steps

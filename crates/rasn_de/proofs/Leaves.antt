@@ -1,0 +1,9 @@
+pub mod Boolean
+pub mod Integer
+pub mod Enumerated
+pub mod Null
+pub mod ObjectIdentifier
+pub mod Outcomes
+pub mod Errors
+pub mod Memory
+pub mod Returns

@@ -1,0 +1,5 @@
+pub mod Tagging
+pub mod Parts
+pub mod Components
+pub mod Alternatives
+pub mod Tags

@@ -1,0 +1,10 @@
+pub mod Segments
+pub mod Reads
+pub mod Ends
+pub mod OctetString
+pub mod BitString
+pub mod UnusedBits
+pub mod CharacterString
+pub mod Checks
+pub mod Appends
+pub mod Time

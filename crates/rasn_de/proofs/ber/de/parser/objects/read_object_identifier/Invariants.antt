@@ -1,9 +1,0 @@
-use Rattle.std.proofs.Common.{length}
-use Rattle.rasn_de.proofs.Arcs.{ArcsSoFar}
-use Rattle.rasn_de.proofs.ber.de.parser.objects.read_object_identifier.Given as goal
-
-abbrev pub invariant-loop-rest : goal.invariant-loop-rest
-invariant-loop-rest l = ArcsSoFar l.fn.rules l.fn.contents l.rest l.arcs.items
-
-abbrev pub decreases-loop-rest : goal.decreases-loop-rest
-decreases-loop-rest l = length l.rest

@@ -1,4 +1,0 @@
-use Rattle.rasn_de.proofs.de.times.DateDecode.decode_with_tag_and_constraints.Goals as goal
-
-pub returns : goal.returns
-returns c = c.decode_date.ensures.reads c.args._constraints.now

@@ -1,0 +1,85 @@
+-- BIT STRING, read from lists.
+use Rattle.std.specs.Prelude.{◌≡◌, ◌≢◌, ◌≤◌, ◌<◌, ◌^◌, ◌⊎◌, ℕ, ◌-◌, ◌*◌, Bool, false, ◌||◌, ◌&&◌, nat_lt, if◌then◌else◌, List, [], ◌∷◌, length, drop, Result, Ok, Err}
+use Rattle.rasn_types.specs.declared.types.tag.Tag.{Tag}
+use Rattle.rasn_types.specs.declared.types.codec.Codec.{Codec}
+use Rattle.rasn_types.specs.declared.types.constraints.Constraints.{Constraints}
+use Rattle.rasn_types.specs.declared.error.decode.DecodeError.{DecodeError}
+use Rattle.rasn_types.specs.Tags.{in_universal}
+use Rattle.rasn_types.specs.Shapes.{Tree, bits, Admits, constraint_of}
+use Rattle.rasn_types.specs.BitString.{bits_in, but_last}
+use Rattle.rasn_types.specs.Errors.{IsOutOfMemory}
+use Rattle.rasn_de.specs.declared.ber.de.parser.ParseError.{ParseError}
+use Rattle.rasn_de.specs.declared.ber.de.parser.ParseError.TheVariants.{OutOfMemory, UnexpectedEmptyInput, InvalidBitString, LengthExceedsPlatformWidth, SizeConstraintNotSatisfied, Der}
+use Rattle.rasn_types.specs.declared.error.decode.DerDecodeErrorKind.TheVariants.{NonzeroUnusedBits}
+use Rattle.rasn_de.specs.Headers.{is_der}
+use Rattle.rasn_de.specs.Segments.{string_at}
+use Rattle.rasn_de.specs.OctetString.{IsPrimitive, IsConstructed}
+use Rattle.rasn_de.specs.CharacterString.{AllocFailsCollecting}
+use Rattle.rasn_de.specs.State.{State, at}
+use Rattle.rasn_de.specs.Causes.{Cause, fault}
+use Rattle.rasn_de.specs.Leaves.{Readings, FailsAs, DecodesLeaf}
+use Rattle.rasn_de.specs.Steps.{IsErrorOf}
+
+-- The count is above 7, or above 0 where nothing follows.
+abbrev pub is_miscounted : ℕ → List ℕ → Bool
+is_miscounted unused [] = nat_lt 0 unused
+is_miscounted unused (b ∷ l) = nat_lt 7 unused
+
+-- the bits that don't count
+abbrev pub last_bits : ℕ → List ℕ → List Bool
+last_bits unused octets = drop (8 * length octets - unused) (bits_in octets)
+
+-- one of these bits is set
+abbrev pub is_any_set : List Bool → Bool
+is_any_set [] = false
+is_any_set (b ∷ bs) = b || is_any_set bs
+
+-- The bits of a segment: a count of unused bits, and octets (8.6.2). Under DER no unused bit is set (11.2.1).
+abbrev pub segment_bits : Codec → List ℕ → Result (List Bool) ParseError
+segment_bits rule [] = Err UnexpectedEmptyInput
+segment_bits rule (unused ∷ octets) =
+    if is_miscounted unused octets then Err (InvalidBitString unused)
+    else (if is_der rule && is_any_set (last_bits unused octets) then Err (Der NonzeroUnusedBits) else Ok (but_last unused octets))
+
+abbrev pub bit_string_at : Codec → ℕ → Tag → List ℕ → Result (List Bool × List ℕ) ParseError
+bit_string_at rule depth tag l = string_at rule (segment_bits rule) (in_universal 3) depth tag l
+
+abbrev pub bits_tree : List Bool → Tree
+bits_tree bs = bits bs
+
+-- Why there are no bits, and what is left. The reading refuses them, or an allocation fails while segments are gathered: all of the input is
+-- left. Memory is wanting for the bits of a primitive value, which are in order: what follows the value is left.
+pub data FailsAtBits (rule : Codec) (depth : ℕ) (tag : Tag) (l : List ℕ) : ParseError → List ℕ → Type 0 where
+  refused : (f : ParseError) → f ≢ OutOfMemory → bit_string_at rule depth tag l ≡ Err f → FailsAtBits rule depth tag l f l
+  gathering : IsConstructed rule tag l → FailsAtBits rule depth tag l OutOfMemory l
+  copying : (bs : List Bool) (rest : List ℕ) → IsPrimitive rule tag l → bit_string_at rule depth tag l ≡ Ok (bs, rest) → FailsAtBits rule depth tag l OutOfMemory rest
+
+-- What a decoder gathers of a string: its bits and what follows.
+abbrev pub DecodesBits : Tag → State → Result (List Bool) DecodeError → State → Type 0
+DecodesBits tag old (Ok bs) new = (bit_string_at old.rule old.depth tag old.rest ≡ Ok (bs, new.rest)) × (new ≡ at old new.rest)
+DecodesBits tag old (Err e) new = (f : ParseError) × IsErrorOf f old e × (new ≡ at old new.rest) × FailsAtBits old.rule old.depth tag old.rest f new.rest
+
+-- What is refused of bits that were read, and why: 2 ^ 64 of them or more, and then a size out of bounds.
+abbrev pub IsOversized : Constraints → List Bool → Cause → Type 0
+IsOversized bounds bs cause =
+    ((2 ^ 64 ≤ length bs) × (cause ≡ fault LengthExceedsPlatformWidth))
+    ⊎ ((length bs < 2 ^ 64) × (Admits ◌≤◌ bounds.size (length bs) → ⊥) × (cause ≡ fault (SizeConstraintNotSatisfied (length bs) (constraint_of bounds.size))))
+
+-- A BIT STRING whose size is within bounds.
+abbrev pub BitsAt : Constraints → Codec → ℕ → Tag → List ℕ → Readings (List Bool)
+BitsAt bounds rule depth tag l (Ok p) = (bit_string_at rule depth tag l ≡ Ok p) × (length p.0 < 2 ^ 64) × Admits ◌≤◌ bounds.size (length p.0)
+BitsAt bounds rule depth tag l (Err e) =
+    ((f : ParseError) × (bit_string_at rule depth tag l ≡ Err f) × (e ≡ (fault f, l)))
+    ⊎ ((bs : List Bool) × (bit_string_at rule depth tag l ≡ Ok (bs, e.1)) × IsOversized bounds bs e.0)
+
+-- Memory is wanting for the copy of a primitive string's bits, before their number is asked for, and the value is taken.
+abbrev pub AllocFailsCopyingBits : Tag → State → DecodeError → State → Type 0
+AllocFailsCopyingBits tag old e new = IsOutOfMemory e.kind × (e.codec ≡ old.rule) × (new ≡ at old new.rest) × IsPrimitive old.rule tag old.rest
+    × (bs : List Bool) × (bit_string_at old.rule old.depth tag old.rest ≡ Ok (bs, new.rest))
+
+-- A call answers what the reading is, or an allocation fails.
+abbrev pub DecodesBitString : Tag → Constraints → State → Result (List Bool) DecodeError → State → Type 0
+DecodesBitString tag bounds old (Ok bs) new = DecodesLeaf (λ s. s) (BitsAt bounds old.rule old.depth tag old.rest) old (Ok bs) new
+DecodesBitString tag bounds old (Err e) new =
+    AllocFailsCollecting tag old e new ⊎ (AllocFailsCopyingBits tag old e new
+    ⊎ ((IsOutOfMemory e.kind → ⊥) × FailsAs (BitsAt bounds old.rule old.depth tag old.rest) old e new))

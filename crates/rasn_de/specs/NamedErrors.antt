@@ -1,0 +1,22 @@
+-- Errors that tell a name.
+use Rattle.std.specs.Prelude.{ℕ, ◌≡◌, ◌⊎◌, List, string_bytes}
+use Rattle.rasn_types.specs.declared.types.codec.Codec.{Codec}
+use Rattle.rasn_types.specs.declared.error.decode.DecodeError.{DecodeError}
+use Rattle.rasn_types.specs.declared.error.decode.DecodeErrorKind.{DecodeErrorKind}
+use Rattle.rasn_types.specs.declared.error.decode.DecodeErrorKind.TheVariants.{OutOfMemory, NoValidChoice, MissingField, DuplicateField}
+
+abbrev pub IsNoValidChoice : List ℕ → DecodeErrorKind → Type 0
+IsNoValidChoice name (NoValidChoice told) = string_bytes told ≡ name
+IsNoValidChoice name _ = ⊥
+
+abbrev pub IsMissingField : List ℕ → DecodeErrorKind → Type 0
+IsMissingField name (MissingField told) = string_bytes told ≡ name
+IsMissingField name _ = ⊥
+
+abbrev pub IsDuplicateField : List ℕ → DecodeErrorKind → Type 0
+IsDuplicateField name (DuplicateField told) = string_bytes told ≡ name
+IsDuplicateField name _ = ⊥
+
+-- The error is of this kind, or memory ran out for its copy of the name.
+abbrev pub IsNamedError : (DecodeErrorKind → Type 0) → Codec → DecodeError → Type 0
+IsNamedError is rule e = (e.codec ≡ rule) × (is e.kind ⊎ (e.kind ≡ OutOfMemory))

@@ -1,0 +1,58 @@
+-- What the code's values are as lists.
+use Rattle.std.specs.Prelude.{◌≡◌, ℕ, true, false, ◌⊎◌, List, Result, Ok, Err, ◌++◌, ◌≢◌}
+use Rattle.std.specs.Borrow.{Bor}
+use Rattle.rasn_types.specs.declared.types.tag.Tag.{Tag}
+use Rattle.rasn_de.specs.declared.ber.de.parser.ParseError.{ParseError}
+use Rattle.rasn_de.specs.declared.ber.de.parser.ParseError.TheVariants.{OutOfMemory}
+use Rattle.rasn_types.specs.Framing.{Extent, definite, indefinite}
+use Rattle.rasn_types.specs.Tags.{Form, TagAndBit}
+use Rattle.rasn_de.specs.Headers.{Identified, Header, identifier_at}
+use Rattle.rasn_de.specs.declared.ber.de.parser.Contents.{Contents}
+use Rattle.rasn_de.specs.declared.ber.de.parser.Contents.TheVariants.{Definite, Indefinite}
+use Rattle.rasn_de.specs.declared.ber.de.parser.Value.{Value}
+
+-- What a function returned, seen by view, is what reading gives.
+abbrev pub ParsesAs : {X Y : Type 0} → (X → Y) → Result X ParseError → Result Y ParseError → Type 0
+ParsesAs view (Ok x) read = read ≡ Ok (view x)
+ParsesAs view (Err e) read = read ≡ Err e
+
+abbrev pub pair : {X : Type 0} → X × Bor (List ℕ) → X × List ℕ
+pair p = (p.0, p.1.now)
+
+abbrev pub both : Bor (List ℕ) × Bor (List ℕ) → List ℕ × List ℕ
+both p = (p.0.now, p.1.now)
+
+abbrev pub identified : TagAndBit × Bor (List ℕ) → Identified
+identified p = record { tag = p.0.tag; bit = p.0.bit; rest = p.1.now }
+
+abbrev pub extent : Contents → Extent
+extent (Definite s) = definite s.now
+extent Indefinite = indefinite
+
+abbrev pub header_with : Value → List ℕ → Header
+header_with v rest = record { tag = v.tag; bit = v.is_constructed; extent = extent v.contents; rest = rest }
+
+abbrev pub header : Value × Bor (List ℕ) → Header
+header p = header_with p.0 p.1.now
+
+-- What is read is appended, and the rest handed back; an error but running out of memory is the first fault.
+abbrev pub ParsesSegments : {X : Type 0} → Result (List X × List ℕ) ParseError → List X → List X → Result (Bor (List ℕ)) ParseError → Type 0
+ParsesSegments {X} read old new (Ok r) = (xs : List X) × (read ≡ Ok (xs, r.now)) × (new ≡ old ++ xs)
+ParsesSegments read old new (Err e) = e ≢ OutOfMemory → read ≡ Err e
+
+abbrev pub ParsesSegment : {X : Type 0} → Result (List X) ParseError → List X → List X → Result (Unit {0}) ParseError → Type 0
+ParsesSegment {X} read old new (Ok u) = (xs : List X) × (read ≡ Ok xs) × (new ≡ old ++ xs)
+ParsesSegment read old new (Err e) = e ≢ OutOfMemory → read ≡ Err e
+
+abbrev pub IsNestedValue : Value → Type 0
+IsNestedValue v = (v.is_constructed ≡ true) ⊎ (extent v.contents ≡ indefinite)
+
+abbrev pub IsPlainValue : Value → List ℕ → Type 0
+IsPlainValue v s = (v.is_constructed ≡ false) × (extent v.contents ≡ definite s)
+
+abbrev pub identified_tag : Result Identified ParseError → Result Tag ParseError
+identified_tag (Ok i) = Ok i.tag
+identified_tag (Err e) = Err e
+
+abbrev pub peeked_tag : Form → List ℕ → Result Tag ParseError
+peeked_tag spelling l = identified_tag (identifier_at spelling l)

@@ -1,0 +1,69 @@
+-- SET: components in any order, of which a function makes the value.
+use Rattle.std.specs.Prelude.{◌≡◌, ◌⊎◌, ℕ, List, [], ◌∷◌, ◌++◌, map, Vec, Option, Some, None, Result, Ok, Err}
+use Rattle.std.specs.Global.{Global}
+use Rattle.rasn_types.specs.declared.types.tag.Tag.{Tag}
+use Rattle.rasn_types.specs.declared.error.decode.DecodeError.{DecodeError}
+use Rattle.rasn_types.specs.declared.error.decode.DerDecodeErrorKind.TheVariants.{SetComponentsOutOfOrder}
+use Rattle.rasn_types.specs.Tags.{form, IsStrict, IsTagBelow}
+use Rattle.rasn_types.specs.Framing.{NextTag, Ended}
+use Rattle.rasn_types.specs.Shapes.{Tree, Shape, items, choice, set, Parts, presences}
+use Rattle.rasn_types.specs.Readings.{ByPart, AreInTagOrder}
+use Rattle.rasn_de.specs.declared.ber.de.parser.ParseError.TheVariants.{Der}
+use Rattle.rasn_de.specs.State.{State, Call}
+use Rattle.rasn_de.specs.Decodes.{Decodes}
+use Rattle.rasn_de.specs.Constructed.{sequence_header, DecodesInside}
+use Rattle.rasn_de.specs.Steps.{IsErrorOf, PeeksTag}
+use Rattle.rasn_de.specs.SequenceOf.{DecodesInTurnFrom, FailsAtElement}
+use Rattle.rasn_de.specs.Outcomes.{Exact, refusal}
+
+-- A tag is below the last one, where there is one.
+abbrev pub IsBelowLast : Tag → Option Tag → Type 0
+IsBelowLast tag None = ⊥
+IsBelowLast tag (Some last) = IsTagBelow tag last
+
+-- The look at the next tag, which the strict rule asks for.
+abbrev pub PeeksInOrder : Option Tag → State → Result (Option Tag) DecodeError → Type 0
+PeeksInOrder last s (Ok None) = IsStrict s.rule → ⊥
+PeeksInOrder last s (Ok (Some tag)) = NextTag (form s.rule) s.rest tag × (IsBelowLast tag last → ⊥)
+PeeksInOrder last s (Err e) = IsStrict s.rule
+    × (PeeksTag s (Err e) ⊎ ((tag : Tag) × NextTag (form s.rule) s.rest tag × IsBelowLast tag last × IsErrorOf (Der SetComponentsOutOfOrder) s e))
+
+module _ {D : Type 0} (read : Call D) where
+  -- Components are read from these octets, whose tags don't fall under the strict rule (10.3).
+  abbrev pub DecodesInTagOrder : State → List D → List (List ℕ) → State → Type 0
+  DecodesInTagOrder old vs bs here = DecodesInTurnFrom read old vs bs here × (IsStrict old.rule → AreInTagOrder bs)
+
+  -- The next component has no tag, or one that falls behind those of these octets, or isn't read. Only the strict rule asks for the tag.
+  pub data FailsAtComponent (bs : List (List ℕ)) (here : State) (e : DecodeError) (new : State) : Type 0 where
+    no_tag : IsStrict here.rule → PeeksTag here (Err e) → new ≡ here → FailsAtComponent bs here e new
+    falls : IsStrict here.rule → (tag : Tag) → NextTag (form here.rule) here.rest tag → (AreInTagOrder (bs ++ here.rest ∷ []) → ⊥) → IsErrorOf (Der SetComponentsOutOfOrder) here e → new ≡ here → FailsAtComponent bs here e new
+    not_read : (IsStrict here.rule → (tag : Tag) × NextTag (form here.rule) here.rest tag × AreInTagOrder (bs ++ here.rest ∷ [])) → FailsAtElement read here e new → FailsAtComponent bs here e new
+
+  -- Components up to the end, or up to the first that isn't read.
+  abbrev pub DecodesComponents : {L : Type 0} → (L → List D) → Call L
+  DecodesComponents elements old (Ok v) new = (bs : List (List ℕ)) × DecodesInTagOrder old (elements v) bs new × Ended new.closing new.rest
+  DecodesComponents elements old (Err e) new = (vs : List D) × (bs : List (List ℕ)) × (here : State) × DecodesInTagOrder old vs bs here × (Ended here.closing here.rest → ⊥) × FailsAtComponent bs here e new
+
+-- A function is called on what was read, once; a refusal is that of the read, or the function's.
+abbrev pub DecodesSetContents : {L D : Type 0} → Call L → (L → Result D DecodeError → Type 0) → Call D
+DecodesSetContents {L} read made old (Ok v) new = (fields : L) × read old (Ok fields) new × made fields (Ok v)
+DecodesSetContents {L} read made old (Err e) new = read old (Err e) new ⊎ ((fields : L) × read old (Ok fields) new × made fields (Err e))
+
+-- The components of a SET are read one by one by read, and made is what a function makes of them.
+abbrev pub DecodesSetBy : {F D : Type 0} → Call F → (Vec F Global → Result D DecodeError → Type 0) → Tag → Call D
+DecodesSetBy {F} read made tag = DecodesInside (DecodesSetContents (DecodesComponents read (λ (v : Vec F Global). v.items)) made) (sequence_header tag)
+
+-- The readings of components are these parts.
+abbrev pub AreParts : Parts → List Tree → Tree → Type 0
+AreParts parts readings t = (ts : List Tree) × (t ≡ items ts) × ByPart 0 (presences parts) readings ts
+
+-- What a function makes of components by their readings: the parts, or a refusal where they are no parts.
+abbrev pub MakesSet : {D : Type 0} → Parts → (D → Tree) → List Tree → Result D DecodeError → Type 0
+MakesSet parts tree readings (Ok v) = AreParts parts readings (tree v)
+MakesSet parts tree readings (Err e) = Exact (λ input t rest. AreParts parts readings t) [] (refusal e.kind)
+
+-- A SET of these parts is read, where a component is one of them, and the function makes the parts of what was read.
+abbrev pub DecodesSet : {F D : Type 0} → Shape → (F → Tree) → (Vec F Global → Result D DecodeError → Type 0) → Parts → (D → Tree) → Tag → Call D
+DecodesSet {F} {D} component reading made parts tree tag old result new = component ≡ choice parts
+    → ((fields : Vec F Global) (r : Result D DecodeError) → made fields r → MakesSet parts tree (map reading fields.items) r)
+    → Decodes (set tag parts) tree old result new

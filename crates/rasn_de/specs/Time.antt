@@ -1,0 +1,54 @@
+-- Times, read as strings whose octets are the text of an instant or a day.
+use Rattle.std.specs.Prelude.{◌≡◌, ◌⊎◌, ℕ, ℤ, List, Result, Ok, Err}
+use Rattle.std.specs.Cow.{cow_slice_items, IsBorrowedSlice}
+use Rattle.std.specs.declared.alloc.Global.{Global}
+use Rattle.std.specs.declared.borrow.CowSlice.{CowSlice}
+use Rattle.std.specs.declared.vec.Vec.{Vec}
+use Rattle.rasn_types.specs.Calendar.{Moment, Stamp}
+use Rattle.rasn_types.specs.declared.types.tag.Tag.{Tag}
+use Rattle.rasn_types.specs.declared.types.codec.Codec.{Codec}
+use Rattle.rasn_types.specs.declared.types.codec.Codec.TheVariants.{Ber}
+use Rattle.rasn_types.specs.declared.error.decode.DecodeError.{DecodeError}
+use Rattle.rasn_types.specs.declared.error.decode.DecodeErrorKind.TheVariants.{OutOfMemory}
+use Rattle.rasn_types.specs.declared.error.decode.BerDecodeErrorKind.TheVariants.{InvalidDate}
+use Rattle.rasn_de.specs.Causes.{in_ber}
+use Rattle.rasn_de.specs.OctetString.{octet_string_at, DecodesOctets, IsPrimitive}
+use Rattle.rasn_de.specs.State.{State, at}
+
+-- The instant of a text, whatever its offset.
+abbrev pub AtAnyOffset : (List ℕ → Stamp → Type 0) → List ℕ → Moment → Type 0
+AtAnyOffset R text m = (offset : ℤ) × R text (record { moment = m; offset = offset })
+
+-- The error tells the whole text, which is no time's.
+pub record IsInvalidDate (text : List ℕ) (rule : Codec) (e : DecodeError) : Type 0 where
+  pub octets : Vec ℕ Global
+  pub items : octets.items ≡ text
+  pub is : e ≡ record { kind = in_ber (InvalidDate octets); codec = rule }
+
+-- No memory was found for the error's copy of the text.
+abbrev pub IsAllocError : Codec → DecodeError → Type 0
+IsAllocError rule e = e ≡ record { kind = OutOfMemory; codec = rule }
+
+-- The error tells the octets of a string that is no time's. Those that are borrowed are copied for it.
+abbrev pub IsInvalidString : CowSlice ℕ Global → Codec → DecodeError → Type 0
+IsInvalidString s rule e = IsInvalidDate (cow_slice_items s) rule e ⊎ (IsAllocError rule e × IsBorrowedSlice s)
+
+-- A text is parsed to what it means; where it means nothing, the error tells it.
+abbrev pub ParsesTime : {X : Type 0} → (List ℕ → X → Type 0) → List ℕ → Result X DecodeError → Type 0
+ParsesTime Means text (Ok x) = Means text x
+ParsesTime {X} Means text (Err e) = ((x : X) → Means text x → ⊥) × IsInvalidDate text Ber e
+
+-- A text is parsed to what it means; where it means nothing, the error tells it, or that no memory was found for its copy.
+abbrev pub ParsesCopiedTime : {X : Type 0} → (List ℕ → X → Type 0) → List ℕ → Result X DecodeError → Type 0
+ParsesCopiedTime Means text (Ok x) = Means text x
+ParsesCopiedTime {X} Means text (Err e) = ((x : X) → Means text x → ⊥) × (IsInvalidDate text Ber e ⊎ IsAllocError Ber e)
+
+-- A call takes a string whose text means a time. It is refused as the string is, and then takes nothing; or it takes the string, whose
+-- text means nothing. The text of a primitive string is copied for the error.
+abbrev pub DecodesTime : {X : Type 0} → (List ℕ → X → Type 0) → Tag → State → Result X DecodeError → State → Type 0
+DecodesTime Means tag old (Ok x) new =
+    (text : List ℕ) × (octet_string_at old.rule old.depth tag old.rest ≡ Ok (text, new.rest)) × (new ≡ at old new.rest) × Means text x
+DecodesTime {X} Means tag old (Err e) new =
+    DecodesOctets tag old (Err e) new
+    ⊎ ((text : List ℕ) × (octet_string_at old.rule old.depth tag old.rest ≡ Ok (text, new.rest)) × (new ≡ at old new.rest) × ((x : X) → Means text x → ⊥)
+    × (IsInvalidDate text old.rule e ⊎ (IsAllocError old.rule e × IsPrimitive old.rule tag old.rest)))

@@ -1,0 +1,68 @@
+//! Open types, and values that are passed over.
+ghost use Rattle.std.specs.Prelude.{◌+◌, ◌*◌, ◌≤◌, length, IfOk, IfErr};
+ghost use Rattle.rasn_types.specs.Errors.{IsOutOfMemory};
+ghost use Rattle.rasn_types.specs.Shapes.{any, looked_for, numbers};
+ghost use Rattle.rasn_de.specs.Decodes.{Decodes};
+ghost use Rattle.rasn_de.specs.Any.{DecodesOpenType, SkipsValue};
+
+use crate::ber::de::Decoder;
+use crate::ber::de::parser::ParseError;
+use crate::ber::de::parser::skipping::{read_open, skip_encoding};
+use crate::de::Decode;
+use rasn_types::error::DecodeError;
+use rasn_types::types::{Any, Constraints, Tag};
+
+impl<'input> Decoder<'input> {
+    /// A value of an open type, kept as its octets (X.680 30): with a tag the contents of the one value of this tag, in either
+    /// length form and without end-of-contents octets; with `Tag::EOC` one whole encoding, end-of-contents octets included. What it holds may be
+    /// nested to any depth, and is spelled as under BER, but for the indefinite form, which DER never has.
+    ///
+    /// # Errors
+    /// Framing faults of the value and of those that it holds, which take nothing.
+    pub fn decode_any(&mut self, tag: Tag) -> Result<Any, DecodeError>
+        ensures reads { Decodes (any (looked_for tag)) numbers self.old result self.new }
+        ensures exact { DecodesOpenType tag self.old result self.new }
+    {
+        match read_open(self.rules, tag, self.rest) {
+            Ok((octets, rest)) => match octets.to_vec(self.alloc) {
+                Ok(octets) => {
+                    self.advance(rest);
+                    Ok(Any::new(octets))
+                }
+                Err(_) => Err(self.error(ParseError::OutOfMemory)),
+            },
+            Err(fault) => Err(self.error(fault)),
+        }
+    }
+
+    /// Passes one whole encoding at any depth (X.690 8.1.1.1), in constant memory. Answers how many turns this took, which are at
+    /// most half as many as the octets: one for each end-of-contents octets that it passed, and one for each value inside with a definite
+    /// length or header of indefinite length; none for a value of definite length.
+    ///
+    /// # Errors
+    /// Framing faults of the value and of those that it holds, which take nothing.
+    pub fn skip_value(&mut self) -> Result<usize, DecodeError>
+        ensures exact { SkipsValue self.old result self.new }
+        ensures half { IfOk result (λ turns. 2 * turns + length self.new.rest ≤ length self.old.rest) }
+        ensures memory { IfErr result (λ e. IsOutOfMemory e.kind → ⊥) }
+    {
+        match skip_encoding(self.rules, self.rest) {
+            Ok((turns, rest)) => {
+                self.advance(rest);
+                Ok(turns)
+            }
+            Err(fault) => Err(self.error(fault)),
+        }
+    }
+}
+
+impl Decode for Any {
+    #[tactic(auto, unfolding(rasn_types::specs::Grammar::Reads))]
+    fn decode_with_tag_and_constraints(
+        decoder: &mut Decoder<'_>,
+        tag: Tag,
+        _constraints: &Constraints,
+    ) -> Result<Any, DecodeError> {
+        decoder.decode_any(tag)
+    }
+}

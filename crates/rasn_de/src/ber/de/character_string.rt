@@ -1,0 +1,289 @@
+//! Character strings (X.690 8.23).
+ghost use Rattle.std.specs.Prelude.{chars};
+ghost use Rattle.std.specs.String.{string_bytes};
+ghost use Rattle.rasn_types.specs.declared.types.strings.alphabet.Alphabet.TheVariants.{Numeric, Printable, Visible, Ia5, Every};
+ghost use Rattle.rasn_types.specs.CharacterString.{string_kind, units_of};
+ghost use Rattle.rasn_types.specs.Shapes.{leaf, numbers, numeric, printable, visible, ia5, any_octets, bmp, utf8};
+ghost use Rattle.rasn_de.specs.Decodes.{Decodes};
+ghost use Rattle.rasn_de.specs.CharacterString.{ByAlphabet, ByUnits, ByUtf8, DecodesString, ChecksString, ParsesUtf8};
+
+use crate::ber::de::octet_string::owned;
+use crate::ber::de::parser::ParseError;
+use crate::ber::de::{Decoder, check_size};
+use crate::de::Decode;
+use rasn_types::error::DecodeError;
+use rasn_types::types::{
+    Alphabet, BmpString, Constraints, GeneralString, GeneralType, GraphicString, GraphicType,
+    Ia5String, Ia5Type, NumericString, NumericType, PrintableString, PrintableType,
+    RestrictedString, StringType, Tag, TeletexString, TeletexType, VisibleString, VisibleType,
+};
+use std::borrow::{CowSlice, CowStr};
+
+/// Whether octets are within a size, and then all in the alphabet.
+fn check_alphabet(
+    alphabet: Alphabet,
+    constraints: &Constraints,
+    octets: &[u8],
+) -> Result<(), ParseError>
+    ensures { ChecksString (ByAlphabet alphabet constraints.now.size) octets.now octets.now result }
+{
+    check_size(constraints, octets.len())?;
+    match alphabet.first_foreign(octets) {
+        None => Ok(()),
+        Some(position) => Err(ParseError::PermittedAlphabetError {
+            octet: octets[position],
+            position,
+        }),
+    }
+}
+
+/// Whether octets are 16-bit units, and these within a size.
+fn check_units(constraints: &Constraints, octets: &[u8]) -> Result<(), ParseError>
+    ensures { ChecksString (ByUnits constraints.now.size) octets.now (units_of octets.now) result }
+{
+    if octets.len() % 2 != 0 {
+        return Err(ParseError::StringConversionFailed {
+            tag: Tag::BMP_STRING,
+        });
+    }
+    check_size(constraints, octets.len() / 2)
+}
+
+/// Whether the characters are within a size. They are counted only where there is a bound.
+fn check_characters(constraints: &Constraints, text: &str) -> Result<(), ParseError>
+    ensures { ChecksString (ByUtf8 constraints.now.size) text.now (chars text.now) result }
+{
+    match constraints.size {
+        None => Ok(()),
+        Some(_) => check_size(constraints, text.chars().count()),
+    }
+}
+
+/// Octets as text, which stays borrowed where it is.
+fn text_of(octets: CowSlice<'_, u8>) -> Result<CowStr<'_>, ParseError>
+    ensures { ParsesUtf8 octets.entry result }
+{
+    let fault = ParseError::StringConversionFailed {
+        tag: Tag::UTF8_STRING,
+    };
+    match octets {
+        CowSlice::Borrowed(octets) => match str::from_utf8(octets) {
+            Ok(text) => Ok(CowStr::Borrowed(text)),
+            Err(_) => Err(fault),
+        },
+        CowSlice::Owned(octets) => match String::from_utf8(octets) {
+            Ok(text) => Ok(CowStr::Owned(text)),
+            Err(_) => Err(fault),
+        },
+    }
+}
+
+impl<'input> Decoder<'input> {
+    /// A VisibleString of octets `20` to `7E`, within a size in octets (X.680 41).
+    ///
+    /// # Errors
+    /// Framing faults and faults of a segment, which take nothing. With the value taken: `SizeConstraintNotSatisfied`, then
+    /// `PermittedAlphabetError`.
+    pub fn decode_visible_string(
+        &mut self,
+        tag: Tag,
+        constraints: &Constraints,
+    ) -> Result<VisibleString, DecodeError>
+        ensures reads { Decodes (leaf visible tag constraints.now) numbers self.old result self.new }
+        ensures exact { DecodesString (λ s. s) (ByAlphabet Visible constraints.now.size) tag self.old result self.new }
+    {
+        self.restricted::<VisibleType>(tag, constraints)
+    }
+
+    /// An IA5String of octets `00` to `7F`, within a size in octets (X.680 41).
+    ///
+    /// # Errors
+    /// Framing faults and faults of a segment, which take nothing. With the value taken: `SizeConstraintNotSatisfied`, then
+    /// `PermittedAlphabetError`.
+    pub fn decode_ia5_string(
+        &mut self,
+        tag: Tag,
+        constraints: &Constraints,
+    ) -> Result<Ia5String, DecodeError>
+        ensures reads { Decodes (leaf ia5 tag constraints.now) numbers self.old result self.new }
+        ensures exact { DecodesString (λ s. s) (ByAlphabet Ia5 constraints.now.size) tag self.old result self.new }
+    {
+        self.restricted::<Ia5Type>(tag, constraints)
+    }
+
+    /// A PrintableString of letters, digits, space and `' ( ) + , - . / : = ?`, within a size in octets (X.680 41).
+    ///
+    /// # Errors
+    /// Framing faults and faults of a segment, which take nothing. With the value taken: `SizeConstraintNotSatisfied`, then
+    /// `PermittedAlphabetError`.
+    pub fn decode_printable_string(
+        &mut self,
+        tag: Tag,
+        constraints: &Constraints,
+    ) -> Result<PrintableString, DecodeError>
+        ensures reads { Decodes (leaf printable tag constraints.now) numbers self.old result self.new }
+        ensures exact { DecodesString (λ s. s) (ByAlphabet Printable constraints.now.size) tag self.old result self.new }
+    {
+        self.restricted::<PrintableType>(tag, constraints)
+    }
+
+    /// A NumericString of digits and space, within a size in octets (X.680 41).
+    ///
+    /// # Errors
+    /// Framing faults and faults of a segment, which take nothing. With the value taken: `SizeConstraintNotSatisfied`, then
+    /// `PermittedAlphabetError`.
+    pub fn decode_numeric_string(
+        &mut self,
+        tag: Tag,
+        constraints: &Constraints,
+    ) -> Result<NumericString, DecodeError>
+        ensures reads { Decodes (leaf numeric tag constraints.now) numbers self.old result self.new }
+        ensures exact { DecodesString (λ s. s) (ByAlphabet Numeric constraints.now.size) tag self.old result self.new }
+    {
+        self.restricted::<NumericType>(tag, constraints)
+    }
+
+    /// A TeletexString of any octets, within a size in octets (X.680 41).
+    ///
+    /// # Errors
+    /// Framing faults and faults of a segment, which take nothing; `SizeConstraintNotSatisfied`, which takes the value.
+    pub fn decode_teletex_string(
+        &mut self,
+        tag: Tag,
+        constraints: &Constraints,
+    ) -> Result<TeletexString, DecodeError>
+        ensures reads { Decodes (leaf any_octets tag constraints.now) numbers self.old result self.new }
+        ensures exact { DecodesString (λ s. s) (ByAlphabet Every constraints.now.size) tag self.old result self.new }
+    {
+        self.restricted::<TeletexType>(tag, constraints)
+    }
+
+    /// A GeneralString of any octets, within a size in octets (X.680 41).
+    ///
+    /// # Errors
+    /// Framing faults and faults of a segment, which take nothing; `SizeConstraintNotSatisfied`, which takes the value.
+    pub fn decode_general_string(
+        &mut self,
+        tag: Tag,
+        constraints: &Constraints,
+    ) -> Result<GeneralString, DecodeError>
+        ensures reads { Decodes (leaf any_octets tag constraints.now) numbers self.old result self.new }
+        ensures exact { DecodesString (λ s. s) (ByAlphabet Every constraints.now.size) tag self.old result self.new }
+    {
+        self.restricted::<GeneralType>(tag, constraints)
+    }
+
+    /// A GraphicString of any octets, within a size in octets (X.680 41).
+    ///
+    /// # Errors
+    /// Framing faults and faults of a segment, which take nothing; `SizeConstraintNotSatisfied`, which takes the value.
+    pub fn decode_graphic_string(
+        &mut self,
+        tag: Tag,
+        constraints: &Constraints,
+    ) -> Result<GraphicString, DecodeError>
+        ensures reads { Decodes (leaf any_octets tag constraints.now) numbers self.old result self.new }
+        ensures exact { DecodesString (λ s. s) (ByAlphabet Every constraints.now.size) tag self.old result self.new }
+    {
+        self.restricted::<GraphicType>(tag, constraints)
+    }
+
+    /// A BMPString of 16-bit units, within a size in units (X.690 8.23.8).
+    ///
+    /// # Errors
+    /// Framing faults and faults of a segment, which take nothing. With the value taken: `StringConversionFailed` of an odd number
+    /// of octets, then `SizeConstraintNotSatisfied`.
+    pub fn decode_bmp_string(
+        &mut self,
+        tag: Tag,
+        constraints: &Constraints,
+    ) -> Result<BmpString, DecodeError>
+        ensures reads { Decodes (leaf bmp tag constraints.now) (λ s. numbers (units_of s)) self.old result self.new }
+        ensures exact { DecodesString units_of (ByUnits constraints.now.size) tag self.old result self.new }
+    {
+        let octets = self.octets(tag)?;
+        if let Err(fault) = check_units(constraints, octets.as_slice()) {
+            return Err(self.error(fault));
+        }
+        match owned(self.alloc(), octets) {
+            Ok(octets) => Ok(BmpString::from_paired(octets)),
+            Err(_) => Err(self.error(ParseError::OutOfMemory)),
+        }
+    }
+
+    /// A UTF8String, within a size in characters (X.690 8.23.10).
+    ///
+    /// # Errors
+    /// Framing faults and faults of a segment, which take nothing. With the value taken: `StringConversionFailed` of octets that
+    /// aren't UTF-8, all segments taken together, then `SizeConstraintNotSatisfied`.
+    pub fn decode_utf8_string(
+        &mut self,
+        tag: Tag,
+        constraints: &Constraints,
+    ) -> Result<String, DecodeError>
+        ensures reads { Decodes (leaf utf8 tag constraints.now) (λ s. numbers (chars (string_bytes s))) self.old result self.new }
+        ensures exact { DecodesString (λ s. chars (string_bytes s)) (ByUtf8 constraints.now.size) tag self.old result self.new }
+    {
+        let octets = self.octets(tag)?;
+        let text = match text_of(octets) {
+            Ok(text) => text,
+            Err(fault) => return Err(self.error(fault)),
+        };
+        if let Err(fault) = check_characters(constraints, text.as_str()) {
+            return Err(self.error(fault));
+        }
+        match text.into_owned(self.alloc()) {
+            Ok(text) => Ok(text),
+            Err(_) => Err(self.error(ParseError::OutOfMemory)),
+        }
+    }
+
+    /// A string whose octets are characters of one alphabet.
+    pub(crate) fn restricted<S: StringType>(
+        &mut self,
+        tag: Tag,
+        constraints: &Constraints,
+    ) -> Result<RestrictedString<S>, DecodeError>
+        ensures reads { Decodes (leaf (string_kind S.ALPHABET) tag constraints.now) numbers self.old result self.new }
+        ensures exact { DecodesString (λ s. s) (ByAlphabet S.ALPHABET constraints.now.size) tag self.old result self.new }
+    {
+        let octets = self.octets(tag)?;
+        if let Err(fault) = check_alphabet(S::ALPHABET, constraints, octets.as_slice()) {
+            return Err(self.error(fault));
+        }
+        match owned(self.alloc(), octets) {
+            Ok(octets) => Ok(RestrictedString::from_admitted(octets)),
+            Err(_) => Err(self.error(ParseError::OutOfMemory)),
+        }
+    }
+}
+
+impl<S: StringType> Decode for RestrictedString<S> {
+    fn decode_with_tag_and_constraints(
+        decoder: &mut Decoder<'_>,
+        tag: Tag,
+        constraints: &Constraints,
+    ) -> Result<RestrictedString<S>, DecodeError> {
+        decoder.restricted(tag, constraints)
+    }
+}
+
+impl Decode for BmpString {
+    fn decode_with_tag_and_constraints(
+        decoder: &mut Decoder<'_>,
+        tag: Tag,
+        constraints: &Constraints,
+    ) -> Result<BmpString, DecodeError> {
+        decoder.decode_bmp_string(tag, constraints)
+    }
+}
+
+impl Decode for String {
+    fn decode_with_tag_and_constraints(
+        decoder: &mut Decoder<'_>,
+        tag: Tag,
+        constraints: &Constraints,
+    ) -> Result<String, DecodeError> {
+        decoder.decode_utf8_string(tag, constraints)
+    }
+}

@@ -1,0 +1,152 @@
+//! Values that hold others: how they are opened and closed (X.690 8.1).
+ghost use Rattle.std.specs.Prelude.{◌≡◌, ◌≢◌};
+ghost use Rattle.std.specs.Fn.{FnOnceReturnsAtMut};
+ghost use Rattle.rasn_types.specs.Framing.{indefinite, AreOctets, Ended};
+ghost use Rattle.rasn_de.specs.Constructed.{sequence_header, list_header, prefix_header, expected_header, ConsumesOpening, ConsumesEnd, is_indefinite_extent, KeepsSettings, DecodesInside};
+ghost use Rattle.rasn_de.specs.State.{IsEnd};
+ghost use Rattle.rasn_de.specs.ParserViews.{extent};
+ghost use Rattle.rasn_types.specs.Truth.{IsWhether};
+
+use crate::ber::de::Decoder;
+use crate::ber::de::parser::constructed::{finish, has_ended, held};
+use crate::ber::de::parser::headers::Expected;
+use crate::ber::de::parser::{Contents, ParseError};
+use rasn_types::error::DecodeError;
+use rasn_types::types::{Codec, Tag};
+
+/// How the header of a value that holds others has to be: its tag, whether it must be constructed under every rule, and how many levels
+/// of depth the value takes.
+#[derive(Clone, Copy)]
+pub(crate) struct ConstructedHeader {
+    pub(crate) tag: Tag,
+    pub(crate) must_be_constructed: bool,
+    pub(crate) levels: usize,
+}
+
+impl ConstructedHeader {
+    /// The header of a SEQUENCE or SET.
+    pub(super) fn sequence(tag: Tag) -> ConstructedHeader
+        ensures { result ≡ sequence_header tag }
+    {
+        ConstructedHeader {
+            tag,
+            must_be_constructed: true,
+            levels: 1,
+        }
+    }
+
+    /// The header of a SEQUENCE OF or SET OF, which takes two levels of depth.
+    pub(super) fn list(tag: Tag) -> ConstructedHeader
+        ensures { result ≡ list_header tag }
+    {
+        ConstructedHeader {
+            tag,
+            must_be_constructed: true,
+            levels: 2,
+        }
+    }
+
+    /// The header of an explicit prefix, whose constructed bit is looked at under DER alone.
+    pub(super) fn prefix(tag: Tag) -> ConstructedHeader
+        ensures { result ≡ prefix_header tag }
+    {
+        ConstructedHeader {
+            tag,
+            must_be_constructed: false,
+            levels: 1,
+        }
+    }
+
+    /// Which identifier begins the value: of one that needn't be constructed, under DER with the bit that it is written with.
+    fn expected(self, rules: Codec) -> Expected
+        ensures { result ≡ expected_header self rules }
+    {
+        if self.must_be_constructed {
+            Expected::Tagged(self.tag)
+        } else {
+            Expected::as_written(rules, self.tag, true)
+        }
+    }
+}
+
+fn is_indefinite(contents: Contents<'_>) -> bool
+    ensures { result ≡ is_indefinite_extent (extent contents.entry) }
+{
+    match contents {
+        Contents::Definite(_) => false,
+        Contents::Indefinite => true,
+    }
+}
+
+impl<'input> Decoder<'input> {
+    /// Takes such a header. Answers a decoder of the contents, and these, which are passed; or of what follows the header, where the
+    /// length is indefinite.
+    fn open(
+        &mut self,
+        header: ConstructedHeader,
+    ) -> Result<(Decoder<'input>, Contents<'input>), DecodeError>
+        ensures opens { ConsumesOpening header self.old result self.new }
+        ensures octets { self.old.depth ≢ 0 → AreOctets self.old.rest }
+    {
+        if self.depth == 0 {
+            return Err(self.error(ParseError::ExceedsMaxParseDepth));
+        }
+        let value = self.header(header.expected(self.codec()))?;
+        if header.must_be_constructed && !value.is_constructed {
+            return Err(self.error(ParseError::InvalidConstructedIdentifier));
+        }
+        let input = held(value.contents, self.rest);
+        let inner = Decoder {
+            whole: input,
+            rest: input,
+            rules: self.rules,
+            depth: self.depth.saturating_sub(header.levels),
+            closing: is_indefinite(value.contents),
+            alloc: self.alloc,
+        };
+        Ok((inner, value.contents))
+    }
+
+    /// Passes the end of a value inside which `left` is left.
+    fn close(&mut self, contents: Contents<'input>, left: &'input [u8]) -> Result<(), DecodeError>
+        requires { extent contents ≡ indefinite → IsEnd self.old.rest left.now }
+        ensures { ConsumesEnd (extent contents.entry) left.now self.old result self.new }
+    {
+        match finish(contents, self.rest, left) {
+            Ok(rest) => {
+                self.advance(rest);
+                Ok(())
+            }
+            Err(fault) => {
+                if let Contents::Indefinite = contents {
+                    self.advance(left);
+                }
+                Err(self.error(fault))
+            }
+        }
+    }
+
+    /// Whether the contents end: nothing is left, or end-of-contents octets come where they may.
+    pub(super) fn has_ended(&self) -> bool
+        ensures { IsWhether result (Ended self.now.closing self.now.rest) }
+    {
+        has_ended(self.closing, self.rest)
+    }
+
+    /// Reads inside a value with such a header. `f` has to read all of its contents.
+    pub(super) fn inside<D: Drop, F: FnOnce(&mut Decoder<'_>) -> Result<D, DecodeError>>(
+        &mut self,
+        header: ConstructedHeader,
+        f: F,
+    ) -> Result<D, DecodeError>
+        requires callable { F.IsAlwaysCallable f }
+        requires keeps { KeepsSettings F.FnOnce f }
+        ensures exact { DecodesInside (FnOnceReturnsAtMut F.FnOnce f) header self.old result self.new }
+        ensures octets { self.old.depth ≢ 0 → AreOctets self.old.rest }
+    {
+        let (mut inner, contents) = self.open(header)?;
+        let value = f(&mut inner)?;
+        self.close(contents, inner.remaining())?;
+        Ok(value)
+    }
+}

@@ -1,0 +1,60 @@
+//! Extension additions (X.680 25.4).
+ghost use Rattle.rasn_types.specs.Shapes.{prefix};
+ghost use Rattle.rasn_types.specs.Trees.{option_tree};
+ghost use Rattle.rasn_de.specs.Decodes.{Decodes};
+ghost use Rattle.rasn_de.specs.Optional.{DecodesAlways, DecodesIfPresent, DecodesIfPresentAs, DecodesOption, DecodesOptionAs};
+ghost use Rattle.rasn_de.specs.Prefix.{DecodesPrefixBy};
+
+use crate::ber::de::Decoder;
+use crate::de::Decode;
+use rasn_types::error::DecodeError;
+use rasn_types::types::{Constraints, Constructed, Tag};
+
+impl<'input> Decoder<'input> {
+    /// An extension addition under this tag, unless the contents end or another tag comes. Constraints are ignored.
+    ///
+    /// # Errors
+    /// As `decode_optional`.
+    pub fn decode_extension_addition_with_tag_and_constraints<D: Decode>(
+        &mut self,
+        tag: Tag,
+        _constraints: &Constraints,
+    ) -> Result<Option<D>, DecodeError>
+        ensures exact { DecodesIfPresentAs tag D.CONSTRAINTS D.shape D.tree self.old result self.new }
+        ensures reads { DecodesOptionAs tag D.CONSTRAINTS D.shape D.tree self.old result self.new }
+    {
+        self.decode_optional_with_tag(tag)
+    }
+
+    /// An extension addition in an explicit prefix of this tag, which has to be there: the answer is never `None`. Constraints are
+    /// ignored.
+    ///
+    /// # Errors
+    /// As `decode_explicit_prefix`.
+    pub fn decode_extension_addition_with_explicit_tag_and_constraints<D: Decode>(
+        &mut self,
+        tag: Tag,
+        _constraints: &Constraints,
+    ) -> Result<Option<D>, DecodeError>
+        ensures exact { DecodesAlways (DecodesPrefixBy D.shape D.tree tag) self.old result self.new }
+        ensures reads { Decodes (prefix tag D.shape) (option_tree D.tree) self.old result self.new }
+    {
+        let value = self.decode_explicit_prefix::<D>(tag)?;
+        Ok(Some(value))
+    }
+
+    /// An extension addition group, which is a SEQUENCE of its own, unless the contents end or another tag comes (X.680 25.10).
+    ///
+    /// # Errors
+    /// As `decode_optional`.
+    pub fn decode_extension_addition_group<
+        const RC: usize,
+        const EC: usize,
+        D: Decode + Constructed<RC, EC>,
+    >(&mut self) -> Result<Option<D>, DecodeError>
+        ensures exact { DecodesIfPresent (Decodes D.shape D.tree) D.TAG self.old result self.new }
+        ensures reads { DecodesOption D.TAG D.shape D.tree self.old result self.new }
+    {
+        self.decode_optional::<D>()
+    }
+}

@@ -1,0 +1,51 @@
+//! OCTET STRING of a fixed size (X.690 8.7).
+ghost use Rattle.rasn_types.specs.Shapes.{leaf, numbers, fixed};
+ghost use Rattle.rasn_de.specs.Decodes.{Decodes};
+ghost use Rattle.rasn_de.specs.CharacterString.{ByLength, DecodesString};
+
+use crate::ber::de::parser::ParseError;
+use crate::ber::de::{Decoder, check_size};
+use crate::de::Decode;
+use rasn_types::error::DecodeError;
+use rasn_types::types::{Bounded, Constraints, FixedOctetString, Tag};
+
+impl<'input> Decoder<'input> {
+    /// An OCTET STRING of `N` octets, which are also within a size (X.690 8.7).
+    ///
+    /// # Errors
+    /// As `decode_octet_string`; another number of octets than `N` is told before the handed size.
+    pub(crate) fn decode_fixed_octet_string<const N: usize>(
+        &mut self,
+        tag: Tag,
+        constraints: &Constraints,
+    ) -> Result<FixedOctetString<N>, DecodeError>
+        ensures reads { Decodes (leaf (fixed N) tag constraints.now) numbers self.old result self.new }
+        ensures exact { DecodesString (λ s. s) (ByLength N constraints.now.size) tag self.old result self.new }
+    {
+        let octets = self.octets(tag)?;
+        let Ok(array) = <[u8; N]>::try_from(octets.as_slice()) else {
+            let expected = Bounded::Single(N);
+            return Err(self.error(ParseError::SizeConstraintNotSatisfied {
+                size: octets.len(),
+                expected,
+            }));
+        };
+        match check_size(constraints, N) {
+            Ok(()) => Ok(FixedOctetString::new(array)),
+            Err(fault) => Err(self.error(fault)),
+        }
+    }
+}
+
+impl<const N: usize> Decode for FixedOctetString<N> {
+    fn decode_with_tag_and_constraints(
+        decoder: &mut Decoder<'_>,
+        tag: Tag,
+        constraints: &Constraints,
+    ) -> Result<FixedOctetString<N>, DecodeError>
+        ensures reads { Decodes (leaf (fixed N) tag constraints.now) numbers decoder.old result decoder.new }
+        ensures exact { DecodesString (λ s. s) (ByLength N constraints.now.size) tag decoder.old result decoder.new }
+    {
+        decoder.decode_fixed_octet_string(tag, constraints)
+    }
+}

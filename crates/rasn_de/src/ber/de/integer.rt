@@ -1,0 +1,211 @@
+//! INTEGER (X.690 8.3).
+ghost use Rattle.std.specs.Prelude.{◌≡◌};
+ghost use Rattle.rasn_types.specs.Shapes.{leaf, integer, number};
+ghost use Rattle.rasn_types.specs.Contents.{signed};
+ghost use Rattle.rasn_de.specs.Causes.{HasCause, out_of_bound};
+ghost use Rattle.rasn_de.specs.Decodes.{Decodes};
+ghost use Rattle.rasn_de.specs.Leaves.{DecodesNumber, AllocMayFail, ChecksIntegerContents};
+
+use crate::ber::de::Decoder;
+use crate::ber::de::parser::ParseError;
+use crate::ber::rules::is_der;
+use crate::de::Decode;
+use rasn_types::error::{DecodeError, DecodeErrorKind, DerDecodeErrorKind};
+use rasn_types::types::{Bounded, Codec, Constraints, Integer, IntegerType, Tag};
+
+/// Whether octets hold a number: there are some, and under DER the first nine bits aren't equal (X.690 8.3.1, 8.3.2).
+fn check_number(rules: Codec, octets: &[u8]) -> Result<(), ParseError>
+    ensures { ChecksIntegerContents rules octets.now result }
+{
+    match octets {
+        [] => Err(ParseError::UnexpectedEmptyInput),
+        [0, 0..=0x7F, ..] | [0xFF, 0x80..=0xFF, ..] if is_der(rules) => {
+            Err(ParseError::Der(DerDecodeErrorKind::NonMinimalInteger))
+        }
+        _ => Ok(()),
+    }
+}
+
+impl<'input> Decoder<'input> {
+    /// An INTEGER of the type `I`, within bounds (X.690 8.3).
+    ///
+    /// # Errors
+    /// Framing faults. With the value taken: `UnexpectedEmptyInput`, under DER `NonMinimalInteger`, `IntegerOverflow`, then
+    /// `ValueConstraintNotSatisfied`.
+    pub fn decode_integer<I: IntegerType>(
+        &mut self,
+        tag: Tag,
+        constraints: &Constraints,
+    ) -> Result<I, DecodeError>
+        ensures reads { Decodes (leaf (integer I.range) tag constraints.now) (λ v. number (I.number v)) self.old result self.new }
+        ensures exact { DecodesNumber I.number I.grows I.WIDTH I.range tag constraints.now self.old result self.new }
+        ensures memory { AllocMayFail I.grows I.WIDTH I.range tag constraints.now self.old result self.new }
+    {
+        let rules = self.codec();
+        let contents = self.contents(tag)?;
+        if let Err(fault) = check_number(rules, contents) {
+            return Err(self.error(fault));
+        }
+        match I::from_octets(self.alloc(), contents) {
+            Ok(Some(value)) => {
+                if constraints.admits_number(contents) {
+                    Ok(value)
+                } else {
+                    Err(self.out_of_bound(contents, constraints.value_bounds()))
+                }
+            }
+            Ok(None) => Err(self.error(ParseError::IntegerOverflow {
+                max_width: I::WIDTH,
+            })),
+            Err(_) => Err(self.error(ParseError::OutOfMemory)),
+        }
+    }
+
+    /// The error of a number out of its bound, which tells both. Where these find no memory, that is the error.
+    #[cold]
+    #[inline(never)]
+    fn out_of_bound(&self, octets: &[u8], expected: Bounded<i128>) -> DecodeError
+        ensures { HasCause (out_of_bound (signed octets.now) expected) result.kind × (result.codec ≡ self.now.rule) }
+    {
+        let Ok(Some(value)) = Integer::from_octets(self.alloc(), octets) else {
+            return self.error(ParseError::OutOfMemory);
+        };
+        match Box::new(self.alloc(), expected) {
+            Ok(expected) => DecodeError {
+                kind: DecodeErrorKind::ValueConstraintNotSatisfied { value, expected },
+                codec: self.codec(),
+            },
+            Err(_) => self.error(ParseError::OutOfMemory),
+        }
+    }
+}
+
+impl Decode for i8 {
+    fn decode_with_tag_and_constraints(
+        decoder: &mut Decoder<'_>,
+        tag: Tag,
+        constraints: &Constraints,
+    ) -> Result<i8, DecodeError> {
+        decoder.decode_integer::<i8>(tag, constraints)
+    }
+}
+
+impl Decode for i16 {
+    fn decode_with_tag_and_constraints(
+        decoder: &mut Decoder<'_>,
+        tag: Tag,
+        constraints: &Constraints,
+    ) -> Result<i16, DecodeError> {
+        decoder.decode_integer::<i16>(tag, constraints)
+    }
+}
+
+impl Decode for i32 {
+    fn decode_with_tag_and_constraints(
+        decoder: &mut Decoder<'_>,
+        tag: Tag,
+        constraints: &Constraints,
+    ) -> Result<i32, DecodeError> {
+        decoder.decode_integer::<i32>(tag, constraints)
+    }
+}
+
+impl Decode for i64 {
+    fn decode_with_tag_and_constraints(
+        decoder: &mut Decoder<'_>,
+        tag: Tag,
+        constraints: &Constraints,
+    ) -> Result<i64, DecodeError> {
+        decoder.decode_integer::<i64>(tag, constraints)
+    }
+}
+
+impl Decode for i128 {
+    fn decode_with_tag_and_constraints(
+        decoder: &mut Decoder<'_>,
+        tag: Tag,
+        constraints: &Constraints,
+    ) -> Result<i128, DecodeError> {
+        decoder.decode_integer::<i128>(tag, constraints)
+    }
+}
+
+impl Decode for isize {
+    fn decode_with_tag_and_constraints(
+        decoder: &mut Decoder<'_>,
+        tag: Tag,
+        constraints: &Constraints,
+    ) -> Result<isize, DecodeError> {
+        decoder.decode_integer::<isize>(tag, constraints)
+    }
+}
+
+impl Decode for u8 {
+    fn decode_with_tag_and_constraints(
+        decoder: &mut Decoder<'_>,
+        tag: Tag,
+        constraints: &Constraints,
+    ) -> Result<u8, DecodeError> {
+        decoder.decode_integer::<u8>(tag, constraints)
+    }
+}
+
+impl Decode for u16 {
+    fn decode_with_tag_and_constraints(
+        decoder: &mut Decoder<'_>,
+        tag: Tag,
+        constraints: &Constraints,
+    ) -> Result<u16, DecodeError> {
+        decoder.decode_integer::<u16>(tag, constraints)
+    }
+}
+
+impl Decode for u32 {
+    fn decode_with_tag_and_constraints(
+        decoder: &mut Decoder<'_>,
+        tag: Tag,
+        constraints: &Constraints,
+    ) -> Result<u32, DecodeError> {
+        decoder.decode_integer::<u32>(tag, constraints)
+    }
+}
+
+impl Decode for u64 {
+    fn decode_with_tag_and_constraints(
+        decoder: &mut Decoder<'_>,
+        tag: Tag,
+        constraints: &Constraints,
+    ) -> Result<u64, DecodeError> {
+        decoder.decode_integer::<u64>(tag, constraints)
+    }
+}
+
+impl Decode for u128 {
+    fn decode_with_tag_and_constraints(
+        decoder: &mut Decoder<'_>,
+        tag: Tag,
+        constraints: &Constraints,
+    ) -> Result<u128, DecodeError> {
+        decoder.decode_integer::<u128>(tag, constraints)
+    }
+}
+
+impl Decode for usize {
+    fn decode_with_tag_and_constraints(
+        decoder: &mut Decoder<'_>,
+        tag: Tag,
+        constraints: &Constraints,
+    ) -> Result<usize, DecodeError> {
+        decoder.decode_integer::<usize>(tag, constraints)
+    }
+}
+
+impl Decode for Integer {
+    fn decode_with_tag_and_constraints(
+        decoder: &mut Decoder<'_>,
+        tag: Tag,
+        constraints: &Constraints,
+    ) -> Result<Integer, DecodeError> {
+        decoder.decode_integer::<Integer>(tag, constraints)
+    }
+}

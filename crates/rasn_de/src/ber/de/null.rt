@@ -1,0 +1,48 @@
+//! NULL (X.690 8.8).
+ghost use Rattle.std.specs.Prelude.{Err, IfErr, pos};
+ghost use Rattle.rasn_types.specs.Errors.{IsOutOfMemory};
+ghost use Rattle.rasn_types.specs.Shapes.{leaf, null, number};
+ghost use Rattle.rasn_types.specs.Trees.{unconstrained};
+ghost use Rattle.rasn_de.specs.Decodes.{Decodes};
+ghost use Rattle.rasn_de.specs.Leaves.{DecodesLeaf};
+ghost use Rattle.rasn_de.specs.Enumerated.{NullAt};
+
+use crate::ber::de::Decoder;
+use crate::ber::de::parser::ParseError;
+use crate::de::Decode;
+use rasn_types::error::DecodeError;
+use rasn_types::types::{Constraints, Tag};
+
+impl<'input> Decoder<'input> {
+    /// A NULL (X.690 8.8).
+    ///
+    /// # Errors
+    /// Framing faults. With the value taken: `MismatchedLength`, where there are contents.
+    pub fn decode_null(&mut self, tag: Tag) -> Result<(), DecodeError>
+        ensures reads { Decodes (leaf null tag unconstrained) (λ _. number (pos 0)) self.old result self.new }
+        ensures exact { DecodesLeaf (λ u. u) (NullAt self.old.rule tag self.old.rest) self.old result self.new }
+        ensures memory { IfErr result (λ e. IsOutOfMemory e.kind → ⊥) }
+    {
+        let contents = self.contents(tag)?;
+        if contents.is_empty() {
+            Ok(())
+        } else {
+            let actual = contents.len();
+            Err(self.error(ParseError::MismatchedLength {
+                expected: 0,
+                actual,
+            }))
+        }
+    }
+}
+
+impl Decode for () {
+    #[tactic(auto, unfolding(rasn_types::specs::Grammar::Reads))]
+    fn decode_with_tag_and_constraints(
+        decoder: &mut Decoder<'_>,
+        tag: Tag,
+        _constraints: &Constraints,
+    ) -> Result<(), DecodeError> {
+        decoder.decode_null(tag)
+    }
+}

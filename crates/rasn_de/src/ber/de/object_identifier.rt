@@ -1,0 +1,72 @@
+//! OBJECT IDENTIFIER (X.690 8.19).
+ghost use Rattle.std.specs.Prelude.{Err};
+ghost use Rattle.rasn_types.specs.Shapes.{leaf, object_identifier, numbers};
+ghost use Rattle.rasn_types.specs.Trees.{unconstrained};
+ghost use Rattle.rasn_types.specs.declared.types.codec.Codec.TheVariants.{Ber};
+ghost use Rattle.rasn_de.specs.Decodes.{Decodes};
+ghost use Rattle.rasn_de.specs.ObjectIdentifier.{DecodesArcs, DecodesOnlyArcs, DecodesObjectIdentifier};
+
+use crate::ber::de::Decoder;
+use crate::ber::de::parser::object_identifier::read_object_identifier;
+use crate::de::Decode;
+use rasn_types::error::DecodeError;
+use rasn_types::types::{Codec, Constraints, ObjectIdentifier, Tag};
+
+impl<'input> Decoder<'input> {
+    /// An OBJECT IDENTIFIER (X.690 8.19).
+    ///
+    /// # Errors
+    /// Framing faults. With the value taken: `Incomplete` where octets of a subidentifier are missing,
+    /// `UnsupportedObjectIdentifierArc` where one is 2^32 or more, under DER `NonMinimalArc` where one begins with the octet 80,
+    /// whatever follows that, and `OutOfMemory`.
+    pub fn decode_object_identifier(&mut self, tag: Tag) -> Result<ObjectIdentifier, DecodeError>
+        ensures reads { Decodes (leaf object_identifier tag unconstrained) numbers self.old result self.new }
+        ensures exact { DecodesObjectIdentifier tag self.old result self.new }
+    {
+        let rules = self.codec();
+        let contents = self.contents(tag)?;
+        self.object_identifier(rules, contents)
+    }
+
+    /// The object identifier that contents octets hold as these rules read them.
+    #[tactic(auto, using(crate::proofs::Leaves::ObjectIdentifier::arcs_told))]
+    fn object_identifier(
+        &self,
+        rules: Codec,
+        contents: &[u8],
+    ) -> Result<ObjectIdentifier, DecodeError>
+        ensures { DecodesArcs self.now.rule rules contents.now result }
+    {
+        match read_object_identifier(self.alloc(), rules, contents) {
+            Ok(identifier) => Ok(identifier),
+            Err(fault) => Err(self.error(fault)),
+        }
+    }
+
+    /// The object identifier that contents octets hold (X.690 8.19), read as under BER whatever the rules of the decoder are: a
+    /// subidentifier may begin with octets 80. What is left of the input stays as it is.
+    ///
+    /// # Errors
+    /// As `decode_object_identifier` under BER, but for framing faults. They name the rules of the decoder.
+    #[tactic(auto, using(crate::proofs::Leaves::ObjectIdentifier::arcs_held))]
+    pub fn decode_object_identifier_from_bytes(
+        &self,
+        contents: &[u8],
+    ) -> Result<ObjectIdentifier, DecodeError>
+        ensures reads { DecodesOnlyArcs contents.now result }
+        ensures exact { DecodesArcs self.now.rule Ber contents.now result }
+    {
+        self.object_identifier(Codec::Ber, contents)
+    }
+}
+
+impl Decode for ObjectIdentifier {
+    #[tactic(auto, unfolding(rasn_types::specs::Grammar::Reads))]
+    fn decode_with_tag_and_constraints(
+        decoder: &mut Decoder<'_>,
+        tag: Tag,
+        _constraints: &Constraints,
+    ) -> Result<ObjectIdentifier, DecodeError> {
+        decoder.decode_object_identifier(tag)
+    }
+}

@@ -1,0 +1,100 @@
+//! OCTET STRING (X.690 8.7).
+ghost use Rattle.std.specs.Prelude.{◌≡◌, IfOk, IfErr, IsOk};
+ghost use Rattle.std.specs.Cow.{cow_slice_items, IsOwnedSlice};
+ghost use Rattle.rasn_types.specs.Errors.{IsOutOfMemory};
+ghost use Rattle.rasn_types.specs.Framing.{AreOctets};
+ghost use Rattle.rasn_types.specs.Shapes.{leaf, octet_string};
+ghost use Rattle.rasn_de.specs.Decodes.{Decodes};
+ghost use Rattle.rasn_de.specs.OctetString.{DecodesOctets, IsPrimitive, cow_tree};
+ghost use Rattle.rasn_de.specs.CharacterString.{DecodesOctetString};
+
+use crate::ber::de::parser::headers::{Expected, Spelling};
+use crate::ber::de::parser::read_value;
+use crate::ber::de::parser::segments::{segment_of, string_contents};
+use crate::ber::de::{Decoder, check_size};
+use crate::de::Decode;
+use rasn_types::error::{DecodeError, DecodeErrorKind};
+use rasn_types::types::{Constraints, OctetString, Tag};
+use std::alloc::{AllocError, Global};
+use std::borrow::CowSlice;
+
+/// Octets of one's own. Borrowed ones are copied at once, which `into_owned` does one by one.
+pub(crate) fn owned(alloc: Global, octets: CowSlice<'_, u8>) -> Result<Vec<u8>, AllocError>
+    ensures items { IfOk result (λ v. v.items ≡ cow_slice_items octets.entry) }
+    ensures succeeds { IsOwnedSlice octets.entry → IsOk result }
+{
+    match octets {
+        CowSlice::Borrowed(octets) => Vec::from_slice(alloc, octets),
+        CowSlice::Owned(octets) => Ok(octets),
+    }
+}
+
+impl<'input> Decoder<'input> {
+    /// The octets of the next value as a string: borrowed from a primitive one, gathered from segments. A refusal takes nothing.
+    #[inline(always)]
+    pub(super) fn octets(&mut self, tag: Tag) -> Result<CowSlice<'input, u8>, DecodeError>
+        ensures exact { DecodesOctets tag self.old result self.new }
+        ensures octets { AreOctets self.old.rest }
+    {
+        let (value, rest) = match read_value(
+            Spelling::of_rule(self.rules),
+            Expected::Tagged(tag),
+            self.rest,
+        ) {
+            Ok(found) => found,
+            Err(fault) => return Err(self.error(fault)),
+        };
+        if let Some(segment) = segment_of(value) {
+            self.advance(rest);
+            return Ok(CowSlice::Borrowed(segment));
+        }
+        let mut gathered = Vec::new(self.alloc);
+        let inner = Tag::OCTET_STRING;
+        match string_contents(self.rules, inner, self.depth, value, rest, &mut gathered) {
+            Ok(rest) => {
+                self.advance(rest);
+                Ok(CowSlice::Owned(gathered))
+            }
+            Err(fault) => Err(self.error(fault)),
+        }
+    }
+
+    /// An OCTET STRING within a size in octets (X.690 8.7). The octets are borrowed exactly where the encoding is primitive.
+    ///
+    /// # Errors
+    /// Framing faults; faults of a segment, which take nothing (X.690 8.7.3); `SizeConstraintNotSatisfied`, which takes the value.
+    #[inline(always)]
+    pub fn decode_octet_string(
+        &mut self,
+        tag: Tag,
+        constraints: &Constraints,
+    ) -> Result<CowSlice<'input, u8>, DecodeError>
+        ensures reads { Decodes (leaf octet_string tag constraints.now) cow_tree self.old result self.new }
+        ensures exact { DecodesOctetString tag constraints.now self.old result self.new }
+        ensures memory { IsPrimitive self.old.rule tag self.old.rest → IfErr result (λ e. IsOutOfMemory e.kind → ⊥) }
+    {
+        let octets = self.octets(tag)?;
+        match check_size(constraints, octets.len()) {
+            Ok(()) => Ok(octets),
+            Err(fault) => Err(self.error(fault)),
+        }
+    }
+}
+
+impl Decode for OctetString {
+    #[tactic(auto, unfolding(rasn_types::specs::Grammar::Reads))]
+    fn decode_with_tag_and_constraints(
+        decoder: &mut Decoder<'_>,
+        tag: Tag,
+        constraints: &Constraints,
+    ) -> Result<OctetString, DecodeError> {
+        let octets = decoder.decode_octet_string(tag, constraints)?;
+        match owned(decoder.alloc(), octets) {
+            Ok(octets) => Ok(OctetString::from_vec(octets)),
+            Err(_) => Err(DecodeError {
+                kind: DecodeErrorKind::OutOfMemory,
+                codec: decoder.codec(),
+            }),
+        }
+    }
+}

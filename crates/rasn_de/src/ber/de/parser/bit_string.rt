@@ -1,0 +1,66 @@
+//! The bits of a segment (X.690 8.6.2).
+ghost use Rattle.std.specs.Prelude.{◌≡◌, ◌<◌, ◌≤◌, ◌*◌, length, IfOk};
+ghost use Rattle.rasn_types.specs.BitString.{but_last};
+ghost use Rattle.rasn_de.specs.BitString.{segment_bits, is_miscounted, is_any_set, last_bits};
+ghost use Rattle.rasn_de.specs.ParserViews.{ParsesAs};
+
+use crate::ber::de::parser::ParseError;
+use crate::ber::de::parser::segments::Segmented;
+use crate::ber::rules::is_der;
+use rasn_types::ber::collected_bits::CollectedBits;
+use rasn_types::error::DerDecodeErrorKind;
+use rasn_types::types::Codec;
+
+/// Whether a segment can't have so many unused bits.
+fn is_miscounted(unused: u8, octets: &[u8]) -> bool
+    ensures { result ≡ is_miscounted unused octets.now }
+{
+    match octets {
+        [] => unused > 0,
+        _ => unused > 7,
+    }
+}
+
+/// Whether one of the last bits is set.
+fn is_any_set(unused: u8, octets: &[u8]) -> bool
+    requires { unused < 8 }
+    ensures { result ≡ is_any_set (last_bits unused octets.now) }
+{
+    match octets {
+        [.., last] => *last % (1 << unused) != 0,
+        [] => false,
+    }
+}
+
+/// How many bits of a segment's last octet don't count, and its octets (X.690 8.6.2).
+pub fn counted(rules: Codec, segment: &[u8]) -> Result<(usize, &[u8]), ParseError>
+    ensures bits { ParsesAs (λ p. but_last p.0 p.1.now) result (segment_bits rules segment.now) }
+    ensures few { IfOk result (λ p. (p.0 < 8) × (p.0 ≤ 8 * length p.1.now)) }
+{
+    let [unused, octets @ ..] = segment else {
+        return Err(ParseError::UnexpectedEmptyInput);
+    };
+    if is_miscounted(*unused, octets) {
+        return Err(ParseError::InvalidBitString { bits: *unused });
+    }
+    if is_der(rules) && is_any_set(*unused, octets) {
+        return Err(ParseError::Der(DerDecodeErrorKind::NonzeroUnusedBits));
+    }
+    Ok((usize::from(*unused), octets))
+}
+
+impl Segmented for CollectedBits {
+    type Item = bool;
+
+    ghost items = { λ g. g };
+
+    ghost segment = { segment_bits };
+
+    fn append_segment(&mut self, rules: Codec, octets: &[u8]) -> Result<(), ParseError> {
+        let (unused, octets) = counted(rules, octets)?;
+        match self.append(octets, unused) {
+            Ok(()) => Ok(()),
+            Err(_) => Err(ParseError::OutOfMemory),
+        }
+    }
+}

@@ -1,0 +1,64 @@
+//! The contents of an OBJECT IDENTIFIER (X.690 8.19).
+ghost use Rattle.std.specs.Prelude.{◌≡◌, ◌∷◌, ◌++◌, [], OnOk, IfOk, IfErr};
+ghost use Rattle.rasn_de.specs.declared.ber.de.parser.ParseError.TheVariants.{OutOfMemory};
+ghost use Rattle.rasn_de.specs.ObjectIdentifier.{ParsesArcs, arc_at, first_two};
+ghost use Rattle.rasn_de.specs.ParserViews.{ParsesAs, pair};
+
+use crate::ber::de::parser::{ParseError, is_padded, read_number128};
+use crate::ber::rules::is_der;
+use rasn_types::error::DerDecodeErrorKind;
+use rasn_types::types::{Codec, ObjectIdentifier};
+use std::alloc::Global;
+
+/// Puts an arc behind the others.
+fn push_arc(arcs: &mut Vec<u32>, arc: u32) -> Result<(), ParseError>
+    ensures ok { OnOk result (arcs.new.items ≡ arcs.old.items ++ arc ∷ []) }
+    ensures err { IfErr result (λ f. f ≡ OutOfMemory) }
+{
+    match arcs.push(arc) {
+        Ok(()) => Ok(()),
+        Err(_) => Err(ParseError::OutOfMemory),
+    }
+}
+
+/// The first two arcs, which the first subidentifier holds (X.690 8.19.4), with room for as many as the octets behind it can hold.
+fn first_arcs(alloc: Global, subidentifier: u32, behind: usize) -> Result<Vec<u32>, ParseError>
+    ensures ok { IfOk result (λ v. v.items ≡ first_two subidentifier) }
+    ensures err { IfErr result (λ f. f ≡ OutOfMemory) }
+{
+    let first = (subidentifier / 40).min(2);
+    let Ok(mut arcs) = Vec::with_capacity(alloc, behind.saturating_add(2)) else {
+        return Err(ParseError::OutOfMemory);
+    };
+    push_arc(&mut arcs, first)?;
+    push_arc(&mut arcs, subidentifier - 40 * first)?;
+    Ok(arcs)
+}
+
+/// The next subidentifier, and what follows it. Under DER it has no octet that it doesn't need.
+fn read_arc(rules: Codec, input: &[u8]) -> Result<(u32, &[u8]), ParseError>
+    ensures { ParsesAs pair result (arc_at rules input.now) }
+{
+    if is_der(rules) && is_padded(input) {
+        return Err(ParseError::Der(DerDecodeErrorKind::NonMinimalArc));
+    }
+    read_number128(ParseError::UnsupportedObjectIdentifierArc, input)
+}
+
+/// The object identifier that contents octets hold.
+pub fn read_object_identifier(
+    alloc: Global,
+    rules: Codec,
+    contents: &[u8],
+) -> Result<ObjectIdentifier, ParseError>
+    ensures { ParsesArcs rules contents.now result }
+{
+    let (subidentifier, mut rest) = read_arc(rules, contents)?;
+    let mut arcs = first_arcs(alloc, subidentifier, rest.len())?;
+    while !rest.is_empty() {
+        let (arc, after) = read_arc(rules, rest)?;
+        push_arc(&mut arcs, arc)?;
+        rest = after;
+    }
+    Ok(ObjectIdentifier::new(arcs).unwrap())
+}

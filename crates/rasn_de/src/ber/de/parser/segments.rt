@@ -1,0 +1,84 @@
+//! Strings: primitive, or gathered from segments (X.690 8.6.4, 8.7.3, 8.23).
+ghost use Rattle.std.specs.Prelude.{List, ℕ, MatchOption, Result};
+ghost use Rattle.rasn_de.specs.declared.ber.de.parser.ParseError.{ParseError};
+ghost use Rattle.rasn_types.specs.declared.types.codec.Codec.{Codec};
+ghost use Rattle.rasn_de.specs.Segments.{string_from, octets};
+ghost use Rattle.rasn_de.specs.ParserViews.{IsNestedValue, IsPlainValue, ParsesSegments, ParsesSegment};
+
+use crate::ber::de::parser::constructed::{finish, has_ended, held};
+use crate::ber::de::parser::headers::{Expected, Spelling};
+use crate::ber::de::parser::{Contents, ParseError, Value, read_value};
+use crate::ber::rules::is_der;
+use rasn_types::error::DerDecodeErrorKind;
+use rasn_types::types::{Codec, Tag};
+
+/// What gathers the segments of a string, one behind the other.
+pub trait Segmented: Drop {
+    type Item;
+
+    ghost items: { Self → List Self.Item };
+
+    ghost segment: { Codec → List ℕ → Result (List Self.Item) ParseError };
+
+    /// Puts what the octets of a segment hold behind the rest.
+    fn append_segment(&mut self, rules: Codec, octets: &[u8]) -> Result<(), ParseError>
+        ensures { ParsesSegment (segment rules octets.now) (items self.old) (items self.new) result };
+}
+
+impl Segmented for Vec<u8> {
+    type Item = u8;
+
+    ghost items = { λ v. v.items };
+
+    ghost segment = { λ rules. octets };
+
+    fn append_segment(&mut self, _rules: Codec, octets: &[u8]) -> Result<(), ParseError> {
+        match self.extend_from_slice(octets) {
+            Ok(()) => Ok(()),
+            Err(_) => Err(ParseError::OutOfMemory),
+        }
+    }
+}
+
+/// The octets of a value that is one segment.
+pub(crate) fn segment_of(value: Value<'_>) -> Option<&[u8]>
+    ensures { MatchOption result (IsNestedValue value.entry) (λ s. IsPlainValue value.entry s.now) }
+{
+    match value.contents {
+        Contents::Definite(segment) => if value.is_constructed {
+            None
+        } else {
+            Some(segment)
+        },
+        Contents::Indefinite => None,
+    }
+}
+
+/// Gathers the string of the value whose header and contents these are, from its segments in order.
+pub fn string_contents<'a, T: Segmented>(
+    rule: Codec,
+    tag: Tag,
+    depth: usize,
+    value: Value<'a>,
+    rest: &'a [u8],
+    out: &mut T,
+) -> Result<&'a [u8], ParseError>
+    ensures { ParsesSegments (string_from rule T.segment tag depth value.entry rest.entry.now) (T.items out.old) (T.items out.new) result }
+{
+    if let Some(segment) = segment_of(value) {
+        out.append_segment(rule, segment)?;
+        return Ok(rest);
+    }
+    if is_der(rule) {
+        return Err(ParseError::Der(DerDecodeErrorKind::ConstructedEncodingNotAllowed));
+    }
+    if depth == 0 {
+        return Err(ParseError::ExceedsMaxParseDepth);
+    }
+    let mut left = held(value.contents, rest);
+    'segments: while !has_ended(true, left) {
+        let (segment, after) = read_value(Spelling::of_rule(rule), Expected::Tagged(tag), left)?;
+        left = string_contents(rule, tag, depth - 1, segment, after, out)?;
+    }
+    finish(value.contents, rest, left)
+}

@@ -1,0 +1,75 @@
+//! SEQUENCE OF (X.690 8.10).
+ghost use Rattle.rasn_de.specs.Decodes.{Decodes};
+ghost use Rattle.rasn_de.specs.SequenceOf.{DecodesElement, DecodesElements, DecodesSequenceOfBy, DecodesSequenceOf};
+
+use crate::ber::de::constructed::ConstructedHeader;
+use crate::ber::de::parser::ParseError;
+use crate::ber::de::{Decoder, check_size};
+use crate::de::Decode;
+use rasn_types::error::DecodeError;
+use rasn_types::types::{Constraints, Tag};
+
+impl<'input> Decoder<'input> {
+    /// Reads one more element, which has to take something, behind the others.
+    #[inline(always)]
+    pub(super) fn push_element<D: Decode>(&mut self, values: &mut Vec<D>) -> Result<(), DecodeError>
+        ensures { DecodesElement (Decodes D.shape D.tree) self.old values.old.items result self.new values.new.items }
+    {
+        let left = self.rest.len();
+        let value = D::decode(self)?;
+        if self.rest.len() == left {
+            return Err(self.error(ParseError::UnexpectedExtraData { length: left }));
+        }
+        match values.push(value) {
+            Ok(()) => Ok(()),
+            Err(_) => Err(self.error(ParseError::OutOfMemory)),
+        }
+    }
+
+    /// Elements up to the end of the contents.
+    fn elements<D: Decode>(&mut self) -> Result<Vec<D>, DecodeError>
+        ensures { DecodesElements (Decodes D.shape D.tree) (λ v. v.items) self.old result self.new }
+    {
+        let mut values = Vec::new(self.alloc);
+        while !self.has_ended() {
+            self.push_element(&mut values)?;
+        }
+        Ok(values)
+    }
+
+    /// A SEQUENCE OF, within a size in elements (X.690 8.10). It takes two levels of depth.
+    ///
+    /// # Errors
+    /// `ExceedsMaxParseDepth` before the header; framing faults; with the value taken, `InvalidConstructedIdentifier` and
+    /// `SizeConstraintNotSatisfied`; what an element refuses, and `UnexpectedExtraData` at one that takes nothing, which take header and
+    /// contents, or of an indefinite length the header; end-of-contents octets that are missing, which take what was read inside too.
+    pub fn decode_sequence_of<D: Decode>(
+        &mut self,
+        tag: Tag,
+        constraints: &Constraints,
+    ) -> Result<Vec<D>, DecodeError>
+        ensures exact { DecodesSequenceOfBy (Decodes D.shape D.tree) tag constraints.now self.old result self.new }
+        ensures reads { DecodesSequenceOf D.shape D.tree tag constraints.now self.old result self.new }
+    {
+        let values = self.inside(
+            ConstructedHeader::list(tag),
+            |inner| -> Result<Vec<D>, DecodeError>
+                ensures { DecodesElements (Decodes D.shape D.tree) (λ v. v.items) inner.old result inner.new }
+            { inner.elements() },
+        )?;
+        match check_size(constraints, values.len()) {
+            Ok(()) => Ok(values),
+            Err(fault) => Err(self.error(fault)),
+        }
+    }
+}
+
+impl<T: Decode> Decode for Vec<T> {
+    fn decode_with_tag_and_constraints(
+        decoder: &mut Decoder<'_>,
+        tag: Tag,
+        constraints: &Constraints,
+    ) -> Result<Vec<T>, DecodeError> {
+        decoder.decode_sequence_of::<T>(tag, constraints)
+    }
+}

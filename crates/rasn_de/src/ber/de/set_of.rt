@@ -1,0 +1,87 @@
+//! SET OF (X.690 8.12).
+ghost use Rattle.std.specs.Prelude.{◌≡◌, ◌++◌};
+ghost use Rattle.rasn_types.specs.Order.{IsLess};
+ghost use Rattle.rasn_de.specs.Decodes.{Decodes};
+ghost use Rattle.rasn_de.specs.SequenceOf.{DecodesElementsInOrder, DecodesSetOfBy, DecodesSetOf};
+ghost use Rattle.rasn_de.specs.State.{IsEnd};
+ghost use Rattle.rasn_types.specs.Truth.{IsWhether};
+
+use crate::ber::de::constructed::ConstructedHeader;
+use crate::ber::de::parser::ParseError;
+use crate::ber::de::{Decoder, check_size};
+use crate::de::Decode;
+use rasn_types::error::{DecodeError, DerDecodeErrorKind};
+use rasn_types::types::{Constraints, SetOf, Tag};
+
+/// Whether octets are less than others, a proper beginning being less (X.690 11.6).
+#[tactic(auto, using(crate::proofs::Constructed::Ascending::less_told))]
+fn is_less(octets: &[u8], others: &[u8]) -> bool
+    ensures { IsWhether result (IsLess octets.now others.now) }
+{
+    octets < others
+}
+
+/// What was passed of the input.
+#[tactic(auto, using(crate::proofs::Constructed::Ascending::cut_before))]
+fn octets_before<'input>(start: &'input [u8], rest: &[u8]) -> &'input [u8]
+    requires { IsEnd start.now rest.now }
+    ensures { start.now ≡ result.now ++ rest.now }
+{
+    &start[..start.len() - rest.len()]
+}
+
+impl<'input> Decoder<'input> {
+    /// Elements up to the end of the contents, whose octets don't fall under DER (X.690 11.6).
+    fn elements_in_order<D: Decode>(&mut self) -> Result<SetOf<D>, DecodeError>
+        ensures { DecodesElementsInOrder (Decodes D.shape D.tree) (λ v. v) self.old result self.new }
+    {
+        let mut values = Vec::new(self.alloc);
+        let mut last: &[u8] = &[];
+        while !self.has_ended() {
+            let start = self.rest;
+            self.push_element(&mut values)?;
+            let octets = octets_before(start, self.rest);
+            if self.is_strict() && is_less(octets, last) {
+                return Err(self.error(ParseError::Der(DerDecodeErrorKind::SetOfOutOfOrder)));
+            }
+            last = octets;
+        }
+        Ok(SetOf::from_vec(values))
+    }
+
+    /// A SET OF, within a size in elements (X.690 8.12). Under DER the octets of an element must not be less than those of the one
+    /// before (X.690 11.6). It takes two levels of depth.
+    ///
+    /// # Errors
+    /// As `decode_sequence_of`; under DER also `SetOfOutOfOrder`, behind the element whose octets are less and before the next, which
+    /// takes header and contents.
+    pub fn decode_set_of<D: Decode + Eq>(
+        &mut self,
+        tag: Tag,
+        constraints: &Constraints,
+    ) -> Result<SetOf<D>, DecodeError>
+        ensures exact { DecodesSetOfBy (Decodes D.shape D.tree) tag constraints.now self.old result self.new }
+        ensures reads { DecodesSetOf D.shape D.tree tag constraints.now self.old result self.new }
+    {
+        let values = self.inside(
+            ConstructedHeader::list(tag),
+            |inner| -> Result<SetOf<D>, DecodeError>
+                ensures { DecodesElementsInOrder (Decodes D.shape D.tree) (λ v. v) inner.old result inner.new }
+            { inner.elements_in_order() },
+        )?;
+        match check_size(constraints, values.len()) {
+            Ok(()) => Ok(values),
+            Err(fault) => Err(self.error(fault)),
+        }
+    }
+}
+
+impl<T: Decode + Eq> Decode for SetOf<T> {
+    fn decode_with_tag_and_constraints(
+        decoder: &mut Decoder<'_>,
+        tag: Tag,
+        constraints: &Constraints,
+    ) -> Result<SetOf<T>, DecodeError> {
+        decoder.decode_set_of::<T>(tag, constraints)
+    }
+}

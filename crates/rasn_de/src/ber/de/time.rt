@@ -1,0 +1,227 @@
+//! Times (X.680 38.4.1, 46, 47; X.690 11.7, 11.8).
+ghost use Rattle.std.specs.Prelude.{◌⊎◌};
+ghost use Rattle.std.specs.String.{string_bytes};
+ghost use Rattle.rasn_types.specs.declared.types.constraints.Constraints.{Constraints};
+ghost use Rattle.rasn_types.specs.Options.{IsSomeRelated};
+ghost use Rattle.rasn_types.specs.Shapes.{leaf, utc_time, generalized_time, date, instant, on_day};
+ghost use Rattle.rasn_types.specs.Time.{GeneralUtc, CanonicalUtc, GeneralGeneralized, StrictGeneralized, DateText};
+ghost use Rattle.rasn_types.specs.Grammar.{UtcText, GeneralizedText};
+ghost use Rattle.rasn_de.specs.Decodes.{Decodes};
+ghost use Rattle.rasn_de.specs.Time.{AtAnyOffset, IsInvalidDate, IsAllocError, IsInvalidString, ParsesTime, ParsesCopiedTime, DecodesTime};
+
+use crate::ber::de::Decoder;
+use crate::de::Decode;
+use rasn_types::ber::time::{
+    parse_canonical_generalized_time, parse_canonical_utc_time, parse_date, parse_generalized_time,
+    parse_strict_generalized_time, parse_utc_time,
+};
+use rasn_types::error::{BerDecodeErrorKind, CodecDecodeError, DecodeError, DecodeErrorKind};
+use rasn_types::types::{Codec, Constraints, Date, GeneralizedTime, Tag, UtcTime};
+use std::alloc::Global;
+use std::borrow::CowSlice;
+
+/// The UTCTime of a text: of any form under BER, else of the canonical one.
+fn read_utc_time(rules: Codec, text: &[u8]) -> Option<UtcTime>
+    ensures { IsSomeRelated result (AtAnyOffset (UtcText rules) text.now) }
+{
+    match rules {
+        Codec::Ber => parse_utc_time(text),
+        Codec::Cer | Codec::Der => parse_canonical_utc_time(text),
+    }
+}
+
+/// The GeneralizedTime of a text: of any form under BER, of the canonical one under CER, of the shortest canonical one under DER.
+fn read_generalized_time(rules: Codec, text: &[u8]) -> Option<GeneralizedTime>
+    ensures { IsSomeRelated result (GeneralizedText rules text.now) }
+{
+    match rules {
+        Codec::Ber => parse_generalized_time(text),
+        Codec::Cer => parse_canonical_generalized_time(text),
+        Codec::Der => parse_strict_generalized_time(text),
+    }
+}
+
+/// The error of a text that is no time's.
+fn invalid_date(octets: Vec<u8>, codec: Codec) -> DecodeError
+    ensures { IsInvalidDate octets.items codec result }
+{
+    let inner = CodecDecodeError::Ber(BerDecodeErrorKind::InvalidDate { octets });
+    DecodeError {
+        kind: DecodeErrorKind::CodecSpecific { inner },
+        codec,
+    }
+}
+
+/// The error of a text that is no time's and has to be copied. Where the copy finds no memory, that is the error.
+fn invalid_text(alloc: Global, text: &[u8], codec: Codec) -> DecodeError
+    ensures { IsInvalidDate text.now codec result ⊎ IsAllocError codec result }
+{
+    match Vec::from_slice(alloc, text) {
+        Ok(octets) => invalid_date(octets, codec),
+        Err(_) => DecodeError {
+            kind: DecodeErrorKind::OutOfMemory,
+            codec,
+        },
+    }
+}
+
+impl<'input> Decoder<'input> {
+    /// The error of a string that is no time's. Only borrowed octets are copied for it.
+    fn invalid_date(&self, text: CowSlice<'_, u8>) -> DecodeError
+        ensures { IsInvalidString text.entry self.now.rule result }
+    {
+        match text {
+            CowSlice::Borrowed(octets) => invalid_text(self.alloc(), octets, self.codec()),
+            CowSlice::Owned(octets) => invalid_date(octets, self.codec()),
+        }
+    }
+
+    /// A UTCTime (X.680 47): of any form under BER, else of the canonical one (X.690 11.8). A year from 70 on is 19YY, else 20YY.
+    ///
+    /// # Errors
+    /// Faults of the string, which take nothing; `InvalidDate` with the whole text, which takes the value.
+    pub fn decode_utc_time(&mut self, tag: Tag) -> Result<UtcTime, DecodeError>
+        ensures reads { (c : Constraints) → Decodes (leaf utc_time tag c) (λ m. instant m) self.old result self.new }
+        ensures exact { DecodesTime (AtAnyOffset (UtcText self.old.rule)) tag self.old result self.new }
+    {
+        let rules = self.codec();
+        let text = self.octets(tag)?;
+        match read_utc_time(rules, &text) {
+            Some(time) => Ok(time),
+            None => Err(self.invalid_date(text)),
+        }
+    }
+
+    /// A GeneralizedTime (X.680 46): of any form under BER, else of the canonical one (X.690 11.7), under DER with at most nine digits
+    /// of a fraction, the last of which isn't 0. A text without a zone is in UTC.
+    ///
+    /// # Errors
+    /// As `decode_utc_time`.
+    pub fn decode_generalized_time(&mut self, tag: Tag) -> Result<GeneralizedTime, DecodeError>
+        ensures reads { (c : Constraints) → Decodes (leaf generalized_time tag c) (λ s. instant s.moment) self.old result self.new }
+        ensures exact { DecodesTime (GeneralizedText self.old.rule) tag self.old result self.new }
+    {
+        let rules = self.codec();
+        let text = self.octets(tag)?;
+        match read_generalized_time(rules, &text) {
+            Some(time) => Ok(time),
+            None => Err(self.invalid_date(text)),
+        }
+    }
+
+    /// A DATE (X.680 38.4.1): eight digits, of a year from 0 to 9999.
+    ///
+    /// # Errors
+    /// As `decode_utc_time`.
+    pub fn decode_date(&mut self, tag: Tag) -> Result<Date, DecodeError>
+        ensures reads { (c : Constraints) → Decodes (leaf date tag c) (λ d. on_day d) self.old result self.new }
+        ensures exact { DecodesTime DateText tag self.old result self.new }
+    {
+        let text = self.octets(tag)?;
+        match parse_date(&text) {
+            Some(day) => Ok(day),
+            None => Err(self.invalid_date(text)),
+        }
+    }
+
+    /// The GeneralizedTime of a text of any form (X.680 46).
+    ///
+    /// # Errors
+    /// `InvalidDate` with the whole text, under the name of BER.
+    pub fn parse_any_generalized_time_string(text: String) -> Result<GeneralizedTime, DecodeError>
+        ensures { ParsesTime GeneralGeneralized (string_bytes text) result }
+    {
+        match parse_generalized_time(text.as_bytes()) {
+            Some(time) => Ok(time),
+            None => Err(invalid_date(text.into_bytes(), Codec::Ber)),
+        }
+    }
+
+    /// The GeneralizedTime of a text of the canonical form (X.690 11.7), as DER reads it: a fraction has at most nine digits, the last
+    /// of which isn't 0.
+    ///
+    /// # Errors
+    /// `InvalidDate` with the whole text, under the name of BER.
+    pub fn parse_canonical_generalized_time_string(
+        text: String,
+    ) -> Result<GeneralizedTime, DecodeError>
+        ensures { ParsesTime StrictGeneralized (string_bytes text) result }
+    {
+        match parse_strict_generalized_time(text.as_bytes()) {
+            Some(time) => Ok(time),
+            None => Err(invalid_date(text.into_bytes(), Codec::Ber)),
+        }
+    }
+
+    /// The UTCTime of a text of any form (X.680 47).
+    ///
+    /// # Errors
+    /// `InvalidDate` with the whole text, under the name of BER.
+    pub fn parse_any_utc_time_string(text: String) -> Result<UtcTime, DecodeError>
+        ensures { ParsesTime (AtAnyOffset GeneralUtc) (string_bytes text) result }
+    {
+        match parse_utc_time(text.as_bytes()) {
+            Some(time) => Ok(time),
+            None => Err(invalid_date(text.into_bytes(), Codec::Ber)),
+        }
+    }
+
+    /// The UTCTime of a text of the canonical form (X.690 11.8).
+    ///
+    /// # Errors
+    /// `InvalidDate` with the whole text, under the name of BER; where its copy finds no memory, `OutOfMemory`.
+    pub fn parse_canonical_utc_time_string(
+        alloc: Global,
+        text: &str,
+    ) -> Result<UtcTime, DecodeError>
+        ensures { ParsesCopiedTime (AtAnyOffset CanonicalUtc) text.now result }
+    {
+        match parse_canonical_utc_time(text.as_bytes()) {
+            Some(time) => Ok(time),
+            None => Err(invalid_text(alloc, text.as_bytes(), Codec::Ber)),
+        }
+    }
+
+    /// The day of a DATE's text (X.680 38.4.1).
+    ///
+    /// # Errors
+    /// As `parse_canonical_utc_time_string`.
+    pub fn parse_date_string(alloc: Global, text: &str) -> Result<Date, DecodeError>
+        ensures { ParsesCopiedTime DateText text.now result }
+    {
+        match parse_date(text.as_bytes()) {
+            Some(day) => Ok(day),
+            None => Err(invalid_text(alloc, text.as_bytes(), Codec::Ber)),
+        }
+    }
+}
+
+impl Decode for UtcTime {
+    fn decode_with_tag_and_constraints(
+        decoder: &mut Decoder<'_>,
+        tag: Tag,
+        _constraints: &Constraints,
+    ) -> Result<UtcTime, DecodeError> {
+        decoder.decode_utc_time(tag)
+    }
+}
+
+impl Decode for GeneralizedTime {
+    fn decode_with_tag_and_constraints(
+        decoder: &mut Decoder<'_>,
+        tag: Tag,
+        _constraints: &Constraints,
+    ) -> Result<GeneralizedTime, DecodeError> {
+        decoder.decode_generalized_time(tag)
+    }
+}
+
+impl Decode for Date {
+    fn decode_with_tag_and_constraints(
+        decoder: &mut Decoder<'_>,
+        tag: Tag,
+        _constraints: &Constraints,
+    ) -> Result<Date, DecodeError> {
+        decoder.decode_date(tag)
+    }
+}

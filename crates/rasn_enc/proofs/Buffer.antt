@@ -1,0 +1,12 @@
+pub mod OpenValues
+pub mod CutBack
+pub mod Cuts
+pub mod Filled
+pub mod Counted
+pub mod Moves
+pub mod Octets
+pub mod Rendered
+pub mod FinishedHeaders
+pub mod Steps
+pub mod Cursors
+pub mod Output

@@ -1,0 +1,4 @@
+pub mod Tagging
+pub mod Choice
+pub mod Sequence
+pub mod Set

@@ -1,9 +1,0 @@
-use Rattle.std.proofs.Common.{◌-◌}
-use Rattle.rasn_enc.proofs.Walks.{Walk}
-use Rattle.rasn_enc.proofs.ber.enc.cursors.place.Given as goal
-
-abbrev pub invariant-loop-k : goal.invariant-loop-k
-invariant-loop-k l = Walk l.gathered l.marks l.start (l.total - l.n) l.k l.at l.back
-
-abbrev pub decreases-loop-k : goal.decreases-loop-k
-decreases-loop-k l = l.k

@@ -1,7 +1,0 @@
-use Rattle.std.proofs.Common.{arith}
-use Rattle.rasn_enc.proofs.Gathers.{counted}
-use Rattle.rasn_enc.proofs.ber.enc.gathering.gather.Goals as goal
-
-pub returns-clause-ok : goal.returns-clause-ok
-returns-clause-ok c = rw c.in_ok-total.ensures.same (counted c.args.tag c.args.contents.now _ _ c.args.measured _ c.in_ok-put_whole.ensures.ok
-    (omega (arith, c.in_ok-total.ensures.total, c.len-at.ensures, c.args.gathered.now.ok, c.put_whole.new.octets.ok)))

@@ -1,6 +1,0 @@
-use Rattle.std.proofs.Common.{◌/◌, ◌%◌, ap}
-use Rattle.rasn_enc.proofs.Places.{two_256}
-use Rattle.rasn_enc.proofs.ber.enc.headers.octet_at.Goals as goal
-
-pub returns : goal.returns
-returns c = ap (λ z. c.args.number / z % 256) (two_256 c.args.place)

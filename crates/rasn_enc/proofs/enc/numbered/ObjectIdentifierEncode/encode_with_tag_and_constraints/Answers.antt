@@ -1,5 +1,0 @@
-use Rattle.rasn_enc.proofs.Numbered.{object_refused}
-use Rattle.rasn_enc.proofs.enc.numbered.ObjectIdentifierEncode.encode_with_tag_and_constraints.Goals as goal
-
-pub returns-clause-refused : goal.returns-clause-refused
-returns-clause-refused c = rw (← c.arcs.ensures.arcs) (object_refused _ c.args.tag c.args._constraints.now _ _ c.encode_object_identifier.ensures.refused)

@@ -1,6 +1,0 @@
-use Rattle.rasn_types.specs.Shapes.{bit_string, bits}
-use Rattle.rasn_enc.proofs.Leaves.{size_refused}
-use Rattle.rasn_enc.proofs.enc.values.BitStringEncode.encode_with_tag_and_constraints.Goals as goal
-
-pub returns-clause-refused : goal.returns-clause-refused
-returns-clause-refused c = rw (← c.as_bitstr.ensures) (size_refused _ bit_string c.args.tag c.args.constraints.now (bits c.as_bitstr.result) _ _ (λ b. b) c.encode_bit_string.ensures.refused)

@@ -1,0 +1,7 @@
+pub mod Cursors
+pub mod Cuts
+pub mod Filled
+pub mod OpenValues
+pub mod Lists
+pub mod DeferredHeaders
+pub mod Moves

@@ -1,0 +1,32 @@
+-- What the view shows of an open value.
+use Rattle.std.specs.Prelude.{ℕ, suc, ◌≡◌, ◌≤◌, ◌+◌, List, [], ◌∷◌, ◌++◌, length, take, Option, option_map}
+pub use Rattle.rasn_enc.specs.View.{kept_of}
+use Rattle.rasn_enc.specs.View.{OpenList}
+use Rattle.rasn_enc.specs.Buffer.Lists.{tags_of}
+use Rattle.rasn_types.specs.declared.types.tag.Tag.{Tag}
+use Rattle.rasn_enc.specs.Buffer.Filled.{FillClosure, AppendsPrimitiveOctets, AppendsFilledOctets}
+use Rattle.rasn_enc.specs.Buffer.Cuts.{list_from, Sound}
+use Rattle.rasn_enc.specs.declared.ber.enc.writer.deferred_headers.DeferredHeader.{DeferredHeader}
+use Rattle.rasn_enc.specs.declared.ber.enc.writer.Open.{Open}
+
+-- the list that an open value interrupted
+abbrev pub frame_in : List ℕ → List DeferredHeader → Open → OpenList
+frame_in xs ms o = record { octets = list_from (take o.end xs) (take o.last ms) o.start o.first; tags = tags_of o.tags }
+
+-- the interrupted lists, one behind the other, with one unfinished mark between; from the first list to the last one
+abbrev pub Chain : List ℕ → List DeferredHeader → ℕ → ℕ → List Open → ℕ → ℕ → Type 0
+Chain xs ms s0 f0 [] s f = (s0 ≡ s) × (f0 ≡ f)
+Chain xs ms s0 f0 (o ∷ os) s f = ((o.start ≡ s0) × (o.first ≡ f0) × (o.end ≤ length xs) × (o.last ≤ length ms) × Sound (take o.end xs) (take o.last ms) o.start o.first o.measured) × Chain xs ms o.end (suc o.last) os s f
+
+-- tags behind those that are kept
+abbrev pub noted : Option (List Tag) → List Tag → Option (List Tag)
+noted o tags = option_map (λ kept. kept ++ tags) o
+
+-- A primitive value of these contents stands behind octets, and is counted.
+pub record AppendsCounted (tag : Tag) (contents : List ℕ) (measured : ℕ) (xs ys : List ℕ) (n : ℕ) : Type 0 where
+  pub puts : AppendsPrimitiveOctets tag contents xs ys
+  pub total : n ≡ measured + length puts.octets
+
+pub record AppendsFilledCounted {F A : Type 0} (g : FillClosure F A) (f : F) (tag : Tag) (measured : ℕ) (xs ys : List ℕ) (n : ℕ) : Type 0 where
+  pub puts : AppendsFilledOctets g f tag xs ys
+  pub total : n ≡ measured + length puts.puts.octets

@@ -1,0 +1,102 @@
+//! Open types.
+ghost use Rattle.std.specs.Prelude.{◌≡◌, None, [], IfErr, OnOk, OnErr};
+ghost use Rattle.rasn_types.specs.Shapes.{any, looked_for, numbers};
+ghost use Rattle.rasn_types.specs.Bytes.{ConstructedEncoding};
+ghost use Rattle.rasn_enc.specs.View.{appended};
+ghost use Rattle.rasn_enc.specs.Primitive.{Appends, IsAllocError};
+ghost use Rattle.rasn_enc.specs.Encoding.{AppendsEncoding};
+ghost use Rattle.rasn_enc.specs.Any.{IsUntaggedInSetError, FailsAtUntagged, FailsAtAny};
+
+use crate::ber::enc::Encoder;
+use crate::enc::Encode;
+use rasn_types::error::{BerEncodeErrorKind, CodecEncodeError, EncodeError, EncodeErrorKind};
+use rasn_types::types::{Any, Codec, Constraints, Identifier, Tag};
+
+impl Encoder {
+    /// Writes a value of an open type (X.680 30): with a tag as a value of this tag round the octets (X.690 8.14.2), with `Tag::EOC` as
+    /// the octets alone (8.15). One that has no octets is written as nothing.
+    ///
+    /// # Errors
+    /// `AnyInSet` where octets without a tag would stand directly in a SET, or in the output of an encoder that `new_set` made: their
+    /// order isn't known (X.690 9.3, 10.3). Else `OutOfMemory` alone. Nothing is written then.
+    pub fn encode_any(
+        &mut self,
+        tag: Tag,
+        value: &Any,
+        _identifier: Identifier,
+    ) -> Result<(), EncodeError>
+        ensures ok { OnOk result (AppendsEncoding (any (looked_for tag)) (numbers value.now) self.old self.new) }
+        ensures err { OnErr result (self.new ≡ self.old) }
+        ensures refused { IfErr result (FailsAtAny tag value.now self.old) }
+    {
+        let octets = value.as_bytes();
+        if octets.is_empty() {
+            return Ok(());
+        }
+        if tag == Tag::EOC {
+            self.append_untagged(octets)
+        } else {
+            self.append_tagged(tag, octets)
+        }
+    }
+
+    /// Puts octets behind the last list, unless that keeps the tags of what stands in it.
+    fn append_untagged(&mut self, octets: &[u8]) -> Result<(), EncodeError>
+        ensures ok { OnOk result (self.new ≡ appended self.old octets.now []) }
+        ensures free { OnOk result (self.old.last.tags ≡ None) }
+        ensures err { OnErr result (self.new ≡ self.old) }
+        ensures refused { IfErr result (FailsAtUntagged self.old) }
+    {
+        if self.writer.keeps_tags() {
+            return Err(any_in_set(self.codec()));
+        }
+        self.append_encoded(octets)
+    }
+
+    /// Writes a value of this tag round octets.
+    fn append_tagged(&mut self, tag: Tag, octets: &[u8]) -> Result<(), EncodeError>
+        ensures ok { OnOk result (Appends (ConstructedEncoding self.old.rule tag octets.now) tag self.old self.new) }
+        ensures err { OnErr result (self.new ≡ self.old) }
+        ensures memory { IfErr result (IsAllocError self.old.rule) }
+    {
+        self.open(false)?;
+        let outcome = self.append_encoded(octets);
+        self.close(tag, outcome)
+    }
+
+    /// Puts octets behind the last list, without a header.
+    fn append_encoded(&mut self, octets: &[u8]) -> Result<(), EncodeError>
+        ensures ok { OnOk result (self.new ≡ appended self.old octets.now []) }
+        ensures err { OnErr result (self.new ≡ self.old) }
+        ensures memory { IfErr result (IsAllocError self.old.rule) }
+    {
+        self.writer.append_encoded(octets)
+    }
+}
+
+fn any_in_set(codec: Codec) -> EncodeError
+    ensures { IsUntaggedInSetError codec result }
+{
+    EncodeError {
+        kind: EncodeErrorKind::CodecSpecific {
+            inner: CodecEncodeError::Ber(BerEncodeErrorKind::AnyInSet),
+        },
+        codec,
+    }
+}
+
+impl Encode for Any {
+    fn encode_with_tag_and_constraints(
+        &self,
+        encoder: &mut Encoder,
+        tag: Tag,
+        _constraints: &Constraints,
+        identifier: Identifier,
+    ) -> Result<(), EncodeError> {
+        encoder.encode_any(tag, self, identifier)
+    }
+
+    fn is_present(&self) -> bool {
+        true
+    }
+}

@@ -1,0 +1,53 @@
+//! Extension additions (X.680 25.4).
+ghost use Rattle.std.specs.Prelude.{◌≡◌, IfErr, OnOk, OnErr};
+ghost use Rattle.rasn_types.specs.Shapes.{tagged_as, looked_for, option};
+ghost use Rattle.rasn_enc.specs.Extension.{group_tree};
+ghost use Rattle.rasn_enc.specs.Encoding.{AppendsEncoding, EncodeFails};
+
+use crate::ber::enc::Encoder;
+use crate::enc::Encode;
+use rasn_types::error::EncodeError;
+use rasn_types::types::{Constraints, Constructed, Identifier, Tag};
+
+impl Encoder {
+    /// Writes an extension addition under this tag and these constraints.
+    ///
+    /// It takes the value. One that is lent and can't be copied is written by its own `encode_with_tag_and_constraints`, which does
+    /// and promises the same.
+    ///
+    /// # Errors
+    /// What the value refuses. Nothing is written then.
+    pub fn encode_extension_addition<E: Encode>(
+        &mut self,
+        tag: Tag,
+        constraints: &Constraints,
+        value: E,
+        identifier: Identifier,
+    ) -> Result<(), EncodeError>
+        ensures ok { OnOk result (AppendsEncoding (tagged_as tag constraints.now E.shape) (E.tree value) self.old self.new) }
+        ensures err { OnErr result (self.new ≡ self.old) }
+        ensures refused { IfErr result (EncodeFails (tagged_as tag constraints.now E.shape) (E.tree value) self.old) }
+    {
+        value.encode_with_tag_and_constraints(self, tag, constraints, identifier)
+    }
+
+    /// Writes an extension addition group, which is a SEQUENCE of its own; nothing where there is none (X.680 25.10). The name is
+    /// ignored.
+    ///
+    /// # Errors
+    /// What the value refuses. Nothing is written then.
+    pub fn encode_extension_addition_group<
+        const RC: usize,
+        const EC: usize,
+        E: Encode + Constructed<RC, EC>,
+    >(&mut self, value: Option<&E>, _identifier: Identifier) -> Result<(), EncodeError>
+        ensures ok { OnOk result (AppendsEncoding (option (looked_for E.TAG) E.shape) (group_tree E.tree value.entry) self.old self.new) }
+        ensures err { OnErr result (self.new ≡ self.old) }
+        ensures refused { IfErr result (EncodeFails (option (looked_for E.TAG) E.shape) (group_tree E.tree value.entry) self.old) }
+    {
+        match value {
+            Some(value) if value.is_present() => value.encode(self),
+            _ => Ok(()),
+        }
+    }
+}

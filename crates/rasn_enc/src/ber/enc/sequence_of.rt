@@ -1,0 +1,66 @@
+//! Writing SEQUENCE OF (X.690 8.10).
+ghost use Rattle.std.specs.Prelude.{◌≡◌, length, None, map, IfErr, OnOk, OnErr};
+ghost use Rattle.rasn_types.specs.Shapes.{list};
+ghost use Rattle.rasn_types.specs.Trees.{list_tree};
+ghost use Rattle.rasn_enc.specs.View.{LeavesOthers};
+ghost use Rattle.rasn_enc.specs.SequenceOf.{AppendsElements, FailsAtElement, FailsAtList};
+ghost use Rattle.rasn_enc.specs.Encoding.{AppendsEncoding, EncodeFails};
+
+use crate::ber::enc::Encoder;
+use crate::enc::Encode;
+use rasn_types::error::EncodeError;
+use rasn_types::types::{Constraints, Identifier, Tag};
+
+impl Encoder {
+    /// Writes a SEQUENCE OF, within a size in elements (X.690 8.10).
+    ///
+    /// # Errors
+    /// `SizeConstraintNotSatisfied`; what an element refuses; else `OutOfMemory` alone. Nothing is written then.
+    pub fn encode_sequence_of<E: Encode>(
+        &mut self,
+        tag: Tag,
+        values: &[E],
+        constraints: &Constraints,
+        _identifier: Identifier,
+    ) -> Result<(), EncodeError>
+        ensures ok { OnOk result (AppendsEncoding (list tag E.shape constraints.now.size) (list_tree E.tree values.now) self.old self.new) }
+        ensures err { OnErr result (self.new ≡ self.old) }
+        ensures refused { IfErr result (EncodeFails (list tag E.shape constraints.now.size) (list_tree E.tree values.now) self.old) }
+        ensures named { IfErr result (FailsAtList E.shape (map E.tree values.now) (length values.now) constraints.now self.old.rule) }
+    {
+        self.check_size(constraints, values.len())?;
+        self.enclose(tag, false, |encoder: &mut Encoder| {
+            encoder.append_elements(values)
+        })
+    }
+
+    fn append_elements<E: Encode>(&mut self, values: &[E]) -> Result<(), EncodeError>
+        requires { self.old.last.tags ≡ None }
+        ensures keeps { LeavesOthers self.old self.new }
+        ensures ok { OnOk result (AppendsElements E.shape (map E.tree values.now) self.old self.new) }
+        ensures refused { IfErr result (FailsAtElement E.shape (map E.tree values.now) self.old.rule) }
+    {
+        let mut rest = values;
+        while let [value, after @ ..] = rest {
+            value.encode(self)?;
+            rest = after;
+        }
+        Ok(())
+    }
+}
+
+impl<T: Encode> Encode for Vec<T> {
+    fn encode_with_tag_and_constraints(
+        &self,
+        encoder: &mut Encoder,
+        tag: Tag,
+        constraints: &Constraints,
+        identifier: Identifier,
+    ) -> Result<(), EncodeError> {
+        encoder.encode_sequence_of::<T>(tag, self.as_slice(), constraints, identifier)
+    }
+
+    fn is_present(&self) -> bool {
+        true
+    }
+}

@@ -1,0 +1,200 @@
+//! Writing times, in their canonical forms (X.680 38.4.1; X.690 11.7, 11.8).
+ghost use Rattle.std.specs.Prelude.{◌≡◌, IfOk, IfErr, OnErr};
+ghost use Rattle.rasn_types.specs.Calendar.{IsDay, IsMoment};
+ghost use Rattle.rasn_types.specs.Shapes.{utc_time, generalized_time, date, instant, on_day};
+ghost use Rattle.rasn_types.specs.Time.{written_utc, written_generalized, written_date};
+ghost use Rattle.rasn_types.specs.declared.types.codec.Codec.TheVariants.{Ber};
+ghost use Rattle.rasn_enc.specs.Primitive.{IsAllocError};
+ghost use Rattle.rasn_enc.specs.Encoding.{AppendsLeaf};
+
+use crate::ber::enc::writer::filled::Contents;
+use crate::ber::enc::{Encoder, out_of_memory};
+use crate::enc::Encode;
+use rasn_types::ber::time::{write_date, write_generalized_time, write_utc_time};
+use rasn_types::error::EncodeError;
+use rasn_types::types::{Codec, Constraints, Date, GeneralizedTime, Identifier, Tag, UtcTime};
+use std::alloc::{AllocError, Global};
+
+/// The octets that a time's text has room for at first: none has more.
+const TEXT_CAPACITY: usize = 27;
+
+impl Contents for UtcTime {
+    ghost IsWritten = { λ value text. (text ≡ written_utc value) × IsMoment value };
+
+    fn append(&self, octets: &mut Vec<u8>) -> Result<(), AllocError> {
+        write_utc_time(octets, self)
+    }
+}
+
+impl Contents for GeneralizedTime {
+    ghost IsWritten = { λ value text. (text ≡ written_generalized value.moment) × IsMoment value.moment };
+
+    fn append(&self, octets: &mut Vec<u8>) -> Result<(), AllocError> {
+        write_generalized_time(octets, self)
+    }
+}
+
+impl Contents for Date {
+    ghost IsWritten = { λ value text. (text ≡ written_date value) × IsDay value };
+
+    fn append(&self, octets: &mut Vec<u8>) -> Result<(), AllocError> {
+        write_date(octets, self)
+    }
+}
+
+/// The text of a time in a vector of its own. Only an allocation fails.
+fn text_of<T: Contents>(alloc: Global, value: &T) -> Result<Vec<u8>, AllocError>
+    ensures { IfOk result (λ v. T.IsWritten value.now v.items) }
+{
+    let mut text = Vec::with_capacity(alloc, TEXT_CAPACITY)?;
+    value.append(&mut text)?;
+    Ok(text)
+}
+
+/// The text of a time as the public calls give it: a failed allocation is an error under the name of BER.
+fn canonical_text<T: Contents>(alloc: Global, value: &T) -> Result<Vec<u8>, EncodeError>
+    ensures ok { IfOk result (λ v. T.IsWritten value.now v.items) }
+    ensures refused { IfErr result (IsAllocError Ber) }
+{
+    text_of(alloc, value).map_err(|_| out_of_memory(Codec::Ber))
+}
+
+impl Encoder {
+    /// Writes a UTCTime (X.690 11.8): the year without its century, and no fraction.
+    ///
+    /// # Errors
+    /// `OutOfMemory` alone.
+    pub fn encode_utc_time(
+        &mut self,
+        tag: Tag,
+        value: &UtcTime,
+        _identifier: Identifier,
+    ) -> Result<(), EncodeError>
+        ensures ok { AppendsLeaf utc_time tag (instant value.now) result self.old self.new }
+        ensures err { OnErr result (self.new ≡ self.old) }
+        ensures refused { IfErr result (IsAllocError self.old.rule) }
+    {
+        self.leaf_of(tag, value)
+    }
+
+    /// Writes a GeneralizedTime (X.690 11.7), in UTC whatever its offset. A year outside 0 to 9999 has a sign.
+    ///
+    /// # Errors
+    /// `OutOfMemory` alone.
+    pub fn encode_generalized_time(
+        &mut self,
+        tag: Tag,
+        value: &GeneralizedTime,
+        _identifier: Identifier,
+    ) -> Result<(), EncodeError>
+        ensures ok { AppendsLeaf generalized_time tag (instant value.now.moment) result self.old self.new }
+        ensures err { OnErr result (self.new ≡ self.old) }
+        ensures refused { IfErr result (IsAllocError self.old.rule) }
+    {
+        self.leaf_of(tag, value)
+    }
+
+    /// Writes a DATE (X.680 38.4.1). A year outside 0 to 9999 has a sign.
+    ///
+    /// # Errors
+    /// `OutOfMemory` alone.
+    pub fn encode_date(
+        &mut self,
+        tag: Tag,
+        value: &Date,
+        _identifier: Identifier,
+    ) -> Result<(), EncodeError>
+        ensures ok { AppendsLeaf date tag (on_day value.now) result self.old self.new }
+        ensures err { OnErr result (self.new ≡ self.old) }
+        ensures refused { IfErr result (IsAllocError self.old.rule) }
+    {
+        self.leaf_of(tag, value)
+    }
+
+    /// The text of a GeneralizedTime (X.690 11.7).
+    ///
+    /// # Errors
+    /// `OutOfMemory` alone, under the name of BER.
+    pub fn datetime_to_canonical_generalized_time_bytes(
+        alloc: Global,
+        value: &GeneralizedTime,
+    ) -> Result<Vec<u8>, EncodeError>
+        ensures ok { IfOk result (λ v. v.items ≡ written_generalized value.now.moment) }
+        ensures refused { IfErr result (IsAllocError Ber) }
+    {
+        canonical_text(alloc, value)
+    }
+
+    /// The text of a UTCTime (X.690 11.8).
+    ///
+    /// # Errors
+    /// `OutOfMemory` alone, under the name of BER.
+    pub fn datetime_to_canonical_utc_time_bytes(
+        alloc: Global,
+        value: &UtcTime,
+    ) -> Result<Vec<u8>, EncodeError>
+        ensures ok { IfOk result (λ v. v.items ≡ written_utc value.now) }
+        ensures refused { IfErr result (IsAllocError Ber) }
+    {
+        canonical_text(alloc, value)
+    }
+
+    /// The text of a DATE (X.680 38.4.1).
+    ///
+    /// # Errors
+    /// `OutOfMemory` alone, under the name of BER.
+    pub fn naivedate_to_date_bytes(alloc: Global, value: &Date) -> Result<Vec<u8>, EncodeError>
+        ensures ok { IfOk result (λ v. v.items ≡ written_date value.now) }
+        ensures refused { IfErr result (IsAllocError Ber) }
+    {
+        canonical_text(alloc, value)
+    }
+}
+
+impl Encode for UtcTime {
+    fn encode_with_tag_and_constraints(
+        &self,
+        encoder: &mut Encoder,
+        tag: Tag,
+        _constraints: &Constraints,
+        identifier: Identifier,
+    ) -> Result<(), EncodeError> {
+        encoder.encode_utc_time(tag, self, identifier)
+    }
+
+    fn is_present(&self) -> bool {
+        true
+    }
+}
+
+impl Encode for GeneralizedTime {
+    fn encode_with_tag_and_constraints(
+        &self,
+        encoder: &mut Encoder,
+        tag: Tag,
+        _constraints: &Constraints,
+        identifier: Identifier,
+    ) -> Result<(), EncodeError> {
+        encoder.encode_generalized_time(tag, self, identifier)
+    }
+
+    fn is_present(&self) -> bool {
+        true
+    }
+}
+
+impl Encode for Date {
+    fn encode_with_tag_and_constraints(
+        &self,
+        encoder: &mut Encoder,
+        tag: Tag,
+        _constraints: &Constraints,
+        identifier: Identifier,
+    ) -> Result<(), EncodeError> {
+        encoder.encode_date(tag, self, identifier)
+    }
+
+    fn is_present(&self) -> bool {
+        true
+    }
+}

@@ -1,0 +1,155 @@
+//! Primitive values gathered, and others closed: each is counted into the list that it stands in.
+ghost use Rattle.std.specs.Prelude.{◌≡◌, ◌<◌, ◌≤◌, ◌+◌, ◌++◌, ◌∷◌, [], ◌⊎◌, length, take, drop, suc, vec_len, IfOk, IfErr, OnOk, OnErr};
+ghost use Rattle.std.specs.Fn.{FnOnceTakesAtMut};
+ghost use Rattle.rasn_enc.specs.Buffer.Lists.{tags_of};
+ghost use Rattle.rasn_enc.specs.Buffer.DeferredHeaders.{header_octets, head_of, mark_at, closing, back};
+ghost use Rattle.rasn_enc.specs.Buffer.OpenValues.{noted, AppendsCounted, AppendsFilledCounted};
+ghost use Rattle.rasn_enc.specs.declared.ber.enc.writer.filled.FillError.TheVariants.{NoMemory};
+ghost use Rattle.rasn_enc.specs.Buffer.Filled.{OnlyAppendsOctets, MayFailToFill};
+
+use crate::ber::enc::writer::deferred_headers::{
+    DeferredHeader, finish_header, header_for, header_len,
+};
+use crate::ber::enc::writer::filled::{FillError, append_filled, append_primitive};
+use crate::ber::enc::writer::kept_tags::{record_tag, reserve_tag};
+use rasn_types::ber::rules::EncodingRules;
+use rasn_types::types::{Codec, Tag};
+use std::alloc::AllocError;
+
+/// Counts the octets from `at` on to those that were measured. Where they can't be counted, they are taken off.
+fn count_from(gathered: &mut Vec<u8>, at: usize, measured: usize) -> Result<usize, AllocError>
+    requires { at ≤ vec_len gathered.old }
+    ensures total { IfOk result (λ n. n + at ≡ measured + vec_len gathered.old) }
+    ensures same { OnOk result (gathered.new.items ≡ gathered.old.items) }
+    ensures err { OnErr result (gathered.new.items ≡ take at gathered.old.items) }
+{
+    match measured.checked_add(gathered.len() - at) {
+        Some(total) => Ok(total),
+        None => {
+            gathered.truncate(at);
+            Err(AllocError)
+        }
+    }
+}
+
+/// Gathers a primitive value, and answers how long its list is then.
+pub fn gather(
+    gathered: &mut Vec<u8>,
+    tags: &mut Option<Vec<Tag>>,
+    measured: usize,
+    tag: Tag,
+    contents: &[u8],
+) -> Result<usize, AllocError>
+    ensures ok { IfOk result (AppendsCounted tag contents.now measured gathered.old.items gathered.new.items) }
+    ensures noted { OnOk result (tags_of tags.new ≡ noted (tags_of tags.old) (tag ∷ [])) }
+    ensures err { OnErr result (gathered.new.items ≡ gathered.old.items) }
+    ensures kept { OnErr result (tags_of tags.new ≡ tags_of tags.old) }
+{
+    let at = gathered.len();
+    reserve_tag(tags)?;
+    append_primitive(gathered, tag, contents)?;
+    let total = count_from(gathered, at, measured)?;
+    record_tag(tags, tag);
+    Ok(total)
+}
+
+/// Gathers a primitive value, whose contents `contents` writes in place.
+pub fn gather_filled<F: FnOnce(&mut Vec<u8>) -> Result<(), FillError>>(
+    gathered: &mut Vec<u8>,
+    tags: &mut Option<Vec<Tag>>,
+    measured: usize,
+    tag: Tag,
+    contents: F,
+) -> Result<usize, FillError>
+    requires callable { (v : _) → FnOnceTakesAtMut F.FnOnce contents v }
+    requires behind { OnlyAppendsOctets F.FnOnce contents }
+    ensures ok { IfOk result (AppendsFilledCounted F.FnOnce contents tag measured gathered.old.items gathered.new.items) }
+    ensures noted { OnOk result (tags_of tags.new ≡ noted (tags_of tags.old) (tag ∷ [])) }
+    ensures err { OnErr result (gathered.new.items ≡ gathered.old.items) }
+    ensures kept { OnErr result (tags_of tags.new ≡ tags_of tags.old) }
+    ensures refused { IfErr result (λ e. (e ≡ NoMemory) ⊎ MayFailToFill F.FnOnce contents e) }
+{
+    let at = gathered.len();
+    let Ok(()) = reserve_tag(tags) else {
+        return Err(FillError::NoMemory);
+    };
+    append_filled(gathered, tag, contents)?;
+    match count_from(gathered, at, measured) {
+        Ok(total) => {
+            record_tag(tags, tag);
+            Ok(total)
+        }
+        Err(_) => Err(FillError::NoMemory),
+    }
+}
+
+/// Gathers octets as they are, and answers how long their list is then.
+pub fn gather_octets(
+    gathered: &mut Vec<u8>,
+    measured: usize,
+    octets: &[u8],
+) -> Result<usize, AllocError>
+    ensures ok { OnOk result (gathered.new.items ≡ gathered.old.items ++ octets.now) }
+    ensures total { IfOk result (λ n. n ≡ measured + length octets.now) }
+    ensures err { OnErr result (gathered.new.items ≡ gathered.old.items) }
+{
+    let Some(total) = measured.checked_add(octets.len()) else {
+        return Err(AllocError);
+    };
+    gathered.extend_from_slice(octets)?;
+    Ok(total)
+}
+
+/// Counts the end-of-contents octets of a rule.
+fn back_len(rule: Codec) -> usize
+    ensures count { result ≡ length (back rule) }
+    ensures small { result < 3 }
+{
+    if EncodingRules::of_codec(rule).is_cer() {
+        2
+    } else {
+        0
+    }
+}
+
+fn sum(a: usize, b: usize, c: usize) -> Result<usize, AllocError>
+    ensures { IfOk result (λ n. n ≡ a + (b + c)) }
+{
+    match b.checked_add(c) {
+        Some(n) => match a.checked_add(n) {
+            Some(n) => Ok(n),
+            None => Err(AllocError),
+        },
+        None => Err(AllocError),
+    }
+}
+
+/// Closes the value that was opened at mark number `last`, and answers how long the list below is then.
+pub fn surround(
+    marks: &mut Vec<DeferredHeader>,
+    tags: &mut Option<Vec<Tag>>,
+    rule: Codec,
+    tag: Tag,
+    end: usize,
+    last: usize,
+    count: usize,
+    measured: usize,
+    inner: usize,
+) -> Result<usize, AllocError>
+    requires { last < vec_len marks.old }
+    ensures total { IfOk result (λ n. n ≡ measured + (length (header_octets (head_of rule tag inner)) + length (back rule) + inner)) }
+    ensures marks { OnOk result (marks.new.items ≡ take last marks.old.items ++ (mark_at end (head_of rule tag inner) ∷ (drop (suc last) marks.old.items ++ closing rule count))) }
+    ensures noted { OnOk result (tags_of tags.new ≡ noted (tags_of tags.old) (tag ∷ [])) }
+    ensures same { OnErr result (marks.new.items ≡ marks.old.items) }
+    ensures kept { OnErr result (tags_of tags.new ≡ tags_of tags.old) }
+{
+    let total = sum(
+        measured,
+        header_len(header_for(rule, tag, inner)) + back_len(rule),
+        inner,
+    )?;
+    reserve_tag(tags)?;
+    finish_header(marks, rule, tag, inner, end, last, count)?;
+    record_tag(tags, tag);
+    Ok(total)
+}

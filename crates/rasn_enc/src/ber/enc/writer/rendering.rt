@@ -1,0 +1,147 @@
+//! Gathered octets and the octets of marks, put together from the back.
+ghost use Rattle.std.specs.Prelude.{◌≡◌, ◌<◌, ◌≤◌, ◌+◌, ◌-◌, ◌++◌, length, take, drop, IfOk, OnOk, OnErr};
+ghost use Rattle.rasn_enc.specs.Buffer.DeferredHeaders.{deferred_octets, header_octets, rendered, Rising, header_octets_count, front_run};
+ghost use Rattle.rasn_enc.specs.Buffer.Moves.{Moves};
+
+use crate::ber::enc::writer::deferred_headers::{
+    DeferredHeader, HeaderForm, header_len, header_octet,
+};
+use std::alloc::AllocError;
+use std::simd::Simd;
+
+/// Moves octets up in blocks, the last first, until fewer than a block are left in front of them. The answer is where those end.
+fn move_blocks<const N: usize>(buffer: &mut [u8], at: usize, end: usize, by: usize) -> usize
+    requires some { 0 < N }
+    requires order { at ≤ end }
+    requires within { end + by ≤ length buffer.old }
+    ensures left { (at ≤ result) × (result ≤ end) }
+    ensures moved { Moves buffer.old buffer.new result end by }
+{
+    let mut left = end;
+    while left - at >= N {
+        left -= N;
+        Simd::<u8, N>::from_slice(&buffer[left..]).copy_to_slice(&mut buffer[left + by..]);
+    }
+    left
+}
+
+/// Moves the octets from `at` to `end` up.
+pub fn move_up(buffer: &mut [u8], at: usize, end: usize, by: usize)
+    requires order { at ≤ end }
+    requires within { end + by ≤ length buffer.old }
+    ensures { Moves buffer.old buffer.new at end by }
+{
+    let left = move_blocks::<32>(buffer, at, end, by);
+    let left = move_blocks::<8>(buffer, at, left, by);
+    buffer.copy_within(at..left, at + by);
+}
+
+/// Writes the octets of a mark from a place on.
+fn write_head(buffer: &mut [u8], at: usize, head: HeaderForm)
+    requires { at + length (header_octets head) ≤ length buffer.old }
+    ensures { buffer.new ≡ take at buffer.old ++ (header_octets head ++ drop (at + length (header_octets head)) buffer.old) }
+{
+    for i in 0..header_len(head) {
+        let octet = header_octet(head, i);
+        buffer[at + i] = octet;
+    }
+}
+
+/// Moves the octets from the mark to `from` behind all that is unrendered, to end at `to`, and puts the mark's own in front of them.
+/// The answer is how many octets were written.
+fn splice_header(buffer: &mut [u8], mark: DeferredHeader, from: usize, to: usize) -> usize
+    requires order { mark.at ≤ from }
+    requires within { to ≤ length buffer.old }
+    requires room { from + length (deferred_octets mark) ≤ to }
+    ensures moved { buffer.new ≡ take (to - result) buffer.old ++ (deferred_octets mark ++ (drop mark.at (take from buffer.old) ++ drop to buffer.old)) }
+    ensures count { result ≡ (from - mark.at) + length (deferred_octets mark) }
+{
+    let run = from - mark.at;
+    let n = header_len(mark.head);
+    move_up(buffer, mark.at, from, to - from);
+    write_head(buffer, to - run - n, mark.head);
+    run + n
+}
+
+/// The buffer holds `gathered` octets in front, and is as long as what they and the marks stand for, which it then holds. The answer
+/// is the number of copies: of gathered octets that were put in their places, and of octets of marks.
+fn render(buffer: &mut [u8], gathered: usize, marks: &[DeferredHeader]) -> usize
+    requires rising { Rising 0 marks.now gathered }
+    requires room { length buffer.old ≡ gathered + header_octets_count marks.now }
+    ensures output { buffer.new ≡ rendered (take gathered buffer.old) 0 marks.now }
+    ensures copies { result ≤ length buffer.new }
+    ensures exact { result + front_run marks.now gathered ≡ length buffer.new }
+{
+    let mut copies: usize = 0;
+    let mut from = gathered;
+    let mut to = buffer.len();
+    let mut k = marks.len();
+    while k > 0 {
+        k -= 1;
+        let mark = marks[k];
+        let written = splice_header(buffer, mark, from, to);
+        copies += written;
+        to -= written;
+        from = mark.at;
+    }
+    copies
+}
+
+/// Puts the octets of all marks in between the gathered octets. The vector grows once, where there is a mark.
+fn rendered_in(
+    gathered: Vec<u8>,
+    marks: &[DeferredHeader],
+    measured: usize,
+) -> Result<Vec<u8>, AllocError>
+    requires rising { Rising 0 marks.now (length gathered.items) }
+    requires measure { measured ≡ length (rendered gathered.items 0 marks.now) }
+    ensures { IfOk result (λ v. v.items ≡ rendered gathered.items 0 marks.now) }
+{
+    let mut buffer = gathered;
+    if marks.is_empty() {
+        return Ok(buffer);
+    }
+    let count = buffer.len();
+    grow(&mut buffer, measured)?;
+    render(&mut buffer, count, marks);
+    Ok(buffer)
+}
+
+/// Puts the octets of all marks in between the gathered octets of a list that begins at `start`: the octets before it are taken off.
+pub fn rendered_from(
+    gathered: Vec<u8>,
+    marks: &[DeferredHeader],
+    start: usize,
+    measured: usize,
+) -> Result<Vec<u8>, AllocError>
+    requires rising { Rising start marks.now (length gathered.items) }
+    requires measure { measured ≡ length (rendered gathered.items start marks.now) }
+    ensures { IfOk result (λ v. v.items ≡ rendered gathered.items start marks.now) }
+{
+    let Some(whole) = start.checked_add(measured) else {
+        return Err(AllocError);
+    };
+    let mut octets = rendered_in(gathered, marks, whole)?;
+    cut_front(&mut octets, start);
+    Ok(octets)
+}
+
+/// Takes so many octets off the front.
+fn cut_front(octets: &mut Vec<u8>, count: usize)
+    requires { count ≤ length octets.old.items }
+    ensures { octets.new.items ≡ drop count octets.old.items }
+{
+    if count > 0 {
+        octets.drain(..count);
+    }
+}
+
+/// Makes a vector longer: it then has so many octets, those that it had first.
+pub fn grow(buffer: &mut Vec<u8>, whole: usize) -> Result<(), AllocError>
+    requires { length buffer.old.items ≤ whole }
+    ensures len { OnOk result (length buffer.new.items ≡ whole) }
+    ensures front { OnOk result (take (length buffer.old.items) buffer.new.items ≡ buffer.old.items) }
+    ensures err { OnErr result (buffer.new.items ≡ buffer.old.items) }
+{
+    buffer.resize(whole, 0)
+}

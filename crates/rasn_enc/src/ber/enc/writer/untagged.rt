@@ -1,0 +1,33 @@
+//! Octets without a header of their own.
+ghost use Rattle.std.specs.Prelude.{◌≡◌, ◌≢◌, None, [], MatchBool, IfErr, OnOk, OnErr};
+ghost use Rattle.rasn_enc.specs.View.{appended};
+ghost use Rattle.rasn_enc.specs.Primitive.{IsAllocError};
+
+use crate::ber::enc::out_of_memory;
+use crate::ber::enc::writer::Writer;
+use crate::ber::enc::writer::gathering::gather_octets;
+use rasn_types::error::EncodeError;
+
+impl Writer {
+    /// Whether the last list keeps the outermost tags of what stands in it.
+    pub fn keeps_tags(&self) -> bool
+        ensures { MatchBool result (self.now.last.tags ≢ None) (self.now.last.tags ≡ None) }
+    {
+        self.tags.is_some()
+    }
+
+    /// Puts octets behind the last list, without a header and without a tag.
+    pub fn append_encoded(&mut self, octets: &[u8]) -> Result<(), EncodeError>
+        ensures ok { OnOk result (self.new ≡ appended self.old octets.now []) }
+        ensures err { OnErr result (self.new ≡ self.old) }
+        ensures memory { IfErr result (IsAllocError self.old.rule) }
+    {
+        match gather_octets(&mut self.gathered, self.measured, octets) {
+            Ok(total) => {
+                self.measured = total;
+                Ok(())
+            }
+            Err(_) => Err(out_of_memory(self.rule)),
+        }
+    }
+}

@@ -1,6 +1,0 @@
-use Rattle.std.proofs.Common.{[]}
-use Rattle.rasn_enc.proofs.Sequences.{appended-nil}
-use Rattle.rasn_tests.proofs.sets.outputs.fn.an_empty_scope_has_no_octets_by_ber.encode_scope.Goals as goal
-
-pub returns : goal.returns
-returns c = record { octets = []; tags = []; appended = appended-nil _ }

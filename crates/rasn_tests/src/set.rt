@@ -1,0 +1,12 @@
+//! SET (X.690 8.11) and SET OF (8.12), which are written in order alone (9.3, 10.3, 11.6), and the calls that write over a vector or for a
+//! closure.
+
+mod components;
+mod defaults;
+mod elements;
+mod order;
+mod outputs;
+mod reads;
+mod reads_set;
+mod refusals;
+mod set_of;

@@ -1,0 +1,4 @@
+pub mod Determined
+pub mod SameOctets
+pub mod SameAsItself
+pub mod Complete

@@ -1,0 +1,69 @@
+-- A tree that has octets is the same as itself (a walk of something else than trees isn't), so it has no others.
+use Rattle.std.proofs.Common.{◌≡◌, ℕ, suc, inl, inr, List, [], ◌∷◌, refl, sym, subst, Some, None}
+use Rattle.std.proofs.lemmas.List.Sorted.{IsPermutation-refl}
+use Rattle.rasn_types.specs.Tags.{Codec}
+use Rattle.rasn_types.specs.Shapes.{Tree, items, absent, Shape, leaf, any, prefix, choice, option, seq, set, list, set_of, Parts, part, Presence, required, optional, addition, default}
+use Rattle.rasn_types.specs.Grammar.{family}
+use Rattle.rasn_types.specs.Bytes.{Writing, Same, Each, WritesPart, PartsWritten, WritesChoice, Bytes, fields_of}
+use Rattle.rasn_types.proofs.SetOf.Same.{same_sym, same_trans}
+use Rattle.rasn_types.proofs.Encoding.SameOctets.{in_flat, flat_same, once, each_is_once, parts_once}
+
+abbrev AreSame : List Tree → Type 0
+AreSame [] = Unit {0}
+AreSame (t ∷ ts) = Same t t × AreSame ts
+
+items_same : (ts : List Tree) → AreSame ts → Same (items ts) (items ts)
+items_same [] h = refl
+items_same (t ∷ ts) h = (t, items ts, refl, h.0, items_same ts h.1)
+
+elements_same : (writes : Writing Tree) → ((t : Tree) (b : List ℕ) → writes t b → Same t t) → (ts : List Tree) (bs : List (List ℕ)) → Each writes ts bs → AreSame ts
+elements_same writes one [] bs h = tt
+elements_same writes one (t ∷ ts) bs (b, more, e, w, h) = (one t b w, elements_same writes one ts more h)
+
+absent_same : (t : Tree) → t ≡ absent → Same t t
+absent_same t e = subst (λ z. Same z z) (sym e) refl
+
+part_same : (writes : Writing Tree) → ((t : Tree) (b : List ℕ) → writes t b → Same t t) → (p : Presence) (t : Tree) (b : List ℕ) → WritesPart p writes t b → Same t t
+part_same writes one required t b w = one t b w
+part_same writes one optional t b (inl w) = absent_same t w.0
+part_same writes one optional t b (inr w) = one t b w.1
+part_same writes one addition t b (inl w) = absent_same t w.0
+part_same writes one addition t b (inr w) = one t b w.1
+part_same writes one (default d) t b (inl w) = same_trans t d t w.0 (same_sym t d w.0)
+part_same writes one (default d) t b (inr w) = one t b w.1
+
+mutual
+  unfolding Bytes fields_of
+
+  pub written_same : (s : Shape) (rule : Codec) (t : Tree) (b : List ℕ) → Bytes rule s t b → Same t t
+  written_same (leaf kind tag bounds) rule t b h = flat_same t (in_flat (family kind) rule kind tag t b h.1)
+  written_same (any None) rule t b h = subst (λ z. Same z z) (sym h) refl
+  written_same (any (Some tag)) rule t b h = subst (λ z. Same z z) (sym h.1) refl
+  written_same (prefix tag s) rule t b h = written_same s rule t h.0 h.1
+  written_same (choice ps) rule t b h = choice_same ps rule 0 t b h
+  written_same (option tag s) rule t b (inl h) = absent_same t h.0
+  written_same (option tag s) rule t b (inr h) = written_same s rule t b h.1
+  written_same (seq tag ps) rule t b (ts, bs, e, w, c) = subst (λ z. Same z z) (sym e) (items_same ts (parts_same ps rule ts bs w))
+  written_same (set tag ps) rule t b (ts, bs, tags, e, w, n, m, d, c) = subst (λ z. Same z z) (sym e) (items_same ts (parts_same ps rule ts bs w))
+  written_same (list tag s size) rule t b (ts, bs, e, m, w, c) = subst (λ z. Same z z) (sym e) (items_same ts (elements_same (Bytes rule s) (written_same s rule) ts bs w))
+  written_same (set_of tag s size) rule t b (ts, bs, e, m, w, o, c) =
+      subst (λ z. Same z z) (sym e) (ts, ts, refl, IsPermutation-refl ts, items_same ts (elements_same (Bytes rule s) (written_same s rule) ts bs w))
+
+  parts_same : (ps : Parts) (rule : Codec) (ts : List Tree) (bs : List (List ℕ)) → PartsWritten (fields_of rule ps) ts bs → AreSame ts
+  parts_same Parts.none rule ts bs h = subst AreSame (sym h.0) tt
+  parts_same (part p s ps) rule ts bs (t, us, b, cs, e, f, w, ws) = subst AreSame (sym e) (part_same (Bytes rule s) (written_same s rule) p t b w, parts_same ps rule us cs ws)
+
+  choice_same : (ps : Parts) (rule : Codec) (k : ℕ) (t : Tree) (b : List ℕ) → WritesChoice k (fields_of rule ps) t b → Same t t
+  choice_same Parts.none rule k t b h = absurd h
+  choice_same (part p s ps) rule k t b (inl (u, e, w)) = subst (λ z. Same z z) (sym e) (u, refl, written_same s rule u b w)
+  choice_same (part p s ps) rule k t b (inr h) = choice_same ps rule (suc k) t b h
+
+pub one_writing : (s : Shape) (rule : Codec) (t : Tree) (a b : List ℕ) → Bytes rule s t a → Bytes rule s t b → a ≡ b
+one_writing s rule t a b h k = once s rule t t a b (written_same s rule t a h) h k
+
+each_itself : (ts : List Tree) → AreSame ts → Each Same ts ts
+each_itself [] h = refl
+each_itself (t ∷ ts) h = (t, ts, refl, h.0, each_itself ts h.1)
+
+pub parts_one_writing : (ps : Parts) (rule : Codec) (ts : List Tree) (ls bs : List (List ℕ)) → PartsWritten (fields_of rule ps) ts ls → PartsWritten (fields_of rule ps) ts bs → ls ≡ bs
+parts_one_writing ps rule ts ls bs h k = parts_once rule ps (each_is_once ps rule) ts ts ls bs (each_itself ts (parts_same ps rule ts ls h)) h k

@@ -1,0 +1,5 @@
+pub mod Unique
+pub mod Octets
+pub mod Order
+pub mod Shortest
+pub mod TwosComplement

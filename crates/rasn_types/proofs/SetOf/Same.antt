@@ -1,0 +1,2 @@
+-- Same is an equivalence, and elements that are alike stay so in another order.
+pub use Rattle.rasn_types.specs.Same.{items_one, each_same, each_length, each_moved, same_items, same_each, same_sym, same_trans}

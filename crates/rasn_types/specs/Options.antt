@@ -1,0 +1,11 @@
+use Rattle.std.specs.Prelude.{◌≡◌, Option, Some, None}
+
+-- A value where P holds, and none elsewhere.
+abbrev pub IsSomeExactlyIf : {X : Type 0} → Option X → Type 0 → X → Type 0
+IsSomeExactlyIf None P v = P → ⊥
+IsSomeExactlyIf (Some x) P v = P × (x ≡ v)
+
+-- A value that is related, and none where none is.
+abbrev pub IsSomeRelated : {X : Type 0} → Option X → (X → Type 0) → Type 0
+IsSomeRelated None R = (x : _) → R x → ⊥
+IsSomeRelated (Some x) R = R x

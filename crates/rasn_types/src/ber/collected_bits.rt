@@ -1,0 +1,68 @@
+//! Bits gathered piece by piece.
+ghost use Rattle.std.specs.Prelude.{◌≡◌, ◌≤◌, ◌<◌, ◌*◌, ◌^◌, ◌++◌, [], length, OnOk, OnErr, MatchOption};
+ghost use Rattle.rasn_types.specs.BitString.{but_last};
+
+use crate::types::BitString;
+use crate::types::bits::packing::{push_joined, shorten};
+use std::alloc::{AllocError, Global};
+use std::marker::Model;
+
+/// Bits one behind the other, as many as memory holds. To contracts they are a list of bits.
+#[derive(Debug, Drop)]
+pub struct CollectedBits {
+    octets: Vec<u8>,
+    unused: usize,
+}
+
+impl Model for CollectedBits {
+    ghost use Rattle.std.specs.Prelude.{List, Bool, ◌*◌, ◌<◌, ◌≤◌, length};
+    ghost use Rattle.rasn_types.specs.BitString.{but_last};
+
+    ghost Value = { List Bool };
+
+    ghost view = { λ g. but_last g.unused g.octets.items };
+
+    ghost invariant = { λ g. (g.unused < 8) × (g.unused ≤ 8 * length g.octets.items) };
+}
+
+impl CollectedBits {
+    /// No bits yet.
+    pub fn new(alloc: Global) -> CollectedBits
+        ensures { result ≡ [] }
+    {
+        CollectedBits {
+            octets: Vec::new(alloc),
+            unused: 0,
+        }
+    }
+
+    /// Puts the bits of octets behind the others, but the last `unused` ones. If an allocation fails, nothing is put.
+    pub fn append(&mut self, octets: &[u8], unused: usize) -> Result<(), AllocError>
+        requires few { unused < 8 }
+        requires held { unused ≤ 8 * length octets.now }
+        ensures ok { OnOk result (self.new ≡ self.old ++ but_last unused octets.now) }
+        ensures err { OnErr result (self.new ≡ self.old) }
+    {
+        if self.unused == 0 {
+            self.octets.extend_from_slice(octets)?;
+            self.unused = unused;
+            return Ok(());
+        }
+        self.octets.reserve(octets.len())?;
+        push_joined(&mut self.octets, self.unused, octets);
+        self.unused = shorten(&mut self.octets, self.unused + unused);
+        Ok(())
+    }
+
+    /// The bits as a string. `None` where there are 2^64 or more.
+    pub fn into_string(self) -> Option<BitString>
+        ensures { MatchOption result (2 ^ 64 ≤ length self) (λ s. s ≡ self) }
+    {
+        let CollectedBits { octets, unused } = self;
+        let count = octets.len() as u128 * 8 - unused as u128;
+        match usize::try_from(count) {
+            Ok(len) => BitString::new(octets, len),
+            Err(_) => None,
+        }
+    }
+}
