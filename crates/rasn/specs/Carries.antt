@@ -16,7 +16,7 @@ is_list (set_elements ts) = false
 is_list (chosen k t) = false
 is_list absent = false
 
--- The tree is the same as itself: a walk goes over a list.
+-- The tree is the same as itself: set elements are a list.
 abbrev pub is_same_as_itself : Tree → Bool
 is_same_as_itself (number z) = true
 is_same_as_itself (bits bs) = true

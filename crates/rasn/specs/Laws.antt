@@ -115,11 +115,11 @@ abbrev pub StrictDer : Type 0
 StrictDer = (s : Shape) → IsLawful s → (input : List ℕ) → AreOctets input → (t : Tree) (rest : List ℕ) → Reads Der s 128 (top Der) input t rest → Carried Der s t
     → (text : List ℕ) × Bytes Der s t text × (input ≡ text ++ rest)
 
--- Of two whole encodings at the front of one input, each is the other, and both take the same turns.
+-- Of two whole encodings at the front of one input, each is the other, and both take the same steps.
 abbrev pub OneEncoding : Type 0
 OneEncoding = (rule other : Codec) (a b x y : List ℕ) (v : CompleteEncoding rule a) (w : CompleteEncoding other b) → a ++ x ≡ b ++ y
     → (a ≡ b) × (x ≡ y) × (steps_in v ≡ steps_in w)
 
--- A turn passes two octets at least.
+-- A step passes two octets at least.
 abbrev pub EncodingSteps : Type 0
 EncodingSteps = (rule : Codec) (text : List ℕ) (w : CompleteEncoding rule text) → 2 * steps_in w ≤ length text

@@ -163,7 +163,7 @@ with_group = seq (in_universal 16) (part required truth (part optional (seq (in_
 abbrev pub added_alone : Shape
 added_alone = seq (in_universal 16) (part addition (prefix (contextual 0) whole_number) none)
 
--- a default that is the tree of no value: the walk of a SET OF goes over a list
+-- a default that is the tree of no value: the elements of a SET OF are a list
 abbrev pub no_value : Shape
 no_value = seq (in_universal 16) (part (default (set_elements (number (pos 0)))) (set_of (in_universal 17) whole_number None) none)
 

@@ -106,12 +106,12 @@ pub fn stays_carried()
     ensures { StaysCarried }
 {}
 
-/// No whole encoding begins another, and the turns that pass one are determined.
+/// No whole encoding begins another, and the steps that pass one are determined.
 pub fn one_encoding()
     ensures { OneEncoding }
 {}
 
-/// A whole encoding is passed in at most half as many turns as it has octets.
+/// A whole encoding is passed in at most half as many steps as it has octets.
 pub fn encoding_steps()
     ensures { EncodingSteps }
 {}

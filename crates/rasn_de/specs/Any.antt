@@ -44,7 +44,7 @@ abbrev pub DecodesOpenType : Tag → State → Result Any DecodeError → State 
 DecodesOpenType tag old (Ok a) new = OpenAt old.rule (looked_for tag) old.rest (Ok (a, new.rest)) × (new ≡ at old new.rest)
 DecodesOpenType tag old (Err e) new = ((IsOutOfMemory e.kind × (e.codec ≡ old.rule)) ⊎ ((fault : ParseError) × OpenAt old.rule (looked_for tag) old.rest (Err fault) × IsErrorOf fault old e)) × (new ≡ old)
 
--- One whole encoding is passed, in so many turns; or there is none, this is the first fault, and nothing is taken.
+-- One whole encoding is passed, in so many steps; or there is none, this is the first fault, and nothing is taken.
 abbrev pub SkipsValue : State → Result ℕ DecodeError → State → Type 0
 SkipsValue old (Ok n) new = Exactly (Skipped old.rule old.rest) (IsFault old.rule old.rest) (Ok (n, new.rest)) × (new ≡ at old new.rest)
 SkipsValue old (Err e) new = (fault : ParseError) × Exactly (Skipped old.rule old.rest) (IsFault old.rule old.rest) (Err fault) × IsErrorOf fault old e × (new ≡ old)

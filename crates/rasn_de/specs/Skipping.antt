@@ -9,14 +9,14 @@ use Rattle.rasn_types.specs.Framing.{Frame, indefinite, CompleteEncoding, Comple
 use Rattle.rasn_de.specs.declared.ber.de.parser.headers.Expected.TheVariants.{AnyTag}
 use Rattle.rasn_de.specs.Headers.{header_at}
 
--- The input begins with one whole encoding, of so many turns.
+-- The input begins with one whole encoding, of so many steps.
 pub record Skipped (rule : Codec) (input : List ℕ) (t : ℕ) (rest : List ℕ) : Type 0 where
   pub text : List ℕ
   pub whole : CompleteEncoding rule text
   pub is : input ≡ text ++ rest
   pub steps_are : t ≡ steps_in whole
 
--- Whole encodings up to their end-of-contents octets, with the turn that passes these.
+-- Whole encodings up to their end-of-contents octets, with the step that passes these.
 pub record EncodingsToEnd (rule : Codec) (input : List ℕ) (t : ℕ) (rest : List ℕ) : Type 0 where
   pub nested : List ℕ
   pub inside : CompleteEncodings rule nested

@@ -127,7 +127,7 @@ ReadsOpen rule tag input t rest = (bit : Bool) × (contents : List ℕ) × (t �
 abbrev pub ReadsAny : Codec → Reading Tree
 ReadsAny rule input t rest = (text : List ℕ) × (t ≡ numbers text) × CompleteEncoding rule text × (input ≡ text ++ rest)
 
--- Elements up to the end, as a list and as a walk, whose octets don't fall where the writer's order alone is read (11.6).
+-- Elements up to the end, as a list and as set elements, whose octets are ascending where the writer's order alone is read (11.6).
 abbrev pub ReadsList : Option (Bound ℕ) → Reading Tree → Bool → Reading Tree
 ReadsList size reads closing input t rest = (ts : List Tree) × (t ≡ items ts) × Admits ◌≤◌ size (length ts) × ReadsMany reads closing input ts rest
 

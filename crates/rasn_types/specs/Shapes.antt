@@ -24,7 +24,7 @@ abbrev pub items : List Tree → Tree
 items [] = done
 items (t ∷ ts) = joined t (items ts)
 
--- Equality of trees, but that a walk's order doesn't count.
+-- Equality of trees, but that the order of set elements doesn't count.
 abbrev pub Same : Tree → Tree → Type 0
 Same (number z) u = u ≡ number z
 Same (bits bs) u = u ≡ bits bs

@@ -57,7 +57,7 @@ shapes = record {
   value_of_no_tag = unlawful _ refl;
 }
 
--- A walk over what is no list isn't the same as itself.
+-- Set elements that are no list aren't the same as themselves.
 no_set_elements : Same (set_elements (number (pos 0))) (set_elements (number (pos 0))) → ⊥
 no_set_elements (vs, ws, e, p, h) = no_list vs h
   where

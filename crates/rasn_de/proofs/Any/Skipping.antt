@@ -14,7 +14,7 @@ use Rattle.rasn_de.proofs.Headers.Results.{octets_back}
 use Rattle.rasn_de.proofs.Headers.Fronts.{frame_not_zero, frame_bit, frame_shorter}
 use Rattle.rasn_de.proofs.Headers.Frames.{header_spelled, header_parsed}
 
--- What is left, read as so many levels that are still to be closed, takes so many turns and leaves rest.
+-- What is left, read as so many levels that are still to be closed, takes so many steps and leaves rest.
 abbrev pub Levels : Codec → ℕ → List ℕ → ℕ → List ℕ → Type 0
 Levels rule zero input t rest = (input ≡ rest) × (t ≡ 0)
 Levels rule (suc n) input t rest = (middle : List ℕ) × (s : ℕ) × (u : ℕ) × EncodingsToEnd rule input s middle × Levels rule n middle u rest × (t ≡ s + u)
@@ -191,7 +191,7 @@ stand_close rule zero input after (nested, back, tag, body, ws, e, f, (inner, vs
 stand_close rule (suc m) input after (nested, back, tag, body, ws, e, f, h) =
     (nested, back, tag, body, ws, e, f, stand_close rule m body after h)
 
--- What a count of open values, and of turns so far, says of the input.
+-- What a count of open values, and of steps so far, says of the input.
 pub record Passing (rule : Codec) (input : List ℕ) (count turned : ℕ) (left : List ℕ) : Type 0 where
   pub there : IsNestedIn rule count input left
   pub on : (t : ℕ) (rest : List ℕ) → Levels rule (suc count) left t rest → Levels rule 1 input (turned + t) rest

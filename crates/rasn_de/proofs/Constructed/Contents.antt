@@ -52,7 +52,7 @@ module _ (rule : Codec) (tag : Tag) (expected : Expected) (R : Bool → Reading 
       go : (k : Header) × (header_at (form rule) expected l ≡ Ok k) × (k.bit ≡ bit) × IsInside R k t s → IsInside R h t s
       go (k, f, b, r) = let m : k ≡ h = cc in subst (λ z. IsInside R z t s) m r
 
--- the constructed bit is one that the door lets through
+-- the constructed bit is one that the header admits
 abbrev pub IsLetIn : ConstructedHeader → Codec → Bool → Type 0
 IsLetIn d rule bit = (d.must_be_constructed && not bit ≡ false) × IsExpected (expected_header d rule) d.tag bit
 
@@ -61,7 +61,7 @@ pub bit_is : (b : Bool) → true && not b ≡ false → b ≡ true
 bit_is true e = refl
 bit_is false e = cc
 
--- A door asks for its tag.
+-- A constructed header asks for its tag.
 expected_tag : (needed : Bool) (rule : Codec) (tag found : Tag) (bit : Bool) → IsExpected (cond needed (Tagged tag) (as_written rule tag true)) found bit → found ≡ tag
 expected_tag true rule tag found bit e = e
 expected_tag false rule tag found bit e = written_tag rule tag found true bit e
@@ -69,7 +69,7 @@ expected_tag false rule tag found bit e = written_tag rule tag found true bit e
 pub constructed_header_tag : (d : ConstructedHeader) (rule : Codec) (found : Tag) (bit : Bool) → IsExpected (expected_header d rule) found bit → found ≡ d.tag
 constructed_header_tag d rule found bit e = expected_tag d.must_be_constructed rule d.tag found bit e
 
--- the header of a value behind the door
+-- the header of a value behind the constructed header
 module _ (d : ConstructedHeader) (rule : Codec) (depth : ℕ) (l : List ℕ) where
   constructed_header_cases : (b : Bool) → nat_eq depth 0 ≡ b → (r : Result Header ParseError) → header_at (form rule) (expected_header d rule) l ≡ r → (h : Header) → constructed_header_at d rule depth l ≡ Ok h → (depth ≢ 0) × (header_at (form rule) (expected_header d rule) l ≡ Ok h) × (d.must_be_constructed && not h.bit ≡ false)
   constructed_header_cases true e r f h g = let k : nat_eq depth 0 ≡ true = e in absurd (let m : constructed_header_at d rule depth l ≡ Err (Rattle.rasn_de.specs.declared.ber.de.parser.ParseError.TheVariants.ExceedsMaxParseDepth, l) = rw e refl in cc)

@@ -24,7 +24,7 @@ suffix-is l p q n e h =
     let s = ap length e in
     rw e (sym (drop_at p q n (omega (arith, h, s, length-append p q))))
 
--- the walk back: k marks are left, and `back` octets up to the place
+-- backwards: k marks are left, and `back` octets up to the place
 pub record Walk (g : List ℕ) (ms : List DeferredHeader) (start want k at back : ℕ) : Type 0 where
   pub below : k ≤ length ms
   pub lower : Rising start (take k ms) at
@@ -92,7 +92,7 @@ module _ (g : List ℕ) (ms : List DeferredHeader) (start want k at back n : ℕ
         counted = rw (left ms k m d inside read, none) (omega (arith, e, o, l, c, length-append (deferred_octets m) (rendered g m.at (drop (suc k) ms))));
       }
 
--- What is known at the mark that the walk comes to: the place stands in the run behind it, in its head, or further in front.
+-- What is known at the deferred header that is reached: the place stands in the run behind it, in its head, or further in front.
 pub record AtMark (g : List ℕ) (ms : List DeferredHeader) (start want k at back n : ℕ) (m : DeferredHeader) : Type 0 where
   pub order : m.at ≤ at
   pub upper : Rising m.at (drop k ms) (length g)

@@ -130,7 +130,7 @@ module _ (xs : List ℕ) (ms : List DeferredHeader) (start first m : ℕ) (ys : 
       let a = all_left in
       cut_octets xs ms start first m ys ns h q n (omega (arith, f)) (rw no_marks (omega (arith, a, e, f))) (omega (arith, e, f))
 
--- One turn, at the last mark.
+-- One step, at the last mark.
 module _ (xs : List ℕ) (ms : List DeferredHeader) (start first m : ℕ) (ys : List ℕ) (ns : List DeferredHeader) (h : Cut xs ms start first m ys ns) (last : ℕ) (mark d : DeferredHeader) (l : suc last ≡ length ns) (some : first < length ns) (read : mark ≡ get_or ns last d) where
   split : ns ≡ take last ns ++ mark ∷ []
   split = last_split ns last mark d l read

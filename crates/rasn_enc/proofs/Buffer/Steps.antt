@@ -1,4 +1,4 @@
--- One turn of rendering from the back, and its end.
+-- One step of rendering from the back, and its end.
 use Rattle.std.proofs.Common.{length-append, ◌≡◌, ◌≤◌, ◌<◌, ◌+◌, ◌-◌, ◌++◌, ℕ, [], ◌∷◌, List, drop, take, length, refl, ap, arith, ◌∙◌, sym, suc, length-drop, get_or}
 use Rattle.std.proofs.lemmas.List.{take-append-drop, take-append-le, take-take, length-take-le, drop_at, drop_all}
 use Rattle.std.proofs.Math.Seq.{take-suc, drop-cons}
@@ -46,7 +46,7 @@ module _ (ms : List DeferredHeader) (k : ℕ) (m d : DeferredHeader) (inside : k
   pub left : drop k ms ≡ m ∷ drop (suc k) ms
   left = drop-cons ms k d inside ∙ ap (λ x. x ∷ drop (suc k) ms) (sym read)
 
--- what holds between turns: k marks are left, which stand from 0 to `from` in the gathered octets g; the rest is rendered
+-- what holds between steps: k marks are left, which stand from 0 to `from` in the gathered octets g; the rest is rendered
 pub record Rest (g : List ℕ) (ms : List DeferredHeader) (buffer : List ℕ) (k from to copies : ℕ) : Type 0 where
   pub below : k ≤ length ms
   pub rising : Rising 0 (take k ms) from

@@ -1,4 +1,4 @@
--- No whole encoding begins another, and its turns are determined.
+-- No whole encoding begins another, and its steps are determined.
 use Rattle.std.proofs.Common.{◌≡◌, ℕ, ◌+◌, ◌*◌, ◌<◌, ◌≤◌, inr, List, [], ◌∷◌, ◌++◌, length, Bool, true, refl, sym, ap, ap₂, ◌∙◌, subst, arith, append_assoc, length-append}
 use Rattle.std.proofs.lemmas.List.{append_cancel_right}
 use Rattle.rasn_types.specs.Tags.{Form, loose, Codec, Tag}
@@ -22,7 +22,7 @@ some_whole {text = text} front back x y h e f =
     let g : front ++ (back ++ x) ≡ 0 ∷ 0 ∷ y = sym (append_assoc front back x) ∙ (sym (ap (λ l. l ++ x) e) ∙ f) in
     not_ended true (front ++ (back ++ x)) n.0 n.1 (inr (refl, y, g))
 
--- What follows is the same, and so are the turns.
+-- What follows is the same, and so are the steps.
 abbrev pub IsSameEnd : List ℕ → List ℕ → ℕ → ℕ → Type 0
 IsSameEnd x y m n = (x ≡ y) × (m ≡ n)
 
@@ -69,7 +69,7 @@ indefinite_long {rest = rest} {tag = tag} {bit = bit} (without_length id p q r e
     let f = ap length e in
     omega (arith, spelled_some id tag bit p.spells, length-append id (128 ∷ rest))
 
--- Each turn passes two octets at least, and the first header two more.
+-- Each step passes two octets at least, and the first header two more.
 mutual
   pub steps_twice : {rule : Codec} {text : List ℕ} (w : CompleteEncoding rule text) → 2 + 2 * steps_in w ≤ length text
   steps_twice (plain tag bit contents f) = definite_long f

@@ -8,9 +8,9 @@ use std::alloc::{AllocError, Global};
 use std::marker::Model;
 use std::slice;
 
-/// The elements of a SET OF (X.680 28), in the order of a walk. Two are equal if they hold equal elements equally often.
+/// The elements of a SET OF (X.680 28), in the order in which they were put. Two are equal if they hold equal elements equally often.
 ///
-/// To contracts it is the list of the walk.
+/// To contracts it is the list of its elements.
 #[derive(Debug, Drop)]
 pub struct SetOf<T> {
     elements: Vec<T>,
@@ -55,21 +55,21 @@ impl<T> SetOf<T> {
         self.elements.is_empty()
     }
 
-    /// The elements in the order of the walk.
+    /// The elements in their order.
     pub fn iter(&self) -> slice::Iter<'_, T>
         ensures { iter_rest result ≡ self.now }
     {
         self.elements.iter()
     }
 
-    /// The elements in the order of the walk.
+    /// The elements in their order.
     pub fn as_slice(&self) -> &[T]
         ensures { result.now ≡ self.now }
     {
         self.elements.as_slice()
     }
 
-    /// The elements in the order of the walk.
+    /// The elements in their order.
     pub fn into_vec(self) -> Vec<T>
         ensures { result.items ≡ self }
     {
@@ -79,7 +79,7 @@ impl<T> SetOf<T> {
 }
 
 impl<T: Drop> SetOf<T> {
-    /// Puts an element at the end of the walk.
+    /// Puts an element behind the others.
     ///
     /// # Errors
     /// Running out of memory, and the elements stay as they were.

@@ -35,7 +35,7 @@ impl<'input> Decoder<'input> {
         }
     }
 
-    /// Passes one whole encoding at any depth (X.690 8.1.1.1), in constant memory. Answers how many turns this took, which are at
+    /// Passes one whole encoding at any depth (X.690 8.1.1.1), in constant memory. Answers how many steps this took, which are at
     /// most half as many as the octets: one for each end-of-contents octets that it passed, and one for each value inside with a definite
     /// length or header of indefinite length; none for a value of definite length.
     ///

@@ -12,7 +12,7 @@ use rasn_types::error::EncodeError;
 use rasn_types::types::{Constraints, Identifier, SetOf, Tag};
 
 impl Encoder {
-    /// Writes a SET OF, within a size in elements (X.690 8.12): its elements in the order of the walk. Under any rules the octets of
+    /// Writes a SET OF, within a size in elements (X.690 8.12): its elements in their order. Under any rules the octets of
     /// an element must not be less than those of the one before it (X.690 11.6).
     ///
     /// # Errors

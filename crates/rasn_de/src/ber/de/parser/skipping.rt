@@ -36,7 +36,7 @@ fn after_closing(input: &[u8]) -> Option<&[u8]>
 }
 
 /// Passes the contents of a value of indefinite length, which are whole encodings, and their end-of-contents octets, with a count of
-/// the values that are open. Answers how many turns it took, and what follows: a turn passes end-of-contents octets, or a header with
+/// the values that are open. Answers how many steps it took, and what follows: a step passes end-of-contents octets, or a header with
 /// its definite contents.
 pub fn skip_contents(rule: Codec, input: &[u8]) -> Result<(usize, &[u8]), ParseError>
     ensures exact { Exactly (EncodingsToEnd rule input.now) (IsUnparsable rule input.now) (passed result) }
@@ -65,7 +65,7 @@ pub fn skip_contents(rule: Codec, input: &[u8]) -> Result<(usize, &[u8]), ParseE
     }
 }
 
-/// Passes one whole encoding. Answers how many turns its contents took, none where its length is definite, and what follows.
+/// Passes one whole encoding. Answers how many steps its contents took, none where its length is definite, and what follows.
 pub fn skip_encoding(rule: Codec, input: &[u8]) -> Result<(usize, &[u8]), ParseError>
     ensures exact { Exactly (Skipped rule input.now) (IsFault rule input.now) (passed result) }
     ensures half { IfOk result (λ p. 2 * p.0 + length p.1.now ≤ length input.now) }
