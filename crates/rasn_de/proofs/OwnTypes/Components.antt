@@ -4,7 +4,7 @@
 -- doesn't come, and one for `Ok`:
 --
 --     component_twice COMPONENT_TREE PARTS K tt _ YIELDED _ COMPONENT _ refl EQUATION PART_TREE _ (search rules) SLOT _
---     slot_put COMPONENT_TREE PART_TREE YIELDED COMPONENT VALUE K refl _ (search rules) SLOT, and for each other part
+--     slot_appended COMPONENT_TREE PART_TREE YIELDED COMPONENT VALUE K refl _ (search rules) SLOT, and for each other part
 --     slot_kept COMPONENT_TREE PART_TREE YIELDED COMPONENT _ K _ refl HELD (λ e. omega (arith, e)) SLOT
 --     component_missing PARTS K refl _ SLOT _
 --     (_, refl, component_there _ _ K _ _ _ SLOT (component_default _ _ K+1 _ _ _ _ _ SLOT FOUND (component_optional _ K+2 _ _ _ _ SLOT (components_end _ _))))

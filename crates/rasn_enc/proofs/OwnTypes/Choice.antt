@@ -6,7 +6,7 @@
 --         constraints,
 --         tag,
 --         |encoder: &mut Encoder| -> Result<Tag, EncodeError>
---             ensures { WritesAlternative time_alternatives (time_tree self.entry.now) encoder.old result encoder.new }
+--             ensures { EncodesAlternative time_alternatives (time_tree self.entry.now) encoder.old result encoder.new }
 --         {
 --             match self {
 --                 Time::Utc(time) => {

@@ -5,7 +5,7 @@
 --     encoder.encode_sequence::<2, 0, Both<A, B>, _>(
 --         tag,
 --         |inner: &mut Encoder| -> Result<(), EncodeError>
---             ensures { WritesParts (part required A.shape (part required B.shape none)) (items (A.tree self.entry.now.a ∷ B.tree self.entry.now.b ∷ [])) inner.old result inner.new }
+--             ensures { EncodesParts (part required A.shape (part required B.shape none)) (items (A.tree self.entry.now.a ∷ B.tree self.entry.now.b ∷ [])) inner.old result inner.new }
 --         {
 --             self.a.encode(inner)?;
 --             self.b.encode(inner)?;
@@ -17,9 +17,9 @@
 -- The closure answers a line for each `?` and one for `Ok`. A last call whose result is the closure's goes by `last_part` in the place of the last `?`:
 --
 --     returns-in_err-encode g c = part_refused _ _ _ _ _ _ _ _ c.in_err-encode.ensures.refused c.in_err-encode.ensures.err c.from_residual.ensures.1
---     returns-in_err-encode-2 g c = part_put _ _ _ _ _ _ _ _ c.in_ok-encode.ensures.ok
+--     returns-in_err-encode-2 g c = part_appended _ _ _ _ _ _ _ _ c.in_ok-encode.ensures.ok
 --         (part_refused _ _ _ _ _ _ _ _ c.in_err-encode-2.ensures.refused c.in_err-encode-2.ensures.err c.from_residual-in_err-encode-2.ensures.1)
---     returns g c = part_put _ _ _ _ _ _ _ _ c.in_ok-encode.ensures.ok (part_put _ _ _ _ _ _ _ _ c.in_ok-encode-2.ensures.ok (parts_end _))
+--     returns g c = part_appended _ _ _ _ _ _ _ _ c.in_ok-encode.ensures.ok (part_appended _ _ _ _ _ _ _ _ c.in_ok-encode-2.ensures.ok (parts_end _))
 --
 -- The method that hands it over answers two:
 --
@@ -30,7 +30,7 @@ use Rattle.std.proofs.lemmas.List.{append-nil, append_assoc}
 use Rattle.std.proofs.lemmas.Result.{on_ok_weaker, IfErr-weaker, err_from_is_err_and}
 use Rattle.std.specs.Result.{IsErrAnd}
 use Rattle.std.specs.Fn.{FnOnceReturnsAtMut}
-use Rattle.rasn_types.specs.Shapes.{Shape, seq, option, Tree, items, done, joined, Parts, part, Presence, optional, default, absent}
+use Rattle.rasn_types.specs.Shapes.{Shape, seq, option, Tree, items, done, joined, Parts, part, Presence, optional, addition, default, absent}
 use Rattle.rasn_types.specs.Shapes.Parts.{none}
 use Rattle.rasn_types.specs.Contents.{joined_lists}
 use Rattle.rasn_types.specs.Bytes.{Bytes, fields_of, WritesPart, PartsWritten, NoneUntaggedOpen, TagsOf, IsUntaggedOpen, ConstructedEncoding, Same}
@@ -261,6 +261,21 @@ optional_encoded s t v w a = record { octets = a.octets; defined = a.defined; ta
 pub optional_refused : {g : Option Tag} (s : Shape) (t : Tree) (v : View) (e : EncodeError) → EncodeFails (option g s) t v e → EncodePartFails optional s t v e
 unfolding Bytes IsUntaggedOpen
 optional_refused s t v e h = record {
+  why = elim h.why [
+    | inl m ↦ inl m
+    | inr (inl n) ↦ inr (inl (record { none = n.none }))
+    | inr (inr n) ↦ inr (inr (record { bare = n.bare; some = n.some; keeps = n.keeps }))
+  ];
+}
+
+-- An extension addition is written as a part that may be left out is.
+pub addition_encoded : {g : Option Tag} (s : Shape) (t : Tree) (v w : View) → AppendsEncoding (option g s) t v w → AppendsPart addition s t v w
+unfolding Bytes IsUntaggedOpen
+addition_encoded s t v w a = record { octets = a.octets; defined = a.defined; tags = a.tags; heads = a.heads; tagged = a.tagged; appended = a.appended }
+
+pub addition_refused : {g : Option Tag} (s : Shape) (t : Tree) (v : View) (e : EncodeError) → EncodeFails (option g s) t v e → EncodePartFails addition s t v e
+unfolding Bytes IsUntaggedOpen
+addition_refused s t v e h = record {
   why = elim h.why [
     | inl m ↦ inl m
     | inr (inl n) ↦ inr (inl (record { none = n.none }))
