@@ -6,6 +6,7 @@ pub mod cer;
 pub mod der;
 mod entry;
 pub mod laws;
+pub mod parts;
 pub mod prelude;
 pub mod time_laws;
 pub mod types;

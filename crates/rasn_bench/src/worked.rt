@@ -20,7 +20,7 @@ pub use grouped::{Group, Grouped};
 pub use pair::Pair;
 use rasn::types::{Ia5String, SetOf};
 pub use set3::Set3;
-pub use setting::Setting;
+pub use setting::{Setting, Seven};
 pub use time::Time;
 
 /// SEQUENCE { name IA5String, truth BOOLEAN }

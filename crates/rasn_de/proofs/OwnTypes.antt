@@ -3,3 +3,5 @@ pub mod Parts
 pub mod Components
 pub mod Alternatives
 pub mod Tags
+pub mod PartTypes
+pub mod AlternativeTypes

@@ -23,3 +23,5 @@ pub mod Time
 pub mod Enumerated
 pub mod ObjectIdentifier
 pub mod BitString
+pub mod PartTypes
+pub mod AlternativeTypes

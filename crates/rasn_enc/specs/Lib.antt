@@ -16,3 +16,4 @@ pub mod Choice
 pub mod ObjectIdentifier
 pub mod Any
 pub mod Buffer
+pub mod AlternativeTypes

@@ -1,13 +1,17 @@
 //! Types that several tests share.
 
 mod counted;
+mod eight;
 mod fieldless;
+mod graded;
+mod profile;
 mod ratio;
 mod three;
-mod zero;
 
 pub use counted::Counted;
+pub use eight::Eight;
 pub use fieldless::{Closed, Extensible};
+pub use graded::Graded;
+pub use profile::Profile;
 pub use ratio::Ratio;
-pub use three::{ApplicationTag, ContextTag, Three};
-pub use zero::Zero;
+pub use three::Three;

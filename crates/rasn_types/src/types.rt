@@ -17,12 +17,14 @@ mod null;
 mod object_identifier;
 mod octet_string;
 mod optional;
+mod parts;
 mod prefix;
 mod real;
 mod sequence_of;
 mod set_of;
 mod strings;
 mod tag;
+mod tag_types;
 mod twos_complement;
 mod utc_time;
 
@@ -41,6 +43,7 @@ pub use integer::{Integer, IntegerType};
 pub use lawful_eq::{LawfulEq, Present};
 pub use object_identifier::ObjectIdentifier;
 pub use octet_string::OctetString;
+pub use parts::{DefaultValue, End, Never, OneOf};
 pub use prefix::{Explicit, Implicit};
 pub use real::RealType;
 pub use set_of::SetOf;
@@ -51,4 +54,5 @@ pub use strings::{
     VisibleType,
 };
 pub use tag::{Class, Tag};
+pub use tag_types::{ApplicationTag, ContextTag, PrivateTag};
 pub use utc_time::UtcTime;

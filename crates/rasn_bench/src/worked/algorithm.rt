@@ -1,18 +1,9 @@
 //! `AlgorithmIdentifier ::= SEQUENCE { algorithm OBJECT IDENTIFIER, parameters ANY DEFINED BY algorithm OPTIONAL }` (RFC 5280, 4.1.1.2).
-ghost use Rattle.rasn_de.specs.Decodes.{DecodesParts};
-ghost use Rattle.rasn_enc.specs.Sequence.{EncodesParts};
-ghost use Rattle.rasn_bench.specs.AlgorithmIdentifier.{algorithm_parts, algorithm_tree};
 
-use rasn::ber::de::Decoder;
-use rasn::ber::enc::Encoder;
-use rasn::de::Decode;
-use rasn::enc::Encode;
 use rasn::error::{DecodeError, EncodeError};
-use rasn::types::{
-    Any, AsnType, Constraints, Constructed, Field, FieldPresence, Fields, Identifier, LawfulEq,
-    ObjectIdentifier, Present, Tag,
-};
-use std::alloc::AllocError;
+use rasn::parts::{End, Optional, Put, PutOptional, Required};
+use rasn::types::{Any, AsnType, Constraints, Identifier, LawfulEq, ObjectIdentifier, Present, Tag};
+use rasn::{Decode, Decoder, Encode, Encoder};
 
 /// SEQUENCE { algorithm OBJECT IDENTIFIER, parameters ANY OPTIONAL }: the parameters are the one value that is left behind the algorithm,
 /// whatever it is.
@@ -56,68 +47,14 @@ impl Present for AlgorithmIdentifier {
     ghost present = { λ _. parts_not_absent };
 }
 
-impl Constructed<2, 0> for AlgorithmIdentifier {
-    ghost use Rattle.std.specs.Prelude.{refl, true, false};
-    ghost use Rattle.rasn_bench.specs.AlgorithmIdentifier.{algorithm_parts};
-
-    const FIELDS: Fields<2> = Fields {
-        fields: [
-            Field {
-                index: 0,
-                tag: Tag::OBJECT_IDENTIFIER,
-                presence: FieldPresence::Required,
-                name: "algorithm",
-            },
-            Field {
-                index: 1,
-                tag: Tag::EOC,
-                presence: FieldPresence::Optional,
-                name: "parameters",
-            },
-        ],
-    };
-
-    const EXTENDED_FIELDS: Option<Fields<0>> = None;
-
-    ghost IS_EXTENSIBLE = { false };
-
-    const IS_EXTENSIBLE: bool = false;
-
-    ghost HAS_REQUIRED_FIELDS = { true };
-
-    const HAS_REQUIRED_FIELDS: bool = true;
-
-    ghost parts = { algorithm_parts };
-
-    ghost described = { refl };
-}
-
 impl Decode for AlgorithmIdentifier {
     fn decode_with_tag_and_constraints(
         decoder: &mut Decoder<'_>,
         tag: Tag,
         _constraints: &Constraints,
     ) -> Result<AlgorithmIdentifier, DecodeError> {
-        decoder.decode_sequence::<
-            2,
-            0,
-            AlgorithmIdentifier,
-            fn() -> Result<AlgorithmIdentifier, AllocError>,
-            _,
-        >(
-            tag,
-            None,
-            |decoder|
-                ensures { DecodesParts algorithm_parts algorithm_tree decoder.old result decoder.new }
-            {
-                let algorithm = ObjectIdentifier::decode(decoder)?;
-                let parameters = decoder.decode_optional::<Any>()?;
-                Ok(AlgorithmIdentifier {
-                    algorithm,
-                    parameters,
-                })
-            },
-        )
+        let Required(algorithm, Optional(parameters, End)) = decoder.read_sequence(tag)?;
+        Ok(AlgorithmIdentifier { algorithm, parameters })
     }
 }
 
@@ -127,18 +64,9 @@ impl Encode for AlgorithmIdentifier {
         encoder: &mut Encoder,
         tag: Tag,
         _constraints: &Constraints,
-        identifier: Identifier,
+        _identifier: Identifier,
     ) -> Result<(), EncodeError> {
-        encoder.encode_sequence::<2, 0, AlgorithmIdentifier, _>(
-            tag,
-            |inner: &mut Encoder| -> Result<(), EncodeError>
-                ensures { EncodesParts algorithm_parts (algorithm_tree self.entry.now) inner.old result inner.new }
-            {
-                self.algorithm.encode(inner)?;
-                self.parameters.encode(inner)
-            },
-            identifier,
-        )
+        encoder.write_sequence(tag, Put(&self.algorithm, PutOptional(&self.parameters, End)))
     }
 
     fn is_present(&self) -> bool {

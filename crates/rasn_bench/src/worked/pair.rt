@@ -1,18 +1,9 @@
 //! `Pair ::= SEQUENCE { number INTEGER (-2147483648..2147483647), truth BOOLEAN }`
-ghost use Rattle.rasn_de.specs.Decodes.{DecodesParts};
-ghost use Rattle.rasn_enc.specs.Sequence.{EncodesParts};
-ghost use Rattle.rasn_bench.specs.Pair.{pair_parts, pair_tree};
 
-use rasn::ber::de::Decoder;
-use rasn::ber::enc::Encoder;
-use rasn::de::Decode;
-use rasn::enc::Encode;
 use rasn::error::{DecodeError, EncodeError};
-use rasn::types::{
-    AsnType, Constraints, Constructed, Field, FieldPresence, Fields, Identifier, LawfulEq, Present,
-    Tag,
-};
-use std::alloc::AllocError;
+use rasn::parts::{End, Put, Required};
+use rasn::types::{AsnType, Constraints, Identifier, LawfulEq, Present, Tag};
+use rasn::{Decode, Decoder, Encode, Encoder};
 
 /// SEQUENCE { number INTEGER (-2147483648..2147483647), truth BOOLEAN }
 #[derive(Debug, PartialEq, Eq, Drop)]
@@ -55,59 +46,14 @@ impl Present for Pair {
     ghost present = { λ _. parts_not_absent };
 }
 
-impl Constructed<2, 0> for Pair {
-    ghost use Rattle.std.specs.Prelude.{refl, true, false};
-    ghost use Rattle.rasn_bench.specs.Pair.{pair_parts};
-
-    const FIELDS: Fields<2> = Fields {
-        fields: [
-            Field {
-                index: 0,
-                tag: Tag::INTEGER,
-                presence: FieldPresence::Required,
-                name: "number",
-            },
-            Field {
-                index: 1,
-                tag: Tag::BOOL,
-                presence: FieldPresence::Required,
-                name: "truth",
-            },
-        ],
-    };
-
-    const EXTENDED_FIELDS: Option<Fields<0>> = None;
-
-    ghost IS_EXTENSIBLE = { false };
-
-    const IS_EXTENSIBLE: bool = false;
-
-    ghost HAS_REQUIRED_FIELDS = { true };
-
-    const HAS_REQUIRED_FIELDS: bool = true;
-
-    ghost parts = { pair_parts };
-
-    ghost described = { refl };
-}
-
 impl Decode for Pair {
     fn decode_with_tag_and_constraints(
         decoder: &mut Decoder<'_>,
         tag: Tag,
         _constraints: &Constraints,
     ) -> Result<Pair, DecodeError> {
-        decoder.decode_sequence::<2, 0, Pair, fn() -> Result<Pair, AllocError>, _>(
-            tag,
-            None,
-            |decoder|
-                ensures { DecodesParts pair_parts pair_tree decoder.old result decoder.new }
-            {
-                let number = i32::decode(decoder)?;
-                let truth = bool::decode(decoder)?;
-                Ok(Pair { number, truth })
-            },
-        )
+        let Required(number, Required(truth, End)) = decoder.read_sequence(tag)?;
+        Ok(Pair { number, truth })
     }
 }
 
@@ -117,18 +63,9 @@ impl Encode for Pair {
         encoder: &mut Encoder,
         tag: Tag,
         _constraints: &Constraints,
-        identifier: Identifier,
+        _identifier: Identifier,
     ) -> Result<(), EncodeError> {
-        encoder.encode_sequence::<2, 0, Pair, _>(
-            tag,
-            |inner: &mut Encoder| -> Result<(), EncodeError>
-                ensures { EncodesParts pair_parts (pair_tree self.entry.now) inner.old result inner.new }
-            {
-                self.number.encode(inner)?;
-                self.truth.encode(inner)
-            },
-            identifier,
-        )
+        encoder.write_sequence(tag, Put(&self.number, Put(&self.truth, End)))
     }
 
     fn is_present(&self) -> bool {

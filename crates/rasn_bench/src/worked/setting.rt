@@ -1,14 +1,8 @@
 //! `Setting ::= SEQUENCE { truth BOOLEAN, level INTEGER (0..255) DEFAULT 7 }`
-ghost use Rattle.std.specs.Prelude.{◌≡◌, IfOk};
-ghost use Rattle.rasn_de.specs.Decodes.{DecodesParts};
-ghost use Rattle.rasn_enc.specs.Sequence.{EncodesParts};
-ghost use Rattle.rasn_bench.specs.Setting.{setting_parts, setting_tree};
 
 use rasn::error::{DecodeError, EncodeError};
-use rasn::types::{
-    AsnType, Constraints, Constructed, Field, FieldPresence, Fields, Identifier, LawfulEq, Present,
-    Tag,
-};
+use rasn::parts::{DefaultValue, Defaulted, End, Put, PutDefault, Required};
+use rasn::types::{AsnType, Constraints, Identifier, LawfulEq, Present, Tag};
 use rasn::{Decode, Decoder, Encode, Encoder};
 use std::alloc::AllocError;
 
@@ -40,42 +34,6 @@ impl AsnType for Setting {
     ghost own = { refl };
 }
 
-impl Constructed<2, 0> for Setting {
-    ghost use Rattle.std.specs.Prelude.{refl, true, false};
-    ghost use Rattle.rasn_bench.specs.Setting.{setting_parts};
-
-    const FIELDS: Fields<2> = Fields {
-        fields: [
-            Field {
-                index: 0,
-                tag: Tag::BOOL,
-                presence: FieldPresence::Required,
-                name: "truth",
-            },
-            Field {
-                index: 1,
-                tag: Tag::INTEGER,
-                presence: FieldPresence::Default,
-                name: "level",
-            },
-        ],
-    };
-
-    const EXTENDED_FIELDS: Option<Fields<0>> = None;
-
-    ghost IS_EXTENSIBLE = { false };
-
-    const IS_EXTENSIBLE: bool = false;
-
-    ghost HAS_REQUIRED_FIELDS = { true };
-
-    const HAS_REQUIRED_FIELDS: bool = true;
-
-    ghost parts = { setting_parts };
-
-    ghost described = { refl };
-}
-
 impl LawfulEq for Setting {
     ghost use Rattle.std.proofs.Common.{rules};
     ghost use Rattle.rasn_types.specs.Equality.{deciding};
@@ -90,10 +48,20 @@ impl Present for Setting {
 }
 
 /// The level that is meant where none is written.
-fn usual() -> Result<u8, AllocError>
-    ensures { IfOk result (λ level. level ≡ 7) }
-{
-    Ok(7)
+#[derive(Drop)]
+pub struct Seven;
+
+impl DefaultValue for Seven {
+    ghost use Rattle.std.specs.Prelude.{pos};
+    ghost use Rattle.rasn_types.specs.Shapes.{number};
+
+    type Value = u8;
+
+    ghost default_tree = { number (pos 7) };
+
+    fn default_value() -> Result<u8, AllocError> {
+        Ok(7)
+    }
 }
 
 impl Decode for Setting {
@@ -102,17 +70,8 @@ impl Decode for Setting {
         tag: Tag,
         _constraints: &Constraints,
     ) -> Result<Setting, DecodeError> {
-        decoder.decode_sequence::<2, 0, Setting, fn() -> Result<Setting, AllocError>, _>(
-            tag,
-            None,
-            |decoder|
-                ensures { DecodesParts setting_parts setting_tree decoder.old result decoder.new }
-            {
-                let truth = bool::decode(decoder)?;
-                let level = decoder.decode_default::<u8, _>(usual)?;
-                Ok(Setting { truth, level })
-            },
-        )
+        let Required(truth, Defaulted::<Seven, _>(level, End)) = decoder.read_sequence(tag)?;
+        Ok(Setting { truth, level })
     }
 }
 
@@ -122,18 +81,9 @@ impl Encode for Setting {
         encoder: &mut Encoder,
         tag: Tag,
         _constraints: &Constraints,
-        identifier: Identifier,
+        _identifier: Identifier,
     ) -> Result<(), EncodeError> {
-        encoder.encode_sequence::<2, 0, Setting, _>(
-            tag,
-            |inner: &mut Encoder| -> Result<(), EncodeError>
-                ensures { EncodesParts setting_parts (setting_tree self.entry.now) inner.old result inner.new }
-            {
-                self.truth.encode(inner)?;
-                inner.encode_default(&self.level, usual, Identifier::EMPTY)
-            },
-            identifier,
-        )
+        encoder.write_sequence(tag, Put(&self.truth, PutDefault::<Seven, _>(&self.level, End)))
     }
 
     fn is_present(&self) -> bool {

@@ -1,13 +1,9 @@
 //! `Time ::= CHOICE { utcTime UTCTime, generalTime GeneralizedTime }` (RFC 5280, 4.1).
-ghost use Rattle.rasn_enc.specs.Choice.{EncodesAlternative};
-ghost use Rattle.rasn_bench.specs.Time.{time_alternatives, time_tree};
 
-use rasn::ber::de::Decoder;
-use rasn::ber::enc::Encoder;
-use rasn::de::{Decode, DecodeChoice, Error};
-use rasn::enc::Encode;
 use rasn::error::{DecodeError, EncodeError};
+use rasn::parts::{Never, OneOf};
 use rasn::types::{AsnType, Constraints, GeneralizedTime, Identifier, LawfulEq, Tag, UtcTime};
+use rasn::{Decode, Decoder, Encode, Encoder};
 
 /// CHOICE { utcTime UTCTime, generalTime GeneralizedTime }
 #[derive(Debug, PartialEq, Eq, Drop)]
@@ -49,60 +45,33 @@ impl Decode for Time {
     fn decode_with_tag_and_constraints(
         decoder: &mut Decoder<'_>,
         _tag: Tag,
-        constraints: &Constraints,
+        _constraints: &Constraints,
     ) -> Result<Time, DecodeError> {
-        decoder.decode_choice::<Time>(constraints)
+        match decoder.read_choice::<OneOf<UtcTime, OneOf<GeneralizedTime, Never>>>("Time")? {
+            OneOf::This(time) => Ok(Time::Utc(time)),
+            OneOf::Other(OneOf::This(time)) => Ok(Time::General(time)),
+            OneOf::Other(OneOf::Other(never)) => match never {},
+        }
     }
 }
 
-impl DecodeChoice for Time {
-    ghost use Rattle.std.specs.Prelude.{refl};
-    ghost use Rattle.rasn_bench.specs.Time.{time_alternatives};
-
-    ghost alternatives = { time_alternatives };
-
-    fn from_tag(decoder: &mut Decoder<'_>, tag: Tag) -> Result<Time, DecodeError> {
-        if tag == UtcTime::TAG {
-            let time = UtcTime::decode(decoder)?;
-            return Ok(Time::Utc(time));
-        }
-        if tag == GeneralizedTime::TAG {
-            let time = GeneralizedTime::decode(decoder)?;
-            return Ok(Time::General(time));
-        }
-        Err(DecodeError::no_valid_choice(decoder.alloc(), "Time", decoder.codec()))
-    }
-
-    ghost chooses = { refl };
-}
+/// The alternatives, as they are written.
+type Alternatives<'a> = OneOf<&'a UtcTime, OneOf<&'a GeneralizedTime, Never>>;
 
 impl Encode for Time {
     fn encode_with_tag_and_constraints(
         &self,
         encoder: &mut Encoder,
-        tag: Tag,
-        constraints: &Constraints,
-        identifier: Identifier,
+        _tag: Tag,
+        _constraints: &Constraints,
+        _identifier: Identifier,
     ) -> Result<(), EncodeError> {
-        encoder.encode_choice::<Time, _>(
-            constraints,
-            tag,
-            |inner: &mut Encoder| -> Result<Tag, EncodeError>
-                ensures { EncodesAlternative time_alternatives (time_tree self.entry.now) inner.old result inner.new }
-            {
-                match self {
-                    Time::Utc(time) => {
-                        time.encode(inner)?;
-                        Ok(UtcTime::TAG)
-                    }
-                    Time::General(time) => {
-                        time.encode(inner)?;
-                        Ok(GeneralizedTime::TAG)
-                    }
-                }
-            },
-            identifier,
-        )
+        match self {
+            Time::Utc(time) => encoder.write_choice::<Alternatives<'_>>(OneOf::This(time)),
+            Time::General(time) => {
+                encoder.write_choice::<Alternatives<'_>>(OneOf::Other(OneOf::This(time)))
+            }
+        }
     }
 
     fn is_present(&self) -> bool {

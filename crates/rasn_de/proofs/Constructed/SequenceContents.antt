@@ -23,7 +23,7 @@ same_is false true e = cc
 same_is false false e = refl
 
 -- Whether a part is required doesn't hang on where it is read.
-required_part : (rule : Codec) (ps : Parts) (depth : ℕ) (closing : Bool) → has_required ps ≡ true → HasRequired (parts_of rule ps depth closing)
+pub required_part : (rule : Codec) (ps : Parts) (depth : ℕ) (closing : Bool) → has_required ps ≡ true → HasRequired (parts_of rule ps depth closing)
 unfolding parts_of
 required_part rule none depth closing e = cc
 required_part rule (part required s ps) depth closing e = inl refl
@@ -31,7 +31,7 @@ required_part rule (part optional s ps) depth closing e = inr (required_part rul
 required_part rule (part addition s ps) depth closing e = inr (required_part rule ps depth closing e)
 required_part rule (part (default d) s ps) depth closing e = inr (required_part rule ps depth closing e)
 
-no_required : (rule : Codec) (ps : Parts) (depth : ℕ) (closing : Bool) → has_required ps ≡ false → HasRequired (parts_of rule ps depth closing) → ⊥
+pub no_required : (rule : Codec) (ps : Parts) (depth : ℕ) (closing : Bool) → has_required ps ≡ false → HasRequired (parts_of rule ps depth closing) → ⊥
 unfolding parts_of
 no_required rule none depth closing e h = h
 no_required rule (part required s ps) depth closing e h = cc

@@ -77,7 +77,7 @@ module _ (rule : Codec) (depth : ℕ) (closing : Bool) (input : List ℕ) (tag :
   is_first (part presence s ps) j t rest (inr h) = inr (is_first ps (suc j) t rest h)
 
   -- The alternative is read as the choice.
-  read_at : (ps : Parts) (j k i : ℕ) (p : Presence) (s : Shape) → i ≡ j + k → IsOnlyAlternative ps k p s tag → (t : Tree) (rest : List ℕ) → ReadsNoDefault p s rule depth closing input t rest
+  pub read_at : (ps : Parts) (j k i : ℕ) (p : Presence) (s : Shape) → i ≡ j + k → IsOnlyAlternative ps k p s tag → (t : Tree) (rest : List ℕ) → ReadsNoDefault p s rule depth closing input t rest
       → ReadsChoice rule j (parts_of rule ps depth closing) input (chosen i t) rest
   unfolding parts_of
   read_at none j k i p s e o t rest r = absurd o
@@ -93,7 +93,7 @@ module _ (rule : Codec) (depth : ℕ) (closing : Bool) (input : List ℕ) (tag :
   read_at (part presence x ps) j (suc k) i p s e (not, o) t rest r = inr (read_at ps (suc j) k i p s (omega arith) o t rest r)
 
   -- Nothing else is.
-  alone : (ps : Parts) (j k i : ℕ) (p : Presence) (s : Shape) → i ≡ j + k → IsOnlyAlternative ps k p s tag → (v : Tree) (rest : List ℕ) → ReadsChoice rule j (parts_of rule ps depth closing) input v rest
+  pub alone : (ps : Parts) (j k i : ℕ) (p : Presence) (s : Shape) → i ≡ j + k → IsOnlyAlternative ps k p s tag → (v : Tree) (rest : List ℕ) → ReadsChoice rule j (parts_of rule ps depth closing) input v rest
       → (t : Tree) × (v ≡ chosen i t) × ReadsNoDefault p s rule depth closing input t rest
   unfolding parts_of
   alone none j k i p s e o v rest h = absurd o

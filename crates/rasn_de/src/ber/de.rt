@@ -22,6 +22,7 @@ use rasn_types::types::{Codec, Constraints, Tag};
 use std::alloc::Global;
 use std::marker::Model;
 
+pub mod alternatives;
 mod any;
 mod bit_string;
 mod boolean;
@@ -40,6 +41,7 @@ mod object_identifier;
 mod octet_string;
 mod optional;
 mod parser;
+pub mod parts;
 mod prefix;
 mod real;
 mod sequence;

@@ -77,7 +77,7 @@ untagged_alone (part presence x ps) j (suc k) n s t e a (inl (u, f, h)) = let g 
 untagged_alone (part presence x ps) j (suc k) n s t e a (inr h) = untagged_alone ps (suc j) k n s t (omega arith) a h
 
 module _ (ps : Parts) (k : ℕ) (s : Shape) (t : Tree) (a : IsAlternative ps k s) (v w : View) where
-  chosen_encoded : AppendsEncoding s t v w → AppendsEncoding (choice ps) (chosen k t) v w
+  pub chosen_encoded : AppendsEncoding s t v w → AppendsEncoding (choice ps) (chosen k t) v w
   unfolding Bytes IsUntaggedOpen
   chosen_encoded h = record {
     octets = h.octets;
@@ -88,7 +88,7 @@ module _ (ps : Parts) (k : ℕ) (s : Shape) (t : Tree) (a : IsAlternative ps k s
     appended = h.appended;
   }
 
-  chosen_refused : (e : EncodeError) → EncodeFails s t v e → EncodeFails (choice ps) (chosen k t) v e
+  pub chosen_refused : (e : EncodeError) → EncodeFails s t v e → EncodeFails (choice ps) (chosen k t) v e
   unfolding Bytes IsUntaggedOpen
   chosen_refused e h = record {
     why = elim h.why [

@@ -12,6 +12,7 @@ ghost use Rattle.rasn_enc.specs.declared.ber.enc.writer.filled.FillError.TheVari
 ghost use Rattle.rasn_enc.specs.Buffer.Filled.{OnlyAppendsOctets, MayFailToFill, AppendsFilled};
 ghost use Rattle.rasn_enc.specs.Closures.{FailsAtTags};
 
+pub mod alternatives;
 mod any;
 mod bit_string;
 mod boolean;
@@ -28,6 +29,7 @@ mod null;
 mod object_identifier;
 mod octet_string;
 mod optional;
+pub mod parts;
 mod prefix;
 mod real;
 mod segments;

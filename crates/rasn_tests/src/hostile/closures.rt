@@ -4,13 +4,13 @@ ghost use Rattle.rasn_enc.specs.View.{LeavesOthers};
 
 use crate::hostile::{TRUE_ALONE, one_boolean};
 use crate::reading::{assert_answer, assert_reads, decoder_of};
-use crate::types::{ContextTag, Three};
+use crate::types::Three;
 use crate::writing::{assert_output, assert_written, new_encoder};
 use rasn::ber::de::Decoder;
 use rasn::ber::enc::Encoder;
 use rasn::enc::Encode;
 use rasn::error::{DecodeError, EncodeError};
-use rasn::types::{Class, Codec, Constraints, Identifier, Implicit, SetOf, Tag};
+use rasn::types::{Class, Codec, Constraints, ContextTag, Identifier, Implicit, SetOf, Tag};
 use rasn_bench::Pair;
 use std::alloc::{AllocError, Global};
 use std::process::Abort;

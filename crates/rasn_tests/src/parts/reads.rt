@@ -3,11 +3,11 @@
 use crate::reading::{
     assert_answer, assert_facts, assert_reads, assert_reads_default, decoder_of, within,
 };
-use crate::types::{Counted, Zero};
+use crate::types::Counted;
 use rasn_de::ber::de::Decoder;
 use rasn_de::de::{Decode, Error};
 use rasn_types::error::DecodeError;
-use rasn_types::types::{Class, Codec, Constraints, Explicit, Implicit, Tag};
+use rasn_types::types::{Class, Codec, Constraints, ContextTag, Explicit, Implicit, Tag};
 use std::alloc::AllocError;
 
 const ELEVEN_IS_TOO_LARGE: &str =
@@ -242,12 +242,12 @@ fn holds_one_value(rt: HostRuntime) {
 }
 
 fn implicit(decoder: &mut Decoder<'_>) -> Result<u8, DecodeError> {
-    let value = Implicit::<Zero, u8>::decode(decoder)?;
+    let value = Implicit::<ContextTag<0>, u8>::decode(decoder)?;
     Ok(*value)
 }
 
 fn explicit(decoder: &mut Decoder<'_>) -> Result<u8, DecodeError> {
-    let value = Explicit::<Zero, u8>::decode(decoder)?;
+    let value = Explicit::<ContextTag<0>, u8>::decode(decoder)?;
     Ok(*value)
 }
 

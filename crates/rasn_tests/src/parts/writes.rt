@@ -2,12 +2,12 @@
 
 use crate::leaves::writes::{NO_PERCENTAGE, PERCENTAGE};
 use crate::reading::assert_facts;
-use crate::types::{Counted, Zero};
+use crate::types::Counted;
 use crate::writing::{assert_output, assert_refuses, assert_writes, assert_written, new_encoder};
 use rasn_enc::ber::enc::Encoder;
 use rasn_enc::enc::Encode;
 use rasn_types::error::EncodeError;
-use rasn_types::types::{Class, Codec, Constraints, Explicit, Identifier, Implicit, Tag};
+use rasn_types::types::{Class, Codec, Constraints, ContextTag, Explicit, Identifier, Implicit, Tag};
 use std::alloc::AllocError;
 
 /// \[0\]
@@ -136,7 +136,7 @@ fn a_default_may_want_memory(rt: HostRuntime) {
 #[test]
 fn writes_under_named_tags(rt: HostRuntime) {
     let alloc = rt.alloc();
-    assert_writes::<Explicit<Zero, u8>>(
+    assert_writes::<Explicit<ContextTag<0>, u8>>(
         &rt,
         alloc,
         &[
@@ -157,7 +157,7 @@ fn writes_under_named_tags(rt: HostRuntime) {
             ),
         ],
     );
-    assert_writes::<Implicit<Zero, u8>>(
+    assert_writes::<Implicit<ContextTag<0>, u8>>(
         &rt,
         alloc,
         &[
@@ -173,10 +173,10 @@ fn named_tags_keep_presence(rt: HostRuntime) {
     assert_facts(
         &rt,
         &[
-            Explicit::<Zero, u8>::new(5).is_present(),
-            Implicit::<Zero, u8>::new(5).is_present(),
-            !Explicit::<Zero, Option<u8>>::new(None).is_present(),
-            !Implicit::<Zero, Option<u8>>::new(None).is_present(),
+            Explicit::<ContextTag<0>, u8>::new(5).is_present(),
+            Implicit::<ContextTag<0>, u8>::new(5).is_present(),
+            !Explicit::<ContextTag<0>, Option<u8>>::new(None).is_present(),
+            !Implicit::<ContextTag<0>, Option<u8>>::new(None).is_present(),
         ],
     );
 }

@@ -1,11 +1,11 @@
 //! A SET is encoded with its components in the order of their tags (X.690 9.3, 10.3).
 
 use crate::set::order::{assert_always_out_of_order, assert_in_order};
-use crate::types::{ApplicationTag, ContextTag, Three};
+use crate::types::Three;
 use crate::whole::encoded;
 use crate::writing::{assert_output, made};
 use rasn_bench::Set3;
-use rasn_types::types::{Codec, Explicit, Implicit};
+use rasn_types::types::{ApplicationTag, Codec, ContextTag, Explicit, Implicit};
 use std::alloc::{AllocError, Global};
 
 /// \[N\] INTEGER (0..255)

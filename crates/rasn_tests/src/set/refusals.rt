@@ -1,12 +1,12 @@
 //! A SET that is refused leaves neither octets nor a tag (X.690 9.3, 10.3).
 ghost use Rattle.rasn_enc.specs.View.{LeavesOthers};
 
-use crate::types::{ContextTag, Three};
+use crate::types::Three;
 use crate::writing::{assert_output, assert_written, new_encoder};
 use rasn::ber::enc::Encoder;
 use rasn::enc::Encode;
 use rasn::error::EncodeError;
-use rasn::types::{AsnType, Codec, Identifier, Implicit, Tag};
+use rasn::types::{AsnType, Codec, ContextTag, Identifier, Implicit, Tag};
 
 /// \[N\] INTEGER (0..255)
 type At<const N: u32> = Implicit<ContextTag<N>, u8>;

@@ -1,21 +1,13 @@
 //! A SEQUENCE with a DEFAULT component (X.680 25), for tests.
-ghost use Rattle.std.specs.Prelude.{◌≡◌, ◌∷◌, [], pos, IfOk};
-ghost use Rattle.rasn_types.specs.Shapes.{part, default, leaf, integer, number, items};
-ghost use Rattle.rasn_types.specs.Shapes.Parts.{none};
-ghost use Rattle.rasn_types.specs.Tags.{in_universal};
-ghost use Rattle.rasn_types.specs.Trees.{unconstrained, unsigned_range};
-ghost use Rattle.rasn_de.specs.Decodes.{DecodesParts};
-ghost use Rattle.rasn_enc.specs.Sequence.{EncodesParts};
 
+use rasn::parts::{Defaulted, End, PutDefault};
+use rasn_bench::Seven;
 use rasn_de::ber::de::Decoder;
 use rasn_de::de::Decode;
 use rasn_enc::ber::enc::Encoder;
 use rasn_enc::enc::Encode;
 use rasn_types::error::{DecodeError, EncodeError};
-use rasn_types::types::{
-    AsnType, Constraints, Constructed, Field, FieldPresence, Fields, Identifier, Tag,
-};
-use std::alloc::AllocError;
+use rasn_types::types::{AsnType, Constraints, Identifier, Tag};
 
 /// SEQUENCE { number INTEGER (0..255) DEFAULT 7 }
 #[derive(Debug, Drop)]
@@ -45,61 +37,14 @@ impl AsnType for Counted {
     ghost own = { refl };
 }
 
-impl Constructed<1, 0> for Counted {
-    ghost use Rattle.std.specs.Prelude.{refl, false, pos};
-    ghost use Rattle.rasn_types.specs.Shapes.{part, default, leaf, integer, number};
-    ghost use Rattle.rasn_types.specs.Shapes.Parts.{none};
-    ghost use Rattle.rasn_types.specs.Tags.{in_universal};
-    ghost use Rattle.rasn_types.specs.Trees.{unconstrained, unsigned_range};
-
-    const FIELDS: Fields<1> = Fields {
-        fields: [Field {
-            index: 0,
-            tag: Tag::INTEGER,
-            presence: FieldPresence::Default,
-            name: "number",
-        }],
-    };
-
-    const EXTENDED_FIELDS: Option<Fields<0>> = None;
-
-    ghost IS_EXTENSIBLE = { false };
-
-    const IS_EXTENSIBLE: bool = false;
-
-    ghost HAS_REQUIRED_FIELDS = { false };
-
-    const HAS_REQUIRED_FIELDS: bool = false;
-
-    ghost parts = { part (default (number (pos 7))) (leaf (integer (unsigned_range 8)) (in_universal 2) unconstrained) none };
-
-    ghost described = { refl };
-}
-
 impl Decode for Counted {
     fn decode_with_tag_and_constraints(
         decoder: &mut Decoder<'_>,
         tag: Tag,
         _constraints: &Constraints,
     ) -> Result<Counted, DecodeError> {
-        decoder.decode_sequence::<1, 0, Counted, _, _>(
-            tag,
-            Some(
-                || -> Result<Counted, AllocError>
-                    ensures { IfOk result (λ counted. counted.number ≡ 7) }
-                { Ok(Counted { number: 7 }) },
-            ),
-            |decoder|
-                ensures { DecodesParts (part (default (number (pos 7))) (leaf (integer (unsigned_range 8)) (in_universal 2) unconstrained) none) (λ counted. items (number (pos counted.number) ∷ [])) decoder.old result decoder.new }
-            {
-                let number = decoder.decode_default::<u8, _>(
-                    || -> Result<u8, AllocError>
-                        ensures { IfOk result (λ number. number ≡ 7) }
-                    { Ok(7) },
-                )?;
-                Ok(Counted { number })
-            },
-        )
+        let Defaulted::<Seven, _>(number, End) = decoder.read_sequence(tag)?;
+        Ok(Counted { number })
     }
 }
 
@@ -109,15 +54,9 @@ impl Encode for Counted {
         encoder: &mut Encoder,
         tag: Tag,
         _constraints: &Constraints,
-        identifier: Identifier,
+        _identifier: Identifier,
     ) -> Result<(), EncodeError> {
-        encoder.encode_sequence::<1, 0, Counted, _>(
-            tag,
-            |inner: &mut Encoder| -> Result<(), EncodeError>
-                ensures { EncodesParts (part (default (number (pos 7))) (leaf (integer (unsigned_range 8)) (in_universal 2) unconstrained) none) (items (number (pos self.entry.now.number) ∷ [])) inner.old result inner.new }
-            { inner.encode_default(&self.number, || Ok(7), Identifier::EMPTY) },
-            identifier,
-        )
+        encoder.write_sequence(tag, PutDefault::<Seven, _>(&self.number, End))
     }
 
     fn is_present(&self) -> bool {

@@ -1,71 +1,10 @@
-//! Tags of any number (X.690 8.1.2) and SETs of any three components (X.680 27), for tests.
-ghost use Rattle.std.specs.Prelude.{◌∷◌, []};
-ghost use Rattle.rasn_types.specs.Shapes.{part, required, items};
-ghost use Rattle.rasn_types.specs.Shapes.Parts.{none};
-ghost use Rattle.rasn_enc.specs.Sequence.{EncodesParts};
+//! SETs of any three components (X.680 27), for tests.
 
+use rasn::parts::{End, Put};
 use rasn_enc::ber::enc::Encoder;
 use rasn_enc::enc::Encode;
 use rasn_types::error::EncodeError;
-use rasn_types::types::{
-    AsnType, Class, Constraints, Constructed, Field, FieldPresence, Fields, Identifier, Tag,
-};
-
-/// The tag \[N\].
-#[derive(Debug, Drop)]
-pub struct ContextTag<const N: u32>;
-
-impl<const N: u32> AsnType for ContextTag<N> {
-    ghost use Rattle.std.specs.Prelude.{refl};
-    ghost use Rattle.rasn_types.specs.Shapes.{leaf, null, done};
-    ghost use Rattle.rasn_types.specs.declared.types.tag.Class.TheVariants.{Context};
-    ghost use Rattle.rasn_types.specs.Trees.{unconstrained};
-
-    ghost TAG = { record { class = Context; value = N } };
-
-    const TAG: Tag = Tag {
-        class: Class::Context,
-        value: N,
-    };
-
-    ghost CONSTRAINTS = { unconstrained };
-
-    const CONSTRAINTS: Constraints = Constraints::NONE;
-
-    ghost shape = { leaf null (record { class = Context; value = N }) unconstrained };
-
-    ghost tree = { λ _. done };
-
-    ghost own = { refl };
-}
-
-/// The tag \[APPLICATION N\].
-#[derive(Debug, Drop)]
-pub struct ApplicationTag<const N: u32>;
-
-impl<const N: u32> AsnType for ApplicationTag<N> {
-    ghost use Rattle.std.specs.Prelude.{refl};
-    ghost use Rattle.rasn_types.specs.Shapes.{leaf, null, done};
-    ghost use Rattle.rasn_types.specs.declared.types.tag.Class.TheVariants.{Application};
-    ghost use Rattle.rasn_types.specs.Trees.{unconstrained};
-
-    ghost TAG = { record { class = Application; value = N } };
-
-    const TAG: Tag = Tag {
-        class: Class::Application,
-        value: N,
-    };
-
-    ghost CONSTRAINTS = { unconstrained };
-
-    const CONSTRAINTS: Constraints = Constraints::NONE;
-
-    ghost shape = { leaf null (record { class = Application; value = N }) unconstrained };
-
-    ghost tree = { λ _. done };
-
-    ghost own = { refl };
-}
+use rasn_types::types::{AsnType, Constraints, Identifier, Tag};
 
 /// SET { first A, second B, third C }
 #[derive(Debug, Drop)]
@@ -97,67 +36,17 @@ impl<A: AsnType, B: AsnType, C: AsnType> AsnType for Three<A, B, C> {
     ghost own = { refl };
 }
 
-impl<A: AsnType, B: AsnType, C: AsnType> Constructed<3, 0> for Three<A, B, C> {
-    ghost use Rattle.std.specs.Prelude.{refl, true, false};
-    ghost use Rattle.rasn_types.specs.Shapes.{part, required};
-    ghost use Rattle.rasn_types.specs.Shapes.Parts.{none};
-
-    const FIELDS: Fields<3> = Fields {
-        fields: [
-            Field {
-                index: 0,
-                tag: A::TAG,
-                presence: FieldPresence::Required,
-                name: "first",
-            },
-            Field {
-                index: 1,
-                tag: B::TAG,
-                presence: FieldPresence::Required,
-                name: "second",
-            },
-            Field {
-                index: 2,
-                tag: C::TAG,
-                presence: FieldPresence::Required,
-                name: "third",
-            },
-        ],
-    };
-
-    const EXTENDED_FIELDS: Option<Fields<0>> = None;
-
-    ghost IS_EXTENSIBLE = { false };
-
-    const IS_EXTENSIBLE: bool = false;
-
-    ghost HAS_REQUIRED_FIELDS = { true };
-
-    const HAS_REQUIRED_FIELDS: bool = true;
-
-    ghost parts = { part required A.shape (part required B.shape (part required C.shape none)) };
-
-    ghost described = { refl };
-}
-
 impl<A: Encode, B: Encode, C: Encode> Encode for Three<A, B, C> {
     fn encode_with_tag_and_constraints(
         &self,
         encoder: &mut Encoder,
         tag: Tag,
         _constraints: &Constraints,
-        identifier: Identifier,
+        _identifier: Identifier,
     ) -> Result<(), EncodeError> {
-        encoder.encode_set::<3, 0, Three<A, B, C>, _>(
+        encoder.write_set(
             tag,
-            |inner: &mut Encoder| -> Result<(), EncodeError>
-                ensures { EncodesParts (part required A.shape (part required B.shape (part required C.shape none))) (items (A.tree self.entry.now.first ∷ B.tree self.entry.now.second ∷ C.tree self.entry.now.third ∷ [])) inner.old result inner.new }
-            {
-                self.first.encode(inner)?;
-                self.second.encode(inner)?;
-                self.third.encode(inner)
-            },
-            identifier,
+            Put(&self.first, Put(&self.second, Put(&self.third, End))),
         )
     }
 

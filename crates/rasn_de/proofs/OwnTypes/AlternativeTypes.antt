@@ -1,0 +1,141 @@
+-- Alternatives as types: one is read, or one of the others.
+use Rattle.std.proofs.Common.{◌≡◌, ◌+◌, ◌&&◌, not, ℕ, zero, suc, Bool, true, false, List, Option, Some, None, Result, Ok, Err, refl, sym, ap, ◌∙◌, subst, arith, inl, inr}
+use Rattle.rasn_types.specs.declared.types.codec.Codec.{Codec}
+use Rattle.rasn_types.specs.declared.types.tag.Tag.{Tag}
+use Rattle.rasn_types.specs.declared.error.decode.DecodeError.{DecodeError}
+use Rattle.rasn_types.specs.declared.error.decode.DecodeErrorKind.{DecodeErrorKind}
+use Rattle.rasn_types.specs.Tags.{form}
+use Rattle.rasn_types.specs.Framing.{NextTag}
+use Rattle.rasn_types.specs.Shapes.{Tree, chosen, Shape, leaf, any, prefix, choice, option, seq, set, list, set_of, Parts, part, required, own, IsFirst, IsFirstOf}
+use Rattle.rasn_types.specs.Shapes.Parts.{none}
+use Rattle.rasn_types.specs.Readings.{Reading, ReadsChoice}
+use Rattle.rasn_types.specs.Grammar.{Reads, parts_of}
+use Rattle.rasn_types.proofs.Headers.Frames.{next_one}
+use Rattle.rasn_types.proofs.Time.Spellings.{both_true}
+use Rattle.rasn_de.specs.State.{State}
+use Rattle.rasn_de.specs.Outcomes.{Exact, Outcome, Got, refusal, outcome}
+use Rattle.rasn_de.specs.Decodes.{DecodesExactly, Decodes}
+use Rattle.rasn_de.specs.Choice.{IsOnlyAlternative}
+use Rattle.rasn_de.specs.PartTypes.{same_own}
+use Rattle.rasn_de.specs.Headers.{same_tag}
+use Rattle.rasn_de.specs.AlternativeTypes.{ReadsNumbered, DecodesNumbered, is_other, none_begins, is_first_alone}
+use Rattle.rasn_de.proofs.Leaves.Outcomes.{Exact-none, Exact-refusal}
+use Rattle.rasn_de.proofs.Headers.Ends.{IsEnd-refl}
+use Rattle.rasn_de.proofs.Headers.Frames.{same_tag_self}
+use Rattle.rasn_de.proofs.Constructed.Reads.{Exact-same}
+use Rattle.rasn_de.proofs.OwnTypes.PartTypes.{same_own_is}
+use Rattle.rasn_de.proofs.OwnTypes.Alternatives.{read_at, alone}
+
+-- A shape with a tag of its own begins with it alone.
+first_own : (s : Shape) (t n : Tag) → own s ≡ Some t → IsFirst s n → n ≡ t
+first_own (leaf kind tag bounds) t n e h = h ∙ cc
+first_own (any None) t n e h = cc
+first_own (any (Some tag)) t n e h = h ∙ cc
+first_own (prefix tag s) t n e h = h ∙ cc
+first_own (choice parts) t n e h = cc
+first_own (option tag s) t n e h = first_own s t n e h
+first_own (seq tag parts) t n e h = h ∙ cc
+first_own (set tag parts) t n e h = h ∙ cc
+first_own (list tag s size) t n e h = h ∙ cc
+first_own (set_of tag s size) t n e h = h ∙ cc
+
+own_first : (s : Shape) (t : Tag) → own s ≡ Some t → IsFirst s t
+own_first (leaf kind tag bounds) t e = cc
+own_first (any None) t e = cc
+own_first (any (Some tag)) t e = cc
+own_first (prefix tag s) t e = cc
+own_first (choice parts) t e = cc
+own_first (option tag s) t e = own_first s t e
+own_first (seq tag parts) t e = cc
+own_first (set tag parts) t e = cc
+own_first (list tag s size) t e = cc
+own_first (set_of tag s size) t e = cc
+
+other_not : (o : Option Tag) (s : Shape) (t : Tag) → own s ≡ o → is_other o t ≡ true → IsFirst s t → ⊥
+other_not None s t e h f = cc
+other_not (Some u) s t e h f = let k = same_tag_self u t (sym (first_own s u t e f)) in cc
+
+not_others : (ps : Parts) (t : Tag) → none_begins ps t ≡ true → IsFirstOf ps t → ⊥
+not_others none t e f = f
+not_others (part p s ps) t e (inl f) = other_not (own s) s t refl (both_true (is_other (own s) t) (none_begins ps t) e).0 f
+not_others (part p s ps) t e (inr f) = not_others ps t (both_true (is_other (own s) t) (none_begins ps t) e).1 f
+
+module _ (s : Shape) (t : Tag) (ps : Parts) (b : Bool) (e : is_first_alone s t ps && b ≡ true) where
+  first_both : is_first_alone s t ps ≡ true
+  first_both = (both_true (is_first_alone s t ps) b e).0
+
+  pub first_has : own s ≡ Some t
+  first_has = same_own_is (own s) (Some t) (both_true (same_own (own s) (Some t)) (none_begins ps t) first_both).0
+
+  pub others_have_not : IsFirstOf ps t → ⊥
+  others_have_not = not_others ps t (both_true (same_own (own s) (Some t)) (none_begins ps t) first_both).1
+
+  pub others_differ : b ≡ true
+  others_differ = (both_true (is_first_alone s t ps) b e).1
+
+module _ (s : Shape) (ps : Parts) (tag t : Tag) (h : tag ≡ t) (e : own s ≡ Some t) (others : IsFirstOf ps t → ⊥) where
+  only_first : IsOnlyAlternative (part required s ps) 0 required s tag
+  only_first = (refl, refl, own_first s tag (e ∙ ap (λ x. Some x) (sym h)), λ f. others (subst (IsFirstOf ps) h f))
+
+  -- The first alternative is read.
+  pub first_got : (old new : State) → NextTag (form old.rule) old.rest tag → (u : Tree) → DecodesExactly (λ rule. Reads rule s) old (Got u new.rest) new → (k : ℕ)
+      → DecodesExactly (ReadsNumbered k (part required s ps)) old (Got (chosen (k + 0) u) new.rest) new
+  first_got old new n u a k = record {
+    stays = a.stays;
+    end = a.end;
+    exact = (
+      read_at old.rule old.depth old.closing old.rest tag n (part required s ps) k 0 (k + 0) required s refl only_first u new.rest (a.exact.0, λ z. tt),
+      λ v r w. let q = alone old.rule old.depth old.closing old.rest tag n (part required s ps) k 0 (k + 0) required s refl only_first v r w in
+          let f = a.exact.1 q.0 r q.2.0 in (q.1 ∙ ap (λ u. chosen (k + 0) u) f.0, f.1),
+    );
+  }
+
+  -- It is refused.
+  pub first_refused : (old new : State) → NextTag (form old.rule) old.rest tag → (kind : DecodeErrorKind) → DecodesExactly (λ rule. Reads rule s) old (refusal kind) new → (k : ℕ)
+      → DecodesExactly (ReadsNumbered k (part required s ps)) old (refusal kind) new
+  first_refused old new n kind a k = record {
+    stays = a.stays;
+    end = a.end;
+    exact = Exact-refusal kind (Reads old.rule s old.depth old.closing) (ReadsNumbered k (part required s ps) old.rule old.depth old.closing) old.rest old.rest
+        (λ nothing v r w. let q = alone old.rule old.depth old.closing old.rest tag n (part required s ps) k 0 (k + 0) required s refl only_first v r w in nothing q.0 r q.2.0) a.exact;
+  }
+
+-- The tag is another one, and the other alternatives are read.
+module _ (s : Shape) (ps : Parts) (tag t : Tag) (not_this : tag ≡ t → ⊥) (e : own s ≡ Some t) (old new : State) (n : NextTag (form old.rule) old.rest tag) where
+  pub others_read : (k : ℕ) (o : Outcome) → DecodesExactly (ReadsNumbered (suc k) ps) old o new → DecodesExactly (ReadsNumbered k (part required s ps)) old o new
+  unfolding parts_of
+  others_read k o a = record {
+    stays = a.stays;
+    end = a.end;
+    exact = Exact-same (ReadsNumbered (suc k) ps old.rule old.depth old.closing) (ReadsNumbered k (part required s ps) old.rule old.depth old.closing) old.rest o there back a.exact;
+  }
+    where
+      there : (v : Tree) (r : List ℕ) → ReadsNumbered (suc k) ps old.rule old.depth old.closing old.rest v r → ReadsNumbered k (part required s ps) old.rule old.depth old.closing old.rest v r
+      there v r w = inr w
+
+      back : (v : Tree) (r : List ℕ) → ReadsNumbered k (part required s ps) old.rule old.depth old.closing old.rest v r → ReadsNumbered (suc k) ps old.rule old.depth old.closing old.rest v r
+      back v r (inl (u, f, next, m, g, x)) = absurd (not_this (first_own s t tag e (subst (λ z. IsFirst s z) (next_one old.rest next tag m n) g)))
+      back v r (inr w) = w
+
+  pub others_got : (k i : ℕ) (u : Tree) → DecodesExactly (ReadsNumbered (suc k) ps) old (Got (chosen (suc k + i) u) new.rest) new → DecodesExactly (ReadsNumbered k (part required s ps)) old (Got (chosen (k + suc i) u) new.rest) new
+  others_got k i u a =
+      let f : suc k + i ≡ k + suc i = omega arith in
+      others_read k (Got (chosen (k + suc i) u) new.rest) (subst (λ m. DecodesExactly (ReadsNumbered (suc k) ps) old (Got (chosen m u) new.rest) new) f a)
+
+-- There is no alternative.
+pub none_read : (k : ℕ) (kind : DecodeErrorKind) {old : State} → DecodesExactly (ReadsNumbered k none) old (refusal kind) old
+unfolding parts_of
+none_read k kind {old} = record { stays = refl; end = IsEnd-refl old.rest; exact = Exact-none kind (ReadsNumbered k none old.rule old.depth old.closing) old.rest (λ t r h. h) }
+
+-- The alternatives of a CHOICE are counted from 0.
+choice_read : (ps : Parts) {old new : State} {o : Outcome} → DecodesExactly (ReadsNumbered 0 ps) old o new → DecodesExactly (λ rule. Reads rule (choice ps)) old o new
+unfolding Reads
+choice_read ps {old} {new} {o} a = record { stays = a.stays; end = a.end; exact = a.exact }
+
+counted : {T : Type 0} (number : T → ℕ) (inner : T → Tree) (r : Result T DecodeError) (l : List ℕ) → outcome (λ v. chosen (0 + number v) (inner v)) r l ≡ outcome (λ v. chosen (number v) (inner v)) r l
+counted number inner (Ok v) l = let f : 0 + number v ≡ number v = omega arith in ap (λ m. Got (chosen m (inner v)) l) f
+counted number inner (Err e) l = refl
+
+pub numbered_decodes : {T : Type 0} (ps : Parts) (number : T → ℕ) (inner : T → Tree) (old : State) (r : Result T DecodeError) (new : State) → DecodesNumbered ps number inner old r new
+    → Decodes (choice ps) (λ v. chosen (number v) (inner v)) old r new
+numbered_decodes ps number inner old r new a = choice_read ps (subst (λ o. DecodesExactly (ReadsNumbered 0 ps) old o new) (counted number inner r new.rest) (a.from 0))

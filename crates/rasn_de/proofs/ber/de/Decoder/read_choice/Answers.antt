@@ -1,0 +1,15 @@
+use Rattle.std.proofs.Common.{Err, inl, refl}
+use Rattle.rasn_types.specs.Shapes.{choice, chosen}
+use Rattle.rasn_de.proofs.Leaves.Returns.{residual}
+use Rattle.rasn_de.proofs.Constructed.Choice.{choice_decodes}
+use Rattle.rasn_de.proofs.OwnTypes.AlternativeTypes.{numbered_decodes}
+use Rattle.rasn_de.proofs.ber.de.Decoder.read_choice.Goals as goal
+
+pub returns-in_err-tag : goal.returns-in_err-tag
+returns-in_err-tag g c =
+    let ps = g.P.DecodeAlternatives.parts in
+    rw (residual _ c.from_residual.ensures.1) (choice_decodes (choice ps) ps refl (λ v. chosen (g.P.DecodeAlternatives.number v) (g.P.DecodeAlternatives.inner v)) c.args.self.now (Err c.in_err-tag.field-0.0) c.args.self.now
+    (inl (c.in_err-tag.ensures.exact, refl)))
+
+pub returns : goal.returns
+returns g c = numbered_decodes _ _ _ _ _ _ c.decode_alternative.ensures

@@ -1,0 +1,34 @@
+-- Alternatives as types: one, or one of the others.
+use Rattle.std.specs.Prelude.{ℕ, ◌+◌, Bool, true, false, not, ◌&&◌, Option, Some, None, Result}
+use Rattle.rasn_types.specs.declared.types.codec.Codec.{Codec}
+use Rattle.rasn_types.specs.declared.types.tag.Tag.{Tag}
+use Rattle.rasn_types.specs.declared.error.decode.DecodeError.{DecodeError}
+use Rattle.rasn_types.specs.Shapes.{Shape, Tree, chosen, Parts, part, own}
+use Rattle.rasn_types.specs.Shapes.Parts.{none}
+use Rattle.rasn_types.specs.Readings.{Reading, ReadsChoice}
+use Rattle.rasn_types.specs.Grammar.{parts_of}
+use Rattle.rasn_de.specs.State.{State}
+use Rattle.rasn_de.specs.Headers.{same_tag}
+use Rattle.rasn_de.specs.PartTypes.{same_own}
+use Rattle.rasn_de.specs.Decodes.{DecodesBy}
+
+-- One of these alternatives is read, the first of which has the number k.
+abbrev pub ReadsNumbered : ℕ → Parts → Codec → ℕ → Bool → Reading Tree
+ReadsNumbered k ps rule depth closing = ReadsChoice rule k (parts_of rule ps depth closing)
+
+-- Whatever number the first alternative has, the value that stands here by its own is read.
+pub record DecodesNumbered {T : Type 0} (ps : Parts) (number : T → ℕ) (inner : T → Tree) (old : State) (result : Result T DecodeError) (new : State) : Type 0 where
+  pub from : (k : ℕ) → DecodesBy (ReadsNumbered k ps) (λ v. chosen (k + number v) (inner v)) old result new
+
+abbrev pub is_other : Option Tag → Tag → Bool
+is_other None t = false
+is_other (Some u) t = not (same_tag u t)
+
+-- Whether each of these has a tag of its own, and another one than t.
+abbrev pub none_begins : Parts → Tag → Bool
+none_begins none t = true
+none_begins (part p s ps) t = is_other (own s) t && none_begins ps t
+
+-- Whether the shape has this tag of its own, and none of the others has it.
+abbrev pub is_first_alone : Shape → Tag → Parts → Bool
+is_first_alone s tag ps = same_own (own s) (Some tag) && none_begins ps tag

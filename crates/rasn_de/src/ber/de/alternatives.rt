@@ -1,0 +1,109 @@
+//! A CHOICE whose alternatives are a type (X.690 8.13): the first, or one of the others.
+ghost use Rattle.std.specs.Prelude.{◌≡◌, true};
+ghost use Rattle.rasn_types.specs.Framing.{NextTag};
+ghost use Rattle.rasn_types.specs.Tags.{form};
+ghost use Rattle.rasn_types.specs.Shapes.{choice, chosen};
+ghost use Rattle.rasn_de.specs.Decodes.{Decodes};
+ghost use Rattle.rasn_de.specs.AlternativeTypes.{DecodesNumbered};
+
+use crate::ber::de::Decoder;
+use crate::de::{Decode, Error};
+use rasn_types::error::DecodeError;
+use rasn_types::types::{Never, OneOf, Tag};
+
+/// Alternatives, each of which has a tag of its own: [`OneOf`] for each, with those behind it, and [`Never`] behind the last.
+pub trait DecodeAlternatives: Drop {
+    ghost use Rattle.std.specs.Prelude.{Bool, ℕ};
+    ghost use Rattle.rasn_types.specs.Shapes.{Parts, Tree};
+
+    ghost parts: { Parts };
+
+    ghost number: { Self → ℕ };
+
+    ghost inner: { Self → Tree };
+
+    /// Whether each alternative has a tag of its own, which no other has.
+    ghost tags_differ: { Bool };
+
+    /// Reads the alternative of this tag, which is the next one.
+    ///
+    /// # Errors
+    /// What the alternative refuses; `NoValidChoice` of this name where the tag is no alternative's.
+    fn decode_alternative(
+        decoder: &mut Decoder<'_>,
+        tag: Tag,
+        name: &str,
+    ) -> Result<Self, DecodeError>
+        requires next { NextTag (form decoder.old.rule) decoder.old.rest tag }
+        requires differ { tags_differ ≡ true }
+        ensures { DecodesNumbered parts number inner decoder.old result decoder.new };
+}
+
+impl DecodeAlternatives for Never {
+    ghost use Rattle.std.specs.Prelude.{true};
+    ghost use Rattle.rasn_types.specs.Shapes.{done};
+    ghost use Rattle.rasn_types.specs.Shapes.Parts.{none};
+
+    ghost parts = { none };
+
+    ghost number = { λ v. 0 };
+
+    ghost inner = { λ v. done };
+
+    ghost tags_differ = { true };
+
+    fn decode_alternative(
+        decoder: &mut Decoder<'_>,
+        _tag: Tag,
+        name: &str,
+    ) -> Result<Never, DecodeError> {
+        Err(DecodeError::no_valid_choice(
+            decoder.alloc(),
+            name,
+            decoder.codec(),
+        ))
+    }
+}
+
+impl<A: Decode, R: DecodeAlternatives> DecodeAlternatives for OneOf<A, R> {
+    ghost use Rattle.std.specs.Prelude.{◌&&◌};
+    ghost use Rattle.rasn_types.specs.Shapes.{part, required};
+    ghost use Rattle.rasn_types.specs.OwnTypes.{one_of_number, one_of_tree};
+    ghost use Rattle.rasn_de.specs.AlternativeTypes.{is_first_alone};
+
+    ghost parts = { part required A.shape R.parts };
+
+    ghost number = { one_of_number R.number };
+
+    ghost inner = { one_of_tree A.tree R.inner };
+
+    ghost tags_differ = { is_first_alone A.shape A.TAG R.parts && R.tags_differ };
+
+    fn decode_alternative(
+        decoder: &mut Decoder<'_>,
+        tag: Tag,
+        name: &str,
+    ) -> Result<OneOf<A, R>, DecodeError> {
+        if tag == A::TAG {
+            let value = A::decode(decoder)?;
+            return Ok(OneOf::This(value));
+        }
+        let other = R::decode_alternative(decoder, tag, name)?;
+        Ok(OneOf::Other(other))
+    }
+}
+
+impl<'input> Decoder<'input> {
+    /// The alternative of a CHOICE that the next tag belongs to (X.690 8.13). `name` is the type's, and stands in the refusal of
+    /// another tag.
+    ///
+    /// # Errors
+    /// Faults of the next identifier, which take nothing; what the alternative refuses; `NoValidChoice`, which takes nothing.
+    pub fn read_choice<P: DecodeAlternatives>(&mut self, name: &str) -> Result<P, DecodeError>
+        requires { P.tags_differ ≡ true }
+        ensures { Decodes (choice P.parts) (λ v. chosen (P.number v) (P.inner v)) self.old result self.new }
+    {
+        let tag = self.peek_tag()?;
+        P::decode_alternative(self, tag, name)
+    }
+}

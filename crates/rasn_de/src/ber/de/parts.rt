@@ -1,0 +1,165 @@
+//! A SEQUENCE whose parts are a type (X.690 8.9): nested to the right, each with its presence (X.680 25).
+ghost use Rattle.std.specs.Prelude.{◌≡◌, true, IfOk};
+ghost use Rattle.rasn_types.specs.Shapes.{seq};
+ghost use Rattle.rasn_de.specs.Decodes.{Decodes, DecodesParts};
+ghost use Rattle.rasn_de.specs.PartTypes.{needs_no_initializer};
+
+use crate::ber::de::Decoder;
+use crate::ber::de::constructed::ConstructedHeader;
+use crate::de::Decode;
+use rasn_types::error::DecodeError;
+use rasn_types::types::{DefaultValue, End, Tag};
+use std::alloc::AllocError;
+
+/// Parts that are read in their order: [`Required`], [`Optional`], [`Defaulted`] and [`Addition`], each with what follows it, and
+/// [`End`] behind the last.
+pub trait DecodeParts: Drop {
+    ghost use Rattle.std.specs.Prelude.{Bool};
+    ghost use Rattle.rasn_types.specs.Shapes.{Parts, Tree};
+
+    ghost parts: { Parts };
+
+    ghost tree: { Self → Tree };
+
+    /// Whether each part that may be left out is looked for by the tag that it has.
+    ghost tags_agree: { Bool };
+
+    /// Reads the parts.
+    ///
+    /// # Errors
+    /// What a part refuses.
+    fn decode_parts(decoder: &mut Decoder<'_>) -> Result<Self, DecodeError>
+        requires { tags_agree ≡ true }
+        ensures { DecodesParts parts tree decoder.old result decoder.new };
+}
+
+/// A part that has to come, and those behind it.
+#[derive(Debug, Drop)]
+pub struct Required<A, R>(pub A, pub R);
+
+/// A part that may be left out (X.680 25.5), and those behind it.
+#[derive(Debug, Drop)]
+pub struct Optional<A, R>(pub Option<A>, pub R);
+
+/// A part that has a default where it is left out (X.680 25.8), and those behind it.
+#[derive(Drop)]
+pub struct Defaulted<V: DefaultValue, R>(pub V::Value, pub R);
+
+/// An extension addition under an explicit tag, which always comes (X.680 25.4), and the parts behind it. The value is never `None`.
+#[derive(Debug, Drop)]
+pub struct Addition<A, R>(pub Option<A>, pub R);
+
+impl DecodeParts for End {
+    ghost use Rattle.std.specs.Prelude.{true};
+    ghost use Rattle.rasn_types.specs.Shapes.{done};
+    ghost use Rattle.rasn_types.specs.Shapes.Parts.{none};
+
+    ghost parts = { none };
+
+    ghost tree = { λ e. done };
+
+    ghost tags_agree = { true };
+
+    fn decode_parts(_decoder: &mut Decoder<'_>) -> Result<End, DecodeError> {
+        Ok(End)
+    }
+}
+
+impl<A: Decode, R: DecodeParts> DecodeParts for Required<A, R> {
+    ghost use Rattle.rasn_types.specs.Shapes.{part, required, joined};
+
+    ghost parts = { part required A.shape R.parts };
+
+    ghost tree = { λ p. joined (A.tree p.0) (R.tree p.1) };
+
+    ghost tags_agree = { R.tags_agree };
+
+    fn decode_parts(decoder: &mut Decoder<'_>) -> Result<Required<A, R>, DecodeError> {
+        let value = A::decode(decoder)?;
+        let rest = R::decode_parts(decoder)?;
+        Ok(Required(value, rest))
+    }
+}
+
+impl<A: Decode, R: DecodeParts> DecodeParts for Optional<A, R> {
+    ghost use Rattle.std.specs.Prelude.{◌&&◌};
+    ghost use Rattle.rasn_types.specs.Shapes.{part, optional, joined};
+    ghost use Rattle.rasn_types.specs.Trees.{option_tree};
+    ghost use Rattle.rasn_de.specs.PartTypes.{is_looked_for};
+
+    ghost parts = { part optional A.shape R.parts };
+
+    ghost tree = { λ p. joined (option_tree A.tree p.0) (R.tree p.1) };
+
+    ghost tags_agree = { is_looked_for A.shape A.TAG && R.tags_agree };
+
+    fn decode_parts(decoder: &mut Decoder<'_>) -> Result<Optional<A, R>, DecodeError> {
+        let value = decoder.decode_optional::<A>()?;
+        let rest = R::decode_parts(decoder)?;
+        Ok(Optional(value, rest))
+    }
+}
+
+impl<V: DefaultValue, R: DecodeParts> DecodeParts for Defaulted<V, R>
+where
+    V::Value: Decode,
+{
+    ghost use Rattle.std.specs.Prelude.{◌&&◌};
+    ghost use Rattle.rasn_types.specs.Shapes.{part, default, joined};
+    ghost use Rattle.rasn_de.specs.PartTypes.{is_looked_for};
+
+    ghost parts = { part (default V.default_tree) V.Value.shape R.parts };
+
+    ghost tree = { λ p. joined (V.Value.tree p.0) (R.tree p.1) };
+
+    ghost tags_agree = { is_looked_for V.Value.shape V.Value.TAG && R.tags_agree };
+
+    fn decode_parts(decoder: &mut Decoder<'_>) -> Result<Defaulted<V, R>, DecodeError> {
+        let value = decoder.decode_default::<V::Value, _>(
+            || -> Result<V::Value, AllocError>
+                ensures { IfOk result (λ v. V.Value.tree v ≡ V.default_tree) }
+            { V::default_value() },
+        )?;
+        let rest = R::decode_parts(decoder)?;
+        Ok(Defaulted(value, rest))
+    }
+}
+
+impl<A: Decode, R: DecodeParts> DecodeParts for Addition<A, R> {
+    ghost use Rattle.rasn_types.specs.Shapes.{part, addition, joined};
+    ghost use Rattle.rasn_types.specs.Trees.{option_tree};
+
+    ghost parts = { part addition A.shape R.parts };
+
+    ghost tree = { λ p. joined (option_tree A.tree p.0) (R.tree p.1) };
+
+    ghost tags_agree = { R.tags_agree };
+
+    fn decode_parts(decoder: &mut Decoder<'_>) -> Result<Addition<A, R>, DecodeError> {
+        let value = A::decode(decoder)?;
+        let rest = R::decode_parts(decoder)?;
+        Ok(Addition(Some(value), rest))
+    }
+}
+
+impl<'input> Decoder<'input> {
+    /// The parts of a SEQUENCE (X.690 8.9). Empty contents leave all parts out that may be left out.
+    ///
+    /// # Errors
+    /// `ExceedsMaxParseDepth` before the header; framing faults; with the value taken, `InvalidConstructedIdentifier`; what a part
+    /// refuses and `UnexpectedExtraData`, which take header and contents, or of an indefinite length the header; end-of-contents
+    /// octets that are missing (`Incomplete`, `MissingEndOfContents`), which take what was read inside too.
+    pub fn read_sequence<P: DecodeParts>(&mut self, tag: Tag) -> Result<P, DecodeError>
+        requires tags_agree { P.tags_agree ≡ true }
+        requires no_initializer { needs_no_initializer P.parts ≡ true }
+        ensures { Decodes (seq tag P.parts) P.tree self.old result self.new }
+    {
+        self.inside(
+            ConstructedHeader::sequence(tag),
+            |inner| -> Result<P, DecodeError>
+                requires { P.tags_agree ≡ true }
+                ensures { DecodesParts P.parts P.tree inner.old result inner.new }
+            { P::decode_parts(inner) },
+        )
+    }
+}

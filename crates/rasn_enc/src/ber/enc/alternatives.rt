@@ -1,0 +1,93 @@
+//! Writing a CHOICE whose alternatives are a type (X.690 8.13): the first, or one of the others.
+ghost use Rattle.std.specs.Prelude.{◌≡◌, IfErr, OnOk, OnErr};
+ghost use Rattle.rasn_types.specs.Shapes.{choice, chosen};
+ghost use Rattle.rasn_enc.specs.Encoding.{AppendsEncoding, EncodeFails};
+
+use crate::ber::enc::Encoder;
+use crate::enc::Encode;
+use rasn_types::error::EncodeError;
+use rasn_types::types::{Never, OneOf};
+
+/// An alternative among others: [`OneOf`] for each, over a reference and those behind it, and [`Never`] behind the last.
+pub trait EncodeAlternative: Drop {
+    ghost use Rattle.std.specs.Prelude.{ℕ};
+    ghost use Rattle.rasn_types.specs.Shapes.{Parts, Shape, Tree};
+    ghost use Rattle.rasn_enc.specs.Choice.{IsAlternative};
+
+    ghost parts: { Parts };
+
+    ghost number: { Self → ℕ };
+
+    ghost shape: { Self → Shape };
+
+    ghost inner: { Self → Tree };
+
+    /// Writes the alternative.
+    ///
+    /// # Errors
+    /// What it refuses. Nothing is written then.
+    fn encode_alternative(self, encoder: &mut Encoder) -> Result<(), EncodeError>
+        ensures ok { OnOk result (AppendsEncoding (shape self) (inner self) encoder.old encoder.new) }
+        ensures err { OnErr result (encoder.new ≡ encoder.old) }
+        ensures refused { IfErr result (EncodeFails (shape self) (inner self) encoder.old) };
+
+    /// The number is the one that the alternative has among the parts.
+    ghost stands: { (v : Self) → IsAlternative parts (number v) (shape v) };
+}
+
+impl EncodeAlternative for Never {
+    ghost use Rattle.std.specs.Prelude.{None};
+    ghost use Rattle.rasn_types.specs.Shapes.{done, any};
+    ghost use Rattle.rasn_types.specs.Shapes.Parts.{none};
+
+    ghost parts = { none };
+
+    ghost number = { λ v. 0 };
+
+    ghost shape = { λ v. any None };
+
+    ghost inner = { λ v. done };
+
+    fn encode_alternative(self, _encoder: &mut Encoder) -> Result<(), EncodeError> {
+        match self {}
+    }
+
+    ghost stands = { λ v. elim v [ ] };
+}
+
+impl<'a, A: Encode, R: EncodeAlternative> EncodeAlternative for OneOf<&'a A, R> {
+    ghost use Rattle.rasn_types.specs.Shapes.{part, required};
+    ghost use Rattle.rasn_types.specs.OwnTypes.{one_of_number, one_of_tree};
+    ghost use Rattle.rasn_enc.specs.AlternativeTypes.{one_of_shape, one_of_stands};
+
+    ghost parts = { part required A.shape R.parts };
+
+    ghost number = { one_of_number R.number };
+
+    ghost shape = { one_of_shape A.shape R.shape };
+
+    ghost inner = { one_of_tree (λ a. A.tree a.now) R.inner };
+
+    fn encode_alternative(self, encoder: &mut Encoder) -> Result<(), EncodeError> {
+        match self {
+            OneOf::This(value) => value.encode(encoder),
+            OneOf::Other(other) => other.encode_alternative(encoder),
+        }
+    }
+
+    ghost stands = { one_of_stands A.shape R.parts R.number R.shape R.stands };
+}
+
+impl Encoder {
+    /// Writes the alternative of a CHOICE that is chosen (X.690 8.13).
+    ///
+    /// # Errors
+    /// What it refuses. Nothing is written then.
+    pub fn write_choice<P: EncodeAlternative>(&mut self, value: P) -> Result<(), EncodeError>
+        ensures ok { OnOk result (AppendsEncoding (choice P.parts) (chosen (P.number value) (P.inner value)) self.old self.new) }
+        ensures err { OnErr result (self.new ≡ self.old) }
+        ensures refused { IfErr result (EncodeFails (choice P.parts) (chosen (P.number value) (P.inner value)) self.old) }
+    {
+        value.encode_alternative(self)
+    }
+}

@@ -1,0 +1,163 @@
+//! Writing a SEQUENCE or a SET whose parts are a type (X.690 8.9, 8.11): nested to the right, each with its presence (X.680 25).
+ghost use Rattle.std.specs.Prelude.{◌≡◌, IfOk, IfErr, OnOk, OnErr};
+ghost use Rattle.rasn_types.specs.Shapes.{seq, set};
+ghost use Rattle.rasn_enc.specs.Encoding.{AppendsEncoding, EncodeFails};
+ghost use Rattle.rasn_enc.specs.Sequence.{EncodesParts};
+
+use crate::ber::enc::Encoder;
+use crate::enc::Encode;
+use rasn_types::error::EncodeError;
+use rasn_types::types::{DefaultValue, End, Identifier, Tag};
+use std::alloc::AllocError;
+
+/// Parts that are written in their order: [`Put`], [`PutOptional`], [`PutDefault`] and [`PutAddition`], each with what follows it,
+/// and [`End`] behind the last.
+pub trait EncodeParts: Drop {
+    ghost use Rattle.rasn_types.specs.Shapes.{Parts, Tree};
+
+    ghost parts: { Parts };
+
+    ghost tree: { Self → Tree };
+
+    /// Writes the parts.
+    ///
+    /// # Errors
+    /// What a part refuses.
+    fn encode_parts(self, encoder: &mut Encoder) -> Result<(), EncodeError>
+        ensures { EncodesParts parts (tree self) encoder.old result encoder.new };
+}
+
+/// A part that has to come, and those behind it.
+#[derive(Drop)]
+pub struct Put<'a, A, R>(pub &'a A, pub R);
+
+/// A part that may be left out (X.680 25.5), and those behind it.
+#[derive(Drop)]
+pub struct PutOptional<'a, A, R>(pub &'a Option<A>, pub R);
+
+/// A part that is left out where it equals its default (X.690 11.5), and those behind it.
+#[derive(Drop)]
+pub struct PutDefault<'a, V: DefaultValue, R>(pub &'a V::Value, pub R);
+
+/// An extension addition under an explicit tag (X.680 25.4), which is left out where there is no value, and the parts behind it.
+#[derive(Drop)]
+pub struct PutAddition<'a, A, R>(pub &'a Option<A>, pub R);
+
+impl EncodeParts for End {
+    ghost use Rattle.rasn_types.specs.Shapes.{done};
+    ghost use Rattle.rasn_types.specs.Shapes.Parts.{none};
+
+    ghost parts = { none };
+
+    ghost tree = { λ e. done };
+
+    fn encode_parts(self, _encoder: &mut Encoder) -> Result<(), EncodeError> {
+        Ok(())
+    }
+}
+
+impl<'a, A: Encode, R: EncodeParts> EncodeParts for Put<'a, A, R> {
+    ghost use Rattle.rasn_types.specs.Shapes.{part, required, joined};
+
+    ghost parts = { part required A.shape R.parts };
+
+    ghost tree = { λ p. joined (A.tree p.0.now) (R.tree p.1) };
+
+    fn encode_parts(self, encoder: &mut Encoder) -> Result<(), EncodeError> {
+        let Put(value, rest) = self;
+        value.encode(encoder)?;
+        rest.encode_parts(encoder)
+    }
+}
+
+impl<'a, A: Encode, R: EncodeParts> EncodeParts for PutOptional<'a, A, R> {
+    ghost use Rattle.rasn_types.specs.Shapes.{part, optional, joined};
+    ghost use Rattle.rasn_types.specs.Trees.{option_tree};
+
+    ghost parts = { part optional A.shape R.parts };
+
+    ghost tree = { λ p. joined (option_tree A.tree p.0.now) (R.tree p.1) };
+
+    fn encode_parts(self, encoder: &mut Encoder) -> Result<(), EncodeError> {
+        let PutOptional(value, rest) = self;
+        value.encode(encoder)?;
+        rest.encode_parts(encoder)
+    }
+}
+
+impl<'a, V: DefaultValue, R: EncodeParts> EncodeParts for PutDefault<'a, V, R>
+where
+    V::Value: Encode,
+{
+    ghost use Rattle.rasn_types.specs.Shapes.{part, default, joined};
+
+    ghost parts = { part (default V.default_tree) V.Value.shape R.parts };
+
+    ghost tree = { λ p. joined (V.Value.tree p.0.now) (R.tree p.1) };
+
+    fn encode_parts(self, encoder: &mut Encoder) -> Result<(), EncodeError> {
+        let PutDefault(value, rest) = self;
+        encoder.encode_default(
+            value,
+            || -> Result<V::Value, AllocError>
+                ensures { IfOk result (λ v. V.Value.tree v ≡ V.default_tree) }
+            { V::default_value() },
+            Identifier::EMPTY,
+        )?;
+        rest.encode_parts(encoder)
+    }
+}
+
+impl<'a, A: Encode, R: EncodeParts> EncodeParts for PutAddition<'a, A, R> {
+    ghost use Rattle.rasn_types.specs.Shapes.{part, addition, joined};
+    ghost use Rattle.rasn_types.specs.Trees.{option_tree};
+
+    ghost parts = { part addition A.shape R.parts };
+
+    ghost tree = { λ p. joined (option_tree A.tree p.0.now) (R.tree p.1) };
+
+    fn encode_parts(self, encoder: &mut Encoder) -> Result<(), EncodeError> {
+        let PutAddition(value, rest) = self;
+        value.encode(encoder)?;
+        rest.encode_parts(encoder)
+    }
+}
+
+impl Encoder {
+    /// Writes a SEQUENCE (X.690 8.9) of these parts.
+    ///
+    /// # Errors
+    /// What a part refuses, else `OutOfMemory` alone. Nothing is written then.
+    pub fn write_sequence<P: EncodeParts>(&mut self, tag: Tag, parts: P) -> Result<(), EncodeError>
+        ensures ok { OnOk result (AppendsEncoding (seq tag P.parts) (P.tree parts) self.old self.new) }
+        ensures err { OnErr result (self.new ≡ self.old) }
+        ensures refused { IfErr result (EncodeFails (seq tag P.parts) (P.tree parts) self.old) }
+    {
+        self.enclose(
+            tag,
+            false,
+            |inner: &mut Encoder| -> Result<(), EncodeError>
+                ensures { EncodesParts P.parts (P.tree parts) inner.old result inner.new }
+            { parts.encode_parts(inner) },
+        )
+    }
+
+    /// Writes a SET (X.690 8.11) of these parts. Under any rules they stand in the order given, and their outermost tags must not fall
+    /// (X.690 9.3, 10.3; X.680 8.6).
+    ///
+    /// # Errors
+    /// What a part refuses; `SetOutOfOrder` where some tag is below the one before it; else `OutOfMemory` alone. Nothing is written
+    /// then.
+    pub fn write_set<P: EncodeParts>(&mut self, tag: Tag, parts: P) -> Result<(), EncodeError>
+        ensures ok { OnOk result (AppendsEncoding (set tag P.parts) (P.tree parts) self.old self.new) }
+        ensures err { OnErr result (self.new ≡ self.old) }
+        ensures refused { IfErr result (EncodeFails (set tag P.parts) (P.tree parts) self.old) }
+    {
+        self.enclose_in_order(
+            tag,
+            |inner: &mut Encoder| -> Result<(), EncodeError>
+                ensures { EncodesParts P.parts (P.tree parts) inner.old result inner.new }
+            { parts.encode_parts(inner) },
+        )
+    }
+}

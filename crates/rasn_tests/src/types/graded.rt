@@ -1,0 +1,70 @@
+//! A SEQUENCE with an extension addition under an explicit tag (X.680 25.4), for tests.
+
+use rasn::error::{DecodeError, EncodeError};
+use rasn::parts::{Addition, End, Put, PutAddition, Required};
+use rasn::types::{AsnType, Constraints, ContextTag, Explicit, Identifier, LawfulEq, Tag};
+use rasn::{Decode, Decoder, Encode, Encoder};
+
+/// SEQUENCE { mark INTEGER (0..255), ..., passed [0] EXPLICIT BOOLEAN }
+#[derive(Debug, PartialEq, Eq, Drop)]
+pub struct Graded {
+    pub mark: u8,
+    pub passed: Option<Explicit<ContextTag<0>, bool>>,
+}
+
+impl AsnType for Graded {
+    ghost use Rattle.std.specs.Prelude.{refl, ◌∷◌, [], pos};
+    ghost use Rattle.rasn_types.specs.declared.types.tag.Class.TheVariants.{Context};
+    ghost use Rattle.rasn_types.specs.Shapes.{seq, part, required, addition, leaf, prefix, boolean, integer, number, items};
+    ghost use Rattle.rasn_types.specs.Shapes.Parts.{none};
+    ghost use Rattle.rasn_types.specs.Tags.{in_universal};
+    ghost use Rattle.rasn_types.specs.Trees.{unconstrained, unsigned_range, option_tree, bool_tree};
+
+    ghost TAG = { in_universal 16 };
+
+    const TAG: Tag = Tag::SEQUENCE;
+
+    ghost CONSTRAINTS = { unconstrained };
+
+    const CONSTRAINTS: Constraints = Constraints::NONE;
+
+    ghost shape = { seq (in_universal 16) (part required (leaf (integer (unsigned_range 8)) (in_universal 2) unconstrained) (part addition (prefix (record { class = Context; value = 0 }) (leaf boolean (in_universal 1) unconstrained)) none)) };
+
+    ghost tree = { λ g. items (number (pos g.mark) ∷ option_tree bool_tree g.passed ∷ []) };
+
+    ghost own = { refl };
+}
+
+impl LawfulEq for Graded {
+    ghost use Rattle.std.proofs.Common.{rules};
+    ghost use Rattle.rasn_types.specs.Equality.{deciding};
+
+    ghost decides = { Prim.search (deciding, rules) depth 30 };
+}
+
+impl Decode for Graded {
+    fn decode_with_tag_and_constraints(
+        decoder: &mut Decoder<'_>,
+        tag: Tag,
+        _constraints: &Constraints,
+    ) -> Result<Graded, DecodeError> {
+        let Required(mark, Addition(passed, End)) = decoder.read_sequence(tag)?;
+        Ok(Graded { mark, passed })
+    }
+}
+
+impl Encode for Graded {
+    fn encode_with_tag_and_constraints(
+        &self,
+        encoder: &mut Encoder,
+        tag: Tag,
+        _constraints: &Constraints,
+        _identifier: Identifier,
+    ) -> Result<(), EncodeError> {
+        encoder.write_sequence(tag, Put(&self.mark, PutAddition(&self.passed, End)))
+    }
+
+    fn is_present(&self) -> bool {
+        true
+    }
+}

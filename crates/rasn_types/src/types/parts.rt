@@ -1,0 +1,36 @@
+//! What the parts of a SEQUENCE, a SET or a CHOICE as types have in common in reading and writing.
+use crate::types::LawfulEq;
+use std::alloc::AllocError;
+
+/// No part: the end of a list of parts.
+#[derive(Debug, Drop)]
+pub struct End;
+
+/// The default of a part (X.680 25.8). The type that implements it names the part in `Defaulted` and `PutDefault`.
+pub trait DefaultValue {
+    ghost use Rattle.std.specs.Prelude.{◌≡◌, IfOk};
+    ghost use Rattle.rasn_types.specs.Shapes.{Tree};
+
+    /// The type of the part.
+    type Value: LawfulEq;
+
+    ghost default_tree: { Tree };
+
+    /// The value that is meant where the part is left out.
+    ///
+    /// # Errors
+    /// Where memory runs out.
+    fn default_value() -> Result<Self::Value, AllocError>
+        ensures { IfOk result (λ v. Self.Value.tree v ≡ default_tree) };
+}
+
+/// The first alternative of a CHOICE, or one of the others.
+#[derive(Debug, Drop)]
+pub enum OneOf<A, R> {
+    This(A),
+    Other(R),
+}
+
+/// No alternative: the end of a list of alternatives. It has no value.
+#[derive(Debug, Drop)]
+pub enum Never {}
