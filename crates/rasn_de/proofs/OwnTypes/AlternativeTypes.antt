@@ -114,7 +114,7 @@ module _ (s : Shape) (ps : Parts) (tag t : Tag) (not_this : tag ≡ t → ⊥) (
       there v r w = inr w
 
       back : (v : Tree) (r : List ℕ) → ReadsNumbered k (part required s ps) old.rule old.depth old.closing old.rest v r → ReadsNumbered (suc k) ps old.rule old.depth old.closing old.rest v r
-      back v r (inl (u, f, next, m, g, x)) = absurd (not_this (first_own s t tag e (subst (λ z. IsFirst s z) (next_one old.rest next tag m n) g)))
+      back v r (inl (u, f, next, m, g, x, z)) = absurd (not_this (first_own s t tag e (subst (λ z. IsFirst s z) (next_one old.rest next tag m n) g)))
       back v r (inr w) = w
 
   pub others_got : (k i : ℕ) (u : Tree) → DecodesExactly (ReadsNumbered (suc k) ps) old (Got (chosen (suc k + i) u) new.rest) new → DecodesExactly (ReadsNumbered k (part required s ps)) old (Got (chosen (k + suc i) u) new.rest) new
