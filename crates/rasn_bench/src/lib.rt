@@ -21,5 +21,5 @@ pub use normal_answer::NormalAnswer;
 pub use program::{RunFault, run, run_normalise};
 pub use worked::{
     AlgorithmIdentifier, AttributeTypeAndValue, Both, Colour, Event, Foo, Group, Grouped, Pair,
-    RelativeDistinguishedName, Set3, Setting, Time, Validity,
+    RelativeDistinguishedName, Set3, Setting, Seven, Time, Validity,
 };

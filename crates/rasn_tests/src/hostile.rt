@@ -2,10 +2,11 @@
 //! drop refusals, and how many octets each refusal consumes.
 ghost use Rattle.rasn_de.specs.Constructed.{Keeps};
 
+use crate::types::NumberAndTruth;
 use rasn::ber::de::Decoder;
 use rasn::error::DecodeError;
 use rasn::types::Tag;
-use rasn_bench::Pair;
+use rasn_bench::Both;
 use std::alloc::AllocError;
 
 mod closures;
@@ -15,20 +16,20 @@ mod padding;
 mod taken;
 
 /// Reads SEQUENCE { BOOLEAN }.
-fn one_boolean(decoder: &mut Decoder<'_>) -> Result<Pair, DecodeError>
+fn one_boolean(decoder: &mut Decoder<'_>) -> Result<NumberAndTruth, DecodeError>
     ensures { Keeps decoder.old decoder.new }
 {
-    decoder.decode_sequence::<2, 0, Pair, fn() -> Result<Pair, AllocError>, _>(
+    decoder.decode_sequence::<2, 0, NumberAndTruth, fn() -> Result<NumberAndTruth, AllocError>, _>(
         Tag::SEQUENCE,
         None,
         |inner|
             ensures { Keeps inner.old inner.new }
         {
             let truth = inner.decode_bool(Tag::BOOL)?;
-            Ok(Pair { number: 0, truth })
+            Ok(Both { first: 0, second: truth })
         },
     )
 }
 
 /// What SEQUENCE { BOOLEAN } is read as where it holds TRUE.
-const TRUE_ALONE: &str = "Pair { number: 0, truth: true }";
+const TRUE_ALONE: &str = "Both { first: 0, second: true }";

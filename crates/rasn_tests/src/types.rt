@@ -15,3 +15,8 @@ pub use graded::Graded;
 pub use profile::Profile;
 pub use ratio::Ratio;
 pub use three::Three;
+
+use rasn_bench::Both;
+
+/// SEQUENCE { first INTEGER, second BOOLEAN }, of what its readers by closures make.
+pub type NumberAndTruth = Both<i32, bool>;

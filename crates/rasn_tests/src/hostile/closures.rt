@@ -4,26 +4,26 @@ ghost use Rattle.rasn_enc.specs.View.{LeavesOthers};
 
 use crate::hostile::{TRUE_ALONE, one_boolean};
 use crate::reading::{assert_answer, assert_reads, decoder_of};
-use crate::types::Three;
+use crate::types::{NumberAndTruth, Three};
 use crate::writing::{assert_output, assert_written, new_encoder};
 use rasn::ber::de::Decoder;
 use rasn::ber::enc::Encoder;
 use rasn::enc::Encode;
 use rasn::error::{DecodeError, EncodeError};
 use rasn::types::{Class, Codec, Constraints, ContextTag, Identifier, Implicit, SetOf, Tag};
-use rasn_bench::Pair;
+use rasn_bench::Both;
 use std::alloc::{AllocError, Global};
 use std::process::Abort;
 
 /// What the closures return, whatever they read.
-const ANSWER: Pair = Pair {
-    number: 0,
-    truth: true,
+const ANSWER: NumberAndTruth = Both {
+    first: 0,
+    second: true,
 };
 
 /// Reads a SEQUENCE whose closure drops the result of reading a BOOLEAN.
-fn past_a_boolean(decoder: &mut Decoder<'_>) -> Result<Pair, DecodeError> {
-    decoder.decode_sequence::<2, 0, Pair, fn() -> Result<Pair, AllocError>, _>(
+fn past_a_boolean(decoder: &mut Decoder<'_>) -> Result<NumberAndTruth, DecodeError> {
+    decoder.decode_sequence::<2, 0, NumberAndTruth, fn() -> Result<NumberAndTruth, AllocError>, _>(
         Tag::SEQUENCE,
         None,
         |inner|
@@ -36,8 +36,8 @@ fn past_a_boolean(decoder: &mut Decoder<'_>) -> Result<Pair, DecodeError> {
 }
 
 /// Reads a SEQUENCE whose closure drops the result of reading SEQUENCE { BOOLEAN }.
-fn past_a_sequence(decoder: &mut Decoder<'_>) -> Result<Pair, DecodeError> {
-    decoder.decode_sequence::<2, 0, Pair, fn() -> Result<Pair, AllocError>, _>(
+fn past_a_sequence(decoder: &mut Decoder<'_>) -> Result<NumberAndTruth, DecodeError> {
+    decoder.decode_sequence::<2, 0, NumberAndTruth, fn() -> Result<NumberAndTruth, AllocError>, _>(
         Tag::SEQUENCE,
         None,
         |inner|

@@ -2,13 +2,14 @@
 ghost use Rattle.rasn_de.specs.Constructed.{Keeps};
 ghost use Rattle.rasn_enc.specs.View.{LeavesOthers};
 
+use crate::types::NumberAndTruth;
 use crate::reading::{assert_answer, decoder_of};
 use crate::writing::{assert_output, assert_written, new_encoder};
 use rasn::ber::de::Decoder;
 use rasn::ber::enc::Encoder;
 use rasn::error::{DecodeError, EncodeError};
 use rasn::types::{Bound, Bounded, Codec, Constraints, Identifier, Tag};
-use rasn_bench::Pair;
+use rasn_bench::Both;
 use std::alloc::AllocError;
 
 /// SIZE (3)
@@ -21,8 +22,8 @@ const SIZE_3: Constraints = Constraints {
 };
 
 /// Reads a SEQUENCE whose closure drops the refusal of a BOOLEAN and then reads a number.
-fn read_past_a_refusal(decoder: &mut Decoder<'_>) -> Result<Pair, DecodeError> {
-    decoder.decode_sequence::<2, 0, Pair, fn() -> Result<Pair, AllocError>, _>(
+fn read_past_a_refusal(decoder: &mut Decoder<'_>) -> Result<NumberAndTruth, DecodeError> {
+    decoder.decode_sequence::<2, 0, NumberAndTruth, fn() -> Result<NumberAndTruth, AllocError>, _>(
         Tag::SEQUENCE,
         None,
         |inner|
@@ -30,9 +31,9 @@ fn read_past_a_refusal(decoder: &mut Decoder<'_>) -> Result<Pair, DecodeError> {
         {
             let _ = inner.decode_bool(Tag::BOOL);
             let number = inner.decode_integer::<i32>(Tag::INTEGER, &Constraints::NONE)?;
-            Ok(Pair {
-                number,
-                truth: false,
+            Ok(Both {
+                first: number,
+                second: false,
             })
         },
     )
@@ -40,7 +41,7 @@ fn read_past_a_refusal(decoder: &mut Decoder<'_>) -> Result<Pair, DecodeError> {
 
 /// Writes a SEQUENCE whose closure drops the refusal of two octets and then writes TRUE.
 fn write_past_a_refusal(encoder: &mut Encoder) -> Result<(), EncodeError> {
-    encoder.encode_sequence::<2, 0, Pair, _>(
+    encoder.encode_sequence::<2, 0, NumberAndTruth, _>(
         Tag::SEQUENCE,
         |inner: &mut Encoder| -> Result<(), EncodeError>
             ensures { LeavesOthers inner.old inner.new }
@@ -64,7 +65,7 @@ fn a_dropped_refusal_is_gone_on_from(rt: HostRuntime) {
     const FIVE_ALONE: &[u8] = &[0x30, 0x03, 0x02, 0x01, 0x05];
     let mut decoder = decoder_of(alloc, FIVE_ALONE, Codec::Ber);
     let answer = read_past_a_refusal(&mut decoder);
-    const FIVE_AND_FALSE: &str = "Pair { number: 5, truth: false }";
+    const FIVE_AND_FALSE: &str = "Both { first: 5, second: false }";
     assert_answer(&rt, alloc, Codec::Ber, answer, FIVE_AND_FALSE);
     assert!(rt; decoder.decoded_len() == 5);
 }

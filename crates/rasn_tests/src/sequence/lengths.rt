@@ -1,11 +1,11 @@
 //! The lengths of SEQUENCEs in one another (X.690 8.1.3).
 ghost use Rattle.rasn_enc.specs.View.{LeavesOthers};
 
+use crate::types::NumberAndTruth;
 use crate::writing::{assert_output_pieces, assert_written, new_encoder};
 use rasn::ber::enc::Encoder;
 use rasn::error::EncodeError;
 use rasn::types::{Codec, Constraints, Identifier, Tag};
-use rasn_bench::Pair;
 use std::alloc::{AllocError, Global};
 
 /// The octets of the OCTET STRING inside.
@@ -24,7 +24,7 @@ fn nest(encoder: &mut Encoder, levels: u8) -> Result<(), EncodeError>
         );
     }
     let below = levels - 1;
-    encoder.encode_sequence::<2, 0, Pair, _>(
+    encoder.encode_sequence::<2, 0, NumberAndTruth, _>(
         Tag::SEQUENCE,
         |inner: &mut Encoder| -> Result<(), EncodeError>
             ensures { LeavesOthers inner.old inner.new }

@@ -1,26 +1,27 @@
 //! SEQUENCEs of indefinite length in one another (X.690 8.1.3.6) are decoded to a depth of 128.
 ghost use Rattle.rasn_de.specs.Constructed.{Keeps};
 
+use crate::types::NumberAndTruth;
 use crate::reading::{assert_answer, decoder_of};
 use rasn::ber::de::Decoder;
 use rasn::error::DecodeError;
 use rasn::types::{Codec, Tag};
-use rasn_bench::Pair;
+use rasn_bench::Both;
 use std::alloc::{AllocError, Global};
 use std::process::Abort;
 
 /// Reads so many SEQUENCEs in one another round a BOOLEAN.
-fn nested(decoder: &mut Decoder<'_>, levels: u8) -> Result<Pair, DecodeError>
+fn nested(decoder: &mut Decoder<'_>, levels: u8) -> Result<NumberAndTruth, DecodeError>
     ensures { Keeps decoder.old decoder.new }
 {
     if levels == 0 {
         let truth = decoder.decode_bool(Tag::BOOL)?;
-        return Ok(Pair { number: 0, truth });
+        return Ok(Both { first: 0, second: truth });
     }
     let below = levels - 1;
-    decoder.decode_sequence::<2, 0, Pair, _, _>(
+    decoder.decode_sequence::<2, 0, NumberAndTruth, _, _>(
         Tag::SEQUENCE,
-        Some(|| -> Result<Pair, AllocError> { Err(AllocError) }),
+        Some(|| -> Result<NumberAndTruth, AllocError> { Err(AllocError) }),
         |inner|
             ensures { Keeps inner.old inner.new }
         { nested(inner, below) },
@@ -60,7 +61,7 @@ fn sequences_are_128_deep_at_most(rt: HostRuntime) {
     let alloc = rt.alloc();
     match nest(alloc) {
         Ok(octets) => {
-            let truth = "Pair { number: 0, truth: true }";
+            let truth = "Both { first: 0, second: true }";
             assert_reads_nested(&rt, alloc, &octets, 128, truth, 515);
             assert_reads_nested(&rt, alloc, &octets, 129, "ExceedsMaxParseDepth", 2);
         }

@@ -4,7 +4,9 @@ use rasn::parts::{End, Put};
 use rasn_enc::ber::enc::Encoder;
 use rasn_enc::enc::Encode;
 use rasn_types::error::EncodeError;
-use rasn_types::types::{AsnType, Constraints, Identifier, Tag};
+use rasn_types::types::{
+    AsnType, Constraints, Constructed, Field, FieldPresence, Fields, Identifier, Tag,
+};
 
 /// SET { first A, second B, third C }
 #[derive(Debug, Drop)]
@@ -34,6 +36,49 @@ impl<A: AsnType, B: AsnType, C: AsnType> AsnType for Three<A, B, C> {
     ghost tree = { λ v. items (A.tree v.first ∷ B.tree v.second ∷ C.tree v.third ∷ []) };
 
     ghost own = { refl };
+}
+
+impl<A: AsnType, B: AsnType, C: AsnType> Constructed<3, 0> for Three<A, B, C> {
+    ghost use Rattle.std.specs.Prelude.{refl, true, false};
+    ghost use Rattle.rasn_types.specs.Shapes.{part, required};
+    ghost use Rattle.rasn_types.specs.Shapes.Parts.{none};
+
+    const FIELDS: Fields<3> = Fields {
+        fields: [
+            Field {
+                index: 0,
+                tag: A::TAG,
+                presence: FieldPresence::Required,
+                name: "first",
+            },
+            Field {
+                index: 1,
+                tag: B::TAG,
+                presence: FieldPresence::Required,
+                name: "second",
+            },
+            Field {
+                index: 2,
+                tag: C::TAG,
+                presence: FieldPresence::Required,
+                name: "third",
+            },
+        ],
+    };
+
+    const EXTENDED_FIELDS: Option<Fields<0>> = None;
+
+    ghost IS_EXTENSIBLE = { false };
+
+    const IS_EXTENSIBLE: bool = false;
+
+    ghost HAS_REQUIRED_FIELDS = { true };
+
+    const HAS_REQUIRED_FIELDS: bool = true;
+
+    ghost parts = { part required A.shape (part required B.shape (part required C.shape none)) };
+
+    ghost described = { refl };
 }
 
 impl<A: Encode, B: Encode, C: Encode> Encode for Three<A, B, C> {
