@@ -18,7 +18,7 @@ use Rattle.rasn_de.specs.Outcomes.{Exact, Got, Refused}
 use Rattle.rasn_de.specs.State.{State, at}
 use Rattle.rasn_de.specs.Steps.{IsErrorOf}
 
--- one whole encoding, or the contents of one value of the tag
+-- one complete encoding, or the contents of one value of the tag
 abbrev pub ReadsOpenOctets : Codec → Option Tag → Reading Tree
 ReadsOpenOctets rule None = ReadsAny rule
 ReadsOpenOctets rule (Some tag) = ReadsOpen rule tag
@@ -39,12 +39,12 @@ abbrev pub as_lists : Result (Bor (List ℕ) × Bor (List ℕ)) ParseError → R
 as_lists (Ok p) = Ok (p.0.now, p.1.now)
 as_lists (Err e) = Err e
 
--- A call answers the octets, or the first fault, or an allocation fails for the copy. A refusal takes nothing.
+-- A call answers the octets, or the first fault, or an allocation fails for the copy. A refusal consumes nothing.
 abbrev pub DecodesOpenType : Tag → State → Result Any DecodeError → State → Type 0
 DecodesOpenType tag old (Ok a) new = OpenAt old.rule (looked_for tag) old.rest (Ok (a, new.rest)) × (new ≡ at old new.rest)
 DecodesOpenType tag old (Err e) new = ((IsOutOfMemory e.kind × (e.codec ≡ old.rule)) ⊎ ((fault : ParseError) × OpenAt old.rule (looked_for tag) old.rest (Err fault) × IsErrorOf fault old e)) × (new ≡ old)
 
--- One whole encoding is passed, in so many steps; or there is none, this is the first fault, and nothing is taken.
+-- One complete encoding is passed, in so many steps; or there is none, this is the first fault, and nothing is consumed.
 abbrev pub SkipsValue : State → Result ℕ DecodeError → State → Type 0
 SkipsValue old (Ok n) new = Exactly (Skipped old.rule old.rest) (IsFault old.rule old.rest) (Ok (n, new.rest)) × (new ≡ at old new.rest)
 SkipsValue old (Err e) new = (fault : ParseError) × Exactly (Skipped old.rule old.rest) (IsFault old.rule old.rest) (Err fault) × IsErrorOf fault old e × (new ≡ old)

@@ -48,7 +48,7 @@ abbrev pub bits_tree : List Bool → Tree
 bits_tree bs = bits bs
 
 -- Why there are no bits, and what is left. The reading refuses them, or an allocation fails while segments are gathered: all of the input is
--- left. Memory is wanting for the bits of a primitive value, which are in order: what follows the value is left.
+-- left. An allocation fails for the bits of a primitive value, which are in order: what follows the value is left.
 pub data FailsAtBits (rule : Codec) (depth : ℕ) (tag : Tag) (l : List ℕ) : ParseError → List ℕ → Type 0 where
   refused : (f : ParseError) → f ≢ OutOfMemory → bit_string_at rule depth tag l ≡ Err f → FailsAtBits rule depth tag l f l
   gathering : IsConstructed rule tag l → FailsAtBits rule depth tag l OutOfMemory l
@@ -72,7 +72,7 @@ BitsAt bounds rule depth tag l (Err e) =
     ((f : ParseError) × (bit_string_at rule depth tag l ≡ Err f) × (e ≡ (fault f, l)))
     ⊎ ((bs : List Bool) × (bit_string_at rule depth tag l ≡ Ok (bs, e.1)) × IsOversized bounds bs e.0)
 
--- Memory is wanting for the copy of a primitive string's bits, before their number is asked for, and the value is taken.
+-- An allocation fails for the copy of a primitive string's bits, before their number is asked for, and the value is consumed.
 abbrev pub AllocFailsCopyingBits : Tag → State → DecodeError → State → Type 0
 AllocFailsCopyingBits tag old e new = IsOutOfMemory e.kind × (e.codec ≡ old.rule) × (new ≡ at old new.rest) × IsPrimitive old.rule tag old.rest
     × (bs : List Bool) × (bit_string_at old.rule old.depth tag old.rest ≡ Ok (bs, new.rest))

@@ -77,11 +77,11 @@ StringAt Told rule depth tag l (Err e) =
     ((f : ParseError) × (octet_string_at rule depth tag l ≡ Err f) × (e ≡ (fault f, l)))
     ⊎ ((xs : List ℕ) × (f : ParseError) × (octet_string_at rule depth tag l ≡ Ok (xs, e.1)) × Told xs (Err f) × (e.0 ≡ fault f))
 
--- Memory is wanting while segments are gathered, and nothing is taken.
+-- An allocation fails while segments are gathered, and nothing is consumed.
 abbrev pub AllocFailsCollecting : Tag → State → DecodeError → State → Type 0
 AllocFailsCollecting tag old e new = IsOutOfMemory e.kind × (e.codec ≡ old.rule) × (new ≡ old) × IsConstructed old.rule tag old.rest
 
--- Memory is wanting for the copy of a primitive string that is in order, which is taken.
+-- An allocation fails for the copy of a primitive string that is in order, which is consumed.
 abbrev pub AllocFailsCopying : StringCheck → Tag → State → DecodeError → State → Type 0
 AllocFailsCopying Told tag old e new = IsOutOfMemory e.kind × (e.codec ≡ old.rule) × (new ≡ at old new.rest) × IsPrimitive old.rule tag old.rest
     × (p : List ℕ × List ℕ) × StringAt Told old.rule old.depth tag old.rest (Ok p) × (p.1 ≡ new.rest)

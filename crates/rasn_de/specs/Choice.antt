@@ -8,7 +8,7 @@ use Rattle.rasn_types.specs.Shapes.Parts.{none}
 use Rattle.rasn_de.specs.State.{Call}
 use Rattle.rasn_de.specs.Steps.{PeeksTag}
 
--- The value is read where a tag comes; else nothing is taken.
+-- The value is read where a tag comes; else nothing is consumed.
 abbrev pub DecodesChosen : {D : Type 0} → Call D → Call D
 DecodesChosen read old (Ok v) new = (tag : Tag) × NextTag (form old.rule) old.rest tag × read old (Ok v) new
 DecodesChosen read old (Err e) new = (PeeksTag old (Err e) × (new ≡ old)) ⊎ ((tag : Tag) × NextTag (form old.rule) old.rest tag × read old (Err e) new)

@@ -38,7 +38,7 @@ abbrev pub through : Bool → List ℕ → Result Header ParseError → Result H
 through needed l (Ok h) = if needed && not h.bit then Err (InvalidConstructedIdentifier, h.rest) else Ok h
 through needed l (Err f) = Err (f, l)
 
--- Depth is told before the header.
+-- Depth is reported before the header.
 abbrev pub constructed_header_at : ConstructedHeader → Codec → ℕ → List ℕ → Result Header (ParseError × List ℕ)
 constructed_header_at d rule depth l = if nat_eq depth 0 then Err (ExceedsMaxParseDepth, l) else through d.must_be_constructed l (header_at (form rule) (expected_header d rule) l)
 

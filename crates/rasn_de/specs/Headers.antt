@@ -61,7 +61,7 @@ pub record Identified : Type 0 where
   pub bit : Bool
   pub rest : List ℕ
 
--- Universal 0 is told before the spelling.
+-- Universal 0 is reported before the spelling.
 abbrev pub checked_identifier : Bool → ℕ → List ℕ → ℕ × List ℕ → Result Identified ParseError
 checked_identifier shortest first l p =
     if is_eoc (tag_of first p.0) then Err UnexpectedEndOfContents else (if shortest && is_longer first l p.0 then Err (Der NonMinimalTagNumber)
@@ -125,7 +125,7 @@ same_tag s t = same_class s.class t.class && nat_eq s.value t.value
 abbrev pub tagged_at : Tag → Tag → Result (Unit {0}) ParseError
 tagged_at wanted tag = if same_tag tag wanted then Ok tt else Err (MismatchedTag wanted tag)
 
--- The tag is told before the constructed bit.
+-- The tag is reported before the constructed bit.
 abbrev pub expected_at : Expected → Tag → Bool → Result (Unit {0}) ParseError
 expected_at AnyTag tag bit = Ok tt
 expected_at (Tagged wanted) tag bit = tagged_at wanted tag

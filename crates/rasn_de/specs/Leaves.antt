@@ -95,7 +95,7 @@ abbrev pub DecodesLeaf : {X Y : Type 0} → (X → Y) → Readings Y → State �
 DecodesLeaf see Is old (Ok v) new = Is (Ok (see v, new.rest)) × (new ≡ at old new.rest)
 DecodesLeaf see Is old (Err e) new = FailsAs Is old e new
 
--- A call answers what the reading of an INTEGER is, of a type whose numbers may take memory: where that is wanting, the value was taken.
+-- A call answers what the reading of an INTEGER is, of a type whose numbers may take memory: where an allocation fails, the value was consumed.
 abbrev pub DecodesInteger : {X : Type 0} → (X → ℤ) → Type 0 → Tag → Readings ℤ → State → Result X DecodeError → State → Type 0
 DecodesInteger see Grows tag Is old (Ok v) new = DecodesLeaf see Is old (Ok v) new
 DecodesInteger see Grows tag Is old (Err e) new =

@@ -63,7 +63,7 @@ abbrev pub DecodesOnlyArcs : List ℕ → Result (List ℕ) DecodeError → Type
 DecodesOnlyArcs c (Ok arcs) = IsObjectIdentifier c arcs × ((others : List ℕ) → IsObjectIdentifier c others → others ≡ arcs)
 DecodesOnlyArcs c (Err e) = (IsOutOfMemory e.kind → ⊥) → (arcs : List ℕ) → IsObjectIdentifier c arcs → ⊥
 
--- A call answers what the reading is; or an allocation fails, and the value was taken.
+-- A call answers what the reading is; or an allocation fails, and the value was consumed.
 abbrev pub DecodesObjectIdentifier : Tag → State → Result (List ℕ) DecodeError → State → Type 0
 DecodesObjectIdentifier tag old (Ok arcs) new = DecodesLeaf (λ o. o) (ObjectIdentifierAt old.rule tag old.rest) old (Ok arcs) new
 DecodesObjectIdentifier tag old (Err e) new =

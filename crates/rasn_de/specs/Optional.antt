@@ -24,7 +24,7 @@ NextTagIs tag s (Ok false) = IsLeftOut (form s.rule) (looked_for tag) s.closing 
 NextTagIs tag s (Err e) = (looked_for tag ≢ None) × (Ended s.closing s.rest → ⊥) × PeeksTag s (Err e)
 
 module _ {D : Type 0} (read : Call D) (tag : Tag) (old : State) where
-  -- The value is left out; or it comes and is read; or the look at the next tag is refused, which takes nothing.
+  -- The value is left out; or it comes and is read; or the look at the next tag is refused, which consumes nothing.
   abbrev pub DecodesIfPresent : Result (Option D) DecodeError → State → Type 0
   DecodesIfPresent (Ok None) new = NextTagIs tag old (Ok false) × (new ≡ old)
   DecodesIfPresent (Ok (Some v)) new = NextTagIs tag old (Ok true) × read old (Ok v) new
@@ -48,7 +48,7 @@ MakesValue made s (Err e) = (x : AllocError) × made (Err x) × IsErrorOf OutOfM
 
 -- A value that has a default, which is made once at most: where the value is left out, and where one comes that may not be the default.
 module _ {D : Type 0} (read : Call D) (tree : D → Tree) (made : Result D AllocError → Type 0) (tag : Tag) (old : State) where
-  -- What a refusal comes from, and what it leaves. A value that was read before is taken.
+  -- What a refusal comes from, and what it leaves. A value that was read before is consumed.
   pub data FailsWithDefault (e : DecodeError) (new : State) : Type 0 where
     no_look : NextTagIs tag old (Err e) → new ≡ old → FailsWithDefault e new
     no_default : NextTagIs tag old (Ok false) → MakesValue made old (Err e) → new ≡ old → FailsWithDefault e new

@@ -38,12 +38,12 @@ abbrev pub DecodesSequenceBy : {I F D : Type 0} → ℕ → Bool → Bool → (I
 DecodesSequenceBy root extensible needs_field made init g f tag =
     DecodesInside (DecodesContents (is_read_by_initializer root extensible needs_field) (MakesInitial made init) (FnOnceReturnsAtMut g f)) (sequence_header tag)
 
--- Each value that the initializer makes is that of parts of which none comes. Only a type with a required part does without an initializer.
+-- Each value that the initializer makes is that of parts all of which are absent. Only a type with a required part does without an initializer.
 abbrev pub MakesAllMissing : {I D : Type 0} → Parts → (D → Tree) → (I → Result D AllocError → Type 0) → Option I → Type 0
 MakesAllMissing {I} {D} parts tree made None = has_required parts ≡ true
 MakesAllMissing {I} {D} parts tree made (Some i) = (v : D) → made i (Ok v) → (ts : List Tree) × (tree v ≡ items ts) × AllMissing (presences parts) ts
 
--- A SEQUENCE of these parts is read, where each call of f reads them and the initializer makes what they are where none comes.
+-- A SEQUENCE of these parts is read, where each call of f reads them and the initializer makes what they are where all are absent.
 abbrev pub DecodesSequence : {I F D : Type 0} → Closure F D → F → (I → Result D AllocError → Type 0) → Option I → Parts → (D → Tree) → Tag → Call D
 DecodesSequence g f made init parts tree tag old result new =
     EachCall (FnOnceReturnsAtMut g f) (DecodesParts parts tree) → MakesAllMissing parts tree made init → Decodes (seq tag parts) tree old result new

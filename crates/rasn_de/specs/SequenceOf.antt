@@ -34,7 +34,7 @@ module _ {D : Type 0} (read : Call D) where
   DecodesInTurn old [] here = here ≡ old
   DecodesInTurn old (v ∷ vs) here = (next : State) × (Ended old.closing old.rest → ⊥) × read old (Ok v) next × (length next.rest ≢ length old.rest) × DecodesInTurn next vs here
 
-  -- An element is refused; or it takes nothing; or memory runs out behind it.
+  -- An element is refused; or it consumes nothing; or memory runs out behind it.
   abbrev pub FailsAtElement : State → DecodeError → State → Type 0
   FailsAtElement here e new = read here (Err e) new
       ⊎ ((v : D) × read here (Ok v) new × (((length new.rest ≡ length here.rest) × IsErrorOf (UnexpectedExtraData (length here.rest)) here e) ⊎ IsErrorOf OutOfMemory here e))
@@ -70,7 +70,7 @@ module _ {D : Type 0} (read : Call D) where
 abbrev pub DecodesInList : {L : Type 0} → Call L → Tag → Call L
 DecodesInList read tag = DecodesInside read (list_header tag)
 
--- A number of elements that isn't admitted is refused, with the whole value taken.
+-- A number of elements that isn't admitted is refused, with the whole value consumed.
 abbrev pub DecodesSized : {L : Type 0} → Call L → (L → ℕ) → Tag → Constraints → Call L
 DecodesSized read size tag c old (Ok v) new = Admits ◌≤◌ c.size (size v) × DecodesInList read tag old (Ok v) new
 DecodesSized {L} read size tag c old (Err e) new = DecodesInList read tag old (Err e) new

@@ -9,7 +9,7 @@ use Rattle.rasn_types.specs.Framing.{Frame, indefinite, CompleteEncoding, Comple
 use Rattle.rasn_de.specs.declared.ber.de.parser.headers.Expected.TheVariants.{AnyTag}
 use Rattle.rasn_de.specs.Headers.{header_at}
 
--- The input begins with one whole encoding, of so many steps.
+-- The input begins with one complete encoding, of so many steps.
 pub record Skipped (rule : Codec) (input : List ℕ) (t : ℕ) (rest : List ℕ) : Type 0 where
   pub text : List ℕ
   pub whole : CompleteEncoding rule text
@@ -37,7 +37,7 @@ pub record IsUnparsable (rule : Codec) (body : List ℕ) (fault : ParseError) : 
   pub open_there : (more : List ℕ) → left ≡ 0 ∷ 0 ∷ more → ⊥
   pub refused : header_at (loose rule) AnyTag left ≡ Err fault
 
--- Where one whole encoding has to come, this is the first fault.
+-- Where one complete encoding has to come, this is the first fault.
 abbrev pub IsFault : Codec → List ℕ → ParseError → Type 0
 IsFault rule input fault =
     (header_at (loose rule) AnyTag input ≡ Err fault)

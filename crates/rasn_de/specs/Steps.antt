@@ -16,7 +16,7 @@ use Rattle.rasn_de.specs.State.{State, at, IsEnd}
 abbrev pub IsErrorOf : ParseError → State → DecodeError → Type 0
 IsErrorOf f s e = e ≡ record { kind = error_kind f; codec = s.rule }
 
--- A value's header and contents are taken, or nothing is.
+-- A value's header and contents are consumed, or nothing is.
 abbrev pub Consumes : Expected → State → Result Value DecodeError → State → Type 0
 Consumes expected old (Ok v) new = (header_at (form old.rule) expected old.rest ≡ Ok (header_with v new.rest)) × (new ≡ at old new.rest) × IsEnd old.rest new.rest
 Consumes expected old (Err e) new = (f : ParseError) × (header_at (form old.rule) expected old.rest ≡ Err f) × IsErrorOf f old e × (new ≡ old)

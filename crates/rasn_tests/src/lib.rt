@@ -9,8 +9,6 @@ mod errors;
 #[cfg(test)]
 mod hostile;
 #[cfg(test)]
-mod leaves;
-#[cfg(test)]
 mod parts;
 #[cfg(test)]
 mod program;
@@ -28,6 +26,8 @@ mod strings;
 mod time;
 #[cfg(test)]
 mod types;
+#[cfg(test)]
+mod values;
 #[cfg(test)]
 mod whole;
 #[cfg(test)]

@@ -49,12 +49,7 @@ pub fn sized(size: usize) -> Constraints {
 
 /// A decoder of the octets by these rules.
 pub fn decoder_of(alloc: Global, octets: &[u8], rules: Codec) -> Decoder<'_> {
-    let options = match rules {
-        Codec::Ber => DecoderOptions::ber(),
-        Codec::Cer => DecoderOptions::cer(),
-        Codec::Der => DecoderOptions::der(),
-    };
-    Decoder::new(alloc, octets, options)
+    Decoder::new(alloc, octets, DecoderOptions::of(rules))
 }
 
 /// A value as text.

@@ -2,6 +2,7 @@
 
 mod alphabets;
 mod bit_string;
+mod octet_string;
 mod packing;
 mod reads;
 mod reads_bit_string;

@@ -14,18 +14,9 @@ pub type Row<T> = (T, Codec, &'static [u8]);
 /// Octets, and behind them one octet so many times. A long string is a few of these.
 pub type Piece<'octets> = (&'octets [u8], u8, usize);
 
-/// How values are written by these rules.
-fn options_for(rules: Codec) -> EncoderOptions {
-    match rules {
-        Codec::Ber => EncoderOptions::ber(),
-        Codec::Cer => EncoderOptions::cer(),
-        Codec::Der => EncoderOptions::der(),
-    }
-}
-
 /// The octets of a value.
 fn octets_of<T: Encode>(alloc: Global, rules: Codec, value: &T) -> Result<Vec<u8>, EncodeError> {
-    let mut encoder = Encoder::new(alloc, options_for(rules))?;
+    let mut encoder = Encoder::new(alloc, EncoderOptions::of(rules))?;
     value.encode(&mut encoder)?;
     encoder.output()
 }
@@ -120,7 +111,7 @@ pub fn identifier_of(alloc: Global, arcs: &[u32]) -> Result<Option<ObjectIdentif
 
 /// An encoder with no output yet.
 pub fn new_encoder(rt: &impl Abort, alloc: Global, rules: Codec) -> Encoder {
-    match Encoder::new(alloc, options_for(rules)) {
+    match Encoder::new(alloc, EncoderOptions::of(rules)) {
         Ok(encoder) => encoder,
         Err(_) => panic!(rt; "no memory"),
     }
@@ -128,7 +119,7 @@ pub fn new_encoder(rt: &impl Abort, alloc: Global, rules: Codec) -> Encoder {
 
 /// An encoder of the components of a SET, with no output yet.
 pub fn new_set_encoder(rt: &impl Abort, alloc: Global, rules: Codec) -> Encoder {
-    match Encoder::new_set(alloc, options_for(rules)) {
+    match Encoder::new_set(alloc, EncoderOptions::of(rules)) {
         Ok(encoder) => encoder,
         Err(_) => panic!(rt; "no memory"),
     }

@@ -80,7 +80,7 @@ impl<'input> Model for Decoder<'input> {
     ghost invariant = { λ d. IsEnd d.whole.now d.rest.now };
 }
 
-/// A kind of error that X.690 8 tells, under any rule.
+/// A kind of error of X.690 8, under any rule.
 fn in_ber(inner: BerDecodeErrorKind) -> DecodeErrorKind
     ensures { result ≡ in_ber inner }
 {
@@ -179,7 +179,7 @@ impl<'input> Decoder<'input> {
         self.rules
     }
 
-    /// Whether only what the writer gives is read.
+    /// Whether only what the writer writes is read.
     fn is_strict(&self) -> bool
         ensures { IsWhether result (IsStrict self.now.rule) }
     {
@@ -246,7 +246,7 @@ impl<'input> Decoder<'input> {
     /// Takes the header and contents of the next value, or nothing.
     #[inline(always)]
     fn header(&mut self, expected: Expected) -> Result<Value<'input>, DecodeError>
-        ensures taken { Consumes expected self.old result self.new }
+        ensures exact { Consumes expected self.old result self.new }
         ensures octets { AreOctets self.old.rest }
     {
         match read_value(Spelling::of_rule(self.rules), expected, self.rest) {

@@ -15,7 +15,7 @@ pub fn is_ber(rule: Codec) -> bool
     EncodingRules::of_codec(rule).is_ber()
 }
 
-/// Whether these are the rules under which only what their writer gives is read.
+/// Whether these are the rules under which only what their writer writes is read.
 #[inline]
 pub fn is_der(rule: Codec) -> bool
     ensures { result ≡ is_der rule }

@@ -5,16 +5,16 @@ use rasn_types::error::{DecodeError, DecodeErrorKind};
 use rasn_types::types::Codec;
 use std::alloc::{AllocError, Global};
 
-/// Makes the errors that an implementation of `Decode` or `DecodeChoice` answers for itself. Each copies the name that it tells; where
+/// Makes the errors that an implementation of `Decode` or `DecodeChoice` answers for itself. Each copies the name that it reports; where
 /// the copy finds no memory, it is `OutOfMemory`.
 pub trait Error: Drop {
     /// No alternative of the CHOICE of this name begins with the tag that comes.
     fn no_valid_choice(alloc: Global, name: &str, codec: Codec) -> Self;
 
-    /// A required component of this name doesn't come.
+    /// A required component of this name is missing.
     fn missing_field(alloc: Global, name: &str, codec: Codec) -> Self;
 
-    /// The component of this name comes twice.
+    /// The component of this name occurs twice.
     fn duplicate_field(alloc: Global, name: &str, codec: Codec) -> Self;
 }
 

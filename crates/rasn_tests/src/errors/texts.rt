@@ -49,36 +49,40 @@ fn tells_octets_and_tags(rt: HostRuntime) {
         alloc,
         any,
         &[
-            (&[0x01], Codec::Ber, "BER: one octet is missing"),
+            (
+                &[0x01],
+                Codec::Ber,
+                "BER: unexpected end of input, need 1 more octet",
+            ),
             (
                 &[0x01, 0x01, 0x05],
                 Codec::Der,
-                "DER: octet 05 is no canonical BOOLEAN",
+                "DER: BOOLEAN octet 05 is neither 00 nor FF",
             ),
             (
                 &[0x01, 0x02, 0x05, 0x05],
                 Codec::Cer,
-                "CER: a length of 2 instead of 1",
+                "CER: length 2, expected 1",
             ),
             (
                 &[0x1F, 0x22],
                 Codec::Ber,
-                "BER: tag universal 34 instead of universal 1",
+                "BER: unexpected tag universal 34, expected universal 1",
             ),
             (
                 &[0x41, 0x01, 0xFF],
                 Codec::Ber,
-                "BER: tag application 1 instead of universal 1",
+                "BER: unexpected tag application 1, expected universal 1",
             ),
             (
                 &[0x82, 0x01, 0xFF],
                 Codec::Ber,
-                "BER: tag [2] instead of universal 1",
+                "BER: unexpected tag [2], expected universal 1",
             ),
             (
                 &[0xC3, 0x01, 0xFF],
                 Codec::Ber,
-                "BER: tag private 3 instead of universal 1",
+                "BER: unexpected tag private 3, expected universal 1",
             ),
         ],
     );
@@ -90,12 +94,12 @@ fn tells_octets_and_tags(rt: HostRuntime) {
             (
                 &[0x04, 0x05, 0x01, 0x02],
                 Codec::Ber,
-                "BER: 3 octets are missing",
+                "BER: unexpected end of input, need 3 more octets",
             ),
             (
                 &[0x24, 0x05, 0x04, 0x01, 0xA1, 0x00, 0x00],
                 Codec::Ber,
-                "BER: 2 octets are left",
+                "BER: 2 trailing octets",
             ),
         ],
     );
@@ -103,7 +107,7 @@ fn tells_octets_and_tags(rt: HostRuntime) {
         &rt,
         alloc,
         any,
-        &[(&[0x30, 0x01, 0x02], Codec::Ber, "BER: one octet is left")],
+        &[(&[0x30, 0x01, 0x02], Codec::Ber, "BER: 1 trailing octet")],
     );
 }
 
@@ -111,8 +115,7 @@ fn tells_octets_and_tags(rt: HostRuntime) {
 #[test]
 fn tells_numbers_and_bounds(rt: HostRuntime) {
     let alloc = rt.alloc();
-    const OVERFLOW: &str =
-        "BER: the number doesn't fit 8 bits, or is negative and the type has no sign";
+    const OVERFLOW: &str = "BER: number is out of range for a type of 8 bits";
     assert_refusals_shown::<u8>(
         &rt,
         alloc,
@@ -127,12 +130,12 @@ fn tells_numbers_and_bounds(rt: HostRuntime) {
             (
                 &[0x02, 0x02, 0x01, 0x2C],
                 Codec::Ber,
-                "BER: number 300, not in -5..255",
+                "BER: number 300 violates the constraint -5..255",
             ),
             (
                 &[0x02, 0x01, 0xF0],
                 Codec::Ber,
-                "BER: number -16, not in -5..255",
+                "BER: number -16 violates the constraint -5..255",
             ),
         ],
     );
@@ -143,7 +146,7 @@ fn tells_numbers_and_bounds(rt: HostRuntime) {
         &[(
             &[0x04, 0x03, 0x01, 0x02, 0x03],
             Codec::Der,
-            "DER: size 3, not in 2",
+            "DER: size 3 violates the constraint 2",
         )],
     );
     assert_shown(&rt, alloc, Bounded::<u8>::None, "MIN..MAX");
@@ -171,7 +174,7 @@ fn tells_foreign_octets(rt: HostRuntime) {
         &[(
             &[0x12, 0x02, 0x31, 0x2A],
             Codec::Ber,
-            "BER: octet 2A at place 1 isn't in the alphabet",
+            "BER: octet 2A at position 1 is not in the permitted alphabet",
         )],
     );
     assert_refusals_shown::<BmpString>(
@@ -181,7 +184,7 @@ fn tells_foreign_octets(rt: HostRuntime) {
         &[(
             &[0x1E, 0x01, 0x41],
             Codec::Ber,
-            "BER: no string of the type universal 30",
+            "BER: invalid string of type universal 30",
         )],
     );
     assert_refusals_shown::<UtcTime>(
@@ -191,14 +194,14 @@ fn tells_foreign_octets(rt: HostRuntime) {
         &[(
             &[0x17, 0x02, 0x31, 0x0A],
             Codec::Ber,
-            "BER: invalid time 310A",
+            "BER: invalid time, octets 310A",
         )],
     );
     assert_refusals_shown::<Integer>(
         &rt,
         alloc,
         any,
-        &[(&[0x02, 0x00], Codec::Ber, "BER: no octets")],
+        &[(&[0x02, 0x00], Codec::Ber, "BER: empty contents")],
     );
 }
 
@@ -207,11 +210,16 @@ fn tells_foreign_octets(rt: HostRuntime) {
 fn tells_names(rt: HostRuntime) {
     let alloc = rt.alloc();
     let time = DecodeError::no_valid_choice(alloc, "Time", Codec::Der);
-    assert_shown(&rt, alloc, time, "DER: no alternative of Time");
+    assert_shown(
+        &rt,
+        alloc,
+        time,
+        "DER: no alternative of `Time` has the tag",
+    );
     let number = DecodeError::missing_field(alloc, "number", Codec::Ber);
-    assert_shown(&rt, alloc, number, "BER: number is missing");
+    assert_shown(&rt, alloc, number, "BER: missing component `number`");
     let number = DecodeError::duplicate_field(alloc, "number", Codec::Ber);
-    assert_shown(&rt, alloc, number, "BER: number comes twice");
+    assert_shown(&rt, alloc, number, "BER: duplicate component `number`");
     let kind = EncodeErrorKind::CodecSpecific {
         inner: CodecEncodeError::Ber(BerEncodeErrorKind::SetOutOfOrder),
     };
@@ -220,11 +228,11 @@ fn tells_names(rt: HostRuntime) {
         &rt,
         alloc,
         EncodeError { kind, codec },
-        "CER: not in ascending order",
+        "CER: components of a SET or elements of a SET OF are not in ascending order",
     );
     let kind = EncodeErrorKind::SizeConstraintNotSatisfied {
         size: 3,
         expected: Bounded::Single(4),
     };
-    assert_shown(&rt, alloc, kind, "size 3, not in 4");
+    assert_shown(&rt, alloc, kind, "size 3 violates the constraint 4");
 }

@@ -1,7 +1,8 @@
 -- Canonical texts of GeneralizedTime whose length and last digit tell whether they are the shortest ones.
-use Rattle.std.proofs.Common.{◌≡◌, ◌≢◌, ℕ, ◌+◌, ◌-◌, ◌<◌, ◌≤◌, ◌⊎◌, inl, inr, ◌&&◌, Bool, true, false, get_or, List, [], ◌∷◌, ◌++◌, map, length, Option, Some, None, refl, sym, ap, ◌∙◌, subst, arith, append_assoc, length-append}
+use Rattle.std.proofs.Common.{◌≡◌, ◌≢◌, ℕ, ◌+◌, ◌-◌, ◌<◌, ◌≤◌, ◌⊎◌, inl, inr, ◌&&◌, Bool, true, false, get_or, List, [], ◌∷◌, ◌++◌, map, length, Option, Some, None, refl, sym, ap, ◌∙◌, subst, true≢false, arith, append_assoc, length-append}
 use Rattle.std.proofs.lemmas.Bool.Decides.{nat_tests}
-use Rattle.std.specs.Prelude.{IsTrue, ◌↔◌, not, nat_eq}
+use Rattle.std.specs.Prelude.{not, nat_eq}
+use Rattle.rasn_types.specs.Truth.{IsWhether}
 use Rattle.std.proofs.lemmas.List.{get_or_at, map-append, length-map}
 use Rattle.rasn_types.specs.declared.ber.time.text.Clock.{Clock}
 use Rattle.rasn_types.specs.declared.ber.time.text.Clock.TheVariants.{Hours, Minutes, Seconds}
@@ -76,12 +77,16 @@ text_decided text t c =
     let p = spelled_out c.year c.rest.clock c.rest.zone c.rest refl refl (and_left seconds point (and_left (seconds && point) (is_utc c.rest.zone) a)) (and_right (seconds && point) (is_utc c.rest.zone) a) in
     told p.0 text c.rest.fraction c.spelled.fraction p.1 (c.is ∙ p.2)
 
+-- both ways, as a test
+whether : (b : Bool) (P : Type 0) → (b ≡ true → P) → (P → b ≡ true) → IsWhether b P
+whether true P f g = f refl
+whether false P f g = λ p. true≢false (sym (g p))
+
 pub last_told : (text : List ℕ) (t : Stamp) (c : CanonicalGeneralized text t) → length text ≢ 15 → length text ≤ 25
-    → IsTrue (not (nat_eq (get_or text (length text - 2) 0) 48)) ↔ IsShortFraction c.rest.fraction
+    → IsWhether (not (nat_eq (get_or text (length text - 2) 0) 48)) (IsShortFraction c.rest.fraction)
 last_told text t c e l = elim (text_decided text t c) [
   | inl k ↦ absurd (e k.0)
-  | inr k ↦ (
-    (λ h. let n : get_or text (length text - 2) 0 ≢ 48 = grind (arith, nat_tests) in k.1 l n),
-    (λ s. let n = (k.2 s).1 in grind (arith, nat_tests)),
-  )
+  | inr k ↦ whether (not (nat_eq (get_or text (length text - 2) 0) 48)) (IsShortFraction c.rest.fraction)
+      (λ h. let n : get_or text (length text - 2) 0 ≢ 48 = grind (arith, nat_tests) in k.1 l n)
+      (λ s. let n = (k.2 s).1 in grind (arith, nat_tests))
 ]

@@ -1,6 +1,7 @@
 //! Errors of reading.
-ghost use Rattle.std.specs.Prelude.{◌≡◌, IsTrue, ◌↔◌, if◌then◌else◌, nat_eq};
+ghost use Rattle.std.specs.Prelude.{◌≡◌, if◌then◌else◌, nat_eq};
 ghost use Rattle.rasn_types.specs.Errors.{needed_of, IsOutOfMemory};
+ghost use Rattle.rasn_types.specs.Truth.{IsWhether};
 
 use crate::hexadecimal::Hexadecimal;
 use crate::types::{Bounded, Codec, Integer, Tag};
@@ -42,7 +43,7 @@ const _: () = prove!(size_of::<Result<(), DecodeError>>() == 80);
 impl DecodeError {
     /// Whether the cause is running out of memory alone.
     pub fn is_out_of_memory(&self) -> bool
-        ensures { IsTrue result ↔ IsOutOfMemory self.now.kind }
+        ensures { IsWhether result (IsOutOfMemory self.now.kind) }
     {
         matches!(&self.kind, DecodeErrorKind::OutOfMemory)
     }
@@ -140,34 +141,34 @@ pub enum CodecDecodeError {
 #[derive(Debug, PartialEq, Eq, Drop, Error)]
 pub enum BerDecodeErrorKind {
     /// A tag number of 2^32 or more (X.690 8.1.2.4).
-    #[error("a tag number of 2^32 or more")]
+    #[error("tag number exceeds 32 bits")]
     UnsupportedTagNumber,
     /// An arc of 2^32 or more (X.690 8.19).
-    #[error("an arc of 2^32 or more")]
+    #[error("OBJECT IDENTIFIER arc exceeds 32 bits")]
     UnsupportedObjectIdentifierArc,
     /// End-of-contents octets stand where a value has to (X.690 8.1.5).
-    #[error("end-of-contents octets in the place of a value")]
+    #[error("unexpected end-of-contents octets")]
     UnexpectedEndOfContents,
     /// A value stands where end-of-contents octets have to (X.690 8.1.5).
-    #[error("end-of-contents octets are missing")]
+    #[error("missing end-of-contents octets")]
     MissingEndOfContents,
     /// The indefinite form isn't allowed here (X.690 8.1.3.2, 10.1).
-    #[error("the indefinite form isn't allowed")]
+    #[error("indefinite length is not allowed")]
     IndefiniteLengthNotAllowed,
     /// `FF` as the first length octet (X.690 8.1.3.5).
-    #[error("the first length octet is FF")]
+    #[error("reserved length octet FF")]
     ReservedLengthOctet,
     /// Another tag than the expected one.
-    #[error("tag {actual} instead of {expected}")]
+    #[error("unexpected tag {actual}, expected {expected}")]
     MismatchedTag { expected: Tag, actual: Tag },
     /// A SEQUENCE, SET or list without the constructed bit (X.690 8.9.1).
-    #[error("a primitive encoding of a constructed type")]
+    #[error("primitive encoding, expected constructed")]
     InvalidConstructedIdentifier,
     /// Arcs that aren't an object identifier's.
     #[error("invalid OBJECT IDENTIFIER")]
     InvalidObjectIdentifier,
     /// The text isn't of the time type.
-    #[error("invalid time {}", Hexadecimal(.octets))]
+    #[error("invalid time, octets {}", Hexadecimal(.octets))]
     InvalidDate { octets: Vec<u8> },
 }
 
@@ -175,33 +176,33 @@ pub enum BerDecodeErrorKind {
 #[derive(Clone, Copy, Debug, PartialEq, Eq, Error)]
 pub enum DerDecodeErrorKind {
     /// A string in segments (X.690 10.2).
-    #[error("a string in segments")]
+    #[error("constructed encoding of a string is not allowed")]
     ConstructedEncodingNotAllowed,
     /// A tag number in more octets than it needs (X.690 8.1.2.4.2).
-    #[error("a tag number in more octets than it needs")]
+    #[error("tag number is not in the fewest octets")]
     NonMinimalTagNumber,
     /// The constructed bit isn't the one that the type is written with (X.690 8.1.2.5).
-    #[error("the wrong constructed bit for the type")]
+    #[error("constructed bit does not match the type")]
     ConstructedBitMismatch,
     /// A length in more octets than it needs (X.690 10.1).
-    #[error("a length in more octets than it needs")]
+    #[error("length is not in the fewest octets")]
     NonMinimalLength,
     /// A number whose first nine bits are equal (X.690 8.3.2).
-    #[error("a number in more octets than it needs")]
+    #[error("number is not in the fewest octets")]
     NonMinimalInteger,
     /// A subidentifier of an object identifier in more octets than it needs (X.690 8.19.2).
-    #[error("an arc in more octets than it needs")]
+    #[error("OBJECT IDENTIFIER arc is not in the fewest octets")]
     NonMinimalArc,
     /// An unused bit of a BIT STRING is set (X.690 11.2.1).
-    #[error("an unused bit is set")]
+    #[error("unused bits of a BIT STRING are not zero")]
     NonzeroUnusedBits,
     /// A part that equals its default is there (X.690 11.5).
-    #[error("a component equals its DEFAULT value")]
+    #[error("component with its DEFAULT value is encoded")]
     DefaultValuePresent,
     /// The tags of the components of a SET fall (X.690 10.3).
-    #[error("the components of a SET aren't in ascending order of their tags")]
+    #[error("components of a SET are not in ascending order of tags")]
     SetComponentsOutOfOrder,
     /// The octets of the elements of a SET OF fall (X.690 11.6).
-    #[error("the elements of a SET OF aren't in ascending order")]
+    #[error("elements of a SET OF are not in ascending order")]
     SetOfOutOfOrder,
 }

@@ -1,6 +1,6 @@
 //! Errors of writing.
-ghost use Rattle.std.specs.Prelude.{IsTrue, ◌↔◌};
 ghost use Rattle.rasn_types.specs.Errors.{IsEncodeOutOfMemory};
+ghost use Rattle.rasn_types.specs.Truth.{IsWhether};
 
 use crate::types::{Bounded, Codec, Integer};
 use thiserror::Error;
@@ -19,7 +19,7 @@ const _: () = prove!(size_of::<Result<(), EncodeError>>() == 72);
 impl EncodeError {
     /// Whether the cause is running out of memory alone.
     pub fn is_out_of_memory(&self) -> bool
-        ensures { IsTrue result ↔ IsEncodeOutOfMemory self.now.kind }
+        ensures { IsWhether result (IsEncodeOutOfMemory self.now.kind) }
     {
         matches!(&self.kind, EncodeErrorKind::OutOfMemory)
     }
@@ -29,19 +29,19 @@ impl EncodeError {
 #[derive(Debug, PartialEq, Eq, Drop, Error)]
 pub enum EncodeErrorKind {
     /// The size is out of its bound: of octets, characters, units, bits or elements, as the type counts.
-    #[error("size {size}, not in {expected}")]
+    #[error("size {size} violates the constraint {expected}")]
     SizeConstraintNotSatisfied {
         size: usize,
         expected: Bounded<usize>,
     },
     /// The number is out of its bound. The bound is boxed, so that no error is made large by it.
-    #[error("number {value}, not in {expected}")]
+    #[error("number {value} violates the constraint {expected}")]
     ValueConstraintNotSatisfied {
         value: Integer,
         expected: Box<Bounded<i128>>,
     },
     /// REAL isn't supported.
-    #[error("REAL isn't supported")]
+    #[error("REAL is not supported")]
     RealNotSupported,
     /// A growth of memory was refused.
     #[error("out of memory")]
@@ -67,9 +67,9 @@ pub enum BerEncodeErrorKind {
     #[error("invalid OBJECT IDENTIFIER: {oid:?}")]
     InvalidObjectIdentifier { oid: Vec<u32> },
     /// Open octets without a tag directly in a SET.
-    #[error("an open type without a tag in a SET")]
+    #[error("untagged open type in a SET")]
     AnyInSet,
     /// The tags of a SET's components, or the octets of a SET OF's elements, fall (X.690 9.3, 10.3, 11.6).
-    #[error("not in ascending order")]
+    #[error("components of a SET or elements of a SET OF are not in ascending order")]
     SetOutOfOrder,
 }

@@ -18,31 +18,36 @@ impl fmt::Display for DecodeErrorKind {
     fn fmt<W: fmt::Write>(&self, f: &mut fmt::Formatter<W>) -> fmt::Result {
         use DecodeErrorKind as Kind;
         match self {
-            Kind::Incomplete { needed } => write_missing(f, *needed),
-            Kind::UnexpectedExtraData { length } => write_left(f, *length),
-            Kind::UnexpectedEmptyInput => f.write_str("no octets"),
-            Kind::ExceedsMaxParseDepth => f.write_str("values are nested too deep"),
-            Kind::RealNotSupported => f.write_str("REAL isn't supported"),
+            Kind::Incomplete { needed } => write_needed(f, *needed),
+            Kind::UnexpectedExtraData { length } => write_octets(f, *length, "trailing"),
+            Kind::UnexpectedEmptyInput => f.write_str("empty contents"),
+            Kind::ExceedsMaxParseDepth => f.write_str("nested too deeply"),
+            Kind::RealNotSupported => f.write_str("REAL is not supported"),
             Kind::OutOfMemory => f.write_str("out of memory"),
-            Kind::LengthExceedsPlatformWidth => f.write_str("a length of 2^64 or more"),
-            Kind::InvalidBool { value } => write_octet(f, *value, " is no canonical BOOLEAN"),
+            Kind::LengthExceedsPlatformWidth => f.write_str("length exceeds 64 bits"),
+            Kind::InvalidBool { value } => write_boolean(f, *value),
             Kind::MismatchedLength { expected, actual } => {
-                instead(f, "a length of ", actual, expected)
+                instead(f, "length ", actual, expected)
             }
             Kind::IntegerOverflow { max_width } => write_width(f, *max_width),
             Kind::DiscriminantValueNotFound { discriminant } => {
-                around(f, "", discriminant, " isn't in the enumeration")
+                around(f, "no enumeration item has the number ", discriminant, "")
             }
-            Kind::InvalidBitString { bits } => around(f, "", bits, " unused bits"),
+            Kind::InvalidBitString { bits } => around(
+                f,
+                "invalid number of unused bits: ",
+                bits,
+                "",
+            ),
             Kind::SizeConstraintNotSatisfied { size, expected } => write_size(f, *size, expected),
             Kind::ValueConstraintNotSatisfied { value, expected } => {
                 outside(f, "number ", value, expected)
             }
             Kind::PermittedAlphabetError { octet, position } => write_place(f, *octet, *position),
-            Kind::StringConversionFailed { tag } => around(f, "no string of the type ", tag, ""),
-            Kind::NoValidChoice { name } => around(f, "no alternative of ", name, ""),
-            Kind::MissingField { name } => around(f, "", name, " is missing"),
-            Kind::DuplicateField { name } => around(f, "", name, " comes twice"),
+            Kind::StringConversionFailed { tag } => around(f, "invalid string of type ", tag, ""),
+            Kind::NoValidChoice { name } => around(f, "no alternative of `", name, "` has the tag"),
+            Kind::MissingField { name } => around(f, "missing component `", name, "`"),
+            Kind::DuplicateField { name } => around(f, "duplicate component `", name, "`"),
             Kind::CodecSpecific { inner } => around(f, "", inner, ""),
         }
     }
@@ -60,58 +65,56 @@ fn around<W: fmt::Write, T: fmt::Display>(
     write!(f, "{front}{value}{back}")
 }
 
-/// Writes what is there and what should be.
+/// Writes what was found and what was expected.
 fn instead<W: fmt::Write, T: fmt::Display>(
     f: &mut fmt::Formatter<W>,
     front: &str,
     actual: &T,
     expected: &T,
 ) -> fmt::Result {
-    write!(f, "{front}{actual} instead of {expected}")
+    write!(f, "{front}{actual}, expected {expected}")
 }
 
-/// Writes what isn't in its bound.
+/// Writes what violates its constraint.
 fn outside<W: fmt::Write, V: fmt::Display, T: fmt::Display>(
     f: &mut fmt::Formatter<W>,
     front: &str,
     value: &V,
     expected: &Bounded<T>,
 ) -> fmt::Result {
-    write!(f, "{front}{value}, not in {expected}")
+    write!(f, "{front}{value} violates the constraint {expected}")
 }
 
-fn write_count<W: fmt::Write>(f: &mut fmt::Formatter<W>, octets: usize) -> fmt::Result {
+/// Writes how many octets of this kind there are.
+fn write_octets<W: fmt::Write>(
+    f: &mut fmt::Formatter<W>,
+    octets: usize,
+    kind: &str,
+) -> fmt::Result {
     if octets == 1 {
-        f.write_str("one octet is")
+        write!(f, "1 {kind} octet")
     } else {
-        write!(f, "{octets} octets are")
+        write!(f, "{octets} {kind} octets")
     }
 }
 
-fn write_missing<W: fmt::Write>(f: &mut fmt::Formatter<W>, needed: Needed) -> fmt::Result {
+fn write_needed<W: fmt::Write>(f: &mut fmt::Formatter<W>, needed: Needed) -> fmt::Result {
+    f.write_str("unexpected end of input")?;
     match needed {
-        Needed::Unknown => f.write_str("octets are missing"),
+        Needed::Unknown => Ok(()),
         Needed::Size(octets) => {
-            write_count(f, octets)?;
-            f.write_str(" missing")
+            f.write_str(", need ")?;
+            write_octets(f, octets, "more")
         }
     }
 }
 
-fn write_left<W: fmt::Write>(f: &mut fmt::Formatter<W>, octets: usize) -> fmt::Result {
-    write_count(f, octets)?;
-    f.write_str(" left")
-}
-
-fn write_octet<W: fmt::Write>(f: &mut fmt::Formatter<W>, octet: u8, back: &str) -> fmt::Result {
-    write!(f, "octet {octet:02X}{back}")
+fn write_boolean<W: fmt::Write>(f: &mut fmt::Formatter<W>, octet: u8) -> fmt::Result {
+    write!(f, "BOOLEAN octet {octet:02X} is neither 00 nor FF")
 }
 
 fn write_width<W: fmt::Write>(f: &mut fmt::Formatter<W>, bits: u32) -> fmt::Result {
-    write!(
-        f,
-        "the number doesn't fit {bits} bits, or is negative and the type has no sign"
-    )
+    write!(f, "number is out of range for a type of {bits} bits")
 }
 
 fn write_size<W: fmt::Write>(
@@ -121,7 +124,7 @@ fn write_size<W: fmt::Write>(
 ) -> fmt::Result {
     match size {
         Some(size) => outside(f, "size ", &size, expected),
-        None => outside(f, "the size", &"", expected),
+        None => write!(f, "size violates the constraint {expected}"),
     }
 }
 
@@ -132,6 +135,6 @@ fn write_place<W: fmt::Write>(
 ) -> fmt::Result {
     write!(
         f,
-        "octet {octet:02X} at place {position} isn't in the alphabet"
+        "octet {octet:02X} at position {position} is not in the permitted alphabet"
     )
 }

@@ -1,7 +1,8 @@
 //! DATE: days of the calendar.
-ghost use Rattle.std.specs.Prelude.{◌≡◌, ◌<ℤ◌, pos, negsuc, IsTrue, ◌↔◌};
+ghost use Rattle.std.specs.Prelude.{◌≡◌, ◌<ℤ◌, pos, negsuc};
 ghost use Rattle.rasn_types.specs.Calendar.{Day, IsDay, DayBefore, is_leap, days_of_month, next_day, previous_day};
 ghost use Rattle.rasn_types.specs.Options.{IsSomeExactlyIf};
+ghost use Rattle.rasn_types.specs.Truth.{IsWhether};
 
 use crate::types::{AsnType, Constraints, Tag};
 use std::marker::Model;
@@ -143,14 +144,14 @@ impl Date {
 
     /// Whether the two are the same day, as `==` tells.
     pub fn is_same(&self, other: &Date) -> bool
-        ensures { IsTrue result ↔ (self.now ≡ other.now) }
+        ensures { IsWhether result (self.now ≡ other.now) }
     {
         self == other
     }
 
     /// Whether it lies before the other day, as `<` tells.
     pub fn is_before(&self, other: &Date) -> bool
-        ensures { IsTrue result ↔ DayBefore self.now other.now }
+        ensures { IsWhether result (DayBefore self.now other.now) }
     {
         self < other
     }

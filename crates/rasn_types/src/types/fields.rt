@@ -1,7 +1,8 @@
 //! The fields of constructed types.
-ghost use Rattle.std.specs.Prelude.{◌≡◌, IsTrue, ◌↔◌, count_by};
+ghost use Rattle.std.specs.Prelude.{◌≡◌, count_by};
 ghost use Rattle.rasn_types.specs.Described.{is_optional_or_default};
 ghost use Rattle.rasn_types.specs.declared.types.fields.FieldPresence.TheVariants.{Required, Optional, Default};
+ghost use Rattle.rasn_types.specs.Truth.{IsWhether};
 
 use crate::types::Tag;
 
@@ -103,7 +104,7 @@ impl<const N: usize, F: HasPresence + Copy> Fields<N, F> {
 
     /// Whether there are none.
     pub const fn is_empty(&self) -> bool
-        ensures { IsTrue result ↔ (N ≡ 0) }
+        ensures { IsWhether result (N ≡ 0) }
     {
         N == 0
     }

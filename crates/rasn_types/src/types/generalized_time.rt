@@ -1,7 +1,8 @@
 //! GeneralizedTime: instants with an offset.
-ghost use Rattle.std.specs.Prelude.{◌≡◌, ◌≤ℤ◌, pos, negsuc, IsTrue, ◌↔◌};
+ghost use Rattle.std.specs.Prelude.{◌≡◌, ◌≤ℤ◌, pos, negsuc};
 ghost use Rattle.rasn_types.specs.Calendar.{Before};
 ghost use Rattle.rasn_types.specs.Options.{IsSomeExactlyIf};
+ghost use Rattle.rasn_types.specs.Truth.{IsWhether};
 
 use crate::types::{AsnType, Constraints, Tag, UtcTime};
 use std::cmp::Ordering;
@@ -58,14 +59,14 @@ impl GeneralizedTime {
 
     /// Whether the two are the same instant, as `==` tells.
     pub fn is_same(&self, other: &GeneralizedTime) -> bool
-        ensures { IsTrue result ↔ (self.now.moment ≡ other.now.moment) }
+        ensures { IsWhether result (self.now.moment ≡ other.now.moment) }
     {
         self == other
     }
 
     /// Whether it lies before the other instant, as `<` tells.
     pub fn is_before(&self, other: &GeneralizedTime) -> bool
-        ensures { IsTrue result ↔ Before self.now.moment other.now.moment }
+        ensures { IsWhether result (Before self.now.moment other.now.moment) }
     {
         self < other
     }

@@ -1,7 +1,8 @@
 //! UTCTime: instants.
-ghost use Rattle.std.specs.Prelude.{◌≡◌, ◌<◌, ◌<ℤ◌, pos, negsuc, IsTrue, ◌↔◌};
+ghost use Rattle.std.specs.Prelude.{◌≡◌, ◌<◌, ◌<ℤ◌, pos, negsuc};
 ghost use Rattle.rasn_types.specs.Calendar.{Moment, IsMoment, Before, later, earlier, at_minute};
 ghost use Rattle.rasn_types.specs.Options.{IsSomeExactlyIf};
+ghost use Rattle.rasn_types.specs.Truth.{IsWhether};
 
 use crate::types::{AsnType, Constraints, Date, Tag};
 use std::marker::Model;
@@ -143,14 +144,14 @@ impl UtcTime {
 
     /// Whether the two are the same instant, as `==` tells.
     pub fn is_same(&self, other: &UtcTime) -> bool
-        ensures { IsTrue result ↔ (self.now ≡ other.now) }
+        ensures { IsWhether result (self.now ≡ other.now) }
     {
         self == other
     }
 
     /// Whether it lies before the other instant, as `<` tells.
     pub fn is_before(&self, other: &UtcTime) -> bool
-        ensures { IsTrue result ↔ Before self.now other.now }
+        ensures { IsWhether result (Before self.now other.now) }
     {
         self < other
     }

@@ -14,11 +14,11 @@ use rasn_types::types::{Any, Constraints, Tag};
 
 impl<'input> Decoder<'input> {
     /// A value of an open type, kept as its octets (X.680 30): with a tag the contents of the one value of this tag, in either
-    /// length form and without end-of-contents octets; with `Tag::EOC` one whole encoding, end-of-contents octets included. What it holds may be
+    /// length form and without end-of-contents octets; with `Tag::EOC` one complete encoding, end-of-contents octets included. What it holds may be
     /// nested to any depth, and is spelled as under BER, but for the indefinite form, which DER never has.
     ///
     /// # Errors
-    /// Framing faults of the value and of those that it holds, which take nothing.
+    /// Framing faults of the value and of those that it holds, which consume nothing.
     pub fn decode_any(&mut self, tag: Tag) -> Result<Any, DecodeError>
         ensures reads { Decodes (any (looked_for tag)) numbers self.old result self.new }
         ensures exact { DecodesOpenType tag self.old result self.new }
@@ -35,12 +35,12 @@ impl<'input> Decoder<'input> {
         }
     }
 
-    /// Passes one whole encoding at any depth (X.690 8.1.1.1), in constant memory. Answers how many steps this took, which are at
+    /// Passes one complete encoding at any depth (X.690 8.1.1.1), in constant memory. Answers how many steps this took, which are at
     /// most half as many as the octets: one for each end-of-contents octets that it passed, and one for each value inside with a definite
     /// length or header of indefinite length; none for a value of definite length.
     ///
     /// # Errors
-    /// Framing faults of the value and of those that it holds, which take nothing.
+    /// Framing faults of the value and of those that it holds, which consume nothing.
     pub fn skip_value(&mut self) -> Result<usize, DecodeError>
         ensures exact { SkipsValue self.old result self.new }
         ensures half { IfOk result (λ turns. 2 * turns + length self.new.rest ≤ length self.old.rest) }

@@ -15,8 +15,8 @@ use rasn_types::error::DecodeError;
 use rasn_types::types::{BitString, Constraints, Tag};
 
 impl<'input> Decoder<'input> {
-    /// The bits of the next value as a string, gathered from its segments. A refusal takes nothing, but for running out of memory
-    /// for the bits of a primitive value, which takes the value.
+    /// The bits of the next value as a string, gathered from its segments. A refusal consumes nothing, but for running out of memory
+    /// for the bits of a primitive value, which consumes the value.
     fn bits(&mut self, tag: Tag) -> Result<CollectedBits, DecodeError>
         ensures exact { DecodesBits tag self.old result self.new }
         ensures octets { AreOctets self.old.rest }
@@ -55,8 +55,8 @@ impl<'input> Decoder<'input> {
     /// DER none is set (X.690 11.2.1).
     ///
     /// # Errors
-    /// With nothing taken: framing faults, `UnexpectedEmptyInput` and `InvalidBitString` of a segment (X.690 8.6.2), under DER
-    /// `NonzeroUnusedBits`, and `OutOfMemory` while segments are gathered. With the value taken: `OutOfMemory` of a primitive one,
+    /// With nothing consumed: framing faults, `UnexpectedEmptyInput` and `InvalidBitString` of a segment (X.690 8.6.2), under DER
+    /// `NonzeroUnusedBits`, and `OutOfMemory` while segments are gathered. With the value consumed: `OutOfMemory` of a primitive one,
     /// `LengthExceedsPlatformWidth` for 2^64 bits or more, then `SizeConstraintNotSatisfied`.
     pub fn decode_bit_string(
         &mut self,

@@ -34,7 +34,7 @@ impl<'input> Decoder<'input> {
     /// A BOOLEAN (X.690 8.2, 11.1).
     ///
     /// # Errors
-    /// Framing faults. With the value taken: `MismatchedLength` where the contents aren't one octet, and under CER and DER `InvalidBool`
+    /// Framing faults. With the value consumed: `MismatchedLength` where the contents aren't one octet, and under CER and DER `InvalidBool`
     /// of another octet than `00` and `FF`.
     pub fn decode_bool(&mut self, tag: Tag) -> Result<bool, DecodeError>
         ensures reads { Decodes (leaf boolean tag unconstrained) bool_tree self.old result self.new }

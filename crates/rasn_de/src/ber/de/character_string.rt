@@ -82,7 +82,7 @@ impl<'input> Decoder<'input> {
     /// A VisibleString of octets `20` to `7E`, within a size in octets (X.680 41).
     ///
     /// # Errors
-    /// Framing faults and faults of a segment, which take nothing. With the value taken: `SizeConstraintNotSatisfied`, then
+    /// Framing faults and faults of a segment, which consume nothing. With the value consumed: `SizeConstraintNotSatisfied`, then
     /// `PermittedAlphabetError`.
     pub fn decode_visible_string(
         &mut self,
@@ -98,7 +98,7 @@ impl<'input> Decoder<'input> {
     /// An IA5String of octets `00` to `7F`, within a size in octets (X.680 41).
     ///
     /// # Errors
-    /// Framing faults and faults of a segment, which take nothing. With the value taken: `SizeConstraintNotSatisfied`, then
+    /// Framing faults and faults of a segment, which consume nothing. With the value consumed: `SizeConstraintNotSatisfied`, then
     /// `PermittedAlphabetError`.
     pub fn decode_ia5_string(
         &mut self,
@@ -114,7 +114,7 @@ impl<'input> Decoder<'input> {
     /// A PrintableString of letters, digits, space and `' ( ) + , - . / : = ?`, within a size in octets (X.680 41).
     ///
     /// # Errors
-    /// Framing faults and faults of a segment, which take nothing. With the value taken: `SizeConstraintNotSatisfied`, then
+    /// Framing faults and faults of a segment, which consume nothing. With the value consumed: `SizeConstraintNotSatisfied`, then
     /// `PermittedAlphabetError`.
     pub fn decode_printable_string(
         &mut self,
@@ -130,7 +130,7 @@ impl<'input> Decoder<'input> {
     /// A NumericString of digits and space, within a size in octets (X.680 41).
     ///
     /// # Errors
-    /// Framing faults and faults of a segment, which take nothing. With the value taken: `SizeConstraintNotSatisfied`, then
+    /// Framing faults and faults of a segment, which consume nothing. With the value consumed: `SizeConstraintNotSatisfied`, then
     /// `PermittedAlphabetError`.
     pub fn decode_numeric_string(
         &mut self,
@@ -146,7 +146,7 @@ impl<'input> Decoder<'input> {
     /// A TeletexString of any octets, within a size in octets (X.680 41).
     ///
     /// # Errors
-    /// Framing faults and faults of a segment, which take nothing; `SizeConstraintNotSatisfied`, which takes the value.
+    /// Framing faults and faults of a segment, which consume nothing; `SizeConstraintNotSatisfied`, which consumes the value.
     pub fn decode_teletex_string(
         &mut self,
         tag: Tag,
@@ -161,7 +161,7 @@ impl<'input> Decoder<'input> {
     /// A GeneralString of any octets, within a size in octets (X.680 41).
     ///
     /// # Errors
-    /// Framing faults and faults of a segment, which take nothing; `SizeConstraintNotSatisfied`, which takes the value.
+    /// Framing faults and faults of a segment, which consume nothing; `SizeConstraintNotSatisfied`, which consumes the value.
     pub fn decode_general_string(
         &mut self,
         tag: Tag,
@@ -176,7 +176,7 @@ impl<'input> Decoder<'input> {
     /// A GraphicString of any octets, within a size in octets (X.680 41).
     ///
     /// # Errors
-    /// Framing faults and faults of a segment, which take nothing; `SizeConstraintNotSatisfied`, which takes the value.
+    /// Framing faults and faults of a segment, which consume nothing; `SizeConstraintNotSatisfied`, which consumes the value.
     pub fn decode_graphic_string(
         &mut self,
         tag: Tag,
@@ -191,7 +191,7 @@ impl<'input> Decoder<'input> {
     /// A BMPString of 16-bit units, within a size in units (X.690 8.23.8).
     ///
     /// # Errors
-    /// Framing faults and faults of a segment, which take nothing. With the value taken: `StringConversionFailed` of an odd number
+    /// Framing faults and faults of a segment, which consume nothing. With the value consumed: `StringConversionFailed` of an odd number
     /// of octets, then `SizeConstraintNotSatisfied`.
     pub fn decode_bmp_string(
         &mut self,
@@ -214,7 +214,7 @@ impl<'input> Decoder<'input> {
     /// A UTF8String, within a size in characters (X.690 8.23.10).
     ///
     /// # Errors
-    /// Framing faults and faults of a segment, which take nothing. With the value taken: `StringConversionFailed` of octets that
+    /// Framing faults and faults of a segment, which consume nothing. With the value consumed: `StringConversionFailed` of octets that
     /// aren't UTF-8, all segments taken together, then `SizeConstraintNotSatisfied`.
     pub fn decode_utf8_string(
         &mut self,

@@ -11,7 +11,7 @@ impl<'input> Decoder<'input> {
     /// A value of the alternative that the next tag belongs to. Constraints are ignored.
     ///
     /// # Errors
-    /// Faults of the next identifier, which take nothing; what `D::from_tag` refuses.
+    /// Faults of the next identifier, which consume nothing; what `D::from_tag` refuses.
     pub fn decode_choice<D: DecodeChoice>(
         &mut self,
         _constraints: &Constraints,

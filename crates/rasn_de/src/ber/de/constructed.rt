@@ -85,7 +85,7 @@ impl<'input> Decoder<'input> {
         &mut self,
         header: ConstructedHeader,
     ) -> Result<(Decoder<'input>, Contents<'input>), DecodeError>
-        ensures opens { ConsumesOpening header self.old result self.new }
+        ensures exact { ConsumesOpening header self.old result self.new }
         ensures octets { self.old.depth ≢ 0 → AreOctets self.old.rest }
     {
         if self.depth == 0 {

@@ -13,9 +13,9 @@ impl<'input> Decoder<'input> {
     /// A value, or its default where the contents end or another tag than the type's own comes.
     ///
     /// # Errors
-    /// Faults of the next identifier, which take nothing; what the value refuses; running out of memory of the default. Under DER the
+    /// Faults of the next identifier, which consume nothing; what the value refuses; running out of memory of the default. Under DER the
     /// default is also made where a value comes, and `DefaultValuePresent` refuses the value that equals it (X.690 11.5); this
-    /// refusal, and running out of memory then, take the value.
+    /// refusal, and running out of memory then, consume the value.
     pub fn decode_default<D: Decode + LawfulEq, F: FnOnce() -> Result<D, AllocError>>(
         &mut self,
         default: F,

@@ -16,7 +16,7 @@ impl<'input> Decoder<'input> {
     /// An ENUMERATED of the type `E` (X.690 8.4).
     ///
     /// # Errors
-    /// Framing faults. With the value taken: `UnexpectedEmptyInput`, under DER `NonMinimalInteger`, `IntegerOverflow` from 64
+    /// Framing faults. With the value consumed: `UnexpectedEmptyInput`, under DER `NonMinimalInteger`, `IntegerOverflow` from 64
     /// bits on, then `DiscriminantValueNotFound` where the type doesn't name the number.
     pub fn decode_enumerated<E: Enumerated>(&mut self, tag: Tag) -> Result<E, DecodeError>
         ensures reads { Decodes (leaf (enumerated E.known) tag unconstrained) (λ v. number (E.number v)) self.old result self.new }

@@ -13,7 +13,7 @@ impl<'input> Decoder<'input> {
     /// An OCTET STRING of `N` octets, which are also within a size (X.690 8.7).
     ///
     /// # Errors
-    /// As `decode_octet_string`; another number of octets than `N` is told before the handed size.
+    /// As `decode_octet_string`; another number of octets than `N` is reported before the size that is handed in.
     pub(crate) fn decode_fixed_octet_string<const N: usize>(
         &mut self,
         tag: Tag,

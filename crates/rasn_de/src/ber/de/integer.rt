@@ -30,7 +30,7 @@ impl<'input> Decoder<'input> {
     /// An INTEGER of the type `I`, within bounds (X.690 8.3).
     ///
     /// # Errors
-    /// Framing faults. With the value taken: `UnexpectedEmptyInput`, under DER `NonMinimalInteger`, `IntegerOverflow`, then
+    /// Framing faults. With the value consumed: `UnexpectedEmptyInput`, under DER `NonMinimalInteger`, `IntegerOverflow`, then
     /// `ValueConstraintNotSatisfied`.
     pub fn decode_integer<I: IntegerType>(
         &mut self,
@@ -61,7 +61,7 @@ impl<'input> Decoder<'input> {
         }
     }
 
-    /// The error of a number out of its bound, which tells both. Where these find no memory, that is the error.
+    /// The error of a number out of its bound, which holds both. Where these find no memory, that is the error.
     #[cold]
     #[inline(never)]
     fn out_of_bound(&self, octets: &[u8], expected: Bounded<i128>) -> DecodeError

@@ -17,7 +17,7 @@ impl<'input> Decoder<'input> {
     /// A NULL (X.690 8.8).
     ///
     /// # Errors
-    /// Framing faults. With the value taken: `MismatchedLength`, where there are contents.
+    /// Framing faults. With the value consumed: `MismatchedLength`, where there are contents.
     pub fn decode_null(&mut self, tag: Tag) -> Result<(), DecodeError>
         ensures reads { Decodes (leaf null tag unconstrained) (λ _. number (pos 0)) self.old result self.new }
         ensures exact { DecodesLeaf (λ u. u) (NullAt self.old.rule tag self.old.rest) self.old result self.new }

@@ -16,7 +16,7 @@ impl<'input> Decoder<'input> {
     /// An OBJECT IDENTIFIER (X.690 8.19).
     ///
     /// # Errors
-    /// Framing faults. With the value taken: `Incomplete` where octets of a subidentifier are missing,
+    /// Framing faults. With the value consumed: `Incomplete` where octets of a subidentifier are missing,
     /// `UnsupportedObjectIdentifierArc` where one is 2^32 or more, under DER `NonMinimalArc` where one begins with the octet 80,
     /// whatever follows that, and `OutOfMemory`.
     pub fn decode_object_identifier(&mut self, tag: Tag) -> Result<ObjectIdentifier, DecodeError>

@@ -30,7 +30,7 @@ pub(crate) fn owned(alloc: Global, octets: CowSlice<'_, u8>) -> Result<Vec<u8>, 
 }
 
 impl<'input> Decoder<'input> {
-    /// The octets of the next value as a string: borrowed from a primitive one, gathered from segments. A refusal takes nothing.
+    /// The octets of the next value as a string: borrowed from a primitive one, gathered from segments. A refusal consumes nothing.
     #[inline(always)]
     pub(super) fn octets(&mut self, tag: Tag) -> Result<CowSlice<'input, u8>, DecodeError>
         ensures exact { DecodesOctets tag self.old result self.new }
@@ -62,7 +62,7 @@ impl<'input> Decoder<'input> {
     /// An OCTET STRING within a size in octets (X.690 8.7). The octets are borrowed exactly where the encoding is primitive.
     ///
     /// # Errors
-    /// Framing faults; faults of a segment, which take nothing (X.690 8.7.3); `SizeConstraintNotSatisfied`, which takes the value.
+    /// Framing faults; faults of a segment, which consume nothing (X.690 8.7.3); `SizeConstraintNotSatisfied`, which consumes the value.
     #[inline(always)]
     pub fn decode_octet_string(
         &mut self,

@@ -26,7 +26,7 @@ impl<'input> Decoder<'input> {
     /// A value, unless the contents end or another tag than the type's own comes.
     ///
     /// # Errors
-    /// Faults of the next identifier, which take nothing; what the value refuses.
+    /// Faults of the next identifier, which consume nothing; what the value refuses.
     pub fn decode_optional<D: Decode>(&mut self) -> Result<Option<D>, DecodeError>
         ensures exact { DecodesIfPresent (Decodes D.shape D.tree) D.TAG self.old result self.new }
         ensures reads { DecodesOption D.TAG D.shape D.tree self.old result self.new }
@@ -84,7 +84,7 @@ impl<'input> Decoder<'input> {
     /// A value in an explicit prefix, unless the contents end or another tag comes.
     ///
     /// # Errors
-    /// Faults of the next identifier, which take nothing; where the prefix comes, as `decode_explicit_prefix`.
+    /// Faults of the next identifier, which consume nothing; where the prefix comes, as `decode_explicit_prefix`.
     pub fn decode_optional_with_explicit_prefix<D: Decode>(
         &mut self,
         tag: Tag,

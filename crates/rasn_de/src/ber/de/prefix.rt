@@ -14,8 +14,8 @@ impl<'input> Decoder<'input> {
     /// whose constructed bit has to be set under DER, and isn't looked at otherwise.
     ///
     /// # Errors
-    /// `ExceedsMaxParseDepth` before the header; framing faults; what the value refuses, and `UnexpectedExtraData`, which take header and
-    /// contents, or of an indefinite length the header; end-of-contents octets that are missing (`Incomplete`, `MissingEndOfContents`), which take
+    /// `ExceedsMaxParseDepth` before the header; framing faults; what the value refuses, and `UnexpectedExtraData`, which consume header and
+    /// contents, or of an indefinite length the header; end-of-contents octets that are missing (`Incomplete`, `MissingEndOfContents`), which consume
     /// what was read inside too.
     pub fn decode_explicit_prefix<D: Decode>(&mut self, tag: Tag) -> Result<D, DecodeError>
         ensures exact { DecodesPrefixBy D.shape D.tree tag self.old result self.new }

@@ -10,13 +10,13 @@ impl<'input> Decoder<'input> {
     /// Refuses: REAL (X.690 8.5) isn't supported.
     ///
     /// # Errors
-    /// `RealNotSupported`, always. Nothing is taken.
+    /// `RealNotSupported`, always. Nothing is consumed.
     pub fn decode_real<R: RealType>(
         &mut self,
         _tag: Tag,
         _constraints: &Constraints,
     ) -> Result<R, DecodeError>
-        ensures refused { result ≡ Err (record { kind = RealNotSupported; codec = self.old.rule }) }
+        ensures fails { result ≡ Err (record { kind = RealNotSupported; codec = self.old.rule }) }
         ensures same { self.new ≡ self.old }
     {
         Err(DecodeError {

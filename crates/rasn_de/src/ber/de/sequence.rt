@@ -30,10 +30,10 @@ impl<'input> Decoder<'input> {
     /// the initializer makes the value of a type without root fields and extension marker, and of empty contents where no root field is required.
     ///
     /// # Errors
-    /// `ExceedsMaxParseDepth` before the header; framing faults; with the value taken, `InvalidConstructedIdentifier`; what `f`
-    /// or the initializer refuses, `UnexpectedEmptyInput` where an initializer is wanted and none is handed in, and
-    /// `UnexpectedExtraData`, which take header and contents, or of an indefinite length the header; end-of-contents octets that are
-    /// missing (`Incomplete`, `MissingEndOfContents`), which take what was read inside too.
+    /// `ExceedsMaxParseDepth` before the header; framing faults; with the value consumed, `InvalidConstructedIdentifier`; what `f`
+    /// or the initializer refuses, `UnexpectedEmptyInput` where an initializer is needed and none is handed in, and
+    /// `UnexpectedExtraData`, which consume header and contents, or of an indefinite length the header; end-of-contents octets that are
+    /// missing (`Incomplete`, `MissingEndOfContents`), which consume what was read inside too.
     pub fn decode_sequence<
         const RC: usize,
         const EC: usize,

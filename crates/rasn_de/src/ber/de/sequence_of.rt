@@ -10,7 +10,7 @@ use rasn_types::error::DecodeError;
 use rasn_types::types::{Constraints, Tag};
 
 impl<'input> Decoder<'input> {
-    /// Reads one more element, which has to take something, behind the others.
+    /// Reads one more element, which has to consume something, behind the others.
     #[inline(always)]
     pub(super) fn push_element<D: Decode>(&mut self, values: &mut Vec<D>) -> Result<(), DecodeError>
         ensures { DecodesElement (Decodes D.shape D.tree) self.old values.old.items result self.new values.new.items }
@@ -40,9 +40,9 @@ impl<'input> Decoder<'input> {
     /// A SEQUENCE OF, within a size in elements (X.690 8.10). It takes two levels of depth.
     ///
     /// # Errors
-    /// `ExceedsMaxParseDepth` before the header; framing faults; with the value taken, `InvalidConstructedIdentifier` and
-    /// `SizeConstraintNotSatisfied`; what an element refuses, and `UnexpectedExtraData` at one that takes nothing, which take header and
-    /// contents, or of an indefinite length the header; end-of-contents octets that are missing, which take what was read inside too.
+    /// `ExceedsMaxParseDepth` before the header; framing faults; with the value consumed, `InvalidConstructedIdentifier` and
+    /// `SizeConstraintNotSatisfied`; what an element refuses, and `UnexpectedExtraData` at one that consumes nothing, which consume header and
+    /// contents, or of an indefinite length the header; end-of-contents octets that are missing, which consume what was read inside too.
     pub fn decode_sequence_of<D: Decode>(
         &mut self,
         tag: Tag,

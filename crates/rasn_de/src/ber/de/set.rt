@@ -37,7 +37,7 @@ impl<'input> Decoder<'input> {
         Ok(Some(tag))
     }
 
-    /// Components up to the end of the contents, whose tags don't fall under DER (X.690 10.3).
+    /// Components up to the end of the contents, whose tags are in ascending order under DER (X.690 10.3).
     fn components<FIELDS: Decode>(&mut self) -> Result<Vec<FIELDS>, DecodeError>
         ensures { DecodesComponents (Decodes FIELDS.shape FIELDS.tree) (λ v. v.items) self.old result self.new }
     {
@@ -55,9 +55,9 @@ impl<'input> Decoder<'input> {
     /// isn't called.
     ///
     /// # Errors
-    /// `ExceedsMaxParseDepth` before the header; framing faults; with the value taken, `InvalidConstructedIdentifier`; what a
-    /// component refuses, `UnexpectedExtraData` at one that takes nothing, under DER faults of the next identifier and
-    /// `SetComponentsOutOfOrder` before the component is read, and what `f` refuses, which take header and contents, or of an
+    /// `ExceedsMaxParseDepth` before the header; framing faults; with the value consumed, `InvalidConstructedIdentifier`; what a
+    /// component refuses, `UnexpectedExtraData` at one that consumes nothing, under DER faults of the next identifier and
+    /// `SetComponentsOutOfOrder` before the component is read, and what `f` refuses, which consume header and contents, or of an
     /// indefinite length the header; end-of-contents octets that are missing (`Incomplete`, `MissingEndOfContents`), which take what was
     /// read inside too.
     pub fn decode_set<

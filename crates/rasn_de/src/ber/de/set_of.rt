@@ -31,7 +31,7 @@ fn octets_before<'input>(start: &'input [u8], rest: &[u8]) -> &'input [u8]
 }
 
 impl<'input> Decoder<'input> {
-    /// Elements up to the end of the contents, whose octets don't fall under DER (X.690 11.6).
+    /// Elements up to the end of the contents, whose octets are in ascending order under DER (X.690 11.6).
     fn elements_in_order<D: Decode>(&mut self) -> Result<SetOf<D>, DecodeError>
         ensures { DecodesElementsInOrder (Decodes D.shape D.tree) (λ v. v) self.old result self.new }
     {
@@ -54,7 +54,7 @@ impl<'input> Decoder<'input> {
     ///
     /// # Errors
     /// As `decode_sequence_of`; under DER also `SetOfOutOfOrder`, behind the element whose octets are less and before the next, which
-    /// takes header and contents.
+    /// consumes header and contents.
     pub fn decode_set_of<D: Decode + Eq>(
         &mut self,
         tag: Tag,

@@ -79,7 +79,7 @@ impl<'input> Decoder<'input> {
     /// A UTCTime (X.680 47): of any form under BER, else of the canonical one (X.690 11.8). A year from 70 on is 19YY, else 20YY.
     ///
     /// # Errors
-    /// Faults of the string, which take nothing; `InvalidDate` with the whole text, which takes the value.
+    /// Faults of the string, which consume nothing; `InvalidDate` with the whole text, which consumes the value.
     pub fn decode_utc_time(&mut self, tag: Tag) -> Result<UtcTime, DecodeError>
         ensures reads { (c : Constraints) → Decodes (leaf utc_time tag c) (λ m. instant m) self.old result self.new }
         ensures exact { DecodesTime (AtAnyOffset (UtcText self.old.rule)) tag self.old result self.new }

@@ -1,9 +1,10 @@
 //! Texts of times read.
-ghost use Rattle.std.specs.Prelude.{◌≡◌, ◌<◌, ◌<ℤ◌, ◌≤ℤ◌, pos, negsuc, IsTrue, ◌↔◌};
+ghost use Rattle.std.specs.Prelude.{◌≡◌, ◌<◌, ◌<ℤ◌, ◌≤ℤ◌, pos, negsuc};
 ghost use Rattle.rasn_types.specs.Calendar.{Day, IsDay, IsMoment, Stamp};
 ghost use Rattle.rasn_types.specs.Options.{IsSomeExactlyIf, IsSomeRelated};
 ghost use Rattle.rasn_types.specs.TimeSpelling.{IsZone, billionths, minute_of, second_of, nanosecond_of, in_utc, offset_of};
 ghost use Rattle.rasn_types.specs.Time.{shown, stamp_of, century, GeneralUtc, CanonicalUtc, GeneralGeneralized, CanonicalGeneralized, StrictGeneralized, IsShortFraction, DateText};
+ghost use Rattle.rasn_types.specs.Truth.{IsWhether};
 
 use crate::ber::time::text::{Clock, Fields, Zone, date_parts, long_parts, short_parts};
 use crate::types::{Date, GeneralizedTime, UtcTime};
@@ -133,7 +134,7 @@ pub fn parse_canonical_generalized_time(text: &[u8]) -> Option<GeneralizedTime>
 
 /// Whether a canonical text is the shortest one: it has no fraction, or one of at most nine digits, the last of which isn't 0.
 fn is_shortest(text: &[u8]) -> bool
-    ensures { (t : Stamp) → (c : CanonicalGeneralized text.now t) → IsTrue result ↔ IsShortFraction c.rest.fraction }
+    ensures { (t : Stamp) → (c : CanonicalGeneralized text.now t) → IsWhether result (IsShortFraction c.rest.fraction) }
 {
     match text {
         [.., last, _] => text.len() == 15 || (text.len() <= 25 && *last != b'0'),

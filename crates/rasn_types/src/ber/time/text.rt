@@ -36,7 +36,7 @@ pub struct Fields {
 #[tactic(auto, unfolding(crate::specs::TimeParsing::two_at))]
 #[inline(always)]
 fn two_digits(text: &[u8]) -> Option<(u8, &[u8])>
-    ensures read { ParsesOption (λ x. (x.0, x.1.now)) result (two_at text.now) }
+    ensures exact { ParsesOption (λ x. (x.0, x.1.now)) result (two_at text.now) }
     ensures below { IfSome result (λ x. x.0 < 100) }
 {
     match text {
@@ -55,7 +55,7 @@ fn two_digits(text: &[u8]) -> Option<(u8, &[u8])>
 #[tactic(auto, unfolding(crate::specs::TimeParsing::four_at))]
 #[inline(always)]
 fn four_digits(text: &[u8]) -> Option<(u16, &[u8])>
-    ensures read { ParsesOption (λ x. (x.0, x.1.now)) result (four_at text.now) }
+    ensures exact { ParsesOption (λ x. (x.0, x.1.now)) result (four_at text.now) }
     ensures below { IfSome result (λ x. x.0 < 10000) }
 {
     let (high, rest) = two_digits(text)?;
@@ -94,7 +94,7 @@ fn read_clock(text: &[u8]) -> Option<(Clock, &[u8])>
 #[tactic(auto, unfolding(crate::specs::TimeParsing::digits_at))]
 #[inline(always)]
 fn read_digits(text: &[u8]) -> (u32, &[u8])
-    ensures read { digits_at 9 text.now ≡ (result.0, result.1.now) }
+    ensures exact { digits_at 9 text.now ≡ (result.0, result.1.now) }
     ensures below { result.0 < 1000000000 }
 {
     let mut place = 9u32;
@@ -117,7 +117,7 @@ fn read_digits(text: &[u8]) -> (u32, &[u8])
 #[tactic(auto, unfolding(crate::specs::TimeParsing::fraction_at))]
 #[inline(always)]
 fn read_fraction(text: &[u8]) -> Option<(Option<(u8, u32)>, &[u8])>
-    ensures read { ParsesOption (λ x. (x.0, x.1.now)) result (fraction_at text.now) }
+    ensures exact { ParsesOption (λ x. (x.0, x.1.now)) result (fraction_at text.now) }
     ensures below { IfSome result (λ x. billionths x.0 < 1000000000) }
 {
     match text {
@@ -136,7 +136,7 @@ fn read_fraction(text: &[u8]) -> Option<(Option<(u8, u32)>, &[u8])>
 #[tactic(auto, unfolding(crate::specs::TimeParsing::offset_at))]
 #[inline(always)]
 fn read_offset(text: &[u8]) -> Option<(u8, u8)>
-    ensures read { ParsesOption (λ x. x) result (offset_at text.now) }
+    ensures exact { ParsesOption (λ x. x) result (offset_at text.now) }
     ensures below { IfSome result (λ x. (x.1 < 100) × (60 * x.0 + x.1 < 1440)) }
 {
     let (hours, rest) = two_digits(text)?;
@@ -152,7 +152,7 @@ fn read_offset(text: &[u8]) -> Option<(u8, u8)>
 #[tactic(auto, unfolding(crate::specs::TimeParsing::zone_at))]
 #[inline(always)]
 fn read_zone(text: &[u8]) -> Option<Zone>
-    ensures read { ParsesOption (λ x. x) result (zone_at text.now) }
+    ensures exact { ParsesOption (λ x. x) result (zone_at text.now) }
     ensures below { IfSome result (λ z. IsZone z) }
 {
     match text {
@@ -180,7 +180,7 @@ fn read_zone(text: &[u8]) -> Option<Zone>
 #[tactic(auto, unfolding(crate::specs::TimeParsing::fields_at))]
 #[inline(always)]
 fn read_fields(text: &[u8]) -> Option<Fields>
-    ensures read { ParsesOption (λ x. x) result (fields_at text.now) }
+    ensures exact { ParsesOption (λ x. x) result (fields_at text.now) }
     ensures zone { IfSome result (λ f. IsZone f.zone) }
     ensures below { IfSome result (λ f. billionths f.fraction < 1000000000) }
 {
@@ -204,7 +204,7 @@ fn read_fields(text: &[u8]) -> Option<Fields>
 #[tactic(auto, unfolding(crate::specs::TimeParsing::long_at))]
 #[inline(always)]
 pub fn long_parts(text: &[u8]) -> Option<(u16, Fields)>
-    ensures read { ParsesOption (λ x. x) result (long_at text.now) }
+    ensures exact { ParsesOption (λ x. x) result (long_at text.now) }
     ensures year { IfSome result (λ x. x.0 < 10000) }
     ensures zone { IfSome result (λ x. IsZone x.1.zone) }
     ensures below { IfSome result (λ x. billionths x.1.fraction < 1000000000) }
@@ -218,7 +218,7 @@ pub fn long_parts(text: &[u8]) -> Option<(u16, Fields)>
 #[tactic(auto, unfolding(crate::specs::TimeParsing::short_at))]
 #[inline(always)]
 pub fn short_parts(text: &[u8]) -> Option<(u8, Fields)>
-    ensures read { ParsesOption (λ x. x) result (short_at text.now) }
+    ensures exact { ParsesOption (λ x. x) result (short_at text.now) }
     ensures year { IfSome result (λ x. x.0 < 100) }
     ensures zone { IfSome result (λ x. IsZone x.1.zone) }
     ensures below { IfSome result (λ x. billionths x.1.fraction < 1000000000) }
@@ -255,7 +255,7 @@ impl Fields {
 /// The year, month and day of a DATE.
 #[tactic(auto, unfolding(crate::specs::TimeParsing::date_at))]
 pub fn date_parts(text: &[u8]) -> Option<(u16, u8, u8)>
-    ensures read { ParsesOption (λ x. x) result (date_at text.now) }
+    ensures exact { ParsesOption (λ x. x) result (date_at text.now) }
     ensures year { IfSome result (λ x. x.0 < 10000) }
 {
     let (year, rest) = four_digits(text)?;

@@ -34,7 +34,7 @@ fn is_any_set(unused: u8, octets: &[u8]) -> bool
 
 /// How many bits of a segment's last octet don't count, and its octets (X.690 8.6.2).
 pub fn counted(rules: Codec, segment: &[u8]) -> Result<(usize, &[u8]), ParseError>
-    ensures bits { ParsesAs (λ p. but_last p.0 p.1.now) result (segment_bits rules segment.now) }
+    ensures exact { ParsesAs (λ p. but_last p.0 p.1.now) result (segment_bits rules segment.now) }
     ensures few { IfOk result (λ p. (p.0 < 8) × (p.0 ≤ 8 * length p.1.now)) }
 {
     let [unused, octets @ ..] = segment else {

@@ -65,7 +65,7 @@ pub fn skip_contents(rule: Codec, input: &[u8]) -> Result<(usize, &[u8]), ParseE
     }
 }
 
-/// Passes one whole encoding. Answers how many steps its contents took, none where its length is definite, and what follows.
+/// Passes one complete encoding. Answers how many steps its contents took, none where its length is definite, and what follows.
 pub fn skip_encoding(rule: Codec, input: &[u8]) -> Result<(usize, &[u8]), ParseError>
     ensures exact { Exactly (Skipped rule input.now) (IsFault rule input.now) (passed result) }
     ensures half { IfOk result (λ p. 2 * p.0 + length p.1.now ≤ length input.now) }
@@ -77,7 +77,7 @@ pub fn skip_encoding(rule: Codec, input: &[u8]) -> Result<(usize, &[u8]), ParseE
     }
 }
 
-/// One whole encoding, and what follows.
+/// One complete encoding, and what follows.
 fn read_encoding(rule: Codec, input: &[u8]) -> Result<(&[u8], &[u8]), ParseError>
     ensures { OpenAt rule None input.now (as_lists result) }
 {
@@ -102,10 +102,10 @@ fn read_tagged(rule: Codec, tag: Tag, input: &[u8]) -> Result<(&[u8], &[u8]), Pa
     }
 }
 
-/// The octets of an open type, and what follows: one whole encoding by `Tag::EOC`, else the contents of the one value of the tag.
+/// The octets of an open type, and what follows: one complete encoding by `Tag::EOC`, else the contents of the one value of the tag.
 #[tactic(auto, using(crate::proofs::Any::Reads::opens_end))]
 pub fn read_open(rule: Codec, tag: Tag, input: &[u8]) -> Result<(&[u8], &[u8]), ParseError>
-    ensures found { OpenAt rule (looked_for tag) input.now (as_lists result) }
+    ensures exact { OpenAt rule (looked_for tag) input.now (as_lists result) }
     ensures end { IfOk result (λ p. IsEnd input.now p.1.now) }
 {
     if tag == Tag::EOC {

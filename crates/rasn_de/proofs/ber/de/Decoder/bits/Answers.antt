@@ -30,21 +30,21 @@ returns-in-Err-string_contents-clause-exact c =
 pub returns-in-Err-counted-clause-exact : goal.returns-in-Err-counted-clause-exact
 returns-in-Err-counted-clause-exact c =
     let h = spelled_by (form c.self.inside.rules) _ c.of_rule.ensures (Tagged c.args.tag) c.self.inside.rest.now _ c.in-Ok.ensures.exact in
-    (c.in-Err-counted.fault, c.error-in-Err-counted.ensures, refl, rw (← c.self.view_is) (segment_lacks c.self.inside.rules c.self.inside.depth c.args.tag c.self.inside.rest.now _ h c.in-Some.segment.now _ c.in-Some.ensures c.in-Err-counted.ensures.bits))
+    (c.in-Err-counted.fault, c.error-in-Err-counted.ensures, refl, rw (← c.self.view_is) (segment_lacks c.self.inside.rules c.self.inside.depth c.args.tag c.self.inside.rest.now _ h c.in-Some.segment.now _ c.in-Some.ensures c.in-Err-counted.ensures.exact))
 
 pub advance-requires-2 : goal.advance-requires-2
 advance-requires-2 c =
     let h = spelled_by (form c.self.inside.rules) _ c.of_rule.ensures (Tagged c.args.tag) c.self.inside.rest.now _ c.in-Ok.ensures.exact in
-    rw (← c.self.view_is) (bits_end c.self.inside.rules c.self.inside.depth c.args.tag c.self.inside.rest.now c.in-Ok.ensures.octets _ _ (one_segment c.self.inside.rules c.self.inside.depth c.args.tag c.self.inside.rest.now _ h c.in-Some.segment.now _ c.in-Some.ensures c.in-Ok-counted.ensures.bits))
+    rw (← c.self.view_is) (bits_end c.self.inside.rules c.self.inside.depth c.args.tag c.self.inside.rest.now c.in-Ok.ensures.octets _ _ (one_segment c.self.inside.rules c.self.inside.depth c.args.tag c.self.inside.rest.now _ h c.in-Some.segment.now _ c.in-Some.ensures c.in-Ok-counted.ensures.exact))
 
 pub returns-in-Ok-append-clause-exact : goal.returns-in-Ok-append-clause-exact
 returns-in-Ok-append-clause-exact c =
     let h = spelled_by (form c.self.inside.rules) _ c.of_rule.ensures (Tagged c.args.tag) c.self.inside.rest.now _ c.in-Ok.ensures.exact in
     collected_bits c.args.tag c.args.self.now _ c.append.new.self c.in-Ok.found.1.now
-    (rw (← c.self.view_is, c.in-Ok-append.ensures.ok, c.new-bits.ensures) (one_segment c.self.inside.rules c.self.inside.depth c.args.tag c.self.inside.rest.now _ h c.in-Some.segment.now _ c.in-Some.ensures c.in-Ok-counted.ensures.bits)) c.advance-2.ensures
+    (rw (← c.self.view_is, c.in-Ok-append.ensures.ok, c.new-bits.ensures) (one_segment c.self.inside.rules c.self.inside.depth c.args.tag c.self.inside.rest.now _ h c.in-Some.segment.now _ c.in-Some.ensures c.in-Ok-counted.ensures.exact)) c.advance-2.ensures
 
 pub returns-in-Err-append-clause-exact : goal.returns-in-Err-append-clause-exact
 returns-in-Err-append-clause-exact c =
     let h = spelled_by (form c.self.inside.rules) _ c.of_rule.ensures (Tagged c.args.tag) c.self.inside.rest.now _ c.in-Ok.ensures.exact in
     lacked_bits c.args.tag c.args.self.now _ OutOfMemory c.in-Ok.found.1.now _
-    (rw (← c.self.view_is) (segment_uncopied c.self.inside.rules c.self.inside.depth c.args.tag c.self.inside.rest.now _ h c.in-Some.segment.now _ c.in-Ok.ensures.octets c.in-Some.ensures c.in-Ok-counted.ensures.bits)) c.advance-2.ensures c.error-in-Err-append.ensures
+    (rw (← c.self.view_is) (segment_uncopied c.self.inside.rules c.self.inside.depth c.args.tag c.self.inside.rest.now _ h c.in-Some.segment.now _ c.in-Ok.ensures.octets c.in-Some.ensures c.in-Ok-counted.ensures.exact)) c.advance-2.ensures c.error-in-Err-append.ensures

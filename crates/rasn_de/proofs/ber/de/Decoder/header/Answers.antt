@@ -13,8 +13,8 @@ advance-requires c =
     rw (← c.self.view_is) (IsEnd-header (form c.self.inside.rules) c.args.expected c.self.inside.rest.now _ c.read_value.ensures.octets
     (spelled_by (form c.self.inside.rules) _ c.of_rule.ensures c.args.expected c.self.inside.rest.now _ c.in-Ok.ensures.exact))
 
-pub returns-in-Ok-clause-taken : goal.returns-in-Ok-clause-taken
-returns-in-Ok-clause-taken c =
+pub returns-in-Ok-clause-exact : goal.returns-in-Ok-clause-exact
+returns-in-Ok-clause-exact c =
     let o : AreOctets c.args.self.now.rest = rw (← c.self.view_is) c.read_value.ensures.octets in
     let e : header_at (form c.args.self.now.rule) c.args.expected c.args.self.now.rest ≡ Ok (header_with c.in-Ok.value c.in-Ok.rest.now) =
     rw (← c.self.view_is) (spelled_by (form c.self.inside.rules) _ c.of_rule.ensures c.args.expected c.self.inside.rest.now _ c.in-Ok.ensures.exact) in
