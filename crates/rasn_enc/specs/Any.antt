@@ -22,6 +22,6 @@ FailsAtUntagged v e = ((v.last.tags ≢ None) × IsUntaggedInSetError v.rule e) 
 abbrev pub IsUntaggedInSet : Tag → View → Type 0
 IsUntaggedInSet tag v = (looked_for tag ≡ None) × (v.last.tags ≢ None)
 
--- There are octets, and they would be bare, or else memory runs out.
+-- There are octets, and they would be untagged, or else memory runs out.
 abbrev pub FailsAtAny : Tag → List ℕ → View → EncodeError → Type 0
 FailsAtAny tag octets v e = (octets ≢ []) × ((IsUntaggedInSet tag v × IsUntaggedInSetError v.rule e) ⊎ ((IsUntaggedInSet tag v → ⊥) × IsAllocError v.rule e))

@@ -1,4 +1,4 @@
--- What is asked of a closure that writes the parts of a value, and what its call gives.
+-- What is asked of a closure that writes the parts of a value, and what its call returns.
 use Rattle.std.specs.Prelude.{◌≡◌, ◌⊎◌, ℕ, List, Result, Ok, Err, Bool, true, false}
 use Rattle.std.specs.Fn.{FnOnceReturnsAtMut, Once}
 use Rattle.std.specs.Borrow.{MutBor}

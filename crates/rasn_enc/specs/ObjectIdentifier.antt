@@ -49,7 +49,7 @@ pub record AppendsContents (arcs old new : List ℕ) : Type 0 where
   pub written : Written object_identifier (numbers arcs) octets
   pub appended : new ≡ old ++ octets
 
--- The error tells these arcs.
+-- The error holds these arcs.
 abbrev pub ReportsArcs : List ℕ → EncodeErrorKind → Type 0
 ReportsArcs arcs (CodecSpecific (Ber (InvalidObjectIdentifier oid))) = oid.items ≡ arcs
 ReportsArcs arcs _ = ⊥

@@ -1,6 +1,7 @@
 //! The trait of values that can be written.
-ghost use Rattle.std.specs.Prelude.{◌≡◌, ◌≢◌, MatchBool, IfErr, OnOk, OnErr};
+ghost use Rattle.std.specs.Prelude.{◌≡◌, IfErr, OnOk, OnErr};
 ghost use Rattle.rasn_types.specs.Shapes.{tagged_as, absent};
+ghost use Rattle.rasn_types.specs.Truth.{IsUnless};
 ghost use Rattle.rasn_enc.specs.Encoding.{AppendsEncoding, EncodeFails};
 
 use crate::ber::enc::Encoder;
@@ -68,5 +69,5 @@ pub trait Encode: AsnType {
 
     /// Whether there is a value: not where an optional one is absent.
     fn is_present(&self) -> bool
-        ensures { MatchBool result (Self.tree self.now ≢ absent) (Self.tree self.now ≡ absent) };
+        ensures { IsUnless result (Self.tree self.now ≡ absent) };
 }

@@ -20,7 +20,7 @@ PartIsWithinLimits optional within_limits t = (t ≡ absent) ⊎ within_limits t
 PartIsWithinLimits addition within_limits t = (t ≢ absent) × within_limits t
 PartIsWithinLimits (default d) within_limits t = Same t d ⊎ within_limits t
 
--- What a written time's text gives back: UTCTime has two digits of the year and no fraction, the others four digits.
+-- What is read back of a written time's text: UTCTime has two digits of the year and no fraction, the others four digits.
 abbrev pub IsCarriedTime : Kind → Tree → Type 0
 IsCarriedTime utc_time t = (m : Moment) → t ≡ instant m → CarriedUtc m
 IsCarriedTime generalized_time t = (m : Moment) → t ≡ instant m → CarriedDay m.day

@@ -5,7 +5,7 @@ use Rattle.rasn_types.specs.Shapes.Parts.{none}
 use Rattle.rasn_types.specs.declared.types.fields.FieldPresence.{FieldPresence}
 use Rattle.rasn_types.specs.declared.types.fields.FieldPresence.TheVariants.{Required, Optional, Default}
 
--- whether some part has to come
+-- whether some part is required
 abbrev pub has_required : Parts → Bool
 has_required none = false
 has_required (part required s ps) = true
@@ -25,7 +25,7 @@ abbrev pub is_fieldless : ℕ → Bool → Bool
 is_fieldless root extensible = nat_eq root 0 && not extensible
 
 -- There are as many parts as fields, in the root and behind an extension marker together; fields stand behind one only where there is one; and
--- the flag tells whether some part has to come.
+-- the flag tells whether some part is required.
 abbrev pub describes : ℕ → ℕ → Bool → Bool → Parts → Bool
 describes root more extensible flag parts = same_bool (has_required parts) flag && nat_eq (count parts) (root + more) && (extensible || nat_eq more 0)
 

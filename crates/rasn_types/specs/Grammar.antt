@@ -123,7 +123,7 @@ ReadsOpen rule tag input t rest = (bit : Bool) × (contents : List ℕ) × (t �
     × (Frame (form rule) input tag bit rest (definite contents)
     ⊎ ((body : List ℕ) × Frame (form rule) input tag bit body indefinite × CompleteEncodings rule contents × (body ≡ contents ++ (0 ∷ 0 ∷ rest))))
 
--- One whole encoding, octets and all.
+-- One complete encoding, octets and all.
 abbrev pub ReadsAny : Codec → Reading Tree
 ReadsAny rule input t rest = (text : List ℕ) × (t ≡ numbers text) × CompleteEncoding rule text × (input ≡ text ++ rest)
 

@@ -75,7 +75,7 @@ abbrev pub presences_in : List Part → List Presence
 presences_in [] = []
 presences_in (p ∷ ps) = p.presence ∷ presences_in ps
 
--- These are the trees of parts of which none comes.
+-- These are the trees of parts all of which are absent.
 abbrev pub AllMissing : List Presence → List Tree → Type 0
 AllMissing [] ts = ts ≡ []
 AllMissing (p ∷ ps) ts = (t : Tree) × (us : List Tree) × (ts ≡ t ∷ us) × IsMissing p t × AllMissing ps us

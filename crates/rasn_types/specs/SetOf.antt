@@ -1,4 +1,4 @@
--- `==` of SET OF by counting decides whether their walks are the same.
+-- `==` of SET OF by counting decides whether their set elements are the same.
 use Rattle.std.proofs.Common.{◌≡◌, ℕ, zero, suc, ◌+◌, ◌<◌, List, [], ◌∷◌, Bool, true, false, ◌&&◌, cond, map, refl, sym, ap, ◌∙◌, subst, arith, true≢false, IsPermutation, nat_eq}
 use Rattle.std.specs.List.{count_by, list_all}
 use Rattle.std.specs.Cmp.{IsEquivalence, equiv, first_so, second_so, unsigned_Decides}

@@ -27,7 +27,7 @@ HasStrictForm basic_form = ⊥
 HasStrictForm der_form = Unit {0}
 HasStrictForm loose_form = ⊥
 
--- Whether the rule is the one whose reader takes what its writer gives alone.
+-- Whether the rule is the one whose reader reads only what its writer writes.
 abbrev pub is_der : Codec → Bool
 is_der Ber = false
 is_der Cer = false

@@ -80,7 +80,7 @@ long_at l = parts_at four_at l
 unfoldable pub short_at : List ℕ → Option (ℕ × Fields)
 short_at l = parts_at two_at l
 
--- What a function answered, seen by view, is what reading gives.
+-- What a function answered, seen by view, is what reading returns.
 abbrev pub ParsesOption : {X Y : Type 0} → (X → Y) → Option X → Option Y → Type 0
 ParsesOption view None r = r ≡ None
 ParsesOption view (Some x) r = r ≡ Some (view x)

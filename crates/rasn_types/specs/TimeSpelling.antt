@@ -74,7 +74,7 @@ in_utc Utc m = m
 in_utc (East h n) m = earlier (60 * h + n) m
 in_utc (West h n) m = later (60 * h + n) m
 
--- What a text of UTCTime or GeneralizedTime gives behind its year.
+-- What a text of UTCTime or GeneralizedTime says behind its year.
 pub record Spelling : Type 0 where
   pub month : ℕ
   pub day : ℕ

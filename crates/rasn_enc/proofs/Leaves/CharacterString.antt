@@ -1,5 +1,5 @@
 -- The octets of a character string in a header are its octets.
-use Rattle.std.proofs.Common.{◌≡◌, inl, inr, ℕ, ◌≤◌, List, length, refl, sym, ap, ◌∙◌, subst, Result, OnOk, IfErr, None, chars, IsUtf8}
+use Rattle.std.proofs.Common.{◌≡◌, ◌<◌, inl, inr, ℕ, ◌≤◌, List, length, refl, sym, ap, ◌∙◌, subst, Result, OnOk, IfErr, None, chars, IsUtf8}
 use Rattle.std.proofs.lemmas.Result.{on_ok_weaker, IfErr-weaker}
 use Rattle.rasn_types.specs.Framing.{AreOctets}
 use Rattle.rasn_types.specs.Tags.{in_universal}
@@ -22,9 +22,9 @@ use Rattle.rasn_enc.proofs.Leaves.Primitive.{encoded_one, size_refused}
 use Rattle.rasn_enc.proofs.Leaves.Segments.{appends_piece, in_one, str_begins}
 
 -- Octets in one piece.
-pub octets_in_one : (tag : Tag) (xs : List ℕ) (v w : View) → AreOctets xs → (IsCer v.rule → length xs ≤ 1000) → Appends (PrimitiveEncoding tag xs) tag v w
+pub octets_in_one : (tag : Tag) (xs : List ℕ) (v w : View) → AreOctets xs → ((IsCer v.rule × (1000 < length xs)) → ⊥) → Appends (PrimitiveEncoding tag xs) tag v w
     → Appends (WritesString v.rule WritesOctets 1000 (in_universal 4) tag xs) tag v w
-octets_in_one tag xs v w o few a = in_one WritesOctets 1000 (in_universal 4) tag xs v w few (appends_piece WritesOctets tag xs xs v w (refl, o) a)
+octets_in_one tag xs v w o uncut a = in_one WritesOctets 1000 (in_universal 4) tag xs v w uncut (appends_piece WritesOctets tag xs xs v w (refl, o) a)
 
 -- A kind of string whose octets these are.
 pub text_encoded : {R E : Type 0} (result : Result R E) (kind : Kind) (tag : Tag) (c : Constraints) (xs : List ℕ) (t : Tree) (size : ℕ) (v w : View) → family kind ≡ text_family

@@ -1,5 +1,5 @@
 -- Strings of octets or bits in one piece, and cut in segments.
-use Rattle.std.proofs.Common.{◌≡◌, ℕ, ◌<◌, ◌≤◌, List, [], ◌∷◌, ◌++◌, length, take, drop, inl, inr, refl, sym, ap, ap₂, ◌∙◌}
+use Rattle.std.proofs.Common.{◌≡◌, ℕ, ◌<◌, ◌≤◌, List, [], ◌∷◌, ◌++◌, length, take, drop, inl, inr, refl, sym, ap, ap₂, ◌∙◌, arith}
 use Rattle.std.proofs.lemmas.List.{append_assoc, append-nil, take-append-drop}
 use Rattle.rasn_types.specs.Tags.{tag_bit}
 use Rattle.rasn_types.specs.Framing.{Begins}
@@ -87,9 +87,11 @@ module _ {X : Type 0} (writes : Writing (List X)) (size : ℕ) (inner : Tag) whe
     }
 
   -- A whole string.
-  pub in_one : (tag : Tag) (xs : List X) (v w : View) → (IsCer v.rule → length xs ≤ size) → Appends (IsSegment writes tag xs) tag v w
+  pub in_one : (tag : Tag) (xs : List X) (v w : View) → ((IsCer v.rule × (size < length xs)) → ⊥) → Appends (IsSegment writes tag xs) tag v w
       → Appends (WritesString v.rule writes size inner tag xs) tag v w
-  in_one tag xs v w few a = record { octets = a.octets; written = inl (few, a.written.0, a.written.1, a.written.2); appended = a.appended }
+  in_one tag xs v w uncut a =
+    let few : IsCer v.rule → length xs ≤ size = λ cer. let n : (size < length xs) → ⊥ = λ many. uncut (cer, many) in omega (arith, n) in
+    record { octets = a.octets; written = inl (few, a.written.0, a.written.1, a.written.2); appended = a.appended }
 
   pub in_segments : (tag : Tag) (xs : List X) (v w : View) → IsCer v.rule → size < length xs → AppendsSegmented writes size inner tag xs v w
       → Appends (WritesString v.rule writes size inner tag xs) tag v w

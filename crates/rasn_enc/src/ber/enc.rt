@@ -71,18 +71,18 @@ impl Encoder {
     /// `OutOfMemory`: it reserves 1024 octets.
     pub fn new(alloc: Global, options: EncoderOptions) -> Result<Encoder, EncodeError>
         ensures ok { IfOk result (λ e. e ≡ started options false) }
-        ensures refused { IfErr result (IsAllocError options) }
+        ensures memory_alone { IfErr result (IsAllocError options) }
     {
         Encoder::new_with_buffer(alloc, options, Vec::new(alloc))
     }
 
-    /// An encoder of the components of a SET: its output keeps their outermost tags, which must not fall (X.690 9.3, 10.3).
+    /// An encoder of the components of a SET: its output keeps their outermost tags, which must be in ascending order (X.690 9.3, 10.3).
     ///
     /// # Errors
     /// `OutOfMemory`: it reserves 1024 octets.
     pub fn new_set(alloc: Global, options: EncoderOptions) -> Result<Encoder, EncodeError>
         ensures ok { IfOk result (λ e. e ≡ started options true) }
-        ensures refused { IfErr result (IsAllocError options) }
+        ensures memory_alone { IfErr result (IsAllocError options) }
     {
         let writer = Writer::over(alloc, options.current_codec(), Vec::new(alloc), true)?;
         Ok(Encoder { writer })
@@ -98,7 +98,7 @@ impl Encoder {
         buffer: Vec<u8>,
     ) -> Result<Encoder, EncodeError>
         ensures ok { IfOk result (λ e. e ≡ started options false) }
-        ensures refused { IfErr result (IsAllocError options) }
+        ensures memory_alone { IfErr result (IsAllocError options) }
     {
         let writer = Writer::over(alloc, options.current_codec(), buffer, false)?;
         Ok(Encoder { writer })
@@ -123,7 +123,7 @@ impl Encoder {
     pub fn output(self) -> Result<Vec<u8>, EncodeError>
         ensures ok { IfOk result (λ v. v.items ≡ self.last.octets) }
         ensures order { OnOk result (AreTagsInOrder self) }
-        ensures refused { IfErr result (λ e. IsAllocError self.rule e ⊎ FailsAtTags self e) }
+        ensures fails { IfErr result (λ e. IsAllocError self.rule e ⊎ FailsAtTags self e) }
     {
         if self.writer.kept_tags_out_of_order() {
             return Err(out_of_order(self.codec()));
@@ -152,7 +152,7 @@ impl Encoder {
     #[inline(always)]
     fn check_size(&self, constraints: &Constraints, size: usize) -> Result<(), EncodeError>
         ensures ok { OnOk result (Admits ◌≤◌ constraints.now.size size) }
-        ensures refused { IfErr result (FailsAtSize constraints.now size self.now.rule) }
+        ensures fails { IfErr result (FailsAtSize constraints.now size self.now.rule) }
     {
         if constraints.admits_size(size) {
             return Ok(());
@@ -170,7 +170,7 @@ impl Encoder {
     fn leaf(&mut self, tag: Tag, contents: &[u8]) -> Result<(), EncodeError>
         ensures ok { OnOk result (Appends (PrimitiveEncoding tag contents.now) tag self.old self.new) }
         ensures err { OnErr result (self.new ≡ self.old) }
-        ensures memory { IfErr result (IsAllocError self.old.rule) }
+        ensures memory_alone { IfErr result (IsAllocError self.old.rule) }
     {
         self.writer.leaf(tag, contents)
     }
@@ -194,7 +194,7 @@ impl Encoder {
     fn leaf_of<T: Contents>(&mut self, tag: Tag, value: &T) -> Result<(), EncodeError>
         ensures ok { OnOk result (AppendsPrimitive (T.IsWritten value.now) tag self.old self.new) }
         ensures err { OnErr result (self.new ≡ self.old) }
-        ensures memory { IfErr result (IsAllocError self.old.rule) }
+        ensures memory_alone { IfErr result (IsAllocError self.old.rule) }
     {
         let rule = self.codec();
         match self.leaf_with(tag, |octets: &mut Vec<u8>| fill_with(value, octets)) {

@@ -36,7 +36,7 @@ impl CollectedBits {
         }
     }
 
-    /// Puts the bits of octets behind the others, but the last `unused` ones. If an allocation fails, nothing is put.
+    /// Appends the bits of octets, but the last `unused` ones. If an allocation fails, nothing is appended.
     pub fn append(&mut self, octets: &[u8], unused: usize) -> Result<(), AllocError>
         requires few { unused < 8 }
         requires held { unused ≤ 8 * length octets.now }

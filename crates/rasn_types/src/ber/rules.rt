@@ -65,7 +65,7 @@ impl EncodingRules {
         matches!(self, EncodingRules::Cer)
     }
 
-    /// Whether these are the distinguished rules, under which only what their writer gives is read (X.690 10, 11).
+    /// Whether these are the distinguished rules, under which only what their writer writes is read (X.690 10, 11).
     #[inline]
     pub fn is_der(self) -> bool
         ensures { IsWhether result (IsStrict (codec_of self)) }

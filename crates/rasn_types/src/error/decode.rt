@@ -7,7 +7,7 @@ use crate::hexadecimal::Hexadecimal;
 use crate::types::{Bounded, Codec, Integer, Tag};
 use thiserror::Error;
 
-/// How many more octets a piece of the input wants.
+/// How many more octets are needed.
 #[derive(Clone, Copy, Debug, PartialEq, Eq)]
 pub enum Needed {
     /// It isn't known how many.
@@ -114,11 +114,11 @@ pub enum DecodeErrorKind {
     NoValidChoice {
         name: String,
     },
-    /// A required part didn't come.
+    /// A required component is missing.
     MissingField {
         name: String,
     },
-    /// A part came twice.
+    /// A component occurs twice.
     DuplicateField {
         name: String,
     },
@@ -199,10 +199,10 @@ pub enum DerDecodeErrorKind {
     /// A part that equals its default is there (X.690 11.5).
     #[error("component with its DEFAULT value is encoded")]
     DefaultValuePresent,
-    /// The tags of the components of a SET fall (X.690 10.3).
+    /// The tags of the components of a SET aren't in ascending order (X.690 10.3).
     #[error("components of a SET are not in ascending order of tags")]
     SetComponentsOutOfOrder,
-    /// The octets of the elements of a SET OF fall (X.690 11.6).
+    /// The octets of the elements of a SET OF aren't in ascending order (X.690 11.6).
     #[error("elements of a SET OF are not in ascending order")]
     SetOfOutOfOrder,
 }

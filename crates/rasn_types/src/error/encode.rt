@@ -69,7 +69,7 @@ pub enum BerEncodeErrorKind {
     /// Open octets without a tag directly in a SET.
     #[error("untagged open type in a SET")]
     AnyInSet,
-    /// The tags of a SET's components, or the octets of a SET OF's elements, fall (X.690 9.3, 10.3, 11.6).
+    /// The tags of a SET's components, or the octets of a SET OF's elements, aren't in ascending order (X.690 9.3, 10.3, 11.6).
     #[error("components of a SET or elements of a SET OF are not in ascending order")]
     SetOutOfOrder,
 }

@@ -4,7 +4,7 @@ ghost use Rattle.std.specs.Prelude.{◌≡◌};
 use crate::types::{AsnType, Constraints, LawfulEq, Present, Tag};
 use std::marker::Model;
 
-/// A value of a type that isn't known here, kept as its octets (X.680 30): one whole encoding, or, under a tag of its own, what
+/// A value of a type that isn't known here, kept as its octets (X.680 30): one complete encoding, or, under a tag of its own, what
 /// stands inside the value with this tag. To contracts it is the list of its octets.
 #[derive(Debug, Drop)]
 pub struct Any {

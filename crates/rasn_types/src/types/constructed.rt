@@ -20,7 +20,7 @@ pub trait Constructed<const RC: usize, const EC: usize>: AsnType {
 
     ghost HAS_REQUIRED_FIELDS: { Bool };
 
-    /// Whether some root field has to come. Where none has to, an initializer reads empty contents.
+    /// Whether some root field is required. Where none is, an initializer reads empty contents.
     const HAS_REQUIRED_FIELDS: bool;
 
     ghost parts: { Parts };

@@ -23,7 +23,7 @@ pub trait Enumerated: Drop {
     /// The type names the number of each value.
     ghost listed: { (v : Self) → Contains known (number v) };
 
-    /// A number has one value: `from_discriminant` gives back the value that `discriminant` was asked of.
+    /// A number has one value: `from_discriminant` returns the value that `discriminant` was asked of.
     ghost distinct: { (v : Self) → (w : Self) → number v ≡ number w → v ≡ w };
 
     /// 64 bits hold the numbers.

@@ -6,7 +6,7 @@ ghost use Rattle.rasn_types.specs.Truth.{IsWhether};
 
 use crate::types::Tag;
 
-/// Whether a field has to come.
+/// Whether a field is required.
 #[derive(Clone, Copy, Debug, PartialEq, Eq)]
 pub enum FieldPresence {
     Required,
@@ -24,7 +24,7 @@ pub struct Field {
 }
 
 impl Field {
-    /// A field that has to come.
+    /// A required field.
     pub const fn new_required(index: usize, tag: Tag, name: &'static str) -> Field
         ensures { (result.index ≡ index) × (result.tag ≡ tag) × (result.presence ≡ Required) × (result.name ≡ name.entry) }
     {
@@ -68,7 +68,7 @@ pub trait HasPresence {
 
     ghost presence_of: { Self → FieldPresence };
 
-    /// Whether it has to come.
+    /// Whether it is required.
     fn presence(&self) -> FieldPresence
         ensures { result ≡ presence_of self.now };
 }

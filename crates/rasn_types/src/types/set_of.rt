@@ -8,7 +8,7 @@ use std::alloc::{AllocError, Global};
 use std::marker::Model;
 use std::slice;
 
-/// The elements of a SET OF (X.680 28), in the order in which they were put. Two are equal if they hold equal elements equally often.
+/// The elements of a SET OF (X.680 28), in the order in which they were inserted. Two are equal if they hold equal elements equally often.
 ///
 /// To contracts it is the list of its elements.
 #[derive(Debug, Drop)]

@@ -27,7 +27,7 @@ impl Encoder {
     ) -> Result<(), EncodeError>
         ensures ok { OnOk result (AppendsEncoding (any (looked_for tag)) (numbers value.now) self.old self.new) }
         ensures err { OnErr result (self.new ≡ self.old) }
-        ensures refused { IfErr result (FailsAtAny tag value.now self.old) }
+        ensures fails { IfErr result (FailsAtAny tag value.now self.old) }
     {
         let octets = value.as_bytes();
         if octets.is_empty() {
@@ -45,7 +45,7 @@ impl Encoder {
         ensures ok { OnOk result (self.new ≡ appended self.old octets.now []) }
         ensures free { OnOk result (self.old.last.tags ≡ None) }
         ensures err { OnErr result (self.new ≡ self.old) }
-        ensures refused { IfErr result (FailsAtUntagged self.old) }
+        ensures fails { IfErr result (FailsAtUntagged self.old) }
     {
         if self.writer.keeps_tags() {
             return Err(any_in_set(self.codec()));
@@ -57,7 +57,7 @@ impl Encoder {
     fn append_tagged(&mut self, tag: Tag, octets: &[u8]) -> Result<(), EncodeError>
         ensures ok { OnOk result (Appends (ConstructedEncoding self.old.rule tag octets.now) tag self.old self.new) }
         ensures err { OnErr result (self.new ≡ self.old) }
-        ensures memory { IfErr result (IsAllocError self.old.rule) }
+        ensures memory_alone { IfErr result (IsAllocError self.old.rule) }
     {
         self.open(false)?;
         let outcome = self.append_encoded(octets);
@@ -68,7 +68,7 @@ impl Encoder {
     fn append_encoded(&mut self, octets: &[u8]) -> Result<(), EncodeError>
         ensures ok { OnOk result (self.new ≡ appended self.old octets.now []) }
         ensures err { OnErr result (self.new ≡ self.old) }
-        ensures memory { IfErr result (IsAllocError self.old.rule) }
+        ensures memory_alone { IfErr result (IsAllocError self.old.rule) }
     {
         self.writer.append_encoded(octets)
     }

@@ -45,7 +45,7 @@ impl Encoder {
     ) -> Result<(), EncodeError>
         ensures ok { OnOk result (AppendsEncoding (leaf bit_string tag constraints.now) (bits value.now) self.old self.new) }
         ensures err { OnErr result (self.new ≡ self.old) }
-        ensures refused { IfErr result (FailsAtString constraints.now (length value.now) self.old.rule) }
+        ensures fails { IfErr result (FailsAtString constraints.now (length value.now) self.old.rule) }
     {
         self.check_size(constraints, value.len())?;
         if self.is_cut(value.len(), SEGMENT_BITS) {
@@ -58,7 +58,7 @@ impl Encoder {
     fn append_bits(&mut self, tag: Tag, value: &BitStr<'_>) -> Result<(), EncodeError>
         ensures ok { OnOk result (Appends (IsSegment WrittenBits tag value.now) tag self.old self.new) }
         ensures err { OnErr result (self.new ≡ self.old) }
-        ensures memory { IfErr result (IsAllocError self.old.rule) }
+        ensures memory_alone { IfErr result (IsAllocError self.old.rule) }
     {
         self.leaf_of(tag, value)
     }
@@ -68,7 +68,7 @@ impl Encoder {
         requires { SEGMENT_BITS < length value.now }
         ensures ok { OnOk result (AppendsSegmented WrittenBits SEGMENT_BITS (in_universal 3) tag value.now self.old self.new) }
         ensures err { OnErr result (self.new ≡ self.old) }
-        ensures memory { IfErr result (IsAllocError self.old.rule) }
+        ensures memory_alone { IfErr result (IsAllocError self.old.rule) }
     {
         self.open(false)?;
         let outcome = self.write_bit_segments(value);
@@ -79,7 +79,7 @@ impl Encoder {
         requires { 0 < length value.now }
         ensures keeps { LeavesOthers self.old self.new }
         ensures ok { OnOk result (AppendsSegments WrittenBits SEGMENT_BITS (in_universal 3) value.now self.old self.new) }
-        ensures memory { IfErr result (IsAllocError self.old.rule) }
+        ensures memory_alone { IfErr result (IsAllocError self.old.rule) }
     {
         let (_, mut rest) = value.split_at(0);
         while rest.len() > SEGMENT_BITS {

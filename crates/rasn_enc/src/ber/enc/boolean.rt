@@ -23,7 +23,7 @@ impl Encoder {
     ) -> Result<(), EncodeError>
         ensures ok { AppendsLeaf boolean tag (bool_tree value) result self.old self.new }
         ensures err { OnErr result (self.new ≡ self.old) }
-        ensures refused { IfErr result (IsAllocError self.old.rule) }
+        ensures memory_alone { IfErr result (IsAllocError self.old.rule) }
     {
         let octet = if value { 0xff } else { 0x00 };
         self.leaf(tag, &[octet])

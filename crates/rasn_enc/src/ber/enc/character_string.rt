@@ -39,7 +39,7 @@ impl Encoder {
     ) -> Result<(), EncodeError>
         ensures ok { OnOk result (AppendsEncoding (leaf visible tag constraints.now) (numbers value.now) self.old self.new) }
         ensures err { OnErr result (self.new ≡ self.old) }
-        ensures refused { IfErr result (FailsAtString constraints.now (length value.now) self.old.rule) }
+        ensures fails { IfErr result (FailsAtString constraints.now (length value.now) self.old.rule) }
     {
         self.restricted::<VisibleType>(tag, constraints, value)
     }
@@ -57,7 +57,7 @@ impl Encoder {
     ) -> Result<(), EncodeError>
         ensures ok { OnOk result (AppendsEncoding (leaf ia5 tag constraints.now) (numbers value.now) self.old self.new) }
         ensures err { OnErr result (self.new ≡ self.old) }
-        ensures refused { IfErr result (FailsAtString constraints.now (length value.now) self.old.rule) }
+        ensures fails { IfErr result (FailsAtString constraints.now (length value.now) self.old.rule) }
     {
         self.restricted::<Ia5Type>(tag, constraints, value)
     }
@@ -75,7 +75,7 @@ impl Encoder {
     ) -> Result<(), EncodeError>
         ensures ok { OnOk result (AppendsEncoding (leaf printable tag constraints.now) (numbers value.now) self.old self.new) }
         ensures err { OnErr result (self.new ≡ self.old) }
-        ensures refused { IfErr result (FailsAtString constraints.now (length value.now) self.old.rule) }
+        ensures fails { IfErr result (FailsAtString constraints.now (length value.now) self.old.rule) }
     {
         self.restricted::<PrintableType>(tag, constraints, value)
     }
@@ -93,7 +93,7 @@ impl Encoder {
     ) -> Result<(), EncodeError>
         ensures ok { OnOk result (AppendsEncoding (leaf numeric tag constraints.now) (numbers value.now) self.old self.new) }
         ensures err { OnErr result (self.new ≡ self.old) }
-        ensures refused { IfErr result (FailsAtString constraints.now (length value.now) self.old.rule) }
+        ensures fails { IfErr result (FailsAtString constraints.now (length value.now) self.old.rule) }
     {
         self.restricted::<NumericType>(tag, constraints, value)
     }
@@ -111,7 +111,7 @@ impl Encoder {
     ) -> Result<(), EncodeError>
         ensures ok { OnOk result (AppendsEncoding (leaf any_octets tag constraints.now) (numbers value.now) self.old self.new) }
         ensures err { OnErr result (self.new ≡ self.old) }
-        ensures refused { IfErr result (FailsAtString constraints.now (length value.now) self.old.rule) }
+        ensures fails { IfErr result (FailsAtString constraints.now (length value.now) self.old.rule) }
     {
         self.restricted::<TeletexType>(tag, constraints, value)
     }
@@ -129,7 +129,7 @@ impl Encoder {
     ) -> Result<(), EncodeError>
         ensures ok { OnOk result (AppendsEncoding (leaf any_octets tag constraints.now) (numbers value.now) self.old self.new) }
         ensures err { OnErr result (self.new ≡ self.old) }
-        ensures refused { IfErr result (FailsAtString constraints.now (length value.now) self.old.rule) }
+        ensures fails { IfErr result (FailsAtString constraints.now (length value.now) self.old.rule) }
     {
         self.restricted::<GeneralType>(tag, constraints, value)
     }
@@ -147,7 +147,7 @@ impl Encoder {
     ) -> Result<(), EncodeError>
         ensures ok { OnOk result (AppendsEncoding (leaf any_octets tag constraints.now) (numbers value.now) self.old self.new) }
         ensures err { OnErr result (self.new ≡ self.old) }
-        ensures refused { IfErr result (FailsAtString constraints.now (length value.now) self.old.rule) }
+        ensures fails { IfErr result (FailsAtString constraints.now (length value.now) self.old.rule) }
     {
         self.restricted::<GraphicType>(tag, constraints, value)
     }
@@ -165,7 +165,7 @@ impl Encoder {
     ) -> Result<(), EncodeError>
         ensures ok { OnOk result (AppendsEncoding (leaf bmp tag constraints.now) (numbers (units_of value.now)) self.old self.new) }
         ensures err { OnErr result (self.new ≡ self.old) }
-        ensures refused { IfErr result (FailsAtString constraints.now (length (units_of value.now)) self.old.rule) }
+        ensures fails { IfErr result (FailsAtString constraints.now (length (units_of value.now)) self.old.rule) }
     {
         let octets = value.as_octets();
         self.string(tag, constraints, octets, octets.len() / 2)
@@ -184,7 +184,7 @@ impl Encoder {
     ) -> Result<(), EncodeError>
         ensures ok { OnOk result (AppendsEncoding (leaf utf8 tag constraints.now) (numbers (chars value.now)) self.old self.new) }
         ensures err { OnErr result (self.new ≡ self.old) }
-        ensures refused { IfErr result (FailsAtString constraints.now (length (chars value.now)) self.old.rule) }
+        ensures fails { IfErr result (FailsAtString constraints.now (length (chars value.now)) self.old.rule) }
     {
         let size = character_count(constraints, value);
         self.string(tag, constraints, value.as_bytes(), size)
@@ -199,7 +199,7 @@ impl Encoder {
     ) -> Result<(), EncodeError>
         ensures ok { OnOk result (AppendsEncoding (leaf (string_kind S.ALPHABET) tag constraints.now) (numbers value.now) self.old self.new) }
         ensures err { OnErr result (self.new ≡ self.old) }
-        ensures refused { IfErr result (FailsAtString constraints.now (length value.now) self.old.rule) }
+        ensures fails { IfErr result (FailsAtString constraints.now (length value.now) self.old.rule) }
     {
         let octets = value.as_octets();
         self.string(tag, constraints, octets, octets.len())

@@ -29,7 +29,7 @@ impl Encoder {
         self.close(tag, outcome)
     }
 
-    /// Writes a constructed value as `enclose` does, and refuses one whose outermost tags fall.
+    /// Writes a constructed value as `enclose` does, and refuses one whose outermost tags aren't in ascending order.
     pub(super) fn enclose_in_order<F: FnOnce(&mut Encoder) -> Result<(), EncodeError>>(
         &mut self,
         tag: Tag,
@@ -47,7 +47,7 @@ impl Encoder {
         self.close(tag, ordered)
     }
 
-    /// Passes on an outcome, but refuses where the tags that the last list keeps fall.
+    /// Passes on an outcome, but refuses where the tags that the last list keeps aren't in ascending order.
     fn in_order(&self, outcome: Result<(), EncodeError>) -> Result<(), EncodeError>
         ensures ok { OnOk result ((outcome ≡ Ok tt) × AreTagsInOrder self.now) }
         ensures refused { IfErr result (λ e. (outcome ≡ Err e) ⊎ ((outcome ≡ Ok tt) × FailsAtTags self.now e)) }
@@ -62,7 +62,7 @@ impl Encoder {
     pub(super) fn open(&mut self, keeps_tags: bool) -> Result<(), EncodeError>
         ensures ok { OnOk result (self.new ≡ opened self.old keeps_tags) }
         ensures err { OnErr result (self.new ≡ self.old) }
-        ensures memory { IfErr result (IsAllocError self.old.rule) }
+        ensures memory_alone { IfErr result (IsAllocError self.old.rule) }
     {
         self.writer.begin(keeps_tags)
     }

@@ -21,7 +21,7 @@ impl Encoder {
     ) -> Result<(), EncodeError>
         ensures ok { AppendsLeaf (enumerated E.known) tag (number_tree (E.number value.now)) result self.old self.new }
         ensures err { OnErr result (self.new ≡ self.old) }
-        ensures refused { IfErr result (IsAllocError self.old.rule) }
+        ensures memory_alone { IfErr result (IsAllocError self.old.rule) }
     {
         self.encode_integer(tag, &Constraints::NONE, &value.discriminant(), identifier)
     }

@@ -28,7 +28,7 @@ impl Encoder {
     ) -> Result<(), EncodeError>
         ensures ok { OnOk result (AppendsInteger I.range tag constraints.now (I.number value.now) self.old self.new) }
         ensures err { OnErr result (self.new ≡ self.old) }
-        ensures refused { IfErr result (FailsAtInteger constraints.now (I.number value.now) self.old.rule) }
+        ensures fails { IfErr result (FailsAtInteger constraints.now (I.number value.now) self.old.rule) }
     {
         let (alloc, rule) = (self.alloc(), self.codec());
         let contents = |octets: &mut Vec<u8>| write_integer(constraints, value, octets);
@@ -49,7 +49,7 @@ fn write_integer<I: IntegerType>(
     ensures ok { OnOk result (AppendsIntegerContents constraints.now (I.number value.now) octets.old.items octets.new.items) }
     ensures held { IsIn I.range (I.number value.now) }
     ensures behind { (l : List ℕ) × (octets.new.items ≡ octets.old.items ++ l) }
-    ensures refused { IfErr result (λ e. e ≡ Refused → (Admits ◌≤ℤ◌ constraints.now.value (I.number value.now) → ⊥)) }
+    ensures fails { IfErr result (λ e. e ≡ Refused → (Admits ◌≤ℤ◌ constraints.now.value (I.number value.now) → ⊥)) }
 {
     let start = octets.len();
     let Ok(()) = value.append_octets(octets) else {

@@ -17,7 +17,7 @@ impl Encoder {
     pub fn encode_null(&mut self, tag: Tag, _identifier: Identifier) -> Result<(), EncodeError>
         ensures ok { AppendsLeaf null tag (number_tree (pos 0)) result self.old self.new }
         ensures err { OnErr result (self.new ≡ self.old) }
-        ensures refused { IfErr result (IsAllocError self.old.rule) }
+        ensures memory_alone { IfErr result (IsAllocError self.old.rule) }
     {
         self.leaf(tag, &[])
     }

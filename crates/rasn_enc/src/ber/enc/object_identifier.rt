@@ -27,7 +27,7 @@ pub fn object_identifier_as_bytes(
 ) -> Result<(), EncodeError>
     ensures ok { OnOk result (AppendsContents oid.now buffer.old.items buffer.new.items) }
     ensures err { OnErr result (buffer.new.items ≡ buffer.old.items) }
-    ensures refused { IfErr result (λ e. FailsAtArcs oid.now Ber e ⊎ IsAllocError Ber e) }
+    ensures fails { IfErr result (λ e. FailsAtArcs oid.now Ber e ⊎ IsAllocError Ber e) }
 {
     let length = buffer.len();
     match append_contents(oid, buffer) {
@@ -46,7 +46,7 @@ pub fn object_identifier_as_bytes(
 pub fn append_contents(oid: &[u32], octets: &mut Vec<u8>) -> Result<(), FillError>
     ensures ok { OnOk result (AppendsContents oid.now octets.old.items octets.new.items) }
     ensures behind { (l : List ℕ) × (octets.new.items ≡ octets.old.items ++ l) }
-    ensures refused { IfErr result (λ e. e ≡ Refused → (AreEncodable oid.now → ⊥)) }
+    ensures fails { IfErr result (λ e. e ≡ Refused → (AreEncodable oid.now → ⊥)) }
 {
     let Some(first) = first_subidentifier(oid) else {
         return Err(FillError::Refused);
@@ -68,7 +68,7 @@ fn first_subidentifier(oid: &[u32]) -> Option<u32>
     }
 }
 
-/// The error of arcs that have no octets, which tells them. Where the copy finds no memory, that is the error.
+/// The error of arcs that have no octets, which holds them. Where the copy finds no memory, that is the error.
 pub fn refused_arcs(alloc: Global, codec: Codec, arcs: &[u32]) -> EncodeError
     requires { AreEncodable arcs.now → ⊥ }
     ensures { FailsAtArcs arcs.now codec result ⊎ IsAllocError codec result }
@@ -122,7 +122,7 @@ impl Encoder {
     ) -> Result<(), EncodeError>
         ensures ok { AppendsLeaf object_identifier tag (numbers value.now) result self.old self.new }
         ensures err { OnErr result (self.new ≡ self.old) }
-        ensures refused { IfErr result (λ e. FailsAtArcs value.now self.old.rule e ⊎ IsAllocError self.old.rule e) }
+        ensures fails { IfErr result (λ e. FailsAtArcs value.now self.old.rule e ⊎ IsAllocError self.old.rule e) }
     {
         let (alloc, rule) = (self.alloc(), self.codec());
         let contents = |octets: &mut Vec<u8>| append_contents(value, octets);

@@ -23,7 +23,7 @@ impl Encoder {
     ) -> Result<(), EncodeError>
         ensures ok { OnOk result (AppendsEncoding (leaf octet_string tag constraints.now) (numbers value.now) self.old self.new) }
         ensures err { OnErr result (self.new ≡ self.old) }
-        ensures refused { IfErr result (FailsAtString constraints.now (length value.now) self.old.rule) }
+        ensures fails { IfErr result (FailsAtString constraints.now (length value.now) self.old.rule) }
     {
         self.string(tag, constraints, value, value.len())
     }

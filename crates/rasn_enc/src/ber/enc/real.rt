@@ -18,7 +18,7 @@ impl Encoder {
         _value: &R,
         _identifier: Identifier,
     ) -> Result<(), EncodeError>
-        ensures refused { result ≡ Err (record { kind = RealNotSupported; codec = self.old.rule }) }
+        ensures fails { result ≡ Err (record { kind = RealNotSupported; codec = self.old.rule }) }
         ensures same { self.new ≡ self.old }
     {
         Err(EncodeError {

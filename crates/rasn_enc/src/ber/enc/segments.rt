@@ -1,7 +1,8 @@
 //! Strings of octets: in one piece, or in segments (X.690 8.7, 8.23, 9.2).
-ghost use Rattle.std.specs.Prelude.{◌≡◌, ◌<◌, ◌≤◌, length, MatchBool, IfErr, OnOk, OnErr};
+ghost use Rattle.std.specs.Prelude.{◌≡◌, ◌<◌, length, IfErr, OnOk, OnErr};
 ghost use Rattle.rasn_types.specs.Bytes.{IsCer, WritesOctets};
 ghost use Rattle.rasn_types.specs.Tags.{in_universal};
+ghost use Rattle.rasn_types.specs.Truth.{IsWhether};
 ghost use Rattle.rasn_enc.specs.View.{LeavesOthers};
 ghost use Rattle.rasn_enc.specs.Primitive.{IsAllocError};
 ghost use Rattle.rasn_enc.specs.Errors.{FailsAtString};
@@ -27,7 +28,7 @@ impl Encoder {
     ) -> Result<(), EncodeError>
         ensures ok { OnOk result (AppendsText tag constraints.now octets.now size self.old self.new) }
         ensures err { OnErr result (self.new ≡ self.old) }
-        ensures refused { IfErr result (FailsAtString constraints.now size self.old.rule) }
+        ensures fails { IfErr result (FailsAtString constraints.now size self.old.rule) }
     {
         self.check_size(constraints, size)?;
         if self.is_cut(octets.len(), SEGMENT) {
@@ -38,7 +39,7 @@ impl Encoder {
 
     /// The canonical rules write a string in segments where it is longer than one may be (X.690 9.2).
     pub(super) fn is_cut(&self, count: usize, most: usize) -> bool
-        ensures { MatchBool result (IsCer self.now.rule × (most < count)) (IsCer self.now.rule → count ≤ most) }
+        ensures { IsWhether result (IsCer self.now.rule × (most < count)) }
     {
         EncodingRules::of_codec(self.codec()).is_cer() && count > most
     }
@@ -48,7 +49,7 @@ impl Encoder {
         requires { SEGMENT < length value.now }
         ensures ok { OnOk result (AppendsSegmented WritesOctets SEGMENT (in_universal 4) tag value.now self.old self.new) }
         ensures err { OnErr result (self.new ≡ self.old) }
-        ensures memory { IfErr result (IsAllocError self.old.rule) }
+        ensures memory_alone { IfErr result (IsAllocError self.old.rule) }
     {
         self.enclose(tag, false, |encoder: &mut Encoder| {
             encoder.write_segments(value)
@@ -59,7 +60,7 @@ impl Encoder {
         requires { 0 < length value.now }
         ensures keeps { LeavesOthers self.old self.new }
         ensures ok { OnOk result (AppendsSegments WritesOctets SEGMENT (in_universal 4) value.now self.old self.new) }
-        ensures memory { IfErr result (IsAllocError self.old.rule) }
+        ensures memory_alone { IfErr result (IsAllocError self.old.rule) }
     {
         let mut rest = value;
         while rest.len() > SEGMENT {

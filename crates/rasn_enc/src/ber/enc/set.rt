@@ -10,7 +10,7 @@ use rasn_types::types::{Constructed, Identifier, Tag};
 
 impl Encoder {
     /// Writes a SET (X.690 8.11): `components` writes its components, one behind the other. Under any rules they stand in the order of
-    /// the calls, and their outermost tags must not fall (X.690 9.3, 10.3; X.680 8.6).
+    /// the calls, and their outermost tags must be in ascending order (X.690 9.3, 10.3; X.680 8.6).
     ///
     /// # Errors
     /// What `components` refuses; `SetOutOfOrder` where it accepts and some tag is below the one before it; else `OutOfMemory` alone.

@@ -40,7 +40,7 @@ impl Encoder {
         })
     }
 
-    /// Writes elements whose octets don't fall.
+    /// Writes elements whose octets are in ascending order.
     fn append_in_order<E: Encode>(&mut self, values: &[E]) -> Result<(), EncodeError>
         requires { self.old.last.tags ≡ None }
         ensures keeps { LeavesOthers self.old self.new }

@@ -51,10 +51,10 @@ fn text_of<T: Contents>(alloc: Global, value: &T) -> Result<Vec<u8>, AllocError>
     Ok(text)
 }
 
-/// The text of a time as the public calls give it: a failed allocation is an error under the name of BER.
+/// The text of a time as the public calls return it: a failed allocation is an error under the name of BER.
 fn canonical_text<T: Contents>(alloc: Global, value: &T) -> Result<Vec<u8>, EncodeError>
     ensures ok { IfOk result (λ v. T.IsWritten value.now v.items) }
-    ensures refused { IfErr result (IsAllocError Ber) }
+    ensures memory_alone { IfErr result (IsAllocError Ber) }
 {
     text_of(alloc, value).map_err(|_| out_of_memory(Codec::Ber))
 }
@@ -72,7 +72,7 @@ impl Encoder {
     ) -> Result<(), EncodeError>
         ensures ok { AppendsLeaf utc_time tag (instant value.now) result self.old self.new }
         ensures err { OnErr result (self.new ≡ self.old) }
-        ensures refused { IfErr result (IsAllocError self.old.rule) }
+        ensures memory_alone { IfErr result (IsAllocError self.old.rule) }
     {
         self.leaf_of(tag, value)
     }
@@ -89,7 +89,7 @@ impl Encoder {
     ) -> Result<(), EncodeError>
         ensures ok { AppendsLeaf generalized_time tag (instant value.now.moment) result self.old self.new }
         ensures err { OnErr result (self.new ≡ self.old) }
-        ensures refused { IfErr result (IsAllocError self.old.rule) }
+        ensures memory_alone { IfErr result (IsAllocError self.old.rule) }
     {
         self.leaf_of(tag, value)
     }
@@ -106,7 +106,7 @@ impl Encoder {
     ) -> Result<(), EncodeError>
         ensures ok { AppendsLeaf date tag (on_day value.now) result self.old self.new }
         ensures err { OnErr result (self.new ≡ self.old) }
-        ensures refused { IfErr result (IsAllocError self.old.rule) }
+        ensures memory_alone { IfErr result (IsAllocError self.old.rule) }
     {
         self.leaf_of(tag, value)
     }
@@ -120,7 +120,7 @@ impl Encoder {
         value: &GeneralizedTime,
     ) -> Result<Vec<u8>, EncodeError>
         ensures ok { IfOk result (λ v. v.items ≡ written_generalized value.now.moment) }
-        ensures refused { IfErr result (IsAllocError Ber) }
+        ensures memory_alone { IfErr result (IsAllocError Ber) }
     {
         canonical_text(alloc, value)
     }
@@ -134,7 +134,7 @@ impl Encoder {
         value: &UtcTime,
     ) -> Result<Vec<u8>, EncodeError>
         ensures ok { IfOk result (λ v. v.items ≡ written_utc value.now) }
-        ensures refused { IfErr result (IsAllocError Ber) }
+        ensures memory_alone { IfErr result (IsAllocError Ber) }
     {
         canonical_text(alloc, value)
     }
@@ -145,7 +145,7 @@ impl Encoder {
     /// `OutOfMemory` alone, under the name of BER.
     pub fn naivedate_to_date_bytes(alloc: Global, value: &Date) -> Result<Vec<u8>, EncodeError>
         ensures ok { IfOk result (λ v. v.items ≡ written_date value.now) }
-        ensures refused { IfErr result (IsAllocError Ber) }
+        ensures memory_alone { IfErr result (IsAllocError Ber) }
     {
         canonical_text(alloc, value)
     }

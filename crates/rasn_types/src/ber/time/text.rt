@@ -1,10 +1,10 @@
-//! What a time's text gives, by its parts.
+//! What a time's text says, part by part.
 ghost use Rattle.std.specs.Prelude.{◌≡◌, ◌+◌, ◌*◌, ◌<◌, IfSome};
 ghost use Rattle.rasn_types.specs.TimeParsing.{ParsesOption, starts_decimal, two_at, four_at, clock_at, digits_at, fraction_at, offset_at, zone_at, fields_at, short_at, long_at, date_at};
 ghost use Rattle.rasn_types.specs.TimeSpelling.{IsZone, billionths};
 ghost use Rattle.rasn_types.specs.Time.{short_form, canonical_form};
 
-/// What a time's text gives behind its hour.
+/// What a time's text says behind its hour.
 #[derive(Clone, Copy, Debug)]
 pub enum Clock {
     Hours,
@@ -21,7 +21,7 @@ pub enum Zone {
     West(u8, u8),
 }
 
-/// What a text gives behind its year; a fraction with its separator, in billionths.
+/// What a text says behind its year; a fraction with its separator, in billionths.
 #[derive(Clone, Copy, Debug)]
 pub struct Fields {
     pub month: u8,

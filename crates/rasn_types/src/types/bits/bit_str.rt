@@ -128,7 +128,7 @@ impl<'a> BitStr<'a> {
     }
 
     /// Puts the bits behind octets, packed from the first bit of an octet on. The bits that are left over in the last octet
-    /// aren't set. If an allocation fails, nothing is put.
+    /// aren't set. If an allocation fails, nothing is appended.
     pub fn append_to(&self, out: &mut Vec<u8>) -> Result<(), AllocError>
         ensures ok { OnOk result (Pushes self.now out.old.items out.new.items) }
         ensures err { OnErr result (out.new.items ≡ out.old.items) }

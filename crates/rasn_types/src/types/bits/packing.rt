@@ -85,7 +85,7 @@ pub(crate) fn push_joined(out: &mut Vec<u8>, unused: usize, more: &[u8])
     }
 }
 
-/// Drops a last octet none of whose bits are used, and tells how many bits are unused then.
+/// Drops a last octet none of whose bits are used, and returns how many bits are unused then.
 pub(crate) fn shorten(octets: &mut Vec<u8>, unused: usize) -> usize
     requires few { unused < 16 }
     requires held { unused ≤ 8 * length octets.old.items }

@@ -10,7 +10,7 @@ pub returns-in_err-check_size-clause-refused : goal.returns-in_err-check_size-cl
 returns-in_err-check_size-clause-refused g c = let p = err_from_is_err_and c.from_residual.result c.from_residual.ensures.1 in rw (p.1, p.2)
     (list_refused g.E.AsnType.shape (map g.E.AsnType.tree c.args.values.now) c.args.tag c.args.constraints.now c.args.self.now _
     (subst (λ n. FailsAtList g.E.AsnType.shape (map g.E.AsnType.tree c.args.values.now) n c.args.constraints.now c.args.self.now.rule c.in_err-check_size.field-0.0)
-    (sym (length-map c.args.values.now g.E.AsnType.tree)) (inl c.in_err-check_size.ensures.refused)))
+    (sym (length-map c.args.values.now g.E.AsnType.tree)) (inl c.in_err-check_size.ensures.fails)))
 
 pub returns-clause-ok : goal.returns-clause-ok
 returns-clause-ok g c = list_ok _ _ g.E.AsnType.shape (map g.E.AsnType.tree c.args.values.now) c.args.tag c.args.constraints.now.size c.args.self.now _ _

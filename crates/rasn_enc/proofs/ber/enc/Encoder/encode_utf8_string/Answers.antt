@@ -6,5 +6,5 @@ pub returns-clause-ok : goal.returns-clause-ok
 returns-clause-ok c = characters_encoded _ c.args.tag c.args.constraints.now c.as_bytes.result.now c.args.value.now (length (chars c.args.value.now)) _ _ c.as_bytes.ensures.value refl c.utf8.value
     (counted_appended _ c.args.tag c.args.constraints.now c.as_bytes.result.now c.character_count-size.result (length (chars c.args.value.now)) _ _ c.character_count-size.ensures c.string.ensures.ok)
 
-pub returns-clause-refused : goal.returns-clause-refused
-returns-clause-refused c = counted_refused _ c.args.constraints.now c.character_count-size.result (length (chars c.args.value.now)) _ c.character_count-size.ensures c.string.ensures.refused
+pub returns-clause-fails : goal.returns-clause-fails
+returns-clause-fails c = counted_refused _ c.args.constraints.now c.character_count-size.result (length (chars c.args.value.now)) _ c.character_count-size.ensures c.string.ensures.fails

@@ -7,4 +7,4 @@ pub returns-clause-ok : goal.returns-clause-ok
 returns-clause-ok g c = rw (← c.as_octets.ensures.octets) (fixed_encoded _ c.args.tag c.args.constraints.now c.as_octets.result.now g.row.N _ _ c.as_octets.ensures.size c.encode_octet_string.ensures.ok)
 
 pub returns-clause-refused : goal.returns-clause-refused
-returns-clause-refused g c = rw (← c.as_octets.ensures.octets) (text_refused _ (fixed g.row.N) c.args.tag c.args.constraints.now c.as_octets.result.now _ refl c.encode_octet_string.ensures.refused)
+returns-clause-refused g c = rw (← c.as_octets.ensures.octets) (text_refused _ (fixed g.row.N) c.args.tag c.args.constraints.now c.as_octets.result.now _ refl c.encode_octet_string.ensures.fails)
