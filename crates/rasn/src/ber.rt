@@ -42,7 +42,7 @@ pub fn decode_with_remainder<T: Decode>(
 /// The value's octets. Fails if an allocation fails or the value has no encoding under these rules.
 pub fn encode<T: Encode>(alloc: Global, value: &T) -> Result<Vec<u8>, EncodeError>
     ensures ok { IfOk result (λ octets. Bytes Ber T.shape (T.tree value.now) octets.items) }
-    ensures refused { IfErr result (λ error. IsEncodeOutOfMemory error.kind ⊎ NoEncoding Ber T.shape (T.tree value.now)) }
+    ensures fails { IfErr result (λ error. IsEncodeOutOfMemory error.kind ⊎ NoEncoding Ber T.shape (T.tree value.now)) }
 {
     entry::encode(alloc, value, EncoderOptions::ber())
 }
@@ -55,8 +55,8 @@ pub fn encode_buf<T: Encode>(
     buffer: &mut Vec<u8>,
 ) -> Result<(), EncodeError>
     ensures ok { OnOk result (Bytes Ber T.shape (T.tree value.now) buffer.new.items) }
-    ensures err { OnErr result (buffer.new.items ≡ []) }
-    ensures refused { IfErr result (λ error. IsEncodeOutOfMemory error.kind ⊎ NoEncoding Ber T.shape (T.tree value.now)) }
+    ensures emptied { OnErr result (buffer.new.items ≡ []) }
+    ensures fails { IfErr result (λ error. IsEncodeOutOfMemory error.kind ⊎ NoEncoding Ber T.shape (T.tree value.now)) }
 {
     entry::encode_buf(alloc, value, buffer, EncoderOptions::ber())
 }
@@ -69,7 +69,7 @@ pub fn encode_scope<F: FnOnce(&mut Encoder) -> Result<(), EncodeError>>(
     requires callable { FnOnceTakesAtMut F.FnOnce values (started Ber false) }
     requires keeps { OnlyAppends F.FnOnce values (started Ber false) }
     ensures ok { IfOk result (λ octets. WritesOutput F.FnOnce values Ber octets.items) }
-    ensures refused { IfErr result (ScopeRefuses F.FnOnce values Ber) }
+    ensures fails { IfErr result (ScopeRefuses F.FnOnce values Ber) }
 {
     entry::encode_scope(alloc, values, EncoderOptions::ber())
 }

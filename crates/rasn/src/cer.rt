@@ -37,7 +37,7 @@ pub fn decode_with_remainder<T: Decode>(
 /// The value's octets. Fails if an allocation fails or the value has no encoding under these rules.
 pub fn encode<T: Encode>(alloc: Global, value: &T) -> Result<Vec<u8>, EncodeError>
     ensures ok { IfOk result (λ octets. Bytes Cer T.shape (T.tree value.now) octets.items) }
-    ensures refused { IfErr result (λ error. IsEncodeOutOfMemory error.kind ⊎ NoEncoding Cer T.shape (T.tree value.now)) }
+    ensures fails { IfErr result (λ error. IsEncodeOutOfMemory error.kind ⊎ NoEncoding Cer T.shape (T.tree value.now)) }
 {
     entry::encode(alloc, value, EncoderOptions::cer())
 }
@@ -50,8 +50,8 @@ pub fn encode_buf<T: Encode>(
     buffer: &mut Vec<u8>,
 ) -> Result<(), EncodeError>
     ensures ok { OnOk result (Bytes Cer T.shape (T.tree value.now) buffer.new.items) }
-    ensures err { OnErr result (buffer.new.items ≡ []) }
-    ensures refused { IfErr result (λ error. IsEncodeOutOfMemory error.kind ⊎ NoEncoding Cer T.shape (T.tree value.now)) }
+    ensures emptied { OnErr result (buffer.new.items ≡ []) }
+    ensures fails { IfErr result (λ error. IsEncodeOutOfMemory error.kind ⊎ NoEncoding Cer T.shape (T.tree value.now)) }
 {
     entry::encode_buf(alloc, value, buffer, EncoderOptions::cer())
 }

@@ -56,7 +56,7 @@ pub fn decode_with_remainder<T: Decode>(
 pub fn encode<T: Encode>(alloc: Global, value: &T) -> Result<Vec<u8>, EncodeError>
     ensures ok { IfOk result (λ octets. Bytes Der T.shape (T.tree value.now) octets.items) }
     ensures canonical { IfOk result (λ octets. Identify T.shape (T.tree value.now) octets.items) }
-    ensures refused { IfErr result (λ error. IsEncodeOutOfMemory error.kind ⊎ NoEncoding Der T.shape (T.tree value.now)) }
+    ensures fails { IfErr result (λ error. IsEncodeOutOfMemory error.kind ⊎ NoEncoding Der T.shape (T.tree value.now)) }
 {
     entry::encode(alloc, value, EncoderOptions::der())
 }
@@ -70,8 +70,8 @@ pub fn encode_buf<T: Encode>(
 ) -> Result<(), EncodeError>
     ensures ok { OnOk result (Bytes Der T.shape (T.tree value.now) buffer.new.items) }
     ensures canonical { OnOk result (Identify T.shape (T.tree value.now) buffer.new.items) }
-    ensures err { OnErr result (buffer.new.items ≡ []) }
-    ensures refused { IfErr result (λ error. IsEncodeOutOfMemory error.kind ⊎ NoEncoding Der T.shape (T.tree value.now)) }
+    ensures emptied { OnErr result (buffer.new.items ≡ []) }
+    ensures fails { IfErr result (λ error. IsEncodeOutOfMemory error.kind ⊎ NoEncoding Der T.shape (T.tree value.now)) }
 {
     entry::encode_buf(alloc, value, buffer, EncoderOptions::der())
 }
@@ -84,7 +84,7 @@ pub fn encode_scope<F: FnOnce(&mut Encoder) -> Result<(), EncodeError>>(
     requires callable { FnOnceTakesAtMut F.FnOnce values (started Der false) }
     requires keeps { OnlyAppends F.FnOnce values (started Der false) }
     ensures ok { IfOk result (λ octets. WritesOutput F.FnOnce values Der octets.items) }
-    ensures refused { IfErr result (ScopeRefuses F.FnOnce values Der) }
+    ensures fails { IfErr result (ScopeRefuses F.FnOnce values Der) }
 {
     entry::encode_scope(alloc, values, EncoderOptions::der())
 }

@@ -36,7 +36,7 @@ pub(crate) fn encode<T: Encode>(
     options: EncoderOptions,
 ) -> Result<Vec<u8>, EncodeError>
     ensures ok { IfOk result (λ octets. Bytes options T.shape (T.tree value.now) octets.items) }
-    ensures refused { IfErr result (λ error. IsEncodeOutOfMemory error.kind ⊎ NoEncoding options T.shape (T.tree value.now)) }
+    ensures fails { IfErr result (λ error. IsEncodeOutOfMemory error.kind ⊎ NoEncoding options T.shape (T.tree value.now)) }
 {
     encode_over(alloc, value, Vec::new(alloc), options)
 }
@@ -49,7 +49,7 @@ fn encode_over<T: Encode>(
     options: EncoderOptions,
 ) -> Result<Vec<u8>, EncodeError>
     ensures ok { IfOk result (λ octets. Bytes options T.shape (T.tree value.now) octets.items) }
-    ensures refused { IfErr result (λ error. IsEncodeOutOfMemory error.kind ⊎ NoEncoding options T.shape (T.tree value.now)) }
+    ensures fails { IfErr result (λ error. IsEncodeOutOfMemory error.kind ⊎ NoEncoding options T.shape (T.tree value.now)) }
 {
     let mut encoder = Encoder::new_with_buffer(alloc, options, buffer)?;
     value.encode(&mut encoder)?;
@@ -64,8 +64,8 @@ pub(crate) fn encode_buf<T: Encode>(
     options: EncoderOptions,
 ) -> Result<(), EncodeError>
     ensures ok { OnOk result (Bytes options T.shape (T.tree value.now) buffer.new.items) }
-    ensures err { OnErr result (buffer.new.items ≡ []) }
-    ensures refused { IfErr result (λ error. IsEncodeOutOfMemory error.kind ⊎ NoEncoding options T.shape (T.tree value.now)) }
+    ensures emptied { OnErr result (buffer.new.items ≡ []) }
+    ensures fails { IfErr result (λ error. IsEncodeOutOfMemory error.kind ⊎ NoEncoding options T.shape (T.tree value.now)) }
 {
     let held = mem::replace(buffer, Vec::new(alloc));
     *buffer = encode_over(alloc, value, held, options)?;
@@ -81,7 +81,7 @@ pub(crate) fn encode_scope<F: FnOnce(&mut Encoder) -> Result<(), EncodeError>>(
     requires callable { FnOnceTakesAtMut F.FnOnce values (started options false) }
     requires keeps { OnlyAppends F.FnOnce values (started options false) }
     ensures ok { IfOk result (λ octets. WritesOutput F.FnOnce values options octets.items) }
-    ensures refused { IfErr result (ScopeRefuses F.FnOnce values options) }
+    ensures fails { IfErr result (ScopeRefuses F.FnOnce values options) }
 {
     let mut encoder = Encoder::new(alloc, options)?;
     run(&mut encoder, values)?;

@@ -7,7 +7,7 @@ use Rattle.rasn_types.specs.declared.types.tag.Tag.{Tag}
 use Rattle.rasn_types.specs.Framing.{Frame, with_length, without_length, definite, indefinite, Ended}
 use Rattle.rasn_types.specs.Readings.{Reading, ReadsContents, definite_form, indefinite_form, ReadsMany, ReadsFrom}
 use Rattle.rasn_types.specs.Contents.{joined_lists}
-use Rattle.rasn_types.specs.Bytes.{DefiniteForm, IndefiniteForm, PrimitiveEncoding, ConstructedEncoding, Each}
+use Rattle.rasn_types.specs.Bytes.{DefiniteForm, IndefiniteForm, ConstructedEncoding, Each}
 use Rattle.rasn_types.proofs.Headers.Frames.{not_ended}
 use Rattle.rasn.proofs.ReadBack.Begins.{Comes}
 

@@ -9,7 +9,7 @@ use Rattle.rasn_types.specs.Bytes.{DefiniteForm, IndefiniteForm}
 use Rattle.rasn_types.specs.declared.types.codec.Codec.{Codec}
 use Rattle.rasn_types.specs.Shapes.{Tree, Kind}
 use Rattle.rasn_types.specs.Contents.{Contents, IsShortest, ReadsString, primitive, ReadsBitSegment, OctetSegment}
-use Rattle.rasn_types.specs.Grammar.{Family, plain_family, ReadsIn}
+use Rattle.rasn_types.specs.Grammar.{plain_family, ReadsIn}
 use Rattle.rasn_types.proofs.Headers.Frames.{not_ended, rank_small, bit_small}
 use Rattle.rasn.specs.WorkedShapes.{contextual}
 

@@ -1,4 +1,4 @@
-//! Open types are decoded: without a tag as one whole encoding (X.690 8.15), under a tag as what the tag holds (8.14).
+//! Open types are decoded: without a tag as one complete encoding (X.690 8.15), under a tag as what the tag holds (8.14).
 
 use crate::any::{TAG_1, any_of, deep};
 use crate::reading::{
@@ -29,7 +29,7 @@ fn holds_octets(rt: HostRuntime) {
     assert!(rt; null != made(&rt, any_of(alloc, &[])));
 }
 
-// An open type without a tag is one whole encoding, end-of-contents octets included (X.690 8.15).
+// An open type without a tag is one complete encoding, end-of-contents octets included (X.690 8.15).
 #[test]
 fn keeps_whole_encodings(rt: HostRuntime) {
     let alloc = rt.alloc();

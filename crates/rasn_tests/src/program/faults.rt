@@ -21,7 +21,7 @@ impl Read for Failing<'_> {
     }
 }
 
-/// A writer that takes nothing.
+/// A writer that accepts no octets.
 #[derive(Drop)]
 struct Full;
 

@@ -1,4 +1,4 @@
-//! A SET OF as a value: its elements keep the order that they were put in, which doesn't count (X.680 28).
+//! A SET OF as a value: its elements keep the order that they were inserted in, which doesn't count (X.680 28).
 
 use crate::reading::assert_facts;
 use crate::writing::made;

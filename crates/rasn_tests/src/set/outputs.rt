@@ -101,7 +101,7 @@ fn encoders_begin_without_octets(rt: HostRuntime) {
     assert_output(&rt, encoder.output(), &TRUE);
 }
 
-/// What the encoder puts out after an INTEGER and a BOOLEAN, whose tags are out of order.
+/// What the encoder outputs after an INTEGER and a BOOLEAN, whose tags are out of order.
 fn outputs_falling(rt: &impl Abort, mut encoder: Encoder) -> Result<Vec<u8>, EncodeError> {
     assert_written(rt, 2u8.encode(&mut encoder));
     assert_written(rt, true.encode(&mut encoder));

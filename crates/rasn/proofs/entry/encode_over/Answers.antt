@@ -4,5 +4,5 @@ use Rattle.rasn.proofs.entry.encode_over.Goals as goal
 pub returns-clause-ok : goal.returns-clause-ok
 returns-clause-ok g c = output_ok _ g.T.AsnType.shape (g.T.AsnType.tree c.args.value.now) _ _ c.in_ok-encoder.ensures.ok c.in_ok-encode.ensures.ok _ c.output.ensures.ok
 
-pub returns-clause-refused : goal.returns-clause-refused
-returns-clause-refused g c = output_refused _ g.T.AsnType.shape (g.T.AsnType.tree c.args.value.now) _ _ c.in_ok-encoder.ensures.ok c.in_ok-encode.ensures.ok _ c.output.ensures.refused
+pub returns-clause-fails : goal.returns-clause-fails
+returns-clause-fails g c = output_refused _ g.T.AsnType.shape (g.T.AsnType.tree c.args.value.now) _ _ c.in_ok-encoder.ensures.ok c.in_ok-encode.ensures.ok _ c.output.ensures.fails
