@@ -27,3 +27,5 @@ pub mod BitPacking
 pub mod Equality
 pub mod Same
 pub mod SetOf
+pub mod OwnEnumerated
+pub mod Deciding
