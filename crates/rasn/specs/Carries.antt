@@ -2,7 +2,7 @@
 use Rattle.std.specs.Prelude.{Bool, true, false, not, ◌&&◌, ◌||◌, Some, None}
 use Rattle.rasn_types.specs.Shapes.{Tree, number, bits, numbers, instant, on_day, done, joined, set_elements, chosen, absent, Shape, leaf, any, prefix, choice, option, seq, set, list, set_of, Parts, part, Presence, required, optional, addition, default}
 use Rattle.rasn_types.specs.Shapes.Parts.{none}
-use Rattle.rasn_types.specs.Described.{has_required}
+use Rattle.rasn_types.specs.Described.{has_required, has_addition}
 
 abbrev pub is_list : Tree → Bool
 is_list (number z) = false
@@ -34,13 +34,6 @@ is_own_default required = true
 is_own_default optional = true
 is_own_default addition = true
 is_own_default (default d) = is_same_as_itself d
-
-abbrev pub has_addition : Parts → Bool
-has_addition none = false
-has_addition (part required s ps) = has_addition ps
-has_addition (part optional s ps) = has_addition ps
-has_addition (part addition s ps) = true
-has_addition (part (default d) s ps) = has_addition ps
 
 -- Not of an open type with a tag, in which there need not be one encoding; nor of a SEQUENCE that has additions and no required part,
 -- since empty contents leave these out; nor where a default isn't the same as itself.

@@ -1,9 +1,8 @@
 -- Parts as types: what is told of them by computing.
 use Rattle.std.specs.Prelude.{Bool, true, false, ◌||◌, not, Option, Some, None}
 use Rattle.rasn_types.specs.declared.types.tag.Tag.{Tag}
-use Rattle.rasn_types.specs.Shapes.{Shape, own, looked_for, Parts, part, addition}
-use Rattle.rasn_types.specs.Shapes.Parts.{none}
-use Rattle.rasn_types.specs.Described.{has_required}
+use Rattle.rasn_types.specs.Shapes.{Shape, own, looked_for, Parts}
+use Rattle.rasn_types.specs.Described.{has_required, has_addition}
 use Rattle.rasn_de.specs.Headers.{same_tag}
 
 abbrev pub same_own : Option Tag → Option Tag → Bool
@@ -15,11 +14,6 @@ same_own (Some a) None = false
 -- Whether a value of the shape has the tag that it is looked for by.
 abbrev pub is_looked_for : Shape → Tag → Bool
 is_looked_for s tag = same_own (own s) (looked_for tag)
-
-abbrev pub has_addition : Parts → Bool
-has_addition none = false
-has_addition (part addition s ps) = true
-has_addition (part _ s ps) = has_addition ps
 
 -- Whether reading the parts in order reads empty contents too: all parts are left out then, or a required one is missing. Behind an
 -- extension marker an addition would be missing as well.

@@ -1,6 +1,6 @@
 -- What a constructed type tells of its parts, and of its fields.
 use Rattle.std.specs.Prelude.{ℕ, suc, ◌+◌, Bool, true, false, ◌&&◌, ◌||◌, not, nat_eq}
-use Rattle.rasn_types.specs.Shapes.{Parts, part, required}
+use Rattle.rasn_types.specs.Shapes.{Parts, part, required, optional, addition, default}
 use Rattle.rasn_types.specs.Shapes.Parts.{none}
 use Rattle.rasn_types.specs.declared.types.fields.FieldPresence.{FieldPresence}
 use Rattle.rasn_types.specs.declared.types.fields.FieldPresence.TheVariants.{Required, Optional, Default}
@@ -10,6 +10,14 @@ abbrev pub has_required : Parts → Bool
 has_required none = false
 has_required (part required s ps) = true
 has_required (part _ s ps) = has_required ps
+
+-- whether some part is an addition under an explicit tag
+abbrev pub has_addition : Parts → Bool
+has_addition none = false
+has_addition (part required s ps) = has_addition ps
+has_addition (part optional s ps) = has_addition ps
+has_addition (part addition s ps) = true
+has_addition (part (default d) s ps) = has_addition ps
 
 -- how many parts there are
 abbrev pub count : Parts → ℕ

@@ -28,3 +28,5 @@ pub mod Equality
 pub mod Same
 pub mod SetOf
 pub mod OwnTypes
+pub mod OwnEnumerated
+pub mod Deciding

@@ -9,14 +9,14 @@ use Rattle.rasn_types.specs.Time.{CarriedUtc, CarriedDay}
 use Rattle.rasn_types.specs.Shapes.{presences, Tree, number, bits, numbers, instant, on_day, done, joined, items, set_elements, chosen, absent, Same, Kind, utc_time, generalized_time, date, Shape, leaf, any, prefix, choice, option, seq, set, list, set_of, Parts, part, own, Presence, required, optional, addition, default}
 use Rattle.rasn_types.specs.declared.types.constraints.Bound.{Bound}
 use Rattle.rasn_types.specs.Shapes.Parts.{none}
-use Rattle.rasn_types.specs.Described.{has_required}
+use Rattle.rasn_types.specs.Described.{has_required, has_addition}
 use Rattle.rasn_types.specs.Readings.{Reading, ReadsContents, definite_form, indefinite_form, ReadsMany, ReadsPart, ReadsInOrder, IsMissing, AllMissing, presences_in, HasRequired, ReadsSeq, ReadsSet, ReadsChoice, OneOf, ByPart}
 use Rattle.rasn_types.specs.Grammar.{Reads, parts_of, Family, plain_family, bit_family, text_family, family, ReadsIn, Text, ReadsList, ReadsSetOf}
 use Rattle.rasn_types.specs.Carried.{EachOf, PartIsWithinLimits, IsCarriedTime, LeafIsWithinLimits, IsOneEncoding, IsWithinLimits, AreWithinLimits, ChosenIsWithinLimits}
 use Rattle.rasn_types.specs.Lawful.{IsLawful, AreLawfulByTag}
 use Rattle.rasn_types.proofs.Lawful.{lawful_decides}
 use Rattle.rasn_types.proofs.Time.Spellings.{both_true}
-use Rattle.rasn.specs.Carries.{is_list, is_same_as_itself, is_own_default, has_addition, carries_all, all_carry}
+use Rattle.rasn.specs.Carries.{is_list, is_same_as_itself, is_own_default, carries_all, all_carry}
 use Rattle.rasn.specs.Laws.{LawfulTested, AllCarried, IsOwnDefault, HasOwnDefaults, HaveOwnDefaults}
 use Rattle.rasn.proofs.ReadBack.Shapes.{EachGood, alternatives_good, in_order_good, by_tag_good}
 use Rattle.rasn.proofs.ReadBack.Parts.{other_index}

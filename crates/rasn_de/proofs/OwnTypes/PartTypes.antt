@@ -9,7 +9,7 @@ use Rattle.rasn_types.specs.Shapes.{Shape, Tree, seq, Parts, part, required, opt
 use Rattle.rasn_types.specs.Shapes.Parts.{none}
 use Rattle.rasn_types.specs.Readings.{Reading, HasRequired, ReadsInOrder, AllMissing, presences_in, IsLeftOut, IsPresent}
 use Rattle.rasn_types.specs.Grammar.{Reads, parts_of}
-use Rattle.rasn_types.specs.Described.{has_required}
+use Rattle.rasn_types.specs.Described.{has_required, has_addition}
 use Rattle.rasn_types.proofs.Time.Spellings.{both_true}
 use Rattle.rasn_de.specs.Headers.{Header}
 use Rattle.rasn_de.specs.Segments.{octets_inside}
@@ -17,7 +17,7 @@ use Rattle.rasn_de.specs.State.{State, Call, EachCall}
 use Rattle.rasn_de.specs.Outcomes.{Exact, outcome}
 use Rattle.rasn_de.specs.Decodes.{Decodes, DecodesParts, ReadsParts}
 use Rattle.rasn_de.specs.Constructed.{sequence_header, constructed_header_at, is_indefinite_extent, contents_state, DecodesInside}
-use Rattle.rasn_de.specs.PartTypes.{same_own, is_looked_for, has_addition, needs_no_initializer}
+use Rattle.rasn_de.specs.PartTypes.{same_own, is_looked_for, needs_no_initializer}
 use Rattle.rasn_de.proofs.Headers.Frames.{same_tag_is}
 use Rattle.rasn_de.proofs.Constructed.Reads.{Exact-same, IsCut, held_decodes, held_constructed, constructed_held}
 use Rattle.rasn_de.proofs.Constructed.SequenceContents.{SeqReads, required_part, no_required}
