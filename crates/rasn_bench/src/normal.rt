@@ -60,7 +60,7 @@ pub fn normalise<T: Decode + Encode + LawfulEq>(
     ensures kept { IfOk result (λ octets. IsKept rule T.shape input.now octets.items) }
     ensures unchanged { IfOk result (λ octets. IsUnchanged rule T.shape input.now octets.items) }
     ensures answered { IfErr result (λ error. IsAnswered rule T.shape input.now error) }
-    ensures refused { IfErr result (λ error. IsNoNormal rule T.shape input.now error) }
+    ensures fails { IfErr result (λ error. IsNoNormal rule T.shape input.now error) }
 {
     convert::<T>(alloc, rule, input)
 }
@@ -84,7 +84,7 @@ fn convert<T: Decode + Encode + LawfulEq>(
 ) -> Result<Vec<u8>, NormaliseError>
     ensures normal { IfOk result (λ octets. IsNormal rule T.shape input.now octets.items) }
     ensures octets { IfOk result (λ octets. AreOctets octets.items) }
-    ensures refused { IfErr result (λ error. IsNoNormal rule T.shape input.now error) }
+    ensures fails { IfErr result (λ error. IsNoNormal rule T.shape input.now error) }
 {
     let value = decode::<T>(alloc, rule, input).map_err(NormaliseError::Decode)?;
     let octets = der::encode(alloc, &value).map_err(NormaliseError::Encode)?;

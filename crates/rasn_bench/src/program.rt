@@ -50,7 +50,7 @@ impl LineAnswer for NormalAnswer {
     }
 }
 
-/// Answers each line of the input by a line of the output, an empty one by nothing, and tells whether none was
+/// Answers each line of the input by a line of the output, an empty one by nothing, and returns whether none was
 /// malformed. A line ends by a line feed, the last one also by the end of input. One line is held at a time.
 pub fn run<R: BufRead, W: Write>(
     alloc: Global,
@@ -112,7 +112,7 @@ fn without_line_feed(line: &[u8]) -> &[u8] {
     }
 }
 
-/// Writes the answer to a line, and tells whether the line had a good form.
+/// Writes the answer to a line, and returns whether the line had a good form.
 fn answer_line<A: LineAnswer, W: Write>(
     alloc: Global,
     line: &str,

@@ -28,7 +28,7 @@ fn main(rt: HostRuntime) -> ExitCode {
     }
 }
 
-/// Answers the lines of the named file or of standard input, and tells whether none was malformed.
+/// Answers the lines of the named file or of standard input, and returns whether none was malformed.
 fn answer(rt: &HostRuntime) -> Result<bool, Fault> {
     let mut arguments = Vec::new(rt.alloc());
     let all = env::args(rt).map_err(|error| Fault::Run(fault_of(error.kind())))?;
@@ -47,7 +47,7 @@ fn answer(rt: &HostRuntime) -> Result<bool, Fault> {
     }
 }
 
-/// Answers the lines that the reader gives, by the DER octets alone where it normalises.
+/// Answers the lines of the reader, by the DER octets alone where it normalises.
 fn answer_all<R: Read + Drop>(
     rt: &HostRuntime,
     reader: R,

@@ -13,4 +13,4 @@ pub returns-clause-unchanged : goal.returns-clause-unchanged
 returns-clause-unchanged g c = if_ok c.convert.result (λ octets. unchanged (octets_all c.args.input.now (λ i. omega (arith, c.type_inv.input i)))) c.convert.ensures.normal
 
 pub returns-clause-answered : goal.returns-clause-answered
-returns-clause-answered g c = if_err c.convert.result answered c.convert.ensures.refused
+returns-clause-answered g c = if_err c.convert.result answered c.convert.ensures.fails
