@@ -8,10 +8,7 @@ pub mod Arguments
 pub mod Grouped
 pub mod Pair
 pub mod Both
-pub mod Time
 pub mod Colour
 pub mod Set3
 pub mod Event
-pub mod AlgorithmIdentifier
-pub mod Attribute
 pub mod Setting

@@ -1,7 +1,5 @@
 //! Types as a user of the public crate writes them, with their proofs.
 
-mod algorithm;
-mod attribute;
 mod both;
 mod colour;
 mod event;
@@ -9,25 +7,21 @@ mod grouped;
 mod pair;
 mod set3;
 mod setting;
-mod time;
 
-pub use algorithm::AlgorithmIdentifier;
-pub use attribute::AttributeTypeAndValue;
 pub use both::Both;
 pub use colour::Colour;
 pub use event::Event;
 pub use grouped::{Group, Grouped};
 pub use pair::Pair;
-use rasn::types::{Ia5String, SetOf};
+use rasn::types::Ia5String;
+pub use rasn_messages::x509::{
+    AlgorithmIdentifier, AttributeTypeAndValue, RelativeDistinguishedName, Time,
+};
 pub use set3::Set3;
 pub use setting::{Setting, Seven};
-pub use time::Time;
 
 /// SEQUENCE { name IA5String, truth BOOLEAN }
 pub type Foo = Both<Ia5String, bool>;
 
 /// SEQUENCE { notBefore Time, notAfter Time } (RFC 5280, 4.1)
 pub type Validity = Both<Time, Time>;
-
-/// SET OF AttributeTypeAndValue (RFC 5280, 4.1.2.4, which asks for at least one)
-pub type RelativeDistinguishedName = SetOf<AttributeTypeAndValue>;

@@ -9,6 +9,7 @@ mod errors;
 #[cfg(test)]
 mod hostile;
 #[cfg(test)]
+mod messages;
 mod parts;
 #[cfg(test)]
 mod program;

@@ -53,7 +53,11 @@ impl Decode for Grouped {
         _constraints: &Constraints,
     ) -> Result<Grouped, DecodeError> {
         let Required(truth, Optional(number, Optional(group, End))) = decoder.read_sequence(tag)?;
-        Ok(Grouped { truth, number, group })
+        Ok(Grouped {
+            truth,
+            number,
+            group,
+        })
     }
 }
 
@@ -65,7 +69,13 @@ impl Encode for Grouped {
         _constraints: &Constraints,
         _identifier: Identifier,
     ) -> Result<(), EncodeError> {
-        encoder.write_sequence(tag, Put(&self.truth, PutOptional(&self.number, PutOptional(&self.group, End))))
+        encoder.write_sequence(
+            tag,
+            Put(
+                &self.truth,
+                PutOptional(&self.number, PutOptional(&self.group, End)),
+            ),
+        )
     }
 
     fn is_present(&self) -> bool {

@@ -83,7 +83,10 @@ impl Encode for Setting {
         _constraints: &Constraints,
         _identifier: Identifier,
     ) -> Result<(), EncodeError> {
-        encoder.write_sequence(tag, Put(&self.truth, PutDefault::<Seven, _>(&self.level, End)))
+        encoder.write_sequence(
+            tag,
+            Put(&self.truth, PutDefault::<Seven, _>(&self.level, End)),
+        )
     }
 
     fn is_present(&self) -> bool {

@@ -1,8 +1,9 @@
 //! `AttributeTypeAndValue ::= SEQUENCE { type OBJECT IDENTIFIER, value ANY DEFINED BY type }` (RFC 5280, 4.1.2.4).
-
 use rasn::error::{DecodeError, EncodeError};
 use rasn::parts::{End, Put, Required};
-use rasn::types::{Any, AsnType, Constraints, Identifier, LawfulEq, ObjectIdentifier, Present, Tag};
+use rasn::types::{
+    Any, AsnType, Constraints, Identifier, LawfulEq, ObjectIdentifier, Present, Tag,
+};
 use rasn::{Decode, Decoder, Encode, Encoder};
 
 /// SEQUENCE { type OBJECT IDENTIFIER, value ANY DEFINED BY type }
@@ -16,7 +17,7 @@ impl AsnType for AttributeTypeAndValue {
     ghost use Rattle.std.specs.Prelude.{refl};
     ghost use Rattle.rasn_types.specs.Tags.{in_universal};
     ghost use Rattle.rasn_types.specs.Trees.{unconstrained};
-    ghost use Rattle.rasn_bench.specs.Attribute.{attribute_shape, attribute_tree};
+    ghost use Rattle.rasn_messages.specs.X509.Attribute.{attribute_shape, attribute_tree};
 
     ghost TAG = { in_universal 16 };
 
@@ -34,10 +35,9 @@ impl AsnType for AttributeTypeAndValue {
 }
 
 impl LawfulEq for AttributeTypeAndValue {
-    ghost use Rattle.std.proofs.Common.{rules};
-    ghost use Rattle.rasn_types.specs.Equality.{deciding};
+    ghost use Rattle.rasn_types.specs.Deciding.{deciding};
 
-    ghost decides = { Prim.search (deciding, rules) };
+    ghost decides = { Prim.search deciding depth 64 };
 }
 
 impl Present for AttributeTypeAndValue {

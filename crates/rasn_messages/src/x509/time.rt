@@ -16,7 +16,7 @@ impl AsnType for Time {
     ghost use Rattle.std.specs.Prelude.{refl};
     ghost use Rattle.rasn_types.specs.Tags.{eoc};
     ghost use Rattle.rasn_types.specs.Trees.{unconstrained};
-    ghost use Rattle.rasn_bench.specs.Time.{time_shape, time_tree};
+    ghost use Rattle.rasn_messages.specs.X509.Times.{time_shape, time_tree};
 
     ghost TAG = { eoc };
 
@@ -35,8 +35,8 @@ impl AsnType for Time {
 
 impl LawfulEq for Time {
     ghost use Rattle.rasn_types.specs.Equality.{choice_decided, alternative, instant_decided};
-    ghost use Rattle.rasn_bench.specs.contracts.worked.time.Time.{enum as time_enum};
-    ghost use Rattle.rasn_bench.specs.Time.{time_tree};
+    ghost use Rattle.rasn_messages.specs.contracts.x509.time.Time.{enum as time_enum};
+    ghost use Rattle.rasn_messages.specs.X509.Times.{time_tree};
 
     ghost decides = { choice_decided time_enum _ time_tree (alternative (λ x. x.0) instant_decided, (alternative (λ x. x.0) (λ s t. instant_decided s.moment t.moment), tt)) };
 }

@@ -4,7 +4,7 @@ use Rattle.rasn_types.specs.Tags.{in_universal}
 use Rattle.rasn_types.specs.Shapes.{Shape, Tree, numbers, items, leaf, object_identifier, any, seq, Parts, part, required, optional}
 use Rattle.rasn_types.specs.Shapes.Parts.{none}
 use Rattle.rasn_types.specs.Trees.{option_tree, unconstrained}
-use Rattle.rasn_bench.specs.declared.worked.algorithm.AlgorithmIdentifier.{AlgorithmIdentifier}
+use Rattle.rasn_messages.specs.declared.x509.algorithm.AlgorithmIdentifier.{AlgorithmIdentifier}
 
 abbrev pub algorithm_parts : Parts
 algorithm_parts = part required (leaf object_identifier (in_universal 6) unconstrained) (part optional (any None) none)

@@ -1,8 +1,9 @@
 //! `AlgorithmIdentifier ::= SEQUENCE { algorithm OBJECT IDENTIFIER, parameters ANY DEFINED BY algorithm OPTIONAL }` (RFC 5280, 4.1.1.2).
-
 use rasn::error::{DecodeError, EncodeError};
 use rasn::parts::{End, Optional, Put, PutOptional, Required};
-use rasn::types::{Any, AsnType, Constraints, Identifier, LawfulEq, ObjectIdentifier, Present, Tag};
+use rasn::types::{
+    Any, AsnType, Constraints, Identifier, LawfulEq, ObjectIdentifier, Present, Tag,
+};
 use rasn::{Decode, Decoder, Encode, Encoder};
 
 /// SEQUENCE { algorithm OBJECT IDENTIFIER, parameters ANY OPTIONAL }: the parameters are the one value that is left behind the algorithm,
@@ -17,7 +18,7 @@ impl AsnType for AlgorithmIdentifier {
     ghost use Rattle.std.specs.Prelude.{refl};
     ghost use Rattle.rasn_types.specs.Tags.{in_universal};
     ghost use Rattle.rasn_types.specs.Trees.{unconstrained};
-    ghost use Rattle.rasn_bench.specs.AlgorithmIdentifier.{algorithm_shape, algorithm_tree};
+    ghost use Rattle.rasn_messages.specs.X509.Algorithm.{algorithm_shape, algorithm_tree};
 
     ghost TAG = { in_universal 16 };
 
@@ -35,10 +36,9 @@ impl AsnType for AlgorithmIdentifier {
 }
 
 impl LawfulEq for AlgorithmIdentifier {
-    ghost use Rattle.std.proofs.Common.{rules};
-    ghost use Rattle.rasn_types.specs.Equality.{deciding};
+    ghost use Rattle.rasn_types.specs.Deciding.{deciding};
 
-    ghost decides = { Prim.search (deciding, rules) };
+    ghost decides = { Prim.search deciding depth 64 };
 }
 
 impl Present for AlgorithmIdentifier {
@@ -54,7 +54,10 @@ impl Decode for AlgorithmIdentifier {
         _constraints: &Constraints,
     ) -> Result<AlgorithmIdentifier, DecodeError> {
         let Required(algorithm, Optional(parameters, End)) = decoder.read_sequence(tag)?;
-        Ok(AlgorithmIdentifier { algorithm, parameters })
+        Ok(AlgorithmIdentifier {
+            algorithm,
+            parameters,
+        })
     }
 }
 
@@ -66,7 +69,10 @@ impl Encode for AlgorithmIdentifier {
         _constraints: &Constraints,
         _identifier: Identifier,
     ) -> Result<(), EncodeError> {
-        encoder.write_sequence(tag, Put(&self.algorithm, PutOptional(&self.parameters, End)))
+        encoder.write_sequence(
+            tag,
+            Put(&self.algorithm, PutOptional(&self.parameters, End)),
+        )
     }
 
     fn is_present(&self) -> bool {

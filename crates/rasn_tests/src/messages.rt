@@ -1,0 +1,3 @@
+//! Messages of the standards, as others made them.
+
+mod certificate;
