@@ -1,15 +1,16 @@
 //! What a type of one's own is made of: `use rasn::prelude::*;`.
 
 pub use crate::parts::{
-    Addition, DecodeAlternatives, DecodeParts, DefaultValue, Defaulted, EncodeAlternative, EncodeParts, End, Never, OneOf, Optional, Put,
-    PutAddition, PutDefault, PutOptional, Required,
+    Addition, DecodeAlternatives, DecodeParts, DefaultValue, Defaulted, EncodeAlternative,
+    EncodeParts, End, Never, OneOf, Optional, Put, PutAddition, PutDefault, PutOptional, Required,
 };
 pub use crate::types::{
-    Alphabet, Any, ApplicationTag, AsnType, BitStr, BitString, BmpString, Bound, Bounded, Class, Codec,
-    Constraints, Constructed, ContextTag, Date, Enumerated, Explicit, Field, FieldPresence, Fields,
-    FixedOctetString, GeneralString, GeneralizedTime, GraphicString, Ia5String, Identifier,
+    Alphabet, Any, ApplicationTag, AsnType, BitStr, BitString, BmpString, Bound, Bounded, Class,
+    Codec, Constraints, Constructed, ContextTag, Date, Enumerated, Explicit, Field, FieldPresence,
+    Fields, FixedOctetString, GeneralString, GeneralizedTime, GraphicString, Ia5String, Identifier,
     Implicit, Integer, IntegerType, LawfulEq, NumericString, ObjectIdentifier, OctetString,
-    Present, PrintableString, PrivateTag, SetOf, Tag, TeletexString, UtcTime, Utf8String, VisibleString,
+    Present, PrintableString, PrivateTag, SetOf, Tag, TeletexString, UtcTime, Utf8String,
+    VisibleString,
 };
 pub use rasn_de::ber::de::Decoder;
 pub use rasn_de::de::{Decode, DecodeChoice, Error};

@@ -26,7 +26,10 @@ fn one_boolean(decoder: &mut Decoder<'_>) -> Result<NumberAndTruth, DecodeError>
             ensures { Keeps inner.old inner.new }
         {
             let truth = inner.decode_bool(Tag::BOOL)?;
-            Ok(Both { first: 0, second: truth })
+            Ok(Both {
+                first: 0,
+                second: truth,
+            })
         },
     )
 }

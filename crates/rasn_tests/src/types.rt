@@ -13,10 +13,9 @@ pub use eight::Eight;
 pub use fieldless::{Closed, Extensible};
 pub use graded::Graded;
 pub use profile::Profile;
+use rasn_bench::Both;
 pub use ratio::Ratio;
 pub use three::Three;
-
-use rasn_bench::Both;
 
 /// SEQUENCE { first INTEGER, second BOOLEAN }, of what its readers by closures make.
 pub type NumberAndTruth = Both<i32, bool>;

@@ -90,8 +90,8 @@ module _ {X : Type 0} (writes : Writing (List X)) (size : ℕ) (inner : Tag) whe
   pub in_one : (tag : Tag) (xs : List X) (v w : View) → ((IsCer v.rule × (size < length xs)) → ⊥) → Appends (IsSegment writes tag xs) tag v w
       → Appends (WritesString v.rule writes size inner tag xs) tag v w
   in_one tag xs v w uncut a =
-    let few : IsCer v.rule → length xs ≤ size = λ cer. let n : (size < length xs) → ⊥ = λ many. uncut (cer, many) in omega (arith, n) in
-    record { octets = a.octets; written = inl (few, a.written.0, a.written.1, a.written.2); appended = a.appended }
+      let few : IsCer v.rule → length xs ≤ size = λ cer. let n : (size < length xs) → ⊥ = λ many. uncut (cer, many) in omega (arith, n) in
+      record { octets = a.octets; written = inl (few, a.written.0, a.written.1, a.written.2); appended = a.appended }
 
   pub in_segments : (tag : Tag) (xs : List X) (v w : View) → IsCer v.rule → size < length xs → AppendsSegmented writes size inner tag xs v w
       → Appends (WritesString v.rule writes size inner tag xs) tag v w

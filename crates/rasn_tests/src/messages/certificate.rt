@@ -56,7 +56,9 @@ fn a_certificate_is_read_and_written_back(rt: HostRuntime) {
         rt.abort()
     };
     let signed = &certificate.tbs_certificate;
-    assert!(rt; *signed.version == 2 && signed.issuer == signed.subject && signed.issuer.len() == 3);
+    assert!(rt;
+        *signed.version == 2 && signed.issuer == signed.subject && signed.issuer.len() == 3
+    );
     assert!(rt; signed.serial_number.as_octets() == [0x01, 0x02, 0x03, 0x04, 0x05].as_slice());
     let Time::Utc(start) = &signed.validity.not_before else {
         rt.abort()
@@ -87,10 +89,21 @@ fn spoilt_certificates_are_refused(rt: HostRuntime) {
         &[
             (&version_one, Codec::Der, DEFAULT_PRESENT),
             (&not_critical, Codec::Der, DEFAULT_PRESENT),
-            (&padded, Codec::Der, "CodecSpecific { inner: Der(NonMinimalInteger) }"),
-            (&CERTIFICATE[..100], Codec::Der, "Incomplete { needed: Size(323) }"),
+            (
+                &padded,
+                Codec::Der,
+                "CodecSpecific { inner: Der(NonMinimalInteger) }",
+            ),
+            (
+                &CERTIFICATE[..100],
+                Codec::Der,
+                "Incomplete { needed: Size(323) }",
+            ),
         ],
     );
-    assert!(rt; ber::decode::<Certificate>(alloc, &version_one).is_ok() && ber::decode::<Certificate>(alloc, &foreign_true).is_ok());
+    assert!(rt;
+        ber::decode::<Certificate>(alloc, &version_one).is_ok()
+            && ber::decode::<Certificate>(alloc, &foreign_true).is_ok()
+    );
     assert!(rt; read_certificate(alloc, &foreign_true).is_err());
 }

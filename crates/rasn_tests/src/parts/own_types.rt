@@ -33,7 +33,8 @@ fn eight_parts_are_read_and_written(rt: HostRuntime) {
 fn a_default_is_left_out(rt: HostRuntime) {
     let alloc = rt.alloc();
     const LEVEL_SEVEN: &[u8] = &[
-        0x30, 0x0F, 0x04, 0x00, 0x30, 0x05, 0x06, 0x03, 0x55, 0x04, 0x03, 0x01, 0x01, 0x00, 0x02, 0x01, 0x07,
+        0x30, 0x0F, 0x04, 0x00, 0x30, 0x05, 0x06, 0x03, 0x55, 0x04, 0x03, 0x01, 0x01, 0x00, 0x02,
+        0x01, 0x07,
     ];
     assert_rewrites::<Eight>(
         &rt,
@@ -43,7 +44,11 @@ fn a_default_is_left_out(rt: HostRuntime) {
     assert_decodes::<Eight>(
         &rt,
         alloc,
-        &[(LEVEL_SEVEN, Codec::Der, "CodecSpecific { inner: Der(DefaultValuePresent) }")],
+        &[(
+            LEVEL_SEVEN,
+            Codec::Der,
+            "CodecSpecific { inner: Der(DefaultValuePresent) }",
+        )],
     );
 }
 

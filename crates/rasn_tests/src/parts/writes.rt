@@ -7,7 +7,9 @@ use crate::writing::{assert_output, assert_refuses, assert_writes, assert_writte
 use rasn_enc::ber::enc::Encoder;
 use rasn_enc::enc::Encode;
 use rasn_types::error::EncodeError;
-use rasn_types::types::{Class, Codec, Constraints, ContextTag, Explicit, Identifier, Implicit, Tag};
+use rasn_types::types::{
+    Class, Codec, Constraints, ContextTag, Explicit, Identifier, Implicit, Tag,
+};
 use std::alloc::AllocError;
 
 /// \[0\]

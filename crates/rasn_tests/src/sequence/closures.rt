@@ -2,8 +2,8 @@
 ghost use Rattle.rasn_de.specs.Constructed.{Keeps};
 ghost use Rattle.rasn_enc.specs.View.{LeavesOthers};
 
-use crate::types::NumberAndTruth;
 use crate::reading::{assert_answer, decoder_of};
+use crate::types::NumberAndTruth;
 use crate::writing::{assert_output, assert_written, new_encoder};
 use rasn::ber::de::Decoder;
 use rasn::ber::enc::Encoder;

@@ -1,8 +1,8 @@
 //! SEQUENCEs of indefinite length in one another (X.690 8.1.3.6) are decoded to a depth of 128.
 ghost use Rattle.rasn_de.specs.Constructed.{Keeps};
 
-use crate::types::NumberAndTruth;
 use crate::reading::{assert_answer, decoder_of};
+use crate::types::NumberAndTruth;
 use rasn::ber::de::Decoder;
 use rasn::error::DecodeError;
 use rasn::types::{Codec, Tag};
@@ -16,7 +16,10 @@ fn nested(decoder: &mut Decoder<'_>, levels: u8) -> Result<NumberAndTruth, Decod
 {
     if levels == 0 {
         let truth = decoder.decode_bool(Tag::BOOL)?;
-        return Ok(Both { first: 0, second: truth });
+        return Ok(Both {
+            first: 0,
+            second: truth,
+        });
     }
     let below = levels - 1;
     decoder.decode_sequence::<2, 0, NumberAndTruth, _, _>(

@@ -2,7 +2,10 @@
 
 use rasn::error::{DecodeError, EncodeError};
 use rasn::parts::{DefaultValue, Defaulted, End, Optional, Put, PutDefault, PutOptional, Required};
-use rasn::types::{Any, AsnType, Constraints, ContextTag, Explicit, Identifier, Implicit, LawfulEq, ObjectIdentifier, OctetString, Tag};
+use rasn::types::{
+    Any, AsnType, Constraints, ContextTag, Explicit, Identifier, Implicit, LawfulEq,
+    ObjectIdentifier, OctetString, Tag,
+};
 use rasn::{Decode, Decoder, Encode, Encoder};
 use rasn_bench::{AlgorithmIdentifier, Seven};
 use std::alloc::AllocError;
@@ -84,10 +87,20 @@ impl Decode for Eight {
         tag: Tag,
         _constraints: &Constraints,
     ) -> Result<Eight, DecodeError> {
-        let Defaulted::<FirstVersion, _>(version, Required(serial, Required(algorithm, rest))) = decoder.read_sequence(tag)?;
+        let Defaulted::<FirstVersion, _>(version, Required(serial, Required(algorithm, rest))) =
+            decoder.read_sequence(tag)?;
         let Required(truth, Optional(name, Optional(mark, rest))) = rest;
         let Defaulted::<Seven, _>(level, Optional(more, End)) = rest;
-        Ok(Eight { version, serial, algorithm, truth, name, mark, level, more })
+        Ok(Eight {
+            version,
+            serial,
+            algorithm,
+            truth,
+            name,
+            mark,
+            level,
+            more,
+        })
     }
 }
 
@@ -99,8 +112,31 @@ impl Encode for Eight {
         _constraints: &Constraints,
         _identifier: Identifier,
     ) -> Result<(), EncodeError> {
-        encoder.write_sequence(tag, PutDefault::<FirstVersion, _>(&self.version, Put(&self.serial, Put(&self.algorithm, Put(&self.truth,
-            PutOptional(&self.name, PutOptional(&self.mark, PutDefault::<Seven, _>(&self.level, PutOptional(&self.more, End)))))))))
+        encoder.write_sequence(
+            tag,
+            PutDefault::<FirstVersion, _>(
+                &self.version,
+                Put(
+                    &self.serial,
+                    Put(
+                        &self.algorithm,
+                        Put(
+                            &self.truth,
+                            PutOptional(
+                                &self.name,
+                                PutOptional(
+                                    &self.mark,
+                                    PutDefault::<Seven, _>(
+                                        &self.level,
+                                        PutOptional(&self.more, End),
+                                    ),
+                                ),
+                            ),
+                        ),
+                    ),
+                ),
+            ),
+        )
     }
 
     fn is_present(&self) -> bool {

@@ -2,7 +2,9 @@
 
 use rasn::error::{DecodeError, EncodeError};
 use rasn::parts::{End, Optional, PutOptional};
-use rasn::types::{AsnType, Constraints, ContextTag, Identifier, Implicit, LawfulEq, Tag, Utf8String};
+use rasn::types::{
+    AsnType, Constraints, ContextTag, Identifier, Implicit, LawfulEq, Tag, Utf8String,
+};
 use rasn::{Decode, Decoder, Encode, Encoder};
 
 /// SEQUENCE { name [0] IMPLICIT UTF8String OPTIONAL, age INTEGER (0..255) OPTIONAL }

@@ -57,11 +57,7 @@ impl DecodeAlternatives for Never {
         _tag: Tag,
         name: &str,
     ) -> Result<Never, DecodeError> {
-        Err(DecodeError::no_valid_choice(
-            decoder.alloc(),
-            name,
-            decoder.codec(),
-        ))
+        Err(DecodeError::no_valid_choice(decoder.alloc(), name, decoder.codec()))
     }
 }
 
