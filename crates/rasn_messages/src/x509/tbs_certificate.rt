@@ -113,36 +113,19 @@ impl Encode for TbsCertificate {
         _constraints: &Constraints,
         _identifier: Identifier,
     ) -> Result<(), EncodeError> {
+        let unique_ids = PutOptional(
+            &self.issuer_unique_id,
+            PutOptional(&self.subject_unique_id, PutOptional(&self.extensions, End)),
+        );
+        let subject = Put(
+            &self.subject,
+            Put(&self.subject_public_key_info, unique_ids),
+        );
+        let issuer = Put(&self.issuer, Put(&self.validity, subject));
+        let serial_number = Put(&self.serial_number, Put(&self.signature, issuer));
         encoder.write_sequence(
             tag,
-            PutDefault::<VersionOne, _>(
-                &self.version,
-                Put(
-                    &self.serial_number,
-                    Put(
-                        &self.signature,
-                        Put(
-                            &self.issuer,
-                            Put(
-                                &self.validity,
-                                Put(
-                                    &self.subject,
-                                    Put(
-                                        &self.subject_public_key_info,
-                                        PutOptional(
-                                            &self.issuer_unique_id,
-                                            PutOptional(
-                                                &self.subject_unique_id,
-                                                PutOptional(&self.extensions, End),
-                                            ),
-                                        ),
-                                    ),
-                                ),
-                            ),
-                        ),
-                    ),
-                ),
-            ),
+            PutDefault::<VersionOne, _>(&self.version, serial_number),
         )
     }
 

@@ -112,30 +112,12 @@ impl Encode for Eight {
         _constraints: &Constraints,
         _identifier: Identifier,
     ) -> Result<(), EncodeError> {
+        let level = PutDefault::<Seven, _>(&self.level, PutOptional(&self.more, End));
+        let name = PutOptional(&self.name, PutOptional(&self.mark, level));
+        let algorithm = Put(&self.algorithm, Put(&self.truth, name));
         encoder.write_sequence(
             tag,
-            PutDefault::<FirstVersion, _>(
-                &self.version,
-                Put(
-                    &self.serial,
-                    Put(
-                        &self.algorithm,
-                        Put(
-                            &self.truth,
-                            PutOptional(
-                                &self.name,
-                                PutOptional(
-                                    &self.mark,
-                                    PutDefault::<Seven, _>(
-                                        &self.level,
-                                        PutOptional(&self.more, End),
-                                    ),
-                                ),
-                            ),
-                        ),
-                    ),
-                ),
-            ),
+            PutDefault::<FirstVersion, _>(&self.version, Put(&self.serial, algorithm)),
         )
     }
 
