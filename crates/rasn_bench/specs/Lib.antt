@@ -9,6 +9,7 @@ pub mod Grouped
 pub mod Pair
 pub mod Both
 pub mod Colour
+pub mod Reason
 pub mod Set3
 pub mod Event
 pub mod Setting

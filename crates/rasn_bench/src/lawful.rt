@@ -7,7 +7,7 @@ ghost use Rattle.rasn.specs.WorkedShapes.{named, validity, perhaps_bool, three_o
 ghost use Rattle.rasn_bench.specs.LawfulTypes.{AreLawful, AreLawfulInLines};
 
 use crate::worked::{
-    AlgorithmIdentifier, AttributeTypeAndValue, Both, Colour, Event, Foo, Grouped, Pair,
+    AlgorithmIdentifier, AttributeTypeAndValue, Both, Colour, Event, Foo, Grouped, Pair, Reason,
     RelativeDistinguishedName, Set3, Setting, Time, Validity,
 };
 use rasn::types::{
@@ -44,6 +44,7 @@ pub fn lawful_types()
         ∷ ⟦<Foo as AsnType>⟧.shape
         ∷ ⟦<Grouped as AsnType>⟧.shape
         ∷ ⟦<Pair as AsnType>⟧.shape
+        ∷ ⟦<Reason as AsnType>⟧.shape
         ∷ ⟦<Set3 as AsnType>⟧.shape
         ∷ ⟦<Setting as AsnType>⟧.shape
         ∷ ⟦<Time as AsnType>⟧.shape

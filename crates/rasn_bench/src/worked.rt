@@ -5,6 +5,7 @@ mod colour;
 mod event;
 mod grouped;
 mod pair;
+mod reason;
 mod set3;
 mod setting;
 
@@ -17,6 +18,7 @@ use rasn::types::Ia5String;
 pub use rasn_messages::x509::{
     AlgorithmIdentifier, AttributeTypeAndValue, RelativeDistinguishedName, Time,
 };
+pub use reason::Reason;
 pub use set3::Set3;
 pub use setting::{Setting, Seven};
 

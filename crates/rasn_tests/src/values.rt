@@ -11,3 +11,4 @@ mod integer_octets;
 mod null;
 mod object_identifier;
 mod real;
+mod reason;

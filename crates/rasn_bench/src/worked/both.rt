@@ -44,10 +44,9 @@ impl<A: AsnType, B: AsnType> AsnType for Both<A, B> {
 }
 
 impl<A: LawfulEq, B: LawfulEq> LawfulEq for Both<A, B> {
-    ghost use Rattle.std.proofs.Common.{rules};
-    ghost use Rattle.rasn_types.specs.Equality.{deciding};
+    ghost use Rattle.rasn_types.specs.Deciding.{deciding};
 
-    ghost decides = { Prim.search (deciding, rules) };
+    ghost decides = { Prim.search (A.decides, B.decides, deciding) depth 64 };
 }
 
 impl<A: AsnType, B: AsnType> Present for Both<A, B> {

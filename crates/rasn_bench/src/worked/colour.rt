@@ -4,7 +4,7 @@ use rasn::ber::enc::Encoder;
 use rasn::de::Decode;
 use rasn::enc::Encode;
 use rasn::error::{DecodeError, EncodeError};
-use rasn::types::{AsnType, Constraints, Enumerated, Identifier, LawfulEq, Tag};
+use rasn::types::{AsnType, Constraints, Enumerated, Identifier, LawfulEq, Present, Tag};
 
 /// A colour.
 #[derive(Clone, Copy, Debug, PartialEq, Eq, Drop)]
@@ -38,15 +38,17 @@ impl AsnType for Colour {
 
 impl Enumerated for Colour {
     ghost use Rattle.std.specs.Prelude.{refl};
-    ghost use Rattle.rasn_bench.specs.Colour.{colours, colour_number, colour_listed, colour_distinct};
+    ghost use Rattle.rasn_types.specs.OwnEnumerated.{all_listed, all_distinct};
+    ghost use Rattle.rasn_bench.specs.contracts.worked.colour.Colour.{enum as colour_enum};
+    ghost use Rattle.rasn_bench.specs.Colour.{colours, colour_number};
 
     ghost known = { colours };
 
     ghost number = { colour_number };
 
-    ghost listed = { colour_listed };
+    ghost listed = { all_listed colour_enum colour_number colours refl };
 
-    ghost distinct = { colour_distinct };
+    ghost distinct = { all_distinct colour_enum colour_number refl };
 
     ghost fits = { refl };
 
@@ -69,11 +71,19 @@ impl Enumerated for Colour {
 }
 
 impl LawfulEq for Colour {
-    ghost use Rattle.rasn_types.specs.Equality.{enumerated_decided};
-    ghost use Rattle.rasn_bench.specs.contracts.worked.colour.Colour.{the_type};
-    ghost use Rattle.rasn_bench.specs.Colour.{colour_number, colour_distinct};
+    ghost use Rattle.std.specs.Prelude.{refl};
+    ghost use Rattle.rasn_types.specs.OwnEnumerated.{all_decided};
+    ghost use Rattle.rasn_bench.specs.contracts.worked.colour.Colour.{enum as colour_enum};
+    ghost use Rattle.rasn_bench.specs.Colour.{colour_number};
 
-    ghost decides = { enumerated_decided the_type tt colour_number colour_distinct };
+    ghost decides = { all_decided colour_enum colour_number refl };
+}
+
+impl Present for Colour {
+    ghost use Rattle.rasn_types.specs.Equality.{number_not_absent};
+    ghost use Rattle.rasn_bench.specs.Colour.{colour_number};
+
+    ghost present = { λ colour. number_not_absent (colour_number colour) };
 }
 
 impl Decode for Colour {

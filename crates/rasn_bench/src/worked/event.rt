@@ -57,11 +57,10 @@ impl AsnType for Event {
 }
 
 impl LawfulEq for Event {
-    ghost use Rattle.std.proofs.Common.{rules};
-    ghost use Rattle.rasn_types.specs.Equality.{deciding};
+    ghost use Rattle.rasn_types.specs.Deciding.{deciding};
     ghost use Rattle.rasn_messages.specs.contracts.x509.time.TimeLawfulEq.TheImpl.Laws.{decides-law as time_law};
 
-    ghost decides = { Prim.search (time_law, deciding, rules) };
+    ghost decides = { Prim.search (time_law, deciding) depth 64 };
 }
 
 impl Present for Event {

@@ -40,10 +40,9 @@ impl AsnType for Grouped {
 }
 
 impl LawfulEq for Grouped {
-    ghost use Rattle.std.proofs.Common.{rules};
-    ghost use Rattle.rasn_types.specs.Equality.{deciding};
+    ghost use Rattle.rasn_types.specs.Deciding.{deciding};
 
-    ghost decides = { Prim.search (deciding, rules) };
+    ghost decides = { Prim.search deciding depth 64 };
 }
 
 impl Decode for Grouped {

@@ -60,10 +60,9 @@ impl AsnType for Set3 {
 }
 
 impl LawfulEq for Set3 {
-    ghost use Rattle.std.proofs.Common.{rules};
-    ghost use Rattle.rasn_types.specs.Equality.{deciding};
+    ghost use Rattle.rasn_types.specs.Deciding.{deciding};
 
-    ghost decides = { Prim.search (deciding, rules) };
+    ghost decides = { Prim.search deciding depth 64 };
 }
 
 impl Present for Set3 {

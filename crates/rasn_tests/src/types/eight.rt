@@ -58,10 +58,9 @@ impl AsnType for Eight {
 }
 
 impl LawfulEq for Eight {
-    ghost use Rattle.std.proofs.Common.{rules};
-    ghost use Rattle.rasn_types.specs.Equality.{deciding};
+    ghost use Rattle.rasn_types.specs.Deciding.{deciding};
 
-    ghost decides = { Prim.search (deciding, rules) depth 30 };
+    ghost decides = { Prim.search deciding depth 64 };
 }
 
 /// The version that is meant where none is written.

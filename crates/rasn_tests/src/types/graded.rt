@@ -36,10 +36,9 @@ impl AsnType for Graded {
 }
 
 impl LawfulEq for Graded {
-    ghost use Rattle.std.proofs.Common.{rules};
-    ghost use Rattle.rasn_types.specs.Equality.{deciding};
+    ghost use Rattle.rasn_types.specs.Deciding.{deciding};
 
-    ghost decides = { Prim.search (deciding, rules) depth 30 };
+    ghost decides = { Prim.search deciding depth 64 };
 }
 
 impl Decode for Graded {
