@@ -249,6 +249,3 @@ set_elements_not_absent e = cc
 
 pub chosen_not_absent : {k : ℕ} {t : Tree} → chosen k t ≢ absent
 chosen_not_absent e = cc
-
--- By which `search` finds the law of a struct with a derived `==`, from the laws of its fields.
-pub ruleset deciding = (part, last, no_parts, signed_decided, unsigned_decided, bool_decided, bits_decided, octets_decided, text_decided, day_decided, instant_decided, option_decided, list_decided, number_not_absent, numbers_not_absent, bits_not_absent, instant_not_absent, day_not_absent, bool_not_absent, list_not_absent, parts_not_absent)
