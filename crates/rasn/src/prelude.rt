@@ -5,7 +5,8 @@ pub use crate::types::{
     Constraints, Constructed, Date, Enumerated, Explicit, Field, FieldPresence, Fields,
     FixedOctetString, GeneralString, GeneralizedTime, GraphicString, Ia5String, Identifier,
     Implicit, Integer, IntegerType, LawfulEq, NumericString, ObjectIdentifier, OctetString,
-    Present, PrintableString, SetOf, Tag, TeletexString, UtcTime, Utf8String, VisibleString,
+    Present, PrintableString, SetOf, Tag, TeletexString, TryClone, UtcTime, Utf8String,
+    VisibleString,
 };
 pub use rasn_de::ber::de::Decoder;
 pub use rasn_de::de::{Decode, DecodeChoice, Error};

@@ -1,5 +1,5 @@
 -- The test of a lawful shape, which computes. First tags are a list, or None where every tag is one.
-use Rattle.std.specs.Prelude.{ℕ, Bool, true, false, not, ◌&&◌, ◌||◌, nat_eq, nat_lt, List, [], ◌∷◌, ◌++◌, Option, Some, None}
+use Rattle.std.specs.Prelude.{Bool, true, false, not, ◌&&◌, ◌||◌, nat_eq, nat_lt, List, [], ◌∷◌, ◌++◌, Option, Some, None}
 use Rattle.std.specs.List.{list_all, list_any}
 use Rattle.rasn_types.specs.Tags.{tag_bit, Tag, rank, is_eoc}
 use Rattle.rasn_types.specs.Shapes.{Shape, leaf, any, prefix, choice, option, seq, set, list, set_of, Parts, part, own, Presence, required, optional, addition, default}

@@ -1,9 +1,10 @@
 //! OBJECT IDENTIFIER.
-ghost use Rattle.std.specs.Prelude.{◌≡◌};
+ghost use Rattle.std.specs.Prelude.{◌≡◌, IfOk};
 ghost use Rattle.rasn_types.specs.Options.{IsSomeExactlyIf};
 ghost use Rattle.rasn_types.specs.Numbered.{AreArcs};
 
-use crate::types::{AsnType, Constraints, Tag};
+use crate::types::{AsnType, Constraints, Tag, TryClone};
+use std::alloc::{AllocError, Global};
 use std::cmp::Ordering;
 use std::marker::Model;
 
@@ -46,6 +47,15 @@ impl ObjectIdentifier {
         ensures some { AreArcs self.now }
     {
         &self.arcs
+    }
+
+    /// Its arcs, without a copy.
+    pub fn into_vec(self) -> Vec<u32>
+        ensures arcs { result.items ≡ self }
+        ensures some { AreArcs self }
+    {
+        let ObjectIdentifier { arcs } = self;
+        arcs
     }
 }
 
@@ -123,4 +133,13 @@ impl AsnType for ObjectIdentifier {
     ghost tree = { λ o. numbers o };
 
     ghost own = { refl };
+}
+
+impl TryClone for ObjectIdentifier {
+    fn try_clone(&self, alloc: Global) -> Result<ObjectIdentifier, AllocError>
+        ensures { IfOk result (λ v. v ≡ self.now) }
+    {
+        let arcs = Vec::from_slice(alloc, &self.arcs)?;
+        Ok(ObjectIdentifier { arcs })
+    }
 }

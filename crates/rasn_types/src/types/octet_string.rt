@@ -1,7 +1,8 @@
 //! OCTET STRING.
-ghost use Rattle.std.specs.Prelude.{◌≡◌};
+ghost use Rattle.std.specs.Prelude.{◌≡◌, IfOk};
 
-use crate::types::{AsnType, Constraints, Tag};
+use crate::types::{AsnType, Constraints, Tag, TryClone};
+use std::alloc::{AllocError, Global};
 use std::cmp::Ordering;
 use std::marker::Model;
 
@@ -34,6 +35,14 @@ impl OctetString {
         ensures { result.now ≡ self.now }
     {
         &self.octets
+    }
+
+    /// Its octets, without a copy.
+    pub fn into_vec(self) -> Vec<u8>
+        ensures { result.items ≡ self }
+    {
+        let OctetString { octets } = self;
+        octets
     }
 }
 
@@ -111,4 +120,13 @@ impl AsnType for OctetString {
     ghost tree = { numbers };
 
     ghost own = { refl };
+}
+
+impl TryClone for OctetString {
+    fn try_clone(&self, alloc: Global) -> Result<OctetString, AllocError>
+        ensures { IfOk result (λ v. v ≡ self.now) }
+    {
+        let octets = Vec::from_slice(alloc, &self.octets)?;
+        Ok(OctetString { octets })
+    }
 }

@@ -7,7 +7,7 @@ ghost use Rattle.rasn_types.specs.Trees.{IsShortestOf};
 
 use crate::hexadecimal::Hexadecimal;
 use crate::types::twos_complement::{shortest, signed_i128};
-use crate::types::{AsnType, Constraints, IntegerType, Tag};
+use crate::types::{AsnType, Constraints, IntegerType, Tag, TryClone};
 use std::alloc::{AllocError, Global};
 use std::cmp::Ordering;
 use std::fmt;
@@ -170,5 +170,14 @@ impl IntegerType for Integer {
 
     fn append_octets(&self, octets: &mut Vec<u8>) -> Result<(), AllocError> {
         octets.extend_from_slice(&self.octets)
+    }
+}
+
+impl TryClone for Integer {
+    fn try_clone(&self, alloc: Global) -> Result<Integer, AllocError>
+        ensures { IfOk result (λ v. v ≡ self.now) }
+    {
+        let octets = Vec::from_slice(alloc, &self.octets)?;
+        Ok(Integer { octets })
     }
 }

@@ -1,4 +1,4 @@
-use Rattle.std.proofs.Common.{◌+◌, ◌-◌, ◌≤◌, ◌∙◌, length, arith, add-one, drop, get_or, refl, length-drop}
+use Rattle.std.proofs.Common.{◌+◌, ◌-◌, ◌≤◌, ◌∙◌, length, arith, add-one, drop, get_or, length-drop}
 use Rattle.std.proofs.lemmas.List.{take_all}
 use Rattle.rasn_types.specs.Contents.{IsShortestInteger, RepeatsSign}
 use Rattle.rasn_types.proofs.Integer.TwosComplement.{are_octets, octets_behind, one_dropped, short_behind}

@@ -1,0 +1,3 @@
+//! Values that are taken out, lent, copied, compared and shown.
+
+mod taken;
