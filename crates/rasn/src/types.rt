@@ -5,8 +5,8 @@ pub use rasn_types::types::{
     Alphabet, Any, AsciiType, AsnType, BitIter, BitStr, BitString, BmpString, Bound, Bounded,
     Class, Codec, Constraints, Constructed, Date, Enumerated, Explicit, Field, FieldPresence,
     Fields, FixedOctetString, GeneralString, GeneralType, GeneralizedTime, GraphicString,
-    GraphicType, HasPresence, Ia5String, Ia5Type, Identifier, Implicit, Integer, IntegerType,
-    LawfulEq, NumericString, NumericType, ObjectIdentifier, OctetString, Present, PrintableString,
-    PrintableType, RealType, RestrictedString, SetOf, StringType, Tag, TeletexString, TeletexType,
-    TryClone, Units, UtcTime, Utf8String, VisibleString, VisibleType,
+    GraphicType, HasPresence, Hexadecimal, Ia5String, Ia5Type, Identifier, Implicit, Integer,
+    IntegerType, LawfulEq, NumericString, NumericType, ObjectIdentifier, OctetString, Present,
+    PrintableString, PrintableType, RealType, RestrictedString, SetOf, StringType, Tag,
+    TeletexString, TeletexType, TryClone, Units, UtcTime, Utf8String, VisibleString, VisibleType,
 };

@@ -27,3 +27,4 @@ pub mod BitPacking
 pub mod Equality
 pub mod Same
 pub mod SetOf
+pub mod Text

@@ -23,10 +23,12 @@ mod sequence_of;
 mod set_of;
 mod strings;
 mod tag;
+mod time_text;
 mod try_clone;
 mod twos_complement;
 mod utc_time;
 
+pub use crate::hexadecimal::Hexadecimal;
 pub use any::Any;
 pub use asn_type::AsnType;
 pub use bits::{BitIter, BitStr, BitString};

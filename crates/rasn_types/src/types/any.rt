@@ -1,9 +1,11 @@
 //! Open types.
 ghost use Rattle.std.specs.Prelude.{◌≡◌, IfOk};
 
+use crate::hexadecimal::Hexadecimal;
 use crate::types::{AsnType, Constraints, LawfulEq, Present, Tag, TryClone};
 use std::alloc::{AllocError, Global};
 use std::cmp::Ordering;
+use std::fmt;
 use std::marker::Model;
 
 /// A value of a type that isn't known here, kept as its octets (X.680 30): one whole encoding, or, under a tag of its own, what
@@ -45,6 +47,18 @@ impl Any {
     {
         let Any { octets } = self;
         octets
+    }
+}
+
+/// Its octets in hexadecimal, two digits each.
+impl fmt::Display for Any {
+    ghost use Rattle.std.specs.Prelude.{Some};
+    ghost use Rattle.rasn_types.specs.Text.{hexadecimal};
+
+    ghost output = { λ s. Some (hexadecimal s) };
+
+    fn fmt<W: fmt::Write>(&self, f: &mut fmt::Formatter<W>) -> fmt::Result {
+        Hexadecimal(&self.octets).fmt(f)
     }
 }
 

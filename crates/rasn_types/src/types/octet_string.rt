@@ -1,9 +1,11 @@
 //! OCTET STRING.
 ghost use Rattle.std.specs.Prelude.{◌≡◌, IfOk};
 
+use crate::hexadecimal::Hexadecimal;
 use crate::types::{AsnType, Constraints, Tag, TryClone};
 use std::alloc::{AllocError, Global};
 use std::cmp::Ordering;
+use std::fmt;
 use std::marker::Model;
 
 /// A list of octets (X.680 23), which is what contracts see.
@@ -43,6 +45,18 @@ impl OctetString {
     {
         let OctetString { octets } = self;
         octets
+    }
+}
+
+/// Its octets in hexadecimal, two digits each.
+impl fmt::Display for OctetString {
+    ghost use Rattle.std.specs.Prelude.{Some};
+    ghost use Rattle.rasn_types.specs.Text.{hexadecimal};
+
+    ghost output = { λ s. Some (hexadecimal s) };
+
+    fn fmt<W: fmt::Write>(&self, f: &mut fmt::Formatter<W>) -> fmt::Result {
+        Hexadecimal(&self.octets).fmt(f)
     }
 }
 

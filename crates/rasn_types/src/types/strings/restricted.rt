@@ -6,7 +6,7 @@ use crate::types::{Alphabet, AsnType, Constraints, Tag, TryClone};
 use std::alloc::{AllocError, Global};
 use std::cmp::Ordering;
 use std::marker::{Model, PhantomData};
-use std::str;
+use std::{fmt, str};
 
 /// What tells a string type from the others: its tag and its alphabet.
 pub trait StringType: Drop {
@@ -109,6 +109,17 @@ impl<S: AsciiType> RestrictedString<S> {
         let octets = self.as_octets();
         // SAFETY: all octets are ASCII, which is UTF-8.
         unsafe { str::from_utf8_unchecked(octets) }
+    }
+}
+
+/// Its text.
+impl<S: AsciiType> fmt::Display for RestrictedString<S> {
+    ghost use Rattle.std.specs.Prelude.{Some};
+
+    ghost output = { λ s. Some s };
+
+    fn fmt<W: fmt::Write>(&self, f: &mut fmt::Formatter<W>) -> fmt::Result {
+        self.as_str().fmt(f)
     }
 }
 
