@@ -9,7 +9,7 @@ pub use crate::types::{
     Codec, Constraints, Constructed, ContextTag, Date, Enumerated, Explicit, Field, FieldPresence,
     Fields, FixedOctetString, GeneralString, GeneralizedTime, GraphicString, Ia5String, Identifier,
     Implicit, Integer, IntegerType, LawfulEq, NumericString, ObjectIdentifier, OctetString,
-    Present, PrintableString, PrivateTag, SetOf, Tag, TeletexString, UtcTime, Utf8String,
+    Present, PrintableString, PrivateTag, SetOf, Tag, TeletexString, TryClone, UtcTime, Utf8String,
     VisibleString,
 };
 pub use rasn_de::ber::de::Decoder;

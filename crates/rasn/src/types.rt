@@ -2,11 +2,12 @@
 
 pub use rasn_de::de::DecodeChoice;
 pub use rasn_types::types::{
-    Alphabet, Any, ApplicationTag, AsnType, BitStr, BitString, BmpString, Bound, Bounded, Class,
-    Codec, Constraints, Constructed, ContextTag, Date, Enumerated, Explicit, Field, FieldPresence,
-    Fields, FixedOctetString, GeneralString, GeneralType, GeneralizedTime, GraphicString,
-    GraphicType, HasPresence, Ia5String, Ia5Type, Identifier, Implicit, Integer, IntegerType,
-    LawfulEq, NumericString, NumericType, ObjectIdentifier, OctetString, Present, PrintableString,
-    PrintableType, PrivateTag, RealType, RestrictedString, SetOf, StringType, Tag, TeletexString,
-    TeletexType, UtcTime, Utf8String, VisibleString, VisibleType,
+    Alphabet, Any, ApplicationTag, AsciiType, AsnType, BitIter, BitStr, BitString, BmpString,
+    Bound, Bounded, Class, Codec, Constraints, Constructed, ContextTag, Date, Enumerated, Explicit,
+    Field, FieldPresence, Fields, FixedOctetString, GeneralString, GeneralType, GeneralizedTime,
+    GraphicString, GraphicType, HasPresence, Hexadecimal, Ia5String, Ia5Type, Identifier, Implicit,
+    Integer, IntegerType, LawfulEq, NumericString, NumericType, ObjectIdentifier, OctetString,
+    Present, PrintableString, PrintableType, PrivateTag, RealType, RestrictedString, SetOf,
+    StringType, Tag, TeletexString, TeletexType, TryClone, Units, UtcTime, Utf8String,
+    VisibleString, VisibleType,
 };

@@ -5,6 +5,8 @@
 #[cfg(test)]
 mod any;
 #[cfg(test)]
+mod conversions;
+#[cfg(test)]
 mod errors;
 #[cfg(test)]
 mod hostile;

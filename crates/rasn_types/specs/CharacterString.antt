@@ -1,5 +1,7 @@
 -- Which octets the restricted character string types admit, and the characters that they mean (X.680 41).
 use Rattle.std.specs.Prelude.{◌≡◌, ℕ, ◌+◌, ◌*◌, ◌<◌, ◌≤◌, ◌⊎◌, ◌%◌, List, [], ◌∷◌, length, All, Contains}
+use Rattle.std.proofs.Common.{inl, inr, arith, rules}
+use Rattle.std.proofs.lemmas.List.Elements.{All-from_recursion}
 use Rattle.rasn_types.specs.declared.types.strings.alphabet.Alphabet.{Alphabet}
 use Rattle.rasn_types.specs.declared.types.strings.alphabet.Alphabet.TheVariants.{Numeric, Printable, Visible, Ia5, Every}
 use Rattle.rasn_types.specs.Shapes.{Kind, numeric, printable, visible, ia5, any_octets}
@@ -24,6 +26,29 @@ IsAdmitted Every c = Unit {0}
 
 abbrev pub AreAdmitted : Alphabet → List ℕ → Type 0
 AreAdmitted a l = All (IsAdmitted a) l
+
+-- Only ASCII is admitted.
+abbrev pub IsWithinAscii : Alphabet → Type 0
+IsWithinAscii a = (c : ℕ) → IsAdmitted a c → c < 128
+
+pub numeric_ascii : IsWithinAscii Numeric
+numeric_ascii c (inl h) = omega arith
+numeric_ascii c (inr h) = omega arith
+
+marks_ascii : All (λ c. c < 128) printable_marks
+marks_ascii = All-from_recursion (λ c. c < 128) printable_marks (search rules)
+
+pub printable_ascii : IsWithinAscii Printable
+printable_ascii c (inl h) = omega arith
+printable_ascii c (inr (inl h)) = omega arith
+printable_ascii c (inr (inr (inl h))) = omega arith
+printable_ascii c (inr (inr (inr h))) = grind (arith, marks_ascii)
+
+pub visible_ascii : IsWithinAscii Visible
+visible_ascii c h = omega arith
+
+pub ia5_ascii : IsWithinAscii Ia5
+ia5_ascii c h = h
 
 -- the kind of the string types with this alphabet
 abbrev pub string_kind : Alphabet → Kind

@@ -30,3 +30,4 @@ pub mod SetOf
 pub mod OwnTypes
 pub mod OwnEnumerated
 pub mod Deciding
+pub mod Text

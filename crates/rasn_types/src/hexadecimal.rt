@@ -1,15 +1,60 @@
 //! Octets as text.
-use std::fmt;
+ghost use Rattle.std.specs.Prelude.{◌≡◌, ◌<◌, true};
+ghost use Rattle.std.specs.Fmt.{WritesOnOk, digit_glyph};
+ghost use Rattle.rasn_types.specs.Text.{two_digits};
 
-/// Octets that are shown by two digits each.
-#[derive(Clone, Copy)]
-pub(crate) struct Hexadecimal<'a>(pub(crate) &'a [u8]);
+use std::fmt;
+use std::marker::Model;
+
+/// Octets that are shown by two hexadecimal digits each, in capitals. To contracts it is the list of the octets.
+#[derive(Debug, Drop)]
+pub struct Hexadecimal<'a>(pub(crate) &'a [u8]);
+
+impl<'a> Model for Hexadecimal<'a> {
+    ghost use Rattle.std.specs.Prelude.{List, ℕ};
+
+    ghost Value = { List ℕ };
+
+    ghost view = { λ h. h.0.now };
+}
+
+impl<'a> Hexadecimal<'a> {
+    /// These octets, to be shown.
+    pub fn new(octets: &'a [u8]) -> Hexadecimal<'a>
+        ensures { result ≡ octets.entry.now }
+    {
+        Hexadecimal(octets)
+    }
+}
 
 impl fmt::Display for Hexadecimal<'_> {
+    ghost use Rattle.std.specs.Prelude.{Some};
+    ghost use Rattle.rasn_types.specs.Text.{hexadecimal};
+
+    ghost output = { λ h. Some (hexadecimal h) };
+
     fn fmt<W: fmt::Write>(&self, f: &mut fmt::Formatter<W>) -> fmt::Result {
         for octet in self.0 {
-            write!(f, "{octet:02X}")?;
+            write_octet(f, *octet)?;
         }
         Ok(())
+    }
+}
+
+fn write_octet<W: fmt::Write>(f: &mut fmt::Formatter<W>, octet: u8) -> fmt::Result
+    ensures { WritesOnOk W.write_str_gives f.old result (two_digits octet) f.new }
+{
+    f.write_char(digit(octet / 16))?;
+    f.write_char(digit(octet % 16))
+}
+
+fn digit(value: u8) -> char
+    requires { value < 16 }
+    ensures { result ≡ digit_glyph true value }
+{
+    if value < 10 {
+        char::from(b'0' + value)
+    } else {
+        char::from(b'A' + (value - 10))
     }
 }

@@ -25,12 +25,15 @@ mod set_of;
 mod strings;
 mod tag;
 mod tag_types;
+mod time_text;
+mod try_clone;
 mod twos_complement;
 mod utc_time;
 
+pub use crate::hexadecimal::Hexadecimal;
 pub use any::Any;
 pub use asn_type::AsnType;
-pub use bits::{BitStr, BitString};
+pub use bits::{BitIter, BitStr, BitString};
 pub use codec::Codec;
 pub use constraints::{Bound, Bounded, Constraints};
 pub use constructed::Constructed;
@@ -48,11 +51,12 @@ pub use prefix::{Explicit, Implicit};
 pub use real::RealType;
 pub use set_of::SetOf;
 pub use strings::{
-    Alphabet, BmpString, FixedOctetString, GeneralString, GeneralType, GraphicString, GraphicType,
-    Ia5String, Ia5Type, NumericString, NumericType, PrintableString, PrintableType,
-    RestrictedString, StringType, TeletexString, TeletexType, Utf8String, VisibleString,
+    Alphabet, AsciiType, BmpString, FixedOctetString, GeneralString, GeneralType, GraphicString,
+    GraphicType, Ia5String, Ia5Type, NumericString, NumericType, PrintableString, PrintableType,
+    RestrictedString, StringType, TeletexString, TeletexType, Units, Utf8String, VisibleString,
     VisibleType,
 };
 pub use tag::{Class, Tag};
 pub use tag_types::{ApplicationTag, ContextTag, PrivateTag};
+pub use try_clone::TryClone;
 pub use utc_time::UtcTime;

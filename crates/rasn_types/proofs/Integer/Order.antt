@@ -53,7 +53,7 @@ same_length_order (a ∷ k) (b ∷ l) o u h n e =
     same_step : (v c d m w : ℕ) → c ≡ d → m ≡ w → pos v -ℤ pos (c * 256 ^ m) ≡ pos v -ℤ pos (d * 256 ^ w)
     same_step v c d m w e f = ap (λ x. pos v -ℤ pos (x * 256 ^ m)) e ∙ ap (λ x. pos v -ℤ pos (d * 256 ^ x)) f
 
-sign_of : (l : List ℕ) → AreOctets l → 0 < length l → (get_or l 0 0 < 128 → pos 0 ≤ℤ signed l) × (128 ≤ get_or l 0 0 → signed l <ℤ pos 0)
+pub sign_of : (l : List ℕ) → AreOctets l → 0 < length l → (get_or l 0 0 < 128 → pos 0 ≤ℤ signed l) × (128 ≤ get_or l 0 0 → signed l <ℤ pos 0)
 sign_of [] o h = absurd (omega arith)
 sign_of (b ∷ l) o h = (λ k. not_negative b l k, λ k. negative b l k o.0)
 

@@ -8,4 +8,5 @@ pub use parse::{
     parse_canonical_generalized_time, parse_canonical_utc_time, parse_date, parse_generalized_time,
     parse_strict_generalized_time, parse_utc_time,
 };
+pub(crate) use write::{shown_fraction, shown_second};
 pub use write::{write_date, write_generalized_time, write_utc_time};

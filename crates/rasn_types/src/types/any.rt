@@ -1,11 +1,18 @@
 //! Open types.
-ghost use Rattle.std.specs.Prelude.{◌≡◌};
+ghost use Rattle.std.specs.Prelude.{◌≡◌, IfOk};
 
-use crate::types::{AsnType, Constraints, LawfulEq, Present, Tag};
+use crate::hexadecimal::Hexadecimal;
+use crate::types::{AsnType, Constraints, LawfulEq, Present, Tag, TryClone};
+use std::alloc::{AllocError, Global};
+use std::cmp::Ordering;
+use std::fmt;
 use std::marker::Model;
 
 /// A value of a type that isn't known here, kept as its octets (X.680 30): one complete encoding, or, under a tag of its own, what
 /// stands inside the value with this tag. To contracts it is the list of its octets.
+///
+/// They are ordered by their octets, the first that differ deciding; one that another begins with comes before it. So encodings have
+/// the order of the elements of a SET OF (X.690 11.6).
 #[derive(Debug, Drop)]
 pub struct Any {
     octets: Vec<u8>,
@@ -33,6 +40,26 @@ impl Any {
     {
         &self.octets
     }
+
+    /// Its octets, without a copy.
+    pub fn into_vec(self) -> Vec<u8>
+        ensures { result.items ≡ self }
+    {
+        let Any { octets } = self;
+        octets
+    }
+}
+
+/// Its octets in hexadecimal, two digits each.
+impl fmt::Display for Any {
+    ghost use Rattle.std.specs.Prelude.{Some};
+    ghost use Rattle.rasn_types.specs.Text.{hexadecimal};
+
+    ghost output = { λ s. Some (hexadecimal s) };
+
+    fn fmt<W: fmt::Write>(&self, f: &mut fmt::Formatter<W>) -> fmt::Result {
+        Hexadecimal(&self.octets).fmt(f)
+    }
 }
 
 impl PartialEq for Any {
@@ -53,6 +80,38 @@ impl Eq for Any {
     ghost use Rattle.std.specs.Cmp.Lexicographic.{nat_list_eq_equiv};
 
     ghost laws = { nat_list_eq_equiv };
+}
+
+impl PartialOrd for Any {
+    ghost use Rattle.std.specs.Prelude.{Some};
+    ghost use Rattle.std.specs.Cmp.Lexicographic.{slice_cmp, texts_po};
+    ghost use Rattle.std.specs.Ordering.{nat_cmp};
+
+    ghost partial_cmp = { λ s t. Some (slice_cmp nat_cmp s t) };
+
+    ghost laws = { texts_po };
+
+    fn partial_cmp(&self, other: &Any) -> Option<Ordering> {
+        Some(self.cmp(other))
+    }
+}
+
+impl Ord for Any {
+    ghost use Rattle.std.specs.Cmp.Lexicographic.{slice_cmp, nat_list_cmp_total, texts_ties};
+    ghost use Rattle.std.specs.Ordering.{nat_cmp};
+    ghost use Rattle.std.proofs.Common.{rules};
+
+    ghost cmp = { slice_cmp nat_cmp };
+
+    ghost total = { nat_list_cmp_total };
+
+    ghost matches_partial_cmp = { Prim.search rules };
+
+    ghost matches_eq = { texts_ties };
+
+    fn cmp(&self, other: &Any) -> Ordering {
+        self.octets.cmp(&other.octets)
+    }
 }
 
 impl AsnType for Any {
@@ -86,4 +145,13 @@ impl Present for Any {
     ghost use Rattle.rasn_types.specs.Equality.{numbers_not_absent};
 
     ghost present = { numbers_not_absent };
+}
+
+impl TryClone for Any {
+    fn try_clone(&self, alloc: Global) -> Result<Any, AllocError>
+        ensures { IfOk result (λ v. v ≡ self.now) }
+    {
+        let octets = Vec::from_slice(alloc, &self.octets)?;
+        Ok(Any { octets })
+    }
 }

@@ -1,8 +1,10 @@
 //! BIT STRING (X.680 22).
 
+mod bit_iter;
 mod bit_str;
 mod bit_string;
 pub(crate) mod packing;
 
+pub use bit_iter::BitIter;
 pub use bit_str::BitStr;
 pub use bit_string::BitString;

@@ -1,10 +1,15 @@
 //! OBJECT IDENTIFIER.
-ghost use Rattle.std.specs.Prelude.{◌≡◌};
+ghost use Rattle.std.specs.Prelude.{◌≡◌, IfOk};
+ghost use Rattle.std.specs.Fmt.{WritesOnOk};
+ghost use Rattle.std.specs.List.{flat_map};
+ghost use Rattle.rasn_types.specs.Text.{point_and_arc};
 ghost use Rattle.rasn_types.specs.Options.{IsSomeExactlyIf};
 ghost use Rattle.rasn_types.specs.Numbered.{AreArcs};
 
-use crate::types::{AsnType, Constraints, Tag};
+use crate::types::{AsnType, Constraints, Tag, TryClone};
+use std::alloc::{AllocError, Global};
 use std::cmp::Ordering;
+use std::fmt;
 use std::marker::Model;
 
 /// A list of at least two arcs, the first at most 2 (X.660 7.6, X.680 32).
@@ -40,6 +45,22 @@ impl ObjectIdentifier {
         }
     }
 
+    /// The object identifier of a copy of these arcs, where there are at least two and the first is at most 2.
+    ///
+    /// # Errors
+    /// Running out of memory.
+    pub fn from_arcs(alloc: Global, arcs: &[u32]) -> Result<Option<ObjectIdentifier>, AllocError>
+        ensures { IfOk result (λ v. IsSomeExactlyIf v (AreArcs arcs.now) arcs.now) }
+    {
+        match arcs {
+            [first, _, ..] if *first <= 2 => {
+                let arcs = Vec::from_slice(alloc, arcs)?;
+                Ok(Some(ObjectIdentifier { arcs }))
+            }
+            _ => Ok(None),
+        }
+    }
+
     /// Its arcs.
     pub fn arcs(&self) -> &[u32]
         ensures arcs { result.now ≡ self.now }
@@ -47,6 +68,41 @@ impl ObjectIdentifier {
     {
         &self.arcs
     }
+
+    /// Its arcs, without a copy.
+    pub fn into_vec(self) -> Vec<u32>
+        ensures arcs { result.items ≡ self }
+        ensures some { AreArcs self }
+    {
+        let ObjectIdentifier { arcs } = self;
+        arcs
+    }
+}
+
+/// Its arcs in decimal, with a point between two: `2.999.3`.
+impl fmt::Display for ObjectIdentifier {
+    ghost use Rattle.std.specs.Prelude.{Some};
+    ghost use Rattle.rasn_types.specs.Text.{dotted};
+
+    ghost output = { λ o. Some (dotted o) };
+
+    fn fmt<W: fmt::Write>(&self, f: &mut fmt::Formatter<W>) -> fmt::Result {
+        if let [first, more @ ..] = self.arcs.as_slice() {
+            write!(f, "{first}")?;
+            write_arcs(f, more)?;
+        }
+        Ok(())
+    }
+}
+
+// Each arc behind a point.
+fn write_arcs<W: fmt::Write>(f: &mut fmt::Formatter<W>, arcs: &[u32]) -> fmt::Result
+    ensures { WritesOnOk W.write_str_gives f.old result (flat_map point_and_arc arcs.now) f.new }
+{
+    for arc in arcs {
+        write!(f, ".{arc}")?;
+    }
+    Ok(())
 }
 
 impl PartialEq for ObjectIdentifier {
@@ -123,4 +179,13 @@ impl AsnType for ObjectIdentifier {
     ghost tree = { λ o. numbers o };
 
     ghost own = { refl };
+}
+
+impl TryClone for ObjectIdentifier {
+    fn try_clone(&self, alloc: Global) -> Result<ObjectIdentifier, AllocError>
+        ensures { IfOk result (λ v. v ≡ self.now) }
+    {
+        let arcs = Vec::from_slice(alloc, &self.arcs)?;
+        Ok(ObjectIdentifier { arcs })
+    }
 }

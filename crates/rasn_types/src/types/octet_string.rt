@@ -1,8 +1,11 @@
 //! OCTET STRING.
-ghost use Rattle.std.specs.Prelude.{◌≡◌};
+ghost use Rattle.std.specs.Prelude.{◌≡◌, IfOk};
 
-use crate::types::{AsnType, Constraints, Tag};
+use crate::hexadecimal::Hexadecimal;
+use crate::types::{AsnType, Constraints, Tag, TryClone};
+use std::alloc::{AllocError, Global};
 use std::cmp::Ordering;
+use std::fmt;
 use std::marker::Model;
 
 /// A list of octets (X.680 23), which is what contracts see.
@@ -34,6 +37,26 @@ impl OctetString {
         ensures { result.now ≡ self.now }
     {
         &self.octets
+    }
+
+    /// Its octets, without a copy.
+    pub fn into_vec(self) -> Vec<u8>
+        ensures { result.items ≡ self }
+    {
+        let OctetString { octets } = self;
+        octets
+    }
+}
+
+/// Its octets in hexadecimal, two digits each.
+impl fmt::Display for OctetString {
+    ghost use Rattle.std.specs.Prelude.{Some};
+    ghost use Rattle.rasn_types.specs.Text.{hexadecimal};
+
+    ghost output = { λ s. Some (hexadecimal s) };
+
+    fn fmt<W: fmt::Write>(&self, f: &mut fmt::Formatter<W>) -> fmt::Result {
+        Hexadecimal(&self.octets).fmt(f)
     }
 }
 
@@ -111,4 +134,13 @@ impl AsnType for OctetString {
     ghost tree = { numbers };
 
     ghost own = { refl };
+}
+
+impl TryClone for OctetString {
+    fn try_clone(&self, alloc: Global) -> Result<OctetString, AllocError>
+        ensures { IfOk result (λ v. v ≡ self.now) }
+    {
+        let octets = Vec::from_slice(alloc, &self.octets)?;
+        Ok(OctetString { octets })
+    }
 }

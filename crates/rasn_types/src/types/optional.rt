@@ -1,5 +1,6 @@
 //! Values that may be absent.
-use crate::types::{AsnType, Constraints, Tag};
+use crate::types::{AsnType, Constraints, Tag, TryClone};
+use std::alloc::{AllocError, Global};
 
 /// The value of an OPTIONAL component (X.680 25.5). The tag is the one that is looked for where it is read.
 impl<T: AsnType> AsnType for Option<T> {
@@ -20,4 +21,13 @@ impl<T: AsnType> AsnType for Option<T> {
     ghost tree = { option_tree T.tree };
 
     ghost own = { ap (option (looked_for T.TAG)) T.own };
+}
+
+impl<T: TryClone> TryClone for Option<T> {
+    fn try_clone(&self, alloc: Global) -> Result<Option<T>, AllocError> {
+        match self {
+            Some(value) => Ok(Some(value.try_clone(alloc)?)),
+            None => Ok(None),
+        }
+    }
 }

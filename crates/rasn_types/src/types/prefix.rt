@@ -1,7 +1,8 @@
 //! Values under a tag that a type names (X.680 31).
 ghost use Rattle.std.specs.Prelude.{◌≡◌};
 
-use crate::types::{AsnType, Constraints, Tag};
+use crate::types::{AsnType, Constraints, Tag, TryClone};
+use std::alloc::{AllocError, Global};
 use std::marker::{Model, PhantomData};
 use std::ops::Deref;
 
@@ -29,6 +30,14 @@ impl<G: AsnType, T> Implicit<G, T> {
             value,
             tag: PhantomData,
         }
+    }
+
+    /// The value, without the tag.
+    pub fn into_inner(self) -> T
+        ensures { result ≡ self }
+    {
+        let Implicit { value, tag: _ } = self;
+        value
     }
 }
 
@@ -114,6 +123,14 @@ impl<G: AsnType, T> Explicit<G, T> {
             tag: PhantomData,
         }
     }
+
+    /// The value, without the prefix.
+    pub fn into_inner(self) -> T
+        ensures { result ≡ self }
+    {
+        let Explicit { value, tag: _ } = self;
+        value
+    }
 }
 
 impl<G: AsnType, T> From<T> for Explicit<G, T> {
@@ -172,4 +189,16 @@ impl<G: AsnType, T: AsnType> AsnType for Explicit<G, T> {
     ghost tree = { T.tree };
 
     ghost own = { refl };
+}
+
+impl<G: AsnType, T: TryClone> TryClone for Implicit<G, T> {
+    fn try_clone(&self, alloc: Global) -> Result<Implicit<G, T>, AllocError> {
+        Ok(Implicit::new(self.value.try_clone(alloc)?))
+    }
+}
+
+impl<G: AsnType, T: TryClone> TryClone for Explicit<G, T> {
+    fn try_clone(&self, alloc: Global) -> Result<Explicit<G, T>, AllocError> {
+        Ok(Explicit::new(self.value.try_clone(alloc)?))
+    }
 }

@@ -1,5 +1,6 @@
 //! Lists of values of one type.
-use crate::types::{AsnType, Constraints, Tag};
+use crate::types::{AsnType, Constraints, Tag, TryClone};
+use std::alloc::{AllocError, Global};
 
 /// SEQUENCE OF (X.680 26).
 impl<T: AsnType> AsnType for Vec<T> {
@@ -21,4 +22,14 @@ impl<T: AsnType> AsnType for Vec<T> {
     ghost tree = { λ v. list_tree T.tree v.items };
 
     ghost own = { refl };
+}
+
+impl<T: TryClone> TryClone for Vec<T> {
+    fn try_clone(&self, alloc: Global) -> Result<Vec<T>, AllocError> {
+        let mut copies = Vec::with_capacity(alloc, self.len())?;
+        for value in self {
+            copies.push(value.try_clone(alloc)?)?;
+        }
+        Ok(copies)
+    }
 }

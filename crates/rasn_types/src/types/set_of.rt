@@ -3,7 +3,7 @@ ghost use Rattle.std.specs.Prelude.{◌≡◌, ◌∷◌, ◌++◌, [], length, 
 ghost use Rattle.std.specs.List.{list_all};
 ghost use Rattle.std.specs.Slice.Iter.{iter_rest};
 
-use crate::types::{AsnType, Constraints, LawfulEq, Present, Tag};
+use crate::types::{AsnType, Constraints, LawfulEq, Present, Tag, TryClone};
 use std::alloc::{AllocError, Global};
 use std::marker::Model;
 use std::slice;
@@ -114,6 +114,21 @@ impl<T: Eq> Eq for SetOf<T> {
     ghost laws = { set_of_equiv T.Eq.laws };
 }
 
+impl<'a, T> IntoIterator for &'a SetOf<T> {
+    ghost use Rattle.std.specs.Prelude.{◌≡◌};
+    ghost use Rattle.std.specs.Slice.Iter.{iter_rest};
+
+    type Item = &'a T;
+
+    type IntoIter = slice::Iter<'a, T>;
+
+    ghost into_iter_gives = { λ s r. iter_rest r ≡ s.now };
+
+    fn into_iter(self) -> slice::Iter<'a, T> {
+        self.iter()
+    }
+}
+
 // Whether each of these stands equally often in both lists.
 fn are_as_often<T: PartialEq>(these: &[T], first: &[T], second: &[T]) -> bool
     ensures { result ≡ list_all (λ z. nat_eq (count_by (T.eq z) first.now) (count_by (T.eq z) second.now)) these.now }
@@ -161,4 +176,11 @@ impl<T: AsnType> Present for SetOf<T> {
     ghost use Rattle.rasn_types.specs.Equality.{set_elements_not_absent};
 
     ghost present = { λ v. set_elements_not_absent };
+}
+
+impl<T: TryClone> TryClone for SetOf<T> {
+    fn try_clone(&self, alloc: Global) -> Result<SetOf<T>, AllocError> {
+        let elements = self.elements.try_clone(alloc)?;
+        Ok(SetOf { elements })
+    }
 }

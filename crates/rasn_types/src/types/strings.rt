@@ -6,11 +6,11 @@ mod restricted;
 mod utf8;
 
 pub use alphabet::Alphabet;
-pub use bmp::BmpString;
+pub use bmp::{BmpString, Units};
 pub use fixed::FixedOctetString;
 pub use restricted::{
-    GeneralString, GeneralType, GraphicString, GraphicType, Ia5String, Ia5Type, NumericString,
-    NumericType, PrintableString, PrintableType, RestrictedString, StringType, TeletexString,
-    TeletexType, VisibleString, VisibleType,
+    AsciiType, GeneralString, GeneralType, GraphicString, GraphicType, Ia5String, Ia5Type,
+    NumericString, NumericType, PrintableString, PrintableType, RestrictedString, StringType,
+    TeletexString, TeletexType, VisibleString, VisibleType,
 };
 pub use utf8::Utf8String;

@@ -1,11 +1,12 @@
 //! A view of bits.
-ghost use Rattle.std.specs.Prelude.{◌≡◌, ◌+◌, ◌*◌, ◌/◌, ◌%◌, ◌≤◌, ◌<◌, length, take, drop, OnOk, OnErr, MatchOption, get_or, Bool};
+ghost use Rattle.std.specs.Prelude.{◌≡◌, ◌+◌, ◌*◌, ◌/◌, ◌%◌, ◌≤◌, ◌<◌, length, take, drop, OnOk, OnErr, MatchOption, get_or, nat_eq, Bool};
 ghost use Rattle.std.specs.Bool.{beq};
 ghost use Rattle.std.specs.Cmp.Lexicographic.{pointwise};
 ghost use Rattle.rasn_types.specs.Framing.{AreOctets};
 ghost use Rattle.rasn_types.specs.Options.{IsSomeExactlyIf};
 ghost use Rattle.rasn_types.specs.BitString.{bits_from, Pushes};
 
+use crate::types::bits::BitIter;
 use crate::types::bits::packing::{clear_last, octets_for, push_shifted, unused_by};
 use std::alloc::AllocError;
 use std::marker::Model;
@@ -65,6 +66,13 @@ impl<'a> BitStr<'a> {
         self.len
     }
 
+    /// Whether there are none.
+    pub fn is_empty(&self) -> bool
+        ensures { result ≡ nat_eq (length self.now) 0 }
+    {
+        self.len() == 0
+    }
+
     /// The bit at a place, counted from 0. `None` behind the last.
     pub fn get(&self, place: usize) -> Option<bool>
         ensures { MatchOption result (length self.now ≤ place) (λ b. (place < length self.now) × (b ≡ get_or self.now place b)) }
@@ -97,6 +105,17 @@ impl<'a> BitStr<'a> {
             }
         }
         true
+    }
+
+    /// The bits one by one.
+    pub fn iter(&self) -> BitIter<'a>
+        ensures { result ≡ self.now }
+    {
+        BitIter::over(BitStr {
+            octets: self.octets,
+            shift: self.shift,
+            len: self.len,
+        })
     }
 
     /// The bits before a place, and those from it on.

@@ -1,11 +1,12 @@
 //! A list of bits.
-ghost use Rattle.std.specs.Prelude.{◌≡◌, ◌*◌, ◌≤◌, ◌<◌, length, get_or, MatchOption};
+ghost use Rattle.std.specs.Prelude.{◌≡◌, ◌*◌, ◌≤◌, ◌<◌, length, get_or, nat_eq, MatchOption, IfOk};
 ghost use Rattle.rasn_types.specs.Options.{IsSomeExactlyIf};
-ghost use Rattle.rasn_types.specs.BitString.{bits_from};
+ghost use Rattle.rasn_types.specs.BitString.{bits_from, Packs};
 
-use crate::types::bits::BitStr;
 use crate::types::bits::packing::{clear_last, octets_for, unused_by};
-use crate::types::{AsnType, Constraints, Tag};
+use crate::types::bits::{BitIter, BitStr};
+use crate::types::{AsnType, Constraints, Tag, TryClone};
+use std::alloc::{AllocError, Global};
 use std::marker::Model;
 
 /// A list of bits (X.680 22), kept in as few octets as they take. To contracts it is the list.
@@ -48,6 +49,13 @@ impl BitString {
         self.len
     }
 
+    /// Whether there are none.
+    pub fn is_empty(&self) -> bool
+        ensures { result ≡ nat_eq (length self.now) 0 }
+    {
+        self.len() == 0
+    }
+
     /// The bit at a place, counted from 0. `None` behind the last.
     pub fn get(&self, place: usize) -> Option<bool>
         ensures { MatchOption result (length self.now ≤ place) (λ b. (place < length self.now) × (b ≡ get_or self.now place b)) }
@@ -60,6 +68,28 @@ impl BitString {
         ensures { result ≡ self.now }
     {
         BitStr::at_front(&self.octets, self.len)
+    }
+
+    /// The bits one by one.
+    pub fn iter(&self) -> BitIter<'_>
+        ensures { result ≡ self.now }
+    {
+        self.as_bitstr().iter()
+    }
+
+    /// Its bits in as few octets as they take, the first bit of each highest, and zeros behind the last.
+    pub fn as_octets(&self) -> &[u8]
+        ensures { Packs self.now result.now }
+    {
+        self.octets.as_slice()
+    }
+
+    /// Its bits in as few octets as they take, as `as_octets` lends them, without a copy.
+    pub fn into_vec(self) -> Vec<u8>
+        ensures { Packs self result.items }
+    {
+        let BitString { octets, len: _ } = self;
+        octets
     }
 }
 
@@ -104,4 +134,16 @@ impl AsnType for BitString {
     ghost tree = { λ s. bits s };
 
     ghost own = { refl };
+}
+
+impl TryClone for BitString {
+    fn try_clone(&self, alloc: Global) -> Result<BitString, AllocError>
+        ensures { IfOk result (λ v. v ≡ self.now) }
+    {
+        let octets = Vec::from_slice(alloc, &self.octets)?;
+        Ok(BitString {
+            octets,
+            len: self.len,
+        })
+    }
 }

@@ -1,13 +1,16 @@
 //! Whole numbers of any length.
-ghost use Rattle.std.specs.Prelude.{◌≡◌, ◌≢◌, ◌<◌, [], length, IfOk, MatchOption};
+ghost use Rattle.std.specs.Prelude.{◌≡◌, ◌≢◌, ◌<◌, [], length, IfOk, MatchOption, pos, ◌<ℤ◌, ◌↔◌, IsTrue};
 ghost use Rattle.rasn_types.specs.Framing.{AreOctets};
 ghost use Rattle.rasn_types.specs.Contents.{signed, IsShortestInteger};
+ghost use Rattle.rasn_types.specs.Shapes.{IsIn};
 ghost use Rattle.std.specs.Ordering.{int_cmp};
-ghost use Rattle.rasn_types.specs.Trees.{IsShortestOf};
+ghost use Rattle.rasn_types.specs.Trees.{IsShortestOf, signed_range, unsigned_range};
 
 use crate::hexadecimal::Hexadecimal;
-use crate::types::twos_complement::{shortest, signed_i128};
-use crate::types::{AsnType, Constraints, IntegerType, Tag};
+use crate::types::twos_complement::{
+    append_i128, append_u128, shortest, signed_i128, unsigned_u128,
+};
+use crate::types::{AsnType, Constraints, IntegerType, Tag, TryClone};
 use std::alloc::{AllocError, Global};
 use std::cmp::Ordering;
 use std::fmt;
@@ -42,6 +45,51 @@ impl Integer {
         }
         let octets = Vec::from_slice(alloc, shortest(octets))?;
         Ok(Some(Integer { octets }))
+    }
+
+    /// This number.
+    ///
+    /// # Errors
+    /// Running out of memory.
+    pub fn from_i128(alloc: Global, number: i128) -> Result<Integer, AllocError>
+        ensures { IfOk result (λ n. n ≡ number) }
+    {
+        let mut octets = Vec::new(alloc);
+        append_i128(number, &mut octets)?;
+        Ok(Integer { octets })
+    }
+
+    /// This number.
+    ///
+    /// # Errors
+    /// Running out of memory.
+    pub fn from_u128(alloc: Global, number: u128) -> Result<Integer, AllocError>
+        ensures { IfOk result (λ n. n ≡ pos number) }
+    {
+        let mut octets = Vec::new(alloc);
+        append_u128(number, &mut octets)?;
+        Ok(Integer { octets })
+    }
+
+    /// The number, where 128 bits hold it.
+    pub fn to_i128(&self) -> Option<i128>
+        ensures { MatchOption result (IsIn (signed_range 128) self.now → ⊥) (λ n. n ≡ self.now) }
+    {
+        signed_i128(&self.octets)
+    }
+
+    /// The number, where 128 bits hold it without a sign.
+    pub fn to_u128(&self) -> Option<u128>
+        ensures { MatchOption result (IsIn (unsigned_range 128) self.now → ⊥) (λ n. pos n ≡ self.now) }
+    {
+        unsigned_u128(&self.octets)
+    }
+
+    /// Whether it is below 0.
+    pub fn is_negative(&self) -> bool
+        ensures { IsTrue result ↔ (self.now <ℤ pos 0) }
+    {
+        is_below_zero(&self.octets)
     }
 
     /// Its octets in two's complement, the fewest (X.690 8.3.2).
@@ -115,6 +163,15 @@ impl Ord for Integer {
     }
 }
 
+// Whether octets in two's complement stand for a number below 0.
+fn is_below_zero(octets: &[u8]) -> bool
+    requires some { 0 < length octets.now }
+    requires octets { AreOctets octets.now }
+    ensures { IsTrue result ↔ (signed octets.now <ℤ pos 0) }
+{
+    octets[0] >= 128
+}
+
 // The order of two numbers in their fewest octets: by sign, then by how many octets there are, then by the octets.
 fn order(octets: &[u8], others: &[u8]) -> Ordering
     requires short { IsShortestInteger octets.now × IsShortestInteger others.now }
@@ -170,5 +227,14 @@ impl IntegerType for Integer {
 
     fn append_octets(&self, octets: &mut Vec<u8>) -> Result<(), AllocError> {
         octets.extend_from_slice(&self.octets)
+    }
+}
+
+impl TryClone for Integer {
+    fn try_clone(&self, alloc: Global) -> Result<Integer, AllocError>
+        ensures { IfOk result (λ v. v ≡ self.now) }
+    {
+        let octets = Vec::from_slice(alloc, &self.octets)?;
+        Ok(Integer { octets })
     }
 }

@@ -1,14 +1,18 @@
 //! BMPString.
 ghost use Rattle.std.specs.Prelude.{◌≡◌, nat_eq, IfOk, MatchOption};
-ghost use Rattle.std.specs.Cmp.Lexicographic.{pointwise};
+ghost use Rattle.std.specs.Cmp.Lexicographic.{pointwise, slice_cmp};
 ghost use Rattle.rasn_types.specs.CharacterString.{ArePaired, units_of};
+ghost use Rattle.std.specs.Ordering.{nat_cmp};
 ghost use Rattle.rasn_types.specs.Framing.{AreOctets};
 
-use crate::types::{AsnType, Constraints, Tag};
+use crate::types::{AsnType, Constraints, Tag, TryClone};
 use std::alloc::{AllocError, Global};
+use std::cmp::Ordering;
 use std::marker::Model;
 
 /// BMPString: 16-bit units, the high octet first (X.690 8.23.8). Its size is the number of units.
+///
+/// They are ordered by their units, the first that differ deciding; one that another begins with comes before it.
 ///
 /// To contracts it is the list of its octets.
 #[derive(Debug, Drop)]
@@ -58,6 +62,64 @@ impl BmpString {
     {
         self.octets.as_slice()
     }
+
+    /// Its octets, without a copy.
+    pub fn into_vec(self) -> Vec<u8>
+        ensures octets { result.items ≡ self }
+        ensures paired { ArePaired self }
+    {
+        let BmpString { octets } = self;
+        octets
+    }
+}
+
+impl BmpString {
+    /// Its 16-bit units.
+    pub fn units(&self) -> Units<'_>
+        ensures { result ≡ units_of self.now }
+    {
+        Units {
+            octets: self.octets.as_slice(),
+        }
+    }
+}
+
+/// The 16-bit units of a BMPString that are left, the first of them next. To contracts they are a list of numbers.
+#[derive(Debug, Drop)]
+pub struct Units<'a> {
+    octets: &'a [u8],
+}
+
+impl<'a> Model for Units<'a> {
+    ghost use Rattle.std.specs.Prelude.{List, ℕ};
+    ghost use Rattle.rasn_types.specs.CharacterString.{units_of};
+
+    ghost Value = { List ℕ };
+
+    ghost view = { λ u. units_of u.octets.now };
+}
+
+impl Iterator for Units<'_> {
+    ghost use Rattle.std.specs.Iterator.{YieldsFirst, item_count};
+
+    type Item = u16;
+
+    ghost next_gives = { YieldsFirst (λ units. units) };
+
+    ghost remaining = { item_count (λ units. units) };
+
+    fn next(&mut self) -> Option<u16> {
+        let [high, low, rest @ ..] = self.octets else {
+            return None;
+        };
+        self.octets = rest;
+        Some(u16::from(*high) * 256 + u16::from(*low))
+    }
+
+    fn size_hint(&self) -> (usize, Option<usize>) {
+        let left = self.octets.len() / 2;
+        (left, Some(left))
+    }
 }
 
 // Octets that are whole units are equal where their units are.
@@ -95,6 +157,53 @@ impl Eq for BmpString {
     ghost laws = { on_equiv units_of nat_list_eq_equiv };
 }
 
+impl PartialOrd for BmpString {
+    ghost use Rattle.std.specs.Prelude.{Some};
+    ghost use Rattle.std.specs.Cmp.{on_po};
+    ghost use Rattle.std.specs.Cmp.Lexicographic.{slice_cmp, texts_po};
+    ghost use Rattle.std.specs.Ordering.{nat_cmp};
+    ghost use Rattle.rasn_types.specs.CharacterString.{units_of};
+
+    ghost partial_cmp = { λ s t. Some (slice_cmp nat_cmp (units_of s) (units_of t)) };
+
+    ghost laws = { on_po units_of texts_po };
+
+    fn partial_cmp(&self, other: &BmpString) -> Option<Ordering> {
+        Some(self.cmp(other))
+    }
+}
+
+impl Ord for BmpString {
+    ghost use Rattle.std.specs.Cmp.{on_total};
+    ghost use Rattle.std.specs.Cmp.Lexicographic.{slice_cmp, nat_list_cmp_total, texts_ties};
+    ghost use Rattle.std.specs.Ordering.{nat_cmp, on};
+    ghost use Rattle.std.proofs.Common.{rules};
+    ghost use Rattle.rasn_types.specs.CharacterString.{units_of};
+
+    ghost cmp = { on units_of (slice_cmp nat_cmp) };
+
+    ghost total = { on_total units_of nat_list_cmp_total };
+
+    ghost matches_partial_cmp = { Prim.search rules };
+
+    ghost matches_eq = { λ s t. texts_ties (units_of s) (units_of t) };
+
+    fn cmp(&self, other: &BmpString) -> Ordering {
+        let octets = self.as_octets();
+        let others = other.as_octets();
+        order(octets, others)
+    }
+}
+
+// Octets that are whole units have the order of their units.
+fn order(octets: &[u8], others: &[u8]) -> Ordering
+    requires whole { ArePaired octets.now × ArePaired others.now }
+    requires octets { AreOctets octets.now × AreOctets others.now }
+    ensures { result ≡ slice_cmp nat_cmp (units_of octets.now) (units_of others.now) }
+{
+    octets.cmp(&others)
+}
+
 impl AsnType for BmpString {
     ghost use Rattle.std.specs.Prelude.{refl};
     ghost use Rattle.rasn_types.specs.CharacterString.{units_of};
@@ -115,4 +224,13 @@ impl AsnType for BmpString {
     ghost tree = { λ s. numbers (units_of s) };
 
     ghost own = { refl };
+}
+
+impl TryClone for BmpString {
+    fn try_clone(&self, alloc: Global) -> Result<BmpString, AllocError>
+        ensures { IfOk result (λ v. v ≡ self.now) }
+    {
+        let octets = Vec::from_slice(alloc, &self.octets)?;
+        Ok(BmpString { octets })
+    }
 }

@@ -1,7 +1,8 @@
 //! OCTET STRING of a fixed size.
 ghost use Rattle.std.specs.Prelude.{◌≡◌, length};
 
-use crate::types::{AsnType, Constraints, Tag};
+use crate::types::{AsnType, Constraints, Tag, TryClone};
+use std::alloc::{AllocError, Global};
 use std::marker::Model;
 
 /// An OCTET STRING of `N` octets (X.680 23).
@@ -58,4 +59,10 @@ impl<const N: usize> AsnType for FixedOctetString<N> {
     ghost tree = { λ s. numbers s };
 
     ghost own = { refl };
+}
+
+impl<const N: usize> TryClone for FixedOctetString<N> {
+    fn try_clone(&self, _alloc: Global) -> Result<FixedOctetString<N>, AllocError> {
+        Ok(*self)
+    }
 }

@@ -2,9 +2,11 @@
 ghost use Rattle.std.specs.Prelude.{◌≡◌, IfOk, MatchOption, Option};
 ghost use Rattle.rasn_types.specs.CharacterString.{AreAdmitted, string_kind};
 
-use crate::types::{Alphabet, AsnType, Constraints, Tag};
+use crate::types::{Alphabet, AsnType, Constraints, Tag, TryClone};
 use std::alloc::{AllocError, Global};
+use std::cmp::Ordering;
 use std::marker::{Model, PhantomData};
+use std::{fmt, str};
 
 /// What tells a string type from the others: its tag and its alphabet.
 pub trait StringType: Drop {
@@ -22,7 +24,16 @@ pub trait StringType: Drop {
     const ALPHABET: Alphabet;
 }
 
+/// A string type that admits ASCII alone.
+pub trait AsciiType: StringType {
+    ghost use Rattle.rasn_types.specs.CharacterString.{IsWithinAscii};
+
+    ghost ascii: { IsWithinAscii Self.ALPHABET };
+}
+
 /// A string of a type whose octets are single characters, all of its alphabet (X.680 41).
+///
+/// They are ordered by their octets, the first that differ deciding; one that another begins with comes before it.
 ///
 /// To contracts it is the list of its octets.
 #[derive(Debug, Drop)]
@@ -79,6 +90,37 @@ impl<S: StringType> RestrictedString<S> {
     {
         self.octets.as_slice()
     }
+
+    /// Its octets, without a copy.
+    pub fn into_vec(self) -> Vec<u8>
+        ensures octets { result.items ≡ self }
+        ensures admitted { AreAdmitted S.ALPHABET self }
+    {
+        let RestrictedString { octets, of: _ } = self;
+        octets
+    }
+}
+
+impl<S: AsciiType> RestrictedString<S> {
+    /// The string as text: each octet is its character.
+    pub fn as_str(&self) -> &str
+        ensures { result.now ≡ self.now }
+    {
+        let octets = self.as_octets();
+        // SAFETY: all octets are ASCII, which is UTF-8.
+        unsafe { str::from_utf8_unchecked(octets) }
+    }
+}
+
+/// Its text.
+impl<S: AsciiType> fmt::Display for RestrictedString<S> {
+    ghost use Rattle.std.specs.Prelude.{Some};
+
+    ghost output = { λ s. Some s };
+
+    fn fmt<W: fmt::Write>(&self, f: &mut fmt::Formatter<W>) -> fmt::Result {
+        self.as_str().fmt(f)
+    }
 }
 
 impl<S: StringType> PartialEq for RestrictedString<S> {
@@ -99,6 +141,38 @@ impl<S: StringType> Eq for RestrictedString<S> {
     ghost use Rattle.std.specs.Cmp.Lexicographic.{nat_list_eq_equiv};
 
     ghost laws = { nat_list_eq_equiv };
+}
+
+impl<S: StringType> PartialOrd for RestrictedString<S> {
+    ghost use Rattle.std.specs.Prelude.{Some};
+    ghost use Rattle.std.specs.Cmp.Lexicographic.{slice_cmp, texts_po};
+    ghost use Rattle.std.specs.Ordering.{nat_cmp};
+
+    ghost partial_cmp = { λ s t. Some (slice_cmp nat_cmp s t) };
+
+    ghost laws = { texts_po };
+
+    fn partial_cmp(&self, other: &RestrictedString<S>) -> Option<Ordering> {
+        Some(self.cmp(other))
+    }
+}
+
+impl<S: StringType> Ord for RestrictedString<S> {
+    ghost use Rattle.std.specs.Cmp.Lexicographic.{slice_cmp, nat_list_cmp_total, texts_ties};
+    ghost use Rattle.std.specs.Ordering.{nat_cmp};
+    ghost use Rattle.std.proofs.Common.{rules};
+
+    ghost cmp = { slice_cmp nat_cmp };
+
+    ghost total = { nat_list_cmp_total };
+
+    ghost matches_partial_cmp = { Prim.search rules };
+
+    ghost matches_eq = { texts_ties };
+
+    fn cmp(&self, other: &RestrictedString<S>) -> Ordering {
+        self.octets.cmp(&other.octets)
+    }
 }
 
 impl<S: StringType> AsnType for RestrictedString<S> {
@@ -142,6 +216,12 @@ impl StringType for NumericType {
     const ALPHABET: Alphabet = Alphabet::Numeric;
 }
 
+impl AsciiType for NumericType {
+    ghost use Rattle.rasn_types.specs.CharacterString.{numeric_ascii};
+
+    ghost ascii = { numeric_ascii };
+}
+
 /// Names PrintableString.
 #[derive(Clone, Copy, Debug, Drop)]
 pub struct PrintableType;
@@ -160,6 +240,12 @@ impl StringType for PrintableType {
     ghost ALPHABET = { Printable };
 
     const ALPHABET: Alphabet = Alphabet::Printable;
+}
+
+impl AsciiType for PrintableType {
+    ghost use Rattle.rasn_types.specs.CharacterString.{printable_ascii};
+
+    ghost ascii = { printable_ascii };
 }
 
 /// Names VisibleString.
@@ -182,6 +268,12 @@ impl StringType for VisibleType {
     const ALPHABET: Alphabet = Alphabet::Visible;
 }
 
+impl AsciiType for VisibleType {
+    ghost use Rattle.rasn_types.specs.CharacterString.{visible_ascii};
+
+    ghost ascii = { visible_ascii };
+}
+
 /// Names IA5String.
 #[derive(Clone, Copy, Debug, Drop)]
 pub struct Ia5Type;
@@ -200,6 +292,12 @@ impl StringType for Ia5Type {
     ghost ALPHABET = { Ia5 };
 
     const ALPHABET: Alphabet = Alphabet::Ia5;
+}
+
+impl AsciiType for Ia5Type {
+    ghost use Rattle.rasn_types.specs.CharacterString.{ia5_ascii};
+
+    ghost ascii = { ia5_ascii };
 }
 
 /// Names TeletexString.
@@ -260,4 +358,16 @@ impl StringType for GraphicType {
     ghost ALPHABET = { Every };
 
     const ALPHABET: Alphabet = Alphabet::Every;
+}
+
+impl<S: StringType> TryClone for RestrictedString<S> {
+    fn try_clone(&self, alloc: Global) -> Result<RestrictedString<S>, AllocError>
+        ensures { IfOk result (λ v. v ≡ self.now) }
+    {
+        let octets = Vec::from_slice(alloc, &self.octets)?;
+        Ok(RestrictedString {
+            octets,
+            of: PhantomData,
+        })
+    }
 }

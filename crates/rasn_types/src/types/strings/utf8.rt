@@ -1,5 +1,8 @@
 //! UTF8String.
-use crate::types::{AsnType, Constraints, Tag};
+ghost use Rattle.std.specs.Prelude.{◌≡◌, IfOk, string_bytes};
+
+use crate::types::{AsnType, Constraints, Tag, TryClone};
+use std::alloc::{AllocError, Global};
 
 /// UTF8String (X.680 41): its size is the number of characters.
 pub type Utf8String = String;
@@ -24,4 +27,12 @@ impl AsnType for String {
     ghost tree = { λ s. numbers (chars (string_bytes s)) };
 
     ghost own = { refl };
+}
+
+impl TryClone for String {
+    fn try_clone(&self, alloc: Global) -> Result<String, AllocError>
+        ensures { IfOk result (λ v. string_bytes v ≡ string_bytes self.now) }
+    {
+        String::from_str(alloc, self.as_str())
+    }
 }

@@ -1,0 +1,35 @@
+-- What values are shown as.
+use Rattle.std.specs.Prelude.{ℕ, ◌/◌, ◌%◌, true, List, [], ◌∷◌, ◌++◌}
+use Rattle.std.specs.List.{flat_map}
+use Rattle.std.specs.Fmt.{decimal, digit_glyph}
+use Rattle.rasn_types.specs.Calendar.{Day, Moment}
+use Rattle.rasn_types.specs.TimeSpelling.{two}
+use Rattle.rasn_types.specs.Time.{written_year, written_second, within_second, written_fraction}
+
+-- two hexadecimal digits, in capitals
+abbrev pub two_digits : ℕ → List ℕ
+two_digits b = digit_glyph true (b / 16) ∷ digit_glyph true (b % 16) ∷ []
+
+abbrev pub hexadecimal : List ℕ → List ℕ
+hexadecimal l = flat_map two_digits l
+
+-- arcs in decimal, each behind a point
+abbrev pub point_and_arc : ℕ → List ℕ
+point_and_arc x = 46 ∷ decimal x
+
+-- arcs in decimal, with a point between two
+abbrev pub dotted : List ℕ → List ℕ
+dotted [] = []
+dotted (x ∷ l) = decimal x ++ flat_map point_and_arc l
+
+-- YYYY-MM-DD
+unfoldable pub shown_day : Day → List ℕ
+shown_day d = written_year d.year ++ (45 ∷ (two d.month ++ (45 ∷ two d.day)))
+
+-- HH:MM:SS, and a fraction
+unfoldable pub shown_clock : Moment → List ℕ
+shown_clock m = two m.hour ++ (58 ∷ (two m.minute ++ (58 ∷ (two (written_second m) ++ written_fraction (within_second m)))))
+
+-- an instant in UTC
+unfoldable pub shown_moment : Moment → List ℕ
+shown_moment m = shown_day m.day ++ (84 ∷ (shown_clock m ++ 90 ∷ []))
