@@ -6,7 +6,7 @@ pub mod Counted
 pub mod Moves
 pub mod Octets
 pub mod Rendered
-pub mod FinishedHeaders
 pub mod Steps
 pub mod Cursors
 pub mod Output
+pub mod Headers

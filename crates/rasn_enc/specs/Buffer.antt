@@ -4,4 +4,5 @@ pub mod Filled
 pub mod OpenValues
 pub mod Lists
 pub mod DeferredHeaders
+pub mod HeaderRest
 pub mod Moves

@@ -1,23 +1,16 @@
 -- Places in rendered octets: found from the back, and stepped forward.
 use Rattle.std.proofs.Common.{length-append, ◌≡◌, ◌≤◌, ◌<◌, ◌+◌, ◌-◌, ◌++◌, ℕ, [], ◌∷◌, List, drop, take, length, refl, ap, arith, ◌∙◌, sym, suc, length-drop, append_assoc, get_or, add-one, true, false, ltb, eqb, zero}
-use Rattle.std.proofs.lemmas.List.{take-append-drop, take-take, length-take-le, drop_at, drop_all}
+use Rattle.std.proofs.lemmas.List.{take-append-drop, length-take-le, drop_at, drop_all}
 use Rattle.std.proofs.Math.Seq.{take-suc, drop-cons}
 use Rattle.std.proofs.lemmas.Grind.{common_steps}
 use Rattle.rasn_enc.specs.Order.{octets_less}
-use Rattle.rasn_enc.specs.Buffer.DeferredHeaders.{deferred_octets, header_octets, rendered, Rising, mark_at}
+use Rattle.rasn_enc.specs.Buffer.DeferredHeaders.{deferred_octets, rest_octets, rendered, Rising}
 use Rattle.rasn_enc.specs.Buffer.Cursors.{ahead, Placed, Away}
 use Rattle.rasn_enc.specs.declared.ber.enc.writer.deferred_headers.DeferredHeader.{DeferredHeader}
-use Rattle.rasn_enc.specs.declared.ber.enc.writer.deferred_headers.HeaderForm.{HeaderForm}
+use Rattle.rasn_enc.specs.declared.ber.enc.writer.header_rest.HeaderRest.{HeaderRest}
 use Rattle.rasn_enc.specs.declared.ber.enc.writer.cursors.Cursor.{Cursor}
-use Rattle.rasn_enc.proofs.Buffer.Rendered.{rising-below, rising-front, rising-back, rendered-front, rendered-append}
-use Rattle.rasn_enc.proofs.Buffer.Steps.{rising-lower, taken, left}
-
-rendered-join : (g : List ℕ) (a : ℕ) (ms : List DeferredHeader) (b : ℕ) (ns : List DeferredHeader) → Rising a ms b → Rising b ns (length g) → rendered g a (ms ++ ns) ≡ rendered (take b g) a ms ++ rendered g b ns
-rendered-join g a [] b ns h k = rendered-front g a b ns h k
-rendered-join g a (m ∷ ms) b ns h k =
-    let q : m.at ≤ b = rising-below m.at ms b h.1 in
-    rw (rendered-join g m.at ms b ns h.1 k, take-take m.at b g q)
-    (ap (λ l. drop a (take m.at g) ++ l) (sym (append_assoc (deferred_octets m) (rendered (take b g) m.at ms) (rendered g b ns))) ∙ sym (append_assoc (drop a (take m.at g)) (deferred_octets m ++ rendered (take b g) m.at ms) (rendered g b ns)))
+use Rattle.rasn_enc.proofs.Buffer.Rendered.{rising-lower, rising-below, rising-front, rising-back, rendered-front, rendered-append, rendered-join}
+use Rattle.rasn_enc.proofs.Buffer.Steps.{taken, left}
 
 suffix-is : (l p q : List ℕ) (n : ℕ) → l ≡ p ++ q → length q + n ≡ length l → q ≡ drop n l
 suffix-is l p q n e h =
@@ -100,22 +93,22 @@ pub record AtMark (g : List ℕ) (ms : List DeferredHeader) (start want k at bac
   pub head : (i : ℕ) → i + (back - (at - m.at)) ≡ length (deferred_octets m) → at - m.at ≤ back → drop i (deferred_octets m) ++ rendered g m.at (drop k ms) ≡ drop n (rendered g start ms)
   pub more : (rest : ℕ) → rest + (at - m.at) + length (deferred_octets m) ≡ back → Walk g ms start want (k - 1) m.at rest
 
-pub at_mark : (g : List ℕ) (ms : List DeferredHeader) (start total k at back n : ℕ) (d : DeferredHeader) → 0 < k → Walk g ms start (total - n) k at back → total ≡ length (rendered g start ms) → n ≤ total
-    → AtMark g ms start (total - n) k at back n (get_or ms (k - 1) d)
-at_mark g ms start total zero at back n d p h e w = absurd (omega arith)
-at_mark g ms start total (suc k) at back n d p h e w =
+pub at_mark : (g : List ℕ) (ms : List DeferredHeader) (start total k at back n : ℕ) (m d : DeferredHeader) → m ≡ get_or ms (k - 1) d → 0 < k → Walk g ms start (total - n) k at back → total ≡ length (rendered g start ms) → n ≤ total
+    → AtMark g ms start (total - n) k at back n m
+at_mark g ms start total zero at back n m d r p h e w = absurd (omega arith)
+at_mark g ms start total (suc k) at back n m d r p h e w =
     let b = h.below in
     let inside : k < length ms = omega (arith, b) in
     let all : total - n + n ≡ length (rendered g start ms) = omega (arith, e, w) in
     let last : suc k - 1 ≡ k = omega arith in
-    let m = get_or ms k d in
-    rw last (record {
-      order = walk-order g ms start (total - n) k at back n m d inside refl h all;
-      upper = upper-here g ms start (total - n) k at back n m d inside refl h all;
-      run = λ r. place-run g ms start (total - n) (suc k) at back n h (omega (arith, r)) (stop-run g ms start (total - n) k at back n m d inside refl h all r) all;
-      head = stop-head g ms start (total - n) k at back n m d inside refl h all;
-      more = λ rest r. rw last (walk-more g ms start (total - n) k at back n m d inside refl h all rest r);
-    })
+    let read : m ≡ get_or ms k d = rw last at r in
+    record {
+      order = walk-order g ms start (total - n) k at back n m d inside read h all;
+      upper = upper-here g ms start (total - n) k at back n m d inside read h all;
+      run = λ r. place-run g ms start (total - n) (suc k) at back n h (omega (arith, r)) (stop-run g ms start (total - n) k at back n m d inside read h all r) all;
+      head = stop-head g ms start (total - n) k at back n m d inside read h all;
+      more = λ rest r. rw last (walk-more g ms start (total - n) k at back n m d inside read h all rest r);
+    }
 
 pub walk-end : (g : List ℕ) (ms : List DeferredHeader) (start want k at back : ℕ) → Walk g ms start want k at back → k ≡ 0 → want ≤ length (rendered g start ms) → back + start ≤ at
 walk-end g ms start want k at back h e w =
@@ -126,22 +119,22 @@ walk-end g ms start want k at back h e w =
     omega (arith, l, c, w)
 
 -- one octet forward
-pub step-head : (g : List ℕ) (ms : List DeferredHeader) (c e : Cursor) → c.inside < length (header_octets c.head) → e.head ≡ c.head → e.inside ≡ c.inside + 1 → e.at ≡ c.at → e.mark ≡ c.mark → ahead g ms c ≡ get_or (header_octets c.head) c.inside 0 ∷ ahead g ms e
-step-head g ms c e h a b p q = rw (a, b, p, q, add-one, drop-cons (header_octets c.head) c.inside 0 h) refl
+pub step-head : (g : List ℕ) (ms : List DeferredHeader) (c e : Cursor) → c.inside < length (rest_octets c.rest) → e.rest ≡ c.rest → e.inside ≡ c.inside + 1 → e.at ≡ c.at → e.mark ≡ c.mark → ahead g ms c ≡ get_or (rest_octets c.rest) c.inside 0 ∷ ahead g ms e
+step-head g ms c e h a b p q = rw (a, b, p, q, add-one, drop-cons (rest_octets c.rest) c.inside 0 h) refl
 
-head-done : (g : List ℕ) (ms : List DeferredHeader) (c : Cursor) → length (header_octets c.head) ≤ c.inside → ahead g ms c ≡ rendered g c.at (drop c.mark ms)
-head-done g ms c h = rw (drop_all c.inside (header_octets c.head) h) refl
+head-done : (g : List ℕ) (ms : List DeferredHeader) (c : Cursor) → length (rest_octets c.rest) ≤ c.inside → ahead g ms c ≡ rendered g c.at (drop c.mark ms)
+head-done g ms c h = rw (drop_all c.inside (rest_octets c.rest) h) refl
 
-module _ (g : List ℕ) (ms : List DeferredHeader) (c : Cursor) (done : length (header_octets c.head) ≤ c.inside) (p : Placed g ms c) where
-  pub step-mark : (h : HeaderForm) → drop c.mark ms ≡ mark_at c.at h ∷ drop (suc c.mark) ms → ahead g ms c ≡ header_octets h ++ rendered g c.at (drop (suc c.mark) ms)
+module _ (g : List ℕ) (ms : List DeferredHeader) (c : Cursor) (done : length (rest_octets c.rest) ≤ c.inside) (p : Placed g ms c) where
+  pub step-mark : (h : HeaderRest) → drop c.mark ms ≡ record { at = c.at; rest = h } ∷ drop (suc c.mark) ms → ahead g ms c ≡ rest_octets h ++ rendered g c.at (drop (suc c.mark) ms)
   step-mark h e =
       let w : c.at ≤ length g = rising-below c.at (drop c.mark ms) (length g) p.rising in
       let none : drop c.at (take c.at g) ≡ [] = drop_all c.at (take c.at g) (omega (arith, length-take-le c.at g w)) in
       head-done g ms c done ∙ rw (e, none) refl
 
-  pub step-mark-placed : (h : HeaderForm) → drop c.mark ms ≡ mark_at c.at h ∷ drop (suc c.mark) ms → (suc c.mark ≤ length ms) × Rising c.at (drop (suc c.mark) ms) (length g)
+  pub step-mark-placed : (h : HeaderRest) → drop c.mark ms ≡ record { at = c.at; rest = h } ∷ drop (suc c.mark) ms → (suc c.mark ≤ length ms) × Rising c.at (drop (suc c.mark) ms) (length g)
   step-mark-placed h e =
-      let r : Rising c.at (mark_at c.at h ∷ drop (suc c.mark) ms) (length g) = rw e at p.rising in
+      let r : Rising c.at (record { at = c.at; rest = h } ∷ drop (suc c.mark) ms) (length g) = rw e at p.rising in
       let l = ap length e in
       (omega (arith, l, length-drop c.mark ms), r.1)
 

@@ -1,13 +1,13 @@
--- The marks of gathered octets, and the lists that they show.
-use Rattle.std.proofs.Common.{append-nil, add-one, true, length-append, Option, Some, None, Bool, cond, ◌≡◌, ◌≤◌, ◌<◌, ◌+◌, ◌++◌, ℕ, suc, [], ◌∷◌, List, drop, take, map, length, refl, ap, arith, ◌∙◌, sym, append_assoc}
-use Rattle.std.proofs.lemmas.List.{take-append-le, map-append, take-take, drop-append-le, length-take-le, same_from_push}
-use Rattle.std.proofs.Math.Seq.{take-append_seam, drop-append-add, take-length}
+-- Gathered octets and deferred headers, and the lists that they show.
+use Rattle.std.proofs.Common.{append-nil, true, length-append, Option, Some, None, Bool, cond, ◌≡◌, ◌≤◌, ◌<◌, ◌+◌, ◌++◌, ℕ, [], ◌∷◌, List, drop, take, map, length, refl, ap, ap₂, arith, ◌∙◌, sym, append_assoc, length-drop}
+use Rattle.std.proofs.lemmas.List.{take-append-le, map-append, take-take, drop-append-le, drop_at, drop_all, take_at, take-append-drop, length-take-le, same_from_push}
+use Rattle.std.proofs.Math.Seq.{take-append_seam, take-length}
 use Rattle.rasn_types.specs.Bytes.{ConstructedEncoding}
 use Rattle.rasn_enc.specs.Headers.{definite, closed}
 use Rattle.rasn_types.specs.declared.types.codec.Codec.{Codec}
 use Rattle.rasn_types.specs.declared.types.codec.Codec.TheVariants.{Ber, Cer, Der}
 use Rattle.rasn_types.specs.declared.types.tag.Tag.{Tag}
-use Rattle.rasn_enc.specs.Buffer.DeferredHeaders.{header_octets, rendered, Rising, closing, mark_at, head_of, back, constructed}
+use Rattle.rasn_enc.specs.Buffer.DeferredHeaders.{header_octets, rendered, Rising, head_of, back, constructed, Encloses}
 use Rattle.rasn_enc.specs.Buffer.OpenValues.{frame_in, Chain, noted}
 use Rattle.rasn_enc.specs.Buffer.Cuts.{list_from, Sound}
 use Rattle.rasn_enc.specs.Buffer.Lists.{tags_of}
@@ -15,25 +15,26 @@ use Rattle.rasn_enc.specs.View.{View, opened, appended}
 use Rattle.rasn_enc.specs.Primitive.{Appends}
 use Rattle.rasn_enc.specs.declared.ber.enc.writer.Open.{Open}
 use Rattle.rasn_enc.specs.declared.ber.enc.writer.deferred_headers.DeferredHeader.{DeferredHeader}
-use Rattle.rasn_enc.proofs.Buffer.Rendered.{rendered-more, rising-more, rising-append, rising-closed, rendered-append, rendered-closed, drop-all}
+use Rattle.rasn_enc.proofs.Buffer.Rendered.{rendered-more, rising-more, rising-lower, rising-join, rendered-join, rendered-front, rendered-same, drop-all}
+use Rattle.rasn_enc.proofs.Buffer.Headers.{header_two, defers-list, defers-rising}
 use Rattle.rasn_enc.proofs.Headers.Spellings.{definite_is, closed_is}
 
-pub chain-more : (xs : List ℕ) (ms : List DeferredHeader) (s0 f0 : ℕ) (os : List Open) (o : Open) → Chain xs ms s0 f0 os o.start o.first → o.end ≤ length xs → o.last ≤ length ms → Sound (take o.end xs) (take o.last ms) o.start o.first o.measured → Chain xs ms s0 f0 (os ++ o ∷ []) o.end (suc o.last)
+pub chain-more : (xs : List ℕ) (ms : List DeferredHeader) (s0 f0 : ℕ) (os : List Open) (o : Open) → Chain xs ms s0 f0 os o.list.start o.list.first → o.end ≤ length xs → o.last ≤ length ms → Sound (take o.end xs) (take o.last ms) o.list.start o.list.first o.list.measured → Chain xs ms s0 f0 (os ++ o ∷ []) (o.end + 2) o.last
 chain-more xs ms s0 f0 [] o h e l s = ((sym h.0, sym h.1, e, l, s), (refl, refl))
-chain-more xs ms s0 f0 (p ∷ os) o h e l s = (h.0, chain-more xs ms p.end (suc p.last) os o h.1 e l s)
+chain-more xs ms s0 f0 (p ∷ os) o h e l s = (h.0, chain-more xs ms (p.end + 2) p.last os o h.1 e l s)
 
 -- what is known of the last interrupted list
 pub record Top (xs : List ℕ) (ms : List DeferredHeader) (os : List Open) (o : Open) (s f : ℕ) : Type 0 where
-  pub front : Chain xs ms 0 0 os o.start o.first
-  pub ends : o.end ≡ s
-  pub lasts : suc o.last ≡ f
+  pub front : Chain xs ms 0 0 os o.list.start o.list.first
+  pub ends : o.end + 2 ≡ s
+  pub lasts : o.last ≡ f
   pub end_within : o.end ≤ length xs
   pub last_within : o.last ≤ length ms
-  pub sound : Sound (take o.end xs) (take o.last ms) o.start o.first o.measured
+  pub sound : Sound (take o.end xs) (take o.last ms) o.list.start o.list.first o.list.measured
 
-chain-split : (xs : List ℕ) (ms : List DeferredHeader) (s0 f0 : ℕ) (os : List Open) (o : Open) (s f : ℕ) → Chain xs ms s0 f0 (os ++ o ∷ []) s f → Chain xs ms s0 f0 os o.start o.first × (o.end ≡ s) × (suc o.last ≡ f) × (o.end ≤ length xs) × (o.last ≤ length ms) × Sound (take o.end xs) (take o.last ms) o.start o.first o.measured
+chain-split : (xs : List ℕ) (ms : List DeferredHeader) (s0 f0 : ℕ) (os : List Open) (o : Open) (s f : ℕ) → Chain xs ms s0 f0 (os ++ o ∷ []) s f → Chain xs ms s0 f0 os o.list.start o.list.first × (o.end + 2 ≡ s) × (o.last ≡ f) × (o.end ≤ length xs) × (o.last ≤ length ms) × Sound (take o.end xs) (take o.last ms) o.list.start o.list.first o.list.measured
 chain-split xs ms s0 f0 [] o s f h = ((sym h.0.0, sym h.0.1), h.1.0, h.1.1, h.0.2, h.0.3, h.0.4)
-chain-split xs ms s0 f0 (p ∷ os) o s f h = let q = chain-split xs ms p.end (suc p.last) os o s f h.1 in ((h.0, q.0), q.1, q.2, q.3, q.4, q.5)
+chain-split xs ms s0 f0 (p ∷ os) o s f h = let q = chain-split xs ms (p.end + 2) p.last os o s f h.1 in ((h.0, q.0), q.1, q.2, q.3, q.4, q.5)
 
 pub top : (xs : List ℕ) (ms : List DeferredHeader) (all os : List Open) (o : Open) (s f : ℕ) → all ≡ os ++ o ∷ [] → Chain xs ms 0 0 all s f → Top xs ms os o s f
 top xs ms all os o s f e h =
@@ -43,7 +44,7 @@ top xs ms all os o s f e h =
 chain-below : (xs : List ℕ) (ms : List DeferredHeader) (s0 f0 : ℕ) (os : List Open) (s f : ℕ) → Chain xs ms s0 f0 os s f → (s0 ≤ s) × (f0 ≤ f)
 chain-below xs ms s0 f0 [] s f h = let p = h.0 in let q = h.1 in (omega (arith, p), omega (arith, q))
 chain-below xs ms s0 f0 (o ∷ os) s f h =
-    let q = chain-below xs ms o.end (suc o.last) os s f h.1 in
+    let q = chain-below xs ms (o.end + 2) o.last os s f h.1 in
     let a = q.0 in
     let b = q.1 in
     let s-is = h.0.0 in
@@ -57,27 +58,27 @@ chain-below xs ms s0 f0 (o ∷ os) s f h =
 take-same : {X : Type 0} (n s : ℕ) (b c : List X) → n ≤ s → take s b ≡ take s c → take n b ≡ take n c
 take-same n s b c h e = sym (take-take n s b h) ∙ ap (take n) e ∙ take-take n s c h
 
--- what changes from place s and mark f on changes no list below
+-- what changes from place s and deferred header f on changes no list below
 pub frames-same : (xs ys : List ℕ) (ms ns : List DeferredHeader) (s0 f0 : ℕ) (os : List Open) (s f : ℕ) → Chain xs ms s0 f0 os s f → take s xs ≡ take s ys → take f ms ≡ take f ns → map (frame_in xs ms) os ≡ map (frame_in ys ns) os
 frames-same xs ys ms ns s0 f0 [] s f h e k = refl
 frames-same xs ys ms ns s0 f0 (o ∷ os) s f h e k =
-    let q = chain-below xs ms o.end (suc o.last) os s f h.1 in
+    let q = chain-below xs ms (o.end + 2) o.last os s f h.1 in
     let a = q.0 in
     let b = q.1 in
-    let x : take o.end xs ≡ take o.end ys = take-same o.end s xs ys a e in
-    let y : take o.last ms ≡ take o.last ns = take-same o.last f ms ns (omega (arith, b)) k in
-    rw (x, y, frames-same xs ys ms ns o.end (suc o.last) os s f h.1 e k) refl
+    let x : take o.end xs ≡ take o.end ys = take-same o.end s xs ys (omega (arith, a)) e in
+    let y : take o.last ms ≡ take o.last ns = take-same o.last f ms ns b k in
+    rw (x, y, frames-same xs ys ms ns (o.end + 2) o.last os s f h.1 e k) refl
 
 pub chain-same : (xs ys : List ℕ) (ms ns : List DeferredHeader) (s0 f0 : ℕ) (os : List Open) (s f : ℕ) → Chain xs ms s0 f0 os s f → take s xs ≡ take s ys → take f ms ≡ take f ns → s ≤ length ys → f ≤ length ns → Chain ys ns s0 f0 os s f
 chain-same xs ys ms ns s0 f0 [] s f h e k c d = h
 chain-same xs ys ms ns s0 f0 (o ∷ os) s f h e k c d =
-    let q = chain-below xs ms o.end (suc o.last) os s f h.1 in
+    let q = chain-below xs ms (o.end + 2) o.last os s f h.1 in
     let a = q.0 in
     let b = q.1 in
-    let x : take o.end xs ≡ take o.end ys = take-same o.end s xs ys a e in
-    let y : take o.last ms ≡ take o.last ns = take-same o.last f ms ns (omega (arith, b)) k in
-    let snd : Sound (take o.end ys) (take o.last ns) o.start o.first o.measured = rw (← x, ← y) h.0.4 in
-    ((h.0.0, h.0.1, omega (arith, a, c), omega (arith, b, d), snd), chain-same xs ys ms ns o.end (suc o.last) os s f h.1 e k c d)
+    let x : take o.end xs ≡ take o.end ys = take-same o.end s xs ys (omega (arith, a)) e in
+    let y : take o.last ms ≡ take o.last ns = take-same o.last f ms ns b k in
+    let snd : Sound (take o.end ys) (take o.last ns) o.list.start o.list.first o.list.measured = rw (← x, ← y) h.0.4 in
+    ((h.0.0, h.0.1, omega (arith, a, c), omega (arith, b, d), snd), chain-same xs ys ms ns (o.end + 2) o.last os s f h.1 e k c d)
 
 -- what an encoder of these fields shows
 abbrev pub shown : Codec → List ℕ → List DeferredHeader → ℕ → ℕ → Option (List Tag) → List Open → View
@@ -95,115 +96,178 @@ constructed-written Cer tag c h k = closed_is tag c h
 constructed-written Der tag c h k = definite_is tag true c h k
 
 -- a new value is open
-module _ (r : Codec) (xs : List ℕ) (ms ns : List DeferredHeader) (m : DeferredHeader) (s f n : ℕ) (os : List Open) (o : Open) (h : Sound xs ms s f n) (k : Chain xs ms 0 0 os s f) (e : ns ≡ ms ++ m ∷ []) (start : o.start ≡ s) (first : o.first ≡ f) (end : o.end ≡ length xs) (last : o.last ≡ length ms) (measured : o.measured ≡ n) where
-  begun-marks : take f ms ≡ take f ns
-  begun-marks = rw e (sym (take-append-le f ms (m ∷ []) h.first_within))
+module _ (r : Codec) (xs ys : List ℕ) (ms : List DeferredHeader) (s f n : ℕ) (os : List Open) (o : Open) (h : Sound xs ms s f n) (k : Chain xs ms 0 0 os s f) (e : ys ≡ xs ++ 0 ∷ 0 ∷ []) (start : o.list.start ≡ s) (first : o.list.first ≡ f) (end : o.end ≡ length xs) (last : o.last ≡ length ms) (measured : o.list.measured ≡ n) where
+  begun-front : take s xs ≡ take s ys
+  begun-front = rw e (sym (take-append-le s xs (0 ∷ 0 ∷ []) h.start_within))
 
-  begun-front : take o.last ns ≡ ms
-  begun-front = rw (last, e) (take-append_seam ms (m ∷ []))
+  begun-octets : take o.end ys ≡ xs
+  begun-octets = rw (end, e) (take-append_seam xs (0 ∷ 0 ∷ []))
 
-  begun-octets : take o.end xs ≡ xs
-  begun-octets = rw end (take-length xs)
+  begun-headers : take o.last ms ≡ ms
+  begun-headers = rw last (take-length ms)
 
-  begun-none : drop (length ms + 1) ns ≡ []
-  begun-none = rw e (drop-append-add ms (m ∷ []) 1)
+  begun-len : length ys ≡ length xs + 2
+  begun-len = rw e (length-append xs (0 ∷ 0 ∷ []))
 
-  pub begun : (t t2 : Option (List Tag)) (os2 : List Open) (keeps : Bool) → os2 ≡ os ++ o ∷ [] → tags_of o.tags ≡ t → t2 ≡ cond keeps (Some []) None → shown r xs ns (length xs) (length ms + 1) t2 os2 ≡ opened (shown r xs ms s f t os) keeps
+  begun-none : list_from ys ms (length ys) (length ms) ≡ []
+  begun-none = rw (drop-none ms) (drop-all ys)
+    where
+      drop-none : (ns : List DeferredHeader) → drop (length ns) ns ≡ []
+      drop-none [] = refl
+      drop-none (n ∷ ns) = drop-none ns
+
+  pub begun : (t t2 : Option (List Tag)) (os2 : List Open) (keeps : Bool) → os2 ≡ os ++ o ∷ [] → tags_of o.list.tags ≡ t → t2 ≡ cond keeps (Some []) None → shown r ys ms (length ys) (length ms) t2 os2 ≡ opened (shown r xs ms s f t os) keeps
   begun t t2 os2 keeps q tags fresh_tags =
-      let below : map (frame_in xs ns) os ≡ map (frame_in xs ms) os = sym (frames-same xs xs ms ns 0 0 os s f k refl begun-marks) in
-      rw (q, map-append (frame_in xs ns) os (o ∷ []), below, begun-octets, begun-front, start, first, tags, begun-none, drop-all xs, fresh_tags) refl
+      let below : map (frame_in ys ms) os ≡ map (frame_in xs ms) os = sym (frames-same xs ys ms ms 0 0 os s f k begun-front refl) in
+      rw (q, map-append (frame_in ys ms) os (o ∷ []), below, begun-octets, begun-headers, start, first, tags, begun-none, fresh_tags) refl
 
-  pub begun-sound : Sound xs ns (length xs) (length ms + 1) 0
-  begun-sound =
-      let l : length ns ≡ length ms + 1 = rw e (length-append ms (m ∷ [])) in
-      record { start_within = omega arith; first_within = omega (arith, l); rising = rw begun-none (omega arith); measure = rw (begun-none, drop-all xs) refl }
+  pub begun-sound : Sound ys ms (length ys) (length ms) 0
+  begun-sound = record { start_within = omega arith; first_within = omega arith; rising = rw (drop_all (length ms) ms (omega arith)) (omega arith); measure = rw begun-none refl }
 
-  pub begun-chain : (os2 : List Open) → os2 ≡ os ++ o ∷ [] → Chain xs ns 0 0 os2 (length xs) (length ms + 1)
+  pub begun-chain : (os2 : List Open) → os2 ≡ os ++ o ∷ [] → Chain ys ms 0 0 os2 (length ys) (length ms)
   begun-chain os2 q =
-      let l : length ns ≡ length ms + 1 = rw e (length-append ms (m ∷ [])) in
-      let fw = h.first_within in
-      let c : Chain xs ns 0 0 os s f = chain-same xs xs ms ns 0 0 os s f k refl begun-marks h.start_within (omega (arith, l, fw)) in
-      let snd : Sound (take o.end xs) (take o.last ns) o.start o.first o.measured = rw (begun-octets, begun-front, start, first, measured) h in
-      let c2 : Chain xs ns 0 0 os o.start o.first = rw (start, first) c in
-      let all : Chain xs ns 0 0 (os ++ o ∷ []) o.end (suc o.last) = chain-more xs ns 0 0 os o c2 (omega (arith, end)) (omega (arith, last, l)) snd in
-      rw (q, add-one, ← end, ← last) all
+      let l = begun-len in
+      let sw = h.start_within in
+      let c : Chain ys ms 0 0 os s f = chain-same xs ys ms ms 0 0 os s f k begun-front refl (omega (arith, l, sw)) h.first_within in
+      let snd : Sound (take o.end ys) (take o.last ms) o.list.start o.list.first o.list.measured = rw (begun-octets, begun-headers, start, first, measured) h in
+      let c2 : Chain ys ms 0 0 os o.list.start o.list.first = rw (start, first) c in
+      let all : Chain ys ms 0 0 (os ++ o ∷ []) (o.end + 2) o.last = chain-more ys ms 0 0 os o c2 (omega (arith, end, l)) (omega (arith, last)) snd in
+      let place : length ys ≡ o.end + 2 = omega (arith, end, l) in
+      rw (q, place, ← last) all
 
 -- the last open value is closed
 module _ (r : Codec) (xs : List ℕ) (ms : List DeferredHeader) (os : List Open) (o : Open) (s f : ℕ) (h : Top xs ms os o s f) where
-  start-end : o.start ≤ o.end
+  start-end : o.list.start ≤ o.end
   start-end = let a = h.sound.start_within in let b = length-take-le o.end xs h.end_within in omega (arith, a, b)
 
-  first-last : o.first ≤ o.last
+  first-last : o.list.first ≤ o.last
   first-last = let a = h.sound.first_within in let b = length-take-le o.last ms h.last_within in omega (arith, a, b)
 
-  pub cut-chain : Chain (take o.end xs) (take o.last ms) 0 0 os o.start o.first
-  cut-chain = chain-same xs (take o.end xs) ms (take o.last ms) 0 0 os o.start o.first h.front (sym (take-take o.start o.end xs start-end)) (sym (take-take o.first o.last ms first-last)) h.sound.start_within h.sound.first_within
+  pub cut-chain : Chain (take o.end xs) (take o.last ms) 0 0 os o.list.start o.list.first
+  cut-chain = chain-same xs (take o.end xs) ms (take o.last ms) 0 0 os o.list.start o.list.first h.front (sym (take-take o.list.start o.end xs start-end)) (sym (take-take o.list.first o.last ms first-last)) h.sound.start_within h.sound.first_within
 
   both : (all : List Open) → all ≡ os ++ o ∷ [] → (v : View) → map (frame_in xs ms) all ≡ v.below ++ v.last ∷ [] → (map (frame_in xs ms) os ≡ v.below) × (frame_in xs ms o ≡ v.last)
   both all is v below = same_from_push _ _ _ _ (sym (map-append (frame_in xs ms) os (o ∷ [])) ∙ ap (map (frame_in xs ms)) (sym is) ∙ below)
 
-  module _ (tag : Tag) (n : ℕ) (measured : n ≡ length (list_from xs ms s f)) (ns : List DeferredHeader) (e : ns ≡ take o.last ms ++ (mark_at o.end (head_of r tag n) ∷ (drop (suc o.last) ms ++ closing r (length xs)))) (rising : Rising s (drop f ms) (length xs)) where
-    finish-marks : drop o.first ns ≡ drop o.first (take o.last ms) ++ (mark_at o.end (head_of r tag n) ∷ (drop f ms ++ closing r (length xs)))
-    finish-marks = rw (e, drop-append-le o.first (take o.last ms) _ h.sound.first_within, h.lasts) refl
+  module _ (tag : Tag) (n : ℕ) (sound : Sound xs ms s f n) (ys : List ℕ) (ns : List DeferredHeader) (q : Encloses o.end o.last (header_octets (head_of r tag n)) (back r) xs ms ys ns) where
+    finish-two : length (take 2 (header_octets (head_of r tag n))) ≡ 2
+    finish-two = length-take-le 2 (header_octets (head_of r tag n)) (header_two (head_of r tag n))
 
-    below-rising : Rising o.start (drop o.first (take o.last ms)) o.end
-    below-rising = rw (length-take-le o.end xs h.end_within) at h.sound.rising
+    finish-lower : length (take o.end xs) ≡ o.end
+    finish-lower = length-take-le o.end xs h.end_within
+
+    finish-start : s ≤ length xs
+    finish-start = sound.start_within
+
+    -- behind the room
+    finish-split : ys ≡ (take o.end xs ++ take 2 (header_octets (head_of r tag n))) ++ (drop s xs ++ back r)
+    finish-split = q.octets ∙ (ap (λ i. take o.end xs ++ (take 2 (header_octets (head_of r tag n)) ++ (drop i xs ++ back r))) h.ends ∙ sym (append_assoc (take o.end xs) (take 2 (header_octets (head_of r tag n))) (drop s xs ++ back r)))
+
+    finish-front-len : length (take o.end xs ++ take 2 (header_octets (head_of r tag n))) ≡ s
+    finish-front-len = omega (arith, finish-two, finish-lower, h.ends, length-append (take o.end xs) (take 2 (header_octets (head_of r tag n))))
+
+    finish-len : length ys ≡ length xs + length (back r)
+    finish-len =
+        let l = ap length finish-split in
+        let w = finish-start in
+        omega (arith, l, w, finish-front-len, length-append (take o.end xs ++ take 2 (header_octets (head_of r tag n))) (drop s xs ++ back r), length-append (drop s xs) (back r), length-drop s xs)
+
+    finish-behind : drop s ys ≡ drop s (xs ++ back r)
+    finish-behind = ap (drop s) finish-split ∙ (drop_at (take o.end xs ++ take 2 (header_octets (head_of r tag n))) (drop s xs ++ back r) s finish-front-len ∙ sym (drop-append-le s xs (back r) finish-start))
+
+    finish-room : drop o.end (take s ys) ≡ take 2 (header_octets (head_of r tag n))
+    finish-room =
+        ap (λ z. drop o.end (take s z)) finish-split
+        ∙ (ap (drop o.end) (take_at (take o.end xs ++ take 2 (header_octets (head_of r tag n))) (drop s xs ++ back r) s finish-front-len)
+        ∙ drop_at (take o.end xs) (take 2 (header_octets (head_of r tag n))) o.end finish-lower)
+
+    finish-below : take o.end ys ≡ take o.end xs
+    finish-below = ap (take o.end) q.octets ∙ take_at (take o.end xs) _ o.end finish-lower
+
+    inner-rising : Rising s (drop f ms) (length ys)
+    inner-rising = let l = finish-len in rising-more s (drop f ms) (length xs) (length ys) (omega (arith, l)) sound.rising
+
+    finish-inner : rendered ys s (drop f ms) ≡ list_from xs ms s f ++ back r
+    finish-inner = rendered-same ys (xs ++ back r) s (drop f ms) (length xs) finish-behind sound.rising ∙ rendered-more xs (back r) s (drop f ms) sound.rising
+
+    finish-marks : drop o.list.first ns ≡ drop o.list.first (take o.last ms) ++ (q.deferred ++ drop f ms)
+    finish-marks = rw (q.headers, drop-append-le o.list.first (take o.last ms) _ h.sound.first_within, h.lasts) refl
+
+    below-rising : Rising o.list.start (drop o.list.first (take o.last ms)) o.end
+    below-rising = rw finish-lower at h.sound.rising
+
+    outer-rising : Rising s (q.deferred ++ drop f ms) (length ys)
+    outer-rising = defers-rising s _ q.deferred (drop f ms) (length ys) (rw h.ends at q.defers) inner-rising
+
+    outer-rising-room : Rising o.end (q.deferred ++ drop f ms) (length ys)
+    outer-rising-room = let e = h.ends in rising-lower o.end s (q.deferred ++ drop f ms) (length ys) (omega (arith, e)) outer-rising
+
+    finish-value : rendered ys o.end (q.deferred ++ drop f ms) ≡ header_octets (head_of r tag n) ++ (list_from xs ms s f ++ back r)
+    finish-value =
+        let e = h.ends in
+        rendered-front ys o.end s (q.deferred ++ drop f ms) (omega (arith, e)) outer-rising
+        ∙ (ap₂ (λ x y. x ++ y) finish-room (defers-list s _ q.deferred ys (drop f ms) (rw h.ends at q.defers) inner-rising ∙ ap (λ z. drop 2 (header_octets (head_of r tag n)) ++ z) finish-inner)
+        ∙ (sym (append_assoc (take 2 (header_octets (head_of r tag n))) (drop 2 (header_octets (head_of r tag n))) (list_from xs ms s f ++ back r))
+        ∙ ap (λ z. z ++ (list_from xs ms s f ++ back r)) (take-append-drop 2 (header_octets (head_of r tag n)))))
 
     finish-contents : constructed r tag (list_from xs ms s f) ≡ header_octets (head_of r tag n) ++ (list_from xs ms s f ++ back r)
-    finish-contents = constructed-is r tag (list_from xs ms s f) ∙ ap (λ k. header_octets (head_of r tag k) ++ (list_from xs ms s f ++ back r)) (sym measured)
+    finish-contents = constructed-is r tag (list_from xs ms s f) ∙ ap (λ k. header_octets (head_of r tag k) ++ (list_from xs ms s f ++ back r)) (sym sound.measure)
 
-    finish-list : list_from xs ns o.start o.first ≡ list_from (take o.end xs) (take o.last ms) o.start o.first ++ constructed r tag (list_from xs ms s f)
+    finish-list : list_from ys ns o.list.start o.list.first ≡ list_from (take o.end xs) (take o.last ms) o.list.start o.list.first ++ constructed r tag (list_from xs ms s f)
     finish-list =
-        let c : rendered xs o.end (drop f ms ++ closing r (length xs)) ≡ list_from xs ms s f ++ back r = ap (λ p. rendered xs p (drop f ms ++ closing r (length xs))) h.ends ∙ rendered-closed r xs s (drop f ms) rising in
-        ap (rendered xs o.start) finish-marks
-        ∙ rendered-append xs o.start (drop o.first (take o.last ms)) (mark_at o.end (head_of r tag n)) (drop f ms ++ closing r (length xs)) below-rising
-        ∙ ap (λ y. list_from (take o.end xs) (take o.last ms) o.start o.first ++ (header_octets (head_of r tag n) ++ y)) c
-        ∙ ap (λ y. list_from (take o.end xs) (take o.last ms) o.start o.first ++ y) (sym finish-contents)
+        ap (rendered ys o.list.start) finish-marks
+        ∙ (rendered-join ys o.list.start (drop o.list.first (take o.last ms)) o.end (q.deferred ++ drop f ms) below-rising outer-rising-room
+        ∙ ap₂ (λ x y. rendered x o.list.start (drop o.list.first (take o.last ms)) ++ y) finish-below (finish-value ∙ sym finish-contents))
 
-    finish-front : take o.first ms ≡ take o.first ns
-    finish-front = rw (e, take-append-le o.first (take o.last ms) _ h.sound.first_within) (sym (take-take o.first o.last ms first-last))
+    finish-front : take o.list.first ms ≡ take o.list.first ns
+    finish-front = rw (q.headers, take-append-le o.list.first (take o.last ms) _ h.sound.first_within) (sym (take-take o.list.first o.last ms first-last))
 
-    finish-within : o.first ≤ length ns
+    finish-octets-front : take o.list.start xs ≡ take o.list.start ys
+    finish-octets-front = sym (take-same o.list.start o.end ys xs start-end finish-below)
+
+    finish-within : o.list.first ≤ length ns
     finish-within =
         let b = first-last in
-        rw e (omega (arith, b, length-take-le o.last ms h.last_within, length-append (take o.last ms) (mark_at o.end (head_of r tag n) ∷ (drop (suc o.last) ms ++ closing r (length xs)))))
+        rw q.headers (omega (arith, b, length-take-le o.last ms h.last_within, length-append (take o.last ms) (q.deferred ++ drop o.last ms)))
 
-    pub finish-sound : (total : ℕ) → total ≡ o.measured + (length (header_octets (head_of r tag n)) + length (back r) + n) → Sound xs ns o.start o.first total
+    finish-start-within : o.list.start ≤ length ys
+    finish-start-within = let a = start-end in let w = h.end_within in let l = finish-len in omega (arith, a, w, l)
+
+    pub finish-sound : (total : ℕ) → total ≡ o.list.measured + (length (header_octets (head_of r tag n)) + length (back r) + n) → Sound ys ns o.list.start o.list.first total
     finish-sound total g =
-        let a = start-end in
-        let w = h.end_within in
         let me = h.sound.measure in
+        let m = sound.measure in
         let p = ap length finish-contents in
         record {
-          start_within = omega (arith, a, w);
+          start_within = finish-start-within;
           first_within = finish-within;
-          rising = rw finish-marks (rising-append o.start (drop o.first (take o.last ms)) (mark_at o.end (head_of r tag n)) (drop f ms ++ closing r (length xs)) (length xs) below-rising (rising-closed r (length xs) o.end (drop f ms) (rw h.ends rising)));
-          measure = rw finish-list (omega (arith, g, me, p, measured, length-append (list_from (take o.end xs) (take o.last ms) o.start o.first) (constructed r tag (list_from xs ms s f)), length-append (header_octets (head_of r tag n)) (list_from xs ms s f ++ back r), length-append (list_from xs ms s f) (back r)));
+          rising = rw finish-marks (rising-join o.list.start (drop o.list.first (take o.last ms)) o.end (q.deferred ++ drop f ms) (length ys) below-rising outer-rising-room);
+          measure = rw finish-list (omega (arith, g, me, p, m, length-append (list_from (take o.end xs) (take o.last ms) o.list.start o.list.first) (constructed r tag (list_from xs ms s f)), length-append (header_octets (head_of r tag n)) (list_from xs ms s f ++ back r), length-append (list_from xs ms s f) (back r)));
         }
 
-    pub finish-chain : Chain xs ns 0 0 os o.start o.first
-    finish-chain = chain-same xs xs ms ns 0 0 os o.start o.first h.front refl finish-front (let a = start-end in let w = h.end_within in omega (arith, a, w)) finish-within
+    pub finish-chain : Chain ys ns 0 0 os o.list.start o.list.first
+    finish-chain = chain-same xs ys ms ns 0 0 os o.list.start o.list.first h.front finish-octets-front finish-front finish-start-within finish-within
 
     module _ (all : List Open) (is : all ≡ os ++ o ∷ []) (v : View) (rule : r ≡ v.rule) (below : map (frame_in xs ms) all ≡ v.below ++ v.last ∷ []) where
-      pub finish-view : (t2 : Option (List Tag)) → t2 ≡ noted (tags_of o.tags) (tag ∷ []) → shown r xs ns o.start o.first t2 os ≡ appended v (constructed v.rule tag (list_from xs ms s f)) (tag ∷ [])
+      pub finish-view : (t2 : Option (List Tag)) → t2 ≡ noted (tags_of o.list.tags) (tag ∷ []) → shown r ys ns o.list.start o.list.first t2 os ≡ appended v (constructed v.rule tag (list_from xs ms s f)) (tag ∷ [])
       finish-view t2 g =
-          let lower : map (frame_in xs ns) os ≡ v.below = sym (frames-same xs xs ms ns 0 0 os o.start o.first h.front refl finish-front) ∙ (both all is v below).0 in
-          let octets : list_from xs ns o.start o.first ≡ v.last.octets ++ constructed r tag (list_from xs ms s f) = finish-list ∙ ap (λ z. z.octets ++ constructed r tag (list_from xs ms s f)) (both all is v below).1 in
-          let tags : tags_of o.tags ≡ v.last.tags = ap (λ z. z.tags) (both all is v below).1 in
+          let lower : map (frame_in ys ns) os ≡ v.below = sym (frames-same xs ys ms ns 0 0 os o.list.start o.list.first h.front finish-octets-front finish-front) ∙ (both all is v below).0 in
+          let octets : list_from ys ns o.list.start o.list.first ≡ v.last.octets ++ constructed r tag (list_from xs ms s f) = finish-list ∙ ap (λ z. z.octets ++ constructed r tag (list_from xs ms s f)) (both all is v below).1 in
+          let tags : tags_of o.list.tags ≡ v.last.tags = ap (λ z. z.tags) (both all is v below).1 in
           rw (lower, octets, g, tags, rule) refl
 
-      pub finish-appends : (t2 : Option (List Tag)) → t2 ≡ noted (tags_of o.tags) (tag ∷ []) → tag.value < 0x1_0000_0000 → n < 0x1_0000_0000_0000_0000
-          → Appends (ConstructedEncoding v.rule tag (list_from xs ms s f)) tag v (shown r xs ns o.start o.first t2 os)
+      pub finish-appends : (t2 : Option (List Tag)) → t2 ≡ noted (tags_of o.list.tags) (tag ∷ []) → tag.value < 0x1_0000_0000 → n < 0x1_0000_0000_0000_0000
+          → Appends (ConstructedEncoding v.rule tag (list_from xs ms s f)) tag v (shown r ys ns o.list.start o.list.first t2 os)
       finish-appends t2 g low few = record {
         octets = constructed v.rule tag (list_from xs ms s f);
-        written = constructed-written v.rule tag (list_from xs ms s f) low (omega (arith, few, measured));
+        written = constructed-written v.rule tag (list_from xs ms s f) low (let m = sound.measure in omega (arith, few, m));
         appended = finish-view t2 g;
       }
 
   module _ (all : List Open) (is : all ≡ os ++ o ∷ []) (v : View) (rule : r ≡ v.rule) (below : map (frame_in xs ms) all ≡ v.below ++ v.last ∷ []) where
-    pub cut-view : shown r (take o.end xs) (take o.last ms) o.start o.first (tags_of o.tags) os ≡ v
+    pub cut-view : shown r (take o.end xs) (take o.last ms) o.list.start o.list.first (tags_of o.list.tags) os ≡ v
     cut-view =
-        let lower : map (frame_in (take o.end xs) (take o.last ms)) os ≡ v.below = sym (frames-same xs (take o.end xs) ms (take o.last ms) 0 0 os o.start o.first h.front (sym (take-take o.start o.end xs start-end)) (sym (take-take o.first o.last ms first-last))) ∙ (both all is v below).0 in
+        let lower : map (frame_in (take o.end xs) (take o.last ms)) os ≡ v.below = sym (frames-same xs (take o.end xs) ms (take o.last ms) 0 0 os o.list.start o.list.first h.front (sym (take-take o.list.start o.end xs start-end)) (sym (take-take o.list.first o.last ms first-last))) ∙ (both all is v below).0 in
         rw (lower, (both all is v below).1, rule) refl
 
 -- octets behind all

@@ -4,11 +4,7 @@ use Rattle.std.proofs.lemmas.List.{take-append-drop, take-append-le, take-take, 
 use Rattle.std.proofs.Math.Seq.{take-suc, drop-cons}
 use Rattle.rasn_enc.specs.Buffer.DeferredHeaders.{deferred_octets, rendered, Rising, header_octets_count, front_run}
 use Rattle.rasn_enc.specs.declared.ber.enc.writer.deferred_headers.DeferredHeader.{DeferredHeader}
-use Rattle.rasn_enc.proofs.Buffer.Rendered.{rising-below, rising-front, rising-back, rendered-front}
-
-pub rising-lower : (a b : ℕ) (ms : List DeferredHeader) (e : ℕ) → a ≤ b → Rising b ms e → Rising a ms e
-rising-lower a b [] e h k = omega (arith, h, k)
-rising-lower a b (m ∷ ms) e h k = let q = k.0 in (omega (arith, h, q), k.1)
+use Rattle.rasn_enc.proofs.Buffer.Rendered.{rising-lower, rising-below, rising-front, rising-back, rendered-front}
 
 -- all octets, and those of a list that begins among them
 pub rendered-behind : (xs : List ℕ) (start : ℕ) (ms : List DeferredHeader) → Rising start ms (length xs) → rendered xs 0 ms ≡ take start xs ++ rendered xs start ms

@@ -1,19 +1,19 @@
 -- A place in rendered octets, and what stands from it on.
 use Rattle.std.specs.Prelude.{ℕ, ◌≡◌, ◌≤◌, List, [], ◌∷◌, ◌++◌, length, drop}
-use Rattle.rasn_enc.specs.Buffer.DeferredHeaders.{header_octets, rendered, Rising}
+use Rattle.rasn_enc.specs.Buffer.DeferredHeaders.{rest_octets, rendered, Rising}
 use Rattle.rasn_enc.specs.declared.ber.enc.writer.deferred_headers.DeferredHeader.{DeferredHeader}
 use Rattle.rasn_enc.specs.declared.ber.enc.writer.cursors.Cursor.{Cursor}
 
--- what is left of the head, and then the octets from `at` with the marks from `mark` on
+-- what is left of a deferred header, and then the octets from `at` with the deferred headers from number `mark` on
 abbrev pub ahead : List ℕ → List DeferredHeader → Cursor → List ℕ
-ahead xs ms c = drop c.inside (header_octets c.head) ++ rendered xs c.at (drop c.mark ms)
+ahead xs ms c = drop c.inside (rest_octets c.rest) ++ rendered xs c.at (drop c.mark ms)
 
 pub record Placed (xs : List ℕ) (ms : List DeferredHeader) (c : Cursor) : Type 0 where
-  pub inside : c.inside ≤ length (header_octets c.head)
+  pub inside : c.inside ≤ length (rest_octets c.rest)
   pub below : c.mark ≤ length ms
   pub rising : Rising c.at (drop c.mark ms) (length xs)
 
--- the next mark doesn't stand here
+-- the next deferred header doesn't stand here
 abbrev pub Away : ℕ → List DeferredHeader → Type 0
 Away at [] = Unit {0}
 Away at (m ∷ ms) = ¬ (at ≡ m.at)

@@ -1,5 +1,5 @@
 -- What the view shows of an open value.
-use Rattle.std.specs.Prelude.{ℕ, suc, ◌≡◌, ◌≤◌, ◌+◌, List, [], ◌∷◌, ◌++◌, length, take, Option, option_map}
+use Rattle.std.specs.Prelude.{ℕ, ◌≡◌, ◌≤◌, ◌+◌, List, [], ◌∷◌, ◌++◌, length, take, Option, option_map}
 pub use Rattle.rasn_enc.specs.View.{kept_of}
 use Rattle.rasn_enc.specs.View.{OpenList}
 use Rattle.rasn_enc.specs.Buffer.Lists.{tags_of}
@@ -11,12 +11,12 @@ use Rattle.rasn_enc.specs.declared.ber.enc.writer.Open.{Open}
 
 -- the list that an open value interrupted
 abbrev pub frame_in : List ℕ → List DeferredHeader → Open → OpenList
-frame_in xs ms o = record { octets = list_from (take o.end xs) (take o.last ms) o.start o.first; tags = tags_of o.tags }
+frame_in xs ms o = record { octets = list_from (take o.end xs) (take o.last ms) o.list.start o.list.first; tags = tags_of o.list.tags }
 
--- the interrupted lists, one behind the other, with one unfinished mark between; from the first list to the last one
+-- the interrupted lists, one behind the other, with room for two octets between; from the first list to the last one
 abbrev pub Chain : List ℕ → List DeferredHeader → ℕ → ℕ → List Open → ℕ → ℕ → Type 0
 Chain xs ms s0 f0 [] s f = (s0 ≡ s) × (f0 ≡ f)
-Chain xs ms s0 f0 (o ∷ os) s f = ((o.start ≡ s0) × (o.first ≡ f0) × (o.end ≤ length xs) × (o.last ≤ length ms) × Sound (take o.end xs) (take o.last ms) o.start o.first o.measured) × Chain xs ms o.end (suc o.last) os s f
+Chain xs ms s0 f0 (o ∷ os) s f = ((o.list.start ≡ s0) × (o.list.first ≡ f0) × (o.end ≤ length xs) × (o.last ≤ length ms) × Sound (take o.end xs) (take o.last ms) o.list.start o.list.first o.list.measured) × Chain xs ms (o.end + 2) o.last os s f
 
 -- tags behind those that are kept
 abbrev pub noted : Option (List Tag) → List Tag → Option (List Tag)

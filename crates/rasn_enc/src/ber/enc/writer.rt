@@ -1,7 +1,8 @@
 //! Where values are written: the output, and a list for each value that is still open.
 //!
-//! Primitive values are gathered whole, one behind the other, in one vector. Headers and end-of-contents octets of values that hold others
-//! aren't in it: marks tell what stands between the gathered octets. They are put in once, from the back, when the output is asked for.
+//! Values are gathered one behind the other in one vector. A value that holds others leaves room in front of its contents for the two octets
+//! that its header has at least. Where it has more, a deferred header tells what comes still: these octets are put in once, from the back,
+//! when the output is asked for.
 ghost use Rattle.std.specs.Prelude.{ℕ, List, ◌≡◌, ◌<◌, ◌≤◌, ◌-◌, [], ◌⊎◌, length, MatchBool, take, drop, IfOk, IfErr, OnOk, OnErr, false};
 ghost use Rattle.std.specs.Fn.{FnOnceTakesAtMut};
 ghost use Rattle.rasn_types.specs.Truth.{IsWhether};
@@ -19,7 +20,7 @@ ghost use Rattle.rasn_enc.specs.Buffer.Filled.{OnlyAppendsOctets, MayFailToFill,
 use crate::ber::enc::out_of_memory;
 use crate::ber::enc::writer::cursors::{place, rendered_before};
 use crate::ber::enc::writer::cutting::cut;
-use crate::ber::enc::writer::deferred_headers::{DeferredHeader, HeaderForm};
+use crate::ber::enc::writer::deferred_headers::{DeferredHeader, ROOM};
 use crate::ber::enc::writer::filled::FillError;
 use crate::ber::enc::writer::gathering::{gather, gather_filled, surround};
 use crate::ber::enc::writer::kept_tags::{cut_tags, tags_out_of_order};
@@ -36,6 +37,7 @@ pub(super) mod cutting;
 pub(super) mod deferred_headers;
 pub(super) mod filled;
 pub(super) mod gathering;
+pub(super) mod header_rest;
 pub(super) mod headers;
 pub(super) mod kept_tags;
 pub(super) mod rendering;
@@ -51,16 +53,26 @@ pub struct ListEnd {
     tags: usize,
 }
 
-/// The list that an open value interrupted: gathered octets from `start` to `end`, marks from number `first` to `last`, where the
-/// value's own unfinished mark stands.
+/// A list of values.
 #[derive(Drop)]
-struct Open {
-    start: usize,
-    first: usize,
-    end: usize,
-    last: usize,
-    measured: usize,
-    tags: Option<Vec<Tag>>,
+pub struct ValueList {
+    /// Where it begins in the gathered octets.
+    pub start: usize,
+    /// The number of its first deferred header.
+    pub first: usize,
+    /// How many octets it has once it is rendered.
+    pub measured: usize,
+    /// The tags of its values, where they are kept.
+    pub tags: Option<Vec<Tag>>,
+}
+
+/// An open value: the list that it interrupted, which has the gathered octets up to `end`, where the value's room begins, and the deferred
+/// headers up to number `last`.
+#[derive(Drop)]
+pub struct Open {
+    pub list: ValueList,
+    pub end: usize,
+    pub last: usize,
 }
 
 /// Holds what is written. The contracts of its calls speak of views alone, so that another way to hold it is another body of these.
@@ -70,14 +82,7 @@ pub struct Writer {
     rule: Codec,
     gathered: Vec<u8>,
     marks: Vec<DeferredHeader>,
-    /// Where the last list begins in the gathered octets.
-    start: usize,
-    /// The number of the first mark of the last list.
-    first: usize,
-    /// How many octets the last list has once it is rendered.
-    measured: usize,
-    /// The tags of the values in the last list, where they are kept.
-    tags: Option<Vec<Tag>>,
+    list: ValueList,
     interrupted: Vec<Open>,
 }
 
@@ -91,9 +96,9 @@ impl Model for Writer {
     ghost use Rattle.rasn_enc.specs.Buffer.OpenValues.{frame_in, Chain};
     ghost use Rattle.rasn_enc.specs.Buffer.Cuts.{list_from, Sound};
 
-    ghost view = { λ e. record { rule = e.rule; below = map (frame_in e.gathered.items e.marks.items) e.interrupted.items; last = record { octets = list_from e.gathered.items e.marks.items e.start e.first; tags = tags_of e.tags } } };
+    ghost view = { λ e. record { rule = e.rule; below = map (frame_in e.gathered.items e.marks.items) e.interrupted.items; last = record { octets = list_from e.gathered.items e.marks.items e.list.start e.list.first; tags = tags_of e.list.tags } } };
 
-    ghost invariant = { λ e. Sound e.gathered.items e.marks.items e.start e.first e.measured × Chain e.gathered.items e.marks.items 0 0 e.interrupted.items e.start e.first };
+    ghost invariant = { λ e. Sound e.gathered.items e.marks.items e.list.start e.list.first e.list.measured × Chain e.gathered.items e.marks.items 0 0 e.interrupted.items e.list.start e.list.first };
 }
 
 impl Writer {
@@ -122,10 +127,12 @@ impl Writer {
             rule,
             gathered,
             marks: Vec::new(alloc),
-            start: 0,
-            first: 0,
-            measured: 0,
-            tags,
+            list: ValueList {
+                start: 0,
+                first: 0,
+                measured: 0,
+                tags,
+            },
             interrupted: Vec::new(alloc),
         })
     }
@@ -152,12 +159,15 @@ impl Writer {
             rule,
             gathered,
             marks,
+            list,
+            interrupted: _,
+        } = self;
+        let ValueList {
             start,
             first,
             measured,
             tags: _,
-            interrupted: _,
-        } = self;
+        } = list;
         match rendered_from(gathered, &marks[first..], start, measured) {
             Ok(octets) => Ok(octets),
             Err(_) => Err(out_of_memory(rule)),
@@ -170,51 +180,28 @@ impl Writer {
         ensures err { OnErr result (self.new ≡ self.old) }
         ensures memory { IfErr result (IsAllocError self.old.rule) }
     {
+        let room = self.gathered.reserve(ROOM);
+        if room.is_err() || self.interrupted.reserve(1).is_err() {
+            return Err(out_of_memory(self.rule));
+        }
         let end = self.gathered.len();
         let last = self.marks.len();
-        let rule = self.rule;
         let tags = if keeps_tags {
             Some(Vec::new(self.alloc))
         } else {
             None
         };
-        let mark = DeferredHeader {
-            at: end,
-            head: HeaderForm::Unfinished,
+        self.gathered.push_reserved(0);
+        self.gathered.push_reserved(0);
+        let inner = ValueList {
+            start: self.gathered.len(),
+            first: last,
+            measured: 0,
+            tags,
         };
-        if self.marks.push(mark).is_err() {
-            return Err(out_of_memory(rule));
-        }
-        let outer = mem::replace(&mut self.tags, tags);
-        let list = Open {
-            start: self.start,
-            first: self.first,
-            end,
-            last,
-            measured: self.measured,
-            tags: outer,
-        };
-        match self.interrupted.push(list) {
-            Ok(()) => {
-                self.start = end;
-                self.first = last + 1;
-                self.measured = 0;
-                Ok(())
-            }
-            Err(back) => {
-                let Open {
-                    start: _,
-                    first: _,
-                    end: _,
-                    last: _,
-                    measured: _,
-                    tags,
-                } = back.value;
-                self.tags = tags;
-                self.marks.truncate(last);
-                Err(out_of_memory(rule))
-            }
-        }
+        let list = mem::replace(&mut self.list, inner);
+        self.interrupted.push_reserved(Open { list, end, last });
+        Ok(())
     }
 
     /// Drops the value that was opened last, with its contents.
@@ -222,20 +209,10 @@ impl Writer {
         requires { 0 < length self.old.below }
         ensures { (v : View) → IsBelow v self.old → self.new ≡ v }
     {
-        let Open {
-            start,
-            first,
-            end,
-            last,
-            measured,
-            tags,
-        } = self.interrupted.pop().unwrap();
+        let Open { list, end, last } = self.interrupted.pop().unwrap();
         self.gathered.truncate(end);
         self.marks.truncate(last);
-        self.start = start;
-        self.first = first;
-        self.measured = measured;
-        self.tags = tags;
+        self.list = list;
     }
 
     /// Closes the value that was opened last: it stands behind the list below.
@@ -246,38 +223,23 @@ impl Writer {
         ensures memory { IfErr result (IsAllocError self.old.rule) }
     {
         let rule = self.rule;
-        let inner = self.measured;
-        let count = self.gathered.len();
-        let Open {
-            start,
-            first,
-            end,
-            last,
-            measured,
-            tags,
-        } = self.interrupted.pop().unwrap();
-        self.start = start;
-        self.first = first;
-        self.tags = tags;
-        match surround(
+        let count = self.list.measured;
+        let mut open = self.interrupted.pop().unwrap();
+        let closed = surround(
+            &mut self.gathered,
             &mut self.marks,
-            &mut self.tags,
+            &mut open,
             rule,
             tag,
-            end,
-            last,
             count,
-            measured,
-            inner,
-        ) {
-            Ok(total) => {
-                self.measured = total;
-                Ok(())
-            }
+        );
+        let Open { list, end, last } = open;
+        self.list = list;
+        match closed {
+            Ok(()) => Ok(()),
             Err(_) => {
                 self.gathered.truncate(end);
                 self.marks.truncate(last);
-                self.measured = measured;
                 Err(out_of_memory(rule))
             }
         }
@@ -291,13 +253,13 @@ impl Writer {
     {
         match gather(
             &mut self.gathered,
-            &mut self.tags,
-            self.measured,
+            &mut self.list.tags,
+            self.list.measured,
             tag,
             contents,
         ) {
             Ok(total) => {
-                self.measured = total;
+                self.list.measured = total;
                 Ok(())
             }
             Err(_) => Err(out_of_memory(self.rule)),
@@ -318,13 +280,13 @@ impl Writer {
     {
         match gather_filled(
             &mut self.gathered,
-            &mut self.tags,
-            self.measured,
+            &mut self.list.tags,
+            self.list.measured,
             tag,
             contents,
         ) {
             Ok(total) => {
-                self.measured = total;
+                self.list.measured = total;
                 Ok(())
             }
             Err(error) => Err(error),
@@ -336,8 +298,8 @@ impl Writer {
         ensures { IsMarked self.now.last result }
     {
         ListEnd {
-            octets: self.measured,
-            tags: self.tags.as_ref().map_or(0, |tags| tags.len()),
+            octets: self.list.measured,
+            tags: self.list.tags.as_ref().map_or(0, |tags| tags.len()),
         }
     }
 
@@ -345,26 +307,26 @@ impl Writer {
     pub fn cut_back(&mut self, end: ListEnd)
         ensures { (v : View) (octets : List ℕ) (tags : List Tag) → IsMarked v.last end → self.old ≡ appended v octets tags → self.new ≡ v }
     {
-        if self.measured < end.octets {
+        if self.list.measured < end.octets {
             return;
         }
         cut(
             &mut self.gathered,
             &mut self.marks,
-            self.start,
-            self.first,
-            self.measured,
+            self.list.start,
+            self.list.first,
+            self.list.measured,
             end.octets,
         );
-        self.measured = end.octets;
-        cut_tags(&mut self.tags, end.tags);
+        self.list.measured = end.octets;
+        cut_tags(&mut self.list.tags, end.tags);
     }
 
     /// How many octets the last list has.
     pub fn last_len(&self) -> usize
         ensures { result ≡ length self.now.last.octets }
     {
-        self.measured
+        self.list.measured
     }
 
     /// Whether the octets of the last list from `middle` on are less than those from `from` to it (X.690 11.6).
@@ -381,9 +343,21 @@ impl Writer {
         requires within { middle ≤ length self.now.last.octets }
         ensures { result ≡ octets_less (drop middle self.now.last.octets) (take (middle - from) (drop from self.now.last.octets)) }
     {
-        let marks = &self.marks[self.first..];
-        let left = place(&self.gathered, marks, self.start, self.measured, middle);
-        let right = place(&self.gathered, marks, self.start, self.measured, from);
+        let marks = &self.marks[self.list.first..];
+        let left = place(
+            &self.gathered,
+            marks,
+            self.list.start,
+            self.list.measured,
+            middle,
+        );
+        let right = place(
+            &self.gathered,
+            marks,
+            self.list.start,
+            self.list.measured,
+            from,
+        );
         rendered_before(&self.gathered, marks, left, right, middle - from)
     }
 
@@ -391,7 +365,7 @@ impl Writer {
     pub fn kept_tags_out_of_order(&self) -> bool
         ensures { MatchBool result (AreAscending IsTagBelow (kept_of self.now.last.tags) → ⊥) (AreAscending IsTagBelow (kept_of self.now.last.tags)) }
     {
-        match &self.tags {
+        match &self.list.tags {
             Some(tags) => tags_out_of_order(tags),
             None => false,
         }

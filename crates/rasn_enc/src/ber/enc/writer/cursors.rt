@@ -1,17 +1,17 @@
 //! Places in rendered octets that are not written out.
 ghost use Rattle.std.specs.Prelude.{◌≡◌, ◌≤◌, ◌+◌, ◌-◌, ◌++◌, ◌∷◌, [], length, take, drop, suc, MatchOption};
-ghost use Rattle.rasn_enc.specs.Buffer.DeferredHeaders.{rendered, Rising, mark_at};
+ghost use Rattle.rasn_enc.specs.Buffer.DeferredHeaders.{rendered, Rising};
 ghost use Rattle.rasn_enc.specs.Order.{octets_less};
 ghost use Rattle.rasn_enc.specs.Buffer.Cursors.{ahead, Placed, Away};
 
-use crate::ber::enc::writer::deferred_headers::{
-    DeferredHeader, HeaderForm, header_len, header_octet,
-};
+use crate::ber::enc::writer::deferred_headers::DeferredHeader;
+use crate::ber::enc::writer::header_rest::HeaderRest;
 
-/// A place in rendered octets: what is left of a head, then the gathered octets from `at` on with the marks from `mark` on.
+/// A place in rendered octets: what is left of a deferred header, then the gathered octets from `at` on with the deferred headers from number
+/// `mark` on.
 #[derive(Clone, Copy, Drop)]
 pub struct Cursor {
-    pub head: HeaderForm,
+    pub rest: HeaderRest,
     pub inside: usize,
     pub at: usize,
     pub mark: usize,
@@ -39,16 +39,16 @@ pub fn place(
         let run = at - mark.at;
         if back <= run {
             return Cursor {
-                head: HeaderForm::Unfinished,
+                rest: HeaderRest::new(),
                 inside: 0,
                 at: at - back,
                 mark: k,
             };
         }
-        let own = header_len(mark.head);
+        let own = mark.rest.len();
         if back - run <= own {
             return Cursor {
-                head: mark.head,
+                rest: mark.rest,
                 inside: own - (back - run),
                 at: mark.at,
                 mark: k,
@@ -59,22 +59,22 @@ pub fn place(
         k -= 1;
     }
     Cursor {
-        head: HeaderForm::Unfinished,
+        rest: HeaderRest::new(),
         inside: 0,
         at: at - back,
         mark: 0,
     }
 }
 
-/// Gives the mark that stands at a place, if one does.
-fn header_here(marks: &[DeferredHeader], k: usize, at: usize) -> Option<HeaderForm>
+/// Gives the octets of the deferred header that stands at a place, if one does.
+fn header_here(marks: &[DeferredHeader], k: usize, at: usize) -> Option<HeaderRest>
     requires { k ≤ length marks.now }
-    ensures { MatchOption result (Away at (drop k marks.now)) (λ h. drop k marks.now ≡ mark_at at h ∷ drop (suc k) marks.now) }
+    ensures { MatchOption result (Away at (drop k marks.now)) (λ r. drop k marks.now ≡ record { at = at; rest = r } ∷ drop (suc k) marks.now) }
 {
     if k < marks.len() {
         let mark = marks[k];
         if mark.at == at {
-            return Some(mark.head);
+            return Some(mark.rest);
         }
     }
     None
@@ -87,10 +87,11 @@ fn next(gathered: &[u8], marks: &[DeferredHeader], cursor: Cursor) -> Option<(u8
 {
     let mut here = cursor;
     loop {
-        if here.inside < header_len(here.head) {
-            let octet = header_octet(here.head, here.inside);
+        let rest = here.rest.as_slice();
+        if here.inside < rest.len() {
+            let octet = rest[here.inside];
             let more = Cursor {
-                head: here.head,
+                rest: here.rest,
                 inside: here.inside + 1,
                 at: here.at,
                 mark: here.mark,
@@ -98,9 +99,9 @@ fn next(gathered: &[u8], marks: &[DeferredHeader], cursor: Cursor) -> Option<(u8
             return Some((octet, more));
         }
         match header_here(marks, here.mark, here.at) {
-            Some(head) => {
+            Some(rest) => {
                 here = Cursor {
-                    head,
+                    rest,
                     inside: 0,
                     at: here.at,
                     mark: here.mark + 1,
@@ -110,7 +111,7 @@ fn next(gathered: &[u8], marks: &[DeferredHeader], cursor: Cursor) -> Option<(u8
                 if here.at < gathered.len() {
                     let octet = gathered[here.at];
                     let more = Cursor {
-                        head: HeaderForm::Unfinished,
+                        rest: HeaderRest::new(),
                         inside: 0,
                         at: here.at + 1,
                         mark: here.mark,

@@ -1,11 +1,10 @@
 //! Octets taken off the back of a list.
-ghost use Rattle.std.specs.Prelude.{◌≡◌, ◌<◌, ◌≤◌, length, take};
-ghost use Rattle.rasn_enc.specs.Buffer.DeferredHeaders.{header_octets};
+ghost use Rattle.std.specs.Prelude.{◌≤◌};
 ghost use Rattle.rasn_enc.specs.Buffer.Cuts.{Sound, Cut};
 
-use crate::ber::enc::writer::deferred_headers::{DeferredHeader, HeaderForm, header_len};
+use crate::ber::enc::writer::deferred_headers::DeferredHeader;
 
-/// Takes octets off the back of a list that begins at `start`, with mark number `first`, until `count` are left of `measured`.
+/// Takes octets off the back of a list that begins at `start`, with deferred header number `first`, until `count` are left of `measured`.
 pub fn cut(
     gathered: &mut Vec<u8>,
     marks: &mut Vec<DeferredHeader>,
@@ -29,31 +28,15 @@ pub fn cut(
         }
         gathered.truncate(mark.at);
         left -= run;
-        let own = header_len(mark.head);
+        let own = mark.rest.len();
         if left < own {
-            let head = first_of(mark.head, own - left);
-            marks[last] = DeferredHeader { at: mark.at, head };
+            let mut rest = mark.rest;
+            rest.truncate(own - left);
+            marks[last] = DeferredHeader { at: mark.at, rest };
             return;
         }
         marks.truncate(last);
         left -= own;
     }
     gathered.truncate(gathered.len() - left);
-}
-
-/// The first octets of a mark: some, and not all of them.
-fn first_of(head: HeaderForm, count: usize) -> HeaderForm
-    requires some { 0 < count }
-    requires few { count < length (header_octets head) }
-    requires byte { count < 256 }
-    ensures { header_octets result ≡ take count (header_octets head) }
-{
-    match head {
-        HeaderForm::Definite(tag, length) => HeaderForm::Part(count as u8, tag, length),
-        HeaderForm::Part(_, tag, length) => HeaderForm::Part(count as u8, tag, length),
-        HeaderForm::Indefinite(tag) => HeaderForm::PartIndefinite(count as u8, tag),
-        HeaderForm::PartIndefinite(_, tag) => HeaderForm::PartIndefinite(count as u8, tag),
-        HeaderForm::Closing => HeaderForm::Zero,
-        HeaderForm::Unfinished | HeaderForm::Zero => HeaderForm::Unfinished,
-    }
 }

@@ -1,8 +1,9 @@
-//! Gathered octets, and marks that say which octets are put in between.
-ghost use Rattle.std.specs.Prelude.{ℕ, List, ◌≡◌, ◌<◌, ◌≤◌, ◌+◌, ◌-◌, ◌++◌, ◌∷◌, [], true, get_or, length, take, drop, vec_len, vec_capacity, OnOk, OnErr, suc};
+//! Headers of values that hold others, and what of them comes later than the octets behind them.
+ghost use Rattle.std.specs.Prelude.{ℕ, List, ◌≡◌, ◌<◌, ◌≤◌, ◌+◌, ◌++◌, ◌∷◌, [], true, get_or, length, take, drop, vec_len, OnOk, OnErr};
 ghost use Rattle.rasn_enc.specs.Headers.{id_octets, length_octets};
-ghost use Rattle.rasn_enc.specs.Buffer.DeferredHeaders.{header_octets, head_of, mark_at, closing};
+ghost use Rattle.rasn_enc.specs.Buffer.DeferredHeaders.{header_octets, head_of, rest_octets, Defers, Encloses, back};
 
+use crate::ber::enc::writer::header_rest::HeaderRest;
 use crate::ber::enc::writer::headers::{
     INDEFINITE_LENGTH, identifier_len, identifier_octet, length_len, length_octet,
 };
@@ -10,34 +11,27 @@ use rasn_types::ber::rules::EncodingRules;
 use rasn_types::types::{Codec, Tag};
 use std::alloc::AllocError;
 
-/// The octets that a mark puts in.
+/// An open value leaves room for so many octets of its header, which has no fewer.
+pub const ROOM: usize = 2;
+
+/// The header of a value that holds others.
 #[derive(Clone, Copy, Drop)]
 pub enum HeaderForm {
-    /// Of a value that is still open.
-    Unfinished,
     /// An identifier, and the length of the contents.
     Definite(Tag, usize),
     /// An identifier, where end-of-contents octets end the contents.
     Indefinite(Tag),
-    /// The octets that do.
-    Closing,
-    /// So many first octets of a definite head.
-    Part(u8, Tag, usize),
-    /// So many first octets of an indefinite one.
-    PartIndefinite(u8, Tag),
-    /// The first of two end-of-contents octets.
-    Zero,
 }
 
-/// Where in the gathered octets a header or end-of-contents octets stand.
+/// Where in the gathered octets the octets of a header come still that had no room.
 #[derive(Clone, Copy, Drop)]
 pub struct DeferredHeader {
     pub at: usize,
-    pub head: HeaderForm,
+    pub rest: HeaderRest,
 }
 
-// There are many marks, so they stay small.
-const _: () = prove!(size_of::<DeferredHeader>() == 32);
+// There are many deferred headers, so they stay small.
+const _: () = prove!(size_of::<DeferredHeader>() == 24);
 
 /// What stands before the contents of a constructed value.
 pub fn header_for(rule: Codec, tag: Tag, count: usize) -> HeaderForm
@@ -50,80 +44,101 @@ pub fn header_for(rule: Codec, tag: Tag, count: usize) -> HeaderForm
     }
 }
 
-/// How many octets a mark puts in.
+/// Counts the octets of a header.
 pub fn header_len(head: HeaderForm) -> usize
     ensures count { result ≡ length (header_octets head) }
-    ensures small { result < 17 }
+    ensures some { 2 ≤ result }
+    ensures small { result < 16 }
 {
     match head {
-        HeaderForm::Unfinished => 0,
         HeaderForm::Definite(tag, count) => identifier_len(tag) + length_len(count),
         HeaderForm::Indefinite(tag) => identifier_len(tag) + 1,
-        HeaderForm::Closing => 2,
-        HeaderForm::Part(most, tag, count) => {
-            least(identifier_len(tag) + length_len(count), usize::from(most))
-        }
-        HeaderForm::PartIndefinite(most, tag) => least(identifier_len(tag) + 1, usize::from(most)),
-        HeaderForm::Zero => 1,
     }
 }
 
-fn least(a: usize, b: usize) -> usize
-    ensures low { result ≤ a }
-    ensures taken { (xs : List ℕ) → length xs ≡ a → length (take b xs) ≡ result }
+/// Gives the octets of a header that have no room.
+fn rest_of(head: HeaderForm) -> HeaderRest
+    ensures { rest_octets result ≡ drop 2 (header_octets head) }
 {
-    if a < b { a } else { b }
+    let count = header_len(head) - ROOM;
+    let mut rest = HeaderRest::new();
+    for i in 0..count {
+        rest.push(header_octet(head, ROOM + i));
+    }
+    rest
 }
 
-/// Puts behind all a mark for end-of-contents octets where the rule has them.
-fn close(marks: &mut Vec<DeferredHeader>, rule: Codec, end: usize) -> Result<(), AllocError>
-    ensures ok { OnOk result (marks.new.items ≡ marks.old.items ++ closing rule end) }
+/// Puts a deferred header in its place, where a header has more octets than there is room for.
+fn defer_rest(
+    marks: &mut Vec<DeferredHeader>,
+    index: usize,
+    at: usize,
+    head: HeaderForm,
+) -> Result<(), AllocError>
+    requires { index ≤ vec_len marks.old }
+    ensures ok { OnOk result ((ds : List DeferredHeader) × Defers at (drop 2 (header_octets head)) ds × (marks.new.items ≡ take index marks.old.items ++ (ds ++ drop index marks.old.items))) }
     ensures err { OnErr result (marks.new.items ≡ marks.old.items) }
 {
-    if !EncodingRules::of_codec(rule).is_cer() {
+    if header_len(head) == ROOM {
         return Ok(());
     }
-    match marks.push(DeferredHeader {
-        at: end,
-        head: HeaderForm::Closing,
-    }) {
+    let rest = rest_of(head);
+    match marks.insert(index, DeferredHeader { at, rest }) {
         Ok(()) => Ok(()),
         Err(_) => Err(AllocError),
     }
 }
 
-/// Puts a finished mark in the place of an unfinished one.
-pub fn finish_header(
+/// Puts end-of-contents octets behind all where the rule has them.
+fn append_end_of_contents(octets: &mut Vec<u8>, rule: Codec) -> Result<(), AllocError>
+    ensures ok { OnOk result (octets.new.items ≡ octets.old.items ++ back rule) }
+    ensures err { OnErr result (octets.new.items ≡ octets.old.items) }
+{
+    if !EncodingRules::of_codec(rule).is_cer() {
+        return Ok(());
+    }
+    octets.extend_from_slice(&[0, 0])
+}
+
+/// Writes the first octets of a header into the room for them.
+fn fill_room(octets: &mut [u8], at: usize, head: HeaderForm)
+    requires { at + 2 ≤ length octets.old }
+    ensures { octets.new ≡ take at octets.old ++ (take 2 (header_octets head) ++ drop (at + 2) octets.old) }
+{
+    octets[at] = header_octet(head, 0);
+    octets[at + 1] = header_octet(head, 1);
+}
+
+/// Puts the header of a value and what ends it round its contents, which stand behind the room at `at`, with the deferred headers from
+/// number `index` on. Where memory runs out, what stands before it stays.
+pub fn enclose_contents(
+    octets: &mut Vec<u8>,
     marks: &mut Vec<DeferredHeader>,
     rule: Codec,
-    tag: Tag,
-    count: usize,
+    head: HeaderForm,
     at: usize,
     index: usize,
-    end: usize,
 ) -> Result<(), AllocError>
-    requires { index < vec_len marks.old }
-    ensures ok { OnOk result (marks.new.items ≡ take index marks.old.items ++ (mark_at at (head_of rule tag count) ∷ (drop (suc index) marks.old.items ++ closing rule end))) }
-    ensures err { OnErr result (marks.new.items ≡ marks.old.items) }
+    requires room { at + 2 ≤ vec_len octets.old }
+    requires index { index ≤ vec_len marks.old }
+    ensures ok { OnOk result (Encloses at index (header_octets head) (back rule) octets.old.items marks.old.items octets.new.items marks.new.items) }
+    ensures octets { OnErr result (take at octets.new.items ≡ take at octets.old.items) }
+    ensures marks { OnErr result (take index marks.new.items ≡ take index marks.old.items) }
 {
-    let head = header_for(rule, tag, count);
-    close(marks, rule, end)?;
-    let mark = DeferredHeader { at, head };
-    marks[index] = mark;
+    defer_rest(marks, index, at + ROOM, head)?;
+    append_end_of_contents(octets, rule)?;
+    fill_room(octets, at, head);
     Ok(())
 }
 
-/// One octet of a mark.
+/// One octet of a header.
 pub fn header_octet(head: HeaderForm, i: usize) -> u8
     requires { i < length (header_octets head) }
     ensures { result ≡ get_or (header_octets head) i 0 }
 {
     match head {
-        HeaderForm::Unfinished | HeaderForm::Closing | HeaderForm::Zero => 0,
         HeaderForm::Definite(tag, count) => definite_octet(tag, count, i),
-        HeaderForm::Part(_, tag, count) => definite_octet(tag, count, i),
         HeaderForm::Indefinite(tag) => indefinite_octet(tag, i),
-        HeaderForm::PartIndefinite(_, tag) => indefinite_octet(tag, i),
     }
 }
 

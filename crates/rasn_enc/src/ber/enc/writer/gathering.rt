@@ -2,13 +2,14 @@
 ghost use Rattle.std.specs.Prelude.{◌≡◌, ◌<◌, ◌≤◌, ◌+◌, ◌++◌, ◌∷◌, [], ◌⊎◌, length, take, drop, suc, vec_len, IfOk, IfErr, OnOk, OnErr};
 ghost use Rattle.std.specs.Fn.{FnOnceTakesAtMut};
 ghost use Rattle.rasn_enc.specs.Buffer.Lists.{tags_of};
-ghost use Rattle.rasn_enc.specs.Buffer.DeferredHeaders.{header_octets, head_of, mark_at, closing, back};
+ghost use Rattle.rasn_enc.specs.Buffer.DeferredHeaders.{header_octets, head_of, back, Encloses};
 ghost use Rattle.rasn_enc.specs.Buffer.OpenValues.{noted, AppendsCounted, AppendsFilledCounted};
 ghost use Rattle.rasn_enc.specs.declared.ber.enc.writer.filled.FillError.TheVariants.{NoMemory};
 ghost use Rattle.rasn_enc.specs.Buffer.Filled.{OnlyAppendsOctets, MayFailToFill};
 
+use crate::ber::enc::writer::Open;
 use crate::ber::enc::writer::deferred_headers::{
-    DeferredHeader, finish_header, header_for, header_len,
+    DeferredHeader, enclose_contents, header_for, header_len,
 };
 use crate::ber::enc::writer::filled::{FillError, append_filled, append_primitive};
 use crate::ber::enc::writer::kept_tags::{record_tag, reserve_tag};
@@ -124,32 +125,35 @@ fn sum(a: usize, b: usize, c: usize) -> Result<usize, AllocError>
     }
 }
 
-/// Closes the value that was opened at mark number `last`, and answers how long the list below is then.
+/// Closes a value of `count` contents octets: it stands behind the list that it interrupted. Where memory runs out, what was written before
+/// it stays.
 pub fn surround(
+    gathered: &mut Vec<u8>,
     marks: &mut Vec<DeferredHeader>,
-    tags: &mut Option<Vec<Tag>>,
+    value: &mut Open,
     rule: Codec,
     tag: Tag,
-    end: usize,
-    last: usize,
     count: usize,
-    measured: usize,
-    inner: usize,
-) -> Result<usize, AllocError>
-    requires { last < vec_len marks.old }
-    ensures total { IfOk result (λ n. n ≡ measured + (length (header_octets (head_of rule tag inner)) + length (back rule) + inner)) }
-    ensures marks { OnOk result (marks.new.items ≡ take last marks.old.items ++ (mark_at end (head_of rule tag inner) ∷ (drop (suc last) marks.old.items ++ closing rule count))) }
-    ensures noted { OnOk result (tags_of tags.new ≡ noted (tags_of tags.old) (tag ∷ [])) }
-    ensures same { OnErr result (marks.new.items ≡ marks.old.items) }
-    ensures kept { OnErr result (tags_of tags.new ≡ tags_of tags.old) }
+) -> Result<(), AllocError>
+    requires room { value.old.end + 2 ≤ vec_len gathered.old }
+    requires index { value.old.last ≤ vec_len marks.old }
+    ensures place { (value.new.end ≡ value.old.end) × (value.new.last ≡ value.old.last) }
+    ensures start { (value.new.list.start ≡ value.old.list.start) × (value.new.list.first ≡ value.old.list.first) }
+    ensures octets { OnOk result (Encloses value.old.end value.old.last (header_octets (head_of rule tag count)) (back rule) gathered.old.items marks.old.items gathered.new.items marks.new.items) }
+    ensures total { OnOk result (value.new.list.measured ≡ value.old.list.measured + (length (header_octets (head_of rule tag count)) + length (back rule) + count)) }
+    ensures noted { OnOk result (tags_of value.new.list.tags ≡ noted (tags_of value.old.list.tags) (tag ∷ [])) }
+    ensures err { OnErr result ((take value.old.end gathered.new.items ≡ take value.old.end gathered.old.items) × (take value.old.last marks.new.items ≡ take value.old.last marks.old.items)) }
+    ensures kept { OnErr result ((value.new.list.measured ≡ value.old.list.measured) × (tags_of value.new.list.tags ≡ tags_of value.old.list.tags)) }
 {
+    let head = header_for(rule, tag, count);
     let total = sum(
-        measured,
-        header_len(header_for(rule, tag, inner)) + back_len(rule),
-        inner,
+        value.list.measured,
+        header_len(head) + back_len(rule),
+        count,
     )?;
-    reserve_tag(tags)?;
-    finish_header(marks, rule, tag, inner, end, last, count)?;
-    record_tag(tags, tag);
-    Ok(total)
+    reserve_tag(&mut value.list.tags)?;
+    enclose_contents(gathered, marks, rule, head, value.end, value.last)?;
+    record_tag(&mut value.list.tags, tag);
+    value.list.measured = total;
+    Ok(())
 }

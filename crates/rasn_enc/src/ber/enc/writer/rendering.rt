@@ -1,11 +1,9 @@
-//! Gathered octets and the octets of marks, put together from the back.
+//! Gathered octets and what deferred headers hold, put together from the back.
 ghost use Rattle.std.specs.Prelude.{◌≡◌, ◌<◌, ◌≤◌, ◌+◌, ◌-◌, ◌++◌, length, take, drop, IfOk, OnOk, OnErr};
-ghost use Rattle.rasn_enc.specs.Buffer.DeferredHeaders.{deferred_octets, header_octets, rendered, Rising, header_octets_count, front_run};
+ghost use Rattle.rasn_enc.specs.Buffer.DeferredHeaders.{deferred_octets, rendered, Rising, header_octets_count, front_run};
 ghost use Rattle.rasn_enc.specs.Buffer.Moves.{Moves};
 
-use crate::ber::enc::writer::deferred_headers::{
-    DeferredHeader, HeaderForm, header_len, header_octet,
-};
+use crate::ber::enc::writer::deferred_headers::DeferredHeader;
 use std::alloc::AllocError;
 use std::simd::Simd;
 
@@ -36,18 +34,15 @@ pub fn move_up(buffer: &mut [u8], at: usize, end: usize, by: usize)
     buffer.copy_within(at..left, at + by);
 }
 
-/// Writes the octets of a mark from a place on.
-fn write_head(buffer: &mut [u8], at: usize, head: HeaderForm)
-    requires { at + length (header_octets head) ≤ length buffer.old }
-    ensures { buffer.new ≡ take at buffer.old ++ (header_octets head ++ drop (at + length (header_octets head)) buffer.old) }
+/// Writes octets from a place on.
+fn write_at(buffer: &mut [u8], at: usize, octets: &[u8])
+    requires { at + length octets.now ≤ length buffer.old }
+    ensures { buffer.new ≡ take at buffer.old ++ (octets.now ++ drop (at + length octets.now) buffer.old) }
 {
-    for i in 0..header_len(head) {
-        let octet = header_octet(head, i);
-        buffer[at + i] = octet;
-    }
+    buffer[at..at + octets.len()].copy_from_slice(octets);
 }
 
-/// Moves the octets from the mark to `from` behind all that is unrendered, to end at `to`, and puts the mark's own in front of them.
+/// Moves the octets from the deferred header to `from` behind all that is unrendered, to end at `to`, and puts its own in front of them.
 /// The answer is how many octets were written.
 fn splice_header(buffer: &mut [u8], mark: DeferredHeader, from: usize, to: usize) -> usize
     requires order { mark.at ≤ from }
@@ -57,14 +52,15 @@ fn splice_header(buffer: &mut [u8], mark: DeferredHeader, from: usize, to: usize
     ensures count { result ≡ (from - mark.at) + length (deferred_octets mark) }
 {
     let run = from - mark.at;
-    let n = header_len(mark.head);
+    let rest = mark.rest.as_slice();
+    let n = rest.len();
     move_up(buffer, mark.at, from, to - from);
-    write_head(buffer, to - run - n, mark.head);
+    write_at(buffer, to - run - n, rest);
     run + n
 }
 
-/// The buffer holds `gathered` octets in front, and is as long as what they and the marks stand for, which it then holds. The answer
-/// is the number of copies: of gathered octets that were put in their places, and of octets of marks.
+/// The buffer holds `gathered` octets in front, and is as long as what they and the deferred headers stand for, which it then holds.
+/// The answer is the number of copies: of gathered octets that were put in their places, and of octets of deferred headers.
 fn render(buffer: &mut [u8], gathered: usize, marks: &[DeferredHeader]) -> usize
     requires rising { Rising 0 marks.now gathered }
     requires room { length buffer.old ≡ gathered + header_octets_count marks.now }
@@ -87,7 +83,7 @@ fn render(buffer: &mut [u8], gathered: usize, marks: &[DeferredHeader]) -> usize
     copies
 }
 
-/// Puts the octets of all marks in between the gathered octets. The vector grows once, where there is a mark.
+/// Puts the octets of all deferred headers in between the gathered octets. The vector grows once, where there is one.
 fn rendered_in(
     gathered: Vec<u8>,
     marks: &[DeferredHeader],
@@ -107,7 +103,7 @@ fn rendered_in(
     Ok(buffer)
 }
 
-/// Puts the octets of all marks in between the gathered octets of a list that begins at `start`: the octets before it are taken off.
+/// Puts the octets of all deferred headers in between the gathered octets of a list that begins at `start`: the octets before it are taken off.
 pub fn rendered_from(
     gathered: Vec<u8>,
     marks: &[DeferredHeader],

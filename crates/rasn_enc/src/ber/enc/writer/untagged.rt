@@ -13,7 +13,7 @@ impl Writer {
     pub fn keeps_tags(&self) -> bool
         ensures { MatchBool result (self.now.last.tags ≢ None) (self.now.last.tags ≡ None) }
     {
-        self.tags.is_some()
+        self.list.tags.is_some()
     }
 
     /// Puts octets behind the last list, without a header and without a tag.
@@ -22,9 +22,9 @@ impl Writer {
         ensures err { OnErr result (self.new ≡ self.old) }
         ensures memory { IfErr result (IsAllocError self.old.rule) }
     {
-        match gather_octets(&mut self.gathered, self.measured, octets) {
+        match gather_octets(&mut self.gathered, self.list.measured, octets) {
             Ok(total) => {
-                self.measured = total;
+                self.list.measured = total;
                 Ok(())
             }
             Err(_) => Err(out_of_memory(self.rule)),

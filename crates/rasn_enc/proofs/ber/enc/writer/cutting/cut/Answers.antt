@@ -6,15 +6,15 @@ pub overflow_sub-run : goal.overflow_sub-run
 overflow_sub-run c =
     let l : suc (c.len-last.result - 1) ≡ length c.loop-marks.marks.items = omega (arith, c.len-last.ensures, c.len.ensures, c.loop-marks-test.true, c.loop-marks.marks.ok) in
     let s : c.args.first < length c.loop-marks.marks.items = omega (arith, c.len.ensures, c.loop-marks-test.true, c.loop-marks.marks.ok) in
-    let w = mark_within _ _ _ _ _ _ _ c.loop-marks.invariant (c.len-last.result - 1) c.index-mark.result.now _ l s c.index-mark.ensures in
+    let w = mark_within _ _ _ _ _ _ _ c.loop-marks.invariant (c.len-last.result - 1) c.index.result.now _ l s c.index.ensures in
     omega (arith, w, c.len-in-loop-marks.ensures, c.loop-marks.gathered.ok)
 
 pub returns-then-left-run : goal.returns-then-left-run
 returns-then-left-run c =
     let l : suc (c.len-last.result - 1) ≡ length c.loop-marks.marks.items = omega (arith, c.len-last.ensures, c.len.ensures, c.loop-marks-test.true, c.loop-marks.marks.ok) in
     let s : c.args.first < length c.loop-marks.marks.items = omega (arith, c.len.ensures, c.loop-marks-test.true, c.loop-marks.marks.ok) in
-    let w = mark_within _ _ _ _ _ _ _ c.loop-marks.invariant (c.len-last.result - 1) c.index-mark.result.now _ l s c.index-mark.ensures in
-    rw c.truncate.ensures.items (step_stops _ _ _ _ _ _ _ c.loop-marks.invariant (c.len-last.result - 1) c.index-mark.result.now _ l s c.index-mark.ensures _ c.args.count c.loop-marks.left
+    let w = mark_within _ _ _ _ _ _ _ c.loop-marks.invariant (c.len-last.result - 1) c.index.result.now _ l s c.index.ensures in
+    rw c.truncate.ensures.items (step_stops _ _ _ _ _ _ _ c.loop-marks.invariant (c.len-last.result - 1) c.index.result.now _ l s c.index.ensures _ c.args.count c.loop-marks.left
     (omega (arith, w, c.if-left-run.true, c.len-in-loop-marks.ensures, c.len-then-left-run.ensures, c.loop-marks.gathered.ok))
     (omega (arith, w, c.if-left-run.true, c.len-in-loop-marks.ensures, c.len-then-left-run.ensures, c.loop-marks.gathered.ok)) refl)
 
@@ -22,18 +22,18 @@ pub returns-then-left-own : goal.returns-then-left-own
 returns-then-left-own c =
     let l : suc (c.len-last.result - 1) ≡ length c.loop-marks.marks.items = omega (arith, c.len-last.ensures, c.len.ensures, c.loop-marks-test.true, c.loop-marks.marks.ok) in
     let s : c.args.first < length c.loop-marks.marks.items = omega (arith, c.len.ensures, c.loop-marks-test.true, c.loop-marks.marks.ok) in
-    let w = mark_within _ _ _ _ _ _ _ c.loop-marks.invariant (c.len-last.result - 1) c.index-mark.result.now _ l s c.index-mark.ensures in
-    rw c.truncate-in-loop-marks.ensures.items (step_splits _ _ _ _ _ _ _ c.loop-marks.invariant (c.len-last.result - 1) c.index-mark.result.now _ l s c.index-mark.ensures c.args.count
-    (c.header_len-own.result - (c.loop-marks.left - (c.len-in-loop-marks.result - c.index-mark.result.now.at))) _ refl (omega (arith, c.header_len-own.ensures.count)) c.first_of-head.ensures
-    (omega (arith, w, c.if-left-run.false, c.if-left-own.true, c.header_len-own.ensures.count, c.len-in-loop-marks.ensures, c.loop-marks.gathered.ok)))
+    let w = mark_within _ _ _ _ _ _ _ c.loop-marks.invariant (c.len-last.result - 1) c.index.result.now _ l s c.index.ensures in
+    rw c.truncate-in-loop-marks.ensures.items (step_splits _ _ _ _ _ _ _ c.loop-marks.invariant (c.len-last.result - 1) c.index.result.now _ l s c.index.ensures c.args.count
+    (c.len-own.result - (c.loop-marks.left - (c.len-in-loop-marks.result - c.index.result.now.at))) _ refl (omega (arith, c.len-own.ensures)) c.truncate-then-left-own.ensures
+    (omega (arith, w, c.if-left-run.false, c.if-left-own.true, c.len-own.ensures, c.len-in-loop-marks.ensures, c.loop-marks.gathered.ok)))
 
 pub loop-marks-preserved : goal.loop-marks-preserved
 loop-marks-preserved c =
     let l : suc (c.len-last.result - 1) ≡ length c.loop-marks.marks.items = omega (arith, c.len-last.ensures, c.len.ensures, c.loop-marks-test.true, c.loop-marks.marks.ok) in
     let s : c.args.first < length c.loop-marks.marks.items = omega (arith, c.len.ensures, c.loop-marks-test.true, c.loop-marks.marks.ok) in
-    let w = mark_within _ _ _ _ _ _ _ c.loop-marks.invariant (c.len-last.result - 1) c.index-mark.result.now _ l s c.index-mark.ensures in
-    rw (c.truncate-in-loop-marks.ensures.items, c.truncate-in-loop-marks-2.ensures.items) (step_goes_on _ _ _ _ _ _ _ c.loop-marks.invariant (c.len-last.result - 1) c.index-mark.result.now _ l s c.index-mark.ensures _
-    (omega (arith, w, c.if-left-run.false, c.if-left-own.false, c.header_len-own.ensures.count, c.len-in-loop-marks.ensures, c.loop-marks.gathered.ok)))
+    let w = mark_within _ _ _ _ _ _ _ c.loop-marks.invariant (c.len-last.result - 1) c.index.result.now _ l s c.index.ensures in
+    rw (c.truncate-in-loop-marks.ensures.items, c.truncate-in-loop-marks-2.ensures.items) (step_goes_on _ _ _ _ _ _ _ c.loop-marks.invariant (c.len-last.result - 1) c.index.result.now _ l s c.index.ensures _
+    (omega (arith, w, c.if-left-run.false, c.if-left-own.false, c.len-own.ensures, c.len-in-loop-marks.ensures, c.loop-marks.gathered.ok)))
 
 pub returns : goal.returns
 returns c =

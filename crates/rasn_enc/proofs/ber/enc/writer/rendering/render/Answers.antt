@@ -1,6 +1,5 @@
-use Rattle.std.proofs.Common.{length, take, length-take-le, ◌+◌, ◌-◌, ◌≡◌, suc, arith, take, refl}
+use Rattle.std.proofs.Common.{length, take, length-take-le, ◌+◌, ◌-◌, ◌≡◌, suc, arith, take}
 use Rattle.rasn_enc.specs.Buffer.DeferredHeaders.{front_run}
-use Rattle.rasn_enc.specs.declared.ber.enc.writer.deferred_headers.HeaderForm.TheVariants.{Unfinished}
 use Rattle.rasn_enc.proofs.Buffer.Steps.{Rest, turn-order, turn-room, turned-rest, rest-end, rest-count}
 use Rattle.rasn_enc.proofs.ber.enc.writer.rendering.render.Goals as goal
 
@@ -10,7 +9,7 @@ splice_header-written-requires-clause-order c =
     let b = c.loop-k.invariant.below in
     let e : suc (c.loop-k.k - 1) ≡ c.loop-k.k = omega (arith, t) in
     let h : Rest (take c.args.gathered c.args.buffer.now) c.args.marks.now c.loop-k.buffer (suc (c.loop-k.k - 1)) c.loop-k.from c.loop-k.to c.loop-k.copies = rw e c.loop-k.invariant in
-    turn-order _ c.args.marks.now c.loop-k.buffer (c.loop-k.k - 1) c.loop-k.from c.loop-k.to c.loop-k.copies _ _ (omega (arith, t, b)) refl h
+    turn-order _ c.args.marks.now c.loop-k.buffer (c.loop-k.k - 1) c.loop-k.from c.loop-k.to c.loop-k.copies c.index-marks-k.result c.index-marks-k.result (omega (arith, t, b)) c.index-marks-k.is h
 
 pub splice_header-written-requires-clause-room : goal.splice_header-written-requires-clause-room
 splice_header-written-requires-clause-room c =
@@ -18,7 +17,7 @@ splice_header-written-requires-clause-room c =
     let b = c.loop-k.invariant.below in
     let e : suc (c.loop-k.k - 1) ≡ c.loop-k.k = omega (arith, t) in
     let h : Rest (take c.args.gathered c.args.buffer.now) c.args.marks.now c.loop-k.buffer (suc (c.loop-k.k - 1)) c.loop-k.from c.loop-k.to c.loop-k.copies = rw e c.loop-k.invariant in
-    turn-room _ c.args.marks.now c.loop-k.buffer (c.loop-k.k - 1) c.loop-k.from c.loop-k.to c.loop-k.copies _ _ (omega (arith, t, b)) refl h
+    turn-room _ c.args.marks.now c.loop-k.buffer (c.loop-k.k - 1) c.loop-k.from c.loop-k.to c.loop-k.copies c.index-marks-k.result c.index-marks-k.result (omega (arith, t, b)) c.index-marks-k.is h
 
 pub overflow_sub-to : goal.overflow_sub-to
 overflow_sub-to c =
@@ -26,7 +25,7 @@ overflow_sub-to c =
     let b = c.loop-k.invariant.below in
     let e : suc (c.loop-k.k - 1) ≡ c.loop-k.k = omega (arith, t) in
     let h : Rest (take c.args.gathered c.args.buffer.now) c.args.marks.now c.loop-k.buffer (suc (c.loop-k.k - 1)) c.loop-k.from c.loop-k.to c.loop-k.copies = rw e c.loop-k.invariant in
-    let r = turn-room _ c.args.marks.now c.loop-k.buffer (c.loop-k.k - 1) c.loop-k.from c.loop-k.to c.loop-k.copies _ (record { at = 0; head = Unfinished }) (omega (arith, t, b)) refl h in
+    let r = turn-room _ c.args.marks.now c.loop-k.buffer (c.loop-k.k - 1) c.loop-k.from c.loop-k.to c.loop-k.copies c.index-marks-k.result c.index-marks-k.result (omega (arith, t, b)) c.index-marks-k.is h in
     let w = c.splice_header-written.ensures.count in
     omega (arith, r, w)
 
@@ -36,7 +35,7 @@ loop-k-preserved c =
     let b = c.loop-k.invariant.below in
     let e : suc (c.loop-k.k - 1) ≡ c.loop-k.k = omega (arith, t) in
     let h : Rest (take c.args.gathered c.args.buffer.now) c.args.marks.now c.loop-k.buffer (suc (c.loop-k.k - 1)) c.loop-k.from c.loop-k.to c.loop-k.copies = rw e c.loop-k.invariant in
-    turned-rest _ c.args.marks.now c.loop-k.buffer (c.loop-k.k - 1) c.loop-k.from c.loop-k.to c.loop-k.copies _ _ (omega (arith, t, b)) refl h c.splice_header-written.result c.splice_header-written.new.buffer c.splice_header-written.ensures.count c.splice_header-written.ensures.moved
+    turned-rest _ c.args.marks.now c.loop-k.buffer (c.loop-k.k - 1) c.loop-k.from c.loop-k.to c.loop-k.copies c.index-marks-k.result c.index-marks-k.result (omega (arith, t, b)) c.index-marks-k.is h c.splice_header-written.result c.splice_header-written.new.buffer c.splice_header-written.ensures.count c.splice_header-written.ensures.moved
 
 pub returns-clause-output : goal.returns-clause-output
 returns-clause-output c =

@@ -1,5 +1,6 @@
 use Rattle.std.proofs.Common.{arith, ap, length}
-use Rattle.rasn_enc.proofs.Buffer.Steps.{rising-lower, length-rendered-behind, rendered-from}
+use Rattle.rasn_enc.proofs.Buffer.Rendered.{rising-lower}
+use Rattle.rasn_enc.proofs.Buffer.Steps.{length-rendered-behind, rendered-from}
 use Rattle.rasn_enc.proofs.ber.enc.writer.rendering.rendered_from.Goals as goal
 
 pub rendered_in-requires-clause-rising : goal.rendered_in-requires-clause-rising
