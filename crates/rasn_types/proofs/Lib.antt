@@ -7,3 +7,4 @@ pub mod Headers
 pub mod CharacterString
 pub mod SetOf
 pub mod Enumerated
+pub mod Dotted

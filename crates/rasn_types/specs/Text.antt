@@ -1,8 +1,9 @@
 -- What values are shown as.
-use Rattle.std.specs.Prelude.{ℕ, ◌/◌, ◌%◌, true, List, [], ◌∷◌, ◌++◌}
+use Rattle.std.specs.Prelude.{◌≡◌, ℕ, ◌<◌, ◌^◌, ◌≤◌, length, slice_index, All, ◌/◌, ◌%◌, true, List, [], ◌∷◌, ◌++◌}
 use Rattle.std.specs.List.{flat_map}
 use Rattle.std.specs.Fmt.{decimal, digit_glyph}
 use Rattle.rasn_types.specs.Calendar.{Day, Moment}
+use Rattle.rasn_types.specs.Numbered.{AreArcs}
 use Rattle.rasn_types.specs.TimeSpelling.{two}
 use Rattle.rasn_types.specs.Time.{written_year, written_second, within_second, written_fraction}
 
@@ -21,6 +22,24 @@ point_and_arc x = 46 ∷ decimal x
 abbrev pub dotted : List ℕ → List ℕ
 dotted [] = []
 dotted (x ∷ l) = decimal x ++ flat_map point_and_arc l
+
+-- an arc of 32 bits
+abbrev pub IsSmall : ℕ → Type 0
+IsSmall n = n < 2 ^ 32
+
+-- A digit comes first, and 0 alone.
+pub record IsPlain (text : List ℕ) : Type 0 where
+  pub some : 0 < length text
+  pub from : 48 ≤ slice_index text 0
+  pub to : slice_index text 0 < 58
+  pub alone : slice_index text 0 ≡ 48 → length text ≡ 1
+
+-- The text of an arc, and of the arcs of an object identifier.
+abbrev pub IsArcText : List ℕ → ℕ → Type 0
+IsArcText text n = IsSmall n × (text ≡ decimal n)
+
+abbrev pub IsDotted : List ℕ → List ℕ → Type 0
+IsDotted text arcs = AreArcs arcs × All IsSmall arcs × (text ≡ dotted arcs)
 
 -- YYYY-MM-DD
 unfoldable pub shown_day : Day → List ℕ

@@ -138,7 +138,7 @@ fn copies_values(rt: HostRuntime) -> Result<(), AllocError> {
     );
     assert_copied(&rt, alloc, String::from_str(alloc, "Jones")?);
     assert_copied(&rt, alloc, FixedOctetString::new([0x01, 0x23]));
-    assert_copied(&rt, alloc, (true, 7u8).1);
+    assert_copied(&rt, alloc, 7u8);
     Ok(())
 }
 

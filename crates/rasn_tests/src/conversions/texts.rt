@@ -28,6 +28,45 @@ fn object_identifiers(rt: HostRuntime) {
     assert_shown(&rt, alloc, rsa, "1.2.840.113549.1.1.1");
 }
 
+/// Asserts that the text names the object identifier of these arcs, or none.
+fn assert_names(rt: &impl Abort, alloc: Global, text: &str, arcs: Option<&[u32]>) {
+    match (ObjectIdentifier::parse(alloc, text), arcs) {
+        (Ok(Some(found)), Some(arcs)) => assert_eq!(rt; found.arcs(), arcs),
+        (Ok(None), None) => {}
+        _ => assert!(rt; false, "{text}"),
+    }
+}
+
+// The example of X.690 8.19.5, rsaEncryption (RFC 8017, appendix C), and the greatest arc of 32 bits.
+#[test]
+fn names_of_object_identifiers(rt: HostRuntime) {
+    let alloc = rt.alloc();
+    let rsa = [1, 2, 840, 113549, 1, 1, 1];
+    assert_names(&rt, alloc, "2.999.3", Some(&[2, 999, 3]));
+    assert_names(&rt, alloc, "1.2.840.113549.1.1.1", Some(&rsa));
+    assert_names(&rt, alloc, "2.4294967295", Some(&[2, u32::MAX]));
+}
+
+// Too few arcs, a first arc above 2, an empty arc, zeros and a sign in front, an arc beyond 32 bits, and what is no digit.
+#[test]
+fn names_of_nothing(rt: HostRuntime) {
+    for text in [
+        "",
+        "1",
+        "3.1",
+        ".1.2",
+        "1.2.",
+        "1..2",
+        "1.02",
+        "1.+2",
+        "1.4294967296",
+        "1.2a",
+        "1.2 ",
+    ] {
+        assert_names(&rt, rt.alloc(), text, None);
+    }
+}
+
 // The octets of NULL, and of the ends of a hexadecimal digit's range.
 #[test]
 fn octets(rt: HostRuntime) -> Result<(), AllocError> {

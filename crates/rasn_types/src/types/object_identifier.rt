@@ -2,8 +2,9 @@
 ghost use Rattle.std.specs.Prelude.{◌≡◌, IfOk};
 ghost use Rattle.std.specs.Fmt.{WritesOnOk};
 ghost use Rattle.std.specs.List.{flat_map};
-ghost use Rattle.rasn_types.specs.Text.{point_and_arc};
-ghost use Rattle.rasn_types.specs.Options.{IsSomeExactlyIf};
+ghost use Rattle.rasn_types.specs.Text.{point_and_arc, IsArcText, IsDotted, IsPlain};
+ghost use Rattle.rasn_types.specs.Truth.{IsWhether};
+ghost use Rattle.rasn_types.specs.Options.{IsSomeExactlyIf, IsSomeRelated};
 ghost use Rattle.rasn_types.specs.Numbered.{AreArcs};
 
 use crate::types::{AsnType, Constraints, Tag, TryClone};
@@ -61,6 +62,30 @@ impl ObjectIdentifier {
         }
     }
 
+    /// The object identifier whose arcs stand in the text as `Display` shows them: in decimal, without a sign or zeros in front, and with a point
+    /// between two. `None` where there is none.
+    ///
+    /// # Errors
+    /// Running out of memory.
+    pub fn parse(alloc: Global, text: &str) -> Result<Option<ObjectIdentifier>, AllocError>
+        ensures { IfOk result (λ v. IsSomeRelated v (IsDotted text.now)) }
+    {
+        let mut arcs = Vec::new(alloc);
+        let mut rest = text;
+        while let Some((front, behind)) = rest.split_once('.') {
+            let Some(arc) = parse_arc(front) else {
+                return Ok(None);
+            };
+            arcs.push(arc)?;
+            rest = behind;
+        }
+        let Some(arc) = parse_arc(rest) else {
+            return Ok(None);
+        };
+        arcs.push(arc)?;
+        Ok(ObjectIdentifier::new(arcs))
+    }
+
     /// Its arcs.
     pub fn arcs(&self) -> &[u32]
         ensures arcs { result.now ≡ self.now }
@@ -92,6 +117,27 @@ impl fmt::Display for ObjectIdentifier {
             write_arcs(f, more)?;
         }
         Ok(())
+    }
+}
+
+// The arc whose text this is.
+fn parse_arc(text: &str) -> Option<u32>
+    ensures { IsSomeRelated result (IsArcText text.now) }
+{
+    if is_plain(text.as_bytes()) {
+        text.parse().ok()
+    } else {
+        None
+    }
+}
+
+// Whether a digit comes first, and 0 alone.
+fn is_plain(octets: &[u8]) -> bool
+    ensures { IsWhether result (IsPlain octets.now) }
+{
+    match octets {
+        [first, others @ ..] => first.is_ascii_digit() && (*first != b'0' || others.is_empty()),
+        [] => false,
     }
 }
 
