@@ -20,6 +20,6 @@ pub use normal::{NormaliseError, normalise, same_exactly_if_equal, worked_normal
 pub use normal_answer::NormalAnswer;
 pub use program::{RunFault, run, run_normalise};
 pub use worked::{
-    AlgorithmIdentifier, AttributeTypeAndValue, Both, Colour, Event, Foo, Group, Grouped, Pair, Reason,
-    RelativeDistinguishedName, Set3, Setting, Seven, Time, Validity,
+    AlgorithmIdentifier, AttributeTypeAndValue, Both, Colour, Event, Foo, Group, Grouped, Pair,
+    Reason, RelativeDistinguishedName, Set3, Setting, Seven, Time, Validity,
 };
