@@ -2,13 +2,14 @@
 use Rattle.std.proofs.Common.{append-nil, true, length-append, Option, Some, None, Bool, cond, ◌≡◌, ◌≤◌, ◌<◌, ◌+◌, ◌++◌, ℕ, [], ◌∷◌, List, drop, take, map, length, refl, ap, ap₂, arith, ◌∙◌, sym, append_assoc, length-drop}
 use Rattle.std.proofs.lemmas.List.{take-append-le, map-append, take-take, drop-append-le, drop_at, drop_all, take_at, take-append-drop, length-take-le, same_from_push}
 use Rattle.std.proofs.Math.Seq.{take-append_seam, take-length}
+use Rattle.std.specs.Prelude.{IsSome}
 use Rattle.rasn_types.specs.Bytes.{ConstructedEncoding}
 use Rattle.rasn_enc.specs.Headers.{definite, closed}
 use Rattle.rasn_types.specs.declared.types.codec.Codec.{Codec}
 use Rattle.rasn_types.specs.declared.types.codec.Codec.TheVariants.{Ber, Cer, Der}
 use Rattle.rasn_types.specs.declared.types.tag.Tag.{Tag}
 use Rattle.rasn_enc.specs.Buffer.DeferredHeaders.{header_octets, rendered, Rising, head_of, back, constructed, Encloses}
-use Rattle.rasn_enc.specs.Buffer.OpenValues.{frame_in, Chain, noted}
+use Rattle.rasn_enc.specs.Buffer.OpenValues.{frame_in, Chain, noted, opens, IsInnermost}
 use Rattle.rasn_enc.specs.Buffer.Cuts.{list_from, Sound}
 use Rattle.rasn_enc.specs.Buffer.Lists.{tags_of}
 use Rattle.rasn_enc.specs.View.{View, opened, appended}
@@ -79,6 +80,11 @@ chain-same xs ys ms ns s0 f0 (o ∷ os) s f h e k c d =
     let y : take o.last ms ≡ take o.last ns = take-same o.last f ms ns b k in
     let snd : Sound (take o.end ys) (take o.last ns) o.list.start o.list.first o.list.measured = rw (← x, ← y) h.0.4 in
     ((h.0.0, h.0.1, omega (arith, a, c), omega (arith, b, d), snd), chain-same xs ys ms ns (o.end + 2) o.last os s f h.1 e k c d)
+
+-- A value is open, so one is the innermost.
+pub is_open : (xs : List ℕ) (ms : List DeferredHeader) (around : List Open) (i : Option Open) → IsInnermost around i → 0 < length (map (frame_in xs ms) (opens around i)) → IsSome i
+is_open xs ms around None e h = absurd (let z : 0 < 0 = rw e at h in omega (arith, z))
+is_open xs ms around (Some o) e h = refl
 
 -- what an encoder of these fields shows
 abbrev pub shown : Codec → List ℕ → List DeferredHeader → ℕ → ℕ → Option (List Tag) → List Open → View

@@ -1,5 +1,5 @@
 -- What the view shows of an open value.
-use Rattle.std.specs.Prelude.{ℕ, ◌≡◌, ◌≤◌, ◌+◌, List, [], ◌∷◌, ◌++◌, length, take, Option, option_map}
+use Rattle.std.specs.Prelude.{ℕ, ◌≡◌, ◌≤◌, ◌+◌, List, [], ◌∷◌, ◌++◌, length, take, Option, Some, None, option_map}
 pub use Rattle.rasn_enc.specs.View.{kept_of}
 use Rattle.rasn_enc.specs.View.{OpenList}
 use Rattle.rasn_enc.specs.Buffer.Lists.{tags_of}
@@ -17,6 +17,16 @@ frame_in xs ms o = record { octets = list_from (take o.end xs) (take o.last ms) 
 abbrev pub Chain : List ℕ → List DeferredHeader → ℕ → ℕ → List Open → ℕ → ℕ → Type 0
 Chain xs ms s0 f0 [] s f = (s0 ≡ s) × (f0 ≡ f)
 Chain xs ms s0 f0 (o ∷ os) s f = ((o.list.start ≡ s0) × (o.list.first ≡ f0) × (o.end ≤ length xs) × (o.last ≤ length ms) × Sound (take o.end xs) (take o.last ms) o.list.start o.list.first o.list.measured) × Chain xs ms (o.end + 2) o.last os s f
+
+-- the open values: those around the innermost one, and it
+abbrev pub opens : List Open → Option Open → List Open
+opens around None = around
+opens around (Some o) = around ++ o ∷ []
+
+-- Where no value is the innermost, none is open.
+abbrev pub IsInnermost : List Open → Option Open → Type 0
+IsInnermost around None = around ≡ []
+IsInnermost around (Some o) = Unit {0}
 
 -- tags behind those that are kept
 abbrev pub noted : Option (List Tag) → List Tag → Option (List Tag)

@@ -24,6 +24,7 @@ use crate::ber::enc::writer::deferred_headers::{DeferredHeader, ROOM};
 use crate::ber::enc::writer::filled::FillError;
 use crate::ber::enc::writer::gathering::{gather, gather_filled, surround};
 use crate::ber::enc::writer::kept_tags::{cut_tags, tags_out_of_order};
+use crate::ber::enc::writer::open_values::{pop_innermost, push_innermost};
 use crate::ber::enc::writer::rendering::rendered_from;
 use rasn_types::error::EncodeError;
 use rasn_types::types::{Codec, Tag};
@@ -40,6 +41,7 @@ pub(super) mod gathering;
 pub(super) mod header_rest;
 pub(super) mod headers;
 pub(super) mod kept_tags;
+pub(super) mod open_values;
 pub(super) mod rendering;
 mod untagged;
 
@@ -83,7 +85,10 @@ pub struct Writer {
     gathered: Vec<u8>,
     marks: Vec<DeferredHeader>,
     list: ValueList,
-    interrupted: Vec<Open>,
+    /// The open values around the innermost one, the outermost first.
+    around: Vec<Open>,
+    /// The innermost open value. It stands apart, so that one alone asks for no memory.
+    innermost: Option<Open>,
 }
 
 impl Model for Writer {
@@ -93,12 +98,12 @@ impl Model for Writer {
     ghost Value = { View };
 
     ghost use Rattle.rasn_enc.specs.Buffer.Lists.{tags_of};
-    ghost use Rattle.rasn_enc.specs.Buffer.OpenValues.{frame_in, Chain};
+    ghost use Rattle.rasn_enc.specs.Buffer.OpenValues.{frame_in, Chain, opens, IsInnermost};
     ghost use Rattle.rasn_enc.specs.Buffer.Cuts.{list_from, Sound};
 
-    ghost view = { λ e. record { rule = e.rule; below = map (frame_in e.gathered.items e.marks.items) e.interrupted.items; last = record { octets = list_from e.gathered.items e.marks.items e.list.start e.list.first; tags = tags_of e.list.tags } } };
+    ghost view = { λ e. record { rule = e.rule; below = map (frame_in e.gathered.items e.marks.items) (opens e.around.items e.innermost); last = record { octets = list_from e.gathered.items e.marks.items e.list.start e.list.first; tags = tags_of e.list.tags } } };
 
-    ghost invariant = { λ e. Sound e.gathered.items e.marks.items e.list.start e.list.first e.list.measured × Chain e.gathered.items e.marks.items 0 0 e.interrupted.items e.list.start e.list.first };
+    ghost invariant = { λ e. Sound e.gathered.items e.marks.items e.list.start e.list.first e.list.measured × Chain e.gathered.items e.marks.items 0 0 (opens e.around.items e.innermost) e.list.start e.list.first × IsInnermost e.around.items e.innermost };
 }
 
 impl Writer {
@@ -133,7 +138,8 @@ impl Writer {
                 measured: 0,
                 tags,
             },
-            interrupted: Vec::new(alloc),
+            around: Vec::new(alloc),
+            innermost: None,
         })
     }
 
@@ -160,7 +166,8 @@ impl Writer {
             gathered,
             marks,
             list,
-            interrupted: _,
+            around: _,
+            innermost: _,
         } = self;
         let ValueList {
             start,
@@ -180,28 +187,33 @@ impl Writer {
         ensures err { OnErr result (self.new ≡ self.old) }
         ensures memory { IfErr result (IsAllocError self.old.rule) }
     {
-        let room = self.gathered.reserve(ROOM);
-        if room.is_err() || self.interrupted.reserve(1).is_err() {
-            return Err(out_of_memory(self.rule));
+        let rule = self.rule;
+        if self.gathered.reserve(ROOM).is_err() {
+            return Err(out_of_memory(rule));
         }
-        let end = self.gathered.len();
-        let last = self.marks.len();
-        let tags = if keeps_tags {
-            Some(Vec::new(self.alloc))
-        } else {
-            None
-        };
-        self.gathered.push_reserved(0);
-        self.gathered.push_reserved(0);
-        let inner = ValueList {
-            start: self.gathered.len(),
-            first: last,
-            measured: 0,
-            tags,
-        };
-        let list = mem::replace(&mut self.list, inner);
-        self.interrupted.push_reserved(Open { list, end, last });
-        Ok(())
+        match push_innermost(&mut self.around, &mut self.innermost) {
+            Ok(()) => {
+                let end = self.gathered.len();
+                let last = self.marks.len();
+                let tags = if keeps_tags {
+                    Some(Vec::new(self.alloc))
+                } else {
+                    None
+                };
+                self.gathered.push_reserved(0);
+                self.gathered.push_reserved(0);
+                let inner = ValueList {
+                    start: self.gathered.len(),
+                    first: last,
+                    measured: 0,
+                    tags,
+                };
+                let list = mem::replace(&mut self.list, inner);
+                self.innermost = Some(Open { list, end, last });
+                Ok(())
+            }
+            Err(_) => Err(out_of_memory(rule)),
+        }
     }
 
     /// Drops the value that was opened last, with its contents.
@@ -209,7 +221,7 @@ impl Writer {
         requires { 0 < length self.old.below }
         ensures { (v : View) → IsBelow v self.old → self.new ≡ v }
     {
-        let Open { list, end, last } = self.interrupted.pop().unwrap();
+        let Open { list, end, last } = pop_innermost(&mut self.around, &mut self.innermost);
         self.gathered.truncate(end);
         self.marks.truncate(last);
         self.list = list;
@@ -224,7 +236,7 @@ impl Writer {
     {
         let rule = self.rule;
         let count = self.list.measured;
-        let mut open = self.interrupted.pop().unwrap();
+        let mut open = pop_innermost(&mut self.around, &mut self.innermost);
         let closed = surround(
             &mut self.gathered,
             &mut self.marks,
