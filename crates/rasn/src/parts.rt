@@ -1,6 +1,7 @@
 //! The parts of a SEQUENCE or a SET, and the alternatives of a CHOICE, as types: what a type of one's own is read and written with.
 pub use rasn_de::ber::de::alternatives::DecodeAlternatives;
 pub use rasn_de::ber::de::parts::{Addition, DecodeParts, Defaulted, Optional, Required};
+pub use rasn_de::ber::de::set_parts::DecodeSetParts;
 pub use rasn_enc::ber::enc::alternatives::EncodeAlternative;
 pub use rasn_enc::ber::enc::parts::{EncodeParts, Put, PutAddition, PutDefault, PutOptional};
 pub use rasn_types::types::{DefaultValue, End, Never, OneOf};

@@ -1,8 +1,9 @@
 //! What a type of one's own is made of: `use rasn::prelude::*;`.
 
 pub use crate::parts::{
-    Addition, DecodeAlternatives, DecodeParts, DefaultValue, Defaulted, EncodeAlternative,
-    EncodeParts, End, Never, OneOf, Optional, Put, PutAddition, PutDefault, PutOptional, Required,
+    Addition, DecodeAlternatives, DecodeParts, DecodeSetParts, DefaultValue, Defaulted,
+    EncodeAlternative, EncodeParts, End, Never, OneOf, Optional, Put, PutAddition, PutDefault,
+    PutOptional, Required,
 };
 pub use crate::types::{
     Alphabet, Any, ApplicationTag, AsnType, BitStr, BitString, BmpString, Bound, Bounded, Class,

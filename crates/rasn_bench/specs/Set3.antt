@@ -2,12 +2,10 @@
 use Rattle.std.specs.Prelude.{ℕ, pos, [], ◌∷◌}
 use Rattle.rasn_types.specs.Tags.{in_universal}
 use Rattle.rasn_types.specs.declared.types.tag.Class.TheVariants.{Context}
-use Rattle.rasn_types.specs.Shapes.{Shape, Tree, number, items, chosen, leaf, integer, set, Parts, part, required}
+use Rattle.rasn_types.specs.Shapes.{Shape, Tree, number, items, leaf, integer, set, Parts, part, required}
 use Rattle.rasn_types.specs.Shapes.Parts.{none}
 use Rattle.rasn_types.specs.Trees.{unconstrained, unsigned_range}
 use Rattle.rasn_bench.specs.declared.worked.set3.Set3.{Set3}
-use Rattle.rasn_bench.specs.declared.worked.set3.Component.{Component}
-use Rattle.rasn_bench.specs.declared.worked.set3.Component.TheVariants.{Zero, One, Two}
 
 abbrev pub octet_at : ℕ → Shape
 octet_at n = leaf (integer (unsigned_range 8)) (record { class = Context; value = n }) unconstrained
@@ -20,8 +18,3 @@ set3_shape = set (in_universal 17) set3_parts
 
 abbrev pub set3_tree : Set3 → Tree
 set3_tree s = items (number (pos s.zero) ∷ number (pos s.one) ∷ number (pos s.two) ∷ [])
-
-abbrev pub component_tree : Component → Tree
-component_tree (Zero n) = chosen 0 (number (pos n))
-component_tree (One n) = chosen 1 (number (pos n))
-component_tree (Two n) = chosen 2 (number (pos n))

@@ -5,3 +5,4 @@ pub mod Alternatives
 pub mod Tags
 pub mod PartTypes
 pub mod AlternativeTypes
+pub mod SetPartTypes

@@ -25,3 +25,4 @@ pub mod ObjectIdentifier
 pub mod BitString
 pub mod PartTypes
 pub mod AlternativeTypes
+pub mod SetPartTypes

@@ -6,6 +6,7 @@ mod defaults;
 mod elements;
 mod order;
 mod outputs;
+mod parts;
 mod reads;
 mod reads_set;
 mod refusals;

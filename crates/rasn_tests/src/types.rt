@@ -6,6 +6,7 @@ mod fieldless;
 mod graded;
 mod profile;
 mod ratio;
+mod signal;
 mod three;
 
 pub use counted::Counted;
@@ -15,6 +16,7 @@ pub use graded::Graded;
 pub use profile::Profile;
 use rasn_bench::Both;
 pub use ratio::Ratio;
+pub use signal::Signal;
 pub use three::Three;
 
 /// SEQUENCE { first INTEGER, second BOOLEAN }, of what its readers by closures make.

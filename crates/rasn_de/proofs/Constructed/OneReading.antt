@@ -19,7 +19,7 @@ none_here : (k : ℕ) (t : Tree) (before after : List Tree) → NoneOf k (before
 none_here k t [] after h = h.0 t refl
 none_here k t (b ∷ before) after h = none_here k t before after h.1
 
-one_of_one : (k : ℕ) (t u : Tree) (a b c d : List Tree) → NoneOf k a → NoneOf k c → a ++ (chosen k t ∷ b) ≡ c ++ (chosen k u ∷ d) → t ≡ u
+pub one_of_one : (k : ℕ) (t u : Tree) (a b c d : List Tree) → NoneOf k a → NoneOf k c → a ++ (chosen k t ∷ b) ≡ c ++ (chosen k u ∷ d) → t ≡ u
 one_of_one k t u [] b [] d h l e = cc
 one_of_one k t u [] b (y ∷ c) d h l e = let f : chosen k t ≡ y = cc in absurd (l.0 t (sym f))
 one_of_one k t u (x ∷ a) b [] d h l e = let f : x ≡ chosen k u = cc in absurd (h.0 u f)

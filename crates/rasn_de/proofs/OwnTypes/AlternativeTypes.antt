@@ -6,7 +6,7 @@ use Rattle.rasn_types.specs.declared.error.decode.DecodeError.{DecodeError}
 use Rattle.rasn_types.specs.declared.error.decode.DecodeErrorKind.{DecodeErrorKind}
 use Rattle.rasn_types.specs.Tags.{form}
 use Rattle.rasn_types.specs.Framing.{NextTag}
-use Rattle.rasn_types.specs.Shapes.{Tree, chosen, Shape, leaf, any, prefix, choice, option, seq, set, list, set_of, Parts, part, required, own, IsFirst, IsFirstOf}
+use Rattle.rasn_types.specs.Shapes.{Tree, chosen, Shape, leaf, any, prefix, choice, option, seq, set, list, set_of, Parts, part, Presence, own, IsFirst, IsFirstOf}
 use Rattle.rasn_types.specs.Shapes.Parts.{none}
 use Rattle.rasn_types.specs.Readings.{Reading, ReadsChoice}
 use Rattle.rasn_types.specs.Grammar.{Reads, parts_of}
@@ -24,7 +24,7 @@ use Rattle.rasn_de.proofs.Headers.Ends.{IsEnd-refl}
 use Rattle.rasn_de.proofs.Headers.Frames.{same_tag_self}
 use Rattle.rasn_de.proofs.Constructed.Reads.{Exact-same}
 use Rattle.rasn_de.proofs.OwnTypes.PartTypes.{same_own_is}
-use Rattle.rasn_de.proofs.OwnTypes.Alternatives.{read_at, alone}
+use Rattle.rasn_de.proofs.OwnTypes.Alternatives.{OneAlternative, read_at, alone, no_default, as_read}
 
 -- A shape with a tag of its own begins with it alone.
 first_own : (s : Shape) (t n : Tag) → own s ≡ Some t → IsFirst s n → n ≡ t
@@ -73,51 +73,54 @@ module _ (s : Shape) (t : Tag) (ps : Parts) (b : Bool) (e : is_first_alone s t p
   pub others_differ : b ≡ true
   others_differ = (both_true (is_first_alone s t ps) b e).1
 
-module _ (s : Shape) (ps : Parts) (tag t : Tag) (h : tag ≡ t) (e : own s ≡ Some t) (others : IsFirstOf ps t → ⊥) where
-  only_first : IsOnlyAlternative (part required s ps) 0 required s tag
+module _ (p : Presence) (s : Shape) (ps : Parts) (tag t : Tag) (h : tag ≡ t) (e : own s ≡ Some t) (others : IsFirstOf ps t → ⊥) where
+  only_first : IsOnlyAlternative (part p s ps) 0 p s tag
   only_first = (refl, refl, own_first s tag (e ∙ ap (λ x. Some x) (sym h)), λ f. others (subst (IsFirstOf ps) h f))
 
+  first_is : IsFirst s tag
+  first_is = own_first s tag (e ∙ ap (λ x. Some x) (sym h))
+
   -- The first alternative is read.
-  pub first_got : (old new : State) → NextTag (form old.rule) old.rest tag → (u : Tree) → DecodesExactly (λ rule. Reads rule s) old (Got u new.rest) new → (k : ℕ)
-      → DecodesExactly (ReadsNumbered k (part required s ps)) old (Got (chosen (k + 0) u) new.rest) new
+  pub first_got : (old new : State) → NextTag (form old.rule) old.rest tag → (u : Tree) → DecodesExactly (OneAlternative p s) old (Got u new.rest) new → (k : ℕ)
+      → DecodesExactly (ReadsNumbered k (part p s ps)) old (Got (chosen (k + 0) u) new.rest) new
   first_got old new n u a k = record {
     stays = a.stays;
     end = a.end;
     exact = (
-      read_at old.rule old.depth old.closing old.rest tag n (part required s ps) k 0 (k + 0) required s refl only_first u new.rest (a.exact.0, λ z. tt),
-      λ v r w. let q = alone old.rule old.depth old.closing old.rest tag n (part required s ps) k 0 (k + 0) required s refl only_first v r w in
-          let f = a.exact.1 q.0 r q.2.0 in (q.1 ∙ ap (λ u. chosen (k + 0) u) f.0, f.1),
+      read_at old.rule old.depth old.closing old.rest tag n (part p s ps) k 0 (k + 0) p s refl only_first u new.rest (no_default old.rule old.depth old.closing old.rest tag n p s first_is u new.rest a.exact.0),
+      λ v r w. let q = alone old.rule old.depth old.closing old.rest tag n (part p s ps) k 0 (k + 0) p s refl only_first v r w in
+          let f = a.exact.1 q.0 r (as_read old.rule old.depth old.closing old.rest tag n p s first_is q.0 r q.2) in (q.1 ∙ ap (λ u. chosen (k + 0) u) f.0, f.1),
     );
   }
 
   -- It is refused.
-  pub first_refused : (old new : State) → NextTag (form old.rule) old.rest tag → (kind : DecodeErrorKind) → DecodesExactly (λ rule. Reads rule s) old (refusal kind) new → (k : ℕ)
-      → DecodesExactly (ReadsNumbered k (part required s ps)) old (refusal kind) new
+  pub first_refused : (old new : State) → NextTag (form old.rule) old.rest tag → (kind : DecodeErrorKind) → DecodesExactly (OneAlternative p s) old (refusal kind) new → (k : ℕ)
+      → DecodesExactly (ReadsNumbered k (part p s ps)) old (refusal kind) new
   first_refused old new n kind a k = record {
     stays = a.stays;
     end = a.end;
-    exact = Exact-refusal kind (Reads old.rule s old.depth old.closing) (ReadsNumbered k (part required s ps) old.rule old.depth old.closing) old.rest old.rest
-        (λ nothing v r w. let q = alone old.rule old.depth old.closing old.rest tag n (part required s ps) k 0 (k + 0) required s refl only_first v r w in nothing q.0 r q.2.0) a.exact;
+    exact = Exact-refusal kind (OneAlternative p s old.rule old.depth old.closing) (ReadsNumbered k (part p s ps) old.rule old.depth old.closing) old.rest old.rest
+        (λ nothing v r w. let q = alone old.rule old.depth old.closing old.rest tag n (part p s ps) k 0 (k + 0) p s refl only_first v r w in nothing q.0 r (as_read old.rule old.depth old.closing old.rest tag n p s first_is q.0 r q.2)) a.exact;
   }
 
 -- The tag is another one, and the other alternatives are read.
-module _ (s : Shape) (ps : Parts) (tag t : Tag) (not_this : tag ≡ t → ⊥) (e : own s ≡ Some t) (old new : State) (n : NextTag (form old.rule) old.rest tag) where
-  pub others_read : (k : ℕ) (o : Outcome) → DecodesExactly (ReadsNumbered (suc k) ps) old o new → DecodesExactly (ReadsNumbered k (part required s ps)) old o new
+module _ (p : Presence) (s : Shape) (ps : Parts) (tag t : Tag) (not_this : tag ≡ t → ⊥) (e : own s ≡ Some t) (old new : State) (n : NextTag (form old.rule) old.rest tag) where
+  pub others_read : (k : ℕ) (o : Outcome) → DecodesExactly (ReadsNumbered (suc k) ps) old o new → DecodesExactly (ReadsNumbered k (part p s ps)) old o new
   unfolding parts_of
   others_read k o a = record {
     stays = a.stays;
     end = a.end;
-    exact = Exact-same (ReadsNumbered (suc k) ps old.rule old.depth old.closing) (ReadsNumbered k (part required s ps) old.rule old.depth old.closing) old.rest o there back a.exact;
+    exact = Exact-same (ReadsNumbered (suc k) ps old.rule old.depth old.closing) (ReadsNumbered k (part p s ps) old.rule old.depth old.closing) old.rest o there back a.exact;
   }
     where
-      there : (v : Tree) (r : List ℕ) → ReadsNumbered (suc k) ps old.rule old.depth old.closing old.rest v r → ReadsNumbered k (part required s ps) old.rule old.depth old.closing old.rest v r
+      there : (v : Tree) (r : List ℕ) → ReadsNumbered (suc k) ps old.rule old.depth old.closing old.rest v r → ReadsNumbered k (part p s ps) old.rule old.depth old.closing old.rest v r
       there v r w = inr w
 
-      back : (v : Tree) (r : List ℕ) → ReadsNumbered k (part required s ps) old.rule old.depth old.closing old.rest v r → ReadsNumbered (suc k) ps old.rule old.depth old.closing old.rest v r
+      back : (v : Tree) (r : List ℕ) → ReadsNumbered k (part p s ps) old.rule old.depth old.closing old.rest v r → ReadsNumbered (suc k) ps old.rule old.depth old.closing old.rest v r
       back v r (inl (u, f, next, m, g, x, z)) = absurd (not_this (first_own s t tag e (subst (λ z. IsFirst s z) (next_one old.rest next tag m n) g)))
       back v r (inr w) = w
 
-  pub others_got : (k i : ℕ) (u : Tree) → DecodesExactly (ReadsNumbered (suc k) ps) old (Got (chosen (suc k + i) u) new.rest) new → DecodesExactly (ReadsNumbered k (part required s ps)) old (Got (chosen (k + suc i) u) new.rest) new
+  pub others_got : (k i : ℕ) (u : Tree) → DecodesExactly (ReadsNumbered (suc k) ps) old (Got (chosen (suc k + i) u) new.rest) new → DecodesExactly (ReadsNumbered k (part p s ps)) old (Got (chosen (k + suc i) u) new.rest) new
   others_got k i u a =
       let f : suc k + i ≡ k + suc i = omega arith in
       others_read k (Got (chosen (k + suc i) u) new.rest) (subst (λ m. DecodesExactly (ReadsNumbered (suc k) ps) old (Got (chosen m u) new.rest) new) f a)
@@ -128,7 +131,7 @@ unfolding parts_of
 none_read k kind {old} = record { stays = refl; end = IsEnd-refl old.rest; exact = Exact-none kind (ReadsNumbered k none old.rule old.depth old.closing) old.rest (λ t r h. h) }
 
 -- The alternatives of a CHOICE are counted from 0.
-choice_read : (ps : Parts) {old new : State} {o : Outcome} → DecodesExactly (ReadsNumbered 0 ps) old o new → DecodesExactly (λ rule. Reads rule (choice ps)) old o new
+pub choice_read : (ps : Parts) {old new : State} {o : Outcome} → DecodesExactly (ReadsNumbered 0 ps) old o new → DecodesExactly (λ rule. Reads rule (choice ps)) old o new
 unfolding Reads
 choice_read ps {old} {new} {o} a = record { stays = a.stays; end = a.end; exact = a.exact }
 

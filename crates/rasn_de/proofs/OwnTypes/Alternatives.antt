@@ -56,14 +56,14 @@ module _ (rule : Codec) (depth : ℕ) (closing : Bool) (input : List ℕ) (tag :
   is_there None h = not_ended closing input tag n
   is_there (Some t) h = (not_ended closing input tag n, subst (NextTag (form rule) input) h n)
 
-  no_default : (p : Presence) (s : Shape) → IsFirst s tag → (t : Tree) (rest : List ℕ) → OneAlternative p s rule depth closing input t rest → ReadsNoDefault p s rule depth closing input t rest
+  pub no_default : (p : Presence) (s : Shape) → IsFirst s tag → (t : Tree) (rest : List ℕ) → OneAlternative p s rule depth closing input t rest → ReadsNoDefault p s rule depth closing input t rest
   no_default required s f t rest h = (h, λ z. tt)
   no_default optional s f t rest h = (h, λ z. tt)
   no_default addition s f t rest h = (h, λ z. tt)
   no_default (default d) s f t rest (inl (l, e, r)) = absurd (apart (form rule) (own s) closing input l (is_there (own s) (first_own s tag f)))
   no_default (default d) s f t rest (inr (l, h)) = h
 
-  as_read : (p : Presence) (s : Shape) → IsFirst s tag → (t : Tree) (rest : List ℕ) → ReadsNoDefault p s rule depth closing input t rest → OneAlternative p s rule depth closing input t rest
+  pub as_read : (p : Presence) (s : Shape) → IsFirst s tag → (t : Tree) (rest : List ℕ) → ReadsNoDefault p s rule depth closing input t rest → OneAlternative p s rule depth closing input t rest
   as_read required s f t rest h = h.0
   as_read optional s f t rest h = h.0
   as_read addition s f t rest h = h.0

@@ -69,7 +69,7 @@ module _ {C D : Type 0} (piece : C → Tree) (tree : D → Tree) (done : List C)
   pub slot_kept : (u : Tree) (k j : ℕ) → piece c ≡ chosen j u → (held : Option D) → (j ≡ k → ⊥) → Slot k tree held (map piece done) → Slot k tree held (map piece (done ++ c ∷ []))
   slot_kept u k j e held n s = subst (Slot k tree held) (sym (more_is (chosen j u) e)) (kept_more k tree held j u (map piece done) n s)
 
-not_none : (k : ℕ) (t : Tree) (before after : List Tree) → NoneOf k (before ++ chosen k t ∷ after) → ⊥
+pub not_none : (k : ℕ) (t : Tree) (before after : List Tree) → NoneOf k (before ++ chosen k t ∷ after) → ⊥
 not_none k t [] after h = h.0 t refl
 not_none k t (b ∷ before) after h = not_none k t before after h.1
 
@@ -95,7 +95,7 @@ by_part_required (part p s ps) zero i n rs ts e q (t, us, f, inr (o, w), h) m = 
 by_part_required (part p s ps) (suc k) i n rs ts e q (t, us, f, o, h) m = by_part_required ps k (suc i) n rs us (omega arith) q h m
 
 -- Where a component of part k comes behind one of it, the components are no parts.
-no_parts_twice : (ps : Parts) (k : ℕ) → IsPart k ps → (rs : List Tree) (t u : Tree) (more readings : List Tree) → readings ≡ rs ++ chosen k u ∷ more → OneOf k t rs → (v : Tree) → AreParts ps readings v → ⊥
+pub no_parts_twice : (ps : Parts) (k : ℕ) → IsPart k ps → (rs : List Tree) (t u : Tree) (more readings : List Tree) → readings ≡ rs ++ chosen k u ∷ more → OneOf k t rs → (v : Tree) → AreParts ps readings v → ⊥
 no_parts_twice ps k q rs t u more readings e o v (ts, f, h) = go (by_part_some ps k 0 k readings ts (omega arith) q h)
   where
     is : readings ≡ (o.before ++ chosen k t ∷ o.after) ++ chosen k u ∷ more

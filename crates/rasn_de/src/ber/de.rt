@@ -48,6 +48,7 @@ mod sequence;
 mod sequence_of;
 mod set;
 mod set_of;
+pub mod set_parts;
 mod time;
 
 pub use config::DecoderOptions;

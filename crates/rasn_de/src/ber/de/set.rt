@@ -24,7 +24,7 @@ fn is_below_last(tag: Tag, last: Option<Tag>) -> bool
 
 impl<'input> Decoder<'input> {
     /// Under DER the next tag, which must not be below the last one (X.690 10.3); under the other rules it isn't looked at.
-    fn peek_tag_in_order(&self, last: Option<Tag>) -> Result<Option<Tag>, DecodeError>
+    pub(super) fn peek_tag_in_order(&self, last: Option<Tag>) -> Result<Option<Tag>, DecodeError>
         ensures { PeeksInOrder last self.now result }
     {
         if !self.is_strict() {
