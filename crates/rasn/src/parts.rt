@@ -4,4 +4,4 @@ pub use rasn_de::ber::de::parts::{Addition, DecodeParts, Defaulted, Optional, Re
 pub use rasn_de::ber::de::set_parts::DecodeSetParts;
 pub use rasn_enc::ber::enc::alternatives::EncodeAlternative;
 pub use rasn_enc::ber::enc::parts::{EncodeParts, Put, PutAddition, PutDefault, PutOptional};
-pub use rasn_types::types::{DefaultValue, End, Never, OneOf};
+pub use rasn_types::types::{DefaultValue, End, Last, OneOf};

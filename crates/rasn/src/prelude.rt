@@ -2,7 +2,7 @@
 
 pub use crate::parts::{
     Addition, DecodeAlternatives, DecodeParts, DecodeSetParts, DefaultValue, Defaulted,
-    EncodeAlternative, EncodeParts, End, Never, OneOf, Optional, Put, PutAddition, PutDefault,
+    EncodeAlternative, EncodeParts, End, Last, OneOf, Optional, Put, PutAddition, PutDefault,
     PutOptional, Required,
 };
 pub use crate::types::{

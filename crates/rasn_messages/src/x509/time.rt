@@ -1,7 +1,7 @@
 //! `Time ::= CHOICE { utcTime UTCTime, generalTime GeneralizedTime }` (RFC 5280, 4.1).
 
 use rasn::error::{DecodeError, EncodeError};
-use rasn::parts::{Never, OneOf};
+use rasn::parts::{Last, OneOf};
 use rasn::types::{AsnType, Constraints, GeneralizedTime, Identifier, LawfulEq, Tag, UtcTime};
 use rasn::{Decode, Decoder, Encode, Encoder};
 
@@ -47,16 +47,15 @@ impl Decode for Time {
         _tag: Tag,
         _constraints: &Constraints,
     ) -> Result<Time, DecodeError> {
-        match decoder.read_choice::<OneOf<UtcTime, OneOf<GeneralizedTime, Never>>>("Time")? {
+        match decoder.read_choice::<OneOf<UtcTime, Last<GeneralizedTime>>>("Time")? {
             OneOf::This(time) => Ok(Time::Utc(time)),
-            OneOf::Other(OneOf::This(time)) => Ok(Time::General(time)),
-            OneOf::Other(OneOf::Other(never)) => match never {},
+            OneOf::Other(Last(time)) => Ok(Time::General(time)),
         }
     }
 }
 
 /// The alternatives, as they are written.
-type Alternatives<'a> = OneOf<&'a UtcTime, OneOf<&'a GeneralizedTime, Never>>;
+type Alternatives<'a> = OneOf<&'a UtcTime, Last<&'a GeneralizedTime>>;
 
 impl Encode for Time {
     fn encode_with_tag_and_constraints(
@@ -69,7 +68,7 @@ impl Encode for Time {
         match self {
             Time::Utc(time) => encoder.write_choice::<Alternatives<'_>>(OneOf::This(time)),
             Time::General(time) => {
-                encoder.write_choice::<Alternatives<'_>>(OneOf::Other(OneOf::This(time)))
+                encoder.write_choice::<Alternatives<'_>>(OneOf::Other(Last(time)))
             }
         }
     }

@@ -31,6 +31,6 @@ pub enum OneOf<A, R> {
     Other(R),
 }
 
-/// No alternative: the end of a list of alternatives. It has no value.
+/// The last alternative of a CHOICE.
 #[derive(Debug, Drop)]
-pub enum Never {}
+pub struct Last<A>(pub A);

@@ -9,9 +9,10 @@ ghost use Rattle.rasn_de.specs.AlternativeTypes.{DecodesNumbered};
 use crate::ber::de::Decoder;
 use crate::de::{Decode, Error};
 use rasn_types::error::DecodeError;
-use rasn_types::types::{Never, OneOf, Tag};
+use rasn_types::types::{Last, OneOf, Tag};
 
-/// Alternatives, each of which has a tag of its own: [`OneOf`] for each, with those behind it, and [`Never`] behind the last.
+/// Alternatives, each of which has a tag of its own: [`OneOf`] for each, with those behind it, and
+/// [`Last`] for the last.
 pub trait DecodeAlternatives: Drop {
     ghost use Rattle.std.specs.Prelude.{Bool, ℕ};
     ghost use Rattle.rasn_types.specs.Shapes.{Parts, Tree};
@@ -39,24 +40,29 @@ pub trait DecodeAlternatives: Drop {
         ensures { DecodesNumbered parts number inner decoder.old result decoder.new };
 }
 
-impl DecodeAlternatives for Never {
-    ghost use Rattle.std.specs.Prelude.{true};
-    ghost use Rattle.rasn_types.specs.Shapes.{done};
+impl<A: Decode> DecodeAlternatives for Last<A> {
+    ghost use Rattle.std.specs.Prelude.{true, ◌&&◌};
+    ghost use Rattle.rasn_types.specs.Shapes.{part, required};
     ghost use Rattle.rasn_types.specs.Shapes.Parts.{none};
+    ghost use Rattle.rasn_de.specs.AlternativeTypes.{is_first_alone};
 
-    ghost parts = { none };
+    ghost parts = { part required A.shape none };
 
     ghost number = { λ v. 0 };
 
-    ghost inner = { λ v. done };
+    ghost inner = { λ v. A.tree v.0 };
 
-    ghost tags_differ = { true };
+    ghost tags_differ = { is_first_alone A.shape A.TAG none && true };
 
     fn decode_alternative(
         decoder: &mut Decoder<'_>,
-        _tag: Tag,
+        tag: Tag,
         name: &str,
-    ) -> Result<Never, DecodeError> {
+    ) -> Result<Last<A>, DecodeError> {
+        if tag == A::TAG {
+            let value = A::decode(decoder)?;
+            return Ok(Last(value));
+        }
         Err(DecodeError::no_valid_choice(decoder.alloc(), name, decoder.codec()))
     }
 }

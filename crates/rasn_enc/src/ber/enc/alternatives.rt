@@ -6,9 +6,9 @@ ghost use Rattle.rasn_enc.specs.Encoding.{AppendsEncoding, EncodeFails};
 use crate::ber::enc::Encoder;
 use crate::enc::Encode;
 use rasn_types::error::EncodeError;
-use rasn_types::types::{Never, OneOf};
+use rasn_types::types::{Last, OneOf};
 
-/// An alternative among others: [`OneOf`] for each, over a reference and those behind it, and [`Never`] behind the last.
+/// An alternative among others: [`OneOf`] for each, over a reference and those behind it, and [`Last`] for the last.
 pub trait EncodeAlternative: Drop {
     ghost use Rattle.std.specs.Prelude.{ℕ};
     ghost use Rattle.rasn_types.specs.Shapes.{Parts, Shape, Tree};
@@ -35,24 +35,24 @@ pub trait EncodeAlternative: Drop {
     ghost stands: { (v : Self) → IsAlternative parts (number v) (shape v) };
 }
 
-impl EncodeAlternative for Never {
-    ghost use Rattle.std.specs.Prelude.{None};
-    ghost use Rattle.rasn_types.specs.Shapes.{done, any};
+impl<'a, A: Encode> EncodeAlternative for Last<&'a A> {
+    ghost use Rattle.std.specs.Prelude.{refl};
+    ghost use Rattle.rasn_types.specs.Shapes.{part, required};
     ghost use Rattle.rasn_types.specs.Shapes.Parts.{none};
 
-    ghost parts = { none };
+    ghost parts = { part required A.shape none };
 
     ghost number = { λ v. 0 };
 
-    ghost shape = { λ v. any None };
+    ghost shape = { λ v. A.shape };
 
-    ghost inner = { λ v. done };
+    ghost inner = { λ v. A.tree v.0.now };
 
-    fn encode_alternative(self, _encoder: &mut Encoder) -> Result<(), EncodeError> {
-        match self {}
+    fn encode_alternative(self, encoder: &mut Encoder) -> Result<(), EncodeError> {
+        self.0.encode(encoder)
     }
 
-    ghost stands = { λ v. elim v [ ] };
+    ghost stands = { λ v. refl };
 }
 
 impl<'a, A: Encode, R: EncodeAlternative> EncodeAlternative for OneOf<&'a A, R> {
