@@ -12,6 +12,7 @@ mod errors;
 mod hostile;
 #[cfg(test)]
 mod messages;
+#[cfg(test)]
 mod parts;
 #[cfg(test)]
 mod program;
