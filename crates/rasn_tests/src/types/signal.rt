@@ -41,10 +41,9 @@ impl AsnType for Signal {
 }
 
 impl LawfulEq for Signal {
-    ghost use Rattle.std.proofs.Common.{rules};
-    ghost use Rattle.rasn_types.specs.Equality.{deciding};
+    ghost use Rattle.rasn_types.specs.Deciding.{deciding};
 
-    ghost decides = { Prim.search (deciding, rules) depth 30 };
+    ghost decides = { Prim.search deciding depth 64 };
 }
 
 impl Decode for Signal {
