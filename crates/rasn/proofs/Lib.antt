@@ -6,3 +6,4 @@ pub mod Included
 pub mod ReadBack
 pub mod StrictDer
 pub mod Time
+pub mod OwnMessages

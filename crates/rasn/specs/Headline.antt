@@ -57,6 +57,15 @@ abbrev pub IsAsWritten : {T : Type 0} → Shape → (T → Tree) → List ℕ �
 IsAsWritten s tree input (Ok v) = IsLawful s → (c : Carried Der s (tree v)) → input ≡ c.octets
 IsAsWritten s tree input (Err e) = Unit {0}
 
+-- As in IsAsWritten, of a lawful shape all of whose values that DER reads are carried: what is answered is carried, and the input is its octets.
+abbrev pub IsCarriedAsWritten : {T : Type 0} → Shape → (T → Tree) → List ℕ → Result T DecodeError → Type 0
+IsCarriedAsWritten s tree input (Ok v) = (c : Carried Der s (tree v)) × (input ≡ c.octets)
+IsCarriedAsWritten s tree input (Err e) = Unit {0}
+
+-- As in Identify, of a lawful shape.
+abbrev pub Identifies : Shape → Tree → List ℕ → Type 0
+Identifies s t octets = IsWithinLimits Der s 128 t → (u : Tree) (c : Carried Der s u) → (Same t u ↔ (octets ≡ c.octets))
+
 -- What a closure writes is refused: memory runs out, or the closure refuses from a new encoder on.
 abbrev pub ScopeRefuses : {F T : Type 0} → EncodeClosure F T → F → Codec → EncodeError → Type 0
 ScopeRefuses g f rule e = IsAllocError rule e ⊎ MayFail g f (started rule false) e

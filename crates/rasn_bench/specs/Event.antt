@@ -9,7 +9,7 @@ use Rattle.rasn_types.specs.Trees.{bool_tree, option_tree, unconstrained, unsign
 use Rattle.rasn_bench.specs.declared.worked.event.Event.{Event}
 use Rattle.rasn_bench.specs.declared.worked.event.Component.{Component}
 use Rattle.rasn_bench.specs.declared.worked.event.Component.TheVariants.{At, Level, Confirmed}
-use Rattle.rasn_messages.specs.X509.Times.{time_shape, time_tree}
+use Rattle.rasn_x509.specs.Times.{time_shape, time_tree}
 
 abbrev pub context : ℕ → Tag
 context n = record { class = Context; value = n }

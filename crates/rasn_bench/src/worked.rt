@@ -15,7 +15,7 @@ pub use event::Event;
 pub use grouped::{Group, Grouped};
 pub use pair::Pair;
 use rasn::types::Ia5String;
-pub use rasn_messages::x509::{
+pub use rasn_x509::{
     AlgorithmIdentifier, AttributeTypeAndValue, RelativeDistinguishedName, Time,
 };
 pub use reason::Reason;

@@ -4,7 +4,7 @@ use crate::whole::assert_decodes;
 use crate::writing::assert_output;
 use rasn::ber;
 use rasn::types::Codec;
-use rasn_messages::x509::{Certificate, Time, read_certificate, write_certificate};
+use rasn_x509::{Certificate, Time, read_certificate, write_certificate};
 use std::alloc::Global;
 use std::process::Abort;
 

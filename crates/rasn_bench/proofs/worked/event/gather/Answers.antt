@@ -2,7 +2,7 @@ use Rattle.std.proofs.Common.{rules, ◌≡◌, ◌∷◌, [], ◌++◌, List, l
 use Rattle.std.specs.Vec.Iter.{into_iter_items}
 use Rattle.rasn_types.specs.Trees.{bool_tree}
 use Rattle.rasn_de.proofs.OwnTypes.Components.{component_twice}
-use Rattle.rasn_messages.specs.X509.Times.{time_tree}
+use Rattle.rasn_x509.specs.Times.{time_tree}
 use Rattle.rasn_bench.specs.Event.{event_parts, level_tree, component_tree}
 use Rattle.rasn_bench.proofs.EventComponents.{appended_time, appended_level, appended_confirmed, no_time, all_there}
 use Rattle.rasn_bench.proofs.worked.event.gather.Goals as goal

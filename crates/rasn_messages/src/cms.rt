@@ -1,0 +1,1 @@
+//! Cryptographic message syntax (RFC 5652).

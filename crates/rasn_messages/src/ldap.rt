@@ -1,0 +1,1 @@
+//! The lightweight directory access protocol (RFC 4511).

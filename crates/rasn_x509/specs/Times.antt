@@ -1,0 +1,18 @@
+-- Time ::= CHOICE { utcTime UTCTime, generalTime GeneralizedTime }
+use Rattle.std.specs.Prelude.{ℕ}
+use Rattle.rasn_types.specs.Tags.{in_universal}
+use Rattle.rasn_types.specs.Shapes.{Shape, Tree, instant, chosen, leaf, utc_time, generalized_time, choice, Parts, part, required}
+use Rattle.rasn_types.specs.Shapes.Parts.{none}
+use Rattle.rasn_types.specs.Trees.{unconstrained}
+use Rattle.rasn_x509.specs.declared.time.Time.{Time}
+use Rattle.rasn_x509.specs.declared.time.Time.TheVariants.{Utc, General}
+
+abbrev pub time_alternatives : Parts
+time_alternatives = part required (leaf utc_time (in_universal 23) unconstrained) (part required (leaf generalized_time (in_universal 24) unconstrained) none)
+
+abbrev pub time_shape : Shape
+time_shape = choice time_alternatives
+
+abbrev pub time_tree : Time → Tree
+time_tree (Utc time) = chosen 0 (instant time)
+time_tree (General time) = chosen 1 (instant time.moment)

@@ -1,0 +1,88 @@
+//! `Certificate ::= SEQUENCE { tbsCertificate TBSCertificate, signatureAlgorithm AlgorithmIdentifier, signatureValue BIT STRING }` (RFC 5280, 4.1).
+use crate::{AlgorithmIdentifier, TbsCertificate};
+use rasn::error::{DecodeError, EncodeError};
+use rasn::parts::{End, Put, Required};
+use rasn::types::{AsnType, BitString, Constraints, Identifier, LawfulEq, Present, Tag};
+use rasn::{Decode, Decoder, Encode, Encoder};
+
+/// SEQUENCE { tbsCertificate TBSCertificate, signatureAlgorithm AlgorithmIdentifier, signatureValue BIT STRING }
+#[derive(Debug, PartialEq, Eq, Drop)]
+pub struct Certificate {
+    pub tbs_certificate: TbsCertificate,
+    pub signature_algorithm: AlgorithmIdentifier,
+    pub signature_value: BitString,
+}
+
+impl AsnType for Certificate {
+    ghost use Rattle.std.specs.Prelude.{refl};
+    ghost use Rattle.rasn_types.specs.Tags.{in_universal};
+    ghost use Rattle.rasn_types.specs.Trees.{unconstrained};
+    ghost use Rattle.rasn_x509.specs.Signed.{certificate_shape, certificate_tree};
+
+    ghost TAG = { in_universal 16 };
+
+    const TAG: Tag = Tag::SEQUENCE;
+
+    ghost CONSTRAINTS = { unconstrained };
+
+    const CONSTRAINTS: Constraints = Constraints::NONE;
+
+    ghost shape = { certificate_shape };
+
+    ghost tree = { certificate_tree };
+
+    ghost own = { refl };
+}
+
+impl LawfulEq for Certificate {
+    ghost use Rattle.rasn_types.specs.Deciding.{deciding};
+    ghost use Rattle.rasn_x509.specs.contracts.time.TimeLawfulEq.TheImpl.Laws.{decides-law as time_law};
+
+    ghost decides = { Prim.search (time_law, deciding) depth 64 };
+}
+
+impl Present for Certificate {
+    ghost use Rattle.rasn_types.specs.Equality.{parts_not_absent};
+
+    ghost present = { λ _. parts_not_absent };
+}
+
+impl Decode for Certificate {
+    fn decode_with_tag_and_constraints(
+        decoder: &mut Decoder<'_>,
+        tag: Tag,
+        _constraints: &Constraints,
+    ) -> Result<Certificate, DecodeError> {
+        let Required(
+            tbs_certificate,
+            Required(signature_algorithm, Required(signature_value, End)),
+        ) = decoder.read_sequence(tag)?;
+        Ok(Certificate {
+            tbs_certificate,
+            signature_algorithm,
+            signature_value,
+        })
+    }
+}
+
+impl Encode for Certificate {
+    fn encode_with_tag_and_constraints(
+        &self,
+        encoder: &mut Encoder,
+        tag: Tag,
+        _constraints: &Constraints,
+        _identifier: Identifier,
+    ) -> Result<(), EncodeError> {
+        encoder.write_sequence(
+            tag,
+            Put(
+                &self.tbs_certificate,
+                Put(&self.signature_algorithm, Put(&self.signature_value, End)),
+            ),
+        )
+    }
+
+    fn is_present(&self) -> bool {
+        true
+    }
+}

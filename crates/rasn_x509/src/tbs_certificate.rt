@@ -1,0 +1,135 @@
+//! `TBSCertificate ::= SEQUENCE { version [0] EXPLICIT Version DEFAULT v1, serialNumber CertificateSerialNumber, signature AlgorithmIdentifier, ..` (RFC 5280, 4.1).
+use crate::{AlgorithmIdentifier, Extension, Name, SubjectPublicKeyInfo, Validity};
+use rasn::error::{DecodeError, EncodeError};
+use rasn::parts::{DefaultValue, Defaulted, End, Optional, Put, PutDefault, PutOptional, Required};
+use rasn::types::{
+    AsnType, BitString, Constraints, ContextTag, Explicit, Identifier, Implicit, Integer, LawfulEq,
+    Present, Tag,
+};
+use rasn::{Decode, Decoder, Encode, Encoder};
+use std::alloc::AllocError;
+
+/// SEQUENCE { version \[0\] EXPLICIT INTEGER { v1(0), v2(1), v3(2) } DEFAULT v1, serialNumber INTEGER, signature AlgorithmIdentifier, issuer Name,
+/// validity Validity, subject Name, subjectPublicKeyInfo SubjectPublicKeyInfo, issuerUniqueID \[1\] IMPLICIT BIT STRING OPTIONAL,
+/// subjectUniqueID \[2\] IMPLICIT BIT STRING OPTIONAL, extensions \[3\] EXPLICIT SEQUENCE OF Extension OPTIONAL }
+#[derive(Debug, PartialEq, Eq, Drop)]
+pub struct TbsCertificate {
+    pub version: Explicit<ContextTag<0>, u8>,
+    pub serial_number: Integer,
+    pub signature: AlgorithmIdentifier,
+    pub issuer: Name,
+    pub validity: Validity,
+    pub subject: Name,
+    pub subject_public_key_info: SubjectPublicKeyInfo,
+    pub issuer_unique_id: Option<Implicit<ContextTag<1>, BitString>>,
+    pub subject_unique_id: Option<Implicit<ContextTag<2>, BitString>>,
+    pub extensions: Option<Explicit<ContextTag<3>, Vec<Extension>>>,
+}
+
+impl AsnType for TbsCertificate {
+    ghost use Rattle.std.specs.Prelude.{refl};
+    ghost use Rattle.rasn_types.specs.Tags.{in_universal};
+    ghost use Rattle.rasn_types.specs.Trees.{unconstrained};
+    ghost use Rattle.rasn_x509.specs.ToBeSigned.{tbs_shape, tbs_tree};
+
+    ghost TAG = { in_universal 16 };
+
+    const TAG: Tag = Tag::SEQUENCE;
+
+    ghost CONSTRAINTS = { unconstrained };
+
+    const CONSTRAINTS: Constraints = Constraints::NONE;
+
+    ghost shape = { tbs_shape };
+
+    ghost tree = { tbs_tree };
+
+    ghost own = { refl };
+}
+
+impl LawfulEq for TbsCertificate {
+    ghost use Rattle.rasn_types.specs.Deciding.{deciding};
+    ghost use Rattle.rasn_x509.specs.contracts.time.TimeLawfulEq.TheImpl.Laws.{decides-law as time_law};
+
+    ghost decides = { Prim.search (time_law, deciding) depth 64 };
+}
+
+impl Present for TbsCertificate {
+    ghost use Rattle.rasn_types.specs.Equality.{parts_not_absent};
+
+    ghost present = { λ _. parts_not_absent };
+}
+
+/// Version 1, which is meant where none is written.
+#[derive(Drop)]
+pub struct VersionOne;
+
+impl DefaultValue for VersionOne {
+    ghost use Rattle.std.specs.Prelude.{pos};
+    ghost use Rattle.rasn_types.specs.Shapes.{number};
+
+    type Value = Explicit<ContextTag<0>, u8>;
+
+    ghost default_tree = { number (pos 0) };
+
+    fn default_value() -> Result<Explicit<ContextTag<0>, u8>, AllocError> {
+        Ok(Explicit::new(0))
+    }
+}
+
+impl Decode for TbsCertificate {
+    fn decode_with_tag_and_constraints(
+        decoder: &mut Decoder<'_>,
+        tag: Tag,
+        _constraints: &Constraints,
+    ) -> Result<TbsCertificate, DecodeError> {
+        let Defaulted::<VersionOne, _>(
+            version,
+            Required(serial_number, Required(signature, rest)),
+        ) = decoder.read_sequence(tag)?;
+        let Required(issuer, Required(validity, Required(subject, rest))) = rest;
+        let Required(subject_public_key_info, Optional(issuer_unique_id, rest)) = rest;
+        let Optional(subject_unique_id, Optional(extensions, End)) = rest;
+        Ok(TbsCertificate {
+            version,
+            serial_number,
+            signature,
+            issuer,
+            validity,
+            subject,
+            subject_public_key_info,
+            issuer_unique_id,
+            subject_unique_id,
+            extensions,
+        })
+    }
+}
+
+impl Encode for TbsCertificate {
+    fn encode_with_tag_and_constraints(
+        &self,
+        encoder: &mut Encoder,
+        tag: Tag,
+        _constraints: &Constraints,
+        _identifier: Identifier,
+    ) -> Result<(), EncodeError> {
+        let unique_ids = PutOptional(
+            &self.issuer_unique_id,
+            PutOptional(&self.subject_unique_id, PutOptional(&self.extensions, End)),
+        );
+        let subject = Put(
+            &self.subject,
+            Put(&self.subject_public_key_info, unique_ids),
+        );
+        let issuer = Put(&self.issuer, Put(&self.validity, subject));
+        let serial_number = Put(&self.serial_number, Put(&self.signature, issuer));
+        encoder.write_sequence(
+            tag,
+            PutDefault::<VersionOne, _>(&self.version, serial_number),
+        )
+    }
+
+    fn is_present(&self) -> bool {
+        true
+    }
+}

@@ -1,0 +1,79 @@
+//! `Time ::= CHOICE { utcTime UTCTime, generalTime GeneralizedTime }` (RFC 5280, 4.1).
+
+use rasn::error::{DecodeError, EncodeError};
+use rasn::parts::{Last, OneOf};
+use rasn::types::{AsnType, Constraints, GeneralizedTime, Identifier, LawfulEq, Tag, UtcTime};
+use rasn::{Decode, Decoder, Encode, Encoder};
+
+/// CHOICE { utcTime UTCTime, generalTime GeneralizedTime }
+#[derive(Debug, PartialEq, Eq, Drop)]
+pub enum Time {
+    Utc(UtcTime),
+    General(GeneralizedTime),
+}
+
+impl AsnType for Time {
+    ghost use Rattle.std.specs.Prelude.{refl};
+    ghost use Rattle.rasn_types.specs.Tags.{eoc};
+    ghost use Rattle.rasn_types.specs.Trees.{unconstrained};
+    ghost use Rattle.rasn_x509.specs.Times.{time_shape, time_tree};
+
+    ghost TAG = { eoc };
+
+    const TAG: Tag = Tag::EOC;
+
+    ghost CONSTRAINTS = { unconstrained };
+
+    const CONSTRAINTS: Constraints = Constraints::NONE;
+
+    ghost shape = { time_shape };
+
+    ghost tree = { time_tree };
+
+    ghost own = { refl };
+}
+
+impl LawfulEq for Time {
+    ghost use Rattle.rasn_types.specs.Equality.{choice_decided, alternative, instant_decided};
+    ghost use Rattle.rasn_x509.specs.contracts.time.Time.{enum as time_enum};
+    ghost use Rattle.rasn_x509.specs.Times.{time_tree};
+
+    ghost decides = { choice_decided time_enum _ time_tree (alternative (λ x. x.0) instant_decided, (alternative (λ x. x.0) (λ s t. instant_decided s.moment t.moment), tt)) };
+}
+
+impl Decode for Time {
+    fn decode_with_tag_and_constraints(
+        decoder: &mut Decoder<'_>,
+        _tag: Tag,
+        _constraints: &Constraints,
+    ) -> Result<Time, DecodeError> {
+        match decoder.read_choice::<OneOf<UtcTime, Last<GeneralizedTime>>>("Time")? {
+            OneOf::This(time) => Ok(Time::Utc(time)),
+            OneOf::Other(Last(time)) => Ok(Time::General(time)),
+        }
+    }
+}
+
+/// The alternatives, as they are written.
+type Alternatives<'a> = OneOf<&'a UtcTime, Last<&'a GeneralizedTime>>;
+
+impl Encode for Time {
+    fn encode_with_tag_and_constraints(
+        &self,
+        encoder: &mut Encoder,
+        _tag: Tag,
+        _constraints: &Constraints,
+        _identifier: Identifier,
+    ) -> Result<(), EncodeError> {
+        match self {
+            Time::Utc(time) => encoder.write_choice::<Alternatives<'_>>(OneOf::This(time)),
+            Time::General(time) => {
+                encoder.write_choice::<Alternatives<'_>>(OneOf::Other(Last(time)))
+            }
+        }
+    }
+
+    fn is_present(&self) -> bool {
+        true
+    }
+}
