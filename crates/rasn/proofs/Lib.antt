@@ -7,3 +7,4 @@ pub mod ReadBack
 pub mod StrictDer
 pub mod Time
 pub mod OwnMessages
+pub mod Normalised

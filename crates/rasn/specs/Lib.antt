@@ -7,3 +7,4 @@ pub mod WorkedShapes
 pub mod WorkedDepths
 pub mod WorkedHeaders
 pub mod WorkedValues
+pub mod Normal

@@ -3,21 +3,23 @@ ghost use Rattle.std.specs.Prelude.{◌≡◌, [], IfOk, IfErr, OnOk, OnErr, ◌
 ghost use Rattle.std.specs.Fn.{FnOnceTakesAtMut};
 ghost use Rattle.rasn_types.specs.Bytes.{Bytes};
 ghost use Rattle.rasn_types.specs.Errors.{IsEncodeOutOfMemory};
+ghost use Rattle.rasn_types.specs.Truth.{IsWhether};
 ghost use Rattle.rasn_types.specs.declared.types.codec.Codec.TheVariants.{Der};
 ghost use Rattle.rasn.specs.Headline.{Answered, AnsweredAlone, Identify, ConsumesWritten, IsAsWritten, ScopeRefuses};
+ghost use Rattle.rasn.specs.Normal.{IsNormal};
 ghost use Rattle.rasn_enc.specs.View.{started};
 ghost use Rattle.rasn_enc.specs.Encoding.{NoEncoding};
 ghost use Rattle.rasn_enc.specs.Closures.{OnlyAppends, WritesOutput};
 
 pub use crate::ber::{Identifier, de, enc};
-use crate::entry;
+use crate::{entry, normalise};
 use rasn_de::ber::de::DecoderOptions;
 use rasn_de::de::Decode;
 use rasn_enc::ber::enc::{Encoder, EncoderOptions};
 use rasn_enc::enc::Encode;
 use rasn_types::error::{DecodeError, DecodeErrorKind, EncodeError};
-use rasn_types::types::Codec;
-use std::alloc::Global;
+use rasn_types::types::{Codec, LawfulEq};
+use std::alloc::{AllocError, Global};
 
 /// The value that is all of the input, which, for a carried value, is exactly what `encode` writes of it.
 ///
@@ -87,4 +89,21 @@ pub fn encode_scope<F: FnOnce(&mut Encoder) -> Result<(), EncodeError>>(
     ensures fails { IfErr result (ScopeRefuses F.FnOnce values Der) }
 {
     entry::encode_scope(alloc, values, EncoderOptions::der())
+}
+
+/// Whether the octets are the one encoding that DER has of a value of the type (X.690 10, 11).
+///
+/// # Errors
+/// Where memory runs out.
+pub fn is_canonical<T: Decode + Encode + LawfulEq>(
+    alloc: Global,
+    octets: &[u8],
+) -> Result<bool, AllocError>
+    ensures { IfOk result (λ answer. IsWhether answer (IsNormal Der T.shape octets.now octets.now)) }
+{
+    match normalise::<T>(alloc, Codec::Der, octets) {
+        Ok(normal) => Ok(normal.as_slice() == octets),
+        Err(error) if error.is_out_of_memory() => Err(AllocError),
+        Err(_) => Ok(false),
+    }
 }

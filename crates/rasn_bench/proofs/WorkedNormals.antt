@@ -12,7 +12,7 @@ use Rattle.rasn.specs.WorkedShapes.{named, octets_in_set_of}
 use Rattle.rasn.specs.Worked.{smith as smith_tree}
 use Rattle.rasn.proofs.LawsHold.Written.{one_reading, read_again}
 use Rattle.rasn.proofs.Worked.Octets.{worked}
-use Rattle.rasn_bench.specs.Normal.{IsNormal, IsCarriedIn}
+use Rattle.rasn.specs.Normal.{IsNormal, IsCarriedIn}
 use Rattle.rasn_bench.specs.WorkedNormals.{smith_in_segments, smith, falling_set_of, WorkedNormals}
 
 -- The octets of a carried value are its normal encoding.

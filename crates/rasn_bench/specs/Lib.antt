@@ -1,7 +1,6 @@
 pub mod Lines
 pub mod LawfulTypes
 pub mod Answers
-pub mod Normal
 pub mod NormalAnswers
 pub mod WorkedNormals
 pub mod Arguments

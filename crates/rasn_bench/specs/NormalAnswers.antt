@@ -6,7 +6,7 @@ use Rattle.rasn_bench.specs.declared.line.ValueType.{ValueType}
 use Rattle.rasn_bench.specs.declared.normal_answer.NormalAnswer.{NormalAnswer}
 use Rattle.rasn_bench.specs.declared.normal_answer.NormalAnswer.TheVariants.{Normal, Refused, Malformed}
 use Rattle.rasn_bench.specs.Answers.{Asks, shape_of}
-use Rattle.rasn_bench.specs.Normal.{IsNormal}
+use Rattle.rasn.specs.Normal.{IsNormal}
 
 -- The answer to these octets; memory aside.
 abbrev pub IsNormalAnswer : Codec → Shape → List ℕ → NormalAnswer → Type 0

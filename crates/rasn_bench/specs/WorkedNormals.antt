@@ -2,7 +2,7 @@
 use Rattle.std.specs.Prelude.{◌≡◌, ℕ, List, [], ◌∷◌}
 use Rattle.rasn_types.specs.declared.types.codec.Codec.TheVariants.{Ber}
 use Rattle.rasn.specs.WorkedShapes.{named, octets_in_set_of}
-use Rattle.rasn_bench.specs.Normal.{IsNormal}
+use Rattle.rasn.specs.Normal.{IsNormal}
 
 -- SEQUENCE { IA5String, BOOLEAN } with Smith and TRUE: lengths in the indefinite form, the string in two segments, and TRUE as 01
 abbrev pub smith_in_segments : List ℕ

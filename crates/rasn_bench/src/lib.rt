@@ -16,8 +16,9 @@ pub use answer::Answer;
 pub use arguments::{Usage, file_of};
 pub use lawful::{lawful_both, lawful_types};
 pub use line::{Request, ValueType};
-pub use normal::{NormaliseError, normalise, same_exactly_if_equal, worked_normals};
+pub use normal::worked_normals;
 pub use normal_answer::NormalAnswer;
+pub use rasn::{NormaliseError, normalise};
 pub use program::{RunFault, run, run_normalise};
 pub use worked::{
     AlgorithmIdentifier, AttributeTypeAndValue, Both, Colour, Event, Foo, Group, Grouped, Pair,

@@ -1,17 +1,17 @@
 //! What the program answers to a line where it normalises.
 ghost use Rattle.std.specs.Prelude.{IfOk, IsTrue, ◌↔◌, ◌≢◌, ◌≡◌, codes};
-ghost use Rattle.rasn_bench.specs.Normal.{IsOutOfMemoryAlone};
+ghost use Rattle.rasn.specs.Normal.{IsOutOfMemoryAlone};
 ghost use Rattle.rasn_bench.specs.NormalAnswers.{IsNormalAnswerTo};
 ghost use Rattle.rasn_bench.specs.declared.normal_answer.NormalAnswer.TheVariants.{Malformed};
 
 use crate::answer::write_octets;
 use crate::line::Request;
 use crate::names::{decode_error_name, encode_error_name};
-use crate::normal::{NormaliseError, normalise};
 use crate::typed_answer::{TypedAnswer, answer_to};
 use rasn::de::Decode;
 use rasn::enc::Encode;
 use rasn::types::{Codec, LawfulEq};
+use rasn::{NormaliseError, normalise};
 use std::alloc::{AllocError, Global};
 use std::fmt;
 

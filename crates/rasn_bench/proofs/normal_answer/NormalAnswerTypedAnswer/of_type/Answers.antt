@@ -1,5 +1,5 @@
 use Rattle.std.proofs.Common.{inl, inr}
-use Rattle.rasn_bench.proofs.Normalised.{no_normal}
+use Rattle.rasn.proofs.Normalised.{no_normal}
 use Rattle.rasn_bench.proofs.normal_answer.NormalAnswerTypedAnswer.of_type.Goals as goal
 
 pub returns-in-Err : goal.returns-in-Err

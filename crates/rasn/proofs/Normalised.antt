@@ -21,9 +21,9 @@ use Rattle.rasn_de.specs.Outcomes.{Exact, refusal}
 use Rattle.rasn.specs.Headline.{IsFollowed}
 use Rattle.rasn.proofs.LawsHold.Written.{one_reading, included, read_again, canonical, strict_der}
 use Rattle.rasn.proofs.StrictDer.Carried.{stays_carried}
-use Rattle.rasn_bench.specs.declared.normal.NormaliseError.{NormaliseError}
-use Rattle.rasn_bench.specs.declared.normal.NormaliseError.TheVariants.{Decode, Encode, NotCanonical}
-use Rattle.rasn_bench.specs.Normal.{Means, IsNormal, IsNotCanonical, IsNoNormal, IsOutOfMemoryAlone, IsCarriedIn, IsIdentified, IsStable, IsKept, IsUnchanged, IsAnswered, SameExactlyIfEqual}
+use Rattle.rasn.specs.declared.normalise.NormaliseError.{NormaliseError}
+use Rattle.rasn.specs.declared.normalise.NormaliseError.TheVariants.{Decode, Encode, NotCanonical}
+use Rattle.rasn.specs.Normal.{Means, IsNormal, IsNotCanonical, IsNoNormal, IsOutOfMemoryAlone, IsCarriedIn, IsIdentified, IsStable, IsKept, IsUnchanged, IsAnswered, SameExactlyIfEqual}
 
 abbrev answer : (T D : Type 0) → T → Result T D
 answer T D v = Ok v
@@ -150,3 +150,9 @@ if_ok_both (Err e) f o h = h
 pub if_err : {T E : Type 0} {P Q : E → Type 0} (r : Result T E) → ((e : E) → P e → Q e) → IfErr r P → IfErr r Q
 if_err (Ok v) f h = h
 if_err (Err e) f h = f e h
+
+-- An input has one normal encoding.
+pub only_normal : {rule : Codec} {s : Shape} {input a b : List ℕ} → IsNormal rule s input a → IsNormal rule s input b → a ≡ b
+only_normal {rule} {s} {input} {a} {b} m n =
+    let f : n.value ≡ m.value = (m.means.1 n.value [] n.means.0).0 in
+    one_writing s Der m.value a b m.written (subst (λ t. Bytes Der s t b) f n.written)
