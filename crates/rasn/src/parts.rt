@@ -1,7 +1,11 @@
 //! The parts of a SEQUENCE or a SET, and the alternatives of a CHOICE, as types: what a type of one's own is read and written with.
 pub use rasn_de::ber::de::alternatives::DecodeAlternatives;
-pub use rasn_de::ber::de::parts::{Addition, DecodeParts, Defaulted, Optional, Required};
+pub use rasn_de::ber::de::parts::{
+    Addition, DecodeParts, Defaulted, DefaultedExplicit, Optional, Required,
+};
 pub use rasn_de::ber::de::set_parts::DecodeSetParts;
 pub use rasn_enc::ber::enc::alternatives::EncodeAlternative;
-pub use rasn_enc::ber::enc::parts::{EncodeParts, Put, PutAddition, PutDefault, PutOptional};
-pub use rasn_types::types::{DefaultValue, End, Last, OneOf};
+pub use rasn_enc::ber::enc::parts::{
+    EncodeParts, Put, PutAddition, PutDefault, PutDefaultExplicit, PutOptional,
+};
+pub use rasn_types::types::{DefaultValue, End, ExplicitDefault, Last, OneOf};

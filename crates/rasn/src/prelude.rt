@@ -2,8 +2,8 @@
 
 pub use crate::parts::{
     Addition, DecodeAlternatives, DecodeParts, DecodeSetParts, DefaultValue, Defaulted,
-    EncodeAlternative, EncodeParts, End, Last, OneOf, Optional, Put, PutAddition, PutDefault,
-    PutOptional, Required,
+    DefaultedExplicit, EncodeAlternative, EncodeParts, End, ExplicitDefault, Last, OneOf, Optional,
+    Put, PutAddition, PutDefault, PutDefaultExplicit, PutOptional, Required,
 };
 pub use crate::types::{
     Alphabet, Any, ApplicationTag, AsnType, BitStr, BitString, BmpString, Bound, Bounded, Class,

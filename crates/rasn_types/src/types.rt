@@ -46,7 +46,7 @@ pub use integer::{Integer, IntegerType};
 pub use lawful_eq::{LawfulEq, Present};
 pub use object_identifier::ObjectIdentifier;
 pub use octet_string::OctetString;
-pub use parts::{DefaultValue, End, Last, OneOf};
+pub use parts::{DefaultValue, End, ExplicitDefault, Last, OneOf};
 pub use prefix::{Explicit, Implicit};
 pub use real::RealType;
 pub use set_of::SetOf;

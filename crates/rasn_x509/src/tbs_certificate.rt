@@ -1,7 +1,10 @@
 //! `TBSCertificate ::= SEQUENCE { version [0] EXPLICIT Version DEFAULT v1, serialNumber CertificateSerialNumber, signature AlgorithmIdentifier, ..` (RFC 5280, 4.1).
 use crate::{AlgorithmIdentifier, Extension, Name, SubjectPublicKeyInfo, Validity};
 use rasn::error::{DecodeError, EncodeError};
-use rasn::parts::{DefaultValue, Defaulted, End, Optional, Put, PutDefault, PutOptional, Required};
+use rasn::parts::{
+    DefaultValue, DefaultedExplicit, End, ExplicitDefault, Optional, Put, PutDefaultExplicit,
+    PutOptional, Required,
+};
 use rasn::types::{
     AsnType, BitString, Constraints, ContextTag, Explicit, Identifier, Implicit, Integer, LawfulEq,
     Present, Tag,
@@ -14,7 +17,7 @@ use std::alloc::AllocError;
 /// subjectUniqueID \[2\] IMPLICIT BIT STRING OPTIONAL, extensions \[3\] EXPLICIT SEQUENCE OF Extension OPTIONAL }
 #[derive(Debug, PartialEq, Eq, Drop)]
 pub struct TbsCertificate {
-    pub version: Explicit<ContextTag<0>, u8>,
+    pub version: u8,
     pub serial_number: Integer,
     pub signature: AlgorithmIdentifier,
     pub issuer: Name,
@@ -68,13 +71,17 @@ impl DefaultValue for VersionOne {
     ghost use Rattle.std.specs.Prelude.{pos};
     ghost use Rattle.rasn_types.specs.Shapes.{number};
 
-    type Value = Explicit<ContextTag<0>, u8>;
+    type Value = u8;
 
     ghost default_tree = { number (pos 0) };
 
-    fn default_value() -> Result<Explicit<ContextTag<0>, u8>, AllocError> {
-        Ok(Explicit::new(0))
+    fn default_value() -> Result<u8, AllocError> {
+        Ok(0)
     }
+}
+
+impl ExplicitDefault for VersionOne {
+    type Prefix = ContextTag<0>;
 }
 
 impl Decode for TbsCertificate {
@@ -83,7 +90,7 @@ impl Decode for TbsCertificate {
         tag: Tag,
         _constraints: &Constraints,
     ) -> Result<TbsCertificate, DecodeError> {
-        let Defaulted::<VersionOne, _>(
+        let DefaultedExplicit::<VersionOne, _>(
             version,
             Required(serial_number, Required(signature, rest)),
         ) = decoder.read_sequence(tag)?;
@@ -125,7 +132,7 @@ impl Encode for TbsCertificate {
         let serial_number = Put(&self.serial_number, Put(&self.signature, issuer));
         encoder.write_sequence(
             tag,
-            PutDefault::<VersionOne, _>(&self.version, serial_number),
+            PutDefaultExplicit::<VersionOne, _>(&self.version, serial_number),
         )
     }
 

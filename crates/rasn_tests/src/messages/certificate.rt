@@ -59,7 +59,7 @@ fn a_certificate_is_read_and_written_back(rt: HostRuntime) {
     };
     let signed = &certificate.tbs_certificate;
     assert!(rt;
-        *signed.version == 2 && signed.issuer == signed.subject && signed.issuer.len() == 3
+        signed.version == 2 && signed.issuer == signed.subject && signed.issuer.len() == 3
     );
     assert!(rt; signed.serial_number.as_octets() == [0x01, 0x02, 0x03, 0x04, 0x05].as_slice());
     let Time::Utc(start) = &signed.validity.not_before else {

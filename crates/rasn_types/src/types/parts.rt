@@ -1,5 +1,5 @@
 //! What the parts of a SEQUENCE, a SET or a CHOICE as types have in common in reading and writing.
-use crate::types::LawfulEq;
+use crate::types::{AsnType, LawfulEq};
 use std::alloc::AllocError;
 
 /// No part: the end of a list of parts.
@@ -22,6 +22,13 @@ pub trait DefaultValue {
     /// Where memory runs out.
     fn default_value() -> Result<Self::Value, AllocError>
         ensures { IfOk result (λ v. Self.Value.tree v ≡ default_tree) };
+}
+
+/// The default of a part that stands under an explicit tag (X.680 31.2.7), which the field doesn't show. The type that implements it names the
+/// part in `DefaultedExplicit` and `PutDefaultExplicit`.
+pub trait ExplicitDefault: DefaultValue {
+    /// Whose tag it is.
+    type Prefix: AsnType;
 }
 
 /// The first alternative of a CHOICE, or one of the others.

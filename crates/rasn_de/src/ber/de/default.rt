@@ -1,4 +1,5 @@
 //! Values that have a default where they are left out (X.680 25.8).
+ghost use Rattle.rasn_types.specs.Shapes.{prefix};
 ghost use Rattle.rasn_de.specs.Decodes.{Decodes};
 ghost use Rattle.rasn_de.specs.Optional.{MakesValue, DecodesOrDefault, DecodesOrDefaultAs, DecodesDefault, DecodesDefaultAs};
 
@@ -74,6 +75,33 @@ impl<'input> Decoder<'input> {
             return self.default_value(default);
         }
         let value = D::decode_with_tag_and_constraints(self, tag, constraints)?;
+        if !self.is_strict() {
+            drop(default);
+            return Ok(value);
+        }
+        let without = self.default_value(default)?;
+        if value.means_same(&without) {
+            return Err(self.error(ParseError::Der(DerDecodeErrorKind::DefaultValuePresent)));
+        }
+        Ok(value)
+    }
+
+    /// A value under a prefix of this tag in front of its own (X.690 8.14.2), or its default where the contents end or another tag comes.
+    ///
+    /// # Errors
+    /// As `decode_default`, and those of `decode_explicit_prefix`.
+    pub fn decode_default_with_explicit_prefix<
+        D: Decode + LawfulEq,
+        F: FnOnce() -> Result<D, AllocError>,
+    >(&mut self, tag: Tag, default: F) -> Result<D, DecodeError>
+        requires { F.IsAlwaysCallable default }
+        ensures exact { DecodesOrDefault (Decodes (prefix tag D.shape) D.tree) D.tree (F.post default) tag self.old result self.new }
+        ensures reads { DecodesDefault tag (prefix tag D.shape) D.tree (F.post default) self.old result self.new }
+    {
+        if !self.next_tag_is(tag)? {
+            return self.default_value(default);
+        }
+        let value = self.decode_explicit_prefix::<D>(tag)?;
         if !self.is_strict() {
             drop(default);
             return Ok(value);

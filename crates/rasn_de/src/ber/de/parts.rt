@@ -8,10 +8,10 @@ use crate::ber::de::Decoder;
 use crate::ber::de::constructed::ConstructedHeader;
 use crate::de::Decode;
 use rasn_types::error::DecodeError;
-use rasn_types::types::{DefaultValue, End, Tag};
+use rasn_types::types::{AsnType, DefaultValue, End, ExplicitDefault, Tag};
 use std::alloc::AllocError;
 
-/// Parts that are read in their order: [`Required`], [`Optional`], [`Defaulted`] and [`Addition`], each with what follows it, and
+/// Parts that are read in their order: [`Required`], [`Optional`], [`Defaulted`], [`DefaultedExplicit`] and [`Addition`], each with what follows it, and
 /// [`End`] behind the last.
 pub trait DecodeParts: Drop {
     ghost use Rattle.std.specs.Prelude.{Bool};
@@ -44,6 +44,11 @@ pub struct Optional<A, R>(pub Option<A>, pub R);
 /// A part that has a default where it is left out (X.680 25.8), and those behind it.
 #[derive(Drop)]
 pub struct Defaulted<V: DefaultValue, R>(pub V::Value, pub R);
+
+/// A part under an explicit tag that has a default where it is left out (X.680 25.8, 31.2.7), and those behind it. The value stands here
+/// without the tag.
+#[derive(Drop)]
+pub struct DefaultedExplicit<V: ExplicitDefault, R>(pub V::Value, pub R);
 
 /// An extension addition under an explicit tag, which always comes (X.680 25.4), and the parts behind it. The value is never `None`.
 #[derive(Debug, Drop)]
@@ -122,6 +127,32 @@ where
         )?;
         let rest = R::decode_parts(decoder)?;
         Ok(Defaulted(value, rest))
+    }
+}
+
+impl<V: ExplicitDefault, R: DecodeParts> DecodeParts for DefaultedExplicit<V, R>
+where
+    V::Value: Decode,
+{
+    ghost use Rattle.std.specs.Prelude.{◌&&◌};
+    ghost use Rattle.rasn_types.specs.Shapes.{part, default, prefix, joined};
+    ghost use Rattle.rasn_de.specs.PartTypes.{is_looked_for};
+
+    ghost parts = { part (default V.default_tree) (prefix V.Prefix.TAG V.Value.shape) R.parts };
+
+    ghost tree = { λ p. joined (V.Value.tree p.0) (R.tree p.1) };
+
+    ghost tags_agree = { is_looked_for (prefix V.Prefix.TAG V.Value.shape) V.Prefix.TAG && R.tags_agree };
+
+    fn decode_parts(decoder: &mut Decoder<'_>) -> Result<DefaultedExplicit<V, R>, DecodeError> {
+        let value = decoder.decode_default_with_explicit_prefix::<V::Value, _>(
+            V::Prefix::TAG,
+            || -> Result<V::Value, AllocError>
+                ensures { IfOk result (λ v. V.Value.tree v ≡ V.default_tree) }
+            { V::default_value() },
+        )?;
+        let rest = R::decode_parts(decoder)?;
+        Ok(DefaultedExplicit(value, rest))
     }
 }
 

@@ -1,6 +1,6 @@
 //! Values that have a default where they are left out (X.680 25.8).
 ghost use Rattle.std.specs.Prelude.{◌≡◌, IfErr, OnOk, OnErr};
-ghost use Rattle.rasn_types.specs.Shapes.{tagged_as};
+ghost use Rattle.rasn_types.specs.Shapes.{tagged_as, prefix};
 ghost use Rattle.rasn_enc.specs.Default.{AppendsUnlessDefault, FailsUnlessDefault, EncodesDefault};
 
 use crate::ber::enc::{Encoder, out_of_memory};
@@ -123,6 +123,32 @@ impl Encoder {
         match default() {
             Ok(default) if *value == default => Ok(()),
             Ok(_) => value.encode_with_tag_and_constraints(self, tag, constraints, identifier),
+            Err(AllocError) => Err(out_of_memory(self.codec())),
+        }
+    }
+    /// Writes a value behind a prefix of this tag, in front of its own (X.690 8.14.2), but nothing where it equals its default (X.690 11.5).
+    ///
+    /// # Errors
+    /// As `encode_default`.
+    pub fn encode_default_with_explicit_prefix<
+        E: Encode + LawfulEq,
+        F: FnOnce() -> Result<E, AllocError>,
+    >(
+        &mut self,
+        tag: Tag,
+        value: &E,
+        default: F,
+        _identifier: Identifier,
+    ) -> Result<(), EncodeError>
+        requires { F.IsAlwaysCallable default }
+        ensures ok { OnOk result (AppendsUnlessDefault E.eq (F.post default) (prefix tag E.shape) E.tree value.now self.old self.new) }
+        ensures err { OnErr result (self.new ≡ self.old) }
+        ensures refused { IfErr result (FailsUnlessDefault E.eq (F.post default) (prefix tag E.shape) E.tree value.now self.old) }
+        ensures writes { EncodesDefault E.eq (F.post default) (prefix tag E.shape) E.tree value.now self.old result self.new }
+    {
+        match default() {
+            Ok(default) if *value == default => Ok(()),
+            Ok(_) => self.append_prefixed(tag, value),
             Err(AllocError) => Err(out_of_memory(self.codec())),
         }
     }

@@ -7,10 +7,10 @@ ghost use Rattle.rasn_enc.specs.Sequence.{EncodesParts};
 use crate::ber::enc::Encoder;
 use crate::enc::Encode;
 use rasn_types::error::EncodeError;
-use rasn_types::types::{DefaultValue, End, Identifier, Tag};
+use rasn_types::types::{AsnType, DefaultValue, End, ExplicitDefault, Identifier, Tag};
 use std::alloc::AllocError;
 
-/// Parts that are written in their order: [`Put`], [`PutOptional`], [`PutDefault`] and [`PutAddition`], each with what follows it,
+/// Parts that are written in their order: [`Put`], [`PutOptional`], [`PutDefault`], [`PutDefaultExplicit`] and [`PutAddition`], each with what follows it,
 /// and [`End`] behind the last.
 pub trait EncodeParts: Drop {
     ghost use Rattle.rasn_types.specs.Shapes.{Parts, Tree};
@@ -38,6 +38,10 @@ pub struct PutOptional<'a, A, R>(pub &'a Option<A>, pub R);
 /// A part that is left out where it equals its default (X.690 11.5), and those behind it.
 #[derive(Drop)]
 pub struct PutDefault<'a, V: DefaultValue, R>(pub &'a V::Value, pub R);
+
+/// A part under an explicit tag that is left out where it equals its default (X.690 11.5; X.680 31.2.7), and those behind it.
+#[derive(Drop)]
+pub struct PutDefaultExplicit<'a, V: ExplicitDefault, R>(pub &'a V::Value, pub R);
 
 /// An extension addition under an explicit tag (X.680 25.4), which is left out where there is no value, and the parts behind it.
 #[derive(Drop)]
@@ -98,6 +102,30 @@ where
     fn encode_parts(self, encoder: &mut Encoder) -> Result<(), EncodeError> {
         let PutDefault(value, rest) = self;
         encoder.encode_default(
+            value,
+            || -> Result<V::Value, AllocError>
+                ensures { IfOk result (λ v. V.Value.tree v ≡ V.default_tree) }
+            { V::default_value() },
+            Identifier::EMPTY,
+        )?;
+        rest.encode_parts(encoder)
+    }
+}
+
+impl<'a, V: ExplicitDefault, R: EncodeParts> EncodeParts for PutDefaultExplicit<'a, V, R>
+where
+    V::Value: Encode,
+{
+    ghost use Rattle.rasn_types.specs.Shapes.{part, default, prefix, joined};
+
+    ghost parts = { part (default V.default_tree) (prefix V.Prefix.TAG V.Value.shape) R.parts };
+
+    ghost tree = { λ p. joined (V.Value.tree p.0.now) (R.tree p.1) };
+
+    fn encode_parts(self, encoder: &mut Encoder) -> Result<(), EncodeError> {
+        let PutDefaultExplicit(value, rest) = self;
+        encoder.encode_default_with_explicit_prefix(
+            V::Prefix::TAG,
             value,
             || -> Result<V::Value, AllocError>
                 ensures { IfOk result (λ v. V.Value.tree v ≡ V.default_tree) }
