@@ -7,6 +7,7 @@ pub mod der;
 mod entry;
 pub mod laws;
 mod normalise;
+pub mod open_type;
 pub mod parts;
 pub mod prelude;
 pub mod time_laws;

@@ -5,11 +5,11 @@ ghost use Rattle.rasn_types.specs.Framing.{AreOctets};
 ghost use Rattle.rasn.specs.Headline.{AnsweredAlone};
 ghost use Rattle.rasn.specs.Normal.{IsNormal, IsNoNormal, IsIdentified, IsKept, IsUnchanged, IsAnswered, IsOutOfMemoryAlone, SameExactlyIfEqual};
 
-use crate::{der, entry};
-use rasn_de::ber::de::DecoderOptions;
+use crate::der;
+use crate::open_type::decode_alone;
 use rasn_de::de::Decode;
 use rasn_enc::enc::Encode;
-use rasn_types::error::{DecodeError, DecodeErrorKind, EncodeError};
+use rasn_types::error::{DecodeError, EncodeError};
 use rasn_types::types::{Codec, LawfulEq};
 use std::alloc::Global;
 use thiserror::Error;
@@ -80,7 +80,7 @@ fn convert<T: Decode + Encode + LawfulEq>(
     ensures octets { IfOk result (λ octets. AreOctets octets.items) }
     ensures fails { IfErr result (λ error. IsNoNormal rule T.shape input.now error) }
 {
-    let value = decode::<T>(alloc, rule, input).map_err(NormaliseError::Decode)?;
+    let value = decode_alone::<T>(alloc, rule, input).map_err(NormaliseError::Decode)?;
     let octets = der::encode(alloc, &value).map_err(NormaliseError::Encode)?;
     match read_back::<T>(alloc, &octets) {
         Ok(again) if again.means_same(&value) => Ok(octets),
@@ -95,19 +95,4 @@ fn read_back<T: Decode>(alloc: Global, written: &[u8]) -> Result<T, DecodeError>
     ensures octets { AreOctets written.now }
 {
     der::decode(alloc, written)
-}
-
-/// The value that is all of the input by these rules.
-fn decode<T: Decode>(alloc: Global, rule: Codec, input: &[u8]) -> Result<T, DecodeError>
-    ensures { AnsweredAlone rule T.shape T.tree input.now result }
-{
-    let (value, rest) = entry::decode_with_remainder(alloc, input, DecoderOptions::of(rule))?;
-    if rest.is_empty() {
-        Ok(value)
-    } else {
-        Err(DecodeError {
-            kind: DecodeErrorKind::UnexpectedExtraData { length: rest.len() },
-            codec: rule,
-        })
-    }
 }

@@ -20,6 +20,7 @@ use rasn_types::error::{
 };
 use rasn_types::types::{Codec, Constraints, Tag};
 use std::alloc::Global;
+use std::fmt;
 use std::marker::Model;
 
 pub mod alternatives;
@@ -79,6 +80,17 @@ impl<'input> Model for Decoder<'input> {
     ghost view = { λ d. record { rule = d.rules; depth = d.depth; closing = d.closing; whole = d.whole.now; rest = d.rest.now } };
 
     ghost invariant = { λ d. IsEnd d.whole.now d.rest.now };
+}
+
+/// The rules, and how many octets were passed and are left.
+impl fmt::Debug for Decoder<'_> {
+    fn fmt<W: fmt::Write>(&self, f: &mut fmt::Formatter<W>) -> fmt::Result {
+        f.debug_struct("Decoder")
+            .field("codec", &self.rules)
+            .field("decoded_len", &self.decoded_len())
+            .field("remaining", &self.rest.len())
+            .finish()
+    }
 }
 
 /// A kind of error of X.690 8, under any rule.

@@ -45,6 +45,7 @@ pub use object_identifier::object_identifier_as_bytes;
 use rasn_types::error::{BerEncodeErrorKind, CodecEncodeError, EncodeError, EncodeErrorKind};
 use rasn_types::types::{Codec, Constraints, Tag};
 use std::alloc::Global;
+use std::fmt;
 use std::marker::Model;
 use writer::Writer;
 use writer::filled::{Contents, FillError, fill_with};
@@ -62,6 +63,16 @@ impl Model for Encoder {
     ghost Value = { View };
 
     ghost view = { λ e. e.writer };
+}
+
+/// The rules, and how many octets the last list has.
+impl fmt::Debug for Encoder {
+    fn fmt<W: fmt::Write>(&self, f: &mut fmt::Formatter<W>) -> fmt::Result {
+        f.debug_struct("Encoder")
+            .field("codec", &self.codec())
+            .field("written", &self.last_len())
+            .finish()
+    }
 }
 
 impl Encoder {

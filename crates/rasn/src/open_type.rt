@@ -1,0 +1,69 @@
+//! Values of a known type in an open type (X.680 14, X.690 8.15).
+ghost use Rattle.std.specs.Prelude.{◌⊎◌, ⊥, IfOk, IfErr, MatchResult};
+ghost use Rattle.rasn_types.specs.declared.types.tag.Tag.{Tag};
+ghost use Rattle.rasn_types.specs.Tags.{form};
+ghost use Rattle.rasn_types.specs.Framing.{NextTag};
+ghost use Rattle.rasn_types.specs.Bytes.{Bytes};
+ghost use Rattle.rasn_types.specs.Errors.{IsEncodeOutOfMemory};
+ghost use Rattle.rasn.specs.Headline.{AnsweredAlone};
+ghost use Rattle.rasn_enc.specs.Encoding.{NoEncoding};
+
+use crate::entry;
+use rasn_de::ber::de::{Decoder, DecoderOptions};
+use rasn_de::de::Decode;
+use rasn_enc::ber::enc::EncoderOptions;
+use rasn_enc::enc::Encode;
+use rasn_types::error::{DecodeError, DecodeErrorKind, EncodeError};
+use rasn_types::types::{Any, Codec, Tag};
+use std::alloc::Global;
+
+/// The value's octets by these rules, as an open type.
+///
+/// # Errors
+/// As `ber::encode`, `cer::encode` and `der::encode`.
+pub fn encode_any<T: Encode>(alloc: Global, rules: Codec, value: &T) -> Result<Any, EncodeError>
+    ensures ok { IfOk result (λ any. Bytes rules T.shape (T.tree value.now) any) }
+    ensures fails { IfErr result (λ error. IsEncodeOutOfMemory error.kind ⊎ NoEncoding rules T.shape (T.tree value.now)) }
+{
+    let octets = entry::encode(alloc, value, EncoderOptions::of(rules))?;
+    Ok(Any::new(octets))
+}
+
+/// The value that an open type holds by these rules, alone.
+///
+/// # Errors
+/// As `der::decode`, by these rules: `UnexpectedExtraData` where octets follow the value (X.690 8.1.1.1).
+pub fn decode_any<T: Decode>(alloc: Global, rules: Codec, any: &Any) -> Result<T, DecodeError>
+    ensures { AnsweredAlone rules T.shape T.tree any.now result }
+{
+    decode_alone(alloc, rules, any.as_bytes())
+}
+
+/// The value that is all of the input by these rules.
+pub(crate) fn decode_alone<T: Decode>(
+    alloc: Global,
+    rules: Codec,
+    input: &[u8],
+) -> Result<T, DecodeError>
+    ensures { AnsweredAlone rules T.shape T.tree input.now result }
+{
+    let (value, rest) = entry::decode_with_remainder(alloc, input, DecoderOptions::of(rules))?;
+    if rest.is_empty() {
+        Ok(value)
+    } else {
+        Err(DecodeError {
+            kind: DecodeErrorKind::UnexpectedExtraData { length: rest.len() },
+            codec: rules,
+        })
+    }
+}
+
+/// The outermost tag of what an open type holds by these rules.
+///
+/// # Errors
+/// As `Decoder::peek_tag`: where no identifier begins the octets (X.690 8.1.2).
+pub fn any_tag(alloc: Global, rules: Codec, any: &Any) -> Result<Tag, DecodeError>
+    ensures { MatchResult result (λ t. NextTag (form rules) any.now t) (λ e. (t : Tag) → NextTag (form rules) any.now t → ⊥) }
+{
+    Decoder::new(alloc, any.as_bytes(), DecoderOptions::of(rules)).peek_tag()
+}
