@@ -5,5 +5,6 @@ mod fieldless;
 mod fields;
 mod lengths;
 mod nested;
+mod segments;
 mod settings;
 mod whole;

@@ -1,22 +1,15 @@
 //! Open types are decoded: without a tag as one complete encoding (X.690 8.15), under a tag as what the tag holds (8.14).
 
 use crate::any::{TAG_1, any_of, deep};
-use crate::reading::{
-    Octets, OctetsRow, assert_answer, assert_has_octets, assert_reads, assert_reads_octets,
-    decoder_of,
-};
-use crate::whole::assert_decodes_with_remainder;
-use crate::writing::made;
 use rasn::de::Decode;
 use rasn::types::{Any, Codec};
+use rasn_asserts::reading::{
+    OctetsRow, assert_answer, assert_has_octets, assert_reads, assert_reads_octets, decoder_of,
+};
+use rasn_asserts::whole::assert_decodes_with_remainder;
+use rasn_asserts::writing::made;
 use std::alloc::Global;
 use std::process::Abort;
-
-impl Octets for Any {
-    fn octets(&self) -> &[u8] {
-        self.as_bytes()
-    }
-}
 
 // Open types are equal exactly if their octets are.
 #[test]

@@ -1,9 +1,9 @@
 //! Certificates (RFC 5280) that others made, and spoilt ones.
 
-use crate::whole::assert_decodes;
-use crate::writing::assert_output;
 use rasn::ber;
 use rasn::types::Codec;
+use rasn_asserts::whole::assert_decodes;
+use rasn_asserts::writing::assert_output;
 use rasn_x509::{Certificate, Time, read_certificate, write_certificate};
 use std::alloc::Global;
 use std::process::Abort;
@@ -58,9 +58,7 @@ fn a_certificate_is_read_and_written_back(rt: HostRuntime) {
         rt.abort()
     };
     let signed = &certificate.tbs_certificate;
-    assert!(rt;
-        signed.version == 2 && signed.issuer == signed.subject && signed.issuer.len() == 3
-    );
+    assert!(rt; signed.version == 2 && signed.issuer == signed.subject && signed.issuer.len() == 3);
     assert!(rt; signed.serial_number.as_octets() == [0x01, 0x02, 0x03, 0x04, 0x05].as_slice());
     let Time::Utc(start) = &signed.validity.not_before else {
         rt.abort()

@@ -1,9 +1,11 @@
 //! Components that are OPTIONAL or DEFAULT (X.690 8.9.3, 11.5), explicit and implicit tags (8.14) and extension additions are encoded.
 
-use crate::reading::assert_facts;
 use crate::types::Counted;
-use crate::values::integer::{NO_PERCENTAGE, PERCENTAGE};
-use crate::writing::{assert_output, assert_refuses, assert_writes, assert_written, new_encoder};
+use rasn_asserts::reading::assert_facts;
+use rasn_asserts::writing::{
+    NO_PERCENTAGE, PERCENTAGE, assert_output, assert_refuses, assert_writes, assert_written,
+    new_encoder,
+};
 use rasn_enc::ber::enc::Encoder;
 use rasn_enc::enc::Encode;
 use rasn_types::error::EncodeError;

@@ -1,0 +1,219 @@
+//! What the tests of reading share: rows of octets, rules and answers, and calls whose answers are told as text or as octets.
+
+use rasn_de::ber::de::{Decoder, DecoderOptions};
+use rasn_de::de::Decode;
+use rasn_types::error::DecodeError;
+use rasn_types::types::{
+    Any, BmpString, Bound, Bounded, Codec, Constraints, FixedOctetString, Integer,
+    RestrictedString, StringType,
+};
+use std::alloc::{AllocError, Global};
+use std::borrow::CowSlice;
+use std::fmt::Debug;
+use std::process::Abort;
+
+/// Octets, the rules they are read by, the text of the value or of the error's kind, and how many octets are consumed.
+pub type Row = (&'static [u8], Codec, &'static str, usize);
+
+/// Octets, the rules they are read by, and the text of the tag that they begin with or of the error's kind.
+pub type PeekRow = (&'static [u8], Codec, &'static str);
+
+/// Octets, the rules they are read by, the octets of the value, and how many octets are consumed.
+pub type OctetsRow = (&'static [u8], Codec, &'static [u8], usize);
+
+/// The constraint that a number is in this range.
+pub fn within(start: i128, end: i128) -> Constraints {
+    let constraint = Bounded::Range {
+        start: Some(start),
+        end: Some(end),
+    };
+    Constraints {
+        value: Some(Bound {
+            constraint,
+            extensible: false,
+        }),
+        size: None,
+    }
+}
+
+/// The constraint that a value has this size.
+pub fn sized(size: usize) -> Constraints {
+    Constraints {
+        value: None,
+        size: Some(Bound {
+            constraint: Bounded::Single(size),
+            extensible: false,
+        }),
+    }
+}
+
+/// A decoder of the octets by these rules.
+pub fn decoder_of(alloc: Global, octets: &[u8], rules: Codec) -> Decoder<'_> {
+    Decoder::new(alloc, octets, DecoderOptions::of(rules))
+}
+
+/// A value as text.
+pub fn debug_text<T: Debug>(alloc: Global, value: &T) -> Result<String, AllocError> {
+    format!(in alloc; "{value:?}")
+}
+
+/// An error's kind as text, if the error is one under these rules; else a text that no kind has.
+pub fn kind_text<K: Debug>(
+    alloc: Global,
+    rules: Codec,
+    codec: Codec,
+    kind: &K,
+) -> Result<String, AllocError> {
+    if codec == rules {
+        debug_text(alloc, kind)
+    } else {
+        String::from_str(alloc, "an error under other rules")
+    }
+}
+
+/// Asserts that each of these is true. Many calls whose answers stand in a list cost less to prove than as many asserts.
+pub fn assert_facts(rt: &impl Abort, facts: &[bool]) {
+    for (place, fact) in facts.iter().enumerate() {
+        assert!(rt; *fact, "{place}");
+    }
+}
+
+/// The value that a call answers, which has to be one.
+pub fn value<T>(rt: &impl Abort, answer: Result<T, DecodeError>) -> T {
+    match answer {
+        Ok(value) => value,
+        Err(_) => panic!(rt; "no value"),
+    }
+}
+
+/// Asserts that a call answers the value or the error's kind of this text.
+pub fn assert_answer<T: Debug + Drop>(
+    rt: &impl Abort,
+    alloc: Global,
+    rules: Codec,
+    answer: Result<T, DecodeError>,
+    text: &str,
+) {
+    let found = match &answer {
+        Ok(value) => debug_text(alloc, value),
+        Err(error) => kind_text(alloc, rules, error.codec, &error.kind),
+    };
+    match found {
+        Ok(found) => assert_eq!(rt; found.as_str(), text),
+        Err(_) => assert!(rt; false, "no memory"),
+    }
+}
+
+/// Asserts what INTEGER (0..255) DEFAULT 7 is read as from each row's octets, and how many are consumed.
+pub fn assert_reads_default(rt: &impl Abort, alloc: Global, rows: &[Row]) {
+    for (octets, rules, text, consumed) in rows {
+        let mut decoder = decoder_of(alloc, octets, *rules);
+        let answer = decoder.decode_default::<u8, _>(|| Ok(7));
+        assert_answer(rt, alloc, *rules, answer, text);
+        assert!(rt; decoder.decoded_len() == *consumed, "{octets:?} {rules:?}");
+    }
+}
+
+/// Asserts which tag each row's octets begin with, and that nothing is consumed by peeking at it.
+pub fn assert_peeks(rt: &impl Abort, alloc: Global, rows: &[PeekRow]) {
+    for (octets, rules, text) in rows {
+        let decoder = decoder_of(alloc, octets, *rules);
+        assert_answer(rt, alloc, *rules, decoder.peek_tag(), text);
+        assert!(rt; decoder.decoded_len() == 0 && decoder.remaining() == *octets);
+    }
+}
+
+/// Asserts what a value of the type is read as from each row's octets, and how many are consumed.
+pub fn assert_reads<T: Decode + Debug>(rt: &impl Abort, alloc: Global, rows: &[Row]) {
+    for (octets, rules, text, consumed) in rows {
+        let mut decoder = decoder_of(alloc, octets, *rules);
+        assert_answer(rt, alloc, *rules, T::decode(&mut decoder), text);
+        assert!(rt; decoder.decoded_len() == *consumed, "{octets:?} {rules:?}");
+    }
+}
+
+/// Asserts what a value of the type under these constraints is read as from each row's octets, and how many are consumed.
+pub fn assert_reads_within<T: Decode + Debug>(
+    rt: &impl Abort,
+    alloc: Global,
+    constraints: &Constraints,
+    rows: &[Row],
+) {
+    for (octets, rules, text, consumed) in rows {
+        let mut decoder = decoder_of(alloc, octets, *rules);
+        let answer = T::decode_with_constraints(&mut decoder, constraints);
+        assert_answer(rt, alloc, *rules, answer, text);
+        assert!(rt; decoder.decoded_len() == *consumed, "{octets:?} {rules:?}");
+    }
+}
+
+/// Values that are octets.
+pub trait Octets: Drop {
+    /// The octets.
+    fn octets(&self) -> &[u8];
+}
+
+impl Octets for Any {
+    fn octets(&self) -> &[u8] {
+        self.as_bytes()
+    }
+}
+
+impl Octets for Integer {
+    fn octets(&self) -> &[u8] {
+        self.as_octets()
+    }
+}
+
+impl<S: StringType> Octets for RestrictedString<S> {
+    fn octets(&self) -> &[u8] {
+        self.as_octets()
+    }
+}
+
+impl Octets for BmpString {
+    fn octets(&self) -> &[u8] {
+        self.as_octets()
+    }
+}
+
+impl<const N: usize> Octets for FixedOctetString<N> {
+    fn octets(&self) -> &[u8] {
+        self.as_octets()
+    }
+}
+
+/// Asserts that a call answers a value of these octets.
+pub fn assert_has_octets<T: Octets>(
+    rt: &impl Abort,
+    answer: Result<T, DecodeError>,
+    octets: &[u8],
+) {
+    match answer {
+        Ok(value) => assert_eq!(rt; value.octets(), octets),
+        Err(error) => assert!(rt; false, "{:?}", error.kind),
+    }
+}
+
+/// Whether a call answers these octets, borrowed or not.
+pub fn answers_octets(
+    answer: Result<CowSlice<'_, u8>, DecodeError>,
+    octets: &[u8],
+    is_borrowed: bool,
+) -> bool {
+    match answer {
+        Ok(found) => {
+            found.as_slice() == octets && matches!(&found, CowSlice::Borrowed(_)) == is_borrowed
+        }
+        Err(_) => false,
+    }
+}
+
+/// Asserts which octets a value of the type that is read from each row's octets has, and how many are consumed.
+pub fn assert_reads_octets<T: Decode + Octets>(rt: &impl Abort, alloc: Global, rows: &[OctetsRow]) {
+    for (octets, rules, found, consumed) in rows {
+        let mut decoder = decoder_of(alloc, octets, *rules);
+        assert_has_octets(rt, T::decode(&mut decoder), found);
+        assert!(rt; decoder.decoded_len() == *consumed, "{octets:?} {rules:?}");
+    }
+}

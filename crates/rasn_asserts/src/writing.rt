@@ -1,0 +1,172 @@
+//! What the tests of writing share: values held against octets, calls whose answers are told as text, and long strings as pieces.
+
+use crate::reading::kind_text;
+use rasn_enc::ber::enc::{Encoder, EncoderOptions};
+use rasn_enc::enc::Encode;
+use rasn_types::error::EncodeError;
+use rasn_types::types::{
+    BitString, Bound, Bounded, Codec, Constraints, ObjectIdentifier, OctetString,
+};
+use std::alloc::{AllocError, Global};
+use std::process::Abort;
+
+/// A value, the rules it is written by, and its octets.
+pub type Row<T> = (T, Codec, &'static [u8]);
+
+/// Octets, and behind them one octet so many times. A long string is a few of these.
+pub type Piece<'octets> = (&'octets [u8], u8, usize);
+
+/// The constraint that a number is a percentage.
+pub const PERCENTAGE: Constraints = Constraints {
+    value: Some(Bound {
+        constraint: Bounded::Range {
+            start: Some(0),
+            end: Some(100),
+        },
+        extensible: false,
+    }),
+    size: None,
+};
+
+/// The kind of the refusal of 200, which isn't in 0..100.
+
+/// What a number out of it is refused with, the number 200.
+pub const NO_PERCENTAGE: &str =
+    "ValueConstraintNotSatisfied { value: Integer { octets: [0, 200] }, expected: Range { start: Some(0), end: Some(100) } }";
+
+/// The octets of a value.
+fn octets_of<T: Encode>(alloc: Global, rules: Codec, value: &T) -> Result<Vec<u8>, EncodeError> {
+    let mut encoder = Encoder::new(alloc, EncoderOptions::of(rules))?;
+    value.encode(&mut encoder)?;
+    encoder.output()
+}
+
+/// Asserts that a call writes these octets.
+pub fn assert_output(rt: &impl Abort, answer: Result<Vec<u8>, EncodeError>, octets: &[u8]) {
+    match answer {
+        Ok(found) => assert_eq!(rt; found.as_slice(), octets),
+        Err(error) => assert!(rt; false, "{:?}", error.kind),
+    }
+}
+
+/// Asserts that each row's value is written as the row's octets.
+pub fn assert_writes<T: Encode>(rt: &impl Abort, alloc: Global, rows: &[Row<T>]) {
+    for (value, rules, octets) in rows {
+        assert_output(rt, octets_of(alloc, *rules, value), octets);
+    }
+}
+
+/// The value that is made, which has to be one, with memory for it.
+pub fn made<T>(rt: &impl Abort, value: Result<Option<T>, AllocError>) -> T {
+    match value {
+        Ok(Some(value)) => value,
+        Ok(None) => panic!(rt; "no value"),
+        Err(_) => panic!(rt; "no memory"),
+    }
+}
+
+/// Asserts that a value is made, and is written as these octets.
+pub fn assert_writes_made<T: Encode>(
+    rt: &impl Abort,
+    alloc: Global,
+    rules: Codec,
+    value: Result<Option<T>, AllocError>,
+    octets: &[u8],
+) {
+    assert_output(rt, octets_of(alloc, rules, &made(rt, value)), octets);
+}
+
+/// Asserts that a call writes the octets of these pieces.
+pub fn assert_output_pieces(
+    rt: &impl Abort,
+    alloc: Global,
+    answer: Result<Vec<u8>, EncodeError>,
+    pieces: &[Piece<'_>],
+) {
+    match of_pieces(alloc, pieces) {
+        Ok(octets) => assert_output(rt, answer, &octets),
+        Err(_) => assert!(rt; false, "no memory"),
+    }
+}
+
+/// Asserts that a value is made, and is written as the octets of these pieces.
+pub fn assert_writes_pieces<T: Encode>(
+    rt: &impl Abort,
+    alloc: Global,
+    rules: Codec,
+    value: Result<Option<T>, AllocError>,
+    pieces: &[Piece<'_>],
+) {
+    let value = made(rt, value);
+    assert_output_pieces(rt, alloc, octets_of(alloc, rules, &value), pieces);
+}
+
+/// The octets of some pieces.
+pub fn of_pieces(alloc: Global, pieces: &[Piece<'_>]) -> Result<Vec<u8>, AllocError> {
+    let mut octets = Vec::new(alloc);
+    for (before, octet, count) in pieces {
+        octets.extend_from_slice(before)?;
+        octets.extend_from_slice(&vec![in alloc; *octet; *count]?)?;
+    }
+    Ok(octets)
+}
+
+/// An octet so many times.
+pub fn repeated(alloc: Global, octet: u8, count: usize) -> Result<Option<OctetString>, AllocError> {
+    let octets = vec![in alloc; octet; count]?;
+    Ok(Some(OctetString::from_vec(octets)))
+}
+
+/// So many bits, all set.
+pub fn set_bits(alloc: Global, count: usize) -> Result<Option<BitString>, AllocError> {
+    let octets = vec![in alloc; 0xFF; count / 8 + 1]?;
+    Ok(BitString::new(octets, count))
+}
+
+/// The object identifier of these arcs.
+pub fn identifier_of(alloc: Global, arcs: &[u32]) -> Result<Option<ObjectIdentifier>, AllocError> {
+    let arcs = Vec::from_slice(alloc, arcs)?;
+    Ok(ObjectIdentifier::new(arcs))
+}
+
+/// An encoder with no output yet.
+pub fn new_encoder(rt: &impl Abort, alloc: Global, rules: Codec) -> Encoder {
+    match Encoder::new(alloc, EncoderOptions::of(rules)) {
+        Ok(encoder) => encoder,
+        Err(_) => panic!(rt; "no memory"),
+    }
+}
+
+/// An encoder of the components of a SET, with no output yet.
+pub fn new_set_encoder(rt: &impl Abort, alloc: Global, rules: Codec) -> Encoder {
+    match Encoder::new_set(alloc, EncoderOptions::of(rules)) {
+        Ok(encoder) => encoder,
+        Err(_) => panic!(rt; "no memory"),
+    }
+}
+
+/// Asserts that a call succeeds.
+pub fn assert_written(rt: &impl Abort, answer: Result<(), EncodeError>) {
+    match answer {
+        Ok(()) => {}
+        Err(error) => assert!(rt; false, "{:?}", error.kind),
+    }
+}
+
+/// Asserts that a call refuses under these rules, with the error's kind of this text.
+pub fn assert_refuses(
+    rt: &impl Abort,
+    alloc: Global,
+    rules: Codec,
+    answer: Result<(), EncodeError>,
+    text: &str,
+) {
+    let found = match &answer {
+        Ok(()) => String::from_str(alloc, "written"),
+        Err(error) => kind_text(alloc, rules, error.codec, &error.kind),
+    };
+    match found {
+        Ok(found) => assert_eq!(rt; found.as_str(), text),
+        Err(_) => assert!(rt; false, "no memory"),
+    }
+}

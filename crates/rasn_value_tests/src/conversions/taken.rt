@@ -1,0 +1,171 @@
+//! What values hold is taken out, lent, copied and compared.
+
+use rasn::prelude::*;
+use rasn_asserts::writing::made;
+use std::alloc::{AllocError, Global};
+use std::cmp::Ordering;
+use std::process::Abort;
+
+/// The value, for which there has to be memory.
+fn held<T>(rt: &impl Abort, value: Result<T, AllocError>) -> T {
+    match value {
+        Ok(value) => value,
+        Err(_) => panic!(rt; "no memory"),
+    }
+}
+
+/// A vector of these octets.
+fn vec_of(rt: &impl Abort, alloc: Global, octets: &[u8]) -> Vec<u8> {
+    held(rt, Vec::from_slice(alloc, octets))
+}
+
+/// 0A3B5F291CD, the example of a BIT STRING (X.690 8.6.4.2).
+fn worked_bits(rt: &impl Abort, alloc: Global) -> BitString {
+    let octets = vec_of(rt, alloc, &[0x0A, 0x3B, 0x5F, 0x29, 0x1C, 0xDF]);
+    made(rt, Ok(BitString::new(octets, 44)))
+}
+
+/// { joint-iso-itu-t(2) 999 3 }, the example of an OBJECT IDENTIFIER (X.690 8.19.5).
+fn worked_arcs(rt: &impl Abort, alloc: Global) -> ObjectIdentifier {
+    made(
+        rt,
+        Ok(ObjectIdentifier::new(held(rt, Vec::from_slice(alloc, &[2u32, 999, 3])))),
+    )
+}
+
+#[test]
+fn takes_values_out_of_tags(rt: HostRuntime) {
+    let implicit: Implicit<bool, u8> = Implicit::new(7);
+    let explicit: Explicit<bool, u8> = Explicit::new(9);
+    assert_eq!(rt; implicit.into_inner(), 7);
+    assert_eq!(rt; explicit.into_inner(), 9);
+}
+
+#[test]
+fn takes_octets_out(rt: HostRuntime) {
+    let alloc = rt.alloc();
+    let string = OctetString::from_vec(vec_of(&rt, alloc, &[0x01, 0x23]));
+    assert_eq!(rt; string.into_vec().as_slice(), [0x01, 0x23].as_slice());
+    let any = Any::new(vec_of(&rt, alloc, &[0x05, 0x00]));
+    assert_eq!(rt; any.into_vec().as_slice(), [0x05, 0x00].as_slice());
+    let arcs = worked_arcs(&rt, alloc).into_vec();
+    assert_eq!(rt; arcs.as_slice(), [2u32, 999, 3].as_slice());
+    let jones = made(&rt, VisibleString::from_octets(alloc, b"Jones"));
+    assert_eq!(rt; jones.into_vec().as_slice(), b"Jones".as_slice());
+    let units = made(&rt, BmpString::from_octets(alloc, &[0x00, 0x4A]));
+    assert_eq!(rt; units.into_vec().as_slice(), [0x00, 0x4A].as_slice());
+}
+
+// The bits that the last octet leaves unused are zeros (X.690 11.2.1).
+#[test]
+fn lends_bits(rt: HostRuntime) {
+    let alloc = rt.alloc();
+    const OCTETS: &[u8] = &[0x0A, 0x3B, 0x5F, 0x29, 0x1C, 0xD0];
+    let bits = worked_bits(&rt, alloc);
+    assert!(rt; !bits.is_empty());
+    assert_eq!(rt; bits.as_octets(), OCTETS);
+    let mut ones = 0u32;
+    for bit in bits.iter() {
+        if bit {
+            ones = ones.wrapping_add(1);
+        }
+    }
+    assert_eq!(rt; ones, 22);
+    assert_eq!(rt; bits.into_vec().as_slice(), OCTETS);
+    let none = made(&rt, Ok(BitString::new(Vec::new(alloc), 0)));
+    assert!(rt; none.is_empty());
+    assert!(rt; none.as_bitstr().is_empty());
+    assert!(rt; none.as_bitstr().iter().next().is_none());
+}
+
+// VisibleString "Jones" (X.690 8.23.3), and the characters U+015C and U+20AC of Unicode as units.
+#[test]
+fn lends_text(rt: HostRuntime) {
+    let alloc = rt.alloc();
+    let jones = made(&rt, VisibleString::from_octets(alloc, b"Jones"));
+    assert_eq!(rt; jones.as_str(), "Jones");
+    let string = made(
+        &rt,
+        BmpString::from_octets(alloc, &[0x01, 0x5C, 0x20, 0xAC]),
+    );
+    let mut units = string.units();
+    assert_eq!(rt; units.next(), Some(0x015C));
+    assert_eq!(rt; units.next(), Some(0x20AC));
+    assert_eq!(rt; units.next(), None);
+}
+
+#[test]
+fn goes_over_a_set(rt: HostRuntime) -> Result<(), AllocError> {
+    let mut set = SetOf::new(rt.alloc());
+    set.insert(3u8)?;
+    set.insert(5)?;
+    let mut seen = 0u8;
+    for element in &set {
+        seen = seen.wrapping_mul(10).wrapping_add(*element);
+    }
+    assert_eq!(rt; seen, 35);
+    Ok(())
+}
+
+/// Asserts that a copy equals its value.
+fn assert_copied<T: TryClone + PartialEq>(rt: &impl Abort, alloc: Global, value: T) {
+    match value.try_clone(alloc) {
+        Ok(copy) => assert!(rt; copy == value),
+        Err(_) => assert!(rt; false, "no memory"),
+    }
+}
+
+#[test]
+fn copies_values(rt: HostRuntime) -> Result<(), AllocError> {
+    let alloc = rt.alloc();
+    assert_copied(&rt, alloc, worked_bits(&rt, alloc));
+    assert_copied(&rt, alloc, worked_arcs(&rt, alloc));
+    assert_copied(&rt, alloc, Any::new(vec_of(&rt, alloc, &[0x05, 0x00])));
+    assert_copied(
+        &rt,
+        alloc,
+        made(&rt, Integer::from_octets(alloc, &[0x01; 17])),
+    );
+    assert_copied(
+        &rt,
+        alloc,
+        made(&rt, Ia5String::from_octets(alloc, b"Jones")),
+    );
+    assert_copied(
+        &rt,
+        alloc,
+        made(&rt, BmpString::from_octets(alloc, &[0x00, 0x4A])),
+    );
+    assert_copied(&rt, alloc, String::from_str(alloc, "Jones")?);
+    assert_copied(&rt, alloc, FixedOctetString::new([0x01, 0x23]));
+    assert_copied(&rt, alloc, 7u8);
+    Ok(())
+}
+
+#[test]
+fn copies_values_of_values(rt: HostRuntime) -> Result<(), AllocError> {
+    let alloc = rt.alloc();
+    let tagged: Implicit<bool, Option<OctetString>> = Implicit::new(Some(OctetString::from_vec(
+        vec_of(&rt, alloc, &[0x01]),
+    )));
+    assert_copied(&rt, alloc, tagged);
+    let mut set = SetOf::new(alloc);
+    set.insert(vec![in alloc; 1i64, 2]?)?;
+    set.insert(Vec::new(alloc))?;
+    assert_copied(&rt, alloc, Explicit::<bool, SetOf<Vec<i64>>>::new(set));
+    Ok(())
+}
+
+#[test]
+fn orders_strings(rt: HostRuntime) {
+    let alloc = rt.alloc();
+    let jones = made(&rt, PrintableString::from_octets(alloc, b"Jones"));
+    let smith = made(&rt, PrintableString::from_octets(alloc, b"Smith"));
+    assert!(rt; jones < smith);
+    let null = Any::new(vec_of(&rt, alloc, &[0x05, 0x00]));
+    let truth = Any::new(vec_of(&rt, alloc, &[0x01, 0x01, 0xFF]));
+    assert_eq!(rt; null.cmp(&truth), Ordering::Greater);
+    let low = made(&rt, BmpString::from_octets(alloc, &[0x00, 0xFF]));
+    let high = made(&rt, BmpString::from_octets(alloc, &[0x01, 0x00]));
+    assert!(rt; low < high);
+}

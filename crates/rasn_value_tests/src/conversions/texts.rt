@@ -1,0 +1,132 @@
+//! Values as text.
+
+use rasn::prelude::*;
+use rasn::types::Hexadecimal;
+use rasn_asserts::writing::made;
+use std::alloc::{AllocError, Global};
+use std::fmt::Display;
+use std::process::Abort;
+
+/// Asserts that the value is shown as this text.
+fn assert_shown<T: Display + Drop>(rt: &impl Abort, alloc: Global, value: T, text: &str) {
+    match format!(in alloc; "{value}") {
+        Ok(found) => assert_eq!(rt; found.as_str(), text),
+        Err(_) => assert!(rt; false, "no memory"),
+    }
+}
+
+// The example of an OBJECT IDENTIFIER (X.690 8.19.5), and the arcs of rsaEncryption (RFC 8017, appendix C).
+#[test]
+fn object_identifiers(rt: HostRuntime) {
+    let alloc = rt.alloc();
+    let worked = made(&rt, ObjectIdentifier::from_arcs(alloc, &[2, 999, 3]));
+    assert_shown(&rt, alloc, worked, "2.999.3");
+    let rsa = made(
+        &rt,
+        ObjectIdentifier::from_arcs(alloc, &[1, 2, 840, 113549, 1, 1, 1]),
+    );
+    assert_shown(&rt, alloc, rsa, "1.2.840.113549.1.1.1");
+}
+
+/// Asserts that the text names the object identifier of these arcs, or none.
+fn assert_names(rt: &impl Abort, alloc: Global, text: &str, arcs: Option<&[u32]>) {
+    match (ObjectIdentifier::parse(alloc, text), arcs) {
+        (Ok(Some(found)), Some(arcs)) => assert_eq!(rt; found.arcs(), arcs),
+        (Ok(None), None) => {}
+        _ => assert!(rt; false, "{text}"),
+    }
+}
+
+// The example of X.690 8.19.5, rsaEncryption (RFC 8017, appendix C), and the greatest arc of 32 bits.
+#[test]
+fn names_of_object_identifiers(rt: HostRuntime) {
+    let alloc = rt.alloc();
+    let rsa = [1, 2, 840, 113549, 1, 1, 1];
+    assert_names(&rt, alloc, "2.999.3", Some(&[2, 999, 3]));
+    assert_names(&rt, alloc, "1.2.840.113549.1.1.1", Some(&rsa));
+    assert_names(&rt, alloc, "2.4294967295", Some(&[2, u32::MAX]));
+}
+
+// Too few arcs, a first arc above 2, an empty arc, zeros and a sign in front, an arc beyond 32 bits, and what is no digit.
+#[test]
+fn names_of_nothing(rt: HostRuntime) {
+    for text in [
+        "",
+        "1",
+        "3.1",
+        ".1.2",
+        "1.2.",
+        "1..2",
+        "1.02",
+        "1.+2",
+        "1.4294967296",
+        "1.2a",
+        "1.2 ",
+    ] {
+        assert_names(&rt, rt.alloc(), text, None);
+    }
+}
+
+// The octets of NULL, and of the ends of a hexadecimal digit's range.
+#[test]
+fn octets(rt: HostRuntime) -> Result<(), AllocError> {
+    let alloc = rt.alloc();
+    let octets = [0x05, 0x00, 0x9A, 0xAF, 0xF0];
+    assert_shown(&rt, alloc, Hexadecimal::new(&octets), "05009AAFF0");
+    let string = OctetString::from_vec(Vec::from_slice(alloc, &octets)?);
+    assert_shown(&rt, alloc, string, "05009AAFF0");
+    assert_shown(
+        &rt,
+        alloc,
+        Any::new(Vec::from_slice(alloc, &octets[..2])?),
+        "0500",
+    );
+    assert_shown(&rt, alloc, OctetString::from_vec(Vec::new(alloc)), "");
+    Ok(())
+}
+
+// VisibleString "Jones" (X.690 8.23.3).
+#[test]
+fn strings(rt: HostRuntime) {
+    let alloc = rt.alloc();
+    let jones = made(&rt, VisibleString::from_octets(alloc, b"Jones"));
+    assert_shown(&rt, alloc, jones, "Jones");
+}
+
+/// An instant of these fields.
+fn instant_of(
+    rt: &impl Abort,
+    (year, month, day): (i32, u8, u8),
+    (hour, minute, second): (u8, u8, u8),
+    nanosecond: u32,
+) -> UtcTime {
+    let date = made(rt, Ok(Date::new(year, month, day)));
+    made(rt, Ok(UtcTime::new(date, hour, minute, second, nanosecond)))
+}
+
+// The first example, an instant with an offset in UTC, and the leap second of RFC 3339 5.8.
+#[test]
+fn instants(rt: HostRuntime) {
+    let alloc = rt.alloc();
+    let first = instant_of(&rt, (1985, 4, 12), (23, 20, 50), 520_000_000);
+    assert_shown(&rt, alloc, first, "1985-04-12T23:20:50.52Z");
+    let second = instant_of(&rt, (1996, 12, 20), (0, 39, 57), 0);
+    let second = made(&rt, Ok(GeneralizedTime::new(second, -480)));
+    assert_shown(&rt, alloc, second, "1996-12-20T00:39:57Z");
+    let leap = instant_of(&rt, (1990, 12, 31), (23, 59, 59), 1_000_000_000);
+    assert_shown(&rt, alloc, leap, "1990-12-31T23:59:60Z");
+}
+
+// A full date of RFC 3339 5.6, and years of ISO 8601 that have a sign.
+#[test]
+fn days(rt: HostRuntime) {
+    let alloc = rt.alloc();
+    for (year, month, day, text) in [
+        (1985, 4, 12, "1985-04-12"),
+        (12345, 1, 2, "+12345-01-02"),
+        (-1, 12, 31, "-0001-12-31"),
+    ] {
+        let date = made(&rt, Ok(Date::new(year, month, day)));
+        assert_shown(&rt, alloc, date, text);
+    }
+}

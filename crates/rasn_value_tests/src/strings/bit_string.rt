@@ -1,0 +1,193 @@
+//! BIT STRING (X.690 8.6), in segments under CER (9.2).
+
+use rasn_asserts::reading::{assert_reads, assert_reads_within, decoder_of, sized, value};
+use rasn_asserts::writing::{
+    assert_output, assert_refuses, assert_writes_pieces, assert_written, made, new_encoder,
+    set_bits,
+};
+use rasn_de::de::Decode;
+use rasn_enc::enc::Encode;
+use rasn_types::error::DecodeError;
+use rasn_types::types::{BitStr, BitString, Bound, Bounded, Codec, Constraints, Identifier, Tag};
+use std::alloc::{AllocError, Global};
+use std::process::Abort;
+
+/// Octets, the rules they are read by, how many bits there are, their octets, and how many octets are consumed.
+type BitsRow = (&'static [u8], Codec, usize, &'static [u8], usize);
+
+fn packed(alloc: Global, bits: &BitString) -> Result<Vec<u8>, AllocError> {
+    let mut octets = Vec::new(alloc);
+    bits.as_bitstr().append_to(&mut octets)?;
+    Ok(octets)
+}
+
+/// Asserts that a call answers so many bits, which have these octets.
+fn assert_has_bits(
+    rt: &impl Abort,
+    alloc: Global,
+    answer: Result<BitString, DecodeError>,
+    len: usize,
+    octets: &[u8],
+) {
+    match answer {
+        Ok(bits) => {
+            assert!(rt; bits.len() == len);
+            match packed(alloc, &bits) {
+                Ok(found) => assert_eq!(rt; found.as_slice(), octets),
+                Err(_) => assert!(rt; false, "no memory"),
+            }
+        }
+        Err(error) => assert!(rt; false, "{:?}", error.kind),
+    }
+}
+
+fn assert_reads_bits(rt: &impl Abort, alloc: Global, rows: &[BitsRow]) {
+    for (octets, rules, len, found, consumed) in rows {
+        let mut decoder = decoder_of(alloc, octets, *rules);
+        assert_has_bits(rt, alloc, BitString::decode(&mut decoder), *len, found);
+        assert_eq!(rt; decoder.decoded_len(), *consumed, "{octets:?} {rules:?}");
+    }
+}
+
+// The bits of the example of X.690 8.6.4.2 in one piece.
+const BITS_44_IN_ONE_PIECE: &[u8] = &[0x03, 0x07, 0x04, 0x0A, 0x3B, 0x5F, 0x29, 0x1C, 0xD0];
+
+const BITS_44_IN_SEGMENTS: &[u8] = &[
+    0x23, 0x80, 0x03, 0x03, 0x00, 0x0A, 0x3B, 0x03, 0x05, 0x04, 0x5F, 0x29, 0x1C, 0xD0, 0x00, 0x00,
+];
+
+const BITS_44: &[u8] = &[0x0A, 0x3B, 0x5F, 0x29, 0x1C, 0xD0];
+
+// A segment that isn't the last may have unused bits. Unused bits may be set, but not under DER (X.690 11.2.1).
+#[test]
+fn reads_bits_of_both_forms(rt: HostRuntime) {
+    assert_reads_bits(
+        &rt,
+        rt.alloc(),
+        &[
+            (BITS_44_IN_ONE_PIECE, Codec::Ber, 44, BITS_44, 9),
+            (BITS_44_IN_SEGMENTS, Codec::Ber, 44, BITS_44, 16),
+            (
+                &[0x23, 0x08, 0x03, 0x02, 0x05, 0xE0, 0x03, 0x02, 0x04, 0xA0],
+                Codec::Ber,
+                7,
+                &[0xF4],
+                10,
+            ),
+            (&[0x03, 0x02, 0x05, 0xFF], Codec::Ber, 3, &[0xE0], 4),
+            (&[0x03, 0x02, 0x05, 0xFF], Codec::Cer, 3, &[0xE0], 4),
+        ],
+    );
+}
+
+fn bits_of(rt: &impl Abort, alloc: Global, octets: &[u8]) -> BitString {
+    let mut decoder = decoder_of(alloc, octets, Codec::Ber);
+    value(rt, BitString::decode(&mut decoder))
+}
+
+#[test]
+fn calls_read_bits(rt: HostRuntime) {
+    let mut decoder = decoder_of(rt.alloc(), BITS_44_IN_ONE_PIECE, Codec::Ber);
+    let answer = decoder.decode_bit_string(Tag::BIT_STRING, &Constraints::NONE);
+    assert_has_bits(&rt, rt.alloc(), answer, 44, BITS_44);
+    let alloc = rt.alloc();
+    assert!(rt;
+        bits_of(&rt, alloc, BITS_44_IN_ONE_PIECE) == bits_of(&rt, alloc, BITS_44_IN_SEGMENTS)
+    );
+}
+
+// A fault in a segment consumes nothing; a wrong size consumes the value (X.690 8.6.2).
+#[test]
+fn refuses_bits(rt: HostRuntime) {
+    assert_reads::<BitString>(
+        &rt,
+        rt.alloc(),
+        &[
+            (&[0x03, 0x00], Codec::Der, "UnexpectedEmptyInput", 0),
+            (
+                &[0x03, 0x01, 0x01],
+                Codec::Der,
+                "InvalidBitString { bits: 1 }",
+                0,
+            ),
+            (
+                &[0x03, 0x02, 0x08, 0xFF],
+                Codec::Der,
+                "InvalidBitString { bits: 8 }",
+                0,
+            ),
+            (
+                &[0x03, 0x02, 0x05, 0xFF],
+                Codec::Der,
+                "CodecSpecific { inner: Der(NonzeroUnusedBits) }",
+                0,
+            ),
+        ],
+    );
+    const THREE_NOT_FOUR: &str =
+        "SizeConstraintNotSatisfied { size: Some(3), expected: Single(4) }";
+    assert_reads_within::<BitString>(
+        &rt,
+        rt.alloc(),
+        &sized(4),
+        &[(&[0x03, 0x02, 0x05, 0xE0], Codec::Der, THREE_NOT_FOUR, 4)],
+    );
+}
+
+// The bits 1,1,0,1,0,1,0,1,1,0,1 are written, then those from the second on, then none (X.690 8.6.2).
+#[test]
+fn writes_bits(rt: HostRuntime) {
+    let bits = made(&rt, Ok(BitStr::new(&[0xD5, 0xBF], 0, 11)));
+    assert!(rt; bits.len() == 11);
+    let (none, _) = bits.split_at(0);
+    let (_, ten) = bits.split_at(1);
+    let mut encoder = new_encoder(&rt, rt.alloc(), Codec::Der);
+    for bits in [&bits, &ten, &none] {
+        let answer = encoder.encode_bit_string(
+            Tag::BIT_STRING,
+            &Constraints::NONE,
+            bits,
+            Identifier::EMPTY,
+        );
+        assert_written(&rt, answer);
+    }
+    const ELEVEN_TEN_AND_NO_BITS: &[u8] = &[
+        0x03, 0x03, 0x05, 0xD5, 0xA0, 0x03, 0x03, 0x06, 0xAB, 0x40, 0x03, 0x01, 0x00,
+    ];
+    assert_output(&rt, encoder.output(), ELEVEN_TEN_AND_NO_BITS);
+}
+
+// More than 999 octets of bits are cut into segments under CER (X.690 9.2).
+#[test]
+fn cuts_bits_under_canonical_rules(rt: HostRuntime) {
+    let alloc = rt.alloc();
+    let whole = [([0x03, 0x82, 0x03, 0xE8, 0x00].as_slice(), 0xFF, 999)];
+    assert_writes_pieces(&rt, alloc, Codec::Cer, set_bits(alloc, 7992), &whole);
+    let cut = [
+        (
+            [0x23, 0x80, 0x03, 0x82, 0x03, 0xE8, 0x00].as_slice(),
+            0xFF,
+            999,
+        ),
+        ([0x03, 0x02, 0x00, 0xFF, 0x00, 0x00].as_slice(), 0, 0),
+    ];
+    assert_writes_pieces(&rt, alloc, Codec::Cer, set_bits(alloc, 8000), &cut);
+}
+
+// There are three bits where there have to be four.
+#[test]
+fn refuses_bits_out_of_bounds(rt: HostRuntime) {
+    let alloc = rt.alloc();
+    let mut encoder = new_encoder(&rt, alloc, Codec::Der);
+    let four = Constraints {
+        value: None,
+        size: Some(Bound {
+            constraint: Bounded::Single(4),
+            extensible: false,
+        }),
+    };
+    let three = made(&rt, set_bits(encoder.alloc(), 3));
+    let answer = three.encode_with_constraints(&mut encoder, &four, Identifier::EMPTY);
+    const THREE_NOT_FOUR: &str = "SizeConstraintNotSatisfied { size: 3, expected: Single(4) }";
+    assert_refuses(&rt, alloc, Codec::Der, answer, THREE_NOT_FOUR);
+}

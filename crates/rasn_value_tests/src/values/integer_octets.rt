@@ -1,0 +1,145 @@
+//! The octets of whole numbers in two's complement (X.690 8.3).
+
+use rasn_asserts::reading::assert_facts;
+use rasn_types::types::{Integer, IntegerType};
+use std::alloc::Global;
+use std::process::Abort;
+
+/// Octets in two's complement, and the number, where the type has it.
+type Row<T> = (&'static [u8], Option<T>);
+
+fn is_read<T: IntegerType + PartialEq>(alloc: Global, octets: &[u8], number: &Option<T>) -> bool {
+    if octets.is_empty() {
+        return false;
+    }
+    match T::from_octets(alloc, octets) {
+        Ok(found) => found == *number,
+        Err(_) => false,
+    }
+}
+
+/// Asserts that each row's octets are the row's number of the type.
+fn assert_stands_for<T: IntegerType + PartialEq>(rt: &impl Abort, alloc: Global, rows: &[Row<T>]) {
+    for (octets, number) in rows {
+        assert!(rt; is_read(alloc, octets, number), "{octets:?}");
+    }
+}
+
+fn is_written<T: IntegerType>(alloc: Global, number: &T, octets: &[u8]) -> bool {
+    let mut found = Vec::new(alloc);
+    found.push(7).is_ok()
+        && number.append_octets(&mut found).is_ok()
+        && found.strip_prefix(&[7]) == Some(octets)
+}
+
+/// Asserts that the number is written as these octets, behind another octet, and read back.
+fn assert_takes<T: IntegerType + PartialEq>(
+    rt: &impl Abort,
+    alloc: Global,
+    number: T,
+    octets: &[u8],
+) {
+    assert!(rt; is_written(alloc, &number, octets), "{octets:?}");
+    assert!(rt; is_read(alloc, octets, &Some(number)), "{octets:?}");
+}
+
+const PADDED_MINUS_33024: &[u8] = &[0xFF, 0xFF, 0xFF, 0xFF, 0x7F, 0x00];
+
+const U128_MAX: &[u8] = &[
+    0x00, 0xFF, 0xFF, 0xFF, 0xFF, 0xFF, 0xFF, 0xFF, 0xFF, 0xFF, 0xFF, 0xFF, 0xFF, 0xFF, 0xFF, 0xFF,
+    0xFF,
+];
+
+// Octets are one number, in each type that has it.
+#[test]
+fn reads_fixed_widths(rt: HostRuntime) {
+    let alloc = rt.alloc();
+    assert_stands_for::<i32>(&rt, alloc, &[(PADDED_MINUS_33024, Some(-33024))]);
+    assert_stands_for::<i16>(&rt, alloc, &[(PADDED_MINUS_33024, None)]);
+    let largest = &[0x00, 0xFF, 0xFF, 0xFF, 0xFF, 0xFF, 0xFF, 0xFF, 0xFF];
+    assert_stands_for::<u64>(
+        &rt,
+        alloc,
+        &[(PADDED_MINUS_33024, None), (largest, Some(u64::MAX))],
+    );
+    assert_stands_for::<u32>(
+        &rt,
+        alloc,
+        &[
+            (&[0x00, 0x00, 0x33, 0x44, 0x55, 0x66], Some(860116326)),
+            (&[0x11, 0x22, 0x33, 0x44, 0x55, 0x66], None),
+        ],
+    );
+    assert_stands_for::<u8>(&rt, alloc, &[(&[0xFF], None)]);
+    assert_stands_for::<i8>(&rt, alloc, &[(&[0xFF], Some(-1))]);
+    assert_stands_for::<i128>(&rt, alloc, &[(U128_MAX, None)]);
+}
+
+#[test]
+fn writes_fewest_octets(rt: HostRuntime) {
+    let alloc = rt.alloc();
+    assert_takes(&rt, alloc, -33024i64, &[0xFF, 0x7F, 0x00]);
+    assert_takes(&rt, alloc, 860116326u32, &[0x33, 0x44, 0x55, 0x66]);
+    assert_takes(&rt, alloc, 128u8, &[0x00, 0x80]);
+    assert_takes(&rt, alloc, -128i8, &[0x80]);
+    assert_takes(&rt, alloc, 0usize, &[0x00]);
+    assert_takes(&rt, alloc, u128::MAX, U128_MAX);
+}
+
+/// Numbers at the ends of 128 bits and about 0, and their octets.
+const NUMBERS_OF_128_BITS: &[(i128, &[u8])] = &[
+    (
+        i128::MAX,
+        &[
+            0x7F, 0xFF, 0xFF, 0xFF, 0xFF, 0xFF, 0xFF, 0xFF, 0xFF, 0xFF, 0xFF, 0xFF, 0xFF, 0xFF,
+            0xFF, 0xFF,
+        ],
+    ),
+    (
+        i128::MIN,
+        &[0x80, 0, 0, 0, 0, 0, 0, 0, 0, 0, 0, 0, 0, 0, 0, 0],
+    ),
+    (-1, &[0xFF]),
+    (0, &[0x00]),
+];
+
+#[test]
+fn writes_128_bits(rt: HostRuntime) {
+    for (number, octets) in NUMBERS_OF_128_BITS {
+        assert_takes(&rt, rt.alloc(), *number, octets);
+    }
+}
+
+/// Whether these octets are kept of a number of any length; none where there is no number.
+fn is_kept(alloc: Global, octets: &[u8], kept: &[u8]) -> bool {
+    match Integer::from_octets(alloc, octets) {
+        Ok(Some(number)) => number.as_octets() == kept,
+        Ok(None) => kept.is_empty(),
+        Err(_) => false,
+    }
+}
+
+fn are_equal(alloc: Global, one: &[u8], other: &[u8]) -> bool {
+    match (
+        Integer::from_octets(alloc, one),
+        Integer::from_octets(alloc, other),
+    ) {
+        (Ok(Some(one)), Ok(Some(other))) => one == other,
+        _ => false,
+    }
+}
+
+// Redundant octets are dropped, so equal numbers are equal values; no octets are no number.
+#[test]
+fn keeps_any_length(rt: HostRuntime) {
+    let alloc = rt.alloc();
+    assert_facts(
+        &rt,
+        &[
+            is_kept(alloc, &[0x00, 0x00, 0x80], &[0x00, 0x80]),
+            is_kept(alloc, &[0x00, 0x80], &[0x00, 0x80]),
+            is_kept(alloc, &[], &[]),
+            are_equal(alloc, &[0x00, 0x00, 0x80], &[0x00, 0x80]),
+        ],
+    );
+}

@@ -1,0 +1,181 @@
+//! OBJECT IDENTIFIER (X.690 8.19) and its arcs (X.660 7.6).
+
+use rasn_asserts::reading::{assert_answer, assert_facts, assert_reads, decoder_of};
+use rasn_asserts::writing::{
+    assert_output, assert_refuses, assert_writes_made, assert_written, identifier_of, made,
+    new_encoder,
+};
+use rasn_enc::ber::enc::object_identifier_as_bytes;
+use rasn_types::types::{Codec, Identifier, ObjectIdentifier, Tag};
+use std::alloc::Global;
+use std::process::Abort;
+
+/// Whether these arcs make no object identifier.
+fn is_none(alloc: Global, arcs: &[u32]) -> bool {
+    identifier_of(alloc, arcs).is_ok_and(|identifier| identifier.is_none())
+}
+
+const RSA_ARCS: &[u32] = &[1, 2, 840, 113549];
+
+// An object identifier has two arcs at least, and a first arc of at most 2 (X.660 7.6).
+#[test]
+fn keeps_arcs(rt: HostRuntime) {
+    let alloc = rt.alloc();
+    let one = made(&rt, identifier_of(alloc, RSA_ARCS));
+    let other = made(&rt, identifier_of(alloc, RSA_ARCS));
+    assert_facts(
+        &rt,
+        &[
+            is_none(alloc, &[2]),
+            is_none(alloc, &[3, 1]),
+            one.arcs() == RSA_ARCS,
+            one == other,
+        ],
+    );
+}
+
+// Contents that are empty or end within an arc lack one octet, an arc of 2^32 is too wide, and under DER an arc has no leading 80
+// (X.690 8.19). The value is consumed.
+#[test]
+fn reads_object_identifiers(rt: HostRuntime) {
+    assert_reads::<ObjectIdentifier>(
+        &rt,
+        rt.alloc(),
+        &[
+            (
+                &[0x06, 0x03, 0x2A, 0x80, 0x01],
+                Codec::Ber,
+                "ObjectIdentifier { arcs: [1, 2, 1] }",
+                5,
+            ),
+            (
+                &[0x06, 0x03, 0x2A, 0x80, 0x01],
+                Codec::Der,
+                "CodecSpecific { inner: Der(NonMinimalArc) }",
+                5,
+            ),
+            (
+                &[0x06, 0x03, 0x88, 0x37, 0x01],
+                Codec::Der,
+                "ObjectIdentifier { arcs: [2, 999, 1] }",
+                5,
+            ),
+            (
+                &[0x06, 0x05, 0x8F, 0xFF, 0xFF, 0xFF, 0x7F],
+                Codec::Der,
+                "ObjectIdentifier { arcs: [2, 4294967215] }",
+                7,
+            ),
+            (
+                &[0x06, 0x00],
+                Codec::Ber,
+                "Incomplete { needed: Size(1) }",
+                2,
+            ),
+            (
+                &[0x06, 0x01, 0x88],
+                Codec::Ber,
+                "Incomplete { needed: Size(1) }",
+                3,
+            ),
+            (
+                &[0x06, 0x06, 0x2A, 0x90, 0x80, 0x80, 0x80, 0x00],
+                Codec::Ber,
+                "CodecSpecific { inner: Ber(UnsupportedObjectIdentifierArc) }",
+                8,
+            ),
+        ],
+    );
+}
+
+#[test]
+fn calls_read_object_identifiers(rt: HostRuntime) {
+    let mut decoder = decoder_of(rt.alloc(), &[0x06, 0x01, 0x88], Codec::Der);
+    const MICROSOFT_CONTENTS: &[u8] = &[0x2B, 0x06, 0x01, 0x04, 0x01, 0x82, 0x37, 0x15, 0x14];
+    assert_answer(
+        &rt,
+        rt.alloc(),
+        Codec::Der,
+        decoder.decode_object_identifier_from_bytes(MICROSOFT_CONTENTS),
+        "ObjectIdentifier { arcs: [1, 3, 6, 1, 4, 1, 311, 21, 20] }",
+    );
+    assert_answer(
+        &rt,
+        rt.alloc(),
+        Codec::Der,
+        decoder.decode_object_identifier(Tag::OBJECT_IDENTIFIER),
+        "Incomplete { needed: Size(1) }",
+    );
+    assert!(rt; decoder.remaining().is_empty());
+}
+
+/// The arcs {2 999 1} and {2 4294967215}.
+const ARCS: &[&[u32]] = &[&[2, 999, 1], &[2, 4294967215]];
+
+// Each arc has seven bits an octet (X.690 8.19).
+#[test]
+fn writes_object_identifiers(rt: HostRuntime) {
+    let mut encoder = new_encoder(&rt, rt.alloc(), Codec::Der);
+    for arcs in ARCS {
+        let tag = Tag::OBJECT_IDENTIFIER;
+        let answer = encoder.encode_object_identifier(tag, arcs, Identifier::EMPTY);
+        assert_written(&rt, answer);
+    }
+    const TWO_IDENTIFIERS: &[u8] = &[
+        0x06, 0x03, 0x88, 0x37, 0x01, 0x06, 0x05, 0x8F, 0xFF, 0xFF, 0xFF, 0x7F,
+    ];
+    assert_output(&rt, encoder.output(), TWO_IDENTIFIERS);
+}
+
+// The arcs are {1 3 6 1 4 1 311 21 20} (X.690 8.19).
+#[test]
+fn writes_object_identifiers_as_values(rt: HostRuntime) {
+    let alloc = rt.alloc();
+    let microsoft = identifier_of(alloc, &[1, 3, 6, 1, 4, 1, 311, 21, 20]);
+    const MICROSOFT: &[u8] = &[
+        0x06, 0x09, 0x2B, 0x06, 0x01, 0x04, 0x01, 0x82, 0x37, 0x15, 0x14,
+    ];
+    assert_writes_made(&rt, alloc, Codec::Der, microsoft, MICROSOFT);
+}
+
+/// Asserts what appending the arcs' octets behind 2A answers, and which octets stand there then.
+fn assert_appends(rt: &impl Abort, alloc: Global, arcs: &[u32], text: &str, octets: &[u8]) {
+    let mut found = Vec::new(alloc);
+    assert!(rt; found.push(0x2A).is_ok(), "no memory");
+    let answer = object_identifier_as_bytes(alloc, arcs, &mut found);
+    assert_refuses(rt, alloc, Codec::Ber, answer, text);
+    assert!(rt; found.as_slice() == octets, "{arcs:?}");
+}
+
+/// Arcs that have no encoding, and the refusal's kind.
+const NO_IDENTIFIERS: &[(&[u32], &str)] = &[
+    (
+        &[2, 4294967216],
+        "CodecSpecific { inner: Ber(InvalidObjectIdentifier { oid: [2, 4294967216] }) }",
+    ),
+    (
+        &[1, 45],
+        "CodecSpecific { inner: Ber(InvalidObjectIdentifier { oid: [1, 45] }) }",
+    ),
+    (
+        &[3, 1],
+        "CodecSpecific { inner: Ber(InvalidObjectIdentifier { oid: [3, 1] }) }",
+    ),
+    (
+        &[1],
+        "CodecSpecific { inner: Ber(InvalidObjectIdentifier { oid: [1] }) }",
+    ),
+];
+
+// Arcs without an encoding are refused under BER, and the vector is unchanged (X.690 8.19.4).
+#[test]
+fn refuses_arcs_without_octets(rt: HostRuntime) {
+    for (arcs, text) in NO_IDENTIFIERS {
+        assert_appends(&rt, rt.alloc(), arcs, text, &[0x2A]);
+    }
+}
+
+#[test]
+fn appends_the_octets_of_arcs(rt: HostRuntime) {
+    assert_appends(&rt, rt.alloc(), &[1, 2, 1], "written", &[0x2A, 0x2A, 0x01]);
+}
