@@ -17,7 +17,7 @@ use Rattle.rasn_types.specs.declared.types.tag.Tag.{Tag}
 use Rattle.rasn_types.specs.declared.error.decode.DecodeError.{DecodeError}
 use Rattle.rasn_types.specs.declared.error.decode.DecodeErrorKind.{DecodeErrorKind}
 use Rattle.rasn_types.specs.Tags.{form}
-use Rattle.rasn_types.specs.Shapes.{Shape, Tree, items, done, joined, absent, option, Parts, part, Presence, optional, default, own, looked_for}
+use Rattle.rasn_types.specs.Shapes.{Shape, Tree, items, done, joined, absent, option, Parts, part, Presence, optional, default, prefix, own, looked_for}
 use Rattle.rasn_types.specs.Shapes.Parts.{none}
 use Rattle.rasn_types.specs.Readings.{Reading, ReadsPart, ReadsOptional, ReadsInOrder}
 use Rattle.rasn_types.specs.Grammar.{Reads, parts_of}
@@ -102,6 +102,11 @@ optional_part {g} s e {old} {new} {o} a = record { stays = a.stays; end = a.end;
 -- So is one that has a default.
 pub default_part : (tag : Tag) (d : Tree) (s : Shape) → own s ≡ looked_for tag → {old new : State} {o : Outcome} → DecodesExactly (ReadsDefault tag d s) old o new → DecodesExactly (OnePart (default d) s) old o new
 default_part tag d s e {old} {new} {o} a = record { stays = a.stays; end = a.end; exact = subst (λ h. Exact (ReadsPart old.rule (default d) h (Reads old.rule s old.depth old.closing) old.closing) old.rest o) (sym e) a.exact }
+
+-- The same of a part under a prefix whose tag is known by another name.
+pub under_tag : {t tag : Tag} → t ≡ tag → (d : Tree) (s : Shape) {old new : State} {o : Outcome} → DecodesExactly (ReadsDefault t d (prefix t s)) old o new
+    → DecodesExactly (ReadsDefault tag d (prefix tag s)) old o new
+under_tag e d s {old} {new} {o} a = subst (λ x. DecodesExactly (ReadsDefault x d (prefix x s)) old o new) e a
 
 -- The steps of a user's closure: the next part is refused; one was read, and a later one is refused; one was read, and the others.
 pub part_refused : (p : Presence) (s : Shape) (ps : Parts) (k : DecodeErrorKind) {old new : State} → DecodesExactly (OnePart p s) old (refusal k) new → DecodesExactly (ReadsParts (part p s ps)) old (refusal k) new
