@@ -1,3 +1,7 @@
 //! Messages of the standards, as others made them.
 
 mod certificate;
+mod cms;
+mod request;
+mod revocation;
+mod spoilt;
