@@ -1,2 +1,3 @@
 pub mod Attribute
 pub mod Revocation
+pub mod Extensions

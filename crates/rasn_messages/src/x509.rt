@@ -1,6 +1,7 @@
 //! Certificates of the Internet (RFC 5280).
 
 mod attribute;
+pub mod extensions;
 pub mod revocation;
 
 pub use attribute::Attribute;

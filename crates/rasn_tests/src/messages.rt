@@ -2,6 +2,7 @@
 
 mod certificate;
 mod cms;
+mod extensions;
 mod request;
 mod revocation;
 mod spoilt;
