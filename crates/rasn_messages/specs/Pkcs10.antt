@@ -1,0 +1,2 @@
+pub mod RequestInfo
+pub mod Request

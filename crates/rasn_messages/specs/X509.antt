@@ -1,0 +1,3 @@
+pub mod Attribute
+pub mod Revocation
+pub mod Extensions

@@ -1,11 +1,11 @@
 //! Certificates (RFC 5280) that others made, and spoilt ones.
 
+use crate::messages::spoilt::spoilt;
 use rasn::ber;
 use rasn::types::Codec;
 use rasn_asserts::whole::assert_decodes;
 use rasn_asserts::writing::assert_output;
 use rasn_x509::{Certificate, Time, read_certificate, write_certificate};
-use std::alloc::Global;
 use std::process::Abort;
 
 // Made by OpenSSL 3.0: `openssl req -x509 -new -key k.pem -config c.cnf -days 3650 -set_serial 0x0102030405 -outform DER`, of a key on P-256,
@@ -40,17 +40,6 @@ const CERTIFICATE: &[u8] = &[
     0x3B, 0x08, 0x03, 0x01, 0x0D, 0x68, 0xCF,
 ];
 
-/// The certificate with another octet at this place.
-fn spoilt(rt: &impl Abort, alloc: Global, at: usize, octet: u8) -> Vec<u8> {
-    let Ok(mut octets) = Vec::from_slice(alloc, CERTIFICATE) else {
-        rt.abort()
-    };
-    if let Some(place) = octets.get_mut(at) {
-        *place = octet;
-    }
-    octets
-}
-
 #[test]
 fn a_certificate_is_read_and_written_back(rt: HostRuntime) {
     let alloc = rt.alloc();
@@ -78,10 +67,10 @@ fn spoilt_certificates_are_refused(rt: HostRuntime) {
     const VERSION: usize = 12;
     const SERIAL: usize = 15;
     const CRITICAL: usize = 278;
-    let version_one = spoilt(&rt, alloc, VERSION, 0x00);
-    let not_critical = spoilt(&rt, alloc, CRITICAL, 0x00);
-    let foreign_true = spoilt(&rt, alloc, CRITICAL, 0x01);
-    let padded = spoilt(&rt, alloc, SERIAL, 0x00);
+    let version_one = spoilt(&rt, alloc, CERTIFICATE, VERSION, 0x00);
+    let not_critical = spoilt(&rt, alloc, CERTIFICATE, CRITICAL, 0x00);
+    let foreign_true = spoilt(&rt, alloc, CERTIFICATE, CRITICAL, 0x01);
+    let padded = spoilt(&rt, alloc, CERTIFICATE, SERIAL, 0x00);
     const DEFAULT_PRESENT: &str = "CodecSpecific { inner: Der(DefaultValuePresent) }";
     assert_decodes::<Certificate>(
         &rt,

@@ -1,0 +1,3 @@
+pub mod Revoked
+pub mod CertList
+pub mod Signed
