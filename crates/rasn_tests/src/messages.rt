@@ -1,3 +1,3 @@
 //! Messages of the standards, as others made them.
 
-mod certificate;
+pub(crate) mod certificate;

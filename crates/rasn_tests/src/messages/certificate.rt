@@ -10,7 +10,7 @@ use std::process::Abort;
 
 // Made by OpenSSL 3.0: `openssl req -x509 -new -key k.pem -config c.cnf -days 3650 -set_serial 0x0102030405 -outform DER`, of a key on P-256,
 // the subject C = DE, O = Example, CN = example.org, critical basic constraints and a subject alternative name.
-const CERTIFICATE: &[u8] = &[
+pub(crate) const CERTIFICATE: &[u8] = &[
     0x30, 0x82, 0x01, 0xA3, 0x30, 0x82, 0x01, 0x4A, 0xA0, 0x03, 0x02, 0x01, 0x02, 0x02, 0x05, 0x01,
     0x02, 0x03, 0x04, 0x05, 0x30, 0x0A, 0x06, 0x08, 0x2A, 0x86, 0x48, 0xCE, 0x3D, 0x04, 0x03, 0x02,
     0x30, 0x35, 0x31, 0x0B, 0x30, 0x09, 0x06, 0x03, 0x55, 0x04, 0x06, 0x13, 0x02, 0x44, 0x45, 0x31,
@@ -41,7 +41,7 @@ const CERTIFICATE: &[u8] = &[
 ];
 
 /// The certificate with another octet at this place.
-fn spoilt(rt: &impl Abort, alloc: Global, at: usize, octet: u8) -> Vec<u8> {
+pub(crate) fn spoilt(rt: &impl Abort, alloc: Global, at: usize, octet: u8) -> Vec<u8> {
     let Ok(mut octets) = Vec::from_slice(alloc, CERTIFICATE) else {
         rt.abort()
     };
