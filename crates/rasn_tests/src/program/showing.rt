@@ -44,9 +44,8 @@ certificate
 \x20 signature: 304402205FD74EEB097DDE8E1FE52CDC25D027C8935133D9765685B382EEF2C0EBA3B665022020BC9BB30F1BF4703C2B3AD319CA14663E3881AF4DB51D4E0E3B0803010D68CF
 ";
 
-// Made by OpenSSL 3.0: `openssl req -x509 -new -key k.pem -config c.cnf -utf8 -subj '/C=DE/O=Exämple, "B" <c>;d\\\\e/OU=#1/CN=a
-// b+emailAddress=x@y.de/other=t<tab>u'
-// -set_serial 0xFF00 -days 20000 -outform DER`, of a key on Ed25519, with `string_mask = MASK:0x802` and `other = 1.2.3.4` in c.cnf: names in BMPString and
+// Made by OpenSSL 3.0: `openssl req -x509 -new -key k.pem -config c.cnf -utf8 -subj '/C=DE/O=Exämple, "B" <c>;d\\e/OU=#1/CN=a
+// b+emailAddress=x@y.de/other=t<tab>u' -set_serial 0xFF00 -days 20000 -outform DER`, of a key on Ed25519, with `string_mask = MASK:0x802` and `other = 1.2.3.4` in c.cnf: names in BMPString and
 // PrintableString, two attributes in one relative distinguished name, characters with a meaning of their own, and a GeneralizedTime.
 const NAMED: &[u8] = &[
     0x30, 0x82, 0x01, 0xB4, 0x30, 0x82, 0x01, 0x66, 0x02, 0x03, 0x00, 0xFF, 0x00, 0x30, 0x05, 0x06,
