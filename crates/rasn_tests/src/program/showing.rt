@@ -46,7 +46,8 @@ certificate
 
 // Made by OpenSSL 3.0: `openssl req -x509 -new -key k.pem -config c.cnf -utf8 -subj '/C=DE/O=Exämple, "B" <c>;d\\e/OU=#1/CN=a
 // b+emailAddress=x@y.de/other=t<tab>u' -set_serial 0xFF00 -days 20000 -outform DER`, of a key on Ed25519, with `string_mask = MASK:0x802`
-// and `other = 1.2.3.4` in c.cnf: names in BMPString and PrintableString, two attributes in one relative distinguished name, characters with a meaning of their own, and a GeneralizedTime.
+// and `other = 1.2.3.4` in c.cnf: names in BMPString and PrintableString, two attributes in one relative distinguished name, characters
+// with a meaning of their own, and a GeneralizedTime.
 const NAMED: &[u8] = &[
     0x30, 0x82, 0x01, 0xB4, 0x30, 0x82, 0x01, 0x66, 0x02, 0x03, 0x00, 0xFF, 0x00, 0x30, 0x05, 0x06,
     0x03, 0x2B, 0x65, 0x70, 0x30, 0x81, 0x83, 0x31, 0x0B, 0x30, 0x09, 0x06, 0x03, 0x55, 0x04, 0x06,
