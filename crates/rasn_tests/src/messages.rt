@@ -1,6 +1,6 @@
 //! Messages of the standards, as others made them.
 
-mod certificate;
+pub(crate) mod certificate;
 mod cms;
 mod extensions;
 mod request;

@@ -1,5 +1,6 @@
-//! The program: lines and their answers, and readers and writers that fail.
+//! The programs: lines and their answers, messages as text, and readers and writers that fail.
 
 mod faults;
 mod lines;
 mod normal;
+mod showing;

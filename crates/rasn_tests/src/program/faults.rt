@@ -7,9 +7,9 @@ use std::io::{self, BufRead, BufReader, Error, ErrorKind, Read, Write};
 
 /// A reader of some octets that then fails.
 #[derive(Drop)]
-struct Failing<'octets> {
-    before: &'octets [u8],
-    kind: ErrorKind,
+pub(crate) struct Failing<'octets> {
+    pub(crate) before: &'octets [u8],
+    pub(crate) kind: ErrorKind,
 }
 
 impl Read for Failing<'_> {
@@ -23,7 +23,7 @@ impl Read for Failing<'_> {
 
 /// A writer that accepts no octets.
 #[derive(Drop)]
-struct Full;
+pub(crate) struct Full;
 
 impl Write for Full {
     fn write(&mut self, _buffer: &[u8]) -> io::Result<usize> {
@@ -76,7 +76,7 @@ fn failing_writers_are_faults(rt: HostRuntime) {
 }
 
 /// The words as arguments of the program.
-fn arguments(alloc: Global, words: &[&str]) -> Result<Vec<String>, AllocError> {
+pub(crate) fn arguments(alloc: Global, words: &[&str]) -> Result<Vec<String>, AllocError> {
     let mut arguments = Vec::new(alloc);
     for word in words {
         arguments.push(String::from_str(alloc, word)?)?;

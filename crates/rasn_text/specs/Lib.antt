@@ -1,0 +1,4 @@
+pub mod Kinds
+pub mod Arguments
+pub mod Reading
+pub mod Pem

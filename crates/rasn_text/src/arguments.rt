@@ -1,0 +1,91 @@
+//! What the program is called with.
+ghost use Rattle.std.specs.Prelude.{◌≡◌, ◌≢◌, ◌∷◌, ◌↔◌, Bool, IsTrue, List, MatchOption, MatchResult, Option, map, string_bytes, ℕ};
+ghost use Rattle.rasn_types.specs.declared.types.codec.Codec.{Codec};
+ghost use Rattle.rasn_text.specs.Arguments.{IsCall, IsOptionOf, name_in, named, rule_of};
+ghost use Rattle.rasn_text.specs.Kinds.{name_of};
+ghost use Rattle.rasn_text.specs.declared.kind.Kind.{Kind};
+
+use crate::Kind;
+use rasn::types::Codec;
+use thiserror::Error;
+
+/// How the program is called.
+#[derive(Clone, Copy, Debug, PartialEq, Eq, Drop, Error)]
+#[error("usage: rasn-show [--ber] [--check] KIND [file], where KIND is certificate")]
+pub struct Usage;
+
+/// What the program is asked for: by which rules it reads, whether it only tells if the message is one, and which message in which file, or
+/// none for standard input.
+#[derive(Clone, Copy, Debug, PartialEq, Eq)]
+pub struct Call<'word> {
+    pub rule: Codec,
+    pub checks: bool,
+    pub kind: Kind,
+    pub file: Option<&'word str>,
+}
+
+/// The option that asks for BER in the place of DER.
+const BER: &str = "--ber";
+
+/// The option that asks for the status alone.
+const CHECK: &str = "--check";
+
+/// Whether the words begin with this option, and the words behind it.
+fn option<'word>(words: &'word [String], option: &str) -> (bool, &'word [String])
+    ensures { IsOptionOf (map string_bytes words.now) option.now result.0 (map string_bytes result.1.now) }
+{
+    let [first, behind @ ..] = words else {
+        return (false, words);
+    };
+    if is_word(first, option) {
+        (true, behind)
+    } else {
+        (false, words)
+    }
+}
+
+/// Whether the word is the option.
+fn is_word(word: &String, option: &str) -> bool
+    ensures { IsTrue result ↔ (string_bytes word.now ≡ option.now) }
+{
+    word.as_str() == option
+}
+
+/// The kind that the first of the words names, and the file that the other one does, or none. Words of another form have none.
+fn named(words: &[String]) -> Option<(Kind, Option<&str>)>
+    ensures { MatchOption result
+        ((kind : Kind) (file : Option (List ℕ)) → map string_bytes words.now ≢ name_of kind ∷ named file)
+        (λ r. map string_bytes words.now ≡ name_of r.0 ∷ named (name_in r.1)) }
+{
+    match words {
+        [kind] => Some((Kind::of_name(kind.as_str())?, None)),
+        [kind, file] => Some((Kind::of_name(kind.as_str())?, Some(file.as_str()))),
+        _ => None,
+    }
+}
+
+/// What the arguments behind the program's name ask for. Arguments of another form are refused.
+pub fn call_of(arguments: &[String]) -> Result<Call<'_>, Usage>
+    ensures { MatchResult result
+        (λ call. IsCall (map string_bytes arguments.now) call.rule call.checks call.kind (name_in call.file))
+        (λ _. (rule : Codec) (checks : Bool) (kind : Kind) (file : Option (List ℕ)) → IsCall (map string_bytes arguments.now) rule checks kind file → ⊥) }
+{
+    let (reads_ber, words) = option(arguments, BER);
+    let (checks, words) = option(words, CHECK);
+    match named(words) {
+        Some((kind, file)) => Ok(Call {
+            rule: rule_of(reads_ber),
+            checks,
+            kind,
+            file,
+        }),
+        None => Err(Usage),
+    }
+}
+
+/// The rules to read by.
+fn rule_of(reads_ber: bool) -> Codec
+    ensures { result ≡ rule_of reads_ber }
+{
+    if reads_ber { Codec::Ber } else { Codec::Der }
+}

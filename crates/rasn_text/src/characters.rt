@@ -1,0 +1,73 @@
+//! Character strings as text that stands in a name (RFC 4514, 2.4).
+
+use rasn::types::{AsciiType, BmpString, RestrictedString, Utf8String};
+use std::alloc::{AllocError, Global};
+
+/// A character string.
+pub(crate) trait Characters {
+    /// Its characters as text; none where a unit isn't a character.
+    fn to_text(&self, alloc: Global) -> Result<Option<String>, AllocError>;
+}
+
+impl Characters for Utf8String {
+    fn to_text(&self, alloc: Global) -> Result<Option<String>, AllocError> {
+        Ok(Some(String::from_str(alloc, self.as_str())?))
+    }
+}
+
+impl<S: AsciiType> Characters for RestrictedString<S> {
+    fn to_text(&self, alloc: Global) -> Result<Option<String>, AllocError> {
+        Ok(Some(String::from_str(alloc, self.as_str())?))
+    }
+}
+
+impl Characters for BmpString {
+    fn to_text(&self, alloc: Global) -> Result<Option<String>, AllocError> {
+        let mut text = String::new(alloc);
+        for unit in self.units() {
+            let Some(character) = char::from_u32(u32::from(unit)) else {
+                return Ok(None);
+            };
+            text.push(character)?;
+        }
+        Ok(Some(text))
+    }
+}
+
+/// Puts the characters of a value behind the text, with a backslash before those that would end the value, and control characters by the
+/// hexadecimal digits of their octets in UTF-8.
+pub(crate) fn push_escaped(text: &mut String, value: &str) -> Result<(), AllocError> {
+    if value.starts_with('#') || value.starts_with(' ') {
+        text.push('\\')?;
+    }
+    for character in value.chars() {
+        push_character(text, character)?;
+    }
+    Ok(())
+}
+
+/// Puts one character behind the text.
+fn push_character(text: &mut String, character: char) -> Result<(), AllocError> {
+    if is_special(character) {
+        text.push('\\')?;
+        text.push(character)?;
+    } else if character.is_control() {
+        push_control(text, u32::from(character))?;
+    } else {
+        text.push(character)?;
+    }
+    Ok(())
+}
+
+/// Whether the character has a meaning of its own in a name.
+fn is_special(character: char) -> bool {
+    matches!(character, '"' | '+' | ',' | ';' | '<' | '>' | '\\')
+}
+
+/// Puts a control character behind the text. Those from 80 on have two octets in UTF-8, the first of them C2.
+fn push_control(text: &mut String, number: u32) -> Result<(), AllocError> {
+    if number >= 0x80 {
+        text.push_str("\\C2")?;
+    }
+    write!(text, "\\{number:02X}")
+}

@@ -1,0 +1,32 @@
+//! The messages that can be shown.
+ghost use Rattle.std.specs.Prelude.{◌≡◌, MatchOption};
+ghost use Rattle.rasn_text.specs.Kinds.{name_of};
+ghost use Rattle.rasn_text.specs.declared.kind.Kind.{Kind};
+
+/// A message that can be shown.
+#[derive(Clone, Copy, Debug, PartialEq, Eq)]
+pub enum Kind {
+    /// A certificate (RFC 5280).
+    Certificate,
+}
+
+impl Kind {
+    /// The message of this name.
+    pub fn of_name(name: &str) -> Option<Kind>
+        ensures { MatchOption result ((kind : Kind) → name.now ≡ name_of kind → ⊥) (λ kind. name.now ≡ name_of kind) }
+    {
+        match name {
+            "certificate" => Some(Kind::Certificate),
+            _ => None,
+        }
+    }
+
+    /// Its name.
+    pub fn name(self) -> &'static str
+        ensures { result.now ≡ name_of self }
+    {
+        match self {
+            Kind::Certificate => "certificate",
+        }
+    }
+}

@@ -1,0 +1,69 @@
+//! Lines of text, each deeper one further to the right.
+
+use std::alloc::{AllocError, Global};
+use std::fmt;
+
+/// Lines of text that are put together, two spaces further to the right for each heading that is open.
+#[derive(Debug, Drop)]
+pub(crate) struct Listing {
+    text: String,
+    depth: usize,
+    alloc: Global,
+}
+
+impl Listing {
+    /// No lines.
+    pub(crate) fn new(alloc: Global) -> Listing {
+        Listing {
+            text: String::new(alloc),
+            depth: 0,
+            alloc,
+        }
+    }
+
+    /// What texts are allocated in.
+    pub(crate) fn alloc(&self) -> Global {
+        self.alloc
+    }
+
+    /// The lines.
+    pub(crate) fn into_text(self) -> String {
+        let Listing {
+            text,
+            depth: _,
+            alloc: _,
+        } = self;
+        text
+    }
+
+    /// Puts the spaces of a line.
+    fn begin(&mut self) -> Result<(), AllocError> {
+        for _ in 0..self.depth {
+            self.text.push_str("  ")?;
+        }
+        Ok(())
+    }
+
+    /// Puts a heading, under which the lines stand until it is closed.
+    pub(crate) fn open(&mut self, heading: &str) -> Result<(), AllocError> {
+        self.begin()?;
+        writeln!(self.text, "{heading}")?;
+        self.depth = self.depth.saturating_add(1);
+        Ok(())
+    }
+
+    /// Closes the last heading.
+    pub(crate) fn close(&mut self) {
+        self.depth = self.depth.saturating_sub(1);
+    }
+
+    /// Puts a line of a name and a value.
+    pub(crate) fn line<T: fmt::Display>(
+        &mut self,
+        name: &str,
+        value: &T,
+    ) -> Result<(), AllocError> {
+        self.begin()?;
+        writeln!(self.text, "{name}: {value}")
+    }
+}

@@ -1,0 +1,144 @@
+//! The program's work: the text of the messages that are all of an input.
+
+use crate::arguments::Call;
+use crate::pem::{PemError, first_block, is_pem};
+use crate::reading::{ReadError, check, show};
+use std::alloc::{AllocError, Global};
+use std::io::{self, ErrorKind, Read, Write};
+use std::str;
+use thiserror::Error;
+
+/// Why the work stopped.
+#[derive(Clone, Copy, Debug, PartialEq, Eq, Drop, Error)]
+pub enum RunFault {
+    /// The input can't be read.
+    #[error("cannot read")]
+    Read,
+    /// The output can't be written.
+    #[error("cannot write")]
+    Write,
+    /// A growth of the program's own was refused.
+    #[error("out of memory")]
+    Memory,
+}
+
+/// Why an input isn't answered.
+#[derive(Debug, Drop, Error)]
+enum Refusal {
+    #[error("{0}")]
+    Pem(PemError),
+    #[error("{0}")]
+    Message(ReadError),
+    #[error("out of memory")]
+    OutOfMemory,
+}
+
+impl From<AllocError> for Refusal {
+    fn from(_: AllocError) -> Refusal {
+        Refusal::OutOfMemory
+    }
+}
+
+impl From<ReadError> for Refusal {
+    fn from(error: ReadError) -> Refusal {
+        match error {
+            ReadError::OutOfMemory => Refusal::OutOfMemory,
+            error => Refusal::Message(error),
+        }
+    }
+}
+
+impl From<PemError> for Refusal {
+    fn from(error: PemError) -> Refusal {
+        match error {
+            PemError::OutOfMemory => Refusal::OutOfMemory,
+            error => Refusal::Pem(error),
+        }
+    }
+}
+
+/// Answers what is called for: the text of the message that is all of the input goes to the output, and why there is none to `refusals`. Where
+/// the call only checks, nothing is written. It returns whether there is a message.
+pub fn run<R: Read, W: Write, E: Write>(
+    alloc: Global,
+    call: &Call<'_>,
+    input: &mut R,
+    output: &mut W,
+    refusals: &mut E,
+) -> Result<bool, RunFault> {
+    let octets = read_all(alloc, input)?;
+    match answer(alloc, call, &octets) {
+        Ok(text) => {
+            write_all(output, &text)?;
+            Ok(true)
+        }
+        Err(Refusal::OutOfMemory) => Err(RunFault::Memory),
+        Err(_) if call.checks => Ok(false),
+        Err(refusal) => {
+            let name = call.kind.name();
+            let Ok(text) = format!(in alloc; "{name}: {refusal}\n") else {
+                return Err(RunFault::Memory);
+            };
+            write_all(refusals, &text)?;
+            Ok(false)
+        }
+    }
+}
+
+/// All of the input.
+fn read_all<R: Read>(alloc: Global, input: &mut R) -> Result<Vec<u8>, RunFault> {
+    let mut octets = Vec::new(alloc);
+    match input.read_to_end(&mut octets) {
+        Ok(_) => Ok(octets),
+        Err(error) if error.kind() == ErrorKind::OutOfMemory => Err(RunFault::Memory),
+        Err(_) => Err(RunFault::Read),
+    }
+}
+
+/// Writes a text to its end.
+fn write_all<W: Write>(output: &mut W, text: &str) -> Result<(), RunFault> {
+    match write_and_flush(output, text) {
+        Ok(()) => Ok(()),
+        Err(_) => Err(RunFault::Write),
+    }
+}
+
+fn write_and_flush<W: Write>(output: &mut W, text: &str) -> io::Result<()> {
+    output.write_all(text.as_bytes())?;
+    output.flush()
+}
+
+/// The text of the message that the octets are, or of each of the messages that they are in PEM.
+fn answer(alloc: Global, call: &Call<'_>, octets: &[u8]) -> Result<String, Refusal> {
+    if is_pem(octets) {
+        match str::from_utf8(octets) {
+            Ok(text) => answer_blocks(alloc, call, text),
+            Err(_) => Err(Refusal::Pem(PemError::End)),
+        }
+    } else {
+        Ok(answer_message(alloc, call, octets)?)
+    }
+}
+
+/// The texts of all blocks, one behind the other. Nothing but spaces and ends of lines stands between two.
+fn answer_blocks(alloc: Global, call: &Call<'_>, text: &str) -> Result<String, Refusal> {
+    let mut answers = String::new(alloc);
+    let mut rest = text;
+    while !rest.is_empty() {
+        let (octets, behind) = first_block(alloc, rest)?;
+        let answer = answer_message(alloc, call, &octets)?;
+        answers.push_str(answer.as_str())?;
+        rest = behind.trim_ascii_start();
+    }
+    Ok(answers)
+}
+
+/// The text of the message that is all of the octets, or none where the call only checks.
+fn answer_message(alloc: Global, call: &Call<'_>, octets: &[u8]) -> Result<String, ReadError> {
+    if call.checks {
+        check(alloc, call.kind, call.rule, octets)?;
+        Ok(String::new(alloc))
+    } else {
+        show(alloc, call.kind, call.rule, octets)
+    }
+}

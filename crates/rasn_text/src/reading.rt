@@ -1,0 +1,110 @@
+//! Messages that are all of some octets.
+ghost use Rattle.std.specs.Prelude.{MatchResult};
+ghost use Rattle.rasn.specs.Headline.{Answered};
+ghost use Rattle.rasn_text.specs.Reading.{IsMessage, IsRefused, IsToldOf, IsWhole};
+ghost use Rattle.rasn_text.specs.Kinds.{shape_of};
+
+use crate::certificate::list_certificate;
+use crate::kind::Kind;
+use crate::listing::Listing;
+use crate::place::{Found, Located, place_in};
+use rasn::ber::de::{Decoder, DecoderOptions};
+use rasn::de::Decode;
+use rasn::error::{DecodeError, DecodeErrorKind};
+use rasn::types::Codec;
+use rasn_x509::Certificate;
+use std::alloc::Global;
+use thiserror::Error;
+
+/// Why octets aren't shown.
+#[derive(Debug, PartialEq, Eq, Drop, Error)]
+pub enum ReadError {
+    /// They aren't one message of the kind, alone. It isn't read from this octet on, counted from 0.
+    #[error("byte {place}: {error}")]
+    Decode { place: usize, error: DecodeError },
+    /// A growth of memory was refused.
+    #[error("out of memory")]
+    OutOfMemory,
+}
+
+/// The value that is all of the octets by these rules: exactly where there is one, but for running out of memory.
+fn read<T: Located>(alloc: Global, rule: Codec, octets: &[u8]) -> Result<T, ReadError>
+    ensures { MatchResult result (λ value. IsWhole rule T.shape octets.now (T.tree value)) (IsRefused rule T.shape octets.now) }
+{
+    let (value, rest) = match read_front::<T>(alloc, rule, octets) {
+        Ok(read) => read,
+        Err(error) => return Err(refused::<T>(alloc, rule, octets, error)),
+    };
+    if rest.is_empty() {
+        Ok(value)
+    } else {
+        Err(ReadError::Decode {
+            place: octets.len().saturating_sub(rest.len()),
+            error: DecodeError {
+                kind: DecodeErrorKind::UnexpectedExtraData { length: rest.len() },
+                codec: rule,
+            },
+        })
+    }
+}
+
+/// The value that begins the octets by these rules, and what follows it.
+fn read_front<T: Decode>(
+    alloc: Global,
+    rule: Codec,
+    octets: &[u8],
+) -> Result<(T, &[u8]), DecodeError>
+    ensures { Answered rule T.shape T.tree octets.now result }
+{
+    let mut decoder = Decoder::new(alloc, octets, DecoderOptions::of(rule));
+    let value = T::decode(&mut decoder)?;
+    Ok((value, decoder.remaining()))
+}
+
+/// What is told of octets that aren't read for this error.
+fn refused<T: Located>(alloc: Global, rule: Codec, octets: &[u8], error: DecodeError) -> ReadError
+    ensures { IsToldOf error result }
+{
+    if error.is_out_of_memory() {
+        return ReadError::OutOfMemory;
+    }
+    match place_in::<T>(alloc, rule, octets) {
+        Found::At(place) => ReadError::Decode { place, error },
+        Found::OutOfMemory => ReadError::OutOfMemory,
+    }
+}
+
+/// Reads the message that is all of the octets by these rules. By DER they are then the one encoding of it (X.690 10).
+///
+/// # Errors
+/// `Decode` exactly where they aren't one, but for running out of memory.
+pub fn check(alloc: Global, kind: Kind, rule: Codec, octets: &[u8]) -> Result<(), ReadError>
+    ensures { MatchResult result (λ _. IsMessage rule (shape_of kind) octets.now) (IsRefused rule (shape_of kind) octets.now) }
+{
+    match kind {
+        Kind::Certificate => {
+            let _certificate = read::<Certificate>(alloc, rule, octets)?;
+        }
+    }
+    Ok(())
+}
+
+/// The message that is all of the octets by these rules, as text.
+///
+/// # Errors
+/// `Decode` exactly where they aren't one, but for running out of memory.
+pub fn show(alloc: Global, kind: Kind, rule: Codec, octets: &[u8]) -> Result<String, ReadError>
+    ensures { MatchResult result (λ _. IsMessage rule (shape_of kind) octets.now) (IsRefused rule (shape_of kind) octets.now) }
+{
+    let mut listing = Listing::new(alloc);
+    let listed = match kind {
+        Kind::Certificate => {
+            let certificate = read::<Certificate>(alloc, rule, octets)?;
+            list_certificate(&mut listing, &certificate)
+        }
+    };
+    match listed {
+        Ok(()) => Ok(listing.into_text()),
+        Err(_) => Err(ReadError::OutOfMemory),
+    }
+}
