@@ -18,8 +18,8 @@ pub use lawful::{lawful_both, lawful_types};
 pub use line::{Request, ValueType};
 pub use normal::worked_normals;
 pub use normal_answer::NormalAnswer;
-pub use rasn::{NormaliseError, normalise};
 pub use program::{RunFault, run, run_normalise};
+pub use rasn::{NormaliseError, normalise};
 pub use worked::{
     AlgorithmIdentifier, AttributeTypeAndValue, Both, Colour, Event, Foo, Group, Grouped, Pair,
     Reason, RelativeDistinguishedName, Set3, Setting, Seven, Time, Validity,

@@ -15,9 +15,7 @@ pub use event::Event;
 pub use grouped::{Group, Grouped};
 pub use pair::Pair;
 use rasn::types::Ia5String;
-pub use rasn_x509::{
-    AlgorithmIdentifier, AttributeTypeAndValue, RelativeDistinguishedName, Time,
-};
+pub use rasn_x509::{AlgorithmIdentifier, AttributeTypeAndValue, RelativeDistinguishedName, Time};
 pub use reason::Reason;
 pub use set3::Set3;
 pub use setting::{Setting, Seven};

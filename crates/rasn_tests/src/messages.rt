@@ -5,4 +5,4 @@ mod cms;
 mod extensions;
 mod request;
 mod revocation;
-mod spoilt;
+pub(crate) mod spoilt;

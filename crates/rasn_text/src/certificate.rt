@@ -31,7 +31,7 @@ pub(crate) fn list_certificate(
 
 /// Lists what is signed.
 fn list_signed(listing: &mut Listing, signed: &TbsCertificate) -> Result<(), AllocError> {
-    let version = u16::from(*signed.version) + 1;
+    let version = u16::from(signed.version) + 1;
     listing.line("version", &version)?;
     let serial_number = number_text(listing.alloc(), &signed.serial_number)?;
     listing.line("serial number", &serial_number)?;

@@ -94,7 +94,7 @@ impl Located for Extension {
 
 impl Located for TbsCertificate {
     fn parts(walk: &mut Walk<'_>) -> Result<(), Found> {
-        walk.default_part::<VersionOne>()?;
+        walk.explicit_default_part::<VersionOne>()?;
         walk.part::<Integer>()?;
         walk.part::<AlgorithmIdentifier>()?;
         walk.part::<Name>()?;

@@ -1,8 +1,8 @@
 //! Where octets aren't the message that they have to be.
 use rasn::ber::de::{Decoder, DecoderOptions};
 use rasn::de::Decode;
-use rasn::parts::DefaultValue;
-use rasn::types::Codec;
+use rasn::parts::{DefaultValue, ExplicitDefault};
+use rasn::types::{Codec, Explicit};
 use std::alloc::Global;
 
 /// What is found where a part is refused.
@@ -70,6 +70,23 @@ impl<'octets> Walk<'octets> {
         let passed = self.passed;
         self.part::<Option<V::Value>>()?;
         if self.passed > passed && is_default::<V>(self.alloc, self.rule, rest)? {
+            return Err(Found::At(passed));
+        }
+        Ok(())
+    }
+
+    /// Reads the next part, whose value stands under an explicit tag, where it comes. It has to be another value than the default.
+    pub(crate) fn explicit_default_part<V: ExplicitDefault>(&mut self) -> Result<(), Found>
+    where
+        V::Value: Located,
+    {
+        let rest = self.rest();
+        let passed = self.passed;
+        self.part::<Option<Explicit<V::Prefix, V::Value>>>()?;
+        let Some((_, contents)) = contents_of(rest) else {
+            return Ok(());
+        };
+        if self.passed > passed && is_default::<V>(self.alloc, self.rule, contents)? {
             return Err(Found::At(passed));
         }
         Ok(())
