@@ -106,9 +106,10 @@ impl<'input> Decoder<'input> {
             drop(default);
             return Ok(value);
         }
-        let without = self.default_value(default)?;
-        if value.means_same(&without) {
-            return Err(self.error(ParseError::Der(DerDecodeErrorKind::DefaultValuePresent)));
+        let left_out = self.default_value(default)?;
+        if value.means_same(&left_out) {
+            let fault = ParseError::Der(DerDecodeErrorKind::DefaultValuePresent);
+            return Err(self.error(fault));
         }
         Ok(value)
     }

@@ -147,9 +147,9 @@ impl Encoder {
         ensures writes { EncodesDefault E.eq (F.post default) (prefix tag E.shape) E.tree value.now self.old result self.new }
     {
         match default() {
-            Ok(default) if *value == default => Ok(()),
+            Ok(left_out) if *value == left_out => Ok(()),
             Ok(_) => self.append_prefixed(tag, value),
-            Err(AllocError) => Err(out_of_memory(self.codec())),
+            Err(_) => Err(out_of_memory(self.codec())),
         }
     }
 }

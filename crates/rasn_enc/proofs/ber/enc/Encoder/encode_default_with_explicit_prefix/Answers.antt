@@ -5,6 +5,6 @@ use Rattle.rasn_enc.proofs.ber.enc.Encoder.encode_default_with_explicit_prefix.G
 
 pub returns-in-Ok-clause-writes : goal.returns-in-Ok-clause-writes
 returns-in-Ok-clause-writes g c without made = (
-  default_left _ _ without _ (subst (Same (g.E.AsnType.tree c.args.value.now)) (made c.in-Ok.default c.in-Ok.ensures) ((g.met.E.LawfulEq.decides c.args.value.now c.in-Ok.default).same (sym c.if-eq.ensures))),
+  default_left _ _ without _ (subst (Same (g.E.AsnType.tree c.args.value.now)) (made c.in-Ok.left_out c.in-Ok.ensures) ((g.met.E.LawfulEq.decides c.args.value.now c.in-Ok.left_out).same (sym c.if-eq.ensures))),
   tt,
 )
