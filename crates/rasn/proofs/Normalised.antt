@@ -1,6 +1,8 @@
 -- What the laws of the grammar say of a normal encoding.
 use Rattle.std.proofs.Common.{◌≡◌, ◌⊎◌, ◌↔◌, inl, inr, ℕ, List, [], ◌++◌, Bool, true, false, Result, Ok, Err, refl, sym, ◌∙◌, subst, append-nil, true≢false}
-use Rattle.std.specs.Prelude.{MatchResult, IfOk, IfErr, is_ok}
+use Rattle.std.specs.Prelude.{MatchResult, IfOk, IfErr, IsTrue, is_ok, nat_eq}
+use Rattle.std.specs.Cmp.Lexicographic.{pointwise, bytes_decides}
+use Rattle.rasn_types.specs.Truth.{IsWhether}
 use Rattle.rasn_types.specs.declared.types.codec.Codec.{Codec}
 use Rattle.rasn_types.specs.declared.types.codec.Codec.TheVariants.{Ber, Der}
 use Rattle.rasn_types.specs.declared.error.decode.DecodeErrorKind.{DecodeErrorKind}
@@ -21,8 +23,8 @@ use Rattle.rasn_de.specs.Outcomes.{Exact, refusal}
 use Rattle.rasn.specs.Headline.{IsFollowed}
 use Rattle.rasn.proofs.LawsHold.Written.{one_reading, included, read_again, canonical, strict_der}
 use Rattle.rasn.proofs.StrictDer.Carried.{stays_carried}
-use Rattle.rasn.specs.declared.normalise.NormaliseError.{NormaliseError}
-use Rattle.rasn.specs.declared.normalise.NormaliseError.TheVariants.{Decode, Encode, NotCanonical}
+use Rattle.rasn.specs.declared.normal.NormaliseError.{NormaliseError}
+use Rattle.rasn.specs.declared.normal.NormaliseError.TheVariants.{Decode, Encode, NotCanonical}
 use Rattle.rasn.specs.Normal.{Means, IsNormal, IsNotCanonical, IsNoNormal, IsOutOfMemoryAlone, IsCarriedIn, IsIdentified, IsStable, IsKept, IsUnchanged, IsAnswered, SameExactlyIfEqual}
 
 abbrev answer : (T D : Type 0) → T → Result T D
@@ -156,3 +158,15 @@ pub only_normal : {rule : Codec} {s : Shape} {input a b : List ℕ} → IsNormal
 only_normal {rule} {s} {input} {a} {b} m n =
     let f : n.value ≡ m.value = (m.means.1 n.value [] n.means.0).0 in
     one_writing s Der m.value a b m.written (subst (λ t. Bytes Der s t b) f n.written)
+
+-- Octets that are compared with their normal encoding.
+pub is_canonical : {s : Shape} {input octets shown : List ℕ} (same : Bool) → IsNormal Der s input octets → shown ≡ octets → same ≡ pointwise nat_eq shown input → IsWhether same (IsNormal Der s input input)
+is_canonical {s} {input} {octets} {shown} true n e f = subst (IsNormal Der s input) (sym e ∙ (bytes_decides shown input).0 (sym f)) n
+is_canonical {s} {input} {octets} {shown} false n e f = λ m. true≢false (sym ((bytes_decides shown input).1 (e ∙ only_normal n m)) ∙ sym f)
+
+-- Octets without a normal encoding.
+pub not_canonical : {s : Shape} {input : List ℕ} {memory : Bool} (e : NormaliseError) → IsNoNormal Der s input e → (IsTrue memory ↔ IsOutOfMemoryAlone e) → memory ≡ false → IsNormal Der s input input → ⊥
+not_canonical {s} {input} e n tells f m = elim (no_normal e n) [
+  | inl o ↦ true≢false (sym (tells.1 o) ∙ f)
+  | inr none ↦ none input m
+]

@@ -11,8 +11,8 @@ use Rattle.rasn_types.specs.Lawful.{IsLawful}
 use Rattle.rasn_de.specs.Outcomes.{Exact, Got, refusal}
 use Rattle.rasn_enc.specs.Encoding.{NoEncoding}
 use Rattle.rasn.specs.Headline.{IsFollowed}
-use Rattle.rasn.specs.declared.normalise.NormaliseError.{NormaliseError}
-use Rattle.rasn.specs.declared.normalise.NormaliseError.TheVariants.{Decode, Encode, NotCanonical}
+use Rattle.rasn.specs.declared.normal.NormaliseError.{NormaliseError}
+use Rattle.rasn.specs.declared.normal.NormaliseError.TheVariants.{Decode, Encode, NotCanonical}
 
 -- All of the input is this value, and no other.
 abbrev pub Means : Codec → Shape → List ℕ → Tree → Type 0

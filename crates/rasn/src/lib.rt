@@ -6,14 +6,14 @@ pub mod cer;
 pub mod der;
 mod entry;
 pub mod laws;
-mod normalise;
+mod normal;
 pub mod open_type;
 pub mod parts;
 pub mod prelude;
 pub mod time_laws;
 pub mod types;
 
-pub use normalise::{NormaliseError, normalise, same_exactly_if_equal};
+pub use normal::{NormaliseError, normalise, same_exactly_if_equal};
 pub use rasn_de::ber::de::Decoder;
 pub use rasn_de::de;
 pub use rasn_de::de::Decode;

@@ -1,5 +1,5 @@
 //! Values of a known type in an open type (X.680 14, X.690 8.15).
-ghost use Rattle.std.specs.Prelude.{◌⊎◌, ⊥, IfOk, IfErr, MatchResult};
+ghost use Rattle.std.specs.Prelude.{◌⊎◌, IfOk, IfErr, MatchResult};
 ghost use Rattle.rasn_types.specs.declared.types.tag.Tag.{Tag};
 ghost use Rattle.rasn_types.specs.Tags.{form};
 ghost use Rattle.rasn_types.specs.Framing.{NextTag};

@@ -7,8 +7,8 @@ use Rattle.rasn_types.specs.Errors.{IsOutOfMemory}
 use Rattle.rasn_types.specs.Bytes.{Bytes}
 use Rattle.rasn.specs.Headline.{AnsweredAlone}
 use Rattle.rasn.proofs.Normalised.{was_ok, normal, read_otherwise, not_read}
-use Rattle.rasn.proofs.normalise.convert.Goals as goal
-use Rattle.rasn.proofs.normalise.convert.Goals.{in_default-via-in-Ok+else-means_same, in_default-via-in-Err+else-is_out_of_memory}
+use Rattle.rasn.proofs.normal.convert.Goals as goal
+use Rattle.rasn.proofs.normal.convert.Goals.{in_default-via-in-Ok+else-means_same, in_default-via-in-Err+else-is_out_of_memory}
 
 pub returns-in-Ok-clause-normal : goal.returns-in-Ok-clause-normal
 returns-in-Ok-clause-normal g c =

@@ -1,7 +1,7 @@
 use Rattle.std.proofs.Common.{arith}
 use Rattle.rasn_de.proofs.Headers.Results.{octets_all}
 use Rattle.rasn.proofs.Normalised.{if_ok, if_ok_both, if_err, identified, kept, unchanged, answered}
-use Rattle.rasn.proofs.normalise.normalise.Goals as goal
+use Rattle.rasn.proofs.normal.normalise.Goals as goal
 
 pub returns-clause-identifies : goal.returns-clause-identifies
 returns-clause-identifies g c = if_ok c.convert.result (λ octets. identified) c.convert.ensures.normal
