@@ -1,0 +1,185 @@
+//! Values of a known type in an open type (X.690 8.15), the one encoding of a value (X.690 10), defaults under a prefix (X.690 8.14.2, 11.5), and readers
+//! and writers as text.
+
+use rasn::open_type::{any_tag, decode_any, encode_any};
+use rasn::prelude::*;
+use rasn::{Codec, der};
+use rasn_asserts::reading::{assert_answer, assert_facts, debug_text, decoder_of};
+use rasn_asserts::writing::{assert_output, assert_written, new_encoder};
+use std::alloc::{AllocError, Global};
+use std::process::Abort;
+
+/// TRUE under BER as DER writes it, and under other octets (X.690 8.2.2, 11.1).
+const TRUE: &[u8] = &[0x01, 0x01, 0xFF];
+
+const OTHER_TRUE: &[u8] = &[0x01, 0x01, 0x05];
+/// INTEGER 7 under the explicit tag 0 (X.690 8.14.2), and INTEGER 8.
+const SEVEN: &[u8] = &[0xA0, 0x03, 0x02, 0x01, 0x07];
+
+const EIGHT: &[u8] = &[0xA0, 0x03, 0x02, 0x01, 0x08];
+
+const TAG_0: Tag = Tag {
+    class: Class::Context,
+    value: 0,
+};
+
+/// An open type of these octets.
+fn any_of(rt: &impl Abort, alloc: Global, octets: &[u8]) -> Any {
+    match Vec::from_slice(alloc, octets) {
+        Ok(octets) => Any::new(octets),
+        Err(_) => rt.abort(),
+    }
+}
+
+/// An open type of a value by these rules.
+fn any_with<T: Encode>(rt: &impl Abort, alloc: Global, rules: Codec, value: &T) -> Any {
+    match encode_any(alloc, rules, value) {
+        Ok(any) => any,
+        Err(_) => rt.abort(),
+    }
+}
+
+#[test]
+fn open_types_hold_values(rt: HostRuntime) {
+    let alloc = rt.alloc();
+    let any = any_with(&rt, alloc, Codec::Der, &true);
+    assert_facts(&rt, &[any.as_bytes() == TRUE]);
+    assert_answer(
+        &rt,
+        alloc,
+        Codec::Der,
+        decode_any::<bool>(alloc, Codec::Der, &any),
+        "true",
+    );
+    assert_answer(
+        &rt,
+        alloc,
+        Codec::Der,
+        any_tag(alloc, Codec::Der, &any),
+        "Tag { class: Universal, value: 1 }",
+    );
+}
+
+// The octets of an open type are one value of the type asked for, by the rules asked for, and nothing else (X.690 8.1.1.1).
+#[test]
+fn open_types_are_read_by_their_rules(rt: HostRuntime) {
+    let alloc = rt.alloc();
+    let other = any_of(&rt, alloc, OTHER_TRUE);
+    assert_answer(
+        &rt,
+        alloc,
+        Codec::Ber,
+        decode_any::<bool>(alloc, Codec::Ber, &other),
+        "true",
+    );
+    assert_answer(
+        &rt,
+        alloc,
+        Codec::Der,
+        decode_any::<bool>(alloc, Codec::Der, &other),
+        "InvalidBool { value: 5 }",
+    );
+    let two = any_of(&rt, alloc, &[0x05, 0x00, 0x05, 0x00]);
+    assert_answer(
+        &rt,
+        alloc,
+        Codec::Ber,
+        decode_any::<()>(alloc, Codec::Ber, &two),
+        "UnexpectedExtraData { length: 2 }",
+    );
+}
+
+/// Whether the octets are found to be, or not to be, the one encoding of a value.
+fn is_told<T: Decode + Encode + LawfulEq>(alloc: Global, octets: &[u8], canonical: bool) -> bool {
+    match der::is_canonical::<T>(alloc, octets) {
+        Ok(answer) => answer == canonical,
+        Err(_) => false,
+    }
+}
+
+// A TRUE that isn't FF, a padded number, a length that is longer than it has to be, and what follows (X.690 10.1, 11.1, 8.3.2).
+#[test]
+fn one_encoding_is_told_from_others(rt: HostRuntime) {
+    let alloc = rt.alloc();
+    assert_facts(
+        &rt,
+        &[
+            is_told::<bool>(alloc, TRUE, true),
+            is_told::<bool>(alloc, OTHER_TRUE, false),
+            is_told::<i64>(alloc, &[0x02, 0x01, 0x80], true),
+            is_told::<i64>(alloc, &[0x02, 0x02, 0x00, 0x01], false),
+            is_told::<i64>(alloc, &[0x02, 0x81, 0x01, 0x01], false),
+            is_told::<()>(alloc, &[0x05, 0x00, 0x00], false),
+        ],
+    );
+}
+
+// A value that equals its default isn't there under DER, and the default is meant where none is (X.690 11.5).
+#[test]
+fn reads_defaults_under_prefixes(rt: HostRuntime) {
+    let alloc = rt.alloc();
+    let mut present = decoder_of(alloc, EIGHT, Codec::Der);
+    let value = present.decode_default_with_explicit_prefix::<u8, _>(TAG_0, || Ok(7));
+    assert_answer(&rt, alloc, Codec::Der, value, "8");
+    let mut absent = decoder_of(alloc, TRUE, Codec::Der);
+    let value = absent.decode_default_with_explicit_prefix::<u8, _>(TAG_0, || Ok(7));
+    assert_answer(&rt, alloc, Codec::Der, value, "7");
+    let mut equal = decoder_of(alloc, SEVEN, Codec::Der);
+    let value = equal.decode_default_with_explicit_prefix::<u8, _>(TAG_0, || Ok(7));
+    assert_answer(
+        &rt,
+        alloc,
+        Codec::Der,
+        value,
+        "CodecSpecific { inner: Der(DefaultValuePresent) }",
+    );
+}
+
+#[test]
+fn writes_defaults_under_prefixes(rt: HostRuntime) {
+    let alloc = rt.alloc();
+    let mut encoder = new_encoder(&rt, alloc, Codec::Der);
+    let equal = encoder.encode_default_with_explicit_prefix(
+        TAG_0,
+        &7u8,
+        || Ok(7),
+        Identifier::EMPTY,
+    );
+    assert_written(&rt, equal);
+    let other = encoder.encode_default_with_explicit_prefix(
+        TAG_0,
+        &8u8,
+        || Ok(7),
+        Identifier::EMPTY,
+    );
+    assert_written(&rt, other);
+    assert_output(&rt, encoder.output(), EIGHT);
+}
+
+/// Whether it is this text.
+fn is_text(text: Result<String, AllocError>, wanted: &str) -> bool {
+    match text {
+        Ok(text) => text.as_str() == wanted,
+        Err(_) => false,
+    }
+}
+
+#[test]
+fn readers_and_writers_are_shown(rt: HostRuntime) {
+    let alloc = rt.alloc();
+    let decoder = decoder_of(alloc, TRUE, Codec::Der);
+    let encoder = new_encoder(&rt, alloc, Codec::Cer);
+    assert_facts(
+        &rt,
+        &[
+            is_text(
+                debug_text(alloc, &decoder),
+                "Decoder { codec: Der, decoded_len: 0, remaining: 3 }",
+            ),
+            is_text(
+                debug_text(alloc, &encoder),
+                "Encoder { codec: Cer, written: 0 }",
+            ),
+        ],
+    );
+}
