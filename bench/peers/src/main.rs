@@ -17,7 +17,7 @@ exports! {
     soq_nest_write_10(times: usize); soq_nest_write_20(times: usize);
     soq_bool_write(times: usize); soq_i64_write(times: usize); soq_both_read(); soq_both_write(times: usize);
     soq_certificate_read(); soq_certificate_write(times: usize); soq_certificate_read_written(); soq_certificate_normalise();
-    soq_ldap_read(); soq_ldap_write(times: usize); soq_snmp_read(); soq_snmp_write(times: usize); soq_skip();
+    soq_skip();
 }
 
 fn hex(s: &str) -> Vec<u8> { (0..s.len() / 2).map(|i| u8::from_str_radix(&s[2 * i..2 * i + 2], 16).unwrap()).collect() }
@@ -319,15 +319,6 @@ fn main() {
             ("asn1", peer(|i| p::<Certificate>(&i.octets).map_or(0, |v| black_box(asn1::write_single(&v)).unwrap().len())))]);
         row("9 certificate normalised", &certs, vec![("soq", soq(soq_certificate_normalise)),
             ("asn1-read+written", peer(|i| p::<Certificate>(&i.octets).map_or(0, |v| black_box(asn1::write_single(&v)).unwrap().len())))]);
-    }
-    for (kind, read, write) in [("ldap", soq_ldap_read as unsafe extern "C" fn(*const u8, usize) -> usize, soq_ldap_write as unsafe extern "C" fn(*const u8, usize, usize) -> usize), ("snmp", soq_snmp_read, soq_snmp_write)] {
-        let messages = of(kind);
-        if messages.is_empty() { continue; }
-        row(&format!("10 {kind} message read"), &messages, vec![("soq", soq(read)),
-            ("der-parser-tree", peer(|i| black_box(der_parser::ber::parse_ber(&i.octets)).is_ok() as usize)),
-            ("bcder-captured", peer(|i| black_box(Mode::Ber.decode(i.bytes.clone(), |c| c.capture_one())).is_ok() as usize))]);
-        row_of(&format!("10 {kind} message written"), &messages, vec![("soq", soq_times(write, W), W),
-            ("memcpy", peer(|i| (0..W).map(|_| black_box(i.octets.to_vec()).len()).sum()), W)]);
     }
     growth();
 }
