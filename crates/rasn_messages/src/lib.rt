@@ -1,9 +1,7 @@
-//! Messages of the standards that BER, CER and DER were made for, as types: certificates (`x509`), requests for them (`pkcs10`), the directory
-//! (`ldap`), network management (`snmp`) and signed data (`cms`).
+//! Messages of the standards that BER, CER and DER were made for, as types: certificates (`x509`), requests for them (`pkcs10`) and signed data
+//! (`cms`).
 #![tactic(auto)]
 
 pub mod cms;
-pub mod ldap;
 pub mod pkcs10;
-pub mod snmp;
 pub mod x509;

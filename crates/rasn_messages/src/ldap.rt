@@ -1,1 +1,0 @@
-//! The lightweight directory access protocol (RFC 4511).

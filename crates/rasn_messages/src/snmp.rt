@@ -1,1 +1,0 @@
-//! The simple network management protocol, version 2c (RFC 1901, RFC 3416).
