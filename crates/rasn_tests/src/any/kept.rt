@@ -1,13 +1,13 @@
 //! Open types are decoded: without a tag as one complete encoding (X.690 8.15), under a tag as what the tag holds (8.14).
 
 use crate::any::{TAG_1, any_of, deep};
-use rasn::de::Decode;
-use rasn::types::{Any, Codec};
-use rasn_asserts::reading::{
+use crate::reading::{
     OctetsRow, assert_answer, assert_has_octets, assert_reads, assert_reads_octets, decoder_of,
 };
-use rasn_asserts::whole::assert_decodes_with_remainder;
-use rasn_asserts::writing::made;
+use crate::whole::assert_decodes_with_remainder;
+use crate::writing::made;
+use rasn::de::Decode;
+use rasn::types::{Any, Codec};
 use std::alloc::Global;
 use std::process::Abort;
 

@@ -1,8 +1,8 @@
 //! `skip_value` skips one value of definite or indefinite length (X.690 8.1.3, 8.1.5).
 
 use crate::any::deep;
+use crate::reading::{Row, assert_answer, decoder_of};
 use rasn::types::Codec;
-use rasn_asserts::reading::{Row, assert_answer, decoder_of};
 use std::alloc::Global;
 use std::process::Abort;
 

@@ -1,7 +1,7 @@
 //! AlgorithmIdentifier, AttributeTypeAndValue and RelativeDistinguishedName, whose last component is an open type (X.690 8.15).
 
+use crate::whole::{assert_decodes, assert_rewrites};
 use rasn::types::Codec;
-use rasn_asserts::whole::{assert_decodes, assert_rewrites};
 use rasn_bench::{AlgorithmIdentifier, AttributeTypeAndValue, RelativeDistinguishedName};
 
 /// rsaEncryption with NULL as its parameters (RFC 3279, 2.3.1).

@@ -4,13 +4,13 @@ ghost use Rattle.rasn_enc.specs.View.{LeavesOthers};
 
 use crate::any::{TAG_1, any_of};
 use crate::types::Three;
+use crate::writing::{
+    assert_output, assert_refuses, assert_written, made, new_encoder, new_set_encoder,
+};
 use rasn::ber::enc::Encoder;
 use rasn::enc::Encode;
 use rasn::error::EncodeError;
 use rasn::types::{Any, ApplicationTag, Codec, ContextTag, Explicit, Identifier, Implicit, Tag};
-use rasn_asserts::writing::{
-    assert_output, assert_refuses, assert_written, made, new_encoder, new_set_encoder,
-};
 use rasn_bench::Set3;
 use std::alloc::{AllocError, Global};
 use std::process::Abort;

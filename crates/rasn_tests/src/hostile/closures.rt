@@ -3,14 +3,14 @@ ghost use Rattle.rasn_de.specs.Constructed.{Keeps};
 ghost use Rattle.rasn_enc.specs.View.{LeavesOthers};
 
 use crate::hostile::{TRUE_ALONE, one_boolean};
+use crate::reading::{assert_answer, assert_reads, decoder_of};
 use crate::types::{NumberAndTruth, Three};
+use crate::writing::{assert_output, assert_written, new_encoder};
 use rasn::ber::de::Decoder;
 use rasn::ber::enc::Encoder;
 use rasn::enc::Encode;
 use rasn::error::{DecodeError, EncodeError};
 use rasn::types::{Class, Codec, Constraints, ContextTag, Identifier, Implicit, SetOf, Tag};
-use rasn_asserts::reading::{assert_answer, assert_reads, decoder_of};
-use rasn_asserts::writing::{assert_output, assert_written, new_encoder};
 use rasn_bench::Both;
 use std::alloc::{AllocError, Global};
 use std::process::Abort;

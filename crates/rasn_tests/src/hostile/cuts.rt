@@ -1,12 +1,12 @@
 //! Values of definite length that are cut (X.690 8.1.3.3 to 8.1.3.5): each proper prefix of their octets lacks some, and nothing is consumed.
 
+use crate::reading::decoder_of;
 use rasn::de::Decode;
 use rasn::error::{DecodeError, DecodeErrorKind, Needed};
 use rasn::types::{
     Any, BitString, BmpString, Codec, Date, GeneralizedTime, Ia5String, Integer, ObjectIdentifier,
     OctetString, SetOf, UtcTime,
 };
-use rasn_asserts::reading::decoder_of;
 use rasn_bench::{Colour, Foo, Grouped, Pair, Validity};
 use std::alloc::Global;
 use std::process::Abort;

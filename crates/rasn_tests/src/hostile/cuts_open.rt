@@ -1,10 +1,10 @@
 //! Values of indefinite length that are cut (X.690 8.1.3.6): each proper prefix of their octets is refused.
 
 use crate::hostile::cuts::reads_all;
+use crate::reading::decoder_of;
 use rasn::de::Decode;
 use rasn::error::{BerDecodeErrorKind, CodecDecodeError, DecodeError, DecodeErrorKind};
 use rasn::types::{Any, BitString, Codec, OctetString, SetOf};
-use rasn_asserts::reading::decoder_of;
 use rasn_bench::{Foo, Grouped, Pair};
 use std::alloc::{AllocError, Global};
 use std::process::Abort;

@@ -1,9 +1,9 @@
 //! Headers in more octets than are needed (X.690 8.1.2.4, 8.1.3.5), lengths beyond any input, and universal 0 (8.1.5).
 
 use crate::hostile::{TRUE_ALONE, one_boolean};
+use crate::reading::{answers_octets, assert_answer, assert_reads, decoder_of};
+use crate::writing::of_pieces;
 use rasn::types::{Any, Codec, Constraints, OctetString, Tag};
-use rasn_asserts::reading::{answers_octets, assert_answer, assert_reads, decoder_of};
-use rasn_asserts::writing::of_pieces;
 use std::alloc::Global;
 use std::process::Abort;
 

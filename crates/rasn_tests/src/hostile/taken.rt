@@ -2,10 +2,8 @@
 //! what was read inside.
 
 use crate::hostile::one_boolean;
+use crate::reading::{Row, assert_answer, assert_reads, assert_reads_within, decoder_of, sized};
 use rasn::types::{Any, BitString, Class, Codec, GeneralizedTime, OctetString, Tag, VisibleString};
-use rasn_asserts::reading::{
-    Row, assert_answer, assert_reads, assert_reads_within, decoder_of, sized,
-};
 use std::alloc::Global;
 use std::process::Abort;
 

@@ -1,10 +1,10 @@
 //! Certificates (RFC 5280) that others made, and spoilt ones.
 
 use crate::messages::spoilt::spoilt;
+use crate::whole::assert_decodes;
+use crate::writing::assert_output;
 use rasn::ber;
 use rasn::types::Codec;
-use rasn_asserts::whole::assert_decodes;
-use rasn_asserts::writing::assert_output;
 use rasn_x509::{Certificate, Time, read_certificate, write_certificate};
 use std::process::Abort;
 

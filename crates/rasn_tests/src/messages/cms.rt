@@ -1,11 +1,11 @@
 //! Signed messages (RFC 5652) that others made, and spoilt ones.
 
 use crate::messages::spoilt::spoilt;
+use crate::reading::{assert_facts, value};
+use crate::whole::assert_decodes;
+use crate::writing::assert_output;
 use rasn::ber;
 use rasn::types::Codec;
-use rasn_asserts::reading::{assert_facts, value};
-use rasn_asserts::whole::assert_decodes;
-use rasn_asserts::writing::assert_output;
 use rasn_messages::cms::{
     SignedMessage, SignerIdentifier, read_signed_message, read_streamed_message,
     write_signed_message,

@@ -1,9 +1,9 @@
 //! Contents of extensions (RFC 5280, 4.2.1) that others made, and spoilt ones.
 
+use crate::reading::{assert_facts, value};
+use crate::whole::{assert_decodes, assert_rewrites};
 use rasn::der;
 use rasn::types::Codec;
-use rasn_asserts::reading::{assert_facts, value};
-use rasn_asserts::whole::{assert_decodes, assert_rewrites};
 use rasn_messages::x509::extensions::{
     AuthorityKeyIdentifier, BasicConstraints, GeneralName, GeneralNames, KeyUsage,
 };

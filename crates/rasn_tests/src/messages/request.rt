@@ -1,11 +1,11 @@
 //! Certification requests (RFC 2986) that others made, and spoilt ones.
 
 use crate::messages::spoilt::spoilt;
+use crate::reading::{assert_facts, value};
+use crate::whole::assert_decodes;
+use crate::writing::assert_output;
 use rasn::ber;
 use rasn::types::Codec;
-use rasn_asserts::reading::{assert_facts, value};
-use rasn_asserts::whole::assert_decodes;
-use rasn_asserts::writing::assert_output;
 use rasn_messages::pkcs10::{CertificationRequest, read_request, write_request};
 
 // Made by OpenSSL 3.0: `openssl req -new -key k.pem -config r.cnf -outform DER`, of an Ed25519 key, the subject C = DE, OU = web + CN = www, a

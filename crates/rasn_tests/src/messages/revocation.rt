@@ -1,11 +1,11 @@
 //! Revocation lists (RFC 5280, 5) that others made, and spoilt ones.
 
 use crate::messages::spoilt::spoilt;
+use crate::reading::{assert_facts, value};
+use crate::whole::assert_decodes;
+use crate::writing::assert_output;
 use rasn::ber;
 use rasn::types::Codec;
-use rasn_asserts::reading::{assert_facts, value};
-use rasn_asserts::whole::assert_decodes;
-use rasn_asserts::writing::assert_output;
 use rasn_messages::x509::revocation::{
     CertificateList, read_revocation_list, write_revocation_list,
 };

@@ -1,7 +1,7 @@
 //! A CHOICE is encoded as its alternative (X.690 8.13).
 ghost use Rattle.rasn_enc.specs.View.{Extends};
 
-use rasn_asserts::writing::{assert_output, assert_refuses, assert_written, new_encoder};
+use crate::writing::{assert_output, assert_refuses, assert_written, new_encoder};
 use rasn_enc::ber::enc::Encoder;
 use rasn_types::error::{EncodeError, EncodeErrorKind};
 use rasn_types::types::{Codec, Constraints, Identifier, Tag};

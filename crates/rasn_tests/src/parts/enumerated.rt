@@ -1,8 +1,8 @@
 //! ENUMERATED (X.690 8.4).
 
+use crate::reading::{assert_answer, assert_facts, decoder_of, value};
+use crate::whole::assert_rewrites;
 use rasn::ber;
-use rasn_asserts::reading::{assert_answer, assert_facts, decoder_of, value};
-use rasn_asserts::whole::assert_rewrites;
 use rasn_bench::Colour;
 use rasn_de::de::Decode;
 use rasn_types::types::{Codec, Enumerated};

@@ -1,8 +1,8 @@
 //! Types of one's own whose parts are a type: what is read is written back, and what each presence refuses (X.690 8.9, 11.5).
 
 use crate::types::{Eight, Graded, Profile};
+use crate::whole::{assert_decodes, assert_rewrites};
 use rasn::types::Codec;
-use rasn_asserts::whole::{assert_decodes, assert_rewrites};
 
 // AlgorithmIdentifier of 1.2.840.113549.1.1.11 (RFC 8017, A.2), and the name 2.5.4.3.
 const ALL_EIGHT: &[u8] = &[

@@ -1,9 +1,9 @@
 //! Components that are OPTIONAL or DEFAULT (X.690 8.9.3), explicit and implicit tags (8.14) and extension additions are decoded.
 
-use crate::types::Counted;
-use rasn_asserts::reading::{
+use crate::reading::{
     assert_answer, assert_facts, assert_reads, assert_reads_default, decoder_of, within,
 };
+use crate::types::Counted;
 use rasn_de::ber::de::Decoder;
 use rasn_de::de::{Decode, Error};
 use rasn_types::error::DecodeError;

@@ -1,6 +1,6 @@
 //! SEQUENCE OF is decoded (X.690 8.10), of definite length under DER (10.1).
 
-use rasn_asserts::reading::{assert_answer, assert_reads, decoder_of};
+use crate::reading::{assert_answer, assert_reads, decoder_of};
 use rasn_types::types::{Bound, Bounded, Class, Codec, Constraints, Tag};
 
 const FIVE_SEVEN_INDEFINITE: &[u8] = &[0x30, 0x80, 0x02, 0x01, 0x05, 0x02, 0x01, 0x07, 0x00, 0x00];

@@ -1,8 +1,8 @@
 //! REAL (X.690 8.5), which isn't supported.
 
+use crate::reading::{assert_answer, decoder_of};
 use crate::types::Ratio;
-use rasn_asserts::reading::{assert_answer, decoder_of};
-use rasn_asserts::writing::{assert_output, assert_refuses, new_encoder};
+use crate::writing::{assert_output, assert_refuses, new_encoder};
 use rasn_types::types::{Class, Codec, Constraints, Identifier, Tag};
 
 #[test]

@@ -1,9 +1,9 @@
 //! ENUMERATED of one's own (X.690 8.4, X.680 20): CRLReason of RFC 5280, 5.3.1, whose numbers pass over 7.
 
+use crate::reading::{assert_facts, assert_reads, value};
+use crate::whole::{assert_encodes, assert_rewrites};
 use rasn::der;
 use rasn::types::{Codec, Enumerated, LawfulEq};
-use rasn_asserts::reading::{assert_facts, assert_reads, value};
-use rasn_asserts::whole::{assert_encodes, assert_rewrites};
 use rasn_bench::Reason;
 
 const UNNAMED_SEVEN: &str = "DiscriminantValueNotFound { discriminant: 7 }";

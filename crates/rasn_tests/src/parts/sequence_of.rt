@@ -1,6 +1,6 @@
 //! SEQUENCE OF is encoded (X.690 8.10), of definite length but under CER (9.1).
 
-use rasn_asserts::writing::{
+use crate::writing::{
     assert_output, assert_refuses, assert_writes_made, assert_writes_pieces, assert_written,
     identifier_of, made, new_encoder, repeated,
 };

@@ -1,10 +1,10 @@
 //! CHOICE (X.690 8.13), SEQUENCE OF (8.10) and extension additions by the entry points.
 
 use crate::parts::sequence_of::lists;
+use crate::reading::{assert_facts, assert_reads, value};
+use crate::whole::{assert_decodes, assert_rewrites, decoded, encoded};
+use crate::writing::{assert_output_pieces, made};
 use rasn::types::Codec;
-use rasn_asserts::reading::{assert_facts, assert_reads, value};
-use rasn_asserts::whole::{assert_decodes, assert_rewrites, decoded, encoded};
-use rasn_asserts::writing::{assert_output_pieces, made};
 use rasn_bench::{Grouped, Time, Validity};
 
 /// Whether the times are 13:29 on a day of 2018 as UTCTime, and a day of 2050 as GeneralizedTime.

@@ -1,8 +1,8 @@
 //! Components that are OPTIONAL or DEFAULT (X.690 8.9.3, 11.5), explicit and implicit tags (8.14) and extension additions are encoded.
 
+use crate::reading::assert_facts;
 use crate::types::Counted;
-use rasn_asserts::reading::assert_facts;
-use rasn_asserts::writing::{
+use crate::writing::{
     NO_PERCENTAGE, PERCENTAGE, assert_output, assert_refuses, assert_writes, assert_written,
     new_encoder,
 };

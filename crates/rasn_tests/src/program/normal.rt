@@ -1,10 +1,10 @@
 //! Lines that the program normalises: from an encoding of any of the three rules to the one that DER has (X.690 10, 11).
 
+use crate::reading::debug_text;
 use rasn::de::Decode;
 use rasn::enc::Encode;
 use rasn::error::{DecodeError, DecodeErrorKind};
 use rasn::types::{Codec, LawfulEq, OctetString, SetOf, UtcTime};
-use rasn_asserts::reading::debug_text;
 use rasn_bench::{Foo, NormaliseError, RunFault, normalise, run_normalise};
 use std::alloc::Global;
 use std::process::Abort;

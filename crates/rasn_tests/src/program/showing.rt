@@ -3,7 +3,7 @@
 use crate::messages::certificate::CERTIFICATE;
 use crate::messages::spoilt::spoilt;
 use crate::program::faults::{Failing, Full, arguments};
-use rasn_asserts::reading::assert_facts;
+use crate::reading::assert_facts;
 use rasn_text::{RunFault, call_of, run};
 use std::alloc::Global;
 use std::io::{ErrorKind, Read, Write};

@@ -2,13 +2,13 @@
 ghost use Rattle.rasn_de.specs.Constructed.{Keeps};
 ghost use Rattle.rasn_enc.specs.View.{LeavesOthers};
 
+use crate::reading::{assert_answer, decoder_of};
 use crate::types::NumberAndTruth;
+use crate::writing::{assert_output, assert_written, new_encoder};
 use rasn::ber::de::Decoder;
 use rasn::ber::enc::Encoder;
 use rasn::error::{DecodeError, EncodeError};
 use rasn::types::{Bound, Bounded, Codec, Constraints, Identifier, Tag};
-use rasn_asserts::reading::{assert_answer, decoder_of};
-use rasn_asserts::writing::{assert_output, assert_written, new_encoder};
 use rasn_bench::Both;
 use std::alloc::AllocError;
 

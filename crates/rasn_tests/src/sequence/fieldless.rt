@@ -1,11 +1,11 @@
 //! A SEQUENCE without components (X.690 8.9), with and without an extension marker (X.680 25): which closure reads it.
 ghost use Rattle.rasn_de.specs.Constructed.{Keeps};
 
+use crate::reading::{Row, assert_answer, decoder_of};
 use crate::types::{Closed, Extensible};
 use rasn::ber::de::Decoder;
 use rasn::error::DecodeError;
 use rasn::types::{Codec, Tag};
-use rasn_asserts::reading::{Row, assert_answer, decoder_of};
 use std::alloc::{AllocError, Global};
 use std::process::Abort;
 

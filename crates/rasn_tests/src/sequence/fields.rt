@@ -1,6 +1,6 @@
 //! The components of a SEQUENCE (X.680 25) or a SET (X.680 27), as readers of the schema see them.
 
-use rasn_asserts::reading::assert_facts;
+use crate::reading::assert_facts;
 use rasn_types::types::{Field, FieldPresence, Fields, HasPresence, Tag};
 
 // Two components of SEQUENCE { first BOOLEAN, second INTEGER OPTIONAL, third NULL DEFAULT NULL } may be left out.

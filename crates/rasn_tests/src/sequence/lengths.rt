@@ -2,10 +2,10 @@
 ghost use Rattle.rasn_enc.specs.View.{LeavesOthers};
 
 use crate::types::NumberAndTruth;
+use crate::writing::{assert_output_pieces, assert_written, new_encoder};
 use rasn::ber::enc::Encoder;
 use rasn::error::EncodeError;
 use rasn::types::{Codec, Constraints, Identifier, Tag};
-use rasn_asserts::writing::{assert_output_pieces, assert_written, new_encoder};
 use std::alloc::{AllocError, Global};
 
 /// The octets of the OCTET STRING inside.

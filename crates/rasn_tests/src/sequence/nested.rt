@@ -1,11 +1,11 @@
 //! SEQUENCEs of indefinite length in one another (X.690 8.1.3.6) are decoded to a depth of 128.
 ghost use Rattle.rasn_de.specs.Constructed.{Keeps};
 
+use crate::reading::{assert_answer, decoder_of};
 use crate::types::NumberAndTruth;
 use rasn::ber::de::Decoder;
 use rasn::error::DecodeError;
 use rasn::types::{Codec, Tag};
-use rasn_asserts::reading::{assert_answer, decoder_of};
 use rasn_bench::Both;
 use std::alloc::{AllocError, Global};
 use std::process::Abort;

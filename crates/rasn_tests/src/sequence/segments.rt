@@ -1,11 +1,11 @@
 //! Strings in segments by the entry points (X.690 8.6.4, 8.7.3, 8.23), as CER cuts them (9.2).
 
+use crate::reading::{assert_facts, assert_reads, value};
+use crate::whole::{assert_decodes, assert_rewrites, decoded, encoded};
+use crate::writing::{Piece, assert_output_pieces, made, of_pieces, repeated};
 use rasn::de::Decode;
 use rasn::enc::Encode;
 use rasn::types::{BitString, Codec, OctetString};
-use rasn_asserts::reading::{assert_facts, assert_reads, value};
-use rasn_asserts::whole::{assert_decodes, assert_rewrites, decoded, encoded};
-use rasn_asserts::writing::{Piece, assert_output_pieces, made, of_pieces, repeated};
 use rasn_bench::Foo;
 use std::alloc::Global;
 use std::process::Abort;

@@ -1,7 +1,7 @@
 //! A SEQUENCE with a DEFAULT component (X.690 11.5), and the items that the modules of the rules share.
 
+use crate::whole::{assert_decodes, assert_rewrites};
 use rasn::{Codec, cer, der};
-use rasn_asserts::whole::{assert_decodes, assert_rewrites};
 use rasn_bench::Setting;
 
 // A component that equals its default is left out by CER and DER; it may be there under BER and CER alone (X.690 11.5).

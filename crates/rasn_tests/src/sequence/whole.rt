@@ -1,10 +1,10 @@
 //! SEQUENCE by the entry points (X.690 8.9): of indefinite length under CER (9.1), of definite length under DER (10.1).
 
+use crate::reading::assert_reads;
+use crate::whole::{assert_decodes, assert_rewrites, encoded};
+use crate::writing::assert_output;
 use rasn::ber;
 use rasn::types::Codec;
-use rasn_asserts::reading::assert_reads;
-use rasn_asserts::whole::{assert_decodes, assert_rewrites, encoded};
-use rasn_asserts::writing::assert_output;
 use rasn_bench::{Both, Pair};
 
 #[test]

@@ -2,8 +2,8 @@
 
 use crate::set::order::{assert_always_out_of_order, assert_in_order};
 use crate::types::Three;
-use rasn_asserts::whole::encoded;
-use rasn_asserts::writing::{assert_output, made};
+use crate::whole::encoded;
+use crate::writing::{assert_output, made};
 use rasn_bench::Set3;
 use rasn_types::types::{ApplicationTag, Codec, ContextTag, Explicit, Implicit};
 use std::alloc::{AllocError, Global};

@@ -1,8 +1,8 @@
 //! A SET with a DEFAULT component and a CHOICE (X.690 8.11, 10.3, 11.5).
 
+use crate::reading::{Row, assert_facts, assert_reads, value};
+use crate::whole::{Rewritten, assert_rewrites, decoded};
 use rasn::types::Codec;
-use rasn_asserts::reading::{Row, assert_facts, assert_reads, value};
-use rasn_asserts::whole::{Rewritten, assert_rewrites, decoded};
 use rasn_bench::Event;
 
 const DEFAULT_PRESENT: &str = "CodecSpecific { inner: Der(DefaultValuePresent) }";

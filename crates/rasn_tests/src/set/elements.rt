@@ -1,7 +1,7 @@
 //! A SET OF as a value: its elements keep the order that they were inserted in, which doesn't count (X.680 28).
 
-use rasn_asserts::reading::assert_facts;
-use rasn_asserts::writing::made;
+use crate::reading::assert_facts;
+use crate::writing::made;
 use rasn_types::types::SetOf;
 use std::alloc::{AllocError, Global};
 use std::process::Abort;

@@ -1,8 +1,8 @@
 //! What the tests of SET and SET OF share: values in order, which are written, and values out of order, which are refused (X.690 9.3, 10.3,
 //! 11.6).
 
-use rasn_asserts::whole::encoded;
-use rasn_asserts::writing::{assert_output, assert_refuses, assert_written, new_encoder};
+use crate::whole::encoded;
+use crate::writing::{assert_output, assert_refuses, assert_written, new_encoder};
 use rasn_enc::enc::Encode;
 use rasn_types::types::Codec;
 use std::alloc::Global;

@@ -3,12 +3,12 @@ ghost use Rattle.rasn_enc.specs.View.{Extends};
 
 use crate::set::order::OUT_OF_ORDER;
 use crate::set::set_of::lists;
+use crate::writing::{assert_output, assert_refuses, assert_written, made};
 use rasn::ber::enc::{Encoder, EncoderOptions};
 use rasn::enc::Encode;
 use rasn::error::EncodeError;
 use rasn::types::Codec;
 use rasn::{ber, cer, der};
-use rasn_asserts::writing::{assert_output, assert_refuses, assert_written, made};
 use std::alloc::{AllocError, Global};
 use std::process::Abort;
 

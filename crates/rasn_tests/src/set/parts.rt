@@ -1,8 +1,8 @@
 //! A SET whose parts are a type: components in any order, each once (X.690 8.11, 10.3, 11.5).
 
 use crate::types::Signal;
+use crate::whole::{assert_decodes, assert_rewrites};
 use rasn::types::Codec;
-use rasn_asserts::whole::{assert_decodes, assert_rewrites};
 
 const OUT_OF_ORDER: &str = "CodecSpecific { inner: Der(SetComponentsOutOfOrder) }";
 

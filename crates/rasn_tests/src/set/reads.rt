@@ -1,9 +1,7 @@
 //! SET OF is decoded (X.690 8.12): in any order under BER and CER, in the order of its octets under DER (11.6).
 
+use crate::reading::{Row, assert_facts, assert_reads, assert_reads_within, decoder_of, sized};
 use crate::set::set_of::strings;
-use rasn_asserts::reading::{
-    Row, assert_facts, assert_reads, assert_reads_within, decoder_of, sized,
-};
 use rasn_de::de::Decode;
 use rasn_types::types::{Codec, OctetString, SetOf};
 use std::alloc::Global;

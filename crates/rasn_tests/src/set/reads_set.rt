@@ -1,10 +1,10 @@
 //! SET is decoded (X.690 8.11): in any order under BER and CER, in the order of its tags under DER (10.3).
 
+use crate::reading::{Row, assert_answer, assert_reads, decoder_of};
 use rasn::ber::de::Decoder;
 use rasn::de::Decode;
 use rasn::error::DecodeError;
 use rasn::types::{Codec, Tag};
-use rasn_asserts::reading::{Row, assert_answer, assert_reads, decoder_of};
 use rasn_bench::Set3;
 
 const ONE_TWO_THREE: &str = "Set3 { zero: 1, one: 2, two: 3 }";

@@ -2,11 +2,11 @@
 ghost use Rattle.rasn_enc.specs.View.{LeavesOthers};
 
 use crate::types::Three;
+use crate::writing::{assert_output, assert_written, new_encoder};
 use rasn::ber::enc::Encoder;
 use rasn::enc::Encode;
 use rasn::error::EncodeError;
 use rasn::types::{AsnType, Codec, ContextTag, Identifier, Implicit, Tag};
-use rasn_asserts::writing::{assert_output, assert_written, new_encoder};
 
 /// \[N\] INTEGER (0..255)
 type At<const N: u32> = Implicit<ContextTag<N>, u8>;

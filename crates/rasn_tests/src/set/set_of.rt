@@ -1,8 +1,8 @@
 //! SET OF is encoded with its elements in the order of their octets (X.690 11.6).
 
 use crate::set::order::{assert_always_out_of_order, assert_in_order, assert_out_of_order};
-use rasn_asserts::whole::encoded;
-use rasn_asserts::writing::{assert_output, assert_writes_pieces, made, repeated};
+use crate::whole::encoded;
+use crate::writing::{assert_output, assert_writes_pieces, made, repeated};
 use rasn_types::types::{Codec, OctetString, SetOf};
 use std::alloc::{AllocError, Global};
 use std::process::Abort;

@@ -1,6 +1,6 @@
 //! DER has one form of contents: the fewest octets (X.690 8.3.2, 8.4, 8.19.2) and unused bits that are zero (11.2.1).
 
-use rasn_asserts::reading::assert_reads;
+use crate::reading::assert_reads;
 use rasn_bench::Colour;
 use rasn_types::types::{BitString, Codec, Integer, ObjectIdentifier};
 

@@ -1,7 +1,7 @@
 //! Under DER a component that equals its default is left out (X.690 11.5).
 
+use crate::reading::{Row, assert_answer, assert_reads, assert_reads_default, decoder_of};
 use crate::types::Counted;
-use rasn_asserts::reading::{Row, assert_answer, assert_reads, assert_reads_default, decoder_of};
 use rasn_types::types::Codec;
 use std::alloc::AllocError;
 

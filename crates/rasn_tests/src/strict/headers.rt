@@ -1,6 +1,6 @@
 //! DER has one form of identifier (X.690 8.1.2) and length (10.1). A refusal consumes nothing.
 
-use rasn_asserts::reading::{Row, assert_peeks, assert_reads};
+use crate::reading::{Row, assert_peeks, assert_reads};
 use rasn_bench::Pair;
 use rasn_types::types::{Codec, OctetString};
 

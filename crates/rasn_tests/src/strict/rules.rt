@@ -1,6 +1,6 @@
 //! What each of the rules allows (X.690 9, 10).
 
-use rasn_asserts::reading::assert_facts;
+use crate::reading::assert_facts;
 use rasn_types::ber::rules::EncodingRules;
 use rasn_types::types::Codec;
 

@@ -1,7 +1,7 @@
 //! What values hold is taken out, lent, copied and compared.
 
+use crate::writing::made;
 use rasn::prelude::*;
-use rasn_asserts::writing::made;
 use std::alloc::{AllocError, Global};
 use std::cmp::Ordering;
 use std::process::Abort;

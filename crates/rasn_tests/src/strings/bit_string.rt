@@ -1,7 +1,7 @@
 //! BIT STRING (X.690 8.6), in segments under CER (9.2).
 
-use rasn_asserts::reading::{assert_reads, assert_reads_within, decoder_of, sized, value};
-use rasn_asserts::writing::{
+use crate::reading::{assert_reads, assert_reads_within, decoder_of, sized, value};
+use crate::writing::{
     assert_output, assert_refuses, assert_writes_pieces, assert_written, made, new_encoder,
     set_bits,
 };

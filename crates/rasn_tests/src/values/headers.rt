@@ -1,7 +1,7 @@
 //! Headers: identifier (X.690 8.1.2) and length octets (8.1.3).
 
-use rasn_asserts::reading::{assert_peeks, assert_reads};
-use rasn_asserts::writing::{assert_output, assert_written, new_encoder};
+use crate::reading::{assert_peeks, assert_reads};
+use crate::writing::{assert_output, assert_written, new_encoder};
 use rasn_enc::enc::Encode;
 use rasn_types::types::{Class, Codec, Identifier, OctetString, Tag};
 

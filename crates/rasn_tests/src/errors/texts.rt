@@ -1,6 +1,6 @@
 //! The texts of errors, with ranges as X.680 51.4 writes them.
 
-use rasn_asserts::reading::{decoder_of, sized, within};
+use crate::reading::{decoder_of, sized, within};
 use rasn_de::de::{Decode, Error};
 use rasn_types::error::{
     BerEncodeErrorKind, CodecEncodeError, DecodeError, EncodeError, EncodeErrorKind,

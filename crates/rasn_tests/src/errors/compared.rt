@@ -1,8 +1,8 @@
 //! Values and errors compared: INTEGER by its number (X.690 8.3), OBJECT IDENTIFIER by its arcs, BIT STRING by its bits, OCTET STRING and
 //! open types by their octets.
 
-use rasn_asserts::reading::{assert_facts, decoder_of};
-use rasn_asserts::writing::made;
+use crate::reading::{assert_facts, decoder_of};
+use crate::writing::made;
 use rasn_de::de::Decode;
 use rasn_types::error::{DecodeError, DecodeErrorKind, Needed};
 use rasn_types::types::{Any, BitStr, Codec, Constraints, Integer, ObjectIdentifier, OctetString};

@@ -1,8 +1,8 @@
 //! BOOLEAN (X.690 8.2, 11.1).
 
-use rasn_asserts::reading::assert_reads;
-use rasn_asserts::whole::{assert_decodes, assert_decodes_with_remainder, assert_encodes};
-use rasn_asserts::writing::assert_writes;
+use crate::reading::assert_reads;
+use crate::whole::{assert_decodes, assert_decodes_with_remainder, assert_encodes};
+use crate::writing::assert_writes;
 use rasn_enc::enc::Encode;
 use rasn_types::types::Codec;
 

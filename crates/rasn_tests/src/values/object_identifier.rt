@@ -1,7 +1,7 @@
 //! OBJECT IDENTIFIER (X.690 8.19) and its arcs (X.660 7.6).
 
-use rasn_asserts::reading::{assert_answer, assert_facts, assert_reads, decoder_of};
-use rasn_asserts::writing::{
+use crate::reading::{assert_answer, assert_facts, assert_reads, decoder_of};
+use crate::writing::{
     assert_output, assert_refuses, assert_writes_made, assert_written, identifier_of, made,
     new_encoder,
 };

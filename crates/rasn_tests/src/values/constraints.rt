@@ -1,6 +1,6 @@
 //! Constraints of size and value (X.680 51).
 
-use rasn_asserts::reading::assert_facts;
+use crate::reading::assert_facts;
 use rasn_types::types::{Bound, Bounded, Constraints};
 
 /// The number -2^128 in two's complement.

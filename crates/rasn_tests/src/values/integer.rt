@@ -1,8 +1,8 @@
 //! INTEGER (X.690 8.3) and its range (X.680 51.4).
 
-use rasn_asserts::reading::{assert_answer, assert_has_octets, assert_reads, decoder_of, within};
-use rasn_asserts::whole::{assert_decodes, assert_encodes};
-use rasn_asserts::writing::{
+use crate::reading::{assert_answer, assert_has_octets, assert_reads, decoder_of, within};
+use crate::whole::{assert_decodes, assert_encodes};
+use crate::writing::{
     NO_PERCENTAGE, PERCENTAGE, assert_output, assert_refuses, assert_writes, assert_writes_made,
     assert_writes_pieces, assert_written, new_encoder,
 };

@@ -1,6 +1,6 @@
 //! Identifiers as values: a tag and the bit that tells a constructed encoding (X.690 8.1.2).
 
-use rasn_asserts::reading::assert_facts;
+use crate::reading::assert_facts;
 use rasn_types::ber::Identifier;
 use rasn_types::types::{Class, Tag};
 

@@ -1,7 +1,7 @@
 //! NULL (X.690 8.8).
 
-use rasn_asserts::reading::{assert_answer, decoder_of};
-use rasn_asserts::writing::{assert_output, assert_writes, assert_written, new_encoder};
+use crate::reading::{assert_answer, decoder_of};
+use crate::writing::{assert_output, assert_writes, assert_written, new_encoder};
 use rasn_de::de::Decode;
 use rasn_types::types::{Class, Codec, Identifier, Tag};
 

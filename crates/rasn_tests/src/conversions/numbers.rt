@@ -1,7 +1,7 @@
 //! Whole numbers of any length from and to those of 128 bits, and object identifiers from arcs.
 
+use crate::writing::made;
 use rasn::prelude::*;
-use rasn_asserts::writing::made;
 use std::alloc::AllocError;
 use std::process::Abort;
 

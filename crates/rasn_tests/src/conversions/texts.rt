@@ -1,8 +1,8 @@
 //! Values as text.
 
+use crate::writing::made;
 use rasn::prelude::*;
 use rasn::types::Hexadecimal;
-use rasn_asserts::writing::made;
 use std::alloc::{AllocError, Global};
 use std::fmt::Display;
 use std::process::Abort;

@@ -1,10 +1,10 @@
 //! Character strings (X.690 8.23), in segments under CER (9.2).
 
-use rasn_asserts::reading::{
+use crate::reading::{
     assert_answer, assert_has_octets, assert_reads, assert_reads_octets, assert_reads_within,
     decoder_of, sized,
 };
-use rasn_asserts::writing::{
+use crate::writing::{
     assert_output, assert_refuses, assert_writes, assert_writes_made, assert_writes_pieces,
     assert_written, made, new_encoder,
 };

@@ -1,7 +1,7 @@
 //! BIT STRING as a value: bits in octets (X.690 8.6.2), and bits gathered from segments (8.6.4).
 
-use rasn_asserts::reading::assert_facts;
-use rasn_asserts::writing::made;
+use crate::reading::assert_facts;
+use crate::writing::made;
 use rasn_types::ber::collected_bits::CollectedBits;
 use rasn_types::types::{BitStr, BitString};
 use std::alloc::{AllocError, Global};

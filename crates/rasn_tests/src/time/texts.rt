@@ -1,6 +1,6 @@
 //! The texts of GeneralizedTime (X.680 46, X.690 11.7), UTCTime (X.680 47, X.690 11.8) and DATE are parsed and written.
 
-use rasn_asserts::reading::assert_facts;
+use crate::reading::assert_facts;
 use rasn_de::ber::de::Decoder;
 use rasn_types::ber::time::{
     parse_canonical_generalized_time, parse_canonical_utc_time, parse_date, parse_generalized_time,

@@ -1,9 +1,9 @@
 //! Times by the entry points, which are written in their canonical forms (X.690 11.7, 11.8).
 
+use crate::reading::{assert_facts, assert_reads, value};
+use crate::whole::{assert_rewrites, decoded, encoded};
+use crate::writing::{assert_output, made};
 use rasn::types::{Codec, Date, GeneralizedTime, UtcTime};
-use rasn_asserts::reading::{assert_facts, assert_reads, value};
-use rasn_asserts::whole::{assert_rewrites, decoded, encoded};
-use rasn_asserts::writing::{assert_output, made};
 
 // A GeneralizedTime is written by UTC, with seconds (X.690 11.7).
 #[test]

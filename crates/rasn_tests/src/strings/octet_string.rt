@@ -1,9 +1,7 @@
 //! OCTET STRING (X.690 8.7), in segments under CER (9.2), and of a fixed size.
 
-use rasn_asserts::reading::{
-    answers_octets, assert_reads_octets, assert_reads_within, decoder_of, sized,
-};
-use rasn_asserts::writing::{
+use crate::reading::{answers_octets, assert_reads_octets, assert_reads_within, decoder_of, sized};
+use crate::writing::{
     assert_output, assert_refuses, assert_writes_pieces, made, new_encoder, repeated,
 };
 use rasn_enc::enc::Encode;

@@ -1,6 +1,6 @@
 //! UTCTime (X.690 11.8), GeneralizedTime (11.7) and DATE (8.26) are encoded in their canonical forms.
 
-use rasn_asserts::writing::{assert_output, assert_writes_made, assert_written, made, new_encoder};
+use crate::writing::{assert_output, assert_writes_made, assert_written, made, new_encoder};
 use rasn_enc::ber::enc::Encoder;
 use rasn_types::types::{Class, Codec, Date, GeneralizedTime, Identifier, Tag, UtcTime};
 

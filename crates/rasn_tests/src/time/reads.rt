@@ -1,7 +1,7 @@
 //! UTCTime (X.690 11.8), GeneralizedTime (11.7) and DATE (8.26) are decoded.
 
+use crate::reading::{assert_facts, assert_reads, decoder_of, value};
 use crate::time::texts::{Seen, Timed, tells};
-use rasn_asserts::reading::{assert_facts, assert_reads, decoder_of, value};
 use rasn_de::de::Decode;
 use rasn_types::types::{Codec, Date, GeneralizedTime, UtcTime};
 use std::alloc::Global;

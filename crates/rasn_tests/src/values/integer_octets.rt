@@ -1,6 +1,6 @@
 //! The octets of whole numbers in two's complement (X.690 8.3).
 
-use rasn_asserts::reading::assert_facts;
+use crate::reading::assert_facts;
 use rasn_types::types::{Integer, IntegerType};
 use std::alloc::Global;
 use std::process::Abort;

@@ -1,11 +1,11 @@
 //! Values of a known type in an open type (X.690 8.15), the one encoding of a value (X.690 10), defaults under a prefix (X.690 8.14.2, 11.5), and readers
 //! and writers as text.
 
+use crate::reading::{assert_answer, assert_facts, debug_text, decoder_of};
+use crate::writing::{assert_output, assert_written, new_encoder};
 use rasn::open_type::{any_tag, decode_any, encode_any};
 use rasn::prelude::*;
 use rasn::{Codec, der};
-use rasn_asserts::reading::{assert_answer, assert_facts, debug_text, decoder_of};
-use rasn_asserts::writing::{assert_output, assert_written, new_encoder};
 use std::alloc::{AllocError, Global};
 use std::process::Abort;
 
