@@ -10,7 +10,9 @@ use rasn::{Decode, Decoder, Encode, Encoder};
 /// whatever it is.
 #[derive(Debug, PartialEq, Eq, Drop)]
 pub struct AlgorithmIdentifier {
+    /// Which algorithm it is.
     pub algorithm: ObjectIdentifier,
+    /// What the algorithm asks for beside its name, as an open type.
     pub parameters: Option<Any>,
 }
 

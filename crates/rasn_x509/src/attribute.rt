@@ -9,7 +9,9 @@ use rasn::{Decode, Decoder, Encode, Encoder};
 /// SEQUENCE { type OBJECT IDENTIFIER, value ANY DEFINED BY type }
 #[derive(Debug, PartialEq, Eq, Drop)]
 pub struct AttributeTypeAndValue {
+    /// The type of the attribute; `type` is a word of Rust.
     pub kind: ObjectIdentifier,
+    /// Its value, as an open type.
     pub value: Any,
 }
 

@@ -8,8 +8,11 @@ use rasn::{Decode, Decoder, Encode, Encoder};
 /// SEQUENCE { tbsCertificate TBSCertificate, signatureAlgorithm AlgorithmIdentifier, signatureValue BIT STRING }
 #[derive(Debug, PartialEq, Eq, Drop)]
 pub struct Certificate {
+    /// What is signed.
     pub tbs_certificate: TbsCertificate,
+    /// How it is signed: the same as `signature` in what is signed (RFC 5280 4.1.1.2).
     pub signature_algorithm: AlgorithmIdentifier,
+    /// The signature of the DER encoding of `tbs_certificate`.
     pub signature_value: BitString,
 }
 

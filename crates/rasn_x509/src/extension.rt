@@ -11,8 +11,11 @@ use std::alloc::AllocError;
 /// identifier names.
 #[derive(Debug, PartialEq, Eq, Drop)]
 pub struct Extension {
+    /// Which extension it is.
     pub extn_id: ObjectIdentifier,
+    /// Whether a reader that doesn't know the extension has to reject the certificate (RFC 5280 4.2).
     pub critical: bool,
+    /// The DER encoding of its contents.
     pub extn_value: OctetString,
 }
 

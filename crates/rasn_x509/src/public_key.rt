@@ -8,7 +8,9 @@ use rasn::{Decode, Decoder, Encode, Encoder};
 /// SEQUENCE { algorithm AlgorithmIdentifier, subjectPublicKey BIT STRING }: the bits are the key as its algorithm has it.
 #[derive(Debug, PartialEq, Eq, Drop)]
 pub struct SubjectPublicKeyInfo {
+    /// The algorithm that the key is for.
     pub algorithm: AlgorithmIdentifier,
+    /// The key.
     pub subject_public_key: BitString,
 }
 

@@ -17,15 +17,25 @@ use std::alloc::AllocError;
 /// subjectUniqueID \[2\] IMPLICIT BIT STRING OPTIONAL, extensions \[3\] EXPLICIT SEQUENCE OF Extension OPTIONAL }
 #[derive(Debug, PartialEq, Eq, Drop)]
 pub struct TbsCertificate {
+    /// The version less one: 2 is version 3.
     pub version: u8,
+    /// The issuer's number for the certificate.
     pub serial_number: Integer,
+    /// How the certificate is signed.
     pub signature: AlgorithmIdentifier,
+    /// Who signed it.
     pub issuer: Name,
+    /// When it is valid.
     pub validity: Validity,
+    /// Whose key it holds.
     pub subject: Name,
+    /// The key.
     pub subject_public_key_info: SubjectPublicKeyInfo,
+    /// Tells issuers of one name apart (RFC 5280 4.1.2.8).
     pub issuer_unique_id: Option<Implicit<ContextTag<1>, BitString>>,
+    /// Tells subjects of one name apart (RFC 5280 4.1.2.8).
     pub subject_unique_id: Option<Implicit<ContextTag<2>, BitString>>,
+    /// The extensions, of version 3 alone (RFC 5280 4.1.2.9).
     pub extensions: Option<Explicit<ContextTag<3>, Vec<Extension>>>,
 }
 

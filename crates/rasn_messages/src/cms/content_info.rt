@@ -11,7 +11,9 @@ use rasn::{Decode, Decoder, Encode, Encoder};
 /// `SignedMessage`, too.
 #[derive(Debug, PartialEq, Eq, Drop)]
 pub struct ContentInfo {
+    /// What the content is.
     pub content_type: ObjectIdentifier,
+    /// The content, as an open type.
     pub content: Explicit<ContextTag<0>, Any>,
 }
 

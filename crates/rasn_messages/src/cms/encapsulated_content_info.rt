@@ -11,7 +11,9 @@ use rasn::{Decode, Decoder, Encode, Encoder};
 /// detached from it.
 #[derive(Debug, PartialEq, Eq, Drop)]
 pub struct EncapsulatedContentInfo {
+    /// What the content is.
     pub e_content_type: ObjectIdentifier,
+    /// The content's octets.
     pub e_content: Option<Explicit<ContextTag<0>, OctetString>>,
 }
 

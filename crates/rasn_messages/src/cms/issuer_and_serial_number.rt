@@ -8,7 +8,9 @@ use rasn::{Decode, Decoder, Encode, Encoder};
 /// SEQUENCE { issuer Name, serialNumber INTEGER }: a certificate by the two that tell it from all others.
 #[derive(Debug, PartialEq, Eq, Drop)]
 pub struct IssuerAndSerialNumber {
+    /// The certificate's issuer.
     pub issuer: Name,
+    /// The issuer's number for it.
     pub serial_number: Integer,
 }
 

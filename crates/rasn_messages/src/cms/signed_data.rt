@@ -14,11 +14,17 @@ use rasn::{Decode, Decoder, Encode, Encoder};
 /// The certificates and revocation lists are open types: `read_certificate` and `read_revocation_list` read the octets of those that are in DER.
 #[derive(Debug, PartialEq, Eq, Drop)]
 pub struct SignedData {
+    /// The version of the syntax: 1, 3, 4 or 5 (RFC 5652 5.1).
     pub version: u8,
+    /// The digest algorithms of the signers.
     pub digest_algorithms: SetOf<AlgorithmIdentifier>,
+    /// What is signed.
     pub encap_content_info: EncapsulatedContentInfo,
+    /// Certificates that help to verify the signatures.
     pub certificates: Option<Implicit<ContextTag<0>, SetOf<Any>>>,
+    /// Revocation lists that help to verify them.
     pub crls: Option<Implicit<ContextTag<1>, SetOf<Any>>>,
+    /// A signature of each signer.
     pub signer_infos: SetOf<SignerInfo>,
 }
 

@@ -11,7 +11,9 @@ use rasn::{Decode, Decoder, Encode, Encoder};
 /// SEQUENCE { contentType OBJECT IDENTIFIER, content \[0\] EXPLICIT SignedData }. The standard has 1.2.840.113549.1.7.2 for `content_type`; it is what it is.
 #[derive(Debug, PartialEq, Eq, Drop)]
 pub struct SignedMessage {
+    /// What the content is: signed data.
     pub content_type: ObjectIdentifier,
+    /// The signed data.
     pub content: Explicit<ContextTag<0>, SignedData>,
 }
 

@@ -13,12 +13,19 @@ use rasn::{Decode, Decoder, Encode, Encoder};
 /// signatureAlgorithm AlgorithmIdentifier, signature OCTET STRING, unsignedAttrs \[1\] IMPLICIT SET OF Attribute OPTIONAL }
 #[derive(Debug, PartialEq, Eq, Drop)]
 pub struct SignerInfo {
+    /// 1 where the signer is named by issuer and serial number, 3 where by its key (RFC 5652 5.3).
     pub version: u8,
+    /// Whose signature it is.
     pub sid: SignerIdentifier,
+    /// How the content and the signed attributes are digested.
     pub digest_algorithm: AlgorithmIdentifier,
+    /// Attributes that are signed with the content.
     pub signed_attrs: Option<Implicit<ContextTag<0>, SetOf<Attribute>>>,
+    /// How the digest is signed.
     pub signature_algorithm: AlgorithmIdentifier,
+    /// The signature.
     pub signature: OctetString,
+    /// Attributes that aren't signed.
     pub unsigned_attrs: Option<Implicit<ContextTag<1>, SetOf<Attribute>>>,
 }
 

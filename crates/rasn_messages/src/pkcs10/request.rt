@@ -9,8 +9,11 @@ use rasn::{Decode, Decoder, Encode, Encoder};
 /// SEQUENCE { certificationRequestInfo CertificationRequestInfo, signatureAlgorithm AlgorithmIdentifier, signature BIT STRING }
 #[derive(Debug, PartialEq, Eq, Drop)]
 pub struct CertificationRequest {
+    /// What is signed.
     pub certification_request_info: CertificationRequestInfo,
+    /// How it is signed.
     pub signature_algorithm: AlgorithmIdentifier,
+    /// The signature of the DER encoding of `certification_request_info`.
     pub signature: BitString,
 }
 

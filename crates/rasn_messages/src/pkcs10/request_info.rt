@@ -10,9 +10,13 @@ use rasn::{Decode, Decoder, Encode, Encoder};
 /// SEQUENCE { version INTEGER { v1(0) }, subject Name, subjectPKInfo SubjectPublicKeyInfo, attributes \[0\] IMPLICIT SET OF Attribute }
 #[derive(Debug, PartialEq, Eq, Drop)]
 pub struct CertificationRequestInfo {
+    /// 0 (RFC 2986 4.1).
     pub version: u8,
+    /// Whose key it holds.
     pub subject: Name,
+    /// The key.
     pub subject_pk_info: SubjectPublicKeyInfo,
+    /// What else is asked for, such as extensions.
     pub attributes: Implicit<ContextTag<0>, SetOf<Attribute>>,
 }
 

@@ -9,7 +9,9 @@ use rasn::{Decode, Decoder, Encode, Encoder};
 /// SEQUENCE { type OBJECT IDENTIFIER, values SET OF ANY DEFINED BY type }. The standards ask for at least one value.
 #[derive(Debug, PartialEq, Eq, Drop)]
 pub struct Attribute {
+    /// The type of the attribute; `type` is a word of Rust.
     pub kind: ObjectIdentifier,
+    /// Its values, as open types.
     pub values: SetOf<Any>,
 }
 

@@ -9,6 +9,7 @@ use std::ops::Deref;
 /// A tag and whether the encoding is constructed, ordered by the tag and then primitive before constructed.
 #[derive(Clone, Copy, Debug, PartialEq, Eq, PartialOrd, Ord)]
 pub struct Identifier {
+    /// The tag.
     pub tag: Tag,
     is_constructed: bool,
 }

@@ -33,7 +33,9 @@ impl Needed {
 #[derive(Debug, PartialEq, Eq, Drop, Error)]
 #[error("{codec}: {kind}")]
 pub struct DecodeError {
+    /// What is wrong.
     pub kind: DecodeErrorKind,
+    /// The rules by which the value was read.
     pub codec: Codec,
 }
 

@@ -9,7 +9,9 @@ use thiserror::Error;
 #[derive(Debug, PartialEq, Eq, Drop, Error)]
 #[error("{codec}: {kind}")]
 pub struct EncodeError {
+    /// What is wrong.
     pub kind: EncodeErrorKind,
+    /// The rules by which the value was to be written.
     pub codec: Codec,
 }
 

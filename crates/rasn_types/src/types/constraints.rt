@@ -45,14 +45,18 @@ fn write_end<W: fmt::Write, T: fmt::Display>(
 /// A constraint. An extensible one isn't checked.
 #[derive(Clone, Copy, Debug, PartialEq, Eq, Hash, Drop)]
 pub struct Bound<T> {
+    /// What is admitted.
     pub constraint: Bounded<T>,
+    /// Whether it has an extension marker (`...`): then every value is admitted.
     pub extensible: bool,
 }
 
 /// The constraints that a type or a call is given: of a whole number, and of a size.
 #[derive(Clone, Copy, Debug, Default, PartialEq, Eq, Hash)]
 pub struct Constraints {
+    /// Of the number, where there is one.
     pub value: Option<Bound<i128>>,
+    /// Of the size, where there is one: in octets, bits, characters or elements.
     pub size: Option<Bound<usize>>,
 }
 

@@ -9,17 +9,24 @@ use crate::types::Tag;
 /// Whether a field is required.
 #[derive(Clone, Copy, Debug, PartialEq, Eq)]
 pub enum FieldPresence {
+    /// It has to come.
     Required,
+    /// It may be left out (OPTIONAL).
     Optional,
+    /// It may be left out, and then has its default (DEFAULT).
     Default,
 }
 
 /// A field of a SEQUENCE or a SET.
 #[derive(Clone, Copy, Debug)]
 pub struct Field {
+    /// Its place among the fields, from 0.
     pub index: usize,
+    /// The tag of its encoding.
     pub tag: Tag,
+    /// Whether it may be left out.
     pub presence: FieldPresence,
+    /// Its name, which errors tell.
     pub name: &'static str,
 }
 
@@ -84,6 +91,7 @@ impl HasPresence for Field {
 /// The fields of a constructed type, in their order.
 #[derive(Clone, Copy, Debug)]
 pub struct Fields<const N: usize, F = Field> {
+    /// Them, in their order.
     pub fields: [F; N],
 }
 

@@ -12,8 +12,11 @@ use rasn::{Decode, Decoder, Encode, Encoder};
 /// authorityCertSerialNumber \[2\] IMPLICIT INTEGER OPTIONAL }
 #[derive(Debug, PartialEq, Eq, Drop)]
 pub struct AuthorityKeyIdentifier {
+    /// The issuer's `SubjectKeyIdentifier`.
     pub key_identifier: Option<Implicit<ContextTag<0>, OctetString>>,
+    /// The issuer of the issuer's certificate.
     pub authority_cert_issuer: Option<Implicit<ContextTag<1>, GeneralNames>>,
+    /// The serial number of the issuer's certificate.
     pub authority_cert_serial_number: Option<Implicit<ContextTag<2>, Integer>>,
 }
 

@@ -9,7 +9,9 @@ use std::alloc::AllocError;
 /// others may follow.
 #[derive(Debug, PartialEq, Eq, Drop)]
 pub struct BasicConstraints {
+    /// Whether the subject is a certification authority.
     pub ca: bool,
+    /// How many certificates of other authorities may stand between this one and the last of a path; no limit where it is left out.
     pub path_len_constraint: Option<Integer>,
 }
 

@@ -10,7 +10,9 @@ use rasn::{Decode, Decoder, Encode, Encoder};
 /// strings are kept as open types.
 #[derive(Debug, PartialEq, Eq, Drop)]
 pub struct EdiPartyName {
+    /// Who assigned the name.
     pub name_assigner: Option<Explicit<ContextTag<0>, Any>>,
+    /// The name.
     pub party_name: Explicit<ContextTag<1>, Any>,
 }
 

@@ -11,6 +11,7 @@ use rasn::{Decode, Decoder, Encode, Encoder};
 /// read, though DER writes none of them (X.690 11.2.2).
 #[derive(Debug, PartialEq, Eq, Drop)]
 pub struct KeyUsage {
+    /// The bits, as they are read.
     pub bits: BitString,
 }
 

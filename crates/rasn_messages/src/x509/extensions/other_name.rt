@@ -10,7 +10,9 @@ use rasn::{Decode, Decoder, Encode, Encoder};
 /// SEQUENCE { type-id OBJECT IDENTIFIER, value \[0\] EXPLICIT ANY DEFINED BY type-id }
 #[derive(Debug, PartialEq, Eq, Drop)]
 pub struct OtherName {
+    /// What the name is.
     pub type_id: ObjectIdentifier,
+    /// The name, as an open type.
     pub value: Explicit<ContextTag<0>, Any>,
 }
 

@@ -9,8 +9,11 @@ use rasn::{Decode, Decoder, Encode, Encoder};
 /// SEQUENCE { tbsCertList TBSCertList, signatureAlgorithm AlgorithmIdentifier, signatureValue BIT STRING }
 #[derive(Debug, PartialEq, Eq, Drop)]
 pub struct CertificateList {
+    /// What is signed.
     pub tbs_cert_list: TbsCertList,
+    /// How it is signed.
     pub signature_algorithm: AlgorithmIdentifier,
+    /// The signature of the DER encoding of `tbs_cert_list`.
     pub signature_value: BitString,
 }
 

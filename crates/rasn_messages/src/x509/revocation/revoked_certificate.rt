@@ -8,8 +8,11 @@ use rasn::{Decode, Decoder, Encode, Encoder};
 /// SEQUENCE { userCertificate CertificateSerialNumber, revocationDate Time, crlEntryExtensions SEQUENCE OF Extension OPTIONAL }
 #[derive(Debug, PartialEq, Eq, Drop)]
 pub struct RevokedCertificate {
+    /// The serial number of the certificate.
     pub user_certificate: Integer,
+    /// When it was revoked.
     pub revocation_date: Time,
+    /// Extensions of the entry, such as the reason (RFC 5280 5.3).
     pub crl_entry_extensions: Option<Vec<Extension>>,
 }
 

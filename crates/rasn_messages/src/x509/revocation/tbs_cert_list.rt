@@ -16,13 +16,21 @@ use rasn::{Decode, Decoder, Encode, Encoder};
 /// them is there where the list is that of RFC 5280.
 #[derive(Debug, PartialEq, Eq, Drop)]
 pub struct TbsCertList {
+    /// 1 in a list of version 2; left out in one of version 1.
     pub version: Option<u8>,
+    /// How the list is signed.
     pub signature: AlgorithmIdentifier,
+    /// Who signed it.
     pub issuer: Name,
+    /// When it was issued.
     pub this_update: Time,
+    /// When the next list is issued at the latest, written as a UTCTime.
     pub next_update_utc: Option<UtcTime>,
+    /// The same, written as a GeneralizedTime.
     pub next_update_general: Option<GeneralizedTime>,
+    /// The certificates that are revoked.
     pub revoked_certificates: Option<Vec<RevokedCertificate>>,
+    /// Extensions of the list (RFC 5280 5.2).
     pub crl_extensions: Option<Explicit<ContextTag<0>, Vec<Extension>>>,
 }
 
