@@ -11,7 +11,9 @@ use Rattle.rasn_types.specs.Grammar.{Reads, top}
 use Rattle.rasn_types.specs.Bytes.{Same}
 use Rattle.rasn_types.specs.Carried.{Carried, IsWithinLimits}
 use Rattle.rasn_types.specs.Lawful.{IsLawful}
+use Rattle.rasn_types.specs.Errors.{IsEncodeOutOfMemory}
 use Rattle.rasn_de.specs.Outcomes.{Exact, Outcome, Got, refusal}
+use Rattle.rasn_enc.specs.Encoding.{NoEncoding}
 use Rattle.rasn_enc.specs.View.{started}
 use Rattle.rasn_enc.specs.Primitive.{IsAllocError}
 use Rattle.rasn_enc.specs.Closures.{EncodeClosure, MayFail}
@@ -65,6 +67,10 @@ IsCarriedAsWritten s tree input (Err e) = Unit {0}
 -- As in Identify, of a lawful shape.
 abbrev pub Identifies : Shape → Tree → List ℕ → Type 0
 Identifies s t octets = IsWithinLimits Der s 128 t → (u : Tree) (c : Carried Der s u) → (Same t u ↔ (octets ≡ c.octets))
+
+-- Why a whole value isn't written: memory runs out, or it has no octets.
+abbrev pub EncodingFails : Codec → Shape → Tree → EncodeError → Type 0
+EncodingFails rule s t e = IsEncodeOutOfMemory e.kind ⊎ NoEncoding rule s t
 
 -- What a closure writes is refused: memory runs out, or the closure refuses from a new encoder on.
 abbrev pub ScopeRefuses : {F T : Type 0} → EncodeClosure F T → F → Codec → EncodeError → Type 0

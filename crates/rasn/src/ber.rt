@@ -1,12 +1,10 @@
 //! Basic encoding rules (X.690 8): reading and writing one value.
-ghost use Rattle.std.specs.Prelude.{◌≡◌, [], IfOk, IfErr, OnOk, OnErr, ◌⊎◌, false};
+ghost use Rattle.std.specs.Prelude.{◌≡◌, [], IfOk, IfErr, OnOk, OnErr, false};
 ghost use Rattle.std.specs.Fn.{FnOnceTakesAtMut};
 ghost use Rattle.rasn_types.specs.Bytes.{Bytes};
-ghost use Rattle.rasn_types.specs.Errors.{IsEncodeOutOfMemory};
 ghost use Rattle.rasn_types.specs.declared.types.codec.Codec.TheVariants.{Ber};
-ghost use Rattle.rasn.specs.Headline.{Answered, AnsweredFirst, ScopeRefuses};
+ghost use Rattle.rasn.specs.Headline.{Answered, AnsweredFirst, ScopeRefuses, EncodingFails};
 ghost use Rattle.rasn_enc.specs.View.{started};
-ghost use Rattle.rasn_enc.specs.Encoding.{NoEncoding};
 ghost use Rattle.rasn_enc.specs.Closures.{OnlyAppends, WritesOutput};
 
 use crate::entry;
@@ -42,7 +40,7 @@ pub fn decode_with_remainder<T: Decode>(
 /// The value's octets. Fails if an allocation fails or the value has no encoding under these rules.
 pub fn encode<T: Encode>(alloc: Global, value: &T) -> Result<Vec<u8>, EncodeError>
     ensures ok { IfOk result (λ octets. Bytes Ber T.shape (T.tree value.now) octets.items) }
-    ensures fails { IfErr result (λ error. IsEncodeOutOfMemory error.kind ⊎ NoEncoding Ber T.shape (T.tree value.now)) }
+    ensures fails { IfErr result (EncodingFails Ber T.shape (T.tree value.now)) }
 {
     entry::encode(alloc, value, EncoderOptions::ber())
 }
@@ -56,7 +54,7 @@ pub fn encode_buf<T: Encode>(
 ) -> Result<(), EncodeError>
     ensures ok { OnOk result (Bytes Ber T.shape (T.tree value.now) buffer.new.items) }
     ensures emptied { OnErr result (buffer.new.items ≡ []) }
-    ensures fails { IfErr result (λ error. IsEncodeOutOfMemory error.kind ⊎ NoEncoding Ber T.shape (T.tree value.now)) }
+    ensures fails { IfErr result (EncodingFails Ber T.shape (T.tree value.now)) }
 {
     entry::encode_buf(alloc, value, buffer, EncoderOptions::ber())
 }

@@ -1,10 +1,8 @@
 //! Canonical encoding rules (X.690 9, 11): reading and writing one value.
-ghost use Rattle.std.specs.Prelude.{◌≡◌, [], IfOk, IfErr, OnOk, OnErr, ◌⊎◌};
+ghost use Rattle.std.specs.Prelude.{◌≡◌, [], IfOk, IfErr, OnOk, OnErr};
 ghost use Rattle.rasn_types.specs.Bytes.{Bytes};
-ghost use Rattle.rasn_types.specs.Errors.{IsEncodeOutOfMemory};
 ghost use Rattle.rasn_types.specs.declared.types.codec.Codec.TheVariants.{Cer};
-ghost use Rattle.rasn.specs.Headline.{Answered, AnsweredFirst};
-ghost use Rattle.rasn_enc.specs.Encoding.{NoEncoding};
+ghost use Rattle.rasn.specs.Headline.{Answered, AnsweredFirst, EncodingFails};
 
 pub use crate::ber::{Identifier, de, enc};
 use crate::entry;
@@ -37,7 +35,7 @@ pub fn decode_with_remainder<T: Decode>(
 /// The value's octets. Fails if an allocation fails or the value has no encoding under these rules.
 pub fn encode<T: Encode>(alloc: Global, value: &T) -> Result<Vec<u8>, EncodeError>
     ensures ok { IfOk result (λ octets. Bytes Cer T.shape (T.tree value.now) octets.items) }
-    ensures fails { IfErr result (λ error. IsEncodeOutOfMemory error.kind ⊎ NoEncoding Cer T.shape (T.tree value.now)) }
+    ensures fails { IfErr result (EncodingFails Cer T.shape (T.tree value.now)) }
 {
     entry::encode(alloc, value, EncoderOptions::cer())
 }
@@ -51,7 +49,7 @@ pub fn encode_buf<T: Encode>(
 ) -> Result<(), EncodeError>
     ensures ok { OnOk result (Bytes Cer T.shape (T.tree value.now) buffer.new.items) }
     ensures emptied { OnErr result (buffer.new.items ≡ []) }
-    ensures fails { IfErr result (λ error. IsEncodeOutOfMemory error.kind ⊎ NoEncoding Cer T.shape (T.tree value.now)) }
+    ensures fails { IfErr result (EncodingFails Cer T.shape (T.tree value.now)) }
 {
     entry::encode_buf(alloc, value, buffer, EncoderOptions::cer())
 }

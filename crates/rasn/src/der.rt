@@ -1,14 +1,12 @@
 //! Distinguished encoding rules (X.690 10, 11): reading and writing one value.
-ghost use Rattle.std.specs.Prelude.{◌≡◌, [], IfOk, IfErr, OnOk, OnErr, ◌⊎◌, false};
+ghost use Rattle.std.specs.Prelude.{◌≡◌, [], IfOk, IfErr, OnOk, OnErr, false};
 ghost use Rattle.std.specs.Fn.{FnOnceTakesAtMut};
 ghost use Rattle.rasn_types.specs.Bytes.{Bytes};
-ghost use Rattle.rasn_types.specs.Errors.{IsEncodeOutOfMemory};
 ghost use Rattle.rasn_types.specs.Truth.{IsWhether};
 ghost use Rattle.rasn_types.specs.declared.types.codec.Codec.TheVariants.{Der};
-ghost use Rattle.rasn.specs.Headline.{Answered, AnsweredAlone, Identify, ConsumesWritten, IsAsWritten, ScopeRefuses};
+ghost use Rattle.rasn.specs.Headline.{Answered, AnsweredAlone, Identify, ConsumesWritten, IsAsWritten, ScopeRefuses, EncodingFails};
 ghost use Rattle.rasn.specs.Normal.{IsNormal};
 ghost use Rattle.rasn_enc.specs.View.{started};
-ghost use Rattle.rasn_enc.specs.Encoding.{NoEncoding};
 ghost use Rattle.rasn_enc.specs.Closures.{OnlyAppends, WritesOutput};
 
 pub use crate::ber::{Identifier, de, enc};
@@ -58,7 +56,7 @@ pub fn decode_with_remainder<T: Decode>(
 pub fn encode<T: Encode>(alloc: Global, value: &T) -> Result<Vec<u8>, EncodeError>
     ensures ok { IfOk result (λ octets. Bytes Der T.shape (T.tree value.now) octets.items) }
     ensures canonical { IfOk result (λ octets. Identify T.shape (T.tree value.now) octets.items) }
-    ensures fails { IfErr result (λ error. IsEncodeOutOfMemory error.kind ⊎ NoEncoding Der T.shape (T.tree value.now)) }
+    ensures fails { IfErr result (EncodingFails Der T.shape (T.tree value.now)) }
 {
     entry::encode(alloc, value, EncoderOptions::der())
 }
@@ -73,7 +71,7 @@ pub fn encode_buf<T: Encode>(
     ensures ok { OnOk result (Bytes Der T.shape (T.tree value.now) buffer.new.items) }
     ensures canonical { OnOk result (Identify T.shape (T.tree value.now) buffer.new.items) }
     ensures emptied { OnErr result (buffer.new.items ≡ []) }
-    ensures fails { IfErr result (λ error. IsEncodeOutOfMemory error.kind ⊎ NoEncoding Der T.shape (T.tree value.now)) }
+    ensures fails { IfErr result (EncodingFails Der T.shape (T.tree value.now)) }
 {
     entry::encode_buf(alloc, value, buffer, EncoderOptions::der())
 }

@@ -1,11 +1,9 @@
 //! What the three rules' entry points share.
-ghost use Rattle.std.specs.Prelude.{◌≡◌, [], IfOk, IfErr, OnOk, OnErr, ◌⊎◌, false};
+ghost use Rattle.std.specs.Prelude.{◌≡◌, [], IfOk, IfErr, OnOk, OnErr, false};
 ghost use Rattle.std.specs.Fn.{FnOnceTakesAtMut, FnOnceReturnsAtMut};
 ghost use Rattle.rasn_types.specs.Bytes.{Bytes};
-ghost use Rattle.rasn_types.specs.Errors.{IsEncodeOutOfMemory};
-ghost use Rattle.rasn.specs.Headline.{Answered, ScopeRefuses};
+ghost use Rattle.rasn.specs.Headline.{Answered, ScopeRefuses, EncodingFails};
 ghost use Rattle.rasn_enc.specs.View.{started};
-ghost use Rattle.rasn_enc.specs.Encoding.{NoEncoding};
 ghost use Rattle.rasn_enc.specs.Closures.{OnlyAppends, WritesOutput};
 
 use rasn_de::ber::de::{Decoder, DecoderOptions};
@@ -36,7 +34,7 @@ pub(crate) fn encode<T: Encode>(
     options: EncoderOptions,
 ) -> Result<Vec<u8>, EncodeError>
     ensures ok { IfOk result (λ octets. Bytes options T.shape (T.tree value.now) octets.items) }
-    ensures fails { IfErr result (λ error. IsEncodeOutOfMemory error.kind ⊎ NoEncoding options T.shape (T.tree value.now)) }
+    ensures fails { IfErr result (EncodingFails options T.shape (T.tree value.now)) }
 {
     encode_over(alloc, value, Vec::new(alloc), options)
 }
@@ -49,7 +47,7 @@ fn encode_over<T: Encode>(
     options: EncoderOptions,
 ) -> Result<Vec<u8>, EncodeError>
     ensures ok { IfOk result (λ octets. Bytes options T.shape (T.tree value.now) octets.items) }
-    ensures fails { IfErr result (λ error. IsEncodeOutOfMemory error.kind ⊎ NoEncoding options T.shape (T.tree value.now)) }
+    ensures fails { IfErr result (EncodingFails options T.shape (T.tree value.now)) }
 {
     let mut encoder = Encoder::new_with_buffer(alloc, options, buffer)?;
     value.encode(&mut encoder)?;
@@ -65,7 +63,7 @@ pub(crate) fn encode_buf<T: Encode>(
 ) -> Result<(), EncodeError>
     ensures ok { OnOk result (Bytes options T.shape (T.tree value.now) buffer.new.items) }
     ensures emptied { OnErr result (buffer.new.items ≡ []) }
-    ensures fails { IfErr result (λ error. IsEncodeOutOfMemory error.kind ⊎ NoEncoding options T.shape (T.tree value.now)) }
+    ensures fails { IfErr result (EncodingFails options T.shape (T.tree value.now)) }
 {
     let held = mem::replace(buffer, Vec::new(alloc));
     *buffer = encode_over(alloc, value, held, options)?;

@@ -1,12 +1,10 @@
 //! Values of a known type in an open type (X.680 14, X.690 8.15).
-ghost use Rattle.std.specs.Prelude.{◌⊎◌, IfOk, IfErr, MatchResult};
+ghost use Rattle.std.specs.Prelude.{IfOk, IfErr, MatchResult};
 ghost use Rattle.rasn_types.specs.declared.types.tag.Tag.{Tag};
 ghost use Rattle.rasn_types.specs.Tags.{form};
 ghost use Rattle.rasn_types.specs.Framing.{NextTag};
 ghost use Rattle.rasn_types.specs.Bytes.{Bytes};
-ghost use Rattle.rasn_types.specs.Errors.{IsEncodeOutOfMemory};
-ghost use Rattle.rasn.specs.Headline.{AnsweredAlone};
-ghost use Rattle.rasn_enc.specs.Encoding.{NoEncoding};
+ghost use Rattle.rasn.specs.Headline.{AnsweredAlone, EncodingFails};
 
 use crate::entry;
 use rasn_de::ber::de::{Decoder, DecoderOptions};
@@ -23,7 +21,7 @@ use std::alloc::Global;
 /// As `ber::encode`, `cer::encode` and `der::encode`.
 pub fn encode_any<T: Encode>(alloc: Global, rules: Codec, value: &T) -> Result<Any, EncodeError>
     ensures ok { IfOk result (λ any. Bytes rules T.shape (T.tree value.now) any) }
-    ensures fails { IfErr result (λ error. IsEncodeOutOfMemory error.kind ⊎ NoEncoding rules T.shape (T.tree value.now)) }
+    ensures fails { IfErr result (EncodingFails rules T.shape (T.tree value.now)) }
 {
     let octets = entry::encode(alloc, value, EncoderOptions::of(rules))?;
     Ok(Any::new(octets))

@@ -31,6 +31,10 @@ previous_day d = if nat_lt 1 d.day then record d { day = d.day - 1 }
     else if nat_lt 1 d.month then record { year = d.year; month = d.month - 1; day = days_of_month d.year (d.month - 1) }
     else record { year = d.year -ℤ pos 1; month = 12; day = 31 }
 
+-- An offset from UTC in minutes: less than a day.
+abbrev pub IsOffset : ℤ → Type 0
+IsOffset m = (negsuc 1438 ≤ℤ m) × (m ≤ℤ pos 1439)
+
 -- An instant, by its fields in UTC. From 1000000000 nanoseconds on it lies in a leap second.
 pub record Moment : Type 0 where
   pub day : Day

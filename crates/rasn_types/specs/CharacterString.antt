@@ -1,5 +1,6 @@
 -- Which octets the restricted character string types admit, and the characters that they mean (X.680 41).
-use Rattle.std.specs.Prelude.{◌≡◌, ℕ, ◌+◌, ◌*◌, ◌<◌, ◌≤◌, ◌⊎◌, ◌%◌, List, [], ◌∷◌, length, All, Contains}
+use Rattle.std.specs.Prelude.{◌≡◌, ℕ, ◌+◌, ◌*◌, ◌<◌, ◌≤◌, ◌⊎◌, ◌%◌, List, [], ◌∷◌, length, All, Contains, slice_index}
+use Rattle.std.specs.List.{AllWithin}
 use Rattle.std.proofs.Common.{inl, inr, arith, rules}
 use Rattle.std.proofs.lemmas.List.Elements.{All-from_recursion}
 use Rattle.rasn_types.specs.declared.types.strings.alphabet.Alphabet.{Alphabet}
@@ -26,6 +27,10 @@ IsAdmitted Every c = Unit {0}
 
 abbrev pub AreAdmitted : Alphabet → List ℕ → Type 0
 AreAdmitted a l = All (IsAdmitted a) l
+
+-- The first octet that isn't admitted stands at this place.
+abbrev pub IsFirstForeign : Alphabet → List ℕ → ℕ → Type 0
+IsFirstForeign a octets place = (place < length octets) × AllWithin (IsAdmitted a) octets 0 place × (IsAdmitted a (slice_index octets place) → ⊥)
 
 -- Only ASCII is admitted.
 abbrev pub IsWithinAscii : Alphabet → Type 0

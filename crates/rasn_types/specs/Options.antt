@@ -9,3 +9,8 @@ IsSomeExactlyIf (Some x) P v = P × (x ≡ v)
 abbrev pub IsSomeRelated : {X : Type 0} → Option X → (X → Type 0) → Type 0
 IsSomeRelated None R = (x : _) → R x → ⊥
 IsSomeRelated (Some x) R = R x
+
+-- A value that stands for v where P holds, and none elsewhere.
+abbrev pub IsSomeMeaningExactlyIf : {X Y : Type 0} → (X → Y) → Option X → Type 0 → Y → Type 0
+IsSomeMeaningExactlyIf f None P v = P → ⊥
+IsSomeMeaningExactlyIf f (Some x) P v = (f x ≡ v) × P

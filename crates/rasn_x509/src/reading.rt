@@ -1,12 +1,10 @@
 //! Certificates as a whole: what is read and written, with no premise but memory.
-ghost use Rattle.std.specs.Prelude.{◌≡◌, ◌⊎◌, true, IfOk, IfErr};
+ghost use Rattle.std.specs.Prelude.{◌≡◌, true, IfOk, IfErr};
 ghost use Rattle.rasn_types.specs.declared.types.codec.Codec.TheVariants.{Der};
 ghost use Rattle.rasn_types.specs.Bytes.{Bytes};
-ghost use Rattle.rasn_types.specs.Errors.{IsEncodeOutOfMemory};
 ghost use Rattle.rasn_types.specs.Lawful.{IsLawful};
 ghost use Rattle.rasn.specs.Carries.{carries_all};
-ghost use Rattle.rasn.specs.Headline.{AnsweredAlone, IsCarriedAsWritten, Identifies};
-ghost use Rattle.rasn_enc.specs.Encoding.{NoEncoding};
+ghost use Rattle.rasn.specs.Headline.{AnsweredAlone, IsCarriedAsWritten, Identifies, EncodingFails};
 ghost use Rattle.rasn_x509.specs.Signed.{certificate_shape, certificate_tree};
 
 use crate::Certificate;
@@ -40,7 +38,7 @@ pub fn read_certificate(alloc: Global, input: &[u8]) -> Result<Certificate, Deco
 pub fn write_certificate(alloc: Global, certificate: &Certificate) -> Result<Vec<u8>, EncodeError>
     ensures ok { IfOk result (λ octets. Bytes Der certificate_shape (certificate_tree certificate.now) octets.items) }
     ensures canonical { IfOk result (λ octets. Identifies certificate_shape (certificate_tree certificate.now) octets.items) }
-    ensures fails { IfErr result (λ error. IsEncodeOutOfMemory error.kind ⊎ NoEncoding Der certificate_shape (certificate_tree certificate.now)) }
+    ensures fails { IfErr result (EncodingFails Der certificate_shape (certificate_tree certificate.now)) }
 {
     der::encode(alloc, certificate)
 }

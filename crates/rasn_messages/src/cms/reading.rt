@@ -1,12 +1,10 @@
 //! Messages of signed data as a whole: what is read and written, with no premise but memory.
-ghost use Rattle.std.specs.Prelude.{◌≡◌, ◌⊎◌, true, IfOk, IfErr};
+ghost use Rattle.std.specs.Prelude.{◌≡◌, true, IfOk, IfErr};
 ghost use Rattle.rasn_types.specs.declared.types.codec.Codec.TheVariants.{Ber, Der};
 ghost use Rattle.rasn_types.specs.Bytes.{Bytes};
-ghost use Rattle.rasn_types.specs.Errors.{IsEncodeOutOfMemory};
 ghost use Rattle.rasn_types.specs.Lawful.{IsLawful};
 ghost use Rattle.rasn.specs.Carries.{carries_all};
-ghost use Rattle.rasn.specs.Headline.{Answered, AnsweredAlone, IsCarriedAsWritten, Identifies};
-ghost use Rattle.rasn_enc.specs.Encoding.{NoEncoding};
+ghost use Rattle.rasn.specs.Headline.{Answered, AnsweredAlone, IsCarriedAsWritten, Identifies, EncodingFails};
 ghost use Rattle.rasn_messages.specs.Cms.Message.{signed_message_shape, signed_message_tree};
 
 use crate::cms::SignedMessage;
@@ -54,7 +52,7 @@ pub fn read_streamed_message(
 pub fn write_signed_message(alloc: Global, message: &SignedMessage) -> Result<Vec<u8>, EncodeError>
     ensures ok { IfOk result (λ octets. Bytes Der signed_message_shape (signed_message_tree message.now) octets.items) }
     ensures canonical { IfOk result (λ octets. Identifies signed_message_shape (signed_message_tree message.now) octets.items) }
-    ensures fails { IfErr result (λ error. IsEncodeOutOfMemory error.kind ⊎ NoEncoding Der signed_message_shape (signed_message_tree message.now)) }
+    ensures fails { IfErr result (EncodingFails Der signed_message_shape (signed_message_tree message.now)) }
 {
     der::encode(alloc, message)
 }

@@ -1,12 +1,10 @@
 //! Certification requests as a whole: what is read and written, with no premise but memory.
-ghost use Rattle.std.specs.Prelude.{◌≡◌, ◌⊎◌, true, IfOk, IfErr};
+ghost use Rattle.std.specs.Prelude.{◌≡◌, true, IfOk, IfErr};
 ghost use Rattle.rasn_types.specs.declared.types.codec.Codec.TheVariants.{Der};
 ghost use Rattle.rasn_types.specs.Bytes.{Bytes};
-ghost use Rattle.rasn_types.specs.Errors.{IsEncodeOutOfMemory};
 ghost use Rattle.rasn_types.specs.Lawful.{IsLawful};
 ghost use Rattle.rasn.specs.Carries.{carries_all};
-ghost use Rattle.rasn.specs.Headline.{AnsweredAlone, IsCarriedAsWritten, Identifies};
-ghost use Rattle.rasn_enc.specs.Encoding.{NoEncoding};
+ghost use Rattle.rasn.specs.Headline.{AnsweredAlone, IsCarriedAsWritten, Identifies, EncodingFails};
 ghost use Rattle.rasn_messages.specs.Pkcs10.Request.{request_shape, request_tree};
 
 use crate::pkcs10::CertificationRequest;
@@ -40,7 +38,7 @@ pub fn read_request(alloc: Global, input: &[u8]) -> Result<CertificationRequest,
 pub fn write_request(alloc: Global, request: &CertificationRequest) -> Result<Vec<u8>, EncodeError>
     ensures ok { IfOk result (λ octets. Bytes Der request_shape (request_tree request.now) octets.items) }
     ensures canonical { IfOk result (λ octets. Identifies request_shape (request_tree request.now) octets.items) }
-    ensures fails { IfErr result (λ error. IsEncodeOutOfMemory error.kind ⊎ NoEncoding Der request_shape (request_tree request.now)) }
+    ensures fails { IfErr result (EncodingFails Der request_shape (request_tree request.now)) }
 {
     der::encode(alloc, request)
 }

@@ -1,6 +1,6 @@
 //! GeneralizedTime: instants with an offset.
-ghost use Rattle.std.specs.Prelude.{◌≡◌, ◌≤ℤ◌, pos, negsuc};
-ghost use Rattle.rasn_types.specs.Calendar.{Before};
+ghost use Rattle.std.specs.Prelude.{◌≡◌};
+ghost use Rattle.rasn_types.specs.Calendar.{Before, IsOffset};
 ghost use Rattle.rasn_types.specs.Options.{IsSomeExactlyIf};
 ghost use Rattle.rasn_types.specs.Truth.{IsWhether};
 
@@ -16,14 +16,13 @@ pub struct GeneralizedTime {
 }
 
 impl Model for GeneralizedTime {
-    ghost use Rattle.std.specs.Prelude.{◌≤ℤ◌, pos, negsuc};
-    ghost use Rattle.rasn_types.specs.Calendar.{Stamp};
+    ghost use Rattle.rasn_types.specs.Calendar.{IsOffset, Stamp};
 
     ghost Value = { Stamp };
 
     ghost view = { λ a. record { moment = a.utc; offset = a.offset_minutes } };
 
-    ghost invariant = { λ a. (negsuc 1438 ≤ℤ a.offset_minutes) × (a.offset_minutes ≤ℤ pos 1439) };
+    ghost invariant = { λ a. IsOffset a.offset_minutes };
 
     ghost inverse = { λ s. record { utc = s.moment; offset_minutes = s.offset } };
 }
@@ -31,7 +30,7 @@ impl Model for GeneralizedTime {
 impl GeneralizedTime {
     /// The instant with an offset, where that is below a day.
     pub fn new(utc: UtcTime, offset_minutes: i16) -> Option<GeneralizedTime>
-        ensures { IsSomeExactlyIf result ((negsuc 1438 ≤ℤ offset_minutes) × (offset_minutes ≤ℤ pos 1439)) (record { moment = utc; offset = offset_minutes }) }
+        ensures { IsSomeExactlyIf result (IsOffset offset_minutes) (record { moment = utc; offset = offset_minutes }) }
     {
         if -1440 < offset_minutes && offset_minutes < 1440 {
             Some(GeneralizedTime {

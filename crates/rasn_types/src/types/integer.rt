@@ -1,6 +1,7 @@
 //! INTEGER: whole numbers of a fixed width, and of any length.
-ghost use Rattle.std.specs.Prelude.{◌≡◌, ◌++◌, ◌<◌, length, true, IfOk, IfErr, OnOk, OnErr, List, ℕ, MatchOption};
+ghost use Rattle.std.specs.Prelude.{◌≡◌, ◌++◌, ◌<◌, length, true, IfOk, IfErr, OnOk, OnErr, List, ℕ};
 ghost use Rattle.rasn_types.specs.Contents.{signed};
+ghost use Rattle.rasn_types.specs.Options.{IsSomeMeaningExactlyIf};
 ghost use Rattle.rasn_types.specs.Shapes.{IsIn};
 ghost use Rattle.rasn_types.specs.Trees.{IsShortestOf};
 
@@ -33,7 +34,7 @@ pub trait IntegerType: Drop {
     /// The number that octets in two's complement stand for, where the type has it.
     fn from_octets(alloc: Global, octets: &[u8]) -> Result<Option<Self>, AllocError>
         requires { 0 < length octets.now }
-        ensures ok { IfOk result (λ v. MatchOption v (IsIn range (signed octets.now) → ⊥) (λ n. (number n ≡ signed octets.now) × IsIn range (signed octets.now))) }
+        ensures ok { IfOk result (λ v. IsSomeMeaningExactlyIf number v (IsIn range (signed octets.now)) (signed octets.now)) }
         ensures memory { IfErr result (λ _. grows ≡ true) };
 
     /// Puts the number, which the type has, behind the octets, in two's complement and in the fewest octets.

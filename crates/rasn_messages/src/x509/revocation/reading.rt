@@ -1,12 +1,10 @@
 //! Revocation lists as a whole: what is read and written, with no premise but memory.
-ghost use Rattle.std.specs.Prelude.{◌≡◌, ◌⊎◌, true, IfOk, IfErr};
+ghost use Rattle.std.specs.Prelude.{◌≡◌, true, IfOk, IfErr};
 ghost use Rattle.rasn_types.specs.declared.types.codec.Codec.TheVariants.{Der};
 ghost use Rattle.rasn_types.specs.Bytes.{Bytes};
-ghost use Rattle.rasn_types.specs.Errors.{IsEncodeOutOfMemory};
 ghost use Rattle.rasn_types.specs.Lawful.{IsLawful};
 ghost use Rattle.rasn.specs.Carries.{carries_all};
-ghost use Rattle.rasn.specs.Headline.{AnsweredAlone, IsCarriedAsWritten, Identifies};
-ghost use Rattle.rasn_enc.specs.Encoding.{NoEncoding};
+ghost use Rattle.rasn.specs.Headline.{AnsweredAlone, IsCarriedAsWritten, Identifies, EncodingFails};
 ghost use Rattle.rasn_messages.specs.X509.Revocation.Signed.{certificate_list_shape, certificate_list_tree};
 
 use crate::x509::revocation::CertificateList;
@@ -43,7 +41,7 @@ pub fn write_revocation_list(
 ) -> Result<Vec<u8>, EncodeError>
     ensures ok { IfOk result (λ octets. Bytes Der certificate_list_shape (certificate_list_tree revocation_list.now) octets.items) }
     ensures canonical { IfOk result (λ octets. Identifies certificate_list_shape (certificate_list_tree revocation_list.now) octets.items) }
-    ensures fails { IfErr result (λ error. IsEncodeOutOfMemory error.kind ⊎ NoEncoding Der certificate_list_shape (certificate_list_tree revocation_list.now)) }
+    ensures fails { IfErr result (EncodingFails Der certificate_list_shape (certificate_list_tree revocation_list.now)) }
 {
     der::encode(alloc, revocation_list)
 }

@@ -1,8 +1,7 @@
 //! The octets that a string type admits.
-ghost use Rattle.std.specs.Prelude.{◌<◌, length, slice_index, Contains, MatchOption};
-ghost use Rattle.std.specs.List.{AllWithin};
+ghost use Rattle.std.specs.Prelude.{◌<◌, Contains, MatchOption};
 ghost use Rattle.rasn_types.specs.Truth.{IsWhether};
-ghost use Rattle.rasn_types.specs.CharacterString.{IsAdmitted, AreAdmitted, printable_marks};
+ghost use Rattle.rasn_types.specs.CharacterString.{IsAdmitted, AreAdmitted, IsFirstForeign, printable_marks};
 ghost use Rattle.rasn_types.specs.declared.types.strings.alphabet.Alphabet.TheVariants.{Numeric, Printable};
 
 /// The octets that a string type admits, each being one character (X.680 41).
@@ -36,7 +35,7 @@ impl Alphabet {
 
     /// The place of the first octet that it doesn't have, counted from 0.
     pub fn first_foreign(self, octets: &[u8]) -> Option<usize>
-        ensures { MatchOption result (AreAdmitted self octets.now) (λ k. (k < length octets.now) × AllWithin (IsAdmitted self) octets.now 0 k × (IsAdmitted self (slice_index octets.now k) → ⊥)) }
+        ensures { MatchOption result (AreAdmitted self octets.now) (IsFirstForeign self octets.now) }
     {
         for (position, octet) in octets.iter().enumerate() {
             if !self.admits(*octet) {

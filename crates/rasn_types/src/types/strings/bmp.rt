@@ -1,9 +1,10 @@
 //! BMPString.
-ghost use Rattle.std.specs.Prelude.{◌≡◌, nat_eq, IfOk, MatchOption};
+ghost use Rattle.std.specs.Prelude.{◌≡◌, nat_eq, IfOk};
 ghost use Rattle.std.specs.Cmp.Lexicographic.{pointwise, slice_cmp};
 ghost use Rattle.rasn_types.specs.CharacterString.{ArePaired, units_of};
 ghost use Rattle.std.specs.Ordering.{nat_cmp};
 ghost use Rattle.rasn_types.specs.Framing.{AreOctets};
+ghost use Rattle.rasn_types.specs.Options.{IsSomeExactlyIf};
 
 use crate::types::{AsnType, Constraints, Tag, TryClone};
 use std::alloc::{AllocError, Global};
@@ -37,7 +38,7 @@ impl BmpString {
     /// # Errors
     /// Running out of memory.
     pub fn from_octets(alloc: Global, octets: &[u8]) -> Result<Option<BmpString>, AllocError>
-        ensures { IfOk result (λ v. MatchOption v (ArePaired octets.now → ⊥) (λ s. ArePaired octets.now × (s ≡ octets.now))) }
+        ensures { IfOk result (λ v. IsSomeExactlyIf v (ArePaired octets.now) octets.now) }
     {
         if octets.len() % 2 != 0 {
             return Ok(None);

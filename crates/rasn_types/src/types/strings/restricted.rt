@@ -1,6 +1,7 @@
 //! String types whose octets are single characters.
-ghost use Rattle.std.specs.Prelude.{◌≡◌, IfOk, MatchOption, Option};
+ghost use Rattle.std.specs.Prelude.{◌≡◌, IfOk, Option};
 ghost use Rattle.rasn_types.specs.CharacterString.{AreAdmitted, string_kind};
+ghost use Rattle.rasn_types.specs.Options.{IsSomeExactlyIf};
 
 use crate::types::{Alphabet, AsnType, Constraints, Tag, TryClone};
 use std::alloc::{AllocError, Global};
@@ -62,7 +63,7 @@ impl<S: StringType> RestrictedString<S> {
         alloc: Global,
         octets: &[u8],
     ) -> Result<Option<RestrictedString<S>>, AllocError>
-        ensures { IfOk result (λ v. MatchOption v (AreAdmitted S.ALPHABET octets.now → ⊥) (λ s. AreAdmitted S.ALPHABET octets.now × (s ≡ octets.now))) }
+        ensures { IfOk result (λ v. IsSomeExactlyIf v (AreAdmitted S.ALPHABET octets.now) octets.now) }
     {
         if S::ALPHABET.first_foreign(octets).is_some() {
             return Ok(None);
