@@ -19,6 +19,7 @@ use rasn_types::error::{DecodeError, EncodeError};
 use std::alloc::Global;
 
 /// The value that begins the input. What follows it is ignored.
+#[inline(always)]
 pub fn decode<T: Decode>(alloc: Global, input: &[u8]) -> Result<T, DecodeError>
     ensures { AnsweredFirst Ber T.shape T.tree input.now result }
 {
@@ -28,6 +29,7 @@ pub fn decode<T: Decode>(alloc: Global, input: &[u8]) -> Result<T, DecodeError>
 
 /// The value that begins the input, and what follows it: exactly where the grammar relates the input to them. A refusal for
 /// another cause than memory means that no value begins the input.
+#[inline(always)]
 pub fn decode_with_remainder<T: Decode>(
     alloc: Global,
     input: &[u8],

@@ -23,6 +23,7 @@ use std::alloc::{AllocError, Global};
 ///
 /// # Errors
 /// `UnexpectedExtraData` where octets follow the value, with their number (X.690 8.1.1.1).
+#[inline(always)]
 pub fn decode<T: Decode>(alloc: Global, input: &[u8]) -> Result<T, DecodeError>
     ensures exact { AnsweredAlone Der T.shape T.tree input.now result }
     ensures written { IsAsWritten T.shape T.tree input.now result }
@@ -41,6 +42,7 @@ pub fn decode<T: Decode>(alloc: Global, input: &[u8]) -> Result<T, DecodeError>
 /// The value that begins the input, and what follows it: exactly where the grammar relates the input to them. A refusal for
 /// another cause than memory means that no value begins the input. The octets in front of the rest are, for a carried value, exactly
 /// those that `encode` writes of it: there is one encoding, and no other is read (X.690 10, 11).
+#[inline(always)]
 pub fn decode_with_remainder<T: Decode>(
     alloc: Global,
     input: &[u8],

@@ -15,6 +15,7 @@ use std::alloc::Global;
 use std::mem;
 
 /// The value that begins the input, and what follows it.
+#[inline(always)]
 pub(crate) fn decode_with_remainder<T: Decode>(
     alloc: Global,
     input: &[u8],

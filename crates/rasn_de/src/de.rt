@@ -29,6 +29,7 @@ pub trait Decode: AsnType {
     ///
     /// # Errors
     /// As `decode_with_tag_and_constraints`.
+    #[inline(always)]
     fn decode(decoder: &mut Decoder<'_>) -> Result<Self, DecodeError>
         ensures { Decodes Self.shape Self.tree decoder.old result decoder.new }
     {

@@ -36,6 +36,7 @@ impl<'input> Decoder<'input> {
     /// # Errors
     /// Framing faults. With the value consumed: `MismatchedLength` where the contents aren't one octet, and under CER and DER `InvalidBool`
     /// of another octet than `00` and `FF`.
+    #[inline(always)]
     pub fn decode_bool(&mut self, tag: Tag) -> Result<bool, DecodeError>
         ensures reads { Decodes (leaf boolean tag unconstrained) bool_tree self.old result self.new }
         ensures exact { DecodesLeaf (λ b. b) (BoolAt self.old.rule tag self.old.rest) self.old result self.new }
@@ -52,6 +53,7 @@ impl<'input> Decoder<'input> {
 
 impl Decode for bool {
     #[tactic(auto, unfolding(rasn_types::specs::Grammar::Reads))]
+    #[inline(always)]
     fn decode_with_tag_and_constraints(
         decoder: &mut Decoder<'_>,
         tag: Tag,

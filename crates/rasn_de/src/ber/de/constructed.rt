@@ -81,6 +81,7 @@ fn is_indefinite(contents: Contents<'_>) -> bool
 impl<'input> Decoder<'input> {
     /// Takes such a header. Answers a decoder of the contents, and these, which are passed; or of what follows the header, where the
     /// length is indefinite.
+    #[inline(always)]
     fn open(
         &mut self,
         header: ConstructedHeader,
@@ -108,6 +109,7 @@ impl<'input> Decoder<'input> {
     }
 
     /// Passes the end of a value inside which `left` is left.
+    #[inline(always)]
     fn close(&mut self, contents: Contents<'input>, left: &'input [u8]) -> Result<(), DecodeError>
         requires { extent contents ≡ indefinite → IsEnd self.old.rest left.now }
         ensures { ConsumesEnd (extent contents.entry) left.now self.old result self.new }
@@ -134,6 +136,7 @@ impl<'input> Decoder<'input> {
     }
 
     /// Reads inside a value with such a header. `f` has to read all of its contents.
+    #[inline(always)]
     pub(super) fn inside<D: Drop, F: FnOnce(&mut Decoder<'_>) -> Result<D, DecodeError>>(
         &mut self,
         header: ConstructedHeader,

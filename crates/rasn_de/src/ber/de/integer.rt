@@ -32,6 +32,7 @@ impl<'input> Decoder<'input> {
     /// # Errors
     /// Framing faults. With the value consumed: `UnexpectedEmptyInput`, under DER `NonMinimalInteger`, `IntegerOverflow`, then
     /// `ValueConstraintNotSatisfied`.
+    #[inline(always)]
     pub fn decode_integer<I: IntegerType>(
         &mut self,
         tag: Tag,
@@ -81,6 +82,7 @@ impl<'input> Decoder<'input> {
 }
 
 impl Decode for i8 {
+    #[inline(always)]
     fn decode_with_tag_and_constraints(
         decoder: &mut Decoder<'_>,
         tag: Tag,
@@ -91,6 +93,7 @@ impl Decode for i8 {
 }
 
 impl Decode for i16 {
+    #[inline(always)]
     fn decode_with_tag_and_constraints(
         decoder: &mut Decoder<'_>,
         tag: Tag,
@@ -101,6 +104,7 @@ impl Decode for i16 {
 }
 
 impl Decode for i32 {
+    #[inline(always)]
     fn decode_with_tag_and_constraints(
         decoder: &mut Decoder<'_>,
         tag: Tag,
@@ -111,6 +115,7 @@ impl Decode for i32 {
 }
 
 impl Decode for i64 {
+    #[inline(always)]
     fn decode_with_tag_and_constraints(
         decoder: &mut Decoder<'_>,
         tag: Tag,
@@ -121,6 +126,7 @@ impl Decode for i64 {
 }
 
 impl Decode for i128 {
+    #[inline(always)]
     fn decode_with_tag_and_constraints(
         decoder: &mut Decoder<'_>,
         tag: Tag,
@@ -131,6 +137,7 @@ impl Decode for i128 {
 }
 
 impl Decode for isize {
+    #[inline(always)]
     fn decode_with_tag_and_constraints(
         decoder: &mut Decoder<'_>,
         tag: Tag,
@@ -141,6 +148,7 @@ impl Decode for isize {
 }
 
 impl Decode for u8 {
+    #[inline(always)]
     fn decode_with_tag_and_constraints(
         decoder: &mut Decoder<'_>,
         tag: Tag,
@@ -151,6 +159,7 @@ impl Decode for u8 {
 }
 
 impl Decode for u16 {
+    #[inline(always)]
     fn decode_with_tag_and_constraints(
         decoder: &mut Decoder<'_>,
         tag: Tag,
@@ -161,6 +170,7 @@ impl Decode for u16 {
 }
 
 impl Decode for u32 {
+    #[inline(always)]
     fn decode_with_tag_and_constraints(
         decoder: &mut Decoder<'_>,
         tag: Tag,
@@ -171,6 +181,7 @@ impl Decode for u32 {
 }
 
 impl Decode for u64 {
+    #[inline(always)]
     fn decode_with_tag_and_constraints(
         decoder: &mut Decoder<'_>,
         tag: Tag,
@@ -181,6 +192,7 @@ impl Decode for u64 {
 }
 
 impl Decode for u128 {
+    #[inline(always)]
     fn decode_with_tag_and_constraints(
         decoder: &mut Decoder<'_>,
         tag: Tag,
@@ -191,6 +203,7 @@ impl Decode for u128 {
 }
 
 impl Decode for usize {
+    #[inline(always)]
     fn decode_with_tag_and_constraints(
         decoder: &mut Decoder<'_>,
         tag: Tag,
@@ -201,6 +214,7 @@ impl Decode for usize {
 }
 
 impl Decode for Integer {
+    #[inline(always)]
     fn decode_with_tag_and_constraints(
         decoder: &mut Decoder<'_>,
         tag: Tag,

@@ -65,6 +65,7 @@ impl DecodeParts for End {
 
     ghost tags_agree = { true };
 
+    #[inline(always)]
     fn decode_parts(_decoder: &mut Decoder<'_>) -> Result<End, DecodeError> {
         Ok(End)
     }
@@ -79,6 +80,7 @@ impl<A: Decode, R: DecodeParts> DecodeParts for Required<A, R> {
 
     ghost tags_agree = { R.tags_agree };
 
+    #[inline(always)]
     fn decode_parts(decoder: &mut Decoder<'_>) -> Result<Required<A, R>, DecodeError> {
         let value = A::decode(decoder)?;
         let rest = R::decode_parts(decoder)?;
@@ -180,6 +182,7 @@ impl<'input> Decoder<'input> {
     /// `ExceedsMaxParseDepth` before the header; framing faults; with the value taken, `InvalidConstructedIdentifier`; what a part
     /// refuses and `UnexpectedExtraData`, which take header and contents, or of an indefinite length the header; end-of-contents
     /// octets that are missing (`Incomplete`, `MissingEndOfContents`), which take what was read inside too.
+    #[inline(always)]
     pub fn read_sequence<P: DecodeParts>(&mut self, tag: Tag) -> Result<P, DecodeError>
         requires tags_agree { P.tags_agree ≡ true }
         requires no_initializer { needs_no_initializer P.parts ≡ true }

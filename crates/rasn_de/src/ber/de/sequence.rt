@@ -34,6 +34,7 @@ impl<'input> Decoder<'input> {
     /// or the initializer refuses, `UnexpectedEmptyInput` where an initializer is needed and none is handed in, and
     /// `UnexpectedExtraData`, which consume header and contents, or of an indefinite length the header; end-of-contents octets that are
     /// missing (`Incomplete`, `MissingEndOfContents`), which consume what was read inside too.
+    #[inline(always)]
     pub fn decode_sequence<
         const RC: usize,
         const EC: usize,

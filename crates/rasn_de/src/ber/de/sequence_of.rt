@@ -27,6 +27,7 @@ impl<'input> Decoder<'input> {
     }
 
     /// Elements up to the end of the contents.
+    #[inline(always)]
     fn elements<D: Decode>(&mut self) -> Result<Vec<D>, DecodeError>
         ensures { DecodesElements (Decodes D.shape D.tree) (λ v. v.items) self.old result self.new }
     {
@@ -43,6 +44,7 @@ impl<'input> Decoder<'input> {
     /// `ExceedsMaxParseDepth` before the header; framing faults; with the value consumed, `InvalidConstructedIdentifier` and
     /// `SizeConstraintNotSatisfied`; what an element refuses, and `UnexpectedExtraData` at one that consumes nothing, which consume header and
     /// contents, or of an indefinite length the header; end-of-contents octets that are missing, which consume what was read inside too.
+    #[inline(always)]
     pub fn decode_sequence_of<D: Decode>(
         &mut self,
         tag: Tag,
@@ -65,6 +67,7 @@ impl<'input> Decoder<'input> {
 }
 
 impl<T: Decode> Decode for Vec<T> {
+    #[inline(always)]
     fn decode_with_tag_and_constraints(
         decoder: &mut Decoder<'_>,
         tag: Tag,
