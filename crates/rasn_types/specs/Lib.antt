@@ -31,3 +31,4 @@ pub mod OwnTypes
 pub mod OwnEnumerated
 pub mod Deciding
 pub mod Text
+pub mod SmallOctets

@@ -129,6 +129,11 @@ fn copies_values(rt: HostRuntime) -> Result<(), AllocError> {
     assert_copied(
         &rt,
         alloc,
+        made(&rt, Integer::from_octets(alloc, &[0x01; 24])),
+    );
+    assert_copied(
+        &rt,
+        alloc,
         made(&rt, Ia5String::from_octets(alloc, b"Jones")),
     );
     assert_copied(

@@ -129,6 +129,11 @@ fn are_equal(alloc: Global, one: &[u8], other: &[u8]) -> bool {
     }
 }
 
+/// As many octets as stand in a value itself, and one more.
+const INLINE: &[u8] = &[0x01; 23];
+
+const ALLOCATED: &[u8] = &[0x01; 24];
+
 // Redundant octets are dropped, so equal numbers are equal values; no octets are no number.
 #[test]
 fn keeps_any_length(rt: HostRuntime) {
@@ -139,6 +144,8 @@ fn keeps_any_length(rt: HostRuntime) {
             is_kept(alloc, &[0x00, 0x00, 0x80], &[0x00, 0x80]),
             is_kept(alloc, &[0x00, 0x80], &[0x00, 0x80]),
             is_kept(alloc, &[], &[]),
+            is_kept(alloc, INLINE, INLINE),
+            is_kept(alloc, ALLOCATED, ALLOCATED),
             are_equal(alloc, &[0x00, 0x00, 0x80], &[0x00, 0x80]),
         ],
     );

@@ -6,6 +6,7 @@ ghost use Rattle.rasn_types.specs.Shapes.{IsIn};
 ghost use Rattle.rasn_types.specs.Trees.{IsShortestOf};
 
 mod signed;
+mod small_octets;
 mod unbounded;
 mod unsigned;
 

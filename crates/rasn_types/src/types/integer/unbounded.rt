@@ -7,6 +7,7 @@ ghost use Rattle.std.specs.Ordering.{int_cmp};
 ghost use Rattle.rasn_types.specs.Trees.{IsShortestOf, signed_range, unsigned_range};
 
 use crate::hexadecimal::Hexadecimal;
+use crate::types::integer::small_octets::SmallOctets;
 use crate::types::twos_complement::{
     append_i128, append_u128, shortest, signed_i128, unsigned_u128,
 };
@@ -20,7 +21,7 @@ use std::marker::Model;
 /// are.
 #[derive(Debug, Drop)]
 pub struct Integer {
-    octets: Vec<u8>,
+    octets: SmallOctets,
 }
 
 impl Model for Integer {
@@ -30,9 +31,9 @@ impl Model for Integer {
 
     ghost Value = { ℤ };
 
-    ghost view = { λ a. signed a.octets.items };
+    ghost view = { λ a. signed a.octets };
 
-    ghost invariant = { λ a. IsShortestInteger a.octets.items × AreOctets a.octets.items };
+    ghost invariant = { λ a. IsShortestInteger a.octets × AreOctets a.octets };
 }
 
 impl Integer {
@@ -43,7 +44,7 @@ impl Integer {
         if octets.is_empty() {
             return Ok(None);
         }
-        let octets = Vec::from_slice(alloc, shortest(octets))?;
+        let octets = SmallOctets::from_slice(alloc, shortest(octets))?;
         Ok(Some(Integer { octets }))
     }
 
@@ -56,6 +57,7 @@ impl Integer {
     {
         let mut octets = Vec::new(alloc);
         append_i128(number, &mut octets)?;
+        let octets = SmallOctets::from_vec(octets);
         Ok(Integer { octets })
     }
 
@@ -68,6 +70,7 @@ impl Integer {
     {
         let mut octets = Vec::new(alloc);
         append_u128(number, &mut octets)?;
+        let octets = SmallOctets::from_vec(octets);
         Ok(Integer { octets })
     }
 
@@ -75,21 +78,21 @@ impl Integer {
     pub fn to_i128(&self) -> Option<i128>
         ensures { MatchOption result (IsIn (signed_range 128) self.now → ⊥) (λ n. n ≡ self.now) }
     {
-        signed_i128(&self.octets)
+        signed_i128(self.octets.as_slice())
     }
 
     /// The number, where 128 bits hold it without a sign.
     pub fn to_u128(&self) -> Option<u128>
         ensures { MatchOption result (IsIn (unsigned_range 128) self.now → ⊥) (λ n. pos n ≡ self.now) }
     {
-        unsigned_u128(&self.octets)
+        unsigned_u128(self.octets.as_slice())
     }
 
     /// Whether it is below 0.
     pub fn is_negative(&self) -> bool
         ensures { IsTrue result ↔ (self.now <ℤ pos 0) }
     {
-        is_below_zero(&self.octets)
+        is_below_zero(self.octets.as_slice())
     }
 
     /// Its octets in two's complement, the fewest (X.690 8.3.2).
@@ -103,9 +106,9 @@ impl Integer {
 /// The number where 128 bits hold it, else its octets in two's complement, in hexadecimal behind `0x`.
 impl fmt::Display for Integer {
     fn fmt<W: fmt::Write>(&self, f: &mut fmt::Formatter<W>) -> fmt::Result {
-        match signed_i128(&self.octets) {
+        match signed_i128(self.octets.as_slice()) {
             Some(number) => write!(f, "{number}"),
-            None => write!(f, "0x{}", Hexadecimal(&self.octets)),
+            None => write!(f, "0x{}", Hexadecimal(self.octets.as_slice())),
         }
     }
 }
@@ -120,7 +123,8 @@ impl PartialEq for Integer {
     ghost laws = { Prim.search (comparing, rules) };
 
     fn eq(&self, other: &Integer) -> bool {
-        self.octets == other.octets
+        let (octets, others) = (self.octets.as_slice(), other.octets.as_slice());
+        octets == others
     }
 }
 
@@ -159,7 +163,7 @@ impl Ord for Integer {
     ghost matches_eq = { Prim.search (comparing, rules) };
 
     fn cmp(&self, other: &Integer) -> Ordering {
-        order(&self.octets, &other.octets)
+        order(self.octets.as_slice(), other.octets.as_slice())
     }
 }
 
@@ -226,7 +230,7 @@ impl IntegerType for Integer {
     }
 
     fn append_octets(&self, octets: &mut Vec<u8>) -> Result<(), AllocError> {
-        octets.extend_from_slice(&self.octets)
+        octets.extend_from_slice(self.octets.as_slice())
     }
 }
 
@@ -234,7 +238,7 @@ impl TryClone for Integer {
     fn try_clone(&self, alloc: Global) -> Result<Integer, AllocError>
         ensures { IfOk result (λ v. v ≡ self.now) }
     {
-        let octets = Vec::from_slice(alloc, &self.octets)?;
+        let octets = self.octets.try_clone(alloc)?;
         Ok(Integer { octets })
     }
 }

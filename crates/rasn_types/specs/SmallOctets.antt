@@ -1,0 +1,12 @@
+-- The octets of a number, in the value itself or in memory of their own.
+use Rattle.std.specs.Prelude.{ℕ, List, take}
+use Rattle.rasn_types.specs.declared.types.integer.small_octets.FewOctets.{FewOctets}
+use Rattle.rasn_types.specs.declared.types.integer.small_octets.Storage.{Storage}
+use Rattle.rasn_types.specs.declared.types.integer.small_octets.Storage.TheVariants.{Inline, Allocated}
+
+abbrev pub few_octets : FewOctets → List ℕ
+few_octets few = take few.count few.octets
+
+abbrev pub stored_octets : Storage → List ℕ
+stored_octets (Inline few) = few_octets few
+stored_octets (Allocated octets) = octets.items
