@@ -1,7 +1,8 @@
-//! Messages of the standards that BER, CER and DER were made for, as types: certificates (`x509`), requests for them (`pkcs10`) and signed data
-//! (`cms`).
+//! Messages of the standards that BER, CER and DER were made for, as types: certificates (`x509`), requests for them (`pkcs10`), signed data
+//! (`cms`) and network management (`snmp`).
 #![tactic(auto)]
 
 pub mod cms;
 pub mod pkcs10;
+pub mod snmp;
 pub mod x509;

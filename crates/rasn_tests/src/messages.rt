@@ -5,4 +5,5 @@ mod cms;
 mod extensions;
 mod request;
 mod revocation;
+mod snmp;
 pub(crate) mod spoilt;
