@@ -1,9 +1,9 @@
 //! Messages of the standards, as others made them.
 
 pub(crate) mod certificate;
-mod cms;
+pub(crate) mod cms;
 mod extensions;
-mod request;
-mod revocation;
+pub(crate) mod request;
+pub(crate) mod revocation;
 mod snmp;
 pub(crate) mod spoilt;

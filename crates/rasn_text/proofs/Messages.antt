@@ -12,10 +12,6 @@ use Rattle.rasn_de.specs.Outcomes.{Exact, refusal}
 use Rattle.rasn_text.specs.declared.reading.ReadError.{ReadError}
 use Rattle.rasn_text.specs.declared.reading.ReadError.TheVariants.{Decode, OutOfMemory}
 use Rattle.rasn_text.specs.Reading.{IsMessage, IsRefused, IsToldOf, IsWhole}
-use Rattle.rasn_text.specs.Kinds.{shape_of}
-use Rattle.rasn_text.specs.declared.kind.Kind.{Kind}
-use Rattle.rasn_text.specs.declared.kind.Kind.TheVariants.{Certificate}
-use Rattle.rasn_x509.specs.Signed.{certificate_shape}
 
 -- A refused read is one for running out of memory, or nothing is related.
 memory_or_none : (k : DecodeErrorKind) (R : Reading Tree) (input : List ℕ) → Exact R input (refusal k) → IsOutOfMemory k ⊎ ((t : Tree) (rest : List ℕ) → R input t rest → ⊥)
@@ -32,6 +28,6 @@ pub told : (rule : Codec) (s : Shape) (input : List ℕ) (e : DecodeError) (r : 
 told rule s input e (Decode place error) t x = none rule s input e t.1 x
 told rule s input e OutOfMemory t x = tt
 
--- What is read as a certificate is a message of the kind.
-pub whole : (kind : Kind) (rule : Codec) (octets : List ℕ) (tree : Tree) → IsWhole rule certificate_shape octets tree → IsMessage rule (shape_of kind) octets
-whole Certificate rule octets tree w = (tree, w)
+-- What is read as a value of the shape is a message of it.
+pub whole : (rule : Codec) (s : Shape) (octets : List ℕ) (tree : Tree) → IsWhole rule s octets tree → IsMessage rule s octets
+whole rule s octets tree w = (tree, w)

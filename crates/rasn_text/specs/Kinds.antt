@@ -2,11 +2,20 @@
 use Rattle.std.specs.Prelude.{ℕ, List, codes}
 use Rattle.rasn_types.specs.Shapes.{Shape}
 use Rattle.rasn_x509.specs.Signed.{certificate_shape}
+use Rattle.rasn_messages.specs.X509.Revocation.Signed.{certificate_list_shape}
+use Rattle.rasn_messages.specs.Pkcs10.Request.{request_shape}
+use Rattle.rasn_messages.specs.Cms.Message.{signed_message_shape}
 use Rattle.rasn_text.specs.declared.kind.Kind.{Kind}
-use Rattle.rasn_text.specs.declared.kind.Kind.TheVariants.{Certificate}
+use Rattle.rasn_text.specs.declared.kind.Kind.TheVariants.{Certificate, RevocationList, Request, SignedMessage}
 
 abbrev pub name_of : Kind → List ℕ
 name_of Certificate = codes "certificate"
+name_of RevocationList = codes "crl"
+name_of Request = codes "request"
+name_of SignedMessage = codes "cms"
 
 abbrev pub shape_of : Kind → Shape
 shape_of Certificate = certificate_shape
+shape_of RevocationList = certificate_list_shape
+shape_of Request = request_shape
+shape_of SignedMessage = signed_message_shape

@@ -1,40 +1,33 @@
 //! Certificates as text.
 
+use crate::extension::list_extensions;
 use crate::identifiers::identifier_text;
-use crate::listing::Listing;
+use crate::listing::{Listed, Listing};
 use crate::name::name_text;
 use crate::octets::{bits_text, number_text};
-use rasn::ber;
-use rasn::types::{Any, BitString, ObjectIdentifier};
+use crate::values::value_of;
+use rasn::types::{Any, BitString, Codec, Integer, ObjectIdentifier};
 use rasn_x509::{
-    AlgorithmIdentifier, Certificate, Extension, Name, SubjectPublicKeyInfo, TbsCertificate, Time,
-    Validity,
+    AlgorithmIdentifier, Certificate, Name, SubjectPublicKeyInfo, TbsCertificate, Time, Validity,
 };
 use std::alloc::{AllocError, Global};
 
-/// Lists a certificate.
-pub(crate) fn list_certificate(
-    listing: &mut Listing,
-    certificate: &Certificate,
-) -> Result<(), AllocError> {
-    listing.open("certificate")?;
-    list_signed(listing, &certificate.tbs_certificate)?;
-    list_algorithm(
-        listing,
-        "signature algorithm",
-        &certificate.signature_algorithm,
-    )?;
-    list_bits(listing, "signature", &certificate.signature_value)?;
-    listing.close();
-    Ok(())
+impl Listed for Certificate {
+    fn list(&self, listing: &mut Listing) -> Result<(), AllocError> {
+        listing.open("certificate")?;
+        list_signed(listing, &self.tbs_certificate)?;
+        list_algorithm(listing, "signature algorithm", &self.signature_algorithm)?;
+        list_bits(listing, "signature", &self.signature_value)?;
+        listing.close();
+        Ok(())
+    }
 }
 
 /// Lists what is signed.
 fn list_signed(listing: &mut Listing, signed: &TbsCertificate) -> Result<(), AllocError> {
     let version = u16::from(signed.version) + 1;
     listing.line("version", &version)?;
-    let serial_number = number_text(listing.alloc(), &signed.serial_number)?;
-    listing.line("serial number", &serial_number)?;
+    list_number(listing, "serial number", &signed.serial_number)?;
     list_algorithm(listing, "signature algorithm", &signed.signature)?;
     list_name(listing, "issuer", &signed.issuer)?;
     list_validity(listing, &signed.validity)?;
@@ -71,11 +64,30 @@ pub(crate) fn list_algorithm(
 
 /// Parameters of an algorithm: an object identifier by its name, and others as their octets in hexadecimal.
 fn parameters_text(alloc: Global, parameters: &Any) -> Result<String, AllocError> {
-    match ber::decode::<ObjectIdentifier>(alloc, parameters.as_bytes()) {
-        Ok(identifier) => identifier_text(alloc, &identifier),
-        Err(error) if error.is_out_of_memory() => Err(AllocError),
-        Err(_) => format!(in alloc; "{parameters}"),
+    match value_of::<ObjectIdentifier>(alloc, Codec::Ber, parameters.as_bytes())? {
+        Some(identifier) => identifier_text(alloc, &identifier),
+        None => format!(in alloc; "{parameters}"),
     }
+}
+
+/// Lists an object identifier.
+pub(crate) fn list_identifier(
+    listing: &mut Listing,
+    title: &str,
+    identifier: &ObjectIdentifier,
+) -> Result<(), AllocError> {
+    let text = identifier_text(listing.alloc(), identifier)?;
+    listing.line(title, &text)
+}
+
+/// Lists a number, such as that of a certificate.
+pub(crate) fn list_number(
+    listing: &mut Listing,
+    title: &str,
+    number: &Integer,
+) -> Result<(), AllocError> {
+    let text = number_text(listing.alloc(), number)?;
+    listing.line(title, &text)
 }
 
 /// Lists a name.
@@ -118,26 +130,4 @@ pub(crate) fn list_public_key(
     list_bits(listing, "bits", &key.subject_public_key)?;
     listing.close();
     Ok(())
-}
-
-/// Lists extensions.
-pub(crate) fn list_extensions(
-    listing: &mut Listing,
-    extensions: &[Extension],
-) -> Result<(), AllocError> {
-    listing.open("extensions")?;
-    for extension in extensions {
-        list_extension(listing, extension)?;
-    }
-    listing.close();
-    Ok(())
-}
-
-/// Lists an extension with the octets that it holds.
-fn list_extension(listing: &mut Listing, extension: &Extension) -> Result<(), AllocError> {
-    let mut title = identifier_text(listing.alloc(), &extension.extn_id)?;
-    if extension.critical {
-        title.push_str(", critical")?;
-    }
-    listing.line(title.as_str(), &extension.extn_value)
 }

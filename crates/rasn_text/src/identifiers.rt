@@ -18,11 +18,16 @@ pub(crate) fn identifier_text(
 fn name_of(arcs: &[u32]) -> Option<&'static str> {
     match arcs {
         [1, 2, 840, 113549, 1, 1, last] => rsa_name(*last),
+        [1, 2, 840, 113549, 1, 7, last] => content_name(*last),
+        [1, 2, 840, 113549, 1, 9, last] => pkcs9_name(*last),
         [1, 2, 840, 10045, others @ ..] => elliptic_curve_name(others),
         [1, 3, 132, 0, last] => curve_name(*last),
         [1, 3, 101, last] => edwards_name(*last),
+        [1, 3, 14, 3, 2, 26] => Some("sha1"),
+        [2, 16, 840, 1, 101, 3, 4, 2, last] => hash_name(*last),
         [2, 5, 29, last] => extension_name(*last),
         [1, 3, 6, 1, 5, 5, 7, 1, last] => access_name(*last),
+        [1, 3, 6, 1, 5, 5, 7, 3, last] => purpose_name(*last),
         [1, 3, 6, 1, 4, 1, 11129, 2, 4, 2] => Some("signedCertificateTimestampList"),
         _ => None,
     }
@@ -81,7 +86,59 @@ fn edwards_name(last: u32) -> Option<&'static str> {
     }
 }
 
-/// Extensions of RFC 5280, 4.2.1.
+/// Contents of signed messages (RFC 5652).
+fn content_name(last: u32) -> Option<&'static str> {
+    match last {
+        1 => Some("id-data"),
+        2 => Some("id-signedData"),
+        3 => Some("id-envelopedData"),
+        5 => Some("id-digestedData"),
+        6 => Some("id-encryptedData"),
+        _ => None,
+    }
+}
+
+/// Attributes of PKCS #9 (RFC 2985).
+fn pkcs9_name(last: u32) -> Option<&'static str> {
+    match last {
+        1 => Some("emailAddress"),
+        2 => Some("unstructuredName"),
+        3 => Some("contentType"),
+        4 => Some("messageDigest"),
+        5 => Some("signingTime"),
+        6 => Some("countersignature"),
+        7 => Some("challengePassword"),
+        14 => Some("extensionRequest"),
+        15 => Some("smimeCapabilities"),
+        _ => None,
+    }
+}
+
+/// Digests of RFC 5754, 2.
+fn hash_name(last: u32) -> Option<&'static str> {
+    match last {
+        1 => Some("id-sha256"),
+        2 => Some("id-sha384"),
+        3 => Some("id-sha512"),
+        4 => Some("id-sha224"),
+        _ => None,
+    }
+}
+
+/// Purposes of keys (RFC 5280, 4.2.1.12).
+fn purpose_name(last: u32) -> Option<&'static str> {
+    match last {
+        1 => Some("id-kp-serverAuth"),
+        2 => Some("id-kp-clientAuth"),
+        3 => Some("id-kp-codeSigning"),
+        4 => Some("id-kp-emailProtection"),
+        8 => Some("id-kp-timeStamping"),
+        9 => Some("id-kp-OCSPSigning"),
+        _ => None,
+    }
+}
+
+/// Extensions of RFC 5280, 4.2.1 and 5.2, and 5.3 for entries of a revocation list.
 fn extension_name(last: u32) -> Option<&'static str> {
     match last {
         9 => Some("subjectDirectoryAttributes"),
@@ -91,6 +148,12 @@ fn extension_name(last: u32) -> Option<&'static str> {
         17 => Some("subjectAltName"),
         18 => Some("issuerAltName"),
         19 => Some("basicConstraints"),
+        20 => Some("cRLNumber"),
+        21 => Some("reasonCode"),
+        24 => Some("invalidityDate"),
+        27 => Some("deltaCRLIndicator"),
+        28 => Some("issuingDistributionPoint"),
+        29 => Some("certificateIssuer"),
         30 => Some("nameConstraints"),
         31 => Some("cRLDistributionPoints"),
         32 => Some("certificatePolicies"),

@@ -8,6 +8,12 @@ ghost use Rattle.rasn_text.specs.declared.kind.Kind.{Kind};
 pub enum Kind {
     /// A certificate (RFC 5280).
     Certificate,
+    /// A revocation list (RFC 5280, 5).
+    RevocationList,
+    /// A request for a certificate (RFC 2986).
+    Request,
+    /// A signed message (RFC 5652).
+    SignedMessage,
 }
 
 impl Kind {
@@ -17,6 +23,9 @@ impl Kind {
     {
         match name {
             "certificate" => Some(Kind::Certificate),
+            "crl" => Some(Kind::RevocationList),
+            "request" => Some(Kind::Request),
+            "cms" => Some(Kind::SignedMessage),
             _ => None,
         }
     }
@@ -27,6 +36,9 @@ impl Kind {
     {
         match self {
             Kind::Certificate => "certificate",
+            Kind::RevocationList => "crl",
+            Kind::Request => "request",
+            Kind::SignedMessage => "cms",
         }
     }
 }

@@ -2,8 +2,12 @@
 #![tactic(auto)]
 
 mod arguments;
+mod attribute;
 mod certificate;
 mod characters;
+mod contents;
+mod extension;
+mod general_name;
 mod identifiers;
 mod kind;
 mod listing;
@@ -14,9 +18,14 @@ mod pem;
 mod place;
 mod program;
 mod reading;
+mod request;
+mod revocation_list;
+mod signed_message;
+mod values;
 
 pub use arguments::{Call, Usage, call_of};
 pub use kind::Kind;
 pub use pem::{PemError, first_block, is_pem};
+pub use place::Place;
 pub use program::{RunFault, run};
 pub use reading::{ReadError, check, show};

@@ -3,6 +3,12 @@
 use std::alloc::{AllocError, Global};
 use std::fmt;
 
+/// A message that is shown as lines of text.
+pub(crate) trait Listed {
+    /// Puts its lines behind those that are there.
+    fn list(&self, listing: &mut Listing) -> Result<(), AllocError>;
+}
+
 /// Lines of text that are put together, two spaces further to the right for each heading that is open.
 #[derive(Debug, Drop)]
 pub(crate) struct Listing {

@@ -2,11 +2,11 @@
 
 use crate::characters::{Characters, push_escaped};
 use crate::identifiers::attribute_name;
-use rasn::ber;
+use crate::values::value_of;
 use rasn::de::Decode;
 use rasn::types::{
-    Any, BmpString, Ia5String, NumericString, ObjectIdentifier, PrintableString, TeletexString,
-    Utf8String, VisibleString,
+    Any, BmpString, Codec, Ia5String, NumericString, ObjectIdentifier, PrintableString,
+    TeletexString, Utf8String, VisibleString,
 };
 use rasn_x509::{AttributeTypeAndValue, Name, RelativeDistinguishedName};
 use std::alloc::{AllocError, Global};
@@ -67,7 +67,7 @@ fn push_type(text: &mut String, kind: &ObjectIdentifier) -> Result<(), AllocErro
 }
 
 /// The text of a value of a string type, and none of another.
-fn string_of(alloc: Global, value: &Any) -> Result<Option<String>, AllocError> {
+pub(crate) fn string_of(alloc: Global, value: &Any) -> Result<Option<String>, AllocError> {
     let octets = value.as_bytes();
     match octets {
         [0x0C, ..] => read_text::<Utf8String>(alloc, octets),
@@ -86,21 +86,19 @@ fn read_text<T: Decode + Characters>(
     alloc: Global,
     octets: &[u8],
 ) -> Result<Option<String>, AllocError> {
-    match ber::decode::<T>(alloc, octets) {
-        Ok(value) => value.to_text(alloc),
-        Err(error) if error.is_out_of_memory() => Err(AllocError),
-        Err(_) => Ok(None),
+    match value_of::<T>(alloc, Codec::Ber, octets)? {
+        Some(value) => value.to_text(alloc),
+        None => Ok(None),
     }
 }
 
 /// The text of a TeletexString whose octets are all ASCII; none of another, since few keep to what T.61 says of the others.
 fn read_ascii(alloc: Global, octets: &[u8]) -> Result<Option<String>, AllocError> {
-    match ber::decode::<TeletexString>(alloc, octets) {
-        Ok(value) => match str::from_utf8(value.as_octets()) {
-            Ok(text) if text.is_ascii() => Ok(Some(String::from_str(alloc, text)?)),
-            _ => Ok(None),
-        },
-        Err(error) if error.is_out_of_memory() => Err(AllocError),
-        Err(_) => Ok(None),
+    let Some(value) = value_of::<TeletexString>(alloc, Codec::Ber, octets)? else {
+        return Ok(None);
+    };
+    match str::from_utf8(value.as_octets()) {
+        Ok(text) if text.is_ascii() => Ok(Some(String::from_str(alloc, text)?)),
+        _ => Ok(None),
     }
 }

@@ -1,13 +1,14 @@
-//! The parts of certificates, as they are read one behind the other.
+//! The parts of messages by their names, as they are read one behind the other.
+
+mod certificate;
+mod request;
+mod revocation;
+mod signed;
 
 use crate::place::{Found, Located, Walk};
 use rasn::types::{
-    Any, AsnType, BitString, ContextTag, Explicit, Implicit, Integer, ObjectIdentifier,
-    OctetString, SetOf,
-};
-use rasn_x509::{
-    AlgorithmIdentifier, AttributeTypeAndValue, Certificate, Extension, Name, NotCritical,
-    SubjectPublicKeyInfo, TbsCertificate, Time, Validity, VersionOne,
+    Any, AsnType, BitString, Explicit, GeneralizedTime, Implicit, Integer, ObjectIdentifier,
+    OctetString, SetOf, UtcTime,
 };
 
 impl Located for u8 {}
@@ -24,7 +25,9 @@ impl Located for BitString {}
 
 impl Located for Any {}
 
-impl Located for Time {}
+impl Located for UtcTime {}
+
+impl Located for GeneralizedTime {}
 
 impl<T: Located> Located for Option<T> {
     fn parts(walk: &mut Walk<'_>) -> Result<(), Found> {
@@ -40,77 +43,18 @@ impl<G: AsnType, T: Located> Located for Implicit<G, T> {
 
 impl<G: AsnType, T: Located> Located for Explicit<G, T> {
     fn parts(walk: &mut Walk<'_>) -> Result<(), Found> {
-        walk.part::<T>()
+        walk.value::<T>()
     }
 }
 
 impl<T: Located> Located for Vec<T> {
     fn parts(walk: &mut Walk<'_>) -> Result<(), Found> {
-        walk.all_parts::<T>()
+        walk.elements::<T>()
     }
 }
 
 impl<T: Located + Eq> Located for SetOf<T> {
     fn parts(walk: &mut Walk<'_>) -> Result<(), Found> {
-        walk.all_parts::<T>()
-    }
-}
-
-impl Located for AlgorithmIdentifier {
-    fn parts(walk: &mut Walk<'_>) -> Result<(), Found> {
-        walk.part::<ObjectIdentifier>()?;
-        walk.part::<Option<Any>>()
-    }
-}
-
-impl Located for AttributeTypeAndValue {
-    fn parts(walk: &mut Walk<'_>) -> Result<(), Found> {
-        walk.part::<ObjectIdentifier>()?;
-        walk.part::<Any>()
-    }
-}
-
-impl Located for Validity {
-    fn parts(walk: &mut Walk<'_>) -> Result<(), Found> {
-        walk.part::<Time>()?;
-        walk.part::<Time>()
-    }
-}
-
-impl Located for SubjectPublicKeyInfo {
-    fn parts(walk: &mut Walk<'_>) -> Result<(), Found> {
-        walk.part::<AlgorithmIdentifier>()?;
-        walk.part::<BitString>()
-    }
-}
-
-impl Located for Extension {
-    fn parts(walk: &mut Walk<'_>) -> Result<(), Found> {
-        walk.part::<ObjectIdentifier>()?;
-        walk.default_part::<NotCritical>()?;
-        walk.part::<OctetString>()
-    }
-}
-
-impl Located for TbsCertificate {
-    fn parts(walk: &mut Walk<'_>) -> Result<(), Found> {
-        walk.explicit_default_part::<VersionOne>()?;
-        walk.part::<Integer>()?;
-        walk.part::<AlgorithmIdentifier>()?;
-        walk.part::<Name>()?;
-        walk.part::<Validity>()?;
-        walk.part::<Name>()?;
-        walk.part::<SubjectPublicKeyInfo>()?;
-        walk.part::<Option<Implicit<ContextTag<1>, BitString>>>()?;
-        walk.part::<Option<Implicit<ContextTag<2>, BitString>>>()?;
-        walk.part::<Option<Explicit<ContextTag<3>, Vec<Extension>>>>()
-    }
-}
-
-impl Located for Certificate {
-    fn parts(walk: &mut Walk<'_>) -> Result<(), Found> {
-        walk.part::<TbsCertificate>()?;
-        walk.part::<AlgorithmIdentifier>()?;
-        walk.part::<BitString>()
+        walk.elements::<T>()
     }
 }

@@ -3,15 +3,92 @@ use rasn::ber::de::{Decoder, DecoderOptions};
 use rasn::de::Decode;
 use rasn::parts::{DefaultValue, ExplicitDefault};
 use rasn::types::{Codec, Explicit};
-use std::alloc::Global;
+use std::alloc::{AllocError, Global};
+use std::fmt;
+
+/// Where a message isn't read: the part of it by the names of ASN.1, `tbsCertificate.extensions[2].critical`, and the octet that the part begins
+/// with, counted from 0.
+#[derive(Debug, PartialEq, Eq, Drop)]
+pub struct Place {
+    path: String,
+    octet: usize,
+}
+
+impl Place {
+    /// This octet, in no part.
+    pub(crate) fn at(alloc: Global, octet: usize) -> Place {
+        Place {
+            path: String::new(alloc),
+            octet,
+        }
+    }
+}
+
+impl fmt::Display for Place {
+    fn fmt<W: fmt::Write>(&self, f: &mut fmt::Formatter<W>) -> fmt::Result {
+        let octet = self.octet;
+        if self.path.is_empty() {
+            write!(f, "byte {octet}")
+        } else {
+            write!(f, "{}, byte {octet}", self.path)
+        }
+    }
+}
 
 /// What is found where a part is refused.
-#[derive(Clone, Copy, Debug, PartialEq, Eq, Drop)]
+#[derive(Debug, Drop)]
 pub(crate) enum Found {
-    /// The part begins here, so many octets from the front.
-    At(usize),
+    /// The part's place.
+    At(Place),
     /// Memory ran out while it was looked for.
     OutOfMemory,
+}
+
+impl From<AllocError> for Found {
+    fn from(_: AllocError) -> Found {
+        Found::OutOfMemory
+    }
+}
+
+impl Found {
+    /// What was found, so many octets further on.
+    fn behind(self, passed: usize) -> Found {
+        match self {
+            Found::At(Place { path, octet }) => Found::At(Place {
+                path,
+                octet: passed.saturating_add(octet),
+            }),
+            Found::OutOfMemory => Found::OutOfMemory,
+        }
+    }
+
+    /// What was found, in the part of this name.
+    fn within(self, alloc: Global, name: &str) -> Found {
+        match self {
+            Found::At(Place { path, octet }) => match joined(alloc, name, path.as_str()) {
+                Ok(path) => Found::At(Place { path, octet }),
+                Err(_) => Found::OutOfMemory,
+            },
+            Found::OutOfMemory => Found::OutOfMemory,
+        }
+    }
+
+    /// What was found, in the element of this number.
+    fn within_element(self, alloc: Global, number: usize) -> Found {
+        match format!(in alloc; "[{number}]") {
+            Ok(name) => self.within(alloc, name.as_str()),
+            Err(_) => Found::OutOfMemory,
+        }
+    }
+}
+
+/// The path of a part within the part of this name.
+fn joined(alloc: Global, name: &str, path: &str) -> Result<String, AllocError> {
+    if path.is_empty() || path.starts_with('[') {
+        format!(in alloc; "{name}{path}")
+    } else {
+        format!(in alloc; "{name}.{path}")
+    }
 }
 
 /// A type whose parts can be read one behind the other.
@@ -22,26 +99,17 @@ pub(crate) trait Located: Decode {
     }
 }
 
-/// The contents of a value, of which so many octets were read.
+/// The contents of a value, of which so many octets were read, and the octet of its identifier.
 #[derive(Debug, Drop)]
 pub(crate) struct Walk<'octets> {
     alloc: Global,
     rule: Codec,
+    identifier: u8,
     contents: &'octets [u8],
     passed: usize,
 }
 
 impl<'octets> Walk<'octets> {
-    /// The contents, of which nothing was read.
-    fn new(alloc: Global, rule: Codec, contents: &'octets [u8]) -> Walk<'octets> {
-        Walk {
-            alloc,
-            rule,
-            contents,
-            passed: 0,
-        }
-    }
-
     /// What wasn't read.
     fn rest(&self) -> &'octets [u8] {
         match self.contents.get(self.passed..) {
@@ -50,57 +118,85 @@ impl<'octets> Walk<'octets> {
         }
     }
 
-    /// Reads the next part.
-    pub(crate) fn part<T: Located>(&mut self) -> Result<(), Found> {
+    /// Reads the next value, which has no name of its own.
+    pub(crate) fn value<T: Located>(&mut self) -> Result<(), Found> {
         match length_of::<T>(self.alloc, self.rule, self.rest()) {
             Ok(length) => {
                 self.passed = self.passed.saturating_add(length);
                 Ok(())
             }
-            Err(found) => Err(behind(self.passed, found)),
+            Err(found) => Err(found.behind(self.passed)),
+        }
+    }
+
+    /// Reads the next part.
+    pub(crate) fn part<T: Located>(&mut self, name: &str) -> Result<(), Found> {
+        match self.value::<T>() {
+            Ok(()) => Ok(()),
+            Err(found) => Err(found.within(self.alloc, name)),
         }
     }
 
     /// Reads the next part where it comes, which has to be another value than the default (X.690 11.5).
-    pub(crate) fn default_part<V: DefaultValue>(&mut self) -> Result<(), Found>
+    pub(crate) fn default_part<V: DefaultValue>(&mut self, name: &str) -> Result<(), Found>
     where
         V::Value: Located,
     {
         let rest = self.rest();
         let passed = self.passed;
-        self.part::<Option<V::Value>>()?;
+        self.part::<Option<V::Value>>(name)?;
         if self.passed > passed && is_default::<V>(self.alloc, self.rule, rest)? {
-            return Err(Found::At(passed));
+            return Err(Found::At(Place::at(self.alloc, passed)).within(self.alloc, name));
         }
         Ok(())
     }
 
     /// Reads the next part, whose value stands under an explicit tag, where it comes. It has to be another value than the default.
-    pub(crate) fn explicit_default_part<V: ExplicitDefault>(&mut self) -> Result<(), Found>
+    pub(crate) fn explicit_default_part<V: ExplicitDefault>(
+        &mut self,
+        name: &str,
+    ) -> Result<(), Found>
     where
         V::Value: Located,
     {
         let rest = self.rest();
         let passed = self.passed;
-        self.part::<Option<Explicit<V::Prefix, V::Value>>>()?;
-        let Some((_, contents)) = contents_of(rest) else {
+        self.part::<Option<Explicit<V::Prefix, V::Value>>>(name)?;
+        let Some((_, _, contents)) = contents_of(rest) else {
             return Ok(());
         };
         if self.passed > passed && is_default::<V>(self.alloc, self.rule, contents)? {
-            return Err(Found::At(passed));
+            return Err(Found::At(Place::at(self.alloc, passed)).within(self.alloc, name));
         }
         Ok(())
     }
 
-    /// Reads parts of one type up to the end.
-    pub(crate) fn all_parts<T: Located>(&mut self) -> Result<(), Found> {
-        for _ in 0..self.contents.len() {
+    /// Reads elements of one type up to the end.
+    pub(crate) fn elements<T: Located>(&mut self) -> Result<(), Found> {
+        for number in 0..self.contents.len() {
             if self.rest().is_empty() {
                 break;
             }
-            self.part::<T>()?;
+            if let Err(found) = self.value::<T>() {
+                return Err(found.within_element(self.alloc, number));
+            }
         }
         Ok(())
+    }
+
+    /// Reads the parts of the alternative of a CHOICE where the value begins with this octet.
+    pub(crate) fn alternative<T: Located>(
+        &mut self,
+        identifier: u8,
+        name: &str,
+    ) -> Result<(), Found> {
+        if self.identifier != identifier {
+            return Ok(());
+        }
+        match T::parts(self) {
+            Ok(()) => Ok(()),
+            Err(found) => Err(found.within(self.alloc, name)),
+        }
     }
 }
 
@@ -126,52 +222,53 @@ where
     let Ok(value) = V::Value::decode(&mut decoder) else {
         return Err(Found::OutOfMemory);
     };
-    let Ok(default) = V::default_value() else {
-        return Err(Found::OutOfMemory);
-    };
+    let default = V::default_value()?;
     Ok(value == default)
-}
-
-/// What was found so many octets further on.
-fn behind(passed: usize, found: Found) -> Found {
-    match found {
-        Found::At(place) => Found::At(passed.saturating_add(place)),
-        Found::OutOfMemory => Found::OutOfMemory,
-    }
 }
 
 /// Where octets aren't a value of the type: the start of the deepest part that is refused, or of what no part reads, or of the value.
 pub(crate) fn place_in<T: Located>(alloc: Global, rule: Codec, octets: &[u8]) -> Found {
-    let Some((header, contents)) = contents_of(octets) else {
-        return Found::At(0);
+    let Some((identifier, header, contents)) = contents_of(octets) else {
+        return Found::At(Place::at(alloc, 0));
     };
-    let mut walk = Walk::new(alloc, rule, contents);
+    let mut walk = Walk {
+        alloc,
+        rule,
+        identifier,
+        contents,
+        passed: 0,
+    };
     match T::parts(&mut walk) {
-        Err(found) => behind(header, found),
+        Err(found) => found.behind(header),
         Ok(()) => {
             let passed = walk.passed;
             if passed > 0 && passed < contents.len() {
-                Found::At(header.saturating_add(passed))
+                Found::At(Place::at(alloc, header.saturating_add(passed)))
             } else {
-                Found::At(0)
+                Found::At(Place::at(alloc, 0))
             }
         }
     }
 }
 
-/// How many octets the header of the first value has, and its contents, where both are there, the length is definite and below 2^24, and the
-/// identifier is one octet.
-fn contents_of(octets: &[u8]) -> Option<(usize, &[u8])> {
-    let (header, length) = match octets {
-        [_, length, ..] if *length < 0x80 => (2, usize::from(*length)),
-        [_, 0x81, length, ..] => (3, usize::from(*length)),
-        [_, 0x82, high, low, ..] => (4, usize::from(*high) * 256 + usize::from(*low)),
-        [_, 0x83, high, middle, low, ..] => (
+/// The identifier of the first value, how many octets its header has, and its contents, where these are there, the length is definite and below
+/// 2^24, and the identifier is one octet.
+fn contents_of(octets: &[u8]) -> Option<(u8, usize, &[u8])> {
+    let (identifier, header, length) = match octets {
+        [identifier, length, ..] if *length < 0x80 => (*identifier, 2, usize::from(*length)),
+        [identifier, 0x81, length, ..] => (*identifier, 3, usize::from(*length)),
+        [identifier, 0x82, high, low, ..] => (
+            *identifier,
+            4,
+            usize::from(*high) * 256 + usize::from(*low),
+        ),
+        [identifier, 0x83, high, middle, low, ..] => (
+            *identifier,
             5,
             usize::from(*high) * 65536 + usize::from(*middle) * 256 + usize::from(*low),
         ),
         _ => return None,
     };
     let contents = octets.get(header..header + length)?;
-    Some((header, contents))
+    Some((identifier, header, contents))
 }

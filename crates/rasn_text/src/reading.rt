@@ -4,24 +4,26 @@ ghost use Rattle.rasn.specs.Headline.{Answered};
 ghost use Rattle.rasn_text.specs.Reading.{IsMessage, IsRefused, IsToldOf, IsWhole};
 ghost use Rattle.rasn_text.specs.Kinds.{shape_of};
 
-use crate::certificate::list_certificate;
 use crate::kind::Kind;
-use crate::listing::Listing;
-use crate::place::{Found, Located, place_in};
+use crate::listing::{Listed, Listing};
+use crate::place::{Found, Located, Place, place_in};
 use rasn::ber::de::{Decoder, DecoderOptions};
 use rasn::de::Decode;
 use rasn::error::{DecodeError, DecodeErrorKind};
 use rasn::types::Codec;
-use rasn_x509::Certificate;
+use rasn_messages::cms::SignedMessage;
+use rasn_messages::pkcs10::CertificationRequest;
+use rasn_messages::x509::Certificate;
+use rasn_messages::x509::revocation::CertificateList;
 use std::alloc::Global;
 use thiserror::Error;
 
 /// Why octets aren't shown.
 #[derive(Debug, PartialEq, Eq, Drop, Error)]
 pub enum ReadError {
-    /// They aren't one message of the kind, alone. It isn't read from this octet on, counted from 0.
-    #[error("byte {place}: {error}")]
-    Decode { place: usize, error: DecodeError },
+    /// They aren't one message of the kind, alone. It isn't read from this place on.
+    #[error("{place}: {error}")]
+    Decode { place: Place, error: DecodeError },
     /// A growth of memory was refused.
     #[error("out of memory")]
     OutOfMemory,
@@ -39,7 +41,7 @@ fn read<T: Located>(alloc: Global, rule: Codec, octets: &[u8]) -> Result<T, Read
         Ok(value)
     } else {
         Err(ReadError::Decode {
-            place: octets.len().saturating_sub(rest.len()),
+            place: Place::at(alloc, octets.len().saturating_sub(rest.len())),
             error: DecodeError {
                 kind: DecodeErrorKind::UnexpectedExtraData { length: rest.len() },
                 codec: rule,
@@ -82,10 +84,18 @@ pub fn check(alloc: Global, kind: Kind, rule: Codec, octets: &[u8]) -> Result<()
     ensures { MatchResult result (λ _. IsMessage rule (shape_of kind) octets.now) (IsRefused rule (shape_of kind) octets.now) }
 {
     match kind {
-        Kind::Certificate => {
-            let _certificate = read::<Certificate>(alloc, rule, octets)?;
-        }
+        Kind::Certificate => check_as::<Certificate>(alloc, rule, octets),
+        Kind::RevocationList => check_as::<CertificateList>(alloc, rule, octets),
+        Kind::Request => check_as::<CertificationRequest>(alloc, rule, octets),
+        Kind::SignedMessage => check_as::<SignedMessage>(alloc, rule, octets),
     }
+}
+
+/// Reads the value that is all of the octets.
+fn check_as<T: Located>(alloc: Global, rule: Codec, octets: &[u8]) -> Result<(), ReadError>
+    ensures { MatchResult result (λ _. IsMessage rule T.shape octets.now) (IsRefused rule T.shape octets.now) }
+{
+    let _message = read::<T>(alloc, rule, octets)?;
     Ok(())
 }
 
@@ -96,14 +106,25 @@ pub fn check(alloc: Global, kind: Kind, rule: Codec, octets: &[u8]) -> Result<()
 pub fn show(alloc: Global, kind: Kind, rule: Codec, octets: &[u8]) -> Result<String, ReadError>
     ensures { MatchResult result (λ _. IsMessage rule (shape_of kind) octets.now) (IsRefused rule (shape_of kind) octets.now) }
 {
+    match kind {
+        Kind::Certificate => show_as::<Certificate>(alloc, rule, octets),
+        Kind::RevocationList => show_as::<CertificateList>(alloc, rule, octets),
+        Kind::Request => show_as::<CertificationRequest>(alloc, rule, octets),
+        Kind::SignedMessage => show_as::<SignedMessage>(alloc, rule, octets),
+    }
+}
+
+/// The value that is all of the octets, as text.
+fn show_as<T: Located + Listed>(
+    alloc: Global,
+    rule: Codec,
+    octets: &[u8],
+) -> Result<String, ReadError>
+    ensures { MatchResult result (λ _. IsMessage rule T.shape octets.now) (IsRefused rule T.shape octets.now) }
+{
+    let message = read::<T>(alloc, rule, octets)?;
     let mut listing = Listing::new(alloc);
-    let listed = match kind {
-        Kind::Certificate => {
-            let certificate = read::<Certificate>(alloc, rule, octets)?;
-            list_certificate(&mut listing, &certificate)
-        }
-    };
-    match listed {
+    match message.list(&mut listing) {
         Ok(()) => Ok(listing.into_text()),
         Err(_) => Err(ReadError::OutOfMemory),
     }

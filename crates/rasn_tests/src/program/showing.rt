@@ -2,12 +2,12 @@
 
 use crate::messages::certificate::CERTIFICATE;
 use crate::messages::spoilt::spoilt;
+use crate::program::answers::{answer, is_answered};
 use crate::program::faults::{Failing, Full, arguments};
 use crate::reading::assert_facts;
-use rasn_text::{RunFault, call_of, run};
+use rasn_text::{RunFault, call_of};
 use std::alloc::Global;
-use std::io::{ErrorKind, Read, Write};
-use std::process::Abort;
+use std::io::ErrorKind;
 
 // The certificate's PEM by OpenSSL 3.0: `openssl x509 -inform DER -in c.der`.
 const PEM: &str = "\
@@ -38,9 +38,9 @@ certificate
 \x20   algorithm: id-ecPublicKey (1.2.840.10045.2.1), parameters secp256r1 (1.2.840.10045.3.1.7)
 \x20   bits: 043E09D12E0CBD7CC55101663C002A9091684868C9CADBDC827D5970885F49BC1EEE38BB853292400EBE2586D06118584E39A5FCF677423F9CC742FC1C72BF8E9F
 \x20 extensions
-\x20   basicConstraints (2.5.29.19), critical: 3000
-\x20   subjectAltName (2.5.29.17): 300D820B6578616D706C652E6F7267
-\x20   subjectKeyIdentifier (2.5.29.14): 0414DC56EADDB8505330C47C6335EB099C16C4497685
+\x20   basicConstraints (2.5.29.19), critical: cA=FALSE
+\x20   subjectAltName (2.5.29.17): dNSName=example.org
+\x20   subjectKeyIdentifier (2.5.29.14): DC56EADDB8505330C47C6335EB099C16C4497685
 \x20 signature algorithm: ecdsa-with-SHA256 (1.2.840.10045.4.3.2)
 \x20 signature: 304402205FD74EEB097DDE8E1FE52CDC25D027C8935133D9765685B382EEF2C0EBA3B665022020BC9BB30F1BF4703C2B3AD319CA14663E3881AF4DB51D4E0E3B0803010D68CF
 ";
@@ -97,36 +97,6 @@ certificate
 \x20 signature: 9B0A42378350F3586AC7B5780BD8DCB93AB18BB355FAFCB0E42CCADA38E6F924C6B811D19C3B3E266E982EA1D97002E90C96EF3B6C51C53CA9DF4A9784211D0C
 ";
 
-/// Whether the call with these words is answered so: by whether the input is a message, the output, and what is said of a refusal.
-fn is_answered(
-    alloc: Global,
-    words: &[&str],
-    input: &[u8],
-    is_message: bool,
-    shown: &str,
-    refusal: &str,
-) -> bool {
-    let mut output = Vec::new(alloc);
-    let mut refusals = Vec::new(alloc);
-    let mut input = input;
-    answer(alloc, words, &mut input, &mut output, &mut refusals) == Some(Ok(is_message))
-        && output.as_slice() == shown.as_bytes()
-        && refusals.as_slice() == refusal.as_bytes()
-}
-
-/// What the call with these words answers; none where it isn't one.
-fn answer<R: Read, W: Write, E: Write>(
-    alloc: Global,
-    words: &[&str],
-    input: &mut R,
-    output: &mut W,
-    refusals: &mut E,
-) -> Option<Result<bool, RunFault>> {
-    let arguments = arguments(alloc, words).ok()?;
-    let call = call_of(&arguments).ok()?;
-    Some(run(alloc, &call, input, output, refusals))
-}
-
 /// The words that ask for a certificate.
 const CALL: &[&str] = &["certificate"];
 
@@ -150,94 +120,6 @@ fn certificates_are_shown(rt: HostRuntime) {
             is_answered(alloc, CALL, NAMED, true, NAMED_SHOWN, ""),
             is_answered(alloc, CHECK, PEM.as_bytes(), true, "", ""),
             is_answered(alloc, CHECK, NAMED, true, "", ""),
-        ],
-    );
-}
-
-/// Whether the certificate with another octet at this place is refused so.
-fn is_refused_at(rt: &impl Abort, alloc: Global, at: usize, octet: u8, refusal: &str) -> bool {
-    let octets = spoilt(rt, alloc, CERTIFICATE, at, octet);
-    is_refused(alloc, &octets, refusal)
-}
-
-// What isn't the one DER encoding is refused, at the start of the value that isn't (X.690 8.3.2, 11.1, 11.5, 11.8). Places are those of
-// `openssl asn1parse`.
-#[test]
-fn the_place_of_a_fault_is_told(rt: HostRuntime) {
-    let alloc = rt.alloc();
-    assert_facts(
-        &rt,
-        &[
-            is_refused_at(
-                &rt,
-                alloc,
-                12,
-                0x00,
-                "certificate: byte 8: DER: component with its DEFAULT value is encoded\n",
-            ),
-            is_refused_at(
-                &rt,
-                alloc,
-                278,
-                0x00,
-                "certificate: byte 276: DER: component with its DEFAULT value is encoded\n",
-            ),
-            is_refused_at(
-                &rt,
-                alloc,
-                278,
-                0x01,
-                "certificate: byte 276: DER: BOOLEAN octet 01 is neither 00 nor FF\n",
-            ),
-            is_refused_at(
-                &rt,
-                alloc,
-                15,
-                0x00,
-                "certificate: byte 13: DER: number is not in the fewest octets\n",
-            ),
-            is_refused_at(
-                &rt,
-                alloc,
-                93,
-                0x39,
-                "certificate: byte 89: DER: invalid time, octets 3236393132343133303732315A\n",
-            ),
-            is_refused_at(
-                &rt,
-                alloc,
-                0,
-                0x31,
-                "certificate: byte 0: DER: unexpected tag universal 17, expected universal 16\n",
-            ),
-        ],
-    );
-}
-
-/// Whether so many octets of the certificate's front are refused so.
-fn is_refused_cut(alloc: Global, octets: usize, refusal: &str) -> bool {
-    match CERTIFICATE.get(..octets) {
-        Some(front) => is_refused(alloc, front, refusal),
-        None => false,
-    }
-}
-
-#[test]
-fn octets_that_are_cut_are_refused(rt: HostRuntime) {
-    let alloc = rt.alloc();
-    assert_facts(
-        &rt,
-        &[
-            is_refused_cut(
-                alloc,
-                0,
-                "certificate: byte 0: DER: unexpected end of input, need 1 more octet\n",
-            ),
-            is_refused_cut(
-                alloc,
-                422,
-                "certificate: byte 0: DER: unexpected end of input, need 1 more octet\n",
-            ),
         ],
     );
 }
@@ -272,7 +154,7 @@ fn other_texts_than_pem_are_refused(rt: HostRuntime) {
             is_refused(
                 alloc,
                 b"-----BEGIN X-----\nMAA=\n-----END X-----\n",
-                "certificate: byte 2: DER: unexpected end of input, need 1 more octet\n",
+                "certificate: tbsCertificate, byte 2: DER: unexpected end of input, need 1 more octet\n",
             ),
         ],
     );

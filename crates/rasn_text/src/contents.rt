@@ -1,0 +1,141 @@
+//! Contents of extensions as text (RFC 5280, 4.2.1 and 5.2).
+
+use crate::general_name::names_text;
+use crate::identifiers::identifier_text;
+use crate::octets::number_text;
+use crate::values::value_of;
+use rasn::de::Decode;
+use rasn::types::{Codec, Integer, ObjectIdentifier, OctetString};
+use rasn_messages::x509::Extension;
+use rasn_messages::x509::extensions::{
+    AuthorityKeyIdentifier, BasicConstraints, ExtendedKeyUsage, GeneralName, GeneralNames,
+    KeyUsage, SubjectKeyIdentifier,
+};
+use std::alloc::{AllocError, Global};
+use std::fmt;
+
+/// A type of contents.
+trait Contents: Decode {
+    /// The contents in words.
+    fn to_text(&self, alloc: Global) -> Result<String, AllocError>;
+}
+
+/// The contents of the extension in words, where its type is a known one and DER reads them as such; none else.
+pub(crate) fn contents_text(
+    alloc: Global,
+    extension: &Extension,
+) -> Result<Option<String>, AllocError> {
+    let octets = extension.extn_value.as_octets();
+    match extension.extn_id.arcs() {
+        [2, 5, 29, 14] => read_text::<SubjectKeyIdentifier>(alloc, octets),
+        [2, 5, 29, 15] => read_text::<KeyUsage>(alloc, octets),
+        [2, 5, 29, 17 | 18] => read_text::<GeneralNames>(alloc, octets),
+        [2, 5, 29, 19] => read_text::<BasicConstraints>(alloc, octets),
+        [2, 5, 29, 20 | 27] => read_text::<Integer>(alloc, octets),
+        [2, 5, 29, 35] => read_text::<AuthorityKeyIdentifier>(alloc, octets),
+        [2, 5, 29, 37] => read_text::<ExtendedKeyUsage>(alloc, octets),
+        _ => Ok(None),
+    }
+}
+
+/// The octets read as contents of the type, in words; none where they aren't such.
+fn read_text<T: Contents>(alloc: Global, octets: &[u8]) -> Result<Option<String>, AllocError> {
+    match value_of::<T>(alloc, Codec::Der, octets)? {
+        Some(contents) => Ok(Some(contents.to_text(alloc)?)),
+        None => Ok(None),
+    }
+}
+
+/// Puts a word behind the others, with a comma between two.
+pub(crate) fn push_word<T: fmt::Display>(text: &mut String, word: &T) -> Result<(), AllocError> {
+    if !text.is_empty() {
+        text.push_str(", ")?;
+    }
+    write!(text, "{word}")
+}
+
+impl Contents for OctetString {
+    fn to_text(&self, alloc: Global) -> Result<String, AllocError> {
+        format!(in alloc; "{self}")
+    }
+}
+
+impl Contents for Integer {
+    fn to_text(&self, alloc: Global) -> Result<String, AllocError> {
+        number_text(alloc, self)
+    }
+}
+
+impl Contents for KeyUsage {
+    fn to_text(&self, alloc: Global) -> Result<String, AllocError> {
+        let mut text = String::new(alloc);
+        let usages = [
+            (self.digital_signature(), "digitalSignature"),
+            (self.non_repudiation(), "nonRepudiation"),
+            (self.key_encipherment(), "keyEncipherment"),
+            (self.data_encipherment(), "dataEncipherment"),
+            (self.key_agreement(), "keyAgreement"),
+            (self.key_cert_sign(), "keyCertSign"),
+            (self.crl_sign(), "cRLSign"),
+            (self.encipher_only(), "encipherOnly"),
+            (self.decipher_only(), "decipherOnly"),
+        ];
+        for (is_named, name) in usages {
+            if is_named {
+                push_word(&mut text, &name)?;
+            }
+        }
+        Ok(text)
+    }
+}
+
+impl Contents for BasicConstraints {
+    fn to_text(&self, alloc: Global) -> Result<String, AllocError> {
+        let authority = if self.ca { "TRUE" } else { "FALSE" };
+        match &self.path_len_constraint {
+            Some(length) => format!(in alloc; "cA={authority}, pathLenConstraint={length}"),
+            None => format!(in alloc; "cA={authority}"),
+        }
+    }
+}
+
+impl Contents for Vec<GeneralName> {
+    fn to_text(&self, alloc: Global) -> Result<String, AllocError> {
+        names_text(alloc, self)
+    }
+}
+
+impl Contents for Vec<ObjectIdentifier> {
+    fn to_text(&self, alloc: Global) -> Result<String, AllocError> {
+        let mut text = String::new(alloc);
+        for identifier in self {
+            push_word(&mut text, &identifier_text(alloc, identifier)?)?;
+        }
+        Ok(text)
+    }
+}
+
+impl Contents for AuthorityKeyIdentifier {
+    fn to_text(&self, alloc: Global) -> Result<String, AllocError> {
+        let mut text = String::new(alloc);
+        if let Some(key) = &self.key_identifier {
+            let key: &OctetString = key;
+            push_word(&mut text, &format!(in alloc; "keyIdentifier={key}")?)?;
+        }
+        if let Some(names) = &self.authority_cert_issuer {
+            let names = names_text(alloc, names)?;
+            push_word(
+                &mut text,
+                &format!(in alloc; "authorityCertIssuer=({names})")?,
+            )?;
+        }
+        if let Some(number) = &self.authority_cert_serial_number {
+            let number = number_text(alloc, number)?;
+            push_word(
+                &mut text,
+                &format!(in alloc; "authorityCertSerialNumber={number}")?,
+            )?;
+        }
+        Ok(text)
+    }
+}
