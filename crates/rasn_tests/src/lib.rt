@@ -11,11 +11,7 @@ mod errors;
 #[cfg(test)]
 mod hostile;
 #[cfg(test)]
-mod messages;
-#[cfg(test)]
 mod parts;
-#[cfg(test)]
-mod program;
 #[cfg(test)]
 mod reading;
 #[cfg(test)]

@@ -1,7 +1,6 @@
 //! Contents of extensions (RFC 5280, 4.2.1) that others made, and spoilt ones.
 
-use crate::reading::{assert_facts, value};
-use crate::whole::{assert_decodes, assert_rewrites};
+use crate::asserts::{assert_decodes, assert_facts, assert_rewrites, value};
 use rasn::der;
 use rasn::types::Codec;
 use rasn_messages::x509::extensions::{

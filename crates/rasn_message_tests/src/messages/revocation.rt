@@ -1,9 +1,7 @@
 //! Revocation lists (RFC 5280, 5) that others made, and spoilt ones.
 
+use crate::asserts::{assert_decodes, assert_facts, assert_output, value};
 use crate::messages::spoilt::spoilt;
-use crate::reading::{assert_facts, value};
-use crate::whole::assert_decodes;
-use crate::writing::assert_output;
 use rasn::ber;
 use rasn::types::Codec;
 use rasn_messages::x509::revocation::{

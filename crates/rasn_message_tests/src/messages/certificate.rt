@@ -1,8 +1,7 @@
 //! Certificates (RFC 5280) that others made, and spoilt ones.
 
+use crate::asserts::{assert_decodes, assert_output};
 use crate::messages::spoilt::spoilt;
-use crate::whole::assert_decodes;
-use crate::writing::assert_output;
 use rasn::ber;
 use rasn::types::Codec;
 use rasn_x509::{Certificate, Time, read_certificate, write_certificate};

@@ -1,10 +1,8 @@
 //! Messages of SNMP (RFC 1157, 1901 and 3416) that net-snmp 5.9.3 made (`-d` prints them), and spoilt ones. Agent and manager stood on one machine; the
 //! agent was `snmpd -C -c snmpd.conf udp:127.0.0.1:16161` with the communities `public` and `private`.
 
+use crate::asserts::{assert_decodes, assert_output, value};
 use crate::messages::spoilt::spoilt;
-use crate::reading::value;
-use crate::whole::assert_decodes;
-use crate::writing::assert_output;
 use rasn::types::Codec;
 use rasn_snmp::{Message, Pdus, VarBindValue, read_message, write_message};
 use std::alloc::Global;

@@ -1,6 +1,6 @@
 //! Lines that the program normalises: from an encoding of any of the three rules to the one that DER has (X.690 10, 11).
 
-use crate::reading::debug_text;
+use crate::asserts::debug_text;
 use rasn::de::Decode;
 use rasn::enc::Encode;
 use rasn::error::{DecodeError, DecodeErrorKind};

@@ -1,0 +1,10 @@
+//! The tests of messages and programs, with octets that others made. They stand in a crate of their own, so that the tests of the library needn't wait
+//! for the messages.
+#![tactic(auto)]
+
+#[cfg(test)]
+mod asserts;
+#[cfg(test)]
+mod messages;
+#[cfg(test)]
+mod program;
