@@ -8,8 +8,8 @@ use rasn::de::Decode;
 use rasn::types::{Codec, Integer, ObjectIdentifier, OctetString};
 use rasn_messages::x509::Extension;
 use rasn_messages::x509::extensions::{
-    AuthorityKeyIdentifier, BasicConstraints, ExtendedKeyUsage, GeneralName, GeneralNames,
-    KeyUsage, SubjectKeyIdentifier,
+    AuthorityKeyIdentifier, BasicConstraints, ExtendedKeyUsage, GeneralNames, KeyUsage,
+    SubjectKeyIdentifier,
 };
 use std::alloc::{AllocError, Global};
 use std::fmt;
@@ -29,11 +29,11 @@ pub(crate) fn contents_text(
     match extension.extn_id.arcs() {
         [2, 5, 29, 14] => read_text::<SubjectKeyIdentifier>(alloc, octets),
         [2, 5, 29, 15] => read_text::<KeyUsage>(alloc, octets),
-        [2, 5, 29, 17 | 18] => read_text::<GeneralNames>(alloc, octets),
+        [2, 5, 29, 17 | 18] => read_names(alloc, octets),
         [2, 5, 29, 19] => read_text::<BasicConstraints>(alloc, octets),
         [2, 5, 29, 20 | 27] => read_text::<Integer>(alloc, octets),
         [2, 5, 29, 35] => read_text::<AuthorityKeyIdentifier>(alloc, octets),
-        [2, 5, 29, 37] => read_text::<ExtendedKeyUsage>(alloc, octets),
+        [2, 5, 29, 37] => read_purposes(alloc, octets),
         _ => Ok(None),
     }
 }
@@ -44,6 +44,31 @@ fn read_text<T: Contents>(alloc: Global, octets: &[u8]) -> Result<Option<String>
         Some(contents) => Ok(Some(contents.to_text(alloc)?)),
         None => Ok(None),
     }
+}
+
+/// The octets read as names, in words; none where they aren't such.
+fn read_names(alloc: Global, octets: &[u8]) -> Result<Option<String>, AllocError> {
+    match value_of::<GeneralNames>(alloc, Codec::Der, octets)? {
+        Some(names) => Ok(Some(names_text(alloc, &names)?)),
+        None => Ok(None),
+    }
+}
+
+/// The octets read as what a key is used for, in words; none where they aren't such.
+fn read_purposes(alloc: Global, octets: &[u8]) -> Result<Option<String>, AllocError> {
+    match value_of::<ExtendedKeyUsage>(alloc, Codec::Der, octets)? {
+        Some(purposes) => Ok(Some(purposes_text(alloc, &purposes)?)),
+        None => Ok(None),
+    }
+}
+
+/// What a key is used for, with a comma between two.
+fn purposes_text(alloc: Global, purposes: &[ObjectIdentifier]) -> Result<String, AllocError> {
+    let mut text = String::new(alloc);
+    for purpose in purposes {
+        push_word(&mut text, &identifier_text(alloc, purpose)?)?;
+    }
+    Ok(text)
 }
 
 /// Puts a word behind the others, with a comma between two.
@@ -96,22 +121,6 @@ impl Contents for BasicConstraints {
             Some(length) => format!(in alloc; "cA={authority}, pathLenConstraint={length}"),
             None => format!(in alloc; "cA={authority}"),
         }
-    }
-}
-
-impl Contents for Vec<GeneralName> {
-    fn to_text(&self, alloc: Global) -> Result<String, AllocError> {
-        names_text(alloc, self)
-    }
-}
-
-impl Contents for Vec<ObjectIdentifier> {
-    fn to_text(&self, alloc: Global) -> Result<String, AllocError> {
-        let mut text = String::new(alloc);
-        for identifier in self {
-            push_word(&mut text, &identifier_text(alloc, identifier)?)?;
-        }
-        Ok(text)
     }
 }
 
