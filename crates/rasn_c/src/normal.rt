@@ -44,6 +44,7 @@ pub extern "C" fn soq_proved_normalise(
     put_normal(alloc, type_number, rule, octets, buffer, needed).number()
 }
 
+#[tactic(auto, using(crate::proofs::Unwritten::no_encoding))]
 fn put_normal(
     alloc: Global,
     type_number: u32,
