@@ -1,0 +1,78 @@
+-- Why octets aren't one value of a type, alone.
+use Rattle.std.specs.Prelude.{◌≡◌, ◌≢◌, ◌+◌, ◌⊎◌, ℕ, List, [], length, Result, Ok as Value, Err}
+use Rattle.std.specs.Borrow.{Bor}
+use Rattle.rasn_types.specs.declared.types.codec.Codec.{Codec}
+use Rattle.rasn_types.specs.declared.error.decode.DecodeError.{DecodeError}
+use Rattle.rasn_types.specs.declared.error.decode.DecodeErrorKind.TheVariants.{UnexpectedExtraData}
+use Rattle.rasn_types.specs.Errors.{IsOutOfMemory}
+use Rattle.rasn_types.specs.Shapes.{Shape, Tree}
+use Rattle.rasn_types.specs.Grammar.{Reads, top}
+use Rattle.rasn_de.specs.Outcomes.{Exact, Got, refusal}
+use Rattle.rasn_c.specs.Types.{IsUnknownType}
+use Rattle.rasn_c.specs.Rules.{IsUnknownRule}
+use Rattle.rasn_c.specs.Buffers.{IsCutInto}
+use Rattle.rasn_c.specs.ErrorKinds.{kind_number}
+use Rattle.rasn_c.specs.Normal.{Asks}
+use Rattle.rasn_c.specs.declared.errors.Fault.{Fault}
+use Rattle.rasn_c.specs.declared.reading.Reading.{Reading}
+use Rattle.rasn_c.specs.declared.reading.Reading.TheVariants.{Alone, Refused as RefusedAt}
+use Rattle.rasn_c.specs.declared.status.Status.{Status}
+use Rattle.rasn_c.specs.declared.status.Status.TheVariants.{Ok, Refused, OutOfMemory, BufferTooSmall, UnknownType, UnknownRule}
+
+-- All of the octets are one value.
+abbrev pub IsAlone : Codec → Shape → List ℕ → Type 0
+IsAlone rule shape octets = (tree : Tree) × Exact (Reads rule shape 128 (top rule)) octets (Got tree [])
+
+-- A value of so many octets begins them, with this rest, and no other; or none does, memory aside.
+abbrev pub ReadsFront : Codec → Shape → List ℕ → Result (ℕ × Bor (List ℕ)) DecodeError → Type 0
+ReadsFront rule shape octets (Value p) = (tree : Tree) × Exact (Reads rule shape 128 (top rule)) octets (Got tree p.1.now) × (p.0 + length p.1.now ≡ length octets)
+ReadsFront rule shape octets (Err e) = Exact (Reads rule shape 128 (top rule)) octets (refusal e.kind)
+
+-- A value begins the octets, and others follow it from this offset on, which the error counts.
+pub record IsFollowedAt (rule : Codec) (shape : Shape) (octets : List ℕ) (offset : ℕ) (e : DecodeError) : Type 0 where
+  pub tree : Tree
+  pub rest : List ℕ
+  pub some : rest ≢ []
+  pub read : Exact (Reads rule shape 128 (top rule)) octets (Got tree rest)
+  pub offset_is : offset + length rest ≡ length octets
+  pub told : e ≡ record { kind = UnexpectedExtraData (length rest); codec = rule }
+
+-- No value begins the octets, for this cause; the value that would is at the offset 0.
+abbrev pub IsUnread : Codec → Shape → List ℕ → ℕ → DecodeError → Type 0
+IsUnread rule shape octets offset e = Exact (Reads rule shape 128 (top rule)) octets (refusal e.kind) × (offset ≡ 0)
+
+abbrev pub IsRefusedAt : Codec → Shape → List ℕ → ℕ → DecodeError → Type 0
+IsRefusedAt rule shape octets offset e = IsFollowedAt rule shape octets offset e ⊎ IsUnread rule shape octets offset e
+
+-- What octets are, read as a value of a shape by some rules.
+abbrev pub IsReading : Codec → Shape → List ℕ → Reading → Type 0
+IsReading rule shape octets Alone = IsAlone rule shape octets
+IsReading rule shape octets (RefusedAt offset error) = IsRefusedAt rule shape octets offset error
+
+-- There is nothing to tell.
+pub record IsNoFault (fault : Fault) : Type 0 where
+  pub kind : fault.kind ≡ 0
+  pub offset : fault.offset ≡ 0
+  pub text_length : fault.text_length ≡ 0
+
+-- The octets are refused for an error, which isn't that memory ran out, and the fault has its kind and its offset.
+pub record IsTold (rule : Codec) (shape : Shape) (octets : List ℕ) (fault : Fault) : Type 0 where
+  pub error : DecodeError
+  pub refused : IsRefusedAt rule shape octets fault.offset error
+  pub memory : IsOutOfMemory error.kind → ⊥
+  pub kind : fault.kind ≡ kind_number error.kind
+
+-- What is answered of octets that are to be one value, alone, as the type and by the rules of these numbers.
+abbrev pub AnswersError : ℕ → ℕ → List ℕ → Fault → Status → Type 0
+AnswersError type number octets fault Ok = ((rule : Codec) × (shape : Shape) × Asks type number shape rule × IsAlone rule shape octets) × IsNoFault fault
+AnswersError type number octets fault Refused = (rule : Codec) × (shape : Shape) × Asks type number shape rule × IsTold rule shape octets fault
+AnswersError type number octets fault OutOfMemory = ((rule : Codec) × (shape : Shape) × Asks type number shape rule) × IsNoFault fault
+AnswersError type number octets fault UnknownType = IsUnknownType type × IsNoFault fault
+AnswersError type number octets fault UnknownRule = IsUnknownRule number × IsNoFault fault
+AnswersError type number octets fault BufferTooSmall = ⊥
+
+-- The buffer holds a text of this length, cut where it doesn't fit.
+pub record HoldsText (fault : Fault) (old new : List ℕ) : Type 0 where
+  pub text : List ℕ
+  pub long : fault.text_length ≡ length text
+  pub cut : IsCutInto text old new

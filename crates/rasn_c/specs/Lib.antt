@@ -1,0 +1,9 @@
+pub mod Types
+pub mod Rules
+pub mod Status
+pub mod Skipping
+pub mod Canonical
+pub mod Buffers
+pub mod Normal
+pub mod ErrorKinds
+pub mod Errors

@@ -1,0 +1,18 @@
+-- What a function answers, and its number in C: `soq_status`.
+use Rattle.std.specs.Prelude.{◌≡◌, ℕ}
+use Rattle.rasn_c.specs.declared.status.Status.{Status}
+use Rattle.rasn_c.specs.declared.status.Status.TheVariants.{Ok, Refused, OutOfMemory, BufferTooSmall, UnknownType, UnknownRule}
+
+abbrev pub status_number : Status → ℕ
+status_number Ok = 0
+status_number Refused = 1
+status_number OutOfMemory = 2
+status_number BufferTooSmall = 3
+status_number UnknownType = 4
+status_number UnknownRule = 5
+
+-- The number is a status's of which this is so.
+pub record IsNumberOf (Is : Status → Type 0) (number : ℕ) : Type 0 where
+  pub status : Status
+  pub numbered : number ≡ status_number status
+  pub is : Is status

@@ -1,0 +1,42 @@
+-- The types that a caller may ask for, and their numbers in C: `soq_type`.
+use Rattle.std.specs.Prelude.{◌≡◌, ◌≤◌, ℕ, List, [], ◌∷◌, Some, None, length, slice_get}
+use Rattle.rasn_types.specs.declared.types.codec.Codec.{Codec}
+use Rattle.rasn_types.specs.Tags.{in_universal}
+use Rattle.rasn_types.specs.Shapes.{Shape, leaf, boolean, integer, octet_string, every, utc_time, generalized_time, null, object_identifier, bit_string, utf8, ia5, printable, any}
+use Rattle.rasn_types.specs.Trees.{unconstrained}
+use Rattle.rasn_x509.specs.Signed.{certificate_shape}
+use Rattle.rasn_messages.specs.X509.Revocation.Signed.{certificate_list_shape}
+use Rattle.rasn_messages.specs.Pkcs10.Request.{request_shape}
+use Rattle.rasn_messages.specs.Cms.Message.{signed_message_shape}
+
+-- the shapes of the types, in the order of their numbers from 0 on
+abbrev pub numbered_shapes : List Shape
+numbered_shapes =
+    leaf boolean (in_universal 1) unconstrained
+    ∷ leaf (integer every) (in_universal 2) unconstrained
+    ∷ leaf bit_string (in_universal 3) unconstrained
+    ∷ leaf octet_string (in_universal 4) unconstrained
+    ∷ leaf null (in_universal 5) unconstrained
+    ∷ leaf object_identifier (in_universal 6) unconstrained
+    ∷ leaf utf8 (in_universal 12) unconstrained
+    ∷ leaf printable (in_universal 19) unconstrained
+    ∷ leaf ia5 (in_universal 22) unconstrained
+    ∷ leaf utc_time (in_universal 23) unconstrained
+    ∷ leaf generalized_time (in_universal 24) unconstrained
+    ∷ any None
+    ∷ certificate_shape
+    ∷ certificate_list_shape
+    ∷ request_shape
+    ∷ signed_message_shape
+    ∷ []
+
+abbrev pub IsShapeOf : ℕ → Shape → Type 0
+IsShapeOf number shape = slice_get numbered_shapes number ≡ Some shape
+
+-- the number is beyond the list
+abbrev pub IsUnknownType : ℕ → Type 0
+IsUnknownType number = length numbered_shapes ≤ number
+
+-- What is so of a rule, a shape, octets and an answer, of the shape of the type of this number.
+abbrev pub OfType : {A : Type 0} → (Codec → Shape → List ℕ → A → Type 0) → ℕ → Codec → List ℕ → A → Type 0
+OfType Is number rule octets answer = (shape : Shape) × IsShapeOf number shape × Is rule shape octets answer

@@ -1,0 +1,48 @@
+//! Whether octets are the one DER encoding of a value.
+ghost use Rattle.rasn_c.specs.Status.{IsNumberOf};
+ghost use Rattle.rasn_c.specs.Canonical.{AnswersCheck};
+
+use crate::status::Status;
+use crate::types::{TypedAnswer, answer_of};
+use rasn::de::Decode;
+use rasn::der;
+use rasn::enc::Encode;
+use rasn::types::{Codec, LawfulEq};
+use std::alloc::{AllocError, Global};
+
+impl TypedAnswer for Result<bool, AllocError> {
+    ghost use Rattle.std.specs.Prelude.{IfOk};
+    ghost use Rattle.rasn_types.specs.declared.types.codec.Codec.TheVariants.{Der};
+    ghost use Rattle.rasn_types.specs.Truth.{IsWhether};
+    ghost use Rattle.rasn.specs.Normal.{IsNormal};
+
+    ghost IsOfType = { λ rule shape octets answer. IfOk answer (λ is. IsWhether is (IsNormal Der shape octets octets)) };
+
+    /// Whether the octets are the one DER encoding of a value of the type.
+    fn of_type<T: Decode + Encode + LawfulEq>(
+        alloc: Global,
+        _rule: Codec,
+        octets: &[u8],
+    ) -> Result<bool, AllocError> {
+        der::is_canonical::<T>(alloc, octets)
+    }
+}
+
+/// Whether the octets are the one DER encoding of a value of the type of this number, as `der::is_canonical` answers.
+#[unsafe(no_mangle)]
+pub extern "C" fn soq_proved_check(alloc: Global, type_number: u32, octets: &[u8]) -> u32
+    ensures { IsNumberOf (AnswersCheck type_number octets.now) result }
+{
+    check(alloc, type_number, octets).number()
+}
+
+fn check(alloc: Global, type_number: u32, octets: &[u8]) -> Status
+    ensures { AnswersCheck type_number octets.now result }
+{
+    match answer_of::<Result<bool, AllocError>>(alloc, type_number, Codec::Der, octets) {
+        Some(Ok(true)) => Status::Ok,
+        Some(Ok(false)) => Status::Refused,
+        Some(Err(_)) => Status::OutOfMemory,
+        None => Status::UnknownType,
+    }
+}

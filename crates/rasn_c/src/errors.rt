@@ -1,0 +1,110 @@
+//! Why octets aren't one value.
+ghost use Rattle.std.specs.Prelude.{◌≡◌, length, string_bytes};
+ghost use Rattle.rasn_c.specs.Status.{IsNumberOf};
+ghost use Rattle.rasn_c.specs.declared.status.Status.TheVariants.{Refused};
+ghost use Rattle.rasn_c.specs.Errors.{AnswersError, HoldsText, IsNoFault};
+
+use crate::buffers::put_text;
+use crate::error_kinds::kind_number;
+use crate::reading::Reading;
+use crate::rules::rule_numbered;
+use crate::status::Status;
+use crate::types::answer_of;
+use std::alloc::Global;
+
+/// Why octets aren't one value: the number of the error's kind, 0 for none, the offset of what follows the value or of the value that isn't
+/// read, and how long the text is that says so. The header has it as `soq_fault`.
+#[repr(C)]
+#[derive(Clone, Copy, Debug, PartialEq, Eq)]
+pub struct Fault {
+    pub kind: u32,
+    pub offset: usize,
+    pub text_length: usize,
+}
+
+/// Says why the octets aren't one value, alone, of the type and by the rules of these numbers. `buffer` takes the text.
+#[unsafe(no_mangle)]
+pub extern "C" fn soq_proved_decode_error(
+    alloc: Global,
+    type_number: u32,
+    rule: u32,
+    octets: &[u8],
+    fault: &mut Fault,
+    buffer: &mut [u8],
+) -> u32
+    ensures answer { IsNumberOf (AnswersError type_number rule octets.now fault.new) result }
+    ensures text { HoldsText fault.new buffer.old buffer.new }
+{
+    let told = tell(alloc, type_number, rule, octets);
+    *fault = told.fault;
+    put_text(told.text.as_str(), buffer);
+    told.status.number()
+}
+
+/// What is told of octets.
+#[derive(Debug, Drop)]
+struct Told {
+    status: Status,
+    fault: Fault,
+    text: String,
+}
+
+impl Told {
+    /// The status alone.
+    fn without_fault(alloc: Global, status: Status) -> Told
+        ensures status { result.status ≡ status }
+        ensures none { IsNoFault result.fault }
+        ensures text { result.fault.text_length ≡ length (string_bytes result.text) }
+    {
+        Told {
+            status,
+            fault: Fault {
+                kind: 0,
+                offset: 0,
+                text_length: 0,
+            },
+            text: String::new(alloc),
+        }
+    }
+
+    /// That they aren't read from the offset on, for the cause of this number.
+    fn refused(kind: u32, offset: usize, text: String) -> Told
+        ensures status { result.status ≡ Refused }
+        ensures kind { result.fault.kind ≡ kind }
+        ensures offset { result.fault.offset ≡ offset }
+        ensures text { result.fault.text_length ≡ length (string_bytes result.text) }
+    {
+        Told {
+            status: Status::Refused,
+            fault: Fault {
+                kind,
+                offset,
+                text_length: text.len(),
+            },
+            text,
+        }
+    }
+}
+
+/// Why the octets aren't one value, alone, of the type and by the rules of these numbers.
+fn tell(alloc: Global, type_number: u32, rule: u32, octets: &[u8]) -> Told
+    ensures answer { AnswersError type_number rule octets.now result.fault result.status }
+    ensures text { result.fault.text_length ≡ length (string_bytes result.text) }
+{
+    let Some(rule) = rule_numbered(rule) else {
+        return Told::without_fault(alloc, Status::UnknownRule);
+    };
+    match answer_of::<Reading>(alloc, type_number, rule, octets) {
+        None => Told::without_fault(alloc, Status::UnknownType),
+        Some(Reading::Alone) => Told::without_fault(alloc, Status::Ok),
+        Some(Reading::Refused { offset, error }) => {
+            if error.is_out_of_memory() {
+                return Told::without_fault(alloc, Status::OutOfMemory);
+            }
+            let Ok(text) = format!(in alloc; "{error}") else {
+                return Told::without_fault(alloc, Status::OutOfMemory);
+            };
+            Told::refused(kind_number(&error.kind), offset, text)
+        }
+    }
+}

@@ -1,0 +1,75 @@
+//! From an encoding of any of the three rules to the one that DER has.
+ghost use Rattle.rasn_c.specs.Status.{IsNumberOf};
+ghost use Rattle.rasn_c.specs.Normal.{AnswersNormalise};
+
+use crate::buffers::put;
+use crate::rules::rule_numbered;
+use crate::status::Status;
+use crate::types::{TypedAnswer, answer_of};
+use rasn::de::Decode;
+use rasn::enc::Encode;
+use rasn::types::{Codec, LawfulEq};
+use rasn::{NormaliseError, normalise};
+use std::alloc::Global;
+
+impl TypedAnswer for Result<Vec<u8>, NormaliseError> {
+    ghost use Rattle.std.specs.Prelude.{MatchResult};
+    ghost use Rattle.rasn.specs.Normal.{IsNormal, IsNoNormal};
+
+    ghost IsOfType = { λ rule shape input answer. MatchResult answer (λ octets. IsNormal rule shape input octets.items) (IsNoNormal rule shape input) };
+
+    /// The DER octets of what all of the octets mean.
+    fn of_type<T: Decode + Encode + LawfulEq>(
+        alloc: Global,
+        rule: Codec,
+        octets: &[u8],
+    ) -> Result<Vec<u8>, NormaliseError> {
+        normalise::<T>(alloc, rule, octets)
+    }
+}
+
+/// Puts the DER octets of what all of the octets mean into the buffer, as the type and by the rules of these numbers, as `normalise`
+/// answers them. `needed` is how many they are, also where the buffer has less room, and then stays as it was.
+#[unsafe(no_mangle)]
+pub extern "C" fn soq_proved_normalise(
+    alloc: Global,
+    type_number: u32,
+    rule: u32,
+    octets: &[u8],
+    buffer: &mut [u8],
+    needed: &mut usize,
+) -> u32
+    ensures { IsNumberOf (AnswersNormalise type_number rule octets.now buffer.old buffer.new needed.new) result }
+{
+    put_normal(alloc, type_number, rule, octets, buffer, needed).number()
+}
+
+#[tactic(auto, using(crate::proofs::Unwritten::no_encoding))]
+fn put_normal(
+    alloc: Global,
+    type_number: u32,
+    rule: u32,
+    octets: &[u8],
+    buffer: &mut [u8],
+    needed: &mut usize,
+) -> Status
+    ensures { AnswersNormalise type_number rule octets.now buffer.old buffer.new needed.new result }
+{
+    *needed = 0;
+    let Some(rule) = rule_numbered(rule) else {
+        return Status::UnknownRule;
+    };
+    match answer_of::<Result<Vec<u8>, NormaliseError>>(alloc, type_number, rule, octets) {
+        Some(Ok(normal)) => {
+            *needed = normal.len();
+            if put(&normal, buffer) {
+                Status::Ok
+            } else {
+                Status::BufferTooSmall
+            }
+        }
+        Some(Err(error)) if error.is_out_of_memory() => Status::OutOfMemory,
+        Some(Err(_)) => Status::Refused,
+        None => Status::UnknownType,
+    }
+}

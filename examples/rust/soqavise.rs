@@ -1,0 +1,169 @@
+//! The library for C as safe Rust. References keep what its functions owe to a header: that nothing is null, and that what is written
+//! overlaps nothing else. So these call the proved functions without a test.
+use std::fmt;
+
+/// Why there is no answer.
+#[derive(Clone, Copy, Debug, PartialEq, Eq)]
+pub enum Refusal {
+    /// The octets aren't what is asked for.
+    Octets,
+    OutOfMemory,
+}
+
+/// The encoding rules.
+#[derive(Clone, Copy, Debug, PartialEq, Eq)]
+#[repr(u32)]
+pub enum Rule {
+    Ber = 0,
+    Cer = 1,
+    Der = 2,
+}
+
+/// The types (`soq_type` of the header).
+#[derive(Clone, Copy, Debug, PartialEq, Eq)]
+#[repr(u32)]
+pub enum Type {
+    Bool = 0,
+    Integer = 1,
+    Bits = 2,
+    Octets = 3,
+    Null = 4,
+    Oid = 5,
+    Utf8 = 6,
+    Printable = 7,
+    Ia5 = 8,
+    UtcTime = 9,
+    GenTime = 10,
+    Any = 11,
+    Certificate = 12,
+    Crl = 13,
+    Request = 14,
+    Cms = 15,
+}
+
+/// One whole encoding: how many octets it has, and in how many steps it was passed.
+#[derive(Clone, Copy, Debug, Default, PartialEq, Eq)]
+#[repr(C)]
+pub struct Passed {
+    pub consumed: usize,
+    pub steps: usize,
+}
+
+/// Why octets aren't one value: the kind of the error (`soq_kind` of the header), where the part begins that isn't read, and a text.
+#[derive(Clone, Debug, PartialEq, Eq)]
+pub struct Fault {
+    pub kind: u32,
+    pub offset: usize,
+    pub text: String,
+}
+
+impl fmt::Display for Fault {
+    fn fmt(&self, f: &mut fmt::Formatter<'_>) -> fmt::Result {
+        f.write_str(&self.text)
+    }
+}
+
+#[derive(Default)]
+#[repr(C)]
+struct Told {
+    kind: u32,
+    offset: usize,
+    text_length: usize,
+}
+
+#[link(name = "soqavise", kind = "static")]
+unsafe extern "C" {
+    fn soq_proved_skip(rule: u32, octets: *const u8, length: usize, passed: &mut Passed) -> u32;
+    fn soq_proved_check(kind: u32, octets: *const u8, length: usize) -> u32;
+    fn soq_proved_normalise(
+        kind: u32,
+        rule: u32,
+        octets: *const u8,
+        length: usize,
+        buffer: *mut u8,
+        capacity: usize,
+        needed: &mut usize,
+    ) -> u32;
+    fn soq_proved_decode_error(
+        kind: u32,
+        rule: u32,
+        octets: *const u8,
+        length: usize,
+        told: &mut Told,
+        text: *mut u8,
+        capacity: usize,
+    ) -> u32;
+}
+
+/// What a status of the library says, but for a buffer that is too small.
+fn answer(status: u32) -> Result<(), Refusal> {
+    match status {
+        0 => Ok(()),
+        2 => Err(Refusal::OutOfMemory),
+        _ => Err(Refusal::Octets),
+    }
+}
+
+/// Passes the one whole encoding at the front of the octets.
+pub fn skip(rule: Rule, octets: &[u8]) -> Result<Passed, Refusal> {
+    let mut passed = Passed::default();
+    answer(unsafe { soq_proved_skip(rule as u32, octets.as_ptr(), octets.len(), &mut passed) })?;
+    Ok(passed)
+}
+
+/// Whether the octets are the one DER encoding of a value of the type.
+pub fn check(kind: Type, octets: &[u8]) -> Result<(), Refusal> {
+    answer(unsafe { soq_proved_check(kind as u32, octets.as_ptr(), octets.len()) })
+}
+
+/// The one DER encoding of the value that all of the octets are by these rules.
+pub fn normalise(kind: Type, rule: Rule, octets: &[u8]) -> Result<Vec<u8>, Refusal> {
+    let mut buffer = vec![0; octets.len()];
+    loop {
+        let mut needed = 0;
+        let status = unsafe {
+            soq_proved_normalise(
+                kind as u32,
+                rule as u32,
+                octets.as_ptr(),
+                octets.len(),
+                buffer.as_mut_ptr(),
+                buffer.len(),
+                &mut needed,
+            )
+        };
+        match status {
+            3 => buffer.resize(needed, 0),
+            status => {
+                answer(status)?;
+                buffer.truncate(needed);
+                return Ok(buffer);
+            }
+        }
+    }
+}
+
+/// Why the octets aren't one value of the type, alone, by these rules; none where they are one.
+pub fn decode_error(kind: Type, rule: Rule, octets: &[u8]) -> Result<Option<Fault>, Refusal> {
+    let (mut told, mut text) = (Told::default(), [0; 256]);
+    let status = unsafe {
+        soq_proved_decode_error(
+            kind as u32,
+            rule as u32,
+            octets.as_ptr(),
+            octets.len(),
+            &mut told,
+            text.as_mut_ptr(),
+            text.len(),
+        )
+    };
+    match answer(status) {
+        Ok(()) => Ok(None),
+        Err(Refusal::Octets) => Ok(Some(Fault {
+            kind: told.kind,
+            offset: told.offset,
+            text: String::from_utf8_lossy(&text[..told.text_length.min(text.len() - 1)]).into_owned(),
+        })),
+        Err(refusal) => Err(refusal),
+    }
+}
