@@ -282,12 +282,12 @@ static void wrong_arguments_are_answered(void) {
     ENSURE(needed == 7 && fault.kind == 7 && passed.steps == 7 && out[0] == 0);
     /* Neighbours don't overlap. */
     ENSURE(soq_normalise(SOQ_BOOL, SOQ_DER, shared.octets, 3, shared.octets + 3, 3, &needed) == SOQ_OK && shared.octets[5] == 0xFF);
-    ENSURE(soq_check((soq_type)16, octets, 3) == SOQ_UNKNOWN_TYPE && soq_check((soq_type)1000000, octets, 3) == SOQ_UNKNOWN_TYPE);
-    ENSURE(soq_normalise((soq_type)16, SOQ_DER, octets, 3, out, 8, &needed) == SOQ_UNKNOWN_TYPE && needed == 0);
+    ENSURE(soq_check((soq_type)17, octets, 3) == SOQ_UNKNOWN_TYPE && soq_check((soq_type)1000000, octets, 3) == SOQ_UNKNOWN_TYPE);
+    ENSURE(soq_normalise((soq_type)17, SOQ_DER, octets, 3, out, 8, &needed) == SOQ_UNKNOWN_TYPE && needed == 0);
     ENSURE(soq_normalise(SOQ_BOOL, (soq_rule)3, octets, 3, out, 8, &needed) == SOQ_UNKNOWN_RULE && needed == 0);
     ENSURE(soq_skip((soq_rule)3, octets, 3, &passed) == SOQ_UNKNOWN_RULE && passed.consumed == 0);
     ENSURE(soq_decode_error(SOQ_BOOL, (soq_rule)3, octets, 3, &fault, NULL, 0) == SOQ_UNKNOWN_RULE && fault.kind == 0);
-    ENSURE(soq_decode_error((soq_type)16, SOQ_DER, octets, 3, &fault, shared.text, 8) == SOQ_UNKNOWN_TYPE && shared.text[0] == 0);
+    ENSURE(soq_decode_error((soq_type)17, SOQ_DER, octets, 3, &fault, shared.text, 8) == SOQ_UNKNOWN_TYPE && shared.text[0] == 0);
 }
 
 /* A value that BER reads and DER has no octets for: an indefinite length in an open type. */

@@ -39,6 +39,7 @@ pub enum Type {
     Crl = 13,
     Request = 14,
     Cms = 15,
+    Snmp = 16,
 }
 
 /// One whole encoding: how many octets it has, and in how many steps it was passed.

@@ -12,6 +12,7 @@ use rasn::types::{
 };
 use rasn_messages::cms::SignedMessage;
 use rasn_messages::pkcs10::CertificationRequest;
+use rasn_messages::snmp::Message;
 use rasn_messages::x509::Certificate;
 use rasn_messages::x509::revocation::CertificateList;
 use std::alloc::Global;
@@ -51,6 +52,7 @@ pub(crate) fn answer_of<A: TypedAnswer>(
         13 => Some(A::of_type::<CertificateList>(alloc, rule, octets)),
         14 => Some(A::of_type::<CertificationRequest>(alloc, rule, octets)),
         15 => Some(A::of_type::<SignedMessage>(alloc, rule, octets)),
+        16 => Some(A::of_type::<Message>(alloc, rule, octets)),
         _ => None,
     }
 }
