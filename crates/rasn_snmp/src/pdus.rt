@@ -52,7 +52,34 @@ impl LawfulEq for Pdus {
     ghost use Rattle.rasn_snmp.specs.contracts.pdus.Pdus.{enum as pdus_enum};
     ghost use Rattle.rasn_snmp.specs.Operations.{pdus_tree};
 
-    ghost decides = { choice_decided pdus_enum _ pdus_tree (alternative (λ x. x.0) pdu_law, (alternative (λ x. x.0) pdu_law, (alternative (λ x. x.0) bulk_pdu_law, (alternative (λ x. x.0) pdu_law, (alternative (λ x. x.0) pdu_law, (alternative (λ x. x.0) pdu_law, (alternative (λ x. x.0) pdu_law, (alternative (λ x. x.0) pdu_law, (alternative (λ x. x.0) trap_pdu_law, tt))))))))) };
+    ghost decides = { choice_decided pdus_enum _ pdus_tree (
+      alternative (λ x. x.0) pdu_law,
+      (
+        alternative (λ x. x.0) pdu_law,
+        (
+          alternative (λ x. x.0) bulk_pdu_law,
+          (
+            alternative (λ x. x.0) pdu_law,
+            (
+              alternative (λ x. x.0) pdu_law,
+              (
+                alternative (λ x. x.0) pdu_law,
+                (
+                  alternative (λ x. x.0) pdu_law,
+                  (
+                    alternative (λ x. x.0) pdu_law,
+                    (
+                      alternative (λ x. x.0) trap_pdu_law,
+                      tt,
+                    ),
+                  ),
+                ),
+              ),
+            ),
+          ),
+        ),
+      ),
+    ) };
 }
 
 impl Present for Pdus {

@@ -60,7 +60,46 @@ impl LawfulEq for VarBindValue {
     ghost use Rattle.rasn_snmp.specs.contracts.var_bind_value.VarBindValue.{enum as var_bind_value_enum};
     ghost use Rattle.rasn_snmp.specs.Values.{var_bind_value_tree};
 
-    ghost decides = { choice_decided var_bind_value_enum _ var_bind_value_tree (alternative (λ x. x.0) signed_decided, (alternative (λ x. x.0) octets_decided, (alternative (λ x. x.0) octets_decided, (alternative (λ x. x.0) octets_decided, (alternative (λ x. x.0) unsigned_decided, (alternative (λ x. x.0) unsigned_decided, (alternative (λ x. x.0) unsigned_decided, (alternative (λ x. x.0) octets_decided, (alternative (λ x. x.0) unsigned_decided, (no_field, (no_field, (no_field, (no_field, tt))))))))))))) };
+    ghost decides = { choice_decided var_bind_value_enum _ var_bind_value_tree (
+      alternative (λ x. x.0) signed_decided,
+      (
+        alternative (λ x. x.0) octets_decided,
+        (
+          alternative (λ x. x.0) octets_decided,
+          (
+            alternative (λ x. x.0) octets_decided,
+            (
+              alternative (λ x. x.0) unsigned_decided,
+              (
+                alternative (λ x. x.0) unsigned_decided,
+                (
+                  alternative (λ x. x.0) unsigned_decided,
+                  (
+                    alternative (λ x. x.0) octets_decided,
+                    (
+                      alternative (λ x. x.0) unsigned_decided,
+                      (
+                        no_field,
+                        (
+                          no_field,
+                          (
+                            no_field,
+                            (
+                              no_field,
+                              tt,
+                            ),
+                          ),
+                        ),
+                      ),
+                    ),
+                  ),
+                ),
+              ),
+            ),
+          ),
+        ),
+      ),
+    ) };
 }
 
 impl Present for VarBindValue {
