@@ -17,8 +17,11 @@ use std::alloc::Global;
 #[repr(C)]
 #[derive(Clone, Copy, Debug, PartialEq, Eq)]
 pub struct Fault {
+    /// The number of the error's kind, 0 for none.
     pub kind: u32,
+    /// Where what follows the value begins, in octets; 0 where no value is read.
     pub offset: usize,
+    /// How many octets the text has that says so.
     pub text_length: usize,
 }
 

@@ -12,7 +12,9 @@ use std::alloc::Global;
 #[repr(C)]
 #[derive(Clone, Copy, Debug, PartialEq, Eq)]
 pub struct Passed {
+    /// How many octets it has.
     pub consumed: usize,
+    /// In how many steps it was passed.
     pub steps: usize,
 }
 

@@ -9,9 +9,13 @@ use rasn::{Decode, Decoder, Encode, Encoder};
 /// variable-bindings VarBindList }: the PDU of GetBulkRequest. A negative number of either is taken for 0 (RFC 3416, 4.2.3).
 #[derive(Debug, PartialEq, Eq, Drop)]
 pub struct BulkPdu {
+    /// Ties an answer to its request.
     pub request_id: i32,
+    /// How many of the variables are asked for once; the others are asked for again and again.
     pub non_repeaters: i32,
+    /// How often each of the others is asked for at most.
     pub max_repetitions: i32,
+    /// The variables that are asked for.
     pub variable_bindings: VarBindList,
 }
 

@@ -10,7 +10,9 @@ use rasn::{Decode, Decoder, Encode, Encoder};
 pub struct Message {
     /// [`VERSION_1`](crate::VERSION_1) or [`VERSION_2C`](crate::VERSION_2C).
     pub version: u8,
+    /// The name of the community, which serves as a password.
     pub community: OctetString,
+    /// What is asked, answered or reported.
     pub data: Pdus,
 }
 

@@ -9,11 +9,13 @@ use rasn::{Decode, Decoder, Encode, Encoder};
 /// VarBindList }: the PDU of all operations but GetBulkRequest and the trap of version 1.
 #[derive(Debug, PartialEq, Eq, Drop)]
 pub struct Pdu {
+    /// Ties an answer to its request.
     pub request_id: i32,
     /// One of [`error_status`](crate::error_status).
     pub error_status: i32,
     /// Counted from 1 on; 0 names no variable binding.
     pub error_index: i32,
+    /// The variables with their values.
     pub variable_bindings: VarBindList,
 }
 

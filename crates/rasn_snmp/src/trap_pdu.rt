@@ -9,12 +9,17 @@ use rasn::{Decode, Decoder, Encode, Encoder};
 /// variable-bindings VarBindList }: the trap of version 1. NetworkAddress is a CHOICE of IpAddress alone.
 #[derive(Debug, PartialEq, Eq, Drop)]
 pub struct TrapPdu {
+    /// What kind of system reports (sysObjectID).
     pub enterprise: ObjectIdentifier,
+    /// The address of the system that reports.
     pub agent_addr: IpAddress,
     /// coldStart(0), warmStart(1), linkDown(2), linkUp(3), authenticationFailure(4), egpNeighborLoss(5) or enterpriseSpecific(6).
     pub generic_trap: i32,
+    /// What is reported, where the trap is one of the enterprise.
     pub specific_trap: i32,
+    /// How long the system has been running, in hundredths of a second.
     pub time_stamp: TimeTicks,
+    /// What else is of interest.
     pub variable_bindings: VarBindList,
 }
 

@@ -9,7 +9,9 @@ use rasn::{Decode, Decoder, Encode, Encoder};
 /// endOfMibView \[2\] NULL } }: a variable and its value.
 #[derive(Debug, PartialEq, Eq, Drop)]
 pub struct VarBind {
+    /// Which variable it is.
     pub name: ObjectName,
+    /// Its value, or why there is none.
     pub value: VarBindValue,
 }
 

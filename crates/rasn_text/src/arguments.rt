@@ -18,9 +18,13 @@ pub struct Usage;
 /// none for standard input.
 #[derive(Clone, Copy, Debug, PartialEq, Eq)]
 pub struct Call<'word> {
+    /// The rules to read by: DER, or BER with the option.
     pub rule: Codec,
+    /// Whether only the status is asked for.
     pub checks: bool,
+    /// Which message the input is to be.
     pub kind: Kind,
+    /// The file to read; standard input where there is none.
     pub file: Option<&'word str>,
 }
 
