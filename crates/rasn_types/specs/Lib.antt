@@ -32,3 +32,4 @@ pub mod OwnEnumerated
 pub mod Deciding
 pub mod Text
 pub mod SmallOctets
+pub mod Inline

@@ -1,5 +1,5 @@
 -- What values are shown as.
-use Rattle.std.specs.Prelude.{◌≡◌, ℕ, ◌<◌, ◌^◌, ◌≤◌, length, slice_index, All, ◌/◌, ◌%◌, true, List, [], ◌∷◌, ◌++◌}
+use Rattle.std.specs.Prelude.{◌≡◌, ℕ, ◌<◌, ◌^◌, ◌≤◌, length, slice_index, All, ◌/◌, ◌%◌, Bool, true, false, List, [], ◌∷◌, ◌++◌, map}
 use Rattle.std.specs.List.{flat_map}
 use Rattle.std.specs.Fmt.{decimal, digit_glyph}
 use Rattle.rasn_types.specs.Calendar.{Day, Moment}
@@ -13,6 +13,14 @@ two_digits b = digit_glyph true (b / 16) ∷ digit_glyph true (b % 16) ∷ []
 
 abbrev pub hexadecimal : List ℕ → List ℕ
 hexadecimal l = flat_map two_digits l
+
+-- a bit as a digit, and bits as a value is written in ASN.1 (X.680 12.10)
+abbrev pub bit_digit : Bool → ℕ
+bit_digit true = 49
+bit_digit false = 48
+
+abbrev pub shown_bits : List Bool → List ℕ
+shown_bits bs = 39 ∷ (map bit_digit bs ++ 39 ∷ 66 ∷ [])
 
 -- arcs in decimal, each behind a point
 abbrev pub point_and_arc : ℕ → List ℕ

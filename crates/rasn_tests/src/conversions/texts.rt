@@ -85,6 +85,20 @@ fn octets(rt: HostRuntime) -> Result<(), AllocError> {
     Ok(())
 }
 
+// '0A3B5F291CD'H (X.690 8.6.4.2), digit by digit in bits.
+#[test]
+fn bits(rt: HostRuntime) -> Result<(), AllocError> {
+    let alloc = rt.alloc();
+    let octets = Vec::from_slice(alloc, &[0x0A, 0x3B, 0x5F, 0x29, 0x1C, 0xD0])?;
+    if let Some(bits) = BitString::new(octets, 44) {
+        let text = "'00001010001110110101111100101001000111001101'B";
+        assert_shown(&rt, alloc, bits, text);
+    } else {
+        assert!(rt; false, "no bits");
+    }
+    Ok(())
+}
+
 // VisibleString "Jones" (X.690 8.23.3).
 #[test]
 fn strings(rt: HostRuntime) {

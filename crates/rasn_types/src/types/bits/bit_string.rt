@@ -7,6 +7,7 @@ use crate::types::bits::packing::{clear_last, octets_for, unused_by};
 use crate::types::bits::{BitIter, BitStr};
 use crate::types::{AsnType, Constraints, Tag, TryClone};
 use std::alloc::{AllocError, Global};
+use std::fmt;
 use std::marker::Model;
 
 /// A list of bits (X.680 22), kept in as few octets as they take. To contracts it is the list.
@@ -90,6 +91,22 @@ impl BitString {
     {
         let BitString { octets, len: _ } = self;
         octets
+    }
+}
+
+/// Its bits as a value is written in ASN.1 (X.680 12.10): `'10110'B`. `Hexadecimal` shows its octets.
+impl fmt::Display for BitString {
+    ghost use Rattle.std.specs.Prelude.{Some};
+    ghost use Rattle.rasn_types.specs.Text.{shown_bits};
+
+    ghost output = { λ s. Some (shown_bits s) };
+
+    fn fmt<W: fmt::Write>(&self, f: &mut fmt::Formatter<W>) -> fmt::Result {
+        f.write_str("'")?;
+        for bit in self.iter() {
+            f.write_char(if bit { '1' } else { '0' })?;
+        }
+        f.write_str("'B")
     }
 }
 

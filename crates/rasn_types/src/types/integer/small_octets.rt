@@ -1,16 +1,20 @@
 //! Octets of a number that stand in the value itself while they are few.
 ghost use Rattle.std.specs.Prelude.{◌≡◌, ◌<◌, ◌≤◌, length, IfOk, MatchOption};
+ghost use Rattle.rasn_types.specs.Inline.{inline_capacity};
 
 use std::alloc::{AllocError, Global};
 use std::fmt;
 use std::marker::Model;
 
+// How many octets stand in the value itself: with their count they are as long as the vector that holds more.
+const INLINE_CAPACITY: usize = 23;
+
 /// At most 23 octets, which take no memory of their own.
 #[derive(Clone, Copy, Drop)]
 pub struct FewOctets {
-    octets: [u8; 23],
+    octets: [u8; INLINE_CAPACITY],
     count: u8,
-    ghost fits: { count ≤ 23 },
+    ghost fits: { count ≤ inline_capacity },
 }
 
 impl FewOctets {
@@ -19,13 +23,13 @@ impl FewOctets {
     /// These octets, where there are no more than 23.
     #[inline]
     fn from_slice(octets: &[u8]) -> Option<FewOctets>
-        ensures { MatchOption result (23 < length octets.now) (λ few. few_octets few ≡ octets.now) }
+        ensures { MatchOption result (inline_capacity < length octets.now) (λ few. few_octets few ≡ octets.now) }
     {
         let count = octets.len();
-        if count > 23 {
+        if count > INLINE_CAPACITY {
             return None;
         }
-        let mut copy = [0; 23];
+        let mut copy = [0; INLINE_CAPACITY];
         copy[..count].copy_from_slice(octets);
         Some(FewOctets {
             octets: copy,
