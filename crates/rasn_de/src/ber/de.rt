@@ -103,8 +103,7 @@ fn in_ber(inner: BerDecodeErrorKind) -> DecodeErrorKind
 }
 
 /// The kind of error that stands for a fault.
-#[cold]
-#[inline(never)]
+#[inline(always)]
 fn error_kind(fault: ParseError) -> DecodeErrorKind
     ensures { result ≡ error_kind fault }
 {
@@ -237,8 +236,7 @@ impl<'input> Decoder<'input> {
     }
 
     /// The error of a fault, under the decoder's rules.
-    #[cold]
-    #[inline(never)]
+    #[inline(always)]
     fn error(&self, fault: ParseError) -> DecodeError
         ensures { result ≡ record { kind = error_kind fault; codec = self.now.rule } }
     {

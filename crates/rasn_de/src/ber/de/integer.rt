@@ -83,6 +83,11 @@ impl<'input> Decoder<'input> {
 
 impl Decode for i8 {
     #[inline(always)]
+    fn decode(decoder: &mut Decoder<'_>) -> Result<i8, DecodeError> {
+        decoder.decode_integer::<i8>(Tag::INTEGER, &Constraints::NONE)
+    }
+
+    #[inline(always)]
     fn decode_with_tag_and_constraints(
         decoder: &mut Decoder<'_>,
         tag: Tag,
@@ -93,6 +98,11 @@ impl Decode for i8 {
 }
 
 impl Decode for i16 {
+    #[inline(always)]
+    fn decode(decoder: &mut Decoder<'_>) -> Result<i16, DecodeError> {
+        decoder.decode_integer::<i16>(Tag::INTEGER, &Constraints::NONE)
+    }
+
     #[inline(always)]
     fn decode_with_tag_and_constraints(
         decoder: &mut Decoder<'_>,
@@ -105,6 +115,11 @@ impl Decode for i16 {
 
 impl Decode for i32 {
     #[inline(always)]
+    fn decode(decoder: &mut Decoder<'_>) -> Result<i32, DecodeError> {
+        decoder.decode_integer::<i32>(Tag::INTEGER, &Constraints::NONE)
+    }
+
+    #[inline(always)]
     fn decode_with_tag_and_constraints(
         decoder: &mut Decoder<'_>,
         tag: Tag,
@@ -115,6 +130,11 @@ impl Decode for i32 {
 }
 
 impl Decode for i64 {
+    #[inline(always)]
+    fn decode(decoder: &mut Decoder<'_>) -> Result<i64, DecodeError> {
+        decoder.decode_integer::<i64>(Tag::INTEGER, &Constraints::NONE)
+    }
+
     #[inline(always)]
     fn decode_with_tag_and_constraints(
         decoder: &mut Decoder<'_>,
@@ -127,6 +147,11 @@ impl Decode for i64 {
 
 impl Decode for i128 {
     #[inline(always)]
+    fn decode(decoder: &mut Decoder<'_>) -> Result<i128, DecodeError> {
+        decoder.decode_integer::<i128>(Tag::INTEGER, &Constraints::NONE)
+    }
+
+    #[inline(always)]
     fn decode_with_tag_and_constraints(
         decoder: &mut Decoder<'_>,
         tag: Tag,
@@ -137,6 +162,11 @@ impl Decode for i128 {
 }
 
 impl Decode for isize {
+    #[inline(always)]
+    fn decode(decoder: &mut Decoder<'_>) -> Result<isize, DecodeError> {
+        decoder.decode_integer::<isize>(Tag::INTEGER, &Constraints::NONE)
+    }
+
     #[inline(always)]
     fn decode_with_tag_and_constraints(
         decoder: &mut Decoder<'_>,
@@ -149,6 +179,11 @@ impl Decode for isize {
 
 impl Decode for u8 {
     #[inline(always)]
+    fn decode(decoder: &mut Decoder<'_>) -> Result<u8, DecodeError> {
+        decoder.decode_integer::<u8>(Tag::INTEGER, &Constraints::NONE)
+    }
+
+    #[inline(always)]
     fn decode_with_tag_and_constraints(
         decoder: &mut Decoder<'_>,
         tag: Tag,
@@ -159,6 +194,11 @@ impl Decode for u8 {
 }
 
 impl Decode for u16 {
+    #[inline(always)]
+    fn decode(decoder: &mut Decoder<'_>) -> Result<u16, DecodeError> {
+        decoder.decode_integer::<u16>(Tag::INTEGER, &Constraints::NONE)
+    }
+
     #[inline(always)]
     fn decode_with_tag_and_constraints(
         decoder: &mut Decoder<'_>,
@@ -171,6 +211,11 @@ impl Decode for u16 {
 
 impl Decode for u32 {
     #[inline(always)]
+    fn decode(decoder: &mut Decoder<'_>) -> Result<u32, DecodeError> {
+        decoder.decode_integer::<u32>(Tag::INTEGER, &Constraints::NONE)
+    }
+
+    #[inline(always)]
     fn decode_with_tag_and_constraints(
         decoder: &mut Decoder<'_>,
         tag: Tag,
@@ -181,6 +226,11 @@ impl Decode for u32 {
 }
 
 impl Decode for u64 {
+    #[inline(always)]
+    fn decode(decoder: &mut Decoder<'_>) -> Result<u64, DecodeError> {
+        decoder.decode_integer::<u64>(Tag::INTEGER, &Constraints::NONE)
+    }
+
     #[inline(always)]
     fn decode_with_tag_and_constraints(
         decoder: &mut Decoder<'_>,
@@ -193,6 +243,11 @@ impl Decode for u64 {
 
 impl Decode for u128 {
     #[inline(always)]
+    fn decode(decoder: &mut Decoder<'_>) -> Result<u128, DecodeError> {
+        decoder.decode_integer::<u128>(Tag::INTEGER, &Constraints::NONE)
+    }
+
+    #[inline(always)]
     fn decode_with_tag_and_constraints(
         decoder: &mut Decoder<'_>,
         tag: Tag,
@@ -204,6 +259,11 @@ impl Decode for u128 {
 
 impl Decode for usize {
     #[inline(always)]
+    fn decode(decoder: &mut Decoder<'_>) -> Result<usize, DecodeError> {
+        decoder.decode_integer::<usize>(Tag::INTEGER, &Constraints::NONE)
+    }
+
+    #[inline(always)]
     fn decode_with_tag_and_constraints(
         decoder: &mut Decoder<'_>,
         tag: Tag,
@@ -214,6 +274,11 @@ impl Decode for usize {
 }
 
 impl Decode for Integer {
+    #[inline(always)]
+    fn decode(decoder: &mut Decoder<'_>) -> Result<Integer, DecodeError> {
+        decoder.decode_integer::<Integer>(Tag::INTEGER, &Constraints::NONE)
+    }
+
     #[inline(always)]
     fn decode_with_tag_and_constraints(
         decoder: &mut Decoder<'_>,

@@ -19,6 +19,7 @@ impl<'input> Decoder<'input> {
     /// Framing faults. With the value consumed: `Incomplete` where octets of a subidentifier are missing,
     /// `UnsupportedObjectIdentifierArc` where one is 2^32 or more, under DER `NonMinimalArc` where one begins with the octet 80,
     /// whatever follows that, and `OutOfMemory`.
+    #[inline(always)]
     pub fn decode_object_identifier(&mut self, tag: Tag) -> Result<ObjectIdentifier, DecodeError>
         ensures reads { Decodes (leaf object_identifier tag unconstrained) numbers self.old result self.new }
         ensures exact { DecodesObjectIdentifier tag self.old result self.new }
@@ -30,6 +31,7 @@ impl<'input> Decoder<'input> {
 
     /// The object identifier that contents octets hold as these rules read them.
     #[tactic(auto, using(crate::proofs::Leaves::ObjectIdentifier::arcs_told))]
+    #[inline(always)]
     fn object_identifier(
         &self,
         rules: Codec,
@@ -61,6 +63,11 @@ impl<'input> Decoder<'input> {
 }
 
 impl Decode for ObjectIdentifier {
+    #[inline(always)]
+    fn decode(decoder: &mut Decoder<'_>) -> Result<ObjectIdentifier, DecodeError> {
+        decoder.decode_object_identifier(Tag::OBJECT_IDENTIFIER)
+    }
+
     #[tactic(auto, unfolding(rasn_types::specs::Grammar::Reads))]
     fn decode_with_tag_and_constraints(
         decoder: &mut Decoder<'_>,

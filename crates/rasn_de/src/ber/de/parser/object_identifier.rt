@@ -46,6 +46,7 @@ fn read_arc(rules: Codec, input: &[u8]) -> Result<(u32, &[u8]), ParseError>
 }
 
 /// The object identifier that contents octets hold.
+#[inline]
 pub fn read_object_identifier(
     alloc: Global,
     rules: Codec,
