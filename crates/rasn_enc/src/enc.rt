@@ -26,6 +26,7 @@ pub trait Encode: AsnType {
         ensures refused { IfErr result (EncodeFails (tagged_as tag constraints.now Self.shape) (Self.tree self.now) encoder.old) };
 
     /// Writes the value.
+    #[inline(always)]
     fn encode(&self, encoder: &mut Encoder) -> Result<(), EncodeError>
         ensures ok { OnOk result (AppendsEncoding Self.shape (Self.tree self.now) encoder.old encoder.new) }
         ensures err { OnErr result (encoder.new ≡ encoder.old) }

@@ -17,7 +17,7 @@ suffix-is l p q n e h =
     let s = ap length e in
     rw e (sym (drop_at p q n (omega (arith, h, s, length-append p q))))
 
--- backwards: k marks are left, and `back` octets up to the place
+-- backwards: k headers are left, and `back` octets up to the place
 pub record Walk (g : List ℕ) (ms : List DeferredHeader) (start want k at back : ℕ) : Type 0 where
   pub below : k ≤ length ms
   pub lower : Rising start (take k ms) at
@@ -86,17 +86,17 @@ module _ (g : List ℕ) (ms : List DeferredHeader) (start want k at back n : ℕ
       }
 
 -- What is known at the deferred header that is reached: the place stands in the run behind it, in its head, or further in front.
-pub record AtMark (g : List ℕ) (ms : List DeferredHeader) (start want k at back n : ℕ) (m : DeferredHeader) : Type 0 where
+pub record AtHeader (g : List ℕ) (ms : List DeferredHeader) (start want k at back n : ℕ) (m : DeferredHeader) : Type 0 where
   pub order : m.at ≤ at
   pub upper : Rising m.at (drop k ms) (length g)
   pub run : back ≤ at - m.at → rendered g (at - back) (drop k ms) ≡ drop n (rendered g start ms)
   pub head : (i : ℕ) → i + (back - (at - m.at)) ≡ length (deferred_octets m) → at - m.at ≤ back → drop i (deferred_octets m) ++ rendered g m.at (drop k ms) ≡ drop n (rendered g start ms)
   pub more : (rest : ℕ) → rest + (at - m.at) + length (deferred_octets m) ≡ back → Walk g ms start want (k - 1) m.at rest
 
-pub at_mark : (g : List ℕ) (ms : List DeferredHeader) (start total k at back n : ℕ) (m d : DeferredHeader) → m ≡ get_or ms (k - 1) d → 0 < k → Walk g ms start (total - n) k at back → total ≡ length (rendered g start ms) → n ≤ total
-    → AtMark g ms start (total - n) k at back n m
-at_mark g ms start total zero at back n m d r p h e w = absurd (omega arith)
-at_mark g ms start total (suc k) at back n m d r p h e w =
+pub at_header : (g : List ℕ) (ms : List DeferredHeader) (start total k at back n : ℕ) (m d : DeferredHeader) → m ≡ get_or ms (k - 1) d → 0 < k → Walk g ms start (total - n) k at back → total ≡ length (rendered g start ms) → n ≤ total
+    → AtHeader g ms start (total - n) k at back n m
+at_header g ms start total zero at back n m d r p h e w = absurd (omega arith)
+at_header g ms start total (suc k) at back n m d r p h e w =
     let b = h.below in
     let inside : k < length ms = omega (arith, b) in
     let all : total - n + n ≡ length (rendered g start ms) = omega (arith, e, w) in
@@ -119,43 +119,43 @@ walk-end g ms start want k at back h e w =
     omega (arith, l, c, w)
 
 -- one octet forward
-pub step-head : (g : List ℕ) (ms : List DeferredHeader) (c e : Cursor) → c.inside < length (rest_octets c.rest) → e.rest ≡ c.rest → e.inside ≡ c.inside + 1 → e.at ≡ c.at → e.mark ≡ c.mark → ahead g ms c ≡ get_or (rest_octets c.rest) c.inside 0 ∷ ahead g ms e
+pub step-head : (g : List ℕ) (ms : List DeferredHeader) (c e : Cursor) → c.inside < length (rest_octets c.rest) → e.rest ≡ c.rest → e.inside ≡ c.inside + 1 → e.at ≡ c.at → e.first ≡ c.first → ahead g ms c ≡ get_or (rest_octets c.rest) c.inside 0 ∷ ahead g ms e
 step-head g ms c e h a b p q = rw (a, b, p, q, add-one, drop-cons (rest_octets c.rest) c.inside 0 h) refl
 
-head-done : (g : List ℕ) (ms : List DeferredHeader) (c : Cursor) → length (rest_octets c.rest) ≤ c.inside → ahead g ms c ≡ rendered g c.at (drop c.mark ms)
+head-done : (g : List ℕ) (ms : List DeferredHeader) (c : Cursor) → length (rest_octets c.rest) ≤ c.inside → ahead g ms c ≡ rendered g c.at (drop c.first ms)
 head-done g ms c h = rw (drop_all c.inside (rest_octets c.rest) h) refl
 
 module _ (g : List ℕ) (ms : List DeferredHeader) (c : Cursor) (done : length (rest_octets c.rest) ≤ c.inside) (p : Placed g ms c) where
-  pub step-mark : (h : HeaderRest) → drop c.mark ms ≡ record { at = c.at; rest = h } ∷ drop (suc c.mark) ms → ahead g ms c ≡ rest_octets h ++ rendered g c.at (drop (suc c.mark) ms)
-  step-mark h e =
-      let w : c.at ≤ length g = rising-below c.at (drop c.mark ms) (length g) p.rising in
+  pub step-header : (h : HeaderRest) → drop c.first ms ≡ record { at = c.at; rest = h } ∷ drop (suc c.first) ms → ahead g ms c ≡ rest_octets h ++ rendered g c.at (drop (suc c.first) ms)
+  step-header h e =
+      let w : c.at ≤ length g = rising-below c.at (drop c.first ms) (length g) p.rising in
       let none : drop c.at (take c.at g) ≡ [] = drop_all c.at (take c.at g) (omega (arith, length-take-le c.at g w)) in
       head-done g ms c done ∙ rw (e, none) refl
 
-  pub step-mark-placed : (h : HeaderRest) → drop c.mark ms ≡ record { at = c.at; rest = h } ∷ drop (suc c.mark) ms → (suc c.mark ≤ length ms) × Rising c.at (drop (suc c.mark) ms) (length g)
-  step-mark-placed h e =
-      let r : Rising c.at (record { at = c.at; rest = h } ∷ drop (suc c.mark) ms) (length g) = rw e at p.rising in
+  pub step-header-placed : (h : HeaderRest) → drop c.first ms ≡ record { at = c.at; rest = h } ∷ drop (suc c.first) ms → (suc c.first ≤ length ms) × Rising c.at (drop (suc c.first) ms) (length g)
+  step-header-placed h e =
+      let r : Rising c.at (record { at = c.at; rest = h } ∷ drop (suc c.first) ms) (length g) = rw e at p.rising in
       let l = ap length e in
-      (omega (arith, l, length-drop c.mark ms), r.1)
+      (omega (arith, l, length-drop c.first ms), r.1)
 
   away-rising : (at end : ℕ) (ns : List DeferredHeader) → Rising at ns end → Away at ns → at < end → Rising (suc at) ns end
   away-rising at end [] r a l = l
   away-rising at end (m ∷ ns) r a l = let q = r.0 in (omega (arith, q, a), r.1)
 
-  pub step-placed : Away c.at (drop c.mark ms) → c.at < length g → Rising (suc c.at) (drop c.mark ms) (length g)
-  step-placed a l = away-rising c.at (length g) (drop c.mark ms) p.rising a l
+  pub step-placed : Away c.at (drop c.first ms) → c.at < length g → Rising (suc c.at) (drop c.first ms) (length g)
+  step-placed a l = away-rising c.at (length g) (drop c.first ms) p.rising a l
 
-  pub step-gathered : Away c.at (drop c.mark ms) → c.at < length g → ahead g ms c ≡ get_or g c.at 0 ∷ rendered g (suc c.at) (drop c.mark ms)
+  pub step-gathered : Away c.at (drop c.first ms) → c.at < length g → ahead g ms c ≡ get_or g c.at 0 ∷ rendered g (suc c.at) (drop c.first ms)
   step-gathered a l =
       let one : drop c.at (take (suc c.at) g) ≡ get_or g c.at 0 ∷ [] = rw (take-suc g c.at 0 l) (drop_at (take c.at g) (get_or g c.at 0 ∷ []) c.at (length-take-le c.at g (omega arith))) in
-      head-done g ms c done ∙ rendered-front g c.at (suc c.at) (drop c.mark ms) (omega arith) (step-placed a l) ∙ rw one refl
+      head-done g ms c done ∙ rendered-front g c.at (suc c.at) (drop c.first ms) (omega arith) (step-placed a l) ∙ rw one refl
 
   nothing-left : (at : ℕ) (ns : List DeferredHeader) → Rising at ns (length g) → Away at ns → length g ≤ at → rendered g at ns ≡ []
   nothing-left at [] r a l = drop_all at g l
   nothing-left at (m ∷ ns) r a l = let q = r.0 in let w = rising-below m.at ns (length g) r.1 in absurd (a (omega (arith, q, w, l)))
 
-  pub step-none : Away c.at (drop c.mark ms) → length g ≤ c.at → ahead g ms c ≡ []
-  step-none a l = head-done g ms c done ∙ nothing-left c.at (drop c.mark ms) p.rising a l
+  pub step-none : Away c.at (drop c.first ms) → length g ≤ c.at → ahead g ms c ≡ []
+  step-none a l = head-done g ms c done ∙ nothing-left c.at (drop c.first ms) p.rising a l
 
 -- one octet of a comparison
 ltb-same : (x : ℕ) → ltb x x ≡ false

@@ -5,7 +5,7 @@ use Rattle.std.proofs.Math.Seq.{take-append_seam}
 use Rattle.rasn_types.specs.declared.types.codec.Codec.{Codec}
 use Rattle.rasn_types.specs.declared.types.tag.Tag.{Tag}
 use Rattle.rasn_enc.specs.View.{View, appended}
-use Rattle.rasn_enc.specs.Buffer.Lists.{IsMarked, count_of}
+use Rattle.rasn_enc.specs.Buffer.Lists.{IsEndOf, count_of}
 use Rattle.rasn_enc.specs.Buffer.Cuts.{list_from, Sound, Cut}
 use Rattle.rasn_enc.specs.Buffer.OpenValues.{frame_in, Chain}
 use Rattle.rasn_enc.specs.declared.ber.enc.writer.deferred_headers.DeferredHeader.{DeferredHeader}
@@ -21,7 +21,7 @@ tags_back None tags n e = refl
 tags_back (Some kept) tags n e = ap (λ l. Some l) (ap (λ z. take z (kept ++ tags)) e ∙ take-append_seam kept tags)
 
 module _ (r : Codec) (xs : List ℕ) (ms : List DeferredHeader) (s f n : ℕ) (os : List Open) (h : Sound xs ms s f n) (k : Chain xs ms 0 0 os s f) (t : Option (List Tag)) where
-  module _ (end : ListEnd) (v : View) (octets : List ℕ) (tags : List Tag) (m : IsMarked v.last end) (e : shown r xs ms s f t os ≡ appended v octets tags) where
+  module _ (end : ListEnd) (v : View) (octets : List ℕ) (tags : List Tag) (m : IsEndOf v.last end) (e : shown r xs ms s f t os ≡ appended v octets tags) where
     octets_were : list_from xs ms s f ≡ v.last.octets ++ octets
     octets_were = ap (λ (x : View). x.last.octets) e
 
@@ -31,11 +31,11 @@ module _ (r : Codec) (xs : List ℕ) (ms : List DeferredHeader) (s f n : ℕ) (o
     pub cut_view : (ys : List ℕ) (ns : List DeferredHeader) (c : Cut xs ms s f end.octets ys ns) (t2 : Option (List Tag)) → t2 ≡ option_map (take end.tags) t → shown r ys ns s f t2 os ≡ v
     cut_view ys ns c t2 g =
         let rule : r ≡ v.rule = ap (λ (x : View). x.rule) e in
-        let below : map (frame_in ys ns) os ≡ v.below = sym (frames-same xs ys ms ns 0 0 os s f k c.front c.marks_front) ∙ ap (λ (x : View). x.below) e in
+        let below : map (frame_in ys ns) os ≡ v.below = sym (frames-same xs ys ms ns 0 0 os s f k c.front c.headers_front) ∙ ap (λ (x : View). x.below) e in
         let l : length (list_from ys ns s f) ≡ length v.last.octets = sym c.sound.measure ∙ m.octets in
         let o : list_from ys ns s f ≡ v.last.octets = same_front (list_from ys ns s f) v.last.octets c.rest octets (sym c.list ∙ octets_were) l in
         let u : t2 ≡ v.last.tags = g ∙ (ap (option_map (take end.tags)) (ap (λ (x : View). x.last.tags) e) ∙ tags_back v.last.tags tags end.tags m.tags) in
         rw (rule, below, o, u) refl
 
   pub cut_chained : (m : ℕ) (ys : List ℕ) (ns : List DeferredHeader) → Cut xs ms s f m ys ns → Chain ys ns 0 0 os s f
-  cut_chained m ys ns c = chain-same xs ys ms ns 0 0 os s f k c.front c.marks_front c.sound.start_within c.sound.first_within
+  cut_chained m ys ns c = chain-same xs ys ms ns 0 0 os s f k c.front c.headers_front c.sound.start_within c.sound.first_within

@@ -196,8 +196,8 @@ module _ (r : Codec) (xs : List ℕ) (ms : List DeferredHeader) (os : List Open)
     finish-inner : rendered ys s (drop f ms) ≡ list_from xs ms s f ++ back r
     finish-inner = rendered-same ys (xs ++ back r) s (drop f ms) (length xs) finish-behind sound.rising ∙ rendered-more xs (back r) s (drop f ms) sound.rising
 
-    finish-marks : drop o.list.first ns ≡ drop o.list.first (take o.last ms) ++ (q.deferred ++ drop f ms)
-    finish-marks = rw (q.headers, drop-append-le o.list.first (take o.last ms) _ h.sound.first_within, h.lasts) refl
+    finish-headers : drop o.list.first ns ≡ drop o.list.first (take o.last ms) ++ (q.deferred ++ drop f ms)
+    finish-headers = rw (q.headers, drop-append-le o.list.first (take o.last ms) _ h.sound.first_within, h.lasts) refl
 
     below-rising : Rising o.list.start (drop o.list.first (take o.last ms)) o.end
     below-rising = rw finish-lower at h.sound.rising
@@ -221,7 +221,7 @@ module _ (r : Codec) (xs : List ℕ) (ms : List DeferredHeader) (os : List Open)
 
     finish-list : list_from ys ns o.list.start o.list.first ≡ list_from (take o.end xs) (take o.last ms) o.list.start o.list.first ++ constructed r tag (list_from xs ms s f)
     finish-list =
-        ap (rendered ys o.list.start) finish-marks
+        ap (rendered ys o.list.start) finish-headers
         ∙ (rendered-join ys o.list.start (drop o.list.first (take o.last ms)) o.end (q.deferred ++ drop f ms) below-rising outer-rising-room
         ∙ ap₂ (λ x y. rendered x o.list.start (drop o.list.first (take o.last ms)) ++ y) finish-below (finish-value ∙ sym finish-contents))
 
@@ -247,7 +247,7 @@ module _ (r : Codec) (xs : List ℕ) (ms : List DeferredHeader) (os : List Open)
         record {
           start_within = finish-start-within;
           first_within = finish-within;
-          rising = rw finish-marks (rising-join o.list.start (drop o.list.first (take o.last ms)) o.end (q.deferred ++ drop f ms) (length ys) below-rising outer-rising-room);
+          rising = rw finish-headers (rising-join o.list.start (drop o.list.first (take o.last ms)) o.end (q.deferred ++ drop f ms) (length ys) below-rising outer-rising-room);
           measure = rw finish-list (omega (arith, g, me, p, m, length-append (list_from (take o.end xs) (take o.last ms) o.list.start o.list.first) (constructed r tag (list_from xs ms s f)), length-append (header_octets (head_of r tag n)) (list_from xs ms s f ++ back r), length-append (list_from xs ms s f) (back r)));
         }
 

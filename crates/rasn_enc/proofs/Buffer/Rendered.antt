@@ -28,7 +28,7 @@ pub rising-more : (a : ℕ) (ms : List DeferredHeader) (e f : ℕ) → e ≤ f �
 rising-more a [] e f k h = omega (arith, k, h)
 rising-more a (m ∷ ms) e f k h = (h.0, rising-more m.at ms e f k h.1)
 
--- in front of a mark stands what the octets and the marks before it stand for
+-- in front of a deferred header stands what the octets and the headers before it stand for
 pub rendered-append : (xs : List ℕ) (a : ℕ) (ms : List DeferredHeader) (m : DeferredHeader) (ns : List DeferredHeader) → Rising a ms m.at → rendered xs a (ms ++ m ∷ ns) ≡ rendered (take m.at xs) a ms ++ (deferred_octets m ++ rendered xs m.at ns)
 rendered-append xs a [] m ns h = refl
 rendered-append xs a (n ∷ ms) m ns h =
@@ -45,7 +45,7 @@ drop-split a b xs h k =
     let l : a ≤ length (take b xs) = rw (length-take-le b xs k) h in
     ap (drop a) (sym (take-append-drop b xs)) ∙ drop-append-le a (take b xs) (drop b xs) l
 
--- the octets up to the first mark, and what follows
+-- the octets up to the first header, and what follows
 pub rendered-front : (xs : List ℕ) (a b : ℕ) (ms : List DeferredHeader) → a ≤ b → Rising b ms (length xs) → rendered xs a ms ≡ drop a (take b xs) ++ rendered xs b ms
 rendered-front xs a b [] h r = drop-split a b xs h r
 rendered-front xs a b (m ∷ ms) h r =

@@ -4,14 +4,14 @@ use Rattle.rasn_enc.specs.Buffer.DeferredHeaders.{rest_octets, rendered, Rising}
 use Rattle.rasn_enc.specs.declared.ber.enc.writer.deferred_headers.DeferredHeader.{DeferredHeader}
 use Rattle.rasn_enc.specs.declared.ber.enc.writer.cursors.Cursor.{Cursor}
 
--- what is left of a deferred header, and then the octets from `at` with the deferred headers from number `mark` on
+-- what is left of a deferred header, and then the octets from `at` with the deferred headers from number `first` on
 abbrev pub ahead : List ℕ → List DeferredHeader → Cursor → List ℕ
-ahead xs ms c = drop c.inside (rest_octets c.rest) ++ rendered xs c.at (drop c.mark ms)
+ahead xs ms c = drop c.inside (rest_octets c.rest) ++ rendered xs c.at (drop c.first ms)
 
 pub record Placed (xs : List ℕ) (ms : List DeferredHeader) (c : Cursor) : Type 0 where
   pub inside : c.inside ≤ length (rest_octets c.rest)
-  pub below : c.mark ≤ length ms
-  pub rising : Rising c.at (drop c.mark ms) (length xs)
+  pub below : c.first ≤ length ms
+  pub rising : Rising c.at (drop c.first ms) (length xs)
 
 -- the next deferred header doesn't stand here
 abbrev pub Away : ℕ → List DeferredHeader → Type 0

@@ -17,7 +17,7 @@ pub record Sound (xs : List ℕ) (ms : List DeferredHeader) (start first measure
 -- From a list that begins at `start`, with deferred header number `first`, octets are taken off until m are left. What stands before it stays.
 pub record Cut (xs : List ℕ) (ms : List DeferredHeader) (start first m : ℕ) (ys : List ℕ) (ns : List DeferredHeader) : Type 0 where
   pub front : take start xs ≡ take start ys
-  pub marks_front : take first ms ≡ take first ns
+  pub headers_front : take first ms ≡ take first ns
   pub sound : Sound ys ns start first m
   pub rest : List ℕ
   pub list : list_from xs ms start first ≡ list_from ys ns start first ++ rest

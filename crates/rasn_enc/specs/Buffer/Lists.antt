@@ -16,7 +16,7 @@ abbrev pub count_of : Option (List Tag) → ℕ
 count_of None = 0
 count_of (Some tags) = length tags
 
--- The mark tells where the list ends.
-pub record IsMarked (f : OpenList) (m : ListEnd) : Type 0 where
+-- This is where the list ends.
+pub record IsEndOf (f : OpenList) (m : ListEnd) : Type 0 where
   pub octets : m.octets ≡ length f.octets
   pub tags : m.tags ≡ count_of f.tags

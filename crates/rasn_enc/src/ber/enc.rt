@@ -80,6 +80,7 @@ impl Encoder {
     ///
     /// # Errors
     /// `OutOfMemory`: it reserves 1024 octets.
+    #[inline(always)]
     pub fn new(alloc: Global, options: EncoderOptions) -> Result<Encoder, EncodeError>
         ensures ok { IfOk result (λ e. e ≡ started options false) }
         ensures memory_alone { IfErr result (IsAllocError options) }
@@ -103,6 +104,7 @@ impl Encoder {
     ///
     /// # Errors
     /// `OutOfMemory`: it reserves 1024 octets.
+    #[inline(always)]
     pub fn new_with_buffer(
         alloc: Global,
         options: EncoderOptions,
@@ -131,6 +133,7 @@ impl Encoder {
     ///
     /// # Errors
     /// `SetOutOfOrder` where the output keeps tags and some tag is below the one before it; else `OutOfMemory` alone.
+    #[inline(always)]
     pub fn output(self) -> Result<Vec<u8>, EncodeError>
         ensures ok { IfOk result (λ v. v.items ≡ self.last.octets) }
         ensures order { OnOk result (AreTagsInOrder self) }
@@ -178,6 +181,7 @@ impl Encoder {
     }
 
     /// Puts a primitive value behind the last list.
+    #[inline(always)]
     fn leaf(&mut self, tag: Tag, contents: &[u8]) -> Result<(), EncodeError>
         ensures ok { OnOk result (Appends (PrimitiveEncoding tag contents.now) tag self.old self.new) }
         ensures err { OnErr result (self.new ≡ self.old) }
@@ -187,6 +191,7 @@ impl Encoder {
     }
 
     /// Puts a primitive value behind the last list; `contents` writes its contents in place.
+    #[inline(always)]
     fn leaf_with<F: FnOnce(&mut Vec<u8>) -> Result<(), FillError>>(
         &mut self,
         tag: Tag,

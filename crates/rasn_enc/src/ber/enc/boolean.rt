@@ -15,6 +15,7 @@ impl Encoder {
     ///
     /// # Errors
     /// `OutOfMemory` alone.
+    #[inline(always)]
     pub fn encode_bool(
         &mut self,
         tag: Tag,
@@ -31,6 +32,12 @@ impl Encoder {
 }
 
 impl Encode for bool {
+    #[inline(always)]
+    fn encode(&self, encoder: &mut Encoder) -> Result<(), EncodeError> {
+        encoder.encode_bool(Tag::BOOL, *self, Identifier::EMPTY)
+    }
+
+    #[inline(always)]
     fn encode_with_tag_and_constraints(
         &self,
         encoder: &mut Encoder,

@@ -12,6 +12,7 @@ use rasn_types::types::Tag;
 
 impl Encoder {
     /// Writes a constructed value, whose contents are what `contents` writes. Where that refuses, nothing is written.
+    #[inline(always)]
     pub(super) fn enclose<F: FnOnce(&mut Encoder) -> Result<(), EncodeError>>(
         &mut self,
         tag: Tag,
@@ -59,6 +60,7 @@ impl Encoder {
     }
 
     /// Opens a value: its contents are the last list now.
+    #[inline(always)]
     pub(super) fn open(&mut self, keeps_tags: bool) -> Result<(), EncodeError>
         ensures ok { OnOk result (self.new ≡ opened self.old keeps_tags) }
         ensures err { OnErr result (self.new ≡ self.old) }
@@ -68,6 +70,7 @@ impl Encoder {
     }
 
     /// Closes the value that was opened last, or drops it where its contents were refused.
+    #[inline(always)]
     pub(super) fn close(
         &mut self,
         tag: Tag,

@@ -1,7 +1,9 @@
 //! Writing INTEGER.
 #![tactic(auto, using(crate::proofs::Leaves::Primitive::integer_refused))]
 
-ghost use Rattle.std.specs.Prelude.{ℕ, List, ◌≡◌, ◌≤ℤ◌, ◌++◌, IfErr, OnOk, OnErr};
+ghost use Rattle.std.specs.Prelude.{ℕ, List, ◌≡◌, ◌<◌, ◌≤ℤ◌, ◌++◌, length, IfErr, OnOk, OnErr};
+ghost use Rattle.rasn_types.specs.Truth.{IsWhether};
+ghost use Rattle.rasn_types.specs.Contents.{signed};
 ghost use Rattle.rasn_types.specs.Shapes.{Admits, IsIn};
 ghost use Rattle.rasn_enc.specs.declared.ber.enc.writer.filled.FillError.TheVariants.{Refused};
 ghost use Rattle.rasn_enc.specs.Errors.{FailsAtInteger};
@@ -19,6 +21,7 @@ impl Encoder {
     ///
     /// # Errors
     /// `ValueConstraintNotSatisfied` where the number is out of its bound and memory holds a copy of it, else `OutOfMemory` alone.
+    #[inline(always)]
     pub fn encode_integer<I: IntegerType>(
         &mut self,
         tag: Tag,
@@ -55,10 +58,28 @@ fn write_integer<I: IntegerType>(
     let Ok(()) = value.append_octets(octets) else {
         return Err(FillError::NoMemory);
     };
-    if !constraints.admits_number(&octets[start..]) {
+    if !admits(constraints, &octets[start..]) {
         return Err(FillError::Refused);
     }
     Ok(())
+}
+
+/// Whether a number meets its bound.
+#[inline(always)]
+fn admits(constraints: &Constraints, octets: &[u8]) -> bool
+    requires { 0 < length octets.now }
+    ensures { IsWhether result (Admits ◌≤ℤ◌ constraints.now.value (signed octets.now)) }
+{
+    constraints.value.is_none() || meets_bound(constraints, octets)
+}
+
+/// Whether a number meets its bound. It isn't inlined, so that the octets of a number without one are written by inlined code.
+#[inline(never)]
+fn meets_bound(constraints: &Constraints, octets: &[u8]) -> bool
+    requires { 0 < length octets.now }
+    ensures { IsWhether result (Admits ◌≤ℤ◌ constraints.now.value (signed octets.now)) }
+{
+    constraints.admits_number(octets)
 }
 
 /// Makes the error of a number that is out of its bound, with a copy of the number; if the copy finds no memory, that is the error.
@@ -88,6 +109,12 @@ fn refused_value<I: IntegerType>(
 }
 
 impl Encode for i8 {
+    #[inline(always)]
+    fn encode(&self, encoder: &mut Encoder) -> Result<(), EncodeError> {
+        encoder.encode_integer::<i8>(Tag::INTEGER, &Constraints::NONE, self, Identifier::EMPTY)
+    }
+
+    #[inline(always)]
     fn encode_with_tag_and_constraints(
         &self,
         encoder: &mut Encoder,
@@ -104,6 +131,12 @@ impl Encode for i8 {
 }
 
 impl Encode for i16 {
+    #[inline(always)]
+    fn encode(&self, encoder: &mut Encoder) -> Result<(), EncodeError> {
+        encoder.encode_integer::<i16>(Tag::INTEGER, &Constraints::NONE, self, Identifier::EMPTY)
+    }
+
+    #[inline(always)]
     fn encode_with_tag_and_constraints(
         &self,
         encoder: &mut Encoder,
@@ -120,6 +153,12 @@ impl Encode for i16 {
 }
 
 impl Encode for i32 {
+    #[inline(always)]
+    fn encode(&self, encoder: &mut Encoder) -> Result<(), EncodeError> {
+        encoder.encode_integer::<i32>(Tag::INTEGER, &Constraints::NONE, self, Identifier::EMPTY)
+    }
+
+    #[inline(always)]
     fn encode_with_tag_and_constraints(
         &self,
         encoder: &mut Encoder,
@@ -136,6 +175,12 @@ impl Encode for i32 {
 }
 
 impl Encode for i64 {
+    #[inline(always)]
+    fn encode(&self, encoder: &mut Encoder) -> Result<(), EncodeError> {
+        encoder.encode_integer::<i64>(Tag::INTEGER, &Constraints::NONE, self, Identifier::EMPTY)
+    }
+
+    #[inline(always)]
     fn encode_with_tag_and_constraints(
         &self,
         encoder: &mut Encoder,
@@ -152,6 +197,12 @@ impl Encode for i64 {
 }
 
 impl Encode for i128 {
+    #[inline(always)]
+    fn encode(&self, encoder: &mut Encoder) -> Result<(), EncodeError> {
+        encoder.encode_integer::<i128>(Tag::INTEGER, &Constraints::NONE, self, Identifier::EMPTY)
+    }
+
+    #[inline(always)]
     fn encode_with_tag_and_constraints(
         &self,
         encoder: &mut Encoder,
@@ -168,6 +219,12 @@ impl Encode for i128 {
 }
 
 impl Encode for isize {
+    #[inline(always)]
+    fn encode(&self, encoder: &mut Encoder) -> Result<(), EncodeError> {
+        encoder.encode_integer::<isize>(Tag::INTEGER, &Constraints::NONE, self, Identifier::EMPTY)
+    }
+
+    #[inline(always)]
     fn encode_with_tag_and_constraints(
         &self,
         encoder: &mut Encoder,
@@ -184,6 +241,12 @@ impl Encode for isize {
 }
 
 impl Encode for u8 {
+    #[inline(always)]
+    fn encode(&self, encoder: &mut Encoder) -> Result<(), EncodeError> {
+        encoder.encode_integer::<u8>(Tag::INTEGER, &Constraints::NONE, self, Identifier::EMPTY)
+    }
+
+    #[inline(always)]
     fn encode_with_tag_and_constraints(
         &self,
         encoder: &mut Encoder,
@@ -200,6 +263,12 @@ impl Encode for u8 {
 }
 
 impl Encode for u16 {
+    #[inline(always)]
+    fn encode(&self, encoder: &mut Encoder) -> Result<(), EncodeError> {
+        encoder.encode_integer::<u16>(Tag::INTEGER, &Constraints::NONE, self, Identifier::EMPTY)
+    }
+
+    #[inline(always)]
     fn encode_with_tag_and_constraints(
         &self,
         encoder: &mut Encoder,
@@ -216,6 +285,12 @@ impl Encode for u16 {
 }
 
 impl Encode for u32 {
+    #[inline(always)]
+    fn encode(&self, encoder: &mut Encoder) -> Result<(), EncodeError> {
+        encoder.encode_integer::<u32>(Tag::INTEGER, &Constraints::NONE, self, Identifier::EMPTY)
+    }
+
+    #[inline(always)]
     fn encode_with_tag_and_constraints(
         &self,
         encoder: &mut Encoder,
@@ -232,6 +307,12 @@ impl Encode for u32 {
 }
 
 impl Encode for u64 {
+    #[inline(always)]
+    fn encode(&self, encoder: &mut Encoder) -> Result<(), EncodeError> {
+        encoder.encode_integer::<u64>(Tag::INTEGER, &Constraints::NONE, self, Identifier::EMPTY)
+    }
+
+    #[inline(always)]
     fn encode_with_tag_and_constraints(
         &self,
         encoder: &mut Encoder,
@@ -248,6 +329,12 @@ impl Encode for u64 {
 }
 
 impl Encode for u128 {
+    #[inline(always)]
+    fn encode(&self, encoder: &mut Encoder) -> Result<(), EncodeError> {
+        encoder.encode_integer::<u128>(Tag::INTEGER, &Constraints::NONE, self, Identifier::EMPTY)
+    }
+
+    #[inline(always)]
     fn encode_with_tag_and_constraints(
         &self,
         encoder: &mut Encoder,
@@ -264,6 +351,12 @@ impl Encode for u128 {
 }
 
 impl Encode for usize {
+    #[inline(always)]
+    fn encode(&self, encoder: &mut Encoder) -> Result<(), EncodeError> {
+        encoder.encode_integer::<usize>(Tag::INTEGER, &Constraints::NONE, self, Identifier::EMPTY)
+    }
+
+    #[inline(always)]
     fn encode_with_tag_and_constraints(
         &self,
         encoder: &mut Encoder,
@@ -280,6 +373,12 @@ impl Encode for usize {
 }
 
 impl Encode for Integer {
+    #[inline(always)]
+    fn encode(&self, encoder: &mut Encoder) -> Result<(), EncodeError> {
+        encoder.encode_integer::<Integer>(Tag::INTEGER, &Constraints::NONE, self, Identifier::EMPTY)
+    }
+
+    #[inline(always)]
     fn encode_with_tag_and_constraints(
         &self,
         encoder: &mut Encoder,

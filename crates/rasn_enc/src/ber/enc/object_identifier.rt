@@ -43,6 +43,7 @@ pub fn object_identifier_as_bytes(
 }
 
 /// Puts the contents octets of an object identifier behind octets, or some of them if an allocation fails.
+#[inline(always)]
 pub fn append_contents(oid: &[u32], octets: &mut Vec<u8>) -> Result<(), FillError>
     ensures ok { OnOk result (AppendsContents oid.now octets.old.items octets.new.items) }
     ensures behind { (l : List ℕ) × (octets.new.items ≡ octets.old.items ++ l) }
@@ -86,6 +87,7 @@ pub fn refused_arcs(alloc: Global, codec: Codec, arcs: &[u32]) -> EncodeError
 }
 
 /// Puts subidentifiers behind the octets, or some of them if an allocation fails.
+#[inline(always)]
 fn append_arcs(first: u32, others: &[u32], octets: &mut Vec<u8>) -> Result<(), AllocError>
     ensures ok { OnOk result (AppendsSubidentifiers (first ∷ others.now) octets.old.items octets.new.items) }
     ensures err { OnErr result ((l : List ℕ) × (octets.new.items ≡ octets.old.items ++ l)) }
@@ -100,10 +102,14 @@ fn append_arcs(first: u32, others: &[u32], octets: &mut Vec<u8>) -> Result<(), A
 }
 
 /// Puts one subidentifier behind the octets.
+#[inline(always)]
 fn append_arc(arc: u32, octets: &mut Vec<u8>) -> Result<(), AllocError>
     ensures ok { OnOk result (AppendsSubidentifier arc octets.old.items octets.new.items) }
     ensures err { OnErr result (octets.new.items ≡ octets.old.items) }
 {
+    if arc < 128 {
+        return octets.extend_from_slice(&[arc as u8]);
+    }
     octets.reserve(count_groups(arc))?;
     write_groups(octets, arc);
     Ok(())
@@ -114,6 +120,7 @@ impl Encoder {
     ///
     /// # Errors
     /// `InvalidObjectIdentifier` where the arcs have no octets and memory holds a copy of them, else `OutOfMemory` alone.
+    #[inline(always)]
     pub fn encode_object_identifier(
         &mut self,
         tag: Tag,
@@ -135,6 +142,17 @@ impl Encoder {
 }
 
 impl Encode for ObjectIdentifier {
+    #[inline(always)]
+    fn encode(&self, encoder: &mut Encoder) -> Result<(), EncodeError> {
+        self.encode_with_tag_and_constraints(
+            encoder,
+            Tag::OBJECT_IDENTIFIER,
+            &Constraints::NONE,
+            Identifier::EMPTY,
+        )
+    }
+
+    #[inline(always)]
     fn encode_with_tag_and_constraints(
         &self,
         encoder: &mut Encoder,

@@ -14,6 +14,7 @@ impl Encoder {
     ///
     /// # Errors
     /// `SizeConstraintNotSatisfied` where the number of octets is out of its bound, else `OutOfMemory` alone.
+    #[inline(always)]
     pub fn encode_octet_string(
         &mut self,
         tag: Tag,
@@ -30,6 +31,17 @@ impl Encoder {
 }
 
 impl Encode for OctetString {
+    #[inline(always)]
+    fn encode(&self, encoder: &mut Encoder) -> Result<(), EncodeError> {
+        self.encode_with_tag_and_constraints(
+            encoder,
+            Tag::OCTET_STRING,
+            &Constraints::NONE,
+            Identifier::EMPTY,
+        )
+    }
+
+    #[inline(always)]
     fn encode_with_tag_and_constraints(
         &self,
         encoder: &mut Encoder,

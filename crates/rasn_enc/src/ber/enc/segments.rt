@@ -19,6 +19,7 @@ const SEGMENT: usize = MAX_SEGMENT_LENGTH;
 
 impl Encoder {
     /// Writes the octets of a string of so many characters, where these are within the size.
+    #[inline(always)]
     pub(super) fn string(
         &mut self,
         tag: Tag,

@@ -16,6 +16,7 @@ impl Encoder {
     ///
     /// # Errors
     /// `SizeConstraintNotSatisfied`; what an element refuses; else `OutOfMemory` alone. Nothing is written then.
+    #[inline(always)]
     pub fn encode_sequence_of<E: Encode>(
         &mut self,
         tag: Tag,
@@ -34,6 +35,7 @@ impl Encoder {
         })
     }
 
+    #[inline(always)]
     fn append_elements<E: Encode>(&mut self, values: &[E]) -> Result<(), EncodeError>
         requires { self.old.last.tags ≡ None }
         ensures keeps { LeavesOthers self.old self.new }
@@ -50,6 +52,17 @@ impl Encoder {
 }
 
 impl<T: Encode> Encode for Vec<T> {
+    #[inline(always)]
+    fn encode(&self, encoder: &mut Encoder) -> Result<(), EncodeError> {
+        self.encode_with_tag_and_constraints(
+            encoder,
+            Tag::SEQUENCE,
+            &Constraints::NONE,
+            Identifier::EMPTY,
+        )
+    }
+
+    #[inline(always)]
     fn encode_with_tag_and_constraints(
         &self,
         encoder: &mut Encoder,

@@ -3,14 +3,14 @@
 //! Values are gathered one behind the other in one vector. A value that holds others leaves room in front of its contents for the two octets
 //! that its header has at least. Where it has more, a deferred header tells what comes still: these octets are put in once, from the back,
 //! when the output is asked for.
-ghost use Rattle.std.specs.Prelude.{ℕ, List, ◌≡◌, ◌<◌, ◌≤◌, ◌-◌, [], ◌⊎◌, length, MatchBool, take, drop, IfOk, IfErr, OnOk, OnErr, false};
+ghost use Rattle.std.specs.Prelude.{ℕ, List, ◌≡◌, ◌<◌, ◌≤◌, ◌-◌, [], ◌⊎◌, length, take, drop, IfOk, IfErr, OnOk, OnErr, false};
 ghost use Rattle.std.specs.Fn.{FnOnceTakesAtMut};
-ghost use Rattle.rasn_types.specs.Truth.{IsWhether};
+ghost use Rattle.rasn_types.specs.Truth.{IsWhether, IsUnless};
 ghost use Rattle.rasn_types.specs.Bytes.{PrimitiveEncoding, ConstructedEncoding, AreAscending};
 ghost use Rattle.rasn_types.specs.declared.types.tag.Tag.{Tag};
 ghost use Rattle.rasn_types.specs.Tags.{IsTagBelow};
 ghost use Rattle.rasn_enc.specs.View.{View, started, opened, appended, IsBelow};
-ghost use Rattle.rasn_enc.specs.Buffer.Lists.{IsMarked};
+ghost use Rattle.rasn_enc.specs.Buffer.Lists.{IsEndOf};
 ghost use Rattle.rasn_enc.specs.Buffer.OpenValues.{kept_of};
 ghost use Rattle.rasn_enc.specs.Primitive.{Appends, IsAllocError};
 ghost use Rattle.rasn_enc.specs.Order.{octets_less, FallsBetween};
@@ -83,7 +83,7 @@ pub struct Writer {
     alloc: Global,
     rule: Codec,
     gathered: Vec<u8>,
-    marks: Vec<DeferredHeader>,
+    headers: Vec<DeferredHeader>,
     list: ValueList,
     /// The open values around the innermost one, the outermost first.
     around: Vec<Open>,
@@ -101,13 +101,14 @@ impl Model for Writer {
     ghost use Rattle.rasn_enc.specs.Buffer.OpenValues.{frame_in, Chain, opens, IsInnermost};
     ghost use Rattle.rasn_enc.specs.Buffer.Cuts.{list_from, Sound};
 
-    ghost view = { λ e. record { rule = e.rule; below = map (frame_in e.gathered.items e.marks.items) (opens e.around.items e.innermost); last = record { octets = list_from e.gathered.items e.marks.items e.list.start e.list.first; tags = tags_of e.list.tags } } };
+    ghost view = { λ e. record { rule = e.rule; below = map (frame_in e.gathered.items e.headers.items) (opens e.around.items e.innermost); last = record { octets = list_from e.gathered.items e.headers.items e.list.start e.list.first; tags = tags_of e.list.tags } } };
 
-    ghost invariant = { λ e. Sound e.gathered.items e.marks.items e.list.start e.list.first e.list.measured × Chain e.gathered.items e.marks.items 0 0 (opens e.around.items e.innermost) e.list.start e.list.first × IsInnermost e.around.items e.innermost };
+    ghost invariant = { λ e. Sound e.gathered.items e.headers.items e.list.start e.list.first e.list.measured × Chain e.gathered.items e.headers.items 0 0 (opens e.around.items e.innermost) e.list.start e.list.first × IsInnermost e.around.items e.innermost };
 }
 
 impl Writer {
     /// Nothing is written: the octets will be put into this vector, in the place of what it holds.
+    #[inline(always)]
     pub fn over(
         alloc: Global,
         rule: Codec,
@@ -131,7 +132,7 @@ impl Writer {
             alloc,
             rule,
             gathered,
-            marks: Vec::new(alloc),
+            headers: Vec::new(alloc),
             list: ValueList {
                 start: 0,
                 first: 0,
@@ -156,6 +157,7 @@ impl Writer {
     }
 
     /// The octets of the last list.
+    #[inline(always)]
     pub fn output(self) -> Result<Vec<u8>, EncodeError>
         ensures ok { IfOk result (λ v. v.items ≡ self.last.octets) }
         ensures refused { IfErr result (IsAllocError self.rule) }
@@ -164,7 +166,7 @@ impl Writer {
             alloc: _,
             rule,
             gathered,
-            marks,
+            headers,
             list,
             around: _,
             innermost: _,
@@ -175,13 +177,14 @@ impl Writer {
             measured,
             tags: _,
         } = list;
-        match rendered_from(gathered, &marks[first..], start, measured) {
+        match rendered_from(gathered, &headers[first..], start, measured) {
             Ok(octets) => Ok(octets),
             Err(_) => Err(out_of_memory(rule)),
         }
     }
 
     /// Opens a value: its contents are the last list now.
+    #[inline(always)]
     pub fn begin(&mut self, keeps_tags: bool) -> Result<(), EncodeError>
         ensures ok { OnOk result (self.new ≡ opened self.old keeps_tags) }
         ensures err { OnErr result (self.new ≡ self.old) }
@@ -194,7 +197,7 @@ impl Writer {
         match push_innermost(&mut self.around, &mut self.innermost) {
             Ok(()) => {
                 let end = self.gathered.len();
-                let last = self.marks.len();
+                let last = self.headers.len();
                 let tags = if keeps_tags {
                     Some(Vec::new(self.alloc))
                 } else {
@@ -223,11 +226,12 @@ impl Writer {
     {
         let Open { list, end, last } = pop_innermost(&mut self.around, &mut self.innermost);
         self.gathered.truncate(end);
-        self.marks.truncate(last);
+        self.headers.truncate(last);
         self.list = list;
     }
 
     /// Closes the value that was opened last: it stands behind the list below.
+    #[inline(always)]
     pub fn finish(&mut self, tag: Tag) -> Result<(), EncodeError>
         requires { 0 < length self.old.below }
         ensures ok { OnOk result ((v : View) → IsBelow v self.old → Appends (ConstructedEncoding v.rule tag self.old.last.octets) tag v self.new) }
@@ -239,7 +243,7 @@ impl Writer {
         let mut open = pop_innermost(&mut self.around, &mut self.innermost);
         let closed = surround(
             &mut self.gathered,
-            &mut self.marks,
+            &mut self.headers,
             &mut open,
             rule,
             tag,
@@ -251,13 +255,14 @@ impl Writer {
             Ok(()) => Ok(()),
             Err(_) => {
                 self.gathered.truncate(end);
-                self.marks.truncate(last);
+                self.headers.truncate(last);
                 Err(out_of_memory(rule))
             }
         }
     }
 
     /// Puts a primitive value behind the last list.
+    #[inline(always)]
     pub fn leaf(&mut self, tag: Tag, contents: &[u8]) -> Result<(), EncodeError>
         ensures ok { OnOk result (Appends (PrimitiveEncoding tag contents.now) tag self.old self.new) }
         ensures err { OnErr result (self.new ≡ self.old) }
@@ -279,6 +284,7 @@ impl Writer {
     }
 
     /// Puts a primitive value behind the last list; `contents` writes its contents in place.
+    #[inline(always)]
     pub fn leaf_with<F: FnOnce(&mut Vec<u8>) -> Result<(), FillError>>(
         &mut self,
         tag: Tag,
@@ -307,7 +313,7 @@ impl Writer {
 
     /// Where the last list ends.
     pub fn end(&self) -> ListEnd
-        ensures { IsMarked self.now.last result }
+        ensures { IsEndOf self.now.last result }
     {
         ListEnd {
             octets: self.list.measured,
@@ -317,14 +323,14 @@ impl Writer {
 
     /// Takes off the last list what was put behind it since.
     pub fn cut_back(&mut self, end: ListEnd)
-        ensures { (v : View) (octets : List ℕ) (tags : List Tag) → IsMarked v.last end → self.old ≡ appended v octets tags → self.new ≡ v }
+        ensures { (v : View) (octets : List ℕ) (tags : List Tag) → IsEndOf v.last end → self.old ≡ appended v octets tags → self.new ≡ v }
     {
         if self.list.measured < end.octets {
             return;
         }
         cut(
             &mut self.gathered,
-            &mut self.marks,
+            &mut self.headers,
             self.list.start,
             self.list.first,
             self.list.measured,
@@ -355,27 +361,27 @@ impl Writer {
         requires within { middle ≤ length self.now.last.octets }
         ensures { result ≡ octets_less (drop middle self.now.last.octets) (take (middle - from) (drop from self.now.last.octets)) }
     {
-        let marks = &self.marks[self.list.first..];
+        let headers = &self.headers[self.list.first..];
         let left = place(
             &self.gathered,
-            marks,
+            headers,
             self.list.start,
             self.list.measured,
             middle,
         );
         let right = place(
             &self.gathered,
-            marks,
+            headers,
             self.list.start,
             self.list.measured,
             from,
         );
-        rendered_before(&self.gathered, marks, left, right, middle - from)
+        rendered_before(&self.gathered, headers, left, right, middle - from)
     }
 
     /// Whether the tags that the last list keeps fall, each compared with the one before it (X.690 9.3).
     pub fn kept_tags_out_of_order(&self) -> bool
-        ensures { MatchBool result (AreAscending IsTagBelow (kept_of self.now.last.tags) → ⊥) (AreAscending IsTagBelow (kept_of self.now.last.tags)) }
+        ensures { IsUnless result (AreAscending IsTagBelow (kept_of self.now.last.tags)) }
     {
         match &self.list.tags {
             Some(tags) => tags_out_of_order(tags),

@@ -8,82 +8,82 @@ use crate::ber::enc::writer::deferred_headers::DeferredHeader;
 use crate::ber::enc::writer::header_rest::HeaderRest;
 
 /// A place in rendered octets: what is left of a deferred header, then the gathered octets from `at` on with the deferred headers from number
-/// `mark` on.
+/// `first` on.
 #[derive(Clone, Copy, Drop)]
 pub struct Cursor {
     pub rest: HeaderRest,
     pub inside: usize,
     pub at: usize,
-    pub mark: usize,
+    pub first: usize,
 }
 
 /// Finds the place behind the first n octets of a list of `total`, from its back.
 pub fn place(
     gathered: &[u8],
-    marks: &[DeferredHeader],
+    headers: &[DeferredHeader],
     start: usize,
     total: usize,
     n: usize,
 ) -> Cursor
-    requires rising { Rising start marks.now (length gathered.now) }
-    requires measured { total ≡ length (rendered gathered.now start marks.now) }
+    requires rising { Rising start headers.now (length gathered.now) }
+    requires measured { total ≡ length (rendered gathered.now start headers.now) }
     requires within { n ≤ total }
-    ensures placed { Placed gathered.now marks.now result }
-    ensures rest { ahead gathered.now marks.now result ≡ drop n (rendered gathered.now start marks.now) }
+    ensures placed { Placed gathered.now headers.now result }
+    ensures rest { ahead gathered.now headers.now result ≡ drop n (rendered gathered.now start headers.now) }
 {
     let mut at = gathered.len();
-    let mut k = marks.len();
+    let mut k = headers.len();
     let mut back = total - n;
     while k > 0 {
-        let mark = marks[k - 1];
-        let run = at - mark.at;
+        let header = headers[k - 1];
+        let run = at - header.at;
         if back <= run {
             return Cursor {
                 rest: HeaderRest::new(),
                 inside: 0,
                 at: at - back,
-                mark: k,
+                first: k,
             };
         }
-        let own = mark.rest.len();
+        let own = header.rest.len();
         if back - run <= own {
             return Cursor {
-                rest: mark.rest,
+                rest: header.rest,
                 inside: own - (back - run),
-                at: mark.at,
-                mark: k,
+                at: header.at,
+                first: k,
             };
         }
         back = back - run - own;
-        at = mark.at;
+        at = header.at;
         k -= 1;
     }
     Cursor {
         rest: HeaderRest::new(),
         inside: 0,
         at: at - back,
-        mark: 0,
+        first: 0,
     }
 }
 
 /// Gives the octets of the deferred header that stands at a place, if one does.
-fn header_here(marks: &[DeferredHeader], k: usize, at: usize) -> Option<HeaderRest>
-    requires { k ≤ length marks.now }
-    ensures { MatchOption result (Away at (drop k marks.now)) (λ r. drop k marks.now ≡ record { at = at; rest = r } ∷ drop (suc k) marks.now) }
+fn header_here(headers: &[DeferredHeader], k: usize, at: usize) -> Option<HeaderRest>
+    requires { k ≤ length headers.now }
+    ensures { MatchOption result (Away at (drop k headers.now)) (λ r. drop k headers.now ≡ record { at = at; rest = r } ∷ drop (suc k) headers.now) }
 {
-    if k < marks.len() {
-        let mark = marks[k];
-        if mark.at == at {
-            return Some(mark.rest);
+    if k < headers.len() {
+        let header = headers[k];
+        if header.at == at {
+            return Some(header.rest);
         }
     }
     None
 }
 
 /// Gives the octet at a place, and the place behind it.
-fn next(gathered: &[u8], marks: &[DeferredHeader], cursor: Cursor) -> Option<(u8, Cursor)>
-    requires { Placed gathered.now marks.now cursor }
-    ensures { MatchOption result (ahead gathered.now marks.now cursor ≡ []) (λ p. (ahead gathered.now marks.now cursor ≡ p.0 ∷ ahead gathered.now marks.now p.1) × Placed gathered.now marks.now p.1) }
+fn next(gathered: &[u8], headers: &[DeferredHeader], cursor: Cursor) -> Option<(u8, Cursor)>
+    requires { Placed gathered.now headers.now cursor }
+    ensures { MatchOption result (ahead gathered.now headers.now cursor ≡ []) (λ p. (ahead gathered.now headers.now cursor ≡ p.0 ∷ ahead gathered.now headers.now p.1) × Placed gathered.now headers.now p.1) }
 {
     let mut here = cursor;
     loop {
@@ -94,17 +94,17 @@ fn next(gathered: &[u8], marks: &[DeferredHeader], cursor: Cursor) -> Option<(u8
                 rest: here.rest,
                 inside: here.inside + 1,
                 at: here.at,
-                mark: here.mark,
+                first: here.first,
             };
             return Some((octet, more));
         }
-        match header_here(marks, here.mark, here.at) {
+        match header_here(headers, here.first, here.at) {
             Some(rest) => {
                 here = Cursor {
                     rest,
                     inside: 0,
                     at: here.at,
-                    mark: here.mark + 1,
+                    first: here.first + 1,
                 };
             }
             None => {
@@ -114,7 +114,7 @@ fn next(gathered: &[u8], marks: &[DeferredHeader], cursor: Cursor) -> Option<(u8
                         rest: HeaderRest::new(),
                         inside: 0,
                         at: here.at + 1,
-                        mark: here.mark,
+                        first: here.first,
                     };
                     return Some((octet, more));
                 }
@@ -127,22 +127,22 @@ fn next(gathered: &[u8], marks: &[DeferredHeader], cursor: Cursor) -> Option<(u8
 /// Whether what stands ahead of `left` is less than the first n octets that stand ahead of `right`.
 pub fn rendered_before(
     gathered: &[u8],
-    marks: &[DeferredHeader],
+    headers: &[DeferredHeader],
     left: Cursor,
     right: Cursor,
     n: usize,
 ) -> bool
-    requires left { Placed gathered.now marks.now left }
-    requires right { Placed gathered.now marks.now right }
-    ensures { result ≡ octets_less (ahead gathered.now marks.now left) (take n (ahead gathered.now marks.now right)) }
+    requires left { Placed gathered.now headers.now left }
+    requires right { Placed gathered.now headers.now right }
+    ensures { result ≡ octets_less (ahead gathered.now headers.now left) (take n (ahead gathered.now headers.now right)) }
 {
     let mut a = left;
     let mut b = right;
     let mut count = n;
     while count > 0 {
-        match next(gathered, marks, b) {
+        match next(gathered, headers, b) {
             None => return false,
-            Some((y, more)) => match next(gathered, marks, a) {
+            Some((y, more)) => match next(gathered, headers, a) {
                 None => return true,
                 Some((x, rest)) => {
                     if x < y {

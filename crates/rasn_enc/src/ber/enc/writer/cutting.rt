@@ -7,35 +7,38 @@ use crate::ber::enc::writer::deferred_headers::DeferredHeader;
 /// Takes octets off the back of a list that begins at `start`, with deferred header number `first`, until `count` are left of `measured`.
 pub fn cut(
     gathered: &mut Vec<u8>,
-    marks: &mut Vec<DeferredHeader>,
+    headers: &mut Vec<DeferredHeader>,
     start: usize,
     first: usize,
     measured: usize,
     count: usize,
 )
-    requires sound { Sound gathered.old.items marks.old.items start first measured }
+    requires sound { Sound gathered.old.items headers.old.items start first measured }
     requires within { count ≤ measured }
-    ensures { Cut gathered.old.items marks.old.items start first count gathered.new.items marks.new.items }
+    ensures { Cut gathered.old.items headers.old.items start first count gathered.new.items headers.new.items }
 {
     let mut left = measured - count;
-    while first < marks.len() {
-        let last = marks.len() - 1;
-        let mark = marks[last];
-        let run = gathered.len() - mark.at;
+    while first < headers.len() {
+        let last = headers.len() - 1;
+        let header = headers[last];
+        let run = gathered.len() - header.at;
         if left <= run {
             gathered.truncate(gathered.len() - left);
             return;
         }
-        gathered.truncate(mark.at);
+        gathered.truncate(header.at);
         left -= run;
-        let own = mark.rest.len();
+        let own = header.rest.len();
         if left < own {
-            let mut rest = mark.rest;
+            let mut rest = header.rest;
             rest.truncate(own - left);
-            marks[last] = DeferredHeader { at: mark.at, rest };
+            headers[last] = DeferredHeader {
+                at: header.at,
+                rest,
+            };
             return;
         }
-        marks.truncate(last);
+        headers.truncate(last);
         left -= own;
     }
     gathered.truncate(gathered.len() - left);

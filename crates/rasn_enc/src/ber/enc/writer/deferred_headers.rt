@@ -34,6 +34,7 @@ pub struct DeferredHeader {
 const _: () = prove!(size_of::<DeferredHeader>() == 24);
 
 /// What stands before the contents of a constructed value.
+#[inline(always)]
 pub fn header_for(rule: Codec, tag: Tag, count: usize) -> HeaderForm
     ensures { result ≡ head_of rule tag count }
 {
@@ -45,6 +46,7 @@ pub fn header_for(rule: Codec, tag: Tag, count: usize) -> HeaderForm
 }
 
 /// Counts the octets of a header.
+#[inline(always)]
 pub fn header_len(head: HeaderForm) -> usize
     ensures count { result ≡ length (header_octets head) }
     ensures some { 2 ≤ result }
@@ -69,27 +71,29 @@ fn rest_of(head: HeaderForm) -> HeaderRest
 }
 
 /// Puts a deferred header in its place, where a header has more octets than there is room for.
+#[inline(always)]
 fn defer_rest(
-    marks: &mut Vec<DeferredHeader>,
+    headers: &mut Vec<DeferredHeader>,
     index: usize,
     at: usize,
     head: HeaderForm,
 ) -> Result<(), AllocError>
-    requires { index ≤ vec_len marks.old }
-    ensures ok { OnOk result ((ds : List DeferredHeader) × Defers at (drop 2 (header_octets head)) ds × (marks.new.items ≡ take index marks.old.items ++ (ds ++ drop index marks.old.items))) }
-    ensures err { OnErr result (marks.new.items ≡ marks.old.items) }
+    requires { index ≤ vec_len headers.old }
+    ensures ok { OnOk result ((ds : List DeferredHeader) × Defers at (drop 2 (header_octets head)) ds × (headers.new.items ≡ take index headers.old.items ++ (ds ++ drop index headers.old.items))) }
+    ensures err { OnErr result (headers.new.items ≡ headers.old.items) }
 {
     if header_len(head) == ROOM {
         return Ok(());
     }
     let rest = rest_of(head);
-    match marks.insert(index, DeferredHeader { at, rest }) {
+    match headers.insert(index, DeferredHeader { at, rest }) {
         Ok(()) => Ok(()),
         Err(_) => Err(AllocError),
     }
 }
 
 /// Puts end-of-contents octets behind all where the rule has them.
+#[inline(always)]
 fn append_end_of_contents(octets: &mut Vec<u8>, rule: Codec) -> Result<(), AllocError>
     ensures ok { OnOk result (octets.new.items ≡ octets.old.items ++ back rule) }
     ensures err { OnErr result (octets.new.items ≡ octets.old.items) }
@@ -101,6 +105,7 @@ fn append_end_of_contents(octets: &mut Vec<u8>, rule: Codec) -> Result<(), Alloc
 }
 
 /// Writes the first octets of a header into the room for them.
+#[inline(always)]
 fn fill_room(octets: &mut [u8], at: usize, head: HeaderForm)
     requires { at + 2 ≤ length octets.old }
     ensures { octets.new ≡ take at octets.old ++ (take 2 (header_octets head) ++ drop (at + 2) octets.old) }
@@ -111,27 +116,29 @@ fn fill_room(octets: &mut [u8], at: usize, head: HeaderForm)
 
 /// Puts the header of a value and what ends it round its contents, which stand behind the room at `at`, with the deferred headers from
 /// number `index` on. Where memory runs out, what stands before it stays.
+#[inline(always)]
 pub fn enclose_contents(
     octets: &mut Vec<u8>,
-    marks: &mut Vec<DeferredHeader>,
+    headers: &mut Vec<DeferredHeader>,
     rule: Codec,
     head: HeaderForm,
     at: usize,
     index: usize,
 ) -> Result<(), AllocError>
     requires room { at + 2 ≤ vec_len octets.old }
-    requires index { index ≤ vec_len marks.old }
-    ensures ok { OnOk result (Encloses at index (header_octets head) (back rule) octets.old.items marks.old.items octets.new.items marks.new.items) }
+    requires index { index ≤ vec_len headers.old }
+    ensures ok { OnOk result (Encloses at index (header_octets head) (back rule) octets.old.items headers.old.items octets.new.items headers.new.items) }
     ensures octets { OnErr result (take at octets.new.items ≡ take at octets.old.items) }
-    ensures marks { OnErr result (take index marks.new.items ≡ take index marks.old.items) }
+    ensures headers { OnErr result (take index headers.new.items ≡ take index headers.old.items) }
 {
-    defer_rest(marks, index, at + ROOM, head)?;
+    defer_rest(headers, index, at + ROOM, head)?;
     append_end_of_contents(octets, rule)?;
     fill_room(octets, at, head);
     Ok(())
 }
 
 /// One octet of a header.
+#[inline(always)]
 pub fn header_octet(head: HeaderForm, i: usize) -> u8
     requires { i < length (header_octets head) }
     ensures { result ≡ get_or (header_octets head) i 0 }
@@ -142,6 +149,7 @@ pub fn header_octet(head: HeaderForm, i: usize) -> u8
     }
 }
 
+#[inline(always)]
 fn definite_octet(tag: Tag, count: usize, i: usize) -> u8
     requires { i < length (id_octets tag true ++ length_octets count) }
     ensures { result ≡ get_or (id_octets tag true ++ length_octets count) i 0 }
@@ -154,6 +162,7 @@ fn definite_octet(tag: Tag, count: usize, i: usize) -> u8
     }
 }
 
+#[inline(always)]
 fn indefinite_octet(tag: Tag, i: usize) -> u8
     requires { i < length (id_octets tag true ++ 128 ∷ []) }
     ensures { result ≡ get_or (id_octets tag true ++ 128 ∷ []) i 0 }

@@ -53,6 +53,7 @@ pub fn fill_with<T: Contents>(value: &T, octets: &mut Vec<u8>) -> Result<(), Fil
 }
 
 /// Puts a primitive value behind octets.
+#[inline(always)]
 pub fn append_primitive(octets: &mut Vec<u8>, tag: Tag, contents: &[u8]) -> Result<(), AllocError>
     ensures ok { OnOk result (AppendsPrimitiveOctets tag contents.now octets.old.items octets.new.items) }
     ensures err { OnErr result (octets.new.items ≡ octets.old.items) }
@@ -69,6 +70,7 @@ pub fn append_primitive(octets: &mut Vec<u8>, tag: Tag, contents: &[u8]) -> Resu
 }
 
 /// Puts a primitive value behind octets; `contents` writes its contents in place.
+#[inline(always)]
 pub fn append_filled<F: FnOnce(&mut Vec<u8>) -> Result<(), FillError>>(
     octets: &mut Vec<u8>,
     tag: Tag,
@@ -107,6 +109,7 @@ fn fill<F: FnOnce(&mut Vec<u8>) -> Result<(), FillError>>(
 }
 
 /// Writes the identifier, with room for one length octet and for short contents.
+#[inline(always)]
 fn begin_filled(octets: &mut Vec<u8>, tag: Tag) -> Result<(), AllocError>
     ensures ok { OnOk result (octets.new.items ≡ octets.old.items ++ (id_octets tag (tag_bit tag) ++ 0 ∷ [])) }
     ensures err { OnErr result (octets.new.items ≡ octets.old.items) }
@@ -118,6 +121,7 @@ fn begin_filled(octets: &mut Vec<u8>, tag: Tag) -> Result<(), AllocError>
 }
 
 /// Writes the length of the contents, which stand behind the room for one octet of it. Where that isn't enough, they are moved up.
+#[inline(always)]
 fn end_filled(octets: &mut Vec<u8>, tag: Tag, start: usize) -> Result<(), AllocError>
     requires { start + length (id_octets tag (tag_bit tag)) < vec_len octets.old }
     ensures ok { OnOk result ((xs l : List ℕ) → start ≡ length xs → octets.old.items ≡ xs ++ (id_octets tag (tag_bit tag) ++ 0 ∷ l) → AppendsPrimitiveOctets tag l xs octets.new.items) }

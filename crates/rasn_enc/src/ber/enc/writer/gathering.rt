@@ -34,6 +34,7 @@ fn count_from(gathered: &mut Vec<u8>, at: usize, measured: usize) -> Result<usiz
 }
 
 /// Gathers a primitive value, and answers how long its list is then.
+#[inline(always)]
 pub fn gather(
     gathered: &mut Vec<u8>,
     tags: &mut Option<Vec<Tag>>,
@@ -55,6 +56,7 @@ pub fn gather(
 }
 
 /// Gathers a primitive value, whose contents `contents` writes in place.
+#[inline(always)]
 pub fn gather_filled<F: FnOnce(&mut Vec<u8>) -> Result<(), FillError>>(
     gathered: &mut Vec<u8>,
     tags: &mut Option<Vec<Tag>>,
@@ -127,22 +129,23 @@ fn sum(a: usize, b: usize, c: usize) -> Result<usize, AllocError>
 
 /// Closes a value of `count` contents octets: it stands behind the list that it interrupted. Where memory runs out, what was written before
 /// it stays.
+#[inline(always)]
 pub fn surround(
     gathered: &mut Vec<u8>,
-    marks: &mut Vec<DeferredHeader>,
+    headers: &mut Vec<DeferredHeader>,
     value: &mut Open,
     rule: Codec,
     tag: Tag,
     count: usize,
 ) -> Result<(), AllocError>
     requires room { value.old.end + 2 ≤ vec_len gathered.old }
-    requires index { value.old.last ≤ vec_len marks.old }
+    requires index { value.old.last ≤ vec_len headers.old }
     ensures place { (value.new.end ≡ value.old.end) × (value.new.last ≡ value.old.last) }
     ensures start { (value.new.list.start ≡ value.old.list.start) × (value.new.list.first ≡ value.old.list.first) }
-    ensures octets { OnOk result (Encloses value.old.end value.old.last (header_octets (head_of rule tag count)) (back rule) gathered.old.items marks.old.items gathered.new.items marks.new.items) }
+    ensures octets { OnOk result (Encloses value.old.end value.old.last (header_octets (head_of rule tag count)) (back rule) gathered.old.items headers.old.items gathered.new.items headers.new.items) }
     ensures total { OnOk result (value.new.list.measured ≡ value.old.list.measured + (length (header_octets (head_of rule tag count)) + length (back rule) + count)) }
     ensures noted { OnOk result (tags_of value.new.list.tags ≡ noted (tags_of value.old.list.tags) (tag ∷ [])) }
-    ensures err { OnErr result ((take value.old.end gathered.new.items ≡ take value.old.end gathered.old.items) × (take value.old.last marks.new.items ≡ take value.old.last marks.old.items)) }
+    ensures err { OnErr result ((take value.old.end gathered.new.items ≡ take value.old.end gathered.old.items) × (take value.old.last headers.new.items ≡ take value.old.last headers.old.items)) }
     ensures kept { OnErr result ((value.new.list.measured ≡ value.old.list.measured) × (tags_of value.new.list.tags ≡ tags_of value.old.list.tags)) }
 {
     let head = header_for(rule, tag, count);
@@ -152,7 +155,7 @@ pub fn surround(
         count,
     )?;
     reserve_tag(&mut value.list.tags)?;
-    enclose_contents(gathered, marks, rule, head, value.end, value.last)?;
+    enclose_contents(gathered, headers, rule, head, value.end, value.last)?;
     record_tag(&mut value.list.tags, tag);
     value.list.measured = total;
     Ok(())

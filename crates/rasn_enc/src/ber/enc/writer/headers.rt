@@ -11,6 +11,7 @@ use rasn_types::types::{Class, Tag};
 pub const INDEFINITE_LENGTH: u8 = 128;
 
 /// How many octets the identifier of a tag takes.
+#[inline(always)]
 pub fn identifier_len(tag: Tag) -> usize
     ensures exact { (bit : Bool) → length (id_octets tag bit) ≡ result }
     ensures small { result < 7 }
@@ -23,6 +24,7 @@ pub fn identifier_len(tag: Tag) -> usize
 }
 
 /// How many octets a length takes in the definite form.
+#[inline(always)]
 pub fn length_len(count: usize) -> usize
     ensures exact { length (length_octets count) ≡ result }
     ensures some { 0 < result }
@@ -36,6 +38,7 @@ pub fn length_len(count: usize) -> usize
 }
 
 /// Writes the identifier of a tag (X.690 8.1.2).
+#[inline(always)]
 pub fn write_identifier(out: &mut Vec<u8>, tag: Tag, constructed: bool)
     requires { vec_len out.old + length (id_octets tag constructed) ≤ vec_capacity out.old }
     ensures items { out.new.items ≡ out.old.items ++ id_octets tag constructed }
@@ -50,6 +53,7 @@ pub fn write_identifier(out: &mut Vec<u8>, tag: Tag, constructed: bool)
 }
 
 /// Writes a length in the definite form (X.690 8.1.3).
+#[inline(always)]
 pub fn write_length(out: &mut Vec<u8>, count: usize)
     requires { vec_len out.old + length (length_octets count) ≤ vec_capacity out.old }
     ensures items { out.new.items ≡ out.old.items ++ length_octets count }
@@ -64,6 +68,7 @@ pub fn write_length(out: &mut Vec<u8>, count: usize)
 }
 
 /// Gives the first identifier octet: the class, the constructed bit and five bits of the number.
+#[inline(always)]
 fn leading_octet(class: Class, constructed: bool, low: u8) -> u8
     requires { low < 32 }
     ensures { result ≡ 64 * rank_of class + (32 * bit_of constructed + low) }
@@ -73,6 +78,7 @@ fn leading_octet(class: Class, constructed: bool, low: u8) -> u8
 }
 
 /// The place of a class in the order of tags.
+#[inline(always)]
 pub fn rank(class: Class) -> u8
     ensures exact { result ≡ rank_of class }
     ensures small { result < 4 }
@@ -129,6 +135,7 @@ fn octet_at(number: usize, place: usize) -> u8
 }
 
 /// One octet of an identifier.
+#[inline(always)]
 pub fn identifier_octet(tag: Tag, constructed: bool, i: usize) -> u8
     requires { i < length (id_octets tag constructed) }
     ensures { result ≡ get_or (id_octets tag constructed) i 0 }
@@ -143,6 +150,7 @@ pub fn identifier_octet(tag: Tag, constructed: bool, i: usize) -> u8
 }
 
 /// One octet of a length in the definite form.
+#[inline(always)]
 pub fn length_octet(count: usize, i: usize) -> u8
     requires { i < length (length_octets count) }
     ensures { result ≡ get_or (length_octets count) i 0 }

@@ -1,6 +1,6 @@
 //! The tags that a list keeps, where it does.
-ghost use Rattle.std.specs.Prelude.{◌≡◌, ◌++◌, ◌∷◌, [], take, option_map, MatchBool, OnOk};
-ghost use Rattle.rasn_types.specs.Truth.{IsWhether};
+ghost use Rattle.std.specs.Prelude.{◌≡◌, ◌++◌, ◌∷◌, [], take, option_map, OnOk};
+ghost use Rattle.rasn_types.specs.Truth.{IsWhether, IsUnless};
 ghost use Rattle.rasn_types.specs.Tags.{IsTagBelow};
 ghost use Rattle.rasn_types.specs.Bytes.{AreAscending};
 ghost use Rattle.rasn_enc.specs.Buffer.Lists.{tags_of, HasRoom};
@@ -41,7 +41,7 @@ pub fn cut_tags(tags: &mut Option<Vec<Tag>>, count: usize)
 
 /// Whether some tag is below the one before it.
 pub fn tags_out_of_order(tags: &[Tag]) -> bool
-    ensures { MatchBool result (AreAscending IsTagBelow tags.now → ⊥) (AreAscending IsTagBelow tags.now) }
+    ensures { IsUnless result (AreAscending IsTagBelow tags.now) }
 {
     let mut rest = tags;
     while let [first, after @ ..] = rest {

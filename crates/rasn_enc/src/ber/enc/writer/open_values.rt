@@ -7,6 +7,7 @@ use std::alloc::AllocError;
 use std::mem;
 
 /// Puts the innermost open value behind those around it.
+#[inline(always)]
 pub fn push_innermost(
     around: &mut Vec<Open>,
     innermost: &mut Option<Open>,
@@ -27,6 +28,7 @@ pub fn push_innermost(
 }
 
 /// Takes the innermost open value off: the last of those around it is the innermost then.
+#[inline(always)]
 pub fn pop_innermost(around: &mut Vec<Open>, innermost: &mut Option<Open>) -> Open
     requires { IsSome innermost.old }
     ensures all { opens around.old.items innermost.old ≡ opens around.new.items innermost.new ++ result ∷ [] }

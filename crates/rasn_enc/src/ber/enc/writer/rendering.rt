@@ -44,80 +44,82 @@ fn write_at(buffer: &mut [u8], at: usize, octets: &[u8])
 
 /// Moves the octets from the deferred header to `from` behind all that is unrendered, to end at `to`, and puts its own in front of them.
 /// The answer is how many octets were written.
-fn splice_header(buffer: &mut [u8], mark: DeferredHeader, from: usize, to: usize) -> usize
-    requires order { mark.at ≤ from }
+fn splice_header(buffer: &mut [u8], header: DeferredHeader, from: usize, to: usize) -> usize
+    requires order { header.at ≤ from }
     requires within { to ≤ length buffer.old }
-    requires room { from + length (deferred_octets mark) ≤ to }
-    ensures moved { buffer.new ≡ take (to - result) buffer.old ++ (deferred_octets mark ++ (drop mark.at (take from buffer.old) ++ drop to buffer.old)) }
-    ensures count { result ≡ (from - mark.at) + length (deferred_octets mark) }
+    requires room { from + length (deferred_octets header) ≤ to }
+    ensures moved { buffer.new ≡ take (to - result) buffer.old ++ (deferred_octets header ++ (drop header.at (take from buffer.old) ++ drop to buffer.old)) }
+    ensures count { result ≡ (from - header.at) + length (deferred_octets header) }
 {
-    let run = from - mark.at;
-    let rest = mark.rest.as_slice();
+    let run = from - header.at;
+    let rest = header.rest.as_slice();
     let n = rest.len();
-    move_up(buffer, mark.at, from, to - from);
+    move_up(buffer, header.at, from, to - from);
     write_at(buffer, to - run - n, rest);
     run + n
 }
 
 /// The buffer holds `gathered` octets in front, and is as long as what they and the deferred headers stand for, which it then holds.
 /// The answer is the number of copies: of gathered octets that were put in their places, and of octets of deferred headers.
-fn render(buffer: &mut [u8], gathered: usize, marks: &[DeferredHeader]) -> usize
-    requires rising { Rising 0 marks.now gathered }
-    requires room { length buffer.old ≡ gathered + header_octets_count marks.now }
-    ensures output { buffer.new ≡ rendered (take gathered buffer.old) 0 marks.now }
+fn render(buffer: &mut [u8], gathered: usize, headers: &[DeferredHeader]) -> usize
+    requires rising { Rising 0 headers.now gathered }
+    requires room { length buffer.old ≡ gathered + header_octets_count headers.now }
+    ensures output { buffer.new ≡ rendered (take gathered buffer.old) 0 headers.now }
     ensures copies { result ≤ length buffer.new }
-    ensures exact { result + front_run marks.now gathered ≡ length buffer.new }
+    ensures exact { result + front_run headers.now gathered ≡ length buffer.new }
 {
     let mut copies: usize = 0;
     let mut from = gathered;
     let mut to = buffer.len();
-    let mut k = marks.len();
+    let mut k = headers.len();
     while k > 0 {
         k -= 1;
-        let mark = marks[k];
-        let written = splice_header(buffer, mark, from, to);
+        let header = headers[k];
+        let written = splice_header(buffer, header, from, to);
         copies += written;
         to -= written;
-        from = mark.at;
+        from = header.at;
     }
     copies
 }
 
 /// Puts the octets of all deferred headers in between the gathered octets. The vector grows once, where there is one.
+#[inline(always)]
 fn rendered_in(
     gathered: Vec<u8>,
-    marks: &[DeferredHeader],
+    headers: &[DeferredHeader],
     measured: usize,
 ) -> Result<Vec<u8>, AllocError>
-    requires rising { Rising 0 marks.now (length gathered.items) }
-    requires measure { measured ≡ length (rendered gathered.items 0 marks.now) }
-    ensures { IfOk result (λ v. v.items ≡ rendered gathered.items 0 marks.now) }
+    requires rising { Rising 0 headers.now (length gathered.items) }
+    requires measure { measured ≡ length (rendered gathered.items 0 headers.now) }
+    ensures { IfOk result (λ v. v.items ≡ rendered gathered.items 0 headers.now) }
 {
     let mut buffer = gathered;
-    if marks.is_empty() {
+    if headers.is_empty() {
         return Ok(buffer);
     }
     let count = buffer.len();
     grow(&mut buffer, measured)?;
-    render(&mut buffer, count, marks);
+    render(&mut buffer, count, headers);
     Ok(buffer)
 }
 
 /// Puts the octets of all deferred headers in between the gathered octets of a list that begins at `start`: the octets before it are taken off.
+#[inline(always)]
 pub fn rendered_from(
     gathered: Vec<u8>,
-    marks: &[DeferredHeader],
+    headers: &[DeferredHeader],
     start: usize,
     measured: usize,
 ) -> Result<Vec<u8>, AllocError>
-    requires rising { Rising start marks.now (length gathered.items) }
-    requires measure { measured ≡ length (rendered gathered.items start marks.now) }
-    ensures { IfOk result (λ v. v.items ≡ rendered gathered.items start marks.now) }
+    requires rising { Rising start headers.now (length gathered.items) }
+    requires measure { measured ≡ length (rendered gathered.items start headers.now) }
+    ensures { IfOk result (λ v. v.items ≡ rendered gathered.items start headers.now) }
 {
     let Some(whole) = start.checked_add(measured) else {
         return Err(AllocError);
     };
-    let mut octets = rendered_in(gathered, marks, whole)?;
+    let mut octets = rendered_in(gathered, headers, whole)?;
     cut_front(&mut octets, start);
     Ok(octets)
 }

@@ -1,5 +1,6 @@
 //! Octets without a header of their own.
-ghost use Rattle.std.specs.Prelude.{◌≡◌, ◌≢◌, None, [], MatchBool, IfErr, OnOk, OnErr};
+ghost use Rattle.std.specs.Prelude.{◌≡◌, None, [], IfErr, OnOk, OnErr};
+ghost use Rattle.rasn_types.specs.Truth.{IsUnless};
 ghost use Rattle.rasn_enc.specs.View.{appended};
 ghost use Rattle.rasn_enc.specs.Primitive.{IsAllocError};
 
@@ -11,7 +12,7 @@ use rasn_types::error::EncodeError;
 impl Writer {
     /// Whether the last list keeps the outermost tags of what stands in it.
     pub fn keeps_tags(&self) -> bool
-        ensures { MatchBool result (self.now.last.tags ≢ None) (self.now.last.tags ≡ None) }
+        ensures { IsUnless result (self.now.last.tags ≡ None) }
     {
         self.list.tags.is_some()
     }

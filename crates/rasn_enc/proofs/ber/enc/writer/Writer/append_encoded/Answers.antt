@@ -7,11 +7,11 @@ use Rattle.rasn_enc.proofs.ber.enc.writer.Writer.append_encoded.Goals as goal
 
 pub invariant_of-self : goal.invariant_of-self
 invariant_of-self c = (
-  put-sound c.self.inside.rule c.self.inside.gathered.items c.args.octets.now c.self.inside.marks.items c.self.inside.list.start c.self.inside.list.first c.self.inside.list.measured (opens c.self.inside.around.items c.self.inside.innermost) c.self.invariant.0 c.self.invariant.1 c.gather_octets.new.gathered.items c.in-Ok.ensures.ok c.in-Ok.total c.in-Ok.ensures.total,
-  put-chain c.self.inside.rule c.self.inside.gathered.items c.args.octets.now c.self.inside.marks.items c.self.inside.list.start c.self.inside.list.first c.self.inside.list.measured (opens c.self.inside.around.items c.self.inside.innermost) c.self.invariant.0 c.self.invariant.1 c.gather_octets.new.gathered.items c.in-Ok.ensures.ok,
+  put-sound c.self.inside.rule c.self.inside.gathered.items c.args.octets.now c.self.inside.headers.items c.self.inside.list.start c.self.inside.list.first c.self.inside.list.measured (opens c.self.inside.around.items c.self.inside.innermost) c.self.invariant.0 c.self.invariant.1 c.gather_octets.new.gathered.items c.in-Ok.ensures.ok c.in-Ok.total c.in-Ok.ensures.total,
+  put-chain c.self.inside.rule c.self.inside.gathered.items c.args.octets.now c.self.inside.headers.items c.self.inside.list.start c.self.inside.list.first c.self.inside.list.measured (opens c.self.inside.around.items c.self.inside.innermost) c.self.invariant.0 c.self.invariant.1 c.gather_octets.new.gathered.items c.in-Ok.ensures.ok,
   c.self.invariant.2,
 )
 
 pub returns-in-Ok-clause-ok : goal.returns-in-Ok-clause-ok
 returns-in-Ok-clause-ok c = rw (← c.self.view_is) (
-    put-there c.self.inside.rule c.self.inside.gathered.items c.args.octets.now c.self.inside.marks.items c.self.inside.list.start c.self.inside.list.first c.self.inside.list.measured (opens c.self.inside.around.items c.self.inside.innermost) c.self.invariant.0 c.self.invariant.1 c.gather_octets.new.gathered.items c.in-Ok.ensures.ok [] (tags_of c.self.inside.list.tags) (tags_of c.self.inside.list.tags) (tags-nil (tags_of c.self.inside.list.tags)))
+    put-there c.self.inside.rule c.self.inside.gathered.items c.args.octets.now c.self.inside.headers.items c.self.inside.list.start c.self.inside.list.first c.self.inside.list.measured (opens c.self.inside.around.items c.self.inside.innermost) c.self.invariant.0 c.self.invariant.1 c.gather_octets.new.gathered.items c.in-Ok.ensures.ok [] (tags_of c.self.inside.list.tags) (tags_of c.self.inside.list.tags) (tags-nil (tags_of c.self.inside.list.tags)))

@@ -8,7 +8,7 @@ use Rattle.rasn_enc.proofs.ber.enc.writer.Writer.finish.Goals as goal
 pub surround-closed-requires-clause-room : goal.surround-closed-requires-clause-room
 surround-closed-requires-clause-room c =
     let e : (opens c.self.inside.around.items c.self.inside.innermost) ≡ (opens c.pop_innermost-open.new.around.items c.pop_innermost-open.new.innermost) ++ c.pop_innermost-open.result ∷ [] = c.pop_innermost-open.ensures.all in
-    let t = top c.self.inside.gathered.items c.self.inside.marks.items (opens c.self.inside.around.items c.self.inside.innermost) (opens c.pop_innermost-open.new.around.items c.pop_innermost-open.new.innermost) c.pop_innermost-open.result c.self.inside.list.start c.self.inside.list.first e c.self.invariant.1 in
+    let t = top c.self.inside.gathered.items c.self.inside.headers.items (opens c.self.inside.around.items c.self.inside.innermost) (opens c.pop_innermost-open.new.around.items c.pop_innermost-open.new.innermost) c.pop_innermost-open.result c.self.inside.list.start c.self.inside.list.first e c.self.invariant.1 in
     let w = t.ends in
     let f = c.self.invariant.0.start_within in
     omega (arith, w, f, c.self.inside.gathered.ok)
@@ -16,38 +16,38 @@ surround-closed-requires-clause-room c =
 pub surround-closed-requires-clause-index : goal.surround-closed-requires-clause-index
 surround-closed-requires-clause-index c =
     let e : (opens c.self.inside.around.items c.self.inside.innermost) ≡ (opens c.pop_innermost-open.new.around.items c.pop_innermost-open.new.innermost) ++ c.pop_innermost-open.result ∷ [] = c.pop_innermost-open.ensures.all in
-    let t = top c.self.inside.gathered.items c.self.inside.marks.items (opens c.self.inside.around.items c.self.inside.innermost) (opens c.pop_innermost-open.new.around.items c.pop_innermost-open.new.innermost) c.pop_innermost-open.result c.self.inside.list.start c.self.inside.list.first e c.self.invariant.1 in
+    let t = top c.self.inside.gathered.items c.self.inside.headers.items (opens c.self.inside.around.items c.self.inside.innermost) (opens c.pop_innermost-open.new.around.items c.pop_innermost-open.new.innermost) c.pop_innermost-open.result c.self.inside.list.start c.self.inside.list.first e c.self.invariant.1 in
     let w = t.lasts in
     let f = c.self.invariant.0.first_within in
-    omega (arith, w, f, c.self.inside.marks.ok)
+    omega (arith, w, f, c.self.inside.headers.ok)
 
 pub invariant_of-self : goal.invariant_of-self
 invariant_of-self c =
     let e : (opens c.self.inside.around.items c.self.inside.innermost) ≡ (opens c.pop_innermost-open.new.around.items c.pop_innermost-open.new.innermost) ++ c.pop_innermost-open.result ∷ [] = c.pop_innermost-open.ensures.all in
-    let t = top c.self.inside.gathered.items c.self.inside.marks.items (opens c.self.inside.around.items c.self.inside.innermost) (opens c.pop_innermost-open.new.around.items c.pop_innermost-open.new.innermost) c.pop_innermost-open.result c.self.inside.list.start c.self.inside.list.first e c.self.invariant.1 in
+    let t = top c.self.inside.gathered.items c.self.inside.headers.items (opens c.self.inside.around.items c.self.inside.innermost) (opens c.pop_innermost-open.new.around.items c.pop_innermost-open.new.innermost) c.pop_innermost-open.result c.self.inside.list.start c.self.inside.list.first e c.self.invariant.1 in
     rw (c.in-Ok.ensures.start.0, c.in-Ok.ensures.start.1) (
-      finish-sound c.self.inside.rule c.self.inside.gathered.items c.self.inside.marks.items (opens c.pop_innermost-open.new.around.items c.pop_innermost-open.new.innermost) c.pop_innermost-open.result c.self.inside.list.start c.self.inside.list.first t c.args.tag c.self.inside.list.measured c.self.invariant.0 c.surround-closed.new.gathered.items c.surround-closed.new.marks.items c.in-Ok.ensures.octets c.surround-closed.new.value.list.measured c.in-Ok.ensures.total,
-      finish-chain c.self.inside.rule c.self.inside.gathered.items c.self.inside.marks.items (opens c.pop_innermost-open.new.around.items c.pop_innermost-open.new.innermost) c.pop_innermost-open.result c.self.inside.list.start c.self.inside.list.first t c.args.tag c.self.inside.list.measured c.self.invariant.0 c.surround-closed.new.gathered.items c.surround-closed.new.marks.items c.in-Ok.ensures.octets,
+      finish-sound c.self.inside.rule c.self.inside.gathered.items c.self.inside.headers.items (opens c.pop_innermost-open.new.around.items c.pop_innermost-open.new.innermost) c.pop_innermost-open.result c.self.inside.list.start c.self.inside.list.first t c.args.tag c.self.inside.list.measured c.self.invariant.0 c.surround-closed.new.gathered.items c.surround-closed.new.headers.items c.in-Ok.ensures.octets c.surround-closed.new.value.list.measured c.in-Ok.ensures.total,
+      finish-chain c.self.inside.rule c.self.inside.gathered.items c.self.inside.headers.items (opens c.pop_innermost-open.new.around.items c.pop_innermost-open.new.innermost) c.pop_innermost-open.result c.self.inside.list.start c.self.inside.list.first t c.args.tag c.self.inside.list.measured c.self.invariant.0 c.surround-closed.new.gathered.items c.surround-closed.new.headers.items c.in-Ok.ensures.octets,
       c.pop_innermost-open.ensures.innermost,
     )
 
 pub invariant_of-self-in-Err : goal.invariant_of-self-in-Err
 invariant_of-self-in-Err c =
     let e : (opens c.self.inside.around.items c.self.inside.innermost) ≡ (opens c.pop_innermost-open.new.around.items c.pop_innermost-open.new.innermost) ++ c.pop_innermost-open.result ∷ [] = c.pop_innermost-open.ensures.all in
-    let t = top c.self.inside.gathered.items c.self.inside.marks.items (opens c.self.inside.around.items c.self.inside.innermost) (opens c.pop_innermost-open.new.around.items c.pop_innermost-open.new.innermost) c.pop_innermost-open.result c.self.inside.list.start c.self.inside.list.first e c.self.invariant.1 in
-    rw (c.truncate.ensures.items, c.truncate-in-Err.ensures.items, c.in-Err.ensures.place.0, c.in-Err.ensures.place.1, c.in-Err.ensures.err.0, c.in-Err.ensures.err.1, c.in-Err.ensures.start.0, c.in-Err.ensures.start.1, c.in-Err.ensures.kept.0) (t.sound, cut-chain c.self.inside.rule c.self.inside.gathered.items c.self.inside.marks.items (opens c.pop_innermost-open.new.around.items c.pop_innermost-open.new.innermost) c.pop_innermost-open.result c.self.inside.list.start c.self.inside.list.first t, c.pop_innermost-open.ensures.innermost)
+    let t = top c.self.inside.gathered.items c.self.inside.headers.items (opens c.self.inside.around.items c.self.inside.innermost) (opens c.pop_innermost-open.new.around.items c.pop_innermost-open.new.innermost) c.pop_innermost-open.result c.self.inside.list.start c.self.inside.list.first e c.self.invariant.1 in
+    rw (c.truncate.ensures.items, c.truncate-in-Err.ensures.items, c.in-Err.ensures.place.0, c.in-Err.ensures.place.1, c.in-Err.ensures.err.0, c.in-Err.ensures.err.1, c.in-Err.ensures.start.0, c.in-Err.ensures.start.1, c.in-Err.ensures.kept.0) (t.sound, cut-chain c.self.inside.rule c.self.inside.gathered.items c.self.inside.headers.items (opens c.pop_innermost-open.new.around.items c.pop_innermost-open.new.innermost) c.pop_innermost-open.result c.self.inside.list.start c.self.inside.list.first t, c.pop_innermost-open.ensures.innermost)
 
 pub returns-in-Ok-clause-ok : goal.returns-in-Ok-clause-ok
 returns-in-Ok-clause-ok c = λ v b.
     let e : (opens c.self.inside.around.items c.self.inside.innermost) ≡ (opens c.pop_innermost-open.new.around.items c.pop_innermost-open.new.innermost) ++ c.pop_innermost-open.result ∷ [] = c.pop_innermost-open.ensures.all in
-    let t = top c.self.inside.gathered.items c.self.inside.marks.items (opens c.self.inside.around.items c.self.inside.innermost) (opens c.pop_innermost-open.new.around.items c.pop_innermost-open.new.innermost) c.pop_innermost-open.result c.self.inside.list.start c.self.inside.list.first e c.self.invariant.1 in
-    rw (← ap (λ x. x.last.octets) c.self.view_is, c.in-Ok.ensures.start.0, c.in-Ok.ensures.start.1) (finish-appends c.self.inside.rule c.self.inside.gathered.items c.self.inside.marks.items (opens c.pop_innermost-open.new.around.items c.pop_innermost-open.new.innermost) c.pop_innermost-open.result c.self.inside.list.start c.self.inside.list.first t c.args.tag c.self.inside.list.measured c.self.invariant.0 c.surround-closed.new.gathered.items c.surround-closed.new.marks.items c.in-Ok.ensures.octets (opens c.self.inside.around.items c.self.inside.innermost) e v (ap (λ x. x.rule) c.self.view_is ∙ b.0) (ap (λ x. x.below) c.self.view_is ∙ b.1) (tags_of c.surround-closed.new.value.list.tags) c.in-Ok.ensures.noted (search rules) (search rules))
+    let t = top c.self.inside.gathered.items c.self.inside.headers.items (opens c.self.inside.around.items c.self.inside.innermost) (opens c.pop_innermost-open.new.around.items c.pop_innermost-open.new.innermost) c.pop_innermost-open.result c.self.inside.list.start c.self.inside.list.first e c.self.invariant.1 in
+    rw (← ap (λ x. x.last.octets) c.self.view_is, c.in-Ok.ensures.start.0, c.in-Ok.ensures.start.1) (finish-appends c.self.inside.rule c.self.inside.gathered.items c.self.inside.headers.items (opens c.pop_innermost-open.new.around.items c.pop_innermost-open.new.innermost) c.pop_innermost-open.result c.self.inside.list.start c.self.inside.list.first t c.args.tag c.self.inside.list.measured c.self.invariant.0 c.surround-closed.new.gathered.items c.surround-closed.new.headers.items c.in-Ok.ensures.octets (opens c.self.inside.around.items c.self.inside.innermost) e v (ap (λ x. x.rule) c.self.view_is ∙ b.0) (ap (λ x. x.below) c.self.view_is ∙ b.1) (tags_of c.surround-closed.new.value.list.tags) c.in-Ok.ensures.noted (search rules) (search rules))
 
 pub returns-in-Err-clause-err : goal.returns-in-Err-clause-err
 returns-in-Err-clause-err c = λ v b.
     let e : (opens c.self.inside.around.items c.self.inside.innermost) ≡ (opens c.pop_innermost-open.new.around.items c.pop_innermost-open.new.innermost) ++ c.pop_innermost-open.result ∷ [] = c.pop_innermost-open.ensures.all in
-    let t = top c.self.inside.gathered.items c.self.inside.marks.items (opens c.self.inside.around.items c.self.inside.innermost) (opens c.pop_innermost-open.new.around.items c.pop_innermost-open.new.innermost) c.pop_innermost-open.result c.self.inside.list.start c.self.inside.list.first e c.self.invariant.1 in
-    rw (c.truncate.ensures.items, c.truncate-in-Err.ensures.items, c.in-Err.ensures.place.0, c.in-Err.ensures.place.1, c.in-Err.ensures.err.0, c.in-Err.ensures.err.1, c.in-Err.ensures.start.0, c.in-Err.ensures.start.1, c.in-Err.ensures.kept.1) (cut-view c.self.inside.rule c.self.inside.gathered.items c.self.inside.marks.items (opens c.pop_innermost-open.new.around.items c.pop_innermost-open.new.innermost) c.pop_innermost-open.result c.self.inside.list.start c.self.inside.list.first t (opens c.self.inside.around.items c.self.inside.innermost) e v (ap (λ x. x.rule) c.self.view_is ∙ b.0) (ap (λ x. x.below) c.self.view_is ∙ b.1))
+    let t = top c.self.inside.gathered.items c.self.inside.headers.items (opens c.self.inside.around.items c.self.inside.innermost) (opens c.pop_innermost-open.new.around.items c.pop_innermost-open.new.innermost) c.pop_innermost-open.result c.self.inside.list.start c.self.inside.list.first e c.self.invariant.1 in
+    rw (c.truncate.ensures.items, c.truncate-in-Err.ensures.items, c.in-Err.ensures.place.0, c.in-Err.ensures.place.1, c.in-Err.ensures.err.0, c.in-Err.ensures.err.1, c.in-Err.ensures.start.0, c.in-Err.ensures.start.1, c.in-Err.ensures.kept.1) (cut-view c.self.inside.rule c.self.inside.gathered.items c.self.inside.headers.items (opens c.pop_innermost-open.new.around.items c.pop_innermost-open.new.innermost) c.pop_innermost-open.result c.self.inside.list.start c.self.inside.list.first t (opens c.self.inside.around.items c.self.inside.innermost) e v (ap (λ x. x.rule) c.self.view_is ∙ b.0) (ap (λ x. x.below) c.self.view_is ∙ b.1))
 
 pub pop_innermost-open-requires : goal.pop_innermost-open-requires
-pop_innermost-open-requires c = is_open c.self.inside.gathered.items c.self.inside.marks.items c.self.inside.around.items c.self.inside.innermost c.self.invariant.2 (rw (← c.self.view_is) at c.requires)
+pop_innermost-open-requires c = is_open c.self.inside.gathered.items c.self.inside.headers.items c.self.inside.around.items c.self.inside.innermost c.self.invariant.2 (rw (← c.self.view_is) at c.requires)

@@ -6,8 +6,8 @@ use Rattle.rasn_enc.proofs.ber.enc.writer.Writer.leaf_with.Goals as goal
 
 pub invariant_of-self : goal.invariant_of-self
 invariant_of-self g c = (
-  put-sound c.self.inside.rule c.self.inside.gathered.items c.in-Ok.ensures.ok.puts.puts.octets c.self.inside.marks.items c.self.inside.list.start c.self.inside.list.first c.self.inside.list.measured (opens c.self.inside.around.items c.self.inside.innermost) c.self.invariant.0 c.self.invariant.1 c.gather_filled.new.gathered.items c.in-Ok.ensures.ok.puts.puts.is c.in-Ok.total c.in-Ok.ensures.ok.total,
-  put-chain c.self.inside.rule c.self.inside.gathered.items c.in-Ok.ensures.ok.puts.puts.octets c.self.inside.marks.items c.self.inside.list.start c.self.inside.list.first c.self.inside.list.measured (opens c.self.inside.around.items c.self.inside.innermost) c.self.invariant.0 c.self.invariant.1 c.gather_filled.new.gathered.items c.in-Ok.ensures.ok.puts.puts.is,
+  put-sound c.self.inside.rule c.self.inside.gathered.items c.in-Ok.ensures.ok.puts.puts.octets c.self.inside.headers.items c.self.inside.list.start c.self.inside.list.first c.self.inside.list.measured (opens c.self.inside.around.items c.self.inside.innermost) c.self.invariant.0 c.self.invariant.1 c.gather_filled.new.gathered.items c.in-Ok.ensures.ok.puts.puts.is c.in-Ok.total c.in-Ok.ensures.ok.total,
+  put-chain c.self.inside.rule c.self.inside.gathered.items c.in-Ok.ensures.ok.puts.puts.octets c.self.inside.headers.items c.self.inside.list.start c.self.inside.list.first c.self.inside.list.measured (opens c.self.inside.around.items c.self.inside.innermost) c.self.invariant.0 c.self.invariant.1 c.gather_filled.new.gathered.items c.in-Ok.ensures.ok.puts.puts.is,
   c.self.invariant.2,
 )
 
@@ -19,6 +19,6 @@ returns-in-Ok-clause-ok g c = record {
     octets = c.in-Ok.ensures.ok.puts.puts.octets;
     written = c.in-Ok.ensures.ok.puts.puts.written;
     appended = rw (← c.self.view_is) (
-        put-there c.self.inside.rule c.self.inside.gathered.items c.in-Ok.ensures.ok.puts.puts.octets c.self.inside.marks.items c.self.inside.list.start c.self.inside.list.first c.self.inside.list.measured (opens c.self.inside.around.items c.self.inside.innermost) c.self.invariant.0 c.self.invariant.1 c.gather_filled.new.gathered.items c.in-Ok.ensures.ok.puts.puts.is (c.args.tag ∷ []) (tags_of c.self.inside.list.tags) (tags_of c.gather_filled.new.tags) c.in-Ok.ensures.noted);
+        put-there c.self.inside.rule c.self.inside.gathered.items c.in-Ok.ensures.ok.puts.puts.octets c.self.inside.headers.items c.self.inside.list.start c.self.inside.list.first c.self.inside.list.measured (opens c.self.inside.around.items c.self.inside.innermost) c.self.invariant.0 c.self.invariant.1 c.gather_filled.new.gathered.items c.in-Ok.ensures.ok.puts.puts.is (c.args.tag ∷ []) (tags_of c.self.inside.list.tags) (tags_of c.gather_filled.new.tags) c.in-Ok.ensures.noted);
   };
 }

@@ -5,8 +5,8 @@ use Rattle.rasn_enc.proofs.ber.enc.writer.cursors.rendered_before.Goals as goal
 
 pub loop-count-preserved : goal.loop-count-preserved
 loop-count-preserved c =
-    let p : (ahead c.args.gathered.now c.args.marks.now c.loop-count.b ≡ c.in-Some.y ∷ ahead c.args.gathered.now c.args.marks.now c.in-Some.more) × Placed c.args.gathered.now c.args.marks.now c.in-Some.more = c.in-Some.ensures in
-    let q : (ahead c.args.gathered.now c.args.marks.now c.loop-count.a ≡ c.in-Some-next.x ∷ ahead c.args.gathered.now c.args.marks.now c.in-Some-next.rest) × Placed c.args.gathered.now c.args.marks.now c.in-Some-next.rest = c.in-Some-next.ensures in
+    let p : (ahead c.args.gathered.now c.args.headers.now c.loop-count.b ≡ c.in-Some.y ∷ ahead c.args.gathered.now c.args.headers.now c.in-Some.more) × Placed c.args.gathered.now c.args.headers.now c.in-Some.more = c.in-Some.ensures in
+    let q : (ahead c.args.gathered.now c.args.headers.now c.loop-count.a ≡ c.in-Some-next.x ∷ ahead c.args.gathered.now c.args.headers.now c.in-Some-next.rest) × Placed c.args.gathered.now c.args.headers.now c.in-Some-next.rest = c.in-Some-next.ensures in
     record {
       left = q.1;
       right = p.1;
