@@ -1,5 +1,5 @@
 -- What the laws of the grammar say of a normal encoding.
-use Rattle.std.proofs.Common.{◌≡◌, ◌⊎◌, ◌↔◌, inl, inr, ℕ, List, [], ◌++◌, Bool, true, false, Result, Ok, Err, refl, sym, ◌∙◌, subst, append-nil, true≢false}
+use Rattle.std.proofs.Common.{◌≡◌, ◌⊎◌, ◌↔◌, inl, inr, ℕ, List, [], Bool, true, false, Result, Ok, Err, refl, sym, ◌∙◌, subst, append-nil, true≢false}
 use Rattle.std.specs.Prelude.{MatchResult, IfOk, IfErr, IsTrue, is_ok, nat_eq}
 use Rattle.std.specs.Cmp.Lexicographic.{pointwise, bytes_decides}
 use Rattle.rasn_types.specs.Truth.{IsWhether}
@@ -16,7 +16,6 @@ use Rattle.rasn_types.specs.Readings.{Reading}
 use Rattle.rasn_types.specs.Grammar.{Reads, top}
 use Rattle.rasn_types.specs.Bytes.{Same, Bytes}
 use Rattle.rasn_types.specs.Carried.{Carried}
-use Rattle.rasn_types.specs.Lawful.{IsLawful}
 use Rattle.rasn_types.proofs.SetOf.Same.{same_sym}
 use Rattle.rasn_types.proofs.Encoding.SameAsItself.{one_writing, written_same}
 use Rattle.rasn_de.specs.Outcomes.{Exact, refusal}
@@ -25,7 +24,7 @@ use Rattle.rasn.proofs.LawsHold.Written.{one_reading, included, read_again, cano
 use Rattle.rasn.proofs.StrictDer.Carried.{stays_carried}
 use Rattle.rasn.specs.declared.normal.NormaliseError.{NormaliseError}
 use Rattle.rasn.specs.declared.normal.NormaliseError.TheVariants.{Decode, Encode, NotCanonical}
-use Rattle.rasn.specs.Normal.{Means, IsNormal, IsNotCanonical, IsNoNormal, IsOutOfMemoryAlone, IsCarriedIn, IsIdentified, IsStable, IsKept, IsUnchanged, IsAnswered, SameExactlyIfEqual}
+use Rattle.rasn.specs.Normal.{Means, IsNormal, IsNotCanonical, IsNoNormal, IsOutOfMemoryAlone, IsCarriedIn, IsIdentified, IsKept, IsUnchanged, IsAnswered, SameExactlyIfEqual}
 
 abbrev answer : (T D : Type 0) → T → Result T D
 answer T D v = Ok v

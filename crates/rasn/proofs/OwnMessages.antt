@@ -1,5 +1,5 @@
 -- What the clauses of `der` say of a type of one's own whose shape is lawful, and of which all that DER reads is carried: the same, without a premise.
-use Rattle.std.proofs.Common.{◌≡◌, ℕ, List, [], Bool, true, Result, Ok, Err, IfOk, ◌∙◌}
+use Rattle.std.proofs.Common.{◌≡◌, ℕ, List, [], true, Result, Ok, Err, IfOk, ◌∙◌}
 use Rattle.std.proofs.lemmas.List.{append-nil}
 use Rattle.std.specs.Global.{Vec}
 use Rattle.rasn_types.specs.declared.types.codec.Codec.TheVariants.{Der}

@@ -7,4 +7,5 @@ pub mod WorkedShapes
 pub mod WorkedDepths
 pub mod WorkedHeaders
 pub mod WorkedValues
+pub mod WorkedClauses
 pub mod Normal

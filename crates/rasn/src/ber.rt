@@ -40,6 +40,7 @@ pub fn decode_with_remainder<T: Decode>(
 }
 
 /// The value's octets. Fails if an allocation fails or the value has no encoding under these rules.
+#[inline(always)]
 pub fn encode<T: Encode>(alloc: Global, value: &T) -> Result<Vec<u8>, EncodeError>
     ensures ok { IfOk result (λ octets. Bytes Ber T.shape (T.tree value.now) octets.items) }
     ensures fails { IfErr result (EncodingFails Ber T.shape (T.tree value.now)) }

@@ -55,6 +55,7 @@ pub fn decode_with_remainder<T: Decode>(
 
 /// The value's octets, which depend on the value alone: two carried values have the same ones exactly if they are equal. It is
 /// refused for running out of memory, and where the value has no octets.
+#[inline(always)]
 pub fn encode<T: Encode>(alloc: Global, value: &T) -> Result<Vec<u8>, EncodeError>
     ensures ok { IfOk result (λ octets. Bytes Der T.shape (T.tree value.now) octets.items) }
     ensures canonical { IfOk result (λ octets. Identify T.shape (T.tree value.now) octets.items) }

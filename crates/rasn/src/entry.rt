@@ -29,6 +29,7 @@ pub(crate) fn decode_with_remainder<T: Decode>(
 }
 
 /// The value's octets.
+#[inline(always)]
 pub(crate) fn encode<T: Encode>(
     alloc: Global,
     value: &T,
@@ -41,6 +42,7 @@ pub(crate) fn encode<T: Encode>(
 }
 
 // The value's octets, in this vector.
+#[inline(always)]
 fn encode_over<T: Encode>(
     alloc: Global,
     value: &T,

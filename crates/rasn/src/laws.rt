@@ -6,6 +6,7 @@ ghost use Rattle.rasn.specs.Worked.{Worked, WorkedStrict};
 ghost use Rattle.rasn.specs.WorkedShapes.{DescribedParts, LawfulShapes, CarriedShapes};
 ghost use Rattle.rasn.specs.WorkedDepths.{WorkedDepths};
 ghost use Rattle.rasn.specs.WorkedHeaders.{WorkedHeaders};
+ghost use Rattle.rasn.specs.WorkedClauses.{WorkedClauses};
 ghost use Rattle.rasn.specs.WorkedValues.{WorkedValues, WorkedSets, WorkedOpens};
 ghost use Rattle.rasn.specs.Laws.{OneReading, Included, ReadAgain, Canonical, WrittenOnce, StrictDer, OnlyCarried, AllCarried, StaysCarried, LawfulTested, OneEncoding, EncodingSteps};
 
@@ -164,4 +165,9 @@ pub fn worked_sets()
 /// Open types, extension additions and CER's segments: what is read, written and carried.
 pub fn worked_opens()
     ensures { WorkedOpens }
+{}
+
+/// Offsets from UTC, octets that an alphabet doesn't admit, and other small clauses: what they hold of, and what they don't.
+pub fn worked_clauses()
+    ensures { WorkedClauses }
 {}
