@@ -112,7 +112,8 @@ typedef enum soq_type {
     SOQ_CRL = 13,          /* CertificateList (RFC 5280) */
     SOQ_REQUEST = 14,      /* CertificationRequest (RFC 2986) */
     SOQ_CMS = 15,          /* ContentInfo of SignedData (RFC 5652) */
-    SOQ_SNMP = 16          /* Message of SNMP with a community (RFC 1901) */
+    SOQ_SNMP = 16,         /* Message of SNMP with a community (RFC 1901) */
+    SOQ_LDAP = 17          /* LDAPMessage (RFC 4511) */
 } soq_type;
 
 /* One whole encoding. */

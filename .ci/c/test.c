@@ -121,6 +121,8 @@ static const row rows[] = {
     {SOQ_ANY, SOQ_DER, "30030101FF", "30030101FF", SOQ_KIND_NONE, 0},                      /* 8.15 */
     /* Its first part has to come, and the contents end (RFC 5280 4.1). */
     {SOQ_CERTIFICATE, SOQ_DER, "3000", NULL, SOQ_KIND_INCOMPLETE, 0},
+    {SOQ_LDAP, SOQ_DER, "30050201034200", "30050201034200", SOQ_KIND_NONE, 0},             /* RFC 4511, 4.3 */
+    {SOQ_LDAP, SOQ_BER, "308002010342000000", "30050201034200", SOQ_KIND_NONE, 0},         /* 8.1.3.6 */
 };
 
 enum { ROWS = sizeof rows / sizeof *rows, LONGEST = 64 };
@@ -283,12 +285,12 @@ static void wrong_arguments_are_answered(void) {
     ENSURE(needed == 7 && fault.kind == 7 && passed.steps == 7 && out[0] == 0);
     /* Neighbours don't overlap. */
     ENSURE(soq_normalise(SOQ_BOOL, SOQ_DER, shared.octets, 3, shared.octets + 3, 3, &needed) == SOQ_OK && shared.octets[5] == 0xFF);
-    ENSURE(soq_check((soq_type)17, octets, 3) == SOQ_UNKNOWN_TYPE && soq_check((soq_type)1000000, octets, 3) == SOQ_UNKNOWN_TYPE);
-    ENSURE(soq_normalise((soq_type)17, SOQ_DER, octets, 3, out, 8, &needed) == SOQ_UNKNOWN_TYPE && needed == 0);
+    ENSURE(soq_check((soq_type)18, octets, 3) == SOQ_UNKNOWN_TYPE && soq_check((soq_type)1000000, octets, 3) == SOQ_UNKNOWN_TYPE);
+    ENSURE(soq_normalise((soq_type)18, SOQ_DER, octets, 3, out, 8, &needed) == SOQ_UNKNOWN_TYPE && needed == 0);
     ENSURE(soq_normalise(SOQ_BOOL, (soq_rule)3, octets, 3, out, 8, &needed) == SOQ_UNKNOWN_RULE && needed == 0);
     ENSURE(soq_skip((soq_rule)3, octets, 3, &passed) == SOQ_UNKNOWN_RULE && passed.consumed == 0);
     ENSURE(soq_decode_error(SOQ_BOOL, (soq_rule)3, octets, 3, &fault, NULL, 0) == SOQ_UNKNOWN_RULE && fault.kind == 0);
-    ENSURE(soq_decode_error((soq_type)17, SOQ_DER, octets, 3, &fault, shared.text, 8) == SOQ_UNKNOWN_TYPE && shared.text[0] == 0);
+    ENSURE(soq_decode_error((soq_type)18, SOQ_DER, octets, 3, &fault, shared.text, 8) == SOQ_UNKNOWN_TYPE && shared.text[0] == 0);
 }
 
 /* A value that BER reads and DER has no octets for: an indefinite length in an open type. */

@@ -40,6 +40,7 @@ pub enum Type {
     Request = 14,
     Cms = 15,
     Snmp = 16,
+    Ldap = 17,
 }
 
 /// One whole encoding: how many octets it has, and in how many steps it was passed.

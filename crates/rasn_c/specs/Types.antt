@@ -9,6 +9,7 @@ use Rattle.rasn_messages.specs.X509.Revocation.Signed.{certificate_list_shape}
 use Rattle.rasn_messages.specs.Pkcs10.Request.{request_shape}
 use Rattle.rasn_messages.specs.Cms.Message.{signed_message_shape}
 use Rattle.rasn_snmp.specs.CommunityMessage.{message_shape}
+use Rattle.rasn_ldap.specs.Message.{ldap_message_shape}
 
 -- the shapes of the types, in the order of their numbers from 0 on
 abbrev pub numbered_shapes : List Shape
@@ -30,6 +31,7 @@ numbered_shapes =
     ∷ request_shape
     ∷ signed_message_shape
     ∷ message_shape
+    ∷ ldap_message_shape
     ∷ []
 
 abbrev pub IsShapeOf : ℕ → Shape → Type 0

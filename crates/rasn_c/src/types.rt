@@ -11,6 +11,7 @@ use rasn::types::{
     OctetString, PrintableString, UtcTime, Utf8String,
 };
 use rasn_messages::cms::SignedMessage;
+use rasn_messages::ldap::LdapMessage;
 use rasn_messages::pkcs10::CertificationRequest;
 use rasn_messages::snmp::Message;
 use rasn_messages::x509::Certificate;
@@ -53,6 +54,7 @@ pub(crate) fn answer_of<A: TypedAnswer>(
         14 => Some(A::of_type::<CertificationRequest>(alloc, rule, octets)),
         15 => Some(A::of_type::<SignedMessage>(alloc, rule, octets)),
         16 => Some(A::of_type::<Message>(alloc, rule, octets)),
+        17 => Some(A::of_type::<LdapMessage>(alloc, rule, octets)),
         _ => None,
     }
 }

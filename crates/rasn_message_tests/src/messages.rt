@@ -3,6 +3,7 @@
 pub(crate) mod certificate;
 pub(crate) mod cms;
 mod extensions;
+mod ldap;
 pub(crate) mod request;
 pub(crate) mod revocation;
 mod snmp;

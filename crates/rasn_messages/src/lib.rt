@@ -1,8 +1,9 @@
 //! Messages of the standards that BER, CER and DER were made for, as types: certificates (`x509`), requests for them (`pkcs10`), signed data
-//! (`cms`) and network management (`snmp`).
+//! (`cms`), network management (`snmp`) and directories (`ldap`).
 #![tactic(auto)]
 
 pub mod cms;
+pub mod ldap;
 pub mod pkcs10;
 pub mod snmp;
 pub mod x509;

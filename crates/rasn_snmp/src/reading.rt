@@ -1,12 +1,10 @@
 //! Messages as a whole: what is read and written, with no premise but memory.
-ghost use Rattle.std.specs.Prelude.{◌≡◌, ◌⊎◌, true, IfOk, IfErr};
+ghost use Rattle.std.specs.Prelude.{◌≡◌, true, IfOk, IfErr};
 ghost use Rattle.rasn_types.specs.declared.types.codec.Codec.TheVariants.{Ber, Der};
 ghost use Rattle.rasn_types.specs.Bytes.{Bytes};
-ghost use Rattle.rasn_types.specs.Errors.{IsEncodeOutOfMemory};
 ghost use Rattle.rasn_types.specs.Lawful.{IsLawful};
 ghost use Rattle.rasn.specs.Carries.{carries_all};
-ghost use Rattle.rasn.specs.Headline.{Answered, Identifies};
-ghost use Rattle.rasn_enc.specs.Encoding.{NoEncoding};
+ghost use Rattle.rasn.specs.Headline.{Answered, Identifies, EncodingFails};
 ghost use Rattle.rasn_snmp.specs.CommunityMessage.{message_shape, message_tree};
 
 use crate::Message;
@@ -39,7 +37,7 @@ pub fn read_message(alloc: Global, input: &[u8]) -> Result<(Message, &[u8]), Dec
 pub fn write_message(alloc: Global, message: &Message) -> Result<Vec<u8>, EncodeError>
     ensures ok { IfOk result (λ octets. Bytes Der message_shape (message_tree message.now) octets.items) }
     ensures canonical { IfOk result (λ octets. Identifies message_shape (message_tree message.now) octets.items) }
-    ensures fails { IfErr result (λ error. IsEncodeOutOfMemory error.kind ⊎ NoEncoding Der message_shape (message_tree message.now)) }
+    ensures fails { IfErr result (EncodingFails Der message_shape (message_tree message.now)) }
 {
     der::encode(alloc, message)
 }
