@@ -17,6 +17,7 @@ exports! {
     soq_nest_write_10(times: usize); soq_nest_write_20(times: usize);
     soq_bool_write(times: usize); soq_i64_write(times: usize); soq_both_read(); soq_both_write(times: usize);
     soq_certificate_read(); soq_certificate_write(times: usize); soq_certificate_read_written(); soq_certificate_normalise();
+    soq_snmp_read(); soq_snmp_write(times: usize); soq_ldap_read(); soq_ldap_write(times: usize);
     soq_skip();
 }
 
@@ -46,6 +47,46 @@ struct ToBeSigned<'a> {
 }
 #[derive(asn1::Asn1Read, asn1::Asn1Write)]
 struct Certificate<'a> { signed: ToBeSigned<'a>, algorithm: Algorithm<'a>, signature: asn1::BitString<'a> }
+
+#[derive(asn1::Asn1Read, asn1::Asn1Write)]
+struct VarBind<'a> { name: asn1::ObjectIdentifier, value: asn1::Tlv<'a> }
+#[derive(asn1::Asn1Read, asn1::Asn1Write)]
+struct Pdu<'a> { request_id: i32, error_status: i32, error_index: i32, bindings: asn1::SequenceOf<'a, VarBind<'a>> }
+#[derive(asn1::Asn1Read, asn1::Asn1Write)]
+enum Pdus<'a> {
+    #[implicit(0)] GetRequest(Pdu<'a>), #[implicit(1)] GetNextRequest(Pdu<'a>), #[implicit(2)] Response(Pdu<'a>), #[implicit(3)] SetRequest(Pdu<'a>),
+    #[implicit(6)] InformRequest(Pdu<'a>), #[implicit(7)] SnmpV2Trap(Pdu<'a>), #[implicit(8)] Report(Pdu<'a>),
+}
+/// A message of SNMP, whose values asn1 leaves as octets.
+#[derive(asn1::Asn1Read, asn1::Asn1Write)]
+struct Message<'a> { version: u8, community: &'a [u8], data: Pdus<'a> }
+
+/// A message of LDAP by bcder, of the operations that the rows have: octets are shared with the input, and texts aren't looked at.
+fn ldap<S: bcder::decode::Source>(c: &mut bcder::decode::Constructed<S>) -> Result<usize, S::Err> {
+    use bcder::OctetString as Octets;
+    c.take_sequence(|c| {
+        let id = c.take_u32()?;
+        let bound = c.take_opt_constructed_if(Tag::application(0), |c| Ok((c.take_u8()?, Octets::take_from(c)?, c.take_primitive_if(Tag::CTX_0, |p| p.take_all())?)))?;
+        if black_box(bound).is_none() {
+            let entry = c.take_opt_constructed_if(Tag::application(4), |c| Ok((Octets::take_from(c)?, c.take_sequence(|c| {
+                let mut attributes = vec![];
+                while let Some(a) = c.take_opt_sequence(|c| Ok((Octets::take_from(c)?, c.take_set(|c| {
+                    let mut values = vec![];
+                    while let Some(v) = Octets::take_opt_from(c)? { values.push(v) }
+                    Ok(values)
+                })?)))? { attributes.push(a) }
+                Ok(attributes)
+            })?)))?;
+            if black_box(entry).is_none() {
+                let result = |c: &mut bcder::decode::Constructed<S>| Ok((c.take_primitive_if(Tag::ENUMERATED, |p| p.to_u8())?, Octets::take_from(c)?, Octets::take_from(c)?));
+                if black_box(c.take_opt_constructed_if(Tag::application(1), result)?).is_none() { black_box(c.take_constructed_if(Tag::application(5), result)?); }
+            }
+        }
+        let controls = c.take_opt_constructed_if(Tag::CTX_0, |c| c.take_sequence(|c| Ok((Octets::take_from(c)?, Octets::take_opt_from(c)?))))?;
+        black_box(controls);
+        Ok(id as usize | 1)
+    })
+}
 
 /// The certificates of a PEM file.
 fn certificates(file: &str) -> Vec<Input> {
@@ -304,6 +345,17 @@ fn main() {
         ("asn1", peer(|i| black_box(p::<Pair>(&i.octets)).is_ok() as usize))]);
     row_of("5 SEQUENCE by closures, written", &pairs, vec![("soq", soq_times(soq_both_write, W), W), ("soq-by-parts", soq_times(soq_pair_write, W), W),
         ("asn1", peer(|i| { let v = p::<Pair>(&i.octets).unwrap(); (0..W).map(|_| black_box(asn1::write_single(black_box(&v))).unwrap().len()).sum() }), W)]);
+    let messages = of("ldap");
+    row("10 LDAP message read", &messages, vec![("soq", soq(soq_ldap_read)),
+        ("bcder-shared", peer(|i| black_box(Mode::Ber.decode(i.bytes.clone(), |c| ldap(c))).unwrap_or(0)))]);
+    row_of("10 LDAP bind request written", &messages[..1], vec![("soq", soq_times(soq_ldap_write, W), W),
+        ("bcder", peer(|_| (0..W).map(|_| b_vec(encode::sequence((black_box(2u32).encode(), encode::sequence_as(Tag::application(0),
+            (3u8.encode(), bcder::OctetString::encode_slice(black_box("cn=admin,dc=example")), bcder::OctetString::encode_slice_as(black_box("secret"), Tag::CTX_0))))))).sum()), W)]);
+    let snmp = of("snmp");
+    row("10 SNMP message read", &snmp, vec![("soq", soq(soq_snmp_read)),
+        ("asn1-borrowed", peer(|i| black_box(p::<Message>(&i.octets)).is_ok() as usize))]);
+    row_of("10 SNMP message written", &snmp, vec![("soq", soq_times(soq_snmp_write, W), W),
+        ("asn1", peer(|i| { let v = p::<Message>(&i.octets).unwrap(); (0..W).map(|_| black_box(asn1::write_single(black_box(&v))).unwrap().len()).sum() }), W)]);
     let file = std::env::var("CERTIFICATES").unwrap_or("/etc/ssl/certs/ca-certificates.crt".into());
     let certs = certificates(&file);
     if !certs.is_empty() {
