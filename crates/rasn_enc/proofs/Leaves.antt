@@ -1,6 +1,5 @@
 pub mod Primitive
 pub mod BitString
-pub mod Integer
 pub mod ObjectIdentifier
 pub mod CharacterString
 pub mod Time

@@ -42,7 +42,7 @@ pub use enumerated::Enumerated;
 pub use fields::{Field, FieldPresence, Fields, HasPresence};
 pub use generalized_time::GeneralizedTime;
 pub use identifier::Identifier;
-pub use integer::{Integer, IntegerType};
+pub use integer::{Integer, IntegerType, LONGEST_NUMBER};
 pub use lawful_eq::{LawfulEq, Present};
 pub use object_identifier::ObjectIdentifier;
 pub use octet_string::OctetString;

@@ -1,7 +1,7 @@
 //! The octets of whole numbers in two's complement (X.690 8.3).
 
 use crate::reading::assert_facts;
-use rasn_types::types::{Integer, IntegerType};
+use rasn_types::types::{Integer, IntegerType, LONGEST_NUMBER};
 use std::alloc::Global;
 use std::process::Abort;
 
@@ -25,21 +25,19 @@ fn assert_stands_for<T: IntegerType + PartialEq>(rt: &impl Abort, alloc: Global,
     }
 }
 
-fn is_written<T: IntegerType>(alloc: Global, number: &T, octets: &[u8]) -> bool {
-    let mut found = Vec::new(alloc);
-    found.push(7).is_ok()
-        && number.append_octets(&mut found).is_ok()
-        && found.strip_prefix(&[7]) == Some(octets)
+fn is_written<T: IntegerType>(number: &T, octets: &[u8]) -> bool {
+    let mut room = [0; LONGEST_NUMBER];
+    number.octets(&mut room) == octets
 }
 
-/// Asserts that the number is written as these octets, behind another octet, and read back.
+/// Asserts that the number has these octets, and is read of them.
 fn assert_takes<T: IntegerType + PartialEq>(
     rt: &impl Abort,
     alloc: Global,
     number: T,
     octets: &[u8],
 ) {
-    assert!(rt; is_written(alloc, &number, octets), "{octets:?}");
+    assert!(rt; is_written(&number, octets), "{octets:?}");
     assert!(rt; is_read(alloc, octets, &Some(number)), "{octets:?}");
 }
 

@@ -1,5 +1,5 @@
 //! INTEGER: whole numbers of a fixed width, and of any length.
-ghost use Rattle.std.specs.Prelude.{◌≡◌, ◌++◌, ◌<◌, length, true, IfOk, IfErr, OnOk, OnErr, List, ℕ};
+ghost use Rattle.std.specs.Prelude.{◌≡◌, ◌<◌, length, true, IfOk, IfErr};
 ghost use Rattle.rasn_types.specs.Contents.{signed};
 ghost use Rattle.rasn_types.specs.Options.{IsSomeMeaningExactlyIf};
 ghost use Rattle.rasn_types.specs.Shapes.{IsIn};
@@ -12,6 +12,9 @@ mod unsigned;
 
 use std::alloc::{AllocError, Global};
 pub use unbounded::Integer;
+
+/// How many octets a number of a fixed width has at most (X.690 8.3): those of the highest numbers of a `u128`.
+pub const LONGEST_NUMBER: usize = 17;
 
 /// A type of whole numbers that an INTEGER is read as and written from (X.690 8.3).
 pub trait IntegerType: Drop {
@@ -38,9 +41,8 @@ pub trait IntegerType: Drop {
         ensures ok { IfOk result (λ v. IsSomeMeaningExactlyIf number v (IsIn range (signed octets.now)) (signed octets.now)) }
         ensures memory { IfErr result (λ _. grows ≡ true) };
 
-    /// Puts the number, which the type has, behind the octets, in two's complement and in the fewest octets.
-    fn append_octets(&self, octets: &mut Vec<u8>) -> Result<(), AllocError>
-        ensures ok { OnOk result ((l : List ℕ) × (octets.new.items ≡ octets.old.items ++ l) × IsShortestOf (number self.now) l) }
-        ensures held { IsIn range (number self.now) }
-        ensures err { OnErr result (octets.new.items ≡ octets.old.items) };
+    /// The number, which the type has, in two's complement and in the fewest octets: octets that it has, or that are made in this room.
+    fn octets<'a>(&'a self, room: &'a mut [u8; LONGEST_NUMBER]) -> &'a [u8]
+        ensures exact { IsShortestOf (number self.now) result.now }
+        ensures held { IsIn range (number self.now) };
 }

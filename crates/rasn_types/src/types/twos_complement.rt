@@ -1,14 +1,15 @@
 //! Whole numbers as octets in two's complement, most significant first (X.690 8.3).
-ghost use Rattle.std.specs.Prelude.{◌≡◌, ◌<◌, ◌≤◌, length, MatchOption, pos, ℤ, OnOk, OnErr, List, ℕ, ◌++◌};
+ghost use Rattle.std.specs.Prelude.{◌≡◌, ◌<◌, ◌≤◌, length, MatchOption, pos, ℤ};
 ghost use Rattle.rasn_types.specs.Truth.{IsWhether};
 ghost use Rattle.rasn_types.specs.Framing.{number_in, AreOctets};
 ghost use Rattle.rasn_types.specs.Contents.{signed, IsShortestInteger, RepeatsSign};
 ghost use Rattle.rasn_types.specs.Shapes.{IsIn};
 ghost use Rattle.rasn_types.specs.Trees.{signed_range, unsigned_range, IsShortestOf};
 
-use std::alloc::AllocError;
+use crate::types::LONGEST_NUMBER;
 
 /// The octets without those at the front that only repeat the sign (X.690 8.3.2).
+#[inline(always)]
 pub fn shortest(octets: &[u8]) -> &[u8]
     requires { 0 < length octets.now }
     ensures same { signed result.now ≡ signed octets.now }
@@ -23,6 +24,7 @@ pub fn shortest(octets: &[u8]) -> &[u8]
 }
 
 // Whether an octet in front of another is nothing but its sign.
+#[inline(always)]
 fn repeats_sign(octet: u8, next: u8) -> bool
     ensures { IsWhether result (RepeatsSign octet next) }
 {
@@ -82,37 +84,33 @@ fn fold_u128(digits: &[u8]) -> u128
     number
 }
 
-/// Puts a number behind octets, in the fewest octets.
-pub fn append_i64(number: i64, octets: &mut Vec<u8>) -> Result<(), AllocError>
-    ensures ok { OnOk result ((l : List ℕ) × (octets.new.items ≡ octets.old.items ++ l) × IsShortestOf number l) }
-    ensures err { OnErr result (octets.new.items ≡ octets.old.items) }
+/// The number's octets in two's complement, the fewest, made in this room.
+#[inline(always)]
+pub fn i64_octets(number: i64, room: &mut [u8; LONGEST_NUMBER]) -> &[u8]
+    ensures { IsShortestOf number result.now }
 {
-    append_shortest(&number.to_be_bytes(), octets)
+    let octets = &mut room[..8];
+    octets.copy_from_slice(&number.to_be_bytes());
+    shortest(octets)
 }
 
-/// Puts a number behind octets, in the fewest octets.
-pub fn append_i128(number: i128, octets: &mut Vec<u8>) -> Result<(), AllocError>
-    ensures ok { OnOk result ((l : List ℕ) × (octets.new.items ≡ octets.old.items ++ l) × IsShortestOf number l) }
-    ensures err { OnErr result (octets.new.items ≡ octets.old.items) }
+/// The number's octets in two's complement, the fewest, made in this room.
+#[inline(always)]
+pub fn i128_octets(number: i128, room: &mut [u8; LONGEST_NUMBER]) -> &[u8]
+    ensures { IsShortestOf number result.now }
 {
-    append_shortest(&number.to_be_bytes(), octets)
+    let octets = &mut room[..16];
+    octets.copy_from_slice(&number.to_be_bytes());
+    shortest(octets)
 }
 
-/// Puts a number behind octets, in the fewest octets.
-pub fn append_u128(number: u128, octets: &mut Vec<u8>) -> Result<(), AllocError>
-    ensures ok { OnOk result ((l : List ℕ) × (octets.new.items ≡ octets.old.items ++ l) × IsShortestOf (pos number) l) }
-    ensures err { OnErr result (octets.new.items ≡ octets.old.items) }
+/// The number's octets in two's complement, the fewest, made in this room.
+#[inline(always)]
+pub fn u128_octets(number: u128, room: &mut [u8; LONGEST_NUMBER]) -> &[u8]
+    ensures { IsShortestOf (pos number) result.now }
 {
-    let mut with_sign = [0; 17];
-    with_sign[1..].copy_from_slice(&number.to_be_bytes());
-    append_shortest(&with_sign, octets)
-}
-
-// Puts the number that octets stand for behind others, in the fewest octets.
-fn append_shortest(number: &[u8], octets: &mut Vec<u8>) -> Result<(), AllocError>
-    requires { 0 < length number.now }
-    ensures ok { OnOk result ((l : List ℕ) × (octets.new.items ≡ octets.old.items ++ l) × IsShortestOf (signed number.now) l) }
-    ensures err { OnErr result (octets.new.items ≡ octets.old.items) }
-{
-    octets.extend_from_slice(shortest(number))
+    let mut octets = [0; LONGEST_NUMBER];
+    octets[1..].copy_from_slice(&number.to_be_bytes());
+    *room = octets;
+    shortest(room)
 }

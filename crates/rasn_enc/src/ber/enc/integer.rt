@@ -1,19 +1,19 @@
 //! Writing INTEGER.
 #![tactic(auto, using(crate::proofs::Leaves::Primitive::integer_refused))]
 
-ghost use Rattle.std.specs.Prelude.{ℕ, List, ◌≡◌, ◌<◌, ◌≤ℤ◌, ◌++◌, length, IfErr, OnOk, OnErr};
+ghost use Rattle.std.specs.Prelude.{◌≡◌, ◌<◌, ◌≤ℤ◌, length, IfErr, OnOk, OnErr};
 ghost use Rattle.rasn_types.specs.Truth.{IsWhether};
 ghost use Rattle.rasn_types.specs.Contents.{signed};
-ghost use Rattle.rasn_types.specs.Shapes.{Admits, IsIn};
-ghost use Rattle.rasn_enc.specs.declared.ber.enc.writer.filled.FillError.TheVariants.{Refused};
+ghost use Rattle.rasn_types.specs.Shapes.{Admits};
 ghost use Rattle.rasn_enc.specs.Errors.{FailsAtInteger};
-ghost use Rattle.rasn_enc.specs.Integer.{AppendsIntegerContents, AppendsInteger};
+ghost use Rattle.rasn_enc.specs.Integer.{AppendsInteger};
 
-use crate::ber::enc::writer::filled::FillError;
 use crate::ber::enc::{Encoder, out_of_memory};
 use crate::enc::Encode;
 use rasn_types::error::{EncodeError, EncodeErrorKind};
-use rasn_types::types::{Codec, Constraints, Identifier, Integer, IntegerType, Tag};
+use rasn_types::types::{
+    Codec, Constraints, Identifier, Integer, IntegerType, LONGEST_NUMBER, Tag,
+};
 use std::alloc::Global;
 
 impl Encoder {
@@ -33,35 +33,13 @@ impl Encoder {
         ensures err { OnErr result (self.new ≡ self.old) }
         ensures fails { IfErr result (FailsAtInteger constraints.now (I.number value.now) self.old.rule) }
     {
-        let (alloc, rule) = (self.alloc(), self.codec());
-        let contents = |octets: &mut Vec<u8>| write_integer(constraints, value, octets);
-        match self.leaf_with(tag, contents) {
-            Ok(()) => Ok(()),
-            Err(FillError::NoMemory) => Err(out_of_memory(rule)),
-            Err(FillError::Refused) => Err(refused_value(alloc, rule, constraints, value)),
+        let mut room = [0; LONGEST_NUMBER];
+        let contents = value.octets(&mut room);
+        if !admits(constraints, contents) {
+            return Err(refused_number(self.alloc(), self.codec(), constraints, contents));
         }
+        self.leaf(tag, contents)
     }
-}
-
-/// Puts the octets of a number behind those that are there, where it is within its bound.
-fn write_integer<I: IntegerType>(
-    constraints: &Constraints,
-    value: &I,
-    octets: &mut Vec<u8>,
-) -> Result<(), FillError>
-    ensures ok { OnOk result (AppendsIntegerContents constraints.now (I.number value.now) octets.old.items octets.new.items) }
-    ensures held { IsIn I.range (I.number value.now) }
-    ensures behind { (l : List ℕ) × (octets.new.items ≡ octets.old.items ++ l) }
-    ensures fails { IfErr result (λ e. e ≡ Refused → (Admits ◌≤ℤ◌ constraints.now.value (I.number value.now) → ⊥)) }
-{
-    let start = octets.len();
-    let Ok(()) = value.append_octets(octets) else {
-        return Err(FillError::NoMemory);
-    };
-    if !admits(constraints, &octets[start..]) {
-        return Err(FillError::Refused);
-    }
-    Ok(())
 }
 
 /// Whether a number meets its bound.
@@ -83,20 +61,17 @@ fn meets_bound(constraints: &Constraints, octets: &[u8]) -> bool
 }
 
 /// Makes the error of a number that is out of its bound, with a copy of the number; if the copy finds no memory, that is the error.
-fn refused_value<I: IntegerType>(
+fn refused_number(
     alloc: Global,
     rule: Codec,
     constraints: &Constraints,
-    value: &I,
+    contents: &[u8],
 ) -> EncodeError
-    requires { Admits ◌≤ℤ◌ constraints.now.value (I.number value.now) → ⊥ }
-    ensures { FailsAtInteger constraints.now (I.number value.now) rule result }
+    requires some { 0 < length contents.now }
+    requires refused { Admits ◌≤ℤ◌ constraints.now.value (signed contents.now) → ⊥ }
+    ensures { FailsAtInteger constraints.now (signed contents.now) rule result }
 {
-    let mut octets = Vec::new(alloc);
-    let Ok(()) = value.append_octets(&mut octets) else {
-        return out_of_memory(rule);
-    };
-    let Ok(Some(value)) = Integer::from_octets(alloc, &octets) else {
+    let Ok(Some(value)) = Integer::from_octets(alloc, contents) else {
         return out_of_memory(rule);
     };
     match Box::new(alloc, constraints.value_bounds()) {

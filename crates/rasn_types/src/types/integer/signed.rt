@@ -4,8 +4,8 @@ ghost use Rattle.rasn_types.specs.Shapes.{leaf, integer, number as number_tree};
 ghost use Rattle.rasn_types.specs.Tags.{in_universal};
 ghost use Rattle.rasn_types.specs.Trees.{signed_range, unconstrained};
 
-use crate::types::twos_complement::{append_i64, append_i128, signed_i128};
-use crate::types::{AsnType, Constraints, IntegerType, Tag};
+use crate::types::twos_complement::{i64_octets, i128_octets, signed_i128};
+use crate::types::{AsnType, Constraints, IntegerType, LONGEST_NUMBER, Tag};
 use std::alloc::{AllocError, Global};
 
 impl AsnType for i8 {
@@ -39,8 +39,9 @@ impl IntegerType for i8 {
         Ok(signed_i128(octets).and_then(|number| i8::try_from(number).ok()))
     }
 
-    fn append_octets(&self, octets: &mut Vec<u8>) -> Result<(), AllocError> {
-        append_i64(i64::from(*self), octets)
+    #[inline(always)]
+    fn octets<'a>(&'a self, room: &'a mut [u8; LONGEST_NUMBER]) -> &'a [u8] {
+        i64_octets(i64::from(*self), room)
     }
 }
 
@@ -75,8 +76,9 @@ impl IntegerType for i16 {
         Ok(signed_i128(octets).and_then(|number| i16::try_from(number).ok()))
     }
 
-    fn append_octets(&self, octets: &mut Vec<u8>) -> Result<(), AllocError> {
-        append_i64(i64::from(*self), octets)
+    #[inline(always)]
+    fn octets<'a>(&'a self, room: &'a mut [u8; LONGEST_NUMBER]) -> &'a [u8] {
+        i64_octets(i64::from(*self), room)
     }
 }
 
@@ -111,8 +113,9 @@ impl IntegerType for i32 {
         Ok(signed_i128(octets).and_then(|number| i32::try_from(number).ok()))
     }
 
-    fn append_octets(&self, octets: &mut Vec<u8>) -> Result<(), AllocError> {
-        append_i64(i64::from(*self), octets)
+    #[inline(always)]
+    fn octets<'a>(&'a self, room: &'a mut [u8; LONGEST_NUMBER]) -> &'a [u8] {
+        i64_octets(i64::from(*self), room)
     }
 }
 
@@ -147,8 +150,9 @@ impl IntegerType for i64 {
         Ok(signed_i128(octets).and_then(|number| i64::try_from(number).ok()))
     }
 
-    fn append_octets(&self, octets: &mut Vec<u8>) -> Result<(), AllocError> {
-        append_i64(*self, octets)
+    #[inline(always)]
+    fn octets<'a>(&'a self, room: &'a mut [u8; LONGEST_NUMBER]) -> &'a [u8] {
+        i64_octets(*self, room)
     }
 }
 
@@ -183,8 +187,9 @@ impl IntegerType for i128 {
         Ok(signed_i128(octets))
     }
 
-    fn append_octets(&self, octets: &mut Vec<u8>) -> Result<(), AllocError> {
-        append_i128(*self, octets)
+    #[inline(always)]
+    fn octets<'a>(&'a self, room: &'a mut [u8; LONGEST_NUMBER]) -> &'a [u8] {
+        i128_octets(*self, room)
     }
 }
 
@@ -219,7 +224,8 @@ impl IntegerType for isize {
         Ok(signed_i128(octets).and_then(|number| isize::try_from(number).ok()))
     }
 
-    fn append_octets(&self, octets: &mut Vec<u8>) -> Result<(), AllocError> {
-        append_i64(*self as i64, octets)
+    #[inline(always)]
+    fn octets<'a>(&'a self, room: &'a mut [u8; LONGEST_NUMBER]) -> &'a [u8] {
+        i64_octets(*self as i64, room)
     }
 }

@@ -72,15 +72,6 @@ impl Model for SmallOctets {
 }
 
 impl SmallOctets {
-    /// The octets of a vector, which is kept.
-    pub fn from_vec(octets: Vec<u8>) -> SmallOctets
-        ensures { result ≡ octets.items }
-    {
-        SmallOctets {
-            storage: Storage::Allocated(octets),
-        }
-    }
-
     /// A copy of these octets.
     ///
     /// # Errors

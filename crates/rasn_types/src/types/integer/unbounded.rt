@@ -9,9 +9,9 @@ ghost use Rattle.rasn_types.specs.Trees.{IsShortestOf, signed_range, unsigned_ra
 use crate::hexadecimal::Hexadecimal;
 use crate::types::integer::small_octets::SmallOctets;
 use crate::types::twos_complement::{
-    append_i128, append_u128, shortest, signed_i128, unsigned_u128,
+    i128_octets, shortest, signed_i128, u128_octets, unsigned_u128,
 };
-use crate::types::{AsnType, Constraints, IntegerType, Tag, TryClone};
+use crate::types::{AsnType, Constraints, IntegerType, LONGEST_NUMBER, Tag, TryClone};
 use std::alloc::{AllocError, Global};
 use std::cmp::Ordering;
 use std::fmt;
@@ -55,9 +55,8 @@ impl Integer {
     pub fn from_i128(alloc: Global, number: i128) -> Result<Integer, AllocError>
         ensures { IfOk result (λ n. n ≡ number) }
     {
-        let mut octets = Vec::new(alloc);
-        append_i128(number, &mut octets)?;
-        let octets = SmallOctets::from_vec(octets);
+        let mut room = [0; LONGEST_NUMBER];
+        let octets = SmallOctets::from_slice(alloc, i128_octets(number, &mut room))?;
         Ok(Integer { octets })
     }
 
@@ -68,9 +67,8 @@ impl Integer {
     pub fn from_u128(alloc: Global, number: u128) -> Result<Integer, AllocError>
         ensures { IfOk result (λ n. n ≡ pos number) }
     {
-        let mut octets = Vec::new(alloc);
-        append_u128(number, &mut octets)?;
-        let octets = SmallOctets::from_vec(octets);
+        let mut room = [0; LONGEST_NUMBER];
+        let octets = SmallOctets::from_slice(alloc, u128_octets(number, &mut room))?;
         Ok(Integer { octets })
     }
 
@@ -229,8 +227,9 @@ impl IntegerType for Integer {
         Integer::from_octets(alloc, octets)
     }
 
-    fn append_octets(&self, octets: &mut Vec<u8>) -> Result<(), AllocError> {
-        octets.extend_from_slice(self.octets.as_slice())
+    #[inline(always)]
+    fn octets<'a>(&'a self, _room: &'a mut [u8; LONGEST_NUMBER]) -> &'a [u8] {
+        self.as_octets()
     }
 }
 

@@ -5,9 +5,9 @@ ghost use Rattle.rasn_types.specs.Tags.{in_universal};
 ghost use Rattle.rasn_types.specs.Trees.{unsigned_range, unconstrained};
 
 use crate::types::twos_complement::{
-    append_i64, append_i128, append_u128, signed_i128, unsigned_u128,
+    i64_octets, i128_octets, signed_i128, u128_octets, unsigned_u128,
 };
-use crate::types::{AsnType, Constraints, IntegerType, Tag};
+use crate::types::{AsnType, Constraints, IntegerType, LONGEST_NUMBER, Tag};
 use std::alloc::{AllocError, Global};
 
 impl AsnType for u8 {
@@ -41,8 +41,9 @@ impl IntegerType for u8 {
         Ok(signed_i128(octets).and_then(|number| u8::try_from(number).ok()))
     }
 
-    fn append_octets(&self, octets: &mut Vec<u8>) -> Result<(), AllocError> {
-        append_i64(i64::from(*self), octets)
+    #[inline(always)]
+    fn octets<'a>(&'a self, room: &'a mut [u8; LONGEST_NUMBER]) -> &'a [u8] {
+        i64_octets(i64::from(*self), room)
     }
 }
 
@@ -77,8 +78,9 @@ impl IntegerType for u16 {
         Ok(signed_i128(octets).and_then(|number| u16::try_from(number).ok()))
     }
 
-    fn append_octets(&self, octets: &mut Vec<u8>) -> Result<(), AllocError> {
-        append_i64(i64::from(*self), octets)
+    #[inline(always)]
+    fn octets<'a>(&'a self, room: &'a mut [u8; LONGEST_NUMBER]) -> &'a [u8] {
+        i64_octets(i64::from(*self), room)
     }
 }
 
@@ -113,8 +115,9 @@ impl IntegerType for u32 {
         Ok(signed_i128(octets).and_then(|number| u32::try_from(number).ok()))
     }
 
-    fn append_octets(&self, octets: &mut Vec<u8>) -> Result<(), AllocError> {
-        append_i64(i64::from(*self), octets)
+    #[inline(always)]
+    fn octets<'a>(&'a self, room: &'a mut [u8; LONGEST_NUMBER]) -> &'a [u8] {
+        i64_octets(i64::from(*self), room)
     }
 }
 
@@ -149,8 +152,9 @@ impl IntegerType for u64 {
         Ok(signed_i128(octets).and_then(|number| u64::try_from(number).ok()))
     }
 
-    fn append_octets(&self, octets: &mut Vec<u8>) -> Result<(), AllocError> {
-        append_i128(i128::from(*self), octets)
+    #[inline(always)]
+    fn octets<'a>(&'a self, room: &'a mut [u8; LONGEST_NUMBER]) -> &'a [u8] {
+        i128_octets(i128::from(*self), room)
     }
 }
 
@@ -185,8 +189,9 @@ impl IntegerType for u128 {
         Ok(unsigned_u128(octets))
     }
 
-    fn append_octets(&self, octets: &mut Vec<u8>) -> Result<(), AllocError> {
-        append_u128(*self, octets)
+    #[inline(always)]
+    fn octets<'a>(&'a self, room: &'a mut [u8; LONGEST_NUMBER]) -> &'a [u8] {
+        u128_octets(*self, room)
     }
 }
 
@@ -221,7 +226,8 @@ impl IntegerType for usize {
         Ok(signed_i128(octets).and_then(|number| usize::try_from(number).ok()))
     }
 
-    fn append_octets(&self, octets: &mut Vec<u8>) -> Result<(), AllocError> {
-        append_i128(*self as i128, octets)
+    #[inline(always)]
+    fn octets<'a>(&'a self, room: &'a mut [u8; LONGEST_NUMBER]) -> &'a [u8] {
+        i128_octets(*self as i128, room)
     }
 }

@@ -14,8 +14,7 @@ use rasn_types::ber::is_always_constructed;
 use rasn_types::types::Tag;
 use std::alloc::AllocError;
 
-/// A primitive value whose contents are written in place has room for so many octets of them at first: no time has more, nor a number
-/// of 128 bits.
+/// A primitive value whose contents are written in place has room for so many octets of them at first: no time has more.
 const SHORT_CONTENTS: usize = 32;
 
 /// Why contents aren't written in place.
@@ -23,7 +22,7 @@ const SHORT_CONTENTS: usize = 32;
 pub enum FillError {
     /// Memory ran out.
     NoMemory,
-    /// The value has no contents octets, or is out of its bound.
+    /// The value has no contents octets.
     Refused,
 }
 
