@@ -14,7 +14,7 @@ exports! {
     soq_list_i64_read(); soq_list_integer_read();
     soq_oid_write(times: usize); soq_octets_write(times: usize); soq_pair_write(times: usize); soq_validity_write(times: usize);
     soq_list_i64_write(times: usize); soq_list_integer_write(times: usize);
-    soq_nest_write_10(times: usize); soq_nest_write_20(times: usize);
+    soq_nest_write_3(times: usize); soq_nest_write_10(times: usize); soq_nest_write_20(times: usize);
     soq_bool_write(times: usize); soq_i64_write(times: usize); soq_both_read(); soq_both_write(times: usize);
     soq_certificate_read(); soq_certificate_write(times: usize); soq_certificate_read_written(); soq_certificate_normalise();
     soq_snmp_read(); soq_snmp_write(times: usize); soq_ldap_read(); soq_ldap_write(times: usize);
@@ -215,6 +215,7 @@ fn peak(name: &str) {
     let before = kb("VmRSS:");
     let n = match name {
         "soq" => unsafe { soq_octets_put(input.as_ptr(), input.len()) },
+        "soq-in-3" => unsafe { soq_nest_write_3(input.as_ptr(), input.len(), 1) },
         "soq-in-10" => unsafe { soq_nest_write_10(input.as_ptr(), input.len(), 1) },
         "asn1" => black_box(asn1::write_single(&input.as_slice())).unwrap().len(),
         "asn1-in-1" => black_box(asn1::write_single(&Nest { depth: 1, octets: &input })).unwrap().len(),
@@ -323,6 +324,8 @@ fn main() {
             ("soq-types", soq_times(if d == 10 { soq_nest_write_10 } else { soq_nest_write_20 }, 16), 16),
             ("asn1", peer(move |i| black_box(asn1::write_single(&Nest { depth: d, octets: &i.octets })).unwrap().len()), 1)]);
     }
+    row_of("7 1 MB in three lists written", &plain, vec![("soq", soq_times(soq_nest_write_3, 4), 4),
+        ("memcpy", peer(|i| black_box(i.octets.to_vec()).len()), 1)]);
     row("8 UTF8String read", &of("utf8"), vec![("soq-copied", soq(soq_utf8_read)),
         ("asn1-borrowed", peer(|i| black_box(p::<asn1::Utf8String>(&i.octets)).is_ok() as usize)),
         ("bcder-shared", peer(|i| black_box(Mode::Der.decode(i.bytes.clone(), |c| bcder::Utf8String::take_from(c))).is_ok() as usize)),
@@ -391,5 +394,6 @@ fn growth() {
         row(&format!("12 depth {d}"), &nested, vec![("soq-skipped", soq(soq_skip)), ("memcpy", peer(|i| black_box(i.octets.to_vec()).len()))]);
     }
     let around = vec![input(vec![7u8; 1000])];
-    row("12 depth 10, 20, written", &around, vec![("soq-10", soq_times(soq_nest_write_10, 1)), ("soq-20", soq_times(soq_nest_write_20, 1)), ("memcpy", peer(|i| black_box(i.octets.to_vec()).len()))]);
+    row_of("12 depth 10, 20, written", &around, vec![("soq-10", soq_times(soq_nest_write_10, 64), 64), ("soq-20", soq_times(soq_nest_write_20, 64), 64),
+        ("memcpy", peer(|i| black_box(i.octets.to_vec()).len()), 1)]);
 }
