@@ -11,7 +11,7 @@ use thiserror::Error;
 
 /// How the program is called.
 #[derive(Clone, Copy, Debug, PartialEq, Eq, Drop, Error)]
-#[error("usage: rasn-show [--ber] [--check] KIND [file], where KIND is certificate, crl, request or cms")]
+#[error("usage: rasn-show [--ber] [--check] KIND [file], where KIND is certificate, crl, request, cms, ldap or snmp")]
 pub struct Usage;
 
 /// What the program is asked for: by which rules it reads, whether it only tells if the message is one, and which message in which file, or

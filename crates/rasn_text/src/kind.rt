@@ -14,6 +14,10 @@ pub enum Kind {
     Request,
     /// A signed message (RFC 5652).
     SignedMessage,
+    /// A message of LDAP (RFC 4511, 4.1.1).
+    Ldap,
+    /// A message of SNMP with a community (RFC 1901; RFC 1157, 4).
+    Snmp,
 }
 
 impl Kind {
@@ -26,6 +30,8 @@ impl Kind {
             "crl" => Some(Kind::RevocationList),
             "request" => Some(Kind::Request),
             "cms" => Some(Kind::SignedMessage),
+            "ldap" => Some(Kind::Ldap),
+            "snmp" => Some(Kind::Snmp),
             _ => None,
         }
     }
@@ -39,6 +45,8 @@ impl Kind {
             Kind::RevocationList => "crl",
             Kind::Request => "request",
             Kind::SignedMessage => "cms",
+            Kind::Ldap => "ldap",
+            Kind::Snmp => "snmp",
         }
     }
 }

@@ -10,6 +10,7 @@ mod extension;
 mod general_name;
 mod identifiers;
 mod kind;
+mod ldap;
 mod listing;
 mod name;
 mod octets;
@@ -21,6 +22,7 @@ mod reading;
 mod request;
 mod revocation_list;
 mod signed_message;
+mod snmp;
 mod values;
 
 pub use arguments::{Call, Usage, call_of};

@@ -72,4 +72,39 @@ impl Listing {
         self.begin()?;
         writeln!(self.text, "{name}: {value}")
     }
+
+    /// Puts a line of a number and the name that it has, if any: `result code: 0 (success)`.
+    pub(crate) fn numbered(
+        &mut self,
+        title: &str,
+        number: i32,
+        name: Option<&'static str>,
+    ) -> Result<(), AllocError> {
+        self.begin()?;
+        match name {
+            Some(name) => writeln!(self.text, "{title}: {number} ({name})"),
+            None => writeln!(self.text, "{title}: {number}"),
+        }
+    }
+
+    /// Puts a line of a variable, the type of its value and the value: `1.3.6.1.2.1.1.3.0 = TimeTicks 77`.
+    pub(crate) fn binding<N: fmt::Display, T: fmt::Display>(
+        &mut self,
+        name: &N,
+        kind: &str,
+        value: &T,
+    ) -> Result<(), AllocError> {
+        self.begin()?;
+        writeln!(self.text, "{name} = {kind} {value}")
+    }
+
+    /// Puts a line of a variable that has no value, and why.
+    pub(crate) fn unbound<N: fmt::Display>(
+        &mut self,
+        name: &N,
+        why: &str,
+    ) -> Result<(), AllocError> {
+        self.begin()?;
+        writeln!(self.text, "{name} = {why}")
+    }
 }

@@ -2,6 +2,7 @@
 
 use rasn::types::{BitString, Hexadecimal, Integer};
 use std::alloc::{AllocError, Global};
+use std::str;
 
 /// The bits in hexadecimal, and how many of the last octet are unused where some are.
 pub(crate) fn bits_text(alloc: Global, bits: &BitString) -> Result<String, AllocError> {
@@ -22,6 +23,39 @@ pub(crate) fn number_text(alloc: Global, number: &Integer) -> Result<String, All
         [0, behind @ ..] if !behind.is_empty() => behind,
         octets => octets,
     };
+    let shown = Hexadecimal::new(octets);
+    format!(in alloc; "{shown}")
+}
+
+/// The octets as text in quotation marks, where they are UTF-8 without control characters, and else in hexadecimal.
+pub(crate) fn octets_text(alloc: Global, octets: &[u8]) -> Result<String, AllocError> {
+    match str::from_utf8(octets) {
+        Ok(text) => quoted_text(alloc, text),
+        Err(_) => hexadecimal_text(alloc, octets),
+    }
+}
+
+/// The text in quotation marks, or the octets of one with control characters in hexadecimal.
+pub(crate) fn quoted_text(alloc: Global, text: &str) -> Result<String, AllocError> {
+    if has_control(text) {
+        hexadecimal_text(alloc, text.as_bytes())
+    } else {
+        format!(in alloc; "\"{text}\"")
+    }
+}
+
+/// Whether one of the characters is a control character.
+fn has_control(text: &str) -> bool {
+    for character in text.chars() {
+        if character.is_control() {
+            return true;
+        }
+    }
+    false
+}
+
+/// The octets in hexadecimal.
+fn hexadecimal_text(alloc: Global, octets: &[u8]) -> Result<String, AllocError> {
     let shown = Hexadecimal::new(octets);
     format!(in alloc; "{shown}")
 }

@@ -1,17 +1,23 @@
 //! The parts of messages by their names, as they are read one behind the other.
 
 mod certificate;
+mod ldap;
 mod request;
 mod revocation;
 mod signed;
+mod snmp;
 
 use crate::place::{Found, Located, Walk};
 use rasn::types::{
     Any, AsnType, BitString, Explicit, GeneralizedTime, Implicit, Integer, ObjectIdentifier,
-    OctetString, SetOf, UtcTime,
+    OctetString, SetOf, UtcTime, Utf8String,
 };
 
 impl Located for u8 {}
+
+impl Located for i32 {}
+
+impl Located for u32 {}
 
 impl Located for bool {}
 
@@ -22,6 +28,8 @@ impl Located for ObjectIdentifier {}
 impl Located for OctetString {}
 
 impl Located for BitString {}
+
+impl Located for Utf8String {}
 
 impl Located for Any {}
 

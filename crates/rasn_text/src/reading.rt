@@ -12,7 +12,9 @@ use rasn::de::Decode;
 use rasn::error::{DecodeError, DecodeErrorKind};
 use rasn::types::Codec;
 use rasn_messages::cms::SignedMessage;
+use rasn_messages::ldap::LdapMessage;
 use rasn_messages::pkcs10::CertificationRequest;
+use rasn_messages::snmp::Message;
 use rasn_messages::x509::Certificate;
 use rasn_messages::x509::revocation::CertificateList;
 use std::alloc::Global;
@@ -88,6 +90,8 @@ pub fn check(alloc: Global, kind: Kind, rule: Codec, octets: &[u8]) -> Result<()
         Kind::RevocationList => check_as::<CertificateList>(alloc, rule, octets),
         Kind::Request => check_as::<CertificationRequest>(alloc, rule, octets),
         Kind::SignedMessage => check_as::<SignedMessage>(alloc, rule, octets),
+        Kind::Ldap => check_as::<LdapMessage>(alloc, rule, octets),
+        Kind::Snmp => check_as::<Message>(alloc, rule, octets),
     }
 }
 
@@ -111,6 +115,8 @@ pub fn show(alloc: Global, kind: Kind, rule: Codec, octets: &[u8]) -> Result<Str
         Kind::RevocationList => show_as::<CertificateList>(alloc, rule, octets),
         Kind::Request => show_as::<CertificationRequest>(alloc, rule, octets),
         Kind::SignedMessage => show_as::<SignedMessage>(alloc, rule, octets),
+        Kind::Ldap => show_as::<LdapMessage>(alloc, rule, octets),
+        Kind::Snmp => show_as::<Message>(alloc, rule, octets),
     }
 }
 

@@ -1,0 +1,51 @@
+//! Binds as text (RFC 4511, 4.2).
+
+use crate::ldap::result::{list_parts, list_referral};
+use crate::ldap::{list_octets, list_string};
+use crate::listing::Listing;
+use rasn_messages::ldap::{AuthenticationChoice, BindRequest, BindResponse, SaslCredentials};
+use std::alloc::AllocError;
+
+/// Lists who the client is.
+pub(crate) fn list_bind_request(
+    listing: &mut Listing,
+    request: &BindRequest,
+) -> Result<(), AllocError> {
+    listing.line("version", &request.version.number)?;
+    list_string(listing, "name", request.name.as_str())?;
+    match &request.authentication {
+        AuthenticationChoice::Simple(password) => list_octets(listing, "simple", password),
+        AuthenticationChoice::Sasl(credentials) => list_sasl(listing, credentials),
+    }
+}
+
+/// Lists credentials of SASL.
+fn list_sasl(listing: &mut Listing, sasl: &SaslCredentials) -> Result<(), AllocError> {
+    listing.open("sasl")?;
+    list_string(listing, "mechanism", sasl.mechanism.as_str())?;
+    if let Some(credentials) = &sasl.credentials {
+        list_octets(listing, "credentials", credentials)?;
+    }
+    listing.close();
+    Ok(())
+}
+
+/// Lists the server's answer.
+pub(crate) fn list_bind_response(
+    listing: &mut Listing,
+    response: &BindResponse,
+) -> Result<(), AllocError> {
+    list_parts(
+        listing,
+        response.result_code,
+        response.matched_dn.as_str(),
+        response.diagnostic_message.as_str(),
+    )?;
+    if let Some(uris) = &response.referral {
+        list_referral(listing, uris)?;
+    }
+    if let Some(credentials) = &response.server_sasl_credentials {
+        list_octets(listing, "server sasl credentials", credentials)?;
+    }
+    Ok(())
+}

@@ -1,0 +1,67 @@
+//! Entries and their changes as text (RFC 4511, 4.5.2 and 4.6).
+
+use crate::ldap::{list_octets, list_string};
+use crate::listing::Listing;
+use rasn::types::OctetString;
+use rasn_messages::ldap::{Change, ModifyRequest, PartialAttribute, SearchResultEntry};
+use std::alloc::AllocError;
+
+/// Lists an entry that was found.
+pub(crate) fn list_entry(
+    listing: &mut Listing,
+    entry: &SearchResultEntry,
+) -> Result<(), AllocError> {
+    list_string(listing, "object name", entry.object_name.as_str())?;
+    listing.open("attributes")?;
+    for attribute in &entry.attributes {
+        listing.open("attribute")?;
+        list_attribute(listing, attribute)?;
+        listing.close();
+    }
+    listing.close();
+    Ok(())
+}
+
+/// Lists what is to change.
+pub(crate) fn list_modify_request(
+    listing: &mut Listing,
+    request: &ModifyRequest,
+) -> Result<(), AllocError> {
+    list_string(listing, "object", request.object.as_str())?;
+    listing.open("changes")?;
+    for change in &request.changes {
+        list_change(listing, change)?;
+    }
+    listing.close();
+    Ok(())
+}
+
+/// Lists a change.
+fn list_change(listing: &mut Listing, change: &Change) -> Result<(), AllocError> {
+    listing.open("change")?;
+    let operation = change.operation.number;
+    listing.numbered("operation", operation, change_name(operation))?;
+    list_attribute(listing, &change.modification)?;
+    listing.close();
+    Ok(())
+}
+
+/// The name of what is done to an attribute's values.
+fn change_name(number: i32) -> Option<&'static str> {
+    match number {
+        0 => Some("add"),
+        1 => Some("delete"),
+        2 => Some("replace"),
+        _ => None,
+    }
+}
+
+/// Lists an attribute and its values (RFC 4511, 4.1.7).
+fn list_attribute(listing: &mut Listing, attribute: &PartialAttribute) -> Result<(), AllocError> {
+    list_string(listing, "type", attribute.description.as_str())?;
+    let values: &Vec<OctetString> = &attribute.values;
+    for value in values {
+        list_octets(listing, "value", value)?;
+    }
+    Ok(())
+}

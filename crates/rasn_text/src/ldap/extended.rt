@@ -1,0 +1,42 @@
+//! Extended operations as text (RFC 4511, 4.12).
+
+use crate::ldap::result::{list_parts, list_referral};
+use crate::ldap::{list_octets, list_string};
+use crate::listing::Listing;
+use rasn_messages::ldap::{ExtendedRequest, ExtendedResponse};
+use std::alloc::AllocError;
+
+/// Lists a request.
+pub(crate) fn list_extended_request(
+    listing: &mut Listing,
+    request: &ExtendedRequest,
+) -> Result<(), AllocError> {
+    list_string(listing, "request name", request.request_name.as_str())?;
+    if let Some(value) = &request.request_value {
+        list_octets(listing, "request value", value)?;
+    }
+    Ok(())
+}
+
+/// Lists the answer.
+pub(crate) fn list_extended_response(
+    listing: &mut Listing,
+    response: &ExtendedResponse,
+) -> Result<(), AllocError> {
+    list_parts(
+        listing,
+        response.result_code,
+        response.matched_dn.as_str(),
+        response.diagnostic_message.as_str(),
+    )?;
+    if let Some(uris) = &response.referral {
+        list_referral(listing, uris)?;
+    }
+    if let Some(name) = &response.response_name {
+        list_string(listing, "response name", name.as_str())?;
+    }
+    if let Some(value) = &response.response_value {
+        list_octets(listing, "response value", value)?;
+    }
+    Ok(())
+}

@@ -1,0 +1,74 @@
+//! Variables and their values as text (RFC 3416, 3; RFC 2578, 7.1).
+
+use crate::listing::Listing;
+use crate::octets::octets_text;
+use rasn_messages::snmp::{IpAddress, VarBind, VarBindValue};
+use std::alloc::{AllocError, Global};
+use std::net::Ipv4Addr;
+
+/// Lists variables.
+pub(crate) fn list_variables(
+    listing: &mut Listing,
+    variables: &[VarBind],
+) -> Result<(), AllocError> {
+    listing.open("variable bindings")?;
+    for variable in variables {
+        list_variable(listing, variable)?;
+    }
+    listing.close();
+    Ok(())
+}
+
+/// Lists a variable: its name, the type of its value, and the value.
+fn list_variable(listing: &mut Listing, variable: &VarBind) -> Result<(), AllocError> {
+    let name = &variable.name;
+    match &variable.value {
+        VarBindValue::Integer(value) => listing.binding(name, "INTEGER", value),
+        VarBindValue::OctetString(value) => {
+            let text = octets_text(listing.alloc(), value.as_octets())?;
+            listing.binding(name, "OCTET STRING", &text)
+        }
+        VarBindValue::ObjectIdentifier(value) => {
+            listing.binding(name, "OBJECT IDENTIFIER", value)
+        }
+        VarBindValue::IpAddress(value) => {
+            let text = address_text(listing.alloc(), value)?;
+            listing.binding(name, "IpAddress", &text)
+        }
+        VarBindValue::Counter32(value) => {
+            let value: &u32 = value;
+            listing.binding(name, "Counter32", value)
+        }
+        VarBindValue::Unsigned32(value) => {
+            let value: &u32 = value;
+            listing.binding(name, "Unsigned32", value)
+        }
+        VarBindValue::TimeTicks(value) => {
+            let value: &u32 = value;
+            listing.binding(name, "TimeTicks", value)
+        }
+        VarBindValue::Opaque(value) => {
+            let text = octets_text(listing.alloc(), value.as_octets())?;
+            listing.binding(name, "Opaque", &text)
+        }
+        VarBindValue::Counter64(value) => {
+            let value: &u64 = value;
+            listing.binding(name, "Counter64", value)
+        }
+        VarBindValue::Unspecified => listing.unbound(name, "unSpecified"),
+        VarBindValue::NoSuchObject => listing.unbound(name, "noSuchObject"),
+        VarBindValue::NoSuchInstance => listing.unbound(name, "noSuchInstance"),
+        VarBindValue::EndOfMibView => listing.unbound(name, "endOfMibView"),
+    }
+}
+
+/// An address in dotted decimals.
+pub(crate) fn address_text(alloc: Global, address: &IpAddress) -> Result<String, AllocError> {
+    match address.as_octets() {
+        [a, b, c, d] => {
+            let address = Ipv4Addr::from([*a, *b, *c, *d]);
+            format!(in alloc; "{address}")
+        }
+        octets => octets_text(alloc, octets),
+    }
+}
