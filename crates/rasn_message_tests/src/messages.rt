@@ -3,8 +3,8 @@
 pub(crate) mod certificate;
 pub(crate) mod cms;
 mod extensions;
-mod ldap;
+pub(crate) mod ldap;
 pub(crate) mod request;
 pub(crate) mod revocation;
-mod snmp;
+pub(crate) mod snmp;
 pub(crate) mod spoilt;

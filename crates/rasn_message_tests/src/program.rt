@@ -3,7 +3,9 @@
 mod answers;
 mod faults;
 mod kinds;
+mod ldap;
 mod lines;
 mod normal;
 mod refusals;
 mod showing;
+mod snmp;

@@ -95,11 +95,7 @@ fn list_string(listing: &mut Listing, title: &str, text: &str) -> Result<(), All
 }
 
 /// Lists octets, which may be text.
-fn list_octets(
-    listing: &mut Listing,
-    title: &str,
-    octets: &OctetString,
-) -> Result<(), AllocError> {
+fn list_octets(listing: &mut Listing, title: &str, octets: &OctetString) -> Result<(), AllocError> {
     let text = octets_text(listing.alloc(), octets.as_octets())?;
     listing.line(title, &text)
 }

@@ -9,10 +9,10 @@ use std::alloc::{AllocError, Global};
 use std::process::Abort;
 
 /// Other octets in the place of some: from which octet on, of how many, and the others.
-type Change = (usize, usize, &'static [u8]);
+pub(crate) type Change = (usize, usize, &'static [u8]);
 
 /// The words of a call, a message, what is changed in it, from front to back, and what is said of it then.
-type Row = (
+pub(crate) type Row = (
     &'static [&'static str],
     &'static [u8],
     &'static [Change],
@@ -46,7 +46,7 @@ fn is_refused(alloc: Global, row: &Row) -> bool {
 }
 
 /// Each changed message is refused as its row says.
-fn assert_refused(rt: &impl Abort, alloc: Global, rows: &[Row]) {
+pub(crate) fn assert_refused(rt: &impl Abort, alloc: Global, rows: &[Row]) {
     for row in rows {
         assert!(rt; is_refused(alloc, row), "{}", row.3);
     }
