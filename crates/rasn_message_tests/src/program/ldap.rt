@@ -8,7 +8,7 @@ use crate::messages::ldap::{
 };
 use crate::messages::snmp::GET_NEXT;
 use crate::messages::spoilt::spoilt;
-use crate::program::answers::is_answered;
+use crate::program::answers::{has_line, is_answered};
 use crate::program::refusals::assert_refused;
 use std::alloc::Global;
 
@@ -306,6 +306,25 @@ fn result_codes_have_their_names(rt: HostRuntime) {
     for (number, code) in CODES {
         let answer = spoilt(&rt, alloc, BOUND, 9, *number);
         assert!(rt; has_code(alloc, &answer, code), "{code}");
+    }
+}
+
+// RFC 4511, 4.5.1, 4.6 and 4.1.11.
+#[test]
+fn other_numbers_have_their_names(rt: HostRuntime) {
+    const LINES: &[(&[u8], usize, u8, &str)] = &[
+        (SEARCH, 21, 0, "    scope: 0 (baseObject)"),
+        (SEARCH, 21, 1, "    scope: 1 (singleLevel)"),
+        (SEARCH, 24, 2, "    deref aliases: 2 (derefFindingBaseObj)"),
+        (SEARCH, 24, 3, "    deref aliases: 3 (derefAlways)"),
+        (SEARCH, 33, 0xFF, "    types only: TRUE"),
+        (MODIFY, 63, 3, "        operation: 3"),
+        (USUAL, 16, 0xFF, "      criticality: TRUE"),
+    ];
+    let alloc = rt.alloc();
+    for (octets, at, octet, line) in LINES {
+        let message = spoilt(&rt, alloc, octets, *at, *octet);
+        assert!(rt; has_line(alloc, CALL, &message, line), "{line}");
     }
 }
 

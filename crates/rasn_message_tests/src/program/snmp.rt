@@ -8,7 +8,7 @@ use crate::messages::snmp::{
     TRAP_OF_VERSION_1,
 };
 use crate::messages::spoilt::spoilt;
-use crate::program::answers::is_answered;
+use crate::program::answers::{has_line, is_answered};
 use crate::program::refusals::assert_refused;
 use std::alloc::Global;
 
@@ -220,6 +220,25 @@ fn error_statuses_have_their_names(rt: HostRuntime) {
     }
     let report = spoilt(&rt, alloc, NOT_WRITABLE, 14, 0xA8);
     assert!(rt; has_status(alloc, &report, "report", "17 (notWritable)"));
+}
+
+// RFC 1157, 4.1.6, and a number behind those that have names.
+#[test]
+fn generic_traps_have_their_names(rt: HostRuntime) {
+    const TRAPS: &[(u8, &str)] = &[
+        (0, "    generic trap: 0 (coldStart)"),
+        (1, "    generic trap: 1 (warmStart)"),
+        (2, "    generic trap: 2 (linkDown)"),
+        (3, "    generic trap: 3 (linkUp)"),
+        (4, "    generic trap: 4 (authenticationFailure)"),
+        (5, "    generic trap: 5 (egpNeighborLoss)"),
+        (7, "    generic trap: 7"),
+    ];
+    let alloc = rt.alloc();
+    for (number, line) in TRAPS {
+        let trap = spoilt(&rt, alloc, TRAP_OF_VERSION_1, 35, *number);
+        assert!(rt; has_line(alloc, CALL, &trap, line), "{line}");
+    }
 }
 
 // A version that has no name here, and a community whose octets aren't text, in the request of `snmpgetnext`.

@@ -1,6 +1,6 @@
 //! Binds as text (RFC 4511, 4.2).
 
-use crate::ldap::result::{list_parts, list_referral};
+use crate::ldap::result::list_parts;
 use crate::ldap::{list_octets, list_string};
 use crate::listing::Listing;
 use rasn_messages::ldap::{AuthenticationChoice, BindRequest, BindResponse, SaslCredentials};
@@ -38,12 +38,10 @@ pub(crate) fn list_bind_response(
     list_parts(
         listing,
         response.result_code,
-        response.matched_dn.as_str(),
-        response.diagnostic_message.as_str(),
+        &response.matched_dn,
+        &response.diagnostic_message,
+        &response.referral,
     )?;
-    if let Some(uris) = &response.referral {
-        list_referral(listing, uris)?;
-    }
     if let Some(credentials) = &response.server_sasl_credentials {
         list_octets(listing, "server sasl credentials", credentials)?;
     }

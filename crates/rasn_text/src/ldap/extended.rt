@@ -1,6 +1,6 @@
 //! Extended operations as text (RFC 4511, 4.12).
 
-use crate::ldap::result::{list_parts, list_referral};
+use crate::ldap::result::list_parts;
 use crate::ldap::{list_octets, list_string};
 use crate::listing::Listing;
 use rasn_messages::ldap::{ExtendedRequest, ExtendedResponse};
@@ -26,12 +26,10 @@ pub(crate) fn list_extended_response(
     list_parts(
         listing,
         response.result_code,
-        response.matched_dn.as_str(),
-        response.diagnostic_message.as_str(),
+        &response.matched_dn,
+        &response.diagnostic_message,
+        &response.referral,
     )?;
-    if let Some(uris) = &response.referral {
-        list_referral(listing, uris)?;
-    }
     if let Some(name) = &response.response_name {
         list_string(listing, "response name", name.as_str())?;
     }

@@ -2,44 +2,44 @@
 
 use crate::ldap::list_string;
 use crate::listing::Listing;
+use rasn::types::{ContextTag, Implicit};
 use rasn_messages::ldap::{LdapResult, LdapString, ResultCode};
 use std::alloc::AllocError;
+
+/// Where else to ask (RFC 4511, 4.1.10).
+pub(crate) type Referral = Option<Implicit<ContextTag<3>, Vec<LdapString>>>;
 
 /// Lists a result.
 pub(crate) fn list_result(listing: &mut Listing, answer: &LdapResult) -> Result<(), AllocError> {
     list_parts(
         listing,
         answer.result_code,
-        answer.matched_dn.as_str(),
-        answer.diagnostic_message.as_str(),
-    )?;
-    if let Some(uris) = &answer.referral {
-        list_referral(listing, uris)?;
+        &answer.matched_dn,
+        &answer.diagnostic_message,
+        &answer.referral,
+    )
+}
+
+/// Lists the parts that every answer with a result has.
+pub(crate) fn list_parts(
+    listing: &mut Listing,
+    code: ResultCode,
+    matched_name: &LdapString,
+    message: &LdapString,
+    referral: &Referral,
+) -> Result<(), AllocError> {
+    listing.numbered("result code", code.number, code_name(code.number))?;
+    list_string(listing, "matched DN", matched_name.as_str())?;
+    list_string(listing, "diagnostic message", message.as_str())?;
+    if let Some(uris) = referral {
+        listing.open("referral")?;
+        list_uris(listing, uris)?;
+        listing.close();
     }
     Ok(())
 }
 
-/// Lists the parts that every result has.
-pub(crate) fn list_parts(
-    listing: &mut Listing,
-    code: ResultCode,
-    matched_name: &str,
-    message: &str,
-) -> Result<(), AllocError> {
-    listing.numbered("result code", code.number, code_name(code.number))?;
-    list_string(listing, "matched DN", matched_name)?;
-    list_string(listing, "diagnostic message", message)
-}
-
-/// Lists where else to ask (RFC 4511, 4.1.10).
-pub(crate) fn list_referral(listing: &mut Listing, uris: &[LdapString]) -> Result<(), AllocError> {
-    listing.open("referral")?;
-    list_uris(listing, uris)?;
-    listing.close();
-    Ok(())
-}
-
-/// Lists URIs.
+/// Lists where else to ask or to search.
 pub(crate) fn list_uris(listing: &mut Listing, uris: &[LdapString]) -> Result<(), AllocError> {
     for uri in uris {
         list_string(listing, "uri", uri.as_str())?;
