@@ -5,12 +5,13 @@ ghost use Rattle.rasn_types.specs.Bytes.{Bytes};
 ghost use Rattle.rasn.specs.Headline.{Answered, ScopeRefuses, EncodingFails};
 ghost use Rattle.rasn_enc.specs.View.{started};
 ghost use Rattle.rasn_enc.specs.Closures.{OnlyAppends, WritesOutput};
+ghost use Rattle.rasn_enc.specs.Primitive.{IsAllocError};
 
 use rasn_de::ber::de::{Decoder, DecoderOptions};
 use rasn_de::de::Decode;
-use rasn_enc::ber::enc::{Encoder, EncoderOptions};
+use rasn_enc::ber::enc::{Encoder, EncoderOptions, INITIAL_CAPACITY};
 use rasn_enc::enc::Encode;
-use rasn_types::error::{DecodeError, EncodeError};
+use rasn_types::error::{DecodeError, EncodeError, EncodeErrorKind};
 use std::alloc::Global;
 use std::mem;
 
@@ -38,10 +39,13 @@ pub(crate) fn encode<T: Encode>(
     ensures ok { IfOk result (λ octets. Bytes options T.shape (T.tree value.now) octets.items) }
     ensures fails { IfErr result (EncodingFails options T.shape (T.tree value.now)) }
 {
-    encode_over(alloc, value, Vec::new(alloc), options)
+    match Vec::with_capacity(alloc, INITIAL_CAPACITY) {
+        Ok(buffer) => encode_over(alloc, value, buffer, options),
+        Err(_) => Err(out_of_memory(options)),
+    }
 }
 
-// The value's octets, in this vector.
+// The value's octets, in this vector, in the place of what it holds.
 #[inline(always)]
 fn encode_over<T: Encode>(
     alloc: Global,
@@ -52,7 +56,7 @@ fn encode_over<T: Encode>(
     ensures ok { IfOk result (λ octets. Bytes options T.shape (T.tree value.now) octets.items) }
     ensures fails { IfErr result (EncodingFails options T.shape (T.tree value.now)) }
 {
-    let mut encoder = Encoder::new_with_buffer(alloc, options, buffer)?;
+    let mut encoder = Encoder::over(alloc, options, buffer);
     value.encode(&mut encoder)?;
     encoder.output()
 }
@@ -68,9 +72,24 @@ pub(crate) fn encode_buf<T: Encode>(
     ensures emptied { OnErr result (buffer.new.items ≡ []) }
     ensures fails { IfErr result (EncodingFails options T.shape (T.tree value.now)) }
 {
-    let held = mem::replace(buffer, Vec::new(alloc));
-    *buffer = encode_over(alloc, value, held, options)?;
-    Ok(())
+    let mut held = mem::replace(buffer, Vec::new(alloc));
+    held.clear();
+    match held.reserve(INITIAL_CAPACITY) {
+        Ok(()) => {
+            *buffer = encode_over(alloc, value, held, options)?;
+            Ok(())
+        }
+        Err(_) => Err(out_of_memory(options)),
+    }
+}
+
+fn out_of_memory(options: EncoderOptions) -> EncodeError
+    ensures { IsAllocError options result }
+{
+    EncodeError {
+        kind: EncodeErrorKind::OutOfMemory,
+        codec: options.current_codec(),
+    }
 }
 
 /// The octets of what `values` writes.

@@ -50,6 +50,9 @@ use std::marker::Model;
 use writer::Writer;
 use writer::filled::{Contents, FillError, fill_with};
 
+/// The octets that `Encoder::new` and the entry points make room for before anything is written.
+pub const INITIAL_CAPACITY: usize = 1024;
+
 /// Writes values. To contracts it is the list of octets written so far, with a list for each value that is still open. The names
 /// that its calls take (`Identifier`) are ignored: no rule of X.690 writes them.
 #[derive(Drop)]
@@ -96,8 +99,13 @@ impl Encoder {
         ensures ok { IfOk result (λ e. e ≡ started options true) }
         ensures memory_alone { IfErr result (IsAllocError options) }
     {
-        let writer = Writer::over(alloc, options.current_codec(), Vec::new(alloc), true)?;
-        Ok(Encoder { writer })
+        let rule = options.current_codec();
+        match Vec::with_capacity(alloc, INITIAL_CAPACITY) {
+            Ok(buffer) => Ok(Encoder {
+                writer: Writer::over(alloc, rule, buffer, true),
+            }),
+            Err(_) => Err(out_of_memory(rule)),
+        }
     }
 
     /// An encoder whose output will be put into this vector, in the place of what it holds.
@@ -113,8 +121,23 @@ impl Encoder {
         ensures ok { IfOk result (λ e. e ≡ started options false) }
         ensures memory_alone { IfErr result (IsAllocError options) }
     {
-        let writer = Writer::over(alloc, options.current_codec(), buffer, false)?;
-        Ok(Encoder { writer })
+        let mut buffer = buffer;
+        buffer.clear();
+        match buffer.reserve(INITIAL_CAPACITY) {
+            Ok(()) => Ok(Encoder::over(alloc, options, buffer)),
+            Err(_) => Err(out_of_memory(options.current_codec())),
+        }
+    }
+
+    /// An encoder whose output will be put into this vector, in the place of what it holds. Unlike `new_with_buffer` it reserves nothing, so
+    /// it can't fail.
+    #[inline(always)]
+    pub fn over(alloc: Global, options: EncoderOptions, buffer: Vec<u8>) -> Encoder
+        ensures { result ≡ started options false }
+    {
+        Encoder {
+            writer: Writer::over(alloc, options.current_codec(), buffer, false),
+        }
     }
 
     /// The name of the rules that it writes by.

@@ -96,6 +96,9 @@ fn encoders_begin_without_octets(rt: HostRuntime) {
     let mut encoder = started(&rt, answer);
     assert_written(&rt, true.encode(&mut encoder));
     assert_output(&rt, encoder.output(), &TRUE);
+    let mut encoder = Encoder::over(alloc, EncoderOptions::der(), made(&rt, held(alloc)));
+    assert_written(&rt, true.encode(&mut encoder));
+    assert_output(&rt, encoder.output(), &TRUE);
     let mut encoder = started(&rt, Encoder::new_set(alloc, EncoderOptions::der()));
     assert_written(&rt, true.encode(&mut encoder));
     assert_output(&rt, encoder.output(), &TRUE);

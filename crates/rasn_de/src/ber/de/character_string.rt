@@ -20,6 +20,7 @@ use rasn_types::types::{
 use std::borrow::{CowSlice, CowStr};
 
 /// Whether octets are within a size, and then all in the alphabet.
+#[inline(always)]
 fn check_alphabet(
     alphabet: Alphabet,
     constraints: &Constraints,
@@ -50,6 +51,7 @@ fn check_units(constraints: &Constraints, octets: &[u8]) -> Result<(), ParseErro
 }
 
 /// Whether the characters are within a size. They are counted only where there is a bound.
+#[inline(always)]
 fn check_characters(constraints: &Constraints, text: &str) -> Result<(), ParseError>
     ensures { ChecksString (ByUtf8 constraints.now.size) text.now (chars text.now) result }
 {
@@ -60,6 +62,7 @@ fn check_characters(constraints: &Constraints, text: &str) -> Result<(), ParseEr
 }
 
 /// Octets as text, which stays borrowed where it is.
+#[inline(always)]
 fn text_of(octets: CowSlice<'_, u8>) -> Result<CowStr<'_>, ParseError>
     ensures { ParsesUtf8 octets.entry result }
 {
@@ -216,6 +219,7 @@ impl<'input> Decoder<'input> {
     /// # Errors
     /// Framing faults and faults of a segment, which consume nothing. With the value consumed: `StringConversionFailed` of octets that
     /// aren't UTF-8, all segments taken together, then `SizeConstraintNotSatisfied`.
+    #[inline(always)]
     pub fn decode_utf8_string(
         &mut self,
         tag: Tag,
@@ -239,6 +243,7 @@ impl<'input> Decoder<'input> {
     }
 
     /// A string whose octets are characters of one alphabet.
+    #[inline(always)]
     pub(crate) fn restricted<S: StringType>(
         &mut self,
         tag: Tag,
@@ -259,6 +264,12 @@ impl<'input> Decoder<'input> {
 }
 
 impl<S: StringType> Decode for RestrictedString<S> {
+    #[inline(always)]
+    fn decode(decoder: &mut Decoder<'_>) -> Result<RestrictedString<S>, DecodeError> {
+        decoder.restricted(S::TAG, &Constraints::NONE)
+    }
+
+    #[inline(always)]
     fn decode_with_tag_and_constraints(
         decoder: &mut Decoder<'_>,
         tag: Tag,
@@ -279,6 +290,12 @@ impl Decode for BmpString {
 }
 
 impl Decode for String {
+    #[inline(always)]
+    fn decode(decoder: &mut Decoder<'_>) -> Result<String, DecodeError> {
+        decoder.decode_utf8_string(Tag::UTF8_STRING, &Constraints::NONE)
+    }
+
+    #[inline(always)]
     fn decode_with_tag_and_constraints(
         decoder: &mut Decoder<'_>,
         tag: Tag,

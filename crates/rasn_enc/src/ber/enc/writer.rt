@@ -45,9 +45,6 @@ pub(super) mod open_values;
 pub(super) mod rendering;
 mod untagged;
 
-/// The octets that an encoder's output has room for at first.
-const INITIAL_CAPACITY: usize = 1024;
-
 /// Where a list ends: how many octets and tags it has.
 #[derive(Clone, Copy, Drop)]
 pub struct ListEnd {
@@ -109,26 +106,17 @@ impl Model for Writer {
 impl Writer {
     /// Nothing is written: the octets will be put into this vector, in the place of what it holds.
     #[inline(always)]
-    pub fn over(
-        alloc: Global,
-        rule: Codec,
-        buffer: Vec<u8>,
-        keeps_tags: bool,
-    ) -> Result<Writer, EncodeError>
-        ensures ok { IfOk result (λ w. w ≡ started rule keeps_tags) }
-        ensures refused { IfErr result (IsAllocError rule) }
+    pub fn over(alloc: Global, rule: Codec, buffer: Vec<u8>, keeps_tags: bool) -> Writer
+        ensures { result ≡ started rule keeps_tags }
     {
         let mut gathered = buffer;
         gathered.clear();
-        if gathered.reserve(INITIAL_CAPACITY).is_err() {
-            return Err(out_of_memory(rule));
-        }
         let tags = if keeps_tags {
             Some(Vec::new(alloc))
         } else {
             None
         };
-        Ok(Writer {
+        Writer {
             alloc,
             rule,
             gathered,
@@ -141,7 +129,7 @@ impl Writer {
             },
             around: Vec::new(alloc),
             innermost: None,
-        })
+        }
     }
 
     /// The rules that it writes by.
