@@ -2,8 +2,7 @@
 //! (`cms`), network management (`snmp`) and directories (`ldap`).
 #![tactic(auto)]
 
-pub mod cms;
 pub mod ldap;
-pub mod pkcs10;
 pub mod snmp;
-pub mod x509;
+
+pub use rasn_pki::{cms, pkcs10, x509};

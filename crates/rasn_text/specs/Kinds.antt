@@ -2,9 +2,9 @@
 use Rattle.std.specs.Prelude.{ℕ, List, codes}
 use Rattle.rasn_types.specs.Shapes.{Shape}
 use Rattle.rasn_x509.specs.Signed.{certificate_shape}
-use Rattle.rasn_messages.specs.X509.Revocation.Signed.{certificate_list_shape}
-use Rattle.rasn_messages.specs.Pkcs10.Request.{request_shape}
-use Rattle.rasn_messages.specs.Cms.Message.{signed_message_shape}
+use Rattle.rasn_pki.specs.X509.Revocation.Signed.{certificate_list_shape}
+use Rattle.rasn_pki.specs.Pkcs10.Request.{request_shape}
+use Rattle.rasn_pki.specs.Cms.Message.{signed_message_shape}
 use Rattle.rasn_ldap.specs.Message.{ldap_message_shape}
 use Rattle.rasn_snmp.specs.CommunityMessage.{message_shape}
 use Rattle.rasn_text.specs.declared.kind.Kind.{Kind}

@@ -1,0 +1,16 @@
+-- KeyUsage ::= BIT STRING
+use Rattle.std.specs.Prelude.{ℕ, Bool, false, get_or}
+use Rattle.rasn_types.specs.Tags.{in_universal}
+use Rattle.rasn_types.specs.Shapes.{Shape, Tree, bits, leaf, bit_string}
+use Rattle.rasn_types.specs.Trees.{unconstrained}
+use Rattle.rasn_pki.specs.declared.x509.extensions.key_usage.KeyUsage.{KeyUsage}
+
+abbrev pub usage_shape : Shape
+usage_shape = leaf bit_string (in_universal 3) unconstrained
+
+abbrev pub usage_tree : KeyUsage → Tree
+usage_tree u = bits u.bits
+
+-- The bit at this place is one; behind the last bit there are zeros.
+abbrev pub is_named : ℕ → KeyUsage → Bool
+is_named place u = get_or u.bits place false

@@ -1,0 +1,47 @@
+//! Revocation lists as a whole: what is read and written, with no premise but memory.
+ghost use Rattle.std.specs.Prelude.{◌≡◌, true, IfOk, IfErr};
+ghost use Rattle.rasn_types.specs.declared.types.codec.Codec.TheVariants.{Der};
+ghost use Rattle.rasn_types.specs.Bytes.{Bytes};
+ghost use Rattle.rasn_types.specs.Lawful.{IsLawful};
+ghost use Rattle.rasn.specs.Carries.{carries_all};
+ghost use Rattle.rasn.specs.Headline.{AnsweredAlone, IsCarriedAsWritten, Identifies, EncodingFails};
+ghost use Rattle.rasn_pki.specs.X509.Revocation.Signed.{certificate_list_shape, certificate_list_tree};
+
+use crate::x509::revocation::CertificateList;
+use rasn::der;
+use rasn::error::{DecodeError, EncodeError};
+use std::alloc::Global;
+
+/// The shape of a revocation list is lawful, and all that DER reads of it is carried. A promise about the type: the function does nothing
+/// when it runs.
+pub fn has_lawful_shape()
+    ensures lawful { IsLawful certificate_list_shape }
+    ensures carried { carries_all certificate_list_shape ≡ true }
+{}
+
+/// The revocation list that is all of the input, in DER: exactly where the grammar has one, and then the input is what
+/// `write_revocation_list` writes of it.
+///
+/// # Errors
+/// Those of `der::decode`.
+pub fn read_revocation_list(alloc: Global, input: &[u8]) -> Result<CertificateList, DecodeError>
+    ensures exact { AnsweredAlone Der certificate_list_shape certificate_list_tree input.now result }
+    ensures written { IsCarriedAsWritten certificate_list_shape certificate_list_tree input.now result }
+{
+    der::decode(alloc, input)
+}
+
+/// The revocation list's DER octets, which are those of the same carried lists and of no others.
+///
+/// # Errors
+/// `OutOfMemory`, and what has no octets: a time that its type can't write, say.
+pub fn write_revocation_list(
+    alloc: Global,
+    revocation_list: &CertificateList,
+) -> Result<Vec<u8>, EncodeError>
+    ensures ok { IfOk result (λ octets. Bytes Der certificate_list_shape (certificate_list_tree revocation_list.now) octets.items) }
+    ensures canonical { IfOk result (λ octets. Identifies certificate_list_shape (certificate_list_tree revocation_list.now) octets.items) }
+    ensures fails { IfErr result (EncodingFails Der certificate_list_shape (certificate_list_tree revocation_list.now)) }
+{
+    der::encode(alloc, revocation_list)
+}

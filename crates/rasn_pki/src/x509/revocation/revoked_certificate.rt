@@ -1,0 +1,94 @@
+//! An entry of a revocation list: `SEQUENCE { userCertificate INTEGER, revocationDate Time, crlEntryExtensions Extensions OPTIONAL }` (RFC 5280, 5.1).
+use crate::x509::{Extension, Time};
+use rasn::error::{DecodeError, EncodeError};
+use rasn::parts::{End, Optional, Put, PutOptional, Required};
+use rasn::types::{AsnType, Constraints, Identifier, Integer, LawfulEq, Present, Tag};
+use rasn::{Decode, Decoder, Encode, Encoder};
+
+/// SEQUENCE { userCertificate CertificateSerialNumber, revocationDate Time, crlEntryExtensions SEQUENCE OF Extension OPTIONAL }
+#[derive(Debug, PartialEq, Eq, Drop)]
+pub struct RevokedCertificate {
+    /// The serial number of the certificate.
+    pub user_certificate: Integer,
+    /// When it was revoked.
+    pub revocation_date: Time,
+    /// Extensions of the entry, such as the reason (RFC 5280 5.3).
+    pub crl_entry_extensions: Option<Vec<Extension>>,
+}
+
+impl AsnType for RevokedCertificate {
+    ghost use Rattle.std.specs.Prelude.{refl};
+    ghost use Rattle.rasn_types.specs.Tags.{in_universal};
+    ghost use Rattle.rasn_types.specs.Trees.{unconstrained};
+    ghost use Rattle.rasn_pki.specs.X509.Revocation.Revoked.{revoked_shape, revoked_tree};
+
+    ghost TAG = { in_universal 16 };
+
+    const TAG: Tag = Tag::SEQUENCE;
+
+    ghost CONSTRAINTS = { unconstrained };
+
+    const CONSTRAINTS: Constraints = Constraints::NONE;
+
+    ghost shape = { revoked_shape };
+
+    ghost tree = { revoked_tree };
+
+    ghost own = { refl };
+}
+
+impl LawfulEq for RevokedCertificate {
+    ghost use Rattle.rasn_types.specs.Deciding.{deciding};
+    ghost use Rattle.rasn_x509.specs.contracts.time.TimeLawfulEq.TheImpl.Laws.{decides-law as time_law};
+
+    ghost decides = { Prim.search (time_law, deciding) depth 64 };
+}
+
+impl Present for RevokedCertificate {
+    ghost use Rattle.rasn_types.specs.Equality.{parts_not_absent};
+
+    ghost present = { λ _. parts_not_absent };
+}
+
+impl Decode for RevokedCertificate {
+    fn decode_with_tag_and_constraints(
+        decoder: &mut Decoder<'_>,
+        tag: Tag,
+        _constraints: &Constraints,
+    ) -> Result<RevokedCertificate, DecodeError> {
+        let Required(
+            user_certificate,
+            Required(revocation_date, Optional(crl_entry_extensions, End)),
+        ) = decoder.read_sequence(tag)?;
+        Ok(RevokedCertificate {
+            user_certificate,
+            revocation_date,
+            crl_entry_extensions,
+        })
+    }
+}
+
+impl Encode for RevokedCertificate {
+    fn encode_with_tag_and_constraints(
+        &self,
+        encoder: &mut Encoder,
+        tag: Tag,
+        _constraints: &Constraints,
+        _identifier: Identifier,
+    ) -> Result<(), EncodeError> {
+        encoder.write_sequence(
+            tag,
+            Put(
+                &self.user_certificate,
+                Put(
+                    &self.revocation_date,
+                    PutOptional(&self.crl_entry_extensions, End),
+                ),
+            ),
+        )
+    }
+
+    fn is_present(&self) -> bool {
+        true
+    }
+}

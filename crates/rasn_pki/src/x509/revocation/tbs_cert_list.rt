@@ -1,0 +1,127 @@
+//! `TBSCertList ::= SEQUENCE { version INTEGER { v2(1) } OPTIONAL, signature AlgorithmIdentifier, issuer Name, thisUpdate Time, ..` (RFC 5280, 5.1).
+use crate::x509::revocation::RevokedCertificate;
+use crate::x509::{AlgorithmIdentifier, Extension, Name, Time};
+use rasn::error::{DecodeError, EncodeError};
+use rasn::parts::{End, Optional, Put, PutOptional, Required};
+use rasn::types::{
+    AsnType, Constraints, ContextTag, Explicit, GeneralizedTime, Identifier, LawfulEq, Present,
+    Tag, UtcTime,
+};
+use rasn::{Decode, Decoder, Encode, Encoder};
+
+/// SEQUENCE { version INTEGER { v2(1) } OPTIONAL, signature AlgorithmIdentifier, issuer Name, thisUpdate Time, nextUpdate Time OPTIONAL,
+/// revokedCertificates SEQUENCE OF RevokedCertificate OPTIONAL, crlExtensions \[0\] EXPLICIT SEQUENCE OF Extension OPTIONAL }
+///
+/// A CHOICE that may be left out has no tag to be looked for, so each alternative of `nextUpdate` is an optional part of its own; at most one of
+/// them is there where the list is that of RFC 5280.
+#[derive(Debug, PartialEq, Eq, Drop)]
+pub struct TbsCertList {
+    /// 1 in a list of version 2; left out in one of version 1.
+    pub version: Option<u8>,
+    /// How the list is signed.
+    pub signature: AlgorithmIdentifier,
+    /// Who signed it.
+    pub issuer: Name,
+    /// When it was issued.
+    pub this_update: Time,
+    /// When the next list is issued at the latest, written as a UTCTime.
+    pub next_update_utc: Option<UtcTime>,
+    /// The same, written as a GeneralizedTime.
+    pub next_update_general: Option<GeneralizedTime>,
+    /// The certificates that are revoked.
+    pub revoked_certificates: Option<Vec<RevokedCertificate>>,
+    /// Extensions of the list (RFC 5280 5.2).
+    pub crl_extensions: Option<Explicit<ContextTag<0>, Vec<Extension>>>,
+}
+
+impl AsnType for TbsCertList {
+    ghost use Rattle.std.specs.Prelude.{refl};
+    ghost use Rattle.rasn_types.specs.Tags.{in_universal};
+    ghost use Rattle.rasn_types.specs.Trees.{unconstrained};
+    ghost use Rattle.rasn_pki.specs.X509.Revocation.CertList.{cert_list_shape, cert_list_tree};
+
+    ghost TAG = { in_universal 16 };
+
+    const TAG: Tag = Tag::SEQUENCE;
+
+    ghost CONSTRAINTS = { unconstrained };
+
+    const CONSTRAINTS: Constraints = Constraints::NONE;
+
+    ghost shape = { cert_list_shape };
+
+    ghost tree = { cert_list_tree };
+
+    ghost own = { refl };
+}
+
+impl LawfulEq for TbsCertList {
+    ghost use Rattle.rasn_types.specs.Deciding.{deciding};
+    ghost use Rattle.rasn_x509.specs.contracts.time.TimeLawfulEq.TheImpl.Laws.{decides-law as time_law};
+
+    ghost decides = { Prim.search (time_law, deciding) depth 64 };
+}
+
+impl Present for TbsCertList {
+    ghost use Rattle.rasn_types.specs.Equality.{parts_not_absent};
+
+    ghost present = { λ _. parts_not_absent };
+}
+
+impl Decode for TbsCertList {
+    fn decode_with_tag_and_constraints(
+        decoder: &mut Decoder<'_>,
+        tag: Tag,
+        _constraints: &Constraints,
+    ) -> Result<TbsCertList, DecodeError> {
+        let Optional(version, Required(signature, Required(issuer, rest))) = decoder.read_sequence(
+            tag,
+        )?;
+        let Required(this_update, Optional(next_update_utc, Optional(next_update_general, rest))) =
+            rest;
+        let Optional(revoked_certificates, Optional(crl_extensions, End)) = rest;
+        Ok(TbsCertList {
+            version,
+            signature,
+            issuer,
+            this_update,
+            next_update_utc,
+            next_update_general,
+            revoked_certificates,
+            crl_extensions,
+        })
+    }
+}
+
+impl Encode for TbsCertList {
+    fn encode_with_tag_and_constraints(
+        &self,
+        encoder: &mut Encoder,
+        tag: Tag,
+        _constraints: &Constraints,
+        _identifier: Identifier,
+    ) -> Result<(), EncodeError> {
+        let revoked_certificates = PutOptional(
+            &self.revoked_certificates,
+            PutOptional(&self.crl_extensions, End),
+        );
+        let this_update = Put(
+            &self.this_update,
+            PutOptional(
+                &self.next_update_utc,
+                PutOptional(&self.next_update_general, revoked_certificates),
+            ),
+        );
+        encoder.write_sequence(
+            tag,
+            PutOptional(
+                &self.version,
+                Put(&self.signature, Put(&self.issuer, this_update)),
+            ),
+        )
+    }
+
+    fn is_present(&self) -> bool {
+        true
+    }
+}
