@@ -39,10 +39,10 @@ pub(crate) fn encode<T: Encode>(
     ensures ok { IfOk result (λ octets. Bytes options T.shape (T.tree value.now) octets.items) }
     ensures fails { IfErr result (EncodingFails options T.shape (T.tree value.now)) }
 {
-    match Vec::with_capacity(alloc, INITIAL_CAPACITY) {
-        Ok(buffer) => encode_over(alloc, value, buffer, options),
-        Err(_) => Err(out_of_memory(options)),
-    }
+    let Ok(buffer) = Vec::with_capacity(alloc, INITIAL_CAPACITY) else {
+        return Err(out_of_memory(options));
+    };
+    encode_over(alloc, value, buffer, options)
 }
 
 // The value's octets, in this vector, in the place of what it holds.
@@ -103,7 +103,10 @@ pub(crate) fn encode_scope<F: FnOnce(&mut Encoder) -> Result<(), EncodeError>>(
     ensures ok { IfOk result (λ octets. WritesOutput F.FnOnce values options octets.items) }
     ensures fails { IfErr result (ScopeRefuses F.FnOnce values options) }
 {
-    let mut encoder = Encoder::new(alloc, options)?;
+    let Ok(buffer) = Vec::with_capacity(alloc, INITIAL_CAPACITY) else {
+        return Err(out_of_memory(options));
+    };
+    let mut encoder = Encoder::over(alloc, options, buffer);
     run(&mut encoder, values)?;
     encoder.output()
 }

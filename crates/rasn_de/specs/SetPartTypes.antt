@@ -33,11 +33,11 @@ HasCome [] k = ⊥
 HasCome (h ∷ held) zero = h ≢ None
 HasCome (h ∷ held) (suc k) = HasCome held k
 
--- Part k hadn't come, and comes as this tree.
-abbrev pub Comes : List (Option Tree) → ℕ → Tree → List (Option Tree) → Type 0
-Comes [] k u held = ⊥
-Comes (h ∷ before) zero u held = (h ≡ None) × (held ≡ Some u ∷ before)
-Comes (h ∷ before) (suc k) u held = (others : List (Option Tree)) × (held ≡ h ∷ others) × Comes before k u others
+-- Part k hadn't come, and is added as this tree.
+abbrev pub IsAddedAt : List (Option Tree) → ℕ → Tree → List (Option Tree) → Type 0
+IsAddedAt [] k u held = ⊥
+IsAddedAt (h ∷ before) zero u held = (h ≡ None) × (held ≡ Some u ∷ before)
+IsAddedAt (h ∷ before) (suc k) u held = (others : List (Option Tree)) × (held ≡ h ∷ others) × IsAddedAt before k u others
 
 -- The component is read as part k, whatever number the first part has.
 pub record ReadsPartAt (ps : Parts) (k : ℕ) (u : Tree) (old new : State) : Type 0 where
@@ -59,12 +59,12 @@ IsOrDefault tree d came (Err e) = IsOutOfMemory e.kind
 
 -- The component that is next is read as a part that hadn't come; or it isn't read, or comes a second time.
 abbrev pub DecodesPlaced : Parts → List (Option Tree) → State → Result (Unit {0}) DecodeError → State → List (Option Tree) → Type 0
-DecodesPlaced ps before old (Ok done) new held = (k : ℕ) × (u : Tree) × Comes before k u held × ReadsPartAt ps k u old new
+DecodesPlaced ps before old (Ok done) new held = (k : ℕ) × (u : Tree) × IsAddedAt before k u held × ReadsPartAt ps k u old new
 DecodesPlaced ps before old (Err e) new held = RefusesPart ps e old new ⊎ ((k : ℕ) × (u : Tree) × HasCome before k × ReadsPartAt ps k u old new)
 
 -- One more component is read, and took something.
 abbrev pub DecodesNext : Parts → List (Option Tree) → State → Result (Unit {0}) DecodeError → State → List (Option Tree) → Type 0
-DecodesNext ps before old (Ok done) new held = (k : ℕ) × (u : Tree) × Comes before k u held × Decodes (choice ps) (λ (t : Tree). t) old (Ok (chosen k u)) new × (length new.rest ≢ length old.rest)
+DecodesNext ps before old (Ok done) new held = (k : ℕ) × (u : Tree) × IsAddedAt before k u held × Decodes (choice ps) (λ (t : Tree). t) old (Ok (chosen k u)) new × (length new.rest ≢ length old.rest)
 DecodesNext ps before old (Err e) new held = FailsAtElement (Decodes (choice ps) (λ (t : Tree). t)) old e new
     ⊎ ((k : ℕ) × (u : Tree) × HasCome before k × Decodes (choice ps) (λ (t : Tree). t) old (Ok (chosen k u)) new)
 
@@ -79,7 +79,7 @@ AreGathered (p ∷ ps) (Some u ∷ held) ts = (us : List Tree) × (ts ≡ u ∷ 
 abbrev pub IsGathered : Parts → List (Option Tree) → Tree → Type 0
 IsGathered ps held t = (ts : List Tree) × (t ≡ items ts) × AreGathered (presences ps) held ts
 
--- The parts are gathered, or refused where one is missing.
-abbrev pub Gathers : {D : Type 0} → Parts → (D → Tree) → List (Option Tree) → Result D DecodeError → Type 0
-Gathers ps tree held (Ok v) = IsGathered ps held (tree v)
-Gathers ps tree held (Err e) = Exact (λ input t rest. IsGathered ps held t) [] (refusal e.kind)
+-- The parts that are made of what has come, or refused where one is missing.
+abbrev pub MakesParts : {D : Type 0} → Parts → (D → Tree) → List (Option Tree) → Result D DecodeError → Type 0
+MakesParts ps tree held (Ok v) = IsGathered ps held (tree v)
+MakesParts ps tree held (Err e) = Exact (λ input t rest. IsGathered ps held t) [] (refusal e.kind)

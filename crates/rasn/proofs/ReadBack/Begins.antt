@@ -70,18 +70,18 @@ tagged (list tag s size) = inl tt
 tagged (set_of tag s size) = inl tt
 
 -- Some identifier comes, in a spelling of some form: open octets without a tag stay lenient.
-abbrev pub Comes : List ℕ → Type 0
-Comes input = (spelling : Form) × (n : Tag) × NextTag spelling input n
+abbrev pub HasNextTag : List ℕ → Type 0
+HasNextTag input = (spelling : Form) × (n : Tag) × NextTag spelling input n
 
-any_is_next : (rule : Codec) (depth : ℕ) (closing : Bool) (input : List ℕ) (t : Tree) (rest : List ℕ) → Reads rule (any None) depth closing input t rest → Comes input
+any_is_next : (rule : Codec) (depth : ℕ) (closing : Bool) (input : List ℕ) (t : Tree) (rest : List ℕ) → Reads rule (any None) depth closing input t rest → HasNextTag input
 unfolding Reads parts_of
 any_is_next rule depth closing input t rest h = let n = whole_next rest h.2 in (loose rule, n.0, subst (λ i. NextTag (loose rule) i n.0) (sym h.3) n.1)
 
-pub comes : (s : Shape) → IsAlwaysPresent s → (rule : Codec) (depth : ℕ) (closing : Bool) (input : List ℕ) (t : Tree) (rest : List ℕ)
-    → Reads rule s depth closing input t rest → Comes input
-comes s solid rule depth closing input t rest h = go (tagged s)
+pub has_next_tag : (s : Shape) → IsAlwaysPresent s → (rule : Codec) (depth : ℕ) (closing : Bool) (input : List ℕ) (t : Tree) (rest : List ℕ)
+    → Reads rule s depth closing input t rest → HasNextTag input
+has_next_tag s solid rule depth closing input t rest h = go (tagged s)
   where
-    go : HasTag s ⊎ (s ≡ any None) → Comes input
+    go : HasTag s ⊎ (s ≡ any None) → HasNextTag input
     go (inl has) = let b = begins s solid has rule depth closing input t rest h in (form rule, b.0, b.1)
     go (inr e) = any_is_next rule depth closing input t rest (subst (λ x. Reads rule x depth closing input t rest) e h)
 
@@ -128,7 +128,7 @@ left_out_wider spelling (Some tag) input (inl (inl h)) = inl (inl h)
 left_out_wider spelling (Some tag) input (inl (inr h)) = let e = h.0 in cc
 left_out_wider spelling (Some tag) input (inr h) = inr h
 
-there_wider : (spelling : Form) (tag : Option Tag) (input : List ℕ) → Comes input → IsPresent spelling tag false input → IsPresent spelling tag true input
+there_wider : (spelling : Form) (tag : Option Tag) (input : List ℕ) → HasNextTag input → IsPresent spelling tag false input → IsPresent spelling tag true input
 there_wider spelling None input (f, n, next) h = not_ended true input n next
 there_wider spelling (Some tag) input (f, n, next) h = (not_ended true input n next, h.1)
 
@@ -137,4 +137,4 @@ pub wider : (tag : Option Tag) (s : Shape) → IsAlwaysPresent s → (rule : Cod
 unfolding Reads parts_of
 wider tag s solid rule depth input t rest (inl (l, e, f)) = inl (left_out_wider (form rule) tag input l, e, f)
 wider tag s solid rule depth input t rest (inr (l, h)) =
-    inr (there_wider (form rule) tag input (comes s solid rule depth false input t rest h) l, solid_closing s solid rule depth false true input t rest h)
+    inr (there_wider (form rule) tag input (has_next_tag s solid rule depth false input t rest h) l, solid_closing s solid rule depth false true input t rest h)

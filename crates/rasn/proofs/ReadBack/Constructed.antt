@@ -9,7 +9,7 @@ use Rattle.rasn_types.specs.Readings.{Reading, ReadsContents, definite_form, ind
 use Rattle.rasn_types.specs.Contents.{joined_lists}
 use Rattle.rasn_types.specs.Bytes.{DefiniteForm, IndefiniteForm, ConstructedEncoding, Each}
 use Rattle.rasn_types.proofs.Headers.Frames.{not_ended}
-use Rattle.rasn.proofs.ReadBack.Begins.{Comes}
+use Rattle.rasn.proofs.ReadBack.Begins.{HasNextTag}
 
 -- What may stand behind the values of some contents.
 abbrev pub IsTail : Bool → List ℕ → Type 0
@@ -46,7 +46,7 @@ pub record ReadBack {X : Type 0} (alike : X → X → Type 0) (reads : Reading X
   pub is : X
   pub same : alike t is
   pub again : (rest : List ℕ) → reads (b ++ rest) is rest
-  pub begins : (rest : List ℕ) → Comes (b ++ rest)
+  pub begins : (rest : List ℕ) → HasNextTag (b ++ rest)
 
 abbrev pub EachReadBack : {X : Type 0} → (X → X → Type 0) → Reading X → List X → List (List ℕ) → Type 0
 EachReadBack alike reads [] bs = bs ≡ []

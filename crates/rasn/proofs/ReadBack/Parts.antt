@@ -13,7 +13,7 @@ use Rattle.rasn_types.specs.Bytes.{Each, Same, WritesPart, PartsWritten, WritesC
 use Rattle.rasn_types.specs.Carried.{PartIsWithinLimits, IsWithinLimits, AreWithinLimits, ChosenIsWithinLimits}
 use Rattle.rasn_types.specs.Lawful.{HasTag, IsFirstBehind, IsDistinguished, MayBeLeftOut, AreLawfulInOrder}
 use Rattle.rasn_types.proofs.Headers.Frames.{not_ended}
-use Rattle.rasn.proofs.ReadBack.Begins.{begins, Comes, comes, tagged, Starts, starts}
+use Rattle.rasn.proofs.ReadBack.Begins.{begins, HasNextTag, has_next_tag, tagged, Starts, starts}
 use Rattle.rasn.proofs.ReadBack.Constructed.{IsTail, tail_ended, IsReadAs}
 use Rattle.rasn_types.proofs.SetOf.Same.{each_same, same_trans}
 use Rattle.rasn_types.proofs.Encoding.SameOctets.{other_written}
@@ -65,12 +65,12 @@ pub is_there : (s : Shape) → IsAlwaysPresent s → (rule : Codec) (depth : ℕ
     → Reads rule s depth closing input t rest → IsPresent (form rule) (own s) closing input
 is_there s solid rule depth closing input t rest h = go (tagged s)
   where
-    untagged : Comes input → IsPresent (form rule) None closing input
+    untagged : HasNextTag input → IsPresent (form rule) None closing input
     untagged (f, n, next) = not_ended closing input n next
 
     go : HasTag s ⊎ (s ≡ any None) → IsPresent (form rule) (own s) closing input
     go (inl has) = let b = begins s solid has rule depth closing input t rest h in there (form rule) (own s) closing input b.0 b.1 (λ t e. own_first s solid t b.0 e b.2)
-    go (inr e) = subst (λ x. IsPresent (form rule) (own x) closing input) (sym e) (untagged (comes s solid rule depth closing input t rest h))
+    go (inr e) = subst (λ x. IsPresent (form rule) (own x) closing input) (sym e) (untagged (has_next_tag s solid rule depth closing input t rest h))
 
 -- One part, with what it is followed by.
 abbrev pub PartBack : Codec → ℕ → Presence → Shape → Parts → Tree → List ℕ → Tree → Type 0
@@ -184,17 +184,17 @@ in_order_back rule depth (part presence s ps) lawful back ts bs (t, us, e, withi
     )
 
 -- Of nothing only what may be left out is read.
-pub nothing_is_next : Comes [] → ⊥
+pub nothing_is_next : HasNextTag [] → ⊥
 nothing_is_next (f, n, next) = not_ended false [] n next (inl refl)
 
 missing_in_nothing : (rule : Codec) (depth : ℕ) (c : Bool) (presence : Presence) (s : Shape) → IsAlwaysPresent s → (t : Tree) (rest : List ℕ)
     → ReadsPart rule presence (own s) (Reads rule s depth c) false [] t rest → IsMissing presence t × (rest ≡ [])
-missing_in_nothing rule depth c required s solid t rest h = absurd (nothing_is_next (comes s solid rule depth c [] t rest h))
-missing_in_nothing rule depth c addition s solid t rest h = absurd (nothing_is_next (comes s solid rule depth c [] t rest h))
+missing_in_nothing rule depth c required s solid t rest h = absurd (nothing_is_next (has_next_tag s solid rule depth c [] t rest h))
+missing_in_nothing rule depth c addition s solid t rest h = absurd (nothing_is_next (has_next_tag s solid rule depth c [] t rest h))
 missing_in_nothing rule depth c optional s solid t rest (inl (p, q, r)) = (q, r)
-missing_in_nothing rule depth c optional s solid t rest (inr (p, h)) = absurd (nothing_is_next (comes s solid rule depth c [] t rest h))
+missing_in_nothing rule depth c optional s solid t rest (inr (p, h)) = absurd (nothing_is_next (has_next_tag s solid rule depth c [] t rest h))
 missing_in_nothing rule depth c (default d) s solid t rest (inl (p, q, r)) = (q, r)
-missing_in_nothing rule depth c (default d) s solid t rest (inr (p, h)) = absurd (nothing_is_next (comes s solid rule depth c [] t rest h.0))
+missing_in_nothing rule depth c (default d) s solid t rest (inr (p, h)) = absurd (nothing_is_next (has_next_tag s solid rule depth c [] t rest h.0))
 
 abbrev pub EachSolid : Parts → Type 0
 EachSolid none = Unit {0}

@@ -13,7 +13,7 @@ use Rattle.rasn_types.specs.Grammar.{Reads, parts_of}
 use Rattle.rasn_types.specs.Bytes.{TagsOf, Each, Same, WritesPart, PartsWritten, Bytes, fields_of}
 use Rattle.rasn_types.specs.Carried.{PartIsWithinLimits, IsWithinLimits, AreWithinLimits}
 use Rattle.rasn_types.proofs.Headers.Frames.{not_ended}
-use Rattle.rasn.proofs.ReadBack.Begins.{begins, Comes, comes}
+use Rattle.rasn.proofs.ReadBack.Begins.{begins, HasNextTag, has_next_tag}
 use Rattle.rasn.proofs.ReadBack.Constructed.{tail_ended, IsReadAs}
 use Rattle.rasn_types.specs.Lawful.{HasTag}
 use Rattle.rasn_types.proofs.SetOf.Same.{each_same, same_trans}
@@ -83,7 +83,7 @@ component_back rule depth s back (default d) t b (inr within_limits) (inr w) = l
 -- A component, among all.
 pub record ReadMore (rule : Codec) (depth : ℕ) (all : Parts) (b : List ℕ) (t : Tree) : Type 0 where
   pub again : (rest : List ℕ) (closing : Bool) → Component rule depth all closing (b ++ rest) t rest
-  pub begins : (rest : List ℕ) → Comes (b ++ rest)
+  pub begins : (rest : List ℕ) → HasNextTag (b ++ rest)
 
 read_more : (rule : Codec) (depth : ℕ) (all : Parts) (k : ℕ) (presence : Presence) (s : Shape) (ps : Parts) → IsAlwaysPresent s → HasTag s
     → IsAmong rule depth all k (part presence s ps) → (v : Tree) (b : List ℕ) → IsNoDefault presence v
@@ -93,14 +93,14 @@ read_more rule depth all k presence s ps solid has among v b differs again = rec
   again = λ rest closing.
       let first = begins s solid has rule depth closing (b ++ rest) v rest (again rest closing) in
       among closing (b ++ rest) (chosen k v) rest (inl (v, refl, first.0, first.1, first.2, again rest closing, λ z. differs));
-  begins = λ rest. comes s solid rule depth false (b ++ rest) v rest (again rest false);
+  begins = λ rest. has_next_tag s solid rule depth false (b ++ rest) v rest (again rest false);
 }
 
 from_more : (rule : Codec) (depth : ℕ) (all : Parts) (b : List ℕ) (t : Tree) → ReadMore rule depth all b t → (cs : List (List ℕ)) (rs : List Tree)
     → FromBack rule depth all cs rs → FromBack rule depth all (b ∷ cs) (t ∷ rs)
 from_more rule depth all b t r cs rs (os, firsts, from) = (
   b ∷ os,
-  tags_more b cs os (λ e. nothing_is_next (subst (λ i. Comes (i ++ [])) e (r.begins []))) firsts,
+  tags_more b cs os (λ e. nothing_is_next (subst (λ i. HasNextTag (i ++ [])) e (r.begins []))) firsts,
   λ c tail. subst (λ i. ReadsFrom (Component rule depth all c) i (t ∷ rs) tail (b ∷ os)) (sym (append_assoc b (joined_lists cs) tail))
       (b, os, joined_lists cs ++ tail, refl, refl, r.again (joined_lists cs ++ tail) c, from c tail),
 )

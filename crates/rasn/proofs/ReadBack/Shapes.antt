@@ -16,7 +16,7 @@ use Rattle.rasn_types.specs.Carried.{IsWithinLimits, AreWithinLimits, EachOf, Ca
 use Rattle.rasn_types.specs.Lawful.{IsLawful, AreAlternatives, AreLawfulInOrder, AreLawfulByTag}
 use Rattle.rasn_types.proofs.Headers.Frames.{frame_next, not_ended}
 use Rattle.rasn.proofs.Included.IntoBer.{IsOptional, IsIn, many_in, solid_of}
-use Rattle.rasn.proofs.ReadBack.Begins.{comes}
+use Rattle.rasn.proofs.ReadBack.Begins.{has_next_tag}
 use Rattle.rasn.proofs.ReadBack.Constructed.{IsReadAs, definite_back, closed_back, cons_back, EachReadBack, many_back}
 use Rattle.rasn_types.proofs.SetOf.Same.{items_one, each_same, each_length}
 use Rattle.rasn.proofs.ReadBack.Leaves.{leaf_back}
@@ -73,7 +73,7 @@ elements_back rule s solid depth back (t ∷ ts) bs (m, ms) (b, cs, e, w, ws) =
         is = r.0;
         same = r.1;
         again = λ rest c. r.2 rest c;
-        begins = λ rest. comes s solid rule depth true (b ++ rest) r.0 rest (r.2 rest true);
+        begins = λ rest. has_next_tag s solid rule depth true (b ++ rest) r.0 rest (r.2 rest true);
       },
       elements_back rule s solid depth back ts cs ms ws,
     )

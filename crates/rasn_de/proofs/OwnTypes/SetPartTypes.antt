@@ -22,7 +22,7 @@ use Rattle.rasn_de.specs.Steps.{IsErrorOf}
 use Rattle.rasn_de.specs.SequenceOf.{DecodesInTurnFrom}
 use Rattle.rasn_de.specs.Set.{FailsAtComponent, not_read, DecodesComponents, DecodesSetContents, AreParts, MakesSet, PeeksInOrder}
 use Rattle.rasn_de.specs.AlternativeTypes.{ReadsNumbered}
-use Rattle.rasn_de.specs.SetPartTypes.{ReadsSetParts, held_tree, AreNone, HasCome, Comes, ReadsPartAt, IsPlaced, IsOrDefault, DecodesPlaced, DecodesNext, AreGathered, IsGathered, Gathers}
+use Rattle.rasn_de.specs.SetPartTypes.{ReadsSetParts, held_tree, AreNone, HasCome, IsAddedAt, ReadsPartAt, IsPlaced, IsOrDefault, DecodesPlaced, DecodesNext, AreGathered, IsGathered, MakesParts}
 use Rattle.rasn_de.proofs.Leaves.Outcomes.{Exact-none, Exact-refusal}
 use Rattle.rasn_de.proofs.Headers.Tags.{Tagged, tagged_order, look_refused, look_follows, look_kept}
 use Rattle.rasn_de.proofs.Constructed.Reads.{IsCut, held_decodes, held_constructed, constructed_held}
@@ -104,21 +104,21 @@ kept_held [] j i u (x ∷ held) done l h = h
 kept_held (p ∷ ps) j i u [] done l h = h
 kept_held (p ∷ ps) j i u (x ∷ held) done l h = (slot_kept (λ (t : Tree). t) (λ (t : Tree). t) done (chosen i u) u j i refl x (λ e. omega (arith, e, l)) h.0, kept_held ps (suc j) i u held done (omega (arith, l)) h.1)
 
-pub comes_held : (ps : List Presence) (j k n : ℕ) (u : Tree) (before held : List (Option Tree)) (done : List Tree) → n ≡ j + k → Comes before k u held → AreHeld j ps before (trees done)
+pub added_held : (ps : List Presence) (j k n : ℕ) (u : Tree) (before held : List (Option Tree)) (done : List Tree) → n ≡ j + k → IsAddedAt before k u held → AreHeld j ps before (trees done)
     → AreHeld j ps held (trees (done ++ chosen n u ∷ []))
-comes_held [] j k n u [] held done e c h = absurd c
-comes_held [] j k n u (x ∷ before) held done e c h = absurd h
-comes_held (p ∷ ps) j k n u [] held done e c h = absurd c
-comes_held (p ∷ ps) j zero n u (x ∷ before) held done e (f, g) h =
+added_held [] j k n u [] held done e c h = absurd c
+added_held [] j k n u (x ∷ before) held done e c h = absurd h
+added_held (p ∷ ps) j k n u [] held done e c h = absurd c
+added_held (p ∷ ps) j zero n u (x ∷ before) held done e (f, g) h =
     let i : n ≡ j = omega (arith, e) in
     subst (λ l. AreHeld j (p ∷ ps) l (trees (done ++ chosen n u ∷ []))) (sym g) (
       subst (λ m. Slot j (λ (t : Tree). t) (Some u) (trees (done ++ chosen m u ∷ []))) (sym i) (slot_appended (λ (t : Tree). t) (λ (t : Tree). t) done (chosen j u) u j refl x f h.0),
       kept_held ps (suc j) n u before done (omega (arith, i)) h.1,
     )
-comes_held (p ∷ ps) j (suc k) n u (x ∷ before) held done e (others, g, c) h =
+added_held (p ∷ ps) j (suc k) n u (x ∷ before) held done e (others, g, c) h =
     subst (λ l. AreHeld j (p ∷ ps) l (trees (done ++ chosen n u ∷ []))) (sym g) (
       slot_kept (λ (t : Tree). t) (λ (t : Tree). t) done (chosen n u) u j n refl x (λ f. omega (arith, e, f)) h.0,
-      comes_held ps (suc j) k n u before others done (omega (arith, e)) c h.1,
+      added_held ps (suc j) k n u before others done (omega (arith, e)) c h.1,
     )
 
 -- what has come of the part that has come
@@ -149,9 +149,9 @@ by_part_gathered (p ∷ ps) j (Some u ∷ held) readings ts h (t, us, e, inl o, 
     (us, e ∙ ap (λ z. z ∷ us) f, by_part_gathered ps (suc j) held readings us h.1 b)
 by_part_gathered (p ∷ ps) j (Some u ∷ held) readings ts h (t, us, e, inr m, b) = absurd (not_none j u h.0.before h.0.after (subst (NoneOf j) h.0.is m.0))
 
-gathers_set : {D : Type 0} (ps : Parts) (tree : D → Tree) (held : List (Option Tree)) (readings : List Tree) → AreHeld 0 (presences ps) held readings → (r : Result D DecodeError) → Gathers ps tree held r → MakesSet ps tree readings r
-gathers_set ps tree held readings h (Ok v) (ts, e, g) = (ts, e, gathered_by_part (presences ps) 0 held readings ts h g)
-gathers_set ps tree held readings h (Err e) x = Exact-refusal e.kind (λ input t rest. IsGathered ps held t) (λ input t rest. AreParts ps readings t) [] []
+makes_set : {D : Type 0} (ps : Parts) (tree : D → Tree) (held : List (Option Tree)) (readings : List Tree) → AreHeld 0 (presences ps) held readings → (r : Result D DecodeError) → MakesParts ps tree held r → MakesSet ps tree readings r
+makes_set ps tree held readings h (Ok v) (ts, e, g) = (ts, e, gathered_by_part (presences ps) 0 held readings ts h g)
+makes_set ps tree held readings h (Err e) x = Exact-refusal e.kind (λ input t rest. IsGathered ps held t) (λ input t rest. AreParts ps readings t) [] []
     (λ nothing t r (ts, f, b). nothing t [] (ts, f, by_part_gathered (presences ps) 0 held readings ts h b)) x
 
 -- One more part is gathered, before the others.
@@ -252,11 +252,11 @@ module _ (ps : Parts) where
           k.1 ++ b ∷ [],
           passes_from Read here new (chosen i u) b d.end.1 n d l old k.0 _ k.1 refl k.2,
           look_kept old here stays_here k.1 last k.3 (choice ps) (λ (t : Tree). t) found p (chosen i u) new d b d.end.1 l,
-          comes_held (presences ps) 0 i i u held after k.0 (omega arith) c k.4,
+          added_held (presences ps) 0 i i u held after k.0 (omega arith) c k.4,
         )
 
-    pub all_gathered : {D : Type 0} (tree : D → Tree) → Ended here.closing here.rest → (r : Result D DecodeError) → Gathers ps tree held r → DecodesBy (ReadsSetParts ps) tree old r here
-    all_gathered {D} tree n r g = go r (gathers_set ps tree held (trees k.0) k.4 r g)
+    pub all_gathered : {D : Type 0} (tree : D → Tree) → Ended here.closing here.rest → (r : Result D DecodeError) → MakesParts ps tree held r → DecodesBy (ReadsSetParts ps) tree old r here
+    all_gathered {D} tree n r g = go r (makes_set ps tree held (trees k.0) k.4 r g)
       where
         collected : (r : Result D DecodeError) → DecodesSetContents (DecodesComponents Read (λ (l : List Tree). l)) (λ l r. MakesSet ps tree (trees l) r) old r here → DecodesBy (ReadsSetParts ps) tree old r here
         collected r d = set_collects ps (λ (t : Tree). t) tree old (λ l. l) (λ l r. MakesSet ps tree (trees l) r) (λ l r m. m) r here d

@@ -6,11 +6,11 @@ use Rattle.rasn.proofs.entry.encode_scope.Goals as goal
 
 pub returns-in_err-run-clause-fails : goal.returns-in_err-run-clause-fails
 returns-in_err-run-clause-fails g c =
-    let p = err_from_is_err_and c.from_residual-in_err-run.result c.from_residual-in_err-run.ensures.1 in
-    rw (p.1, p.2) (inr (c.run.new.encoder, subst (λ x. FnOnceReturnsAtMut g.F.FnOnce c.args.values x (Err c.in_err-run.field-0.0) c.run.new.encoder) c.in_ok-encoder.ensures.ok c.in_err-run.ensures))
+    let p = err_from_is_err_and c.from_residual.result c.from_residual.ensures.1 in
+    rw (p.1, p.2) (inr (c.run.new.encoder, subst (λ x. FnOnceReturnsAtMut g.F.FnOnce c.args.values x (Err c.in_err-run.field-0.0) c.run.new.encoder) c.over-encoder.ensures c.in_err-run.ensures))
 
 pub returns-clause-ok : goal.returns-clause-ok
-returns-clause-ok g c = scope_ok g.F.FnOnce c.args.values _ c.requires.keeps _ _ c.in_ok-encoder.ensures.ok _ c.in_ok-run.ensures _ refl c.output.ensures.ok
+returns-clause-ok g c = scope_ok g.F.FnOnce c.args.values _ c.requires.keeps _ _ c.over-encoder.ensures _ c.in_ok-run.ensures _ refl c.output.ensures.ok
 
 pub returns-clause-fails : goal.returns-clause-fails
-returns-clause-fails g c = scope_refused g.F.FnOnce c.args.values _ c.requires.keeps _ _ c.in_ok-encoder.ensures.ok _ c.in_ok-run.ensures _ c.output.ensures.fails
+returns-clause-fails g c = scope_refused g.F.FnOnce c.args.values _ c.requires.keeps _ _ c.over-encoder.ensures _ c.in_ok-run.ensures _ c.output.ensures.fails

@@ -4,7 +4,7 @@ ghost use Rattle.rasn_types.specs.Framing.{NextTag};
 ghost use Rattle.rasn_types.specs.Tags.{form};
 ghost use Rattle.rasn_types.specs.Shapes.{set};
 ghost use Rattle.rasn_de.specs.Decodes.{Decodes, DecodesBy};
-ghost use Rattle.rasn_de.specs.SetPartTypes.{AreNone, IsPlaced, IsOrDefault, DecodesPlaced, DecodesNext, Gathers, ReadsSetParts};
+ghost use Rattle.rasn_de.specs.SetPartTypes.{AreNone, IsPlaced, IsOrDefault, DecodesPlaced, DecodesNext, MakesParts, ReadsSetParts};
 
 use crate::ber::de::Decoder;
 use crate::ber::de::constructed::ConstructedHeader;
@@ -58,7 +58,7 @@ pub trait DecodeSetParts: Drop {
     /// # Errors
     /// `MissingField` of the name of a required part that hasn't come; what the default of a part refuses.
     fn gather(came: Self::Came, decoder: &Decoder<'_>, names: &[&str]) -> Result<Self, DecodeError>
-        ensures { Gathers parts tree (held came) result };
+        ensures { MakesParts parts tree (held came) result };
 }
 
 /// The name of the first of these parts, where the names go so far.
