@@ -1,8 +1,8 @@
 -- Headers, and what of them comes still.
-use Rattle.std.proofs.Common.{◌≡◌, ◌≤◌, ◌++◌, ℕ, [], ◌∷◌, List, Bool, true, false, cond, drop, take, set, get_or, ◌+◌, length, refl, ap, arith, ◌∙◌, length-append}
-use Rattle.std.proofs.lemmas.List.{append-nil, append_assoc, drop_all, length-take-le, take-append-drop}
+use Rattle.std.proofs.Common.{◌≡◌, ◌≤◌, ◌<◌, ◌-◌, ◌++◌, ℕ, zero, suc, [], ◌∷◌, List, Bool, true, false, cond, drop, take, set, get_or, ◌+◌, length, refl, sym, ap, ap₂, arith, ◌∙◌, length-append}
+use Rattle.std.proofs.lemmas.List.{append-nil, append_assoc, drop_all, drop_at, drop-drop, get_or-drop, length-drop, length-take-le, take-append-drop, take_all}
 use Rattle.std.proofs.lemmas.List.Edits.{paste_more}
-use Rattle.std.proofs.Math.Seq.{paste}
+use Rattle.std.proofs.Math.Seq.{paste, take-append_seam}
 use Rattle.std.specs.Prelude.{ltb}
 use Rattle.rasn_types.specs.declared.types.tag.Tag.{Tag}
 use Rattle.rasn_enc.specs.Headers.{id_octets, length_octets}
@@ -49,3 +49,26 @@ room_filled xs h at x y w two e f =
     let start : paste xs at h 0 ≡ xs = rw (z, append-nil) (take-append-drop at xs) in
     let one : set xs at (get_or h 0 0) ≡ paste xs at h 1 = rw (start, z) at (paste_more xs at h 0 0 (omega arith) (omega arith)) in
     rw (e, f) (ap (λ l. set l (at + 1) (get_or h 1 0)) one ∙ (paste_more xs at h 1 0 (omega arith) (omega arith) ∙ append_assoc (take at xs) (take 2 h) (drop (at + 2) xs)))
+
+any_default : (h : List ℕ) (i d : ℕ) → i < length h → get_or h i d ≡ get_or h i 0
+any_default [] i d w = absurd (omega arith)
+any_default (x ∷ h) zero d w = refl
+any_default (x ∷ h) (suc i) d w = any_default h i d (omega arith)
+
+-- The slice from a place on.
+pub take-drop_length : (n : ℕ) (ys : List ℕ) → take (length ys - n) (drop n ys) ≡ drop n ys
+take-drop_length n ys = take_all _ (drop n ys) (omega (arith, length-drop n ys))
+
+-- What is written behind octets: it stands there, and is taken off there.
+module _ (xs h ys : List ℕ) (end : ℕ) (l : end ≡ length xs) (e : ys ≡ xs ++ h) where
+  pub spelled_behind : drop end ys ≡ h
+  spelled_behind = ap (drop end) e ∙ drop_at xs h end (sym l)
+
+  pub spelled_rest : drop (end + 2) ys ≡ drop 2 h
+  spelled_rest = sym (drop-drop 2 end ys) ∙ ap (drop 2) spelled_behind
+
+  pub spelled_octet : (i p d : ℕ) → p ≡ end + i → i < length h → get_or ys p d ≡ get_or h i 0
+  spelled_octet i p d q w = ap (λ z. get_or ys z d) q ∙ (sym (get_or-drop end ys i d) ∙ (ap (λ z. get_or z i d) spelled_behind ∙ any_default h i d w))
+
+  pub spelled_off : take end ys ≡ xs
+  spelled_off = ap₂ take l e ∙ take-append_seam xs h

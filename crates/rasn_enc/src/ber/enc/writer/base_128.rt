@@ -1,5 +1,5 @@
 //! Numbers in base 128, every octet but the last with its high bit set: of tags (X.690 8.1.2.4) and in object identifiers (8.19.2).
-ghost use Rattle.std.specs.Prelude.{◌≡◌, ◌+◌, ◌/◌, ◌%◌, ◌^◌, ◌<◌, ◌≤◌, ◌++◌, length, get_or, vec_len, vec_capacity};
+ghost use Rattle.std.specs.Prelude.{◌≡◌, ◌+◌, ◌/◌, ◌%◌, ◌^◌, ◌<◌, ◌≤◌, ◌++◌, vec_len, vec_capacity};
 ghost use Rattle.rasn_enc.specs.Headers.{digits, chained, group_count};
 
 /// How many groups of seven bits a number takes.
@@ -39,17 +39,4 @@ fn group_at(number: u32, place: usize) -> u8
     ensures small { result < 128 }
 {
     ((number >> (7 * place)) % 128) as u8
-}
-
-/// One group of a number in base 128.
-pub fn group_octet(number: u32, i: usize) -> u8
-    requires { i < group_count number }
-    ensures { result ≡ get_or (chained (digits 128 (group_count number) number)) i 0 }
-{
-    let left = count_groups(number) - i;
-    if left > 1 {
-        128 + group_at(number, left - 1)
-    } else {
-        (number % 128) as u8
-    }
 }

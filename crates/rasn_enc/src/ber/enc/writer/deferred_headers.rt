@@ -1,11 +1,11 @@
 //! Headers of values that hold others, and what of them comes later than the octets behind them.
-ghost use Rattle.std.specs.Prelude.{ℕ, List, ◌≡◌, ◌<◌, ◌≤◌, ◌+◌, ◌++◌, ◌∷◌, [], true, get_or, length, take, drop, vec_len, OnOk, OnErr};
+ghost use Rattle.std.specs.Prelude.{ℕ, List, ◌≡◌, ◌<◌, ◌≤◌, ◌+◌, ◌++◌, ◌∷◌, [], true, length, take, drop, vec_len, vec_capacity, IfOk, OnOk, OnErr};
 ghost use Rattle.rasn_enc.specs.Headers.{id_octets, length_octets};
 ghost use Rattle.rasn_enc.specs.Buffer.DeferredHeaders.{header_octets, head_of, rest_octets, Defers, Encloses, back};
 
 use crate::ber::enc::writer::header_rest::HeaderRest;
 use crate::ber::enc::writer::headers::{
-    INDEFINITE_LENGTH, identifier_len, identifier_octet, length_len, length_octet,
+    INDEFINITE_LENGTH, identifier_len, length_len, write_identifier, write_length,
 };
 use rasn_types::ber::rules::EncodingRules;
 use rasn_types::types::{Codec, Tag};
@@ -58,16 +58,39 @@ pub fn header_len(head: HeaderForm) -> usize
     }
 }
 
-/// Gives the octets of a header that have no room.
-fn rest_of(head: HeaderForm) -> HeaderRest
-    ensures { rest_octets result ≡ drop 2 (header_octets head) }
+/// Writes a header.
+fn write_header(octets: &mut Vec<u8>, head: HeaderForm)
+    requires { vec_len octets.old + length (header_octets head) ≤ vec_capacity octets.old }
+    ensures { octets.new.items ≡ octets.old.items ++ header_octets head }
 {
-    let count = header_len(head) - ROOM;
-    let mut rest = HeaderRest::new();
-    for i in 0..count {
-        rest.push(header_octet(head, ROOM + i));
+    match head {
+        HeaderForm::Definite(tag, count) => {
+            write_identifier(octets, tag, true);
+            write_length(octets, count);
+        }
+        HeaderForm::Indefinite(tag) => {
+            write_identifier(octets, tag, true);
+            octets.push_reserved(INDEFINITE_LENGTH);
+        }
     }
-    rest
+}
+
+/// Fills the room for a header, which is written behind all and taken off there, and gives its octets that have no room.
+fn fill_room(octets: &mut Vec<u8>, at: usize, head: HeaderForm) -> Result<HeaderRest, AllocError>
+    requires { at + 2 ≤ vec_len octets.old }
+    ensures rest { IfOk result (λ rest. rest_octets rest ≡ drop 2 (header_octets head)) }
+    ensures ok { OnOk result (octets.new.items ≡ take at octets.old.items ++ (take 2 (header_octets head) ++ drop (at + 2) octets.old.items)) }
+    ensures err { OnErr result (octets.new.items ≡ octets.old.items) }
+{
+    let end = octets.len();
+    octets.reserve(header_len(head))?;
+    write_header(octets, head);
+    let rest = HeaderRest::from_slice(&octets[end + ROOM..]);
+    let (first, second) = (octets[end], octets[end + 1]);
+    octets.truncate(end);
+    octets[at] = first;
+    octets[at + 1] = second;
+    Ok(rest)
 }
 
 /// Puts a deferred header in its place, where a header has more octets than there is room for.
@@ -76,16 +99,15 @@ fn defer_rest(
     headers: &mut Vec<DeferredHeader>,
     index: usize,
     at: usize,
-    head: HeaderForm,
+    rest: HeaderRest,
 ) -> Result<(), AllocError>
     requires { index ≤ vec_len headers.old }
-    ensures ok { OnOk result ((ds : List DeferredHeader) × Defers at (drop 2 (header_octets head)) ds × (headers.new.items ≡ take index headers.old.items ++ (ds ++ drop index headers.old.items))) }
+    ensures ok { OnOk result ((ds : List DeferredHeader) × Defers at (rest_octets rest) ds × (headers.new.items ≡ take index headers.old.items ++ (ds ++ drop index headers.old.items))) }
     ensures err { OnErr result (headers.new.items ≡ headers.old.items) }
 {
-    if header_len(head) == ROOM {
+    if rest.len() == 0 {
         return Ok(());
     }
-    let rest = rest_of(head);
     match headers.insert(index, DeferredHeader { at, rest }) {
         Ok(()) => Ok(()),
         Err(_) => Err(AllocError),
@@ -102,16 +124,6 @@ fn append_end_of_contents(octets: &mut Vec<u8>, rule: Codec) -> Result<(), Alloc
         return Ok(());
     }
     octets.extend_from_slice(&[0, 0])
-}
-
-/// Writes the first octets of a header into the room for them.
-#[inline(always)]
-fn fill_room(octets: &mut [u8], at: usize, head: HeaderForm)
-    requires { at + 2 ≤ length octets.old }
-    ensures { octets.new ≡ take at octets.old ++ (take 2 (header_octets head) ++ drop (at + 2) octets.old) }
-{
-    octets[at] = header_octet(head, 0);
-    octets[at + 1] = header_octet(head, 1);
 }
 
 /// Puts the header of a value and what ends it round its contents, which stand behind the room at `at`, with the deferred headers from
@@ -131,46 +143,7 @@ pub fn enclose_contents(
     ensures octets { OnErr result (take at octets.new.items ≡ take at octets.old.items) }
     ensures headers { OnErr result (take index headers.new.items ≡ take index headers.old.items) }
 {
-    defer_rest(headers, index, at + ROOM, head)?;
-    append_end_of_contents(octets, rule)?;
-    fill_room(octets, at, head);
-    Ok(())
-}
-
-/// One octet of a header.
-#[inline(always)]
-pub fn header_octet(head: HeaderForm, i: usize) -> u8
-    requires { i < length (header_octets head) }
-    ensures { result ≡ get_or (header_octets head) i 0 }
-{
-    match head {
-        HeaderForm::Definite(tag, count) => definite_octet(tag, count, i),
-        HeaderForm::Indefinite(tag) => indefinite_octet(tag, i),
-    }
-}
-
-#[inline(always)]
-fn definite_octet(tag: Tag, count: usize, i: usize) -> u8
-    requires { i < length (id_octets tag true ++ length_octets count) }
-    ensures { result ≡ get_or (id_octets tag true ++ length_octets count) i 0 }
-{
-    let n = identifier_len(tag);
-    if i < n {
-        identifier_octet(tag, true, i)
-    } else {
-        length_octet(count, i - n)
-    }
-}
-
-#[inline(always)]
-fn indefinite_octet(tag: Tag, i: usize) -> u8
-    requires { i < length (id_octets tag true ++ 128 ∷ []) }
-    ensures { result ≡ get_or (id_octets tag true ++ 128 ∷ []) i 0 }
-{
-    let n = identifier_len(tag);
-    if i < n {
-        identifier_octet(tag, true, i)
-    } else {
-        INDEFINITE_LENGTH
-    }
+    let rest = fill_room(octets, at, head)?;
+    defer_rest(headers, index, at + ROOM, rest)?;
+    append_end_of_contents(octets, rule)
 }

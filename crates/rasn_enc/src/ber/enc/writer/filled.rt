@@ -3,13 +3,15 @@ ghost use Rattle.std.specs.Prelude.{ℕ, List, ◌≡◌, ◌<◌, ◌≤◌, �
 ghost use Rattle.std.specs.Fn.{FnOnceTakesAtMut, FnOnceReturnsAtMut};
 ghost use Rattle.rasn_types.specs.Tags.{tag_bit};
 ghost use Rattle.rasn_enc.specs.Headers.{id_octets, length_octets};
+ghost use Rattle.rasn_enc.specs.Buffer.HeaderRest.{rest_octets};
 ghost use Rattle.rasn_enc.specs.declared.ber.enc.writer.filled.FillError.TheVariants.{NoMemory};
 ghost use Rattle.rasn_enc.specs.Buffer.Filled.{OnlyAppendsOctets, MayFailToFill, AppendsPrimitiveOctets, AppendsFilledOctets};
 
+use crate::ber::enc::writer::header_rest::HeaderRest;
 use crate::ber::enc::writer::headers::{
-    identifier_len, length_len, length_octet, write_identifier, write_length,
+    identifier_len, length_len, write_identifier, write_length,
 };
-use crate::ber::enc::writer::rendering::{grow, move_up};
+use crate::ber::enc::writer::rendering::{move_up, write_at};
 use rasn_types::ber::is_always_constructed;
 use rasn_types::types::Tag;
 use std::alloc::AllocError;
@@ -148,30 +150,22 @@ fn insert_length(octets: &mut Vec<u8>, place: usize, count: usize) -> Result<(),
     ensures err { OnErr result (octets.new.items ≡ octets.old.items) }
 {
     let end = octets.len();
-    grow(octets, end + (length_len(count) - 1))?;
-    widen_length(octets, place, end, count);
+    octets.reserve(length_len(count))?;
+    write_length(octets, count);
+    let wide = HeaderRest::from_slice(&octets[end..]);
+    octets.truncate(end + (wide.len() - 1));
+    widen_length(octets, place, end, wide);
     Ok(())
 }
 
 /// Moves what stands behind one octet up to the end of all, and writes a length in front of it.
-fn widen_length(octets: &mut [u8], place: usize, end: usize, count: usize)
+fn widen_length(octets: &mut [u8], place: usize, end: usize, wide: HeaderRest)
     requires order { place < end }
     requires within { end ≤ length octets.old }
-    requires room { length octets.old + 1 ≡ end + length (length_octets count) }
-    ensures { octets.new ≡ take place octets.old ++ (length_octets count ++ drop (place + 1) (take end octets.old)) }
+    requires room { length octets.old + 1 ≡ end + length (rest_octets wide) }
+    ensures { octets.new ≡ take place octets.old ++ (rest_octets wide ++ drop (place + 1) (take end octets.old)) }
 {
     let more = octets.len() - end;
     move_up(octets, place + 1, end, more);
-    write_length_at(octets, place, count);
-}
-
-/// Writes the octets of a length from a place on.
-fn write_length_at(octets: &mut [u8], place: usize, count: usize)
-    requires { place + length (length_octets count) ≤ length octets.old }
-    ensures { octets.new ≡ take place octets.old ++ (length_octets count ++ drop (place + length (length_octets count)) octets.old) }
-{
-    for i in 0..length_len(count) {
-        let octet = length_octet(count, i);
-        octets[place + i] = octet;
-    }
+    write_at(octets, place, wide.as_slice());
 }

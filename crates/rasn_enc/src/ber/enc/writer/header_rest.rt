@@ -1,5 +1,5 @@
 //! The octets of a header that come later than its first ones.
-ghost use Rattle.std.specs.Prelude.{◌≡◌, ◌<◌, ◌≤◌, ◌++◌, ◌∷◌, [], length, take};
+ghost use Rattle.std.specs.Prelude.{◌≡◌, ◌≤◌, [], length, take};
 
 /// At most 15 octets. No header has more, and the count of them fills the word.
 #[derive(Clone, Copy, Drop)]
@@ -22,6 +22,19 @@ impl HeaderRest {
         }
     }
 
+    /// These octets.
+    pub fn from_slice(octets: &[u8]) -> HeaderRest
+        requires { length octets.now ≤ 15 }
+        ensures { rest_octets result ≡ octets.now }
+    {
+        let mut all = [0; 15];
+        all[..octets.len()].copy_from_slice(octets);
+        HeaderRest {
+            octets: all,
+            count: octets.len() as u8,
+        }
+    }
+
     /// The octets.
     pub fn as_slice(&self) -> &[u8]
         ensures { result.now ≡ rest_octets self.now }
@@ -34,15 +47,6 @@ impl HeaderRest {
         ensures { result ≡ length (rest_octets self.now) }
     {
         usize::from(self.count)
-    }
-
-    /// Puts one more octet behind the others.
-    pub fn push(&mut self, octet: u8)
-        requires { length (rest_octets self.old) < 15 }
-        ensures { rest_octets self.new ≡ rest_octets self.old ++ octet ∷ [] }
-    {
-        self.octets[usize::from(self.count)] = octet;
-        self.count += 1;
     }
 
     /// Leaves the first so many of the octets.

@@ -1,10 +1,10 @@
 //! Identifier and length octets (X.690 8.1), each in the fewest octets.
-ghost use Rattle.std.specs.Prelude.{◌≡◌, ◌+◌, ◌*◌, ◌^◌, ◌/◌, ◌%◌, ◌<◌, ◌≤◌, ◌++◌, length, get_or, vec_len, vec_capacity, Bool};
+ghost use Rattle.std.specs.Prelude.{◌≡◌, ◌+◌, ◌*◌, ◌^◌, ◌/◌, ◌%◌, ◌<◌, ◌≤◌, ◌++◌, length, vec_len, vec_capacity, Bool};
 ghost use Rattle.rasn_types.specs.Tags.{rank as rank_of, tag_bit};
 ghost use Rattle.rasn_types.specs.Framing.{bit_of};
 ghost use Rattle.rasn_enc.specs.Headers.{digits, octet_count, id_octets, length_octets};
 
-use crate::ber::enc::writer::base_128::{count_groups, group_octet, write_groups};
+use crate::ber::enc::writer::base_128::{count_groups, write_groups};
 use rasn_types::types::{Class, Tag};
 
 /// The first octet of a length that isn't told, which end-of-contents octets end (X.690 8.1.3.6).
@@ -132,34 +132,4 @@ fn octet_at(number: usize, place: usize) -> u8
     ensures { result ≡ number / 256 ^ place % 256 }
 {
     ((number >> (8 * place)) % 256) as u8
-}
-
-/// One octet of an identifier.
-#[inline(always)]
-pub fn identifier_octet(tag: Tag, constructed: bool, i: usize) -> u8
-    requires { i < length (id_octets tag constructed) }
-    ensures { result ≡ get_or (id_octets tag constructed) i 0 }
-{
-    if tag.value < 31 {
-        leading_octet(tag.class, constructed, tag.value as u8)
-    } else if i == 0 {
-        leading_octet(tag.class, constructed, 31)
-    } else {
-        group_octet(tag.value, i - 1)
-    }
-}
-
-/// One octet of a length in the definite form.
-#[inline(always)]
-pub fn length_octet(count: usize, i: usize) -> u8
-    requires { i < length (length_octets count) }
-    ensures { result ≡ get_or (length_octets count) i 0 }
-{
-    if count < 128 {
-        count as u8
-    } else if i == 0 {
-        128 + count_octets(count) as u8
-    } else {
-        octet_at(count, count_octets(count) - i)
-    }
 }

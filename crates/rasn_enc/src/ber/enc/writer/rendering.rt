@@ -35,7 +35,7 @@ pub fn move_up(buffer: &mut [u8], at: usize, end: usize, by: usize)
 }
 
 /// Writes octets from a place on.
-fn write_at(buffer: &mut [u8], at: usize, octets: &[u8])
+pub fn write_at(buffer: &mut [u8], at: usize, octets: &[u8])
     requires { at + length octets.now ≤ length buffer.old }
     ensures { buffer.new ≡ take at buffer.old ++ (octets.now ++ drop (at + length octets.now) buffer.old) }
 {
@@ -135,7 +135,7 @@ fn cut_front(octets: &mut Vec<u8>, count: usize)
 }
 
 /// Makes a vector longer: it then has so many octets, those that it had first.
-pub fn grow(buffer: &mut Vec<u8>, whole: usize) -> Result<(), AllocError>
+fn grow(buffer: &mut Vec<u8>, whole: usize) -> Result<(), AllocError>
     requires { length buffer.old.items ≤ whole }
     ensures len { OnOk result (length buffer.new.items ≡ whole) }
     ensures front { OnOk result (take (length buffer.old.items) buffer.new.items ≡ buffer.old.items) }
