@@ -47,8 +47,9 @@ use rasn_types::types::{Codec, Constraints, Tag};
 use std::alloc::Global;
 use std::fmt;
 use std::marker::Model;
-use writer::Writer;
-use writer::filled::{Contents, FillError, fill_with};
+use writer::deferred_headers::DeferredHeader;
+use writer::filled::{Contents, fill_with};
+use writer::{Open, ValueList};
 
 /// The octets that `Encoder::new` and the entry points make room for before anything is written.
 pub const INITIAL_CAPACITY: usize = 1024;
@@ -57,15 +58,33 @@ pub const INITIAL_CAPACITY: usize = 1024;
 /// that its calls take (`Identifier`) are ignored: no rule of X.690 writes them.
 #[derive(Drop)]
 pub struct Encoder {
-    writer: Writer,
+    alloc: Global,
+    rule: Codec,
+    /// What is written, one value behind the other, but for what deferred headers have.
+    gathered: Vec<u8>,
+    /// The deferred headers, in the order of their places.
+    headers: Vec<DeferredHeader>,
+    /// The last list.
+    list: ValueList,
+    /// The open values around the innermost one, the outermost first.
+    around: Vec<Open>,
+    /// The innermost open value. It stands apart, so that one alone asks for no memory.
+    innermost: Option<Open>,
 }
 
 impl Model for Encoder {
+    ghost use Rattle.std.specs.Prelude.{map};
     ghost use Rattle.rasn_enc.specs.View.{View};
 
     ghost Value = { View };
 
-    ghost view = { λ e. e.writer };
+    ghost use Rattle.rasn_enc.specs.Buffer.Lists.{tags_of};
+    ghost use Rattle.rasn_enc.specs.Buffer.OpenValues.{frame_in, Chain, opens, IsInnermost};
+    ghost use Rattle.rasn_enc.specs.Buffer.Cuts.{list_from, Sound};
+
+    ghost view = { λ e. record { rule = e.rule; below = map (frame_in e.gathered.items e.headers.items) (opens e.around.items e.innermost); last = record { octets = list_from e.gathered.items e.headers.items e.list.start e.list.first; tags = tags_of e.list.tags } } };
+
+    ghost invariant = { λ e. Sound e.gathered.items e.headers.items e.list.start e.list.first e.list.measured × Chain e.gathered.items e.headers.items 0 0 (opens e.around.items e.innermost) e.list.start e.list.first × IsInnermost e.around.items e.innermost };
 }
 
 /// The rules, and how many octets the last list has.
@@ -101,9 +120,7 @@ impl Encoder {
     {
         let rule = options.current_codec();
         match Vec::with_capacity(alloc, INITIAL_CAPACITY) {
-            Ok(buffer) => Ok(Encoder {
-                writer: Writer::over(alloc, rule, buffer, true),
-            }),
+            Ok(buffer) => Ok(Encoder::empty(alloc, rule, buffer, true)),
             Err(_) => Err(out_of_memory(rule)),
         }
     }
@@ -135,21 +152,19 @@ impl Encoder {
     pub fn over(alloc: Global, options: EncoderOptions, buffer: Vec<u8>) -> Encoder
         ensures { result ≡ started options false }
     {
-        Encoder {
-            writer: Writer::over(alloc, options.current_codec(), buffer, false),
-        }
+        Encoder::empty(alloc, options.current_codec(), buffer, false)
     }
 
     /// The name of the rules that it writes by.
     pub fn codec(&self) -> Codec
         ensures { result ≡ self.now.rule }
     {
-        self.writer.rule()
+        self.rule
     }
 
     /// The allocator that it writes with.
     pub fn alloc(&self) -> Global {
-        self.writer.alloc()
+        self.alloc
     }
 
     /// The octets written. Where a value is still open, which it is only while its closure runs, they are those of its contents.
@@ -162,27 +177,10 @@ impl Encoder {
         ensures order { OnOk result (AreTagsInOrder self) }
         ensures fails { IfErr result (λ e. IsAllocError self.rule e ⊎ FailsAtTags self e) }
     {
-        if self.writer.kept_tags_out_of_order() {
+        if self.kept_tags_out_of_order() {
             return Err(out_of_order(self.codec()));
         }
-        let Encoder { writer } = self;
-        writer.output()
-    }
-
-    /// Counts the octets of the last list.
-    fn last_len(&self) -> usize
-        ensures { result ≡ length self.now.last.octets }
-    {
-        self.writer.last_len()
-    }
-
-    /// Whether the octets of the last list from `middle` on are less than those from `from` to it (X.690 11.6).
-    fn neighbours_out_of_order(&self, from: usize, middle: usize) -> bool
-        requires order { from ≤ middle }
-        requires within { middle ≤ length self.now.last.octets }
-        ensures { IsWhether result (FallsBetween from middle self.now.last.octets) }
-    {
-        self.writer.neighbours_out_of_order(from, middle)
+        self.rendered()
     }
 
     /// Refuses a size that isn't within its bound.
@@ -201,32 +199,6 @@ impl Encoder {
             },
             codec: self.codec(),
         })
-    }
-
-    /// Puts a primitive value behind the last list.
-    #[inline(always)]
-    fn leaf(&mut self, tag: Tag, contents: &[u8]) -> Result<(), EncodeError>
-        ensures ok { OnOk result (Appends (PrimitiveEncoding tag contents.now) tag self.old self.new) }
-        ensures err { OnErr result (self.new ≡ self.old) }
-        ensures memory_alone { IfErr result (IsAllocError self.old.rule) }
-    {
-        self.writer.leaf(tag, contents)
-    }
-
-    /// Puts a primitive value behind the last list; `contents` writes its contents in place.
-    #[inline(always)]
-    fn leaf_with<F: FnOnce(&mut Vec<u8>) -> Result<(), FillError>>(
-        &mut self,
-        tag: Tag,
-        contents: F,
-    ) -> Result<(), FillError>
-        requires callable { (v : _) → FnOnceTakesAtMut F.FnOnce contents v }
-        requires behind { OnlyAppendsOctets F.FnOnce contents }
-        ensures ok { OnOk result (AppendsFilled F.FnOnce contents tag self.old self.new) }
-        ensures err { OnErr result (self.new ≡ self.old) }
-        ensures refused { IfErr result (λ e. (e ≡ NoMemory) ⊎ MayFailToFill F.FnOnce contents e) }
-    {
-        self.writer.leaf_with(tag, contents)
     }
 
     /// Puts a primitive value behind the last list, whose contents it writes in place.

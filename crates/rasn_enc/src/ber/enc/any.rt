@@ -47,7 +47,7 @@ impl Encoder {
         ensures err { OnErr result (self.new ≡ self.old) }
         ensures fails { IfErr result (FailsAtUntagged self.old) }
     {
-        if self.writer.keeps_tags() {
+        if self.keeps_tags() {
             return Err(any_in_set(self.codec()));
         }
         self.append_encoded(octets)
@@ -62,15 +62,6 @@ impl Encoder {
         self.open(false)?;
         let outcome = self.append_encoded(octets);
         self.close(tag, outcome)
-    }
-
-    /// Puts octets behind the last list, without a header.
-    fn append_encoded(&mut self, octets: &[u8]) -> Result<(), EncodeError>
-        ensures ok { OnOk result (self.new ≡ appended self.old octets.now []) }
-        ensures err { OnErr result (self.new ≡ self.old) }
-        ensures memory_alone { IfErr result (IsAllocError self.old.rule) }
-    {
-        self.writer.append_encoded(octets)
     }
 }
 

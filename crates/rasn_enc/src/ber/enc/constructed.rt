@@ -54,19 +54,9 @@ impl Encoder {
         ensures refused { IfErr result (λ e. (outcome ≡ Err e) ⊎ ((outcome ≡ Ok tt) × FailsAtTags self.now e)) }
     {
         match outcome {
-            Ok(()) if self.writer.kept_tags_out_of_order() => Err(out_of_order(self.codec())),
+            Ok(()) if self.kept_tags_out_of_order() => Err(out_of_order(self.codec())),
             outcome => outcome,
         }
-    }
-
-    /// Opens a value: its contents are the last list now.
-    #[inline(always)]
-    pub(super) fn open(&mut self, keeps_tags: bool) -> Result<(), EncodeError>
-        ensures ok { OnOk result (self.new ≡ opened self.old keeps_tags) }
-        ensures err { OnErr result (self.new ≡ self.old) }
-        ensures memory_alone { IfErr result (IsAllocError self.old.rule) }
-    {
-        self.writer.begin(keeps_tags)
     }
 
     /// Closes the value that was opened last, or drops it where its contents were refused.
@@ -83,9 +73,9 @@ impl Encoder {
         ensures refused { IfErr result (λ e. IsAllocError self.old.rule e ⊎ (outcome ≡ Err e)) }
     {
         match outcome {
-            Ok(()) => self.writer.finish(tag),
+            Ok(()) => self.finish(tag),
             Err(error) => {
-                self.writer.abandon();
+                self.abandon();
                 Err(error)
             }
         }
@@ -102,11 +92,11 @@ impl Encoder {
         ensures err { OnErr result (self.new ≡ self.old) }
         ensures refused { IfErr result (MayFail F.FnOnce values self.old) }
     {
-        let end = self.writer.end();
+        let end = self.end();
         match run(self, values) {
             Ok(value) => Ok(value),
             Err(error) => {
-                self.writer.cut_back(end);
+                self.cut_back(end);
                 Err(error)
             }
         }

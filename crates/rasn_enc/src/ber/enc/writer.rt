@@ -2,7 +2,8 @@
 //!
 //! Values are gathered one behind the other in one vector. A value that holds others leaves room in front of its contents for the two octets
 //! that its header has at least. Where it has more, a deferred header tells what comes still: these octets are put in once, from the back,
-//! when the output is asked for.
+//! when the output is asked for. The contracts of these calls speak of views alone, so that another way to hold the octets is another body of
+//! these calls.
 ghost use Rattle.std.specs.Prelude.{ℕ, List, ◌≡◌, ◌<◌, ◌≤◌, ◌-◌, [], ◌⊎◌, length, take, drop, IfOk, IfErr, OnOk, OnErr, false};
 ghost use Rattle.std.specs.Fn.{FnOnceTakesAtMut};
 ghost use Rattle.rasn_types.specs.Truth.{IsWhether, IsUnless};
@@ -17,7 +18,6 @@ ghost use Rattle.rasn_enc.specs.Order.{octets_less, FallsBetween};
 ghost use Rattle.rasn_enc.specs.declared.ber.enc.writer.filled.FillError.TheVariants.{NoMemory};
 ghost use Rattle.rasn_enc.specs.Buffer.Filled.{OnlyAppendsOctets, MayFailToFill, AppendsFilled};
 
-use crate::ber::enc::out_of_memory;
 use crate::ber::enc::writer::cursors::{place, rendered_before};
 use crate::ber::enc::writer::cutting::cut;
 use crate::ber::enc::writer::deferred_headers::{DeferredHeader, ROOM};
@@ -26,10 +26,10 @@ use crate::ber::enc::writer::gathering::{gather, gather_filled, surround};
 use crate::ber::enc::writer::kept_tags::{cut_tags, tags_out_of_order};
 use crate::ber::enc::writer::open_values::{pop_innermost, push_innermost};
 use crate::ber::enc::writer::rendering::rendered_from;
+use crate::ber::enc::{Encoder, out_of_memory};
 use rasn_types::error::EncodeError;
 use rasn_types::types::{Codec, Tag};
 use std::alloc::Global;
-use std::marker::Model;
 use std::mem;
 
 pub(super) mod base_128;
@@ -74,39 +74,10 @@ pub struct Open {
     pub last: usize,
 }
 
-/// Holds what is written. The contracts of its calls speak of views alone, so that another way to hold it is another body of these.
-#[derive(Drop)]
-pub struct Writer {
-    alloc: Global,
-    rule: Codec,
-    gathered: Vec<u8>,
-    headers: Vec<DeferredHeader>,
-    list: ValueList,
-    /// The open values around the innermost one, the outermost first.
-    around: Vec<Open>,
-    /// The innermost open value. It stands apart, so that one alone asks for no memory.
-    innermost: Option<Open>,
-}
-
-impl Model for Writer {
-    ghost use Rattle.std.specs.Prelude.{map};
-    ghost use Rattle.rasn_enc.specs.View.{View};
-
-    ghost Value = { View };
-
-    ghost use Rattle.rasn_enc.specs.Buffer.Lists.{tags_of};
-    ghost use Rattle.rasn_enc.specs.Buffer.OpenValues.{frame_in, Chain, opens, IsInnermost};
-    ghost use Rattle.rasn_enc.specs.Buffer.Cuts.{list_from, Sound};
-
-    ghost view = { λ e. record { rule = e.rule; below = map (frame_in e.gathered.items e.headers.items) (opens e.around.items e.innermost); last = record { octets = list_from e.gathered.items e.headers.items e.list.start e.list.first; tags = tags_of e.list.tags } } };
-
-    ghost invariant = { λ e. Sound e.gathered.items e.headers.items e.list.start e.list.first e.list.measured × Chain e.gathered.items e.headers.items 0 0 (opens e.around.items e.innermost) e.list.start e.list.first × IsInnermost e.around.items e.innermost };
-}
-
-impl Writer {
+impl Encoder {
     /// Nothing is written: the octets will be put into this vector, in the place of what it holds.
     #[inline(always)]
-    pub fn over(alloc: Global, rule: Codec, buffer: Vec<u8>, keeps_tags: bool) -> Writer
+    pub(super) fn empty(alloc: Global, rule: Codec, buffer: Vec<u8>, keeps_tags: bool) -> Encoder
         ensures { result ≡ started rule keeps_tags }
     {
         let mut gathered = buffer;
@@ -116,7 +87,7 @@ impl Writer {
         } else {
             None
         };
-        Writer {
+        Encoder {
             alloc,
             rule,
             gathered,
@@ -132,25 +103,13 @@ impl Writer {
         }
     }
 
-    /// The rules that it writes by.
-    pub fn rule(&self) -> Codec
-        ensures { result ≡ self.now.rule }
-    {
-        self.rule
-    }
-
-    /// The allocator that it writes with.
-    pub fn alloc(&self) -> Global {
-        self.alloc
-    }
-
     /// The octets of the last list.
     #[inline(always)]
-    pub fn output(self) -> Result<Vec<u8>, EncodeError>
+    pub(super) fn rendered(self) -> Result<Vec<u8>, EncodeError>
         ensures ok { IfOk result (λ v. v.items ≡ self.last.octets) }
         ensures refused { IfErr result (IsAllocError self.rule) }
     {
-        let Writer {
+        let Encoder {
             alloc: _,
             rule,
             gathered,
@@ -173,10 +132,10 @@ impl Writer {
 
     /// Opens a value: its contents are the last list now.
     #[inline(always)]
-    pub fn begin(&mut self, keeps_tags: bool) -> Result<(), EncodeError>
+    pub(super) fn open(&mut self, keeps_tags: bool) -> Result<(), EncodeError>
         ensures ok { OnOk result (self.new ≡ opened self.old keeps_tags) }
         ensures err { OnErr result (self.new ≡ self.old) }
-        ensures memory { IfErr result (IsAllocError self.old.rule) }
+        ensures memory_alone { IfErr result (IsAllocError self.old.rule) }
     {
         let rule = self.rule;
         if self.gathered.reserve(ROOM).is_err() {
@@ -208,7 +167,7 @@ impl Writer {
     }
 
     /// Drops the value that was opened last, with its contents.
-    pub fn abandon(&mut self)
+    pub(super) fn abandon(&mut self)
         requires { 0 < length self.old.below }
         ensures { (v : View) → IsBelow v self.old → self.new ≡ v }
     {
@@ -220,7 +179,7 @@ impl Writer {
 
     /// Closes the value that was opened last: it stands behind the list below.
     #[inline(always)]
-    pub fn finish(&mut self, tag: Tag) -> Result<(), EncodeError>
+    pub(super) fn finish(&mut self, tag: Tag) -> Result<(), EncodeError>
         requires { 0 < length self.old.below }
         ensures ok { OnOk result ((v : View) → IsBelow v self.old → Appends (ConstructedEncoding v.rule tag self.old.last.octets) tag v self.new) }
         ensures err { OnErr result ((v : View) → IsBelow v self.old → self.new ≡ v) }
@@ -251,10 +210,10 @@ impl Writer {
 
     /// Puts a primitive value behind the last list.
     #[inline(always)]
-    pub fn leaf(&mut self, tag: Tag, contents: &[u8]) -> Result<(), EncodeError>
+    pub(super) fn leaf(&mut self, tag: Tag, contents: &[u8]) -> Result<(), EncodeError>
         ensures ok { OnOk result (Appends (PrimitiveEncoding tag contents.now) tag self.old self.new) }
         ensures err { OnErr result (self.new ≡ self.old) }
-        ensures memory { IfErr result (IsAllocError self.old.rule) }
+        ensures memory_alone { IfErr result (IsAllocError self.old.rule) }
     {
         match gather(
             &mut self.gathered,
@@ -273,7 +232,7 @@ impl Writer {
 
     /// Puts a primitive value behind the last list; `contents` writes its contents in place.
     #[inline(always)]
-    pub fn leaf_with<F: FnOnce(&mut Vec<u8>) -> Result<(), FillError>>(
+    pub(super) fn leaf_with<F: FnOnce(&mut Vec<u8>) -> Result<(), FillError>>(
         &mut self,
         tag: Tag,
         contents: F,
@@ -300,7 +259,7 @@ impl Writer {
     }
 
     /// Where the last list ends.
-    pub fn end(&self) -> ListEnd
+    pub(super) fn end(&self) -> ListEnd
         ensures { IsEndOf self.now.last result }
     {
         ListEnd {
@@ -310,7 +269,7 @@ impl Writer {
     }
 
     /// Takes off the last list what was put behind it since.
-    pub fn cut_back(&mut self, end: ListEnd)
+    pub(super) fn cut_back(&mut self, end: ListEnd)
         ensures { (v : View) (octets : List ℕ) (tags : List Tag) → IsEndOf v.last end → self.old ≡ appended v octets tags → self.new ≡ v }
     {
         if self.list.measured < end.octets {
@@ -329,14 +288,14 @@ impl Writer {
     }
 
     /// How many octets the last list has.
-    pub fn last_len(&self) -> usize
+    pub(super) fn last_len(&self) -> usize
         ensures { result ≡ length self.now.last.octets }
     {
         self.list.measured
     }
 
     /// Whether the octets of the last list from `middle` on are less than those from `from` to it (X.690 11.6).
-    pub fn neighbours_out_of_order(&self, from: usize, middle: usize) -> bool
+    pub(super) fn neighbours_out_of_order(&self, from: usize, middle: usize) -> bool
         requires order { from ≤ middle }
         requires within { middle ≤ length self.now.last.octets }
         ensures { IsWhether result (FallsBetween from middle self.now.last.octets) }
@@ -368,7 +327,7 @@ impl Writer {
     }
 
     /// Whether the tags that the last list keeps fall, each compared with the one before it (X.690 9.3).
-    pub fn kept_tags_out_of_order(&self) -> bool
+    pub(super) fn kept_tags_out_of_order(&self) -> bool
         ensures { IsUnless result (AreAscending IsTagBelow (kept_of self.now.last.tags)) }
     {
         match &self.list.tags {

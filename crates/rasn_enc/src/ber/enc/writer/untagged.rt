@@ -4,24 +4,23 @@ ghost use Rattle.rasn_types.specs.Truth.{IsUnless};
 ghost use Rattle.rasn_enc.specs.View.{appended};
 ghost use Rattle.rasn_enc.specs.Primitive.{IsAllocError};
 
-use crate::ber::enc::out_of_memory;
-use crate::ber::enc::writer::Writer;
 use crate::ber::enc::writer::gathering::gather_octets;
+use crate::ber::enc::{Encoder, out_of_memory};
 use rasn_types::error::EncodeError;
 
-impl Writer {
+impl Encoder {
     /// Whether the last list keeps the outermost tags of what stands in it.
-    pub fn keeps_tags(&self) -> bool
+    pub(crate) fn keeps_tags(&self) -> bool
         ensures { IsUnless result (self.now.last.tags ≡ None) }
     {
         self.list.tags.is_some()
     }
 
     /// Puts octets behind the last list, without a header and without a tag.
-    pub fn append_encoded(&mut self, octets: &[u8]) -> Result<(), EncodeError>
+    pub(crate) fn append_encoded(&mut self, octets: &[u8]) -> Result<(), EncodeError>
         ensures ok { OnOk result (self.new ≡ appended self.old octets.now []) }
         ensures err { OnErr result (self.new ≡ self.old) }
-        ensures memory { IfErr result (IsAllocError self.old.rule) }
+        ensures memory_alone { IfErr result (IsAllocError self.old.rule) }
     {
         match gather_octets(&mut self.gathered, self.list.measured, octets) {
             Ok(total) => {

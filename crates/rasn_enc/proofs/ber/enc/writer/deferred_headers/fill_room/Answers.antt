@@ -1,4 +1,4 @@
-use Rattle.std.proofs.Common.{rules, ◌≡◌, ◌∙◌, ◌+◌, ◌++◌, ap, arith, length, take, drop, get_or}
+use Rattle.std.proofs.Common.{rules, ◌≡◌, ◌∙◌, ◌+◌, ◌++◌, ap, arith, length, drop, get_or}
 use Rattle.rasn_enc.specs.Buffer.DeferredHeaders.{header_octets}
 use Rattle.rasn_enc.proofs.Buffer.Headers.{header_two, room_filled, take-drop_length, spelled_rest, spelled_octet, spelled_off}
 use Rattle.rasn_enc.proofs.ber.enc.writer.deferred_headers.fill_room.Goals as goal

@@ -1,4 +1,4 @@
-use Rattle.std.proofs.Common.{rules, arith, ap, ◌≡◌, ◌∙◌, ◌+◌, ◌-◌, ◌++◌, length, take, drop}
+use Rattle.std.proofs.Common.{rules, arith, ap, ◌≡◌, ◌∙◌, ◌++◌, length, take, drop}
 use Rattle.std.proofs.lemmas.List.{take-take}
 use Rattle.rasn_enc.specs.Headers.{length_octets}
 use Rattle.rasn_enc.specs.Buffer.HeaderRest.{rest_octets}

@@ -3,7 +3,7 @@ use Rattle.rasn_enc.specs.Buffer.Lists.{tags_of}
 use Rattle.rasn_enc.specs.Buffer.OpenValues.{opens}
 use Rattle.rasn_enc.specs.declared.ber.enc.writer.Open.{Open}
 use Rattle.rasn_enc.proofs.Buffer.OpenValues.{begun, begun-sound, begun-chain}
-use Rattle.rasn_enc.proofs.ber.enc.writer.Writer.begin.Goals as goal
+use Rattle.rasn_enc.proofs.ber.enc.Encoder.open.Goals as goal
 
 pub invariant_of-self-in-Ok : goal.invariant_of-self-in-Ok
 invariant_of-self-in-Ok c =

@@ -3,7 +3,7 @@ use Rattle.rasn_enc.specs.Buffer.Lists.{tags_of}
 use Rattle.rasn_enc.proofs.Buffer.OpenValues.{top, cut-chain, cut-view, finish-sound, finish-chain, finish-appends}
 use Rattle.rasn_enc.specs.Buffer.OpenValues.{opens}
 use Rattle.rasn_enc.proofs.Buffer.OpenValues.{is_open}
-use Rattle.rasn_enc.proofs.ber.enc.writer.Writer.finish.Goals as goal
+use Rattle.rasn_enc.proofs.ber.enc.Encoder.finish.Goals as goal
 
 pub surround-closed-requires-clause-room : goal.surround-closed-requires-clause-room
 surround-closed-requires-clause-room c =

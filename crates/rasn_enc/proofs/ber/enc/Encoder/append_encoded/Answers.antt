@@ -3,7 +3,7 @@ use Rattle.rasn_enc.specs.Buffer.Lists.{tags_of}
 use Rattle.rasn_enc.proofs.Buffer.OpenValues.{put-there, put-sound, put-chain}
 use Rattle.rasn_enc.proofs.OwnTypes.Sequence.{tags-nil}
 use Rattle.rasn_enc.specs.Buffer.OpenValues.{opens}
-use Rattle.rasn_enc.proofs.ber.enc.writer.Writer.append_encoded.Goals as goal
+use Rattle.rasn_enc.proofs.ber.enc.Encoder.append_encoded.Goals as goal
 
 pub invariant_of-self : goal.invariant_of-self
 invariant_of-self c = (

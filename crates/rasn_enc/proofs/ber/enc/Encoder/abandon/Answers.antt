@@ -2,7 +2,7 @@ use Rattle.std.proofs.Common.{ap, ◌∙◌, ◌++◌, ◌∷◌, [], ◌≡◌}
 use Rattle.rasn_enc.proofs.Buffer.OpenValues.{top, cut-chain, cut-view}
 use Rattle.rasn_enc.specs.Buffer.OpenValues.{opens}
 use Rattle.rasn_enc.proofs.Buffer.OpenValues.{is_open}
-use Rattle.rasn_enc.proofs.ber.enc.writer.Writer.abandon.Goals as goal
+use Rattle.rasn_enc.proofs.ber.enc.Encoder.abandon.Goals as goal
 
 pub invariant_of-self : goal.invariant_of-self
 invariant_of-self c =

@@ -2,7 +2,7 @@ use Rattle.std.proofs.Common.{◌∷◌, []}
 use Rattle.rasn_enc.specs.Buffer.Lists.{tags_of}
 use Rattle.rasn_enc.proofs.Buffer.OpenValues.{put-there, put-sound, put-chain}
 use Rattle.rasn_enc.specs.Buffer.OpenValues.{opens}
-use Rattle.rasn_enc.proofs.ber.enc.writer.Writer.leaf.Goals as goal
+use Rattle.rasn_enc.proofs.ber.enc.Encoder.leaf.Goals as goal
 
 pub invariant_of-self : goal.invariant_of-self
 invariant_of-self c = (

@@ -2,7 +2,7 @@ use Rattle.std.proofs.Common.{arith, ◌∙◌}
 use Rattle.rasn_enc.specs.Buffer.Lists.{tags_of}
 use Rattle.rasn_enc.proofs.Buffer.CutBack.{end_within, cut_view, cut_chained}
 use Rattle.rasn_enc.specs.Buffer.OpenValues.{opens}
-use Rattle.rasn_enc.proofs.ber.enc.writer.Writer.cut_back.Goals as goal
+use Rattle.rasn_enc.proofs.ber.enc.Encoder.cut_back.Goals as goal
 
 pub returns-then-self-end : goal.returns-then-self-end
 returns-then-self-end c = λ v octets tags m e.
