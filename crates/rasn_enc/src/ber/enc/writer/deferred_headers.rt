@@ -59,6 +59,7 @@ pub fn header_len(head: HeaderForm) -> usize
 }
 
 /// Writes a header.
+#[inline(always)]
 fn write_header(octets: &mut Vec<u8>, head: HeaderForm)
     requires { vec_len octets.old + length (header_octets head) ≤ vec_capacity octets.old }
     ensures { octets.new.items ≡ octets.old.items ++ header_octets head }
@@ -76,6 +77,7 @@ fn write_header(octets: &mut Vec<u8>, head: HeaderForm)
 }
 
 /// Fills the room for a header, which is written behind all and taken off there, and gives its octets that have no room.
+#[inline(always)]
 fn fill_room(octets: &mut Vec<u8>, at: usize, head: HeaderForm) -> Result<HeaderRest, AllocError>
     requires { at + 2 ≤ vec_len octets.old }
     ensures rest { IfOk result (λ rest. rest_octets rest ≡ drop 2 (header_octets head)) }

@@ -23,6 +23,7 @@ impl HeaderRest {
     }
 
     /// These octets.
+    #[inline(always)]
     pub fn from_slice(octets: &[u8]) -> HeaderRest
         requires { length octets.now ≤ 15 }
         ensures { rest_octets result ≡ octets.now }
