@@ -30,7 +30,7 @@ pub trait Decode: AsnType {
     /// # Errors
     /// As `decode_with_tag_and_constraints`.
     #[inline(always)]
-    fn decode(decoder: &mut Decoder<'_>) -> Result<Self, DecodeError>
+    final fn decode(decoder: &mut Decoder<'_>) -> Result<Self, DecodeError>
         ensures { Decodes Self.shape Self.tree decoder.old result decoder.new }
     {
         Self::decode_with_tag_and_constraints(decoder, Self::TAG, &Self::CONSTRAINTS)
@@ -40,7 +40,7 @@ pub trait Decode: AsnType {
     ///
     /// # Errors
     /// As `decode_with_tag_and_constraints`.
-    fn decode_with_tag(decoder: &mut Decoder<'_>, tag: Tag) -> Result<Self, DecodeError>
+    final fn decode_with_tag(decoder: &mut Decoder<'_>, tag: Tag) -> Result<Self, DecodeError>
         ensures { Decodes (tagged_as tag Self.CONSTRAINTS Self.shape) Self.tree decoder.old result decoder.new }
     {
         Self::decode_with_tag_and_constraints(decoder, tag, &Self::CONSTRAINTS)
@@ -50,7 +50,7 @@ pub trait Decode: AsnType {
     ///
     /// # Errors
     /// As `decode_with_tag_and_constraints`.
-    fn decode_with_constraints(
+    final fn decode_with_constraints(
         decoder: &mut Decoder<'_>,
         constraints: &Constraints,
     ) -> Result<Self, DecodeError>

@@ -27,7 +27,7 @@ pub trait Encode: AsnType {
 
     /// Writes the value.
     #[inline(always)]
-    fn encode(&self, encoder: &mut Encoder) -> Result<(), EncodeError>
+    final fn encode(&self, encoder: &mut Encoder) -> Result<(), EncodeError>
         ensures ok { OnOk result (AppendsEncoding Self.shape (Self.tree self.now) encoder.old encoder.new) }
         ensures err { OnErr result (encoder.new ≡ encoder.old) }
         ensures refused { IfErr result (EncodeFails Self.shape (Self.tree self.now) encoder.old) }
@@ -41,7 +41,7 @@ pub trait Encode: AsnType {
     }
 
     /// Writes the value under this tag.
-    fn encode_with_tag(
+    final fn encode_with_tag(
         &self,
         encoder: &mut Encoder,
         tag: Tag,
@@ -55,7 +55,7 @@ pub trait Encode: AsnType {
     }
 
     /// Writes the value under these constraints.
-    fn encode_with_constraints(
+    final fn encode_with_constraints(
         &self,
         encoder: &mut Encoder,
         constraints: &Constraints,

@@ -52,11 +52,6 @@ impl<'input> Decoder<'input> {
 }
 
 impl Decode for bool {
-    #[inline(always)]
-    fn decode(decoder: &mut Decoder<'_>) -> Result<bool, DecodeError> {
-        decoder.decode_bool(Tag::BOOL)
-    }
-
     #[tactic(auto, unfolding(rasn_types::specs::Grammar::Reads))]
     #[inline(always)]
     fn decode_with_tag_and_constraints(

@@ -265,11 +265,6 @@ impl<'input> Decoder<'input> {
 
 impl<S: StringType> Decode for RestrictedString<S> {
     #[inline(always)]
-    fn decode(decoder: &mut Decoder<'_>) -> Result<RestrictedString<S>, DecodeError> {
-        decoder.restricted(S::TAG, &Constraints::NONE)
-    }
-
-    #[inline(always)]
     fn decode_with_tag_and_constraints(
         decoder: &mut Decoder<'_>,
         tag: Tag,
@@ -290,11 +285,6 @@ impl Decode for BmpString {
 }
 
 impl Decode for String {
-    #[inline(always)]
-    fn decode(decoder: &mut Decoder<'_>) -> Result<String, DecodeError> {
-        decoder.decode_utf8_string(Tag::UTF8_STRING, &Constraints::NONE)
-    }
-
     #[inline(always)]
     fn decode_with_tag_and_constraints(
         decoder: &mut Decoder<'_>,

@@ -83,11 +83,6 @@ impl<'input> Decoder<'input> {
 
 impl Decode for i8 {
     #[inline(always)]
-    fn decode(decoder: &mut Decoder<'_>) -> Result<i8, DecodeError> {
-        decoder.decode_integer::<i8>(Tag::INTEGER, &Constraints::NONE)
-    }
-
-    #[inline(always)]
     fn decode_with_tag_and_constraints(
         decoder: &mut Decoder<'_>,
         tag: Tag,
@@ -98,11 +93,6 @@ impl Decode for i8 {
 }
 
 impl Decode for i16 {
-    #[inline(always)]
-    fn decode(decoder: &mut Decoder<'_>) -> Result<i16, DecodeError> {
-        decoder.decode_integer::<i16>(Tag::INTEGER, &Constraints::NONE)
-    }
-
     #[inline(always)]
     fn decode_with_tag_and_constraints(
         decoder: &mut Decoder<'_>,
@@ -115,11 +105,6 @@ impl Decode for i16 {
 
 impl Decode for i32 {
     #[inline(always)]
-    fn decode(decoder: &mut Decoder<'_>) -> Result<i32, DecodeError> {
-        decoder.decode_integer::<i32>(Tag::INTEGER, &Constraints::NONE)
-    }
-
-    #[inline(always)]
     fn decode_with_tag_and_constraints(
         decoder: &mut Decoder<'_>,
         tag: Tag,
@@ -130,11 +115,6 @@ impl Decode for i32 {
 }
 
 impl Decode for i64 {
-    #[inline(always)]
-    fn decode(decoder: &mut Decoder<'_>) -> Result<i64, DecodeError> {
-        decoder.decode_integer::<i64>(Tag::INTEGER, &Constraints::NONE)
-    }
-
     #[inline(always)]
     fn decode_with_tag_and_constraints(
         decoder: &mut Decoder<'_>,
@@ -147,11 +127,6 @@ impl Decode for i64 {
 
 impl Decode for i128 {
     #[inline(always)]
-    fn decode(decoder: &mut Decoder<'_>) -> Result<i128, DecodeError> {
-        decoder.decode_integer::<i128>(Tag::INTEGER, &Constraints::NONE)
-    }
-
-    #[inline(always)]
     fn decode_with_tag_and_constraints(
         decoder: &mut Decoder<'_>,
         tag: Tag,
@@ -162,11 +137,6 @@ impl Decode for i128 {
 }
 
 impl Decode for isize {
-    #[inline(always)]
-    fn decode(decoder: &mut Decoder<'_>) -> Result<isize, DecodeError> {
-        decoder.decode_integer::<isize>(Tag::INTEGER, &Constraints::NONE)
-    }
-
     #[inline(always)]
     fn decode_with_tag_and_constraints(
         decoder: &mut Decoder<'_>,
@@ -179,11 +149,6 @@ impl Decode for isize {
 
 impl Decode for u8 {
     #[inline(always)]
-    fn decode(decoder: &mut Decoder<'_>) -> Result<u8, DecodeError> {
-        decoder.decode_integer::<u8>(Tag::INTEGER, &Constraints::NONE)
-    }
-
-    #[inline(always)]
     fn decode_with_tag_and_constraints(
         decoder: &mut Decoder<'_>,
         tag: Tag,
@@ -194,11 +159,6 @@ impl Decode for u8 {
 }
 
 impl Decode for u16 {
-    #[inline(always)]
-    fn decode(decoder: &mut Decoder<'_>) -> Result<u16, DecodeError> {
-        decoder.decode_integer::<u16>(Tag::INTEGER, &Constraints::NONE)
-    }
-
     #[inline(always)]
     fn decode_with_tag_and_constraints(
         decoder: &mut Decoder<'_>,
@@ -211,11 +171,6 @@ impl Decode for u16 {
 
 impl Decode for u32 {
     #[inline(always)]
-    fn decode(decoder: &mut Decoder<'_>) -> Result<u32, DecodeError> {
-        decoder.decode_integer::<u32>(Tag::INTEGER, &Constraints::NONE)
-    }
-
-    #[inline(always)]
     fn decode_with_tag_and_constraints(
         decoder: &mut Decoder<'_>,
         tag: Tag,
@@ -226,11 +181,6 @@ impl Decode for u32 {
 }
 
 impl Decode for u64 {
-    #[inline(always)]
-    fn decode(decoder: &mut Decoder<'_>) -> Result<u64, DecodeError> {
-        decoder.decode_integer::<u64>(Tag::INTEGER, &Constraints::NONE)
-    }
-
     #[inline(always)]
     fn decode_with_tag_and_constraints(
         decoder: &mut Decoder<'_>,
@@ -243,11 +193,6 @@ impl Decode for u64 {
 
 impl Decode for u128 {
     #[inline(always)]
-    fn decode(decoder: &mut Decoder<'_>) -> Result<u128, DecodeError> {
-        decoder.decode_integer::<u128>(Tag::INTEGER, &Constraints::NONE)
-    }
-
-    #[inline(always)]
     fn decode_with_tag_and_constraints(
         decoder: &mut Decoder<'_>,
         tag: Tag,
@@ -259,11 +204,6 @@ impl Decode for u128 {
 
 impl Decode for usize {
     #[inline(always)]
-    fn decode(decoder: &mut Decoder<'_>) -> Result<usize, DecodeError> {
-        decoder.decode_integer::<usize>(Tag::INTEGER, &Constraints::NONE)
-    }
-
-    #[inline(always)]
     fn decode_with_tag_and_constraints(
         decoder: &mut Decoder<'_>,
         tag: Tag,
@@ -274,11 +214,6 @@ impl Decode for usize {
 }
 
 impl Decode for Integer {
-    #[inline(always)]
-    fn decode(decoder: &mut Decoder<'_>) -> Result<Integer, DecodeError> {
-        decoder.decode_integer::<Integer>(Tag::INTEGER, &Constraints::NONE)
-    }
-
     #[inline(always)]
     fn decode_with_tag_and_constraints(
         decoder: &mut Decoder<'_>,

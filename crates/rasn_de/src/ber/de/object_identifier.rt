@@ -63,12 +63,8 @@ impl<'input> Decoder<'input> {
 }
 
 impl Decode for ObjectIdentifier {
-    #[inline(always)]
-    fn decode(decoder: &mut Decoder<'_>) -> Result<ObjectIdentifier, DecodeError> {
-        decoder.decode_object_identifier(Tag::OBJECT_IDENTIFIER)
-    }
-
     #[tactic(auto, unfolding(rasn_types::specs::Grammar::Reads))]
+    #[inline(always)]
     fn decode_with_tag_and_constraints(
         decoder: &mut Decoder<'_>,
         tag: Tag,

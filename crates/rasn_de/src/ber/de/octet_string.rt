@@ -82,11 +82,6 @@ impl<'input> Decoder<'input> {
 }
 
 impl Decode for OctetString {
-    #[inline(always)]
-    fn decode(decoder: &mut Decoder<'_>) -> Result<OctetString, DecodeError> {
-        Self::decode_with_tag_and_constraints(decoder, Tag::OCTET_STRING, &Constraints::NONE)
-    }
-
     #[tactic(auto, unfolding(rasn_types::specs::Grammar::Reads))]
     #[inline(always)]
     fn decode_with_tag_and_constraints(

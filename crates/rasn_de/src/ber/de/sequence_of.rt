@@ -68,11 +68,6 @@ impl<'input> Decoder<'input> {
 
 impl<T: Decode> Decode for Vec<T> {
     #[inline(always)]
-    fn decode(decoder: &mut Decoder<'_>) -> Result<Vec<T>, DecodeError> {
-        decoder.decode_sequence_of::<T>(Tag::SEQUENCE, &Constraints::NONE)
-    }
-
-    #[inline(always)]
     fn decode_with_tag_and_constraints(
         decoder: &mut Decoder<'_>,
         tag: Tag,

@@ -33,11 +33,6 @@ impl Encoder {
 
 impl Encode for bool {
     #[inline(always)]
-    fn encode(&self, encoder: &mut Encoder) -> Result<(), EncodeError> {
-        encoder.encode_bool(Tag::BOOL, *self, Identifier::EMPTY)
-    }
-
-    #[inline(always)]
     fn encode_with_tag_and_constraints(
         &self,
         encoder: &mut Encoder,

@@ -85,11 +85,6 @@ fn refused_number(
 
 impl Encode for i8 {
     #[inline(always)]
-    fn encode(&self, encoder: &mut Encoder) -> Result<(), EncodeError> {
-        encoder.encode_integer::<i8>(Tag::INTEGER, &Constraints::NONE, self, Identifier::EMPTY)
-    }
-
-    #[inline(always)]
     fn encode_with_tag_and_constraints(
         &self,
         encoder: &mut Encoder,
@@ -106,11 +101,6 @@ impl Encode for i8 {
 }
 
 impl Encode for i16 {
-    #[inline(always)]
-    fn encode(&self, encoder: &mut Encoder) -> Result<(), EncodeError> {
-        encoder.encode_integer::<i16>(Tag::INTEGER, &Constraints::NONE, self, Identifier::EMPTY)
-    }
-
     #[inline(always)]
     fn encode_with_tag_and_constraints(
         &self,
@@ -129,11 +119,6 @@ impl Encode for i16 {
 
 impl Encode for i32 {
     #[inline(always)]
-    fn encode(&self, encoder: &mut Encoder) -> Result<(), EncodeError> {
-        encoder.encode_integer::<i32>(Tag::INTEGER, &Constraints::NONE, self, Identifier::EMPTY)
-    }
-
-    #[inline(always)]
     fn encode_with_tag_and_constraints(
         &self,
         encoder: &mut Encoder,
@@ -150,11 +135,6 @@ impl Encode for i32 {
 }
 
 impl Encode for i64 {
-    #[inline(always)]
-    fn encode(&self, encoder: &mut Encoder) -> Result<(), EncodeError> {
-        encoder.encode_integer::<i64>(Tag::INTEGER, &Constraints::NONE, self, Identifier::EMPTY)
-    }
-
     #[inline(always)]
     fn encode_with_tag_and_constraints(
         &self,
@@ -173,11 +153,6 @@ impl Encode for i64 {
 
 impl Encode for i128 {
     #[inline(always)]
-    fn encode(&self, encoder: &mut Encoder) -> Result<(), EncodeError> {
-        encoder.encode_integer::<i128>(Tag::INTEGER, &Constraints::NONE, self, Identifier::EMPTY)
-    }
-
-    #[inline(always)]
     fn encode_with_tag_and_constraints(
         &self,
         encoder: &mut Encoder,
@@ -194,11 +169,6 @@ impl Encode for i128 {
 }
 
 impl Encode for isize {
-    #[inline(always)]
-    fn encode(&self, encoder: &mut Encoder) -> Result<(), EncodeError> {
-        encoder.encode_integer::<isize>(Tag::INTEGER, &Constraints::NONE, self, Identifier::EMPTY)
-    }
-
     #[inline(always)]
     fn encode_with_tag_and_constraints(
         &self,
@@ -217,11 +187,6 @@ impl Encode for isize {
 
 impl Encode for u8 {
     #[inline(always)]
-    fn encode(&self, encoder: &mut Encoder) -> Result<(), EncodeError> {
-        encoder.encode_integer::<u8>(Tag::INTEGER, &Constraints::NONE, self, Identifier::EMPTY)
-    }
-
-    #[inline(always)]
     fn encode_with_tag_and_constraints(
         &self,
         encoder: &mut Encoder,
@@ -238,11 +203,6 @@ impl Encode for u8 {
 }
 
 impl Encode for u16 {
-    #[inline(always)]
-    fn encode(&self, encoder: &mut Encoder) -> Result<(), EncodeError> {
-        encoder.encode_integer::<u16>(Tag::INTEGER, &Constraints::NONE, self, Identifier::EMPTY)
-    }
-
     #[inline(always)]
     fn encode_with_tag_and_constraints(
         &self,
@@ -261,11 +221,6 @@ impl Encode for u16 {
 
 impl Encode for u32 {
     #[inline(always)]
-    fn encode(&self, encoder: &mut Encoder) -> Result<(), EncodeError> {
-        encoder.encode_integer::<u32>(Tag::INTEGER, &Constraints::NONE, self, Identifier::EMPTY)
-    }
-
-    #[inline(always)]
     fn encode_with_tag_and_constraints(
         &self,
         encoder: &mut Encoder,
@@ -282,11 +237,6 @@ impl Encode for u32 {
 }
 
 impl Encode for u64 {
-    #[inline(always)]
-    fn encode(&self, encoder: &mut Encoder) -> Result<(), EncodeError> {
-        encoder.encode_integer::<u64>(Tag::INTEGER, &Constraints::NONE, self, Identifier::EMPTY)
-    }
-
     #[inline(always)]
     fn encode_with_tag_and_constraints(
         &self,
@@ -305,11 +255,6 @@ impl Encode for u64 {
 
 impl Encode for u128 {
     #[inline(always)]
-    fn encode(&self, encoder: &mut Encoder) -> Result<(), EncodeError> {
-        encoder.encode_integer::<u128>(Tag::INTEGER, &Constraints::NONE, self, Identifier::EMPTY)
-    }
-
-    #[inline(always)]
     fn encode_with_tag_and_constraints(
         &self,
         encoder: &mut Encoder,
@@ -327,11 +272,6 @@ impl Encode for u128 {
 
 impl Encode for usize {
     #[inline(always)]
-    fn encode(&self, encoder: &mut Encoder) -> Result<(), EncodeError> {
-        encoder.encode_integer::<usize>(Tag::INTEGER, &Constraints::NONE, self, Identifier::EMPTY)
-    }
-
-    #[inline(always)]
     fn encode_with_tag_and_constraints(
         &self,
         encoder: &mut Encoder,
@@ -348,11 +288,6 @@ impl Encode for usize {
 }
 
 impl Encode for Integer {
-    #[inline(always)]
-    fn encode(&self, encoder: &mut Encoder) -> Result<(), EncodeError> {
-        encoder.encode_integer::<Integer>(Tag::INTEGER, &Constraints::NONE, self, Identifier::EMPTY)
-    }
-
     #[inline(always)]
     fn encode_with_tag_and_constraints(
         &self,

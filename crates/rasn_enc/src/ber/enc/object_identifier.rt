@@ -143,16 +143,6 @@ impl Encoder {
 
 impl Encode for ObjectIdentifier {
     #[inline(always)]
-    fn encode(&self, encoder: &mut Encoder) -> Result<(), EncodeError> {
-        self.encode_with_tag_and_constraints(
-            encoder,
-            Tag::OBJECT_IDENTIFIER,
-            &Constraints::NONE,
-            Identifier::EMPTY,
-        )
-    }
-
-    #[inline(always)]
     fn encode_with_tag_and_constraints(
         &self,
         encoder: &mut Encoder,

@@ -32,16 +32,6 @@ impl Encoder {
 
 impl Encode for OctetString {
     #[inline(always)]
-    fn encode(&self, encoder: &mut Encoder) -> Result<(), EncodeError> {
-        self.encode_with_tag_and_constraints(
-            encoder,
-            Tag::OCTET_STRING,
-            &Constraints::NONE,
-            Identifier::EMPTY,
-        )
-    }
-
-    #[inline(always)]
     fn encode_with_tag_and_constraints(
         &self,
         encoder: &mut Encoder,

@@ -53,16 +53,6 @@ impl Encoder {
 
 impl<T: Encode> Encode for Vec<T> {
     #[inline(always)]
-    fn encode(&self, encoder: &mut Encoder) -> Result<(), EncodeError> {
-        self.encode_with_tag_and_constraints(
-            encoder,
-            Tag::SEQUENCE,
-            &Constraints::NONE,
-            Identifier::EMPTY,
-        )
-    }
-
-    #[inline(always)]
     fn encode_with_tag_and_constraints(
         &self,
         encoder: &mut Encoder,

@@ -35,10 +35,15 @@ fn first_arcs(alloc: Global, subidentifier: u32, behind: usize) -> Result<Vec<u3
     Ok(arcs)
 }
 
-/// The next subidentifier, and what follows it. Under DER it has no octet that it doesn't need.
+/// The next subidentifier, and what follows it. Under DER it has no octet that it doesn't need. One of a single octet, as most are, is told first.
+#[tactic(auto, unfolding(crate::specs::Headers::number128_at))]
+#[inline(always)]
 fn read_arc(rules: Codec, input: &[u8]) -> Result<(u32, &[u8]), ParseError>
     ensures { ParsesAs pair result (arc_at rules input.now) }
 {
+    if let [octet @ 0..=127, after @ ..] = input {
+        return Ok((u32::from(*octet), after));
+    }
     if is_der(rules) && is_padded(input) {
         return Err(ParseError::Der(DerDecodeErrorKind::NonMinimalArc));
     }
