@@ -1,4 +1,4 @@
-//! The tests of messages and programs, with octets that others made. They stand in a crate of their own, so that the tests of the library needn't wait
+//! The tests of messages, with octets that others made. They stand in a crate of their own, so that the tests of the library needn't wait
 //! for the messages.
 #![tactic(auto)]
 
@@ -6,5 +6,3 @@
 mod asserts;
 #[cfg(test)]
 mod messages;
-#[cfg(test)]
-mod program;

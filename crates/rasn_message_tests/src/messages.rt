@@ -1,10 +1,10 @@
 //! Messages of the standards, as others made them.
 
-pub(crate) mod certificate;
-pub(crate) mod cms;
+mod certificate;
+mod cms;
 mod extensions;
-pub(crate) mod ldap;
-pub(crate) mod request;
-pub(crate) mod revocation;
-pub(crate) mod snmp;
-pub(crate) mod spoilt;
+mod ldap;
+mod request;
+mod revocation;
+mod snmp;
+mod spoilt;

@@ -1,15 +1,14 @@
 //! Messages of SNMP, shown as text, and what is said of spoilt ones. The texts are those of the commands beside the octets, of what the agent printed, and
 //! of RFC 3416, 2578 and 1157.
 
-use crate::asserts::assert_facts;
-use crate::messages::ldap::UNBIND;
-use crate::messages::snmp::{
+use crate::answers::{has_line, is_answered};
+use crate::asserts::{assert_facts, spoilt};
+use crate::refusals::assert_refused;
+use rasn_samples::ldap::UNBIND;
+use rasn_samples::snmp::{
     END_OF_VIEW, GET, GET_BULK, GET_NEXT, INFORM, NOT_WRITABLE, RESPONSE, SET, TRAP,
     TRAP_OF_VERSION_1,
 };
-use crate::messages::spoilt::spoilt;
-use crate::program::answers::{has_line, is_answered};
-use crate::program::refusals::assert_refused;
 use std::alloc::Global;
 
 const GET_SHOWN: &str = "\

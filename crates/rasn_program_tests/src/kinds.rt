@@ -1,10 +1,10 @@
 //! Messages of each kind, shown as text.
 
+use crate::answers::is_answered;
 use crate::asserts::assert_facts;
-use crate::messages::cms::{MESSAGE, STREAMED};
-use crate::messages::request::REQUEST;
-use crate::messages::revocation::REVOCATION_LIST;
-use crate::program::answers::is_answered;
+use rasn_samples::cms::{MESSAGE, STREAMED};
+use rasn_samples::request::REQUEST;
+use rasn_samples::revocation::REVOCATION_LIST;
 use std::alloc::Global;
 
 // Made by OpenSSL 3.0: `openssl req -x509 -new -key k.pem -config c.cnf -set_serial 0x1234 -days 3650 -outform DER`, of a key on Ed25519, with the

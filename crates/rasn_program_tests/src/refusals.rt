@@ -1,10 +1,10 @@
 //! What the program says of octets that aren't a message: where and why.
 
-use crate::messages::certificate::CERTIFICATE;
-use crate::messages::cms::{MESSAGE, STREAMED};
-use crate::messages::request::REQUEST;
-use crate::messages::revocation::REVOCATION_LIST;
-use crate::program::answers::is_answered;
+use crate::answers::is_answered;
+use rasn_samples::certificate::CERTIFICATE;
+use rasn_samples::cms::{MESSAGE, STREAMED};
+use rasn_samples::request::REQUEST;
+use rasn_samples::revocation::REVOCATION_LIST;
 use std::alloc::{AllocError, Global};
 use std::process::Abort;
 

@@ -1,15 +1,14 @@
 //! Messages of LDAP, shown as text, and what is said of spoilt ones. The texts are those of the commands beside the octets, of the answers that the
 //! clients printed, and of RFC 4511.
 
-use crate::asserts::assert_facts;
-use crate::messages::ldap::{
+use crate::answers::{has_line, is_answered};
+use crate::asserts::{assert_facts, spoilt};
+use crate::refusals::assert_refused;
+use rasn_samples::ldap::{
     BIND, BIND_CONTINUES, BIND_STEP, BOUND, CHILDREN, DONE, ENTRY, EXTENDED, MODIFIED, MODIFY,
     REFERENCE, SEARCH, UNBIND, WHO,
 };
-use crate::messages::snmp::GET_NEXT;
-use crate::messages::spoilt::spoilt;
-use crate::program::answers::{has_line, is_answered};
-use crate::program::refusals::assert_refused;
+use rasn_samples::snmp::GET_NEXT;
 use std::alloc::Global;
 
 const BIND_SHOWN: &str = "\

@@ -1,10 +1,9 @@
 //! Messages that the program shows as text, and what it says of octets that aren't one.
 
-use crate::asserts::assert_facts;
-use crate::messages::certificate::CERTIFICATE;
-use crate::messages::spoilt::spoilt;
-use crate::program::answers::{answer, is_answered};
-use crate::program::faults::{Failing, Full, arguments};
+use crate::answers::{answer, is_answered};
+use crate::asserts::{assert_facts, spoilt};
+use crate::faults::{Failing, Full, arguments};
+use rasn_samples::certificate::CERTIFICATE;
 use rasn_text::{RunFault, call_of};
 use std::alloc::Global;
 use std::io::ErrorKind;

@@ -1,6 +1,6 @@
 //! What the program that shows messages answers.
 
-use crate::program::faults::arguments;
+use crate::faults::arguments;
 use rasn_text::{RunFault, call_of, run};
 use std::alloc::Global;
 use std::io::{Read, Write};

@@ -1,0 +1,28 @@
+//! What the tests share.
+
+use std::alloc::{AllocError, Global};
+use std::fmt::Debug;
+use std::process::Abort;
+
+/// A value as text.
+pub fn debug_text<T: Debug>(alloc: Global, value: &T) -> Result<String, AllocError> {
+    format!(in alloc; "{value:?}")
+}
+
+/// Asserts that each of these is true.
+pub fn assert_facts(rt: &impl Abort, facts: &[bool]) {
+    for (place, fact) in facts.iter().enumerate() {
+        assert!(rt; *fact, "{place}");
+    }
+}
+
+/// The octets with another one at this place.
+pub fn spoilt(rt: &impl Abort, alloc: Global, octets: &[u8], at: usize, octet: u8) -> Vec<u8> {
+    let Ok(mut copy) = Vec::from_slice(alloc, octets) else {
+        rt.abort()
+    };
+    if let Some(place) = copy.get_mut(at) {
+        *place = octet;
+    }
+    copy
+}

@@ -1,0 +1,9 @@
+//! Messages that other programs made, for the tests of messages and of the program that shows them.
+#![tactic(auto)]
+
+pub mod certificate;
+pub mod cms;
+pub mod ldap;
+pub mod request;
+pub mod revocation;
+pub mod snmp;
