@@ -10,12 +10,12 @@ use rasn::types::{
     Any, BitString, Codec, GeneralizedTime, Ia5String, Integer, LawfulEq, ObjectIdentifier,
     OctetString, PrintableString, UtcTime, Utf8String,
 };
-use rasn_messages::cms::SignedMessage;
-use rasn_messages::ldap::LdapMessage;
-use rasn_messages::pkcs10::CertificationRequest;
-use rasn_messages::snmp::Message;
-use rasn_messages::x509::Certificate;
-use rasn_messages::x509::revocation::CertificateList;
+use rasn_ldap::LdapMessage;
+use rasn_pki::cms::SignedMessage;
+use rasn_pki::pkcs10::CertificationRequest;
+use rasn_pki::x509::Certificate;
+use rasn_pki::x509::revocation::CertificateList;
+use rasn_snmp::Message;
 use std::alloc::Global;
 
 /// Answers to octets that are read as a value of a type.

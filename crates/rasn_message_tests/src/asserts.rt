@@ -43,8 +43,65 @@ pub fn assert_output(rt: &impl Abort, answer: Result<Vec<u8>, EncodeError>, octe
     }
 }
 
+/// The message that a call answers, behind which these octets have to be left.
+pub fn ahead_of<T>(
+    rt: &impl Abort,
+    answer: Result<(T, &[u8]), DecodeError>,
+    behind: &[u8],
+) -> Result<T, DecodeError> {
+    match answer {
+        Ok((message, rest)) => {
+            assert_eq!(rt; rest, behind);
+            Ok(message)
+        }
+        Err(error) => Err(error),
+    }
+}
+
+/// Asserts that a call answers a value with these parts.
+pub fn assert_has<T: Drop, F: Fn(&T) -> bool>(
+    rt: &impl Abort,
+    answer: Result<T, DecodeError>,
+    has_parts: F,
+)
+    requires { F.IsAlwaysCallable has_parts }
+{
+    let value = value(rt, answer);
+    assert!(rt; has_parts(&value));
+}
+
+/// Asserts that a call answers a value, of which `write` writes these octets.
+pub fn assert_written_as<T: Drop, W: Fn(Global, &T) -> Result<Vec<u8>, EncodeError>>(
+    rt: &impl Abort,
+    alloc: Global,
+    answer: Result<T, DecodeError>,
+    write: W,
+    octets: &[u8],
+)
+    requires { W.IsAlwaysCallable write }
+{
+    let value = value(rt, answer);
+    assert_output(rt, write(alloc, &value), octets);
+}
+
+/// Asserts that a call answers a value, and that what `write` writes of it is read by `read` as the same value.
+pub fn assert_read_back<
+    T: PartialEq + Drop,
+    W: Fn(Global, &T) -> Result<Vec<u8>, EncodeError>,
+    R: Fn(Global, &[u8]) -> Result<T, DecodeError>,
+>(rt: &impl Abort, alloc: Global, answer: Result<T, DecodeError>, write: W, read: R)
+    requires write { W.IsAlwaysCallable write }
+    requires read { R.IsAlwaysCallable read }
+{
+    let original = value(rt, answer);
+    match write(alloc, &original) {
+        Ok(octets) => assert!(rt; value(rt, read(alloc, &octets)) == original),
+        Err(error) => assert!(rt; false, "{:?}", error.kind),
+    }
+}
+
 /// The value that the octets begin with, by the entry point of these rules.
-fn decoded<T: Decode>(alloc: Global, rules: Codec, octets: &[u8]) -> Result<T, DecodeError> {
+pub fn decoded<T: Decode>(alloc: Global, rules: Codec, octets: &[u8]) -> Result<T, DecodeError> {
     match rules {
         Codec::Ber => ber::decode(alloc, octets),
         Codec::Cer => cer::decode(alloc, octets),

@@ -3,7 +3,7 @@
 
 use crate::answers::{has_line, is_answered};
 use crate::asserts::{assert_facts, spoilt};
-use crate::refusals::assert_refused;
+use crate::refusals::{Row, assert_refused};
 use rasn_samples::ldap::{
     BIND, BIND_CONTINUES, BIND_STEP, BOUND, CHILDREN, DONE, ENTRY, EXTENDED, MODIFIED, MODIFY,
     REFERENCE, SEARCH, UNBIND, WHO,
@@ -353,166 +353,157 @@ ldap
 // message; a version 0 (4.2), a name and a mechanism that aren't UTF-8 (4.1.2).
 #[test]
 fn spoilt_binds_are_refused(rt: HostRuntime) {
-    assert_refused(
-        &rt,
-        rt.alloc(),
-        &[
-            (
-                CALL,
-                UNBIND,
-                &[(6, 1, &[])],
-                "ldap: byte 0: BER: unexpected end of input, need 1 more octet\n",
-            ),
-            (
-                CALL,
-                UNBIND,
-                &[(5, 1, &[0x51])],
-                "ldap: protocolOp, byte 5: BER: no alternative of `ProtocolOp` has the tag\n",
-            ),
-            (
-                CALL,
-                GET_NEXT,
-                &[],
-                "ldap: protocolOp, byte 5: BER: no alternative of `ProtocolOp` has the tag\n",
-            ),
-            (
-                CALL,
-                UNBIND,
-                &[(7, 0, UNBIND)],
-                "ldap: byte 7: BER: 7 trailing octets\n",
-            ),
-            (
-                CALL,
-                BIND,
-                &[(9, 1, &[0x00])],
-                "ldap: protocolOp.bindRequest.version, byte 7: BER: number 0 violates the constraint 1..127\n",
-            ),
-            (
-                CALL,
-                BIND,
-                &[(12, 1, &[0xFF])],
-                "ldap: protocolOp.bindRequest.name, byte 10: BER: invalid string of type universal 12\n",
-            ),
-            (
-                CALL,
-                BIND_STEP,
-                &[(16, 1, &[0xFF])],
-                "ldap: protocolOp.bindRequest.authentication.sasl.mechanism, byte 14: BER: invalid string of type universal 12\n",
-            ),
-        ],
-    );
+    const ROWS: &[Row] = &[
+        (
+            CALL,
+            UNBIND,
+            &[(6, 1, &[])],
+            "ldap: byte 0: BER: unexpected end of input, need 1 more octet\n",
+        ),
+        (
+            CALL,
+            UNBIND,
+            &[(5, 1, &[0x51])],
+            "ldap: protocolOp, byte 5: BER: no alternative of `ProtocolOp` has the tag\n",
+        ),
+        (
+            CALL,
+            GET_NEXT,
+            &[],
+            "ldap: protocolOp, byte 5: BER: no alternative of `ProtocolOp` has the tag\n",
+        ),
+        (
+            CALL,
+            UNBIND,
+            &[(7, 0, UNBIND)],
+            "ldap: byte 7: BER: 7 trailing octets\n",
+        ),
+        (
+            CALL,
+            BIND,
+            &[(9, 1, &[0x00])],
+            "ldap: protocolOp.bindRequest.version, byte 7: BER: number 0 violates the constraint 1..127\n",
+        ),
+        (
+            CALL,
+            BIND,
+            &[(12, 1, &[0xFF])],
+            "ldap: protocolOp.bindRequest.name, byte 10: BER: invalid string of type universal 12\n",
+        ),
+        (
+            CALL,
+            BIND_STEP,
+            &[(16, 1, &[0xFF])],
+            "ldap: protocolOp.bindRequest.authentication.sasl.mechanism, byte 14: BER: invalid string of type universal 12\n",
+        ),
+    ];
+    assert_refused(&rt, rt.alloc(), ROWS);
 }
 
 // The rows: a number that derefAliases doesn't have (RFC 4511, 4.5.1), a negative limit (4.1.1), an attribute and a control whose names aren't UTF-8
 // (4.1.2), a DEFAULT that DER doesn't write (X.690 11.5), a value of another type, and a type that isn't UTF-8.
 #[test]
 fn spoilt_searches_are_refused(rt: HostRuntime) {
-    assert_refused(
-        &rt,
-        rt.alloc(),
-        &[
-            (
-                CALL,
-                SEARCH,
-                &[(24, 1, &[0x04])],
-                "ldap: protocolOp.searchRequest.derefAliases, byte 22: BER: no enumeration item has the number 4\n",
-            ),
-            (
-                CALL,
-                SEARCH,
-                &[(27, 1, &[0xFF])],
-                "ldap: protocolOp.searchRequest.sizeLimit, byte 25: BER: number is out of range for a type of 32 bits\n",
-            ),
-            (
-                CALL,
-                SEARCH,
-                &[(67, 1, &[0xFF])],
-                "ldap: protocolOp.searchRequest.attributes[1], byte 65: BER: invalid string of type universal 12\n",
-            ),
-            (
-                CALL,
-                SEARCH,
-                &[(76, 1, &[0xFF])],
-                "ldap: controls[0].controlType, byte 74: BER: invalid string of type universal 12\n",
-            ),
-            (
-                &["ldap"],
-                USUAL,
-                &[],
-                "ldap: controls[0].criticality, byte 14: DER: component with its DEFAULT value is encoded\n",
-            ),
-            (
-                CALL,
-                ENTRY,
-                &[(37, 1, &[0x02])],
-                "ldap: protocolOp.searchResEntry.attributes[0].vals[1], byte 37: BER: unexpected tag universal 2, expected universal 4\n",
-            ),
-            (
-                CALL,
-                ENTRY,
-                &[(44, 1, &[0xC3])],
-                "ldap: protocolOp.searchResEntry.attributes[1].type, byte 42: BER: invalid string of type universal 12\n",
-            ),
-        ],
-    );
+    const ROWS: &[Row] = &[
+        (
+            CALL,
+            SEARCH,
+            &[(24, 1, &[0x04])],
+            "ldap: protocolOp.searchRequest.derefAliases, byte 22: BER: no enumeration item has the number 4\n",
+        ),
+        (
+            CALL,
+            SEARCH,
+            &[(27, 1, &[0xFF])],
+            "ldap: protocolOp.searchRequest.sizeLimit, byte 25: BER: number is out of range for a type of 32 bits\n",
+        ),
+        (
+            CALL,
+            SEARCH,
+            &[(67, 1, &[0xFF])],
+            "ldap: protocolOp.searchRequest.attributes[1], byte 65: BER: invalid string of type universal 12\n",
+        ),
+        (
+            CALL,
+            SEARCH,
+            &[(76, 1, &[0xFF])],
+            "ldap: controls[0].controlType, byte 74: BER: invalid string of type universal 12\n",
+        ),
+        (
+            &["ldap"],
+            USUAL,
+            &[],
+            "ldap: controls[0].criticality, byte 14: DER: component with its DEFAULT value is encoded\n",
+        ),
+        (
+            CALL,
+            ENTRY,
+            &[(37, 1, &[0x02])],
+            "ldap: protocolOp.searchResEntry.attributes[0].vals[1], byte 37: BER: unexpected tag universal 2, expected universal 4\n",
+        ),
+        (
+            CALL,
+            ENTRY,
+            &[(44, 1, &[0xC3])],
+            "ldap: protocolOp.searchResEntry.attributes[1].type, byte 42: BER: invalid string of type universal 12\n",
+        ),
+    ];
+    assert_refused(&rt, rt.alloc(), ROWS);
 }
 
 // The rows: results whose code isn't an ENUMERATED and whose name isn't UTF-8, a URI of another type, a change that isn't one, and an extended request
 // and answers with other parts than RFC 4511, 4.12, has.
 #[test]
 fn other_spoilt_messages_of_ldap_are_refused(rt: HostRuntime) {
-    assert_refused(
-        &rt,
-        rt.alloc(),
-        &[
-            (
-                CALL,
-                BOUND,
-                &[(7, 1, &[0x02])],
-                "ldap: protocolOp.bindResponse.resultCode, byte 7: BER: unexpected tag universal 2, expected universal 10\n",
-            ),
-            (
-                CALL,
-                DONE,
-                &[(10, 1, &[0x0C])],
-                "ldap: protocolOp.searchResDone.matchedDN, byte 10: BER: unexpected tag universal 12, expected universal 4\n",
-            ),
-            (
-                CALL,
-                REFERENCE,
-                &[(7, 1, &[0x0C])],
-                "ldap: protocolOp.searchResRef[0], byte 7: BER: unexpected tag universal 12, expected universal 4\n",
-            ),
-            (
-                CALL,
-                MODIFY,
-                &[(73, 1, &[0x02])],
-                "ldap: protocolOp.modifyRequest.changes[2].modification.vals[0], byte 73: BER: unexpected tag universal 2, expected universal 4\n",
-            ),
-            (
-                CALL,
-                MODIFIED,
-                &[(12, 1, &[0x0C])],
-                "ldap: protocolOp.modifyResponse.diagnosticMessage, byte 12: BER: unexpected tag universal 12, expected universal 4\n",
-            ),
-            (
-                CALL,
-                EXTENDED,
-                &[(7, 1, &[0x82])],
-                "ldap: protocolOp.extendedReq.requestName, byte 7: BER: unexpected tag [2], expected [0]\n",
-            ),
-            (
-                CALL,
-                NOTICE,
-                &[(23, 1, &[0x0C])],
-                "ldap: protocolOp.extendedResp.referral[0], byte 23: BER: unexpected tag universal 12, expected universal 4\n",
-            ),
-            (
-                CALL,
-                WHO,
-                &[(14, 1, &[0x8D])],
-                "ldap: protocolOp, byte 14: BER: 24 trailing octets\n",
-            ),
-        ],
-    );
+    const ROWS: &[Row] = &[
+        (
+            CALL,
+            BOUND,
+            &[(7, 1, &[0x02])],
+            "ldap: protocolOp.bindResponse.resultCode, byte 7: BER: unexpected tag universal 2, expected universal 10\n",
+        ),
+        (
+            CALL,
+            DONE,
+            &[(10, 1, &[0x0C])],
+            "ldap: protocolOp.searchResDone.matchedDN, byte 10: BER: unexpected tag universal 12, expected universal 4\n",
+        ),
+        (
+            CALL,
+            REFERENCE,
+            &[(7, 1, &[0x0C])],
+            "ldap: protocolOp.searchResRef[0], byte 7: BER: unexpected tag universal 12, expected universal 4\n",
+        ),
+        (
+            CALL,
+            MODIFY,
+            &[(73, 1, &[0x02])],
+            "ldap: protocolOp.modifyRequest.changes[2].modification.vals[0], byte 73: BER: unexpected tag universal 2, expected universal 4\n",
+        ),
+        (
+            CALL,
+            MODIFIED,
+            &[(12, 1, &[0x0C])],
+            "ldap: protocolOp.modifyResponse.diagnosticMessage, byte 12: BER: unexpected tag universal 12, expected universal 4\n",
+        ),
+        (
+            CALL,
+            EXTENDED,
+            &[(7, 1, &[0x82])],
+            "ldap: protocolOp.extendedReq.requestName, byte 7: BER: unexpected tag [2], expected [0]\n",
+        ),
+        (
+            CALL,
+            NOTICE,
+            &[(23, 1, &[0x0C])],
+            "ldap: protocolOp.extendedResp.referral[0], byte 23: BER: unexpected tag universal 12, expected universal 4\n",
+        ),
+        (
+            CALL,
+            WHO,
+            &[(14, 1, &[0x8D])],
+            "ldap: protocolOp, byte 14: BER: 24 trailing octets\n",
+        ),
+    ];
+    assert_refused(&rt, rt.alloc(), ROWS);
 }

@@ -141,51 +141,46 @@ fn assert_refuses<T: Decode + Encode + LawfulEq>(
 // What follows the value is refused under the input's rules (X.690 8.1.1.1).
 #[test]
 fn what_is_no_value_alone_is_refused(rt: HostRuntime) {
-    assert_refuses::<bool>(
-        &rt,
-        rt.alloc(),
-        &[
-            (
-                &[0x01, 0x01, 0xFF, 0x00],
-                Codec::Cer,
-                "Decode(DecodeError { kind: UnexpectedExtraData { length: 1 }, codec: Cer })",
-            ),
-            (
-                &[0x01, 0x01, 0xFF, 0x00, 0x00],
-                Codec::Der,
-                "Decode(DecodeError { kind: UnexpectedExtraData { length: 2 }, codec: Der })",
-            ),
-            (
-                &[0x01, 0x01, 0x05],
-                Codec::Der,
-                "Decode(DecodeError { kind: InvalidBool { value: 5 }, codec: Der })",
-            ),
-        ],
-    );
+    const ROWS: &[(&[u8], Codec, &str)] = &[
+        (
+            &[0x01, 0x01, 0xFF, 0x00],
+            Codec::Cer,
+            "Decode(DecodeError { kind: UnexpectedExtraData { length: 1 }, codec: Cer })",
+        ),
+        (
+            &[0x01, 0x01, 0xFF, 0x00, 0x00],
+            Codec::Der,
+            "Decode(DecodeError { kind: UnexpectedExtraData { length: 2 }, codec: Der })",
+        ),
+        (
+            &[0x01, 0x01, 0x05],
+            Codec::Der,
+            "Decode(DecodeError { kind: InvalidBool { value: 5 }, codec: Der })",
+        ),
+    ];
+    assert_refuses::<bool>(&rt, rt.alloc(), ROWS);
 }
 
 // A SET OF whose elements are out of order isn't written (X.690 11.6).
 #[test]
 fn what_is_not_written_is_refused(rt: HostRuntime) {
-    assert_refuses::<SetOf<OctetString>>(
-        &rt,
-        rt.alloc(),
-        &[(
-            &[0x31, 0x06, 0x04, 0x01, 0x02, 0x04, 0x01, 0x01],
-            Codec::Ber,
-            "Encode(EncodeError { kind: CodecSpecific { inner: Ber(SetOutOfOrder) }, codec: Der })",
-        )],
-    );
+    const ROWS: &[(&[u8], Codec, &str)] = &[(
+        &[0x31, 0x06, 0x04, 0x01, 0x02, 0x04, 0x01, 0x01],
+        Codec::Ber,
+        "Encode(EncodeError { kind: CodecSpecific { inner: Ber(SetOutOfOrder) }, codec: Der })",
+    )];
+    assert_refuses::<SetOf<OctetString>>(&rt, rt.alloc(), ROWS);
 }
 
 // The time 691231235900-0100 is in 2070 by UTC, which two digits of a year can't say (X.680 47).
 #[test]
 fn what_is_read_back_otherwise_is_refused(rt: HostRuntime) {
-    assert_refuses::<UtcTime>(
-        &rt,
-        rt.alloc(),
-        &[(b"\x17\x11691231235900-0100", Codec::Ber, "NotCanonical")],
-    );
+    const ROWS: &[(&'static [u8], Codec, &'static str)] = &[(
+        b"\x17\x11691231235900-0100",
+        Codec::Ber,
+        "NotCanonical",
+    )];
+    assert_refuses::<UtcTime>(&rt, rt.alloc(), ROWS);
 }
 
 /// Whether the octets are refused for this cause.

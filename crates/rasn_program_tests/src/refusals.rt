@@ -57,221 +57,212 @@ pub(crate) fn assert_refused(rt: &impl Abort, alloc: Global, rows: &[Row]) {
 // X.690 11.8.1 (an offset), 11.8.2 (no seconds), 11.2.1, 8.2.1.
 #[test]
 fn spoilt_certificates_are_refused(rt: HostRuntime) {
-    assert_refused(
-        &rt,
-        rt.alloc(),
-        &[
-            (
-                &["certificate"],
-                CERTIFICATE,
-                &[(0, 423, &[])],
-                "certificate: byte 0: DER: unexpected end of input, need 1 more octet\n",
-            ),
-            (
-                &["certificate"],
-                CERTIFICATE,
-                &[(422, 1, &[])],
-                "certificate: byte 0: DER: unexpected end of input, need 1 more octet\n",
-            ),
-            (
-                &["certificate"],
-                CERTIFICATE,
-                &[(423, 0, &[0x00])],
-                "certificate: byte 423: DER: 1 trailing octet\n",
-            ),
-            (
-                &["certificate"],
-                CERTIFICATE,
-                &[(0, 1, &[0x31])],
-                "certificate: byte 0: DER: unexpected tag universal 17, expected universal 16\n",
-            ),
-            (
-                &["certificate"],
-                CERTIFICATE,
-                &[(12, 1, &[0x00])],
-                "certificate: tbsCertificate.version, byte 8: DER: component with its DEFAULT value is encoded\n",
-            ),
-            (
-                &["certificate"],
-                CERTIFICATE,
-                &[(278, 1, &[0x00])],
-                "certificate: tbsCertificate.extensions[0].critical, byte 276: DER: component with its DEFAULT value is encoded\n",
-            ),
-            (
-                &["certificate"],
-                CERTIFICATE,
-                &[(278, 1, &[0x01])],
-                "certificate: tbsCertificate.extensions[0].critical, byte 276: DER: BOOLEAN octet 01 is neither 00 nor FF\n",
-            ),
-            (
-                &["certificate"],
-                CERTIFICATE,
-                &[(15, 1, &[0x00])],
-                "certificate: tbsCertificate.serialNumber, byte 13: DER: number is not in the fewest octets\n",
-            ),
-            (
-                &["certificate"],
-                CERTIFICATE,
-                &[
-                    (2, 2, &[0x01, 0xA4]),
-                    (6, 2, &[0x01, 0x4B]),
-                    (21, 1, &[0x81, 0x0A]),
-                ],
-                "certificate: tbsCertificate.signature, byte 20: DER: length is not in the fewest octets\n",
-            ),
-            (
-                &["certificate"],
-                CERTIFICATE,
-                &[(25, 1, &[0x80])],
-                "certificate: tbsCertificate.signature.algorithm, byte 22: DER: OBJECT IDENTIFIER arc is not in the fewest octets\n",
-            ),
-            (
-                &["certificate"],
-                CERTIFICATE,
-                &[(
-                    38,
-                    9,
-                    &[0x13, 0x02, 0x44, 0x45, 0x06, 0x03, 0x55, 0x04, 0x06],
-                )],
-                "certificate: tbsCertificate.issuer[0][0].type, byte 38: DER: unexpected tag universal 19, expected universal 6\n",
-            ),
-            (
-                &["certificate"],
-                CERTIFICATE,
-                &[(93, 1, &[0x39])],
-                "certificate: tbsCertificate.validity.notBefore, byte 89: DER: invalid time, octets 3236393132343133303732315A\n",
-            ),
-            (
-                &["certificate"],
-                CERTIFICATE,
-                &[
-                    (2, 2, &[0x01, 0xA7]),
-                    (6, 2, &[0x01, 0x4E]),
-                    (88, 1, &[0x22]),
-                    (90, 1, &[0x11]),
-                    (103, 1, &[0x2B, 0x30, 0x30, 0x30, 0x30]),
-                ],
-                "certificate: tbsCertificate.validity.notBefore, byte 89: DER: invalid time, octets 3236313132343133303732312B30303030\n",
-            ),
-            (
-                &["certificate"],
-                CERTIFICATE,
-                &[
-                    (2, 2, &[0x01, 0xA1]),
-                    (6, 2, &[0x01, 0x48]),
-                    (88, 1, &[0x1C]),
-                    (90, 1, &[0x0B]),
-                    (101, 2, &[]),
-                ],
-                "certificate: tbsCertificate.validity.notBefore, byte 89: DER: invalid time, octets 323631313234313330375A\n",
-            ),
-            (
-                &["certificate"],
-                CERTIFICATE,
-                &[(352, 1, &[0x01])],
-                "certificate: signatureValue, byte 350: DER: unused bits of a BIT STRING are not zero\n",
-            ),
-            (
-                &["--ber", "certificate"],
-                CERTIFICATE,
-                &[
-                    (2, 2, &[0x01, 0xA4]),
-                    (6, 2, &[0x01, 0x4B]),
-                    (266, 1, &[0x48]),
-                    (268, 1, &[0x46]),
-                    (270, 1, &[0x0D]),
-                    (277, 2, &[0x02, 0xFF, 0xFF]),
-                ],
-                "certificate: tbsCertificate.extensions[0].critical, byte 276: BER: length 2, expected 1\n",
-            ),
-        ],
-    );
+    const ROWS: &[Row] = &[
+        (
+            &["certificate"],
+            CERTIFICATE,
+            &[(0, 423, &[])],
+            "certificate: byte 0: DER: unexpected end of input, need 1 more octet\n",
+        ),
+        (
+            &["certificate"],
+            CERTIFICATE,
+            &[(422, 1, &[])],
+            "certificate: byte 0: DER: unexpected end of input, need 1 more octet\n",
+        ),
+        (
+            &["certificate"],
+            CERTIFICATE,
+            &[(423, 0, &[0x00])],
+            "certificate: byte 423: DER: 1 trailing octet\n",
+        ),
+        (
+            &["certificate"],
+            CERTIFICATE,
+            &[(0, 1, &[0x31])],
+            "certificate: byte 0: DER: unexpected tag universal 17, expected universal 16\n",
+        ),
+        (
+            &["certificate"],
+            CERTIFICATE,
+            &[(12, 1, &[0x00])],
+            "certificate: tbsCertificate.version, byte 8: DER: component with its DEFAULT value is encoded\n",
+        ),
+        (
+            &["certificate"],
+            CERTIFICATE,
+            &[(278, 1, &[0x00])],
+            "certificate: tbsCertificate.extensions[0].critical, byte 276: DER: component with its DEFAULT value is encoded\n",
+        ),
+        (
+            &["certificate"],
+            CERTIFICATE,
+            &[(278, 1, &[0x01])],
+            "certificate: tbsCertificate.extensions[0].critical, byte 276: DER: BOOLEAN octet 01 is neither 00 nor FF\n",
+        ),
+        (
+            &["certificate"],
+            CERTIFICATE,
+            &[(15, 1, &[0x00])],
+            "certificate: tbsCertificate.serialNumber, byte 13: DER: number is not in the fewest octets\n",
+        ),
+        (
+            &["certificate"],
+            CERTIFICATE,
+            &[
+                (2, 2, &[0x01, 0xA4]),
+                (6, 2, &[0x01, 0x4B]),
+                (21, 1, &[0x81, 0x0A]),
+            ],
+            "certificate: tbsCertificate.signature, byte 20: DER: length is not in the fewest octets\n",
+        ),
+        (
+            &["certificate"],
+            CERTIFICATE,
+            &[(25, 1, &[0x80])],
+            "certificate: tbsCertificate.signature.algorithm, byte 22: DER: OBJECT IDENTIFIER arc is not in the fewest octets\n",
+        ),
+        (
+            &["certificate"],
+            CERTIFICATE,
+            &[(
+                38,
+                9,
+                &[0x13, 0x02, 0x44, 0x45, 0x06, 0x03, 0x55, 0x04, 0x06],
+            )],
+            "certificate: tbsCertificate.issuer[0][0].type, byte 38: DER: unexpected tag universal 19, expected universal 6\n",
+        ),
+        (
+            &["certificate"],
+            CERTIFICATE,
+            &[(93, 1, &[0x39])],
+            "certificate: tbsCertificate.validity.notBefore, byte 89: DER: invalid time, octets 3236393132343133303732315A\n",
+        ),
+        (
+            &["certificate"],
+            CERTIFICATE,
+            &[
+                (2, 2, &[0x01, 0xA7]),
+                (6, 2, &[0x01, 0x4E]),
+                (88, 1, &[0x22]),
+                (90, 1, &[0x11]),
+                (103, 1, &[0x2B, 0x30, 0x30, 0x30, 0x30]),
+            ],
+            "certificate: tbsCertificate.validity.notBefore, byte 89: DER: invalid time, octets 3236313132343133303732312B30303030\n",
+        ),
+        (
+            &["certificate"],
+            CERTIFICATE,
+            &[
+                (2, 2, &[0x01, 0xA1]),
+                (6, 2, &[0x01, 0x48]),
+                (88, 1, &[0x1C]),
+                (90, 1, &[0x0B]),
+                (101, 2, &[]),
+            ],
+            "certificate: tbsCertificate.validity.notBefore, byte 89: DER: invalid time, octets 323631313234313330375A\n",
+        ),
+        (
+            &["certificate"],
+            CERTIFICATE,
+            &[(352, 1, &[0x01])],
+            "certificate: signatureValue, byte 350: DER: unused bits of a BIT STRING are not zero\n",
+        ),
+        (
+            &["--ber", "certificate"],
+            CERTIFICATE,
+            &[
+                (2, 2, &[0x01, 0xA4]),
+                (6, 2, &[0x01, 0x4B]),
+                (266, 1, &[0x48]),
+                (268, 1, &[0x46]),
+                (270, 1, &[0x0D]),
+                (277, 2, &[0x02, 0xFF, 0xFF]),
+            ],
+            "certificate: tbsCertificate.extensions[0].critical, byte 276: BER: length 2, expected 1\n",
+        ),
+    ];
+    assert_refused(&rt, rt.alloc(), ROWS);
 }
 
 // The names are those of RFC 5280, 5.1. The rows: X.690 10.1, 11.8.1 (a small z), 8.3.2, 8.9.2 (a tag that no part has).
 #[test]
 fn spoilt_revocation_lists_are_refused(rt: HostRuntime) {
-    assert_refused(
-        &rt,
-        rt.alloc(),
-        &[
-            (
-                &["crl"],
-                REVOCATION_LIST,
-                &[(1, 1, &[0x80])],
-                "crl: byte 0: DER: indefinite length is not allowed\n",
-            ),
-            (
-                &["crl"],
-                REVOCATION_LIST,
-                &[(45, 1, &[0x7A])],
-                "crl: tbsCertList.thisUpdate, byte 31: DER: invalid time, octets 3236313132343136353830387A\n",
-            ),
-            (
-                &["crl"],
-                REVOCATION_LIST,
-                &[(67, 1, &[0x00])],
-                "crl: tbsCertList.revokedCertificates[0].userCertificate, byte 65: DER: number is not in the fewest octets\n",
-            ),
-            (
-                &["crl"],
-                REVOCATION_LIST,
-                &[(119, 1, &[0xA1])],
-                "crl: tbsCertList, byte 119: DER: 49 trailing octets\n",
-            ),
-        ],
-    );
+    const ROWS: &[Row] = &[
+        (
+            &["crl"],
+            REVOCATION_LIST,
+            &[(1, 1, &[0x80])],
+            "crl: byte 0: DER: indefinite length is not allowed\n",
+        ),
+        (
+            &["crl"],
+            REVOCATION_LIST,
+            &[(45, 1, &[0x7A])],
+            "crl: tbsCertList.thisUpdate, byte 31: DER: invalid time, octets 3236313132343136353830387A\n",
+        ),
+        (
+            &["crl"],
+            REVOCATION_LIST,
+            &[(67, 1, &[0x00])],
+            "crl: tbsCertList.revokedCertificates[0].userCertificate, byte 65: DER: number is not in the fewest octets\n",
+        ),
+        (
+            &["crl"],
+            REVOCATION_LIST,
+            &[(119, 1, &[0xA1])],
+            "crl: tbsCertList, byte 119: DER: 49 trailing octets\n",
+        ),
+    ];
+    assert_refused(&rt, rt.alloc(), ROWS);
 }
 
 // The names are those of RFC 2986, 4, and RFC 5652, 5. The rows: a negative version, X.690 11.6, 8.9.2; 10.2, 8.3.2, 10.1, 8.1.5.
 #[test]
 fn spoilt_requests_and_signed_messages_are_refused(rt: HostRuntime) {
-    assert_refused(
-        &rt,
-        rt.alloc(),
-        &[
-            (
-                &["request"],
-                REQUEST,
-                &[(8, 1, &[0xFF])],
-                "request: certificationRequestInfo.version, byte 6: DER: number is out of range for a type of 8 bits\n",
-            ),
-            (
-                &["request"],
-                REQUEST,
-                &[(32, 1, &[0x0C])],
-                "request: certificationRequestInfo.subject[1], byte 24: DER: elements of a SET OF are not in ascending order\n",
-            ),
-            (
-                &["request"],
-                REQUEST,
-                &[(94, 1, &[0xA1])],
-                "request: certificationRequestInfo.attributes, byte 94: DER: unexpected tag [1], expected [0]\n",
-            ),
-            (
-                &["cms"],
-                MESSAGE,
-                &[(56, 1, &[0x24])],
-                "cms: content.encapContentInfo.eContent, byte 56: DER: constructed encoding of a string is not allowed\n",
-            ),
-            (
-                &["cms"],
-                MESSAGE,
-                &[(397, 1, &[0x00])],
-                "cms: content.signerInfos[0].sid.issuerAndSerialNumber.serialNumber, byte 395: DER: number is not in the fewest octets\n",
-            ),
-            (
-                &["cms"],
-                STREAMED,
-                &[],
-                "cms: byte 0: DER: indefinite length is not allowed\n",
-            ),
-            (
-                &["--ber", "cms"],
-                STREAMED,
-                &[(305, 2, &[])],
-                "cms: byte 0: BER: unexpected end of input, need 2 more octets\n",
-            ),
-        ],
-    );
+    const ROWS: &[Row] = &[
+        (
+            &["request"],
+            REQUEST,
+            &[(8, 1, &[0xFF])],
+            "request: certificationRequestInfo.version, byte 6: DER: number is out of range for a type of 8 bits\n",
+        ),
+        (
+            &["request"],
+            REQUEST,
+            &[(32, 1, &[0x0C])],
+            "request: certificationRequestInfo.subject[1], byte 24: DER: elements of a SET OF are not in ascending order\n",
+        ),
+        (
+            &["request"],
+            REQUEST,
+            &[(94, 1, &[0xA1])],
+            "request: certificationRequestInfo.attributes, byte 94: DER: unexpected tag [1], expected [0]\n",
+        ),
+        (
+            &["cms"],
+            MESSAGE,
+            &[(56, 1, &[0x24])],
+            "cms: content.encapContentInfo.eContent, byte 56: DER: constructed encoding of a string is not allowed\n",
+        ),
+        (
+            &["cms"],
+            MESSAGE,
+            &[(397, 1, &[0x00])],
+            "cms: content.signerInfos[0].sid.issuerAndSerialNumber.serialNumber, byte 395: DER: number is not in the fewest octets\n",
+        ),
+        (
+            &["cms"],
+            STREAMED,
+            &[],
+            "cms: byte 0: DER: indefinite length is not allowed\n",
+        ),
+        (
+            &["--ber", "cms"],
+            STREAMED,
+            &[(305, 2, &[])],
+            "cms: byte 0: BER: unexpected end of input, need 2 more octets\n",
+        ),
+    ];
+    assert_refused(&rt, rt.alloc(), ROWS);
 }

@@ -3,7 +3,7 @@
 
 use crate::answers::{has_line, is_answered};
 use crate::asserts::{assert_facts, spoilt};
-use crate::refusals::assert_refused;
+use crate::refusals::{Row, assert_refused};
 use rasn_samples::ldap::UNBIND;
 use rasn_samples::snmp::{
     END_OF_VIEW, GET, GET_BULK, GET_NEXT, INFORM, NOT_WRITABLE, RESPONSE, SET, TRAP,
@@ -291,106 +291,100 @@ fn messages_of_snmp_are_read_by_ber(rt: HostRuntime) {
 // under DER (X.690 8.3.2).
 #[test]
 fn spoilt_messages_of_snmp_are_refused(rt: HostRuntime) {
-    assert_refused(
-        &rt,
-        rt.alloc(),
-        &[
-            (
-                CALL,
-                GET_NEXT,
-                &[(13, 1, &[0xA9])],
-                "snmp: data, byte 13: BER: no alternative of `Pdus` has the tag\n",
-            ),
-            (
-                CALL,
-                GET_NEXT,
-                &[(5, 1, &[0x30])],
-                "snmp: community, byte 5: BER: unexpected tag universal 16, expected universal 4\n",
-            ),
-            (
-                CALL,
-                UNBIND,
-                &[],
-                "snmp: community, byte 5: BER: unexpected tag application 2, expected universal 4\n",
-            ),
-            (
-                CALL,
-                GET_NEXT,
-                &[(31, 1, &[0x0D])],
-                "snmp: data.get-next-request.variable-bindings[0].name, byte 31: BER: unexpected tag universal 13, expected universal 6\n",
-            ),
-            (
-                CALL,
-                GET_NEXT,
-                &[(40, 1, &[0x45])],
-                "snmp: data.get-next-request.variable-bindings[0].value, byte 40: BER: no alternative of `VarBindValue` has the tag\n",
-            ),
-            (
-                CALL,
-                GET_BULK,
-                &[(21, 1, &[0x03])],
-                "snmp: data.get-bulk-request.non-repeaters, byte 21: BER: unexpected tag universal 3, expected universal 2\n",
-            ),
-            (
-                CALL,
-                GET_NEXT,
-                &[(41, 1, &[])],
-                "snmp: byte 0: BER: unexpected end of input, need 1 more octet\n",
-            ),
-            (
-                &["snmp"],
-                GET_NEXT,
-                &[(1, 1, &[0x29]), (14, 1, &[0x1C]), (22, 1, &[0x02, 0x00])],
-                "snmp: data.get-next-request.error-status, byte 21: DER: number is not in the fewest octets\n",
-            ),
-        ],
-    );
+    const ROWS: &[Row] = &[
+        (
+            CALL,
+            GET_NEXT,
+            &[(13, 1, &[0xA9])],
+            "snmp: data, byte 13: BER: no alternative of `Pdus` has the tag\n",
+        ),
+        (
+            CALL,
+            GET_NEXT,
+            &[(5, 1, &[0x30])],
+            "snmp: community, byte 5: BER: unexpected tag universal 16, expected universal 4\n",
+        ),
+        (
+            CALL,
+            UNBIND,
+            &[],
+            "snmp: community, byte 5: BER: unexpected tag application 2, expected universal 4\n",
+        ),
+        (
+            CALL,
+            GET_NEXT,
+            &[(31, 1, &[0x0D])],
+            "snmp: data.get-next-request.variable-bindings[0].name, byte 31: BER: unexpected tag universal 13, expected universal 6\n",
+        ),
+        (
+            CALL,
+            GET_NEXT,
+            &[(40, 1, &[0x45])],
+            "snmp: data.get-next-request.variable-bindings[0].value, byte 40: BER: no alternative of `VarBindValue` has the tag\n",
+        ),
+        (
+            CALL,
+            GET_BULK,
+            &[(21, 1, &[0x03])],
+            "snmp: data.get-bulk-request.non-repeaters, byte 21: BER: unexpected tag universal 3, expected universal 2\n",
+        ),
+        (
+            CALL,
+            GET_NEXT,
+            &[(41, 1, &[])],
+            "snmp: byte 0: BER: unexpected end of input, need 1 more octet\n",
+        ),
+        (
+            &["snmp"],
+            GET_NEXT,
+            &[(1, 1, &[0x29]), (14, 1, &[0x1C]), (22, 1, &[0x02, 0x00])],
+            "snmp: data.get-next-request.error-status, byte 21: DER: number is not in the fewest octets\n",
+        ),
+    ];
+    assert_refused(&rt, rt.alloc(), ROWS);
 }
 
 // The names are those of RFC 1157, 4.1.6, and RFC 3416, 3. The rows: an address and a time of other types, an address of three octets, a Counter64 of
 // 2^64 and more, and an INTEGER of 2^31 (RFC 2578, 7.1).
 #[test]
 fn spoilt_traps_are_refused(rt: HostRuntime) {
-    assert_refused(
-        &rt,
-        rt.alloc(),
-        &[
-            (
-                CALL,
-                TRAP_OF_VERSION_1,
-                &[(27, 1, &[0x41])],
-                "snmp: data.trap.agent-addr, byte 27: BER: unexpected tag application 1, expected application 0\n",
-            ),
-            (
-                CALL,
-                TRAP_OF_VERSION_1,
-                &[(39, 1, &[0x02])],
-                "snmp: data.trap.time-stamp, byte 39: BER: unexpected tag universal 2, expected application 3\n",
-            ),
-            (
-                CALL,
-                TRAP_OF_VERSION_1,
-                &[(1, 1, &[0x3C]), (14, 1, &[0x2F]), (28, 2, &[0x03])],
-                "snmp: data.trap.agent-addr, byte 27: BER: size 3 violates the constraint 4\n",
-            ),
-            (
-                CALL,
-                TRAP,
-                &[(174, 1, &[0x01])],
-                "snmp: data.snmpV2-trap.variable-bindings[6].value, byte 172: BER: number is out of range for a type of 64 bits\n",
-            ),
-            (
-                CALL,
-                INFORM,
-                &[
-                    (1, 1, &[0x58]),
-                    (14, 1, &[0x4B]),
-                    (28, 1, &[0x3D]),
-                    (70, 1, &[0x13]),
-                    (84, 2, &[0x05, 0x00, 0x80, 0x00, 0x00, 0x00]),
-                ],
-                "snmp: data.inform-request.variable-bindings[2].value, byte 83: BER: number is out of range for a type of 32 bits\n",
-            ),
-        ],
-    );
+    const ROWS: &[Row] = &[
+        (
+            CALL,
+            TRAP_OF_VERSION_1,
+            &[(27, 1, &[0x41])],
+            "snmp: data.trap.agent-addr, byte 27: BER: unexpected tag application 1, expected application 0\n",
+        ),
+        (
+            CALL,
+            TRAP_OF_VERSION_1,
+            &[(39, 1, &[0x02])],
+            "snmp: data.trap.time-stamp, byte 39: BER: unexpected tag universal 2, expected application 3\n",
+        ),
+        (
+            CALL,
+            TRAP_OF_VERSION_1,
+            &[(1, 1, &[0x3C]), (14, 1, &[0x2F]), (28, 2, &[0x03])],
+            "snmp: data.trap.agent-addr, byte 27: BER: size 3 violates the constraint 4\n",
+        ),
+        (
+            CALL,
+            TRAP,
+            &[(174, 1, &[0x01])],
+            "snmp: data.snmpV2-trap.variable-bindings[6].value, byte 172: BER: number is out of range for a type of 64 bits\n",
+        ),
+        (
+            CALL,
+            INFORM,
+            &[
+                (1, 1, &[0x58]),
+                (14, 1, &[0x4B]),
+                (28, 1, &[0x3D]),
+                (70, 1, &[0x13]),
+                (84, 2, &[0x05, 0x00, 0x80, 0x00, 0x00, 0x00]),
+            ],
+            "snmp: data.inform-request.variable-bindings[2].value, byte 83: BER: number is out of range for a type of 32 bits\n",
+        ),
+    ];
+    assert_refused(&rt, rt.alloc(), ROWS);
 }

@@ -1,7 +1,7 @@
 //! What the tests of the entry points share: rows of octets, rules and answers, over whole calls.
 
 use crate::reading::assert_answer;
-use crate::writing::{Row, assert_output};
+use crate::writing::{Written, assert_output};
 use rasn::de::Decode;
 use rasn::enc::Encode;
 use rasn::error::{DecodeError, EncodeError};
@@ -49,7 +49,7 @@ pub fn encoded<T: Encode>(alloc: Global, rules: Codec, value: &T) -> Result<Vec<
 }
 
 /// Asserts that the entry point writes each row's value as the row's octets.
-pub fn assert_encodes<T: Encode>(rt: &impl Abort, alloc: Global, rows: &[Row<T>]) {
+pub fn assert_encodes<T: Encode>(rt: &impl Abort, alloc: Global, rows: &[Written<T>]) {
     for (value, rules, octets) in rows {
         assert_output(rt, encoded(alloc, *rules, value), octets);
     }

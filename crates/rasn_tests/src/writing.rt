@@ -11,7 +11,7 @@ use std::alloc::{AllocError, Global};
 use std::process::Abort;
 
 /// A value, the rules it is written by, and its octets.
-pub type Row<T> = (T, Codec, &'static [u8]);
+pub type Written<T> = (T, Codec, &'static [u8]);
 
 /// Octets, and behind them one octet so many times. A long string is a few of these.
 pub type Piece<'octets> = (&'octets [u8], u8, usize);
@@ -50,7 +50,7 @@ pub fn assert_output(rt: &impl Abort, answer: Result<Vec<u8>, EncodeError>, octe
 }
 
 /// Asserts that each row's value is written as the row's octets.
-pub fn assert_writes<T: Encode>(rt: &impl Abort, alloc: Global, rows: &[Row<T>]) {
+pub fn assert_writes<T: Encode>(rt: &impl Abort, alloc: Global, rows: &[Written<T>]) {
     for (value, rules, octets) in rows {
         assert_output(rt, octets_of(alloc, *rules, value), octets);
     }

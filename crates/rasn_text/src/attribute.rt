@@ -6,7 +6,7 @@ use crate::listing::Listing;
 use crate::name::string_of;
 use crate::values::value_of;
 use rasn::types::{Any, Codec, ObjectIdentifier, OctetString, SetOf};
-use rasn_messages::x509::{Attribute, Extension, Time};
+use rasn_pki::x509::{Attribute, Extension, Time};
 use std::alloc::{AllocError, Global};
 
 /// Lists attributes.

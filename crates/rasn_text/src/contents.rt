@@ -6,8 +6,8 @@ use crate::octets::number_text;
 use crate::values::value_of;
 use rasn::de::Decode;
 use rasn::types::{Codec, Integer, ObjectIdentifier, OctetString};
-use rasn_messages::x509::Extension;
-use rasn_messages::x509::extensions::{
+use rasn_pki::x509::Extension;
+use rasn_pki::x509::extensions::{
     AuthorityKeyIdentifier, BasicConstraints, ExtendedKeyUsage, GeneralNames, KeyUsage,
     SubjectKeyIdentifier,
 };

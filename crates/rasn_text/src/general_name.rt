@@ -5,7 +5,7 @@ use crate::contents::push_word;
 use crate::identifiers::identifier_text;
 use crate::name::name_text;
 use rasn::types::{Any, Ia5String, OctetString};
-use rasn_messages::x509::extensions::{EdiPartyName, GeneralName, OtherName};
+use rasn_pki::x509::extensions::{EdiPartyName, GeneralName, OtherName};
 use std::alloc::{AllocError, Global};
 use std::net::{Ipv4Addr, Ipv6Addr};
 

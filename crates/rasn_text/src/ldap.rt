@@ -14,7 +14,7 @@ use crate::ldap::search::list_search_request;
 use crate::listing::{Listed, Listing};
 use crate::octets::{octets_text, quoted_text};
 use rasn::types::OctetString;
-use rasn_messages::ldap::{Control, LdapMessage, ProtocolOp};
+use rasn_ldap::{Control, LdapMessage, ProtocolOp};
 use std::alloc::AllocError;
 
 impl Listed for LdapMessage {

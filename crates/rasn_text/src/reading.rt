@@ -11,12 +11,12 @@ use rasn::ber::de::{Decoder, DecoderOptions};
 use rasn::de::Decode;
 use rasn::error::{DecodeError, DecodeErrorKind};
 use rasn::types::Codec;
-use rasn_messages::cms::SignedMessage;
-use rasn_messages::ldap::LdapMessage;
-use rasn_messages::pkcs10::CertificationRequest;
-use rasn_messages::snmp::Message;
-use rasn_messages::x509::Certificate;
-use rasn_messages::x509::revocation::CertificateList;
+use rasn_ldap::LdapMessage;
+use rasn_pki::cms::SignedMessage;
+use rasn_pki::pkcs10::CertificationRequest;
+use rasn_pki::x509::Certificate;
+use rasn_pki::x509::revocation::CertificateList;
+use rasn_snmp::Message;
 use std::alloc::Global;
 use thiserror::Error;
 

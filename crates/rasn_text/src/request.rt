@@ -3,7 +3,7 @@
 use crate::attribute::list_attributes;
 use crate::certificate::{list_algorithm, list_bits, list_name, list_public_key};
 use crate::listing::{Listed, Listing};
-use rasn_messages::pkcs10::{CertificationRequest, CertificationRequestInfo};
+use rasn_pki::pkcs10::{CertificationRequest, CertificationRequestInfo};
 use std::alloc::AllocError;
 
 impl Listed for CertificationRequest {

@@ -3,7 +3,7 @@
 use crate::certificate::{list_algorithm, list_bits, list_name, list_number, list_time};
 use crate::extension::list_extensions;
 use crate::listing::{Listed, Listing};
-use rasn_messages::x509::revocation::{CertificateList, RevokedCertificate, TbsCertList};
+use rasn_pki::x509::revocation::{CertificateList, RevokedCertificate, TbsCertList};
 use std::alloc::AllocError;
 
 impl Listed for CertificateList {

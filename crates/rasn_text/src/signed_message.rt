@@ -6,11 +6,11 @@ use crate::listing::{Listed, Listing};
 use crate::values::value_of;
 use rasn::de::Decode;
 use rasn::types::{Any, Codec, OctetString, SetOf};
-use rasn_messages::cms::{
+use rasn_pki::cms::{
     EncapsulatedContentInfo, SignedData, SignedMessage, SignerIdentifier, SignerInfo,
 };
-use rasn_messages::x509::revocation::CertificateList;
-use rasn_messages::x509::{AlgorithmIdentifier, Certificate};
+use rasn_pki::x509::revocation::CertificateList;
+use rasn_pki::x509::{AlgorithmIdentifier, Certificate};
 use std::alloc::AllocError;
 
 impl Listed for SignedMessage {

@@ -9,7 +9,7 @@ use crate::octets::octets_text;
 use crate::snmp::error_status::status_name;
 use crate::snmp::trap::list_trap;
 use crate::snmp::variable::list_variables;
-use rasn_messages::snmp::{BulkPdu, Message, Pdu, Pdus, VERSION_1, VERSION_2C};
+use rasn_snmp::{BulkPdu, Message, Pdu, Pdus, VERSION_1, VERSION_2C};
 use std::alloc::AllocError;
 
 impl Listed for Message {

@@ -1,61 +1,66 @@
 //! Certificates (RFC 5280) that others made, and spoilt ones.
 
-use crate::asserts::{assert_decodes, assert_output};
-use crate::messages::spoilt::spoilt;
-use rasn::ber;
+use crate::asserts::{assert_has, assert_written_as};
+use crate::messages::spoilt::{READ, Spoilt, assert_spoilt};
 use rasn::types::Codec;
 use rasn_samples::certificate::CERTIFICATE;
-use rasn_x509::{Certificate, Time, read_certificate, write_certificate};
-use std::process::Abort;
+use rasn_x509::{Certificate, Extension, Time, read_certificate, write_certificate};
+
+/// Whether this is the time 13:07 of a day in 2026, as a UTCTime.
+fn is_start(time: &Time) -> bool {
+    match time {
+        Time::Utc(utc) => utc.date().year() == 2026 && utc.hour() == 13 && utc.minute() == 7,
+        Time::General(_) => false,
+    }
+}
+
+/// Whether there are three extensions, one of them critical.
+fn are_three(extensions: &[Extension]) -> bool {
+    extensions.len() == 3 && extensions.iter().any(|one| one.critical)
+}
+
+/// Whether these are the parts that OpenSSL was told.
+fn has_parts(certificate: &Certificate) -> bool {
+    let signed = &certificate.tbs_certificate;
+    signed.version == 2
+        && signed.issuer == signed.subject
+        && signed.issuer.len() == 3
+        && signed.serial_number.as_octets() == [0x01, 0x02, 0x03, 0x04, 0x05].as_slice()
+        && is_start(&signed.validity.not_before)
+        && signed.extensions.as_ref().is_some_and(|all| are_three(all))
+}
 
 #[test]
-fn a_certificate_is_read_and_written_back(rt: HostRuntime) {
+fn a_certificate_has_its_parts(rt: HostRuntime) {
+    assert_has(&rt, read_certificate(rt.alloc(), CERTIFICATE), has_parts);
+}
+
+#[test]
+fn a_certificate_is_written_back(rt: HostRuntime) {
     let alloc = rt.alloc();
-    let Ok(certificate) = read_certificate(alloc, CERTIFICATE) else {
-        rt.abort()
-    };
-    let signed = &certificate.tbs_certificate;
-    assert!(rt; signed.version == 2 && signed.issuer == signed.subject && signed.issuer.len() == 3);
-    assert!(rt; signed.serial_number.as_octets() == [0x01, 0x02, 0x03, 0x04, 0x05].as_slice());
-    let Time::Utc(start) = &signed.validity.not_before else {
-        rt.abort()
-    };
-    assert!(rt; start.date().year() == 2026 && start.hour() == 13 && start.minute() == 7);
-    let Some(extensions) = &signed.extensions else {
-        rt.abort()
-    };
-    assert!(rt; extensions.len() == 3 && extensions.iter().any(|one| one.critical));
-    assert_output(&rt, write_certificate(alloc, &certificate), CERTIFICATE);
+    let answer = read_certificate(alloc, CERTIFICATE);
+    assert_written_as(&rt, alloc, answer, write_certificate, CERTIFICATE);
 }
 
 // What isn't the one DER encoding is refused (X.690 8.3.2, 11.1, 11.5, 8.1.1.1), and BER reads what it may.
 #[test]
 fn spoilt_certificates_are_refused(rt: HostRuntime) {
-    let alloc = rt.alloc();
     const VERSION: usize = 12;
     const SERIAL: usize = 15;
     const CRITICAL: usize = 278;
-    let version_one = spoilt(&rt, alloc, CERTIFICATE, VERSION, 0x00);
-    let not_critical = spoilt(&rt, alloc, CERTIFICATE, CRITICAL, 0x00);
-    let foreign_true = spoilt(&rt, alloc, CERTIFICATE, CRITICAL, 0x01);
-    let padded = spoilt(&rt, alloc, CERTIFICATE, SERIAL, 0x00);
     const DEFAULT_PRESENT: &str = "CodecSpecific { inner: Der(DefaultValuePresent) }";
-    assert_decodes::<Certificate>(
-        &rt,
-        alloc,
-        &[
-            (&version_one, Codec::Der, DEFAULT_PRESENT),
-            (&not_critical, Codec::Der, DEFAULT_PRESENT),
-            (
-                &padded,
-                Codec::Der,
-                "CodecSpecific { inner: Der(NonMinimalInteger) }",
-            ),
-        ],
-    );
-    assert!(rt;
-        ber::decode::<Certificate>(alloc, &version_one).is_ok()
-            && ber::decode::<Certificate>(alloc, &foreign_true).is_ok()
-    );
-    assert!(rt; read_certificate(alloc, &foreign_true).is_err());
+    const ROWS: &[Spoilt] = &[
+        (VERSION, 0x00, Codec::Ber, READ),
+        (VERSION, 0x00, Codec::Der, DEFAULT_PRESENT),
+        (CRITICAL, 0x00, Codec::Der, DEFAULT_PRESENT),
+        (CRITICAL, 0x01, Codec::Ber, READ),
+        (CRITICAL, 0x01, Codec::Der, "InvalidBool { value: 1 }"),
+        (
+            SERIAL,
+            0x00,
+            Codec::Der,
+            "CodecSpecific { inner: Der(NonMinimalInteger) }",
+        ),
+    ];
+    assert_spoilt::<Certificate>(&rt, rt.alloc(), CERTIFICATE, ROWS);
 }

@@ -1,6 +1,6 @@
 //! Contents of extensions (RFC 5280, 4.2.1) that others made, and spoilt ones.
 
-use crate::asserts::{assert_decodes, assert_facts, assert_rewrites, value};
+use crate::asserts::{Answer, Rewritten, assert_decodes, assert_facts, assert_rewrites, value};
 use rasn::der;
 use rasn::types::Codec;
 use rasn_messages::x509::extensions::{
@@ -32,24 +32,19 @@ const NAMES: &[u8] = &[
 
 #[test]
 fn contents_are_read_and_written_back(rt: HostRuntime) {
+    const BASIC_CONSTRAINTS_ROWS: &[Rewritten<'static>] = &[
+        (CONSTRAINTS, Codec::Der, Codec::Der, CONSTRAINTS),
+        (&[0x30, 0x00], Codec::Der, Codec::Der, &[0x30, 0x00]),
+    ];
+    const AUTHORITY_KEY_IDENTIFIER_ROWS: &[Rewritten<'static>] = &[
+        (AUTHORITY_KEY, Codec::Der, Codec::Der, AUTHORITY_KEY),
+        (&[0x30, 0x00], Codec::Der, Codec::Der, &[0x30, 0x00]),
+    ];
+    const GENERAL_NAMES_ROWS: &[Rewritten<'static>] = &[(NAMES, Codec::Der, Codec::Der, NAMES)];
     let alloc = rt.alloc();
-    assert_rewrites::<BasicConstraints>(
-        &rt,
-        alloc,
-        &[
-            (CONSTRAINTS, Codec::Der, Codec::Der, CONSTRAINTS),
-            (&[0x30, 0x00], Codec::Der, Codec::Der, &[0x30, 0x00]),
-        ],
-    );
-    assert_rewrites::<AuthorityKeyIdentifier>(
-        &rt,
-        alloc,
-        &[
-            (AUTHORITY_KEY, Codec::Der, Codec::Der, AUTHORITY_KEY),
-            (&[0x30, 0x00], Codec::Der, Codec::Der, &[0x30, 0x00]),
-        ],
-    );
-    assert_rewrites::<GeneralNames>(&rt, alloc, &[(NAMES, Codec::Der, Codec::Der, NAMES)]);
+    assert_rewrites::<BasicConstraints>(&rt, alloc, BASIC_CONSTRAINTS_ROWS);
+    assert_rewrites::<AuthorityKeyIdentifier>(&rt, alloc, AUTHORITY_KEY_IDENTIFIER_ROWS);
+    assert_rewrites::<GeneralNames>(&rt, alloc, GENERAL_NAMES_ROWS);
 }
 
 // Those that OpenSSL doesn't make: an x400Address with a country name, and an ediPartyName of a party alone.
@@ -57,14 +52,11 @@ fn contents_are_read_and_written_back(rt: HostRuntime) {
 fn rare_names_are_read_and_written_back(rt: HostRuntime) {
     const ADDRESS: &[u8] = &[0xA3, 0x08, 0x30, 0x06, 0x61, 0x04, 0x13, 0x02, 0x44, 0x45];
     const PARTY: &[u8] = &[0xA5, 0x07, 0xA1, 0x05, 0x0C, 0x03, 0x65, 0x64, 0x69];
-    assert_rewrites::<GeneralName>(
-        &rt,
-        rt.alloc(),
-        &[
-            (ADDRESS, Codec::Der, Codec::Der, ADDRESS),
-            (PARTY, Codec::Der, Codec::Der, PARTY),
-        ],
-    );
+    const ROWS: &[Rewritten<'static>] = &[
+        (ADDRESS, Codec::Der, Codec::Der, ADDRESS),
+        (PARTY, Codec::Der, Codec::Der, PARTY),
+    ];
+    assert_rewrites::<GeneralName>(&rt, rt.alloc(), ROWS);
 }
 
 #[test]
@@ -83,23 +75,17 @@ fn usages_are_named(rt: HostRuntime) {
 // A default that is written (X.690 11.5), and a tag that no alternative has.
 #[test]
 fn spoilt_contents_are_refused(rt: HostRuntime) {
+    const BASIC_CONSTRAINTS_ROWS: &[Answer<'static>] = &[(
+        &[0x30, 0x03, 0x01, 0x01, 0x00],
+        Codec::Der,
+        "CodecSpecific { inner: Der(DefaultValuePresent) }",
+    )];
+    const GENERAL_NAME_ROWS: &[Answer<'static>] = &[(
+        &[0x89, 0x01, 0x61],
+        Codec::Der,
+        "NoValidChoice { name: \"GeneralName\" }",
+    )];
     let alloc = rt.alloc();
-    assert_decodes::<BasicConstraints>(
-        &rt,
-        alloc,
-        &[(
-            &[0x30, 0x03, 0x01, 0x01, 0x00],
-            Codec::Der,
-            "CodecSpecific { inner: Der(DefaultValuePresent) }",
-        )],
-    );
-    assert_decodes::<GeneralName>(
-        &rt,
-        alloc,
-        &[(
-            &[0x89, 0x01, 0x61],
-            Codec::Der,
-            "NoValidChoice { name: \"GeneralName\" }",
-        )],
-    );
+    assert_decodes::<BasicConstraints>(&rt, alloc, BASIC_CONSTRAINTS_ROWS);
+    assert_decodes::<GeneralName>(&rt, alloc, GENERAL_NAME_ROWS);
 }

@@ -1,53 +1,57 @@
 //! Certification requests (RFC 2986) that others made, and spoilt ones.
 
-use crate::asserts::{assert_decodes, assert_facts, assert_output, value};
-use crate::messages::spoilt::spoilt;
-use rasn::ber;
+use crate::asserts::{assert_has, assert_written_as};
+use crate::messages::spoilt::{READ, Spoilt, assert_spoilt};
 use rasn::types::Codec;
 use rasn_messages::pkcs10::{CertificationRequest, read_request, write_request};
 use rasn_samples::request::REQUEST;
 
-#[test]
-fn a_request_is_read_and_written_back(rt: HostRuntime) {
-    let alloc = rt.alloc();
-    let request = value(&rt, read_request(alloc, REQUEST));
+/// Whether these are the parts that OpenSSL was told.
+fn has_parts(request: &CertificationRequest) -> bool {
     let signed = &request.certification_request_info;
-    assert_facts(
+    signed.version == 0
+        && signed.subject.len() == 2
+        && signed.attributes.len() == 2
+        && signed.attributes.iter().all(|one| one.values.len() == 1)
+        && request.signature.len() == 512
+}
+
+#[test]
+fn a_request_has_its_parts(rt: HostRuntime) {
+    assert_has(&rt, read_request(rt.alloc(), REQUEST), has_parts);
+}
+
+#[test]
+fn a_request_is_written_back(rt: HostRuntime) {
+    let alloc = rt.alloc();
+    assert_written_as(
         &rt,
-        &[
-            signed.version == 0,
-            signed.subject.len() == 2,
-            signed.attributes.len() == 2,
-            signed.attributes.iter().all(|one| one.values.len() == 1),
-            request.signature.len() == 512,
-        ],
+        alloc,
+        read_request(alloc, REQUEST),
+        write_request,
+        REQUEST,
     );
-    assert_output(&rt, write_request(alloc, &request), REQUEST);
 }
 
 // What isn't the one DER encoding is refused (X.690 10.1, 11.6), and BER reads a SET OF in any order.
 #[test]
 fn spoilt_requests_are_refused(rt: HostRuntime) {
-    let alloc = rt.alloc();
     const LENGTH: usize = 1;
     const COMMON_NAME: usize = 32;
-    let unsorted = spoilt(&rt, alloc, REQUEST, COMMON_NAME, 0x0C);
-    let indefinite = spoilt(&rt, alloc, REQUEST, LENGTH, 0x80);
-    assert_decodes::<CertificationRequest>(
-        &rt,
-        alloc,
-        &[
-            (
-                &unsorted,
-                Codec::Der,
-                "CodecSpecific { inner: Der(SetOfOutOfOrder) }",
-            ),
-            (
-                &indefinite,
-                Codec::Der,
-                "CodecSpecific { inner: Ber(IndefiniteLengthNotAllowed) }",
-            ),
-        ],
-    );
-    assert!(rt; ber::decode::<CertificationRequest>(alloc, &unsorted).is_ok());
+    const ROWS: &[Spoilt] = &[
+        (COMMON_NAME, 0x0C, Codec::Ber, READ),
+        (
+            COMMON_NAME,
+            0x0C,
+            Codec::Der,
+            "CodecSpecific { inner: Der(SetOfOutOfOrder) }",
+        ),
+        (
+            LENGTH,
+            0x80,
+            Codec::Der,
+            "CodecSpecific { inner: Ber(IndefiniteLengthNotAllowed) }",
+        ),
+    ];
+    assert_spoilt::<CertificationRequest>(&rt, rt.alloc(), REQUEST, ROWS);
 }

@@ -1,8 +1,7 @@
 //! Revocation lists (RFC 5280, 5) that others made, and spoilt ones.
 
-use crate::asserts::{assert_decodes, assert_facts, assert_output, value};
-use crate::messages::spoilt::spoilt;
-use rasn::ber;
+use crate::asserts::{assert_has, assert_written_as};
+use crate::messages::spoilt::{READ, Spoilt, assert_spoilt};
 use rasn::types::Codec;
 use rasn_messages::x509::revocation::{
     CertificateList, read_revocation_list, write_revocation_list,
@@ -22,63 +21,59 @@ const EMPTY_LIST: &[u8] = &[
     0xF5, 0x4B, 0x0D,
 ];
 
-#[test]
-fn a_revocation_list_is_read_and_written_back(rt: HostRuntime) {
-    let alloc = rt.alloc();
-    let list = value(&rt, read_revocation_list(alloc, REVOCATION_LIST));
+/// Whether these are the parts that OpenSSL was told: a list of version 2.
+fn has_parts(list: &CertificateList) -> bool {
     let signed = &list.tbs_cert_list;
-    assert_facts(
-        &rt,
-        &[
-            signed.version == Some(1),
-            signed.next_update_utc.is_some(),
-            signed.next_update_general.is_none(),
-            signed.revoked_certificates.is_some(),
-            signed.crl_extensions.is_some(),
-        ],
-    );
-    assert_output(&rt, write_revocation_list(alloc, &list), REVOCATION_LIST);
+    signed.version == Some(1)
+        && signed.next_update_utc.is_some()
+        && signed.next_update_general.is_none()
+        && signed.revoked_certificates.is_some()
+        && signed.crl_extensions.is_some()
+}
+
+/// Whether the list is of version 1, and has no certificate and no extension.
+fn is_empty(list: &CertificateList) -> bool {
+    let signed = &list.tbs_cert_list;
+    signed.version.is_none()
+        && signed.revoked_certificates.is_none()
+        && signed.crl_extensions.is_none()
 }
 
 #[test]
-fn an_empty_revocation_list_is_read_and_written_back(rt: HostRuntime) {
+fn revocation_lists_have_their_parts(rt: HostRuntime) {
     let alloc = rt.alloc();
-    let list = value(&rt, read_revocation_list(alloc, EMPTY_LIST));
-    let signed = &list.tbs_cert_list;
-    assert_facts(
-        &rt,
-        &[
-            signed.version.is_none(),
-            signed.revoked_certificates.is_none(),
-            signed.crl_extensions.is_none(),
-        ],
-    );
-    assert_output(&rt, write_revocation_list(alloc, &list), EMPTY_LIST);
+    assert_has(&rt, read_revocation_list(alloc, REVOCATION_LIST), has_parts);
+    assert_has(&rt, read_revocation_list(alloc, EMPTY_LIST), is_empty);
+}
+
+#[test]
+fn revocation_lists_are_written_back(rt: HostRuntime) {
+    let alloc = rt.alloc();
+    for octets in [REVOCATION_LIST, EMPTY_LIST] {
+        let answer = read_revocation_list(alloc, octets);
+        assert_written_as(&rt, alloc, answer, write_revocation_list, octets);
+    }
 }
 
 // What isn't the one DER encoding is refused (X.690 8.3.2, 10.1), and BER reads a padded INTEGER.
 #[test]
 fn spoilt_revocation_lists_are_refused(rt: HostRuntime) {
-    let alloc = rt.alloc();
     const LENGTH: usize = 1;
     const SERIAL: usize = 67;
-    let padded = spoilt(&rt, alloc, REVOCATION_LIST, SERIAL, 0x00);
-    let indefinite = spoilt(&rt, alloc, REVOCATION_LIST, LENGTH, 0x80);
-    assert_decodes::<CertificateList>(
-        &rt,
-        alloc,
-        &[
-            (
-                &padded,
-                Codec::Der,
-                "CodecSpecific { inner: Der(NonMinimalInteger) }",
-            ),
-            (
-                &indefinite,
-                Codec::Der,
-                "CodecSpecific { inner: Ber(IndefiniteLengthNotAllowed) }",
-            ),
-        ],
-    );
-    assert!(rt; ber::decode::<CertificateList>(alloc, &padded).is_ok());
+    const ROWS: &[Spoilt] = &[
+        (SERIAL, 0x00, Codec::Ber, READ),
+        (
+            SERIAL,
+            0x00,
+            Codec::Der,
+            "CodecSpecific { inner: Der(NonMinimalInteger) }",
+        ),
+        (
+            LENGTH,
+            0x80,
+            Codec::Der,
+            "CodecSpecific { inner: Ber(IndefiniteLengthNotAllowed) }",
+        ),
+    ];
+    assert_spoilt::<CertificateList>(&rt, rt.alloc(), REVOCATION_LIST, ROWS);
 }

@@ -1,7 +1,7 @@
 //! Messages of SNMP (RFC 1157, 1901 and 3416) that net-snmp made, and spoilt ones.
 
-use crate::asserts::{assert_decodes, assert_output, value};
-use crate::messages::spoilt::spoilt;
+use crate::asserts::{Answer, ahead_of, assert_decodes, assert_has, assert_written_as};
+use crate::messages::spoilt::{Spoilt, assert_spoilt, spoilt};
 use rasn::types::Codec;
 use rasn_samples::snmp::{
     END_OF_VIEW, GET, GET_BULK, GET_NEXT, INFORM, NOT_WRITABLE, RESPONSE, SET, TRAP,
@@ -42,9 +42,14 @@ fn operation(data: &Pdus) -> &'static str {
 
 /// Asserts that the octets are a message with this alternative of PDUs, and what is written of it.
 fn assert_is_message(rt: &impl Abort, alloc: Global, octets: &[u8], name: &str) {
-    let (message, rest) = value(rt, read_message(alloc, octets));
-    assert!(rt; rest.is_empty() && operation(&message.data) == name);
-    assert_output(rt, write_message(alloc, &message), octets);
+    let answer = ahead_of(rt, read_message(alloc, octets), &[]);
+    assert_has(
+        rt,
+        answer,
+        |message: &Message| operation(&message.data) == name,
+    );
+    let answer = ahead_of(rt, read_message(alloc, octets), &[]);
+    assert_written_as(rt, alloc, answer, write_message, octets);
 }
 
 #[test]
@@ -70,6 +75,11 @@ fn a_report_is_read_and_written_back(rt: HostRuntime) {
 // The parts of each kind of PDU, as the programs were told them or printed them.
 #[test]
 fn parts_of_messages_are_read(rt: HostRuntime) {
+    const ROWS: &[Answer<'static>] = &[
+        (NOT_WRITABLE, Codec::Ber, RESPONSE),
+        (GET_BULK, Codec::Ber, BULK),
+        (TRAP_OF_VERSION_1, Codec::Ber, TRAP),
+    ];
     const RESPONSE: &str =
         "Message { version: 1, community: OctetString { octets: [112, 114, 105, 118, 97, 116, 101] }, \
         data: Response(Implicit { value: Pdu { request_id: 360256838, error_status: 17, error_index: 1, \
@@ -87,77 +97,66 @@ fn parts_of_messages_are_read(rt: HostRuntime) {
         specific_trap: 17, time_stamp: Implicit { value: 1234, tag: PhantomData<_> }, variable_bindings: \
         [VarBind { name: ObjectIdentifier { arcs: [1, 3, 6, 1, 2, 1, 1, 5, 0] }, \
         value: OctetString(OctetString { octets: [110, 97, 109, 101] }) }] }, tag: PhantomData<_> }) }";
-    assert_decodes::<Message>(
-        &rt,
-        rt.alloc(),
-        &[
-            (NOT_WRITABLE, Codec::Ber, RESPONSE),
-            (GET_BULK, Codec::Ber, BULK),
-            (TRAP_OF_VERSION_1, Codec::Ber, TRAP),
-        ],
-    );
+    assert_decodes::<Message>(&rt, rt.alloc(), ROWS);
 }
 
 // The values of the trap and of the agent's answers, as the programs were told them or printed them.
 #[test]
 fn values_are_read(rt: HostRuntime) {
-    assert_decodes::<VarBindValue>(
-        &rt,
-        rt.alloc(),
-        &[
-            (
-                &[0x02, 0x04, 0x80, 0x00, 0x00, 0x00],
-                Codec::Ber,
-                "Integer(-2147483648)",
-            ),
-            (
-                &[0x04, 0x02, 0x00, 0xFF],
-                Codec::Ber,
-                "OctetString(OctetString { octets: [0, 255] })",
-            ),
-            (
-                &[0x06, 0x03, 0x88, 0x37, 0x03],
-                Codec::Ber,
-                "ObjectIdentifier(ObjectIdentifier { arcs: [2, 999, 3] })",
-            ),
-            (
-                &[0x40, 0x04, 0xC0, 0x00, 0x02, 0x07],
-                Codec::Ber,
-                "IpAddress(Implicit { value: FixedOctetString { octets: [192, 0, 2, 7] }, tag: PhantomData<_> })",
-            ),
-            (
-                &[0x41, 0x05, 0x00, 0x80, 0x00, 0x00, 0x00],
-                Codec::Ber,
-                "Counter32(Implicit { value: 2147483648, tag: PhantomData<_> })",
-            ),
-            (
-                &[0x42, 0x05, 0x00, 0xFF, 0xFF, 0xFF, 0xFF],
-                Codec::Ber,
-                "Unsigned32(Implicit { value: 4294967295, tag: PhantomData<_> })",
-            ),
-            (
-                &[0x43, 0x05, 0x00, 0xFF, 0xFF, 0xFF, 0xFF],
-                Codec::Ber,
-                "TimeTicks(Implicit { value: 4294967295, tag: PhantomData<_> })",
-            ),
-            (
-                &[0x44, 0x07, 0x9F, 0x78, 0x04, 0x41, 0x85, 0x2B, 0x00],
-                Codec::Ber,
-                "Opaque(Implicit { value: OctetString { octets: [159, 120, 4, 65, 133, 43, 0] }, tag: PhantomData<_> })",
-            ),
-            (
-                &[
-                    0x46, 0x09, 0x00, 0xFF, 0xFF, 0xFF, 0xFF, 0xFF, 0xFF, 0xFF, 0xFF,
-                ],
-                Codec::Ber,
-                "Counter64(Implicit { value: 18446744073709551615, tag: PhantomData<_> })",
-            ),
-            (&[0x05, 0x00], Codec::Ber, "Unspecified"),
-            (&[0x80, 0x00], Codec::Ber, "NoSuchObject"),
-            (&[0x81, 0x00], Codec::Ber, "NoSuchInstance"),
-            (&[0x82, 0x00], Codec::Ber, "EndOfMibView"),
-        ],
-    );
+    const ROWS: &[Answer<'static>] = &[
+        (
+            &[0x02, 0x04, 0x80, 0x00, 0x00, 0x00],
+            Codec::Ber,
+            "Integer(-2147483648)",
+        ),
+        (
+            &[0x04, 0x02, 0x00, 0xFF],
+            Codec::Ber,
+            "OctetString(OctetString { octets: [0, 255] })",
+        ),
+        (
+            &[0x06, 0x03, 0x88, 0x37, 0x03],
+            Codec::Ber,
+            "ObjectIdentifier(ObjectIdentifier { arcs: [2, 999, 3] })",
+        ),
+        (
+            &[0x40, 0x04, 0xC0, 0x00, 0x02, 0x07],
+            Codec::Ber,
+            "IpAddress(Implicit { value: FixedOctetString { octets: [192, 0, 2, 7] }, tag: PhantomData<_> })",
+        ),
+        (
+            &[0x41, 0x05, 0x00, 0x80, 0x00, 0x00, 0x00],
+            Codec::Ber,
+            "Counter32(Implicit { value: 2147483648, tag: PhantomData<_> })",
+        ),
+        (
+            &[0x42, 0x05, 0x00, 0xFF, 0xFF, 0xFF, 0xFF],
+            Codec::Ber,
+            "Unsigned32(Implicit { value: 4294967295, tag: PhantomData<_> })",
+        ),
+        (
+            &[0x43, 0x05, 0x00, 0xFF, 0xFF, 0xFF, 0xFF],
+            Codec::Ber,
+            "TimeTicks(Implicit { value: 4294967295, tag: PhantomData<_> })",
+        ),
+        (
+            &[0x44, 0x07, 0x9F, 0x78, 0x04, 0x41, 0x85, 0x2B, 0x00],
+            Codec::Ber,
+            "Opaque(Implicit { value: OctetString { octets: [159, 120, 4, 65, 133, 43, 0] }, tag: PhantomData<_> })",
+        ),
+        (
+            &[
+                0x46, 0x09, 0x00, 0xFF, 0xFF, 0xFF, 0xFF, 0xFF, 0xFF, 0xFF, 0xFF,
+            ],
+            Codec::Ber,
+            "Counter64(Implicit { value: 18446744073709551615, tag: PhantomData<_> })",
+        ),
+        (&[0x05, 0x00], Codec::Ber, "Unspecified"),
+        (&[0x80, 0x00], Codec::Ber, "NoSuchObject"),
+        (&[0x81, 0x00], Codec::Ber, "NoSuchInstance"),
+        (&[0x82, 0x00], Codec::Ber, "EndOfMibView"),
+    ];
+    assert_decodes::<VarBindValue>(&rt, rt.alloc(), ROWS);
 }
 
 // Values that their types don't hold (RFC 2578, 7.1), tags that no alternative has, NULL with contents (X.690 8.8.2), and an octet that is missing.
@@ -165,112 +164,102 @@ fn values_are_read(rt: HostRuntime) {
 fn spoilt_values_are_refused(rt: HostRuntime) {
     const OVERFLOW: &str = "IntegerOverflow { max_width: 32 }";
     const NO_CHOICE: &str = "NoValidChoice { name: \"VarBindValue\" }";
-    assert_decodes::<VarBindValue>(
-        &rt,
-        rt.alloc(),
-        &[
-            (
-                &[0x40, 0x03, 0xC0, 0x00, 0x02],
-                Codec::Ber,
-                "SizeConstraintNotSatisfied { size: Some(3), expected: Single(4) }",
-            ),
-            (
-                &[0x40, 0x05, 0xC0, 0x00, 0x02, 0x07, 0x00],
-                Codec::Ber,
-                "SizeConstraintNotSatisfied { size: Some(5), expected: Single(4) }",
-            ),
-            (
-                &[0x41, 0x05, 0x01, 0x00, 0x00, 0x00, 0x00],
-                Codec::Ber,
-                OVERFLOW,
-            ),
-            (&[0x42, 0x01, 0xFF], Codec::Ber, OVERFLOW),
-            (
-                &[
-                    0x46, 0x09, 0x01, 0x00, 0x00, 0x00, 0x00, 0x00, 0x00, 0x00, 0x00,
-                ],
-                Codec::Ber,
-                "IntegerOverflow { max_width: 64 }",
-            ),
-            (
-                &[0x02, 0x05, 0x00, 0x80, 0x00, 0x00, 0x00],
-                Codec::Ber,
-                OVERFLOW,
-            ),
-            (&[0x45, 0x01, 0x00], Codec::Ber, NO_CHOICE),
-            (&[0x83, 0x00], Codec::Ber, NO_CHOICE),
-            (
-                &[0x80, 0x01, 0x00],
-                Codec::Ber,
-                "MismatchedLength { expected: 0, actual: 1 }",
-            ),
-            (
-                &[0x41, 0x04, 0x00],
-                Codec::Ber,
-                "Incomplete { needed: Size(3) }",
-            ),
-        ],
-    );
+    const ROWS: &[Answer<'static>] = &[
+        (
+            &[0x40, 0x03, 0xC0, 0x00, 0x02],
+            Codec::Ber,
+            "SizeConstraintNotSatisfied { size: Some(3), expected: Single(4) }",
+        ),
+        (
+            &[0x40, 0x05, 0xC0, 0x00, 0x02, 0x07, 0x00],
+            Codec::Ber,
+            "SizeConstraintNotSatisfied { size: Some(5), expected: Single(4) }",
+        ),
+        (
+            &[0x41, 0x05, 0x01, 0x00, 0x00, 0x00, 0x00],
+            Codec::Ber,
+            OVERFLOW,
+        ),
+        (&[0x42, 0x01, 0xFF], Codec::Ber, OVERFLOW),
+        (
+            &[
+                0x46, 0x09, 0x01, 0x00, 0x00, 0x00, 0x00, 0x00, 0x00, 0x00, 0x00,
+            ],
+            Codec::Ber,
+            "IntegerOverflow { max_width: 64 }",
+        ),
+        (
+            &[0x02, 0x05, 0x00, 0x80, 0x00, 0x00, 0x00],
+            Codec::Ber,
+            OVERFLOW,
+        ),
+        (&[0x45, 0x01, 0x00], Codec::Ber, NO_CHOICE),
+        (&[0x83, 0x00], Codec::Ber, NO_CHOICE),
+        (
+            &[0x80, 0x01, 0x00],
+            Codec::Ber,
+            "MismatchedLength { expected: 0, actual: 1 }",
+        ),
+        (
+            &[0x41, 0x04, 0x00],
+            Codec::Ber,
+            "Incomplete { needed: Size(3) }",
+        ),
+    ];
+    assert_decodes::<VarBindValue>(&rt, rt.alloc(), ROWS);
 }
 
 // A padded INTEGER (X.690 8.3.2), a length in more octets than it needs (10.1) and an OCTET STRING in segments (10.2): BER reads them, and
 // DER, which is what is written, doesn't.
 #[test]
 fn values_that_der_does_not_have_are_read(rt: HostRuntime) {
-    assert_decodes::<VarBindValue>(
-        &rt,
-        rt.alloc(),
-        &[
-            (&[0x02, 0x02, 0x00, 0x05], Codec::Ber, "Integer(5)"),
-            (
-                &[0x02, 0x02, 0x00, 0x05],
-                Codec::Der,
-                "CodecSpecific { inner: Der(NonMinimalInteger) }",
-            ),
-            (&[0x02, 0x82, 0x00, 0x01, 0x05], Codec::Ber, "Integer(5)"),
-            (
-                &[0x02, 0x82, 0x00, 0x01, 0x05],
-                Codec::Der,
-                "CodecSpecific { inner: Der(NonMinimalLength) }",
-            ),
-            (
-                &[0x24, 0x80, 0x04, 0x01, 0x78, 0x00, 0x00],
-                Codec::Ber,
-                "OctetString(OctetString { octets: [120] })",
-            ),
-        ],
-    );
+    const ROWS: &[Answer<'static>] = &[
+        (&[0x02, 0x02, 0x00, 0x05], Codec::Ber, "Integer(5)"),
+        (
+            &[0x02, 0x02, 0x00, 0x05],
+            Codec::Der,
+            "CodecSpecific { inner: Der(NonMinimalInteger) }",
+        ),
+        (&[0x02, 0x82, 0x00, 0x01, 0x05], Codec::Ber, "Integer(5)"),
+        (
+            &[0x02, 0x82, 0x00, 0x01, 0x05],
+            Codec::Der,
+            "CodecSpecific { inner: Der(NonMinimalLength) }",
+        ),
+        (
+            &[0x24, 0x80, 0x04, 0x01, 0x78, 0x00, 0x00],
+            Codec::Ber,
+            "OctetString(OctetString { octets: [120] })",
+        ),
+    ];
+    assert_decodes::<VarBindValue>(&rt, rt.alloc(), ROWS);
 }
 
-// The request of `snmpgetnext`: with an octet missing, another PDU than those of RFC 3416, another type of version, and of version 3, which has a
+// The request of `snmpgetnext`: with a length of one octet more, another PDU than those of RFC 3416, another type of version, and of version 3, which has a
 // SEQUENCE in the place of the community (RFC 3412, 6).
 #[test]
 fn spoilt_messages_are_refused(rt: HostRuntime) {
-    let alloc = rt.alloc();
+    const LENGTH: usize = 1;
+    const VERSION: usize = 2;
+    const COMMUNITY: usize = 5;
     const PDU: usize = 13;
-    let cut = GET_NEXT.split_at(41).0;
-    assert_decodes::<Message>(
-        &rt,
-        alloc,
-        &[
-            (cut, Codec::Ber, "Incomplete { needed: Size(1) }"),
-            (
-                &spoilt(&rt, alloc, GET_NEXT, PDU, 0xA9),
-                Codec::Ber,
-                "NoValidChoice { name: \"Pdus\" }",
-            ),
-            (
-                &spoilt(&rt, alloc, GET_NEXT, 2, 0x0A),
-                Codec::Ber,
-                "CodecSpecific { inner: Ber(MismatchedTag { expected: Tag { class: Universal, value: 2 }, actual: Tag { class: Universal, value: 10 } }) }",
-            ),
-            (
-                &spoilt(&rt, alloc, GET_NEXT, 5, 0x30),
-                Codec::Ber,
-                "CodecSpecific { inner: Ber(MismatchedTag { expected: Tag { class: Universal, value: 4 }, actual: Tag { class: Universal, value: 16 } }) }",
-            ),
-        ],
-    );
+    const ROWS: &[Spoilt] = &[
+        (LENGTH, 0x29, Codec::Ber, "Incomplete { needed: Size(1) }"),
+        (PDU, 0xA9, Codec::Ber, "NoValidChoice { name: \"Pdus\" }"),
+        (
+            VERSION,
+            0x0A,
+            Codec::Ber,
+            "CodecSpecific { inner: Ber(MismatchedTag { expected: Tag { class: Universal, value: 2 }, actual: Tag { class: Universal, value: 10 } }) }",
+        ),
+        (
+            COMMUNITY,
+            0x30,
+            Codec::Ber,
+            "CodecSpecific { inner: Ber(MismatchedTag { expected: Tag { class: Universal, value: 4 }, actual: Tag { class: Universal, value: 16 } }) }",
+        ),
+    ];
+    assert_spoilt::<Message>(&rt, rt.alloc(), GET_NEXT, ROWS);
 }
 
 // The same request in an indefinite length, which RFC 3417 8 has nobody write, and two octets behind it: BER reads it, and what is written is definite.
@@ -283,7 +272,6 @@ fn a_message_of_indefinite_length_is_written_definite(rt: HostRuntime) {
         0x0B, 0x06, 0x07, 0x2B, 0x06, 0x01, 0x02, 0x01, 0x01, 0x05, 0x05, 0x00, 0x00, 0x00, 0xAB,
         0xCD,
     ];
-    let (message, rest) = value(&rt, read_message(alloc, INDEFINITE));
-    assert!(rt; rest == [0xAB, 0xCD].as_slice());
-    assert_output(&rt, write_message(alloc, &message), GET_NEXT);
+    let answer = ahead_of(&rt, read_message(alloc, INDEFINITE), &[0xAB, 0xCD]);
+    assert_written_as(&rt, alloc, answer, write_message, GET_NEXT);
 }

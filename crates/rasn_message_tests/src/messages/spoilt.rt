@@ -1,7 +1,17 @@
 //! Octets of messages with a fault.
 
-use std::alloc::Global;
+use crate::asserts::{debug_text, decoded};
+use rasn::de::Decode;
+use rasn::error::DecodeError;
+use rasn::types::Codec;
+use std::alloc::{AllocError, Global};
 use std::process::Abort;
+
+/// The place of an octet, another one in its place, the rules that the octets are then read by, and the text of the error's kind, or `READ`.
+pub type Spoilt = (usize, u8, Codec, &'static str);
+
+/// What stands in a row where the spoilt octets are read.
+pub const READ: &str = "a value";
 
 /// The octets with another one at this place.
 pub fn spoilt(rt: &impl Abort, alloc: Global, octets: &[u8], at: usize, octet: u8) -> Vec<u8> {
@@ -12,4 +22,29 @@ pub fn spoilt(rt: &impl Abort, alloc: Global, octets: &[u8], at: usize, octet: u
         *place = octet;
     }
     copy
+}
+
+/// The text of a row for an answer; that of an error under other rules is one that no row has.
+fn outcome<T>(
+    alloc: Global,
+    rules: Codec,
+    answer: &Result<T, DecodeError>,
+) -> Result<String, AllocError> {
+    match answer {
+        Ok(_) => String::from_str(alloc, READ),
+        Err(error) if error.codec == rules => debug_text(alloc, &error.kind),
+        Err(_) => String::from_str(alloc, "an error under other rules"),
+    }
+}
+
+/// Asserts what the octets are read as with each row's fault.
+pub fn assert_spoilt<T: Decode>(rt: &impl Abort, alloc: Global, octets: &[u8], rows: &[Spoilt]) {
+    for (at, octet, rules, text) in rows {
+        let octets = spoilt(rt, alloc, octets, *at, *octet);
+        let answer = decoded::<T>(alloc, *rules, &octets);
+        match outcome(alloc, *rules, &answer) {
+            Ok(found) => assert_eq!(rt; found.as_str(), *text),
+            Err(_) => assert!(rt; false, "no memory"),
+        }
+    }
 }

@@ -2,9 +2,9 @@
 
 use crate::any::{TAG_1, any_of, deep};
 use crate::reading::{
-    OctetsRow, assert_answer, assert_has_octets, assert_reads, assert_reads_octets, decoder_of,
+    OctetsRow, Row, assert_answer, assert_has_octets, assert_reads, assert_reads_octets, decoder_of,
 };
-use crate::whole::assert_decodes_with_remainder;
+use crate::whole::{Answer, assert_decodes_with_remainder};
 use crate::writing::made;
 use rasn::de::Decode;
 use rasn::types::{Any, Codec};
@@ -25,39 +25,33 @@ fn holds_octets(rt: HostRuntime) {
 // An open type without a tag is one complete encoding, end-of-contents octets included (X.690 8.15).
 #[test]
 fn keeps_whole_encodings(rt: HostRuntime) {
+    const WITH_REMAINDER: &[Answer<'static>] = &[(
+        &[
+            0x30, 0x80, 0x30, 0x80, 0x02, 0x01, 0x01, 0x00, 0x00, 0x04, 0x01, 0x00, 0x00, 0x00,
+            0x02, 0x01, 0x02,
+        ],
+        Codec::Ber,
+        ANY_AND_REST,
+    )];
+    const OCTETS: &[OctetsRow] = &[
+        (
+            &[0x02, 0x01, 0x05, 0x00],
+            Codec::Ber,
+            &[0x02, 0x01, 0x05],
+            3,
+        ),
+        (
+            &[0x02, 0x01, 0x05, 0x00],
+            Codec::Der,
+            &[0x02, 0x01, 0x05],
+            3,
+        ),
+    ];
     let alloc = rt.alloc();
     const ANY_AND_REST: &str =
         "(Any { octets: [48, 128, 48, 128, 2, 1, 1, 0, 0, 4, 1, 0, 0, 0] }, [2, 1, 2])";
-    assert_decodes_with_remainder::<Any>(
-        &rt,
-        alloc,
-        &[(
-            &[
-                0x30, 0x80, 0x30, 0x80, 0x02, 0x01, 0x01, 0x00, 0x00, 0x04, 0x01, 0x00, 0x00, 0x00,
-                0x02, 0x01, 0x02,
-            ],
-            Codec::Ber,
-            ANY_AND_REST,
-        )],
-    );
-    assert_reads_octets::<Any>(
-        &rt,
-        alloc,
-        &[
-            (
-                &[0x02, 0x01, 0x05, 0x00],
-                Codec::Ber,
-                &[0x02, 0x01, 0x05],
-                3,
-            ),
-            (
-                &[0x02, 0x01, 0x05, 0x00],
-                Codec::Der,
-                &[0x02, 0x01, 0x05],
-                3,
-            ),
-        ],
-    );
+    assert_decodes_with_remainder::<Any>(&rt, alloc, WITH_REMAINDER);
+    assert_reads_octets::<Any>(&rt, alloc, OCTETS);
 }
 
 // A fault inside consumes nothing.
@@ -65,21 +59,18 @@ fn keeps_whole_encodings(rt: HostRuntime) {
 fn refuses_broken_encodings(rt: HostRuntime) {
     const END_OF_CONTENTS: &str = "CodecSpecific { inner: Ber(UnexpectedEndOfContents) }";
     const INDEFINITE_LENGTH: &str = "CodecSpecific { inner: Ber(IndefiniteLengthNotAllowed) }";
-    assert_reads::<Any>(
-        &rt,
-        rt.alloc(),
-        &[
-            (
-                &[0x30, 0x80, 0x05, 0x00],
-                Codec::Ber,
-                "Incomplete { needed: Size(1) }",
-                0,
-            ),
-            (&[0x30, 0x80, 0x00], Codec::Ber, END_OF_CONTENTS, 0),
-            (&[0x00, 0x00], Codec::Ber, END_OF_CONTENTS, 0),
-            (&[0x30, 0x80, 0x00, 0x00], Codec::Der, INDEFINITE_LENGTH, 0),
-        ],
-    );
+    const ROWS: &[Row] = &[
+        (
+            &[0x30, 0x80, 0x05, 0x00],
+            Codec::Ber,
+            "Incomplete { needed: Size(1) }",
+            0,
+        ),
+        (&[0x30, 0x80, 0x00], Codec::Ber, END_OF_CONTENTS, 0),
+        (&[0x00, 0x00], Codec::Ber, END_OF_CONTENTS, 0),
+        (&[0x30, 0x80, 0x00, 0x00], Codec::Der, INDEFINITE_LENGTH, 0),
+    ];
+    assert_reads::<Any>(&rt, rt.alloc(), ROWS);
 }
 
 /// Asserts which octets an open type under the tag \[1\] keeps of each row's octets, and how many are consumed.
@@ -94,27 +85,24 @@ fn assert_reads_tagged(rt: &impl Abort, alloc: Global, rows: &[OctetsRow]) {
 // A tag stands round the open type and isn't kept, nor are its end-of-contents octets (X.690 8.14.2).
 #[test]
 fn keeps_what_a_tag_holds(rt: HostRuntime) {
-    assert_reads_tagged(
-        &rt,
-        rt.alloc(),
-        &[
-            (
-                &[0xA1, 0x80, 0x04, 0x02, 0xAB, 0xCD, 0x00, 0x00],
-                Codec::Ber,
-                &[0x04, 0x02, 0xAB, 0xCD],
-                8,
-            ),
-            (
-                &[0xA1, 0x80, 0x04, 0x02, 0xAB, 0xCD, 0x00, 0x00],
-                Codec::Cer,
-                &[0x04, 0x02, 0xAB, 0xCD],
-                8,
-            ),
-            (&[0xA1, 0x02, 0x05, 0x00], Codec::Der, &[0x05, 0x00], 4),
-            (&[0x81, 0x02, 0x05, 0x00], Codec::Ber, &[0x05, 0x00], 4),
-            (&[0xA1, 0x00], Codec::Ber, &[], 2),
-        ],
-    );
+    const ROWS: &[OctetsRow] = &[
+        (
+            &[0xA1, 0x80, 0x04, 0x02, 0xAB, 0xCD, 0x00, 0x00],
+            Codec::Ber,
+            &[0x04, 0x02, 0xAB, 0xCD],
+            8,
+        ),
+        (
+            &[0xA1, 0x80, 0x04, 0x02, 0xAB, 0xCD, 0x00, 0x00],
+            Codec::Cer,
+            &[0x04, 0x02, 0xAB, 0xCD],
+            8,
+        ),
+        (&[0xA1, 0x02, 0x05, 0x00], Codec::Der, &[0x05, 0x00], 4),
+        (&[0x81, 0x02, 0x05, 0x00], Codec::Ber, &[0x05, 0x00], 4),
+        (&[0xA1, 0x00], Codec::Ber, &[], 2),
+    ];
+    assert_reads_tagged(&rt, rt.alloc(), ROWS);
 }
 
 // Under DER a tag round an open type is constructed (X.690 8.14.3).

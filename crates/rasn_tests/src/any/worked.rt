@@ -1,6 +1,6 @@
 //! AlgorithmIdentifier, AttributeTypeAndValue and RelativeDistinguishedName, whose last component is an open type (X.690 8.15).
 
-use crate::whole::{assert_decodes, assert_rewrites};
+use crate::whole::{Answer, Rewritten, assert_decodes, assert_rewrites};
 use rasn::types::Codec;
 use rasn_bench::{AlgorithmIdentifier, AttributeTypeAndValue, RelativeDistinguishedName};
 
@@ -26,6 +26,12 @@ const COMMON_NAME: [u8; 13] = [
 // The parameters are the open type that stands behind the algorithm, if one does (X.680 25.5).
 #[test]
 fn algorithms_may_have_parameters(rt: HostRuntime) {
+    const ROWS: &[Rewritten<'static>] = &[
+        (&RSA, Codec::Der, Codec::Der, &RSA),
+        (&RSA, Codec::Ber, Codec::Cer, &RSA_IN_CER),
+        (&RSA_IN_CER, Codec::Cer, Codec::Der, &RSA),
+        (&ED25519, Codec::Ber, Codec::Der, &ED25519),
+    ];
     let rsa =
         "AlgorithmIdentifier { algorithm: ObjectIdentifier { arcs: [1, 2, 840, 113549, 1, 1, 1] }, parameters: Some(Any { octets: [5, 0] }) }";
     let ed25519 =
@@ -39,34 +45,23 @@ fn algorithms_may_have_parameters(rt: HostRuntime) {
             (&ED25519, Codec::Der, ed25519),
         ],
     );
-    assert_rewrites::<AlgorithmIdentifier>(
-        &rt,
-        rt.alloc(),
-        &[
-            (&RSA, Codec::Der, Codec::Der, &RSA),
-            (&RSA, Codec::Ber, Codec::Cer, &RSA_IN_CER),
-            (&RSA_IN_CER, Codec::Cer, Codec::Der, &RSA),
-            (&ED25519, Codec::Ber, Codec::Der, &ED25519),
-        ],
-    );
+    assert_rewrites::<AlgorithmIdentifier>(&rt, rt.alloc(), ROWS);
 }
 
 // Octets behind the parameters are refused.
 #[test]
 fn parameters_are_one_value(rt: HostRuntime) {
-    assert_decodes::<AlgorithmIdentifier>(
-        &rt,
-        rt.alloc(),
-        &[(
-            &[0x30, 0x07, 0x06, 0x01, 0x2A, 0x05, 0x00, 0x05, 0x00],
-            Codec::Der,
-            "UnexpectedExtraData { length: 2 }",
-        )],
-    );
+    const ROWS: &[Answer<'static>] = &[(
+        &[0x30, 0x07, 0x06, 0x01, 0x2A, 0x05, 0x00, 0x05, 0x00],
+        Codec::Der,
+        "UnexpectedExtraData { length: 2 }",
+    )];
+    assert_decodes::<AlgorithmIdentifier>(&rt, rt.alloc(), ROWS);
 }
 
 #[test]
 fn names_are_sets_of_attributes(rt: HostRuntime) {
+    const ROWS: &[Rewritten<'static>] = &[(&COMMON_NAME, Codec::Der, Codec::Der, &COMMON_NAME)];
     let alloc = rt.alloc();
     let attribute =
         "AttributeTypeAndValue { kind: ObjectIdentifier { arcs: [2, 5, 4, 3] }, value: Any { octets: [12, 2, 65, 66] } }";
@@ -75,9 +70,5 @@ fn names_are_sets_of_attributes(rt: HostRuntime) {
         alloc,
         &[(&COMMON_NAME[2..], Codec::Der, attribute)],
     );
-    assert_rewrites::<RelativeDistinguishedName>(
-        &rt,
-        alloc,
-        &[(&COMMON_NAME, Codec::Der, Codec::Der, &COMMON_NAME)],
-    );
+    assert_rewrites::<RelativeDistinguishedName>(&rt, alloc, ROWS);
 }

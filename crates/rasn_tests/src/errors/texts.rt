@@ -42,113 +42,89 @@ fn assert_refusals_shown<T: Decode>(
 // The texts count one octet and several, and show tags of all classes.
 #[test]
 fn tells_octets_and_tags(rt: HostRuntime) {
+    const BOOL_ROWS: &[Refused] = &[
+        (
+            &[0x01],
+            Codec::Ber,
+            "BER: unexpected end of input, need 1 more octet",
+        ),
+        (
+            &[0x01, 0x01, 0x05],
+            Codec::Der,
+            "DER: BOOLEAN octet 05 is neither 00 nor FF",
+        ),
+        (
+            &[0x01, 0x02, 0x05, 0x05],
+            Codec::Cer,
+            "CER: length 2, expected 1",
+        ),
+        (
+            &[0x1F, 0x22],
+            Codec::Ber,
+            "BER: unexpected tag universal 34, expected universal 1",
+        ),
+        (
+            &[0x41, 0x01, 0xFF],
+            Codec::Ber,
+            "BER: unexpected tag application 1, expected universal 1",
+        ),
+        (
+            &[0x82, 0x01, 0xFF],
+            Codec::Ber,
+            "BER: unexpected tag [2], expected universal 1",
+        ),
+        (
+            &[0xC3, 0x01, 0xFF],
+            Codec::Ber,
+            "BER: unexpected tag private 3, expected universal 1",
+        ),
+    ];
+    const OCTET_STRING_ROWS: &[Refused] = &[
+        (
+            &[0x04, 0x05, 0x01, 0x02],
+            Codec::Ber,
+            "BER: unexpected end of input, need 3 more octets",
+        ),
+        (
+            &[0x24, 0x05, 0x04, 0x01, 0xA1, 0x00, 0x00],
+            Codec::Ber,
+            "BER: 2 trailing octets",
+        ),
+    ];
+    const VEC_ROWS: &[Refused] = &[(&[0x30, 0x01, 0x02], Codec::Ber, "BER: 1 trailing octet")];
     let alloc = rt.alloc();
     let any = &Constraints::NONE;
-    assert_refusals_shown::<bool>(
-        &rt,
-        alloc,
-        any,
-        &[
-            (
-                &[0x01],
-                Codec::Ber,
-                "BER: unexpected end of input, need 1 more octet",
-            ),
-            (
-                &[0x01, 0x01, 0x05],
-                Codec::Der,
-                "DER: BOOLEAN octet 05 is neither 00 nor FF",
-            ),
-            (
-                &[0x01, 0x02, 0x05, 0x05],
-                Codec::Cer,
-                "CER: length 2, expected 1",
-            ),
-            (
-                &[0x1F, 0x22],
-                Codec::Ber,
-                "BER: unexpected tag universal 34, expected universal 1",
-            ),
-            (
-                &[0x41, 0x01, 0xFF],
-                Codec::Ber,
-                "BER: unexpected tag application 1, expected universal 1",
-            ),
-            (
-                &[0x82, 0x01, 0xFF],
-                Codec::Ber,
-                "BER: unexpected tag [2], expected universal 1",
-            ),
-            (
-                &[0xC3, 0x01, 0xFF],
-                Codec::Ber,
-                "BER: unexpected tag private 3, expected universal 1",
-            ),
-        ],
-    );
-    assert_refusals_shown::<OctetString>(
-        &rt,
-        alloc,
-        any,
-        &[
-            (
-                &[0x04, 0x05, 0x01, 0x02],
-                Codec::Ber,
-                "BER: unexpected end of input, need 3 more octets",
-            ),
-            (
-                &[0x24, 0x05, 0x04, 0x01, 0xA1, 0x00, 0x00],
-                Codec::Ber,
-                "BER: 2 trailing octets",
-            ),
-        ],
-    );
-    assert_refusals_shown::<Vec<Option<bool>>>(
-        &rt,
-        alloc,
-        any,
-        &[(&[0x30, 0x01, 0x02], Codec::Ber, "BER: 1 trailing octet")],
-    );
+    assert_refusals_shown::<bool>(&rt, alloc, any, BOOL_ROWS);
+    assert_refusals_shown::<OctetString>(&rt, alloc, any, OCTET_STRING_ROWS);
+    assert_refusals_shown::<Vec<Option<bool>>>(&rt, alloc, any, VEC_ROWS);
 }
 
 // The texts show numbers, sizes and their ranges, an open end as MIN or MAX (X.680 51.4).
 #[test]
 fn tells_numbers_and_bounds(rt: HostRuntime) {
+    const U8_ROWS: &[Refused] = &[(&[0x02, 0x01, 0xFF], Codec::Ber, OVERFLOW)];
+    const INTEGER_ROWS: &[Refused] = &[
+        (
+            &[0x02, 0x02, 0x01, 0x2C],
+            Codec::Ber,
+            "BER: number 300 violates the constraint -5..255",
+        ),
+        (
+            &[0x02, 0x01, 0xF0],
+            Codec::Ber,
+            "BER: number -16 violates the constraint -5..255",
+        ),
+    ];
+    const OCTET_STRING_ROWS: &[Refused] = &[(
+        &[0x04, 0x03, 0x01, 0x02, 0x03],
+        Codec::Der,
+        "DER: size 3 violates the constraint 2",
+    )];
     let alloc = rt.alloc();
     const OVERFLOW: &str = "BER: number is out of range for a type of 8 bits";
-    assert_refusals_shown::<u8>(
-        &rt,
-        alloc,
-        &Constraints::NONE,
-        &[(&[0x02, 0x01, 0xFF], Codec::Ber, OVERFLOW)],
-    );
-    assert_refusals_shown::<Integer>(
-        &rt,
-        alloc,
-        &within(-5, 255),
-        &[
-            (
-                &[0x02, 0x02, 0x01, 0x2C],
-                Codec::Ber,
-                "BER: number 300 violates the constraint -5..255",
-            ),
-            (
-                &[0x02, 0x01, 0xF0],
-                Codec::Ber,
-                "BER: number -16 violates the constraint -5..255",
-            ),
-        ],
-    );
-    assert_refusals_shown::<OctetString>(
-        &rt,
-        alloc,
-        &sized(2),
-        &[(
-            &[0x04, 0x03, 0x01, 0x02, 0x03],
-            Codec::Der,
-            "DER: size 3 violates the constraint 2",
-        )],
-    );
+    assert_refusals_shown::<u8>(&rt, alloc, &Constraints::NONE, U8_ROWS);
+    assert_refusals_shown::<Integer>(&rt, alloc, &within(-5, 255), INTEGER_ROWS);
+    assert_refusals_shown::<OctetString>(&rt, alloc, &sized(2), OCTET_STRING_ROWS);
     assert_shown(&rt, alloc, Bounded::<u8>::None, "MIN..MAX");
     let upper = Bounded::Range {
         start: None,
@@ -165,44 +141,28 @@ fn tells_numbers_and_bounds(rt: HostRuntime) {
 // The texts show contents that are none of the type's.
 #[test]
 fn tells_foreign_octets(rt: HostRuntime) {
+    const NUMERIC_STRING_ROWS: &[Refused] = &[(
+        &[0x12, 0x02, 0x31, 0x2A],
+        Codec::Ber,
+        "BER: octet 2A at position 1 is not in the permitted alphabet",
+    )];
+    const BMP_STRING_ROWS: &[Refused] = &[(
+        &[0x1E, 0x01, 0x41],
+        Codec::Ber,
+        "BER: invalid string of type universal 30",
+    )];
+    const UTC_TIME_ROWS: &[Refused] = &[(
+        &[0x17, 0x02, 0x31, 0x0A],
+        Codec::Ber,
+        "BER: invalid time, octets 310A",
+    )];
+    const INTEGER_ROWS: &[Refused] = &[(&[0x02, 0x00], Codec::Ber, "BER: empty contents")];
     let alloc = rt.alloc();
     let any = &Constraints::NONE;
-    assert_refusals_shown::<NumericString>(
-        &rt,
-        alloc,
-        any,
-        &[(
-            &[0x12, 0x02, 0x31, 0x2A],
-            Codec::Ber,
-            "BER: octet 2A at position 1 is not in the permitted alphabet",
-        )],
-    );
-    assert_refusals_shown::<BmpString>(
-        &rt,
-        alloc,
-        any,
-        &[(
-            &[0x1E, 0x01, 0x41],
-            Codec::Ber,
-            "BER: invalid string of type universal 30",
-        )],
-    );
-    assert_refusals_shown::<UtcTime>(
-        &rt,
-        alloc,
-        any,
-        &[(
-            &[0x17, 0x02, 0x31, 0x0A],
-            Codec::Ber,
-            "BER: invalid time, octets 310A",
-        )],
-    );
-    assert_refusals_shown::<Integer>(
-        &rt,
-        alloc,
-        any,
-        &[(&[0x02, 0x00], Codec::Ber, "BER: empty contents")],
-    );
+    assert_refusals_shown::<NumericString>(&rt, alloc, any, NUMERIC_STRING_ROWS);
+    assert_refusals_shown::<BmpString>(&rt, alloc, any, BMP_STRING_ROWS);
+    assert_refusals_shown::<UtcTime>(&rt, alloc, any, UTC_TIME_ROWS);
+    assert_refusals_shown::<Integer>(&rt, alloc, any, INTEGER_ROWS);
 }
 
 // The texts show the names that a type reports, and why a value isn't written.
@@ -223,11 +183,13 @@ fn tells_names(rt: HostRuntime) {
     let kind = EncodeErrorKind::CodecSpecific {
         inner: CodecEncodeError::Ber(BerEncodeErrorKind::SetOutOfOrder),
     };
-    let codec = Codec::Cer;
     assert_shown(
         &rt,
         alloc,
-        EncodeError { kind, codec },
+        EncodeError {
+            kind,
+            codec: Codec::Cer,
+        },
         "CER: components of a SET or elements of a SET OF are not in ascending order",
     );
     let kind = EncodeErrorKind::SizeConstraintNotSatisfied {

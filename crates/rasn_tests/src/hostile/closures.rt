@@ -3,7 +3,7 @@ ghost use Rattle.rasn_de.specs.Constructed.{Keeps};
 ghost use Rattle.rasn_enc.specs.View.{LeavesOthers};
 
 use crate::hostile::{TRUE_ALONE, one_boolean};
-use crate::reading::{assert_answer, assert_reads, decoder_of};
+use crate::reading::{Row, assert_answer, assert_reads, decoder_of};
 use crate::types::{NumberAndTruth, Three};
 use crate::writing::{assert_output, assert_written, new_encoder};
 use rasn::ber::de::Decoder;
@@ -109,21 +109,15 @@ fn a_dropped_value_is_gone_on_from(rt: HostRuntime) {
 // contents of indefinite length the end-of-contents octets are counted.
 #[test]
 fn refuses_elements_of_nothing(rt: HostRuntime) {
+    const VEC_ROWS: &[Row] = &[(LIST_IN_LIST, Codec::Der, THREE_OCTETS_LEFT, 7)];
+    const SET_OF_ROWS: &[Row] = &[(INDEFINITE_SET_OF, Codec::Cer, SIX_OCTETS_LEFT, 2)];
     let alloc = rt.alloc();
     const LIST_IN_LIST: &[u8] = &[0x30, 0x05, 0x30, 0x03, 0x02, 0x01, 0x05];
     const THREE_OCTETS_LEFT: &str = "UnexpectedExtraData { length: 3 }";
-    assert_reads::<Vec<Vec<Option<bool>>>>(
-        &rt,
-        alloc,
-        &[(LIST_IN_LIST, Codec::Der, THREE_OCTETS_LEFT, 7)],
-    );
+    assert_reads::<Vec<Vec<Option<bool>>>>(&rt, alloc, VEC_ROWS);
     const INDEFINITE_SET_OF: &[u8] = &[0x31, 0x80, 0x02, 0x01, 0x05, 0x00, 0x00, 0x01];
     const SIX_OCTETS_LEFT: &str = "UnexpectedExtraData { length: 6 }";
-    assert_reads::<SetOf<Option<bool>>>(
-        &rt,
-        alloc,
-        &[(INDEFINITE_SET_OF, Codec::Cer, SIX_OCTETS_LEFT, 2)],
-    );
+    assert_reads::<SetOf<Option<bool>>>(&rt, alloc, SET_OF_ROWS);
 }
 
 /// SET { \[0\], \[1\] }

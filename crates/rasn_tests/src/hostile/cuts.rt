@@ -65,219 +65,171 @@ fn assert_cuts<T: Decode>(rt: &impl Abort, alloc: Global, rows: &[Definite]) {
 // Some of the headers have more octets than they need.
 #[test]
 fn cut_numbers_are_refused(rt: HostRuntime) {
+    const BOOL_ROWS: &[Definite] = &[
+        (&[0x01, 0x01, 0xFF], Codec::Der, 1, 1),
+        (&[0x1F, 0x80, 0x01, 0x01, 0xFF], Codec::Ber, 3, 1),
+        (&[0x01, 0x82, 0x00, 0x01, 0x05], Codec::Ber, 1, 3),
+    ];
+    const I32_ROWS: &[Definite] = &[
+        (
+            &[0x02, 0x06, 0xFF, 0xFF, 0xFF, 0xFF, 0x7F, 0x00],
+            Codec::Ber,
+            1,
+            1,
+        ),
+        (&[0x02, 0x02, 0x7F, 0x00], Codec::Der, 1, 1),
+    ];
+    const INTEGER_ROWS: &[Definite] = &[(&[0x02, 0x03, 0x00, 0x00, 0x80], Codec::Cer, 1, 1)];
+    const COLOUR_ROWS: &[Definite] = &[(&[0x0A, 0x02, 0x00, 0x02], Codec::Ber, 1, 1)];
+    const NULL_ROWS: &[Definite] = &[(&[0x05, 0x00], Codec::Der, 1, 1)];
+    const OBJECT_IDENTIFIER_ROWS: &[Definite] = &[(
+        &[
+            0x06, 0x09, 0x2B, 0x06, 0x01, 0x04, 0x01, 0x82, 0x37, 0x15, 0x14,
+        ],
+        Codec::Der,
+        1,
+        1,
+    )];
     let alloc = rt.alloc();
-    assert_cuts::<bool>(
-        &rt,
-        alloc,
-        &[
-            (&[0x01, 0x01, 0xFF], Codec::Der, 1, 1),
-            (&[0x1F, 0x80, 0x01, 0x01, 0xFF], Codec::Ber, 3, 1),
-            (&[0x01, 0x82, 0x00, 0x01, 0x05], Codec::Ber, 1, 3),
-        ],
-    );
-    assert_cuts::<i32>(
-        &rt,
-        alloc,
-        &[
-            (
-                &[0x02, 0x06, 0xFF, 0xFF, 0xFF, 0xFF, 0x7F, 0x00],
-                Codec::Ber,
-                1,
-                1,
-            ),
-            (&[0x02, 0x02, 0x7F, 0x00], Codec::Der, 1, 1),
-        ],
-    );
-    assert_cuts::<Integer>(
-        &rt,
-        alloc,
-        &[(&[0x02, 0x03, 0x00, 0x00, 0x80], Codec::Cer, 1, 1)],
-    );
-    assert_cuts::<Colour>(&rt, alloc, &[(&[0x0A, 0x02, 0x00, 0x02], Codec::Ber, 1, 1)]);
-    assert_cuts::<()>(&rt, alloc, &[(&[0x05, 0x00], Codec::Der, 1, 1)]);
-    assert_cuts::<ObjectIdentifier>(
-        &rt,
-        alloc,
-        &[(
-            &[
-                0x06, 0x09, 0x2B, 0x06, 0x01, 0x04, 0x01, 0x82, 0x37, 0x15, 0x14,
-            ],
-            Codec::Der,
-            1,
-            1,
-        )],
-    );
+    assert_cuts::<bool>(&rt, alloc, BOOL_ROWS);
+    assert_cuts::<i32>(&rt, alloc, I32_ROWS);
+    assert_cuts::<Integer>(&rt, alloc, INTEGER_ROWS);
+    assert_cuts::<Colour>(&rt, alloc, COLOUR_ROWS);
+    assert_cuts::<()>(&rt, alloc, NULL_ROWS);
+    assert_cuts::<ObjectIdentifier>(&rt, alloc, OBJECT_IDENTIFIER_ROWS);
 }
 
 // The strings are in one piece and in segments of definite length.
 #[test]
 fn cut_strings_are_refused(rt: HostRuntime) {
+    const OCTET_STRING_ROWS: &[Definite] = &[
+        (&[0x04, 0x03, 0xA1, 0xB2, 0xC3], Codec::Der, 1, 1),
+        (&[0x04, 0x81, 0x02, 0xA1, 0xB2], Codec::Cer, 1, 2),
+        (&[0x24, 0x03, 0x04, 0x01, 0xA1], Codec::Ber, 1, 1),
+    ];
+    const BIT_STRING_ROWS: &[Definite] = &[
+        (&[0x03, 0x03, 0x05, 0xD5, 0xA0], Codec::Der, 1, 1),
+        (
+            &[0x23, 0x08, 0x03, 0x02, 0x05, 0xE0, 0x03, 0x02, 0x04, 0xA0],
+            Codec::Ber,
+            1,
+            1,
+        ),
+    ];
+    const IA5_STRING_ROWS: &[Definite] = &[(
+        &[0x16, 0x05, 0x53, 0x6D, 0x69, 0x74, 0x68],
+        Codec::Der,
+        1,
+        1,
+    )];
+    const BMP_STRING_ROWS: &[Definite] = &[(&[0x1E, 0x02, 0x00, 0x41], Codec::Ber, 1, 1)];
     let alloc = rt.alloc();
-    assert_cuts::<OctetString>(
-        &rt,
-        alloc,
-        &[
-            (&[0x04, 0x03, 0xA1, 0xB2, 0xC3], Codec::Der, 1, 1),
-            (&[0x04, 0x81, 0x02, 0xA1, 0xB2], Codec::Cer, 1, 2),
-            (&[0x24, 0x03, 0x04, 0x01, 0xA1], Codec::Ber, 1, 1),
-        ],
-    );
-    assert_cuts::<BitString>(
-        &rt,
-        alloc,
-        &[
-            (&[0x03, 0x03, 0x05, 0xD5, 0xA0], Codec::Der, 1, 1),
-            (
-                &[0x23, 0x08, 0x03, 0x02, 0x05, 0xE0, 0x03, 0x02, 0x04, 0xA0],
-                Codec::Ber,
-                1,
-                1,
-            ),
-        ],
-    );
-    assert_cuts::<Ia5String>(
-        &rt,
-        alloc,
-        &[(
-            &[0x16, 0x05, 0x53, 0x6D, 0x69, 0x74, 0x68],
-            Codec::Der,
-            1,
-            1,
-        )],
-    );
-    assert_cuts::<BmpString>(&rt, alloc, &[(&[0x1E, 0x02, 0x00, 0x41], Codec::Ber, 1, 1)]);
+    assert_cuts::<OctetString>(&rt, alloc, OCTET_STRING_ROWS);
+    assert_cuts::<BitString>(&rt, alloc, BIT_STRING_ROWS);
+    assert_cuts::<Ia5String>(&rt, alloc, IA5_STRING_ROWS);
+    assert_cuts::<BmpString>(&rt, alloc, BMP_STRING_ROWS);
 }
 
 #[test]
 fn cut_times_are_refused(rt: HostRuntime) {
+    const UTC_TIME_ROWS: &[Definite] = &[(
+        &[
+            0x17, 0x0D, 0x31, 0x38, 0x30, 0x31, 0x32, 0x32, 0x31, 0x33, 0x32, 0x39, 0x30, 0x30,
+            0x5A,
+        ],
+        Codec::Der,
+        1,
+        1,
+    )];
+    const GENERALIZED_TIME_ROWS: &[Definite] = &[(
+        &[
+            0x18, 0x0F, 0x32, 0x30, 0x35, 0x30, 0x30, 0x31, 0x30, 0x31, 0x30, 0x30, 0x30, 0x30,
+            0x30, 0x30, 0x5A,
+        ],
+        Codec::Cer,
+        1,
+        1,
+    )];
+    const DATE_ROWS: &[Definite] = &[(
+        &[
+            0x1F, 0x1F, 0x08, 0x32, 0x30, 0x31, 0x32, 0x31, 0x32, 0x32, 0x31,
+        ],
+        Codec::Ber,
+        2,
+        1,
+    )];
+    const VALIDITY_ROWS: &[Definite] = &[(
+        &[
+            0x30, 0x20, 0x17, 0x0D, 0x31, 0x38, 0x30, 0x31, 0x32, 0x32, 0x31, 0x33, 0x32, 0x39,
+            0x30, 0x30, 0x5A, 0x18, 0x0F, 0x32, 0x30, 0x35, 0x30, 0x30, 0x31, 0x30, 0x31, 0x30,
+            0x30, 0x30, 0x30, 0x30, 0x30, 0x5A,
+        ],
+        Codec::Der,
+        1,
+        1,
+    )];
     let alloc = rt.alloc();
-    assert_cuts::<UtcTime>(
-        &rt,
-        alloc,
-        &[(
-            &[
-                0x17, 0x0D, 0x31, 0x38, 0x30, 0x31, 0x32, 0x32, 0x31, 0x33, 0x32, 0x39, 0x30, 0x30,
-                0x5A,
-            ],
-            Codec::Der,
-            1,
-            1,
-        )],
-    );
-    assert_cuts::<GeneralizedTime>(
-        &rt,
-        alloc,
-        &[(
-            &[
-                0x18, 0x0F, 0x32, 0x30, 0x35, 0x30, 0x30, 0x31, 0x30, 0x31, 0x30, 0x30, 0x30, 0x30,
-                0x30, 0x30, 0x5A,
-            ],
-            Codec::Cer,
-            1,
-            1,
-        )],
-    );
-    assert_cuts::<Date>(
-        &rt,
-        alloc,
-        &[(
-            &[
-                0x1F, 0x1F, 0x08, 0x32, 0x30, 0x31, 0x32, 0x31, 0x32, 0x32, 0x31,
-            ],
-            Codec::Ber,
-            2,
-            1,
-        )],
-    );
-    assert_cuts::<Validity>(
-        &rt,
-        alloc,
-        &[(
-            &[
-                0x30, 0x20, 0x17, 0x0D, 0x31, 0x38, 0x30, 0x31, 0x32, 0x32, 0x31, 0x33, 0x32, 0x39,
-                0x30, 0x30, 0x5A, 0x18, 0x0F, 0x32, 0x30, 0x35, 0x30, 0x30, 0x31, 0x30, 0x31, 0x30,
-                0x30, 0x30, 0x30, 0x30, 0x30, 0x5A,
-            ],
-            Codec::Der,
-            1,
-            1,
-        )],
-    );
+    assert_cuts::<UtcTime>(&rt, alloc, UTC_TIME_ROWS);
+    assert_cuts::<GeneralizedTime>(&rt, alloc, GENERALIZED_TIME_ROWS);
+    assert_cuts::<Date>(&rt, alloc, DATE_ROWS);
+    assert_cuts::<Validity>(&rt, alloc, VALIDITY_ROWS);
 }
 
 // Octets are missing of the outer value, whatever it holds.
 #[test]
 fn cut_holders_are_refused(rt: HostRuntime) {
+    const PAIR_ROWS: &[Definite] = &[(
+        &[0x30, 0x06, 0x02, 0x01, 0x05, 0x01, 0x01, 0xFF],
+        Codec::Der,
+        1,
+        1,
+    )];
+    const FOO_ROWS: &[Definite] = &[(
+        &[
+            0x30, 0x0A, 0x16, 0x05, 0x53, 0x6D, 0x69, 0x74, 0x68, 0x01, 0x01, 0xFF,
+        ],
+        Codec::Der,
+        1,
+        1,
+    )];
+    const GROUPED_ROWS: &[Definite] = &[(
+        &[
+            0x30, 0x0E, 0x01, 0x01, 0xFF, 0x81, 0x01, 0x05, 0x30, 0x06, 0x02, 0x01, 0x07, 0x01,
+            0x01, 0x00,
+        ],
+        Codec::Ber,
+        1,
+        1,
+    )];
+    const VEC_ROWS: &[Definite] = &[(
+        &[0x30, 0x83, 0x00, 0x00, 0x03, 0x01, 0x01, 0xFF],
+        Codec::Ber,
+        1,
+        4,
+    )];
+    const SET_OF_ROWS: &[Definite] = &[(
+        &[
+            0x31, 0x0E, 0x04, 0x01, 0x01, 0x04, 0x01, 0x02, 0x04, 0x02, 0x01, 0xFF, 0x04, 0x02,
+            0x02, 0x01,
+        ],
+        Codec::Der,
+        1,
+        1,
+    )];
+    const ANY_ROWS: &[Definite] = &[(
+        &[
+            0x30, 0x0D, 0x06, 0x09, 0x2A, 0x86, 0x48, 0x86, 0xF7, 0x0D, 0x01, 0x01, 0x01, 0x05,
+            0x00,
+        ],
+        Codec::Der,
+        1,
+        1,
+    )];
     let alloc = rt.alloc();
-    assert_cuts::<Pair>(
-        &rt,
-        alloc,
-        &[(
-            &[0x30, 0x06, 0x02, 0x01, 0x05, 0x01, 0x01, 0xFF],
-            Codec::Der,
-            1,
-            1,
-        )],
-    );
-    assert_cuts::<Foo>(
-        &rt,
-        alloc,
-        &[(
-            &[
-                0x30, 0x0A, 0x16, 0x05, 0x53, 0x6D, 0x69, 0x74, 0x68, 0x01, 0x01, 0xFF,
-            ],
-            Codec::Der,
-            1,
-            1,
-        )],
-    );
-    assert_cuts::<Grouped>(
-        &rt,
-        alloc,
-        &[(
-            &[
-                0x30, 0x0E, 0x01, 0x01, 0xFF, 0x81, 0x01, 0x05, 0x30, 0x06, 0x02, 0x01, 0x07, 0x01,
-                0x01, 0x00,
-            ],
-            Codec::Ber,
-            1,
-            1,
-        )],
-    );
-    assert_cuts::<Vec<bool>>(
-        &rt,
-        alloc,
-        &[(
-            &[0x30, 0x83, 0x00, 0x00, 0x03, 0x01, 0x01, 0xFF],
-            Codec::Ber,
-            1,
-            4,
-        )],
-    );
-    assert_cuts::<SetOf<OctetString>>(
-        &rt,
-        alloc,
-        &[(
-            &[
-                0x31, 0x0E, 0x04, 0x01, 0x01, 0x04, 0x01, 0x02, 0x04, 0x02, 0x01, 0xFF, 0x04, 0x02,
-                0x02, 0x01,
-            ],
-            Codec::Der,
-            1,
-            1,
-        )],
-    );
-    assert_cuts::<Any>(
-        &rt,
-        alloc,
-        &[(
-            &[
-                0x30, 0x0D, 0x06, 0x09, 0x2A, 0x86, 0x48, 0x86, 0xF7, 0x0D, 0x01, 0x01, 0x01, 0x05,
-                0x00,
-            ],
-            Codec::Der,
-            1,
-            1,
-        )],
-    );
+    assert_cuts::<Pair>(&rt, alloc, PAIR_ROWS);
+    assert_cuts::<Foo>(&rt, alloc, FOO_ROWS);
+    assert_cuts::<Grouped>(&rt, alloc, GROUPED_ROWS);
+    assert_cuts::<Vec<bool>>(&rt, alloc, VEC_ROWS);
+    assert_cuts::<SetOf<OctetString>>(&rt, alloc, SET_OF_ROWS);
+    assert_cuts::<Any>(&rt, alloc, ANY_ROWS);
 }

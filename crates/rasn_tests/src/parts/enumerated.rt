@@ -1,7 +1,7 @@
 //! ENUMERATED (X.690 8.4).
 
 use crate::reading::{assert_answer, assert_facts, decoder_of, value};
-use crate::whole::assert_rewrites;
+use crate::whole::{Rewritten, assert_rewrites};
 use rasn::ber;
 use rasn_bench::Colour;
 use rasn_de::de::Decode;
@@ -10,15 +10,17 @@ use rasn_types::types::{Codec, Enumerated};
 // A number may have more octets than it needs; it is written in the fewest (X.690 8.4).
 #[test]
 fn colours_are_read_and_written(rt: HostRuntime) {
+    const ROWS: &[Rewritten<'static>] = &[(
+        PADDED_BLUE,
+        Codec::Ber,
+        Codec::Der,
+        &[0x0A, 0x01, 0x02],
+    )];
     let alloc = rt.alloc();
     const PADDED_BLUE: &[u8] = &[0x0A, 0x02, 0x00, 0x02];
     let colour = value(&rt, ber::decode::<Colour>(alloc, PADDED_BLUE));
     assert_facts(&rt, &[colour == Colour::Blue, colour.discriminant() == 2]);
-    assert_rewrites::<Colour>(
-        &rt,
-        alloc,
-        &[(PADDED_BLUE, Codec::Ber, Codec::Der, &[0x0A, 0x01, 0x02])],
-    );
+    assert_rewrites::<Colour>(&rt, alloc, ROWS);
 }
 
 /// What is reported of numbers that are no colours, and how many octets are left behind each.

@@ -1,7 +1,7 @@
 //! Components that are OPTIONAL or DEFAULT (X.690 8.9.3), explicit and implicit tags (8.14) and extension additions are decoded.
 
 use crate::reading::{
-    assert_answer, assert_facts, assert_reads, assert_reads_default, decoder_of, within,
+    Row, assert_answer, assert_facts, assert_reads, assert_reads_default, decoder_of, within,
 };
 use crate::types::Counted;
 use rasn_de::ber::de::Decoder;
@@ -28,30 +28,27 @@ fn small() -> Constraints {
 fn leaves_what_is_no_value(rt: HostRuntime) {
     const END_OF_CONTENTS: &str = "CodecSpecific { inner: Ber(UnexpectedEndOfContents) }";
     const WIDE_TAG_NUMBER: &str = "CodecSpecific { inner: Ber(UnsupportedTagNumber) }";
-    assert_reads::<Option<bool>>(
-        &rt,
-        rt.alloc(),
-        &[
-            (&[0x00, 0x00], Codec::Ber, "None", 0),
-            (&[0x00, 0x00], Codec::Cer, "None", 0),
-            (&[0x00, 0x00], Codec::Der, END_OF_CONTENTS, 0),
-            (&[0x02, 0x01, 0x05], Codec::Ber, "None", 0),
-            (&[], Codec::Der, "None", 0),
-            (&[0x01, 0x01, 0xFF], Codec::Der, "Some(true)", 3),
-            (
-                &[0x1F, 0x90, 0x80, 0x80, 0x80, 0x00],
-                Codec::Ber,
-                WIDE_TAG_NUMBER,
-                0,
-            ),
-            (
-                &[0x1F, 0x81],
-                Codec::Ber,
-                "Incomplete { needed: Size(1) }",
-                0,
-            ),
-        ],
-    );
+    const ROWS: &[Row] = &[
+        (&[0x00, 0x00], Codec::Ber, "None", 0),
+        (&[0x00, 0x00], Codec::Cer, "None", 0),
+        (&[0x00, 0x00], Codec::Der, END_OF_CONTENTS, 0),
+        (&[0x02, 0x01, 0x05], Codec::Ber, "None", 0),
+        (&[], Codec::Der, "None", 0),
+        (&[0x01, 0x01, 0xFF], Codec::Der, "Some(true)", 3),
+        (
+            &[0x1F, 0x90, 0x80, 0x80, 0x80, 0x00],
+            Codec::Ber,
+            WIDE_TAG_NUMBER,
+            0,
+        ),
+        (
+            &[0x1F, 0x81],
+            Codec::Ber,
+            "Incomplete { needed: Size(1) }",
+            0,
+        ),
+    ];
+    assert_reads::<Option<bool>>(&rt, rt.alloc(), ROWS);
 }
 
 /// Whether a call answers this number, or that there is none.
@@ -107,16 +104,13 @@ fn constrains_optional_values(rt: HostRuntime) {
 // An INTEGER DEFAULT 7 is the number that is there, and 7 at the end and before another tag.
 #[test]
 fn reads_defaults(rt: HostRuntime) {
-    assert_reads_default(
-        &rt,
-        rt.alloc(),
-        &[
-            (&[0x02, 0x01, 0x05], Codec::Ber, "5", 3),
-            (&[0x02, 0x01, 0x07], Codec::Ber, "7", 3),
-            (&[], Codec::Ber, "7", 0),
-            (&[0x01, 0x01, 0xFF], Codec::Ber, "7", 0),
-        ],
-    );
+    const ROWS: &[Row] = &[
+        (&[0x02, 0x01, 0x05], Codec::Ber, "5", 3),
+        (&[0x02, 0x01, 0x07], Codec::Ber, "7", 3),
+        (&[], Codec::Ber, "7", 0),
+        (&[0x01, 0x01, 0xFF], Codec::Ber, "7", 0),
+    ];
+    assert_reads_default(&rt, rt.alloc(), ROWS);
 }
 
 // Each call reads a value, and at the end it answers the default.
@@ -152,21 +146,18 @@ fn tells_that_a_default_has_no_memory(rt: HostRuntime) {
 fn reads_a_default_in_a_sequence(rt: HostRuntime) {
     const SEVEN: &str = "Counted { number: 7 }";
     const THREE_OCTETS_LEFT: &str = "UnexpectedExtraData { length: 3 }";
-    assert_reads::<Counted>(
-        &rt,
-        rt.alloc(),
-        &[
-            (&[0x30, 0x00], Codec::Ber, SEVEN, 2),
-            (&[0x30, 0x03, 0x02, 0x01, 0x07], Codec::Ber, SEVEN, 5),
-            (&[0x30, 0x80, 0x00, 0x00], Codec::Ber, SEVEN, 4),
-            (
-                &[0x30, 0x03, 0x01, 0x01, 0xFF],
-                Codec::Ber,
-                THREE_OCTETS_LEFT,
-                5,
-            ),
-        ],
-    );
+    const ROWS: &[Row] = &[
+        (&[0x30, 0x00], Codec::Ber, SEVEN, 2),
+        (&[0x30, 0x03, 0x02, 0x01, 0x07], Codec::Ber, SEVEN, 5),
+        (&[0x30, 0x80, 0x00, 0x00], Codec::Ber, SEVEN, 4),
+        (
+            &[0x30, 0x03, 0x01, 0x01, 0xFF],
+            Codec::Ber,
+            THREE_OCTETS_LEFT,
+            5,
+        ),
+    ];
+    assert_reads::<Counted>(&rt, rt.alloc(), ROWS);
 }
 
 // A group of extension additions may be left out.

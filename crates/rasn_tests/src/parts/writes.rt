@@ -3,8 +3,8 @@
 use crate::reading::assert_facts;
 use crate::types::Counted;
 use crate::writing::{
-    NO_PERCENTAGE, PERCENTAGE, assert_output, assert_refuses, assert_writes, assert_written,
-    new_encoder,
+    NO_PERCENTAGE, PERCENTAGE, Written, assert_output, assert_refuses, assert_writes,
+    assert_written, new_encoder,
 };
 use rasn_enc::ber::enc::Encoder;
 use rasn_enc::enc::Encode;
@@ -24,16 +24,14 @@ const NO_IDENTIFIER: Identifier = Identifier::EMPTY;
 
 #[test]
 fn writes_options(rt: HostRuntime) {
+    const OPTION_ROWS: &[Written<Option<bool>>] = &[
+        (Some(true), Codec::Der, &[0x01, 0x01, 0xFF]),
+        (None, Codec::Der, &[]),
+    ];
+    const NESTED_ROWS: &[Written<Option<Option<bool>>>] = &[(Some(None), Codec::Der, &[])];
     let alloc = rt.alloc();
-    assert_writes::<Option<bool>>(
-        &rt,
-        alloc,
-        &[
-            (Some(true), Codec::Der, &[0x01, 0x01, 0xFF]),
-            (None, Codec::Der, &[]),
-        ],
-    );
-    assert_writes::<Option<Option<bool>>>(&rt, alloc, &[(Some(None), Codec::Der, &[])]);
+    assert_writes::<Option<bool>>(&rt, alloc, OPTION_ROWS);
+    assert_writes::<Option<Option<bool>>>(&rt, alloc, NESTED_ROWS);
     let absent: Option<bool> = None;
     let present = Some(true).is_present();
     assert_facts(
@@ -81,18 +79,15 @@ fn refused_options_write_nothing(rt: HostRuntime) {
 // The default is 7, and a SEQUENCE of that alone is empty.
 #[test]
 fn leaves_out_defaults_in_a_sequence(rt: HostRuntime) {
-    assert_writes::<Counted>(
-        &rt,
-        rt.alloc(),
-        &[
-            (Counted { number: 7 }, Codec::Der, &[0x30, 0x00]),
-            (
-                Counted { number: 5 },
-                Codec::Der,
-                &[0x30, 0x03, 0x02, 0x01, 0x05],
-            ),
-        ],
-    );
+    const ROWS: &[Written<Counted>] = &[
+        (Counted { number: 7 }, Codec::Der, &[0x30, 0x00]),
+        (
+            Counted { number: 5 },
+            Codec::Der,
+            &[0x30, 0x03, 0x02, 0x01, 0x05],
+        ),
+    ];
+    assert_writes::<Counted>(&rt, rt.alloc(), ROWS);
 }
 
 /// Writes a number whose default is 7 by the two calls without constraints.

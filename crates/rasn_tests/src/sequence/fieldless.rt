@@ -64,19 +64,16 @@ const TRUE_ALONE_INDEFINITE: &[u8] = &[0x30, 0x80, 0x01, 0x01, 0xFF, 0x00, 0x00]
 fn initializers_read_types_without_fields(rt: HostRuntime) {
     const BY_INITIALIZER: &str = "Closed { by_closure: false }";
     const THREE_OCTETS_LEFT: &str = "UnexpectedExtraData { length: 3 }";
-    assert_reads_closed(
-        &rt,
-        rt.alloc(),
-        &[
-            (&[0x30, 0x00], Codec::Ber, BY_INITIALIZER, 2),
-            (&[0x30, 0x00], Codec::Cer, BY_INITIALIZER, 2),
-            (&[0x30, 0x00], Codec::Der, BY_INITIALIZER, 2),
-            (&[0x30, 0x80, 0x00, 0x00], Codec::Ber, BY_INITIALIZER, 4),
-            (TRUE_ALONE, Codec::Ber, THREE_OCTETS_LEFT, 5),
-            (TRUE_ALONE, Codec::Cer, THREE_OCTETS_LEFT, 5),
-            (TRUE_ALONE, Codec::Der, THREE_OCTETS_LEFT, 5),
-        ],
-    );
+    const ROWS: &[Row] = &[
+        (&[0x30, 0x00], Codec::Ber, BY_INITIALIZER, 2),
+        (&[0x30, 0x00], Codec::Cer, BY_INITIALIZER, 2),
+        (&[0x30, 0x00], Codec::Der, BY_INITIALIZER, 2),
+        (&[0x30, 0x80, 0x00, 0x00], Codec::Ber, BY_INITIALIZER, 4),
+        (TRUE_ALONE, Codec::Ber, THREE_OCTETS_LEFT, 5),
+        (TRUE_ALONE, Codec::Cer, THREE_OCTETS_LEFT, 5),
+        (TRUE_ALONE, Codec::Der, THREE_OCTETS_LEFT, 5),
+    ];
+    assert_reads_closed(&rt, rt.alloc(), ROWS);
 }
 
 // Where there is an extension marker, the closure is called, unless the contents are empty.
@@ -84,18 +81,15 @@ fn initializers_read_types_without_fields(rt: HostRuntime) {
 fn closures_read_extensible_types(rt: HostRuntime) {
     const BY_INITIALIZER: &str = "Extensible { by_closure: false }";
     const BY_CLOSURE: &str = "Extensible { by_closure: true }";
-    assert_reads_extensible(
-        &rt,
-        rt.alloc(),
-        &[
-            (&[0x30, 0x00], Codec::Ber, BY_INITIALIZER, 2),
-            (&[0x30, 0x00], Codec::Cer, BY_INITIALIZER, 2),
-            (&[0x30, 0x00], Codec::Der, BY_INITIALIZER, 2),
-            (TRUE_ALONE, Codec::Ber, BY_CLOSURE, 5),
-            (TRUE_ALONE, Codec::Cer, BY_CLOSURE, 5),
-            (TRUE_ALONE, Codec::Der, BY_CLOSURE, 5),
-            (TRUE_ALONE_INDEFINITE, Codec::Ber, BY_CLOSURE, 7),
-            (TRUE_ALONE_INDEFINITE, Codec::Cer, BY_CLOSURE, 7),
-        ],
-    );
+    const ROWS: &[Row] = &[
+        (&[0x30, 0x00], Codec::Ber, BY_INITIALIZER, 2),
+        (&[0x30, 0x00], Codec::Cer, BY_INITIALIZER, 2),
+        (&[0x30, 0x00], Codec::Der, BY_INITIALIZER, 2),
+        (TRUE_ALONE, Codec::Ber, BY_CLOSURE, 5),
+        (TRUE_ALONE, Codec::Cer, BY_CLOSURE, 5),
+        (TRUE_ALONE, Codec::Der, BY_CLOSURE, 5),
+        (TRUE_ALONE_INDEFINITE, Codec::Ber, BY_CLOSURE, 7),
+        (TRUE_ALONE_INDEFINITE, Codec::Cer, BY_CLOSURE, 7),
+    ];
+    assert_reads_extensible(&rt, rt.alloc(), ROWS);
 }

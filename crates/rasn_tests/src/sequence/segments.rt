@@ -1,7 +1,7 @@
 //! Strings in segments by the entry points (X.690 8.6.4, 8.7.3, 8.23), as CER cuts them (9.2).
 
-use crate::reading::{assert_facts, assert_reads, value};
-use crate::whole::{assert_decodes, assert_rewrites, decoded, encoded};
+use crate::reading::{Row, assert_facts, assert_reads, value};
+use crate::whole::{Answer, Rewritten, assert_decodes, assert_rewrites, decoded, encoded};
 use crate::writing::{Piece, assert_output_pieces, made, of_pieces, repeated};
 use rasn::de::Decode;
 use rasn::enc::Encode;
@@ -13,6 +13,24 @@ use std::process::Abort;
 // A string may be in segments (X.690 8.7.3), but not under DER (10.2).
 #[test]
 fn strings_are_gathered_from_segments(rt: HostRuntime) {
+    const DECODED: &[Answer<'static>] = &[
+        (THREE_IN_SEGMENTS, Codec::Ber, THREE_OCTETS),
+        (
+            &[0x24, 0x03, 0x04, 0x01, 0xA1],
+            Codec::Der,
+            CONSTRUCTED_STRING,
+        ),
+        (&[0x04, 0x81, 0x02, 0xA1, 0xB2], Codec::Ber, TWO_OCTETS),
+    ];
+    const READ: &[Row] = &[(
+        &[
+            0x24, 0x80, 0x04, 0x01, 0xA1, 0x24, 0x03, 0x04, 0x01, 0xB2, 0x24, 0x80, 0x04, 0x01,
+            0xC3, 0x00, 0x00, 0x00, 0x00,
+        ],
+        Codec::Der,
+        "CodecSpecific { inner: Ber(IndefiniteLengthNotAllowed) }",
+        0,
+    )];
     let alloc = rt.alloc();
     const THREE_IN_SEGMENTS: &[u8] = &[
         0x24, 0x80, 0x04, 0x01, 0xA1, 0x24, 0x03, 0x04, 0x01, 0xB2, 0x24, 0x80, 0x04, 0x01, 0xC3,
@@ -21,41 +39,18 @@ fn strings_are_gathered_from_segments(rt: HostRuntime) {
     const THREE_OCTETS: &str = "OctetString { octets: [161, 178, 195] }";
     const TWO_OCTETS: &str = "OctetString { octets: [161, 178] }";
     const CONSTRUCTED_STRING: &str = "CodecSpecific { inner: Der(ConstructedEncodingNotAllowed) }";
-    assert_decodes::<OctetString>(
-        &rt,
-        alloc,
-        &[
-            (THREE_IN_SEGMENTS, Codec::Ber, THREE_OCTETS),
-            (
-                &[0x24, 0x03, 0x04, 0x01, 0xA1],
-                Codec::Der,
-                CONSTRUCTED_STRING,
-            ),
-            (&[0x04, 0x81, 0x02, 0xA1, 0xB2], Codec::Ber, TWO_OCTETS),
-        ],
-    );
-    assert_reads::<OctetString>(
-        &rt,
-        alloc,
-        &[(
-            &[
-                0x24, 0x80, 0x04, 0x01, 0xA1, 0x24, 0x03, 0x04, 0x01, 0xB2, 0x24, 0x80, 0x04, 0x01,
-                0xC3, 0x00, 0x00, 0x00, 0x00,
-            ],
-            Codec::Der,
-            "CodecSpecific { inner: Ber(IndefiniteLengthNotAllowed) }",
-            0,
-        )],
-    );
+    assert_decodes::<OctetString>(&rt, alloc, DECODED);
+    assert_reads::<OctetString>(&rt, alloc, READ);
 }
 
 // A length of 128 octets or more has the long form (X.690 8.1.3.5).
 #[test]
 fn from_128_octets_on_the_length_is_long(rt: HostRuntime) {
+    const ROWS: &[Piece<'static>] = &[(&[0x04, 0x81, 0x80], 0xAB, 128)];
     let alloc = rt.alloc();
     let octets = made(&rt, repeated(alloc, 0xAB, 128));
     let answer = encoded(alloc, Codec::Ber, &octets);
-    assert_output_pieces(&rt, alloc, answer, &[(&[0x04, 0x81, 0x80], 0xAB, 128)]);
+    assert_output_pieces(&rt, alloc, answer, ROWS);
 }
 
 /// Asserts that the octets by CER and by DER are those of one value, which is read from either.
@@ -126,22 +121,19 @@ fn bits_are_cut_after_999_octets(rt: HostRuntime) {
 // The name `Smith` is one value in segments and in one piece.
 #[test]
 fn names_in_segments(rt: HostRuntime) {
+    const BASIC: &[u8] = b"\x30\x80\x36\x80\x04\x02Sm\x04\x03ith\x00\x00\x01\x01\x01\x00\x00";
+    const CANONICAL: &[u8] = b"\x30\x80\x16\x05Smith\x01\x01\xFF\x00\x00";
+    const DISTINGUISHED: &[u8] = b"\x30\x0A\x16\x05Smith\x01\x01\xFF";
+    const ROWS: &[Rewritten<'static>] = &[
+        (BASIC, Codec::Ber, Codec::Der, DISTINGUISHED),
+        (CANONICAL, Codec::Cer, Codec::Der, DISTINGUISHED),
+        (DISTINGUISHED, Codec::Der, Codec::Cer, CANONICAL),
+    ];
     let alloc = rt.alloc();
-    let basic = b"\x30\x80\x36\x80\x04\x02Sm\x04\x03ith\x00\x00\x01\x01\x01\x00\x00";
-    let canonical = b"\x30\x80\x16\x05Smith\x01\x01\xFF\x00\x00";
-    let distinguished = b"\x30\x0A\x16\x05Smith\x01\x01\xFF";
-    let foo = value(&rt, decoded::<Foo>(alloc, Codec::Ber, basic));
+    let foo = value(&rt, decoded::<Foo>(alloc, Codec::Ber, BASIC));
     assert_facts(
         &rt,
         &[foo.first.as_octets() == b"Smith".as_slice(), foo.second],
     );
-    assert_rewrites::<Foo>(
-        &rt,
-        alloc,
-        &[
-            (basic, Codec::Ber, Codec::Der, distinguished),
-            (canonical, Codec::Cer, Codec::Der, distinguished),
-            (distinguished, Codec::Der, Codec::Cer, canonical),
-        ],
-    );
+    assert_rewrites::<Foo>(&rt, alloc, ROWS);
 }

@@ -1,7 +1,7 @@
 //! A SET whose parts are a type: components in any order, each once (X.690 8.11, 10.3, 11.5).
 
 use crate::types::Signal;
-use crate::whole::{assert_decodes, assert_rewrites};
+use crate::whole::{Answer, Rewritten, assert_decodes, assert_rewrites};
 use rasn::types::Codec;
 
 const OUT_OF_ORDER: &str = "CodecSpecific { inner: Der(SetComponentsOutOfOrder) }";
@@ -28,31 +28,25 @@ const SEVEN: &[u8] = &[0x31, 0x06, 0x02, 0x01, 0x07, 0x80, 0x01, 0x05];
 
 #[test]
 fn components_come_in_any_order(rt: HostRuntime) {
-    assert_rewrites::<Signal>(
-        &rt,
-        rt.alloc(),
-        &[
-            (ALL, Codec::Der, Codec::Der, ALL),
-            (FALLING, Codec::Ber, Codec::Der, ALL),
-            (FALLING, Codec::Cer, Codec::Der, ALL),
-            (MARK, Codec::Der, Codec::Der, MARK),
-            (MARK_INDEFINITE, Codec::Ber, Codec::Der, MARK),
-            (SEVEN, Codec::Ber, Codec::Der, MARK),
-        ],
-    );
+    const ROWS: &[Rewritten<'static>] = &[
+        (ALL, Codec::Der, Codec::Der, ALL),
+        (FALLING, Codec::Ber, Codec::Der, ALL),
+        (FALLING, Codec::Cer, Codec::Der, ALL),
+        (MARK, Codec::Der, Codec::Der, MARK),
+        (MARK_INDEFINITE, Codec::Ber, Codec::Der, MARK),
+        (SEVEN, Codec::Ber, Codec::Der, MARK),
+    ];
+    assert_rewrites::<Signal>(&rt, rt.alloc(), ROWS);
 }
 
 // DER asks for the order of the tags (10.3), and leaves a default out (11.5).
 #[test]
 fn der_refuses_other_forms(rt: HostRuntime) {
-    assert_decodes::<Signal>(
-        &rt,
-        rt.alloc(),
-        &[
-            (FALLING, Codec::Der, OUT_OF_ORDER),
-            (SEVEN, Codec::Der, DEFAULT_PRESENT),
-        ],
-    );
+    const ROWS: &[Answer<'static>] = &[
+        (FALLING, Codec::Der, OUT_OF_ORDER),
+        (SEVEN, Codec::Der, DEFAULT_PRESENT),
+    ];
+    assert_decodes::<Signal>(&rt, rt.alloc(), ROWS);
 }
 
 // No component comes twice, a required one comes, and no other (X.680 27).
@@ -67,23 +61,20 @@ fn components_twice_missing_and_unknown_are_refused(rt: HostRuntime) {
     ];
     const EMPTY: &[u8] = &[0x31, 0x00];
     const UNKNOWN: &[u8] = &[0x31, 0x06, 0x80, 0x01, 0x05, 0x81, 0x01, 0x05];
-    assert_decodes::<Signal>(
-        &rt,
-        rt.alloc(),
-        &[
-            (MARK_TWICE, Codec::Ber, "DuplicateField { name: \"mark\" }"),
-            (
-                TRUTH_TWICE,
-                Codec::Der,
-                "DuplicateField { name: \"truth\" }",
-            ),
-            (
-                LEVEL_TWICE,
-                Codec::Cer,
-                "DuplicateField { name: \"level\" }",
-            ),
-            (EMPTY, Codec::Der, "MissingField { name: \"mark\" }"),
-            (UNKNOWN, Codec::Der, "NoValidChoice { name: \"Signal\" }"),
-        ],
-    );
+    const ROWS: &[Answer<'static>] = &[
+        (MARK_TWICE, Codec::Ber, "DuplicateField { name: \"mark\" }"),
+        (
+            TRUTH_TWICE,
+            Codec::Der,
+            "DuplicateField { name: \"truth\" }",
+        ),
+        (
+            LEVEL_TWICE,
+            Codec::Cer,
+            "DuplicateField { name: \"level\" }",
+        ),
+        (EMPTY, Codec::Der, "MissingField { name: \"mark\" }"),
+        (UNKNOWN, Codec::Der, "NoValidChoice { name: \"Signal\" }"),
+    ];
+    assert_decodes::<Signal>(&rt, rt.alloc(), ROWS);
 }

@@ -26,14 +26,14 @@ fn is_set_of(alloc: Global, octets: &[u8], rules: Codec, elements: &[&[u8]], equ
 // BER and CER read a SET OF in any order, and the order doesn't count (X.690 8.12).
 #[test]
 fn reads_sets_of_in_any_order(rt: HostRuntime) {
+    const FALLING: &[u8] = &[0x31, 0x06, 0x04, 0x01, 0x02, 0x04, 0x01, 0x01];
     let alloc = rt.alloc();
-    let falling = &[0x31, 0x06, 0x04, 0x01, 0x02, 0x04, 0x01, 0x01];
     assert_facts(
         &rt,
         &[
-            is_set_of(alloc, falling, Codec::Ber, &[&[0x01], &[0x02]], true),
-            is_set_of(alloc, falling, Codec::Cer, &[&[0x02], &[0x01]], true),
-            is_set_of(alloc, falling, Codec::Ber, &[&[0x01], &[0x01]], false),
+            is_set_of(alloc, FALLING, Codec::Ber, &[&[0x01], &[0x02]], true),
+            is_set_of(alloc, FALLING, Codec::Cer, &[&[0x02], &[0x01]], true),
+            is_set_of(alloc, FALLING, Codec::Ber, &[&[0x01], &[0x01]], false),
         ],
     );
 }

@@ -12,22 +12,19 @@ const DEFAULT_PRESENT: &str = "CodecSpecific { inner: Der(DefaultValuePresent) }
 fn defaults_are_left_out_of_a_sequence(rt: HostRuntime) {
     const SEVEN: &str = "Counted { number: 7 }";
     const FIVE: &str = "Counted { number: 5 }";
-    assert_reads::<Counted>(
-        &rt,
-        rt.alloc(),
-        &[
-            (&[0x30, 0x03, 0x02, 0x01, 0x07], Codec::Ber, SEVEN, 5),
-            (&[0x30, 0x03, 0x02, 0x01, 0x07], Codec::Cer, SEVEN, 5),
-            (
-                &[0x30, 0x03, 0x02, 0x01, 0x07],
-                Codec::Der,
-                DEFAULT_PRESENT,
-                5,
-            ),
-            (&[0x30, 0x03, 0x02, 0x01, 0x05], Codec::Der, FIVE, 5),
-            (&[0x30, 0x00], Codec::Der, SEVEN, 2),
-        ],
-    );
+    const ROWS: &[Row] = &[
+        (&[0x30, 0x03, 0x02, 0x01, 0x07], Codec::Ber, SEVEN, 5),
+        (&[0x30, 0x03, 0x02, 0x01, 0x07], Codec::Cer, SEVEN, 5),
+        (
+            &[0x30, 0x03, 0x02, 0x01, 0x07],
+            Codec::Der,
+            DEFAULT_PRESENT,
+            5,
+        ),
+        (&[0x30, 0x03, 0x02, 0x01, 0x05], Codec::Der, FIVE, 5),
+        (&[0x30, 0x00], Codec::Der, SEVEN, 2),
+    ];
+    assert_reads::<Counted>(&rt, rt.alloc(), ROWS);
 }
 
 /// Octets, the rules they are read by, what INTEGER DEFAULT 7 is read as, and how many octets are consumed.

@@ -1,6 +1,6 @@
 //! BIT STRING (X.690 8.6), in segments under CER (9.2).
 
-use crate::reading::{assert_reads, assert_reads_within, decoder_of, sized, value};
+use crate::reading::{Row, assert_reads, assert_reads_within, decoder_of, sized, value};
 use crate::writing::{
     assert_output, assert_refuses, assert_writes_pieces, assert_written, made, new_encoder,
     set_bits,
@@ -61,23 +61,20 @@ const BITS_44: &[u8] = &[0x0A, 0x3B, 0x5F, 0x29, 0x1C, 0xD0];
 // A segment that isn't the last may have unused bits. Unused bits may be set, but not under DER (X.690 11.2.1).
 #[test]
 fn reads_bits_of_both_forms(rt: HostRuntime) {
-    assert_reads_bits(
-        &rt,
-        rt.alloc(),
-        &[
-            (BITS_44_IN_ONE_PIECE, Codec::Ber, 44, BITS_44, 9),
-            (BITS_44_IN_SEGMENTS, Codec::Ber, 44, BITS_44, 16),
-            (
-                &[0x23, 0x08, 0x03, 0x02, 0x05, 0xE0, 0x03, 0x02, 0x04, 0xA0],
-                Codec::Ber,
-                7,
-                &[0xF4],
-                10,
-            ),
-            (&[0x03, 0x02, 0x05, 0xFF], Codec::Ber, 3, &[0xE0], 4),
-            (&[0x03, 0x02, 0x05, 0xFF], Codec::Cer, 3, &[0xE0], 4),
-        ],
-    );
+    const ROWS: &[BitsRow] = &[
+        (BITS_44_IN_ONE_PIECE, Codec::Ber, 44, BITS_44, 9),
+        (BITS_44_IN_SEGMENTS, Codec::Ber, 44, BITS_44, 16),
+        (
+            &[0x23, 0x08, 0x03, 0x02, 0x05, 0xE0, 0x03, 0x02, 0x04, 0xA0],
+            Codec::Ber,
+            7,
+            &[0xF4],
+            10,
+        ),
+        (&[0x03, 0x02, 0x05, 0xFF], Codec::Ber, 3, &[0xE0], 4),
+        (&[0x03, 0x02, 0x05, 0xFF], Codec::Cer, 3, &[0xE0], 4),
+    ];
+    assert_reads_bits(&rt, rt.alloc(), ROWS);
 }
 
 fn bits_of(rt: &impl Abort, alloc: Global, octets: &[u8]) -> BitString {
@@ -99,39 +96,32 @@ fn calls_read_bits(rt: HostRuntime) {
 // A fault in a segment consumes nothing; a wrong size consumes the value (X.690 8.6.2).
 #[test]
 fn refuses_bits(rt: HostRuntime) {
-    assert_reads::<BitString>(
-        &rt,
-        rt.alloc(),
-        &[
-            (&[0x03, 0x00], Codec::Der, "UnexpectedEmptyInput", 0),
-            (
-                &[0x03, 0x01, 0x01],
-                Codec::Der,
-                "InvalidBitString { bits: 1 }",
-                0,
-            ),
-            (
-                &[0x03, 0x02, 0x08, 0xFF],
-                Codec::Der,
-                "InvalidBitString { bits: 8 }",
-                0,
-            ),
-            (
-                &[0x03, 0x02, 0x05, 0xFF],
-                Codec::Der,
-                "CodecSpecific { inner: Der(NonzeroUnusedBits) }",
-                0,
-            ),
-        ],
-    );
+    const READ: &[Row] = &[
+        (&[0x03, 0x00], Codec::Der, "UnexpectedEmptyInput", 0),
+        (
+            &[0x03, 0x01, 0x01],
+            Codec::Der,
+            "InvalidBitString { bits: 1 }",
+            0,
+        ),
+        (
+            &[0x03, 0x02, 0x08, 0xFF],
+            Codec::Der,
+            "InvalidBitString { bits: 8 }",
+            0,
+        ),
+        (
+            &[0x03, 0x02, 0x05, 0xFF],
+            Codec::Der,
+            "CodecSpecific { inner: Der(NonzeroUnusedBits) }",
+            0,
+        ),
+    ];
+    const BOUNDED: &[Row] = &[(&[0x03, 0x02, 0x05, 0xE0], Codec::Der, THREE_NOT_FOUR, 4)];
+    assert_reads::<BitString>(&rt, rt.alloc(), READ);
     const THREE_NOT_FOUR: &str =
         "SizeConstraintNotSatisfied { size: Some(3), expected: Single(4) }";
-    assert_reads_within::<BitString>(
-        &rt,
-        rt.alloc(),
-        &sized(4),
-        &[(&[0x03, 0x02, 0x05, 0xE0], Codec::Der, THREE_NOT_FOUR, 4)],
-    );
+    assert_reads_within::<BitString>(&rt, rt.alloc(), &sized(4), BOUNDED);
 }
 
 // The bits 1,1,0,1,0,1,0,1,1,0,1 are written, then those from the second on, then none (X.690 8.6.2).

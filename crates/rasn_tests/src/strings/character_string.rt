@@ -1,8 +1,8 @@
 //! Character strings (X.690 8.23), in segments under CER (9.2).
 
 use crate::reading::{
-    assert_answer, assert_has_octets, assert_reads, assert_reads_octets, assert_reads_within,
-    decoder_of, sized,
+    OctetsRow, Row, assert_answer, assert_has_octets, assert_reads, assert_reads_octets,
+    assert_reads_within, decoder_of, sized,
 };
 use crate::writing::{
     assert_output, assert_refuses, assert_writes, assert_writes_made, assert_writes_pieces,
@@ -20,32 +20,29 @@ use std::process::Abort;
 // UTF-8 is checked over all segments, since a character may be cut in two (X.690 8.23.10).
 #[test]
 fn reads_utf8_across_segments(rt: HostRuntime) {
-    assert_reads::<String>(
-        &rt,
-        rt.alloc(),
-        &[
-            (
-                &[
-                    0x2C, 0x09, 0x04, 0x03, 0x4A, 0x6F, 0x6E, 0x04, 0x02, 0x65, 0x73,
-                ],
-                Codec::Ber,
-                "\"Jones\"",
-                11,
-            ),
-            (
-                &[0x2C, 0x06, 0x04, 0x01, 0xC3, 0x04, 0x01, 0xAB],
-                Codec::Ber,
-                "\"ë\"",
-                8,
-            ),
-            (
-                &[0x0C, 0x01, 0xC3],
-                Codec::Der,
-                "StringConversionFailed { tag: Tag { class: Universal, value: 12 } }",
-                3,
-            ),
-        ],
-    );
+    const ROWS: &[Row] = &[
+        (
+            &[
+                0x2C, 0x09, 0x04, 0x03, 0x4A, 0x6F, 0x6E, 0x04, 0x02, 0x65, 0x73,
+            ],
+            Codec::Ber,
+            "\"Jones\"",
+            11,
+        ),
+        (
+            &[0x2C, 0x06, 0x04, 0x01, 0xC3, 0x04, 0x01, 0xAB],
+            Codec::Ber,
+            "\"ë\"",
+            8,
+        ),
+        (
+            &[0x0C, 0x01, 0xC3],
+            Codec::Der,
+            "StringConversionFailed { tag: Tag { class: Universal, value: 12 } }",
+            3,
+        ),
+    ];
+    assert_reads::<String>(&rt, rt.alloc(), ROWS);
 }
 
 // The size of a UTF8String counts characters, that of a BMPString units, and the octets are checked before the size.
@@ -109,20 +106,28 @@ fn refuses_foreign_octets(rt: HostRuntime) {
 // The octets of `Smith` are the example of X.690 8.21.5.4, and the tags stand in X.680, table 8.
 #[test]
 fn reads_each_type(rt: HostRuntime) {
+    const BER: Codec = Codec::Ber;
+    const IA5_STRING_ROWS: &[OctetsRow] = &[(SMITH, BER, b"Smith", 13)];
+    const NUMERIC_STRING_ROWS: &[OctetsRow] = &[(&[0x12, 0x01, 0x31], BER, b"1", 3)];
+    const PRINTABLE_STRING_ROWS: &[OctetsRow] = &[(&[0x13, 0x01, 0x41], BER, b"A", 3)];
+    const TELETEX_STRING_ROWS: &[OctetsRow] = &[(&[0x14, 0x01, 0xC8], BER, &[0xC8], 3)];
+    const GRAPHIC_STRING_ROWS: &[OctetsRow] = &[(&[0x19, 0x01, 0x41], BER, b"A", 3)];
+    const VISIBLE_STRING_ROWS: &[OctetsRow] = &[(&[0x1A, 0x01, 0x41], BER, b"A", 3)];
+    const GENERAL_STRING_ROWS: &[OctetsRow] = &[(&[0x1B, 0x01, 0x41], BER, b"A", 3)];
+    const BMP_STRING_ROWS: &[OctetsRow] = &[(LETTER, BER, &[0x00, 0x41], 4)];
     let alloc = rt.alloc();
-    let ber = Codec::Ber;
     const SMITH: &[u8] = &[
         0x36, 0x80, 0x04, 0x02, 0x53, 0x6D, 0x04, 0x03, 0x69, 0x74, 0x68, 0x00, 0x00,
     ];
-    assert_reads_octets::<Ia5String>(&rt, alloc, &[(SMITH, ber, b"Smith", 13)]);
-    assert_reads_octets::<NumericString>(&rt, alloc, &[(&[0x12, 0x01, 0x31], ber, b"1", 3)]);
-    assert_reads_octets::<PrintableString>(&rt, alloc, &[(&[0x13, 0x01, 0x41], ber, b"A", 3)]);
-    assert_reads_octets::<TeletexString>(&rt, alloc, &[(&[0x14, 0x01, 0xC8], ber, &[0xC8], 3)]);
-    assert_reads_octets::<GraphicString>(&rt, alloc, &[(&[0x19, 0x01, 0x41], ber, b"A", 3)]);
-    assert_reads_octets::<VisibleString>(&rt, alloc, &[(&[0x1A, 0x01, 0x41], ber, b"A", 3)]);
-    assert_reads_octets::<GeneralString>(&rt, alloc, &[(&[0x1B, 0x01, 0x41], ber, b"A", 3)]);
+    assert_reads_octets::<Ia5String>(&rt, alloc, IA5_STRING_ROWS);
+    assert_reads_octets::<NumericString>(&rt, alloc, NUMERIC_STRING_ROWS);
+    assert_reads_octets::<PrintableString>(&rt, alloc, PRINTABLE_STRING_ROWS);
+    assert_reads_octets::<TeletexString>(&rt, alloc, TELETEX_STRING_ROWS);
+    assert_reads_octets::<GraphicString>(&rt, alloc, GRAPHIC_STRING_ROWS);
+    assert_reads_octets::<VisibleString>(&rt, alloc, VISIBLE_STRING_ROWS);
+    assert_reads_octets::<GeneralString>(&rt, alloc, GENERAL_STRING_ROWS);
     const LETTER: &[u8] = &[0x1E, 0x02, 0x00, 0x41];
-    assert_reads_octets::<BmpString>(&rt, alloc, &[(LETTER, ber, &[0x00, 0x41], 4)]);
+    assert_reads_octets::<BmpString>(&rt, alloc, BMP_STRING_ROWS);
 }
 
 #[test]
@@ -220,16 +225,16 @@ fn writes_numeric_to_graphic(rt: HostRuntime) {
 
 #[test]
 fn writes_visible_to_utf8(rt: HostRuntime) {
+    const DER: Codec = Codec::Der;
     let alloc = rt.alloc();
-    let der = Codec::Der;
     assert_writes_string::<VisibleType>(&rt, alloc, b"A", &[0x1A, 0x01, 0x41]);
     assert_writes_string::<GeneralType>(&rt, alloc, b"A", &[0x1B, 0x01, 0x41]);
     let value = BmpString::from_octets(alloc, &[0x00, 0x41]);
-    assert_writes_made(&rt, alloc, der, value, &[0x1E, 0x02, 0x00, 0x41]);
+    assert_writes_made(&rt, alloc, DER, value, &[0x1E, 0x02, 0x00, 0x41]);
     const JONES: &[u8] = &[0x0C, 0x05, 0x4A, 0x6F, 0x6E, 0x65, 0x73];
-    assert_writes_made(&rt, alloc, der, text(alloc, "Jones"), JONES);
+    assert_writes_made(&rt, alloc, DER, text(alloc, "Jones"), JONES);
     let value = FixedOctetString::<1>::new([0x41]);
-    assert_writes(&rt, alloc, &[(value, der, &[0x04, 0x01, 0x41])]);
+    assert_writes(&rt, alloc, &[(value, DER, &[0x04, 0x01, 0x41])]);
 }
 
 #[test]

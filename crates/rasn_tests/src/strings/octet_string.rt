@@ -1,6 +1,8 @@
 //! OCTET STRING (X.690 8.7), in segments under CER (9.2), and of a fixed size.
 
-use crate::reading::{answers_octets, assert_reads_octets, assert_reads_within, decoder_of, sized};
+use crate::reading::{
+    OctetsRow, Row, answers_octets, assert_reads_octets, assert_reads_within, decoder_of, sized,
+};
 use crate::writing::{
     assert_output, assert_refuses, assert_writes_pieces, made, new_encoder, repeated,
 };
@@ -25,18 +27,11 @@ fn gathers_segments(rt: HostRuntime) {
 // Another length than the type's is reported before a size that is handed in.
 #[test]
 fn reads_a_fixed_size(rt: HostRuntime) {
-    assert_reads_octets::<FixedOctetString<1>>(
-        &rt,
-        rt.alloc(),
-        &[(&[0x04, 0x01, 0x41], Codec::Ber, b"A", 3)],
-    );
+    const ONE: &[OctetsRow] = &[(&[0x04, 0x01, 0x41], Codec::Ber, b"A", 3)];
     const TWO_NOT_ONE: &str = "SizeConstraintNotSatisfied { size: Some(2), expected: Single(1) }";
-    assert_reads_within::<FixedOctetString<1>>(
-        &rt,
-        rt.alloc(),
-        &sized(5),
-        &[(&[0x04, 0x02, 0x41, 0x42], Codec::Ber, TWO_NOT_ONE, 4)],
-    );
+    const TWO: &[Row] = &[(&[0x04, 0x02, 0x41, 0x42], Codec::Ber, TWO_NOT_ONE, 4)];
+    assert_reads_octets::<FixedOctetString<1>>(&rt, rt.alloc(), ONE);
+    assert_reads_within::<FixedOctetString<1>>(&rt, rt.alloc(), &sized(5), TWO);
 }
 
 // Three octets are refused where there have to be two, and nothing is written.

@@ -150,61 +150,53 @@ fn assert_parses(rt: &impl Abort, alloc: Global, form: Form, rows: &[TextRow]) {
 // Hours and minutes have fractions, and a second 60 is the leap second behind 59 (X.680 46).
 #[test]
 fn parses_general_times(rt: HostRuntime) {
-    let eleven = Some((2018, 6, 13, 11, 0, 0, 0));
-    assert_parses(
-        &rt,
-        rt.alloc(),
-        Form::General,
-        &[
-            ("2018061312.5", Some((2018, 6, 13, 12, 30, 0, 0))),
-            ("201806131229,5", Some((2018, 6, 13, 12, 29, 30, 0))),
-            (
-                "20180613122959.1234567891Z",
-                Some((2018, 6, 13, 12, 29, 59, 123456789)),
-            ),
-            ("2018061311", eleven),
-            ("201806131100Z", eleven),
-            (
-                "20180613110000,5Z",
-                Some((2018, 6, 13, 11, 0, 0, 500000000)),
-            ),
-            ("20180613110000+0000", eleven),
-            ("20230122130000-0500", Some((2023, 1, 22, 18, 0, 0, 0))),
-            (
-                "20161231235960.5Z",
-                Some((2016, 12, 31, 23, 59, 59, 1500000000)),
-            ),
-            ("20200229000000Z", Some((2020, 2, 29, 0, 0, 0, 0))),
-            ("20170229000000Z", None),
-            ("20190229000000Z", None),
-            ("20180613115961", None),
-            ("20180613115959.", None),
-            ("20180613115959Z1", None),
-            ("2018061324", None),
-            ("", None),
-        ],
-    );
+    const ELEVEN: Option<Seen> = Some((2018, 6, 13, 11, 0, 0, 0));
+    const ROWS: &[TextRow] = &[
+        ("2018061312.5", Some((2018, 6, 13, 12, 30, 0, 0))),
+        ("201806131229,5", Some((2018, 6, 13, 12, 29, 30, 0))),
+        (
+            "20180613122959.1234567891Z",
+            Some((2018, 6, 13, 12, 29, 59, 123456789)),
+        ),
+        ("2018061311", ELEVEN),
+        ("201806131100Z", ELEVEN),
+        (
+            "20180613110000,5Z",
+            Some((2018, 6, 13, 11, 0, 0, 500000000)),
+        ),
+        ("20180613110000+0000", ELEVEN),
+        ("20230122130000-0500", Some((2023, 1, 22, 18, 0, 0, 0))),
+        (
+            "20161231235960.5Z",
+            Some((2016, 12, 31, 23, 59, 59, 1500000000)),
+        ),
+        ("20200229000000Z", Some((2020, 2, 29, 0, 0, 0, 0))),
+        ("20170229000000Z", None),
+        ("20190229000000Z", None),
+        ("20180613115961", None),
+        ("20180613115959.", None),
+        ("20180613115959Z1", None),
+        ("2018061324", None),
+        ("", None),
+    ];
+    assert_parses(&rt, rt.alloc(), Form::General, ROWS);
 }
 
 // Whole offsets are below a day, whatever their minutes.
 #[test]
 fn parses_far_zones(rt: HostRuntime) {
-    assert_parses(
-        &rt,
-        rt.alloc(),
-        Form::General,
-        &[
-            ("20180613110000+2359", Some((2018, 6, 12, 11, 1, 0, 0))),
-            ("20180613110000-2359", Some((2018, 6, 14, 10, 59, 0, 0))),
-            ("20180613110000+0060", Some((2018, 6, 13, 10, 0, 0, 0))),
-            ("20180613110000-0099", Some((2018, 6, 13, 12, 39, 0, 0))),
-            ("20180613110000+2299", Some((2018, 6, 12, 11, 21, 0, 0))),
-            ("00000101000000+0001", Some((-1, 12, 31, 23, 59, 0, 0))),
-            ("20180613110000+2360", None),
-            ("20180613110000-2400", None),
-            ("20180613115959+05", None),
-        ],
-    );
+    const ROWS: &[TextRow] = &[
+        ("20180613110000+2359", Some((2018, 6, 12, 11, 1, 0, 0))),
+        ("20180613110000-2359", Some((2018, 6, 14, 10, 59, 0, 0))),
+        ("20180613110000+0060", Some((2018, 6, 13, 10, 0, 0, 0))),
+        ("20180613110000-0099", Some((2018, 6, 13, 12, 39, 0, 0))),
+        ("20180613110000+2299", Some((2018, 6, 12, 11, 21, 0, 0))),
+        ("00000101000000+0001", Some((-1, 12, 31, 23, 59, 0, 0))),
+        ("20180613110000+2360", None),
+        ("20180613110000-2400", None),
+        ("20180613115959+05", None),
+    ];
+    assert_parses(&rt, rt.alloc(), Form::General, ROWS);
 }
 
 // The first four are the examples of X.690 11.7.5.
@@ -249,72 +241,54 @@ fn parses_canonical_times(rt: HostRuntime) {
 // A fraction has no 0 at its end under DER (X.690 11.7.3), nor more digits than are kept.
 #[test]
 fn strict_fractions_are_the_shortest(rt: HostRuntime) {
-    let half = Some((2018, 6, 13, 11, 0, 0, 500000000));
-    assert_parses_canonical(
-        &rt,
-        &[
-            (
-                "20180613122959.1234567891Z",
-                Some((2018, 6, 13, 12, 29, 59, 123456789)),
-            ),
-            ("20180613110000.50Z", half),
-            ("20180613110000.5Z", half),
-        ],
-    );
-    assert_parses(
-        &rt,
-        rt.alloc(),
-        Form::Strict,
-        &[
-            ("20180613122959.1234567891Z", None),
-            ("20180613110000.50Z", None),
-            ("20180613110000.0Z", None),
-            ("20180613110000.5Z", half),
-        ],
-    );
+    const HALF: Option<Seen> = Some((2018, 6, 13, 11, 0, 0, 500000000));
+    const PARSES_CANONICAL: &[TextRow] = &[
+        (
+            "20180613122959.1234567891Z",
+            Some((2018, 6, 13, 12, 29, 59, 123456789)),
+        ),
+        ("20180613110000.50Z", HALF),
+        ("20180613110000.5Z", HALF),
+    ];
+    const PARSES: &[TextRow] = &[
+        ("20180613122959.1234567891Z", None),
+        ("20180613110000.50Z", None),
+        ("20180613110000.0Z", None),
+        ("20180613110000.5Z", HALF),
+    ];
+    assert_parses_canonical(&rt, PARSES_CANONICAL);
+    assert_parses(&rt, rt.alloc(), Form::Strict, PARSES);
 }
 
 // The last four are the examples of X.690 11.8.3.
 #[test]
 fn parses_short_times(rt: HostRuntime) {
-    assert_parses(
-        &rt,
-        rt.alloc(),
-        Form::GeneralShort,
-        &[
-            ("691231235900-0100", Some((2070, 1, 1, 0, 59, 0, 0))),
-            ("7001010000Z", Some((1970, 1, 1, 0, 0, 0, 0))),
-            ("180122132900", None),
-            ("180122132900.5Z", None),
-        ],
-    );
-    assert_parses(
-        &rt,
-        rt.alloc(),
-        Form::CanonicalShort,
-        &[
-            ("180122132900Z", Some((2018, 1, 22, 13, 29, 0, 0))),
-            ("691231235900-0100", None),
-            ("920521000000Z", Some((1992, 5, 21, 0, 0, 0, 0))),
-            ("920622123421Z", Some((1992, 6, 22, 12, 34, 21, 0))),
-            ("920520240000Z", None),
-            ("9207221321Z", None),
-        ],
-    );
+    const GENERAL: &[TextRow] = &[
+        ("691231235900-0100", Some((2070, 1, 1, 0, 59, 0, 0))),
+        ("7001010000Z", Some((1970, 1, 1, 0, 0, 0, 0))),
+        ("180122132900", None),
+        ("180122132900.5Z", None),
+    ];
+    const UTC: &[TextRow] = &[
+        ("180122132900Z", Some((2018, 1, 22, 13, 29, 0, 0))),
+        ("691231235900-0100", None),
+        ("920521000000Z", Some((1992, 5, 21, 0, 0, 0, 0))),
+        ("920622123421Z", Some((1992, 6, 22, 12, 34, 21, 0))),
+        ("920520240000Z", None),
+        ("9207221321Z", None),
+    ];
+    assert_parses(&rt, rt.alloc(), Form::GeneralShort, GENERAL);
+    assert_parses(&rt, rt.alloc(), Form::CanonicalShort, UTC);
 }
 
 #[test]
 fn parses_days(rt: HostRuntime) {
-    assert_parses(
-        &rt,
-        rt.alloc(),
-        Form::Day,
-        &[
-            ("20121221", Some((2012, 12, 21, 0, 0, 0, 0))),
-            ("20120230", None),
-            ("+100000101", None),
-        ],
-    );
+    const ROWS: &[TextRow] = &[
+        ("20121221", Some((2012, 12, 21, 0, 0, 0, 0))),
+        ("20120230", None),
+        ("+100000101", None),
+    ];
+    assert_parses(&rt, rt.alloc(), Form::Day, ROWS);
     assert_facts(
         &rt,
         &[

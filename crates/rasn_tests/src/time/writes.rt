@@ -36,23 +36,23 @@ fn texts_of_times(rt: HostRuntime) {
 // UTCTime and GeneralizedTime are written in their canonical forms (X.690 11.7, 11.8), and DATE as its digits (8.26).
 #[test]
 fn writes_times(rt: HostRuntime) {
+    const CER: Codec = Codec::Cer;
     let alloc = rt.alloc();
-    let cer = Codec::Cer;
-    assert_writes_made(&rt, alloc, cer, Ok(eleven()), b"\x17\x0D180613110000Z");
+    assert_writes_made(&rt, alloc, CER, Ok(eleven()), b"\x17\x0D180613110000Z");
     let east = Ok(eleven_at(60));
-    assert_writes_made(&rt, alloc, cer, east, b"\x18\x0F20180613110000Z");
+    assert_writes_made(&rt, alloc, CER, east, b"\x18\x0F20180613110000Z");
     let day = Ok(Date::new(2012, 12, 21));
-    assert_writes_made(&rt, alloc, cer, day, b"\x1F\x1F\x0820121221");
+    assert_writes_made(&rt, alloc, CER, day, b"\x1F\x1F\x0820121221");
     let far = Ok(Date::new(10000, 1, 1));
-    assert_writes_made(&rt, alloc, cer, far, b"\x1F\x1F\x0A+100000101");
+    assert_writes_made(&rt, alloc, CER, far, b"\x1F\x1F\x0A+100000101");
 }
 
 // A fraction has no zeros at its end (X.690 11.7.3), and a leap second is second 60.
 #[test]
 fn writes_fractions(rt: HostRuntime) {
+    const OCTETS: &[u8] = b"\x18\x1120161231235960.5Z";
     let alloc = rt.alloc();
-    let octets = b"\x18\x1120161231235960.5Z";
-    assert_writes_made(&rt, alloc, Codec::Cer, Ok(leap()), octets);
+    assert_writes_made(&rt, alloc, Codec::Cer, Ok(leap()), OCTETS);
     let mut encoder = new_encoder(&rt, alloc, Codec::Der);
     let tag = Tag::new(Class::Context, 3);
     let time = made(&rt, Ok(leap()));

@@ -1,6 +1,6 @@
 //! Headers: identifier (X.690 8.1.2) and length octets (8.1.3).
 
-use crate::reading::{assert_peeks, assert_reads};
+use crate::reading::{PeekRow, Row, assert_peeks, assert_reads};
 use crate::writing::{assert_output, assert_written, new_encoder};
 use rasn_enc::enc::Encode;
 use rasn_types::types::{Class, Codec, Identifier, OctetString, Tag};
@@ -8,109 +8,97 @@ use rasn_types::types::{Class, Codec, Identifier, OctetString, Tag};
 // A fault of the identifier or length consumes nothing (X.690 8.1.2, 8.1.3).
 #[test]
 fn framing_refusals_consume_nothing(rt: HostRuntime) {
-    assert_reads::<OctetString>(
-        &rt,
-        rt.alloc(),
-        &[
-            (
-                &[0x04, 0x05, 0x01, 0x02],
-                Codec::Ber,
-                "Incomplete { needed: Size(3) }",
-                0,
-            ),
-            (
-                &[0x04, 0x82, 0x01],
-                Codec::Ber,
-                "Incomplete { needed: Size(1) }",
-                0,
-            ),
-            (&[], Codec::Ber, "Incomplete { needed: Size(1) }", 0),
-            (
-                &[0x04, 0xFF],
-                Codec::Ber,
-                "CodecSpecific { inner: Ber(ReservedLengthOctet) }",
-                0,
-            ),
-            (
-                &[0x04, 0x80, 0x00, 0x00],
-                Codec::Ber,
-                "CodecSpecific { inner: Ber(IndefiniteLengthNotAllowed) }",
-                0,
-            ),
-            (
-                &[0x04, 0x89, 0x01, 0, 0, 0, 0, 0, 0, 0, 0],
-                Codec::Ber,
-                "LengthExceedsPlatformWidth",
-                0,
-            ),
-            (
-                &[0x04, 0x88, 0xFF, 0xFF, 0xFF, 0xFF, 0xFF, 0xFF, 0xFF, 0xFF],
-                Codec::Ber,
-                "Incomplete { needed: Size(18446744073709551615) }",
-                0,
-            ),
-            (
-                &[0x24, 0x05, 0x04, 0x01, 0xA1, 0x00, 0x00],
-                Codec::Ber,
-                "UnexpectedExtraData { length: 2 }",
-                0,
-            ),
-            (
-                &[0x1F, 0x00, 0x01, 0xFF],
-                Codec::Ber,
-                "CodecSpecific { inner: Ber(UnexpectedEndOfContents) }",
-                0,
-            ),
-            (
-                &[0x1F, 0x90, 0x80, 0x80, 0x80, 0x00],
-                Codec::Ber,
-                "CodecSpecific { inner: Ber(UnsupportedTagNumber) }",
-                0,
-            ),
-        ],
-    );
+    const ROWS: &[Row] = &[
+        (
+            &[0x04, 0x05, 0x01, 0x02],
+            Codec::Ber,
+            "Incomplete { needed: Size(3) }",
+            0,
+        ),
+        (
+            &[0x04, 0x82, 0x01],
+            Codec::Ber,
+            "Incomplete { needed: Size(1) }",
+            0,
+        ),
+        (&[], Codec::Ber, "Incomplete { needed: Size(1) }", 0),
+        (
+            &[0x04, 0xFF],
+            Codec::Ber,
+            "CodecSpecific { inner: Ber(ReservedLengthOctet) }",
+            0,
+        ),
+        (
+            &[0x04, 0x80, 0x00, 0x00],
+            Codec::Ber,
+            "CodecSpecific { inner: Ber(IndefiniteLengthNotAllowed) }",
+            0,
+        ),
+        (
+            &[0x04, 0x89, 0x01, 0, 0, 0, 0, 0, 0, 0, 0],
+            Codec::Ber,
+            "LengthExceedsPlatformWidth",
+            0,
+        ),
+        (
+            &[0x04, 0x88, 0xFF, 0xFF, 0xFF, 0xFF, 0xFF, 0xFF, 0xFF, 0xFF],
+            Codec::Ber,
+            "Incomplete { needed: Size(18446744073709551615) }",
+            0,
+        ),
+        (
+            &[0x24, 0x05, 0x04, 0x01, 0xA1, 0x00, 0x00],
+            Codec::Ber,
+            "UnexpectedExtraData { length: 2 }",
+            0,
+        ),
+        (
+            &[0x1F, 0x00, 0x01, 0xFF],
+            Codec::Ber,
+            "CodecSpecific { inner: Ber(UnexpectedEndOfContents) }",
+            0,
+        ),
+        (
+            &[0x1F, 0x90, 0x80, 0x80, 0x80, 0x00],
+            Codec::Ber,
+            "CodecSpecific { inner: Ber(UnsupportedTagNumber) }",
+            0,
+        ),
+    ];
+    assert_reads::<OctetString>(&rt, rt.alloc(), ROWS);
 }
 
 // A refusal reports how many octets are missing, and consumes nothing (X.690 8.1.3).
 #[test]
 fn refuses_cut_contents(rt: HostRuntime) {
+    const OCTET_STRING_ROWS: &[Row] = &[(
+        &[0x04, 0x05, 0x01, 0x02],
+        Codec::Ber,
+        THREE_OCTETS_MISSING,
+        0,
+    )];
     const OCTET_STRING_TAG: &str = "Tag { class: Universal, value: 4 }";
-    assert_peeks(
-        &rt,
-        rt.alloc(),
-        &[(&[0x04, 0x05, 0x01, 0x02], Codec::Ber, OCTET_STRING_TAG)],
-    );
+    const PEEKS: &[PeekRow] = &[(&[0x04, 0x05, 0x01, 0x02], Codec::Ber, OCTET_STRING_TAG)];
+    assert_peeks(&rt, rt.alloc(), PEEKS);
     const THREE_OCTETS_MISSING: &str = "Incomplete { needed: Size(3) }";
-    assert_reads::<OctetString>(
-        &rt,
-        rt.alloc(),
-        &[(
-            &[0x04, 0x05, 0x01, 0x02],
-            Codec::Ber,
-            THREE_OCTETS_MISSING,
-            0,
-        )],
-    );
+    assert_reads::<OctetString>(&rt, rt.alloc(), OCTET_STRING_ROWS);
 }
 
 #[test]
 fn tags_are_looked_at(rt: HostRuntime) {
-    assert_peeks(
-        &rt,
-        rt.alloc(),
-        &[
-            (
-                &[0x1F, 0x8F, 0xFF, 0xFF, 0xFF, 0x7F],
-                Codec::Ber,
-                "Tag { class: Universal, value: 4294967295 }",
-            ),
-            (
-                &[0xFF, 0x83, 0x7F],
-                Codec::Ber,
-                "Tag { class: Private, value: 511 }",
-            ),
-        ],
-    );
+    const ROWS: &[PeekRow] = &[
+        (
+            &[0x1F, 0x8F, 0xFF, 0xFF, 0xFF, 0x7F],
+            Codec::Ber,
+            "Tag { class: Universal, value: 4294967295 }",
+        ),
+        (
+            &[0xFF, 0x83, 0x7F],
+            Codec::Ber,
+            "Tag { class: Private, value: 511 }",
+        ),
+    ];
+    assert_peeks(&rt, rt.alloc(), ROWS);
 }
 
 /// A tag's class and number, and the octets of TRUE under the tag.

@@ -51,26 +51,28 @@ const U128_MAX: &[u8] = &[
 // Octets are one number, in each type that has it.
 #[test]
 fn reads_fixed_widths(rt: HostRuntime) {
+    const LARGEST: &[u8] = &[0x00, 0xFF, 0xFF, 0xFF, 0xFF, 0xFF, 0xFF, 0xFF, 0xFF];
+    const I32_ROWS: &[Row<i32>] = &[(PADDED_MINUS_33024, Some(-33024))];
+    const I16_ROWS: &[Row<i16>] = &[(PADDED_MINUS_33024, None)];
+    const U32_ROWS: &[Row<u32>] = &[
+        (&[0x00, 0x00, 0x33, 0x44, 0x55, 0x66], Some(860116326)),
+        (&[0x11, 0x22, 0x33, 0x44, 0x55, 0x66], None),
+    ];
+    const U8_ROWS: &[Row<u8>] = &[(&[0xFF], None)];
+    const I8_ROWS: &[Row<i8>] = &[(&[0xFF], Some(-1))];
+    const I128_ROWS: &[Row<i128>] = &[(U128_MAX, None)];
     let alloc = rt.alloc();
-    assert_stands_for::<i32>(&rt, alloc, &[(PADDED_MINUS_33024, Some(-33024))]);
-    assert_stands_for::<i16>(&rt, alloc, &[(PADDED_MINUS_33024, None)]);
-    let largest = &[0x00, 0xFF, 0xFF, 0xFF, 0xFF, 0xFF, 0xFF, 0xFF, 0xFF];
+    assert_stands_for::<i32>(&rt, alloc, I32_ROWS);
+    assert_stands_for::<i16>(&rt, alloc, I16_ROWS);
     assert_stands_for::<u64>(
         &rt,
         alloc,
-        &[(PADDED_MINUS_33024, None), (largest, Some(u64::MAX))],
+        &[(PADDED_MINUS_33024, None), (LARGEST, Some(u64::MAX))],
     );
-    assert_stands_for::<u32>(
-        &rt,
-        alloc,
-        &[
-            (&[0x00, 0x00, 0x33, 0x44, 0x55, 0x66], Some(860116326)),
-            (&[0x11, 0x22, 0x33, 0x44, 0x55, 0x66], None),
-        ],
-    );
-    assert_stands_for::<u8>(&rt, alloc, &[(&[0xFF], None)]);
-    assert_stands_for::<i8>(&rt, alloc, &[(&[0xFF], Some(-1))]);
-    assert_stands_for::<i128>(&rt, alloc, &[(U128_MAX, None)]);
+    assert_stands_for::<u32>(&rt, alloc, U32_ROWS);
+    assert_stands_for::<u8>(&rt, alloc, U8_ROWS);
+    assert_stands_for::<i8>(&rt, alloc, I8_ROWS);
+    assert_stands_for::<i128>(&rt, alloc, I128_ROWS);
 }
 
 #[test]

@@ -1,7 +1,7 @@
 //! NULL (X.690 8.8).
 
 use crate::reading::{assert_answer, decoder_of};
-use crate::writing::{assert_output, assert_writes, assert_written, new_encoder};
+use crate::writing::{Written, assert_output, assert_writes, assert_written, new_encoder};
 use rasn_de::de::Decode;
 use rasn_types::types::{Class, Codec, Identifier, Tag};
 
@@ -29,8 +29,9 @@ fn reads_null(rt: HostRuntime) {
 // NULL has no contents, under its own tag and under [0] (X.690 8.8).
 #[test]
 fn writes_null(rt: HostRuntime) {
+    const ROWS: &[Written<()>] = &[((), Codec::Cer, &[0x05, 0x00])];
     let alloc = rt.alloc();
-    assert_writes::<()>(&rt, alloc, &[((), Codec::Cer, &[0x05, 0x00])]);
+    assert_writes::<()>(&rt, alloc, ROWS);
     let mut encoder = new_encoder(&rt, alloc, Codec::Cer);
     let zero = Tag::new(Class::Context, 0);
     assert_written(&rt, encoder.encode_null(zero, Identifier::EMPTY));

@@ -1,6 +1,6 @@
 //! OBJECT IDENTIFIER (X.690 8.19) and its arcs (X.660 7.6).
 
-use crate::reading::{assert_answer, assert_facts, assert_reads, decoder_of};
+use crate::reading::{Row, assert_answer, assert_facts, assert_reads, decoder_of};
 use crate::writing::{
     assert_output, assert_refuses, assert_writes_made, assert_written, identifier_of, made,
     new_encoder,
@@ -38,54 +38,51 @@ fn keeps_arcs(rt: HostRuntime) {
 // (X.690 8.19). The value is consumed.
 #[test]
 fn reads_object_identifiers(rt: HostRuntime) {
-    assert_reads::<ObjectIdentifier>(
-        &rt,
-        rt.alloc(),
-        &[
-            (
-                &[0x06, 0x03, 0x2A, 0x80, 0x01],
-                Codec::Ber,
-                "ObjectIdentifier { arcs: [1, 2, 1] }",
-                5,
-            ),
-            (
-                &[0x06, 0x03, 0x2A, 0x80, 0x01],
-                Codec::Der,
-                "CodecSpecific { inner: Der(NonMinimalArc) }",
-                5,
-            ),
-            (
-                &[0x06, 0x03, 0x88, 0x37, 0x01],
-                Codec::Der,
-                "ObjectIdentifier { arcs: [2, 999, 1] }",
-                5,
-            ),
-            (
-                &[0x06, 0x05, 0x8F, 0xFF, 0xFF, 0xFF, 0x7F],
-                Codec::Der,
-                "ObjectIdentifier { arcs: [2, 4294967215] }",
-                7,
-            ),
-            (
-                &[0x06, 0x00],
-                Codec::Ber,
-                "Incomplete { needed: Size(1) }",
-                2,
-            ),
-            (
-                &[0x06, 0x01, 0x88],
-                Codec::Ber,
-                "Incomplete { needed: Size(1) }",
-                3,
-            ),
-            (
-                &[0x06, 0x06, 0x2A, 0x90, 0x80, 0x80, 0x80, 0x00],
-                Codec::Ber,
-                "CodecSpecific { inner: Ber(UnsupportedObjectIdentifierArc) }",
-                8,
-            ),
-        ],
-    );
+    const ROWS: &[Row] = &[
+        (
+            &[0x06, 0x03, 0x2A, 0x80, 0x01],
+            Codec::Ber,
+            "ObjectIdentifier { arcs: [1, 2, 1] }",
+            5,
+        ),
+        (
+            &[0x06, 0x03, 0x2A, 0x80, 0x01],
+            Codec::Der,
+            "CodecSpecific { inner: Der(NonMinimalArc) }",
+            5,
+        ),
+        (
+            &[0x06, 0x03, 0x88, 0x37, 0x01],
+            Codec::Der,
+            "ObjectIdentifier { arcs: [2, 999, 1] }",
+            5,
+        ),
+        (
+            &[0x06, 0x05, 0x8F, 0xFF, 0xFF, 0xFF, 0x7F],
+            Codec::Der,
+            "ObjectIdentifier { arcs: [2, 4294967215] }",
+            7,
+        ),
+        (
+            &[0x06, 0x00],
+            Codec::Ber,
+            "Incomplete { needed: Size(1) }",
+            2,
+        ),
+        (
+            &[0x06, 0x01, 0x88],
+            Codec::Ber,
+            "Incomplete { needed: Size(1) }",
+            3,
+        ),
+        (
+            &[0x06, 0x06, 0x2A, 0x90, 0x80, 0x80, 0x80, 0x00],
+            Codec::Ber,
+            "CodecSpecific { inner: Ber(UnsupportedObjectIdentifierArc) }",
+            8,
+        ),
+    ];
+    assert_reads::<ObjectIdentifier>(&rt, rt.alloc(), ROWS);
 }
 
 #[test]
@@ -177,5 +174,6 @@ fn refuses_arcs_without_octets(rt: HostRuntime) {
 
 #[test]
 fn appends_the_octets_of_arcs(rt: HostRuntime) {
-    assert_appends(&rt, rt.alloc(), &[1, 2, 1], "written", &[0x2A, 0x2A, 0x01]);
+    const ROWS: &[u32] = &[1, 2, 1];
+    assert_appends(&rt, rt.alloc(), ROWS, "written", &[0x2A, 0x2A, 0x01]);
 }

@@ -3,7 +3,7 @@
 use crate::ldap::result::list_parts;
 use crate::ldap::{list_octets, list_string};
 use crate::listing::Listing;
-use rasn_messages::ldap::{AuthenticationChoice, BindRequest, BindResponse, SaslCredentials};
+use rasn_ldap::{AuthenticationChoice, BindRequest, BindResponse, SaslCredentials};
 use std::alloc::AllocError;
 
 /// Lists who the client is.

@@ -3,7 +3,7 @@
 use crate::ldap::{list_octets, list_string};
 use crate::listing::Listing;
 use rasn::types::OctetString;
-use rasn_messages::ldap::{Change, ModifyRequest, PartialAttribute, SearchResultEntry};
+use rasn_ldap::{Change, ModifyRequest, PartialAttribute, SearchResultEntry};
 use std::alloc::AllocError;
 
 /// Lists an entry that was found.

@@ -3,7 +3,7 @@
 use crate::ldap::result::list_parts;
 use crate::ldap::{list_octets, list_string};
 use crate::listing::Listing;
-use rasn_messages::ldap::{ExtendedRequest, ExtendedResponse};
+use rasn_ldap::{ExtendedRequest, ExtendedResponse};
 use std::alloc::AllocError;
 
 /// Lists a request.

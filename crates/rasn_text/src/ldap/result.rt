@@ -3,7 +3,7 @@
 use crate::ldap::list_string;
 use crate::listing::Listing;
 use rasn::types::{ContextTag, Implicit};
-use rasn_messages::ldap::{LdapResult, LdapString, ResultCode};
+use rasn_ldap::{LdapResult, LdapString, ResultCode};
 use std::alloc::AllocError;
 
 /// Where else to ask (RFC 4511, 4.1.10).

@@ -2,7 +2,7 @@
 
 use crate::ldap::{list_string, list_truth};
 use crate::listing::Listing;
-use rasn_messages::ldap::{DerefAliases, SearchRequest};
+use rasn_ldap::{DerefAliases, SearchRequest};
 use std::alloc::AllocError;
 
 /// Lists what is searched for. The filter is shown as the octets of its encoding.

@@ -2,7 +2,7 @@
 
 use crate::place::{Found, Located, Walk};
 use rasn::types::{Any, ContextTag, Implicit, OctetString, Utf8String};
-use rasn_messages::ldap::{
+use rasn_ldap::{
     AttributeValues, AuthenticationChoice, BindRequest, BindResponse, Change, ChangeOperation,
     Control, DerefAliases, ExtendedRequest, ExtendedResponse, IntegerWithin, LdapMessage,
     LdapResult, LdapString, MaxInt, ModifyRequest, ModifyResponse, NotCritical, PartialAttribute,

@@ -2,8 +2,8 @@
 
 use crate::place::{Found, Located, Walk};
 use rasn::types::{Any, BitString, ContextTag, Implicit, ObjectIdentifier, SetOf};
-use rasn_messages::pkcs10::{CertificationRequest, CertificationRequestInfo};
-use rasn_messages::x509::{AlgorithmIdentifier, Attribute, Name, SubjectPublicKeyInfo};
+use rasn_pki::pkcs10::{CertificationRequest, CertificationRequestInfo};
+use rasn_pki::x509::{AlgorithmIdentifier, Attribute, Name, SubjectPublicKeyInfo};
 
 impl Located for Attribute {
     fn parts(walk: &mut Walk<'_>) -> Result<(), Found> {

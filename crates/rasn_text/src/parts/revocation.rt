@@ -2,8 +2,8 @@
 
 use crate::place::{Found, Located, Walk};
 use rasn::types::{BitString, ContextTag, Explicit, GeneralizedTime, Integer, UtcTime};
-use rasn_messages::x509::revocation::{CertificateList, RevokedCertificate, TbsCertList};
-use rasn_messages::x509::{AlgorithmIdentifier, Extension, Name, Time};
+use rasn_pki::x509::revocation::{CertificateList, RevokedCertificate, TbsCertList};
+use rasn_pki::x509::{AlgorithmIdentifier, Extension, Name, Time};
 
 impl Located for RevokedCertificate {
     fn parts(walk: &mut Walk<'_>) -> Result<(), Found> {

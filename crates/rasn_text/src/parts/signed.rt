@@ -4,11 +4,11 @@ use crate::place::{Found, Located, Walk};
 use rasn::types::{
     Any, ContextTag, Explicit, Implicit, Integer, ObjectIdentifier, OctetString, SetOf,
 };
-use rasn_messages::cms::{
+use rasn_pki::cms::{
     EncapsulatedContentInfo, IssuerAndSerialNumber, SignedData, SignedMessage, SignerIdentifier,
     SignerInfo,
 };
-use rasn_messages::x509::{AlgorithmIdentifier, Attribute, Name};
+use rasn_pki::x509::{AlgorithmIdentifier, Attribute, Name};
 
 impl Located for IssuerAndSerialNumber {
     fn parts(walk: &mut Walk<'_>) -> Result<(), Found> {

@@ -2,7 +2,7 @@
 
 use crate::place::{Found, Located, Walk};
 use rasn::types::{FixedOctetString, ObjectIdentifier, OctetString};
-use rasn_messages::snmp::{
+use rasn_snmp::{
     BulkPdu, IpAddress, Message, ObjectName, Pdu, Pdus, TimeTicks, TrapPdu, VarBind, VarBindList,
     VarBindValue,
 };

@@ -1,6 +1,6 @@
 //! The names of error statuses.
 
-use rasn_messages::snmp::error_status;
+use rasn_snmp::error_status;
 
 /// The name of an error status (RFC 3416, 3).
 pub(crate) fn status_name(status: i32) -> Option<&'static str> {

@@ -2,7 +2,7 @@
 
 use crate::listing::Listing;
 use crate::snmp::variable::{address_text, list_variables};
-use rasn_messages::snmp::TrapPdu;
+use rasn_snmp::TrapPdu;
 use std::alloc::AllocError;
 
 /// Lists a trap.

@@ -2,7 +2,7 @@
 
 use crate::listing::Listing;
 use crate::octets::octets_text;
-use rasn_messages::snmp::{IpAddress, VarBind, VarBindValue};
+use rasn_snmp::{IpAddress, VarBind, VarBindValue};
 use std::alloc::{AllocError, Global};
 use std::net::Ipv4Addr;
 
