@@ -39,7 +39,8 @@ fn a_certificate_has_its_parts(rt: HostRuntime) {
 fn a_certificate_is_written_back(rt: HostRuntime) {
     let alloc = rt.alloc();
     let answer = read_certificate(alloc, CERTIFICATE);
-    assert_written_as(&rt, alloc, answer, write_certificate, CERTIFICATE);
+    let write = |alloc, certificate: &Certificate| write_certificate(alloc, certificate);
+    assert_written_as(&rt, alloc, answer, write, CERTIFICATE);
 }
 
 // What isn't the one DER encoding is refused (X.690 8.3.2, 11.1, 11.5, 8.1.1.1), and BER reads what it may.

@@ -34,7 +34,8 @@ fn a_signed_message_has_its_parts(rt: HostRuntime) {
 fn a_signed_message_is_written_back(rt: HostRuntime) {
     let alloc = rt.alloc();
     let answer = read_signed_message(alloc, MESSAGE);
-    assert_written_as(&rt, alloc, answer, write_signed_message, MESSAGE);
+    let write = |alloc, message: &SignedMessage| write_signed_message(alloc, message);
+    assert_written_as(&rt, alloc, answer, write, MESSAGE);
 }
 
 /// Whether each signer is told by its key.
@@ -55,13 +56,9 @@ fn a_streamed_message_is_read(rt: HostRuntime) {
 fn a_streamed_message_is_written_in_der(rt: HostRuntime) {
     let alloc = rt.alloc();
     let answer = ahead_of(&rt, read_streamed_message(alloc, STREAMED), &[]);
-    assert_read_back(
-        &rt,
-        alloc,
-        answer,
-        write_signed_message,
-        read_signed_message,
-    );
+    let write = |alloc, message: &SignedMessage| write_signed_message(alloc, message);
+    let read = |alloc, octets: &[u8]| read_signed_message(alloc, octets);
+    assert_read_back(&rt, alloc, answer, write, read);
 }
 
 /// Whether a signer is told by its key.

@@ -21,7 +21,8 @@ use std::process::Abort;
 fn assert_written_back(rt: &impl Abort, alloc: Global, messages: &[&[u8]]) {
     for octets in messages {
         let answer = ahead_of(rt, read_message(alloc, octets), &[]);
-        assert_written_as(rt, alloc, answer, write_message, octets);
+        let write = |alloc, message: &LdapMessage| write_message(alloc, message);
+        assert_written_as(rt, alloc, answer, write, octets);
     }
 }
 

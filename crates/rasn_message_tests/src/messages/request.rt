@@ -24,13 +24,9 @@ fn a_request_has_its_parts(rt: HostRuntime) {
 #[test]
 fn a_request_is_written_back(rt: HostRuntime) {
     let alloc = rt.alloc();
-    assert_written_as(
-        &rt,
-        alloc,
-        read_request(alloc, REQUEST),
-        write_request,
-        REQUEST,
-    );
+    let answer = read_request(alloc, REQUEST);
+    let write = |alloc, request: &CertificationRequest| write_request(alloc, request);
+    assert_written_as(&rt, alloc, answer, write, REQUEST);
 }
 
 // What isn't the one DER encoding is refused (X.690 10.1, 11.6), and BER reads a SET OF in any order.

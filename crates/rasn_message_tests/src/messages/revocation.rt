@@ -51,7 +51,8 @@ fn revocation_lists_are_written_back(rt: HostRuntime) {
     let alloc = rt.alloc();
     for octets in [REVOCATION_LIST, EMPTY_LIST] {
         let answer = read_revocation_list(alloc, octets);
-        assert_written_as(&rt, alloc, answer, write_revocation_list, octets);
+        let write = |alloc, list: &CertificateList| write_revocation_list(alloc, list);
+        assert_written_as(&rt, alloc, answer, write, octets);
     }
 }
 

@@ -49,7 +49,8 @@ fn assert_is_message(rt: &impl Abort, alloc: Global, octets: &[u8], name: &str) 
         |message: &Message| operation(&message.data) == name,
     );
     let answer = ahead_of(rt, read_message(alloc, octets), &[]);
-    assert_written_as(rt, alloc, answer, write_message, octets);
+    let write = |alloc, message: &Message| write_message(alloc, message);
+    assert_written_as(rt, alloc, answer, write, octets);
 }
 
 #[test]
@@ -273,5 +274,6 @@ fn a_message_of_indefinite_length_is_written_definite(rt: HostRuntime) {
         0xCD,
     ];
     let answer = ahead_of(&rt, read_message(alloc, INDEFINITE), &[0xAB, 0xCD]);
-    assert_written_as(&rt, alloc, answer, write_message, GET_NEXT);
+    let write = |alloc, message: &Message| write_message(alloc, message);
+    assert_written_as(&rt, alloc, answer, write, GET_NEXT);
 }

@@ -1,5 +1,6 @@
 //! Whole numbers of any length from and to those of 128 bits, and object identifiers from arcs.
 
+use crate::reading::assert_facts;
 use crate::writing::made;
 use rasn::prelude::*;
 use std::alloc::AllocError;
@@ -14,15 +15,16 @@ fn assert_number(
     signed: Option<i128>,
     unsigned: Option<u128>,
 ) {
-    match number {
-        Ok(number) => {
-            assert_eq!(rt; number.as_octets(), octets);
-            assert_eq!(rt; number.is_negative(), is_negative);
-            assert_eq!(rt; number.to_i128(), signed);
-            assert_eq!(rt; number.to_u128(), unsigned);
-        }
-        Err(_) => assert!(rt; false, "no memory"),
-    }
+    let number = made(rt, number.map(Some));
+    assert_facts(
+        rt,
+        &[
+            number.as_octets() == octets,
+            number.is_negative() == is_negative,
+            number.to_i128() == signed,
+            number.to_u128() == unsigned,
+        ],
+    );
 }
 
 #[test]
@@ -58,11 +60,9 @@ const RSADSI: [u32; 4] = [1, 2, 840, 113549];
 fn object_identifiers_of_arcs(rt: HostRuntime) {
     let alloc = rt.alloc();
     let rsadsi = made(&rt, ObjectIdentifier::from_arcs(alloc, &RSADSI));
-    assert_eq!(rt; rsadsi.arcs(), RSADSI.as_slice());
+    assert!(rt; rsadsi.arcs() == RSADSI.as_slice());
     for arcs in [[].as_slice(), &[1], &[3, 1]] {
-        match ObjectIdentifier::from_arcs(alloc, arcs) {
-            Ok(answer) => assert!(rt; answer.is_none()),
-            Err(_) => assert!(rt; false, "no memory"),
-        }
+        let answer = ObjectIdentifier::from_arcs(alloc, arcs);
+        assert!(rt; answer.is_ok_and(|identifier| identifier.is_none()));
     }
 }

@@ -1,5 +1,6 @@
 //! What values hold is taken out, lent, copied and compared.
 
+use crate::reading::assert_facts;
 use crate::writing::made;
 use rasn::prelude::*;
 use std::alloc::{AllocError, Global};
@@ -37,45 +38,59 @@ fn worked_arcs(rt: &impl Abort, alloc: Global) -> ObjectIdentifier {
 fn takes_values_out_of_tags(rt: HostRuntime) {
     let implicit: Implicit<bool, u8> = Implicit::new(7);
     let explicit: Explicit<bool, u8> = Explicit::new(9);
-    assert_eq!(rt; implicit.into_inner(), 7);
-    assert_eq!(rt; explicit.into_inner(), 9);
+    assert!(rt; implicit.into_inner() == 7 && explicit.into_inner() == 9);
 }
 
 #[test]
 fn takes_octets_out(rt: HostRuntime) {
     let alloc = rt.alloc();
-    let string = OctetString::from_vec(vec_of(&rt, alloc, &[0x01, 0x23]));
-    assert_eq!(rt; string.into_vec().as_slice(), [0x01, 0x23].as_slice());
-    let any = Any::new(vec_of(&rt, alloc, &[0x05, 0x00]));
-    assert_eq!(rt; any.into_vec().as_slice(), [0x05, 0x00].as_slice());
+    let string = OctetString::from_vec(vec_of(&rt, alloc, &[0x01, 0x23])).into_vec();
+    let any = Any::new(vec_of(&rt, alloc, &[0x05, 0x00])).into_vec();
     let arcs = worked_arcs(&rt, alloc).into_vec();
-    assert_eq!(rt; arcs.as_slice(), [2u32, 999, 3].as_slice());
-    let jones = made(&rt, VisibleString::from_octets(alloc, b"Jones"));
-    assert_eq!(rt; jones.into_vec().as_slice(), b"Jones".as_slice());
-    let units = made(&rt, BmpString::from_octets(alloc, &[0x00, 0x4A]));
-    assert_eq!(rt; units.into_vec().as_slice(), [0x00, 0x4A].as_slice());
+    let jones = made(&rt, VisibleString::from_octets(alloc, b"Jones")).into_vec();
+    let units = made(&rt, BmpString::from_octets(alloc, &[0x00, 0x4A])).into_vec();
+    assert_facts(
+        &rt,
+        &[
+            string.as_slice() == [0x01, 0x23].as_slice(),
+            any.as_slice() == [0x05, 0x00].as_slice(),
+            arcs.as_slice() == [2u32, 999, 3].as_slice(),
+            jones.as_slice() == b"Jones".as_slice(),
+            units.as_slice() == [0x00, 0x4A].as_slice(),
+        ],
+    );
 }
 
-// The bits that the last octet leaves unused are zeros (X.690 11.2.1).
-#[test]
-fn lends_bits(rt: HostRuntime) {
-    let alloc = rt.alloc();
-    const OCTETS: &[u8] = &[0x0A, 0x3B, 0x5F, 0x29, 0x1C, 0xD0];
-    let bits = worked_bits(&rt, alloc);
-    assert!(rt; !bits.is_empty());
-    assert_eq!(rt; bits.as_octets(), OCTETS);
+/// How many of the bits are set.
+fn count_ones(bits: &BitString) -> u32 {
     let mut ones = 0u32;
     for bit in bits.iter() {
         if bit {
             ones = ones.wrapping_add(1);
         }
     }
-    assert_eq!(rt; ones, 22);
-    assert_eq!(rt; bits.into_vec().as_slice(), OCTETS);
+    ones
+}
+
+// The bits that the last octet leaves unused are zeros (X.690 11.2.1).
+#[test]
+fn lends_bits(rt: HostRuntime) {
+    const OCTETS: &[u8] = &[0x0A, 0x3B, 0x5F, 0x29, 0x1C, 0xD0];
+    let alloc = rt.alloc();
+    let bits = worked_bits(&rt, alloc);
     let none = made(&rt, Ok(BitString::new(Vec::new(alloc), 0)));
-    assert!(rt; none.is_empty());
-    assert!(rt; none.as_bitstr().is_empty());
-    assert!(rt; none.as_bitstr().iter().next().is_none());
+    assert_facts(
+        &rt,
+        &[
+            !bits.is_empty(),
+            bits.as_octets() == OCTETS,
+            count_ones(&bits) == 22,
+            none.is_empty(),
+            none.as_bitstr().is_empty(),
+            count_ones(&none) == 0,
+        ],
+    );
+    assert!(rt; bits.into_vec().as_slice() == OCTETS);
 }
 
 // VisibleString "Jones" (X.690 8.23.3), and the characters U+015C and U+20AC of Unicode as units.
@@ -83,15 +98,20 @@ fn lends_bits(rt: HostRuntime) {
 fn lends_text(rt: HostRuntime) {
     let alloc = rt.alloc();
     let jones = made(&rt, VisibleString::from_octets(alloc, b"Jones"));
-    assert_eq!(rt; jones.as_str(), "Jones");
     let string = made(
         &rt,
         BmpString::from_octets(alloc, &[0x01, 0x5C, 0x20, 0xAC]),
     );
     let mut units = string.units();
-    assert_eq!(rt; units.next(), Some(0x015C));
-    assert_eq!(rt; units.next(), Some(0x20AC));
-    assert_eq!(rt; units.next(), None);
+    assert_facts(
+        &rt,
+        &[
+            jones.as_str() == "Jones",
+            units.next() == Some(0x015C),
+            units.next() == Some(0x20AC),
+            units.next().is_none(),
+        ],
+    );
 }
 
 #[test]
@@ -103,7 +123,7 @@ fn goes_over_a_set(rt: HostRuntime) -> Result<(), AllocError> {
     for element in &set {
         seen = seen.wrapping_mul(10).wrapping_add(*element);
     }
-    assert_eq!(rt; seen, 35);
+    assert!(rt; seen == 35);
     Ok(())
 }
 
@@ -166,11 +186,16 @@ fn orders_strings(rt: HostRuntime) {
     let alloc = rt.alloc();
     let jones = made(&rt, PrintableString::from_octets(alloc, b"Jones"));
     let smith = made(&rt, PrintableString::from_octets(alloc, b"Smith"));
-    assert!(rt; jones < smith);
     let null = Any::new(vec_of(&rt, alloc, &[0x05, 0x00]));
     let truth = Any::new(vec_of(&rt, alloc, &[0x01, 0x01, 0xFF]));
-    assert_eq!(rt; null.cmp(&truth), Ordering::Greater);
     let low = made(&rt, BmpString::from_octets(alloc, &[0x00, 0xFF]));
     let high = made(&rt, BmpString::from_octets(alloc, &[0x01, 0x00]));
-    assert!(rt; low < high);
+    assert_facts(
+        &rt,
+        &[
+            jones < smith,
+            null.cmp(&truth) == Ordering::Greater,
+            low < high,
+        ],
+    );
 }

@@ -88,23 +88,35 @@ fn compares_views_of_bits(rt: HostRuntime) {
     );
 }
 
+/// Whether the error is that this many octets are missing, under these rules.
+fn is_incomplete(error: &DecodeError, octets: usize, codec: Codec) -> bool {
+    let kind = DecodeErrorKind::Incomplete {
+        needed: Needed::new(octets),
+    };
+    *error == DecodeError { kind, codec }
+}
+
+/// The error of a call that is refused.
+fn refusal<T: Drop>(rt: &impl Abort, answer: Result<T, DecodeError>) -> DecodeError {
+    match answer {
+        Ok(_) => panic!(rt; "it is read"),
+        Err(error) => error,
+    }
+}
+
 // Errors are equal exactly if their kinds, fields and rules are.
 #[test]
 fn compares_errors(rt: HostRuntime) {
-    let alloc = rt.alloc();
-    let incomplete = |octets, codec| DecodeError {
-        kind: DecodeErrorKind::Incomplete {
-            needed: Needed::new(octets),
-        },
-        codec,
-    };
-    let refused = match bool::decode(&mut decoder_of(alloc, &[0x01], Codec::Ber)) {
-        Err(error) => error,
-        Ok(_) => panic!(rt; "it is read"),
-    };
-    assert!(rt; refused == incomplete(1, Codec::Ber));
-    assert!(rt; refused != incomplete(2, Codec::Ber));
-    assert!(rt; refused != incomplete(1, Codec::Der));
+    let mut decoder = decoder_of(rt.alloc(), &[0x01], Codec::Ber);
+    let refused = refusal(&rt, bool::decode(&mut decoder));
+    assert_facts(
+        &rt,
+        &[
+            is_incomplete(&refused, 1, Codec::Ber),
+            !is_incomplete(&refused, 2, Codec::Ber),
+            !is_incomplete(&refused, 1, Codec::Der),
+        ],
+    );
 }
 
 #[test]

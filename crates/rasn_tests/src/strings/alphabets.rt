@@ -1,5 +1,6 @@
 //! Character strings as values, and their alphabets (X.680 41).
 
+use crate::writing::made;
 use rasn_types::types::{
     Alphabet, BmpString, FixedOctetString, GeneralType, GraphicType, Ia5Type, NumericType,
     PrintableType, RestrictedString, StringType, TeletexType, VisibleType,
@@ -54,22 +55,13 @@ fn admits_its_alphabet(rt: HostRuntime) {
 
 #[test]
 fn has_whole_units(rt: HostRuntime) {
-    let alloc = rt.alloc();
     const LETTER: &[u8] = &[0x00, 0x41];
-    match (
-        BmpString::from_octets(alloc, LETTER),
-        BmpString::from_octets(alloc, LETTER),
-    ) {
-        (Ok(Some(one)), Ok(Some(other))) => {
-            assert_eq!(rt; one.as_octets(), LETTER);
-            assert!(rt; one == other);
-        }
-        _ => assert!(rt; false),
-    }
-    match BmpString::from_octets(alloc, &[0x00, 0x41, 0x00]) {
-        Ok(string) => assert!(rt; string.is_none()),
-        Err(_) => assert!(rt; false, "no memory"),
-    }
+    let alloc = rt.alloc();
+    let one = made(&rt, BmpString::from_octets(alloc, LETTER));
+    let other = made(&rt, BmpString::from_octets(alloc, LETTER));
+    assert!(rt; one.as_octets() == LETTER && one == other);
+    let cut = BmpString::from_octets(alloc, &[0x00, 0x41, 0x00]);
+    assert!(rt; cut.is_ok_and(|string| string.is_none()));
 }
 
 #[test]

@@ -21,6 +21,11 @@ fn packed(alloc: Global, bits: &BitString) -> Result<Vec<u8>, AllocError> {
     Ok(octets)
 }
 
+/// Whether there are so many bits, which have these octets.
+fn has_bits(alloc: Global, bits: &BitString, len: usize, octets: &[u8]) -> bool {
+    bits.len() == len && packed(alloc, bits).is_ok_and(|found| found.as_slice() == octets)
+}
+
 /// Asserts that a call answers so many bits, which have these octets.
 fn assert_has_bits(
     rt: &impl Abort,
@@ -29,23 +34,14 @@ fn assert_has_bits(
     len: usize,
     octets: &[u8],
 ) {
-    match answer {
-        Ok(bits) => {
-            assert!(rt; bits.len() == len);
-            match packed(alloc, &bits) {
-                Ok(found) => assert_eq!(rt; found.as_slice(), octets),
-                Err(_) => assert!(rt; false, "no memory"),
-            }
-        }
-        Err(error) => assert!(rt; false, "{:?}", error.kind),
-    }
+    assert!(rt; has_bits(alloc, &value(rt, answer), len, octets));
 }
 
 fn assert_reads_bits(rt: &impl Abort, alloc: Global, rows: &[BitsRow]) {
     for (octets, rules, len, found, consumed) in rows {
         let mut decoder = decoder_of(alloc, octets, *rules);
         assert_has_bits(rt, alloc, BitString::decode(&mut decoder), *len, found);
-        assert_eq!(rt; decoder.decoded_len(), *consumed, "{octets:?} {rules:?}");
+        assert!(rt; decoder.decoded_len() == *consumed, "{octets:?} {rules:?}");
     }
 }
 

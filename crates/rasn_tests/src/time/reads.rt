@@ -3,6 +3,7 @@
 use crate::reading::{Row, assert_facts, assert_reads, decoder_of, value};
 use crate::time::texts::{Seen, Timed, tells};
 use rasn_de::de::Decode;
+use rasn_types::error::DecodeError;
 use rasn_types::types::{Codec, Date, GeneralizedTime, UtcTime};
 use std::alloc::Global;
 use std::process::Abort;
@@ -10,17 +11,27 @@ use std::process::Abort;
 /// Octets, the rules they are read by, the time or the text that isn't one, and how many octets are consumed.
 type TimeRow = (&'static [u8], Codec, Result<Seen, &'static str>, usize);
 
+/// Whether a call answers this time, or an error that tells this text.
+fn is_answered<T: Timed>(
+    answer: &Result<T, DecodeError>,
+    rules: Codec,
+    time: Result<Seen, &str>,
+) -> bool {
+    match answer {
+        Ok(value) => time == Ok(value.seen()),
+        Err(error) => time.is_err_and(|text| tells(error, rules, text)),
+    }
+}
+
 fn assert_reads_times<T: Decode + Timed>(rt: &impl Abort, alloc: Global, rows: &[TimeRow]) {
     for (octets, rules, time, consumed) in rows {
         let mut decoder = decoder_of(alloc, octets, *rules);
-        match T::decode(&mut decoder) {
-            Ok(value) => assert!(rt; *time == Ok(value.seen()), "{octets:?} {rules:?}"),
-            Err(error) => match time {
-                Ok(_) => assert!(rt; false, "{:?}", error.kind),
-                Err(text) => assert!(rt; tells(&error, *rules, text), "{octets:?} {rules:?}"),
-            },
-        }
-        assert!(rt; decoder.decoded_len() == *consumed, "{octets:?} {rules:?}");
+        let answer = T::decode(&mut decoder);
+        let is_consumed = decoder.decoded_len() == *consumed;
+        assert!(rt;
+            is_answered(&answer, *rules, *time) && is_consumed,
+            "{octets:?} {rules:?}"
+        );
     }
 }
 
