@@ -3,205 +3,145 @@
 use rasn::types::ObjectIdentifier;
 use std::alloc::{AllocError, Global};
 
+/// Arcs and the name of the identifier that has them.
+type Named = (&'static [u32], &'static str);
+
+/// Algorithms, contents, attributes, extensions and purposes.
+const IDENTIFIERS: &[Named] = &[
+    // Algorithms of PKCS #1 (RFC 8017, appendix C).
+    (&[1, 2, 840, 113549, 1, 1, 1], "rsaEncryption"),
+    (&[1, 2, 840, 113549, 1, 1, 2], "md2WithRSAEncryption"),
+    (&[1, 2, 840, 113549, 1, 1, 4], "md5WithRSAEncryption"),
+    (&[1, 2, 840, 113549, 1, 1, 5], "sha1WithRSAEncryption"),
+    (&[1, 2, 840, 113549, 1, 1, 7], "id-RSAES-OAEP"),
+    (&[1, 2, 840, 113549, 1, 1, 8], "id-mgf1"),
+    (&[1, 2, 840, 113549, 1, 1, 10], "id-RSASSA-PSS"),
+    (&[1, 2, 840, 113549, 1, 1, 11], "sha256WithRSAEncryption"),
+    (&[1, 2, 840, 113549, 1, 1, 12], "sha384WithRSAEncryption"),
+    (&[1, 2, 840, 113549, 1, 1, 13], "sha512WithRSAEncryption"),
+    (&[1, 2, 840, 113549, 1, 1, 14], "sha224WithRSAEncryption"),
+    // Contents of signed messages (RFC 5652).
+    (&[1, 2, 840, 113549, 1, 7, 1], "id-data"),
+    (&[1, 2, 840, 113549, 1, 7, 2], "id-signedData"),
+    (&[1, 2, 840, 113549, 1, 7, 3], "id-envelopedData"),
+    (&[1, 2, 840, 113549, 1, 7, 5], "id-digestedData"),
+    (&[1, 2, 840, 113549, 1, 7, 6], "id-encryptedData"),
+    // Attributes of PKCS #9 (RFC 2985).
+    (&[1, 2, 840, 113549, 1, 9, 1], "emailAddress"),
+    (&[1, 2, 840, 113549, 1, 9, 2], "unstructuredName"),
+    (&[1, 2, 840, 113549, 1, 9, 3], "contentType"),
+    (&[1, 2, 840, 113549, 1, 9, 4], "messageDigest"),
+    (&[1, 2, 840, 113549, 1, 9, 5], "signingTime"),
+    (&[1, 2, 840, 113549, 1, 9, 6], "countersignature"),
+    (&[1, 2, 840, 113549, 1, 9, 7], "challengePassword"),
+    (&[1, 2, 840, 113549, 1, 9, 14], "extensionRequest"),
+    (&[1, 2, 840, 113549, 1, 9, 15], "smimeCapabilities"),
+    // Keys, curves and signatures of ANSI X9.62 (RFC 5480, 2.1.1; RFC 5758, 3.2).
+    (&[1, 2, 840, 10045, 2, 1], "id-ecPublicKey"),
+    (&[1, 2, 840, 10045, 3, 1, 7], "secp256r1"),
+    (&[1, 2, 840, 10045, 4, 1], "ecdsa-with-SHA1"),
+    (&[1, 2, 840, 10045, 4, 3, 1], "ecdsa-with-SHA224"),
+    (&[1, 2, 840, 10045, 4, 3, 2], "ecdsa-with-SHA256"),
+    (&[1, 2, 840, 10045, 4, 3, 3], "ecdsa-with-SHA384"),
+    (&[1, 2, 840, 10045, 4, 3, 4], "ecdsa-with-SHA512"),
+    // Curves of Certicom (RFC 5480, 2.1.1.1).
+    (&[1, 3, 132, 0, 33], "secp224r1"),
+    (&[1, 3, 132, 0, 34], "secp384r1"),
+    (&[1, 3, 132, 0, 35], "secp521r1"),
+    // Keys and signatures of RFC 8410, 3.
+    (&[1, 3, 101, 110], "id-X25519"),
+    (&[1, 3, 101, 111], "id-X448"),
+    (&[1, 3, 101, 112], "id-Ed25519"),
+    (&[1, 3, 101, 113], "id-Ed448"),
+    // Digests (RFC 3370, 2.1; RFC 5754, 2).
+    (&[1, 3, 14, 3, 2, 26], "sha1"),
+    (&[2, 16, 840, 1, 101, 3, 4, 2, 1], "id-sha256"),
+    (&[2, 16, 840, 1, 101, 3, 4, 2, 2], "id-sha384"),
+    (&[2, 16, 840, 1, 101, 3, 4, 2, 3], "id-sha512"),
+    (&[2, 16, 840, 1, 101, 3, 4, 2, 4], "id-sha224"),
+    // Extensions of RFC 5280, 4.2.1 and 5.2, and 5.3 for entries of a revocation list.
+    (&[2, 5, 29, 9], "subjectDirectoryAttributes"),
+    (&[2, 5, 29, 14], "subjectKeyIdentifier"),
+    (&[2, 5, 29, 15], "keyUsage"),
+    (&[2, 5, 29, 16], "privateKeyUsagePeriod"),
+    (&[2, 5, 29, 17], "subjectAltName"),
+    (&[2, 5, 29, 18], "issuerAltName"),
+    (&[2, 5, 29, 19], "basicConstraints"),
+    (&[2, 5, 29, 20], "cRLNumber"),
+    (&[2, 5, 29, 21], "reasonCode"),
+    (&[2, 5, 29, 24], "invalidityDate"),
+    (&[2, 5, 29, 27], "deltaCRLIndicator"),
+    (&[2, 5, 29, 28], "issuingDistributionPoint"),
+    (&[2, 5, 29, 29], "certificateIssuer"),
+    (&[2, 5, 29, 30], "nameConstraints"),
+    (&[2, 5, 29, 31], "cRLDistributionPoints"),
+    (&[2, 5, 29, 32], "certificatePolicies"),
+    (&[2, 5, 29, 33], "policyMappings"),
+    (&[2, 5, 29, 35], "authorityKeyIdentifier"),
+    (&[2, 5, 29, 36], "policyConstraints"),
+    (&[2, 5, 29, 37], "extKeyUsage"),
+    (&[2, 5, 29, 46], "freshestCRL"),
+    (&[2, 5, 29, 54], "inhibitAnyPolicy"),
+    // Extensions of RFC 5280, 4.2.2.
+    (&[1, 3, 6, 1, 5, 5, 7, 1, 1], "authorityInfoAccess"),
+    (&[1, 3, 6, 1, 5, 5, 7, 1, 11], "subjectInfoAccess"),
+    // Purposes of keys (RFC 5280, 4.2.1.12).
+    (&[1, 3, 6, 1, 5, 5, 7, 3, 1], "id-kp-serverAuth"),
+    (&[1, 3, 6, 1, 5, 5, 7, 3, 2], "id-kp-clientAuth"),
+    (&[1, 3, 6, 1, 5, 5, 7, 3, 3], "id-kp-codeSigning"),
+    (&[1, 3, 6, 1, 5, 5, 7, 3, 4], "id-kp-emailProtection"),
+    (&[1, 3, 6, 1, 5, 5, 7, 3, 8], "id-kp-timeStamping"),
+    (&[1, 3, 6, 1, 5, 5, 7, 3, 9], "id-kp-OCSPSigning"),
+    // Certificate transparency (RFC 6962, 3.3).
+    (
+        &[1, 3, 6, 1, 4, 1, 11129, 2, 4, 2],
+        "signedCertificateTimestampList",
+    ),
+];
+
+/// The types of attributes by their short names (RFC 4514, 3, RFC 4519, RFC 5280, appendix A.1).
+const ATTRIBUTES: &[Named] = &[
+    // X.520.
+    (&[2, 5, 4, 3], "CN"),
+    (&[2, 5, 4, 4], "SN"),
+    (&[2, 5, 4, 5], "serialNumber"),
+    (&[2, 5, 4, 6], "C"),
+    (&[2, 5, 4, 7], "L"),
+    (&[2, 5, 4, 8], "ST"),
+    (&[2, 5, 4, 9], "STREET"),
+    (&[2, 5, 4, 10], "O"),
+    (&[2, 5, 4, 11], "OU"),
+    (&[2, 5, 4, 12], "title"),
+    (&[2, 5, 4, 42], "GN"),
+    (&[2, 5, 4, 97], "organizationIdentifier"),
+    // RFC 4519, 2.39 and 2.4, and PKCS #9 (RFC 2985).
+    (&[0, 9, 2342, 19200300, 100, 1, 1], "UID"),
+    (&[0, 9, 2342, 19200300, 100, 1, 25], "DC"),
+    (&[1, 2, 840, 113549, 1, 9, 1], "emailAddress"),
+];
+
+/// The name of these arcs.
+fn name_of(arcs: &[u32], names: &[Named]) -> Option<&'static str> {
+    for (known, name) in names {
+        if *known == arcs {
+            return Some(*name);
+        }
+    }
+    None
+}
+
 /// The arcs of an identifier with its name in front where it is well known: `sha256WithRSAEncryption (1.2.840.113549.1.1.11)`.
 pub(crate) fn identifier_text(
     alloc: Global,
     identifier: &ObjectIdentifier,
 ) -> Result<String, AllocError> {
-    match name_of(identifier.arcs()) {
+    match name_of(identifier.arcs(), IDENTIFIERS) {
         Some(name) => format!(in alloc; "{name} ({identifier})"),
         None => format!(in alloc; "{identifier}"),
     }
 }
 
-/// The name of the identifier with these arcs.
-fn name_of(arcs: &[u32]) -> Option<&'static str> {
-    match arcs {
-        [1, 2, 840, 113549, 1, 1, last] => rsa_name(*last),
-        [1, 2, 840, 113549, 1, 7, last] => content_name(*last),
-        [1, 2, 840, 113549, 1, 9, last] => pkcs9_name(*last),
-        [1, 2, 840, 10045, others @ ..] => elliptic_curve_name(others),
-        [1, 3, 132, 0, last] => curve_name(*last),
-        [1, 3, 101, last] => edwards_name(*last),
-        [1, 3, 14, 3, 2, 26] => Some("sha1"),
-        [2, 16, 840, 1, 101, 3, 4, 2, last] => hash_name(*last),
-        [2, 5, 29, last] => extension_name(*last),
-        [1, 3, 6, 1, 5, 5, 7, 1, last] => access_name(*last),
-        [1, 3, 6, 1, 5, 5, 7, 3, last] => purpose_name(*last),
-        [1, 3, 6, 1, 4, 1, 11129, 2, 4, 2] => Some("signedCertificateTimestampList"),
-        _ => None,
-    }
-}
-
-/// Algorithms of PKCS #1 (RFC 8017, appendix C).
-fn rsa_name(last: u32) -> Option<&'static str> {
-    match last {
-        1 => Some("rsaEncryption"),
-        2 => Some("md2WithRSAEncryption"),
-        4 => Some("md5WithRSAEncryption"),
-        5 => Some("sha1WithRSAEncryption"),
-        7 => Some("id-RSAES-OAEP"),
-        8 => Some("id-mgf1"),
-        10 => Some("id-RSASSA-PSS"),
-        11 => Some("sha256WithRSAEncryption"),
-        12 => Some("sha384WithRSAEncryption"),
-        13 => Some("sha512WithRSAEncryption"),
-        14 => Some("sha224WithRSAEncryption"),
-        _ => None,
-    }
-}
-
-/// Keys, curves and signatures of ANSI X9.62 (RFC 5480, 2.1.1; RFC 5758, 3.2).
-fn elliptic_curve_name(arcs: &[u32]) -> Option<&'static str> {
-    match arcs {
-        [2, 1] => Some("id-ecPublicKey"),
-        [3, 1, 7] => Some("secp256r1"),
-        [4, 1] => Some("ecdsa-with-SHA1"),
-        [4, 3, 1] => Some("ecdsa-with-SHA224"),
-        [4, 3, 2] => Some("ecdsa-with-SHA256"),
-        [4, 3, 3] => Some("ecdsa-with-SHA384"),
-        [4, 3, 4] => Some("ecdsa-with-SHA512"),
-        _ => None,
-    }
-}
-
-/// Curves of Certicom (RFC 5480, 2.1.1.1).
-fn curve_name(last: u32) -> Option<&'static str> {
-    match last {
-        33 => Some("secp224r1"),
-        34 => Some("secp384r1"),
-        35 => Some("secp521r1"),
-        _ => None,
-    }
-}
-
-/// Keys and signatures of RFC 8410, 3.
-fn edwards_name(last: u32) -> Option<&'static str> {
-    match last {
-        110 => Some("id-X25519"),
-        111 => Some("id-X448"),
-        112 => Some("id-Ed25519"),
-        113 => Some("id-Ed448"),
-        _ => None,
-    }
-}
-
-/// Contents of signed messages (RFC 5652).
-fn content_name(last: u32) -> Option<&'static str> {
-    match last {
-        1 => Some("id-data"),
-        2 => Some("id-signedData"),
-        3 => Some("id-envelopedData"),
-        5 => Some("id-digestedData"),
-        6 => Some("id-encryptedData"),
-        _ => None,
-    }
-}
-
-/// Attributes of PKCS #9 (RFC 2985).
-fn pkcs9_name(last: u32) -> Option<&'static str> {
-    match last {
-        1 => Some("emailAddress"),
-        2 => Some("unstructuredName"),
-        3 => Some("contentType"),
-        4 => Some("messageDigest"),
-        5 => Some("signingTime"),
-        6 => Some("countersignature"),
-        7 => Some("challengePassword"),
-        14 => Some("extensionRequest"),
-        15 => Some("smimeCapabilities"),
-        _ => None,
-    }
-}
-
-/// Digests of RFC 5754, 2.
-fn hash_name(last: u32) -> Option<&'static str> {
-    match last {
-        1 => Some("id-sha256"),
-        2 => Some("id-sha384"),
-        3 => Some("id-sha512"),
-        4 => Some("id-sha224"),
-        _ => None,
-    }
-}
-
-/// Purposes of keys (RFC 5280, 4.2.1.12).
-fn purpose_name(last: u32) -> Option<&'static str> {
-    match last {
-        1 => Some("id-kp-serverAuth"),
-        2 => Some("id-kp-clientAuth"),
-        3 => Some("id-kp-codeSigning"),
-        4 => Some("id-kp-emailProtection"),
-        8 => Some("id-kp-timeStamping"),
-        9 => Some("id-kp-OCSPSigning"),
-        _ => None,
-    }
-}
-
-/// Extensions of RFC 5280, 4.2.1 and 5.2, and 5.3 for entries of a revocation list.
-fn extension_name(last: u32) -> Option<&'static str> {
-    match last {
-        9 => Some("subjectDirectoryAttributes"),
-        14 => Some("subjectKeyIdentifier"),
-        15 => Some("keyUsage"),
-        16 => Some("privateKeyUsagePeriod"),
-        17 => Some("subjectAltName"),
-        18 => Some("issuerAltName"),
-        19 => Some("basicConstraints"),
-        20 => Some("cRLNumber"),
-        21 => Some("reasonCode"),
-        24 => Some("invalidityDate"),
-        27 => Some("deltaCRLIndicator"),
-        28 => Some("issuingDistributionPoint"),
-        29 => Some("certificateIssuer"),
-        30 => Some("nameConstraints"),
-        31 => Some("cRLDistributionPoints"),
-        32 => Some("certificatePolicies"),
-        33 => Some("policyMappings"),
-        35 => Some("authorityKeyIdentifier"),
-        36 => Some("policyConstraints"),
-        37 => Some("extKeyUsage"),
-        46 => Some("freshestCRL"),
-        54 => Some("inhibitAnyPolicy"),
-        _ => None,
-    }
-}
-
-/// Extensions of RFC 5280, 4.2.2.
-fn access_name(last: u32) -> Option<&'static str> {
-    match last {
-        1 => Some("authorityInfoAccess"),
-        11 => Some("subjectInfoAccess"),
-        _ => None,
-    }
-}
-
-/// The short name of an attribute's type (RFC 4514, 3, RFC 4519, RFC 5280, appendix A.1).
+/// The short name of an attribute's type.
 pub(crate) fn attribute_name(arcs: &[u32]) -> Option<&'static str> {
-    match arcs {
-        [2, 5, 4, last] => directory_name(*last),
-        [0, 9, 2342, 19200300, 100, 1, 1] => Some("UID"),
-        [0, 9, 2342, 19200300, 100, 1, 25] => Some("DC"),
-        [1, 2, 840, 113549, 1, 9, 1] => Some("emailAddress"),
-        _ => None,
-    }
-}
-
-/// Attributes of X.520.
-fn directory_name(last: u32) -> Option<&'static str> {
-    match last {
-        3 => Some("CN"),
-        4 => Some("SN"),
-        5 => Some("serialNumber"),
-        6 => Some("C"),
-        7 => Some("L"),
-        8 => Some("ST"),
-        9 => Some("STREET"),
-        10 => Some("O"),
-        11 => Some("OU"),
-        12 => Some("title"),
-        42 => Some("GN"),
-        97 => Some("organizationIdentifier"),
-        _ => None,
-    }
+    name_of(arcs, ATTRIBUTES)
 }

@@ -9,6 +9,19 @@ pub(crate) trait Listed {
     fn list(&self, listing: &mut Listing) -> Result<(), AllocError>;
 }
 
+/// A number and its name in ASN.1.
+pub(crate) type NamedNumber = (i32, &'static str);
+
+/// The name of the number, if it has one.
+fn name_of(number: i32, names: &[NamedNumber]) -> Option<&'static str> {
+    for (named, name) in names {
+        if *named == number {
+            return Some(*name);
+        }
+    }
+    None
+}
+
 /// Lines of text that are put together, two spaces further to the right for each heading that is open.
 #[derive(Debug, Drop)]
 pub(crate) struct Listing {
@@ -78,10 +91,10 @@ impl Listing {
         &mut self,
         title: &str,
         number: i32,
-        name: Option<&'static str>,
+        names: &[NamedNumber],
     ) -> Result<(), AllocError> {
         self.begin()?;
-        match name {
+        match name_of(number, names) {
             Some(name) => writeln!(self.text, "{title}: {number} ({name})"),
             None => writeln!(self.text, "{title}: {number}"),
         }

@@ -67,20 +67,35 @@ pub fn run<R: Read, W: Write, E: Write>(
     refusals: &mut E,
 ) -> Result<bool, RunFault> {
     let octets = read_all(alloc, input)?;
-    match answer(alloc, call, &octets) {
+    let answer = answer(alloc, call, &octets);
+    match &answer {
         Ok(text) => {
-            write_all(output, &text)?;
+            write_all(output, text)?;
             Ok(true)
         }
-        Err(Refusal::OutOfMemory) => Err(RunFault::Memory),
-        Err(_) if call.checks => Ok(false),
         Err(refusal) => {
-            let name = call.kind.name();
-            let Ok(text) = format!(in alloc; "{name}: {refusal}\n") else {
-                return Err(RunFault::Memory);
-            };
-            write_all(refusals, &text)?;
+            refuse(alloc, call, refusal, refusals)?;
             Ok(false)
+        }
+    }
+}
+
+/// Says why there is no message, where the call doesn't only check.
+fn refuse<E: Write>(
+    alloc: Global,
+    call: &Call<'_>,
+    refusal: &Refusal,
+    refusals: &mut E,
+) -> Result<(), RunFault> {
+    match refusal {
+        Refusal::OutOfMemory => Err(RunFault::Memory),
+        _ if call.checks => Ok(()),
+        refusal => {
+            let name = call.kind.name();
+            match format!(in alloc; "{name}: {refusal}\n") {
+                Ok(text) => write_all(refusals, &text),
+                Err(_) => Err(RunFault::Memory),
+            }
         }
     }
 }

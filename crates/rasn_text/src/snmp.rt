@@ -6,7 +6,7 @@ mod variable;
 
 use crate::listing::{Listed, Listing};
 use crate::octets::octets_text;
-use crate::snmp::error_status::status_name;
+use crate::snmp::error_status::ERROR_STATUSES;
 use crate::snmp::trap::list_trap;
 use crate::snmp::variable::list_variables;
 use rasn_snmp::{BulkPdu, Message, Pdu, Pdus, VERSION_1, VERSION_2C};
@@ -71,8 +71,7 @@ fn list_operation(listing: &mut Listing, data: &Pdus) -> Result<(), AllocError> 
 /// Lists the parts of all operations but two.
 fn list_pdu(listing: &mut Listing, pdu: &Pdu) -> Result<(), AllocError> {
     listing.line("request id", &pdu.request_id)?;
-    let status = pdu.error_status;
-    listing.numbered("error status", status, status_name(status))?;
+    listing.numbered("error status", pdu.error_status, ERROR_STATUSES)?;
     listing.line("error index", &pdu.error_index)?;
     list_variables(listing, &pdu.variable_bindings)
 }

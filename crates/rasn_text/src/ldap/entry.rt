@@ -1,10 +1,17 @@
 //! Entries and their changes as text (RFC 4511, 4.5.2 and 4.6).
 
 use crate::ldap::{list_octets, list_string};
-use crate::listing::Listing;
+use crate::listing::{Listing, NamedNumber};
 use rasn::types::OctetString;
-use rasn_ldap::{Change, ModifyRequest, PartialAttribute, SearchResultEntry};
+use rasn_ldap::{Change, ChangeOperation, ModifyRequest, PartialAttribute, SearchResultEntry};
 use std::alloc::AllocError;
+
+/// What is done with the values of an attribute (RFC 4511, 4.6).
+const OPERATIONS: &[NamedNumber] = &[
+    (ChangeOperation::ADD.number, "add"),
+    (ChangeOperation::DELETE.number, "delete"),
+    (ChangeOperation::REPLACE.number, "replace"),
+];
 
 /// Lists an entry that was found.
 pub(crate) fn list_entry(
@@ -39,21 +46,10 @@ pub(crate) fn list_modify_request(
 /// Lists a change.
 fn list_change(listing: &mut Listing, change: &Change) -> Result<(), AllocError> {
     listing.open("change")?;
-    let operation = change.operation.number;
-    listing.numbered("operation", operation, change_name(operation))?;
+    listing.numbered("operation", change.operation.number, OPERATIONS)?;
     list_attribute(listing, &change.modification)?;
     listing.close();
     Ok(())
-}
-
-/// The name of what is done to an attribute's values.
-fn change_name(number: i32) -> Option<&'static str> {
-    match number {
-        0 => Some("add"),
-        1 => Some("delete"),
-        2 => Some("replace"),
-        _ => None,
-    }
 }
 
 /// Lists an attribute and its values (RFC 4511, 4.1.7).

@@ -1,10 +1,113 @@
 //! Results as text (RFC 4511, 4.1.9).
 
 use crate::ldap::list_string;
-use crate::listing::Listing;
+use crate::listing::{Listing, NamedNumber};
 use rasn::types::{ContextTag, Implicit};
 use rasn_ldap::{LdapResult, LdapString, ResultCode};
 use std::alloc::AllocError;
+
+/// The names of result codes (RFC 4511, 4.1.9).
+const RESULT_CODES: &[NamedNumber] = &[
+    (ResultCode::SUCCESS.number, "success"),
+    (ResultCode::OPERATIONS_ERROR.number, "operationsError"),
+    (ResultCode::PROTOCOL_ERROR.number, "protocolError"),
+    (ResultCode::TIME_LIMIT_EXCEEDED.number, "timeLimitExceeded"),
+    (ResultCode::SIZE_LIMIT_EXCEEDED.number, "sizeLimitExceeded"),
+    (ResultCode::COMPARE_FALSE.number, "compareFalse"),
+    (ResultCode::COMPARE_TRUE.number, "compareTrue"),
+    (
+        ResultCode::AUTH_METHOD_NOT_SUPPORTED.number,
+        "authMethodNotSupported",
+    ),
+    (
+        ResultCode::STRONGER_AUTH_REQUIRED.number,
+        "strongerAuthRequired",
+    ),
+    (ResultCode::REFERRAL.number, "referral"),
+    (
+        ResultCode::ADMIN_LIMIT_EXCEEDED.number,
+        "adminLimitExceeded",
+    ),
+    (
+        ResultCode::UNAVAILABLE_CRITICAL_EXTENSION.number,
+        "unavailableCriticalExtension",
+    ),
+    (
+        ResultCode::CONFIDENTIALITY_REQUIRED.number,
+        "confidentialityRequired",
+    ),
+    (
+        ResultCode::SASL_BIND_IN_PROGRESS.number,
+        "saslBindInProgress",
+    ),
+    (ResultCode::NO_SUCH_ATTRIBUTE.number, "noSuchAttribute"),
+    (
+        ResultCode::UNDEFINED_ATTRIBUTE_TYPE.number,
+        "undefinedAttributeType",
+    ),
+    (
+        ResultCode::INAPPROPRIATE_MATCHING.number,
+        "inappropriateMatching",
+    ),
+    (
+        ResultCode::CONSTRAINT_VIOLATION.number,
+        "constraintViolation",
+    ),
+    (
+        ResultCode::ATTRIBUTE_OR_VALUE_EXISTS.number,
+        "attributeOrValueExists",
+    ),
+    (
+        ResultCode::INVALID_ATTRIBUTE_SYNTAX.number,
+        "invalidAttributeSyntax",
+    ),
+    (ResultCode::NO_SUCH_OBJECT.number, "noSuchObject"),
+    (ResultCode::ALIAS_PROBLEM.number, "aliasProblem"),
+    (ResultCode::INVALID_DN_SYNTAX.number, "invalidDNSyntax"),
+    (
+        ResultCode::ALIAS_DEREFERENCING_PROBLEM.number,
+        "aliasDereferencingProblem",
+    ),
+    (
+        ResultCode::INAPPROPRIATE_AUTHENTICATION.number,
+        "inappropriateAuthentication",
+    ),
+    (ResultCode::INVALID_CREDENTIALS.number, "invalidCredentials"),
+    (
+        ResultCode::INSUFFICIENT_ACCESS_RIGHTS.number,
+        "insufficientAccessRights",
+    ),
+    (ResultCode::BUSY.number, "busy"),
+    (ResultCode::UNAVAILABLE.number, "unavailable"),
+    (
+        ResultCode::UNWILLING_TO_PERFORM.number,
+        "unwillingToPerform",
+    ),
+    (ResultCode::LOOP_DETECT.number, "loopDetect"),
+    (ResultCode::NAMING_VIOLATION.number, "namingViolation"),
+    (
+        ResultCode::OBJECT_CLASS_VIOLATION.number,
+        "objectClassViolation",
+    ),
+    (
+        ResultCode::NOT_ALLOWED_ON_NON_LEAF.number,
+        "notAllowedOnNonLeaf",
+    ),
+    (ResultCode::NOT_ALLOWED_ON_RDN.number, "notAllowedOnRDN"),
+    (
+        ResultCode::ENTRY_ALREADY_EXISTS.number,
+        "entryAlreadyExists",
+    ),
+    (
+        ResultCode::OBJECT_CLASS_MODS_PROHIBITED.number,
+        "objectClassModsProhibited",
+    ),
+    (
+        ResultCode::AFFECTS_MULTIPLE_DSAS.number,
+        "affectsMultipleDSAs",
+    ),
+    (ResultCode::OTHER.number, "other"),
+];
 
 /// Where else to ask (RFC 4511, 4.1.10).
 pub(crate) type Referral = Option<Implicit<ContextTag<3>, Vec<LdapString>>>;
@@ -28,7 +131,7 @@ pub(crate) fn list_parts(
     message: &LdapString,
     referral: &Referral,
 ) -> Result<(), AllocError> {
-    listing.numbered("result code", code.number, code_name(code.number))?;
+    listing.numbered("result code", code.number, RESULT_CODES)?;
     list_string(listing, "matched DN", matched_name.as_str())?;
     list_string(listing, "diagnostic message", message.as_str())?;
     if let Some(uris) = referral {
@@ -45,82 +148,4 @@ pub(crate) fn list_uris(listing: &mut Listing, uris: &[LdapString]) -> Result<()
         list_string(listing, "uri", uri.as_str())?;
     }
     Ok(())
-}
-
-/// The name of a result code (RFC 4511, 4.1.9).
-fn code_name(number: i32) -> Option<&'static str> {
-    match number {
-        0..=14 => protocol_code_name(number),
-        16..=36 => attribute_code_name(number),
-        48..=54 => service_code_name(number),
-        64..=71 => update_code_name(number),
-        80 => Some("other"),
-        _ => None,
-    }
-}
-
-/// Success, and what concerns the protocol.
-fn protocol_code_name(number: i32) -> Option<&'static str> {
-    match number {
-        0 => Some("success"),
-        1 => Some("operationsError"),
-        2 => Some("protocolError"),
-        3 => Some("timeLimitExceeded"),
-        4 => Some("sizeLimitExceeded"),
-        5 => Some("compareFalse"),
-        6 => Some("compareTrue"),
-        7 => Some("authMethodNotSupported"),
-        8 => Some("strongerAuthRequired"),
-        10 => Some("referral"),
-        11 => Some("adminLimitExceeded"),
-        12 => Some("unavailableCriticalExtension"),
-        13 => Some("confidentialityRequired"),
-        14 => Some("saslBindInProgress"),
-        _ => None,
-    }
-}
-
-/// What concerns attributes and names.
-fn attribute_code_name(number: i32) -> Option<&'static str> {
-    match number {
-        16 => Some("noSuchAttribute"),
-        17 => Some("undefinedAttributeType"),
-        18 => Some("inappropriateMatching"),
-        19 => Some("constraintViolation"),
-        20 => Some("attributeOrValueExists"),
-        21 => Some("invalidAttributeSyntax"),
-        32 => Some("noSuchObject"),
-        33 => Some("aliasProblem"),
-        34 => Some("invalidDNSyntax"),
-        36 => Some("aliasDereferencingProblem"),
-        _ => None,
-    }
-}
-
-/// What concerns rights and the service.
-fn service_code_name(number: i32) -> Option<&'static str> {
-    match number {
-        48 => Some("inappropriateAuthentication"),
-        49 => Some("invalidCredentials"),
-        50 => Some("insufficientAccessRights"),
-        51 => Some("busy"),
-        52 => Some("unavailable"),
-        53 => Some("unwillingToPerform"),
-        54 => Some("loopDetect"),
-        _ => None,
-    }
-}
-
-/// What concerns updates.
-fn update_code_name(number: i32) -> Option<&'static str> {
-    match number {
-        64 => Some("namingViolation"),
-        65 => Some("objectClassViolation"),
-        66 => Some("notAllowedOnNonLeaf"),
-        67 => Some("notAllowedOnRDN"),
-        68 => Some("entryAlreadyExists"),
-        69 => Some("objectClassModsProhibited"),
-        71 => Some("affectsMultipleDSAs"),
-        _ => None,
-    }
 }

@@ -1,9 +1,24 @@
 //! Searches as text (RFC 4511, 4.5.1).
 
 use crate::ldap::{list_string, list_truth};
-use crate::listing::Listing;
-use rasn_ldap::{DerefAliases, SearchRequest};
+use crate::listing::{Listing, NamedNumber};
+use rasn_ldap::{DerefAliases, SearchRequest, SearchScope};
 use std::alloc::AllocError;
+
+/// Which entries are searched (RFC 4511, 4.5.1.2).
+const SCOPES: &[NamedNumber] = &[
+    (SearchScope::BASE_OBJECT.number, "baseObject"),
+    (SearchScope::SINGLE_LEVEL.number, "singleLevel"),
+    (SearchScope::WHOLE_SUBTREE.number, "wholeSubtree"),
+];
+
+/// Which aliases a search follows (RFC 4511, 4.5.1.3).
+const ALIAS_RULES: &[NamedNumber] = &[
+    (0, "neverDerefAliases"),
+    (1, "derefInSearching"),
+    (2, "derefFindingBaseObj"),
+    (3, "derefAlways"),
+];
 
 /// Lists what is searched for. The filter is shown as the octets of its encoding.
 pub(crate) fn list_search_request(
@@ -11,8 +26,7 @@ pub(crate) fn list_search_request(
     request: &SearchRequest,
 ) -> Result<(), AllocError> {
     list_string(listing, "base object", request.base_object.as_str())?;
-    let scope = request.scope.number;
-    listing.numbered("scope", scope, scope_name(scope))?;
+    listing.numbered("scope", request.scope.number, SCOPES)?;
     list_alias_rule(listing, &request.deref_aliases)?;
     listing.line("size limit", &request.size_limit.number)?;
     listing.line("time limit", &request.time_limit.number)?;
@@ -24,23 +38,13 @@ pub(crate) fn list_search_request(
     Ok(())
 }
 
-/// The name of a scope.
-fn scope_name(number: i32) -> Option<&'static str> {
-    match number {
-        0 => Some("baseObject"),
-        1 => Some("singleLevel"),
-        2 => Some("wholeSubtree"),
-        _ => None,
-    }
-}
-
 /// Lists which aliases the search follows.
 fn list_alias_rule(listing: &mut Listing, rule: &DerefAliases) -> Result<(), AllocError> {
-    let (number, name) = match rule {
-        DerefAliases::Never => (0, "neverDerefAliases"),
-        DerefAliases::InSearching => (1, "derefInSearching"),
-        DerefAliases::FindingBaseObject => (2, "derefFindingBaseObj"),
-        DerefAliases::Always => (3, "derefAlways"),
+    let number = match rule {
+        DerefAliases::Never => 0,
+        DerefAliases::InSearching => 1,
+        DerefAliases::FindingBaseObject => 2,
+        DerefAliases::Always => 3,
     };
-    listing.numbered("deref aliases", number, Some(name))
+    listing.numbered("deref aliases", number, ALIAS_RULES)
 }
