@@ -87,7 +87,7 @@ fn lends_bits(rt: HostRuntime) {
             count_ones(&bits) == 22,
             none.is_empty(),
             none.as_bitstr().is_empty(),
-            count_ones(&none) == 0,
+            none.as_bitstr().iter().next().is_none(),
         ],
     );
     assert!(rt; bits.into_vec().as_slice() == OCTETS);
