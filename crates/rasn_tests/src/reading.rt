@@ -2,14 +2,15 @@
 
 use rasn_de::ber::de::{Decoder, DecoderOptions};
 use rasn_de::de::Decode;
-use rasn_types::error::DecodeError;
+use rasn_types::error::{DecodeError, DecodeErrorKind, Needed};
 use rasn_types::types::{
     Any, BmpString, Bound, Bounded, Codec, Constraints, FixedOctetString, Integer,
     RestrictedString, StringType,
 };
 use std::alloc::{AllocError, Global};
 use std::borrow::CowSlice;
-use std::fmt::Debug;
+use std::cmp::Ordering;
+use std::fmt::{Debug, Display};
 use std::process::Abort;
 
 /// Octets, the rules they are read by, the text of the value or of the error's kind, and how many octets are consumed.
@@ -78,11 +79,75 @@ pub fn assert_facts(rt: &impl Abort, facts: &[bool]) {
     }
 }
 
+/// Asserts this of the octets of a row.
+pub fn assert_row(rt: &impl Abort, octets: &[u8], rules: Codec, fact: bool) {
+    assert!(rt; fact, "{octets:?} {rules:?}");
+}
+
+/// The value, for which there has to be memory.
+pub fn held<T>(rt: &impl Abort, value: Result<T, AllocError>) -> T {
+    match value {
+        Ok(value) => value,
+        Err(_) => panic!(rt; "no memory"),
+    }
+}
+
+/// Asserts that the text is this one.
+pub fn assert_text(rt: &impl Abort, found: Result<String, AllocError>, text: &str) {
+    assert_eq!(rt; held(rt, found).as_str(), text);
+}
+
+/// Asserts that the value is shown as this text.
+pub fn assert_shown<T: Display + Drop>(rt: &impl Abort, alloc: Global, value: T, text: &str) {
+    assert_text(rt, format!(in alloc; "{value}"), text);
+}
+
 /// The value that a call answers, which has to be one.
 pub fn value<T>(rt: &impl Abort, answer: Result<T, DecodeError>) -> T {
     match answer {
         Ok(value) => value,
-        Err(_) => panic!(rt; "no value"),
+        Err(error) => panic!(rt; "{:?}", error.kind),
+    }
+}
+
+/// The error of a call that is refused.
+pub fn refusal<T: Drop>(rt: &impl Abort, answer: Result<T, DecodeError>) -> DecodeError {
+    match answer {
+        Ok(_) => panic!(rt; "it is read"),
+        Err(error) => error,
+    }
+}
+
+/// Whether the error is that this many octets are missing, under these rules.
+pub fn is_incomplete(error: &DecodeError, octets: usize, codec: Codec) -> bool {
+    let kind = DecodeErrorKind::Incomplete {
+        needed: Needed::new(octets),
+    };
+    *error == DecodeError { kind, codec }
+}
+
+/// Asserts that the values differ, and that the second is the greater.
+pub fn assert_ascends<T: Ord + Drop>(rt: &impl Abort, one: T, other: T) {
+    assert_facts(
+        rt,
+        &[
+            one < other,
+            other > one,
+            one != other,
+            one.cmp(&other) == Ordering::Less,
+        ],
+    );
+}
+
+/// The text of what a call answers: of the value, or of the error's kind.
+fn answer_text<T: Debug>(
+    alloc: Global,
+    rules: Codec,
+    answer: &Result<T, DecodeError>,
+) -> Result<String, AllocError> {
+    match answer {
+        Ok(value) => debug_text(alloc, value),
+        Err(error) => kind_text(alloc, rules, error.codec, &error.kind),
     }
 }
 
@@ -94,14 +159,7 @@ pub fn assert_answer<T: Debug + Drop>(
     answer: Result<T, DecodeError>,
     text: &str,
 ) {
-    let found = match &answer {
-        Ok(value) => debug_text(alloc, value),
-        Err(error) => kind_text(alloc, rules, error.codec, &error.kind),
-    };
-    match found {
-        Ok(found) => assert_eq!(rt; found.as_str(), text),
-        Err(_) => assert!(rt; false, "no memory"),
-    }
+    assert_text(rt, answer_text(alloc, rules, &answer), text);
 }
 
 /// Asserts what INTEGER (0..255) DEFAULT 7 is read as from each row's octets, and how many are consumed.
@@ -110,7 +168,7 @@ pub fn assert_reads_default(rt: &impl Abort, alloc: Global, rows: &[Row]) {
         let mut decoder = decoder_of(alloc, octets, *rules);
         let answer = decoder.decode_default::<u8, _>(|| Ok(7));
         assert_answer(rt, alloc, *rules, answer, text);
-        assert!(rt; decoder.decoded_len() == *consumed, "{octets:?} {rules:?}");
+        assert_row(rt, octets, *rules, decoder.decoded_len() == *consumed);
     }
 }
 
@@ -128,7 +186,7 @@ pub fn assert_reads<T: Decode + Debug>(rt: &impl Abort, alloc: Global, rows: &[R
     for (octets, rules, text, consumed) in rows {
         let mut decoder = decoder_of(alloc, octets, *rules);
         assert_answer(rt, alloc, *rules, T::decode(&mut decoder), text);
-        assert!(rt; decoder.decoded_len() == *consumed, "{octets:?} {rules:?}");
+        assert_row(rt, octets, *rules, decoder.decoded_len() == *consumed);
     }
 }
 
@@ -143,7 +201,7 @@ pub fn assert_reads_within<T: Decode + Debug>(
         let mut decoder = decoder_of(alloc, octets, *rules);
         let answer = T::decode_with_constraints(&mut decoder, constraints);
         assert_answer(rt, alloc, *rules, answer, text);
-        assert!(rt; decoder.decoded_len() == *consumed, "{octets:?} {rules:?}");
+        assert_row(rt, octets, *rules, decoder.decoded_len() == *consumed);
     }
 }
 
@@ -189,10 +247,7 @@ pub fn assert_has_octets<T: Octets>(
     answer: Result<T, DecodeError>,
     octets: &[u8],
 ) {
-    match answer {
-        Ok(value) => assert_eq!(rt; value.octets(), octets),
-        Err(error) => assert!(rt; false, "{:?}", error.kind),
-    }
+    assert!(rt; value(rt, answer).octets() == octets);
 }
 
 /// Whether a call answers these octets, borrowed or not.
@@ -214,6 +269,6 @@ pub fn assert_reads_octets<T: Decode + Octets>(rt: &impl Abort, alloc: Global, r
     for (octets, rules, found, consumed) in rows {
         let mut decoder = decoder_of(alloc, octets, *rules);
         assert_has_octets(rt, T::decode(&mut decoder), found);
-        assert!(rt; decoder.decoded_len() == *consumed, "{octets:?} {rules:?}");
+        assert_row(rt, octets, *rules, decoder.decoded_len() == *consumed);
     }
 }

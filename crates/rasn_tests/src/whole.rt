@@ -1,6 +1,6 @@
 //! What the tests of the entry points share: rows of octets, rules and answers, over whole calls.
 
-use crate::reading::assert_answer;
+use crate::reading::{assert_answer, value};
 use crate::writing::{Written, assert_output};
 use rasn::de::Decode;
 use rasn::enc::Encode;
@@ -78,23 +78,10 @@ pub fn assert_decodes_with_remainder<T: Decode + Debug + Drop>(
     }
 }
 
-/// What is written of the value that is read, if it is read and written.
-fn rewritten<T: Decode + Encode>(
-    alloc: Global,
-    octets: &[u8],
-    from: Codec,
-    to: Codec,
-) -> Option<Vec<u8>> {
-    let value = decoded::<T>(alloc, from, octets).ok()?;
-    encoded(alloc, to, &value).ok()
-}
-
 /// Asserts that each row's octets are read, and that the value is written as the row's other octets.
 pub fn assert_rewrites<T: Decode + Encode>(rt: &impl Abort, alloc: Global, rows: &[Rewritten<'_>]) {
     for (octets, from, to, written) in rows {
-        match rewritten::<T>(alloc, octets, *from, *to) {
-            Some(found) => assert_eq!(rt; found.as_slice(), *written, "{octets:?}"),
-            None => assert!(rt; false, "{octets:?}"),
-        }
+        let found = value(rt, decoded::<T>(alloc, *from, octets));
+        assert_output(rt, encoded(alloc, *to, &found), written);
     }
 }

@@ -1,6 +1,6 @@
 //! What the tests of writing share: values held against octets, calls whose answers are told as text, and long strings as pieces.
 
-use crate::reading::kind_text;
+use crate::reading::{assert_text, held, kind_text};
 use rasn_enc::ber::enc::{Encoder, EncoderOptions};
 use rasn_enc::enc::Encode;
 use rasn_types::error::EncodeError;
@@ -29,8 +29,6 @@ pub const PERCENTAGE: Constraints = Constraints {
 };
 
 /// The kind of the refusal of 200, which isn't in 0..100.
-
-/// What a number out of it is refused with, the number 200.
 pub const NO_PERCENTAGE: &str =
     "ValueConstraintNotSatisfied { value: Integer { octets: [0, 200] }, expected: Range { start: Some(0), end: Some(100) } }";
 
@@ -41,12 +39,17 @@ fn octets_of<T: Encode>(alloc: Global, rules: Codec, value: &T) -> Result<Vec<u8
     encoder.output()
 }
 
+/// Asserts that a call succeeds, and hands on what it answers.
+pub fn assert_written<T>(rt: &impl Abort, answer: Result<T, EncodeError>) -> T {
+    match answer {
+        Ok(value) => value,
+        Err(error) => panic!(rt; "{:?}", error.kind),
+    }
+}
+
 /// Asserts that a call writes these octets.
 pub fn assert_output(rt: &impl Abort, answer: Result<Vec<u8>, EncodeError>, octets: &[u8]) {
-    match answer {
-        Ok(found) => assert_eq!(rt; found.as_slice(), octets),
-        Err(error) => assert!(rt; false, "{:?}", error.kind),
-    }
+    assert_eq!(rt; assert_written(rt, answer).as_slice(), octets);
 }
 
 /// Asserts that each row's value is written as the row's octets.
@@ -83,10 +86,7 @@ pub fn assert_output_pieces(
     answer: Result<Vec<u8>, EncodeError>,
     pieces: &[Piece<'_>],
 ) {
-    match of_pieces(alloc, pieces) {
-        Ok(octets) => assert_output(rt, answer, &octets),
-        Err(_) => assert!(rt; false, "no memory"),
-    }
+    assert_output(rt, answer, &held(rt, of_pieces(alloc, pieces)));
 }
 
 /// Asserts that a value is made, and is written as the octets of these pieces.
@@ -145,11 +145,15 @@ pub fn new_set_encoder(rt: &impl Abort, alloc: Global, rules: Codec) -> Encoder 
     }
 }
 
-/// Asserts that a call succeeds.
-pub fn assert_written(rt: &impl Abort, answer: Result<(), EncodeError>) {
+/// The text of what a call answers: that it wrote, or of the error's kind.
+fn refusal_text(
+    alloc: Global,
+    rules: Codec,
+    answer: &Result<(), EncodeError>,
+) -> Result<String, AllocError> {
     match answer {
-        Ok(()) => {}
-        Err(error) => assert!(rt; false, "{:?}", error.kind),
+        Ok(()) => String::from_str(alloc, "written"),
+        Err(error) => kind_text(alloc, rules, error.codec, &error.kind),
     }
 }
 
@@ -161,12 +165,5 @@ pub fn assert_refuses(
     answer: Result<(), EncodeError>,
     text: &str,
 ) {
-    let found = match &answer {
-        Ok(()) => String::from_str(alloc, "written"),
-        Err(error) => kind_text(alloc, rules, error.codec, &error.kind),
-    };
-    match found {
-        Ok(found) => assert_eq!(rt; found.as_str(), text),
-        Err(_) => assert!(rt; false, "no memory"),
-    }
+    assert_text(rt, refusal_text(alloc, rules, &answer), text);
 }

@@ -1,7 +1,7 @@
 //! `skip_value` skips one value of definite or indefinite length (X.690 8.1.3, 8.1.5).
 
 use crate::any::deep;
-use crate::reading::{Row, assert_answer, decoder_of};
+use crate::reading::{Row, assert_answer, assert_row, decoder_of};
 use rasn::types::Codec;
 use std::alloc::Global;
 use std::process::Abort;
@@ -11,7 +11,7 @@ fn assert_skips(rt: &impl Abort, alloc: Global, rows: &[Row]) {
     for (octets, rules, steps, consumed) in rows {
         let mut decoder = decoder_of(alloc, octets, *rules);
         assert_answer(rt, alloc, *rules, decoder.skip_value(), steps);
-        assert!(rt; decoder.decoded_len() == *consumed, "{octets:?} {rules:?}");
+        assert_row(rt, octets, *rules, decoder.decoded_len() == *consumed);
     }
 }
 

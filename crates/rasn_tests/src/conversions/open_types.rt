@@ -1,7 +1,7 @@
 //! Values of a known type in an open type (X.690 8.15), the one encoding of a value (X.690 10), defaults under a prefix (X.690 8.14.2, 11.5), and readers
 //! and writers as text.
 
-use crate::reading::{assert_answer, assert_facts, debug_text, decoder_of};
+use crate::reading::{assert_answer, assert_facts, assert_text, debug_text, decoder_of, held};
 use crate::writing::{assert_output, assert_written, new_encoder};
 use rasn::open_type::{any_tag, decode_any, encode_any};
 use rasn::prelude::*;
@@ -25,18 +25,12 @@ const TAG_0: Tag = Tag {
 
 /// An open type of these octets.
 fn any_of(rt: &impl Abort, alloc: Global, octets: &[u8]) -> Any {
-    match Vec::from_slice(alloc, octets) {
-        Ok(octets) => Any::new(octets),
-        Err(_) => rt.abort(),
-    }
+    Any::new(held(rt, Vec::from_slice(alloc, octets)))
 }
 
 /// An open type of a value by these rules.
 fn any_with<T: Encode>(rt: &impl Abort, alloc: Global, rules: Codec, value: &T) -> Any {
-    match encode_any(alloc, rules, value) {
-        Ok(any) => any,
-        Err(_) => rt.abort(),
-    }
+    assert_written(rt, encode_any(alloc, rules, value))
 }
 
 #[test]
@@ -156,30 +150,19 @@ fn writes_defaults_under_prefixes(rt: HostRuntime) {
     assert_output(&rt, encoder.output(), EIGHT);
 }
 
-/// Whether it is this text.
-fn is_text(text: Result<String, AllocError>, wanted: &str) -> bool {
-    match text {
-        Ok(text) => text.as_str() == wanted,
-        Err(_) => false,
-    }
-}
-
 #[test]
 fn readers_and_writers_are_shown(rt: HostRuntime) {
     let alloc = rt.alloc();
     let decoder = decoder_of(alloc, TRUE, Codec::Der);
     let encoder = new_encoder(&rt, alloc, Codec::Cer);
-    assert_facts(
+    assert_text(
         &rt,
-        &[
-            is_text(
-                debug_text(alloc, &decoder),
-                "Decoder { codec: Der, decoded_len: 0, remaining: 3 }",
-            ),
-            is_text(
-                debug_text(alloc, &encoder),
-                "Encoder { codec: Cer, written: 0 }",
-            ),
-        ],
+        debug_text(alloc, &decoder),
+        "Decoder { codec: Der, decoded_len: 0, remaining: 3 }",
+    );
+    assert_text(
+        &rt,
+        debug_text(alloc, &encoder),
+        "Encoder { codec: Cer, written: 0 }",
     );
 }

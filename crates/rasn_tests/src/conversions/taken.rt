@@ -1,19 +1,10 @@
 //! What values hold is taken out, lent, copied and compared.
 
-use crate::reading::assert_facts;
+use crate::reading::{assert_ascends, assert_facts, held};
 use crate::writing::made;
 use rasn::prelude::*;
 use std::alloc::{AllocError, Global};
-use std::cmp::Ordering;
 use std::process::Abort;
-
-/// The value, for which there has to be memory.
-fn held<T>(rt: &impl Abort, value: Result<T, AllocError>) -> T {
-    match value {
-        Ok(value) => value,
-        Err(_) => panic!(rt; "no memory"),
-    }
-}
 
 /// A vector of these octets.
 fn vec_of(rt: &impl Abort, alloc: Global, octets: &[u8]) -> Vec<u8> {
@@ -41,24 +32,23 @@ fn takes_values_out_of_tags(rt: HostRuntime) {
     assert!(rt; implicit.into_inner() == 7 && explicit.into_inner() == 9);
 }
 
+/// Asserts that the vector has these items.
+fn assert_items<T: PartialEq + Drop>(rt: &impl Abort, found: Vec<T>, items: &[T]) {
+    assert!(rt; found.as_slice() == items);
+}
+
 #[test]
 fn takes_octets_out(rt: HostRuntime) {
     let alloc = rt.alloc();
-    let string = OctetString::from_vec(vec_of(&rt, alloc, &[0x01, 0x23])).into_vec();
-    let any = Any::new(vec_of(&rt, alloc, &[0x05, 0x00])).into_vec();
-    let arcs = worked_arcs(&rt, alloc).into_vec();
-    let jones = made(&rt, VisibleString::from_octets(alloc, b"Jones")).into_vec();
-    let units = made(&rt, BmpString::from_octets(alloc, &[0x00, 0x4A])).into_vec();
-    assert_facts(
-        &rt,
-        &[
-            string.as_slice() == [0x01, 0x23].as_slice(),
-            any.as_slice() == [0x05, 0x00].as_slice(),
-            arcs.as_slice() == [2u32, 999, 3].as_slice(),
-            jones.as_slice() == b"Jones".as_slice(),
-            units.as_slice() == [0x00, 0x4A].as_slice(),
-        ],
-    );
+    let string = OctetString::from_vec(vec_of(&rt, alloc, &[0x01, 0x23]));
+    assert_items(&rt, string.into_vec(), &[0x01, 0x23]);
+    let any = Any::new(vec_of(&rt, alloc, &[0x05, 0x00]));
+    assert_items(&rt, any.into_vec(), &[0x05, 0x00]);
+    assert_items(&rt, worked_arcs(&rt, alloc).into_vec(), &[2, 999, 3]);
+    let jones = made(&rt, VisibleString::from_octets(alloc, b"Jones"));
+    assert_items(&rt, jones.into_vec(), b"Jones");
+    let units = made(&rt, BmpString::from_octets(alloc, &[0x00, 0x4A]));
+    assert_items(&rt, units.into_vec(), &[0x00, 0x4A]);
 }
 
 /// How many of the bits are set.
@@ -186,16 +176,11 @@ fn orders_strings(rt: HostRuntime) {
     let alloc = rt.alloc();
     let jones = made(&rt, PrintableString::from_octets(alloc, b"Jones"));
     let smith = made(&rt, PrintableString::from_octets(alloc, b"Smith"));
-    let null = Any::new(vec_of(&rt, alloc, &[0x05, 0x00]));
+    assert_ascends(&rt, jones, smith);
     let truth = Any::new(vec_of(&rt, alloc, &[0x01, 0x01, 0xFF]));
+    let null = Any::new(vec_of(&rt, alloc, &[0x05, 0x00]));
+    assert_ascends(&rt, truth, null);
     let low = made(&rt, BmpString::from_octets(alloc, &[0x00, 0xFF]));
     let high = made(&rt, BmpString::from_octets(alloc, &[0x01, 0x00]));
-    assert_facts(
-        &rt,
-        &[
-            jones < smith,
-            null.cmp(&truth) == Ordering::Greater,
-            low < high,
-        ],
-    );
+    assert_ascends(&rt, low, high);
 }

@@ -1,19 +1,11 @@
 //! Values as text.
 
+use crate::reading::{assert_shown, held};
 use crate::writing::made;
 use rasn::prelude::*;
 use rasn::types::Hexadecimal;
 use std::alloc::{AllocError, Global};
-use std::fmt::Display;
 use std::process::Abort;
-
-/// Asserts that the value is shown as this text.
-fn assert_shown<T: Display + Drop>(rt: &impl Abort, alloc: Global, value: T, text: &str) {
-    match format!(in alloc; "{value}") {
-        Ok(found) => assert_eq!(rt; found.as_str(), text),
-        Err(_) => assert!(rt; false, "no memory"),
-    }
-}
 
 // The example of an OBJECT IDENTIFIER (X.690 8.19.5), and the arcs of rsaEncryption (RFC 8017, appendix C).
 #[test]
@@ -28,13 +20,10 @@ fn object_identifiers(rt: HostRuntime) {
     assert_shown(&rt, alloc, rsa, "1.2.840.113549.1.1.1");
 }
 
-/// Asserts that the text names the object identifier of these arcs, or none.
-fn assert_names(rt: &impl Abort, alloc: Global, text: &str, arcs: Option<&[u32]>) {
-    match (ObjectIdentifier::parse(alloc, text), arcs) {
-        (Ok(Some(found)), Some(arcs)) => assert_eq!(rt; found.arcs(), arcs),
-        (Ok(None), None) => {}
-        _ => assert!(rt; false, "{text}"),
-    }
+/// Asserts that the text names the object identifier of these arcs.
+fn assert_names(rt: &impl Abort, alloc: Global, text: &str, arcs: &[u32]) {
+    let found = made(rt, ObjectIdentifier::parse(alloc, text));
+    assert_eq!(rt; found.arcs(), arcs);
 }
 
 // The example of X.690 8.19.5, rsaEncryption (RFC 8017, appendix C), and the greatest arc of 32 bits.
@@ -42,9 +31,9 @@ fn assert_names(rt: &impl Abort, alloc: Global, text: &str, arcs: Option<&[u32]>
 fn names_of_object_identifiers(rt: HostRuntime) {
     let alloc = rt.alloc();
     let rsa = [1, 2, 840, 113549, 1, 1, 1];
-    assert_names(&rt, alloc, "2.999.3", Some(&[2, 999, 3]));
-    assert_names(&rt, alloc, "1.2.840.113549.1.1.1", Some(&rsa));
-    assert_names(&rt, alloc, "2.4294967295", Some(&[2, u32::MAX]));
+    assert_names(&rt, alloc, "2.999.3", &[2, 999, 3]);
+    assert_names(&rt, alloc, "1.2.840.113549.1.1.1", &rsa);
+    assert_names(&rt, alloc, "2.4294967295", &[2, u32::MAX]);
 }
 
 // Too few arcs, a first arc above 2, an empty arc, zeros and a sign in front, an arc beyond 32 bits, and what is no digit.
@@ -63,7 +52,8 @@ fn names_of_nothing(rt: HostRuntime) {
         "1.2a",
         "1.2 ",
     ] {
-        assert_names(&rt, rt.alloc(), text, None);
+        let found = held(&rt, ObjectIdentifier::parse(rt.alloc(), text));
+        assert!(rt; found.is_none(), "{text}");
     }
 }
 

@@ -1,10 +1,9 @@
 //! Values and errors compared: INTEGER by its number (X.690 8.3), OBJECT IDENTIFIER by its arcs, BIT STRING by its bits, OCTET STRING and
 //! open types by their octets.
 
-use crate::reading::{assert_facts, decoder_of};
+use crate::reading::{assert_ascends, assert_facts, decoder_of, held, is_incomplete, refusal};
 use crate::writing::made;
 use rasn_de::de::Decode;
-use rasn_types::error::{DecodeError, DecodeErrorKind, Needed};
 use rasn_types::types::{Any, BitStr, Codec, Constraints, Integer, ObjectIdentifier, OctetString};
 use std::alloc::Global;
 use std::process::Abort;
@@ -47,10 +46,7 @@ fn orders_numbers(rt: HostRuntime) {
 }
 
 fn arcs(rt: &impl Abort, alloc: Global, arcs: &[u32]) -> ObjectIdentifier {
-    match Vec::from_slice(alloc, arcs) {
-        Ok(arcs) => made(rt, Ok(ObjectIdentifier::new(arcs))),
-        Err(_) => panic!(rt; "no memory"),
-    }
+    made(rt, ObjectIdentifier::from_arcs(alloc, arcs))
 }
 
 /// Arcs in ascending order: the first arc that differs decides, and a prefix comes first.
@@ -88,22 +84,6 @@ fn compares_views_of_bits(rt: HostRuntime) {
     );
 }
 
-/// Whether the error is that this many octets are missing, under these rules.
-fn is_incomplete(error: &DecodeError, octets: usize, codec: Codec) -> bool {
-    let kind = DecodeErrorKind::Incomplete {
-        needed: Needed::new(octets),
-    };
-    *error == DecodeError { kind, codec }
-}
-
-/// The error of a call that is refused.
-fn refusal<T: Drop>(rt: &impl Abort, answer: Result<T, DecodeError>) -> DecodeError {
-    match answer {
-        Ok(_) => panic!(rt; "it is read"),
-        Err(error) => error,
-    }
-}
-
 // Errors are equal exactly if their kinds, fields and rules are.
 #[test]
 fn compares_errors(rt: HostRuntime) {
@@ -125,10 +105,7 @@ fn has_defaults(rt: HostRuntime) {
 }
 
 fn string(rt: &impl Abort, alloc: Global, octets: &[u8]) -> OctetString {
-    match Vec::from_slice(alloc, octets) {
-        Ok(octets) => OctetString::from_vec(octets),
-        Err(_) => panic!(rt; "no memory"),
-    }
+    OctetString::from_vec(held(rt, Vec::from_slice(alloc, octets)))
 }
 
 /// Octets in ascending order: the first octet that differs decides, and a prefix comes first.
@@ -138,20 +115,15 @@ const STRINGS: &[&[u8]] = &[&[], &[0x00], &[0x01, 0xFF], &[0x02], &[0x02, 0x00],
 fn orders_octets(rt: HostRuntime) {
     let alloc = rt.alloc();
     for (place, octets) in STRINGS.iter().enumerate() {
-        let one = string(&rt, alloc, octets);
-        assert!(rt; one == string(&rt, alloc, octets));
+        assert!(rt; string(&rt, alloc, octets) == string(&rt, alloc, octets));
         for others in &STRINGS[place + 1..] {
-            let other = string(&rt, alloc, others);
-            assert_facts(&rt, &[one < other, other > one, one != other]);
+            assert_ascends(&rt, string(&rt, alloc, octets), string(&rt, alloc, others));
         }
     }
 }
 
 fn open(rt: &impl Abort, alloc: Global, octets: &[u8]) -> Any {
-    match Vec::from_slice(alloc, octets) {
-        Ok(octets) => Any::new(octets),
-        Err(_) => panic!(rt; "no memory"),
-    }
+    Any::new(held(rt, Vec::from_slice(alloc, octets)))
 }
 
 // Open types are equal exactly if their octets are, whatever these mean: 05 00 and 05 81 00 are both NULL.
@@ -165,6 +137,7 @@ fn compares_open_values(rt: HostRuntime) {
             null == open(&rt, alloc, &[0x05, 0x00]),
             null != open(&rt, alloc, &[0x05, 0x81, 0x00]),
             null != open(&rt, alloc, &[0x01, 0x00]),
+            null != open(&rt, alloc, &[]),
         ],
     );
 }

@@ -1,8 +1,7 @@
 //! Values of definite length that are cut (X.690 8.1.3.3 to 8.1.3.5): each proper prefix of their octets lacks some, and nothing is consumed.
 
-use crate::reading::decoder_of;
+use crate::reading::{assert_row, decoder_of, is_incomplete, refusal};
 use rasn::de::Decode;
-use rasn::error::{DecodeError, DecodeErrorKind, Needed};
 use rasn::types::{
     Any, BitString, BmpString, Codec, Date, GeneralizedTime, Ia5String, Integer, ObjectIdentifier,
     OctetString, SetOf, UtcTime,
@@ -27,15 +26,6 @@ fn missing(total: usize, identifier: usize, length: usize, count: usize) -> usiz
     }
 }
 
-/// Whether the answer is that so many octets are missing.
-fn lacks<T: Drop>(answer: Result<T, DecodeError>, needed: usize) -> bool {
-    match answer {
-        Ok(_) => false,
-        Err(error) =>
-            matches!(error.kind, DecodeErrorKind::Incomplete { needed: Needed::Size(found) } if found == needed),
-    }
-}
-
 /// Whether all of the octets are read as a value.
 pub(super) fn reads_all<T: Decode>(alloc: Global, octets: &[u8], rules: Codec) -> bool {
     let mut decoder = decoder_of(alloc, octets, rules);
@@ -45,19 +35,14 @@ pub(super) fn reads_all<T: Decode>(alloc: Global, octets: &[u8], rules: Codec) -
 /// Asserts that each row's octets are a value, and that each proper prefix lacks octets and consumes nothing.
 fn assert_cuts<T: Decode>(rt: &impl Abort, alloc: Global, rows: &[Definite]) {
     for (octets, rules, identifier, length) in rows {
-        assert!(rt;
-            reads_all::<T>(alloc, octets, *rules),
-            "{octets:?} {rules:?}"
-        );
+        assert_row(rt, octets, *rules, reads_all::<T>(alloc, octets, *rules));
         for count in 0..octets.len() {
             let (front, _) = octets.split_at(count);
             let mut decoder = decoder_of(alloc, front, *rules);
             let needed = missing(octets.len(), *identifier, *length, count);
-            assert!(rt;
-                lacks(T::decode(&mut decoder), needed),
-                "{front:?} {rules:?}"
-            );
-            assert!(rt; decoder.decoded_len() == 0, "{front:?} {rules:?}");
+            let refused = refusal(rt, T::decode(&mut decoder));
+            let is_missing = is_incomplete(&refused, needed, *rules);
+            assert_row(rt, front, *rules, is_missing && decoder.decoded_len() == 0);
         }
     }
 }

@@ -1,7 +1,7 @@
 //! Values of indefinite length that are cut (X.690 8.1.3.6): each proper prefix of their octets is refused.
 
 use crate::hostile::cuts::reads_all;
-use crate::reading::decoder_of;
+use crate::reading::{assert_row, decoder_of, held, refusal};
 use rasn::de::Decode;
 use rasn::error::{BerDecodeErrorKind, CodecDecodeError, DecodeError, DecodeErrorKind};
 use rasn::types::{Any, BitString, Codec, OctetString, SetOf};
@@ -13,31 +13,26 @@ use std::process::Abort;
 type Indefinite = (&'static [u8], Codec);
 
 /// Whether a value is cut: octets are missing, or a zero octet stands alone where a value may begin.
-fn is_cut<T: Drop>(answer: Result<T, DecodeError>) -> bool {
-    match answer {
-        Ok(_) => false,
-        Err(error) => matches!(
-            error.kind,
-            DecodeErrorKind::Incomplete { .. }
-                | DecodeErrorKind::MissingField { .. }
-                | DecodeErrorKind::CodecSpecific {
-                    inner: CodecDecodeError::Ber(BerDecodeErrorKind::UnexpectedEndOfContents),
-                }
-        ),
-    }
+fn is_cut(error: &DecodeError) -> bool {
+    matches!(
+        &error.kind,
+        DecodeErrorKind::Incomplete { .. }
+            | DecodeErrorKind::MissingField { .. }
+            | DecodeErrorKind::CodecSpecific {
+                inner: CodecDecodeError::Ber(BerDecodeErrorKind::UnexpectedEndOfContents),
+            }
+    )
 }
 
 /// Asserts that each row's octets are a value, and that each proper prefix is refused as cut.
 fn assert_cuts_open<T: Decode>(rt: &impl Abort, alloc: Global, rows: &[Indefinite]) {
     for (octets, rules) in rows {
-        assert!(rt;
-            reads_all::<T>(alloc, octets, *rules),
-            "{octets:?} {rules:?}"
-        );
+        assert_row(rt, octets, *rules, reads_all::<T>(alloc, octets, *rules));
         for count in 0..octets.len() {
             let (front, _) = octets.split_at(count);
             let mut decoder = decoder_of(alloc, front, *rules);
-            assert!(rt; is_cut(T::decode(&mut decoder)), "{front:?} {rules:?}");
+            let refused = refusal(rt, T::decode(&mut decoder));
+            assert_row(rt, front, *rules, is_cut(&refused));
         }
     }
 }
@@ -143,15 +138,11 @@ fn levels(alloc: Global) -> Result<Vec<u8>, AllocError> {
 #[test]
 fn cut_levels_are_refused(rt: HostRuntime) {
     let alloc = rt.alloc();
-    match levels(alloc) {
-        Ok(octets) => {
-            for count in 1..=100usize {
-                let (front, _) = octets.split_at(octets.len().saturating_sub(count));
-                let mut decoder = decoder_of(alloc, front, Codec::Ber);
-                assert!(rt; is_cut(decoder.skip_value()), "{count}");
-                assert!(rt; decoder.decoded_len() == 0, "{count}");
-            }
-        }
-        Err(_) => assert!(rt; false, "no memory"),
+    let octets = held(&rt, levels(alloc));
+    for count in 1..=100usize {
+        let (front, _) = octets.split_at(octets.len().saturating_sub(count));
+        let mut decoder = decoder_of(alloc, front, Codec::Ber);
+        let refused = refusal(&rt, decoder.skip_value());
+        assert!(rt; is_cut(&refused) && decoder.decoded_len() == 0, "{count}");
     }
 }

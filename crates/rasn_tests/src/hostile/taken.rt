@@ -2,7 +2,9 @@
 //! what was read inside.
 
 use crate::hostile::one_boolean;
-use crate::reading::{Row, assert_answer, assert_reads, assert_reads_within, decoder_of, sized};
+use crate::reading::{
+    Row, assert_answer, assert_reads, assert_reads_within, assert_row, decoder_of, sized,
+};
 use rasn::types::{Any, BitString, Class, Codec, GeneralizedTime, OctetString, Tag, VisibleString};
 use std::alloc::Global;
 use std::process::Abort;
@@ -12,7 +14,7 @@ fn assert_reads_one_boolean(rt: &impl Abort, alloc: Global, rows: &[Row]) {
     for (octets, rules, text, consumed) in rows {
         let mut decoder = decoder_of(alloc, octets, *rules);
         assert_answer(rt, alloc, *rules, one_boolean(&mut decoder), text);
-        assert!(rt; decoder.decoded_len() == *consumed, "{octets:?} {rules:?}");
+        assert_row(rt, octets, *rules, decoder.decoded_len() == *consumed);
     }
 }
 
@@ -165,7 +167,7 @@ fn assert_reads_optional_prefix(rt: &impl Abort, alloc: Global, rows: &[Row]) {
         let tag = Tag::new(Class::Context, 0);
         let answer = decoder.decode_optional_with_explicit_prefix::<bool>(tag);
         assert_answer(rt, alloc, *rules, answer, text);
-        assert!(rt; decoder.decoded_len() == *consumed, "{octets:?} {rules:?}");
+        assert_row(rt, octets, *rules, decoder.decoded_len() == *consumed);
     }
 }
 
@@ -222,7 +224,7 @@ fn assert_reads_prefix(rt: &impl Abort, alloc: Global, rows: &[Row]) {
         let mut decoder = decoder_of(alloc, octets, *rules);
         let answer = decoder.decode_explicit_prefix::<bool>(Tag::new(Class::Context, 0));
         assert_answer(rt, alloc, *rules, answer, text);
-        assert!(rt; decoder.decoded_len() == *consumed, "{octets:?} {rules:?}");
+        assert_row(rt, octets, *rules, decoder.decoded_len() == *consumed);
     }
 }
 

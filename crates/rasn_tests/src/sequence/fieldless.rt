@@ -1,7 +1,7 @@
 //! A SEQUENCE without components (X.690 8.9), with and without an extension marker (X.680 25): which closure reads it.
 ghost use Rattle.rasn_de.specs.Constructed.{Keeps};
 
-use crate::reading::{Row, assert_answer, decoder_of};
+use crate::reading::{Row, assert_answer, assert_row, decoder_of};
 use crate::types::{Closed, Extensible};
 use rasn::ber::de::Decoder;
 use rasn::error::DecodeError;
@@ -42,7 +42,7 @@ fn assert_reads_closed(rt: &impl Abort, alloc: Global, rows: &[Row]) {
     for (octets, rules, text, consumed) in rows {
         let mut decoder = decoder_of(alloc, octets, *rules);
         assert_answer(rt, alloc, *rules, read_closed(&mut decoder), text);
-        assert!(rt; decoder.decoded_len() == *consumed, "{octets:?} {rules:?}");
+        assert_row(rt, octets, *rules, decoder.decoded_len() == *consumed);
     }
 }
 
@@ -51,7 +51,7 @@ fn assert_reads_extensible(rt: &impl Abort, alloc: Global, rows: &[Row]) {
     for (octets, rules, text, consumed) in rows {
         let mut decoder = decoder_of(alloc, octets, *rules);
         assert_answer(rt, alloc, *rules, read_extensible(&mut decoder), text);
-        assert!(rt; decoder.decoded_len() == *consumed, "{octets:?} {rules:?}");
+        assert_row(rt, octets, *rules, decoder.decoded_len() == *consumed);
     }
 }
 

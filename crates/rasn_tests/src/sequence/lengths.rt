@@ -1,6 +1,7 @@
 //! The lengths of SEQUENCEs in one another (X.690 8.1.3).
 ghost use Rattle.rasn_enc.specs.View.{LeavesOthers};
 
+use crate::reading::held;
 use crate::types::NumberAndTruth;
 use crate::writing::{assert_output_pieces, assert_written, new_encoder};
 use rasn::ber::enc::Encoder;
@@ -52,11 +53,7 @@ fn writes_sequences_in_one_another(rt: HostRuntime) {
     let alloc = rt.alloc();
     let mut encoder = new_encoder(&rt, alloc, Codec::Der);
     assert_written(&rt, nest(&mut encoder, 100));
-    match headers(alloc) {
-        Ok(headers) => {
-            assert!(rt; headers.starts_with(&[0x30, 0x82, 0x05, 0x78]));
-            assert_output_pieces(&rt, alloc, encoder.output(), &[(&headers, 0x55, 1000)]);
-        }
-        Err(_) => assert!(rt; false, "no memory"),
-    }
+    let headers = held(&rt, headers(alloc));
+    assert!(rt; headers.starts_with(&[0x30, 0x82, 0x05, 0x78]));
+    assert_output_pieces(&rt, alloc, encoder.output(), &[(&headers, 0x55, 1000)]);
 }

@@ -1,6 +1,6 @@
 //! Strings in segments by the entry points (X.690 8.6.4, 8.7.3, 8.23), as CER cuts them (9.2).
 
-use crate::reading::{Row, assert_facts, assert_reads, value};
+use crate::reading::{Row, assert_facts, assert_reads, held, value};
 use crate::whole::{Answer, Rewritten, assert_decodes, assert_rewrites, decoded, encoded};
 use crate::writing::{Piece, assert_output_pieces, made, of_pieces, repeated};
 use rasn::de::Decode;
@@ -60,17 +60,18 @@ fn assert_one_value<T: Decode + Encode>(
     canonical: &[Piece<'_>],
     distinguished: &[Piece<'_>],
 ) {
-    match (of_pieces(alloc, canonical), of_pieces(alloc, distinguished)) {
-        (Ok(canonical), Ok(distinguished)) => assert_rewrites::<T>(
-            rt,
-            alloc,
-            &[
-                (&canonical, Codec::Cer, Codec::Der, &distinguished),
-                (&distinguished, Codec::Der, Codec::Cer, &canonical),
-            ],
+    let canonical = held(rt, of_pieces(alloc, canonical));
+    let distinguished = held(rt, of_pieces(alloc, distinguished));
+    let rows = [
+        (
+            canonical.as_slice(),
+            Codec::Cer,
+            Codec::Der,
+            distinguished.as_slice(),
         ),
-        _ => assert!(rt; false, "no memory"),
-    }
+        (&distinguished, Codec::Der, Codec::Cer, &canonical),
+    ];
+    assert_rewrites::<T>(rt, alloc, &rows);
 }
 
 /// How many octets the pieces have.

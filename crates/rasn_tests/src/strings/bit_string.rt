@@ -1,6 +1,8 @@
 //! BIT STRING (X.690 8.6), in segments under CER (9.2).
 
-use crate::reading::{Row, assert_reads, assert_reads_within, decoder_of, sized, value};
+use crate::reading::{
+    Row, assert_reads, assert_reads_within, assert_row, decoder_of, sized, value,
+};
 use crate::writing::{
     assert_output, assert_refuses, assert_writes_pieces, assert_written, made, new_encoder,
     set_bits,
@@ -41,7 +43,7 @@ fn assert_reads_bits(rt: &impl Abort, alloc: Global, rows: &[BitsRow]) {
     for (octets, rules, len, found, consumed) in rows {
         let mut decoder = decoder_of(alloc, octets, *rules);
         assert_has_bits(rt, alloc, BitString::decode(&mut decoder), *len, found);
-        assert!(rt; decoder.decoded_len() == *consumed, "{octets:?} {rules:?}");
+        assert_row(rt, octets, *rules, decoder.decoded_len() == *consumed);
     }
 }
 

@@ -243,18 +243,42 @@ fn calls_write_numeric_to_ia5(rt: HostRuntime) {
     let mut encoder = new_encoder(&rt, alloc, Codec::Der);
     let any = Constraints::NONE;
     let none = Identifier::EMPTY;
-    let value = made(&rt, NumericString::from_octets(alloc, b"1"));
-    let answer = encoder.encode_numeric_string(Tag::NUMERIC_STRING, &any, &value, none);
-    assert_written(&rt, answer);
-    let value = made(&rt, PrintableString::from_octets(alloc, b"A"));
-    let answer = encoder.encode_printable_string(Tag::PRINTABLE_STRING, &any, &value, none);
-    assert_written(&rt, answer);
-    let value = made(&rt, TeletexString::from_octets(alloc, &[0xC8]));
-    let answer = encoder.encode_teletex_string(Tag::TELETEX_STRING, &any, &value, none);
-    assert_written(&rt, answer);
-    let value = made(&rt, Ia5String::from_octets(alloc, b"A"));
-    let answer = encoder.encode_ia5_string(Tag::IA5_STRING, &any, &value, none);
-    assert_written(&rt, answer);
+    assert_written(
+        &rt,
+        encoder.encode_numeric_string(
+            Tag::NUMERIC_STRING,
+            &any,
+            &made(&rt, NumericString::from_octets(alloc, b"1")),
+            none,
+        ),
+    );
+    assert_written(
+        &rt,
+        encoder.encode_printable_string(
+            Tag::PRINTABLE_STRING,
+            &any,
+            &made(&rt, PrintableString::from_octets(alloc, b"A")),
+            none,
+        ),
+    );
+    assert_written(
+        &rt,
+        encoder.encode_teletex_string(
+            Tag::TELETEX_STRING,
+            &any,
+            &made(&rt, TeletexString::from_octets(alloc, &[0xC8])),
+            none,
+        ),
+    );
+    assert_written(
+        &rt,
+        encoder.encode_ia5_string(
+            Tag::IA5_STRING,
+            &any,
+            &made(&rt, Ia5String::from_octets(alloc, b"A")),
+            none,
+        ),
+    );
     const FOUR_STRINGS: &[u8] = &[
         0x12, 0x01, 0x31, 0x13, 0x01, 0x41, 0x14, 0x01, 0xC8, 0x16, 0x01, 0x41,
     ];
@@ -267,15 +291,33 @@ fn calls_write_graphic_to_general(rt: HostRuntime) {
     let mut encoder = new_encoder(&rt, alloc, Codec::Der);
     let any = Constraints::NONE;
     let none = Identifier::EMPTY;
-    let value = made(&rt, GraphicString::from_octets(alloc, b"A"));
-    let answer = encoder.encode_graphic_string(Tag::GRAPHIC_STRING, &any, &value, none);
-    assert_written(&rt, answer);
-    let value = made(&rt, VisibleString::from_octets(alloc, b"A"));
-    let answer = encoder.encode_visible_string(Tag::VISIBLE_STRING, &any, &value, none);
-    assert_written(&rt, answer);
-    let value = made(&rt, GeneralString::from_octets(alloc, b"A"));
-    let answer = encoder.encode_general_string(Tag::GENERAL_STRING, &any, &value, none);
-    assert_written(&rt, answer);
+    assert_written(
+        &rt,
+        encoder.encode_graphic_string(
+            Tag::GRAPHIC_STRING,
+            &any,
+            &made(&rt, GraphicString::from_octets(alloc, b"A")),
+            none,
+        ),
+    );
+    assert_written(
+        &rt,
+        encoder.encode_visible_string(
+            Tag::VISIBLE_STRING,
+            &any,
+            &made(&rt, VisibleString::from_octets(alloc, b"A")),
+            none,
+        ),
+    );
+    assert_written(
+        &rt,
+        encoder.encode_general_string(
+            Tag::GENERAL_STRING,
+            &any,
+            &made(&rt, GeneralString::from_octets(alloc, b"A")),
+            none,
+        ),
+    );
     const THREE_STRINGS: &[u8] = &[0x19, 0x01, 0x41, 0x1A, 0x01, 0x41, 0x1B, 0x01, 0x41];
     assert_output(&rt, encoder.output(), THREE_STRINGS);
 }

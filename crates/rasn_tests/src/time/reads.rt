@@ -1,6 +1,6 @@
 //! UTCTime (X.690 11.8), GeneralizedTime (11.7) and DATE (8.26) are decoded.
 
-use crate::reading::{Row, assert_facts, assert_reads, decoder_of, value};
+use crate::reading::{Row, assert_facts, assert_reads, assert_row, decoder_of, value};
 use crate::time::texts::{Seen, Timed, tells};
 use rasn_de::de::Decode;
 use rasn_types::error::DecodeError;
@@ -28,10 +28,8 @@ fn assert_reads_times<T: Decode + Timed>(rt: &impl Abort, alloc: Global, rows: &
         let mut decoder = decoder_of(alloc, octets, *rules);
         let answer = T::decode(&mut decoder);
         let is_consumed = decoder.decoded_len() == *consumed;
-        assert!(rt;
-            is_answered(&answer, *rules, *time) && is_consumed,
-            "{octets:?} {rules:?}"
-        );
+        let is_answered = is_answered(&answer, *rules, *time);
+        assert_row(rt, octets, *rules, is_answered && is_consumed);
     }
 }
 
