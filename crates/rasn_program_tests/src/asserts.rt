@@ -9,6 +9,14 @@ pub fn debug_text<T: Debug>(alloc: Global, value: &T) -> Result<String, AllocErr
     format!(in alloc; "{value:?}")
 }
 
+/// Asserts that the text is this one.
+pub fn assert_text(rt: &impl Abort, found: Result<String, AllocError>, text: &str) {
+    match found {
+        Ok(found) => assert_eq!(rt; found.as_str(), text),
+        Err(_) => panic!(rt; "no memory"),
+    }
+}
+
 /// Asserts that each of these is true.
 pub fn assert_facts(rt: &impl Abort, facts: &[bool]) {
     for (place, fact) in facts.iter().enumerate() {

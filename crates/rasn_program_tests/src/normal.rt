@@ -1,6 +1,6 @@
 //! Lines that the program normalises: from an encoding of any of the three rules to the one that DER has (X.690 10, 11).
 
-use crate::asserts::debug_text;
+use crate::asserts::{assert_text, debug_text};
 use rasn::de::Decode;
 use rasn::enc::Encode;
 use rasn::error::{DecodeError, DecodeErrorKind};
@@ -121,6 +121,14 @@ fn equal_values_come_out_alike(rt: HostRuntime) {
     }
 }
 
+/// Why the octets are refused, which they have to be.
+fn refusal(rt: &impl Abort, answer: Result<Vec<u8>, NormaliseError>) -> NormaliseError {
+    match answer {
+        Ok(found) => panic!(rt; "{found:?}"),
+        Err(error) => error,
+    }
+}
+
 /// Asserts that each row's octets are refused, and that the refusal is shown as the row's text.
 fn assert_refuses<T: Decode + Encode + LawfulEq>(
     rt: &impl Abort,
@@ -128,13 +136,8 @@ fn assert_refuses<T: Decode + Encode + LawfulEq>(
     rows: &[(&[u8], Codec, &'static str)],
 ) {
     for (octets, rule, text) in rows {
-        match normalise::<T>(alloc, *rule, octets) {
-            Ok(found) => assert!(rt; false, "{found:?}"),
-            Err(error) => match debug_text(alloc, &error) {
-                Ok(told) => assert_eq!(rt; told.as_str(), *text),
-                Err(_) => assert!(rt; false, "no memory"),
-            },
-        }
+        let refused = refusal(rt, normalise::<T>(alloc, *rule, octets));
+        assert_text(rt, debug_text(alloc, &refused), text);
     }
 }
 
@@ -183,24 +186,26 @@ fn what_is_read_back_otherwise_is_refused(rt: HostRuntime) {
     assert_refuses::<UtcTime>(&rt, rt.alloc(), ROWS);
 }
 
-/// Whether the octets are refused for this cause.
-fn is_refused_for(alloc: Global, octets: &[u8], rule: Codec, cause: &NormaliseError) -> bool {
-    match normalise::<bool>(alloc, rule, octets) {
-        Ok(_) => false,
-        Err(error) => error == *cause,
-    }
+/// Whether the cause is that, by CER, one octet follows the value.
+fn is_one_octet_more_by_cer(cause: NormaliseError) -> bool {
+    cause
+        == NormaliseError::Decode(DecodeError {
+            kind: DecodeErrorKind::UnexpectedExtraData { length: 1 },
+            codec: Codec::Cer,
+        })
 }
 
 // Causes are equal exactly if their errors and rules are.
 #[test]
 fn causes_are_compared(rt: HostRuntime) {
-    let cause = NormaliseError::Decode(DecodeError {
-        kind: DecodeErrorKind::UnexpectedExtraData { length: 1 },
-        codec: Codec::Cer,
-    });
-    let alloc = rt.alloc();
-    assert!(rt; is_refused_for(alloc, &[0x01, 0x01, 0xFF, 0x00], Codec::Cer, &cause));
-    assert!(rt; !is_refused_for(alloc, &[0x01, 0x01, 0xFF, 0x00], Codec::Der, &cause));
-    assert!(rt; !is_refused_for(alloc, &[0x01, 0x01, 0xFF, 0x00, 0x00], Codec::Der, &cause));
-    assert!(rt; cause != NormaliseError::NotCanonical);
+    const ROWS: &[(&[u8], Codec, bool)] = &[
+        (&[0x01, 0x01, 0xFF, 0x00], Codec::Cer, true),
+        (&[0x01, 0x01, 0xFF, 0x00], Codec::Der, false),
+        (&[0x01, 0x01, 0xFF, 0x00, 0x00], Codec::Cer, false),
+    ];
+    for (octets, rule, equal) in ROWS {
+        let cause = refusal(&rt, normalise::<bool>(rt.alloc(), *rule, octets));
+        assert!(rt; is_one_octet_more_by_cer(cause) == *equal, "{octets:?}");
+    }
+    assert!(rt; !is_one_octet_more_by_cer(NormaliseError::NotCanonical));
 }

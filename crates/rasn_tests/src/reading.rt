@@ -126,6 +126,19 @@ pub fn is_incomplete(error: &DecodeError, octets: usize, codec: Codec) -> bool {
     *error == DecodeError { kind, codec }
 }
 
+/// Asserts that the values are equal, and that neither is the greater.
+pub fn assert_equal<T: Ord + Drop>(rt: &impl Abort, one: T, other: T) {
+    assert_facts(
+        rt,
+        &[
+            one == other,
+            one <= other,
+            one >= other,
+            one.cmp(&other) == Ordering::Equal,
+        ],
+    );
+}
+
 /// Asserts that the values differ, and that the second is the greater.
 pub fn assert_ascends<T: Ord + Drop>(rt: &impl Abort, one: T, other: T) {
     assert_facts(
@@ -134,6 +147,8 @@ pub fn assert_ascends<T: Ord + Drop>(rt: &impl Abort, one: T, other: T) {
             one < other,
             other > one,
             one != other,
+            !(other < one),
+            !(one > other),
             one.cmp(&other) == Ordering::Less,
         ],
     );

@@ -4,8 +4,9 @@ use crate::characters::push_escaped;
 use crate::contents::push_word;
 use crate::identifiers::identifier_text;
 use crate::name::name_text;
-use rasn::types::{Any, Ia5String, OctetString};
+use rasn::types::{Any, Ia5String, ObjectIdentifier, OctetString};
 use rasn_pki::x509::extensions::{EdiPartyName, GeneralName, OtherName};
+use rasn_x509::Name;
 use std::alloc::{AllocError, Global};
 use std::net::{Ipv4Addr, Ipv6Addr};
 
@@ -25,20 +26,26 @@ fn general_name_text(alloc: Global, name: &GeneralName) -> Result<String, AllocE
         GeneralName::Rfc822(name) => ia5_text(alloc, "rfc822Name", name),
         GeneralName::Dns(name) => ia5_text(alloc, "dNSName", name),
         GeneralName::X400Address(values) => values_text(alloc, values),
-        GeneralName::Directory(name) => {
-            let name = name_text(alloc, name)?;
-            format!(in alloc; "directoryName=({name})")
-        }
+        GeneralName::Directory(name) => directory_text(alloc, name),
         GeneralName::EdiParty(name) => edi_party_text(alloc, name),
         GeneralName::UniformResourceIdentifier(name) => {
             ia5_text(alloc, "uniformResourceIdentifier", name)
         }
         GeneralName::IpAddress(address) => address_text(alloc, address),
-        GeneralName::RegisteredId(identifier) => {
-            let identifier = identifier_text(alloc, identifier)?;
-            format!(in alloc; "registeredID={identifier}")
-        }
+        GeneralName::RegisteredId(identifier) => registered_text(alloc, identifier),
     }
+}
+
+/// A name of the directory (RFC 4514).
+fn directory_text(alloc: Global, name: &Name) -> Result<String, AllocError> {
+    let name = name_text(alloc, name)?;
+    format!(in alloc; "directoryName=({name})")
+}
+
+/// An identifier that is registered.
+fn registered_text(alloc: Global, identifier: &ObjectIdentifier) -> Result<String, AllocError> {
+    let identifier = identifier_text(alloc, identifier)?;
+    format!(in alloc; "registeredID={identifier}")
 }
 
 /// Characters behind an identifier.

@@ -68,16 +68,22 @@ pub fn run<R: Read, W: Write, E: Write>(
 ) -> Result<bool, RunFault> {
     let octets = read_all(alloc, input)?;
     let answer = answer(alloc, call, &octets);
-    match &answer {
-        Ok(text) => {
-            write_all(output, text)?;
-            Ok(true)
-        }
-        Err(refusal) => {
-            refuse(alloc, call, refusal, refusals)?;
-            Ok(false)
-        }
+    tell(alloc, call, &answer, output, refusals)
+}
+
+/// Writes the answer, and returns whether it is a message.
+fn tell<W: Write, E: Write>(
+    alloc: Global,
+    call: &Call<'_>,
+    answer: &Result<String, Refusal>,
+    output: &mut W,
+    refusals: &mut E,
+) -> Result<bool, RunFault> {
+    match answer {
+        Ok(text) => write_all(output, text)?,
+        Err(refusal) => refuse(alloc, call, refusal, refusals)?,
     }
+    Ok(answer.is_ok())
 }
 
 /// Says why there is no message, where the call doesn't only check.

@@ -105,16 +105,15 @@ fn lends_text(rt: HostRuntime) {
 }
 
 #[test]
-fn goes_over_a_set(rt: HostRuntime) -> Result<(), AllocError> {
+fn goes_over_a_set(rt: HostRuntime) {
     let mut set = SetOf::new(rt.alloc());
-    set.insert(3u8)?;
-    set.insert(5)?;
+    held(&rt, set.insert(3u8));
+    held(&rt, set.insert(5));
     let mut seen = 0u8;
     for element in &set {
         seen = seen.wrapping_mul(10).wrapping_add(*element);
     }
     assert!(rt; seen == 35);
-    Ok(())
 }
 
 /// Asserts that a copy equals its value.
@@ -126,7 +125,7 @@ fn assert_copied<T: TryClone + PartialEq>(rt: &impl Abort, alloc: Global, value:
 }
 
 #[test]
-fn copies_values(rt: HostRuntime) -> Result<(), AllocError> {
+fn copies_values(rt: HostRuntime) {
     let alloc = rt.alloc();
     assert_copied(&rt, alloc, worked_bits(&rt, alloc));
     assert_copied(&rt, alloc, worked_arcs(&rt, alloc));
@@ -151,24 +150,25 @@ fn copies_values(rt: HostRuntime) -> Result<(), AllocError> {
         alloc,
         made(&rt, BmpString::from_octets(alloc, &[0x00, 0x4A])),
     );
-    assert_copied(&rt, alloc, String::from_str(alloc, "Jones")?);
+    assert_copied(&rt, alloc, held(&rt, String::from_str(alloc, "Jones")));
     assert_copied(&rt, alloc, FixedOctetString::new([0x01, 0x23]));
     assert_copied(&rt, alloc, 7u8);
-    Ok(())
 }
 
 #[test]
-fn copies_values_of_values(rt: HostRuntime) -> Result<(), AllocError> {
+fn copies_values_of_values(rt: HostRuntime) {
     let alloc = rt.alloc();
     let tagged: Implicit<bool, Option<OctetString>> = Implicit::new(Some(OctetString::from_vec(
         vec_of(&rt, alloc, &[0x01]),
     )));
     assert_copied(&rt, alloc, tagged);
     let mut set = SetOf::new(alloc);
-    set.insert(vec![in alloc; 1i64, 2]?)?;
-    set.insert(Vec::new(alloc))?;
+    held(
+        &rt,
+        set.insert(held(&rt, Vec::from_slice(alloc, &[1i64, 2]))),
+    );
+    held(&rt, set.insert(Vec::new(alloc)));
     assert_copied(&rt, alloc, Explicit::<bool, SetOf<Vec<i64>>>::new(set));
-    Ok(())
 }
 
 #[test]

@@ -4,7 +4,7 @@ use crate::reading::{assert_shown, held};
 use crate::writing::made;
 use rasn::prelude::*;
 use rasn::types::Hexadecimal;
-use std::alloc::{AllocError, Global};
+use std::alloc::Global;
 use std::process::Abort;
 
 // The example of an OBJECT IDENTIFIER (X.690 8.19.5), and the arcs of rsaEncryption (RFC 8017, appendix C).
@@ -59,34 +59,25 @@ fn names_of_nothing(rt: HostRuntime) {
 
 // The octets of NULL, and of the ends of a hexadecimal digit's range.
 #[test]
-fn octets(rt: HostRuntime) -> Result<(), AllocError> {
+fn octets(rt: HostRuntime) {
     let alloc = rt.alloc();
     let octets = [0x05, 0x00, 0x9A, 0xAF, 0xF0];
     assert_shown(&rt, alloc, Hexadecimal::new(&octets), "05009AAFF0");
-    let string = OctetString::from_vec(Vec::from_slice(alloc, &octets)?);
+    let string = OctetString::from_vec(held(&rt, Vec::from_slice(alloc, &octets)));
     assert_shown(&rt, alloc, string, "05009AAFF0");
-    assert_shown(
-        &rt,
-        alloc,
-        Any::new(Vec::from_slice(alloc, &octets[..2])?),
-        "0500",
-    );
+    let null = Any::new(held(&rt, Vec::from_slice(alloc, &octets[..2])));
+    assert_shown(&rt, alloc, null, "0500");
     assert_shown(&rt, alloc, OctetString::from_vec(Vec::new(alloc)), "");
-    Ok(())
 }
 
 // '0A3B5F291CD'H (X.690 8.6.4.2), digit by digit in bits.
 #[test]
-fn bits(rt: HostRuntime) -> Result<(), AllocError> {
+fn bits(rt: HostRuntime) {
     let alloc = rt.alloc();
-    let octets = Vec::from_slice(alloc, &[0x0A, 0x3B, 0x5F, 0x29, 0x1C, 0xD0])?;
-    if let Some(bits) = BitString::new(octets, 44) {
-        let text = "'00001010001110110101111100101001000111001101'B";
-        assert_shown(&rt, alloc, bits, text);
-    } else {
-        assert!(rt; false, "no bits");
-    }
-    Ok(())
+    let octets = Vec::from_slice(alloc, &[0x0A, 0x3B, 0x5F, 0x29, 0x1C, 0xD0]);
+    let bits = made(&rt, Ok(BitString::new(held(&rt, octets), 44)));
+    let text = "'00001010001110110101111100101001000111001101'B";
+    assert_shown(&rt, alloc, bits, text);
 }
 
 // VisibleString "Jones" (X.690 8.23.3).

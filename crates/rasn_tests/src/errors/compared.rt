@@ -1,7 +1,9 @@
 //! Values and errors compared: INTEGER by its number (X.690 8.3), OBJECT IDENTIFIER by its arcs, BIT STRING by its bits, OCTET STRING and
 //! open types by their octets.
 
-use crate::reading::{assert_ascends, assert_facts, decoder_of, held, is_incomplete, refusal};
+use crate::reading::{
+    assert_ascends, assert_equal, assert_facts, decoder_of, held, is_incomplete, refusal,
+};
 use crate::writing::made;
 use rasn_de::de::Decode;
 use rasn_types::types::{Any, BitStr, Codec, Constraints, Integer, ObjectIdentifier, OctetString};
@@ -27,20 +29,13 @@ fn number(rt: &impl Abort, alloc: Global, octets: &[u8]) -> Integer {
     made(rt, Integer::from_octets(alloc, octets))
 }
 
-/// What `==`, `<` and `>` say of the numbers of these octets.
-fn compared(rt: &impl Abort, alloc: Global, octets: &[u8], others: &[u8]) -> (bool, bool, bool) {
-    let (one, other) = (number(rt, alloc, octets), number(rt, alloc, others));
-    (one == other, one < other, one > other)
-}
-
 #[test]
 fn orders_numbers(rt: HostRuntime) {
     let alloc = rt.alloc();
     for (place, octets) in NUMBERS.iter().enumerate() {
-        assert!(rt; compared(&rt, alloc, octets, octets) == (true, false, false));
+        assert_equal(&rt, number(&rt, alloc, octets), number(&rt, alloc, octets));
         for others in &NUMBERS[place + 1..] {
-            assert!(rt; compared(&rt, alloc, octets, others) == (false, true, false));
-            assert!(rt; compared(&rt, alloc, others, octets) == (false, false, true));
+            assert_ascends(&rt, number(&rt, alloc, octets), number(&rt, alloc, others));
         }
     }
 }
@@ -115,7 +110,7 @@ const STRINGS: &[&[u8]] = &[&[], &[0x00], &[0x01, 0xFF], &[0x02], &[0x02, 0x00],
 fn orders_octets(rt: HostRuntime) {
     let alloc = rt.alloc();
     for (place, octets) in STRINGS.iter().enumerate() {
-        assert!(rt; string(&rt, alloc, octets) == string(&rt, alloc, octets));
+        assert_equal(&rt, string(&rt, alloc, octets), string(&rt, alloc, octets));
         for others in &STRINGS[place + 1..] {
             assert_ascends(&rt, string(&rt, alloc, octets), string(&rt, alloc, others));
         }

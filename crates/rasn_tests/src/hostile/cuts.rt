@@ -32,17 +32,28 @@ pub(super) fn reads_all<T: Decode>(alloc: Global, octets: &[u8], rules: Codec) -
     T::decode(&mut decoder).is_ok() && decoder.remaining().is_empty()
 }
 
+/// Asserts that these octets lack others of a value, and that nothing is consumed.
+fn assert_lacks<T: Decode>(
+    rt: &impl Abort,
+    alloc: Global,
+    front: &[u8],
+    rules: Codec,
+    needed: usize,
+) {
+    let mut decoder = decoder_of(alloc, front, rules);
+    let refused = refusal(rt, T::decode(&mut decoder));
+    assert_row(rt, front, rules, is_incomplete(&refused, needed, rules));
+    assert_row(rt, front, rules, decoder.decoded_len() == 0);
+}
+
 /// Asserts that each row's octets are a value, and that each proper prefix lacks octets and consumes nothing.
 fn assert_cuts<T: Decode>(rt: &impl Abort, alloc: Global, rows: &[Definite]) {
     for (octets, rules, identifier, length) in rows {
         assert_row(rt, octets, *rules, reads_all::<T>(alloc, octets, *rules));
         for count in 0..octets.len() {
             let (front, _) = octets.split_at(count);
-            let mut decoder = decoder_of(alloc, front, *rules);
             let needed = missing(octets.len(), *identifier, *length, count);
-            let refused = refusal(rt, T::decode(&mut decoder));
-            let is_missing = is_incomplete(&refused, needed, *rules);
-            assert_row(rt, front, *rules, is_missing && decoder.decoded_len() == 0);
+            assert_lacks::<T>(rt, alloc, front, *rules, needed);
         }
     }
 }

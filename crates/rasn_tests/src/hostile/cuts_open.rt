@@ -1,7 +1,7 @@
 //! Values of indefinite length that are cut (X.690 8.1.3.6): each proper prefix of their octets is refused.
 
 use crate::hostile::cuts::reads_all;
-use crate::reading::{assert_row, decoder_of, held, refusal};
+use crate::reading::{assert_facts, assert_row, decoder_of, held, refusal};
 use rasn::de::Decode;
 use rasn::error::{BerDecodeErrorKind, CodecDecodeError, DecodeError, DecodeErrorKind};
 use rasn::types::{Any, BitString, Codec, OctetString, SetOf};
@@ -24,15 +24,20 @@ fn is_cut(error: &DecodeError) -> bool {
     )
 }
 
+/// Asserts that these octets are refused as a value that is cut.
+fn assert_is_cut<T: Decode>(rt: &impl Abort, alloc: Global, front: &[u8], rules: Codec) {
+    let mut decoder = decoder_of(alloc, front, rules);
+    let refused = refusal(rt, T::decode(&mut decoder));
+    assert_row(rt, front, rules, is_cut(&refused));
+}
+
 /// Asserts that each row's octets are a value, and that each proper prefix is refused as cut.
 fn assert_cuts_open<T: Decode>(rt: &impl Abort, alloc: Global, rows: &[Indefinite]) {
     for (octets, rules) in rows {
         assert_row(rt, octets, *rules, reads_all::<T>(alloc, octets, *rules));
         for count in 0..octets.len() {
             let (front, _) = octets.split_at(count);
-            let mut decoder = decoder_of(alloc, front, *rules);
-            let refused = refusal(rt, T::decode(&mut decoder));
-            assert_row(rt, front, *rules, is_cut(&refused));
+            assert_is_cut::<T>(rt, alloc, front, *rules);
         }
     }
 }
@@ -134,6 +139,13 @@ fn levels(alloc: Global) -> Result<Vec<u8>, AllocError> {
     Ok(octets)
 }
 
+/// Asserts that a value that is skipped is refused as cut, and that nothing is consumed.
+fn assert_skips_none(rt: &impl Abort, alloc: Global, front: &[u8]) {
+    let mut decoder = decoder_of(alloc, front, Codec::Ber);
+    let refused = refusal(rt, decoder.skip_value());
+    assert_facts(rt, &[is_cut(&refused), decoder.decoded_len() == 0]);
+}
+
 // The prefixes lack one to a hundred octets.
 #[test]
 fn cut_levels_are_refused(rt: HostRuntime) {
@@ -141,8 +153,6 @@ fn cut_levels_are_refused(rt: HostRuntime) {
     let octets = held(&rt, levels(alloc));
     for count in 1..=100usize {
         let (front, _) = octets.split_at(octets.len().saturating_sub(count));
-        let mut decoder = decoder_of(alloc, front, Codec::Ber);
-        let refused = refusal(&rt, decoder.skip_value());
-        assert!(rt; is_cut(&refused) && decoder.decoded_len() == 0, "{count}");
+        assert_skips_none(&rt, alloc, front);
     }
 }

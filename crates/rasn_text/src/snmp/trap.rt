@@ -2,7 +2,7 @@
 
 use crate::listing::{Listing, NamedNumber};
 use crate::snmp::variable::{address_text, list_variables};
-use rasn_snmp::TrapPdu;
+use rasn_snmp::{IpAddress, TrapPdu};
 use std::alloc::AllocError;
 
 /// What is reported (RFC 1157, 4.1.6).
@@ -16,11 +16,16 @@ const GENERIC_TRAPS: &[NamedNumber] = &[
     (6, "enterpriseSpecific"),
 ];
 
+/// Lists the address of the agent that sends the trap.
+fn list_agent_address(listing: &mut Listing, address: &IpAddress) -> Result<(), AllocError> {
+    let address = address_text(listing.alloc(), address)?;
+    listing.line("agent address", &address)
+}
+
 /// Lists a trap.
 pub(crate) fn list_trap(listing: &mut Listing, trap: &TrapPdu) -> Result<(), AllocError> {
     listing.line("enterprise", &trap.enterprise)?;
-    let address = address_text(listing.alloc(), &trap.agent_addr)?;
-    listing.line("agent address", &address)?;
+    list_agent_address(listing, &trap.agent_addr)?;
     listing.numbered("generic trap", trap.generic_trap, GENERIC_TRAPS)?;
     listing.line("specific trap", &trap.specific_trap)?;
     let time: &u32 = &trap.time_stamp;

@@ -2,6 +2,7 @@
 
 use crate::listing::Listing;
 use crate::octets::octets_text;
+use rasn::types::ObjectIdentifier;
 use rasn_snmp::{IpAddress, VarBind, VarBindValue};
 use std::alloc::{AllocError, Global};
 use std::net::Ipv4Addr;
@@ -25,16 +26,12 @@ fn list_variable(listing: &mut Listing, variable: &VarBind) -> Result<(), AllocE
     match &variable.value {
         VarBindValue::Integer(value) => listing.binding(name, "INTEGER", value),
         VarBindValue::OctetString(value) => {
-            let text = octets_text(listing.alloc(), value.as_octets())?;
-            listing.binding(name, "OCTET STRING", &text)
+            list_octets(listing, name, "OCTET STRING", value.as_octets())
         }
         VarBindValue::ObjectIdentifier(value) => {
             listing.binding(name, "OBJECT IDENTIFIER", value)
         }
-        VarBindValue::IpAddress(value) => {
-            let text = address_text(listing.alloc(), value)?;
-            listing.binding(name, "IpAddress", &text)
-        }
+        VarBindValue::IpAddress(value) => list_address(listing, name, value),
         VarBindValue::Counter32(value) => {
             let value: &u32 = value;
             listing.binding(name, "Counter32", value)
@@ -47,10 +44,7 @@ fn list_variable(listing: &mut Listing, variable: &VarBind) -> Result<(), AllocE
             let value: &u32 = value;
             listing.binding(name, "TimeTicks", value)
         }
-        VarBindValue::Opaque(value) => {
-            let text = octets_text(listing.alloc(), value.as_octets())?;
-            listing.binding(name, "Opaque", &text)
-        }
+        VarBindValue::Opaque(value) => list_octets(listing, name, "Opaque", value.as_octets()),
         VarBindValue::Counter64(value) => {
             let value: &u64 = value;
             listing.binding(name, "Counter64", value)
@@ -60,6 +54,27 @@ fn list_variable(listing: &mut Listing, variable: &VarBind) -> Result<(), AllocE
         VarBindValue::NoSuchInstance => listing.unbound(name, "noSuchInstance"),
         VarBindValue::EndOfMibView => listing.unbound(name, "endOfMibView"),
     }
+}
+
+/// Lists a variable whose value is octets.
+fn list_octets(
+    listing: &mut Listing,
+    name: &ObjectIdentifier,
+    kind: &str,
+    octets: &[u8],
+) -> Result<(), AllocError> {
+    let text = octets_text(listing.alloc(), octets)?;
+    listing.binding(name, kind, &text)
+}
+
+/// Lists a variable whose value is an address.
+fn list_address(
+    listing: &mut Listing,
+    name: &ObjectIdentifier,
+    address: &IpAddress,
+) -> Result<(), AllocError> {
+    let text = address_text(listing.alloc(), address)?;
+    listing.binding(name, "IpAddress", &text)
 }
 
 /// An address in dotted decimals.
