@@ -4,7 +4,7 @@ use rasn::error::{DecodeError, EncodeError};
 use rasn::parts::{DefaultValue, Defaulted, End, Optional, Put, PutDefault, PutOptional, Required};
 use rasn::types::{AsnType, Constraints, Identifier, LawfulEq, OctetString, Present, Tag};
 use rasn::{Decode, Decoder, Encode, Encoder};
-use std::alloc::AllocError;
+use std::alloc::{AllocError, Global};
 
 /// SEQUENCE { controlType LDAPOID, criticality BOOLEAN DEFAULT FALSE, controlValue OCTET STRING OPTIONAL }: what extends an operation.
 #[derive(Debug, PartialEq, Eq, Drop)]
@@ -59,7 +59,7 @@ impl DefaultValue for NotCritical {
 
     ghost default_tree = { number (pos 0) };
 
-    fn default_value() -> Result<bool, AllocError> {
+    fn default_value(_alloc: Global) -> Result<bool, AllocError> {
         Ok(false)
     }
 }

@@ -222,7 +222,7 @@ where
     let Ok(value) = V::Value::decode(&mut decoder) else {
         return Err(Found::OutOfMemory);
     };
-    let default = V::default_value()?;
+    let default = V::default_value(alloc)?;
     Ok(value == default)
 }
 

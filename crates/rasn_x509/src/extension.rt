@@ -5,7 +5,7 @@ use rasn::types::{
     AsnType, Constraints, Identifier, LawfulEq, ObjectIdentifier, OctetString, Present, Tag,
 };
 use rasn::{Decode, Decoder, Encode, Encoder};
-use std::alloc::AllocError;
+use std::alloc::{AllocError, Global};
 
 /// SEQUENCE { extnID OBJECT IDENTIFIER, critical BOOLEAN DEFAULT FALSE, extnValue OCTET STRING }: the octets are the DER encoding of what the
 /// identifier names.
@@ -64,7 +64,7 @@ impl DefaultValue for NotCritical {
 
     ghost default_tree = { number (pos 0) };
 
-    fn default_value() -> Result<bool, AllocError> {
+    fn default_value(_alloc: Global) -> Result<bool, AllocError> {
         Ok(false)
     }
 }

@@ -10,7 +10,7 @@ use rasn::types::{
     Present, Tag,
 };
 use rasn::{Decode, Decoder, Encode, Encoder};
-use std::alloc::AllocError;
+use std::alloc::{AllocError, Global};
 
 /// SEQUENCE { version \[0\] EXPLICIT INTEGER { v1(0), v2(1), v3(2) } DEFAULT v1, serialNumber INTEGER, signature AlgorithmIdentifier, issuer Name,
 /// validity Validity, subject Name, subjectPublicKeyInfo SubjectPublicKeyInfo, issuerUniqueID \[1\] IMPLICIT BIT STRING OPTIONAL,
@@ -85,7 +85,7 @@ impl DefaultValue for VersionOne {
 
     ghost default_tree = { number (pos 0) };
 
-    fn default_value() -> Result<u8, AllocError> {
+    fn default_value(_alloc: Global) -> Result<u8, AllocError> {
         Ok(0)
     }
 }

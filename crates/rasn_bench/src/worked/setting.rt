@@ -4,7 +4,7 @@ use rasn::error::{DecodeError, EncodeError};
 use rasn::parts::{DefaultValue, Defaulted, End, Put, PutDefault, Required};
 use rasn::types::{AsnType, Constraints, Identifier, LawfulEq, Present, Tag};
 use rasn::{Decode, Decoder, Encode, Encoder};
-use std::alloc::AllocError;
+use std::alloc::{AllocError, Global};
 
 /// SEQUENCE { truth BOOLEAN, level INTEGER (0..255) DEFAULT 7 }
 #[derive(Debug, PartialEq, Eq, Drop)]
@@ -58,7 +58,7 @@ impl DefaultValue for Seven {
 
     ghost default_tree = { number (pos 7) };
 
-    fn default_value() -> Result<u8, AllocError> {
+    fn default_value(_alloc: Global) -> Result<u8, AllocError> {
         Ok(7)
     }
 }

@@ -8,7 +8,7 @@ use rasn::types::{
 };
 use rasn::{Decode, Decoder, Encode, Encoder};
 use rasn_bench::{AlgorithmIdentifier, Seven};
-use std::alloc::AllocError;
+use std::alloc::{AllocError, Global};
 
 /// SEQUENCE { version [0] EXPLICIT INTEGER (0..255) DEFAULT 0, serial OCTET STRING, algorithm AlgorithmIdentifier, truth BOOLEAN,
 /// name OBJECT IDENTIFIER OPTIONAL, mark [0] IMPLICIT INTEGER (0..255) OPTIONAL, level INTEGER (0..255) DEFAULT 7, more ANY OPTIONAL }
@@ -75,7 +75,7 @@ impl DefaultValue for FirstVersion {
 
     ghost default_tree = { number (pos 0) };
 
-    fn default_value() -> Result<Explicit<ContextTag<0>, u8>, AllocError> {
+    fn default_value(_alloc: Global) -> Result<Explicit<ContextTag<0>, u8>, AllocError> {
         Ok(Explicit::new(0))
     }
 }

@@ -1,6 +1,6 @@
 //! What the parts of a SEQUENCE, a SET or a CHOICE as types have in common in reading and writing.
 use crate::types::{AsnType, LawfulEq};
-use std::alloc::AllocError;
+use std::alloc::{AllocError, Global};
 
 /// No part: the end of a list of parts.
 #[derive(Debug, Drop)]
@@ -16,11 +16,11 @@ pub trait DefaultValue {
 
     ghost default_tree: { Tree };
 
-    /// The value that is meant where the part is left out.
+    /// Returns the value that is meant where the part is left out, allocated in `alloc`.
     ///
     /// # Errors
-    /// Where memory runs out.
-    fn default_value() -> Result<Self::Value, AllocError>
+    /// If an allocation fails.
+    fn default_value(alloc: Global) -> Result<Self::Value, AllocError>
         ensures { IfOk result (λ v. Self.Value.tree v ≡ default_tree) };
 }
 

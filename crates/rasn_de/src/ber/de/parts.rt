@@ -122,10 +122,11 @@ where
     ghost tags_agree = { is_looked_for V.Value.shape V.Value.TAG && R.tags_agree };
 
     fn decode_parts(decoder: &mut Decoder<'_>) -> Result<Defaulted<V, R>, DecodeError> {
+        let alloc = decoder.alloc();
         let value = decoder.decode_default::<V::Value, _>(
             || -> Result<V::Value, AllocError>
                 ensures { IfOk result (λ v. V.Value.tree v ≡ V.default_tree) }
-            { V::default_value() },
+            { V::default_value(alloc) },
         )?;
         let rest = R::decode_parts(decoder)?;
         Ok(Defaulted(value, rest))
@@ -147,11 +148,12 @@ where
     ghost tags_agree = { is_looked_for (prefix V.Prefix.TAG V.Value.shape) V.Prefix.TAG && R.tags_agree };
 
     fn decode_parts(decoder: &mut Decoder<'_>) -> Result<DefaultedExplicit<V, R>, DecodeError> {
+        let alloc = decoder.alloc();
         let value = decoder.decode_default_with_explicit_prefix::<V::Value, _>(
             V::Prefix::TAG,
             || -> Result<V::Value, AllocError>
                 ensures { IfOk result (λ v. V.Value.tree v ≡ V.default_tree) }
-            { V::default_value() },
+            { V::default_value(alloc) },
         )?;
         let rest = R::decode_parts(decoder)?;
         Ok(DefaultedExplicit(value, rest))

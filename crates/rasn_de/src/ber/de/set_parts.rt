@@ -103,12 +103,13 @@ fn or_default<V: DefaultValue>(
 ) -> Result<V::Value, DecodeError>
     ensures { IsOrDefault V.Value.tree V.default_tree came result }
 {
+    let alloc = decoder.alloc();
     match came {
         Some(value) => Ok(value),
         None => decoder.default_value(
             || -> Result<V::Value, AllocError>
                 ensures { IfOk result (λ v. V.Value.tree v ≡ V.default_tree) }
-            { V::default_value() },
+            { V::default_value(alloc) },
         ),
     }
 }
@@ -276,10 +277,11 @@ where
         names: &[&str],
     ) -> Result<(), DecodeError> {
         if tag == V::Value::TAG {
+            let alloc = decoder.alloc();
             let value = decoder.decode_default::<V::Value, _>(
                 || -> Result<V::Value, AllocError>
                     ensures { IfOk result (λ v. V.Value.tree v ≡ V.default_tree) }
-                { V::default_value() },
+                { V::default_value(alloc) },
             )?;
             return place(&mut came.0, value, decoder, names);
         }

@@ -101,11 +101,12 @@ where
 
     fn encode_parts(self, encoder: &mut Encoder) -> Result<(), EncodeError> {
         let PutDefault(value, rest) = self;
+        let alloc = encoder.alloc();
         encoder.encode_default(
             value,
             || -> Result<V::Value, AllocError>
                 ensures { IfOk result (λ v. V.Value.tree v ≡ V.default_tree) }
-            { V::default_value() },
+            { V::default_value(alloc) },
             Identifier::EMPTY,
         )?;
         rest.encode_parts(encoder)
@@ -124,12 +125,13 @@ where
 
     fn encode_parts(self, encoder: &mut Encoder) -> Result<(), EncodeError> {
         let PutDefaultExplicit(value, rest) = self;
+        let alloc = encoder.alloc();
         encoder.encode_default_with_explicit_prefix(
             V::Prefix::TAG,
             value,
             || -> Result<V::Value, AllocError>
                 ensures { IfOk result (λ v. V.Value.tree v ≡ V.default_tree) }
-            { V::default_value() },
+            { V::default_value(alloc) },
             Identifier::EMPTY,
         )?;
         rest.encode_parts(encoder)

@@ -3,7 +3,7 @@ use rasn::error::{DecodeError, EncodeError};
 use rasn::parts::{DefaultValue, Defaulted, End, Optional, PutDefault, PutOptional};
 use rasn::types::{AsnType, Constraints, Identifier, Integer, LawfulEq, Present, Tag};
 use rasn::{Decode, Decoder, Encode, Encoder};
-use std::alloc::AllocError;
+use std::alloc::{AllocError, Global};
 
 /// SEQUENCE { cA BOOLEAN DEFAULT FALSE, pathLenConstraint INTEGER OPTIONAL }: whether the subject is a certification authority, and how many certificates of
 /// others may follow.
@@ -60,7 +60,7 @@ impl DefaultValue for NoAuthority {
 
     ghost default_tree = { number (pos 0) };
 
-    fn default_value() -> Result<bool, AllocError> {
+    fn default_value(_alloc: Global) -> Result<bool, AllocError> {
         Ok(false)
     }
 }

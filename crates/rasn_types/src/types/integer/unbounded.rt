@@ -101,12 +101,16 @@ impl Integer {
     }
 }
 
-/// The number where 128 bits hold it, else its octets in two's complement, in hexadecimal behind `0x`.
+/// The number in decimal if `i128` or `u128` holds it, else its octets in two's complement, in hexadecimal after `0x`.
 impl fmt::Display for Integer {
     fn fmt<W: fmt::Write>(&self, f: &mut fmt::Formatter<W>) -> fmt::Result {
-        match signed_i128(self.octets.as_slice()) {
+        let octets = self.octets.as_slice();
+        if let Some(number) = signed_i128(octets) {
+            return write!(f, "{number}");
+        }
+        match unsigned_u128(octets) {
             Some(number) => write!(f, "{number}"),
-            None => write!(f, "0x{}", Hexadecimal(self.octets.as_slice())),
+            None => write!(f, "0x{}", Hexadecimal(octets)),
         }
     }
 }
