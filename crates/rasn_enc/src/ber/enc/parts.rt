@@ -104,7 +104,7 @@ where
         let alloc = encoder.alloc();
         encoder.encode_default(
             value,
-            || -> Result<V::Value, AllocError>
+            move || -> Result<V::Value, AllocError>
                 ensures { IfOk result (λ v. V.Value.tree v ≡ V.default_tree) }
             { V::default_value(alloc) },
             Identifier::EMPTY,
@@ -129,7 +129,7 @@ where
         encoder.encode_default_with_explicit_prefix(
             V::Prefix::TAG,
             value,
-            || -> Result<V::Value, AllocError>
+            move || -> Result<V::Value, AllocError>
                 ensures { IfOk result (λ v. V.Value.tree v ≡ V.default_tree) }
             { V::default_value(alloc) },
             Identifier::EMPTY,
