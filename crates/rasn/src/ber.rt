@@ -18,7 +18,10 @@ pub use rasn_types::ber::Identifier;
 use rasn_types::error::{DecodeError, EncodeError};
 use std::alloc::Global;
 
-/// The value that begins the input. What follows it is ignored.
+/// Returns the value that begins the input, and ignores what follows it.
+///
+/// # Errors
+/// As `decode_with_remainder`.
 #[inline(always)]
 pub fn decode<T: Decode>(alloc: Global, input: &[u8]) -> Result<T, DecodeError>
     ensures { AnsweredFirst Ber T.shape T.tree input.now result }
@@ -27,8 +30,10 @@ pub fn decode<T: Decode>(alloc: Global, input: &[u8]) -> Result<T, DecodeError>
     Ok(value)
 }
 
-/// The value that begins the input, and what follows it: exactly where the grammar relates the input to them. A refusal for
-/// another cause than memory means that no value begins the input.
+/// Returns the value that begins the input, and what follows it: exactly where the grammar relates the input to them.
+///
+/// # Errors
+/// What `T::decode` refuses: then no value of the type begins the input. `OutOfMemory` where an allocation fails.
 #[inline(always)]
 pub fn decode_with_remainder<T: Decode>(
     alloc: Global,
@@ -39,7 +44,10 @@ pub fn decode_with_remainder<T: Decode>(
     entry::decode_with_remainder(alloc, input, DecoderOptions::ber())
 }
 
-/// The value's octets. Fails if an allocation fails or the value has no encoding under these rules.
+/// Returns the value's octets.
+///
+/// # Errors
+/// What the value's `encode` refuses: then it has no encoding under these rules. `OutOfMemory` where an allocation fails.
 #[inline(always)]
 pub fn encode<T: Encode>(alloc: Global, value: &T) -> Result<Vec<u8>, EncodeError>
     ensures ok { IfOk result (λ octets. Bytes Ber T.shape (T.tree value.now) octets.items) }
@@ -48,8 +56,10 @@ pub fn encode<T: Encode>(alloc: Global, value: &T) -> Result<Vec<u8>, EncodeErro
     entry::encode(alloc, value, EncoderOptions::ber())
 }
 
-/// Puts the value's octets into the vector, in the place of what it holds. Where the value is refused, as `encode` says, the vector is
-/// empty.
+/// Puts the value's octets into the vector, in place of what it holds.
+///
+/// # Errors
+/// As `encode`. The vector is empty then.
 pub fn encode_buf<T: Encode>(
     alloc: Global,
     value: &T,
@@ -62,7 +72,10 @@ pub fn encode_buf<T: Encode>(
     entry::encode_buf(alloc, value, buffer, EncoderOptions::ber())
 }
 
-/// The octets of the values that `values` writes, one behind the other. It may write any number of them, and refuses as it will.
+/// Returns the octets of the values that `values` writes, one after the other. It may write any number of them.
+///
+/// # Errors
+/// What `values` returns, which may be any error; `OutOfMemory` where an allocation fails.
 pub fn encode_scope<F: FnOnce(&mut Encoder) -> Result<(), EncodeError>>(
     alloc: Global,
     values: F,

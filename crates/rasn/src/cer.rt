@@ -13,7 +13,10 @@ use rasn_enc::enc::Encode;
 use rasn_types::error::{DecodeError, EncodeError};
 use std::alloc::Global;
 
-/// The value that begins the input. What follows it is ignored.
+/// Returns the value that begins the input, and ignores what follows it.
+///
+/// # Errors
+/// As `decode_with_remainder`.
 #[inline(always)]
 pub fn decode<T: Decode>(alloc: Global, input: &[u8]) -> Result<T, DecodeError>
     ensures { AnsweredFirst Cer T.shape T.tree input.now result }
@@ -22,8 +25,10 @@ pub fn decode<T: Decode>(alloc: Global, input: &[u8]) -> Result<T, DecodeError>
     Ok(value)
 }
 
-/// The value that begins the input, and what follows it: exactly where the grammar relates the input to them. A refusal for
-/// another cause than memory means that no value begins the input.
+/// Returns the value that begins the input, and what follows it: exactly where the grammar relates the input to them.
+///
+/// # Errors
+/// What `T::decode` refuses: then no value of the type begins the input. `OutOfMemory` where an allocation fails.
 #[inline(always)]
 pub fn decode_with_remainder<T: Decode>(
     alloc: Global,
@@ -34,7 +39,10 @@ pub fn decode_with_remainder<T: Decode>(
     entry::decode_with_remainder(alloc, input, DecoderOptions::cer())
 }
 
-/// The value's octets. Fails if an allocation fails or the value has no encoding under these rules.
+/// Returns the value's octets.
+///
+/// # Errors
+/// What the value's `encode` refuses: then it has no encoding under these rules. `OutOfMemory` where an allocation fails.
 #[inline(always)]
 pub fn encode<T: Encode>(alloc: Global, value: &T) -> Result<Vec<u8>, EncodeError>
     ensures ok { IfOk result (λ octets. Bytes Cer T.shape (T.tree value.now) octets.items) }
@@ -43,8 +51,10 @@ pub fn encode<T: Encode>(alloc: Global, value: &T) -> Result<Vec<u8>, EncodeErro
     entry::encode(alloc, value, EncoderOptions::cer())
 }
 
-/// Puts the value's octets into the vector, in the place of what it holds. Where the value is refused, as `encode` says, the vector is
-/// empty.
+/// Puts the value's octets into the vector, in place of what it holds.
+///
+/// # Errors
+/// As `encode`. The vector is empty then.
 pub fn encode_buf<T: Encode>(
     alloc: Global,
     value: &T,

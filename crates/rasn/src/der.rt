@@ -22,7 +22,7 @@ use std::alloc::{AllocError, Global};
 /// The value that is all of the input, which, for a carried value, is exactly what `encode` writes of it.
 ///
 /// # Errors
-/// `UnexpectedExtraData` where octets follow the value, with their number (X.690 8.1.1.1).
+/// As `decode_with_remainder`; `UnexpectedExtraData` where octets follow the value, with their number (X.690 8.1.1.1).
 #[inline(always)]
 pub fn decode<T: Decode>(alloc: Global, input: &[u8]) -> Result<T, DecodeError>
     ensures exact { AnsweredAlone Der T.shape T.tree input.now result }
@@ -39,9 +39,12 @@ pub fn decode<T: Decode>(alloc: Global, input: &[u8]) -> Result<T, DecodeError>
     }
 }
 
-/// The value that begins the input, and what follows it: exactly where the grammar relates the input to them. A refusal for
-/// another cause than memory means that no value begins the input. The octets in front of the rest are, for a carried value, exactly
-/// those that `encode` writes of it: there is one encoding, and no other is read (X.690 10, 11).
+/// Returns the value that begins the input, and what follows it: exactly where the grammar relates the input to them. The octets in
+/// front of the rest are, for a carried value, exactly those that `encode` writes of it: there is one encoding, and no other is read
+/// (X.690 10, 11).
+///
+/// # Errors
+/// What `T::decode` refuses: then no value of the type begins the input. `OutOfMemory` where an allocation fails.
 #[inline(always)]
 pub fn decode_with_remainder<T: Decode>(
     alloc: Global,
@@ -53,8 +56,10 @@ pub fn decode_with_remainder<T: Decode>(
     entry::decode_with_remainder(alloc, input, DecoderOptions::der())
 }
 
-/// The value's octets, which depend on the value alone: two carried values have the same ones exactly if they are equal. It is
-/// refused for running out of memory, and where the value has no octets.
+/// Returns the value's octets, which depend on the value alone: two carried values have the same ones exactly if they are equal.
+///
+/// # Errors
+/// What the value's `encode` refuses: then it has no encoding under these rules. `OutOfMemory` where an allocation fails.
 #[inline(always)]
 pub fn encode<T: Encode>(alloc: Global, value: &T) -> Result<Vec<u8>, EncodeError>
     ensures ok { IfOk result (λ octets. Bytes Der T.shape (T.tree value.now) octets.items) }
@@ -64,8 +69,10 @@ pub fn encode<T: Encode>(alloc: Global, value: &T) -> Result<Vec<u8>, EncodeErro
     entry::encode(alloc, value, EncoderOptions::der())
 }
 
-/// Puts the value's octets into the vector, in the place of what it holds. Where the value is refused, as `encode` says, the vector is
-/// empty.
+/// Puts the value's octets into the vector, in place of what it holds.
+///
+/// # Errors
+/// As `encode`. The vector is empty then.
 pub fn encode_buf<T: Encode>(
     alloc: Global,
     value: &T,
@@ -79,7 +86,10 @@ pub fn encode_buf<T: Encode>(
     entry::encode_buf(alloc, value, buffer, EncoderOptions::der())
 }
 
-/// The octets of the values that `values` writes, one behind the other. It may write any number of them, and refuses as it will.
+/// Returns the octets of the values that `values` writes, one after the other. It may write any number of them.
+///
+/// # Errors
+/// What `values` returns, which may be any error; `OutOfMemory` where an allocation fails.
 pub fn encode_scope<F: FnOnce(&mut Encoder) -> Result<(), EncodeError>>(
     alloc: Global,
     values: F,

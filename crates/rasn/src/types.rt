@@ -6,8 +6,8 @@ pub use rasn_types::types::{
     Bound, Bounded, Class, Codec, Constraints, Constructed, ContextTag, Date, Enumerated, Explicit,
     Field, FieldPresence, Fields, FixedOctetString, GeneralString, GeneralType, GeneralizedTime,
     GraphicString, GraphicType, HasPresence, Hexadecimal, Ia5String, Ia5Type, Identifier, Implicit,
-    Integer, IntegerType, LawfulEq, NumericString, NumericType, ObjectIdentifier, OctetString,
-    Present, PrintableString, PrintableType, PrivateTag, RealType, RestrictedString, SetOf,
-    StringType, Tag, TeletexString, TeletexType, TryClone, Units, UtcTime, Utf8String,
+    Integer, IntegerType, LONGEST_NUMBER, LawfulEq, NumericString, NumericType, ObjectIdentifier,
+    OctetString, Present, PrintableString, PrintableType, PrivateTag, RealType, RestrictedString,
+    SetOf, StringType, Tag, TeletexString, TeletexType, TryClone, Units, UtcTime, Utf8String,
     VisibleString, VisibleType,
 };
