@@ -192,7 +192,11 @@ static inline soq_status soq_skip(soq_rule rule, const uint8_t *octets, size_t l
 }
 
 /*
- * Whether the octets are the one DER encoding of a value of the type.
+ * Returns whether the octets are the one DER encoding of a value of the type.
+ *
+ * It doesn't look into open types, such as the parameters of an algorithm and the values in a name, nor into the octets of an extension. An
+ * open type is an identifier and a definite length, in any spelling, and any contents. SOQ_ANY is one: of `02 81 01 05` the answer is
+ * SOQ_OK, although its length isn't in the fewest octets.
  *
  * SOQ_OK: they are: all of them are one value under DER, and its encoding is they and no others.
  * SOQ_REFUSED: they aren't. `soq_decode_error` by SOQ_DER says why.

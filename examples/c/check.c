@@ -1,6 +1,6 @@
 /*
  * Checks that a file is one certificate in PEM or DER: whether its octets are the one DER encoding of a certificate (RFC 5280), and if
- * they aren't, where and why. Its signature and dates aren't checked.
+ * they aren't, why. Its signature and dates aren't checked, nor what its open types hold, such as the values in names.
  */
 #include <soqavise.h>
 

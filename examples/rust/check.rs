@@ -1,4 +1,4 @@
-//! Checks that a file is one certificate in PEM or DER, as `examples/c/check.c` does.
+//! Checks that a file is one certificate in PEM or DER, as `examples/c/check.c` does. It needs Rust 1.82 or later.
 #[allow(dead_code)]
 mod soqavise;
 

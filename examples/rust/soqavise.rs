@@ -1,4 +1,4 @@
-//! The library for C as safe Rust. References keep what its functions owe to a header: that nothing is null, and that what is written
+//! The library for C as safe Rust, for Rust 1.82 and later. References keep what its functions owe to a header: that nothing is null, and that what is written
 //! overlaps nothing else. So these call the proved functions without a test.
 use std::fmt;
 
@@ -51,7 +51,8 @@ pub struct Passed {
     pub steps: usize,
 }
 
-/// Why octets aren't one value: the kind of the error (`soq_kind` of the header), where the part begins that isn't read, and a text.
+/// Why octets aren't one value: the kind of the error (`soq_kind` of the header), a text, and an offset: where what follows the value
+/// begins, or 0 where no value is read. Which part is refused isn't told.
 #[derive(Clone, Debug, PartialEq, Eq)]
 pub struct Fault {
     pub kind: u32,
@@ -113,7 +114,7 @@ pub fn skip(rule: Rule, octets: &[u8]) -> Result<Passed, Refusal> {
     Ok(passed)
 }
 
-/// Whether the octets are the one DER encoding of a value of the type.
+/// Returns whether the octets are the one DER encoding of a value of the type. What open types hold isn't checked.
 pub fn check(kind: Type, octets: &[u8]) -> Result<(), Refusal> {
     answer(unsafe { soq_proved_check(kind as u32, octets.as_ptr(), octets.len()) })
 }
