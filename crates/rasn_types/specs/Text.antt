@@ -18,20 +18,20 @@ two_digits b = digit_glyph true (b / 16) ∷ digit_glyph true (b % 16) ∷ []
 abbrev pub hexadecimal : List ℕ → List ℕ
 hexadecimal l = flat_map two_digits l
 
--- The fewest octets of a whole number in two's complement (X.690 8.3): its digits to the base 256, behind a zero octet where the first bit would be
--- set; those of a number below 0 are the complements of those of -1 less the number.
-abbrev pub behind_sign : List ℕ → List ℕ
-behind_sign [] = 0 ∷ []
-behind_sign (b ∷ l) = if nat_lt b 128 then b ∷ l else 0 ∷ b ∷ l
+-- The fewest octets of a whole number in two's complement (X.690 8.3): its digits to the base 256, after a zero octet where the first bit would be
+-- set. Those of a number below 0 are the complements of those of -1 less the number.
+abbrev pub after_sign : List ℕ → List ℕ
+after_sign [] = 0 ∷ []
+after_sign (b ∷ l) = if nat_lt b 128 then b ∷ l else 0 ∷ b ∷ l
 
 abbrev pub complement : List ℕ → List ℕ
 complement l = map (λ b. 255 - b) l
 
 unfoldable pub fewest_octets : ℤ → List ℕ
-fewest_octets (pos n) = behind_sign (digits_of 256 n)
-fewest_octets (negsuc n) = complement (behind_sign (digits_of 256 n))
+fewest_octets (pos n) = after_sign (digits_of 256 n)
+fewest_octets (negsuc n) = complement (after_sign (digits_of 256 n))
 
--- Decimal if 128 bits hold the number, with a sign or without one, else its octets in hexadecimal behind 0x.
+-- Decimal if 128 bits hold the number, with a sign or without one, else its octets in hexadecimal after 0x.
 abbrev pub is_of_128_bits : ℤ → Bool
 is_of_128_bits (pos n) = nat_lt n (2 ^ 128)
 is_of_128_bits (negsuc n) = nat_lt n (2 ^ 127)

@@ -13,7 +13,7 @@ use Rattle.rasn_types.specs.Framing.{number_in, AreOctets}
 use Rattle.rasn_types.specs.Contents.{signed, IsShortestInteger, RepeatsSign}
 use Rattle.rasn_types.specs.Shapes.{IsIn}
 use Rattle.rasn_types.specs.Trees.{IsShortestOf, signed_range, unsigned_range}
-use Rattle.rasn_types.specs.Text.{behind_sign, complement, fewest_octets, is_of_128_bits, shown_number, hexadecimal}
+use Rattle.rasn_types.specs.Text.{after_sign, complement, fewest_octets, is_of_128_bits, shown_number, hexadecimal}
 use Rattle.rasn_types.proofs.Integer.TwosComplement.{below_power, first_digit, signed_low, signed_high, negative, half}
 use Rattle.rasn_types.proofs.Integer.Shortest.{same_shortest}
 
@@ -38,10 +38,10 @@ number_of_digits n =
     plain : (p m : ℕ) {k : ℕ} → 0 * p + m ≡ k → m ≡ k
     plain p m e = omega arith
 
--- The digits of a number, behind the sign, are its fewest octets.
-digits_behind_sign : (n : ℕ) (l : List ℕ) → AreOctets l → (0 < length l → 0 < get_or l 0 0) → number_in 256 l ≡ n → IsShortestOf (pos n) (behind_sign l)
-digits_behind_sign n [] o f e = record { is = ap pos e; shortest = tt; octets = (omega arith, tt) }
-digits_behind_sign n (b ∷ l) o f e = go (nat_lt b 128) refl
+-- The digits of a number, after the sign, are its fewest octets.
+digits_after_sign : (n : ℕ) (l : List ℕ) → AreOctets l → (0 < length l → 0 < get_or l 0 0) → number_in 256 l ≡ n → IsShortestOf (pos n) (after_sign l)
+digits_after_sign n [] o f e = record { is = ap pos e; shortest = tt; octets = (omega arith, tt) }
+digits_after_sign n (b ∷ l) o f e = go (nat_lt b 128) refl
   where
     first : 0 < b
     first = f (omega arith)
@@ -71,9 +71,9 @@ digits_behind_sign n (b ∷ l) o f e = go (nat_lt b 128) refl
           octets = (omega arith, o);
         }
 
-number_behind_sign : (n : ℕ) → IsShortestOf (pos n) (behind_sign (digits_of 256 n))
-number_behind_sign n =
-    digits_behind_sign n (digits_of 256 n) (are_digits (digits_of 256 n) (all_below_base_digits_of 256 n (omega arith))) (first n) (number_of_digits n)
+number_after_sign : (n : ℕ) → IsShortestOf (pos n) (after_sign (digits_of 256 n))
+number_after_sign n =
+    digits_after_sign n (digits_of 256 n) (are_digits (digits_of 256 n) (all_below_base_digits_of 256 n (omega arith))) (first n) (number_of_digits n)
   where
     first : (n : ℕ) → 0 < length (digits_of 256 n) → 0 < get_or (digits_of 256 n) 0 0
     first zero h = absurd (omega arith)
@@ -125,8 +125,8 @@ complement_of n (b ∷ l) s = record { is = go (half b); shortest = complement_s
 
 pub fewest : (z : ℤ) → IsShortestOf z (fewest_octets z)
 unfolding fewest_octets
-fewest (pos n) = number_behind_sign n
-fewest (negsuc n) = complement_of n (behind_sign (digits_of 256 n)) (number_behind_sign n)
+fewest (pos n) = number_after_sign n
+fewest (negsuc n) = complement_of n (after_sign (digits_of 256 n)) (number_after_sign n)
 
 -- The octets of a number are those that it is shown by.
 fewest_is : (l : List ℕ) (z : ℤ) → IsShortestOf z l → fewest_octets z ≡ l

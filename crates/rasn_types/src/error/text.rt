@@ -81,15 +81,15 @@ impl fmt::Display for DecodeErrorKind {
                 )
             }
             Kind::DiscriminantValueNotFound { discriminant } => {
-                behind(f, "no enumeration item has the number ", discriminant)
+                after(f, "no enumeration item has the number ", discriminant)
             }
-            Kind::InvalidBitString { bits } => behind(f, "invalid number of unused bits: ", bits),
+            Kind::InvalidBitString { bits } => after(f, "invalid number of unused bits: ", bits),
             Kind::SizeConstraintNotSatisfied { size, expected } => write_size(f, *size, expected),
             Kind::ValueConstraintNotSatisfied { value, expected } => {
                 outside(f, "number ", value, expected)
             }
             Kind::PermittedAlphabetError { octet, position } => write_place(f, *octet, *position),
-            Kind::StringConversionFailed { tag } => behind(f, "invalid string of type ", tag),
+            Kind::StringConversionFailed { tag } => after(f, "invalid string of type ", tag),
             Kind::NoValidChoice { name } => around(f, "no alternative of `", name, "` has the tag"),
             Kind::MissingField { name } => around(f, "missing component `", name, "`"),
             Kind::DuplicateField { name } => around(f, "duplicate component `", name, "`"),
@@ -128,7 +128,7 @@ impl fmt::Display for BerDecodeErrorKind {
             }
             Kind::InvalidDate { octets } => {
                 let shown = Hexadecimal(octets);
-                return behind(f, "invalid time, octets ", &shown);
+                return after(f, "invalid time, octets ", &shown);
             }
             Kind::UnsupportedTagNumber => "tag number exceeds 32 bits",
             Kind::UnsupportedObjectIdentifierArc => "OBJECT IDENTIFIER arc exceeds 32 bits",
@@ -240,8 +240,8 @@ fn write_under<W: fmt::Write, K: fmt::Display>(
     write!(f, "{codec}: {kind}")
 }
 
-// A value behind a text.
-fn behind<W: fmt::Write, T: fmt::Display>(
+// A value after a text.
+fn after<W: fmt::Write, T: fmt::Display>(
     f: &mut fmt::Formatter<W>,
     front: &str,
     value: &T,
@@ -330,7 +330,7 @@ fn write_size<W: fmt::Write>(
 {
     match size {
         Some(size) => outside(f, "size ", &size, expected),
-        None => behind(f, "size violates the constraint ", expected),
+        None => after(f, "size violates the constraint ", expected),
     }
 }
 
