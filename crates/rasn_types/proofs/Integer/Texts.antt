@@ -1,10 +1,10 @@
 -- The octets that a whole number is shown by.
-use Rattle.std.proofs.Common.{◌≡◌, ℕ, zero, suc, ◌+◌, ◌-◌, ◌*◌, ◌^◌, ◌%◌, ◌/◌, ◌<◌, ◌≤◌, ◌⊎◌, inl, inr, Bool, true, false, nat_lt, if◌then◌else◌, List, [], ◌∷◌, ◌++◌, length, get_or, map, ℤ, pos, negsuc, neg_ℤ, ◌-ℤ◌, ◌≤ℤ◌, ◌<ℤ◌, FitsSigned, codes, refl, sym, ap, ap₂, ◌∙◌, subst, arith}
+use Rattle.std.proofs.Common.{◌≡◌, ℕ, zero, suc, ◌+◌, ◌-◌, ◌*◌, ◌^◌, ◌<◌, ◌≤◌, ◌⊎◌, inl, inr, Bool, true, false, nat_lt, if◌then◌else◌, List, [], ◌∷◌, ◌++◌, length, get_or, ℤ, pos, negsuc, ◌-ℤ◌, ◌<ℤ◌, FitsSigned, codes, refl, sym, ap, ◌∙◌, arith}
 use Rattle.std.specs.Int.{w128}
 use Rattle.std.specs.List.{AllByRecursion}
 use Rattle.std.specs.Fmt.{decimal, signed_decimal}
-use Rattle.std.specs.Int.Digits.{digits_of, number_from_digits, number_from_digits_after}
-use Rattle.std.proofs.Math.Nat.{pow-succ', mod-eq_of_lt}
+use Rattle.std.specs.Int.Digits.{digits_of, number_from_digits_after}
+use Rattle.std.proofs.Math.Nat.{pow-succ'}
 use Rattle.std.proofs.lemmas.Int.{ints}
 use Rattle.std.proofs.lemmas.Bool.{ltb-true, ltb-false, lt-ltb, le-ltb, cases_order}
 use Rattle.std.proofs.lemmas.List.{length-map}
@@ -13,8 +13,8 @@ use Rattle.rasn_types.specs.Framing.{number_in, AreOctets}
 use Rattle.rasn_types.specs.Contents.{signed, IsShortestInteger, RepeatsSign}
 use Rattle.rasn_types.specs.Shapes.{IsIn}
 use Rattle.rasn_types.specs.Trees.{IsShortestOf, signed_range, unsigned_range}
-use Rattle.rasn_types.specs.Text.{after_sign, complement, fewest_octets, is_of_128_bits, shown_number, hexadecimal}
-use Rattle.rasn_types.proofs.Integer.TwosComplement.{below_power, first_digit, signed_low, signed_high, negative, half}
+use Rattle.rasn_types.specs.Text.{after_sign, complement, fewest_octets, shown_number, hexadecimal}
+use Rattle.rasn_types.proofs.Integer.TwosComplement.{first_digit, signed_low, signed_high, negative, half}
 use Rattle.rasn_types.proofs.Integer.Shortest.{same_shortest}
 
 -- digits are octets

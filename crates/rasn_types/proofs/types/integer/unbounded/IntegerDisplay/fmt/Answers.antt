@@ -1,7 +1,6 @@
-use Rattle.std.proofs.Common.{rules, ◌≡◌, ◌<◌, ◌^◌, ℤ, pos, sym, ap, ◌∙◌, FitsSigned}
+use Rattle.std.proofs.Common.{rules, FitsSigned}
 use Rattle.std.specs.Int.{w128}
 use Rattle.std.proofs.lemmas.Int.{to_z-of_z}
-use Rattle.rasn_types.specs.Contents.{signed}
 use Rattle.rasn_types.proofs.Integer.Texts.{shown_signed, shown_unsigned, shown_long}
 use Rattle.rasn_types.proofs.types.integer.unbounded.IntegerDisplay.fmt.Goals as goal
 
