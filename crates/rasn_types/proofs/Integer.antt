@@ -3,3 +3,4 @@ pub mod Octets
 pub mod Order
 pub mod Shortest
 pub mod TwosComplement
+pub mod Texts

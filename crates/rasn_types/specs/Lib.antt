@@ -31,5 +31,6 @@ pub mod OwnTypes
 pub mod OwnEnumerated
 pub mod Deciding
 pub mod Text
+pub mod ErrorText
 pub mod SmallOctets
 pub mod Inline

@@ -1,11 +1,15 @@
 -- What values are shown as.
-use Rattle.std.specs.Prelude.{◌≡◌, ℕ, ◌<◌, ◌^◌, ◌≤◌, length, slice_index, All, ◌/◌, ◌%◌, Bool, true, false, List, [], ◌∷◌, ◌++◌, map}
+use Rattle.std.specs.Prelude.{◌≡◌, ℕ, ◌<◌, ◌-◌, ◌^◌, ◌≤◌, length, slice_index, All, ◌/◌, ◌%◌, Bool, true, false, List, [], ◌∷◌, ◌++◌, map, ℤ, pos, negsuc, nat_lt, if◌then◌else◌, codes, Option, Some, None}
 use Rattle.std.specs.List.{flat_map}
-use Rattle.std.specs.Fmt.{decimal, digit_glyph}
+use Rattle.std.specs.Fmt.{decimal, signed_decimal, digit_glyph, ◌++?◌}
+use Rattle.std.specs.Int.Digits.{digits_of}
 use Rattle.rasn_types.specs.Calendar.{Day, Moment}
 use Rattle.rasn_types.specs.Numbered.{AreArcs}
 use Rattle.rasn_types.specs.TimeSpelling.{two}
 use Rattle.rasn_types.specs.Time.{written_year, written_second, within_second, written_fraction}
+use Rattle.rasn_types.specs.Tags.{Tag, Class, Universal, Application, Context, Private, Codec, Ber, Cer, Der}
+use Rattle.rasn_types.specs.declared.types.constraints.Bounded.{Bounded}
+use Rattle.rasn_types.specs.declared.types.constraints.Bounded.TheVariants.{None as Free, Single, Range}
 
 -- two hexadecimal digits, in capitals
 abbrev pub two_digits : ℕ → List ℕ
@@ -13,6 +17,53 @@ two_digits b = digit_glyph true (b / 16) ∷ digit_glyph true (b % 16) ∷ []
 
 abbrev pub hexadecimal : List ℕ → List ℕ
 hexadecimal l = flat_map two_digits l
+
+-- The fewest octets of a whole number in two's complement (X.690 8.3): its digits to the base 256, after a zero octet where the first bit would be
+-- set. Those of a number below 0 are the complements of those of -1 less the number.
+abbrev pub after_sign : List ℕ → List ℕ
+after_sign [] = 0 ∷ []
+after_sign (b ∷ l) = if nat_lt b 128 then b ∷ l else 0 ∷ b ∷ l
+
+abbrev pub complement : List ℕ → List ℕ
+complement l = map (λ b. 255 - b) l
+
+unfoldable pub fewest_octets : ℤ → List ℕ
+fewest_octets (pos n) = after_sign (digits_of 256 n)
+fewest_octets (negsuc n) = complement (after_sign (digits_of 256 n))
+
+-- Decimal if 128 bits hold the number, with a sign or without one, else its octets in hexadecimal after 0x.
+abbrev pub is_of_128_bits : ℤ → Bool
+is_of_128_bits (pos n) = nat_lt n (2 ^ 128)
+is_of_128_bits (negsuc n) = nat_lt n (2 ^ 127)
+
+unfoldable pub shown_number : ℤ → List ℕ
+shown_number z = if is_of_128_bits z then signed_decimal z else codes "0x" ++ hexadecimal (fewest_octets z)
+
+-- A range as X.680 51.4 writes it, MIN and MAX for open ends.
+abbrev pub shown_end : {X : Type 0} → (X → Option (List ℕ)) → List ℕ → Option X → Option (List ℕ)
+shown_end shown word None = Some word
+shown_end shown word (Some x) = shown x
+
+abbrev pub shown_bounds : {X : Type 0} → (X → Option (List ℕ)) → Bounded X → Option (List ℕ)
+shown_bounds shown Free = Some (codes "MIN..MAX")
+shown_bounds shown (Single x) = shown x
+shown_bounds shown (Range start end) = shown_end shown (codes "MIN") start ++? Some (codes "..") ++? shown_end shown (codes "MAX") end
+
+-- A context tag as [2], and another with its class, as universal 16.
+abbrev pub shown_in_class : Class → List ℕ → List ℕ
+shown_in_class Universal n = codes "universal " ++ n
+shown_in_class Application n = codes "application " ++ n
+shown_in_class Context n = codes "[" ++ (n ++ codes "]")
+shown_in_class Private n = codes "private " ++ n
+
+abbrev pub shown_tag : Tag → List ℕ
+shown_tag tag = shown_in_class tag.class (decimal tag.value)
+
+-- the encoding rules
+abbrev pub shown_rules : Codec → List ℕ
+shown_rules Ber = codes "BER"
+shown_rules Cer = codes "CER"
+shown_rules Der = codes "DER"
 
 -- a bit as a digit, and bits as a value is written in ASN.1 (X.680 12.10)
 abbrev pub bit_digit : Bool → ℕ

@@ -12,7 +12,7 @@ use Rattle.rasn_types.specs.Shapes.{IsIn}
 use Rattle.rasn_types.specs.Trees.{signed_range}
 use Rattle.rasn_types.proofs.Headers.Digits.{number_lt}
 
-half : (b : ℕ) → (b < 128) ⊎ (128 ≤ b)
+pub half : (b : ℕ) → (b < 128) ⊎ (128 ≤ b)
 half b = go (cases_order b 128)
   where
     go : (b ≡ 128) ⊎ ((b < 128) ⊎ (128 < b)) → (b < 128) ⊎ (128 ≤ b)

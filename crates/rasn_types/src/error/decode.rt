@@ -3,9 +3,7 @@ ghost use Rattle.std.specs.Prelude.{◌≡◌, if◌then◌else◌, nat_eq};
 ghost use Rattle.rasn_types.specs.Errors.{needed_of, IsOutOfMemory};
 ghost use Rattle.rasn_types.specs.Truth.{IsWhether};
 
-use crate::hexadecimal::Hexadecimal;
 use crate::types::{Bounded, Codec, Integer, Tag};
-use thiserror::Error;
 
 /// How many more octets are needed.
 #[derive(Clone, Copy, Debug, PartialEq, Eq)]
@@ -30,8 +28,7 @@ impl Needed {
 }
 
 /// Why a value isn't read, and under which rules.
-#[derive(Debug, PartialEq, Eq, Drop, Error)]
-#[error("{codec}: {kind}")]
+#[derive(Debug, PartialEq, Eq, Drop)]
 pub struct DecodeError {
     /// What is wrong.
     pub kind: DecodeErrorKind,
@@ -131,80 +128,58 @@ pub enum DecodeErrorKind {
 }
 
 /// A cause that only some rules have.
-#[derive(Debug, PartialEq, Eq, Drop, Error)]
+#[derive(Debug, PartialEq, Eq, Drop)]
 pub enum CodecDecodeError {
-    #[error("{0}")]
     Ber(BerDecodeErrorKind),
-    #[error("{0}")]
     Der(DerDecodeErrorKind),
 }
 
 /// Causes of X.690 8, under all three rules.
-#[derive(Debug, PartialEq, Eq, Drop, Error)]
+#[derive(Debug, PartialEq, Eq, Drop)]
 pub enum BerDecodeErrorKind {
     /// A tag number of 2^32 or more (X.690 8.1.2.4).
-    #[error("tag number exceeds 32 bits")]
     UnsupportedTagNumber,
     /// An arc of 2^32 or more (X.690 8.19).
-    #[error("OBJECT IDENTIFIER arc exceeds 32 bits")]
     UnsupportedObjectIdentifierArc,
     /// End-of-contents octets stand where a value has to (X.690 8.1.5).
-    #[error("unexpected end-of-contents octets")]
     UnexpectedEndOfContents,
     /// A value stands where end-of-contents octets have to (X.690 8.1.5).
-    #[error("missing end-of-contents octets")]
     MissingEndOfContents,
     /// The indefinite form isn't allowed here (X.690 8.1.3.2, 10.1).
-    #[error("indefinite length is not allowed")]
     IndefiniteLengthNotAllowed,
     /// `FF` as the first length octet (X.690 8.1.3.5).
-    #[error("reserved length octet FF")]
     ReservedLengthOctet,
     /// Another tag than the expected one.
-    #[error("unexpected tag {actual}, expected {expected}")]
     MismatchedTag { expected: Tag, actual: Tag },
     /// A SEQUENCE, SET or list without the constructed bit (X.690 8.9.1).
-    #[error("primitive encoding, expected constructed")]
     InvalidConstructedIdentifier,
     /// Arcs that aren't an object identifier's.
-    #[error("invalid OBJECT IDENTIFIER")]
     InvalidObjectIdentifier,
     /// The text isn't of the time type.
-    #[error("invalid time, octets {}", Hexadecimal(.octets))]
     InvalidDate { octets: Vec<u8> },
 }
 
 /// Causes of X.690 10 and 11, under DER: another encoding of the value than the one that DER writes.
-#[derive(Clone, Copy, Debug, PartialEq, Eq, Error)]
+#[derive(Clone, Copy, Debug, PartialEq, Eq)]
 pub enum DerDecodeErrorKind {
     /// A string in segments (X.690 10.2).
-    #[error("constructed encoding of a string is not allowed")]
     ConstructedEncodingNotAllowed,
     /// A tag number in more octets than it needs (X.690 8.1.2.4.2).
-    #[error("tag number is not in the fewest octets")]
     NonMinimalTagNumber,
     /// The constructed bit isn't the one that the type is written with (X.690 8.1.2.5).
-    #[error("constructed bit does not match the type")]
     ConstructedBitMismatch,
     /// A length in more octets than it needs (X.690 10.1).
-    #[error("length is not in the fewest octets")]
     NonMinimalLength,
     /// A number whose first nine bits are equal (X.690 8.3.2).
-    #[error("number is not in the fewest octets")]
     NonMinimalInteger,
     /// A subidentifier of an object identifier in more octets than it needs (X.690 8.19.2).
-    #[error("OBJECT IDENTIFIER arc is not in the fewest octets")]
     NonMinimalArc,
     /// An unused bit of a BIT STRING is set (X.690 11.2.1).
-    #[error("unused bits of a BIT STRING are not zero")]
     NonzeroUnusedBits,
     /// A part that equals its default is there (X.690 11.5).
-    #[error("component with its DEFAULT value is encoded")]
     DefaultValuePresent,
     /// The tags of the components of a SET aren't in ascending order (X.690 10.3).
-    #[error("components of a SET are not in ascending order of tags")]
     SetComponentsOutOfOrder,
     /// The octets of the elements of a SET OF aren't in ascending order (X.690 11.6).
-    #[error("elements of a SET OF are not in ascending order")]
     SetOfOutOfOrder,
 }

@@ -1,5 +1,7 @@
 //! Constraints on values and on sizes (X.680 51).
 ghost use Rattle.std.specs.Prelude.{◌≡◌, ◌^◌, ◌<◌, ◌≤◌, ◌≤ℤ◌, ◌<ℤ◌, length, ℤ, pos, neg_ℤ};
+ghost use Rattle.std.specs.Fmt.{DisplaysOnOk};
+ghost use Rattle.rasn_types.specs.Text.{shown_end};
 ghost use Rattle.rasn_types.specs.Truth.{IsWhether};
 ghost use Rattle.rasn_types.specs.Contents.{signed};
 ghost use Rattle.rasn_types.specs.Shapes.{Admits, IsIn, IsWithin, constraint_of};
@@ -18,6 +20,10 @@ pub enum Bounded<T> {
 
 /// As the standard writes a range, `MIN` and `MAX` for open ends (X.680 51.4).
 impl<T: fmt::Display> fmt::Display for Bounded<T> {
+    ghost use Rattle.rasn_types.specs.Text.{shown_bounds};
+
+    ghost output = { shown_bounds T.output };
+
     fn fmt<W: fmt::Write>(&self, f: &mut fmt::Formatter<W>) -> fmt::Result {
         match self {
             Bounded::None => f.write_str("MIN..MAX"),
@@ -31,11 +37,14 @@ impl<T: fmt::Display> fmt::Display for Bounded<T> {
     }
 }
 
+// An end of a range, or what stands for an open one.
 fn write_end<W: fmt::Write, T: fmt::Display>(
     f: &mut fmt::Formatter<W>,
     end: &Option<T>,
     open_end: &str,
-) -> fmt::Result {
+) -> fmt::Result
+    ensures { DisplaysOnOk W.write_str_gives f.old result (shown_end T.output open_end.now end.now) f.new }
+{
     match end {
         Some(end) => write!(f, "{end}"),
         None => f.write_str(open_end),

@@ -184,6 +184,11 @@ impl Tag {
 
 /// The number in brackets for a context tag, as `[2]`, and else the class and the number, as `universal 16`.
 impl fmt::Display for Tag {
+    ghost use Rattle.std.specs.Prelude.{Some};
+    ghost use Rattle.rasn_types.specs.Text.{shown_tag};
+
+    ghost output = { λ tag. Some (shown_tag tag) };
+
     fn fmt<W: fmt::Write>(&self, f: &mut fmt::Formatter<W>) -> fmt::Result {
         let value = self.value;
         match self.class {

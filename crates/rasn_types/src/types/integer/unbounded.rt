@@ -103,6 +103,11 @@ impl Integer {
 
 /// The number in decimal if `i128` or `u128` holds it, else its octets in two's complement, in hexadecimal after `0x`.
 impl fmt::Display for Integer {
+    ghost use Rattle.std.specs.Prelude.{Some};
+    ghost use Rattle.rasn_types.specs.Text.{shown_number};
+
+    ghost output = { λ n. Some (shown_number n) };
+
     fn fmt<W: fmt::Write>(&self, f: &mut fmt::Formatter<W>) -> fmt::Result {
         let octets = self.octets.as_slice();
         if let Some(number) = signed_i128(octets) {
