@@ -1,43 +1,59 @@
--- The parts of a SET as types: what has come of each, and the parts that this makes.
-use Rattle.std.specs.Prelude.{◌≡◌, ◌≢◌, ◌⊎◌, ℕ, zero, suc, ◌+◌, List, [], ◌∷◌, length, Bool, Option, Some, None, Result, Ok, Err}
+-- The parts of a SET as types: what their slots hold while components are read, and what is made of them.
+use Rattle.std.specs.Prelude.{◌≡◌, ◌≢◌, ◌⊎◌, ℕ, zero, suc, ◌+◌, List, [], ◌∷◌, ◌++◌, length, Option, Some, None, Result, Ok, Err}
+use Rattle.std.specs.Borrow.{Bor}
 use Rattle.rasn_types.specs.declared.types.codec.Codec.{Codec}
+use Rattle.rasn_types.specs.declared.types.tag.Tag.{Tag}
 use Rattle.rasn_types.specs.declared.error.decode.DecodeError.{DecodeError}
 use Rattle.rasn_types.specs.Errors.{IsOutOfMemory}
-use Rattle.rasn_types.specs.Shapes.{Tree, chosen, items, choice, Parts, part, Presence, presences}
+use Rattle.rasn_types.specs.Shapes.{Tree, chosen, items, choice, Parts, part, Presence, required, presences}
 use Rattle.rasn_types.specs.Shapes.Parts.{none}
-use Rattle.rasn_types.specs.Readings.{Reading, IsMissing, ReadsChoice, ReadsSet}
-use Rattle.rasn_types.specs.Grammar.{parts_of}
-use Rattle.rasn_de.specs.State.{State}
-use Rattle.rasn_de.specs.Outcomes.{Exact, Got, refusal}
+use Rattle.rasn_types.specs.Readings.{IsMissing, NoneOf, OneOf}
+use Rattle.rasn_de.specs.State.{State, Call}
+use Rattle.rasn_de.specs.Outcomes.{Got, refusal}
+use Rattle.rasn_de.specs.NamedErrors.{IsNamedError, IsMissingField, IsDuplicateField}
 use Rattle.rasn_de.specs.Decodes.{DecodesExactly, Decodes}
+use Rattle.rasn_de.specs.Constructed.{sequence_header, DecodesInside}
 use Rattle.rasn_de.specs.SequenceOf.{FailsAtElement}
+use Rattle.rasn_de.specs.Set.{DecodesComponents, DecodesSetContents, AreParts}
 use Rattle.rasn_de.specs.AlternativeTypes.{ReadsNumbered}
 
--- What stands in a SET of these parts.
-abbrev pub ReadsSetParts : Parts → Codec → ℕ → Bool → Reading Tree
-ReadsSetParts ps rule depth closing = ReadsSet rule (presences ps) (ReadsChoice rule 0 (parts_of rule ps depth closing)) closing
-
--- what has come of a part
+-- what a slot holds
 abbrev pub held_tree : {T : Type 0} → (T → Tree) → Option T → Option Tree
 held_tree tree None = None
 held_tree tree (Some v) = Some (tree v)
 
--- Nothing has come of these parts.
-abbrev pub AreNone : Parts → List (Option Tree) → Type 0
-AreNone none held = held ≡ []
-AreNone (part p s ps) held = (others : List (Option Tree)) × (held ≡ None ∷ others) × AreNone ps others
+-- the octets of a name that is borrowed
+abbrev pub text : Bor (List ℕ) → List ℕ
+text name = name.now
 
--- Part k has come.
-abbrev pub HasCome : List (Option Tree) → ℕ → Type 0
-HasCome [] k = ⊥
-HasCome (h ∷ held) zero = h ≢ None
-HasCome (h ∷ held) (suc k) = HasCome held k
+-- the name of part k; it is empty where the names don't go so far
+abbrev pub name_at : List (List ℕ) → ℕ → List ℕ
+name_at [] k = []
+name_at (n ∷ names) zero = n
+name_at (n ∷ names) (suc k) = name_at names k
 
--- Part k hadn't come, and is added as this tree.
-abbrev pub IsAddedAt : List (Option Tree) → ℕ → Tree → List (Option Tree) → Type 0
-IsAddedAt [] k u held = ⊥
-IsAddedAt (h ∷ before) zero u held = (h ≡ None) × (held ≡ Some u ∷ before)
-IsAddedAt (h ∷ before) (suc k) u held = (others : List (Option Tree)) × (held ≡ h ∷ others) × IsAddedAt before k u others
+-- There is a part k.
+abbrev pub IsPart : ℕ → Parts → Type 0
+IsPart k none = ⊥
+IsPart zero (part p s ps) = Unit {0}
+IsPart (suc k) (part p s ps) = IsPart k ps
+
+-- The slots of these parts are empty.
+abbrev pub AreEmpty : Parts → List (Option Tree) → Type 0
+AreEmpty none held = held ≡ []
+AreEmpty (part p s ps) held = (others : List (Option Tree)) × (held ≡ None ∷ others) × AreEmpty ps others
+
+-- The slot of part k is filled.
+abbrev pub IsFilled : List (Option Tree) → ℕ → Type 0
+IsFilled [] k = ⊥
+IsFilled (h ∷ held) zero = h ≢ None
+IsFilled (h ∷ held) (suc k) = IsFilled held k
+
+-- The slot of part k was empty, and now holds this tree.
+abbrev pub IsPlacedAt : List (Option Tree) → ℕ → Tree → List (Option Tree) → Type 0
+IsPlacedAt [] k u held = ⊥
+IsPlacedAt (h ∷ before) zero u held = (h ≡ None) × (held ≡ Some u ∷ before)
+IsPlacedAt (h ∷ before) (suc k) u held = (others : List (Option Tree)) × (held ≡ h ∷ others) × IsPlacedAt before k u others
 
 -- The component is read as part k, whatever number the first part has.
 pub record ReadsPartAt (ps : Parts) (k : ℕ) (u : Tree) (old new : State) : Type 0 where
@@ -47,28 +63,33 @@ pub record ReadsPartAt (ps : Parts) (k : ℕ) (u : Tree) (old new : State) : Typ
 pub record RefusesPart (ps : Parts) (e : DecodeError) (old new : State) : Type 0 where
   pub from : (j : ℕ) → DecodesExactly (ReadsNumbered j ps) old (refusal e.kind) new
 
--- A value is put where its part is; or the part has come before.
-abbrev pub IsPlaced : {T : Type 0} → Option T → T → Result (Unit {0}) DecodeError → Option T → Type 0
-IsPlaced before v (Ok done) after = (before ≡ None) × (after ≡ Some v)
-IsPlaced before v (Err e) after = before ≢ None
+-- An empty slot is filled with a value; or it is filled already, and the part's name is told.
+abbrev pub IsPlaced : {T : Type 0} → Option T → T → List ℕ → Option (Bor (List ℕ)) → Option T → Type 0
+IsPlaced before v name None after = (before ≡ None) × (after ≡ Some v)
+IsPlaced before v name (Some told) after = (before ≢ None) × (after ≡ before) × (text told ≡ name)
 
--- The value is what has come, or one that means the default where nothing has; it is refused where memory runs out.
+-- The value is the one in the slot, or one that means the default where that is empty; it is refused where memory runs out.
 abbrev pub IsOrDefault : {T : Type 0} → (T → Tree) → Tree → Option T → Result T DecodeError → Type 0
-IsOrDefault tree d came (Ok v) = (came ≡ Some v) ⊎ ((came ≡ None) × (tree v ≡ d))
-IsOrDefault tree d came (Err e) = IsOutOfMemory e.kind
+IsOrDefault tree d slot (Ok v) = (slot ≡ Some v) ⊎ ((slot ≡ None) × (tree v ≡ d))
+IsOrDefault tree d slot (Err e) = IsOutOfMemory e.kind
 
--- The component that is next is read as a part that hadn't come; or it isn't read, or comes a second time.
-abbrev pub DecodesPlaced : Parts → List (Option Tree) → State → Result (Unit {0}) DecodeError → State → List (Option Tree) → Type 0
-DecodesPlaced ps before old (Ok done) new held = (k : ℕ) × (u : Tree) × IsAddedAt before k u held × ReadsPartAt ps k u old new
-DecodesPlaced ps before old (Err e) new held = RefusesPart ps e old new ⊎ ((k : ℕ) × (u : Tree) × HasCome before k × ReadsPartAt ps k u old new)
+module _ (ps : Parts) (names : List (List ℕ)) (before : List (Option Tree)) (old : State) where
+  -- The component that is next is read as a part, whose empty slot it fills, or whose name is told where that is filled; or it is no part.
+  abbrev pub DecodesPlaced : Result (Option (Bor (List ℕ))) DecodeError → State → List (Option Tree) → Type 0
+  DecodesPlaced (Ok None) new held = (k : ℕ) × (u : Tree) × IsPlacedAt before k u held × ReadsPartAt ps k u old new
+  DecodesPlaced (Ok (Some told)) new held = (k : ℕ) × (u : Tree) × IsFilled before k × (held ≡ before) × (text told ≡ name_at names k) × ReadsPartAt ps k u old new
+  DecodesPlaced (Err e) new held = RefusesPart ps e old new
 
--- One more component is read, and took something.
-abbrev pub DecodesNext : Parts → List (Option Tree) → State → Result (Unit {0}) DecodeError → State → List (Option Tree) → Type 0
-DecodesNext ps before old (Ok done) new held = (k : ℕ) × (u : Tree) × IsAddedAt before k u held × Decodes (choice ps) (λ (t : Tree). t) old (Ok (chosen k u)) new × (length new.rest ≢ length old.rest)
-DecodesNext ps before old (Err e) new held = FailsAtElement (Decodes (choice ps) (λ (t : Tree). t)) old e new
-    ⊎ ((k : ℕ) × (u : Tree) × HasCome before k × Decodes (choice ps) (λ (t : Tree). t) old (Ok (chosen k u)) new)
+  abbrev pub DecodesComponent : ℕ → Tree → State → Type 0
+  DecodesComponent k u new = Decodes (choice ps) (λ (t : Tree). t) old (Ok (chosen k u)) new × (length new.rest ≢ length old.rest)
 
--- Each part is what has come of it, or what stands in its place where it may be left out.
+  -- One more component is read so, and took something.
+  abbrev pub DecodesNext : Result (Option (Bor (List ℕ))) DecodeError → State → List (Option Tree) → Type 0
+  DecodesNext (Ok None) new held = (k : ℕ) × (u : Tree) × IsPlacedAt before k u held × DecodesComponent k u new
+  DecodesNext (Ok (Some told)) new held = (k : ℕ) × (u : Tree) × IsFilled before k × (held ≡ before) × (text told ≡ name_at names k) × DecodesComponent k u new
+  DecodesNext (Err e) new held = FailsAtElement (Decodes (choice ps) (λ (t : Tree). t)) old e new
+
+-- Each part is what its slot holds, or what stands in its place where it may be left out.
 abbrev pub AreGathered : List Presence → List (Option Tree) → List Tree → Type 0
 AreGathered [] [] ts = ts ≡ []
 AreGathered [] (h ∷ held) ts = ⊥
@@ -79,7 +100,55 @@ AreGathered (p ∷ ps) (Some u ∷ held) ts = (us : List Tree) × (ts ≡ u ∷ 
 abbrev pub IsGathered : Parts → List (Option Tree) → Tree → Type 0
 IsGathered ps held t = (ts : List Tree) × (t ≡ items ts) × AreGathered (presences ps) held ts
 
--- The parts that are made of what has come, or refused where one is missing.
-abbrev pub MakesParts : {D : Type 0} → Parts → (D → Tree) → List (Option Tree) → Result D DecodeError → Type 0
-MakesParts ps tree held (Ok v) = IsGathered ps held (tree v)
-MakesParts ps tree held (Err e) = Exact (λ input t rest. IsGathered ps held t) [] (refusal e.kind)
+-- The first required part whose slot is empty has the number k.
+abbrev pub LacksSlot : List Presence → List (Option Tree) → ℕ → Type 0
+LacksSlot [] held k = ⊥
+LacksSlot (p ∷ ps) [] k = ⊥
+LacksSlot (p ∷ ps) (h ∷ held) zero = (p ≡ required) × (h ≡ None)
+LacksSlot (p ∷ ps) (h ∷ held) (suc k) = (p ≡ required → h ≢ None) × LacksSlot ps held k
+
+-- It is told; or memory ran out.
+abbrev pub IsLackOf : Parts → List (List ℕ) → Codec → List (Option Tree) → DecodeError → Type 0
+IsLackOf ps names rule held e = IsOutOfMemory e.kind ⊎ ((k : ℕ) × LacksSlot (presences ps) held k × IsNamedError (IsMissingField (name_at names k)) rule e)
+
+-- The parts that are made of what the slots hold, or the first that is missing.
+abbrev pub MakesParts : {D : Type 0} → Parts → (D → Tree) → List (List ℕ) → Codec → List (Option Tree) → Result D DecodeError → Type 0
+MakesParts ps tree names rule held (Ok v) = IsGathered ps held (tree v)
+MakesParts ps tree names rule held (Err e) = IsLackOf ps names rule held e
+
+-- Of each part there is one reading at most; the first part has the number j.
+abbrev pub AreOnce : ℕ → List Presence → List Tree → Type 0
+AreOnce j [] readings = Unit {0}
+AreOnce j (p ∷ ps) readings = (NoneOf j readings ⊎ ((t : Tree) × OneOf j t readings)) × AreOnce (suc j) ps readings
+
+-- The first reading whose part was read before is one of part k.
+pub record RepeatsFirst (ps : Parts) (k : ℕ) (readings : List Tree) : Type 0 where
+  pub before : List Tree
+  pub value : Tree
+  pub after : List Tree
+  pub is : readings ≡ before ++ (chosen k value ∷ after)
+  pub once : AreOnce 0 (presences ps) before
+  pub is_part : IsPart k ps
+  pub read : (t : Tree) × OneOf k t before
+
+-- The first required part that wasn't read is part k; the first of these has the number j.
+abbrev pub LacksFirst : ℕ → List Presence → List Tree → ℕ → Type 0
+LacksFirst j [] readings k = ⊥
+LacksFirst j (p ∷ ps) readings zero = (p ≡ required) × NoneOf j readings
+LacksFirst j (p ∷ ps) readings (suc k) = (p ≡ required → NoneOf j readings → ⊥) × LacksFirst (suc j) ps readings k
+
+-- What is made of all components by their readings: the parts; or the first that repeats a part is told, and where none does the first
+-- required part that is missing.
+abbrev pub MakesOfReadings : {D : Type 0} → Parts → (D → Tree) → List (List ℕ) → Codec → List Tree → Result D DecodeError → Type 0
+MakesOfReadings ps tree names rule readings (Ok v) = AreParts ps readings (tree v)
+MakesOfReadings ps tree names rule readings (Err e) = IsOutOfMemory e.kind
+    ⊎ (((k : ℕ) × RepeatsFirst ps k readings × IsNamedError (IsDuplicateField (name_at names k)) rule e)
+    ⊎ (AreOnce 0 (presences ps) readings × ((k : ℕ) × LacksFirst 0 (presences ps) readings k × IsNamedError (IsMissingField (name_at names k)) rule e)))
+
+-- Components are read as decode_set reads them, and the parts are made of all of them at the end.
+abbrev pub DecodesSetPartContents : {D : Type 0} → Parts → (D → Tree) → List (List ℕ) → Call D
+DecodesSetPartContents ps tree names old =
+    DecodesSetContents (DecodesComponents (Decodes (choice ps) (λ (t : Tree). t)) (λ (l : List Tree). l)) (MakesOfReadings ps tree names old.rule) old
+
+abbrev pub DecodesSetParts : {D : Type 0} → Parts → (D → Tree) → List (List ℕ) → Tag → Call D
+DecodesSetParts ps tree names tag = DecodesInside (DecodesSetPartContents ps tree names) (sequence_header tag)

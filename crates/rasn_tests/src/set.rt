@@ -4,6 +4,7 @@
 mod components;
 mod defaults;
 mod elements;
+mod faults;
 mod order;
 mod outputs;
 mod parts;

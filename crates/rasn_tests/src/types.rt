@@ -7,6 +7,7 @@ mod graded;
 mod profile;
 mod ratio;
 mod signal;
+mod signal_component;
 mod three;
 
 pub use counted::Counted;
@@ -17,6 +18,7 @@ pub use profile::Profile;
 use rasn_bench::Both;
 pub use ratio::Ratio;
 pub use signal::Signal;
+pub use signal_component::decode_signal;
 pub use three::Three;
 
 /// SEQUENCE { first INTEGER, second BOOLEAN }, of what its readers by closures make.

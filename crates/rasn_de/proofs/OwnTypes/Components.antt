@@ -19,6 +19,7 @@ use Rattle.rasn_types.specs.Readings.{IsMissing, NoneOf, OneOf, ByPart}
 use Rattle.rasn_types.specs.Trees.{option_tree}
 use Rattle.rasn_de.specs.Outcomes.{Exact, refusal}
 use Rattle.rasn_de.specs.Set.{AreParts}
+use Rattle.rasn_de.specs.SetPartTypes.{IsPart}
 use Rattle.rasn_de.proofs.Leaves.Outcomes.{Exact-none}
 
 -- What came of part k: one reading, with the tree of this value, or none.
@@ -26,12 +27,7 @@ abbrev pub Slot : {D : Type 0} → ℕ → (D → Tree) → Option D → List Tr
 Slot k tree None readings = NoneOf k readings
 Slot k tree (Some v) readings = OneOf k (tree v) readings
 
--- There is a part k; it is required.
-abbrev pub IsPart : ℕ → Parts → Type 0
-IsPart k none = ⊥
-IsPart zero (part p s ps) = Unit {0}
-IsPart (suc k) (part p s ps) = IsPart k ps
-
+-- Part k is required.
 abbrev pub IsRequired : ℕ → Parts → Type 0
 IsRequired k none = ⊥
 IsRequired zero (part p s ps) = p ≡ required
@@ -41,14 +37,14 @@ number_one : (j k : ℕ) (t u : Tree) → chosen j t ≡ chosen k u → j ≡ k
 number_one j k t u e = cc
 
 -- Another reading is put behind these.
-none_more : (k j : ℕ) (u : Tree) (rs : List Tree) → (j ≡ k → ⊥) → NoneOf k rs → NoneOf k (rs ++ chosen j u ∷ [])
+pub none_more : (k j : ℕ) (u : Tree) (rs : List Tree) → (j ≡ k → ⊥) → NoneOf k rs → NoneOf k (rs ++ chosen j u ∷ [])
 none_more k j u [] n h = (λ v e. n (number_one j k u v e), tt)
 none_more k j u (r ∷ rs) n h = (h.0, none_more k j u rs n h.1)
 
-one_more : (k : ℕ) (t : Tree) (rs : List Tree) → NoneOf k rs → OneOf k t (rs ++ chosen k t ∷ [])
+pub one_more : (k : ℕ) (t : Tree) (rs : List Tree) → NoneOf k rs → OneOf k t (rs ++ chosen k t ∷ [])
 one_more k t rs h = record { before = rs; after = []; is = refl; none_before = h; none_after = tt }
 
-kept_more : {D : Type 0} (k : ℕ) (tree : D → Tree) (held : Option D) (j : ℕ) (u : Tree) (rs : List Tree) → (j ≡ k → ⊥) → Slot k tree held rs → Slot k tree held (rs ++ chosen j u ∷ [])
+pub kept_more : {D : Type 0} (k : ℕ) (tree : D → Tree) (held : Option D) (j : ℕ) (u : Tree) (rs : List Tree) → (j ≡ k → ⊥) → Slot k tree held rs → Slot k tree held (rs ++ chosen j u ∷ [])
 kept_more k tree None j u rs n h = none_more k j u rs n h
 kept_more k tree (Some v) j u rs n h = record {
   before = h.before;

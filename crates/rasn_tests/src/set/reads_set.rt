@@ -115,7 +115,7 @@ fn refuses_components_twice_and_missing(rt: HostRuntime) {
     assert_reads::<Set3>(&rt, rt.alloc(), &NO_SETS);
 }
 
-const FIRST_FAULTS: [Row; 5] = [
+const FIRST_FAULTS: [Row; 7] = [
     // A component is out of order before it is read.
     (
         &[0x31, 0x06, 0x81, 0x01, 0x02, 0x41, 0x01, 0x05],
@@ -128,6 +128,23 @@ const FIRST_FAULTS: [Row; 5] = [
         Codec::Ber,
         "NoValidChoice { name: \"Set3\" }",
         8,
+    ),
+    // A component that no part has, and one that is out of order, are reported before one that is there twice.
+    (
+        &[
+            0x31, 0x0C, 0x80, 0x01, 0x23, 0x81, 0x01, 0x0F, 0x81, 0x01, 0x2F, 0x83, 0x01, 0x1E,
+        ],
+        Codec::Ber,
+        "NoValidChoice { name: \"Set3\" }",
+        14,
+    ),
+    (
+        &[
+            0x31, 0x0C, 0x81, 0x01, 0x70, 0x81, 0x01, 0x62, 0x80, 0x01, 0x7F, 0x83, 0x01, 0x71,
+        ],
+        Codec::Der,
+        OUT_OF_ORDER,
+        14,
     ),
     // A component that is refused is reported before a later one that is out of order.
     (

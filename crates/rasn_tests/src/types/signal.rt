@@ -15,12 +15,11 @@ pub struct Signal {
 }
 
 impl AsnType for Signal {
-    ghost use Rattle.std.specs.Prelude.{refl, ◌∷◌, [], pos};
-    ghost use Rattle.rasn_types.specs.declared.types.tag.Class.TheVariants.{Context};
-    ghost use Rattle.rasn_types.specs.Shapes.{set, part, required, optional, default, leaf, boolean, integer, number, items};
-    ghost use Rattle.rasn_types.specs.Shapes.Parts.{none};
+    ghost use Rattle.std.specs.Prelude.{refl, ◌∷◌, []};
+    ghost use Rattle.rasn_types.specs.Shapes.{set, items};
     ghost use Rattle.rasn_types.specs.Tags.{in_universal};
-    ghost use Rattle.rasn_types.specs.Trees.{unconstrained, unsigned_range, option_tree, bool_tree};
+    ghost use Rattle.rasn_types.specs.Trees.{unconstrained, option_tree, bool_tree};
+    ghost use Rattle.rasn_tests.specs.Signal.{signal_parts, level_tree};
 
     ghost TAG = { in_universal 17 };
 
@@ -30,12 +29,9 @@ impl AsnType for Signal {
 
     const CONSTRAINTS: Constraints = Constraints::NONE;
 
-    ghost shape = { set (in_universal 17)
-        (part optional (leaf boolean (in_universal 1) unconstrained)
-        (part (default (number (pos 7))) (leaf (integer (unsigned_range 8)) (in_universal 2) unconstrained)
-        (part required (leaf (integer (unsigned_range 8)) (record { class = Context; value = 0 }) unconstrained) none))) };
+    ghost shape = { set (in_universal 17) signal_parts };
 
-    ghost tree = { λ s. items (option_tree bool_tree s.truth ∷ number (pos s.level) ∷ number (pos s.mark) ∷ []) };
+    ghost tree = { λ s. items (option_tree bool_tree s.truth ∷ level_tree s.level ∷ level_tree s.mark ∷ []) };
 
     ghost own = { refl };
 }

@@ -1,10 +1,10 @@
 //! A SET whose parts are a type (X.690 8.11): nested to the right, read in any order, each once.
-ghost use Rattle.std.specs.Prelude.{◌≡◌, true, IfOk};
+ghost use Rattle.std.specs.Prelude.{◌≡◌, ℕ, zero, suc, true, IfOk, map};
 ghost use Rattle.rasn_types.specs.Framing.{NextTag};
 ghost use Rattle.rasn_types.specs.Tags.{form};
 ghost use Rattle.rasn_types.specs.Shapes.{set};
-ghost use Rattle.rasn_de.specs.Decodes.{Decodes, DecodesBy};
-ghost use Rattle.rasn_de.specs.SetPartTypes.{AreNone, IsPlaced, IsOrDefault, DecodesPlaced, DecodesNext, MakesParts, ReadsSetParts};
+ghost use Rattle.rasn_de.specs.Decodes.{Decodes};
+ghost use Rattle.rasn_de.specs.SetPartTypes.{text, name_at, AreEmpty, IsPlaced, IsOrDefault, DecodesPlaced, DecodesNext, MakesParts, DecodesSetPartContents, DecodesSetParts};
 
 use crate::ber::de::Decoder;
 use crate::ber::de::constructed::ConstructedHeader;
@@ -16,95 +16,99 @@ use rasn_types::types::{AsnType, DefaultValue, End, Tag};
 use std::alloc::AllocError;
 
 /// Parts that are read in any order, each of which has a tag of its own: [`Required`], [`Optional`] and [`Defaulted`], each with those
-/// behind it, and [`End`] behind the last.
+/// after it, and [`End`] after the last.
 pub trait DecodeSetParts: Drop {
     ghost use Rattle.std.specs.Prelude.{Bool, List, Option};
     ghost use Rattle.rasn_types.specs.Shapes.{Parts, Tree};
 
-    /// What has come of the parts.
-    type Came: Drop;
+    /// A slot for each part, which is empty until the part is read.
+    type Slots: Drop;
 
     ghost parts: { Parts };
 
     ghost tree: { Self → Tree };
 
-    ghost held: { Self.Came → List (Option Tree) };
+    ghost held: { Self.Slots → List (Option Tree) };
 
     /// Whether each part has a tag of its own, which no other has.
     ghost tags_differ: { Bool };
 
-    /// Nothing has come.
-    fn nothing() -> Self::Came
-        ensures { AreNone parts (held result) };
+    /// Returns empty slots.
+    fn empty() -> Self::Slots
+        ensures { AreEmpty parts (held result) };
 
-    /// Reads the component of this tag, which is the next one, and puts it where its part is.
+    /// Reads the component of this tag, which is the next one, and puts it into the slot of its part. Where it is filled, returns the
+    /// name of the part and drops the component.
     ///
     /// # Errors
-    /// What the part refuses; `DuplicateField` of its name where it has come before; `NoValidChoice` of the name of the type where the
-    /// tag is no part's.
-    fn decode_component(
-        came: &mut Self::Came,
+    /// What the part refuses; `NoValidChoice` of the name of the type where the tag is no part's.
+    fn decode_component<'names>(
+        slots: &mut Self::Slots,
         decoder: &mut Decoder<'_>,
         tag: Tag,
         name: &str,
-        names: &[&str],
-    ) -> Result<(), DecodeError>
+        names: &[&'names str],
+    ) -> Result<Option<&'names str>, DecodeError>
         requires next { NextTag (form decoder.old.rule) decoder.old.rest tag }
         requires differ { tags_differ ≡ true }
-        ensures { DecodesPlaced parts (held came.old) decoder.old result decoder.new (held came.new) };
+        ensures { DecodesPlaced parts (map text names.now) (held slots.old) decoder.old result decoder.new (held slots.new) };
 
-    /// The parts, of which no more come.
+    /// Returns the parts that the slots hold.
     ///
     /// # Errors
-    /// `MissingField` of the name of a required part that hasn't come; what the default of a part refuses.
-    fn gather(came: Self::Came, decoder: &Decoder<'_>, names: &[&str]) -> Result<Self, DecodeError>
-        ensures { MakesParts parts tree (held came) result };
+    /// `MissingField` of the name of the first required part whose slot is empty; what the default of a part refuses.
+    fn gather(
+        slots: Self::Slots,
+        decoder: &Decoder<'_>,
+        names: &[&str],
+    ) -> Result<Self, DecodeError>
+        ensures { MakesParts parts tree (map text names.now) decoder.now.rule (held slots) result };
 }
 
-/// The name of the first of these parts, where the names go so far.
-fn first_name<'names>(names: &[&'names str]) -> &'names str {
+/// Returns the name of the first of these parts, or an empty one where the name is missing.
+fn first_name<'names>(names: &[&'names str]) -> &'names str
+    ensures { result.now ≡ name_at (map text names.now) zero }
+{
     let Some(name) = names.first() else {
         return "";
     };
     *name
 }
 
-/// The names of the parts behind the first.
-fn other_names<'a, 'names>(names: &'a [&'names str]) -> &'a [&'names str] {
+/// Returns the names of the parts after the first.
+fn other_names<'a, 'names>(names: &'a [&'names str]) -> &'a [&'names str]
+    ensures { (k : ℕ) → name_at (map text result.now) k ≡ name_at (map text names.now) (suc k) }
+{
     let Some((_, others)) = names.split_first() else {
         return names;
     };
     others
 }
 
-/// Puts a component where its part is, which must not have come before.
-fn place<A: Drop>(
-    part: &mut Option<A>,
+/// Fills the slot of the first of these parts; where it is filled, returns the part's name.
+fn place<'names, A: Drop>(
+    slot: &mut Option<A>,
     value: A,
-    decoder: &Decoder<'_>,
-    names: &[&str],
-) -> Result<(), DecodeError>
-    ensures { IsPlaced part.old value result part.new }
+    names: &[&'names str],
+) -> Option<&'names str>
+    ensures { IsPlaced slot.old value (name_at (map text names.now) zero) result slot.new }
 {
-    if part.replace(value).is_some() {
-        return Err(DecodeError::duplicate_field(
-            decoder.alloc(),
-            first_name(names),
-            decoder.codec(),
-        ));
+    if slot.is_some() {
+        return Some(first_name(names));
     }
-    Ok(())
+    *slot = Some(value);
+    None
 }
 
-/// What has come of a part, or its default.
+/// Returns what the slot of a part holds, or the default.
 fn or_default<V: DefaultValue>(
-    came: Option<V::Value>,
+    slot: Option<V::Value>,
     decoder: &Decoder<'_>,
 ) -> Result<V::Value, DecodeError>
-    ensures { IsOrDefault V.Value.tree V.default_tree came result }
+    ensures { IsOrDefault V.Value.tree V.default_tree slot result }
 {
     let alloc = decoder.alloc();
-    match came {
+    match slot {
         Some(value) => Ok(value),
         None => decoder.default_value(
             || -> Result<V::Value, AllocError>
@@ -119,7 +123,7 @@ impl DecodeSetParts for End {
     ghost use Rattle.rasn_types.specs.Shapes.{done};
     ghost use Rattle.rasn_types.specs.Shapes.Parts.{none};
 
-    type Came = End;
+    type Slots = End;
 
     ghost parts = { none };
 
@@ -129,21 +133,21 @@ impl DecodeSetParts for End {
 
     ghost tags_differ = { true };
 
-    fn nothing() -> End {
+    fn empty() -> End {
         End
     }
 
-    fn decode_component(
-        _came: &mut End,
+    fn decode_component<'names>(
+        _slots: &mut End,
         decoder: &mut Decoder<'_>,
         _tag: Tag,
         name: &str,
-        _names: &[&str],
-    ) -> Result<(), DecodeError> {
+        _names: &[&'names str],
+    ) -> Result<Option<&'names str>, DecodeError> {
         Err(DecodeError::no_valid_choice(decoder.alloc(), name, decoder.codec()))
     }
 
-    fn gather(_came: End, _decoder: &Decoder<'_>, _names: &[&str]) -> Result<End, DecodeError> {
+    fn gather(_slots: End, _decoder: &Decoder<'_>, _names: &[&str]) -> Result<End, DecodeError> {
         Ok(End)
     }
 }
@@ -154,7 +158,7 @@ impl<A: Decode, R: DecodeSetParts> DecodeSetParts for Required<A, R> {
     ghost use Rattle.rasn_de.specs.AlternativeTypes.{is_first_alone};
     ghost use Rattle.rasn_de.specs.SetPartTypes.{held_tree};
 
-    type Came = (Option<A>, R::Came);
+    type Slots = (Option<A>, R::Slots);
 
     ghost parts = { part required A.shape R.parts };
 
@@ -164,30 +168,30 @@ impl<A: Decode, R: DecodeSetParts> DecodeSetParts for Required<A, R> {
 
     ghost tags_differ = { is_first_alone A.shape A.TAG R.parts && R.tags_differ };
 
-    fn nothing() -> (Option<A>, R::Came) {
-        (None, R::nothing())
+    fn empty() -> (Option<A>, R::Slots) {
+        (None, R::empty())
     }
 
-    fn decode_component(
-        came: &mut (Option<A>, R::Came),
+    fn decode_component<'names>(
+        slots: &mut (Option<A>, R::Slots),
         decoder: &mut Decoder<'_>,
         tag: Tag,
         name: &str,
-        names: &[&str],
-    ) -> Result<(), DecodeError> {
+        names: &[&'names str],
+    ) -> Result<Option<&'names str>, DecodeError> {
         if tag == A::TAG {
             let value = A::decode(decoder)?;
-            return place(&mut came.0, value, decoder, names);
+            return Ok(place(&mut slots.0, value, names));
         }
-        R::decode_component(&mut came.1, decoder, tag, name, other_names(names))
+        R::decode_component(&mut slots.1, decoder, tag, name, other_names(names))
     }
 
     fn gather(
-        came: (Option<A>, R::Came),
+        slots: (Option<A>, R::Slots),
         decoder: &Decoder<'_>,
         names: &[&str],
     ) -> Result<Required<A, R>, DecodeError> {
-        let (value, others) = came;
+        let (value, others) = slots;
         let Some(value) = value else {
             return Err(DecodeError::missing_field(
                 decoder.alloc(),
@@ -207,7 +211,7 @@ impl<A: Decode, R: DecodeSetParts> DecodeSetParts for Optional<A, R> {
     ghost use Rattle.rasn_de.specs.AlternativeTypes.{is_first_alone};
     ghost use Rattle.rasn_de.specs.SetPartTypes.{held_tree};
 
-    type Came = (Option<A>, R::Came);
+    type Slots = (Option<A>, R::Slots);
 
     ghost parts = { part optional A.shape R.parts };
 
@@ -217,31 +221,31 @@ impl<A: Decode, R: DecodeSetParts> DecodeSetParts for Optional<A, R> {
 
     ghost tags_differ = { is_first_alone A.shape A.TAG R.parts && R.tags_differ };
 
-    fn nothing() -> (Option<A>, R::Came) {
-        (None, R::nothing())
+    fn empty() -> (Option<A>, R::Slots) {
+        (None, R::empty())
     }
 
-    fn decode_component(
-        came: &mut (Option<A>, R::Came),
+    fn decode_component<'names>(
+        slots: &mut (Option<A>, R::Slots),
         decoder: &mut Decoder<'_>,
         tag: Tag,
         name: &str,
-        names: &[&str],
-    ) -> Result<(), DecodeError> {
+        names: &[&'names str],
+    ) -> Result<Option<&'names str>, DecodeError> {
         if tag == A::TAG {
             let value = A::decode(decoder)?;
-            return place(&mut came.0, value, decoder, names);
+            return Ok(place(&mut slots.0, value, names));
         }
-        R::decode_component(&mut came.1, decoder, tag, name, other_names(names))
+        R::decode_component(&mut slots.1, decoder, tag, name, other_names(names))
     }
 
     fn gather(
-        came: (Option<A>, R::Came),
+        slots: (Option<A>, R::Slots),
         decoder: &Decoder<'_>,
         names: &[&str],
     ) -> Result<Optional<A, R>, DecodeError> {
-        let rest = R::gather(came.1, decoder, other_names(names))?;
-        Ok(Optional(came.0, rest))
+        let rest = R::gather(slots.1, decoder, other_names(names))?;
+        Ok(Optional(slots.0, rest))
     }
 }
 
@@ -255,7 +259,7 @@ where
     ghost use Rattle.rasn_de.specs.AlternativeTypes.{is_first_alone};
     ghost use Rattle.rasn_de.specs.SetPartTypes.{held_tree};
 
-    type Came = (Option<V::Value>, R::Came);
+    type Slots = (Option<V::Value>, R::Slots);
 
     ghost parts = { part (default V.default_tree) V.Value.shape R.parts };
 
@@ -265,17 +269,17 @@ where
 
     ghost tags_differ = { is_first_alone V.Value.shape V.Value.TAG R.parts && (is_looked_for V.Value.shape V.Value.TAG && R.tags_differ) };
 
-    fn nothing() -> (Option<V::Value>, R::Came) {
-        (None, R::nothing())
+    fn empty() -> (Option<V::Value>, R::Slots) {
+        (None, R::empty())
     }
 
-    fn decode_component(
-        came: &mut (Option<V::Value>, R::Came),
+    fn decode_component<'names>(
+        slots: &mut (Option<V::Value>, R::Slots),
         decoder: &mut Decoder<'_>,
         tag: Tag,
         name: &str,
-        names: &[&str],
-    ) -> Result<(), DecodeError> {
+        names: &[&'names str],
+    ) -> Result<Option<&'names str>, DecodeError> {
         if tag == V::Value::TAG {
             let alloc = decoder.alloc();
             let value = decoder.decode_default::<V::Value, _>(
@@ -283,65 +287,72 @@ where
                     ensures { IfOk result (λ v. V.Value.tree v ≡ V.default_tree) }
                 { V::default_value(alloc) },
             )?;
-            return place(&mut came.0, value, decoder, names);
+            return Ok(place(&mut slots.0, value, names));
         }
-        R::decode_component(&mut came.1, decoder, tag, name, other_names(names))
+        R::decode_component(&mut slots.1, decoder, tag, name, other_names(names))
     }
 
     fn gather(
-        came: (Option<V::Value>, R::Came),
+        slots: (Option<V::Value>, R::Slots),
         decoder: &Decoder<'_>,
         names: &[&str],
     ) -> Result<Defaulted<V, R>, DecodeError> {
-        let value = or_default::<V>(came.0, decoder)?;
-        let rest = R::gather(came.1, decoder, other_names(names))?;
+        let value = or_default::<V>(slots.0, decoder)?;
+        let rest = R::gather(slots.1, decoder, other_names(names))?;
         Ok(Defaulted(value, rest))
     }
 }
 
 impl<'input> Decoder<'input> {
-    /// Reads one more component, which has to consume something, and puts it where its part is.
-    fn next_component<P: DecodeSetParts>(
+    /// Reads one more component, which has to consume something, and puts it into the slot of its part. Where it is filled, returns the
+    /// name of the part.
+    fn next_component<'names, P: DecodeSetParts>(
         &mut self,
-        came: &mut P::Came,
+        slots: &mut P::Slots,
         name: &str,
-        names: &[&str],
-    ) -> Result<(), DecodeError>
+        names: &[&'names str],
+    ) -> Result<Option<&'names str>, DecodeError>
         requires { P.tags_differ ≡ true }
-        ensures { DecodesNext P.parts (P.held came.old) self.old result self.new (P.held came.new) }
+        ensures { DecodesNext P.parts (map text names.now) (P.held slots.old) self.old result self.new (P.held slots.new) }
     {
         let left = self.rest.len();
         let tag = self.peek_tag()?;
-        P::decode_component(came, self, tag, name, names)?;
+        let twice = P::decode_component(slots, self, tag, name, names)?;
         if self.rest.len() == left {
             return Err(self.error(ParseError::UnexpectedExtraData { length: left }));
         }
-        Ok(())
+        Ok(twice)
     }
 
-    /// Parts from components up to the end of the contents, whose tags are in ascending order under DER (X.690 10.3).
+    /// Reads components up to the end of the contents and makes the parts of them. Their tags are in ascending order under DER (X.690 10.3).
     fn set_parts<P: DecodeSetParts>(&mut self, name: &str, names: &[&str]) -> Result<P, DecodeError>
         requires { P.tags_differ ≡ true }
-        ensures { DecodesBy (ReadsSetParts P.parts) P.tree self.old result self.new }
+        ensures { DecodesSetPartContents P.parts P.tree (map text names.now) self.old result self.new }
     {
-        let mut came = P::nothing();
+        let mut slots = P::empty();
+        let mut twice = None;
         let mut last = None;
         while !self.has_ended() {
             last = self.peek_tag_in_order(last)?;
-            self.next_component::<P>(&mut came, name, names)?;
+            let next = self.next_component::<P>(&mut slots, name, names)?;
+            twice = twice.or(next);
         }
-        P::gather(came, self, names)
+        if let Some(part) = twice {
+            return Err(DecodeError::duplicate_field(self.alloc, part, self.codec()));
+        }
+        P::gather(slots, self, names)
     }
 
-    /// The parts of a SET (X.690 8.11), which come in any order, each once. Under DER the tag of a component must not be below that of
-    /// the one before (X.690 10.3). `name` is the type's and `names` are those of its parts, in their order, and stand in refusals.
+    /// Reads the parts of a SET (X.690 8.11), which are in any order, each once. Under DER the tag of a component must not be below that
+    /// of the one before (X.690 10.3). `name` is the type's and `names` are those of its parts, in their order; errors have them.
     ///
     /// # Errors
-    /// `ExceedsMaxParseDepth` before the header; framing faults; with the value taken, `InvalidConstructedIdentifier`; what a part
-    /// refuses, `NoValidChoice` where a tag is no part's, `DuplicateField` where a part comes twice, `MissingField` where a required
-    /// part doesn't come, `UnexpectedExtraData` at a component that consumes nothing, and under DER `SetComponentsOutOfOrder`, which
-    /// take header and contents, or of an indefinite length the header; end-of-contents octets that are missing (`Incomplete`,
-    /// `MissingEndOfContents`), which take what was read inside too.
+    /// `ExceedsMaxParseDepth` before the header; framing faults; with the value consumed, `InvalidConstructedIdentifier`. Then the
+    /// first component that isn't read: faults of its identifier, under DER `SetComponentsOutOfOrder`, `NoValidChoice` where its tag is no
+    /// part's, what its part refuses, `UnexpectedExtraData` if it consumes nothing. Once all are read, `DuplicateField` of the first
+    /// component whose part was read before, else `MissingField` of the first required part that is missing. These consume header and
+    /// contents, or of an indefinite length the header. Last, end-of-contents octets that are missing (`Incomplete`,
+    /// `MissingEndOfContents`), which consume what was read inside too. `decode_set` reports faults in the same order.
     pub fn read_set<P: DecodeSetParts>(
         &mut self,
         tag: Tag,
@@ -349,13 +360,14 @@ impl<'input> Decoder<'input> {
         names: &[&str],
     ) -> Result<P, DecodeError>
         requires { P.tags_differ ≡ true }
-        ensures { Decodes (set tag P.parts) P.tree self.old result self.new }
+        ensures exact { DecodesSetParts P.parts P.tree (map text names.now) tag self.old result self.new }
+        ensures reads { Decodes (set tag P.parts) P.tree self.old result self.new }
     {
         self.inside(
             ConstructedHeader::sequence(tag),
             |inner| -> Result<P, DecodeError>
                 requires { P.tags_differ ≡ true }
-                ensures { DecodesBy (ReadsSetParts P.parts) P.tree inner.old result inner.new }
+                ensures { DecodesSetPartContents P.parts P.tree (map text names.entry.now) inner.old result inner.new }
             { inner.set_parts::<P>(name, names) },
         )
     }

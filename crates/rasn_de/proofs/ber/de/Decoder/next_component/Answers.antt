@@ -9,17 +9,17 @@ use Rattle.rasn_de.proofs.ber.de.Decoder.next_component.Goals as goal
 pub returns-in_err-tag : goal.returns-in_err-tag
 returns-in_err-tag g c =
     let ps = g.P.DecodeSetParts.parts in
-    rw (residual _ c.from_residual.ensures.1) (inl (inl (choice_decodes (choice ps) ps refl (λ (t : Tree). t) c.args.self.now (Err c.in_err-tag.field-0.0) c.args.self.now (inl (c.in_err-tag.ensures.exact, refl)))))
+    rw (residual _ c.from_residual.ensures.1) (inl (choice_decodes (choice ps) ps refl (λ (t : Tree). t) c.args.self.now (Err c.in_err-tag.field-0.0) c.args.self.now (inl (c.in_err-tag.ensures.exact, refl))))
 
-pub returns-in_err-decode_component : goal.returns-in_err-decode_component
-returns-in_err-decode_component g c =
-    rw (residual _ c.from_residual-in_err-decode_component.ensures.1) (next_refused g.P.DecodeSetParts.parts (g.P.DecodeSetParts.held c.args.came.now) (g.P.DecodeSetParts.held c.decode_component.new.came) (g.P.DecodeSetParts.held c.decode_component.new.came) _ _ _ c.in_err-decode_component.ensures)
+pub returns-in_err-twice : goal.returns-in_err-twice
+returns-in_err-twice g c =
+    rw (residual _ c.from_residual-in_err-twice.ensures.1) (next_refused g.P.DecodeSetParts.parts _ _ _ c.in_err-twice.ensures)
 
 pub returns-then-self-left : goal.returns-then-self-left
 returns-then-self-left g c =
-    next_takes_nothing g.P.DecodeSetParts.parts (g.P.DecodeSetParts.held c.args.came.now) (g.P.DecodeSetParts.held c.decode_component.new.came) (g.P.DecodeSetParts.held c.decode_component.new.came) _ _
-    c.in_ok-decode_component.field-0 c.in_ok-decode_component.ensures (search rules) (length c.self.inside.rest.now)
+    next_takes_nothing g.P.DecodeSetParts.parts _ (g.P.DecodeSetParts.held c.args.slots.now) (g.P.DecodeSetParts.held c.decode_component.new.slots) _ _
+    c.in_ok-twice.twice c.in_ok-twice.ensures (g.P.DecodeSetParts.held c.decode_component.new.slots) (search rules) (length c.self.inside.rest.now)
     (ap (λ (s : State). length s.rest) c.self.view_is) _ c.error.ensures
 
 pub returns : goal.returns
-returns g c = next_read g.P.DecodeSetParts.parts _ (g.P.DecodeSetParts.held c.decode_component.new.came) _ _ c.in_ok-decode_component.field-0 c.in_ok-decode_component.ensures (search rules)
+returns g c = next_read g.P.DecodeSetParts.parts _ _ (g.P.DecodeSetParts.held c.decode_component.new.slots) _ _ c.in_ok-twice.twice c.in_ok-twice.ensures (search rules)

@@ -1,11 +1,26 @@
-use Rattle.rasn_de.specs.Decodes.{DecodesBy}
-use Rattle.rasn_de.specs.SetPartTypes.{ReadsSetParts}
-use Rattle.rasn_de.proofs.Constructed.Steps.{closure_inside}
+use Rattle.std.proofs.Common.{List, map}
+use Rattle.rasn_types.specs.Shapes.{Tree, choice}
+use Rattle.rasn_de.specs.SetPartTypes.{text, MakesOfReadings, DecodesSetPartContents}
+use Rattle.rasn_de.proofs.Constructed.Set.{collects_keeps}
+use Rattle.rasn_de.proofs.Constructed.Steps.{closure_keeps, closure_inside}
 use Rattle.rasn_de.proofs.OwnTypes.SetPartTypes.{set_parts_decode}
 use Rattle.rasn_de.proofs.ber.de.Decoder.read_set.Goals as goal
 
+pub inside-requires-clause-keeps : goal.inside-requires-clause-keeps
+inside-requires-clause-keeps g c =
+    let ps = g.P.DecodeSetParts.parts in
+    let tree = g.P.DecodeSetParts.tree in
+    let names = map text c.args.names.now in
+    closure_keeps _ _ (DecodesSetPartContents ps tree names) (λ p r q m. m)
+    (λ old. collects_keeps (choice ps) (λ (t : Tree). t) (λ (l : List Tree). l) (MakesOfReadings ps tree names old.rule) old)
+
 pub returns : goal.returns
 returns g c =
-    let read = DecodesBy (ReadsSetParts g.P.DecodeSetParts.parts) g.P.DecodeSetParts.tree in
-    set_parts_decode g.P.DecodeSetParts.parts g.P.DecodeSetParts.tree read c.args.tag c.args.self.now c.inside.ensures.octets (λ s r n k. k) _ _
-    (closure_inside _ _ read (λ p r q m. m) _ _ c.sequence.ensures _ _ _ c.inside.ensures.exact)
+    let ps = g.P.DecodeSetParts.parts in
+    let tree = g.P.DecodeSetParts.tree in
+    let names = map text c.args.names.now in
+    let k = closure_inside _ _ (DecodesSetPartContents ps tree names) (λ p r q m. m) _ _ c.sequence.ensures _ _ _ c.inside.ensures.exact in
+    record {
+      exact = k;
+      reads = set_parts_decode ps tree names c.args.tag c.args.self.now c.inside.ensures.octets _ _ k;
+    }

@@ -1,9 +1,10 @@
-use Rattle.std.proofs.Common.{length}
-use Rattle.rasn_de.proofs.OwnTypes.SetPartTypes.{Come}
+use Rattle.std.proofs.Common.{map, length}
+use Rattle.rasn_de.specs.SetPartTypes.{text}
+use Rattle.rasn_de.proofs.OwnTypes.SetPartTypes.{ReadTo}
 use Rattle.rasn_de.proofs.ber.de.Decoder.set_parts.Given as goal
 
 abbrev pub invariant-loop-last : goal.invariant-loop-last
-invariant-loop-last g l = Come g.P.DecodeSetParts.parts l.fn.self l.self l.last (g.P.DecodeSetParts.held l.came)
+invariant-loop-last g l = ReadTo g.P.DecodeSetParts.parts (map text l.fn.names) l.fn.self l.self l.last l.twice (g.P.DecodeSetParts.held l.slots)
 
 abbrev pub decreases-loop-last : goal.decreases-loop-last
 decreases-loop-last g l = length l.self.rest

@@ -1,7 +1,6 @@
 use Rattle.std.proofs.Common.{◌≡◌, ◌∷◌, ◌&&◌, rules, ◌∙◌}
 use Rattle.rasn_types.specs.Shapes.{default}
 use Rattle.rasn_de.specs.PartTypes.{is_looked_for}
-use Rattle.rasn_de.specs.SetPartTypes.{held_tree}
 use Rattle.rasn_de.proofs.Leaves.Returns.{residual}
 use Rattle.rasn_de.proofs.OwnTypes.Parts.{default_part}
 use Rattle.rasn_de.proofs.OwnTypes.PartTypes.{first_agrees, others_agree}
@@ -18,17 +17,17 @@ returns-in_err-value g c =
     let own = first_has g.V.Value.AsnType.shape g.V.Value.AsnType.TAG g.R.DecodeSetParts.parts (is_looked_for g.V.Value.AsnType.shape g.V.Value.AsnType.TAG && g.R.DecodeSetParts.tags_differ) c.requires.differ in
     let others = others_have_not g.V.Value.AsnType.shape g.V.Value.AsnType.TAG g.R.DecodeSetParts.parts (is_looked_for g.V.Value.AsnType.shape g.V.Value.AsnType.TAG && g.R.DecodeSetParts.tags_differ) c.requires.differ in
     let h : c.args.tag ≡ g.V.Value.AsnType.TAG = tag_is c.args.tag c.TAG.result c.if-eq.ensures ∙ c.TAG.ensures in
-    rw (residual _ c.from_residual.ensures.1) (placed_refused (default g.V.DefaultValue.default_tree) g.V.Value.AsnType.shape g.R.DecodeSetParts.parts c.args.tag g.V.Value.AsnType.TAG h own others _ _ c.requires.next (held_tree g.V.Value.AsnType.tree c.args.came.now.0 ∷ g.R.DecodeSetParts.held c.args.came.now.1) (held_tree g.V.Value.AsnType.tree c.args.came.now.0 ∷ g.R.DecodeSetParts.held c.args.came.now.1) _ (default_part g.V.Value.AsnType.TAG _ _ (first_agrees g.V.Value.AsnType.shape g.V.Value.AsnType.TAG g.R.DecodeSetParts.tags_differ (others_differ g.V.Value.AsnType.shape g.V.Value.AsnType.TAG g.R.DecodeSetParts.parts (is_looked_for g.V.Value.AsnType.shape g.V.Value.AsnType.TAG && g.R.DecodeSetParts.tags_differ) c.requires.differ)) (c.in_err-value.ensures.reads g.V.DefaultValue.default_tree (λ v h. h))))
+    rw (residual _ c.from_residual.ensures.1) (placed_refused (default g.V.DefaultValue.default_tree) g.V.Value.AsnType.shape g.R.DecodeSetParts.parts c.args.tag g.V.Value.AsnType.TAG h own others _ _ c.requires.next _ (default_part g.V.Value.AsnType.TAG _ _ (first_agrees g.V.Value.AsnType.shape g.V.Value.AsnType.TAG g.R.DecodeSetParts.tags_differ (others_differ g.V.Value.AsnType.shape g.V.Value.AsnType.TAG g.R.DecodeSetParts.parts (is_looked_for g.V.Value.AsnType.shape g.V.Value.AsnType.TAG && g.R.DecodeSetParts.tags_differ) c.requires.differ)) (c.in_err-value.ensures.reads g.V.DefaultValue.default_tree (λ v h. h))))
 
 pub returns-then-eq : goal.returns-then-eq
 returns-then-eq g c =
     let own = first_has g.V.Value.AsnType.shape g.V.Value.AsnType.TAG g.R.DecodeSetParts.parts (is_looked_for g.V.Value.AsnType.shape g.V.Value.AsnType.TAG && g.R.DecodeSetParts.tags_differ) c.requires.differ in
     let others = others_have_not g.V.Value.AsnType.shape g.V.Value.AsnType.TAG g.R.DecodeSetParts.parts (is_looked_for g.V.Value.AsnType.shape g.V.Value.AsnType.TAG && g.R.DecodeSetParts.tags_differ) c.requires.differ in
     let h : c.args.tag ≡ g.V.Value.AsnType.TAG = search rules in
-    placed_here (default g.V.DefaultValue.default_tree) g.V.Value.AsnType.shape g.R.DecodeSetParts.parts c.args.tag g.V.Value.AsnType.TAG h own others _ _ c.requires.next g.V.Value.AsnType.tree _ _ _ _ _ (default_part g.V.Value.AsnType.TAG _ _ (first_agrees g.V.Value.AsnType.shape g.V.Value.AsnType.TAG g.R.DecodeSetParts.tags_differ (others_differ g.V.Value.AsnType.shape g.V.Value.AsnType.TAG g.R.DecodeSetParts.parts (is_looked_for g.V.Value.AsnType.shape g.V.Value.AsnType.TAG && g.R.DecodeSetParts.tags_differ) c.requires.differ)) (c.in_ok-value.ensures.reads g.V.DefaultValue.default_tree (λ v h. h))) c.place.ensures
+    placed_here (default g.V.DefaultValue.default_tree) g.V.Value.AsnType.shape g.R.DecodeSetParts.parts c.args.tag g.V.Value.AsnType.TAG h own others _ _ c.requires.next _ g.V.Value.AsnType.tree _ _ _ _ _ (default_part g.V.Value.AsnType.TAG _ _ (first_agrees g.V.Value.AsnType.shape g.V.Value.AsnType.TAG g.R.DecodeSetParts.tags_differ (others_differ g.V.Value.AsnType.shape g.V.Value.AsnType.TAG g.R.DecodeSetParts.parts (is_looked_for g.V.Value.AsnType.shape g.V.Value.AsnType.TAG && g.R.DecodeSetParts.tags_differ) c.requires.differ)) (c.in_ok-value.ensures.reads g.V.DefaultValue.default_tree (λ v h. h))) c.place.ensures
 
 pub returns : goal.returns
 returns g c =
     let own = first_has g.V.Value.AsnType.shape g.V.Value.AsnType.TAG g.R.DecodeSetParts.parts (is_looked_for g.V.Value.AsnType.shape g.V.Value.AsnType.TAG && g.R.DecodeSetParts.tags_differ) c.requires.differ in
     let h : c.args.tag ≡ g.V.Value.AsnType.TAG → ⊥ = search rules in
-    placed_other (default g.V.DefaultValue.default_tree) g.V.Value.AsnType.shape g.R.DecodeSetParts.parts c.args.tag g.V.Value.AsnType.TAG h own _ _ c.requires.next _ _ _ _ c.decode_component.ensures
+    placed_other (default g.V.DefaultValue.default_tree) g.V.Value.AsnType.shape g.R.DecodeSetParts.parts _ _ c.other_names.ensures c.args.tag g.V.Value.AsnType.TAG h own _ _ c.requires.next _ _ _ _ c.decode_component.ensures

@@ -1,15 +1,15 @@
-use Rattle.std.proofs.Common.{◌∷◌}
-use Rattle.rasn_types.specs.Shapes.{part, default}
+use Rattle.std.proofs.Common.{inl}
+use Rattle.rasn_types.specs.Shapes.{default}
 use Rattle.rasn_de.specs.SetPartTypes.{held_tree}
 use Rattle.rasn_de.proofs.Leaves.Returns.{residual}
-use Rattle.rasn_de.proofs.OwnTypes.SetPartTypes.{no_memory, others_lack, gathered_default}
+use Rattle.rasn_de.proofs.OwnTypes.SetPartTypes.{others_lack, gathered_default}
 use Rattle.rasn_de.proofs.ber.de.set_parts.DefaultedDecodeSetParts.gather.Goals as goal
 
 pub returns-in_err-value : goal.returns-in_err-value
-returns-in_err-value g c = rw (residual _ c.from_residual.ensures.1) (no_memory (part (default g.V.DefaultValue.default_tree) g.V.Value.AsnType.shape g.R.DecodeSetParts.parts) (held_tree g.V.Value.AsnType.tree c.args.came.0 ∷ g.R.DecodeSetParts.held c.args.came.1) _ c.in_err-value.ensures)
+returns-in_err-value g c = rw (residual _ c.from_residual.ensures.1) (inl c.in_err-value.ensures)
 
 pub returns-in_err-rest : goal.returns-in_err-rest
-returns-in_err-rest g c = rw (residual _ c.from_residual-in_err-rest.ensures.1) (others_lack (default g.V.DefaultValue.default_tree) g.V.Value.AsnType.shape g.R.DecodeSetParts.parts (g.R.DecodeSetParts.held c.args.came.1) (held_tree g.V.Value.AsnType.tree c.args.came.0) _ c.in_err-rest.ensures)
+returns-in_err-rest g c = rw (residual _ c.from_residual-in_err-rest.ensures.1) (others_lack (default g.V.DefaultValue.default_tree) g.V.Value.AsnType.shape g.R.DecodeSetParts.parts _ _ c.other_names.ensures _ (g.R.DecodeSetParts.held c.args.slots.1) (held_tree g.V.Value.AsnType.tree c.args.slots.0) (λ e. cc) _ c.in_err-rest.ensures)
 
 pub returns : goal.returns
-returns g c = gathered_default g.V.Value.AsnType.shape g.R.DecodeSetParts.parts g.V.Value.AsnType.tree g.V.DefaultValue.default_tree c.args.came.0 _ (g.R.DecodeSetParts.held c.args.came.1) _ c.in_ok-value.ensures c.in_ok-rest.ensures
+returns g c = gathered_default g.V.Value.AsnType.shape g.R.DecodeSetParts.parts g.V.Value.AsnType.tree g.V.DefaultValue.default_tree c.args.slots.0 _ (g.R.DecodeSetParts.held c.args.slots.1) _ c.in_ok-value.ensures c.in_ok-rest.ensures

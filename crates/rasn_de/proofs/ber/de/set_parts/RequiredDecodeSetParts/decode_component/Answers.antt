@@ -1,6 +1,5 @@
 use Rattle.std.proofs.Common.{◌≡◌, ◌∷◌, rules, arith}
 use Rattle.rasn_types.specs.Shapes.{required}
-use Rattle.rasn_de.specs.SetPartTypes.{held_tree}
 use Rattle.rasn_de.proofs.Leaves.Returns.{residual}
 use Rattle.rasn_de.proofs.OwnTypes.AlternativeTypes.{first_has, others_have_not, others_differ}
 use Rattle.rasn_de.proofs.OwnTypes.SetPartTypes.{placed_here, placed_refused, placed_other}
@@ -15,17 +14,17 @@ returns-in_err-value g c =
     let others = others_have_not g.A.AsnType.shape g.A.AsnType.TAG g.R.DecodeSetParts.parts g.R.DecodeSetParts.tags_differ c.requires.differ in
     let i = c.if-eq.ensures in let j = c.eq.ensures in let t = c.TAG.ensures in let q = c.if-eq.true in
     let h : c.args.tag ≡ g.A.AsnType.TAG = first_of (search rules, search (rules, i, t), grind (arith, i, j, t, q)) in
-    rw (residual _ c.from_residual.ensures.1) (placed_refused required g.A.AsnType.shape g.R.DecodeSetParts.parts c.args.tag g.A.AsnType.TAG h own others _ _ c.requires.next (held_tree g.A.AsnType.tree c.args.came.now.0 ∷ g.R.DecodeSetParts.held c.args.came.now.1) (held_tree g.A.AsnType.tree c.args.came.now.0 ∷ g.R.DecodeSetParts.held c.args.came.now.1) _ c.in_err-value.ensures)
+    rw (residual _ c.from_residual.ensures.1) (placed_refused required g.A.AsnType.shape g.R.DecodeSetParts.parts c.args.tag g.A.AsnType.TAG h own others _ _ c.requires.next _ c.in_err-value.ensures)
 
 pub returns-then-eq : goal.returns-then-eq
 returns-then-eq g c =
     let own = first_has g.A.AsnType.shape g.A.AsnType.TAG g.R.DecodeSetParts.parts g.R.DecodeSetParts.tags_differ c.requires.differ in
     let others = others_have_not g.A.AsnType.shape g.A.AsnType.TAG g.R.DecodeSetParts.parts g.R.DecodeSetParts.tags_differ c.requires.differ in
     let h : c.args.tag ≡ g.A.AsnType.TAG = search rules in
-    placed_here required g.A.AsnType.shape g.R.DecodeSetParts.parts c.args.tag g.A.AsnType.TAG h own others _ _ c.requires.next g.A.AsnType.tree _ _ _ _ _ c.in_ok-value.ensures c.place.ensures
+    placed_here required g.A.AsnType.shape g.R.DecodeSetParts.parts c.args.tag g.A.AsnType.TAG h own others _ _ c.requires.next _ g.A.AsnType.tree _ _ _ _ _ c.in_ok-value.ensures c.place.ensures
 
 pub returns : goal.returns
 returns g c =
     let own = first_has g.A.AsnType.shape g.A.AsnType.TAG g.R.DecodeSetParts.parts g.R.DecodeSetParts.tags_differ c.requires.differ in
     let h : c.args.tag ≡ g.A.AsnType.TAG → ⊥ = search rules in
-    placed_other required g.A.AsnType.shape g.R.DecodeSetParts.parts c.args.tag g.A.AsnType.TAG h own _ _ c.requires.next _ _ _ _ c.decode_component.ensures
+    placed_other required g.A.AsnType.shape g.R.DecodeSetParts.parts _ _ c.other_names.ensures c.args.tag g.A.AsnType.TAG h own _ _ c.requires.next _ _ _ _ c.decode_component.ensures
