@@ -3,6 +3,7 @@
 
 mod choice;
 mod enumerated;
+pub mod nested_lists;
 mod own_types;
 mod reads;
 mod reads_sequence_of;

@@ -150,11 +150,13 @@ fn put_four(encoder: &mut Encoder, value: &Four) -> Result<(), EncodeError> {
 fn writes_open_types_in_sets(rt: HostRuntime) {
     let alloc = rt.alloc();
     let value = made(&rt, components(alloc));
-    let mut encoder = new_encoder(&rt, alloc, Codec::Der);
-    assert_written(&rt, put_four(&mut encoder, &value));
     const FOUR_COMPONENTS: &[u8] = &[
         0x31, 0x16, 0x31, 0x06, 0x80, 0x01, 0x01, 0x81, 0x01, 0x02, 0x40, 0x01, 0x07, 0xA2, 0x02,
         0x05, 0x00, 0xA3, 0x05, 0x30, 0x03, 0x02, 0x01, 0x09,
     ];
-    assert_output(&rt, encoder.output(), FOUR_COMPONENTS);
+    for rules in [Codec::Ber, Codec::Der] {
+        let mut encoder = new_encoder(&rt, alloc, rules);
+        assert_written(&rt, put_four(&mut encoder, &value));
+        assert_output(&rt, encoder.output(), FOUR_COMPONENTS);
+    }
 }

@@ -57,8 +57,8 @@ fn leaves_take_what_was_read(rt: HostRuntime) {
     assert_reads::<VisibleString>(&rt, alloc, VISIBLE_STRING_ROWS);
 }
 
-// A refusal inside consumes header and contents, of an indefinite length the header alone. Where end-of-contents octets are missing, it
-// consumes what was read inside too.
+// A refusal inside consumes header and contents, of an indefinite length the header alone. Where end-of-contents octets are missing (X.690
+// 8.1.5), it consumes what was read inside too. A SEQUENCE is constructed (8.9.1).
 #[test]
 fn sequences_take_what_was_read(rt: HostRuntime) {
     const ROWS: &[Row] = &[
@@ -80,10 +80,23 @@ fn sequences_take_what_was_read(rt: HostRuntime) {
             NOT_CONSTRUCTED,
             5,
         ),
+        (&[0x10, 0x00], Codec::Ber, NOT_CONSTRUCTED, 2),
         (
             &[0x30, 0x80, 0x01, 0x01, 0xFF, 0x05, 0x00],
             Codec::Ber,
             MISSING_END_OF_CONTENTS,
+            5,
+        ),
+        (
+            &[0x30, 0x80, 0x01, 0x01, 0xFF, 0x02, 0x01, 0x05],
+            Codec::Ber,
+            MISSING_END_OF_CONTENTS,
+            5,
+        ),
+        (
+            &[0x30, 0x80, 0x01, 0x01, 0xFF],
+            Codec::Ber,
+            "Incomplete { needed: Size(2) }",
             5,
         ),
         (

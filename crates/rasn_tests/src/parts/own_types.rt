@@ -1,8 +1,13 @@
 //! Types of one's own whose parts are a type: what is read is written back, and what each presence refuses (X.690 8.9, 11.5).
 
-use crate::types::{Eight, Graded, Profile};
-use crate::whole::{Answer, Rewritten, assert_decodes, assert_rewrites};
+use crate::reading::{Row, assert_reads};
+use crate::types::{Eight, Graded, Padding, Profile};
+use crate::whole::{Answer, Rewritten, assert_decodes, assert_rewrites, encoded};
+use crate::writing::assert_output;
 use rasn::types::Codec;
+
+/// A SEQUENCE without contents.
+const EMPTY: &[u8] = &[0x30, 0x00];
 
 // AlgorithmIdentifier of 1.2.840.113549.1.1.11 (RFC 8017, A.2), and the name 2.5.4.3.
 const ALL_EIGHT: &[u8] = &[
@@ -62,7 +67,6 @@ fn a_profile_may_be_empty(rt: HostRuntime) {
         "UnexpectedExtraData { length: 3 }",
     )];
     let alloc = rt.alloc();
-    const EMPTY: &[u8] = &[0x30, 0x00];
     const EMPTY_INDEFINITE: &[u8] = &[0x30, 0x80, 0x00, 0x00];
     const NAME_AND_AGE: &[u8] = &[0x30, 0x06, 0x80, 0x01, 0x41, 0x02, 0x01, 0x2A];
     assert_rewrites::<Profile>(&rt, alloc, REWRITTEN);
@@ -71,18 +75,68 @@ fn a_profile_may_be_empty(rt: HostRuntime) {
     assert_decodes::<Profile>(&rt, alloc, DECODED);
 }
 
-// An addition under an explicit tag has to come when it is read.
+// An addition under an explicit tag (X.680 25.4) that is absent is written as nothing, but its reader wants it in every input.
 #[test]
-fn an_explicit_addition_always_comes(rt: HostRuntime) {
-    const REWRITTEN: &[Rewritten<'static>] = &[(PASSED, Codec::Der, Codec::Der, PASSED)];
-    const DECODED: &[Answer<'static>] = &[(
-        NO_ADDITION,
-        Codec::Der,
-        "Incomplete { needed: Size(1) }",
-    )];
+fn an_explicit_addition_has_to_be_present(rt: HostRuntime) {
+    const PASSED: &[u8] = &[0x30, 0x08, 0x01, 0x01, 0xFF, 0xA0, 0x03, 0x02, 0x01, 0x05];
+    const REWRITTEN: &[Rewritten<'static>] = &[
+        (PASSED, Codec::Ber, Codec::Ber, PASSED),
+        (PASSED, Codec::Der, Codec::Der, PASSED),
+    ];
+    const NO_ADDITION: &[u8] = &[0x30, 0x03, 0x01, 0x01, 0xFF];
+    const ONE_OCTET_MISSING: &str = "Incomplete { needed: Size(1) }";
+    const READ: &[Row] = &[
+        (NO_ADDITION, Codec::Ber, ONE_OCTET_MISSING, 5),
+        (NO_ADDITION, Codec::Der, ONE_OCTET_MISSING, 5),
+    ];
     let alloc = rt.alloc();
-    const PASSED: &[u8] = &[0x30, 0x08, 0x02, 0x01, 0x05, 0xA0, 0x03, 0x01, 0x01, 0xFF];
     assert_rewrites::<Graded>(&rt, alloc, REWRITTEN);
-    const NO_ADDITION: &[u8] = &[0x30, 0x03, 0x02, 0x01, 0x05];
-    assert_decodes::<Graded>(&rt, alloc, DECODED);
+    let unmarked = Graded {
+        passed: true,
+        mark: None,
+    };
+    assert_output(&rt, encoded(alloc, Codec::Ber, &unmarked), NO_ADDITION);
+    assert_output(&rt, encoded(alloc, Codec::Der, &unmarked), NO_ADDITION);
+    assert_reads::<Graded>(&rt, alloc, READ);
+}
+
+// RSASSA-PSS-params of RFC 8017, A.2.3, has such defaults: a part that is absent is its default, and a default is written by no rule and
+// refused by DER (X.690 11.5). The identifiers are id-sha1 and id-sha256 of RFC 8017, B.1.
+#[test]
+fn defaults_are_allocated(rt: HostRuntime) {
+    const SHA1_AND_20: &[u8] = &[
+        0x30, 0x0C, 0xA0, 0x07, 0x06, 0x05, 0x2B, 0x0E, 0x03, 0x02, 0x1A, 0x02, 0x01, 0x14,
+    ];
+    const SHA1: &[u8] = &[
+        0x30, 0x09, 0xA0, 0x07, 0x06, 0x05, 0x2B, 0x0E, 0x03, 0x02, 0x1A,
+    ];
+    const TWENTY: &[u8] = &[0x30, 0x03, 0x02, 0x01, 0x14];
+    const SHA256_AND_32: &[u8] = &[
+        0x30, 0x10, 0xA0, 0x0B, 0x06, 0x09, 0x60, 0x86, 0x48, 0x01, 0x65, 0x03, 0x04, 0x02, 0x01,
+        0x02, 0x01, 0x20,
+    ];
+    const DEFAULTS: &str =
+        "Padding { hash: ObjectIdentifier { arcs: [1, 3, 14, 3, 2, 26] }, salt_length: Integer { octets: [20] } }";
+    const DEFAULT_PRESENT: &str = "CodecSpecific { inner: Der(DefaultValuePresent) }";
+    const READ: &[Row] = &[
+        (EMPTY, Codec::Ber, DEFAULTS, 2),
+        (EMPTY, Codec::Der, DEFAULTS, 2),
+        (SHA1_AND_20, Codec::Ber, DEFAULTS, 14),
+        (SHA1, Codec::Der, DEFAULT_PRESENT, 11),
+        (TWENTY, Codec::Der, DEFAULT_PRESENT, 5),
+        (
+            SHA256_AND_32,
+            Codec::Der,
+            "Padding { hash: ObjectIdentifier { arcs: [2, 16, 840, 1, 101, 3, 4, 2, 1] }, salt_length: Integer { octets: [32] } }",
+            18,
+        ),
+    ];
+    const REWRITTEN: &[Rewritten<'static>] = &[
+        (SHA1_AND_20, Codec::Ber, Codec::Ber, EMPTY),
+        (SHA1_AND_20, Codec::Ber, Codec::Der, EMPTY),
+        (SHA256_AND_32, Codec::Der, Codec::Der, SHA256_AND_32),
+    ];
+    let alloc = rt.alloc();
+    assert_reads::<Padding>(&rt, alloc, READ);
+    assert_rewrites::<Padding>(&rt, alloc, REWRITTEN);
 }

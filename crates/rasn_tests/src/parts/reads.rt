@@ -1,9 +1,11 @@
 //! Components that are OPTIONAL or DEFAULT (X.690 8.9.3), explicit and implicit tags (8.14) and extension additions are decoded.
+ghost use Rattle.rasn_de.specs.Constructed.{Keeps};
 
 use crate::reading::{
     Row, assert_answer, assert_facts, assert_reads, assert_reads_default, decoder_of, within,
 };
-use crate::types::Counted;
+use crate::types::{Counted, NumberAndTruth};
+use rasn_bench::Both;
 use rasn_de::ber::de::Decoder;
 use rasn_de::de::{Decode, Error};
 use rasn_types::error::DecodeError;
@@ -175,6 +177,54 @@ fn reads_a_group(rt: HostRuntime) {
 /// An addition that is read under \[1\], whatever its constraints.
 fn addition(decoder: &mut Decoder<'_>) -> Result<Option<u8>, DecodeError> {
     decoder.decode_extension_addition_with_tag_and_constraints(context(1), &small())
+}
+
+/// Reads SEQUENCE { second BOOLEAN, ..., first \[0\] EXPLICIT INTEGER }, by the call for additions.
+fn read_addition(decoder: &mut Decoder<'_>) -> Result<NumberAndTruth, DecodeError> {
+    decoder.decode_sequence::<2, 0, NumberAndTruth, fn() -> Result<NumberAndTruth, AllocError>, _>(
+        Tag::SEQUENCE,
+        None,
+        |inner|
+            ensures { Keeps inner.old inner.new }
+        {
+            let second = inner.decode_bool(Tag::BOOL)?;
+            let first = inner.decode_extension_addition_with_explicit_tag_and_constraints::<i32>(
+                context(0),
+                &Constraints::NONE,
+            )?;
+            Ok(Both {
+                first: first.unwrap_or(-1),
+                second,
+            })
+        },
+    )
+}
+
+/// SEQUENCE { BOOLEAN, ..., \[0\] EXPLICIT INTEGER }, what it is read as, and how many octets are consumed.
+const EXPLICIT_ADDITIONS: &[Row] = &[
+    (
+        &[0x30, 0x08, 0x01, 0x01, 0xFF, 0xA0, 0x03, 0x02, 0x01, 0x05],
+        Codec::Ber,
+        "Both { first: 5, second: true }",
+        10,
+    ),
+    (
+        &[0x30, 0x03, 0x01, 0x01, 0xFF],
+        Codec::Ber,
+        "Incomplete { needed: Size(1) }",
+        5,
+    ),
+];
+
+// The call for additions under an explicit tag (X.680 25.4) wants the tag: where the contents end before it, an octet is missing.
+#[test]
+fn an_explicit_addition_is_asked_for(rt: HostRuntime) {
+    for (octets, rules, text, consumed) in EXPLICIT_ADDITIONS {
+        let mut decoder = decoder_of(rt.alloc(), octets, *rules);
+        let answer = read_addition(&mut decoder);
+        assert_answer(&rt, rt.alloc(), *rules, answer, text);
+        assert!(rt; decoder.decoded_len() == *consumed);
+    }
 }
 
 /// An addition that is read inside \[0\], whatever its constraints.

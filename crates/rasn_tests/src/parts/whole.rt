@@ -64,8 +64,9 @@ fn lists_of_lists_are_written(rt: HostRuntime) {
         0x30, 0x82, 0x01, 0x08, 0x30, 0x82, 0x01, 0x04, 0x04, 0x82, 0x01, 0x00,
     ];
     let lists = made(&rt, lists(alloc, 0xAB, 256));
-    let answer = encoded(alloc, Codec::Der, &lists);
-    assert_output_pieces(&rt, alloc, answer, ROWS);
+    for rules in [Codec::Ber, Codec::Der] {
+        assert_output_pieces(&rt, alloc, encoded(alloc, rules, &lists), ROWS);
+    }
 }
 
 #[test]

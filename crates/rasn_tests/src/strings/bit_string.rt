@@ -95,6 +95,19 @@ fn calls_read_bits(rt: HostRuntime) {
 #[test]
 fn refuses_bits(rt: HostRuntime) {
     const READ: &[Row] = &[
+        (&[0x03, 0x00], Codec::Ber, "UnexpectedEmptyInput", 0),
+        (
+            &[0x03, 0x01, 0x01],
+            Codec::Ber,
+            "InvalidBitString { bits: 1 }",
+            0,
+        ),
+        (
+            &[0x03, 0x02, 0x08, 0xFF],
+            Codec::Ber,
+            "InvalidBitString { bits: 8 }",
+            0,
+        ),
         (&[0x03, 0x00], Codec::Der, "UnexpectedEmptyInput", 0),
         (
             &[0x03, 0x01, 0x01],
@@ -122,27 +135,38 @@ fn refuses_bits(rt: HostRuntime) {
     assert_reads_within::<BitString>(&rt, rt.alloc(), &sized(4), BOUNDED);
 }
 
-// The bits 1,1,0,1,0,1,0,1,1,0,1 are written, then those from the second on, then none (X.690 8.6.2).
+/// Asserts which octets these rules write the bits as.
+fn assert_writes_bits(
+    rt: &impl Abort,
+    alloc: Global,
+    rules: Codec,
+    bits: &BitStr<'_>,
+    octets: &[u8],
+) {
+    let mut encoder = new_encoder(rt, alloc, rules);
+    let answer = encoder.encode_bit_string(
+        Tag::BIT_STRING,
+        &Constraints::NONE,
+        bits,
+        Identifier::EMPTY,
+    );
+    assert_written(rt, answer);
+    assert_output(rt, encoder.output(), octets);
+}
+
+// The bits 1,1,0,1,0,1,0,1,1,0,1, those from the second on, and none (X.690 8.6.2).
 #[test]
 fn writes_bits(rt: HostRuntime) {
+    let alloc = rt.alloc();
     let bits = made(&rt, Ok(BitStr::new(&[0xD5, 0xBF], 0, 11)));
     assert!(rt; bits.len() == 11);
     let (none, _) = bits.split_at(0);
     let (_, ten) = bits.split_at(1);
-    let mut encoder = new_encoder(&rt, rt.alloc(), Codec::Der);
-    for bits in [&bits, &ten, &none] {
-        let answer = encoder.encode_bit_string(
-            Tag::BIT_STRING,
-            &Constraints::NONE,
-            bits,
-            Identifier::EMPTY,
-        );
-        assert_written(&rt, answer);
+    for rules in [Codec::Ber, Codec::Cer, Codec::Der] {
+        assert_writes_bits(&rt, alloc, rules, &bits, &[0x03, 0x03, 0x05, 0xD5, 0xA0]);
+        assert_writes_bits(&rt, alloc, rules, &ten, &[0x03, 0x03, 0x06, 0xAB, 0x40]);
+        assert_writes_bits(&rt, alloc, rules, &none, &[0x03, 0x01, 0x00]);
     }
-    const ELEVEN_TEN_AND_NO_BITS: &[u8] = &[
-        0x03, 0x03, 0x05, 0xD5, 0xA0, 0x03, 0x03, 0x06, 0xAB, 0x40, 0x03, 0x01, 0x00,
-    ];
-    assert_output(&rt, encoder.output(), ELEVEN_TEN_AND_NO_BITS);
 }
 
 // More than 999 octets of bits are cut into segments under CER (X.690 9.2).

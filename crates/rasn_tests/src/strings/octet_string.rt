@@ -1,27 +1,62 @@
 //! OCTET STRING (X.690 8.7), in segments under CER (9.2), and of a fixed size.
 
 use crate::reading::{
-    OctetsRow, Row, answers_octets, assert_reads_octets, assert_reads_within, decoder_of, sized,
+    OctetsRow, Row, answers_octets, assert_reads, assert_reads_octets, assert_reads_within,
+    decoder_of, sized,
 };
 use crate::writing::{
     assert_output, assert_refuses, assert_writes_pieces, made, new_encoder, repeated,
 };
 use rasn_enc::enc::Encode;
-use rasn_types::types::{Codec, Constraints, FixedOctetString, Identifier, Tag};
+use rasn_types::types::{Codec, Constraints, FixedOctetString, Identifier, OctetString, Tag};
 
-// Segments of definite and indefinite length in one another are gathered; one primitive string is borrowed (X.690 8.7).
+/// The octets A1 B2 C3 in segments of definite and indefinite length in one another.
+const SEGMENTS: &[u8] = &[
+    0x24, 0x80, 0x04, 0x01, 0xA1, 0x24, 0x03, 0x04, 0x01, 0xB2, 0x24, 0x80, 0x04, 0x01, 0xC3, 0x00,
+    0x00, 0x00, 0x00,
+];
+
+/// The same octets in one piece.
+const ONE_PIECE: &[u8] = &[0x04, 0x03, 0xA1, 0xB2, 0xC3];
+
+/// Octets of A1 B2 C3, the rules they are read by, and whether what is read is borrowed.
+const THREE_OCTETS: &[(&[u8], Codec, bool)] = &[
+    (SEGMENTS, Codec::Ber, false),
+    (SEGMENTS, Codec::Cer, false),
+    (ONE_PIECE, Codec::Ber, true),
+    (ONE_PIECE, Codec::Cer, true),
+    (ONE_PIECE, Codec::Der, true),
+];
+
+// Segments are gathered; one primitive string is borrowed (X.690 8.7).
 #[test]
 fn gathers_segments(rt: HostRuntime) {
-    const SEGMENTS_THEN_ONE_PIECE: &[u8] = &[
-        0x24, 0x80, 0x04, 0x01, 0xA1, 0x24, 0x03, 0x04, 0x01, 0xB2, 0x24, 0x80, 0x04, 0x01, 0xC3,
-        0x00, 0x00, 0x00, 0x00, 0x04, 0x03, 0xA1, 0xB2, 0xC3,
-    ];
-    let mut decoder = decoder_of(rt.alloc(), SEGMENTS_THEN_ONE_PIECE, Codec::Cer);
-    for is_borrowed in &[false, true] {
+    for (octets, rules, is_borrowed) in THREE_OCTETS {
+        let mut decoder = decoder_of(rt.alloc(), octets, *rules);
         let answer = decoder.decode_octet_string(Tag::OCTET_STRING, &Constraints::NONE);
         assert!(rt; answers_octets(answer, &[0xA1, 0xB2, 0xC3], *is_borrowed));
+        assert!(rt; decoder.remaining().is_empty());
     }
-    assert!(rt; decoder.remaining().is_empty());
+}
+
+// DER has neither segments nor an indefinite length (X.690 10.1, 10.2).
+#[test]
+fn der_refuses_segments(rt: HostRuntime) {
+    const ROWS: &[Row] = &[
+        (
+            SEGMENTS,
+            Codec::Der,
+            "CodecSpecific { inner: Ber(IndefiniteLengthNotAllowed) }",
+            0,
+        ),
+        (
+            &[0x24, 0x03, 0x04, 0x01, 0xA1],
+            Codec::Der,
+            "CodecSpecific { inner: Der(ConstructedEncodingNotAllowed) }",
+            0,
+        ),
+    ];
+    assert_reads::<OctetString>(&rt, rt.alloc(), ROWS);
 }
 
 // Another length than the type's is reported before a size that is handed in.

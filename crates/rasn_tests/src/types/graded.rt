@@ -5,11 +5,11 @@ use rasn::parts::{Addition, End, Put, PutAddition, Required};
 use rasn::types::{AsnType, Constraints, ContextTag, Explicit, Identifier, LawfulEq, Tag};
 use rasn::{Decode, Decoder, Encode, Encoder};
 
-/// SEQUENCE { mark INTEGER (0..255), ..., passed [0] EXPLICIT BOOLEAN }
+/// SEQUENCE { passed BOOLEAN, ..., mark [0] EXPLICIT INTEGER (0..255) }
 #[derive(Debug, PartialEq, Eq, Drop)]
 pub struct Graded {
-    pub mark: u8,
-    pub passed: Option<Explicit<ContextTag<0>, bool>>,
+    pub passed: bool,
+    pub mark: Option<Explicit<ContextTag<0>, u8>>,
 }
 
 impl AsnType for Graded {
@@ -28,9 +28,9 @@ impl AsnType for Graded {
 
     const CONSTRAINTS: Constraints = Constraints::NONE;
 
-    ghost shape = { seq (in_universal 16) (part required (leaf (integer (unsigned_range 8)) (in_universal 2) unconstrained) (part addition (prefix (record { class = Context; value = 0 }) (leaf boolean (in_universal 1) unconstrained)) none)) };
+    ghost shape = { seq (in_universal 16) (part required (leaf boolean (in_universal 1) unconstrained) (part addition (prefix (record { class = Context; value = 0 }) (leaf (integer (unsigned_range 8)) (in_universal 2) unconstrained)) none)) };
 
-    ghost tree = { λ g. items (number (pos g.mark) ∷ option_tree bool_tree g.passed ∷ []) };
+    ghost tree = { λ g. items (bool_tree g.passed ∷ option_tree (λ m. number (pos m)) g.mark ∷ []) };
 
     ghost own = { refl };
 }
@@ -47,8 +47,8 @@ impl Decode for Graded {
         tag: Tag,
         _constraints: &Constraints,
     ) -> Result<Graded, DecodeError> {
-        let Required(mark, Addition(passed, End)) = decoder.read_sequence(tag)?;
-        Ok(Graded { mark, passed })
+        let Required(passed, Addition(mark, End)) = decoder.read_sequence(tag)?;
+        Ok(Graded { passed, mark })
     }
 }
 
@@ -60,7 +60,7 @@ impl Encode for Graded {
         _constraints: &Constraints,
         _identifier: Identifier,
     ) -> Result<(), EncodeError> {
-        encoder.write_sequence(tag, Put(&self.mark, PutAddition(&self.passed, End)))
+        encoder.write_sequence(tag, Put(&self.passed, PutAddition(&self.mark, End)))
     }
 
     fn is_present(&self) -> bool {

@@ -84,9 +84,15 @@ fn refuses_cut_contents(rt: HostRuntime) {
     assert_reads::<OctetString>(&rt, rt.alloc(), OCTET_STRING_ROWS);
 }
 
+// A number of 31 or more is in base 128 (X.690 8.1.2.4); one of 2^32 or more isn't supported.
 #[test]
 fn tags_are_looked_at(rt: HostRuntime) {
     const ROWS: &[PeekRow] = &[
+        (
+            &[0x1F, 0x90, 0x80, 0x80, 0x80, 0x00],
+            Codec::Ber,
+            "CodecSpecific { inner: Ber(UnsupportedTagNumber) }",
+        ),
         (
             &[0x1F, 0x8F, 0xFF, 0xFF, 0xFF, 0x7F],
             Codec::Ber,
