@@ -19,7 +19,7 @@ use std::mem;
 
 /// Returns the value that is all of the input by these rules: exactly where the grammar relates the input to it and to no rest.
 ///
-/// Under DER it does what `der::decode` does. `ber::decode` and `cer::decode` ignore what follows the value, which this call refuses.
+/// Under DER it does what `der::decode` does. `ber::decode` and `cer::decode` ignore what follows the value, and this call refuses it.
 ///
 /// # Errors
 /// Those of `decode_with_remainder`, and then those of `refuse_remainder`. An error for another cause than memory means that the input
@@ -41,7 +41,7 @@ pub fn decode<T: Decode>(alloc: Global, codec: Codec, input: &[u8]) -> Result<T,
 
 /// Returns the value that begins the input by these rules, and what follows it: exactly where the grammar relates the input to them.
 ///
-/// What follows is an end of the input, so the value has as many octets as the input has more than the remainder.
+/// What follows is an end of the input, so the value has `input.len() - remainder.len()` octets.
 ///
 /// # Errors
 /// What the type refuses. An error for another cause than memory means that no value of the type begins the input.
