@@ -72,7 +72,7 @@ not_read {rule} {s} {input} {octets} {text} t e means is f refused other = recor
       | inl m ↦ other m
       | inr n ↦ n v [] h
     ]
-    none (inr y) v h = y.some (sym (y.read.1 v [] h).1)
+    none (inr y) v h = y.extra.some (sym (y.read.1 v [] h).1)
 
 -- The normal encoding of a carried value is its octets.
 module _ {rule : Codec} {s : Shape} {input octets : List ℕ} (n : IsNormal rule s input octets) {t : Tree} (c : IsCarriedIn rule s input t) where
@@ -112,7 +112,7 @@ answered {rule} {s} {input} (Decode e) (inl x) = λ lawful t c. elim (memory_or_
   | inl m ↦ m
   | inr n ↦ absurd (n t [] c.reads)
 ]
-answered (Decode e) (inr f) = λ lawful t c. absurd (f.some (sym (f.read.1 t [] c.reads).1))
+answered (Decode e) (inr f) = λ lawful t c. absurd (f.extra.some (sym (f.read.1 t [] c.reads).1))
 answered (Encode e) (inl m) = λ lawful t c. m
 answered {rule} {s} (Encode e) (inr (v, means, undefined)) = λ lawful t c.
     absurd (undefined.none c.carried.octets (subst (λ z. Bytes Der s z c.carried.octets) (means.1 t [] c.reads).0 c.carried.is))
@@ -132,7 +132,7 @@ no_normal {rule} {s} {input} (Decode e) (inl x) = elim (memory_or_none e.kind (R
   | inl m ↦ inl m
   | inr h ↦ inr (λ octets n. h n.value [] n.means.0)
 ]
-no_normal (Decode e) (inr f) = inr (λ octets n. f.some (sym (f.read.1 n.value [] n.means.0).1))
+no_normal (Decode e) (inr f) = inr (λ octets n. f.extra.some (sym (f.read.1 n.value [] n.means.0).1))
 no_normal (Encode e) (inl m) = inl m
 no_normal {rule} {s} (Encode e) (inr (v, means, undefined)) = inr (λ octets n. undefined.none octets (subst (λ z. Bytes Der s z octets) (means.1 n.value [] n.means.0).0 n.written))
 no_normal {rule} {s} NotCanonical x = inr (λ octets n.

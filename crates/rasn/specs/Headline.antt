@@ -32,13 +32,17 @@ abbrev pub AnsweredFirst : {T : Type 0} → Codec → Shape → (T → Tree) →
 AnsweredFirst rule shape tree input (Ok v) = (rest : List ℕ) × Exact (Reads rule shape 128 (top rule)) input (Got (tree v) rest)
 AnsweredFirst rule shape tree input (Err e) = Exact (Reads rule shape 128 (top rule)) input (refusal e.kind)
 
--- The value is followed by these octets, which are some: they are refused with their number.
+-- Octets that follow a value are refused with their number and the rules; there are some.
+pub record IsExtraData (rule : Codec) (rest : List ℕ) (e : DecodeError) : Type 0 where
+  pub some : rest ≢ []
+  pub told : e ≡ record { kind = UnexpectedExtraData (length rest); codec = rule }
+
+-- The value is followed by octets, which are refused.
 pub record IsFollowed (rule : Codec) (shape : Shape) (input : List ℕ) (e : DecodeError) : Type 0 where
   pub t : Tree
   pub rest : List ℕ
-  pub some : rest ≢ []
   pub read : Exact (Reads rule shape 128 (top rule)) input (Got t rest)
-  pub told : e ≡ record { kind = UnexpectedExtraData (length rest); codec = rule }
+  pub extra : IsExtraData rule rest e
 
 -- A value is answered exactly where the grammar relates the input to it and to no rest; a refusal says that there is none, or that octets follow.
 abbrev pub AnsweredAlone : {T : Type 0} → Codec → Shape → (T → Tree) → List ℕ → Result T DecodeError → Type 0

@@ -3,19 +3,20 @@ ghost use Rattle.std.specs.Prelude.{◌≡◌, [], IfOk, IfErr, OnOk, OnErr, fal
 ghost use Rattle.std.specs.Fn.{FnOnceTakesAtMut};
 ghost use Rattle.rasn_types.specs.Bytes.{Bytes};
 ghost use Rattle.rasn_types.specs.declared.types.codec.Codec.TheVariants.{Ber};
+ghost use Rattle.rasn_de.specs.State.{IsEnd};
 ghost use Rattle.rasn.specs.Headline.{Answered, AnsweredFirst, ScopeRefuses, EncodingFails};
 ghost use Rattle.rasn_enc.specs.View.{started};
 ghost use Rattle.rasn_enc.specs.Closures.{OnlyAppends, WritesOutput};
 
 use crate::entry;
 pub use rasn_de::ber::de;
-use rasn_de::ber::de::DecoderOptions;
 use rasn_de::de::Decode;
 pub use rasn_enc::ber::enc;
 use rasn_enc::ber::enc::{Encoder, EncoderOptions};
 use rasn_enc::enc::Encode;
 pub use rasn_types::ber::Identifier;
 use rasn_types::error::{DecodeError, EncodeError};
+use rasn_types::types::Codec;
 use std::alloc::Global;
 
 /// Returns the value that begins the input, and ignores what follows it.
@@ -30,7 +31,8 @@ pub fn decode<T: Decode>(alloc: Global, input: &[u8]) -> Result<T, DecodeError>
     Ok(value)
 }
 
-/// Returns the value that begins the input, and what follows it: exactly where the grammar relates the input to them.
+/// Returns the value that begins the input, and what follows it, which is an end of the input: exactly where the grammar relates the
+/// input to them.
 ///
 /// # Errors
 /// What `T::decode` refuses: then no value of the type begins the input. `OutOfMemory` where an allocation fails.
@@ -39,9 +41,10 @@ pub fn decode_with_remainder<T: Decode>(
     alloc: Global,
     input: &[u8],
 ) -> Result<(T, &[u8]), DecodeError>
-    ensures { Answered Ber T.shape T.tree input.now result }
+    ensures exact { Answered Ber T.shape T.tree input.now result }
+    ensures end { IfOk result (λ read. IsEnd input.now read.1.now) }
 {
-    entry::decode_with_remainder(alloc, input, DecoderOptions::ber())
+    entry::decode_with_remainder(alloc, Codec::Ber, input)
 }
 
 /// Returns the value's octets.

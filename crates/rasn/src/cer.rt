@@ -2,15 +2,16 @@
 ghost use Rattle.std.specs.Prelude.{◌≡◌, [], IfOk, IfErr, OnOk, OnErr};
 ghost use Rattle.rasn_types.specs.Bytes.{Bytes};
 ghost use Rattle.rasn_types.specs.declared.types.codec.Codec.TheVariants.{Cer};
+ghost use Rattle.rasn_de.specs.State.{IsEnd};
 ghost use Rattle.rasn.specs.Headline.{Answered, AnsweredFirst, EncodingFails};
 
 pub use crate::ber::{Identifier, de, enc};
 use crate::entry;
-use rasn_de::ber::de::DecoderOptions;
 use rasn_de::de::Decode;
 use rasn_enc::ber::enc::EncoderOptions;
 use rasn_enc::enc::Encode;
 use rasn_types::error::{DecodeError, EncodeError};
+use rasn_types::types::Codec;
 use std::alloc::Global;
 
 /// Returns the value that begins the input, and ignores what follows it.
@@ -25,7 +26,8 @@ pub fn decode<T: Decode>(alloc: Global, input: &[u8]) -> Result<T, DecodeError>
     Ok(value)
 }
 
-/// Returns the value that begins the input, and what follows it: exactly where the grammar relates the input to them.
+/// Returns the value that begins the input, and what follows it, which is an end of the input: exactly where the grammar relates the
+/// input to them.
 ///
 /// # Errors
 /// What `T::decode` refuses: then no value of the type begins the input. `OutOfMemory` where an allocation fails.
@@ -34,9 +36,10 @@ pub fn decode_with_remainder<T: Decode>(
     alloc: Global,
     input: &[u8],
 ) -> Result<(T, &[u8]), DecodeError>
-    ensures { Answered Cer T.shape T.tree input.now result }
+    ensures exact { Answered Cer T.shape T.tree input.now result }
+    ensures end { IfOk result (λ read. IsEnd input.now read.1.now) }
 {
-    entry::decode_with_remainder(alloc, input, DecoderOptions::cer())
+    entry::decode_with_remainder(alloc, Codec::Cer, input)
 }
 
 /// Returns the value's octets.

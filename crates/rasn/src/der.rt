@@ -4,6 +4,7 @@ ghost use Rattle.std.specs.Fn.{FnOnceTakesAtMut};
 ghost use Rattle.rasn_types.specs.Bytes.{Bytes};
 ghost use Rattle.rasn_types.specs.Truth.{IsWhether};
 ghost use Rattle.rasn_types.specs.declared.types.codec.Codec.TheVariants.{Der};
+ghost use Rattle.rasn_de.specs.State.{IsEnd};
 ghost use Rattle.rasn.specs.Headline.{Answered, AnsweredAlone, Identify, ConsumesWritten, IsAsWritten, ScopeRefuses, EncodingFails};
 ghost use Rattle.rasn.specs.Normal.{IsNormal};
 ghost use Rattle.rasn_enc.specs.View.{started};
@@ -11,11 +12,10 @@ ghost use Rattle.rasn_enc.specs.Closures.{OnlyAppends, WritesOutput};
 
 pub use crate::ber::{Identifier, de, enc};
 use crate::{entry, normalise};
-use rasn_de::ber::de::DecoderOptions;
 use rasn_de::de::Decode;
 use rasn_enc::ber::enc::{Encoder, EncoderOptions};
 use rasn_enc::enc::Encode;
-use rasn_types::error::{DecodeError, DecodeErrorKind, EncodeError};
+use rasn_types::error::{DecodeError, EncodeError};
 use rasn_types::types::{Codec, LawfulEq};
 use std::alloc::{AllocError, Global};
 
@@ -28,20 +28,12 @@ pub fn decode<T: Decode>(alloc: Global, input: &[u8]) -> Result<T, DecodeError>
     ensures exact { AnsweredAlone Der T.shape T.tree input.now result }
     ensures written { IsAsWritten T.shape T.tree input.now result }
 {
-    let (value, rest) = decode_with_remainder(alloc, input)?;
-    if rest.is_empty() {
-        Ok(value)
-    } else {
-        Err(DecodeError {
-            kind: DecodeErrorKind::UnexpectedExtraData { length: rest.len() },
-            codec: Codec::Der,
-        })
-    }
+    entry::decode(alloc, Codec::Der, input)
 }
 
-/// Returns the value that begins the input, and what follows it: exactly where the grammar relates the input to them. The octets in
-/// front of the rest are, for a carried value, exactly those that `encode` writes of it: there is one encoding, and no other is read
-/// (X.690 10, 11).
+/// Returns the value that begins the input, and what follows it, which is an end of the input: exactly where the grammar relates the
+/// input to them. The octets before the rest are, for a carried value, exactly those that `encode` writes of it: there is one encoding,
+/// and no other is read (X.690 10, 11).
 ///
 /// # Errors
 /// What `T::decode` refuses: then no value of the type begins the input. `OutOfMemory` where an allocation fails.
@@ -51,9 +43,10 @@ pub fn decode_with_remainder<T: Decode>(
     input: &[u8],
 ) -> Result<(T, &[u8]), DecodeError>
     ensures exact { Answered Der T.shape T.tree input.now result }
+    ensures end { IfOk result (λ read. IsEnd input.now read.1.now) }
     ensures written { ConsumesWritten T.shape T.tree input.now result }
 {
-    entry::decode_with_remainder(alloc, input, DecoderOptions::der())
+    entry::decode_with_remainder(alloc, Codec::Der, input)
 }
 
 /// Returns the value's octets, which depend on the value alone: two carried values have the same ones exactly if they are equal.

@@ -1,8 +1,9 @@
-//! What the three rules' entry points share.
-ghost use Rattle.std.specs.Prelude.{◌≡◌, [], IfOk, IfErr, OnOk, OnErr, false};
+//! Whole values by rules that are given at run time, and what the entry points of each rule share.
+ghost use Rattle.std.specs.Prelude.{◌≡◌, [], IfOk, IfErr, OnOk, OnErr, MatchResult, false};
 ghost use Rattle.std.specs.Fn.{FnOnceTakesAtMut, FnOnceReturnsAtMut};
 ghost use Rattle.rasn_types.specs.Bytes.{Bytes};
-ghost use Rattle.rasn.specs.Headline.{Answered, ScopeRefuses, EncodingFails};
+ghost use Rattle.rasn_de.specs.State.{IsEnd};
+ghost use Rattle.rasn.specs.Headline.{Answered, AnsweredAlone, IsExtraData, ScopeRefuses, EncodingFails};
 ghost use Rattle.rasn_enc.specs.View.{started};
 ghost use Rattle.rasn_enc.specs.Closures.{OnlyAppends, WritesOutput};
 ghost use Rattle.rasn_enc.specs.Primitive.{IsAllocError};
@@ -11,22 +12,83 @@ use rasn_de::ber::de::{Decoder, DecoderOptions};
 use rasn_de::de::Decode;
 use rasn_enc::ber::enc::{Encoder, EncoderOptions, INITIAL_CAPACITY};
 use rasn_enc::enc::Encode;
-use rasn_types::error::{DecodeError, EncodeError, EncodeErrorKind};
+use rasn_types::error::{DecodeError, DecodeErrorKind, EncodeError, EncodeErrorKind};
+use rasn_types::types::Codec;
 use std::alloc::Global;
 use std::mem;
 
-/// The value that begins the input, and what follows it.
+/// Returns the value that is all of the input by these rules: exactly where the grammar relates the input to it and to no rest.
+///
+/// Under DER it does what `der::decode` does. `ber::decode` and `cer::decode` ignore what follows the value, and this call refuses it.
+///
+/// # Errors
+/// Those of `decode_with_remainder`, and then those of `refuse_remainder`. An error for another cause than memory means that the input
+/// isn't one value of the type.
+///
+/// # Examples
+/// ```
+/// let value: bool = rasn::decode(alloc, Codec::Ber, &[0x01, 0x01, 0x05])?;                   // true
+/// let refused = rasn::decode::<bool>(alloc, Codec::Ber, &[0x01, 0x01, 0xFF, 0x00, 0x00]);   // UnexpectedExtraData { length: 2 }
+/// ```
 #[inline(always)]
-pub(crate) fn decode_with_remainder<T: Decode>(
-    alloc: Global,
-    input: &[u8],
-    options: DecoderOptions,
-) -> Result<(T, &[u8]), DecodeError>
-    ensures { Answered options T.shape T.tree input.now result }
+pub fn decode<T: Decode>(alloc: Global, codec: Codec, input: &[u8]) -> Result<T, DecodeError>
+    ensures { AnsweredAlone codec T.shape T.tree input.now result }
 {
-    let mut decoder = Decoder::new(alloc, input, options);
+    let (value, remainder) = decode_with_remainder(alloc, codec, input)?;
+    refuse_remainder(codec, remainder)?;
+    Ok(value)
+}
+
+/// Returns the value that begins the input by these rules, and what follows it: exactly where the grammar relates the input to them.
+///
+/// What follows is an end of the input, so the value has `input.len() - remainder.len()` octets.
+///
+/// # Errors
+/// What the type refuses. An error for another cause than memory means that no value of the type begins the input.
+///
+/// # Examples
+/// ```
+/// let (value, remainder) = rasn::decode_with_remainder::<bool>(alloc, Codec::Cer, &[0x01, 0x01, 0xFF, 0x00])?;
+/// // `value` is true, and `remainder` the octet 00
+/// ```
+#[inline(always)]
+pub fn decode_with_remainder<T: Decode>(
+    alloc: Global,
+    codec: Codec,
+    input: &[u8],
+) -> Result<(T, &[u8]), DecodeError>
+    ensures exact { Answered codec T.shape T.tree input.now result }
+    ensures end { IfOk result (λ read. IsEnd input.now read.1.now) }
+{
+    let mut decoder = Decoder::new(alloc, input, DecoderOptions::of(codec));
     let value = T::decode(&mut decoder)?;
     Ok((value, decoder.remaining()))
+}
+
+/// Refuses octets that follow a value, such as the remainder of `decode_with_remainder` (X.690 8.1.1.1).
+///
+/// # Errors
+/// `UnexpectedExtraData` with the number of octets and with these rules, where there are any.
+///
+/// # Examples
+/// ```
+/// let (first, remainder) = rasn::decode_with_remainder::<bool>(alloc, Codec::Der, octets)?;
+/// let (second, remainder) = rasn::decode_with_remainder::<Integer>(alloc, Codec::Der, remainder)?;
+/// rasn::refuse_remainder(Codec::Der, remainder)?;   // these two values, and nothing else
+/// ```
+#[inline(always)]
+pub fn refuse_remainder(codec: Codec, remainder: &[u8]) -> Result<(), DecodeError>
+    ensures { MatchResult result (λ _. remainder.now ≡ []) (IsExtraData codec remainder.now) }
+{
+    if remainder.is_empty() {
+        return Ok(());
+    }
+    Err(DecodeError {
+        kind: DecodeErrorKind::UnexpectedExtraData {
+            length: remainder.len(),
+        },
+        codec,
+    })
 }
 
 /// The value's octets.

@@ -13,6 +13,7 @@ pub mod prelude;
 pub mod time_laws;
 pub mod types;
 
+pub use entry::{decode, decode_with_remainder, refuse_remainder};
 pub use normal::{NormaliseError, normalise, same_exactly_if_equal};
 pub use rasn_de::ber::de::Decoder;
 pub use rasn_de::de;

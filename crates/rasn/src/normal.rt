@@ -5,8 +5,7 @@ ghost use Rattle.rasn_types.specs.Framing.{AreOctets};
 ghost use Rattle.rasn.specs.Headline.{AnsweredAlone};
 ghost use Rattle.rasn.specs.Normal.{IsNormal, IsNoNormal, IsIdentified, IsKept, IsUnchanged, IsAnswered, IsOutOfMemoryAlone, SameExactlyIfEqual};
 
-use crate::der;
-use crate::open_type::decode_alone;
+use crate::{decode, der};
 use rasn_de::de::Decode;
 use rasn_enc::enc::Encode;
 use rasn_types::error::{DecodeError, EncodeError};
@@ -80,7 +79,7 @@ fn convert<T: Decode + Encode + LawfulEq>(
     ensures octets { IfOk result (λ octets. AreOctets octets.items) }
     ensures fails { IfErr result (λ error. IsNoNormal rule T.shape input.now error) }
 {
-    let value = decode_alone::<T>(alloc, rule, input).map_err(NormaliseError::Decode)?;
+    let value = decode::<T>(alloc, rule, input).map_err(NormaliseError::Decode)?;
     let octets = der::encode(alloc, &value).map_err(NormaliseError::Encode)?;
     match read_back::<T>(alloc, &octets) {
         Ok(again) if again.means_same(&value) => Ok(octets),

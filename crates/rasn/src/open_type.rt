@@ -11,7 +11,7 @@ use rasn_de::ber::de::{Decoder, DecoderOptions};
 use rasn_de::de::Decode;
 use rasn_enc::ber::enc::EncoderOptions;
 use rasn_enc::enc::Encode;
-use rasn_types::error::{DecodeError, DecodeErrorKind, EncodeError};
+use rasn_types::error::{DecodeError, EncodeError};
 use rasn_types::types::{Any, Codec, Tag};
 use std::alloc::Global;
 
@@ -30,30 +30,11 @@ pub fn encode_any<T: Encode>(alloc: Global, rules: Codec, value: &T) -> Result<A
 /// The value that an open type holds by these rules, alone.
 ///
 /// # Errors
-/// As `der::decode`, by these rules: `UnexpectedExtraData` where octets follow the value (X.690 8.1.1.1).
+/// Those of `rasn::decode`: `UnexpectedExtraData` where octets follow the value (X.690 8.1.1.1).
 pub fn decode_any<T: Decode>(alloc: Global, rules: Codec, any: &Any) -> Result<T, DecodeError>
     ensures { AnsweredAlone rules T.shape T.tree any.now result }
 {
-    decode_alone(alloc, rules, any.as_bytes())
-}
-
-/// The value that is all of the input by these rules.
-pub(crate) fn decode_alone<T: Decode>(
-    alloc: Global,
-    rules: Codec,
-    input: &[u8],
-) -> Result<T, DecodeError>
-    ensures { AnsweredAlone rules T.shape T.tree input.now result }
-{
-    let (value, rest) = entry::decode_with_remainder(alloc, input, DecoderOptions::of(rules))?;
-    if rest.is_empty() {
-        Ok(value)
-    } else {
-        Err(DecodeError {
-            kind: DecodeErrorKind::UnexpectedExtraData { length: rest.len() },
-            codec: rules,
-        })
-    }
+    entry::decode(alloc, rules, any.as_bytes())
 }
 
 /// The outermost tag of what an open type holds by these rules.

@@ -1,17 +1,14 @@
 //! What the program answers to a line.
 ghost use Rattle.std.specs.Prelude.{IfOk, IsTrue, ◌↔◌, ◌≢◌};
-ghost use Rattle.rasn.specs.Headline.{Answered};
 ghost use Rattle.rasn_bench.specs.Answers.{IsAnswerTo};
 ghost use Rattle.rasn_bench.specs.declared.answer.Answer.TheVariants.{Malformed};
 
 use crate::line::Request;
 use crate::names::{decode_error_name, encode_error_name};
 use crate::typed_answer::{TypedAnswer, answer_to};
-use rasn::ber::de::{Decoder, DecoderOptions};
 use rasn::de::Decode;
 use rasn::der;
 use rasn::enc::Encode;
-use rasn::error::DecodeError;
 use rasn::types::{Codec, LawfulEq};
 use std::alloc::{AllocError, Global};
 use std::fmt;
@@ -73,7 +70,7 @@ impl TypedAnswer for Answer {
         word: &'static str,
         octets: &[u8],
     ) -> Answer {
-        match decode_with_remainder::<T>(alloc, rule, octets) {
+        match rasn::decode_with_remainder::<T>(alloc, rule, octets) {
             Err(error) => Answer::Refused {
                 name: decode_error_name(&error.kind),
             },
@@ -116,17 +113,4 @@ pub(crate) fn write_octets<W: fmt::Write>(octets: &[u8], f: &mut fmt::Formatter<
         write!(f, "{octet:02X}")?;
     }
     Ok(())
-}
-
-/// The value that begins the input by these rules, and what follows it.
-fn decode_with_remainder<T: Decode>(
-    alloc: Global,
-    rule: Codec,
-    input: &[u8],
-) -> Result<(T, &[u8]), DecodeError>
-    ensures { Answered rule T.shape T.tree input.now result }
-{
-    let mut decoder = Decoder::new(alloc, input, DecoderOptions::of(rule));
-    let value = T::decode(&mut decoder)?;
-    Ok((value, decoder.remaining()))
 }

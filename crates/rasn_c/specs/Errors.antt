@@ -1,13 +1,12 @@
 -- Why octets aren't one value of a type, alone.
-use Rattle.std.specs.Prelude.{◌≡◌, ◌≢◌, ◌+◌, ◌⊎◌, ℕ, List, [], length, Result, Ok as Value, Err}
-use Rattle.std.specs.Borrow.{Bor}
+use Rattle.std.specs.Prelude.{◌≡◌, ◌+◌, ◌⊎◌, ℕ, List, [], length}
 use Rattle.rasn_types.specs.declared.types.codec.Codec.{Codec}
 use Rattle.rasn_types.specs.declared.error.decode.DecodeError.{DecodeError}
-use Rattle.rasn_types.specs.declared.error.decode.DecodeErrorKind.TheVariants.{UnexpectedExtraData}
 use Rattle.rasn_types.specs.Errors.{IsOutOfMemory}
 use Rattle.rasn_types.specs.Shapes.{Shape, Tree}
 use Rattle.rasn_types.specs.Grammar.{Reads, top}
 use Rattle.rasn_de.specs.Outcomes.{Exact, Got, refusal}
+use Rattle.rasn.specs.Headline.{IsExtraData}
 use Rattle.rasn_c.specs.Types.{IsUnknownType}
 use Rattle.rasn_c.specs.Rules.{IsUnknownRule}
 use Rattle.rasn_c.specs.Buffers.{IsCutInto}
@@ -23,19 +22,13 @@ use Rattle.rasn_c.specs.declared.status.Status.TheVariants.{Ok, Refused, OutOfMe
 abbrev pub IsAlone : Codec → Shape → List ℕ → Type 0
 IsAlone rule shape octets = (tree : Tree) × Exact (Reads rule shape 128 (top rule)) octets (Got tree [])
 
--- A value of so many octets begins them, with this rest, and no other; or none does, memory aside.
-abbrev pub ReadsFront : Codec → Shape → List ℕ → Result (ℕ × Bor (List ℕ)) DecodeError → Type 0
-ReadsFront rule shape octets (Value p) = (tree : Tree) × Exact (Reads rule shape 128 (top rule)) octets (Got tree p.1.now) × (p.0 + length p.1.now ≡ length octets)
-ReadsFront rule shape octets (Err e) = Exact (Reads rule shape 128 (top rule)) octets (refusal e.kind)
-
 -- A value begins the octets, and others follow it from this offset on, which the error counts.
 pub record IsFollowedAt (rule : Codec) (shape : Shape) (octets : List ℕ) (offset : ℕ) (e : DecodeError) : Type 0 where
   pub tree : Tree
   pub rest : List ℕ
-  pub some : rest ≢ []
   pub read : Exact (Reads rule shape 128 (top rule)) octets (Got tree rest)
   pub offset_is : offset + length rest ≡ length octets
-  pub told : e ≡ record { kind = UnexpectedExtraData (length rest); codec = rule }
+  pub extra : IsExtraData rule rest e
 
 -- No value begins the octets, for this cause; the value that would is at the offset 0.
 abbrev pub IsUnread : Codec → Shape → List ℕ → ℕ → DecodeError → Type 0

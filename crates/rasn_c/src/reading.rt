@@ -1,12 +1,9 @@
 //! What octets are, read as one value.
-ghost use Rattle.rasn_c.specs.Errors.{ReadsFront};
 
 use crate::types::TypedAnswer;
-use rasn::Decoder;
-use rasn::ber::de::DecoderOptions;
 use rasn::de::Decode;
 use rasn::enc::Encode;
-use rasn::error::{DecodeError, DecodeErrorKind};
+use rasn::error::DecodeError;
 use rasn::types::{Codec, LawfulEq};
 use std::alloc::Global;
 
@@ -30,32 +27,16 @@ impl TypedAnswer for Reading {
         rule: Codec,
         octets: &[u8],
     ) -> Reading {
-        let (consumed, rest) = match read_front::<T>(alloc, rule, octets) {
+        let (_value, rest) = match rasn::decode_with_remainder::<T>(alloc, rule, octets) {
             Ok(read) => read,
             Err(error) => return Reading::Refused { offset: 0, error },
         };
-        if rest.is_empty() {
-            return Reading::Alone;
-        }
-        Reading::Refused {
-            offset: consumed,
-            error: DecodeError {
-                kind: DecodeErrorKind::UnexpectedExtraData { length: rest.len() },
-                codec: rule,
+        match rasn::refuse_remainder(rule, rest) {
+            Ok(()) => Reading::Alone,
+            Err(error) => Reading::Refused {
+                offset: octets.len() - rest.len(),
+                error,
             },
         }
     }
-}
-
-/// How many octets the value has that begins the octets by these rules, and what follows it.
-fn read_front<T: Decode>(
-    alloc: Global,
-    rule: Codec,
-    octets: &[u8],
-) -> Result<(usize, &[u8]), DecodeError>
-    ensures { ReadsFront rule T.shape octets.now result }
-{
-    let mut decoder = Decoder::new(alloc, octets, DecoderOptions::of(rule));
-    let _value = T::decode(&mut decoder)?;
-    Ok((decoder.decoded_len(), decoder.remaining()))
 }

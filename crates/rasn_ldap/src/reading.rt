@@ -3,6 +3,7 @@ ghost use Rattle.std.specs.Prelude.{◌≡◌, true, IfOk, IfErr};
 ghost use Rattle.rasn_types.specs.declared.types.codec.Codec.TheVariants.{Ber, Der};
 ghost use Rattle.rasn_types.specs.Bytes.{Bytes};
 ghost use Rattle.rasn_types.specs.Lawful.{IsLawful};
+ghost use Rattle.rasn_de.specs.State.{IsEnd};
 ghost use Rattle.rasn.specs.Carries.{carries_all};
 ghost use Rattle.rasn.specs.Headline.{Answered, Identifies, EncodingFails};
 ghost use Rattle.rasn_ldap.specs.ReadBack.{IsReadBack};
@@ -20,12 +21,14 @@ pub fn has_lawful_shape()
     ensures carried { carries_all ldap_message_shape ≡ true }
 {}
 
-/// The message that begins the input, in BER, and what follows it, such as the next message of a connection: exactly where the grammar has one.
+/// The message that begins the input, in BER, and what follows it, which is an end of the input, such as the next message of a connection:
+/// exactly where the grammar has one.
 ///
 /// # Errors
 /// Those of `ber::decode_with_remainder`: `Incomplete` of a message that hasn't come as a whole yet.
 pub fn read_message(alloc: Global, input: &[u8]) -> Result<(LdapMessage, &[u8]), DecodeError>
-    ensures { Answered Ber ldap_message_shape ldap_message_tree input.now result }
+    ensures exact { Answered Ber ldap_message_shape ldap_message_tree input.now result }
+    ensures end { IfOk result (λ read. IsEnd input.now read.1.now) }
 {
     ber::decode_with_remainder(alloc, input)
 }

@@ -3,6 +3,7 @@ ghost use Rattle.std.specs.Prelude.{◌≡◌, true, IfOk, IfErr};
 ghost use Rattle.rasn_types.specs.declared.types.codec.Codec.TheVariants.{Ber, Der};
 ghost use Rattle.rasn_types.specs.Bytes.{Bytes};
 ghost use Rattle.rasn_types.specs.Lawful.{IsLawful};
+ghost use Rattle.rasn_de.specs.State.{IsEnd};
 ghost use Rattle.rasn.specs.Carries.{carries_all};
 ghost use Rattle.rasn.specs.Headline.{Answered, Identifies, EncodingFails};
 ghost use Rattle.rasn_snmp.specs.CommunityMessage.{message_shape, message_tree};
@@ -19,12 +20,14 @@ pub fn has_lawful_shape()
     ensures carried { carries_all message_shape ≡ true }
 {}
 
-/// The message that begins the input, in BER, and what follows it: a message is all of a datagram (RFC 3417, 3), so nothing should.
+/// The message that begins the input, in BER, and what follows it, which is an end of the input: exactly where the grammar has one. A message is
+/// all of a datagram (RFC 3417, 3), so nothing should follow it there; `rasn::refuse_remainder` refuses what does.
 ///
 /// # Errors
 /// Those of `ber::decode_with_remainder`.
 pub fn read_message(alloc: Global, input: &[u8]) -> Result<(Message, &[u8]), DecodeError>
-    ensures { Answered Ber message_shape message_tree input.now result }
+    ensures exact { Answered Ber message_shape message_tree input.now result }
+    ensures end { IfOk result (λ read. IsEnd input.now read.1.now) }
 {
     ber::decode_with_remainder(alloc, input)
 }

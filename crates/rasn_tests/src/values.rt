@@ -9,3 +9,4 @@ pub mod integer;
 mod integer_octets;
 mod null;
 mod object_identifier;
+mod whole;

@@ -2,7 +2,7 @@
 use rasn::ber::de::{Decoder, DecoderOptions};
 use rasn::de::Decode;
 use rasn::parts::{DefaultValue, ExplicitDefault};
-use rasn::types::{Codec, Explicit};
+use rasn::types::{Codec, Explicit, Tag};
 use std::alloc::{AllocError, Global};
 use std::fmt;
 
@@ -219,18 +219,22 @@ where
         return Ok(false);
     }
     let mut decoder = Decoder::new(alloc, octets, DecoderOptions::of(rule));
-    let Ok(value) = V::Value::decode(&mut decoder) else {
-        return Err(Found::OutOfMemory);
-    };
-    let default = V::default_value(alloc)?;
-    Ok(value == default)
+    match V::Value::decode(&mut decoder) {
+        Ok(value) => Ok(value == V::default_value(alloc)?),
+        Err(error) if error.is_out_of_memory() => Err(Found::OutOfMemory),
+        Err(_) => Ok(false),
+    }
 }
 
-/// Where octets aren't a value of the type: the start of the deepest part that is refused, or of what no part reads, or of the value.
+/// Where octets aren't a value of the type: the start of the deepest part that is refused, or of what no part reads, or of the value. A value of another
+/// tag, or of a primitive encoding, has no parts of the type.
 pub(crate) fn place_in<T: Located>(alloc: Global, rule: Codec, octets: &[u8]) -> Found {
     let Some((identifier, header, contents)) = contents_of(octets) else {
         return Found::At(Place::at(alloc, 0));
     };
+    if identifier & CONSTRUCTED == 0 || !has_tag_of::<T>(alloc, rule, octets) {
+        return Found::At(Place::at(alloc, 0));
+    }
     let mut walk = Walk {
         alloc,
         rule,
@@ -251,9 +255,24 @@ pub(crate) fn place_in<T: Located>(alloc: Global, rule: Codec, octets: &[u8]) ->
     }
 }
 
+/// Whether the first value has the tag of the type. A CHOICE and an open type have none, and may begin with any (X.680 14, 29).
+fn has_tag_of<T: Located>(alloc: Global, rule: Codec, octets: &[u8]) -> bool {
+    let decoder = Decoder::new(alloc, octets, DecoderOptions::of(rule));
+    T::TAG == Tag::EOC || matches!(decoder.peek_tag(), Ok(tag) if tag == T::TAG)
+}
+
+/// The bit of an identifier that a constructed encoding has (X.690 8.1.2.5).
+const CONSTRUCTED: u8 = 0x20;
+
+/// What the low bits of an identifier are where further octets have the number of its tag (X.690 8.1.2.4).
+const HIGH_NUMBER: u8 = 0x1F;
+
 /// The identifier of the first value, how many octets its header has, and its contents, where these are there, the length is definite and below
 /// 2^24, and the identifier is one octet.
 fn contents_of(octets: &[u8]) -> Option<(u8, usize, &[u8])> {
+    if octets.first()? & HIGH_NUMBER == HIGH_NUMBER {
+        return None;
+    }
     let (identifier, header, length) = match octets {
         [identifier, length, ..] if *length < 0x80 => (*identifier, 2, usize::from(*length)),
         [identifier, 0x81, length, ..] => (*identifier, 3, usize::from(*length)),

@@ -1,15 +1,12 @@
 //! Messages that are all of some octets.
 ghost use Rattle.std.specs.Prelude.{MatchResult};
-ghost use Rattle.rasn.specs.Headline.{Answered};
 ghost use Rattle.rasn_text.specs.Reading.{IsMessage, IsRefused, IsToldOf, IsWhole};
 ghost use Rattle.rasn_text.specs.Kinds.{shape_of};
 
 use crate::kind::Kind;
 use crate::listing::{Listed, Listing};
 use crate::place::{Found, Located, Place, place_in};
-use rasn::ber::de::{Decoder, DecoderOptions};
-use rasn::de::Decode;
-use rasn::error::{DecodeError, DecodeErrorKind};
+use rasn::error::DecodeError;
 use rasn::types::Codec;
 use rasn_ldap::LdapMessage;
 use rasn_pki::cms::SignedMessage;
@@ -35,34 +32,17 @@ pub enum ReadError {
 fn read<T: Located>(alloc: Global, rule: Codec, octets: &[u8]) -> Result<T, ReadError>
     ensures { MatchResult result (λ value. IsWhole rule T.shape octets.now (T.tree value)) (IsRefused rule T.shape octets.now) }
 {
-    let (value, rest) = match read_front::<T>(alloc, rule, octets) {
+    let (value, rest) = match rasn::decode_with_remainder::<T>(alloc, rule, octets) {
         Ok(read) => read,
         Err(error) => return Err(refused::<T>(alloc, rule, octets, error)),
     };
-    if rest.is_empty() {
-        Ok(value)
-    } else {
-        Err(ReadError::Decode {
-            place: Place::at(alloc, octets.len().saturating_sub(rest.len())),
-            error: DecodeError {
-                kind: DecodeErrorKind::UnexpectedExtraData { length: rest.len() },
-                codec: rule,
-            },
-        })
+    match rasn::refuse_remainder(rule, rest) {
+        Ok(()) => Ok(value),
+        Err(error) => Err(ReadError::Decode {
+            place: Place::at(alloc, octets.len() - rest.len()),
+            error,
+        }),
     }
-}
-
-/// The value that begins the octets by these rules, and what follows it.
-fn read_front<T: Decode>(
-    alloc: Global,
-    rule: Codec,
-    octets: &[u8],
-) -> Result<(T, &[u8]), DecodeError>
-    ensures { Answered rule T.shape T.tree octets.now result }
-{
-    let mut decoder = Decoder::new(alloc, octets, DecoderOptions::of(rule));
-    let value = T::decode(&mut decoder)?;
-    Ok((value, decoder.remaining()))
 }
 
 /// What is told of octets that aren't read for this error.

@@ -3,6 +3,7 @@ ghost use Rattle.std.specs.Prelude.{◌≡◌, true, IfOk, IfErr};
 ghost use Rattle.rasn_types.specs.declared.types.codec.Codec.TheVariants.{Ber, Der};
 ghost use Rattle.rasn_types.specs.Bytes.{Bytes};
 ghost use Rattle.rasn_types.specs.Lawful.{IsLawful};
+ghost use Rattle.rasn_de.specs.State.{IsEnd};
 ghost use Rattle.rasn.specs.Carries.{carries_all};
 ghost use Rattle.rasn.specs.Headline.{Answered, AnsweredAlone, IsCarriedAsWritten, Identifies, EncodingFails};
 ghost use Rattle.rasn_pki.specs.Cms.Message.{signed_message_shape, signed_message_tree};
@@ -40,7 +41,8 @@ pub fn read_streamed_message(
     alloc: Global,
     input: &[u8],
 ) -> Result<(SignedMessage, &[u8]), DecodeError>
-    ensures { Answered Ber signed_message_shape signed_message_tree input.now result }
+    ensures exact { Answered Ber signed_message_shape signed_message_tree input.now result }
+    ensures end { IfOk result (λ read. IsEnd input.now read.1.now) }
 {
     ber::decode_with_remainder(alloc, input)
 }

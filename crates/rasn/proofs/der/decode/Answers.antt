@@ -1,7 +1,7 @@
-use Rattle.std.proofs.Common.{sym, ◌∙◌}
-use Rattle.rasn.proofs.ReadBack.Der.{all_of}
+use Rattle.std.proofs.Common.{arith}
+use Rattle.rasn_de.proofs.Headers.Results.{octets_all}
+use Rattle.rasn.proofs.ReadBack.Der.{as_written}
 use Rattle.rasn.proofs.der.decode.Goals as goal
 
-pub returns-then-is_empty-clause-written : goal.returns-then-is_empty-clause-written
-returns-then-is_empty-clause-written g c = λ lawful d.
-    all_of c.args.input.now d.octets c.in_ok-value.rest.now (sym c.is_empty.ensures ∙ c.if-is_empty.true) (c.in_ok-value.ensures.written lawful d)
+pub returns-clause-written : goal.returns-clause-written
+returns-clause-written g c = as_written g.T.AsnType.shape g.T.AsnType.tree c.args.input.now (octets_all c.args.input.now (λ i. omega (arith, c.type_inv.input i))) c.decode.result c.decode.ensures

@@ -5,4 +5,4 @@ use Rattle.rasn.proofs.der.decode_with_remainder.Goals as goal
 
 pub returns-clause-written : goal.returns-clause-written
 returns-clause-written g c =
-    consumes_written g.T.AsnType.shape g.T.AsnType.tree c.der.result c.args.input.now c.der.ensures (octets_all c.args.input.now (λ i. omega (arith, c.type_inv.input i))) c.decode_with_remainder.result c.decode_with_remainder.ensures
+    consumes_written g.T.AsnType.shape g.T.AsnType.tree c.args.input.now (octets_all c.args.input.now (λ i. omega (arith, c.type_inv.input i))) c.decode_with_remainder.result c.decode_with_remainder.ensures.exact
