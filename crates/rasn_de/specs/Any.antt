@@ -39,10 +39,10 @@ abbrev pub as_lists : Result (Bor (List ℕ) × Bor (List ℕ)) ParseError → R
 as_lists (Ok p) = Ok (p.0.now, p.1.now)
 as_lists (Err e) = Err e
 
--- A call answers the octets, or the first fault, or an allocation fails for the copy. A refusal consumes nothing.
+-- A call returns the octets, or the first fault, or an allocation fails for the copy of octets that are there. A refusal consumes nothing.
 abbrev pub DecodesOpenType : Tag → State → Result Any DecodeError → State → Type 0
 DecodesOpenType tag old (Ok a) new = OpenAt old.rule (looked_for tag) old.rest (Ok (a, new.rest)) × (new ≡ at old new.rest)
-DecodesOpenType tag old (Err e) new = ((IsOutOfMemory e.kind × (e.codec ≡ old.rule)) ⊎ ((fault : ParseError) × OpenAt old.rule (looked_for tag) old.rest (Err fault) × IsErrorOf fault old e)) × (new ≡ old)
+DecodesOpenType tag old (Err e) new = ((IsOutOfMemory e.kind × (e.codec ≡ old.rule) × (p : List ℕ × List ℕ) × OpenAt old.rule (looked_for tag) old.rest (Ok p)) ⊎ ((fault : ParseError) × OpenAt old.rule (looked_for tag) old.rest (Err fault) × IsErrorOf fault old e)) × (new ≡ old)
 
 -- One complete encoding is passed, in so many steps; or there is none, this is the first fault, and nothing is consumed.
 abbrev pub SkipsValue : State → Result ℕ DecodeError → State → Type 0

@@ -55,7 +55,7 @@ abbrev pub unclosed : Extent → List ℕ → List ℕ → List ℕ
 unclosed (definite c) rest left = rest
 unclosed indefinite rest left = left
 
--- What a reading closure owes: an end of what remained is left, and all else stays.
+-- An end of what remained is left, and all else stays.
 pub record Keeps (old new : State) : Type 0 where
   pub stays : new ≡ at old new.rest
   pub end : IsEnd old.rest new.rest
@@ -64,9 +64,9 @@ pub record Keeps (old new : State) : Type 0 where
 abbrev pub Closure : Type 0 → Type 0 → Type 1
 Closure F D = Once F (MutBor State × Unit {0}) (Result D DecodeError × (MutBor State × Unit {0}))
 
--- Whatever f answers, refusing or not, it leaves an end of what remained, and all else as it was.
-abbrev pub KeepsSettings : {F D : Type 0} → Closure F D → F → Type 0
-KeepsSettings g f = EachCall (FnOnceReturnsAtMut g f) (λ o r n. Keeps o n)
+-- What a closure that reads owes: whatever it returns, what remains afterwards is an end of what remained before.
+abbrev pub LeavesAnEnd : {F D : Type 0} → Closure F D → F → Type 0
+LeavesAnEnd g f = EachCall (FnOnceReturnsAtMut g f) (λ o r n. IsEnd o.rest n.rest)
 
 abbrev pub ConsumesOpening : ConstructedHeader → State → Result (State × Contents) DecodeError → State → Type 0
 ConsumesOpening d old (Ok p) new = (h : Header) × (constructed_header_at d old.rule old.depth old.rest ≡ Ok h) × (p.0 ≡ contents_state d old h) × (extent p.1 ≡ h.extent) × (new ≡ at old h.rest) × Keeps old new

@@ -95,11 +95,12 @@ abbrev pub DecodesLeaf : {X Y : Type 0} → (X → Y) → Readings Y → State �
 DecodesLeaf see Is old (Ok v) new = Is (Ok (see v, new.rest)) × (new ≡ at old new.rest)
 DecodesLeaf see Is old (Err e) new = FailsAs Is old e new
 
--- A call answers what the reading of an INTEGER is, of a type whose numbers may take memory: where an allocation fails, the value was consumed.
+-- A call returns what the reading of an INTEGER is, of a type whose numbers may take memory: where an allocation fails, the contents hold a
+-- number, and the value was consumed.
 abbrev pub DecodesInteger : {X : Type 0} → (X → ℤ) → Type 0 → Tag → Readings ℤ → State → Result X DecodeError → State → Type 0
 DecodesInteger see Grows tag Is old (Ok v) new = DecodesLeaf see Is old (Ok v) new
 DecodesInteger see Grows tag Is old (Err e) new =
-    (IsOutOfMemory e.kind × Grows × (e.codec ≡ old.rule) × (new ≡ at old new.rest) × (c : List ℕ) × (definite_at old.rule tag old.rest ≡ Ok (c, new.rest))) ⊎ FailsAs Is old e new
+    (IsOutOfMemory e.kind × Grows × (e.codec ≡ old.rule) × (new ≡ at old new.rest) × (c : List ℕ) × (definite_at old.rule tag old.rest ≡ Ok (c, new.rest)) × IsIntegerContents old.rule c) ⊎ FailsAs Is old e new
 
 -- A call reads an INTEGER of a type that has these numbers and so many bits, and may grow, within bounds.
 abbrev pub DecodesNumber : {X : Type 0} → (X → ℤ) → Bool → ℕ → Interval → Tag → Constraints → State → Result X DecodeError → State → Type 0

@@ -48,24 +48,28 @@ ObjectIdentifierIn rule c (Err (out_of_bound z bound)) = ⊥
 abbrev pub ObjectIdentifierAt : Codec → Tag → List ℕ → Readings (List ℕ)
 ObjectIdentifierAt rule tag l = LeafAt (ObjectIdentifierIn rule) rule tag l
 
--- What a function found in contents; for running out of memory nothing is said.
+-- The first subidentifier is there, so that room is made for arcs.
+abbrev pub HasFirstSubidentifier : Codec → List ℕ → Type 0
+HasFirstSubidentifier rule c = (first : ℕ) × (after : List ℕ) × (arc_at rule c ≡ Ok (first, after))
+
+-- What a function found in contents; or an allocation fails after the first subidentifier.
 abbrev pub ParsesArcs : Codec → List ℕ → Result (List ℕ) ParseError → Type 0
 ParsesArcs rule c (Ok arcs) = ReadsArcs rule c arcs
-ParsesArcs rule c (Err f) = f ≢ OutOfMemory → FailsAtSubidentifier rule c f
+ParsesArcs rule c (Err f) = ((f ≡ OutOfMemory) × HasFirstSubidentifier rule c) ⊎ FailsAtSubidentifier rule c f
 
--- What a decoder, whose rule errors name, answers of contents that are read by a rule; or an allocation fails.
+-- What a decoder, whose rule errors name, returns of contents that are read by a rule; or an allocation fails after the first subidentifier.
 abbrev pub DecodesArcs : Codec → Codec → List ℕ → Result (List ℕ) DecodeError → Type 0
 DecodesArcs named rule c (Ok arcs) = ReadsArcs rule c arcs
-DecodesArcs named rule c (Err e) = (e.codec ≡ named) × (IsOutOfMemory e.kind ⊎ ((f : ParseError) × FailsAtSubidentifier rule c f × (e.kind ≡ error_kind f)))
+DecodesArcs named rule c (Err e) = (e.codec ≡ named) × ((IsOutOfMemory e.kind × HasFirstSubidentifier rule c) ⊎ ((f : ParseError) × FailsAtSubidentifier rule c f × (e.kind ≡ error_kind f)))
 
 -- The arcs are the only ones that the contents hold; at a refusal but for memory they hold none.
 abbrev pub DecodesOnlyArcs : List ℕ → Result (List ℕ) DecodeError → Type 0
 DecodesOnlyArcs c (Ok arcs) = IsObjectIdentifier c arcs × ((others : List ℕ) → IsObjectIdentifier c others → others ≡ arcs)
 DecodesOnlyArcs c (Err e) = (IsOutOfMemory e.kind → ⊥) → (arcs : List ℕ) → IsObjectIdentifier c arcs → ⊥
 
--- A call answers what the reading is; or an allocation fails, and the value was consumed.
+-- A call returns what the reading is; or an allocation fails after the first subidentifier, and the value was consumed.
 abbrev pub DecodesObjectIdentifier : Tag → State → Result (List ℕ) DecodeError → State → Type 0
 DecodesObjectIdentifier tag old (Ok arcs) new = DecodesLeaf (λ o. o) (ObjectIdentifierAt old.rule tag old.rest) old (Ok arcs) new
 DecodesObjectIdentifier tag old (Err e) new =
-    (IsOutOfMemory e.kind × (e.codec ≡ old.rule) × (new ≡ at old new.rest) × (c : List ℕ) × (definite_at old.rule tag old.rest ≡ Ok (c, new.rest)))
+    (IsOutOfMemory e.kind × (e.codec ≡ old.rule) × (new ≡ at old new.rest) × (c : List ℕ) × (definite_at old.rule tag old.rest ≡ Ok (c, new.rest)) × HasFirstSubidentifier old.rule c)
     ⊎ ((IsOutOfMemory e.kind → ⊥) × FailsAs (ObjectIdentifierAt old.rule tag old.rest) old e new)

@@ -161,8 +161,8 @@ open_decodes tag old new (Err e) (h, s) = record {
     R : Reading Tree
     R = Reads old.rule (any (looked_for tag)) old.depth old.closing
 
-    exactly : (IsOutOfMemory e.kind × (e.codec ≡ old.rule)) ⊎ ((f : ParseError) × OpenAt old.rule (looked_for tag) old.rest (Err f) × IsErrorOf f old e) → Exact R old.rest (refusal e.kind)
-    exactly (inl (m, c)) = subst (λ k. Exact R old.rest (refusal k)) (sym m) tt
+    exactly : (IsOutOfMemory e.kind × (e.codec ≡ old.rule) × (p : List ℕ × List ℕ) × OpenAt old.rule (looked_for tag) old.rest (Ok p)) ⊎ ((f : ParseError) × OpenAt old.rule (looked_for tag) old.rest (Err f) × IsErrorOf f old e) → Exact R old.rest (refusal e.kind)
+    exactly (inl (m, c, p, x)) = subst (λ k. Exact R old.rest (refusal k)) (sym m) tt
     exactly (inr (f, x, k)) = Exact-none e.kind R old.rest (reads_octets old.rule (looked_for tag) old.depth old.closing old.rest Refused x.0)
 
 -- what is passed

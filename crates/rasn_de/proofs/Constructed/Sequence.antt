@@ -11,10 +11,10 @@ use Rattle.rasn_types.specs.Grammar.{Reads}
 use Rattle.rasn_types.specs.Described.{describes}
 use Rattle.rasn_de.specs.Headers.{Header}
 use Rattle.rasn_de.specs.Segments.{octets_inside, end_at, end_of_contents_at}
-use Rattle.rasn_de.specs.State.{State, Call, EachCall}
+use Rattle.rasn_de.specs.State.{State, IsEnd, Call, EachCall}
 use Rattle.rasn_de.specs.Outcomes.{Exact, outcome}
 use Rattle.rasn_de.specs.Decodes.{Decodes, DecodesParts}
-use Rattle.rasn_de.specs.Constructed.{sequence_header, constructed_header_at, is_indefinite_extent, contents_state, Keeps, DecodesInside}
+use Rattle.rasn_de.specs.Constructed.{sequence_header, constructed_header_at, is_indefinite_extent, contents_state, DecodesInside}
 use Rattle.rasn_de.specs.Sequence.{is_read_by_initializer, MakesInitial, DecodesContents, MakesAllMissing}
 use Rattle.rasn_de.proofs.Constructed.Reads.{Held, related, IsCut, held_decodes, held_constructed, constructed_held}
 use Rattle.rasn_de.proofs.Constructed.Contents.{IsInside}
@@ -22,11 +22,11 @@ use Rattle.rasn_de.proofs.Constructed.Opening.{kept_same}
 use Rattle.rasn_de.proofs.Any.Nothing.{parts_nothing}
 use Rattle.rasn_de.proofs.Constructed.SequenceContents.{SeqReads, fills_exact}
 
--- The initializer leaves all, and the closure what it keeps.
-pub fills_keeps : {D : Type 0} (starts : List ℕ → Bool) (initial : State → Result D DecodeError → Type 0) (called : Call D)
-    → EachCall called (λ o r n. Keeps o n) → EachCall (DecodesContents starts initial called) (λ o r n. Keeps o n)
-fills_keeps starts initial called keeps o r n (inl (s, i, e)) = kept_same o n e
-fills_keeps starts initial called keeps o r n (inr (s, c)) = keeps o r n c
+-- The initializer leaves all, and the closure an end of it.
+pub fills_leaves : {D : Type 0} (starts : List ℕ → Bool) (initial : State → Result D DecodeError → Type 0) (called : Call D)
+    → EachCall called (λ o r n. IsEnd o.rest n.rest) → EachCall (DecodesContents starts initial called) (λ o r n. IsEnd o.rest n.rest)
+fills_leaves starts initial called leaves o r n (inl (s, i, e)) = (kept_same o n e).end
+fills_leaves starts initial called leaves o r n (inr (s, c)) = leaves o r n c
 
 -- At the end of an input nothing is read in front of end-of-contents octets.
 cut_none : (rule : Codec) (parts : Parts) (depth : ℕ) (closing : Bool) (t : Tree) (l : List ℕ) → SeqReads parts rule depth closing [] t l → (closing ≡ true) → l ≡ []

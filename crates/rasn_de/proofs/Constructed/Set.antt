@@ -8,37 +8,37 @@ use Rattle.rasn_types.specs.Readings.{Reading}
 use Rattle.rasn_types.specs.Grammar.{Reads}
 use Rattle.rasn_de.specs.Headers.{Header}
 use Rattle.rasn_de.specs.Segments.{octets_inside}
-use Rattle.rasn_de.specs.State.{State, Call}
+use Rattle.rasn_de.specs.State.{State, IsEnd, Call}
 use Rattle.rasn_de.specs.Outcomes.{Exact, outcome}
 use Rattle.rasn_de.specs.Decodes.{Decodes}
-use Rattle.rasn_de.specs.Constructed.{sequence_header, constructed_header_at, is_indefinite_extent, contents_state, Keeps, DecodesInside}
+use Rattle.rasn_de.specs.Constructed.{sequence_header, constructed_header_at, is_indefinite_extent, contents_state, DecodesInside}
 use Rattle.rasn_de.specs.SequenceOf.{DecodesInTurnFrom, FailsAtElement}
 use Rattle.rasn_de.specs.Set.{FailsAtComponent, no_tag, falls, not_read, DecodesComponents, DecodesSetContents, MakesSet}
 use Rattle.rasn_de.proofs.Constructed.Reads.{IsCut, held_decodes, held_constructed, constructed_held}
 use Rattle.rasn_de.proofs.Constructed.SetOfElements.{came}
 use Rattle.rasn_de.proofs.Constructed.Opening.{kept_same}
-use Rattle.rasn_de.proofs.Constructed.Steps.{kept_after}
+use Rattle.rasn_de.proofs.Headers.Ends.{IsEnd-trans}
 use Rattle.rasn_de.proofs.Constructed.SetContents.{SetReads, set_collects}
 
 -- Components that are read, or the one that isn't, leave an end of the input.
 module _ {F : Type 0} (s : Shape) (piece : F → Tree) where
-  passed_keeps : (old here : State) (vs : List F) (bs : List (List ℕ)) → DecodesInTurnFrom (Decodes s piece) old vs bs here → Keeps old here
-  passed_keeps old here vs bs p = let m = came s piece old here vs bs p in record { stays = m.come.0; end = m.come.1 }
+  passed_leaves : (old here : State) (vs : List F) (bs : List (List ℕ)) → DecodesInTurnFrom (Decodes s piece) old vs bs here → IsEnd old.rest here.rest
+  passed_leaves old here vs bs p = (came s piece old here vs bs p).come.1
 
-  stops_keeps : (here : State) (e : DecodeError) (new : State) → FailsAtElement (Decodes s piece) here e new → Keeps here new
-  stops_keeps here e new (inl k) = record { stays = k.stays; end = k.end }
-  stops_keeps here e new (inr (v, k, x)) = record { stays = k.stays; end = k.end }
+  stops_leaves : (here : State) (e : DecodeError) (new : State) → FailsAtElement (Decodes s piece) here e new → IsEnd here.rest new.rest
+  stops_leaves here e new (inl k) = k.end
+  stops_leaves here e new (inr (v, k, x)) = k.end
 
-  unread_keeps : (bs : List (List ℕ)) (here : State) (e : DecodeError) (new : State) → FailsAtComponent (Decodes s piece) bs here e new → Keeps here new
-  unread_keeps bs here e new (no_tag a p q) = kept_same here new q
-  unread_keeps bs here e new (falls a t n f w q) = kept_same here new q
-  unread_keeps bs here e new (not_read f w) = stops_keeps here e new w
+  unread_leaves : (bs : List (List ℕ)) (here : State) (e : DecodeError) (new : State) → FailsAtComponent (Decodes s piece) bs here e new → IsEnd here.rest new.rest
+  unread_leaves bs here e new (no_tag a p q) = (kept_same here new q).end
+  unread_leaves bs here e new (falls a t n f w q) = (kept_same here new q).end
+  unread_leaves bs here e new (not_read f w) = stops_leaves here e new w
 
-  pub collects_keeps : {S L : Type 0} (elements : L → List F) (by : L → Result S DecodeError → Type 0) (old : State) (r : Result S DecodeError) (new : State)
-      → DecodesSetContents (DecodesComponents (Decodes s piece) elements) by old r new → Keeps old new
-  collects_keeps elements by old (Ok v) new (fields, p, m) = passed_keeps old new (elements fields) p.0 p.1.0
-  collects_keeps elements by old (Err e) new (inl (vs, bs, here, (p, o), n, u)) = kept_after old here new (passed_keeps old here vs bs p) (unread_keeps bs here e new u)
-  collects_keeps elements by old (Err e) new (inr (fields, p, m)) = passed_keeps old new (elements fields) p.0 p.1.0
+  pub collects_leaves : {S L : Type 0} (elements : L → List F) (by : L → Result S DecodeError → Type 0) (old : State) (r : Result S DecodeError) (new : State)
+      → DecodesSetContents (DecodesComponents (Decodes s piece) elements) by old r new → IsEnd old.rest new.rest
+  collects_leaves elements by old (Ok v) new (fields, p, m) = passed_leaves old new (elements fields) p.0 p.1.0
+  collects_leaves elements by old (Err e) new (inl (vs, bs, here, (p, o), n, u)) = IsEnd-trans old.rest here.rest new.rest (passed_leaves old here vs bs p) (unread_leaves bs here e new u)
+  collects_leaves elements by old (Err e) new (inr (fields, p, m)) = passed_leaves old new (elements fields) p.0 p.1.0
 
   pub collects_called : {S L : Type 0} (elements : L → List F) (by : L → Result S DecodeError → Type 0) (old : State) (fields : L) (r : Result S DecodeError) (new : State)
       → DecodesComponents (Decodes s piece) elements old (Ok fields) new → by fields r → DecodesSetContents (DecodesComponents (Decodes s piece) elements) by old r new

@@ -12,9 +12,8 @@ use Rattle.rasn_types.specs.Grammar.{Reads}
 use Rattle.rasn_types.specs.Trees.{list_tree}
 use Rattle.rasn_de.specs.Decodes.{Decodes, DecodesBy}
 use Rattle.rasn_de.specs.SequenceOf.{ReadsElements, ReadsSetElements, DecodesInTurn, DecodesInTurnFrom, FailsAtElement, IsOutOfOrder, DecodesElements, DecodesElementsInOrder}
-use Rattle.rasn_de.specs.Constructed.{Keeps}
 use Rattle.rasn_de.specs.Outcomes.{Exact, Got}
-use Rattle.rasn_de.specs.State.{State, at, Call, EachCall}
+use Rattle.rasn_de.specs.State.{State, at, IsEnd, Call, EachCall}
 use Rattle.rasn_de.proofs.Leaves.Outcomes.{Exact-none, Exact-refusal}
 use Rattle.rasn_de.proofs.Headers.Ends.{IsEnd-refl}
 use Rattle.rasn_de.proofs.Constructed.Elements.{passed_start, Come, exact_at, element_stops, element_read, elements_end}
@@ -154,11 +153,11 @@ module _ {D : Type 0} (s : Shape) (tree : D → Tree) where
   in_order_decodes elements old (Err e) new (vs, bs, here, p, order, n, inr k) = fell (λ l. set_elements (list_tree tree (elements l))) old here vs bs (came old here vs bs p) n e new k
 
   -- So a call leaves an end of the input.
-  pub each_keeps : {L : Type 0} (elements : L → List D) → EachCall (DecodesElements (Decodes s tree) elements) (λ o r n. Keeps o n)
-  each_keeps elements o r n k = let d = each_decodes elements o r n k in record { stays = d.stays; end = d.end }
+  pub each_leaves : {L : Type 0} (elements : L → List D) → EachCall (DecodesElements (Decodes s tree) elements) (λ o r n. IsEnd o.rest n.rest)
+  each_leaves elements o r n k = (each_decodes elements o r n k).end
 
-  pub in_order_keeps : {L : Type 0} (elements : L → List D) → EachCall (DecodesElementsInOrder (Decodes s tree) elements) (λ o r n. Keeps o n)
-  in_order_keeps elements o r n k = let d = in_order_decodes elements o r n k in record { stays = d.stays; end = d.end }
+  pub in_order_leaves : {L : Type 0} (elements : L → List D) → EachCall (DecodesElementsInOrder (Decodes s tree) elements) (λ o r n. IsEnd o.rest n.rest)
+  in_order_leaves elements o r n k = (in_order_decodes elements o r n k).end
 
 -- where elements have come to, only less is left
 pub came_stays : {D : Type 0} (s : Shape) (tree : D → Tree) (old here : State) (vs : List D) (bs : List (List ℕ)) → DecodesInTurnFrom (Decodes s tree) old vs bs here → here ≡ at old here.rest

@@ -12,7 +12,7 @@ use Rattle.rasn_de.specs.Causes.{error_kind}
 use Rattle.rasn_de.specs.State.{State, at, IsEnd, Call, EachCall}
 use Rattle.rasn_de.specs.Steps.{IsErrorOf}
 use Rattle.rasn_de.specs.declared.ber.de.constructed.ConstructedHeader.{ConstructedHeader}
-use Rattle.rasn_de.specs.Constructed.{contents_state, unclosed, Keeps, ConsumesOpening, ConsumesEnd, FailsInside, no_value, inside, not_closed, DecodesInside, Closure, KeepsSettings}
+use Rattle.rasn_de.specs.Constructed.{contents_state, unclosed, Keeps, ConsumesOpening, ConsumesEnd, FailsInside, no_value, inside, not_closed, DecodesInside, Closure, LeavesAnEnd}
 use Rattle.rasn_de.proofs.Headers.Ends.{IsEnd-trans}
 
 pub kept_after : (old mid new : State) → Keeps old mid → Keeps mid new → Keeps old new
@@ -48,11 +48,11 @@ module _ {D : Type 0} (read : Call D) (d : ConstructedHeader) (old : State) wher
     open_end indefinite rest l e h = h
 
     -- what is left inside an indefinite value ends what stands behind its header
-    pub step_end : (left : State) → Keeps p left → (l : List ℕ) → l ≡ left.rest → extent c ≡ indefinite → IsEnd mid.rest l
-    step_end left k l e x =
+    pub step_end : (left l : List ℕ) → IsEnd p.rest left → l ≡ left → extent c ≡ indefinite → IsEnd mid.rest l
+    step_end left l k e x =
         let q : mid.rest ≡ w.0.rest = ap (λ (s : State). s.rest) w.4 in
-        let i : IsEnd (octets_inside w.0.extent w.0.rest) left.rest = subst (λ (z : State). IsEnd z.rest left.rest) w.2 k.end in
-        subst (λ z. IsEnd z l) (sym q) (subst (IsEnd w.0.rest) (sym e) (open_end w.0.extent w.0.rest left.rest (sym w.3 ∙ x) i))
+        let i : IsEnd (octets_inside w.0.extent w.0.rest) left = subst (λ (z : State). IsEnd z.rest left) w.2 k in
+        subst (λ z. IsEnd z l) (sym q) (subst (IsEnd w.0.rest) (sym e) (open_end w.0.extent w.0.rest left (sym w.3 ∙ x) i))
 
     pub step_unclosed : (v : D) (left : State) → read p (Ok v) left → (l : List ℕ) → l ≡ left.rest → (e : DecodeError) (new : State) → ConsumesEnd (extent c) l mid (Err e) new → DecodesInside read d old (Err e) new
     step_unclosed v left k l m e new (f, g, u, r, s) =
@@ -78,8 +78,8 @@ module _ {F D : Type 0} (g : Closure F D) (f : F) (read : Call D) (says : (p : M
   closure_reads : EachCall (FnOnceReturnsAtMut g f) read
   closure_reads o r n w = subst (λ z. read o r z) w.leaves (subst (λ z. read z r w.left.now) w.shows (says w.shown r w.left w.met))
 
-  pub closure_keeps : EachCall read (λ o r n. Keeps o n) → KeepsSettings g f
-  closure_keeps keeps o r n w = keeps o r n (closure_reads o r n w)
+  pub closure_leaves : EachCall read (λ o r n. IsEnd o.rest n.rest) → LeavesAnEnd g f
+  closure_leaves leaves o r n w = leaves o r n (closure_reads o r n w)
 
   pub closure_inside : (d e : ConstructedHeader) → d ≡ e → (old : State) (r : Result D DecodeError) (new : State) → DecodesInside (FnOnceReturnsAtMut g f) d old r new → DecodesInside read e old r new
   closure_inside d e q old r new k = subst (λ z. DecodesInside read z old r new) q (inside_by (FnOnceReturnsAtMut g f) read d old r new k closure_reads)

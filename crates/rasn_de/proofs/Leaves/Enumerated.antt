@@ -61,7 +61,7 @@ module _ (known : List ℤ) where
 
   pub enumerated_refused : {X : Type 0} (see : X → ℤ) (tag : Tag) (old new : State) (e : DecodeError) → DecodesInteger {X = X} see (false ≡ true) tag (NumberAt old.rule tag old.rest) old (Err e) new
       → FailsAs (EnumeratedAt known old.rule tag old.rest) old e new
-  enumerated_refused see tag old new e (inl (m, g, h, s, c, d)) = cc
+  enumerated_refused see tag old new e (inl (m, g, h, s, c, d, i)) = cc
   enumerated_refused see tag old new e (inr (cause, f, t, c, s)) = (cause, number_refused old.rule (definite_at old.rule tag old.rest) cause new.rest f, t, c, s)
 
   pub enumerated_named : {E : Type 0} (see : E → ℤ) (tag : Tag) (old new : State) (z : ℤ) (v : E) → NumberAt old.rule tag old.rest (Ok (z, new.rest)) → new ≡ at old new.rest → see v ≡ z → Contains known (see v)

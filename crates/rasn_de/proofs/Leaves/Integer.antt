@@ -51,7 +51,7 @@ module _ (width : ℕ) (range : Interval) (bounds : Constraints) where
       → DecodesInteger see Grows tag (IntegerAt width range bounds old.rule tag old.rest) old result new → Decodes (leaf (integer range) tag bounds) (λ v. number (see v)) old result new
   integer_decodes see Grows tag old new (Ok v) o g = integer_decoded see tag old new (Ok v) o g
   integer_decodes see Grows tag old new (Err e) o (inr g) = integer_decoded see tag old new (Err e) o g
-  integer_decodes see Grows tag old new (Err e) o (inl (m, g, d, s, c, h)) =
+  integer_decodes see Grows tag old new (Err e) o (inl (m, g, d, s, c, h, i)) =
       alloc_failed (λ rule. Reads rule (leaf (integer range) tag bounds)) (λ v. number (see v)) old new e m s (definite_end old.rule tag old.rest o c new.rest h)
 
   -- What `decode_integer` ensures follows from its exact clause.
@@ -71,9 +71,9 @@ module _ (width : ℕ) (range : Interval) (bounds : Constraints) where
       (out_of_bound (signed c) (constraint_of bounds.value), subst (λ d. FromContents (IntegerIn old.rule width range bounds) d (Err (out_of_bound (signed c) (constraint_of bounds.value), new.rest))) (sym h) ((n, i, a, refl, refl), refl), t, k ∙ rule_is old new s, s)
 
 -- running out of memory behind contents
-pub number_alloc_failed : {X : Type 0} (see : X → ℤ) (Grows : Type 0) (tag : Tag) (Is : Readings ℤ) (old new : State) (c : List ℕ) (e : DecodeError) → definite_at old.rule tag old.rest ≡ Ok (c, new.rest) → new ≡ at old new.rest → Grows → IsErrorOf fault_is.OutOfMemory new e
+pub number_alloc_failed : {X : Type 0} (see : X → ℤ) (Grows : Type 0) (tag : Tag) (Is : Readings ℤ) (old new : State) (c : List ℕ) (e : DecodeError) → definite_at old.rule tag old.rest ≡ Ok (c, new.rest) → new ≡ at old new.rest → IsIntegerContents old.rule c → Grows → IsErrorOf fault_is.OutOfMemory new e
     → DecodesInteger see Grows tag Is old (Err e) new
-number_alloc_failed see Grows tag Is old new c e h s g k = inl (ap (λ (x : DecodeError). x.kind) k, g, ap (λ (x : DecodeError). x.codec) k ∙ rule_is old new s, s, c, h)
+number_alloc_failed see Grows tag Is old new c e h s i g k = inl (ap (λ (x : DecodeError). x.kind) k, g, ap (λ (x : DecodeError). x.codec) k ∙ rule_is old new s, s, c, h, i)
 
 pub empty_is : (l : List ℕ) → true ≡ (length l == 0) → l ≡ []
 empty_is [] e = refl

@@ -102,7 +102,7 @@ integer_cause rule width range bounds c (out_of_bound z bound) a = tt
 
 integer_memory : {X : Type 0} (see : X → ℤ) (Grows : Type 0) (width : ℕ) (range : Interval) (bounds : Constraints) (tag : Tag) (old new : State) (e : DecodeError)
     → DecodesInteger see Grows tag (IntegerAt width range bounds old.rule tag old.rest) old (Err e) new → IsOutOfMemory e.kind → Grows ⊎ IsOutOfBound (IntegerAt width range bounds old.rule tag old.rest) new.rest
-integer_memory see Grows width range bounds tag old new e (inl (m, g, c, s, l, h)) n = inl g
+integer_memory see Grows width range bounds tag old new e (inl (m, g, c, s, l, h, i)) n = inl g
 integer_memory see Grows width range bounds tag old new e (inr (cause, a, t, c, s)) n =
     inr (go cause a t (contents_bound (IntegerIn old.rule width range bounds) (integer_cause old.rule width range bounds) (definite_at old.rule tag old.rest) (definite_plain old.rule tag old.rest) (cause, new.rest) a))
   where

@@ -22,14 +22,14 @@ use Rattle.rasn_types.specs.declared.error.decode.DerDecodeErrorKind.TheVariants
 use Rattle.rasn_de.specs.Headers.{number128_at, is_padded, is_der}
 use Rattle.rasn_de.specs.Causes.{Cause, fault, out_of_bound, error_kind}
 use Rattle.rasn_de.specs.Leaves.{FromContents, definite_at, FailsAs, DecodesLeaf}
-use Rattle.rasn_de.specs.ObjectIdentifier.{arc_at, ReadsArcs, FailsAtSubidentifier, ObjectIdentifierIn, ObjectIdentifierAt, ParsesArcs, DecodesArcs, DecodesOnlyArcs, DecodesObjectIdentifier}
+use Rattle.rasn_de.specs.ObjectIdentifier.{arc_at, ReadsArcs, FailsAtSubidentifier, HasFirstSubidentifier, ObjectIdentifierIn, ObjectIdentifierAt, ParsesArcs, DecodesArcs, DecodesOnlyArcs, DecodesObjectIdentifier}
 use Rattle.rasn_de.specs.State.{State, at}
 use Rattle.rasn_de.specs.Steps.{IsErrorOf}
 use Rattle.rasn_de.specs.Decodes.{Decodes}
 use Rattle.rasn_de.proofs.Headers.Numbers.{number128_parsed, number128_spelled}
 use Rattle.rasn_de.proofs.Headers.Memory.{NoMemory, number128_none, none_cond}
 use Rattle.rasn_de.proofs.Headers.Results.{guarded}
-use Rattle.rasn_de.proofs.Headers.NextTag.{kind_memory, memory_or}
+use Rattle.rasn_de.proofs.Headers.NextTag.{kind_memory}
 use Rattle.rasn_de.proofs.Leaves.Errors.{rule_is, leaf_refused, contents_read}
 use Rattle.rasn_de.proofs.Leaves.Memory.{leaf_plain, IsPlainCause}
 use Rattle.rasn_de.proofs.Leaves.Outcomes.{plain_agrees, decoded_answers, definite_end, alloc_failed}
@@ -46,6 +46,7 @@ pub record ArcsSoFar (rule : Codec) (c rest arcs : List ℕ) : Type 0 where
   pub short : IsStrict rule → ShortArcs front (first ∷ others)
   pub is : c ≡ front ++ rest
   pub arcs_are : arcs ≡ arcs_of first others
+  pub begins : HasFirstSubidentifier rule c
 
 none_before : (p n : ℕ) → 0 * p + n ≡ n
 none_before p n = omega arith
@@ -87,6 +88,7 @@ arcs_start rule c rest arcs s e f =
       short = λ strict. (k.0, [], k.1, k.3 strict, sym (append-nil k.0), refl);
       is = k.2;
       arcs_are = f;
+      begins = (s, rest, e);
     }
 
 pub arcs_next : (rule : Codec) (c rest after arcs more : List ℕ) (n : ℕ) → ArcsSoFar rule c rest arcs → arc_at rule rest ≡ Ok (n, after) → more ≡ arcs ++ n ∷ [] → ArcsSoFar rule c after more
@@ -100,6 +102,7 @@ arcs_next rule c rest after arcs more n a e f =
       short = λ strict. short_more (a.first ∷ a.others) a.front k.0 n (a.short strict) k.1 (k.3 strict);
       is = a.is ∙ (ap (λ l. a.front ++ l) k.2 ∙ sym (append_assoc a.front k.0 after));
       arcs_are = f ∙ ap (λ l. l ++ n ∷ []) a.arcs_are;
+      begins = a.begins;
     }
 
 pub arcs_done : (rule : Codec) (c rest arcs : List ℕ) → ArcsSoFar rule c rest arcs → rest ≡ [] → ReadsArcs rule c arcs
@@ -231,7 +234,7 @@ object_decoded tag old new result o g =
 pub object_decodes : (tag : Tag) (old new : State) (result : Result (List ℕ) DecodeError) → AreOctets old.rest → DecodesObjectIdentifier tag old result new → Decodes (leaf object_identifier tag unconstrained) numbers old result new
 object_decodes tag old new (Ok v) o g = object_decoded tag old new (Ok v) o g
 object_decodes tag old new (Err e) o (inr (n, g)) = object_decoded tag old new (Err e) o g
-object_decodes tag old new (Err e) o (inl (m, d, s, c, h)) =
+object_decodes tag old new (Err e) o (inl (m, d, s, c, h, b)) =
     alloc_failed (λ rule. Reads rule (leaf object_identifier tag unconstrained)) numbers old new e m s (definite_end old.rule tag old.rest o c new.rest h)
 
 object_plain : (rule : Codec) (c : List ℕ) (e : Cause) → ObjectIdentifierIn rule c (Err e) → IsPlainCause e
@@ -248,7 +251,7 @@ object_unframed tag old new e r =
 pub object_framed : (tag : Tag) (old new : State) (c : List ℕ) (result : Result (List ℕ) DecodeError) → definite_at old.rule tag old.rest ≡ Ok (c, new.rest) → new ≡ at old new.rest
     → DecodesArcs new.rule old.rule c result → DecodesObjectIdentifier tag old result new
 object_framed tag old new c (Ok arcs) d s a = contents_read (λ o. o) (ObjectIdentifierIn old.rule) tag old new c arcs d a s
-object_framed tag old new c (Err e) d s (k, inl m) = inl (m, k ∙ rule_is old new s, s, c, d)
+object_framed tag old new c (Err e) d s (k, inl (m, b)) = inl (m, k ∙ rule_is old new s, s, c, d, b)
 object_framed tag old new c (Err e) d s (k, inr (f, t, q)) =
     inr (
       (λ m. kind_memory f (stops_memory old.rule c f t) (sym q ∙ m)),
@@ -259,15 +262,15 @@ object_framed tag old new c (Err e) d s (k, inr (f, t, q)) =
 pub arcs_told : (rule : Codec) (c : List ℕ) (s : State) (f : ParseError) (e : DecodeError) → ParsesArcs rule c (Err f) → IsErrorOf f s e → DecodesArcs s.rule rule c (Err e)
 arcs_told rule c s f e h k = (
   ap (λ (x : DecodeError). x.codec) k,
-  elim (memory_or f) [
-    | inl m ↦ inl (ap (λ (x : DecodeError). x.kind) k ∙ ap error_kind m)
-    | inr n ↦ inr (f, h n, ap (λ (x : DecodeError). x.kind) k)
+  elim h [
+    | inl (m, b) ↦ inl (ap (λ (x : DecodeError). x.kind) k ∙ ap error_kind m, b)
+    | inr s ↦ inr (f, s, ap (λ (x : DecodeError). x.kind) k)
   ],
 )
 
 pub arcs_held : (named : Codec) (c : List ℕ) (result : Result (List ℕ) DecodeError) → DecodesArcs named Ber c result → DecodesOnlyArcs c result
 arcs_held named c (Ok arcs) a = (a.0, λ others b. identifier_one c others arcs b a.0)
-arcs_held named c (Err e) (k, inl m) = λ n arcs a. absurd (n m)
+arcs_held named c (Err e) (k, inl (m, b)) = λ n arcs a. absurd (n m)
 arcs_held named c (Err e) (k, inr (f, s, q)) = λ n arcs a. stops_none Ber c f arcs s a (λ strict. absurd strict)
 
 -- A subidentifier leaves less.

@@ -12,6 +12,9 @@ use rasn_types::error::DecodeError;
 use rasn_types::types::{Class, Codec, Constraints, ContextTag, Explicit, Implicit, Tag};
 use std::alloc::AllocError;
 
+const BOOLEAN_FOR_INTEGER: &str =
+    "CodecSpecific { inner: Ber(MismatchedTag { expected: Tag { class: Universal, value: 2 }, actual: Tag { class: Universal, value: 1 } }) }";
+
 const ELEVEN_IS_TOO_LARGE: &str =
     "ValueConstraintNotSatisfied { value: Integer { octets: [11] }, expected: Range { start: Some(0), end: Some(10) } }";
 
@@ -141,6 +144,15 @@ fn tells_that_a_default_has_no_memory(rt: HostRuntime) {
     let answer = decoder.decode_default::<u8, _>(|| Err(AllocError));
     assert_answer(&rt, rt.alloc(), Codec::Ber, answer, "OutOfMemory");
     assert!(rt; decoder.decoded_len() == 0);
+}
+
+// What stands in an explicit prefix has to be the value (X.690 8.14.2): a BOOLEAN in [0] is no INTEGER. The header and the contents are consumed.
+#[test]
+fn refuses_another_value_in_a_prefix(rt: HostRuntime) {
+    let mut decoder = decoder_of(rt.alloc(), &[0xA0, 0x03, 0x01, 0x01, 0xFF], Codec::Der);
+    let answer = decoder.decode_default_with_explicit_prefix::<u8, _>(context(0), || Ok(7));
+    assert_answer(&rt, rt.alloc(), Codec::Der, answer, BOOLEAN_FOR_INTEGER);
+    assert!(rt; decoder.decoded_len() == 5);
 }
 
 // A default that is left out and one that is there are one value.

@@ -1,11 +1,12 @@
-//! Closures of a SEQUENCE (X.690 8.9) that drop a refusal and go on.
+//! Closures of a SEQUENCE (X.690 8.9) that drop a refusal and go on, or that read by rules of their own.
 ghost use Rattle.rasn_de.specs.Constructed.{Keeps};
+ghost use Rattle.rasn_de.specs.State.{IsEnd};
 ghost use Rattle.rasn_enc.specs.View.{LeavesOthers};
 
 use crate::reading::{assert_answer, decoder_of};
 use crate::types::NumberAndTruth;
 use crate::writing::{assert_output, assert_written, new_encoder};
-use rasn::ber::de::Decoder;
+use rasn::ber::de::{Decoder, DecoderOptions};
 use rasn::ber::enc::Encoder;
 use rasn::error::{DecodeError, EncodeError};
 use rasn::types::{Bound, Bounded, Codec, Constraints, Identifier, Tag};
@@ -34,6 +35,25 @@ fn read_past_a_refusal(decoder: &mut Decoder<'_>) -> Result<NumberAndTruth, Deco
             Ok(Both {
                 first: number,
                 second: false,
+            })
+        },
+    )
+}
+
+/// Reads a SEQUENCE whose closure reads a number and a BOOLEAN by BER, with a decoder of its own.
+fn read_by_ber(decoder: &mut Decoder<'_>) -> Result<NumberAndTruth, DecodeError> {
+    decoder.decode_sequence::<2, 0, NumberAndTruth, fn() -> Result<NumberAndTruth, AllocError>, _>(
+        Tag::SEQUENCE,
+        None,
+        |inner|
+            ensures { IsEnd inner.old.rest inner.new.rest }
+        {
+            *inner = Decoder::new(inner.alloc(), inner.remaining(), DecoderOptions::ber());
+            let number = inner.decode_integer::<i32>(Tag::INTEGER, &Constraints::NONE)?;
+            let truth = inner.decode_bool(Tag::BOOL)?;
+            Ok(Both {
+                first: number,
+                second: truth,
             })
         },
     )
@@ -68,6 +88,35 @@ fn a_dropped_refusal_is_gone_on_from(rt: HostRuntime) {
     const FIVE_AND_FALSE: &str = "Both { first: 5, second: false }";
     assert_answer(&rt, alloc, Codec::Ber, answer, FIVE_AND_FALSE);
     assert!(rt; decoder.decoded_len() == 5);
+}
+
+// Under BER any octet but 00 is TRUE, under DER FF alone (X.690 8.2.2, 11.1). What a closure puts in the place of the decoder inside
+// holds for the contents alone: the SEQUENCE is closed, and the next value read, by the rules and at the place of the decoder outside.
+#[test]
+fn a_closure_reads_by_other_rules(rt: HostRuntime) {
+    let alloc = rt.alloc();
+    const FIVE_AND_TRUE: &str = "Both { first: 5, second: true }";
+    const SEQUENCE_AND_TRUE: &[u8] = &[
+        0x30, 0x06, 0x02, 0x01, 0x05, 0x01, 0x01, 0x01, 0x01, 0x01, 0x01,
+    ];
+    let mut decoder = decoder_of(alloc, SEQUENCE_AND_TRUE, Codec::Der);
+    let answer = read_by_ber(&mut decoder);
+    assert_answer(&rt, alloc, Codec::Der, answer, FIVE_AND_TRUE);
+    assert!(rt; decoder.decoded_len() == 8);
+    let answer = decoder.decode_bool(Tag::BOOL);
+    assert_answer(&rt, alloc, Codec::Der, answer, "InvalidBool { value: 1 }");
+}
+
+// The fault of octets that such a closure leaves names the rules outside, under which the SEQUENCE is closed.
+#[test]
+fn octets_left_by_other_rules_are_refused_outside(rt: HostRuntime) {
+    let alloc = rt.alloc();
+    const FIVE_TRUE_AND_NULL: &[u8] = &[0x30, 0x08, 0x02, 0x01, 0x05, 0x01, 0x01, 0x01, 0x05, 0x00];
+    let mut decoder = decoder_of(alloc, FIVE_TRUE_AND_NULL, Codec::Der);
+    let answer = read_by_ber(&mut decoder);
+    const TWO_OCTETS_LEFT: &str = "UnexpectedExtraData { length: 2 }";
+    assert_answer(&rt, alloc, Codec::Der, answer, TWO_OCTETS_LEFT);
+    assert!(rt; decoder.decoded_len() == 10);
 }
 
 // A refused call inside writes nothing.

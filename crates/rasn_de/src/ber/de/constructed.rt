@@ -2,7 +2,7 @@
 ghost use Rattle.std.specs.Prelude.{◌≡◌, ◌≢◌};
 ghost use Rattle.std.specs.Fn.{FnOnceReturnsAtMut};
 ghost use Rattle.rasn_types.specs.Framing.{indefinite, AreOctets, Ended};
-ghost use Rattle.rasn_de.specs.Constructed.{sequence_header, list_header, prefix_header, expected_header, ConsumesOpening, ConsumesEnd, is_indefinite_extent, KeepsSettings, DecodesInside};
+ghost use Rattle.rasn_de.specs.Constructed.{sequence_header, list_header, prefix_header, expected_header, ConsumesOpening, ConsumesEnd, is_indefinite_extent, LeavesAnEnd, DecodesInside};
 ghost use Rattle.rasn_de.specs.State.{IsEnd};
 ghost use Rattle.rasn_de.specs.ParserViews.{extent};
 ghost use Rattle.rasn_types.specs.Truth.{IsWhether};
@@ -143,7 +143,7 @@ impl<'input> Decoder<'input> {
         f: F,
     ) -> Result<D, DecodeError>
         requires callable { F.IsAlwaysCallable f }
-        requires keeps { KeepsSettings F.FnOnce f }
+        requires leaves { LeavesAnEnd F.FnOnce f }
         ensures exact { DecodesInside (FnOnceReturnsAtMut F.FnOnce f) header self.old result self.new }
         ensures octets { self.old.depth ≢ 0 → AreOctets self.old.rest }
     {

@@ -2,6 +2,7 @@
 ghost use Rattle.rasn_types.specs.Shapes.{prefix};
 ghost use Rattle.rasn_de.specs.Decodes.{Decodes};
 ghost use Rattle.rasn_de.specs.Optional.{MakesValue, DecodesOrDefault, DecodesOrDefaultAs, DecodesDefault, DecodesDefaultAs};
+ghost use Rattle.rasn_de.specs.Prefix.{DecodesPrefixBy};
 
 use crate::ber::de::Decoder;
 use crate::ber::de::parser::ParseError;
@@ -95,7 +96,7 @@ impl<'input> Decoder<'input> {
         F: FnOnce() -> Result<D, AllocError>,
     >(&mut self, tag: Tag, default: F) -> Result<D, DecodeError>
         requires { F.IsAlwaysCallable default }
-        ensures exact { DecodesOrDefault (Decodes (prefix tag D.shape) D.tree) D.tree (F.post default) tag self.old result self.new }
+        ensures exact { DecodesOrDefault (DecodesPrefixBy D.shape D.tree tag) D.tree (F.post default) tag self.old result self.new }
         ensures reads { DecodesDefault tag (prefix tag D.shape) D.tree (F.post default) self.old result self.new }
     {
         if !self.next_tag_is(tag)? {

@@ -1,7 +1,7 @@
 //! SEQUENCE (X.690 8.9).
 ghost use Rattle.std.specs.Prelude.{◌≡◌, IfSome};
 ghost use Rattle.std.specs.Fn.{FnOnceReturnsAtMut};
-ghost use Rattle.rasn_de.specs.Constructed.{KeepsSettings};
+ghost use Rattle.rasn_de.specs.Constructed.{LeavesAnEnd};
 ghost use Rattle.rasn_de.specs.Sequence.{is_read_by_initializer, MakesInitial, DecodesContents, DecodesSequenceBy, DecodesSequence};
 
 use crate::ber::de::Decoder;
@@ -28,6 +28,7 @@ impl<'input> Decoder<'input> {
 
     /// A SEQUENCE (X.690 8.9). Calls `f` once, on the contents of a value of the tag, all of which it has to read. In its place
     /// the initializer makes the value of a type without root fields and extension marker, and of empty contents where no root field is required.
+    /// `f` has to leave an end of what it gets. It may put another decoder in its place: the value is closed by the rules of this one.
     ///
     /// # Errors
     /// `ExceedsMaxParseDepth` before the header; framing faults; with the value consumed, `InvalidConstructedIdentifier`; what `f`
@@ -44,7 +45,7 @@ impl<'input> Decoder<'input> {
     >(&mut self, tag: Tag, default: Option<DF>, f: F) -> Result<D, DecodeError>
         requires callable { F.IsAlwaysCallable f }
         requires makes { IfSome default (λ g. DF.IsAlwaysCallable g) }
-        requires keeps { KeepsSettings F.FnOnce f }
+        requires leaves { LeavesAnEnd F.FnOnce f }
         ensures exact { DecodesSequenceBy RC D.IS_EXTENSIBLE D.HAS_REQUIRED_FIELDS DF.post default F.FnOnce f tag self.old result self.new }
         ensures reads { DecodesSequence F.FnOnce f DF.post default D.parts D.tree tag self.old result self.new }
     {

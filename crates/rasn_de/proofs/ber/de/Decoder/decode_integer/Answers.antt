@@ -41,4 +41,4 @@ pub returns-in-Err-from_octets : goal.returns-in-Err-from_octets
 returns-in-Err-from_octets g c =
     let t = c.in_ok-contents.ensures.exact in
     integer_ensured g.I.IntegerType.WIDTH g.I.IntegerType.range c.args.constraints.now g.I.IntegerType.number (g.I.IntegerType.grows ≡ true) c.args.tag c.args.self.now _ (Err c.error-in-Err-from_octets.result) c.contents.ensures.octets
-    (number_alloc_failed g.I.IntegerType.number (g.I.IntegerType.grows ≡ true) c.args.tag (IntegerAt g.I.IntegerType.WIDTH g.I.IntegerType.range c.args.constraints.now c.args.self.now.rule c.args.tag c.args.self.now.rest) c.args.self.now _ _ c.error-in-Err-from_octets.result t.0 t.1 c.in-Err-from_octets.ensures.memory c.error-in-Err-from_octets.ensures)
+    (number_alloc_failed g.I.IntegerType.number (g.I.IntegerType.grows ≡ true) c.args.tag (IntegerAt g.I.IntegerType.WIDTH g.I.IntegerType.range c.args.constraints.now c.args.self.now.rule c.args.tag c.args.self.now.rest) c.args.self.now _ _ c.error-in-Err-from_octets.result t.0 t.1 (rw (← c.codec-rules.ensures) c.in_default.ensures) c.in-Err-from_octets.ensures.memory c.error-in-Err-from_octets.ensures)

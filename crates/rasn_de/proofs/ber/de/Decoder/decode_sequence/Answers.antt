@@ -1,15 +1,15 @@
 use Rattle.std.specs.Fn.{FnOnceReturnsAtMut}
 use Rattle.rasn_de.specs.Sequence.{is_read_by_initializer, MakesInitial, DecodesContents}
-use Rattle.rasn_de.proofs.Constructed.Steps.{closure_keeps, closure_inside}
-use Rattle.rasn_de.proofs.Constructed.Sequence.{sequence_decodes, fills_keeps}
+use Rattle.rasn_de.proofs.Constructed.Steps.{closure_leaves, closure_inside}
+use Rattle.rasn_de.proofs.Constructed.Sequence.{sequence_decodes, fills_leaves}
 use Rattle.rasn_de.proofs.ber.de.Decoder.decode_sequence.Goals as goal
 
-pub inside-requires-clause-keeps : goal.inside-requires-clause-keeps
-inside-requires-clause-keeps g c =
+pub inside-requires-clause-leaves : goal.inside-requires-clause-leaves
+inside-requires-clause-leaves g c =
     let starts = is_read_by_initializer g.row.RC g.D.Constructed.IS_EXTENSIBLE g.D.Constructed.HAS_REQUIRED_FIELDS in
     let initializer_value = MakesInitial (goal.DF-post g) c.args.default in
     let called = FnOnceReturnsAtMut g.F.FnOnce c.args.f in
-    closure_keeps _ _ (DecodesContents starts initializer_value called) (λ p r q m. m) (fills_keeps starts initializer_value called c.requires.keeps)
+    closure_leaves _ _ (DecodesContents starts initializer_value called) (λ p r q m. m) (fills_leaves starts initializer_value called c.requires.leaves)
 
 pub returns : goal.returns
 returns g c =

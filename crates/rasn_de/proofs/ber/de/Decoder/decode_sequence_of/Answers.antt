@@ -1,16 +1,16 @@
 use Rattle.std.proofs.Common.{Ok, Err, inl, Vec, vec_len, Global}
 use Rattle.rasn_de.specs.Decodes.{Decodes}
 use Rattle.rasn_de.specs.SequenceOf.{DecodesElements}
-use Rattle.rasn_de.proofs.Constructed.Steps.{closure_keeps, closure_inside}
-use Rattle.rasn_de.proofs.Constructed.SetOfElements.{each_keeps}
+use Rattle.rasn_de.proofs.Constructed.Steps.{closure_leaves, closure_inside}
+use Rattle.rasn_de.proofs.Constructed.SetOfElements.{each_leaves}
 use Rattle.rasn_de.proofs.Constructed.SequenceOf.{sequence_of_decodes}
 use Rattle.rasn_de.proofs.Leaves.Returns.{residual, also_reads}
 use Rattle.rasn_de.proofs.Constructed.Sized.{unsized}
 use Rattle.rasn_de.proofs.ber.de.Decoder.decode_sequence_of.Goals as goal
 
-pub inside-requires-clause-keeps : goal.inside-requires-clause-keeps
-inside-requires-clause-keeps g c =
-    closure_keeps _ _ (DecodesElements (Decodes g.D.AsnType.shape g.D.AsnType.tree) (λ (v : Vec g.row.D.Denot Global). v.items)) (λ p r q m. m) (each_keeps g.D.AsnType.shape g.D.AsnType.tree (λ (v : Vec g.row.D.Denot Global). v.items))
+pub inside-requires-clause-leaves : goal.inside-requires-clause-leaves
+inside-requires-clause-leaves g c =
+    closure_leaves _ _ (DecodesElements (Decodes g.D.AsnType.shape g.D.AsnType.tree) (λ (v : Vec g.row.D.Denot Global). v.items)) (λ p r q m. m) (each_leaves g.D.AsnType.shape g.D.AsnType.tree (λ (v : Vec g.row.D.Denot Global). v.items))
 
 pub returns-in_err-values : goal.returns-in_err-values
 returns-in_err-values g c =

@@ -1,15 +1,15 @@
 use Rattle.std.proofs.Common.{Vec, Global}
 use Rattle.rasn_de.specs.Decodes.{Decodes}
 use Rattle.rasn_de.specs.Set.{DecodesComponents, DecodesSetContents}
-use Rattle.rasn_de.proofs.Constructed.Set.{set_decodes, collects_keeps}
-use Rattle.rasn_de.proofs.Constructed.Steps.{closure_keeps, closure_inside}
+use Rattle.rasn_de.proofs.Constructed.Set.{set_decodes, collects_leaves}
+use Rattle.rasn_de.proofs.Constructed.Steps.{closure_leaves, closure_inside}
 use Rattle.rasn_de.proofs.ber.de.Decoder.decode_set.Goals as goal
 
-pub inside-requires-clause-keeps : goal.inside-requires-clause-keeps
-inside-requires-clause-keeps g c =
+pub inside-requires-clause-leaves : goal.inside-requires-clause-leaves
+inside-requires-clause-leaves g c =
     let elements = λ (v : Vec g.row.FIELDS.Denot Global). v.items in
     let read = DecodesSetContents (DecodesComponents (Decodes g.FIELDS.AsnType.shape g.FIELDS.AsnType.tree) elements) (goal.F-post g c.args.f) in
-    closure_keeps _ _ read (λ p r q m. m) (collects_keeps g.FIELDS.AsnType.shape g.FIELDS.AsnType.tree elements (goal.F-post g c.args.f))
+    closure_leaves _ _ read (λ p r q m. m) (collects_leaves g.FIELDS.AsnType.shape g.FIELDS.AsnType.tree elements (goal.F-post g c.args.f))
 
 pub returns : goal.returns
 returns g c =

@@ -1,16 +1,16 @@
 use Rattle.std.proofs.Common.{Ok, Err, inl, List, length}
 use Rattle.rasn_de.specs.Decodes.{Decodes}
 use Rattle.rasn_de.specs.SequenceOf.{DecodesElementsInOrder}
-use Rattle.rasn_de.proofs.Constructed.Steps.{closure_keeps, closure_inside}
-use Rattle.rasn_de.proofs.Constructed.SetOfElements.{in_order_keeps}
+use Rattle.rasn_de.proofs.Constructed.Steps.{closure_leaves, closure_inside}
+use Rattle.rasn_de.proofs.Constructed.SetOfElements.{in_order_leaves}
 use Rattle.rasn_de.proofs.Constructed.SequenceOf.{set_of_decodes}
 use Rattle.rasn_de.proofs.Leaves.Returns.{residual, also_reads}
 use Rattle.rasn_de.proofs.Constructed.Sized.{unsized}
 use Rattle.rasn_de.proofs.ber.de.Decoder.decode_set_of.Goals as goal
 
-pub inside-requires-clause-keeps : goal.inside-requires-clause-keeps
-inside-requires-clause-keeps g c =
-    closure_keeps _ _ (DecodesElementsInOrder (Decodes g.D.AsnType.shape g.D.AsnType.tree) (λ (v : List g.row.D.Denot). v)) (λ p r q m. m) (in_order_keeps g.D.AsnType.shape g.D.AsnType.tree (λ (v : List g.row.D.Denot). v))
+pub inside-requires-clause-leaves : goal.inside-requires-clause-leaves
+inside-requires-clause-leaves g c =
+    closure_leaves _ _ (DecodesElementsInOrder (Decodes g.D.AsnType.shape g.D.AsnType.tree) (λ (v : List g.row.D.Denot). v)) (λ p r q m. m) (in_order_leaves g.D.AsnType.shape g.D.AsnType.tree (λ (v : List g.row.D.Denot). v))
 
 pub returns-in_err-values : goal.returns-in_err-values
 returns-in_err-values g c =

@@ -13,8 +13,8 @@ returns-in_err-value-clause-exact g c =
 
 pub close-requires : goal.close-requires
 close-requires g c =
-    let k = c.requires.keeps _ _ _ (record { shown = _; shows = refl; left = _; met = c.in_ok-value.ensures; leaves = refl }) in
-    step_end {D = Unit {0}} (λ s r n. Unit {0}) c.args.header c.args.self.now _ _ _ c.in_ok-inner.ensures.exact _ k _ c.remaining.ensures.value
+    let k = c.requires.leaves _ _ _ (record { shown = _; shows = refl; left = _; met = c.in_ok-value.ensures; leaves = refl }) in
+    step_end {D = Unit {0}} (λ s r n. Unit {0}) c.args.header c.args.self.now _ _ _ c.in_ok-inner.ensures.exact _ _ k c.remaining.ensures.value
 
 pub returns-in_err-close-clause-exact : goal.returns-in_err-close-clause-exact
 returns-in_err-close-clause-exact g c =
