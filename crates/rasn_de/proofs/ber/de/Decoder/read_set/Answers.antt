@@ -1,18 +1,18 @@
 use Rattle.std.proofs.Common.{List, map}
 use Rattle.rasn_types.specs.Shapes.{Tree, choice}
 use Rattle.rasn_de.specs.SetPartTypes.{text, MakesOfReadings, DecodesSetPartContents}
-use Rattle.rasn_de.proofs.Constructed.Set.{collects_keeps}
-use Rattle.rasn_de.proofs.Constructed.Steps.{closure_keeps, closure_inside}
+use Rattle.rasn_de.proofs.Constructed.Set.{collects_leaves}
+use Rattle.rasn_de.proofs.Constructed.Steps.{closure_leaves, closure_inside}
 use Rattle.rasn_de.proofs.OwnTypes.SetPartTypes.{set_parts_decode}
 use Rattle.rasn_de.proofs.ber.de.Decoder.read_set.Goals as goal
 
-pub inside-requires-clause-keeps : goal.inside-requires-clause-keeps
-inside-requires-clause-keeps g c =
+pub inside-requires-clause-leaves : goal.inside-requires-clause-leaves
+inside-requires-clause-leaves g c =
     let ps = g.P.DecodeSetParts.parts in
     let tree = g.P.DecodeSetParts.tree in
     let names = map text c.args.names.now in
-    closure_keeps _ _ (DecodesSetPartContents ps tree names) (λ p r q m. m)
-    (λ old. collects_keeps (choice ps) (λ (t : Tree). t) (λ (l : List Tree). l) (MakesOfReadings ps tree names old.rule) old)
+    closure_leaves _ _ (DecodesSetPartContents ps tree names) (λ p r q m. m)
+    (λ old. collects_leaves (choice ps) (λ (t : Tree). t) (λ (l : List Tree). l) (MakesOfReadings ps tree names old.rule) old)
 
 pub returns : goal.returns
 returns g c =
