@@ -22,8 +22,8 @@ use std::mem;
 /// Under DER it does what `der::decode` does. `ber::decode` and `cer::decode` ignore what follows the value, and this call refuses it.
 ///
 /// # Errors
-/// Those of `decode_with_remainder`, and then those of `refuse_remainder`. An error for another cause than memory means that the input
-/// isn't one value of the type.
+/// What `T::decode` refuses, and then `UnexpectedExtraData` where octets follow the value, with their number (X.690 8.1.1.1): then the input isn't
+/// one value of the type. `OutOfMemory` where an allocation fails.
 ///
 /// # Examples
 /// ```
@@ -44,7 +44,7 @@ pub fn decode<T: Decode>(alloc: Global, codec: Codec, input: &[u8]) -> Result<T,
 /// What follows is an end of the input, so the value has `input.len() - remainder.len()` octets.
 ///
 /// # Errors
-/// What the type refuses. An error for another cause than memory means that no value of the type begins the input.
+/// What `T::decode` refuses: then no value of the type begins the input. `OutOfMemory` where an allocation fails.
 ///
 /// # Examples
 /// ```
