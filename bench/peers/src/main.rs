@@ -12,7 +12,7 @@ exports! {
     soq_nothing(); soq_bool_read(); soq_i64_read(); soq_integer_read(); soq_oid_read(); soq_octets_read(); soq_octets_borrow();
     soq_utf8_read(); soq_printable_read(); soq_pair_read(); soq_validity_read(); soq_validity_read_written(); soq_octets_put();
     soq_list_i64_read(); soq_list_integer_read();
-    soq_oid_write(times: usize); soq_octets_write(times: usize); soq_pair_write(times: usize); soq_validity_write(times: usize);
+    soq_oid_write(times: usize); soq_bits_write(times: usize); soq_octets_write(times: usize); soq_pair_write(times: usize); soq_validity_write(times: usize);
     soq_list_i64_write(times: usize); soq_list_integer_write(times: usize);
     soq_nest_write_3(times: usize); soq_nest_write_10(times: usize); soq_nest_write_20(times: usize);
     soq_bool_write(times: usize); soq_i64_write(times: usize); soq_both_read(); soq_both_write(times: usize);
@@ -255,6 +255,11 @@ fn main() {
         ("der-parser", peer(|i| black_box(der_parser::der::parse_der_oid(&i.octets)).is_ok() as usize))]);
     row_of("2 OID written", &o, vec![("soq", soq_times(soq_oid_write, W), W),
         ("asn1", peer(|i| { let v = p::<asn1::ObjectIdentifier>(&i.octets).unwrap(); (0..W).map(|_| black_box(asn1::write_single(black_box(&v))).unwrap().len()).sum() }), W)]);
+    let mut signature = vec![0];
+    signature.extend(0..=255u8);
+    let signature = vec![input(tlv(3, &signature))];
+    row_of("2 BIT STRING of 2048 bits written", &signature, vec![("soq", soq_times(soq_bits_write, W), W),
+        ("asn1", peer(|i| { let v = p::<asn1::BitString>(&i.octets).unwrap(); (0..W).map(|_| black_box(asn1::write_single(black_box(&v))).unwrap().len()).sum() }), W)]);
     let octets = |name: &str, inputs: &[Input]| {
         row(&format!("3 OCTET STRING {name} read"), inputs, vec![("soq-copied", soq(soq_octets_read)), ("soq-borrowed", soq(soq_octets_borrow)),
             ("asn1-borrowed", peer(|i| black_box(p::<&[u8]>(&i.octets)).is_ok() as usize)),

@@ -1,7 +1,7 @@
 pub mod OpenValues
 pub mod CutBack
 pub mod Cuts
-pub mod Filled
+pub mod Contents
 pub mod Counted
 pub mod Moves
 pub mod Octets

@@ -1,6 +1,6 @@
 pub mod Cursors
 pub mod Cuts
-pub mod Filled
+pub mod Contents
 pub mod OpenValues
 pub mod Lists
 pub mod DeferredHeaders

@@ -2,8 +2,9 @@
 use Rattle.std.specs.Prelude.{ℕ, ◌+◌, ◌*◌, ◌<◌, ◌≤◌, ◌≡◌, ◌⊎◌, List, [], ◌∷◌, ◌++◌}
 use Rattle.rasn_types.specs.Framing.{AreOctets, Spells128}
 use Rattle.rasn_types.specs.Shapes.{numbers, object_identifier}
-use Rattle.rasn_types.specs.Contents.{IsShortest128, ShortArcs}
+use Rattle.rasn_types.specs.Contents.{IsShortest128}
 use Rattle.rasn_types.specs.Bytes.{Written}
+use Rattle.rasn_enc.specs.Headers.{digits, chained, group_count}
 use Rattle.rasn_types.specs.declared.types.codec.Codec.{Codec}
 use Rattle.rasn_types.specs.declared.error.encode.EncodeError.{EncodeError}
 use Rattle.rasn_types.specs.declared.error.encode.EncodeErrorKind.{EncodeErrorKind}
@@ -18,11 +19,11 @@ AreEncodable [] = ⊥
 AreEncodable (x ∷ []) = ⊥
 AreEncodable (x ∷ y ∷ l) = ((x < 2) × (y < 40)) ⊎ ((x ≡ 2) × (y ≤ 4294967215))
 
--- The first subidentifier (8.19.4).
-abbrev pub IsFirstSubidentifier : List ℕ → ℕ → Type 0
-IsFirstSubidentifier [] s = ⊥
-IsFirstSubidentifier (x ∷ []) s = ⊥
-IsFirstSubidentifier (x ∷ y ∷ l) s = s ≡ 40 * x + y
+-- The subidentifiers of arcs: the first one holds two arcs (8.19.4).
+abbrev pub AreSubidentifiers : List ℕ → List ℕ → Type 0
+AreSubidentifiers ns [] = ⊥
+AreSubidentifiers ns (x ∷ []) = ⊥
+AreSubidentifiers ns (x ∷ y ∷ l) = ns ≡ (40 * x + y) ∷ l
 
 -- A subidentifier in its fewest octets (8.19.2).
 pub record IsSubidentifier (l : List ℕ) (n : ℕ) : Type 0 where
@@ -30,18 +31,10 @@ pub record IsSubidentifier (l : List ℕ) (n : ℕ) : Type 0 where
   pub shortest : IsShortest128 l
   pub octets : AreOctets l
 
--- A subidentifier is put behind a list.
-pub record AppendsSubidentifier (n : ℕ) (old new : List ℕ) : Type 0 where
-  pub octets : List ℕ
-  pub is : IsSubidentifier octets n
-  pub appended : new ≡ old ++ octets
-
--- Subidentifiers are put behind a list.
-pub record AppendsSubidentifiers (ns old new : List ℕ) : Type 0 where
-  pub octets : List ℕ
-  pub are : ShortArcs octets ns
-  pub octets_are : AreOctets octets
-  pub appended : new ≡ old ++ octets
+-- Subidentifiers one behind the other, as they are written.
+abbrev pub subidentifier_octets : List ℕ → List ℕ
+subidentifier_octets [] = []
+subidentifier_octets (n ∷ ns) = chained (digits 128 (group_count n) n) ++ subidentifier_octets ns
 
 -- The contents of an object identifier are put behind a list.
 pub record AppendsContents (arcs old new : List ℕ) : Type 0 where

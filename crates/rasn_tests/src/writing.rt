@@ -129,6 +129,25 @@ pub fn identifier_of(alloc: Global, arcs: &[u32]) -> Result<Option<ObjectIdentif
     Ok(ObjectIdentifier::new(arcs))
 }
 
+/// The object identifiers of these arcs, where each is one.
+pub fn identifiers_of(
+    alloc: Global,
+    arcs: &[&[u32]],
+) -> Result<Option<Vec<ObjectIdentifier>>, AllocError> {
+    let mut identifiers = Vec::new(alloc);
+    for arcs in arcs {
+        match identifier_of(alloc, arcs)? {
+            Some(identifier) => identifiers.push(identifier)?,
+            None => return Ok(None),
+        }
+    }
+    Ok(Some(identifiers))
+}
+
+/// The kind of the refusal of the object identifier 0.40, which has no encoding (X.690 8.19.4).
+pub const INVALID_0_40: &str =
+    "CodecSpecific { inner: Ber(InvalidObjectIdentifier { oid: [0, 40] }) }";
+
 /// An encoder with no output yet.
 pub fn new_encoder(rt: &impl Abort, alloc: Global, rules: Codec) -> Encoder {
     match Encoder::new(alloc, EncoderOptions::of(rules)) {

@@ -1,5 +1,6 @@
 -- Bits as the contents of a BIT STRING.
-use Rattle.std.proofs.Common.{◌≡◌, ℕ, zero, suc, ◌+◌, ◌*◌, ◌%◌, ◌<◌, ◌≤◌, Bool, false, List, [], ◌∷◌, ◌++◌, length, Result, Ok, Err, OnOk, refl, sym, ap, ap₂, ◌∙◌, subst, arith}
+use Rattle.std.proofs.Common.{◌≡◌, ℕ, zero, suc, ◌+◌, ◌*◌, ◌/◌, ◌%◌, ◌<◌, ◌≤◌, Bool, false, List, [], ◌∷◌, ◌++◌, length, Result, Ok, Err, OnOk, refl, sym, ap, ap₂, ◌∙◌, subst, arith}
+use Rattle.std.specs.Prelude.{min}
 use Rattle.std.proofs.lemmas.List.{append_assoc, length-append, length-replicate}
 use Rattle.std.proofs.lemmas.Result.{on_ok_weaker}
 use Rattle.rasn_types.specs.Tags.{in_universal}
@@ -13,6 +14,7 @@ use Rattle.rasn_types.proofs.BitString.Bits.{length-bits_in}
 use Rattle.rasn_types.proofs.Headers.Digits.{front_octets}
 use Rattle.rasn_enc.specs.View.{View}
 use Rattle.rasn_enc.specs.Primitive.{Appends}
+use Rattle.rasn_enc.specs.Buffer.Contents.{AppendsOctets}
 use Rattle.rasn_enc.specs.Encoding.{AppendsEncoding}
 use Rattle.rasn_enc.proofs.Leaves.Primitive.{encoded_one}
 use Rattle.rasn_enc.proofs.Leaves.Segments.{str_begins}
@@ -46,17 +48,25 @@ bits_written bs unused counted contents few whole e p o =
 
 -- A count and octets put behind others are too.
 bits_put : (bs : List Bool) (unused : ℕ) (old counted new : List ℕ) → unused < 8 → (length bs + unused) % 8 ≡ 0 → counted ≡ old ++ unused ∷ [] → Pushes bs counted new → AreOctets new
-    → (l : List ℕ) × WrittenBits bs l × (new ≡ old ++ l)
+    → AppendsOctets (WrittenBits bs) old new
 bits_put bs unused old counted new few whole e p o =
     let l : List ℕ = unused ∷ p.octets in
     let eq : new ≡ old ++ l = p.is ∙ (ap (λ (x : List ℕ). x ++ p.octets) e ∙ append_assoc old (unused ∷ []) p.octets) in
     let q : Pushes bs (unused ∷ []) l = record { octets = p.octets; is = refl; packs = p.packs } in
-    (l, bits_written bs unused (unused ∷ []) l few whole refl q (front_octets old l (subst AreOctets eq o)).1, eq)
+    record { octets = l; written = bits_written bs unused (unused ∷ []) l few whole refl q (front_octets old l (subst AreOctets eq o)).1; is = eq }
 
 pub bits_appended : {R E : Type 0} (result : Result R E) (bs : List Bool) (unused : ℕ) (old counted new : List ℕ) → unused < 8 → (length bs + unused) % 8 ≡ 0 → counted ≡ old ++ unused ∷ []
-    → OnOk result (Pushes bs counted new) → OnOk result (AreOctets new) → OnOk result ((l : List ℕ) × WrittenBits bs l × (new ≡ old ++ l))
+    → OnOk result (Pushes bs counted new) → OnOk result (AreOctets new) → OnOk result (AppendsOctets (WrittenBits bs) old new)
 bits_appended (Ok x) bs unused old counted new few whole e p o = bits_put bs unused old counted new few whole e p o
 bits_appended (Err x) bs unused old counted new few whole e p o = tt
+
+-- How many contents octets bits take.
+pub length-written : (bs : List Bool) (l : List ℕ) → WrittenBits bs l → length l ≡ 1 + (length bs / 8 + min 1 (length bs % 8))
+length-written bs l w =
+    let e = ap length w.is.is in
+    let a = ap length w.is.all in
+    let few = w.is.few in
+    omega (arith, e, a, few, length-append bs w.is.unused, length-bits_in w.is.octets)
 
 -- ---- a whole string
 pub bits_encoded : {R E : Type 0} (result : Result R E) (tag : Tag) (c : Constraints) (bs : List Bool) (v w : View) → Admits ◌≤◌ c.size (length bs)

@@ -14,7 +14,7 @@ use Rattle.rasn_types.specs.declared.types.tag.Tag.{Tag}
 use Rattle.rasn_types.specs.declared.types.constraints.Constraints.{Constraints}
 use Rattle.rasn_types.specs.declared.error.encode.EncodeError.{EncodeError}
 use Rattle.rasn_enc.specs.View.{View}
-use Rattle.rasn_enc.specs.Primitive.{Appends, IsAllocError}
+use Rattle.rasn_enc.specs.Primitive.{Appends, AppendsPrimitive, IsAllocError}
 use Rattle.rasn_enc.specs.Encoding.{AppendsEncoding, EncodeFails}
 use Rattle.rasn_enc.specs.Errors.{FailsAtString, FailsAtValue}
 
@@ -46,6 +46,11 @@ encoded_one R tag s t v w a tagged begins defined = record {
   tagged = λ k b. absurd (tagged b);
   appended = a.appended;
 }
+
+-- Contents that are these and no others.
+pub exactly : {R E : Type 0} (result : Result R E) (contents : List ℕ) (tag : Tag) (v w : View) → OnOk result (AppendsPrimitive (λ l. l ≡ contents) tag v w)
+    → OnOk result (Appends (PrimitiveEncoding tag contents) tag v w)
+exactly result contents tag v w h = on_ok_weaker result (λ (l, e, a). subst (λ l. Appends (PrimitiveEncoding tag l) tag v w) e a) h
 
 bool_written : (b : Bool) → Written boolean (bool_tree b) (cond b 255 0 ∷ [])
 bool_written true = record { is = (pos 1, refl, inr (refl, refl)); octets = (omega arith, tt); shortest = tt }

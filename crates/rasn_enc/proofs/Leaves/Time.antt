@@ -1,6 +1,7 @@
 -- The texts of times in a header are their octets.
-use Rattle.std.proofs.Common.{◌≡◌, ℕ, zero, suc, ◌+◌, ◌/◌, ◌%◌, ◌^◌, ◌≤◌, ◌==◌, inl, Bool, true, false, cond, List, [], ◌∷◌, ◌++◌, map, length, refl, Result, OnOk, pos, negsuc, ℤ, arith, subst}
+use Rattle.std.proofs.Common.{◌≡◌, ℕ, zero, suc, ◌+◌, ◌-◌, ◌/◌, ◌%◌, ◌^◌, ◌<◌, ◌≤◌, ◌==◌, ◌⊎◌, inl, inr, ap, Bool, true, false, cond, List, [], ◌∷◌, ◌++◌, map, length, refl, Result, OnOk, pos, negsuc, ℤ, arith, subst}
 use Rattle.std.specs.Prelude.{nat_lt}
+use Rattle.std.proofs.lemmas.Bool.Decides.{nat_tests}
 use Rattle.std.proofs.lemmas.Result.{on_ok_weaker}
 use Rattle.std.proofs.lemmas.List.{length-append, length-map}
 use Rattle.rasn_types.specs.Calendar.{Moment, IsMoment, Day, IsDay}
@@ -12,6 +13,7 @@ use Rattle.rasn_types.specs.Shapes.{Shape, Tree, leaf, utc_time, generalized_tim
 use Rattle.rasn_types.specs.Bytes.{PrimitiveEncoding, WritesString, WritesOctets, Bytes, IsUntaggedOpen}
 use Rattle.rasn_types.specs.declared.types.tag.Tag.{Tag}
 use Rattle.rasn_types.specs.declared.types.constraints.Constraints.{Constraints}
+use Rattle.rasn_types.proofs.Time.Fractions.{digits_of_step, digits_of_zero, positive}
 use Rattle.rasn_enc.specs.View.{View}
 use Rattle.rasn_enc.specs.Primitive.{Appends}
 use Rattle.rasn_enc.specs.Encoding.{AppendsEncoding}
@@ -69,6 +71,47 @@ generalized_few m =
 pub utc_few : (m : Moment) → length (written_utc m) ≤ 1000
 unfolding written_utc
 utc_few m = omega arith
+
+-- How many octets texts have.
+pub length-date : (d : Day) → length (written_date d) ≡ length (written_year d.year) + 4
+unfolding written_date
+length-date d = length-append (written_year d.year) (two d.month ++ two d.day)
+
+pub length-utc : (m : Moment) → length (written_utc m) ≡ 13
+unfolding written_utc
+length-utc m = refl
+
+pub length-generalized : (m : Moment) → length (written_generalized m) ≡ length (written_year m.day.year) + 11 + length (written_fraction (within_second m))
+unfolding written_generalized
+length-generalized m =
+    let e = length-append (written_date m.day) (clock_written m ++ (written_fraction (within_second m) ++ 90 ∷ [])) in
+    let f = length-append (written_fraction (within_second m)) (90 ∷ []) in
+    let h = length-date m.day in
+    omega arith
+
+pub no_fraction : (n : ℕ) → n ≡ 0 → 0 ≡ length (written_fraction n)
+no_fraction n e = rw e refl
+
+-- One digit of a fraction is left out.
+pub one_digit_less : (k n w all : ℕ) → 0 < k → 0 < n → k ≤ 9 → w ≡ 10 ^ (k - 1) → length (digits_of k n) + (9 - k) ≡ all → length (digits_of (k - 1) (n % w)) + (9 - (k - 1)) ≡ all
+one_digit_less k n w all h l few e m =
+    let s = ap length (digits_of_step k n h l) in
+    rw e (omega (arith, s, m, few, h))
+
+-- Where something is left of a fraction, so is a digit.
+pub some_place : (k n : ℕ) → 0 < n → n < 10 ^ k → 0 < k
+some_place zero n h l = absurd (omega (arith, h, l))
+some_place (suc k) n h l = omega arith
+
+-- No digit is left.
+pub no_digit_left : (n k all : ℕ) → n ≡ 0 → 0 < all → k ≤ 9 → length (digits_of k n) + (9 - k) ≡ length (digits_of 9 all) → 10 - k ≡ length (written_fraction all)
+no_digit_left n k all e h few m =
+    let z : length (digits_of k n) ≡ 0 = rw (e, digits_of_zero k) refl in
+    let w : length (written_fraction all) ≡ suc (length (digits_of 9 all)) = rw (positive all h) (ap suc (length-map (digits_of 9 all) (λ d. 48 + d))) in
+    omega (arith, z, w, m, few)
+
+pub within : (m : Moment) → IsMoment m → m.nanosecond % 1000000000 ≡ within_second m
+within m h = let k = h.nanosecond in grind (arith, nat_tests)
 
 -- A text in one piece.
 time_encoded : {R E Valid : Type 0} (result : Result R E) (tag : Tag) (s : Shape) (t : Tree) (text : List ℕ) (v w : View) → (IsUntaggedOpen s t → ⊥) → (Valid → AreOctets text) → length text ≤ 1000

@@ -4,7 +4,7 @@ pub use Rattle.rasn_enc.specs.View.{kept_of}
 use Rattle.rasn_enc.specs.View.{OpenList}
 use Rattle.rasn_enc.specs.Buffer.Lists.{tags_of}
 use Rattle.rasn_types.specs.declared.types.tag.Tag.{Tag}
-use Rattle.rasn_enc.specs.Buffer.Filled.{FillClosure, AppendsPrimitiveOctets, AppendsFilledOctets}
+use Rattle.rasn_enc.specs.Buffer.Contents.{AppendsPrimitiveOctets}
 use Rattle.rasn_enc.specs.Buffer.Cuts.{list_from, Sound}
 use Rattle.rasn_enc.specs.declared.ber.enc.writer.deferred_headers.DeferredHeader.{DeferredHeader}
 use Rattle.rasn_enc.specs.declared.ber.enc.writer.Open.{Open}
@@ -32,11 +32,7 @@ IsInnermost around (Some o) = Unit {0}
 abbrev pub noted : Option (List Tag) → List Tag → Option (List Tag)
 noted o tags = option_map (λ kept. kept ++ tags) o
 
--- A primitive value of these contents stands behind octets, and is counted.
-pub record AppendsCounted (tag : Tag) (contents : List ℕ) (measured : ℕ) (xs ys : List ℕ) (n : ℕ) : Type 0 where
-  pub puts : AppendsPrimitiveOctets tag contents xs ys
+-- A primitive value whose contents may be written stands behind octets, and is counted.
+pub record AppendsCounted (IsWritten : List ℕ → Type 0) (tag : Tag) (measured : ℕ) (xs ys : List ℕ) (n : ℕ) : Type 0 where
+  pub puts : AppendsPrimitiveOctets IsWritten tag xs ys
   pub total : n ≡ measured + length puts.octets
-
-pub record AppendsFilledCounted {F A : Type 0} (g : FillClosure F A) (f : F) (tag : Tag) (measured : ℕ) (xs ys : List ℕ) (n : ℕ) : Type 0 where
-  pub puts : AppendsFilledOctets g f tag xs ys
-  pub total : n ≡ measured + length puts.puts.octets

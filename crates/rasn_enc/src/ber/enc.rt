@@ -1,15 +1,11 @@
 //! The encoder: it writes values one behind the other.
 ghost use Rattle.std.specs.Prelude.{◌≡◌, ◌≤◌, ◌⊎◌, length, IfOk, IfErr, OnOk, OnErr, false, true};
-ghost use Rattle.std.specs.Fn.{FnOnceTakesAtMut};
 ghost use Rattle.rasn_types.specs.Truth.{IsWhether};
-ghost use Rattle.rasn_types.specs.Bytes.{PrimitiveEncoding};
 ghost use Rattle.rasn_types.specs.Shapes.{Admits};
 ghost use Rattle.rasn_enc.specs.Errors.{FailsAtSize};
 ghost use Rattle.rasn_enc.specs.View.{started, AreTagsInOrder};
-ghost use Rattle.rasn_enc.specs.Primitive.{Appends, AppendsPrimitive, IsAllocError, IsOrderError};
+ghost use Rattle.rasn_enc.specs.Primitive.{IsAllocError, IsOrderError};
 ghost use Rattle.rasn_enc.specs.Order.{FallsBetween};
-ghost use Rattle.rasn_enc.specs.declared.ber.enc.writer.filled.FillError.TheVariants.{NoMemory};
-ghost use Rattle.rasn_enc.specs.Buffer.Filled.{OnlyAppendsOctets, MayFailToFill, AppendsFilled};
 ghost use Rattle.rasn_enc.specs.Closures.{FailsAtTags};
 
 pub mod alternatives;
@@ -48,7 +44,6 @@ use std::alloc::Global;
 use std::fmt;
 use std::marker::Model;
 use writer::deferred_headers::DeferredHeader;
-use writer::filled::{Contents, fill_with};
 use writer::{Open, ValueList};
 
 /// The octets that `Encoder::new` and the entry points make room for before anything is written.
@@ -199,19 +194,6 @@ impl Encoder {
             },
             codec: self.codec(),
         })
-    }
-
-    /// Puts a primitive value behind the last list, whose contents it writes in place.
-    fn leaf_of<T: Contents>(&mut self, tag: Tag, value: &T) -> Result<(), EncodeError>
-        ensures ok { OnOk result (AppendsPrimitive (T.IsWritten value.now) tag self.old self.new) }
-        ensures err { OnErr result (self.new ≡ self.old) }
-        ensures memory_alone { IfErr result (IsAllocError self.old.rule) }
-    {
-        let rule = self.codec();
-        match self.leaf_with(tag, |octets: &mut Vec<u8>| fill_with(value, octets)) {
-            Ok(()) => Ok(()),
-            Err(_) => Err(out_of_memory(rule)),
-        }
     }
 }
 

@@ -1,13 +1,11 @@
 //! SEQUENCE OF is encoded (X.690 8.10), of definite length but under CER (9.1).
 
 use crate::writing::{
-    assert_output, assert_refuses, assert_writes_made, assert_writes_pieces, assert_written,
-    identifier_of, made, new_encoder, repeated,
+    INVALID_0_40, assert_output, assert_refuses, assert_writes_made, assert_writes_pieces,
+    assert_written, identifiers_of, made, new_encoder, repeated,
 };
 use rasn_enc::enc::Encode;
-use rasn_types::types::{
-    Bound, Bounded, Class, Codec, Constraints, Identifier, ObjectIdentifier, OctetString, Tag,
-};
+use rasn_types::types::{Bound, Bounded, Class, Codec, Constraints, Identifier, OctetString, Tag};
 use std::alloc::{AllocError, Global};
 
 /// SIZE (2..2)
@@ -41,21 +39,6 @@ pub fn lists(
         lists.push(strings)?;
     }
     Ok(Some(lists))
-}
-
-/// SEQUENCE OF OBJECT IDENTIFIER
-fn identifiers(
-    alloc: Global,
-    arcs: &[&[u32]],
-) -> Result<Option<Vec<ObjectIdentifier>>, AllocError> {
-    let mut identifiers = Vec::new(alloc);
-    for arcs in arcs {
-        match identifier_of(alloc, arcs)? {
-            Some(identifier) => identifiers.push(identifier)?,
-            None => return Ok(None),
-        }
-    }
-    Ok(Some(identifiers))
 }
 
 // A constructed value is of definite length, but under CER (X.690 9.1).
@@ -123,9 +106,7 @@ fn a_refused_element_takes_the_list_along(rt: HostRuntime) {
     let alloc = rt.alloc();
     let mut encoder = new_encoder(&rt, alloc, Codec::Der);
     assert_written(&rt, true.encode(&mut encoder));
-    let identifiers = made(&rt, identifiers(alloc, &[&[1, 2], &[0, 40]]));
-    const INVALID_0_40: &str =
-        "CodecSpecific { inner: Ber(InvalidObjectIdentifier { oid: [0, 40] }) }";
+    let identifiers = made(&rt, identifiers_of(alloc, &[&[1, 2], &[0, 40]]));
     assert_refuses(
         &rt,
         alloc,

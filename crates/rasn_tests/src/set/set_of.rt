@@ -2,7 +2,11 @@
 
 use crate::set::order::{assert_always_out_of_order, assert_in_order, assert_out_of_order};
 use crate::whole::encoded;
-use crate::writing::{assert_output, assert_writes_pieces, made, repeated};
+use crate::writing::{
+    INVALID_0_40, assert_output, assert_refuses, assert_writes_pieces, identifiers_of, made,
+    new_encoder, repeated,
+};
+use rasn_enc::enc::Encode;
 use rasn_types::types::{Codec, OctetString, SetOf};
 use std::alloc::{AllocError, Global};
 use std::process::Abort;
@@ -122,4 +126,21 @@ fn lengths_that_are_not_told_are_not_compared(rt: HostRuntime) {
     );
     assert_out_of_order(&rt, alloc, Codec::Ber, &longer_first);
     assert_out_of_order(&rt, alloc, Codec::Der, &longer_first);
+}
+
+// The object identifier 0.40 has no encoding (X.690 8.19.4). A SET OF with it is refused for that, and not for its order.
+#[test]
+fn a_refused_element_takes_the_set_along(rt: HostRuntime) {
+    const ALONE: &[&[u32]] = &[&[0, 40]];
+    const LAST: &[&[u32]] = &[&[1, 2], &[0, 40]];
+    let alloc = rt.alloc();
+    for arcs in [ALONE, LAST] {
+        let identifiers = SetOf::from_vec(made(&rt, identifiers_of(alloc, arcs)));
+        for rules in [Codec::Ber, Codec::Cer, Codec::Der] {
+            let mut encoder = new_encoder(&rt, alloc, rules);
+            let answer = identifiers.encode(&mut encoder);
+            assert_refuses(&rt, alloc, rules, answer, INVALID_0_40);
+            assert_output(&rt, encoder.output(), &[]);
+        }
+    }
 }

@@ -10,7 +10,7 @@ ghost use Rattle.rasn_enc.specs.Errors.{FailsAtString};
 ghost use Rattle.rasn_enc.specs.Segments.{IsSegment, AppendsSegments, AppendsSegmented};
 
 use crate::ber::enc::Encoder;
-use crate::ber::enc::writer::filled::Contents;
+use crate::ber::enc::writer::contents::Contents;
 use crate::enc::Encode;
 use rasn_types::ber::rules::MAX_SEGMENT_LENGTH;
 use rasn_types::error::EncodeError;
@@ -23,6 +23,10 @@ const SEGMENT_BITS: usize = 8 * (MAX_SEGMENT_LENGTH - 1);
 /// The contents of bits in one piece: the count of unused bits, and octets (X.690 8.6.2).
 impl Contents for BitStr<'_> {
     ghost IsWritten = { λ value contents. WrittenBits value contents };
+
+    fn count(&self) -> usize {
+        1 + self.len().div_ceil(8)
+    }
 
     fn append(&self, octets: &mut Vec<u8>) -> Result<(), AllocError> {
         octets.push(self.unused())?;
@@ -60,7 +64,7 @@ impl Encoder {
         ensures err { OnErr result (self.new ≡ self.old) }
         ensures memory_alone { IfErr result (IsAllocError self.old.rule) }
     {
-        self.leaf_of(tag, value)
+        self.leaf(tag, value)
     }
 
     /// Writes bits in segments, as one constructed value.

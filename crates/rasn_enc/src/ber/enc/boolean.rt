@@ -27,7 +27,7 @@ impl Encoder {
         ensures memory_alone { IfErr result (IsAllocError self.old.rule) }
     {
         let octet = if value { 0xff } else { 0x00 };
-        self.leaf(tag, &[octet])
+        self.leaf(tag, &[octet].as_slice())
     }
 }
 

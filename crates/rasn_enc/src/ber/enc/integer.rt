@@ -38,7 +38,7 @@ impl Encoder {
         if !admits(constraints, contents) {
             return Err(refused_number(self.alloc(), self.codec(), constraints, contents));
         }
-        self.leaf(tag, contents)
+        self.leaf(tag, &contents)
     }
 }
 

@@ -19,7 +19,8 @@ impl Encoder {
         ensures err { OnErr result (self.new ≡ self.old) }
         ensures memory_alone { IfErr result (IsAllocError self.old.rule) }
     {
-        self.leaf(tag, &[])
+        let contents: &[u8] = &[];
+        self.leaf(tag, &contents)
     }
 }
 

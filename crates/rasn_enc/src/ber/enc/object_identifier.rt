@@ -1,14 +1,13 @@
 //! OBJECT IDENTIFIER (X.690 8.19).
-ghost use Rattle.std.specs.Prelude.{◌≡◌, ◌⊎◌, ◌∷◌, ◌++◌, List, ℕ, MatchOption, OnOk, OnErr, IfErr, Err};
+ghost use Rattle.std.specs.Prelude.{◌≡◌, ◌⊎◌, ◌∷◌, MatchOption, OnOk, OnErr, IfErr};
 ghost use Rattle.rasn_types.specs.declared.types.codec.Codec.TheVariants.{Ber};
-ghost use Rattle.rasn_enc.specs.ObjectIdentifier.{AreEncodable, IsFirstSubidentifier, AppendsSubidentifier, AppendsSubidentifiers, AppendsContents, FailsAtArcs};
+ghost use Rattle.rasn_enc.specs.ObjectIdentifier.{AreEncodable, AreSubidentifiers, AppendsContents, FailsAtArcs};
 ghost use Rattle.rasn_enc.specs.Primitive.{IsAllocError};
-ghost use Rattle.rasn_enc.specs.declared.ber.enc.writer.filled.FillError.TheVariants.{Refused};
 ghost use Rattle.rasn_types.specs.Shapes.{object_identifier, numbers};
 ghost use Rattle.rasn_enc.specs.Encoding.{AppendsLeaf};
 
 use crate::ber::enc::writer::base_128::{count_groups, write_groups};
-use crate::ber::enc::writer::filled::FillError;
+use crate::ber::enc::writer::contents::{Contents, append_contents};
 use crate::ber::enc::{Encoder, out_of_memory};
 use crate::enc::Encode;
 use rasn_types::error::{BerEncodeErrorKind, CodecEncodeError, EncodeError, EncodeErrorKind};
@@ -29,48 +28,73 @@ pub fn object_identifier_as_bytes(
     ensures err { OnErr result (buffer.new.items ≡ buffer.old.items) }
     ensures fails { IfErr result (λ e. FailsAtArcs oid.now Ber e ⊎ IsAllocError Ber e) }
 {
-    let length = buffer.len();
-    match append_contents(oid, buffer) {
+    let Some(subidentifiers) = Subidentifiers::of_arcs(oid) else {
+        return Err(refused_arcs(alloc, Codec::Ber, oid));
+    };
+    match append_contents(buffer, &subidentifiers) {
         Ok(()) => Ok(()),
-        Err(error) => {
-            buffer.truncate(length);
-            match error {
-                FillError::NoMemory => Err(out_of_memory(Codec::Ber)),
-                FillError::Refused => Err(refused_arcs(alloc, Codec::Ber, oid)),
+        Err(_) => Err(out_of_memory(Codec::Ber)),
+    }
+}
+
+/// The numbers that stand for arcs (X.690 8.19.4): the first for two of them, each other one for itself.
+#[derive(Clone, Copy, Drop)]
+struct Subidentifiers<'a> {
+    first: u32,
+    others: &'a [u32],
+}
+
+impl<'a> Subidentifiers<'a> {
+    /// The subidentifiers of arcs, if these have octets.
+    fn of_arcs(arcs: &'a [u32]) -> Option<Subidentifiers<'a>>
+        ensures { MatchOption result (AreEncodable arcs.now → ⊥) (λ s. AreEncodable arcs.now × AreSubidentifiers (s.first ∷ s.others.now) arcs.now) }
+    {
+        match arcs {
+            [first, second, others @ ..] if *first < 2 && *second < 40 => Some(Subidentifiers {
+                first: 40 * first + second,
+                others,
+            }),
+            [2, second, others @ ..] => {
+                let first = second.checked_add(80)?;
+                Some(Subidentifiers { first, others })
             }
+            _ => None,
         }
     }
 }
 
-/// Puts the contents octets of an object identifier behind octets, or some of them if an allocation fails.
-#[inline(always)]
-pub fn append_contents(oid: &[u32], octets: &mut Vec<u8>) -> Result<(), FillError>
-    ensures ok { OnOk result (AppendsContents oid.now octets.old.items octets.new.items) }
-    ensures behind { (l : List ℕ) × (octets.new.items ≡ octets.old.items ++ l) }
-    ensures fails { IfErr result (λ e. e ≡ Refused → (AreEncodable oid.now → ⊥)) }
-{
-    let Some(first) = first_subidentifier(oid) else {
-        return Err(FillError::Refused);
-    };
-    match append_arcs(first, &oid[2..], octets) {
-        Ok(()) => Ok(()),
-        Err(_) => Err(FillError::NoMemory),
-    }
-}
+/// The subidentifiers one behind the other, each in the fewest octets (X.690 8.19.2).
+impl Contents for Subidentifiers<'_> {
+    ghost use Rattle.std.specs.Prelude.{◌≡◌, ◌∷◌};
+    ghost use Rattle.rasn_enc.specs.ObjectIdentifier.{subidentifier_octets};
 
-/// Gives the first subidentifier, where the arcs have octets.
-fn first_subidentifier(oid: &[u32]) -> Option<u32>
-    ensures { MatchOption result (AreEncodable oid.now → ⊥) (λ s. AreEncodable oid.now × IsFirstSubidentifier oid.now s) }
-{
-    match oid {
-        [first, second, ..] if *first < 2 && *second < 40 => Some(40 * first + second),
-        [2, second, ..] => second.checked_add(80),
-        _ => None,
+    ghost IsWritten = { λ value l. l ≡ subidentifier_octets (value.first ∷ value.others.now) };
+
+    #[inline(always)]
+    fn count(&self) -> usize {
+        let mut count = count_groups(self.first);
+        let mut rest = self.others;
+        while let [number, after @ ..] = rest {
+            count += count_groups(*number);
+            rest = after;
+        }
+        count
+    }
+
+    #[inline(always)]
+    fn append(&self, octets: &mut Vec<u8>) -> Result<(), AllocError> {
+        write_groups(octets, self.first);
+        let mut rest = self.others;
+        while let [number, after @ ..] = rest {
+            write_groups(octets, *number);
+            rest = after;
+        }
+        Ok(())
     }
 }
 
 /// The error of arcs that have no octets, which holds them. Where the copy finds no memory, that is the error.
-pub fn refused_arcs(alloc: Global, codec: Codec, arcs: &[u32]) -> EncodeError
+fn refused_arcs(alloc: Global, codec: Codec, arcs: &[u32]) -> EncodeError
     requires { AreEncodable arcs.now → ⊥ }
     ensures { FailsAtArcs arcs.now codec result ⊎ IsAllocError codec result }
 {
@@ -84,35 +108,6 @@ pub fn refused_arcs(alloc: Global, codec: Codec, arcs: &[u32]) -> EncodeError
         },
         Err(_) => out_of_memory(codec),
     }
-}
-
-/// Puts subidentifiers behind the octets, or some of them if an allocation fails.
-#[inline(always)]
-fn append_arcs(first: u32, others: &[u32], octets: &mut Vec<u8>) -> Result<(), AllocError>
-    ensures ok { OnOk result (AppendsSubidentifiers (first ∷ others.now) octets.old.items octets.new.items) }
-    ensures err { OnErr result ((l : List ℕ) × (octets.new.items ≡ octets.old.items ++ l)) }
-{
-    append_arc(first, octets)?;
-    let mut rest = others;
-    while let [arc, after @ ..] = rest {
-        append_arc(*arc, octets)?;
-        rest = after;
-    }
-    Ok(())
-}
-
-/// Puts one subidentifier behind the octets.
-#[inline(always)]
-fn append_arc(arc: u32, octets: &mut Vec<u8>) -> Result<(), AllocError>
-    ensures ok { OnOk result (AppendsSubidentifier arc octets.old.items octets.new.items) }
-    ensures err { OnErr result (octets.new.items ≡ octets.old.items) }
-{
-    if arc < 128 {
-        return octets.extend_from_slice(&[arc as u8]);
-    }
-    octets.reserve(count_groups(arc))?;
-    write_groups(octets, arc);
-    Ok(())
 }
 
 impl Encoder {
@@ -131,12 +126,9 @@ impl Encoder {
         ensures err { OnErr result (self.new ≡ self.old) }
         ensures fails { IfErr result (λ e. FailsAtArcs value.now self.old.rule e ⊎ IsAllocError self.old.rule e) }
     {
-        let (alloc, rule) = (self.alloc(), self.codec());
-        let contents = |octets: &mut Vec<u8>| append_contents(value, octets);
-        match self.leaf_with(tag, contents) {
-            Ok(()) => Ok(()),
-            Err(FillError::NoMemory) => Err(out_of_memory(rule)),
-            Err(FillError::Refused) => Err(refused_arcs(alloc, rule, value)),
+        match Subidentifiers::of_arcs(value) {
+            Some(subidentifiers) => self.leaf(tag, &subidentifiers),
+            None => Err(refused_arcs(self.alloc(), self.codec(), value)),
         }
     }
 }

@@ -35,7 +35,8 @@ impl Encoder {
         if self.is_cut(octets.len(), SEGMENT) {
             return self.append_segments(tag, octets);
         }
-        self.leaf(tag, octets)
+        let contents = octets;
+        self.leaf(tag, &contents)
     }
 
     /// The canonical rules write a string in segments where it is longer than one may be (X.690 9.2).
@@ -66,9 +67,9 @@ impl Encoder {
         let mut rest = value;
         while rest.len() > SEGMENT {
             let (segment, tail) = rest.split_at(SEGMENT);
-            self.leaf(Tag::OCTET_STRING, segment)?;
+            self.leaf(Tag::OCTET_STRING, &segment)?;
             rest = tail;
         }
-        self.leaf(Tag::OCTET_STRING, rest)
+        self.leaf(Tag::OCTET_STRING, &rest)
     }
 }

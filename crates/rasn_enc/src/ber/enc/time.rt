@@ -1,13 +1,13 @@
 //! Writing times, in their canonical forms (X.680 38.4.1; X.690 11.7, 11.8).
-ghost use Rattle.std.specs.Prelude.{◌≡◌, IfOk, IfErr, OnErr};
+ghost use Rattle.std.specs.Prelude.{◌≡◌, ◌<◌, ◌≤◌, ◌≤ℤ◌, length, pos, negsuc, IfOk, IfErr, OnErr};
 ghost use Rattle.rasn_types.specs.Calendar.{IsDay, IsMoment};
 ghost use Rattle.rasn_types.specs.Shapes.{utc_time, generalized_time, date, instant, on_day};
-ghost use Rattle.rasn_types.specs.Time.{written_utc, written_generalized, written_date};
+ghost use Rattle.rasn_types.specs.Time.{written_utc, written_generalized, written_date, written_year, written_fraction};
 ghost use Rattle.rasn_types.specs.declared.types.codec.Codec.TheVariants.{Ber};
 ghost use Rattle.rasn_enc.specs.Primitive.{IsAllocError};
 ghost use Rattle.rasn_enc.specs.Encoding.{AppendsLeaf};
 
-use crate::ber::enc::writer::filled::Contents;
+use crate::ber::enc::writer::contents::{Contents, append_contents};
 use crate::ber::enc::{Encoder, out_of_memory};
 use crate::enc::Encode;
 use rasn_types::ber::time::{write_date, write_generalized_time, write_utc_time};
@@ -15,11 +15,12 @@ use rasn_types::error::EncodeError;
 use rasn_types::types::{Codec, Constraints, Date, GeneralizedTime, Identifier, Tag, UtcTime};
 use std::alloc::{AllocError, Global};
 
-/// The octets that a time's text has room for at first: none has more.
-const TEXT_CAPACITY: usize = 27;
-
 impl Contents for UtcTime {
     ghost IsWritten = { λ value text. (text ≡ written_utc value) × IsMoment value };
+
+    fn count(&self) -> usize {
+        13
+    }
 
     fn append(&self, octets: &mut Vec<u8>) -> Result<(), AllocError> {
         write_utc_time(octets, self)
@@ -29,6 +30,11 @@ impl Contents for UtcTime {
 impl Contents for GeneralizedTime {
     ghost IsWritten = { λ value text. (text ≡ written_generalized value.moment) × IsMoment value.moment };
 
+    fn count(&self) -> usize {
+        let value = self.utc();
+        year_len(value.date().year()) + 11 + fraction_len(value.nanosecond() % 1_000_000_000)
+    }
+
     fn append(&self, octets: &mut Vec<u8>) -> Result<(), AllocError> {
         write_generalized_time(octets, self)
     }
@@ -37,18 +43,45 @@ impl Contents for GeneralizedTime {
 impl Contents for Date {
     ghost IsWritten = { λ value text. (text ≡ written_date value) × IsDay value };
 
+    fn count(&self) -> usize {
+        year_len(self.year()) + 4
+    }
+
     fn append(&self, octets: &mut Vec<u8>) -> Result<(), AllocError> {
         write_date(octets, self)
     }
 }
 
-/// The text of a time in a vector of its own. Only an allocation fails.
-fn text_of<T: Contents>(alloc: Global, value: &T) -> Result<Vec<u8>, AllocError>
-    ensures { IfOk result (λ v. T.IsWritten value.now v.items) }
+/// Counts the octets of a year: its digits, at least four, and a sign outside 0 to 9999.
+fn year_len(year: i32) -> usize
+    requires from { negsuc 99998 ≤ℤ year }
+    requires to { year ≤ℤ pos 99999 }
+    ensures exact { result ≡ length (written_year year) }
+    ensures few { result ≤ 6 }
 {
-    let mut text = Vec::with_capacity(alloc, TEXT_CAPACITY)?;
-    value.append(&mut text)?;
-    Ok(text)
+    match year {
+        0..=9999 => 4,
+        -9999..=-1 => 5,
+        _ => 6,
+    }
+}
+
+/// Counts the octets of a fraction: its point, and its digits without zeros at the end.
+fn fraction_len(billionths: u32) -> usize
+    requires { billionths < 1000000000 }
+    ensures exact { result ≡ length (written_fraction billionths) }
+    ensures few { result ≤ 10 }
+{
+    if billionths == 0 {
+        return 0;
+    }
+    let mut place = 9u32;
+    let mut left = billionths;
+    while left > 0 {
+        place -= 1;
+        left %= 10u32.pow(place);
+    }
+    10 - place as usize
 }
 
 /// The text of a time as the public calls return it: a failed allocation is an error under the name of BER.
@@ -56,7 +89,11 @@ fn canonical_text<T: Contents>(alloc: Global, value: &T) -> Result<Vec<u8>, Enco
     ensures ok { IfOk result (λ v. T.IsWritten value.now v.items) }
     ensures memory_alone { IfErr result (IsAllocError Ber) }
 {
-    text_of(alloc, value).map_err(|_| out_of_memory(Codec::Ber))
+    let mut text = Vec::new(alloc);
+    match append_contents(&mut text, value) {
+        Ok(()) => Ok(text),
+        Err(_) => Err(out_of_memory(Codec::Ber)),
+    }
 }
 
 impl Encoder {
@@ -74,7 +111,7 @@ impl Encoder {
         ensures err { OnErr result (self.new ≡ self.old) }
         ensures memory_alone { IfErr result (IsAllocError self.old.rule) }
     {
-        self.leaf_of(tag, value)
+        self.leaf(tag, value)
     }
 
     /// Writes a GeneralizedTime (X.690 11.7), in UTC whatever its offset. A year outside 0 to 9999 has a sign.
@@ -91,7 +128,7 @@ impl Encoder {
         ensures err { OnErr result (self.new ≡ self.old) }
         ensures memory_alone { IfErr result (IsAllocError self.old.rule) }
     {
-        self.leaf_of(tag, value)
+        self.leaf(tag, value)
     }
 
     /// Writes a DATE (X.680 38.4.1). A year outside 0 to 9999 has a sign.
@@ -108,7 +145,7 @@ impl Encoder {
         ensures err { OnErr result (self.new ≡ self.old) }
         ensures memory_alone { IfErr result (IsAllocError self.old.rule) }
     {
-        self.leaf_of(tag, value)
+        self.leaf(tag, value)
     }
 
     /// The text of a GeneralizedTime (X.690 11.7).

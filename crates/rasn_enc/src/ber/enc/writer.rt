@@ -4,25 +4,22 @@
 //! that its header has at least. Where it has more, a deferred header tells what comes still: these octets are put in once, from the back,
 //! when the output is asked for. The contracts of these calls speak of views alone, so that another way to hold the octets is another body of
 //! these calls.
-ghost use Rattle.std.specs.Prelude.{ℕ, List, ◌≡◌, ◌<◌, ◌≤◌, ◌-◌, [], ◌⊎◌, length, take, drop, IfOk, IfErr, OnOk, OnErr, false};
-ghost use Rattle.std.specs.Fn.{FnOnceTakesAtMut};
+ghost use Rattle.std.specs.Prelude.{ℕ, List, ◌≡◌, ◌<◌, ◌≤◌, ◌-◌, [], length, take, drop, IfOk, IfErr, OnOk, OnErr, false};
 ghost use Rattle.rasn_types.specs.Truth.{IsWhether, IsUnless};
-ghost use Rattle.rasn_types.specs.Bytes.{PrimitiveEncoding, ConstructedEncoding, AreAscending};
+ghost use Rattle.rasn_types.specs.Bytes.{ConstructedEncoding, AreAscending};
 ghost use Rattle.rasn_types.specs.declared.types.tag.Tag.{Tag};
 ghost use Rattle.rasn_types.specs.Tags.{IsTagBelow};
 ghost use Rattle.rasn_enc.specs.View.{View, started, opened, appended, IsBelow};
 ghost use Rattle.rasn_enc.specs.Buffer.Lists.{IsEndOf};
 ghost use Rattle.rasn_enc.specs.Buffer.OpenValues.{kept_of};
-ghost use Rattle.rasn_enc.specs.Primitive.{Appends, IsAllocError};
+ghost use Rattle.rasn_enc.specs.Primitive.{Appends, AppendsPrimitive, IsAllocError};
 ghost use Rattle.rasn_enc.specs.Order.{octets_less, FallsBetween};
-ghost use Rattle.rasn_enc.specs.declared.ber.enc.writer.filled.FillError.TheVariants.{NoMemory};
-ghost use Rattle.rasn_enc.specs.Buffer.Filled.{OnlyAppendsOctets, MayFailToFill, AppendsFilled};
 
+use crate::ber::enc::writer::contents::Contents;
 use crate::ber::enc::writer::cursors::{place, rendered_before};
 use crate::ber::enc::writer::cutting::cut;
 use crate::ber::enc::writer::deferred_headers::{DeferredHeader, ROOM};
-use crate::ber::enc::writer::filled::FillError;
-use crate::ber::enc::writer::gathering::{gather, gather_filled, surround};
+use crate::ber::enc::writer::gathering::{gather, surround};
 use crate::ber::enc::writer::kept_tags::{cut_tags, tags_out_of_order};
 use crate::ber::enc::writer::open_values::{pop_innermost, push_innermost};
 use crate::ber::enc::writer::rendering::rendered_from;
@@ -33,10 +30,10 @@ use std::alloc::Global;
 use std::mem;
 
 pub(super) mod base_128;
+pub(super) mod contents;
 pub(super) mod cursors;
 pub(super) mod cutting;
 pub(super) mod deferred_headers;
-pub(super) mod filled;
 pub(super) mod gathering;
 pub(super) mod header_rest;
 pub(super) mod headers;
@@ -210,8 +207,8 @@ impl Encoder {
 
     /// Puts a primitive value behind the last list.
     #[inline(always)]
-    pub(super) fn leaf(&mut self, tag: Tag, contents: &[u8]) -> Result<(), EncodeError>
-        ensures ok { OnOk result (Appends (PrimitiveEncoding tag contents.now) tag self.old self.new) }
+    pub(super) fn leaf<T: Contents>(&mut self, tag: Tag, contents: &T) -> Result<(), EncodeError>
+        ensures ok { OnOk result (AppendsPrimitive (T.IsWritten contents.now) tag self.old self.new) }
         ensures err { OnErr result (self.new ≡ self.old) }
         ensures memory_alone { IfErr result (IsAllocError self.old.rule) }
     {
@@ -227,34 +224,6 @@ impl Encoder {
                 Ok(())
             }
             Err(_) => Err(out_of_memory(self.rule)),
-        }
-    }
-
-    /// Puts a primitive value behind the last list; `contents` writes its contents in place.
-    #[inline(always)]
-    pub(super) fn leaf_with<F: FnOnce(&mut Vec<u8>) -> Result<(), FillError>>(
-        &mut self,
-        tag: Tag,
-        contents: F,
-    ) -> Result<(), FillError>
-        requires callable { (v : _) → FnOnceTakesAtMut F.FnOnce contents v }
-        requires behind { OnlyAppendsOctets F.FnOnce contents }
-        ensures ok { OnOk result (AppendsFilled F.FnOnce contents tag self.old self.new) }
-        ensures err { OnErr result (self.new ≡ self.old) }
-        ensures refused { IfErr result (λ e. (e ≡ NoMemory) ⊎ MayFailToFill F.FnOnce contents e) }
-    {
-        match gather_filled(
-            &mut self.gathered,
-            &mut self.list.tags,
-            self.list.measured,
-            tag,
-            contents,
-        ) {
-            Ok(total) => {
-                self.list.measured = total;
-                Ok(())
-            }
-            Err(error) => Err(error),
         }
     }
 

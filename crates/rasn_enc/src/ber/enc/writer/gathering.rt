@@ -1,17 +1,14 @@
 //! Primitive values gathered, and others closed: each is counted into the list that it stands in.
-ghost use Rattle.std.specs.Prelude.{◌≡◌, ◌<◌, ◌≤◌, ◌+◌, ◌++◌, ◌∷◌, [], ◌⊎◌, length, take, drop, suc, vec_len, IfOk, IfErr, OnOk, OnErr};
-ghost use Rattle.std.specs.Fn.{FnOnceTakesAtMut};
+ghost use Rattle.std.specs.Prelude.{◌≡◌, ◌<◌, ◌≤◌, ◌+◌, ◌++◌, ◌∷◌, [], length, take, drop, suc, vec_len, IfOk, OnOk, OnErr};
 ghost use Rattle.rasn_enc.specs.Buffer.Lists.{tags_of};
 ghost use Rattle.rasn_enc.specs.Buffer.DeferredHeaders.{header_octets, head_of, back, Encloses};
-ghost use Rattle.rasn_enc.specs.Buffer.OpenValues.{noted, AppendsCounted, AppendsFilledCounted};
-ghost use Rattle.rasn_enc.specs.declared.ber.enc.writer.filled.FillError.TheVariants.{NoMemory};
-ghost use Rattle.rasn_enc.specs.Buffer.Filled.{OnlyAppendsOctets, MayFailToFill};
+ghost use Rattle.rasn_enc.specs.Buffer.OpenValues.{noted, AppendsCounted};
 
 use crate::ber::enc::writer::Open;
+use crate::ber::enc::writer::contents::{Contents, append_primitive};
 use crate::ber::enc::writer::deferred_headers::{
     DeferredHeader, enclose_contents, header_for, header_len,
 };
-use crate::ber::enc::writer::filled::{FillError, append_filled, append_primitive};
 use crate::ber::enc::writer::kept_tags::{record_tag, reserve_tag};
 use rasn_types::ber::rules::EncodingRules;
 use rasn_types::types::{Codec, Tag};
@@ -33,16 +30,16 @@ fn count_from(gathered: &mut Vec<u8>, at: usize, measured: usize) -> Result<usiz
     }
 }
 
-/// Gathers a primitive value, and answers how long its list is then.
+/// Gathers a primitive value, and returns how long its list is then.
 #[inline(always)]
-pub fn gather(
+pub fn gather<T: Contents>(
     gathered: &mut Vec<u8>,
     tags: &mut Option<Vec<Tag>>,
     measured: usize,
     tag: Tag,
-    contents: &[u8],
+    contents: &T,
 ) -> Result<usize, AllocError>
-    ensures ok { IfOk result (AppendsCounted tag contents.now measured gathered.old.items gathered.new.items) }
+    ensures ok { IfOk result (AppendsCounted (T.IsWritten contents.now) tag measured gathered.old.items gathered.new.items) }
     ensures noted { OnOk result (tags_of tags.new ≡ noted (tags_of tags.old) (tag ∷ [])) }
     ensures err { OnErr result (gathered.new.items ≡ gathered.old.items) }
     ensures kept { OnErr result (tags_of tags.new ≡ tags_of tags.old) }
@@ -53,37 +50,6 @@ pub fn gather(
     let total = count_from(gathered, at, measured)?;
     record_tag(tags, tag);
     Ok(total)
-}
-
-/// Gathers a primitive value, whose contents `contents` writes in place.
-#[inline(always)]
-pub fn gather_filled<F: FnOnce(&mut Vec<u8>) -> Result<(), FillError>>(
-    gathered: &mut Vec<u8>,
-    tags: &mut Option<Vec<Tag>>,
-    measured: usize,
-    tag: Tag,
-    contents: F,
-) -> Result<usize, FillError>
-    requires callable { (v : _) → FnOnceTakesAtMut F.FnOnce contents v }
-    requires behind { OnlyAppendsOctets F.FnOnce contents }
-    ensures ok { IfOk result (AppendsFilledCounted F.FnOnce contents tag measured gathered.old.items gathered.new.items) }
-    ensures noted { OnOk result (tags_of tags.new ≡ noted (tags_of tags.old) (tag ∷ [])) }
-    ensures err { OnErr result (gathered.new.items ≡ gathered.old.items) }
-    ensures kept { OnErr result (tags_of tags.new ≡ tags_of tags.old) }
-    ensures refused { IfErr result (λ e. (e ≡ NoMemory) ⊎ MayFailToFill F.FnOnce contents e) }
-{
-    let at = gathered.len();
-    let Ok(()) = reserve_tag(tags) else {
-        return Err(FillError::NoMemory);
-    };
-    append_filled(gathered, tag, contents)?;
-    match count_from(gathered, at, measured) {
-        Ok(total) => {
-            record_tag(tags, tag);
-            Ok(total)
-        }
-        Err(_) => Err(FillError::NoMemory),
-    }
 }
 
 /// Gathers octets as they are, and answers how long their list is then.

@@ -24,7 +24,7 @@ fn move_blocks<const N: usize>(buffer: &mut [u8], at: usize, end: usize, by: usi
 }
 
 /// Moves the octets from `at` to `end` up.
-pub fn move_up(buffer: &mut [u8], at: usize, end: usize, by: usize)
+fn move_up(buffer: &mut [u8], at: usize, end: usize, by: usize)
     requires order { at ≤ end }
     requires within { end + by ≤ length buffer.old }
     ensures { Moves buffer.old buffer.new at end by }
@@ -35,7 +35,7 @@ pub fn move_up(buffer: &mut [u8], at: usize, end: usize, by: usize)
 }
 
 /// Writes octets from a place on.
-pub fn write_at(buffer: &mut [u8], at: usize, octets: &[u8])
+fn write_at(buffer: &mut [u8], at: usize, octets: &[u8])
     requires { at + length octets.now ≤ length buffer.old }
     ensures { buffer.new ≡ take at buffer.old ++ (octets.now ++ drop (at + length octets.now) buffer.old) }
 {
