@@ -42,7 +42,7 @@ no_required rule (part addition s ps) depth closing e (inr h) = no_required rule
 no_required rule (part (default d) s ps) depth closing e (inl f) = cc
 no_required rule (part (default d) s ps) depth closing e (inr h) = no_required rule ps depth closing e h
 
-not_required : (rule : Codec) (ps : Parts) (depth : ℕ) (closing : Bool) → (HasRequired (parts_of rule ps depth closing) → ⊥) → has_required ps ≡ false
+pub not_required : (rule : Codec) (ps : Parts) (depth : ℕ) (closing : Bool) → (HasRequired (parts_of rule ps depth closing) → ⊥) → has_required ps ≡ false
 not_required rule ps depth closing n = go (has_required ps) refl
   where
     go : (b : Bool) → has_required ps ≡ b → has_required ps ≡ false
@@ -119,14 +119,14 @@ none_exact rule closing input t e = (there (untagged_or closing input), only)
     only u s (ts, f, inl (b, m, r)) = (f ∙ ap items m ∙ sym e, r)
     only u s (ts, f, inr (b, (m, r))) = (f ∙ ap items m ∙ sym e, r)
 
-untagged_exact : (rule : Codec) (ps : List Part) (t : Tree) (ts : List Tree) → (HasRequired ps → ⊥) → t ≡ items ts → AllMissing (presences_in ps) ts → Exact (ReadsSeq rule ps false) [] (Got t [])
+pub untagged_exact : (rule : Codec) (ps : List Part) (t : Tree) (ts : List Tree) → (HasRequired ps → ⊥) → t ≡ items ts → AllMissing (presences_in ps) ts → Exact (ReadsSeq rule ps false) [] (Got t [])
 untagged_exact rule ps t ts n e m = ((ts, e, inl ((n, refl, refl), m, refl)), only)
   where
     only : (u : Tree) (s : List ℕ) → ReadsSeq rule ps false [] u s → (u ≡ t) × (s ≡ [])
     only u s (us, f, inl (b, k, r)) = (f ∙ ap items (all_missing_one ps us ts k m) ∙ sym e, r)
     only u s (us, f, inr (b, k)) = absurd (b (n, refl, refl))
 
-parts_exact : (rule : Codec) (ps : List Part) (closing : Bool) (input : List ℕ) (o : Outcome) → (AreAllLeftOut ps closing input → ⊥)
+pub parts_exact : (rule : Codec) (ps : List Part) (closing : Bool) (input : List ℕ) (o : Outcome) → (AreAllLeftOut ps closing input → ⊥)
     → Exact (λ i t r. (ts : List Tree) × (t ≡ items ts) × ReadsInOrder rule ps closing i ts r) input o → Exact (ReadsSeq rule ps closing) input o
 parts_exact rule ps closing input (Got t r) n (x, u) = ((x.0, x.1, inr (n, x.2)), only)
   where

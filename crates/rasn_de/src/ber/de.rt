@@ -53,6 +53,7 @@ pub mod set_parts;
 mod time;
 
 pub use config::DecoderOptions;
+pub use constructed::ConstructedHeader;
 pub(crate) use octet_string::owned;
 
 /// How many values may be nested in one another.
@@ -191,8 +192,8 @@ impl<'input> Decoder<'input> {
         self.rules
     }
 
-    /// Whether only what the writer writes is read.
-    fn is_strict(&self) -> bool
+    /// Returns whether only what the writer writes is read.
+    pub fn is_strict(&self) -> bool
         ensures { IsWhether result (IsStrict self.now.rule) }
     {
         is_der(self.rules)

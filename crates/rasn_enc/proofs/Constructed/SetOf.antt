@@ -101,18 +101,18 @@ pub set_of_element_refused : (s : Shape) (ts rest after : List Tree) (t : Tree) 
     → (e : EncodeError) → EncodeFails s t u e → FailsInSetOf s ts v.rule e
 set_of_element_refused s ts rest after t v u start k is e h = record { element = element_refused s ts rest after t v u k.so_far is e h; order = k.order }
 
-set_elements_one : (t u : Tree) → set_elements t ≡ set_elements u → t ≡ u
+pub set_elements_one : (t u : Tree) → set_elements t ≡ set_elements u → t ≡ u
 set_elements_one t u e = cc
 
 -- What begins with these octets is written of these trees alone.
-front_is : (R : Tree → List ℕ → Type 0) → ((t : Tree) (a b : List ℕ) → R t a → R t b → a ≡ b) → (front : List Tree) (t : Tree) (back : List Tree) (encoded bs : List (List ℕ)) (octets : List ℕ)
+pub front_is : (R : Tree → List ℕ → Type 0) → ((t : Tree) (a b : List ℕ) → R t a → R t b → a ≡ b) → (front : List Tree) (t : Tree) (back : List Tree) (encoded bs : List (List ℕ)) (octets : List ℕ)
     → Each R front encoded → R t octets → Each R (front ++ t ∷ back) bs → (more : List (List ℕ)) × (bs ≡ encoded ++ octets ∷ more)
 front_is R one [] t back encoded bs octets e r (b, more, f, q, h) = (more, f ∙ (ap (λ x. x ∷ more) (one t b octets q r) ∙ ap (λ l. l ++ octets ∷ more) (sym e)))
 front_is R one (u ∷ front) t back encoded bs octets (c, rest, e, p, k) r (b, more, f, q, h) =
     let m = front_is R one front t back rest more octets k r h in
     (m.0, f ∙ (ap₂ ◌∷◌ (one u b c q p) m.1 ∙ ap (λ l. l ++ octets ∷ m.0) (sym e)))
 
-order_front : (bs : List (List ℕ)) (b : List ℕ) (more : List (List ℕ)) → AreAscending IsLess (bs ++ b ∷ more) → AreAscending IsLess (bs ++ b ∷ [])
+pub order_front : (bs : List (List ℕ)) (b : List ℕ) (more : List (List ℕ)) → AreAscending IsLess (bs ++ b ∷ more) → AreAscending IsLess (bs ++ b ∷ [])
 order_front [] b more d = tt
 order_front (a ∷ []) b more d = (d.0, tt)
 order_front (a ∷ c ∷ bs) b more d = (d.0, order_front (c ∷ bs) b more d.1)

@@ -26,7 +26,7 @@ use Rattle.rasn_enc.proofs.Leaves.Primitive.{cons_begins, encoded_one}
 keeps_tags : (v : View) → (opened v true).last.tags ≢ None
 keeps_tags v e = cc
 
-tags_one : (bs : List (List ℕ)) (s t : List Tag) → TagsOf bs s → TagsOf bs t → s ≡ t
+pub tags_one : (bs : List (List ℕ)) (s t : List Tag) → TagsOf bs s → TagsOf bs t → s ≡ t
 tags_one [] s t h k = h ∙ sym k
 tags_one ([] ∷ bs) s t h k = tags_one bs s t h k
 tags_one ((o ∷ b) ∷ bs) s t (x, xs, e, p, h) (y, ys, f, q, k) = e ∙ (ap₂ ◌∷◌ (begins_one (o ∷ b) x y p q) (tags_one bs xs ys h k) ∙ sym f)
@@ -35,7 +35,7 @@ module _ (v : View) (tag : Tag) (parts : Parts) (tree : Tree) (u : View) (p : Ap
   kept_are : kept_of u.last.tags ≡ p.tags
   kept_are = ap (λ (x : View). kept_of x.last.tags) p.appended
 
-  set_encoded : (w : View) → AreTagsInOrder u → (octets : List ℕ) → ConstructedEncoding v.rule tag u.last.octets octets → Bytes v.rule (set tag parts) tree octets
+  pub set_encoded : (w : View) → AreTagsInOrder u → (octets : List ℕ) → ConstructedEncoding v.rule tag u.last.octets octets → Bytes v.rule (set tag parts) tree octets
   unfolding Bytes
   set_encoded w order octets d = (
     p.trees,
@@ -49,7 +49,7 @@ module _ (v : View) (tag : Tag) (parts : Parts) (tree : Tree) (u : View) (p : Ap
     subst (λ l. ConstructedEncoding v.rule tag l octets) (ap (λ (x : View). x.last.octets) p.appended) d,
   )
 
-  set_out_of_order : (AreTagsInOrder u → ⊥) → NoEncoding v.rule (set tag parts) tree
+  pub set_out_of_order : (AreTagsInOrder u → ⊥) → NoEncoding v.rule (set tag parts) tree
   unfolding Bytes
   set_out_of_order falls = record {
     none = λ octets b.
@@ -69,7 +69,7 @@ set_ok g f v w tag parts tree r h written = on_ok_weaker r (λ k.
     (λ o d. cons_begins v.rule tag k.inner.last.octets o d)
     (λ o d. set_encoded v tag parts tree k.inner (written k.inner k.ran).ok w k.order o d)) h
 
-parts_why : (v : View) (tag : Tag) (parts : Parts) (tree : Tree) (e : EncodeError)
+pub parts_why : (v : View) (tag : Tag) (parts : Parts) (tree : Tree) (e : EncodeError)
     → IsEncodeOutOfMemory e.kind ⊎ (NoEncodingOfParts v.rule parts tree ⊎ HasUntaggedInSet parts tree (opened v true)) → EncodeFails (set tag parts) tree v e
 unfolding Bytes
 parts_why v tag parts tree e (inl m) = record { why = inl m }

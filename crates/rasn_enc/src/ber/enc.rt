@@ -178,9 +178,9 @@ impl Encoder {
         self.rendered()
     }
 
-    /// Refuses a size that isn't within its bound.
+    /// Returns an error if a size isn't within its bound.
     #[inline(always)]
-    fn check_size(&self, constraints: &Constraints, size: usize) -> Result<(), EncodeError>
+    pub fn check_size(&self, constraints: &Constraints, size: usize) -> Result<(), EncodeError>
         ensures ok { OnOk result (Admits ◌≤◌ constraints.now.size size) }
         ensures fails { IfErr result (FailsAtSize constraints.now size self.now.rule) }
     {

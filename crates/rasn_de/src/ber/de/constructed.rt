@@ -17,7 +17,7 @@ use rasn_types::types::{Codec, Tag};
 /// How the header of a value that holds others has to be: its tag, whether it must be constructed under every rule, and how many levels
 /// of depth the value takes.
 #[derive(Clone, Copy)]
-pub(crate) struct ConstructedHeader {
+pub struct ConstructedHeader {
     pub(crate) tag: Tag,
     pub(crate) must_be_constructed: bool,
     pub(crate) levels: usize,
@@ -25,7 +25,7 @@ pub(crate) struct ConstructedHeader {
 
 impl ConstructedHeader {
     /// The header of a SEQUENCE or SET.
-    pub(super) fn sequence(tag: Tag) -> ConstructedHeader
+    pub fn sequence(tag: Tag) -> ConstructedHeader
         ensures { result ≡ sequence_header tag }
     {
         ConstructedHeader {
@@ -36,7 +36,7 @@ impl ConstructedHeader {
     }
 
     /// The header of a SEQUENCE OF or SET OF, which takes two levels of depth.
-    pub(super) fn list(tag: Tag) -> ConstructedHeader
+    pub fn list(tag: Tag) -> ConstructedHeader
         ensures { result ≡ list_header tag }
     {
         ConstructedHeader {
@@ -47,7 +47,7 @@ impl ConstructedHeader {
     }
 
     /// The header of an explicit prefix, whose constructed bit is looked at under DER alone.
-    pub(super) fn prefix(tag: Tag) -> ConstructedHeader
+    pub fn prefix(tag: Tag) -> ConstructedHeader
         ensures { result ≡ prefix_header tag }
     {
         ConstructedHeader {
@@ -79,10 +79,10 @@ fn is_indefinite(contents: Contents<'_>) -> bool
 }
 
 impl<'input> Decoder<'input> {
-    /// Takes such a header. Answers a decoder of the contents, and these, which are passed; or of what follows the header, where the
-    /// length is indefinite.
+    /// Reads such a header. Returns a decoder of the contents, and the contents, which are skipped; or a decoder of what follows the header,
+    /// if the length is indefinite.
     #[inline(always)]
-    fn open(
+    pub fn open(
         &mut self,
         header: ConstructedHeader,
     ) -> Result<(Decoder<'input>, Contents<'input>), DecodeError>
@@ -108,9 +108,13 @@ impl<'input> Decoder<'input> {
         Ok((inner, value.contents))
     }
 
-    /// Passes the end of a value inside which `left` is left.
+    /// Reads the end of a value, of whose contents `left` wasn't read.
     #[inline(always)]
-    fn close(&mut self, contents: Contents<'input>, left: &'input [u8]) -> Result<(), DecodeError>
+    pub fn close(
+        &mut self,
+        contents: Contents<'input>,
+        left: &'input [u8],
+    ) -> Result<(), DecodeError>
         requires { extent contents ≡ indefinite → IsEnd self.old.rest left.now }
         ensures { ConsumesEnd (extent contents.entry) left.now self.old result self.new }
     {
@@ -128,8 +132,15 @@ impl<'input> Decoder<'input> {
         }
     }
 
-    /// Whether the contents end: nothing is left, or end-of-contents octets come where they may.
-    pub(super) fn has_ended(&self) -> bool
+    /// Returns whether end-of-contents octets may end the contents.
+    pub fn may_be_closed(&self) -> bool
+        ensures { result ≡ self.now.closing }
+    {
+        self.closing
+    }
+
+    /// Returns whether the contents end: nothing is left, or end-of-contents octets follow where they may.
+    pub fn has_ended(&self) -> bool
         ensures { IsWhether result (Ended self.now.closing self.now.rest) }
     {
         has_ended(self.closing, self.rest)

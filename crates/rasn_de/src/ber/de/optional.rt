@@ -10,8 +10,8 @@ use rasn_types::error::DecodeError;
 use rasn_types::types::{Constraints, Tag};
 
 impl<'input> Decoder<'input> {
-    /// Whether the value that is looked for by this tag comes next; by `Tag::EOC` any value is.
-    pub(super) fn next_tag_is(&self, tag: Tag) -> Result<bool, DecodeError>
+    /// Returns whether the next value has this tag, or whether there is one if the tag is `Tag::EOC`.
+    pub fn next_tag_is(&self, tag: Tag) -> Result<bool, DecodeError>
         ensures { NextTagIs tag self.now result }
     {
         if self.has_ended() {

@@ -23,8 +23,8 @@ fn is_below_last(tag: Tag, last: Option<Tag>) -> bool
 }
 
 impl<'input> Decoder<'input> {
-    /// Under DER the next tag, which must not be below the last one (X.690 10.3); under the other rules it isn't looked at.
-    pub(super) fn peek_tag_in_order(&self, last: Option<Tag>) -> Result<Option<Tag>, DecodeError>
+    /// Returns, under DER, the next tag, which must not be below the last one (X.690 10.3). Under the other rules nothing is looked at.
+    pub fn peek_tag_in_order(&self, last: Option<Tag>) -> Result<Option<Tag>, DecodeError>
         ensures { PeeksInOrder last self.now result }
     {
         if !self.is_strict() {

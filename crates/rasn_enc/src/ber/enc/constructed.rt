@@ -59,13 +59,9 @@ impl Encoder {
         }
     }
 
-    /// Closes the value that was opened last, or drops it where its contents were refused.
+    /// Closes the value that was opened last, or drops it if its contents were refused.
     #[inline(always)]
-    pub(super) fn close(
-        &mut self,
-        tag: Tag,
-        outcome: Result<(), EncodeError>,
-    ) -> Result<(), EncodeError>
+    pub fn close(&mut self, tag: Tag, outcome: Result<(), EncodeError>) -> Result<(), EncodeError>
         requires { 0 < length self.old.below }
         ensures ok { OnOk result ((v : View) → IsBelow v self.old → Appends (ConstructedEncoding v.rule tag self.old.last.octets) tag v self.new) }
         ensures accepted { OnOk result (outcome ≡ Ok tt) }

@@ -127,9 +127,9 @@ impl Encoder {
         }
     }
 
-    /// Opens a value: its contents are the last list now.
+    /// Opens a value: what is written now are its contents, up to `close`.
     #[inline(always)]
-    pub(super) fn open(&mut self, keeps_tags: bool) -> Result<(), EncodeError>
+    pub fn open(&mut self, keeps_tags: bool) -> Result<(), EncodeError>
         ensures ok { OnOk result (self.new ≡ opened self.old keeps_tags) }
         ensures err { OnErr result (self.new ≡ self.old) }
         ensures memory_alone { IfErr result (IsAllocError self.old.rule) }
@@ -256,15 +256,15 @@ impl Encoder {
         cut_tags(&mut self.list.tags, end.tags);
     }
 
-    /// How many octets the last list has.
-    pub(super) fn last_len(&self) -> usize
+    /// Returns how many octets of the open value's contents were written.
+    pub fn last_len(&self) -> usize
         ensures { result ≡ length self.now.last.octets }
     {
         self.list.measured
     }
 
-    /// Whether the octets of the last list from `middle` on are less than those from `from` to it (X.690 11.6).
-    pub(super) fn neighbours_out_of_order(&self, from: usize, middle: usize) -> bool
+    /// Returns whether the octets of the contents from `middle` on are less than those from `from` to `middle` (X.690 11.6).
+    pub fn neighbours_out_of_order(&self, from: usize, middle: usize) -> bool
         requires order { from ≤ middle }
         requires within { middle ≤ length self.now.last.octets }
         ensures { IsWhether result (FallsBetween from middle self.now.last.octets) }
@@ -295,8 +295,8 @@ impl Encoder {
         rendered_before(&self.gathered, headers, left, right, middle - from)
     }
 
-    /// Whether the tags that the last list keeps fall, each compared with the one before it (X.690 9.3).
-    pub(super) fn kept_tags_out_of_order(&self) -> bool
+    /// Returns whether some tag that the open value keeps is below the one before it (X.690 9.3).
+    pub fn kept_tags_out_of_order(&self) -> bool
         ensures { IsUnless result (AreAscending IsTagBelow (kept_of self.now.last.tags)) }
     {
         match &self.list.tags {
