@@ -1,0 +1,157 @@
+-- A type that has a fault breaks a rule.
+use Rattle.std.proofs.Common.{◌≡◌, ◌≢◌, ℕ, zero, suc, ◌+◌, ◌<◌, List, [], ◌∷◌, length, Option, Some, None, refl, subst, arith}
+use Rattle.std.specs.Prelude.{slice_get}
+use Rattle.rasn_types.specs.declared.types.tag.Tag.{Tag}
+use Rattle.rasn_types.specs.Tags.{eoc}
+use Rattle.rasn_types.specs.Grammar.{family}
+use Rattle.rasn_types.specs.Shapes.{Shape}
+use Rattle.rasn_types.specs.Lawful.{IsBitFree}
+use Rattle.rasn_schema.specs.declared.types.Component.{Component}
+use Rattle.rasn_schema.specs.declared.types.LeafKind.{LeafKind}
+use Rattle.rasn_schema.specs.declared.types.«Type».{«Type»}
+use Rattle.rasn_schema.specs.declared.types.«Type».TheVariants.{Leaf, Any, Tagged, Choice, Sequence, Set, SequenceOf, SetOf}
+use Rattle.rasn_schema.specs.declared.error.SchemaError.{SchemaError}
+use Rattle.rasn_schema.specs.declared.error.SchemaError.TheVariants.{ReservedTag, ConstructedTag, LateInner, NoAlternatives, LateAlternative, UntaggedAlternative, AlternativesClash, ComponentsClash, UntaggedComponent, AdditionInSet, UntaggedInSet, SetClash, SetOutOfOrder}
+use Rattle.rasn_schema.specs.Shapes.{kind_of, presence_of, shape_of_type}
+use Rattle.rasn_schema.specs.Schemas.{IsPrefix, AreDistinct, IsBefore, AreLowerAndTagged, AreDistinctAlternatives, AreToldInOrder, IsToldFrom, AreTagged, AreInOrderOfTags, IsWellFormed, AreWellFormed, IsSchema, own_at, begin_at}
+use Rattle.rasn_schema.specs.FirstTags.{IsAlwaysThere}
+use Rattle.rasn_schema.proofs.Firsts.{not_below}
+use Rattle.rasn_schema.specs.Faults.{IsTagFault, IsTaggedFault, IsLeafFault, IsAlternativesFault, IsSequenceFault, IsSetFault, IsFaultOf, SomeFault, IsFault}
+
+-- the element at an index that is within the list
+slice_get_in : {X : Type 0} (l : List X) (i : ℕ) → i < length l → (x : X) × (Some x ≡ slice_get l i)
+slice_get_in [] i h = absurd (omega (arith, h))
+slice_get_in (x ∷ l) zero h = (x, refl)
+slice_get_in (x ∷ l) (suc i) h = slice_get_in l i (omega (arith, h))
+
+tag_broken : (id : ℕ) (tag : Tag) (e : SchemaError) → IsTagFault id tag e → (tag ≢ eoc) → ⊥
+tag_broken id tag (ReservedTag k) h w = w h.1
+tag_broken id tag (ConstructedTag k) h w = h
+tag_broken id tag (LateInner k) h w = h
+tag_broken id tag (NoAlternatives k) h w = h
+tag_broken id tag (LateAlternative k i) h w = h
+tag_broken id tag (UntaggedAlternative k i) h w = h
+tag_broken id tag (AlternativesClash k i j) h w = h
+tag_broken id tag (ComponentsClash k i j) h w = h
+tag_broken id tag (UntaggedComponent k i) h w = h
+tag_broken id tag (AdditionInSet k i) h w = h
+tag_broken id tag (UntaggedInSet k i) h w = h
+tag_broken id tag (SetClash k i j) h w = h
+tag_broken id tag (SetOutOfOrder k i j) h w = h
+
+tagged_broken : (f : ℕ → Shape) (id : ℕ) (tag : Tag) (j : ℕ) (e : SchemaError) → IsTaggedFault f id tag j e → (tag ≢ eoc) × (IsPrefix (f j) → j < id) → ⊥
+tagged_broken f id tag m (ReservedTag k) h w = w.0 h.1
+tagged_broken f id tag m (ConstructedTag k) h w = h
+tagged_broken f id tag m (LateInner k) h w = h.2 (w.1 h.1)
+tagged_broken f id tag m (NoAlternatives k) h w = h
+tagged_broken f id tag m (LateAlternative k i) h w = h
+tagged_broken f id tag m (UntaggedAlternative k i) h w = h
+tagged_broken f id tag m (AlternativesClash k i j) h w = h
+tagged_broken f id tag m (ComponentsClash k i j) h w = h
+tagged_broken f id tag m (UntaggedComponent k i) h w = h
+tagged_broken f id tag m (AdditionInSet k i) h w = h
+tagged_broken f id tag m (UntaggedInSet k i) h w = h
+tagged_broken f id tag m (SetClash k i j) h w = h
+tagged_broken f id tag m (SetOutOfOrder k i j) h w = h
+
+leaf_broken : (id : ℕ) (kind : LeafKind) (tag : Tag) (e : SchemaError) → IsLeafFault id kind tag e → (tag ≢ eoc) × IsBitFree (family (kind_of kind)) tag → ⊥
+leaf_broken id kind tag (ReservedTag k) h w = w.0 h.1
+leaf_broken id kind tag (ConstructedTag k) h w = h.1 w.1
+leaf_broken id kind tag (LateInner k) h w = h
+leaf_broken id kind tag (NoAlternatives k) h w = h
+leaf_broken id kind tag (LateAlternative k i) h w = h
+leaf_broken id kind tag (UntaggedAlternative k i) h w = h
+leaf_broken id kind tag (AlternativesClash k i j) h w = h
+leaf_broken id kind tag (ComponentsClash k i j) h w = h
+leaf_broken id kind tag (UntaggedComponent k i) h w = h
+leaf_broken id kind tag (AdditionInSet k i) h w = h
+leaf_broken id kind tag (UntaggedInSet k i) h w = h
+leaf_broken id kind tag (SetClash k i j) h w = h
+leaf_broken id kind tag (SetOutOfOrder k i j) h w = h
+
+choice_broken : (f : ℕ → Shape) (id : ℕ) (ks : List ℕ) (e : SchemaError) → IsAlternativesFault f id ks e → (ks ≢ []) × AreLowerAndTagged f id ks × AreDistinctAlternatives f ks → ⊥
+choice_broken f id ks (ReservedTag k) h w = h
+choice_broken f id ks (ConstructedTag k) h w = h
+choice_broken f id ks (LateInner k) h w = h
+choice_broken f id ks (NoAlternatives k) h w = w.0 h.1
+choice_broken f id ks (LateAlternative k i) (g, (a, e, n)) w = n (w.1 i a e).0
+choice_broken f id ks (UntaggedAlternative k i) (g, (a, e, n)) w = n (w.1 i a e).1
+choice_broken f id ks (AlternativesClash k i j) (g, l, (a, b, d, e, n)) w = n (w.2 i j a b l d e)
+choice_broken f id ks (ComponentsClash k i j) h w = h
+choice_broken f id ks (UntaggedComponent k i) h w = h
+choice_broken f id ks (AdditionInSet k i) h w = h
+choice_broken f id ks (UntaggedInSet k i) h w = h
+choice_broken f id ks (SetClash k i j) h w = h
+choice_broken f id ks (SetOutOfOrder k i j) h w = h
+
+next : (own : ℕ → Option Tag) (f : ℕ → Shape) (ps : List Component) (i : ℕ) (p : Component) → i + 1 < length ps → Some p ≡ slice_get ps i → (IsAlwaysThere (presence_of p.presence) → ⊥) → own p.type_id ≡ None → AreToldInOrder own f ps → ⊥
+next own f ps i p l d a n w = let q = slice_get_in ps (i + 1) l in
+    subst (λ o. IsToldFrom o (f q.0.type_id)) n (w i (i + 1) p q.0 d q.1 a (omega arith, λ m r u v. absurd (omega (arith, u, v))))
+
+sequence_broken : (own : ℕ → Option Tag) (f : ℕ → Shape) (id : ℕ) (tag : Tag) (ps : List Component) (e : SchemaError) → IsSequenceFault own f id tag ps e → (tag ≢ eoc) × AreToldInOrder own f ps → ⊥
+sequence_broken own f id tag ps (ReservedTag k) h w = w.0 h.1
+sequence_broken own f id tag ps (ConstructedTag k) h w = h
+sequence_broken own f id tag ps (LateInner k) h w = h
+sequence_broken own f id tag ps (NoAlternatives k) h w = h
+sequence_broken own f id tag ps (LateAlternative k i) h w = h
+sequence_broken own f id tag ps (UntaggedAlternative k i) h w = h
+sequence_broken own f id tag ps (AlternativesClash k i j) h w = h
+sequence_broken own f id tag ps (ComponentsClash k i j) (g, m, (p, q, d, e, a, n)) w = n (w.1 i j p q d e a m)
+sequence_broken own f id tag ps (UntaggedComponent k i) (g, l, (p, d, a, n)) w = next own f ps i p l d a n w.1
+sequence_broken own f id tag ps (AdditionInSet k i) h w = h
+sequence_broken own f id tag ps (UntaggedInSet k i) h w = h
+sequence_broken own f id tag ps (SetClash k i j) h w = h
+sequence_broken own f id tag ps (SetOutOfOrder k i j) h w = h
+
+set_broken : (f : ℕ → Shape) (id : ℕ) (tag : Tag) (ps : List Component) (e : SchemaError) → IsSetFault f id tag ps e → (tag ≢ eoc) × AreTagged f ps × AreInOrderOfTags f ps → ⊥
+set_broken f id tag ps (ReservedTag k) h w = w.0 h.1
+set_broken f id tag ps (ConstructedTag k) h w = h
+set_broken f id tag ps (LateInner k) h w = h
+set_broken f id tag ps (NoAlternatives k) h w = h
+set_broken f id tag ps (LateAlternative k i) h w = h
+set_broken f id tag ps (UntaggedAlternative k i) h w = h
+set_broken f id tag ps (AlternativesClash k i j) h w = h
+set_broken f id tag ps (ComponentsClash k i j) h w = h
+set_broken f id tag ps (UntaggedComponent k i) h w = h
+set_broken f id tag ps (AdditionInSet k i) (g, (p, e, n)) w = (w.1 i p e).0 n
+set_broken f id tag ps (UntaggedInSet k i) (g, (p, e, n)) w = n (w.1 i p e).1
+set_broken f id tag ps (SetClash k i j) (g, l, (p, q, d, e, n)) w = n (λ t a b. not_below t (w.2 i j p q l d e t a t b))
+set_broken f id tag ps (SetOutOfOrder k i j) (g, l, (p, q, d, e, n)) w = n (w.2 i j p q l d e)
+
+type_broken : (own : ℕ → Option Tag) (f : ℕ → Shape) (id : ℕ) (ty : «Type») (e : SchemaError) → IsFaultOf own f id ty e → IsWellFormed own f id ty → ⊥
+type_broken own f id (Leaf kind tag c) e h w = leaf_broken id kind tag e h w
+type_broken own f id (Any tag) e h w = h
+type_broken own f id (Tagged tag k) e h w = tagged_broken f id tag k e h w
+type_broken own f id (Choice ks) e h w = choice_broken f id ks.items e h w
+type_broken own f id (Sequence tag ps) e h w = sequence_broken own f id tag ps.items e h w
+type_broken own f id (Set tag ps) e h w = set_broken f id tag ps.items e h w
+type_broken own f id (SequenceOf tag k c) e h w = tag_broken id tag e h w
+type_broken own f id (SetOf tag k c) e h w = tag_broken id tag e h w
+
+-- Types that have a fault aren't a schema.
+pub no_schema : (types : List «Type») (e : SchemaError) → IsFault types e → IsSchema types → ⊥
+no_schema types e (k, ty, g, h) w = type_broken (own_at types) (begin_at types) k ty e h (w k ty g)
+
+module _ (types : List «Type») (levels : ℕ) (n : levels ≡ suc (length types)) where
+  pub fault_by : (e : SchemaError) → SomeFault (own_at types) (shape_of_type types levels) types e → IsFault types e
+  fault_by e h = subst (λ m. SomeFault (own_at types) (shape_of_type types m) types e) n h
+
+  pub schema_by : AreWellFormed (own_at types) (shape_of_type types levels) types → IsSchema types
+  schema_by h = subst (λ m. AreWellFormed (own_at types) (shape_of_type types m) types) n h
+
+-- the same of a slice that has the types
+module _ (types ts : List «Type») (levels : ℕ) (s : ts ≡ types) (n : levels ≡ suc (length types)) where
+  pub fault_of : (e : SchemaError) → SomeFault (own_at ts) (shape_of_type ts levels) ts e → IsFault types e
+  fault_of e h = fault_by types levels n e (subst (λ l. SomeFault (own_at l) (shape_of_type l levels) l e) s h)
+
+  pub schema_of : AreWellFormed (own_at ts) (shape_of_type ts levels) ts → IsSchema types
+  schema_of h = schema_by types levels n (subst (λ l. AreWellFormed (own_at l) (shape_of_type l levels) l) s h)
+
+-- Two components of a SET that aren't in order.
+module _ (f : ℕ → Shape) (id : ℕ) (tag : Tag) (ps : List Component) (i j : ℕ) (p : Component) (h : Some p ≡ slice_get ps i) (next : ℕ)
+    (n : (i < j) × ((q : Component) × (Some q ≡ slice_get ps j) × (q.type_id ≡ next) × (IsBefore (f p.type_id) (f q.type_id) → ⊥))) where
+  pub set_clash_at : (AreDistinct (f p.type_id) (f next) → ⊥) → IsSetFault f id tag ps (SetClash id i j)
+  set_clash_at d = (refl, n.0, (p, n.1.0, h, n.1.1, λ a. d (subst (λ k. AreDistinct (f p.type_id) (f k)) n.1.2 a)))
+
+  pub set_order_at : IsSetFault f id tag ps (SetOutOfOrder id i j)
+  set_order_at = (refl, n.0, (p, n.1.0, h, n.1.1, n.1.3))

@@ -1,0 +1,9 @@
+pub mod Values
+pub mod TypeShapes
+pub mod Alternatives
+pub mod Lists
+pub mod Firsts
+pub mod LawfulTypes
+pub mod Schemas
+pub mod Broken
+pub mod Follow

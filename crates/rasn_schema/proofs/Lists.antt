@@ -1,0 +1,34 @@
+-- A list that isn't empty is its first element and those after it.
+use Rattle.std.proofs.Common.{◌≡◌, ℕ, ◌≤◌, ◌<◌, ◌-◌, List, [], ◌∷◌, length, Some, take, drop, get_or, refl, sym, ap, subst, ◌∙◌, inl, inr, ◌+◌, ◌≢◌, ◌⊎◌, arith}
+use Rattle.std.specs.Prelude.{slice_get}
+use Rattle.std.proofs.lemmas.Option.{slice_get_within}
+use Rattle.rasn_schema.proofs.Firsts.{same_or_not}
+use Rattle.std.proofs.lemmas.List.{take_rest}
+
+pub split : {X : Type 0} (l : List X) (x : X) → 1 ≤ length l → x ≡ get_or l 0 x → l ≡ x ∷ take (length l - 1) (drop 1 l)
+split [] x h e = absurd (omega (arith, h))
+split (y ∷ l) x h e = rw e (ap (λ m. y ∷ m) (sym (take_rest (y ∷ l) 1)))
+
+pub nothing_left : {X : Type 0} (l : List X) → length l < 1 → l ≡ []
+nothing_left [] h = refl
+nothing_left (x ∷ l) h = absurd (omega (arith, h))
+
+-- ---- what a loop over a list keeps
+
+-- Elements before index i are such.
+abbrev pub SoFar : {X : Type 0} → (ℕ → X → Type 0) → List X → ℕ → Type 0
+SoFar {X = X} P l i = (j : ℕ) (x : X) → j < i → Some x ≡ slice_get l j → P j x
+
+pub some_is : {X : Type 0} (x y : X) → Some x ≡ Some y → x ≡ y
+some_is x y e = cc
+
+pub so_far_more : {X : Type 0} (P : ℕ → X → Type 0) (l : List X) (i : ℕ) (x : X) → Some x ≡ slice_get l i → P i x → SoFar P l i → SoFar P l (i + 1)
+so_far_more P l i x e p s j y m g = go (same_or_not j i)
+  where
+    go : (j ≡ i) ⊎ (j ≢ i) → P j y
+    go (inl h) = let k : Some y ≡ slice_get l i = subst (λ n. Some y ≡ slice_get l n) h g in
+        subst (λ n. P n y) (sym h) (subst (P i) (some_is x y (e ∙ sym k)) p)
+    go (inr h) = s j y (omega (arith, m, h)) g
+
+pub so_far_end : {X : Type 0} (P : ℕ → X → Type 0) (l : List X) (i : ℕ) → length l ≤ i → SoFar P l i → (j : ℕ) (x : X) → Some x ≡ slice_get l j → P j x
+so_far_end P l i m s j x e = s j x (let k : j < length l = slice_get_within l j x (sym e) in omega (arith, m, k)) e

@@ -1,0 +1,250 @@
+-- A schema is lawful as deep as it is read.
+use Rattle.std.proofs.Common.{◌≡◌, ℕ, zero, suc, ◌<◌, ◌≤◌, inl, inr, Bool, true, false, List, [], ◌∷◌, length, Option, Some, None, refl, sym, subst, arith}
+use Rattle.std.specs.Prelude.{slice_get}
+use Rattle.std.proofs.lemmas.Option.{slice_get_within}
+use Rattle.rasn_types.specs.declared.types.tag.Tag.{Tag}
+use Rattle.rasn_types.specs.Tags.{is_eoc, IsTagBelow}
+use Rattle.rasn_types.specs.Shapes.Parts.{none}
+use Rattle.rasn_types.specs.Shapes.{Shape, any, choice, part, looked_for, IsTagOf, IsFirst, IsFirstOf, Presence, required, optional, addition, default}
+use Rattle.rasn_types.specs.Lawful.{IsLawful, HasTag, IsFirstBehind, MayBeLeftOut, IsDistinguished, AreLawfulInOrder, AreLawfulByTag}
+use Rattle.rasn_schema.specs.declared.types.«Type».{«Type»}
+use Rattle.rasn_schema.specs.declared.types.«Type».TheVariants.{Leaf, Any, Tagged, Choice, Sequence, Set, SequenceOf, SetOf}
+use Rattle.rasn_schema.specs.declared.types.Component.{Component}
+use Rattle.rasn_schema.specs.Shapes.{nothing, found_by, type_by, alternatives_by, components_by, presence_of, tag_at, tag_found, shape_of_type}
+use Rattle.rasn_schema.specs.FirstTags.{EachFirst, EachFirstOf, IsAlwaysThere}
+use Rattle.rasn_schema.specs.Schemas.{AreLowerAndTagged, AreDistinctAlternatives, MayFollow, IsToldFrom, AreToldInOrder, AreTagged, AreInOrderOfTags, IsWellFormed, IsSchema, own_at, begin_at}
+use Rattle.rasn_schema.proofs.TypeShapes.{own_is}
+use Rattle.rasn_schema.proofs.LawfulTypes.{is_present, cut_lawful, none_lawful, open_lawful, put_alternative, put_in_order, put_by_tag, none_in_order, none_by_tag}
+
+-- ---- how a type begins at one depth, and at another
+
+-- An alternative has a lower number than its CHOICE.
+abbrev AreBefore : ℕ → List ℕ → Type 0
+AreBefore id [] = Unit {0}
+AreBefore id (k ∷ ks) = (k < id) × AreBefore id ks
+
+abbrev IsBehindOwn : ℕ → Option «Type» → Type 0
+IsBehindOwn id (Some (Choice ks)) = AreBefore id ks.items
+IsBehindOwn id _ = Unit {0}
+
+module _ (f g : ℕ → Shape) (n : Tag) (id : ℕ) (h : (k : ℕ) → k < id → IsFirst (f k) n → IsFirst (g k) n) where
+  firsts_before : (ks : List ℕ) → AreBefore id ks → IsFirstOf (alternatives_by f ks) n → IsFirstOf (alternatives_by g ks) n
+  firsts_before [] b a = absurd a
+  firsts_before (k ∷ ks) b (inl a) = inl (h k b.0 a)
+  firsts_before (k ∷ ks) b (inr a) = inr (firsts_before ks b.1 a)
+
+  found_firsts : (o : Option «Type») → IsBehindOwn id o → IsFirst (found_by f o) n → IsFirst (found_by g o) n
+  found_firsts None b a = absurd a
+  found_firsts (Some (Leaf kind tag c)) b a = a
+  found_firsts (Some (Any tag)) b a = a
+  found_firsts (Some (Tagged tag k)) b a = a
+  found_firsts (Some (Choice ks)) b a = firsts_before ks.items b a
+  found_firsts (Some (Sequence tag ps)) b a = a
+  found_firsts (Some (Set tag ps)) b a = a
+  found_firsts (Some (SequenceOf tag k c)) b a = a
+  found_firsts (Some (SetOf tag k c)) b a = a
+
+-- A type that is too deep begins as it does elsewhere.
+module _ (n : Tag) where
+  nothing_first : (o : Option Tag) → IsFirst (nothing o) n → IsTagOf o n
+  nothing_first None a = absurd a
+  nothing_first (Some tag) a = a
+
+  cut_first : (tag : Tag) (b : Bool) → is_eoc tag ≡ b → IsFirst (nothing (looked_for tag)) n → n ≡ tag
+  cut_first tag true e a = absurd (rw e at a)
+  cut_first tag false e a = rw e at a
+
+  open_first : (o : Option Tag) → IsFirst (nothing o) n → IsFirst (any o) n
+  open_first None a = absurd a
+  open_first (Some tag) a = a
+
+  cut_firsts : (g : ℕ → Shape) (o : Option «Type») → IsFirst (nothing (looked_for (tag_found o))) n → IsFirst (found_by g o) n
+  cut_firsts g None a = absurd a
+  cut_firsts g (Some (Leaf kind tag c)) a = cut_first tag (is_eoc tag) refl a
+  cut_firsts g (Some (Any tag)) a = open_first (looked_for tag) a
+  cut_firsts g (Some (Tagged tag k)) a = cut_first tag (is_eoc tag) refl a
+  cut_firsts g (Some (Choice ks)) a = absurd a
+  cut_firsts g (Some (Sequence tag ps)) a = cut_first tag (is_eoc tag) refl a
+  cut_firsts g (Some (Set tag ps)) a = cut_first tag (is_eoc tag) refl a
+  cut_firsts g (Some (SequenceOf tag k c)) a = cut_first tag (is_eoc tag) refl a
+  cut_firsts g (Some (SetOf tag k c)) a = cut_first tag (is_eoc tag) refl a
+
+-- At any depth a type begins only with tags with which it begins at the depth of its number.
+settled : (types : List «Type») → ((k : ℕ) → IsBehindOwn k (slice_get types k)) → (n : Tag) (b k i : ℕ) → k ≤ b → IsFirst (shape_of_type types i k) n → IsFirst (shape_of_type types (suc b) k) n
+unfolding shape_of_type
+settled types s n zero k zero l a = cut_firsts n (shape_of_type types zero) (slice_get types k) a
+settled types s n zero k (suc i) l a = found_firsts (shape_of_type types i) (shape_of_type types zero) n k (λ j m. absurd (omega (arith, l, m))) (slice_get types k) (s k) a
+settled types s n (suc b) k zero l a = cut_firsts n (shape_of_type types (suc b)) (slice_get types k) a
+settled types s n (suc b) k (suc i) l a = found_firsts (shape_of_type types i) (shape_of_type types (suc b)) n k (λ j m. settled types s n b j i (omega (arith, l, m))) (slice_get types k) (s k) a
+
+none_first : (types : List «Type») (n : Tag) (k i : ℕ) → slice_get types k ≡ None → IsFirst (shape_of_type types i k) n → ⊥
+unfolding shape_of_type
+none_first types n k zero e a = rw e at a
+none_first types n k (suc i) e a = rw e at a
+
+lower_before : (f : ℕ → Shape) (id : ℕ) (ks : List ℕ) → AreLowerAndTagged f id ks → AreBefore id ks
+lower_before f id [] w = tt
+lower_before f id (k ∷ ks) w = ((w 0 k refl).0, lower_before f id ks (λ i j e. w (suc i) j e))
+
+node_before : (types : List «Type») (k : ℕ) (ty : «Type») → IsWellFormed (own_at types) (begin_at types) k ty → IsBehindOwn k (Some ty)
+node_before types k (Leaf kind tag c) w = tt
+node_before types k (Any tag) w = tt
+node_before types k (Tagged tag j) w = tt
+node_before types k (Choice ks) w = lower_before (begin_at types) k ks.items w.1
+node_before types k (Sequence tag ps) w = tt
+node_before types k (Set tag ps) w = tt
+node_before types k (SequenceOf tag j c) w = tt
+node_before types k (SetOf tag j c) w = tt
+
+all_before : (types : List «Type») → IsSchema types → (k : ℕ) → IsBehindOwn k (slice_get types k)
+all_before types w k = go (slice_get types k) refl
+  where
+    go : (o : Option «Type») → slice_get types k ≡ o → IsBehindOwn k o
+    go None e = tt
+    go (Some ty) e = node_before types k ty (w k ty (sym e))
+
+-- At any depth a type begins only with tags that the check sees.
+begins_as_told : (types : List «Type») → IsSchema types → (i k : ℕ) (n : Tag) → IsFirst (shape_of_type types i k) n → IsFirst (begin_at types k) n
+begins_as_told types w i k n a = go (slice_get types k) refl
+  where
+    go : (o : Option «Type») → slice_get types k ≡ o → IsFirst (begin_at types k) n
+    go None e = absurd (none_first types n k i e a)
+    go (Some ty) e = settled types (all_before types w) n (length types) k i (let l : k < length types = slice_get_within types k ty e in omega arith) a
+
+-- ---- lawful types
+
+nothing_has_tag : (o : Option Tag) → HasTag (nothing o)
+nothing_has_tag None = tt
+nothing_has_tag (Some tag) = tt
+
+found_has_tag : (f g : ℕ → Shape) (o : Option «Type») → HasTag (found_by g o) → HasTag (found_by f o)
+found_has_tag f g None w = tt
+found_has_tag f g (Some (Leaf kind tag c)) w = tt
+found_has_tag f g (Some (Any tag)) w = w
+found_has_tag f g (Some (Tagged tag k)) w = tt
+found_has_tag f g (Some (Choice ks)) w = tt
+found_has_tag f g (Some (Sequence tag ps)) w = tt
+found_has_tag f g (Some (Set tag ps)) w = tt
+found_has_tag f g (Some (SequenceOf tag k c)) w = tt
+found_has_tag f g (Some (SetOf tag k c)) w = tt
+
+has_tag_at : (types : List «Type») (i k : ℕ) → HasTag (begin_at types k) → HasTag (shape_of_type types i k)
+unfolding shape_of_type
+has_tag_at types zero k w = nothing_has_tag (looked_for (tag_at types k))
+has_tag_at types (suc i) k w = found_has_tag (shape_of_type types i) (shape_of_type types (length types)) (slice_get types k) w
+
+-- ---- from indices to lists
+
+-- one more component that may be absent
+apart : (p : Component) (ps : List Component) (j : ℕ) → (IsAlwaysThere (presence_of p.presence) → ⊥) → ((m : ℕ) (q : Component) → m < j → Some q ≡ slice_get ps m → IsAlwaysThere (presence_of q.presence) → ⊥)
+    → (m : ℕ) (q : Component) → m < suc j → Some q ≡ slice_get (p ∷ ps) m → IsAlwaysThere (presence_of q.presence) → ⊥
+apart p ps j a n zero q l e b = let same : q ≡ p = cc in a (subst (λ (x : Component). IsAlwaysThere (presence_of x.presence)) same b)
+apart p ps j a n (suc m) q l e b = n m q (omega (arith, l)) e b
+
+module _ (f : ℕ → Shape) where
+  none_begins : (n : Tag) (ks : List ℕ) → ((j l : ℕ) → Some l ≡ slice_get ks j → IsFirst (f l) n → ⊥) → IsFirstOf (alternatives_by f ks) n → ⊥
+  none_begins n [] h a = a
+  none_begins n (k ∷ ks) h (inl a) = h 0 k refl a
+  none_begins n (k ∷ ks) h (inr a) = none_begins n ks (λ j l e. h (suc j) l e) a
+
+  each_begins : (Q : Tag → Type 0) (ps : List Component) → ((j : ℕ) (q : Component) → Some q ≡ slice_get ps j → EachFirst (f q.type_id) Q) → EachFirstOf (components_by f ps) Q
+  each_begins Q [] h n a = absurd a
+  each_begins Q (p ∷ ps) h n (inl a) = h 0 p refl n a
+  each_begins Q (p ∷ ps) h n (inr a) = each_begins Q ps (λ j q e. h (suc j) q e) n a
+
+  none_behind : (tag : Tag) (ps : List Component)
+      → ((j : ℕ) (q : Component) → Some q ≡ slice_get ps j → ((m : ℕ) (p : Component) → m < j → Some p ≡ slice_get ps m → IsAlwaysThere (presence_of p.presence) → ⊥) → IsFirst (f q.type_id) tag → ⊥)
+      → IsFirstBehind (components_by f ps) tag → ⊥
+  none_behind tag [] h a = a
+  none_behind tag (p ∷ ps) h a = go (presence_of p.presence) refl (λ l. none_behind tag ps (λ j q g n. h (suc j) q g (apart p ps j l n))) a
+    where
+      here : IsFirst (f p.type_id) tag → ⊥
+      here b = h 0 p refl (λ m q l. absurd (omega (arith, l))) b
+
+      go : (r : Presence) → presence_of p.presence ≡ r → ((IsAlwaysThere (presence_of p.presence) → ⊥) → IsFirstBehind (components_by f ps) tag → ⊥) → IsFirstBehind (part r (f p.type_id) (components_by f ps)) tag → ⊥
+      go required e later b = here b
+      go addition e later b = here b
+      go optional e later (inl b) = here b
+      go optional e later (inr b) = later (λ k. subst IsAlwaysThere e k) b
+      go (default d) e later (inl b) = here b
+      go (default d) e later (inr b) = later (λ k. subst IsAlwaysThere e k) b
+
+-- the same of a component after another one
+follow_later : (p : Component) (ps : List Component) (i j : ℕ) → MayFollow ps i j → MayFollow (p ∷ ps) (suc i) (suc j)
+follow_later p ps i j (h, n) = (omega (arith, h), go)
+  where
+    go : (m : ℕ) (r : Component) → suc i < m → m < suc j → Some r ≡ slice_get (p ∷ ps) m → IsAlwaysThere (presence_of r.presence) → ⊥
+    go zero r l u e a = absurd (omega (arith, l))
+    go (suc m) r l u e a = n m r (omega (arith, l)) (omega (arith, u)) e a
+
+follow_first : (p : Component) (ps : List Component) (j : ℕ) → ((m : ℕ) (q : Component) → m < j → Some q ≡ slice_get ps m → IsAlwaysThere (presence_of q.presence) → ⊥) → MayFollow (p ∷ ps) 0 (suc j)
+follow_first p ps j n = (omega arith, go)
+  where
+    go : (m : ℕ) (r : Component) → 0 < m → m < suc j → Some r ≡ slice_get (p ∷ ps) m → IsAlwaysThere (presence_of r.presence) → ⊥
+    go zero r l u e a = absurd (omega (arith, l))
+    go (suc m) r l u e a = n m r (omega (arith, u)) e a
+
+module _ (types : List «Type») (i : ℕ) (w : IsSchema types) (lawful : (k : ℕ) → IsLawful (shape_of_type types i k)) where
+  firsts : (n : Tag) (k : ℕ) → IsFirst (shape_of_type types i k) n → IsFirst (begin_at types k) n
+  firsts n k = begins_as_told types w i k n
+
+  alternatives_lawful : (id : ℕ) (ks : List ℕ) → AreLowerAndTagged (begin_at types) id ks → AreDistinctAlternatives (begin_at types) ks → IsLawful (choice (alternatives_by (shape_of_type types i) ks))
+  alternatives_lawful id [] t d = none_lawful
+  alternatives_lawful id (k ∷ ks) t d = put_alternative (shape_of_type types i) k ks
+      (has_tag_at types i k (t 0 k refl).1, is_present types i k, lawful k, λ n a. none_begins (shape_of_type types i) n ks (λ j l e b. d 0 (suc j) k l (omega arith) refl e n (firsts n k a) (firsts n l b)))
+      (alternatives_lawful id ks (λ j l e. t (suc j) l e) (λ j m a b l e g. d (suc j) (suc m) a b (omega (arith, l)) e g))
+
+  module _ (p : Component) (ps : List Component) (t : AreToldInOrder (own_at types) (begin_at types) (p ∷ ps)) where
+    told_from : (o : Option Tag) → own_at types p.type_id ≡ o → (IsAlwaysThere (presence_of p.presence) → ⊥) → IsDistinguished o (components_by (shape_of_type types i) ps)
+    told_from (Some tag) e a = none_behind (shape_of_type types i) tag ps
+        (λ j q g n b. subst (λ o. IsToldFrom o (begin_at types q.type_id)) e (t 0 (suc j) p q refl g a (follow_first p ps j n)) (firsts tag q.type_id b))
+    told_from None e a = go ps refl
+      where
+        go : (qs : List Component) → ps ≡ qs → components_by (shape_of_type types i) qs ≡ none
+        go [] f = refl
+        go (q ∷ qs) f = absurd (subst (λ o. IsToldFrom o (begin_at types q.type_id)) e
+            (t 0 1 p q refl (subst (λ l. Some q ≡ slice_get l 0) (sym f) refl) a (follow_first p ps 0 (λ m r l. absurd (omega (arith, l))))))
+
+    left_out : (r : Presence) → presence_of p.presence ≡ r → MayBeLeftOut r (own_at types p.type_id) (components_by (shape_of_type types i) ps)
+    left_out required e = tt
+    left_out addition e = tt
+    left_out optional e = told_from (own_at types p.type_id) refl (λ k. subst IsAlwaysThere e k)
+    left_out (default d) e = told_from (own_at types p.type_id) refl (λ k. subst IsAlwaysThere e k)
+
+  in_order_lawful : (ps : List Component) → AreToldInOrder (own_at types) (begin_at types) ps → AreLawfulInOrder (components_by (shape_of_type types i) ps)
+  in_order_lawful [] t = none_in_order (shape_of_type types i)
+  in_order_lawful (p ∷ ps) t = put_in_order (shape_of_type types i) p ps
+      (is_present types i p.type_id, lawful p.type_id, rw (own_is types i p.type_id (lawful p.type_id)) (left_out p ps t (presence_of p.presence) refl))
+      (in_order_lawful ps (λ j m q r d e a f. t (suc j) (suc m) q r d e a (follow_later p ps j m f)))
+
+  by_tag_lawful : (ps : List Component) → AreTagged (begin_at types) ps → AreInOrderOfTags (begin_at types) ps → AreLawfulByTag (components_by (shape_of_type types i) ps)
+  by_tag_lawful [] t d = none_by_tag (shape_of_type types i)
+  by_tag_lawful (p ∷ ps) t d = put_by_tag (shape_of_type types i) p ps (
+    (t 0 p refl).0,
+    has_tag_at types i p.type_id (t 0 p refl).1,
+    is_present types i p.type_id,
+    lawful p.type_id,
+    λ m a. each_begins (shape_of_type types i) (IsTagBelow m) ps (λ j q e n b. d 0 (suc j) p q (omega arith) refl e m (firsts m p.type_id a) n (firsts n q.type_id b)),
+  )
+      (by_tag_lawful ps (λ j q e. t (suc j) q e) (λ j m q r l e g. d (suc j) (suc m) q r (omega (arith, l)) e g))
+
+  type_lawful : (id : ℕ) (ty : «Type») → IsWellFormed (own_at types) (begin_at types) id ty → IsLawful (type_by (shape_of_type types i) ty)
+  unfolding IsLawful
+  type_lawful id (Leaf kind tag c) t = t
+  type_lawful id (Any tag) t = open_lawful tag
+  type_lawful id (Tagged tag k) t = (t.0, is_present types i k, lawful k)
+  type_lawful id (Choice ks) t = alternatives_lawful id ks.items t.1 t.2
+  type_lawful id (Sequence tag ps) t = (t.0, in_order_lawful ps.items t.1)
+  type_lawful id (Set tag ps) t = (t.0, by_tag_lawful ps.items t.1 t.2)
+  type_lawful id (SequenceOf tag k c) t = (t, is_present types i k, lawful k)
+  type_lawful id (SetOf tag k c) t = (t, is_present types i k, lawful k)
+
+  found_lawful : (k : ℕ) (o : Option «Type») → slice_get types k ≡ o → IsLawful (found_by (shape_of_type types i) o)
+  found_lawful k None e = none_lawful
+  found_lawful k (Some ty) e = type_lawful k ty (w k ty (sym e))
+
+-- The theorem: if each type keeps the rules, each shape is lawful, however deep types are followed.
+pub schema_lawful : (types : List «Type») → IsSchema types → (levels k : ℕ) → IsLawful (shape_of_type types levels k)
+unfolding shape_of_type
+schema_lawful types w zero k = cut_lawful types k
+schema_lawful types w (suc levels) k = found_lawful types levels w (schema_lawful types w levels) k (slice_get types k) refl

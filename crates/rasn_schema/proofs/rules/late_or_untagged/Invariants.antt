@@ -1,0 +1,8 @@
+use Rattle.std.proofs.Common.{◌<◌}
+use Rattle.rasn_types.specs.Lawful.{HasTag}
+use Rattle.rasn_schema.specs.Shapes.{shape_of_type}
+use Rattle.rasn_schema.proofs.Lists.{SoFar}
+use Rattle.rasn_schema.proofs.rules.late_or_untagged.Given as goal
+
+abbrev pub invariant-loop-index : goal.invariant-loop-index
+invariant-loop-index l = SoFar (λ j k. (k < l.id) × HasTag (shape_of_type l.types l.levels k)) l.alternatives l.index

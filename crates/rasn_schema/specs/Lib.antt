@@ -1,0 +1,6 @@
+pub mod Trees
+pub mod Shapes
+pub mod FirstTags
+pub mod Schemas
+pub mod Faults
+pub mod SchemaProps

@@ -1,0 +1,100 @@
+-- That types are a schema has at most one proof.
+use Rattle.std.specs.Prelude.{◌≡◌, ℕ, ◌<◌, ◌⊎◌, List, [], Option, Some, None}
+use Rattle.std.specs.Coded.{×_prop, Unit-prop, le_prop}
+use Rattle.std.specs.Cmp.{below_irrefl}
+use mathlib.Core.Bool.{Bool-set}
+use mathlib.Core.Logic.{inl, inr}
+use mathlib.Core.Path.{ap, subst}
+use native.Mathlib.Nat.{ℕ_set}
+use Rattle.rasn_types.specs.declared.types.tag.Tag.{Tag}
+use Rattle.rasn_types.specs.Tags.{eoc, IsTagBelow, rank}
+use Rattle.rasn_types.specs.Grammar.{Family, plain_family, bit_family, text_family, family}
+use Rattle.rasn_types.specs.Shapes.{Shape, leaf, any, prefix, choice, option, seq, set, list, set_of}
+use Rattle.rasn_types.specs.Lawful.{HasTag, IsBitFree}
+use Rattle.rasn_schema.specs.declared.types.Component.{Component}
+use Rattle.rasn_schema.specs.declared.types.«Type».{«Type»}
+use Rattle.rasn_schema.specs.declared.types.«Type».TheVariants.{Leaf, Any, Tagged, Choice, Sequence, Set, SequenceOf, SetOf}
+use Rattle.rasn_schema.specs.Shapes.{kind_of}
+use Rattle.rasn_schema.specs.Schemas.{AreDistinct, IsBefore, AreLowerAndTagged, AreDistinctAlternatives, IsToldFrom, AreToldInOrder, AreTagged, AreInOrderOfTags, IsWellFormed, IsSchema, own_at, begin_at}
+
+-- ---- facts of several parts
+
+none_prop : IsProp ⊥
+none_prop x y = absurd x
+
+each_prop : {A : Type 0} (B : A → Type 0) → ((x : A) → IsProp (B x)) → IsProp ((x : A) → B x)
+each_prop B h f g = λ i x. h x (f x) (g x) i
+
+not_prop : (A : Type 0) → IsProp (A → ⊥)
+not_prop A = each_prop (λ a. ⊥) (λ a. none_prop)
+
+three_prop : {A B C : Type 0} → IsProp A → IsProp B → IsProp C → IsProp (A × B × C)
+three_prop a b c x y = λ i. (a x.0 y.0 i, b x.1 y.1 i, c x.2 y.2 i)
+
+either_prop : {A B : Type 0} → IsProp A → IsProp B → (A → B → ⊥) → IsProp (A ⊎ B)
+either_prop a b n (inl x) (inl y) = ap inl (a x y)
+either_prop a b n (inl x) (inr y) = absurd (n x y)
+either_prop a b n (inr x) (inl y) = absurd (n y x)
+either_prop a b n (inr x) (inr y) = ap inr (b x y)
+
+-- ---- of tags and shapes
+
+below_prop : (s t : Tag) → IsProp (IsTagBelow s t)
+below_prop s t = either_prop le_prop (×_prop (ℕ_set (rank s.class) (rank t.class)) le_prop) (λ a b. below_irrefl (rank t.class) (subst (λ n. n < rank t.class) b.0 a))
+
+has_tag_prop : (s : Shape) → IsProp (HasTag s)
+has_tag_prop (leaf kind tag bounds) = Unit-prop
+has_tag_prop (any None) = none_prop
+has_tag_prop (any (Some tag)) = Unit-prop
+has_tag_prop (prefix tag s) = Unit-prop
+has_tag_prop (choice ps) = Unit-prop
+has_tag_prop (option tag s) = Unit-prop
+has_tag_prop (seq tag ps) = Unit-prop
+has_tag_prop (set tag ps) = Unit-prop
+has_tag_prop (list tag s size) = Unit-prop
+has_tag_prop (set_of tag s size) = Unit-prop
+
+bit_free_prop : (f : Family) (tag : Tag) → IsProp (IsBitFree f tag)
+bit_free_prop plain_family tag = Unit-prop
+bit_free_prop bit_family tag = Bool-set _ _
+bit_free_prop text_family tag = Bool-set _ _
+
+-- ---- of the rules
+
+lower_prop : (f : ℕ → Shape) (id : ℕ) (ks : List ℕ) → IsProp (AreLowerAndTagged f id ks)
+lower_prop f id ks = each_prop _ (λ i. each_prop _ (λ k. each_prop _ (λ e. ×_prop le_prop (has_tag_prop (f k)))))
+
+distinct_prop : (s t : Shape) → IsProp (AreDistinct s t)
+distinct_prop s t = each_prop _ (λ n. each_prop _ (λ h. not_prop _))
+
+alternatives_prop : (f : ℕ → Shape) (ks : List ℕ) → IsProp (AreDistinctAlternatives f ks)
+alternatives_prop f ks = each_prop _ (λ i. each_prop _ (λ j. each_prop _ (λ k. each_prop _ (λ l. each_prop _ (λ h. each_prop _ (λ d. each_prop _ (λ e. distinct_prop (f k) (f l))))))))
+
+told_prop : (o : Option Tag) (s : Shape) → IsProp (IsToldFrom o s)
+told_prop None s = none_prop
+told_prop (Some tag) s = not_prop _
+
+in_order_prop : (own : ℕ → Option Tag) (f : ℕ → Shape) (ps : List Component) → IsProp (AreToldInOrder own f ps)
+in_order_prop own f ps = each_prop _ (λ i. each_prop _ (λ j. each_prop _ (λ p. each_prop _ (λ q. each_prop _ (λ d. each_prop _ (λ e. each_prop _ (λ a. each_prop _ (λ m. told_prop (own p.type_id) (f q.type_id)))))))))
+
+tagged_prop : (f : ℕ → Shape) (ps : List Component) → IsProp (AreTagged f ps)
+tagged_prop f ps = each_prop _ (λ i. each_prop _ (λ p. each_prop _ (λ e. ×_prop (not_prop _) (has_tag_prop (f p.type_id)))))
+
+before_prop : (s t : Shape) → IsProp (IsBefore s t)
+before_prop s t = each_prop _ (λ m. each_prop _ (λ a. each_prop _ (λ n. each_prop _ (λ b. below_prop m n))))
+
+of_tags_prop : (f : ℕ → Shape) (ps : List Component) → IsProp (AreInOrderOfTags f ps)
+of_tags_prop f ps = each_prop _ (λ i. each_prop _ (λ j. each_prop _ (λ p. each_prop _ (λ q. each_prop _ (λ h. each_prop _ (λ d. each_prop _ (λ e. before_prop (f p.type_id) (f q.type_id))))))))
+
+type_prop : (own : ℕ → Option Tag) (f : ℕ → Shape) (id : ℕ) (ty : «Type») → IsProp (IsWellFormed own f id ty)
+type_prop own f id (Leaf kind tag c) = ×_prop (not_prop (tag ≡ eoc)) (bit_free_prop (family (kind_of kind)) tag)
+type_prop own f id (Any tag) = Unit-prop
+type_prop own f id (Tagged tag k) = ×_prop (not_prop (tag ≡ eoc)) (each_prop _ (λ h. le_prop))
+type_prop own f id (Choice ks) = three_prop (not_prop (ks.items ≡ [])) (lower_prop f id ks.items) (alternatives_prop f ks.items)
+type_prop own f id (Sequence tag ps) = ×_prop (not_prop (tag ≡ eoc)) (in_order_prop own f ps.items)
+type_prop own f id (Set tag ps) = three_prop (not_prop (tag ≡ eoc)) (tagged_prop f ps.items) (of_tags_prop f ps.items)
+type_prop own f id (SequenceOf tag k c) = not_prop _
+type_prop own f id (SetOf tag k c) = not_prop _
+
+pub schema_prop : (types : List «Type») → IsProp (IsSchema types)
+schema_prop types = each_prop _ (λ k. each_prop _ (λ ty. each_prop _ (λ e. type_prop (own_at types) (begin_at types) k ty)))

@@ -1,0 +1,88 @@
+-- What a schema has to be: the rules that each type keeps.
+use Rattle.std.specs.Prelude.{◌≡◌, ◌≢◌, ℕ, suc, ◌<◌, List, [], length, Option, Some, None, slice_get}
+use Rattle.rasn_types.specs.declared.types.tag.Tag.{Tag}
+use Rattle.rasn_types.specs.Tags.{eoc, IsTagBelow}
+use Rattle.rasn_types.specs.Grammar.{family}
+use Rattle.rasn_types.specs.Shapes.{Shape, prefix, IsFirst, looked_for, addition}
+use Rattle.rasn_types.specs.Lawful.{IsBitFree, HasTag}
+use Rattle.rasn_schema.specs.declared.types.Component.{Component}
+use Rattle.rasn_schema.specs.declared.types.«Type».{«Type»}
+use Rattle.rasn_schema.specs.declared.types.«Type».TheVariants.{Leaf, Any, Tagged, Choice, Sequence, Set, SequenceOf, SetOf}
+use Rattle.rasn_schema.specs.Shapes.{presence_of, kind_of, tag_at, shape_of_type}
+use Rattle.rasn_schema.specs.FirstTags.{EachFirst, IsAlwaysThere}
+
+-- ---- rules, where f gives the shape of the type with a number
+
+-- No value of the one begins with a tag with which one of the other begins.
+abbrev pub AreDistinct : Shape → Shape → Type 0
+AreDistinct s t = EachFirst s (λ n. IsFirst t n → ⊥)
+
+-- Each tag of the one is below each of the other (X.680 8.6).
+abbrev pub IsBefore : Shape → Shape → Type 0
+IsBefore s t = EachFirst s (λ m. EachFirst t (λ n. IsTagBelow m n))
+
+abbrev pub IsPrefix : Shape → Type 0
+IsPrefix (prefix tag s) = Unit {0}
+IsPrefix _ = ⊥
+
+-- Each alternative of the CHOICE with number id has a lower number, and a tag.
+abbrev pub AreLowerAndTagged : (ℕ → Shape) → ℕ → List ℕ → Type 0
+AreLowerAndTagged f id ks = (i k : ℕ) → Some k ≡ slice_get ks i → (k < id) × HasTag (f k)
+
+-- No two alternatives begin with the same tag (X.680 29.3).
+abbrev pub AreDistinctAlternatives : (ℕ → Shape) → List ℕ → Type 0
+AreDistinctAlternatives f ks = (i j k l : ℕ) → i < j → Some k ≡ slice_get ks i → Some l ≡ slice_get ks j → AreDistinct (f k) (f l)
+
+-- If component i is absent, component j may follow what is before it: each one between them may be absent too.
+abbrev pub MayFollow : List Component → ℕ → ℕ → Type 0
+MayFollow ps i j = (i < j) × ((m : ℕ) (p : Component) → i < m → m < j → Some p ≡ slice_get ps m → IsAlwaysThere (presence_of p.presence) → ⊥)
+
+-- A component is told by its tag, which it has to have.
+abbrev pub IsToldFrom : Option Tag → Shape → Type 0
+IsToldFrom None s = ⊥
+IsToldFrom (Some tag) s = IsFirst s tag → ⊥
+
+-- A component that may be absent is told from each one that may follow then (X.680 25.6).
+abbrev pub AreToldInOrder : (ℕ → Option Tag) → (ℕ → Shape) → List Component → Type 0
+AreToldInOrder own f ps = (i j : ℕ) (p q : Component) → Some p ≡ slice_get ps i → Some q ≡ slice_get ps j → (IsAlwaysThere (presence_of p.presence) → ⊥) → MayFollow ps i j → IsToldFrom (own p.type_id) (f q.type_id)
+
+-- Each component of a SET has a tag, and none is an extension addition.
+abbrev pub AreTagged : (ℕ → Shape) → List Component → Type 0
+AreTagged f ps = (i : ℕ) (p : Component) → Some p ≡ slice_get ps i → (presence_of p.presence ≢ addition) × HasTag (f p.type_id)
+
+-- The components of a SET are in the order of their tags, which are distinct (X.680 27.3).
+abbrev pub AreInOrderOfTags : (ℕ → Shape) → List Component → Type 0
+AreInOrderOfTags f ps = (i j : ℕ) (p q : Component) → i < j → Some p ≡ slice_get ps i → Some q ≡ slice_get ps j → IsBefore (f p.type_id) (f q.type_id)
+
+-- What is asked of the type with number id. An explicit tag within another one has a lower number, so that tags end. Of the types that it names, f tells how they begin.
+abbrev pub IsWellFormed : (ℕ → Option Tag) → (ℕ → Shape) → ℕ → «Type» → Type 0
+IsWellFormed own f id (Leaf kind tag c) = (tag ≢ eoc) × IsBitFree (family (kind_of kind)) tag
+IsWellFormed own f id (Any tag) = Unit {0}
+IsWellFormed own f id (Tagged tag k) = (tag ≢ eoc) × (IsPrefix (f k) → k < id)
+IsWellFormed own f id (Choice ks) = (ks.items ≢ []) × AreLowerAndTagged f id ks.items × AreDistinctAlternatives f ks.items
+IsWellFormed own f id (Sequence tag ps) = (tag ≢ eoc) × AreToldInOrder own f ps.items
+IsWellFormed own f id (Set tag ps) = (tag ≢ eoc) × AreTagged f ps.items × AreInOrderOfTags f ps.items
+IsWellFormed own f id (SequenceOf tag k c) = tag ≢ eoc
+IsWellFormed own f id (SetOf tag k c) = tag ≢ eoc
+
+-- ---- of all types
+
+abbrev pub own_at : List «Type» → ℕ → Option Tag
+own_at types k = looked_for (tag_at types k)
+
+-- A CHOICE within a CHOICE has a lower number, so that this deep all tags are seen with which a type may begin.
+abbrev pub begin_at : List «Type» → ℕ → Shape
+begin_at types k = shape_of_type types (suc (length types)) k
+
+abbrev pub AreWellFormed : (ℕ → Option Tag) → (ℕ → Shape) → List «Type» → Type 0
+AreWellFormed own f types = (k : ℕ) (ty : «Type») → Some ty ≡ slice_get types k → IsWellFormed own f k ty
+
+abbrev pub IsChoice : «Type» → Type 0
+IsChoice (Choice ks) = Unit {0}
+IsChoice _ = ⊥
+
+abbrev pub AreChoicesWellFormed : (ℕ → Option Tag) → (ℕ → Shape) → List «Type» → Type 0
+AreChoicesWellFormed own f types = (k : ℕ) (ty : «Type») → Some ty ≡ slice_get types k → IsChoice ty → IsWellFormed own f k ty
+
+abbrev pub IsSchema : List «Type» → Type 0
+IsSchema types = AreWellFormed (own_at types) (begin_at types) types

@@ -1,0 +1,104 @@
+-- The shapes that a schema has.
+use Rattle.std.specs.Prelude.{ℕ, zero, suc, List, [], ◌∷◌, Option, Some, None, slice_get}
+use Rattle.rasn_types.specs.declared.types.tag.Tag.{Tag}
+use Rattle.rasn_types.specs.Tags.{eoc}
+use Rattle.rasn_types.specs.Shapes.{Tree, number, bits, Shape, leaf, any, prefix, choice, seq, set, list, set_of, Parts, part, looked_for, Kind, boolean, null, object_identifier, bit_string, octet_string, integer, every, numeric, printable, visible, ia5, any_octets, bmp, utf8, utc_time, generalized_time, date, required, optional, addition, default, Presence as PartPresence}
+use Rattle.rasn_types.specs.Shapes.Parts.{none}
+use Rattle.rasn_types.specs.Lawful.{IsLawful}
+use Rattle.rasn_schema.specs.declared.types.LeafKind.{LeafKind}
+use Rattle.rasn_schema.specs.declared.types.LeafKind.TheVariants.{Boolean, Null, ObjectIdentifier, BitString, OctetString, Integer, Numeric, Printable, Visible, Ia5, AnyOctets, Bmp, Utf8, UtcTime, GeneralizedTime, Date}
+use Rattle.rasn_schema.specs.declared.types.Presence.{Presence}
+use Rattle.rasn_schema.specs.declared.types.Presence.TheVariants.{Required, Optional, Addition, Default}
+use Rattle.rasn_schema.specs.declared.types.Component.{Component}
+use Rattle.rasn_schema.specs.declared.types.«Type».{«Type»}
+use Rattle.rasn_schema.specs.declared.types.«Type».TheVariants.{Leaf, Any, Tagged, Choice, Sequence, Set, SequenceOf, SetOf}
+use Rattle.rasn_schema.specs.declared.types.Constant.{Constant}
+use Rattle.rasn_schema.specs.declared.types.Constant.TheVariants.{Number as ConstantNumber, Bits as ConstantBits}
+
+abbrev pub kind_of : LeafKind → Kind
+kind_of Boolean = boolean
+kind_of Null = null
+kind_of ObjectIdentifier = object_identifier
+kind_of BitString = bit_string
+kind_of OctetString = octet_string
+kind_of Integer = integer every
+kind_of Numeric = numeric
+kind_of Printable = printable
+kind_of Visible = visible
+kind_of Ia5 = ia5
+kind_of AnyOctets = any_octets
+kind_of Bmp = bmp
+kind_of Utf8 = utf8
+kind_of UtcTime = utc_time
+kind_of GeneralizedTime = generalized_time
+kind_of Date = date
+
+abbrev pub constant_tree : Constant → Tree
+constant_tree (ConstantNumber n) = number n
+constant_tree (ConstantBits b) = bits b
+
+abbrev pub presence_of : Presence → PartPresence
+presence_of Required = required
+presence_of Optional = optional
+presence_of Addition = addition
+presence_of (Default c) = default (constant_tree c)
+
+-- Components and alternatives. f gives the shape of the type with a number.
+abbrev pub components_by : (ℕ → Shape) → List Component → Parts
+components_by f [] = none
+components_by f (p ∷ ps) = part (presence_of p.presence) (f p.type_id) (components_by f ps)
+
+abbrev pub alternatives_by : (ℕ → Shape) → List ℕ → Parts
+alternatives_by f [] = none
+alternatives_by f (k ∷ ks) = part required (f k) (alternatives_by f ks)
+
+abbrev pub type_by : (ℕ → Shape) → «Type» → Shape
+type_by f (Leaf kind tag c) = leaf (kind_of kind) tag c
+type_by f (Any tag) = any (looked_for tag)
+type_by f (Tagged tag k) = prefix tag (f k)
+type_by f (Choice ks) = choice (alternatives_by f ks.items)
+type_by f (Sequence tag ps) = seq tag (components_by f ps.items)
+type_by f (Set tag ps) = set tag (components_by f ps.items)
+type_by f (SequenceOf tag k c) = list tag (f k) c.size
+type_by f (SetOf tag k c) = set_of tag (f k) c.size
+
+-- A type's own tag: universal 0 if it has none.
+abbrev pub tag_of_type : «Type» → Tag
+tag_of_type (Leaf kind tag c) = tag
+tag_of_type (Any tag) = tag
+tag_of_type (Tagged tag k) = tag
+tag_of_type (Choice ks) = eoc
+tag_of_type (Sequence tag ps) = tag
+tag_of_type (Set tag ps) = tag
+tag_of_type (SequenceOf tag k c) = tag
+tag_of_type (SetOf tag k c) = tag
+
+abbrev pub tag_found : Option «Type» → Tag
+tag_found None = eoc
+tag_found (Some ty) = tag_of_type ty
+
+abbrev pub tag_at : List «Type» → ℕ → Tag
+tag_at types k = tag_found (slice_get types k)
+
+-- A shape of which nothing is read or written, with this tag of its own.
+abbrev pub nothing : Option Tag → Shape
+nothing None = choice none
+nothing (Some tag) = prefix tag (choice none)
+
+abbrev pub found_by : (ℕ → Shape) → Option «Type» → Shape
+found_by f None = choice none
+found_by f (Some ty) = type_by f ty
+
+-- The shape of the type with a number, types followed so many levels deep. Of what is deeper, nothing is read or written.
+unfoldable pub shape_of_type : List «Type» → ℕ → ℕ → Shape
+shape_of_type types zero k = nothing (looked_for (tag_at types k))
+shape_of_type types (suc levels) k = found_by (λ j. shape_of_type types levels j) (slice_get types k)
+
+-- The presences of components, whatever their shapes are.
+abbrev pub presences_in : List Component → List PartPresence
+presences_in [] = []
+presences_in (p ∷ ps) = presence_of p.presence ∷ presences_in ps
+
+abbrev pub AreLawful : Parts → Type 0
+AreLawful none = Unit {0}
+AreLawful (part presence s ps) = IsLawful s × AreLawful ps

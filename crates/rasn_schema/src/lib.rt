@@ -1,0 +1,20 @@
+//! ASN.1 types as data: types that are known only when the program runs, the rules that they have to keep (X.680), and values of them.
+//!
+//! A [`Schema`] is a list of types that refer to one another by number, so that types may be recursive. [`Schema::new`] checks each type once.
+#![tactic(auto)]
+
+mod begin;
+mod error;
+mod first_tags;
+mod rules;
+mod schema;
+mod type_id;
+mod types;
+mod value;
+
+pub use begin::{alternative_for, begins};
+pub use error::SchemaError;
+pub use schema::Schema;
+pub use type_id::TypeId;
+pub use types::{Component, Constant, LeafKind, Presence, Type, tag_at, type_at};
+pub use value::Value;

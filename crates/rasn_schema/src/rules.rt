@@ -1,0 +1,451 @@
+//! The rules that each type of a schema keeps: it is looked at once, however deep values are nested (X.680 25.6, 27.3, 29.3).
+ghost use Rattle.std.specs.Prelude.{◌≡◌, ◌≢◌, [], ◌<◌, ℕ, length, slice_get, Some, MatchOption};
+ghost use Rattle.rasn_types.specs.Tags.{eoc};
+ghost use Rattle.rasn_types.specs.Grammar.{family};
+ghost use Rattle.rasn_types.specs.Shapes.{IsFirst, addition};
+ghost use Rattle.rasn_schema.specs.declared.types.Component.{Component};
+ghost use Rattle.rasn_types.specs.Lawful.{IsBitFree, HasTag};
+ghost use Rattle.rasn_types.specs.Truth.{IsWhether};
+ghost use Rattle.rasn_schema.specs.FirstTags.{IsAlwaysThere};
+ghost use Rattle.rasn_schema.specs.Shapes.{shape_of_type, type_by, presence_of, kind_of};
+ghost use Rattle.rasn_schema.specs.Schemas.{IsPrefix, AreLowerAndTagged, AreDistinctAlternatives, AreDistinct, AreToldInOrder, MayFollow, IsToldFrom, AreTagged, AreInOrderOfTags, IsBefore, IsWellFormed, AreWellFormed, AreChoicesWellFormed, own_at};
+ghost use Rattle.rasn_schema.specs.Faults.{IsTagFault, IsTaggedFault, IsLeafFault, IsAlternativesFault, IsSequenceFault, IsSetFault, IsFaultOf, SomeFault};
+
+use crate::begin::begins;
+use crate::error::SchemaError;
+use crate::first_tags::{is_before, is_distinct};
+use crate::type_id::TypeId;
+use crate::types::{Component, LeafKind, Presence, Type, tag_at, type_at};
+use rasn_types::ber::is_always_constructed;
+use rasn_types::types::Tag;
+
+/// Returns whether a value of this kind may have the tag: a string or a time can't have that of a type that is always constructed.
+fn is_bit_free(kind: LeafKind, tag: Tag) -> bool
+    ensures { IsWhether result (IsBitFree (family (kind_of kind)) tag) }
+{
+    match kind {
+        LeafKind::Boolean | LeafKind::Null | LeafKind::ObjectIdentifier | LeafKind::Integer => true,
+        _ => !is_always_constructed(tag),
+    }
+}
+
+/// Returns whether the tag is universal 0.
+fn is_no_tag(tag: Tag) -> bool
+    ensures { IsWhether result (tag ≡ eoc) }
+{
+    tag == Tag::EOC
+}
+
+/// Returns whether the type with this number isn't an open type without a tag.
+fn has_tag(types: &[Type], levels: usize, id: TypeId) -> bool
+    ensures { IsWhether result (HasTag (shape_of_type types.now levels id)) }
+{
+    if levels == 0 {
+        return true;
+    }
+    match type_at(types, id) {
+        Some(ty) => type_has_tag(ty),
+        None => true,
+    }
+}
+
+fn type_has_tag(ty: &Type) -> bool
+    ensures { (f : _) → IsWhether result (HasTag (type_by f ty.now)) }
+{
+    match ty {
+        Type::Any { tag } => *tag != Tag::EOC,
+        _ => true,
+    }
+}
+
+/// Returns whether the type with this number has an explicit tag.
+fn is_tagged(types: &[Type], levels: usize, id: TypeId) -> bool
+    requires { levels ≢ 0 }
+    ensures { IsWhether result (IsPrefix (shape_of_type types.now levels id)) }
+{
+    match type_at(types, id) {
+        Some(ty) => type_is_tagged(ty),
+        None => false,
+    }
+}
+
+fn type_is_tagged(ty: &Type) -> bool
+    ensures { (f : _) → IsWhether result (IsPrefix (type_by f ty.now)) }
+{
+    match ty {
+        Type::Tagged { .. } => true,
+        _ => false,
+    }
+}
+
+/// Returns whether a component can't be absent.
+fn is_always_there(component: &Component) -> bool
+    ensures { IsWhether result (IsAlwaysThere (presence_of component.now.presence)) }
+{
+    match &component.presence {
+        Presence::Required | Presence::Addition => true,
+        Presence::Optional | Presence::Default(_) => false,
+    }
+}
+
+fn is_addition(component: &Component) -> bool
+    ensures { IsWhether result (presence_of component.now.presence ≡ addition) }
+{
+    match &component.presence {
+        Presence::Addition => true,
+        Presence::Required | Presence::Optional | Presence::Default(_) => false,
+    }
+}
+
+/// Returns what is wrong with a tag.
+fn tag_fault(id: TypeId, tag: Tag) -> Option<SchemaError>
+    ensures { MatchOption result (tag ≢ eoc) (λ e. IsTagFault id tag e) }
+{
+    if is_no_tag(tag) {
+        Some(SchemaError::ReservedTag { id })
+    } else {
+        None
+    }
+}
+
+/// Returns what is wrong with a type that has an explicit tag.
+fn tagged_fault(
+    types: &[Type],
+    levels: usize,
+    id: TypeId,
+    tag: Tag,
+    inner: TypeId,
+) -> Option<SchemaError>
+    requires { levels ≢ 0 }
+    ensures { let f = shape_of_type types.now levels in
+        MatchOption result ((tag ≢ eoc) × (IsPrefix (f inner) → inner < id)) (λ e. IsTaggedFault f id tag inner e) }
+{
+    if is_no_tag(tag) {
+        return Some(SchemaError::ReservedTag { id });
+    }
+    if inner >= id && is_tagged(types, levels, inner) {
+        return Some(SchemaError::LateInner { id });
+    }
+    None
+}
+
+/// Returns what is wrong with the tag of a type whose values hold no other values.
+fn leaf_fault(id: TypeId, kind: LeafKind, tag: Tag) -> Option<SchemaError>
+    ensures { MatchOption result ((tag ≢ eoc) × IsBitFree (family (kind_of kind)) tag) (λ e. IsLeafFault id kind tag e) }
+{
+    if is_no_tag(tag) {
+        Some(SchemaError::ReservedTag { id })
+    } else if is_bit_free(kind, tag) {
+        None
+    } else {
+        Some(SchemaError::ConstructedTag { id })
+    }
+}
+
+/// Returns the first alternative whose number isn't below `id`, or which has no tag.
+fn late_or_untagged(
+    types: &[Type],
+    levels: usize,
+    id: TypeId,
+    alternatives: &[TypeId],
+) -> Option<SchemaError>
+    ensures { let f = shape_of_type types.now levels in
+        MatchOption result (AreLowerAndTagged f id alternatives.now) (λ e. IsAlternativesFault f id alternatives.now e) }
+{
+    for (index, alternative) in alternatives.iter().enumerate() {
+        if *alternative >= id {
+            return Some(SchemaError::LateAlternative { id, index });
+        }
+        if !has_tag(types, levels, *alternative) {
+            return Some(SchemaError::UntaggedAlternative { id, index });
+        }
+    }
+    None
+}
+
+/// Returns the index of the first alternative after `index` that may begin with a tag with which `alternative` begins.
+fn same_alternative(
+    types: &[Type],
+    levels: usize,
+    alternatives: &[TypeId],
+    index: usize,
+    alternative: TypeId,
+) -> Option<usize>
+    ensures { let f = shape_of_type types.now levels in
+        MatchOption result
+        ((j l : ℕ) → index < j → Some l ≡ slice_get alternatives.now j → AreDistinct (f alternative) (f l))
+        (λ j. (index < j) × ((l : ℕ) × (Some l ≡ slice_get alternatives.now j) × (AreDistinct (f alternative) (f l) → ⊥))) }
+{
+    for (other, id) in alternatives.iter().enumerate() {
+        if other > index && !is_distinct(types, levels, alternative, levels, *id) {
+            return Some(other);
+        }
+    }
+    None
+}
+
+/// Returns the first two alternatives that may begin with the same tag (X.680 29.3).
+fn alternatives_clash(
+    types: &[Type],
+    levels: usize,
+    id: TypeId,
+    alternatives: &[TypeId],
+) -> Option<SchemaError>
+    ensures { let f = shape_of_type types.now levels in
+        MatchOption result (AreDistinctAlternatives f alternatives.now) (λ e. IsAlternativesFault f id alternatives.now e) }
+{
+    for (index, alternative) in alternatives.iter().enumerate() {
+        if let Some(other) = same_alternative(types, levels, alternatives, index, *alternative) {
+            return Some(SchemaError::AlternativesClash { id, index, other });
+        }
+    }
+    None
+}
+
+/// Returns what is wrong with a CHOICE.
+fn choice_fault(
+    types: &[Type],
+    levels: usize,
+    id: TypeId,
+    alternatives: &[TypeId],
+) -> Option<SchemaError>
+    ensures { let f = shape_of_type types.now levels in
+        MatchOption result
+        ((alternatives.now ≢ []) × AreLowerAndTagged f id alternatives.now × AreDistinctAlternatives f alternatives.now)
+        (λ e. IsAlternativesFault f id alternatives.now e) }
+{
+    if alternatives.is_empty() {
+        return Some(SchemaError::NoAlternatives { id });
+    }
+    if let Some(fault) = late_or_untagged(types, levels, id, alternatives) {
+        return Some(fault);
+    }
+    alternatives_clash(types, levels, id, alternatives)
+}
+
+/// Returns the index of the first component after `index` that may follow if that one is absent, and may begin with the tag (X.680 25.6).
+fn same_component(
+    types: &[Type],
+    levels: usize,
+    components: &[Component],
+    index: usize,
+    tag: Tag,
+) -> Option<usize>
+    requires { index < length components.now }
+    ensures { let f = shape_of_type types.now levels in
+        MatchOption result
+        ((j : ℕ) (q : _) → MayFollow components.now index j → Some q ≡ slice_get components.now j → IsFirst (f q.type_id) tag → ⊥)
+        (λ j. MayFollow components.now index j × ((q : Component) × (Some q ≡ slice_get components.now j) × IsFirst (f q.type_id) tag)) }
+{
+    for other in index + 1..components.len() {
+        let component = &components[other];
+        if begins(types, levels, component.type_id, tag) {
+            return Some(other);
+        }
+        if is_always_there(component) {
+            return None;
+        }
+    }
+    None
+}
+
+/// Returns what is wrong with a component of a SEQUENCE, if it may be absent.
+fn component_fault(
+    types: &[Type],
+    levels: usize,
+    id: TypeId,
+    components: &[Component],
+    index: usize,
+    component: &Component,
+) -> Option<SchemaError>
+    requires { index < length components.now }
+    ensures { let f = shape_of_type types.now levels in
+        MatchOption result
+        ((j : ℕ) (q : _) → Some q ≡ slice_get components.now j → (IsAlwaysThere (presence_of component.now.presence) → ⊥) → MayFollow components.now index j
+        → IsToldFrom (own_at types.now component.now.type_id) (f q.type_id))
+        (λ e. (tag : _) → Some component.now ≡ slice_get components.now index → IsSequenceFault (own_at types.now) f id tag components.now e) }
+{
+    if is_always_there(component) {
+        return None;
+    }
+    let tag = tag_at(types, component.type_id);
+    if is_no_tag(tag) {
+        if index + 1 < components.len() {
+            return Some(SchemaError::UntaggedComponent { id, index });
+        }
+        return None;
+    }
+    match same_component(types, levels, components, index, tag) {
+        Some(other) => Some(SchemaError::ComponentsClash { id, index, other }),
+        None => None,
+    }
+}
+
+/// Returns the first component of a SEQUENCE that may be absent and isn't told from what may follow then (X.680 25.6).
+fn components_clash(
+    types: &[Type],
+    levels: usize,
+    id: TypeId,
+    components: &[Component],
+) -> Option<SchemaError>
+    ensures { let f = shape_of_type types.now levels in
+        MatchOption result (AreToldInOrder (own_at types.now) f components.now) (λ e. (tag : _) → IsSequenceFault (own_at types.now) f id tag components.now e) }
+{
+    for (index, component) in components.iter().enumerate() {
+        if let Some(fault) = component_fault(types, levels, id, components, index, component) {
+            return Some(fault);
+        }
+    }
+    None
+}
+
+/// Returns what is wrong with a SEQUENCE.
+fn sequence_fault(
+    types: &[Type],
+    levels: usize,
+    id: TypeId,
+    tag: Tag,
+    components: &[Component],
+) -> Option<SchemaError>
+    ensures { let f = shape_of_type types.now levels in
+        MatchOption result ((tag ≢ eoc) × AreToldInOrder (own_at types.now) f components.now) (λ e. IsSequenceFault (own_at types.now) f id tag components.now e) }
+{
+    if is_no_tag(tag) {
+        return Some(SchemaError::ReservedTag { id });
+    }
+    components_clash(types, levels, id, components)
+}
+
+/// Returns the first component of a SET that is an extension addition, or has no tag.
+fn addition_or_untagged(
+    types: &[Type],
+    levels: usize,
+    id: TypeId,
+    components: &[Component],
+) -> Option<SchemaError>
+    ensures { let f = shape_of_type types.now levels in
+        MatchOption result (AreTagged f components.now) (λ e. (tag : _) → IsSetFault f id tag components.now e) }
+{
+    for (index, component) in components.iter().enumerate() {
+        if is_addition(component) {
+            return Some(SchemaError::AdditionInSet { id, index });
+        }
+        if !has_tag(types, levels, component.type_id) {
+            return Some(SchemaError::UntaggedInSet { id, index });
+        }
+    }
+    None
+}
+
+/// Returns the index of the first component after `index` that isn't after `component` in the order of tags.
+fn not_after(
+    types: &[Type],
+    levels: usize,
+    components: &[Component],
+    index: usize,
+    component: &Component,
+) -> Option<(usize, TypeId)>
+    requires { index < length components.now }
+    ensures { let f = shape_of_type types.now levels in
+        MatchOption result
+        ((j : ℕ) (q : _) → index < j → Some q ≡ slice_get components.now j → IsBefore (f component.now.type_id) (f q.type_id))
+        (λ r. (index < r.0) × ((q : Component) × (Some q ≡ slice_get components.now r.0) × (q.type_id ≡ r.1) × (IsBefore (f component.now.type_id) (f q.type_id) → ⊥))) }
+{
+    for other in index + 1..components.len() {
+        let next = &components[other];
+        if !is_before(types, levels, component.type_id, levels, next.type_id) {
+            return Some((other, next.type_id));
+        }
+    }
+    None
+}
+
+/// Returns the first two components of a SET that may begin with the same tag, or aren't in the order of their tags (X.680 8.6, 27.3).
+fn set_clash(
+    types: &[Type],
+    levels: usize,
+    id: TypeId,
+    components: &[Component],
+) -> Option<SchemaError>
+    ensures { let f = shape_of_type types.now levels in
+        MatchOption result (AreInOrderOfTags f components.now) (λ e. (tag : _) → IsSetFault f id tag components.now e) }
+{
+    for (index, component) in components.iter().enumerate() {
+        if let Some((other, next)) = not_after(types, levels, components, index, component) {
+            if is_distinct(types, levels, component.type_id, levels, next) {
+                return Some(SchemaError::SetOutOfOrder { id, index, other });
+            }
+            return Some(SchemaError::SetClash { id, index, other });
+        }
+    }
+    None
+}
+
+/// Returns what is wrong with a SET.
+fn set_fault(
+    types: &[Type],
+    levels: usize,
+    id: TypeId,
+    tag: Tag,
+    components: &[Component],
+) -> Option<SchemaError>
+    ensures { let f = shape_of_type types.now levels in
+        MatchOption result ((tag ≢ eoc) × AreTagged f components.now × AreInOrderOfTags f components.now) (λ e. IsSetFault f id tag components.now e) }
+{
+    if is_no_tag(tag) {
+        return Some(SchemaError::ReservedTag { id });
+    }
+    if let Some(fault) = addition_or_untagged(types, levels, id, components) {
+        return Some(fault);
+    }
+    set_clash(types, levels, id, components)
+}
+
+/// Returns what is wrong with a type.
+fn type_fault(types: &[Type], levels: usize, id: TypeId, ty: &Type) -> Option<SchemaError>
+    requires { levels ≢ 0 }
+    ensures { let f = shape_of_type types.now levels in
+        MatchOption result (IsWellFormed (own_at types.now) f id ty.now) (λ e. IsFaultOf (own_at types.now) f id ty.now e) }
+{
+    match ty {
+        Type::Leaf { kind, tag, .. } => leaf_fault(id, *kind, *tag),
+        Type::Any { .. } => None,
+        Type::Choice { alternatives } => choice_fault(types, levels, id, alternatives),
+        Type::Tagged { tag, inner } => tagged_fault(types, levels, id, *tag, *inner),
+        Type::Sequence { tag, components } => sequence_fault(types, levels, id, *tag, components),
+        Type::Set { tag, components } => set_fault(types, levels, id, *tag, components),
+        Type::SequenceOf { tag, .. } => tag_fault(id, *tag),
+        Type::SetOf { tag, .. } => tag_fault(id, *tag),
+    }
+}
+
+/// Returns what is wrong with the first CHOICE that breaks a rule. One that keeps them refers to lower numbers alone, so that no CHOICE
+/// leads back to itself.
+pub fn first_choice_fault(types: &[Type], levels: usize) -> Option<SchemaError>
+    requires { levels ≢ 0 }
+    ensures { let f = shape_of_type types.now levels in
+        MatchOption result (AreChoicesWellFormed (own_at types.now) f types.now) (λ e. SomeFault (own_at types.now) f types.now e) }
+{
+    for (number, ty) in types.iter().enumerate() {
+        if let Type::Choice { .. } = ty {
+            if let Some(fault) = type_fault(types, levels, number, ty) {
+                return Some(fault);
+            }
+        }
+    }
+    None
+}
+
+/// Returns what is wrong with the first type that breaks a rule.
+pub fn first_fault(types: &[Type], levels: usize) -> Option<SchemaError>
+    requires { levels ≢ 0 }
+    ensures { let f = shape_of_type types.now levels in
+        MatchOption result (AreWellFormed (own_at types.now) f types.now) (λ e. SomeFault (own_at types.now) f types.now e) }
+{
+    for (number, ty) in types.iter().enumerate() {
+        if let Some(fault) = type_fault(types, levels, number, ty) {
+            return Some(fault);
+        }
+    }
+    None
+}

@@ -1,0 +1,155 @@
+//! Types, and the components of those that have some.
+ghost use Rattle.std.specs.Prelude.{◌≡◌, slice_get, option_copied};
+ghost use Rattle.rasn_schema.specs.Shapes.{tag_of_type, tag_at};
+
+use crate::type_id::TypeId;
+use rasn_types::types::{BitString, Constraints, Integer, Tag};
+
+/// What a value that holds no other values is.
+#[derive(Clone, Copy, Debug, PartialEq, Eq)]
+pub enum LeafKind {
+    /// A BOOLEAN (X.690 8.2).
+    Boolean,
+    /// A NULL (X.690 8.8).
+    Null,
+    /// An OBJECT IDENTIFIER (X.690 8.19).
+    ObjectIdentifier,
+    /// A BIT STRING (X.690 8.6).
+    BitString,
+    /// An OCTET STRING (X.690 8.7).
+    OctetString,
+    /// An INTEGER (X.690 8.3).
+    Integer,
+    /// A NumericString.
+    Numeric,
+    /// A PrintableString.
+    Printable,
+    /// A VisibleString.
+    Visible,
+    /// An IA5String.
+    Ia5,
+    /// A string of any octets: a GeneralString, GraphicString, TeletexString or VideotexString.
+    AnyOctets,
+    /// A BMPString.
+    Bmp,
+    /// A UTF8String.
+    Utf8,
+    /// A UTCTime (X.690 11.8).
+    UtcTime,
+    /// A GeneralizedTime (X.690 11.7).
+    GeneralizedTime,
+    /// A DATE.
+    Date,
+}
+
+/// A type. Other types that it is made of are named by their numbers in the schema.
+#[derive(Drop)]
+pub enum Type {
+    /// A type whose values hold no other values.
+    Leaf {
+        kind: LeafKind,
+        tag: Tag,
+        constraints: Constraints,
+    },
+    /// An open type: any value with this tag or, if it is `Tag::EOC`, with any tag.
+    Any {
+        tag: Tag,
+    },
+    /// A type with an explicit tag (X.680 31.2).
+    Tagged {
+        tag: Tag,
+        inner: TypeId,
+    },
+    /// A CHOICE (X.680 29). Each alternative has a lower number than the CHOICE.
+    Choice {
+        alternatives: Vec<TypeId>,
+    },
+    /// A SEQUENCE (X.680 25).
+    Sequence {
+        tag: Tag,
+        components: Vec<Component>,
+    },
+    /// A SET (X.680 27), its components in the order of their tags (X.680 8.6).
+    Set {
+        tag: Tag,
+        components: Vec<Component>,
+    },
+    /// A SEQUENCE OF (X.680 26), with a bound of its size.
+    SequenceOf {
+        tag: Tag,
+        element: TypeId,
+        constraints: Constraints,
+    },
+    /// A SET OF (X.680 28), with a bound of its size.
+    SetOf {
+        tag: Tag,
+        element: TypeId,
+        constraints: Constraints,
+    },
+}
+
+/// A component of a SEQUENCE or a SET.
+#[derive(Drop)]
+pub struct Component {
+    /// Whether it may be absent.
+    pub presence: Presence,
+    /// The number of its type.
+    pub type_id: TypeId,
+}
+
+/// Whether a component may be absent (X.680 25).
+#[derive(Drop)]
+pub enum Presence {
+    /// It is always present.
+    Required,
+    /// OPTIONAL.
+    Optional,
+    /// An extension addition with an explicit tag, which is always present.
+    Addition,
+    /// DEFAULT: it has this value if it is absent.
+    Default(Constant),
+}
+
+/// The value of a component that is absent.
+#[derive(Debug, Drop)]
+pub enum Constant {
+    /// Of a BOOLEAN (0 or 1) or an INTEGER.
+    Number(Integer),
+    /// Of a BIT STRING.
+    Bits(BitString),
+}
+
+impl Type {
+    /// Returns the type's own tag, or `Tag::EOC` if it has none, as a CHOICE.
+    pub fn tag(&self) -> Tag
+        ensures { result ≡ tag_of_type self.now }
+    {
+        match self {
+            Type::Leaf { tag, .. } => *tag,
+            Type::Any { tag } => *tag,
+            Type::Tagged { tag, .. } => *tag,
+            Type::Choice { .. } => Tag::EOC,
+            Type::Sequence { tag, .. } => *tag,
+            Type::Set { tag, .. } => *tag,
+            Type::SequenceOf { tag, .. } => *tag,
+            Type::SetOf { tag, .. } => *tag,
+        }
+    }
+}
+
+/// Returns the type with this number, if there is one.
+pub fn type_at(types: &[Type], id: TypeId) -> Option<&Type>
+    ensures { option_copied result ≡ slice_get types.now id }
+{
+    types.get(id)
+}
+
+/// Returns the own tag of the type with this number, or `Tag::EOC` if it has none.
+pub fn tag_at(types: &[Type], id: TypeId) -> Tag
+    ensures { result ≡ tag_at types.now id }
+{
+    match type_at(types, id) {
+        Some(ty) => ty.tag(),
+        None => Tag::EOC,
+    }
+}
