@@ -1,0 +1,90 @@
+-- A value that holds others is written if its contents are.
+use Rattle.std.proofs.Common.{◌≡◌, ◌⊎◌, inl, inr, ◌<◌, ◌∷◌, [], ℕ, List, Bool, length, Result, Ok, Err, OnOk, OnErr, IfErr, refl, sym, ap, ◌∙◌, subst, arith}
+use Rattle.std.proofs.lemmas.List.{length-append}
+use Rattle.std.proofs.lemmas.Result.{IfErr-weaker}
+use Rattle.rasn_types.specs.declared.types.codec.Codec.{Codec}
+use Rattle.rasn_types.specs.declared.types.tag.Tag.{Tag}
+use Rattle.rasn_types.specs.declared.error.encode.EncodeError.{EncodeError}
+use Rattle.rasn_types.specs.Errors.{IsEncodeOutOfMemory}
+use Rattle.rasn_types.specs.Shapes.{Tree, Shape, leaf, any, prefix, choice, option, seq, set, list, set_of}
+use Rattle.rasn_types.specs.Contents.{joined_lists}
+use Rattle.rasn_types.specs.Bytes.{Bytes, IsUntaggedOpen, ConstructedEncoding}
+use Rattle.rasn_enc.specs.View.{View, IsBelow, opened}
+use Rattle.rasn_enc.specs.Primitive.{Appends, IsAllocError}
+use Rattle.rasn_enc.specs.Encoding.{AppendsEncoding, EncodeFails}
+use Rattle.rasn_enc.proofs.Leaves.Primitive.{cons_begins, encoded_one}
+use Rattle.rasn_dynamic.specs.Written.{WritesInside, IsEnclosed, EncodesInside}
+
+module _ (rule : Codec) (t : Tree) (u : Tag) (keeps : Bool) where
+  bytes_of : (s : Shape) → IsEnclosed s u keeps → (c o : List ℕ) → WritesInside rule s t c → ConstructedEncoding rule u c o → Bytes rule s t o
+  unfolding Bytes WritesInside
+  bytes_of (leaf kind tag bounds) i c o w d = absurd i
+  bytes_of (any tag) i c o w d = absurd i
+  bytes_of (prefix tag s) (e, k) c o w d = (c, w, subst (λ z. ConstructedEncoding rule z c o) e d)
+  bytes_of (choice ps) i c o w d = absurd i
+  bytes_of (option tag s) i c o w d = absurd i
+  bytes_of (seq tag ps) (e, k) c o (ts, bs, f, p, j) d = (ts, bs, f, p, subst (λ z. ConstructedEncoding rule z (joined_lists bs) o) e (subst (λ z. ConstructedEncoding rule u z o) j d))
+  bytes_of (set tag ps) (e, k) c o (ts, bs, tags, f, p, n, h, a, j) d = (ts, bs, tags, f, p, n, h, a, subst (λ z. ConstructedEncoding rule z (joined_lists bs) o) e (subst (λ z. ConstructedEncoding rule u z o) j d))
+  bytes_of (list tag s size) (e, k) c o (ts, bs, f, m, p, j) d = (ts, bs, f, m, p, subst (λ z. ConstructedEncoding rule z (joined_lists bs) o) e (subst (λ z. ConstructedEncoding rule u z o) j d))
+  bytes_of (set_of tag s size) (e, k) c o (ts, bs, f, m, p, a, j) d = (ts, bs, f, m, p, a, subst (λ z. ConstructedEncoding rule z (joined_lists bs) o) e (subst (λ z. ConstructedEncoding rule u z o) j d))
+
+  inside_of : (s : Shape) → IsEnclosed s u keeps → (o : List ℕ) → Bytes rule s t o → (c : List ℕ) × WritesInside rule s t c
+  unfolding Bytes WritesInside
+  inside_of (leaf kind tag bounds) i o b = absurd i
+  inside_of (any tag) i o b = absurd i
+  inside_of (prefix tag s) i o (c, w, d) = (c, w)
+  inside_of (choice ps) i o b = absurd i
+  inside_of (option tag s) i o b = absurd i
+  inside_of (seq tag ps) i o (ts, bs, f, p, d) = (joined_lists bs, (ts, bs, f, p, refl))
+  inside_of (set tag ps) i o (ts, bs, tags, f, p, n, h, a, d) = (joined_lists bs, (ts, bs, tags, f, p, n, h, a, refl))
+  inside_of (list tag s size) i o (ts, bs, f, m, p, d) = (joined_lists bs, (ts, bs, f, m, p, refl))
+  inside_of (set_of tag s size) i o (ts, bs, f, m, p, a, d) = (joined_lists bs, (ts, bs, f, m, p, a, refl))
+
+  not_untagged : (s : Shape) → IsEnclosed s u keeps → IsUntaggedOpen s t → ⊥
+  unfolding IsUntaggedOpen
+  not_untagged (leaf kind tag bounds) i b = i
+  not_untagged (any tag) i b = i
+  not_untagged (prefix tag s) i b = b
+  not_untagged (choice ps) i b = i
+  not_untagged (option tag s) i b = i
+  not_untagged (seq tag ps) i b = b
+  not_untagged (set tag ps) i b = b
+  not_untagged (list tag s size) i b = b
+  not_untagged (set_of tag s size) i b = b
+
+-- v before the value was opened, w after its contents were written with the result q.
+module _ (s : Shape) (t : Tree) (tag : Tag) (keeps : Bool) (i : IsEnclosed s tag keeps) (v a w : View) (o : a ≡ opened v keeps) (q : Result (Unit {0}) EncodeError) (k : EncodesInside s t a q w) where
+  pub is_below : IsBelow v w
+  is_below = (k.keeps.rule ∙ ap (λ (x : View). x.rule) o, k.keeps.below ∙ ap (λ (x : View). x.below) o)
+
+  pub some_below : 0 < length w.below
+  some_below = let l = ap length is_below.1 in omega (arith, l, length-append v.below (v.last ∷ []))
+
+  rule_is : a.rule ≡ v.rule
+  rule_is = ap (λ (x : View). x.rule) o
+
+  pub enclosed_ok : (r : Result (Unit {0}) EncodeError) (x : View) → OnOk r (q ≡ Ok tt) → OnOk r ((y : View) → IsBelow y w → Appends (ConstructedEncoding y.rule tag w.last.octets) tag y x)
+      → OnOk r (AppendsEncoding s t v x)
+  enclosed_ok (Ok tt) x e h =
+      let c = subst (λ z. OnOk z (WritesInside a.rule s t w.last.octets)) e k.ok in
+      let d = subst (λ z. WritesInside z s t w.last.octets) rule_is c in
+      encoded_one (ConstructedEncoding v.rule tag w.last.octets) tag s t v x (h v is_below) (not_untagged v.rule t tag keeps s i)
+      (λ b f. cons_begins v.rule tag w.last.octets b f) (λ b f. bytes_of v.rule t tag keeps s i w.last.octets b d f)
+  enclosed_ok (Err y) x e h = tt
+
+  pub enclosed_err : (r : Result (Unit {0}) EncodeError) (x : View) → OnErr r ((y : View) → IsBelow y w → x ≡ y) → OnErr r (x ≡ v)
+  enclosed_err (Ok y) x h = tt
+  enclosed_err (Err y) x h = h v is_below
+
+  pub enclosed_refused : (r : Result (Unit {0}) EncodeError) → IfErr r (λ e. IsAllocError w.rule e ⊎ (q ≡ Err e)) → IfErr r (EncodeFails s t v)
+  enclosed_refused r h = IfErr-weaker r _ _ (λ e. elim [
+    | inl m ↦ record { why = inl (ap (λ (x : EncodeError). x.kind) m) }
+    | inr p ↦ elim (subst (λ z. IfErr z (λ x. IsEncodeOutOfMemory x.kind ⊎ ((c : List ℕ) → WritesInside a.rule s t c → ⊥))) p k.refused) [
+      | inl m ↦ record { why = inl m }
+      | inr n ↦ record {
+        why = inr (inl (record {
+          none = λ octets b. let y = inside_of v.rule t tag keeps s i octets b in n y.0 (subst (λ z. WritesInside z s t y.0) (sym rule_is) y.1);
+        }));
+      }
+    ]
+  ]) h

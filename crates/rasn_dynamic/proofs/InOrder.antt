@@ -1,0 +1,69 @@
+-- The contents of a SEQUENCE: its components in their order, or nothing, if none is required.
+use Rattle.std.proofs.Common.{◌≡◌, ℕ, Bool, false, ◌||◌, List, [], ◌∷◌, Result, Ok, Err, refl, sym, ◌∙◌, subst}
+use Rattle.rasn_types.specs.declared.types.codec.Codec.{Codec}
+use Rattle.rasn_types.specs.Shapes.{Tree, items, Shape, Parts, part}
+use Rattle.rasn_types.specs.Shapes.Parts.{none}
+use Rattle.rasn_types.specs.Readings.{AllMissing}
+use Rattle.rasn_types.specs.Readings.{presences_in as presences_of_parts}
+use Rattle.rasn_types.specs.Grammar.{parts_of}
+use Rattle.rasn_types.specs.Described.{has_required}
+use Rattle.rasn_types.specs.Lawful.{IsLawful, AreLawfulInOrder}
+use Rattle.rasn_de.specs.State.{State}
+use Rattle.rasn_de.specs.Outcomes.{Exact, Outcome, Got, outcome}
+use Rattle.rasn_de.specs.Decodes.{DecodesExactly, ReadsParts}
+use Rattle.rasn_de.proofs.Leaves.Outcomes.{alloc_failed_before}
+use Rattle.rasn_de.proofs.Headers.Ends.{IsEnd-refl}
+use Rattle.rasn_de.proofs.Constructed.SequenceContents.{no_required, not_required, untagged_exact, parts_exact}
+use Rattle.rasn_schema.specs.declared.types.Component.{Component}
+use Rattle.rasn_schema.specs.declared.types.Presence.TheVariants.{Required, Optional, Addition, Default}
+use Rattle.rasn_schema.specs.declared.types.Presence.{Presence as PartPresence}
+use Rattle.rasn_schema.specs.declared.value.Value.{Value}
+use Rattle.rasn_schema.specs.Trees.{tree_of}
+use Rattle.rasn_schema.specs.Shapes.{components_by, presence_of, presences_in, AreLawful}
+use Rattle.rasn_dynamic.specs.Inside.{ReadsSequence}
+use Rattle.rasn_dynamic.specs.Calls.{is_required, any_required, LeavesAllOut, MakesMissing}
+
+module _ (f : ℕ → Shape) where
+  one_required : (p : PartPresence) (s : Shape) (ps : Parts) → has_required (part (presence_of p) s ps) ≡ is_required p || has_required ps
+  one_required Required s ps = refl
+  one_required Optional s ps = refl
+  one_required Addition s ps = refl
+  one_required (Default c) s ps = refl
+
+  required_same : (ps : List Component) → has_required (components_by f ps) ≡ any_required ps
+  required_same [] = refl
+  required_same (p ∷ ps) = rw (← required_same ps) (one_required p.presence (f p.type_id) (components_by f ps))
+
+  missing_same : (rule : Codec) (ps : List Component) (depth : ℕ) (closing : Bool) (ts : List Tree) → AllMissing (presences_in ps) ts → AllMissing (presences_of_parts (parts_of rule (components_by f ps) depth closing)) ts
+  unfolding parts_of
+  missing_same rule [] depth closing ts e = e
+  missing_same rule (p ∷ ps) depth closing ts (t, us, e, m, h) = (t, us, e, m, missing_same rule ps depth closing us h)
+
+  pub lawful_parts : (ps : Parts) → AreLawfulInOrder ps → AreLawful ps
+  unfolding IsLawful
+  lawful_parts none h = tt
+  lawful_parts (part p s ps) h = (h.1, lawful_parts ps h.3)
+
+  module _ (ps : List Component) (old : State) where
+    left_exact : (t : Tree) (ts : List Tree) → any_required ps ≡ false → t ≡ items ts → AllMissing (presences_in ps) ts → (c : Bool) (i : List ℕ) → c ≡ false → i ≡ []
+        → Exact (ReadsSequence (components_by f ps) old.rule old.depth c) i (Got t i)
+    left_exact t ts n e m c i h g =
+        subst (λ b. Exact (ReadsSequence (components_by f ps) old.rule old.depth b) i (Got t i)) (sym h)
+        (subst (λ l. Exact (ReadsSequence (components_by f ps) old.rule old.depth false) l (Got t l)) (sym g)
+        (untagged_exact old.rule (parts_of old.rule (components_by f ps) old.depth false) t ts
+        (no_required old.rule (components_by f ps) old.depth false (required_same ps ∙ n)) e (missing_same old.rule ps old.depth false ts m)))
+
+    -- All parts are left out.
+    pub all_left : LeavesAllOut ps old → (r : Result Value _) → MakesMissing ps r → DecodesExactly (ReadsSequence (components_by f ps)) old (outcome tree_of r old.rest) old
+    all_left (n, h, g) (Ok v) (ts, e, m) = record { stays = refl; end = IsEnd-refl old.rest; exact = left_exact (tree_of v) ts n e m old.closing old.rest h g }
+    all_left l (Err e) m = alloc_failed_before (ReadsSequence (components_by f ps)) tree_of old old e m refl
+
+    -- Else they are read in their order.
+    pub in_turn : (LeavesAllOut ps old → ⊥) → (o : Outcome) (new : State) → DecodesExactly (ReadsParts (components_by f ps)) old o new → DecodesExactly (ReadsSequence (components_by f ps)) old o new
+    unfolding ReadsParts
+    in_turn n o new a = record {
+      stays = a.stays;
+      end = a.end;
+      exact = parts_exact old.rule (parts_of old.rule (components_by f ps) old.depth old.closing) old.closing old.rest o
+          (λ h. n (sym (required_same ps) ∙ not_required old.rule (components_by f ps) old.depth old.closing h.0, h.1, h.2)) a.exact;
+    }

@@ -1,0 +1,14 @@
+pub mod Inside
+pub mod Contents
+pub mod Nothing
+pub mod OnePart
+pub mod LeftOut
+pub mod Chosen
+pub mod InOrder
+pub mod Pieces
+pub mod Component
+pub mod Enclosed
+pub mod WrittenInside
+pub mod Canonical
+pub mod Fitted
+pub mod SetSlots

@@ -1,0 +1,305 @@
+-- What is written inside values that hold others.
+use Rattle.std.proofs.Common.{◌≡◌, ◌≢◌, ◌≤◌, ◌⊎◌, inl, inr, ◌∷◌, [], ◌++◌, ℕ, List, map, length, Bool, true, false, Option, None, Some, Result, Ok, Err, OnOk, OnErr, IfErr, refl, sym, ap, ◌∙◌, subst}
+use Rattle.rasn_types.specs.declared.types.tag.Tag.{Tag}
+use Rattle.rasn_types.specs.declared.types.constraints.Constraints.{Constraints}
+use Rattle.rasn_types.specs.declared.error.encode.EncodeError.{EncodeError}
+use Rattle.rasn_types.specs.Errors.{IsEncodeOutOfMemory}
+use Rattle.rasn_types.specs.Contents.{joined_lists}
+use Rattle.rasn_types.specs.Shapes.{Tree, items, joined, set_elements, Shape, prefix, seq, set, list, set_of, Parts, part, Presence, required, optional, addition, default, Admits}
+use Rattle.rasn_types.specs.Bytes.{Bytes, WritesPart, fields_of, PartsWritten, TagsOf, Each, AreAscending, IsLess}
+use Rattle.rasn_types.proofs.SetOf.Same.{items_one}
+use Rattle.rasn_types.proofs.Encoding.SameAsItself.{one_writing, parts_one_writing}
+use Rattle.rasn_enc.specs.View.{View, OpenList, fresh, kept_of, AreTagsInOrder, LeavesOthers}
+use Rattle.rasn_enc.specs.Encoding.{AppendsEncoding, AppendsPart, EncodeFails, EncodePartFails}
+use Rattle.rasn_enc.specs.Sequence.{EncodesParts}
+use Rattle.rasn_enc.specs.SequenceOf.{AppendsElements, AppendsSetOf, FailsAtElement, FailsAtElements}
+use Rattle.rasn_enc.proofs.OwnTypes.Sequence.{appended-nil, part_appended, parts_end}
+use Rattle.rasn_enc.proofs.OwnTypes.Set.{tags_one}
+use Rattle.rasn_enc.proofs.Constructed.SequenceOf.{each_at}
+use Rattle.rasn_enc.proofs.Constructed.SetOf.{set_elements_one, front_is, order_front}
+use Rattle.rasn_schema.specs.declared.types.Component.{Component}
+use Rattle.rasn_schema.specs.declared.value.Value.{Value}
+use Rattle.rasn_schema.specs.Trees.{tree_of}
+use Rattle.std.proofs.Common.{zero, suc, ◌<◌, get_or, arith}
+use Rattle.rasn_types.specs.Shapes.{choice, chosen}
+use Rattle.rasn_enc.specs.Choice.{IsAlternative}
+use Rattle.rasn_enc.proofs.OwnTypes.Choice.{chosen_encoded, chosen_refused}
+use Rattle.rasn_schema.specs.Shapes.{components_by, alternatives_by, presence_of}
+use Rattle.rasn_types.specs.Trees.{list_tree}
+use Rattle.rasn_dynamic.specs.Written.{WritesInside, EncodesInside, IsLeftOutAs}
+
+octets_of_fresh : (l : OpenList) (keeps : Bool) → l ≡ fresh keeps → l.octets ≡ []
+octets_of_fresh l keeps e = ap (λ (x : OpenList). x.octets) e
+
+behind_nothing : (v w : View) (keeps : Bool) (octets : List ℕ) → v.last ≡ fresh keeps → w.last.octets ≡ v.last.octets ++ octets → octets ≡ w.last.octets
+behind_nothing v w keeps octets f e = sym (e ∙ ap (λ l. l ++ octets) (octets_of_fresh v.last keeps f))
+
+no_tags : (v : View) → v.last ≡ fresh false → v.last.tags ≡ None
+no_tags v f = ap (λ (x : OpenList). x.tags) f
+
+keeps_tags : (v : View) → v.last ≡ fresh true → v.last.tags ≢ None
+keeps_tags v f e = let g : Some [] ≡ None = sym (ap (λ (x : OpenList). x.tags) f) ∙ e in cc
+
+left_as_it_was : (v w : View) → w ≡ v → LeavesOthers v w
+left_as_it_was v w e = record { rule = ap (λ (x : View). x.rule) e; below = ap (λ (x : View). x.below) e }
+
+-- A refusal from which nothing follows.
+pub inside_misfit : (s : Shape) (t : Tree) (v : View) (e : EncodeError) → IsEncodeOutOfMemory e.kind → EncodesInside s t v (Err e) v
+inside_misfit s t v e m = record { keeps = record { rule = refl; below = refl }; ok = tt; refused = inl m }
+
+pub parts_misfit : (ps : Parts) (t : Tree) (v : View) (e : EncodeError) → IsEncodeOutOfMemory e.kind → EncodesParts ps t v (Err e) v
+parts_misfit ps t v e m = record { keeps = record { rule = refl; below = refl }; ok = tt; refused = record { why = inl m } }
+
+-- ---- an explicit prefix
+
+module _ (tag : Tag) (s : Shape) (t : Tree) (v w : View) (f : v.last ≡ fresh false) where
+  pub prefix_inside : (r : Result (Unit {0}) EncodeError) → OnOk r (AppendsEncoding s t v w) → OnErr r (w ≡ v) → IfErr r (EncodeFails s t v) → EncodesInside (prefix tag s) t v r w
+  unfolding WritesInside
+  prefix_inside (Ok x) a b c = record {
+    keeps = record { rule = ap (λ (x : View). x.rule) a.appended; below = ap (λ (x : View). x.below) a.appended };
+    ok = subst (Bytes v.rule s t) (behind_nothing v w false a.octets f (ap (λ (x : View). x.last.octets) a.appended)) a.defined;
+    refused = tt;
+  }
+  prefix_inside (Err e) a b c = record {
+    keeps = left_as_it_was v w b;
+    ok = tt;
+    refused = elim c.why [
+      | inl m ↦ inl m
+      | inr (inl n) ↦ inr n.none
+      | inr (inr n) ↦ absurd (n.keeps (no_tags v f))
+    ];
+  }
+
+-- ---- a SEQUENCE
+
+module _ (tag : Tag) (ps : Parts) (t u : Tree) (e : t ≡ u) (v w : View) where
+  pub seq_inside : v.last ≡ fresh false → (r : Result (Unit {0}) EncodeError) → EncodesParts ps u v r w → EncodesInside (seq tag ps) t v r w
+  unfolding WritesInside
+  seq_inside f (Ok x) k = record {
+    keeps = k.keeps;
+    ok = (k.ok.trees, k.ok.encoded, e ∙ k.ok.is, k.ok.written, sym (behind_nothing v w false (joined_lists k.ok.encoded) f (ap (λ (x : View). x.last.octets) k.ok.appended)));
+    refused = tt;
+  }
+  seq_inside f (Err x) k = record {
+    keeps = k.keeps;
+    ok = tt;
+    refused = elim k.refused.why [
+      | inl m ↦ inl m
+      | inr (inl n) ↦ inr (λ c b. n.none b.0 b.1 (sym e ∙ b.2) b.3)
+      | inr (inr n) ↦ absurd (n.keeps (no_tags v f))
+    ];
+  }
+
+  -- ---- a SET
+
+  pub set_inside_refused : (x : EncodeError) → EncodesParts ps u v (Err x) w → EncodesInside (set tag ps) t v (Err x) w
+  unfolding WritesInside
+  set_inside_refused x k = record {
+    keeps = k.keeps;
+    ok = tt;
+    refused = elim k.refused.why [
+      | inl m ↦ inl m
+      | inr (inl n) ↦ inr (λ c b. n.none b.0 b.1 (sym e ∙ b.3) b.4)
+      | inr (inr n) ↦ inr (λ c b. n.bare b.0 b.1 (sym e ∙ b.3) b.4 b.5)
+    ];
+  }
+
+  module _ (f : v.last ≡ fresh true) (k : EncodesParts ps u v (Ok tt) w) where
+    kept_are : kept_of w.last.tags ≡ k.ok.tags
+    kept_are = ap (λ (x : View). kept_of x.last.tags) k.ok.appended ∙ tags_behind v.last.tags (ap (λ (x : OpenList). x.tags) f)
+      where
+        tags_behind : (o : Option (List Tag)) → o ≡ Some [] → kept_of (Rattle.std.proofs.Common.option_map (λ kept. kept ++ k.ok.tags) o) ≡ k.ok.tags
+        tags_behind None h = cc
+        tags_behind (Some l) h = let g : l ≡ [] = cc in ap (λ m. m ++ k.ok.tags) g
+
+    pub set_inside_ok : AreTagsInOrder w → EncodesInside (set tag ps) t v (Ok tt) w
+    unfolding WritesInside
+    set_inside_ok order = record {
+      keeps = k.keeps;
+      ok = (
+        k.ok.trees,
+        k.ok.encoded,
+        k.ok.tags,
+        e ∙ k.ok.is,
+        k.ok.written,
+        k.ok.tagged (keeps_tags v f),
+        k.ok.heads (keeps_tags v f),
+        subst (AreAscending Rattle.rasn_types.specs.Tags.IsTagBelow) kept_are order,
+        sym (behind_nothing v w true (joined_lists k.ok.encoded) f (ap (λ (x : View). x.last.octets) k.ok.appended)),
+      );
+      refused = tt;
+    }
+
+    pub set_inside_unordered : (AreTagsInOrder w → ⊥) → (x : EncodeError) → EncodesInside (set tag ps) t v (Err x) w
+    unfolding WritesInside
+    set_inside_unordered falls x = record {
+      keeps = k.keeps;
+      ok = tt;
+      refused = inr (λ c b.
+          let p = k.ok in
+          let i : p.trees ≡ b.0 = items_one p.trees b.0 (sym p.is ∙ (sym e ∙ b.3)) in
+          let j : p.encoded ≡ b.1 = parts_one_writing ps v.rule p.trees p.encoded b.1 p.written (subst (λ l. PartsWritten (fields_of v.rule ps) l b.1) (sym i) b.4) in
+          let q : b.2 ≡ p.tags = tags_one b.1 b.2 p.tags b.6 (subst (λ l. TagsOf l p.tags) j (p.heads (keeps_tags v f))) in
+          falls (subst (AreAscending Rattle.rasn_types.specs.Tags.IsTagBelow) (q ∙ sym kept_are) b.7));
+    }
+
+-- ---- elements
+
+module _ (tag : Tag) (s : Shape) (c : Constraints) (t : Tree) (l : List Value) (v w : View) (f : v.last ≡ fresh false) where
+  abbrev trees : List Tree
+  trees = map tree_of l
+
+  abbrev AdmitsAll : Type 0
+  AdmitsAll = Admits ◌≤◌ c.size (length trees)
+
+  pub list_inside : t ≡ items trees → AdmitsAll → LeavesOthers v w → (r : Result (Unit {0}) EncodeError) → OnOk r (AppendsElements s trees v w) → IfErr r (FailsAtElement s trees v.rule) → EncodesInside (list tag s c.size) t v r w
+  unfolding WritesInside
+  list_inside e a k (Ok x) p q = record {
+    keeps = k;
+    ok = (trees, p.encoded, e, a, p.each, sym (behind_nothing v w false (joined_lists p.encoded) f p.octets));
+    refused = tt;
+  }
+  list_inside e a k (Err x) p q = record {
+    keeps = k;
+    ok = tt;
+    refused = elim q.why [
+      | inl m ↦ inl m
+      | inr n ↦ inr (λ o b.
+          let g = each_at (Bytes v.rule s) q.front q.tree q.back b.1 (subst (λ m. Each (Bytes v.rule s) m b.1) (sym (items_one trees b.0 (sym e ∙ b.2)) ∙ q.is) b.4) in
+          n.none g.0 g.1)
+    ];
+  }
+
+  pub set_of_inside : t ≡ set_elements (items trees) → AdmitsAll → LeavesOthers v w → (r : Result (Unit {0}) EncodeError) → OnOk r (AppendsSetOf s trees v w) → IfErr r (FailsAtElements s trees v.rule) → EncodesInside (set_of tag s c.size) t v r w
+  unfolding WritesInside
+  set_of_inside e a k (Ok x) p q = record {
+    keeps = k;
+    ok = (trees, p.wrote.encoded, e, a, p.wrote.each, p.order, sym (behind_nothing v w false (joined_lists p.wrote.encoded) f p.wrote.octets));
+    refused = tt;
+  }
+  set_of_inside e a k (Err x) p (inl q) = record {
+    keeps = k;
+    ok = tt;
+    refused = elim q.element.why [
+      | inl m ↦ inl m
+      | inr n ↦ inr (λ o b.
+          let g = each_at (Bytes v.rule s) q.element.front q.element.tree q.element.back b.1
+          (subst (λ m. Each (Bytes v.rule s) m b.1) (sym (items_one trees b.0 (set_elements_one (items trees) (items b.0) (sym e ∙ b.2))) ∙ q.element.is) b.4) in
+          n.none g.0 g.1)
+    ];
+  }
+  set_of_inside e a k (Err x) p (inr q) = record {
+    keeps = k;
+    ok = tt;
+    refused = inr (λ o b.
+        let g = front_is (Bytes v.rule s) (one_writing s v.rule) q.front q.tree q.back q.encoded b.1 q.octets q.before q.defined
+        (subst (λ m. Each (Bytes v.rule s) m b.1) (sym (items_one trees b.0 (set_elements_one (items trees) (items b.0) (sym e ∙ b.2))) ∙ q.is) b.4) in
+        q.falls (order_front q.encoded q.octets g.0 (subst (AreAscending IsLess) g.1 b.5)));
+  }
+
+  pub list_unsized : t ≡ items trees → (AdmitsAll → ⊥) → (x : EncodeError) → EncodesInside (list tag s c.size) t v (Err x) v
+  unfolding WritesInside
+  list_unsized e n x = record {
+    keeps = record { rule = refl; below = refl };
+    ok = tt;
+    refused = inr (λ o b. n (subst (λ m. Admits ◌≤◌ c.size (length m)) (sym (items_one trees b.0 (sym e ∙ b.2))) b.3));
+  }
+
+  pub set_of_unsized : t ≡ set_elements (items trees) → (AdmitsAll → ⊥) → (x : EncodeError) → EncodesInside (set_of tag s c.size) t v (Err x) v
+  unfolding WritesInside
+  set_of_unsized e n x = record {
+    keeps = record { rule = refl; below = refl };
+    ok = tt;
+    refused = inr (λ o b. n (subst (λ m. Admits ◌≤◌ c.size (length m)) (sym (items_one trees b.0 (set_elements_one (items trees) (items b.0) (sym e ∙ b.2)))) b.3));
+  }
+
+-- ---- one component
+
+module _ (s : Shape) (t : Tree) (v w : View) where
+  pub part_left : (p : Presence) → IsLeftOutAs p t → AppendsPart p s t v v
+  part_left required e = absurd e
+  part_left optional e = record { octets = []; defined = inl (e, refl); tags = []; heads = λ k. refl; tagged = λ k b. refl; appended = appended-nil v }
+  part_left addition e = record { octets = []; defined = inl (e, refl); tags = []; heads = λ k. refl; tagged = λ k b. refl; appended = appended-nil v }
+  part_left (default d) e = record { octets = []; defined = inl (e, refl); tags = []; heads = λ k. refl; tagged = λ k b. refl; appended = appended-nil v }
+
+  writes : (p : Presence) → (IsLeftOutAs p t → ⊥) → (R : Tree → List ℕ → Type 0) (o : List ℕ) → R t o → WritesPart p R t o
+  writes required n R o h = h
+  writes optional n R o h = inr (n, h)
+  writes addition n R o h = inr (n, h)
+  writes (default d) n R o h = inr (n, h)
+
+  written : (p : Presence) → (IsLeftOutAs p t → ⊥) → (R : Tree → List ℕ → Type 0) (o : List ℕ) → WritesPart p R t o → R t o
+  written required n R o h = h
+  written optional n R o (inl (e, f)) = absurd (n e)
+  written optional n R o (inr (m, h)) = h
+  written addition n R o (inl (e, f)) = absurd (n e)
+  written addition n R o (inr (m, h)) = h
+  written (default d) n R o (inl (e, f)) = absurd (n e)
+  written (default d) n R o (inr (m, h)) = h
+
+  module _ (p : Presence) (n : IsLeftOutAs p t → ⊥) where
+    pub part_put : (r : Result (Unit {0}) EncodeError) → OnOk r (AppendsEncoding s t v w) → OnOk r (AppendsPart p s t v w)
+    part_put (Ok x) a = record { octets = a.octets; defined = writes p n (Bytes v.rule s) a.octets a.defined; tags = a.tags; heads = a.heads; tagged = a.tagged; appended = a.appended }
+    part_put (Err x) a = tt
+
+    pub part_not_put : (r : Result (Unit {0}) EncodeError) → IfErr r (EncodeFails s t v) → IfErr r (EncodePartFails p s t v)
+    part_not_put (Ok x) h = tt
+    part_not_put (Err x) h = record {
+      why = elim h.why [
+        | inl m ↦ inl m
+        | inr (inl m) ↦ inr (inl (record { none = λ o b. m.none o (written p n (Bytes v.rule s) o b) }))
+        | inr (inr m) ↦ inr (inr (record { bare = m.bare; some = λ o b. m.some o (written p n (Bytes v.rule s) o b); keeps = m.keeps }))
+      ];
+    }
+
+-- ---- components, one after the other
+
+-- Some components are written, and the rest is left.
+pub record WrittenSoFar (f : ℕ → Shape) (all rest : List Component) (us left : List Value) (old here : View) : Type 0 where
+  pub on : (r : Result (Unit {0}) EncodeError) (w : View) → EncodesParts (components_by f rest) (list_tree tree_of left) here r w → EncodesParts (components_by f all) (list_tree tree_of us) old r w
+
+pub written_start : (f : ℕ → Shape) (all : List Component) (us : List Value) (old : View) → WrittenSoFar f all all us us old old
+written_start f all us old = record { on = λ r w k. k }
+
+module _ (f : ℕ → Shape) (all rest after : List Component) (p : Component) (us left others : List Value) (u : Value) (old here : View)
+    (k : WrittenSoFar f all rest us left old here) (e : rest ≡ p ∷ after) (g : left ≡ u ∷ others) where
+  back : (r : Result (Unit {0}) EncodeError) (w : View) → EncodesParts (part (presence_of p.presence) (f p.type_id) (components_by f after)) (joined (tree_of u) (list_tree tree_of others)) here r w
+      → EncodesParts (components_by f all) (list_tree tree_of us) old r w
+  back r w h = k.on r w (subst (λ l. EncodesParts (components_by f l) (list_tree tree_of left) here r w) (sym e)
+      (subst (λ l. EncodesParts (components_by f (p ∷ after)) (list_tree tree_of l) here r w) (sym g) h))
+
+  pub written_more : (mid : View) → AppendsPart (presence_of p.presence) (f p.type_id) (tree_of u) here mid → WrittenSoFar f all after us others old mid
+  written_more mid a = record { on = λ r w h. back r w (part_appended (f p.type_id) (components_by f after) (tree_of u) (list_tree tree_of others) here mid w r a h) }
+
+  pub written_fails : (x : EncodeError) (mid : View) → EncodePartFails (presence_of p.presence) (f p.type_id) (tree_of u) here x → mid ≡ here → EncodesParts (components_by f all) (list_tree tree_of us) old (Err x) mid
+  written_fails x mid h q = back (Err x) mid (refused x h q)
+    where
+      refused : (x : EncodeError) → EncodePartFails (presence_of p.presence) (f p.type_id) (tree_of u) here x → mid ≡ here
+          → EncodesParts (part (presence_of p.presence) (f p.type_id) (components_by f after)) (joined (tree_of u) (list_tree tree_of others)) here (Err x) mid
+      refused x h q = Rattle.rasn_enc.proofs.OwnTypes.Sequence.part_refused (f p.type_id) (components_by f after) (tree_of u) (list_tree tree_of others) here mid (Err x) x h q refl
+
+-- ---- the alternative that was chosen
+
+module _ (f : ℕ → Shape) where
+  alternative_at : (ks : List ℕ) (k : ℕ) → k < length ks → IsAlternative (alternatives_by f ks) k (f (get_or ks k 0))
+  alternative_at [] k l = absurd (omega (arith, l))
+  alternative_at (j ∷ ks) zero l = refl
+  alternative_at (j ∷ ks) (suc k) l = alternative_at ks k (omega (arith, l))
+
+  module _ (ks : List ℕ) (k : ℕ) (l : k < length ks) (t : Tree) (v : View) where
+    pub alternative_put : (w : View) (r : Result (Unit {0}) EncodeError) → OnOk r (AppendsEncoding (f (get_or ks k 0)) t v w) → OnOk r (AppendsEncoding (choice (alternatives_by f ks)) (chosen k t) v w)
+    alternative_put w (Ok x) h = chosen_encoded (alternatives_by f ks) k (f (get_or ks k 0)) t (alternative_at ks k l) v w h
+    alternative_put w (Err x) h = tt
+
+    pub alternative_not_put : (r : Result (Unit {0}) EncodeError) → IfErr r (EncodeFails (f (get_or ks k 0)) t v) → IfErr r (EncodeFails (choice (alternatives_by f ks)) (chosen k t) v)
+    alternative_not_put (Ok x) h = tt
+    alternative_not_put (Err x) h = chosen_refused (alternatives_by f ks) k (f (get_or ks k 0)) t (alternative_at ks k l) v v x h
+
+-- No component and no value is left.
+pub parts_done : (f : ℕ → Shape) (rest : List Component) (left : List Value) (v : View) → length rest < 1 → length left ≡ 0 → EncodesParts (components_by f rest) (list_tree tree_of left) v (Ok tt) v
+parts_done f [] [] v l e = parts_end v
+parts_done f [] (x ∷ left) v l e = cc_length left e
+  where
+    cc_length : (m : List Value) → suc (length m) ≡ 0 → EncodesParts (components_by f []) (list_tree tree_of (x ∷ left)) v (Ok tt) v
+    cc_length m h = absurd (omega (arith, h))
+parts_done f (p ∷ rest) left v l e = absurd (omega (arith, l))

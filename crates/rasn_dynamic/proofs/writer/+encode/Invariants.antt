@@ -1,0 +1,52 @@
+use Rattle.std.proofs.Common.{◌+◌, ◌*◌, map, length}
+use Rattle.rasn_enc.proofs.Constructed.SequenceOf.{ElementsSoFar}
+use Rattle.rasn_enc.proofs.Constructed.SetOf.{SetOfSoFar}
+use Rattle.rasn_schema.specs.Trees.{tree_of}
+use Rattle.rasn_schema.specs.Shapes.{shape_of_type}
+use Rattle.rasn_dynamic.proofs.WrittenInside.{WrittenSoFar}
+use Rattle.rasn_dynamic.proofs.writer.+encode.Given as goal
+
+abbrev pub decreases-encode_at : goal.decreases-encode_at
+decreases-encode_at l = 8 * l.levels
+
+abbrev pub decreases-encode_type : goal.decreases-encode_type
+decreases-encode_type l = 8 * l.below + 7
+
+abbrev pub decreases-encode_choice : goal.decreases-encode_choice
+decreases-encode_choice l = 8 * l.below + 6
+
+abbrev pub decreases-encode_inside : goal.decreases-encode_inside
+decreases-encode_inside l = 8 * l.below + 6
+
+abbrev pub decreases-encode_contents : goal.decreases-encode_contents
+decreases-encode_contents l = 8 * l.below + 5
+
+abbrev pub decreases-encode_components : goal.decreases-encode_components
+decreases-encode_components l = 8 * l.below + 4
+
+abbrev pub decreases-encode_elements : goal.decreases-encode_elements
+decreases-encode_elements l = 8 * l.below + 4
+
+abbrev pub decreases-encode_elements_in_order : goal.decreases-encode_elements_in_order
+decreases-encode_elements_in_order l = 8 * l.below + 4
+
+abbrev pub decreases-encode_component : goal.decreases-encode_component
+decreases-encode_component l = 8 * l.below + 3
+
+abbrev pub invariant-encode_components-loop-rest : goal.invariant-encode_components-loop-rest
+invariant-encode_components-loop-rest l = WrittenSoFar (shape_of_type l.types l.below) l.components l.rest l.values l.left l.fn.encoder l.encoder
+
+abbrev pub decreases-encode_components-loop-rest : goal.decreases-encode_components-loop-rest
+decreases-encode_components-loop-rest l = length l.rest
+
+abbrev pub invariant-encode_elements-loop-rest : goal.invariant-encode_elements-loop-rest
+invariant-encode_elements-loop-rest l = ElementsSoFar (shape_of_type l.types l.below l.element) (map tree_of l.values) (map tree_of l.rest) l.fn.encoder l.encoder
+
+abbrev pub decreases-encode_elements-loop-rest : goal.decreases-encode_elements-loop-rest
+decreases-encode_elements-loop-rest l = length l.rest
+
+abbrev pub invariant-encode_elements_in_order-loop-rest : goal.invariant-encode_elements_in_order-loop-rest
+invariant-encode_elements_in_order-loop-rest l = SetOfSoFar (shape_of_type l.types l.below l.element) (map tree_of l.values) (map tree_of l.rest) l.fn.encoder l.encoder l.previous
+
+abbrev pub decreases-encode_elements_in_order-loop-rest : goal.decreases-encode_elements_in_order-loop-rest
+decreases-encode_elements_in_order-loop-rest l = length l.rest

@@ -1,0 +1,6 @@
+pub mod Inside
+pub mod Calls
+pub mod Written
+pub mod Entry
+pub mod Fitting
+pub mod SetSlots

@@ -1,0 +1,54 @@
+-- The contents of a value that holds others, as they are written.
+use Rattle.std.specs.Prelude.{◌≡◌, ◌⊎◌, ◌≤◌, ℕ, List, Bool, true, false, length, Result, OnOk, IfErr}
+use Rattle.rasn_types.specs.declared.types.codec.Codec.{Codec}
+use Rattle.rasn_types.specs.declared.types.tag.Tag.{Tag}
+use Rattle.rasn_types.specs.declared.error.encode.EncodeError.{EncodeError}
+use Rattle.rasn_types.specs.Errors.{IsEncodeOutOfMemory}
+use Rattle.rasn_types.specs.Tags.{IsTagBelow}
+use Rattle.rasn_types.specs.Contents.{joined_lists}
+use Rattle.rasn_types.specs.Shapes.{Tree, items, set_elements, absent, Same, Presence, required, optional, addition, default, Shape, leaf, any, prefix, choice, option, seq, set, list, set_of, Admits}
+use Rattle.rasn_types.specs.Bytes.{Bytes, fields_of, PartsWritten, NoneUntaggedOpen, TagsOf, Each, AreAscending, IsLess}
+use Rattle.rasn_enc.specs.View.{View, LeavesOthers}
+
+unfoldable pub WritesInside : Codec → Shape → Tree → List ℕ → Type 0
+WritesInside rule (leaf kind tag bounds) t c = ⊥
+WritesInside rule (any tag) t c = ⊥
+WritesInside rule (prefix tag s) t c = Bytes rule s t c
+WritesInside rule (choice ps) t c = ⊥
+WritesInside rule (option tag s) t c = ⊥
+WritesInside rule (seq tag ps) t c = (ts : List Tree) × (bs : List (List ℕ)) × (t ≡ items ts) × PartsWritten (fields_of rule ps) ts bs × (c ≡ joined_lists bs)
+WritesInside rule (set tag ps) t c = (ts : List Tree) × (bs : List (List ℕ)) × (tags : List Tag) × (t ≡ items ts) × PartsWritten (fields_of rule ps) ts bs
+    × NoneUntaggedOpen (fields_of rule ps) ts bs × TagsOf bs tags × AreAscending IsTagBelow tags × (c ≡ joined_lists bs)
+WritesInside rule (list tag s size) t c = (ts : List Tree) × (bs : List (List ℕ)) × (t ≡ items ts) × Admits ◌≤◌ size (length ts) × Each (Bytes rule s) ts bs × (c ≡ joined_lists bs)
+WritesInside rule (set_of tag s size) t c = (ts : List Tree) × (bs : List (List ℕ)) × (t ≡ set_elements (items ts)) × Admits ◌≤◌ size (length ts) × Each (Bytes rule s) ts bs
+    × AreAscending IsLess bs × (c ≡ joined_lists bs)
+
+-- The tag of a value, and whether the writer keeps the tags of its contents.
+abbrev pub IsEnclosed : Shape → Tag → Bool → Type 0
+IsEnclosed (leaf kind tag bounds) u keeps = ⊥
+IsEnclosed (any tag) u keeps = ⊥
+IsEnclosed (prefix tag s) u keeps = (u ≡ tag) × (keeps ≡ false)
+IsEnclosed (choice ps) u keeps = ⊥
+IsEnclosed (option tag s) u keeps = ⊥
+IsEnclosed (seq tag ps) u keeps = (u ≡ tag) × (keeps ≡ false)
+IsEnclosed (set tag ps) u keeps = (u ≡ tag) × (keeps ≡ true)
+IsEnclosed (list tag s size) u keeps = (u ≡ tag) × (keeps ≡ false)
+IsEnclosed (set_of tag s size) u keeps = (u ≡ tag) × (keeps ≡ false)
+
+-- What a call that writes the contents of an open value returns, and the encoder's state after it.
+pub record EncodesInside (s : Shape) (t : Tree) (v : View) (r : Result (Unit {0}) EncodeError) (w : View) : Type 0 where
+  pub keeps : LeavesOthers v w
+  pub ok : OnOk r (WritesInside v.rule s t w.last.octets)
+  pub refused : IfErr r (λ e. IsEncodeOutOfMemory e.kind ⊎ ((c : List ℕ) → WritesInside v.rule s t c → ⊥))
+
+-- whether tags are kept inside a value of the shape
+abbrev pub keeps_tags : Shape → Bool
+keeps_tags (set tag ps) = true
+keeps_tags _ = false
+
+-- a component that isn't written if its value means this
+abbrev pub IsLeftOutAs : Presence → Tree → Type 0
+IsLeftOutAs required t = ⊥
+IsLeftOutAs optional t = t ≡ absent
+IsLeftOutAs addition t = t ≡ absent
+IsLeftOutAs (default d) t = Same t d

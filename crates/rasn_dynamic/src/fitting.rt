@@ -1,0 +1,291 @@
+//! Which values fit a type.
+ghost use Rattle.std.specs.Prelude.{◌≡◌, [], pos};
+ghost use Rattle.rasn_types.specs.CharacterString.{AreAdmitted};
+ghost use Rattle.rasn_types.specs.Truth.{IsWhether};
+ghost use Rattle.rasn_schema.specs.Shapes.{presence_of};
+ghost use Rattle.rasn_schema.specs.Trees.{tree_of};
+ghost use Rattle.rasn_dynamic.specs.Fitting.{NumberFits, OctetsFit, FitsLeaf, AreOctets, AlternativeFits, IsChosen, ComponentFits, ComponentsFit, AreItems, AreElements, EachFits, FitsBy, Fits};
+ghost use Rattle.rasn_dynamic.specs.Entry.{FitsType};
+
+use crate::fit::is_left_out;
+use rasn_schema::{Component, LeafKind, Schema, Type, TypeId, Value, type_at};
+use rasn_types::types::{Alphabet, Integer};
+
+/// Returns whether the number is 0.
+fn is_zero(number: &Integer) -> bool
+    ensures { IsWhether result (number.now ≡ pos 0) }
+{
+    number.to_i128() == Some(0)
+}
+
+/// Returns whether the number is 1.
+fn is_one(number: &Integer) -> bool
+    ensures { IsWhether result (number.now ≡ pos 1) }
+{
+    number.to_i128() == Some(1)
+}
+
+/// Returns whether the number is a value of this kind.
+fn number_fits(kind: LeafKind, number: &Integer) -> bool
+    ensures { IsWhether result (NumberFits kind number.now) }
+{
+    match kind {
+        LeafKind::Boolean => is_zero(number) || is_one(number),
+        LeafKind::Null => is_zero(number),
+        LeafKind::Integer => true,
+        _ => false,
+    }
+}
+
+/// Returns whether the octets are in the alphabet.
+fn are_admitted(alphabet: Alphabet, octets: &[u8]) -> bool
+    ensures { IsWhether result (AreAdmitted alphabet octets.now) }
+{
+    alphabet.first_foreign(octets).is_none()
+}
+
+/// Returns whether the octets are a value of this kind.
+fn octets_fit(kind: LeafKind, octets: &[u8]) -> bool
+    ensures { IsWhether result (OctetsFit kind octets.now) }
+{
+    match kind {
+        LeafKind::OctetString => true,
+        LeafKind::Numeric => are_admitted(Alphabet::Numeric, octets),
+        LeafKind::Printable => are_admitted(Alphabet::Printable, octets),
+        LeafKind::Visible => are_admitted(Alphabet::Visible, octets),
+        LeafKind::Ia5 => are_admitted(Alphabet::Ia5, octets),
+        LeafKind::AnyOctets => are_admitted(Alphabet::Every, octets),
+        _ => false,
+    }
+}
+
+/// Returns whether the kind is this one.
+fn is_kind(kind: LeafKind, wanted: LeafKind) -> bool
+    ensures { IsWhether result (kind ≡ wanted) }
+{
+    kind == wanted
+}
+
+/// Returns whether the value, which holds no other values, is one of this kind.
+fn leaf_fits(kind: LeafKind, value: &Value) -> bool
+    ensures { IsWhether result (FitsLeaf kind value.now) }
+{
+    match value {
+        Value::Number(number) => number_fits(kind, number),
+        Value::Bits(_) => is_kind(kind, LeafKind::BitString),
+        Value::Octets(octets) => octets_fit(kind, octets.as_octets()),
+        Value::Text(_) => is_kind(kind, LeafKind::Utf8),
+        Value::Units(_) => is_kind(kind, LeafKind::Bmp),
+        Value::Arcs(_) => is_kind(kind, LeafKind::ObjectIdentifier),
+        Value::Instant(_) => {
+            is_kind(kind, LeafKind::UtcTime) || is_kind(kind, LeafKind::GeneralizedTime)
+        }
+        Value::Day(_) => is_kind(kind, LeafKind::Date),
+        Value::Items(_) => false,
+        Value::Elements(_) => false,
+        Value::Chosen(_, _) => false,
+        Value::Absent => false,
+    }
+}
+
+/// Returns whether the value is that of an open type.
+fn are_octets(value: &Value) -> bool
+    ensures { IsWhether result (AreOctets value.now) }
+{
+    match value {
+        Value::Octets(_) => true,
+        _ => false,
+    }
+}
+
+/// Returns whether no value is left.
+fn is_end(values: &[Value]) -> bool
+    ensures { IsWhether result (values.now ≡ []) }
+{
+    values.is_empty()
+}
+
+/// Returns whether the value is one of the type with this number. Types are followed `levels` deep.
+#[cycle(fits)]
+fn fits_at(types: &[Type], levels: usize, id: TypeId, value: &Value) -> bool
+    ensures { IsWhether result (Fits types.now levels id value.now) }
+{
+    if levels == 0 {
+        return false;
+    }
+    match type_at(types, id) {
+        Some(ty) => type_fits(types, levels - 1, ty, value),
+        None => false,
+    }
+}
+
+/// Returns whether the value is one of the type.
+#[cycle(fits)]
+fn type_fits(types: &[Type], below: usize, ty: &Type, value: &Value) -> bool
+    ensures { IsWhether result (FitsBy (Fits types.now below) ty.now value.now) }
+{
+    match ty {
+        Type::Leaf { kind, .. } => leaf_fits(*kind, value),
+        Type::Any { .. } => are_octets(value),
+        Type::Tagged { inner, .. } => fits_at(types, below, *inner, value),
+        Type::Choice { alternatives } => is_alternative(types, below, alternatives, value),
+        Type::Sequence { components, .. } => are_components(types, below, components, value),
+        Type::Set { components, .. } => are_components(types, below, components, value),
+        Type::SequenceOf { element, .. } => is_list(types, below, *element, value),
+        Type::SetOf { element, .. } => is_set(types, below, *element, value),
+    }
+}
+
+/// Returns whether the value is that of an alternative.
+#[cycle(fits)]
+fn is_alternative(types: &[Type], below: usize, alternatives: &[TypeId], value: &Value) -> bool
+    ensures { IsWhether result (IsChosen (AlternativeFits (Fits types.now below) alternatives.now) value.now) }
+{
+    match value {
+        Value::Chosen(index, inner) => alternative_fits(types, below, alternatives, *index, inner),
+        Value::Number(_) => false,
+        Value::Bits(_) => false,
+        Value::Octets(_) => false,
+        Value::Text(_) => false,
+        Value::Units(_) => false,
+        Value::Arcs(_) => false,
+        Value::Instant(_) => false,
+        Value::Day(_) => false,
+        Value::Items(_) => false,
+        Value::Elements(_) => false,
+        Value::Absent => false,
+    }
+}
+
+/// Returns whether the value is one of the alternative with this index.
+#[cycle(fits)]
+fn alternative_fits(
+    types: &[Type],
+    below: usize,
+    alternatives: &[TypeId],
+    index: usize,
+    value: &Value,
+) -> bool
+    ensures { IsWhether result (AlternativeFits (Fits types.now below) alternatives.now index value.now) }
+{
+    match alternatives.get(index) {
+        Some(id) => fits_at(types, below, *id, value),
+        None => false,
+    }
+}
+
+/// Returns whether the value is a list of the components' values.
+#[cycle(fits)]
+fn are_components(types: &[Type], below: usize, components: &[Component], value: &Value) -> bool
+    ensures { IsWhether result (AreItems (ComponentsFit (Fits types.now below) components.now) value.now) }
+{
+    match value {
+        Value::Items(values) => components_fit(types, below, components, values.as_slice()),
+        Value::Number(_) => false,
+        Value::Bits(_) => false,
+        Value::Octets(_) => false,
+        Value::Text(_) => false,
+        Value::Units(_) => false,
+        Value::Arcs(_) => false,
+        Value::Instant(_) => false,
+        Value::Day(_) => false,
+        Value::Elements(_) => false,
+        Value::Chosen(_, _) => false,
+        Value::Absent => false,
+    }
+}
+
+/// Returns whether the value is a list of values of the type.
+#[cycle(fits)]
+fn is_list(types: &[Type], below: usize, element: TypeId, value: &Value) -> bool
+    ensures { IsWhether result (AreItems (EachFits (Fits types.now below element)) value.now) }
+{
+    match value {
+        Value::Items(values) => each_fits(types, below, element, values.as_slice()),
+        Value::Number(_) => false,
+        Value::Bits(_) => false,
+        Value::Octets(_) => false,
+        Value::Text(_) => false,
+        Value::Units(_) => false,
+        Value::Arcs(_) => false,
+        Value::Instant(_) => false,
+        Value::Day(_) => false,
+        Value::Elements(_) => false,
+        Value::Chosen(_, _) => false,
+        Value::Absent => false,
+    }
+}
+
+/// Returns whether the value is a set of values of the type.
+#[cycle(fits)]
+fn is_set(types: &[Type], below: usize, element: TypeId, value: &Value) -> bool
+    ensures { IsWhether result (AreElements (EachFits (Fits types.now below element)) value.now) }
+{
+    match value {
+        Value::Elements(values) => each_fits(types, below, element, values.as_slice()),
+        Value::Number(_) => false,
+        Value::Bits(_) => false,
+        Value::Octets(_) => false,
+        Value::Text(_) => false,
+        Value::Units(_) => false,
+        Value::Arcs(_) => false,
+        Value::Instant(_) => false,
+        Value::Day(_) => false,
+        Value::Items(_) => false,
+        Value::Chosen(_, _) => false,
+        Value::Absent => false,
+    }
+}
+
+/// Returns whether there is a fitting value for each component.
+#[cycle(fits)]
+fn components_fit(types: &[Type], below: usize, components: &[Component], values: &[Value]) -> bool
+    ensures { IsWhether result (ComponentsFit (Fits types.now below) components.now values.now) }
+{
+    let mut rest = components;
+    let mut left = values;
+    while let [component, after @ ..] = rest {
+        let [value, others @ ..] = left else {
+            return false;
+        };
+        if !component_fits(types, below, component, value) {
+            return false;
+        }
+        rest = after;
+        left = others;
+    }
+    is_end(left)
+}
+
+/// Returns whether the component is absent or has its default's value, or the value is one of its type.
+#[cycle(fits)]
+fn component_fits(types: &[Type], below: usize, component: &Component, value: &Value) -> bool
+    ensures { IsWhether result (ComponentFits (Fits types.now below) component.now value.now) }
+{
+    if is_left_out(component, value) {
+        return true;
+    }
+    fits_at(types, below, component.type_id, value)
+}
+
+/// Returns whether each value is one of the type.
+#[cycle(fits)]
+fn each_fits(types: &[Type], below: usize, element: TypeId, values: &[Value]) -> bool
+    ensures { IsWhether result (EachFits (Fits types.now below element) values.now) }
+{
+    let mut rest = values;
+    while let [value, after @ ..] = rest {
+        if !fits_at(types, below, element, value) {
+            return false;
+        }
+        rest = after;
+    }
+    true
+}
+
+/// Returns whether the value is one of the type with this number, so that it can be written.
+pub fn fits(schema: &Schema, id: TypeId, value: &Value) -> bool
+    ensures { IsWhether result (FitsType schema.now.types.items id value.now) }
+{
+    fits_at(schema.types(), usize::MAX, id, value)
+}

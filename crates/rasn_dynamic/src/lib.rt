@@ -1,0 +1,18 @@
+//! Reads and writes values of a type that is known only when the program runs: a type of a [`Schema`](rasn_schema::Schema).
+//!
+//! One reader and one writer serve every ASN.1 type. What they promise is what the reader and the writer of a type written in Rattle do.
+#![tactic(auto)]
+
+mod components;
+mod entry;
+mod fit;
+mod fitting;
+mod order;
+mod read_leaf;
+mod reader;
+mod set;
+mod write_leaf;
+mod writer;
+
+pub use entry::{NormaliseError, WriteError, decode, decode_with_remainder, encode, is_canonical, normalise};
+pub use fitting::fits;

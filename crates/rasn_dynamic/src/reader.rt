@@ -1,0 +1,387 @@
+//! Reads a value of a type.
+ghost use Rattle.std.specs.Prelude.{◌≡◌, ◌≢◌, length};
+ghost use Rattle.rasn_types.specs.Framing.{AreOctets};
+ghost use Rattle.rasn_types.specs.Lawful.{IsLawful, AreLawfulByTag};
+ghost use Rattle.rasn_types.specs.Shapes.{choice};
+ghost use Rattle.rasn_de.specs.Decodes.{Decodes, DecodesBy, DecodesParts};
+ghost use Rattle.rasn_types.specs.Trees.{list_tree};
+ghost use Rattle.rasn_de.specs.Constructed.{DecodesInside};
+ghost use Rattle.rasn_de.specs.SequenceOf.{DecodesElements, DecodesElementsInOrder};
+ghost use Rattle.rasn_schema.specs.Trees.{tree_of};
+ghost use Rattle.rasn_schema.specs.Shapes.{shape_of_type, type_by, alternatives_by, components_by, presence_of, AreLawful};
+ghost use Rattle.rasn_dynamic.specs.Inside.{ReadsInside, ReadsSequence, ReadsComponent};
+ghost use Rattle.rasn_dynamic.specs.Calls.{held, IsKept, IsSized, IsSizedSet};
+ghost use Rattle.rasn_dynamic.specs.SetSlots.{ReadsSetParts, DecodesNext};
+ghost use Rattle.rasn_de.specs.Steps.{IsErrorOf};
+ghost use Rattle.rasn_de.specs.declared.ber.de.parser.ParseError.TheVariants.{UnexpectedExtraData};
+
+use crate::components::{all_left_out, checked, leaves_all_out, left_out};
+use crate::order::{is_less, octets_before, out_of_order};
+use crate::read_leaf::{decode_any_value, decode_leaf, out_of_memory, push};
+use crate::set::{component_for, gather, no_components, put};
+use rasn_de::ber::de::{ConstructedHeader, Decoder};
+use rasn_schema::{Component, Type, TypeId, Value, alternative_for, type_at};
+use rasn_types::error::{DecodeError, DecodeErrorKind};
+use rasn_types::types::Constraints;
+
+/// Returns the error that no value of the type is there.
+fn no_value(decoder: &Decoder<'_>) -> DecodeError {
+    DecodeError {
+        kind: DecodeErrorKind::UnexpectedEmptyInput,
+        codec: decoder.codec(),
+    }
+}
+
+/// Returns the error that a value took nothing.
+fn extra(decoder: &Decoder<'_>, left: usize) -> DecodeError
+    ensures { IsErrorOf (UnexpectedExtraData left) decoder.now result }
+{
+    DecodeError {
+        kind: DecodeErrorKind::UnexpectedExtraData { length: left },
+        codec: decoder.codec(),
+    }
+}
+
+/// Appends a value, which must have taken some of the input.
+#[inline(always)]
+fn keep(
+    decoder: &Decoder<'_>,
+    left: usize,
+    value: Value,
+    values: &mut Vec<Value>,
+) -> Result<(), DecodeError>
+    ensures { IsKept left decoder.now value values.old.items result values.new.items }
+{
+    if decoder.remaining().len() == left {
+        return Err(extra(decoder, left));
+    }
+    push(decoder, values, value)
+}
+
+/// Returns the elements of a SEQUENCE OF, if their number is within the bound.
+#[inline(always)]
+fn sized(
+    decoder: &Decoder<'_>,
+    values: Vec<Value>,
+    constraints: &Constraints,
+) -> Result<Value, DecodeError>
+    ensures { IsSized constraints.now.size values result }
+{
+    if constraints.admits_size(values.len()) {
+        Ok(Value::Items(values))
+    } else {
+        Err(DecodeError {
+            kind: DecodeErrorKind::SizeConstraintNotSatisfied {
+                size: Some(values.len()),
+                expected: constraints.size_bounds(),
+            },
+            codec: decoder.codec(),
+        })
+    }
+}
+
+/// Returns the elements of a SET OF, if their number is within the bound.
+#[inline(always)]
+fn sized_set(
+    decoder: &Decoder<'_>,
+    values: Vec<Value>,
+    constraints: &Constraints,
+) -> Result<Value, DecodeError>
+    ensures { IsSizedSet constraints.now.size values result }
+{
+    if constraints.admits_size(values.len()) {
+        Ok(Value::Elements(values))
+    } else {
+        Err(DecodeError {
+            kind: DecodeErrorKind::SizeConstraintNotSatisfied {
+                size: Some(values.len()),
+                expected: constraints.size_bounds(),
+            },
+            codec: decoder.codec(),
+        })
+    }
+}
+
+/// Reads a value of the type with this number. Types are followed `levels` deep.
+#[cycle(decode)]
+pub fn decode_at(
+    decoder: &mut Decoder<'_>,
+    types: &[Type],
+    levels: usize,
+    id: TypeId,
+) -> Result<Value, DecodeError>
+    requires { IsLawful (shape_of_type types.now levels id) }
+    ensures { Decodes (shape_of_type types.now levels id) tree_of decoder.old result decoder.new }
+{
+    if levels == 0 {
+        return Err(no_value(decoder));
+    }
+    match type_at(types, id) {
+        Some(ty) => decode_type(decoder, types, levels - 1, ty),
+        None => Err(no_value(decoder)),
+    }
+}
+
+/// Reads a value of a type.
+#[cycle(decode)]
+#[inline(always)]
+fn decode_type(
+    decoder: &mut Decoder<'_>,
+    types: &[Type],
+    below: usize,
+    ty: &Type,
+) -> Result<Value, DecodeError>
+    requires { IsLawful (type_by (shape_of_type types.now below) ty.now) }
+    ensures { Decodes (type_by (shape_of_type types.now below) ty.now) tree_of decoder.old result decoder.new }
+{
+    match ty {
+        Type::Leaf {
+            kind,
+            tag,
+            constraints,
+        } => decode_leaf(decoder, *kind, *tag, constraints),
+        Type::Any { tag } => decode_any_value(decoder, *tag),
+        Type::Choice { alternatives } => decode_choice(decoder, types, below, alternatives),
+        Type::Tagged { tag, .. } => {
+            decode_inside(decoder, types, below, ty, ConstructedHeader::prefix(*tag))
+        }
+        Type::Sequence { tag, .. } => {
+            decode_inside(decoder, types, below, ty, ConstructedHeader::sequence(*tag))
+        }
+        Type::Set { tag, .. } => {
+            decode_inside(decoder, types, below, ty, ConstructedHeader::sequence(*tag))
+        }
+        Type::SequenceOf { tag, .. } => {
+            decode_inside(decoder, types, below, ty, ConstructedHeader::list(*tag))
+        }
+        Type::SetOf { tag, .. } => {
+            decode_inside(decoder, types, below, ty, ConstructedHeader::list(*tag))
+        }
+    }
+}
+
+/// Reads the alternative to which the next tag belongs (X.690 8.13).
+#[cycle(decode)]
+fn decode_choice(
+    decoder: &mut Decoder<'_>,
+    types: &[Type],
+    below: usize,
+    alternatives: &[TypeId],
+) -> Result<Value, DecodeError>
+    requires { IsLawful (choice (alternatives_by (shape_of_type types.now below) alternatives.now)) }
+    ensures { Decodes (choice (alternatives_by (shape_of_type types.now below) alternatives.now)) tree_of decoder.old result decoder.new }
+{
+    let tag = decoder.peek_tag()?;
+    let Some(number) = alternative_for(types, below, alternatives, tag) else {
+        return Err(no_value(decoder));
+    };
+    let value = decode_at(decoder, types, below, alternatives[number])?;
+    match Box::new(decoder.alloc(), value) {
+        Ok(value) => Ok(Value::Chosen(number, value)),
+        Err(_) => Err(out_of_memory(decoder)),
+    }
+}
+
+/// Reads a value that holds other values, and its header.
+#[cycle(decode)]
+fn decode_inside(
+    decoder: &mut Decoder<'_>,
+    types: &[Type],
+    below: usize,
+    ty: &Type,
+    header: ConstructedHeader,
+) -> Result<Value, DecodeError>
+    requires { IsLawful (type_by (shape_of_type types.now below) ty.now) }
+    ensures exact { DecodesInside (DecodesBy (ReadsInside (type_by (shape_of_type types.now below) ty.now)) tree_of) header decoder.old result decoder.new }
+    ensures octets { decoder.old.depth ≢ 0 → AreOctets decoder.old.rest }
+{
+    let (mut inner, contents) = decoder.open(header)?;
+    let value = decode_contents(&mut inner, types, below, ty)?;
+    decoder.close(contents, inner.remaining())?;
+    Ok(value)
+}
+
+/// Reads the contents of a value that holds other values.
+#[cycle(decode)]
+fn decode_contents(
+    decoder: &mut Decoder<'_>,
+    types: &[Type],
+    below: usize,
+    ty: &Type,
+) -> Result<Value, DecodeError>
+    requires { IsLawful (type_by (shape_of_type types.now below) ty.now) }
+    ensures { DecodesBy (ReadsInside (type_by (shape_of_type types.now below) ty.now)) tree_of decoder.old result decoder.new }
+{
+    match ty {
+        Type::Tagged { inner, .. } => decode_at(decoder, types, below, *inner),
+        Type::Sequence { components, .. } => decode_sequence(decoder, types, below, components),
+        Type::SequenceOf {
+            element,
+            constraints,
+            ..
+        } => {
+            let values = decode_elements(decoder, types, below, *element)?;
+            sized(decoder, values, constraints)
+        }
+        Type::SetOf {
+            element,
+            constraints,
+            ..
+        } => {
+            let values = decode_elements_in_order(decoder, types, below, *element)?;
+            sized_set(decoder, values, constraints)
+        }
+        Type::Set { components, .. } => decode_set(decoder, types, below, components),
+        _ => Err(no_value(decoder)),
+    }
+}
+
+/// Reads elements up to the end of the contents (X.690 8.10).
+#[cycle(decode)]
+fn decode_elements(
+    decoder: &mut Decoder<'_>,
+    types: &[Type],
+    below: usize,
+    element: TypeId,
+) -> Result<Vec<Value>, DecodeError>
+    requires { IsLawful (shape_of_type types.now below element) }
+    ensures { DecodesElements (Decodes (shape_of_type types.now below element) tree_of) (λ v. v.items) decoder.old result decoder.new }
+{
+    let mut values = Vec::new(decoder.alloc());
+    while !decoder.has_ended() {
+        let left = decoder.remaining().len();
+        let value = decode_at(decoder, types, below, element)?;
+        keep(decoder, left, value, &mut values)?;
+    }
+    Ok(values)
+}
+
+/// Reads elements up to the end of the contents. Under DER their octets have to be in ascending order (X.690 11.6).
+#[cycle(decode)]
+fn decode_elements_in_order(
+    decoder: &mut Decoder<'_>,
+    types: &[Type],
+    below: usize,
+    element: TypeId,
+) -> Result<Vec<Value>, DecodeError>
+    requires { IsLawful (shape_of_type types.now below element) }
+    ensures { DecodesElementsInOrder (Decodes (shape_of_type types.now below element) tree_of) (λ v. v.items) decoder.old result decoder.new }
+{
+    let mut values = Vec::new(decoder.alloc());
+    let mut last: &[u8] = &[];
+    while !decoder.has_ended() {
+        let start = decoder.remaining();
+        let value = decode_at(decoder, types, below, element)?;
+        keep(decoder, start.len(), value, &mut values)?;
+        let octets = octets_before(start, decoder.remaining());
+        if decoder.is_strict() && is_less(octets, last) {
+            return Err(out_of_order(decoder));
+        }
+        last = octets;
+    }
+    Ok(values)
+}
+
+/// Reads the components of a SEQUENCE, up to the end of the contents (X.690 8.9).
+#[cycle(decode)]
+#[inline(always)]
+fn decode_sequence(
+    decoder: &mut Decoder<'_>,
+    types: &[Type],
+    below: usize,
+    components: &[Component],
+) -> Result<Value, DecodeError>
+    requires { AreLawful (components_by (shape_of_type types.now below) components.now) }
+    ensures { DecodesBy (ReadsSequence (components_by (shape_of_type types.now below) components.now)) tree_of decoder.old result decoder.new }
+{
+    if leaves_all_out(decoder, components) {
+        return all_left_out(decoder, components);
+    }
+    let values = decode_components(decoder, types, below, components)?;
+    Ok(Value::Items(values))
+}
+
+#[cycle(decode)]
+fn decode_components(
+    decoder: &mut Decoder<'_>,
+    types: &[Type],
+    below: usize,
+    components: &[Component],
+) -> Result<Vec<Value>, DecodeError>
+    requires { AreLawful (components_by (shape_of_type types.now below) components.now) }
+    ensures { DecodesParts (components_by (shape_of_type types.now below) components.now) (λ v. list_tree tree_of v.items) decoder.old result decoder.new }
+{
+    let mut values = Vec::new(decoder.alloc());
+    let mut rest = components;
+    while let [component, after @ ..] = rest {
+        let value = decode_component(decoder, types, below, component)?;
+        push(decoder, &mut values, value)?;
+        rest = after;
+    }
+    Ok(values)
+}
+
+#[cycle(decode)]
+#[inline(always)]
+fn decode_component(
+    decoder: &mut Decoder<'_>,
+    types: &[Type],
+    below: usize,
+    component: &Component,
+) -> Result<Value, DecodeError>
+    requires { IsLawful (shape_of_type types.now below component.now.type_id) }
+    ensures { DecodesBy (ReadsComponent (presence_of component.now.presence) (shape_of_type types.now below component.now.type_id)) tree_of decoder.old result decoder.new }
+{
+    if let Some(value) = left_out(decoder, types, component)? {
+        return Ok(value);
+    }
+    let value = decode_at(decoder, types, below, component.type_id)?;
+    checked(decoder, component, value)
+}
+
+/// Reads the components of a SET, in any order, up to the end of the contents (X.690 8.11).
+#[cycle(decode)]
+fn decode_set(
+    decoder: &mut Decoder<'_>,
+    types: &[Type],
+    below: usize,
+    components: &[Component],
+) -> Result<Value, DecodeError>
+    requires { AreLawfulByTag (components_by (shape_of_type types.now below) components.now) }
+    ensures { DecodesBy (ReadsSetParts (components_by (shape_of_type types.now below) components.now)) tree_of decoder.old result decoder.new }
+{
+    let mut found = no_components(decoder, components)?;
+    let mut last = None;
+    while !decoder.has_ended() {
+        last = decoder.peek_tag_in_order(last)?;
+        decode_set_component(decoder, types, below, components, &mut found)?;
+    }
+    gather(decoder, components, found)
+}
+
+/// Reads one component of a SET, which must take some of the input, and puts it in its place.
+#[cycle(decode)]
+fn decode_set_component(
+    decoder: &mut Decoder<'_>,
+    types: &[Type],
+    below: usize,
+    components: &[Component],
+    found: &mut Vec<Option<Value>>,
+) -> Result<(), DecodeError>
+    requires lawful { AreLawfulByTag (components_by (shape_of_type types.now below) components.now) }
+    requires as_many { length found.old.items ≡ length components.now }
+    ensures next { DecodesNext (components_by (shape_of_type types.now below) components.now) (held found.old.items) decoder.old result decoder.new (held found.new.items) }
+    ensures as_many { length found.new.items ≡ length components.now }
+{
+    let left = decoder.remaining().len();
+    let tag = decoder.peek_tag()?;
+    let Some((number, component)) = component_for(types, below, components, tag) else {
+        return Err(no_value(decoder));
+    };
+    let value = decode_at(decoder, types, below, component.type_id)?;
+    let value = checked(decoder, component, value)?;
+    if decoder.remaining().len() == left {
+        return Err(extra(decoder, left));
+    }
+    put(decoder, found, number, value)
+}

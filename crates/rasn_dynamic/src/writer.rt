@@ -1,0 +1,280 @@
+//! Writes a value of a type.
+ghost use Rattle.std.specs.Prelude.{◌≡◌, OnOk, OnErr, IfErr, None, map};
+ghost use Rattle.rasn_types.specs.Shapes.{choice};
+ghost use Rattle.rasn_types.specs.Trees.{list_tree};
+ghost use Rattle.rasn_enc.specs.View.{fresh, LeavesOthers};
+ghost use Rattle.rasn_enc.specs.Primitive.{IsOrderError};
+ghost use Rattle.rasn_enc.specs.Encoding.{AppendsEncoding, AppendsPart, EncodeFails, EncodePartFails};
+ghost use Rattle.rasn_enc.specs.Sequence.{EncodesParts};
+ghost use Rattle.rasn_enc.specs.SequenceOf.{AppendsElements, AppendsSetOf, FailsAtElement, FailsAtElements};
+ghost use Rattle.rasn_schema.specs.Trees.{tree_of};
+ghost use Rattle.rasn_schema.specs.Shapes.{shape_of_type, type_by, alternatives_by, components_by, presence_of};
+ghost use Rattle.rasn_dynamic.specs.Written.{EncodesInside, IsEnclosed, keeps_tags};
+
+use crate::fit::{elements_of, is_left_out, items_of};
+use crate::write_leaf::{encode_any_value, encode_leaf, misfit};
+use rasn_enc::ber::enc::Encoder;
+use rasn_schema::{Component, Type, TypeId, Value, type_at};
+use rasn_types::error::{BerEncodeErrorKind, CodecEncodeError, EncodeError, EncodeErrorKind};
+use rasn_types::types::Tag;
+
+/// Returns the error that the octets of a set aren't in ascending order.
+fn out_of_order(encoder: &Encoder) -> EncodeError
+    ensures { IsOrderError encoder.now.rule result }
+{
+    EncodeError {
+        kind: EncodeErrorKind::CodecSpecific {
+            inner: CodecEncodeError::Ber(BerEncodeErrorKind::SetOutOfOrder),
+        },
+        codec: encoder.codec(),
+    }
+}
+
+/// Writes a value of the type with this number. Types are followed `levels` deep.
+#[cycle(encode)]
+pub fn encode_at(
+    encoder: &mut Encoder,
+    types: &[Type],
+    levels: usize,
+    id: TypeId,
+    value: &Value,
+) -> Result<(), EncodeError>
+    ensures ok { OnOk result (AppendsEncoding (shape_of_type types.now levels id) (tree_of value.now) encoder.old encoder.new) }
+    ensures err { OnErr result (encoder.new ≡ encoder.old) }
+    ensures refused { IfErr result (EncodeFails (shape_of_type types.now levels id) (tree_of value.now) encoder.old) }
+{
+    if levels == 0 {
+        return Err(misfit(encoder));
+    }
+    match type_at(types, id) {
+        Some(ty) => encode_type(encoder, types, levels - 1, ty, value),
+        None => Err(misfit(encoder)),
+    }
+}
+
+/// Writes a value of a type.
+#[cycle(encode)]
+fn encode_type(
+    encoder: &mut Encoder,
+    types: &[Type],
+    below: usize,
+    ty: &Type,
+    value: &Value,
+) -> Result<(), EncodeError>
+    ensures ok { OnOk result (AppendsEncoding (type_by (shape_of_type types.now below) ty.now) (tree_of value.now) encoder.old encoder.new) }
+    ensures err { OnErr result (encoder.new ≡ encoder.old) }
+    ensures refused { IfErr result (EncodeFails (type_by (shape_of_type types.now below) ty.now) (tree_of value.now) encoder.old) }
+{
+    match ty {
+        Type::Leaf {
+            kind,
+            tag,
+            constraints,
+        } => encode_leaf(encoder, *kind, *tag, constraints, value),
+        Type::Any { tag } => encode_any_value(encoder, *tag, value),
+        Type::Choice { alternatives } => encode_choice(encoder, types, below, alternatives, value),
+        Type::Tagged { tag, .. } => { encode_inside(encoder, types, below, ty, *tag, false, value) }
+        Type::Sequence { tag, .. } => {
+            encode_inside(encoder, types, below, ty, *tag, false, value)
+        }
+        Type::Set { tag, .. } => encode_inside(encoder, types, below, ty, *tag, true, value),
+        Type::SequenceOf { tag, .. } => {
+            encode_inside(encoder, types, below, ty, *tag, false, value)
+        }
+        Type::SetOf { tag, .. } => { encode_inside(encoder, types, below, ty, *tag, false, value) }
+    }
+}
+
+/// Writes the alternative that was chosen (X.690 8.13).
+#[cycle(encode)]
+fn encode_choice(
+    encoder: &mut Encoder,
+    types: &[Type],
+    below: usize,
+    alternatives: &[TypeId],
+    value: &Value,
+) -> Result<(), EncodeError>
+    ensures ok { OnOk result (AppendsEncoding (choice (alternatives_by (shape_of_type types.now below) alternatives.now)) (tree_of value.now) encoder.old encoder.new) }
+    ensures err { OnErr result (encoder.new ≡ encoder.old) }
+    ensures refused { IfErr result (EncodeFails (choice (alternatives_by (shape_of_type types.now below) alternatives.now)) (tree_of value.now) encoder.old) }
+{
+    let Value::Chosen(number, inner) = value else {
+        return Err(misfit(encoder));
+    };
+    if *number >= alternatives.len() {
+        return Err(misfit(encoder));
+    }
+    encode_at(encoder, types, below, alternatives[*number], inner)
+}
+
+/// Writes a value that holds other values, and its header.
+#[cycle(encode)]
+fn encode_inside(
+    encoder: &mut Encoder,
+    types: &[Type],
+    below: usize,
+    ty: &Type,
+    tag: Tag,
+    keeps: bool,
+    value: &Value,
+) -> Result<(), EncodeError>
+    requires { IsEnclosed (type_by (shape_of_type types.now below) ty.now) tag keeps }
+    ensures ok { OnOk result (AppendsEncoding (type_by (shape_of_type types.now below) ty.now) (tree_of value.now) encoder.old encoder.new) }
+    ensures err { OnErr result (encoder.new ≡ encoder.old) }
+    ensures refused { IfErr result (EncodeFails (type_by (shape_of_type types.now below) ty.now) (tree_of value.now) encoder.old) }
+{
+    encoder.open(keeps)?;
+    let outcome = encode_contents(encoder, types, below, ty, value);
+    encoder.close(tag, outcome)
+}
+
+/// Writes the contents of a value that holds other values.
+#[cycle(encode)]
+fn encode_contents(
+    encoder: &mut Encoder,
+    types: &[Type],
+    below: usize,
+    ty: &Type,
+    value: &Value,
+) -> Result<(), EncodeError>
+    requires { encoder.old.last ≡ fresh (keeps_tags (type_by (shape_of_type types.now below) ty.now)) }
+    ensures { EncodesInside (type_by (shape_of_type types.now below) ty.now) (tree_of value.now) encoder.old result encoder.new }
+{
+    match ty {
+        Type::Tagged { inner, .. } => encode_at(encoder, types, below, *inner, value),
+        Type::Sequence { components, .. } => match items_of(value) {
+            Some(values) => encode_components(encoder, types, below, components, values),
+            None => Err(misfit(encoder)),
+        },
+        Type::Set { components, .. } => match items_of(value) {
+            Some(values) => {
+                encode_components(encoder, types, below, components, values)?;
+                if encoder.kept_tags_out_of_order() {
+                    return Err(out_of_order(encoder));
+                }
+                Ok(())
+            }
+            None => Err(misfit(encoder)),
+        },
+        Type::SequenceOf {
+            element,
+            constraints,
+            ..
+        } => match items_of(value) {
+            Some(values) => {
+                encoder.check_size(constraints, values.len())?;
+                encode_elements(encoder, types, below, *element, values)
+            }
+            None => Err(misfit(encoder)),
+        },
+        Type::SetOf {
+            element,
+            constraints,
+            ..
+        } => match elements_of(value) {
+            Some(values) => {
+                encoder.check_size(constraints, values.len())?;
+                encode_elements_in_order(encoder, types, below, *element, values)
+            }
+            None => Err(misfit(encoder)),
+        },
+        _ => Err(misfit(encoder)),
+    }
+}
+
+/// Writes components, one after the other.
+#[cycle(encode)]
+fn encode_components(
+    encoder: &mut Encoder,
+    types: &[Type],
+    below: usize,
+    components: &[Component],
+    values: &[Value],
+) -> Result<(), EncodeError>
+    ensures { EncodesParts (components_by (shape_of_type types.now below) components.now) (list_tree tree_of values.now) encoder.old result encoder.new }
+{
+    let mut rest = components;
+    let mut left = values;
+    while let [component, after @ ..] = rest {
+        let [value, others @ ..] = left else {
+            return Err(misfit(encoder));
+        };
+        encode_component(encoder, types, below, component, value)?;
+        rest = after;
+        left = others;
+    }
+    if left.is_empty() {
+        Ok(())
+    } else {
+        Err(misfit(encoder))
+    }
+}
+
+/// Writes a component, or nothing if it is absent.
+#[cycle(encode)]
+fn encode_component(
+    encoder: &mut Encoder,
+    types: &[Type],
+    below: usize,
+    component: &Component,
+    value: &Value,
+) -> Result<(), EncodeError>
+    ensures ok { OnOk result (AppendsPart (presence_of component.now.presence) (shape_of_type types.now below component.now.type_id) (tree_of value.now) encoder.old encoder.new) }
+    ensures err { OnErr result (encoder.new ≡ encoder.old) }
+    ensures refused { IfErr result (EncodePartFails (presence_of component.now.presence) (shape_of_type types.now below component.now.type_id) (tree_of value.now) encoder.old) }
+{
+    if is_left_out(component, value) {
+        return Ok(());
+    }
+    encode_at(encoder, types, below, component.type_id, value)
+}
+
+/// Writes elements, one after the other.
+#[cycle(encode)]
+fn encode_elements(
+    encoder: &mut Encoder,
+    types: &[Type],
+    below: usize,
+    element: TypeId,
+    values: &[Value],
+) -> Result<(), EncodeError>
+    requires { encoder.old.last.tags ≡ None }
+    ensures keeps { LeavesOthers encoder.old encoder.new }
+    ensures ok { OnOk result (AppendsElements (shape_of_type types.now below element) (map tree_of values.now) encoder.old encoder.new) }
+    ensures refused { IfErr result (FailsAtElement (shape_of_type types.now below element) (map tree_of values.now) encoder.old.rule) }
+{
+    let mut rest = values;
+    while let [value, after @ ..] = rest {
+        encode_at(encoder, types, below, element, value)?;
+        rest = after;
+    }
+    Ok(())
+}
+
+/// Writes elements whose octets are in ascending order.
+#[cycle(encode)]
+fn encode_elements_in_order(
+    encoder: &mut Encoder,
+    types: &[Type],
+    below: usize,
+    element: TypeId,
+    values: &[Value],
+) -> Result<(), EncodeError>
+    requires { encoder.old.last.tags ≡ None }
+    ensures keeps { LeavesOthers encoder.old encoder.new }
+    ensures ok { OnOk result (AppendsSetOf (shape_of_type types.now below element) (map tree_of values.now) encoder.old encoder.new) }
+    ensures refused { IfErr result (FailsAtElements (shape_of_type types.now below element) (map tree_of values.now) encoder.old.rule) }
+{
+    let mut previous = encoder.last_len();
+    let mut rest = values;
+    while let [value, after @ ..] = rest {
+        let start = encoder.last_len();
+        encode_at(encoder, types, below, element, value)?;
+        if encoder.neighbours_out_of_order(previous, start) {
+            return Err(out_of_order(encoder));
+        }
+        previous = start;
+        rest = after;
+    }
+    Ok(())
+}

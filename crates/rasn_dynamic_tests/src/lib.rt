@@ -1,0 +1,9 @@
+//! The tests of schemas, and of values that are read and written by them.
+#![tactic(auto)]
+
+#[cfg(test)]
+mod definitions;
+#[cfg(test)]
+mod messages;
+#[cfg(test)]
+mod refused;
