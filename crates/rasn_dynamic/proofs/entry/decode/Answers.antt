@@ -1,5 +1,4 @@
-use Rattle.std.proofs.Common.{◌≡◌, List, [], Ok, subst, arith}
-use Rattle.rasn_types.specs.declared.types.codec.Codec.TheVariants.{Der}
+use Rattle.std.proofs.Common.{Ok, subst, arith}
 use Rattle.rasn_types.specs.Grammar.{Reads, top}
 use Rattle.rasn_de.specs.Outcomes.{Exact, Got}
 use Rattle.rasn_de.proofs.Headers.Results.{octets_all}
@@ -8,3 +7,11 @@ use Rattle.rasn_dynamic.specs.Entry.{shape_of}
 use Rattle.rasn.specs.Headline.{AnsweredAlone}
 use Rattle.rasn.proofs.ReadBack.Der.{as_written}
 use Rattle.rasn_dynamic.proofs.entry.decode.Goals as goal
+
+pub returns-clause-written : goal.returns-clause-written
+returns-clause-written c = λ der.
+    let s = shape_of c.args.schema.now.types.items c.args.id in
+    let value = c.in_ok-value.value in
+    let alone = subst (λ r. Exact (Reads c.args.rule s 128 (top c.args.rule)) c.args.input.now (Got (tree_of value) r)) c.in_ok-refuse_remainder.ensures c.in_ok-value.ensures in
+    as_written s tree_of c.args.input.now (octets_all c.args.input.now (λ i. omega (arith, c.type_inv.input i))) (Ok value)
+    (subst (λ k. AnsweredAlone k s tree_of c.args.input.now (Ok value)) der alone)
