@@ -14,5 +14,7 @@ mod set;
 mod write_leaf;
 mod writer;
 
-pub use entry::{NormaliseError, WriteError, decode, decode_with_remainder, encode, is_canonical, normalise};
+pub use entry::{
+    NormaliseError, WriteError, decode, decode_with_remainder, encode, is_canonical, normalise,
+};
 pub use fitting::fits;
