@@ -3,11 +3,9 @@ use Rattle.std.specs.Prelude.{ℕ, pos}
 use Rattle.rasn_types.specs.declared.types.tag.Tag.{Tag}
 use Rattle.rasn_types.specs.declared.types.tag.Class.TheVariants.{Context}
 use Rattle.rasn_types.specs.Tags.{in_universal}
-use Rattle.rasn_types.specs.Shapes.{Shape, Tree, number, chosen, leaf, integer, boolean, Parts, part, required, optional, default}
+use Rattle.rasn_types.specs.Shapes.{Shape, Tree, number, leaf, integer, boolean, Parts, part, required, optional, default}
 use Rattle.rasn_types.specs.Shapes.Parts.{none}
-use Rattle.rasn_types.specs.Trees.{bool_tree, unconstrained, unsigned_range}
-use Rattle.rasn_tests.specs.declared.types.signal_component.Component.{Component}
-use Rattle.rasn_tests.specs.declared.types.signal_component.Component.TheVariants.{Truth, Level, Mark}
+use Rattle.rasn_types.specs.Trees.{unconstrained, unsigned_range}
 
 abbrev pub octet_at : Tag → Shape
 octet_at tag = leaf (integer (unsigned_range 8)) tag unconstrained
@@ -20,8 +18,3 @@ signal_parts = part optional (leaf boolean (in_universal 1) unconstrained) (part
 
 abbrev pub level_tree : ℕ → Tree
 level_tree n = number (pos n)
-
-abbrev pub component_tree : Component → Tree
-component_tree (Truth truth) = chosen 0 (bool_tree truth)
-component_tree (Level level) = chosen 1 (level_tree level)
-component_tree (Mark mark) = chosen 2 (level_tree mark)

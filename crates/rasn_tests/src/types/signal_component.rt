@@ -68,9 +68,10 @@ pub enum Component {
 impl AsnType for Component {
     ghost use Rattle.std.specs.Prelude.{refl};
     ghost use Rattle.rasn_types.specs.Tags.{eoc};
-    ghost use Rattle.rasn_types.specs.Shapes.{choice};
-    ghost use Rattle.rasn_types.specs.Trees.{unconstrained};
-    ghost use Rattle.rasn_tests.specs.Signal.{signal_parts, component_tree};
+    ghost use Rattle.rasn_types.specs.Shapes.{choice, chosen};
+    ghost use Rattle.rasn_types.specs.Trees.{bool_tree, unconstrained};
+    ghost use Rattle.rasn_tests.specs.Signal.{signal_parts, level_tree};
+    ghost use Rattle.rasn_tests.specs.declared.types.signal_component.Component.TheVariants.{Truth, Level, Mark};
 
     ghost TAG = { eoc };
 
@@ -82,7 +83,7 @@ impl AsnType for Component {
 
     ghost shape = { choice signal_parts };
 
-    ghost tree = { component_tree };
+    ghost tree = { λ c. elim c [ Truth truth ↦ chosen 0 (bool_tree truth) | Level level ↦ chosen 1 (level_tree level) | Mark mark ↦ chosen 2 (level_tree mark) ] };
 
     ghost own = { refl };
 }
