@@ -1,5 +1,6 @@
 -- A character string is read exactly where the grammar has one.
 use Rattle.std.proofs.Common.{◌≡◌, ◌≢◌, ℕ, ◌⊎◌, inl, inr, true, false, List, Result, Ok, Err, refl, sym, ap, ◌∙◌, subst}
+use Rattle.std.specs.Prelude.{IfErr}
 use Rattle.std.specs.Cow.{cow_slice_items, IsOwnedSlice}
 use Rattle.std.specs.declared.alloc.Global.{Global}
 use Rattle.std.specs.declared.borrow.CowSlice.{CowSlice}
@@ -26,6 +27,7 @@ use Rattle.rasn_de.proofs.Headers.Ends.{IsEnd-refl}
 use Rattle.rasn_de.proofs.Headers.NextTag.{kind_memory, memory_or}
 use Rattle.rasn_de.proofs.Leaves.Errors.{refuses_fault, same_at, rule_is}
 use Rattle.rasn_de.proofs.Strings.Ends.{octets_there, octets_only, octets_end}
+use Rattle.rasn_de.proofs.Leaves.Rules.{string_rules}
 
 -- What is told of octets is what the kind says of them.
 pub record Fits (kind : Kind) (bounds : Constraints) (Told : StringCheck) : Type 0 where
@@ -111,10 +113,10 @@ lent rule tag l (Owned v) n h = let k = n tt in cc
 -- What a function that reads a string ensures: `reads` follows from the exact clause.
 module _ {kind : Kind} {bounds : Constraints} {Told : StringCheck} (fits : Fits kind bounds Told) {X : Type 0} (see : X → List ℕ) (tag : Tag) (old new : State) (o : AreOctets old.rest) where
   abbrev pub Ensured : Result X DecodeError → Type 0
-  Ensured result = record { reads : Decodes (leaf kind tag bounds) (λ x. numbers (see x)) old result new; exact : DecodesString see Told tag old result new }
+  Ensured result = record { reads : Decodes (leaf kind tag bounds) (λ x. numbers (see x)) old result new; exact : DecodesString see Told tag old result new; rules : IfErr result (λ e. e.codec ≡ old.rule) }
 
   ensured : (result : Result X DecodeError) → DecodesString see Told tag old result new → Ensured result
-  ensured result g = record { reads = string_decodes fits see tag old new result o g; exact = g }
+  ensured result g = record { reads = string_decodes fits see tag old new result o g; exact = g; rules = string_rules see Told tag old new result g }
 
   -- octets that weren't gathered
   pub string_ungathered : (e : DecodeError) → DecodesOctets tag old (Err e) new → Ensured (Err e)

@@ -1,5 +1,5 @@
 //! Character strings (X.690 8.23).
-ghost use Rattle.std.specs.Prelude.{chars};
+ghost use Rattle.std.specs.Prelude.{chars, ◌≡◌, IfErr};
 ghost use Rattle.std.specs.String.{string_bytes};
 ghost use Rattle.rasn_types.specs.declared.types.strings.alphabet.Alphabet.TheVariants.{Numeric, Printable, Visible, Ia5, Every};
 ghost use Rattle.rasn_types.specs.CharacterString.{string_kind, units_of};
@@ -94,6 +94,7 @@ impl<'input> Decoder<'input> {
     ) -> Result<VisibleString, DecodeError>
         ensures reads { Decodes (leaf visible tag constraints.now) numbers self.old result self.new }
         ensures exact { DecodesString (λ s. s) (ByAlphabet Visible constraints.now.size) tag self.old result self.new }
+        ensures rules { IfErr result (λ e. e.codec ≡ self.old.rule) }
     {
         self.restricted::<VisibleType>(tag, constraints)
     }
@@ -110,6 +111,7 @@ impl<'input> Decoder<'input> {
     ) -> Result<Ia5String, DecodeError>
         ensures reads { Decodes (leaf ia5 tag constraints.now) numbers self.old result self.new }
         ensures exact { DecodesString (λ s. s) (ByAlphabet Ia5 constraints.now.size) tag self.old result self.new }
+        ensures rules { IfErr result (λ e. e.codec ≡ self.old.rule) }
     {
         self.restricted::<Ia5Type>(tag, constraints)
     }
@@ -126,6 +128,7 @@ impl<'input> Decoder<'input> {
     ) -> Result<PrintableString, DecodeError>
         ensures reads { Decodes (leaf printable tag constraints.now) numbers self.old result self.new }
         ensures exact { DecodesString (λ s. s) (ByAlphabet Printable constraints.now.size) tag self.old result self.new }
+        ensures rules { IfErr result (λ e. e.codec ≡ self.old.rule) }
     {
         self.restricted::<PrintableType>(tag, constraints)
     }
@@ -142,6 +145,7 @@ impl<'input> Decoder<'input> {
     ) -> Result<NumericString, DecodeError>
         ensures reads { Decodes (leaf numeric tag constraints.now) numbers self.old result self.new }
         ensures exact { DecodesString (λ s. s) (ByAlphabet Numeric constraints.now.size) tag self.old result self.new }
+        ensures rules { IfErr result (λ e. e.codec ≡ self.old.rule) }
     {
         self.restricted::<NumericType>(tag, constraints)
     }
@@ -157,6 +161,7 @@ impl<'input> Decoder<'input> {
     ) -> Result<TeletexString, DecodeError>
         ensures reads { Decodes (leaf any_octets tag constraints.now) numbers self.old result self.new }
         ensures exact { DecodesString (λ s. s) (ByAlphabet Every constraints.now.size) tag self.old result self.new }
+        ensures rules { IfErr result (λ e. e.codec ≡ self.old.rule) }
     {
         self.restricted::<TeletexType>(tag, constraints)
     }
@@ -172,6 +177,7 @@ impl<'input> Decoder<'input> {
     ) -> Result<GeneralString, DecodeError>
         ensures reads { Decodes (leaf any_octets tag constraints.now) numbers self.old result self.new }
         ensures exact { DecodesString (λ s. s) (ByAlphabet Every constraints.now.size) tag self.old result self.new }
+        ensures rules { IfErr result (λ e. e.codec ≡ self.old.rule) }
     {
         self.restricted::<GeneralType>(tag, constraints)
     }
@@ -187,6 +193,7 @@ impl<'input> Decoder<'input> {
     ) -> Result<GraphicString, DecodeError>
         ensures reads { Decodes (leaf any_octets tag constraints.now) numbers self.old result self.new }
         ensures exact { DecodesString (λ s. s) (ByAlphabet Every constraints.now.size) tag self.old result self.new }
+        ensures rules { IfErr result (λ e. e.codec ≡ self.old.rule) }
     {
         self.restricted::<GraphicType>(tag, constraints)
     }
@@ -203,6 +210,7 @@ impl<'input> Decoder<'input> {
     ) -> Result<BmpString, DecodeError>
         ensures reads { Decodes (leaf bmp tag constraints.now) (λ s. numbers (units_of s)) self.old result self.new }
         ensures exact { DecodesString units_of (ByUnits constraints.now.size) tag self.old result self.new }
+        ensures rules { IfErr result (λ e. e.codec ≡ self.old.rule) }
     {
         let octets = self.octets(tag)?;
         if let Err(fault) = check_units(constraints, octets.as_slice()) {
@@ -227,6 +235,7 @@ impl<'input> Decoder<'input> {
     ) -> Result<String, DecodeError>
         ensures reads { Decodes (leaf utf8 tag constraints.now) (λ s. numbers (chars (string_bytes s))) self.old result self.new }
         ensures exact { DecodesString (λ s. chars (string_bytes s)) (ByUtf8 constraints.now.size) tag self.old result self.new }
+        ensures rules { IfErr result (λ e. e.codec ≡ self.old.rule) }
     {
         let octets = self.octets(tag)?;
         let text = match text_of(octets) {
@@ -251,6 +260,7 @@ impl<'input> Decoder<'input> {
     ) -> Result<RestrictedString<S>, DecodeError>
         ensures reads { Decodes (leaf (string_kind S.ALPHABET) tag constraints.now) numbers self.old result self.new }
         ensures exact { DecodesString (λ s. s) (ByAlphabet S.ALPHABET constraints.now.size) tag self.old result self.new }
+        ensures rules { IfErr result (λ e. e.codec ≡ self.old.rule) }
     {
         let octets = self.octets(tag)?;
         if let Err(fault) = check_alphabet(S::ALPHABET, constraints, octets.as_slice()) {
