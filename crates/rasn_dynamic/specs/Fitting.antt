@@ -85,7 +85,7 @@ abbrev pub FitsBy : (ℕ → Value → Type 0) → «Type» → Value → Type 0
 FitsBy g (Leaf kind tag c) v = FitsLeaf kind v
 FitsBy g (Any tag) v = AreOctets v
 FitsBy g (Tagged tag k) v = g k v
-FitsBy g (Choice ks) v = IsChosen (AlternativeFits g ks.items) v
+FitsBy g (Choice name ks) v = IsChosen (AlternativeFits g ks.items) v
 FitsBy g (Sequence tag ps) v = AreItems (ComponentsFit g ps.items) v
 FitsBy g (Set tag ps) v = AreItems (ComponentsFit g ps.items) v
 FitsBy g (SequenceOf tag k c) v = AreItems (EachFits (g k)) v

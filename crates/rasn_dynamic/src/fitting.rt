@@ -128,7 +128,7 @@ fn type_fits(types: &[Type], below: usize, ty: &Type, value: &Value) -> bool
         Type::Leaf { kind, .. } => leaf_fits(*kind, value),
         Type::Any { .. } => are_octets(value),
         Type::Tagged { inner, .. } => fits_at(types, below, *inner, value),
-        Type::Choice { alternatives } => is_alternative(types, below, alternatives, value),
+        Type::Choice { alternatives, .. } => is_alternative(types, below, alternatives, value),
         Type::Sequence { components, .. } => are_components(types, below, components, value),
         Type::Set { components, .. } => are_components(types, below, components, value),
         Type::SequenceOf { element, .. } => is_list(types, below, *element, value),

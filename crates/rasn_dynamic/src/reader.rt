@@ -141,7 +141,7 @@ fn decode_type(
             constraints,
         } => decode_leaf(decoder, *kind, *tag, constraints),
         Type::Any { tag } => decode_any_value(decoder, *tag),
-        Type::Choice { alternatives } => decode_choice(decoder, types, below, alternatives),
+        Type::Choice { alternatives, .. } => decode_choice(decoder, types, below, alternatives),
         Type::Tagged { tag, .. } => {
             decode_inside(decoder, types, below, ty, ConstructedHeader::prefix(*tag))
         }

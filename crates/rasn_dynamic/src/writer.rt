@@ -72,7 +72,7 @@ fn encode_type(
             constraints,
         } => encode_leaf(encoder, *kind, *tag, constraints, value),
         Type::Any { tag } => encode_any_value(encoder, *tag, value),
-        Type::Choice { alternatives } => encode_choice(encoder, types, below, alternatives, value),
+        Type::Choice { alternatives, .. } => encode_choice(encoder, types, below, alternatives, value),
         Type::Tagged { tag, .. } => { encode_inside(encoder, types, below, ty, *tag, false, value) }
         Type::Sequence { tag, .. } => {
             encode_inside(encoder, types, below, ty, *tag, false, value)

@@ -122,7 +122,7 @@ type_broken : (own : ℕ → Option Tag) (f : ℕ → Shape) (id : ℕ) (ty : «
 type_broken own f id (Leaf kind tag c) e h w = leaf_broken id kind tag e h w
 type_broken own f id (Any tag) e h w = h
 type_broken own f id (Tagged tag k) e h w = tagged_broken f id tag k e h w
-type_broken own f id (Choice ks) e h w = choice_broken f id ks.items e h w
+type_broken own f id (Choice name ks) e h w = choice_broken f id ks.items e h w
 type_broken own f id (Sequence tag ps) e h w = sequence_broken own f id tag ps.items e h w
 type_broken own f id (Set tag ps) e h w = set_broken f id tag ps.items e h w
 type_broken own f id (SequenceOf tag k c) e h w = tag_broken id tag e h w

@@ -24,7 +24,7 @@ node_present : (f : ℕ → Shape) → ((k : ℕ) → IsAlwaysPresent (f k)) →
 node_present f h (Leaf kind tag c) = tt
 node_present f h (Any tag) = tt
 node_present f h (Tagged tag k) = tt
-node_present f h (Choice ks) = all_present f h ks.items
+node_present f h (Choice name ks) = all_present f h ks.items
 node_present f h (Sequence tag ps) = tt
 node_present f h (Set tag ps) = tt
 node_present f h (SequenceOf tag k c) = tt
@@ -88,7 +88,7 @@ module _ (f : ℕ → Shape) where
   others_have_tag (Leaf kind tag c) n = tt
   others_have_tag (Any tag) n = absurd (n tag refl)
   others_have_tag (Tagged tag k) n = tt
-  others_have_tag (Choice ks) n = tt
+  others_have_tag (Choice name ks) n = tt
   others_have_tag (Sequence tag ps) n = tt
   others_have_tag (Set tag ps) n = tt
   others_have_tag (SequenceOf tag k c) n = tt

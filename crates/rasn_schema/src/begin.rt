@@ -52,7 +52,7 @@ fn type_begins(types: &[Type], below: usize, ty: &Type, tag: Tag) -> bool
     ensures { IsWhether result (IsFirst (type_by (shape_of_type types.now below) ty.now) tag) }
 {
     match ty {
-        Type::Choice { alternatives } => some_begins(types, below, alternatives, tag),
+        Type::Choice { alternatives, .. } => some_begins(types, below, alternatives, tag),
         Type::Any { tag: own } => any_begins(*own, tag),
         Type::Leaf { tag: own, .. } => is_tag(tag, *own),
         Type::Enumerated { tag: own, .. } => is_tag(tag, *own),

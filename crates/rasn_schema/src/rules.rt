@@ -454,7 +454,7 @@ fn type_fault(types: &[Type], levels: usize, id: TypeId, ty: &Type) -> Option<Sc
         Type::Leaf { kind, tag, .. } => leaf_fault(id, *kind, *tag),
         Type::Enumerated { tag, numbers } => numbers_fault(id, *tag, numbers),
         Type::Any { .. } => None,
-        Type::Choice { alternatives } => choice_fault(types, levels, id, alternatives),
+        Type::Choice { alternatives, .. } => choice_fault(types, levels, id, alternatives),
         Type::Tagged { tag, inner } => tagged_fault(types, levels, id, *tag, *inner),
         Type::Sequence { tag, components } => sequence_fault(types, levels, id, *tag, components),
         Type::Set { tag, components } => set_fault(types, levels, id, *tag, components),
