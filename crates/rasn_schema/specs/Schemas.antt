@@ -66,7 +66,7 @@ IsWellFormed own f id (Leaf kind tag c names) = (tag ≢ eoc) × IsBitFree (fami
 IsWellFormed own f id (Enumerated tag ns) = (tag ≢ eoc) × AreDistinctNumbers ns.items
 IsWellFormed own f id (Any tag) = Unit {0}
 IsWellFormed own f id (Tagged tag k) = (tag ≢ eoc) × (IsPrefix (f k.0) → k.0 < id)
-IsWellFormed own f id (Choice ks) = (ks.items ≢ []) × AreLowerAndTagged f id ks.items × AreDistinctAlternatives f ks.items
+IsWellFormed own f id (Choice name ks) = (ks.items ≢ []) × AreLowerAndTagged f id ks.items × AreDistinctAlternatives f ks.items
 IsWellFormed own f id (Sequence tag ps) = (tag ≢ eoc) × AreToldInOrder own f ps.items
 IsWellFormed own f id (Set tag ps) = (tag ≢ eoc) × AreTagged f ps.items × AreInOrderOfTags f ps.items
 IsWellFormed own f id (SequenceOf tag k c) = tag ≢ eoc
@@ -85,7 +85,7 @@ abbrev pub AreWellFormed : (ℕ → Option Tag) → (ℕ → Shape) → List «T
 AreWellFormed own f types = (k : ℕ) (ty : «Type») → Some ty ≡ slice_get types k → IsWellFormed own f k ty
 
 abbrev pub IsChoice : «Type» → Type 0
-IsChoice (Choice ks) = Unit {0}
+IsChoice (Choice name ks) = Unit {0}
 IsChoice _ = ⊥
 
 abbrev pub AreChoicesWellFormed : (ℕ → Option Tag) → (ℕ → Shape) → List «Type» → Type 0

@@ -67,7 +67,7 @@ fn type_first_tags(ty: &Type) -> FirstTags<'_>
     ensures { (f : _) → AreFirstTags f (type_by f ty.now) result }
 {
     match ty {
-        Type::Choice { alternatives } => FirstTags::Of(alternatives.as_slice()),
+        Type::Choice { alternatives, .. } => FirstTags::Of(alternatives.as_slice()),
         Type::Any { tag } => any_first_tags(*tag),
         Type::Leaf { tag, .. } => FirstTags::One(*tag),
         Type::Enumerated { tag, .. } => FirstTags::One(*tag),

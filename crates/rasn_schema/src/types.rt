@@ -78,8 +78,10 @@ pub enum Type {
         tag: Tag,
         inner: TypeId,
     },
-    /// A CHOICE (X.680 29). Each alternative has a lower number than the CHOICE.
+    /// A CHOICE (X.680 29), with the name that errors have for it. Each alternative has a lower
+    /// number than the CHOICE.
     Choice {
+        name: String,
         alternatives: Vec<Alternative>,
     },
     /// A SEQUENCE (X.680 25).
