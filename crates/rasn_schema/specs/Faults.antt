@@ -6,62 +6,71 @@ use Rattle.rasn_types.specs.Grammar.{family}
 use Rattle.rasn_types.specs.Shapes.{Shape, addition}
 use Rattle.rasn_types.specs.Lawful.{IsBitFree, HasTag}
 use Rattle.rasn_schema.specs.declared.types.Component.{Component}
+use Rattle.rasn_schema.specs.declared.types.Alternative.{Alternative}
+use Rattle.rasn_schema.specs.declared.types.NamedNumber.{NamedNumber}
 use Rattle.rasn_schema.specs.declared.types.LeafKind.{LeafKind}
 use Rattle.rasn_schema.specs.declared.types.«Type».{«Type»}
-use Rattle.rasn_schema.specs.declared.types.«Type».TheVariants.{Leaf, Any, Tagged, Choice, Sequence, Set, SequenceOf, SetOf}
+use Rattle.rasn_schema.specs.declared.types.«Type».TheVariants.{Leaf, Enumerated, Any, Tagged, Choice, Sequence, Set, SequenceOf, SetOf}
 use Rattle.rasn_schema.specs.declared.error.SchemaError.{SchemaError}
-use Rattle.rasn_schema.specs.declared.error.SchemaError.TheVariants.{ReservedTag, ConstructedTag, LateInner, NoAlternatives, LateAlternative, UntaggedAlternative, AlternativesClash, ComponentsClash, UntaggedComponent, AdditionInSet, UntaggedInSet, SetClash, SetOutOfOrder}
+use Rattle.rasn_schema.specs.declared.error.SchemaError.TheVariants.{ReservedTag, ConstructedTag, LateInner, NumbersClash, NoAlternatives, LateAlternative, UntaggedAlternative, AlternativesClash, ComponentsClash, UntaggedComponent, AdditionInSet, UntaggedInSet, SetClash, SetOutOfOrder}
 use Rattle.rasn_schema.specs.Shapes.{presence_of, kind_of}
 use Rattle.rasn_schema.specs.FirstTags.{IsAlwaysThere}
 use Rattle.rasn_schema.specs.Schemas.{IsPrefix, AreDistinct, IsBefore, MayFollow, IsToldFrom, own_at, begin_at}
 
 -- The tag is universal 0.
 abbrev pub IsTagFault : ℕ → Tag → SchemaError → Type 0
-IsTagFault id tag (ReservedTag k) = (k ≡ id) × (tag ≡ eoc)
+IsTagFault id tag (ReservedTag k) = (k.0 ≡ id) × (tag ≡ eoc)
 IsTagFault id tag _ = ⊥
 
 -- The same, or the inner type has an explicit tag too, and no lower number.
 abbrev pub IsTaggedFault : (ℕ → Shape) → ℕ → Tag → ℕ → SchemaError → Type 0
-IsTaggedFault f id tag k (ReservedTag j) = (j ≡ id) × (tag ≡ eoc)
-IsTaggedFault f id tag k (LateInner j) = (j ≡ id) × IsPrefix (f k) × (k < id → ⊥)
+IsTaggedFault f id tag k (ReservedTag j) = (j.0 ≡ id) × (tag ≡ eoc)
+IsTaggedFault f id tag k (LateInner j) = (j.0 ≡ id) × IsPrefix (f k) × (k < id → ⊥)
 IsTaggedFault f id tag k _ = ⊥
 
 abbrev pub IsLeafFault : ℕ → LeafKind → Tag → SchemaError → Type 0
-IsLeafFault id kind tag (ReservedTag k) = (k ≡ id) × (tag ≡ eoc)
-IsLeafFault id kind tag (ConstructedTag k) = (k ≡ id) × (IsBitFree (family (kind_of kind)) tag → ⊥)
+IsLeafFault id kind tag (ReservedTag k) = (k.0 ≡ id) × (tag ≡ eoc)
+IsLeafFault id kind tag (ConstructedTag k) = (k.0 ≡ id) × (IsBitFree (family (kind_of kind)) tag → ⊥)
 IsLeafFault id kind tag _ = ⊥
 
+-- Numbers i and j, which is after it, are the same.
+abbrev pub IsNumbersFault : ℕ → Tag → List NamedNumber → SchemaError → Type 0
+IsNumbersFault id tag ns (ReservedTag k) = (k.0 ≡ id) × (tag ≡ eoc)
+IsNumbersFault id tag ns (NumbersClash k i j) = (k.0 ≡ id) × (i < j) × ((m n : NamedNumber) × (Some m ≡ slice_get ns i) × (Some n ≡ slice_get ns j) × (m.number ≡ n.number))
+IsNumbersFault id tag ns _ = ⊥
+
 -- Alternatives i and j, which is after it, may begin with the same tag; or alternative i breaks another rule.
-abbrev pub IsAlternativesFault : (ℕ → Shape) → ℕ → List ℕ → SchemaError → Type 0
-IsAlternativesFault f id ks (NoAlternatives k) = (k ≡ id) × (ks ≡ [])
-IsAlternativesFault f id ks (LateAlternative k i) = (k ≡ id) × ((a : ℕ) × (Some a ≡ slice_get ks i) × (a < id → ⊥))
-IsAlternativesFault f id ks (UntaggedAlternative k i) = (k ≡ id) × ((a : ℕ) × (Some a ≡ slice_get ks i) × (HasTag (f a) → ⊥))
-IsAlternativesFault f id ks (AlternativesClash k i j) = (k ≡ id) × (i < j) × ((a b : ℕ) × (Some a ≡ slice_get ks i) × (Some b ≡ slice_get ks j) × (AreDistinct (f a) (f b) → ⊥))
+abbrev pub IsAlternativesFault : (ℕ → Shape) → ℕ → List Alternative → SchemaError → Type 0
+IsAlternativesFault f id ks (NoAlternatives k) = (k.0 ≡ id) × (ks ≡ [])
+IsAlternativesFault f id ks (LateAlternative k i) = (k.0 ≡ id) × ((a : Alternative) × (Some a ≡ slice_get ks i) × (a.type_id.0 < id → ⊥))
+IsAlternativesFault f id ks (UntaggedAlternative k i) = (k.0 ≡ id) × ((a : Alternative) × (Some a ≡ slice_get ks i) × (HasTag (f a.type_id.0) → ⊥))
+IsAlternativesFault f id ks (AlternativesClash k i j) = (k.0 ≡ id) × (i < j) × ((a b : Alternative) × (Some a ≡ slice_get ks i) × (Some b ≡ slice_get ks j) × (AreDistinct (f a.type_id.0) (f b.type_id.0) → ⊥))
 IsAlternativesFault f id ks _ = ⊥
 
 -- Component i may be absent, and isn't told from component j, which may follow then; or has no tag, and isn't the last.
 abbrev pub IsSequenceFault : (ℕ → Option Tag) → (ℕ → Shape) → ℕ → Tag → List Component → SchemaError → Type 0
-IsSequenceFault own f id tag ps (ReservedTag k) = (k ≡ id) × (tag ≡ eoc)
-IsSequenceFault own f id tag ps (ComponentsClash k i j) = (k ≡ id) × MayFollow ps i j × ((p q : Component) × (Some p ≡ slice_get ps i) × (Some q ≡ slice_get ps j)
-    × (IsAlwaysThere (presence_of p.presence) → ⊥) × (IsToldFrom (own p.type_id) (f q.type_id) → ⊥))
-IsSequenceFault own f id tag ps (UntaggedComponent k i) = (k ≡ id) × (i + 1 < length ps) × ((p : Component) × (Some p ≡ slice_get ps i) × (IsAlwaysThere (presence_of p.presence) → ⊥) × (own p.type_id ≡ None))
+IsSequenceFault own f id tag ps (ReservedTag k) = (k.0 ≡ id) × (tag ≡ eoc)
+IsSequenceFault own f id tag ps (ComponentsClash k i j) = (k.0 ≡ id) × MayFollow ps i j × ((p q : Component) × (Some p ≡ slice_get ps i) × (Some q ≡ slice_get ps j)
+    × (IsAlwaysThere (presence_of p.presence) → ⊥) × (IsToldFrom (own p.type_id.0) (f q.type_id.0) → ⊥))
+IsSequenceFault own f id tag ps (UntaggedComponent k i) = (k.0 ≡ id) × (i + 1 < length ps) × ((p : Component) × (Some p ≡ slice_get ps i) × (IsAlwaysThere (presence_of p.presence) → ⊥) × (own p.type_id.0 ≡ None))
 IsSequenceFault own f id tag ps _ = ⊥
 
 -- Components i and j of a SET, which is after it, clash or aren't in order; or component i breaks another rule.
 abbrev pub IsSetFault : (ℕ → Shape) → ℕ → Tag → List Component → SchemaError → Type 0
-IsSetFault f id tag ps (ReservedTag k) = (k ≡ id) × (tag ≡ eoc)
-IsSetFault f id tag ps (AdditionInSet k i) = (k ≡ id) × ((p : Component) × (Some p ≡ slice_get ps i) × (presence_of p.presence ≡ addition))
-IsSetFault f id tag ps (UntaggedInSet k i) = (k ≡ id) × ((p : Component) × (Some p ≡ slice_get ps i) × (HasTag (f p.type_id) → ⊥))
-IsSetFault f id tag ps (SetClash k i j) = (k ≡ id) × (i < j) × ((p q : Component) × (Some p ≡ slice_get ps i) × (Some q ≡ slice_get ps j) × (AreDistinct (f p.type_id) (f q.type_id) → ⊥))
-IsSetFault f id tag ps (SetOutOfOrder k i j) = (k ≡ id) × (i < j) × ((p q : Component) × (Some p ≡ slice_get ps i) × (Some q ≡ slice_get ps j) × (IsBefore (f p.type_id) (f q.type_id) → ⊥))
+IsSetFault f id tag ps (ReservedTag k) = (k.0 ≡ id) × (tag ≡ eoc)
+IsSetFault f id tag ps (AdditionInSet k i) = (k.0 ≡ id) × ((p : Component) × (Some p ≡ slice_get ps i) × (presence_of p.presence ≡ addition))
+IsSetFault f id tag ps (UntaggedInSet k i) = (k.0 ≡ id) × ((p : Component) × (Some p ≡ slice_get ps i) × (HasTag (f p.type_id.0) → ⊥))
+IsSetFault f id tag ps (SetClash k i j) = (k.0 ≡ id) × (i < j) × ((p q : Component) × (Some p ≡ slice_get ps i) × (Some q ≡ slice_get ps j) × (AreDistinct (f p.type_id.0) (f q.type_id.0) → ⊥))
+IsSetFault f id tag ps (SetOutOfOrder k i j) = (k.0 ≡ id) × (i < j) × ((p q : Component) × (Some p ≡ slice_get ps i) × (Some q ≡ slice_get ps j) × (IsBefore (f p.type_id.0) (f q.type_id.0) → ⊥))
 IsSetFault f id tag ps _ = ⊥
 
 -- The error names a rule that the type with number id breaks.
 abbrev pub IsFaultOf : (ℕ → Option Tag) → (ℕ → Shape) → ℕ → «Type» → SchemaError → Type 0
-IsFaultOf own f id (Leaf kind tag c) e = IsLeafFault id kind tag e
+IsFaultOf own f id (Leaf kind tag c names) e = IsLeafFault id kind tag e
+IsFaultOf own f id (Enumerated tag ns) e = IsNumbersFault id tag ns.items e
 IsFaultOf own f id (Any tag) e = ⊥
-IsFaultOf own f id (Tagged tag k) e = IsTaggedFault f id tag k e
-IsFaultOf own f id (Choice ks) e = IsAlternativesFault f id ks.items e
+IsFaultOf own f id (Tagged tag k) e = IsTaggedFault f id tag k.0 e
+IsFaultOf own f id (Choice name ks) e = IsAlternativesFault f id ks.items e
 IsFaultOf own f id (Sequence tag ps) e = IsSequenceFault own f id tag ps.items e
 IsFaultOf own f id (Set tag ps) e = IsSetFault f id tag ps.items e
 IsFaultOf own f id (SequenceOf tag k c) e = IsTagFault id tag e

@@ -12,10 +12,12 @@ use Rattle.rasn_types.specs.Grammar.{Family, plain_family, bit_family, text_fami
 use Rattle.rasn_types.specs.Shapes.{Shape, leaf, any, prefix, choice, option, seq, set, list, set_of}
 use Rattle.rasn_types.specs.Lawful.{HasTag, IsBitFree}
 use Rattle.rasn_schema.specs.declared.types.Component.{Component}
+use Rattle.rasn_schema.specs.declared.types.Alternative.{Alternative}
+use Rattle.rasn_schema.specs.declared.types.NamedNumber.{NamedNumber}
 use Rattle.rasn_schema.specs.declared.types.«Type».{«Type»}
-use Rattle.rasn_schema.specs.declared.types.«Type».TheVariants.{Leaf, Any, Tagged, Choice, Sequence, Set, SequenceOf, SetOf}
+use Rattle.rasn_schema.specs.declared.types.«Type».TheVariants.{Leaf, Enumerated, Any, Tagged, Choice, Sequence, Set, SequenceOf, SetOf}
 use Rattle.rasn_schema.specs.Shapes.{kind_of}
-use Rattle.rasn_schema.specs.Schemas.{AreDistinct, IsBefore, AreLowerAndTagged, AreDistinctAlternatives, IsToldFrom, AreToldInOrder, AreTagged, AreInOrderOfTags, IsWellFormed, IsSchema, own_at, begin_at}
+use Rattle.rasn_schema.specs.Schemas.{AreDistinct, IsBefore, AreLowerAndTagged, AreDistinctAlternatives, AreDistinctNumbers, IsToldFrom, AreToldInOrder, AreTagged, AreInOrderOfTags, IsWellFormed, IsSchema, own_at, begin_at}
 
 -- ---- facts of several parts
 
@@ -61,36 +63,40 @@ bit_free_prop text_family tag = Bool-set _ _
 
 -- ---- of the rules
 
-lower_prop : (f : ℕ → Shape) (id : ℕ) (ks : List ℕ) → IsProp (AreLowerAndTagged f id ks)
-lower_prop f id ks = each_prop _ (λ i. each_prop _ (λ k. each_prop _ (λ e. ×_prop le_prop (has_tag_prop (f k)))))
+lower_prop : (f : ℕ → Shape) (id : ℕ) (ks : List Alternative) → IsProp (AreLowerAndTagged f id ks)
+lower_prop f id ks = each_prop _ (λ i. each_prop _ (λ a. each_prop _ (λ e. ×_prop le_prop (has_tag_prop (f a.type_id.0)))))
 
 distinct_prop : (s t : Shape) → IsProp (AreDistinct s t)
 distinct_prop s t = each_prop _ (λ n. each_prop _ (λ h. not_prop _))
 
-alternatives_prop : (f : ℕ → Shape) (ks : List ℕ) → IsProp (AreDistinctAlternatives f ks)
-alternatives_prop f ks = each_prop _ (λ i. each_prop _ (λ j. each_prop _ (λ k. each_prop _ (λ l. each_prop _ (λ h. each_prop _ (λ d. each_prop _ (λ e. distinct_prop (f k) (f l))))))))
+alternatives_prop : (f : ℕ → Shape) (ks : List Alternative) → IsProp (AreDistinctAlternatives f ks)
+alternatives_prop f ks = each_prop _ (λ i. each_prop _ (λ j. each_prop _ (λ a. each_prop _ (λ b. each_prop _ (λ h. each_prop _ (λ d. each_prop _ (λ e. distinct_prop (f a.type_id.0) (f b.type_id.0))))))))
+
+numbers_prop : (ns : List NamedNumber) → IsProp (AreDistinctNumbers ns)
+numbers_prop ns = each_prop _ (λ i. each_prop _ (λ j. each_prop _ (λ m. each_prop _ (λ n. each_prop _ (λ h. each_prop _ (λ d. each_prop _ (λ e. not_prop (m.number ≡ n.number))))))))
 
 told_prop : (o : Option Tag) (s : Shape) → IsProp (IsToldFrom o s)
 told_prop None s = none_prop
 told_prop (Some tag) s = not_prop _
 
 in_order_prop : (own : ℕ → Option Tag) (f : ℕ → Shape) (ps : List Component) → IsProp (AreToldInOrder own f ps)
-in_order_prop own f ps = each_prop _ (λ i. each_prop _ (λ j. each_prop _ (λ p. each_prop _ (λ q. each_prop _ (λ d. each_prop _ (λ e. each_prop _ (λ a. each_prop _ (λ m. told_prop (own p.type_id) (f q.type_id)))))))))
+in_order_prop own f ps = each_prop _ (λ i. each_prop _ (λ j. each_prop _ (λ p. each_prop _ (λ q. each_prop _ (λ d. each_prop _ (λ e. each_prop _ (λ a. each_prop _ (λ m. told_prop (own p.type_id.0) (f q.type_id.0)))))))))
 
 tagged_prop : (f : ℕ → Shape) (ps : List Component) → IsProp (AreTagged f ps)
-tagged_prop f ps = each_prop _ (λ i. each_prop _ (λ p. each_prop _ (λ e. ×_prop (not_prop _) (has_tag_prop (f p.type_id)))))
+tagged_prop f ps = each_prop _ (λ i. each_prop _ (λ p. each_prop _ (λ e. ×_prop (not_prop _) (has_tag_prop (f p.type_id.0)))))
 
 before_prop : (s t : Shape) → IsProp (IsBefore s t)
 before_prop s t = each_prop _ (λ m. each_prop _ (λ a. each_prop _ (λ n. each_prop _ (λ b. below_prop m n))))
 
 of_tags_prop : (f : ℕ → Shape) (ps : List Component) → IsProp (AreInOrderOfTags f ps)
-of_tags_prop f ps = each_prop _ (λ i. each_prop _ (λ j. each_prop _ (λ p. each_prop _ (λ q. each_prop _ (λ h. each_prop _ (λ d. each_prop _ (λ e. before_prop (f p.type_id) (f q.type_id))))))))
+of_tags_prop f ps = each_prop _ (λ i. each_prop _ (λ j. each_prop _ (λ p. each_prop _ (λ q. each_prop _ (λ h. each_prop _ (λ d. each_prop _ (λ e. before_prop (f p.type_id.0) (f q.type_id.0))))))))
 
 type_prop : (own : ℕ → Option Tag) (f : ℕ → Shape) (id : ℕ) (ty : «Type») → IsProp (IsWellFormed own f id ty)
-type_prop own f id (Leaf kind tag c) = ×_prop (not_prop (tag ≡ eoc)) (bit_free_prop (family (kind_of kind)) tag)
+type_prop own f id (Leaf kind tag c names) = ×_prop (not_prop (tag ≡ eoc)) (bit_free_prop (family (kind_of kind)) tag)
+type_prop own f id (Enumerated tag ns) = ×_prop (not_prop (tag ≡ eoc)) (numbers_prop ns.items)
 type_prop own f id (Any tag) = Unit-prop
 type_prop own f id (Tagged tag k) = ×_prop (not_prop (tag ≡ eoc)) (each_prop _ (λ h. le_prop))
-type_prop own f id (Choice ks) = three_prop (not_prop (ks.items ≡ [])) (lower_prop f id ks.items) (alternatives_prop f ks.items)
+type_prop own f id (Choice name ks) = three_prop (not_prop (ks.items ≡ [])) (lower_prop f id ks.items) (alternatives_prop f ks.items)
 type_prop own f id (Sequence tag ps) = ×_prop (not_prop (tag ≡ eoc)) (in_order_prop own f ps.items)
 type_prop own f id (Set tag ps) = three_prop (not_prop (tag ≡ eoc)) (tagged_prop f ps.items) (of_tags_prop f ps.items)
 type_prop own f id (SequenceOf tag k c) = not_prop _

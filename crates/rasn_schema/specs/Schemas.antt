@@ -6,8 +6,10 @@ use Rattle.rasn_types.specs.Grammar.{family}
 use Rattle.rasn_types.specs.Shapes.{Shape, prefix, IsFirst, looked_for, addition}
 use Rattle.rasn_types.specs.Lawful.{IsBitFree, HasTag}
 use Rattle.rasn_schema.specs.declared.types.Component.{Component}
+use Rattle.rasn_schema.specs.declared.types.Alternative.{Alternative}
+use Rattle.rasn_schema.specs.declared.types.NamedNumber.{NamedNumber}
 use Rattle.rasn_schema.specs.declared.types.«Type».{«Type»}
-use Rattle.rasn_schema.specs.declared.types.«Type».TheVariants.{Leaf, Any, Tagged, Choice, Sequence, Set, SequenceOf, SetOf}
+use Rattle.rasn_schema.specs.declared.types.«Type».TheVariants.{Leaf, Enumerated, Any, Tagged, Choice, Sequence, Set, SequenceOf, SetOf}
 use Rattle.rasn_schema.specs.Shapes.{presence_of, kind_of, tag_at, shape_of_type}
 use Rattle.rasn_schema.specs.FirstTags.{EachFirst, IsAlwaysThere}
 
@@ -26,12 +28,16 @@ IsPrefix (prefix tag s) = Unit {0}
 IsPrefix _ = ⊥
 
 -- Each alternative of the CHOICE with number id has a lower number, and a tag.
-abbrev pub AreLowerAndTagged : (ℕ → Shape) → ℕ → List ℕ → Type 0
-AreLowerAndTagged f id ks = (i k : ℕ) → Some k ≡ slice_get ks i → (k < id) × HasTag (f k)
+abbrev pub AreLowerAndTagged : (ℕ → Shape) → ℕ → List Alternative → Type 0
+AreLowerAndTagged f id ks = (i : ℕ) (a : Alternative) → Some a ≡ slice_get ks i → (a.type_id.0 < id) × HasTag (f a.type_id.0)
 
 -- No two alternatives begin with the same tag (X.680 29.3).
-abbrev pub AreDistinctAlternatives : (ℕ → Shape) → List ℕ → Type 0
-AreDistinctAlternatives f ks = (i j k l : ℕ) → i < j → Some k ≡ slice_get ks i → Some l ≡ slice_get ks j → AreDistinct (f k) (f l)
+abbrev pub AreDistinctAlternatives : (ℕ → Shape) → List Alternative → Type 0
+AreDistinctAlternatives f ks = (i j : ℕ) (a b : Alternative) → i < j → Some a ≡ slice_get ks i → Some b ≡ slice_get ks j → AreDistinct (f a.type_id.0) (f b.type_id.0)
+
+-- No two numbers of an ENUMERATED are the same (X.680 20.3).
+abbrev pub AreDistinctNumbers : List NamedNumber → Type 0
+AreDistinctNumbers ns = (i j : ℕ) (m n : NamedNumber) → i < j → Some m ≡ slice_get ns i → Some n ≡ slice_get ns j → m.number ≢ n.number
 
 -- If component i is absent, component j may follow what is before it: each one between them may be absent too.
 abbrev pub MayFollow : List Component → ℕ → ℕ → Type 0
@@ -44,22 +50,23 @@ IsToldFrom (Some tag) s = IsFirst s tag → ⊥
 
 -- A component that may be absent is told from each one that may follow then (X.680 25.6).
 abbrev pub AreToldInOrder : (ℕ → Option Tag) → (ℕ → Shape) → List Component → Type 0
-AreToldInOrder own f ps = (i j : ℕ) (p q : Component) → Some p ≡ slice_get ps i → Some q ≡ slice_get ps j → (IsAlwaysThere (presence_of p.presence) → ⊥) → MayFollow ps i j → IsToldFrom (own p.type_id) (f q.type_id)
+AreToldInOrder own f ps = (i j : ℕ) (p q : Component) → Some p ≡ slice_get ps i → Some q ≡ slice_get ps j → (IsAlwaysThere (presence_of p.presence) → ⊥) → MayFollow ps i j → IsToldFrom (own p.type_id.0) (f q.type_id.0)
 
 -- Each component of a SET has a tag, and none is an extension addition.
 abbrev pub AreTagged : (ℕ → Shape) → List Component → Type 0
-AreTagged f ps = (i : ℕ) (p : Component) → Some p ≡ slice_get ps i → (presence_of p.presence ≢ addition) × HasTag (f p.type_id)
+AreTagged f ps = (i : ℕ) (p : Component) → Some p ≡ slice_get ps i → (presence_of p.presence ≢ addition) × HasTag (f p.type_id.0)
 
 -- The components of a SET are in the order of their tags, which are distinct (X.680 27.3).
 abbrev pub AreInOrderOfTags : (ℕ → Shape) → List Component → Type 0
-AreInOrderOfTags f ps = (i j : ℕ) (p q : Component) → i < j → Some p ≡ slice_get ps i → Some q ≡ slice_get ps j → IsBefore (f p.type_id) (f q.type_id)
+AreInOrderOfTags f ps = (i j : ℕ) (p q : Component) → i < j → Some p ≡ slice_get ps i → Some q ≡ slice_get ps j → IsBefore (f p.type_id.0) (f q.type_id.0)
 
 -- What is asked of the type with number id. An explicit tag within another one has a lower number, so that tags end. Of the types that it names, f tells how they begin.
 abbrev pub IsWellFormed : (ℕ → Option Tag) → (ℕ → Shape) → ℕ → «Type» → Type 0
-IsWellFormed own f id (Leaf kind tag c) = (tag ≢ eoc) × IsBitFree (family (kind_of kind)) tag
+IsWellFormed own f id (Leaf kind tag c names) = (tag ≢ eoc) × IsBitFree (family (kind_of kind)) tag
+IsWellFormed own f id (Enumerated tag ns) = (tag ≢ eoc) × AreDistinctNumbers ns.items
 IsWellFormed own f id (Any tag) = Unit {0}
-IsWellFormed own f id (Tagged tag k) = (tag ≢ eoc) × (IsPrefix (f k) → k < id)
-IsWellFormed own f id (Choice ks) = (ks.items ≢ []) × AreLowerAndTagged f id ks.items × AreDistinctAlternatives f ks.items
+IsWellFormed own f id (Tagged tag k) = (tag ≢ eoc) × (IsPrefix (f k.0) → k.0 < id)
+IsWellFormed own f id (Choice name ks) = (ks.items ≢ []) × AreLowerAndTagged f id ks.items × AreDistinctAlternatives f ks.items
 IsWellFormed own f id (Sequence tag ps) = (tag ≢ eoc) × AreToldInOrder own f ps.items
 IsWellFormed own f id (Set tag ps) = (tag ≢ eoc) × AreTagged f ps.items × AreInOrderOfTags f ps.items
 IsWellFormed own f id (SequenceOf tag k c) = tag ≢ eoc
@@ -78,7 +85,7 @@ abbrev pub AreWellFormed : (ℕ → Option Tag) → (ℕ → Shape) → List «T
 AreWellFormed own f types = (k : ℕ) (ty : «Type») → Some ty ≡ slice_get types k → IsWellFormed own f k ty
 
 abbrev pub IsChoice : «Type» → Type 0
-IsChoice (Choice ks) = Unit {0}
+IsChoice (Choice name ks) = Unit {0}
 IsChoice _ = ⊥
 
 abbrev pub AreChoicesWellFormed : (ℕ → Option Tag) → (ℕ → Shape) → List «Type» → Type 0

@@ -1,19 +1,21 @@
 -- The shapes that a schema has.
-use Rattle.std.specs.Prelude.{ℕ, zero, suc, List, [], ◌∷◌, Option, Some, None, slice_get}
+use Rattle.std.specs.Prelude.{ℕ, ℤ, zero, suc, List, [], ◌∷◌, Option, Some, None, slice_get}
 use Rattle.rasn_types.specs.declared.types.tag.Tag.{Tag}
 use Rattle.rasn_types.specs.Tags.{eoc}
-use Rattle.rasn_types.specs.Shapes.{Tree, number, bits, Shape, leaf, any, prefix, choice, seq, set, list, set_of, Parts, part, looked_for, Kind, boolean, null, object_identifier, bit_string, octet_string, integer, every, numeric, printable, visible, ia5, any_octets, bmp, utf8, utc_time, generalized_time, date, required, optional, addition, default, Presence as PartPresence}
+use Rattle.rasn_types.specs.Shapes.{Shape, leaf, any, prefix, choice, seq, set, list, set_of, Parts, part, looked_for, Kind, boolean, null, object_identifier, bit_string, octet_string, fixed, integer, enumerated, every, numeric, printable, visible, ia5, any_octets, bmp, utf8, utc_time, generalized_time, date, required, optional, addition, default, Presence as PartPresence}
 use Rattle.rasn_types.specs.Shapes.Parts.{none}
 use Rattle.rasn_types.specs.Lawful.{IsLawful}
+use Rattle.rasn_types.specs.Trees.{signed_range, unsigned_range, unconstrained}
+use Rattle.rasn_schema.specs.Trees.{tree_of}
 use Rattle.rasn_schema.specs.declared.types.LeafKind.{LeafKind}
-use Rattle.rasn_schema.specs.declared.types.LeafKind.TheVariants.{Boolean, Null, ObjectIdentifier, BitString, OctetString, Integer, Numeric, Printable, Visible, Ia5, AnyOctets, Bmp, Utf8, UtcTime, GeneralizedTime, Date}
+use Rattle.rasn_schema.specs.declared.types.LeafKind.TheVariants.{Boolean, Null, ObjectIdentifier, BitString, OctetString, FixedOctetString, Integer, Signed32, Signed64, Unsigned32, Unsigned64, Numeric, Printable, Visible, Ia5, AnyOctets, Bmp, Utf8, UtcTime, GeneralizedTime, Date}
 use Rattle.rasn_schema.specs.declared.types.Presence.{Presence}
 use Rattle.rasn_schema.specs.declared.types.Presence.TheVariants.{Required, Optional, Addition, Default}
 use Rattle.rasn_schema.specs.declared.types.Component.{Component}
+use Rattle.rasn_schema.specs.declared.types.Alternative.{Alternative}
+use Rattle.rasn_schema.specs.declared.types.NamedNumber.{NamedNumber}
 use Rattle.rasn_schema.specs.declared.types.«Type».{«Type»}
-use Rattle.rasn_schema.specs.declared.types.«Type».TheVariants.{Leaf, Any, Tagged, Choice, Sequence, Set, SequenceOf, SetOf}
-use Rattle.rasn_schema.specs.declared.types.Constant.{Constant}
-use Rattle.rasn_schema.specs.declared.types.Constant.TheVariants.{Number as ConstantNumber, Bits as ConstantBits}
+use Rattle.rasn_schema.specs.declared.types.«Type».TheVariants.{Leaf, Enumerated, Any, Tagged, Choice, Sequence, Set, SequenceOf, SetOf}
 
 abbrev pub kind_of : LeafKind → Kind
 kind_of Boolean = boolean
@@ -21,7 +23,12 @@ kind_of Null = null
 kind_of ObjectIdentifier = object_identifier
 kind_of BitString = bit_string
 kind_of OctetString = octet_string
+kind_of (FixedOctetString n) = fixed n
 kind_of Integer = integer every
+kind_of Signed32 = integer (signed_range 32)
+kind_of Signed64 = integer (signed_range 64)
+kind_of Unsigned32 = integer (unsigned_range 32)
+kind_of Unsigned64 = integer (unsigned_range 64)
 kind_of Numeric = numeric
 kind_of Printable = printable
 kind_of Visible = visible
@@ -33,41 +40,44 @@ kind_of UtcTime = utc_time
 kind_of GeneralizedTime = generalized_time
 kind_of Date = date
 
-abbrev pub constant_tree : Constant → Tree
-constant_tree (ConstantNumber n) = number n
-constant_tree (ConstantBits b) = bits b
+-- the numbers of an ENUMERATED
+abbrev pub numbers_of : List NamedNumber → List ℤ
+numbers_of [] = []
+numbers_of (n ∷ ns) = n.number ∷ numbers_of ns
 
 abbrev pub presence_of : Presence → PartPresence
 presence_of Required = required
 presence_of Optional = optional
 presence_of Addition = addition
-presence_of (Default c) = default (constant_tree c)
+presence_of (Default v) = default (tree_of v)
 
 -- Components and alternatives. f gives the shape of the type with a number.
 abbrev pub components_by : (ℕ → Shape) → List Component → Parts
 components_by f [] = none
-components_by f (p ∷ ps) = part (presence_of p.presence) (f p.type_id) (components_by f ps)
+components_by f (p ∷ ps) = part (presence_of p.presence) (f p.type_id.0) (components_by f ps)
 
-abbrev pub alternatives_by : (ℕ → Shape) → List ℕ → Parts
+abbrev pub alternatives_by : (ℕ → Shape) → List Alternative → Parts
 alternatives_by f [] = none
-alternatives_by f (k ∷ ks) = part required (f k) (alternatives_by f ks)
+alternatives_by f (a ∷ ks) = part required (f a.type_id.0) (alternatives_by f ks)
 
 abbrev pub type_by : (ℕ → Shape) → «Type» → Shape
-type_by f (Leaf kind tag c) = leaf (kind_of kind) tag c
+type_by f (Leaf kind tag c names) = leaf (kind_of kind) tag c
+type_by f (Enumerated tag ns) = leaf (enumerated (numbers_of ns.items)) tag unconstrained
 type_by f (Any tag) = any (looked_for tag)
-type_by f (Tagged tag k) = prefix tag (f k)
-type_by f (Choice ks) = choice (alternatives_by f ks.items)
+type_by f (Tagged tag k) = prefix tag (f k.0)
+type_by f (Choice name ks) = choice (alternatives_by f ks.items)
 type_by f (Sequence tag ps) = seq tag (components_by f ps.items)
 type_by f (Set tag ps) = set tag (components_by f ps.items)
-type_by f (SequenceOf tag k c) = list tag (f k) c.size
-type_by f (SetOf tag k c) = set_of tag (f k) c.size
+type_by f (SequenceOf tag k c) = list tag (f k.0) c.size
+type_by f (SetOf tag k c) = set_of tag (f k.0) c.size
 
 -- A type's own tag: universal 0 if it has none.
 abbrev pub tag_of_type : «Type» → Tag
-tag_of_type (Leaf kind tag c) = tag
+tag_of_type (Leaf kind tag c names) = tag
+tag_of_type (Enumerated tag ns) = tag
 tag_of_type (Any tag) = tag
 tag_of_type (Tagged tag k) = tag
-tag_of_type (Choice ks) = eoc
+tag_of_type (Choice name ks) = eoc
 tag_of_type (Sequence tag ps) = tag
 tag_of_type (Set tag ps) = tag
 tag_of_type (SequenceOf tag k c) = tag

@@ -1,11 +1,12 @@
 //! With which tags the values of a type may begin.
-ghost use Rattle.std.specs.Prelude.{◌≡◌, ◌<◌, length, slice_index, MatchOption};
+ghost use Rattle.std.specs.Prelude.{◌≡◌, Some, slice_get, MatchOption};
 ghost use Rattle.rasn_types.specs.Shapes.{IsFirst, IsFirstOf, IsTagOf, looked_for};
 ghost use Rattle.rasn_types.specs.Truth.{IsWhether};
+ghost use Rattle.rasn_schema.specs.declared.types.Alternative.{Alternative};
 ghost use Rattle.rasn_schema.specs.Shapes.{shape_of_type, type_by, alternatives_by, nothing};
 
 use crate::type_id::TypeId;
-use crate::types::{Type, tag_at, type_at};
+use crate::types::{Alternative, Type, tag_at, type_at};
 use rasn_types::types::Tag;
 
 /// Returns whether two tags are the same.
@@ -35,7 +36,7 @@ fn nothing_begins(own: Tag, tag: Tag) -> bool
 /// changes nothing.
 #[cycle(begins)]
 pub fn begins(types: &[Type], levels: usize, id: TypeId, tag: Tag) -> bool
-    ensures { IsWhether result (IsFirst (shape_of_type types.now levels id) tag) }
+    ensures { IsWhether result (IsFirst (shape_of_type types.now levels id.0) tag) }
 {
     if levels == 0 {
         return nothing_begins(tag_at(types, id), tag);
@@ -52,9 +53,10 @@ fn type_begins(types: &[Type], below: usize, ty: &Type, tag: Tag) -> bool
     ensures { IsWhether result (IsFirst (type_by (shape_of_type types.now below) ty.now) tag) }
 {
     match ty {
-        Type::Choice { alternatives } => some_begins(types, below, alternatives, tag),
+        Type::Choice { alternatives, .. } => some_begins(types, below, alternatives, tag),
         Type::Any { tag: own } => any_begins(*own, tag),
         Type::Leaf { tag: own, .. } => is_tag(tag, *own),
+        Type::Enumerated { tag: own, .. } => is_tag(tag, *own),
         Type::Tagged { tag: own, .. } => is_tag(tag, *own),
         Type::Sequence { tag: own, .. } => is_tag(tag, *own),
         Type::Set { tag: own, .. } => is_tag(tag, *own),
@@ -65,11 +67,11 @@ fn type_begins(types: &[Type], below: usize, ty: &Type, tag: Tag) -> bool
 
 /// Returns whether a value of one of the types may begin with the tag.
 #[cycle(begins)]
-fn some_begins(types: &[Type], levels: usize, alternatives: &[TypeId], tag: Tag) -> bool
+fn some_begins(types: &[Type], levels: usize, alternatives: &[Alternative], tag: Tag) -> bool
     ensures { IsWhether result (IsFirstOf (alternatives_by (shape_of_type types.now levels) alternatives.now) tag) }
 {
-    for id in alternatives {
-        if begins(types, levels, *id, tag) {
+    for alternative in alternatives {
+        if begins(types, levels, alternative.type_id, tag) {
             return true;
         }
     }
@@ -80,14 +82,14 @@ fn some_begins(types: &[Type], levels: usize, alternatives: &[TypeId], tag: Tag)
 pub fn alternative_for(
     types: &[Type],
     levels: usize,
-    alternatives: &[TypeId],
+    alternatives: &[Alternative],
     tag: Tag,
 ) -> Option<usize>
     ensures { let f = shape_of_type types.now levels in
-        MatchOption result (IsFirstOf (alternatives_by f alternatives.now) tag → ⊥) (λ k. (k < length alternatives.now) × IsFirst (f (slice_index alternatives.now k)) tag) }
+        MatchOption result (IsFirstOf (alternatives_by f alternatives.now) tag → ⊥) (λ k. (a : Alternative) × (Some a ≡ slice_get alternatives.now k) × IsFirst (f a.type_id.0) tag) }
 {
-    for (index, id) in alternatives.iter().enumerate() {
-        if begins(types, levels, *id, tag) {
+    for (index, alternative) in alternatives.iter().enumerate() {
+        if begins(types, levels, alternative.type_id, tag) {
             return Some(index);
         }
     }

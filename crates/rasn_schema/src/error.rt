@@ -20,6 +20,13 @@ pub enum SchemaError {
     LateInner {
         id: TypeId,
     },
+    /// Two numbers of an ENUMERATED are the same (X.680 20.3).
+    #[error("type {id}: numbers {index} and {other} of an ENUMERATED are the same (X.680 20.3)")]
+    NumbersClash {
+        id: TypeId,
+        index: usize,
+        other: usize,
+    },
     /// A CHOICE has no alternatives (X.680 29.1).
     #[error("type {id}: a CHOICE without alternatives (X.680 29.1)")]
     NoAlternatives {

@@ -9,7 +9,7 @@ ghost use Rattle.rasn_schema.specs.FirstTags.{AreFirstTags, IsBelowSome, EachFir
 
 use crate::begin::begins;
 use crate::type_id::TypeId;
-use crate::types::{Type, tag_at, type_at};
+use crate::types::{Alternative, Type, tag_at, type_at};
 use rasn_types::types::Tag;
 
 /// The tags with which the values of a type may begin.
@@ -21,12 +21,12 @@ pub enum FirstTags<'types> {
     /// Every tag.
     Every,
     /// The tags of these types, which are followed one level less deep.
-    Of(&'types [TypeId]),
+    Of(&'types [Alternative]),
 }
 
 /// Returns the tags with which the values of the type with this number may begin, if types are followed `levels` deep.
 pub fn first_tags_at<'types>(types: &'types [Type], levels: usize, id: TypeId) -> FirstTags<'types>
-    ensures tags { AreFirstTags (shape_of_type types.now (levels - 1)) (shape_of_type types.now levels id) result }
+    ensures tags { AreFirstTags (shape_of_type types.now (levels - 1)) (shape_of_type types.now levels id.0) result }
     ensures below { IsBelowSome levels result }
 {
     if levels == 0 {
@@ -67,9 +67,10 @@ fn type_first_tags(ty: &Type) -> FirstTags<'_>
     ensures { (f : _) → AreFirstTags f (type_by f ty.now) result }
 {
     match ty {
-        Type::Choice { alternatives } => FirstTags::Of(alternatives.as_slice()),
+        Type::Choice { alternatives, .. } => FirstTags::Of(alternatives.as_slice()),
         Type::Any { tag } => any_first_tags(*tag),
         Type::Leaf { tag, .. } => FirstTags::One(*tag),
+        Type::Enumerated { tag, .. } => FirstTags::One(*tag),
         Type::Tagged { tag, .. } => FirstTags::One(*tag),
         Type::Sequence { tag, .. } => FirstTags::One(*tag),
         Type::Set { tag, .. } => FirstTags::One(*tag),
@@ -81,7 +82,7 @@ fn type_first_tags(ty: &Type) -> FirstTags<'_>
 /// Returns whether the values of the type with this number may begin with some tag.
 #[cycle(firsts)]
 fn has_firsts(types: &[Type], levels: usize, id: TypeId) -> bool
-    ensures { IsWhether result ((n : Tag) × IsFirst (shape_of_type types.now levels id) n) }
+    ensures { IsWhether result ((n : Tag) × IsFirst (shape_of_type types.now levels id.0) n) }
 {
     match first_tags_at(types, levels, id) {
         FirstTags::Nothing => false,
@@ -93,11 +94,11 @@ fn has_firsts(types: &[Type], levels: usize, id: TypeId) -> bool
 
 /// Returns whether the values of one of the types may begin with some tag.
 #[cycle(firsts)]
-fn some_have_firsts(types: &[Type], levels: usize, alternatives: &[TypeId]) -> bool
+fn some_have_firsts(types: &[Type], levels: usize, alternatives: &[Alternative]) -> bool
     ensures { IsWhether result ((n : Tag) × IsFirstOf (alternatives_by (shape_of_type types.now levels) alternatives.now) n) }
 {
-    for id in alternatives {
-        if has_firsts(types, levels, *id) {
+    for alternative in alternatives {
+        if has_firsts(types, levels, alternative.type_id) {
             return true;
         }
     }
@@ -107,7 +108,7 @@ fn some_have_firsts(types: &[Type], levels: usize, alternatives: &[TypeId]) -> b
 /// Returns whether the values of two types never begin with the same tag. The other one is followed `outer` levels deep.
 #[cycle(distinct)]
 pub fn is_distinct(types: &[Type], levels: usize, id: TypeId, outer: usize, other: TypeId) -> bool
-    ensures { IsWhether result (EachFirst (shape_of_type types.now levels id) (λ n. IsFirst (shape_of_type types.now outer other) n → ⊥)) }
+    ensures { IsWhether result (EachFirst (shape_of_type types.now levels id.0) (λ n. IsFirst (shape_of_type types.now outer other.0) n → ⊥)) }
 {
     match first_tags_at(types, levels, id) {
         FirstTags::Nothing => true,
@@ -122,14 +123,14 @@ pub fn is_distinct(types: &[Type], levels: usize, id: TypeId, outer: usize, othe
 fn all_distinct(
     types: &[Type],
     levels: usize,
-    alternatives: &[TypeId],
+    alternatives: &[Alternative],
     outer: usize,
     other: TypeId,
 ) -> bool
-    ensures { IsWhether result (EachFirstOf (alternatives_by (shape_of_type types.now levels) alternatives.now) (λ n. IsFirst (shape_of_type types.now outer other) n → ⊥)) }
+    ensures { IsWhether result (EachFirstOf (alternatives_by (shape_of_type types.now levels) alternatives.now) (λ n. IsFirst (shape_of_type types.now outer other.0) n → ⊥)) }
 {
-    for id in alternatives {
-        if !is_distinct(types, levels, *id, outer, other) {
+    for alternative in alternatives {
+        if !is_distinct(types, levels, alternative.type_id, outer, other) {
             return false;
         }
     }
@@ -139,7 +140,7 @@ fn all_distinct(
 /// Returns whether the tag is below each with which the type with this number may begin (X.680 8.6).
 #[cycle(above)]
 fn is_above(types: &[Type], levels: usize, id: TypeId, tag: Tag) -> bool
-    ensures { IsWhether result (EachFirst (shape_of_type types.now levels id) (λ n. IsTagBelow tag n)) }
+    ensures { IsWhether result (EachFirst (shape_of_type types.now levels id.0) (λ n. IsTagBelow tag n)) }
 {
     match first_tags_at(types, levels, id) {
         FirstTags::Nothing => true,
@@ -151,11 +152,11 @@ fn is_above(types: &[Type], levels: usize, id: TypeId, tag: Tag) -> bool
 
 /// Returns whether the tag is below each with which one of the types may begin.
 #[cycle(above)]
-fn all_above(types: &[Type], levels: usize, alternatives: &[TypeId], tag: Tag) -> bool
+fn all_above(types: &[Type], levels: usize, alternatives: &[Alternative], tag: Tag) -> bool
     ensures { IsWhether result (EachFirstOf (alternatives_by (shape_of_type types.now levels) alternatives.now) (λ n. IsTagBelow tag n)) }
 {
-    for id in alternatives {
-        if !is_above(types, levels, *id, tag) {
+    for alternative in alternatives {
+        if !is_above(types, levels, alternative.type_id, tag) {
             return false;
         }
     }
@@ -171,7 +172,7 @@ fn is_tag_below(tag: Tag, other: Tag) -> bool
 /// Returns whether each tag with which the type with this number may begin is below each of the other type (X.680 8.6).
 #[cycle(before)]
 pub fn is_before(types: &[Type], levels: usize, id: TypeId, outer: usize, other: TypeId) -> bool
-    ensures { IsWhether result (EachFirst (shape_of_type types.now levels id) (λ m. EachFirst (shape_of_type types.now outer other) (λ n. IsTagBelow m n))) }
+    ensures { IsWhether result (EachFirst (shape_of_type types.now levels id.0) (λ m. EachFirst (shape_of_type types.now outer other.0) (λ n. IsTagBelow m n))) }
 {
     match first_tags_at(types, levels, id) {
         FirstTags::Nothing => true,
@@ -186,14 +187,14 @@ pub fn is_before(types: &[Type], levels: usize, id: TypeId, outer: usize, other:
 fn all_before(
     types: &[Type],
     levels: usize,
-    alternatives: &[TypeId],
+    alternatives: &[Alternative],
     outer: usize,
     other: TypeId,
 ) -> bool
-    ensures { IsWhether result (EachFirstOf (alternatives_by (shape_of_type types.now levels) alternatives.now) (λ m. EachFirst (shape_of_type types.now outer other) (λ n. IsTagBelow m n))) }
+    ensures { IsWhether result (EachFirstOf (alternatives_by (shape_of_type types.now levels) alternatives.now) (λ m. EachFirst (shape_of_type types.now outer other.0) (λ n. IsTagBelow m n))) }
 {
-    for id in alternatives {
-        if !is_before(types, levels, *id, outer, other) {
+    for alternative in alternatives {
+        if !is_before(types, levels, alternative.type_id, outer, other) {
             return false;
         }
     }

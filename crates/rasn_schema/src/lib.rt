@@ -16,5 +16,5 @@ pub use begin::{alternative_for, begins};
 pub use error::SchemaError;
 pub use schema::Schema;
 pub use type_id::TypeId;
-pub use types::{Component, Constant, LeafKind, Presence, Type, tag_at, type_at};
+pub use types::{Alternative, Component, LeafKind, NamedNumber, Presence, Type, tag_at, type_at};
 pub use value::Value;

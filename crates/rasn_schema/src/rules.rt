@@ -4,18 +4,22 @@ ghost use Rattle.rasn_types.specs.Tags.{eoc};
 ghost use Rattle.rasn_types.specs.Grammar.{family};
 ghost use Rattle.rasn_types.specs.Shapes.{IsFirst, addition};
 ghost use Rattle.rasn_schema.specs.declared.types.Component.{Component};
+ghost use Rattle.rasn_schema.specs.declared.types.Alternative.{Alternative};
+ghost use Rattle.rasn_schema.specs.declared.types.NamedNumber.{NamedNumber};
 ghost use Rattle.rasn_types.specs.Lawful.{IsBitFree, HasTag};
 ghost use Rattle.rasn_types.specs.Truth.{IsWhether};
 ghost use Rattle.rasn_schema.specs.FirstTags.{IsAlwaysThere};
 ghost use Rattle.rasn_schema.specs.Shapes.{shape_of_type, type_by, presence_of, kind_of};
-ghost use Rattle.rasn_schema.specs.Schemas.{IsPrefix, AreLowerAndTagged, AreDistinctAlternatives, AreDistinct, AreToldInOrder, MayFollow, IsToldFrom, AreTagged, AreInOrderOfTags, IsBefore, IsWellFormed, AreWellFormed, AreChoicesWellFormed, own_at};
-ghost use Rattle.rasn_schema.specs.Faults.{IsTagFault, IsTaggedFault, IsLeafFault, IsAlternativesFault, IsSequenceFault, IsSetFault, IsFaultOf, SomeFault};
+ghost use Rattle.rasn_schema.specs.Schemas.{IsPrefix, AreLowerAndTagged, AreDistinctAlternatives, AreDistinctNumbers, AreDistinct, AreToldInOrder, MayFollow, IsToldFrom, AreTagged, AreInOrderOfTags, IsBefore, IsWellFormed, AreWellFormed, AreChoicesWellFormed, own_at};
+ghost use Rattle.rasn_schema.specs.Faults.{IsTagFault, IsTaggedFault, IsLeafFault, IsNumbersFault, IsAlternativesFault, IsSequenceFault, IsSetFault, IsFaultOf, SomeFault};
 
 use crate::begin::begins;
 use crate::error::SchemaError;
 use crate::first_tags::{is_before, is_distinct};
 use crate::type_id::TypeId;
-use crate::types::{Component, LeafKind, Presence, Type, tag_at, type_at};
+use crate::types::{
+    Alternative, Component, LeafKind, NamedNumber, Presence, Type, tag_at, type_at,
+};
 use rasn_types::ber::is_always_constructed;
 use rasn_types::types::Tag;
 
@@ -25,6 +29,9 @@ fn is_bit_free(kind: LeafKind, tag: Tag) -> bool
 {
     match kind {
         LeafKind::Boolean | LeafKind::Null | LeafKind::ObjectIdentifier | LeafKind::Integer => true,
+        LeafKind::Signed32 | LeafKind::Signed64 | LeafKind::Unsigned32 | LeafKind::Unsigned64 => {
+            true
+        }
         _ => !is_always_constructed(tag),
     }
 }
@@ -38,7 +45,7 @@ fn is_no_tag(tag: Tag) -> bool
 
 /// Returns whether the type with this number isn't an open type without a tag.
 fn has_tag(types: &[Type], levels: usize, id: TypeId) -> bool
-    ensures { IsWhether result (HasTag (shape_of_type types.now levels id)) }
+    ensures { IsWhether result (HasTag (shape_of_type types.now levels id.0)) }
 {
     if levels == 0 {
         return true;
@@ -61,7 +68,7 @@ fn type_has_tag(ty: &Type) -> bool
 /// Returns whether the type with this number has an explicit tag.
 fn is_tagged(types: &[Type], levels: usize, id: TypeId) -> bool
     requires { levels ≢ 0 }
-    ensures { IsWhether result (IsPrefix (shape_of_type types.now levels id)) }
+    ensures { IsWhether result (IsPrefix (shape_of_type types.now levels id.0)) }
 {
     match type_at(types, id) {
         Some(ty) => type_is_tagged(ty),
@@ -99,7 +106,7 @@ fn is_addition(component: &Component) -> bool
 
 /// Returns what is wrong with a tag.
 fn tag_fault(id: TypeId, tag: Tag) -> Option<SchemaError>
-    ensures { MatchOption result (tag ≢ eoc) (λ e. IsTagFault id tag e) }
+    ensures { MatchOption result (tag ≢ eoc) (λ e. IsTagFault id.0 tag e) }
 {
     if is_no_tag(tag) {
         Some(SchemaError::ReservedTag { id })
@@ -118,7 +125,7 @@ fn tagged_fault(
 ) -> Option<SchemaError>
     requires { levels ≢ 0 }
     ensures { let f = shape_of_type types.now levels in
-        MatchOption result ((tag ≢ eoc) × (IsPrefix (f inner) → inner < id)) (λ e. IsTaggedFault f id tag inner e) }
+        MatchOption result ((tag ≢ eoc) × (IsPrefix (f inner.0) → inner.0 < id.0)) (λ e. IsTaggedFault f id.0 tag inner.0 e) }
 {
     if is_no_tag(tag) {
         return Some(SchemaError::ReservedTag { id });
@@ -131,7 +138,7 @@ fn tagged_fault(
 
 /// Returns what is wrong with the tag of a type whose values hold no other values.
 fn leaf_fault(id: TypeId, kind: LeafKind, tag: Tag) -> Option<SchemaError>
-    ensures { MatchOption result ((tag ≢ eoc) × IsBitFree (family (kind_of kind)) tag) (λ e. IsLeafFault id kind tag e) }
+    ensures { MatchOption result ((tag ≢ eoc) × IsBitFree (family (kind_of kind)) tag) (λ e. IsLeafFault id.0 kind tag e) }
 {
     if is_no_tag(tag) {
         Some(SchemaError::ReservedTag { id })
@@ -142,21 +149,58 @@ fn leaf_fault(id: TypeId, kind: LeafKind, tag: Tag) -> Option<SchemaError>
     }
 }
 
+fn is_same_number(named: &NamedNumber, other: &NamedNumber) -> bool
+    ensures { IsWhether result (named.now.number ≡ other.now.number) }
+{
+    named.number == other.number
+}
+
+/// Returns the index of the first number after `index` that is the same.
+fn same_number(numbers: &[NamedNumber], index: usize, named: &NamedNumber) -> Option<usize>
+    requires { index < length numbers.now }
+    ensures { MatchOption result
+        ((j : ℕ) (n : NamedNumber) → index < j → Some n ≡ slice_get numbers.now j → named.now.number ≢ n.number)
+        (λ j. (index < j) × ((n : NamedNumber) × (Some n ≡ slice_get numbers.now j) × (named.now.number ≡ n.number))) }
+{
+    for other in index + 1..numbers.len() {
+        if is_same_number(named, &numbers[other]) {
+            return Some(other);
+        }
+    }
+    None
+}
+
+/// Returns what is wrong with an ENUMERATED: its tag, or the first two numbers that are the same
+/// (X.680 20.3).
+fn numbers_fault(id: TypeId, tag: Tag, numbers: &[NamedNumber]) -> Option<SchemaError>
+    ensures { MatchOption result ((tag ≢ eoc) × AreDistinctNumbers numbers.now) (λ e. IsNumbersFault id.0 tag numbers.now e) }
+{
+    if is_no_tag(tag) {
+        return Some(SchemaError::ReservedTag { id });
+    }
+    for (index, named) in numbers.iter().enumerate() {
+        if let Some(other) = same_number(numbers, index, named) {
+            return Some(SchemaError::NumbersClash { id, index, other });
+        }
+    }
+    None
+}
+
 /// Returns the first alternative whose number isn't below `id`, or which has no tag.
 fn late_or_untagged(
     types: &[Type],
     levels: usize,
     id: TypeId,
-    alternatives: &[TypeId],
+    alternatives: &[Alternative],
 ) -> Option<SchemaError>
     ensures { let f = shape_of_type types.now levels in
-        MatchOption result (AreLowerAndTagged f id alternatives.now) (λ e. IsAlternativesFault f id alternatives.now e) }
+        MatchOption result (AreLowerAndTagged f id.0 alternatives.now) (λ e. IsAlternativesFault f id.0 alternatives.now e) }
 {
     for (index, alternative) in alternatives.iter().enumerate() {
-        if *alternative >= id {
+        if alternative.type_id.0 >= id.0 {
             return Some(SchemaError::LateAlternative { id, index });
         }
-        if !has_tag(types, levels, *alternative) {
+        if !has_tag(types, levels, alternative.type_id) {
             return Some(SchemaError::UntaggedAlternative { id, index });
         }
     }
@@ -167,17 +211,19 @@ fn late_or_untagged(
 fn same_alternative(
     types: &[Type],
     levels: usize,
-    alternatives: &[TypeId],
+    alternatives: &[Alternative],
     index: usize,
     alternative: TypeId,
 ) -> Option<usize>
+    requires { index < length alternatives.now }
     ensures { let f = shape_of_type types.now levels in
         MatchOption result
-        ((j l : ℕ) → index < j → Some l ≡ slice_get alternatives.now j → AreDistinct (f alternative) (f l))
-        (λ j. (index < j) × ((l : ℕ) × (Some l ≡ slice_get alternatives.now j) × (AreDistinct (f alternative) (f l) → ⊥))) }
+        ((j : ℕ) (a : Alternative) → index < j → Some a ≡ slice_get alternatives.now j → AreDistinct (f alternative.0) (f a.type_id.0))
+        (λ j. (index < j) × ((a : Alternative) × (Some a ≡ slice_get alternatives.now j) × (AreDistinct (f alternative.0) (f a.type_id.0) → ⊥))) }
 {
-    for (other, id) in alternatives.iter().enumerate() {
-        if other > index && !is_distinct(types, levels, alternative, levels, *id) {
+    for other in index + 1..alternatives.len() {
+        let next = &alternatives[other];
+        if !is_distinct(types, levels, alternative, levels, next.type_id) {
             return Some(other);
         }
     }
@@ -189,13 +235,19 @@ fn alternatives_clash(
     types: &[Type],
     levels: usize,
     id: TypeId,
-    alternatives: &[TypeId],
+    alternatives: &[Alternative],
 ) -> Option<SchemaError>
     ensures { let f = shape_of_type types.now levels in
-        MatchOption result (AreDistinctAlternatives f alternatives.now) (λ e. IsAlternativesFault f id alternatives.now e) }
+        MatchOption result (AreDistinctAlternatives f alternatives.now) (λ e. IsAlternativesFault f id.0 alternatives.now e) }
 {
     for (index, alternative) in alternatives.iter().enumerate() {
-        if let Some(other) = same_alternative(types, levels, alternatives, index, *alternative) {
+        if let Some(other) = same_alternative(
+            types,
+            levels,
+            alternatives,
+            index,
+            alternative.type_id,
+        ) {
             return Some(SchemaError::AlternativesClash { id, index, other });
         }
     }
@@ -207,12 +259,12 @@ fn choice_fault(
     types: &[Type],
     levels: usize,
     id: TypeId,
-    alternatives: &[TypeId],
+    alternatives: &[Alternative],
 ) -> Option<SchemaError>
     ensures { let f = shape_of_type types.now levels in
         MatchOption result
-        ((alternatives.now ≢ []) × AreLowerAndTagged f id alternatives.now × AreDistinctAlternatives f alternatives.now)
-        (λ e. IsAlternativesFault f id alternatives.now e) }
+        ((alternatives.now ≢ []) × AreLowerAndTagged f id.0 alternatives.now × AreDistinctAlternatives f alternatives.now)
+        (λ e. IsAlternativesFault f id.0 alternatives.now e) }
 {
     if alternatives.is_empty() {
         return Some(SchemaError::NoAlternatives { id });
@@ -234,8 +286,8 @@ fn same_component(
     requires { index < length components.now }
     ensures { let f = shape_of_type types.now levels in
         MatchOption result
-        ((j : ℕ) (q : _) → MayFollow components.now index j → Some q ≡ slice_get components.now j → IsFirst (f q.type_id) tag → ⊥)
-        (λ j. MayFollow components.now index j × ((q : Component) × (Some q ≡ slice_get components.now j) × IsFirst (f q.type_id) tag)) }
+        ((j : ℕ) (q : _) → MayFollow components.now index j → Some q ≡ slice_get components.now j → IsFirst (f q.type_id.0) tag → ⊥)
+        (λ j. MayFollow components.now index j × ((q : Component) × (Some q ≡ slice_get components.now j) × IsFirst (f q.type_id.0) tag)) }
 {
     for other in index + 1..components.len() {
         let component = &components[other];
@@ -262,8 +314,8 @@ fn component_fault(
     ensures { let f = shape_of_type types.now levels in
         MatchOption result
         ((j : ℕ) (q : _) → Some q ≡ slice_get components.now j → (IsAlwaysThere (presence_of component.now.presence) → ⊥) → MayFollow components.now index j
-        → IsToldFrom (own_at types.now component.now.type_id) (f q.type_id))
-        (λ e. (tag : _) → Some component.now ≡ slice_get components.now index → IsSequenceFault (own_at types.now) f id tag components.now e) }
+        → IsToldFrom (own_at types.now component.now.type_id.0) (f q.type_id.0))
+        (λ e. (tag : _) → Some component.now ≡ slice_get components.now index → IsSequenceFault (own_at types.now) f id.0 tag components.now e) }
 {
     if is_always_there(component) {
         return None;
@@ -289,7 +341,7 @@ fn components_clash(
     components: &[Component],
 ) -> Option<SchemaError>
     ensures { let f = shape_of_type types.now levels in
-        MatchOption result (AreToldInOrder (own_at types.now) f components.now) (λ e. (tag : _) → IsSequenceFault (own_at types.now) f id tag components.now e) }
+        MatchOption result (AreToldInOrder (own_at types.now) f components.now) (λ e. (tag : _) → IsSequenceFault (own_at types.now) f id.0 tag components.now e) }
 {
     for (index, component) in components.iter().enumerate() {
         if let Some(fault) = component_fault(types, levels, id, components, index, component) {
@@ -308,7 +360,7 @@ fn sequence_fault(
     components: &[Component],
 ) -> Option<SchemaError>
     ensures { let f = shape_of_type types.now levels in
-        MatchOption result ((tag ≢ eoc) × AreToldInOrder (own_at types.now) f components.now) (λ e. IsSequenceFault (own_at types.now) f id tag components.now e) }
+        MatchOption result ((tag ≢ eoc) × AreToldInOrder (own_at types.now) f components.now) (λ e. IsSequenceFault (own_at types.now) f id.0 tag components.now e) }
 {
     if is_no_tag(tag) {
         return Some(SchemaError::ReservedTag { id });
@@ -324,7 +376,7 @@ fn addition_or_untagged(
     components: &[Component],
 ) -> Option<SchemaError>
     ensures { let f = shape_of_type types.now levels in
-        MatchOption result (AreTagged f components.now) (λ e. (tag : _) → IsSetFault f id tag components.now e) }
+        MatchOption result (AreTagged f components.now) (λ e. (tag : _) → IsSetFault f id.0 tag components.now e) }
 {
     for (index, component) in components.iter().enumerate() {
         if is_addition(component) {
@@ -348,8 +400,8 @@ fn not_after(
     requires { index < length components.now }
     ensures { let f = shape_of_type types.now levels in
         MatchOption result
-        ((j : ℕ) (q : _) → index < j → Some q ≡ slice_get components.now j → IsBefore (f component.now.type_id) (f q.type_id))
-        (λ r. (index < r.0) × ((q : Component) × (Some q ≡ slice_get components.now r.0) × (q.type_id ≡ r.1) × (IsBefore (f component.now.type_id) (f q.type_id) → ⊥))) }
+        ((j : ℕ) (q : _) → index < j → Some q ≡ slice_get components.now j → IsBefore (f component.now.type_id.0) (f q.type_id.0))
+        (λ r. (index < r.0) × ((q : Component) × (Some q ≡ slice_get components.now r.0) × (q.type_id ≡ r.1) × (IsBefore (f component.now.type_id.0) (f q.type_id.0) → ⊥))) }
 {
     for other in index + 1..components.len() {
         let next = &components[other];
@@ -368,7 +420,7 @@ fn set_clash(
     components: &[Component],
 ) -> Option<SchemaError>
     ensures { let f = shape_of_type types.now levels in
-        MatchOption result (AreInOrderOfTags f components.now) (λ e. (tag : _) → IsSetFault f id tag components.now e) }
+        MatchOption result (AreInOrderOfTags f components.now) (λ e. (tag : _) → IsSetFault f id.0 tag components.now e) }
 {
     for (index, component) in components.iter().enumerate() {
         if let Some((other, next)) = not_after(types, levels, components, index, component) {
@@ -390,7 +442,7 @@ fn set_fault(
     components: &[Component],
 ) -> Option<SchemaError>
     ensures { let f = shape_of_type types.now levels in
-        MatchOption result ((tag ≢ eoc) × AreTagged f components.now × AreInOrderOfTags f components.now) (λ e. IsSetFault f id tag components.now e) }
+        MatchOption result ((tag ≢ eoc) × AreTagged f components.now × AreInOrderOfTags f components.now) (λ e. IsSetFault f id.0 tag components.now e) }
 {
     if is_no_tag(tag) {
         return Some(SchemaError::ReservedTag { id });
@@ -405,12 +457,13 @@ fn set_fault(
 fn type_fault(types: &[Type], levels: usize, id: TypeId, ty: &Type) -> Option<SchemaError>
     requires { levels ≢ 0 }
     ensures { let f = shape_of_type types.now levels in
-        MatchOption result (IsWellFormed (own_at types.now) f id ty.now) (λ e. IsFaultOf (own_at types.now) f id ty.now e) }
+        MatchOption result (IsWellFormed (own_at types.now) f id.0 ty.now) (λ e. IsFaultOf (own_at types.now) f id.0 ty.now e) }
 {
     match ty {
         Type::Leaf { kind, tag, .. } => leaf_fault(id, *kind, *tag),
+        Type::Enumerated { tag, numbers } => numbers_fault(id, *tag, numbers),
         Type::Any { .. } => None,
-        Type::Choice { alternatives } => choice_fault(types, levels, id, alternatives),
+        Type::Choice { alternatives, .. } => choice_fault(types, levels, id, alternatives),
         Type::Tagged { tag, inner } => tagged_fault(types, levels, id, *tag, *inner),
         Type::Sequence { tag, components } => sequence_fault(types, levels, id, *tag, components),
         Type::Set { tag, components } => set_fault(types, levels, id, *tag, components),
@@ -428,7 +481,7 @@ pub fn first_choice_fault(types: &[Type], levels: usize) -> Option<SchemaError>
 {
     for (number, ty) in types.iter().enumerate() {
         if let Type::Choice { .. } = ty {
-            if let Some(fault) = type_fault(types, levels, number, ty) {
+            if let Some(fault) = type_fault(types, levels, TypeId(number), ty) {
                 return Some(fault);
             }
         }
@@ -443,7 +496,7 @@ pub fn first_fault(types: &[Type], levels: usize) -> Option<SchemaError>
         MatchOption result (AreWellFormed (own_at types.now) f types.now) (λ e. SomeFault (own_at types.now) f types.now e) }
 {
     for (number, ty) in types.iter().enumerate() {
-        if let Some(fault) = type_fault(types, levels, number, ty) {
+        if let Some(fault) = type_fault(types, levels, TypeId(number), ty) {
             return Some(fault);
         }
     }

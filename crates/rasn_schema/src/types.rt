@@ -3,7 +3,8 @@ ghost use Rattle.std.specs.Prelude.{◌≡◌, slice_get, option_copied};
 ghost use Rattle.rasn_schema.specs.Shapes.{tag_of_type, tag_at};
 
 use crate::type_id::TypeId;
-use rasn_types::types::{BitString, Constraints, Integer, Tag};
+use crate::value::Value;
+use rasn_types::types::{Constraints, Tag};
 
 /// What a value that holds no other values is.
 #[derive(Clone, Copy, Debug, PartialEq, Eq)]
@@ -18,8 +19,18 @@ pub enum LeafKind {
     BitString,
     /// An OCTET STRING (X.690 8.7).
     OctetString,
+    /// An OCTET STRING of so many octets.
+    FixedOctetString(usize),
     /// An INTEGER (X.690 8.3).
     Integer,
+    /// An INTEGER that an `i32` holds.
+    Signed32,
+    /// An INTEGER that an `i64` holds.
+    Signed64,
+    /// An INTEGER that a `u32` holds.
+    Unsigned32,
+    /// An INTEGER that a `u64` holds.
+    Unsigned64,
     /// A NumericString.
     Numeric,
     /// A PrintableString.
@@ -45,11 +56,18 @@ pub enum LeafKind {
 /// A type. Other types that it is made of are named by their numbers in the schema.
 #[derive(Drop)]
 pub enum Type {
-    /// A type whose values hold no other values.
+    /// A type whose values hold no other values. The names are those of an INTEGER's numbers or of
+    /// the bits of a BIT STRING (X.680 19.3, 22.3).
     Leaf {
         kind: LeafKind,
         tag: Tag,
         constraints: Constraints,
+        names: Vec<NamedNumber>,
+    },
+    /// An ENUMERATED with these numbers (X.680 20).
+    Enumerated {
+        tag: Tag,
+        numbers: Vec<NamedNumber>,
     },
     /// An open type: any value with this tag or, if it is `Tag::EOC`, with any tag.
     Any {
@@ -60,9 +78,11 @@ pub enum Type {
         tag: Tag,
         inner: TypeId,
     },
-    /// A CHOICE (X.680 29). Each alternative has a lower number than the CHOICE.
+    /// A CHOICE (X.680 29), with the name that errors have for it. Each alternative has a lower
+    /// number than the CHOICE.
     Choice {
-        alternatives: Vec<TypeId>,
+        name: String,
+        alternatives: Vec<Alternative>,
     },
     /// A SEQUENCE (X.680 25).
     Sequence {
@@ -88,9 +108,29 @@ pub enum Type {
     },
 }
 
+/// A number with a name: of an ENUMERATED or an INTEGER, or of a bit (X.680 19, 20, 22).
+#[derive(Drop)]
+pub struct NamedNumber {
+    /// Its name, as it is written in a module.
+    pub name: String,
+    /// The number.
+    pub number: isize,
+}
+
+/// An alternative of a CHOICE.
+#[derive(Drop)]
+pub struct Alternative {
+    /// Its name, as it is written in a module.
+    pub name: String,
+    /// The number of its type.
+    pub type_id: TypeId,
+}
+
 /// A component of a SEQUENCE or a SET.
 #[derive(Drop)]
 pub struct Component {
+    /// Its name, as it is written in a module.
+    pub name: String,
     /// Whether it may be absent.
     pub presence: Presence,
     /// The number of its type.
@@ -107,16 +147,7 @@ pub enum Presence {
     /// An extension addition with an explicit tag, which is always present.
     Addition,
     /// DEFAULT: it has this value if it is absent.
-    Default(Constant),
-}
-
-/// The value of a component that is absent.
-#[derive(Debug, Drop)]
-pub enum Constant {
-    /// Of a BOOLEAN (0 or 1) or an INTEGER.
-    Number(Integer),
-    /// Of a BIT STRING.
-    Bits(BitString),
+    Default(Value<'static>),
 }
 
 impl Type {
@@ -126,6 +157,7 @@ impl Type {
     {
         match self {
             Type::Leaf { tag, .. } => *tag,
+            Type::Enumerated { tag, .. } => *tag,
             Type::Any { tag } => *tag,
             Type::Tagged { tag, .. } => *tag,
             Type::Choice { .. } => Tag::EOC,
@@ -139,14 +171,14 @@ impl Type {
 
 /// Returns the type with this number, if there is one.
 pub fn type_at(types: &[Type], id: TypeId) -> Option<&Type>
-    ensures { option_copied result ≡ slice_get types.now id }
+    ensures { option_copied result ≡ slice_get types.now id.0 }
 {
-    types.get(id)
+    types.get(id.0)
 }
 
 /// Returns the own tag of the type with this number, or `Tag::EOC` if it has none.
 pub fn tag_at(types: &[Type], id: TypeId) -> Tag
-    ensures { result ≡ tag_at types.now id }
+    ensures { result ≡ tag_at types.now id.0 }
 {
     match type_at(types, id) {
         Some(ty) => ty.tag(),

@@ -3,7 +3,7 @@ ghost use Rattle.std.specs.Prelude.{◌+◌, ◌*◌, ◌≤◌, length, IfOk, I
 ghost use Rattle.rasn_types.specs.Errors.{IsOutOfMemory};
 ghost use Rattle.rasn_types.specs.Shapes.{any, looked_for, numbers};
 ghost use Rattle.rasn_de.specs.Decodes.{Decodes};
-ghost use Rattle.rasn_de.specs.Any.{DecodesOpenType, SkipsValue};
+ghost use Rattle.rasn_de.specs.Any.{DecodesOpenType, BorrowsOpenType, SkipsValue};
 
 use crate::ber::de::Decoder;
 use crate::ber::de::parser::ParseError;
@@ -32,6 +32,26 @@ impl<'input> Decoder<'input> {
                 }
                 Err(_) => Err(self.error(ParseError::OutOfMemory)),
             },
+            Err(fault) => Err(self.error(fault)),
+        }
+    }
+
+    /// Reads a value of an open type as `decode_any` does, and borrows its octets from the input.
+    ///
+    /// # Errors
+    /// As `decode_any`, except that no memory is asked for.
+    #[inline(always)]
+    pub fn decode_open(&mut self, tag: Tag) -> Result<&'input [u8], DecodeError>
+        ensures reads { Decodes (any (looked_for tag)) (λ o. numbers o.now) self.old result self.new }
+        ensures exact { BorrowsOpenType tag self.old result self.new }
+        ensures memory { IfErr result (λ e. IsOutOfMemory e.kind → ⊥) }
+        ensures rules { IfErr result (λ e. e.codec ≡ self.old.rule) }
+    {
+        match read_open(self.rules, tag, self.rest) {
+            Ok((octets, rest)) => {
+                self.advance(rest);
+                Ok(octets)
+            }
             Err(fault) => Err(self.error(fault)),
         }
     }
