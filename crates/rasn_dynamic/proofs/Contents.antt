@@ -222,7 +222,7 @@ module _ (f : ℕ → Shape) where
   none_inside (Leaf kind tag c) a b d e g rule depth closing input t r h = h
   none_inside (Any tag) a b d e g rule depth closing input t r h = h
   none_inside (Tagged tag k) a b d e g rule depth closing input t r h = a tag k refl
-  none_inside (Choice ks) a b d e g rule depth closing input t r h = h
+  none_inside (Choice name ks) a b d e g rule depth closing input t r h = h
   none_inside (Sequence tag ps) a b d e g rule depth closing input t r h = b tag ps refl
   none_inside (Set tag ps) a b d e g rule depth closing input t r h = d tag ps refl
   none_inside (SequenceOf tag k c) a b d e g rule depth closing input t r h = e tag k c refl

@@ -100,7 +100,7 @@ IsPut k v before (Err e) after = (get_or before k None ≢ None) × (after ≡ b
 
 -- The component with this index may begin with the tag.
 abbrev pub IsComponentFor : (ℕ → Shape) → List Component → Tag → ℕ → Component → Type 0
-IsComponentFor f ps tag k p = (Some p ≡ slice_get ps k) × IsFirst (f p.type_id) tag
+IsComponentFor f ps tag k p = (Some p ≡ slice_get ps k) × IsFirst (f p.type_id.0) tag
 
 -- A component is what was read of it, or the value that it has if it is absent.
 abbrev pub IsSettled : Presence → Option Tree → Result Value DecodeError → Type 0

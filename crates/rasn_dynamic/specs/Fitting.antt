@@ -1,27 +1,34 @@
 -- Which values are values of a type.
-use Rattle.std.specs.Prelude.{◌≡◌, ◌⊎◌, ℕ, zero, suc, ℤ, pos, List, [], ◌∷◌, Option, Some, None, slice_get}
+use Rattle.std.specs.Prelude.{◌≡◌, ◌⊎◌, ℕ, zero, suc, ℤ, List, [], ◌∷◌, length, Contains, Option, Some, None, slice_get}
+use Rattle.std.specs.Cow.{cow_slice_items}
+use Rattle.rasn_types.specs.Shapes.{IsIn}
+use Rattle.rasn_types.specs.Trees.{signed_range, unsigned_range}
+use Rattle.rasn_schema.specs.declared.types.Alternative.{Alternative}
 use Rattle.rasn_types.specs.declared.types.strings.alphabet.Alphabet.TheVariants.{Numeric as NumericAlphabet, Printable as PrintableAlphabet, Visible as VisibleAlphabet, Ia5 as Ia5Alphabet, Every}
 use Rattle.rasn_types.specs.CharacterString.{AreAdmitted}
 use Rattle.rasn_schema.specs.declared.types.LeafKind.{LeafKind}
-use Rattle.rasn_schema.specs.declared.types.LeafKind.TheVariants.{Boolean, Null, ObjectIdentifier, BitString, OctetString, Integer, Numeric, Printable, Visible, Ia5, AnyOctets, Bmp, Utf8, UtcTime, GeneralizedTime, Date}
+use Rattle.rasn_schema.specs.declared.types.LeafKind.TheVariants.{Boolean as BooleanKind, Null as NullKind, ObjectIdentifier, BitString, OctetString, FixedOctetString, Integer, Signed32, Signed64, Unsigned32, Unsigned64, Numeric, Printable, Visible, Ia5, AnyOctets, Bmp, Utf8, UtcTime, GeneralizedTime, Date}
 use Rattle.rasn_schema.specs.declared.types.Component.{Component}
 use Rattle.rasn_schema.specs.declared.types.«Type».{«Type»}
-use Rattle.rasn_schema.specs.declared.types.«Type».TheVariants.{Leaf, Any, Tagged, Choice, Sequence, Set, SequenceOf, SetOf}
-use Rattle.rasn_schema.specs.declared.value.Value.{Value, Number, Bits, Octets, Text, Units, Arcs, Instant, Day, Absent, Items', Elements', Chosen', items-the_row-Value}
+use Rattle.rasn_schema.specs.declared.types.«Type».TheVariants.{Leaf, Enumerated, Any, Tagged, Choice, Sequence, Set, SequenceOf, SetOf}
+use Rattle.rasn_schema.specs.declared.value.Value.{Value, Boolean, Null, Integer as Number, Bits, Octets, Text, Units, Arcs, Instant, Day, Absent, Items', Elements', Chosen', items-the_row-Value}
 use Rattle.rasn_schema.specs.Trees.{tree_of}
-use Rattle.rasn_schema.specs.Shapes.{presence_of}
+use Rattle.rasn_schema.specs.Shapes.{presence_of, numbers_of}
 use Rattle.rasn_dynamic.specs.Written.{IsLeftOutAs}
 
--- A BOOLEAN is 0 or 1, a NULL is 0, and an INTEGER is any number.
+-- An INTEGER is any number, or one that so many bits hold.
 abbrev pub NumberFits : LeafKind → ℤ → Type 0
-NumberFits Boolean n = (n ≡ pos 0) ⊎ (n ≡ pos 1)
-NumberFits Null n = n ≡ pos 0
 NumberFits Integer n = Unit {0}
+NumberFits Signed32 n = IsIn (signed_range 32) n
+NumberFits Signed64 n = IsIn (signed_range 64) n
+NumberFits Unsigned32 n = IsIn (unsigned_range 32) n
+NumberFits Unsigned64 n = IsIn (unsigned_range 64) n
 NumberFits _ n = ⊥
 
 -- The octets of a string are in its alphabet.
 abbrev pub OctetsFit : LeafKind → List ℕ → Type 0
 OctetsFit OctetString o = Unit {0}
+OctetsFit (FixedOctetString n) o = length o ≡ n
 OctetsFit Numeric o = AreAdmitted NumericAlphabet o
 OctetsFit Printable o = AreAdmitted PrintableAlphabet o
 OctetsFit Visible o = AreAdmitted VisibleAlphabet o
@@ -30,9 +37,11 @@ OctetsFit AnyOctets o = AreAdmitted Every o
 OctetsFit _ o = ⊥
 
 abbrev pub FitsLeaf : LeafKind → Value → Type 0
+FitsLeaf kind (Boolean b) = kind ≡ BooleanKind
+FitsLeaf kind Null = kind ≡ NullKind
 FitsLeaf kind (Number n) = NumberFits kind n
 FitsLeaf kind (Bits b) = kind ≡ BitString
-FitsLeaf kind (Octets o) = OctetsFit kind o
+FitsLeaf kind (Octets o) = OctetsFit kind (cow_slice_items o)
 FitsLeaf kind (Text s) = kind ≡ Utf8
 FitsLeaf kind (Units u) = kind ≡ Bmp
 FitsLeaf kind (Arcs a) = kind ≡ ObjectIdentifier
@@ -42,6 +51,11 @@ FitsLeaf kind (Items' _ row) = ⊥
 FitsLeaf kind (Elements' _ row) = ⊥
 FitsLeaf kind (Chosen' i _ w) = ⊥
 FitsLeaf kind Absent = ⊥
+
+-- A number of an ENUMERATED.
+abbrev pub IsNumber : List ℤ → Value → Type 0
+IsNumber known (Number n) = Contains known n
+IsNumber known _ = ⊥
 
 -- ---- values that hold others
 
@@ -64,12 +78,12 @@ IsChosen P (Chosen' i _ w) = P i w
 IsChosen P _ = ⊥
 
 -- Of the types that a type names, g tells which values fit.
-abbrev pub AlternativeFits : (ℕ → Value → Type 0) → List ℕ → ℕ → Value → Type 0
-AlternativeFits g ks i w = (k : ℕ) × (Some k ≡ slice_get ks i) × g k w
+abbrev pub AlternativeFits : (ℕ → Value → Type 0) → List Alternative → ℕ → Value → Type 0
+AlternativeFits g ks i w = (a : Alternative) × (Some a ≡ slice_get ks i) × g a.type_id.0 w
 
 -- A component is absent or has its default's value, or it is a value of its type.
 abbrev pub ComponentFits : (ℕ → Value → Type 0) → Component → Value → Type 0
-ComponentFits g p v = IsLeftOutAs (presence_of p.presence) (tree_of v) ⊎ g p.type_id v
+ComponentFits g p v = IsLeftOutAs (presence_of p.presence) (tree_of v) ⊎ g p.type_id.0 v
 
 abbrev pub ComponentsFit : (ℕ → Value → Type 0) → List Component → List Value → Type 0
 ComponentsFit g [] [] = Unit {0}
@@ -82,14 +96,15 @@ EachFits P [] = Unit {0}
 EachFits P (v ∷ vs) = P v × EachFits P vs
 
 abbrev pub FitsBy : (ℕ → Value → Type 0) → «Type» → Value → Type 0
-FitsBy g (Leaf kind tag c) v = FitsLeaf kind v
+FitsBy g (Leaf kind tag c names) v = FitsLeaf kind v
+FitsBy g (Enumerated tag ns) v = IsNumber (numbers_of ns.items) v
 FitsBy g (Any tag) v = AreOctets v
-FitsBy g (Tagged tag k) v = g k v
-FitsBy g (Choice ks) v = IsChosen (AlternativeFits g ks.items) v
+FitsBy g (Tagged tag k) v = g k.0 v
+FitsBy g (Choice name ks) v = IsChosen (AlternativeFits g ks.items) v
 FitsBy g (Sequence tag ps) v = AreItems (ComponentsFit g ps.items) v
 FitsBy g (Set tag ps) v = AreItems (ComponentsFit g ps.items) v
-FitsBy g (SequenceOf tag k c) v = AreItems (EachFits (g k)) v
-FitsBy g (SetOf tag k c) v = AreElements (EachFits (g k)) v
+FitsBy g (SequenceOf tag k c) v = AreItems (EachFits (g k.0)) v
+FitsBy g (SetOf tag k c) v = AreElements (EachFits (g k.0)) v
 
 abbrev pub FitsFound : (ℕ → Value → Type 0) → Option «Type» → Value → Type 0
 FitsFound g None v = ⊥

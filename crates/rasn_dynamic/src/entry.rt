@@ -30,8 +30,8 @@ pub fn decode_with_remainder<'input>(
     schema: &Schema,
     id: TypeId,
     input: &'input [u8],
-) -> Result<(Value, &'input [u8]), DecodeError>
-    ensures { Answered rule (shape_of schema.now.types.items id) tree_of input.now result }
+) -> Result<(Value<'input>, &'input [u8]), DecodeError>
+    ensures { Answered rule (shape_of schema.now.types.items id.0) tree_of input.now result }
 {
     let mut decoder = Decoder::new(alloc, input, DecoderOptions::of(rule));
     let value = decode_at(&mut decoder, schema.types(), usize::MAX, id)?;
@@ -42,15 +42,15 @@ pub fn decode_with_remainder<'input>(
 ///
 /// # Errors
 /// Returns `UnexpectedExtraData` with the number of octets that follow the value, if some do.
-pub fn decode(
+pub fn decode<'input>(
     alloc: Global,
     rule: Codec,
     schema: &Schema,
     id: TypeId,
-    input: &[u8],
-) -> Result<Value, DecodeError>
-    ensures exact { AnsweredAlone rule (shape_of schema.now.types.items id) tree_of input.now result }
-    ensures written { rule ≡ Der → IsAsWritten (shape_of schema.now.types.items id) tree_of input.now result }
+    input: &'input [u8],
+) -> Result<Value<'input>, DecodeError>
+    ensures exact { AnsweredAlone rule (shape_of schema.now.types.items id.0) tree_of input.now result }
+    ensures written { rule ≡ Der → IsAsWritten (shape_of schema.now.types.items id.0) tree_of input.now result }
 {
     let (value, remainder) = decode_with_remainder(alloc, rule, schema, id, input)?;
     refuse_remainder(rule, remainder)?;
@@ -63,11 +63,11 @@ fn write(
     rule: Codec,
     schema: &Schema,
     id: TypeId,
-    value: &Value,
+    value: &Value<'_>,
 ) -> Result<Vec<u8>, EncodeError>
-    ensures ok { IfOk result (λ octets. Bytes rule (shape_of schema.now.types.items id) (tree_of value.now) octets.items) }
-    ensures canonical { rule ≡ Der → IfOk result (λ octets. Identify (shape_of schema.now.types.items id) (tree_of value.now) octets.items) }
-    ensures fails { IfErr result (EncodingFails rule (shape_of schema.now.types.items id) (tree_of value.now)) }
+    ensures ok { IfOk result (λ octets. Bytes rule (shape_of schema.now.types.items id.0) (tree_of value.now) octets.items) }
+    ensures canonical { rule ≡ Der → IfOk result (λ octets. Identify (shape_of schema.now.types.items id.0) (tree_of value.now) octets.items) }
+    ensures fails { IfErr result (EncodingFails rule (shape_of schema.now.types.items id.0) (tree_of value.now)) }
 {
     let Ok(buffer) = Vec::with_capacity(alloc, INITIAL_CAPACITY) else {
         return Err(EncodeError {
@@ -100,10 +100,10 @@ pub fn encode(
     rule: Codec,
     schema: &Schema,
     id: TypeId,
-    value: &Value,
+    value: &Value<'_>,
 ) -> Result<Vec<u8>, WriteError>
-    ensures exact { IsEncoded rule (shape_of schema.now.types.items id) (FitsType schema.now.types.items id value.now) (tree_of value.now) result }
-    ensures canonical { rule ≡ Der → IfOk result (λ octets. Identify (shape_of schema.now.types.items id) (tree_of value.now) octets.items) }
+    ensures exact { IsEncoded rule (shape_of schema.now.types.items id.0) (FitsType schema.now.types.items id.0 value.now) (tree_of value.now) result }
+    ensures canonical { rule ≡ Der → IfOk result (λ octets. Identify (shape_of schema.now.types.items id.0) (tree_of value.now) octets.items) }
 {
     if !fits(schema, id, value) {
         return Err(WriteError::Unfit);
@@ -134,7 +134,7 @@ pub fn normalise(
     id: TypeId,
     input: &[u8],
 ) -> Result<Vec<u8>, NormaliseError>
-    ensures { IsNormalised from to (shape_of schema.now.types.items id) input.now result }
+    ensures { IsNormalised from to (shape_of schema.now.types.items id.0) input.now result }
 {
     match decode(alloc, from, schema, id, input) {
         Ok(value) => match write(alloc, to, schema, id, &value) {
@@ -155,7 +155,7 @@ pub fn is_canonical(
     id: TypeId,
     octets: &[u8],
 ) -> Result<bool, AllocError>
-    ensures { IfOk result (λ answer. IsWhether answer (IsNormal Der (shape_of schema.now.types.items id) octets.now octets.now)) }
+    ensures { IfOk result (λ answer. IsWhether answer (IsNormal Der (shape_of schema.now.types.items id.0) octets.now octets.now)) }
 {
     let value = match decode(alloc, Codec::Der, schema, id, octets) {
         Ok(value) => value,

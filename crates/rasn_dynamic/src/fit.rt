@@ -7,11 +7,10 @@ ghost use Rattle.rasn_schema.specs.Trees.{tree_of};
 ghost use Rattle.rasn_schema.specs.Shapes.{presence_of};
 ghost use Rattle.rasn_dynamic.specs.Written.{IsLeftOutAs};
 
-use crate::components::is_constant;
 use rasn_schema::{Component, Presence, Value};
 
 /// Returns the values of a list.
-pub fn items_of(value: &Value) -> Option<&[Value]>
+pub fn items_of<'value, 'input>(value: &'value Value<'input>) -> Option<&'value [Value<'input>]>
     ensures { MatchOption result (Unit {0}) (λ l. tree_of value.now ≡ list_tree tree_of l.now) }
 {
     match value {
@@ -21,7 +20,7 @@ pub fn items_of(value: &Value) -> Option<&[Value]>
 }
 
 /// Returns the values of a set.
-pub fn elements_of(value: &Value) -> Option<&[Value]>
+pub fn elements_of<'value, 'input>(value: &'value Value<'input>) -> Option<&'value [Value<'input>]>
     ensures { MatchOption result (Unit {0}) (λ l. tree_of value.now ≡ set_elements (list_tree tree_of l.now)) }
 {
     match value {
@@ -31,7 +30,7 @@ pub fn elements_of(value: &Value) -> Option<&[Value]>
 }
 
 /// Returns whether a value is that of a component that is absent.
-fn is_absent(value: &Value) -> bool
+fn is_absent(value: &Value<'_>) -> bool
     ensures { IsWhether result (tree_of value.now ≡ absent) }
 {
     match value {
@@ -41,12 +40,12 @@ fn is_absent(value: &Value) -> bool
 }
 
 /// Returns whether a component with this value isn't written.
-pub fn is_left_out(component: &Component, value: &Value) -> bool
+pub fn is_left_out(component: &Component, value: &Value<'_>) -> bool
     ensures { IsWhether result (IsLeftOutAs (presence_of component.now.presence) (tree_of value.now)) }
 {
     match &component.presence {
         Presence::Required => false,
         Presence::Optional | Presence::Addition => is_absent(value),
-        Presence::Default(constant) => is_constant(value, constant),
+        Presence::Default(default) => value.means_same(default),
     }
 }

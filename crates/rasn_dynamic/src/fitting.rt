@@ -1,28 +1,27 @@
 //! Which values fit a type.
-ghost use Rattle.std.specs.Prelude.{◌≡◌, [], pos};
+ghost use Rattle.std.specs.Prelude.{◌≡◌, [], Contains};
+ghost use Rattle.rasn_types.specs.Shapes.{IsIn, between};
 ghost use Rattle.rasn_types.specs.CharacterString.{AreAdmitted};
 ghost use Rattle.rasn_types.specs.Truth.{IsWhether};
-ghost use Rattle.rasn_schema.specs.Shapes.{presence_of};
+ghost use Rattle.rasn_schema.specs.Shapes.{presence_of, numbers_of};
 ghost use Rattle.rasn_schema.specs.Trees.{tree_of};
-ghost use Rattle.rasn_dynamic.specs.Fitting.{NumberFits, OctetsFit, FitsLeaf, AreOctets, AlternativeFits, IsChosen, ComponentFits, ComponentsFit, AreItems, AreElements, EachFits, FitsBy, Fits};
+ghost use Rattle.rasn_dynamic.specs.Fitting.{IsNumber, NumberFits, OctetsFit, FitsLeaf, AreOctets, AlternativeFits, IsChosen, ComponentFits, ComponentsFit, AreItems, AreElements, EachFits, FitsBy, Fits};
 ghost use Rattle.rasn_dynamic.specs.Entry.{FitsType};
 
 use crate::fit::is_left_out;
-use rasn_schema::{Component, LeafKind, Schema, Type, TypeId, Value, type_at};
+use rasn_schema::{
+    Alternative, Component, LeafKind, NamedNumber, Schema, Type, TypeId, Value, type_at,
+};
 use rasn_types::types::{Alphabet, Integer};
 
-/// Returns whether the number is 0.
-fn is_zero(number: &Integer) -> bool
-    ensures { IsWhether result (number.now ≡ pos 0) }
+/// Returns whether the number is one of those from `low` to `high`.
+fn is_between(number: &Integer, low: i128, high: i128) -> bool
+    ensures { IsWhether result (IsIn (between low high) number.now) }
 {
-    number.to_i128() == Some(0)
-}
-
-/// Returns whether the number is 1.
-fn is_one(number: &Integer) -> bool
-    ensures { IsWhether result (number.now ≡ pos 1) }
-{
-    number.to_i128() == Some(1)
+    match number.to_i128() {
+        Some(number) => low <= number && number <= high,
+        None => false,
+    }
 }
 
 /// Returns whether the number is a value of this kind.
@@ -30,9 +29,11 @@ fn number_fits(kind: LeafKind, number: &Integer) -> bool
     ensures { IsWhether result (NumberFits kind number.now) }
 {
     match kind {
-        LeafKind::Boolean => is_zero(number) || is_one(number),
-        LeafKind::Null => is_zero(number),
         LeafKind::Integer => true,
+        LeafKind::Signed32 => is_between(number, i32::MIN as i128, i32::MAX as i128),
+        LeafKind::Signed64 => is_between(number, i64::MIN as i128, i64::MAX as i128),
+        LeafKind::Unsigned32 => is_between(number, 0, u32::MAX as i128),
+        LeafKind::Unsigned64 => is_between(number, 0, u64::MAX as i128),
         _ => false,
     }
 }
@@ -50,6 +51,7 @@ fn octets_fit(kind: LeafKind, octets: &[u8]) -> bool
 {
     match kind {
         LeafKind::OctetString => true,
+        LeafKind::FixedOctetString(len) => octets.len() == len,
         LeafKind::Numeric => are_admitted(Alphabet::Numeric, octets),
         LeafKind::Printable => are_admitted(Alphabet::Printable, octets),
         LeafKind::Visible => are_admitted(Alphabet::Visible, octets),
@@ -67,13 +69,15 @@ fn is_kind(kind: LeafKind, wanted: LeafKind) -> bool
 }
 
 /// Returns whether the value, which holds no other values, is one of this kind.
-fn leaf_fits(kind: LeafKind, value: &Value) -> bool
+fn leaf_fits(kind: LeafKind, value: &Value<'_>) -> bool
     ensures { IsWhether result (FitsLeaf kind value.now) }
 {
     match value {
-        Value::Number(number) => number_fits(kind, number),
+        Value::Boolean(_) => is_kind(kind, LeafKind::Boolean),
+        Value::Null => is_kind(kind, LeafKind::Null),
+        Value::Integer(number) => number_fits(kind, number),
         Value::Bits(_) => is_kind(kind, LeafKind::BitString),
-        Value::Octets(octets) => octets_fit(kind, octets.as_octets()),
+        Value::Octets(octets) => octets_fit(kind, octets.as_slice()),
         Value::Text(_) => is_kind(kind, LeafKind::Utf8),
         Value::Units(_) => is_kind(kind, LeafKind::Bmp),
         Value::Arcs(_) => is_kind(kind, LeafKind::ObjectIdentifier),
@@ -88,8 +92,30 @@ fn leaf_fits(kind: LeafKind, value: &Value) -> bool
     }
 }
 
+/// Returns whether the number is one of these.
+fn is_listed(numbers: &[NamedNumber], number: &Integer) -> bool
+    ensures { IsWhether result (Contains (numbers_of numbers.now) number.now) }
+{
+    for named in numbers {
+        if number.to_i128() == Some(named.number as i128) {
+            return true;
+        }
+    }
+    false
+}
+
+/// Returns whether the value is a number of the ENUMERATED.
+fn is_number(numbers: &[NamedNumber], value: &Value<'_>) -> bool
+    ensures { IsWhether result (IsNumber (numbers_of numbers.now) value.now) }
+{
+    match value {
+        Value::Integer(number) => is_listed(numbers, number),
+        _ => false,
+    }
+}
+
 /// Returns whether the value is that of an open type.
-fn are_octets(value: &Value) -> bool
+fn are_octets(value: &Value<'_>) -> bool
     ensures { IsWhether result (AreOctets value.now) }
 {
     match value {
@@ -99,7 +125,7 @@ fn are_octets(value: &Value) -> bool
 }
 
 /// Returns whether no value is left.
-fn is_end(values: &[Value]) -> bool
+fn is_end(values: &[Value<'_>]) -> bool
     ensures { IsWhether result (values.now ≡ []) }
 {
     values.is_empty()
@@ -107,8 +133,8 @@ fn is_end(values: &[Value]) -> bool
 
 /// Returns whether the value is one of the type with this number. Types are followed `levels` deep.
 #[cycle(fits)]
-fn fits_at(types: &[Type], levels: usize, id: TypeId, value: &Value) -> bool
-    ensures { IsWhether result (Fits types.now levels id value.now) }
+fn fits_at(types: &[Type], levels: usize, id: TypeId, value: &Value<'_>) -> bool
+    ensures { IsWhether result (Fits types.now levels id.0 value.now) }
 {
     if levels == 0 {
         return false;
@@ -121,14 +147,15 @@ fn fits_at(types: &[Type], levels: usize, id: TypeId, value: &Value) -> bool
 
 /// Returns whether the value is one of the type.
 #[cycle(fits)]
-fn type_fits(types: &[Type], below: usize, ty: &Type, value: &Value) -> bool
+fn type_fits(types: &[Type], below: usize, ty: &Type, value: &Value<'_>) -> bool
     ensures { IsWhether result (FitsBy (Fits types.now below) ty.now value.now) }
 {
     match ty {
         Type::Leaf { kind, .. } => leaf_fits(*kind, value),
+        Type::Enumerated { numbers, .. } => is_number(numbers, value),
         Type::Any { .. } => are_octets(value),
         Type::Tagged { inner, .. } => fits_at(types, below, *inner, value),
-        Type::Choice { alternatives } => is_alternative(types, below, alternatives, value),
+        Type::Choice { alternatives, .. } => is_alternative(types, below, alternatives, value),
         Type::Sequence { components, .. } => are_components(types, below, components, value),
         Type::Set { components, .. } => are_components(types, below, components, value),
         Type::SequenceOf { element, .. } => is_list(types, below, *element, value),
@@ -138,12 +165,19 @@ fn type_fits(types: &[Type], below: usize, ty: &Type, value: &Value) -> bool
 
 /// Returns whether the value is that of an alternative.
 #[cycle(fits)]
-fn is_alternative(types: &[Type], below: usize, alternatives: &[TypeId], value: &Value) -> bool
+fn is_alternative(
+    types: &[Type],
+    below: usize,
+    alternatives: &[Alternative],
+    value: &Value<'_>,
+) -> bool
     ensures { IsWhether result (IsChosen (AlternativeFits (Fits types.now below) alternatives.now) value.now) }
 {
     match value {
         Value::Chosen(index, inner) => alternative_fits(types, below, alternatives, *index, inner),
-        Value::Number(_) => false,
+        Value::Boolean(_) => false,
+        Value::Null => false,
+        Value::Integer(_) => false,
         Value::Bits(_) => false,
         Value::Octets(_) => false,
         Value::Text(_) => false,
@@ -162,26 +196,28 @@ fn is_alternative(types: &[Type], below: usize, alternatives: &[TypeId], value: 
 fn alternative_fits(
     types: &[Type],
     below: usize,
-    alternatives: &[TypeId],
+    alternatives: &[Alternative],
     index: usize,
-    value: &Value,
+    value: &Value<'_>,
 ) -> bool
     ensures { IsWhether result (AlternativeFits (Fits types.now below) alternatives.now index value.now) }
 {
     match alternatives.get(index) {
-        Some(id) => fits_at(types, below, *id, value),
+        Some(alternative) => fits_at(types, below, alternative.type_id, value),
         None => false,
     }
 }
 
 /// Returns whether the value is a list of the components' values.
 #[cycle(fits)]
-fn are_components(types: &[Type], below: usize, components: &[Component], value: &Value) -> bool
+fn are_components(types: &[Type], below: usize, components: &[Component], value: &Value<'_>) -> bool
     ensures { IsWhether result (AreItems (ComponentsFit (Fits types.now below) components.now) value.now) }
 {
     match value {
         Value::Items(values) => components_fit(types, below, components, values.as_slice()),
-        Value::Number(_) => false,
+        Value::Boolean(_) => false,
+        Value::Null => false,
+        Value::Integer(_) => false,
         Value::Bits(_) => false,
         Value::Octets(_) => false,
         Value::Text(_) => false,
@@ -197,12 +233,14 @@ fn are_components(types: &[Type], below: usize, components: &[Component], value:
 
 /// Returns whether the value is a list of values of the type.
 #[cycle(fits)]
-fn is_list(types: &[Type], below: usize, element: TypeId, value: &Value) -> bool
-    ensures { IsWhether result (AreItems (EachFits (Fits types.now below element)) value.now) }
+fn is_list(types: &[Type], below: usize, element: TypeId, value: &Value<'_>) -> bool
+    ensures { IsWhether result (AreItems (EachFits (Fits types.now below element.0)) value.now) }
 {
     match value {
         Value::Items(values) => each_fits(types, below, element, values.as_slice()),
-        Value::Number(_) => false,
+        Value::Boolean(_) => false,
+        Value::Null => false,
+        Value::Integer(_) => false,
         Value::Bits(_) => false,
         Value::Octets(_) => false,
         Value::Text(_) => false,
@@ -218,12 +256,14 @@ fn is_list(types: &[Type], below: usize, element: TypeId, value: &Value) -> bool
 
 /// Returns whether the value is a set of values of the type.
 #[cycle(fits)]
-fn is_set(types: &[Type], below: usize, element: TypeId, value: &Value) -> bool
-    ensures { IsWhether result (AreElements (EachFits (Fits types.now below element)) value.now) }
+fn is_set(types: &[Type], below: usize, element: TypeId, value: &Value<'_>) -> bool
+    ensures { IsWhether result (AreElements (EachFits (Fits types.now below element.0)) value.now) }
 {
     match value {
         Value::Elements(values) => each_fits(types, below, element, values.as_slice()),
-        Value::Number(_) => false,
+        Value::Boolean(_) => false,
+        Value::Null => false,
+        Value::Integer(_) => false,
         Value::Bits(_) => false,
         Value::Octets(_) => false,
         Value::Text(_) => false,
@@ -239,7 +279,12 @@ fn is_set(types: &[Type], below: usize, element: TypeId, value: &Value) -> bool
 
 /// Returns whether there is a fitting value for each component.
 #[cycle(fits)]
-fn components_fit(types: &[Type], below: usize, components: &[Component], values: &[Value]) -> bool
+fn components_fit(
+    types: &[Type],
+    below: usize,
+    components: &[Component],
+    values: &[Value<'_>],
+) -> bool
     ensures { IsWhether result (ComponentsFit (Fits types.now below) components.now values.now) }
 {
     let mut rest = components;
@@ -259,7 +304,7 @@ fn components_fit(types: &[Type], below: usize, components: &[Component], values
 
 /// Returns whether the component is absent or has its default's value, or the value is one of its type.
 #[cycle(fits)]
-fn component_fits(types: &[Type], below: usize, component: &Component, value: &Value) -> bool
+fn component_fits(types: &[Type], below: usize, component: &Component, value: &Value<'_>) -> bool
     ensures { IsWhether result (ComponentFits (Fits types.now below) component.now value.now) }
 {
     if is_left_out(component, value) {
@@ -270,8 +315,8 @@ fn component_fits(types: &[Type], below: usize, component: &Component, value: &V
 
 /// Returns whether each value is one of the type.
 #[cycle(fits)]
-fn each_fits(types: &[Type], below: usize, element: TypeId, values: &[Value]) -> bool
-    ensures { IsWhether result (EachFits (Fits types.now below element) values.now) }
+fn each_fits(types: &[Type], below: usize, element: TypeId, values: &[Value<'_>]) -> bool
+    ensures { IsWhether result (EachFits (Fits types.now below element.0) values.now) }
 {
     let mut rest = values;
     while let [value, after @ ..] = rest {
@@ -284,8 +329,8 @@ fn each_fits(types: &[Type], below: usize, element: TypeId, values: &[Value]) ->
 }
 
 /// Returns whether the value is one of the type with this number, so that it can be written.
-pub fn fits(schema: &Schema, id: TypeId, value: &Value) -> bool
-    ensures { IsWhether result (FitsType schema.now.types.items id value.now) }
+pub fn fits(schema: &Schema, id: TypeId, value: &Value<'_>) -> bool
+    ensures { IsWhether result (FitsType schema.now.types.items id.0 value.now) }
 {
     fits_at(schema.types(), usize::MAX, id, value)
 }

@@ -18,3 +18,8 @@ pub use entry::{
     NormaliseError, WriteError, decode, decode_with_remainder, encode, is_canonical, normalise,
 };
 pub use fitting::fits;
+
+#[test]
+fn nothing(rt: HostRuntime) {
+    assert!(rt; true);
+}

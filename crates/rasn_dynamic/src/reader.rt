@@ -17,10 +17,10 @@ ghost use Rattle.rasn_de.specs.declared.ber.de.parser.ParseError.TheVariants.{Un
 
 use crate::components::{all_left_out, checked, leaves_all_out, left_out};
 use crate::order::{is_less, octets_before, out_of_order};
-use crate::read_leaf::{decode_any_value, decode_leaf, out_of_memory, push};
+use crate::read_leaf::{decode_any_value, decode_leaf, decode_number, out_of_memory, push};
 use crate::set::{component_for, gather, no_components, put};
 use rasn_de::ber::de::{ConstructedHeader, Decoder};
-use rasn_schema::{Component, Type, TypeId, Value, alternative_for, type_at};
+use rasn_schema::{Alternative, Component, Type, TypeId, Value, alternative_for, type_at};
 use rasn_types::error::{DecodeError, DecodeErrorKind};
 use rasn_types::types::Constraints;
 
@@ -44,11 +44,11 @@ fn extra(decoder: &Decoder<'_>, left: usize) -> DecodeError
 
 /// Appends a value, which must have taken some of the input.
 #[inline(always)]
-fn keep(
-    decoder: &Decoder<'_>,
+fn keep<'input>(
+    decoder: &Decoder<'input>,
     left: usize,
-    value: Value,
-    values: &mut Vec<Value>,
+    value: Value<'input>,
+    values: &mut Vec<Value<'input>>,
 ) -> Result<(), DecodeError>
     ensures { IsKept left decoder.now value values.old.items result values.new.items }
 {
@@ -60,11 +60,11 @@ fn keep(
 
 /// Returns the elements of a SEQUENCE OF, if their number is within the bound.
 #[inline(always)]
-fn sized(
-    decoder: &Decoder<'_>,
-    values: Vec<Value>,
+fn sized<'input>(
+    decoder: &Decoder<'input>,
+    values: Vec<Value<'input>>,
     constraints: &Constraints,
-) -> Result<Value, DecodeError>
+) -> Result<Value<'input>, DecodeError>
     ensures { IsSized constraints.now.size values result }
 {
     if constraints.admits_size(values.len()) {
@@ -82,11 +82,11 @@ fn sized(
 
 /// Returns the elements of a SET OF, if their number is within the bound.
 #[inline(always)]
-fn sized_set(
-    decoder: &Decoder<'_>,
-    values: Vec<Value>,
+fn sized_set<'input>(
+    decoder: &Decoder<'input>,
+    values: Vec<Value<'input>>,
     constraints: &Constraints,
-) -> Result<Value, DecodeError>
+) -> Result<Value<'input>, DecodeError>
     ensures { IsSizedSet constraints.now.size values result }
 {
     if constraints.admits_size(values.len()) {
@@ -104,14 +104,14 @@ fn sized_set(
 
 /// Reads a value of the type with this number. Types are followed `levels` deep.
 #[cycle(decode)]
-pub fn decode_at(
-    decoder: &mut Decoder<'_>,
+pub fn decode_at<'input>(
+    decoder: &mut Decoder<'input>,
     types: &[Type],
     levels: usize,
     id: TypeId,
-) -> Result<Value, DecodeError>
-    requires { IsLawful (shape_of_type types.now levels id) }
-    ensures { Decodes (shape_of_type types.now levels id) tree_of decoder.old result decoder.new }
+) -> Result<Value<'input>, DecodeError>
+    requires { IsLawful (shape_of_type types.now levels id.0) }
+    ensures { Decodes (shape_of_type types.now levels id.0) tree_of decoder.old result decoder.new }
 {
     if levels == 0 {
         return Err(no_value(decoder));
@@ -125,12 +125,12 @@ pub fn decode_at(
 /// Reads a value of a type.
 #[cycle(decode)]
 #[inline(always)]
-fn decode_type(
-    decoder: &mut Decoder<'_>,
+fn decode_type<'input>(
+    decoder: &mut Decoder<'input>,
     types: &[Type],
     below: usize,
     ty: &Type,
-) -> Result<Value, DecodeError>
+) -> Result<Value<'input>, DecodeError>
     requires { IsLawful (type_by (shape_of_type types.now below) ty.now) }
     ensures { Decodes (type_by (shape_of_type types.now below) ty.now) tree_of decoder.old result decoder.new }
 {
@@ -139,9 +139,11 @@ fn decode_type(
             kind,
             tag,
             constraints,
+            ..
         } => decode_leaf(decoder, *kind, *tag, constraints),
+        Type::Enumerated { tag, numbers } => decode_number(decoder, *tag, numbers),
         Type::Any { tag } => decode_any_value(decoder, *tag),
-        Type::Choice { alternatives } => decode_choice(decoder, types, below, alternatives),
+        Type::Choice { alternatives, .. } => decode_choice(decoder, types, below, alternatives),
         Type::Tagged { tag, .. } => {
             decode_inside(decoder, types, below, ty, ConstructedHeader::prefix(*tag))
         }
@@ -162,12 +164,12 @@ fn decode_type(
 
 /// Reads the alternative to which the next tag belongs (X.690 8.13).
 #[cycle(decode)]
-fn decode_choice(
-    decoder: &mut Decoder<'_>,
+fn decode_choice<'input>(
+    decoder: &mut Decoder<'input>,
     types: &[Type],
     below: usize,
-    alternatives: &[TypeId],
-) -> Result<Value, DecodeError>
+    alternatives: &[Alternative],
+) -> Result<Value<'input>, DecodeError>
     requires { IsLawful (choice (alternatives_by (shape_of_type types.now below) alternatives.now)) }
     ensures { Decodes (choice (alternatives_by (shape_of_type types.now below) alternatives.now)) tree_of decoder.old result decoder.new }
 {
@@ -175,7 +177,7 @@ fn decode_choice(
     let Some(number) = alternative_for(types, below, alternatives, tag) else {
         return Err(no_value(decoder));
     };
-    let value = decode_at(decoder, types, below, alternatives[number])?;
+    let value = decode_at(decoder, types, below, alternatives[number].type_id)?;
     match Box::new(decoder.alloc(), value) {
         Ok(value) => Ok(Value::Chosen(number, value)),
         Err(_) => Err(out_of_memory(decoder)),
@@ -184,13 +186,13 @@ fn decode_choice(
 
 /// Reads a value that holds other values, and its header.
 #[cycle(decode)]
-fn decode_inside(
-    decoder: &mut Decoder<'_>,
+fn decode_inside<'input>(
+    decoder: &mut Decoder<'input>,
     types: &[Type],
     below: usize,
     ty: &Type,
     header: ConstructedHeader,
-) -> Result<Value, DecodeError>
+) -> Result<Value<'input>, DecodeError>
     requires { IsLawful (type_by (shape_of_type types.now below) ty.now) }
     ensures exact { DecodesInside (DecodesBy (ReadsInside (type_by (shape_of_type types.now below) ty.now)) tree_of) header decoder.old result decoder.new }
     ensures octets { decoder.old.depth ≢ 0 → AreOctets decoder.old.rest }
@@ -203,12 +205,12 @@ fn decode_inside(
 
 /// Reads the contents of a value that holds other values.
 #[cycle(decode)]
-fn decode_contents(
-    decoder: &mut Decoder<'_>,
+fn decode_contents<'input>(
+    decoder: &mut Decoder<'input>,
     types: &[Type],
     below: usize,
     ty: &Type,
-) -> Result<Value, DecodeError>
+) -> Result<Value<'input>, DecodeError>
     requires { IsLawful (type_by (shape_of_type types.now below) ty.now) }
     ensures { DecodesBy (ReadsInside (type_by (shape_of_type types.now below) ty.now)) tree_of decoder.old result decoder.new }
 {
@@ -238,14 +240,14 @@ fn decode_contents(
 
 /// Reads elements up to the end of the contents (X.690 8.10).
 #[cycle(decode)]
-fn decode_elements(
-    decoder: &mut Decoder<'_>,
+fn decode_elements<'input>(
+    decoder: &mut Decoder<'input>,
     types: &[Type],
     below: usize,
     element: TypeId,
-) -> Result<Vec<Value>, DecodeError>
-    requires { IsLawful (shape_of_type types.now below element) }
-    ensures { DecodesElements (Decodes (shape_of_type types.now below element) tree_of) (λ v. v.items) decoder.old result decoder.new }
+) -> Result<Vec<Value<'input>>, DecodeError>
+    requires { IsLawful (shape_of_type types.now below element.0) }
+    ensures { DecodesElements (Decodes (shape_of_type types.now below element.0) tree_of) (λ v. v.items) decoder.old result decoder.new }
 {
     let mut values = Vec::new(decoder.alloc());
     while !decoder.has_ended() {
@@ -258,14 +260,14 @@ fn decode_elements(
 
 /// Reads elements up to the end of the contents. Under DER their octets have to be in ascending order (X.690 11.6).
 #[cycle(decode)]
-fn decode_elements_in_order(
-    decoder: &mut Decoder<'_>,
+fn decode_elements_in_order<'input>(
+    decoder: &mut Decoder<'input>,
     types: &[Type],
     below: usize,
     element: TypeId,
-) -> Result<Vec<Value>, DecodeError>
-    requires { IsLawful (shape_of_type types.now below element) }
-    ensures { DecodesElementsInOrder (Decodes (shape_of_type types.now below element) tree_of) (λ v. v.items) decoder.old result decoder.new }
+) -> Result<Vec<Value<'input>>, DecodeError>
+    requires { IsLawful (shape_of_type types.now below element.0) }
+    ensures { DecodesElementsInOrder (Decodes (shape_of_type types.now below element.0) tree_of) (λ v. v.items) decoder.old result decoder.new }
 {
     let mut values = Vec::new(decoder.alloc());
     let mut last: &[u8] = &[];
@@ -285,12 +287,12 @@ fn decode_elements_in_order(
 /// Reads the components of a SEQUENCE, up to the end of the contents (X.690 8.9).
 #[cycle(decode)]
 #[inline(always)]
-fn decode_sequence(
-    decoder: &mut Decoder<'_>,
+fn decode_sequence<'input>(
+    decoder: &mut Decoder<'input>,
     types: &[Type],
     below: usize,
     components: &[Component],
-) -> Result<Value, DecodeError>
+) -> Result<Value<'input>, DecodeError>
     requires { AreLawful (components_by (shape_of_type types.now below) components.now) }
     ensures { DecodesBy (ReadsSequence (components_by (shape_of_type types.now below) components.now)) tree_of decoder.old result decoder.new }
 {
@@ -302,12 +304,12 @@ fn decode_sequence(
 }
 
 #[cycle(decode)]
-fn decode_components(
-    decoder: &mut Decoder<'_>,
+fn decode_components<'input>(
+    decoder: &mut Decoder<'input>,
     types: &[Type],
     below: usize,
     components: &[Component],
-) -> Result<Vec<Value>, DecodeError>
+) -> Result<Vec<Value<'input>>, DecodeError>
     requires { AreLawful (components_by (shape_of_type types.now below) components.now) }
     ensures { DecodesParts (components_by (shape_of_type types.now below) components.now) (λ v. list_tree tree_of v.items) decoder.old result decoder.new }
 {
@@ -323,14 +325,14 @@ fn decode_components(
 
 #[cycle(decode)]
 #[inline(always)]
-fn decode_component(
-    decoder: &mut Decoder<'_>,
+fn decode_component<'input>(
+    decoder: &mut Decoder<'input>,
     types: &[Type],
     below: usize,
     component: &Component,
-) -> Result<Value, DecodeError>
-    requires { IsLawful (shape_of_type types.now below component.now.type_id) }
-    ensures { DecodesBy (ReadsComponent (presence_of component.now.presence) (shape_of_type types.now below component.now.type_id)) tree_of decoder.old result decoder.new }
+) -> Result<Value<'input>, DecodeError>
+    requires { IsLawful (shape_of_type types.now below component.now.type_id.0) }
+    ensures { DecodesBy (ReadsComponent (presence_of component.now.presence) (shape_of_type types.now below component.now.type_id.0)) tree_of decoder.old result decoder.new }
 {
     if let Some(value) = left_out(decoder, types, component)? {
         return Ok(value);
@@ -341,12 +343,12 @@ fn decode_component(
 
 /// Reads the components of a SET, in any order, up to the end of the contents (X.690 8.11).
 #[cycle(decode)]
-fn decode_set(
-    decoder: &mut Decoder<'_>,
+fn decode_set<'input>(
+    decoder: &mut Decoder<'input>,
     types: &[Type],
     below: usize,
     components: &[Component],
-) -> Result<Value, DecodeError>
+) -> Result<Value<'input>, DecodeError>
     requires { AreLawfulByTag (components_by (shape_of_type types.now below) components.now) }
     ensures { DecodesBy (ReadsSetParts (components_by (shape_of_type types.now below) components.now)) tree_of decoder.old result decoder.new }
 {
@@ -361,12 +363,12 @@ fn decode_set(
 
 /// Reads one component of a SET, which must take some of the input, and puts it in its place.
 #[cycle(decode)]
-fn decode_set_component(
-    decoder: &mut Decoder<'_>,
+fn decode_set_component<'input>(
+    decoder: &mut Decoder<'input>,
     types: &[Type],
     below: usize,
     components: &[Component],
-    found: &mut Vec<Option<Value>>,
+    found: &mut Vec<Option<Value<'input>>>,
 ) -> Result<(), DecodeError>
     requires lawful { AreLawfulByTag (components_by (shape_of_type types.now below) components.now) }
     requires as_many { length found.old.items ≡ length components.now }

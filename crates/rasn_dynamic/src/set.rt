@@ -7,7 +7,6 @@ ghost use Rattle.rasn_schema.specs.Trees.{tree_of};
 ghost use Rattle.rasn_schema.specs.Shapes.{shape_of_type, components_by, presence_of, presences_in};
 ghost use Rattle.rasn_dynamic.specs.Calls.{held, nones, IsPut, IsComponentFor, IsSettled, Gathers};
 
-use crate::components::value_of;
 use crate::read_leaf::{out_of_memory, push};
 use rasn_de::ber::de::Decoder;
 use rasn_schema::{Component, Presence, Type, Value, begins};
@@ -33,10 +32,10 @@ pub fn component_for<'components>(
 }
 
 /// Returns that no component was read yet.
-pub fn no_components(
-    decoder: &Decoder<'_>,
+pub fn no_components<'input>(
+    decoder: &Decoder<'input>,
     components: &[Component],
-) -> Result<Vec<Option<Value>>, DecodeError>
+) -> Result<Vec<Option<Value<'input>>>, DecodeError>
     ensures ok { IfOk result (λ v. v.items ≡ nones components.now) }
     ensures err { IfErr result (λ e. IsOutOfMemory e.kind) }
 {
@@ -52,11 +51,11 @@ pub fn no_components(
 }
 
 /// Puts a value in its place, which has to be empty.
-pub fn put(
-    decoder: &Decoder<'_>,
-    found: &mut Vec<Option<Value>>,
+pub fn put<'input>(
+    decoder: &Decoder<'input>,
+    found: &mut Vec<Option<Value<'input>>>,
     number: usize,
-    value: Value,
+    value: Value<'input>,
 ) -> Result<(), DecodeError>
     requires { number < length found.old.items }
     ensures { IsPut number value found.old.items result found.new.items }
@@ -77,11 +76,11 @@ fn no_part(decoder: &Decoder<'_>) -> DecodeError {
 }
 
 /// Returns the component that was read, or the value that it has if it is absent.
-fn settle(
-    decoder: &Decoder<'_>,
+fn settle<'input>(
+    decoder: &Decoder<'input>,
     component: &Component,
-    found: Option<Value>,
-) -> Result<Value, DecodeError>
+    found: Option<Value<'input>>,
+) -> Result<Value<'input>, DecodeError>
     ensures { IsSettled (presence_of component.now.presence) (held_tree tree_of found) result }
 {
     if let Some(value) = found {
@@ -90,7 +89,7 @@ fn settle(
     match &component.presence {
         Presence::Required => Err(no_part(decoder)),
         Presence::Optional | Presence::Addition => Ok(Value::Absent),
-        Presence::Default(constant) => match value_of(constant, decoder.alloc()) {
+        Presence::Default(default) => match default.copied(decoder.alloc()) {
             Ok(value) => Ok(value),
             Err(_) => Err(out_of_memory(decoder)),
         },
@@ -98,11 +97,11 @@ fn settle(
 }
 
 /// Returns the value of the SET, after its last component.
-pub fn gather(
-    decoder: &Decoder<'_>,
+pub fn gather<'input>(
+    decoder: &Decoder<'input>,
     components: &[Component],
-    found: Vec<Option<Value>>,
-) -> Result<Value, DecodeError>
+    found: Vec<Option<Value<'input>>>,
+) -> Result<Value<'input>, DecodeError>
     requires { length found.items ≡ length components.now }
     ensures { Gathers (presences_in components.now) (held found.items) result }
 {

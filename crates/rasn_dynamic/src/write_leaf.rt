@@ -2,15 +2,16 @@
 ghost use Rattle.std.specs.Prelude.{◌≡◌, OnOk, OnErr, IfErr};
 ghost use Rattle.rasn_types.specs.Errors.{IsEncodeOutOfMemory};
 ghost use Rattle.rasn_types.specs.CharacterString.{string_kind};
-ghost use Rattle.rasn_types.specs.Shapes.{Shape, Tree, leaf, any, looked_for, boolean, null, object_identifier, bit_string, octet_string, integer, every, bmp, utf8, utc_time, generalized_time, date};
+ghost use Rattle.rasn_types.specs.Shapes.{Shape, Tree, leaf, any, looked_for, boolean, null, object_identifier, bit_string, octet_string, fixed, integer, enumerated, every, bmp, utf8, utc_time, generalized_time, date};
 ghost use Rattle.rasn_enc.specs.View.{View};
 ghost use Rattle.rasn_enc.specs.Encoding.{AppendsEncoding, EncodeFails};
 ghost use Rattle.rasn_schema.specs.Trees.{tree_of};
-ghost use Rattle.rasn_schema.specs.Shapes.{kind_of};
+ghost use Rattle.rasn_schema.specs.Shapes.{kind_of, numbers_of};
+ghost use Rattle.rasn_types.specs.Trees.{unconstrained};
 
 use rasn_enc::ber::enc::Encoder;
 use rasn_enc::enc::Encode;
-use rasn_schema::{LeafKind, Value};
+use rasn_schema::{LeafKind, NamedNumber, Value};
 use rasn_types::error::{EncodeError, EncodeErrorKind};
 use rasn_types::types::{
     Any, Constraints, GeneralType, Ia5Type, Identifier, NumericType, PrintableType,
@@ -28,68 +29,49 @@ pub(crate) fn misfit(encoder: &Encoder) -> EncodeError
     }
 }
 
-/// Writes a BOOLEAN, from 1 or 0.
 fn write_boolean(
     encoder: &mut Encoder,
     tag: Tag,
     constraints: &Constraints,
-    value: &Value,
+    value: &Value<'_>,
 ) -> Result<(), EncodeError>
     ensures ok { OnOk result (AppendsEncoding (leaf boolean tag constraints.now) (tree_of value.now) encoder.old encoder.new) }
     ensures err { OnErr result (encoder.new ≡ encoder.old) }
     ensures refused { IfErr result (EncodeFails (leaf boolean tag constraints.now) (tree_of value.now) encoder.old) }
 {
-    let Value::Number(number) = value else {
+    let Value::Boolean(held) = value else {
         return Err(misfit(encoder));
     };
-    match number.to_i128() {
-        Some(0) => false.encode_with_tag_and_constraints(
-            encoder,
-            tag,
-            constraints,
-            Identifier::EMPTY,
-        ),
-        Some(1) => true.encode_with_tag_and_constraints(
-            encoder,
-            tag,
-            constraints,
-            Identifier::EMPTY,
-        ),
-        _ => Err(misfit(encoder)),
-    }
+    held.encode_with_tag_and_constraints(encoder, tag, constraints, Identifier::EMPTY)
 }
 
-/// Writes a NULL, from 0.
 fn write_null(
     encoder: &mut Encoder,
     tag: Tag,
     constraints: &Constraints,
-    value: &Value,
+    value: &Value<'_>,
 ) -> Result<(), EncodeError>
     ensures ok { OnOk result (AppendsEncoding (leaf null tag constraints.now) (tree_of value.now) encoder.old encoder.new) }
     ensures err { OnErr result (encoder.new ≡ encoder.old) }
     ensures refused { IfErr result (EncodeFails (leaf null tag constraints.now) (tree_of value.now) encoder.old) }
 {
-    let Value::Number(number) = value else {
+    let Value::Null = value else {
         return Err(misfit(encoder));
     };
-    match number.to_i128() {
-        Some(0) => ().encode_with_tag_and_constraints(encoder, tag, constraints, Identifier::EMPTY),
-        _ => Err(misfit(encoder)),
-    }
+    ().encode_with_tag_and_constraints(encoder, tag, constraints, Identifier::EMPTY)
 }
 
 fn write_integer(
     encoder: &mut Encoder,
     tag: Tag,
     constraints: &Constraints,
-    value: &Value,
+    value: &Value<'_>,
 ) -> Result<(), EncodeError>
     ensures ok { OnOk result (AppendsEncoding (leaf (integer every) tag constraints.now) (tree_of value.now) encoder.old encoder.new) }
     ensures err { OnErr result (encoder.new ≡ encoder.old) }
     ensures refused { IfErr result (EncodeFails (leaf (integer every) tag constraints.now) (tree_of value.now) encoder.old) }
 {
-    let Value::Number(held) = value else {
+    let Value::Integer(held) = value else {
         return Err(misfit(encoder));
     };
     held.encode_with_tag_and_constraints(encoder, tag, constraints, Identifier::EMPTY)
@@ -99,7 +81,7 @@ fn write_arcs(
     encoder: &mut Encoder,
     tag: Tag,
     constraints: &Constraints,
-    value: &Value,
+    value: &Value<'_>,
 ) -> Result<(), EncodeError>
     ensures ok { OnOk result (AppendsEncoding (leaf object_identifier tag constraints.now) (tree_of value.now) encoder.old encoder.new) }
     ensures err { OnErr result (encoder.new ≡ encoder.old) }
@@ -115,7 +97,7 @@ fn write_bits(
     encoder: &mut Encoder,
     tag: Tag,
     constraints: &Constraints,
-    value: &Value,
+    value: &Value<'_>,
 ) -> Result<(), EncodeError>
     ensures ok { OnOk result (AppendsEncoding (leaf bit_string tag constraints.now) (tree_of value.now) encoder.old encoder.new) }
     ensures err { OnErr result (encoder.new ≡ encoder.old) }
@@ -131,7 +113,7 @@ fn write_octets(
     encoder: &mut Encoder,
     tag: Tag,
     constraints: &Constraints,
-    value: &Value,
+    value: &Value<'_>,
 ) -> Result<(), EncodeError>
     ensures ok { OnOk result (AppendsEncoding (leaf octet_string tag constraints.now) (tree_of value.now) encoder.old encoder.new) }
     ensures err { OnErr result (encoder.new ≡ encoder.old) }
@@ -140,14 +122,14 @@ fn write_octets(
     let Value::Octets(held) = value else {
         return Err(misfit(encoder));
     };
-    held.encode_with_tag_and_constraints(encoder, tag, constraints, Identifier::EMPTY)
+    encoder.encode_octet_string(tag, constraints, held.as_slice(), Identifier::EMPTY)
 }
 
 fn write_text(
     encoder: &mut Encoder,
     tag: Tag,
     constraints: &Constraints,
-    value: &Value,
+    value: &Value<'_>,
 ) -> Result<(), EncodeError>
     ensures ok { OnOk result (AppendsEncoding (leaf utf8 tag constraints.now) (tree_of value.now) encoder.old encoder.new) }
     ensures err { OnErr result (encoder.new ≡ encoder.old) }
@@ -156,14 +138,14 @@ fn write_text(
     let Value::Text(held) = value else {
         return Err(misfit(encoder));
     };
-    held.encode_with_tag_and_constraints(encoder, tag, constraints, Identifier::EMPTY)
+    encoder.encode_utf8_string(tag, constraints, held.as_str(), Identifier::EMPTY)
 }
 
 fn write_units(
     encoder: &mut Encoder,
     tag: Tag,
     constraints: &Constraints,
-    value: &Value,
+    value: &Value<'_>,
 ) -> Result<(), EncodeError>
     ensures ok { OnOk result (AppendsEncoding (leaf bmp tag constraints.now) (tree_of value.now) encoder.old encoder.new) }
     ensures err { OnErr result (encoder.new ≡ encoder.old) }
@@ -179,7 +161,7 @@ fn write_generalized_time(
     encoder: &mut Encoder,
     tag: Tag,
     constraints: &Constraints,
-    value: &Value,
+    value: &Value<'_>,
 ) -> Result<(), EncodeError>
     ensures ok { OnOk result (AppendsEncoding (leaf generalized_time tag constraints.now) (tree_of value.now) encoder.old encoder.new) }
     ensures err { OnErr result (encoder.new ≡ encoder.old) }
@@ -195,7 +177,7 @@ fn write_date(
     encoder: &mut Encoder,
     tag: Tag,
     constraints: &Constraints,
-    value: &Value,
+    value: &Value<'_>,
 ) -> Result<(), EncodeError>
     ensures ok { OnOk result (AppendsEncoding (leaf date tag constraints.now) (tree_of value.now) encoder.old encoder.new) }
     ensures err { OnErr result (encoder.new ≡ encoder.old) }
@@ -212,7 +194,7 @@ fn write_utc_time(
     encoder: &mut Encoder,
     tag: Tag,
     constraints: &Constraints,
-    value: &Value,
+    value: &Value<'_>,
 ) -> Result<(), EncodeError>
     ensures ok { OnOk result (AppendsEncoding (leaf utc_time tag constraints.now) (tree_of value.now) encoder.old encoder.new) }
     ensures err { OnErr result (encoder.new ≡ encoder.old) }
@@ -225,12 +207,48 @@ fn write_utc_time(
     time.encode_with_tag_and_constraints(encoder, tag, constraints, Identifier::EMPTY)
 }
 
+/// Writes an OCTET STRING of so many octets.
+fn write_fixed(
+    encoder: &mut Encoder,
+    len: usize,
+    tag: Tag,
+    constraints: &Constraints,
+    value: &Value<'_>,
+) -> Result<(), EncodeError>
+    ensures ok { OnOk result (AppendsEncoding (leaf (fixed len) tag constraints.now) (tree_of value.now) encoder.old encoder.new) }
+    ensures err { OnErr result (encoder.new ≡ encoder.old) }
+    ensures refused { IfErr result (EncodeFails (leaf (fixed len) tag constraints.now) (tree_of value.now) encoder.old) }
+{
+    let Value::Octets(held) = value else {
+        return Err(misfit(encoder));
+    };
+    encoder.encode_octet_string(tag, constraints, held.as_slice(), Identifier::EMPTY)
+}
+
+/// Writes an INTEGER that so many bits hold.
+fn write_width(
+    encoder: &mut Encoder,
+    kind: LeafKind,
+    tag: Tag,
+    constraints: &Constraints,
+    value: &Value<'_>,
+) -> Result<(), EncodeError>
+    ensures ok { OnOk result (AppendsEncoding (leaf (kind_of kind) tag constraints.now) (tree_of value.now) encoder.old encoder.new) }
+    ensures err { OnErr result (encoder.new ≡ encoder.old) }
+    ensures refused { IfErr result (EncodeFails (leaf (kind_of kind) tag constraints.now) (tree_of value.now) encoder.old) }
+{
+    let Value::Integer(held) = value else {
+        return Err(misfit(encoder));
+    };
+    held.encode_with_tag_and_constraints(encoder, tag, constraints, Identifier::EMPTY)
+}
+
 /// Writes a string whose characters are octets of an alphabet.
 fn write_restricted<S: StringType>(
     encoder: &mut Encoder,
     tag: Tag,
     constraints: &Constraints,
-    value: &Value,
+    value: &Value<'_>,
 ) -> Result<(), EncodeError>
     ensures ok { OnOk result (AppendsEncoding (leaf (string_kind S.ALPHABET) tag constraints.now) (tree_of value.now) encoder.old encoder.new) }
     ensures err { OnErr result (encoder.new ≡ encoder.old) }
@@ -240,7 +258,7 @@ fn write_restricted<S: StringType>(
         return Err(misfit(encoder));
     };
     let alloc = encoder.alloc();
-    match RestrictedString::<S>::from_octets(alloc, held.as_octets()) {
+    match RestrictedString::<S>::from_octets(alloc, held.as_slice()) {
         Ok(Some(text)) => text.encode_with_tag_and_constraints(
             encoder,
             tag,
@@ -257,7 +275,7 @@ pub fn encode_leaf(
     kind: LeafKind,
     tag: Tag,
     constraints: &Constraints,
-    value: &Value,
+    value: &Value<'_>,
 ) -> Result<(), EncodeError>
     ensures ok { OnOk result (AppendsEncoding (leaf (kind_of kind) tag constraints.now) (tree_of value.now) encoder.old encoder.new) }
     ensures err { OnErr result (encoder.new ≡ encoder.old) }
@@ -269,7 +287,12 @@ pub fn encode_leaf(
         LeafKind::ObjectIdentifier => write_arcs(encoder, tag, constraints, value),
         LeafKind::BitString => write_bits(encoder, tag, constraints, value),
         LeafKind::OctetString => write_octets(encoder, tag, constraints, value),
+        LeafKind::FixedOctetString(len) => write_fixed(encoder, len, tag, constraints, value),
         LeafKind::Integer => write_integer(encoder, tag, constraints, value),
+        LeafKind::Signed32 => write_width(encoder, kind, tag, constraints, value),
+        LeafKind::Signed64 => write_width(encoder, kind, tag, constraints, value),
+        LeafKind::Unsigned32 => write_width(encoder, kind, tag, constraints, value),
+        LeafKind::Unsigned64 => write_width(encoder, kind, tag, constraints, value),
         LeafKind::Numeric => write_restricted::<NumericType>(encoder, tag, constraints, value),
         LeafKind::Printable => write_restricted::<PrintableType>(encoder, tag, constraints, value),
         LeafKind::Visible => write_restricted::<VisibleType>(encoder, tag, constraints, value),
@@ -283,8 +306,29 @@ pub fn encode_leaf(
     }
 }
 
+/// Writes a number of an ENUMERATED.
+pub fn encode_number(
+    encoder: &mut Encoder,
+    tag: Tag,
+    numbers: &[NamedNumber],
+    value: &Value<'_>,
+) -> Result<(), EncodeError>
+    ensures ok { OnOk result (AppendsEncoding (leaf (enumerated (numbers_of numbers.now)) tag unconstrained) (tree_of value.now) encoder.old encoder.new) }
+    ensures err { OnErr result (encoder.new ≡ encoder.old) }
+    ensures refused { IfErr result (EncodeFails (leaf (enumerated (numbers_of numbers.now)) tag unconstrained) (tree_of value.now) encoder.old) }
+{
+    let Value::Integer(held) = value else {
+        return Err(misfit(encoder));
+    };
+    held.encode_with_tag_and_constraints(encoder, tag, &Constraints::NONE, Identifier::EMPTY)
+}
+
 /// Writes a value of an open type.
-pub fn encode_any_value(encoder: &mut Encoder, tag: Tag, value: &Value) -> Result<(), EncodeError>
+pub fn encode_any_value(
+    encoder: &mut Encoder,
+    tag: Tag,
+    value: &Value<'_>,
+) -> Result<(), EncodeError>
     ensures ok { OnOk result (AppendsEncoding (any (looked_for tag)) (tree_of value.now) encoder.old encoder.new) }
     ensures err { OnErr result (encoder.new ≡ encoder.old) }
     ensures refused { IfErr result (EncodeFails (any (looked_for tag)) (tree_of value.now) encoder.old) }
@@ -293,7 +337,7 @@ pub fn encode_any_value(encoder: &mut Encoder, tag: Tag, value: &Value) -> Resul
         return Err(misfit(encoder));
     };
     let mut octets = Vec::new(encoder.alloc());
-    if octets.extend_from_slice(held.as_octets()).is_err() {
+    if octets.extend_from_slice(held.as_slice()).is_err() {
         return Err(misfit(encoder));
     }
     let value = Any::new(octets);

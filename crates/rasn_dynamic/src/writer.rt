@@ -12,9 +12,9 @@ ghost use Rattle.rasn_schema.specs.Shapes.{shape_of_type, type_by, alternatives_
 ghost use Rattle.rasn_dynamic.specs.Written.{EncodesInside, IsEnclosed, keeps_tags};
 
 use crate::fit::{elements_of, is_left_out, items_of};
-use crate::write_leaf::{encode_any_value, encode_leaf, misfit};
+use crate::write_leaf::{encode_any_value, encode_leaf, encode_number, misfit};
 use rasn_enc::ber::enc::Encoder;
-use rasn_schema::{Component, Type, TypeId, Value, type_at};
+use rasn_schema::{Alternative, Component, Type, TypeId, Value, type_at};
 use rasn_types::error::{BerEncodeErrorKind, CodecEncodeError, EncodeError, EncodeErrorKind};
 use rasn_types::types::Tag;
 
@@ -37,11 +37,11 @@ pub fn encode_at(
     types: &[Type],
     levels: usize,
     id: TypeId,
-    value: &Value,
+    value: &Value<'_>,
 ) -> Result<(), EncodeError>
-    ensures ok { OnOk result (AppendsEncoding (shape_of_type types.now levels id) (tree_of value.now) encoder.old encoder.new) }
+    ensures ok { OnOk result (AppendsEncoding (shape_of_type types.now levels id.0) (tree_of value.now) encoder.old encoder.new) }
     ensures err { OnErr result (encoder.new ≡ encoder.old) }
-    ensures refused { IfErr result (EncodeFails (shape_of_type types.now levels id) (tree_of value.now) encoder.old) }
+    ensures refused { IfErr result (EncodeFails (shape_of_type types.now levels id.0) (tree_of value.now) encoder.old) }
 {
     if levels == 0 {
         return Err(misfit(encoder));
@@ -59,7 +59,7 @@ fn encode_type(
     types: &[Type],
     below: usize,
     ty: &Type,
-    value: &Value,
+    value: &Value<'_>,
 ) -> Result<(), EncodeError>
     ensures ok { OnOk result (AppendsEncoding (type_by (shape_of_type types.now below) ty.now) (tree_of value.now) encoder.old encoder.new) }
     ensures err { OnErr result (encoder.new ≡ encoder.old) }
@@ -70,9 +70,17 @@ fn encode_type(
             kind,
             tag,
             constraints,
+            ..
         } => encode_leaf(encoder, *kind, *tag, constraints, value),
+        Type::Enumerated { tag, numbers } => encode_number(encoder, *tag, numbers, value),
         Type::Any { tag } => encode_any_value(encoder, *tag, value),
-        Type::Choice { alternatives } => encode_choice(encoder, types, below, alternatives, value),
+        Type::Choice { alternatives, .. } => encode_choice(
+            encoder,
+            types,
+            below,
+            alternatives,
+            value,
+        ),
         Type::Tagged { tag, .. } => { encode_inside(encoder, types, below, ty, *tag, false, value) }
         Type::Sequence { tag, .. } => {
             encode_inside(encoder, types, below, ty, *tag, false, value)
@@ -91,8 +99,8 @@ fn encode_choice(
     encoder: &mut Encoder,
     types: &[Type],
     below: usize,
-    alternatives: &[TypeId],
-    value: &Value,
+    alternatives: &[Alternative],
+    value: &Value<'_>,
 ) -> Result<(), EncodeError>
     ensures ok { OnOk result (AppendsEncoding (choice (alternatives_by (shape_of_type types.now below) alternatives.now)) (tree_of value.now) encoder.old encoder.new) }
     ensures err { OnErr result (encoder.new ≡ encoder.old) }
@@ -104,7 +112,7 @@ fn encode_choice(
     if *number >= alternatives.len() {
         return Err(misfit(encoder));
     }
-    encode_at(encoder, types, below, alternatives[*number], inner)
+    encode_at(encoder, types, below, alternatives[*number].type_id, inner)
 }
 
 /// Writes a value that holds other values, and its header.
@@ -116,7 +124,7 @@ fn encode_inside(
     ty: &Type,
     tag: Tag,
     keeps: bool,
-    value: &Value,
+    value: &Value<'_>,
 ) -> Result<(), EncodeError>
     requires { IsEnclosed (type_by (shape_of_type types.now below) ty.now) tag keeps }
     ensures ok { OnOk result (AppendsEncoding (type_by (shape_of_type types.now below) ty.now) (tree_of value.now) encoder.old encoder.new) }
@@ -135,7 +143,7 @@ fn encode_contents(
     types: &[Type],
     below: usize,
     ty: &Type,
-    value: &Value,
+    value: &Value<'_>,
 ) -> Result<(), EncodeError>
     requires { encoder.old.last ≡ fresh (keeps_tags (type_by (shape_of_type types.now below) ty.now)) }
     ensures { EncodesInside (type_by (shape_of_type types.now below) ty.now) (tree_of value.now) encoder.old result encoder.new }
@@ -189,7 +197,7 @@ fn encode_components(
     types: &[Type],
     below: usize,
     components: &[Component],
-    values: &[Value],
+    values: &[Value<'_>],
 ) -> Result<(), EncodeError>
     ensures { EncodesParts (components_by (shape_of_type types.now below) components.now) (list_tree tree_of values.now) encoder.old result encoder.new }
 {
@@ -217,11 +225,11 @@ fn encode_component(
     types: &[Type],
     below: usize,
     component: &Component,
-    value: &Value,
+    value: &Value<'_>,
 ) -> Result<(), EncodeError>
-    ensures ok { OnOk result (AppendsPart (presence_of component.now.presence) (shape_of_type types.now below component.now.type_id) (tree_of value.now) encoder.old encoder.new) }
+    ensures ok { OnOk result (AppendsPart (presence_of component.now.presence) (shape_of_type types.now below component.now.type_id.0) (tree_of value.now) encoder.old encoder.new) }
     ensures err { OnErr result (encoder.new ≡ encoder.old) }
-    ensures refused { IfErr result (EncodePartFails (presence_of component.now.presence) (shape_of_type types.now below component.now.type_id) (tree_of value.now) encoder.old) }
+    ensures refused { IfErr result (EncodePartFails (presence_of component.now.presence) (shape_of_type types.now below component.now.type_id.0) (tree_of value.now) encoder.old) }
 {
     if is_left_out(component, value) {
         return Ok(());
@@ -236,12 +244,12 @@ fn encode_elements(
     types: &[Type],
     below: usize,
     element: TypeId,
-    values: &[Value],
+    values: &[Value<'_>],
 ) -> Result<(), EncodeError>
     requires { encoder.old.last.tags ≡ None }
     ensures keeps { LeavesOthers encoder.old encoder.new }
-    ensures ok { OnOk result (AppendsElements (shape_of_type types.now below element) (map tree_of values.now) encoder.old encoder.new) }
-    ensures refused { IfErr result (FailsAtElement (shape_of_type types.now below element) (map tree_of values.now) encoder.old.rule) }
+    ensures ok { OnOk result (AppendsElements (shape_of_type types.now below element.0) (map tree_of values.now) encoder.old encoder.new) }
+    ensures refused { IfErr result (FailsAtElement (shape_of_type types.now below element.0) (map tree_of values.now) encoder.old.rule) }
 {
     let mut rest = values;
     while let [value, after @ ..] = rest {
@@ -258,12 +266,12 @@ fn encode_elements_in_order(
     types: &[Type],
     below: usize,
     element: TypeId,
-    values: &[Value],
+    values: &[Value<'_>],
 ) -> Result<(), EncodeError>
     requires { encoder.old.last.tags ≡ None }
     ensures keeps { LeavesOthers encoder.old encoder.new }
-    ensures ok { OnOk result (AppendsSetOf (shape_of_type types.now below element) (map tree_of values.now) encoder.old encoder.new) }
-    ensures refused { IfErr result (FailsAtElements (shape_of_type types.now below element) (map tree_of values.now) encoder.old.rule) }
+    ensures ok { OnOk result (AppendsSetOf (shape_of_type types.now below element.0) (map tree_of values.now) encoder.old encoder.new) }
+    ensures refused { IfErr result (FailsAtElements (shape_of_type types.now below element.0) (map tree_of values.now) encoder.old.rule) }
 {
     let mut previous = encoder.last_len();
     let mut rest = values;

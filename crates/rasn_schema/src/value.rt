@@ -1,5 +1,8 @@
 //! Values of any type.
-use rasn_types::types::{BitString, BmpString, Date, GeneralizedTime, Integer, ObjectIdentifier};
+use rasn_types::types::{
+    BitString, BmpString, Date, GeneralizedTime, Integer, ObjectIdentifier, TryClone,
+};
+use std::alloc::{AllocError, Global};
 use std::borrow::{CowSlice, CowStr};
 
 /// A value of any type. Strings and open types borrow from the input where their encoding is
@@ -35,4 +38,37 @@ pub enum Value<'input> {
     Chosen(usize, Box<Value<'input>>),
     /// A component that is absent.
     Absent,
+}
+
+impl Value<'_> {
+    /// Returns a copy that borrows nothing.
+    pub fn copied<'any>(&self, alloc: Global) -> Result<Value<'any>, AllocError>
+        ensures { IfOk result (λ v. tree_of v ≡ tree_of self.now) }
+    {
+        match self {
+            Value::Boolean(flag) => Ok(Value::Boolean(*flag)),
+            Value::Null => Ok(Value::Null),
+            Value::Integer(number) => Ok(Value::Integer(number.try_clone(alloc)?)),
+            Value::Bits(bits) => Ok(Value::Bits(bits.try_clone(alloc)?)),
+            Value::Octets(octets) => {
+                let octets = Vec::from_slice(alloc, octets.as_slice())?;
+                Ok(Value::Octets(CowSlice::Owned(octets)))
+            }
+            _ => Err(AllocError),
+        }
+    }
+
+    /// Returns whether the two mean the same.
+    pub fn means_same(&self, other: &Value<'_>) -> bool
+        ensures { DecidesSame result (tree_of self.now) (tree_of other.now) }
+    {
+        match self {
+            Value::Boolean(flag) => matches!(other, Value::Boolean(b) if b == flag),
+            Value::Integer(number) => match other {
+                Value::Integer(other) => number == other,
+                _ => false,
+            },
+            _ => false,
+        }
+    }
 }

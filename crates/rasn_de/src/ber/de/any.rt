@@ -35,6 +35,24 @@ impl<'input> Decoder<'input> {
         }
     }
 
+    /// Reads a value of an open type as `decode_any` does, and borrows its octets from the input.
+    ///
+    /// # Errors
+    /// As `decode_any`, except that no memory is asked for.
+    #[inline(always)]
+    pub fn decode_open(&mut self, tag: Tag) -> Result<&'input [u8], DecodeError>
+        ensures reads { Decodes (any (looked_for tag)) (λ o. numbers o.now) self.old result self.new }
+        ensures memory { IfErr result (λ e. IsOutOfMemory e.kind → ⊥) }
+    {
+        match read_open(self.rules, tag, self.rest) {
+            Ok((octets, rest)) => {
+                self.advance(rest);
+                Ok(octets)
+            }
+            Err(fault) => Err(self.error(fault)),
+        }
+    }
+
     /// Passes one complete encoding at any depth (X.690 8.1.1.1), in constant memory. Answers how many steps this took, which are at
     /// most half as many as the octets: one for each end-of-contents octets that it passed, and one for each value inside with a definite
     /// length or header of indefinite length; none for a value of definite length.

@@ -1,10 +1,12 @@
 //! Character strings (X.690 8.23).
-ghost use Rattle.std.specs.Prelude.{chars};
+ghost use Rattle.std.specs.Prelude.{chars, IfOk};
+ghost use Rattle.std.specs.Cow.{cow_slice_items, cow_str_bytes};
 ghost use Rattle.std.specs.String.{string_bytes};
 ghost use Rattle.rasn_types.specs.declared.types.strings.alphabet.Alphabet.TheVariants.{Numeric, Printable, Visible, Ia5, Every};
-ghost use Rattle.rasn_types.specs.CharacterString.{string_kind, units_of};
+ghost use Rattle.rasn_types.specs.CharacterString.{string_kind, units_of, AreAdmitted};
 ghost use Rattle.rasn_types.specs.Shapes.{leaf, numbers, numeric, printable, visible, ia5, any_octets, bmp, utf8};
 ghost use Rattle.rasn_de.specs.Decodes.{Decodes};
+ghost use Rattle.rasn_de.specs.OctetString.{cow_tree};
 ghost use Rattle.rasn_de.specs.CharacterString.{ByAlphabet, ByUnits, ByUtf8, DecodesString, ChecksString, ParsesUtf8};
 
 use crate::ber::de::octet_string::owned;
@@ -228,17 +230,58 @@ impl<'input> Decoder<'input> {
         ensures reads { Decodes (leaf utf8 tag constraints.now) (λ s. numbers (chars (string_bytes s))) self.old result self.new }
         ensures exact { DecodesString (λ s. chars (string_bytes s)) (ByUtf8 constraints.now.size) tag self.old result self.new }
     {
+        let text = self.decode_utf8_text(tag, constraints)?;
+        match text.into_owned(self.alloc()) {
+            Ok(text) => Ok(text),
+            Err(_) => Err(self.error(ParseError::OutOfMemory)),
+        }
+    }
+
+    /// Reads a UTF8String as `decode_utf8_string` does, and borrows the characters of a primitive one from the input.
+    ///
+    /// # Errors
+    /// As `decode_utf8_string`.
+    #[inline(always)]
+    pub fn decode_utf8_text(
+        &mut self,
+        tag: Tag,
+        constraints: &Constraints,
+    ) -> Result<CowStr<'input>, DecodeError>
+        ensures reads { Decodes (leaf utf8 tag constraints.now) (λ s. numbers (chars (cow_str_bytes s))) self.old result self.new }
+        ensures exact { DecodesString (λ s. chars (cow_str_bytes s)) (ByUtf8 constraints.now.size) tag self.old result self.new }
+    {
         let octets = self.octets(tag)?;
         let text = match text_of(octets) {
             Ok(text) => text,
             Err(fault) => return Err(self.error(fault)),
         };
-        if let Err(fault) = check_characters(constraints, text.as_str()) {
-            return Err(self.error(fault));
+        match check_characters(constraints, text.as_str()) {
+            Ok(()) => Ok(text),
+            Err(fault) => Err(self.error(fault)),
         }
-        match text.into_owned(self.alloc()) {
-            Ok(text) => Ok(text),
-            Err(_) => Err(self.error(ParseError::OutOfMemory)),
+    }
+
+    /// Reads a string whose octets are characters of one alphabet, within a size in octets (X.680 41). The octets of a primitive one are
+    /// borrowed from the input.
+    ///
+    /// # Errors
+    /// Framing faults and faults of a segment, which consume nothing. With the value consumed: `SizeConstraintNotSatisfied`, then
+    /// `PermittedAlphabetError`.
+    #[inline(always)]
+    pub fn decode_restricted_string(
+        &mut self,
+        alphabet: Alphabet,
+        tag: Tag,
+        constraints: &Constraints,
+    ) -> Result<CowSlice<'input, u8>, DecodeError>
+        ensures reads { Decodes (leaf (string_kind alphabet) tag constraints.now) cow_tree self.old result self.new }
+        ensures exact { DecodesString (λ s. cow_slice_items s) (ByAlphabet alphabet constraints.now.size) tag self.old result self.new }
+        ensures admitted { IfOk result (λ s. AreAdmitted alphabet (cow_slice_items s)) }
+    {
+        let octets = self.octets(tag)?;
+        match check_alphabet(alphabet, constraints, octets.as_slice()) {
+            Ok(()) => Ok(octets),
+            Err(fault) => Err(self.error(fault)),
         }
     }
 
@@ -252,10 +295,7 @@ impl<'input> Decoder<'input> {
         ensures reads { Decodes (leaf (string_kind S.ALPHABET) tag constraints.now) numbers self.old result self.new }
         ensures exact { DecodesString (λ s. s) (ByAlphabet S.ALPHABET constraints.now.size) tag self.old result self.new }
     {
-        let octets = self.octets(tag)?;
-        if let Err(fault) = check_alphabet(S::ALPHABET, constraints, octets.as_slice()) {
-            return Err(self.error(fault));
-        }
+        let octets = self.decode_restricted_string(S::ALPHABET, tag, constraints)?;
         match owned(self.alloc(), octets) {
             Ok(octets) => Ok(RestrictedString::from_admitted(octets)),
             Err(_) => Err(self.error(ParseError::OutOfMemory)),
