@@ -7,3 +7,4 @@ pub mod LawfulTypes
 pub mod Schemas
 pub mod Broken
 pub mod Follow
+pub mod Depth

@@ -4,3 +4,4 @@ pub mod FirstTags
 pub mod Schemas
 pub mod Faults
 pub mod SchemaProps
+pub mod Depth

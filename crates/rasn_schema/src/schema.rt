@@ -16,7 +16,9 @@ pub struct Schema {
 impl Schema {
     ghost use Rattle.std.specs.Prelude.{◌≡◌, IfOk, IfErr, ℕ};
     ghost use Rattle.rasn_types.specs.Lawful.{IsLawful};
+    ghost use Rattle.rasn_types.specs.declared.types.codec.Codec.{Codec};
     ghost use Rattle.rasn_schema.specs.Shapes.{shape_of_type};
+    ghost use Rattle.rasn_schema.specs.Depth.{AreDeep, AreReadAlike};
     ghost use Rattle.rasn_schema.specs.Faults.{IsFault};
 
     /// Checks each type once and returns the schema of the types.
@@ -38,10 +40,12 @@ impl Schema {
         Ok(Schema { types })
     }
 
-    /// Returns the types. Each is lawful, however deep it is read.
+    /// Returns the types. Each is lawful, however deep it is read. How deep types are followed makes
+    /// no difference to what is read, from the depth on to which values are read.
     pub fn types(&self) -> &[Type]
         ensures types { result.now ≡ self.now.types.items }
         ensures lawful { (levels id : ℕ) → IsLawful (shape_of_type result.now levels id) }
+        ensures deep { (rule : Codec) (i j depth id : ℕ) → AreDeep result.now depth i → AreDeep result.now depth j → AreReadAlike rule depth (shape_of_type result.now i id) (shape_of_type result.now j id) }
     {
         self.types.as_slice()
     }
