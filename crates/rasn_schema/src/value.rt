@@ -1,5 +1,12 @@
 //! Values of any type.
+ghost use Rattle.std.specs.Prelude.{◌≡◌, IfOk};
+ghost use Rattle.rasn_types.specs.Equality.{DecidesSame};
+ghost use Rattle.rasn_schema.specs.Trees.{tree_of};
+
+use crate::copy::copy_of;
+use crate::equal::is_same;
 use rasn_types::types::{BitString, BmpString, Date, GeneralizedTime, Integer, ObjectIdentifier};
+use std::alloc::{AllocError, Global};
 use std::borrow::{CowSlice, CowStr};
 
 /// A value of any type. Strings and open types borrow from the input where their encoding is
@@ -35,4 +42,45 @@ pub enum Value<'input> {
     Chosen(usize, Box<Value<'input>>),
     /// A component that is absent.
     Absent,
+}
+
+impl Value<'_> {
+    /// Returns a copy of the value, with memory of its own.
+    ///
+    /// # Errors
+    /// Returns an error if there is no memory.
+    pub fn try_clone<'any>(&self, alloc: Global) -> Result<Value<'any>, AllocError>
+        ensures { IfOk result (λ v. tree_of v ≡ tree_of self.now) }
+    {
+        copy_of(self, alloc)
+    }
+
+    /// Returns whether two values mean the same. The elements of a SET OF may be in any order.
+    /// Values of different types are the same if they mean the same number or the same numbers, as
+    /// the octets of a string and its characters.
+    pub fn means_same(&self, other: &Value<'_>) -> bool
+        ensures { DecidesSame result (tree_of self.now) (tree_of other.now) }
+    {
+        is_same(self, other)
+    }
+}
+
+impl PartialEq for Value<'_> {
+    ghost use Rattle.std.specs.Cmp.{partial_equiv_from_equiv};
+    ghost use Rattle.rasn_schema.specs.Equal.{value_eq};
+    ghost use Rattle.rasn_schema.specs.Equals.{values_equiv};
+
+    ghost eq = { value_eq };
+
+    ghost laws = { partial_equiv_from_equiv values_equiv };
+
+    fn eq(&self, other: &Self) -> bool {
+        is_same(self, other)
+    }
+}
+
+impl Eq for Value<'_> {
+    ghost use Rattle.rasn_schema.specs.Equals.{values_equiv};
+
+    ghost laws = { values_equiv };
 }
