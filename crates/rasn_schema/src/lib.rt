@@ -27,4 +27,4 @@ pub use schema::Schema;
 pub use type_id::TypeId;
 pub use types::{Alternative, Component, LeafKind, NamedNumber, Presence, Type, tag_at, type_at};
 pub use value::Value;
-pub use view::{View, untagged};
+pub use view::View;

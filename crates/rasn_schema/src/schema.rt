@@ -3,8 +3,8 @@ ghost use Rattle.rasn_schema.specs.Schemas.{IsSchema};
 ghost use Rattle.rasn_schema.specs.SchemaProps.{schema_prop};
 
 use crate::error::SchemaError;
-use crate::rules::{first_choice_fault, first_other_fault};
 use crate::named::{TypeName, type_named};
+use crate::rules::{first_choice_fault, first_other_fault};
 use crate::type_id::TypeId;
 use crate::types::Type;
 use crate::value::Value;
