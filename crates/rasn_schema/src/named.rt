@@ -1,4 +1,5 @@
-//! Names of types, components, alternatives and numbers. Nothing that is read or written depends on them.
+//! Names of types, components, alternatives and numbers. Nothing that is read or written depends
+//! on them.
 ghost use Rattle.std.specs.Prelude.{◌≡◌, ◌≢◌, ℕ, Some, slice_get, MatchOption};
 ghost use Rattle.std.specs.String.{string_bytes};
 ghost use Rattle.rasn_types.specs.Truth.{IsWhether};

@@ -62,7 +62,8 @@ fn part_at<'view, 'input>(value: &'view Value<'input>, index: usize) -> Option<&
     }
 }
 
-/// Returns the alternative of a CHOICE with this name, and its value, if it is the one that is chosen.
+/// Returns the alternative of a CHOICE with this name, and its value, if it is the one that is
+/// chosen.
 fn chosen_named<'view, 'input>(
     alternatives: &'view [Alternative],
     value: &'view Value<'input>,
@@ -107,7 +108,8 @@ impl<'view, 'input> View<'view, 'input> {
         })
     }
 
-    /// Returns the component with this name, or the value of the alternative with this name, if it is the one that is chosen.
+    /// Returns the component with this name, or the value of the alternative with this name, if it
+    /// is the one that is chosen.
     pub fn get(&self, name: &str) -> Option<View<'view, 'input>>
         ensures { IfSome result (λ part. (k : ℕ) × (Some part.value.now ≡ slice_get (held_in self.now.value.now) k)) }
     {
