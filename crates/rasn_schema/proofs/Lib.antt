@@ -7,4 +7,7 @@ pub mod LawfulTypes
 pub mod Schemas
 pub mod Broken
 pub mod Follow
+pub mod OtherKinds
+pub mod EqualLists
+pub mod NamedTypes
 pub mod Depth

@@ -4,4 +4,10 @@ pub mod FirstTags
 pub mod Schemas
 pub mod Faults
 pub mod SchemaProps
+pub mod Kinds
+pub mod Numbers
+pub mod Equal
+pub mod Equals
+pub mod Held
+pub mod Named
 pub mod Depth
