@@ -232,6 +232,13 @@ pub inside_set_got : (tag : Tag) (ps : Parts) (names : List (List ℕ)) (old new
 unfolding ReadsInside
 inside_set_got tag ps names old new vs k = subst (λ z. DecodesExactly (SetReads ps) old (Got z new.rest) new) (sym (tree_items vs)) (set_reads ps names old new (Ok vs) k)
 
+-- Memory runs out before anything is read.
+pub inside_runs_out : (s : Shape) (old : State) (e : DecodeError) → IsOutOfMemory e.kind → DecodesBy (ReadsInside s) tree_of old (Err e) old
+inside_runs_out s old e m = alloc_failed (ReadsInside s) tree_of old old e m refl (IsEnd-refl old.rest)
+
+pub sequence_runs_out : (ps : Parts) (old : State) (e : DecodeError) → IsOutOfMemory e.kind → DecodesBy (ReadsSequence ps) values_tree old (Err e) old
+sequence_runs_out ps old e m = alloc_failed (ReadsSequence ps) values_tree old old e m refl (IsEnd-refl old.rest)
+
 -- A type that holds no others has no such contents.
 module _ (f : ℕ → Shape) where
   none_inside : (ty : «Type») → ((tag : Tag) (k : TypeId) → ty ≡ Tagged tag k → ⊥) → ((tag : Tag) (ps : Vec Component Global) → ty ≡ Sequence tag ps → ⊥) → ((tag : Tag) (ps : Vec Component Global) → ty ≡ Set tag ps → ⊥)

@@ -24,7 +24,7 @@ use Rattle.rasn_schema.specs.Shapes.{presence_of}
 use Rattle.rasn_dynamic.specs.Written.{IsLeftOutAs}
 use Rattle.rasn_dynamic.specs.Fitting.{Fits, FitsBy, FitsFound, NumberFits, OctetsFit, FitsLeaf, AreItems, AreElements, ComponentFits, ComponentsFit, EachFits}
 use Rattle.rasn_dynamic.specs.Found.{OneFound, FoundFit}
-use Rattle.rasn_dynamic.specs.Calls.{nones, IsPut, IsValueOf, AreSettled, IsNumberIn, IsStringOf, IsSized, IsSizedSet}
+use Rattle.rasn_dynamic.specs.Calls.{nones, IsPut, IsValueOf, AreSettled, Gathers, IsNumberIn, IsStringOf, IsSized, IsSizedSet}
 
 pub fits_below : (types : List «Type») (levels below k : ℕ) (ty : «Type») (v : Value) → levels ≡ suc below → Some ty ≡ slice_get types k → FitsBy (λ j w. Fits types below j w) ty v → Fits types levels k v
 unfolding Fits
@@ -159,11 +159,15 @@ module _ (g : ℕ → Value → Type 0) where
   one_fits p None v f m = missing_fits p v m
   one_fits p (Some w) v f m = inr (subst (g p.type_id.0) (sym m) f)
 
-  pub settled_fit : (ps : List Component) (found : List (Option Value)) (vs : List Value) → FoundFit g ps found → AreSettled ps found vs → ComponentsFit g ps vs
+  settled_fit : (ps : List Component) (found : List (Option Value)) (vs : List Value) → FoundFit g ps found → AreSettled ps found vs → ComponentsFit g ps vs
   settled_fit [] [] vs f e = subst (ComponentsFit g []) (sym e) tt
   settled_fit [] (x ∷ found) vs f h = absurd f
   settled_fit (p ∷ ps) [] vs f h = absurd f
   settled_fit (p ∷ ps) (x ∷ found) vs f (v, us, e, m, h) = subst (ComponentsFit g (p ∷ ps)) (sym e) (one_fits p x v f.0 m, settled_fit ps found us f.1 h)
+
+  pub gathered_fit : (ps : List Component) (rule : Codec) (found : List (Option Value)) (r : Result (Vec Value Global) DecodeError) → FoundFit g ps found → Gathers ps rule found r → IfOk r (λ v. ComponentsFit g ps v.items)
+  gathered_fit ps rule found (Ok vs) f h = settled_fit ps found vs.items f h
+  gathered_fit ps rule found (Err e) f h = tt
 
   none_fit : (ps : List Component) → FoundFit g ps (nones ps)
   none_fit [] = tt

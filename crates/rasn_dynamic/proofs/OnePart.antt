@@ -1,6 +1,6 @@
 -- A component of a SEQUENCE is read, or is absent.
 use Rattle.std.proofs.Common.{◌≡◌, inl, inr, true, false, Option, Some, None, Result, Ok, Err, refl, sym, subst}
-use Rattle.std.specs.Prelude.{IfOk}
+use Rattle.std.specs.Prelude.{IfOk, IfErr}
 use Rattle.std.specs.declared.alloc.AllocError.{AllocError}
 use Rattle.rasn_types.specs.declared.types.tag.Tag.{Tag}
 use Rattle.rasn_types.specs.declared.error.decode.DecodeError.{DecodeError}
@@ -71,14 +71,19 @@ module _ (s : Shape) (tag : Tag) (e : own s ≡ looked_for tag) (old : State) wh
   looked (default d) a l (Err x) new (inr (v, k, st, n, w)) = defaulted d (Err x) new (present l (tree_of v) k st d refl n w)
 
   -- It is absent.
-  pub left : (p : Presence) → (IsAlwaysThere p → ⊥) → NextTagIs tag old (Ok false) → (v : Value) → IsMissing p (tree_of v) → DecodesExactly (OnePart p s) old (Got (tree_of v) old.rest) old
+  left : (p : Presence) → (IsAlwaysThere p → ⊥) → NextTagIs tag old (Ok false) → (v : Value) → IsMissing p (tree_of v) → DecodesExactly (OnePart p s) old (Got (tree_of v) old.rest) old
   left required a l v m = absurd (a tt)
   left addition a l v m = absurd (a tt)
   left optional a l v m = subst (λ t. DecodesExactly (OnePart optional s) old (Got t old.rest) old) (sym m) (perhaps (Ok None) old (l, refl))
   left (default d) a l v m = defaulted d (Ok (tree_of v)) old (inl (l, m, refl))
 
-  pub unmade : (p : Presence) (x : DecodeError) → IsOutOfMemory x.kind → DecodesExactly (OnePart p s) old (refusal x.kind) old
+  unmade : (p : Presence) (x : DecodeError) → IsOutOfMemory x.kind → DecodesExactly (OnePart p s) old (refusal x.kind) old
   unmade p x m = alloc_failed (OnePart p s) itself old old x m refl (IsEnd-refl old.rest)
+
+  pub made : (p : Presence) → (IsAlwaysThere p → ⊥) → NextTagIs tag old (Ok false) → (r : Result Value DecodeError) → IfOk r (λ v. IsMissing p (tree_of v)) → IfErr r (λ x. IsOutOfMemory x.kind)
+      → DecodesExactly (OnePart p s) old (outcome tree_of r old.rest) old
+  made p a l (Ok v) m e = left p a l v m
+  made p a l (Err x) m e = unmade p x e
 
   -- The next tag is refused.
   pub unread : (p : Presence) → (IsAlwaysThere p → ⊥) → (x : DecodeError) → NextTagIs tag old (Err x) → DecodesExactly (OnePart p s) old (refusal x.kind) old

@@ -14,7 +14,7 @@ ghost use Rattle.rasn_de.specs.declared.ber.de.parser.ParseError.TheVariants.{Un
 ghost use Rattle.rasn_schema.specs.Trees.{tree_of};
 ghost use Rattle.rasn_schema.specs.Shapes.{shape_of_type, type_by, alternatives_by, components_by, presence_of, AreLawful};
 ghost use Rattle.rasn_dynamic.specs.Inside.{ReadsInside, ReadsSequence, ReadsComponent};
-ghost use Rattle.rasn_dynamic.specs.Calls.{held, names_of, IsKept, IsSized, IsSizedSet, DecodesPresent, IsNoAlternative};
+ghost use Rattle.rasn_dynamic.specs.Calls.{held, nones, names_of, IsKept, IsSized, IsSizedSet, DecodesPresent, IsNoAlternative};
 ghost use Rattle.rasn_dynamic.specs.Fitting.{Fits, FitsBy, IsChosen, AlternativeFits, ComponentFits, ComponentsFit, EachFits};
 ghost use Rattle.rasn_dynamic.specs.Found.{FoundFit};
 
@@ -255,7 +255,8 @@ fn decode_contents<'input>(
             sized_set(decoder, values, constraints)
         }
         Type::Set { components, .. } => {
-            let values = decode_set(decoder, types, below, components)?;
+            let found = no_components(decoder, components)?;
+            let values = decode_set(decoder, types, below, components, found)?;
             Ok(Value::Items(values))
         }
         _ => Err(no_value(decoder)),
@@ -386,7 +387,7 @@ fn decode_present<'input>(
     Ok(value)
 }
 
-/// Reads the components of a SET, in any order, up to the end of the contents (X.690 8.11).
+/// Reads the components of a SET, in any order, up to the end of the contents (X.690 8.11). None was found yet.
 ///
 /// # Errors
 /// Those of the first component that isn't read. Once all are read, `DuplicateField` with the name of the first component that was
@@ -397,12 +398,13 @@ fn decode_set<'input>(
     types: &[Type],
     below: usize,
     components: &[Component],
+    mut found: Vec<Option<Value<'input>>>,
 ) -> Result<Vec<Value<'input>>, DecodeError>
-    requires { AreLawfulByTag (components_by (shape_of_type types.now below) components.now) }
+    requires lawful { AreLawfulByTag (components_by (shape_of_type types.now below) components.now) }
+    requires none { found.items ≡ nones components.now }
     ensures exact { DecodesSetPartContents (components_by (shape_of_type types.now below) components.now) (λ v. list_tree tree_of v.items) (names_of components.now) decoder.old result decoder.new }
     ensures fits { IfOk result (λ v. ComponentsFit (Fits types.now below) components.now v.items) }
 {
-    let mut found = no_components(decoder, components)?;
     let mut twice = None;
     let mut last = None;
     while !decoder.has_ended() {

@@ -1,4 +1,11 @@
-use Rattle.std.proofs.Common.{rules, arith, ◌-◌, [], ◌∷◌, ◌++◌, length, map, Ok, refl, sym, ap, ◌∙◌, subst, inl, inr}
+use Rattle.std.proofs.Common.{rules, arith, ◌≡◌, ◌-◌, [], ◌∷◌, ◌++◌, length, map, Some, None, Ok, refl, sym, ap, ◌∙◌, subst, inl, inr}
+use Rattle.std.proofs.lemmas.Option.{slice_get_within}
+use Rattle.rasn_types.specs.Shapes.{IsFirstOf}
+use Rattle.rasn_types.proofs.Headers.Frames.{next_one}
+use Rattle.rasn_de.specs.NamedErrors.{IsNamedError, IsDuplicateField}
+use Rattle.rasn_de.specs.SetPartTypes.{text}
+use Rattle.rasn_de.proofs.OwnTypes.SetPartTypes.{ReadTo, none_read, untold, next_fails, next_passes, all_once, one_twice}
+use Rattle.rasn_schema.proofs.Alternatives.{first_of_all}
 use Rattle.rasn_types.specs.Lawful.{IsLawful}
 use Rattle.rasn_types.specs.Tags.{IsStrict}
 use Rattle.rasn_types.specs.Order.{IsLess}
@@ -15,19 +22,21 @@ use Rattle.rasn_de.proofs.Constructed.Steps.{step_none, step_refused, step_unclo
 use Rattle.rasn_de.proofs.Constructed.Optional.{strict_before, strict_after}
 use Rattle.rasn_de.proofs.OwnTypes.Parts.{call_keeps}
 use Rattle.rasn_schema.specs.Trees.{tree_of}
-use Rattle.rasn_schema.specs.Shapes.{shape_of_type, type_by, alternatives_by, components_by, presence_of, tag_at}
+use Rattle.rasn_schema.specs.Shapes.{shape_of_type, type_by, alternatives_by, components_by, presence_of, tag_at, AreLawful}
 use Rattle.rasn_schema.proofs.TypeShapes.{shape_below, own_is}
 use Rattle.rasn_schema.proofs.Lists.{split, nothing_left, read_at}
 use Rattle.rasn_dynamic.specs.Inside.{IsHeaderOf}
 use Rattle.rasn_dynamic.specs.Calls.{held, names_of}
 use Rattle.rasn_dynamic.specs.Fitting.{Fits, ComponentsFit, EachFits}
-use Rattle.rasn_dynamic.proofs.FitsRead.{if_ok, fits_below, are_items, sized_fits, sized_set_fits, each_more}
+use Rattle.rasn_dynamic.proofs.FitsRead.{if_ok, fits_below, are_items, sized_fits, sized_set_fits, each_more, fit_more, fit_end, missing_fits, gathered_fit, nones_fit, found_length, put_fits}
 use Rattle.rasn_dynamic.proofs.Inside.{inside_decodes}
 use Rattle.rasn_dynamic.proofs.Nothing.{refused_at_zero, refused_not_there}
 use Rattle.rasn_dynamic.proofs.Chosen.{no_tag, lawful_at, first_at, chosen_got, chosen_refused}
-use Rattle.rasn_dynamic.proofs.InOrder.{lawful_parts}
-use Rattle.rasn_dynamic.proofs.OnePart.{always}
-use Rattle.rasn_dynamic.proofs.Contents.{list_refused, list_answers, set_refused, set_answers, inside_prefix, inside_seq, inside_seq_got, inside_set, inside_set_got, prefix_lawful, list_lawful, set_of_lawful, seq_lawful, set_lawful, inside_none}
+use Rattle.rasn_dynamic.proofs.InOrder.{lawful_parts, all_left, in_turn}
+use Rattle.rasn_dynamic.proofs.OnePart.{always, looked, made, unread, plain, kept, differs, default_is_written, not_required}
+use Rattle.rasn_dynamic.proofs.Contents.{list_refused, list_answers, set_refused, set_answers, inside_prefix, inside_seq, inside_seq_got, inside_set, inside_set_got, prefix_lawful, list_lawful, set_of_lawful, seq_lawful, set_lawful, inside_none, inside_runs_out, sequence_runs_out, values_tree, parts_start, parts_more, part_fails, parts_run_out, one_more, parts_end}
+use Rattle.rasn_dynamic.proofs.Pieces.{got_below, part_lawful, nones_come, as_many_nones, makes_parts}
+use Rattle.rasn_dynamic.proofs.Component.{next_unpeeked, next_unknown, next_unread, next_idle, next_put}
 use Rattle.rasn_dynamic.proofs.reader.+decode.Goals.{decode_elements_in_order-else-is_strict-via-then-is_strict+else-is_less, decode_elements_in_order-else-is_strict-via-else-is_strict}
 use Rattle.rasn_dynamic.proofs.reader.+decode.Goals as goal
 
@@ -55,7 +64,7 @@ pub decode_choice-returns-in_err-tag-clause-reads : goal.decode_choice-returns-i
 decode_choice-returns-in_err-tag-clause-reads t c = rw (residual _ c.from_residual.ensures.1) (no_tag _ _ _ _ c.in_err-tag.ensures.exact)
 
 pub decode_choice-returns-in_err-tag-clause-unknown : goal.decode_choice-returns-in_err-tag-clause-unknown
-decode_choice-returns-in_err-tag-clause-unknown t c = ?
+decode_choice-returns-in_err-tag-clause-unknown t c = λ tag n others. absurd (c.in_err-tag.ensures.next tag n)
 
 pub decode_choice-returns-in_default-clause-reads : goal.decode_choice-returns-in_default-clause-reads
 decode_choice-returns-in_default-clause-reads t c = no_alternative (alternatives_by (shape_of_type c.args.types.now c.args.below) c.args.alternatives.now) c.in_ok-tag.tag c.in_ok-tag.ensures.next c.in_default.ensures _
@@ -63,20 +72,42 @@ decode_choice-returns-in_default-clause-reads t c = no_alternative (alternatives
 pub decode_choice-returns-in_default-clause-unknown : goal.decode_choice-returns-in_default-clause-unknown
 decode_choice-returns-in_default-clause-unknown t c = λ tag n others. (rw (← c.codec.ensures) c.no_valid_choice.ensures, refl)
 
+pub decode_choice-bounds-alternatives-number : goal.decode_choice-bounds-alternatives-number
+decode_choice-bounds-alternatives-number t c = slice_get_within c.args.alternatives.now c.in-Some.number c.in-Some.ensures.0 (sym c.in-Some.ensures.1)
+
 pub decode_choice-decode_at-requires : goal.decode_choice-decode_at-requires
-decode_choice-decode_at-requires t c = (search rules, lawful_at (shape_of_type c.args.types.now c.args.below) c.args.alternatives.now c.in-Some.number _ c.requires ?)
+decode_choice-decode_at-requires t c =
+    let at = read_at c.args.alternatives.now c.in-Some.number c.index-alternatives-number.result (slice_get_within c.args.alternatives.now c.in-Some.number c.in-Some.ensures.0 (sym c.in-Some.ensures.1)) c.index-alternatives-number.is in
+    (search rules, lawful_at (shape_of_type c.args.types.now c.args.below) c.args.alternatives.now c.in-Some.number c.index-alternatives-number.result c.requires at)
 
 pub decode_choice-returns-in_err-value-clause-reads : goal.decode_choice-returns-in_err-value-clause-reads
-decode_choice-returns-in_err-value-clause-reads t c = ?
+decode_choice-returns-in_err-value-clause-reads t c =
+    let at = read_at c.args.alternatives.now c.in-Some.number c.index-alternatives-number.result (slice_get_within c.args.alternatives.now c.in-Some.number c.in-Some.ensures.0 (sym c.in-Some.ensures.1)) c.index-alternatives-number.is in
+    rw (residual _ c.from_residual-in_err-value.ensures.1)
+    (chosen_refused (shape_of_type c.args.types.now c.args.below) c.args.alternatives.now c.in-Some.number c.index-alternatives-number.result c.in_ok-tag.tag c.requires at
+    (first_at (shape_of_type c.args.types.now c.args.below) c.args.alternatives.now c.in-Some.number c.in-Some.ensures.0 _ c.in_ok-tag.tag c.in-Some.ensures.1 at c.in-Some.ensures.2) _ _ c.in_ok-tag.ensures.next _ c.in_err-value.ensures.reads)
 
 pub decode_choice-returns-in_err-value-clause-unknown : goal.decode_choice-returns-in_err-value-clause-unknown
-decode_choice-returns-in_err-value-clause-unknown t c = λ tag n others. absurd (others ?)
+decode_choice-returns-in_err-value-clause-unknown t c = λ tag n others.
+    absurd (others (subst (IsFirstOf (alternatives_by (shape_of_type c.args.types.now c.args.below) c.args.alternatives.now)) (next_one c.args.decoder.now.rest c.in_ok-tag.tag tag c.in_ok-tag.ensures.next n)
+    (first_of_all (shape_of_type c.args.types.now c.args.below) c.in_ok-tag.tag c.args.alternatives.now c.in-Some.number c.in-Some.ensures.0 c.in-Some.ensures.1 c.in-Some.ensures.2)))
 
 pub decode_choice-returns-in-Ok-clause-reads : goal.decode_choice-returns-in-Ok-clause-reads
-decode_choice-returns-in-Ok-clause-reads t c = ?
+decode_choice-returns-in-Ok-clause-reads t c =
+    let at = read_at c.args.alternatives.now c.in-Some.number c.index-alternatives-number.result (slice_get_within c.args.alternatives.now c.in-Some.number c.in-Some.ensures.0 (sym c.in-Some.ensures.1)) c.index-alternatives-number.is in
+    rw c.in-Ok.ensures.ok
+    (chosen_got (shape_of_type c.args.types.now c.args.below) c.args.alternatives.now c.in-Some.number c.index-alternatives-number.result c.in_ok-tag.tag c.requires at
+    (first_at (shape_of_type c.args.types.now c.args.below) c.args.alternatives.now c.in-Some.number c.in-Some.ensures.0 _ c.in_ok-tag.tag c.in-Some.ensures.1 at c.in-Some.ensures.2) _ _ c.in_ok-tag.ensures.next _ c.in_ok-value.ensures.reads)
 
 pub decode_choice-returns-in-Ok-clause-fits : goal.decode_choice-returns-in-Ok-clause-fits
-decode_choice-returns-in-Ok-clause-fits t c = ?
+decode_choice-returns-in-Ok-clause-fits t c =
+    let at = read_at c.args.alternatives.now c.in-Some.number c.index-alternatives-number.result (slice_get_within c.args.alternatives.now c.in-Some.number c.in-Some.ensures.0 (sym c.in-Some.ensures.1)) c.index-alternatives-number.is in
+    rw c.in-Ok.ensures.ok (c.index-alternatives-number.result, at, c.in_ok-value.ensures.fits)
+
+pub decode_choice-returns-in-Err-clause-unknown : goal.decode_choice-returns-in-Err-clause-unknown
+decode_choice-returns-in-Err-clause-unknown t c = λ tag n others.
+    absurd (others (subst (IsFirstOf (alternatives_by (shape_of_type c.args.types.now c.args.below) c.args.alternatives.now)) (next_one c.args.decoder.now.rest c.in_ok-tag.tag tag c.in_ok-tag.ensures.next n)
+    (first_of_all (shape_of_type c.args.types.now c.args.below) c.in_ok-tag.tag c.args.alternatives.now c.in-Some.number c.in-Some.ensures.0 c.in-Some.ensures.1 c.in-Some.ensures.2)))
 
 -- ---- contents
 
@@ -147,6 +178,9 @@ decode_contents-returns-in_ok-values-in-SetOf-clause-fits t c =
 
 pub decode_contents-decode_set-requires : goal.decode_contents-decode_set-requires
 decode_contents-decode_set-requires t c = (search rules, rw c.deref-in-Set.ensures.value (set_lawful _ _ (subst (λ n. IsLawful (type_by (shape_of_type c.args.types.now c.args.below) n)) c.in-Set.is c.requires)))
+
+pub decode_contents-returns-in_err-found-clause-reads : goal.decode_contents-returns-in_err-found-clause-reads
+decode_contents-returns-in_err-found-clause-reads t c = rw (residual _ c.from_residual-in_err-found.ensures.1) (inside_runs_out _ _ _ c.in_err-found.ensures.err)
 
 pub decode_contents-returns-in_err-values-in-Set-clause-reads : goal.decode_contents-returns-in_err-values-in-Set-clause-reads
 decode_contents-returns-in_err-values-in-Set-clause-reads t c =
@@ -265,27 +299,181 @@ decode_type-returns-in-SetOf-clause-reads t c =
 -- ---- components
 
 pub decode_component-returns-then-is_always_there-clause-reads : goal.decode_component-returns-then-is_always_there-clause-reads
-decode_component-returns-then-is_always_there-clause-reads t c = always ((shape_of_type c.args.types.now c.args.below) c.args.component.now.type_id.0) (tag_at c.args.types.now c.args.component.now.type_id.0) (own_is _ _ _ c.requires) _ (presence_of c.args.component.now.presence) c.if-is_always_there.ensures _ _ c.decode_present.ensures.reads
+decode_component-returns-then-is_always_there-clause-reads t c =
+    always ((shape_of_type c.args.types.now c.args.below) c.args.component.now.type_id.0) (tag_at c.args.types.now c.args.component.now.type_id.0) (own_is _ _ _ c.requires) _ (presence_of c.args.component.now.presence) c.if-is_always_there.ensures _ _ c.decode_present.ensures.reads
 
 pub decode_component-returns-then-is_always_there-clause-fits : goal.decode_component-returns-then-is_always_there-clause-fits
 decode_component-returns-then-is_always_there-clause-fits t c = if_ok _ _ _ (λ v h. inr h) c.decode_present.ensures.fits
 
-pub decode_present-returns-in_default : goal.decode_present-returns-in_default
-decode_present-returns-in_default t c = ?
+pub decode_component-returns-in-Ok-true-clause-reads : goal.decode_component-returns-in-Ok-true-clause-reads
+decode_component-returns-in-Ok-true-clause-reads t c = looked ((shape_of_type c.args.types.now c.args.below) c.args.component.now.type_id.0) c.tag_at.result (rw c.tag_at.ensures (own_is _ _ _ c.requires)) _ (presence_of c.args.component.now.presence) c.if-is_always_there.ensures c.in-Ok-true.ensures _ _ c.decode_present-in-Ok-true.ensures.reads
+
+pub decode_component-returns-in-Ok-true-clause-fits : goal.decode_component-returns-in-Ok-true-clause-fits
+decode_component-returns-in-Ok-true-clause-fits t c = if_ok _ _ _ (λ v h. inr h) c.decode_present-in-Ok-true.ensures.fits
+
+pub decode_component-missing-requires : goal.decode_component-missing-requires
+decode_component-missing-requires t c = not_required c.args.component.now.presence c.if-is_always_there.ensures
+
+pub decode_component-returns-in-Ok-false-clause-reads : goal.decode_component-returns-in-Ok-false-clause-reads
+decode_component-returns-in-Ok-false-clause-reads t c = made ((shape_of_type c.args.types.now c.args.below) c.args.component.now.type_id.0) c.tag_at.result (rw c.tag_at.ensures (own_is _ _ _ c.requires)) _ (presence_of c.args.component.now.presence) c.if-is_always_there.ensures c.in-Ok-false.ensures _ c.missing.ensures.ok c.missing.ensures.err
+
+pub decode_component-returns-in-Ok-false-clause-fits : goal.decode_component-returns-in-Ok-false-clause-fits
+decode_component-returns-in-Ok-false-clause-fits t c = if_ok _ _ _ (λ v m. missing_fits (Fits c.args.types.now c.args.below) c.args.component.now v m) c.missing.ensures.ok
+
+pub decode_component-returns-in-Err-clause-reads : goal.decode_component-returns-in-Err-clause-reads
+decode_component-returns-in-Err-clause-reads t c = unread ((shape_of_type c.args.types.now c.args.below) c.args.component.now.type_id.0) c.tag_at.result (rw c.tag_at.ensures (own_is _ _ _ c.requires)) _ (presence_of c.args.component.now.presence) c.if-is_always_there.ensures c.in-Err.error c.in-Err.ensures
+
+pub decode_present-returns-in_default-clause-reads : goal.decode_present-returns-in_default-clause-reads
+decode_present-returns-in_default-clause-reads t c = plain ((shape_of_type c.args.types.now c.args.below) c.args.component.now.type_id.0) c.args.component.now.presence _ _ c.in_default.not-Default _ c.decode_at.ensures.reads
 
 pub decode_present-returns-in_err-value-clause-reads : goal.decode_present-returns-in_err-value-clause-reads
 decode_present-returns-in_err-value-clause-reads t c = rw (residual _ c.from_residual.ensures.1) (inl c.in_err-value.ensures.reads)
 
+pub decode_present-returns-then-not-is_strict-clause-reads : goal.decode_present-returns-then-not-is_strict-clause-reads
+decode_present-returns-then-not-is_strict-clause-reads t c = kept ((shape_of_type c.args.types.now c.args.below) c.args.component.now.type_id.0) c.args.component.now.presence c.in-Default.default.now c.in-Default.is _ _ c.in_ok-value.value c.in_ok-value.ensures.reads c.if-not-is_strict.ensures
+
+pub decode_present-returns-then-means_same-clause-reads : goal.decode_present-returns-then-means_same-clause-reads
+decode_present-returns-then-means_same-clause-reads t c =
+    default_is_written ((shape_of_type c.args.types.now c.args.below) c.args.component.now.type_id.0) c.args.component.now.presence c.in-Default.default.now c.in-Default.is _ _ c.in_ok-value.value c.in_ok-value.ensures.reads c.if-not-is_strict.ensures (c.means_same.ensures.same c.if-means_same.true) c.default_present.result c.default_present.ensures
+
+pub decode_present-returns-clause-reads : goal.decode_present-returns-clause-reads
+decode_present-returns-clause-reads t c =
+    differs ((shape_of_type c.args.types.now c.args.below) c.args.component.now.type_id.0) c.args.component.now.presence c.in-Default.default.now c.in-Default.is _ _ c.in_ok-value.value c.in_ok-value.ensures.reads (λ s. let h = c.means_same.ensures.equal s in let f = c.if-means_same.false in cc)
+
 -- ---- the components of a SEQUENCE
 
 pub decode_sequence-returns-in_err-found-clause-reads : goal.decode_sequence-returns-in_err-found-clause-reads
-decode_sequence-returns-in_err-found-clause-reads t c = ?
+decode_sequence-returns-in_err-found-clause-reads t c = rw (residual _ c.from_residual.ensures.1) (sequence_runs_out _ _ _ c.in_err-found.ensures.err)
+
+pub decode_sequence-gather-requires : goal.decode_sequence-gather-requires
+decode_sequence-gather-requires t c = ap length c.in_ok-found.ensures.ok ∙ as_many_nones c.args.components.now
 
 pub decode_sequence-returns-then-leaves_all_out-clause-reads : goal.decode_sequence-returns-then-leaves_all_out-clause-reads
-decode_sequence-returns-then-leaves_all_out-clause-reads t c = ?
+decode_sequence-returns-then-leaves_all_out-clause-reads t c =
+    all_left (shape_of_type c.args.types.now c.args.below) c.args.components.now c.args.decoder.now c.if-leaves_all_out.ensures _ c.in_ok-found.found.items c.in_ok-found.ensures.ok _ c.gather.ensures
+
+pub decode_sequence-returns-then-leaves_all_out-clause-fits : goal.decode_sequence-returns-then-leaves_all_out-clause-fits
+decode_sequence-returns-then-leaves_all_out-clause-fits t c =
+    gathered_fit (Fits c.args.types.now c.args.below) c.args.components.now _ c.in_ok-found.found.items _ (nones_fit (Fits c.args.types.now c.args.below) c.args.components.now c.in_ok-found.found.items c.in_ok-found.ensures.ok) c.gather.ensures
+
+pub decode_sequence-returns-in_default-clause-reads : goal.decode_sequence-returns-in_default-clause-reads
+decode_sequence-returns-in_default-clause-reads t c = sequence_runs_out _ _ _ c.out_of_memory.ensures.kind
+
+pub decode_sequence-loop-rest-init : goal.decode_sequence-loop-rest-init
+decode_sequence-loop-rest-init t c = rw c.in-Ok.ensures.items (parts_start _ _, c.requires, λ us h. h)
+
+pub decode_sequence-returns-in_err-value-clause-reads : goal.decode_sequence-returns-in_err-value-clause-reads
+decode_sequence-returns-in_err-value-clause-reads t c =
+    rw (residual _ c.from_residual-in_err-value.ensures.1)
+    (in_turn (shape_of_type c.args.types.now c.args.below) c.args.components.now c.args.decoder.now c.if-leaves_all_out.ensures _ _
+    (part_fails _ _ _ (presence_of c.component-item.result.presence) ((shape_of_type c.args.types.now c.args.below) c.component-item.result.type_id.0) _ _ _ c.loop-rest.invariant.0 (ap (components_by (shape_of_type c.args.types.now c.args.below)) (split c.loop-rest.rest.now _ c.in-len1-up.len_at_least c.component-item.is)) _ _ c.in_err-value.ensures.reads))
+
+pub decode_sequence-returns-in_err-push-clause-reads : goal.decode_sequence-returns-in_err-push-clause-reads
+decode_sequence-returns-in_err-push-clause-reads t c =
+    rw (residual _ c.from_residual-in_err-push.ensures.1)
+    (in_turn (shape_of_type c.args.types.now c.args.below) c.args.components.now c.args.decoder.now c.if-leaves_all_out.ensures _ _
+    (parts_run_out _ _ _ _ _ _ c.loop-rest.invariant.0 (record { stays = c.in_ok-value.ensures.reads.stays; end = c.in_ok-value.ensures.reads.end }) c.in_err-push.field-0.0 c.in_err-push.ensures.kind))
+
+pub decode_sequence-loop-rest-preserved : goal.decode_sequence-loop-rest-preserved
+decode_sequence-loop-rest-preserved t c =
+    let at = split c.loop-rest.rest.now _ c.in-len1-up.len_at_least c.component-item.is in
+    let e = ap (components_by (shape_of_type c.args.types.now c.args.below)) at in (
+      parts_more _ _ _ (presence_of c.component-item.result.presence) ((shape_of_type c.args.types.now c.args.below) c.component-item.result.type_id.0) _ _ _ c.loop-rest.invariant.0 e (tree_of c.in_ok-value.value) _ _
+          (ap (map tree_of) c.in_ok-push.ensures.ok ∙ one_more c.loop-rest.values.items c.in_ok-value.value) c.in_ok-value.ensures.reads,
+      (subst AreLawful e c.loop-rest.invariant.1).1,
+      fit_more (Fits c.args.types.now c.args.below) _ _ _ c.component-item.result c.loop-rest.values.items _ c.in_ok-value.value c.loop-rest.invariant.2 at c.in_ok-push.ensures.ok c.in_ok-value.ensures.fits,
+    )
 
 pub decode_sequence-returns-clause-reads : goal.decode_sequence-returns-clause-reads
-decode_sequence-returns-clause-reads t c = ?
+decode_sequence-returns-clause-reads t c =
+    in_turn (shape_of_type c.args.types.now c.args.below) c.args.components.now c.args.decoder.now c.if-leaves_all_out.ensures _ _ (parts_end _ _ _ _ _ c.loop-rest.invariant.0 (ap (components_by (shape_of_type c.args.types.now c.args.below)) (nothing_left _ c.in_default-2.len_below)))
+
+pub decode_sequence-returns-clause-fits : goal.decode_sequence-returns-clause-fits
+decode_sequence-returns-clause-fits t c = fit_end (Fits c.args.types.now c.args.below) _ _ _ c.loop-rest.invariant.2 (nothing_left _ c.in_default-2.len_below)
 
 -- ---- the components of a SET
 
+pub decode_set-loop-last-init : goal.decode_set-loop-last-init
+decode_set-loop-last-init t c = (
+  none_read (components_by (shape_of_type c.args.types.now c.args.below) c.args.components.now) (names_of c.args.components.now) _ _ (nones_come (shape_of_type c.args.types.now c.args.below) c.args.components.now _ c.requires.none),
+  nones_fit (Fits c.args.types.now c.args.below) c.args.components.now _ c.requires.none,
+)
+
+pub decode_set-returns-in_err-last-clause-exact : goal.decode_set-returns-in_err-last-clause-exact
+decode_set-returns-in_err-last-clause-exact t c =
+    let at = c.loop-last in
+    rw (residual _ c.from_residual.ensures.1) (untold (components_by (shape_of_type c.args.types.now c.args.below) c.args.components.now) _ c.args.decoder.now at.decoder at.last at.twice _ at.invariant.0 values_tree c.loop-last-test.ensures _ c.in_err-last.ensures)
+
+pub decode_set-returns-in_err-next-clause-exact : goal.decode_set-returns-in_err-next-clause-exact
+decode_set-returns-in_err-next-clause-exact t c =
+    let at = c.loop-last in
+    rw (residual _ c.from_residual-in_err-next.ensures.1)
+    (next_fails (components_by (shape_of_type c.args.types.now c.args.below) c.args.components.now) _ c.args.decoder.now at.decoder at.last at.twice _ at.invariant.0 values_tree c.loop-last-test.ensures _ c.in_ok-last.ensures _ _ (held c.decode_set_component.new.found.items) c.in_err-next.ensures.next)
+
+pub decode_set-loop-last-preserved : goal.decode_set-loop-last-preserved
+decode_set-loop-last-preserved t c =
+    let at = c.loop-last in (
+      rw c.or-twice.ensures (next_passes (components_by (shape_of_type c.args.types.now c.args.below) c.args.components.now) _ c.args.decoder.now at.decoder at.last at.twice _ at.invariant.0 c.loop-last-test.ensures _ c.in_ok-last.ensures _ _ _ c.in_ok-next.ensures.next),
+      c.in_ok-next.ensures.found,
+    )
+
+pub decode_set-returns-in-Some-clause-exact : goal.decode_set-returns-in-Some-clause-exact
+decode_set-returns-in-Some-clause-exact t c =
+    let at = c.loop-last in
+    let ps = components_by (shape_of_type c.args.types.now c.args.below) c.args.components.now in
+    let names = names_of c.args.components.now in
+    let h : at.twice ≡ Some c.in-Some.name = search rules in
+    one_twice ps names values_tree c.args.decoder.now at.decoder at.last (held at.found.items) c.loop-last-test.ensures c.in-Some.name
+    (subst (λ z. ReadTo ps names c.args.decoder.now at.decoder at.last z (held at.found.items)) h at.invariant.0) _
+    (subst (λ z. IsNamedError (IsDuplicateField (text c.in-Some.name)) z c.duplicate_field.result) c.codec.ensures c.duplicate_field.ensures)
+
+pub decode_set-gather-requires : goal.decode_set-gather-requires
+decode_set-gather-requires t c = found_length (Fits c.args.types.now c.args.below) c.args.components.now _ c.loop-last.invariant.1
+
+pub decode_set-returns-clause-exact : goal.decode_set-returns-clause-exact
+decode_set-returns-clause-exact t c =
+    let at = c.loop-last in
+    let ps = components_by (shape_of_type c.args.types.now c.args.below) c.args.components.now in
+    let names = names_of c.args.components.now in
+    let h : at.twice ≡ None = search rules in
+    all_once ps names values_tree c.args.decoder.now at.decoder at.last (held at.found.items) c.loop-last-test.ensures
+    (subst (λ z. ReadTo ps names c.args.decoder.now at.decoder at.last z (held at.found.items)) h at.invariant.0) _ (makes_parts (shape_of_type c.args.types.now c.args.below) c.args.components.now _ at.found.items _ c.gather.ensures)
+
+pub decode_set-returns-clause-fits : goal.decode_set-returns-clause-fits
+decode_set-returns-clause-fits t c = gathered_fit (Fits c.args.types.now c.args.below) c.args.components.now _ c.loop-last.found.items _ c.loop-last.invariant.1 c.gather.ensures
+
+-- ---- one of them
+
+pub decode_set_component-returns-in_err-tag-clause-next : goal.decode_set_component-returns-in_err-tag-clause-next
+decode_set_component-returns-in_err-tag-clause-next t c =
+    rw (residual _ c.from_residual.ensures.1) (next_unpeeked (components_by (shape_of_type c.args.types.now c.args.below) c.args.components.now) (names_of c.args.components.now) (held c.args.found.now.items) (held c.args.found.now.items) _ _ c.in_err-tag.ensures.exact)
+
+pub decode_set_component-returns-in_default-clause-next : goal.decode_set_component-returns-in_default-clause-next
+decode_set_component-returns-in_default-clause-next t c =
+    next_unknown (components_by (shape_of_type c.args.types.now c.args.below) c.args.components.now) (names_of c.args.components.now) (held c.args.found.now.items) (held c.args.found.now.items) _ c.in_ok-tag.tag c.in_ok-tag.ensures.next c.in_default.ensures c.no_valid_choice.result
+
+pub decode_set_component-decode_present-requires : goal.decode_set_component-decode_present-requires
+decode_set_component-decode_present-requires t c = (search rules, part_lawful (shape_of_type c.args.types.now c.args.below) c.args.components.now c.in-Some.number c.in-Some.component.now c.requires.lawful c.in-Some.ensures.0)
+
+pub decode_set_component-returns-in_err-value-clause-next : goal.decode_set_component-returns-in_err-value-clause-next
+decode_set_component-returns-in_err-value-clause-next t c =
+    rw (residual _ c.from_residual-in_err-value.ensures.1)
+    (next_unread (shape_of_type c.args.types.now c.args.below) c.args.components.now c.in-Some.number c.in-Some.component.now c.in_ok-tag.tag c.requires.lawful c.in-Some.ensures _ _ c.in_ok-tag.ensures.next c.in_err-value.field-0.0 (held c.args.found.now.items) (held c.args.found.now.items) c.in_err-value.ensures.reads)
+
+pub decode_set_component-returns-then-remaining-left-clause-next : goal.decode_set_component-returns-then-remaining-left-clause-next
+decode_set_component-returns-then-remaining-left-clause-next t c =
+    next_idle (shape_of_type c.args.types.now c.args.below) c.args.components.now c.in-Some.number c.in-Some.component.now c.in_ok-tag.tag c.requires.lawful c.in-Some.ensures _ _ c.in_ok-tag.ensures.next c.in_ok-value.value c.in_ok-value.ensures.reads
+    (held c.args.found.now.items) (held c.args.found.now.items) _ (ap length c.remaining-left.ensures.value) (sym (ap length c.remaining.ensures.value) ∙ c.if-remaining-left.true) c.extra.result c.extra.ensures
+
+pub decode_set_component-put-requires : goal.decode_set_component-put-requires
+decode_set_component-put-requires t c = rw (found_length (Fits c.args.types.now c.args.below) c.args.components.now _ c.requires.found) (got_below c.args.components.now c.in-Some.number c.in-Some.component.now c.in-Some.ensures.0)
+
+pub decode_set_component-returns-clause-next : goal.decode_set_component-returns-clause-next
+decode_set_component-returns-clause-next t c =
+    next_put (shape_of_type c.args.types.now c.args.below) c.args.components.now c.in-Some.number c.in-Some.component.now c.in_ok-tag.tag c.requires.lawful c.in-Some.ensures _ _ c.in_ok-tag.ensures.next c.in_ok-value.value c.in_ok-value.ensures.reads
+    c.args.found.now.items (rw (found_length (Fits c.args.types.now c.args.below) c.args.components.now _ c.requires.found) (got_below c.args.components.now c.in-Some.number c.in-Some.component.now c.in-Some.ensures.0)) _ (ap length c.remaining-left.ensures.value)
+    (λ e. c.if-remaining-left.false (ap length c.remaining.ensures.value ∙ e)) _ _ (rw (← c.as_str.ensures.value) c.put.ensures)
+
+pub decode_set_component-returns-clause-found : goal.decode_set_component-returns-clause-found
+decode_set_component-returns-clause-found t c =
+    put_fits (Fits c.args.types.now c.args.below) c.args.components.now c.args.found.now.items _ c.in-Some.number c.in-Some.component.now c.in_ok-value.value _ _ c.requires.found c.in-Some.ensures.0 c.in_ok-value.ensures.fits c.put.ensures
