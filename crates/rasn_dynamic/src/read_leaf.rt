@@ -19,8 +19,8 @@ use rasn_de::de::Decode;
 use rasn_schema::{LeafKind, NamedNumber, Value};
 use rasn_types::error::{DecodeError, DecodeErrorKind};
 use rasn_types::types::{
-    Alphabet, BitString, Bounded, Constraints, Date, GeneralizedTime, Integer, IntegerType, LONGEST_NUMBER,
-    ObjectIdentifier, Tag, UtcTime,
+    Alphabet, BitString, Bounded, Constraints, Date, GeneralizedTime, Integer, IntegerType,
+    LONGEST_NUMBER, ObjectIdentifier, Tag, UtcTime,
 };
 use std::alloc::{AllocError, Global};
 use std::borrow::CowSlice;
@@ -156,16 +156,24 @@ pub fn decode_leaf<'input>(
     ensures fits { IfOk result (λ v. FitsLeaf kind v) }
 {
     match kind {
-        LeafKind::Boolean => Ok(Value::Boolean(bool::decode_with_tag_and_constraints(decoder, tag, bounds)?)),
+        LeafKind::Boolean => Ok(Value::Boolean(bool::decode_with_tag_and_constraints(
+            decoder, tag, bounds,
+        )?)),
         LeafKind::Null => {
             <()>::decode_with_tag_and_constraints(decoder, tag, bounds)?;
             Ok(Value::Null)
         }
-        LeafKind::ObjectIdentifier => Ok(Value::Arcs(ObjectIdentifier::decode_with_tag_and_constraints(decoder, tag, bounds)?)),
-        LeafKind::BitString => Ok(Value::Bits(BitString::decode_with_tag_and_constraints(decoder, tag, bounds)?)),
+        LeafKind::ObjectIdentifier => Ok(Value::Arcs(
+            ObjectIdentifier::decode_with_tag_and_constraints(decoder, tag, bounds)?,
+        )),
+        LeafKind::BitString => Ok(Value::Bits(BitString::decode_with_tag_and_constraints(
+            decoder, tag, bounds,
+        )?)),
         LeafKind::OctetString => Ok(Value::Octets(decoder.decode_octet_string(tag, bounds)?)),
         LeafKind::FixedOctetString(len) => decode_fixed_octets(decoder, len, tag, bounds),
-        LeafKind::Integer => Ok(Value::Integer(Integer::decode_with_tag_and_constraints(decoder, tag, bounds)?)),
+        LeafKind::Integer => Ok(Value::Integer(Integer::decode_with_tag_and_constraints(
+            decoder, tag, bounds,
+        )?)),
         LeafKind::Signed32 => decode_fixed_width::<i32>(decoder, tag, bounds),
         LeafKind::Signed64 => decode_fixed_width::<i64>(decoder, tag, bounds),
         LeafKind::Unsigned32 => decode_fixed_width::<u32>(decoder, tag, bounds),
@@ -178,8 +186,12 @@ pub fn decode_leaf<'input>(
         LeafKind::Bmp => Ok(Value::Units(decoder.decode_bmp_string(tag, bounds)?)),
         LeafKind::Utf8 => Ok(Value::Text(decoder.decode_utf8_text(tag, bounds)?)),
         LeafKind::UtcTime => decode_utc_time(decoder, tag, bounds),
-        LeafKind::GeneralizedTime => Ok(Value::Instant(GeneralizedTime::decode_with_tag_and_constraints(decoder, tag, bounds)?)),
-        LeafKind::Date => Ok(Value::Day(Date::decode_with_tag_and_constraints(decoder, tag, bounds)?)),
+        LeafKind::GeneralizedTime => Ok(Value::Instant(
+            GeneralizedTime::decode_with_tag_and_constraints(decoder, tag, bounds)?,
+        )),
+        LeafKind::Date => Ok(Value::Day(Date::decode_with_tag_and_constraints(
+            decoder, tag, bounds,
+        )?)),
     }
 }
 

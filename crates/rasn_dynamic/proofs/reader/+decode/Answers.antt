@@ -238,14 +238,17 @@ decode_elements_in_order-loop-last-preserved t c =
     let not_less : IsStrict c.args.decoder.now.rule → IsLess c.octets_before-octets.result.now c.loop-last.last.now → ⊥ = λ s h. elim c.else-is_strict.branch [
       | decode_elements_in_order-else-is_strict-via-then-is_strict+else-is_less w ↦ w.if-is_less.ensures h
       | decode_elements_in_order-else-is_strict-via-else-is_strict w ↦ w.if-is_strict.ensures (strict_after c.loop-last.decoder _ k (strict_here s))
-    ] in ((
-      c.loop-last.invariant.0.0 ++ (c.octets_before-octets.result.now ∷ []),
-      passes_from (Decodes (shape_of_type c.args.types.now c.args.below c.args.element.0) tree_of) c.loop-last.decoder _ c.in_ok-value.value c.octets_before-octets.result.now
-          (rw (← c.remaining-start.ensures.value, ← c.remaining.ensures.value) c.octets_before-octets.ensures) c.loop-last-test.ensures c.in_ok-value.ensures.reads
-          (λ e. c.in_ok-keep.ensures.1 (e ∙ sym (ap length c.remaining-start.ensures.value))) c.args.decoder.now c.loop-last.values.items _ c.loop-last.invariant.0.0 c.in_ok-keep.ensures.0 c.loop-last.invariant.0.1,
-      (λ s. in_order c.loop-last.invariant.0.0 c.loop-last.last.now c.octets_before-octets.result.now (c.loop-last.invariant.0.2 s) c.loop-last.invariant.0.3 (not_less s)),
-      ends_more c.loop-last.invariant.0.0 c.octets_before-octets.result.now,
-    ), each_more (Fits c.args.types.now c.args.below c.args.element.0) c.loop-last.values.items _ c.in_ok-value.value c.in_ok-keep.ensures.0 c.loop-last.invariant.1 c.in_ok-value.ensures.fits)
+    ] in (
+      (
+        c.loop-last.invariant.0.0 ++ (c.octets_before-octets.result.now ∷ []),
+        passes_from (Decodes (shape_of_type c.args.types.now c.args.below c.args.element.0) tree_of) c.loop-last.decoder _ c.in_ok-value.value c.octets_before-octets.result.now
+            (rw (← c.remaining-start.ensures.value, ← c.remaining.ensures.value) c.octets_before-octets.ensures) c.loop-last-test.ensures c.in_ok-value.ensures.reads
+            (λ e. c.in_ok-keep.ensures.1 (e ∙ sym (ap length c.remaining-start.ensures.value))) c.args.decoder.now c.loop-last.values.items _ c.loop-last.invariant.0.0 c.in_ok-keep.ensures.0 c.loop-last.invariant.0.1,
+        (λ s. in_order c.loop-last.invariant.0.0 c.loop-last.last.now c.octets_before-octets.result.now (c.loop-last.invariant.0.2 s) c.loop-last.invariant.0.3 (not_less s)),
+        ends_more c.loop-last.invariant.0.0 c.octets_before-octets.result.now,
+      ),
+      each_more (Fits c.args.types.now c.args.below c.args.element.0) c.loop-last.values.items _ c.in_ok-value.value c.in_ok-keep.ensures.0 c.loop-last.invariant.1 c.in_ok-value.ensures.fits,
+    )
 
 -- ---- a value that holds others
 
