@@ -2,7 +2,6 @@ pub mod Inside
 pub mod Contents
 pub mod Nothing
 pub mod OnePart
-pub mod LeftOut
 pub mod Chosen
 pub mod InOrder
 pub mod Pieces
@@ -11,4 +10,6 @@ pub mod Enclosed
 pub mod WrittenInside
 pub mod Canonical
 pub mod Fitted
-pub mod SetSlots
+pub mod FitsRead
+pub mod FixedOctets
+pub mod Numbers

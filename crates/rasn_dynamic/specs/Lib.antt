@@ -3,4 +3,4 @@ pub mod Calls
 pub mod Written
 pub mod Entry
 pub mod Fitting
-pub mod SetSlots
+pub mod Found

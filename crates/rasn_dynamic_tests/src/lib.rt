@@ -4,6 +4,8 @@
 #[cfg(test)]
 mod definitions;
 #[cfg(test)]
+mod errors;
+#[cfg(test)]
 mod messages;
 #[cfg(test)]
 mod refused;
