@@ -1,5 +1,6 @@
 //! Reads a value of a type.
-ghost use Rattle.std.specs.Prelude.{◌≡◌, ◌≢◌, length};
+ghost use Rattle.std.specs.Prelude.{◌≡◌, ◌≢◌, length, IfOk};
+ghost use Rattle.rasn_dynamic.specs.Fitting.{Fits};
 ghost use Rattle.rasn_types.specs.Framing.{AreOctets};
 ghost use Rattle.rasn_types.specs.Lawful.{IsLawful, AreLawfulByTag};
 ghost use Rattle.rasn_types.specs.Shapes.{choice};
@@ -111,7 +112,8 @@ pub fn decode_at<'input>(
     id: TypeId,
 ) -> Result<Value<'input>, DecodeError>
     requires { IsLawful (shape_of_type types.now levels id.0) }
-    ensures { Decodes (shape_of_type types.now levels id.0) tree_of decoder.old result decoder.new }
+    ensures reads { Decodes (shape_of_type types.now levels id.0) tree_of decoder.old result decoder.new }
+    ensures fits { IfOk result (λ v. Fits types.now levels id.0 v) }
 {
     if levels == 0 {
         return Err(no_value(decoder));
