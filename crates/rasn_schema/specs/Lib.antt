@@ -8,3 +8,5 @@ pub mod Kinds
 pub mod Numbers
 pub mod Equal
 pub mod Equals
+pub mod Held
+pub mod Named

@@ -4,17 +4,25 @@ ghost use Rattle.rasn_schema.specs.SchemaProps.{schema_prop};
 
 use crate::error::SchemaError;
 use crate::rules::{first_choice_fault, first_other_fault};
+use crate::named::{TypeName, type_named};
+use crate::type_id::TypeId;
 use crate::types::Type;
+use crate::value::Value;
+use crate::view::View;
 
 /// Types that refer to one another by number, and whose values can be told apart by their tags, however deep they are nested.
 #[derive(Drop)]
 pub struct Schema {
+    /// The types.
     pub types: Vec<Type>,
+    /// The names of types, if there are some.
+    pub names: Option<Vec<TypeName>>,
     pub ghost lawful: { IsSchema types.items } by { schema_prop types.items },
 }
 
 impl Schema {
-    ghost use Rattle.std.specs.Prelude.{◌≡◌, IfOk, IfErr, ℕ};
+    ghost use Rattle.std.specs.Prelude.{◌≡◌, IfOk, IfErr, IfSome, Some, ℕ};
+    ghost use Rattle.rasn_schema.specs.Named.{IsNamed};
     ghost use Rattle.rasn_types.specs.Lawful.{IsLawful};
     ghost use Rattle.rasn_schema.specs.Shapes.{shape_of_type};
     ghost use Rattle.rasn_schema.specs.Faults.{IsFault};
@@ -35,7 +43,7 @@ impl Schema {
         if let Some(fault) = first_other_fault(types.as_slice(), levels) {
             return Err(fault);
         }
-        Ok(Schema { types })
+        Ok(Schema { types, names: None })
     }
 
     /// Returns the types. Each is lawful, however deep it is read.
@@ -44,5 +52,41 @@ impl Schema {
         ensures lawful { (levels id : ℕ) → IsLawful (shape_of_type result.now levels id) }
     {
         self.types.as_slice()
+    }
+
+    /// Returns the schema with these names of types.
+    pub fn with_names(self, names: Vec<TypeName>) -> Schema
+        ensures { result.types ≡ self.types }
+    {
+        let Schema { types, .. } = self;
+        Schema {
+            types,
+            names: Some(names),
+        }
+    }
+
+    /// Returns the number of the first type with this name, if there is one.
+    pub fn type_named(&self, name: &str) -> Option<TypeId>
+        ensures { IfSome result (λ id. (names : _) × (self.now.names ≡ Some names) × IsNamed names.items name.now id) }
+    {
+        match &self.names {
+            Some(names) => type_named(names, name),
+            None => None,
+        }
+    }
+
+    /// Returns a value with its type, whose parts are found by index and by name.
+    pub fn view<'view, 'input>(
+        &'view self,
+        type_id: TypeId,
+        value: &'view Value<'input>,
+    ) -> View<'view, 'input>
+        ensures { result.value.now ≡ value.now }
+    {
+        View {
+            schema: self,
+            type_id,
+            value,
+        }
     }
 }
