@@ -13,3 +13,6 @@ pub mod Fitted
 pub mod FitsRead
 pub mod FixedOctets
 pub mod Numbers
+pub mod ListsOf
+pub mod UnfitParts
+pub mod LeafWritten

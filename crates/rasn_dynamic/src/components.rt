@@ -75,7 +75,7 @@ pub fn missing<'input>(
     match &component.presence {
         Presence::Required => unreachable!(),
         Presence::Optional | Presence::Addition => Ok(Value::Absent),
-        Presence::Default(value) => match value.copied(decoder.alloc()) {
+        Presence::Default(value) => match value.try_clone(decoder.alloc()) {
             Ok(value) => Ok(value),
             Err(_) => Err(out_of_memory(decoder)),
         },

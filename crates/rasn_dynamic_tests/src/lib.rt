@@ -11,3 +11,5 @@ mod messages;
 mod refused;
 #[cfg(test)]
 mod values;
+#[cfg(test)]
+mod written;
