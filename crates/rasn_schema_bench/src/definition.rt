@@ -1,7 +1,7 @@
 //! Types of a schema as tables of constants.
 
 use rasn_schema::{Alternative, Component, LeafKind, NamedNumber, Presence, Type, TypeId, Value};
-use rasn_types::types::{Constraints, Integer, Tag};
+use rasn_types::types::{Bound, Bounded, Constraints, Integer, Tag};
 use std::alloc::{AllocError, Global};
 
 /// A component: its name, whether it may be absent, and the number of its type.
@@ -46,6 +46,18 @@ pub enum Occurrence {
     /// DEFAULT 0.
     Zero,
 }
+
+/// SIZE (1..MAX)
+pub const ONE_OR_MORE: Constraints = Constraints {
+    value: None,
+    size: Some(Bound {
+        constraint: Bounded::Range {
+            start: Some(1),
+            end: None,
+        },
+        extensible: false,
+    }),
+};
 
 /// Returns the types of a table.
 ///

@@ -2,10 +2,14 @@
 #![tactic(auto)]
 
 mod answers;
+mod certificate;
 mod definition;
+mod filter;
 mod line_types;
 mod tags;
 
 pub use answers::{LineSchema, LineSchemaError};
-pub use definition::{Definition, Occurrence, Part, types};
+pub use certificate::{CERTIFICATE, CERTIFICATE_TYPES};
+pub use definition::{Definition, ONE_OR_MORE, Occurrence, Part, types};
+pub use filter::{FILTER, FILTER_TYPES};
 pub use line_types::{LINE_TYPES, type_id};
