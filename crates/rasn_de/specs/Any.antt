@@ -44,6 +44,11 @@ abbrev pub DecodesOpenType : Tag → State → Result Any DecodeError → State 
 DecodesOpenType tag old (Ok a) new = OpenAt old.rule (looked_for tag) old.rest (Ok (a, new.rest)) × (new ≡ at old new.rest)
 DecodesOpenType tag old (Err e) new = ((IsOutOfMemory e.kind × (e.codec ≡ old.rule) × (p : List ℕ × List ℕ) × OpenAt old.rule (looked_for tag) old.rest (Ok p)) ⊎ ((fault : ParseError) × OpenAt old.rule (looked_for tag) old.rest (Err fault) × IsErrorOf fault old e)) × (new ≡ old)
 
+-- A call returns the octets, or the first fault, which consumes nothing.
+abbrev pub BorrowsOpenType : Tag → State → Result (Bor (List ℕ)) DecodeError → State → Type 0
+BorrowsOpenType tag old (Ok o) new = OpenAt old.rule (looked_for tag) old.rest (Ok (o.now, new.rest)) × (new ≡ at old new.rest)
+BorrowsOpenType tag old (Err e) new = ((fault : ParseError) × OpenAt old.rule (looked_for tag) old.rest (Err fault) × IsErrorOf fault old e) × (new ≡ old)
+
 -- One complete encoding is passed, in so many steps; or there is none, this is the first fault, and nothing is consumed.
 abbrev pub SkipsValue : State → Result ℕ DecodeError → State → Type 0
 SkipsValue old (Ok n) new = Exactly (Skipped old.rule old.rest) (IsFault old.rule old.rest) (Ok (n, new.rest)) × (new ≡ at old new.rest)

@@ -5,6 +5,7 @@ use Rattle.std.specs.Cow.{cow_slice_items, cow_str_bytes, IsOwnedSlice, IsOwnedS
 use Rattle.std.specs.declared.borrow.CowSlice.{CowSlice}
 use Rattle.std.specs.declared.alloc.Global.{Global}
 use Rattle.std.specs.declared.borrow.CowStr.{CowStr}
+use Rattle.std.specs.declared.borrow.CowStr.TheVariants as text
 use Rattle.rasn_types.specs.declared.types.constraints.Constraints.{Constraints}
 use Rattle.rasn_types.specs.Tags.{in_universal}
 use Rattle.rasn_types.specs.declared.types.tag.Tag.{Tag}
@@ -93,12 +94,26 @@ DecodesString see Told tag old (Err e) new =
     AllocFailsCollecting tag old e new ⊎ (AllocFailsCopying Told tag old e new
     ⊎ ((IsOutOfMemory e.kind → ⊥) × FailsAs (StringAt Told old.rule old.depth tag old.rest) old e new))
 
--- A call answers what the reading is, or an allocation fails while segments are gathered. Octets of a primitive string are lent, so nothing is copied.
+-- The characters are borrowed from a primitive string alone.
+abbrev pub IsTextBorrowedIfPrimitive : Codec → Tag → List ℕ → CowStr Global → Type 0
+IsTextBorrowedIfPrimitive rule tag l (text.Borrowed s) = IsPrimitive rule tag l
+IsTextBorrowedIfPrimitive rule tag l (text.Owned s) = IsConstructed rule tag l
+
+-- A call returns what the reading is, or an allocation fails while segments are gathered. A primitive string is borrowed, so nothing is copied.
+abbrev pub DecodesBorrowed : {X : Type 0} → (X → List ℕ) → (Codec → Tag → List ℕ → X → Type 0) → StringCheck → Tag → State → Result X DecodeError → State → Type 0
+DecodesBorrowed see borrowed Told tag old (Ok s) new =
+    DecodesLeaf see (StringAt Told old.rule old.depth tag old.rest) old (Ok s) new × borrowed old.rule tag old.rest s
+DecodesBorrowed see borrowed Told tag old (Err e) new =
+    AllocFailsCollecting tag old e new ⊎ ((IsOutOfMemory e.kind → ⊥) × FailsAs (StringAt Told old.rule old.depth tag old.rest) old e new)
+
 abbrev pub DecodesOctetString : Tag → Constraints → State → Result (CowSlice ℕ Global) DecodeError → State → Type 0
-DecodesOctetString tag bounds old (Ok s) new =
-    DecodesLeaf cow_slice_items (StringAt (BySize bounds.size) old.rule old.depth tag old.rest) old (Ok s) new × IsBorrowedIfPrimitive old.rule tag old.rest s
-DecodesOctetString tag bounds old (Err e) new =
-    AllocFailsCollecting tag old e new ⊎ ((IsOutOfMemory e.kind → ⊥) × FailsAs (StringAt (BySize bounds.size) old.rule old.depth tag old.rest) old e new)
+DecodesOctetString tag bounds = DecodesBorrowed cow_slice_items IsBorrowedIfPrimitive (BySize bounds.size) tag
+
+abbrev pub DecodesRestricted : Alphabet → Tag → Constraints → State → Result (CowSlice ℕ Global) DecodeError → State → Type 0
+DecodesRestricted alphabet tag bounds = DecodesBorrowed cow_slice_items IsBorrowedIfPrimitive (ByAlphabet alphabet bounds.size) tag
+
+abbrev pub DecodesText : Tag → Constraints → State → Result (CowStr Global) DecodeError → State → Type 0
+DecodesText tag bounds = DecodesBorrowed (λ s. chars (cow_str_bytes s)) IsTextBorrowedIfPrimitive (ByUtf8 bounds.size) tag
 
 -- A function that looks at octets tells their numbers as they are, or the first refusal.
 abbrev pub ChecksString : StringCheck → List ℕ → List ℕ → Result (Unit {0}) ParseError → Type 0
@@ -112,5 +127,5 @@ IsWithinSize c n (Err f) = IsOutOfSize c.size n f
 
 -- Octets as text, owned where they are, or the refusal of what isn't UTF-8.
 abbrev pub ParsesUtf8 : CowSlice ℕ Global → Result (CowStr Global) ParseError → Type 0
-ParsesUtf8 s (Ok t) = (cow_str_bytes t ≡ cow_slice_items s) × (IsOwnedSlice s → IsOwnedStr t)
+ParsesUtf8 s (Ok t) = (cow_str_bytes t ≡ cow_slice_items s) × (IsOwnedSlice s → IsOwnedStr t) × (IsOwnedStr t → IsOwnedSlice s)
 ParsesUtf8 s (Err f) = (IsUtf8 (cow_slice_items s) → ⊥) × (f ≡ StringConversionFailed (in_universal 12))

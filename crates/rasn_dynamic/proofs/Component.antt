@@ -79,19 +79,19 @@ module _ (ps : Parts) (before after : List (Option Tree)) (old : State) where
 -- It is of a component.
 module _ (f : ℕ → Shape) (ps : List Component) (k : ℕ) (p : Component) (tag : Tag) (h : AreLawfulByTag (components_by f ps)) (b : IsComponentFor f ps tag k p) (old new : State) (n : NextTag (form old.rule) old.rest tag)
     (before : List (Option Value)) where
-  only : IsOnlyAlternative (components_by f ps) k (presence_of p.presence) (f p.type_id) tag
+  only : IsOnlyAlternative (components_by f ps) k (presence_of p.presence) (f p.type_id.0) tag
   only = only_part f tag ps k p (by_tag_distinguished (components_by f ps) h) b
 
-  pub next_unread : (e : DecodeError) → Decodes (f p.type_id) tree_of old (Err e) new → DecodesNext (components_by f ps) (held before) old (Err e) new (held before)
-  next_unread e k' = inl (inl (alternative_refused (components_by f ps) k (presence_of p.presence) (f p.type_id) tag n only e.kind (one_refused (presence_of p.presence) (f p.type_id) tag b.1 old n e.kind new k')))
+  pub next_unread : (e : DecodeError) → Decodes (f p.type_id.0) tree_of old (Err e) new → DecodesNext (components_by f ps) (held before) old (Err e) new (held before)
+  next_unread e k' = inl (inl (alternative_refused (components_by f ps) k (presence_of p.presence) (f p.type_id.0) tag n only e.kind (one_refused (presence_of p.presence) (f p.type_id.0) tag b.1 old n e.kind new k')))
 
-  module _ (v : Value) (d : Decodes (f p.type_id) tree_of old (Ok v) new) where
+  module _ (v : Value) (d : Decodes (f p.type_id.0) tree_of old (Ok v) new) where
     pub next_default : (e : DecodeError) → ChecksDefault (presence_of p.presence) new v (Err e) → DecodesNext (components_by f ps) (held before) old (Err e) new (held before)
-    next_default e c = inl (inl (alternative_refused (components_by f ps) k (presence_of p.presence) (f p.type_id) tag n only e.kind (one_checked (presence_of p.presence) (f p.type_id) tag b.1 old n v new d (Err e) c)))
+    next_default e c = inl (inl (alternative_refused (components_by f ps) k (presence_of p.presence) (f p.type_id.0) tag n only e.kind (one_checked (presence_of p.presence) (f p.type_id.0) tag b.1 old n v new d (Err e) c)))
 
     module _ (w : Value) (c : ChecksDefault (presence_of p.presence) new v (Ok w)) where
       got : DecodesExactly (λ rule. Reads rule (choice (components_by f ps))) old (Got (chosen k (tree_of w)) new.rest) new
-      got = alternative_got (components_by f ps) k (presence_of p.presence) (f p.type_id) tag n only (one_checked (presence_of p.presence) (f p.type_id) tag b.1 old n v new d (Ok w) c)
+      got = alternative_got (components_by f ps) k (presence_of p.presence) (f p.type_id.0) tag n only (one_checked (presence_of p.presence) (f p.type_id.0) tag b.1 old n v new d (Ok w) c)
 
       pub next_idle : (left : ℕ) → left ≡ length old.rest → length new.rest ≡ left → (e : DecodeError) → IsErrorOf (UnexpectedExtraData left) new e → DecodesNext (components_by f ps) (held before) old (Err e) new (held before)
       next_idle left g l e x = inl (inr (chosen k (tree_of w), got, inl (l ∙ g, rules_same old new (UnexpectedExtraData (length old.rest)) e (call_keeps got) (subst (λ m. IsErrorOf (UnexpectedExtraData m) new e) g x))))

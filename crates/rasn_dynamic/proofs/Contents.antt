@@ -1,12 +1,12 @@
 -- What is read inside values that hold others: elements, components and alternatives.
-use Rattle.std.proofs.Common.{◌≡◌, ℕ, zero, suc, ◌≤◌, ◌<◌, inl, inr, Bool, List, [], ◌∷◌, ◌++◌, map, length, get_or, Vec, Global, Result, Ok, Err, refl, sym, ap, ◌∙◌, subst, arith}
+use Rattle.std.proofs.Common.{◌≡◌, ℕ, zero, suc, ◌≤◌, inl, inr, Bool, List, [], ◌∷◌, ◌++◌, map, length, Vec, Global, Result, Ok, Err, refl, sym, ap, ◌∙◌, subst}
 use Rattle.std.proofs.lemmas.List.{length-map}
-use Rattle.std.specs.Prelude.{Option}
+use Rattle.std.specs.Prelude.{Option, Some, slice_get}
 use Rattle.rasn_types.specs.declared.types.tag.Tag.{Tag}
 use Rattle.rasn_types.specs.declared.types.constraints.Bound.{Bound}
 use Rattle.rasn_types.specs.declared.error.decode.DecodeError.{DecodeError}
 use Rattle.rasn_types.specs.declared.error.decode.DecodeErrorKind.{DecodeErrorKind}
-use Rattle.rasn_types.specs.Shapes.{Tree, items, done, joined, set_elements, Shape, prefix, seq, set, list, set_of, Parts, part, required, Presence, Admits, IsFirst, IsFirstOf}
+use Rattle.rasn_types.specs.Shapes.{Tree, items, done, joined, set_elements, Shape, prefix, seq, set, list, set_of, Parts, part, required, Presence, Admits, IsFirst}
 use Rattle.rasn_types.specs.Shapes.Parts.{none}
 use Rattle.rasn_types.specs.Trees.{list_tree}
 use Rattle.rasn_types.specs.Lawful.{IsLawful, AreDistinguished, AreAlternatives, AreLawfulInOrder, AreLawfulByTag}
@@ -30,13 +30,16 @@ use Rattle.rasn_schema.specs.Trees.{tree_of}
 use Rattle.rasn_types.specs.declared.types.codec.Codec.{Codec}
 use Rattle.rasn_types.specs.declared.types.constraints.Constraints.{Constraints}
 use Rattle.rasn_schema.specs.declared.types.«Type».{«Type»}
-use Rattle.rasn_schema.specs.declared.types.«Type».TheVariants.{Leaf, Any, Tagged, Choice, Sequence, Set, SequenceOf, SetOf}
+use Rattle.rasn_schema.specs.declared.types.«Type».TheVariants.{Leaf, Enumerated, Any, Tagged, Choice, Sequence, Set, SequenceOf, SetOf}
+use Rattle.rasn_schema.specs.declared.type_id.TypeId.{TypeId}
+use Rattle.rasn_schema.specs.declared.types.Alternative.{Alternative}
 use Rattle.rasn_schema.specs.declared.types.Component.{Component}
 use Rattle.rasn_schema.specs.Shapes.{alternatives_by, type_by}
 use Rattle.rasn_dynamic.specs.Inside.{ReadsInside, ReadsSequence}
 use Rattle.rasn_dynamic.specs.SetSlots.{ReadsSetParts}
 use Rattle.rasn_dynamic.specs.Calls.{IsSized, IsSizedSet}
 use Rattle.rasn_schema.proofs.Values.{tree_items, tree_elements}
+use Rattle.rasn_schema.proofs.Alternatives.{first_of_all}
 
 -- ---- nothing
 
@@ -215,11 +218,12 @@ inside_set tag ps old new o k = k
 
 -- A type that holds no others has no such contents.
 module _ (f : ℕ → Shape) where
-  none_inside : (ty : «Type») → ((tag : Tag) (k : ℕ) → ty ≡ Tagged tag k → ⊥) → ((tag : Tag) (ps : Vec Component Global) → ty ≡ Sequence tag ps → ⊥) → ((tag : Tag) (ps : Vec Component Global) → ty ≡ Set tag ps → ⊥)
-      → ((tag : Tag) (k : ℕ) (c : Constraints) → ty ≡ SequenceOf tag k c → ⊥) → ((tag : Tag) (k : ℕ) (c : Constraints) → ty ≡ SetOf tag k c → ⊥)
+  none_inside : (ty : «Type») → ((tag : Tag) (k : TypeId) → ty ≡ Tagged tag k → ⊥) → ((tag : Tag) (ps : Vec Component Global) → ty ≡ Sequence tag ps → ⊥) → ((tag : Tag) (ps : Vec Component Global) → ty ≡ Set tag ps → ⊥)
+      → ((tag : Tag) (k : TypeId) (c : Constraints) → ty ≡ SequenceOf tag k c → ⊥) → ((tag : Tag) (k : TypeId) (c : Constraints) → ty ≡ SetOf tag k c → ⊥)
       → (rule : Codec) (depth : ℕ) (closing : Bool) (input : List ℕ) (t : Tree) (r : List ℕ) → ReadsInside (type_by f ty) rule depth closing input t r → ⊥
   unfolding ReadsInside
-  none_inside (Leaf kind tag c) a b d e g rule depth closing input t r h = h
+  none_inside (Leaf kind tag c names) a b d e g rule depth closing input t r h = h
+  none_inside (Enumerated tag ns) a b d e g rule depth closing input t r h = h
   none_inside (Any tag) a b d e g rule depth closing input t r h = h
   none_inside (Tagged tag k) a b d e g rule depth closing input t r h = a tag k refl
   none_inside (Choice name ks) a b d e g rule depth closing input t r h = h
@@ -228,8 +232,8 @@ module _ (f : ℕ → Shape) where
   none_inside (SequenceOf tag k c) a b d e g rule depth closing input t r h = e tag k c refl
   none_inside (SetOf tag k c) a b d e g rule depth closing input t r h = g tag k c refl
 
-  pub inside_none : (ty : «Type») → ((tag : Tag) (k : ℕ) → ty ≡ Tagged tag k → ⊥) → ((tag : Tag) (ps : Vec Component Global) → ty ≡ Sequence tag ps → ⊥) → ((tag : Tag) (ps : Vec Component Global) → ty ≡ Set tag ps → ⊥)
-      → ((tag : Tag) (k : ℕ) (c : Constraints) → ty ≡ SequenceOf tag k c → ⊥) → ((tag : Tag) (k : ℕ) (c : Constraints) → ty ≡ SetOf tag k c → ⊥)
+  pub inside_none : (ty : «Type») → ((tag : Tag) (k : TypeId) → ty ≡ Tagged tag k → ⊥) → ((tag : Tag) (ps : Vec Component Global) → ty ≡ Sequence tag ps → ⊥) → ((tag : Tag) (ps : Vec Component Global) → ty ≡ Set tag ps → ⊥)
+      → ((tag : Tag) (k : TypeId) (c : Constraints) → ty ≡ SequenceOf tag k c → ⊥) → ((tag : Tag) (k : TypeId) (c : Constraints) → ty ≡ SetOf tag k c → ⊥)
       → (old : State) (kind : DecodeErrorKind) → DecodesExactly (ReadsInside (type_by f ty)) old (refusal kind) old
   inside_none ty a b d e g old kind = record {
     stays = refl;
@@ -262,19 +266,17 @@ set_lawful tag ps h = h.1
 -- ---- alternatives
 
 module _ (f : ℕ → Shape) where
-  first_of_all : (ks : List ℕ) (k : ℕ) (tag : Tag) → k < length ks → IsFirst (f (get_or ks k 0)) tag → IsFirstOf (alternatives_by f ks) tag
-  first_of_all [] k tag l h = absurd (omega (arith, l))
-  first_of_all (j ∷ ks) zero tag l h = inl h
-  first_of_all (j ∷ ks) (suc k) tag l h = inr (first_of_all ks k tag (omega (arith, l)) h)
-
   -- An alternative is the only one that may begin with its first tags.
-  pub only_at : (ks : List ℕ) (k : ℕ) (tag : Tag) → AreDistinguished (alternatives_by f ks) → k < length ks → IsFirst (f (get_or ks k 0)) tag → IsOnlyAlternative (alternatives_by f ks) k required (f (get_or ks k 0)) tag
-  only_at [] k tag d l h = absurd (omega (arith, l))
-  only_at (j ∷ ks) zero tag d l h = (refl, refl, h, λ g. d.0 tag h g)
-  only_at (j ∷ ks) (suc k) tag d l h = ((λ g. d.0 tag g (first_of_all ks k tag (omega (arith, l)) h)), only_at ks k tag d.1 (omega (arith, l)) h)
+  pub only_at : (ks : List Alternative) (k : ℕ) (a : Alternative) (tag : Tag) → AreDistinguished (alternatives_by f ks) → Some a ≡ slice_get ks k → IsFirst (f a.type_id.0) tag
+      → IsOnlyAlternative (alternatives_by f ks) k required (f a.type_id.0) tag
+  only_at [] k a tag d e h = absurd cc
+  only_at (b ∷ ks) zero a tag d e h =
+      let same : b ≡ a = cc in
+      (refl, ap (λ (x : Alternative). f x.type_id.0) same, h, λ g. d.0 tag (subst (λ (x : Alternative). IsFirst (f x.type_id.0) tag) (sym same) h) g)
+  only_at (b ∷ ks) (suc k) a tag d e h = ((λ g. d.0 tag g (first_of_all f tag ks k a e h)), only_at ks k a tag d.1 e h)
 
-  pub alternative_lawful : (ks : List ℕ) (k : ℕ) → AreAlternatives (alternatives_by f ks) → k < length ks → IsLawful (f (get_or ks k 0))
+  pub alternative_lawful : (ks : List Alternative) (k : ℕ) (a : Alternative) → AreAlternatives (alternatives_by f ks) → Some a ≡ slice_get ks k → IsLawful (f a.type_id.0)
   unfolding IsLawful
-  alternative_lawful [] k h l = absurd (omega (arith, l))
-  alternative_lawful (j ∷ ks) zero h l = h.3
-  alternative_lawful (j ∷ ks) (suc k) h l = alternative_lawful ks k h.4 (omega (arith, l))
+  alternative_lawful [] k a h e = absurd cc
+  alternative_lawful (b ∷ ks) zero a h e = let same : b ≡ a = cc in subst (λ (x : Alternative). IsLawful (f x.type_id.0)) same h.3
+  alternative_lawful (b ∷ ks) (suc k) a h e = alternative_lawful ks k a h.4 e

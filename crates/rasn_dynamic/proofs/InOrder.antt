@@ -32,7 +32,7 @@ module _ (f : ℕ → Shape) where
 
   required_same : (ps : List Component) → has_required (components_by f ps) ≡ any_required ps
   required_same [] = refl
-  required_same (p ∷ ps) = rw (← required_same ps) (one_required p.presence (f p.type_id) (components_by f ps))
+  required_same (p ∷ ps) = rw (← required_same ps) (one_required p.presence (f p.type_id.0) (components_by f ps))
 
   missing_same : (rule : Codec) (ps : List Component) (depth : ℕ) (closing : Bool) (ts : List Tree) → AllMissing (presences_in ps) ts → AllMissing (presences_of_parts (parts_of rule (components_by f ps) depth closing)) ts
   unfolding parts_of

@@ -29,28 +29,28 @@ got_below (q ∷ ps) zero p e = omega arith
 got_below (q ∷ ps) (suc k) p e = omega (arith, got_below ps k p e)
 
 module _ (f : ℕ → Shape) (tag : Tag) where
-  pub first_of_no_part : (ps : List Component) → ((k : ℕ) (p : Component) → Some p ≡ slice_get ps k → IsFirst (f p.type_id) tag → ⊥) → IsFirstOf (components_by f ps) tag → ⊥
+  pub first_of_no_part : (ps : List Component) → ((k : ℕ) (p : Component) → Some p ≡ slice_get ps k → IsFirst (f p.type_id.0) tag → ⊥) → IsFirstOf (components_by f ps) tag → ⊥
   first_of_no_part [] n h = h
   first_of_no_part (p ∷ ps) n (inl h) = n 0 p refl h
   first_of_no_part (p ∷ ps) n (inr h) = first_of_no_part ps (λ k q e g. n (suc k) q e g) h
 
-  first_of_part : (ps : List Component) (k : ℕ) (p : Component) → Some p ≡ slice_get ps k → IsFirst (f p.type_id) tag → IsFirstOf (components_by f ps) tag
+  first_of_part : (ps : List Component) (k : ℕ) (p : Component) → Some p ≡ slice_get ps k → IsFirst (f p.type_id.0) tag → IsFirstOf (components_by f ps) tag
   first_of_part [] k p e h = cc
-  first_of_part (q ∷ ps) zero p e h = inl (let same : p ≡ q = cc in subst (λ x. IsFirst (f x.type_id) tag) same h)
+  first_of_part (q ∷ ps) zero p e h = inl (let same : p ≡ q = cc in subst (λ x. IsFirst (f x.type_id.0) tag) same h)
   first_of_part (q ∷ ps) (suc k) p e h = inr (first_of_part ps k p e h)
 
   -- A component is the only one that may begin with its first tags.
-  pub only_part : (ps : List Component) (k : ℕ) (p : Component) → AreDistinguished (components_by f ps) → IsComponentFor f ps tag k p → IsOnlyAlternative (components_by f ps) k (presence_of p.presence) (f p.type_id) tag
+  pub only_part : (ps : List Component) (k : ℕ) (p : Component) → AreDistinguished (components_by f ps) → IsComponentFor f ps tag k p → IsOnlyAlternative (components_by f ps) k (presence_of p.presence) (f p.type_id.0) tag
   only_part [] k p d (e, h) = cc
   only_part (q ∷ ps) zero p d (e, h) =
       let same : q ≡ p = cc in
-      (ap (λ (x : Component). presence_of x.presence) same, ap (λ (x : Component). f x.type_id) same, h, λ g. d.0 tag (subst (λ x. IsFirst (f x.type_id) tag) (sym same) h) g)
+      (ap (λ (x : Component). presence_of x.presence) same, ap (λ (x : Component). f x.type_id.0) same, h, λ g. d.0 tag (subst (λ x. IsFirst (f x.type_id.0) tag) (sym same) h) g)
   only_part (q ∷ ps) (suc k) p d (e, h) = ((λ g. d.0 tag g (first_of_part ps k p e h)), only_part ps k p d.1 (e, h))
 
-pub part_lawful : (f : ℕ → Shape) (ps : List Component) (k : ℕ) (p : Component) → AreLawfulByTag (components_by f ps) → Some p ≡ slice_get ps k → IsLawful (f p.type_id)
+pub part_lawful : (f : ℕ → Shape) (ps : List Component) (k : ℕ) (p : Component) → AreLawfulByTag (components_by f ps) → Some p ≡ slice_get ps k → IsLawful (f p.type_id.0)
 unfolding IsLawful
 part_lawful f [] k p h e = cc
-part_lawful f (q ∷ ps) zero p h e = let same : q ≡ p = cc in subst (λ (x : Component). IsLawful (f x.type_id)) same h.3
+part_lawful f (q ∷ ps) zero p h e = let same : q ≡ p = cc in subst (λ (x : Component). IsLawful (f x.type_id.0)) same h.3
 part_lawful f (q ∷ ps) (suc k) p h e = part_lawful f ps k p h.5 e
 
 not_below_itself : (n : Tag) → IsTagBelow n n → ⊥

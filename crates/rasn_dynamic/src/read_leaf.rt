@@ -2,8 +2,9 @@
 ghost use Rattle.std.specs.Prelude.{◌≡◌, ◌++◌, ◌∷◌, [], OnOk, IfOk, IfErr, Contains};
 ghost use Rattle.rasn_types.specs.Errors.{IsOutOfMemory};
 ghost use Rattle.rasn_types.specs.CharacterString.{string_kind};
-ghost use Rattle.rasn_types.specs.Shapes.{leaf, any, looked_for, boolean, null, object_identifier, bit_string, octet_string, fixed, integer, enumerated, every, bmp, utf8, utc_time, generalized_time, date};
+ghost use Rattle.rasn_types.specs.Shapes.{leaf, any, looked_for, fixed, integer, enumerated, utc_time};
 ghost use Rattle.rasn_types.specs.Trees.{unconstrained};
+ghost use Rattle.rasn_types.specs.declared.types.constraints.Constraints.{Constraints};
 ghost use Rattle.rasn_types.specs.Truth.{IsWhether};
 ghost use Rattle.rasn_de.specs.Decodes.{Decodes};
 ghost use Rattle.rasn_de.specs.Steps.{IsErrorOf};
@@ -16,8 +17,7 @@ use rasn_de::de::Decode;
 use rasn_schema::{LeafKind, NamedNumber, Value};
 use rasn_types::error::{DecodeError, DecodeErrorKind};
 use rasn_types::types::{
-    Alphabet, Bounded, Constraints, Date, GeneralizedTime, Integer, IntegerType, LONGEST_NUMBER,
-    ObjectIdentifier, Tag, UtcTime,
+    Alphabet, Bounded, Constraints, GeneralizedTime, Integer, IntegerType, LONGEST_NUMBER, Tag,
 };
 use std::alloc::{AllocError, Global};
 use std::borrow::CowSlice;
@@ -48,42 +48,6 @@ pub(crate) fn push<'input>(
         Ok(()) => Ok(()),
         Err(_) => Err(out_of_memory(decoder)),
     }
-}
-
-#[inline(always)]
-fn decode_boolean<'input>(
-    decoder: &mut Decoder<'input>,
-    tag: Tag,
-    constraints: &Constraints,
-) -> Result<Value<'input>, DecodeError>
-    ensures { Decodes (leaf boolean tag constraints.now) tree_of decoder.old result decoder.new }
-{
-    let flag = decoder.decode_bool(tag)?;
-    Ok(Value::Boolean(flag))
-}
-
-#[inline(always)]
-fn decode_null<'input>(
-    decoder: &mut Decoder<'input>,
-    tag: Tag,
-    constraints: &Constraints,
-) -> Result<Value<'input>, DecodeError>
-    ensures { Decodes (leaf null tag constraints.now) tree_of decoder.old result decoder.new }
-{
-    decoder.decode_null(tag)?;
-    Ok(Value::Null)
-}
-
-#[inline(always)]
-fn decode_integer<'input>(
-    decoder: &mut Decoder<'input>,
-    tag: Tag,
-    constraints: &Constraints,
-) -> Result<Value<'input>, DecodeError>
-    ensures { Decodes (leaf (integer every) tag constraints.now) tree_of decoder.old result decoder.new }
-{
-    let number = Integer::decode_with_tag_and_constraints(decoder, tag, constraints)?;
-    Ok(Value::Integer(number))
 }
 
 /// Returns a number of a fixed width as one of any length.
@@ -124,42 +88,6 @@ fn decode_fixed_width<'input, I: IntegerType + Decode>(
     }
 }
 
-#[inline(always)]
-fn decode_arcs<'input>(
-    decoder: &mut Decoder<'input>,
-    tag: Tag,
-    constraints: &Constraints,
-) -> Result<Value<'input>, DecodeError>
-    ensures { Decodes (leaf object_identifier tag constraints.now) tree_of decoder.old result decoder.new }
-{
-    let arcs = ObjectIdentifier::decode_with_tag_and_constraints(decoder, tag, constraints)?;
-    Ok(Value::Arcs(arcs))
-}
-
-#[inline(always)]
-fn decode_bits<'input>(
-    decoder: &mut Decoder<'input>,
-    tag: Tag,
-    constraints: &Constraints,
-) -> Result<Value<'input>, DecodeError>
-    ensures { Decodes (leaf bit_string tag constraints.now) tree_of decoder.old result decoder.new }
-{
-    let bits = decoder.decode_bit_string(tag, constraints)?;
-    Ok(Value::Bits(bits))
-}
-
-#[inline(always)]
-fn decode_octets<'input>(
-    decoder: &mut Decoder<'input>,
-    tag: Tag,
-    constraints: &Constraints,
-) -> Result<Value<'input>, DecodeError>
-    ensures { Decodes (leaf octet_string tag constraints.now) tree_of decoder.old result decoder.new }
-{
-    let octets = decoder.decode_octet_string(tag, constraints)?;
-    Ok(Value::Octets(octets))
-}
-
 /// Reads an OCTET STRING of so many octets.
 fn decode_fixed_octets<'input>(
     decoder: &mut Decoder<'input>,
@@ -194,101 +122,56 @@ fn decode_restricted<'input>(
     Ok(Value::Octets(octets))
 }
 
-#[inline(always)]
-fn decode_text<'input>(
-    decoder: &mut Decoder<'input>,
-    tag: Tag,
-    constraints: &Constraints,
-) -> Result<Value<'input>, DecodeError>
-    ensures { Decodes (leaf utf8 tag constraints.now) tree_of decoder.old result decoder.new }
-{
-    let text = decoder.decode_utf8_text(tag, constraints)?;
-    Ok(Value::Text(text))
-}
-
-#[inline(always)]
-fn decode_units<'input>(
-    decoder: &mut Decoder<'input>,
-    tag: Tag,
-    constraints: &Constraints,
-) -> Result<Value<'input>, DecodeError>
-    ensures { Decodes (leaf bmp tag constraints.now) tree_of decoder.old result decoder.new }
-{
-    let text = decoder.decode_bmp_string(tag, constraints)?;
-    Ok(Value::Units(text))
-}
-
 /// Reads a UTCTime, as an instant with no offset.
 #[inline(always)]
 fn decode_utc_time<'input>(
     decoder: &mut Decoder<'input>,
     tag: Tag,
-    constraints: &Constraints,
 ) -> Result<Value<'input>, DecodeError>
-    ensures { Decodes (leaf utc_time tag constraints.now) tree_of decoder.old result decoder.new }
+    ensures { (c : Constraints) → Decodes (leaf utc_time tag c) tree_of decoder.old result decoder.new }
 {
-    let time = UtcTime::decode_with_tag_and_constraints(decoder, tag, constraints)?;
+    let time = decoder.decode_utc_time(tag)?;
     match GeneralizedTime::new(time, 0) {
         Some(time) => Ok(Value::Instant(time)),
         None => unreachable!(),
     }
 }
 
-#[inline(always)]
-fn decode_generalized_time<'input>(
-    decoder: &mut Decoder<'input>,
-    tag: Tag,
-    constraints: &Constraints,
-) -> Result<Value<'input>, DecodeError>
-    ensures { Decodes (leaf generalized_time tag constraints.now) tree_of decoder.old result decoder.new }
-{
-    let time = GeneralizedTime::decode_with_tag_and_constraints(decoder, tag, constraints)?;
-    Ok(Value::Instant(time))
-}
-
-#[inline(always)]
-fn decode_date<'input>(
-    decoder: &mut Decoder<'input>,
-    tag: Tag,
-    constraints: &Constraints,
-) -> Result<Value<'input>, DecodeError>
-    ensures { Decodes (leaf date tag constraints.now) tree_of decoder.old result decoder.new }
-{
-    let day = Date::decode_with_tag_and_constraints(decoder, tag, constraints)?;
-    Ok(Value::Day(day))
-}
-
 /// Reads a value that holds no other values.
+#[tactic(auto, unfolding(rasn_types::specs::Grammar::Reads))]
 pub fn decode_leaf<'input>(
     decoder: &mut Decoder<'input>,
     kind: LeafKind,
     tag: Tag,
-    constraints: &Constraints,
+    bounds: &Constraints,
 ) -> Result<Value<'input>, DecodeError>
-    ensures { Decodes (leaf (kind_of kind) tag constraints.now) tree_of decoder.old result decoder.new }
+    ensures { Decodes (leaf (kind_of kind) tag bounds.now) tree_of decoder.old result decoder.new }
 {
     match kind {
-        LeafKind::Boolean => decode_boolean(decoder, tag, constraints),
-        LeafKind::Null => decode_null(decoder, tag, constraints),
-        LeafKind::ObjectIdentifier => decode_arcs(decoder, tag, constraints),
-        LeafKind::BitString => decode_bits(decoder, tag, constraints),
-        LeafKind::OctetString => decode_octets(decoder, tag, constraints),
-        LeafKind::FixedOctetString(len) => decode_fixed_octets(decoder, len, tag, constraints),
-        LeafKind::Integer => decode_integer(decoder, tag, constraints),
-        LeafKind::Signed32 => decode_fixed_width::<i32>(decoder, tag, constraints),
-        LeafKind::Signed64 => decode_fixed_width::<i64>(decoder, tag, constraints),
-        LeafKind::Unsigned32 => decode_fixed_width::<u32>(decoder, tag, constraints),
-        LeafKind::Unsigned64 => decode_fixed_width::<u64>(decoder, tag, constraints),
-        LeafKind::Numeric => decode_restricted(decoder, Alphabet::Numeric, tag, constraints),
-        LeafKind::Printable => decode_restricted(decoder, Alphabet::Printable, tag, constraints),
-        LeafKind::Visible => decode_restricted(decoder, Alphabet::Visible, tag, constraints),
-        LeafKind::Ia5 => decode_restricted(decoder, Alphabet::Ia5, tag, constraints),
-        LeafKind::AnyOctets => decode_restricted(decoder, Alphabet::Every, tag, constraints),
-        LeafKind::Bmp => decode_units(decoder, tag, constraints),
-        LeafKind::Utf8 => decode_text(decoder, tag, constraints),
-        LeafKind::UtcTime => decode_utc_time(decoder, tag, constraints),
-        LeafKind::GeneralizedTime => decode_generalized_time(decoder, tag, constraints),
-        LeafKind::Date => decode_date(decoder, tag, constraints),
+        LeafKind::Boolean => Ok(Value::Boolean(decoder.decode_bool(tag)?)),
+        LeafKind::Null => {
+            decoder.decode_null(tag)?;
+            Ok(Value::Null)
+        }
+        LeafKind::ObjectIdentifier => Ok(Value::Arcs(decoder.decode_object_identifier(tag)?)),
+        LeafKind::BitString => Ok(Value::Bits(decoder.decode_bit_string(tag, bounds)?)),
+        LeafKind::OctetString => Ok(Value::Octets(decoder.decode_octet_string(tag, bounds)?)),
+        LeafKind::FixedOctetString(len) => decode_fixed_octets(decoder, len, tag, bounds),
+        LeafKind::Integer => Ok(Value::Integer(decoder.decode_integer(tag, bounds)?)),
+        LeafKind::Signed32 => decode_fixed_width::<i32>(decoder, tag, bounds),
+        LeafKind::Signed64 => decode_fixed_width::<i64>(decoder, tag, bounds),
+        LeafKind::Unsigned32 => decode_fixed_width::<u32>(decoder, tag, bounds),
+        LeafKind::Unsigned64 => decode_fixed_width::<u64>(decoder, tag, bounds),
+        LeafKind::Numeric => decode_restricted(decoder, Alphabet::Numeric, tag, bounds),
+        LeafKind::Printable => decode_restricted(decoder, Alphabet::Printable, tag, bounds),
+        LeafKind::Visible => decode_restricted(decoder, Alphabet::Visible, tag, bounds),
+        LeafKind::Ia5 => decode_restricted(decoder, Alphabet::Ia5, tag, bounds),
+        LeafKind::AnyOctets => decode_restricted(decoder, Alphabet::Every, tag, bounds),
+        LeafKind::Bmp => Ok(Value::Units(decoder.decode_bmp_string(tag, bounds)?)),
+        LeafKind::Utf8 => Ok(Value::Text(decoder.decode_utf8_text(tag, bounds)?)),
+        LeafKind::UtcTime => decode_utc_time(decoder, tag),
+        LeafKind::GeneralizedTime => Ok(Value::Instant(decoder.decode_generalized_time(tag)?)),
+        LeafKind::Date => Ok(Value::Day(decoder.decode_date(tag)?)),
     }
 }
 

@@ -6,17 +6,20 @@ use Rattle.rasn_types.specs.Tags.{eoc}
 use Rattle.rasn_types.specs.Grammar.{family}
 use Rattle.rasn_types.specs.Shapes.{Shape}
 use Rattle.rasn_types.specs.Lawful.{IsBitFree}
+use Rattle.rasn_schema.specs.declared.type_id.TypeId.{TypeId}
 use Rattle.rasn_schema.specs.declared.types.Component.{Component}
+use Rattle.rasn_schema.specs.declared.types.Alternative.{Alternative}
+use Rattle.rasn_schema.specs.declared.types.NamedNumber.{NamedNumber}
 use Rattle.rasn_schema.specs.declared.types.LeafKind.{LeafKind}
 use Rattle.rasn_schema.specs.declared.types.«Type».{«Type»}
-use Rattle.rasn_schema.specs.declared.types.«Type».TheVariants.{Leaf, Any, Tagged, Choice, Sequence, Set, SequenceOf, SetOf}
+use Rattle.rasn_schema.specs.declared.types.«Type».TheVariants.{Leaf, Enumerated, Any, Tagged, Choice, Sequence, Set, SequenceOf, SetOf}
 use Rattle.rasn_schema.specs.declared.error.SchemaError.{SchemaError}
-use Rattle.rasn_schema.specs.declared.error.SchemaError.TheVariants.{ReservedTag, ConstructedTag, LateInner, NoAlternatives, LateAlternative, UntaggedAlternative, AlternativesClash, ComponentsClash, UntaggedComponent, AdditionInSet, UntaggedInSet, SetClash, SetOutOfOrder}
+use Rattle.rasn_schema.specs.declared.error.SchemaError.TheVariants.{ReservedTag, ConstructedTag, LateInner, NumbersClash, NoAlternatives, LateAlternative, UntaggedAlternative, AlternativesClash, ComponentsClash, UntaggedComponent, AdditionInSet, UntaggedInSet, SetClash, SetOutOfOrder}
 use Rattle.rasn_schema.specs.Shapes.{kind_of, presence_of, shape_of_type}
-use Rattle.rasn_schema.specs.Schemas.{IsPrefix, AreDistinct, IsBefore, AreLowerAndTagged, AreDistinctAlternatives, AreToldInOrder, IsToldFrom, AreTagged, AreInOrderOfTags, IsWellFormed, AreWellFormed, IsSchema, own_at, begin_at}
+use Rattle.rasn_schema.specs.Schemas.{IsPrefix, AreDistinct, IsBefore, AreLowerAndTagged, AreDistinctAlternatives, AreDistinctNumbers, AreToldInOrder, IsToldFrom, AreTagged, AreInOrderOfTags, IsWellFormed, AreWellFormed, IsSchema, own_at, begin_at}
 use Rattle.rasn_schema.specs.FirstTags.{IsAlwaysThere}
 use Rattle.rasn_schema.proofs.Firsts.{not_below}
-use Rattle.rasn_schema.specs.Faults.{IsTagFault, IsTaggedFault, IsLeafFault, IsAlternativesFault, IsSequenceFault, IsSetFault, IsFaultOf, SomeFault, IsFault}
+use Rattle.rasn_schema.specs.Faults.{IsTagFault, IsTaggedFault, IsLeafFault, IsNumbersFault, IsAlternativesFault, IsSequenceFault, IsSetFault, IsFaultOf, SomeFault, IsFault}
 
 -- the element at an index that is within the list
 slice_get_in : {X : Type 0} (l : List X) (i : ℕ) → i < length l → (x : X) × (Some x ≡ slice_get l i)
@@ -28,6 +31,7 @@ tag_broken : (id : ℕ) (tag : Tag) (e : SchemaError) → IsTagFault id tag e �
 tag_broken id tag (ReservedTag k) h w = w h.1
 tag_broken id tag (ConstructedTag k) h w = h
 tag_broken id tag (LateInner k) h w = h
+tag_broken id tag (NumbersClash k i j) h w = h
 tag_broken id tag (NoAlternatives k) h w = h
 tag_broken id tag (LateAlternative k i) h w = h
 tag_broken id tag (UntaggedAlternative k i) h w = h
@@ -43,6 +47,7 @@ tagged_broken : (f : ℕ → Shape) (id : ℕ) (tag : Tag) (j : ℕ) (e : Schema
 tagged_broken f id tag m (ReservedTag k) h w = w.0 h.1
 tagged_broken f id tag m (ConstructedTag k) h w = h
 tagged_broken f id tag m (LateInner k) h w = h.2 (w.1 h.1)
+tagged_broken f id tag m (NumbersClash k i j) h w = h
 tagged_broken f id tag m (NoAlternatives k) h w = h
 tagged_broken f id tag m (LateAlternative k i) h w = h
 tagged_broken f id tag m (UntaggedAlternative k i) h w = h
@@ -58,6 +63,7 @@ leaf_broken : (id : ℕ) (kind : LeafKind) (tag : Tag) (e : SchemaError) → IsL
 leaf_broken id kind tag (ReservedTag k) h w = w.0 h.1
 leaf_broken id kind tag (ConstructedTag k) h w = h.1 w.1
 leaf_broken id kind tag (LateInner k) h w = h
+leaf_broken id kind tag (NumbersClash k i j) h w = h
 leaf_broken id kind tag (NoAlternatives k) h w = h
 leaf_broken id kind tag (LateAlternative k i) h w = h
 leaf_broken id kind tag (UntaggedAlternative k i) h w = h
@@ -69,10 +75,27 @@ leaf_broken id kind tag (UntaggedInSet k i) h w = h
 leaf_broken id kind tag (SetClash k i j) h w = h
 leaf_broken id kind tag (SetOutOfOrder k i j) h w = h
 
-choice_broken : (f : ℕ → Shape) (id : ℕ) (ks : List ℕ) (e : SchemaError) → IsAlternativesFault f id ks e → (ks ≢ []) × AreLowerAndTagged f id ks × AreDistinctAlternatives f ks → ⊥
+numbers_broken : (id : ℕ) (tag : Tag) (ns : List NamedNumber) (e : SchemaError) → IsNumbersFault id tag ns e → (tag ≢ eoc) × AreDistinctNumbers ns → ⊥
+numbers_broken id tag ns (ReservedTag k) h w = w.0 h.1
+numbers_broken id tag ns (ConstructedTag k) h w = h
+numbers_broken id tag ns (LateInner k) h w = h
+numbers_broken id tag ns (NumbersClash k i j) (g, l, (m, n, d, e, s)) w = w.1 i j m n l d e s
+numbers_broken id tag ns (NoAlternatives k) h w = h
+numbers_broken id tag ns (LateAlternative k i) h w = h
+numbers_broken id tag ns (UntaggedAlternative k i) h w = h
+numbers_broken id tag ns (AlternativesClash k i j) h w = h
+numbers_broken id tag ns (ComponentsClash k i j) h w = h
+numbers_broken id tag ns (UntaggedComponent k i) h w = h
+numbers_broken id tag ns (AdditionInSet k i) h w = h
+numbers_broken id tag ns (UntaggedInSet k i) h w = h
+numbers_broken id tag ns (SetClash k i j) h w = h
+numbers_broken id tag ns (SetOutOfOrder k i j) h w = h
+
+choice_broken : (f : ℕ → Shape) (id : ℕ) (ks : List Alternative) (e : SchemaError) → IsAlternativesFault f id ks e → (ks ≢ []) × AreLowerAndTagged f id ks × AreDistinctAlternatives f ks → ⊥
 choice_broken f id ks (ReservedTag k) h w = h
 choice_broken f id ks (ConstructedTag k) h w = h
 choice_broken f id ks (LateInner k) h w = h
+choice_broken f id ks (NumbersClash k i j) h w = h
 choice_broken f id ks (NoAlternatives k) h w = w.0 h.1
 choice_broken f id ks (LateAlternative k i) (g, (a, e, n)) w = n (w.1 i a e).0
 choice_broken f id ks (UntaggedAlternative k i) (g, (a, e, n)) w = n (w.1 i a e).1
@@ -84,14 +107,15 @@ choice_broken f id ks (UntaggedInSet k i) h w = h
 choice_broken f id ks (SetClash k i j) h w = h
 choice_broken f id ks (SetOutOfOrder k i j) h w = h
 
-next : (own : ℕ → Option Tag) (f : ℕ → Shape) (ps : List Component) (i : ℕ) (p : Component) → i + 1 < length ps → Some p ≡ slice_get ps i → (IsAlwaysThere (presence_of p.presence) → ⊥) → own p.type_id ≡ None → AreToldInOrder own f ps → ⊥
+next : (own : ℕ → Option Tag) (f : ℕ → Shape) (ps : List Component) (i : ℕ) (p : Component) → i + 1 < length ps → Some p ≡ slice_get ps i → (IsAlwaysThere (presence_of p.presence) → ⊥) → own p.type_id.0 ≡ None → AreToldInOrder own f ps → ⊥
 next own f ps i p l d a n w = let q = slice_get_in ps (i + 1) l in
-    subst (λ o. IsToldFrom o (f q.0.type_id)) n (w i (i + 1) p q.0 d q.1 a (omega arith, λ m r u v. absurd (omega (arith, u, v))))
+    subst (λ o. IsToldFrom o (f q.0.type_id.0)) n (w i (i + 1) p q.0 d q.1 a (omega arith, λ m r u v. absurd (omega (arith, u, v))))
 
 sequence_broken : (own : ℕ → Option Tag) (f : ℕ → Shape) (id : ℕ) (tag : Tag) (ps : List Component) (e : SchemaError) → IsSequenceFault own f id tag ps e → (tag ≢ eoc) × AreToldInOrder own f ps → ⊥
 sequence_broken own f id tag ps (ReservedTag k) h w = w.0 h.1
 sequence_broken own f id tag ps (ConstructedTag k) h w = h
 sequence_broken own f id tag ps (LateInner k) h w = h
+sequence_broken own f id tag ps (NumbersClash k i j) h w = h
 sequence_broken own f id tag ps (NoAlternatives k) h w = h
 sequence_broken own f id tag ps (LateAlternative k i) h w = h
 sequence_broken own f id tag ps (UntaggedAlternative k i) h w = h
@@ -107,6 +131,7 @@ set_broken : (f : ℕ → Shape) (id : ℕ) (tag : Tag) (ps : List Component) (e
 set_broken f id tag ps (ReservedTag k) h w = w.0 h.1
 set_broken f id tag ps (ConstructedTag k) h w = h
 set_broken f id tag ps (LateInner k) h w = h
+set_broken f id tag ps (NumbersClash k i j) h w = h
 set_broken f id tag ps (NoAlternatives k) h w = h
 set_broken f id tag ps (LateAlternative k i) h w = h
 set_broken f id tag ps (UntaggedAlternative k i) h w = h
@@ -119,9 +144,10 @@ set_broken f id tag ps (SetClash k i j) (g, l, (p, q, d, e, n)) w = n (λ t a b.
 set_broken f id tag ps (SetOutOfOrder k i j) (g, l, (p, q, d, e, n)) w = n (w.2 i j p q l d e)
 
 type_broken : (own : ℕ → Option Tag) (f : ℕ → Shape) (id : ℕ) (ty : «Type») (e : SchemaError) → IsFaultOf own f id ty e → IsWellFormed own f id ty → ⊥
-type_broken own f id (Leaf kind tag c) e h w = leaf_broken id kind tag e h w
+type_broken own f id (Leaf kind tag c names) e h w = leaf_broken id kind tag e h w
+type_broken own f id (Enumerated tag ns) e h w = numbers_broken id tag ns.items e h w
 type_broken own f id (Any tag) e h w = h
-type_broken own f id (Tagged tag k) e h w = tagged_broken f id tag k e h w
+type_broken own f id (Tagged tag k) e h w = tagged_broken f id tag k.0 e h w
 type_broken own f id (Choice name ks) e h w = choice_broken f id ks.items e h w
 type_broken own f id (Sequence tag ps) e h w = sequence_broken own f id tag ps.items e h w
 type_broken own f id (Set tag ps) e h w = set_broken f id tag ps.items e h w
@@ -148,10 +174,10 @@ module _ (types ts : List «Type») (levels : ℕ) (s : ts ≡ types) (n : level
   schema_of h = schema_by types levels n (subst (λ l. AreWellFormed (own_at l) (shape_of_type l levels) l) s h)
 
 -- Two components of a SET that aren't in order.
-module _ (f : ℕ → Shape) (id : ℕ) (tag : Tag) (ps : List Component) (i j : ℕ) (p : Component) (h : Some p ≡ slice_get ps i) (next : ℕ)
-    (n : (i < j) × ((q : Component) × (Some q ≡ slice_get ps j) × (q.type_id ≡ next) × (IsBefore (f p.type_id) (f q.type_id) → ⊥))) where
-  pub set_clash_at : (AreDistinct (f p.type_id) (f next) → ⊥) → IsSetFault f id tag ps (SetClash id i j)
-  set_clash_at d = (refl, n.0, (p, n.1.0, h, n.1.1, λ a. d (subst (λ k. AreDistinct (f p.type_id) (f k)) n.1.2 a)))
+module _ (f : ℕ → Shape) (k : TypeId) (tag : Tag) (ps : List Component) (i j : ℕ) (p : Component) (h : Some p ≡ slice_get ps i) (next : TypeId)
+    (n : (i < j) × ((q : Component) × (Some q ≡ slice_get ps j) × (q.type_id ≡ next) × (IsBefore (f p.type_id.0) (f q.type_id.0) → ⊥))) where
+  pub set_clash_at : (AreDistinct (f p.type_id.0) (f next.0) → ⊥) → IsSetFault f k.0 tag ps (SetClash k i j)
+  set_clash_at d = (refl, n.0, (p, n.1.0, h, n.1.1, λ a. d (subst (λ m. AreDistinct (f p.type_id.0) (f m.0)) n.1.2 a)))
 
-  pub set_order_at : IsSetFault f id tag ps (SetOutOfOrder id i j)
+  pub set_order_at : IsSetFault f k.0 tag ps (SetOutOfOrder k i j)
   set_order_at = (refl, n.0, (p, n.1.0, h, n.1.1, n.1.3))

@@ -1,11 +1,14 @@
 -- What holds of all tags with which a type begins.
-use Rattle.std.proofs.Common.{◌≡◌, ◌≢◌, ℕ, zero, suc, ◌+◌, ◌<◌, ◌⊎◌, inl, inr, Bool, true, false, not, List, [], ◌∷◌, length, get_or, refl, sym, ap, subst, arith}
+use Rattle.std.proofs.Common.{◌≡◌, ◌≢◌, ℕ, zero, suc, ◌+◌, ◌<◌, ◌⊎◌, inl, inr, Bool, true, false, not, List, [], ◌∷◌, Some, refl, sym, ap, subst, arith}
+use Rattle.std.specs.Prelude.{slice_get}
 use Rattle.rasn_types.specs.declared.types.tag.Tag.{Tag}
 use Rattle.rasn_types.specs.Tags.{IsTagBelow}
 use Rattle.rasn_types.specs.Shapes.{Shape, Parts, IsFirst, IsFirstOf}
 use Rattle.rasn_types.specs.Truth.{IsWhether}
 use Rattle.rasn_schema.specs.declared.first_tags.FirstTags.TheVariants.{Nothing, One, Every, Of}
+use Rattle.rasn_schema.specs.declared.types.Alternative.{Alternative}
 use Rattle.rasn_schema.specs.Shapes.{alternatives_by}
+use Rattle.rasn_schema.proofs.Alternatives.{first_of_all, first_of_none}
 use Rattle.rasn_schema.specs.FirstTags.{EachFirst, EachFirstOf, AreFirstTags}
 use Rattle.std.proofs.Common.{Bor}
 
@@ -31,19 +34,17 @@ module _ (f : ℕ → Shape) (s : Shape) (Q : Tag → Type 0) where
   pub each_every : (b : Bool) → AreFirstTags f s Every → IsWhether b ((n : Tag) → Q n) → IsWhether b (EachFirst s Q)
   each_every b h w = whether_by b ((n : Tag) → Q n) (EachFirst s Q) (λ q n k. q n) (λ e n. e n (h n)) w
 
-  pub each_of : (ks : Bor (List ℕ)) (b : Bool) → AreFirstTags f s (Of ks) → IsWhether b (EachFirstOf (alternatives_by f ks.now) Q) → IsWhether b (EachFirst s Q)
+  pub each_of : (ks : Bor (List Alternative)) (b : Bool) → AreFirstTags f s (Of ks) → IsWhether b (EachFirstOf (alternatives_by f ks.now) Q) → IsWhether b (EachFirst s Q)
   each_of ks b h w = whether_by b (EachFirstOf (alternatives_by f ks.now) Q) (EachFirst s Q) (λ q n k. q n (h.0 n k)) (λ e n k. e n (h.1 n k)) w
 
 module _ (f : ℕ → Shape) (Q : Tag → Type 0) where
-  pub each_all : (ks : List ℕ) → ((k : ℕ) → k < length ks → EachFirst (f (get_or ks k 0)) Q) → EachFirstOf (alternatives_by f ks) Q
+  pub each_all : (ks : List Alternative) → ((k : ℕ) (a : Alternative) → Some a ≡ slice_get ks k → EachFirst (f a.type_id.0) Q) → EachFirstOf (alternatives_by f ks) Q
   each_all [] h n k = absurd k
-  each_all (j ∷ ks) h n (inl k) = h 0 (omega arith) n k
-  each_all (j ∷ ks) h n (inr k) = each_all ks (λ i l. h (suc i) (omega (arith, l))) n k
+  each_all (b ∷ ks) h n (inl k) = h 0 b refl n k
+  each_all (b ∷ ks) h n (inr k) = each_all ks (λ i a e. h (suc i) a e) n k
 
-  pub each_at : (ks : List ℕ) (k : ℕ) → k < length ks → EachFirstOf (alternatives_by f ks) Q → EachFirst (f (get_or ks k 0)) Q
-  each_at [] k l h = absurd (omega (arith, l))
-  each_at (j ∷ ks) zero l h = λ n g. h n (inl g)
-  each_at (j ∷ ks) (suc k) l h = each_at ks k (omega (arith, l)) (λ n g. h n (inr g))
+  pub each_at : (ks : List Alternative) (k : ℕ) (a : Alternative) → Some a ≡ slice_get ks k → EachFirstOf (alternatives_by f ks) Q → EachFirst (f a.type_id.0) Q
+  each_at ks k a e h = λ n g. h n (first_of_all f n ks k a e g)
 
 -- of beginning with some tag
 abbrev pub HasFirst : Shape → Type 0
@@ -52,37 +53,16 @@ HasFirst s = (n : Tag) × IsFirst s n
 abbrev pub HasFirstOf : Parts → Type 0
 HasFirstOf ps = (n : Tag) × IsFirstOf ps n
 
-pub some_of : (f : ℕ → Shape) (s : Shape) (ks : Bor (List ℕ)) (b : Bool) → AreFirstTags f s (Of ks) → IsWhether b (HasFirstOf (alternatives_by f ks.now)) → IsWhether b (HasFirst s)
+pub some_of : (f : ℕ → Shape) (s : Shape) (ks : Bor (List Alternative)) (b : Bool) → AreFirstTags f s (Of ks) → IsWhether b (HasFirstOf (alternatives_by f ks.now)) → IsWhether b (HasFirst s)
 some_of f s ks b h w = whether_by b (HasFirstOf (alternatives_by f ks.now)) (HasFirst s) (λ g. (g.0, h.1 g.0 g.1)) (λ g. (g.0, h.0 g.0 g.1)) w
 
 module _ (f : ℕ → Shape) where
-  pub some_at : (ks : List ℕ) (k : ℕ) → k < length ks → HasFirst (f (get_or ks k 0)) → HasFirstOf (alternatives_by f ks)
-  some_at [] k l h = absurd (omega (arith, l))
-  some_at (j ∷ ks) zero l h = (h.0, inl h.1)
-  some_at (j ∷ ks) (suc k) l h = let g = some_at ks k (omega (arith, l)) h in (g.0, inr g.1)
+  pub some_at : (ks : List Alternative) (k : ℕ) (a : Alternative) → Some a ≡ slice_get ks k → HasFirst (f a.type_id.0) → HasFirstOf (alternatives_by f ks)
+  some_at ks k a e h = (h.0, first_of_all f h.0 ks k a e h.1)
 
-  pub none_of : (ks : List ℕ) → ((k : ℕ) → k < length ks → HasFirst (f (get_or ks k 0)) → ⊥) → HasFirstOf (alternatives_by f ks) → ⊥
-  none_of [] n h = h.1
-  none_of (j ∷ ks) n (m, inl h) = n 0 (omega arith) (m, h)
-  none_of (j ∷ ks) n (m, inr h) = none_of ks (λ i l. n (suc i) (omega (arith, l))) (m, h)
+  pub none_of : (ks : List Alternative) → ((k : ℕ) (a : Alternative) → Some a ≡ slice_get ks k → HasFirst (f a.type_id.0) → ⊥) → HasFirstOf (alternatives_by f ks) → ⊥
+  none_of ks n h = first_of_none f h.0 ks (λ k a e g. n k a e (h.0, g)) h.1
 
 pub every_before : (s : Shape) (b : Bool) → IsWhether b (HasFirst s) → IsWhether (not b) ((m : Tag) → EachFirst s (λ n. IsTagBelow m n))
 every_before s true h = λ k. not_below h.0 (k h.0 h.0 h.1)
 every_before s false h = λ m n k. absurd (h (n, k))
-
-pub same_or_not : (a b : ℕ) → (a ≡ b) ⊎ (a ≢ b)
-same_or_not zero zero = inl refl
-same_or_not zero (suc b) = inr (λ e. omega (arith, e))
-same_or_not (suc a) zero = inr (λ e. omega (arith, e))
-same_or_not (suc a) (suc b) = up (same_or_not a b)
-  where
-    up : (a ≡ b) ⊎ (a ≢ b) → (suc a ≡ suc b) ⊎ (suc a ≢ suc b)
-    up (inl e) = inl (ap suc e)
-    up (inr n) = inr (λ e. n (omega (arith, e)))
-
-pub one_more_none : (P : ℕ → Type 0) (i : ℕ) → ((j : ℕ) → j < i → P j → ⊥) → (P i → ⊥) → (j : ℕ) → j < i + 1 → P j → ⊥
-one_more_none P i h n j l = go (same_or_not j i)
-  where
-    go : (j ≡ i) ⊎ (j ≢ i) → P j → ⊥
-    go (inl e) p = n (subst P e p)
-    go (inr m) p = h j (omega (arith, l, m)) p

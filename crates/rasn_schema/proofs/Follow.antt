@@ -25,20 +25,20 @@ compare (suc a) (suc b) = up (compare a b)
 
 module _ (f : ℕ → Shape) (tag : Tag) (ps : List Component) (index : ℕ) where
   abbrev Passed : ℕ → Component → Type 0
-  Passed j q = index < j → (IsFirst (f q.type_id) tag → ⊥) × (IsAlwaysThere (presence_of q.presence) → ⊥)
+  Passed j q = index < j → (IsFirst (f q.type_id.0) tag → ⊥) × (IsAlwaysThere (presence_of q.presence) → ⊥)
 
   pub may_follow : (other : ℕ) → index < other → SoFar Passed ps other → MayFollow ps index other
   may_follow other l s = (l, λ m p i u e a. (s m p u e i).1 a)
 
   -- Nothing may follow a component that can't be absent.
-  pub stopped : (other : ℕ) (x : Component) → Some x ≡ slice_get ps other → index < other → SoFar Passed ps other → (IsFirst (f x.type_id) tag → ⊥) → IsAlwaysThere (presence_of x.presence)
-      → (j : ℕ) (q : Component) → MayFollow ps index j → Some q ≡ slice_get ps j → IsFirst (f q.type_id) tag → ⊥
+  pub stopped : (other : ℕ) (x : Component) → Some x ≡ slice_get ps other → index < other → SoFar Passed ps other → (IsFirst (f x.type_id.0) tag → ⊥) → IsAlwaysThere (presence_of x.presence)
+      → (j : ℕ) (q : Component) → MayFollow ps index j → Some q ≡ slice_get ps j → IsFirst (f q.type_id.0) tag → ⊥
   stopped other x e l s n a j q m g h = go (compare j other)
     where
       go : (j < other) ⊎ ((j ≡ other) ⊎ (other < j)) → ⊥
       go (inl u) = (s j q u g m.0).0 h
       go (inr (inl u)) = let k : Some q ≡ slice_get ps other = subst (λ i. Some q ≡ slice_get ps i) u g in
-          n (subst (λ (y : Component). IsFirst (f y.type_id) tag) (some_is q x (k ∙ sym e)) h)
+          n (subst (λ (y : Component). IsFirst (f y.type_id.0) tag) (some_is q x (k ∙ sym e)) h)
       go (inr (inr u)) = m.1 other x l u e a
 
 -- what a component without a tag of its own is told from
@@ -50,7 +50,7 @@ module _ (types : List «Type») where
   own_some k tag e n = looked tag n ∙ subst (λ t. looked_for tag ≡ looked_for t) e refl
 
   -- nothing follows the last component
-  pub last_told : (k : ℕ) (f : ℕ → Shape) (ps : List Component) (i j : ℕ) (q : Component) → length ps < i + 2 → Some q ≡ slice_get ps j → MayFollow ps i j → IsToldFrom (own_at types k) (f q.type_id)
+  pub last_told : (k : ℕ) (f : ℕ → Shape) (ps : List Component) (i j : ℕ) (q : Component) → length ps < i + 2 → Some q ≡ slice_get ps j → MayFollow ps i j → IsToldFrom (own_at types k) (f q.type_id.0)
   last_told k f ps i j q l e m = let n : j < length ps = Rattle.std.proofs.lemmas.Option.slice_get_within ps j q (sym e) in let h = m.0 in absurd (omega (arith, l, n, h))
 
   pub told : (k : ℕ) (tag : Tag) (s : Shape) → Some tag ≡ own_at types k → (IsFirst s tag → ⊥) → IsToldFrom (own_at types k) s

@@ -8,20 +8,22 @@ use Rattle.rasn_types.specs.Shapes.Parts.{none}
 use Rattle.rasn_types.specs.Lawful.{IsLawful, HasTag, MayBeLeftOut, AreLawfulInOrder, AreLawfulByTag}
 use Rattle.rasn_types.specs.Truth.{IsWhether}
 use Rattle.rasn_schema.specs.declared.types.«Type».{«Type»}
-use Rattle.rasn_schema.specs.declared.types.«Type».TheVariants.{Leaf, Any, Tagged, Choice, Sequence, Set, SequenceOf, SetOf}
+use Rattle.rasn_schema.specs.declared.types.«Type».TheVariants.{Leaf, Enumerated, Any, Tagged, Choice, Sequence, Set, SequenceOf, SetOf}
 use Rattle.rasn_schema.specs.declared.types.Component.{Component}
+use Rattle.rasn_schema.specs.declared.types.Alternative.{Alternative}
 use Rattle.rasn_schema.specs.Shapes.{nothing, found_by, type_by, alternatives_by, components_by, presence_of, tag_at, shape_of_type}
 use Rattle.rasn_schema.specs.FirstTags.{EachFirst, EachFirstOf}
 use Rattle.rasn_schema.proofs.TypeShapes.{not_eoc}
 
 -- ---- values are always present
 
-all_present : (f : ℕ → Shape) → ((k : ℕ) → IsAlwaysPresent (f k)) → (ks : List ℕ) → AreAlwaysPresent (alternatives_by f ks)
+all_present : (f : ℕ → Shape) → ((k : ℕ) → IsAlwaysPresent (f k)) → (ks : List Alternative) → AreAlwaysPresent (alternatives_by f ks)
 all_present f h [] = tt
-all_present f h (k ∷ ks) = (h k, all_present f h ks)
+all_present f h (a ∷ ks) = (h a.type_id.0, all_present f h ks)
 
 node_present : (f : ℕ → Shape) → ((k : ℕ) → IsAlwaysPresent (f k)) → (ty : «Type») → IsAlwaysPresent (type_by f ty)
-node_present f h (Leaf kind tag c) = tt
+node_present f h (Leaf kind tag c names) = tt
+node_present f h (Enumerated tag ns) = tt
 node_present f h (Any tag) = tt
 node_present f h (Tagged tag k) = tt
 node_present f h (Choice name ks) = all_present f h ks.items
@@ -85,7 +87,8 @@ open_tag_told f tag false w = λ h. w (λ e. subst (λ t. HasTag (any (looked_fo
 
 module _ (f : ℕ → Shape) where
   pub others_have_tag : (ty : «Type») → ((tag : Tag) → ty ≡ Any tag → ⊥) → HasTag (type_by f ty)
-  others_have_tag (Leaf kind tag c) n = tt
+  others_have_tag (Leaf kind tag c names) n = tt
+  others_have_tag (Enumerated tag ns) n = tt
   others_have_tag (Any tag) n = absurd (n tag refl)
   others_have_tag (Tagged tag k) n = tt
   others_have_tag (Choice name ks) n = tt
@@ -98,17 +101,17 @@ module _ (f : ℕ → Shape) where
 
 module _ (f : ℕ → Shape) where
   -- of a CHOICE
-  abbrev pub Alternatives : List ℕ → Type 0
+  abbrev pub Alternatives : List Alternative → Type 0
   Alternatives ks = IsLawful (choice (alternatives_by f ks))
 
-  abbrev pub Alternative : ℕ → List ℕ → Type 0
-  Alternative k ks = HasTag (f k) × IsAlwaysPresent (f k) × IsLawful (f k) × EachFirst (f k) (λ n. IsFirstOf (alternatives_by f ks) n → ⊥)
+  abbrev pub OneAlternative : ℕ → List Alternative → Type 0
+  OneAlternative k ks = HasTag (f k) × IsAlwaysPresent (f k) × IsLawful (f k) × EachFirst (f k) (λ n. IsFirstOf (alternatives_by f ks) n → ⊥)
 
-  pub cut_alternative : (k : ℕ) (ks : List ℕ) → Alternatives (k ∷ ks) → Alternative k ks × Alternatives ks
+  pub cut_alternative : (a : Alternative) (ks : List Alternative) → Alternatives (a ∷ ks) → OneAlternative a.type_id.0 ks × Alternatives ks
   unfolding IsLawful
   cut_alternative k ks (a, d) = ((a.1, a.2, a.3, d.0), (a.4, d.1))
 
-  pub put_alternative : (k : ℕ) (ks : List ℕ) → Alternative k ks → Alternatives ks → Alternatives (k ∷ ks)
+  pub put_alternative : (a : Alternative) (ks : List Alternative) → OneAlternative a.type_id.0 ks → Alternatives ks → Alternatives (a ∷ ks)
   unfolding IsLawful
   put_alternative k ks (t, p, l, d) (a, e) = ((refl, t, p, l, a), (d, e))
 
@@ -117,7 +120,7 @@ module _ (f : ℕ → Shape) where
   InOrder ps = AreLawfulInOrder (components_by f ps)
 
   abbrev pub OneInOrder : Component → List Component → Type 0
-  OneInOrder p ps = IsAlwaysPresent (f p.type_id) × IsLawful (f p.type_id) × MayBeLeftOut (presence_of p.presence) (own (f p.type_id)) (components_by f ps)
+  OneInOrder p ps = IsAlwaysPresent (f p.type_id.0) × IsLawful (f p.type_id.0) × MayBeLeftOut (presence_of p.presence) (own (f p.type_id.0)) (components_by f ps)
 
   pub cut_in_order : (p : Component) (ps : List Component) → InOrder (p ∷ ps) → OneInOrder p ps × InOrder ps
   unfolding IsLawful
@@ -136,8 +139,8 @@ module _ (f : ℕ → Shape) where
   ByTag ps = AreLawfulByTag (components_by f ps)
 
   abbrev pub OneByTag : Component → List Component → Type 0
-  OneByTag p ps = (presence_of p.presence ≢ addition) × HasTag (f p.type_id) × IsAlwaysPresent (f p.type_id) × IsLawful (f p.type_id)
-      × EachFirst (f p.type_id) (λ m. EachFirstOf (components_by f ps) (λ n. IsTagBelow m n))
+  OneByTag p ps = (presence_of p.presence ≢ addition) × HasTag (f p.type_id.0) × IsAlwaysPresent (f p.type_id.0) × IsLawful (f p.type_id.0)
+      × EachFirst (f p.type_id.0) (λ m. EachFirstOf (components_by f ps) (λ n. IsTagBelow m n))
 
   pub cut_by_tag : (p : Component) (ps : List Component) → ByTag (p ∷ ps) → OneByTag p ps × ByTag ps
   unfolding IsLawful

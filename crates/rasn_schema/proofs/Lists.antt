@@ -1,8 +1,7 @@
 -- A list that isn't empty is its first element and those after it.
-use Rattle.std.proofs.Common.{◌≡◌, ℕ, ◌≤◌, ◌<◌, ◌-◌, List, [], ◌∷◌, length, Some, take, drop, get_or, refl, sym, ap, subst, ◌∙◌, inl, inr, ◌+◌, ◌≢◌, ◌⊎◌, arith}
+use Rattle.std.proofs.Common.{◌≡◌, ℕ, ◌≤◌, ◌<◌, ◌-◌, List, [], ◌∷◌, length, zero, suc, Some, take, drop, get_or, refl, sym, ap, subst, ◌∙◌, inl, inr, ◌+◌, ◌≢◌, ◌⊎◌, arith}
 use Rattle.std.specs.Prelude.{slice_get}
-use Rattle.std.proofs.lemmas.Option.{slice_get_within}
-use Rattle.rasn_schema.proofs.Firsts.{same_or_not}
+use Rattle.std.proofs.lemmas.Option.{slice_get_within, slice_get_read}
 use Rattle.std.proofs.lemmas.List.{take_rest}
 
 pub split : {X : Type 0} (l : List X) (x : X) → 1 ≤ length l → x ≡ get_or l 0 x → l ≡ x ∷ take (length l - 1) (drop 1 l)
@@ -12,6 +11,16 @@ split (y ∷ l) x h e = rw e (ap (λ m. y ∷ m) (sym (take_rest (y ∷ l) 1)))
 pub nothing_left : {X : Type 0} (l : List X) → length l < 1 → l ≡ []
 nothing_left [] h = refl
 nothing_left (x ∷ l) h = absurd (omega (arith, h))
+
+pub same_or_not : (a b : ℕ) → (a ≡ b) ⊎ (a ≢ b)
+same_or_not zero zero = inl refl
+same_or_not zero (suc b) = inr (λ e. omega (arith, e))
+same_or_not (suc a) zero = inr (λ e. omega (arith, e))
+same_or_not (suc a) (suc b) = up (same_or_not a b)
+  where
+    up : (a ≡ b) ⊎ (a ≢ b) → (suc a ≡ suc b) ⊎ (suc a ≢ suc b)
+    up (inl e) = inl (ap suc e)
+    up (inr n) = inr (λ e. n (omega (arith, e)))
 
 -- ---- what a loop over a list keeps
 
@@ -32,3 +41,7 @@ so_far_more P l i x e p s j y m g = go (same_or_not j i)
 
 pub so_far_end : {X : Type 0} (P : ℕ → X → Type 0) (l : List X) (i : ℕ) → length l ≤ i → SoFar P l i → (j : ℕ) (x : X) → Some x ≡ slice_get l j → P j x
 so_far_end P l i m s j x e = s j x (let k : j < length l = slice_get_within l j x (sym e) in omega (arith, m, k)) e
+
+-- the element that a loop reads
+pub read_at : {X : Type 0} (l : List X) (i : ℕ) (x : X) → i < length l → x ≡ get_or l i x → Some x ≡ slice_get l i
+read_at l i x h e = sym (slice_get_read l (length l) i x refl h e)

@@ -8,8 +8,9 @@ use Rattle.rasn_types.specs.Shapes.Parts.{none}
 use Rattle.rasn_types.specs.Shapes.{Shape, any, choice, part, looked_for, IsTagOf, IsFirst, IsFirstOf, Presence, required, optional, addition, default}
 use Rattle.rasn_types.specs.Lawful.{IsLawful, HasTag, IsFirstBehind, MayBeLeftOut, IsDistinguished, AreLawfulInOrder, AreLawfulByTag}
 use Rattle.rasn_schema.specs.declared.types.«Type».{«Type»}
-use Rattle.rasn_schema.specs.declared.types.«Type».TheVariants.{Leaf, Any, Tagged, Choice, Sequence, Set, SequenceOf, SetOf}
+use Rattle.rasn_schema.specs.declared.types.«Type».TheVariants.{Leaf, Enumerated, Any, Tagged, Choice, Sequence, Set, SequenceOf, SetOf}
 use Rattle.rasn_schema.specs.declared.types.Component.{Component}
+use Rattle.rasn_schema.specs.declared.types.Alternative.{Alternative}
 use Rattle.rasn_schema.specs.Shapes.{nothing, found_by, type_by, alternatives_by, components_by, presence_of, tag_at, tag_found, shape_of_type}
 use Rattle.rasn_schema.specs.FirstTags.{EachFirst, EachFirstOf, IsAlwaysThere}
 use Rattle.rasn_schema.specs.Schemas.{AreLowerAndTagged, AreDistinctAlternatives, MayFollow, IsToldFrom, AreToldInOrder, AreTagged, AreInOrderOfTags, IsWellFormed, IsSchema, own_at, begin_at}
@@ -19,23 +20,24 @@ use Rattle.rasn_schema.proofs.LawfulTypes.{is_present, cut_lawful, none_lawful, 
 -- ---- how a type begins at one depth, and at another
 
 -- An alternative has a lower number than its CHOICE.
-abbrev AreBefore : ℕ → List ℕ → Type 0
+abbrev AreBefore : ℕ → List Alternative → Type 0
 AreBefore id [] = Unit {0}
-AreBefore id (k ∷ ks) = (k < id) × AreBefore id ks
+AreBefore id (a ∷ ks) = (a.type_id.0 < id) × AreBefore id ks
 
 abbrev IsBehindOwn : ℕ → Option «Type» → Type 0
 IsBehindOwn id (Some (Choice name ks)) = AreBefore id ks.items
 IsBehindOwn id _ = Unit {0}
 
 module _ (f g : ℕ → Shape) (n : Tag) (id : ℕ) (h : (k : ℕ) → k < id → IsFirst (f k) n → IsFirst (g k) n) where
-  firsts_before : (ks : List ℕ) → AreBefore id ks → IsFirstOf (alternatives_by f ks) n → IsFirstOf (alternatives_by g ks) n
+  firsts_before : (ks : List Alternative) → AreBefore id ks → IsFirstOf (alternatives_by f ks) n → IsFirstOf (alternatives_by g ks) n
   firsts_before [] b a = absurd a
-  firsts_before (k ∷ ks) b (inl a) = inl (h k b.0 a)
+  firsts_before (k ∷ ks) b (inl a) = inl (h k.type_id.0 b.0 a)
   firsts_before (k ∷ ks) b (inr a) = inr (firsts_before ks b.1 a)
 
   found_firsts : (o : Option «Type») → IsBehindOwn id o → IsFirst (found_by f o) n → IsFirst (found_by g o) n
   found_firsts None b a = absurd a
-  found_firsts (Some (Leaf kind tag c)) b a = a
+  found_firsts (Some (Leaf kind tag c names)) b a = a
+  found_firsts (Some (Enumerated tag ns)) b a = a
   found_firsts (Some (Any tag)) b a = a
   found_firsts (Some (Tagged tag k)) b a = a
   found_firsts (Some (Choice name ks)) b a = firsts_before ks.items b a
@@ -60,7 +62,8 @@ module _ (n : Tag) where
 
   cut_firsts : (g : ℕ → Shape) (o : Option «Type») → IsFirst (nothing (looked_for (tag_found o))) n → IsFirst (found_by g o) n
   cut_firsts g None a = absurd a
-  cut_firsts g (Some (Leaf kind tag c)) a = cut_first tag (is_eoc tag) refl a
+  cut_firsts g (Some (Leaf kind tag c names)) a = cut_first tag (is_eoc tag) refl a
+  cut_firsts g (Some (Enumerated tag ns)) a = cut_first tag (is_eoc tag) refl a
   cut_firsts g (Some (Any tag)) a = open_first (looked_for tag) a
   cut_firsts g (Some (Tagged tag k)) a = cut_first tag (is_eoc tag) refl a
   cut_firsts g (Some (Choice name ks)) a = absurd a
@@ -82,12 +85,13 @@ unfolding shape_of_type
 none_first types n k zero e a = rw e at a
 none_first types n k (suc i) e a = rw e at a
 
-lower_before : (f : ℕ → Shape) (id : ℕ) (ks : List ℕ) → AreLowerAndTagged f id ks → AreBefore id ks
+lower_before : (f : ℕ → Shape) (id : ℕ) (ks : List Alternative) → AreLowerAndTagged f id ks → AreBefore id ks
 lower_before f id [] w = tt
 lower_before f id (k ∷ ks) w = ((w 0 k refl).0, lower_before f id ks (λ i j e. w (suc i) j e))
 
 node_before : (types : List «Type») (k : ℕ) (ty : «Type») → IsWellFormed (own_at types) (begin_at types) k ty → IsBehindOwn k (Some ty)
-node_before types k (Leaf kind tag c) w = tt
+node_before types k (Leaf kind tag c names) w = tt
+node_before types k (Enumerated tag ns) w = tt
 node_before types k (Any tag) w = tt
 node_before types k (Tagged tag j) w = tt
 node_before types k (Choice name ks) w = lower_before (begin_at types) k ks.items w.1
@@ -119,7 +123,8 @@ nothing_has_tag (Some tag) = tt
 
 found_has_tag : (f g : ℕ → Shape) (o : Option «Type») → HasTag (found_by g o) → HasTag (found_by f o)
 found_has_tag f g None w = tt
-found_has_tag f g (Some (Leaf kind tag c)) w = tt
+found_has_tag f g (Some (Leaf kind tag c names)) w = tt
+found_has_tag f g (Some (Enumerated tag ns)) w = tt
 found_has_tag f g (Some (Any tag)) w = w
 found_has_tag f g (Some (Tagged tag k)) w = tt
 found_has_tag f g (Some (Choice name ks)) w = tt
@@ -142,26 +147,26 @@ apart p ps j a n zero q l e b = let same : q ≡ p = cc in a (subst (λ (x : Com
 apart p ps j a n (suc m) q l e b = n m q (omega (arith, l)) e b
 
 module _ (f : ℕ → Shape) where
-  none_begins : (n : Tag) (ks : List ℕ) → ((j l : ℕ) → Some l ≡ slice_get ks j → IsFirst (f l) n → ⊥) → IsFirstOf (alternatives_by f ks) n → ⊥
+  none_begins : (n : Tag) (ks : List Alternative) → ((j : ℕ) (l : Alternative) → Some l ≡ slice_get ks j → IsFirst (f l.type_id.0) n → ⊥) → IsFirstOf (alternatives_by f ks) n → ⊥
   none_begins n [] h a = a
   none_begins n (k ∷ ks) h (inl a) = h 0 k refl a
   none_begins n (k ∷ ks) h (inr a) = none_begins n ks (λ j l e. h (suc j) l e) a
 
-  each_begins : (Q : Tag → Type 0) (ps : List Component) → ((j : ℕ) (q : Component) → Some q ≡ slice_get ps j → EachFirst (f q.type_id) Q) → EachFirstOf (components_by f ps) Q
+  each_begins : (Q : Tag → Type 0) (ps : List Component) → ((j : ℕ) (q : Component) → Some q ≡ slice_get ps j → EachFirst (f q.type_id.0) Q) → EachFirstOf (components_by f ps) Q
   each_begins Q [] h n a = absurd a
   each_begins Q (p ∷ ps) h n (inl a) = h 0 p refl n a
   each_begins Q (p ∷ ps) h n (inr a) = each_begins Q ps (λ j q e. h (suc j) q e) n a
 
   none_behind : (tag : Tag) (ps : List Component)
-      → ((j : ℕ) (q : Component) → Some q ≡ slice_get ps j → ((m : ℕ) (p : Component) → m < j → Some p ≡ slice_get ps m → IsAlwaysThere (presence_of p.presence) → ⊥) → IsFirst (f q.type_id) tag → ⊥)
+      → ((j : ℕ) (q : Component) → Some q ≡ slice_get ps j → ((m : ℕ) (p : Component) → m < j → Some p ≡ slice_get ps m → IsAlwaysThere (presence_of p.presence) → ⊥) → IsFirst (f q.type_id.0) tag → ⊥)
       → IsFirstBehind (components_by f ps) tag → ⊥
   none_behind tag [] h a = a
   none_behind tag (p ∷ ps) h a = go (presence_of p.presence) refl (λ l. none_behind tag ps (λ j q g n. h (suc j) q g (apart p ps j l n))) a
     where
-      here : IsFirst (f p.type_id) tag → ⊥
+      here : IsFirst (f p.type_id.0) tag → ⊥
       here b = h 0 p refl (λ m q l. absurd (omega (arith, l))) b
 
-      go : (r : Presence) → presence_of p.presence ≡ r → ((IsAlwaysThere (presence_of p.presence) → ⊥) → IsFirstBehind (components_by f ps) tag → ⊥) → IsFirstBehind (part r (f p.type_id) (components_by f ps)) tag → ⊥
+      go : (r : Presence) → presence_of p.presence ≡ r → ((IsAlwaysThere (presence_of p.presence) → ⊥) → IsFirstBehind (components_by f ps) tag → ⊥) → IsFirstBehind (part r (f p.type_id.0) (components_by f ps)) tag → ⊥
       go required e later b = here b
       go addition e later b = here b
       go optional e later (inl b) = here b
@@ -188,56 +193,57 @@ module _ (types : List «Type») (i : ℕ) (w : IsSchema types) (lawful : (k : �
   firsts : (n : Tag) (k : ℕ) → IsFirst (shape_of_type types i k) n → IsFirst (begin_at types k) n
   firsts n k = begins_as_told types w i k n
 
-  alternatives_lawful : (id : ℕ) (ks : List ℕ) → AreLowerAndTagged (begin_at types) id ks → AreDistinctAlternatives (begin_at types) ks → IsLawful (choice (alternatives_by (shape_of_type types i) ks))
+  alternatives_lawful : (id : ℕ) (ks : List Alternative) → AreLowerAndTagged (begin_at types) id ks → AreDistinctAlternatives (begin_at types) ks → IsLawful (choice (alternatives_by (shape_of_type types i) ks))
   alternatives_lawful id [] t d = none_lawful
   alternatives_lawful id (k ∷ ks) t d = put_alternative (shape_of_type types i) k ks
-      (has_tag_at types i k (t 0 k refl).1, is_present types i k, lawful k, λ n a. none_begins (shape_of_type types i) n ks (λ j l e b. d 0 (suc j) k l (omega arith) refl e n (firsts n k a) (firsts n l b)))
+      (has_tag_at types i k.type_id.0 (t 0 k refl).1, is_present types i k.type_id.0, lawful k.type_id.0, λ n a. none_begins (shape_of_type types i) n ks (λ j l e b. d 0 (suc j) k l (omega arith) refl e n (firsts n k.type_id.0 a) (firsts n l.type_id.0 b)))
       (alternatives_lawful id ks (λ j l e. t (suc j) l e) (λ j m a b l e g. d (suc j) (suc m) a b (omega (arith, l)) e g))
 
   module _ (p : Component) (ps : List Component) (t : AreToldInOrder (own_at types) (begin_at types) (p ∷ ps)) where
-    told_from : (o : Option Tag) → own_at types p.type_id ≡ o → (IsAlwaysThere (presence_of p.presence) → ⊥) → IsDistinguished o (components_by (shape_of_type types i) ps)
+    told_from : (o : Option Tag) → own_at types p.type_id.0 ≡ o → (IsAlwaysThere (presence_of p.presence) → ⊥) → IsDistinguished o (components_by (shape_of_type types i) ps)
     told_from (Some tag) e a = none_behind (shape_of_type types i) tag ps
-        (λ j q g n b. subst (λ o. IsToldFrom o (begin_at types q.type_id)) e (t 0 (suc j) p q refl g a (follow_first p ps j n)) (firsts tag q.type_id b))
+        (λ j q g n b. subst (λ o. IsToldFrom o (begin_at types q.type_id.0)) e (t 0 (suc j) p q refl g a (follow_first p ps j n)) (firsts tag q.type_id.0 b))
     told_from None e a = go ps refl
       where
         go : (qs : List Component) → ps ≡ qs → components_by (shape_of_type types i) qs ≡ none
         go [] f = refl
-        go (q ∷ qs) f = absurd (subst (λ o. IsToldFrom o (begin_at types q.type_id)) e
+        go (q ∷ qs) f = absurd (subst (λ o. IsToldFrom o (begin_at types q.type_id.0)) e
             (t 0 1 p q refl (subst (λ l. Some q ≡ slice_get l 0) (sym f) refl) a (follow_first p ps 0 (λ m r l. absurd (omega (arith, l))))))
 
-    left_out : (r : Presence) → presence_of p.presence ≡ r → MayBeLeftOut r (own_at types p.type_id) (components_by (shape_of_type types i) ps)
+    left_out : (r : Presence) → presence_of p.presence ≡ r → MayBeLeftOut r (own_at types p.type_id.0) (components_by (shape_of_type types i) ps)
     left_out required e = tt
     left_out addition e = tt
-    left_out optional e = told_from (own_at types p.type_id) refl (λ k. subst IsAlwaysThere e k)
-    left_out (default d) e = told_from (own_at types p.type_id) refl (λ k. subst IsAlwaysThere e k)
+    left_out optional e = told_from (own_at types p.type_id.0) refl (λ k. subst IsAlwaysThere e k)
+    left_out (default d) e = told_from (own_at types p.type_id.0) refl (λ k. subst IsAlwaysThere e k)
 
   in_order_lawful : (ps : List Component) → AreToldInOrder (own_at types) (begin_at types) ps → AreLawfulInOrder (components_by (shape_of_type types i) ps)
   in_order_lawful [] t = none_in_order (shape_of_type types i)
   in_order_lawful (p ∷ ps) t = put_in_order (shape_of_type types i) p ps
-      (is_present types i p.type_id, lawful p.type_id, rw (own_is types i p.type_id (lawful p.type_id)) (left_out p ps t (presence_of p.presence) refl))
+      (is_present types i p.type_id.0, lawful p.type_id.0, rw (own_is types i p.type_id.0 (lawful p.type_id.0)) (left_out p ps t (presence_of p.presence) refl))
       (in_order_lawful ps (λ j m q r d e a f. t (suc j) (suc m) q r d e a (follow_later p ps j m f)))
 
   by_tag_lawful : (ps : List Component) → AreTagged (begin_at types) ps → AreInOrderOfTags (begin_at types) ps → AreLawfulByTag (components_by (shape_of_type types i) ps)
   by_tag_lawful [] t d = none_by_tag (shape_of_type types i)
   by_tag_lawful (p ∷ ps) t d = put_by_tag (shape_of_type types i) p ps (
     (t 0 p refl).0,
-    has_tag_at types i p.type_id (t 0 p refl).1,
-    is_present types i p.type_id,
-    lawful p.type_id,
-    λ m a. each_begins (shape_of_type types i) (IsTagBelow m) ps (λ j q e n b. d 0 (suc j) p q (omega arith) refl e m (firsts m p.type_id a) n (firsts n q.type_id b)),
+    has_tag_at types i p.type_id.0 (t 0 p refl).1,
+    is_present types i p.type_id.0,
+    lawful p.type_id.0,
+    λ m a. each_begins (shape_of_type types i) (IsTagBelow m) ps (λ j q e n b. d 0 (suc j) p q (omega arith) refl e m (firsts m p.type_id.0 a) n (firsts n q.type_id.0 b)),
   )
       (by_tag_lawful ps (λ j q e. t (suc j) q e) (λ j m q r l e g. d (suc j) (suc m) q r (omega (arith, l)) e g))
 
   type_lawful : (id : ℕ) (ty : «Type») → IsWellFormed (own_at types) (begin_at types) id ty → IsLawful (type_by (shape_of_type types i) ty)
   unfolding IsLawful
-  type_lawful id (Leaf kind tag c) t = t
+  type_lawful id (Leaf kind tag c names) t = t
+  type_lawful id (Enumerated tag ns) t = (t.0, tt)
   type_lawful id (Any tag) t = open_lawful tag
-  type_lawful id (Tagged tag k) t = (t.0, is_present types i k, lawful k)
+  type_lawful id (Tagged tag k) t = (t.0, is_present types i k.0, lawful k.0)
   type_lawful id (Choice name ks) t = alternatives_lawful id ks.items t.1 t.2
   type_lawful id (Sequence tag ps) t = (t.0, in_order_lawful ps.items t.1)
   type_lawful id (Set tag ps) t = (t.0, by_tag_lawful ps.items t.1 t.2)
-  type_lawful id (SequenceOf tag k c) t = (t, is_present types i k, lawful k)
-  type_lawful id (SetOf tag k c) t = (t, is_present types i k, lawful k)
+  type_lawful id (SequenceOf tag k c) t = (t, is_present types i k.0, lawful k.0)
+  type_lawful id (SetOf tag k c) t = (t, is_present types i k.0, lawful k.0)
 
   found_lawful : (k : ℕ) (o : Option «Type») → slice_get types k ≡ o → IsLawful (found_by (shape_of_type types i) o)
   found_lawful k None e = none_lawful

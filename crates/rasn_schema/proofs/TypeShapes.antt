@@ -9,7 +9,7 @@ use Rattle.rasn_types.specs.Tags.{eoc, is_universal, is_eoc}
 use Rattle.rasn_types.specs.Shapes.{Shape, own, looked_for, leaf, any, prefix, choice, seq, set, list, set_of}
 use Rattle.rasn_types.specs.Lawful.{IsLawful}
 use Rattle.rasn_schema.specs.declared.types.«Type».{«Type»}
-use Rattle.rasn_schema.specs.declared.types.«Type».TheVariants.{Leaf, Any, Tagged, Choice, Sequence, Set, SequenceOf, SetOf}
+use Rattle.rasn_schema.specs.declared.types.«Type».TheVariants.{Leaf, Enumerated, Any, Tagged, Choice, Sequence, Set, SequenceOf, SetOf}
 use Rattle.rasn_schema.specs.Shapes.{type_by, found_by, nothing, tag_of_type, tag_found, tag_at, shape_of_type}
 
 tag_is : (s t : Tag) → s.class ≡ t.class → s.value ≡ t.value → s ≡ t
@@ -38,7 +38,8 @@ shape_is types levels k ty e = sym (ap (found_by (shape_of_type types levels)) e
 
 node_own : (f : ℕ → Shape) (ty : «Type») → IsLawful (type_by f ty) → own (type_by f ty) ≡ looked_for (tag_of_type ty)
 unfolding IsLawful
-node_own f (Leaf kind tag c) h = looked tag h.0
+node_own f (Leaf kind tag c names) h = looked tag h.0
+node_own f (Enumerated tag ns) h = looked tag h.0
 node_own f (Any tag) h = refl
 node_own f (Tagged tag k) h = looked tag h.0
 node_own f (Choice name ks) h = refl

@@ -1,7 +1,8 @@
 //! With which tags the values of a type may begin.
-ghost use Rattle.std.specs.Prelude.{◌≡◌, ◌<◌, length, slice_index, MatchOption};
+ghost use Rattle.std.specs.Prelude.{◌≡◌, Some, slice_get, MatchOption};
 ghost use Rattle.rasn_types.specs.Shapes.{IsFirst, IsFirstOf, IsTagOf, looked_for};
 ghost use Rattle.rasn_types.specs.Truth.{IsWhether};
+ghost use Rattle.rasn_schema.specs.declared.types.Alternative.{Alternative};
 ghost use Rattle.rasn_schema.specs.Shapes.{shape_of_type, type_by, alternatives_by, nothing};
 
 use crate::type_id::TypeId;
@@ -85,7 +86,7 @@ pub fn alternative_for(
     tag: Tag,
 ) -> Option<usize>
     ensures { let f = shape_of_type types.now levels in
-        MatchOption result (IsFirstOf (alternatives_by f alternatives.now) tag → ⊥) (λ k. (k < length alternatives.now) × IsFirst (f (slice_index alternatives.now k).type_id.0) tag) }
+        MatchOption result (IsFirstOf (alternatives_by f alternatives.now) tag → ⊥) (λ k. (a : Alternative) × (Some a ≡ slice_get alternatives.now k) × IsFirst (f a.type_id.0) tag) }
 {
     for (index, alternative) in alternatives.iter().enumerate() {
         if begins(types, levels, alternative.type_id, tag) {

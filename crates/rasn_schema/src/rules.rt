@@ -149,14 +149,21 @@ fn leaf_fault(id: TypeId, kind: LeafKind, tag: Tag) -> Option<SchemaError>
     }
 }
 
-/// Returns the index of the first number after `index` that is the same.
-fn same_number(numbers: &[NamedNumber], index: usize, number: isize) -> Option<usize>
-    ensures { MatchOption result
-        ((j : ℕ) (n : NamedNumber) → index < j → Some n ≡ slice_get numbers.now j → number ≢ n.number)
-        (λ j. (index < j) × ((n : NamedNumber) × (Some n ≡ slice_get numbers.now j) × (number ≡ n.number))) }
+fn is_same_number(named: &NamedNumber, other: &NamedNumber) -> bool
+    ensures { IsWhether result (named.now.number ≡ other.now.number) }
 {
-    for (other, next) in numbers.iter().enumerate() {
-        if other > index && next.number == number {
+    named.number == other.number
+}
+
+/// Returns the index of the first number after `index` that is the same.
+fn same_number(numbers: &[NamedNumber], index: usize, named: &NamedNumber) -> Option<usize>
+    requires { index < length numbers.now }
+    ensures { MatchOption result
+        ((j : ℕ) (n : NamedNumber) → index < j → Some n ≡ slice_get numbers.now j → named.now.number ≢ n.number)
+        (λ j. (index < j) × ((n : NamedNumber) × (Some n ≡ slice_get numbers.now j) × (named.now.number ≡ n.number))) }
+{
+    for other in index + 1..numbers.len() {
+        if is_same_number(named, &numbers[other]) {
             return Some(other);
         }
     }
@@ -172,7 +179,7 @@ fn numbers_fault(id: TypeId, tag: Tag, numbers: &[NamedNumber]) -> Option<Schema
         return Some(SchemaError::ReservedTag { id });
     }
     for (index, named) in numbers.iter().enumerate() {
-        if let Some(other) = same_number(numbers, index, named.number) {
+        if let Some(other) = same_number(numbers, index, named) {
             return Some(SchemaError::NumbersClash { id, index, other });
         }
     }
@@ -190,7 +197,7 @@ fn late_or_untagged(
         MatchOption result (AreLowerAndTagged f id.0 alternatives.now) (λ e. IsAlternativesFault f id.0 alternatives.now e) }
 {
     for (index, alternative) in alternatives.iter().enumerate() {
-        if alternative.type_id >= id {
+        if alternative.type_id.0 >= id.0 {
             return Some(SchemaError::LateAlternative { id, index });
         }
         if !has_tag(types, levels, alternative.type_id) {
@@ -208,13 +215,15 @@ fn same_alternative(
     index: usize,
     alternative: TypeId,
 ) -> Option<usize>
+    requires { index < length alternatives.now }
     ensures { let f = shape_of_type types.now levels in
         MatchOption result
         ((j : ℕ) (a : Alternative) → index < j → Some a ≡ slice_get alternatives.now j → AreDistinct (f alternative.0) (f a.type_id.0))
         (λ j. (index < j) × ((a : Alternative) × (Some a ≡ slice_get alternatives.now j) × (AreDistinct (f alternative.0) (f a.type_id.0) → ⊥))) }
 {
-    for (other, next) in alternatives.iter().enumerate() {
-        if other > index && !is_distinct(types, levels, alternative, levels, next.type_id) {
+    for other in index + 1..alternatives.len() {
+        let next = &alternatives[other];
+        if !is_distinct(types, levels, alternative, levels, next.type_id) {
             return Some(other);
         }
     }

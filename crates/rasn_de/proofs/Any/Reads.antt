@@ -17,7 +17,7 @@ use Rattle.rasn_types.proofs.Encoding.Complete.{whole_one, wholes_one}
 use Rattle.rasn_de.specs.declared.ber.de.parser.ParseError.{ParseError}
 use Rattle.rasn_de.specs.Headers.{Header, header_at, as_written}
 use Rattle.rasn_de.specs.Skipping.{Skipped, EncodingsToEnd, IsUnparsable, IsFault, Exactly}
-use Rattle.rasn_de.specs.Any.{ReadsOpenOctets, OpenAt, as_lists, DecodesOpenType, SkipsValue}
+use Rattle.rasn_de.specs.Any.{ReadsOpenOctets, OpenAt, as_lists, DecodesOpenType, BorrowsOpenType, SkipsValue}
 use Rattle.std.specs.Borrow.{Bor}
 use Rattle.std.specs.Prelude.{IfOk}
 use Rattle.rasn_de.specs.State.{State, at, IsEnd}
@@ -164,6 +164,10 @@ open_decodes tag old new (Err e) (h, s) = record {
     exactly : (IsOutOfMemory e.kind × (e.codec ≡ old.rule) × (p : List ℕ × List ℕ) × OpenAt old.rule (looked_for tag) old.rest (Ok p)) ⊎ ((f : ParseError) × OpenAt old.rule (looked_for tag) old.rest (Err f) × IsErrorOf f old e) → Exact R old.rest (refusal e.kind)
     exactly (inl (m, c, p, x)) = subst (λ k. Exact R old.rest (refusal k)) (sym m) tt
     exactly (inr (f, x, k)) = Exact-none e.kind R old.rest (reads_octets old.rule (looked_for tag) old.depth old.closing old.rest Refused x.0)
+
+pub borrowed_decodes : (tag : Tag) (old new : State) (result : Result (Bor (List ℕ)) DecodeError) → BorrowsOpenType tag old result new → Decodes (any (looked_for tag)) (λ o. numbers o.now) old result new
+borrowed_decodes tag old new (Ok o) g = open_decodes tag old new (Ok o.now) g
+borrowed_decodes tag old new (Err e) (h, s) = open_decodes tag old new (Err e) (inr h, s)
 
 -- what is passed
 pub skipped_at : (old new : State) (n : ℕ) (rest : List ℕ) → Exactly (Skipped old.rule old.rest) (IsFault old.rule old.rest) (Ok (n, rest)) → new ≡ at old rest → SkipsValue old (Ok n) new

@@ -1,6 +1,6 @@
 -- Readings that take no memory.
 use Rattle.std.proofs.Common.{◌≡◌, ◌≢◌, ℕ, ℤ, ◌⊎◌, inl, inr, Bool, true, false, List, [], ◌∷◌, Result, Ok, Err, sym, ap, ◌∙◌, subst}
-use Rattle.std.specs.Prelude.{nat_eq, IfErr}
+use Rattle.std.specs.Prelude.{nat_eq, IfErr, Option, Some, None}
 use Rattle.rasn_types.specs.declared.types.tag.Tag.{Tag}
 use Rattle.rasn_types.specs.declared.types.codec.Codec.{Codec}
 use Rattle.rasn_types.specs.declared.error.decode.DecodeError.{DecodeError}
@@ -15,11 +15,11 @@ use Rattle.rasn_de.specs.Headers.{spelled, Header, header_at, as_written}
 use Rattle.rasn_de.specs.Causes.{Cause, fault, out_of_bound, HasCause}
 use Rattle.rasn_de.specs.Leaves.{on_header, definite_in, definite_at, FromContents, LeafAt, as_cause, is_ber, bool_in, FailsAs, DecodesLeaf, IsNotIntegerContents, IntegerIn, IntegerAt, DecodesInteger, IsOutOfBound}
 use Rattle.rasn_types.specs.declared.types.constraints.Constraints.{Constraints}
-use Rattle.rasn_types.specs.Shapes.{Interval}
+use Rattle.rasn_types.specs.Shapes.{Interval, looked_for}
 use Rattle.rasn_de.specs.declared.ber.de.parser.headers.Expected.TheVariants.{AnyTag}
 use Rattle.rasn_de.specs.OctetString.{IsPrimitive}
 use Rattle.rasn_de.specs.CharacterString.{DecodesOctetString}
-use Rattle.rasn_de.specs.Any.{SkipsValue}
+use Rattle.rasn_de.specs.Any.{IsOpenFault, BorrowsOpenType, SkipsValue}
 use Rattle.rasn_de.specs.Skipping.{IsFault}
 use Rattle.rasn_de.specs.State.{State}
 use Rattle.rasn_de.proofs.Headers.Memory.{NoMemory, header_none, none_cond}
@@ -127,3 +127,12 @@ fault_plain rule input f (inr (tag, body, x, unparsable)) = subst NoMemory unpar
 
 pub skips_plain : (old new : State) (e : DecodeError) → SkipsValue old (Err e) new → IsOutOfMemory e.kind → ⊥
 skips_plain old new e (f, (never, refused), k, s) h = kind_memory f (fault_plain old.rule old.rest f refused) (sym (ap (λ (x : DecodeError). x.kind) k) ∙ h)
+
+-- Nor is the first fault of an open type.
+open_fault_plain : (rule : Codec) (tag : Option Tag) (input : List ℕ) (f : ParseError) → IsOpenFault rule tag input f → f ≢ OutOfMemory
+open_fault_plain rule None input f h = fault_plain rule input f h
+open_fault_plain rule (Some tag) input f (inl e) = subst NoMemory e (header_none (spelled (form rule)) (as_written rule tag true) input)
+open_fault_plain rule (Some tag) input f (inr (h, e, x, unparsable)) = subst NoMemory unparsable.refused (header_none (spelled (loose rule)) AnyTag unparsable.left)
+
+pub borrowed_plain : (tag : Tag) (old new : State) (e : DecodeError) → BorrowsOpenType tag old (Err e) new → IsOutOfMemory e.kind → ⊥
+borrowed_plain tag old new e ((f, x, k), s) h = kind_memory f (open_fault_plain old.rule (looked_for tag) old.rest f x.1) (sym (ap (λ (x : DecodeError). x.kind) k) ∙ h)

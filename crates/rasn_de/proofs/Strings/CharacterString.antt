@@ -1,13 +1,17 @@
 -- A character string is read exactly where the grammar has one.
 use Rattle.std.proofs.Common.{◌≡◌, ◌≢◌, ℕ, ◌⊎◌, inl, inr, true, false, List, Result, Ok, Err, refl, sym, ap, ◌∙◌, subst}
-use Rattle.std.specs.Cow.{cow_slice_items, IsOwnedSlice}
+use Rattle.std.specs.Cow.{cow_slice_items, IsOwnedSlice, IsOwnedStr}
 use Rattle.std.specs.declared.alloc.Global.{Global}
 use Rattle.std.specs.declared.borrow.CowSlice.{CowSlice}
 use Rattle.std.specs.declared.borrow.CowSlice.TheVariants.{Borrowed, Owned}
+use Rattle.std.specs.declared.borrow.CowStr.{CowStr}
+use Rattle.std.specs.declared.borrow.CowStr.TheVariants as text
 use Rattle.rasn_types.specs.declared.types.tag.Tag.{Tag}
 use Rattle.rasn_types.specs.declared.types.codec.Codec.{Codec}
 use Rattle.rasn_types.specs.declared.types.constraints.Constraints.{Constraints}
 use Rattle.rasn_types.specs.declared.error.decode.DecodeError.{DecodeError}
+use Rattle.rasn_types.specs.declared.types.strings.alphabet.Alphabet.{Alphabet}
+use Rattle.rasn_types.specs.CharacterString.{AreAdmitted}
 use Rattle.rasn_types.specs.Errors.{IsOutOfMemory}
 use Rattle.rasn_types.specs.Framing.{AreOctets}
 use Rattle.rasn_types.specs.Shapes.{Tree, numbers, Kind, leaf}
@@ -17,10 +21,11 @@ use Rattle.rasn_de.specs.declared.ber.de.parser.ParseError.TheVariants as fault_
 use Rattle.rasn_de.specs.Causes.{Cause, fault, error_kind}
 use Rattle.rasn_de.specs.OctetString.{DecodesOctets, IsBorrowedIfPrimitive, IsPrimitive}
 use Rattle.rasn_de.specs.Leaves.{FailsAs}
-use Rattle.rasn_de.specs.CharacterString.{StringCheck, StringAt, AllocFailsCollecting, DecodesString}
-use Rattle.rasn_de.specs.State.{State, IsEnd}
+use Rattle.rasn_de.specs.CharacterString.{StringCheck, StringAt, AllocFailsCollecting, IsTextBorrowedIfPrimitive, DecodesString, DecodesBorrowed, DecodesRestricted}
+use Rattle.rasn_de.specs.State.{State, IsEnd, at}
+use Rattle.rasn_de.specs.Outcomes.{Got}
 use Rattle.rasn_de.specs.Steps.{IsErrorOf}
-use Rattle.rasn_de.specs.Decodes.{Decodes}
+use Rattle.rasn_de.specs.Decodes.{Decodes, DecodesExactly}
 use Rattle.rasn_de.proofs.Leaves.Outcomes.{Agrees, decoded_answers, alloc_failed, alloc_failed_before}
 use Rattle.rasn_de.proofs.Headers.Ends.{IsEnd-refl}
 use Rattle.rasn_de.proofs.Headers.NextTag.{kind_memory, memory_or}
@@ -141,3 +146,71 @@ module _ {kind : Kind} {bounds : Constraints} {Told : StringCheck} (fits : Fits 
     -- octets in order
     pub string_given : (v : X) → Told (cow_slice_items s) (Ok (see v)) → Ensured (Ok v)
     string_given v a = ensured (Ok v) ((cow_slice_items s, g.0, a), g.1)
+
+-- What a function that borrows a primitive string ensures.
+module _ {kind : Kind} {bounds : Constraints} {Told : StringCheck} (fits : Fits kind bounds Told) {X : Type 0} (see : X → List ℕ) (borrowed : Codec → Tag → List ℕ → X → Type 0) (tag : Tag) (old new : State) (o : AreOctets old.rest) where
+  abbrev pub Borrows : Result X DecodeError → Type 0
+  Borrows result = record { reads : Decodes (leaf kind tag bounds) (λ x. numbers (see x)) old result new; exact : DecodesBorrowed see borrowed Told tag old result new }
+
+  borrows : (result : Result X DecodeError) → DecodesBorrowed see borrowed Told tag old result new → Borrows result
+  borrows (Ok v) g = record { reads = string_decodes fits see tag old new (Ok v) o g.0; exact = g }
+  borrows (Err e) (inl g) = record { reads = string_decodes fits see tag old new (Err e) o (inl g); exact = inl g }
+  borrows (Err e) (inr g) = record { reads = string_decodes fits see tag old new (Err e) o (inr (inr g)); exact = inr g }
+
+  pub borrowed_ungathered : (e : DecodeError) → DecodesOctets tag old (Err e) new → Borrows (Err e)
+  borrowed_ungathered e g = borrows (Err e) (ungathered Told tag old new e g)
+
+  module _ (s : CowSlice ℕ Global) (g : DecodesOctets tag old (Ok s) new) where
+    pub borrowed_refused : (f : ParseError) (e : DecodeError) → Told (cow_slice_items s) (Err f) → IsErrorOf f new e → Borrows (Err e)
+    borrowed_refused f e a x = borrows (Err e) (inr (untold fits tag old new s g f e a x))
+
+    pub borrowed_given : (v : X) → Told (cow_slice_items s) (Ok (see v)) → borrowed old.rule tag old.rest v → Borrows (Ok v)
+    borrowed_given v a b = borrows (Ok v) (((cow_slice_items s, g.0, a), g.1), b)
+
+-- What a function that copies such a string ensures.
+module _ (kind : Kind) (bounds : Constraints) (Told : StringCheck) {X : Type 0} (see : X → List ℕ) (borrowed : Codec → Tag → List ℕ → X → Type 0) (tag : Tag) (old new : State) where
+  abbrev pub IsBorrowed : Result X DecodeError → Type 0
+  IsBorrowed result = record { reads : Decodes (leaf kind tag bounds) (λ x. numbers (see x)) old result new; exact : DecodesBorrowed see borrowed Told tag old result new }
+
+  module _ {Y : Type 0} (seen : Y → List ℕ) where
+    abbrev pub Copies : Result Y DecodeError → Type 0
+    Copies result = record { reads : Decodes (leaf kind tag bounds) (λ y. numbers (seen y)) old result new; exact : DecodesString seen Told tag old result new }
+
+    pub copy_refused : (e : DecodeError) → IsBorrowed (Err e) → Copies (Err e)
+    copy_refused e g = record { reads = g.reads; exact = elim g.exact [ inl r ↦ inl r | inr r ↦ inr (inr r) ] }
+
+    module _ (v : X) (g : IsBorrowed (Ok v)) where
+      pub copied : (w : Y) → seen w ≡ see v → Copies (Ok w)
+      copied w e = record {
+        reads = subst (λ l. DecodesExactly (λ rule. Reads rule (leaf kind tag bounds)) old (Got (numbers l) new.rest) new) (sym e) g.reads;
+        exact = subst (λ l. StringAt Told old.rule old.depth tag old.rest (Ok (l, new.rest)) × (new ≡ at old new.rest)) (sym e) g.exact.0;
+      }
+
+      pub not_copied : IsPrimitive old.rule tag old.rest → (e : DecodeError) → IsErrorOf fault_is.OutOfMemory new e → Copies (Err e)
+      not_copied p e x =
+          let m : IsOutOfMemory e.kind = ap (λ (y : DecodeError). y.kind) x in
+          let s : new ≡ at old new.rest = g.exact.0.1 in
+          record {
+            reads = alloc_failed (λ rule. Reads rule (leaf kind tag bounds)) (λ y. numbers (seen y)) old new e m s g.reads.end;
+            exact = inr (inl (m, ap (λ (y : DecodeError). y.codec) x ∙ rule_is old new s, s, p, (see v, new.rest), g.exact.0.0, refl));
+          }
+
+-- What isn't owned is borrowed from a primitive string.
+pub slice_primitive : (rule : Codec) (tag : Tag) (l : List ℕ) (s : CowSlice ℕ Global) → (IsOwnedSlice s → false ≡ true) → IsBorrowedIfPrimitive rule tag l s → IsPrimitive rule tag l
+slice_primitive rule tag l s n b = lent rule tag l s n b
+
+pub text_primitive : (rule : Codec) (tag : Tag) (l : List ℕ) (s : CowStr Global) → (IsOwnedStr s → false ≡ true) → IsTextBorrowedIfPrimitive rule tag l s → IsPrimitive rule tag l
+text_primitive rule tag l (text.Borrowed x) n h = h
+text_primitive rule tag l (text.Owned v) n h = let k = n tt in cc
+
+-- Text is owned if its octets are.
+pub text_borrowed : (rule : Codec) (tag : Tag) (l : List ℕ) (s : CowSlice ℕ Global) (t : CowStr Global) → (IsOwnedSlice s → IsOwnedStr t) → (IsOwnedStr t → IsOwnedSlice s) → IsBorrowedIfPrimitive rule tag l s
+    → IsTextBorrowedIfPrimitive rule tag l t
+text_borrowed rule tag l (Borrowed x) (text.Borrowed y) f g h = h
+text_borrowed rule tag l (Borrowed x) (text.Owned y) f g h = absurd (g tt)
+text_borrowed rule tag l (Owned x) (text.Borrowed y) f g h = absurd (f tt)
+text_borrowed rule tag l (Owned x) (text.Owned y) f g h = h
+
+-- The octets of a string that is read are in its alphabet.
+pub restricted_admitted : (a : Alphabet) (tag : Tag) (bounds : Constraints) (old new : State) (s : CowSlice ℕ Global) → DecodesRestricted a tag bounds old (Ok s) new → AreAdmitted a (cow_slice_items s)
+restricted_admitted a tag bounds old new s g = subst (AreAdmitted a) (sym g.0.0.2.0) g.0.0.2.2

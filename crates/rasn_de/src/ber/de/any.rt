@@ -3,7 +3,7 @@ ghost use Rattle.std.specs.Prelude.{◌+◌, ◌*◌, ◌≤◌, length, IfOk, I
 ghost use Rattle.rasn_types.specs.Errors.{IsOutOfMemory};
 ghost use Rattle.rasn_types.specs.Shapes.{any, looked_for, numbers};
 ghost use Rattle.rasn_de.specs.Decodes.{Decodes};
-ghost use Rattle.rasn_de.specs.Any.{DecodesOpenType, SkipsValue};
+ghost use Rattle.rasn_de.specs.Any.{DecodesOpenType, BorrowsOpenType, SkipsValue};
 
 use crate::ber::de::Decoder;
 use crate::ber::de::parser::ParseError;
@@ -42,6 +42,7 @@ impl<'input> Decoder<'input> {
     #[inline(always)]
     pub fn decode_open(&mut self, tag: Tag) -> Result<&'input [u8], DecodeError>
         ensures reads { Decodes (any (looked_for tag)) (λ o. numbers o.now) self.old result self.new }
+        ensures exact { BorrowsOpenType tag self.old result self.new }
         ensures memory { IfErr result (λ e. IsOutOfMemory e.kind → ⊥) }
     {
         match read_open(self.rules, tag, self.rest) {

@@ -1,13 +1,13 @@
 //! Character strings (X.690 8.23).
-ghost use Rattle.std.specs.Prelude.{chars, IfOk};
-ghost use Rattle.std.specs.Cow.{cow_slice_items, cow_str_bytes};
+ghost use Rattle.std.specs.Prelude.{chars};
+ghost use Rattle.std.specs.Cow.{cow_str_bytes};
 ghost use Rattle.std.specs.String.{string_bytes};
 ghost use Rattle.rasn_types.specs.declared.types.strings.alphabet.Alphabet.TheVariants.{Numeric, Printable, Visible, Ia5, Every};
-ghost use Rattle.rasn_types.specs.CharacterString.{string_kind, units_of, AreAdmitted};
+ghost use Rattle.rasn_types.specs.CharacterString.{string_kind, units_of};
 ghost use Rattle.rasn_types.specs.Shapes.{leaf, numbers, numeric, printable, visible, ia5, any_octets, bmp, utf8};
 ghost use Rattle.rasn_de.specs.Decodes.{Decodes};
 ghost use Rattle.rasn_de.specs.OctetString.{cow_tree};
-ghost use Rattle.rasn_de.specs.CharacterString.{ByAlphabet, ByUnits, ByUtf8, DecodesString, ChecksString, ParsesUtf8};
+ghost use Rattle.rasn_de.specs.CharacterString.{ByAlphabet, ByUnits, ByUtf8, DecodesString, DecodesRestricted, DecodesText, ChecksString, ParsesUtf8};
 
 use crate::ber::de::octet_string::owned;
 use crate::ber::de::parser::ParseError;
@@ -248,7 +248,7 @@ impl<'input> Decoder<'input> {
         constraints: &Constraints,
     ) -> Result<CowStr<'input>, DecodeError>
         ensures reads { Decodes (leaf utf8 tag constraints.now) (λ s. numbers (chars (cow_str_bytes s))) self.old result self.new }
-        ensures exact { DecodesString (λ s. chars (cow_str_bytes s)) (ByUtf8 constraints.now.size) tag self.old result self.new }
+        ensures exact { DecodesText tag constraints.now self.old result self.new }
     {
         let octets = self.octets(tag)?;
         let text = match text_of(octets) {
@@ -275,8 +275,7 @@ impl<'input> Decoder<'input> {
         constraints: &Constraints,
     ) -> Result<CowSlice<'input, u8>, DecodeError>
         ensures reads { Decodes (leaf (string_kind alphabet) tag constraints.now) cow_tree self.old result self.new }
-        ensures exact { DecodesString (λ s. cow_slice_items s) (ByAlphabet alphabet constraints.now.size) tag self.old result self.new }
-        ensures admitted { IfOk result (λ s. AreAdmitted alphabet (cow_slice_items s)) }
+        ensures exact { DecodesRestricted alphabet tag constraints.now self.old result self.new }
     {
         let octets = self.octets(tag)?;
         match check_alphabet(alphabet, constraints, octets.as_slice()) {

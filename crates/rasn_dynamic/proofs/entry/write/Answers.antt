@@ -6,4 +6,4 @@ use Rattle.rasn_dynamic.proofs.entry.write.Goals as goal
 
 pub returns-clause-canonical : goal.returns-clause-canonical
 returns-clause-canonical c = λ der.
-    identified (λ v. v.items) (shape_of c.args.schema.now.types.items c.args.id) (tree_of c.args.value.now) c.args.rule c.output.result der (search rules)
+    identified (λ v. v.items) (shape_of c.args.schema.now.types.items c.args.id.0) (tree_of c.args.value.now) c.args.rule c.output.result der (search rules)

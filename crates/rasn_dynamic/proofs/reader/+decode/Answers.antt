@@ -41,10 +41,10 @@ pub decode_at-returns-then-levels-eq0 : goal.decode_at-returns-then-levels-eq0
 decode_at-returns-then-levels-eq0 t c = refused_at_zero _ _ _ _ _ c.if-levels-eq0.true
 
 pub decode_at-decode_type-requires : goal.decode_at-decode_type-requires
-decode_at-decode_type-requires t c = (search rules, subst IsLawful (shape_below c.args.types.now c.args.levels (c.args.levels - 1) c.args.id c.in-Some.ty.now (let n = c.if-levels-eq0.false in omega arith) c.in-Some.ensures) c.requires)
+decode_at-decode_type-requires t c = (search rules, subst IsLawful (shape_below c.args.types.now c.args.levels (c.args.levels - 1) c.args.id.0 c.in-Some.ty.now (let n = c.if-levels-eq0.false in omega arith) c.in-Some.ensures) c.requires)
 
 pub decode_at-returns-in-Some : goal.decode_at-returns-in-Some
-decode_at-returns-in-Some t c = rw (shape_below c.args.types.now c.args.levels (c.args.levels - 1) c.args.id c.in-Some.ty.now (let n = c.if-levels-eq0.false in omega arith) c.in-Some.ensures) c.decode_type.ensures
+decode_at-returns-in-Some t c = rw (shape_below c.args.types.now c.args.levels (c.args.levels - 1) c.args.id.0 c.in-Some.ty.now (let n = c.if-levels-eq0.false in omega arith) c.in-Some.ensures) c.decode_type.ensures
 
 pub decode_at-returns-in-None : goal.decode_at-returns-in-None
 decode_at-returns-in-None t c = refused_not_there _ _ _ _ _ c.in-None.ensures
@@ -85,10 +85,10 @@ pub decode_contents-returns-in_err-values-in-SequenceOf :
     goal.decode_contents-returns-in_err-values-in-SequenceOf
 decode_contents-returns-in_err-values-in-SequenceOf t c =
     rw (residual _ c.from_residual.ensures.1, c.in-SequenceOf.is)
-    (list_refused c.in-SequenceOf.tag ((shape_of_type c.args.types.now c.args.below) c.in-SequenceOf.element) c.in-SequenceOf.constraints.size _ _ _ c.in_err-values-in-SequenceOf.ensures)
+    (list_refused c.in-SequenceOf.tag ((shape_of_type c.args.types.now c.args.below) c.in-SequenceOf.element.0) c.in-SequenceOf.constraints.size _ _ _ c.in_err-values-in-SequenceOf.ensures)
 
 pub decode_contents-returns-in-Tagged : goal.decode_contents-returns-in-Tagged
-decode_contents-returns-in-Tagged t c = rw c.in-Tagged.is (inside_prefix c.in-Tagged.tag ((shape_of_type c.args.types.now c.args.below) c.in-Tagged.inner) _ _ _ c.decode_at.ensures)
+decode_contents-returns-in-Tagged t c = rw c.in-Tagged.is (inside_prefix c.in-Tagged.tag ((shape_of_type c.args.types.now c.args.below) c.in-Tagged.inner.0) _ _ _ c.decode_at.ensures)
 
 pub decode_contents-returns-in-Sequence : goal.decode_contents-returns-in-Sequence
 decode_contents-returns-in-Sequence t c = rw c.in-Sequence.is (inside_seq c.in-Sequence.tag (components_by (shape_of_type c.args.types.now c.args.below) c.in-Sequence.components.items) _ _ _ (rw (← c.deref.ensures.value) c.decode_sequence.ensures))
@@ -97,7 +97,7 @@ pub decode_contents-returns-in_ok-values-in-SequenceOf :
     goal.decode_contents-returns-in_ok-values-in-SequenceOf
 decode_contents-returns-in_ok-values-in-SequenceOf t c =
     rw c.in-SequenceOf.is
-    (list_answers c.in-SequenceOf.tag ((shape_of_type c.args.types.now c.args.below) c.in-SequenceOf.element) c.in-SequenceOf.constraints.size _ _ c.in_ok-values-in-SequenceOf.values c.in_ok-values-in-SequenceOf.ensures _ c.sized.ensures)
+    (list_answers c.in-SequenceOf.tag ((shape_of_type c.args.types.now c.args.below) c.in-SequenceOf.element.0) c.in-SequenceOf.constraints.size _ _ c.in_ok-values-in-SequenceOf.values c.in_ok-values-in-SequenceOf.ensures _ c.sized.ensures)
 
 pub decode_contents-returns-in_default : goal.decode_contents-returns-in_default
 decode_contents-returns-in_default t c =
@@ -107,7 +107,7 @@ decode_contents-returns-in_default t c =
 
 pub decode_elements-loop-decoder-preserved : goal.decode_elements-loop-decoder-preserved
 decode_elements-loop-decoder-preserved t c =
-    passes_more (Decodes (shape_of_type c.args.types.now c.args.below c.args.element) tree_of) c.loop-decoder.decoder _ c.in_ok-value.value c.loop-decoder-test.ensures c.in_ok-value.ensures
+    passes_more (Decodes (shape_of_type c.args.types.now c.args.below c.args.element.0) tree_of) c.loop-decoder.decoder _ c.in_ok-value.value c.loop-decoder-test.ensures c.in_ok-value.ensures
     (λ e. c.in_ok-keep.ensures.1 (e ∙ sym (ap length c.remaining-left.ensures.value))) c.args.decoder.now c.loop-decoder.values.items _ c.in_ok-keep.ensures.0 c.loop-decoder.invariant
 
 pub decode_contents-decode_elements_in_order-requires : goal.decode_contents-decode_elements_in_order-requires
@@ -116,12 +116,12 @@ decode_contents-decode_elements_in_order-requires t c = (search rules, set_of_la
 pub decode_contents-returns-in_err-values-in-SetOf : goal.decode_contents-returns-in_err-values-in-SetOf
 decode_contents-returns-in_err-values-in-SetOf t c =
     rw (residual _ c.from_residual-in_err-values-in-SetOf.ensures.1, c.in-SetOf.is)
-    (set_refused c.in-SetOf.tag ((shape_of_type c.args.types.now c.args.below) c.in-SetOf.element) c.in-SetOf.constraints.size _ _ _ c.in_err-values-in-SetOf.ensures)
+    (set_refused c.in-SetOf.tag ((shape_of_type c.args.types.now c.args.below) c.in-SetOf.element.0) c.in-SetOf.constraints.size _ _ _ c.in_err-values-in-SetOf.ensures)
 
 pub decode_contents-returns-in_ok-values-in-SetOf : goal.decode_contents-returns-in_ok-values-in-SetOf
 decode_contents-returns-in_ok-values-in-SetOf t c =
     rw c.in-SetOf.is
-    (set_answers c.in-SetOf.tag ((shape_of_type c.args.types.now c.args.below) c.in-SetOf.element) c.in-SetOf.constraints.size _ _ c.in_ok-values-in-SetOf.values c.in_ok-values-in-SetOf.ensures _ c.sized_set.ensures)
+    (set_answers c.in-SetOf.tag ((shape_of_type c.args.types.now c.args.below) c.in-SetOf.element.0) c.in-SetOf.constraints.size _ _ c.in_ok-values-in-SetOf.values c.in_ok-values-in-SetOf.ensures _ c.sized_set.ensures)
 
 pub decode_elements_in_order-loop-last-init : goal.decode_elements_in_order-loop-last-init
 decode_elements_in_order-loop-last-init t c = rw c.new-values.ensures.items ([], (refl, refl), (λ strict. tt), refl)
@@ -184,24 +184,24 @@ decode_type-returns-in-SetOf t c =
 -- ---- parts
 
 pub decode_component-returns-in_err-value : goal.decode_component-returns-in_err-value
-decode_component-returns-in_err-value t c = rw (residual _ c.from_residual.ensures.1) (unread ((shape_of_type c.args.types.now c.args.below) c.args.component.now.type_id) (tag_at c.args.types.now c.args.component.now.type_id) (own_is _ _ _ c.requires) _ (presence_of c.args.component.now.presence) _ c.in_err-value.ensures)
+decode_component-returns-in_err-value t c = rw (residual _ c.from_residual.ensures.1) (unread ((shape_of_type c.args.types.now c.args.below) c.args.component.now.type_id.0) (tag_at c.args.types.now c.args.component.now.type_id.0) (own_is _ _ _ c.requires) _ (presence_of c.args.component.now.presence) _ c.in_err-value.ensures)
 
 pub decode_component-returns-in-Some : goal.decode_component-returns-in-Some
-decode_component-returns-in-Some t c = left ((shape_of_type c.args.types.now c.args.below) c.args.component.now.type_id) (tag_at c.args.types.now c.args.component.now.type_id) (own_is _ _ _ c.requires) _ (presence_of c.args.component.now.presence) c.in-Some.value (subst (λ o. LooksFor (presence_of c.args.component.now.presence) (tag_at c.args.types.now c.args.component.now.type_id) c.args.decoder.now (Ok o)) c.in-Some.is c.in_ok-value.ensures)
+decode_component-returns-in-Some t c = left ((shape_of_type c.args.types.now c.args.below) c.args.component.now.type_id.0) (tag_at c.args.types.now c.args.component.now.type_id.0) (own_is _ _ _ c.requires) _ (presence_of c.args.component.now.presence) c.in-Some.value (subst (λ o. LooksFor (presence_of c.args.component.now.presence) (tag_at c.args.types.now c.args.component.now.type_id.0) c.args.decoder.now (Ok o)) c.in-Some.is c.in_ok-value.ensures)
 
 pub decode_component-returns-in_err-value-2 : goal.decode_component-returns-in_err-value-2
 decode_component-returns-in_err-value-2 t c =
     rw (residual _ c.from_residual-in_err-value-2.ensures.1)
-    (read_refused ((shape_of_type c.args.types.now c.args.below) c.args.component.now.type_id) (tag_at c.args.types.now c.args.component.now.type_id) (own_is _ _ _ c.requires) _ (presence_of c.args.component.now.presence) c.in_err-value-2.field-0.0 _ (subst (λ o. LooksFor (presence_of c.args.component.now.presence) (tag_at c.args.types.now c.args.component.now.type_id) c.args.decoder.now (Ok o)) c.in_default.is c.in_ok-value.ensures) c.in_err-value-2.ensures)
+    (read_refused ((shape_of_type c.args.types.now c.args.below) c.args.component.now.type_id.0) (tag_at c.args.types.now c.args.component.now.type_id.0) (own_is _ _ _ c.requires) _ (presence_of c.args.component.now.presence) c.in_err-value-2.field-0.0 _ (subst (λ o. LooksFor (presence_of c.args.component.now.presence) (tag_at c.args.types.now c.args.component.now.type_id.0) c.args.decoder.now (Ok o)) c.in_default.is c.in_ok-value.ensures) c.in_err-value-2.ensures)
 
 pub decode_component-returns : goal.decode_component-returns
 decode_component-returns t c =
-    read_checked ((shape_of_type c.args.types.now c.args.below) c.args.component.now.type_id) (tag_at c.args.types.now c.args.component.now.type_id) (own_is _ _ _ c.requires) _ (presence_of c.args.component.now.presence) c.in_ok-value-2.value _ (subst (λ o. LooksFor (presence_of c.args.component.now.presence) (tag_at c.args.types.now c.args.component.now.type_id) c.args.decoder.now (Ok o)) c.in_default.is c.in_ok-value.ensures) c.in_ok-value-2.ensures _ c.checked.ensures
+    read_checked ((shape_of_type c.args.types.now c.args.below) c.args.component.now.type_id.0) (tag_at c.args.types.now c.args.component.now.type_id.0) (own_is _ _ _ c.requires) _ (presence_of c.args.component.now.presence) c.in_ok-value-2.value _ (subst (λ o. LooksFor (presence_of c.args.component.now.presence) (tag_at c.args.types.now c.args.component.now.type_id.0) c.args.decoder.now (Ok o)) c.in_default.is c.in_ok-value.ensures) c.in_ok-value-2.ensures _ c.checked.ensures
 
 pub decode_components-returns-in_err-value : goal.decode_components-returns-in_err-value
 decode_components-returns-in_err-value t c =
     rw (residual _ c.from_residual.ensures.1)
-    (part_fails _ _ _ (presence_of c.component-item.result.presence) ((shape_of_type c.args.types.now c.args.below) c.component-item.result.type_id) _ _ _ c.loop-rest.invariant.0 (ap (components_by (shape_of_type c.args.types.now c.args.below)) (split c.loop-rest.rest.now _ c.in-len1-up.len_at_least c.component-item.is)) _ _ c.in_err-value.ensures)
+    (part_fails _ _ _ (presence_of c.component-item.result.presence) ((shape_of_type c.args.types.now c.args.below) c.component-item.result.type_id.0) _ _ _ c.loop-rest.invariant.0 (ap (components_by (shape_of_type c.args.types.now c.args.below)) (split c.loop-rest.rest.now _ c.in-len1-up.len_at_least c.component-item.is)) _ _ c.in_err-value.ensures)
 
 pub decode_components-returns-in_err-push : goal.decode_components-returns-in_err-push
 decode_components-returns-in_err-push t c =
@@ -211,7 +211,7 @@ decode_components-returns-in_err-push t c =
 pub decode_components-loop-rest-preserved : goal.decode_components-loop-rest-preserved
 decode_components-loop-rest-preserved t c =
     let e = ap (components_by (shape_of_type c.args.types.now c.args.below)) (split c.loop-rest.rest.now _ c.in-len1-up.len_at_least c.component-item.is) in (
-      parts_more _ _ _ (presence_of c.component-item.result.presence) ((shape_of_type c.args.types.now c.args.below) c.component-item.result.type_id) _ _ _ c.loop-rest.invariant.0 e (tree_of c.in_ok-value.value) _ _
+      parts_more _ _ _ (presence_of c.component-item.result.presence) ((shape_of_type c.args.types.now c.args.below) c.component-item.result.type_id.0) _ _ _ c.loop-rest.invariant.0 e (tree_of c.in_ok-value.value) _ _
           (ap (map tree_of) c.in_ok-push.ensures.ok ∙ one_more c.loop-rest.values.items c.in_ok-value.value) c.in_ok-value.ensures,
       (subst AreLawful e c.loop-rest.invariant.1).1,
     )
@@ -259,13 +259,13 @@ pub decode_elements_in_order-loop-last-preserved : goal.decode_elements_in_order
 decode_elements_in_order-loop-last-preserved t c =
     let k = call_keeps c.in_ok-value.ensures in
     let strict_here : IsStrict c.args.decoder.now.rule → IsStrict c.loop-last.decoder.rule = λ h.
-    subst (λ (s : State). IsStrict s.rule) (sym (came_stays (shape_of_type c.args.types.now c.args.below c.args.element) tree_of c.args.decoder.now c.loop-last.decoder c.loop-last.values.items c.loop-last.invariant.0 c.loop-last.invariant.1)) h in
+    subst (λ (s : State). IsStrict s.rule) (sym (came_stays (shape_of_type c.args.types.now c.args.below c.args.element.0) tree_of c.args.decoder.now c.loop-last.decoder c.loop-last.values.items c.loop-last.invariant.0 c.loop-last.invariant.1)) h in
     let not_less : IsStrict c.args.decoder.now.rule → IsLess c.octets_before-octets.result.now c.loop-last.last.now → ⊥ = λ s h. elim c.else-is_strict.branch [
       | decode_elements_in_order-else-is_strict-via-then-is_strict+else-is_less w ↦ w.if-is_less.ensures h
       | decode_elements_in_order-else-is_strict-via-else-is_strict w ↦ w.if-is_strict.ensures (strict_after c.loop-last.decoder _ k (strict_here s))
     ] in (
       c.loop-last.invariant.0 ++ (c.octets_before-octets.result.now ∷ []),
-      passes_from (Decodes (shape_of_type c.args.types.now c.args.below c.args.element) tree_of) c.loop-last.decoder _ c.in_ok-value.value c.octets_before-octets.result.now
+      passes_from (Decodes (shape_of_type c.args.types.now c.args.below c.args.element.0) tree_of) c.loop-last.decoder _ c.in_ok-value.value c.octets_before-octets.result.now
           (rw (← c.remaining-start.ensures.value, ← c.remaining.ensures.value) c.octets_before-octets.ensures) c.loop-last-test.ensures c.in_ok-value.ensures
           (λ e. c.in_ok-keep.ensures.1 (e ∙ sym (ap length c.remaining-start.ensures.value))) c.args.decoder.now c.loop-last.values.items _ c.loop-last.invariant.0 c.in_ok-keep.ensures.0 c.loop-last.invariant.1,
       (λ s. in_order c.loop-last.invariant.0 c.loop-last.last.now c.octets_before-octets.result.now (c.loop-last.invariant.2 s) c.loop-last.invariant.3 (not_less s)),

@@ -40,7 +40,7 @@ abbrev pub decreases-decode_component : goal.decreases-decode_component
 decreases-decode_component l = 8 * l.below + 2
 
 abbrev pub invariant-decode_elements-loop-decoder : goal.invariant-decode_elements-loop-decoder
-invariant-decode_elements-loop-decoder l = DecodesInTurn (Decodes (shape_of_type l.types l.below l.element) tree_of) l.fn.decoder l.values.items l.decoder
+invariant-decode_elements-loop-decoder l = DecodesInTurn (Decodes (shape_of_type l.types l.below l.element.0) tree_of) l.fn.decoder l.values.items l.decoder
 
 abbrev pub decreases-decode_elements-loop-decoder : goal.decreases-decode_elements-loop-decoder
 decreases-decode_elements-loop-decoder l = length l.decoder.rest
@@ -56,7 +56,7 @@ abbrev pub decreases-decode_elements_in_order : goal.decreases-decode_elements_i
 decreases-decode_elements_in_order l = 8 * l.below + 3
 
 abbrev pub invariant-decode_elements_in_order-loop-last : goal.invariant-decode_elements_in_order-loop-last
-invariant-decode_elements_in_order-loop-last l = (bs : List (List ℕ)) × DecodesInTurnFrom (Decodes (shape_of_type l.types l.below l.element) tree_of) l.fn.decoder l.values.items bs l.decoder
+invariant-decode_elements_in_order-loop-last l = (bs : List (List ℕ)) × DecodesInTurnFrom (Decodes (shape_of_type l.types l.below l.element.0) tree_of) l.fn.decoder l.values.items bs l.decoder
     × (IsStrict l.fn.decoder.rule → AreAscending IsLess bs) × EndsBy bs l.last
 
 abbrev pub decreases-decode_elements_in_order-loop-last : goal.decreases-decode_elements_in_order-loop-last

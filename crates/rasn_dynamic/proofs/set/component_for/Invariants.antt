@@ -6,4 +6,4 @@ use Rattle.rasn_schema.specs.Shapes.{shape_of_type}
 use Rattle.rasn_dynamic.proofs.set.component_for.Given as goal
 
 abbrev pub invariant-loop-number : goal.invariant-loop-number
-invariant-loop-number l = (j : ℕ) (p : Component) → j < l.number → Some p ≡ slice_get l.components j → IsFirst (shape_of_type l.types l.levels p.type_id) l.tag → ⊥
+invariant-loop-number l = (j : ℕ) (p : Component) → j < l.number → Some p ≡ slice_get l.components j → IsFirst (shape_of_type l.types l.levels p.type_id.0) l.tag → ⊥

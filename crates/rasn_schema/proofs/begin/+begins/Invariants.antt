@@ -1,6 +1,7 @@
-use Rattle.std.proofs.Common.{ℕ, ◌+◌, ◌*◌, ◌<◌, get_or}
+use Rattle.std.proofs.Common.{◌+◌, ◌*◌}
 use Rattle.rasn_types.specs.Shapes.{IsFirst}
 use Rattle.rasn_schema.specs.Shapes.{shape_of_type}
+use Rattle.rasn_schema.proofs.Lists.{SoFar}
 use Rattle.rasn_schema.proofs.begin.+begins.Given as goal
 
 abbrev pub decreases-begins : goal.decreases-begins
@@ -12,5 +13,5 @@ decreases-type_begins l = 4 * l.below + 2
 abbrev pub decreases-some_begins : goal.decreases-some_begins
 decreases-some_begins l = 4 * l.levels + 1
 
-abbrev pub invariant-some_begins-loop-id : goal.invariant-some_begins-loop-id
-invariant-some_begins-loop-id l = (j : ℕ) → j < l.id-index → IsFirst (shape_of_type l.types l.levels (get_or l.alternatives j 0)) l.tag → ⊥
+abbrev pub invariant-some_begins-loop-alternative : goal.invariant-some_begins-loop-alternative
+invariant-some_begins-loop-alternative l = SoFar (λ j a. IsFirst (shape_of_type l.types l.levels a.type_id.0) l.tag → ⊥) l.alternatives l.alternative-index

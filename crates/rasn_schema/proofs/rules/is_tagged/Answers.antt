@@ -5,7 +5,7 @@ use Rattle.rasn_schema.proofs.TypeShapes.{shape_below, shape_none}
 use Rattle.rasn_schema.proofs.rules.is_tagged.Goals as goal
 
 pub returns-in-Some : goal.returns-in-Some
-returns-in-Some c = rw (shape_below c.args.types.now c.args.levels (c.args.levels - 1) c.args.id c.in-Some.ty.now (let n = c.requires in omega arith) c.in-Some.ensures) (c.type_is_tagged.ensures (shape_of_type c.args.types.now (c.args.levels - 1)))
+returns-in-Some c = rw (shape_below c.args.types.now c.args.levels (c.args.levels - 1) c.args.id.0 c.in-Some.ty.now (let n = c.requires in omega arith) c.in-Some.ensures) (c.type_is_tagged.ensures (shape_of_type c.args.types.now (c.args.levels - 1)))
 
 pub returns-in-None : goal.returns-in-None
-returns-in-None c h = subst IsPrefix (sym (shape_none c.args.types.now c.args.levels c.args.id c.requires c.in-None.ensures)) h
+returns-in-None c h = subst IsPrefix (sym (shape_none c.args.types.now c.args.levels c.args.id.0 c.requires c.in-None.ensures)) h

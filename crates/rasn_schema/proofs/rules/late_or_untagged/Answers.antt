@@ -1,12 +1,15 @@
-use Rattle.std.proofs.Common.{◌<◌, get_or, sym, arith}
-use Rattle.std.proofs.lemmas.Option.{slice_get-get_or}
-use Rattle.rasn_types.specs.Lawful.{HasTag}
-use Rattle.rasn_schema.specs.Shapes.{shape_of_type}
-use Rattle.rasn_schema.proofs.Lists.{so_far_more, so_far_end}
+use Rattle.std.proofs.Common.{refl, arith}
+use Rattle.rasn_schema.proofs.Lists.{so_far_more, so_far_end, read_at}
 use Rattle.rasn_schema.proofs.rules.late_or_untagged.Goals as goal
 
+pub returns-then-alternative-id : goal.returns-then-alternative-id
+returns-then-alternative-id c = (refl, (c.index-alternatives-index.result, (read_at c.args.alternatives.now c.loop-index.index c.index-alternatives-index.result (let n = c.loop-index-test.true in omega arith) c.index-alternatives-index.is), λ n. omega arith))
+
+pub returns-then-not-has_tag : goal.returns-then-not-has_tag
+returns-then-not-has_tag c = (refl, (c.index-alternatives-index.result, (read_at c.args.alternatives.now c.loop-index.index c.index-alternatives-index.result (let n = c.loop-index-test.true in omega arith) c.index-alternatives-index.is), c.if-not-has_tag.ensures))
+
 pub loop-index-preserved : goal.loop-index-preserved
-loop-index-preserved c = so_far_more (λ j k. (k < c.args.id) × HasTag (shape_of_type c.args.types.now c.args.levels k)) c.args.alternatives.now c.loop-index.index (get_or c.args.alternatives.now c.loop-index.index 0) (sym (slice_get-get_or c.args.alternatives.now c.loop-index.index 0 (let n = c.loop-index-test.true in omega arith))) (omega arith, c.if-not-has_tag.ensures) c.loop-index.invariant
+loop-index-preserved c = so_far_more _ c.args.alternatives.now c.loop-index.index c.index-alternatives-index.result (read_at c.args.alternatives.now c.loop-index.index c.index-alternatives-index.result (let n = c.loop-index-test.true in omega arith) c.index-alternatives-index.is) (omega arith, c.if-not-has_tag.ensures) c.loop-index.invariant
 
 pub returns : goal.returns
-returns c = so_far_end (λ j k. (k < c.args.id) × HasTag (shape_of_type c.args.types.now c.args.levels k)) c.args.alternatives.now c.loop-index.index (let n = c.loop-index-test.false in omega arith) c.loop-index.invariant
+returns c = so_far_end _ c.args.alternatives.now c.loop-index.index (let n = c.loop-index-test.false in omega arith) c.loop-index.invariant

@@ -5,4 +5,4 @@ use Rattle.rasn_schema.proofs.Lists.{SoFar}
 use Rattle.rasn_schema.proofs.rules.late_or_untagged.Given as goal
 
 abbrev pub invariant-loop-index : goal.invariant-loop-index
-invariant-loop-index l = SoFar (λ j k. (k < l.id) × HasTag (shape_of_type l.types l.levels k)) l.alternatives l.index
+invariant-loop-index l = SoFar (λ j a. (a.type_id.0 < l.id.0) × HasTag (shape_of_type l.types l.levels a.type_id.0)) l.alternatives l.index

@@ -6,4 +6,4 @@ use Rattle.rasn_schema.proofs.Lists.{SoFar}
 use Rattle.rasn_schema.proofs.rules.same_component.Given as goal
 
 abbrev pub invariant-loop-other : goal.invariant-loop-other
-invariant-loop-other l = SoFar (λ j q. l.index < j → (IsFirst (shape_of_type l.types l.levels q.type_id) l.tag → ⊥) × (IsAlwaysThere (presence_of q.presence) → ⊥)) l.components l.other
+invariant-loop-other l = SoFar (λ j q. l.index < j → (IsFirst (shape_of_type l.types l.levels q.type_id.0) l.tag → ⊥) × (IsAlwaysThere (presence_of q.presence) → ⊥)) l.components l.other
