@@ -1,7 +1,7 @@
 //! The lines of the program: `rule type hex`.
 ghost use Rattle.std.specs.Prelude.{◌≡◌, ◌<◌, MatchOption, IfOk, IfSome, List, length, ℕ};
 ghost use Rattle.rasn_types.specs.declared.types.codec.Codec.{Codec};
-ghost use Rattle.rasn_bench.specs.Lines.{name_of, rule_name, IsRequest, Spells, octets_of_digits, pairs_at, pair_at, digit_at, BeginsWithPair, BeginsWithoutPair};
+ghost use Rattle.rasn_bench.specs.Lines.{type_word, IsAsked, name_of, rule_name, IsRequest, Spells, octets_of_digits, pairs_at, pair_at, digit_at, BeginsWithPair, BeginsWithoutPair};
 ghost use Rattle.rasn_bench.specs.declared.line.ValueType.{ValueType};
 
 use rasn::types::Codec;

@@ -2,7 +2,7 @@
 #![tactic(auto)]
 
 #[cfg(test)]
-mod definitions;
+mod lines;
 #[cfg(test)]
 mod messages;
 #[cfg(test)]

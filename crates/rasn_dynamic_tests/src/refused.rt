@@ -1,13 +1,19 @@
 //! Types that aren't a schema, and values that aren't of their type.
 
-use crate::definitions::{CONTEXT_0, Definition, Part, types};
 use rasn_dynamic::{WriteError, encode, fits};
-use rasn_schema::{LeafKind, Schema, SchemaError, Value};
-use rasn_types::types::{Codec, Tag};
+use rasn_schema::{LeafKind, Schema, SchemaError, TypeId, Value};
+use rasn_schema_bench::{Definition, Occurrence, Part, types};
+use rasn_types::types::{Class, Codec, Constraints, Tag};
 use std::alloc::Global;
+use std::borrow::CowStr;
 use std::process::Abort;
 
-const FLAG: Definition = Definition::Leaf(Tag::BOOL, LeafKind::Boolean);
+const CONTEXT_0: Tag = Tag {
+    class: Class::Context,
+    value: 0,
+};
+
+const FLAG: Definition = Definition::Leaf(LeafKind::Boolean, Tag::BOOL);
 
 /// Types, and the rule that they break.
 type Row = (&'static [Definition], SchemaError);
@@ -32,33 +38,42 @@ fn assert_refused(rt: &impl Abort, alloc: Global, rows: &[Row]) {
 fn wrong_tags_and_choices_are_refused(rt: HostRuntime) {
     const ROWS: &[Row] = &[
         (
-            &[Definition::SetOf(Tag::EOC, 0)],
-            SchemaError::ReservedTag { id: 0 },
+            &[Definition::SetOf(Tag::EOC, 0, Constraints::NONE)],
+            SchemaError::ReservedTag { id: TypeId(0) },
         ),
         (
-            &[Definition::Leaf(Tag::SET, LeafKind::Utf8)],
-            SchemaError::ConstructedTag { id: 0 },
+            &[Definition::Leaf(LeafKind::Utf8, Tag::SET)],
+            SchemaError::ConstructedTag { id: TypeId(0) },
         ),
         (
             &[Definition::Tagged(CONTEXT_0, 0)],
-            SchemaError::LateInner { id: 0 },
+            SchemaError::LateInner { id: TypeId(0) },
         ),
         (
-            &[Definition::Choice(&[])],
-            SchemaError::NoAlternatives { id: 0 },
+            &[Definition::Choice("C", &[])],
+            SchemaError::NoAlternatives { id: TypeId(0) },
         ),
         (
-            &[Definition::Choice(&[1]), FLAG],
-            SchemaError::LateAlternative { id: 0, index: 0 },
+            &[Definition::Choice("C", &[("a", 1)]), FLAG],
+            SchemaError::LateAlternative {
+                id: TypeId(0),
+                index: 0,
+            },
         ),
         (
-            &[Definition::Any(Tag::EOC), Definition::Choice(&[0])],
-            SchemaError::UntaggedAlternative { id: 1, index: 0 },
+            &[
+                Definition::Any(Tag::EOC),
+                Definition::Choice("C", &[("a", 0)]),
+            ],
+            SchemaError::UntaggedAlternative {
+                id: TypeId(1),
+                index: 0,
+            },
         ),
         (
-            &[FLAG, Definition::Choice(&[0, 0])],
+            &[FLAG, Definition::Choice("C", &[("a", 0), ("b", 0)])],
             SchemaError::AlternativesClash {
-                id: 1,
+                id: TypeId(1),
                 index: 0,
                 other: 1,
             },
@@ -67,17 +82,29 @@ fn wrong_tags_and_choices_are_refused(rt: HostRuntime) {
     assert_refused(&rt, rt.alloc(), ROWS);
 }
 
-const TWO_FLAGS: &[Part] = &[Part::Optional(0), Part::Required(0)];
+const TWO_FLAGS: &[Part] = &[
+    ("part", Occurrence::Optional, 0),
+    ("part", Occurrence::Required, 0),
+];
 
-const AMBIGUOUS: &[Part] = &[Part::Optional(1), Part::Required(0)];
+const AMBIGUOUS: &[Part] = &[
+    ("part", Occurrence::Optional, 1),
+    ("part", Occurrence::Required, 0),
+];
 
-const ADDITION: &[Part] = &[Part::Addition(0)];
+const ADDITION: &[Part] = &[("part", Occurrence::Addition, 0)];
 
-const OPEN: &[Part] = &[Part::Required(1)];
+const OPEN: &[Part] = &[("part", Occurrence::Required, 1)];
 
-const TWICE: &[Part] = &[Part::Required(0), Part::Required(0)];
+const TWICE: &[Part] = &[
+    ("part", Occurrence::Required, 0),
+    ("part", Occurrence::Required, 0),
+];
 
-const FALLING: &[Part] = &[Part::Required(1), Part::Required(0)];
+const FALLING: &[Part] = &[
+    ("part", Occurrence::Required, 1),
+    ("part", Occurrence::Required, 0),
+];
 
 // X.680 25.6, 27.3, and the order of tags in 8.6.
 #[test]
@@ -86,7 +113,7 @@ fn components_that_clash_are_refused(rt: HostRuntime) {
         (
             &[FLAG, Definition::Sequence(Tag::SEQUENCE, TWO_FLAGS)],
             SchemaError::ComponentsClash {
-                id: 1,
+                id: TypeId(1),
                 index: 0,
                 other: 1,
             },
@@ -97,11 +124,17 @@ fn components_that_clash_are_refused(rt: HostRuntime) {
                 Definition::Any(Tag::EOC),
                 Definition::Sequence(Tag::SEQUENCE, AMBIGUOUS),
             ],
-            SchemaError::UntaggedComponent { id: 2, index: 0 },
+            SchemaError::UntaggedComponent {
+                id: TypeId(2),
+                index: 0,
+            },
         ),
         (
             &[FLAG, Definition::Set(Tag::SET, ADDITION)],
-            SchemaError::AdditionInSet { id: 1, index: 0 },
+            SchemaError::AdditionInSet {
+                id: TypeId(1),
+                index: 0,
+            },
         ),
         (
             &[
@@ -109,12 +142,15 @@ fn components_that_clash_are_refused(rt: HostRuntime) {
                 Definition::Any(Tag::EOC),
                 Definition::Set(Tag::SET, OPEN),
             ],
-            SchemaError::UntaggedInSet { id: 2, index: 0 },
+            SchemaError::UntaggedInSet {
+                id: TypeId(2),
+                index: 0,
+            },
         ),
         (
             &[FLAG, Definition::Set(Tag::SET, TWICE)],
             SchemaError::SetClash {
-                id: 1,
+                id: TypeId(1),
                 index: 0,
                 other: 1,
             },
@@ -122,11 +158,11 @@ fn components_that_clash_are_refused(rt: HostRuntime) {
         (
             &[
                 FLAG,
-                Definition::Leaf(Tag::INTEGER, LeafKind::Integer),
+                Definition::Leaf(LeafKind::Integer, Tag::INTEGER),
                 Definition::Set(Tag::SET, FALLING),
             ],
             SchemaError::SetOutOfOrder {
-                id: 2,
+                id: TypeId(2),
                 index: 0,
                 other: 1,
             },
@@ -138,8 +174,8 @@ fn components_that_clash_are_refused(rt: HostRuntime) {
 /// Returns whether the value isn't one of the only type of a table, and isn't written as such.
 fn is_unfit(alloc: Global, definition: &'static [Definition], value: &Value) -> Option<bool> {
     let schema = Schema::new(types(alloc, definition).ok()?).ok()?;
-    match encode(alloc, Codec::Der, &schema, 0, value) {
-        Err(WriteError::Unfit) => Some(!fits(&schema, 0, value)),
+    match encode(alloc, Codec::Der, &schema, TypeId(0), value) {
+        Err(WriteError::Unfit) => Some(!fits(&schema, TypeId(0), value)),
         _ => Some(false),
     }
 }
@@ -149,7 +185,5 @@ fn values_of_other_types_are_unfit(rt: HostRuntime) {
     const FLAGS: &[Definition] = &[FLAG];
     const OPEN_TYPE: &[Definition] = &[Definition::Any(Tag::EOC)];
     assert!(rt; is_unfit(rt.alloc(), FLAGS, &Value::Absent) == Some(true));
-    assert!(rt;
-        is_unfit(rt.alloc(), OPEN_TYPE, &Value::Text(String::new(rt.alloc()))) == Some(true)
-    );
+    assert!(rt; is_unfit(rt.alloc(), OPEN_TYPE, &Value::Text(CowStr::Borrowed(""))) == Some(true));
 }

@@ -41,6 +41,8 @@ pub enum Occurrence {
     Required,
     /// OPTIONAL.
     Optional,
+    /// An extension addition that is always present.
+    Addition,
     /// DEFAULT FALSE.
     False,
     /// DEFAULT 0.
@@ -168,6 +170,7 @@ fn presence(alloc: Global, occurrence: Occurrence) -> Result<Presence, AllocErro
     Ok(match occurrence {
         Occurrence::Required => Presence::Required,
         Occurrence::Optional => Presence::Optional,
+        Occurrence::Addition => Presence::Addition,
         Occurrence::False => Presence::Default(Value::Boolean(false)),
         Occurrence::Zero => Presence::Default(Value::Integer(Integer::from_i128(alloc, 0)?)),
     })
