@@ -1,4 +1,9 @@
 //! The program's work: an answer for each line.
+ghost use Rattle.std.specs.Prelude.{IfOk};
+ghost use Rattle.rasn_types.specs.Shapes.{Shape};
+ghost use Rattle.rasn_bench.specs.declared.line.ValueType.{ValueType};
+ghost use Rattle.rasn_bench.specs.Answers.{IsAnswerBy};
+ghost use Rattle.rasn_bench.specs.NormalAnswers.{IsNormalAnswerBy};
 
 use crate::answer::Answer;
 use crate::normal_answer::NormalAnswer;
@@ -31,13 +36,17 @@ impl RunFault {
     }
 }
 
-/// What answers lines.
+/// What answers lines, whose types have these shapes.
 pub trait Answers {
+    ghost shape: { Self → ValueType → Shape };
+
     /// Returns the answer to a line without its line feed.
-    fn answer(&self, alloc: Global, line: &str) -> Result<Answer, AllocError>;
+    fn answer(&self, alloc: Global, line: &str) -> Result<Answer, AllocError>
+        ensures { IfOk result (IsAnswerBy (shape self.now) line.now) };
 
     /// Returns the answer to a line without its line feed, by the DER octets of its value alone.
-    fn normal_answer(&self, alloc: Global, line: &str) -> Result<NormalAnswer, AllocError>;
+    fn normal_answer(&self, alloc: Global, line: &str) -> Result<NormalAnswer, AllocError>
+        ensures { IfOk result (IsNormalAnswerBy (shape self.now) line.now) };
 }
 
 /// Answers lines by the types of this crate.
@@ -45,6 +54,10 @@ pub trait Answers {
 pub struct WorkedTypes;
 
 impl Answers for WorkedTypes {
+    ghost use Rattle.rasn_bench.specs.Answers.{shape_of};
+
+    ghost shape = { λ _. shape_of };
+
     fn answer(&self, alloc: Global, line: &str) -> Result<Answer, AllocError> {
         Answer::to_line(alloc, line)
     }

@@ -1,4 +1,6 @@
 //! The types that a line may name, as types of a schema.
+ghost use Rattle.std.specs.Prelude.{◌≡◌};
+ghost use Rattle.rasn_schema_bench.specs.LineShapes.{type_number};
 
 use crate::definition::{Definition, Occurrence, Part};
 use crate::tags::{CONTEXT_0, CONTEXT_1, CONTEXT_2};
@@ -89,7 +91,9 @@ const OCTET: Constraints = Constraints {
 };
 
 /// Returns the number of the type that a line names. That of `optbool` is the type which may be absent.
-pub fn type_id(value_type: ValueType) -> TypeId {
+pub fn type_id(value_type: ValueType) -> TypeId
+    ensures { result.0 ≡ type_number value_type }
+{
     TypeId(match value_type {
         ValueType::Bool | ValueType::OptionalBool => 0,
         ValueType::I32 => 1,
