@@ -1,11 +1,16 @@
 -- Values that fit, one after the other.
-use Rattle.std.proofs.Common.{◌≡◌, ◌≢◌, ◌≤◌, ◌<◌, ℕ, zero, suc, Bool, true, false, List, [], ◌∷◌, length, Vec, Global, Option, Some, None, refl, sym, ap, subst, arith}
+use Rattle.std.proofs.Common.{◌≡◌, ◌≢◌, ◌≤◌, ◌<◌, ℕ, zero, suc, Bool, true, false, ℤ, List, [], ◌∷◌, length, Contains, Option, Some, None, refl, sym, ap, subst, ◌∙◌, arith}
 use Rattle.std.specs.Prelude.{slice_get}
+use Rattle.std.proofs.lemmas.Option.{slice_get_within}
 use Rattle.rasn_types.specs.Truth.{IsWhether}
 use Rattle.rasn_schema.specs.declared.types.Component.{Component}
 use Rattle.rasn_schema.specs.declared.types.«Type».{«Type»}
-use Rattle.rasn_schema.specs.declared.value.Value.{Value, Items, Elements, items_hidden-the_row-Value-0}
-use Rattle.rasn_dynamic.specs.Fitting.{ComponentFits, ComponentsFit, EachFits, AreItems, AreElements, FitsFound, FitsBy, Fits}
+use Rattle.rasn_schema.specs.declared.types.Alternative.{Alternative}
+use Rattle.rasn_schema.specs.declared.types.NamedNumber.{NamedNumber}
+use Rattle.rasn_schema.specs.declared.value.Value.{Value}
+use Rattle.rasn_schema.specs.Shapes.{numbers_of}
+use Rattle.rasn_schema.proofs.Lists.{some_is}
+use Rattle.rasn_dynamic.specs.Fitting.{AlternativeFits, ComponentFits, ComponentsFit, EachFits, FitsFound, FitsBy, Fits}
 
 -- Those so far fit if the rest does.
 pub record FitSoFar (g : ℕ → Value → Type 0) (all rest : List Component) (values left : List Value) : Type 0 where
@@ -62,12 +67,29 @@ module _ (P : Value → Type 0) where
   pub each_end : (all rest : List Value) → EachSoFar P all rest → rest ≡ [] → EachFits P all
   each_end all rest k e = k.up (subst (EachFits P) (sym e) tt)
 
-module _ (P : List Value → Type 0) (vs : Vec Value Global) (b : Bool) where
-  pub items_fit : IsWhether b (P vs.items) → IsWhether b (AreItems P (Items vs))
-  items_fit h = subst (λ l. IsWhether b (P l)) (sym (items_hidden-the_row-Value-0 vs)) h
+-- ---- alternatives and numbers
 
-  pub elements_fit : IsWhether b (P vs.items) → IsWhether b (AreElements P (Elements vs))
-  elements_fit h = subst (λ l. IsWhether b (P l)) (sym (items_hidden-the_row-Value-0 vs)) h
+module _ (g : ℕ → Value → Type 0) (ks : List Alternative) (i : ℕ) (w : Value) where
+  pub alternative_told : (a : Alternative) (b : Bool) → Some a ≡ slice_get ks i → IsWhether b (g a.type_id.0 w) → IsWhether b (AlternativeFits g ks i w)
+  alternative_told a true e h = (a, e, h)
+  alternative_told a false e h = λ (x, f, k). h (subst (λ (z : Alternative). g z.type_id.0 w) (some_is x a (f ∙ sym e)) k)
+
+  pub alternative_there : (a : Alternative) → Some a ≡ slice_get ks i → AlternativeFits g ks i w → g a.type_id.0 w
+  alternative_there a e (x, f, k) = subst (λ (z : Alternative). g z.type_id.0 w) (some_is x a (f ∙ sym e)) k
+
+  pub no_alternative : length ks ≤ i → AlternativeFits g ks i w → ⊥
+  no_alternative l (x, f, k) = omega (arith, l, slice_get_within ks i x (sym f))
+
+-- A name that stands in the list has a listed number.
+pub named_listed : (ns : List NamedNumber) (i : ℕ) (m : NamedNumber) (z : ℤ) → Some m ≡ slice_get ns i → m.number ≡ z → Contains (numbers_of ns) z
+named_listed [] i m z e f = cc
+named_listed (n ∷ ns) zero m z e f = (0, omega arith, ap (λ (x : NamedNumber). x.number) (some_is n m (sym e)) ∙ f)
+named_listed (n ∷ ns) (suc i) m z e f = let h = named_listed ns i m z e f in (suc h.0, omega (arith, h.1), h.2)
+
+pub not_listed : (ns : List NamedNumber) (z : ℤ) → ((j : ℕ) (m : NamedNumber) → Some m ≡ slice_get ns j → m.number ≡ z → ⊥) → Contains (numbers_of ns) z → ⊥
+not_listed [] z h (k, l, e) = omega (arith, l)
+not_listed (n ∷ ns) z h (zero, l, e) = h 0 n refl e
+not_listed (n ∷ ns) z h (suc k, l, e) = not_listed ns z (λ j m g. h (suc j) m g) (k, omega (arith, l), e)
 
 -- ---- one level deeper
 

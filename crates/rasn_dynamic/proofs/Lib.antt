@@ -12,3 +12,6 @@ pub mod WrittenInside
 pub mod Canonical
 pub mod Fitted
 pub mod SetSlots
+pub mod ListsOf
+pub mod UnfitParts
+pub mod LeafWritten

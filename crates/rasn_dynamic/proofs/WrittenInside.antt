@@ -20,13 +20,18 @@ use Rattle.rasn_enc.proofs.Constructed.SetOf.{set_elements_one, front_is, order_
 use Rattle.rasn_schema.specs.declared.types.Component.{Component}
 use Rattle.rasn_schema.specs.declared.value.Value.{Value}
 use Rattle.rasn_schema.specs.Trees.{tree_of}
-use Rattle.std.proofs.Common.{zero, suc, ◌<◌, get_or, arith}
+use Rattle.std.proofs.Common.{zero, suc, ◌<◌, arith}
 use Rattle.rasn_types.specs.Shapes.{choice, chosen}
 use Rattle.rasn_enc.specs.Choice.{IsAlternative}
 use Rattle.rasn_enc.proofs.OwnTypes.Choice.{chosen_encoded, chosen_refused}
 use Rattle.rasn_schema.specs.Shapes.{components_by, alternatives_by, presence_of}
 use Rattle.rasn_types.specs.Trees.{list_tree}
-use Rattle.rasn_dynamic.specs.Written.{WritesInside, EncodesInside, IsLeftOutAs}
+use Rattle.std.specs.Prelude.{slice_get}
+use Rattle.rasn_enc.specs.Primitive.{IsAllocError}
+use Rattle.rasn_schema.specs.declared.types.Alternative.{Alternative}
+use Rattle.rasn_schema.proofs.Lists.{some_is}
+use Rattle.rasn_dynamic.specs.Fitting.{ComponentFits, ComponentsFit, EachFits}
+use Rattle.rasn_dynamic.specs.Written.{WritesInside, EncodesPart, Encodes, EncodesInside, IsEnclosed, HoldsOthers, keeps_tags, IsLeftOutAs}
 
 octets_of_fresh : (l : OpenList) (keeps : Bool) → l ≡ fresh keeps → l.octets ≡ []
 octets_of_fresh l keeps e = ap (λ (x : OpenList). x.octets) e
@@ -37,18 +42,11 @@ behind_nothing v w keeps octets f e = sym (e ∙ ap (λ l. l ++ octets) (octets_
 no_tags : (v : View) → v.last ≡ fresh false → v.last.tags ≡ None
 no_tags v f = ap (λ (x : OpenList). x.tags) f
 
-keeps_tags : (v : View) → v.last ≡ fresh true → v.last.tags ≢ None
-keeps_tags v f e = let g : Some [] ≡ None = sym (ap (λ (x : OpenList). x.tags) f) ∙ e in cc
+keeps_some : (v : View) → v.last ≡ fresh true → v.last.tags ≢ None
+keeps_some v f e = let g : Some [] ≡ None = sym (ap (λ (x : OpenList). x.tags) f) ∙ e in cc
 
 left_as_it_was : (v w : View) → w ≡ v → LeavesOthers v w
 left_as_it_was v w e = record { rule = ap (λ (x : View). x.rule) e; below = ap (λ (x : View). x.below) e }
-
--- A refusal from which nothing follows.
-pub inside_misfit : (s : Shape) (t : Tree) (v : View) (e : EncodeError) → IsEncodeOutOfMemory e.kind → EncodesInside s t v (Err e) v
-inside_misfit s t v e m = record { keeps = record { rule = refl; below = refl }; ok = tt; refused = inl m }
-
-pub parts_misfit : (ps : Parts) (t : Tree) (v : View) (e : EncodeError) → IsEncodeOutOfMemory e.kind → EncodesParts ps t v (Err e) v
-parts_misfit ps t v e m = record { keeps = record { rule = refl; below = refl }; ok = tt; refused = record { why = inl m } }
 
 -- ---- an explicit prefix
 
@@ -122,8 +120,8 @@ module _ (tag : Tag) (ps : Parts) (t u : Tree) (e : t ≡ u) (v w : View) where
         k.ok.tags,
         e ∙ k.ok.is,
         k.ok.written,
-        k.ok.tagged (keeps_tags v f),
-        k.ok.heads (keeps_tags v f),
+        k.ok.tagged (keeps_some v f),
+        k.ok.heads (keeps_some v f),
         subst (AreAscending Rattle.rasn_types.specs.Tags.IsTagBelow) kept_are order,
         sym (behind_nothing v w true (joined_lists k.ok.encoded) f (ap (λ (x : View). x.last.octets) k.ok.appended)),
       );
@@ -139,7 +137,7 @@ module _ (tag : Tag) (ps : Parts) (t u : Tree) (e : t ≡ u) (v w : View) where
           let p = k.ok in
           let i : p.trees ≡ b.0 = items_one p.trees b.0 (sym p.is ∙ (sym e ∙ b.3)) in
           let j : p.encoded ≡ b.1 = parts_one_writing ps v.rule p.trees p.encoded b.1 p.written (subst (λ l. PartsWritten (fields_of v.rule ps) l b.1) (sym i) b.4) in
-          let q : b.2 ≡ p.tags = tags_one b.1 b.2 p.tags b.6 (subst (λ l. TagsOf l p.tags) j (p.heads (keeps_tags v f))) in
+          let q : b.2 ≡ p.tags = tags_one b.1 b.2 p.tags b.6 (subst (λ l. TagsOf l p.tags) j (p.heads (keeps_some v f))) in
           falls (subst (AreAscending Rattle.rasn_types.specs.Tags.IsTagBelow) (q ∙ sym kept_are) b.7));
     }
 
@@ -263,43 +261,82 @@ written_start f all us old = record { on = λ r w k. k }
 
 module _ (f : ℕ → Shape) (all rest after : List Component) (p : Component) (us left others : List Value) (u : Value) (old here : View)
     (k : WrittenSoFar f all rest us left old here) (e : rest ≡ p ∷ after) (g : left ≡ u ∷ others) where
-  back : (r : Result (Unit {0}) EncodeError) (w : View) → EncodesParts (part (presence_of p.presence) (f p.type_id) (components_by f after)) (joined (tree_of u) (list_tree tree_of others)) here r w
+  back : (r : Result (Unit {0}) EncodeError) (w : View) → EncodesParts (part (presence_of p.presence) (f p.type_id.0) (components_by f after)) (joined (tree_of u) (list_tree tree_of others)) here r w
       → EncodesParts (components_by f all) (list_tree tree_of us) old r w
   back r w h = k.on r w (subst (λ l. EncodesParts (components_by f l) (list_tree tree_of left) here r w) (sym e)
       (subst (λ l. EncodesParts (components_by f (p ∷ after)) (list_tree tree_of l) here r w) (sym g) h))
 
-  pub written_more : (mid : View) → AppendsPart (presence_of p.presence) (f p.type_id) (tree_of u) here mid → WrittenSoFar f all after us others old mid
-  written_more mid a = record { on = λ r w h. back r w (part_appended (f p.type_id) (components_by f after) (tree_of u) (list_tree tree_of others) here mid w r a h) }
+  pub written_more : (mid : View) → AppendsPart (presence_of p.presence) (f p.type_id.0) (tree_of u) here mid → WrittenSoFar f all after us others old mid
+  written_more mid a = record { on = λ r w h. back r w (part_appended (f p.type_id.0) (components_by f after) (tree_of u) (list_tree tree_of others) here mid w r a h) }
 
-  pub written_fails : (x : EncodeError) (mid : View) → EncodePartFails (presence_of p.presence) (f p.type_id) (tree_of u) here x → mid ≡ here → EncodesParts (components_by f all) (list_tree tree_of us) old (Err x) mid
+  pub written_fails : (x : EncodeError) (mid : View) → EncodePartFails (presence_of p.presence) (f p.type_id.0) (tree_of u) here x → mid ≡ here → EncodesParts (components_by f all) (list_tree tree_of us) old (Err x) mid
   written_fails x mid h q = back (Err x) mid (refused x h q)
     where
-      refused : (x : EncodeError) → EncodePartFails (presence_of p.presence) (f p.type_id) (tree_of u) here x → mid ≡ here
-          → EncodesParts (part (presence_of p.presence) (f p.type_id) (components_by f after)) (joined (tree_of u) (list_tree tree_of others)) here (Err x) mid
-      refused x h q = Rattle.rasn_enc.proofs.OwnTypes.Sequence.part_refused (f p.type_id) (components_by f after) (tree_of u) (list_tree tree_of others) here mid (Err x) x h q refl
+      refused : (x : EncodeError) → EncodePartFails (presence_of p.presence) (f p.type_id.0) (tree_of u) here x → mid ≡ here
+          → EncodesParts (part (presence_of p.presence) (f p.type_id.0) (components_by f after)) (joined (tree_of u) (list_tree tree_of others)) here (Err x) mid
+      refused x h q = Rattle.rasn_enc.proofs.OwnTypes.Sequence.part_refused (f p.type_id.0) (components_by f after) (tree_of u) (list_tree tree_of others) here mid (Err x) x h q refl
 
 -- ---- the alternative that was chosen
 
 module _ (f : ℕ → Shape) where
-  alternative_at : (ks : List ℕ) (k : ℕ) → k < length ks → IsAlternative (alternatives_by f ks) k (f (get_or ks k 0))
-  alternative_at [] k l = absurd (omega (arith, l))
-  alternative_at (j ∷ ks) zero l = refl
-  alternative_at (j ∷ ks) (suc k) l = alternative_at ks k (omega (arith, l))
+  alternative_at : (ks : List Alternative) (k : ℕ) (a : Alternative) → Some a ≡ slice_get ks k → IsAlternative (alternatives_by f ks) k (f a.type_id.0)
+  alternative_at [] k a e = cc
+  alternative_at (j ∷ ks) zero a e = ap (λ (x : Alternative). f x.type_id.0) (some_is j a (sym e))
+  alternative_at (j ∷ ks) (suc k) a e = alternative_at ks k a e
 
-  module _ (ks : List ℕ) (k : ℕ) (l : k < length ks) (t : Tree) (v : View) where
-    pub alternative_put : (w : View) (r : Result (Unit {0}) EncodeError) → OnOk r (AppendsEncoding (f (get_or ks k 0)) t v w) → OnOk r (AppendsEncoding (choice (alternatives_by f ks)) (chosen k t) v w)
-    alternative_put w (Ok x) h = chosen_encoded (alternatives_by f ks) k (f (get_or ks k 0)) t (alternative_at ks k l) v w h
-    alternative_put w (Err x) h = tt
+  pub alternative_written : (ks : List Alternative) (k : ℕ) (a : Alternative) (t : Tree) (v w : View) (r : Result (Unit {0}) EncodeError) → Some a ≡ slice_get ks k
+      → Encodes (f a.type_id.0) t v r w → Encodes (choice (alternatives_by f ks)) (chosen k t) v r w
+  alternative_written ks k a t v w (Ok x) e h = record { ok = chosen_encoded (alternatives_by f ks) k (f a.type_id.0) t (alternative_at ks k a e) v w h.ok; err = tt; refused = tt }
+  alternative_written ks k a t v w (Err x) e h = record { ok = tt; err = h.err; refused = chosen_refused (alternatives_by f ks) k (f a.type_id.0) t (alternative_at ks k a e) v v x h.refused }
 
-    pub alternative_not_put : (r : Result (Unit {0}) EncodeError) → IfErr r (EncodeFails (f (get_or ks k 0)) t v) → IfErr r (EncodeFails (choice (alternatives_by f ks)) (chosen k t) v)
-    alternative_not_put (Ok x) h = tt
-    alternative_not_put (Err x) h = chosen_refused (alternatives_by f ks) k (f (get_or ks k 0)) t (alternative_at ks k l) v v x h
+-- No component is left, and so no value.
+pub parts_ended : (f : ℕ → Shape) (g : ℕ → Value → Type 0) (rest : List Component) (left : List Value) (v : View) → length rest < 1 → ComponentsFit g rest left
+    → EncodesParts (components_by f rest) (list_tree tree_of left) v (Ok tt) v
+parts_ended f g [] [] v l h = parts_end v
+parts_ended f g [] (x ∷ left) v l h = absurd h
+parts_ended f g (p ∷ rest) left v l h = absurd (omega (arith, l))
 
--- No component and no value is left.
-pub parts_done : (f : ℕ → Shape) (rest : List Component) (left : List Value) (v : View) → length rest < 1 → length left ≡ 0 → EncodesParts (components_by f rest) (list_tree tree_of left) v (Ok tt) v
-parts_done f [] [] v l e = parts_end v
-parts_done f [] (x ∷ left) v l e = cc_length left e
-  where
-    cc_length : (m : List Value) → suc (length m) ≡ 0 → EncodesParts (components_by f []) (list_tree tree_of (x ∷ left)) v (Ok tt) v
-    cc_length m h = absurd (omega (arith, h))
-parts_done f (p ∷ rest) left v l e = absurd (omega (arith, l))
+-- ---- values that fit
+
+module _ (g : ℕ → Value → Type 0) where
+  pub next_component : (rest after : List Component) (p : Component) (left others : List Value) (v : Value) → rest ≡ p ∷ after → left ≡ v ∷ others → ComponentsFit g rest left
+      → ComponentFits g p v × ComponentsFit g after others
+  next_component rest after p left others v e f h = subst (λ l. ComponentsFit g (p ∷ after) l) f (subst (λ l. ComponentsFit g l left) e h)
+
+  pub no_value : (rest after : List Component) (p : Component) (left : List Value) → rest ≡ p ∷ after → left ≡ [] → ComponentsFit g rest left → ⊥
+  no_value rest after p left e f h = subst (λ l. ComponentsFit g (p ∷ after) l) f (subst (λ l. ComponentsFit g l left) e h)
+
+  pub fits_there : (p : Component) (v : Value) → (IsLeftOutAs (presence_of p.presence) (tree_of v) → ⊥) → ComponentFits g p v → g p.type_id.0 v
+  fits_there p v n (inl l) = absurd (n l)
+  fits_there p v n (inr h) = h
+
+pub next_element : (P : Value → Type 0) (rest after : List Value) (v : Value) → rest ≡ v ∷ after → EachFits P rest → P v × EachFits P after
+next_element P rest after v e h = subst (EachFits P) e h
+
+pub holds_others : (s : Shape) (tag : Tag) (keeps : Bool) → IsEnclosed s tag keeps → HoldsOthers s
+holds_others (prefix tag s) u k h = tt
+holds_others (seq tag ps) u k h = tt
+holds_others (set tag ps) u k h = tt
+holds_others (list tag s size) u k h = tt
+holds_others (set_of tag s size) u k h = tt
+holds_others _ u k h = absurd h
+
+pub keeps_as : (s : Shape) (tag : Tag) (keeps : Bool) → IsEnclosed s tag keeps → keeps_tags s ≡ keeps
+keeps_as (prefix tag s) u k h = sym h.1
+keeps_as (seq tag ps) u k h = sym h.1
+keeps_as (set tag ps) u k h = sym h.1
+keeps_as (list tag s size) u k h = sym h.1
+keeps_as (set_of tag s size) u k h = sym h.1
+keeps_as _ u k h = absurd h
+
+-- ---- one component
+
+module _ (s : Shape) (t : Tree) (v : View) (p : Presence) where
+  pub part_skipped : IsLeftOutAs p t → EncodesPart p s t v (Ok tt) v
+  part_skipped e = record { ok = part_left s t v v p e; err = tt; refused = tt }
+
+  pub part_written : (IsLeftOutAs p t → ⊥) → (w : View) (r : Result (Unit {0}) EncodeError) → Encodes s t v r w → EncodesPart p s t v r w
+  part_written n w r h = record { ok = part_put s t v w p n r h.ok; err = h.err; refused = part_not_put s t v w p n r h.refused }
+
+pub not_opened : (s : Shape) (t : Tree) (v w : View) (e : EncodeError) → w ≡ v → IsAllocError v.rule e → Encodes s t v (Err e) w
+not_opened s t v w e k m = record { ok = tt; err = k; refused = record { why = inl (ap (λ (x : EncodeError). x.kind) m) } }

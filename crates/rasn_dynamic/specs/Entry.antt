@@ -11,7 +11,10 @@ use Rattle.rasn.specs.Normal.{Means}
 use Rattle.rasn_schema.specs.declared.types.«Type».{«Type»}
 use Rattle.rasn_schema.specs.Shapes.{shape_of_type}
 use Rattle.rasn_schema.specs.declared.value.Value.{Value}
-use Rattle.rasn_dynamic.specs.Fitting.{Fits}
+use Rattle.rasn_types.specs.Errors.{IsEncodeOutOfMemory}
+use Rattle.rasn_enc.specs.Encoding.{NoEncoding}
+use Rattle.rasn_schema.specs.Trees.{tree_of}
+use Rattle.rasn_dynamic.specs.Fitting.{Fits, IsUnfitAt}
 use Rattle.rasn_dynamic.specs.declared.entry.WriteError.{WriteError}
 use Rattle.rasn_dynamic.specs.declared.entry.WriteError.TheVariants.{Unfit, Encode as Written}
 use Rattle.rasn_dynamic.specs.declared.entry.NormaliseError.{NormaliseError}
@@ -25,11 +28,18 @@ shape_of types id = shape_of_type types 18446744073709551615 id
 abbrev pub FitsType : List «Type» → ℕ → Value → Type 0
 FitsType types id v = Fits types 18446744073709551615 id v
 
--- The value fits and these are its octets; or it doesn't fit; or it fits, and has no octets or memory ran out.
-abbrev pub IsEncoded : Codec → Shape → Type 0 → Tree → Result (Vec ℕ Global) WriteError → Type 0
-IsEncoded rule s fits t (Ok octets) = fits × Bytes rule s t octets.items
-IsEncoded rule s fits t (Err Unfit) = fits → ⊥
-IsEncoded rule s fits t (Err (Written e)) = fits × EncodingFails rule s t e
+-- The path leads from a value of the type to a part that isn't of its type's form.
+abbrev pub IsUnfit : List «Type» → ℕ → Value → List ℕ → Type 0
+IsUnfit types id v path = IsUnfitAt types 18446744073709551615 id v path
+
+-- The value is one of the type, and these are its octets.
+abbrev pub IsEncoded : Codec → List «Type» → ℕ → Value → List ℕ → Type 0
+IsEncoded rule types id v octets = FitsType types id v × Bytes rule (shape_of types id) (tree_of v) octets
+
+-- The value isn't one of the type, and the path leads to the part at fault; or memory runs out; or it is one, and has no octets.
+abbrev pub IsNotEncoded : Codec → List «Type» → ℕ → Value → WriteError → Type 0
+IsNotEncoded rule types id v (Unfit path) = (FitsType types id v → ⊥) × IsUnfit types id v path.indices.items
+IsNotEncoded rule types id v (Written e) = IsEncodeOutOfMemory e.kind ⊎ (FitsType types id v × NoEncoding rule (shape_of types id) (tree_of v))
 
 -- The octets are those by other rules of what all of the input means; or it means nothing, or has no octets by those rules.
 abbrev pub IsNormalised : Codec → Codec → Shape → List ℕ → Result (Vec ℕ Global) NormaliseError → Type 0

@@ -4,3 +4,4 @@ pub mod Written
 pub mod Entry
 pub mod Fitting
 pub mod SetSlots
+pub mod Paths

@@ -1,5 +1,5 @@
 -- The contents of a value that holds others, as they are written.
-use Rattle.std.specs.Prelude.{◌≡◌, ◌⊎◌, ◌≤◌, ℕ, List, Bool, true, false, length, Result, OnOk, IfErr}
+use Rattle.std.specs.Prelude.{◌≡◌, ◌⊎◌, ◌≤◌, ℕ, List, Bool, true, false, length, Result, OnOk, OnErr, IfErr}
 use Rattle.rasn_types.specs.declared.types.codec.Codec.{Codec}
 use Rattle.rasn_types.specs.declared.types.tag.Tag.{Tag}
 use Rattle.rasn_types.specs.declared.error.encode.EncodeError.{EncodeError}
@@ -9,6 +9,7 @@ use Rattle.rasn_types.specs.Contents.{joined_lists}
 use Rattle.rasn_types.specs.Shapes.{Tree, items, set_elements, absent, Same, Presence, required, optional, addition, default, Shape, leaf, any, prefix, choice, option, seq, set, list, set_of, Admits}
 use Rattle.rasn_types.specs.Bytes.{Bytes, fields_of, PartsWritten, NoneUntaggedOpen, TagsOf, Each, AreAscending, IsLess}
 use Rattle.rasn_enc.specs.View.{View, LeavesOthers}
+use Rattle.rasn_enc.specs.Encoding.{AppendsPart, EncodePartFails}
 
 unfoldable pub WritesInside : Codec → Shape → Tree → List ℕ → Type 0
 WritesInside rule (leaf kind tag bounds) t c = ⊥
@@ -34,6 +35,28 @@ IsEnclosed (seq tag ps) u keeps = (u ≡ tag) × (keeps ≡ false)
 IsEnclosed (set tag ps) u keeps = (u ≡ tag) × (keeps ≡ true)
 IsEnclosed (list tag s size) u keeps = (u ≡ tag) × (keeps ≡ false)
 IsEnclosed (set_of tag s size) u keeps = (u ≡ tag) × (keeps ≡ false)
+
+-- The shape of a value that holds others, whose contents are written between its header and its end.
+abbrev pub HoldsOthers : Shape → Type 0
+HoldsOthers (leaf kind tag bounds) = ⊥
+HoldsOthers (any tag) = ⊥
+HoldsOthers (prefix tag s) = Unit {0}
+HoldsOthers (choice ps) = ⊥
+HoldsOthers (option tag s) = ⊥
+HoldsOthers (seq tag ps) = Unit {0}
+HoldsOthers (set tag ps) = Unit {0}
+HoldsOthers (list tag s size) = Unit {0}
+HoldsOthers (set_of tag s size) = Unit {0}
+
+-- What a call that writes a component returns, and the encoder's state after it: the state before it if the component isn't written.
+pub record EncodesPart (p : Presence) (s : Shape) (t : Tree) (v : View) (r : Result (Unit {0}) EncodeError) (w : View) : Type 0 where
+  pub ok : OnOk r (AppendsPart p s t v w)
+  pub err : OnErr r (w ≡ v)
+  pub refused : IfErr r (EncodePartFails p s t v)
+
+-- The same of a value.
+abbrev pub Encodes : Shape → Tree → View → Result (Unit {0}) EncodeError → View → Type 0
+Encodes = EncodesPart required
 
 -- What a call that writes the contents of an open value returns, and the encoder's state after it.
 pub record EncodesInside (s : Shape) (t : Tree) (v : View) (r : Result (Unit {0}) EncodeError) (w : View) : Type 0 where

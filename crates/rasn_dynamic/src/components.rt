@@ -49,7 +49,7 @@ pub fn checked<'input>(
     component: &Component,
     value: Value<'input>,
 ) -> Result<Value<'input>, DecodeError>
-    ensures { ChecksDefault (presence_of component.now.presence) decoder.now value result }
+    ensures { ChecksDefault (presence_of component.now.presence) decoder.now value.entry result }
 {
     if let Presence::Default(default) = &component.presence {
         if decoder.is_strict() && value.means_same(default) {

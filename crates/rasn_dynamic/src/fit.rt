@@ -1,17 +1,18 @@
 //! Whether a value fits its type.
 ghost use Rattle.std.specs.Prelude.{◌≡◌, MatchOption};
-ghost use Rattle.rasn_types.specs.Shapes.{absent, set_elements};
-ghost use Rattle.rasn_types.specs.Trees.{list_tree};
+ghost use Rattle.rasn_types.specs.Shapes.{absent};
 ghost use Rattle.rasn_types.specs.Truth.{IsWhether};
 ghost use Rattle.rasn_schema.specs.Trees.{tree_of};
 ghost use Rattle.rasn_schema.specs.Shapes.{presence_of};
 ghost use Rattle.rasn_dynamic.specs.Written.{IsLeftOutAs};
+ghost use Rattle.rasn_dynamic.specs.Fitting.{IsListOf, IsNoList, IsSetOf, IsNoSet};
 
 use rasn_schema::{Component, Presence, Value};
 
 /// Returns the values of a list.
+#[inline(always)]
 pub fn items_of<'value, 'input>(value: &'value Value<'input>) -> Option<&'value [Value<'input>]>
-    ensures { MatchOption result (Unit {0}) (λ l. tree_of value.now ≡ list_tree tree_of l.now) }
+    ensures { MatchOption result (IsNoList value.now) (λ l. IsListOf l.now value.now) }
 {
     match value {
         Value::Items(values) => Some(values.as_slice()),
@@ -20,8 +21,9 @@ pub fn items_of<'value, 'input>(value: &'value Value<'input>) -> Option<&'value 
 }
 
 /// Returns the values of a set.
+#[inline(always)]
 pub fn elements_of<'value, 'input>(value: &'value Value<'input>) -> Option<&'value [Value<'input>]>
-    ensures { MatchOption result (Unit {0}) (λ l. tree_of value.now ≡ set_elements (list_tree tree_of l.now)) }
+    ensures { MatchOption result (IsNoSet value.now) (λ l. IsSetOf l.now value.now) }
 {
     match value {
         Value::Elements(values) => Some(values.as_slice()),
@@ -29,17 +31,8 @@ pub fn elements_of<'value, 'input>(value: &'value Value<'input>) -> Option<&'val
     }
 }
 
-/// Returns whether a value is that of a component that is absent.
-fn is_absent(value: &Value<'_>) -> bool
-    ensures { IsWhether result (tree_of value.now ≡ absent) }
-{
-    match value {
-        Value::Absent => true,
-        _ => false,
-    }
-}
-
 /// Returns whether a component with this value isn't written.
+#[inline(always)]
 pub fn is_left_out(component: &Component, value: &Value<'_>) -> bool
     ensures { IsWhether result (IsLeftOutAs (presence_of component.now.presence) (tree_of value.now)) }
 {
@@ -48,4 +41,12 @@ pub fn is_left_out(component: &Component, value: &Value<'_>) -> bool
         Presence::Optional | Presence::Addition => is_absent(value),
         Presence::Default(default) => value.means_same(default),
     }
+}
+
+/// Returns whether a value is that of a component that is absent.
+#[inline(always)]
+fn is_absent(value: &Value<'_>) -> bool
+    ensures { IsWhether result (tree_of value.now ≡ absent) }
+{
+    matches!(value, Value::Absent)
 }

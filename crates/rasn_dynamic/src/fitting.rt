@@ -1,14 +1,13 @@
-//! Which values fit a type.
-ghost use Rattle.std.specs.Prelude.{◌≡◌, [], Contains};
+//! Which values are values of a type.
+ghost use Rattle.std.specs.Prelude.{◌≡◌, ◌⊎◌, Contains};
+ghost use Rattle.rasn_schema.specs.declared.types.LeafKind.TheVariants.{UtcTime, GeneralizedTime};
 ghost use Rattle.rasn_types.specs.Shapes.{IsIn, between};
 ghost use Rattle.rasn_types.specs.CharacterString.{AreAdmitted};
 ghost use Rattle.rasn_types.specs.Truth.{IsWhether};
-ghost use Rattle.rasn_schema.specs.Shapes.{presence_of, numbers_of};
-ghost use Rattle.rasn_schema.specs.Trees.{tree_of};
-ghost use Rattle.rasn_dynamic.specs.Fitting.{IsNumber, NumberFits, OctetsFit, FitsLeaf, AreOctets, AlternativeFits, IsChosen, ComponentFits, ComponentsFit, AreItems, AreElements, EachFits, FitsBy, Fits};
-ghost use Rattle.rasn_dynamic.specs.Entry.{FitsType};
+ghost use Rattle.rasn_schema.specs.Shapes.{numbers_of};
+ghost use Rattle.rasn_dynamic.specs.Fitting.{IsNumber, NumberFits, OctetsFit, FitsLeaf, AreOctets, AlternativeFits, IsChosen, ComponentFits, ComponentsFit, AreItems, EachFits, FitsBy, Fits};
 
-use crate::fit::is_left_out;
+use crate::fit::{elements_of, is_left_out, items_of};
 use rasn_schema::{
     Alternative, Component, LeafKind, NamedNumber, Schema, Type, TypeId, Value, type_at,
 };
@@ -56,16 +55,9 @@ fn octets_fit(kind: LeafKind, octets: &[u8]) -> bool
         LeafKind::Printable => are_admitted(Alphabet::Printable, octets),
         LeafKind::Visible => are_admitted(Alphabet::Visible, octets),
         LeafKind::Ia5 => are_admitted(Alphabet::Ia5, octets),
-        LeafKind::AnyOctets => are_admitted(Alphabet::Every, octets),
+        LeafKind::AnyOctets => true,
         _ => false,
     }
-}
-
-/// Returns whether the kind is this one.
-fn is_kind(kind: LeafKind, wanted: LeafKind) -> bool
-    ensures { IsWhether result (kind ≡ wanted) }
-{
-    kind == wanted
 }
 
 /// Returns whether the value, which holds no other values, is one of this kind.
@@ -73,22 +65,38 @@ fn leaf_fits(kind: LeafKind, value: &Value<'_>) -> bool
     ensures { IsWhether result (FitsLeaf kind value.now) }
 {
     match value {
-        Value::Boolean(_) => is_kind(kind, LeafKind::Boolean),
-        Value::Null => is_kind(kind, LeafKind::Null),
+        Value::Boolean(_) => matches!(kind, LeafKind::Boolean),
+        Value::Null => matches!(kind, LeafKind::Null),
         Value::Integer(number) => number_fits(kind, number),
-        Value::Bits(_) => is_kind(kind, LeafKind::BitString),
+        Value::Bits(_) => matches!(kind, LeafKind::BitString),
         Value::Octets(octets) => octets_fit(kind, octets.as_slice()),
-        Value::Text(_) => is_kind(kind, LeafKind::Utf8),
-        Value::Units(_) => is_kind(kind, LeafKind::Bmp),
-        Value::Arcs(_) => is_kind(kind, LeafKind::ObjectIdentifier),
-        Value::Instant(_) => {
-            is_kind(kind, LeafKind::UtcTime) || is_kind(kind, LeafKind::GeneralizedTime)
-        }
-        Value::Day(_) => is_kind(kind, LeafKind::Date),
+        Value::Text(_) => matches!(kind, LeafKind::Utf8),
+        Value::Units(_) => matches!(kind, LeafKind::Bmp),
+        Value::Arcs(_) => matches!(kind, LeafKind::ObjectIdentifier),
+        Value::Instant(_) => is_time(kind),
+        Value::Day(_) => matches!(kind, LeafKind::Date),
         Value::Items(_) => false,
         Value::Elements(_) => false,
         Value::Chosen(_, _) => false,
         Value::Absent => false,
+    }
+}
+
+/// Returns whether the kind is one of the two whose values are instants.
+fn is_time(kind: LeafKind) -> bool
+    ensures { IsWhether result ((kind ≡ UtcTime) ⊎ (kind ≡ GeneralizedTime)) }
+{
+    matches!(kind, LeafKind::UtcTime | LeafKind::GeneralizedTime)
+}
+
+/// Returns whether the name is that of the number.
+fn is_named(named: &NamedNumber, number: &Integer) -> bool
+    ensures { IsWhether result (named.now.number ≡ number.now) }
+{
+    let listed = named.number as i128;
+    match number.to_i128() {
+        Some(number) => number == listed,
+        None => false,
     }
 }
 
@@ -97,7 +105,7 @@ fn is_listed(numbers: &[NamedNumber], number: &Integer) -> bool
     ensures { IsWhether result (Contains (numbers_of numbers.now) number.now) }
 {
     for named in numbers {
-        if number.to_i128() == Some(named.number as i128) {
+        if is_named(named, number) {
             return true;
         }
     }
@@ -118,22 +126,12 @@ fn is_number(numbers: &[NamedNumber], value: &Value<'_>) -> bool
 fn are_octets(value: &Value<'_>) -> bool
     ensures { IsWhether result (AreOctets value.now) }
 {
-    match value {
-        Value::Octets(_) => true,
-        _ => false,
-    }
-}
-
-/// Returns whether no value is left.
-fn is_end(values: &[Value<'_>]) -> bool
-    ensures { IsWhether result (values.now ≡ []) }
-{
-    values.is_empty()
+    matches!(value, Value::Octets(_))
 }
 
 /// Returns whether the value is one of the type with this number. Types are followed `levels` deep.
 #[cycle(fits)]
-fn fits_at(types: &[Type], levels: usize, id: TypeId, value: &Value<'_>) -> bool
+pub(crate) fn fits_at(types: &[Type], levels: usize, id: TypeId, value: &Value<'_>) -> bool
     ensures { IsWhether result (Fits types.now levels id.0 value.now) }
 {
     if levels == 0 {
@@ -158,8 +156,14 @@ fn type_fits(types: &[Type], below: usize, ty: &Type, value: &Value<'_>) -> bool
         Type::Choice { alternatives, .. } => is_alternative(types, below, alternatives, value),
         Type::Sequence { components, .. } => are_components(types, below, components, value),
         Type::Set { components, .. } => are_components(types, below, components, value),
-        Type::SequenceOf { element, .. } => is_list(types, below, *element, value),
-        Type::SetOf { element, .. } => is_set(types, below, *element, value),
+        Type::SequenceOf { element, .. } => match items_of(value) {
+            Some(values) => each_fits(types, below, *element, values),
+            None => false,
+        },
+        Type::SetOf { element, .. } => match elements_of(value) {
+            Some(values) => each_fits(types, below, *element, values),
+            None => false,
+        },
     }
 }
 
@@ -173,37 +177,11 @@ fn is_alternative(
 ) -> bool
     ensures { IsWhether result (IsChosen (AlternativeFits (Fits types.now below) alternatives.now) value.now) }
 {
-    match value {
-        Value::Chosen(index, inner) => alternative_fits(types, below, alternatives, *index, inner),
-        Value::Boolean(_) => false,
-        Value::Null => false,
-        Value::Integer(_) => false,
-        Value::Bits(_) => false,
-        Value::Octets(_) => false,
-        Value::Text(_) => false,
-        Value::Units(_) => false,
-        Value::Arcs(_) => false,
-        Value::Instant(_) => false,
-        Value::Day(_) => false,
-        Value::Items(_) => false,
-        Value::Elements(_) => false,
-        Value::Absent => false,
-    }
-}
-
-/// Returns whether the value is one of the alternative with this index.
-#[cycle(fits)]
-fn alternative_fits(
-    types: &[Type],
-    below: usize,
-    alternatives: &[Alternative],
-    index: usize,
-    value: &Value<'_>,
-) -> bool
-    ensures { IsWhether result (AlternativeFits (Fits types.now below) alternatives.now index value.now) }
-{
-    match alternatives.get(index) {
-        Some(alternative) => fits_at(types, below, alternative.type_id, value),
+    let Value::Chosen(index, inner) = value else {
+        return false;
+    };
+    match alternatives.get(*index) {
+        Some(alternative) => fits_at(types, below, alternative.type_id, inner),
         None => false,
     }
 }
@@ -213,67 +191,9 @@ fn alternative_fits(
 fn are_components(types: &[Type], below: usize, components: &[Component], value: &Value<'_>) -> bool
     ensures { IsWhether result (AreItems (ComponentsFit (Fits types.now below) components.now) value.now) }
 {
-    match value {
-        Value::Items(values) => components_fit(types, below, components, values.as_slice()),
-        Value::Boolean(_) => false,
-        Value::Null => false,
-        Value::Integer(_) => false,
-        Value::Bits(_) => false,
-        Value::Octets(_) => false,
-        Value::Text(_) => false,
-        Value::Units(_) => false,
-        Value::Arcs(_) => false,
-        Value::Instant(_) => false,
-        Value::Day(_) => false,
-        Value::Elements(_) => false,
-        Value::Chosen(_, _) => false,
-        Value::Absent => false,
-    }
-}
-
-/// Returns whether the value is a list of values of the type.
-#[cycle(fits)]
-fn is_list(types: &[Type], below: usize, element: TypeId, value: &Value<'_>) -> bool
-    ensures { IsWhether result (AreItems (EachFits (Fits types.now below element.0)) value.now) }
-{
-    match value {
-        Value::Items(values) => each_fits(types, below, element, values.as_slice()),
-        Value::Boolean(_) => false,
-        Value::Null => false,
-        Value::Integer(_) => false,
-        Value::Bits(_) => false,
-        Value::Octets(_) => false,
-        Value::Text(_) => false,
-        Value::Units(_) => false,
-        Value::Arcs(_) => false,
-        Value::Instant(_) => false,
-        Value::Day(_) => false,
-        Value::Elements(_) => false,
-        Value::Chosen(_, _) => false,
-        Value::Absent => false,
-    }
-}
-
-/// Returns whether the value is a set of values of the type.
-#[cycle(fits)]
-fn is_set(types: &[Type], below: usize, element: TypeId, value: &Value<'_>) -> bool
-    ensures { IsWhether result (AreElements (EachFits (Fits types.now below element.0)) value.now) }
-{
-    match value {
-        Value::Elements(values) => each_fits(types, below, element, values.as_slice()),
-        Value::Boolean(_) => false,
-        Value::Null => false,
-        Value::Integer(_) => false,
-        Value::Bits(_) => false,
-        Value::Octets(_) => false,
-        Value::Text(_) => false,
-        Value::Units(_) => false,
-        Value::Arcs(_) => false,
-        Value::Instant(_) => false,
-        Value::Day(_) => false,
-        Value::Items(_) => false,
-        Value::Chosen(_, _) => false,
-        Value::Absent => false,
+    match items_of(value) {
+        Some(values) => components_fit(types, below, components, values),
+        None => false,
     }
 }
 
@@ -299,18 +219,20 @@ fn components_fit(
         rest = after;
         left = others;
     }
-    is_end(left)
+    left.is_empty()
 }
 
 /// Returns whether the component is absent or has its default's value, or the value is one of its type.
 #[cycle(fits)]
-fn component_fits(types: &[Type], below: usize, component: &Component, value: &Value<'_>) -> bool
+pub(crate) fn component_fits(
+    types: &[Type],
+    below: usize,
+    component: &Component,
+    value: &Value<'_>,
+) -> bool
     ensures { IsWhether result (ComponentFits (Fits types.now below) component.now value.now) }
 {
-    if is_left_out(component, value) {
-        return true;
-    }
-    fits_at(types, below, component.type_id, value)
+    is_left_out(component, value) || fits_at(types, below, component.type_id, value)
 }
 
 /// Returns whether each value is one of the type.
@@ -330,7 +252,7 @@ fn each_fits(types: &[Type], below: usize, element: TypeId, values: &[Value<'_>]
 
 /// Returns whether the value is one of the type with this number, so that it can be written.
 pub fn fits(schema: &Schema, id: TypeId, value: &Value<'_>) -> bool
-    ensures { IsWhether result (FitsType schema.now.types.items id.0 value.now) }
+    ensures { IsWhether result (Fits schema.now.types.items 18446744073709551615 id.0 value.now) }
 {
     fits_at(schema.types(), usize::MAX, id, value)
 }

@@ -8,16 +8,20 @@ mod entry;
 mod fit;
 mod fitting;
 mod order;
+mod path;
 mod read_leaf;
 mod reader;
 mod set;
+mod unfit;
 mod write_leaf;
 mod writer;
 
 pub use entry::{
-    NormaliseError, WriteError, decode, decode_with_remainder, encode, is_canonical, normalise,
+    NormaliseError, WriteError, decode, decode_with_remainder, encode, encode_buf, is_canonical,
+    normalise,
 };
 pub use fitting::fits;
+pub use path::ValuePath;
 
 #[test]
 fn nothing(rt: HostRuntime) {

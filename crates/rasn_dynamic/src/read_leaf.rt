@@ -40,7 +40,7 @@ pub(crate) fn push<'input>(
     values: &mut Vec<Value<'input>>,
     value: Value<'input>,
 ) -> Result<(), DecodeError>
-    ensures ok { OnOk result (values.new.items ≡ values.old.items ++ value ∷ []) }
+    ensures ok { OnOk result (values.new.items ≡ values.old.items ++ value.entry ∷ []) }
     ensures memory { IfErr result (IsErrorOf OutOfMemory decoder.now) }
     ensures kind { IfErr result (λ e. IsOutOfMemory e.kind) }
 {

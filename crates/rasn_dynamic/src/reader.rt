@@ -50,7 +50,7 @@ fn keep<'input>(
     value: Value<'input>,
     values: &mut Vec<Value<'input>>,
 ) -> Result<(), DecodeError>
-    ensures { IsKept left decoder.now value values.old.items result values.new.items }
+    ensures { IsKept left decoder.now value.entry values.old.items result values.new.items }
 {
     if decoder.remaining().len() == left {
         return Err(extra(decoder, left));
@@ -65,7 +65,7 @@ fn sized<'input>(
     values: Vec<Value<'input>>,
     constraints: &Constraints,
 ) -> Result<Value<'input>, DecodeError>
-    ensures { IsSized constraints.now.size values result }
+    ensures { IsSized constraints.now.size values.entry result }
 {
     if constraints.admits_size(values.len()) {
         Ok(Value::Items(values))
@@ -87,7 +87,7 @@ fn sized_set<'input>(
     values: Vec<Value<'input>>,
     constraints: &Constraints,
 ) -> Result<Value<'input>, DecodeError>
-    ensures { IsSizedSet constraints.now.size values result }
+    ensures { IsSizedSet constraints.now.size values.entry result }
 {
     if constraints.admits_size(values.len()) {
         Ok(Value::Elements(values))

@@ -58,7 +58,7 @@ pub fn put<'input>(
     value: Value<'input>,
 ) -> Result<(), DecodeError>
     requires { number < length found.old.items }
-    ensures { IsPut number value found.old.items result found.new.items }
+    ensures { IsPut number value.entry found.old.items result found.new.items }
 {
     if found[number].is_some() {
         return Err(no_part(decoder));
@@ -81,7 +81,7 @@ fn settle<'input>(
     component: &Component,
     found: Option<Value<'input>>,
 ) -> Result<Value<'input>, DecodeError>
-    ensures { IsSettled (presence_of component.now.presence) (held_tree tree_of found) result }
+    ensures { IsSettled (presence_of component.now.presence) (held_tree tree_of found.entry) result }
 {
     if let Some(value) = found {
         return Ok(value);
@@ -102,8 +102,8 @@ pub fn gather<'input>(
     components: &[Component],
     found: Vec<Option<Value<'input>>>,
 ) -> Result<Value<'input>, DecodeError>
-    requires { length found.items ≡ length components.now }
-    ensures { Gathers (presences_in components.now) (held found.items) result }
+    requires { length found.entry.items ≡ length components.now }
+    ensures { Gathers (presences_in components.now) (held found.entry.items) result }
 {
     let mut coming = found.into_iter();
     let mut values = Vec::new(decoder.alloc());

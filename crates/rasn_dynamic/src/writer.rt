@@ -1,18 +1,18 @@
 //! Writes a value of a type.
-ghost use Rattle.std.specs.Prelude.{◌≡◌, OnOk, OnErr, IfErr, None, map};
+ghost use Rattle.std.specs.Prelude.{◌≡◌, OnOk, IfErr, None, map};
 ghost use Rattle.rasn_types.specs.Shapes.{choice};
 ghost use Rattle.rasn_types.specs.Trees.{list_tree};
 ghost use Rattle.rasn_enc.specs.View.{fresh, LeavesOthers};
 ghost use Rattle.rasn_enc.specs.Primitive.{IsOrderError};
-ghost use Rattle.rasn_enc.specs.Encoding.{AppendsEncoding, AppendsPart, EncodeFails, EncodePartFails};
 ghost use Rattle.rasn_enc.specs.Sequence.{EncodesParts};
 ghost use Rattle.rasn_enc.specs.SequenceOf.{AppendsElements, AppendsSetOf, FailsAtElement, FailsAtElements};
 ghost use Rattle.rasn_schema.specs.Trees.{tree_of};
 ghost use Rattle.rasn_schema.specs.Shapes.{shape_of_type, type_by, alternatives_by, components_by, presence_of};
-ghost use Rattle.rasn_dynamic.specs.Written.{EncodesInside, IsEnclosed, keeps_tags};
+ghost use Rattle.rasn_dynamic.specs.Fitting.{AlternativeFits, IsChosen, ComponentFits, ComponentsFit, EachFits, FitsBy, Fits};
+ghost use Rattle.rasn_dynamic.specs.Written.{Encodes, EncodesPart, EncodesInside, IsEnclosed, HoldsOthers, keeps_tags};
 
 use crate::fit::{elements_of, is_left_out, items_of};
-use crate::write_leaf::{encode_any_value, encode_leaf, encode_number, misfit};
+use crate::write_leaf::{encode_leaf, encode_number, encode_open_value};
 use rasn_enc::ber::enc::Encoder;
 use rasn_schema::{Alternative, Component, Type, TypeId, Value, type_at};
 use rasn_types::error::{BerEncodeErrorKind, CodecEncodeError, EncodeError, EncodeErrorKind};
@@ -39,16 +39,15 @@ pub fn encode_at(
     id: TypeId,
     value: &Value<'_>,
 ) -> Result<(), EncodeError>
-    ensures ok { OnOk result (AppendsEncoding (shape_of_type types.now levels id.0) (tree_of value.now) encoder.old encoder.new) }
-    ensures err { OnErr result (encoder.new ≡ encoder.old) }
-    ensures refused { IfErr result (EncodeFails (shape_of_type types.now levels id.0) (tree_of value.now) encoder.old) }
+    requires { Fits types.now levels id.0 value.now }
+    ensures { Encodes (shape_of_type types.now levels id.0) (tree_of value.now) encoder.old result encoder.new }
 {
     if levels == 0 {
-        return Err(misfit(encoder));
+        unreachable!();
     }
     match type_at(types, id) {
         Some(ty) => encode_type(encoder, types, levels - 1, ty, value),
-        None => Err(misfit(encoder)),
+        None => unreachable!(),
     }
 }
 
@@ -61,9 +60,8 @@ fn encode_type(
     ty: &Type,
     value: &Value<'_>,
 ) -> Result<(), EncodeError>
-    ensures ok { OnOk result (AppendsEncoding (type_by (shape_of_type types.now below) ty.now) (tree_of value.now) encoder.old encoder.new) }
-    ensures err { OnErr result (encoder.new ≡ encoder.old) }
-    ensures refused { IfErr result (EncodeFails (type_by (shape_of_type types.now below) ty.now) (tree_of value.now) encoder.old) }
+    requires { FitsBy (Fits types.now below) ty.now value.now }
+    ensures { Encodes (type_by (shape_of_type types.now below) ty.now) (tree_of value.now) encoder.old result encoder.new }
 {
     match ty {
         Type::Leaf {
@@ -73,7 +71,7 @@ fn encode_type(
             ..
         } => encode_leaf(encoder, *kind, *tag, constraints, value),
         Type::Enumerated { tag, numbers } => encode_number(encoder, *tag, numbers, value),
-        Type::Any { tag } => encode_any_value(encoder, *tag, value),
+        Type::Any { tag } => encode_open_value(encoder, *tag, value),
         Type::Choice { alternatives, .. } => encode_choice(
             encoder,
             types,
@@ -102,17 +100,16 @@ fn encode_choice(
     alternatives: &[Alternative],
     value: &Value<'_>,
 ) -> Result<(), EncodeError>
-    ensures ok { OnOk result (AppendsEncoding (choice (alternatives_by (shape_of_type types.now below) alternatives.now)) (tree_of value.now) encoder.old encoder.new) }
-    ensures err { OnErr result (encoder.new ≡ encoder.old) }
-    ensures refused { IfErr result (EncodeFails (choice (alternatives_by (shape_of_type types.now below) alternatives.now)) (tree_of value.now) encoder.old) }
+    requires { IsChosen (AlternativeFits (Fits types.now below) alternatives.now) value.now }
+    ensures { Encodes (choice (alternatives_by (shape_of_type types.now below) alternatives.now)) (tree_of value.now) encoder.old result encoder.new }
 {
-    let Value::Chosen(number, inner) = value else {
-        return Err(misfit(encoder));
+    let Value::Chosen(index, inner) = value else {
+        unreachable!();
     };
-    if *number >= alternatives.len() {
-        return Err(misfit(encoder));
+    match alternatives.get(*index) {
+        Some(alternative) => encode_at(encoder, types, below, alternative.type_id, inner),
+        None => unreachable!(),
     }
-    encode_at(encoder, types, below, alternatives[*number].type_id, inner)
 }
 
 /// Writes a value that holds other values, and its header.
@@ -126,10 +123,9 @@ fn encode_inside(
     keeps: bool,
     value: &Value<'_>,
 ) -> Result<(), EncodeError>
-    requires { IsEnclosed (type_by (shape_of_type types.now below) ty.now) tag keeps }
-    ensures ok { OnOk result (AppendsEncoding (type_by (shape_of_type types.now below) ty.now) (tree_of value.now) encoder.old encoder.new) }
-    ensures err { OnErr result (encoder.new ≡ encoder.old) }
-    ensures refused { IfErr result (EncodeFails (type_by (shape_of_type types.now below) ty.now) (tree_of value.now) encoder.old) }
+    requires fits { FitsBy (Fits types.now below) ty.now value.now }
+    requires enclosed { IsEnclosed (type_by (shape_of_type types.now below) ty.now) tag keeps }
+    ensures { Encodes (type_by (shape_of_type types.now below) ty.now) (tree_of value.now) encoder.old result encoder.new }
 {
     encoder.open(keeps)?;
     let outcome = encode_contents(encoder, types, below, ty, value);
@@ -145,14 +141,16 @@ fn encode_contents(
     ty: &Type,
     value: &Value<'_>,
 ) -> Result<(), EncodeError>
-    requires { encoder.old.last ≡ fresh (keeps_tags (type_by (shape_of_type types.now below) ty.now)) }
+    requires fits { FitsBy (Fits types.now below) ty.now value.now }
+    requires holds { HoldsOthers (type_by (shape_of_type types.now below) ty.now) }
+    requires fresh { encoder.old.last ≡ fresh (keeps_tags (type_by (shape_of_type types.now below) ty.now)) }
     ensures { EncodesInside (type_by (shape_of_type types.now below) ty.now) (tree_of value.now) encoder.old result encoder.new }
 {
     match ty {
         Type::Tagged { inner, .. } => encode_at(encoder, types, below, *inner, value),
         Type::Sequence { components, .. } => match items_of(value) {
             Some(values) => encode_components(encoder, types, below, components, values),
-            None => Err(misfit(encoder)),
+            None => unreachable!(),
         },
         Type::Set { components, .. } => match items_of(value) {
             Some(values) => {
@@ -162,7 +160,7 @@ fn encode_contents(
                 }
                 Ok(())
             }
-            None => Err(misfit(encoder)),
+            None => unreachable!(),
         },
         Type::SequenceOf {
             element,
@@ -173,7 +171,7 @@ fn encode_contents(
                 encoder.check_size(constraints, values.len())?;
                 encode_elements(encoder, types, below, *element, values)
             }
-            None => Err(misfit(encoder)),
+            None => unreachable!(),
         },
         Type::SetOf {
             element,
@@ -184,9 +182,9 @@ fn encode_contents(
                 encoder.check_size(constraints, values.len())?;
                 encode_elements_in_order(encoder, types, below, *element, values)
             }
-            None => Err(misfit(encoder)),
+            None => unreachable!(),
         },
-        _ => Err(misfit(encoder)),
+        _ => unreachable!(),
     }
 }
 
@@ -199,23 +197,20 @@ fn encode_components(
     components: &[Component],
     values: &[Value<'_>],
 ) -> Result<(), EncodeError>
+    requires { ComponentsFit (Fits types.now below) components.now values.now }
     ensures { EncodesParts (components_by (shape_of_type types.now below) components.now) (list_tree tree_of values.now) encoder.old result encoder.new }
 {
     let mut rest = components;
     let mut left = values;
     while let [component, after @ ..] = rest {
         let [value, others @ ..] = left else {
-            return Err(misfit(encoder));
+            unreachable!();
         };
         encode_component(encoder, types, below, component, value)?;
         rest = after;
         left = others;
     }
-    if left.is_empty() {
-        Ok(())
-    } else {
-        Err(misfit(encoder))
-    }
+    Ok(())
 }
 
 /// Writes a component, or nothing if it is absent.
@@ -227,9 +222,8 @@ fn encode_component(
     component: &Component,
     value: &Value<'_>,
 ) -> Result<(), EncodeError>
-    ensures ok { OnOk result (AppendsPart (presence_of component.now.presence) (shape_of_type types.now below component.now.type_id.0) (tree_of value.now) encoder.old encoder.new) }
-    ensures err { OnErr result (encoder.new ≡ encoder.old) }
-    ensures refused { IfErr result (EncodePartFails (presence_of component.now.presence) (shape_of_type types.now below component.now.type_id.0) (tree_of value.now) encoder.old) }
+    requires { ComponentFits (Fits types.now below) component.now value.now }
+    ensures { EncodesPart (presence_of component.now.presence) (shape_of_type types.now below component.now.type_id.0) (tree_of value.now) encoder.old result encoder.new }
 {
     if is_left_out(component, value) {
         return Ok(());
@@ -246,7 +240,8 @@ fn encode_elements(
     element: TypeId,
     values: &[Value<'_>],
 ) -> Result<(), EncodeError>
-    requires { encoder.old.last.tags ≡ None }
+    requires fits { EachFits (Fits types.now below element.0) values.now }
+    requires untagged { encoder.old.last.tags ≡ None }
     ensures keeps { LeavesOthers encoder.old encoder.new }
     ensures ok { OnOk result (AppendsElements (shape_of_type types.now below element.0) (map tree_of values.now) encoder.old encoder.new) }
     ensures refused { IfErr result (FailsAtElement (shape_of_type types.now below element.0) (map tree_of values.now) encoder.old.rule) }
@@ -268,7 +263,8 @@ fn encode_elements_in_order(
     element: TypeId,
     values: &[Value<'_>],
 ) -> Result<(), EncodeError>
-    requires { encoder.old.last.tags ≡ None }
+    requires fits { EachFits (Fits types.now below element.0) values.now }
+    requires untagged { encoder.old.last.tags ≡ None }
     ensures keeps { LeavesOthers encoder.old encoder.new }
     ensures ok { OnOk result (AppendsSetOf (shape_of_type types.now below element.0) (map tree_of values.now) encoder.old encoder.new) }
     ensures refused { IfErr result (FailsAtElements (shape_of_type types.now below element.0) (map tree_of values.now) encoder.old.rule) }

@@ -7,3 +7,5 @@ mod lines;
 mod messages;
 #[cfg(test)]
 mod refused;
+#[cfg(test)]
+mod written;

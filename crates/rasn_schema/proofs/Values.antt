@@ -12,7 +12,7 @@ row_of (Items' _ row) = (_, row)
 row_of (Elements' _ row) = (_, row)
 row_of _ = (_, end_of-Value)
 
-trees_listed : (n : _) (row : Row_of-Value n) → trees_in row ≡ list_tree tree_of (items-the_row-Value n row)
+pub trees_listed : (n : _) (row : Row_of-Value n) → trees_in row ≡ list_tree tree_of (items-the_row-Value n row)
 trees_listed n end_of-Value = refl
 trees_listed n (more_of-Value v rest) = ap (joined (tree_of v)) (trees_listed _ rest)
 

@@ -12,6 +12,6 @@ pub returns-clause-written : goal.returns-clause-written
 returns-clause-written c = λ der.
     let s = shape_of c.args.schema.now.types.items c.args.id.0 in
     let value = c.in_ok-value.value in
-    let alone = subst (λ r. Exact (Reads c.args.rule s 128 (top c.args.rule)) c.args.input.now (Got (tree_of value) r)) c.in_ok-refuse_remainder.ensures c.in_ok-value.ensures in
+    let alone = subst (λ r. Exact (Reads c.args.rule s 128 (top c.args.rule)) c.args.input.now (Got (tree_of value) r)) c.in_ok-refuse_remainder.ensures c.in_ok-value.ensures.exact in
     as_written s tree_of c.args.input.now (octets_all c.args.input.now (λ i. omega (arith, c.type_inv.input i))) (Ok value)
     (subst (λ k. AnsweredAlone k s tree_of c.args.input.now (Ok value)) der alone)

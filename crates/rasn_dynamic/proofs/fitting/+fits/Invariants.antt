@@ -12,17 +12,8 @@ decreases-type_fits l = 8 * l.below + 7
 abbrev pub decreases-is_alternative : goal.decreases-is_alternative
 decreases-is_alternative l = 8 * l.below + 6
 
-abbrev pub decreases-alternative_fits : goal.decreases-alternative_fits
-decreases-alternative_fits l = 8 * l.below + 5
-
 abbrev pub decreases-are_components : goal.decreases-are_components
 decreases-are_components l = 8 * l.below + 6
-
-abbrev pub decreases-is_list : goal.decreases-is_list
-decreases-is_list l = 8 * l.below + 6
-
-abbrev pub decreases-is_set : goal.decreases-is_set
-decreases-is_set l = 8 * l.below + 6
 
 abbrev pub decreases-components_fit : goal.decreases-components_fit
 decreases-components_fit l = 8 * l.below + 5
@@ -40,7 +31,7 @@ abbrev pub decreases-components_fit-loop-rest : goal.decreases-components_fit-lo
 decreases-components_fit-loop-rest l = length l.rest
 
 abbrev pub invariant-each_fits-loop-rest : goal.invariant-each_fits-loop-rest
-invariant-each_fits-loop-rest l = EachSoFar (Fits l.types l.below l.element) l.values l.rest
+invariant-each_fits-loop-rest l = EachSoFar (Fits l.types l.below l.element.0) l.values l.rest
 
 abbrev pub decreases-each_fits-loop-rest : goal.decreases-each_fits-loop-rest
 decreases-each_fits-loop-rest l = length l.rest

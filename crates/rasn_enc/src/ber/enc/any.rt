@@ -29,7 +29,18 @@ impl Encoder {
         ensures err { OnErr result (self.new ≡ self.old) }
         ensures fails { IfErr result (FailsAtAny tag value.now self.old) }
     {
-        let octets = value.as_bytes();
+        self.encode_open(tag, value.as_bytes())
+    }
+
+    /// Writes the octets of a value of an open type as `encode_any` does (X.680 30, X.690 8.15).
+    ///
+    /// # Errors
+    /// As of `encode_any`.
+    pub fn encode_open(&mut self, tag: Tag, octets: &[u8]) -> Result<(), EncodeError>
+        ensures ok { OnOk result (AppendsEncoding (any (looked_for tag)) (numbers octets.now) self.old self.new) }
+        ensures err { OnErr result (self.new ≡ self.old) }
+        ensures fails { IfErr result (FailsAtAny tag octets.now self.old) }
+    {
         if octets.is_empty() {
             return Ok(());
         }

@@ -2,7 +2,7 @@ use Rattle.std.proofs.Common.{rules}
 use Rattle.rasn_schema.specs.Trees.{tree_of}
 use Rattle.rasn_dynamic.specs.Entry.{shape_of}
 use Rattle.rasn_dynamic.proofs.Canonical.{identified}
-use Rattle.rasn_dynamic.proofs.entry.write.Goals as goal
+use Rattle.rasn_dynamic.proofs.entry.write_over.Goals as goal
 
 pub returns-clause-canonical : goal.returns-clause-canonical
 returns-clause-canonical c = λ der.

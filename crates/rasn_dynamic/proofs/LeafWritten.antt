@@ -1,0 +1,110 @@
+-- Values that hold no other values, written as values of their kind.
+use Rattle.std.proofs.Common.{◌≡◌, ◌⊎◌, inl, inr, ℕ, ℤ, List, length, Contains, Result, OnOk, OnErr, IfErr, refl, sym, ap, ◌∙◌, subst}
+use Rattle.std.proofs.lemmas.Result.{on_ok_weaker, IfErr-weaker}
+use Rattle.rasn_types.specs.CharacterString.{AreAdmitted}
+use Rattle.rasn_types.specs.Shapes.{Shape, Kind, Tree, Interval, IsIn, leaf, number, numbers, integer, enumerated, every, octet_string, numeric, printable, visible, ia5, any_octets}
+use Rattle.rasn_types.specs.Trees.{signed_range, unsigned_range, unconstrained}
+use Rattle.rasn_types.specs.Bytes.{Bytes, Written, IsUntaggedOpen, WritesIn}
+use Rattle.rasn_types.specs.Grammar.{plain_family, text_family}
+use Rattle.rasn_types.specs.declared.types.codec.Codec.{Codec}
+use Rattle.rasn_types.specs.declared.types.tag.Tag.{Tag}
+use Rattle.rasn_types.specs.declared.types.constraints.Constraints.{Constraints}
+use Rattle.rasn_types.specs.declared.types.strings.alphabet.Alphabet.{Alphabet}
+use Rattle.rasn_types.specs.declared.types.strings.alphabet.Alphabet.TheVariants.{Numeric as NumericAlphabet, Printable as PrintableAlphabet, Visible as VisibleAlphabet, Ia5 as Ia5Alphabet}
+use Rattle.rasn_types.specs.declared.error.encode.EncodeError.{EncodeError}
+use Rattle.rasn_enc.specs.View.{View}
+use Rattle.rasn_enc.specs.Encoding.{AppendsEncoding, EncodeFails}
+use Rattle.rasn_enc.specs.Errors.{FailsAtString, FailsAtInteger}
+use Rattle.rasn_enc.proofs.Leaves.CharacterString.{fixed_encoded, text_refused}
+use Rattle.rasn_enc.proofs.Leaves.Primitive.{integer_refused}
+use Rattle.rasn_enc.proofs.Leaves.ObjectIdentifier.{named_encoded}
+use Rattle.rasn_schema.specs.declared.types.LeafKind.{LeafKind}
+use Rattle.rasn_schema.specs.declared.types.LeafKind.TheVariants.{Boolean, Null, ObjectIdentifier, BitString, OctetString, FixedOctetString, Integer, Signed32, Signed64, Unsigned32, Unsigned64, Numeric, Printable, Visible, Ia5, AnyOctets, Bmp, Utf8, UtcTime, GeneralizedTime, Date}
+use Rattle.rasn_schema.specs.declared.value.Value.{Value}
+use Rattle.rasn_schema.specs.Trees.{tree_of}
+use Rattle.rasn_schema.specs.Shapes.{kind_of}
+use Rattle.rasn_dynamic.specs.Fitting.{NumberFits, OctetsFit}
+use Rattle.rasn_dynamic.specs.Written.{Encodes}
+
+-- The kind and the value are these.
+pub leaf_as : (kind k : LeafKind) (v u : Value) (tag : Tag) (c : Constraints) (old new : View) (r : Result (Unit {0}) EncodeError) → kind ≡ k → v ≡ u
+    → OnOk r (AppendsEncoding (leaf (kind_of k) tag c) (tree_of u) old new) → OnErr r (new ≡ old) → IfErr r (EncodeFails (leaf (kind_of k) tag c) (tree_of u) old)
+    → Encodes (leaf (kind_of kind) tag c) (tree_of v) old r new
+leaf_as kind k v u tag c old new r e f ok err refused = rw (e, f) (record { ok = ok; err = err; refused = refused })
+
+-- ---- strings
+
+module _ {R : Type 0} (r : Result R EncodeError) (tag : Tag) (c : Constraints) (xs : List ℕ) (v w : View) where
+  admitted : (a : Alphabet) (l : List ℕ) → AreAdmitted a xs → numbers xs ≡ numbers l → AreAdmitted a l
+  admitted a l h e = let m : xs ≡ l = cc in subst (AreAdmitted a) m h
+
+  -- What is written as an OCTET STRING is so as a string whose octets these may be.
+  recast : (kind : Kind) → ((octets : List ℕ) → Bytes v.rule (leaf octet_string tag c) (numbers xs) octets → Bytes v.rule (leaf kind tag c) (numbers xs) octets)
+      → OnOk r (AppendsEncoding (leaf octet_string tag c) (numbers xs) v w) → OnOk r (AppendsEncoding (leaf kind tag c) (numbers xs) v w)
+  unfolding IsUntaggedOpen
+  recast kind f h = on_ok_weaker r (λ a. record { octets = a.octets; defined = f a.octets a.defined; tags = a.tags; heads = a.heads; tagged = a.tagged; appended = a.appended }) h
+
+  pub string_encoded : (kind : LeafKind) → OctetsFit kind xs → OnOk r (AppendsEncoding (leaf octet_string tag c) (numbers xs) v w) → OnOk r (AppendsEncoding (leaf (kind_of kind) tag c) (numbers xs) v w)
+  unfolding Bytes
+  string_encoded OctetString f h = h
+  string_encoded (FixedOctetString n) f h = fixed_encoded r tag c xs n v w f h
+  string_encoded Numeric f h = recast numeric (λ o (m, (l, e, d)). (m, (l, (e, admitted NumericAlphabet l f e), d))) h
+  string_encoded Printable f h = recast printable (λ o (m, (l, e, d)). (m, (l, (e, admitted PrintableAlphabet l f e), d))) h
+  string_encoded Visible f h = recast visible (λ o (m, (l, e, d)). (m, (l, (e, admitted VisibleAlphabet l f e), d))) h
+  string_encoded Ia5 f h = recast ia5 (λ o (m, (l, e, d)). (m, (l, (e, admitted Ia5Alphabet l f e), d))) h
+  string_encoded AnyOctets f h = recast any_octets (λ o b. b) h
+  string_encoded _ f h = absurd f
+
+  pub string_refused : (kind : LeafKind) → OctetsFit kind xs → IfErr r (FailsAtString c (length xs) v.rule) → IfErr r (EncodeFails (leaf (kind_of kind) tag c) (numbers xs) v)
+  string_refused OctetString f h = text_refused r octet_string tag c xs v refl h
+  string_refused (FixedOctetString n) f h = text_refused r (Rattle.rasn_types.specs.Shapes.fixed n) tag c xs v refl h
+  string_refused Numeric f h = text_refused r numeric tag c xs v refl h
+  string_refused Printable f h = text_refused r printable tag c xs v refl h
+  string_refused Visible f h = text_refused r visible tag c xs v refl h
+  string_refused Ia5 f h = text_refused r ia5 tag c xs v refl h
+  string_refused AnyOctets f h = text_refused r any_octets tag c xs v refl h
+  string_refused _ f h = absurd f
+
+-- ---- numbers
+
+module _ {R : Type 0} (r : Result R EncodeError) (tag : Tag) (c : Constraints) (n : ℤ) (v w : View) where
+  ranged : (range : Interval) (l : List ℕ) → IsIn range n → Written (integer every) (number n) l → Written (integer range) (number n) l
+  ranged range l i h =
+      let f = h.is.0 in
+      let m : n ≡ Rattle.rasn_types.specs.Contents.signed l = cc in
+      record { is = (f, h.is.1.0, subst (IsIn range) m i); octets = h.octets; shortest = h.shortest }
+
+  ranged_encoded : (range : Interval) → IsIn range n → OnOk r (AppendsEncoding (leaf (integer every) tag c) (number n) v w) → OnOk r (AppendsEncoding (leaf (integer range) tag c) (number n) v w)
+  unfolding Bytes IsUntaggedOpen
+  ranged_encoded range i h = on_ok_weaker r (λ a. record {
+    octets = a.octets;
+    defined = (a.defined.0, (a.defined.1.0, ranged range a.defined.1.0 i a.defined.1.1, a.defined.1.2));
+    tags = a.tags;
+    heads = a.heads;
+    tagged = a.tagged;
+    appended = a.appended;
+  }) h
+
+  pub number_encoded : (kind : LeafKind) → NumberFits kind n → OnOk r (AppendsEncoding (leaf (integer every) tag c) (number n) v w) → OnOk r (AppendsEncoding (leaf (kind_of kind) tag c) (number n) v w)
+  number_encoded Integer i h = h
+  number_encoded Signed32 i h = ranged_encoded (signed_range 32) i h
+  number_encoded Signed64 i h = ranged_encoded (signed_range 64) i h
+  number_encoded Unsigned32 i h = ranged_encoded (unsigned_range 32) i h
+  number_encoded Unsigned64 i h = ranged_encoded (unsigned_range 64) i h
+  number_encoded _ i h = absurd i
+
+  pub number_refused : (kind : LeafKind) → NumberFits kind n → IfErr r (FailsAtInteger c n v.rule) → IfErr r (EncodeFails (leaf (kind_of kind) tag c) (number n) v)
+  number_refused Integer i h = integer_refused r every tag c n v h
+  number_refused Signed32 i h = integer_refused r (signed_range 32) tag c n v h
+  number_refused Signed64 i h = integer_refused r (signed_range 64) tag c n v h
+  number_refused Unsigned32 i h = integer_refused r (unsigned_range 32) tag c n v h
+  number_refused Unsigned64 i h = integer_refused r (unsigned_range 64) tag c n v h
+  number_refused _ i h = absurd i
+
+-- A number of an ENUMERATED has no bound, so that memory alone is wanted.
+pub named_refused : {R : Type 0} (r : Result R EncodeError) (known : List ℤ) (tag : Tag) (n : ℤ) (v : View) → IfErr r (FailsAtInteger unconstrained n v.rule)
+    → IfErr r (EncodeFails (leaf (enumerated known) tag unconstrained) (number n) v)
+named_refused r known tag n v h = IfErr-weaker r _ _ (λ e. elim [
+  | inl k ↦ absurd (k.unmet tt)
+  | inr m ↦ record { why = inl (ap (λ (x : EncodeError). x.kind) m) }
+]) h
