@@ -14,9 +14,9 @@ use Rattle.rasn_schema.specs.declared.types.LeafKind.{LeafKind}
 use Rattle.rasn_schema.specs.declared.types.«Type».{«Type»}
 use Rattle.rasn_schema.specs.declared.types.«Type».TheVariants.{Leaf, Enumerated, Any, Tagged, Choice, Sequence, Set, SequenceOf, SetOf}
 use Rattle.rasn_schema.specs.declared.error.SchemaError.{SchemaError}
-use Rattle.rasn_schema.specs.declared.error.SchemaError.TheVariants.{ReservedTag, ConstructedTag, LateInner, NumbersClash, NoAlternatives, LateAlternative, UntaggedAlternative, AlternativesClash, ComponentsClash, UntaggedComponent, AdditionInSet, UntaggedInSet, SetClash, SetOutOfOrder}
+use Rattle.rasn_schema.specs.declared.error.SchemaError.TheVariants.{ReservedTag, ConstructedTag, LateInner, NumbersClash, NoNumbers, NoAlternatives, LateAlternative, UntaggedAlternative, AlternativesClash, ComponentsClash, UntaggedComponent, AdditionInSet, UntaggedInSet, SetClash, SetOutOfOrder}
 use Rattle.rasn_schema.specs.Shapes.{kind_of, presence_of, shape_of_type}
-use Rattle.rasn_schema.specs.Schemas.{IsPrefix, AreDistinct, IsBefore, AreLowerAndTagged, AreDistinctAlternatives, AreDistinctNumbers, AreToldInOrder, IsToldFrom, AreTagged, AreInOrderOfTags, IsWellFormed, AreWellFormed, IsSchema, own_at, begin_at}
+use Rattle.rasn_schema.specs.Schemas.{IsPrefix, AreDistinct, IsBefore, AreLowerAndTagged, AreDistinctAlternatives, AreDistinctNumbers, AreToldInOrder, IsToldFrom, AreTagged, AreInOrderOfTags, IsWellFormed, AreWellFormed, AreChoicesWellFormed, AreOthersWellFormed, IsSchema, own_at, begin_at}
 use Rattle.rasn_schema.specs.FirstTags.{IsAlwaysThere}
 use Rattle.rasn_schema.proofs.Firsts.{not_below}
 use Rattle.rasn_schema.specs.Faults.{IsTagFault, IsTaggedFault, IsLeafFault, IsNumbersFault, IsAlternativesFault, IsSequenceFault, IsSetFault, IsFaultOf, SomeFault, IsFault}
@@ -32,6 +32,7 @@ tag_broken id tag (ReservedTag k) h w = w h.1
 tag_broken id tag (ConstructedTag k) h w = h
 tag_broken id tag (LateInner k) h w = h
 tag_broken id tag (NumbersClash k i j) h w = h
+tag_broken id tag (NoNumbers k) h w = h
 tag_broken id tag (NoAlternatives k) h w = h
 tag_broken id tag (LateAlternative k i) h w = h
 tag_broken id tag (UntaggedAlternative k i) h w = h
@@ -48,6 +49,7 @@ tagged_broken f id tag m (ReservedTag k) h w = w.0 h.1
 tagged_broken f id tag m (ConstructedTag k) h w = h
 tagged_broken f id tag m (LateInner k) h w = h.2 (w.1 h.1)
 tagged_broken f id tag m (NumbersClash k i j) h w = h
+tagged_broken f id tag m (NoNumbers k) h w = h
 tagged_broken f id tag m (NoAlternatives k) h w = h
 tagged_broken f id tag m (LateAlternative k i) h w = h
 tagged_broken f id tag m (UntaggedAlternative k i) h w = h
@@ -64,6 +66,7 @@ leaf_broken id kind tag (ReservedTag k) h w = w.0 h.1
 leaf_broken id kind tag (ConstructedTag k) h w = h.1 w.1
 leaf_broken id kind tag (LateInner k) h w = h
 leaf_broken id kind tag (NumbersClash k i j) h w = h
+leaf_broken id kind tag (NoNumbers k) h w = h
 leaf_broken id kind tag (NoAlternatives k) h w = h
 leaf_broken id kind tag (LateAlternative k i) h w = h
 leaf_broken id kind tag (UntaggedAlternative k i) h w = h
@@ -75,11 +78,12 @@ leaf_broken id kind tag (UntaggedInSet k i) h w = h
 leaf_broken id kind tag (SetClash k i j) h w = h
 leaf_broken id kind tag (SetOutOfOrder k i j) h w = h
 
-numbers_broken : (id : ℕ) (tag : Tag) (ns : List NamedNumber) (e : SchemaError) → IsNumbersFault id tag ns e → (tag ≢ eoc) × AreDistinctNumbers ns → ⊥
+numbers_broken : (id : ℕ) (tag : Tag) (ns : List NamedNumber) (e : SchemaError) → IsNumbersFault id tag ns e → (tag ≢ eoc) × (ns ≢ []) × AreDistinctNumbers ns → ⊥
 numbers_broken id tag ns (ReservedTag k) h w = w.0 h.1
 numbers_broken id tag ns (ConstructedTag k) h w = h
 numbers_broken id tag ns (LateInner k) h w = h
-numbers_broken id tag ns (NumbersClash k i j) (g, l, (m, n, d, e, s)) w = w.1 i j m n l d e s
+numbers_broken id tag ns (NumbersClash k i j) (g, l, (m, n, d, e, s)) w = w.2 i j m n l d e s
+numbers_broken id tag ns (NoNumbers k) h w = w.1 h.1
 numbers_broken id tag ns (NoAlternatives k) h w = h
 numbers_broken id tag ns (LateAlternative k i) h w = h
 numbers_broken id tag ns (UntaggedAlternative k i) h w = h
@@ -96,6 +100,7 @@ choice_broken f id ks (ReservedTag k) h w = h
 choice_broken f id ks (ConstructedTag k) h w = h
 choice_broken f id ks (LateInner k) h w = h
 choice_broken f id ks (NumbersClash k i j) h w = h
+choice_broken f id ks (NoNumbers k) h w = h
 choice_broken f id ks (NoAlternatives k) h w = w.0 h.1
 choice_broken f id ks (LateAlternative k i) (g, (a, e, n)) w = n (w.1 i a e).0
 choice_broken f id ks (UntaggedAlternative k i) (g, (a, e, n)) w = n (w.1 i a e).1
@@ -116,6 +121,7 @@ sequence_broken own f id tag ps (ReservedTag k) h w = w.0 h.1
 sequence_broken own f id tag ps (ConstructedTag k) h w = h
 sequence_broken own f id tag ps (LateInner k) h w = h
 sequence_broken own f id tag ps (NumbersClash k i j) h w = h
+sequence_broken own f id tag ps (NoNumbers k) h w = h
 sequence_broken own f id tag ps (NoAlternatives k) h w = h
 sequence_broken own f id tag ps (LateAlternative k i) h w = h
 sequence_broken own f id tag ps (UntaggedAlternative k i) h w = h
@@ -132,6 +138,7 @@ set_broken f id tag ps (ReservedTag k) h w = w.0 h.1
 set_broken f id tag ps (ConstructedTag k) h w = h
 set_broken f id tag ps (LateInner k) h w = h
 set_broken f id tag ps (NumbersClash k i j) h w = h
+set_broken f id tag ps (NoNumbers k) h w = h
 set_broken f id tag ps (NoAlternatives k) h w = h
 set_broken f id tag ps (LateAlternative k i) h w = h
 set_broken f id tag ps (UntaggedAlternative k i) h w = h
@@ -170,9 +177,6 @@ module _ (types ts : List «Type») (levels : ℕ) (s : ts ≡ types) (n : level
   pub fault_of : (e : SchemaError) → SomeFault (own_at ts) (shape_of_type ts levels) ts e → IsFault types e
   fault_of e h = fault_by types levels n e (subst (λ l. SomeFault (own_at l) (shape_of_type l levels) l e) s h)
 
-  pub schema_of : AreWellFormed (own_at ts) (shape_of_type ts levels) ts → IsSchema types
-  schema_of h = schema_by types levels n (subst (λ l. AreWellFormed (own_at l) (shape_of_type l levels) l) s h)
-
 -- Two components of a SET that aren't in order.
 module _ (f : ℕ → Shape) (k : TypeId) (tag : Tag) (ps : List Component) (i j : ℕ) (p : Component) (h : Some p ≡ slice_get ps i) (next : TypeId)
     (n : (i < j) × ((q : Component) × (Some q ≡ slice_get ps j) × (q.type_id ≡ next) × (IsBefore (f p.type_id.0) (f q.type_id.0) → ⊥))) where
@@ -181,3 +185,25 @@ module _ (f : ℕ → Shape) (k : TypeId) (tag : Tag) (ps : List Component) (i j
 
   pub set_order_at : IsSetFault f k.0 tag ps (SetOutOfOrder k i j)
   set_order_at = (refl, n.0, (p, n.1.0, h, n.1.1, n.1.3))
+
+module _ (own : ℕ → Option Tag) (f : ℕ → Shape) (types : List «Type») where
+  -- Types keep the rules if CHOICEs and the others do.
+  pub both_well_formed : AreChoicesWellFormed own f types → AreOthersWellFormed own f types → AreWellFormed own f types
+  both_well_formed c o k ty e = go ty e
+    where
+      go : (ty : «Type») → Some ty ≡ slice_get types k → IsWellFormed own f k ty
+      go (Leaf kind tag b names) e = o k (Leaf kind tag b names) e (λ h. h)
+      go (Enumerated tag ns) e = o k (Enumerated tag ns) e (λ h. h)
+      go (Any tag) e = o k (Any tag) e (λ h. h)
+      go (Tagged tag j) e = o k (Tagged tag j) e (λ h. h)
+      go (Choice name ks) e = c k (Choice name ks) e tt
+      go (Sequence tag ps) e = o k (Sequence tag ps) e (λ h. h)
+      go (Set tag ps) e = o k (Set tag ps) e (λ h. h)
+      go (SequenceOf tag j b) e = o k (SequenceOf tag j b) e (λ h. h)
+      go (SetOf tag j b) e = o k (SetOf tag j b) e (λ h. h)
+
+module _ (types ts us : List «Type») (levels : ℕ) (s : ts ≡ types) (u : us ≡ types) (n : levels ≡ suc (length types)) where
+  -- the same of slices that have the types
+  pub schema_from : AreChoicesWellFormed (own_at ts) (shape_of_type ts levels) ts → AreOthersWellFormed (own_at us) (shape_of_type us levels) us → IsSchema types
+  schema_from c o = schema_by types levels n (both_well_formed (own_at types) (shape_of_type types levels) types
+      (subst (λ l. AreChoicesWellFormed (own_at l) (shape_of_type l levels) l) s c) (subst (λ l. AreOthersWellFormed (own_at l) (shape_of_type l levels) l) u o))

@@ -7,3 +7,5 @@ pub mod LawfulTypes
 pub mod Schemas
 pub mod Broken
 pub mod Follow
+pub mod OtherKinds
+pub mod EqualLists

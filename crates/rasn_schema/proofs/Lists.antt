@@ -1,5 +1,5 @@
 -- A list that isn't empty is its first element and those after it.
-use Rattle.std.proofs.Common.{◌≡◌, ℕ, ◌≤◌, ◌<◌, ◌-◌, List, [], ◌∷◌, length, zero, suc, Some, take, drop, get_or, refl, sym, ap, subst, ◌∙◌, inl, inr, ◌+◌, ◌≢◌, ◌⊎◌, arith}
+use Rattle.std.proofs.Common.{◌≡◌, ℕ, ◌≤◌, ◌<◌, ◌-◌, List, [], ◌∷◌, length, zero, suc, Some, take, drop, get_or, refl, sym, ap, subst, ◌∙◌, inl, inr, ◌+◌, ◌≢◌, ◌⊎◌, arith, false, nat_eq, true≢false}
 use Rattle.std.specs.Prelude.{slice_get}
 use Rattle.std.proofs.lemmas.Option.{slice_get_within, slice_get_read}
 use Rattle.std.proofs.lemmas.List.{take_rest}
@@ -45,3 +45,7 @@ so_far_end P l i m s j x e = s j x (let k : j < length l = slice_get_within l j 
 -- the element that a loop reads
 pub read_at : {X : Type 0} (l : List X) (i : ℕ) (x : X) → i < length l → x ≡ get_or l i x → Some x ≡ slice_get l i
 read_at l i x h e = sym (slice_get_read l (length l) i x refl h e)
+
+pub not_empty : {X : Type 0} (l : List X) → false ≡ nat_eq (length l) 0 → l ≢ []
+not_empty [] h e = true≢false (sym h)
+not_empty (x ∷ l) h e = cc

@@ -12,7 +12,7 @@ use Rattle.rasn_schema.specs.declared.types.LeafKind.{LeafKind}
 use Rattle.rasn_schema.specs.declared.types.«Type».{«Type»}
 use Rattle.rasn_schema.specs.declared.types.«Type».TheVariants.{Leaf, Enumerated, Any, Tagged, Choice, Sequence, Set, SequenceOf, SetOf}
 use Rattle.rasn_schema.specs.declared.error.SchemaError.{SchemaError}
-use Rattle.rasn_schema.specs.declared.error.SchemaError.TheVariants.{ReservedTag, ConstructedTag, LateInner, NumbersClash, NoAlternatives, LateAlternative, UntaggedAlternative, AlternativesClash, ComponentsClash, UntaggedComponent, AdditionInSet, UntaggedInSet, SetClash, SetOutOfOrder}
+use Rattle.rasn_schema.specs.declared.error.SchemaError.TheVariants.{ReservedTag, ConstructedTag, LateInner, NumbersClash, NoNumbers, NoAlternatives, LateAlternative, UntaggedAlternative, AlternativesClash, ComponentsClash, UntaggedComponent, AdditionInSet, UntaggedInSet, SetClash, SetOutOfOrder}
 use Rattle.rasn_schema.specs.Shapes.{presence_of, kind_of}
 use Rattle.rasn_schema.specs.FirstTags.{IsAlwaysThere}
 use Rattle.rasn_schema.specs.Schemas.{IsPrefix, AreDistinct, IsBefore, MayFollow, IsToldFrom, own_at, begin_at}
@@ -36,6 +36,7 @@ IsLeafFault id kind tag _ = ⊥
 -- Numbers i and j, which is after it, are the same.
 abbrev pub IsNumbersFault : ℕ → Tag → List NamedNumber → SchemaError → Type 0
 IsNumbersFault id tag ns (ReservedTag k) = (k.0 ≡ id) × (tag ≡ eoc)
+IsNumbersFault id tag ns (NoNumbers k) = (k.0 ≡ id) × (ns ≡ [])
 IsNumbersFault id tag ns (NumbersClash k i j) = (k.0 ≡ id) × (i < j) × ((m n : NamedNumber) × (Some m ≡ slice_get ns i) × (Some n ≡ slice_get ns j) × (m.number ≡ n.number))
 IsNumbersFault id tag ns _ = ⊥
 

@@ -4,3 +4,7 @@ pub mod FirstTags
 pub mod Schemas
 pub mod Faults
 pub mod SchemaProps
+pub mod Kinds
+pub mod Numbers
+pub mod Equal
+pub mod Equals

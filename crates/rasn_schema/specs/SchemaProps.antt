@@ -93,7 +93,7 @@ of_tags_prop f ps = each_prop _ (λ i. each_prop _ (λ j. each_prop _ (λ p. eac
 
 type_prop : (own : ℕ → Option Tag) (f : ℕ → Shape) (id : ℕ) (ty : «Type») → IsProp (IsWellFormed own f id ty)
 type_prop own f id (Leaf kind tag c names) = ×_prop (not_prop (tag ≡ eoc)) (bit_free_prop (family (kind_of kind)) tag)
-type_prop own f id (Enumerated tag ns) = ×_prop (not_prop (tag ≡ eoc)) (numbers_prop ns.items)
+type_prop own f id (Enumerated tag ns) = three_prop (not_prop (tag ≡ eoc)) (not_prop (ns.items ≡ [])) (numbers_prop ns.items)
 type_prop own f id (Any tag) = Unit-prop
 type_prop own f id (Tagged tag k) = ×_prop (not_prop (tag ≡ eoc)) (each_prop _ (λ h. le_prop))
 type_prop own f id (Choice name ks) = three_prop (not_prop (ks.items ≡ [])) (lower_prop f id ks.items) (alternatives_prop f ks.items)

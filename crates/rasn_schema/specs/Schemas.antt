@@ -63,7 +63,7 @@ AreInOrderOfTags f ps = (i j : ℕ) (p q : Component) → i < j → Some p ≡ s
 -- What is asked of the type with number id. An explicit tag within another one has a lower number, so that tags end. Of the types that it names, f tells how they begin.
 abbrev pub IsWellFormed : (ℕ → Option Tag) → (ℕ → Shape) → ℕ → «Type» → Type 0
 IsWellFormed own f id (Leaf kind tag c names) = (tag ≢ eoc) × IsBitFree (family (kind_of kind)) tag
-IsWellFormed own f id (Enumerated tag ns) = (tag ≢ eoc) × AreDistinctNumbers ns.items
+IsWellFormed own f id (Enumerated tag ns) = (tag ≢ eoc) × (ns.items ≢ []) × AreDistinctNumbers ns.items
 IsWellFormed own f id (Any tag) = Unit {0}
 IsWellFormed own f id (Tagged tag k) = (tag ≢ eoc) × (IsPrefix (f k.0) → k.0 < id)
 IsWellFormed own f id (Choice name ks) = (ks.items ≢ []) × AreLowerAndTagged f id ks.items × AreDistinctAlternatives f ks.items
@@ -87,6 +87,9 @@ AreWellFormed own f types = (k : ℕ) (ty : «Type») → Some ty ≡ slice_get 
 abbrev pub IsChoice : «Type» → Type 0
 IsChoice (Choice name ks) = Unit {0}
 IsChoice _ = ⊥
+
+abbrev pub AreOthersWellFormed : (ℕ → Option Tag) → (ℕ → Shape) → List «Type» → Type 0
+AreOthersWellFormed own f types = (k : ℕ) (ty : «Type») → Some ty ≡ slice_get types k → (IsChoice ty → ⊥) → IsWellFormed own f k ty
 
 abbrev pub AreChoicesWellFormed : (ℕ → Option Tag) → (ℕ → Shape) → List «Type» → Type 0
 AreChoicesWellFormed own f types = (k : ℕ) (ty : «Type») → Some ty ≡ slice_get types k → IsChoice ty → IsWellFormed own f k ty

@@ -10,6 +10,7 @@ use crate::types::{Alternative, Type, tag_at, type_at};
 use rasn_types::types::Tag;
 
 /// Returns whether two tags are the same.
+#[inline(always)]
 fn is_tag(tag: Tag, own: Tag) -> bool
     ensures { IsWhether result (tag ≡ own) }
 {
@@ -17,6 +18,7 @@ fn is_tag(tag: Tag, own: Tag) -> bool
 }
 
 /// Returns whether a value of an open type with the tag `own` may begin with `tag`.
+#[inline(always)]
 fn any_begins(own: Tag, tag: Tag) -> bool
     ensures { IsWhether result (IsTagOf (looked_for own) tag) }
 {
@@ -24,6 +26,7 @@ fn any_begins(own: Tag, tag: Tag) -> bool
 }
 
 /// Returns whether a value of which only the tag `own` is known may begin with `tag`.
+#[inline(always)]
 fn nothing_begins(own: Tag, tag: Tag) -> bool
     ensures { IsWhether result (IsFirst (nothing (looked_for own)) tag) }
 {

@@ -27,6 +27,11 @@ pub enum SchemaError {
         index: usize,
         other: usize,
     },
+    /// An ENUMERATED has no numbers (X.680 20.1).
+    #[error("type {id}: an ENUMERATED without numbers (X.680 20.1)")]
+    NoNumbers {
+        id: TypeId,
+    },
     /// A CHOICE has no alternatives (X.680 29.1).
     #[error("type {id}: a CHOICE without alternatives (X.680 29.1)")]
     NoAlternatives {

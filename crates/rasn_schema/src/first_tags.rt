@@ -25,6 +25,7 @@ pub enum FirstTags<'types> {
 }
 
 /// Returns the tags with which the values of the type with this number may begin, if types are followed `levels` deep.
+#[inline(always)]
 pub fn first_tags_at<'types>(types: &'types [Type], levels: usize, id: TypeId) -> FirstTags<'types>
     ensures tags { AreFirstTags (shape_of_type types.now (levels - 1)) (shape_of_type types.now levels id.0) result }
     ensures below { IsBelowSome levels result }
@@ -39,6 +40,7 @@ pub fn first_tags_at<'types>(types: &'types [Type], levels: usize, id: TypeId) -
 }
 
 /// Returns the tags of values of which only the tag `own` is known.
+#[inline(always)]
 fn cut_first_tags<'types>(own: Tag) -> FirstTags<'types>
     ensures tags { (f : _) → AreFirstTags f (nothing (looked_for own)) result }
     ensures below { IsBelowSome 0 result }
@@ -51,6 +53,7 @@ fn cut_first_tags<'types>(own: Tag) -> FirstTags<'types>
 }
 
 /// Returns the tags of an open type with the tag `own`.
+#[inline(always)]
 fn any_first_tags<'types>(own: Tag) -> FirstTags<'types>
     ensures tags { (f : _) → AreFirstTags f (Rattle.rasn_types.specs.Shapes.any (looked_for own)) result }
     ensures below { IsBelowSome 0 result }
@@ -63,6 +66,7 @@ fn any_first_tags<'types>(own: Tag) -> FirstTags<'types>
 }
 
 /// Returns the tags with which the values of a type may begin.
+#[inline(always)]
 fn type_first_tags(ty: &Type) -> FirstTags<'_>
     ensures { (f : _) → AreFirstTags f (type_by f ty.now) result }
 {
@@ -163,6 +167,7 @@ fn all_above(types: &[Type], levels: usize, alternatives: &[Alternative], tag: T
     true
 }
 
+#[inline(always)]
 fn is_tag_below(tag: Tag, other: Tag) -> bool
     ensures { IsWhether result (IsTagBelow tag other) }
 {

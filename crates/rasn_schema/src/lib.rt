@@ -4,8 +4,11 @@
 #![tactic(auto)]
 
 mod begin;
+mod copy;
+mod equal;
 mod error;
 mod first_tags;
+mod numbers;
 mod rules;
 mod schema;
 mod type_id;

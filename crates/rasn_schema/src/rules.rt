@@ -10,7 +10,7 @@ ghost use Rattle.rasn_types.specs.Lawful.{IsBitFree, HasTag};
 ghost use Rattle.rasn_types.specs.Truth.{IsWhether};
 ghost use Rattle.rasn_schema.specs.FirstTags.{IsAlwaysThere};
 ghost use Rattle.rasn_schema.specs.Shapes.{shape_of_type, type_by, presence_of, kind_of};
-ghost use Rattle.rasn_schema.specs.Schemas.{IsPrefix, AreLowerAndTagged, AreDistinctAlternatives, AreDistinctNumbers, AreDistinct, AreToldInOrder, MayFollow, IsToldFrom, AreTagged, AreInOrderOfTags, IsBefore, IsWellFormed, AreWellFormed, AreChoicesWellFormed, own_at};
+ghost use Rattle.rasn_schema.specs.Schemas.{IsPrefix, AreLowerAndTagged, AreDistinctAlternatives, AreDistinctNumbers, AreDistinct, AreToldInOrder, MayFollow, IsToldFrom, AreTagged, AreInOrderOfTags, IsBefore, IsWellFormed, AreOthersWellFormed, AreChoicesWellFormed, IsChoice, own_at};
 ghost use Rattle.rasn_schema.specs.Faults.{IsTagFault, IsTaggedFault, IsLeafFault, IsNumbersFault, IsAlternativesFault, IsSequenceFault, IsSetFault, IsFaultOf, SomeFault};
 
 use crate::begin::begins;
@@ -170,13 +170,16 @@ fn same_number(numbers: &[NamedNumber], index: usize, named: &NamedNumber) -> Op
     None
 }
 
-/// Returns what is wrong with an ENUMERATED: its tag, or the first two numbers that are the same
-/// (X.680 20.3).
+/// Returns what is wrong with an ENUMERATED: its tag, that it has no numbers (X.680 20.1), or the
+/// first two numbers that are the same (X.680 20.3).
 fn numbers_fault(id: TypeId, tag: Tag, numbers: &[NamedNumber]) -> Option<SchemaError>
-    ensures { MatchOption result ((tag ≢ eoc) × AreDistinctNumbers numbers.now) (λ e. IsNumbersFault id.0 tag numbers.now e) }
+    ensures { MatchOption result ((tag ≢ eoc) × (numbers.now ≢ []) × AreDistinctNumbers numbers.now) (λ e. IsNumbersFault id.0 tag numbers.now e) }
 {
     if is_no_tag(tag) {
         return Some(SchemaError::ReservedTag { id });
+    }
+    if numbers.is_empty() {
+        return Some(SchemaError::NoNumbers { id });
     }
     for (index, named) in numbers.iter().enumerate() {
         if let Some(other) = same_number(numbers, index, named) {
@@ -472,6 +475,15 @@ fn type_fault(types: &[Type], levels: usize, id: TypeId, ty: &Type) -> Option<Sc
     }
 }
 
+fn is_choice(ty: &Type) -> bool
+    ensures { IsWhether result (IsChoice ty.now) }
+{
+    match ty {
+        Type::Choice { .. } => true,
+        _ => false,
+    }
+}
+
 /// Returns what is wrong with the first CHOICE that breaks a rule. One that keeps them refers to lower numbers alone, so that no CHOICE
 /// leads back to itself.
 pub fn first_choice_fault(types: &[Type], levels: usize) -> Option<SchemaError>
@@ -480,23 +492,36 @@ pub fn first_choice_fault(types: &[Type], levels: usize) -> Option<SchemaError>
         MatchOption result (AreChoicesWellFormed (own_at types.now) f types.now) (λ e. SomeFault (own_at types.now) f types.now e) }
 {
     for (number, ty) in types.iter().enumerate() {
-        if let Type::Choice { .. } = ty {
-            if let Some(fault) = type_fault(types, levels, TypeId(number), ty) {
-                return Some(fault);
-            }
+        if !is_choice(ty) {
+            continue;
+        }
+        if let Some(fault) = type_fault(types, levels, TypeId(number), ty) {
+            return Some(fault);
         }
     }
     None
 }
 
-/// Returns what is wrong with the first type that breaks a rule.
-pub fn first_fault(types: &[Type], levels: usize) -> Option<SchemaError>
+/// Returns what is wrong with a type that isn't a CHOICE.
+fn other_fault(types: &[Type], levels: usize, id: TypeId, ty: &Type) -> Option<SchemaError>
     requires { levels ≢ 0 }
     ensures { let f = shape_of_type types.now levels in
-        MatchOption result (AreWellFormed (own_at types.now) f types.now) (λ e. SomeFault (own_at types.now) f types.now e) }
+        MatchOption result ((IsChoice ty.now → ⊥) → IsWellFormed (own_at types.now) f id.0 ty.now) (λ e. IsFaultOf (own_at types.now) f id.0 ty.now e) }
+{
+    if is_choice(ty) {
+        return None;
+    }
+    type_fault(types, levels, id, ty)
+}
+
+/// Returns what is wrong with the first type that breaks a rule and isn't a CHOICE.
+pub fn first_other_fault(types: &[Type], levels: usize) -> Option<SchemaError>
+    requires { levels ≢ 0 }
+    ensures { let f = shape_of_type types.now levels in
+        MatchOption result (AreOthersWellFormed (own_at types.now) f types.now) (λ e. SomeFault (own_at types.now) f types.now e) }
 {
     for (number, ty) in types.iter().enumerate() {
-        if let Some(fault) = type_fault(types, levels, TypeId(number), ty) {
+        if let Some(fault) = other_fault(types, levels, TypeId(number), ty) {
             return Some(fault);
         }
     }

@@ -3,7 +3,7 @@ ghost use Rattle.rasn_schema.specs.Schemas.{IsSchema};
 ghost use Rattle.rasn_schema.specs.SchemaProps.{schema_prop};
 
 use crate::error::SchemaError;
-use crate::rules::{first_choice_fault, first_fault};
+use crate::rules::{first_choice_fault, first_other_fault};
 use crate::types::Type;
 
 /// Types that refer to one another by number, and whose values can be told apart by their tags, however deep they are nested.
@@ -32,7 +32,7 @@ impl Schema {
         if let Some(fault) = first_choice_fault(types.as_slice(), levels) {
             return Err(fault);
         }
-        if let Some(fault) = first_fault(types.as_slice(), levels) {
+        if let Some(fault) = first_other_fault(types.as_slice(), levels) {
             return Err(fault);
         }
         Ok(Schema { types })

@@ -152,6 +152,7 @@ pub enum Presence {
 
 impl Type {
     /// Returns the type's own tag, or `Tag::EOC` if it has none, as a CHOICE.
+    #[inline(always)]
     pub fn tag(&self) -> Tag
         ensures { result ≡ tag_of_type self.now }
     {
@@ -170,6 +171,7 @@ impl Type {
 }
 
 /// Returns the type with this number, if there is one.
+#[inline(always)]
 pub fn type_at(types: &[Type], id: TypeId) -> Option<&Type>
     ensures { option_copied result ≡ slice_get types.now id.0 }
 {
@@ -177,6 +179,7 @@ pub fn type_at(types: &[Type], id: TypeId) -> Option<&Type>
 }
 
 /// Returns the own tag of the type with this number, or `Tag::EOC` if it has none.
+#[inline(always)]
 pub fn tag_at(types: &[Type], id: TypeId) -> Tag
     ensures { result ≡ tag_at types.now id.0 }
 {

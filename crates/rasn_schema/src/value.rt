@@ -1,7 +1,11 @@
 //! Values of any type.
-use rasn_types::types::{
-    BitString, BmpString, Date, GeneralizedTime, Integer, ObjectIdentifier, TryClone,
-};
+ghost use Rattle.std.specs.Prelude.{◌≡◌, IfOk};
+ghost use Rattle.rasn_types.specs.Equality.{DecidesSame};
+ghost use Rattle.rasn_schema.specs.Trees.{tree_of};
+
+use crate::copy::copy_of;
+use crate::equal::is_same;
+use rasn_types::types::{BitString, BmpString, Date, GeneralizedTime, Integer, ObjectIdentifier};
 use std::alloc::{AllocError, Global};
 use std::borrow::{CowSlice, CowStr};
 
@@ -41,34 +45,42 @@ pub enum Value<'input> {
 }
 
 impl Value<'_> {
-    /// Returns a copy that borrows nothing.
-    pub fn copied<'any>(&self, alloc: Global) -> Result<Value<'any>, AllocError>
+    /// Returns a copy of the value, with memory of its own.
+    ///
+    /// # Errors
+    /// Returns an error if there is no memory.
+    pub fn try_clone<'any>(&self, alloc: Global) -> Result<Value<'any>, AllocError>
         ensures { IfOk result (λ v. tree_of v ≡ tree_of self.now) }
     {
-        match self {
-            Value::Boolean(flag) => Ok(Value::Boolean(*flag)),
-            Value::Null => Ok(Value::Null),
-            Value::Integer(number) => Ok(Value::Integer(number.try_clone(alloc)?)),
-            Value::Bits(bits) => Ok(Value::Bits(bits.try_clone(alloc)?)),
-            Value::Octets(octets) => {
-                let octets = Vec::from_slice(alloc, octets.as_slice())?;
-                Ok(Value::Octets(CowSlice::Owned(octets)))
-            }
-            _ => Err(AllocError),
-        }
+        copy_of(self, alloc)
     }
 
-    /// Returns whether the two mean the same.
+    /// Returns whether two values mean the same. The elements of a SET OF may be in any order.
+    /// Values of different types are the same if they mean the same number or the same numbers, as
+    /// the octets of a string and its characters.
     pub fn means_same(&self, other: &Value<'_>) -> bool
         ensures { DecidesSame result (tree_of self.now) (tree_of other.now) }
     {
-        match self {
-            Value::Boolean(flag) => matches!(other, Value::Boolean(b) if b == flag),
-            Value::Integer(number) => match other {
-                Value::Integer(other) => number == other,
-                _ => false,
-            },
-            _ => false,
-        }
+        is_same(self, other)
     }
+}
+
+impl PartialEq for Value<'_> {
+    ghost use Rattle.std.specs.Cmp.{partial_equiv_from_equiv};
+    ghost use Rattle.rasn_schema.specs.Equal.{value_eq};
+    ghost use Rattle.rasn_schema.specs.Equals.{values_equiv};
+
+    ghost eq = { value_eq };
+
+    ghost laws = { partial_equiv_from_equiv values_equiv };
+
+    fn eq(&self, other: &Self) -> bool {
+        is_same(self, other)
+    }
+}
+
+impl Eq for Value<'_> {
+    ghost use Rattle.rasn_schema.specs.Equals.{values_equiv};
+
+    ghost laws = { values_equiv };
 }

@@ -1,0 +1,61 @@
+//! Copies of values.
+ghost use Rattle.std.specs.Prelude.{◌≡◌, IfOk};
+ghost use Rattle.std.specs.Cow.{cow_slice_items, cow_str_bytes};
+ghost use Rattle.rasn_types.specs.Trees.{list_tree};
+ghost use Rattle.rasn_schema.specs.Trees.{tree_of};
+
+use crate::value::Value;
+use rasn_types::types::TryClone;
+use std::alloc::{AllocError, Global};
+use std::borrow::{CowSlice, CowStr};
+
+fn owned_octets<'any>(octets: &[u8], alloc: Global) -> Result<CowSlice<'any, u8>, AllocError>
+    ensures { IfOk result (λ copy. cow_slice_items copy ≡ octets.now) }
+{
+    Ok(CowSlice::Owned(Vec::from_slice(alloc, octets)?))
+}
+
+fn owned_text<'any>(text: &str, alloc: Global) -> Result<CowStr<'any>, AllocError>
+    ensures { IfOk result (λ copy. cow_str_bytes copy ≡ text.now) }
+{
+    Ok(CowStr::Owned(String::from_str(alloc, text)?))
+}
+
+/// Returns a copy of a value, with memory of its own.
+#[cycle(copy)]
+pub fn copy_of<'any>(value: &Value<'_>, alloc: Global) -> Result<Value<'any>, AllocError>
+    ensures { IfOk result (λ v. tree_of v ≡ tree_of value.now) }
+{
+    match value {
+        Value::Boolean(truth) => Ok(Value::Boolean(*truth)),
+        Value::Null => Ok(Value::Null),
+        Value::Integer(integer) => Ok(Value::Integer(integer.try_clone(alloc)?)),
+        Value::Bits(bits) => Ok(Value::Bits(bits.try_clone(alloc)?)),
+        Value::Octets(octets) => Ok(Value::Octets(owned_octets(octets.as_slice(), alloc)?)),
+        Value::Text(text) => Ok(Value::Text(owned_text(text.as_str(), alloc)?)),
+        Value::Units(units) => Ok(Value::Units(units.try_clone(alloc)?)),
+        Value::Arcs(arcs) => Ok(Value::Arcs(arcs.try_clone(alloc)?)),
+        Value::Instant(time) => Ok(Value::Instant(*time)),
+        Value::Day(date) => Ok(Value::Day(*date)),
+        Value::Items(values) => Ok(Value::Items(copies_of(values.as_slice(), alloc)?)),
+        Value::Elements(values) => Ok(Value::Elements(copies_of(values.as_slice(), alloc)?)),
+        Value::Chosen(index, value) => {
+            let copy = copy_of(value, alloc)?;
+            Ok(Value::Chosen(*index, Box::new(alloc, copy)?))
+        }
+        Value::Absent => Ok(Value::Absent),
+    }
+}
+
+/// Returns copies of values, in their order.
+#[cycle(copy)]
+fn copies_of<'any>(values: &[Value<'_>], alloc: Global) -> Result<Vec<Value<'any>>, AllocError>
+    ensures { IfOk result (λ copies. list_tree tree_of copies.items ≡ list_tree tree_of values.now) }
+{
+    let mut copies = Vec::with_capacity(alloc, values.len())?;
+    for value in values {
+        let copy = copy_of(value, alloc)?;
+        copies.push(copy)?;
+    }
+    Ok(copies)
+}
