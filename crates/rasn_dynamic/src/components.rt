@@ -34,7 +34,7 @@ pub fn left_out<'input>(
             if decoder.next_tag_is(tag_at(types, component.type_id))? {
                 return Ok(None);
             }
-            match value.copied(decoder.alloc()) {
+            match value.try_clone(decoder.alloc()) {
                 Ok(value) => Ok(Some(value)),
                 Err(_) => Err(out_of_memory(decoder)),
             }
@@ -115,7 +115,7 @@ fn missing<'input>(
     match &component.presence {
         Presence::Required => unreachable!(),
         Presence::Optional | Presence::Addition => Ok(Value::Absent),
-        Presence::Default(value) => match value.copied(decoder.alloc()) {
+        Presence::Default(value) => match value.try_clone(decoder.alloc()) {
             Ok(value) => Ok(value),
             Err(_) => Err(out_of_memory(decoder)),
         },

@@ -89,7 +89,7 @@ fn settle<'input>(
     match &component.presence {
         Presence::Required => Err(no_part(decoder)),
         Presence::Optional | Presence::Addition => Ok(Value::Absent),
-        Presence::Default(default) => match default.copied(decoder.alloc()) {
+        Presence::Default(default) => match default.try_clone(decoder.alloc()) {
             Ok(value) => Ok(value),
             Err(_) => Err(out_of_memory(decoder)),
         },
