@@ -1,101 +1,86 @@
 //! Messages that are read by a schema, and written back.
 
-use crate::definitions::{
-    CONTEXT_0, CONTEXT_1, CONTEXT_2, CONTEXT_3, CONTEXT_7, Definition, Part, types,
-};
 use rasn_dynamic::{decode, encode, is_canonical, normalise};
-use rasn_samples::certificate::CERTIFICATE;
-use rasn_schema::{LeafKind, Schema};
-use rasn_types::types::{Codec, Tag};
+use rasn_samples::certificate::CERTIFICATE as SAMPLE;
+use rasn_schema::{Schema, TypeId};
+use rasn_schema_bench::{CERTIFICATE, CERTIFICATE_TYPES, Definition, FILTER, FILTER_TYPES, types};
+use rasn_types::types::Codec;
 use std::alloc::{AllocError, Global};
-
-/// Certificate (RFC 5280 4.1), which is type 0.
-const CERTIFICATE_TYPES: &[Definition] = &[
-    Definition::Sequence(Tag::SEQUENCE, CERTIFICATE_PARTS),
-    Definition::Sequence(Tag::SEQUENCE, TO_BE_SIGNED),
-    Definition::Sequence(Tag::SEQUENCE, ALGORITHM),
-    Definition::Leaf(Tag::BIT_STRING, LeafKind::BitString),
-    Definition::Tagged(CONTEXT_0, 5),
-    Definition::Leaf(Tag::INTEGER, LeafKind::Integer),
-    Definition::SequenceOf(Tag::SEQUENCE, 15),
-    Definition::Sequence(Tag::SEQUENCE, VALIDITY),
-    Definition::Sequence(Tag::SEQUENCE, KEY),
-    Definition::Leaf(CONTEXT_1, LeafKind::BitString),
-    Definition::Leaf(CONTEXT_2, LeafKind::BitString),
-    Definition::Tagged(CONTEXT_3, 12),
-    Definition::SequenceOf(Tag::SEQUENCE, 20),
-    Definition::Leaf(Tag::OBJECT_IDENTIFIER, LeafKind::ObjectIdentifier),
-    Definition::Any(Tag::EOC),
-    Definition::SetOf(Tag::SET, 16),
-    Definition::Sequence(Tag::SEQUENCE, ATTRIBUTE),
-    Definition::Leaf(Tag::UTC_TIME, LeafKind::UtcTime),
-    Definition::Leaf(Tag::GENERALIZED_TIME, LeafKind::GeneralizedTime),
-    Definition::Choice(&[17, 18]),
-    Definition::Sequence(Tag::SEQUENCE, EXTENSION),
-    Definition::Leaf(Tag::BOOL, LeafKind::Boolean),
-    Definition::Leaf(Tag::OCTET_STRING, LeafKind::OctetString),
-];
-
-const CERTIFICATE_PARTS: &[Part] = &[Part::Required(1), Part::Required(2), Part::Required(3)];
-
-const TO_BE_SIGNED: &[Part] = &[
-    Part::Zero(4),
-    Part::Required(5),
-    Part::Required(2),
-    Part::Required(6),
-    Part::Required(7),
-    Part::Required(6),
-    Part::Required(8),
-    Part::Optional(9),
-    Part::Optional(10),
-    Part::Optional(11),
-];
-
-const ALGORITHM: &[Part] = &[Part::Required(13), Part::Optional(14)];
-
-const VALIDITY: &[Part] = &[Part::Required(19), Part::Required(19)];
-
-const KEY: &[Part] = &[Part::Required(2), Part::Required(3)];
-
-const ATTRIBUTE: &[Part] = &[Part::Required(13), Part::Required(14)];
-
-const EXTENSION: &[Part] = &[Part::Required(13), Part::Zero(21), Part::Required(22)];
-
-/// Filter (RFC 4511 4.5.1) with three of its alternatives: `and`, `not` and `present`. It is type 3.
-const FILTER_TYPES: &[Definition] = &[
-    Definition::SetOf(CONTEXT_0, 3),
-    Definition::Tagged(CONTEXT_2, 3),
-    Definition::Leaf(CONTEXT_7, LeafKind::OctetString),
-    Definition::Choice(&[0, 1, 2]),
-];
 
 /// Returns whether the octets are read as the type by these rules, and written back; none if memory runs out or there is no schema.
 fn is_written_back(
     alloc: Global,
     definitions: &[Definition],
-    id: usize,
+    id: TypeId,
     rules: Codec,
     octets: &[u8],
 ) -> Option<bool> {
-    let Ok(schema) = Schema::new(types(alloc, definitions).ok()?) else {
-        return None;
-    };
+    let schema = Schema::new(types(alloc, definitions).ok()?).ok()?;
     let Ok(value) = decode(alloc, rules, &schema, id, octets) else {
         return Some(false);
     };
-    match encode(alloc, rules, &schema, id, &value) {
-        Ok(written) => Some(written.as_slice() == octets),
-        Err(_) => None,
-    }
+    let written = encode(alloc, rules, &schema, id, &value).ok()?;
+    Some(written.as_slice() == octets)
+}
+
+fn is_certificate(alloc: Global, octets: &[u8]) -> Option<bool> {
+    is_written_back(alloc, CERTIFICATE_TYPES, CERTIFICATE, Codec::Der, octets)
 }
 
 #[test]
 fn a_certificate_is_written_back(rt: HostRuntime) {
-    let answer = is_written_back(rt.alloc(), CERTIFICATE_TYPES, 0, Codec::Der, CERTIFICATE);
+    assert!(rt; is_certificate(rt.alloc(), SAMPLE) == Some(true));
+}
+
+/// Returns the octets with those at the offset replaced, or none if they aren't those that were expected there.
+fn replaced(
+    alloc: Global,
+    octets: &[u8],
+    offset: usize,
+    old: &[u8],
+    new: &[u8],
+) -> Option<Vec<u8>> {
+    let (before, rest) = octets.split_at_checked(offset)?;
+    let after = rest.strip_prefix(old)?;
+    let mut changed = Vec::from_slice(alloc, before).ok()?;
+    changed.extend_from_slice(new).ok()?;
+    changed.extend_from_slice(after).ok()?;
+    Some(changed)
+}
+
+/// Returns whether the certificate of the samples is refused if these octets of it are replaced.
+fn is_refused(alloc: Global, offset: usize, old: &[u8], new: &[u8]) -> Option<bool> {
+    let changed = replaced(alloc, SAMPLE, offset, old, new)?;
+    Some(!is_certificate(alloc, &changed)?)
+}
+
+// TRUE is FF (X.690 11.1), a time is a day of the calendar, and nothing follows a certificate.
+#[test]
+fn other_spellings_of_a_certificate_are_refused(rt: HostRuntime) {
+    let alloc = rt.alloc();
+    assert!(rt; is_refused(alloc, 276, &[0x01, 0x01, 0xFF], &[0x01, 0x01, 0x01]) == Some(true));
+    assert!(rt; is_refused(alloc, 89, b"\x17\x0D261124", b"\x17\x0D260231") == Some(true));
+    assert!(rt; is_refused(alloc, SAMPLE.len(), b"", &[0x00]) == Some(true));
+}
+
+// (&(mail=*)(|(!(sn>=x))(cn=a*b*c)(sn<=y)(sn~=z))(objectClass=person)(cn:dn:2.5.13.2:=d)): each alternative of RFC 4511 4.5.1. The
+// elements of each SET OF ascend, as the writer wants them.
+#[test]
+fn a_filter_of_each_kind_is_written_back(rt: HostRuntime) {
+    const OCTETS: &[u8] = &[
+        0xA0, 0x63, 0x87, 0x04, 0x6D, 0x61, 0x69, 0x6C, 0xA1, 0x2E, 0xA2, 0x09, 0xA5, 0x07, 0x04,
+        0x02, 0x73, 0x6E, 0x04, 0x01, 0x78, 0xA4, 0x0F, 0x04, 0x02, 0x63, 0x6E, 0x30, 0x09, 0x80,
+        0x01, 0x61, 0x81, 0x01, 0x62, 0x82, 0x01, 0x63, 0xA6, 0x07, 0x04, 0x02, 0x73, 0x6E, 0x04,
+        0x01, 0x79, 0xA8, 0x07, 0x04, 0x02, 0x73, 0x6E, 0x04, 0x01, 0x7A, 0xA3, 0x15, 0x04, 0x0B,
+        0x6F, 0x62, 0x6A, 0x65, 0x63, 0x74, 0x43, 0x6C, 0x61, 0x73, 0x73, 0x04, 0x06, 0x70, 0x65,
+        0x72, 0x73, 0x6F, 0x6E, 0xA9, 0x14, 0x81, 0x08, 0x32, 0x2E, 0x35, 0x2E, 0x31, 0x33, 0x2E,
+        0x32, 0x82, 0x02, 0x63, 0x6E, 0x83, 0x01, 0x64, 0x84, 0x01, 0xFF,
+    ];
+    let answer = is_written_back(rt.alloc(), FILTER_TYPES, FILTER, Codec::Ber, OCTETS);
     assert!(rt; answer == Some(true));
 }
 
-/// Returns so many `not`s around `(present=a)`, in the indefinite form.
+/// Returns so many `not`s around `(a=*)`, in the indefinite form.
 fn nested(alloc: Global, levels: usize) -> Result<Vec<u8>, AllocError> {
     let mut octets = Vec::new(alloc);
     for _ in 0..levels {
@@ -112,7 +97,7 @@ fn nested(alloc: Global, levels: usize) -> Result<Vec<u8>, AllocError> {
 fn is_filter(alloc: Global, levels: usize) -> Option<bool> {
     let octets = nested(alloc, levels).ok()?;
     let schema = Schema::new(types(alloc, FILTER_TYPES).ok()?).ok()?;
-    Some(decode(alloc, Codec::Ber, &schema, 3, octets.as_slice()).is_ok())
+    Some(decode(alloc, Codec::Ber, &schema, FILTER, octets.as_slice()).is_ok())
 }
 
 // At most 128 values are nested in one another.
@@ -125,9 +110,9 @@ fn filters_are_read_to_the_depth_limit(rt: HostRuntime) {
 /// Returns whether the filter's normal encoding is this one, and only this one is canonical.
 fn is_normalised(alloc: Global, octets: &[u8], normal: &[u8]) -> Option<bool> {
     let schema = Schema::new(types(alloc, FILTER_TYPES).ok()?).ok()?;
-    let written = normalise(alloc, Codec::Ber, Codec::Der, &schema, 3, octets).ok()?;
-    let before = is_canonical(alloc, &schema, 3, octets).ok()?;
-    let after = is_canonical(alloc, &schema, 3, normal).ok()?;
+    let written = normalise(alloc, Codec::Ber, Codec::Der, &schema, FILTER, octets).ok()?;
+    let before = is_canonical(alloc, &schema, FILTER, octets).ok()?;
+    let after = is_canonical(alloc, &schema, FILTER, normal).ok()?;
     Some(written.as_slice() == normal && !before && after)
 }
 

@@ -1,12 +1,17 @@
 //! Types that aren't a schema.
 
-use crate::definitions::{CONTEXT_0, Definition, Part, types};
 use rasn_schema::{LeafKind, Schema, SchemaError, TypeId};
-use rasn_types::types::Tag;
+use rasn_schema_bench::{Definition, Occurrence, Part, types};
+use rasn_types::types::{Class, Constraints, Tag};
 use std::alloc::Global;
 use std::process::Abort;
 
-const FLAG: Definition = Definition::Leaf(Tag::BOOL, LeafKind::Boolean);
+const CONTEXT_0: Tag = Tag {
+    class: Class::Context,
+    value: 0,
+};
+
+const FLAG: Definition = Definition::Leaf(LeafKind::Boolean, Tag::BOOL);
 
 /// Types, and the rule that they break.
 type Row = (&'static [Definition], SchemaError);
@@ -31,11 +36,11 @@ fn assert_refused(rt: &impl Abort, alloc: Global, rows: &[Row]) {
 fn wrong_tags_and_choices_are_refused(rt: HostRuntime) {
     const ROWS: &[Row] = &[
         (
-            &[Definition::SetOf(Tag::EOC, 0)],
+            &[Definition::SetOf(Tag::EOC, 0, Constraints::NONE)],
             SchemaError::ReservedTag { id: TypeId(0) },
         ),
         (
-            &[Definition::Leaf(Tag::SET, LeafKind::Utf8)],
+            &[Definition::Leaf(LeafKind::Utf8, Tag::SET)],
             SchemaError::ConstructedTag { id: TypeId(0) },
         ),
         (
@@ -43,25 +48,28 @@ fn wrong_tags_and_choices_are_refused(rt: HostRuntime) {
             SchemaError::LateInner { id: TypeId(0) },
         ),
         (
-            &[Definition::Choice(&[])],
+            &[Definition::Choice("C", &[])],
             SchemaError::NoAlternatives { id: TypeId(0) },
         ),
         (
-            &[Definition::Choice(&[1]), FLAG],
+            &[Definition::Choice("C", &[("a", 1)]), FLAG],
             SchemaError::LateAlternative {
                 id: TypeId(0),
                 index: 0,
             },
         ),
         (
-            &[Definition::Any(Tag::EOC), Definition::Choice(&[0])],
+            &[
+                Definition::Any(Tag::EOC),
+                Definition::Choice("C", &[("a", 0)]),
+            ],
             SchemaError::UntaggedAlternative {
                 id: TypeId(1),
                 index: 0,
             },
         ),
         (
-            &[FLAG, Definition::Choice(&[0, 0])],
+            &[FLAG, Definition::Choice("C", &[("a", 0), ("b", 0)])],
             SchemaError::AlternativesClash {
                 id: TypeId(1),
                 index: 0,
@@ -77,7 +85,7 @@ fn wrong_tags_and_choices_are_refused(rt: HostRuntime) {
 fn wrong_numbers_are_refused(rt: HostRuntime) {
     const ROWS: &[Row] = &[
         (
-            &[Definition::Enumerated(Tag::EOC, &[0])],
+            &[Definition::Enumerated(Tag::EOC, &[("a", 0)])],
             SchemaError::ReservedTag { id: TypeId(0) },
         ),
         (
@@ -85,7 +93,12 @@ fn wrong_numbers_are_refused(rt: HostRuntime) {
             SchemaError::NoNumbers { id: TypeId(0) },
         ),
         (
-            &[Definition::Enumerated(Tag::ENUMERATED, &[1, 0, 2, 1])],
+            &[
+                Definition::Enumerated(
+                    Tag::ENUMERATED,
+                    &[("a", 1), ("b", 0), ("c", 2), ("d", 1)],
+                ),
+            ],
             SchemaError::NumbersClash {
                 id: TypeId(0),
                 index: 0,
@@ -96,17 +109,29 @@ fn wrong_numbers_are_refused(rt: HostRuntime) {
     assert_refused(&rt, rt.alloc(), ROWS);
 }
 
-const TWO_FLAGS: &[Part] = &[Part::Optional(0), Part::Required(0)];
+const TWO_FLAGS: &[Part] = &[
+    ("part", Occurrence::Optional, 0),
+    ("part", Occurrence::Required, 0),
+];
 
-const AMBIGUOUS: &[Part] = &[Part::Optional(1), Part::Required(0)];
+const AMBIGUOUS: &[Part] = &[
+    ("part", Occurrence::Optional, 1),
+    ("part", Occurrence::Required, 0),
+];
 
-const ADDITION: &[Part] = &[Part::Addition(0)];
+const ADDITION: &[Part] = &[("part", Occurrence::Addition, 0)];
 
-const OPEN: &[Part] = &[Part::Required(1)];
+const OPEN: &[Part] = &[("part", Occurrence::Required, 1)];
 
-const TWICE: &[Part] = &[Part::Required(0), Part::Required(0)];
+const TWICE: &[Part] = &[
+    ("part", Occurrence::Required, 0),
+    ("part", Occurrence::Required, 0),
+];
 
-const FALLING: &[Part] = &[Part::Required(1), Part::Required(0)];
+const FALLING: &[Part] = &[
+    ("part", Occurrence::Required, 1),
+    ("part", Occurrence::Required, 0),
+];
 
 // X.680 25.6, 27.3, and the order of tags in 8.6.
 #[test]
@@ -160,7 +185,7 @@ fn components_that_clash_are_refused(rt: HostRuntime) {
         (
             &[
                 FLAG,
-                Definition::Leaf(Tag::INTEGER, LeafKind::Integer),
+                Definition::Leaf(LeafKind::Integer, Tag::INTEGER),
                 Definition::Set(Tag::SET, FALLING),
             ],
             SchemaError::SetOutOfOrder {

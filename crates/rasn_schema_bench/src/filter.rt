@@ -1,0 +1,69 @@
+//! Filter (RFC 4511 4.5.1) as types of a schema.
+
+use crate::definition::{Definition, ONE_OR_MORE, Occurrence, Part};
+use crate::tags::{
+    CONTEXT_0, CONTEXT_1, CONTEXT_2, CONTEXT_3, CONTEXT_4, CONTEXT_5, CONTEXT_6, CONTEXT_7,
+    CONTEXT_8, CONTEXT_9,
+};
+use rasn_schema::{LeafKind, TypeId};
+use rasn_types::types::Tag;
+
+/// Filter and the types that it is made of, itself among them.
+pub const FILTER_TYPES: &[Definition] = &[
+    // 0 to 9
+    Definition::SetOf(CONTEXT_0, 18, ONE_OR_MORE),
+    Definition::SetOf(CONTEXT_1, 18, ONE_OR_MORE),
+    Definition::Tagged(CONTEXT_2, 18),
+    Definition::Sequence(CONTEXT_3, ATTRIBUTE_VALUE_ASSERTION),
+    Definition::Sequence(CONTEXT_4, SUBSTRING_FILTER),
+    Definition::Sequence(CONTEXT_5, ATTRIBUTE_VALUE_ASSERTION),
+    Definition::Sequence(CONTEXT_6, ATTRIBUTE_VALUE_ASSERTION),
+    Definition::Leaf(LeafKind::OctetString, CONTEXT_7),
+    Definition::Sequence(CONTEXT_8, ATTRIBUTE_VALUE_ASSERTION),
+    Definition::Sequence(CONTEXT_9, MATCHING_RULE_ASSERTION),
+    // 10 to 18: AttributeDescription, AssertionValue and the like are OCTET STRINGs
+    Definition::Leaf(LeafKind::OctetString, Tag::OCTET_STRING),
+    Definition::Leaf(LeafKind::OctetString, CONTEXT_0),
+    Definition::Leaf(LeafKind::OctetString, CONTEXT_1),
+    Definition::Leaf(LeafKind::OctetString, CONTEXT_2),
+    Definition::Choice("substring", SUBSTRING),
+    Definition::SequenceOf(Tag::SEQUENCE, 14, ONE_OR_MORE),
+    Definition::Leaf(LeafKind::OctetString, CONTEXT_3),
+    Definition::Leaf(LeafKind::Boolean, CONTEXT_4),
+    Definition::Choice("Filter", FILTER_ALTERNATIVES),
+];
+
+/// The number of Filter.
+pub const FILTER: TypeId = TypeId(18);
+
+const FILTER_ALTERNATIVES: &[(&str, usize)] = &[
+    ("and", 0),
+    ("or", 1),
+    ("not", 2),
+    ("equalityMatch", 3),
+    ("substrings", 4),
+    ("greaterOrEqual", 5),
+    ("lessOrEqual", 6),
+    ("present", 7),
+    ("approxMatch", 8),
+    ("extensibleMatch", 9),
+];
+
+const ATTRIBUTE_VALUE_ASSERTION: &[Part] = &[
+    ("attributeDesc", Occurrence::Required, 10),
+    ("assertionValue", Occurrence::Required, 10),
+];
+
+const SUBSTRING_FILTER: &[Part] = &[
+    ("type", Occurrence::Required, 10),
+    ("substrings", Occurrence::Required, 15),
+];
+
+const SUBSTRING: &[(&str, usize)] = &[("initial", 11), ("any", 12), ("final", 13)];
+
+const MATCHING_RULE_ASSERTION: &[Part] = &[
+    ("matchingRule", Occurrence::Optional, 12),
+    ("type", Occurrence::Optional, 13),
+    ("matchValue", Occurrence::Required, 16),
+    ("dnAttributes", Occurrence::False, 17),
+];

@@ -1,0 +1,33 @@
+//! Answers lines as `rasn-vectors` does, each type given as a schema.
+#![tactic(auto)]
+
+use rasn_bench::{CallFault, answer_call};
+use rasn_schema_bench::{LineSchema, LineSchemaError};
+use std::process::ExitCode;
+use thiserror::Error;
+
+/// What the program says if it can't go on.
+#[derive(Debug, Drop, Error)]
+enum Fault {
+    #[error(transparent)]
+    Schema(LineSchemaError),
+    #[error(transparent)]
+    Call(CallFault),
+}
+
+fn main(rt: HostRuntime) -> ExitCode {
+    match answer(&rt) {
+        Ok(true) => ExitCode::SUCCESS,
+        Ok(false) => ExitCode::FAILURE,
+        Err(fault) => {
+            let _ = eprintln!(rt; "{fault}");
+            ExitCode::FAILURE
+        }
+    }
+}
+
+/// Answers the lines that the arguments tell, and returns whether none was malformed.
+fn answer(rt: &HostRuntime) -> Result<bool, Fault> {
+    let schema = LineSchema::new(rt.alloc()).map_err(Fault::Schema)?;
+    answer_call(rt, &schema).map_err(Fault::Call)
+}
