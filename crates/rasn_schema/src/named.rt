@@ -35,7 +35,8 @@ pub fn type_named(names: &[TypeName], name: &str) -> Option<TypeId>
     None
 }
 
-fn is_name(own: &String, name: &str) -> bool
+/// Returns whether this is the name.
+pub fn is_name(own: &String, name: &str) -> bool
     ensures { IsWhether result (string_bytes own.now ≡ name.now) }
 {
     own.as_str() == name
