@@ -70,15 +70,15 @@ pub fn alternative_named(alternatives: &[Alternative], name: &str) -> Option<usi
     None
 }
 
-/// Returns the first number with this name, if there is one.
-pub fn number_named(numbers: &[NamedNumber], name: &str) -> Option<isize>
+/// Returns the index of the first number with this name, if there is one.
+pub fn number_named(numbers: &[NamedNumber], name: &str) -> Option<usize>
     ensures { MatchOption result
         ((j : ℕ) (n : NamedNumber) → Some n ≡ slice_get numbers.now j → string_bytes n.name ≢ name.now)
-        (λ z. (j : ℕ) × (n : NamedNumber) × (Some n ≡ slice_get numbers.now j) × (string_bytes n.name ≡ name.now) × (n.number ≡ z)) }
+        (λ j. (n : NamedNumber) × (Some n ≡ slice_get numbers.now j) × (string_bytes n.name ≡ name.now)) }
 {
-    for named in numbers {
-        if is_name(&named.name, name) {
-            return Some(named.number);
+    for (index, number) in numbers.iter().enumerate() {
+        if is_name(&number.name, name) {
+            return Some(index);
         }
     }
     None
