@@ -210,7 +210,7 @@ fn are_named(alloc: Global) -> Result<bool, AllocError> {
         component_named(&components, "b") == Some(1)
             && component_named(&components, "c").is_none()
             && alternative_named(&alternatives, "b") == Some(1)
-            && number_named(&numbers, "a") == Some(-3)
+            && number_named(&numbers, "a") == Some(0)
             && number_named(&numbers, "b").is_none()
             && name_of_number(&numbers, -3) == Some("a")
             && name_of_number(&numbers, 3).is_none(),
