@@ -1,5 +1,5 @@
 //! `Both ::= SEQUENCE { first A, second B }`, of any two types.
-ghost use Rattle.std.specs.Prelude.{IfOk};
+ghost use Rattle.std.specs.Prelude.{◌≡◌, IfOk, IfErr};
 ghost use Rattle.rasn_de.specs.Decodes.{DecodesParts};
 ghost use Rattle.rasn_enc.specs.Sequence.{EncodesParts};
 ghost use Rattle.rasn_bench.specs.Both.{both_parts, both_tree};
@@ -105,7 +105,8 @@ impl<A: Decode, B: Decode> Decode for Both<A, B> {
                 { Err(AllocError) },
             ),
             |decoder|
-                ensures { DecodesParts (both_parts A.shape B.shape) (both_tree A.tree B.tree) decoder.old result decoder.new }
+                ensures reads { DecodesParts (both_parts A.shape B.shape) (both_tree A.tree B.tree) decoder.old result decoder.new }
+                ensures rules { IfErr result (λ e. e.codec ≡ decoder.old.rule) }
             {
                 let first = A::decode(decoder)?;
                 let second = B::decode(decoder)?;
@@ -126,7 +127,8 @@ impl<A: Encode, B: Encode> Encode for Both<A, B> {
         encoder.encode_sequence::<2, 0, Both<A, B>, _>(
             tag,
             |inner: &mut Encoder| -> Result<(), EncodeError>
-                ensures { EncodesParts (both_parts A.shape B.shape) (both_tree A.tree B.tree self.entry.now) inner.old result inner.new }
+                ensures writes { EncodesParts (both_parts A.shape B.shape) (both_tree A.tree B.tree self.entry.now) inner.old result inner.new }
+                ensures rules { IfErr result (λ e. e.codec ≡ inner.old.rule) }
             {
                 self.first.encode(inner)?;
                 self.second.encode(inner)

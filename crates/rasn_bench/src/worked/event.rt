@@ -1,5 +1,5 @@
 //! `Event ::= SET { time Time, level [0] IMPLICIT INTEGER (0..255) DEFAULT 7, confirmed [1] IMPLICIT BOOLEAN OPTIONAL }`
-ghost use Rattle.std.specs.Prelude.{◌≡◌, IfOk, map};
+ghost use Rattle.std.specs.Prelude.{◌≡◌, IfOk, IfErr, map};
 ghost use Rattle.rasn_types.specs.Shapes.{IsFirst};
 ghost use Rattle.rasn_de.specs.Set.{MakesSet};
 ghost use Rattle.rasn_enc.specs.Sequence.{EncodesParts};
@@ -192,7 +192,8 @@ impl DecodeChoice for Component {
 
 /// The value of these components, none of which may come twice.
 fn gather(alloc: Global, codec: Codec, components: Vec<Component>) -> Result<Event, DecodeError>
-    ensures { MakesSet event_parts event_tree (map component_tree components.items) result }
+    ensures makes { MakesSet event_parts event_tree (map component_tree components.items) result }
+    ensures rules { IfErr result (λ e. e.codec ≡ codec) }
 {
     let mut time = None;
     let mut level = None;
@@ -242,7 +243,8 @@ impl Decode for Event {
                 DecodeError,
             > { Component::decode(decoder) },
             |components: Vec<Component>| -> Result<Event, DecodeError>
-                ensures { MakesSet event_parts event_tree (map component_tree components.items) result }
+                ensures makes { MakesSet event_parts event_tree (map component_tree components.items) result }
+                ensures rules { IfErr result (λ e. e.codec ≡ codec) }
             { gather(alloc, codec, components) },
         )
     }
@@ -259,7 +261,8 @@ impl Encode for Event {
         encoder.encode_set::<3, 0, Event, _>(
             tag,
             |inner: &mut Encoder| -> Result<(), EncodeError>
-                ensures { EncodesParts event_parts (event_tree self.entry.now) inner.old result inner.new }
+                ensures writes { EncodesParts event_parts (event_tree self.entry.now) inner.old result inner.new }
+                ensures rules { IfErr result (λ e. e.codec ≡ inner.old.rule) }
             {
                 self.time.encode(inner)?;
                 inner.encode_default_with_tag(LEVEL, &self.level, usual, Identifier::EMPTY)?;

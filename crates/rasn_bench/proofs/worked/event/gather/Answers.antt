@@ -11,8 +11,8 @@ nothing_left : {X : Type 0} (l : List X) → length l ≡ 0 → l ≡ []
 nothing_left [] h = refl
 nothing_left (x ∷ xs) h = absurd (omega arith)
 
-pub returns-then-is_some : goal.returns-then-is_some
-returns-then-is_some c =
+pub returns-then-is_some-clause-makes : goal.returns-then-is_some-clause-makes
+returns-then-is_some-clause-makes c =
     let at = c.loop-component in
     let steps : into_iter_items at.component-iterator ≡ c.in-Some.component ∷ into_iter_items c.next.new.self = c.in-Some.ensures.steps.0 in
     let all = sym c.into_iter-component-iterator.ensures.into_iter_gives.0 ∙ (sym at.invariant.0 ∙ ap (λ l. at.yielded ++ l) steps) in
@@ -30,8 +30,8 @@ loop-component-preserved-else-is_some c =
       rw (c.replace.ensures.after, c.in-At.is) (appended_time at.yielded at.time at.level at.confirmed at.invariant.2 c.in-At.moment (search rules)),
     )
 
-pub returns-then-is_some-2 : goal.returns-then-is_some-2
-returns-then-is_some-2 c =
+pub returns-then-is_some-2-clause-makes : goal.returns-then-is_some-2-clause-makes
+returns-then-is_some-2-clause-makes c =
     let at = c.loop-component in
     let steps : into_iter_items at.component-iterator ≡ c.in-Some.component ∷ into_iter_items c.next.new.self = c.in-Some.ensures.steps.0 in
     let all = sym c.into_iter-component-iterator.ensures.into_iter_gives.0 ∙ (sym at.invariant.0 ∙ ap (λ l. at.yielded ++ l) steps) in
@@ -49,8 +49,8 @@ loop-component-preserved-else-is_some-2 c =
       rw (c.replace-in-Level.ensures.after, c.in-Level.is) (appended_level at.yielded at.time at.level at.confirmed at.invariant.2 c.in-Level.number (search rules)),
     )
 
-pub returns-then-is_some-3 : goal.returns-then-is_some-3
-returns-then-is_some-3 c =
+pub returns-then-is_some-3-clause-makes : goal.returns-then-is_some-3-clause-makes
+returns-then-is_some-3-clause-makes c =
     let at = c.loop-component in
     let steps : into_iter_items at.component-iterator ≡ c.in-Some.component ∷ into_iter_items c.next.new.self = c.in-Some.ensures.steps.0 in
     let all = sym c.into_iter-component-iterator.ensures.into_iter_gives.0 ∙ (sym at.invariant.0 ∙ ap (λ l. at.yielded ++ l) steps) in
@@ -68,15 +68,15 @@ loop-component-preserved c =
       rw (c.replace-in-Confirmed.ensures.after, c.in-Confirmed.is) (appended_confirmed at.yielded at.time at.level at.confirmed at.invariant.2 c.in-Confirmed.truth (search rules)),
     )
 
-pub returns-in_default : goal.returns-in_default
-returns-in_default c =
+pub returns-in_default-clause-makes : goal.returns-in_default-clause-makes
+returns-in_default-clause-makes c =
     let at = c.loop-component in
     let gone : into_iter_items at.component-iterator ≡ [] = nothing_left _ (sym at.invariant.1 ∙ c.in-None.ensures.steps.0) in
     let all = sym (append-nil at.yielded) ∙ (rw gone at at.invariant.0 ∙ c.into_iter-component-iterator.ensures.into_iter_gives.0) in
     no_time c.args.components.items at.yielded all at.time (search rules) at.invariant.2.0 c.missing_field.result.kind
 
-pub returns : goal.returns
-returns c =
+pub returns-clause-makes : goal.returns-clause-makes
+returns-clause-makes c =
     let at = c.loop-component in
     let gone : into_iter_items at.component-iterator ≡ [] = nothing_left _ (sym at.invariant.1 ∙ c.in-None.ensures.steps.0) in
     let all = sym (append-nil at.yielded) ∙ (rw gone at at.invariant.0 ∙ c.into_iter-component-iterator.ensures.into_iter_gives.0) in
