@@ -1,8 +1,8 @@
 -- Lists of values that are the same.
-use Rattle.std.proofs.Common.{◌≡◌, ℕ, zero, suc, List, [], ◌∷◌, length, Some, Bool, true, false, refl, sym, ap, subst, ◌∙◌, true≢false}
+use Rattle.std.proofs.Common.{◌≡◌, ℕ, zero, suc, List, [], ◌∷◌, length, Some, true, false, refl, sym, ap, subst, true≢false}
 use Rattle.std.specs.Prelude.{slice_get, chars}
 use Rattle.std.proofs.lemmas.Str.{chars-nil}
-use Rattle.rasn_types.specs.Shapes.{Tree, joined, items, set_elements}
+use Rattle.rasn_types.specs.Shapes.{Tree}
 use Rattle.rasn_types.specs.Bytes.{Same}
 use Rattle.rasn_types.specs.Equality.{DecidesSame}
 use Rattle.rasn_types.specs.Trees.{list_tree}

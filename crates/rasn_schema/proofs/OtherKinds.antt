@@ -1,16 +1,12 @@
 -- Values of other kinds mean something else.
-use Rattle.std.proofs.Common.{◌≡◌, ◌≢◌, ℕ, ℤ, Vec, Global, List, [], ◌∷◌, Bool, false, nat_eq, refl, sym, ap, ◌∙◌, subst, arith, true≢false, length}
+use Rattle.std.proofs.Common.{◌≡◌, ◌≢◌, ℕ, Vec, Global, List, [], ◌∷◌, Bool, false, nat_eq, refl, sym, ap, ◌∙◌, subst, true≢false}
 use Rattle.std.specs.Cmp.{unsigned_Decides}
-use Rattle.rasn_types.specs.Shapes.{Tree, items, number, bits, instant, on_day, set_elements, chosen, absent}
-use Rattle.rasn_types.specs.Calendar.{Day as CalendarDay, Moment}
 use Rattle.rasn_types.specs.Trees.{list_tree}
-use Rattle.rasn_types.specs.Equality.{DecidesSame}
 use Rattle.rasn_schema.specs.declared.value.Value.{Value, Boolean, Null, Integer, Bits, Octets, Text, Units, Arcs, Instant, Day, Absent, Items, Items', Elements, Elements', Chosen, Chosen', Row_of-Value, end_of-Value, more_of-Value, roll-Value, out-Value, roll-out-Value}
 use Rattle.rasn_schema.specs.declared.value.Value.TheOpen.{Value-F, Boolean as Boolean-F, Null as Null-F, Integer as Integer-F, Bits as Bits-F, Octets as Octets-F, Text as Text-F, Units as Units-F, Arcs as Arcs-F, Instant as Instant-F, Day as Day-F, Items as Items-F, Elements as Elements-F, Chosen as Chosen-F, Absent as Absent-F}
 use Rattle.rasn_schema.specs.Trees.{tree_of, trees_in}
 use Rattle.rasn_schema.proofs.Values.{tree_items}
 use Rattle.rasn_schema.specs.Kinds.{kind}
-use Rattle.rasn_schema.specs.Equals.{apart}
 
 rows_kind : {n : _} (row : Row_of-Value n) → kind (trees_in row) ≡ 5
 rows_kind end_of-Value = refl

@@ -1,5 +1,5 @@
 -- The function decides whether trees are the same, and is an equivalence of values.
-use Rattle.std.proofs.Common.{◌≡◌, ◌≢◌, ℕ, zero, suc, ◌+◌, ◌<◌, List, [], ◌∷◌, Bool, true, false, ◌&&◌, cond, Option, Some, None, pos, map, length, refl, sym, ap, ◌∙◌, subst, arith, true≢false, IsPermutation, nat_eq}
+use Rattle.std.proofs.Common.{◌≡◌, ℕ, zero, suc, ◌+◌, ◌<◌, List, [], ◌∷◌, Bool, true, false, ◌&&◌, cond, Option, Some, None, map, length, refl, sym, ap, ◌∙◌, subst, arith, true≢false, IsPermutation, nat_eq}
 use Rattle.std.specs.List.{count_by}
 use Rattle.std.specs.Prelude.{slice_get}
 use Rattle.std.proofs.lemmas.List.{length-map}

@@ -1,4 +1,3 @@
-use Rattle.std.proofs.Common.{◌+◌, ◌*◌}
 use Rattle.rasn_types.specs.Shapes.{IsFirst}
 use Rattle.rasn_schema.specs.Shapes.{shape_of_type}
 use Rattle.rasn_schema.proofs.Lists.{SoFar}

@@ -1,11 +1,8 @@
-use Rattle.std.proofs.Common.{◌≡◌, ◌+◌, length, take, sym, ap, subst, ◌∙◌, refl, arith, true, false, true≢false}
-use Rattle.std.specs.Prelude.{count_by}
-use Rattle.std.proofs.lemmas.List.{take_all}
+use Rattle.std.proofs.Common.{◌≡◌, ◌+◌, sym, ap, subst, ◌∙◌, refl, arith, true, false, true≢false}
 use Rattle.std.proofs.lemmas.List.Sums.{count_by_more_yes, count_by_more_no}
 use Rattle.rasn_types.specs.Shapes.{set_elements, chosen}
 use Rattle.rasn_types.specs.Bytes.{Same}
 use Rattle.rasn_types.specs.Trees.{list_tree}
-use Rattle.rasn_types.specs.Equality.{DecidesSame}
 use Rattle.rasn_schema.specs.Trees.{tree_of}
 use Rattle.rasn_schema.specs.Equal.{value_eq}
 use Rattle.rasn_schema.specs.Equals.{apart, one_answer, sets_same, sets_as_often}

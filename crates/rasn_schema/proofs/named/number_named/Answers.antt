@@ -1,4 +1,4 @@
-use Rattle.std.proofs.Common.{refl, arith}
+use Rattle.std.proofs.Common.{arith}
 use Rattle.rasn_schema.proofs.Lists.{so_far_more, so_far_end, read_at}
 use Rattle.rasn_schema.proofs.named.number_named.Goals as goal
 

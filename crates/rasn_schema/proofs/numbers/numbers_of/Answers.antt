@@ -1,5 +1,3 @@
-use Rattle.std.proofs.Common.{true≢false, nat_eq, ap, sym, ◌∙◌}
-use Rattle.std.specs.Cmp.{unsigned_Decides}
 use Rattle.rasn_schema.proofs.OtherKinds.{is_other, not_numbers}
 use Rattle.rasn_schema.proofs.numbers.numbers_of.Goals as goal
 
