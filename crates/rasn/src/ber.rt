@@ -25,7 +25,8 @@ use std::alloc::Global;
 /// As `decode_with_remainder`.
 #[inline(always)]
 pub fn decode<T: Decode>(alloc: Global, input: &[u8]) -> Result<T, DecodeError>
-    ensures { AnsweredFirst Ber T.shape T.tree input.now result }
+    ensures exact { AnsweredFirst Ber T.shape T.tree input.now result }
+    ensures rules { IfErr result (λ e. e.codec ≡ Ber) }
 {
     let (value, _) = decode_with_remainder(alloc, input)?;
     Ok(value)
@@ -43,6 +44,7 @@ pub fn decode_with_remainder<T: Decode>(
 ) -> Result<(T, &[u8]), DecodeError>
     ensures exact { Answered Ber T.shape T.tree input.now result }
     ensures end { IfOk result (λ read. IsEnd input.now read.1.now) }
+    ensures rules { IfErr result (λ e. e.codec ≡ Ber) }
 {
     entry::decode_with_remainder(alloc, Codec::Ber, input)
 }
@@ -55,6 +57,7 @@ pub fn decode_with_remainder<T: Decode>(
 pub fn encode<T: Encode>(alloc: Global, value: &T) -> Result<Vec<u8>, EncodeError>
     ensures ok { IfOk result (λ octets. Bytes Ber T.shape (T.tree value.now) octets.items) }
     ensures fails { IfErr result (EncodingFails Ber T.shape (T.tree value.now)) }
+    ensures rules { IfErr result (λ e. e.codec ≡ Ber) }
 {
     entry::encode(alloc, value, EncoderOptions::ber())
 }
@@ -71,6 +74,7 @@ pub fn encode_buf<T: Encode>(
     ensures ok { OnOk result (Bytes Ber T.shape (T.tree value.now) buffer.new.items) }
     ensures emptied { OnErr result (buffer.new.items ≡ []) }
     ensures fails { IfErr result (EncodingFails Ber T.shape (T.tree value.now)) }
+    ensures rules { IfErr result (λ e. e.codec ≡ Ber) }
 {
     entry::encode_buf(alloc, value, buffer, EncoderOptions::ber())
 }

@@ -20,7 +20,8 @@ use std::alloc::Global;
 /// As `decode_with_remainder`.
 #[inline(always)]
 pub fn decode<T: Decode>(alloc: Global, input: &[u8]) -> Result<T, DecodeError>
-    ensures { AnsweredFirst Cer T.shape T.tree input.now result }
+    ensures exact { AnsweredFirst Cer T.shape T.tree input.now result }
+    ensures rules { IfErr result (λ e. e.codec ≡ Cer) }
 {
     let (value, _) = decode_with_remainder(alloc, input)?;
     Ok(value)
@@ -38,6 +39,7 @@ pub fn decode_with_remainder<T: Decode>(
 ) -> Result<(T, &[u8]), DecodeError>
     ensures exact { Answered Cer T.shape T.tree input.now result }
     ensures end { IfOk result (λ read. IsEnd input.now read.1.now) }
+    ensures rules { IfErr result (λ e. e.codec ≡ Cer) }
 {
     entry::decode_with_remainder(alloc, Codec::Cer, input)
 }
@@ -50,6 +52,7 @@ pub fn decode_with_remainder<T: Decode>(
 pub fn encode<T: Encode>(alloc: Global, value: &T) -> Result<Vec<u8>, EncodeError>
     ensures ok { IfOk result (λ octets. Bytes Cer T.shape (T.tree value.now) octets.items) }
     ensures fails { IfErr result (EncodingFails Cer T.shape (T.tree value.now)) }
+    ensures rules { IfErr result (λ e. e.codec ≡ Cer) }
 {
     entry::encode(alloc, value, EncoderOptions::cer())
 }
@@ -66,6 +69,7 @@ pub fn encode_buf<T: Encode>(
     ensures ok { OnOk result (Bytes Cer T.shape (T.tree value.now) buffer.new.items) }
     ensures emptied { OnErr result (buffer.new.items ≡ []) }
     ensures fails { IfErr result (EncodingFails Cer T.shape (T.tree value.now)) }
+    ensures rules { IfErr result (λ e. e.codec ≡ Cer) }
 {
     entry::encode_buf(alloc, value, buffer, EncoderOptions::cer())
 }

@@ -27,6 +27,7 @@ use std::alloc::{AllocError, Global};
 pub fn decode<T: Decode>(alloc: Global, input: &[u8]) -> Result<T, DecodeError>
     ensures exact { AnsweredAlone Der T.shape T.tree input.now result }
     ensures written { IsAsWritten T.shape T.tree input.now result }
+    ensures rules { IfErr result (λ e. e.codec ≡ Der) }
 {
     entry::decode(alloc, Codec::Der, input)
 }
@@ -45,6 +46,7 @@ pub fn decode_with_remainder<T: Decode>(
     ensures exact { Answered Der T.shape T.tree input.now result }
     ensures end { IfOk result (λ read. IsEnd input.now read.1.now) }
     ensures written { ConsumesWritten T.shape T.tree input.now result }
+    ensures rules { IfErr result (λ e. e.codec ≡ Der) }
 {
     entry::decode_with_remainder(alloc, Codec::Der, input)
 }
@@ -58,6 +60,7 @@ pub fn encode<T: Encode>(alloc: Global, value: &T) -> Result<Vec<u8>, EncodeErro
     ensures ok { IfOk result (λ octets. Bytes Der T.shape (T.tree value.now) octets.items) }
     ensures canonical { IfOk result (λ octets. Identify T.shape (T.tree value.now) octets.items) }
     ensures fails { IfErr result (EncodingFails Der T.shape (T.tree value.now)) }
+    ensures rules { IfErr result (λ e. e.codec ≡ Der) }
 {
     entry::encode(alloc, value, EncoderOptions::der())
 }
@@ -75,6 +78,7 @@ pub fn encode_buf<T: Encode>(
     ensures canonical { OnOk result (Identify T.shape (T.tree value.now) buffer.new.items) }
     ensures emptied { OnErr result (buffer.new.items ≡ []) }
     ensures fails { IfErr result (EncodingFails Der T.shape (T.tree value.now)) }
+    ensures rules { IfErr result (λ e. e.codec ≡ Der) }
 {
     entry::encode_buf(alloc, value, buffer, EncoderOptions::der())
 }

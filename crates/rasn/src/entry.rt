@@ -32,7 +32,8 @@ use std::mem;
 /// ```
 #[inline(always)]
 pub fn decode<T: Decode>(alloc: Global, codec: Codec, input: &[u8]) -> Result<T, DecodeError>
-    ensures { AnsweredAlone codec T.shape T.tree input.now result }
+    ensures exact { AnsweredAlone codec T.shape T.tree input.now result }
+    ensures rules { IfErr result (λ e. e.codec ≡ codec) }
 {
     let (value, remainder) = decode_with_remainder(alloc, codec, input)?;
     refuse_remainder(codec, remainder)?;
@@ -59,6 +60,7 @@ pub fn decode_with_remainder<T: Decode>(
 ) -> Result<(T, &[u8]), DecodeError>
     ensures exact { Answered codec T.shape T.tree input.now result }
     ensures end { IfOk result (λ read. IsEnd input.now read.1.now) }
+    ensures rules { IfErr result (λ e. e.codec ≡ codec) }
 {
     let mut decoder = Decoder::new(alloc, input, DecoderOptions::of(codec));
     let value = T::decode(&mut decoder)?;
@@ -100,6 +102,7 @@ pub(crate) fn encode<T: Encode>(
 ) -> Result<Vec<u8>, EncodeError>
     ensures ok { IfOk result (λ octets. Bytes options T.shape (T.tree value.now) octets.items) }
     ensures fails { IfErr result (EncodingFails options T.shape (T.tree value.now)) }
+    ensures rules { IfErr result (λ e. e.codec ≡ options) }
 {
     let Ok(buffer) = Vec::with_capacity(alloc, INITIAL_CAPACITY) else {
         return Err(out_of_memory(options));
@@ -117,6 +120,7 @@ fn encode_over<T: Encode>(
 ) -> Result<Vec<u8>, EncodeError>
     ensures ok { IfOk result (λ octets. Bytes options T.shape (T.tree value.now) octets.items) }
     ensures fails { IfErr result (EncodingFails options T.shape (T.tree value.now)) }
+    ensures rules { IfErr result (λ e. e.codec ≡ options) }
 {
     let mut encoder = Encoder::over(alloc, options, buffer);
     value.encode(&mut encoder)?;
@@ -133,6 +137,7 @@ pub(crate) fn encode_buf<T: Encode>(
     ensures ok { OnOk result (Bytes options T.shape (T.tree value.now) buffer.new.items) }
     ensures emptied { OnErr result (buffer.new.items ≡ []) }
     ensures fails { IfErr result (EncodingFails options T.shape (T.tree value.now)) }
+    ensures rules { IfErr result (λ e. e.codec ≡ options) }
 {
     let mut held = mem::replace(buffer, Vec::new(alloc));
     held.clear();

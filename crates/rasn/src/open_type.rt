@@ -1,5 +1,5 @@
 //! Values of a known type in an open type (X.680 14, X.690 8.15).
-ghost use Rattle.std.specs.Prelude.{IfOk, IfErr, MatchResult};
+ghost use Rattle.std.specs.Prelude.{IfOk, IfErr, MatchResult, ◌≡◌};
 ghost use Rattle.rasn_types.specs.declared.types.tag.Tag.{Tag};
 ghost use Rattle.rasn_types.specs.Tags.{form};
 ghost use Rattle.rasn_types.specs.Framing.{NextTag};
@@ -22,6 +22,7 @@ use std::alloc::Global;
 pub fn encode_any<T: Encode>(alloc: Global, rules: Codec, value: &T) -> Result<Any, EncodeError>
     ensures ok { IfOk result (λ any. Bytes rules T.shape (T.tree value.now) any) }
     ensures fails { IfErr result (EncodingFails rules T.shape (T.tree value.now)) }
+    ensures rules { IfErr result (λ e. e.codec ≡ rules) }
 {
     let octets = entry::encode(alloc, value, EncoderOptions::of(rules))?;
     Ok(Any::new(octets))
@@ -32,7 +33,8 @@ pub fn encode_any<T: Encode>(alloc: Global, rules: Codec, value: &T) -> Result<A
 /// # Errors
 /// Those of `rasn::decode`: `UnexpectedExtraData` where octets follow the value (X.690 8.1.1.1).
 pub fn decode_any<T: Decode>(alloc: Global, rules: Codec, any: &Any) -> Result<T, DecodeError>
-    ensures { AnsweredAlone rules T.shape T.tree any.now result }
+    ensures exact { AnsweredAlone rules T.shape T.tree any.now result }
+    ensures rules { IfErr result (λ e. e.codec ≡ rules) }
 {
     entry::decode(alloc, rules, any.as_bytes())
 }
@@ -42,7 +44,8 @@ pub fn decode_any<T: Decode>(alloc: Global, rules: Codec, any: &Any) -> Result<T
 /// # Errors
 /// As `Decoder::peek_tag`: where no identifier begins the octets (X.690 8.1.2).
 pub fn any_tag(alloc: Global, rules: Codec, any: &Any) -> Result<Tag, DecodeError>
-    ensures { MatchResult result (λ t. NextTag (form rules) any.now t) (λ e. (t : Tag) → NextTag (form rules) any.now t → ⊥) }
+    ensures next { MatchResult result (λ t. NextTag (form rules) any.now t) (λ e. (t : Tag) → NextTag (form rules) any.now t → ⊥) }
+    ensures rules { IfErr result (λ e. e.codec ≡ rules) }
 {
     Decoder::new(alloc, any.as_bytes(), DecoderOptions::of(rules)).peek_tag()
 }

@@ -7,3 +7,4 @@ pub mod Outcomes
 pub mod Errors
 pub mod Memory
 pub mod Returns
+pub mod Rules

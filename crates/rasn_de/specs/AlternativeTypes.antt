@@ -1,16 +1,20 @@
 -- Alternatives as types: one, or one of the others.
-use Rattle.std.specs.Prelude.{ℕ, ◌+◌, Bool, true, false, not, ◌&&◌, Option, Some, None, Result}
+use Rattle.std.specs.Prelude.{◌≡◌, ◌⊎◌, ℕ, ◌+◌, Bool, true, false, not, ◌&&◌, List, Option, Some, None, Result, Ok, Err}
 use Rattle.rasn_types.specs.declared.types.codec.Codec.{Codec}
 use Rattle.rasn_types.specs.declared.types.tag.Tag.{Tag}
 use Rattle.rasn_types.specs.declared.error.decode.DecodeError.{DecodeError}
-use Rattle.rasn_types.specs.Shapes.{Shape, Tree, chosen, Parts, part, own}
+use Rattle.rasn_types.specs.Tags.{form}
+use Rattle.rasn_types.specs.Framing.{NextTag}
+use Rattle.rasn_types.specs.Shapes.{Shape, Tree, chosen, choice, Parts, part, own}
 use Rattle.rasn_types.specs.Shapes.Parts.{none}
 use Rattle.rasn_types.specs.Readings.{Reading, ReadsChoice}
 use Rattle.rasn_types.specs.Grammar.{parts_of}
-use Rattle.rasn_de.specs.State.{State}
+use Rattle.rasn_de.specs.State.{State, Call}
+use Rattle.rasn_de.specs.Steps.{PeeksTag}
+use Rattle.rasn_de.specs.NamedErrors.{IsNamedError, IsNoValidChoice}
 use Rattle.rasn_de.specs.Headers.{same_tag}
-use Rattle.rasn_de.specs.PartTypes.{same_own}
-use Rattle.rasn_de.specs.Decodes.{DecodesBy}
+use Rattle.rasn_de.specs.PartTypes.{same_own, DecodesTree}
+use Rattle.rasn_de.specs.Decodes.{DecodesBy, Decodes}
 
 -- One of these alternatives is read, the first of which has the number k.
 abbrev pub ReadsNumbered : ℕ → Parts → Codec → ℕ → Bool → Reading Tree
@@ -32,3 +36,15 @@ none_begins (part p s ps) t = is_other (own s) t && none_begins ps t
 -- Whether the shape has this tag of its own, and none of the others has it.
 abbrev pub is_first_alone : Shape → Tag → Parts → Bool
 is_first_alone s tag ps = same_own (own s) (Some tag) && none_begins ps tag
+
+-- The first alternative of this tag isn't read; or none has it, and the error holds the name. Then nothing is consumed.
+abbrev pub FailsAtAlternative : Parts → List ℕ → Tag → State → DecodeError → State → Type 0
+FailsAtAlternative none name tag old e new = IsNamedError (IsNoValidChoice name) old.rule e × (new ≡ old)
+FailsAtAlternative (part p s ps) name tag old e new =
+    ((own s ≡ Some tag) × DecodesTree s old (Err e) new) ⊎ ((own s ≡ Some tag → ⊥) × FailsAtAlternative ps name tag old e new)
+
+-- The alternative of the next tag is read. A refusal is that of the look at this tag, which consumes nothing, or the alternative's.
+abbrev pub DecodesAlternative : {D : Type 0} → Parts → (D → Tree) → List ℕ → Call D
+DecodesAlternative ps tree name old (Ok v) new = Decodes (choice ps) tree old (Ok v) new
+DecodesAlternative ps tree name old (Err e) new = (PeeksTag old (Err e) × (new ≡ old))
+    ⊎ ((tag : Tag) × NextTag (form old.rule) old.rest tag × FailsAtAlternative ps name tag old e new)

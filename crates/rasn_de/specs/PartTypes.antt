@@ -1,9 +1,19 @@
--- Parts as types: what is told of them by computing.
-use Rattle.std.specs.Prelude.{Bool, true, false, ◌||◌, not, Option, Some, None}
+-- Parts as types: what is told of them by computing, and which is the first that isn't read.
+use Rattle.std.specs.Prelude.{◌≡◌, ◌⊎◌, ℕ, Bool, true, false, ◌||◌, not, IfOk, Option, Some, None, Result, Ok, Err}
+use Rattle.rasn_types.specs.declared.types.codec.Codec.{Codec}
 use Rattle.rasn_types.specs.declared.types.tag.Tag.{Tag}
-use Rattle.rasn_types.specs.Shapes.{Shape, own, looked_for, Parts}
+use Rattle.rasn_types.specs.declared.error.decode.DecodeError.{DecodeError}
+use Rattle.rasn_types.specs.Shapes.{Shape, Tree, own, looked_for, Parts, part, Presence, required, optional, addition, default}
+use Rattle.rasn_types.specs.Shapes.Parts.{none}
+use Rattle.rasn_types.specs.Readings.{Reading, ReadsPart}
+use Rattle.rasn_types.specs.Grammar.{Reads}
 use Rattle.rasn_types.specs.Described.{has_required, has_addition}
 use Rattle.rasn_de.specs.Headers.{same_tag}
+use Rattle.rasn_de.specs.State.{State, Call}
+use Rattle.rasn_de.specs.Outcomes.{Got}
+use Rattle.rasn_de.specs.Decodes.{Decodes, DecodesExactly, DecodesParts}
+use Rattle.rasn_de.specs.Optional.{DecodesIfPresent, DecodesOrDefault}
+use Rattle.rasn_de.specs.Constructed.{sequence_header, DecodesInside}
 
 abbrev pub same_own : Option Tag → Option Tag → Bool
 same_own None None = true
@@ -19,3 +29,34 @@ is_looked_for s tag = same_own (own s) (looked_for tag)
 -- extension marker an addition would be missing as well.
 abbrev pub needs_no_initializer : Parts → Bool
 needs_no_initializer parts = has_required parts || not (has_addition parts)
+
+-- One part, as its presence says.
+abbrev pub OnePart : Presence → Shape → Codec → ℕ → Bool → Reading Tree
+OnePart p s rule depth closing = ReadsPart rule p (own s) (Reads rule s depth closing) closing
+
+-- A value of the shape, which is its tree.
+abbrev pub DecodesTree : Shape → Call Tree
+DecodesTree s = Decodes s (λ (t : Tree). t)
+
+-- A part isn't read: its value, or the look at the next tag where it may be left out, or its default.
+abbrev pub FailsAtOnePart : Presence → Shape → State → DecodeError → State → Type 0
+FailsAtOnePart required s old e new = DecodesTree s old (Err e) new
+FailsAtOnePart addition s old e new = DecodesTree s old (Err e) new
+FailsAtOnePart optional s old e new = (tag : Tag) × (own s ≡ looked_for tag) × DecodesIfPresent (DecodesTree s) tag old (Err e) new
+FailsAtOnePart (default d) s old e new = (tag : Tag) × (own s ≡ looked_for tag)
+    × DecodesOrDefault (DecodesTree s) (λ (t : Tree). t) (λ made. IfOk made (λ t. t ≡ d)) tag old (Err e) new
+
+-- The parts before some part are read, and that part isn't.
+abbrev pub FailsAtPart : Parts → State → DecodeError → State → Type 0
+FailsAtPart none old e new = ⊥
+FailsAtPart (part p s ps) old e new = FailsAtOnePart p s old e new
+    ⊎ ((t : Tree) × (here : State) × DecodesExactly (OnePart p s) old (Got t here.rest) here × FailsAtPart ps here e new)
+
+-- Parts are read in their order, up to the first that isn't read.
+abbrev pub DecodesInParts : {D : Type 0} → Parts → (D → Tree) → Call D
+DecodesInParts ps tree old (Ok v) new = DecodesParts ps tree old (Ok v) new
+DecodesInParts ps tree old (Err e) new = FailsAtPart ps old e new
+
+-- A SEQUENCE of these parts is read.
+abbrev pub DecodesSequenceParts : {D : Type 0} → Parts → (D → Tree) → Tag → Call D
+DecodesSequenceParts ps tree tag = DecodesInside (DecodesInParts ps tree) (sequence_header tag)

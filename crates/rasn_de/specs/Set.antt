@@ -1,6 +1,7 @@
 -- SET: components in any order, of which a function makes the value.
-use Rattle.std.specs.Prelude.{◌≡◌, ◌⊎◌, ℕ, List, [], ◌∷◌, ◌++◌, map, Vec, Option, Some, None, Result, Ok, Err}
+use Rattle.std.specs.Prelude.{◌≡◌, ◌⊎◌, ℕ, List, [], ◌∷◌, ◌++◌, map, Vec, Option, Some, None, Result, Ok, Err, IfErr}
 use Rattle.std.specs.Global.{Global}
+use Rattle.rasn_types.specs.declared.types.codec.Codec.{Codec}
 use Rattle.rasn_types.specs.declared.types.tag.Tag.{Tag}
 use Rattle.rasn_types.specs.declared.error.decode.DecodeError.{DecodeError}
 use Rattle.rasn_types.specs.declared.error.decode.DerDecodeErrorKind.TheVariants.{SetComponentsOutOfOrder}
@@ -48,6 +49,10 @@ module _ {D : Type 0} (read : Call D) where
 abbrev pub DecodesSetContents : {L D : Type 0} → Call L → (L → Result D DecodeError → Type 0) → Call D
 DecodesSetContents {L} read made old (Ok v) new = (fields : L) × read old (Ok fields) new × made fields (Ok v)
 DecodesSetContents {L} read made old (Err e) new = read old (Err e) new ⊎ ((fields : L) × read old (Ok fields) new × made fields (Err e))
+
+-- Whatever the function is called on, its errors name these rules.
+abbrev pub MakesByRules : {F D : Type 0} → Codec → (Vec F Global → Result D DecodeError → Type 0) → Type 0
+MakesByRules {F} {D} rule made = (fields : Vec F Global) (r : Result D DecodeError) → made fields r → IfErr r (λ e. e.codec ≡ rule)
 
 -- The components of a SET are read one by one by read, and made is what a function makes of them.
 abbrev pub DecodesSetBy : {F D : Type 0} → Call F → (Vec F Global → Result D DecodeError → Type 0) → Tag → Call D

@@ -1,5 +1,5 @@
 -- What the private steps of a decoder take.
-use Rattle.std.specs.Prelude.{◌≡◌, MatchResult, Result, Ok, Err}
+use Rattle.std.specs.Prelude.{◌≡◌, MatchResult, IfErr, Result, Ok, Err}
 use Rattle.rasn_types.specs.declared.types.tag.Tag.{Tag}
 use Rattle.rasn_types.specs.Framing.{NextTag}
 use Rattle.rasn_types.specs.Tags.{form}
@@ -10,11 +10,15 @@ use Rattle.rasn_de.specs.declared.ber.de.parser.headers.Expected.{Expected}
 use Rattle.rasn_de.specs.Headers.{header_at}
 use Rattle.rasn_de.specs.ParserViews.{header_with, peeked_tag}
 use Rattle.rasn_de.specs.Causes.{error_kind}
-use Rattle.rasn_de.specs.State.{State, at, IsEnd}
+use Rattle.rasn_de.specs.State.{State, at, IsEnd, Call}
 
 -- the error of a fault, under the decoder's rules
 abbrev pub IsErrorOf : ParseError → State → DecodeError → Type 0
 IsErrorOf f s e = e ≡ record { kind = error_kind f; codec = s.rule }
+
+-- An error names the rules that the decoder has.
+abbrev pub NamesRules : {D : Type 0} → Call D
+NamesRules old result new = IfErr result (λ e. e.codec ≡ old.rule)
 
 -- A value's header and contents are consumed, or nothing is.
 abbrev pub Consumes : Expected → State → Result Value DecodeError → State → Type 0

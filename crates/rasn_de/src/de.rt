@@ -1,4 +1,5 @@
 //! What a type needs in order to be read.
+ghost use Rattle.std.specs.Prelude.{◌≡◌, IfErr};
 ghost use Rattle.rasn_types.specs.Framing.{NextTag};
 ghost use Rattle.rasn_types.specs.Tags.{form};
 ghost use Rattle.rasn_types.specs.Shapes.{tagged_as};
@@ -23,7 +24,8 @@ pub trait Decode: AsnType {
         tag: Tag,
         constraints: &Constraints,
     ) -> Result<Self, DecodeError>
-        ensures { Decodes (tagged_as tag constraints.now Self.shape) Self.tree decoder.old result decoder.new };
+        ensures reads { Decodes (tagged_as tag constraints.now Self.shape) Self.tree decoder.old result decoder.new }
+        ensures rules { IfErr result (λ e. e.codec ≡ decoder.old.rule) };
 
     /// Reads a value.
     ///
@@ -31,7 +33,8 @@ pub trait Decode: AsnType {
     /// As `decode_with_tag_and_constraints`.
     #[inline(always)]
     final fn decode(decoder: &mut Decoder<'_>) -> Result<Self, DecodeError>
-        ensures { Decodes Self.shape Self.tree decoder.old result decoder.new }
+        ensures reads { Decodes Self.shape Self.tree decoder.old result decoder.new }
+        ensures rules { IfErr result (λ e. e.codec ≡ decoder.old.rule) }
     {
         Self::decode_with_tag_and_constraints(decoder, Self::TAG, &Self::CONSTRAINTS)
     }
@@ -41,7 +44,8 @@ pub trait Decode: AsnType {
     /// # Errors
     /// As `decode_with_tag_and_constraints`.
     final fn decode_with_tag(decoder: &mut Decoder<'_>, tag: Tag) -> Result<Self, DecodeError>
-        ensures { Decodes (tagged_as tag Self.CONSTRAINTS Self.shape) Self.tree decoder.old result decoder.new }
+        ensures reads { Decodes (tagged_as tag Self.CONSTRAINTS Self.shape) Self.tree decoder.old result decoder.new }
+        ensures rules { IfErr result (λ e. e.codec ≡ decoder.old.rule) }
     {
         Self::decode_with_tag_and_constraints(decoder, tag, &Self::CONSTRAINTS)
     }
@@ -54,7 +58,8 @@ pub trait Decode: AsnType {
         decoder: &mut Decoder<'_>,
         constraints: &Constraints,
     ) -> Result<Self, DecodeError>
-        ensures { Decodes (tagged_as Self.TAG constraints.now Self.shape) Self.tree decoder.old result decoder.new }
+        ensures reads { Decodes (tagged_as Self.TAG constraints.now Self.shape) Self.tree decoder.old result decoder.new }
+        ensures rules { IfErr result (λ e. e.codec ≡ decoder.old.rule) }
     {
         Self::decode_with_tag_and_constraints(decoder, Self::TAG, constraints)
     }
@@ -74,7 +79,8 @@ pub trait DecodeChoice: AsnType {
     /// `NoValidChoice` where no alternative does; what the alternative refuses.
     fn from_tag(decoder: &mut Decoder<'_>, tag: Tag) -> Result<Self, DecodeError>
         requires { NextTag (form decoder.old.rule) decoder.old.rest tag }
-        ensures { Decodes Self.shape Self.tree decoder.old result decoder.new };
+        ensures reads { Decodes Self.shape Self.tree decoder.old result decoder.new }
+        ensures rules { IfErr result (λ e. e.codec ≡ decoder.old.rule) };
 
     ghost chooses: { Self.AsnType.shape ≡ choice alternatives };
 }

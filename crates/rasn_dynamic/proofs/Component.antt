@@ -1,5 +1,8 @@
 -- One more component of a SET is read.
-use Rattle.std.proofs.Common.{◌≡◌, ◌≢◌, ℕ, ◌<◌, inl, inr, List, length, Option, Some, Result, Ok, Err, refl, sym, ap, ◌∙◌, subst}
+use Rattle.std.proofs.Common.{◌≡◌, ℕ, zero, suc, ◌<◌, inl, inr, List, [], ◌∷◌, length, Option, Some, None, Result, Ok, Err, refl, sym, ap, ◌∙◌, subst}
+use Rattle.std.specs.Prelude.{slice_get}
+use Rattle.std.specs.Borrow.{Bor}
+use Rattle.std.specs.String.{string_bytes}
 use Rattle.rasn_types.specs.declared.types.tag.Tag.{Tag}
 use Rattle.rasn_types.specs.declared.error.decode.DecodeError.{DecodeError}
 use Rattle.rasn_types.specs.declared.error.decode.DecodeErrorKind.{DecodeErrorKind}
@@ -13,12 +16,11 @@ use Rattle.rasn_de.specs.declared.ber.de.parser.ParseError.TheVariants.{Unexpect
 use Rattle.rasn_de.specs.State.{State}
 use Rattle.rasn_de.specs.Steps.{PeeksTag, IsErrorOf}
 use Rattle.rasn_de.specs.Outcomes.{Got, refusal, outcome}
-use Rattle.rasn_de.specs.Decodes.{Decodes, DecodesExactly}
+use Rattle.rasn_de.specs.Decodes.{DecodesExactly}
 use Rattle.rasn_de.specs.Choice.{IsOnlyAlternative}
-use Rattle.rasn_dynamic.specs.SetSlots.{DecodesNext, IsAddedAt}
+use Rattle.rasn_de.specs.SetPartTypes.{name_at, IsPlacedAt, DecodesNext}
 use Rattle.rasn_de.proofs.Leaves.Outcomes.{Exact-none, Exact-refusal}
 use Rattle.rasn_de.proofs.Constructed.Steps.{rules_same}
-use Rattle.rasn_de.proofs.Constructed.Optional.{strict_before, strict_after}
 use Rattle.rasn_de.proofs.Constructed.Choice.{choice_decodes}
 use Rattle.rasn_de.proofs.OwnTypes.Parts.{call_keeps}
 use Rattle.rasn_de.proofs.OwnTypes.Alternatives.{OneAlternative, no_default, as_read, alternative_got, alternative_refused, no_alternative}
@@ -26,8 +28,8 @@ use Rattle.rasn_schema.specs.declared.types.Component.{Component}
 use Rattle.rasn_schema.specs.declared.value.Value.{Value}
 use Rattle.rasn_schema.specs.Trees.{tree_of}
 use Rattle.rasn_schema.specs.Shapes.{components_by, presence_of}
-use Rattle.rasn_dynamic.specs.Calls.{held, IsComponentFor, IsPut, IsDefaultOf, ChecksDefault}
-use Rattle.rasn_dynamic.proofs.Pieces.{only_part, by_tag_distinguished, put_added, put_twice, set_length}
+use Rattle.rasn_dynamic.specs.Calls.{held, names_of, IsComponentFor, IsPut, IsDefaultOf, DecodesPresent}
+use Rattle.rasn_dynamic.proofs.Pieces.{only_part, by_tag_distinguished, put_placed, put_twice}
 
 abbrev itself : Tree → Tree
 itself t = t
@@ -37,6 +39,11 @@ is_default required t h n = h
 is_default optional t h n = h
 is_default addition t h n = h
 is_default (default d) t h n = n h
+
+name_here : (ps : List Component) (k : ℕ) (p : Component) → Some p ≡ slice_get ps k → string_bytes p.name ≡ name_at (names_of ps) k
+name_here [] k p e = absurd cc
+name_here (q ∷ ps) zero p e = let same : p ≡ q = cc in ap (λ (x : Component). string_bytes x.name) same
+name_here (q ∷ ps) (suc k) p e = name_here ps k p e
 
 -- A component that is present is read, and isn't its default if that must not be written.
 module _ (p : Presence) (s : Shape) (tag : Tag) (first : IsFirst s tag) (old : State) (n : NextTag (form old.rule) old.rest tag) where
@@ -51,57 +58,48 @@ module _ (p : Presence) (s : Shape) (tag : Tag) (first : IsFirst s tag) (old : S
         (λ none t r h. none t r (only_read t r h).0) k.exact;
   }
 
-  one_checked : (v : Value) (new : State) → Decodes s tree_of old (Ok v) new → (r : Result Value DecodeError) → ChecksDefault p new v r → DecodesExactly (OneAlternative p s) old (outcome tree_of r new.rest) new
-  one_checked v new k (Ok w) (e, c) = subst (λ z. DecodesExactly (OneAlternative p s) old (Got (tree_of z) new.rest) new) (sym e) (record {
+  one_present : (r : Result Value DecodeError) (new : State) → DecodesPresent p s old r new → DecodesExactly (OneAlternative p s) old (outcome tree_of r new.rest) new
+  one_present (Ok v) new (k, c) = record {
     stays = k.stays;
     end = k.end;
-    exact = (
-      as_read old.rule old.depth old.closing old.rest tag n p s first (tree_of v) new.rest (k.exact.0, λ strict. c (strict_after old new (call_keeps k) strict)),
-      λ u r h. k.exact.1 u r (only_read u r h).0,
-    );
-  })
-  one_checked v new k (Err e) (strict, d, w) = record {
+    exact = (as_read old.rule old.depth old.closing old.rest tag n p s first (tree_of v) new.rest (k.exact.0, c), λ u r h. k.exact.1 u r (only_read u r h).0);
+  }
+  one_present (Err e) new (inl k) = one_refused e.kind new k
+  one_present (Err e) new (inr (v, k, strict, d, w)) = record {
     stays = k.stays;
     end = k.end;
     exact = Exact-none e.kind (OneAlternative p s old.rule old.depth old.closing) old.rest (λ u r h.
         let q = only_read u r h in
-        is_default p u (subst (IsDefaultOf p) (sym (k.exact.1 u r q.0).0) d) (q.1 (strict_before old new (call_keeps k) strict)));
+        is_default p u (subst (IsDefaultOf p) (sym (k.exact.1 u r q.0).0) d) (q.1 strict));
   }
 
 -- The next value is of no component.
-module _ (ps : Parts) (before after : List (Option Tree)) (old : State) where
-  pub next_unpeeked : (e : DecodeError) → PeeksTag old (Err e) → DecodesNext ps before old (Err e) old after
-  next_unpeeked e p = inl (inl (choice_decodes (choice ps) ps refl itself old (Err e) old (inl (p, refl))))
+module _ (ps : Parts) (names : List (List ℕ)) (before after : List (Option Tree)) (old : State) where
+  pub next_unpeeked : (e : DecodeError) → PeeksTag old (Err e) → DecodesNext ps names before old (Err e) old after
+  next_unpeeked e p = inl (choice_decodes (choice ps) ps refl itself old (Err e) old (inl (p, refl)))
 
-  pub next_unknown : (tag : Tag) → NextTag (form old.rule) old.rest tag → (IsFirstOf ps tag → ⊥) → (e : DecodeError) → DecodesNext ps before old (Err e) old after
-  next_unknown tag n others e = inl (inl (no_alternative ps tag n others e.kind))
+  pub next_unknown : (tag : Tag) → NextTag (form old.rule) old.rest tag → (IsFirstOf ps tag → ⊥) → (e : DecodeError) → DecodesNext ps names before old (Err e) old after
+  next_unknown tag n others e = inl (no_alternative ps tag n others e.kind)
 
 -- It is of a component.
-module _ (f : ℕ → Shape) (ps : List Component) (k : ℕ) (p : Component) (tag : Tag) (h : AreLawfulByTag (components_by f ps)) (b : IsComponentFor f ps tag k p) (old new : State) (n : NextTag (form old.rule) old.rest tag)
-    (before : List (Option Value)) where
+module _ (f : ℕ → Shape) (ps : List Component) (k : ℕ) (p : Component) (tag : Tag) (h : AreLawfulByTag (components_by f ps)) (b : IsComponentFor f ps tag k p) (old new : State) (n : NextTag (form old.rule) old.rest tag) where
   only : IsOnlyAlternative (components_by f ps) k (presence_of p.presence) (f p.type_id.0) tag
   only = only_part f tag ps k p (by_tag_distinguished (components_by f ps) h) b
 
-  pub next_unread : (e : DecodeError) → Decodes (f p.type_id.0) tree_of old (Err e) new → DecodesNext (components_by f ps) (held before) old (Err e) new (held before)
-  next_unread e k' = inl (inl (alternative_refused (components_by f ps) k (presence_of p.presence) (f p.type_id.0) tag n only e.kind (one_refused (presence_of p.presence) (f p.type_id.0) tag b.1 old n e.kind new k')))
+  pub next_unread : (e : DecodeError) (before after : List (Option Tree)) → DecodesPresent (presence_of p.presence) (f p.type_id.0) old (Err e) new → DecodesNext (components_by f ps) (names_of ps) before old (Err e) new after
+  next_unread e before after d = inl (alternative_refused (components_by f ps) k (presence_of p.presence) (f p.type_id.0) tag n only e.kind (one_present (presence_of p.presence) (f p.type_id.0) tag b.1 old n (Err e) new d))
 
-  module _ (v : Value) (d : Decodes (f p.type_id.0) tree_of old (Ok v) new) where
-    pub next_default : (e : DecodeError) → ChecksDefault (presence_of p.presence) new v (Err e) → DecodesNext (components_by f ps) (held before) old (Err e) new (held before)
-    next_default e c = inl (inl (alternative_refused (components_by f ps) k (presence_of p.presence) (f p.type_id.0) tag n only e.kind (one_checked (presence_of p.presence) (f p.type_id.0) tag b.1 old n v new d (Err e) c)))
+  module _ (v : Value) (d : DecodesPresent (presence_of p.presence) (f p.type_id.0) old (Ok v) new) where
+    got : DecodesExactly (λ rule. Reads rule (choice (components_by f ps))) old (Got (chosen k (tree_of v)) new.rest) new
+    got = alternative_got (components_by f ps) k (presence_of p.presence) (f p.type_id.0) tag n only (one_present (presence_of p.presence) (f p.type_id.0) tag b.1 old n (Ok v) new d)
 
-    module _ (w : Value) (c : ChecksDefault (presence_of p.presence) new v (Ok w)) where
-      got : DecodesExactly (λ rule. Reads rule (choice (components_by f ps))) old (Got (chosen k (tree_of w)) new.rest) new
-      got = alternative_got (components_by f ps) k (presence_of p.presence) (f p.type_id.0) tag n only (one_checked (presence_of p.presence) (f p.type_id.0) tag b.1 old n v new d (Ok w) c)
+    pub next_idle : (before after : List (Option Tree)) (left : ℕ) → left ≡ length old.rest → length new.rest ≡ left → (e : DecodeError) → IsErrorOf (UnexpectedExtraData left) new e
+        → DecodesNext (components_by f ps) (names_of ps) before old (Err e) new after
+    next_idle before after left g l e x = inr (chosen k (tree_of v), got, inl (l ∙ g, rules_same old new (UnexpectedExtraData (length old.rest)) e (call_keeps got) (subst (λ m. IsErrorOf (UnexpectedExtraData m) new e) g x)))
 
-      pub next_idle : (left : ℕ) → left ≡ length old.rest → length new.rest ≡ left → (e : DecodeError) → IsErrorOf (UnexpectedExtraData left) new e → DecodesNext (components_by f ps) (held before) old (Err e) new (held before)
-      next_idle left g l e x = inl (inr (chosen k (tree_of w), got, inl (l ∙ g, rules_same old new (UnexpectedExtraData (length old.rest)) e (call_keeps got) (subst (λ m. IsErrorOf (UnexpectedExtraData m) new e) g x))))
-
-      pub next_put : k < length before → (left : ℕ) → left ≡ length old.rest → length new.rest ≢ left → (r : Result (Unit {0}) DecodeError) (after : List (Option Value)) → IsPut k w before r after
-          → DecodesNext (components_by f ps) (held before) old r new (held after)
-      next_put l left g m (Ok done) after (e, a) =
-          (k, tree_of w, subst (λ z. IsAddedAt (held before) k (tree_of w) (held z)) (sym a) (put_added before k w l e), got, λ q. m (q ∙ sym g))
-      next_put l left g m (Err e) after t = inr (k, tree_of w, put_twice before k l t.0, got)
-
-pub put_as_many : (k : ℕ) (w : Value) (before after : List (Option Value)) (r : Result (Unit {0}) DecodeError) (n : ℕ) → length before ≡ n → IsPut k w before r after → length after ≡ n
-put_as_many k w before after (Ok done) n e (f, g) = ap length g ∙ set_length before k (Some w) ∙ e
-put_as_many k w before after (Err x) n e (f, g) = ap length g ∙ e
+    pub next_put : (before : List (Option Value)) → k < length before → (left : ℕ) → left ≡ length old.rest → (length new.rest ≡ left → ⊥) → (r : Option (Bor (List ℕ))) (after : List (Option Value)) → IsPut k v (string_bytes p.name) before r after
+        → DecodesNext (components_by f ps) (names_of ps) (held before) old (Ok r) new (held after)
+    next_put before l left g m None after (e, a) =
+        (k, tree_of v, subst (λ z. IsPlacedAt (held before) k (tree_of v) (held z)) (sym a) (put_placed before k v l e), (got, λ q. m (q ∙ sym g)))
+    next_put before l left g m (Some told) after (e, a, t) =
+        (k, tree_of v, put_twice before k l e, ap held a, t ∙ name_here ps k p b.0, (got, λ q. m (q ∙ sym g)))

@@ -25,7 +25,7 @@ use Rattle.rasn_de.proofs.Constructed.Opening.{kept}
 use Rattle.rasn_de.proofs.Constructed.Steps.{kept_after}
 use Rattle.rasn_de.proofs.Constructed.SetOfElements.{each_decodes, in_order_decodes}
 use Rattle.rasn_de.proofs.OwnTypes.Parts.{OnePart, no_parts, part_refused, after_part_refused, part_got, call_keeps}
-use Rattle.rasn_schema.specs.declared.value.Value.{Value}
+use Rattle.rasn_schema.specs.declared.value.Value.{Value, Items}
 use Rattle.rasn_schema.specs.Trees.{tree_of}
 use Rattle.rasn_types.specs.declared.types.codec.Codec.{Codec}
 use Rattle.rasn_types.specs.declared.types.constraints.Constraints.{Constraints}
@@ -36,7 +36,9 @@ use Rattle.rasn_schema.specs.declared.types.Alternative.{Alternative}
 use Rattle.rasn_schema.specs.declared.types.Component.{Component}
 use Rattle.rasn_schema.specs.Shapes.{alternatives_by, type_by}
 use Rattle.rasn_dynamic.specs.Inside.{ReadsInside, ReadsSequence}
-use Rattle.rasn_dynamic.specs.SetSlots.{ReadsSetParts}
+use Rattle.rasn_de.specs.SetPartTypes.{MakesOfReadings, DecodesSetPartContents}
+use Rattle.rasn_de.proofs.Constructed.SetContents.{SetReads, set_collects}
+use Rattle.rasn_de.proofs.OwnTypes.SetPartTypes.{makes_set}
 use Rattle.rasn_dynamic.specs.Calls.{IsSized, IsSizedSet}
 use Rattle.rasn_schema.proofs.Values.{tree_items, tree_elements}
 use Rattle.rasn_schema.proofs.Alternatives.{first_of_all}
@@ -208,13 +210,34 @@ pub inside_prefix : (tag : Tag) (s : Shape) (old new : State) (o : Outcome) → 
 unfolding ReadsInside
 inside_prefix tag s old new o k = k
 
-pub inside_seq : (tag : Tag) (ps : Parts) (old new : State) (o : Outcome) → DecodesExactly (ReadsSequence ps) old o new → DecodesExactly (ReadsInside (seq tag ps)) old o new
-unfolding ReadsInside
-inside_seq tag ps old new o k = k
+abbrev pub values_tree : Vec Value Global → Tree
+values_tree vs = list_tree tree_of vs.items
 
-pub inside_set : (tag : Tag) (ps : Parts) (old new : State) (o : Outcome) → DecodesExactly (ReadsSetParts ps) old o new → DecodesExactly (ReadsInside (set tag ps)) old o new
+pub inside_seq : (tag : Tag) (ps : Parts) (old new : State) (e : DecodeError) → DecodesBy (ReadsSequence ps) values_tree old (Err e) new → DecodesBy (ReadsInside (seq tag ps)) tree_of old (Err e) new
 unfolding ReadsInside
-inside_set tag ps old new o k = k
+inside_seq tag ps old new e k = k
+
+pub inside_seq_got : (tag : Tag) (ps : Parts) (old new : State) (vs : Vec Value Global) → DecodesBy (ReadsSequence ps) values_tree old (Ok vs) new → DecodesBy (ReadsInside (seq tag ps)) tree_of old (Ok (Items vs)) new
+unfolding ReadsInside
+inside_seq_got tag ps old new vs k = subst (λ z. DecodesExactly (ReadsSequence ps) old (Got z new.rest) new) (sym (tree_items vs)) k
+
+set_reads : (ps : Parts) (names : List (List ℕ)) (old new : State) (r : Result (Vec Value Global) DecodeError) → DecodesSetPartContents ps values_tree names old r new → DecodesBy (SetReads ps) values_tree old r new
+set_reads ps names old new r k = set_collects ps (λ (t : Tree). t) values_tree old (λ (l : List Tree). l) (MakesOfReadings ps values_tree names old.rule) (makes_set ps values_tree names old.rule) r new k
+
+pub inside_set : (tag : Tag) (ps : Parts) (names : List (List ℕ)) (old new : State) (e : DecodeError) → DecodesSetPartContents ps values_tree names old (Err e) new → DecodesBy (ReadsInside (set tag ps)) tree_of old (Err e) new
+unfolding ReadsInside
+inside_set tag ps names old new e k = set_reads ps names old new (Err e) k
+
+pub inside_set_got : (tag : Tag) (ps : Parts) (names : List (List ℕ)) (old new : State) (vs : Vec Value Global) → DecodesSetPartContents ps values_tree names old (Ok vs) new → DecodesBy (ReadsInside (set tag ps)) tree_of old (Ok (Items vs)) new
+unfolding ReadsInside
+inside_set_got tag ps names old new vs k = subst (λ z. DecodesExactly (SetReads ps) old (Got z new.rest) new) (sym (tree_items vs)) (set_reads ps names old new (Ok vs) k)
+
+-- Memory runs out before anything is read.
+pub inside_runs_out : (s : Shape) (old : State) (e : DecodeError) → IsOutOfMemory e.kind → DecodesBy (ReadsInside s) tree_of old (Err e) old
+inside_runs_out s old e m = alloc_failed (ReadsInside s) tree_of old old e m refl (IsEnd-refl old.rest)
+
+pub sequence_runs_out : (ps : Parts) (old : State) (e : DecodeError) → IsOutOfMemory e.kind → DecodesBy (ReadsSequence ps) values_tree old (Err e) old
+sequence_runs_out ps old e m = alloc_failed (ReadsSequence ps) values_tree old old e m refl (IsEnd-refl old.rest)
 
 -- A type that holds no others has no such contents.
 module _ (f : ℕ → Shape) where

@@ -1,6 +1,9 @@
--- The contents of a SEQUENCE: its components in their order, or nothing, if none is required.
-use Rattle.std.proofs.Common.{◌≡◌, ℕ, Bool, false, ◌||◌, List, [], ◌∷◌, Result, Ok, Err, refl, sym, ◌∙◌, subst}
+-- The components of a SEQUENCE, all of which are absent, or read in their order.
+use Rattle.std.proofs.Common.{◌≡◌, ℕ, ◌||◌, Bool, false, inl, inr, List, [], ◌∷◌, map, Option, Vec, Global, Result, Ok, Err, refl, sym, ◌∙◌, subst}
 use Rattle.rasn_types.specs.declared.types.codec.Codec.{Codec}
+use Rattle.rasn_types.specs.declared.error.decode.DecodeError.{DecodeError}
+use Rattle.rasn_types.specs.Trees.{list_tree}
+use Rattle.rasn_de.specs.SetPartTypes.{LacksSlot}
 use Rattle.rasn_types.specs.Shapes.{Tree, items, Shape, Parts, part}
 use Rattle.rasn_types.specs.Shapes.Parts.{none}
 use Rattle.rasn_types.specs.Readings.{AllMissing}
@@ -21,7 +24,8 @@ use Rattle.rasn_schema.specs.declared.value.Value.{Value}
 use Rattle.rasn_schema.specs.Trees.{tree_of}
 use Rattle.rasn_schema.specs.Shapes.{components_by, presence_of, presences_in, AreLawful}
 use Rattle.rasn_dynamic.specs.Inside.{ReadsSequence}
-use Rattle.rasn_dynamic.specs.Calls.{is_required, any_required, LeavesAllOut, MakesMissing}
+use Rattle.rasn_dynamic.specs.Calls.{held, nones, is_required, any_required, LeavesAllOut, AreSettled, Gathers}
+use Rattle.rasn_dynamic.proofs.Pieces.{settled_missing, nothing_lacks}
 
 module _ (f : ℕ → Shape) where
   one_required : (p : PartPresence) (s : Shape) (ps : Parts) → has_required (part (presence_of p) s ps) ≡ is_required p || has_required ps
@@ -54,9 +58,15 @@ module _ (f : ℕ → Shape) where
         (no_required old.rule (components_by f ps) old.depth false (required_same ps ∙ n)) e (missing_same old.rule ps old.depth false ts m)))
 
     -- All parts are left out.
-    pub all_left : LeavesAllOut ps old → (r : Result Value _) → MakesMissing ps r → DecodesExactly (ReadsSequence (components_by f ps)) old (outcome tree_of r old.rest) old
-    all_left (n, h, g) (Ok v) (ts, e, m) = record { stays = refl; end = IsEnd-refl old.rest; exact = left_exact (tree_of v) ts n e m old.closing old.rest h g }
-    all_left l (Err e) m = alloc_failed_before (ReadsSequence (components_by f ps)) tree_of old old e m refl
+    pub all_left : LeavesAllOut ps old → (rule : Codec) (found : List (Option Value)) → found ≡ nones ps → (r : Result (Vec Value Global) DecodeError) → Gathers ps rule found r
+        → DecodesExactly (ReadsSequence (components_by f ps)) old (outcome (λ (v : Vec Value Global). list_tree tree_of v.items) r old.rest) old
+    all_left (n, h, g) rule found e (Ok vs) m = record {
+      stays = refl;
+      end = IsEnd-refl old.rest;
+      exact = left_exact (list_tree tree_of vs.items) (map tree_of vs.items) n refl (settled_missing ps vs.items (subst (λ l. AreSettled ps l vs.items) e m)) old.closing old.rest h g;
+    }
+    all_left l rule found e (Err x) (inl m) = alloc_failed_before (ReadsSequence (components_by f ps)) (λ (v : Vec Value Global). list_tree tree_of v.items) old old x m refl
+    all_left (n, h, g) rule found e (Err x) (inr (k, l, w)) = absurd (nothing_lacks ps k n (subst (λ z. LacksSlot (presences_in ps) (held z) k) e l))
 
     -- Else they are read in their order.
     pub in_turn : (LeavesAllOut ps old → ⊥) → (o : Outcome) (new : State) → DecodesExactly (ReadsParts (components_by f ps)) old o new → DecodesExactly (ReadsSequence (components_by f ps)) old o new

@@ -2,7 +2,8 @@
 use Rattle.std.proofs.Common.{◌≡◌, ◌⊎◌, inl, inr, ℕ, ℤ, List, length, Contains, Result, OnOk, OnErr, IfErr, refl, sym, ap, ◌∙◌, subst}
 use Rattle.std.proofs.lemmas.Result.{on_ok_weaker, IfErr-weaker}
 use Rattle.rasn_types.specs.CharacterString.{AreAdmitted}
-use Rattle.rasn_types.specs.Shapes.{Shape, Kind, Tree, Interval, IsIn, leaf, number, numbers, integer, enumerated, every, octet_string, numeric, printable, visible, ia5, any_octets}
+use Rattle.rasn_types.specs.Shapes.{Shape, Kind, Tree, Interval, IsIn, leaf, number, numbers, integer, enumerated, every, octet_string, fixed, numeric, printable, visible, ia5, any_octets}
+use Rattle.rasn_types.specs.Contents.{signed}
 use Rattle.rasn_types.specs.Trees.{signed_range, unsigned_range, unconstrained}
 use Rattle.rasn_types.specs.Bytes.{Bytes, Written, IsUntaggedOpen, WritesIn}
 use Rattle.rasn_types.specs.Grammar.{plain_family, text_family}
@@ -55,15 +56,15 @@ module _ {R : Type 0} (r : Result R EncodeError) (tag : Tag) (c : Constraints) (
   string_encoded AnyOctets f h = recast any_octets (λ o b. b) h
   string_encoded _ f h = absurd f
 
-  pub string_refused : (kind : LeafKind) → OctetsFit kind xs → IfErr r (FailsAtString c (length xs) v.rule) → IfErr r (EncodeFails (leaf (kind_of kind) tag c) (numbers xs) v)
-  string_refused OctetString f h = text_refused r octet_string tag c xs v refl h
-  string_refused (FixedOctetString n) f h = text_refused r (Rattle.rasn_types.specs.Shapes.fixed n) tag c xs v refl h
-  string_refused Numeric f h = text_refused r numeric tag c xs v refl h
-  string_refused Printable f h = text_refused r printable tag c xs v refl h
-  string_refused Visible f h = text_refused r visible tag c xs v refl h
-  string_refused Ia5 f h = text_refused r ia5 tag c xs v refl h
-  string_refused AnyOctets f h = text_refused r any_octets tag c xs v refl h
-  string_refused _ f h = absurd f
+pub string_refused : {R : Type 0} (r : Result R EncodeError) (tag : Tag) (c : Constraints) (xs : List ℕ) (v : View) (kind : LeafKind) → OctetsFit kind xs → IfErr r (FailsAtString c (length xs) v.rule) → IfErr r (EncodeFails (leaf (kind_of kind) tag c) (numbers xs) v)
+string_refused r tag c xs v OctetString f h = text_refused r octet_string tag c xs v refl h
+string_refused r tag c xs v (FixedOctetString n) f h = text_refused r (fixed n) tag c xs v refl h
+string_refused r tag c xs v Numeric f h = text_refused r numeric tag c xs v refl h
+string_refused r tag c xs v Printable f h = text_refused r printable tag c xs v refl h
+string_refused r tag c xs v Visible f h = text_refused r visible tag c xs v refl h
+string_refused r tag c xs v Ia5 f h = text_refused r ia5 tag c xs v refl h
+string_refused r tag c xs v AnyOctets f h = text_refused r any_octets tag c xs v refl h
+string_refused r tag c xs v _ f h = absurd f
 
 -- ---- numbers
 
@@ -71,8 +72,8 @@ module _ {R : Type 0} (r : Result R EncodeError) (tag : Tag) (c : Constraints) (
   ranged : (range : Interval) (l : List ℕ) → IsIn range n → Written (integer every) (number n) l → Written (integer range) (number n) l
   ranged range l i h =
       let f = h.is.0 in
-      let m : n ≡ Rattle.rasn_types.specs.Contents.signed l = cc in
-      record { is = (f, h.is.1.0, subst (IsIn range) m i); octets = h.octets; shortest = h.shortest }
+      let m : n ≡ signed l = cc in
+      record { is = (f, h.is.1, subst (IsIn range) m i); octets = h.octets; shortest = h.shortest }
 
   ranged_encoded : (range : Interval) → IsIn range n → OnOk r (AppendsEncoding (leaf (integer every) tag c) (number n) v w) → OnOk r (AppendsEncoding (leaf (integer range) tag c) (number n) v w)
   unfolding Bytes IsUntaggedOpen
@@ -93,13 +94,13 @@ module _ {R : Type 0} (r : Result R EncodeError) (tag : Tag) (c : Constraints) (
   number_encoded Unsigned64 i h = ranged_encoded (unsigned_range 64) i h
   number_encoded _ i h = absurd i
 
-  pub number_refused : (kind : LeafKind) → NumberFits kind n → IfErr r (FailsAtInteger c n v.rule) → IfErr r (EncodeFails (leaf (kind_of kind) tag c) (number n) v)
-  number_refused Integer i h = integer_refused r every tag c n v h
-  number_refused Signed32 i h = integer_refused r (signed_range 32) tag c n v h
-  number_refused Signed64 i h = integer_refused r (signed_range 64) tag c n v h
-  number_refused Unsigned32 i h = integer_refused r (unsigned_range 32) tag c n v h
-  number_refused Unsigned64 i h = integer_refused r (unsigned_range 64) tag c n v h
-  number_refused _ i h = absurd i
+pub number_refused : {R : Type 0} (r : Result R EncodeError) (tag : Tag) (c : Constraints) (n : ℤ) (v : View) (kind : LeafKind) → NumberFits kind n → IfErr r (FailsAtInteger c n v.rule) → IfErr r (EncodeFails (leaf (kind_of kind) tag c) (number n) v)
+number_refused r tag c n v Integer i h = integer_refused r every tag c n v h
+number_refused r tag c n v Signed32 i h = integer_refused r (signed_range 32) tag c n v h
+number_refused r tag c n v Signed64 i h = integer_refused r (signed_range 64) tag c n v h
+number_refused r tag c n v Unsigned32 i h = integer_refused r (unsigned_range 32) tag c n v h
+number_refused r tag c n v Unsigned64 i h = integer_refused r (unsigned_range 64) tag c n v h
+number_refused r tag c n v _ i h = absurd i
 
 -- A number of an ENUMERATED has no bound, so that memory alone is wanted.
 pub named_refused : {R : Type 0} (r : Result R EncodeError) (known : List ℤ) (tag : Tag) (n : ℤ) (v : View) → IfErr r (FailsAtInteger unconstrained n v.rule)

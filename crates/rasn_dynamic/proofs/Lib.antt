@@ -2,7 +2,6 @@ pub mod Inside
 pub mod Contents
 pub mod Nothing
 pub mod OnePart
-pub mod LeftOut
 pub mod Chosen
 pub mod InOrder
 pub mod Pieces
@@ -11,7 +10,9 @@ pub mod Enclosed
 pub mod WrittenInside
 pub mod Canonical
 pub mod Fitted
-pub mod SetSlots
+pub mod FitsRead
+pub mod FixedOctets
+pub mod Numbers
 pub mod ListsOf
 pub mod UnfitParts
 pub mod LeafWritten

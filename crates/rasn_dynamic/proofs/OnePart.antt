@@ -1,25 +1,33 @@
 -- A component of a SEQUENCE is read, or is absent.
-use Rattle.std.proofs.Common.{◌≡◌, inl, inr, Option, Some, None, Result, Ok, Err, refl, sym, subst}
-use Rattle.std.specs.Prelude.{IfOk}
+use Rattle.std.proofs.Common.{◌≡◌, inl, inr, true, false, Option, Some, None, Result, Ok, Err, refl, sym, subst}
+use Rattle.std.specs.Prelude.{IfOk, IfErr}
 use Rattle.std.specs.declared.alloc.AllocError.{AllocError}
 use Rattle.rasn_types.specs.declared.types.tag.Tag.{Tag}
 use Rattle.rasn_types.specs.declared.error.decode.DecodeError.{DecodeError}
-use Rattle.rasn_types.specs.Shapes.{Tree, Shape, own, looked_for, Presence, required, optional, addition, default}
+use Rattle.rasn_types.specs.declared.error.decode.DerDecodeErrorKind.TheVariants.{DefaultValuePresent}
+use Rattle.rasn_types.specs.Errors.{IsOutOfMemory}
+use Rattle.rasn_types.specs.Tags.{IsStrict}
+use Rattle.rasn_types.specs.Shapes.{Tree, Same, Shape, own, looked_for, Presence, required, optional, addition, default}
+use Rattle.rasn_types.specs.Readings.{IsNoDefault, IsMissing}
+use Rattle.rasn_types.specs.Trees.{option_tree}
+use Rattle.rasn_de.specs.declared.ber.de.parser.ParseError.TheVariants.{Der}
 use Rattle.rasn_de.specs.State.{State}
+use Rattle.rasn_de.specs.Steps.{IsErrorOf}
 use Rattle.rasn_de.specs.Outcomes.{Got, refusal, outcome}
 use Rattle.rasn_de.specs.Decodes.{Decodes, DecodesExactly}
-use Rattle.rasn_de.specs.Optional.{DecodesIfPresent, DecodesOrDefault, no_look, no_read, present}
-use Rattle.rasn_types.specs.Trees.{option_tree}
-use Rattle.rasn_types.specs.declared.error.decode.DerDecodeErrorKind.TheVariants.{DefaultValuePresent}
-use Rattle.rasn_de.specs.declared.ber.de.parser.ParseError.TheVariants.{Der}
+use Rattle.rasn_de.specs.Optional.{NextTagIs, DecodesIfPresent, DecodesOrDefault, no_look, no_read, present}
 use Rattle.rasn_de.proofs.Constructed.Steps.{rules_same}
 use Rattle.rasn_de.proofs.Leaves.Outcomes.{alloc_failed}
 use Rattle.rasn_de.proofs.Headers.Ends.{IsEnd-refl}
 use Rattle.rasn_de.proofs.Constructed.Optional.{perhaps_decodes, default_decodes, strict_before, strict_after}
 use Rattle.rasn_de.proofs.OwnTypes.Parts.{OnePart, optional_part, default_part, call_keeps}
+use Rattle.rasn_schema.specs.declared.types.Presence.{Presence as PartPresence}
+use Rattle.rasn_schema.specs.declared.types.Presence.TheVariants.{Required, Optional, Addition, Default}
 use Rattle.rasn_schema.specs.declared.value.Value.{Value}
 use Rattle.rasn_schema.specs.Trees.{tree_of}
-use Rattle.rasn_dynamic.specs.Calls.{LooksFor, ChecksDefault}
+use Rattle.rasn_schema.specs.Shapes.{presence_of}
+use Rattle.rasn_schema.specs.FirstTags.{IsAlwaysThere}
+use Rattle.rasn_dynamic.specs.Calls.{is_required, IsDefaultOf, DecodesPresent}
 
 abbrev itself : Tree → Tree
 itself t = t
@@ -40,39 +48,73 @@ module _ (s : Shape) (tag : Tag) (e : own s ≡ looked_for tag) (old : State) wh
       → DecodesExactly (OnePart (default d) s) old (outcome itself r new.rest) new
   defaulted d r new k = default_part tag d s e (default_decodes s itself (Made d) tag old r new k d (λ t m. m))
 
-  -- The component is absent.
-  pub left : (p : Presence) (v : Value) → LooksFor p tag old (Ok (Some v)) → DecodesExactly (OnePart p s) old (Got (tree_of v) old.rest) old
-  left required v k = absurd k
-  left addition v k = absurd k
-  left optional v (n, f) = subst (λ t. DecodesExactly (OnePart optional s) old (Got t old.rest) old) (sym f) (perhaps (Ok None) old (n, refl))
-  left (default d) v (n, f) = defaulted d (Ok (tree_of v)) old (inl (n, f, refl))
+  -- The component is always there.
+  pub always : (p : Presence) → IsAlwaysThere p → (r : Result Value DecodeError) (new : State) → DecodesPresent p s old r new → DecodesExactly (OnePart p s) old (outcome tree_of r new.rest) new
+  always required a (Ok v) new k = k.0
+  always required a (Err x) new (inl k) = k
+  always required a (Err x) new (inr (v, k, st, n, w)) = absurd n
+  always addition a (Ok v) new k = k.0
+  always addition a (Err x) new (inl k) = k
+  always addition a (Err x) new (inr (v, k, st, n, w)) = absurd n
+  always optional a r new k = absurd a
+  always (default d) a r new k = absurd a
 
-  -- The next tag is refused, or memory runs out.
-  pub unread : (p : Presence) (x : DecodeError) → LooksFor p tag old (Err x) → DecodesExactly (OnePart p s) old (refusal x.kind) old
-  unread required x k = absurd k
-  unread addition x k = absurd k
-  unread optional x k = perhaps (Err x) old (inl (k, refl))
-  unread (default d) x (inl k) = defaulted d (Err x) old (no_look k refl)
-  unread (default d) x (inr (n, m)) = alloc_failed (OnePart (default d) s) itself old old x m refl (IsEnd-refl old.rest)
+  -- It is there.
+  pub looked : (p : Presence) → (IsAlwaysThere p → ⊥) → NextTagIs tag old (Ok true) → (r : Result Value DecodeError) (new : State) → DecodesPresent p s old r new → DecodesExactly (OnePart p s) old (outcome tree_of r new.rest) new
+  looked required a l r new k = absurd (a tt)
+  looked addition a l r new k = absurd (a tt)
+  looked optional a l (Ok v) new k = perhaps (Ok (Some (tree_of v))) new (l, k.0)
+  looked optional a l (Err x) new (inl k) = perhaps (Err x) new (inr (l, k))
+  looked optional a l (Err x) new (inr (v, k, st, n, w)) = absurd n
+  looked (default d) a l (Ok v) new k = defaulted d (Ok (tree_of v)) new (inr (l, k.0, λ strict. (d, refl, k.1 strict)))
+  looked (default d) a l (Err x) new (inl k) = defaulted d (Err x) new (no_read l k)
+  looked (default d) a l (Err x) new (inr (v, k, st, n, w)) = defaulted d (Err x) new (present l (tree_of v) k st d refl n w)
 
-  -- The component is present, and is refused.
-  pub read_refused : (p : Presence) (x : DecodeError) (new : State) → LooksFor p tag old (Ok None) → Decodes s tree_of old (Err x) new → DecodesExactly (OnePart p s) old (refusal x.kind) new
-  read_refused required x new l k = k
-  read_refused addition x new l k = k
-  read_refused optional x new l k = perhaps (Err x) new (inr (l, k))
-  read_refused (default d) x new l k = defaulted d (Err x) new (no_read l k)
+  -- It is absent.
+  left : (p : Presence) → (IsAlwaysThere p → ⊥) → NextTagIs tag old (Ok false) → (v : Value) → IsMissing p (tree_of v) → DecodesExactly (OnePart p s) old (Got (tree_of v) old.rest) old
+  left required a l v m = absurd (a tt)
+  left addition a l v m = absurd (a tt)
+  left optional a l v m = subst (λ t. DecodesExactly (OnePart optional s) old (Got t old.rest) old) (sym m) (perhaps (Ok None) old (l, refl))
+  left (default d) a l v m = defaulted d (Ok (tree_of v)) old (inl (l, m, refl))
 
-  -- It is read, and isn't its default if that must not be written; or it is.
-  pub read_checked : (p : Presence) (v : Value) (new : State) → LooksFor p tag old (Ok None) → Decodes s tree_of old (Ok v) new → (r : Result Value DecodeError) → ChecksDefault p new v r
-      → DecodesExactly (OnePart p s) old (outcome tree_of r new.rest) new
-  read_checked required v new l k (Ok w) (f, n) = subst (λ z. DecodesExactly (OnePart required s) old (Got (tree_of z) new.rest) new) (sym f) k
-  read_checked required v new l k (Err x) (st, n, w) = absurd n
-  read_checked addition v new l k (Ok w) (f, n) = subst (λ z. DecodesExactly (OnePart addition s) old (Got (tree_of z) new.rest) new) (sym f) k
-  read_checked addition v new l k (Err x) (st, n, w) = absurd n
-  read_checked optional v new l k (Ok w) (f, n) = subst (λ z. DecodesExactly (OnePart optional s) old (Got (tree_of z) new.rest) new) (sym f) (perhaps (Ok (Some (tree_of v))) new (l, k))
-  read_checked optional v new l k (Err x) (st, n, w) = absurd n
-  read_checked (default d) v new l k (Ok w) (f, n) =
-      subst (λ z. DecodesExactly (OnePart (default d) s) old (Got (tree_of z) new.rest) new) (sym f)
-      (defaulted d (Ok (tree_of v)) new (inr (l, k, λ strict. (d, refl, n (strict_after old new (call_keeps k) strict)))))
-  read_checked (default d) v new l k (Err x) (st, n, w) =
-      let a = call_keeps k in defaulted d (Err x) new (present l (tree_of v) k (strict_before old new a st) d refl n (rules_same old new (Der DefaultValuePresent) x a w))
+  unmade : (p : Presence) (x : DecodeError) → IsOutOfMemory x.kind → DecodesExactly (OnePart p s) old (refusal x.kind) old
+  unmade p x m = alloc_failed (OnePart p s) itself old old x m refl (IsEnd-refl old.rest)
+
+  pub made : (p : Presence) → (IsAlwaysThere p → ⊥) → NextTagIs tag old (Ok false) → (r : Result Value DecodeError) → IfOk r (λ v. IsMissing p (tree_of v)) → IfErr r (λ x. IsOutOfMemory x.kind)
+      → DecodesExactly (OnePart p s) old (outcome tree_of r old.rest) old
+  made p a l (Ok v) m e = left p a l v m
+  made p a l (Err x) m e = unmade p x e
+
+  -- The next tag is refused.
+  pub unread : (p : Presence) → (IsAlwaysThere p → ⊥) → (x : DecodeError) → NextTagIs tag old (Err x) → DecodesExactly (OnePart p s) old (refusal x.kind) old
+  unread required a x k = absurd (a tt)
+  unread addition a x k = absurd (a tt)
+  unread optional a x k = perhaps (Err x) old (inl (k, refl))
+  unread (default d) a x k = defaulted d (Err x) old (no_look k refl)
+
+-- A component without a default is read as its shape.
+pub plain : (s : Shape) (q : PartPresence) (old new : State) → ((v : Value) → q ≡ Default v → ⊥) → (r : Result Value DecodeError) → Decodes s tree_of old r new → DecodesPresent (presence_of q) s old r new
+plain s Required old new n (Ok v) k = (k, λ strict. tt)
+plain s Optional old new n (Ok v) k = (k, λ strict. tt)
+plain s Addition old new n (Ok v) k = (k, λ strict. tt)
+plain s (Default d) old new n (Ok v) k = absurd (n d refl)
+plain s q old new n (Err e) k = inl k
+
+-- What is asked of a component with a default.
+module _ (s : Shape) (q : PartPresence) (d : Value) (e : q ≡ Default d) (old new : State) (v : Value) (k : Decodes s tree_of old (Ok v) new) where
+  pub kept : (IsStrict new.rule → ⊥) → DecodesPresent (presence_of q) s old (Ok v) new
+  kept n = (k, λ strict. absurd (n (strict_after old new (call_keeps k) strict)))
+
+  pub differs : (Same (tree_of v) (tree_of d) → ⊥) → DecodesPresent (presence_of q) s old (Ok v) new
+  differs n = (k, λ strict. subst (λ z. IsNoDefault (presence_of z) (tree_of v)) (sym e) n)
+
+  pub default_is_written : IsStrict new.rule → Same (tree_of v) (tree_of d) → (x : DecodeError) → IsErrorOf (Der DefaultValuePresent) new x → DecodesPresent (presence_of q) s old (Err x) new
+  default_is_written st n x w =
+      let a = call_keeps k in
+      inr (v, k, strict_before old new a st, subst (λ z. IsDefaultOf (presence_of z) (tree_of v)) (sym e) n, rules_same old new (Der DefaultValuePresent) x a w)
+
+pub not_required : (q : PartPresence) → (IsAlwaysThere (presence_of q) → ⊥) → is_required q ≡ false
+not_required Required n = absurd (n tt)
+not_required Optional n = refl
+not_required Addition n = refl
+not_required (Default v) n = refl

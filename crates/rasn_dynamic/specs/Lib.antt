@@ -3,5 +3,5 @@ pub mod Calls
 pub mod Written
 pub mod Entry
 pub mod Fitting
-pub mod SetSlots
+pub mod Found
 pub mod Paths

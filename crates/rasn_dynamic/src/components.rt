@@ -1,67 +1,44 @@
 //! Components that are absent, and the values that they have then (X.680 25).
 ghost use Rattle.std.specs.Prelude.{◌≡◌, [], false, IfOk, IfErr};
 ghost use Rattle.rasn_types.specs.Truth.{IsWhether};
-ghost use Rattle.rasn_schema.specs.Trees.{tree_of};
-ghost use Rattle.rasn_schema.specs.Shapes.{presence_of, tag_at};
-ghost use Rattle.rasn_dynamic.specs.Calls.{LooksFor, ChecksDefault, LeavesAllOut, MakesMissing, any_required, is_required};
 ghost use Rattle.rasn_types.specs.Readings.{IsMissing};
 ghost use Rattle.rasn_types.specs.Errors.{IsOutOfMemory};
+ghost use Rattle.rasn_types.specs.declared.error.decode.DerDecodeErrorKind.TheVariants.{DefaultValuePresent};
+ghost use Rattle.rasn_de.specs.declared.ber.de.parser.ParseError.TheVariants.{Der};
+ghost use Rattle.rasn_de.specs.Steps.{IsErrorOf};
+ghost use Rattle.rasn_schema.specs.Trees.{tree_of};
+ghost use Rattle.rasn_schema.specs.Shapes.{presence_of};
+ghost use Rattle.rasn_schema.specs.FirstTags.{IsAlwaysThere};
+ghost use Rattle.rasn_dynamic.specs.Calls.{LeavesAllOut, any_required, is_required};
 
-use crate::read_leaf::{out_of_memory, push};
+use crate::read_leaf::out_of_memory;
 use rasn_de::ber::de::Decoder;
-use rasn_schema::{Component, Presence, Type, Value, tag_at};
+use rasn_schema::{Component, Presence, Value};
 use rasn_types::error::{CodecDecodeError, DecodeError, DecodeErrorKind, DerDecodeErrorKind};
 
-/// Returns the value of a component that is absent, or none if it has to be read.
+/// Returns whether a component can't be absent.
 #[inline(always)]
-pub fn left_out<'input>(
-    decoder: &Decoder<'input>,
-    types: &[Type],
-    component: &Component,
-) -> Result<Option<Value<'input>>, DecodeError>
-    ensures { LooksFor (presence_of component.now.presence) (tag_at types.now component.now.type_id.0) decoder.now result }
+pub fn is_always_there(component: &Component) -> bool
+    ensures { IsWhether result (IsAlwaysThere (presence_of component.now.presence)) }
 {
     match &component.presence {
-        Presence::Required | Presence::Addition => Ok(None),
-        Presence::Optional => {
-            if decoder.next_tag_is(tag_at(types, component.type_id))? {
-                Ok(None)
-            } else {
-                Ok(Some(Value::Absent))
-            }
-        }
-        Presence::Default(value) => {
-            if decoder.next_tag_is(tag_at(types, component.type_id))? {
-                return Ok(None);
-            }
-            match value.try_clone(decoder.alloc()) {
-                Ok(value) => Ok(Some(value)),
-                Err(_) => Err(out_of_memory(decoder)),
-            }
-        }
+        Presence::Required => true,
+        Presence::Addition => true,
+        Presence::Optional => false,
+        Presence::Default(_) => false,
     }
 }
 
-/// Returns a component that was read. Under DER it must not be its default (X.690 11.5).
-#[inline(always)]
-pub fn checked<'input>(
-    decoder: &Decoder<'input>,
-    component: &Component,
-    value: Value<'input>,
-) -> Result<Value<'input>, DecodeError>
-    ensures { ChecksDefault (presence_of component.now.presence) decoder.now value.entry result }
+/// Returns the error that a default is written under DER (X.690 11.5).
+pub fn default_present(decoder: &Decoder<'_>) -> DecodeError
+    ensures { IsErrorOf (Der DefaultValuePresent) decoder.now result }
 {
-    if let Presence::Default(default) = &component.presence {
-        if decoder.is_strict() && value.means_same(default) {
-            return Err(DecodeError {
-                kind: DecodeErrorKind::CodecSpecific {
-                    inner: CodecDecodeError::Der(DerDecodeErrorKind::DefaultValuePresent),
-                },
-                codec: decoder.codec(),
-            });
-        }
+    DecodeError {
+        kind: DecodeErrorKind::CodecSpecific {
+            inner: CodecDecodeError::Der(DerDecodeErrorKind::DefaultValuePresent),
+        },
+        codec: decoder.codec(),
     }
-    Ok(value)
 }
 
 /// Returns whether some component is required.
@@ -79,32 +56,15 @@ pub fn any_required(components: &[Component]) -> bool
 }
 
 /// Returns whether the contents are empty, and no component is required.
+#[inline(always)]
 pub fn leaves_all_out(decoder: &Decoder<'_>, components: &[Component]) -> bool
     ensures { IsWhether result (LeavesAllOut components.now decoder.now) }
 {
     !decoder.may_be_closed() && decoder.remaining().is_empty() && !any_required(components)
 }
 
-/// Returns the value of a SEQUENCE all of whose components are absent.
-pub fn all_left_out<'input>(
-    decoder: &Decoder<'input>,
-    components: &[Component],
-) -> Result<Value<'input>, DecodeError>
-    requires { any_required components.now ≡ false }
-    ensures { MakesMissing components.now result }
-{
-    let mut values = Vec::new(decoder.alloc());
-    let mut rest = components;
-    while let [component, after @ ..] = rest {
-        let value = missing(decoder, component)?;
-        push(decoder, &mut values, value)?;
-        rest = after;
-    }
-    Ok(Value::Items(values))
-}
-
 /// Returns the value of a component that is absent.
-fn missing<'input>(
+pub fn missing<'input>(
     decoder: &Decoder<'input>,
     component: &Component,
 ) -> Result<Value<'input>, DecodeError>

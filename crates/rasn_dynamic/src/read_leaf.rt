@@ -4,20 +4,23 @@ ghost use Rattle.rasn_types.specs.Errors.{IsOutOfMemory};
 ghost use Rattle.rasn_types.specs.CharacterString.{string_kind};
 ghost use Rattle.rasn_types.specs.Shapes.{leaf, any, looked_for, fixed, integer, enumerated, utc_time};
 ghost use Rattle.rasn_types.specs.Trees.{unconstrained};
-ghost use Rattle.rasn_types.specs.declared.types.constraints.Constraints.{Constraints};
 ghost use Rattle.rasn_types.specs.Truth.{IsWhether};
 ghost use Rattle.rasn_de.specs.Decodes.{Decodes};
 ghost use Rattle.rasn_de.specs.Steps.{IsErrorOf};
 ghost use Rattle.rasn_de.specs.declared.ber.de.parser.ParseError.TheVariants.{OutOfMemory};
 ghost use Rattle.rasn_schema.specs.Trees.{tree_of};
 ghost use Rattle.rasn_schema.specs.Shapes.{kind_of, numbers_of};
+ghost use Rattle.rasn_schema.specs.declared.types.LeafKind.TheVariants.{FixedOctetString as FixedKind, UtcTime as UtcTimeKind};
+ghost use Rattle.rasn_dynamic.specs.Calls.{IsNumberIn, IsStringOf};
+ghost use Rattle.rasn_dynamic.specs.Fitting.{FitsLeaf, IsNumber, AreOctets};
 
 use rasn_de::ber::de::Decoder;
 use rasn_de::de::Decode;
 use rasn_schema::{LeafKind, NamedNumber, Value};
 use rasn_types::error::{DecodeError, DecodeErrorKind};
 use rasn_types::types::{
-    Alphabet, Bounded, Constraints, GeneralizedTime, Integer, IntegerType, LONGEST_NUMBER, Tag,
+    Alphabet, BitString, Bounded, Constraints, Date, GeneralizedTime, Integer, IntegerType,
+    LONGEST_NUMBER, ObjectIdentifier, Tag, UtcTime,
 };
 use std::alloc::{AllocError, Global};
 use std::borrow::CowSlice;
@@ -79,7 +82,8 @@ fn decode_fixed_width<'input, I: IntegerType + Decode>(
     tag: Tag,
     constraints: &Constraints,
 ) -> Result<Value<'input>, DecodeError>
-    ensures { Decodes (leaf (integer I.range) tag constraints.now) tree_of decoder.old result decoder.new }
+    ensures reads { Decodes (leaf (integer I.range) tag constraints.now) tree_of decoder.old result decoder.new }
+    ensures fits { IfOk result (λ v. IsNumberIn I.range v) }
 {
     let number = decoder.decode_integer::<I>(tag, constraints)?;
     match integer_of(decoder.alloc(), &number) {
@@ -95,7 +99,8 @@ fn decode_fixed_octets<'input>(
     tag: Tag,
     constraints: &Constraints,
 ) -> Result<Value<'input>, DecodeError>
-    ensures { Decodes (leaf (fixed len) tag constraints.now) tree_of decoder.old result decoder.new }
+    ensures reads { Decodes (leaf (fixed len) tag constraints.now) tree_of decoder.old result decoder.new }
+    ensures fits { IfOk result (λ v. FitsLeaf (FixedKind len) v) }
 {
     let octets = decoder.decode_octet_string(tag, &Constraints::NONE)?;
     if octets.len() != len {
@@ -110,13 +115,14 @@ fn decode_fixed_octets<'input>(
 
 /// Reads a string whose characters are octets of an alphabet.
 #[inline(always)]
-fn decode_restricted<'input>(
+fn decode_string<'input>(
     decoder: &mut Decoder<'input>,
     alphabet: Alphabet,
     tag: Tag,
     constraints: &Constraints,
 ) -> Result<Value<'input>, DecodeError>
-    ensures { Decodes (leaf (string_kind alphabet) tag constraints.now) tree_of decoder.old result decoder.new }
+    ensures reads { Decodes (leaf (string_kind alphabet) tag constraints.now) tree_of decoder.old result decoder.new }
+    ensures fits { IfOk result (λ v. IsStringOf alphabet v) }
 {
     let octets = decoder.decode_restricted_string(alphabet, tag, constraints)?;
     Ok(Value::Octets(octets))
@@ -127,10 +133,12 @@ fn decode_restricted<'input>(
 fn decode_utc_time<'input>(
     decoder: &mut Decoder<'input>,
     tag: Tag,
+    constraints: &Constraints,
 ) -> Result<Value<'input>, DecodeError>
-    ensures { (c : Constraints) → Decodes (leaf utc_time tag c) tree_of decoder.old result decoder.new }
+    ensures reads { Decodes (leaf utc_time tag constraints.now) tree_of decoder.old result decoder.new }
+    ensures fits { IfOk result (λ v. FitsLeaf UtcTimeKind v) }
 {
-    let time = decoder.decode_utc_time(tag)?;
+    let time = UtcTime::decode_with_tag_and_constraints(decoder, tag, constraints)?;
     match GeneralizedTime::new(time, 0) {
         Some(time) => Ok(Value::Instant(time)),
         None => unreachable!(),
@@ -138,51 +146,71 @@ fn decode_utc_time<'input>(
 }
 
 /// Reads a value that holds no other values.
-#[tactic(auto, unfolding(rasn_types::specs::Grammar::Reads))]
 pub fn decode_leaf<'input>(
     decoder: &mut Decoder<'input>,
     kind: LeafKind,
     tag: Tag,
     bounds: &Constraints,
 ) -> Result<Value<'input>, DecodeError>
-    ensures { Decodes (leaf (kind_of kind) tag bounds.now) tree_of decoder.old result decoder.new }
+    ensures reads { Decodes (leaf (kind_of kind) tag bounds.now) tree_of decoder.old result decoder.new }
+    ensures fits { IfOk result (λ v. FitsLeaf kind v) }
 {
     match kind {
-        LeafKind::Boolean => Ok(Value::Boolean(decoder.decode_bool(tag)?)),
+        LeafKind::Boolean => Ok(Value::Boolean(bool::decode_with_tag_and_constraints(
+            decoder, tag, bounds,
+        )?)),
         LeafKind::Null => {
-            decoder.decode_null(tag)?;
+            <()>::decode_with_tag_and_constraints(decoder, tag, bounds)?;
             Ok(Value::Null)
         }
-        LeafKind::ObjectIdentifier => Ok(Value::Arcs(decoder.decode_object_identifier(tag)?)),
-        LeafKind::BitString => Ok(Value::Bits(decoder.decode_bit_string(tag, bounds)?)),
+        LeafKind::ObjectIdentifier => Ok(Value::Arcs(
+            ObjectIdentifier::decode_with_tag_and_constraints(decoder, tag, bounds)?,
+        )),
+        LeafKind::BitString => Ok(Value::Bits(BitString::decode_with_tag_and_constraints(
+            decoder, tag, bounds,
+        )?)),
         LeafKind::OctetString => Ok(Value::Octets(decoder.decode_octet_string(tag, bounds)?)),
         LeafKind::FixedOctetString(len) => decode_fixed_octets(decoder, len, tag, bounds),
-        LeafKind::Integer => Ok(Value::Integer(decoder.decode_integer(tag, bounds)?)),
+        LeafKind::Integer => Ok(Value::Integer(Integer::decode_with_tag_and_constraints(
+            decoder, tag, bounds,
+        )?)),
         LeafKind::Signed32 => decode_fixed_width::<i32>(decoder, tag, bounds),
         LeafKind::Signed64 => decode_fixed_width::<i64>(decoder, tag, bounds),
         LeafKind::Unsigned32 => decode_fixed_width::<u32>(decoder, tag, bounds),
         LeafKind::Unsigned64 => decode_fixed_width::<u64>(decoder, tag, bounds),
-        LeafKind::Numeric => decode_restricted(decoder, Alphabet::Numeric, tag, bounds),
-        LeafKind::Printable => decode_restricted(decoder, Alphabet::Printable, tag, bounds),
-        LeafKind::Visible => decode_restricted(decoder, Alphabet::Visible, tag, bounds),
-        LeafKind::Ia5 => decode_restricted(decoder, Alphabet::Ia5, tag, bounds),
-        LeafKind::AnyOctets => decode_restricted(decoder, Alphabet::Every, tag, bounds),
+        LeafKind::Numeric => decode_string(decoder, Alphabet::Numeric, tag, bounds),
+        LeafKind::Printable => decode_string(decoder, Alphabet::Printable, tag, bounds),
+        LeafKind::Visible => decode_string(decoder, Alphabet::Visible, tag, bounds),
+        LeafKind::Ia5 => decode_string(decoder, Alphabet::Ia5, tag, bounds),
+        LeafKind::AnyOctets => decode_string(decoder, Alphabet::Every, tag, bounds),
         LeafKind::Bmp => Ok(Value::Units(decoder.decode_bmp_string(tag, bounds)?)),
         LeafKind::Utf8 => Ok(Value::Text(decoder.decode_utf8_text(tag, bounds)?)),
-        LeafKind::UtcTime => decode_utc_time(decoder, tag),
-        LeafKind::GeneralizedTime => Ok(Value::Instant(decoder.decode_generalized_time(tag)?)),
-        LeafKind::Date => Ok(Value::Day(decoder.decode_date(tag)?)),
+        LeafKind::UtcTime => decode_utc_time(decoder, tag, bounds),
+        LeafKind::GeneralizedTime => Ok(Value::Instant(
+            GeneralizedTime::decode_with_tag_and_constraints(decoder, tag, bounds)?,
+        )),
+        LeafKind::Date => Ok(Value::Day(Date::decode_with_tag_and_constraints(
+            decoder, tag, bounds,
+        )?)),
     }
 }
 
-/// Returns whether the number is one of these.
-fn is_listed(numbers: &[NamedNumber], number: isize) -> bool
-    ensures { IsWhether result (Contains (numbers_of numbers.now) number) }
+fn has_number(named: &NamedNumber, number: &isize) -> bool
+    ensures { IsWhether result (named.now.number ≡ number.now) }
 {
-    for named in numbers {
-        if named.number == number {
+    named.number == *number
+}
+
+/// Returns whether the number is one of these.
+fn is_listed(numbers: &[NamedNumber], number: &isize) -> bool
+    ensures { IsWhether result (Contains (numbers_of numbers.now) number.now) }
+{
+    let mut rest = numbers;
+    while let [named, after @ ..] = rest {
+        if has_number(named, number) {
             return true;
         }
+        rest = after;
     }
     false
 }
@@ -193,10 +221,11 @@ pub fn decode_number<'input>(
     tag: Tag,
     numbers: &[NamedNumber],
 ) -> Result<Value<'input>, DecodeError>
-    ensures { Decodes (leaf (enumerated (numbers_of numbers.now)) tag unconstrained) tree_of decoder.old result decoder.new }
+    ensures reads { Decodes (leaf (enumerated (numbers_of numbers.now)) tag unconstrained) tree_of decoder.old result decoder.new }
+    ensures fits { IfOk result (λ v. IsNumber (numbers_of numbers.now) v) }
 {
     let discriminant = decoder.decode_integer::<isize>(tag, &Constraints::NONE)?;
-    if !is_listed(numbers, discriminant) {
+    if !is_listed(numbers, &discriminant) {
         return Err(DecodeError {
             kind: DecodeErrorKind::DiscriminantValueNotFound { discriminant },
             codec: decoder.codec(),
@@ -214,7 +243,8 @@ pub fn decode_any_value<'input>(
     decoder: &mut Decoder<'input>,
     tag: Tag,
 ) -> Result<Value<'input>, DecodeError>
-    ensures { Decodes (any (looked_for tag)) tree_of decoder.old result decoder.new }
+    ensures reads { Decodes (any (looked_for tag)) tree_of decoder.old result decoder.new }
+    ensures fits { IfOk result AreOctets }
 {
     let octets = decoder.decode_open(tag)?;
     Ok(Value::Octets(CowSlice::Borrowed(octets)))

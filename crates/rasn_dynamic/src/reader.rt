@@ -1,26 +1,32 @@
 //! Reads a value of a type.
-ghost use Rattle.std.specs.Prelude.{◌≡◌, ◌≢◌, length};
+ghost use Rattle.std.specs.Prelude.{◌≡◌, ◌≢◌, IfOk, IfErr};
+ghost use Rattle.std.specs.String.{string_bytes};
 ghost use Rattle.rasn_types.specs.Framing.{AreOctets};
 ghost use Rattle.rasn_types.specs.Lawful.{IsLawful, AreLawfulByTag};
 ghost use Rattle.rasn_types.specs.Shapes.{choice};
-ghost use Rattle.rasn_de.specs.Decodes.{Decodes, DecodesBy, DecodesParts};
 ghost use Rattle.rasn_types.specs.Trees.{list_tree};
+ghost use Rattle.rasn_de.specs.Decodes.{Decodes, DecodesBy};
 ghost use Rattle.rasn_de.specs.Constructed.{DecodesInside};
 ghost use Rattle.rasn_de.specs.SequenceOf.{DecodesElements, DecodesElementsInOrder};
+ghost use Rattle.rasn_de.specs.SetPartTypes.{DecodesNext, DecodesSetPartContents};
+ghost use Rattle.rasn_de.specs.Steps.{IsErrorOf};
+ghost use Rattle.rasn_de.specs.declared.ber.de.parser.ParseError.TheVariants.{UnexpectedExtraData};
 ghost use Rattle.rasn_schema.specs.Trees.{tree_of};
 ghost use Rattle.rasn_schema.specs.Shapes.{shape_of_type, type_by, alternatives_by, components_by, presence_of, AreLawful};
 ghost use Rattle.rasn_dynamic.specs.Inside.{ReadsInside, ReadsSequence, ReadsComponent};
-ghost use Rattle.rasn_dynamic.specs.Calls.{held, IsKept, IsSized, IsSizedSet};
-ghost use Rattle.rasn_dynamic.specs.SetSlots.{ReadsSetParts, DecodesNext};
-ghost use Rattle.rasn_de.specs.Steps.{IsErrorOf};
-ghost use Rattle.rasn_de.specs.declared.ber.de.parser.ParseError.TheVariants.{UnexpectedExtraData};
+ghost use Rattle.rasn_dynamic.specs.Calls.{held, nones, names_of, IsKept, IsSized, IsSizedSet, DecodesPresent, IsNoAlternative};
+ghost use Rattle.rasn_dynamic.specs.Fitting.{Fits, FitsBy, IsChosen, AlternativeFits, ComponentFits, ComponentsFit, EachFits};
+ghost use Rattle.rasn_dynamic.specs.Found.{FoundFit};
 
-use crate::components::{all_left_out, checked, leaves_all_out, left_out};
+use crate::components::{default_present, is_always_there, leaves_all_out, missing};
 use crate::order::{is_less, octets_before, out_of_order};
 use crate::read_leaf::{decode_any_value, decode_leaf, decode_number, out_of_memory, push};
 use crate::set::{component_for, gather, no_components, put};
 use rasn_de::ber::de::{ConstructedHeader, Decoder};
-use rasn_schema::{Alternative, Component, Type, TypeId, Value, alternative_for, type_at};
+use rasn_de::de::Error;
+use rasn_schema::{
+    Alternative, Component, Presence, Type, TypeId, Value, alternative_for, tag_at, type_at,
+};
 use rasn_types::error::{DecodeError, DecodeErrorKind};
 use rasn_types::types::Constraints;
 
@@ -111,7 +117,8 @@ pub fn decode_at<'input>(
     id: TypeId,
 ) -> Result<Value<'input>, DecodeError>
     requires { IsLawful (shape_of_type types.now levels id.0) }
-    ensures { Decodes (shape_of_type types.now levels id.0) tree_of decoder.old result decoder.new }
+    ensures reads { Decodes (shape_of_type types.now levels id.0) tree_of decoder.old result decoder.new }
+    ensures fits { IfOk result (λ v. Fits types.now levels id.0 v) }
 {
     if levels == 0 {
         return Err(no_value(decoder));
@@ -132,7 +139,8 @@ fn decode_type<'input>(
     ty: &Type,
 ) -> Result<Value<'input>, DecodeError>
     requires { IsLawful (type_by (shape_of_type types.now below) ty.now) }
-    ensures { Decodes (type_by (shape_of_type types.now below) ty.now) tree_of decoder.old result decoder.new }
+    ensures reads { Decodes (type_by (shape_of_type types.now below) ty.now) tree_of decoder.old result decoder.new }
+    ensures fits { IfOk result (λ v. FitsBy (Fits types.now below) ty.now v) }
 {
     match ty {
         Type::Leaf {
@@ -143,7 +151,9 @@ fn decode_type<'input>(
         } => decode_leaf(decoder, *kind, *tag, constraints),
         Type::Enumerated { tag, numbers } => decode_number(decoder, *tag, numbers),
         Type::Any { tag } => decode_any_value(decoder, *tag),
-        Type::Choice { alternatives, .. } => decode_choice(decoder, types, below, alternatives),
+        Type::Choice { name, alternatives } => {
+            decode_choice(decoder, types, below, name.as_str(), alternatives)
+        }
         Type::Tagged { tag, .. } => {
             decode_inside(decoder, types, below, ty, ConstructedHeader::prefix(*tag))
         }
@@ -163,19 +173,25 @@ fn decode_type<'input>(
 }
 
 /// Reads the alternative to which the next tag belongs (X.690 8.13).
+///
+/// # Errors
+/// `NoValidChoice` with the name of the CHOICE if the tag is no alternative's, which consumes nothing.
 #[cycle(decode)]
 fn decode_choice<'input>(
     decoder: &mut Decoder<'input>,
     types: &[Type],
     below: usize,
+    name: &str,
     alternatives: &[Alternative],
 ) -> Result<Value<'input>, DecodeError>
     requires { IsLawful (choice (alternatives_by (shape_of_type types.now below) alternatives.now)) }
-    ensures { Decodes (choice (alternatives_by (shape_of_type types.now below) alternatives.now)) tree_of decoder.old result decoder.new }
+    ensures reads { Decodes (choice (alternatives_by (shape_of_type types.now below) alternatives.now)) tree_of decoder.old result decoder.new }
+    ensures fits { IfOk result (λ v. IsChosen (AlternativeFits (Fits types.now below) alternatives.now) v) }
+    ensures unknown { IfErr result (λ e. IsNoAlternative (alternatives_by (shape_of_type types.now below) alternatives.now) name.now decoder.old e decoder.new) }
 {
     let tag = decoder.peek_tag()?;
     let Some(number) = alternative_for(types, below, alternatives, tag) else {
-        return Err(no_value(decoder));
+        return Err(DecodeError::no_valid_choice(decoder.alloc(), name, decoder.codec()));
     };
     let value = decode_at(decoder, types, below, alternatives[number].type_id)?;
     match Box::new(decoder.alloc(), value) {
@@ -196,6 +212,7 @@ fn decode_inside<'input>(
     requires { IsLawful (type_by (shape_of_type types.now below) ty.now) }
     ensures exact { DecodesInside (DecodesBy (ReadsInside (type_by (shape_of_type types.now below) ty.now)) tree_of) header decoder.old result decoder.new }
     ensures octets { decoder.old.depth ≢ 0 → AreOctets decoder.old.rest }
+    ensures fits { IfOk result (λ v. FitsBy (Fits types.now below) ty.now v) }
 {
     let (mut inner, contents) = decoder.open(header)?;
     let value = decode_contents(&mut inner, types, below, ty)?;
@@ -212,11 +229,15 @@ fn decode_contents<'input>(
     ty: &Type,
 ) -> Result<Value<'input>, DecodeError>
     requires { IsLawful (type_by (shape_of_type types.now below) ty.now) }
-    ensures { DecodesBy (ReadsInside (type_by (shape_of_type types.now below) ty.now)) tree_of decoder.old result decoder.new }
+    ensures reads { DecodesBy (ReadsInside (type_by (shape_of_type types.now below) ty.now)) tree_of decoder.old result decoder.new }
+    ensures fits { IfOk result (λ v. FitsBy (Fits types.now below) ty.now v) }
 {
     match ty {
         Type::Tagged { inner, .. } => decode_at(decoder, types, below, *inner),
-        Type::Sequence { components, .. } => decode_sequence(decoder, types, below, components),
+        Type::Sequence { components, .. } => {
+            let values = decode_sequence(decoder, types, below, components)?;
+            Ok(Value::Items(values))
+        }
         Type::SequenceOf {
             element,
             constraints,
@@ -233,7 +254,11 @@ fn decode_contents<'input>(
             let values = decode_elements_in_order(decoder, types, below, *element)?;
             sized_set(decoder, values, constraints)
         }
-        Type::Set { components, .. } => decode_set(decoder, types, below, components),
+        Type::Set { components, .. } => {
+            let found = no_components(decoder, components)?;
+            let values = decode_set(decoder, types, below, components, found)?;
+            Ok(Value::Items(values))
+        }
         _ => Err(no_value(decoder)),
     }
 }
@@ -247,7 +272,8 @@ fn decode_elements<'input>(
     element: TypeId,
 ) -> Result<Vec<Value<'input>>, DecodeError>
     requires { IsLawful (shape_of_type types.now below element.0) }
-    ensures { DecodesElements (Decodes (shape_of_type types.now below element.0) tree_of) (λ v. v.items) decoder.old result decoder.new }
+    ensures reads { DecodesElements (Decodes (shape_of_type types.now below element.0) tree_of) (λ v. v.items) decoder.old result decoder.new }
+    ensures fits { IfOk result (λ v. EachFits (Fits types.now below element.0) v.items) }
 {
     let mut values = Vec::new(decoder.alloc());
     while !decoder.has_ended() {
@@ -267,7 +293,8 @@ fn decode_elements_in_order<'input>(
     element: TypeId,
 ) -> Result<Vec<Value<'input>>, DecodeError>
     requires { IsLawful (shape_of_type types.now below element.0) }
-    ensures { DecodesElementsInOrder (Decodes (shape_of_type types.now below element.0) tree_of) (λ v. v.items) decoder.old result decoder.new }
+    ensures reads { DecodesElementsInOrder (Decodes (shape_of_type types.now below element.0) tree_of) (λ v. v.items) decoder.old result decoder.new }
+    ensures fits { IfOk result (λ v. EachFits (Fits types.now below element.0) v.items) }
 {
     let mut values = Vec::new(decoder.alloc());
     let mut last: &[u8] = &[];
@@ -286,34 +313,23 @@ fn decode_elements_in_order<'input>(
 
 /// Reads the components of a SEQUENCE, up to the end of the contents (X.690 8.9).
 #[cycle(decode)]
-#[inline(always)]
 fn decode_sequence<'input>(
-    decoder: &mut Decoder<'input>,
-    types: &[Type],
-    below: usize,
-    components: &[Component],
-) -> Result<Value<'input>, DecodeError>
-    requires { AreLawful (components_by (shape_of_type types.now below) components.now) }
-    ensures { DecodesBy (ReadsSequence (components_by (shape_of_type types.now below) components.now)) tree_of decoder.old result decoder.new }
-{
-    if leaves_all_out(decoder, components) {
-        return all_left_out(decoder, components);
-    }
-    let values = decode_components(decoder, types, below, components)?;
-    Ok(Value::Items(values))
-}
-
-#[cycle(decode)]
-fn decode_components<'input>(
     decoder: &mut Decoder<'input>,
     types: &[Type],
     below: usize,
     components: &[Component],
 ) -> Result<Vec<Value<'input>>, DecodeError>
     requires { AreLawful (components_by (shape_of_type types.now below) components.now) }
-    ensures { DecodesParts (components_by (shape_of_type types.now below) components.now) (λ v. list_tree tree_of v.items) decoder.old result decoder.new }
+    ensures reads { DecodesBy (ReadsSequence (components_by (shape_of_type types.now below) components.now)) (λ v. list_tree tree_of v.items) decoder.old result decoder.new }
+    ensures fits { IfOk result (λ v. ComponentsFit (Fits types.now below) components.now v.items) }
 {
-    let mut values = Vec::new(decoder.alloc());
+    if leaves_all_out(decoder, components) {
+        let found = no_components(decoder, components)?;
+        return gather(decoder, components, found);
+    }
+    let Ok(mut values) = Vec::with_capacity(decoder.alloc(), components.len()) else {
+        return Err(out_of_memory(decoder));
+    };
     let mut rest = components;
     while let [component, after @ ..] = rest {
         let value = decode_component(decoder, types, below, component)?;
@@ -323,8 +339,8 @@ fn decode_components<'input>(
     Ok(values)
 }
 
+/// Reads a component of a SEQUENCE, unless it is absent.
 #[cycle(decode)]
-#[inline(always)]
 fn decode_component<'input>(
     decoder: &mut Decoder<'input>,
     types: &[Type],
@@ -332,58 +348,99 @@ fn decode_component<'input>(
     component: &Component,
 ) -> Result<Value<'input>, DecodeError>
     requires { IsLawful (shape_of_type types.now below component.now.type_id.0) }
-    ensures { DecodesBy (ReadsComponent (presence_of component.now.presence) (shape_of_type types.now below component.now.type_id.0)) tree_of decoder.old result decoder.new }
+    ensures reads { DecodesBy (ReadsComponent (presence_of component.now.presence) (shape_of_type types.now below component.now.type_id.0)) tree_of decoder.old result decoder.new }
+    ensures fits { IfOk result (λ v. ComponentFits (Fits types.now below) component.now v) }
 {
-    if let Some(value) = left_out(decoder, types, component)? {
-        return Ok(value);
+    if is_always_there(component) {
+        return decode_present(decoder, types, below, component);
     }
-    let value = decode_at(decoder, types, below, component.type_id)?;
-    checked(decoder, component, value)
+    match decoder.next_tag_is(tag_at(types, component.type_id)) {
+        Ok(true) => decode_present(decoder, types, below, component),
+        Ok(false) => missing(decoder, component),
+        Err(error) => Err(error),
+    }
 }
 
-/// Reads the components of a SET, in any order, up to the end of the contents (X.690 8.11).
+/// Reads a component that is present. Under DER it must not be its default (X.690 11.5).
+#[cycle(decode)]
+#[inline(always)]
+fn decode_present<'input>(
+    decoder: &mut Decoder<'input>,
+    types: &[Type],
+    below: usize,
+    component: &Component,
+) -> Result<Value<'input>, DecodeError>
+    requires { IsLawful (shape_of_type types.now below component.now.type_id.0) }
+    ensures reads { DecodesPresent (presence_of component.now.presence) (shape_of_type types.now below component.now.type_id.0) decoder.old result decoder.new }
+    ensures fits { IfOk result (λ v. Fits types.now below component.now.type_id.0 v) }
+{
+    let Presence::Default(default) = &component.presence else {
+        return decode_at(decoder, types, below, component.type_id);
+    };
+    let value = decode_at(decoder, types, below, component.type_id)?;
+    if !decoder.is_strict() {
+        return Ok(value);
+    }
+    if value.means_same(default) {
+        return Err(default_present(decoder));
+    }
+    Ok(value)
+}
+
+/// Reads the components of a SET, in any order, up to the end of the contents (X.690 8.11). None was found yet.
+///
+/// # Errors
+/// Those of the first component that isn't read. Once all are read, `DuplicateField` with the name of the first component that was
+/// read before, else `MissingField` with that of the first required one that is missing.
 #[cycle(decode)]
 fn decode_set<'input>(
     decoder: &mut Decoder<'input>,
     types: &[Type],
     below: usize,
     components: &[Component],
-) -> Result<Value<'input>, DecodeError>
-    requires { AreLawfulByTag (components_by (shape_of_type types.now below) components.now) }
-    ensures { DecodesBy (ReadsSetParts (components_by (shape_of_type types.now below) components.now)) tree_of decoder.old result decoder.new }
+    mut found: Vec<Option<Value<'input>>>,
+) -> Result<Vec<Value<'input>>, DecodeError>
+    requires lawful { AreLawfulByTag (components_by (shape_of_type types.now below) components.now) }
+    requires none { found.items ≡ nones components.now }
+    ensures exact { DecodesSetPartContents (components_by (shape_of_type types.now below) components.now) (λ v. list_tree tree_of v.items) (names_of components.now) decoder.old result decoder.new }
+    ensures fits { IfOk result (λ v. ComponentsFit (Fits types.now below) components.now v.items) }
 {
-    let mut found = no_components(decoder, components)?;
+    let mut twice = None;
     let mut last = None;
     while !decoder.has_ended() {
         last = decoder.peek_tag_in_order(last)?;
-        decode_set_component(decoder, types, below, components, &mut found)?;
+        let next = decode_set_component(decoder, types, below, components, &mut found)?;
+        twice = twice.or(next);
+    }
+    if let Some(name) = twice {
+        return Err(DecodeError::duplicate_field(decoder.alloc(), name, decoder.codec()));
     }
     gather(decoder, components, found)
 }
 
-/// Reads one component of a SET, which must take some of the input, and puts it in its place.
+/// Reads one component of a SET, which must take some of the input, and puts it in its place. If that isn't empty, returns the
+/// component's name.
 #[cycle(decode)]
-fn decode_set_component<'input>(
+fn decode_set_component<'input, 'names>(
     decoder: &mut Decoder<'input>,
     types: &[Type],
     below: usize,
-    components: &[Component],
+    components: &'names [Component],
     found: &mut Vec<Option<Value<'input>>>,
-) -> Result<(), DecodeError>
+) -> Result<Option<&'names str>, DecodeError>
     requires lawful { AreLawfulByTag (components_by (shape_of_type types.now below) components.now) }
-    requires as_many { length found.old.items ≡ length components.now }
-    ensures next { DecodesNext (components_by (shape_of_type types.now below) components.now) (held found.old.items) decoder.old result decoder.new (held found.new.items) }
-    ensures as_many { length found.new.items ≡ length components.now }
+    requires found { FoundFit (Fits types.now below) components.now found.old.items }
+    ensures next { DecodesNext (components_by (shape_of_type types.now below) components.now) (names_of components.now) (held found.old.items) decoder.old result decoder.new (held found.new.items) }
+    ensures found { FoundFit (Fits types.now below) components.now found.new.items }
 {
     let left = decoder.remaining().len();
     let tag = decoder.peek_tag()?;
     let Some((number, component)) = component_for(types, below, components, tag) else {
-        return Err(no_value(decoder));
+        return Err(DecodeError::no_valid_choice(decoder.alloc(), "", decoder.codec()));
     };
-    let value = decode_at(decoder, types, below, component.type_id)?;
-    let value = checked(decoder, component, value)?;
+    let value = decode_present(decoder, types, below, component)?;
     if decoder.remaining().len() == left {
         return Err(extra(decoder, left));
     }
-    put(decoder, found, number, value)
+    Ok(put(found, number, value, component.name.as_str()))
 }

@@ -2,15 +2,16 @@
 ghost use Rattle.std.specs.Prelude.{◌≡◌, ◌<◌, length, MatchOption, IfOk, IfErr};
 ghost use Rattle.rasn_types.specs.Shapes.{IsFirstOf};
 ghost use Rattle.rasn_types.specs.Errors.{IsOutOfMemory};
-ghost use Rattle.rasn_de.specs.SetPartTypes.{held_tree};
-ghost use Rattle.rasn_schema.specs.Trees.{tree_of};
-ghost use Rattle.rasn_schema.specs.Shapes.{shape_of_type, components_by, presence_of, presences_in};
-ghost use Rattle.rasn_dynamic.specs.Calls.{held, nones, IsPut, IsComponentFor, IsSettled, Gathers};
+ghost use Rattle.rasn_schema.specs.Shapes.{shape_of_type, components_by, presence_of};
+ghost use Rattle.rasn_dynamic.specs.Calls.{nones, IsPut, IsComponentFor, IsSettled, Gathers};
+ghost use Rattle.std.specs.String.{string_bytes};
 
+use crate::components::missing;
 use crate::read_leaf::{out_of_memory, push};
 use rasn_de::ber::de::Decoder;
+use rasn_de::de::Error;
 use rasn_schema::{Component, Presence, Type, Value, begins};
-use rasn_types::error::{DecodeError, DecodeErrorKind};
+use rasn_types::error::DecodeError;
 use rasn_types::types::Tag;
 
 /// Returns the component that may begin with the tag, and its index.
@@ -50,29 +51,21 @@ pub fn no_components<'input>(
     Ok(found)
 }
 
-/// Puts a value in its place, which has to be empty.
-pub fn put<'input>(
-    decoder: &Decoder<'input>,
+/// Puts a value in its place if that is empty; else returns the component's name and drops the value.
+pub fn put<'input, 'names>(
     found: &mut Vec<Option<Value<'input>>>,
     number: usize,
     value: Value<'input>,
-) -> Result<(), DecodeError>
+    name: &'names str,
+) -> Option<&'names str>
     requires { number < length found.old.items }
-    ensures { IsPut number value.entry found.old.items result found.new.items }
+    ensures { IsPut number value.entry name.now found.old.items result found.new.items }
 {
     if found[number].is_some() {
-        return Err(no_part(decoder));
+        return Some(name);
     }
     found[number] = Some(value);
-    Ok(())
-}
-
-/// Returns the error that a component is there twice, or is missing.
-fn no_part(decoder: &Decoder<'_>) -> DecodeError {
-    DecodeError {
-        kind: DecodeErrorKind::UnexpectedEmptyInput,
-        codec: decoder.codec(),
-    }
+    None
 }
 
 /// Returns the component that was read, or the value that it has if it is absent.
@@ -81,40 +74,40 @@ fn settle<'input>(
     component: &Component,
     found: Option<Value<'input>>,
 ) -> Result<Value<'input>, DecodeError>
-    ensures { IsSettled (presence_of component.now.presence) (held_tree tree_of found.entry) result }
+    ensures { IsSettled (presence_of component.now.presence) (string_bytes component.now.name) decoder.now.rule found.entry result }
 {
     if let Some(value) = found {
         return Ok(value);
     }
-    match &component.presence {
-        Presence::Required => Err(no_part(decoder)),
-        Presence::Optional | Presence::Addition => Ok(Value::Absent),
-        Presence::Default(default) => match default.try_clone(decoder.alloc()) {
-            Ok(value) => Ok(value),
-            Err(_) => Err(out_of_memory(decoder)),
-        },
+    if let Presence::Required = component.presence {
+        let name = component.name.as_str();
+        return Err(DecodeError::missing_field(decoder.alloc(), name, decoder.codec()));
     }
+    missing(decoder, component)
 }
 
-/// Returns the value of the SET, after its last component.
+/// Returns all components, those that are absent with the values that they have then.
+///
+/// # Errors
+/// `MissingField` with the name of the first required component that is missing.
 pub fn gather<'input>(
     decoder: &Decoder<'input>,
     components: &[Component],
     found: Vec<Option<Value<'input>>>,
-) -> Result<Value<'input>, DecodeError>
-    requires { length found.entry.items ≡ length components.now }
-    ensures { Gathers (presences_in components.now) (held found.entry.items) result }
+) -> Result<Vec<Value<'input>>, DecodeError>
+    requires { length found.items ≡ length components.now }
+    ensures { Gathers components.now decoder.now.rule found.entry.items result }
 {
     let mut coming = found.into_iter();
     let mut values = Vec::new(decoder.alloc());
     let mut rest = components;
     while let [component, after @ ..] = rest {
         let Some(found) = coming.next() else {
-            return Err(no_part(decoder));
+            unreachable!();
         };
         let value = settle(decoder, component, found)?;
         push(decoder, &mut values, value)?;
         rest = after;
     }
-    Ok(Value::Items(values))
+    Ok(values)
 }

@@ -2,10 +2,14 @@
 #![tactic(auto)]
 
 #[cfg(test)]
+mod errors;
+#[cfg(test)]
 mod lines;
 #[cfg(test)]
 mod messages;
 #[cfg(test)]
 mod refused;
+#[cfg(test)]
+mod values;
 #[cfg(test)]
 mod written;

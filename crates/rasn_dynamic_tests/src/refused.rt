@@ -1,11 +1,9 @@
-//! Types that aren't a schema, and values that aren't of their type.
+//! Types that aren't a schema.
 
-use rasn_dynamic::{WriteError, encode, fits};
-use rasn_schema::{LeafKind, Schema, SchemaError, TypeId, Value};
+use rasn_schema::{LeafKind, Schema, SchemaError, TypeId};
 use rasn_schema_bench::{Definition, Occurrence, Part, types};
-use rasn_types::types::{Class, Codec, Constraints, Tag};
+use rasn_types::types::{Class, Constraints, Tag};
 use std::alloc::Global;
-use std::borrow::CowStr;
 use std::process::Abort;
 
 const CONTEXT_0: Tag = Tag {
@@ -76,6 +74,35 @@ fn wrong_tags_and_choices_are_refused(rt: HostRuntime) {
                 id: TypeId(1),
                 index: 0,
                 other: 1,
+            },
+        ),
+    ];
+    assert_refused(&rt, rt.alloc(), ROWS);
+}
+
+// X.680 20.1, 20.3.
+#[test]
+fn wrong_numbers_are_refused(rt: HostRuntime) {
+    const ROWS: &[Row] = &[
+        (
+            &[Definition::Enumerated(Tag::EOC, &[("a", 0)])],
+            SchemaError::ReservedTag { id: TypeId(0) },
+        ),
+        (
+            &[Definition::Enumerated(Tag::ENUMERATED, &[])],
+            SchemaError::NoNumbers { id: TypeId(0) },
+        ),
+        (
+            &[
+                Definition::Enumerated(
+                    Tag::ENUMERATED,
+                    &[("a", 1), ("b", 0), ("c", 2), ("d", 1)],
+                ),
+            ],
+            SchemaError::NumbersClash {
+                id: TypeId(0),
+                index: 0,
+                other: 3,
             },
         ),
     ];
@@ -169,21 +196,4 @@ fn components_that_clash_are_refused(rt: HostRuntime) {
         ),
     ];
     assert_refused(&rt, rt.alloc(), ROWS);
-}
-
-/// Returns whether the value isn't one of the only type of a table, and isn't written as such.
-fn is_unfit(alloc: Global, definition: &'static [Definition], value: &Value) -> Option<bool> {
-    let schema = Schema::new(types(alloc, definition).ok()?).ok()?;
-    match encode(alloc, Codec::Der, &schema, TypeId(0), value) {
-        Err(WriteError::Unfit) => Some(!fits(&schema, TypeId(0), value)),
-        _ => Some(false),
-    }
-}
-
-#[test]
-fn values_of_other_types_are_unfit(rt: HostRuntime) {
-    const FLAGS: &[Definition] = &[FLAG];
-    const OPEN_TYPE: &[Definition] = &[Definition::Any(Tag::EOC)];
-    assert!(rt; is_unfit(rt.alloc(), FLAGS, &Value::Absent) == Some(true));
-    assert!(rt; is_unfit(rt.alloc(), OPEN_TYPE, &Value::Text(CowStr::Borrowed(""))) == Some(true));
 }

@@ -23,7 +23,8 @@ pub trait Encode: AsnType {
     ) -> Result<(), EncodeError>
         ensures ok { OnOk result (AppendsEncoding (tagged_as tag constraints.now Self.shape) (Self.tree self.now) encoder.old encoder.new) }
         ensures err { OnErr result (encoder.new ≡ encoder.old) }
-        ensures refused { IfErr result (EncodeFails (tagged_as tag constraints.now Self.shape) (Self.tree self.now) encoder.old) };
+        ensures refused { IfErr result (EncodeFails (tagged_as tag constraints.now Self.shape) (Self.tree self.now) encoder.old) }
+        ensures rules { IfErr result (λ e. e.codec ≡ encoder.old.rule) };
 
     /// Writes the value.
     #[inline(always)]
@@ -31,6 +32,7 @@ pub trait Encode: AsnType {
         ensures ok { OnOk result (AppendsEncoding Self.shape (Self.tree self.now) encoder.old encoder.new) }
         ensures err { OnErr result (encoder.new ≡ encoder.old) }
         ensures refused { IfErr result (EncodeFails Self.shape (Self.tree self.now) encoder.old) }
+        ensures rules { IfErr result (λ e. e.codec ≡ encoder.old.rule) }
     {
         self.encode_with_tag_and_constraints(
             encoder,
@@ -50,6 +52,7 @@ pub trait Encode: AsnType {
         ensures ok { OnOk result (AppendsEncoding (tagged_as tag Self.CONSTRAINTS Self.shape) (Self.tree self.now) encoder.old encoder.new) }
         ensures err { OnErr result (encoder.new ≡ encoder.old) }
         ensures refused { IfErr result (EncodeFails (tagged_as tag Self.CONSTRAINTS Self.shape) (Self.tree self.now) encoder.old) }
+        ensures rules { IfErr result (λ e. e.codec ≡ encoder.old.rule) }
     {
         self.encode_with_tag_and_constraints(encoder, tag, &Self::CONSTRAINTS, identifier)
     }
@@ -64,6 +67,7 @@ pub trait Encode: AsnType {
         ensures ok { OnOk result (AppendsEncoding (tagged_as Self.TAG constraints.now Self.shape) (Self.tree self.now) encoder.old encoder.new) }
         ensures err { OnErr result (encoder.new ≡ encoder.old) }
         ensures refused { IfErr result (EncodeFails (tagged_as Self.TAG constraints.now Self.shape) (Self.tree self.now) encoder.old) }
+        ensures rules { IfErr result (λ e. e.codec ≡ encoder.old.rule) }
     {
         self.encode_with_tag_and_constraints(encoder, Self::TAG, constraints, identifier)
     }

@@ -9,3 +9,5 @@ pub mod Broken
 pub mod Follow
 pub mod OtherKinds
 pub mod EqualLists
+pub mod NamedTypes
+pub mod Depth

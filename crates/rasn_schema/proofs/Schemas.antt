@@ -20,11 +20,11 @@ use Rattle.rasn_schema.proofs.LawfulTypes.{is_present, cut_lawful, none_lawful, 
 -- ---- how a type begins at one depth, and at another
 
 -- An alternative has a lower number than its CHOICE.
-abbrev AreBefore : ℕ → List Alternative → Type 0
+abbrev pub AreBefore : ℕ → List Alternative → Type 0
 AreBefore id [] = Unit {0}
 AreBefore id (a ∷ ks) = (a.type_id.0 < id) × AreBefore id ks
 
-abbrev IsBehindOwn : ℕ → Option «Type» → Type 0
+abbrev pub IsBehindOwn : ℕ → Option «Type» → Type 0
 IsBehindOwn id (Some (Choice name ks)) = AreBefore id ks.items
 IsBehindOwn id _ = Unit {0}
 
@@ -73,14 +73,14 @@ module _ (n : Tag) where
   cut_firsts g (Some (SetOf tag k c)) a = cut_first tag (is_eoc tag) refl a
 
 -- At any depth a type begins only with tags with which it begins at the depth of its number.
-settled : (types : List «Type») → ((k : ℕ) → IsBehindOwn k (slice_get types k)) → (n : Tag) (b k i : ℕ) → k ≤ b → IsFirst (shape_of_type types i k) n → IsFirst (shape_of_type types (suc b) k) n
+pub settled : (types : List «Type») → ((k : ℕ) → IsBehindOwn k (slice_get types k)) → (n : Tag) (b k i : ℕ) → k ≤ b → IsFirst (shape_of_type types i k) n → IsFirst (shape_of_type types (suc b) k) n
 unfolding shape_of_type
 settled types s n zero k zero l a = cut_firsts n (shape_of_type types zero) (slice_get types k) a
 settled types s n zero k (suc i) l a = found_firsts (shape_of_type types i) (shape_of_type types zero) n k (λ j m. absurd (omega (arith, l, m))) (slice_get types k) (s k) a
 settled types s n (suc b) k zero l a = cut_firsts n (shape_of_type types (suc b)) (slice_get types k) a
 settled types s n (suc b) k (suc i) l a = found_firsts (shape_of_type types i) (shape_of_type types (suc b)) n k (λ j m. settled types s n b j i (omega (arith, l, m))) (slice_get types k) (s k) a
 
-none_first : (types : List «Type») (n : Tag) (k i : ℕ) → slice_get types k ≡ None → IsFirst (shape_of_type types i k) n → ⊥
+pub none_first : (types : List «Type») (n : Tag) (k i : ℕ) → slice_get types k ≡ None → IsFirst (shape_of_type types i k) n → ⊥
 unfolding shape_of_type
 none_first types n k zero e a = rw e at a
 none_first types n k (suc i) e a = rw e at a
@@ -100,7 +100,7 @@ node_before types k (Set tag ps) w = tt
 node_before types k (SequenceOf tag j c) w = tt
 node_before types k (SetOf tag j c) w = tt
 
-all_before : (types : List «Type») → IsSchema types → (k : ℕ) → IsBehindOwn k (slice_get types k)
+pub all_before : (types : List «Type») → IsSchema types → (k : ℕ) → IsBehindOwn k (slice_get types k)
 all_before types w k = go (slice_get types k) refl
   where
     go : (o : Option «Type») → slice_get types k ≡ o → IsBehindOwn k o

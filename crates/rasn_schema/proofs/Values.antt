@@ -6,6 +6,7 @@ use Rattle.rasn_types.specs.Equality.{bool_not_absent}
 use Rattle.rasn_types.specs.Trees.{list_tree}
 use Rattle.rasn_schema.specs.declared.value.Value.{Value, Boolean, Null, Integer, Bits, Octets, Text, Units, Arcs, Instant, Day, Absent, Chosen', Items, Items', Elements, Elements', Row_of-Value, end_of-Value, more_of-Value, items-the_row-Value, items_hidden-the_row-Value-0}
 use Rattle.rasn_schema.specs.Trees.{tree_of, trees_in}
+use Rattle.rasn_schema.specs.Held.{held_in}
 
 abbrev row_of : Value → (n : Count) × Row_of-Value n
 row_of (Items' _ row) = (_, row)
@@ -21,6 +22,12 @@ tree_items vs = let row = row_of (Items vs) in trees_listed row.0 row.1 ∙ ap (
 
 pub tree_elements : (vs : Vec Value Global) → tree_of (Elements vs) ≡ set_elements (list_tree tree_of vs.items)
 tree_elements vs = let row = row_of (Elements vs) in ap set_elements (trees_listed row.0 row.1 ∙ ap (list_tree tree_of) (items_hidden-the_row-Value-0 vs))
+
+pub held_items : (vs : Vec Value Global) → held_in (Items vs) ≡ vs.items
+held_items vs = items_hidden-the_row-Value-0 vs
+
+pub held_elements : (vs : Vec Value Global) → held_in (Elements vs) ≡ vs.items
+held_elements vs = items_hidden-the_row-Value-0 vs
 
 list_not_absent : (n : _) (row : Row_of-Value n) → trees_in row ≡ absent → ⊥
 list_not_absent n end_of-Value s = cc

@@ -8,3 +8,6 @@ pub mod Kinds
 pub mod Numbers
 pub mod Equal
 pub mod Equals
+pub mod Held
+pub mod Named
+pub mod Depth

@@ -5,7 +5,6 @@ use std::alloc::{AllocError, Global};
 
 mod kept;
 mod passed;
-mod worked;
 mod written;
 
 /// \[1\]

@@ -10,7 +10,6 @@ use rasn_bench::Both;
 use std::alloc::AllocError;
 
 mod closures;
-mod cuts;
 mod cuts_open;
 mod padding;
 mod taken;

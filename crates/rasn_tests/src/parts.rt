@@ -3,12 +3,8 @@
 
 mod choice;
 mod enumerated;
-pub mod nested_lists;
-mod own_types;
 mod reads;
 mod reads_sequence_of;
 mod real;
-mod reason;
 mod sequence_of;
-mod whole;
 mod writes;

@@ -16,12 +16,6 @@ use std::process::Abort;
 /// Octets, the rules they are read by, the text of the value or of the error's kind, and how many octets are consumed.
 pub type Row = (&'static [u8], Codec, &'static str, usize);
 
-/// Octets, the rules they are read by, and the text of the tag that they begin with or of the error's kind.
-pub type PeekRow = (&'static [u8], Codec, &'static str);
-
-/// Octets, the rules they are read by, the octets of the value, and how many octets are consumed.
-pub type OctetsRow = (&'static [u8], Codec, &'static [u8], usize);
-
 /// The constraint that a number is in this range.
 pub fn within(start: i128, end: i128) -> Constraints {
     let constraint = Bounded::Range {
@@ -187,35 +181,11 @@ pub fn assert_reads_default(rt: &impl Abort, alloc: Global, rows: &[Row]) {
     }
 }
 
-/// Asserts which tag each row's octets begin with, and that nothing is consumed by peeking at it.
-pub fn assert_peeks(rt: &impl Abort, alloc: Global, rows: &[PeekRow]) {
-    for (octets, rules, text) in rows {
-        let decoder = decoder_of(alloc, octets, *rules);
-        assert_answer(rt, alloc, *rules, decoder.peek_tag(), text);
-        assert!(rt; decoder.decoded_len() == 0 && decoder.remaining() == *octets);
-    }
-}
-
 /// Asserts what a value of the type is read as from each row's octets, and how many are consumed.
 pub fn assert_reads<T: Decode + Debug>(rt: &impl Abort, alloc: Global, rows: &[Row]) {
     for (octets, rules, text, consumed) in rows {
         let mut decoder = decoder_of(alloc, octets, *rules);
         assert_answer(rt, alloc, *rules, T::decode(&mut decoder), text);
-        assert_row(rt, octets, *rules, decoder.decoded_len() == *consumed);
-    }
-}
-
-/// Asserts what a value of the type under these constraints is read as from each row's octets, and how many are consumed.
-pub fn assert_reads_within<T: Decode + Debug>(
-    rt: &impl Abort,
-    alloc: Global,
-    constraints: &Constraints,
-    rows: &[Row],
-) {
-    for (octets, rules, text, consumed) in rows {
-        let mut decoder = decoder_of(alloc, octets, *rules);
-        let answer = T::decode_with_constraints(&mut decoder, constraints);
-        assert_answer(rt, alloc, *rules, answer, text);
         assert_row(rt, octets, *rules, decoder.decoded_len() == *consumed);
     }
 }
@@ -276,14 +246,5 @@ pub fn answers_octets(
             found.as_slice() == octets && matches!(&found, CowSlice::Borrowed(_)) == is_borrowed
         }
         Err(_) => false,
-    }
-}
-
-/// Asserts which octets a value of the type that is read from each row's octets has, and how many are consumed.
-pub fn assert_reads_octets<T: Decode + Octets>(rt: &impl Abort, alloc: Global, rows: &[OctetsRow]) {
-    for (octets, rules, found, consumed) in rows {
-        let mut decoder = decoder_of(alloc, octets, *rules);
-        assert_has_octets(rt, T::decode(&mut decoder), found);
-        assert_row(rt, octets, *rules, decoder.decoded_len() == *consumed);
     }
 }

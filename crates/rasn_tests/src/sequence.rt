@@ -7,4 +7,3 @@ mod lengths;
 mod nested;
 mod segments;
 mod settings;
-mod whole;

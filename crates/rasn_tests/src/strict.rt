@@ -1,6 +1,4 @@
 //! What DER alone refuses: other encodings than the one that it writes (X.690 10, 11).
 
-mod contents;
 mod defaults;
-mod headers;
 mod rules;

@@ -1,7 +1,7 @@
 //! What the tests of the entry points share: rows of octets, rules and answers, over whole calls.
 
 use crate::reading::{assert_answer, value};
-use crate::writing::{Written, assert_output};
+use crate::writing::assert_output;
 use rasn::de::Decode;
 use rasn::enc::Encode;
 use rasn::error::{DecodeError, EncodeError};
@@ -26,32 +26,12 @@ pub fn decoded<T: Decode>(alloc: Global, rules: Codec, octets: &[u8]) -> Result<
     }
 }
 
-/// The value that the octets begin with and the octets that follow it, by the entry point of these rules.
-fn decoded_with_remainder<T: Decode>(
-    alloc: Global,
-    rules: Codec,
-    octets: &[u8],
-) -> Result<(T, &[u8]), DecodeError> {
-    match rules {
-        Codec::Ber => ber::decode_with_remainder(alloc, octets),
-        Codec::Cer => cer::decode_with_remainder(alloc, octets),
-        Codec::Der => der::decode_with_remainder(alloc, octets),
-    }
-}
-
 /// The value's octets, by the entry point of these rules.
 pub fn encoded<T: Encode>(alloc: Global, rules: Codec, value: &T) -> Result<Vec<u8>, EncodeError> {
     match rules {
         Codec::Ber => ber::encode(alloc, value),
         Codec::Cer => cer::encode(alloc, value),
         Codec::Der => der::encode(alloc, value),
-    }
-}
-
-/// Asserts that the entry point writes each row's value as the row's octets.
-pub fn assert_encodes<T: Encode>(rt: &impl Abort, alloc: Global, rows: &[Written<T>]) {
-    for (value, rules, octets) in rows {
-        assert_output(rt, encoded(alloc, *rules, value), octets);
     }
 }
 
@@ -63,18 +43,6 @@ pub fn assert_decodes<T: Decode + Debug + Drop>(
 ) {
     for (octets, rules, text) in rows {
         assert_answer(rt, alloc, *rules, decoded::<T>(alloc, *rules, octets), text);
-    }
-}
-
-/// Asserts what the entry point reads each row's octets as: a pair of the value and the octets that follow it.
-pub fn assert_decodes_with_remainder<T: Decode + Debug + Drop>(
-    rt: &impl Abort,
-    alloc: Global,
-    rows: &[Answer<'_>],
-) {
-    for (octets, rules, text) in rows {
-        let answer = decoded_with_remainder::<T>(alloc, *rules, octets);
-        assert_answer(rt, alloc, *rules, answer, text);
     }
 }
 

@@ -68,17 +68,6 @@ pub fn made<T>(rt: &impl Abort, value: Result<Option<T>, AllocError>) -> T {
     }
 }
 
-/// Asserts that a value is made, and is written as these octets.
-pub fn assert_writes_made<T: Encode>(
-    rt: &impl Abort,
-    alloc: Global,
-    rules: Codec,
-    value: Result<Option<T>, AllocError>,
-    octets: &[u8],
-) {
-    assert_output(rt, octets_of(alloc, rules, &made(rt, value)), octets);
-}
-
 /// Asserts that a call writes the octets of these pieces.
 pub fn assert_output_pieces(
     rt: &impl Abort,

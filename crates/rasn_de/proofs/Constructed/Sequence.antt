@@ -1,5 +1,6 @@
 -- A SEQUENCE is read where what stands in it is.
-use Rattle.std.proofs.Common.{◌≡◌, ◌≢◌, ℕ, ◌-◌, ◌⊎◌, inl, inr, Bool, true, List, [], Option, Result, Ok, subst}
+use Rattle.std.proofs.Common.{◌≡◌, ◌≢◌, ℕ, ◌-◌, ◌⊎◌, inl, inr, Bool, true, List, [], Option, Some, None, Result, Ok, Err, ap, subst}
+use Rattle.std.specs.Prelude.{IfErr}
 use Rattle.std.specs.declared.alloc.AllocError.{AllocError}
 use Rattle.rasn_types.specs.declared.types.tag.Tag.{Tag}
 use Rattle.rasn_types.specs.declared.types.codec.Codec.{Codec}
@@ -12,6 +13,7 @@ use Rattle.rasn_types.specs.Described.{describes}
 use Rattle.rasn_de.specs.Headers.{Header}
 use Rattle.rasn_de.specs.Segments.{octets_inside, end_at, end_of_contents_at}
 use Rattle.rasn_de.specs.State.{State, IsEnd, Call, EachCall}
+use Rattle.rasn_de.specs.Steps.{NamesRules}
 use Rattle.rasn_de.specs.Outcomes.{Exact, outcome}
 use Rattle.rasn_de.specs.Decodes.{Decodes, DecodesParts}
 use Rattle.rasn_de.specs.Constructed.{sequence_header, constructed_header_at, is_indefinite_extent, contents_state, DecodesInside}
@@ -27,6 +29,18 @@ pub fills_leaves : {D : Type 0} (starts : List ℕ → Bool) (initial : State �
     → EachCall called (λ o r n. IsEnd o.rest n.rest) → EachCall (DecodesContents starts initial called) (λ o r n. IsEnd o.rest n.rest)
 fills_leaves starts initial called leaves o r n (inl (s, i, e)) = (kept_same o n e).end
 fills_leaves starts initial called leaves o r n (inr (s, c)) = leaves o r n c
+
+-- Errors name the rules where the initializer's and the closure's do.
+pub initial_rules : {I D : Type 0} (made : I → Result D AllocError → Type 0) (init : Option I) (s : State) (r : Result D DecodeError) → MakesInitial made init s r → IfErr r (λ e. e.codec ≡ s.rule)
+initial_rules made None s (Ok v) k = tt
+initial_rules made None s (Err e) k = ap (λ (x : DecodeError). x.codec) k
+initial_rules made (Some i) s (Ok v) k = tt
+initial_rules made (Some i) s (Err e) k = ap (λ (x : DecodeError). x.codec) k.2
+
+pub fills_rules : {D : Type 0} (starts : List ℕ → Bool) (initial : State → Result D DecodeError → Type 0) (called : Call D) → ((s : State) (r : Result D DecodeError) → initial s r → IfErr r (λ e. e.codec ≡ s.rule))
+    → EachCall called NamesRules → EachCall (DecodesContents starts initial called) NamesRules
+fills_rules starts initial called first names o r n (inl (s, i, e)) = first o r i
+fills_rules starts initial called first names o r n (inr (s, c)) = names o r n c
 
 -- At the end of an input nothing is read in front of end-of-contents octets.
 cut_none : (rule : Codec) (parts : Parts) (depth : ℕ) (closing : Bool) (t : Tree) (l : List ℕ) → SeqReads parts rule depth closing [] t l → (closing ≡ true) → l ≡ []

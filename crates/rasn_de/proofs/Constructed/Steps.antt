@@ -1,5 +1,6 @@
 -- The steps of a call that reads inside a value.
-use Rattle.std.proofs.Common.{◌≡◌, ℕ, List, Result, Ok, Err, sym, ap, ◌∙◌, subst}
+use Rattle.std.proofs.Common.{◌≡◌, ℕ, List, Result, Ok, Err, refl, sym, ap, ◌∙◌, subst}
+use Rattle.std.specs.Prelude.{IfErr}
 use Rattle.std.specs.Fn.{FnOnceReturnsAtMut}
 use Rattle.std.specs.Borrow.{MutBor}
 use Rattle.rasn_types.specs.declared.error.decode.DecodeError.{DecodeError}
@@ -83,3 +84,18 @@ module _ {F D : Type 0} (g : Closure F D) (f : F) (read : Call D) (says : (p : M
 
   pub closure_inside : (d e : ConstructedHeader) → d ≡ e → (old : State) (r : Result D DecodeError) (new : State) → DecodesInside (FnOnceReturnsAtMut g f) d old r new → DecodesInside read e old r new
   closure_inside d e q old r new k = subst (λ z. DecodesInside read z old r new) q (inside_by (FnOnceReturnsAtMut g f) read d old r new k closure_reads)
+
+-- Errors name the rules outside where what is read inside names those inside, which are the same.
+module _ {D : Type 0} (old : State) where
+  abbrev pub NamesThese : Call D
+  NamesThese o r n = o.rule ≡ old.rule → IfErr r (λ e. e.codec ≡ o.rule)
+
+  pub inside_rules : (read : Call D) → EachCall read NamesThese → (d : ConstructedHeader) (r : Result D DecodeError) (new : State) → DecodesInside read d old r new → IfErr r (λ e. e.codec ≡ old.rule)
+  inside_rules read names d (Ok v) new k = tt
+  inside_rules read names d (Err e) new (k, no_value f h w) = ap (λ (x : DecodeError). x.codec) w
+  inside_rules read names d (Err e) new (k, inside h o left c q) = names _ _ _ c refl
+  inside_rules read names d (Err e) new (k, not_closed h o v left c f g w q) = ap (λ (x : DecodeError). x.codec) w
+
+  pub closure_rules : {F : Type 0} (g : Closure F D) (f : F) → ((p : MutBor State) (r : Result D DecodeError) (q : MutBor State) → g.post f (p, tt) (r, (q, tt)) → NamesThese p.now r q.now)
+      → (d : ConstructedHeader) (r : Result D DecodeError) (new : State) → DecodesInside (FnOnceReturnsAtMut g f) d old r new → IfErr r (λ e. e.codec ≡ old.rule)
+  closure_rules g f says d r new k = inside_rules (FnOnceReturnsAtMut g f) (closure_reads g f NamesThese says) d r new k

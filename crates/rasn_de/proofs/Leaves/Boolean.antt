@@ -22,6 +22,7 @@ use Rattle.rasn_de.specs.Decodes.{Decodes}
 use Rattle.rasn_de.proofs.Headers.Results.{chosen}
 use Rattle.rasn_de.proofs.Leaves.Outcomes.{plain_agrees, decoded_answers}
 use Rattle.rasn_de.proofs.Leaves.Memory.{bool_plain, decoded_plain}
+use Rattle.rasn_de.proofs.Leaves.Rules.{leaf_rules}
 
 -- how contents are read
 abbrev pub reads_bool : Codec → List ℕ → Result Bool Cause → Type 0
@@ -95,5 +96,5 @@ bool_decodes tag old new result o g =
 
 -- What `decode_bool` ensures follows from its exact clause.
 pub bool_ensured : (tag : Tag) (old new : State) (result : Result Bool DecodeError) → AreOctets old.rest → DecodesLeaf (λ b. b) (BoolAt old.rule tag old.rest) old result new
-    → record { reads : Decodes (leaf boolean tag unconstrained) bool_tree old result new; exact : DecodesLeaf (λ b. b) (BoolAt old.rule tag old.rest) old result new; memory : IfErr result (λ e. IsOutOfMemory e.kind → ⊥) }
-bool_ensured tag old new result o g = record { reads = bool_decodes tag old new result o g; exact = g; memory = decoded_plain (λ b. b) (reads_bool old.rule) (bool_plain old.rule) tag old new result g }
+    → record { reads : Decodes (leaf boolean tag unconstrained) bool_tree old result new; exact : DecodesLeaf (λ b. b) (BoolAt old.rule tag old.rest) old result new; memory : IfErr result (λ e. IsOutOfMemory e.kind → ⊥); rules : IfErr result (λ e. e.codec ≡ old.rule) }
+bool_ensured tag old new result o g = record { reads = bool_decodes tag old new result o g; exact = g; memory = decoded_plain (λ b. b) (reads_bool old.rule) (bool_plain old.rule) tag old new result g; rules = leaf_rules (λ b. b) (BoolAt old.rule tag old.rest) old new result g }

@@ -142,5 +142,5 @@ module _ (known : List ℤ) where
 
   -- What `decode_enumerated` ensures of an error.
   pub enumerated_fails : {E : Type 0} (see : E → ℤ) (tag : Tag) (old new : State) (e : DecodeError) → Decodes {T = E} (leaf (enumerated known) tag unconstrained) (λ v. number (see v)) old (Err e) new → FailsAs (EnumeratedAt known old.rule tag old.rest) old e new
-      → record { reads : Decodes {T = E} (leaf (enumerated known) tag unconstrained) (λ v. number (see v)) old (Err e) new; exact : FailsAs (EnumeratedAt known old.rule tag old.rest) old e new; memory : IsOutOfMemory e.kind → ⊥ }
-  enumerated_fails see tag old new e d r = record { reads = d; exact = r; memory = enumerated_memory tag old new e r }
+      → record { reads : Decodes {T = E} (leaf (enumerated known) tag unconstrained) (λ v. number (see v)) old (Err e) new; exact : FailsAs (EnumeratedAt known old.rule tag old.rest) old e new; memory : IsOutOfMemory e.kind → ⊥; rules : e.codec ≡ old.rule }
+  enumerated_fails see tag old new e d r = record { reads = d; exact = r; memory = enumerated_memory tag old new e r; rules = r.3 }

@@ -22,6 +22,7 @@ use Rattle.rasn_de.specs.State.{State, at}
 use Rattle.rasn_de.specs.Decodes.{Decodes}
 use Rattle.rasn_de.proofs.Leaves.Memory.{decoded_integer_memory}
 use Rattle.rasn_de.proofs.Leaves.Outcomes.{plain_agrees, decoded_answers, definite_end, alloc_failed}
+use Rattle.rasn_de.proofs.Leaves.Rules.{integer_rules}
 
 -- Octets that hold a number don't lack one.
 number_lacks : (rule : Codec) (c : List ℕ) (f : ParseError) → IsNotIntegerContents rule c f → c ≢ [] → (IsStrict rule → IsShortestInteger c) → ⊥
@@ -61,8 +62,9 @@ module _ (width : ℕ) (range : Interval) (bounds : Constraints) where
         reads : Decodes (leaf (integer range) tag bounds) (λ v. number (see v)) old result new;
         exact : DecodesInteger see Grows tag (IntegerAt width range bounds old.rule tag old.rest) old result new;
         memory : IfErr result (λ e. IsOutOfMemory e.kind → Grows ⊎ IsOutOfBound (IntegerAt width range bounds old.rule tag old.rest) new.rest);
+        rules : IfErr result (λ e. e.codec ≡ old.rule);
       }
-  integer_ensured see Grows tag old new result o g = record { reads = integer_decodes see Grows tag old new result o g; exact = g; memory = decoded_integer_memory see Grows width range bounds tag old new result g }
+  integer_ensured see Grows tag old new result o g = record { reads = integer_decodes see Grows tag old new result o g; exact = g; memory = decoded_integer_memory see Grows width range bounds tag old new result g; rules = integer_rules see Grows tag (IntegerAt width range bounds old.rule tag old.rest) old new result g }
 
   -- a number out of its bound
   pub bound_refused : (tag : Tag) (old new : State) (c : List ℕ) (e : DecodeError) → definite_at old.rule tag old.rest ≡ Ok (c, new.rest) → new ≡ at old new.rest → IsIntegerContents old.rule c → IsIn range (signed c) → (Admits ◌≤ℤ◌ bounds.value (signed c) → ⊥)

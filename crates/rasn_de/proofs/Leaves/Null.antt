@@ -18,6 +18,7 @@ use Rattle.rasn_de.specs.State.{State}
 use Rattle.rasn_de.specs.Decodes.{Decodes}
 use Rattle.rasn_de.proofs.Leaves.Outcomes.{plain_agrees, decoded_answers}
 use Rattle.rasn_de.proofs.Leaves.Memory.{IsPlainCause, decoded_plain}
+use Rattle.rasn_de.proofs.Leaves.Rules.{leaf_rules}
 
 null_parsed : (rule : Codec) (c : List ℕ) (u : Unit {0}) → AreOctets c → NullIn c (Ok u) → Contents rule null c (number (pos 0)) × (IsStrict rule → Unit {0}) × Unit {0}
 null_parsed rule c u o e = ((refl, e), (λ s. tt), tt)
@@ -39,5 +40,5 @@ null_plain c e (n, f) = subst IsPlainCause (sym f) (λ h. cc)
 
 -- What `decode_null` ensures follows from its exact clause.
 pub null_ensured : (tag : Tag) (old new : State) (result : Result (Unit {0}) DecodeError) → AreOctets old.rest → DecodesLeaf (λ u. u) (NullAt old.rule tag old.rest) old result new
-    → record { reads : Decodes (leaf null tag unconstrained) (λ _. number (pos 0)) old result new; exact : DecodesLeaf (λ u. u) (NullAt old.rule tag old.rest) old result new; memory : IfErr result (λ e. IsOutOfMemory e.kind → ⊥) }
-null_ensured tag old new result o g = record { reads = null_decodes tag old new result o g; exact = g; memory = decoded_plain (λ u. u) NullIn null_plain tag old new result g }
+    → record { reads : Decodes (leaf null tag unconstrained) (λ _. number (pos 0)) old result new; exact : DecodesLeaf (λ u. u) (NullAt old.rule tag old.rest) old result new; memory : IfErr result (λ e. IsOutOfMemory e.kind → ⊥); rules : IfErr result (λ e. e.codec ≡ old.rule) }
+null_ensured tag old new result o g = record { reads = null_decodes tag old new result o g; exact = g; memory = decoded_plain (λ u. u) NullIn null_plain tag old new result g; rules = leaf_rules (λ u. u) (NullAt old.rule tag old.rest) old new result g }

@@ -11,6 +11,18 @@ residual r h = let p = err_from_is_err_and r h in p.1 ∙ ap Err p.2
 pub with_reads : {A B : Type 0} → (B → A) → B → record { reads : A; exact : B }
 with_reads f b = record { reads = f b; exact = b }
 
+-- The same where the rules of errors follow from it too.
+pub with_rules : {A B C : Type 0} → (B → A) → (B → C) → B → record { reads : A; exact : B; rules : C }
+with_rules f h b = record { reads = f b; exact = b; rules = h b }
+
 -- Where it follows from `called`, both hold.
 pub also_reads : {A B : Type 0} → (B → A) → B → record { exact : B; reads : A }
 also_reads f b = record { exact = b; reads = f b }
+
+-- The same beside what is known of the rules of errors.
+pub also_rules : {A B C : Type 0} → (B → A) → C → B → record { exact : B; reads : A; rules : C }
+also_rules f c b = record { exact = b; reads = f b; rules = c }
+
+-- The same of a call whose `shaped` says of a value's shape what `exact` says of the calls that read it.
+pub also_shaped : {A B C D : Type 0} → (B → A) → D → C → B → record { exact : D; shaped : B; reads : A; rules : C }
+also_shaped f d c b = record { exact = d; shaped = b; reads = f b; rules = c }

@@ -18,7 +18,8 @@ use Rattle.rasn_de.specs.Decodes.{DecodesExactly, Decodes}
 use Rattle.rasn_de.specs.Choice.{IsOnlyAlternative}
 use Rattle.rasn_de.specs.PartTypes.{same_own}
 use Rattle.rasn_de.specs.Headers.{same_tag}
-use Rattle.rasn_de.specs.AlternativeTypes.{ReadsNumbered, DecodesNumbered, is_other, none_begins, is_first_alone}
+use Rattle.std.specs.Prelude.{IfErr}
+use Rattle.rasn_de.specs.AlternativeTypes.{FailsAtAlternative, DecodesAlternative, ReadsNumbered, DecodesNumbered, is_other, none_begins, is_first_alone}
 use Rattle.rasn_de.proofs.Leaves.Outcomes.{Exact-none, Exact-refusal}
 use Rattle.rasn_de.proofs.Headers.Ends.{IsEnd-refl}
 use Rattle.rasn_de.proofs.Headers.Frames.{same_tag_self}
@@ -72,6 +73,19 @@ module _ (s : Shape) (t : Tag) (ps : Parts) (b : Bool) (e : is_first_alone s t p
 
   pub others_differ : b ≡ true
   others_differ = (both_true (is_first_alone s t ps) b e).1
+
+-- The shape has the tag that comes, or another one.
+pub own_tag : (s : Shape) (tag t : Tag) → tag ≡ t → own s ≡ Some t → own s ≡ Some tag
+own_tag s tag t h e = e ∙ ap (λ x. Some x) (sym h)
+
+pub other_tag : (s : Shape) (tag t : Tag) → (tag ≡ t → ⊥) → own s ≡ Some t → own s ≡ Some tag → ⊥
+other_tag s tag t h e f = let k : Some tag ≡ Some t = sym f ∙ e in h cc
+
+-- A refusal of alternatives is one of the CHOICE.
+pub alternative_decodes : {D : Type 0} (ps : Parts) (tree : D → Tree) (name : List ℕ) (tag : Tag) (old : State) (r : Result D DecodeError) (new : State) → NextTag (form old.rule) old.rest tag → Decodes (choice ps) tree old r new
+    → IfErr r (λ e. FailsAtAlternative ps name tag old e new) → DecodesAlternative ps tree name old r new
+alternative_decodes ps tree name tag old (Ok v) new n a f = a
+alternative_decodes ps tree name tag old (Err e) new n a f = inr (tag, n, f)
 
 module _ (p : Presence) (s : Shape) (ps : Parts) (tag t : Tag) (h : tag ≡ t) (e : own s ≡ Some t) (others : IsFirstOf ps t → ⊥) where
   only_first : IsOnlyAlternative (part p s ps) 0 p s tag

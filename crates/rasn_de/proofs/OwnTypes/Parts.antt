@@ -10,8 +10,9 @@
 --
 --     pub returns : goal.returns
 --     returns c = part_got _ _ _ c.in_ok-first.ensures (part_got _ _ _ c.in_ok-second.ensures no_parts)
-use Rattle.std.proofs.Common.{◌≡◌, ℕ, Bool, List, [], ◌∷◌, Option, Result, refl, sym, ap, ◌∙◌, subst}
-use Rattle.std.specs.Prelude.{IsErrAnd}
+use Rattle.std.proofs.Common.{◌≡◌, ℕ, Bool, List, [], ◌∷◌, Option, Result, Ok, Err, refl, sym, ap, ◌∙◌, subst}
+use Rattle.std.specs.Prelude.{IsErrAnd, IfOk, IfErr}
+use Rattle.std.specs.declared.alloc.AllocError.{AllocError}
 use Rattle.rasn_types.specs.declared.types.codec.Codec.{Codec}
 use Rattle.rasn_types.specs.declared.types.tag.Tag.{Tag}
 use Rattle.rasn_types.specs.declared.error.decode.DecodeError.{DecodeError}
@@ -23,18 +24,16 @@ use Rattle.rasn_types.specs.Readings.{Reading, ReadsPart, ReadsOptional, ReadsIn
 use Rattle.rasn_types.specs.Grammar.{Reads, parts_of}
 use Rattle.rasn_de.specs.State.{State, at}
 use Rattle.rasn_de.specs.Outcomes.{Exact, Outcome, Got, refusal, outcome}
-use Rattle.rasn_de.specs.Decodes.{DecodesExactly, ReadsParts}
-use Rattle.rasn_de.specs.Optional.{ReadsDefault}
+use Rattle.rasn_de.specs.Decodes.{DecodesExactly, Decodes, ReadsParts, DecodesParts}
+use Rattle.rasn_de.specs.Optional.{ReadsDefault, DecodesOrDefault, no_look, no_default, no_read, not_compared, present}
+use Rattle.rasn_de.specs.PartTypes.{DecodesTree, FailsAtPart, DecodesInParts}
+pub use Rattle.rasn_de.specs.PartTypes.{OnePart}
 use Rattle.rasn_de.proofs.Leaves.Returns.{residual}
 use Rattle.rasn_de.proofs.Leaves.Outcomes.{Exact-refusal}
 use Rattle.rasn_de.proofs.Leaves.Errors.{rule_is}
 use Rattle.rasn_de.proofs.Headers.Ends.{IsEnd-refl, IsEnd-trans}
 use Rattle.rasn_de.specs.Constructed.{Keeps}
 use Rattle.rasn_de.proofs.Constructed.Steps.{kept_after}
-
--- one part, as its presence says
-abbrev pub OnePart : Presence → Shape → Codec → ℕ → Bool → Reading Tree
-OnePart p s rule depth closing = ReadsPart rule p (own s) (Reads rule s depth closing) closing
 
 -- no part
 pub no_parts : {old : State} → DecodesExactly (ReadsParts none) old (Got done old.rest) old
@@ -103,6 +102,15 @@ optional_part {g} s e {old} {new} {o} a = record { stays = a.stays; end = a.end;
 pub default_part : (tag : Tag) (d : Tree) (s : Shape) → own s ≡ looked_for tag → {old new : State} {o : Outcome} → DecodesExactly (ReadsDefault tag d s) old o new → DecodesExactly (OnePart (default d) s) old o new
 default_part tag d s e {old} {new} {o} a = record { stays = a.stays; end = a.end; exact = subst (λ h. Exact (ReadsPart old.rule (default d) h (Reads old.rule s old.depth old.closing) old.closing) old.rest o) (sym e) a.exact }
 
+-- Why a value that has a default isn't read, told of its tree.
+pub default_fails : {D : Type 0} (s : Shape) (tree : D → Tree) (made : Result D AllocError → Type 0) (d : Tree) (tag : Tag) (old new : State) (e : DecodeError) → ((v : D) → made (Ok v) → tree v ≡ d)
+    → DecodesOrDefault (Decodes s tree) tree made tag old (Err e) new → DecodesOrDefault (DecodesTree s) (λ (t : Tree). t) (λ m. IfOk m (λ t. t ≡ d)) tag old (Err e) new
+default_fails s tree made d tag old new e is (no_look a q) = no_look a q
+default_fails s tree made d tag old new e is (no_default a (x, m, w) q) = no_default a (x, tt, w) q
+default_fails s tree made d tag old new e is (no_read a r) = no_read a r
+default_fails s tree made d tag old new e is (not_compared a v r h (x, m, w)) = not_compared a (tree v) r h (x, tt, w)
+default_fails s tree made d tag old new e is (present a v r h u m same w) = present a (tree v) r h (tree u) (is u m) same w
+
 -- The same of a part under a prefix whose tag is known by another name.
 pub under_tag : {t tag : Tag} → t ≡ tag → (d : Tree) (s : Shape) {old new : State} {o : Outcome} → DecodesExactly (ReadsDefault t d (prefix t s)) old o new
     → DecodesExactly (ReadsDefault tag d (prefix tag s)) old o new
@@ -123,6 +131,11 @@ part_got p s ps {old} {mid} {new} {t} {u} a b = others_got p s ps old mid new t 
 -- The error that `?` answers is the one that was met.
 pub refused : {X : Type 0} {R : Codec → ℕ → Bool → Reading Tree} {old new : State} (tree : X → Tree) (r : Result X DecodeError) (e : DecodeError) → IsErrAnd r (λ y. y ≡ e) → DecodesExactly R old (refusal e.kind) new → DecodesExactly R old (outcome tree r new.rest) new
 refused {X} {R} {old} {new} tree r e h a = subst (λ z. DecodesExactly R old (outcome tree z new.rest) new) (sym (residual r h)) a
+
+-- Parts are read, or the first that isn't is known.
+pub in_parts : {D : Type 0} (ps : Parts) (tree : D → Tree) (old : State) (r : Result D DecodeError) (new : State) → DecodesParts ps tree old r new → IfErr r (λ e. FailsAtPart ps old e new) → DecodesInParts ps tree old r new
+in_parts ps tree old (Ok v) new a f = a
+in_parts ps tree old (Err e) new a f = f
 
 -- What a reading closure owes of any calls: each one keeps it, and so do two, one behind the other.
 pub call_keeps : {R : Codec → ℕ → Bool → Reading Tree} {o : Outcome} {old new : State} → DecodesExactly R old o new → Keeps old new

@@ -38,6 +38,7 @@ use Rattle.rasn_de.proofs.OwnTypes.Parts.{call_keeps}
 use Rattle.rasn_de.proofs.OwnTypes.Alternatives.{OneAlternative}
 use Rattle.rasn_de.proofs.OwnTypes.AlternativeTypes.{first_got, first_refused, others_read, others_got, choice_read}
 use Rattle.rasn_de.proofs.OwnTypes.Components.{Slot, none_more, one_more, kept_more, not_none, no_parts_twice}
+use Rattle.rasn_de.proofs.Leaves.Errors.{rule_is}
 
 pub held_none : {T : Type 0} (tree : T → Tree) (h : Option T) → h ≡ None → held_tree tree h ≡ None
 held_none tree h e = ap (held_tree tree) e
@@ -91,6 +92,11 @@ module _ (ps : Parts) (names : List (List ℕ)) (before held : List (Option Tree
       → IsErrorOf (UnexpectedExtraData left) new e → DecodesNext ps names before old (Err e) new more
   next_takes_nothing None (k, u, c, a) = took_nothing k u a
   next_takes_nothing (Some x) (k, u, c, f, m, a) = took_nothing k u a
+
+  -- The rules stay.
+  pub placed_rules : (r : Option (Bor (List ℕ))) → DecodesPlaced ps names before old (Ok r) new held → new.rule ≡ old.rule
+  placed_rules None (k, u, c, a) = rule_is old new (a.from 0).stays
+  placed_rules (Some x) (k, u, c, f, m, a) = rule_is old new (a.from 0).stays
 
 -- What the slots of parts hold, of which the first has the number j, by the readings of components.
 abbrev pub AreHeld : ℕ → List Presence → List (Option Tree) → List Tree → Type 0
@@ -271,6 +277,9 @@ module _ (ps : Parts) (names : List (List ℕ)) where
   module _ (old here : State) (last : Option Tag) (twice : Option (Bor (List ℕ))) (held : List (Option Tree)) (k : ReadTo old here last twice held) where
     stays_here : here ≡ record old { rest = here.rest }
     stays_here = came_stays (choice ps) (λ (t : Tree). t) old here k.0 k.1 k.2
+
+    pub read_rules : here.rule ≡ old.rule
+    read_rules = rule_is old here stays_here
 
     unread : {D : Type 0} (tree : D → Tree) → (Ended here.closing here.rest → ⊥) → (e : DecodeError) (new : State) → FailsAtComponent Read k.1 here e new → DecodesSetPartContents ps tree names old (Err e) new
     unread tree n e new f = inl (k.0, k.1, here, (k.2, tagged_order old k.1 last k.3), n, f)

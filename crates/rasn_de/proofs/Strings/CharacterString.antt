@@ -1,5 +1,6 @@
 -- A character string is read exactly where the grammar has one.
 use Rattle.std.proofs.Common.{◌≡◌, ◌≢◌, ℕ, ◌⊎◌, inl, inr, true, false, List, Result, Ok, Err, refl, sym, ap, ◌∙◌, subst}
+use Rattle.std.specs.Prelude.{IfErr}
 use Rattle.std.specs.Cow.{cow_slice_items, IsOwnedSlice, IsOwnedStr}
 use Rattle.std.specs.declared.alloc.Global.{Global}
 use Rattle.std.specs.declared.borrow.CowSlice.{CowSlice}
@@ -31,6 +32,7 @@ use Rattle.rasn_de.proofs.Headers.Ends.{IsEnd-refl}
 use Rattle.rasn_de.proofs.Headers.NextTag.{kind_memory, memory_or}
 use Rattle.rasn_de.proofs.Leaves.Errors.{refuses_fault, same_at, rule_is}
 use Rattle.rasn_de.proofs.Strings.Ends.{octets_there, octets_only, octets_end}
+use Rattle.rasn_de.proofs.Leaves.Rules.{string_rules}
 
 -- What is told of octets is what the kind says of them.
 pub record Fits (kind : Kind) (bounds : Constraints) (Told : StringCheck) : Type 0 where
@@ -116,10 +118,10 @@ lent rule tag l (Owned v) n h = let k = n tt in cc
 -- What a function that reads a string ensures: `reads` follows from the exact clause.
 module _ {kind : Kind} {bounds : Constraints} {Told : StringCheck} (fits : Fits kind bounds Told) {X : Type 0} (see : X → List ℕ) (tag : Tag) (old new : State) (o : AreOctets old.rest) where
   abbrev pub Ensured : Result X DecodeError → Type 0
-  Ensured result = record { reads : Decodes (leaf kind tag bounds) (λ x. numbers (see x)) old result new; exact : DecodesString see Told tag old result new }
+  Ensured result = record { reads : Decodes (leaf kind tag bounds) (λ x. numbers (see x)) old result new; exact : DecodesString see Told tag old result new; rules : IfErr result (λ e. e.codec ≡ old.rule) }
 
   ensured : (result : Result X DecodeError) → DecodesString see Told tag old result new → Ensured result
-  ensured result g = record { reads = string_decodes fits see tag old new result o g; exact = g }
+  ensured result g = record { reads = string_decodes fits see tag old new result o g; exact = g; rules = string_rules see Told tag old new result g }
 
   -- octets that weren't gathered
   pub string_ungathered : (e : DecodeError) → DecodesOctets tag old (Err e) new → Ensured (Err e)
@@ -150,12 +152,12 @@ module _ {kind : Kind} {bounds : Constraints} {Told : StringCheck} (fits : Fits 
 -- What a function that borrows a primitive string ensures.
 module _ {kind : Kind} {bounds : Constraints} {Told : StringCheck} (fits : Fits kind bounds Told) {X : Type 0} (see : X → List ℕ) (borrowed : Codec → Tag → List ℕ → X → Type 0) (tag : Tag) (old new : State) (o : AreOctets old.rest) where
   abbrev pub Borrows : Result X DecodeError → Type 0
-  Borrows result = record { reads : Decodes (leaf kind tag bounds) (λ x. numbers (see x)) old result new; exact : DecodesBorrowed see borrowed Told tag old result new }
+  Borrows result = record { reads : Decodes (leaf kind tag bounds) (λ x. numbers (see x)) old result new; exact : DecodesBorrowed see borrowed Told tag old result new; rules : IfErr result (λ e. e.codec ≡ old.rule) }
 
   borrows : (result : Result X DecodeError) → DecodesBorrowed see borrowed Told tag old result new → Borrows result
-  borrows (Ok v) g = record { reads = string_decodes fits see tag old new (Ok v) o g.0; exact = g }
-  borrows (Err e) (inl g) = record { reads = string_decodes fits see tag old new (Err e) o (inl g); exact = inl g }
-  borrows (Err e) (inr g) = record { reads = string_decodes fits see tag old new (Err e) o (inr (inr g)); exact = inr g }
+  borrows (Ok v) g = record { reads = string_decodes fits see tag old new (Ok v) o g.0; exact = g; rules = tt }
+  borrows (Err e) (inl g) = record { reads = string_decodes fits see tag old new (Err e) o (inl g); exact = inl g; rules = string_rules see Told tag old new (Err e) (inl g) }
+  borrows (Err e) (inr g) = record { reads = string_decodes fits see tag old new (Err e) o (inr (inr g)); exact = inr g; rules = string_rules see Told tag old new (Err e) (inr (inr g)) }
 
   pub borrowed_ungathered : (e : DecodeError) → DecodesOctets tag old (Err e) new → Borrows (Err e)
   borrowed_ungathered e g = borrows (Err e) (ungathered Told tag old new e g)
@@ -170,29 +172,32 @@ module _ {kind : Kind} {bounds : Constraints} {Told : StringCheck} (fits : Fits 
 -- What a function that copies such a string ensures.
 module _ (kind : Kind) (bounds : Constraints) (Told : StringCheck) {X : Type 0} (see : X → List ℕ) (borrowed : Codec → Tag → List ℕ → X → Type 0) (tag : Tag) (old new : State) where
   abbrev pub IsBorrowed : Result X DecodeError → Type 0
-  IsBorrowed result = record { reads : Decodes (leaf kind tag bounds) (λ x. numbers (see x)) old result new; exact : DecodesBorrowed see borrowed Told tag old result new }
+  IsBorrowed result = record { reads : Decodes (leaf kind tag bounds) (λ x. numbers (see x)) old result new; exact : DecodesBorrowed see borrowed Told tag old result new; rules : IfErr result (λ e. e.codec ≡ old.rule) }
 
   module _ {Y : Type 0} (seen : Y → List ℕ) where
     abbrev pub Copies : Result Y DecodeError → Type 0
-    Copies result = record { reads : Decodes (leaf kind tag bounds) (λ y. numbers (seen y)) old result new; exact : DecodesString seen Told tag old result new }
+    Copies result = record { reads : Decodes (leaf kind tag bounds) (λ y. numbers (seen y)) old result new; exact : DecodesString seen Told tag old result new; rules : IfErr result (λ e. e.codec ≡ old.rule) }
 
     pub copy_refused : (e : DecodeError) → IsBorrowed (Err e) → Copies (Err e)
-    copy_refused e g = record { reads = g.reads; exact = elim g.exact [ inl r ↦ inl r | inr r ↦ inr (inr r) ] }
+    copy_refused e g = record { reads = g.reads; exact = elim g.exact [ inl r ↦ inl r | inr r ↦ inr (inr r) ]; rules = g.rules }
 
     module _ (v : X) (g : IsBorrowed (Ok v)) where
       pub copied : (w : Y) → seen w ≡ see v → Copies (Ok w)
       copied w e = record {
         reads = subst (λ l. DecodesExactly (λ rule. Reads rule (leaf kind tag bounds)) old (Got (numbers l) new.rest) new) (sym e) g.reads;
         exact = subst (λ l. StringAt Told old.rule old.depth tag old.rest (Ok (l, new.rest)) × (new ≡ at old new.rest)) (sym e) g.exact.0;
+        rules = tt;
       }
 
       pub not_copied : IsPrimitive old.rule tag old.rest → (e : DecodeError) → IsErrorOf fault_is.OutOfMemory new e → Copies (Err e)
       not_copied p e x =
           let m : IsOutOfMemory e.kind = ap (λ (y : DecodeError). y.kind) x in
           let s : new ≡ at old new.rest = g.exact.0.1 in
+          let c : e.codec ≡ old.rule = ap (λ (y : DecodeError). y.codec) x ∙ rule_is old new s in
           record {
             reads = alloc_failed (λ rule. Reads rule (leaf kind tag bounds)) (λ y. numbers (seen y)) old new e m s g.reads.end;
-            exact = inr (inl (m, ap (λ (y : DecodeError). y.codec) x ∙ rule_is old new s, s, p, (see v, new.rest), g.exact.0.0, refl));
+            exact = inr (inl (m, c, s, p, (see v, new.rest), g.exact.0.0, refl));
+            rules = c;
           }
 
 -- What isn't owned is borrowed from a primitive string.

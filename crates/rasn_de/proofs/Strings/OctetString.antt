@@ -1,5 +1,5 @@
 -- What `decode_octet_string` ensures.
-use Rattle.std.proofs.Common.{◌≤◌, ℕ, inl, inr, length, Result, Ok, Err, refl}
+use Rattle.std.proofs.Common.{◌≡◌, ◌≤◌, ℕ, inl, inr, length, Result, Ok, Err, refl}
 use Rattle.std.specs.Prelude.{IfErr}
 use Rattle.std.specs.Cow.{cow_slice_items}
 use Rattle.std.specs.declared.alloc.Global.{Global}
@@ -19,6 +19,7 @@ use Rattle.rasn_de.specs.Decodes.{Decodes}
 use Rattle.rasn_de.proofs.Leaves.Memory.{primitive_plain}
 use Rattle.rasn_de.proofs.Strings.CharacterString.{string_decodes, ungathered, untold}
 use Rattle.rasn_de.proofs.Strings.Checks.{by_size}
+use Rattle.rasn_de.proofs.Leaves.Rules.{octets_rules}
 
 module _ (tag : Tag) (bounds : Constraints) (old new : State) (o : AreOctets old.rest) where
   abbrev pub Ensured : Result (CowSlice ℕ Global) DecodeError → Type 0
@@ -26,14 +27,15 @@ module _ (tag : Tag) (bounds : Constraints) (old new : State) (o : AreOctets old
     reads : Decodes (leaf octet_string tag bounds) cow_tree old result new;
     exact : DecodesOctetString tag bounds old result new;
     memory : IsPrimitive old.rule tag old.rest → IfErr result (λ e. IsOutOfMemory e.kind → ⊥);
+    rules : IfErr result (λ e. e.codec ≡ old.rule);
   }
 
   reads : (result : Result (CowSlice ℕ Global) DecodeError) → DecodesString cow_slice_items (BySize bounds.size) tag old result new → Decodes (leaf octet_string tag bounds) cow_tree old result new
   reads result g = string_decodes (by_size bounds) cow_slice_items tag old new result o g
 
   ensured : (e : DecodeError) → DecodesOctetString tag bounds old (Err e) new → Ensured (Err e)
-  ensured e (inl g) = record { reads = reads (Err e) (inl g); exact = inl g; memory = primitive_plain tag bounds old new e (inl g) }
-  ensured e (inr g) = record { reads = reads (Err e) (inr (inr g)); exact = inr g; memory = primitive_plain tag bounds old new e (inr g) }
+  ensured e (inl g) = record { reads = reads (Err e) (inl g); exact = inl g; memory = primitive_plain tag bounds old new e (inl g); rules = octets_rules tag bounds old new e (inl g) }
+  ensured e (inr g) = record { reads = reads (Err e) (inr (inr g)); exact = inr g; memory = primitive_plain tag bounds old new e (inr g); rules = octets_rules tag bounds old new e (inr g) }
 
   -- octets that weren't gathered
   pub octets_ungathered : (e : DecodeError) → DecodesOctets tag old (Err e) new → Ensured (Err e)
@@ -44,7 +46,7 @@ module _ (tag : Tag) (bounds : Constraints) (old new : State) (o : AreOctets old
     pub octets_given : Admits ◌≤◌ bounds.size (length (cow_slice_items s)) → Ensured (Ok s)
     octets_given a =
         let h : DecodesString cow_slice_items (BySize bounds.size) tag old (Ok s) new = ((cow_slice_items s, g.0, (refl, a)), g.1) in
-        record { reads = reads (Ok s) h; exact = (h, g.2); memory = λ p. tt }
+        record { reads = reads (Ok s) h; exact = (h, g.2); memory = λ p. tt; rules = tt }
 
     -- octets whose size isn't
     pub octets_unsized : (f : ParseError) (e : DecodeError) → IsOutOfSize bounds.size (length (cow_slice_items s)) f → IsErrorOf f new e → Ensured (Err e)

@@ -48,24 +48,6 @@ fn writes_octets_alone(rt: HostRuntime) {
     }
 }
 
-// A tag stands round the octets as that of a constructed value (X.690 8.14.2), of indefinite length under CER (9.1, 10.1).
-#[test]
-fn writes_tags_round_octets(rt: HostRuntime) {
-    let alloc = rt.alloc();
-    const TAGGED_NULL: &[u8] = &[0xA1, 0x02, 0x05, 0x00];
-    assert_writes_open(&rt, alloc, Codec::Ber, TAG_1, &[0x05, 0x00], TAGGED_NULL);
-    assert_writes_open(&rt, alloc, Codec::Der, TAG_1, &[0x05, 0x00], TAGGED_NULL);
-    const TAGGED_NULL_IN_CER: &[u8] = &[0xA1, 0x80, 0x05, 0x00, 0x00, 0x00];
-    assert_writes_open(
-        &rt,
-        alloc,
-        Codec::Cer,
-        TAG_1,
-        &[0x05, 0x00],
-        TAGGED_NULL_IN_CER,
-    );
-}
-
 // In a SET octets without a tag can't be put in order (X.690 9.3, 10.3).
 #[test]
 fn refuses_bare_octets_where_tags_are_kept(rt: HostRuntime) {

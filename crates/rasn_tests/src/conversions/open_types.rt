@@ -6,7 +6,7 @@ use crate::writing::{assert_output, assert_written, new_encoder};
 use rasn::open_type::{any_tag, decode_any, encode_any};
 use rasn::prelude::*;
 use rasn::{Codec, der};
-use std::alloc::{AllocError, Global};
+use std::alloc::Global;
 use std::process::Abort;
 
 /// TRUE under BER as DER writes it, and under other octets (X.690 8.2.2, 11.1).

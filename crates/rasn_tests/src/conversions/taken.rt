@@ -3,7 +3,7 @@
 use crate::reading::{assert_ascends, assert_facts, held};
 use crate::writing::made;
 use rasn::prelude::*;
-use std::alloc::{AllocError, Global};
+use std::alloc::Global;
 use std::process::Abort;
 
 /// A vector of these octets.

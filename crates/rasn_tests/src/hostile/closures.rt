@@ -3,14 +3,14 @@ ghost use Rattle.rasn_de.specs.Constructed.{Keeps};
 ghost use Rattle.rasn_enc.specs.View.{LeavesOthers};
 
 use crate::hostile::{TRUE_ALONE, one_boolean};
-use crate::reading::{Row, assert_answer, assert_reads, decoder_of};
+use crate::reading::{assert_answer, decoder_of};
 use crate::types::{NumberAndTruth, Three};
 use crate::writing::{assert_output, assert_written, new_encoder};
 use rasn::ber::de::Decoder;
 use rasn::ber::enc::Encoder;
 use rasn::enc::Encode;
 use rasn::error::{DecodeError, EncodeError};
-use rasn::types::{Class, Codec, Constraints, ContextTag, Identifier, Implicit, SetOf, Tag};
+use rasn::types::{Class, Codec, ContextTag, Identifier, Implicit, Tag};
 use rasn_bench::Both;
 use std::alloc::{AllocError, Global};
 use std::process::Abort;
@@ -103,21 +103,6 @@ fn a_dropped_value_is_gone_on_from(rt: HostRuntime) {
     assert_drops_a_sequence(&rt, alloc, DEFINITE_IN_DEFINITE, TRUE_ALONE, 7);
     const INDEFINITE_IN_INDEFINITE: &[u8] = &[0x30, 0x80, 0x30, 0x80, 0x00, 0x00, 0x00, 0x00];
     assert_drops_a_sequence(&rt, alloc, INDEFINITE_IN_INDEFINITE, TRUE_ALONE, 6);
-}
-
-// An element that is a value and consumes nothing is refused with the number of octets that are left, in a list in a list too. In
-// contents of indefinite length the end-of-contents octets are counted.
-#[test]
-fn refuses_elements_of_nothing(rt: HostRuntime) {
-    const VEC_ROWS: &[Row] = &[(LIST_IN_LIST, Codec::Der, THREE_OCTETS_LEFT, 7)];
-    const SET_OF_ROWS: &[Row] = &[(INDEFINITE_SET_OF, Codec::Cer, SIX_OCTETS_LEFT, 2)];
-    let alloc = rt.alloc();
-    const LIST_IN_LIST: &[u8] = &[0x30, 0x05, 0x30, 0x03, 0x02, 0x01, 0x05];
-    const THREE_OCTETS_LEFT: &str = "UnexpectedExtraData { length: 3 }";
-    assert_reads::<Vec<Vec<Option<bool>>>>(&rt, alloc, VEC_ROWS);
-    const INDEFINITE_SET_OF: &[u8] = &[0x31, 0x80, 0x02, 0x01, 0x05, 0x00, 0x00, 0x01];
-    const SIX_OCTETS_LEFT: &str = "UnexpectedExtraData { length: 6 }";
-    assert_reads::<SetOf<Option<bool>>>(&rt, alloc, SET_OF_ROWS);
 }
 
 /// SET { \[0\], \[1\] }

@@ -2,10 +2,8 @@
 //! what was read inside.
 
 use crate::hostile::one_boolean;
-use crate::reading::{
-    Row, assert_answer, assert_reads, assert_reads_within, assert_row, decoder_of, sized,
-};
-use rasn::types::{Any, BitString, Class, Codec, GeneralizedTime, OctetString, Tag, VisibleString};
+use crate::reading::{Row, assert_answer, assert_row, decoder_of};
+use rasn::types::{Class, Codec, Tag};
 use std::alloc::Global;
 use std::process::Abort;
 
@@ -22,40 +20,11 @@ fn assert_reads_one_boolean(rt: &impl Abort, alloc: Global, rows: &[Row]) {
 const FOUND_INTEGER: &str =
     "CodecSpecific { inner: Ber(MismatchedTag { expected: Tag { class: Universal, value: 1 }, actual: Tag { class: Universal, value: 2 } }) }";
 
-/// What is reported of a NULL where a segment of an OCTET STRING is expected.
-const FOUND_NULL: &str =
-    "CodecSpecific { inner: Ber(MismatchedTag { expected: Tag { class: Universal, value: 4 }, actual: Tag { class: Universal, value: 5 } }) }";
-
-const INDEFINITE_LENGTH: &str = "CodecSpecific { inner: Ber(IndefiniteLengthNotAllowed) }";
-
 const NOT_CONSTRUCTED: &str = "CodecSpecific { inner: Ber(InvalidConstructedIdentifier) }";
 
 const MISSING_END_OF_CONTENTS: &str = "CodecSpecific { inner: Ber(MissingEndOfContents) }";
 
 const END_OF_CONTENTS: &str = "CodecSpecific { inner: Ber(UnexpectedEndOfContents) }";
-
-// Contents that are none of the type's consume the value. An indefinite length, which the type hasn't, consumes the header.
-#[test]
-fn leaves_take_what_was_read(rt: HostRuntime) {
-    const BOOL_ROWS: &[Row] = &[
-        (&[0x01, 0x02, 0x00, 0x00], Codec::Ber, MISMATCHED_LENGTH, 4),
-        (&[0x01, 0x02, 0x00, 0x00], Codec::Der, MISMATCHED_LENGTH, 4),
-        (&[0x21, 0x80, 0x00, 0x00], Codec::Ber, INDEFINITE_LENGTH, 2),
-        (&[0x21, 0x80, 0x00, 0x00], Codec::Cer, INDEFINITE_LENGTH, 2),
-        (&[0x21, 0x80, 0x00, 0x00], Codec::Der, CONSTRUCTED_BIT, 0),
-    ];
-    const VISIBLE_STRING_ROWS: &[Row] = &[(
-        &[0x1A, 0x02, 0x41, 0x80],
-        Codec::Ber,
-        "PermittedAlphabetError { octet: 128, position: 1 }",
-        4,
-    )];
-    let alloc = rt.alloc();
-    const MISMATCHED_LENGTH: &str = "MismatchedLength { expected: 1, actual: 2 }";
-    const CONSTRUCTED_BIT: &str = "CodecSpecific { inner: Der(ConstructedBitMismatch) }";
-    assert_reads::<bool>(&rt, alloc, BOOL_ROWS);
-    assert_reads::<VisibleString>(&rt, alloc, VISIBLE_STRING_ROWS);
-}
 
 // A refusal inside consumes header and contents, of an indefinite length the header alone. Where end-of-contents octets are missing (X.690
 // 8.1.5), it consumes what was read inside too. A SEQUENCE is constructed (8.9.1).
@@ -113,64 +82,6 @@ fn sequences_take_what_was_read(rt: HostRuntime) {
         ),
     ];
     assert_reads_one_boolean(&rt, rt.alloc(), ROWS);
-}
-
-// A fault in a segment (X.690 8.7.3) or inside an open type consumes nothing.
-#[test]
-fn faults_inside_strings_take_nothing(rt: HostRuntime) {
-    const OCTET_STRING_ROWS: &[Row] = &[
-        (
-            &[0x24, 0x05, 0x04, 0x02, 0xA1, 0xB2, 0x05],
-            Codec::Ber,
-            FOUND_NULL,
-            0,
-        ),
-        (
-            &[0x24, 0x05, 0x04, 0x01, 0xA1, 0x00, 0x00],
-            Codec::Ber,
-            "UnexpectedExtraData { length: 2 }",
-            0,
-        ),
-        (
-            &[0x24, 0x80, 0x04, 0x01, 0xA1],
-            Codec::Cer,
-            "Incomplete { needed: Size(2) }",
-            0,
-        ),
-    ];
-    const BIT_STRING_ROWS: &[Row] = &[(
-        &[0x23, 0x80, 0x03, 0x02, 0x08, 0xFF, 0x00, 0x00],
-        Codec::Ber,
-        "InvalidBitString { bits: 8 }",
-        0,
-    )];
-    const ANY_ROWS: &[Row] = &[(
-        &[0x30, 0x80, 0x05, 0x80, 0x00, 0x00],
-        Codec::Ber,
-        INDEFINITE_LENGTH,
-        0,
-    )];
-    let alloc = rt.alloc();
-    assert_reads::<OctetString>(&rt, alloc, OCTET_STRING_ROWS);
-    assert_reads::<BitString>(&rt, alloc, BIT_STRING_ROWS);
-    assert_reads::<Any>(&rt, alloc, ANY_ROWS);
-}
-
-// Once the octets of a string are gathered, a refusal consumes the value.
-#[test]
-fn gathered_strings_are_taken(rt: HostRuntime) {
-    const OCTET_STRING_ROWS: &[Row] = &[(ONE_SEGMENT, Codec::Ber, ONE_NOT_TWO, 7)];
-    const GENERALIZED_TIME_ROWS: &[Row] = &[(
-        &[0x38, 0x05, 0x04, 0x03, 0x32, 0x30, 0x31],
-        Codec::Ber,
-        "CodecSpecific { inner: Ber(InvalidDate { octets: [50, 48, 49] }) }",
-        7,
-    )];
-    let alloc = rt.alloc();
-    const ONE_NOT_TWO: &str = "SizeConstraintNotSatisfied { size: Some(1), expected: Single(2) }";
-    const ONE_SEGMENT: &[u8] = &[0x24, 0x80, 0x04, 0x01, 0xA1, 0x00, 0x00];
-    assert_reads_within::<OctetString>(&rt, alloc, &sized(2), OCTET_STRING_ROWS);
-    assert_reads::<GeneralizedTime>(&rt, alloc, GENERALIZED_TIME_ROWS);
 }
 
 /// Asserts what \[0\] EXPLICIT BOOLEAN OPTIONAL is read as from each row's octets, and how many are consumed.

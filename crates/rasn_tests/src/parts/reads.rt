@@ -1,15 +1,13 @@
 //! Components that are OPTIONAL or DEFAULT (X.690 8.9.3), explicit and implicit tags (8.14) and extension additions are decoded.
 ghost use Rattle.rasn_de.specs.Constructed.{Keeps};
 
-use crate::reading::{
-    Row, assert_answer, assert_facts, assert_reads, assert_reads_default, decoder_of, within,
-};
-use crate::types::{Counted, NumberAndTruth};
+use crate::reading::{Row, assert_answer, assert_facts, assert_reads_default, decoder_of, within};
+use crate::types::NumberAndTruth;
 use rasn_bench::Both;
 use rasn_de::ber::de::Decoder;
-use rasn_de::de::{Decode, Error};
+use rasn_de::de::Error;
 use rasn_types::error::DecodeError;
-use rasn_types::types::{Class, Codec, Constraints, ContextTag, Explicit, Implicit, Tag};
+use rasn_types::types::{Class, Codec, Constraints, Tag};
 use std::alloc::AllocError;
 
 const BOOLEAN_FOR_INTEGER: &str =
@@ -25,35 +23,6 @@ fn context(value: u32) -> Tag {
 /// INTEGER (0..10)
 fn small() -> Constraints {
     within(0, 10)
-}
-
-// There is no value where the contents end or another tag comes, and nothing is consumed. End-of-contents octets end contents under BER
-// and CER (X.690 8.1.5).
-#[test]
-fn leaves_what_is_no_value(rt: HostRuntime) {
-    const END_OF_CONTENTS: &str = "CodecSpecific { inner: Ber(UnexpectedEndOfContents) }";
-    const WIDE_TAG_NUMBER: &str = "CodecSpecific { inner: Ber(UnsupportedTagNumber) }";
-    const ROWS: &[Row] = &[
-        (&[0x00, 0x00], Codec::Ber, "None", 0),
-        (&[0x00, 0x00], Codec::Cer, "None", 0),
-        (&[0x00, 0x00], Codec::Der, END_OF_CONTENTS, 0),
-        (&[0x02, 0x01, 0x05], Codec::Ber, "None", 0),
-        (&[], Codec::Der, "None", 0),
-        (&[0x01, 0x01, 0xFF], Codec::Der, "Some(true)", 3),
-        (
-            &[0x1F, 0x90, 0x80, 0x80, 0x80, 0x00],
-            Codec::Ber,
-            WIDE_TAG_NUMBER,
-            0,
-        ),
-        (
-            &[0x1F, 0x81],
-            Codec::Ber,
-            "Incomplete { needed: Size(1) }",
-            0,
-        ),
-    ];
-    assert_reads::<Option<bool>>(&rt, rt.alloc(), ROWS);
 }
 
 /// Whether a call answers this number, or that there is none.
@@ -155,35 +124,18 @@ fn refuses_another_value_in_a_prefix(rt: HostRuntime) {
     assert!(rt; decoder.decoded_len() == 5);
 }
 
-// A default that is left out and one that is there are one value.
-#[test]
-fn reads_a_default_in_a_sequence(rt: HostRuntime) {
-    const SEVEN: &str = "Counted { number: 7 }";
-    const THREE_OCTETS_LEFT: &str = "UnexpectedExtraData { length: 3 }";
-    const ROWS: &[Row] = &[
-        (&[0x30, 0x00], Codec::Ber, SEVEN, 2),
-        (&[0x30, 0x03, 0x02, 0x01, 0x07], Codec::Ber, SEVEN, 5),
-        (&[0x30, 0x80, 0x00, 0x00], Codec::Ber, SEVEN, 4),
-        (
-            &[0x30, 0x03, 0x01, 0x01, 0xFF],
-            Codec::Ber,
-            THREE_OCTETS_LEFT,
-            5,
-        ),
-    ];
-    assert_reads::<Counted>(&rt, rt.alloc(), ROWS);
-}
-
 // A group of extension additions may be left out.
 #[test]
 fn reads_a_group(rt: HostRuntime) {
-    const GROUP_THEN_SEVEN: &[u8] = &[0x30, 0x03, 0x02, 0x01, 0x05, 0x02, 0x01, 0x07];
+    const GROUP_THEN_SEVEN: &[u8] = &[
+        0x30, 0x06, 0x02, 0x01, 0x05, 0x01, 0x01, 0xFF, 0x02, 0x01, 0x07,
+    ];
     let mut decoder = decoder_of(rt.alloc(), GROUP_THEN_SEVEN, Codec::Der);
-    for text in &["Some(Counted { number: 5 })", "None"] {
-        let answer = decoder.decode_extension_addition_group::<1, 0, Counted>();
+    for text in &["Some(Both { first: 5, second: true })", "None"] {
+        let answer = decoder.decode_extension_addition_group::<2, 0, NumberAndTruth>();
         assert_answer(&rt, rt.alloc(), Codec::Der, answer, text);
     }
-    assert!(rt; decoder.decoded_len() == 5);
+    assert!(rt; decoder.decoded_len() == 8);
 }
 
 /// An addition that is read under \[1\], whatever its constraints.
@@ -292,55 +244,6 @@ fn holds_one_value(rt: HostRuntime) {
     const TWO_OCTETS_LEFT: &str = "UnexpectedExtraData { length: 2 }";
     assert_answer(&rt, rt.alloc(), Codec::Ber, answer, TWO_OCTETS_LEFT);
     assert!(rt; decoder.decoded_len() == 7);
-}
-
-fn implicit(decoder: &mut Decoder<'_>) -> Result<u8, DecodeError> {
-    let value = Implicit::<ContextTag<0>, u8>::decode(decoder)?;
-    Ok(*value)
-}
-
-fn explicit(decoder: &mut Decoder<'_>) -> Result<u8, DecodeError> {
-    let value = Explicit::<ContextTag<0>, u8>::decode(decoder)?;
-    Ok(*value)
-}
-
-// The types are [0] IMPLICIT INTEGER and [0] EXPLICIT INTEGER. DER refuses the latter without the constructed bit (X.690 8.14.2).
-#[test]
-fn reads_under_named_tags(rt: HostRuntime) {
-    const IMPLICIT_AND_TWO_EXPLICIT: &[u8] = &[
-        0x80, 0x01, 0x05, 0x80, 0x03, 0x02, 0x01, 0x05, 0xA0, 0x03, 0x02, 0x01, 0x05,
-    ];
-    for rules in &[Codec::Ber, Codec::Cer] {
-        let mut decoder = decoder_of(rt.alloc(), IMPLICIT_AND_TWO_EXPLICIT, *rules);
-        assert_answer(&rt, rt.alloc(), *rules, implicit(&mut decoder), "5");
-        assert_answer(&rt, rt.alloc(), *rules, explicit(&mut decoder), "5");
-        assert_answer(&rt, rt.alloc(), *rules, explicit(&mut decoder), "5");
-        assert!(rt; decoder.remaining().is_empty());
-    }
-}
-
-#[test]
-fn reads_named_tags_by_der(rt: HostRuntime) {
-    const IMPLICIT_AND_EXPLICIT: &[u8] = &[0x80, 0x01, 0x05, 0xA0, 0x03, 0x02, 0x01, 0x05];
-    let mut decoder = decoder_of(rt.alloc(), IMPLICIT_AND_EXPLICIT, Codec::Der);
-    assert_answer(&rt, rt.alloc(), Codec::Der, implicit(&mut decoder), "5");
-    assert_answer(&rt, rt.alloc(), Codec::Der, explicit(&mut decoder), "5");
-    assert!(rt; decoder.remaining().is_empty());
-}
-
-// An explicit tag is constructed (X.690 8.14.2).
-#[test]
-fn der_refuses_a_primitive_prefix(rt: HostRuntime) {
-    let mut decoder = decoder_of(rt.alloc(), &[0x80, 0x03, 0x02, 0x01, 0x05], Codec::Der);
-    const CONSTRUCTED_BIT: &str = "CodecSpecific { inner: Der(ConstructedBitMismatch) }";
-    assert_answer(
-        &rt,
-        rt.alloc(),
-        Codec::Der,
-        explicit(&mut decoder),
-        CONSTRUCTED_BIT,
-    );
-    assert!(rt; decoder.decoded_len() == 0);
 }
 
 #[test]

@@ -1,8 +1,8 @@
 //! SEQUENCE OF is encoded (X.690 8.10), of definite length but under CER (9.1).
 
 use crate::writing::{
-    INVALID_0_40, assert_output, assert_refuses, assert_writes_made, assert_writes_pieces,
-    assert_written, identifiers_of, made, new_encoder, repeated,
+    INVALID_0_40, assert_output, assert_refuses, assert_written, identifiers_of, made, new_encoder,
+    repeated,
 };
 use rasn_enc::enc::Encode;
 use rasn_types::types::{Bound, Bounded, Class, Codec, Constraints, Identifier, OctetString, Tag};
@@ -39,36 +39,6 @@ pub fn lists(
         lists.push(strings)?;
     }
     Ok(Some(lists))
-}
-
-// A constructed value is of definite length, but under CER (X.690 9.1).
-#[test]
-fn writes_lists(rt: HostRuntime) {
-    let alloc = rt.alloc();
-    const FIVE_SEVEN: &[u8] = &[0x30, 0x06, 0x02, 0x01, 0x05, 0x02, 0x01, 0x07];
-    const FIVE_SEVEN_IN_CER: &[u8] = &[0x30, 0x80, 0x02, 0x01, 0x05, 0x02, 0x01, 0x07, 0x00, 0x00];
-    assert_writes_made(&rt, alloc, Codec::Ber, numbers(alloc, &[5, 7]), FIVE_SEVEN);
-    assert_writes_made(&rt, alloc, Codec::Der, numbers(alloc, &[5, 7]), FIVE_SEVEN);
-    assert_writes_made(
-        &rt,
-        alloc,
-        Codec::Cer,
-        numbers(alloc, &[5, 7]),
-        FIVE_SEVEN_IN_CER,
-    );
-    assert_writes_made(&rt, alloc, Codec::Der, numbers(alloc, &[]), &[0x30, 0x00]);
-    assert!(rt; made(&rt, numbers(alloc, &[])).is_present());
-}
-
-// Each of the headers has a length of more than 255 octets.
-#[test]
-fn writes_lists_of_lists(rt: HostRuntime) {
-    let alloc = rt.alloc();
-    const THREE_HEADERS: &[u8] = &[
-        0x30, 0x82, 0x01, 0x08, 0x30, 0x82, 0x01, 0x04, 0x04, 0x82, 0x01, 0x00,
-    ];
-    let pieces = [(THREE_HEADERS, 0xAB, 256)];
-    assert_writes_pieces(&rt, alloc, Codec::Der, lists(alloc, 0xAB, 256), &pieces);
 }
 
 #[test]

@@ -1,11 +1,12 @@
 //! Components that are OPTIONAL or DEFAULT (X.690 8.9.3, 11.5), explicit and implicit tags (8.14) and extension additions are encoded.
 
 use crate::reading::assert_facts;
-use crate::types::Counted;
+use crate::types::NumberAndTruth;
 use crate::writing::{
     NO_PERCENTAGE, PERCENTAGE, Written, assert_output, assert_refuses, assert_writes,
     assert_written, new_encoder,
 };
+use rasn_bench::Both;
 use rasn_enc::ber::enc::Encoder;
 use rasn_enc::enc::Encode;
 use rasn_types::error::EncodeError;
@@ -76,20 +77,6 @@ fn refused_options_write_nothing(rt: HostRuntime) {
     assert_output(&rt, encoder.output(), &[]);
 }
 
-// The default is 7, and a SEQUENCE of that alone is empty.
-#[test]
-fn leaves_out_defaults_in_a_sequence(rt: HostRuntime) {
-    const ROWS: &[Written<Counted>] = &[
-        (Counted { number: 7 }, Codec::Der, &[0x30, 0x00]),
-        (
-            Counted { number: 5 },
-            Codec::Der,
-            &[0x30, 0x03, 0x02, 0x01, 0x05],
-        ),
-    ];
-    assert_writes::<Counted>(&rt, rt.alloc(), ROWS);
-}
-
 /// Writes a number whose default is 7 by the two calls without constraints.
 fn write_twice(encoder: &mut Encoder, number: u8) -> Result<(), EncodeError> {
     encoder.encode_default(&number, || Ok(7), NO_IDENTIFIER)?;
@@ -131,42 +118,6 @@ fn a_default_may_want_memory(rt: HostRuntime) {
     assert_output(&rt, encoder.output(), &[]);
 }
 
-// An explicit tag stands round the value's own, an implicit one in its place (X.690 8.14).
-#[test]
-fn writes_under_named_tags(rt: HostRuntime) {
-    let alloc = rt.alloc();
-    assert_writes::<Explicit<ContextTag<0>, u8>>(
-        &rt,
-        alloc,
-        &[
-            (
-                Explicit::new(5),
-                Codec::Ber,
-                &[0xA0, 0x03, 0x02, 0x01, 0x05],
-            ),
-            (
-                Explicit::new(5),
-                Codec::Der,
-                &[0xA0, 0x03, 0x02, 0x01, 0x05],
-            ),
-            (
-                Explicit::new(5),
-                Codec::Cer,
-                &[0xA0, 0x80, 0x02, 0x01, 0x05, 0x00, 0x00],
-            ),
-        ],
-    );
-    assert_writes::<Implicit<ContextTag<0>, u8>>(
-        &rt,
-        alloc,
-        &[
-            (Implicit::new(5), Codec::Ber, &[0x80, 0x01, 0x05]),
-            (Implicit::new(5), Codec::Der, &[0x80, 0x01, 0x05]),
-            (Implicit::new(5), Codec::Cer, &[0x80, 0x01, 0x05]),
-        ],
-    );
-}
-
 #[test]
 fn named_tags_keep_presence(rt: HostRuntime) {
     assert_facts(
@@ -176,6 +127,8 @@ fn named_tags_keep_presence(rt: HostRuntime) {
             Implicit::<ContextTag<0>, u8>::new(5).is_present(),
             !Explicit::<ContextTag<0>, Option<u8>>::new(None).is_present(),
             !Implicit::<ContextTag<0>, Option<u8>>::new(None).is_present(),
+            true.is_present(),
+            Vec::<u8>::new(rt.alloc()).is_present(),
         ],
     );
 }
@@ -202,14 +155,22 @@ fn writes_extension_additions(rt: HostRuntime) {
     let one = Tag::new(Class::Context, 1);
     let answer = encoder.encode_extension_addition(one, &Constraints::NONE, 5u8, NO_IDENTIFIER);
     assert_written(&rt, answer);
-    let answer = encoder.encode_extension_addition_group::<1, 0, Counted>(None, NO_IDENTIFIER);
+    let answer = encoder.encode_extension_addition_group::<2, 0, NumberAndTruth>(
+        None,
+        NO_IDENTIFIER,
+    );
     assert_written(&rt, answer);
-    let group = Counted { number: 5 };
-    let answer = encoder.encode_extension_addition_group::<1, 0, Counted>(
+    let group = Both {
+        first: 5,
+        second: true,
+    };
+    let answer = encoder.encode_extension_addition_group::<2, 0, NumberAndTruth>(
         Some(&group),
         NO_IDENTIFIER,
     );
     assert_written(&rt, answer);
-    const FIVE_AND_GROUP: &[u8] = &[0x81, 0x01, 0x05, 0x30, 0x03, 0x02, 0x01, 0x05];
+    const FIVE_AND_GROUP: &[u8] = &[
+        0x81, 0x01, 0x05, 0x30, 0x06, 0x02, 0x01, 0x05, 0x01, 0x01, 0xFF,
+    ];
     assert_output(&rt, encoder.output(), FIVE_AND_GROUP);
 }

@@ -2,10 +2,8 @@
 
 use crate::set::order::{assert_always_out_of_order, assert_in_order};
 use crate::types::Three;
-use crate::whole::encoded;
-use crate::writing::{assert_output, made};
-use rasn_bench::Set3;
-use rasn_types::types::{ApplicationTag, Codec, ContextTag, Explicit, Implicit};
+use crate::writing::made;
+use rasn_types::types::{ApplicationTag, ContextTag, Explicit, Implicit};
 use std::alloc::{AllocError, Global};
 
 /// \[N\] INTEGER (0..255)
@@ -16,25 +14,6 @@ type Inner = Three<At<0>, At<1>, Option<At<2>>>;
 
 /// SET { Inner, \[APPLICATION 0\] INTEGER (0..255), \[3\] EXPLICIT SEQUENCE OF INTEGER }
 type Nested = Three<Inner, Implicit<ApplicationTag<0>, u8>, Explicit<ContextTag<3>, Vec<u8>>>;
-
-// The components stand in the order of their tags (X.690 9.3, 10.3).
-#[test]
-fn writes_sets(rt: HostRuntime) {
-    let alloc = rt.alloc();
-    let set = Set3 {
-        zero: 1,
-        one: 2,
-        two: 3,
-    };
-    const ONE_TWO_THREE: &[u8] = &[
-        0x31, 0x09, 0x80, 0x01, 0x01, 0x81, 0x01, 0x02, 0x82, 0x01, 0x03,
-    ];
-    assert_in_order(&rt, alloc, &set, ONE_TWO_THREE);
-    const ONE_TWO_THREE_IN_CER: &[u8] = &[
-        0x31, 0x80, 0x80, 0x01, 0x01, 0x81, 0x01, 0x02, 0x82, 0x01, 0x03, 0x00, 0x00,
-    ];
-    assert_output(&rt, encoded(alloc, Codec::Cer, &set), ONE_TWO_THREE_IN_CER);
-}
 
 // The tags [2], [1], [0] and the tags [0], [2], [1] are out of order.
 #[test]

@@ -1,7 +1,6 @@
 //! A SET whose parts are a type: components in any order, each once (X.690 8.11, 10.3, 11.5).
 
-use crate::reading::{Row, assert_reads};
-use crate::types::{Levelled, Signal};
+use crate::types::Signal;
 use crate::whole::{Answer, Rewritten, assert_decodes, assert_rewrites};
 use rasn::types::Codec;
 
@@ -78,27 +77,4 @@ fn components_twice_missing_and_unknown_are_refused(rt: HostRuntime) {
         (UNKNOWN, Codec::Der, "NoValidChoice { name: \"Signal\" }"),
     ];
     assert_decodes::<Signal>(&rt, rt.alloc(), ROWS);
-}
-
-// SET { [0] INTEGER DEFAULT 7 }: the default may be present under BER and CER; DER refuses it (X.690 11.5), and consumes header and
-// contents. It is written by no rule.
-#[test]
-fn a_component_equals_its_default(rt: HostRuntime) {
-    const LEVEL_SEVEN: &[u8] = &[0x31, 0x03, 0x80, 0x01, 0x07];
-    const EMPTY: &[u8] = &[0x31, 0x00];
-    const SEVEN: &str =
-        "Levelled { level: Implicit { value: Integer { octets: [7] }, tag: PhantomData<_> } }";
-    const READ: &[Row] = &[
-        (LEVEL_SEVEN, Codec::Ber, SEVEN, 5),
-        (LEVEL_SEVEN, Codec::Cer, SEVEN, 5),
-        (LEVEL_SEVEN, Codec::Der, DEFAULT_PRESENT, 5),
-        (EMPTY, Codec::Der, SEVEN, 2),
-    ];
-    const REWRITTEN: &[Rewritten<'static>] = &[
-        (LEVEL_SEVEN, Codec::Ber, Codec::Ber, EMPTY),
-        (LEVEL_SEVEN, Codec::Ber, Codec::Der, EMPTY),
-    ];
-    let alloc = rt.alloc();
-    assert_reads::<Levelled>(&rt, alloc, READ);
-    assert_rewrites::<Levelled>(&rt, alloc, REWRITTEN);
 }

@@ -1,12 +1,10 @@
 //! SET OF is decoded (X.690 8.12): in any order under BER and CER, in the order of its octets under DER (11.6).
 
-use crate::reading::{Row, assert_facts, assert_reads, assert_reads_within, decoder_of, sized};
+use crate::reading::{assert_facts, decoder_of};
 use crate::set::set_of::strings;
 use rasn_de::de::Decode;
 use rasn_types::types::{Codec, OctetString, SetOf};
 use std::alloc::Global;
-
-const OUT_OF_ORDER: &str = "CodecSpecific { inner: Der(SetOfOutOfOrder) }";
 
 /// The SET OF that all of the octets are read as, if they are.
 fn set_of_of(alloc: Global, octets: &[u8], rules: Codec) -> Option<SetOf<OctetString>> {
@@ -57,90 +55,4 @@ fn reads_sets_of_in_order(rt: HostRuntime) {
             is_set_of(alloc, &[0x31, 0x00], Codec::Der, &[], true),
         ],
     );
-}
-
-const FALLING_SETS_OF: [Row; 4] = [
-    (
-        &[0x31, 0x06, 0x04, 0x01, 0x02, 0x04, 0x01, 0x01],
-        Codec::Der,
-        OUT_OF_ORDER,
-        8,
-    ),
-    // The longer string is the greater one, since its length octet is.
-    (
-        &[0x31, 0x07, 0x04, 0x02, 0x01, 0xFF, 0x04, 0x01, 0x02],
-        Codec::Der,
-        OUT_OF_ORDER,
-        9,
-    ),
-    // A BOOLEAN behind the element out of order isn't looked at; one before it is reported first.
-    (
-        &[
-            0x31, 0x09, 0x04, 0x01, 0x02, 0x04, 0x01, 0x01, 0x01, 0x01, 0xFF,
-        ],
-        Codec::Der,
-        OUT_OF_ORDER,
-        11,
-    ),
-    (
-        &[
-            0x31, 0x09, 0x04, 0x01, 0x02, 0x01, 0x01, 0xFF, 0x04, 0x01, 0x01,
-        ],
-        Codec::Der,
-        "CodecSpecific { inner: Ber(MismatchedTag { expected: Tag { class: Universal, value: 4 }, actual: Tag { class: Universal, value: 1 } }) }",
-        11,
-    ),
-];
-
-// DER refuses the first element whose octets are less than those before it, and consumes header and contents (X.690 11.6).
-#[test]
-fn refuses_sets_of_that_fall(rt: HostRuntime) {
-    assert_reads::<SetOf<OctetString>>(&rt, rt.alloc(), &FALLING_SETS_OF);
-}
-
-const NOT_SETS_OF: [Row; 2] = [
-    (
-        &[0x11, 0x00],
-        Codec::Der,
-        "CodecSpecific { inner: Ber(InvalidConstructedIdentifier) }",
-        2,
-    ),
-    (
-        &[0x31, 0x80, 0x00, 0x00],
-        Codec::Der,
-        "CodecSpecific { inner: Ber(IndefiniteLengthNotAllowed) }",
-        0,
-    ),
-];
-
-// A SET OF is constructed, and of definite length under DER (X.690 8.12.1, 10.1).
-#[test]
-fn refuses_what_is_no_set_of(rt: HostRuntime) {
-    assert_reads::<SetOf<OctetString>>(&rt, rt.alloc(), &NOT_SETS_OF);
-}
-
-const EMPTY_ELEMENT: [Row; 1] = [(
-    &[0x31, 0x03, 0x02, 0x01, 0x05],
-    Codec::Der,
-    "UnexpectedExtraData { length: 3 }",
-    5,
-)];
-
-// An element that consumes nothing is refused with the number of octets that are left.
-#[test]
-fn refuses_elements_of_nothing(rt: HostRuntime) {
-    assert_reads::<SetOf<Option<bool>>>(&rt, rt.alloc(), &EMPTY_ELEMENT);
-}
-
-const ONE_TOO_MANY: [Row; 1] = [(
-    &[0x31, 0x06, 0x04, 0x01, 0x01, 0x04, 0x01, 0x02],
-    Codec::Ber,
-    "SizeConstraintNotSatisfied { size: Some(2), expected: Single(1) }",
-    8,
-)];
-
-// The size counts elements (X.680 51.5).
-#[test]
-fn counts_elements_of_sets_of(rt: HostRuntime) {
-    assert_reads_within::<SetOf<OctetString>>(&rt, rt.alloc(), &sized(1), &ONE_TOO_MANY);
 }

@@ -9,7 +9,6 @@ use crate::writing::{
 use rasn_enc::enc::Encode;
 use rasn_types::types::{Codec, OctetString, SetOf};
 use std::alloc::{AllocError, Global};
-use std::process::Abort;
 
 /// A SET OF OCTET STRING with these elements, in this order.
 pub(super) fn strings(
@@ -21,42 +20,6 @@ pub(super) fn strings(
         strings.insert(OctetString::from_vec(Vec::from_slice(alloc, octets)?))?;
     }
     Ok(Some(strings))
-}
-
-/// Asserts that a SET OF these strings, in this order, is written as these octets.
-fn assert_strings_in_order(rt: &impl Abort, alloc: Global, elements: &[&[u8]], octets: &[u8]) {
-    assert_in_order(rt, alloc, &made(rt, strings(alloc, elements)), octets);
-}
-
-/// Asserts that a SET OF these strings, in this order, is refused by each of the rules.
-fn assert_strings_out_of_order(rt: &impl Abort, alloc: Global, elements: &[&[u8]]) {
-    assert_always_out_of_order(rt, alloc, &made(rt, strings(alloc, elements)));
-}
-
-// The elements are in the order of their octets, and equal ones stand beside each other (X.690 11.6).
-#[test]
-fn writes_sets_of(rt: HostRuntime) {
-    const ELEMENTS: &[&[u8]] = &[&[0x01], &[0x02], &[0x01, 0xFF], &[0x02, 0x01]];
-    const EQUAL_STRINGS: &[&[u8]] = &[&[0x01], &[0x01]];
-    const NO_STRINGS: &[&[u8]] = &[];
-    let alloc = rt.alloc();
-    let octets = [
-        0x31, 0x0E, 0x04, 0x01, 0x01, 0x04, 0x01, 0x02, 0x04, 0x02, 0x01, 0xFF, 0x04, 0x02, 0x02,
-        0x01,
-    ];
-    assert_strings_in_order(&rt, alloc, ELEMENTS, &octets);
-    let octets = [0x31, 0x06, 0x04, 0x01, 0x01, 0x04, 0x01, 0x01];
-    assert_strings_in_order(&rt, alloc, EQUAL_STRINGS, &octets);
-    assert_strings_in_order(&rt, alloc, NO_STRINGS, &[0x31, 0x00]);
-}
-
-#[test]
-fn refuses_sets_of_that_fall(rt: HostRuntime) {
-    const FALLING: &[&[u8]] = &[&[0x02], &[0x01]];
-    const FALLING_LAST: &[&[u8]] = &[&[0x01], &[0x02], &[0x01]];
-    let alloc = rt.alloc();
-    assert_strings_out_of_order(&rt, alloc, FALLING);
-    assert_strings_out_of_order(&rt, alloc, FALLING_LAST);
 }
 
 /// A SET OF OCTET STRING with two strings, each of one octet so many times.

@@ -1,31 +1,10 @@
 //! Under DER a component that equals its default is left out (X.690 11.5).
 
-use crate::reading::{Row, assert_answer, assert_reads, assert_reads_default, decoder_of};
-use crate::types::Counted;
+use crate::reading::{Row, assert_answer, assert_reads_default, decoder_of};
 use rasn_types::types::Codec;
 use std::alloc::AllocError;
 
 const DEFAULT_PRESENT: &str = "CodecSpecific { inner: Der(DefaultValuePresent) }";
-
-// The type is SEQUENCE { INTEGER DEFAULT 7 }. A refusal consumes the header and the contents.
-#[test]
-fn defaults_are_left_out_of_a_sequence(rt: HostRuntime) {
-    const SEVEN: &str = "Counted { number: 7 }";
-    const FIVE: &str = "Counted { number: 5 }";
-    const ROWS: &[Row] = &[
-        (&[0x30, 0x03, 0x02, 0x01, 0x07], Codec::Ber, SEVEN, 5),
-        (&[0x30, 0x03, 0x02, 0x01, 0x07], Codec::Cer, SEVEN, 5),
-        (
-            &[0x30, 0x03, 0x02, 0x01, 0x07],
-            Codec::Der,
-            DEFAULT_PRESENT,
-            5,
-        ),
-        (&[0x30, 0x03, 0x02, 0x01, 0x05], Codec::Der, FIVE, 5),
-        (&[0x30, 0x00], Codec::Der, SEVEN, 2),
-    ];
-    assert_reads::<Counted>(&rt, rt.alloc(), ROWS);
-}
 
 /// Octets, the rules they are read by, what INTEGER DEFAULT 7 is read as, and how many octets are consumed.
 const DEFAULTS: &[Row] = &[

@@ -1,21 +1,13 @@
 //! BIT STRING (X.690 8.6), in segments under CER (9.2).
 
-use crate::reading::{
-    Row, assert_reads, assert_reads_within, assert_row, decoder_of, sized, value,
-};
-use crate::writing::{
-    assert_output, assert_refuses, assert_writes_pieces, assert_written, made, new_encoder,
-    set_bits,
-};
+use crate::reading::{decoder_of, value};
+use crate::writing::{assert_output, assert_refuses, assert_written, made, new_encoder, set_bits};
 use rasn_de::de::Decode;
 use rasn_enc::enc::Encode;
 use rasn_types::error::DecodeError;
 use rasn_types::types::{BitStr, BitString, Bound, Bounded, Codec, Constraints, Identifier, Tag};
 use std::alloc::{AllocError, Global};
 use std::process::Abort;
-
-/// Octets, the rules they are read by, how many bits there are, their octets, and how many octets are consumed.
-type BitsRow = (&'static [u8], Codec, usize, &'static [u8], usize);
 
 fn packed(alloc: Global, bits: &BitString) -> Result<Vec<u8>, AllocError> {
     let mut octets = Vec::new(alloc);
@@ -39,14 +31,6 @@ fn assert_has_bits(
     assert!(rt; has_bits(alloc, &value(rt, answer), len, octets));
 }
 
-fn assert_reads_bits(rt: &impl Abort, alloc: Global, rows: &[BitsRow]) {
-    for (octets, rules, len, found, consumed) in rows {
-        let mut decoder = decoder_of(alloc, octets, *rules);
-        assert_has_bits(rt, alloc, BitString::decode(&mut decoder), *len, found);
-        assert_row(rt, octets, *rules, decoder.decoded_len() == *consumed);
-    }
-}
-
 // The bits of the example of X.690 8.6.4.2 in one piece.
 const BITS_44_IN_ONE_PIECE: &[u8] = &[0x03, 0x07, 0x04, 0x0A, 0x3B, 0x5F, 0x29, 0x1C, 0xD0];
 
@@ -55,25 +39,6 @@ const BITS_44_IN_SEGMENTS: &[u8] = &[
 ];
 
 const BITS_44: &[u8] = &[0x0A, 0x3B, 0x5F, 0x29, 0x1C, 0xD0];
-
-// A segment that isn't the last may have unused bits. Unused bits may be set, but not under DER (X.690 11.2.1).
-#[test]
-fn reads_bits_of_both_forms(rt: HostRuntime) {
-    const ROWS: &[BitsRow] = &[
-        (BITS_44_IN_ONE_PIECE, Codec::Ber, 44, BITS_44, 9),
-        (BITS_44_IN_SEGMENTS, Codec::Ber, 44, BITS_44, 16),
-        (
-            &[0x23, 0x08, 0x03, 0x02, 0x05, 0xE0, 0x03, 0x02, 0x04, 0xA0],
-            Codec::Ber,
-            7,
-            &[0xF4],
-            10,
-        ),
-        (&[0x03, 0x02, 0x05, 0xFF], Codec::Ber, 3, &[0xE0], 4),
-        (&[0x03, 0x02, 0x05, 0xFF], Codec::Cer, 3, &[0xE0], 4),
-    ];
-    assert_reads_bits(&rt, rt.alloc(), ROWS);
-}
 
 fn bits_of(rt: &impl Abort, alloc: Global, octets: &[u8]) -> BitString {
     let mut decoder = decoder_of(alloc, octets, Codec::Ber);
@@ -89,50 +54,6 @@ fn calls_read_bits(rt: HostRuntime) {
     assert!(rt;
         bits_of(&rt, alloc, BITS_44_IN_ONE_PIECE) == bits_of(&rt, alloc, BITS_44_IN_SEGMENTS)
     );
-}
-
-// A fault in a segment consumes nothing; a wrong size consumes the value (X.690 8.6.2).
-#[test]
-fn refuses_bits(rt: HostRuntime) {
-    const READ: &[Row] = &[
-        (&[0x03, 0x00], Codec::Ber, "UnexpectedEmptyInput", 0),
-        (
-            &[0x03, 0x01, 0x01],
-            Codec::Ber,
-            "InvalidBitString { bits: 1 }",
-            0,
-        ),
-        (
-            &[0x03, 0x02, 0x08, 0xFF],
-            Codec::Ber,
-            "InvalidBitString { bits: 8 }",
-            0,
-        ),
-        (&[0x03, 0x00], Codec::Der, "UnexpectedEmptyInput", 0),
-        (
-            &[0x03, 0x01, 0x01],
-            Codec::Der,
-            "InvalidBitString { bits: 1 }",
-            0,
-        ),
-        (
-            &[0x03, 0x02, 0x08, 0xFF],
-            Codec::Der,
-            "InvalidBitString { bits: 8 }",
-            0,
-        ),
-        (
-            &[0x03, 0x02, 0x05, 0xFF],
-            Codec::Der,
-            "CodecSpecific { inner: Der(NonzeroUnusedBits) }",
-            0,
-        ),
-    ];
-    const BOUNDED: &[Row] = &[(&[0x03, 0x02, 0x05, 0xE0], Codec::Der, THREE_NOT_FOUR, 4)];
-    assert_reads::<BitString>(&rt, rt.alloc(), READ);
-    const THREE_NOT_FOUR: &str =
-        "SizeConstraintNotSatisfied { size: Some(3), expected: Single(4) }";
-    assert_reads_within::<BitString>(&rt, rt.alloc(), &sized(4), BOUNDED);
 }
 
 /// Asserts which octets these rules write the bits as.
@@ -167,23 +88,6 @@ fn writes_bits(rt: HostRuntime) {
         assert_writes_bits(&rt, alloc, rules, &ten, &[0x03, 0x03, 0x06, 0xAB, 0x40]);
         assert_writes_bits(&rt, alloc, rules, &none, &[0x03, 0x01, 0x00]);
     }
-}
-
-// More than 999 octets of bits are cut into segments under CER (X.690 9.2).
-#[test]
-fn cuts_bits_under_canonical_rules(rt: HostRuntime) {
-    let alloc = rt.alloc();
-    let whole = [([0x03, 0x82, 0x03, 0xE8, 0x00].as_slice(), 0xFF, 999)];
-    assert_writes_pieces(&rt, alloc, Codec::Cer, set_bits(alloc, 7992), &whole);
-    let cut = [
-        (
-            [0x23, 0x80, 0x03, 0x82, 0x03, 0xE8, 0x00].as_slice(),
-            0xFF,
-            999,
-        ),
-        ([0x03, 0x02, 0x00, 0xFF, 0x00, 0x00].as_slice(), 0, 0),
-    ];
-    assert_writes_pieces(&rt, alloc, Codec::Cer, set_bits(alloc, 8000), &cut);
 }
 
 // There are three bits where there have to be four.

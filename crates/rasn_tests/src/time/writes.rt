@@ -1,6 +1,6 @@
 //! UTCTime (X.690 11.8), GeneralizedTime (11.7) and DATE (8.26) are encoded in their canonical forms.
 
-use crate::writing::{assert_output, assert_writes_made, assert_written, made, new_encoder};
+use crate::writing::{assert_output, assert_written, made, new_encoder};
 use rasn_enc::ber::enc::Encoder;
 use rasn_types::types::{Class, Codec, Date, GeneralizedTime, Identifier, Tag, UtcTime};
 
@@ -33,26 +33,10 @@ fn texts_of_times(rt: HostRuntime) {
     assert_output(&rt, text, b"20180613");
 }
 
-// UTCTime and GeneralizedTime are written in their canonical forms (X.690 11.7, 11.8), and DATE as its digits (8.26).
-#[test]
-fn writes_times(rt: HostRuntime) {
-    const CER: Codec = Codec::Cer;
-    let alloc = rt.alloc();
-    assert_writes_made(&rt, alloc, CER, Ok(eleven()), b"\x17\x0D180613110000Z");
-    let east = Ok(eleven_at(60));
-    assert_writes_made(&rt, alloc, CER, east, b"\x18\x0F20180613110000Z");
-    let day = Ok(Date::new(2012, 12, 21));
-    assert_writes_made(&rt, alloc, CER, day, b"\x1F\x1F\x0820121221");
-    let far = Ok(Date::new(10000, 1, 1));
-    assert_writes_made(&rt, alloc, CER, far, b"\x1F\x1F\x0A+100000101");
-}
-
 // A fraction has no zeros at its end (X.690 11.7.3), and a leap second is second 60.
 #[test]
 fn writes_fractions(rt: HostRuntime) {
-    const OCTETS: &[u8] = b"\x18\x1120161231235960.5Z";
     let alloc = rt.alloc();
-    assert_writes_made(&rt, alloc, Codec::Cer, Ok(leap()), OCTETS);
     let mut encoder = new_encoder(&rt, alloc, Codec::Der);
     let tag = Tag::new(Class::Context, 3);
     let time = made(&rt, Ok(leap()));

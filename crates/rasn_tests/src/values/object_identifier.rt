@@ -1,9 +1,8 @@
 //! OBJECT IDENTIFIER (X.690 8.19) and its arcs (X.660 7.6).
 
-use crate::reading::{Row, assert_answer, assert_facts, assert_reads, decoder_of};
+use crate::reading::{assert_answer, assert_facts, decoder_of};
 use crate::writing::{
-    assert_output, assert_refuses, assert_writes_made, assert_written, identifier_of, made,
-    new_encoder,
+    assert_output, assert_refuses, assert_written, identifier_of, made, new_encoder,
 };
 use rasn_enc::ber::enc::object_identifier_as_bytes;
 use rasn_types::types::{Codec, Identifier, ObjectIdentifier, Tag};
@@ -32,57 +31,6 @@ fn keeps_arcs(rt: HostRuntime) {
             one == other,
         ],
     );
-}
-
-// Contents that are empty or end within an arc lack one octet, an arc of 2^32 is too wide, and under DER an arc has no leading 80
-// (X.690 8.19). The value is consumed.
-#[test]
-fn reads_object_identifiers(rt: HostRuntime) {
-    const ROWS: &[Row] = &[
-        (
-            &[0x06, 0x03, 0x2A, 0x80, 0x01],
-            Codec::Ber,
-            "ObjectIdentifier { arcs: [1, 2, 1] }",
-            5,
-        ),
-        (
-            &[0x06, 0x03, 0x2A, 0x80, 0x01],
-            Codec::Der,
-            "CodecSpecific { inner: Der(NonMinimalArc) }",
-            5,
-        ),
-        (
-            &[0x06, 0x03, 0x88, 0x37, 0x01],
-            Codec::Der,
-            "ObjectIdentifier { arcs: [2, 999, 1] }",
-            5,
-        ),
-        (
-            &[0x06, 0x05, 0x8F, 0xFF, 0xFF, 0xFF, 0x7F],
-            Codec::Der,
-            "ObjectIdentifier { arcs: [2, 4294967215] }",
-            7,
-        ),
-        (
-            &[0x06, 0x00],
-            Codec::Ber,
-            "Incomplete { needed: Size(1) }",
-            2,
-        ),
-        (
-            &[0x06, 0x01, 0x88],
-            Codec::Ber,
-            "Incomplete { needed: Size(1) }",
-            3,
-        ),
-        (
-            &[0x06, 0x06, 0x2A, 0x90, 0x80, 0x80, 0x80, 0x00],
-            Codec::Ber,
-            "CodecSpecific { inner: Ber(UnsupportedObjectIdentifierArc) }",
-            8,
-        ),
-    ];
-    assert_reads::<ObjectIdentifier>(&rt, rt.alloc(), ROWS);
 }
 
 #[test]
@@ -122,17 +70,6 @@ fn writes_object_identifiers(rt: HostRuntime) {
         0x06, 0x03, 0x88, 0x37, 0x01, 0x06, 0x05, 0x8F, 0xFF, 0xFF, 0xFF, 0x7F,
     ];
     assert_output(&rt, encoder.output(), TWO_IDENTIFIERS);
-}
-
-// The arcs are {1 3 6 1 4 1 311 21 20} (X.690 8.19).
-#[test]
-fn writes_object_identifiers_as_values(rt: HostRuntime) {
-    let alloc = rt.alloc();
-    let microsoft = identifier_of(alloc, &[1, 3, 6, 1, 4, 1, 311, 21, 20]);
-    const MICROSOFT: &[u8] = &[
-        0x06, 0x09, 0x2B, 0x06, 0x01, 0x04, 0x01, 0x82, 0x37, 0x15, 0x14,
-    ];
-    assert_writes_made(&rt, alloc, Codec::Der, microsoft, MICROSOFT);
 }
 
 /// Asserts what appending the arcs' octets behind 2A answers, and which octets stand there then.

@@ -15,7 +15,7 @@ returns-in-Ok-clause-normal g c =
     let read = was_ok _ _ c.decode.result c.in_ok-value.value c.in_ok-value.ensures.cases c.in_ok-value.ensures.variant in
     let wrote = was_ok _ _ c.encode.result c.in_ok-octets.octets c.in_ok-octets.ensures.cases c.in_ok-octets.ensures.variant in
     normal (g.T.AsnType.tree c.in_ok-value.value) (g.T.AsnType.tree c.in-Ok.again)
-    (subst (AnsweredAlone c.args.rule g.T.AsnType.shape g.T.AsnType.tree c.args.input.now) read c.decode.ensures)
+    (subst (AnsweredAlone c.args.rule g.T.AsnType.shape g.T.AsnType.tree c.args.input.now) read c.decode.ensures.exact)
     (subst (λ r. IfOk r (λ octets. Bytes Der g.T.AsnType.shape (g.T.AsnType.tree c.in_ok-value.value) octets.items)) wrote c.encode.ensures.ok)
     c.deref.ensures.value c.in-Ok.ensures.exact c.means_same.ensures c.if-means_same.true
 
@@ -23,7 +23,7 @@ pub returns-clause-fails : goal.returns-clause-fails
 returns-clause-fails g c =
     let read = was_ok _ _ c.decode.result c.in_ok-value.value c.in_ok-value.ensures.cases c.in_ok-value.ensures.variant in
     let wrote = was_ok _ _ c.encode.result c.in_ok-octets.octets c.in_ok-octets.ensures.cases c.in_ok-octets.ensures.variant in
-    let means = subst (AnsweredAlone c.args.rule g.T.AsnType.shape g.T.AsnType.tree c.args.input.now) read c.decode.ensures in
+    let means = subst (AnsweredAlone c.args.rule g.T.AsnType.shape g.T.AsnType.tree c.args.input.now) read c.decode.ensures.exact in
     let is = subst (λ r. IfOk r (λ octets. Bytes Der g.T.AsnType.shape (g.T.AsnType.tree c.in_ok-value.value) octets.items)) wrote c.encode.ensures.ok in
     elim c.in_default.branch [
       | in_default-via-in-Ok+else-means_same w ↦

@@ -15,5 +15,5 @@ first_tag : (s : State) {rules : Codec} {octets : List ℕ} (r : Result Tag Deco
 first_tag s {rules} {octets} (Ok t) e f h = subst (λ x. NextTag (form x) octets t) e (subst (λ l. NextTag (form s.rule) l t) f h)
 first_tag s {rules} {octets} (Err k) e f h = λ t i. h t (subst (λ x. NextTag (form x) s.rest t) (sym e) (subst (λ l. NextTag (form rules) l t) (sym f) i))
 
-pub returns : goal.returns
-returns c = let made = c.new.ensures in let given = c.of.ensures in let octets = c.as_bytes.ensures in first_tag c.new.result c.peek_tag.result (cc) (cc) c.peek_tag.ensures.next
+pub returns-clause-next : goal.returns-clause-next
+returns-clause-next c = let made = c.new.ensures in let given = c.of.ensures in let octets = c.as_bytes.ensures in first_tag c.new.result c.peek_tag.result (cc) (cc) c.peek_tag.ensures.next

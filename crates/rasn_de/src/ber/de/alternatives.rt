@@ -1,10 +1,10 @@
 //! A CHOICE whose alternatives are a type (X.690 8.13): the first, or one of the others.
-ghost use Rattle.std.specs.Prelude.{◌≡◌, true};
+ghost use Rattle.std.specs.Prelude.{◌≡◌, true, IfErr};
 ghost use Rattle.rasn_types.specs.Framing.{NextTag};
 ghost use Rattle.rasn_types.specs.Tags.{form};
 ghost use Rattle.rasn_types.specs.Shapes.{choice, chosen};
 ghost use Rattle.rasn_de.specs.Decodes.{Decodes};
-ghost use Rattle.rasn_de.specs.AlternativeTypes.{DecodesNumbered};
+ghost use Rattle.rasn_de.specs.AlternativeTypes.{DecodesNumbered, FailsAtAlternative, DecodesAlternative};
 
 use crate::ber::de::Decoder;
 use crate::de::{Decode, Error};
@@ -37,7 +37,9 @@ pub trait DecodeAlternatives: Drop {
     ) -> Result<Self, DecodeError>
         requires next { NextTag (form decoder.old.rule) decoder.old.rest tag }
         requires differ { tags_differ ≡ true }
-        ensures { DecodesNumbered parts number inner decoder.old result decoder.new };
+        ensures reads { DecodesNumbered parts number inner decoder.old result decoder.new }
+        ensures fails { IfErr result (λ e. FailsAtAlternative parts name.now tag decoder.old e decoder.new) }
+        ensures rules { IfErr result (λ e. e.codec ≡ decoder.old.rule) };
 }
 
 impl<A: Decode> DecodeAlternatives for Last<A> {
@@ -103,7 +105,9 @@ impl<'input> Decoder<'input> {
     /// Faults of the next identifier, which take nothing; what the alternative refuses; `NoValidChoice`, which takes nothing.
     pub fn read_choice<P: DecodeAlternatives>(&mut self, name: &str) -> Result<P, DecodeError>
         requires { P.tags_differ ≡ true }
-        ensures { Decodes (choice P.parts) (λ v. chosen (P.number v) (P.inner v)) self.old result self.new }
+        ensures exact { DecodesAlternative P.parts (λ v. chosen (P.number v) (P.inner v)) name.now self.old result self.new }
+        ensures reads { Decodes (choice P.parts) (λ v. chosen (P.number v) (P.inner v)) self.old result self.new }
+        ensures rules { IfErr result (λ e. e.codec ≡ self.old.rule) }
     {
         let tag = self.peek_tag()?;
         P::decode_alternative(self, tag, name)

@@ -1,5 +1,5 @@
 //! Open types, and values that are passed over.
-ghost use Rattle.std.specs.Prelude.{◌+◌, ◌*◌, ◌≤◌, length, IfOk, IfErr};
+ghost use Rattle.std.specs.Prelude.{◌+◌, ◌*◌, ◌≤◌, length, IfOk, IfErr, ◌≡◌};
 ghost use Rattle.rasn_types.specs.Errors.{IsOutOfMemory};
 ghost use Rattle.rasn_types.specs.Shapes.{any, looked_for, numbers};
 ghost use Rattle.rasn_de.specs.Decodes.{Decodes};
@@ -22,6 +22,7 @@ impl<'input> Decoder<'input> {
     pub fn decode_any(&mut self, tag: Tag) -> Result<Any, DecodeError>
         ensures reads { Decodes (any (looked_for tag)) numbers self.old result self.new }
         ensures exact { DecodesOpenType tag self.old result self.new }
+        ensures rules { IfErr result (λ e. e.codec ≡ self.old.rule) }
     {
         match read_open(self.rules, tag, self.rest) {
             Ok((octets, rest)) => match octets.to_vec(self.alloc) {
@@ -44,6 +45,7 @@ impl<'input> Decoder<'input> {
         ensures reads { Decodes (any (looked_for tag)) (λ o. numbers o.now) self.old result self.new }
         ensures exact { BorrowsOpenType tag self.old result self.new }
         ensures memory { IfErr result (λ e. IsOutOfMemory e.kind → ⊥) }
+        ensures rules { IfErr result (λ e. e.codec ≡ self.old.rule) }
     {
         match read_open(self.rules, tag, self.rest) {
             Ok((octets, rest)) => {

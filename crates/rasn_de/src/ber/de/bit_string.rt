@@ -1,4 +1,5 @@
 //! BIT STRING (X.690 8.6).
+ghost use Rattle.std.specs.Prelude.{◌≡◌, IfErr};
 ghost use Rattle.rasn_types.specs.Framing.{AreOctets};
 ghost use Rattle.rasn_types.specs.Shapes.{leaf, bit_string};
 ghost use Rattle.rasn_de.specs.BitString.{bits_tree, DecodesBits, DecodesBitString};
@@ -65,6 +66,7 @@ impl<'input> Decoder<'input> {
     ) -> Result<BitString, DecodeError>
         ensures reads { Decodes (leaf bit_string tag constraints.now) bits_tree self.old result self.new }
         ensures exact { DecodesBitString tag constraints.now self.old result self.new }
+        ensures rules { IfErr result (λ e. e.codec ≡ self.old.rule) }
     {
         let gathered = self.bits(tag)?;
         let Some(bits) = gathered.into_string() else {

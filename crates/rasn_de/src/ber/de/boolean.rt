@@ -1,5 +1,5 @@
 //! BOOLEAN (X.690 8.2, 11.1).
-ghost use Rattle.std.specs.Prelude.{IfErr};
+ghost use Rattle.std.specs.Prelude.{IfErr, ◌≡◌};
 ghost use Rattle.rasn_types.specs.Shapes.{leaf, boolean};
 ghost use Rattle.rasn_types.specs.Trees.{bool_tree, unconstrained};
 ghost use Rattle.rasn_de.specs.Decodes.{Decodes};
@@ -41,6 +41,7 @@ impl<'input> Decoder<'input> {
         ensures reads { Decodes (leaf boolean tag unconstrained) bool_tree self.old result self.new }
         ensures exact { DecodesLeaf (λ b. b) (BoolAt self.old.rule tag self.old.rest) self.old result self.new }
         ensures memory { IfErr result (λ e. IsOutOfMemory e.kind → ⊥) }
+        ensures rules { IfErr result (λ e. e.codec ≡ self.old.rule) }
     {
         let rules = self.codec();
         let contents = self.contents(tag)?;

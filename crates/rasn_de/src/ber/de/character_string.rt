@@ -1,5 +1,5 @@
 //! Character strings (X.690 8.23).
-ghost use Rattle.std.specs.Prelude.{chars};
+ghost use Rattle.std.specs.Prelude.{chars, ◌≡◌, IfErr};
 ghost use Rattle.std.specs.Cow.{cow_str_bytes};
 ghost use Rattle.std.specs.String.{string_bytes};
 ghost use Rattle.rasn_types.specs.declared.types.strings.alphabet.Alphabet.TheVariants.{Numeric, Printable, Visible, Ia5, Every};
@@ -96,6 +96,7 @@ impl<'input> Decoder<'input> {
     ) -> Result<VisibleString, DecodeError>
         ensures reads { Decodes (leaf visible tag constraints.now) numbers self.old result self.new }
         ensures exact { DecodesString (λ s. s) (ByAlphabet Visible constraints.now.size) tag self.old result self.new }
+        ensures rules { IfErr result (λ e. e.codec ≡ self.old.rule) }
     {
         self.restricted::<VisibleType>(tag, constraints)
     }
@@ -112,6 +113,7 @@ impl<'input> Decoder<'input> {
     ) -> Result<Ia5String, DecodeError>
         ensures reads { Decodes (leaf ia5 tag constraints.now) numbers self.old result self.new }
         ensures exact { DecodesString (λ s. s) (ByAlphabet Ia5 constraints.now.size) tag self.old result self.new }
+        ensures rules { IfErr result (λ e. e.codec ≡ self.old.rule) }
     {
         self.restricted::<Ia5Type>(tag, constraints)
     }
@@ -128,6 +130,7 @@ impl<'input> Decoder<'input> {
     ) -> Result<PrintableString, DecodeError>
         ensures reads { Decodes (leaf printable tag constraints.now) numbers self.old result self.new }
         ensures exact { DecodesString (λ s. s) (ByAlphabet Printable constraints.now.size) tag self.old result self.new }
+        ensures rules { IfErr result (λ e. e.codec ≡ self.old.rule) }
     {
         self.restricted::<PrintableType>(tag, constraints)
     }
@@ -144,6 +147,7 @@ impl<'input> Decoder<'input> {
     ) -> Result<NumericString, DecodeError>
         ensures reads { Decodes (leaf numeric tag constraints.now) numbers self.old result self.new }
         ensures exact { DecodesString (λ s. s) (ByAlphabet Numeric constraints.now.size) tag self.old result self.new }
+        ensures rules { IfErr result (λ e. e.codec ≡ self.old.rule) }
     {
         self.restricted::<NumericType>(tag, constraints)
     }
@@ -159,6 +163,7 @@ impl<'input> Decoder<'input> {
     ) -> Result<TeletexString, DecodeError>
         ensures reads { Decodes (leaf any_octets tag constraints.now) numbers self.old result self.new }
         ensures exact { DecodesString (λ s. s) (ByAlphabet Every constraints.now.size) tag self.old result self.new }
+        ensures rules { IfErr result (λ e. e.codec ≡ self.old.rule) }
     {
         self.restricted::<TeletexType>(tag, constraints)
     }
@@ -174,6 +179,7 @@ impl<'input> Decoder<'input> {
     ) -> Result<GeneralString, DecodeError>
         ensures reads { Decodes (leaf any_octets tag constraints.now) numbers self.old result self.new }
         ensures exact { DecodesString (λ s. s) (ByAlphabet Every constraints.now.size) tag self.old result self.new }
+        ensures rules { IfErr result (λ e. e.codec ≡ self.old.rule) }
     {
         self.restricted::<GeneralType>(tag, constraints)
     }
@@ -189,6 +195,7 @@ impl<'input> Decoder<'input> {
     ) -> Result<GraphicString, DecodeError>
         ensures reads { Decodes (leaf any_octets tag constraints.now) numbers self.old result self.new }
         ensures exact { DecodesString (λ s. s) (ByAlphabet Every constraints.now.size) tag self.old result self.new }
+        ensures rules { IfErr result (λ e. e.codec ≡ self.old.rule) }
     {
         self.restricted::<GraphicType>(tag, constraints)
     }
@@ -205,6 +212,7 @@ impl<'input> Decoder<'input> {
     ) -> Result<BmpString, DecodeError>
         ensures reads { Decodes (leaf bmp tag constraints.now) (λ s. numbers (units_of s)) self.old result self.new }
         ensures exact { DecodesString units_of (ByUnits constraints.now.size) tag self.old result self.new }
+        ensures rules { IfErr result (λ e. e.codec ≡ self.old.rule) }
     {
         let octets = self.octets(tag)?;
         if let Err(fault) = check_units(constraints, octets.as_slice()) {
@@ -229,6 +237,7 @@ impl<'input> Decoder<'input> {
     ) -> Result<String, DecodeError>
         ensures reads { Decodes (leaf utf8 tag constraints.now) (λ s. numbers (chars (string_bytes s))) self.old result self.new }
         ensures exact { DecodesString (λ s. chars (string_bytes s)) (ByUtf8 constraints.now.size) tag self.old result self.new }
+        ensures rules { IfErr result (λ e. e.codec ≡ self.old.rule) }
     {
         let text = self.decode_utf8_text(tag, constraints)?;
         match text.into_owned(self.alloc()) {
@@ -249,6 +258,7 @@ impl<'input> Decoder<'input> {
     ) -> Result<CowStr<'input>, DecodeError>
         ensures reads { Decodes (leaf utf8 tag constraints.now) (λ s. numbers (chars (cow_str_bytes s))) self.old result self.new }
         ensures exact { DecodesText tag constraints.now self.old result self.new }
+        ensures rules { IfErr result (λ e. e.codec ≡ self.old.rule) }
     {
         let octets = self.octets(tag)?;
         let text = match text_of(octets) {
@@ -276,6 +286,7 @@ impl<'input> Decoder<'input> {
     ) -> Result<CowSlice<'input, u8>, DecodeError>
         ensures reads { Decodes (leaf (string_kind alphabet) tag constraints.now) cow_tree self.old result self.new }
         ensures exact { DecodesRestricted alphabet tag constraints.now self.old result self.new }
+        ensures rules { IfErr result (λ e. e.codec ≡ self.old.rule) }
     {
         let octets = self.octets(tag)?;
         match check_alphabet(alphabet, constraints, octets.as_slice()) {
@@ -293,6 +304,7 @@ impl<'input> Decoder<'input> {
     ) -> Result<RestrictedString<S>, DecodeError>
         ensures reads { Decodes (leaf (string_kind S.ALPHABET) tag constraints.now) numbers self.old result self.new }
         ensures exact { DecodesString (λ s. s) (ByAlphabet S.ALPHABET constraints.now.size) tag self.old result self.new }
+        ensures rules { IfErr result (λ e. e.codec ≡ self.old.rule) }
     {
         let octets = self.decode_restricted_string(S::ALPHABET, tag, constraints)?;
         match owned(self.alloc(), octets) {

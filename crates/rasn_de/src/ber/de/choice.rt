@@ -1,4 +1,5 @@
 //! CHOICE (X.690 8.13).
+ghost use Rattle.std.specs.Prelude.{◌≡◌, IfErr};
 ghost use Rattle.rasn_de.specs.Decodes.{Decodes};
 ghost use Rattle.rasn_de.specs.Choice.{DecodesChosen};
 
@@ -18,6 +19,7 @@ impl<'input> Decoder<'input> {
     ) -> Result<D, DecodeError>
         ensures exact { DecodesChosen (Decodes D.shape D.tree) self.old result self.new }
         ensures reads { Decodes D.shape D.tree self.old result self.new }
+        ensures rules { IfErr result (λ e. e.codec ≡ self.old.rule) }
     {
         let tag = self.peek_tag()?;
         D::from_tag(self, tag)

@@ -1,4 +1,5 @@
 //! Values that have a default where they are left out (X.680 25.8).
+ghost use Rattle.std.specs.Prelude.{◌≡◌, IfErr};
 ghost use Rattle.rasn_types.specs.Shapes.{prefix};
 ghost use Rattle.rasn_de.specs.Decodes.{Decodes};
 ghost use Rattle.rasn_de.specs.Optional.{MakesValue, DecodesOrDefault, DecodesOrDefaultAs, DecodesDefault, DecodesDefaultAs};
@@ -25,6 +26,7 @@ impl<'input> Decoder<'input> {
         requires { F.IsAlwaysCallable default }
         ensures exact { DecodesOrDefault (Decodes D.shape D.tree) D.tree (F.post default) D.TAG self.old result self.new }
         ensures reads { DecodesDefault D.TAG D.shape D.tree (F.post default) self.old result self.new }
+        ensures rules { IfErr result (λ e. e.codec ≡ self.old.rule) }
     {
         self.decode_default_with_tag_and_constraints(D::TAG, default, &D::CONSTRAINTS)
     }
@@ -41,6 +43,7 @@ impl<'input> Decoder<'input> {
         requires { F.IsAlwaysCallable default }
         ensures exact { DecodesOrDefaultAs tag D.CONSTRAINTS D.shape D.tree (F.post default) self.old result self.new }
         ensures reads { DecodesDefaultAs tag D.CONSTRAINTS D.shape D.tree (F.post default) self.old result self.new }
+        ensures rules { IfErr result (λ e. e.codec ≡ self.old.rule) }
     {
         self.decode_default_with_tag_and_constraints(tag, default, &D::CONSTRAINTS)
     }
@@ -56,6 +59,7 @@ impl<'input> Decoder<'input> {
         requires { F.IsAlwaysCallable default }
         ensures exact { DecodesOrDefaultAs D.TAG constraints.now D.shape D.tree (F.post default) self.old result self.new }
         ensures reads { DecodesDefaultAs D.TAG constraints.now D.shape D.tree (F.post default) self.old result self.new }
+        ensures rules { IfErr result (λ e. e.codec ≡ self.old.rule) }
     {
         self.decode_default_with_tag_and_constraints(D::TAG, default, constraints)
     }
@@ -71,6 +75,7 @@ impl<'input> Decoder<'input> {
         requires { F.IsAlwaysCallable default }
         ensures exact { DecodesOrDefaultAs tag constraints.now D.shape D.tree (F.post default) self.old result self.new }
         ensures reads { DecodesDefaultAs tag constraints.now D.shape D.tree (F.post default) self.old result self.new }
+        ensures rules { IfErr result (λ e. e.codec ≡ self.old.rule) }
     {
         if !self.next_tag_is(tag)? {
             return self.default_value(default);
@@ -97,7 +102,9 @@ impl<'input> Decoder<'input> {
     >(&mut self, tag: Tag, default: F) -> Result<D, DecodeError>
         requires { F.IsAlwaysCallable default }
         ensures exact { DecodesOrDefault (DecodesPrefixBy D.shape D.tree tag) D.tree (F.post default) tag self.old result self.new }
+        ensures shaped { DecodesOrDefault (Decodes (prefix tag D.shape) D.tree) D.tree (F.post default) tag self.old result self.new }
         ensures reads { DecodesDefault tag (prefix tag D.shape) D.tree (F.post default) self.old result self.new }
+        ensures rules { IfErr result (λ e. e.codec ≡ self.old.rule) }
     {
         if !self.next_tag_is(tag)? {
             return self.default_value(default);

@@ -1,5 +1,5 @@
 //! ENUMERATED (X.690 8.4).
-ghost use Rattle.std.specs.Prelude.{Err, IfErr};
+ghost use Rattle.std.specs.Prelude.{Err, IfErr, ◌≡◌};
 ghost use Rattle.rasn_types.specs.Errors.{IsOutOfMemory};
 ghost use Rattle.rasn_types.specs.Shapes.{leaf, enumerated, number};
 ghost use Rattle.rasn_types.specs.Trees.{unconstrained};
@@ -22,6 +22,7 @@ impl<'input> Decoder<'input> {
         ensures reads { Decodes (leaf (enumerated E.known) tag unconstrained) (λ v. number (E.number v)) self.old result self.new }
         ensures exact { DecodesLeaf E.number (EnumeratedAt E.known self.old.rule tag self.old.rest) self.old result self.new }
         ensures memory { IfErr result (λ e. IsOutOfMemory e.kind → ⊥) }
+        ensures rules { IfErr result (λ e. e.codec ≡ self.old.rule) }
     {
         let discriminant = self.decode_integer::<isize>(tag, &Constraints::NONE)?;
         match E::from_discriminant(discriminant) {

@@ -1,4 +1,5 @@
 //! OCTET STRING of a fixed size (X.690 8.7).
+ghost use Rattle.std.specs.Prelude.{◌≡◌, IfErr};
 ghost use Rattle.rasn_types.specs.Shapes.{leaf, numbers, fixed};
 ghost use Rattle.rasn_de.specs.Decodes.{Decodes};
 ghost use Rattle.rasn_de.specs.CharacterString.{ByLength, DecodesString};
@@ -21,6 +22,7 @@ impl<'input> Decoder<'input> {
     ) -> Result<FixedOctetString<N>, DecodeError>
         ensures reads { Decodes (leaf (fixed N) tag constraints.now) numbers self.old result self.new }
         ensures exact { DecodesString (λ s. s) (ByLength N constraints.now.size) tag self.old result self.new }
+        ensures rules { IfErr result (λ e. e.codec ≡ self.old.rule) }
     {
         let octets = self.octets(tag)?;
         let Ok(array) = <[u8; N]>::try_from(octets.as_slice()) else {
@@ -45,6 +47,7 @@ impl<const N: usize> Decode for FixedOctetString<N> {
     ) -> Result<FixedOctetString<N>, DecodeError>
         ensures reads { Decodes (leaf (fixed N) tag constraints.now) numbers decoder.old result decoder.new }
         ensures exact { DecodesString (λ s. s) (ByLength N constraints.now.size) tag decoder.old result decoder.new }
+        ensures rules { IfErr result (λ e. e.codec ≡ decoder.old.rule) }
     {
         decoder.decode_fixed_octet_string(tag, constraints)
     }

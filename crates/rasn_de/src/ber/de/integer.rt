@@ -1,5 +1,5 @@
 //! INTEGER (X.690 8.3).
-ghost use Rattle.std.specs.Prelude.{◌≡◌};
+ghost use Rattle.std.specs.Prelude.{◌≡◌, IfErr};
 ghost use Rattle.rasn_types.specs.Shapes.{leaf, integer, number};
 ghost use Rattle.rasn_types.specs.Contents.{signed};
 ghost use Rattle.rasn_de.specs.Causes.{HasCause, out_of_bound};
@@ -41,6 +41,7 @@ impl<'input> Decoder<'input> {
         ensures reads { Decodes (leaf (integer I.range) tag constraints.now) (λ v. number (I.number v)) self.old result self.new }
         ensures exact { DecodesNumber I.number I.grows I.WIDTH I.range tag constraints.now self.old result self.new }
         ensures memory { AllocMayFail I.grows I.WIDTH I.range tag constraints.now self.old result self.new }
+        ensures rules { IfErr result (λ e. e.codec ≡ self.old.rule) }
     {
         let rules = self.codec();
         let contents = self.contents(tag)?;

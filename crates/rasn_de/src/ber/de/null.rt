@@ -1,5 +1,5 @@
 //! NULL (X.690 8.8).
-ghost use Rattle.std.specs.Prelude.{Err, IfErr, pos};
+ghost use Rattle.std.specs.Prelude.{Err, IfErr, pos, ◌≡◌};
 ghost use Rattle.rasn_types.specs.Errors.{IsOutOfMemory};
 ghost use Rattle.rasn_types.specs.Shapes.{leaf, null, number};
 ghost use Rattle.rasn_types.specs.Trees.{unconstrained};
@@ -22,6 +22,7 @@ impl<'input> Decoder<'input> {
         ensures reads { Decodes (leaf null tag unconstrained) (λ _. number (pos 0)) self.old result self.new }
         ensures exact { DecodesLeaf (λ u. u) (NullAt self.old.rule tag self.old.rest) self.old result self.new }
         ensures memory { IfErr result (λ e. IsOutOfMemory e.kind → ⊥) }
+        ensures rules { IfErr result (λ e. e.codec ≡ self.old.rule) }
     {
         let contents = self.contents(tag)?;
         if contents.is_empty() {

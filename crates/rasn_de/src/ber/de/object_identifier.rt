@@ -1,5 +1,5 @@
 //! OBJECT IDENTIFIER (X.690 8.19).
-ghost use Rattle.std.specs.Prelude.{Err};
+ghost use Rattle.std.specs.Prelude.{Err, ◌≡◌, IfErr};
 ghost use Rattle.rasn_types.specs.Shapes.{leaf, object_identifier, numbers};
 ghost use Rattle.rasn_types.specs.Trees.{unconstrained};
 ghost use Rattle.rasn_types.specs.declared.types.codec.Codec.TheVariants.{Ber};
@@ -23,6 +23,7 @@ impl<'input> Decoder<'input> {
     pub fn decode_object_identifier(&mut self, tag: Tag) -> Result<ObjectIdentifier, DecodeError>
         ensures reads { Decodes (leaf object_identifier tag unconstrained) numbers self.old result self.new }
         ensures exact { DecodesObjectIdentifier tag self.old result self.new }
+        ensures rules { IfErr result (λ e. e.codec ≡ self.old.rule) }
     {
         let rules = self.codec();
         let contents = self.contents(tag)?;

@@ -72,6 +72,7 @@ impl<'input> Decoder<'input> {
         ensures reads { Decodes (leaf octet_string tag constraints.now) cow_tree self.old result self.new }
         ensures exact { DecodesOctetString tag constraints.now self.old result self.new }
         ensures memory { IsPrimitive self.old.rule tag self.old.rest → IfErr result (λ e. IsOutOfMemory e.kind → ⊥) }
+        ensures rules { IfErr result (λ e. e.codec ≡ self.old.rule) }
     {
         let octets = self.octets(tag)?;
         match check_size(constraints, octets.len()) {

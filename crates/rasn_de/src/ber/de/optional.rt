@@ -1,4 +1,5 @@
 //! Values that may be left out (X.680 25.5 to 25.8).
+ghost use Rattle.std.specs.Prelude.{◌≡◌, IfErr};
 ghost use Rattle.rasn_types.specs.Shapes.{prefix};
 ghost use Rattle.rasn_de.specs.Decodes.{Decodes};
 ghost use Rattle.rasn_de.specs.Optional.{NextTagIs, DecodesIfPresent, DecodesIfPresentAs, DecodesOption, DecodesOptionAs};
@@ -30,6 +31,7 @@ impl<'input> Decoder<'input> {
     pub fn decode_optional<D: Decode>(&mut self) -> Result<Option<D>, DecodeError>
         ensures exact { DecodesIfPresent (Decodes D.shape D.tree) D.TAG self.old result self.new }
         ensures reads { DecodesOption D.TAG D.shape D.tree self.old result self.new }
+        ensures rules { IfErr result (λ e. e.codec ≡ self.old.rule) }
     {
         self.decode_optional_with_tag_and_constraints(D::TAG, &D::CONSTRAINTS)
     }
@@ -44,6 +46,7 @@ impl<'input> Decoder<'input> {
     ) -> Result<Option<D>, DecodeError>
         ensures exact { DecodesIfPresentAs tag D.CONSTRAINTS D.shape D.tree self.old result self.new }
         ensures reads { DecodesOptionAs tag D.CONSTRAINTS D.shape D.tree self.old result self.new }
+        ensures rules { IfErr result (λ e. e.codec ≡ self.old.rule) }
     {
         self.decode_optional_with_tag_and_constraints(tag, &D::CONSTRAINTS)
     }
@@ -58,6 +61,7 @@ impl<'input> Decoder<'input> {
     ) -> Result<Option<D>, DecodeError>
         ensures exact { DecodesIfPresentAs D.TAG constraints.now D.shape D.tree self.old result self.new }
         ensures reads { DecodesOptionAs D.TAG constraints.now D.shape D.tree self.old result self.new }
+        ensures rules { IfErr result (λ e. e.codec ≡ self.old.rule) }
     {
         self.decode_optional_with_tag_and_constraints(D::TAG, constraints)
     }
@@ -73,6 +77,7 @@ impl<'input> Decoder<'input> {
     ) -> Result<Option<D>, DecodeError>
         ensures exact { DecodesIfPresentAs tag constraints.now D.shape D.tree self.old result self.new }
         ensures reads { DecodesOptionAs tag constraints.now D.shape D.tree self.old result self.new }
+        ensures rules { IfErr result (λ e. e.codec ≡ self.old.rule) }
     {
         if !self.next_tag_is(tag)? {
             return Ok(None);
@@ -91,6 +96,7 @@ impl<'input> Decoder<'input> {
     ) -> Result<Option<D>, DecodeError>
         ensures exact { DecodesIfPresent (DecodesPrefixBy D.shape D.tree tag) tag self.old result self.new }
         ensures reads { DecodesOption tag (prefix tag D.shape) D.tree self.old result self.new }
+        ensures rules { IfErr result (λ e. e.codec ≡ self.old.rule) }
     {
         if !self.next_tag_is(tag)? {
             return Ok(None);

@@ -1,8 +1,8 @@
 //! A SEQUENCE whose parts are a type (X.690 8.9): nested to the right, each with its presence (X.680 25).
-ghost use Rattle.std.specs.Prelude.{◌≡◌, true, IfOk};
+ghost use Rattle.std.specs.Prelude.{◌≡◌, true, IfOk, IfErr};
 ghost use Rattle.rasn_types.specs.Shapes.{seq};
 ghost use Rattle.rasn_de.specs.Decodes.{Decodes, DecodesParts};
-ghost use Rattle.rasn_de.specs.PartTypes.{needs_no_initializer};
+ghost use Rattle.rasn_de.specs.PartTypes.{needs_no_initializer, FailsAtPart, DecodesInParts, DecodesSequenceParts};
 
 use crate::ber::de::Decoder;
 use crate::ber::de::constructed::ConstructedHeader;
@@ -30,7 +30,9 @@ pub trait DecodeParts: Drop {
     /// What a part refuses.
     fn decode_parts(decoder: &mut Decoder<'_>) -> Result<Self, DecodeError>
         requires { tags_agree ≡ true }
-        ensures { DecodesParts parts tree decoder.old result decoder.new };
+        ensures reads { DecodesParts parts tree decoder.old result decoder.new }
+        ensures fails { IfErr result (λ e. FailsAtPart parts decoder.old e decoder.new) }
+        ensures rules { IfErr result (λ e. e.codec ≡ decoder.old.rule) };
 }
 
 /// A part that has to come, and those behind it.
@@ -188,13 +190,17 @@ impl<'input> Decoder<'input> {
     pub fn read_sequence<P: DecodeParts>(&mut self, tag: Tag) -> Result<P, DecodeError>
         requires tags_agree { P.tags_agree ≡ true }
         requires no_initializer { needs_no_initializer P.parts ≡ true }
-        ensures { Decodes (seq tag P.parts) P.tree self.old result self.new }
+        ensures exact { DecodesSequenceParts P.parts P.tree tag self.old result self.new }
+        ensures reads { Decodes (seq tag P.parts) P.tree self.old result self.new }
+        ensures rules { IfErr result (λ e. e.codec ≡ self.old.rule) }
     {
         self.inside(
             ConstructedHeader::sequence(tag),
             |inner| -> Result<P, DecodeError>
                 requires { P.tags_agree ≡ true }
-                ensures { DecodesParts P.parts P.tree inner.old result inner.new }
+                ensures exact { DecodesInParts P.parts P.tree inner.old result inner.new }
+                ensures reads { DecodesParts P.parts P.tree inner.old result inner.new }
+                ensures rules { IfErr result (λ e. e.codec ≡ inner.old.rule) }
             { P::decode_parts(inner) },
         )
     }

@@ -1,4 +1,5 @@
 //! Explicit prefixes (X.690 8.14.2).
+ghost use Rattle.std.specs.Prelude.{◌≡◌, IfErr};
 ghost use Rattle.rasn_types.specs.Shapes.{prefix};
 ghost use Rattle.rasn_de.specs.Decodes.{Decodes};
 ghost use Rattle.rasn_de.specs.Prefix.{DecodesPrefixBy};
@@ -20,11 +21,13 @@ impl<'input> Decoder<'input> {
     pub fn decode_explicit_prefix<D: Decode>(&mut self, tag: Tag) -> Result<D, DecodeError>
         ensures exact { DecodesPrefixBy D.shape D.tree tag self.old result self.new }
         ensures reads { Decodes (prefix tag D.shape) D.tree self.old result self.new }
+        ensures rules { IfErr result (λ e. e.codec ≡ self.old.rule) }
     {
         self.inside(
             ConstructedHeader::prefix(tag),
             |inner| -> Result<D, DecodeError>
-                ensures { Decodes D.shape D.tree inner.old result inner.new }
+                ensures reads { Decodes D.shape D.tree inner.old result inner.new }
+                ensures rules { IfErr result (λ e. e.codec ≡ inner.old.rule) }
             { D::decode(inner) },
         )
     }

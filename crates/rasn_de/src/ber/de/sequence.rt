@@ -1,5 +1,7 @@
 //! SEQUENCE (X.690 8.9).
-ghost use Rattle.std.specs.Prelude.{◌≡◌, IfSome};
+ghost use Rattle.rasn_de.specs.State.{EachCall};
+ghost use Rattle.rasn_de.specs.Steps.{NamesRules};
+ghost use Rattle.std.specs.Prelude.{◌≡◌, IfSome, IfErr};
 ghost use Rattle.std.specs.Fn.{FnOnceReturnsAtMut};
 ghost use Rattle.rasn_de.specs.Constructed.{LeavesAnEnd};
 ghost use Rattle.rasn_de.specs.Sequence.{is_read_by_initializer, MakesInitial, DecodesContents, DecodesSequenceBy, DecodesSequence};
@@ -48,6 +50,7 @@ impl<'input> Decoder<'input> {
         requires leaves { LeavesAnEnd F.FnOnce f }
         ensures exact { DecodesSequenceBy RC D.IS_EXTENSIBLE D.HAS_REQUIRED_FIELDS DF.post default F.FnOnce f tag self.old result self.new }
         ensures reads { DecodesSequence F.FnOnce f DF.post default D.parts D.tree tag self.old result self.new }
+        ensures rules { EachCall (FnOnceReturnsAtMut F.FnOnce f) NamesRules → IfErr result (λ e. e.codec ≡ self.old.rule) }
     {
         self.inside(
             ConstructedHeader::sequence(tag),

@@ -1,4 +1,5 @@
 //! SEQUENCE OF (X.690 8.10).
+ghost use Rattle.std.specs.Prelude.{◌≡◌, IfErr};
 ghost use Rattle.rasn_de.specs.Decodes.{Decodes};
 ghost use Rattle.rasn_de.specs.SequenceOf.{DecodesElement, DecodesElements, DecodesSequenceOfBy, DecodesSequenceOf};
 
@@ -13,7 +14,8 @@ impl<'input> Decoder<'input> {
     /// Reads one more element, which has to consume something, behind the others.
     #[inline(always)]
     pub(super) fn push_element<D: Decode>(&mut self, values: &mut Vec<D>) -> Result<(), DecodeError>
-        ensures { DecodesElement (Decodes D.shape D.tree) self.old values.old.items result self.new values.new.items }
+        ensures exact { DecodesElement (Decodes D.shape D.tree) self.old values.old.items result self.new values.new.items }
+        ensures rules { IfErr result (λ e. e.codec ≡ self.old.rule) }
     {
         let left = self.rest.len();
         let value = D::decode(self)?;
@@ -29,7 +31,8 @@ impl<'input> Decoder<'input> {
     /// Elements up to the end of the contents.
     #[inline(always)]
     fn elements<D: Decode>(&mut self) -> Result<Vec<D>, DecodeError>
-        ensures { DecodesElements (Decodes D.shape D.tree) (λ v. v.items) self.old result self.new }
+        ensures exact { DecodesElements (Decodes D.shape D.tree) (λ v. v.items) self.old result self.new }
+        ensures rules { IfErr result (λ e. e.codec ≡ self.old.rule) }
     {
         let mut values = Vec::new(self.alloc);
         while !self.has_ended() {
@@ -52,11 +55,13 @@ impl<'input> Decoder<'input> {
     ) -> Result<Vec<D>, DecodeError>
         ensures exact { DecodesSequenceOfBy (Decodes D.shape D.tree) tag constraints.now self.old result self.new }
         ensures reads { DecodesSequenceOf D.shape D.tree tag constraints.now self.old result self.new }
+        ensures rules { IfErr result (λ e. e.codec ≡ self.old.rule) }
     {
         let values = self.inside(
             ConstructedHeader::list(tag),
             |inner| -> Result<Vec<D>, DecodeError>
-                ensures { DecodesElements (Decodes D.shape D.tree) (λ v. v.items) inner.old result inner.new }
+                ensures exact { DecodesElements (Decodes D.shape D.tree) (λ v. v.items) inner.old result inner.new }
+                ensures rules { IfErr result (λ e. e.codec ≡ inner.old.rule) }
             { inner.elements() },
         )?;
         match check_size(constraints, values.len()) {

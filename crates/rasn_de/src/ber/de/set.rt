@@ -1,8 +1,8 @@
 //! SET (X.690 8.11).
-ghost use Rattle.std.specs.Prelude.{Vec};
+ghost use Rattle.std.specs.Prelude.{Vec, ◌≡◌, IfErr};
 ghost use Rattle.std.specs.Global.{Global};
 ghost use Rattle.rasn_de.specs.Decodes.{Decodes};
-ghost use Rattle.rasn_de.specs.Set.{IsBelowLast, PeeksInOrder, DecodesComponents, DecodesSetContents, DecodesSetBy, DecodesSet};
+ghost use Rattle.rasn_de.specs.Set.{IsBelowLast, PeeksInOrder, DecodesComponents, DecodesSetContents, DecodesSetBy, DecodesSet, MakesByRules};
 ghost use Rattle.rasn_types.specs.Truth.{IsWhether};
 
 use crate::ber::de::Decoder;
@@ -39,7 +39,8 @@ impl<'input> Decoder<'input> {
 
     /// Components up to the end of the contents, whose tags are in ascending order under DER (X.690 10.3).
     fn components<FIELDS: Decode>(&mut self) -> Result<Vec<FIELDS>, DecodeError>
-        ensures { DecodesComponents (Decodes FIELDS.shape FIELDS.tree) (λ v. v.items) self.old result self.new }
+        ensures exact { DecodesComponents (Decodes FIELDS.shape FIELDS.tree) (λ v. v.items) self.old result self.new }
+        ensures rules { IfErr result (λ e. e.codec ≡ self.old.rule) }
     {
         let mut values = Vec::new(self.alloc);
         let mut last = None;
@@ -71,12 +72,14 @@ impl<'input> Decoder<'input> {
         requires callable { F.IsAlwaysCallable f }
         ensures exact { DecodesSetBy (Decodes FIELDS.shape FIELDS.tree) (F.post f) tag self.old result self.new }
         ensures reads { DecodesSet FIELDS.shape FIELDS.tree (F.post f) SET.parts SET.tree tag self.old result self.new }
+        ensures rules { MakesByRules self.old.rule (F.post f) → IfErr result (λ e. e.codec ≡ self.old.rule) }
     {
         self.inside(
             ConstructedHeader::sequence(tag),
             |inner| -> Result<SET, DecodeError>
                 requires { F.IsAlwaysCallable f }
-                ensures { DecodesSetContents (DecodesComponents (Decodes FIELDS.shape FIELDS.tree) (λ (v : Vec FIELDS Global). v.items)) (F.post f) inner.old result inner.new }
+                ensures exact { DecodesSetContents (DecodesComponents (Decodes FIELDS.shape FIELDS.tree) (λ (v : Vec FIELDS Global). v.items)) (F.post f) inner.old result inner.new }
+                ensures rules { MakesByRules inner.old.rule (F.post f) → IfErr result (λ e. e.codec ≡ inner.old.rule) }
             {
                 let fields = inner.components::<FIELDS>()?;
                 f(fields)

@@ -1,5 +1,5 @@
 //! SET OF (X.690 8.12).
-ghost use Rattle.std.specs.Prelude.{◌≡◌, ◌++◌};
+ghost use Rattle.std.specs.Prelude.{◌≡◌, ◌++◌, IfErr};
 ghost use Rattle.rasn_types.specs.Order.{IsLess};
 ghost use Rattle.rasn_de.specs.Decodes.{Decodes};
 ghost use Rattle.rasn_de.specs.SequenceOf.{DecodesElementsInOrder, DecodesSetOfBy, DecodesSetOf};
@@ -33,7 +33,8 @@ fn octets_before<'input>(start: &'input [u8], rest: &[u8]) -> &'input [u8]
 impl<'input> Decoder<'input> {
     /// Elements up to the end of the contents, whose octets are in ascending order under DER (X.690 11.6).
     fn elements_in_order<D: Decode>(&mut self) -> Result<SetOf<D>, DecodeError>
-        ensures { DecodesElementsInOrder (Decodes D.shape D.tree) (λ v. v) self.old result self.new }
+        ensures exact { DecodesElementsInOrder (Decodes D.shape D.tree) (λ v. v) self.old result self.new }
+        ensures rules { IfErr result (λ e. e.codec ≡ self.old.rule) }
     {
         let mut values = Vec::new(self.alloc);
         let mut last: &[u8] = &[];
@@ -62,11 +63,13 @@ impl<'input> Decoder<'input> {
     ) -> Result<SetOf<D>, DecodeError>
         ensures exact { DecodesSetOfBy (Decodes D.shape D.tree) tag constraints.now self.old result self.new }
         ensures reads { DecodesSetOf D.shape D.tree tag constraints.now self.old result self.new }
+        ensures rules { IfErr result (λ e. e.codec ≡ self.old.rule) }
     {
         let values = self.inside(
             ConstructedHeader::list(tag),
             |inner| -> Result<SetOf<D>, DecodeError>
-                ensures { DecodesElementsInOrder (Decodes D.shape D.tree) (λ v. v) inner.old result inner.new }
+                ensures exact { DecodesElementsInOrder (Decodes D.shape D.tree) (λ v. v) inner.old result inner.new }
+                ensures rules { IfErr result (λ e. e.codec ≡ inner.old.rule) }
             { inner.elements_in_order() },
         )?;
         match check_size(constraints, values.len()) {

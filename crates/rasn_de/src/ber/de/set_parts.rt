@@ -1,5 +1,5 @@
 //! A SET whose parts are a type (X.690 8.11): nested to the right, read in any order, each once.
-ghost use Rattle.std.specs.Prelude.{◌≡◌, ℕ, zero, suc, true, IfOk, map};
+ghost use Rattle.std.specs.Prelude.{◌≡◌, ℕ, zero, suc, true, IfOk, map, IfErr};
 ghost use Rattle.rasn_types.specs.Framing.{NextTag};
 ghost use Rattle.rasn_types.specs.Tags.{form};
 ghost use Rattle.rasn_types.specs.Shapes.{set};
@@ -51,7 +51,8 @@ pub trait DecodeSetParts: Drop {
     ) -> Result<Option<&'names str>, DecodeError>
         requires next { NextTag (form decoder.old.rule) decoder.old.rest tag }
         requires differ { tags_differ ≡ true }
-        ensures { DecodesPlaced parts (map text names.now) (held slots.old) decoder.old result decoder.new (held slots.new) };
+        ensures reads { DecodesPlaced parts (map text names.now) (held slots.old) decoder.old result decoder.new (held slots.new) }
+        ensures rules { IfErr result (λ e. e.codec ≡ decoder.old.rule) };
 
     /// Returns the parts that the slots hold.
     ///
@@ -62,7 +63,8 @@ pub trait DecodeSetParts: Drop {
         decoder: &Decoder<'_>,
         names: &[&str],
     ) -> Result<Self, DecodeError>
-        ensures { MakesParts parts tree (map text names.now) decoder.now.rule (held slots) result };
+        ensures makes { MakesParts parts tree (map text names.now) decoder.now.rule (held slots) result }
+        ensures rules { IfErr result (λ e. e.codec ≡ decoder.now.rule) };
 }
 
 /// Returns the name of the first of these parts, or an empty one where the name is missing.
@@ -105,7 +107,8 @@ fn or_default<V: DefaultValue>(
     slot: Option<V::Value>,
     decoder: &Decoder<'_>,
 ) -> Result<V::Value, DecodeError>
-    ensures { IsOrDefault V.Value.tree V.default_tree slot result }
+    ensures made { IsOrDefault V.Value.tree V.default_tree slot result }
+    ensures rules { IfErr result (λ e. e.codec ≡ decoder.now.rule) }
 {
     let alloc = decoder.alloc();
     match slot {
@@ -313,7 +316,8 @@ impl<'input> Decoder<'input> {
         names: &[&'names str],
     ) -> Result<Option<&'names str>, DecodeError>
         requires { P.tags_differ ≡ true }
-        ensures { DecodesNext P.parts (map text names.now) (P.held slots.old) self.old result self.new (P.held slots.new) }
+        ensures exact { DecodesNext P.parts (map text names.now) (P.held slots.old) self.old result self.new (P.held slots.new) }
+        ensures rules { IfErr result (λ e. e.codec ≡ self.old.rule) }
     {
         let left = self.rest.len();
         let tag = self.peek_tag()?;
@@ -327,7 +331,8 @@ impl<'input> Decoder<'input> {
     /// Reads components up to the end of the contents and makes the parts of them. Their tags are in ascending order under DER (X.690 10.3).
     fn set_parts<P: DecodeSetParts>(&mut self, name: &str, names: &[&str]) -> Result<P, DecodeError>
         requires { P.tags_differ ≡ true }
-        ensures { DecodesSetPartContents P.parts P.tree (map text names.now) self.old result self.new }
+        ensures exact { DecodesSetPartContents P.parts P.tree (map text names.now) self.old result self.new }
+        ensures rules { IfErr result (λ e. e.codec ≡ self.old.rule) }
     {
         let mut slots = P::empty();
         let mut twice = None;
@@ -362,12 +367,14 @@ impl<'input> Decoder<'input> {
         requires { P.tags_differ ≡ true }
         ensures exact { DecodesSetParts P.parts P.tree (map text names.now) tag self.old result self.new }
         ensures reads { Decodes (set tag P.parts) P.tree self.old result self.new }
+        ensures rules { IfErr result (λ e. e.codec ≡ self.old.rule) }
     {
         self.inside(
             ConstructedHeader::sequence(tag),
             |inner| -> Result<P, DecodeError>
                 requires { P.tags_differ ≡ true }
-                ensures { DecodesSetPartContents P.parts P.tree (map text names.entry.now) inner.old result inner.new }
+                ensures exact { DecodesSetPartContents P.parts P.tree (map text names.entry.now) inner.old result inner.new }
+                ensures rules { IfErr result (λ e. e.codec ≡ inner.old.rule) }
             { inner.set_parts::<P>(name, names) },
         )
     }

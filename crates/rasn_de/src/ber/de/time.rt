@@ -1,5 +1,5 @@
 //! Times (X.680 38.4.1, 46, 47; X.690 11.7, 11.8).
-ghost use Rattle.std.specs.Prelude.{◌⊎◌};
+ghost use Rattle.std.specs.Prelude.{◌⊎◌, ◌≡◌, IfErr};
 ghost use Rattle.std.specs.String.{string_bytes};
 ghost use Rattle.rasn_types.specs.declared.types.constraints.Constraints.{Constraints};
 ghost use Rattle.rasn_types.specs.Options.{IsSomeRelated};
@@ -83,6 +83,7 @@ impl<'input> Decoder<'input> {
     pub fn decode_utc_time(&mut self, tag: Tag) -> Result<UtcTime, DecodeError>
         ensures reads { (c : Constraints) → Decodes (leaf utc_time tag c) (λ m. instant m) self.old result self.new }
         ensures exact { DecodesTime (AtAnyOffset (UtcText self.old.rule)) tag self.old result self.new }
+        ensures rules { IfErr result (λ e. e.codec ≡ self.old.rule) }
     {
         let rules = self.codec();
         let text = self.octets(tag)?;
@@ -100,6 +101,7 @@ impl<'input> Decoder<'input> {
     pub fn decode_generalized_time(&mut self, tag: Tag) -> Result<GeneralizedTime, DecodeError>
         ensures reads { (c : Constraints) → Decodes (leaf generalized_time tag c) (λ s. instant s.moment) self.old result self.new }
         ensures exact { DecodesTime (GeneralizedText self.old.rule) tag self.old result self.new }
+        ensures rules { IfErr result (λ e. e.codec ≡ self.old.rule) }
     {
         let rules = self.codec();
         let text = self.octets(tag)?;
@@ -116,6 +118,7 @@ impl<'input> Decoder<'input> {
     pub fn decode_date(&mut self, tag: Tag) -> Result<Date, DecodeError>
         ensures reads { (c : Constraints) → Decodes (leaf date tag c) (λ d. on_day d) self.old result self.new }
         ensures exact { DecodesTime DateText tag self.old result self.new }
+        ensures rules { IfErr result (λ e. e.codec ≡ self.old.rule) }
     {
         let text = self.octets(tag)?;
         match parse_date(&text) {
@@ -211,7 +214,11 @@ impl Decode for GeneralizedTime {
         decoder: &mut Decoder<'_>,
         tag: Tag,
         _constraints: &Constraints,
-    ) -> Result<GeneralizedTime, DecodeError> {
+    ) -> Result<GeneralizedTime, DecodeError>
+        ensures reads { Decodes (leaf generalized_time tag _constraints.now) (λ s. instant s.moment) decoder.old result decoder.new }
+        ensures rules { IfErr result (λ e. e.codec ≡ decoder.old.rule) }
+        ensures exact { DecodesTime (GeneralizedText decoder.old.rule) tag decoder.old result decoder.new }
+    {
         decoder.decode_generalized_time(tag)
     }
 }

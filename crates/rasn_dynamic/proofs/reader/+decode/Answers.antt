@@ -1,4 +1,11 @@
-use Rattle.std.proofs.Common.{rules, arith, ◌-◌, [], ◌∷◌, ◌++◌, length, map, Ok, refl, sym, ap, ◌∙◌, subst, inr}
+use Rattle.std.proofs.Common.{rules, arith, ◌≡◌, ◌-◌, [], ◌∷◌, ◌++◌, length, map, Some, None, Ok, refl, sym, ap, ◌∙◌, subst, inl, inr}
+use Rattle.std.proofs.lemmas.Option.{slice_get_within}
+use Rattle.rasn_types.specs.Shapes.{IsFirstOf}
+use Rattle.rasn_types.proofs.Headers.Frames.{next_one}
+use Rattle.rasn_de.specs.NamedErrors.{IsNamedError, IsDuplicateField}
+use Rattle.rasn_de.specs.SetPartTypes.{text}
+use Rattle.rasn_de.proofs.OwnTypes.SetPartTypes.{ReadTo, none_read, untold, next_fails, next_passes, all_once, one_twice}
+use Rattle.rasn_schema.proofs.Alternatives.{first_of_all}
 use Rattle.rasn_types.specs.Lawful.{IsLawful}
 use Rattle.rasn_types.specs.Tags.{IsStrict}
 use Rattle.rasn_types.specs.Order.{IsLess}
@@ -6,69 +13,101 @@ use Rattle.rasn_types.specs.declared.error.decode.DerDecodeErrorKind.TheVariants
 use Rattle.rasn_types.proofs.SetOf.Ascending.{ends_more, in_order, out_of_order}
 use Rattle.rasn_de.specs.State.{State}
 use Rattle.rasn_de.specs.declared.ber.de.parser.ParseError.TheVariants.{Der}
-use Rattle.rasn_de.specs.Outcomes.{Got}
-use Rattle.rasn_de.specs.Decodes.{Decodes, DecodesExactly, ReadsParts}
+use Rattle.rasn_de.specs.Decodes.{Decodes}
 use Rattle.rasn_de.proofs.Leaves.Returns.{residual}
 use Rattle.rasn_de.proofs.OwnTypes.Alternatives.{no_alternative}
 use Rattle.rasn_de.proofs.Constructed.NextElement.{passes_more}
 use Rattle.rasn_de.proofs.Constructed.SetOfElements.{passes_from, came_stays}
 use Rattle.rasn_de.proofs.Constructed.Steps.{step_none, step_refused, step_unclosed, step_closed, rules_same}
+use Rattle.rasn_de.proofs.Constructed.Optional.{strict_before, strict_after}
+use Rattle.rasn_de.proofs.OwnTypes.Parts.{call_keeps}
 use Rattle.rasn_schema.specs.Trees.{tree_of}
 use Rattle.rasn_schema.specs.Shapes.{shape_of_type, type_by, alternatives_by, components_by, presence_of, tag_at, AreLawful}
-use Rattle.rasn_schema.proofs.Values.{tree_items}
 use Rattle.rasn_schema.proofs.TypeShapes.{shape_below, own_is}
-use Rattle.rasn_schema.proofs.Lists.{split, nothing_left}
+use Rattle.rasn_schema.proofs.Lists.{split, nothing_left, read_at}
 use Rattle.rasn_dynamic.specs.Inside.{IsHeaderOf}
-use Rattle.rasn_dynamic.specs.Calls.{LooksFor}
+use Rattle.rasn_dynamic.specs.Calls.{held, names_of}
+use Rattle.rasn_dynamic.specs.Fitting.{Fits, ComponentsFit, EachFits}
+use Rattle.rasn_dynamic.proofs.FitsRead.{if_ok, fits_below, are_items, sized_fits, sized_set_fits, each_more, fit_more, fit_end, missing_fits, gathered_fit, nones_fit, found_length, put_fits}
 use Rattle.rasn_dynamic.proofs.Inside.{inside_decodes}
 use Rattle.rasn_dynamic.proofs.Nothing.{refused_at_zero, refused_not_there}
-use Rattle.rasn_dynamic.proofs.Chosen.{no_tag, lawful_at, chosen_got, chosen_refused}
+use Rattle.rasn_dynamic.proofs.Chosen.{no_tag, lawful_at, first_at, chosen_got, chosen_refused}
 use Rattle.rasn_dynamic.proofs.InOrder.{lawful_parts, all_left, in_turn}
-use Rattle.rasn_dynamic.proofs.OnePart.{left, unread, read_refused, read_checked}
-use Rattle.rasn_dynamic.proofs.Contents.{list_refused, list_answers, set_refused, set_answers, parts_more, part_fails, parts_run_out, one_more, parts_end, inside_prefix, inside_seq, inside_set, prefix_lawful, list_lawful, set_of_lawful, seq_lawful, set_lawful, inside_none}
-use Rattle.rasn_de.proofs.OwnTypes.Parts.{call_keeps}
-use Rattle.rasn_dynamic.proofs.SetSlots.{none_held, untold, next_fails, next_comes, all_gathered}
-use Rattle.rasn_de.proofs.Constructed.Optional.{strict_before, strict_after}
-use Rattle.rasn_dynamic.specs.Calls.{held}
+use Rattle.rasn_dynamic.proofs.OnePart.{always, looked, made, unread, plain, kept, differs, default_is_written, not_required}
+use Rattle.rasn_dynamic.proofs.Contents.{list_refused, list_answers, set_refused, set_answers, inside_prefix, inside_seq, inside_seq_got, inside_set, inside_set_got, prefix_lawful, list_lawful, set_of_lawful, seq_lawful, set_lawful, inside_none, inside_runs_out, sequence_runs_out, values_tree, parts_start, parts_more, part_fails, parts_run_out, one_more, parts_end}
 use Rattle.rasn_dynamic.proofs.Pieces.{got_below, part_lawful, nones_come, as_many_nones, makes_parts}
-use Rattle.rasn_dynamic.proofs.Component.{next_unpeeked, next_unknown, next_unread, next_default, next_idle, next_put, put_as_many}
+use Rattle.rasn_dynamic.proofs.Component.{next_unpeeked, next_unknown, next_unread, next_idle, next_put}
 use Rattle.rasn_dynamic.proofs.reader.+decode.Goals.{decode_elements_in_order-else-is_strict-via-then-is_strict+else-is_less, decode_elements_in_order-else-is_strict-via-else-is_strict}
 use Rattle.rasn_dynamic.proofs.reader.+decode.Goals as goal
 
--- ---- the ty at a id
+-- ---- the type with a number
 
-pub decode_at-returns-then-levels-eq0 : goal.decode_at-returns-then-levels-eq0
-decode_at-returns-then-levels-eq0 t c = refused_at_zero _ _ _ _ _ c.if-levels-eq0.true
+pub decode_at-returns-then-levels-eq0-clause-reads : goal.decode_at-returns-then-levels-eq0-clause-reads
+decode_at-returns-then-levels-eq0-clause-reads t c = refused_at_zero _ _ _ _ _ c.if-levels-eq0.true
 
 pub decode_at-decode_type-requires : goal.decode_at-decode_type-requires
 decode_at-decode_type-requires t c = (search rules, subst IsLawful (shape_below c.args.types.now c.args.levels (c.args.levels - 1) c.args.id.0 c.in-Some.ty.now (let n = c.if-levels-eq0.false in omega arith) c.in-Some.ensures) c.requires)
 
-pub decode_at-returns-in-Some : goal.decode_at-returns-in-Some
-decode_at-returns-in-Some t c = rw (shape_below c.args.types.now c.args.levels (c.args.levels - 1) c.args.id.0 c.in-Some.ty.now (let n = c.if-levels-eq0.false in omega arith) c.in-Some.ensures) c.decode_type.ensures
+pub decode_at-returns-in-Some-clause-reads : goal.decode_at-returns-in-Some-clause-reads
+decode_at-returns-in-Some-clause-reads t c = rw (shape_below c.args.types.now c.args.levels (c.args.levels - 1) c.args.id.0 c.in-Some.ty.now (let n = c.if-levels-eq0.false in omega arith) c.in-Some.ensures) c.decode_type.ensures.reads
 
-pub decode_at-returns-in-None : goal.decode_at-returns-in-None
-decode_at-returns-in-None t c = refused_not_there _ _ _ _ _ c.in-None.ensures
+pub decode_at-returns-in-Some-clause-fits : goal.decode_at-returns-in-Some-clause-fits
+decode_at-returns-in-Some-clause-fits t c =
+    if_ok _ _ _ (λ v. fits_below c.args.types.now c.args.levels (c.args.levels - 1) c.args.id.0 c.in-Some.ty.now v (let n = c.if-levels-eq0.false in omega arith) c.in-Some.ensures) c.decode_type.ensures.fits
+
+pub decode_at-returns-in-None-clause-reads : goal.decode_at-returns-in-None-clause-reads
+decode_at-returns-in-None-clause-reads t c = refused_not_there _ _ _ _ _ c.in-None.ensures
 
 -- ---- CHOICE
 
-pub decode_choice-returns-in_err-tag : goal.decode_choice-returns-in_err-tag
-decode_choice-returns-in_err-tag t c = rw (residual _ c.from_residual.ensures.1) (no_tag _ _ _ _ c.in_err-tag.ensures.exact)
+pub decode_choice-returns-in_err-tag-clause-reads : goal.decode_choice-returns-in_err-tag-clause-reads
+decode_choice-returns-in_err-tag-clause-reads t c = rw (residual _ c.from_residual.ensures.1) (no_tag _ _ _ _ c.in_err-tag.ensures.exact)
 
-pub decode_choice-returns-in_default : goal.decode_choice-returns-in_default
-decode_choice-returns-in_default t c = no_alternative (alternatives_by (shape_of_type c.args.types.now c.args.below) c.args.alternatives.now) c.in_ok-tag.tag c.in_ok-tag.ensures.next c.in_default.ensures _
+pub decode_choice-returns-in_err-tag-clause-unknown : goal.decode_choice-returns-in_err-tag-clause-unknown
+decode_choice-returns-in_err-tag-clause-unknown t c = λ tag n others. absurd (c.in_err-tag.ensures.next tag n)
+
+pub decode_choice-returns-in_default-clause-reads : goal.decode_choice-returns-in_default-clause-reads
+decode_choice-returns-in_default-clause-reads t c = no_alternative (alternatives_by (shape_of_type c.args.types.now c.args.below) c.args.alternatives.now) c.in_ok-tag.tag c.in_ok-tag.ensures.next c.in_default.ensures _
+
+pub decode_choice-returns-in_default-clause-unknown : goal.decode_choice-returns-in_default-clause-unknown
+decode_choice-returns-in_default-clause-unknown t c = λ tag n others. (rw (← c.codec.ensures) c.no_valid_choice.ensures, refl)
+
+pub decode_choice-bounds-alternatives-number : goal.decode_choice-bounds-alternatives-number
+decode_choice-bounds-alternatives-number t c = slice_get_within c.args.alternatives.now c.in-Some.number c.in-Some.ensures.0 (sym c.in-Some.ensures.1)
 
 pub decode_choice-decode_at-requires : goal.decode_choice-decode_at-requires
-decode_choice-decode_at-requires t c = (search rules, lawful_at _ _ _ c.requires c.in-Some.ensures.0)
+decode_choice-decode_at-requires t c =
+    let at = read_at c.args.alternatives.now c.in-Some.number c.index-alternatives-number.result (slice_get_within c.args.alternatives.now c.in-Some.number c.in-Some.ensures.0 (sym c.in-Some.ensures.1)) c.index-alternatives-number.is in
+    (search rules, lawful_at (shape_of_type c.args.types.now c.args.below) c.args.alternatives.now c.in-Some.number c.index-alternatives-number.result c.requires at)
 
-pub decode_choice-returns-in_err-value : goal.decode_choice-returns-in_err-value
-decode_choice-returns-in_err-value t c =
+pub decode_choice-returns-in_err-value-clause-reads : goal.decode_choice-returns-in_err-value-clause-reads
+decode_choice-returns-in_err-value-clause-reads t c =
+    let at = read_at c.args.alternatives.now c.in-Some.number c.index-alternatives-number.result (slice_get_within c.args.alternatives.now c.in-Some.number c.in-Some.ensures.0 (sym c.in-Some.ensures.1)) c.index-alternatives-number.is in
     rw (residual _ c.from_residual-in_err-value.ensures.1)
-    (chosen_refused (shape_of_type c.args.types.now c.args.below) c.args.alternatives.now c.in-Some.number c.in_ok-tag.tag c.requires c.in-Some.ensures.0 c.in-Some.ensures.1 _ _ c.in_ok-tag.ensures.next _ c.in_err-value.ensures)
+    (chosen_refused (shape_of_type c.args.types.now c.args.below) c.args.alternatives.now c.in-Some.number c.index-alternatives-number.result c.in_ok-tag.tag c.requires at
+    (first_at (shape_of_type c.args.types.now c.args.below) c.args.alternatives.now c.in-Some.number c.in-Some.ensures.0 _ c.in_ok-tag.tag c.in-Some.ensures.1 at c.in-Some.ensures.2) _ _ c.in_ok-tag.ensures.next _ c.in_err-value.ensures.reads)
 
-pub decode_choice-returns-in-Ok : goal.decode_choice-returns-in-Ok
-decode_choice-returns-in-Ok t c =
+pub decode_choice-returns-in_err-value-clause-unknown : goal.decode_choice-returns-in_err-value-clause-unknown
+decode_choice-returns-in_err-value-clause-unknown t c = λ tag n others.
+    absurd (others (subst (IsFirstOf (alternatives_by (shape_of_type c.args.types.now c.args.below) c.args.alternatives.now)) (next_one c.args.decoder.now.rest c.in_ok-tag.tag tag c.in_ok-tag.ensures.next n)
+    (first_of_all (shape_of_type c.args.types.now c.args.below) c.in_ok-tag.tag c.args.alternatives.now c.in-Some.number c.in-Some.ensures.0 c.in-Some.ensures.1 c.in-Some.ensures.2)))
+
+pub decode_choice-returns-in-Ok-clause-reads : goal.decode_choice-returns-in-Ok-clause-reads
+decode_choice-returns-in-Ok-clause-reads t c =
+    let at = read_at c.args.alternatives.now c.in-Some.number c.index-alternatives-number.result (slice_get_within c.args.alternatives.now c.in-Some.number c.in-Some.ensures.0 (sym c.in-Some.ensures.1)) c.index-alternatives-number.is in
     rw c.in-Ok.ensures.ok
-    (chosen_got (shape_of_type c.args.types.now c.args.below) c.args.alternatives.now c.in-Some.number c.in_ok-tag.tag c.requires c.in-Some.ensures.0 c.in-Some.ensures.1 _ _ c.in_ok-tag.ensures.next _ c.in_ok-value.ensures)
+    (chosen_got (shape_of_type c.args.types.now c.args.below) c.args.alternatives.now c.in-Some.number c.index-alternatives-number.result c.in_ok-tag.tag c.requires at
+    (first_at (shape_of_type c.args.types.now c.args.below) c.args.alternatives.now c.in-Some.number c.in-Some.ensures.0 _ c.in_ok-tag.tag c.in-Some.ensures.1 at c.in-Some.ensures.2) _ _ c.in_ok-tag.ensures.next _ c.in_ok-value.ensures.reads)
+
+pub decode_choice-returns-in-Ok-clause-fits : goal.decode_choice-returns-in-Ok-clause-fits
+decode_choice-returns-in-Ok-clause-fits t c =
+    let at = read_at c.args.alternatives.now c.in-Some.number c.index-alternatives-number.result (slice_get_within c.args.alternatives.now c.in-Some.number c.in-Some.ensures.0 (sym c.in-Some.ensures.1)) c.index-alternatives-number.is in
+    rw c.in-Ok.ensures.ok (c.index-alternatives-number.result, at, c.in_ok-value.ensures.fits)
+
+pub decode_choice-returns-in-Err-clause-unknown : goal.decode_choice-returns-in-Err-clause-unknown
+decode_choice-returns-in-Err-clause-unknown t c = λ tag n others.
+    absurd (others (subst (IsFirstOf (alternatives_by (shape_of_type c.args.types.now c.args.below) c.args.alternatives.now)) (next_one c.args.decoder.now.rest c.in_ok-tag.tag tag c.in_ok-tag.ensures.next n)
+    (first_of_all (shape_of_type c.args.types.now c.args.below) c.in_ok-tag.tag c.args.alternatives.now c.in-Some.number c.in-Some.ensures.0 c.in-Some.ensures.1 c.in-Some.ensures.2)))
 
 -- ---- contents
 
@@ -81,56 +120,135 @@ decode_contents-decode_sequence-requires t c = (search rules, rw c.deref.ensures
 pub decode_contents-decode_elements-requires : goal.decode_contents-decode_elements-requires
 decode_contents-decode_elements-requires t c = (search rules, list_lawful _ _ c.in-SequenceOf.constraints.size (subst (λ n. IsLawful (type_by (shape_of_type c.args.types.now c.args.below) n)) c.in-SequenceOf.is c.requires))
 
-pub decode_contents-returns-in_err-values-in-SequenceOf :
-    goal.decode_contents-returns-in_err-values-in-SequenceOf
-decode_contents-returns-in_err-values-in-SequenceOf t c =
-    rw (residual _ c.from_residual.ensures.1, c.in-SequenceOf.is)
-    (list_refused c.in-SequenceOf.tag ((shape_of_type c.args.types.now c.args.below) c.in-SequenceOf.element.0) c.in-SequenceOf.constraints.size _ _ _ c.in_err-values-in-SequenceOf.ensures)
+pub decode_contents-returns-in_err-values-in-SequenceOf-clause-reads :
+    goal.decode_contents-returns-in_err-values-in-SequenceOf-clause-reads
+decode_contents-returns-in_err-values-in-SequenceOf-clause-reads t c =
+    rw (residual _ c.from_residual-in_err-values-in-SequenceOf.ensures.1, c.in-SequenceOf.is)
+    (list_refused c.in-SequenceOf.tag ((shape_of_type c.args.types.now c.args.below) c.in-SequenceOf.element.0) c.in-SequenceOf.constraints.size _ _ _ c.in_err-values-in-SequenceOf.ensures.reads)
 
-pub decode_contents-returns-in-Tagged : goal.decode_contents-returns-in-Tagged
-decode_contents-returns-in-Tagged t c = rw c.in-Tagged.is (inside_prefix c.in-Tagged.tag ((shape_of_type c.args.types.now c.args.below) c.in-Tagged.inner.0) _ _ _ c.decode_at.ensures)
+pub decode_contents-returns-in-Tagged-clause-reads : goal.decode_contents-returns-in-Tagged-clause-reads
+decode_contents-returns-in-Tagged-clause-reads t c = rw c.in-Tagged.is (inside_prefix c.in-Tagged.tag ((shape_of_type c.args.types.now c.args.below) c.in-Tagged.inner.0) _ _ _ c.decode_at.ensures.reads)
 
-pub decode_contents-returns-in-Sequence : goal.decode_contents-returns-in-Sequence
-decode_contents-returns-in-Sequence t c = rw c.in-Sequence.is (inside_seq c.in-Sequence.tag (components_by (shape_of_type c.args.types.now c.args.below) c.in-Sequence.components.items) _ _ _ (rw (← c.deref.ensures.value) c.decode_sequence.ensures))
+pub decode_contents-returns-in-Tagged-clause-fits : goal.decode_contents-returns-in-Tagged-clause-fits
+decode_contents-returns-in-Tagged-clause-fits t c = rw c.in-Tagged.is c.decode_at.ensures.fits
 
-pub decode_contents-returns-in_ok-values-in-SequenceOf :
-    goal.decode_contents-returns-in_ok-values-in-SequenceOf
-decode_contents-returns-in_ok-values-in-SequenceOf t c =
+pub decode_contents-returns-in_err-values-clause-reads : goal.decode_contents-returns-in_err-values-clause-reads
+decode_contents-returns-in_err-values-clause-reads t c =
+    rw (residual _ c.from_residual.ensures.1, c.in-Sequence.is)
+    (inside_seq c.in-Sequence.tag (components_by (shape_of_type c.args.types.now c.args.below) c.in-Sequence.components.items) _ _ _ (rw (← c.deref.ensures.value) c.in_err-values.ensures.reads))
+
+pub decode_contents-returns-in_ok-values-clause-reads : goal.decode_contents-returns-in_ok-values-clause-reads
+decode_contents-returns-in_ok-values-clause-reads t c =
+    rw c.in-Sequence.is (inside_seq_got c.in-Sequence.tag (components_by (shape_of_type c.args.types.now c.args.below) c.in-Sequence.components.items) _ _ c.in_ok-values.values (rw (← c.deref.ensures.value) c.in_ok-values.ensures.reads))
+
+pub decode_contents-returns-in_ok-values-clause-fits : goal.decode_contents-returns-in_ok-values-clause-fits
+decode_contents-returns-in_ok-values-clause-fits t c =
+    rw c.in-Sequence.is (are_items (ComponentsFit (Fits c.args.types.now c.args.below) c.in-Sequence.components.items) c.in_ok-values.values (rw (← c.deref.ensures.value) c.in_ok-values.ensures.fits))
+
+pub decode_contents-returns-in_ok-values-in-SequenceOf-clause-reads :
+    goal.decode_contents-returns-in_ok-values-in-SequenceOf-clause-reads
+decode_contents-returns-in_ok-values-in-SequenceOf-clause-reads t c =
     rw c.in-SequenceOf.is
-    (list_answers c.in-SequenceOf.tag ((shape_of_type c.args.types.now c.args.below) c.in-SequenceOf.element.0) c.in-SequenceOf.constraints.size _ _ c.in_ok-values-in-SequenceOf.values c.in_ok-values-in-SequenceOf.ensures _ c.sized.ensures)
+    (list_answers c.in-SequenceOf.tag ((shape_of_type c.args.types.now c.args.below) c.in-SequenceOf.element.0) c.in-SequenceOf.constraints.size _ _ c.in_ok-values-in-SequenceOf.values c.in_ok-values-in-SequenceOf.ensures.reads _ c.sized.ensures)
 
-pub decode_contents-returns-in_default : goal.decode_contents-returns-in_default
-decode_contents-returns-in_default t c =
+pub decode_contents-returns-in_ok-values-in-SequenceOf-clause-fits : goal.decode_contents-returns-in_ok-values-in-SequenceOf-clause-fits
+decode_contents-returns-in_ok-values-in-SequenceOf-clause-fits t c =
+    rw c.in-SequenceOf.is (sized_fits (EachFits (Fits c.args.types.now c.args.below c.in-SequenceOf.element.0)) c.in-SequenceOf.constraints.size c.in_ok-values-in-SequenceOf.values _ c.in_ok-values-in-SequenceOf.ensures.fits c.sized.ensures)
+
+pub decode_contents-returns-in_default-clause-reads : goal.decode_contents-returns-in_default-clause-reads
+decode_contents-returns-in_default-clause-reads t c =
     inside_none (shape_of_type c.args.types.now c.args.below) c.args.ty.now c.in_default.not-Tagged c.in_default.not-Sequence c.in_default.not-Set c.in_default.not-SequenceOf c.in_default.not-SetOf _ _
-
--- ---- elements
-
-pub decode_elements-loop-decoder-preserved : goal.decode_elements-loop-decoder-preserved
-decode_elements-loop-decoder-preserved t c =
-    passes_more (Decodes (shape_of_type c.args.types.now c.args.below c.args.element.0) tree_of) c.loop-decoder.decoder _ c.in_ok-value.value c.loop-decoder-test.ensures c.in_ok-value.ensures
-    (λ e. c.in_ok-keep.ensures.1 (e ∙ sym (ap length c.remaining-left.ensures.value))) c.args.decoder.now c.loop-decoder.values.items _ c.in_ok-keep.ensures.0 c.loop-decoder.invariant
 
 pub decode_contents-decode_elements_in_order-requires : goal.decode_contents-decode_elements_in_order-requires
 decode_contents-decode_elements_in_order-requires t c = (search rules, set_of_lawful _ _ c.in-SetOf.constraints.size (subst (λ n. IsLawful (type_by (shape_of_type c.args.types.now c.args.below) n)) c.in-SetOf.is c.requires))
 
-pub decode_contents-returns-in_err-values-in-SetOf : goal.decode_contents-returns-in_err-values-in-SetOf
-decode_contents-returns-in_err-values-in-SetOf t c =
+pub decode_contents-returns-in_err-values-in-SetOf-clause-reads : goal.decode_contents-returns-in_err-values-in-SetOf-clause-reads
+decode_contents-returns-in_err-values-in-SetOf-clause-reads t c =
     rw (residual _ c.from_residual-in_err-values-in-SetOf.ensures.1, c.in-SetOf.is)
-    (set_refused c.in-SetOf.tag ((shape_of_type c.args.types.now c.args.below) c.in-SetOf.element.0) c.in-SetOf.constraints.size _ _ _ c.in_err-values-in-SetOf.ensures)
+    (set_refused c.in-SetOf.tag ((shape_of_type c.args.types.now c.args.below) c.in-SetOf.element.0) c.in-SetOf.constraints.size _ _ _ c.in_err-values-in-SetOf.ensures.reads)
 
-pub decode_contents-returns-in_ok-values-in-SetOf : goal.decode_contents-returns-in_ok-values-in-SetOf
-decode_contents-returns-in_ok-values-in-SetOf t c =
+pub decode_contents-returns-in_ok-values-in-SetOf-clause-reads : goal.decode_contents-returns-in_ok-values-in-SetOf-clause-reads
+decode_contents-returns-in_ok-values-in-SetOf-clause-reads t c =
     rw c.in-SetOf.is
-    (set_answers c.in-SetOf.tag ((shape_of_type c.args.types.now c.args.below) c.in-SetOf.element.0) c.in-SetOf.constraints.size _ _ c.in_ok-values-in-SetOf.values c.in_ok-values-in-SetOf.ensures _ c.sized_set.ensures)
+    (set_answers c.in-SetOf.tag ((shape_of_type c.args.types.now c.args.below) c.in-SetOf.element.0) c.in-SetOf.constraints.size _ _ c.in_ok-values-in-SetOf.values c.in_ok-values-in-SetOf.ensures.reads _ c.sized_set.ensures)
 
-pub decode_elements_in_order-loop-last-init : goal.decode_elements_in_order-loop-last-init
-decode_elements_in_order-loop-last-init t c = rw c.new-values.ensures.items ([], (refl, refl), (λ strict. tt), refl)
+pub decode_contents-returns-in_ok-values-in-SetOf-clause-fits : goal.decode_contents-returns-in_ok-values-in-SetOf-clause-fits
+decode_contents-returns-in_ok-values-in-SetOf-clause-fits t c =
+    rw c.in-SetOf.is (sized_set_fits (EachFits (Fits c.args.types.now c.args.below c.in-SetOf.element.0)) c.in-SetOf.constraints.size c.in_ok-values-in-SetOf.values _ c.in_ok-values-in-SetOf.ensures.fits c.sized_set.ensures)
 
 pub decode_contents-decode_set-requires : goal.decode_contents-decode_set-requires
 decode_contents-decode_set-requires t c = (search rules, rw c.deref-in-Set.ensures.value (set_lawful _ _ (subst (λ n. IsLawful (type_by (shape_of_type c.args.types.now c.args.below) n)) c.in-Set.is c.requires)))
 
-pub decode_contents-returns-in-Set : goal.decode_contents-returns-in-Set
-decode_contents-returns-in-Set t c = rw c.in-Set.is (inside_set c.in-Set.tag (components_by (shape_of_type c.args.types.now c.args.below) c.in-Set.components.items) _ _ _ (rw (← c.deref-in-Set.ensures.value) c.decode_set.ensures))
+pub decode_contents-returns-in_err-found-clause-reads : goal.decode_contents-returns-in_err-found-clause-reads
+decode_contents-returns-in_err-found-clause-reads t c = rw (residual _ c.from_residual-in_err-found.ensures.1) (inside_runs_out _ _ _ c.in_err-found.ensures.err)
+
+pub decode_contents-returns-in_err-values-in-Set-clause-reads : goal.decode_contents-returns-in_err-values-in-Set-clause-reads
+decode_contents-returns-in_err-values-in-Set-clause-reads t c =
+    rw (residual _ c.from_residual-in_err-values-in-Set.ensures.1, c.in-Set.is)
+    (inside_set c.in-Set.tag (components_by (shape_of_type c.args.types.now c.args.below) c.in-Set.components.items) (names_of c.in-Set.components.items) _ _ _ (rw (← c.deref-in-Set.ensures.value) c.in_err-values-in-Set.ensures.exact))
+
+pub decode_contents-returns-in_ok-values-in-Set-clause-reads : goal.decode_contents-returns-in_ok-values-in-Set-clause-reads
+decode_contents-returns-in_ok-values-in-Set-clause-reads t c =
+    rw c.in-Set.is (inside_set_got c.in-Set.tag (components_by (shape_of_type c.args.types.now c.args.below) c.in-Set.components.items) (names_of c.in-Set.components.items) _ _ c.in_ok-values-in-Set.values (rw (← c.deref-in-Set.ensures.value) c.in_ok-values-in-Set.ensures.exact))
+
+pub decode_contents-returns-in_ok-values-in-Set-clause-fits : goal.decode_contents-returns-in_ok-values-in-Set-clause-fits
+decode_contents-returns-in_ok-values-in-Set-clause-fits t c =
+    rw c.in-Set.is (are_items (ComponentsFit (Fits c.args.types.now c.args.below) c.in-Set.components.items) c.in_ok-values-in-Set.values (rw (← c.deref-in-Set.ensures.value) c.in_ok-values-in-Set.ensures.fits))
+
+-- ---- elements
+
+pub decode_elements-loop-element-preserved : goal.decode_elements-loop-element-preserved
+decode_elements-loop-element-preserved t c = (
+  passes_more (Decodes (shape_of_type c.args.types.now c.args.below c.args.element.0) tree_of) c.loop-element.decoder _ c.in_ok-value.value c.loop-element-test.ensures c.in_ok-value.ensures.reads
+      (λ e. c.in_ok-keep.ensures.1 (e ∙ sym (ap length c.remaining-left.ensures.value))) c.args.decoder.now c.loop-element.values.items _ c.in_ok-keep.ensures.0 c.loop-element.invariant.0,
+  each_more (Fits c.args.types.now c.args.below c.args.element.0) c.loop-element.values.items _ c.in_ok-value.value c.in_ok-keep.ensures.0 c.loop-element.invariant.1 c.in_ok-value.ensures.fits,
+)
+
+pub decode_elements_in_order-loop-last-init : goal.decode_elements_in_order-loop-last-init
+decode_elements_in_order-loop-last-init t c = rw c.new-values.ensures.items (([], (refl, refl), (λ strict. tt), refl), tt)
+
+-- ---- elements in order
+
+pub decode_elements_in_order-returns-then-is_less-clause-reads : goal.decode_elements_in_order-returns-then-is_less-clause-reads
+decode_elements_in_order-returns-then-is_less-clause-reads t c =
+    let k = call_keeps c.in_ok-value.ensures.reads in (
+      c.loop-last.values.items,
+      c.loop-last.invariant.0.0,
+      c.loop-last.decoder,
+      c.loop-last.invariant.0.1,
+      c.loop-last.invariant.0.2,
+      c.loop-last-test.ensures,
+      inr (
+        c.in_ok-value.value,
+        c.octets_before-octets.result.now,
+        c.in_ok-value.ensures.reads,
+        rw (← c.remaining-start.ensures.value, ← c.remaining.ensures.value) c.octets_before-octets.ensures,
+        (λ e. c.in_ok-keep.ensures.1 (e ∙ sym (ap length c.remaining-start.ensures.value))),
+        strict_before c.loop-last.decoder _ k c.if-is_strict.ensures,
+        out_of_order c.loop-last.invariant.0.0 c.loop-last.last.now c.octets_before-octets.result.now c.loop-last.invariant.0.3 c.if-is_less.ensures,
+        rules_same c.loop-last.decoder _ (Der SetOfOutOfOrder) c.out_of_order.result k c.out_of_order.ensures,
+      ),
+    )
+
+pub decode_elements_in_order-loop-last-preserved : goal.decode_elements_in_order-loop-last-preserved
+decode_elements_in_order-loop-last-preserved t c =
+    let k = call_keeps c.in_ok-value.ensures.reads in
+    let strict_here : IsStrict c.args.decoder.now.rule → IsStrict c.loop-last.decoder.rule = λ h.
+    subst (λ (s : State). IsStrict s.rule) (sym (came_stays (shape_of_type c.args.types.now c.args.below c.args.element.0) tree_of c.args.decoder.now c.loop-last.decoder c.loop-last.values.items c.loop-last.invariant.0.0 c.loop-last.invariant.0.1)) h in
+    let not_less : IsStrict c.args.decoder.now.rule → IsLess c.octets_before-octets.result.now c.loop-last.last.now → ⊥ = λ s h. elim c.else-is_strict.branch [
+      | decode_elements_in_order-else-is_strict-via-then-is_strict+else-is_less w ↦ w.if-is_less.ensures h
+      | decode_elements_in_order-else-is_strict-via-else-is_strict w ↦ w.if-is_strict.ensures (strict_after c.loop-last.decoder _ k (strict_here s))
+    ] in (
+      (
+        c.loop-last.invariant.0.0 ++ (c.octets_before-octets.result.now ∷ []),
+        passes_from (Decodes (shape_of_type c.args.types.now c.args.below c.args.element.0) tree_of) c.loop-last.decoder _ c.in_ok-value.value c.octets_before-octets.result.now
+            (rw (← c.remaining-start.ensures.value, ← c.remaining.ensures.value) c.octets_before-octets.ensures) c.loop-last-test.ensures c.in_ok-value.ensures.reads
+            (λ e. c.in_ok-keep.ensures.1 (e ∙ sym (ap length c.remaining-start.ensures.value))) c.args.decoder.now c.loop-last.values.items _ c.loop-last.invariant.0.0 c.in_ok-keep.ensures.0 c.loop-last.invariant.0.1,
+        (λ s. in_order c.loop-last.invariant.0.0 c.loop-last.last.now c.octets_before-octets.result.now (c.loop-last.invariant.0.2 s) c.loop-last.invariant.0.3 (not_less s)),
+        ends_more c.loop-last.invariant.0.0 c.octets_before-octets.result.now,
+      ),
+      each_more (Fits c.args.types.now c.args.below c.args.element.0) c.loop-last.values.items _ c.in_ok-value.value c.in_ok-keep.ensures.0 c.loop-last.invariant.1 c.in_ok-value.ensures.fits,
+    )
 
 -- ---- a value that holds others
 
@@ -142,194 +260,223 @@ decode_inside-returns-in_err-inner-clause-exact t c =
 pub decode_inside-returns-in_err-value-clause-exact :
     goal.decode_inside-returns-in_err-value-clause-exact
 decode_inside-returns-in_err-value-clause-exact t c =
-    rw (residual _ c.from_residual-in_err-value.ensures.1) (step_refused _ c.args.header c.args.decoder.now _ _ _ c.in_ok-inner.ensures.exact _ _ c.in_err-value.ensures)
+    rw (residual _ c.from_residual-in_err-value.ensures.1) (step_refused _ c.args.header c.args.decoder.now _ _ _ c.in_ok-inner.ensures.exact _ _ c.in_err-value.ensures.reads)
 
 pub decode_inside-returns-in_err-close-clause-exact :
     goal.decode_inside-returns-in_err-close-clause-exact
 decode_inside-returns-in_err-close-clause-exact t c =
     rw (residual _ c.from_residual-in_err-close.ensures.1)
-    (step_unclosed _ c.args.header c.args.decoder.now _ _ _ c.in_ok-inner.ensures.exact c.in_ok-value.value _ c.in_ok-value.ensures _ c.remaining.ensures.value _ _ c.in_err-close.ensures)
+    (step_unclosed _ c.args.header c.args.decoder.now _ _ _ c.in_ok-inner.ensures.exact c.in_ok-value.value _ c.in_ok-value.ensures.reads _ c.remaining.ensures.value _ _ c.in_err-close.ensures)
 
 pub decode_inside-returns-clause-exact : goal.decode_inside-returns-clause-exact
 decode_inside-returns-clause-exact t c =
-    step_closed _ c.args.header c.args.decoder.now _ _ _ c.in_ok-inner.ensures.exact c.in_ok-value.value _ c.in_ok-value.ensures _ c.remaining.ensures.value _ c.in_ok-close.ensures
+    step_closed _ c.args.header c.args.decoder.now _ _ _ c.in_ok-inner.ensures.exact c.in_ok-value.value _ c.in_ok-value.ensures.reads _ c.remaining.ensures.value _ c.in_ok-close.ensures
 
--- ---- a ty
+-- ---- a type
 
-pub decode_type-returns-in-Tagged : goal.decode_type-returns-in-Tagged
-decode_type-returns-in-Tagged t c =
+pub decode_type-returns-in-Tagged-clause-reads : goal.decode_type-returns-in-Tagged-clause-reads
+decode_type-returns-in-Tagged-clause-reads t c =
     inside_decodes c.args.decoder.now c.decode_inside.ensures.octets _ _ (type_by (shape_of_type c.args.types.now c.args.below) c.args.ty.now) c.prefix.result
     (subst (λ n. IsHeaderOf (type_by (shape_of_type c.args.types.now c.args.below) n) c.prefix.result) (sym c.in-Tagged.is) c.prefix.ensures) c.decode_inside.ensures.exact
 
-pub decode_type-returns-in-Sequence : goal.decode_type-returns-in-Sequence
-decode_type-returns-in-Sequence t c =
+pub decode_type-returns-in-Sequence-clause-reads : goal.decode_type-returns-in-Sequence-clause-reads
+decode_type-returns-in-Sequence-clause-reads t c =
     inside_decodes c.args.decoder.now c.decode_inside-in-Sequence.ensures.octets _ _ (type_by (shape_of_type c.args.types.now c.args.below) c.args.ty.now) c.sequence.result
     (subst (λ n. IsHeaderOf (type_by (shape_of_type c.args.types.now c.args.below) n) c.sequence.result) (sym c.in-Sequence.is) c.sequence.ensures) c.decode_inside-in-Sequence.ensures.exact
 
-pub decode_type-returns-in-Set : goal.decode_type-returns-in-Set
-decode_type-returns-in-Set t c =
+pub decode_type-returns-in-Set-clause-reads : goal.decode_type-returns-in-Set-clause-reads
+decode_type-returns-in-Set-clause-reads t c =
     inside_decodes c.args.decoder.now c.decode_inside-in-Set.ensures.octets _ _ (type_by (shape_of_type c.args.types.now c.args.below) c.args.ty.now) c.sequence-in-Set.result
     (subst (λ n. IsHeaderOf (type_by (shape_of_type c.args.types.now c.args.below) n) c.sequence-in-Set.result) (sym c.in-Set.is) c.sequence-in-Set.ensures) c.decode_inside-in-Set.ensures.exact
 
-pub decode_type-returns-in-SequenceOf : goal.decode_type-returns-in-SequenceOf
-decode_type-returns-in-SequenceOf t c =
+pub decode_type-returns-in-SequenceOf-clause-reads : goal.decode_type-returns-in-SequenceOf-clause-reads
+decode_type-returns-in-SequenceOf-clause-reads t c =
     inside_decodes c.args.decoder.now c.decode_inside-in-SequenceOf.ensures.octets _ _ (type_by (shape_of_type c.args.types.now c.args.below) c.args.ty.now) c.list.result
     (subst (λ n. IsHeaderOf (type_by (shape_of_type c.args.types.now c.args.below) n) c.list.result) (sym c.in-SequenceOf.is) c.list.ensures) c.decode_inside-in-SequenceOf.ensures.exact
 
-pub decode_type-returns-in-SetOf : goal.decode_type-returns-in-SetOf
-decode_type-returns-in-SetOf t c =
+pub decode_type-returns-in-SetOf-clause-reads : goal.decode_type-returns-in-SetOf-clause-reads
+decode_type-returns-in-SetOf-clause-reads t c =
     inside_decodes c.args.decoder.now c.decode_inside-in-SetOf.ensures.octets _ _ (type_by (shape_of_type c.args.types.now c.args.below) c.args.ty.now) c.list-in-SetOf.result
     (subst (λ n. IsHeaderOf (type_by (shape_of_type c.args.types.now c.args.below) n) c.list-in-SetOf.result) (sym c.in-SetOf.is) c.list-in-SetOf.ensures) c.decode_inside-in-SetOf.ensures.exact
 
--- ---- parts
+-- ---- components
 
-pub decode_component-returns-in_err-value : goal.decode_component-returns-in_err-value
-decode_component-returns-in_err-value t c = rw (residual _ c.from_residual.ensures.1) (unread ((shape_of_type c.args.types.now c.args.below) c.args.component.now.type_id.0) (tag_at c.args.types.now c.args.component.now.type_id.0) (own_is _ _ _ c.requires) _ (presence_of c.args.component.now.presence) _ c.in_err-value.ensures)
+pub decode_component-returns-then-is_always_there-clause-reads : goal.decode_component-returns-then-is_always_there-clause-reads
+decode_component-returns-then-is_always_there-clause-reads t c =
+    always ((shape_of_type c.args.types.now c.args.below) c.args.component.now.type_id.0) (tag_at c.args.types.now c.args.component.now.type_id.0) (own_is _ _ _ c.requires) _ (presence_of c.args.component.now.presence) c.if-is_always_there.ensures _ _ c.decode_present.ensures.reads
 
-pub decode_component-returns-in-Some : goal.decode_component-returns-in-Some
-decode_component-returns-in-Some t c = left ((shape_of_type c.args.types.now c.args.below) c.args.component.now.type_id.0) (tag_at c.args.types.now c.args.component.now.type_id.0) (own_is _ _ _ c.requires) _ (presence_of c.args.component.now.presence) c.in-Some.value (subst (λ o. LooksFor (presence_of c.args.component.now.presence) (tag_at c.args.types.now c.args.component.now.type_id.0) c.args.decoder.now (Ok o)) c.in-Some.is c.in_ok-value.ensures)
+pub decode_component-returns-then-is_always_there-clause-fits : goal.decode_component-returns-then-is_always_there-clause-fits
+decode_component-returns-then-is_always_there-clause-fits t c = if_ok _ _ _ (λ v h. inr h) c.decode_present.ensures.fits
 
-pub decode_component-returns-in_err-value-2 : goal.decode_component-returns-in_err-value-2
-decode_component-returns-in_err-value-2 t c =
-    rw (residual _ c.from_residual-in_err-value-2.ensures.1)
-    (read_refused ((shape_of_type c.args.types.now c.args.below) c.args.component.now.type_id.0) (tag_at c.args.types.now c.args.component.now.type_id.0) (own_is _ _ _ c.requires) _ (presence_of c.args.component.now.presence) c.in_err-value-2.field-0.0 _ (subst (λ o. LooksFor (presence_of c.args.component.now.presence) (tag_at c.args.types.now c.args.component.now.type_id.0) c.args.decoder.now (Ok o)) c.in_default.is c.in_ok-value.ensures) c.in_err-value-2.ensures)
+pub decode_component-returns-in-Ok-true-clause-reads : goal.decode_component-returns-in-Ok-true-clause-reads
+decode_component-returns-in-Ok-true-clause-reads t c = looked ((shape_of_type c.args.types.now c.args.below) c.args.component.now.type_id.0) c.tag_at.result (rw c.tag_at.ensures (own_is _ _ _ c.requires)) _ (presence_of c.args.component.now.presence) c.if-is_always_there.ensures c.in-Ok-true.ensures _ _ c.decode_present-in-Ok-true.ensures.reads
 
-pub decode_component-returns : goal.decode_component-returns
-decode_component-returns t c =
-    read_checked ((shape_of_type c.args.types.now c.args.below) c.args.component.now.type_id.0) (tag_at c.args.types.now c.args.component.now.type_id.0) (own_is _ _ _ c.requires) _ (presence_of c.args.component.now.presence) c.in_ok-value-2.value _ (subst (λ o. LooksFor (presence_of c.args.component.now.presence) (tag_at c.args.types.now c.args.component.now.type_id.0) c.args.decoder.now (Ok o)) c.in_default.is c.in_ok-value.ensures) c.in_ok-value-2.ensures _ c.checked.ensures
+pub decode_component-returns-in-Ok-true-clause-fits : goal.decode_component-returns-in-Ok-true-clause-fits
+decode_component-returns-in-Ok-true-clause-fits t c = if_ok _ _ _ (λ v h. inr h) c.decode_present-in-Ok-true.ensures.fits
 
-pub decode_components-returns-in_err-value : goal.decode_components-returns-in_err-value
-decode_components-returns-in_err-value t c =
-    rw (residual _ c.from_residual.ensures.1)
-    (part_fails _ _ _ (presence_of c.component-item.result.presence) ((shape_of_type c.args.types.now c.args.below) c.component-item.result.type_id.0) _ _ _ c.loop-rest.invariant.0 (ap (components_by (shape_of_type c.args.types.now c.args.below)) (split c.loop-rest.rest.now _ c.in-len1-up.len_at_least c.component-item.is)) _ _ c.in_err-value.ensures)
+pub decode_component-missing-requires : goal.decode_component-missing-requires
+decode_component-missing-requires t c = not_required c.args.component.now.presence c.if-is_always_there.ensures
 
-pub decode_components-returns-in_err-push : goal.decode_components-returns-in_err-push
-decode_components-returns-in_err-push t c =
+pub decode_component-returns-in-Ok-false-clause-reads : goal.decode_component-returns-in-Ok-false-clause-reads
+decode_component-returns-in-Ok-false-clause-reads t c = made ((shape_of_type c.args.types.now c.args.below) c.args.component.now.type_id.0) c.tag_at.result (rw c.tag_at.ensures (own_is _ _ _ c.requires)) _ (presence_of c.args.component.now.presence) c.if-is_always_there.ensures c.in-Ok-false.ensures _ c.missing.ensures.ok c.missing.ensures.err
+
+pub decode_component-returns-in-Ok-false-clause-fits : goal.decode_component-returns-in-Ok-false-clause-fits
+decode_component-returns-in-Ok-false-clause-fits t c = if_ok _ _ _ (λ v m. missing_fits (Fits c.args.types.now c.args.below) c.args.component.now v m) c.missing.ensures.ok
+
+pub decode_component-returns-in-Err-clause-reads : goal.decode_component-returns-in-Err-clause-reads
+decode_component-returns-in-Err-clause-reads t c = unread ((shape_of_type c.args.types.now c.args.below) c.args.component.now.type_id.0) c.tag_at.result (rw c.tag_at.ensures (own_is _ _ _ c.requires)) _ (presence_of c.args.component.now.presence) c.if-is_always_there.ensures c.in-Err.error c.in-Err.ensures
+
+pub decode_present-returns-in_default-clause-reads : goal.decode_present-returns-in_default-clause-reads
+decode_present-returns-in_default-clause-reads t c = plain ((shape_of_type c.args.types.now c.args.below) c.args.component.now.type_id.0) c.args.component.now.presence _ _ c.in_default.not-Default _ c.decode_at.ensures.reads
+
+pub decode_present-returns-in_err-value-clause-reads : goal.decode_present-returns-in_err-value-clause-reads
+decode_present-returns-in_err-value-clause-reads t c = rw (residual _ c.from_residual.ensures.1) (inl c.in_err-value.ensures.reads)
+
+pub decode_present-returns-then-not-is_strict-clause-reads : goal.decode_present-returns-then-not-is_strict-clause-reads
+decode_present-returns-then-not-is_strict-clause-reads t c = kept ((shape_of_type c.args.types.now c.args.below) c.args.component.now.type_id.0) c.args.component.now.presence c.in-Default.default.now c.in-Default.is _ _ c.in_ok-value.value c.in_ok-value.ensures.reads c.if-not-is_strict.ensures
+
+pub decode_present-returns-then-means_same-clause-reads : goal.decode_present-returns-then-means_same-clause-reads
+decode_present-returns-then-means_same-clause-reads t c =
+    default_is_written ((shape_of_type c.args.types.now c.args.below) c.args.component.now.type_id.0) c.args.component.now.presence c.in-Default.default.now c.in-Default.is _ _ c.in_ok-value.value c.in_ok-value.ensures.reads c.if-not-is_strict.ensures (c.means_same.ensures.same c.if-means_same.true) c.default_present.result c.default_present.ensures
+
+pub decode_present-returns-clause-reads : goal.decode_present-returns-clause-reads
+decode_present-returns-clause-reads t c =
+    differs ((shape_of_type c.args.types.now c.args.below) c.args.component.now.type_id.0) c.args.component.now.presence c.in-Default.default.now c.in-Default.is _ _ c.in_ok-value.value c.in_ok-value.ensures.reads (λ s. let h = c.means_same.ensures.equal s in let f = c.if-means_same.false in cc)
+
+-- ---- the components of a SEQUENCE
+
+pub decode_sequence-returns-in_err-found-clause-reads : goal.decode_sequence-returns-in_err-found-clause-reads
+decode_sequence-returns-in_err-found-clause-reads t c = rw (residual _ c.from_residual.ensures.1) (sequence_runs_out _ _ _ c.in_err-found.ensures.err)
+
+pub decode_sequence-gather-requires : goal.decode_sequence-gather-requires
+decode_sequence-gather-requires t c = ap length c.in_ok-found.ensures.ok ∙ as_many_nones c.args.components.now
+
+pub decode_sequence-returns-then-leaves_all_out-clause-reads : goal.decode_sequence-returns-then-leaves_all_out-clause-reads
+decode_sequence-returns-then-leaves_all_out-clause-reads t c =
+    all_left (shape_of_type c.args.types.now c.args.below) c.args.components.now c.args.decoder.now c.if-leaves_all_out.ensures _ c.in_ok-found.found.items c.in_ok-found.ensures.ok _ c.gather.ensures
+
+pub decode_sequence-returns-then-leaves_all_out-clause-fits : goal.decode_sequence-returns-then-leaves_all_out-clause-fits
+decode_sequence-returns-then-leaves_all_out-clause-fits t c =
+    gathered_fit (Fits c.args.types.now c.args.below) c.args.components.now _ c.in_ok-found.found.items _ (nones_fit (Fits c.args.types.now c.args.below) c.args.components.now c.in_ok-found.found.items c.in_ok-found.ensures.ok) c.gather.ensures
+
+pub decode_sequence-returns-in_default-clause-reads : goal.decode_sequence-returns-in_default-clause-reads
+decode_sequence-returns-in_default-clause-reads t c = sequence_runs_out _ _ _ c.out_of_memory.ensures.kind
+
+pub decode_sequence-loop-rest-init : goal.decode_sequence-loop-rest-init
+decode_sequence-loop-rest-init t c = rw c.in-Ok.ensures.items (parts_start _ _, c.requires, λ us h. h)
+
+pub decode_sequence-returns-in_err-value-clause-reads : goal.decode_sequence-returns-in_err-value-clause-reads
+decode_sequence-returns-in_err-value-clause-reads t c =
+    rw (residual _ c.from_residual-in_err-value.ensures.1)
+    (in_turn (shape_of_type c.args.types.now c.args.below) c.args.components.now c.args.decoder.now c.if-leaves_all_out.ensures _ _
+    (part_fails _ _ _ (presence_of c.component-item.result.presence) ((shape_of_type c.args.types.now c.args.below) c.component-item.result.type_id.0) _ _ _ c.loop-rest.invariant.0 (ap (components_by (shape_of_type c.args.types.now c.args.below)) (split c.loop-rest.rest.now _ c.in-len1-up.len_at_least c.component-item.is)) _ _ c.in_err-value.ensures.reads))
+
+pub decode_sequence-returns-in_err-push-clause-reads : goal.decode_sequence-returns-in_err-push-clause-reads
+decode_sequence-returns-in_err-push-clause-reads t c =
     rw (residual _ c.from_residual-in_err-push.ensures.1)
-    (parts_run_out _ _ _ _ _ _ c.loop-rest.invariant.0 (record { stays = c.decode_component.ensures.stays; end = c.decode_component.ensures.end }) c.in_err-push.field-0.0 c.in_err-push.ensures.kind)
+    (in_turn (shape_of_type c.args.types.now c.args.below) c.args.components.now c.args.decoder.now c.if-leaves_all_out.ensures _ _
+    (parts_run_out _ _ _ _ _ _ c.loop-rest.invariant.0 (record { stays = c.in_ok-value.ensures.reads.stays; end = c.in_ok-value.ensures.reads.end }) c.in_err-push.field-0.0 c.in_err-push.ensures.kind))
 
-pub decode_components-loop-rest-preserved : goal.decode_components-loop-rest-preserved
-decode_components-loop-rest-preserved t c =
-    let e = ap (components_by (shape_of_type c.args.types.now c.args.below)) (split c.loop-rest.rest.now _ c.in-len1-up.len_at_least c.component-item.is) in (
+pub decode_sequence-loop-rest-preserved : goal.decode_sequence-loop-rest-preserved
+decode_sequence-loop-rest-preserved t c =
+    let at = split c.loop-rest.rest.now _ c.in-len1-up.len_at_least c.component-item.is in
+    let e = ap (components_by (shape_of_type c.args.types.now c.args.below)) at in (
       parts_more _ _ _ (presence_of c.component-item.result.presence) ((shape_of_type c.args.types.now c.args.below) c.component-item.result.type_id.0) _ _ _ c.loop-rest.invariant.0 e (tree_of c.in_ok-value.value) _ _
-          (ap (map tree_of) c.in_ok-push.ensures.ok ∙ one_more c.loop-rest.values.items c.in_ok-value.value) c.in_ok-value.ensures,
+          (ap (map tree_of) c.in_ok-push.ensures.ok ∙ one_more c.loop-rest.values.items c.in_ok-value.value) c.in_ok-value.ensures.reads,
       (subst AreLawful e c.loop-rest.invariant.1).1,
+      fit_more (Fits c.args.types.now c.args.below) _ _ _ c.component-item.result c.loop-rest.values.items _ c.in_ok-value.value c.loop-rest.invariant.2 at c.in_ok-push.ensures.ok c.in_ok-value.ensures.fits,
     )
 
-pub decode_components-returns : goal.decode_components-returns
-decode_components-returns t c = parts_end _ _ _ _ _ c.loop-rest.invariant.0 (ap (components_by (shape_of_type c.args.types.now c.args.below)) (nothing_left _ c.in_default.len_below))
+pub decode_sequence-returns-clause-reads : goal.decode_sequence-returns-clause-reads
+decode_sequence-returns-clause-reads t c =
+    in_turn (shape_of_type c.args.types.now c.args.below) c.args.components.now c.args.decoder.now c.if-leaves_all_out.ensures _ _ (parts_end _ _ _ _ _ c.loop-rest.invariant.0 (ap (components_by (shape_of_type c.args.types.now c.args.below)) (nothing_left _ c.in_default-2.len_below)))
 
-pub decode_sequence-returns-then-leaves_all_out : goal.decode_sequence-returns-then-leaves_all_out
-decode_sequence-returns-then-leaves_all_out t c =
-    all_left (shape_of_type c.args.types.now c.args.below) c.args.components.now c.args.decoder.now c.if-leaves_all_out.ensures _ c.all_left_out.ensures
+pub decode_sequence-returns-clause-fits : goal.decode_sequence-returns-clause-fits
+decode_sequence-returns-clause-fits t c = fit_end (Fits c.args.types.now c.args.below) _ _ _ c.loop-rest.invariant.2 (nothing_left _ c.in_default-2.len_below)
 
-pub decode_sequence-returns-in_err-values : goal.decode_sequence-returns-in_err-values
-decode_sequence-returns-in_err-values t c =
-    rw (residual _ c.from_residual.ensures.1) (in_turn (shape_of_type c.args.types.now c.args.below) c.args.components.now c.args.decoder.now c.if-leaves_all_out.ensures _ _ c.in_err-values.ensures)
-
-pub decode_sequence-returns : goal.decode_sequence-returns
-decode_sequence-returns t c =
-    in_turn (shape_of_type c.args.types.now c.args.below) c.args.components.now c.args.decoder.now c.if-leaves_all_out.ensures _ _
-    (subst (λ z. DecodesExactly (ReadsParts (components_by (shape_of_type c.args.types.now c.args.below) c.args.components.now)) c.args.decoder.now (Got z c.decode_components.new.decoder.rest) c.decode_components.new.decoder) (sym (tree_items c.in_ok-values.values)) c.in_ok-values.ensures)
-
--- ---- elements in order
-
-pub decode_elements_in_order-returns-then-is_less : goal.decode_elements_in_order-returns-then-is_less
-decode_elements_in_order-returns-then-is_less t c =
-    let k = call_keeps c.in_ok-value.ensures in (
-      c.loop-last.values.items,
-      c.loop-last.invariant.0,
-      c.loop-last.decoder,
-      c.loop-last.invariant.1,
-      c.loop-last.invariant.2,
-      c.loop-last-test.ensures,
-      inr (
-        c.in_ok-value.value,
-        c.octets_before-octets.result.now,
-        c.in_ok-value.ensures,
-        rw (← c.remaining-start.ensures.value, ← c.remaining.ensures.value) c.octets_before-octets.ensures,
-        (λ e. c.in_ok-keep.ensures.1 (e ∙ sym (ap length c.remaining-start.ensures.value))),
-        strict_before c.loop-last.decoder _ k c.if-is_strict.ensures,
-        out_of_order c.loop-last.invariant.0 c.loop-last.last.now c.octets_before-octets.result.now c.loop-last.invariant.3 c.if-is_less.ensures,
-        rules_same c.loop-last.decoder _ (Der SetOfOutOfOrder) c.out_of_order.result k c.out_of_order.ensures,
-      ),
-    )
-
-pub decode_elements_in_order-loop-last-preserved : goal.decode_elements_in_order-loop-last-preserved
-decode_elements_in_order-loop-last-preserved t c =
-    let k = call_keeps c.in_ok-value.ensures in
-    let strict_here : IsStrict c.args.decoder.now.rule → IsStrict c.loop-last.decoder.rule = λ h.
-    subst (λ (s : State). IsStrict s.rule) (sym (came_stays (shape_of_type c.args.types.now c.args.below c.args.element.0) tree_of c.args.decoder.now c.loop-last.decoder c.loop-last.values.items c.loop-last.invariant.0 c.loop-last.invariant.1)) h in
-    let not_less : IsStrict c.args.decoder.now.rule → IsLess c.octets_before-octets.result.now c.loop-last.last.now → ⊥ = λ s h. elim c.else-is_strict.branch [
-      | decode_elements_in_order-else-is_strict-via-then-is_strict+else-is_less w ↦ w.if-is_less.ensures h
-      | decode_elements_in_order-else-is_strict-via-else-is_strict w ↦ w.if-is_strict.ensures (strict_after c.loop-last.decoder _ k (strict_here s))
-    ] in (
-      c.loop-last.invariant.0 ++ (c.octets_before-octets.result.now ∷ []),
-      passes_from (Decodes (shape_of_type c.args.types.now c.args.below c.args.element.0) tree_of) c.loop-last.decoder _ c.in_ok-value.value c.octets_before-octets.result.now
-          (rw (← c.remaining-start.ensures.value, ← c.remaining.ensures.value) c.octets_before-octets.ensures) c.loop-last-test.ensures c.in_ok-value.ensures
-          (λ e. c.in_ok-keep.ensures.1 (e ∙ sym (ap length c.remaining-start.ensures.value))) c.args.decoder.now c.loop-last.values.items _ c.loop-last.invariant.0 c.in_ok-keep.ensures.0 c.loop-last.invariant.1,
-      (λ s. in_order c.loop-last.invariant.0 c.loop-last.last.now c.octets_before-octets.result.now (c.loop-last.invariant.2 s) c.loop-last.invariant.3 (not_less s)),
-      ends_more c.loop-last.invariant.0 c.octets_before-octets.result.now,
-    )
-
--- ---- the parts of a SET
-
-pub decode_set_component-returns-in_err-tag-clause-next : goal.decode_set_component-returns-in_err-tag-clause-next
-decode_set_component-returns-in_err-tag-clause-next t c = rw (residual _ c.from_residual.ensures.1) (next_unpeeked (components_by (shape_of_type c.args.types.now c.args.below) c.args.components.now) (held c.args.found.now.items) (held c.args.found.now.items) _ _ c.in_err-tag.ensures.exact)
-
-pub decode_set_component-returns-in_default-clause-next : goal.decode_set_component-returns-in_default-clause-next
-decode_set_component-returns-in_default-clause-next t c = next_unknown (components_by (shape_of_type c.args.types.now c.args.below) c.args.components.now) (held c.args.found.now.items) (held c.args.found.now.items) _ c.in_ok-tag.tag c.in_ok-tag.ensures.next c.in_default.ensures c.no_value.result
-
-pub decode_set_component-decode_at-requires : goal.decode_set_component-decode_at-requires
-decode_set_component-decode_at-requires t c = (search rules, part_lawful (shape_of_type c.args.types.now c.args.below) c.args.components.now c.in-Some.number c.in-Some.component.now c.requires.lawful c.in-Some.ensures.0)
-
-pub decode_set_component-returns-in_err-value-clause-next : goal.decode_set_component-returns-in_err-value-clause-next
-decode_set_component-returns-in_err-value-clause-next t c = rw (residual _ c.from_residual-in_err-value.ensures.1) (next_unread (shape_of_type c.args.types.now c.args.below) c.args.components.now c.in-Some.number c.in-Some.component.now c.in_ok-tag.tag c.requires.lawful c.in-Some.ensures _ _ c.in_ok-tag.ensures.next c.args.found.now.items c.in_err-value.field-0.0 c.in_err-value.ensures)
-
-pub decode_set_component-returns-in_err-value-2-clause-next : goal.decode_set_component-returns-in_err-value-2-clause-next
-decode_set_component-returns-in_err-value-2-clause-next t c =
-    rw (residual _ c.from_residual-in_err-value-2.ensures.1) (next_default (shape_of_type c.args.types.now c.args.below) c.args.components.now c.in-Some.number c.in-Some.component.now c.in_ok-tag.tag c.requires.lawful c.in-Some.ensures _ _ c.in_ok-tag.ensures.next c.args.found.now.items c.in_ok-value.value c.in_ok-value.ensures c.in_err-value-2.field-0.0 c.in_err-value-2.ensures)
-
-pub decode_set_component-returns-then-remaining-left-clause-next : goal.decode_set_component-returns-then-remaining-left-clause-next
-decode_set_component-returns-then-remaining-left-clause-next t c =
-    next_idle (shape_of_type c.args.types.now c.args.below) c.args.components.now c.in-Some.number c.in-Some.component.now c.in_ok-tag.tag c.requires.lawful c.in-Some.ensures _ _ c.in_ok-tag.ensures.next c.args.found.now.items c.in_ok-value.value c.in_ok-value.ensures c.in_ok-value-2.value c.in_ok-value-2.ensures _ (ap length c.remaining-left.ensures.value) (sym (ap length c.remaining.ensures.value) ∙ c.if-remaining-left.true) c.extra.result c.extra.ensures
-
-pub decode_set_component-put-requires : goal.decode_set_component-put-requires
-decode_set_component-put-requires t c = rw c.requires.as_many (got_below c.args.components.now c.in-Some.number c.in-Some.component.now c.in-Some.ensures.0)
-
-pub decode_set_component-returns-clause-next : goal.decode_set_component-returns-clause-next
-decode_set_component-returns-clause-next t c =
-    next_put (shape_of_type c.args.types.now c.args.below) c.args.components.now c.in-Some.number c.in-Some.component.now c.in_ok-tag.tag c.requires.lawful c.in-Some.ensures _ _ c.in_ok-tag.ensures.next c.args.found.now.items c.in_ok-value.value c.in_ok-value.ensures c.in_ok-value-2.value c.in_ok-value-2.ensures
-    (rw c.requires.as_many (got_below c.args.components.now c.in-Some.number c.in-Some.component.now c.in-Some.ensures.0)) _ (ap length c.remaining-left.ensures.value)
-    (λ e. c.if-remaining-left.false (ap length c.remaining.ensures.value ∙ e)) _ _ c.put.ensures
-
-pub decode_set_component-returns-clause-as_many : goal.decode_set_component-returns-clause-as_many
-decode_set_component-returns-clause-as_many t c = put_as_many c.in-Some.number c.in_ok-value-2.value c.args.found.now.items _ _ _ c.requires.as_many c.put.ensures
+-- ---- the components of a SET
 
 pub decode_set-loop-last-init : goal.decode_set-loop-last-init
 decode_set-loop-last-init t c = (
-  ([], [], (refl, refl), (λ s. ([], refl, tt, refl)), none_held _ 0 _ (nones_come (shape_of_type c.args.types.now c.args.below) c.args.components.now _ c.in_ok-found.ensures.ok)),
-  ap length c.in_ok-found.ensures.ok ∙ as_many_nones c.args.components.now,
+  none_read (components_by (shape_of_type c.args.types.now c.args.below) c.args.components.now) (names_of c.args.components.now) _ _ (nones_come (shape_of_type c.args.types.now c.args.below) c.args.components.now _ c.requires.none),
+  nones_fit (Fits c.args.types.now c.args.below) c.args.components.now _ c.requires.none,
 )
 
-pub decode_set-returns-in_err-last : goal.decode_set-returns-in_err-last
-decode_set-returns-in_err-last t c =
+pub decode_set-returns-in_err-last-clause-exact : goal.decode_set-returns-in_err-last-clause-exact
+decode_set-returns-in_err-last-clause-exact t c =
     let at = c.loop-last in
-    rw (residual _ c.from_residual-in_err-last.ensures.1)
-    (untold (components_by (shape_of_type c.args.types.now c.args.below) c.args.components.now) c.args.decoder.now at.decoder at.last _ at.invariant.0 tree_of c.loop-last-test.ensures c.in_err-last.field-0.0 c.in_err-last.ensures)
+    rw (residual _ c.from_residual.ensures.1) (untold (components_by (shape_of_type c.args.types.now c.args.below) c.args.components.now) _ c.args.decoder.now at.decoder at.last at.twice _ at.invariant.0 values_tree c.loop-last-test.ensures _ c.in_err-last.ensures)
 
-pub decode_set-returns-in_err-decode_set_component : goal.decode_set-returns-in_err-decode_set_component
-decode_set-returns-in_err-decode_set_component t c =
+pub decode_set-returns-in_err-next-clause-exact : goal.decode_set-returns-in_err-next-clause-exact
+decode_set-returns-in_err-next-clause-exact t c =
     let at = c.loop-last in
-    rw (residual _ c.from_residual-in_err-decode_set_component.ensures.1)
-    (next_fails (components_by (shape_of_type c.args.types.now c.args.below) c.args.components.now) c.args.decoder.now at.decoder at.last _ at.invariant.0 tree_of c.loop-last-test.ensures _ c.in_ok-last.ensures c.in_err-decode_set_component.field-0.0 _ (held c.decode_set_component.new.found.items) c.in_err-decode_set_component.ensures.next)
+    rw (residual _ c.from_residual-in_err-next.ensures.1)
+    (next_fails (components_by (shape_of_type c.args.types.now c.args.below) c.args.components.now) _ c.args.decoder.now at.decoder at.last at.twice _ at.invariant.0 values_tree c.loop-last-test.ensures _ c.in_ok-last.ensures _ _ (held c.decode_set_component.new.found.items) c.in_err-next.ensures.next)
 
 pub decode_set-loop-last-preserved : goal.decode_set-loop-last-preserved
 decode_set-loop-last-preserved t c =
-    let at = c.loop-last in
-    (next_comes (components_by (shape_of_type c.args.types.now c.args.below) c.args.components.now) c.args.decoder.now at.decoder at.last _ at.invariant.0 c.loop-last-test.ensures _ c.in_ok-last.ensures c.in_ok-decode_set_component.field-0 _ _ c.in_ok-decode_set_component.ensures.next, c.in_ok-decode_set_component.ensures.as_many)
+    let at = c.loop-last in (
+      rw c.or-twice.ensures (next_passes (components_by (shape_of_type c.args.types.now c.args.below) c.args.components.now) _ c.args.decoder.now at.decoder at.last at.twice _ at.invariant.0 c.loop-last-test.ensures _ c.in_ok-last.ensures _ _ _ c.in_ok-next.ensures.next),
+      c.in_ok-next.ensures.found,
+    )
 
-pub decode_set-returns : goal.decode_set-returns
-decode_set-returns t c =
+pub decode_set-returns-in-Some-clause-exact : goal.decode_set-returns-in-Some-clause-exact
+decode_set-returns-in-Some-clause-exact t c =
     let at = c.loop-last in
-    all_gathered (components_by (shape_of_type c.args.types.now c.args.below) c.args.components.now) c.args.decoder.now at.decoder at.last _ at.invariant.0 tree_of c.loop-last-test.ensures _ (makes_parts (shape_of_type c.args.types.now c.args.below) c.args.components.now _ _ c.gather.ensures)
+    let ps = components_by (shape_of_type c.args.types.now c.args.below) c.args.components.now in
+    let names = names_of c.args.components.now in
+    let h : at.twice ≡ Some c.in-Some.name = search rules in
+    one_twice ps names values_tree c.args.decoder.now at.decoder at.last (held at.found.items) c.loop-last-test.ensures c.in-Some.name
+    (subst (λ z. ReadTo ps names c.args.decoder.now at.decoder at.last z (held at.found.items)) h at.invariant.0) _
+    (subst (λ z. IsNamedError (IsDuplicateField (text c.in-Some.name)) z c.duplicate_field.result) c.codec.ensures c.duplicate_field.ensures)
+
+pub decode_set-gather-requires : goal.decode_set-gather-requires
+decode_set-gather-requires t c = found_length (Fits c.args.types.now c.args.below) c.args.components.now _ c.loop-last.invariant.1
+
+pub decode_set-returns-clause-exact : goal.decode_set-returns-clause-exact
+decode_set-returns-clause-exact t c =
+    let at = c.loop-last in
+    let ps = components_by (shape_of_type c.args.types.now c.args.below) c.args.components.now in
+    let names = names_of c.args.components.now in
+    let h : at.twice ≡ None = search rules in
+    all_once ps names values_tree c.args.decoder.now at.decoder at.last (held at.found.items) c.loop-last-test.ensures
+    (subst (λ z. ReadTo ps names c.args.decoder.now at.decoder at.last z (held at.found.items)) h at.invariant.0) _ (makes_parts (shape_of_type c.args.types.now c.args.below) c.args.components.now _ at.found.items _ c.gather.ensures)
+
+pub decode_set-returns-clause-fits : goal.decode_set-returns-clause-fits
+decode_set-returns-clause-fits t c = gathered_fit (Fits c.args.types.now c.args.below) c.args.components.now _ c.loop-last.found.items _ c.loop-last.invariant.1 c.gather.ensures
+
+-- ---- one of them
+
+pub decode_set_component-returns-in_err-tag-clause-next : goal.decode_set_component-returns-in_err-tag-clause-next
+decode_set_component-returns-in_err-tag-clause-next t c =
+    rw (residual _ c.from_residual.ensures.1) (next_unpeeked (components_by (shape_of_type c.args.types.now c.args.below) c.args.components.now) (names_of c.args.components.now) (held c.args.found.now.items) (held c.args.found.now.items) _ _ c.in_err-tag.ensures.exact)
+
+pub decode_set_component-returns-in_default-clause-next : goal.decode_set_component-returns-in_default-clause-next
+decode_set_component-returns-in_default-clause-next t c =
+    next_unknown (components_by (shape_of_type c.args.types.now c.args.below) c.args.components.now) (names_of c.args.components.now) (held c.args.found.now.items) (held c.args.found.now.items) _ c.in_ok-tag.tag c.in_ok-tag.ensures.next c.in_default.ensures c.no_valid_choice.result
+
+pub decode_set_component-decode_present-requires : goal.decode_set_component-decode_present-requires
+decode_set_component-decode_present-requires t c = (search rules, part_lawful (shape_of_type c.args.types.now c.args.below) c.args.components.now c.in-Some.number c.in-Some.component.now c.requires.lawful c.in-Some.ensures.0)
+
+pub decode_set_component-returns-in_err-value-clause-next : goal.decode_set_component-returns-in_err-value-clause-next
+decode_set_component-returns-in_err-value-clause-next t c =
+    rw (residual _ c.from_residual-in_err-value.ensures.1)
+    (next_unread (shape_of_type c.args.types.now c.args.below) c.args.components.now c.in-Some.number c.in-Some.component.now c.in_ok-tag.tag c.requires.lawful c.in-Some.ensures _ _ c.in_ok-tag.ensures.next c.in_err-value.field-0.0 (held c.args.found.now.items) (held c.args.found.now.items) c.in_err-value.ensures.reads)
+
+pub decode_set_component-returns-then-remaining-left-clause-next : goal.decode_set_component-returns-then-remaining-left-clause-next
+decode_set_component-returns-then-remaining-left-clause-next t c =
+    next_idle (shape_of_type c.args.types.now c.args.below) c.args.components.now c.in-Some.number c.in-Some.component.now c.in_ok-tag.tag c.requires.lawful c.in-Some.ensures _ _ c.in_ok-tag.ensures.next c.in_ok-value.value c.in_ok-value.ensures.reads
+    (held c.args.found.now.items) (held c.args.found.now.items) _ (ap length c.remaining-left.ensures.value) (sym (ap length c.remaining.ensures.value) ∙ c.if-remaining-left.true) c.extra.result c.extra.ensures
+
+pub decode_set_component-put-requires : goal.decode_set_component-put-requires
+decode_set_component-put-requires t c = rw (found_length (Fits c.args.types.now c.args.below) c.args.components.now _ c.requires.found) (got_below c.args.components.now c.in-Some.number c.in-Some.component.now c.in-Some.ensures.0)
+
+pub decode_set_component-returns-clause-next : goal.decode_set_component-returns-clause-next
+decode_set_component-returns-clause-next t c =
+    next_put (shape_of_type c.args.types.now c.args.below) c.args.components.now c.in-Some.number c.in-Some.component.now c.in_ok-tag.tag c.requires.lawful c.in-Some.ensures _ _ c.in_ok-tag.ensures.next c.in_ok-value.value c.in_ok-value.ensures.reads
+    c.args.found.now.items (rw (found_length (Fits c.args.types.now c.args.below) c.args.components.now _ c.requires.found) (got_below c.args.components.now c.in-Some.number c.in-Some.component.now c.in-Some.ensures.0)) _ (ap length c.remaining-left.ensures.value)
+    (λ e. c.if-remaining-left.false (ap length c.remaining.ensures.value ∙ e)) _ _ (rw (← c.as_str.ensures.value) c.put.ensures)
+
+pub decode_set_component-returns-clause-found : goal.decode_set_component-returns-clause-found
+decode_set_component-returns-clause-found t c =
+    put_fits (Fits c.args.types.now c.args.below) c.args.components.now c.args.found.now.items _ c.in-Some.number c.in-Some.component.now c.in_ok-value.value _ _ c.requires.found c.in-Some.ensures.0 c.in_ok-value.ensures.fits c.put.ensures

@@ -1,15 +1,17 @@
-use Rattle.std.proofs.Common.{◌≡◌, ℕ, ◌+◌, ◌*◌, map, length}
-use Rattle.rasn_de.specs.Decodes.{Decodes}
-use Rattle.std.proofs.Common.{List}
+use Rattle.std.proofs.Common.{◌≡◌, ℕ, ◌+◌, ◌*◌, map, length, List}
 use Rattle.rasn_types.specs.Tags.{IsStrict}
 use Rattle.rasn_types.specs.Order.{IsLess, AreAscending}
 use Rattle.rasn_types.proofs.SetOf.Ascending.{EndsBy}
+use Rattle.rasn_de.specs.Decodes.{Decodes}
 use Rattle.rasn_de.specs.SequenceOf.{DecodesInTurn, DecodesInTurnFrom}
+use Rattle.rasn_de.proofs.OwnTypes.SetPartTypes.{ReadTo}
 use Rattle.rasn_schema.specs.Trees.{tree_of}
 use Rattle.rasn_schema.specs.Shapes.{shape_of_type, components_by, AreLawful}
-use Rattle.rasn_dynamic.proofs.SetSlots.{Come}
-use Rattle.rasn_dynamic.specs.Calls.{held}
+use Rattle.rasn_dynamic.specs.Calls.{held, names_of}
+use Rattle.rasn_dynamic.specs.Fitting.{Fits, EachFits}
+use Rattle.rasn_dynamic.specs.Found.{FoundFit}
 use Rattle.rasn_dynamic.proofs.Contents.{PartsSoFar}
+use Rattle.rasn_dynamic.proofs.FitsRead.{FitSoFar}
 use Rattle.rasn_dynamic.proofs.reader.+decode.Given as goal
 
 abbrev pub decreases-decode_at : goal.decreases-decode_at
@@ -33,34 +35,14 @@ decreases-decode_sequence l = 8 * l.below + 4
 abbrev pub decreases-decode_elements : goal.decreases-decode_elements
 decreases-decode_elements l = 8 * l.below + 3
 
-abbrev pub decreases-decode_components : goal.decreases-decode_components
-decreases-decode_components l = 8 * l.below + 3
+abbrev pub decreases-decode_elements_in_order : goal.decreases-decode_elements_in_order
+decreases-decode_elements_in_order l = 8 * l.below + 3
 
 abbrev pub decreases-decode_component : goal.decreases-decode_component
 decreases-decode_component l = 8 * l.below + 2
 
-abbrev pub invariant-decode_elements-loop-decoder : goal.invariant-decode_elements-loop-decoder
-invariant-decode_elements-loop-decoder l = DecodesInTurn (Decodes (shape_of_type l.types l.below l.element.0) tree_of) l.fn.decoder l.values.items l.decoder
-
-abbrev pub decreases-decode_elements-loop-decoder : goal.decreases-decode_elements-loop-decoder
-decreases-decode_elements-loop-decoder l = length l.decoder.rest
-
-abbrev pub invariant-decode_components-loop-rest : goal.invariant-decode_components-loop-rest
-invariant-decode_components-loop-rest l = PartsSoFar (components_by (shape_of_type l.types l.below) l.components) (components_by (shape_of_type l.types l.below) l.rest) (map tree_of l.values.items) l.fn.decoder l.decoder
-    × AreLawful (components_by (shape_of_type l.types l.below) l.rest)
-
-abbrev pub decreases-decode_components-loop-rest : goal.decreases-decode_components-loop-rest
-decreases-decode_components-loop-rest l = length l.rest
-
-abbrev pub decreases-decode_elements_in_order : goal.decreases-decode_elements_in_order
-decreases-decode_elements_in_order l = 8 * l.below + 3
-
-abbrev pub invariant-decode_elements_in_order-loop-last : goal.invariant-decode_elements_in_order-loop-last
-invariant-decode_elements_in_order-loop-last l = (bs : List (List ℕ)) × DecodesInTurnFrom (Decodes (shape_of_type l.types l.below l.element.0) tree_of) l.fn.decoder l.values.items bs l.decoder
-    × (IsStrict l.fn.decoder.rule → AreAscending IsLess bs) × EndsBy bs l.last
-
-abbrev pub decreases-decode_elements_in_order-loop-last : goal.decreases-decode_elements_in_order-loop-last
-decreases-decode_elements_in_order-loop-last l = length l.decoder.rest
+abbrev pub decreases-decode_present : goal.decreases-decode_present
+decreases-decode_present l = 8 * l.below + 1
 
 abbrev pub decreases-decode_set : goal.decreases-decode_set
 decreases-decode_set l = 8 * l.below + 4
@@ -68,8 +50,28 @@ decreases-decode_set l = 8 * l.below + 4
 abbrev pub decreases-decode_set_component : goal.decreases-decode_set_component
 decreases-decode_set_component l = 8 * l.below + 3
 
+abbrev pub invariant-decode_elements-loop-element : goal.invariant-decode_elements-loop-element
+invariant-decode_elements-loop-element l = DecodesInTurn (Decodes (shape_of_type l.types l.below l.element.0) tree_of) l.fn.decoder l.values.items l.decoder × EachFits (Fits l.types l.below l.element.0) l.values.items
+
+abbrev pub decreases-decode_elements-loop-element : goal.decreases-decode_elements-loop-element
+decreases-decode_elements-loop-element l = length l.decoder.rest
+
+abbrev pub invariant-decode_elements_in_order-loop-last : goal.invariant-decode_elements_in_order-loop-last
+invariant-decode_elements_in_order-loop-last l = ((bs : List (List ℕ)) × DecodesInTurnFrom (Decodes (shape_of_type l.types l.below l.element.0) tree_of) l.fn.decoder l.values.items bs l.decoder
+    × (IsStrict l.fn.decoder.rule → AreAscending IsLess bs) × EndsBy bs l.last) × EachFits (Fits l.types l.below l.element.0) l.values.items
+
+abbrev pub decreases-decode_elements_in_order-loop-last : goal.decreases-decode_elements_in_order-loop-last
+decreases-decode_elements_in_order-loop-last l = length l.decoder.rest
+
+abbrev pub invariant-decode_sequence-loop-rest : goal.invariant-decode_sequence-loop-rest
+invariant-decode_sequence-loop-rest l = PartsSoFar (components_by (shape_of_type l.types l.below) l.components) (components_by (shape_of_type l.types l.below) l.rest) (map tree_of l.values.items) l.fn.decoder l.decoder
+    × AreLawful (components_by (shape_of_type l.types l.below) l.rest) × FitSoFar (Fits l.types l.below) l.components l.rest l.values.items
+
+abbrev pub decreases-decode_sequence-loop-rest : goal.decreases-decode_sequence-loop-rest
+decreases-decode_sequence-loop-rest l = length l.rest
+
 abbrev pub invariant-decode_set-loop-last : goal.invariant-decode_set-loop-last
-invariant-decode_set-loop-last l = Come (components_by (shape_of_type l.types l.below) l.components) l.fn.decoder l.decoder l.last (held l.found.items) × (length l.found.items ≡ length l.components)
+invariant-decode_set-loop-last l = ReadTo (components_by (shape_of_type l.types l.below) l.components) (names_of l.components) l.fn.decoder l.decoder l.last l.twice (held l.found.items) × FoundFit (Fits l.types l.below) l.components l.found.items
 
 abbrev pub decreases-decode_set-loop-last : goal.decreases-decode_set-loop-last
 decreases-decode_set-loop-last l = length l.decoder.rest

@@ -1,13 +1,13 @@
-use Rattle.std.proofs.Common.{arith, ◌≡◌, ◌+◌, ℕ, suc, ap, length}
+use Rattle.std.proofs.Common.{arith, inl, ◌≡◌, ◌+◌, ℕ, suc, ap, length}
 use Rattle.rasn_schema.proofs.Lists.{split, nothing_left}
 use Rattle.rasn_de.proofs.Leaves.Returns.{residual}
-use Rattle.rasn_dynamic.proofs.Pieces.{settled_more, settled_fails, settled_end}
+use Rattle.rasn_dynamic.proofs.Pieces.{settled_start, settled_more, settled_fails, settled_end}
 use Rattle.rasn_dynamic.proofs.set.gather.Goals as goal
 
 pub returns-in_err-value : goal.returns-in_err-value
 returns-in_err-value c =
     rw (residual _ c.from_residual.ensures.1)
-    (settled_fails _ _ _ c.component-item.result _ _ c.in-Some.found _ _ c.loop-rest.invariant.0 (split c.loop-rest.rest.now _ c.in-len1-up.len_at_least c.component-item.is) c.in-Some.ensures.cases.0 c.in_err-value.field-0.0 c.in_err-value.ensures)
+    (settled_fails _ _ _ c.component-item.result _ _ c.in-Some.found _ _ c.loop-rest.invariant.0 (split c.loop-rest.rest.now _ c.in-len1-up.len_at_least c.component-item.is) c.in-Some.ensures.cases.0 _ c.in_err-value.field-0.0 c.in_err-value.ensures)
 
 pub loop-rest-preserved : goal.loop-rest-preserved
 loop-rest-preserved c =

@@ -23,7 +23,7 @@ pub append_path_in-returns-in-Tagged : goal.append_path_in-returns-in-Tagged
 append_path_in-returns-in-Tagged t c = rw c.in-Tagged.is c.append_unfit_path.ensures
 
 pub append_path_in-returns-in-None : goal.append_path_in-returns-in-None
-append_path_in-returns-in-None t c = ([], sym (append-nil _), path_ends (IsUnfitAt c.args.types.now c.args.below) c.args.ty.now c.args.value.now (λ tag k. c.in_default.not-Tagged k tag) c.in-None.ensures)
+append_path_in-returns-in-None t c = ([], sym (append-nil _), path_ends (IsUnfitAt c.args.types.now c.args.below) c.args.ty.now c.args.value.now (λ tag k. c.in_default.not-Tagged tag k) c.in-None.ensures)
 
-pub append_path_in-returns-in_ok-push : goal.append_path_in-returns-in_ok-push
-append_path_in-returns-in_ok-push t c = on_ok_weaker c.append_unfit_path-in-Some.result (λ p. (c.in-Some.part.index ∷ p.0, longer _ _ _ _ p.0 c.in_ok-push.ensures.items p.1, path_goes_on (IsUnfitAt c.args.types.now c.args.below) c.args.ty.now c.args.value.now (λ tag k. c.in_default.not-Tagged k tag) _ _ _ p.0 c.in-Some.ensures.0 p.2)) c.append_unfit_path-in-Some.ensures
+pub append_path_in-returns-in_ok-push-in-Some : goal.append_path_in-returns-in_ok-push-in-Some
+append_path_in-returns-in_ok-push-in-Some t c = on_ok_weaker c.append_unfit_path-in-Some.result (λ p. (c.in-Some.part.index ∷ p.0, longer _ _ _ _ p.0 c.in_ok-push.ensures.items p.1, path_goes_on (IsUnfitAt c.args.types.now c.args.below) c.args.ty.now c.args.value.now (λ tag k. c.in_default.not-Tagged tag k) _ _ _ p.0 c.in-Some.ensures.0 p.2)) c.append_unfit_path-in-Some.ensures

@@ -42,7 +42,7 @@ returns-in-Integer c =
     rw c.in-Integer.is (record {
       ok = number_encoded _ c.args.tag c.args.constraints.now _ _ _ c.args.kind fits c.encode_integer.ensures.ok;
       err = c.encode_integer.ensures.err;
-      refused = number_refused _ c.args.tag c.args.constraints.now _ _ _ c.args.kind fits c.encode_integer.ensures.fails;
+      refused = number_refused _ c.args.tag c.args.constraints.now _ _ c.args.kind fits c.encode_integer.ensures.fails;
     })
 
 pub returns-in-Octets : goal.returns-in-Octets
@@ -51,7 +51,7 @@ returns-in-Octets c =
     rw (c.in-Octets.is, ← c.as_slice.ensures.value) (record {
       ok = string_encoded _ c.args.tag c.args.constraints.now _ _ _ c.args.kind (rw c.as_slice.ensures.value fits) c.encode_octet_string.ensures.ok;
       err = c.encode_octet_string.ensures.err;
-      refused = string_refused _ c.args.tag c.args.constraints.now _ _ _ c.args.kind (rw c.as_slice.ensures.value fits) c.encode_octet_string.ensures.fails;
+      refused = string_refused _ c.args.tag c.args.constraints.now _ _ c.args.kind (rw c.as_slice.ensures.value fits) c.encode_octet_string.ensures.fails;
     })
 
 pub returns-in-Text : goal.returns-in-Text

@@ -18,14 +18,20 @@ use Rattle.rasn_dynamic.proofs.ListsOf.{list_from, set_from, no_list, no_set, li
 use Rattle.rasn_dynamic.proofs.WrittenInside.{prefix_inside, seq_inside, set_inside_refused, set_inside_ok, set_inside_unordered, list_inside, set_of_inside, list_unsized, set_of_unsized, written_start, written_more, written_fails, alternative_written, parts_ended, next_component, no_value, fits_there, next_element, holds_others, keeps_as, part_skipped, part_written, not_opened}
 use Rattle.rasn_dynamic.proofs.writer.+encode.Goals as goal
 
-pub encode_at-returns-in-Some : goal.encode_at-returns-in-Some
-encode_at-returns-in-Some t c = rw (shape_below c.args.types.now c.args.levels (c.args.levels - 1) c.args.id.0 c.in-Some.ty.now (let n = c.if-levels-eq0.false in omega arith) c.in-Some.ensures) c.encode_type.ensures
+pub encode_at-returns : goal.encode_at-returns
+encode_at-returns t c = rw (shape_below c.args.types.now c.args.levels (c.args.levels - 1) c.args.id.0 c.in-Some.ty.now (let n = c.if-levels-eq0.false in omega arith) c.in-Some.ensures) c.encode_type.ensures
 
 pub encode_at-encode_type-requires : goal.encode_at-encode_type-requires
 encode_at-encode_type-requires t c = ((let n = c.if-levels-eq0.false in omega arith), subst (λ X. X) (sym (fits_is c.args.types.now c.args.levels (c.args.levels - 1) c.args.id.0 c.in-Some.ty.now c.args.value.now (let n = c.if-levels-eq0.false in omega arith) c.in-Some.ensures)) c.requires)
 
-pub encode_choice-returns-in-Some : goal.encode_choice-returns-in-Some
-encode_choice-returns-in-Some t c = rw c.in-Chosen.is (alternative_written (shape_of_type c.args.types.now c.args.below) c.args.alternatives.now c.in-Chosen.index c.in-Some.alternative.now _ _ _ _ (read_at _ _ _ c.in-Some.ensures.lookup.3.0 c.in-Some.ensures.lookup.1) (rw (← c.deref.ensures) c.encode_at.ensures))
+pub encode_choice-returns : goal.encode_choice-returns
+encode_choice-returns t c = rw c.in-Chosen.is (alternative_written (shape_of_type c.args.types.now c.args.below) c.args.alternatives.now c.in-Chosen.index c.in-Some.alternative.now _ _ _ _ (read_at _ _ _ c.in-Some.ensures.lookup.3.0 c.in-Some.ensures.lookup.1) (rw (← c.deref.ensures) c.encode_at.ensures))
+
+pub encode_at-unreachable-requires : goal.encode_at-unreachable-requires
+encode_at-unreachable-requires t c = fits_zero c.args.types.now c.args.levels c.args.id.0 c.args.value.now c.if-levels-eq0.true c.requires
+
+pub encode_at-unreachable-requires-in-None : goal.encode_at-unreachable-requires-in-None
+encode_at-unreachable-requires-in-None t c = fits_none c.args.types.now c.args.levels c.args.id.0 c.args.value.now c.in-None.ensures c.requires
 
 pub encode_contents-returns-in-Tagged : goal.encode_contents-returns-in-Tagged
 encode_contents-returns-in-Tagged t c = rw c.in-Tagged.is (prefix_inside c.in-Tagged.tag ((shape_of_type c.args.types.now c.args.below) c.in-Tagged.inner.0) _ _ _ (subst (λ n. c.args.encoder.now.last ≡ fresh (keeps_tags (type_by (shape_of_type c.args.types.now c.args.below) n))) c.in-Tagged.is c.requires.fresh) _ c.encode_at.ensures.ok c.encode_at.ensures.err c.encode_at.ensures.refused)

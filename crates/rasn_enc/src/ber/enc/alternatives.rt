@@ -29,7 +29,8 @@ pub trait EncodeAlternative: Drop {
     fn encode_alternative(self, encoder: &mut Encoder) -> Result<(), EncodeError>
         ensures ok { OnOk result (AppendsEncoding (shape self) (inner self) encoder.old encoder.new) }
         ensures err { OnErr result (encoder.new ≡ encoder.old) }
-        ensures refused { IfErr result (EncodeFails (shape self) (inner self) encoder.old) };
+        ensures refused { IfErr result (EncodeFails (shape self) (inner self) encoder.old) }
+        ensures rules { IfErr result (λ e. e.codec ≡ encoder.old.rule) };
 
     /// The number is the one that the alternative has among the parts.
     ghost stands: { (v : Self) → IsAlternative parts (number v) (shape v) };
@@ -87,6 +88,7 @@ impl Encoder {
         ensures ok { OnOk result (AppendsEncoding (choice P.parts) (chosen (P.number value) (P.inner value)) self.old self.new) }
         ensures err { OnErr result (self.new ≡ self.old) }
         ensures refused { IfErr result (EncodeFails (choice P.parts) (chosen (P.number value) (P.inner value)) self.old) }
+        ensures rules { IfErr result (λ e. e.codec ≡ self.old.rule) }
     {
         value.encode_alternative(self)
     }

@@ -28,6 +28,7 @@ impl Encoder {
         ensures ok { OnOk result (AppendsEncoding (any (looked_for tag)) (numbers value.now) self.old self.new) }
         ensures err { OnErr result (self.new ≡ self.old) }
         ensures fails { IfErr result (FailsAtAny tag value.now self.old) }
+        ensures rules { IfErr result (λ e. e.codec ≡ self.old.rule) }
     {
         self.encode_open(tag, value.as_bytes())
     }

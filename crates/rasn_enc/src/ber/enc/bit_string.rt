@@ -50,6 +50,7 @@ impl Encoder {
         ensures ok { OnOk result (AppendsEncoding (leaf bit_string tag constraints.now) (bits value.now) self.old self.new) }
         ensures err { OnErr result (self.new ≡ self.old) }
         ensures fails { IfErr result (FailsAtString constraints.now (length value.now) self.old.rule) }
+        ensures rules { IfErr result (λ e. e.codec ≡ self.old.rule) }
     {
         self.check_size(constraints, value.len())?;
         if self.is_cut(value.len(), SEGMENT_BITS) {

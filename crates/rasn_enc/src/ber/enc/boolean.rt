@@ -25,6 +25,7 @@ impl Encoder {
         ensures ok { AppendsLeaf boolean tag (bool_tree value) result self.old self.new }
         ensures err { OnErr result (self.new ≡ self.old) }
         ensures memory_alone { IfErr result (IsAllocError self.old.rule) }
+        ensures rules { IfErr result (λ e. e.codec ≡ self.old.rule) }
     {
         let octet = if value { 0xff } else { 0x00 };
         self.leaf(tag, &[octet].as_slice())

@@ -40,6 +40,7 @@ impl Encoder {
         ensures ok { OnOk result (AppendsEncoding (leaf visible tag constraints.now) (numbers value.now) self.old self.new) }
         ensures err { OnErr result (self.new ≡ self.old) }
         ensures fails { IfErr result (FailsAtString constraints.now (length value.now) self.old.rule) }
+        ensures rules { IfErr result (λ e. e.codec ≡ self.old.rule) }
     {
         self.restricted::<VisibleType>(tag, constraints, value)
     }
@@ -58,6 +59,7 @@ impl Encoder {
         ensures ok { OnOk result (AppendsEncoding (leaf ia5 tag constraints.now) (numbers value.now) self.old self.new) }
         ensures err { OnErr result (self.new ≡ self.old) }
         ensures fails { IfErr result (FailsAtString constraints.now (length value.now) self.old.rule) }
+        ensures rules { IfErr result (λ e. e.codec ≡ self.old.rule) }
     {
         self.restricted::<Ia5Type>(tag, constraints, value)
     }
@@ -76,6 +78,7 @@ impl Encoder {
         ensures ok { OnOk result (AppendsEncoding (leaf printable tag constraints.now) (numbers value.now) self.old self.new) }
         ensures err { OnErr result (self.new ≡ self.old) }
         ensures fails { IfErr result (FailsAtString constraints.now (length value.now) self.old.rule) }
+        ensures rules { IfErr result (λ e. e.codec ≡ self.old.rule) }
     {
         self.restricted::<PrintableType>(tag, constraints, value)
     }
@@ -94,6 +97,7 @@ impl Encoder {
         ensures ok { OnOk result (AppendsEncoding (leaf numeric tag constraints.now) (numbers value.now) self.old self.new) }
         ensures err { OnErr result (self.new ≡ self.old) }
         ensures fails { IfErr result (FailsAtString constraints.now (length value.now) self.old.rule) }
+        ensures rules { IfErr result (λ e. e.codec ≡ self.old.rule) }
     {
         self.restricted::<NumericType>(tag, constraints, value)
     }
@@ -112,6 +116,7 @@ impl Encoder {
         ensures ok { OnOk result (AppendsEncoding (leaf any_octets tag constraints.now) (numbers value.now) self.old self.new) }
         ensures err { OnErr result (self.new ≡ self.old) }
         ensures fails { IfErr result (FailsAtString constraints.now (length value.now) self.old.rule) }
+        ensures rules { IfErr result (λ e. e.codec ≡ self.old.rule) }
     {
         self.restricted::<TeletexType>(tag, constraints, value)
     }
@@ -130,6 +135,7 @@ impl Encoder {
         ensures ok { OnOk result (AppendsEncoding (leaf any_octets tag constraints.now) (numbers value.now) self.old self.new) }
         ensures err { OnErr result (self.new ≡ self.old) }
         ensures fails { IfErr result (FailsAtString constraints.now (length value.now) self.old.rule) }
+        ensures rules { IfErr result (λ e. e.codec ≡ self.old.rule) }
     {
         self.restricted::<GeneralType>(tag, constraints, value)
     }
@@ -148,6 +154,7 @@ impl Encoder {
         ensures ok { OnOk result (AppendsEncoding (leaf any_octets tag constraints.now) (numbers value.now) self.old self.new) }
         ensures err { OnErr result (self.new ≡ self.old) }
         ensures fails { IfErr result (FailsAtString constraints.now (length value.now) self.old.rule) }
+        ensures rules { IfErr result (λ e. e.codec ≡ self.old.rule) }
     {
         self.restricted::<GraphicType>(tag, constraints, value)
     }
@@ -166,6 +173,7 @@ impl Encoder {
         ensures ok { OnOk result (AppendsEncoding (leaf bmp tag constraints.now) (numbers (units_of value.now)) self.old self.new) }
         ensures err { OnErr result (self.new ≡ self.old) }
         ensures fails { IfErr result (FailsAtString constraints.now (length (units_of value.now)) self.old.rule) }
+        ensures rules { IfErr result (λ e. e.codec ≡ self.old.rule) }
     {
         let octets = value.as_octets();
         self.string(tag, constraints, octets, octets.len() / 2)
@@ -185,6 +193,7 @@ impl Encoder {
         ensures ok { OnOk result (AppendsEncoding (leaf utf8 tag constraints.now) (numbers (chars value.now)) self.old self.new) }
         ensures err { OnErr result (self.new ≡ self.old) }
         ensures fails { IfErr result (FailsAtString constraints.now (length (chars value.now)) self.old.rule) }
+        ensures rules { IfErr result (λ e. e.codec ≡ self.old.rule) }
     {
         let size = character_count(constraints, value);
         self.string(tag, constraints, value.as_bytes(), size)
@@ -200,6 +209,7 @@ impl Encoder {
         ensures ok { OnOk result (AppendsEncoding (leaf (string_kind S.ALPHABET) tag constraints.now) (numbers value.now) self.old self.new) }
         ensures err { OnErr result (self.new ≡ self.old) }
         ensures fails { IfErr result (FailsAtString constraints.now (length value.now) self.old.rule) }
+        ensures rules { IfErr result (λ e. e.codec ≡ self.old.rule) }
     {
         let octets = value.as_octets();
         self.string(tag, constraints, octets, octets.len())

@@ -25,6 +25,7 @@ impl Encoder {
         ensures err { OnErr result (self.new ≡ self.old) }
         ensures refused { IfErr result (FailsUnlessDefault E.eq (F.post default) E.shape E.tree value.now self.old) }
         ensures writes { EncodesDefault E.eq (F.post default) E.shape E.tree value.now self.old result self.new }
+        ensures rules { IfErr result (λ e. e.codec ≡ self.old.rule) }
     {
         self.encode_default_with_tag_and_constraints(
             E::TAG,
@@ -54,6 +55,7 @@ impl Encoder {
             IfErr result (FailsUnlessDefault E.eq (F.post default) shape E.tree value.now self.old) }
         ensures writes { let shape = tagged_as tag E.CONSTRAINTS E.shape in
             EncodesDefault E.eq (F.post default) shape E.tree value.now self.old result self.new }
+        ensures rules { IfErr result (λ e. e.codec ≡ self.old.rule) }
     {
         self.encode_default_with_tag_and_constraints(
             tag,
@@ -86,6 +88,7 @@ impl Encoder {
             IfErr result (FailsUnlessDefault E.eq (F.post default) shape E.tree value.now self.old) }
         ensures writes { let shape = tagged_as E.TAG constraints.now E.shape in
             EncodesDefault E.eq (F.post default) shape E.tree value.now self.old result self.new }
+        ensures rules { IfErr result (λ e. e.codec ≡ self.old.rule) }
     {
         self.encode_default_with_tag_and_constraints(
             E::TAG,
@@ -119,6 +122,7 @@ impl Encoder {
             IfErr result (FailsUnlessDefault E.eq (F.post default) shape E.tree value.now self.old) }
         ensures writes { let shape = tagged_as tag constraints.now E.shape in
             EncodesDefault E.eq (F.post default) shape E.tree value.now self.old result self.new }
+        ensures rules { IfErr result (λ e. e.codec ≡ self.old.rule) }
     {
         match default() {
             Ok(default) if *value == default => Ok(()),
@@ -145,6 +149,7 @@ impl Encoder {
         ensures err { OnErr result (self.new ≡ self.old) }
         ensures refused { IfErr result (FailsUnlessDefault E.eq (F.post default) (prefix tag E.shape) E.tree value.now self.old) }
         ensures writes { EncodesDefault E.eq (F.post default) (prefix tag E.shape) E.tree value.now self.old result self.new }
+        ensures rules { IfErr result (λ e. e.codec ≡ self.old.rule) }
     {
         match default() {
             Ok(left_out) if *value == left_out => Ok(()),

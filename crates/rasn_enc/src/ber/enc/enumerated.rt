@@ -22,6 +22,7 @@ impl Encoder {
         ensures ok { AppendsLeaf (enumerated E.known) tag (number_tree (E.number value.now)) result self.old self.new }
         ensures err { OnErr result (self.new ≡ self.old) }
         ensures memory_alone { IfErr result (IsAllocError self.old.rule) }
+        ensures rules { IfErr result (λ e. e.codec ≡ self.old.rule) }
     {
         self.encode_integer(tag, &Constraints::NONE, &value.discriminant(), identifier)
     }

@@ -27,6 +27,7 @@ impl Encoder {
         ensures ok { OnOk result (AppendsEncoding (tagged_as tag constraints.now E.shape) (E.tree value) self.old self.new) }
         ensures err { OnErr result (self.new ≡ self.old) }
         ensures refused { IfErr result (EncodeFails (tagged_as tag constraints.now E.shape) (E.tree value) self.old) }
+        ensures rules { IfErr result (λ e. e.codec ≡ self.old.rule) }
     {
         value.encode_with_tag_and_constraints(self, tag, constraints, identifier)
     }
@@ -44,6 +45,7 @@ impl Encoder {
         ensures ok { OnOk result (AppendsEncoding (option (looked_for E.TAG) E.shape) (group_tree E.tree value.entry) self.old self.new) }
         ensures err { OnErr result (self.new ≡ self.old) }
         ensures refused { IfErr result (EncodeFails (option (looked_for E.TAG) E.shape) (group_tree E.tree value.entry) self.old) }
+        ensures rules { IfErr result (λ e. e.codec ≡ self.old.rule) }
     {
         match value {
             Some(value) if value.is_present() => value.encode(self),

@@ -25,6 +25,7 @@ impl<const N: usize> Encode for FixedOctetString<N> {
         ensures err { OnErr result (encoder.new ≡ encoder.old) }
         ensures refused { IfErr result (EncodeFails (leaf (fixed N) tag constraints.now) (numbers self.now) encoder.old) }
         ensures fails { IfErr result (FailsAtString constraints.now N encoder.old.rule) }
+        ensures rules { IfErr result (λ e. e.codec ≡ encoder.old.rule) }
     {
         encoder.encode_octet_string(tag, constraints, self.as_octets(), identifier)
     }

@@ -32,6 +32,7 @@ impl Encoder {
         ensures ok { OnOk result (AppendsInteger I.range tag constraints.now (I.number value.now) self.old self.new) }
         ensures err { OnErr result (self.new ≡ self.old) }
         ensures fails { IfErr result (FailsAtInteger constraints.now (I.number value.now) self.old.rule) }
+        ensures rules { IfErr result (λ e. e.codec ≡ self.old.rule) }
     {
         let mut room = [0; LONGEST_NUMBER];
         let contents = value.octets(&mut room);

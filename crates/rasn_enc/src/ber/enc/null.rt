@@ -18,6 +18,7 @@ impl Encoder {
         ensures ok { AppendsLeaf null tag (number_tree (pos 0)) result self.old self.new }
         ensures err { OnErr result (self.new ≡ self.old) }
         ensures memory_alone { IfErr result (IsAllocError self.old.rule) }
+        ensures rules { IfErr result (λ e. e.codec ≡ self.old.rule) }
     {
         let contents: &[u8] = &[];
         self.leaf(tag, &contents)

@@ -125,6 +125,7 @@ impl Encoder {
         ensures ok { AppendsLeaf object_identifier tag (numbers value.now) result self.old self.new }
         ensures err { OnErr result (self.new ≡ self.old) }
         ensures fails { IfErr result (λ e. FailsAtArcs value.now self.old.rule e ⊎ IsAllocError self.old.rule e) }
+        ensures rules { IfErr result (λ e. e.codec ≡ self.old.rule) }
     {
         match Subidentifiers::of_arcs(value) {
             Some(subidentifiers) => self.leaf(tag, &subidentifiers),

@@ -25,6 +25,7 @@ impl Encoder {
         ensures ok { OnOk result (AppendsEncoding (leaf octet_string tag constraints.now) (numbers value.now) self.old self.new) }
         ensures err { OnErr result (self.new ≡ self.old) }
         ensures fails { IfErr result (FailsAtString constraints.now (length value.now) self.old.rule) }
+        ensures rules { IfErr result (λ e. e.codec ≡ self.old.rule) }
     {
         self.string(tag, constraints, value, value.len())
     }

@@ -21,6 +21,7 @@ impl Encoder {
         ensures ok { OnOk result (AppendsEncoding E.shape (E.tree value.now) self.old self.new) }
         ensures err { OnErr result (self.new ≡ self.old) }
         ensures refused { IfErr result (EncodeFails E.shape (E.tree value.now) self.old) }
+        ensures rules { IfErr result (λ e. e.codec ≡ self.old.rule) }
     {
         value.encode(self)
     }
@@ -38,6 +39,7 @@ impl Encoder {
         ensures ok { OnOk result (AppendsEncoding (tagged_as tag E.CONSTRAINTS E.shape) (E.tree value.now) self.old self.new) }
         ensures err { OnErr result (self.new ≡ self.old) }
         ensures refused { IfErr result (EncodeFails (tagged_as tag E.CONSTRAINTS E.shape) (E.tree value.now) self.old) }
+        ensures rules { IfErr result (λ e. e.codec ≡ self.old.rule) }
     {
         value.encode_with_tag(self, tag, identifier)
     }
@@ -56,6 +58,7 @@ impl Encoder {
         ensures ok { OnOk result (AppendsEncoding (tagged_as tag constraints.now E.shape) (E.tree value.now) self.old self.new) }
         ensures err { OnErr result (self.new ≡ self.old) }
         ensures refused { IfErr result (EncodeFails (tagged_as tag constraints.now E.shape) (E.tree value.now) self.old) }
+        ensures rules { IfErr result (λ e. e.codec ≡ self.old.rule) }
     {
         value.encode_with_tag_and_constraints(self, tag, constraints, identifier)
     }

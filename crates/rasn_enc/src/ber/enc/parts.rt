@@ -24,7 +24,8 @@ pub trait EncodeParts: Drop {
     /// # Errors
     /// What a part refuses.
     fn encode_parts(self, encoder: &mut Encoder) -> Result<(), EncodeError>
-        ensures { EncodesParts parts (tree self) encoder.old result encoder.new };
+        ensures writes { EncodesParts parts (tree self) encoder.old result encoder.new }
+        ensures rules { IfErr result (λ e. e.codec ≡ encoder.old.rule) };
 }
 
 /// A part that has to come, and those behind it.
@@ -162,12 +163,14 @@ impl Encoder {
         ensures ok { OnOk result (AppendsEncoding (seq tag P.parts) (P.tree parts) self.old self.new) }
         ensures err { OnErr result (self.new ≡ self.old) }
         ensures refused { IfErr result (EncodeFails (seq tag P.parts) (P.tree parts) self.old) }
+        ensures rules { IfErr result (λ e. e.codec ≡ self.old.rule) }
     {
         self.enclose(
             tag,
             false,
             |inner: &mut Encoder| -> Result<(), EncodeError>
-                ensures { EncodesParts P.parts (P.tree parts) inner.old result inner.new }
+                ensures writes { EncodesParts P.parts (P.tree parts) inner.old result inner.new }
+                ensures rules { IfErr result (λ e. e.codec ≡ inner.old.rule) }
             { parts.encode_parts(inner) },
         )
     }
@@ -182,11 +185,13 @@ impl Encoder {
         ensures ok { OnOk result (AppendsEncoding (set tag P.parts) (P.tree parts) self.old self.new) }
         ensures err { OnErr result (self.new ≡ self.old) }
         ensures refused { IfErr result (EncodeFails (set tag P.parts) (P.tree parts) self.old) }
+        ensures rules { IfErr result (λ e. e.codec ≡ self.old.rule) }
     {
         self.enclose_in_order(
             tag,
             |inner: &mut Encoder| -> Result<(), EncodeError>
-                ensures { EncodesParts P.parts (P.tree parts) inner.old result inner.new }
+                ensures writes { EncodesParts P.parts (P.tree parts) inner.old result inner.new }
+                ensures rules { IfErr result (λ e. e.codec ≡ inner.old.rule) }
             { parts.encode_parts(inner) },
         )
     }

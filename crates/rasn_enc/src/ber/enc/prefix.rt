@@ -22,6 +22,7 @@ impl Encoder {
         ensures ok { OnOk result (AppendsPart optional (prefix tag V.shape) (V.tree value.now) self.old self.new) }
         ensures err { OnErr result (self.new ≡ self.old) }
         ensures refused { IfErr result (EncodePartFails optional (prefix tag V.shape) (V.tree value.now) self.old) }
+        ensures rules { IfErr result (λ e. e.codec ≡ self.old.rule) }
     {
         if value.is_present() {
             self.append_prefixed(tag, value)
@@ -39,6 +40,7 @@ impl Encoder {
         ensures ok { OnOk result (AppendsEncoding (prefix tag V.shape) (V.tree value.now) self.old self.new) }
         ensures err { OnErr result (self.new ≡ self.old) }
         ensures refused { IfErr result (EncodeFails (prefix tag V.shape) (V.tree value.now) self.old) }
+        ensures rules { IfErr result (λ e. e.codec ≡ self.old.rule) }
     {
         self.enclose(tag, false, |encoder: &mut Encoder| {
             value.encode(encoder)

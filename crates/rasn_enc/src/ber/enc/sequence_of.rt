@@ -28,6 +28,7 @@ impl Encoder {
         ensures err { OnErr result (self.new ≡ self.old) }
         ensures refused { IfErr result (EncodeFails (list tag E.shape constraints.now.size) (list_tree E.tree values.now) self.old) }
         ensures named { IfErr result (FailsAtList E.shape (map E.tree values.now) (length values.now) constraints.now self.old.rule) }
+        ensures rules { IfErr result (λ e. e.codec ≡ self.old.rule) }
     {
         self.check_size(constraints, values.len())?;
         self.enclose(tag, false, |encoder: &mut Encoder| {
@@ -41,6 +42,7 @@ impl Encoder {
         ensures keeps { LeavesOthers self.old self.new }
         ensures ok { OnOk result (AppendsElements E.shape (map E.tree values.now) self.old self.new) }
         ensures refused { IfErr result (FailsAtElement E.shape (map E.tree values.now) self.old.rule) }
+        ensures rules { IfErr result (λ e. e.codec ≡ self.old.rule) }
     {
         let mut rest = values;
         while let [value, after @ ..] = rest {

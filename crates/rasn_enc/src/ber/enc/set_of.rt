@@ -32,6 +32,7 @@ impl Encoder {
             IfErr result (EncodeFails (set_of tag E.shape constraints.now.size) tree self.old) }
         ensures named { let trees = map E.tree values.now in
             IfErr result (FailsAtSetOf E.shape trees (length values.now) constraints.now self.old.rule) }
+        ensures rules { IfErr result (λ e. e.codec ≡ self.old.rule) }
     {
         self.check_size(constraints, values.len())?;
         let elements = values.as_slice();
@@ -46,6 +47,7 @@ impl Encoder {
         ensures keeps { LeavesOthers self.old self.new }
         ensures ok { OnOk result (AppendsSetOf E.shape (map E.tree values.now) self.old self.new) }
         ensures refused { IfErr result (FailsAtElements E.shape (map E.tree values.now) self.old.rule) }
+        ensures rules { IfErr result (λ e. e.codec ≡ self.old.rule) }
     {
         let mut previous = self.last_len();
         let mut rest = values;

@@ -110,6 +110,7 @@ impl Encoder {
         ensures ok { AppendsLeaf utc_time tag (instant value.now) result self.old self.new }
         ensures err { OnErr result (self.new ≡ self.old) }
         ensures memory_alone { IfErr result (IsAllocError self.old.rule) }
+        ensures rules { IfErr result (λ e. e.codec ≡ self.old.rule) }
     {
         self.leaf(tag, value)
     }
@@ -127,6 +128,7 @@ impl Encoder {
         ensures ok { AppendsLeaf generalized_time tag (instant value.now.moment) result self.old self.new }
         ensures err { OnErr result (self.new ≡ self.old) }
         ensures memory_alone { IfErr result (IsAllocError self.old.rule) }
+        ensures rules { IfErr result (λ e. e.codec ≡ self.old.rule) }
     {
         self.leaf(tag, value)
     }
@@ -144,6 +146,7 @@ impl Encoder {
         ensures ok { AppendsLeaf date tag (on_day value.now) result self.old self.new }
         ensures err { OnErr result (self.new ≡ self.old) }
         ensures memory_alone { IfErr result (IsAllocError self.old.rule) }
+        ensures rules { IfErr result (λ e. e.codec ≡ self.old.rule) }
     {
         self.leaf(tag, value)
     }

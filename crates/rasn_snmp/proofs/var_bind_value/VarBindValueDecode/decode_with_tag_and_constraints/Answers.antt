@@ -2,67 +2,67 @@ use Rattle.std.proofs.Common.{rules, w32}
 use Rattle.std.proofs.lemmas.Int.{to_z-of_z}
 use Rattle.rasn_snmp.proofs.var_bind_value.VarBindValueDecode.decode_with_tag_and_constraints.Goals as goal
 
-pub returns-in-This : goal.returns-in-This
-returns-in-This c =
+pub returns-in-This-clause-reads : goal.returns-in-This-clause-reads
+returns-in-This-clause-reads c =
     let a = c.in-This in
-    rw (to_z-of_z w32 a.value (search rules)) (rw a.is at c.in_ok-value.ensures)
+    rw (to_z-of_z w32 a.value (search rules)) (rw a.is at c.in_ok-value.ensures.reads)
 
-pub returns-in-Other-This : goal.returns-in-Other-This
-returns-in-Other-This c =
+pub returns-in-Other-This-clause-reads : goal.returns-in-Other-This-clause-reads
+returns-in-Other-This-clause-reads c =
     let a = c.in-Other-This in
-    rw (a.is, a.field-0-is) at c.in_ok-value.ensures
+    rw (a.is, a.field-0-is) at c.in_ok-value.ensures.reads
 
-pub returns-in-Other-Other-This : goal.returns-in-Other-Other-This
-returns-in-Other-Other-This c =
+pub returns-in-Other-Other-This-clause-reads : goal.returns-in-Other-Other-This-clause-reads
+returns-in-Other-Other-This-clause-reads c =
     let a = c.in-Other-Other-This in
-    rw (a.is, a.field-0-is, a.field-0-0-is) at c.in_ok-value.ensures
+    rw (a.is, a.field-0-is, a.field-0-0-is) at c.in_ok-value.ensures.reads
 
-pub returns-in-Other-Other-Other-This : goal.returns-in-Other-Other-Other-This
-returns-in-Other-Other-Other-This c =
+pub returns-in-Other-Other-Other-This-clause-reads : goal.returns-in-Other-Other-Other-This-clause-reads
+returns-in-Other-Other-Other-This-clause-reads c =
     let a = c.in-Other-Other-Other-This in
-    rw (a.is, a.field-0-is, a.field-0-0-is, a.field-0-0-0-is) at c.in_ok-value.ensures
+    rw (a.is, a.field-0-is, a.field-0-0-is, a.field-0-0-0-is) at c.in_ok-value.ensures.reads
 
-pub returns-in-Other-Other-Other-Other-This : goal.returns-in-Other-Other-Other-Other-This
-returns-in-Other-Other-Other-Other-This c =
+pub returns-in-Other-Other-Other-Other-This-clause-reads : goal.returns-in-Other-Other-Other-Other-This-clause-reads
+returns-in-Other-Other-Other-Other-This-clause-reads c =
     let a = c.in-Other-Other-Other-Other-This in
-    rw (a.is, a.field-0-is, a.field-0-0-is, a.field-0-0-0-is, a.field-0-0-0-0-is) at c.in_ok-value.ensures
+    rw (a.is, a.field-0-is, a.field-0-0-is, a.field-0-0-0-is, a.field-0-0-0-0-is) at c.in_ok-value.ensures.reads
 
-pub returns-in-Other-Other-Other-Other-Other-This : goal.returns-in-Other-Other-Other-Other-Other-This
-returns-in-Other-Other-Other-Other-Other-This c =
+pub returns-in-Other-Other-Other-Other-Other-This-clause-reads : goal.returns-in-Other-Other-Other-Other-Other-This-clause-reads
+returns-in-Other-Other-Other-Other-Other-This-clause-reads c =
     let a = c.in-Other-Other-Other-Other-Other-This in
-    rw (a.is, a.field-0-is, a.field-0-0-is, a.field-0-0-0-is, a.field-0-0-0-0-is, a.field-0-0-0-0-0-is) at c.in_ok-value.ensures
+    rw (a.is, a.field-0-is, a.field-0-0-is, a.field-0-0-0-is, a.field-0-0-0-0-is, a.field-0-0-0-0-0-is) at c.in_ok-value.ensures.reads
 
-pub returns-in-Other-Other-Other-Other-Other-Other-This : goal.returns-in-Other-Other-Other-Other-Other-Other-This
-returns-in-Other-Other-Other-Other-Other-Other-This c =
+pub returns-in-Other-Other-Other-Other-Other-Other-This-clause-reads : goal.returns-in-Other-Other-Other-Other-Other-Other-This-clause-reads
+returns-in-Other-Other-Other-Other-Other-Other-This-clause-reads c =
     let a = c.in-Other-Other-Other-Other-Other-Other-This in
-    rw (a.is, a.field-0-is, a.field-0-0-is, a.field-0-0-0-is, a.field-0-0-0-0-is, a.field-0-0-0-0-0-is, a.field-0-0-0-0-0-0-is) at c.in_ok-value.ensures
+    rw (a.is, a.field-0-is, a.field-0-0-is, a.field-0-0-0-is, a.field-0-0-0-0-is, a.field-0-0-0-0-0-is, a.field-0-0-0-0-0-0-is) at c.in_ok-value.ensures.reads
 
-pub returns-in-Other-Other-Other-Other-Other-Other-Other-This : goal.returns-in-Other-Other-Other-Other-Other-Other-Other-This
-returns-in-Other-Other-Other-Other-Other-Other-Other-This c =
+pub returns-in-Other-Other-Other-Other-Other-Other-Other-This-clause-reads : goal.returns-in-Other-Other-Other-Other-Other-Other-Other-This-clause-reads
+returns-in-Other-Other-Other-Other-Other-Other-Other-This-clause-reads c =
     let a = c.in-Other-Other-Other-Other-Other-Other-Other-This in
-    rw (a.is, a.field-0-is, a.field-0-0-is, a.field-0-0-0-is, a.field-0-0-0-0-is, a.field-0-0-0-0-0-is, a.field-0-0-0-0-0-0-is, a.field-0-0-0-0-0-0-0-is) at c.in_ok-value.ensures
+    rw (a.is, a.field-0-is, a.field-0-0-is, a.field-0-0-0-is, a.field-0-0-0-0-is, a.field-0-0-0-0-0-is, a.field-0-0-0-0-0-0-is, a.field-0-0-0-0-0-0-0-is) at c.in_ok-value.ensures.reads
 
-pub returns-in-Other-Other-Other-Other-Other-Other-Other-Other-This : goal.returns-in-Other-Other-Other-Other-Other-Other-Other-Other-This
-returns-in-Other-Other-Other-Other-Other-Other-Other-Other-This c =
+pub returns-in-Other-Other-Other-Other-Other-Other-Other-Other-This-clause-reads : goal.returns-in-Other-Other-Other-Other-Other-Other-Other-Other-This-clause-reads
+returns-in-Other-Other-Other-Other-Other-Other-Other-Other-This-clause-reads c =
     let a = c.in-Other-Other-Other-Other-Other-Other-Other-Other-This in
-    rw (a.is, a.field-0-is, a.field-0-0-is, a.field-0-0-0-is, a.field-0-0-0-0-is, a.field-0-0-0-0-0-is, a.field-0-0-0-0-0-0-is, a.field-0-0-0-0-0-0-0-is, a.field-0-0-0-0-0-0-0-0-is) at c.in_ok-value.ensures
+    rw (a.is, a.field-0-is, a.field-0-0-is, a.field-0-0-0-is, a.field-0-0-0-0-is, a.field-0-0-0-0-0-is, a.field-0-0-0-0-0-0-is, a.field-0-0-0-0-0-0-0-is, a.field-0-0-0-0-0-0-0-0-is) at c.in_ok-value.ensures.reads
 
-pub returns-in-Other-Other-Other-Other-Other-Other-Other-Other-Other-This : goal.returns-in-Other-Other-Other-Other-Other-Other-Other-Other-Other-This
-returns-in-Other-Other-Other-Other-Other-Other-Other-Other-Other-This c =
+pub returns-in-Other-Other-Other-Other-Other-Other-Other-Other-Other-This-clause-reads : goal.returns-in-Other-Other-Other-Other-Other-Other-Other-Other-Other-This-clause-reads
+returns-in-Other-Other-Other-Other-Other-Other-Other-Other-Other-This-clause-reads c =
     let a = c.in-Other-Other-Other-Other-Other-Other-Other-Other-Other-This in
-    rw (a.is, a.field-0-is, a.field-0-0-is, a.field-0-0-0-is, a.field-0-0-0-0-is, a.field-0-0-0-0-0-is, a.field-0-0-0-0-0-0-is, a.field-0-0-0-0-0-0-0-is, a.field-0-0-0-0-0-0-0-0-is, a.field-0-0-0-0-0-0-0-0-0-is) at c.in_ok-value.ensures
+    rw (a.is, a.field-0-is, a.field-0-0-is, a.field-0-0-0-is, a.field-0-0-0-0-is, a.field-0-0-0-0-0-is, a.field-0-0-0-0-0-0-is, a.field-0-0-0-0-0-0-0-is, a.field-0-0-0-0-0-0-0-0-is, a.field-0-0-0-0-0-0-0-0-0-is) at c.in_ok-value.ensures.reads
 
-pub returns-in-Other-Other-Other-Other-Other-Other-Other-Other-Other-Other-This : goal.returns-in-Other-Other-Other-Other-Other-Other-Other-Other-Other-Other-This
-returns-in-Other-Other-Other-Other-Other-Other-Other-Other-Other-Other-This c =
+pub returns-in-Other-Other-Other-Other-Other-Other-Other-Other-Other-Other-This-clause-reads : goal.returns-in-Other-Other-Other-Other-Other-Other-Other-Other-Other-Other-This-clause-reads
+returns-in-Other-Other-Other-Other-Other-Other-Other-Other-Other-Other-This-clause-reads c =
     let a = c.in-Other-Other-Other-Other-Other-Other-Other-Other-Other-Other-This in
-    rw (a.is, a.field-0-is, a.field-0-0-is, a.field-0-0-0-is, a.field-0-0-0-0-is, a.field-0-0-0-0-0-is, a.field-0-0-0-0-0-0-is, a.field-0-0-0-0-0-0-0-is, a.field-0-0-0-0-0-0-0-0-is, a.field-0-0-0-0-0-0-0-0-0-is, a.field-0-0-0-0-0-0-0-0-0-0-is) at c.in_ok-value.ensures
+    rw (a.is, a.field-0-is, a.field-0-0-is, a.field-0-0-0-is, a.field-0-0-0-0-is, a.field-0-0-0-0-0-is, a.field-0-0-0-0-0-0-is, a.field-0-0-0-0-0-0-0-is, a.field-0-0-0-0-0-0-0-0-is, a.field-0-0-0-0-0-0-0-0-0-is, a.field-0-0-0-0-0-0-0-0-0-0-is) at c.in_ok-value.ensures.reads
 
-pub returns-in-Other-Other-Other-Other-Other-Other-Other-Other-Other-Other-Other-This : goal.returns-in-Other-Other-Other-Other-Other-Other-Other-Other-Other-Other-Other-This
-returns-in-Other-Other-Other-Other-Other-Other-Other-Other-Other-Other-Other-This c =
+pub returns-in-Other-Other-Other-Other-Other-Other-Other-Other-Other-Other-Other-This-clause-reads : goal.returns-in-Other-Other-Other-Other-Other-Other-Other-Other-Other-Other-Other-This-clause-reads
+returns-in-Other-Other-Other-Other-Other-Other-Other-Other-Other-Other-Other-This-clause-reads c =
     let a = c.in-Other-Other-Other-Other-Other-Other-Other-Other-Other-Other-Other-This in
-    rw (a.is, a.field-0-is, a.field-0-0-is, a.field-0-0-0-is, a.field-0-0-0-0-is, a.field-0-0-0-0-0-is, a.field-0-0-0-0-0-0-is, a.field-0-0-0-0-0-0-0-is, a.field-0-0-0-0-0-0-0-0-is, a.field-0-0-0-0-0-0-0-0-0-is, a.field-0-0-0-0-0-0-0-0-0-0-is, a.field-0-0-0-0-0-0-0-0-0-0-0-is) at c.in_ok-value.ensures
+    rw (a.is, a.field-0-is, a.field-0-0-is, a.field-0-0-0-is, a.field-0-0-0-0-is, a.field-0-0-0-0-0-is, a.field-0-0-0-0-0-0-is, a.field-0-0-0-0-0-0-0-is, a.field-0-0-0-0-0-0-0-0-is, a.field-0-0-0-0-0-0-0-0-0-is, a.field-0-0-0-0-0-0-0-0-0-0-is, a.field-0-0-0-0-0-0-0-0-0-0-0-is) at c.in_ok-value.ensures.reads
 
-pub returns-in-Other-Other-Other-Other-Other-Other-Other-Other-Other-Other-Other-Other : goal.returns-in-Other-Other-Other-Other-Other-Other-Other-Other-Other-Other-Other-Other
-returns-in-Other-Other-Other-Other-Other-Other-Other-Other-Other-Other-Other-Other c =
+pub returns-in-Other-Other-Other-Other-Other-Other-Other-Other-Other-Other-Other-Other-clause-reads : goal.returns-in-Other-Other-Other-Other-Other-Other-Other-Other-Other-Other-Other-Other-clause-reads
+returns-in-Other-Other-Other-Other-Other-Other-Other-Other-Other-Other-Other-Other-clause-reads c =
     let a = c.in-Other-Other-Other-Other-Other-Other-Other-Other-Other-Other-Other-Other in
-    rw (a.is, a.field-0-is, a.field-0-0-is, a.field-0-0-0-is, a.field-0-0-0-0-is, a.field-0-0-0-0-0-is, a.field-0-0-0-0-0-0-is, a.field-0-0-0-0-0-0-0-is, a.field-0-0-0-0-0-0-0-0-is, a.field-0-0-0-0-0-0-0-0-0-is, a.field-0-0-0-0-0-0-0-0-0-0-is, a.field-0-0-0-0-0-0-0-0-0-0-0-is) at c.in_ok-value.ensures
+    rw (a.is, a.field-0-is, a.field-0-0-is, a.field-0-0-0-is, a.field-0-0-0-0-is, a.field-0-0-0-0-0-is, a.field-0-0-0-0-0-0-is, a.field-0-0-0-0-0-0-0-is, a.field-0-0-0-0-0-0-0-0-is, a.field-0-0-0-0-0-0-0-0-0-is, a.field-0-0-0-0-0-0-0-0-0-0-is, a.field-0-0-0-0-0-0-0-0-0-0-0-is) at c.in_ok-value.ensures.reads

@@ -1,13 +1,14 @@
-use Rattle.std.proofs.Common.{[], ◌∷◌, ◌++◌}
+use Rattle.std.proofs.Common.{[], ◌∷◌, ◌++◌, ◌∙◌}
 use Rattle.rasn_de.specs.Decodes.{Decodes}
 use Rattle.rasn_de.specs.Set.{not_read}
 use Rattle.rasn_de.proofs.Constructed.SetOfElements.{passes_from, came_stays}
 use Rattle.rasn_de.proofs.Headers.Tags.{tagged_order, look_refused, look_follows, look_kept}
 use Rattle.rasn_de.proofs.Leaves.Returns.{residual}
+use Rattle.rasn_de.proofs.Leaves.Rules.{order_rules, same_rules}
 use Rattle.rasn_de.proofs.ber.de.Decoder.components.Goals as goal
 
-pub returns-in_err-last : goal.returns-in_err-last
-returns-in_err-last g c =
+pub returns-in_err-last-clause-exact : goal.returns-in_err-last-clause-exact
+returns-in_err-last-clause-exact g c =
     let s = came_stays g.FIELDS.AsnType.shape g.FIELDS.AsnType.tree c.args.self.now c.loop-last.self c.loop-last.values.items c.loop-last.invariant.0 c.loop-last.invariant.1 in
     rw (residual _ c.from_residual.ensures.1) (
       c.loop-last.values.items,
@@ -18,8 +19,8 @@ returns-in_err-last g c =
       look_refused c.args.self.now c.loop-last.self s c.loop-last.invariant.0 c.loop-last.last c.loop-last.invariant.2 (Decodes g.FIELDS.AsnType.shape g.FIELDS.AsnType.tree) _ c.in_err-last.ensures,
     )
 
-pub returns-in_err-push_element : goal.returns-in_err-push_element
-returns-in_err-push_element g c =
+pub returns-in_err-push_element-clause-exact : goal.returns-in_err-push_element-clause-exact
+returns-in_err-push_element-clause-exact g c =
     let s = came_stays g.FIELDS.AsnType.shape g.FIELDS.AsnType.tree c.args.self.now c.loop-last.self c.loop-last.values.items c.loop-last.invariant.0 c.loop-last.invariant.1 in
     rw (residual _ c.from_residual-in_err-push_element.ensures.1) (
       c.loop-last.values.items,
@@ -27,13 +28,19 @@ returns-in_err-push_element g c =
       c.loop-last.self,
       (c.loop-last.invariant.1, tagged_order c.args.self.now c.loop-last.invariant.0 c.loop-last.last c.loop-last.invariant.2),
       c.loop-last-test.ensures,
-      not_read (look_follows c.args.self.now c.loop-last.self s c.loop-last.invariant.0 c.loop-last.last c.loop-last.invariant.2 _ c.in_ok-last.ensures) c.in_err-push_element.ensures,
+      not_read (look_follows c.args.self.now c.loop-last.self s c.loop-last.invariant.0 c.loop-last.last c.loop-last.invariant.2 _ c.in_ok-last.ensures) c.in_err-push_element.ensures.exact,
     )
+
+pub returns-in_err-last-clause-rules : goal.returns-in_err-last-clause-rules
+returns-in_err-last-clause-rules g c = rw (residual _ c.from_residual.ensures.1) ((order_rules _ c.loop-last.self _ c.in_err-last.ensures) ∙ (same_rules (came_stays g.FIELDS.AsnType.shape g.FIELDS.AsnType.tree c.args.self.now c.loop-last.self c.loop-last.values.items c.loop-last.invariant.0 c.loop-last.invariant.1)))
+
+pub returns-in_err-push_element-clause-rules : goal.returns-in_err-push_element-clause-rules
+returns-in_err-push_element-clause-rules g c = rw (residual _ c.from_residual-in_err-push_element.ensures.1) (c.in_err-push_element.ensures.rules ∙ (same_rules (came_stays g.FIELDS.AsnType.shape g.FIELDS.AsnType.tree c.args.self.now c.loop-last.self c.loop-last.values.items c.loop-last.invariant.0 c.loop-last.invariant.1)))
 
 pub loop-last-preserved : goal.loop-last-preserved
 loop-last-preserved g c =
     let s = came_stays g.FIELDS.AsnType.shape g.FIELDS.AsnType.tree c.args.self.now c.loop-last.self c.loop-last.values.items c.loop-last.invariant.0 c.loop-last.invariant.1 in
-    let k = c.in_ok-push_element.ensures in
+    let k = c.in_ok-push_element.ensures.exact in
     let b = k.2.end.0 in (
       c.loop-last.invariant.0 ++ (b ∷ []),
       passes_from (Decodes g.FIELDS.AsnType.shape g.FIELDS.AsnType.tree) c.loop-last.self _ k.0 b

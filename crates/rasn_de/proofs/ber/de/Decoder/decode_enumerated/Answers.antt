@@ -19,6 +19,7 @@ returns-in-Some g c =
           c.in_ok-discriminant.ensures.reads (c.in-Some.ensures ∙ handed_on _ _ _ _ _ t.0) (g.met.E.Enumerated.listed c.in-Some.value);
       exact = enumerated_named g.E.Enumerated.known g.E.Enumerated.number c.args.tag c.args.self.now _ c.in_ok-discriminant.discriminant c.in-Some.value t.0 t.1 (c.in-Some.ensures ∙ handed_on _ _ _ _ _ t.0) (g.met.E.Enumerated.listed c.in-Some.value);
       memory = tt;
+      rules = tt;
     }
 
 pub returns-in-None : goal.returns-in-None

@@ -1,7 +1,7 @@
 use Rattle.std.specs.Fn.{FnOnceReturnsAtMut}
 use Rattle.rasn_de.specs.Sequence.{is_read_by_initializer, MakesInitial, DecodesContents}
-use Rattle.rasn_de.proofs.Constructed.Steps.{closure_leaves, closure_inside}
-use Rattle.rasn_de.proofs.Constructed.Sequence.{sequence_decodes, fills_leaves}
+use Rattle.rasn_de.proofs.Constructed.Steps.{closure_leaves, closure_inside, inside_rules}
+use Rattle.rasn_de.proofs.Constructed.Sequence.{sequence_decodes, fills_leaves, fills_rules, initial_rules}
 use Rattle.rasn_de.proofs.ber.de.Decoder.decode_sequence.Goals as goal
 
 pub inside-requires-clause-leaves : goal.inside-requires-clause-leaves
@@ -20,4 +20,5 @@ returns g c =
       exact = k;
       reads = λ h b.
           sequence_decodes g.row.RC g.row.EC g.D.Constructed.IS_EXTENSIBLE g.D.Constructed.HAS_REQUIRED_FIELDS g.D.Constructed.parts g.D.Constructed.described g.D.AsnType.tree (goal.DF-post g) c.args.default _ c.args.tag c.args.self.now c.inside.ensures.octets h b _ _ k;
+      rules = λ names. inside_rules c.args.self.now read (λ o r n h same. fills_rules starts (MakesInitial (goal.DF-post g) c.args.default) (FnOnceReturnsAtMut g.F.FnOnce c.args.f) (initial_rules (goal.DF-post g) c.args.default) names o r n h) _ _ _ k;
     }

@@ -1,22 +1,23 @@
-use Rattle.std.proofs.Common.{Vec, Global}
+use Rattle.std.proofs.Common.{Vec, Global, sym, subst}
 use Rattle.rasn_de.specs.Decodes.{Decodes}
-use Rattle.rasn_de.specs.Set.{DecodesComponents, DecodesSetContents}
+use Rattle.rasn_de.specs.Set.{DecodesComponents, DecodesSetContents, MakesByRules}
 use Rattle.rasn_de.proofs.Constructed.Set.{set_decodes, collects_leaves}
-use Rattle.rasn_de.proofs.Constructed.Steps.{closure_leaves, closure_inside}
+use Rattle.rasn_de.proofs.Constructed.Steps.{closure_leaves, closure_inside, closure_rules}
 use Rattle.rasn_de.proofs.ber.de.Decoder.decode_set.Goals as goal
 
 pub inside-requires-clause-leaves : goal.inside-requires-clause-leaves
 inside-requires-clause-leaves g c =
     let elements = λ (v : Vec g.row.FIELDS.Denot Global). v.items in
     let read = DecodesSetContents (DecodesComponents (Decodes g.FIELDS.AsnType.shape g.FIELDS.AsnType.tree) elements) (goal.F-post g c.args.f) in
-    closure_leaves _ _ read (λ p r q m. m) (collects_leaves g.FIELDS.AsnType.shape g.FIELDS.AsnType.tree elements (goal.F-post g c.args.f))
+    closure_leaves _ _ read (λ p r q m. m.0) (collects_leaves g.FIELDS.AsnType.shape g.FIELDS.AsnType.tree elements (goal.F-post g c.args.f))
 
 pub returns : goal.returns
 returns g c =
     let elements = λ (v : Vec g.row.FIELDS.Denot Global). v.items in
     let read = DecodesSetContents (DecodesComponents (Decodes g.FIELDS.AsnType.shape g.FIELDS.AsnType.tree) elements) (goal.F-post g c.args.f) in
-    let k = closure_inside _ _ read (λ p r q m. m) _ _ c.sequence.ensures _ _ _ c.inside.ensures.exact in
+    let k = closure_inside _ _ read (λ p r q m. m.0) _ _ c.sequence.ensures _ _ _ c.inside.ensures.exact in
     record {
       exact = k;
       reads = λ same h. set_decodes g.FIELDS.AsnType.shape g.SET.Constructed.parts same g.FIELDS.AsnType.tree g.SET.AsnType.tree elements _ c.args.tag c.args.self.now c.inside.ensures.octets h _ _ k;
+      rules = λ made. closure_rules c.args.self.now _ _ (λ p r q m same. m.1 (subst (λ z. MakesByRules z (goal.F-post g c.args.f)) (sym same) made)) _ _ _ c.inside.ensures.exact;
     }

@@ -2,7 +2,7 @@ use Rattle.std.proofs.Common.{List, map}
 use Rattle.rasn_types.specs.Shapes.{Tree, choice}
 use Rattle.rasn_de.specs.SetPartTypes.{text, MakesOfReadings, DecodesSetPartContents}
 use Rattle.rasn_de.proofs.Constructed.Set.{collects_leaves}
-use Rattle.rasn_de.proofs.Constructed.Steps.{closure_leaves, closure_inside}
+use Rattle.rasn_de.proofs.Constructed.Steps.{closure_leaves, closure_inside, closure_rules}
 use Rattle.rasn_de.proofs.OwnTypes.SetPartTypes.{set_parts_decode}
 use Rattle.rasn_de.proofs.ber.de.Decoder.read_set.Goals as goal
 
@@ -11,7 +11,7 @@ inside-requires-clause-leaves g c =
     let ps = g.P.DecodeSetParts.parts in
     let tree = g.P.DecodeSetParts.tree in
     let names = map text c.args.names.now in
-    closure_leaves _ _ (DecodesSetPartContents ps tree names) (λ p r q m. m)
+    closure_leaves _ _ (DecodesSetPartContents ps tree names) (λ p r q m. m.0)
     (λ old. collects_leaves (choice ps) (λ (t : Tree). t) (λ (l : List Tree). l) (MakesOfReadings ps tree names old.rule) old)
 
 pub returns : goal.returns
@@ -19,8 +19,9 @@ returns g c =
     let ps = g.P.DecodeSetParts.parts in
     let tree = g.P.DecodeSetParts.tree in
     let names = map text c.args.names.now in
-    let k = closure_inside _ _ (DecodesSetPartContents ps tree names) (λ p r q m. m) _ _ c.sequence.ensures _ _ _ c.inside.ensures.exact in
+    let k = closure_inside _ _ (DecodesSetPartContents ps tree names) (λ p r q m. m.0) _ _ c.sequence.ensures _ _ _ c.inside.ensures.exact in
     record {
       exact = k;
       reads = set_parts_decode ps tree names c.args.tag c.args.self.now c.inside.ensures.octets _ _ k;
+      rules = closure_rules c.args.self.now _ _ (λ p r q m same. m.1) _ _ _ c.inside.ensures.exact;
     }

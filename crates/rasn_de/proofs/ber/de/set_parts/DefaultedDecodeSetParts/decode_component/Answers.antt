@@ -12,22 +12,22 @@ use Rattle.rasn_de.proofs.ber.de.set_parts.DefaultedDecodeSetParts.decode_compon
 pub decode_component-requires-clause-differ : goal.decode_component-requires-clause-differ
 decode_component-requires-clause-differ g c = others_agree g.V.Value.AsnType.shape g.V.Value.AsnType.TAG g.R.DecodeSetParts.tags_differ (others_differ g.V.Value.AsnType.shape g.V.Value.AsnType.TAG g.R.DecodeSetParts.parts (is_looked_for g.V.Value.AsnType.shape g.V.Value.AsnType.TAG && g.R.DecodeSetParts.tags_differ) c.requires.differ)
 
-pub returns-in_err-value : goal.returns-in_err-value
-returns-in_err-value g c =
+pub returns-in_err-value-clause-reads : goal.returns-in_err-value-clause-reads
+returns-in_err-value-clause-reads g c =
     let own = first_has g.V.Value.AsnType.shape g.V.Value.AsnType.TAG g.R.DecodeSetParts.parts (is_looked_for g.V.Value.AsnType.shape g.V.Value.AsnType.TAG && g.R.DecodeSetParts.tags_differ) c.requires.differ in
     let others = others_have_not g.V.Value.AsnType.shape g.V.Value.AsnType.TAG g.R.DecodeSetParts.parts (is_looked_for g.V.Value.AsnType.shape g.V.Value.AsnType.TAG && g.R.DecodeSetParts.tags_differ) c.requires.differ in
     let h : c.args.tag ≡ g.V.Value.AsnType.TAG = tag_is c.args.tag c.TAG.result c.if-eq.ensures ∙ c.TAG.ensures in
     rw (residual _ c.from_residual.ensures.1) (placed_refused (default g.V.DefaultValue.default_tree) g.V.Value.AsnType.shape g.R.DecodeSetParts.parts c.args.tag g.V.Value.AsnType.TAG h own others _ _ c.requires.next _ (default_part g.V.Value.AsnType.TAG _ _ (first_agrees g.V.Value.AsnType.shape g.V.Value.AsnType.TAG g.R.DecodeSetParts.tags_differ (others_differ g.V.Value.AsnType.shape g.V.Value.AsnType.TAG g.R.DecodeSetParts.parts (is_looked_for g.V.Value.AsnType.shape g.V.Value.AsnType.TAG && g.R.DecodeSetParts.tags_differ) c.requires.differ)) (c.in_err-value.ensures.reads g.V.DefaultValue.default_tree (λ v h. h))))
 
-pub returns-then-eq : goal.returns-then-eq
-returns-then-eq g c =
+pub returns-then-eq-clause-reads : goal.returns-then-eq-clause-reads
+returns-then-eq-clause-reads g c =
     let own = first_has g.V.Value.AsnType.shape g.V.Value.AsnType.TAG g.R.DecodeSetParts.parts (is_looked_for g.V.Value.AsnType.shape g.V.Value.AsnType.TAG && g.R.DecodeSetParts.tags_differ) c.requires.differ in
     let others = others_have_not g.V.Value.AsnType.shape g.V.Value.AsnType.TAG g.R.DecodeSetParts.parts (is_looked_for g.V.Value.AsnType.shape g.V.Value.AsnType.TAG && g.R.DecodeSetParts.tags_differ) c.requires.differ in
     let h : c.args.tag ≡ g.V.Value.AsnType.TAG = search rules in
     placed_here (default g.V.DefaultValue.default_tree) g.V.Value.AsnType.shape g.R.DecodeSetParts.parts c.args.tag g.V.Value.AsnType.TAG h own others _ _ c.requires.next _ g.V.Value.AsnType.tree _ _ _ _ _ (default_part g.V.Value.AsnType.TAG _ _ (first_agrees g.V.Value.AsnType.shape g.V.Value.AsnType.TAG g.R.DecodeSetParts.tags_differ (others_differ g.V.Value.AsnType.shape g.V.Value.AsnType.TAG g.R.DecodeSetParts.parts (is_looked_for g.V.Value.AsnType.shape g.V.Value.AsnType.TAG && g.R.DecodeSetParts.tags_differ) c.requires.differ)) (c.in_ok-value.ensures.reads g.V.DefaultValue.default_tree (λ v h. h))) c.place.ensures
 
-pub returns : goal.returns
-returns g c =
+pub returns-clause-reads : goal.returns-clause-reads
+returns-clause-reads g c =
     let own = first_has g.V.Value.AsnType.shape g.V.Value.AsnType.TAG g.R.DecodeSetParts.parts (is_looked_for g.V.Value.AsnType.shape g.V.Value.AsnType.TAG && g.R.DecodeSetParts.tags_differ) c.requires.differ in
     let h : c.args.tag ≡ g.V.Value.AsnType.TAG → ⊥ = search rules in
-    placed_other (default g.V.DefaultValue.default_tree) g.V.Value.AsnType.shape g.R.DecodeSetParts.parts _ _ c.other_names.ensures c.args.tag g.V.Value.AsnType.TAG h own _ _ c.requires.next _ _ _ _ c.decode_component.ensures
+    placed_other (default g.V.DefaultValue.default_tree) g.V.Value.AsnType.shape g.R.DecodeSetParts.parts _ _ c.other_names.ensures c.args.tag g.V.Value.AsnType.TAG h own _ _ c.requires.next _ _ _ _ c.decode_component.ensures.reads

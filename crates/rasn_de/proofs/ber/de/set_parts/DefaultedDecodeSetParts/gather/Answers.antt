@@ -5,11 +5,11 @@ use Rattle.rasn_de.proofs.Leaves.Returns.{residual}
 use Rattle.rasn_de.proofs.OwnTypes.SetPartTypes.{others_lack, gathered_default}
 use Rattle.rasn_de.proofs.ber.de.set_parts.DefaultedDecodeSetParts.gather.Goals as goal
 
-pub returns-in_err-value : goal.returns-in_err-value
-returns-in_err-value g c = rw (residual _ c.from_residual.ensures.1) (inl c.in_err-value.ensures)
+pub returns-in_err-value-clause-makes : goal.returns-in_err-value-clause-makes
+returns-in_err-value-clause-makes g c = rw (residual _ c.from_residual.ensures.1) (inl c.in_err-value.ensures.made)
 
-pub returns-in_err-rest : goal.returns-in_err-rest
-returns-in_err-rest g c = rw (residual _ c.from_residual-in_err-rest.ensures.1) (others_lack (default g.V.DefaultValue.default_tree) g.V.Value.AsnType.shape g.R.DecodeSetParts.parts _ _ c.other_names.ensures _ (g.R.DecodeSetParts.held c.args.slots.1) (held_tree g.V.Value.AsnType.tree c.args.slots.0) (λ e. cc) _ c.in_err-rest.ensures)
+pub returns-in_err-rest-clause-makes : goal.returns-in_err-rest-clause-makes
+returns-in_err-rest-clause-makes g c = rw (residual _ c.from_residual-in_err-rest.ensures.1) (others_lack (default g.V.DefaultValue.default_tree) g.V.Value.AsnType.shape g.R.DecodeSetParts.parts _ _ c.other_names.ensures _ (g.R.DecodeSetParts.held c.args.slots.1) (held_tree g.V.Value.AsnType.tree c.args.slots.0) (λ e. cc) _ c.in_err-rest.ensures.makes)
 
-pub returns : goal.returns
-returns g c = gathered_default g.V.Value.AsnType.shape g.R.DecodeSetParts.parts g.V.Value.AsnType.tree g.V.DefaultValue.default_tree c.args.slots.0 _ (g.R.DecodeSetParts.held c.args.slots.1) _ c.in_ok-value.ensures c.in_ok-rest.ensures
+pub returns-clause-makes : goal.returns-clause-makes
+returns-clause-makes g c = gathered_default g.V.Value.AsnType.shape g.R.DecodeSetParts.parts g.V.Value.AsnType.tree g.V.DefaultValue.default_tree c.args.slots.0 _ (g.R.DecodeSetParts.held c.args.slots.1) _ c.in_ok-value.ensures.made c.in_ok-rest.ensures.makes

@@ -8,23 +8,23 @@ use Rattle.rasn_de.proofs.ber.de.set_parts.OptionalDecodeSetParts.decode_compone
 pub decode_component-requires-clause-differ : goal.decode_component-requires-clause-differ
 decode_component-requires-clause-differ g c = others_differ g.A.AsnType.shape g.A.AsnType.TAG g.R.DecodeSetParts.parts g.R.DecodeSetParts.tags_differ c.requires.differ
 
-pub returns-in_err-value : goal.returns-in_err-value
-returns-in_err-value g c =
+pub returns-in_err-value-clause-reads : goal.returns-in_err-value-clause-reads
+returns-in_err-value-clause-reads g c =
     let own = first_has g.A.AsnType.shape g.A.AsnType.TAG g.R.DecodeSetParts.parts g.R.DecodeSetParts.tags_differ c.requires.differ in
     let others = others_have_not g.A.AsnType.shape g.A.AsnType.TAG g.R.DecodeSetParts.parts g.R.DecodeSetParts.tags_differ c.requires.differ in
     let i = c.if-eq.ensures in let j = c.eq.ensures in let t = c.TAG.ensures in let q = c.if-eq.true in
     let h : c.args.tag ≡ g.A.AsnType.TAG = first_of (search rules, search (rules, i, t), grind (arith, i, j, t, q)) in
-    rw (residual _ c.from_residual.ensures.1) (placed_refused optional g.A.AsnType.shape g.R.DecodeSetParts.parts c.args.tag g.A.AsnType.TAG h own others _ _ c.requires.next _ c.in_err-value.ensures)
+    rw (residual _ c.from_residual.ensures.1) (placed_refused optional g.A.AsnType.shape g.R.DecodeSetParts.parts c.args.tag g.A.AsnType.TAG h own others _ _ c.requires.next _ c.in_err-value.ensures.reads)
 
-pub returns-then-eq : goal.returns-then-eq
-returns-then-eq g c =
+pub returns-then-eq-clause-reads : goal.returns-then-eq-clause-reads
+returns-then-eq-clause-reads g c =
     let own = first_has g.A.AsnType.shape g.A.AsnType.TAG g.R.DecodeSetParts.parts g.R.DecodeSetParts.tags_differ c.requires.differ in
     let others = others_have_not g.A.AsnType.shape g.A.AsnType.TAG g.R.DecodeSetParts.parts g.R.DecodeSetParts.tags_differ c.requires.differ in
     let h : c.args.tag ≡ g.A.AsnType.TAG = search rules in
-    placed_here optional g.A.AsnType.shape g.R.DecodeSetParts.parts c.args.tag g.A.AsnType.TAG h own others _ _ c.requires.next _ g.A.AsnType.tree _ _ _ _ _ c.in_ok-value.ensures c.place.ensures
+    placed_here optional g.A.AsnType.shape g.R.DecodeSetParts.parts c.args.tag g.A.AsnType.TAG h own others _ _ c.requires.next _ g.A.AsnType.tree _ _ _ _ _ c.in_ok-value.ensures.reads c.place.ensures
 
-pub returns : goal.returns
-returns g c =
+pub returns-clause-reads : goal.returns-clause-reads
+returns-clause-reads g c =
     let own = first_has g.A.AsnType.shape g.A.AsnType.TAG g.R.DecodeSetParts.parts g.R.DecodeSetParts.tags_differ c.requires.differ in
     let h : c.args.tag ≡ g.A.AsnType.TAG → ⊥ = search rules in
-    placed_other optional g.A.AsnType.shape g.R.DecodeSetParts.parts _ _ c.other_names.ensures c.args.tag g.A.AsnType.TAG h own _ _ c.requires.next _ _ _ _ c.decode_component.ensures
+    placed_other optional g.A.AsnType.shape g.R.DecodeSetParts.parts _ _ c.other_names.ensures c.args.tag g.A.AsnType.TAG h own _ _ c.requires.next _ _ _ _ c.decode_component.ensures.reads

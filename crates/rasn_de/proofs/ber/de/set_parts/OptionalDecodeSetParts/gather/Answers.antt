@@ -5,8 +5,8 @@ use Rattle.rasn_de.proofs.Leaves.Returns.{residual}
 use Rattle.rasn_de.proofs.OwnTypes.SetPartTypes.{others_lack, gathered_optional}
 use Rattle.rasn_de.proofs.ber.de.set_parts.OptionalDecodeSetParts.gather.Goals as goal
 
-pub returns-in_err-rest : goal.returns-in_err-rest
-returns-in_err-rest g c = rw (residual _ c.from_residual.ensures.1) (others_lack optional g.A.AsnType.shape g.R.DecodeSetParts.parts _ _ c.other_names.ensures _ (g.R.DecodeSetParts.held c.args.slots.1) (held_tree g.A.AsnType.tree c.args.slots.0) (λ e. cc) _ c.in_err-rest.ensures)
+pub returns-in_err-rest-clause-makes : goal.returns-in_err-rest-clause-makes
+returns-in_err-rest-clause-makes g c = rw (residual _ c.from_residual.ensures.1) (others_lack optional g.A.AsnType.shape g.R.DecodeSetParts.parts _ _ c.other_names.ensures _ (g.R.DecodeSetParts.held c.args.slots.1) (held_tree g.A.AsnType.tree c.args.slots.0) (λ e. cc) _ c.in_err-rest.ensures.makes)
 
-pub returns : goal.returns
-returns g c = gathered_optional g.A.AsnType.shape g.R.DecodeSetParts.parts g.A.AsnType.tree c.args.slots.0 (g.R.DecodeSetParts.held c.args.slots.1) _ c.in_ok-rest.ensures
+pub returns-clause-makes : goal.returns-clause-makes
+returns-clause-makes g c = gathered_optional g.A.AsnType.shape g.R.DecodeSetParts.parts g.A.AsnType.tree c.args.slots.0 (g.R.DecodeSetParts.held c.args.slots.1) _ c.in_ok-rest.ensures.makes

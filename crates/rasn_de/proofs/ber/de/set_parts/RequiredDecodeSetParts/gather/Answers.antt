@@ -1,15 +1,18 @@
-use Rattle.std.proofs.Common.{rules}
+use Rattle.std.proofs.Common.{rules, ◌∙◌}
 use Rattle.rasn_types.specs.Shapes.{required}
 use Rattle.rasn_de.specs.SetPartTypes.{held_tree}
 use Rattle.rasn_de.proofs.Leaves.Returns.{residual}
 use Rattle.rasn_de.proofs.OwnTypes.SetPartTypes.{held_none, held_some, lacks_here, others_lack, gathered_some}
 use Rattle.rasn_de.proofs.ber.de.set_parts.RequiredDecodeSetParts.gather.Goals as goal
 
-pub returns-in_default : goal.returns-in_default
-returns-in_default g c = lacks_here g.A.AsnType.shape g.R.DecodeSetParts.parts _ _ (g.R.DecodeSetParts.held c.args.slots.1) (held_tree g.A.AsnType.tree c.args.slots.0) (held_none g.A.AsnType.tree c.args.slots.0 (search rules)) _ c.first_name.ensures _ (search rules)
+pub returns-in_default-clause-makes : goal.returns-in_default-clause-makes
+returns-in_default-clause-makes g c = lacks_here g.A.AsnType.shape g.R.DecodeSetParts.parts _ _ (g.R.DecodeSetParts.held c.args.slots.1) (held_tree g.A.AsnType.tree c.args.slots.0) (held_none g.A.AsnType.tree c.args.slots.0 (search rules)) _ c.first_name.ensures _ (search rules)
 
-pub returns-in_err-rest : goal.returns-in_err-rest
-returns-in_err-rest g c = rw (residual _ c.from_residual.ensures.1) (others_lack required g.A.AsnType.shape g.R.DecodeSetParts.parts _ _ c.other_names.ensures _ (g.R.DecodeSetParts.held c.args.slots.1) (held_tree g.A.AsnType.tree c.args.slots.0) (λ e. held_some g.A.AsnType.tree c.args.slots.0 (search rules)) _ c.in_err-rest.ensures)
+pub returns-in_err-rest-clause-makes : goal.returns-in_err-rest-clause-makes
+returns-in_err-rest-clause-makes g c = rw (residual _ c.from_residual.ensures.1) (others_lack required g.A.AsnType.shape g.R.DecodeSetParts.parts _ _ c.other_names.ensures _ (g.R.DecodeSetParts.held c.args.slots.1) (held_tree g.A.AsnType.tree c.args.slots.0) (λ e. held_some g.A.AsnType.tree c.args.slots.0 (search rules)) _ c.in_err-rest.ensures.makes)
 
-pub returns : goal.returns
-returns g c = gathered_some required g.A.AsnType.shape g.R.DecodeSetParts.parts g.A.AsnType.tree c.args.slots.0 _ (g.R.DecodeSetParts.held c.args.slots.1) _ (search rules) c.in_ok-rest.ensures
+pub returns-clause-makes : goal.returns-clause-makes
+returns-clause-makes g c = gathered_some required g.A.AsnType.shape g.R.DecodeSetParts.parts g.A.AsnType.tree c.args.slots.0 _ (g.R.DecodeSetParts.held c.args.slots.1) _ (search rules) c.in_ok-rest.ensures.makes
+
+pub returns-in_default-clause-rules : goal.returns-in_default-clause-rules
+returns-in_default-clause-rules g c = c.missing_field.ensures.0 ∙ c.codec.ensures

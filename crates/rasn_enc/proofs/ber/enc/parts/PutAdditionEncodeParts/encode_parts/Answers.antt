@@ -1,8 +1,8 @@
 use Rattle.rasn_enc.proofs.OwnTypes.Sequence.{part_refused, part_appended, addition_encoded, addition_refused}
 use Rattle.rasn_enc.proofs.ber.enc.parts.PutAdditionEncodeParts.encode_parts.Goals as goal
 
-pub returns-in_err-encode : goal.returns-in_err-encode
-returns-in_err-encode g c = part_refused _ _ _ _ _ _ _ _ (addition_refused _ _ _ _ c.in_err-encode.ensures.refused) c.in_err-encode.ensures.err c.from_residual.ensures.1
+pub returns-in_err-encode-clause-writes : goal.returns-in_err-encode-clause-writes
+returns-in_err-encode-clause-writes g c = part_refused _ _ _ _ _ _ _ _ (addition_refused _ _ _ _ c.in_err-encode.ensures.refused) c.in_err-encode.ensures.err c.from_residual.ensures.1
 
-pub returns : goal.returns
-returns g c = part_appended _ _ _ _ _ _ _ _ (addition_encoded _ _ _ _ c.in_ok-encode.ensures.ok) c.encode_parts.ensures
+pub returns-clause-writes : goal.returns-clause-writes
+returns-clause-writes g c = part_appended _ _ _ _ _ _ _ _ (addition_encoded _ _ _ _ c.in_ok-encode.ensures.ok) c.encode_parts.ensures.writes

@@ -1,8 +1,8 @@
 use Rattle.rasn_enc.proofs.OwnTypes.Sequence.{part_refused, part_appended}
 use Rattle.rasn_enc.proofs.ber.enc.parts.PutDefaultEncodeParts.encode_parts.Goals as goal
 
-pub returns-in_err-encode_default : goal.returns-in_err-encode_default
-returns-in_err-encode_default g c = part_refused _ _ _ _ _ _ _ _ (c.in_err-encode_default.ensures.writes g.V.DefaultValue.default_tree (λ d m. m)).1 c.in_err-encode_default.ensures.err c.from_residual.ensures.1
+pub returns-in_err-encode_default-clause-writes : goal.returns-in_err-encode_default-clause-writes
+returns-in_err-encode_default-clause-writes g c = part_refused _ _ _ _ _ _ _ _ (c.in_err-encode_default.ensures.writes g.V.DefaultValue.default_tree (λ d m. m)).1 c.in_err-encode_default.ensures.err c.from_residual.ensures.1
 
-pub returns : goal.returns
-returns g c = part_appended _ _ _ _ _ _ _ _ (c.in_ok-encode_default.ensures.writes g.V.DefaultValue.default_tree (λ d m. m)).0 c.encode_parts.ensures
+pub returns-clause-writes : goal.returns-clause-writes
+returns-clause-writes g c = part_appended _ _ _ _ _ _ _ _ (c.in_ok-encode_default.ensures.writes g.V.DefaultValue.default_tree (λ d m. m)).0 c.encode_parts.ensures.writes

@@ -3,4 +3,7 @@ use Rattle.rasn_de.proofs.Constructed.Set.{collects_called}
 use Rattle.rasn_de.proofs.ber.de.fn.Decoder.decode_set.inside.Goals as goal
 
 pub returns : goal.returns
-returns g c = collects_called g.FIELDS.AsnType.shape g.FIELDS.AsnType.tree (λ (v : Vec g.row.FIELDS.Denot Global). v.items) (goal.F-post g c.captures.f) _ c.in_ok-fields.fields _ _ c.in_ok-fields.ensures c.f.ensures
+returns g c = record {
+  exact = collects_called g.FIELDS.AsnType.shape g.FIELDS.AsnType.tree (λ (v : Vec g.row.FIELDS.Denot Global). v.items) (goal.F-post g c.captures.f) _ c.in_ok-fields.fields _ _ c.in_ok-fields.ensures.exact c.f.ensures;
+  rules = λ made. made c.in_ok-fields.fields c.f.result c.f.ensures;
+}

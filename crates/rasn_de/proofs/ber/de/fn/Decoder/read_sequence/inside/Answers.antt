@@ -1,0 +1,9 @@
+use Rattle.rasn_de.proofs.OwnTypes.Parts.{in_parts}
+use Rattle.rasn_de.proofs.ber.de.fn.Decoder.read_sequence.inside.Goals as goal
+
+pub returns : goal.returns
+returns g c = record {
+  exact = in_parts _ _ _ _ _ c.decode_parts.ensures.reads c.decode_parts.ensures.fails;
+  reads = c.decode_parts.ensures.reads;
+  rules = c.decode_parts.ensures.rules;
+}

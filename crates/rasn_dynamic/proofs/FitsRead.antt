@@ -1,0 +1,193 @@
+-- What is read is a value of its type.
+use Rattle.std.proofs.Common.{◌≡◌, ℕ, zero, suc, ℤ, inl, inr, List, [], ◌∷◌, ◌++◌, map, length, Option, Some, None, Vec, Global, Result, Ok, Err, refl, sym, ap, ◌∙◌, subst, append_assoc, arith}
+use Rattle.std.specs.Prelude.{slice_get, slice_set, IfOk}
+use Rattle.std.specs.Borrow.{Bor}
+use Rattle.std.proofs.lemmas.List.{append-nil}
+use Rattle.rasn_types.specs.declared.types.tag.Tag.{Tag}
+use Rattle.rasn_types.specs.declared.types.codec.Codec.{Codec}
+use Rattle.rasn_types.specs.declared.types.constraints.Constraints.{Constraints}
+use Rattle.rasn_types.specs.declared.types.constraints.Bound.{Bound}
+use Rattle.rasn_types.specs.declared.error.decode.DecodeError.{DecodeError}
+use Rattle.rasn_types.specs.Shapes.{Tree, Same, items, joined, set_elements, number, leaf, integer, Interval, IsIn, Presence, required, optional, addition, default}
+use Rattle.rasn_types.specs.Readings.{IsMissing}
+use Rattle.std.specs.Cow.{cow_slice_items}
+use Rattle.rasn_types.specs.declared.types.strings.alphabet.Alphabet.{Alphabet}
+use Rattle.rasn_types.specs.CharacterString.{AreAdmitted}
+use Rattle.rasn_types.specs.Grammar.{Reads}
+use Rattle.std.proofs.lemmas.List.Sorted.{IsPermutation-refl}
+use Rattle.rasn_schema.specs.declared.types.Component.{Component}
+use Rattle.rasn_schema.specs.declared.types.LeafKind.{LeafKind}
+use Rattle.rasn_schema.specs.declared.types.«Type».{«Type»}
+use Rattle.rasn_schema.specs.declared.value.Value.{Value, Boolean, Null, Integer as Number, Bits, Octets, Text, Units, Arcs, Instant, Day, Absent, Items, Items', Elements, Elements', Chosen', Row_of-Value, end_of-Value, more_of-Value, items-the_row-Value, items_hidden-the_row-Value-0}
+use Rattle.rasn_schema.specs.Trees.{tree_of, trees_in}
+use Rattle.rasn_schema.specs.Shapes.{presence_of}
+use Rattle.rasn_dynamic.specs.Written.{IsLeftOutAs}
+use Rattle.rasn_dynamic.specs.Fitting.{Fits, FitsBy, FitsFound, NumberFits, OctetsFit, FitsLeaf, AreItems, AreElements, ComponentFits, ComponentsFit, EachFits}
+use Rattle.rasn_dynamic.specs.Found.{OneFound, FoundFit}
+use Rattle.rasn_dynamic.specs.Calls.{nones, IsPut, IsValueOf, AreSettled, Gathers, IsNumberIn, IsStringOf, IsSized, IsSizedSet}
+
+pub fits_below : (types : List «Type») (levels below k : ℕ) (ty : «Type») (v : Value) → levels ≡ suc below → Some ty ≡ slice_get types k → FitsBy (λ j w. Fits types below j w) ty v → Fits types levels k v
+unfolding Fits
+fits_below types zero below k ty v e g h = absurd (omega (arith, e))
+fits_below types (suc m) below k ty v e g h =
+    let s : m ≡ below = omega (arith, e) in
+    subst (λ o. FitsFound (λ j w. Fits types m j w) o v) g (subst (λ n. FitsBy (λ j w. Fits types n j w) ty v) (sym s) h)
+
+pub if_ok : (P Q : Value → Type 0) (r : Result Value DecodeError) → ((v : Value) → P v → Q v) → IfOk r P → IfOk r Q
+if_ok P Q (Ok v) f h = f v h
+if_ok P Q (Err e) f h = tt
+
+-- ---- numbers
+
+pub number_in : (rule : Codec) (range : Interval) (tag : Tag) (bounds : Constraints) (depth : ℕ) (closing : _) (input rest : List ℕ) (n : ℤ) → Reads rule (leaf (integer range) tag bounds) depth closing input (number n) rest → IsIn range n
+unfolding Reads
+number_in rule range tag bounds depth closing input rest n ((bit, contents, frame, (e, ne, i), st), b) = let m : _ ≡ n = cc in subst (IsIn range) m i
+
+pub number_fits : (kind : LeafKind) (range : Interval) → ((n : ℤ) → IsIn range n → NumberFits kind n) → (v : Value) → IsNumberIn range v → FitsLeaf kind v
+number_fits kind range f (Number n) h = f n h
+number_fits kind range f (Boolean b) h = absurd h
+number_fits kind range f Null h = absurd h
+number_fits kind range f (Bits b) h = absurd h
+number_fits kind range f (Octets o) h = absurd h
+number_fits kind range f (Text s) h = absurd h
+number_fits kind range f (Units u) h = absurd h
+number_fits kind range f (Arcs a) h = absurd h
+number_fits kind range f (Instant t) h = absurd h
+number_fits kind range f (Day d) h = absurd h
+number_fits kind range f (Items' _ row) h = absurd h
+number_fits kind range f (Elements' _ row) h = absurd h
+number_fits kind range f (Chosen' i _ w) h = absurd h
+number_fits kind range f Absent h = absurd h
+
+-- ---- strings
+
+module _ (kind : LeafKind) (a : Alphabet) (f : (l : List ℕ) → AreAdmitted a l → OctetsFit kind l) where
+  pub string_fits : (v : Value) → IsStringOf a v → FitsLeaf kind v
+  string_fits (Octets o) h = f (cow_slice_items o) h
+  string_fits (Number n) h = absurd h
+  string_fits (Boolean b) h = absurd h
+  string_fits Null h = absurd h
+  string_fits (Bits b) h = absurd h
+  string_fits (Text s) h = absurd h
+  string_fits (Units u) h = absurd h
+  string_fits (Arcs x) h = absurd h
+  string_fits (Instant t) h = absurd h
+  string_fits (Day d) h = absurd h
+  string_fits (Items' _ row) h = absurd h
+  string_fits (Elements' _ row) h = absurd h
+  string_fits (Chosen' i _ w) h = absurd h
+  string_fits Absent h = absurd h
+
+-- ---- lists
+
+pub are_items : (P : List Value → Type 0) (vs : Vec Value Global) → P vs.items → AreItems P (Items vs)
+are_items P vs h = subst P (sym (items_hidden-the_row-Value-0 vs)) h
+
+pub are_elements : (P : List Value → Type 0) (vs : Vec Value Global) → P vs.items → AreElements P (Elements vs)
+are_elements P vs h = subst P (sym (items_hidden-the_row-Value-0 vs)) h
+
+pub sized_fits : (P : List Value → Type 0) (size : Option (Bound ℕ)) (vs : Vec Value Global) (r : Result Value DecodeError) → P vs.items → IsSized size vs r → IfOk r (AreItems P)
+sized_fits P size vs (Ok v) h (a, e) = subst (AreItems P) (sym e) (are_items P vs h)
+sized_fits P size vs (Err e) h n = tt
+
+pub sized_set_fits : (P : List Value → Type 0) (size : Option (Bound ℕ)) (vs : Vec Value Global) (r : Result Value DecodeError) → P vs.items → IsSizedSet size vs r → IfOk r (AreElements P)
+sized_set_fits P size vs (Ok v) h (a, e) = subst (AreElements P) (sym e) (are_elements P vs h)
+sized_set_fits P size vs (Err e) h n = tt
+
+pub each_more : (P : Value → Type 0) (vs us : List Value) (v : Value) → us ≡ vs ++ v ∷ [] → EachFits P vs → P v → EachFits P us
+each_more P vs us v e h p = subst (EachFits P) (sym e) (go vs h)
+  where
+    go : (l : List Value) → EachFits P l → EachFits P (l ++ v ∷ [])
+    go [] h = (p, tt)
+    go (w ∷ l) h = (h.0, go l h.1)
+
+-- Some components are values of their types, and the rest is left.
+abbrev pub FitSoFar : (ℕ → Value → Type 0) → List Component → List Component → List Value → Type 0
+FitSoFar g all rest vs = (us : List Value) → ComponentsFit g rest us → ComponentsFit g all (vs ++ us)
+
+pub fit_more : (g : ℕ → Value → Type 0) (all rest after : List Component) (p : Component) (vs ws : List Value) (v : Value) → FitSoFar g all rest vs → rest ≡ p ∷ after → ws ≡ vs ++ v ∷ [] → ComponentFits g p v → FitSoFar g all after ws
+fit_more g all rest after p vs ws v k e f m us h =
+    subst (ComponentsFit g all) (sym (ap (λ l. l ++ us) f ∙ append_assoc vs (v ∷ []) us)) (k (v ∷ us) (subst (λ l. ComponentsFit g l (v ∷ us)) (sym e) (m, h)))
+
+pub fit_end : (g : ℕ → Value → Type 0) (all rest : List Component) (vs : List Value) → FitSoFar g all rest vs → rest ≡ [] → ComponentsFit g all vs
+fit_end g all rest vs k e = subst (ComponentsFit g all) (append-nil vs) (k [] (subst (λ l. ComponentsFit g l []) (sym e) tt))
+
+-- ---- components that are absent
+
+row_trees : {n : _} → Row_of-Value n → List Tree
+row_trees end_of-Value = []
+row_trees (more_of-Value v rest) = tree_of v ∷ row_trees rest
+
+row_items : {n : _} (row : Row_of-Value n) → trees_in row ≡ items (row_trees row)
+row_items end_of-Value = refl
+row_items (more_of-Value v rest) = ap (joined (tree_of v)) (row_items rest)
+
+mutual
+  same_value : (v : Value) → Same (tree_of v) (tree_of v)
+  same_value (Boolean b) = refl
+  same_value Null = refl
+  same_value (Number n) = refl
+  same_value (Bits b) = refl
+  same_value (Octets o) = refl
+  same_value (Text s) = refl
+  same_value (Units u) = refl
+  same_value (Arcs a) = refl
+  same_value (Instant t) = refl
+  same_value (Day d) = refl
+  same_value (Items' _ row) = same_row row
+  same_value (Elements' _ row) = (row_trees row, row_trees row, ap set_elements (row_items row), IsPermutation-refl (row_trees row), subst (Same (trees_in row)) (row_items row) (same_row row))
+  same_value (Chosen' i _ w) = (tree_of w, refl, same_value w)
+  same_value Absent = refl
+
+  same_row : {n : _} (row : Row_of-Value n) → Same (trees_in row) (trees_in row)
+  same_row end_of-Value = refl
+  same_row (more_of-Value v rest) = (tree_of v, trees_in rest, refl, same_value v, same_row rest)
+
+left_out : (p : Presence) (v : Value) → IsMissing p (tree_of v) → IsLeftOutAs p (tree_of v)
+left_out required v m = m
+left_out optional v m = m
+left_out addition v m = m
+left_out (default d) v m = subst (Same (tree_of v)) m (same_value v)
+
+module _ (g : ℕ → Value → Type 0) where
+  pub missing_fits : (p : Component) (v : Value) → IsMissing (presence_of p.presence) (tree_of v) → ComponentFits g p v
+  missing_fits p v m = inl (left_out (presence_of p.presence) v m)
+
+  -- ---- components of a SET
+
+  one_fits : (p : Component) (x : Option Value) (v : Value) → OneFound g p x → IsValueOf (presence_of p.presence) x v → ComponentFits g p v
+  one_fits p None v f m = missing_fits p v m
+  one_fits p (Some w) v f m = inr (subst (g p.type_id.0) (sym m) f)
+
+  settled_fit : (ps : List Component) (found : List (Option Value)) (vs : List Value) → FoundFit g ps found → AreSettled ps found vs → ComponentsFit g ps vs
+  settled_fit [] [] vs f e = subst (ComponentsFit g []) (sym e) tt
+  settled_fit [] (x ∷ found) vs f h = absurd f
+  settled_fit (p ∷ ps) [] vs f h = absurd f
+  settled_fit (p ∷ ps) (x ∷ found) vs f (v, us, e, m, h) = subst (ComponentsFit g (p ∷ ps)) (sym e) (one_fits p x v f.0 m, settled_fit ps found us f.1 h)
+
+  pub gathered_fit : (ps : List Component) (rule : Codec) (found : List (Option Value)) (r : Result (Vec Value Global) DecodeError) → FoundFit g ps found → Gathers ps rule found r → IfOk r (λ v. ComponentsFit g ps v.items)
+  gathered_fit ps rule found (Ok vs) f h = settled_fit ps found vs.items f h
+  gathered_fit ps rule found (Err e) f h = tt
+
+  none_fit : (ps : List Component) → FoundFit g ps (nones ps)
+  none_fit [] = tt
+  none_fit (p ∷ ps) = (tt, none_fit ps)
+
+  pub nones_fit : (ps : List Component) (found : List (Option Value)) → found ≡ nones ps → FoundFit g ps found
+  nones_fit ps found e = subst (FoundFit g ps) (sym e) (none_fit ps)
+
+  pub found_length : (ps : List Component) (found : List (Option Value)) → FoundFit g ps found → length found ≡ length ps
+  found_length [] [] f = refl
+  found_length [] (x ∷ found) f = absurd f
+  found_length (p ∷ ps) [] f = absurd f
+  found_length (p ∷ ps) (x ∷ found) f = ap suc (found_length ps found f.1)
+
+  found_put : (ps : List Component) (before : List (Option Value)) (k : ℕ) (p : Component) (v : Value) → FoundFit g ps before → Some p ≡ slice_get ps k → g p.type_id.0 v → FoundFit g ps (slice_set before k (Some v))
+  found_put [] before k p v f e h = absurd cc
+  found_put (q ∷ ps) [] k p v f e h = absurd f
+  found_put (q ∷ ps) (x ∷ before) zero p v f e h = let same : p ≡ q = cc in (subst (λ (y : Component). g y.type_id.0 v) same h, f.1)
+  found_put (q ∷ ps) (x ∷ before) (suc k) p v f e h = (f.0, found_put ps before k p v f.1 e h)
+
+  pub put_fits : (ps : List Component) (before after : List (Option Value)) (k : ℕ) (p : Component) (v : Value) (name : List ℕ) (r : Option (Bor (List ℕ))) → FoundFit g ps before → Some p ≡ slice_get ps k → g p.type_id.0 v → IsPut k v name before r after → FoundFit g ps after
+  put_fits ps before after k p v name None f e h (n, a) = subst (FoundFit g ps) (sym a) (found_put ps before k p v f e h)
+  put_fits ps before after k p v name (Some told) f e h (n, a, t) = subst (FoundFit g ps) (sym a) f

@@ -1,0 +1,18 @@
+use Rattle.std.proofs.Common.{inl, inr}
+use Rattle.rasn_de.proofs.Leaves.Returns.{residual}
+use Rattle.rasn_dynamic.proofs.FixedOctets.{fixed_got, fixed_refused, fixed_unread}
+use Rattle.rasn_dynamic.proofs.read_leaf.decode_fixed_octets.Goals as goal
+
+pub returns-in_err-octets-clause-reads : goal.returns-in_err-octets-clause-reads
+returns-in_err-octets-clause-reads c = rw (residual _ c.from_residual.ensures.1) (fixed_unread c.args.tag c.args.len c.args.constraints.now c.args.decoder.now _ _ c.in_err-octets.ensures.reads)
+
+pub returns-then-len-clause-reads : goal.returns-then-len-clause-reads
+returns-then-len-clause-reads c =
+    fixed_refused c.args.tag c.args.len c.args.constraints.now c.args.decoder.now _ c.in_ok-octets.octets c.in_ok-octets.ensures.reads (inl ?) _
+
+pub returns-then-admits_size : goal.returns-then-admits_size
+returns-then-admits_size c = ?
+
+pub returns-clause-reads : goal.returns-clause-reads
+returns-clause-reads c =
+    fixed_refused c.args.tag c.args.len c.args.constraints.now c.args.decoder.now _ c.in_ok-octets.octets c.in_ok-octets.ensures.reads (inr ?) _

@@ -1,0 +1,88 @@
+//! Values that are read, and what refuses them.
+
+use crate::row::Row;
+use rasn::ber::de::{Decoder, DecoderOptions};
+use rasn::de::Decode;
+use rasn::error::DecodeError;
+use rasn::types::{Codec, Constraints};
+use rasn::{ber, cer, der};
+use std::alloc::{AllocError, Global};
+use std::fmt::Debug;
+
+/// The text of a value, or of the error's rules and kind.
+pub fn told<T: Debug>(
+    alloc: Global,
+    answer: &Result<T, DecodeError>,
+) -> Result<String, AllocError> {
+    match answer {
+        Ok(value) => format!(in alloc; "= {value:?}"),
+        Err(error) => format!(in alloc; "! {:?} {:?}", error.codec, error.kind),
+    }
+}
+
+/// The same, and how many octets are consumed.
+pub fn counted<T: Debug>(
+    alloc: Global,
+    answer: &Result<T, DecodeError>,
+    consumed: usize,
+) -> Result<String, AllocError> {
+    let text = told(alloc, answer)?;
+    format!(in alloc; "{text}, {consumed}")
+}
+
+/// A decoder of the octets of a row by its rules.
+pub fn decoder_of<'row>(alloc: Global, row: &'row Row<'_>) -> Decoder<'row> {
+    Decoder::new(alloc, &row.octets, DecoderOptions::of(row.rules))
+}
+
+/// What a value of the type is read as.
+pub fn read<T: Decode + Debug>(alloc: Global, row: &Row<'_>) -> Result<String, AllocError> {
+    let mut decoder = decoder_of(alloc, row);
+    let answer = T::decode(&mut decoder);
+    counted(alloc, &answer, decoder.decoded_len())
+}
+
+/// What a value of the type is read as under these constraints.
+pub fn read_within<T: Decode + Debug>(
+    alloc: Global,
+    row: &Row<'_>,
+    constraints: &Constraints,
+) -> Result<String, AllocError> {
+    let mut decoder = decoder_of(alloc, row);
+    let answer = T::decode_with_constraints(&mut decoder, constraints);
+    counted(alloc, &answer, decoder.decoded_len())
+}
+
+/// The text of the refusal under these constraints.
+pub fn tell_within<T: Decode>(
+    alloc: Global,
+    row: &Row<'_>,
+    constraints: &Constraints,
+) -> Result<String, AllocError> {
+    match T::decode_with_constraints(&mut decoder_of(alloc, row), constraints) {
+        Ok(_) => String::from_str(alloc, "= a value"),
+        Err(error) => format!(in alloc; "! {error}"),
+    }
+}
+
+/// The value that the octets begin with, by the entry point of these rules.
+pub fn decoded<T: Decode>(alloc: Global, rules: Codec, octets: &[u8]) -> Result<T, DecodeError> {
+    match rules {
+        Codec::Ber => ber::decode(alloc, octets),
+        Codec::Cer => cer::decode(alloc, octets),
+        Codec::Der => der::decode(alloc, octets),
+    }
+}
+
+/// The value that the octets begin with and the octets that follow it, by the entry point of these rules.
+pub fn begun<T: Decode>(
+    alloc: Global,
+    rules: Codec,
+    octets: &[u8],
+) -> Result<(T, &[u8]), DecodeError> {
+    match rules {
+        Codec::Ber => ber::decode_with_remainder(alloc, octets),
+        Codec::Cer => cer::decode_with_remainder(alloc, octets),
+        Codec::Der => der::decode_with_remainder(alloc, octets),
+    }
+}

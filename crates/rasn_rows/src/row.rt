@@ -1,0 +1,88 @@
+//! Rows: what is done, with which type, by which rules, and with which octets.
+
+use crate::octets::octets_of;
+use rasn::types::Codec;
+use std::alloc::{AllocError, Global};
+
+/// What a row does with its octets.
+#[derive(Clone, Copy)]
+pub enum Verb {
+    /// Reads a value with a decoder, and tells how many octets are consumed.
+    Read,
+    /// Reads a value with the entry point of the rules.
+    Whole,
+    /// Reads the value that the octets begin with, and tells those that follow it.
+    Begin,
+    /// Shows the text of a refusal.
+    Tell,
+    /// Tells how many octets each prefix lacks.
+    Cut,
+    /// Counts the prefixes that are refused as cut.
+    Open,
+    /// Reads a value, and writes it by these rules.
+    Write(Codec),
+}
+
+impl Verb {
+    /// The verb of this name.
+    fn of_name(name: &str) -> Option<Verb> {
+        match name {
+            "read" => Some(Verb::Read),
+            "whole" => Some(Verb::Whole),
+            "begin" => Some(Verb::Begin),
+            "tell" => Some(Verb::Tell),
+            "cut" => Some(Verb::Cut),
+            "open" => Some(Verb::Open),
+            "write-ber" => Some(Verb::Write(Codec::Ber)),
+            "write-cer" => Some(Verb::Write(Codec::Cer)),
+            "write-der" => Some(Verb::Write(Codec::Der)),
+            _ => None,
+        }
+    }
+}
+
+/// A row.
+#[derive(Drop)]
+pub struct Row<'line> {
+    pub verb: Verb,
+    /// The name of the type.
+    pub name: &'line str,
+    pub rules: Codec,
+    pub octets: Vec<u8>,
+}
+
+impl<'line> Row<'line> {
+    /// The row of a line `VERB TYPE RULES OCTETS`.
+    pub fn of_line(alloc: Global, line: &'line str) -> Result<Option<Row<'line>>, AllocError> {
+        match words_of(line) {
+            Some((verb, name, rules, digits)) => {
+                let octets = octets_of(alloc, digits)?;
+                Ok(octets.map(|octets| Row {
+                    verb,
+                    name,
+                    rules,
+                    octets,
+                }))
+            }
+            None => Ok(None),
+        }
+    }
+}
+
+/// The words of a line.
+fn words_of(line: &str) -> Option<(Verb, &str, Codec, &str)> {
+    let (verb, rest) = line.split_once(' ')?;
+    let (name, rest) = rest.split_once(' ')?;
+    let (rules, digits) = rest.split_once(' ')?;
+    Some((Verb::of_name(verb)?, name, rules_of(rules)?, digits))
+}
+
+/// The rules of this name.
+fn rules_of(name: &str) -> Option<Codec> {
+    match name {
+        "ber" => Some(Codec::Ber),
+        "cer" => Some(Codec::Cer),
+        "der" => Some(Codec::Der),
+        _ => None,
+    }
+}

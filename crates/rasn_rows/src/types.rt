@@ -1,0 +1,15 @@
+//! Types of one's own.
+
+mod counted;
+mod eight;
+mod graded;
+mod levelled;
+mod padding;
+mod profile;
+
+pub use counted::Counted;
+pub use eight::Eight;
+pub use graded::Graded;
+pub use levelled::Levelled;
+pub use padding::Padding;
+pub use profile::Profile;

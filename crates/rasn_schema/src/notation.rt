@@ -1,0 +1,209 @@
+//! Values as text, in the value notation of X.680 as far as the type or its names are known.
+use crate::named::name_of_number;
+use crate::types::{LeafKind, NamedNumber, Type};
+use crate::value::Value;
+use crate::view::{View, untagged};
+use rasn_types::types::{BmpString, Hexadecimal, Integer};
+use std::fmt;
+
+/// Writes a text in quotes, each quote in it twice (X.680 12.14).
+fn write_text<W: fmt::Write>(f: &mut fmt::Formatter<W>, text: &str) -> fmt::Result {
+    f.write_char('"')?;
+    for character in text.chars() {
+        if character == '"' {
+            f.write_char('"')?;
+        }
+        f.write_char(character)?;
+    }
+    f.write_char('"')
+}
+
+/// Writes octets that are characters in quotes, each quote among them twice.
+fn write_characters<W: fmt::Write>(f: &mut fmt::Formatter<W>, octets: &[u8]) -> fmt::Result {
+    f.write_char('"')?;
+    for octet in octets {
+        if *octet == b'"' {
+            f.write_char('"')?;
+        }
+        f.write_char(char::from(*octet))?;
+    }
+    f.write_char('"')
+}
+
+/// Writes the units of a BMPString as characters in quotes.
+fn write_units<W: fmt::Write>(f: &mut fmt::Formatter<W>, units: &BmpString) -> fmt::Result {
+    f.write_char('"')?;
+    for unit in units.units() {
+        let character = char::from_u32(u32::from(unit)).unwrap_or('\u{fffd}');
+        if character == '"' {
+            f.write_char('"')?;
+        }
+        f.write_char(character)?;
+    }
+    f.write_char('"')
+}
+
+/// Returns the names of the numbers of an INTEGER or an ENUMERATED.
+fn numbers_in<'types>(ty: Option<&'types Type>) -> &'types [NamedNumber] {
+    match ty {
+        Some(Type::Leaf { names, .. }) => names.as_slice(),
+        Some(Type::Enumerated { numbers, .. }) => numbers.as_slice(),
+        _ => &[],
+    }
+}
+
+/// Returns the name of a number, if it has one.
+fn named<'types>(integer: &Integer, ty: Option<&'types Type>) -> Option<&'types str> {
+    match isize::try_from(integer.to_i128()?) {
+        Ok(number) => name_of_number(numbers_in(ty), number),
+        Err(_) => None,
+    }
+}
+
+/// Writes a number, or its name if it has one (X.680 19.9, 20.8).
+fn write_number<W: fmt::Write>(
+    f: &mut fmt::Formatter<W>,
+    integer: &Integer,
+    ty: Option<&Type>,
+) -> fmt::Result {
+    match named(integer, ty) {
+        Some(name) => f.write_str(name),
+        None => write!(f, "{integer}"),
+    }
+}
+
+/// Returns whether the octets of such a value are ASCII characters.
+fn is_text(ty: Option<&Type>) -> bool {
+    match ty {
+        Some(Type::Leaf { kind, .. }) => match kind {
+            LeafKind::Numeric | LeafKind::Printable | LeafKind::Visible | LeafKind::Ia5 => true,
+            _ => false,
+        },
+        _ => false,
+    }
+}
+
+/// Writes octets in hexadecimal, or as characters if the type says so.
+fn write_octets<W: fmt::Write>(
+    f: &mut fmt::Formatter<W>,
+    octets: &[u8],
+    ty: Option<&Type>,
+) -> fmt::Result {
+    if is_text(ty) {
+        write_characters(f, octets)
+    } else {
+        write!(f, "'{}'H", Hexadecimal::new(octets))
+    }
+}
+
+/// Returns the name of the component with this index.
+fn part_name<'types>(ty: Option<&'types Type>, index: usize) -> Option<&'types str> {
+    match ty? {
+        Type::Sequence { components, .. } => Some(components.get(index)?.name.as_str()),
+        Type::Set { components, .. } => Some(components.get(index)?.name.as_str()),
+        Type::Choice { alternatives, .. } => Some(alternatives.get(index)?.name.as_str()),
+        _ => None,
+    }
+}
+
+/// Returns the type of the part with this index, inside its explicit tags.
+fn part_of<'types>(types: &'types [Type], ty: Option<&Type>, index: usize) -> Option<&'types Type> {
+    let id = match ty? {
+        Type::Sequence { components, .. } => components.get(index)?.type_id,
+        Type::Set { components, .. } => components.get(index)?.type_id,
+        Type::Choice { alternatives, .. } => alternatives.get(index)?.type_id,
+        Type::SequenceOf { element, .. } => *element,
+        Type::SetOf { element, .. } => *element,
+        _ => return None,
+    };
+    untagged(types, id)
+}
+
+/// Writes a value. Names are those of its type, if it is given.
+#[cycle(notation)]
+fn write_value<W: fmt::Write>(
+    f: &mut fmt::Formatter<W>,
+    value: &Value<'_>,
+    types: &[Type],
+    ty: Option<&Type>,
+) -> fmt::Result {
+    match value {
+        Value::Boolean(truth) => f.write_str(if *truth { "TRUE" } else { "FALSE" }),
+        Value::Null => f.write_str("NULL"),
+        Value::Integer(integer) => write_number(f, integer, ty),
+        Value::Bits(bits) => write!(f, "{bits}"),
+        Value::Octets(octets) => write_octets(f, octets.as_slice(), ty),
+        Value::Text(text) => write_text(f, text.as_str()),
+        Value::Units(units) => write_units(f, units),
+        Value::Arcs(arcs) => write!(f, "{arcs}"),
+        Value::Instant(time) => write!(f, "\"{time}\""),
+        Value::Day(date) => write!(f, "\"{date}\""),
+        Value::Items(values) => write_values(f, values.as_slice(), types, ty),
+        Value::Elements(values) => write_values(f, values.as_slice(), types, ty),
+        Value::Chosen(index, value) => write_chosen(f, *index, value, types, ty),
+        Value::Absent => f.write_str("absent"),
+    }
+}
+
+/// Writes the values of a list in braces. Absent components are left out.
+#[cycle(notation)]
+fn write_values<W: fmt::Write>(
+    f: &mut fmt::Formatter<W>,
+    values: &[Value<'_>],
+    types: &[Type],
+    ty: Option<&Type>,
+) -> fmt::Result {
+    let mut first = true;
+    for (index, value) in values.iter().enumerate() {
+        if let Value::Absent = value {
+            continue;
+        }
+        f.write_str(if first { "{ " } else { ", " })?;
+        first = false;
+        if let Some(name) = part_name(ty, index) {
+            f.write_str(name)?;
+            f.write_char(' ')?;
+        }
+        write_value(f, value, types, part_of(types, ty, index))?;
+    }
+    f.write_str(if first { "{ }" } else { " }" })
+}
+
+/// Writes the value of an alternative after its name, or after its index if that isn't known.
+#[cycle(notation)]
+fn write_chosen<W: fmt::Write>(
+    f: &mut fmt::Formatter<W>,
+    index: usize,
+    value: &Value<'_>,
+    types: &[Type],
+    ty: Option<&Type>,
+) -> fmt::Result {
+    match part_name(ty, index) {
+        Some(name) => f.write_str(name)?,
+        None => write!(f, "[{index}]")?,
+    }
+    f.write_str(" : ")?;
+    write_value(f, value, types, part_of(types, ty, index))
+}
+
+/// Shows a value without names, as `{ 5, TRUE }`.
+impl fmt::Display for Value<'_> {
+    fn fmt<W: fmt::Write>(&self, f: &mut fmt::Formatter<W>) -> fmt::Result {
+        write_value(f, self, &[], None)
+    }
+}
+
+/// Shows a value as [`Display`](fmt::Display) does.
+impl fmt::Debug for Value<'_> {
+    fn fmt<W: fmt::Write>(&self, f: &mut fmt::Formatter<W>) -> fmt::Result {
+        write_value(f, self, &[], None)
+    }
+}
+
+/// Shows a value with the names of its type, as `{ version 2, critical TRUE }`.
+impl fmt::Display for View<'_, '_> {
+    fn fmt<W: fmt::Write>(&self, f: &mut fmt::Formatter<W>) -> fmt::Result {
+        let types = self.schema.types();
+        write_value(f, self.value, types, untagged(types, self.type_id))
+    }
+}
