@@ -119,6 +119,7 @@ row_trees end_of-Value = []
 row_trees (more_of-Value v rest) = tree_of v ∷ row_trees rest
 
 row_items : {n : _} (row : Row_of-Value n) → trees_in row ≡ items (row_trees row)
+unfolding row_trees
 row_items end_of-Value = refl
 row_items (more_of-Value v rest) = ap (joined (tree_of v)) (row_items rest)
 

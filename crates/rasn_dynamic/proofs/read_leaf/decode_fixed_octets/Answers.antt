@@ -4,15 +4,17 @@ use Rattle.rasn_dynamic.proofs.FixedOctets.{fixed_got, fixed_refused, fixed_unre
 use Rattle.rasn_dynamic.proofs.read_leaf.decode_fixed_octets.Goals as goal
 
 pub returns-in_err-octets-clause-reads : goal.returns-in_err-octets-clause-reads
-returns-in_err-octets-clause-reads c = rw (residual _ c.from_residual.ensures.1) (fixed_unread c.args.tag c.args.len c.args.constraints.now c.args.decoder.now _ _ c.in_err-octets.ensures.reads)
+returns-in_err-octets-clause-reads c = rw (residual _ c.from_residual.ensures.1) (fixed_unread c.args.tag c.args.len c.args.constraints.now c.args.decoder.now _ c.in_err-octets.field-0.0 c.in_err-octets.ensures.reads)
 
 pub returns-then-len-clause-reads : goal.returns-then-len-clause-reads
 returns-then-len-clause-reads c =
-    fixed_refused c.args.tag c.args.len c.args.constraints.now c.args.decoder.now _ c.in_ok-octets.octets c.in_ok-octets.ensures.reads (inl ?) _
+    fixed_refused c.args.tag c.args.len c.args.constraints.now c.args.decoder.now _ c.in_ok-octets.octets c.in_ok-octets.ensures.reads (inl (rw (← c.len.ensures) c.if-len.true)) _
 
 pub returns-then-admits_size : goal.returns-then-admits_size
-returns-then-admits_size c = ?
+returns-then-admits_size c =
+    let l = rw (← c.len.ensures) c.if-len.false in
+    record { reads = fixed_got c.args.tag c.args.len c.args.constraints.now c.args.decoder.now _ c.in_ok-octets.octets c.in_ok-octets.ensures.reads ? c.if-admits_size.ensures; fits = ? }
 
 pub returns-clause-reads : goal.returns-clause-reads
 returns-clause-reads c =
-    fixed_refused c.args.tag c.args.len c.args.constraints.now c.args.decoder.now _ c.in_ok-octets.octets c.in_ok-octets.ensures.reads (inr ?) _
+    fixed_refused c.args.tag c.args.len c.args.constraints.now c.args.decoder.now _ c.in_ok-octets.octets c.in_ok-octets.ensures.reads (inr c.if-admits_size.ensures) _
