@@ -1,6 +1,6 @@
 //! Types as tables of constants.
 
-use rasn_schema::{Component, Constant, LeafKind, Presence, Type};
+use rasn_schema::{Alternative, Component, LeafKind, NamedNumber, Presence, Type, TypeId, Value};
 use rasn_types::types::{Class, Constraints, Integer, Tag};
 use std::alloc::{AllocError, Global};
 
@@ -47,6 +47,7 @@ pub enum Definition {
     Set(Tag, &'static [Part]),
     SequenceOf(Tag, usize),
     SetOf(Tag, usize),
+    Enumerated(Tag, &'static [isize]),
 }
 
 fn presence(alloc: Global, part: &Part) -> Result<(Presence, usize), AllocError> {
@@ -56,7 +57,7 @@ fn presence(alloc: Global, part: &Part) -> Result<(Presence, usize), AllocError>
         Part::Addition(id) => Ok((Presence::Addition, *id)),
         Part::Zero(id) => {
             let zero = Integer::from_i128(alloc, 0)?;
-            Ok((Presence::Default(Constant::Number(zero)), *id))
+            Ok((Presence::Default(Value::Integer(zero)), *id))
         }
     }
 }
@@ -65,16 +66,34 @@ fn components(alloc: Global, parts: &[Part]) -> Result<Vec<Component>, AllocErro
     let mut list = Vec::new(alloc);
     for part in parts {
         let (presence, type_id) = presence(alloc, part)?;
-        if list.push(Component { presence, type_id }).is_err() {
-            return Err(AllocError);
-        }
+        list.push(Component {
+            name: String::new(alloc),
+            presence,
+            type_id: TypeId(type_id),
+        })?;
     }
     Ok(list)
 }
 
-fn alternatives(alloc: Global, ids: &[usize]) -> Result<Vec<usize>, AllocError> {
+fn alternatives(alloc: Global, ids: &[usize]) -> Result<Vec<Alternative>, AllocError> {
     let mut list = Vec::new(alloc);
-    list.extend_from_slice(ids)?;
+    for id in ids {
+        list.push(Alternative {
+            name: String::new(alloc),
+            type_id: TypeId(*id),
+        })?;
+    }
+    Ok(list)
+}
+
+fn named_numbers(alloc: Global, numbers: &[isize]) -> Result<Vec<NamedNumber>, AllocError> {
+    let mut list = Vec::new(alloc);
+    for number in numbers {
+        list.push(NamedNumber {
+            name: String::new(alloc),
+            number: *number,
+        })?;
+    }
     Ok(list)
 }
 
@@ -85,13 +104,15 @@ fn defined(alloc: Global, definition: &Definition) -> Result<Type, AllocError> {
             kind: *kind,
             tag: *tag,
             constraints,
+            names: Vec::new(alloc),
         },
         Definition::Any(tag) => Type::Any { tag: *tag },
         Definition::Tagged(tag, inner) => Type::Tagged {
             tag: *tag,
-            inner: *inner,
+            inner: TypeId(*inner),
         },
         Definition::Choice(ids) => Type::Choice {
+            name: String::new(alloc),
             alternatives: alternatives(alloc, ids)?,
         },
         Definition::Sequence(tag, parts) => Type::Sequence {
@@ -104,13 +125,17 @@ fn defined(alloc: Global, definition: &Definition) -> Result<Type, AllocError> {
         },
         Definition::SequenceOf(tag, element) => Type::SequenceOf {
             tag: *tag,
-            element: *element,
+            element: TypeId(*element),
             constraints,
         },
         Definition::SetOf(tag, element) => Type::SetOf {
             tag: *tag,
-            element: *element,
+            element: TypeId(*element),
             constraints,
+        },
+        Definition::Enumerated(tag, numbers) => Type::Enumerated {
+            tag: *tag,
+            numbers: named_numbers(alloc, numbers)?,
         },
     })
 }
@@ -120,9 +145,7 @@ pub fn types(alloc: Global, definitions: &[Definition]) -> Result<Vec<Type>, All
     let mut list = Vec::new(alloc);
     for definition in definitions {
         let ty = defined(alloc, definition)?;
-        if list.push(ty).is_err() {
-            return Err(AllocError);
-        }
+        list.push(ty)?;
     }
     Ok(list)
 }

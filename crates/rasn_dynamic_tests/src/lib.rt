@@ -8,4 +8,6 @@ mod messages;
 #[cfg(test)]
 mod refused;
 #[cfg(test)]
+mod values;
+#[cfg(test)]
 mod written;

@@ -1,9 +1,8 @@
-//! Types that aren't a schema, and values that aren't of their type.
+//! Types that aren't a schema.
 
 use crate::definitions::{CONTEXT_0, Definition, Part, types};
-use rasn_dynamic::{WriteError, encode, fits};
-use rasn_schema::{LeafKind, Schema, SchemaError, Value};
-use rasn_types::types::{Codec, Tag};
+use rasn_schema::{LeafKind, Schema, SchemaError, TypeId};
+use rasn_types::types::Tag;
 use std::alloc::Global;
 use std::process::Abort;
 
@@ -33,34 +32,64 @@ fn wrong_tags_and_choices_are_refused(rt: HostRuntime) {
     const ROWS: &[Row] = &[
         (
             &[Definition::SetOf(Tag::EOC, 0)],
-            SchemaError::ReservedTag { id: 0 },
+            SchemaError::ReservedTag { id: TypeId(0) },
         ),
         (
             &[Definition::Leaf(Tag::SET, LeafKind::Utf8)],
-            SchemaError::ConstructedTag { id: 0 },
+            SchemaError::ConstructedTag { id: TypeId(0) },
         ),
         (
             &[Definition::Tagged(CONTEXT_0, 0)],
-            SchemaError::LateInner { id: 0 },
+            SchemaError::LateInner { id: TypeId(0) },
         ),
         (
             &[Definition::Choice(&[])],
-            SchemaError::NoAlternatives { id: 0 },
+            SchemaError::NoAlternatives { id: TypeId(0) },
         ),
         (
             &[Definition::Choice(&[1]), FLAG],
-            SchemaError::LateAlternative { id: 0, index: 0 },
+            SchemaError::LateAlternative {
+                id: TypeId(0),
+                index: 0,
+            },
         ),
         (
             &[Definition::Any(Tag::EOC), Definition::Choice(&[0])],
-            SchemaError::UntaggedAlternative { id: 1, index: 0 },
+            SchemaError::UntaggedAlternative {
+                id: TypeId(1),
+                index: 0,
+            },
         ),
         (
             &[FLAG, Definition::Choice(&[0, 0])],
             SchemaError::AlternativesClash {
-                id: 1,
+                id: TypeId(1),
                 index: 0,
                 other: 1,
+            },
+        ),
+    ];
+    assert_refused(&rt, rt.alloc(), ROWS);
+}
+
+// X.680 20.1, 20.3.
+#[test]
+fn wrong_numbers_are_refused(rt: HostRuntime) {
+    const ROWS: &[Row] = &[
+        (
+            &[Definition::Enumerated(Tag::EOC, &[0])],
+            SchemaError::ReservedTag { id: TypeId(0) },
+        ),
+        (
+            &[Definition::Enumerated(Tag::ENUMERATED, &[])],
+            SchemaError::NoNumbers { id: TypeId(0) },
+        ),
+        (
+            &[Definition::Enumerated(Tag::ENUMERATED, &[1, 0, 2, 1])],
+            SchemaError::NumbersClash {
+                id: TypeId(0),
+                index: 0,
+                other: 3,
             },
         ),
     ];
@@ -86,7 +115,7 @@ fn components_that_clash_are_refused(rt: HostRuntime) {
         (
             &[FLAG, Definition::Sequence(Tag::SEQUENCE, TWO_FLAGS)],
             SchemaError::ComponentsClash {
-                id: 1,
+                id: TypeId(1),
                 index: 0,
                 other: 1,
             },
@@ -97,11 +126,17 @@ fn components_that_clash_are_refused(rt: HostRuntime) {
                 Definition::Any(Tag::EOC),
                 Definition::Sequence(Tag::SEQUENCE, AMBIGUOUS),
             ],
-            SchemaError::UntaggedComponent { id: 2, index: 0 },
+            SchemaError::UntaggedComponent {
+                id: TypeId(2),
+                index: 0,
+            },
         ),
         (
             &[FLAG, Definition::Set(Tag::SET, ADDITION)],
-            SchemaError::AdditionInSet { id: 1, index: 0 },
+            SchemaError::AdditionInSet {
+                id: TypeId(1),
+                index: 0,
+            },
         ),
         (
             &[
@@ -109,12 +144,15 @@ fn components_that_clash_are_refused(rt: HostRuntime) {
                 Definition::Any(Tag::EOC),
                 Definition::Set(Tag::SET, OPEN),
             ],
-            SchemaError::UntaggedInSet { id: 2, index: 0 },
+            SchemaError::UntaggedInSet {
+                id: TypeId(2),
+                index: 0,
+            },
         ),
         (
             &[FLAG, Definition::Set(Tag::SET, TWICE)],
             SchemaError::SetClash {
-                id: 1,
+                id: TypeId(1),
                 index: 0,
                 other: 1,
             },
@@ -126,30 +164,11 @@ fn components_that_clash_are_refused(rt: HostRuntime) {
                 Definition::Set(Tag::SET, FALLING),
             ],
             SchemaError::SetOutOfOrder {
-                id: 2,
+                id: TypeId(2),
                 index: 0,
                 other: 1,
             },
         ),
     ];
     assert_refused(&rt, rt.alloc(), ROWS);
-}
-
-/// Returns whether the value isn't one of the only type of a table, and isn't written as such.
-fn is_unfit(alloc: Global, definition: &'static [Definition], value: &Value) -> Option<bool> {
-    let schema = Schema::new(types(alloc, definition).ok()?).ok()?;
-    match encode(alloc, Codec::Der, &schema, 0, value) {
-        Err(WriteError::Unfit) => Some(!fits(&schema, 0, value)),
-        _ => Some(false),
-    }
-}
-
-#[test]
-fn values_of_other_types_are_unfit(rt: HostRuntime) {
-    const FLAGS: &[Definition] = &[FLAG];
-    const OPEN_TYPE: &[Definition] = &[Definition::Any(Tag::EOC)];
-    assert!(rt; is_unfit(rt.alloc(), FLAGS, &Value::Absent) == Some(true));
-    assert!(rt;
-        is_unfit(rt.alloc(), OPEN_TYPE, &Value::Text(String::new(rt.alloc()))) == Some(true)
-    );
 }

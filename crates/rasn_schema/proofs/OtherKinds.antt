@@ -182,4 +182,3 @@ not_chosen v n = subst (Differs 7) (roll-out-Value v) (go (out-Value v) (roll-ou
     go (Elements-F vs) e = refl
     go (Chosen-F k w) e = absurd (n k w (sym e))
     go Absent-F e = refl
-

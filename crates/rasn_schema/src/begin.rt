@@ -35,7 +35,8 @@ fn nothing_begins(own: Tag, tag: Tag) -> bool
 
 /// Returns whether a value of the type with this number may begin with the tag.
 ///
-/// Types are followed `levels` deep. CHOICEs of a [`Schema`](crate::Schema) refer to lower numbers, so `levels` above the number of types
+/// Types are followed `levels` deep. CHOICEs of a [`Schema`](crate::Schema) refer to lower
+/// numbers, so `levels` above the number of types
 /// changes nothing.
 #[cycle(begins)]
 pub fn begins(types: &[Type], levels: usize, id: TypeId, tag: Tag) -> bool

@@ -20,11 +20,9 @@ mod view;
 
 pub use begin::{alternative_for, begins};
 pub use error::SchemaError;
-pub use named::{
-    TypeName, alternative_named, component_named, name_of_number, number_named, type_named,
-};
+pub use named::{TypeName, alternative_named, component_named, name_of_number, number_named};
 pub use schema::Schema;
 pub use type_id::TypeId;
 pub use types::{Alternative, Component, LeafKind, NamedNumber, Presence, Type, tag_at, type_at};
 pub use value::Value;
-pub use view::{View, untagged};
+pub use view::View;

@@ -1,4 +1,5 @@
-//! Names of types, components, alternatives and numbers. Nothing that is read or written depends on them.
+//! Names of types, components, alternatives and numbers. Nothing that is read or written depends
+//! on them.
 ghost use Rattle.std.specs.Prelude.{◌≡◌, ◌≢◌, ℕ, Some, slice_get, MatchOption};
 ghost use Rattle.std.specs.String.{string_bytes};
 ghost use Rattle.rasn_types.specs.Truth.{IsWhether};
@@ -34,7 +35,8 @@ pub fn type_named(names: &[TypeName], name: &str) -> Option<TypeId>
     None
 }
 
-fn is_name(own: &String, name: &str) -> bool
+/// Returns whether this is the name.
+pub fn is_name(own: &String, name: &str) -> bool
     ensures { IsWhether result (string_bytes own.now ≡ name.now) }
 {
     own.as_str() == name
@@ -68,15 +70,15 @@ pub fn alternative_named(alternatives: &[Alternative], name: &str) -> Option<usi
     None
 }
 
-/// Returns the first number with this name, if there is one.
-pub fn number_named(numbers: &[NamedNumber], name: &str) -> Option<isize>
+/// Returns the index of the first number with this name, if there is one.
+pub fn number_named(numbers: &[NamedNumber], name: &str) -> Option<usize>
     ensures { MatchOption result
         ((j : ℕ) (n : NamedNumber) → Some n ≡ slice_get numbers.now j → string_bytes n.name ≢ name.now)
-        (λ z. (j : ℕ) × (n : NamedNumber) × (Some n ≡ slice_get numbers.now j) × (string_bytes n.name ≡ name.now) × (n.number ≡ z)) }
+        (λ j. (n : NamedNumber) × (Some n ≡ slice_get numbers.now j) × (string_bytes n.name ≡ name.now)) }
 {
-    for named in numbers {
-        if is_name(&named.name, name) {
-            return Some(named.number);
+    for (index, number) in numbers.iter().enumerate() {
+        if is_name(&number.name, name) {
+            return Some(index);
         }
     }
     None

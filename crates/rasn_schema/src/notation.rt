@@ -1,10 +1,8 @@
 //! Values as text, in the value notation of X.680 as far as the type or its names are known.
 use crate::named::name_of_number;
-
 use crate::types::{LeafKind, NamedNumber, Type};
 use crate::value::Value;
 use crate::view::{View, untagged};
-
 use rasn_types::types::{BmpString, Hexadecimal, Integer};
 use std::fmt;
 

@@ -3,14 +3,15 @@ ghost use Rattle.rasn_schema.specs.Schemas.{IsSchema};
 ghost use Rattle.rasn_schema.specs.SchemaProps.{schema_prop};
 
 use crate::error::SchemaError;
-use crate::rules::{first_choice_fault, first_other_fault};
 use crate::named::{TypeName, type_named};
+use crate::rules::{first_choice_fault, first_other_fault};
 use crate::type_id::TypeId;
 use crate::types::Type;
 use crate::value::Value;
 use crate::view::View;
 
-/// Types that refer to one another by number, and whose values can be told apart by their tags, however deep they are nested.
+/// Types that refer to one another by number, and whose values can be told apart by their tags,
+/// however deep they are nested.
 #[derive(Drop)]
 pub struct Schema {
     /// The types.
@@ -30,7 +31,8 @@ impl Schema {
     /// Checks each type once and returns the schema of the types.
     ///
     /// # Errors
-    /// Returns the first rule that a type breaks; CHOICEs are checked before other types. The types are dropped.
+    /// Returns the first rule that a type breaks; CHOICEs are checked before other types. The
+    /// types are dropped.
     pub fn new(types: Vec<Type>) -> Result<Schema, SchemaError>
         ensures ok { IfOk result (λ schema. schema.types ≡ types) }
         ensures fault { IfErr result (λ error. IsFault types.items error) }

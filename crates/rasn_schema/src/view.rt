@@ -1,8 +1,9 @@
 //! Access into values by index and by name.
 ghost use Rattle.std.specs.Prelude.{◌≡◌, ℕ, Some, slice_get, IfSome};
-ghost use Rattle.rasn_schema.specs.Held.{held_in};
+ghost use Rattle.std.specs.String.{string_bytes};
+ghost use Rattle.rasn_schema.specs.Held.{held_in, IsComponentNamed, IsAlternativeNamed, IsPartNamed, IsNamedPartOf, IsOneOf};
 
-use crate::named::component_named;
+use crate::named::{component_named, is_name};
 use crate::schema::Schema;
 use crate::type_id::TypeId;
 use crate::types::{Alternative, Component, Type, type_at};
@@ -20,7 +21,9 @@ pub struct View<'view, 'input> {
 }
 
 /// Returns the type with this number, or the one inside its explicit tags.
-pub fn untagged(types: &[Type], id: TypeId) -> Option<&Type> {
+pub fn untagged(types: &[Type], id: TypeId) -> Option<&Type>
+    ensures { IfSome result (λ ty. IsOneOf types.now ty.now) }
+{
     let mut ty = type_at(types, id)?;
     for _ in 0..types.len() {
         match ty {
@@ -62,19 +65,32 @@ fn part_at<'view, 'input>(value: &'view Value<'input>, index: usize) -> Option<&
     }
 }
 
-/// Returns the alternative of a CHOICE with this name, and its value, if it is the one that is chosen.
+fn component_at(components: &[Component], index: usize) -> Option<&Component>
+    ensures { IfSome result (λ c. Some c.now ≡ slice_get components.now index) }
+{
+    components.get(index)
+}
+
+fn alternative_at(alternatives: &[Alternative], index: usize) -> Option<&Alternative>
+    ensures { IfSome result (λ a. Some a.now ≡ slice_get alternatives.now index) }
+{
+    alternatives.get(index)
+}
+
+/// Returns the alternative of a CHOICE with this name, and its value, if it is the one that is
+/// chosen.
 fn chosen_named<'view, 'input>(
     alternatives: &'view [Alternative],
     value: &'view Value<'input>,
     name: &str,
 ) -> Option<(TypeId, &'view Value<'input>)>
-    ensures { IfSome result (λ part. Some part.1.now ≡ slice_get (held_in value.now) 0) }
+    ensures { IfSome result (λ part. (k : ℕ) × ((k ≡ 0) × IsAlternativeNamed alternatives.now name.now part.0) × (Some part.1.now ≡ slice_get (held_in value.now) k)) }
 {
     let Value::Chosen(index, inner) = value else {
         return None;
     };
-    let alternative = alternatives.get(*index)?;
-    if alternative.name.as_str() == name {
+    let alternative = alternative_at(alternatives, *index)?;
+    if is_name(&alternative.name, name) {
         Some((alternative.type_id, inner))
     } else {
         None
@@ -87,11 +103,27 @@ fn component_value<'view, 'input>(
     value: &'view Value<'input>,
     name: &str,
 ) -> Option<(TypeId, &'view Value<'input>)>
-    ensures { IfSome result (λ part. (k : ℕ) × (Some part.1.now ≡ slice_get (held_in value.now) k)) }
+    ensures { IfSome result (λ part. (k : ℕ) × IsComponentNamed components.now name.now k part.0 × (Some part.1.now ≡ slice_get (held_in value.now) k)) }
 {
     let index = component_named(components, name)?;
-    let component = components.get(index)?;
+    let component = component_at(components, index)?;
     Some((component.type_id, part_at(value, index)?))
+}
+
+/// Returns the part with this name, and its value.
+fn part_named<'view, 'input>(
+    ty: &'view Type,
+    value: &'view Value<'input>,
+    name: &str,
+) -> Option<(TypeId, &'view Value<'input>)>
+    ensures { IfSome result (λ part. (k : ℕ) × IsPartNamed ty.now name.now k part.0 × (Some part.1.now ≡ slice_get (held_in value.now) k)) }
+{
+    match ty {
+        Type::Sequence { components, .. } => component_value(components.as_slice(), value, name),
+        Type::Set { components, .. } => component_value(components.as_slice(), value, name),
+        Type::Choice { alternatives, .. } => chosen_named(alternatives.as_slice(), value, name),
+        _ => None,
+    }
 }
 
 impl<'view, 'input> View<'view, 'input> {
@@ -107,16 +139,13 @@ impl<'view, 'input> View<'view, 'input> {
         })
     }
 
-    /// Returns the component with this name, or the value of the alternative with this name, if it is the one that is chosen.
+    /// Returns the component with this name, or the value of the alternative with this name, if it
+    /// is the one that is chosen.
     pub fn get(&self, name: &str) -> Option<View<'view, 'input>>
-        ensures { IfSome result (λ part. (k : ℕ) × (Some part.value.now ≡ slice_get (held_in self.now.value.now) k)) }
+        ensures { IfSome result (λ part. IsNamedPartOf self.now.schema.now.types.items self.now.value.now name.now part.type_id part.value.now) }
     {
-        let (type_id, value) = match untagged(self.schema.types(), self.type_id)? {
-            Type::Sequence { components, .. } => component_value(components, self.value, name)?,
-            Type::Set { components, .. } => component_value(components, self.value, name)?,
-            Type::Choice { alternatives, .. } => chosen_named(alternatives, self.value, name)?,
-            _ => return None,
-        };
+        let ty = untagged(self.schema.types(), self.type_id)?;
+        let (type_id, value) = part_named(ty, self.value, name)?;
         Some(View {
             schema: self.schema,
             type_id,

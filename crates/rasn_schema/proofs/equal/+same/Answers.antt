@@ -65,9 +65,11 @@ hold_same-returns t c = are_same _ _ (sets_same c.args.values.now c.args.others.
 pub count-loop-other-preserved : goal.count-loop-other-preserved
 count-loop-other-preserved t c =
     let p = value_eq c.args.value.now in
-    elim c.if-is_same.branch [ count-then-is_same w ↦
-      w.count-is ∙ (ap (λ n. n + 1) c.loop-other.invariant ∙ sym (count_by_more_yes p c.args.these.now c.loop-other.other-index c.other-item.result (let n = c.loop-other-test.true in omega arith)
-      (subst (λ z. p z ≡ true) c.other-item.is (sym (one_answer true c.args.value.now c.other-item.result w.if-is_same.ensures)))))
-    | count-else-is_same w ↦
-      w.count-is ∙ (c.loop-other.invariant ∙ sym (count_by_more_no p c.args.these.now c.loop-other.other-index c.other-item.result (let n = c.loop-other-test.true in omega arith)
-      (subst (λ z. p z ≡ false) c.other-item.is (sym (one_answer false c.args.value.now c.other-item.result w.if-is_same.ensures))))) ]
+    elim c.if-is_same.branch [
+      | count-then-is_same w ↦
+          w.count-is ∙ (ap (λ n. n + 1) c.loop-other.invariant ∙ sym (count_by_more_yes p c.args.these.now c.loop-other.other-index c.other-item.result (let n = c.loop-other-test.true in omega arith)
+          (subst (λ z. p z ≡ true) c.other-item.is (sym (one_answer true c.args.value.now c.other-item.result w.if-is_same.ensures)))))
+      | count-else-is_same w ↦
+          w.count-is ∙ (c.loop-other.invariant ∙ sym (count_by_more_no p c.args.these.now c.loop-other.other-index c.other-item.result (let n = c.loop-other-test.true in omega arith)
+          (subst (λ z. p z ≡ false) c.other-item.is (sym (one_answer false c.args.value.now c.other-item.result w.if-is_same.ensures)))))
+    ]

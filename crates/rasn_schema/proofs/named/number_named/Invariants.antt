@@ -3,5 +3,5 @@ use Rattle.std.specs.String.{string_bytes}
 use Rattle.rasn_schema.proofs.Lists.{SoFar}
 use Rattle.rasn_schema.proofs.named.number_named.Given as goal
 
-abbrev pub invariant-loop-named : goal.invariant-loop-named
-invariant-loop-named l = SoFar (λ j n. string_bytes n.name ≢ l.name) l.numbers l.named-index
+abbrev pub invariant-loop-index : goal.invariant-loop-index
+invariant-loop-index l = SoFar (λ j n. string_bytes n.name ≢ l.name) l.numbers l.index
