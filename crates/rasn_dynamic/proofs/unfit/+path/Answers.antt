@@ -26,4 +26,4 @@ pub append_path_in-returns-in-None : goal.append_path_in-returns-in-None
 append_path_in-returns-in-None t c = ([], sym (append-nil _), path_ends (IsUnfitAt c.args.types.now c.args.below) c.args.ty.now c.args.value.now (λ tag k. c.in_default.not-Tagged tag k) c.in-None.ensures)
 
 pub append_path_in-returns-in_ok-push-in-Some : goal.append_path_in-returns-in_ok-push-in-Some
-append_path_in-returns-in_ok-push-in-Some t c = on_ok_weaker c.append_unfit_path-in-Some.result (λ p. (c.in-Some.part.index ∷ p.0, longer _ _ _ _ p.0 c.in_ok-push.ensures.items p.1, path_goes_on (IsUnfitAt c.args.types.now c.args.below) c.args.ty.now c.args.value.now (λ tag k. c.in_default.not-Tagged tag k) _ _ _ p.0 c.in-Some.ensures.0 p.2)) c.append_unfit_path-in-Some.ensures
+append_path_in-returns-in_ok-push-in-Some t c = on_ok_weaker c.append_unfit_path-in-Some.result (λ p. (c.in-Some.part.index ∷ p.0, longer _ _ _ _ p.0 c.in_ok-push-in-Some.ensures.items p.1, path_goes_on (IsUnfitAt c.args.types.now c.args.below) c.args.ty.now c.args.value.now (λ tag k. c.in_default.not-Tagged tag k) _ _ _ p.0 c.in-Some.ensures.0 p.2)) c.append_unfit_path-in-Some.ensures
