@@ -30,9 +30,9 @@ pub record IsFollowedAt (rule : Codec) (shape : Shape) (octets : List ℕ) (offs
   pub offset_is : offset + length rest ≡ length octets
   pub extra : IsExtraData rule rest e
 
--- No value begins the octets, for this cause; the value that would is at the offset 0.
+-- No value begins the octets, for this cause, by these rules; the value that would is at the offset 0.
 abbrev pub IsUnread : Codec → Shape → List ℕ → ℕ → DecodeError → Type 0
-IsUnread rule shape octets offset e = Exact (Reads rule shape 128 (top rule)) octets (refusal e.kind) × (offset ≡ 0)
+IsUnread rule shape octets offset e = Exact (Reads rule shape 128 (top rule)) octets (refusal e.kind) × (offset ≡ 0) × (e.codec ≡ rule)
 
 abbrev pub IsRefusedAt : Codec → Shape → List ℕ → ℕ → DecodeError → Type 0
 IsRefusedAt rule shape octets offset e = IsFollowedAt rule shape octets offset e ⊎ IsUnread rule shape octets offset e

@@ -11,12 +11,18 @@ returns-in_err-encode c =
 pub returns-in_err-encode_default_with_tag : goal.returns-in_err-encode_default_with_tag
 returns-in_err-encode_default_with_tag c =
     let put = c.in_err-encode_default_with_tag.ensures.writes (level_tree 7) (λ d m. search rules) in
-    record { writes = part_appended _ _ _ _ _ _ _ _ c.in_ok-encode.ensures.ok
-    (part_refused _ _ _ _ _ _ _ _ put.1 c.in_err-encode_default_with_tag.ensures.err c.from_residual-in_err-encode_default_with_tag.ensures.1); rules = search rules }
+    record {
+      writes = part_appended _ _ _ _ _ _ _ _ c.in_ok-encode.ensures.ok
+          (part_refused _ _ _ _ _ _ _ _ put.1 c.in_err-encode_default_with_tag.ensures.err c.from_residual-in_err-encode_default_with_tag.ensures.1);
+      rules = search rules;
+    }
 
 pub returns : goal.returns
 returns c =
     let put = c.in_ok-encode_default_with_tag.ensures.writes (level_tree 7) (λ d m. search rules) in
-    record { writes = part_appended _ _ _ _ _ _ _ _ c.in_ok-encode.ensures.ok (part_appended _ _ _ _ _ _ _ _ put.0
-    (last_part _ _ _ _ _ (on_ok_weaker _ (λ a. optional_encoded _ _ _ _ a) c.encode_with_tag.ensures.ok) c.encode_with_tag.ensures.err
-    (IfErr-weaker _ _ _ (λ e h. optional_refused _ _ _ _ h) c.encode_with_tag.ensures.refused))); rules = search rules }
+    record {
+      writes = part_appended _ _ _ _ _ _ _ _ c.in_ok-encode.ensures.ok (part_appended _ _ _ _ _ _ _ _ put.0
+          (last_part _ _ _ _ _ (on_ok_weaker _ (λ a. optional_encoded _ _ _ _ a) c.encode_with_tag.ensures.ok) c.encode_with_tag.ensures.err
+          (IfErr-weaker _ _ _ (λ e h. optional_refused _ _ _ _ h) c.encode_with_tag.ensures.refused)));
+      rules = search rules;
+    }
