@@ -9,6 +9,8 @@ mod asserts;
 #[cfg(test)]
 mod faults;
 #[cfg(test)]
+mod identifiers;
+#[cfg(test)]
 mod kinds;
 #[cfg(test)]
 mod ldap;
