@@ -1,6 +1,7 @@
 //! Messages of the standards, as others made them.
 
 mod certificate;
+mod choices;
 mod cms;
 mod extensions;
 mod ldap;

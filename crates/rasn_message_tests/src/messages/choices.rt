@@ -1,0 +1,54 @@
+//! What errors say of CHOICEs: their names, which are those of the standards, and the rules. What a value of a CHOICE keeps beyond its tree.
+
+use crate::asserts::{Answer, assert_decodes, decoded};
+use rasn::error::DecodeError;
+use rasn::types::Codec;
+use rasn_ldap::AuthenticationChoice;
+use rasn_messages::cms::SignerIdentifier;
+use rasn_x509::Time;
+
+// A BOOLEAN is none of `simple [0]` and `sasl [3]` (RFC 4511, 4.2), nor a SEQUENCE or `[0]` (RFC 5652, 5.3), nor a time (RFC 5280, 4.1).
+#[test]
+fn a_boolean_is_no_alternative(rt: HostRuntime) {
+    const BOOLEAN: &[u8] = &[0x01, 0x01, 0xFF];
+    const NO_AUTHENTICATION: &str = "NoValidChoice { name: \"AuthenticationChoice\" }";
+    const NO_SIGNER: &str = "NoValidChoice { name: \"SignerIdentifier\" }";
+    const NO_TIME: &str = "NoValidChoice { name: \"Time\" }";
+    const AUTHENTICATION: &[Answer<'static>] = &[
+        (BOOLEAN, Codec::Ber, NO_AUTHENTICATION),
+        (BOOLEAN, Codec::Cer, NO_AUTHENTICATION),
+        (BOOLEAN, Codec::Der, NO_AUTHENTICATION),
+    ];
+    const SIGNER: &[Answer<'static>] = &[
+        (BOOLEAN, Codec::Ber, NO_SIGNER),
+        (BOOLEAN, Codec::Cer, NO_SIGNER),
+        (BOOLEAN, Codec::Der, NO_SIGNER),
+    ];
+    const TIME: &[Answer<'static>] = &[
+        (BOOLEAN, Codec::Ber, NO_TIME),
+        (BOOLEAN, Codec::Cer, NO_TIME),
+        (BOOLEAN, Codec::Der, NO_TIME),
+    ];
+    let alloc = rt.alloc();
+    assert_decodes::<AuthenticationChoice>(&rt, alloc, AUTHENTICATION);
+    assert_decodes::<SignerIdentifier>(&rt, alloc, SIGNER);
+    assert_decodes::<Time>(&rt, alloc, TIME);
+}
+
+// BER admits an offset (X.680 46.2 c).
+#[test]
+fn a_time_of_a_certificate_keeps_its_offset(rt: HostRuntime) {
+    const EAST: &[u8] = b"\x18\x1320500101010000+0100";
+    const WEST: &[u8] = b"\x18\x1320500101010000-0530";
+    let alloc = rt.alloc();
+    assert!(rt; is_at_offset(&decoded::<Time>(alloc, Codec::Ber, EAST), 60));
+    assert!(rt; is_at_offset(&decoded::<Time>(alloc, Codec::Ber, WEST), -330));
+}
+
+/// Whether a `GeneralizedTime` was read that is so many minutes ahead of UTC.
+fn is_at_offset(answer: &Result<Time, DecodeError>, minutes: i16) -> bool {
+    match answer {
+        Ok(Time::General(time)) => time.offset_minutes() == minutes,
+        _ => false,
+    }
+}
