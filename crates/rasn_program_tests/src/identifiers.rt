@@ -229,7 +229,7 @@ const IDENTIFIERS: &[Row] = &[
 /// A value of this tag with these contents, which are fewer than 128 octets.
 fn put(octets: &mut Vec<u8>, tag: u8, contents: &[u8]) -> Result<(), AllocError> {
     octets.push(tag)?;
-    octets.push(contents.len() as u8)?;
+    octets.push(u8::try_from(contents.len()).unwrap_or(u8::MAX))?;
     octets.extend_from_slice(contents)
 }
 
