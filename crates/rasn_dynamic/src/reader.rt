@@ -184,7 +184,7 @@ fn decode_choice<'input>(
     name: &str,
     alternatives: &[Alternative],
 ) -> Result<Value<'input>, DecodeError>
-    requires { IsLawful (choice (alternatives_by (shape_of_type types.now below) alternatives.now)) }
+    requires lawful { IsLawful (choice (alternatives_by (shape_of_type types.now below) alternatives.now)) }
     ensures reads { Decodes (choice (alternatives_by (shape_of_type types.now below) alternatives.now)) tree_of decoder.old result decoder.new }
     ensures fits { IfOk result (λ v. IsChosen (AlternativeFits (Fits types.now below) alternatives.now) v) }
     ensures unknown { IfErr result (λ e. IsNoAlternative (alternatives_by (shape_of_type types.now below) alternatives.now) name.now decoder.old e decoder.new) }

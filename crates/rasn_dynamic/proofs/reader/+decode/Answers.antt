@@ -12,8 +12,10 @@ use Rattle.rasn_types.specs.Order.{IsLess}
 use Rattle.rasn_types.specs.declared.error.decode.DerDecodeErrorKind.TheVariants.{SetOfOutOfOrder}
 use Rattle.rasn_types.proofs.SetOf.Ascending.{ends_more, in_order, out_of_order}
 use Rattle.rasn_de.specs.State.{State}
-use Rattle.rasn_de.specs.declared.ber.de.parser.ParseError.TheVariants.{Der}
+use Rattle.rasn_de.specs.declared.ber.de.parser.ParseError.TheVariants.{Der, UnexpectedExtraData, OutOfMemory}
 use Rattle.rasn_de.specs.Decodes.{Decodes}
+use Rattle.rasn_de.specs.Steps.{IsErrorOf}
+use Rattle.rasn_de.specs.Optional.{NextTagIs}
 use Rattle.rasn_de.proofs.Leaves.Returns.{residual}
 use Rattle.rasn_de.proofs.OwnTypes.Alternatives.{no_alternative}
 use Rattle.rasn_de.proofs.Constructed.NextElement.{passes_more}
@@ -21,12 +23,13 @@ use Rattle.rasn_de.proofs.Constructed.SetOfElements.{passes_from, came_stays}
 use Rattle.rasn_de.proofs.Constructed.Steps.{step_none, step_refused, step_unclosed, step_closed, rules_same}
 use Rattle.rasn_de.proofs.Constructed.Optional.{strict_before, strict_after}
 use Rattle.rasn_de.proofs.OwnTypes.Parts.{call_keeps}
+use Rattle.rasn_schema.specs.declared.types.Alternative.{Alternative}
 use Rattle.rasn_schema.specs.Trees.{tree_of}
 use Rattle.rasn_schema.specs.Shapes.{shape_of_type, type_by, alternatives_by, components_by, presence_of, tag_at, AreLawful}
 use Rattle.rasn_schema.proofs.TypeShapes.{shape_below, own_is}
 use Rattle.rasn_schema.proofs.Lists.{split, nothing_left, read_at}
 use Rattle.rasn_dynamic.specs.Inside.{IsHeaderOf}
-use Rattle.rasn_dynamic.specs.Calls.{held, names_of}
+use Rattle.rasn_dynamic.specs.Calls.{held, names_of, nones}
 use Rattle.rasn_dynamic.specs.Fitting.{Fits, ComponentsFit, EachFits}
 use Rattle.rasn_dynamic.proofs.FitsRead.{if_ok, fits_below, are_items, sized_fits, sized_set_fits, each_more, fit_more, fit_end, missing_fits, gathered_fit, nones_fit, found_length, put_fits}
 use Rattle.rasn_dynamic.proofs.Inside.{inside_decodes}
@@ -64,7 +67,7 @@ pub decode_choice-returns-in_err-tag-clause-reads : goal.decode_choice-returns-i
 decode_choice-returns-in_err-tag-clause-reads t c = rw (residual _ c.from_residual.ensures.1) (no_tag _ _ _ _ c.in_err-tag.ensures.exact)
 
 pub decode_choice-returns-in_err-tag-clause-unknown : goal.decode_choice-returns-in_err-tag-clause-unknown
-decode_choice-returns-in_err-tag-clause-unknown t c = λ tag n others. absurd (c.in_err-tag.ensures.next tag n)
+decode_choice-returns-in_err-tag-clause-unknown t c = rw (residual _ c.from_residual.ensures.1) (λ tag n others. absurd (c.in_err-tag.ensures.next tag n))
 
 pub decode_choice-returns-in_default-clause-reads : goal.decode_choice-returns-in_default-clause-reads
 decode_choice-returns-in_default-clause-reads t c = no_alternative (alternatives_by (shape_of_type c.args.types.now c.args.below) c.args.alternatives.now) c.in_ok-tag.tag c.in_ok-tag.ensures.next c.in_default.ensures _
@@ -78,34 +81,34 @@ decode_choice-bounds-alternatives-number t c = slice_get_within c.args.alternati
 pub decode_choice-decode_at-requires : goal.decode_choice-decode_at-requires
 decode_choice-decode_at-requires t c =
     let at = read_at c.args.alternatives.now c.in-Some.number c.index-alternatives-number.result (slice_get_within c.args.alternatives.now c.in-Some.number c.in-Some.ensures.0 (sym c.in-Some.ensures.1)) c.index-alternatives-number.is in
-    (search rules, lawful_at (shape_of_type c.args.types.now c.args.below) c.args.alternatives.now c.in-Some.number c.index-alternatives-number.result c.requires at)
+    (search rules, lawful_at (shape_of_type c.args.types.now c.args.below) c.args.alternatives.now c.in-Some.number c.index-alternatives-number.result c.requires.lawful at)
 
 pub decode_choice-returns-in_err-value-clause-reads : goal.decode_choice-returns-in_err-value-clause-reads
 decode_choice-returns-in_err-value-clause-reads t c =
     let at = read_at c.args.alternatives.now c.in-Some.number c.index-alternatives-number.result (slice_get_within c.args.alternatives.now c.in-Some.number c.in-Some.ensures.0 (sym c.in-Some.ensures.1)) c.index-alternatives-number.is in
     rw (residual _ c.from_residual-in_err-value.ensures.1)
-    (chosen_refused (shape_of_type c.args.types.now c.args.below) c.args.alternatives.now c.in-Some.number c.index-alternatives-number.result c.in_ok-tag.tag c.requires at
+    (chosen_refused (shape_of_type c.args.types.now c.args.below) c.args.alternatives.now c.in-Some.number c.index-alternatives-number.result c.in_ok-tag.tag c.requires.lawful at
     (first_at (shape_of_type c.args.types.now c.args.below) c.args.alternatives.now c.in-Some.number c.in-Some.ensures.0 _ c.in_ok-tag.tag c.in-Some.ensures.1 at c.in-Some.ensures.2) _ _ c.in_ok-tag.ensures.next _ c.in_err-value.ensures.reads)
 
 pub decode_choice-returns-in_err-value-clause-unknown : goal.decode_choice-returns-in_err-value-clause-unknown
-decode_choice-returns-in_err-value-clause-unknown t c = λ tag n others.
+decode_choice-returns-in_err-value-clause-unknown t c = rw (residual _ c.from_residual-in_err-value.ensures.1) (λ tag n others.
     absurd (others (subst (IsFirstOf (alternatives_by (shape_of_type c.args.types.now c.args.below) c.args.alternatives.now)) (next_one c.args.decoder.now.rest c.in_ok-tag.tag tag c.in_ok-tag.ensures.next n)
-    (first_of_all (shape_of_type c.args.types.now c.args.below) c.in_ok-tag.tag c.args.alternatives.now c.in-Some.number c.in-Some.ensures.0 c.in-Some.ensures.1 c.in-Some.ensures.2)))
+    (first_of_all (shape_of_type c.args.types.now c.args.below) c.in_ok-tag.tag c.args.alternatives.now c.in-Some.number c.in-Some.ensures.0 c.in-Some.ensures.1 c.in-Some.ensures.2))))
 
 pub decode_choice-returns-in-Ok-clause-reads : goal.decode_choice-returns-in-Ok-clause-reads
 decode_choice-returns-in-Ok-clause-reads t c =
     let at = read_at c.args.alternatives.now c.in-Some.number c.index-alternatives-number.result (slice_get_within c.args.alternatives.now c.in-Some.number c.in-Some.ensures.0 (sym c.in-Some.ensures.1)) c.index-alternatives-number.is in
     rw c.in-Ok.ensures.ok
-    (chosen_got (shape_of_type c.args.types.now c.args.below) c.args.alternatives.now c.in-Some.number c.index-alternatives-number.result c.in_ok-tag.tag c.requires at
+    (chosen_got (shape_of_type c.args.types.now c.args.below) c.args.alternatives.now c.in-Some.number c.index-alternatives-number.result c.in_ok-tag.tag c.requires.lawful at
     (first_at (shape_of_type c.args.types.now c.args.below) c.args.alternatives.now c.in-Some.number c.in-Some.ensures.0 _ c.in_ok-tag.tag c.in-Some.ensures.1 at c.in-Some.ensures.2) _ _ c.in_ok-tag.ensures.next _ c.in_ok-value.ensures.reads)
 
 pub decode_choice-returns-in-Ok-clause-fits : goal.decode_choice-returns-in-Ok-clause-fits
 decode_choice-returns-in-Ok-clause-fits t c =
     let at = read_at c.args.alternatives.now c.in-Some.number c.index-alternatives-number.result (slice_get_within c.args.alternatives.now c.in-Some.number c.in-Some.ensures.0 (sym c.in-Some.ensures.1)) c.index-alternatives-number.is in
-    rw c.in-Ok.ensures.ok (c.index-alternatives-number.result, at, c.in_ok-value.ensures.fits)
+    rw c.in-Ok.ensures.ok (c.index-alternatives-number.result, at, subst (λ (a : Alternative). Fits c.args.types.now c.args.below a.type_id.0 c.in_ok-value.value) (sym c.index-alternatives-number.is) c.in_ok-value.ensures.fits)
 
-pub decode_choice-returns-in-Err-clause-unknown : goal.decode_choice-returns-in-Err-clause-unknown
-decode_choice-returns-in-Err-clause-unknown t c = λ tag n others.
+pub decode_choice-returns-clause-unknown : goal.decode_choice-returns-clause-unknown
+decode_choice-returns-clause-unknown t c = λ tag n others.
     absurd (others (subst (IsFirstOf (alternatives_by (shape_of_type c.args.types.now c.args.below) c.args.alternatives.now)) (next_one c.args.decoder.now.rest c.in_ok-tag.tag tag c.in_ok-tag.ensures.next n)
     (first_of_all (shape_of_type c.args.types.now c.args.below) c.in_ok-tag.tag c.args.alternatives.now c.in-Some.number c.in-Some.ensures.0 c.in-Some.ensures.1 c.in-Some.ensures.2)))
 
@@ -132,18 +135,18 @@ decode_contents-returns-in-Tagged-clause-reads t c = rw c.in-Tagged.is (inside_p
 pub decode_contents-returns-in-Tagged-clause-fits : goal.decode_contents-returns-in-Tagged-clause-fits
 decode_contents-returns-in-Tagged-clause-fits t c = rw c.in-Tagged.is c.decode_at.ensures.fits
 
-pub decode_contents-returns-in_err-values-clause-reads : goal.decode_contents-returns-in_err-values-clause-reads
-decode_contents-returns-in_err-values-clause-reads t c =
-    rw (residual _ c.from_residual.ensures.1, c.in-Sequence.is)
-    (inside_seq c.in-Sequence.tag (components_by (shape_of_type c.args.types.now c.args.below) c.in-Sequence.components.items) _ _ _ (rw (← c.deref.ensures.value) c.in_err-values.ensures.reads))
+pub decode_contents-returns-in_err-values-in-Sequence-clause-reads : goal.decode_contents-returns-in_err-values-in-Sequence-clause-reads
+decode_contents-returns-in_err-values-in-Sequence-clause-reads t c =
+    rw (residual _ c.from_residual-in_err-values-in-Sequence.ensures.1, c.in-Sequence.is)
+    (inside_seq c.in-Sequence.tag (components_by (shape_of_type c.args.types.now c.args.below) c.in-Sequence.components.items) _ _ c.in_err-values-in-Sequence.field-0.0 (rw (← c.deref.ensures.value) c.in_err-values-in-Sequence.ensures.reads))
 
-pub decode_contents-returns-in_ok-values-clause-reads : goal.decode_contents-returns-in_ok-values-clause-reads
-decode_contents-returns-in_ok-values-clause-reads t c =
-    rw c.in-Sequence.is (inside_seq_got c.in-Sequence.tag (components_by (shape_of_type c.args.types.now c.args.below) c.in-Sequence.components.items) _ _ c.in_ok-values.values (rw (← c.deref.ensures.value) c.in_ok-values.ensures.reads))
+pub decode_contents-returns-in_ok-values-in-Sequence-clause-reads : goal.decode_contents-returns-in_ok-values-in-Sequence-clause-reads
+decode_contents-returns-in_ok-values-in-Sequence-clause-reads t c =
+    rw c.in-Sequence.is (inside_seq_got c.in-Sequence.tag (components_by (shape_of_type c.args.types.now c.args.below) c.in-Sequence.components.items) _ _ c.in_ok-values-in-Sequence.values (rw (← c.deref.ensures.value) c.in_ok-values-in-Sequence.ensures.reads))
 
-pub decode_contents-returns-in_ok-values-clause-fits : goal.decode_contents-returns-in_ok-values-clause-fits
-decode_contents-returns-in_ok-values-clause-fits t c =
-    rw c.in-Sequence.is (are_items (ComponentsFit (Fits c.args.types.now c.args.below) c.in-Sequence.components.items) c.in_ok-values.values (rw (← c.deref.ensures.value) c.in_ok-values.ensures.fits))
+pub decode_contents-returns-in_ok-values-in-Sequence-clause-fits : goal.decode_contents-returns-in_ok-values-in-Sequence-clause-fits
+decode_contents-returns-in_ok-values-in-Sequence-clause-fits t c =
+    rw c.in-Sequence.is (are_items (ComponentsFit (Fits c.args.types.now c.args.below) c.in-Sequence.components.items) c.in_ok-values-in-Sequence.values (rw (← c.deref.ensures.value) c.in_ok-values-in-Sequence.ensures.fits))
 
 pub decode_contents-returns-in_ok-values-in-SequenceOf-clause-reads :
     goal.decode_contents-returns-in_ok-values-in-SequenceOf-clause-reads
@@ -177,23 +180,26 @@ decode_contents-returns-in_ok-values-in-SetOf-clause-fits t c =
     rw c.in-SetOf.is (sized_set_fits (EachFits (Fits c.args.types.now c.args.below c.in-SetOf.element.0)) c.in-SetOf.constraints.size c.in_ok-values-in-SetOf.values _ c.in_ok-values-in-SetOf.ensures.fits c.sized_set.ensures)
 
 pub decode_contents-decode_set-requires : goal.decode_contents-decode_set-requires
-decode_contents-decode_set-requires t c = (search rules, rw c.deref-in-Set.ensures.value (set_lawful _ _ (subst (λ n. IsLawful (type_by (shape_of_type c.args.types.now c.args.below) n)) c.in-Set.is c.requires)))
-
-pub decode_contents-returns-in_err-found-clause-reads : goal.decode_contents-returns-in_err-found-clause-reads
-decode_contents-returns-in_err-found-clause-reads t c = rw (residual _ c.from_residual-in_err-found.ensures.1) (inside_runs_out _ _ _ c.in_err-found.ensures.err)
+decode_contents-decode_set-requires t c = (
+  search rules,
+  (
+    rw c.deref-in-Set-2.ensures.value (set_lawful _ _ (subst (λ n. IsLawful (type_by (shape_of_type c.args.types.now c.args.below) n)) c.in-Set.is c.requires)),
+    c.in_ok-found-in-Set.ensures.ok ∙ ap nones (c.deref-in-Set.ensures.value ∙ sym c.deref-in-Set-2.ensures.value),
+  ),
+)
 
 pub decode_contents-returns-in_err-values-in-Set-clause-reads : goal.decode_contents-returns-in_err-values-in-Set-clause-reads
 decode_contents-returns-in_err-values-in-Set-clause-reads t c =
     rw (residual _ c.from_residual-in_err-values-in-Set.ensures.1, c.in-Set.is)
-    (inside_set c.in-Set.tag (components_by (shape_of_type c.args.types.now c.args.below) c.in-Set.components.items) (names_of c.in-Set.components.items) _ _ _ (rw (← c.deref-in-Set.ensures.value) c.in_err-values-in-Set.ensures.exact))
+    (inside_set c.in-Set.tag (components_by (shape_of_type c.args.types.now c.args.below) c.in-Set.components.items) (names_of c.in-Set.components.items) _ _ c.in_err-values-in-Set.field-0.0 (rw (← c.deref-in-Set-2.ensures.value) c.in_err-values-in-Set.ensures.exact))
 
 pub decode_contents-returns-in_ok-values-in-Set-clause-reads : goal.decode_contents-returns-in_ok-values-in-Set-clause-reads
 decode_contents-returns-in_ok-values-in-Set-clause-reads t c =
-    rw c.in-Set.is (inside_set_got c.in-Set.tag (components_by (shape_of_type c.args.types.now c.args.below) c.in-Set.components.items) (names_of c.in-Set.components.items) _ _ c.in_ok-values-in-Set.values (rw (← c.deref-in-Set.ensures.value) c.in_ok-values-in-Set.ensures.exact))
+    rw c.in-Set.is (inside_set_got c.in-Set.tag (components_by (shape_of_type c.args.types.now c.args.below) c.in-Set.components.items) (names_of c.in-Set.components.items) _ _ c.in_ok-values-in-Set.values (rw (← c.deref-in-Set-2.ensures.value) c.in_ok-values-in-Set.ensures.exact))
 
 pub decode_contents-returns-in_ok-values-in-Set-clause-fits : goal.decode_contents-returns-in_ok-values-in-Set-clause-fits
 decode_contents-returns-in_ok-values-in-Set-clause-fits t c =
-    rw c.in-Set.is (are_items (ComponentsFit (Fits c.args.types.now c.args.below) c.in-Set.components.items) c.in_ok-values-in-Set.values (rw (← c.deref-in-Set.ensures.value) c.in_ok-values-in-Set.ensures.fits))
+    rw c.in-Set.is (are_items (ComponentsFit (Fits c.args.types.now c.args.below) c.in-Set.components.items) c.in_ok-values-in-Set.values (rw (← c.deref-in-Set-2.ensures.value) c.in_ok-values-in-Set.ensures.fits))
 
 -- ---- elements
 
@@ -208,6 +214,28 @@ pub decode_elements_in_order-loop-last-init : goal.decode_elements_in_order-loop
 decode_elements_in_order-loop-last-init t c = rw c.new-values.ensures.items (([], (refl, refl), (λ strict. tt), refl), tt)
 
 -- ---- elements in order
+
+pub decode_elements_in_order-returns-in_err-keep-clause-reads : goal.decode_elements_in_order-returns-in_err-keep-clause-reads
+decode_elements_in_order-returns-in_err-keep-clause-reads t c =
+    let k = call_keeps c.in_ok-value.ensures.reads in
+    let e = c.in_err-keep.field-0.0 in
+    let at : length c.remaining-start.result.now ≡ length c.loop-last.decoder.rest = ap length c.remaining-start.ensures.value in
+    rw (residual _ c.from_residual-in_err-keep.ensures.1) (
+      c.loop-last.values.items,
+      c.loop-last.invariant.0.0,
+      c.loop-last.decoder,
+      c.loop-last.invariant.0.1,
+      c.loop-last.invariant.0.2,
+      c.loop-last-test.ensures,
+      inl (inr (
+        c.in_ok-value.value,
+        c.in_ok-value.ensures.reads,
+        elim c.in_err-keep.ensures [
+          | inl p ↦ inl (p.0 ∙ at, subst (λ n. IsErrorOf (UnexpectedExtraData n) c.loop-last.decoder e) at (rules_same c.loop-last.decoder _ (UnexpectedExtraData (length c.remaining-start.result.now)) e k p.1))
+          | inr q ↦ inr (rules_same c.loop-last.decoder _ OutOfMemory e k q)
+        ],
+      )),
+    )
 
 pub decode_elements_in_order-returns-then-is_less-clause-reads : goal.decode_elements_in_order-returns-then-is_less-clause-reads
 decode_elements_in_order-returns-then-is_less-clause-reads t c =
@@ -309,7 +337,7 @@ pub decode_component-returns-then-is_always_there-clause-fits : goal.decode_comp
 decode_component-returns-then-is_always_there-clause-fits t c = if_ok _ _ _ (λ v h. inr h) c.decode_present.ensures.fits
 
 pub decode_component-returns-in-Ok-true-clause-reads : goal.decode_component-returns-in-Ok-true-clause-reads
-decode_component-returns-in-Ok-true-clause-reads t c = looked ((shape_of_type c.args.types.now c.args.below) c.args.component.now.type_id.0) c.tag_at.result (rw c.tag_at.ensures (own_is _ _ _ c.requires)) _ (presence_of c.args.component.now.presence) c.if-is_always_there.ensures c.in-Ok-true.ensures _ _ c.decode_present-in-Ok-true.ensures.reads
+decode_component-returns-in-Ok-true-clause-reads t c = looked ((shape_of_type c.args.types.now c.args.below) c.args.component.now.type_id.0) c.tag_at.result (rw c.tag_at.ensures (own_is _ _ _ c.requires)) _ (presence_of c.args.component.now.presence) c.if-is_always_there.ensures (subst (λ b. NextTagIs c.tag_at.result c.args.decoder.now (Ok b)) c.in-Ok-true.field-0-is c.in-Ok-true.ensures) _ _ c.decode_present-in-Ok-true.ensures.reads
 
 pub decode_component-returns-in-Ok-true-clause-fits : goal.decode_component-returns-in-Ok-true-clause-fits
 decode_component-returns-in-Ok-true-clause-fits t c = if_ok _ _ _ (λ v h. inr h) c.decode_present-in-Ok-true.ensures.fits
@@ -318,7 +346,7 @@ pub decode_component-missing-requires : goal.decode_component-missing-requires
 decode_component-missing-requires t c = not_required c.args.component.now.presence c.if-is_always_there.ensures
 
 pub decode_component-returns-in-Ok-false-clause-reads : goal.decode_component-returns-in-Ok-false-clause-reads
-decode_component-returns-in-Ok-false-clause-reads t c = made ((shape_of_type c.args.types.now c.args.below) c.args.component.now.type_id.0) c.tag_at.result (rw c.tag_at.ensures (own_is _ _ _ c.requires)) _ (presence_of c.args.component.now.presence) c.if-is_always_there.ensures c.in-Ok-false.ensures _ c.missing.ensures.ok c.missing.ensures.err
+decode_component-returns-in-Ok-false-clause-reads t c = made ((shape_of_type c.args.types.now c.args.below) c.args.component.now.type_id.0) c.tag_at.result (rw c.tag_at.ensures (own_is _ _ _ c.requires)) _ (presence_of c.args.component.now.presence) c.if-is_always_there.ensures (subst (λ b. NextTagIs c.tag_at.result c.args.decoder.now (Ok b)) c.in-Ok-false.field-0-is c.in-Ok-false.ensures) _ c.missing.ensures.ok c.missing.ensures.err
 
 pub decode_component-returns-in-Ok-false-clause-fits : goal.decode_component-returns-in-Ok-false-clause-fits
 decode_component-returns-in-Ok-false-clause-fits t c = if_ok _ _ _ (λ v m. missing_fits (Fits c.args.types.now c.args.below) c.args.component.now v m) c.missing.ensures.ok
@@ -333,20 +361,20 @@ pub decode_present-returns-in_err-value-clause-reads : goal.decode_present-retur
 decode_present-returns-in_err-value-clause-reads t c = rw (residual _ c.from_residual.ensures.1) (inl c.in_err-value.ensures.reads)
 
 pub decode_present-returns-then-not-is_strict-clause-reads : goal.decode_present-returns-then-not-is_strict-clause-reads
-decode_present-returns-then-not-is_strict-clause-reads t c = kept ((shape_of_type c.args.types.now c.args.below) c.args.component.now.type_id.0) c.args.component.now.presence c.in-Default.default.now c.in-Default.is _ _ c.in_ok-value.value c.in_ok-value.ensures.reads c.if-not-is_strict.ensures
+decode_present-returns-then-not-is_strict-clause-reads t c = kept ((shape_of_type c.args.types.now c.args.below) c.args.component.now.type_id.0) c.args.component.now.presence c.in-Default.default c.in-Default.is _ _ c.in_ok-value.value c.in_ok-value.ensures.reads c.if-not-is_strict.ensures
 
 pub decode_present-returns-then-means_same-clause-reads : goal.decode_present-returns-then-means_same-clause-reads
 decode_present-returns-then-means_same-clause-reads t c =
-    default_is_written ((shape_of_type c.args.types.now c.args.below) c.args.component.now.type_id.0) c.args.component.now.presence c.in-Default.default.now c.in-Default.is _ _ c.in_ok-value.value c.in_ok-value.ensures.reads c.if-not-is_strict.ensures (c.means_same.ensures.same c.if-means_same.true) c.default_present.result c.default_present.ensures
+    default_is_written ((shape_of_type c.args.types.now c.args.below) c.args.component.now.type_id.0) c.args.component.now.presence c.in-Default.default c.in-Default.is _ _ c.in_ok-value.value c.in_ok-value.ensures.reads c.if-not-is_strict.ensures (c.means_same.ensures.same c.if-means_same.true) c.default_present.result c.default_present.ensures
 
 pub decode_present-returns-clause-reads : goal.decode_present-returns-clause-reads
 decode_present-returns-clause-reads t c =
-    differs ((shape_of_type c.args.types.now c.args.below) c.args.component.now.type_id.0) c.args.component.now.presence c.in-Default.default.now c.in-Default.is _ _ c.in_ok-value.value c.in_ok-value.ensures.reads (λ s. let h = c.means_same.ensures.equal s in let f = c.if-means_same.false in cc)
+    differs ((shape_of_type c.args.types.now c.args.below) c.args.component.now.type_id.0) c.args.component.now.presence c.in-Default.default c.in-Default.is _ _ c.in_ok-value.value c.in_ok-value.ensures.reads (λ s. let h = c.means_same.ensures.equal s in let f = c.if-means_same.false in cc)
 
 -- ---- the components of a SEQUENCE
 
 pub decode_sequence-returns-in_err-found-clause-reads : goal.decode_sequence-returns-in_err-found-clause-reads
-decode_sequence-returns-in_err-found-clause-reads t c = rw (residual _ c.from_residual.ensures.1) (sequence_runs_out _ _ _ c.in_err-found.ensures.err)
+decode_sequence-returns-in_err-found-clause-reads t c = rw (residual _ c.from_residual.ensures.1) (sequence_runs_out _ _ c.in_err-found.field-0.0 c.in_err-found.ensures.err)
 
 pub decode_sequence-gather-requires : goal.decode_sequence-gather-requires
 decode_sequence-gather-requires t c = ap length c.in_ok-found.ensures.ok ∙ as_many_nones c.args.components.now
@@ -360,7 +388,7 @@ decode_sequence-returns-then-leaves_all_out-clause-fits t c =
     gathered_fit (Fits c.args.types.now c.args.below) c.args.components.now _ c.in_ok-found.found.items _ (nones_fit (Fits c.args.types.now c.args.below) c.args.components.now c.in_ok-found.found.items c.in_ok-found.ensures.ok) c.gather.ensures
 
 pub decode_sequence-returns-in_default-clause-reads : goal.decode_sequence-returns-in_default-clause-reads
-decode_sequence-returns-in_default-clause-reads t c = sequence_runs_out _ _ _ c.out_of_memory.ensures.kind
+decode_sequence-returns-in_default-clause-reads t c = sequence_runs_out _ _ c.out_of_memory.result c.out_of_memory.ensures.kind
 
 pub decode_sequence-loop-rest-init : goal.decode_sequence-loop-rest-init
 decode_sequence-loop-rest-init t c = rw c.in-Ok.ensures.items (parts_start _ _, c.requires, λ us h. h)
@@ -389,10 +417,10 @@ decode_sequence-loop-rest-preserved t c =
 
 pub decode_sequence-returns-clause-reads : goal.decode_sequence-returns-clause-reads
 decode_sequence-returns-clause-reads t c =
-    in_turn (shape_of_type c.args.types.now c.args.below) c.args.components.now c.args.decoder.now c.if-leaves_all_out.ensures _ _ (parts_end _ _ _ _ _ c.loop-rest.invariant.0 (ap (components_by (shape_of_type c.args.types.now c.args.below)) (nothing_left _ c.in_default-2.len_below)))
+    in_turn (shape_of_type c.args.types.now c.args.below) c.args.components.now c.args.decoder.now c.if-leaves_all_out.ensures _ _ (parts_end _ _ _ _ _ c.loop-rest.invariant.0 (ap (components_by (shape_of_type c.args.types.now c.args.below)) (nothing_left _ c.in_default-rest.len_below)))
 
 pub decode_sequence-returns-clause-fits : goal.decode_sequence-returns-clause-fits
-decode_sequence-returns-clause-fits t c = fit_end (Fits c.args.types.now c.args.below) _ _ _ c.loop-rest.invariant.2 (nothing_left _ c.in_default-2.len_below)
+decode_sequence-returns-clause-fits t c = fit_end (Fits c.args.types.now c.args.below) _ _ _ c.loop-rest.invariant.2 (nothing_left _ c.in_default-rest.len_below)
 
 -- ---- the components of a SET
 
