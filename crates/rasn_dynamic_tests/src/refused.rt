@@ -93,12 +93,7 @@ fn wrong_numbers_are_refused(rt: HostRuntime) {
             SchemaError::NoNumbers { id: TypeId(0) },
         ),
         (
-            &[
-                Definition::Enumerated(
-                    Tag::ENUMERATED,
-                    &[("a", 1), ("b", 0), ("c", 2), ("d", 1)],
-                ),
-            ],
+            &[Definition::Enumerated(Tag::ENUMERATED, &[("a", 1), ("b", 0), ("c", 2), ("d", 1)])],
             SchemaError::NumbersClash {
                 id: TypeId(0),
                 index: 0,

@@ -89,7 +89,7 @@ module _ (f g : ℕ → Shape) (rule : Codec) (depth : ℕ) (closing : Bool) (h 
   in_order_in (p ∷ ps) input ts rest (t, us, m, e, r, s) =
       let k = p.type_id.0 in
       let moved : ReadsPart rule (presence_of p.presence) (own (f k)) (Reads rule (g k) depth closing) closing input t m =
-          part_in (presence_of p.presence) (own (f k)) (Reads rule (f k) depth closing) (Reads rule (g k) depth closing) ((h k).reads closing) rule closing input t m r in
+      part_in (presence_of p.presence) (own (f k)) (Reads rule (f k) depth closing) (Reads rule (g k) depth closing) ((h k).reads closing) rule closing input t m r in
       (t, us, m, e, subst (λ o. ReadsPart rule (presence_of p.presence) o (Reads rule (g k) depth closing) closing input t m) (h k).owns moved, in_order_in ps m us rest s)
 
   sequence_in : (ps : List Component) → IsIn (ReadsSeq rule (parts_of rule (components_by f ps) depth closing) closing) (ReadsSeq rule (parts_of rule (components_by g ps) depth closing) closing)
@@ -105,15 +105,14 @@ module _ (f g : ℕ → Shape) (rule : Codec) (depth : ℕ) (closing : Bool) (h 
   component_in (p ∷ ps) n input t rest (inr r) = inr (component_in ps (suc n) input t rest r)
 
   set_in : (ps : List Component) → IsIn (ReadsSet rule (presences (components_by f ps)) (ReadsChoice rule 0 (parts_of rule (components_by f ps) depth closing)) closing) (ReadsSet rule (presences (components_by g ps)) (ReadsChoice rule 0 (parts_of rule (components_by g ps) depth closing)) closing)
-  set_in ps input t rest (readings, ts, e, m, b, o) =
-      (
-        readings,
-        ts,
-        e,
-        many_in _ _ (component_in ps 0) closing input readings rest m,
-        subst (λ l. ByPart 0 l readings ts) (same_presences f g rule depth closing ps) b,
-        (λ s. let (bs, p, q) = o s in (bs, from_in _ _ (component_in ps 0) input readings rest bs p, q)),
-      )
+  set_in ps input t rest (readings, ts, e, m, b, o) = (
+    readings,
+    ts,
+    e,
+    many_in _ _ (component_in ps 0) closing input readings rest m,
+    subst (λ l. ByPart 0 l readings ts) (same_presences f g rule depth closing ps) b,
+    (λ s. let (bs, p, q) = o s in (bs, from_in _ _ (component_in ps 0) input readings rest bs p, q)),
+  )
 
 module _ (f g : ℕ → Shape) (rule : Codec) (depth : ℕ) (closing : Bool) (id : ℕ) (h : (k : ℕ) → k < id → Follows f g rule depth k) where
   alternative_in : (ks : List Alternative) → AreBefore id ks → (n : ℕ) → IsIn (ReadsChoice rule n (parts_of rule (alternatives_by f ks) depth closing)) (ReadsChoice rule n (parts_of rule (alternatives_by g ks) depth closing))
@@ -171,9 +170,9 @@ module _ (types : List «Type») (w : IsSchema types) (rule : Codec) where
 
   none_follows : (i j depth k : ℕ) → None ≡ slice_get types k → Follows (shape_of_type types i) (shape_of_type types j) rule depth k
   none_follows i j depth k e = record {
-      owns = sym (ap own (absent_at i k e)) ∙ ap own (absent_at j k e);
-      firsts = λ n a. subst (λ s. IsFirst s n) (sym (absent_at i k e) ∙ absent_at j k e) a;
-      reads = λ c input t rest r. subst (λ s. Reads rule s depth c input t rest) (sym (absent_at i k e) ∙ absent_at j k e) r;
+    owns = sym (ap own (absent_at i k e)) ∙ ap own (absent_at j k e);
+    firsts = λ n a. subst (λ s. IsFirst s n) (sym (absent_at i k e) ∙ absent_at j k e) a;
+    reads = λ c input t rest r. subst (λ s. Reads rule s depth c input t rest) (sym (absent_at i k e) ∙ absent_at j k e) r;
   }
 
   own_alike : (i j k : ℕ) → own (shape_of_type types i k) ≡ own (shape_of_type types j k)
@@ -201,13 +200,13 @@ module _ (types : List «Type») (w : IsSchema types) (rule : Codec) where
     unfolding shape_of_type
     reads_alike closing =
         found_in (shape_of_type types i) (shape_of_type types j) rule depth k (λ m l. ih depth m (λ ty e. omega (arith, a, l)) (λ ty e. omega (arith, b, l)))
-          (λ p m. inner_in (depth - 1) (omega (arith, p)) m) (λ p m. inner_in (depth - 2) (omega (arith, p)) m) closing (slice_get types k) (all_before types w k)
+        (λ p m. inner_in (depth - 1) (omega (arith, p)) m) (λ p m. inner_in (depth - 2) (omega (arith, p)) m) closing (slice_get types k) (all_before types w k)
 
     one_further : Follows (shape_of_type types (suc i)) (shape_of_type types (suc j)) rule depth k
     one_further = record {
-        owns = own_alike (suc i) (suc j) k;
-        firsts = firsts_alike (suc i) j k (omega (arith, b));
-        reads = reads_alike;
+      owns = own_alike (suc i) (suc j) k;
+      firsts = firsts_alike (suc i) j k (omega (arith, b));
+      reads = reads_alike;
     }
 
   follows : (i j depth k : ℕ) → IsDeepIfAny types depth k i → IsDeepIfAny types depth k j → Follows (shape_of_type types i) (shape_of_type types j) rule depth k
