@@ -16,4 +16,3 @@ pub mod Ascending
 pub mod Prefix
 pub mod Optional
 pub mod Choice
-pub mod SetCalls

@@ -1,5 +1,5 @@
 -- The parts of a SET as types: what their slots hold while components are read, and what is made of them.
-use Rattle.std.specs.Prelude.{IfErr, ◌≡◌, ◌≢◌, ◌⊎◌, ℕ, zero, suc, ◌+◌, List, [], ◌∷◌, ◌++◌, length, Option, Some, None, Result, Ok, Err}
+use Rattle.std.specs.Prelude.{◌≡◌, ◌≢◌, ◌⊎◌, ℕ, zero, suc, ◌+◌, List, [], ◌∷◌, ◌++◌, length, Option, Some, None, Result, Ok, Err}
 use Rattle.std.specs.Borrow.{Bor}
 use Rattle.rasn_types.specs.declared.types.codec.Codec.{Codec}
 use Rattle.rasn_types.specs.declared.types.tag.Tag.{Tag}
@@ -15,7 +15,7 @@ use Rattle.rasn_de.specs.Decodes.{DecodesExactly, Decodes}
 use Rattle.rasn_de.specs.Constructed.{sequence_header, DecodesInside}
 use Rattle.rasn_de.specs.SequenceOf.{FailsAtElement}
 use Rattle.rasn_de.specs.Set.{DecodesComponents, DecodesSetContents, AreParts}
-use Rattle.rasn_de.specs.AlternativeTypes.{ReadsNumbered, DecodesAlternative}
+use Rattle.rasn_de.specs.AlternativeTypes.{ReadsNumbered}
 
 -- what a slot holds
 abbrev pub held_tree : {T : Type 0} → (T → Tree) → Option T → Option Tree
@@ -73,10 +73,6 @@ abbrev pub IsOrDefault : {T : Type 0} → (T → Tree) → Tree → Option T →
 IsOrDefault tree d slot (Ok v) = (slot ≡ Some v) ⊎ ((slot ≡ None) × (tree v ≡ d))
 IsOrDefault tree d slot (Err e) = IsOutOfMemory e.kind
 
--- A component is read as read_choice reads one of these parts.
-abbrev pub DecodesOneOf : Parts → List ℕ → Call Tree
-DecodesOneOf ps name old r new = Decodes (choice ps) (λ (t : Tree). t) old r new × IfErr r (λ e. DecodesAlternative ps (λ (t : Tree). t) name old (Err e) new)
-
 module _ (ps : Parts) (names : List (List ℕ)) (before : List (Option Tree)) (old : State) where
   -- The component that is next is read as a part, whose empty slot it fills, or whose name is told where that is filled; or it is no part.
   abbrev pub DecodesPlaced : Result (Option (Bor (List ℕ))) DecodeError → State → List (Option Tree) → Type 0
@@ -88,10 +84,10 @@ module _ (ps : Parts) (names : List (List ℕ)) (before : List (Option Tree)) (o
   DecodesComponent k u new = Decodes (choice ps) (λ (t : Tree). t) old (Ok (chosen k u)) new × (length new.rest ≢ length old.rest)
 
   -- One more component is read so, and took something.
-  abbrev pub DecodesNext : List ℕ → Result (Option (Bor (List ℕ))) DecodeError → State → List (Option Tree) → Type 0
-  DecodesNext name (Ok None) new held = (k : ℕ) × (u : Tree) × IsPlacedAt before k u held × DecodesComponent k u new
-  DecodesNext name (Ok (Some told)) new held = (k : ℕ) × (u : Tree) × IsFilled before k × (held ≡ before) × (text told ≡ name_at names k) × DecodesComponent k u new
-  DecodesNext name (Err e) new held = FailsAtElement (DecodesOneOf ps name) old e new
+  abbrev pub DecodesNext : Result (Option (Bor (List ℕ))) DecodeError → State → List (Option Tree) → Type 0
+  DecodesNext (Ok None) new held = (k : ℕ) × (u : Tree) × IsPlacedAt before k u held × DecodesComponent k u new
+  DecodesNext (Ok (Some told)) new held = (k : ℕ) × (u : Tree) × IsFilled before k × (held ≡ before) × (text told ≡ name_at names k) × DecodesComponent k u new
+  DecodesNext (Err e) new held = FailsAtElement (Decodes (choice ps) (λ (t : Tree). t)) old e new
 
 -- Each part is what its slot holds, or what stands in its place where it may be left out.
 abbrev pub AreGathered : List Presence → List (Option Tree) → List Tree → Type 0
@@ -150,9 +146,9 @@ MakesOfReadings ps tree names rule readings (Err e) = IsOutOfMemory e.kind
     ⊎ (AreOnce 0 (presences ps) readings × ((k : ℕ) × LacksFirst 0 (presences ps) readings k × IsNamedError (IsMissingField (name_at names k)) rule e)))
 
 -- Components are read as decode_set reads them, and the parts are made of all of them at the end.
-abbrev pub DecodesSetPartContents : {D : Type 0} → Parts → (D → Tree) → List ℕ → List (List ℕ) → Call D
-DecodesSetPartContents ps tree name names old =
-    DecodesSetContents (DecodesComponents (DecodesOneOf ps name) (λ (l : List Tree). l)) (MakesOfReadings ps tree names old.rule) old
+abbrev pub DecodesSetPartContents : {D : Type 0} → Parts → (D → Tree) → List (List ℕ) → Call D
+DecodesSetPartContents ps tree names old =
+    DecodesSetContents (DecodesComponents (Decodes (choice ps) (λ (t : Tree). t)) (λ (l : List Tree). l)) (MakesOfReadings ps tree names old.rule) old
 
-abbrev pub DecodesSetParts : {D : Type 0} → Parts → (D → Tree) → List ℕ → List (List ℕ) → Tag → Call D
-DecodesSetParts ps tree name names tag = DecodesInside (DecodesSetPartContents ps tree name names) (sequence_header tag)
+abbrev pub DecodesSetParts : {D : Type 0} → Parts → (D → Tree) → List (List ℕ) → Tag → Call D
+DecodesSetParts ps tree names tag = DecodesInside (DecodesSetPartContents ps tree names) (sequence_header tag)

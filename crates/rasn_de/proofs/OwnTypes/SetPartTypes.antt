@@ -25,8 +25,8 @@ use Rattle.rasn_de.specs.Constructed.{sequence_header, constructed_header_at, is
 use Rattle.rasn_de.specs.Steps.{IsErrorOf}
 use Rattle.rasn_de.specs.SequenceOf.{DecodesInTurnFrom, FailsAtElement}
 use Rattle.rasn_de.specs.Set.{FailsAtComponent, not_read, AreParts, MakesSet, PeeksInOrder}
-use Rattle.rasn_de.specs.AlternativeTypes.{ReadsNumbered, FailsAtAlternative}
-use Rattle.rasn_de.specs.SetPartTypes.{held_tree, text, name_at, IsPart, AreEmpty, IsFilled, IsPlacedAt, ReadsPartAt, RefusesPart, IsPlaced, IsOrDefault, DecodesPlaced, DecodesNext, AreGathered, IsGathered, LacksSlot, IsLackOf, MakesParts, AreOnce, RepeatsFirst, LacksFirst, MakesOfReadings, DecodesOneOf, DecodesSetPartContents}
+use Rattle.rasn_de.specs.AlternativeTypes.{ReadsNumbered}
+use Rattle.rasn_de.specs.SetPartTypes.{held_tree, text, name_at, IsPart, AreEmpty, IsFilled, IsPlacedAt, ReadsPartAt, RefusesPart, IsPlaced, IsOrDefault, DecodesPlaced, DecodesNext, AreGathered, IsGathered, LacksSlot, IsLackOf, MakesParts, AreOnce, RepeatsFirst, LacksFirst, MakesOfReadings, DecodesSetPartContents}
 use Rattle.rasn_de.proofs.Leaves.Outcomes.{Exact-none}
 use Rattle.rasn_de.proofs.Headers.Tags.{Tagged, tagged_order, look_refused, look_follows, look_kept}
 use Rattle.rasn_de.proofs.Constructed.Reads.{IsCut, held_decodes, held_constructed, constructed_held}
@@ -39,8 +39,6 @@ use Rattle.rasn_de.proofs.OwnTypes.Alternatives.{OneAlternative}
 use Rattle.rasn_de.proofs.OwnTypes.AlternativeTypes.{first_got, first_refused, others_read, others_got, choice_read}
 use Rattle.rasn_de.proofs.OwnTypes.Components.{Slot, none_more, one_more, kept_more, not_none, no_parts_twice}
 use Rattle.rasn_de.proofs.Leaves.Errors.{rule_is}
-use Rattle.rasn_de.proofs.Constructed.SetCalls.{turn_by, contents_by}
-use Rattle.std.specs.Prelude.{IfErr}
 
 pub held_none : {T : Type 0} (tree : T → Tree) (h : Option T) → h ≡ None → held_tree tree h ≡ None
 held_none tree h e = ap (held_tree tree) e
@@ -70,35 +68,28 @@ module _ (p : Presence) (s : Shape) (ps : Parts) (names more : List (List ℕ)) 
       (suc k, u, c, ap (λ z. h ∷ z) f, m ∙ behind k, record { from = λ j. others_got p s ps tag t not_this e old new n j k u (a.from (suc j)) })
   placed_other h before held (Err x) a = record { from = λ j. others_read p s ps tag t not_this e old new n j (refusal x.kind) (a.from (suc j)) }
 
--- It is refused as one of the others.
-pub others_fail : {X : Type 0} (p : Presence) (s : Shape) (ps : Parts) (name : List ℕ) (tag : Tag) (old new : State) (r : Result X DecodeError) → (own s ≡ Some tag → ⊥) → IfErr r (λ e. FailsAtAlternative ps name tag old e new)
-    → IfErr r (λ e. FailsAtAlternative (part p s ps) name tag old e new)
-others_fail p s ps name tag old new (Ok x) n f = tt
-others_fail p s ps name tag old new (Err e) n f = inr (n, f)
-
 -- What is read as a part is read as the choice among all.
 placed_decodes : (ps : Parts) (k : ℕ) (u : Tree) (old new : State) → ReadsPartAt ps k u old new → Decodes (choice ps) (λ (t : Tree). t) old (Ok (chosen k u)) new
 placed_decodes ps k u old new a =
     let f : 0 + k ≡ k = omega arith in
     choice_read ps (subst (λ m. DecodesExactly (ReadsNumbered 0 ps) old (Got (chosen m u) new.rest) new) f (a.from 0))
 
-pub next_refused : (ps : Parts) (name : List ℕ) (tag : Tag) (old new : State) (e : DecodeError) → NextTag (form old.rule) old.rest tag → RefusesPart ps e old new → FailsAtAlternative ps name tag old e new
-    → FailsAtElement (DecodesOneOf ps name) old e new
-next_refused ps name tag old new e n a f = inl (choice_read ps (a.from 0), inr (tag, n, f))
+pub next_refused : (ps : Parts) (old new : State) (e : DecodeError) → RefusesPart ps e old new → FailsAtElement (Decodes (choice ps) (λ (t : Tree). t)) old e new
+next_refused ps old new e a = inl (choice_read ps (a.from 0))
 
-module _ (ps : Parts) (name : List ℕ) (names : List (List ℕ)) (before held : List (Option Tree)) (old new : State) where
-  pub next_read : (r : Option (Bor (List ℕ))) → DecodesPlaced ps names before old (Ok r) new held → length new.rest ≢ length old.rest → DecodesNext ps names before old name (Ok r) new held
+module _ (ps : Parts) (names : List (List ℕ)) (before held : List (Option Tree)) (old new : State) where
+  pub next_read : (r : Option (Bor (List ℕ))) → DecodesPlaced ps names before old (Ok r) new held → length new.rest ≢ length old.rest → DecodesNext ps names before old (Ok r) new held
   next_read None (k, u, c, a) n = (k, u, c, (placed_decodes ps k u old new a, n))
   next_read (Some x) (k, u, c, f, m, a) n = (k, u, c, f, m, (placed_decodes ps k u old new a, n))
 
   took_nothing : (k : ℕ) (u : Tree) → ReadsPartAt ps k u old new → (more : List (Option Tree)) → length new.rest ≡ length old.rest → (left : ℕ) → left ≡ length old.rest → (e : DecodeError)
-      → IsErrorOf (UnexpectedExtraData left) new e → DecodesNext ps names before old name (Err e) new more
+      → IsErrorOf (UnexpectedExtraData left) new e → DecodesNext ps names before old (Err e) new more
   took_nothing k u a more n left f e w =
       let d = placed_decodes ps k u old new a in
-      inr (chosen k u, (d, tt), inl (n, rules_same old new (UnexpectedExtraData (length old.rest)) e (call_keeps d) (subst (λ m. IsErrorOf (UnexpectedExtraData m) new e) f w)))
+      inr (chosen k u, d, inl (n, rules_same old new (UnexpectedExtraData (length old.rest)) e (call_keeps d) (subst (λ m. IsErrorOf (UnexpectedExtraData m) new e) f w)))
 
   pub next_takes_nothing : (r : Option (Bor (List ℕ))) → DecodesPlaced ps names before old (Ok r) new held → (more : List (Option Tree)) → length new.rest ≡ length old.rest → (left : ℕ) → left ≡ length old.rest → (e : DecodeError)
-      → IsErrorOf (UnexpectedExtraData left) new e → DecodesNext ps names before old name (Err e) new more
+      → IsErrorOf (UnexpectedExtraData left) new e → DecodesNext ps names before old (Err e) new more
   next_takes_nothing None (k, u, c, a) = took_nothing k u a
   next_takes_nothing (Some x) (k, u, c, f, m, a) = took_nothing k u a
 
@@ -257,12 +248,9 @@ others_lack p s ps names more behind rule held h n e (inl m) = inl m
 others_lack p s ps names more behind rule held h n e (inr (k, l, w)) = inr (suc k, (n, l), subst (λ z. IsNamedError (IsMissingField z) rule e) (behind k) w)
 
 -- Components up to here, what was put into slots, and the name of the first part that was read twice.
-module _ (ps : Parts) (name : List ℕ) (names : List (List ℕ)) where
+module _ (ps : Parts) (names : List (List ℕ)) where
   abbrev pub Read : Call Tree
-  Read = DecodesOneOf ps name
-
-  plain : (old here : State) (vs : List Tree) (bs : List (List ℕ)) → DecodesInTurnFrom Read old vs bs here → DecodesInTurnFrom (Decodes (choice ps) (λ (t : Tree). t)) old vs bs here
-  plain = turn_by Read (Decodes (choice ps) (λ (t : Tree). t)) (λ o r n k. k.0)
+  Read = Decodes (choice ps) (λ (t : Tree). t)
 
   abbrev pub Seen : Option (Bor (List ℕ)) → List (Option Tree) → List Tree → Type 0
   Seen None held done = AreHeld 0 (presences ps) held done
@@ -288,28 +276,28 @@ module _ (ps : Parts) (name : List ℕ) (names : List (List ℕ)) where
 
   module _ (old here : State) (last : Option Tag) (twice : Option (Bor (List ℕ))) (held : List (Option Tree)) (k : ReadTo old here last twice held) where
     stays_here : here ≡ record old { rest = here.rest }
-    stays_here = came_stays (choice ps) (λ (t : Tree). t) old here k.0 k.1 (plain old here k.0 k.1 k.2)
+    stays_here = came_stays (choice ps) (λ (t : Tree). t) old here k.0 k.1 k.2
 
     pub read_rules : here.rule ≡ old.rule
     read_rules = rule_is old here stays_here
 
-    unread : {D : Type 0} (tree : D → Tree) → (Ended here.closing here.rest → ⊥) → (e : DecodeError) (new : State) → FailsAtComponent Read k.1 here e new → DecodesSetPartContents ps tree name names old (Err e) new
+    unread : {D : Type 0} (tree : D → Tree) → (Ended here.closing here.rest → ⊥) → (e : DecodeError) (new : State) → FailsAtComponent Read k.1 here e new → DecodesSetPartContents ps tree names old (Err e) new
     unread tree n e new f = inl (k.0, k.1, here, (k.2, tagged_order old k.1 last k.3), n, f)
 
-    pub untold : {D : Type 0} (tree : D → Tree) → (Ended here.closing here.rest → ⊥) → (e : DecodeError) → PeeksInOrder last here (Err e) → DecodesSetPartContents ps tree name names old (Err e) here
+    pub untold : {D : Type 0} (tree : D → Tree) → (Ended here.closing here.rest → ⊥) → (e : DecodeError) → PeeksInOrder last here (Err e) → DecodesSetPartContents ps tree names old (Err e) here
     untold tree n e p = unread tree n e here (look_refused old here stays_here k.1 last k.3 Read e p)
 
     pub next_fails : {D : Type 0} (tree : D → Tree) → (Ended here.closing here.rest → ⊥) → (found : Option Tag) → PeeksInOrder last here (Ok found) → (e : DecodeError) (new : State) (after : List (Option Tree))
-        → DecodesNext ps names held here name (Err e) new after → DecodesSetPartContents ps tree name names old (Err e) new
+        → DecodesNext ps names held here (Err e) new after → DecodesSetPartContents ps tree names old (Err e) new
     next_fails tree n found p e new after f = unread tree n e new (not_read (look_follows old here stays_here k.1 last k.3 found p) f)
 
-    pub next_passes : (Ended here.closing here.rest → ⊥) → (found : Option Tag) → PeeksInOrder last here (Ok found) → (next : Option (Bor (List ℕ))) (new : State) (after : List (Option Tree)) → DecodesNext ps names held here name (Ok next) new after
+    pub next_passes : (Ended here.closing here.rest → ⊥) → (found : Option Tag) → PeeksInOrder last here (Ok found) → (next : Option (Bor (List ℕ))) (new : State) (after : List (Option Tree)) → DecodesNext ps names held here (Ok next) new after
         → ReadTo old new found (option_or twice next) after
     next_passes n found p None new after (i, u, c, (d, l)) =
         let b = d.end.0 in (
           k.0 ++ chosen i u ∷ [],
           k.1 ++ b ∷ [],
-          passes_from Read here new (chosen i u) b d.end.1 n (d, tt) l old k.0 _ k.1 refl k.2,
+          passes_from Read here new (chosen i u) b d.end.1 n d l old k.0 _ k.1 refl k.2,
           look_kept old here stays_here k.1 last k.3 (choice ps) (λ (t : Tree). t) found p (chosen i u) new d b d.end.1 l,
           seen_placed twice held after k.0 i u c k.4,
         )
@@ -317,29 +305,29 @@ module _ (ps : Parts) (name : List ℕ) (names : List (List ℕ)) where
         let b = d.end.0 in (
           k.0 ++ chosen i u ∷ [],
           k.1 ++ b ∷ [],
-          passes_from Read here new (chosen i u) b d.end.1 n (d, tt) l old k.0 _ k.1 refl k.2,
+          passes_from Read here new (chosen i u) b d.end.1 n d l old k.0 _ k.1 refl k.2,
           look_kept old here stays_here k.1 last k.3 (choice ps) (λ (t : Tree). t) found p (chosen i u) new d b d.end.1 l,
           seen_twice twice x held after k.0 i u c m k.4,
         )
 
   -- All components were read.
   module _ {D : Type 0} (tree : D → Tree) (old here : State) (last : Option Tag) (held : List (Option Tree)) (n : Ended here.closing here.rest) where
-    pub all_once : ReadTo old here last None held → (r : Result D DecodeError) → MakesParts ps tree names here.rule held r → DecodesSetPartContents ps tree name names old r here
-    all_once k r m = go r (made_of_held ps tree names old.rule held k.0 k.4 r (subst (λ (z : State). MakesParts ps tree names z.rule held r) (came_stays (choice ps) (λ (t : Tree). t) old here k.0 k.1 (plain old here k.0 k.1 k.2)) m))
+    pub all_once : ReadTo old here last None held → (r : Result D DecodeError) → MakesParts ps tree names here.rule held r → DecodesSetPartContents ps tree names old r here
+    all_once k r m = go r (made_of_held ps tree names old.rule held k.0 k.4 r (subst (λ (z : State). MakesParts ps tree names z.rule held r) (came_stays (choice ps) (λ (t : Tree). t) old here k.0 k.1 k.2) m))
       where
-        go : (r : Result D DecodeError) → MakesOfReadings ps tree names old.rule k.0 r → DecodesSetPartContents ps tree name names old r here
+        go : (r : Result D DecodeError) → MakesOfReadings ps tree names old.rule k.0 r → DecodesSetPartContents ps tree names old r here
         go (Ok v) m = (k.0, (k.1, (k.2, tagged_order old k.1 last k.3), n), m)
         go (Err e) m = inr (k.0, (k.1, (k.2, tagged_order old k.1 last k.3), n), m)
 
-    pub one_twice : (x : Bor (List ℕ)) → ReadTo old here last (Some x) held → (e : DecodeError) → IsNamedError (IsDuplicateField (text x)) here.rule e → DecodesSetPartContents ps tree name names old (Err e) here
+    pub one_twice : (x : Bor (List ℕ)) → ReadTo old here last (Some x) held → (e : DecodeError) → IsNamedError (IsDuplicateField (text x)) here.rule e → DecodesSetPartContents ps tree names old (Err e) here
     one_twice x (done, bs, p, t, (i, r, m)) e w =
-        let f = came_stays (choice ps) (λ (t : Tree). t) old here done bs (plain old here done bs p) in
+        let f = came_stays (choice ps) (λ (t : Tree). t) old here done bs p in
         inr (done, (bs, (p, tagged_order old bs last t), n), inr (inl (i, r, subst (λ z. IsNamedError (IsDuplicateField z) old.rule e) m (subst (λ (z : State). IsNamedError (IsDuplicateField (text x)) z.rule e) f w))))
 
 -- A SET is read where its parts are read inside.
-module _ {D : Type 0} (ps : Parts) (tree : D → Tree) (name : List ℕ) (names : List (List ℕ)) (tag : Tag) (old : State) (o : old.depth ≢ 0 → AreOctets old.rest) where
+module _ {D : Type 0} (ps : Parts) (tree : D → Tree) (names : List (List ℕ)) (tag : Tag) (old : State) (o : old.depth ≢ 0 → AreOctets old.rest) where
   abbrev pub Inside : Call D
-  Inside = DecodesSetPartContents ps tree name names
+  Inside = DecodesSetPartContents ps tree names
 
   abbrev pub Contents : Bool → Reading Tree
   Contents c = SetReads ps old.rule (old.depth - 1) c
@@ -347,8 +335,7 @@ module _ {D : Type 0} (ps : Parts) (tree : D → Tree) (name : List ℕ) (names 
   inside_exact : (h : Header) → constructed_header_at (sequence_header tag) old.rule old.depth old.rest ≡ Ok h → (r : Result D DecodeError) (left : State) → Inside (contents_state (sequence_header tag) old h) r left
       → Exact (Contents (is_indefinite_extent h.extent)) (octets_inside h.extent h.rest) (outcome tree r left.rest) ⊎ IsCut (sequence_header tag) Contents old o h left.rest
   inside_exact h e r left k =
-      inl (set_collects ps (λ (t : Tree). t) tree (contents_state (sequence_header tag) old h) (λ (l : List Tree). l) (MakesOfReadings ps tree names old.rule) (makes_set ps tree names old.rule) r left
-      (contents_by (DecodesOneOf ps name) (Decodes (choice ps) (λ (t : Tree). t)) (λ o r n k. k.0) (λ (l : List Tree). l) (MakesOfReadings ps tree names old.rule) (contents_state (sequence_header tag) old h) r left k)).exact
+      inl (set_collects ps (λ (t : Tree). t) tree (contents_state (sequence_header tag) old h) (λ (l : List Tree). l) (MakesOfReadings ps tree names old.rule) (makes_set ps tree names old.rule) r left k).exact
 
   pub set_parts_decode : (result : Result D DecodeError) (new : State) → DecodesInside Inside (sequence_header tag) old result new → Decodes (set tag ps) tree old result new
   unfolding Reads

@@ -1,11 +1,9 @@
 use Rattle.std.proofs.Common.{List, map}
 use Rattle.rasn_types.specs.Shapes.{Tree, choice}
-use Rattle.rasn_de.specs.SetPartTypes.{text, MakesOfReadings, DecodesOneOf, DecodesSetPartContents}
+use Rattle.rasn_de.specs.SetPartTypes.{text, MakesOfReadings, DecodesSetPartContents}
 use Rattle.rasn_de.proofs.Constructed.Set.{collects_leaves}
 use Rattle.rasn_de.proofs.Constructed.Steps.{closure_leaves, closure_inside, closure_rules}
 use Rattle.rasn_de.proofs.OwnTypes.SetPartTypes.{set_parts_decode}
-use Rattle.rasn_de.specs.Decodes.{Decodes}
-use Rattle.rasn_de.proofs.Constructed.SetCalls.{contents_by}
 use Rattle.rasn_de.proofs.ber.de.Decoder.read_set.Goals as goal
 
 pub inside-requires-clause-leaves : goal.inside-requires-clause-leaves
@@ -13,18 +11,17 @@ inside-requires-clause-leaves g c =
     let ps = g.P.DecodeSetParts.parts in
     let tree = g.P.DecodeSetParts.tree in
     let names = map text c.args.names.now in
-    closure_leaves _ _ (DecodesSetPartContents ps tree c.args.name.now names) (λ p r q m. m.0)
-    (λ old r new k. collects_leaves (choice ps) (λ (t : Tree). t) (λ (l : List Tree). l) (MakesOfReadings ps tree names old.rule) old r new
-    (contents_by (DecodesOneOf ps c.args.name.now) (Decodes (choice ps) (λ (t : Tree). t)) (λ o r n k. k.0) (λ (l : List Tree). l) (MakesOfReadings ps tree names old.rule) old r new k))
+    closure_leaves _ _ (DecodesSetPartContents ps tree names) (λ p r q m. m.0)
+    (λ old. collects_leaves (choice ps) (λ (t : Tree). t) (λ (l : List Tree). l) (MakesOfReadings ps tree names old.rule) old)
 
 pub returns : goal.returns
 returns g c =
     let ps = g.P.DecodeSetParts.parts in
     let tree = g.P.DecodeSetParts.tree in
     let names = map text c.args.names.now in
-    let k = closure_inside _ _ (DecodesSetPartContents ps tree c.args.name.now names) (λ p r q m. m.0) _ _ c.sequence.ensures _ _ _ c.inside.ensures.exact in
+    let k = closure_inside _ _ (DecodesSetPartContents ps tree names) (λ p r q m. m.0) _ _ c.sequence.ensures _ _ _ c.inside.ensures.exact in
     record {
       exact = k;
-      reads = set_parts_decode ps tree c.args.name.now names c.args.tag c.args.self.now c.inside.ensures.octets _ _ k;
+      reads = set_parts_decode ps tree names c.args.tag c.args.self.now c.inside.ensures.octets _ _ k;
       rules = closure_rules c.args.self.now _ _ (λ p r q m same. m.1) _ _ _ c.inside.ensures.exact;
     }

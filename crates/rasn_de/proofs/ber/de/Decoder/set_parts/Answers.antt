@@ -8,31 +8,31 @@ use Rattle.std.specs.Prelude.{IfErr}
 use Rattle.rasn_de.proofs.ber.de.Decoder.set_parts.Goals as goal
 
 pub loop-last-init : goal.loop-last-init
-loop-last-init g c = none_read g.P.DecodeSetParts.parts c.args.name.now (map text c.args.names.now) _ _ c.empty-slots.ensures
+loop-last-init g c = none_read g.P.DecodeSetParts.parts (map text c.args.names.now) _ _ c.empty-slots.ensures
 
 pub returns-in_err-last-clause-exact : goal.returns-in_err-last-clause-exact
 returns-in_err-last-clause-exact g c =
     let at = c.loop-last in
-    rw (residual _ c.from_residual.ensures.1) (untold g.P.DecodeSetParts.parts c.args.name.now _ c.args.self.now at.self at.last at.twice _ at.invariant g.P.DecodeSetParts.tree c.loop-last-test.ensures _ c.in_err-last.ensures)
+    rw (residual _ c.from_residual.ensures.1) (untold g.P.DecodeSetParts.parts _ c.args.self.now at.self at.last at.twice _ at.invariant g.P.DecodeSetParts.tree c.loop-last-test.ensures _ c.in_err-last.ensures)
 
 pub returns-in_err-next-clause-exact : goal.returns-in_err-next-clause-exact
 returns-in_err-next-clause-exact g c =
     let at = c.loop-last in
     rw (residual _ c.from_residual-in_err-next.ensures.1)
-    (next_fails g.P.DecodeSetParts.parts c.args.name.now _ c.args.self.now at.self at.last at.twice _ at.invariant g.P.DecodeSetParts.tree c.loop-last-test.ensures _ c.in_ok-last.ensures _ _ (g.P.DecodeSetParts.held at.slots) c.in_err-next.ensures.exact)
+    (next_fails g.P.DecodeSetParts.parts _ c.args.self.now at.self at.last at.twice _ at.invariant g.P.DecodeSetParts.tree c.loop-last-test.ensures _ c.in_ok-last.ensures _ _ (g.P.DecodeSetParts.held at.slots) c.in_err-next.ensures.exact)
 
 pub loop-last-preserved : goal.loop-last-preserved
 loop-last-preserved g c =
     let at = c.loop-last in
-    rw c.or-twice.ensures (next_passes g.P.DecodeSetParts.parts c.args.name.now _ c.args.self.now at.self at.last at.twice _ at.invariant c.loop-last-test.ensures _ c.in_ok-last.ensures _ _ _ c.in_ok-next.ensures.exact)
+    rw c.or-twice.ensures (next_passes g.P.DecodeSetParts.parts _ c.args.self.now at.self at.last at.twice _ at.invariant c.loop-last-test.ensures _ c.in_ok-last.ensures _ _ _ c.in_ok-next.ensures.exact)
 
 pub returns-in-Some-clause-exact : goal.returns-in-Some-clause-exact
 returns-in-Some-clause-exact g c =
     let at = c.loop-last in
     let names = map text c.args.names.now in
     let h : at.twice ≡ Some c.in-Some.part = search rules in
-    one_twice g.P.DecodeSetParts.parts c.args.name.now names g.P.DecodeSetParts.tree c.args.self.now at.self at.last (g.P.DecodeSetParts.held at.slots) c.loop-last-test.ensures c.in-Some.part
-    (subst (λ z. ReadTo g.P.DecodeSetParts.parts c.args.name.now names c.args.self.now at.self at.last z (g.P.DecodeSetParts.held at.slots)) h at.invariant) _
+    one_twice g.P.DecodeSetParts.parts names g.P.DecodeSetParts.tree c.args.self.now at.self at.last (g.P.DecodeSetParts.held at.slots) c.loop-last-test.ensures c.in-Some.part
+    (subst (λ z. ReadTo g.P.DecodeSetParts.parts names c.args.self.now at.self at.last z (g.P.DecodeSetParts.held at.slots)) h at.invariant) _
     (subst (λ z. IsNamedError (IsDuplicateField (text c.in-Some.part)) z c.duplicate_field.result) c.codec.ensures c.duplicate_field.ensures)
 
 pub returns-clause-exact : goal.returns-clause-exact
@@ -40,17 +40,17 @@ returns-clause-exact g c =
     let at = c.loop-last in
     let names = map text c.args.names.now in
     let h : at.twice ≡ None = search rules in
-    all_once g.P.DecodeSetParts.parts c.args.name.now names g.P.DecodeSetParts.tree c.args.self.now at.self at.last (g.P.DecodeSetParts.held at.slots) c.loop-last-test.ensures
-    (subst (λ z. ReadTo g.P.DecodeSetParts.parts c.args.name.now names c.args.self.now at.self at.last z (g.P.DecodeSetParts.held at.slots)) h at.invariant) _ c.gather.ensures.makes
+    all_once g.P.DecodeSetParts.parts names g.P.DecodeSetParts.tree c.args.self.now at.self at.last (g.P.DecodeSetParts.held at.slots) c.loop-last-test.ensures
+    (subst (λ z. ReadTo g.P.DecodeSetParts.parts names c.args.self.now at.self at.last z (g.P.DecodeSetParts.held at.slots)) h at.invariant) _ c.gather.ensures.makes
 
 pub returns-in_err-last-clause-rules : goal.returns-in_err-last-clause-rules
-returns-in_err-last-clause-rules g c = rw (residual _ c.from_residual.ensures.1) ((order_rules _ c.loop-last.self _ c.in_err-last.ensures) ∙ (read_rules g.P.DecodeSetParts.parts c.args.name.now _ _ _ _ _ _ c.loop-last.invariant))
+returns-in_err-last-clause-rules g c = rw (residual _ c.from_residual.ensures.1) ((order_rules _ c.loop-last.self _ c.in_err-last.ensures) ∙ (read_rules g.P.DecodeSetParts.parts _ _ _ _ _ _ c.loop-last.invariant))
 
 pub returns-in_err-next-clause-rules : goal.returns-in_err-next-clause-rules
-returns-in_err-next-clause-rules g c = rw (residual _ c.from_residual-in_err-next.ensures.1) (c.in_err-next.ensures.rules ∙ (read_rules g.P.DecodeSetParts.parts c.args.name.now _ _ _ _ _ _ c.loop-last.invariant))
+returns-in_err-next-clause-rules g c = rw (residual _ c.from_residual-in_err-next.ensures.1) (c.in_err-next.ensures.rules ∙ (read_rules g.P.DecodeSetParts.parts _ _ _ _ _ _ c.loop-last.invariant))
 
 pub returns-in-Some-clause-rules : goal.returns-in-Some-clause-rules
-returns-in-Some-clause-rules g c = (c.duplicate_field.ensures.0 ∙ c.codec.ensures) ∙ (read_rules g.P.DecodeSetParts.parts c.args.name.now _ _ _ _ _ _ c.loop-last.invariant)
+returns-in-Some-clause-rules g c = (c.duplicate_field.ensures.0 ∙ c.codec.ensures) ∙ (read_rules g.P.DecodeSetParts.parts _ _ _ _ _ _ c.loop-last.invariant)
 
 pub returns-clause-rules : goal.returns-clause-rules
-returns-clause-rules g c = subst (λ z. IfErr c.gather.result (λ e. e.codec ≡ z)) (read_rules g.P.DecodeSetParts.parts c.args.name.now _ _ _ _ _ _ c.loop-last.invariant) c.gather.ensures.rules
+returns-clause-rules g c = subst (λ z. IfErr c.gather.result (λ e. e.codec ≡ z)) (read_rules g.P.DecodeSetParts.parts _ _ _ _ _ _ c.loop-last.invariant) c.gather.ensures.rules
