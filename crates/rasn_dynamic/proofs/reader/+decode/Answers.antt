@@ -81,13 +81,13 @@ decode_choice-bounds-alternatives-number t c = slice_get_within c.args.alternati
 pub decode_choice-decode_at-requires : goal.decode_choice-decode_at-requires
 decode_choice-decode_at-requires t c =
     let at = read_at c.args.alternatives.now c.in-Some.number c.index-alternatives-number.result (slice_get_within c.args.alternatives.now c.in-Some.number c.in-Some.ensures.0 (sym c.in-Some.ensures.1)) c.index-alternatives-number.is in
-    (search rules, lawful_at (shape_of_type c.args.types.now c.args.below) c.args.alternatives.now c.in-Some.number c.index-alternatives-number.result c.requires.lawful at)
+    (search rules, lawful_at (shape_of_type c.args.types.now c.args.below) c.args.alternatives.now c.in-Some.number c.index-alternatives-number.result c.requires.1 at)
 
 pub decode_choice-returns-in_err-value-clause-reads : goal.decode_choice-returns-in_err-value-clause-reads
 decode_choice-returns-in_err-value-clause-reads t c =
     let at = read_at c.args.alternatives.now c.in-Some.number c.index-alternatives-number.result (slice_get_within c.args.alternatives.now c.in-Some.number c.in-Some.ensures.0 (sym c.in-Some.ensures.1)) c.index-alternatives-number.is in
     rw (residual _ c.from_residual-in_err-value.ensures.1)
-    (chosen_refused (shape_of_type c.args.types.now c.args.below) c.args.alternatives.now c.in-Some.number c.index-alternatives-number.result c.in_ok-tag.tag c.requires.lawful at
+    (chosen_refused (shape_of_type c.args.types.now c.args.below) c.args.alternatives.now c.in-Some.number c.index-alternatives-number.result c.in_ok-tag.tag c.requires.1 at
     (first_at (shape_of_type c.args.types.now c.args.below) c.args.alternatives.now c.in-Some.number c.in-Some.ensures.0 _ c.in_ok-tag.tag c.in-Some.ensures.1 at c.in-Some.ensures.2) _ _ c.in_ok-tag.ensures.next _ c.in_err-value.ensures.reads)
 
 pub decode_choice-returns-in_err-value-clause-unknown : goal.decode_choice-returns-in_err-value-clause-unknown
@@ -99,7 +99,7 @@ pub decode_choice-returns-in-Ok-clause-reads : goal.decode_choice-returns-in-Ok-
 decode_choice-returns-in-Ok-clause-reads t c =
     let at = read_at c.args.alternatives.now c.in-Some.number c.index-alternatives-number.result (slice_get_within c.args.alternatives.now c.in-Some.number c.in-Some.ensures.0 (sym c.in-Some.ensures.1)) c.index-alternatives-number.is in
     rw c.in-Ok.ensures.ok
-    (chosen_got (shape_of_type c.args.types.now c.args.below) c.args.alternatives.now c.in-Some.number c.index-alternatives-number.result c.in_ok-tag.tag c.requires.lawful at
+    (chosen_got (shape_of_type c.args.types.now c.args.below) c.args.alternatives.now c.in-Some.number c.index-alternatives-number.result c.in_ok-tag.tag c.requires.1 at
     (first_at (shape_of_type c.args.types.now c.args.below) c.args.alternatives.now c.in-Some.number c.in-Some.ensures.0 _ c.in_ok-tag.tag c.in-Some.ensures.1 at c.in-Some.ensures.2) _ _ c.in_ok-tag.ensures.next _ c.in_ok-value.ensures.reads)
 
 pub decode_choice-returns-in-Ok-clause-fits : goal.decode_choice-returns-in-Ok-clause-fits
