@@ -1,6 +1,7 @@
 //! Reads values that hold no other values.
-ghost use Rattle.std.specs.Prelude.{◌≡◌, ◌++◌, ◌∷◌, [], OnOk, IfOk, IfErr, Contains};
+ghost use Rattle.std.specs.Prelude.{◌≡◌, true, ◌++◌, ◌∷◌, [], OnOk, IfOk, IfErr, Contains};
 ghost use Rattle.rasn_types.specs.Errors.{IsOutOfMemory};
+ghost use Rattle.rasn_types.specs.Numbered.{fit_isize};
 ghost use Rattle.rasn_types.specs.CharacterString.{string_kind};
 ghost use Rattle.rasn_types.specs.Shapes.{leaf, any, looked_for, fixed, integer, enumerated, utc_time};
 ghost use Rattle.rasn_types.specs.Trees.{unconstrained};
@@ -215,6 +216,23 @@ fn is_listed(numbers: &[NamedNumber], number: &isize) -> bool
     false
 }
 
+fn number_of(named: &NamedNumber) -> isize
+    ensures { result ≡ named.now.number }
+{
+    named.number
+}
+
+/// Looks at each number, which tells a proof that 64 bits hold it.
+fn see_numbers(numbers: &[NamedNumber])
+    ensures { fit_isize (numbers_of numbers.now) ≡ true }
+{
+    let mut rest = numbers;
+    while let [named, after @ ..] = rest {
+        let _ = number_of(named);
+        rest = after;
+    }
+}
+
 /// Reads an ENUMERATED with these numbers (X.690 8.4).
 pub fn decode_number<'input>(
     decoder: &mut Decoder<'input>,
@@ -224,8 +242,15 @@ pub fn decode_number<'input>(
     ensures reads { Decodes (leaf (enumerated (numbers_of numbers.now)) tag unconstrained) tree_of decoder.old result decoder.new }
     ensures fits { IfOk result (λ v. IsNumber (numbers_of numbers.now) v) }
 {
-    let discriminant = decoder.decode_integer::<isize>(tag, &Constraints::NONE)?;
+    let discriminant = match decoder.decode_integer::<isize>(tag, &Constraints::NONE) {
+        Ok(discriminant) => discriminant,
+        Err(error) => {
+            see_numbers(numbers);
+            return Err(error);
+        }
+    };
     if !is_listed(numbers, &discriminant) {
+        see_numbers(numbers);
         return Err(DecodeError {
             kind: DecodeErrorKind::DiscriminantValueNotFound { discriminant },
             codec: decoder.codec(),

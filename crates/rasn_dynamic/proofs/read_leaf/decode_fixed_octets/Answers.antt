@@ -1,4 +1,5 @@
-use Rattle.std.proofs.Common.{inl, inr}
+use Rattle.std.proofs.Common.{◌≡◌, length, inl, inr, arith}
+use Rattle.std.specs.Cow.{cow_slice_items}
 use Rattle.rasn_de.proofs.Leaves.Returns.{residual}
 use Rattle.rasn_dynamic.proofs.FixedOctets.{fixed_got, fixed_refused, fixed_unread}
 use Rattle.rasn_dynamic.proofs.read_leaf.decode_fixed_octets.Goals as goal
@@ -10,10 +11,13 @@ pub returns-then-len-clause-reads : goal.returns-then-len-clause-reads
 returns-then-len-clause-reads c =
     fixed_refused c.args.tag c.args.len c.args.constraints.now c.args.decoder.now _ c.in_ok-octets.octets c.in_ok-octets.ensures.reads (inl (rw (← c.len.ensures) c.if-len.true)) _
 
-pub returns-then-admits_size : goal.returns-then-admits_size
-returns-then-admits_size c =
-    let l = rw (← c.len.ensures) c.if-len.false in
-    record { reads = fixed_got c.args.tag c.args.len c.args.constraints.now c.args.decoder.now _ c.in_ok-octets.octets c.in_ok-octets.ensures.reads ? c.if-admits_size.ensures; fits = ? }
+pub returns-then-admits_size-clause-reads : goal.returns-then-admits_size-clause-reads
+returns-then-admits_size-clause-reads c =
+    let l : length (cow_slice_items c.in_ok-octets.octets) ≡ c.args.len = omega (arith, c.len.ensures, c.if-len.false) in
+    fixed_got c.args.tag c.args.len c.args.constraints.now c.args.decoder.now _ c.in_ok-octets.octets c.in_ok-octets.ensures.reads l c.if-admits_size.ensures
+
+pub returns-then-admits_size-clause-fits : goal.returns-then-admits_size-clause-fits
+returns-then-admits_size-clause-fits c = omega (arith, c.len.ensures, c.if-len.false)
 
 pub returns-clause-reads : goal.returns-clause-reads
 returns-clause-reads c =

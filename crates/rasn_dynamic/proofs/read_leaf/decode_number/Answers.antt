@@ -1,21 +1,26 @@
 use Rattle.std.proofs.Common.{sym, ◌∙◌, subst}
 use Rattle.std.specs.Prelude.{Contains}
+use Rattle.rasn_types.specs.declared.error.decode.DecodeErrorKind.TheVariants.{DiscriminantValueNotFound}
 use Rattle.rasn_schema.specs.Trees.{tree_of}
 use Rattle.rasn_schema.specs.Shapes.{numbers_of}
-use Rattle.rasn_de.proofs.Leaves.Returns.{residual}
-use Rattle.rasn_de.proofs.Leaves.Enumerated.{handed_on, decodes_named, decodes_unnamed, decodes_refused}
+use Rattle.rasn_de.proofs.Leaves.Enumerated.{handed_on, decodes_unnamed, decodes_refused}
+use Rattle.rasn_dynamic.proofs.Numbers.{decodes_listed}
 use Rattle.rasn_dynamic.proofs.read_leaf.decode_number.Goals as goal
 
-pub returns-in_err-discriminant-clause-reads : goal.returns-in_err-discriminant-clause-reads
-returns-in_err-discriminant-clause-reads c =
-    let h = c.well_formed in
-    rw (residual _ c.from_residual.ensures.1) (decodes_refused (numbers_of c.args.numbers.now) ? c.args.tag tree_of c.args.decoder.now _ c.in_err-discriminant.field-0.0 c.in_err-discriminant.ensures.reads)
+pub returns-in-Err-clause-reads : goal.returns-in-Err-clause-reads
+returns-in-Err-clause-reads c = decodes_refused (numbers_of c.args.numbers.now) c.see_numbers.ensures c.args.tag tree_of c.args.decoder.now _ c.in-Err.error c.in-Err.ensures.reads
 
 pub returns-then-not-is_listed-clause-reads : goal.returns-then-not-is_listed-clause-reads
-returns-then-not-is_listed-clause-reads c = ?
+returns-then-not-is_listed-clause-reads c =
+    let t = c.in-Ok.ensures.exact in
+    decodes_unnamed (numbers_of c.args.numbers.now) c.see_numbers-then-not-is_listed.ensures c.args.tag tree_of c.args.decoder.now _ c.in-Ok.discriminant (record { kind = DiscriminantValueNotFound c.in-Ok.discriminant; codec = c.codec.result }) c.in-Ok.ensures.reads
+    (subst (λ y. Contains (numbers_of c.args.numbers.now) y → ⊥) (handed_on _ _ _ _ _ t.0) c.if-not-is_listed.ensures)
 
-pub returns-in-Ok-clause-reads : goal.returns-in-Ok-clause-reads
-returns-in-Ok-clause-reads c = ?
+pub returns-in-Ok-integer_of-clause-reads : goal.returns-in-Ok-integer_of-clause-reads
+returns-in-Ok-integer_of-clause-reads c =
+    let t = c.in-Ok.ensures.exact in
+    decodes_listed (numbers_of c.args.numbers.now) c.args.tag c.args.decoder.now _ c.in-Ok.discriminant c.in-Ok-integer_of.number c.in-Ok.ensures.reads
+    (c.in-Ok-integer_of.ensures ∙ handed_on _ _ _ _ _ t.0) (subst (Contains (numbers_of c.args.numbers.now)) (sym c.in-Ok-integer_of.ensures) c.if-not-is_listed.ensures)
 
-pub returns-in-Ok-clause-fits : goal.returns-in-Ok-clause-fits
-returns-in-Ok-clause-fits c = ?
+pub returns-in-Ok-integer_of-clause-fits : goal.returns-in-Ok-integer_of-clause-fits
+returns-in-Ok-integer_of-clause-fits c = subst (Contains (numbers_of c.args.numbers.now)) (sym c.in-Ok-integer_of.ensures) c.if-not-is_listed.ensures
