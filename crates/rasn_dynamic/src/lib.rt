@@ -22,8 +22,3 @@ pub use entry::{
 };
 pub use fitting::fits;
 pub use path::ValuePath;
-
-#[test]
-fn nothing(rt: HostRuntime) {
-    assert!(rt; true);
-}

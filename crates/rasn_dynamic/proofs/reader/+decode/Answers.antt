@@ -1,4 +1,5 @@
-use Rattle.std.proofs.Common.{rules, arith, ◌≡◌, ◌-◌, [], ◌∷◌, ◌++◌, length, map, Some, None, Ok, refl, sym, ap, ◌∙◌, subst, inl, inr}
+use Rattle.std.proofs.Common.{rules, arith, ◌≡◌, ◌-◌, [], ◌∷◌, ◌++◌, length, map, true, false, Some, None, Ok, refl, sym, ap, ◌∙◌, subst, inl, inr}
+use Rattle.std.specs.Prelude.{get_or, slice_get}
 use Rattle.std.proofs.lemmas.Option.{slice_get_within}
 use Rattle.rasn_types.specs.Shapes.{IsFirstOf}
 use Rattle.rasn_types.proofs.Headers.Frames.{next_one}
@@ -80,14 +81,18 @@ decode_choice-bounds-alternatives-number t c = slice_get_within c.args.alternati
 
 pub decode_choice-decode_at-requires : goal.decode_choice-decode_at-requires
 decode_choice-decode_at-requires t c =
-    let at = read_at c.args.alternatives.now c.in-Some.number c.index-alternatives-number.result (slice_get_within c.args.alternatives.now c.in-Some.number c.in-Some.ensures.0 (sym c.in-Some.ensures.1)) c.index-alternatives-number.is in
-    (search rules, lawful_at (shape_of_type c.args.types.now c.args.below) c.args.alternatives.now c.in-Some.number c.index-alternatives-number.result c.requires.1 at)
+    let el = get_or c.args.alternatives.now c.in-Some.number c.index-alternatives-number.result in
+    let at : Some el ≡ slice_get c.args.alternatives.now c.in-Some.number = subst (λ (a : Alternative). Some a ≡ slice_get c.args.alternatives.now c.in-Some.number) c.index-alternatives-number.is
+    (read_at c.args.alternatives.now c.in-Some.number c.index-alternatives-number.result (slice_get_within c.args.alternatives.now c.in-Some.number c.in-Some.ensures.0 (sym c.in-Some.ensures.1)) c.index-alternatives-number.is) in
+    (search rules, lawful_at (shape_of_type c.args.types.now c.args.below) c.args.alternatives.now c.in-Some.number el c.requires.1.1 at)
 
 pub decode_choice-returns-in_err-value-clause-reads : goal.decode_choice-returns-in_err-value-clause-reads
 decode_choice-returns-in_err-value-clause-reads t c =
-    let at = read_at c.args.alternatives.now c.in-Some.number c.index-alternatives-number.result (slice_get_within c.args.alternatives.now c.in-Some.number c.in-Some.ensures.0 (sym c.in-Some.ensures.1)) c.index-alternatives-number.is in
+    let el = get_or c.args.alternatives.now c.in-Some.number c.index-alternatives-number.result in
+    let at : Some el ≡ slice_get c.args.alternatives.now c.in-Some.number = subst (λ (a : Alternative). Some a ≡ slice_get c.args.alternatives.now c.in-Some.number) c.index-alternatives-number.is
+    (read_at c.args.alternatives.now c.in-Some.number c.index-alternatives-number.result (slice_get_within c.args.alternatives.now c.in-Some.number c.in-Some.ensures.0 (sym c.in-Some.ensures.1)) c.index-alternatives-number.is) in
     rw (residual _ c.from_residual-in_err-value.ensures.1)
-    (chosen_refused (shape_of_type c.args.types.now c.args.below) c.args.alternatives.now c.in-Some.number c.index-alternatives-number.result c.in_ok-tag.tag c.requires.1 at
+    (chosen_refused (shape_of_type c.args.types.now c.args.below) c.args.alternatives.now c.in-Some.number el c.in_ok-tag.tag c.requires.1.1 at
     (first_at (shape_of_type c.args.types.now c.args.below) c.args.alternatives.now c.in-Some.number c.in-Some.ensures.0 _ c.in_ok-tag.tag c.in-Some.ensures.1 at c.in-Some.ensures.2) _ _ c.in_ok-tag.ensures.next _ c.in_err-value.ensures.reads)
 
 pub decode_choice-returns-in_err-value-clause-unknown : goal.decode_choice-returns-in_err-value-clause-unknown
@@ -97,9 +102,11 @@ decode_choice-returns-in_err-value-clause-unknown t c = rw (residual _ c.from_re
 
 pub decode_choice-returns-in-Ok-clause-reads : goal.decode_choice-returns-in-Ok-clause-reads
 decode_choice-returns-in-Ok-clause-reads t c =
-    let at = read_at c.args.alternatives.now c.in-Some.number c.index-alternatives-number.result (slice_get_within c.args.alternatives.now c.in-Some.number c.in-Some.ensures.0 (sym c.in-Some.ensures.1)) c.index-alternatives-number.is in
+    let el = get_or c.args.alternatives.now c.in-Some.number c.index-alternatives-number.result in
+    let at : Some el ≡ slice_get c.args.alternatives.now c.in-Some.number = subst (λ (a : Alternative). Some a ≡ slice_get c.args.alternatives.now c.in-Some.number) c.index-alternatives-number.is
+    (read_at c.args.alternatives.now c.in-Some.number c.index-alternatives-number.result (slice_get_within c.args.alternatives.now c.in-Some.number c.in-Some.ensures.0 (sym c.in-Some.ensures.1)) c.index-alternatives-number.is) in
     rw c.in-Ok.ensures.ok
-    (chosen_got (shape_of_type c.args.types.now c.args.below) c.args.alternatives.now c.in-Some.number c.index-alternatives-number.result c.in_ok-tag.tag c.requires.1 at
+    (chosen_got (shape_of_type c.args.types.now c.args.below) c.args.alternatives.now c.in-Some.number el c.in_ok-tag.tag c.requires.1.1 at
     (first_at (shape_of_type c.args.types.now c.args.below) c.args.alternatives.now c.in-Some.number c.in-Some.ensures.0 _ c.in_ok-tag.tag c.in-Some.ensures.1 at c.in-Some.ensures.2) _ _ c.in_ok-tag.ensures.next _ c.in_ok-value.ensures.reads)
 
 pub decode_choice-returns-in-Ok-clause-fits : goal.decode_choice-returns-in-Ok-clause-fits
@@ -137,7 +144,7 @@ decode_contents-returns-in-Tagged-clause-fits t c = rw c.in-Tagged.is c.decode_a
 
 pub decode_contents-returns-in_err-values-in-Sequence-clause-reads : goal.decode_contents-returns-in_err-values-in-Sequence-clause-reads
 decode_contents-returns-in_err-values-in-Sequence-clause-reads t c =
-    rw (residual _ c.from_residual-in_err-values-in-Sequence.ensures.1, c.in-Sequence.is)
+    rw (residual _ c.from_residual.ensures.1, c.in-Sequence.is)
     (inside_seq c.in-Sequence.tag (components_by (shape_of_type c.args.types.now c.args.below) c.in-Sequence.components.items) _ _ c.in_err-values-in-Sequence.field-0.0 (rw (← c.deref.ensures.value) c.in_err-values-in-Sequence.ensures.reads))
 
 pub decode_contents-returns-in_ok-values-in-Sequence-clause-reads : goal.decode_contents-returns-in_ok-values-in-Sequence-clause-reads
@@ -337,7 +344,7 @@ pub decode_component-returns-then-is_always_there-clause-fits : goal.decode_comp
 decode_component-returns-then-is_always_there-clause-fits t c = if_ok _ _ _ (λ v h. inr h) c.decode_present.ensures.fits
 
 pub decode_component-returns-in-Ok-true-clause-reads : goal.decode_component-returns-in-Ok-true-clause-reads
-decode_component-returns-in-Ok-true-clause-reads t c = looked ((shape_of_type c.args.types.now c.args.below) c.args.component.now.type_id.0) c.tag_at.result (rw c.tag_at.ensures (own_is _ _ _ c.requires)) _ (presence_of c.args.component.now.presence) c.if-is_always_there.ensures (subst (λ b. NextTagIs c.tag_at.result c.args.decoder.now (Ok b)) c.in-Ok-true.field-0-is c.in-Ok-true.ensures) _ _ c.decode_present-in-Ok-true.ensures.reads
+decode_component-returns-in-Ok-true-clause-reads t c = looked ((shape_of_type c.args.types.now c.args.below) c.args.component.now.type_id.0) c.tag_at.result (rw c.tag_at.ensures (own_is _ _ _ c.requires)) _ (presence_of c.args.component.now.presence) c.if-is_always_there.ensures (let w = c.in-Ok-true.field-0-test in let h : c.in-Ok-true.field-0 ≡ true = cc in subst (λ b. NextTagIs c.tag_at.result c.args.decoder.now (Ok b)) h c.in-Ok-true.ensures) _ _ c.decode_present-in-Ok-true.ensures.reads
 
 pub decode_component-returns-in-Ok-true-clause-fits : goal.decode_component-returns-in-Ok-true-clause-fits
 decode_component-returns-in-Ok-true-clause-fits t c = if_ok _ _ _ (λ v h. inr h) c.decode_present-in-Ok-true.ensures.fits
@@ -346,7 +353,7 @@ pub decode_component-missing-requires : goal.decode_component-missing-requires
 decode_component-missing-requires t c = not_required c.args.component.now.presence c.if-is_always_there.ensures
 
 pub decode_component-returns-in-Ok-false-clause-reads : goal.decode_component-returns-in-Ok-false-clause-reads
-decode_component-returns-in-Ok-false-clause-reads t c = made ((shape_of_type c.args.types.now c.args.below) c.args.component.now.type_id.0) c.tag_at.result (rw c.tag_at.ensures (own_is _ _ _ c.requires)) _ (presence_of c.args.component.now.presence) c.if-is_always_there.ensures (subst (λ b. NextTagIs c.tag_at.result c.args.decoder.now (Ok b)) c.in-Ok-false.field-0-is c.in-Ok-false.ensures) _ c.missing.ensures.ok c.missing.ensures.err
+decode_component-returns-in-Ok-false-clause-reads t c = made ((shape_of_type c.args.types.now c.args.below) c.args.component.now.type_id.0) c.tag_at.result (rw c.tag_at.ensures (own_is _ _ _ c.requires)) _ (presence_of c.args.component.now.presence) c.if-is_always_there.ensures (let w = c.in-Ok-false.field-0-test in let h : c.in-Ok-false.field-0 ≡ false = cc in subst (λ b. NextTagIs c.tag_at.result c.args.decoder.now (Ok b)) h c.in-Ok-false.ensures) _ c.missing.ensures.ok c.missing.ensures.err
 
 pub decode_component-returns-in-Ok-false-clause-fits : goal.decode_component-returns-in-Ok-false-clause-fits
 decode_component-returns-in-Ok-false-clause-fits t c = if_ok _ _ _ (λ v m. missing_fits (Fits c.args.types.now c.args.below) c.args.component.now v m) c.missing.ensures.ok
