@@ -2,7 +2,7 @@
 
 use rasn_schema::{
     Alternative, Component, LeafKind, NamedNumber, Presence, Schema, Type, TypeId, TypeName, Value,
-    alternative_named, component_named, name_of_number, number_named,
+    View, alternative_named, component_named, name_of_number, number_named,
 };
 use rasn_types::types::{BitString, Constraints, Integer, ObjectIdentifier, Tag};
 use std::alloc::{AllocError, Global};
@@ -161,30 +161,52 @@ fn component(alloc: Global, name: &str, id: usize) -> Result<Component, AllocErr
     })
 }
 
+/// Returns whether the part is there, and is this value.
+fn is_value(part: Option<View<'_, '_>>, value: &Value<'_>) -> bool {
+    match part {
+        Some(part) => part.value.means_same(value),
+        None => false,
+    }
+}
+
+/// Returns whether the part is there, and has a part with this name.
+fn has_part(part: Option<View<'_, '_>>, name: &str) -> bool {
+    match part {
+        Some(part) => part.get(name).is_some(),
+        None => false,
+    }
+}
+
+/// Returns the value `{ kind other, either flag : TRUE }`.
+fn a_pair(alloc: Global) -> Result<Value<'static>, AllocError> {
+    let mut values = numbers(alloc, &[7])?;
+    values.push(Value::Chosen(0, Box::new(alloc, Value::Boolean(true))?))?;
+    Ok(Value::Items(values))
+}
+
+/// Returns whether the parts of this value are found by index and by name.
+fn are_parts(view: &View<'_, '_>, seven: &Value<'_>) -> bool {
+    is_value(view.at(0), seven)
+        && is_value(view.get("kind"), seven)
+        && has_part(view.get("either"), "flag")
+        && !has_part(view.get("either"), "none")
+        && view.get("third").is_none()
+}
+
 fn is_found(alloc: Global) -> Result<Option<bool>, AllocError> {
     let Some(schema) = pair(alloc)? else {
         return Ok(None);
     };
-    let mut values = numbers(alloc, &[7])?;
-    values.push(Value::Chosen(0, Box::new(alloc, Value::Boolean(true))?))?;
-    let value = Value::Items(values);
     let Some(id) = schema.type_named("Pair") else {
         return Ok(None);
     };
+    let value = a_pair(alloc)?;
+    let seven = number(alloc, 7)?;
     let view = schema.view(id, &value);
     let shown = format!(in alloc; "{view}")?;
-    let seven = number(alloc, 7)?;
     Ok(Some(
         shown.as_str() == "{ kind other, either flag : TRUE }"
-            && view.at(0).is_some_and(|part| *part.value == seven)
-            && view.get("kind").is_some_and(|part| *part.value == seven)
-            && view
-                .get("either")
-                .is_some_and(|part| part.get("flag").is_some())
-            && view
-                .get("either")
-                .is_some_and(|part| part.get("none").is_none())
-            && view.get("third").is_none()
+            && are_parts(&view, &seven)
             && schema.type_named("Other").is_none(),
     ))
 }
