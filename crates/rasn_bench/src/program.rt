@@ -1,9 +1,4 @@
 //! The program's work: an answer for each line.
-ghost use Rattle.std.specs.Prelude.{IfOk};
-ghost use Rattle.rasn_types.specs.Shapes.{Shape};
-ghost use Rattle.rasn_bench.specs.declared.line.ValueType.{ValueType};
-ghost use Rattle.rasn_bench.specs.Answers.{IsAnswerBy};
-ghost use Rattle.rasn_bench.specs.NormalAnswers.{IsNormalAnswerBy};
 
 use crate::answer::Answer;
 use crate::normal_answer::NormalAnswer;
@@ -26,44 +21,32 @@ pub enum RunFault {
     Memory,
 }
 
-impl RunFault {
-    /// Returns what a refused read is.
-    pub fn of_read(kind: ErrorKind) -> RunFault {
-        match kind {
-            ErrorKind::OutOfMemory => RunFault::Memory,
-            _ => RunFault::Read,
-        }
-    }
+/// What is answered to a line.
+trait LineAnswer: fmt::Display + Drop {
+    /// The answer to a line without its line feed.
+    fn of_line(alloc: Global, line: &str) -> Result<Self, AllocError>;
+
+    /// Whether the line had a good form.
+    fn has_good_form(&self) -> bool;
 }
 
-/// What answers lines, whose types have these shapes.
-pub trait Answers {
-    ghost shape: { Self → ValueType → Shape };
-
-    /// Returns the answer to a line without its line feed.
-    fn answer(&self, alloc: Global, line: &str) -> Result<Answer, AllocError>
-        ensures { IfOk result (IsAnswerBy (shape self.now) line.now) };
-
-    /// Returns the answer to a line without its line feed, by the DER octets of its value alone.
-    fn normal_answer(&self, alloc: Global, line: &str) -> Result<NormalAnswer, AllocError>
-        ensures { IfOk result (IsNormalAnswerBy (shape self.now) line.now) };
-}
-
-/// Answers lines by the types of this crate.
-#[derive(Clone, Copy, Debug, PartialEq, Eq, Drop)]
-pub struct WorkedTypes;
-
-impl Answers for WorkedTypes {
-    ghost use Rattle.rasn_bench.specs.Answers.{shape_of};
-
-    ghost shape = { λ _. shape_of };
-
-    fn answer(&self, alloc: Global, line: &str) -> Result<Answer, AllocError> {
+impl LineAnswer for Answer {
+    fn of_line(alloc: Global, line: &str) -> Result<Answer, AllocError> {
         Answer::to_line(alloc, line)
     }
 
-    fn normal_answer(&self, alloc: Global, line: &str) -> Result<NormalAnswer, AllocError> {
+    fn has_good_form(&self) -> bool {
+        self.is_well_formed()
+    }
+}
+
+impl LineAnswer for NormalAnswer {
+    fn of_line(alloc: Global, line: &str) -> Result<NormalAnswer, AllocError> {
         NormalAnswer::to_line(alloc, line)
+    }
+
+    fn has_good_form(&self) -> bool {
+        self.is_well_formed()
     }
 }
 
@@ -74,7 +57,7 @@ pub fn run<R: BufRead, W: Write>(
     input: &mut R,
     output: &mut W,
 ) -> Result<bool, RunFault> {
-    run_by(alloc, &WorkedTypes, false, input, output)
+    answer_all::<Answer, R, W>(alloc, input, output)
 }
 
 /// As `run`, but each line is answered by the DER octets of its value alone.
@@ -83,14 +66,12 @@ pub fn run_normalise<R: BufRead, W: Write>(
     input: &mut R,
     output: &mut W,
 ) -> Result<bool, RunFault> {
-    run_by(alloc, &WorkedTypes, true, input, output)
+    answer_all::<NormalAnswer, R, W>(alloc, input, output)
 }
 
-/// As `run`, by these answers, and as `run_normalise` if `normalises`.
-pub fn run_by<A: Answers, R: BufRead, W: Write>(
+/// Answers all lines.
+fn answer_all<A: LineAnswer, R: BufRead, W: Write>(
     alloc: Global,
-    answers: &A,
-    normalises: bool,
     input: &mut R,
     output: &mut W,
 ) -> Result<bool, RunFault> {
@@ -101,14 +82,20 @@ pub fn run_by<A: Answers, R: BufRead, W: Write>(
         match input.read_until(b'\n', &mut line) {
             Ok(0) => break,
             Ok(_) => {}
-            Err(error) => return Err(RunFault::of_read(error.kind())),
+            Err(error) => {
+                return Err(if error.kind() == ErrorKind::OutOfMemory {
+                    RunFault::Memory
+                } else {
+                    RunFault::Read
+                });
+            }
         }
         let text = without_line_feed(&line);
         let Ok(text) = str::from_utf8(text) else {
             return Err(RunFault::Read);
         };
         if !text.is_empty() {
-            well_formed &= answer_line(alloc, answers, normalises, text, output)?;
+            well_formed &= answer_line::<A, W>(alloc, text, output)?;
         }
     }
     match output.flush() {
@@ -126,30 +113,16 @@ fn without_line_feed(line: &[u8]) -> &[u8] {
 }
 
 /// Writes the answer to a line, and returns whether the line had a good form.
-fn answer_line<A: Answers, W: Write>(
+fn answer_line<A: LineAnswer, W: Write>(
     alloc: Global,
-    answers: &A,
-    normalises: bool,
     line: &str,
     output: &mut W,
 ) -> Result<bool, RunFault> {
-    if normalises {
-        let Ok(answer) = answers.normal_answer(alloc, line) else {
-            return Err(RunFault::Memory);
-        };
-        write_line(output, &answer)?;
-        return Ok(answer.is_well_formed());
-    }
-    let Ok(answer) = answers.answer(alloc, line) else {
+    let Ok(answer) = A::of_line(alloc, line) else {
         return Err(RunFault::Memory);
     };
-    write_line(output, &answer)?;
-    Ok(answer.is_well_formed())
-}
-
-fn write_line<A: fmt::Display, W: Write>(output: &mut W, answer: &A) -> Result<(), RunFault> {
     match writeln!(output, "{answer}") {
-        Ok(()) => Ok(()),
+        Ok(()) => Ok(answer.has_good_form()),
         Err(_) => Err(RunFault::Write),
     }
 }
