@@ -1,5 +1,5 @@
 -- What is read inside values that hold others: elements, components and alternatives.
-use Rattle.std.proofs.Common.{◌≡◌, ℕ, zero, suc, ◌≤◌, inl, inr, Bool, List, [], ◌∷◌, ◌++◌, map, length, Vec, Global, Result, Ok, Err, refl, sym, ap, ◌∙◌, subst}
+use Rattle.std.proofs.Common.{◌≡◌, ℕ, zero, suc, ◌≤◌, inl, inr, Bool, List, String, [], ◌∷◌, ◌++◌, map, length, Vec, Global, Result, Ok, Err, refl, sym, ap, ◌∙◌, subst}
 use Rattle.std.proofs.lemmas.List.{length-map}
 use Rattle.std.specs.Prelude.{Option, Some, slice_get}
 use Rattle.rasn_types.specs.declared.types.tag.Tag.{Tag}
@@ -241,7 +241,7 @@ sequence_runs_out ps old e m = alloc_failed (ReadsSequence ps) values_tree old o
 
 -- A type that holds no others has no such contents.
 module _ (f : ℕ → Shape) where
-  none_inside : (ty : «Type») → ((tag : Tag) (k : TypeId) → ty ≡ Tagged tag k → ⊥) → ((tag : Tag) (ps : Vec Component Global) → ty ≡ Sequence tag ps → ⊥) → ((tag : Tag) (ps : Vec Component Global) → ty ≡ Set tag ps → ⊥)
+  none_inside : (ty : «Type») → ((tag : Tag) (k : TypeId) → ty ≡ Tagged tag k → ⊥) → ((tag : Tag) (ps : Vec Component Global) → ty ≡ Sequence tag ps → ⊥) → ((name : String Global) (tag : Tag) (ps : Vec Component Global) → ty ≡ Set name tag ps → ⊥)
       → ((tag : Tag) (k : TypeId) (c : Constraints) → ty ≡ SequenceOf tag k c → ⊥) → ((tag : Tag) (k : TypeId) (c : Constraints) → ty ≡ SetOf tag k c → ⊥)
       → (rule : Codec) (depth : ℕ) (closing : Bool) (input : List ℕ) (t : Tree) (r : List ℕ) → ReadsInside (type_by f ty) rule depth closing input t r → ⊥
   unfolding ReadsInside
@@ -251,11 +251,11 @@ module _ (f : ℕ → Shape) where
   none_inside (Tagged tag k) a b d e g rule depth closing input t r h = a tag k refl
   none_inside (Choice name ks) a b d e g rule depth closing input t r h = h
   none_inside (Sequence tag ps) a b d e g rule depth closing input t r h = b tag ps refl
-  none_inside (Set tag ps) a b d e g rule depth closing input t r h = d tag ps refl
+  none_inside (Set name tag ps) a b d e g rule depth closing input t r h = d name tag ps refl
   none_inside (SequenceOf tag k c) a b d e g rule depth closing input t r h = e tag k c refl
   none_inside (SetOf tag k c) a b d e g rule depth closing input t r h = g tag k c refl
 
-  pub inside_none : (ty : «Type») → ((tag : Tag) (k : TypeId) → ty ≡ Tagged tag k → ⊥) → ((tag : Tag) (ps : Vec Component Global) → ty ≡ Sequence tag ps → ⊥) → ((tag : Tag) (ps : Vec Component Global) → ty ≡ Set tag ps → ⊥)
+  pub inside_none : (ty : «Type») → ((tag : Tag) (k : TypeId) → ty ≡ Tagged tag k → ⊥) → ((tag : Tag) (ps : Vec Component Global) → ty ≡ Sequence tag ps → ⊥) → ((name : String Global) (tag : Tag) (ps : Vec Component Global) → ty ≡ Set name tag ps → ⊥)
       → ((tag : Tag) (k : TypeId) (c : Constraints) → ty ≡ SequenceOf tag k c → ⊥) → ((tag : Tag) (k : TypeId) (c : Constraints) → ty ≡ SetOf tag k c → ⊥)
       → (old : State) (kind : DecodeErrorKind) → DecodesExactly (ReadsInside (type_by f ty)) old (refusal kind) old
   inside_none ty a b d e g old kind = record {

@@ -101,7 +101,7 @@ unfit_in h (Enumerated tag ns) v p n a = a
 unfit_in h (Any tag) v p n a = a
 unfit_in h (Choice name ks) v p n a = a
 unfit_in h (Sequence tag ps) v p n a = a
-unfit_in h (Set tag ps) v p n a = a
+unfit_in h (Set name tag ps) v p n a = a
 unfit_in h (SequenceOf tag k c) v p n a = a
 unfit_in h (SetOf tag k c) v p n a = a
 

@@ -62,6 +62,7 @@ fn types(alloc: Global) -> Result<Vec<Type>, AllocError> {
         alternatives: alternatives(alloc)?,
     })?;
     list.push(Type::Set {
+        name: String::from_str(alloc, "Both")?,
         tag: Tag::SET,
         components: components(alloc)?,
     })?;

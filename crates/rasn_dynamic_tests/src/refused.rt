@@ -152,7 +152,7 @@ fn components_that_clash_are_refused(rt: HostRuntime) {
             },
         ),
         (
-            &[FLAG, Definition::Set(Tag::SET, ADDITION)],
+            &[FLAG, Definition::Set("Both", Tag::SET, ADDITION)],
             SchemaError::AdditionInSet {
                 id: TypeId(1),
                 index: 0,
@@ -162,7 +162,7 @@ fn components_that_clash_are_refused(rt: HostRuntime) {
             &[
                 FLAG,
                 Definition::Any(Tag::EOC),
-                Definition::Set(Tag::SET, OPEN),
+                Definition::Set("Both", Tag::SET, OPEN),
             ],
             SchemaError::UntaggedInSet {
                 id: TypeId(2),
@@ -170,7 +170,7 @@ fn components_that_clash_are_refused(rt: HostRuntime) {
             },
         ),
         (
-            &[FLAG, Definition::Set(Tag::SET, TWICE)],
+            &[FLAG, Definition::Set("Both", Tag::SET, TWICE)],
             SchemaError::SetClash {
                 id: TypeId(1),
                 index: 0,
@@ -181,7 +181,7 @@ fn components_that_clash_are_refused(rt: HostRuntime) {
             &[
                 FLAG,
                 Definition::Leaf(LeafKind::Integer, Tag::INTEGER),
-                Definition::Set(Tag::SET, FALLING),
+                Definition::Set("Both", Tag::SET, FALLING),
             ],
             SchemaError::SetOutOfOrder {
                 id: TypeId(2),

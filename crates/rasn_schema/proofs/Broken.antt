@@ -157,7 +157,7 @@ type_broken own f id (Any tag) e h w = h
 type_broken own f id (Tagged tag k) e h w = tagged_broken f id tag k.0 e h w
 type_broken own f id (Choice name ks) e h w = choice_broken f id ks.items e h w
 type_broken own f id (Sequence tag ps) e h w = sequence_broken own f id tag ps.items e h w
-type_broken own f id (Set tag ps) e h w = set_broken f id tag ps.items e h w
+type_broken own f id (Set name tag ps) e h w = set_broken f id tag ps.items e h w
 type_broken own f id (SequenceOf tag k c) e h w = tag_broken id tag e h w
 type_broken own f id (SetOf tag k c) e h w = tag_broken id tag e h w
 
@@ -198,7 +198,7 @@ module _ (own : ℕ → Option Tag) (f : ℕ → Shape) (types : List «Type») 
       go (Tagged tag j) e = o k (Tagged tag j) e (λ h. h)
       go (Choice name ks) e = c k (Choice name ks) e tt
       go (Sequence tag ps) e = o k (Sequence tag ps) e (λ h. h)
-      go (Set tag ps) e = o k (Set tag ps) e (λ h. h)
+      go (Set name tag ps) e = o k (Set name tag ps) e (λ h. h)
       go (SequenceOf tag j b) e = o k (SequenceOf tag j b) e (λ h. h)
       go (SetOf tag j b) e = o k (SetOf tag j b) e (λ h. h)
 

@@ -135,7 +135,7 @@ module _ (f g : ℕ → Shape) (rule : Codec) (depth id : ℕ) (low : (k : ℕ) 
   type_in (Tagged tag k) b input t rest (p, bit, s, r) = (p, bit, s, inside_in _ _ (λ c. (one p k.0).reads c) rule tag bit input t rest r)
   type_in (Choice name ks) b input t rest r = alternative_in f g rule depth closing id low ks.items b 0 input t rest r
   type_in (Sequence tag ps) b input t rest (p, r) = (p, inside_in _ _ (λ c. sequence_in f g rule (depth - 1) c (one p) ps.items) rule tag true input t rest r)
-  type_in (Set tag ps) b input t rest (p, r) = (p, inside_in _ _ (λ c. set_in f g rule (depth - 1) c (one p) ps.items) rule tag true input t rest r)
+  type_in (Set name tag ps) b input t rest (p, r) = (p, inside_in _ _ (λ c. set_in f g rule (depth - 1) c (one p) ps.items) rule tag true input t rest r)
   type_in (SequenceOf tag k c) b input t rest (p, r) = (p, inside_in _ _ (λ e. list_in _ _ ((two p k.0).reads e) c.size e) rule tag true input t rest r)
   type_in (SetOf tag k c) b input t rest (p, r) = (p, inside_in _ _ (λ e. set_of_in _ _ ((two p k.0).reads e) rule c.size e) rule tag true input t rest r)
 

@@ -28,7 +28,7 @@ node_present f h (Any tag) = tt
 node_present f h (Tagged tag k) = tt
 node_present f h (Choice name ks) = all_present f h ks.items
 node_present f h (Sequence tag ps) = tt
-node_present f h (Set tag ps) = tt
+node_present f h (Set name tag ps) = tt
 node_present f h (SequenceOf tag k c) = tt
 node_present f h (SetOf tag k c) = tt
 
@@ -93,7 +93,7 @@ module _ (f : ℕ → Shape) where
   others_have_tag (Tagged tag k) n = tt
   others_have_tag (Choice name ks) n = tt
   others_have_tag (Sequence tag ps) n = tt
-  others_have_tag (Set tag ps) n = tt
+  others_have_tag (Set name tag ps) n = tt
   others_have_tag (SequenceOf tag k c) n = tt
   others_have_tag (SetOf tag k c) n = tt
 

@@ -42,7 +42,7 @@ module _ (f g : ℕ → Shape) (n : Tag) (id : ℕ) (h : (k : ℕ) → k < id �
   found_firsts (Some (Tagged tag k)) b a = a
   found_firsts (Some (Choice name ks)) b a = firsts_before ks.items b a
   found_firsts (Some (Sequence tag ps)) b a = a
-  found_firsts (Some (Set tag ps)) b a = a
+  found_firsts (Some (Set name tag ps)) b a = a
   found_firsts (Some (SequenceOf tag k c)) b a = a
   found_firsts (Some (SetOf tag k c)) b a = a
 
@@ -68,7 +68,7 @@ module _ (n : Tag) where
   cut_firsts g (Some (Tagged tag k)) a = cut_first tag (is_eoc tag) refl a
   cut_firsts g (Some (Choice name ks)) a = absurd a
   cut_firsts g (Some (Sequence tag ps)) a = cut_first tag (is_eoc tag) refl a
-  cut_firsts g (Some (Set tag ps)) a = cut_first tag (is_eoc tag) refl a
+  cut_firsts g (Some (Set name tag ps)) a = cut_first tag (is_eoc tag) refl a
   cut_firsts g (Some (SequenceOf tag k c)) a = cut_first tag (is_eoc tag) refl a
   cut_firsts g (Some (SetOf tag k c)) a = cut_first tag (is_eoc tag) refl a
 
@@ -96,7 +96,7 @@ node_before types k (Any tag) w = tt
 node_before types k (Tagged tag j) w = tt
 node_before types k (Choice name ks) w = lower_before (begin_at types) k ks.items w.1
 node_before types k (Sequence tag ps) w = tt
-node_before types k (Set tag ps) w = tt
+node_before types k (Set name tag ps) w = tt
 node_before types k (SequenceOf tag j c) w = tt
 node_before types k (SetOf tag j c) w = tt
 
@@ -129,7 +129,7 @@ found_has_tag f g (Some (Any tag)) w = w
 found_has_tag f g (Some (Tagged tag k)) w = tt
 found_has_tag f g (Some (Choice name ks)) w = tt
 found_has_tag f g (Some (Sequence tag ps)) w = tt
-found_has_tag f g (Some (Set tag ps)) w = tt
+found_has_tag f g (Some (Set name tag ps)) w = tt
 found_has_tag f g (Some (SequenceOf tag k c)) w = tt
 found_has_tag f g (Some (SetOf tag k c)) w = tt
 
@@ -241,7 +241,7 @@ module _ (types : List «Type») (i : ℕ) (w : IsSchema types) (lawful : (k : �
   type_lawful id (Tagged tag k) t = (t.0, is_present types i k.0, lawful k.0)
   type_lawful id (Choice name ks) t = alternatives_lawful id ks.items t.1 t.2
   type_lawful id (Sequence tag ps) t = (t.0, in_order_lawful ps.items t.1)
-  type_lawful id (Set tag ps) t = (t.0, by_tag_lawful ps.items t.1 t.2)
+  type_lawful id (Set name tag ps) t = (t.0, by_tag_lawful ps.items t.1 t.2)
   type_lawful id (SequenceOf tag k c) t = (t, is_present types i k.0, lawful k.0)
   type_lawful id (SetOf tag k c) t = (t, is_present types i k.0, lawful k.0)
 

@@ -44,7 +44,7 @@ node_own f (Any tag) h = refl
 node_own f (Tagged tag k) h = looked tag h.0
 node_own f (Choice name ks) h = refl
 node_own f (Sequence tag ps) h = looked tag h.0
-node_own f (Set tag ps) h = looked tag h.0
+node_own f (Set name tag ps) h = looked tag h.0
 node_own f (SequenceOf tag k c) h = looked tag h.0
 node_own f (SetOf tag k c) h = looked tag h.0
 

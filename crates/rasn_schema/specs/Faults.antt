@@ -73,7 +73,7 @@ IsFaultOf own f id (Any tag) e = ⊥
 IsFaultOf own f id (Tagged tag k) e = IsTaggedFault f id tag k.0 e
 IsFaultOf own f id (Choice name ks) e = IsAlternativesFault f id ks.items e
 IsFaultOf own f id (Sequence tag ps) e = IsSequenceFault own f id tag ps.items e
-IsFaultOf own f id (Set tag ps) e = IsSetFault f id tag ps.items e
+IsFaultOf own f id (Set name tag ps) e = IsSetFault f id tag ps.items e
 IsFaultOf own f id (SequenceOf tag k c) e = IsTagFault id tag e
 IsFaultOf own f id (SetOf tag k c) e = IsTagFault id tag e
 

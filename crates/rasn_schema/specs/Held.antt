@@ -25,7 +25,7 @@ IsAlternativeNamed ks name id = (i : ℕ) × (a : Alternative) × (Some a ≡ sl
 -- Part k of a value of this type has this name, and its type this number.
 abbrev pub IsPartNamed : «Type» → List ℕ → ℕ → TypeId → Type 0
 IsPartNamed (Sequence tag ps) name k id = IsComponentNamed ps.items name k id
-IsPartNamed (Set tag ps) name k id = IsComponentNamed ps.items name k id
+IsPartNamed (Set n tag ps) name k id = IsComponentNamed ps.items name k id
 IsPartNamed (Choice n ks) name k id = (k ≡ 0) × IsAlternativeNamed ks.items name id
 IsPartNamed _ name k id = ⊥
 

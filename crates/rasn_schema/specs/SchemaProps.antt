@@ -98,7 +98,7 @@ type_prop own f id (Any tag) = Unit-prop
 type_prop own f id (Tagged tag k) = ×_prop (not_prop (tag ≡ eoc)) (each_prop _ (λ h. le_prop))
 type_prop own f id (Choice name ks) = three_prop (not_prop (ks.items ≡ [])) (lower_prop f id ks.items) (alternatives_prop f ks.items)
 type_prop own f id (Sequence tag ps) = ×_prop (not_prop (tag ≡ eoc)) (in_order_prop own f ps.items)
-type_prop own f id (Set tag ps) = three_prop (not_prop (tag ≡ eoc)) (tagged_prop f ps.items) (of_tags_prop f ps.items)
+type_prop own f id (Set name tag ps) = three_prop (not_prop (tag ≡ eoc)) (tagged_prop f ps.items) (of_tags_prop f ps.items)
 type_prop own f id (SequenceOf tag k c) = not_prop _
 type_prop own f id (SetOf tag k c) = not_prop _
 

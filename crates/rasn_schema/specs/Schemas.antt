@@ -68,7 +68,7 @@ IsWellFormed own f id (Any tag) = Unit {0}
 IsWellFormed own f id (Tagged tag k) = (tag ≢ eoc) × (IsPrefix (f k.0) → k.0 < id)
 IsWellFormed own f id (Choice name ks) = (ks.items ≢ []) × AreLowerAndTagged f id ks.items × AreDistinctAlternatives f ks.items
 IsWellFormed own f id (Sequence tag ps) = (tag ≢ eoc) × AreToldInOrder own f ps.items
-IsWellFormed own f id (Set tag ps) = (tag ≢ eoc) × AreTagged f ps.items × AreInOrderOfTags f ps.items
+IsWellFormed own f id (Set name tag ps) = (tag ≢ eoc) × AreTagged f ps.items × AreInOrderOfTags f ps.items
 IsWellFormed own f id (SequenceOf tag k c) = tag ≢ eoc
 IsWellFormed own f id (SetOf tag k c) = tag ≢ eoc
 

@@ -67,7 +67,7 @@ type_by f (Any tag) = any (looked_for tag)
 type_by f (Tagged tag k) = prefix tag (f k.0)
 type_by f (Choice name ks) = choice (alternatives_by f ks.items)
 type_by f (Sequence tag ps) = seq tag (components_by f ps.items)
-type_by f (Set tag ps) = set tag (components_by f ps.items)
+type_by f (Set name tag ps) = set tag (components_by f ps.items)
 type_by f (SequenceOf tag k c) = list tag (f k.0) c.size
 type_by f (SetOf tag k c) = set_of tag (f k.0) c.size
 
@@ -79,7 +79,7 @@ tag_of_type (Any tag) = tag
 tag_of_type (Tagged tag k) = tag
 tag_of_type (Choice name ks) = eoc
 tag_of_type (Sequence tag ps) = tag
-tag_of_type (Set tag ps) = tag
+tag_of_type (Set name tag ps) = tag
 tag_of_type (SequenceOf tag k c) = tag
 tag_of_type (SetOf tag k c) = tag
 

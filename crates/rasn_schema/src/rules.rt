@@ -469,7 +469,11 @@ fn type_fault(types: &[Type], levels: usize, id: TypeId, ty: &Type) -> Option<Sc
         Type::Choice { alternatives, .. } => choice_fault(types, levels, id, alternatives),
         Type::Tagged { tag, inner } => tagged_fault(types, levels, id, *tag, *inner),
         Type::Sequence { tag, components } => sequence_fault(types, levels, id, *tag, components),
-        Type::Set { tag, components } => set_fault(types, levels, id, *tag, components),
+        Type::Set {
+            tag,
+            components,
+            ..
+        } => set_fault(types, levels, id, *tag, components),
         Type::SequenceOf { tag, .. } => tag_fault(id, *tag),
         Type::SetOf { tag, .. } => tag_fault(id, *tag),
     }

@@ -89,8 +89,10 @@ pub enum Type {
         tag: Tag,
         components: Vec<Component>,
     },
-    /// A SET (X.680 27), its components in the order of their tags (X.680 8.6).
+    /// A SET (X.680 27), with the name that errors have for it, and its components in the order of
+    /// their tags (X.680 8.6).
     Set {
+        name: String,
         tag: Tag,
         components: Vec<Component>,
     },

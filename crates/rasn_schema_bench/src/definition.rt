@@ -26,8 +26,8 @@ pub enum Definition {
     Choice(&'static str, &'static [(&'static str, usize)]),
     /// A SEQUENCE.
     Sequence(Tag, &'static [Part]),
-    /// A SET.
-    Set(Tag, &'static [Part]),
+    /// A SET: its name, its tag and its components.
+    Set(&'static str, Tag, &'static [Part]),
     /// A SEQUENCE OF.
     SequenceOf(Tag, usize, Constraints),
     /// A SET OF.
@@ -100,7 +100,8 @@ fn defined(alloc: Global, definition: &Definition) -> Result<Type, AllocError> {
             tag: *tag,
             components: components(alloc, parts)?,
         },
-        Definition::Set(tag, parts) => Type::Set {
+        Definition::Set(name, tag, parts) => Type::Set {
+            name: String::from_str(alloc, name)?,
             tag: *tag,
             components: components(alloc, parts)?,
         },
