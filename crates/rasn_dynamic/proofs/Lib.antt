@@ -1,5 +1,6 @@
 pub mod Inside
 pub mod Contents
+pub mod Typed
 pub mod Nothing
 pub mod OnePart
 pub mod Chosen

@@ -37,6 +37,7 @@ pub fn decode_with_remainder<'input>(
 ) -> Result<(Value<'input>, &'input [u8]), DecodeError>
     ensures exact { Answered rule (shape_of schema.now.types.items id.0) tree_of input.now result }
     ensures fits { IfOk result (λ read. FitsType schema.now.types.items id.0 read.0) }
+    ensures rules { IfErr result (λ e. e.codec ≡ rule) }
 {
     let mut decoder = Decoder::new(alloc, input, DecoderOptions::of(rule));
     let value = decode_at(&mut decoder, schema.types(), usize::MAX, id)?;
@@ -57,6 +58,7 @@ pub fn decode<'input>(
     ensures exact { AnsweredAlone rule (shape_of schema.now.types.items id.0) tree_of input.now result }
     ensures written { rule ≡ Der → IsAsWritten (shape_of schema.now.types.items id.0) tree_of input.now result }
     ensures fits { IfOk result (λ v. FitsType schema.now.types.items id.0 v) }
+    ensures rules { IfErr result (λ e. e.codec ≡ rule) }
 {
     let (value, remainder) = decode_with_remainder(alloc, rule, schema, id, input)?;
     refuse_remainder(rule, remainder)?;
