@@ -1,5 +1,5 @@
 -- A SEQUENCE is read where its parts are read inside, one of which is required or none an addition: empty contents leave all of them out.
-use Rattle.std.proofs.Common.{◌≡◌, ◌≢◌, ℕ, ◌-◌, ◌⊎◌, ◌||◌, ◌&&◌, not, inl, inr, Bool, true, false, List, [], ◌∷◌, Option, Some, None, Result, Ok, refl, ap, sym, ◌∙◌, subst}
+use Rattle.std.proofs.Common.{◌≡◌, ◌≢◌, ℕ, ◌⊎◌, ◌||◌, ◌&&◌, not, inl, inr, Bool, true, false, List, [], ◌∷◌, Option, Some, None, Result, Ok, refl, ap, sym, ◌∙◌, subst}
 use Rattle.rasn_types.specs.declared.types.tag.Tag.{Tag}
 use Rattle.rasn_types.specs.declared.types.codec.Codec.{Codec}
 use Rattle.rasn_types.specs.declared.error.decode.DecodeError.{DecodeError}
@@ -7,7 +7,7 @@ use Rattle.rasn_types.specs.Tags.{Form, form}
 use Rattle.rasn_types.specs.Framing.{AreOctets}
 use Rattle.rasn_types.specs.Shapes.{Shape, Tree, seq, Parts, part, required, optional, addition, default, own, looked_for}
 use Rattle.rasn_types.specs.Shapes.Parts.{none}
-use Rattle.rasn_types.specs.Readings.{Reading, HasRequired, ReadsInOrder, AllMissing, presences_in, IsLeftOut, IsPresent}
+use Rattle.rasn_types.specs.Readings.{ReadsInOrder, AllMissing, presences_in, IsLeftOut, IsPresent}
 use Rattle.rasn_types.specs.Grammar.{Reads, parts_of}
 use Rattle.rasn_types.specs.Described.{has_required, has_addition}
 use Rattle.rasn_types.proofs.Time.Spellings.{both_true}
