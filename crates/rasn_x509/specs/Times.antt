@@ -1,11 +1,15 @@
 -- Time ::= CHOICE { utcTime UTCTime, generalTime GeneralizedTime }
-use Rattle.std.specs.Prelude.{ℕ}
+use Rattle.std.specs.Prelude.{ℕ, List, codes}
 use Rattle.rasn_types.specs.Tags.{in_universal}
 use Rattle.rasn_types.specs.Shapes.{Shape, Tree, instant, chosen, leaf, utc_time, generalized_time, choice, Parts, part, required}
 use Rattle.rasn_types.specs.Shapes.Parts.{none}
 use Rattle.rasn_types.specs.Trees.{unconstrained}
 use Rattle.rasn_x509.specs.declared.time.Time.{Time}
 use Rattle.rasn_x509.specs.declared.time.Time.TheVariants.{Utc, General}
+
+-- its name, as refusals have it
+abbrev pub time_name : List ℕ
+time_name = codes "Time"
 
 abbrev pub time_alternatives : Parts
 time_alternatives = part required (leaf utc_time (in_universal 23) unconstrained) (part required (leaf generalized_time (in_universal 24) unconstrained) none)
