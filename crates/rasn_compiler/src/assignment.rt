@@ -1,0 +1,110 @@
+//! Assignments (X.680 16, X.681 9 to 12, X.683 8).
+use crate::fault::Stop;
+use crate::parser::{MAX_DEPTH, Parser};
+use crate::token::Kind;
+use crate::tree::{Assigned, Assignment, Unread};
+
+impl<'tokens, 'text> Parser<'tokens, 'text> {
+    /// Reads an assignment.
+    pub(crate) fn assignment(&mut self) -> Result<Assignment<'text>, Stop<'text>> {
+        let position = self.position();
+        let is_upper = self.peek() == Kind::Upper;
+        if !is_upper && self.peek() != Kind::Lower {
+            return Err(self.refuse("an assignment"));
+        }
+        let name = self.take();
+        if self.eat("MACRO") {
+            self.macro_body()?;
+            return Ok(Assignment {
+                name,
+                position,
+                parameters: None,
+                assigned: Assigned::Macro,
+            });
+        }
+        let parameters = self.braces()?;
+        let assigned = if !self.is("::=") {
+            self.governed(is_upper)?
+        } else if is_upper {
+            self.skip(1);
+            self.type_or_class()?
+        } else {
+            return Err(self.refuse("a type"));
+        };
+        Ok(Assignment {
+            name,
+            position,
+            parameters,
+            assigned,
+        })
+    }
+
+    /// Reads what follows `::=` and no type governs.
+    fn type_or_class(&mut self) -> Result<Assigned<'text>, Stop<'text>> {
+        if self.eat("CLASS") {
+            let fields = self.expect_braces()?;
+            let syntax = self.class_syntax()?;
+            return Ok(Assigned::Class { fields, syntax });
+        }
+        if self.begins_macro_use() {
+            self.skip_to_assignment();
+            return Ok(Assigned::Macro);
+        }
+        Ok(Assigned::Type(self.read_type(MAX_DEPTH)?))
+    }
+
+    /// Takes what stands in braces, which have to be next.
+    fn expect_braces(&mut self) -> Result<Unread<'text>, Stop<'text>> {
+        match self.braces()? {
+            Some(inner) => Ok(inner),
+            None => Err(self.refuse("{")),
+        }
+    }
+
+    /// Takes WITH SYNTAX of a class (X.681 10).
+    fn class_syntax(&mut self) -> Result<Option<Unread<'text>>, Stop<'text>> {
+        if !self.eat("WITH") {
+            return Ok(None);
+        }
+        self.expect("SYNTAX")?;
+        Ok(Some(self.expect_braces()?))
+    }
+
+    /// Reads a value, an object or a set of them, with the type or the class before it.
+    fn governed(&mut self, is_set: bool) -> Result<Assigned<'text>, Stop<'text>> {
+        let start = self.rest;
+        let may_be_macro = self.is_capitals();
+        let governor = self.read_type(MAX_DEPTH);
+        if may_be_macro && (governor.is_err() || !self.is("::=")) {
+            self.rest = start;
+            return self.macro_value();
+        }
+        let of = governor?;
+        self.expect("::=")?;
+        if is_set {
+            let members = self.expect_braces()?;
+            return Ok(Assigned::Values { of, members });
+        }
+        let value = self.value()?;
+        Ok(Assigned::Value { of, value })
+    }
+
+    /// Takes what a macro is used for: its notation, and a value (X.208 A).
+    fn macro_value(&mut self) -> Result<Assigned<'text>, Stop<'text>> {
+        self.skip_until("::=");
+        self.expect("::=")?;
+        self.value()?;
+        Ok(Assigned::Macro)
+    }
+
+    /// Takes a macro's body, from `::=` to END (X.208 A).
+    fn macro_body(&mut self) -> Result<(), Stop<'text>> {
+        self.expect("::=")?;
+        if !self.is("BEGIN") {
+            self.expect_kind(Kind::Upper, "BEGIN")?;
+            return Ok(());
+        }
+        self.skip_until("END");
+        self.expect("END")
+    }
+}

@@ -1,0 +1,28 @@
+//! ASN.1 modules (X.680), read as text at run time.
+#![tactic(auto)]
+
+mod assignment;
+mod component;
+mod fault;
+mod imports;
+mod lexer;
+mod module;
+mod modules;
+mod names;
+mod parser;
+mod position;
+mod recovery;
+mod tags;
+mod token;
+mod tree;
+mod types;
+mod value;
+mod words;
+
+pub use fault::{Fault, Problem, Stop};
+pub use modules::{Modules, Source};
+pub use position::Position;
+pub use tree::{
+    Assigned, Assignment, Base, Builtin, Component, Import, ListOf, Module, NamedNumber, Presence,
+    Tag, TagClass, Tagging, Type, TypeIndex, Unread, Value,
+};

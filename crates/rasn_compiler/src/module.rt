@@ -1,0 +1,154 @@
+//! Modules (X.680 13).
+ghost use Rattle.std.specs.Prelude.{◌<◌, length, OnOk};
+
+use crate::fault::{Fault, Stop};
+use crate::parser::Parser;
+use crate::token::Kind;
+use crate::tree::{Assignment, Import, Meaning, Module, Tagging};
+use std::alloc::{AllocError, Global};
+use std::collections::BTreeMap;
+use std::mem;
+
+impl<'tokens, 'text> Parser<'tokens, 'text> {
+    /// Reads a module. The faults of its assignments are added.
+    pub(crate) fn module(
+        &mut self,
+        faults: &mut Vec<Fault<'text>>,
+    ) -> Result<Module<'text>, Stop<'text>> {
+        let position = self.position();
+        let name = self.expect_kind(Kind::Upper, "a module's name")?;
+        let identifier = self.braces()?;
+        // The identifier as an IRI.
+        if self.peek() == Kind::Text {
+            self.skip(1);
+        }
+        self.expect("DEFINITIONS")?;
+        let tagging = self.tagging()?;
+        let is_extensible = self.extensibility()?;
+        self.expect("::=")?;
+        self.expect("BEGIN")?;
+        self.exports()?;
+        let imports = self.imports()?;
+        let assignments = self.assignments(faults)?;
+        let meanings = meanings(self.alloc, &imports, &assignments)?;
+        let types = mem::replace(&mut self.types, Vec::new(self.alloc));
+        Ok(Module {
+            source: self.source.name,
+            name,
+            position,
+            identifier,
+            tagging,
+            is_extensible,
+            imports,
+            types,
+            assignments,
+            meanings,
+        })
+    }
+
+    /// Reads the module's default of tags (X.680 13.2).
+    fn tagging(&mut self) -> Result<Tagging, Stop<'text>> {
+        let tagging = if self.eat("EXPLICIT") {
+            Tagging::Explicit
+        } else if self.eat("IMPLICIT") {
+            Tagging::Implicit
+        } else if self.eat("AUTOMATIC") {
+            Tagging::Automatic
+        } else {
+            return Ok(Tagging::Explicit);
+        };
+        self.expect("TAGS")?;
+        Ok(tagging)
+    }
+
+    /// Reads EXTENSIBILITY IMPLIED (X.680 13.4).
+    fn extensibility(&mut self) -> Result<bool, Stop<'text>> {
+        if !self.eat("EXTENSIBILITY") {
+            return Ok(false);
+        }
+        self.expect("IMPLIED")?;
+        Ok(true)
+    }
+
+    /// Reads assignments up to END.
+    fn assignments(
+        &mut self,
+        faults: &mut Vec<Fault<'text>>,
+    ) -> Result<Vec<Assignment<'text>>, Stop<'text>> {
+        let mut assignments = Vec::new(self.alloc);
+        for _ in 0..self.rest.len() {
+            if self.eat("END") {
+                return Ok(assignments);
+            }
+            if self.rest.is_empty() {
+                break;
+            }
+            self.next_assignment(&mut assignments, faults)?;
+        }
+        if let Stop::Fault(fault) = self.refuse("END") {
+            faults.push(fault)?;
+        }
+        Ok(assignments)
+    }
+
+    /// Reads an assignment, or its fault, and goes on after it. At least one item is taken.
+    fn next_assignment(
+        &mut self,
+        assignments: &mut Vec<Assignment<'text>>,
+        faults: &mut Vec<Fault<'text>>,
+    ) -> Result<(), AllocError>
+        requires { 0 < length self.old.rest.now }
+        ensures { OnOk result (length self.new.rest.now < length self.old.rest.now) }
+    {
+        let start = self.rest;
+        match self.assignment() {
+            Ok(assignment) => assignments.push(assignment)?,
+            Err(Stop::OutOfMemory) => return Err(AllocError),
+            Err(Stop::Fault(fault)) => {
+                faults.push(fault)?;
+                if self.rest.len() == start.len() {
+                    self.skip(1);
+                }
+                self.skip_to_assignment();
+            }
+        }
+        self.make_progress(start);
+        Ok(())
+    }
+}
+
+/// Returns what each name of a module means. Of several assignments to a name, the first counts; an own one counts before one that is imported.
+fn meanings(
+    alloc: Global,
+    imports: &[Import<'_>],
+    assignments: &[Assignment<'_>],
+) -> Result<BTreeMap<String, Meaning>, AllocError> {
+    let mut meanings = BTreeMap::new(alloc);
+    for (index, assignment) in assignments.iter().enumerate() {
+        add_meaning(
+            alloc,
+            &mut meanings,
+            assignment.name,
+            Meaning::Assigned(index),
+        )?;
+    }
+    for (index, import) in imports.iter().enumerate() {
+        for symbol in &import.symbols {
+            add_meaning(alloc, &mut meanings, symbol, Meaning::Imported(index))?;
+        }
+    }
+    Ok(meanings)
+}
+
+/// Adds what a name means, unless something else is known of it.
+fn add_meaning(
+    alloc: Global,
+    meanings: &mut BTreeMap<String, Meaning>,
+    name: &str,
+    meaning: Meaning,
+) -> Result<(), AllocError> {
+    if !meanings.contains_key(name) {
+        meanings.insert(String::from_str(alloc, name)?, meaning)?;
+    }
+    Ok(())
+}

@@ -1,0 +1,215 @@
+//! The items that are left to read.
+ghost use Rattle.std.specs.Prelude.{◌≡◌, ◌+◌, ◌<◌, length, IfOk};
+
+use crate::fault::{Fault, Problem, Stop};
+use crate::modules::Source;
+use crate::position::Position;
+use crate::token::{Kind, Token};
+use crate::tree::{Type, Unread};
+use std::alloc::Global;
+
+/// How deep types may stand in one another.
+pub(crate) const MAX_DEPTH: usize = 64;
+
+/// The items of a text that are left, and the types that were read.
+#[derive(Drop)]
+pub(crate) struct Parser<'tokens, 'text> {
+    pub(crate) alloc: Global,
+    pub(crate) source: Source<'text>,
+    pub(crate) rest: &'tokens [Token<'text>],
+    /// Where the text ends.
+    pub(crate) end: Position,
+    pub(crate) types: Vec<Type<'text>>,
+}
+
+impl<'tokens, 'text> Parser<'tokens, 'text> {
+    /// Returns the kind of the next item.
+    pub(crate) fn peek(&self) -> Kind {
+        self.peek_after(0)
+    }
+
+    /// Returns the kind of the item that so many others precede.
+    pub(crate) fn peek_after(&self, count: usize) -> Kind {
+        self.rest.get(count).map_or(Kind::End, |token| token.kind)
+    }
+
+    /// Returns whether the next item is spelled so.
+    pub(crate) fn is(&self, text: &str) -> bool {
+        self.is_after(0, text)
+    }
+
+    /// Returns whether the item that so many others precede is spelled so.
+    pub(crate) fn is_after(&self, count: usize, text: &str) -> bool {
+        match self.rest.get(count) {
+            Some(token) => token.text == text,
+            None => false,
+        }
+    }
+
+    /// Returns where the next item begins.
+    pub(crate) fn position(&self) -> Position {
+        self.rest.first().map_or(self.end, |token| token.position)
+    }
+
+    /// Takes so many items.
+    pub(crate) fn skip(&mut self, count: usize) {
+        let rest = self.rest;
+        let count = count.min(rest.len());
+        self.rest = &rest[count..];
+    }
+
+    /// Returns the text of the next item.
+    pub(crate) fn text(&self) -> &'text str {
+        match self.rest.first() {
+            Some(token) => token.text,
+            None => "",
+        }
+    }
+
+    /// Takes the next item and returns its text.
+    pub(crate) fn take(&mut self) -> &'text str {
+        let text = self.text();
+        self.skip(1);
+        text
+    }
+
+    /// Takes the next item if it is spelled so, and returns whether it was.
+    pub(crate) fn eat(&mut self, text: &str) -> bool {
+        let is_next = self.is(text);
+        if is_next {
+            self.skip(1);
+        }
+        is_next
+    }
+
+    /// Returns a fault at the next item.
+    pub(crate) fn refuse(&self, what: &'static str) -> Stop<'text> {
+        self.refuse_at(self.position(), Problem::Expected(what))
+    }
+
+    /// Returns a fault.
+    pub(crate) fn refuse_at(&self, position: Position, problem: Problem<'text>) -> Stop<'text> {
+        Stop::Fault(Fault {
+            source: self.source.name,
+            position,
+            problem,
+        })
+    }
+
+    /// Takes the next item, which has to be spelled so.
+    pub(crate) fn expect(&mut self, text: &'static str) -> Result<(), Stop<'text>> {
+        if self.eat(text) {
+            Ok(())
+        } else {
+            Err(self.refuse(text))
+        }
+    }
+
+    /// Takes the next item, which has to be of this kind, and returns its text.
+    pub(crate) fn expect_kind(
+        &mut self,
+        kind: Kind,
+        what: &'static str,
+    ) -> Result<&'text str, Stop<'text>> {
+        if self.peek() == kind {
+            Ok(self.take())
+        } else {
+            Err(self.refuse(what))
+        }
+    }
+
+    /// Returns how deep types may stand in what is read here.
+    pub(crate) fn deeper(&self, depth: usize) -> Result<usize, Stop<'text>>
+        ensures { IfOk result (λ d. d + 1 ≡ depth) }
+    {
+        if depth == 0 {
+            return Err(self.refuse_at(self.position(), Problem::TooDeep));
+        }
+        Ok(depth - 1)
+    }
+
+    /// Takes what stands between a bracket and the one that closes it.
+    pub(crate) fn balanced(&mut self) -> Result<Unread<'text>, Stop<'text>> {
+        let mut open = Vec::new(self.alloc);
+        for (at, token) in self.rest.iter().enumerate() {
+            if let Some(closing) = closing_of(token.text) {
+                open.push(closing)?;
+            } else if let Some(closing) = closed_by(token.text) {
+                if open.pop() != Some(closing) {
+                    return Err(self.refuse_at(
+                        token.position,
+                        Problem::Expected("the bracket that closes the last one"),
+                    ));
+                }
+            }
+            if open.is_empty() {
+                let inner = self.between(token.offset);
+                self.skip(at.saturating_add(1));
+                return Ok(inner);
+            }
+        }
+        Err(self.refuse_at(self.end, Problem::Expected("a closing bracket")))
+    }
+
+    /// Returns the text after the next item, up to this octet.
+    fn between(&self, end: usize) -> Unread<'text> {
+        let start = self.rest.first().map_or(0, |token| token.end());
+        let position = self.rest.get(1).map_or(self.end, |token| token.position);
+        let text = self.source.text.get(start..end).unwrap_or("");
+        Unread {
+            text: text.trim_start(),
+            position,
+        }
+    }
+
+    /// Takes what stands in braces, if a brace is next.
+    pub(crate) fn braces(&mut self) -> Result<Option<Unread<'text>>, Stop<'text>> {
+        if self.is("{") {
+            Ok(Some(self.balanced()?))
+        } else {
+            Ok(None)
+        }
+    }
+
+    /// Takes the items up to the first that is spelled so, which isn't taken.
+    pub(crate) fn skip_until(&mut self, text: &str) {
+        let count = self
+            .rest
+            .iter()
+            .position(|token| token.text == text)
+            .unwrap_or(self.rest.len());
+        self.skip(count);
+    }
+
+    /// Returns the text from the first of these items up to the next item of the parser.
+    pub(crate) fn since(&self, start: &'tokens [Token<'text>]) -> Unread<'text> {
+        let first = start.first().map_or(0, |token| token.offset);
+        let count = start.len().saturating_sub(self.rest.len());
+        let last = start.get(count.saturating_sub(1));
+        let end = last.map_or(first, |token| token.end());
+        Unread {
+            text: self.source.text.get(first..end).unwrap_or(""),
+            position: start.first().map_or(self.end, |token| token.position),
+        }
+    }
+}
+
+/// Returns the bracket that closes this one.
+fn closing_of(bracket: &str) -> Option<char> {
+    match bracket {
+        "{" => Some('}'),
+        "(" => Some(')'),
+        "[" => Some(']'),
+        _ => None,
+    }
+}
+
+/// Returns the closing bracket that is spelled so.
+fn closed_by(bracket: &str) -> Option<char> {
+    match bracket {
+        "}" => Some('}'),
+        ")" => Some(')'),
+        "]" => Some(']'),
+        _ => None,
+    }
+}

@@ -1,0 +1,73 @@
+//! Tags (X.680 31.2) and what follows a type in parentheses (X.680 49).
+use crate::fault::Stop;
+use crate::parser::Parser;
+use crate::token::Kind;
+use crate::tree::{Tag, TagClass, Tagging, Unread};
+
+impl<'tokens, 'text> Parser<'tokens, 'text> {
+    /// Reads the tags that stand here.
+    pub(crate) fn tags(&mut self) -> Result<Vec<Tag<'text>>, Stop<'text>> {
+        let mut tags = Vec::new(self.alloc);
+        for _ in 0..self.rest.len() {
+            if !self.is("[") {
+                break;
+            }
+            tags.push(self.tag()?)?;
+        }
+        Ok(tags)
+    }
+
+    /// Reads a tag, with the word after it.
+    fn tag(&mut self) -> Result<Tag<'text>, Stop<'text>> {
+        let position = self.position();
+        self.expect("[")?;
+        let class = self.tag_class();
+        if self.peek() == Kind::Fixed {
+            return Err(self.refuse("a tag's number"));
+        }
+        let number = self.value()?;
+        self.expect("]")?;
+        Ok(Tag {
+            position,
+            class,
+            number,
+            tagging: self.tag_word(),
+        })
+    }
+
+    /// Reads a tag's class.
+    fn tag_class(&mut self) -> TagClass {
+        if self.eat("UNIVERSAL") {
+            TagClass::Universal
+        } else if self.eat("APPLICATION") {
+            TagClass::Application
+        } else if self.eat("PRIVATE") {
+            TagClass::Private
+        } else {
+            TagClass::Context
+        }
+    }
+
+    /// Reads IMPLICIT or EXPLICIT.
+    fn tag_word(&mut self) -> Option<Tagging> {
+        if self.eat("IMPLICIT") {
+            Some(Tagging::Implicit)
+        } else if self.eat("EXPLICIT") {
+            Some(Tagging::Explicit)
+        } else {
+            None
+        }
+    }
+
+    /// Takes the constraints that stand here.
+    pub(crate) fn constraints(&mut self) -> Result<Vec<Unread<'text>>, Stop<'text>> {
+        let mut constraints = Vec::new(self.alloc);
+        for _ in 0..self.rest.len() {
+            if !self.is("(") {
+                break;
+            }
+            constraints.push(self.balanced()?)?;
+        }
+        Ok(constraints)
+    }
+}

@@ -1,0 +1,269 @@
+//! Types (X.680 17).
+use crate::fault::Stop;
+use crate::parser::Parser;
+use crate::token::Kind;
+use crate::tree::{Base, Builtin, ListOf, NamedNumber, Type, TypeIndex, Unread};
+use std::alloc::AllocError;
+
+impl<'tokens, 'text> Parser<'tokens, 'text> {
+    /// Reads a type in which others may stand so deep.
+    #[cycle(types)]
+    pub(crate) fn read_type(&mut self, depth: usize) -> Result<TypeIndex, Stop<'text>> {
+        let depth = self.deeper(depth)?;
+        let position = self.position();
+        let tags = self.tags()?;
+        let base = self.base(depth)?;
+        let constraints = self.constraints()?;
+        let index = TypeIndex(self.types.len());
+        self.types.push(Type {
+            position,
+            tags,
+            base,
+            constraints,
+        })?;
+        Ok(index)
+    }
+
+    /// Reads what follows the tags.
+    #[cycle(types)]
+    fn base(&mut self, depth: usize) -> Result<Base<'text>, Stop<'text>> {
+        if self.eat("SEQUENCE") {
+            if self.is("{") {
+                return Ok(Base::Sequence(self.components(depth)?));
+            }
+            return Ok(Base::SequenceOf(self.element(depth)?));
+        }
+        if self.eat("SET") {
+            if self.is("{") {
+                return Ok(Base::Set(self.components(depth)?));
+            }
+            return Ok(Base::SetOf(self.element(depth)?));
+        }
+        if self.eat("CHOICE") {
+            return Ok(Base::Choice(self.components(depth)?));
+        }
+        if self.peek() == Kind::Lower && self.is_after(1, "<") {
+            let name = self.take();
+            self.skip(1);
+            let of = self.read_type(depth)?;
+            return Ok(Base::Selection { name, of });
+        }
+        self.simple_type()
+    }
+
+    /// Reads the elements of SEQUENCE OF or SET OF, whose size may stand before OF (X.680 26, 28).
+    #[cycle(types)]
+    fn element(&mut self, depth: usize) -> Result<ListOf<'text>, Stop<'text>> {
+        let size = self.size()?;
+        if !self.eat("OF") {
+            return Err(self.refuse("{ or OF"));
+        }
+        let name = self.element_name();
+        let element = self.read_type(depth)?;
+        Ok(ListOf {
+            size,
+            name,
+            element,
+        })
+    }
+}
+
+impl<'tokens, 'text> Parser<'tokens, 'text> {
+    /// Takes a size before OF, in parentheses or not.
+    fn size(&mut self) -> Result<Option<Unread<'text>>, Stop<'text>> {
+        if self.is("(") {
+            return Ok(Some(self.balanced()?));
+        }
+        if self.is("SIZE") && self.is_after(1, "(") {
+            let start = self.rest;
+            self.skip(1);
+            self.balanced()?;
+            return Ok(Some(self.since(start)));
+        }
+        Ok(None)
+    }
+
+    /// Takes the name of an element (X.680 26.1).
+    fn element_name(&mut self) -> Option<&'text str> {
+        if self.peek() == Kind::Lower && !self.is_after(1, "<") && !self.is_after(1, ".") {
+            Some(self.take())
+        } else {
+            None
+        }
+    }
+
+    /// Reads a type in which no other stands.
+    fn simple_type(&mut self) -> Result<Base<'text>, Stop<'text>> {
+        match self.peek() {
+            Kind::Upper => self.reference(),
+            Kind::Lower if self.is_after(1, ".") => {
+                let class = self.take();
+                let path = self.path()?;
+                Ok(Base::ClassField { class, path })
+            }
+            Kind::Fixed => self.worded_type(),
+            _ => Err(self.refuse("a type")),
+        }
+    }
+
+    /// Reads a type that a reserved word begins.
+    fn worded_type(&mut self) -> Result<Base<'text>, Stop<'text>> {
+        let word = self.text();
+        if let Some(builtin) = builtin(word) {
+            self.skip(1);
+            return Ok(Base::Builtin(builtin));
+        }
+        match word {
+            "INTEGER" => {
+                self.skip(1);
+                Ok(Base::Integer(self.named_numbers()?))
+            }
+            "ENUMERATED" => {
+                self.skip(1);
+                Ok(Base::Enumerated(self.named_numbers()?))
+            }
+            "BIT" => {
+                self.skip(1);
+                self.expect("STRING")?;
+                Ok(Base::BitString(self.named_numbers()?))
+            }
+            "OCTET" => self.pair("STRING", Builtin::OctetString),
+            "OBJECT" => self.pair("IDENTIFIER", Builtin::ObjectIdentifier),
+            "EMBEDDED" => self.pair("PDV", Builtin::EmbeddedPdv),
+            "CHARACTER" => self.pair("STRING", Builtin::CharacterString),
+            "ANY" => self.any(),
+            "INSTANCE" => {
+                self.skip(1);
+                self.expect("OF")?;
+                Ok(Base::InstanceOf(self.expect_kind(Kind::Upper, "a class")?))
+            }
+            _ => Err(self.refuse("a type")),
+        }
+    }
+
+    /// Reads a type of two words.
+    fn pair(&mut self, second: &'static str, builtin: Builtin) -> Result<Base<'text>, Stop<'text>> {
+        self.skip(1);
+        self.expect(second)?;
+        Ok(Base::Builtin(builtin))
+    }
+
+    /// Reads ANY or ANY DEFINED BY (X.208).
+    fn any(&mut self) -> Result<Base<'text>, Stop<'text>> {
+        self.skip(1);
+        if !self.eat("DEFINED") {
+            return Ok(Base::Builtin(Builtin::Any));
+        }
+        self.expect("BY")?;
+        Ok(Base::AnyDefinedBy(self.expect_kind(Kind::Lower, "a component's name")?))
+    }
+
+    /// Reads the name of a type, or a class's field.
+    fn reference(&mut self) -> Result<Base<'text>, Stop<'text>> {
+        let mut module = None;
+        let mut name = self.take();
+        if self.is(".") && self.peek_after(1) == Kind::Upper {
+            self.skip(1);
+            module = Some(name);
+            name = self.take();
+        }
+        if self.is(".") && self.peek_after(1) == Kind::Field {
+            let path = self.path()?;
+            return Ok(Base::ClassField { class: name, path });
+        }
+        let actuals = self.braces()?;
+        Ok(Base::Reference {
+            module,
+            name,
+            actuals,
+        })
+    }
+
+    /// Takes the fields that dots precede (X.681 14).
+    pub(crate) fn path(&mut self) -> Result<Vec<&'text str>, AllocError> {
+        let mut path = Vec::new(self.alloc);
+        for _ in 0..self.rest.len() {
+            if !self.is(".") || self.peek_after(1) != Kind::Field {
+                break;
+            }
+            self.skip(1);
+            path.push(self.take())?;
+        }
+        Ok(path)
+    }
+
+    /// Reads names with numbers, if a brace is next (X.680 19.1, 20.1, 22.1).
+    fn named_numbers(&mut self) -> Result<Vec<NamedNumber<'text>>, Stop<'text>> {
+        let mut numbers = Vec::new(self.alloc);
+        if !self.eat("{") {
+            return Ok(numbers);
+        }
+        for _ in 0..self.rest.len() {
+            numbers.push(self.named_number()?)?;
+            if self.eat("}") {
+                return Ok(numbers);
+            }
+            if !self.eat(",") {
+                break;
+            }
+        }
+        Err(self.refuse(", or }"))
+    }
+
+    /// Reads a name with a number, or the marker.
+    fn named_number(&mut self) -> Result<NamedNumber<'text>, Stop<'text>> {
+        let position = self.position();
+        if self.eat("...") {
+            self.exception()?;
+            return Ok(NamedNumber {
+                position,
+                name: None,
+                number: None,
+            });
+        }
+        let name = Some(self.expect_kind(Kind::Lower, "a name")?);
+        let mut number = None;
+        if self.eat("(") {
+            number = Some(self.value()?);
+            self.expect(")")?;
+        }
+        Ok(NamedNumber {
+            position,
+            name,
+            number,
+        })
+    }
+}
+
+/// Returns the type that the word names alone.
+fn builtin(word: &str) -> Option<Builtin> {
+    Some(match word {
+        "BMPString" => Builtin::BmpString,
+        "BOOLEAN" => Builtin::Boolean,
+        "DATE" => Builtin::Date,
+        "DATE-TIME" => Builtin::DateTime,
+        "DURATION" => Builtin::Duration,
+        "EXTERNAL" => Builtin::External,
+        "GeneralString" => Builtin::GeneralString,
+        "GeneralizedTime" => Builtin::GeneralizedTime,
+        "GraphicString" => Builtin::GraphicString,
+        "IA5String" => Builtin::Ia5String,
+        "NULL" => Builtin::Null,
+        "NumericString" => Builtin::NumericString,
+        "ObjectDescriptor" => Builtin::ObjectDescriptor,
+        "OID-IRI" => Builtin::ObjectIdentifierIri,
+        "PrintableString" => Builtin::PrintableString,
+        "REAL" => Builtin::Real,
+        "RELATIVE-OID" => Builtin::RelativeObjectIdentifier,
+        "RELATIVE-OID-IRI" => Builtin::RelativeObjectIdentifierIri,
+        "T61String" | "TeletexString" => Builtin::TeletexString,
+        "TIME" => Builtin::Time,
+        "TIME-OF-DAY" => Builtin::TimeOfDay,
+        "UTCTime" => Builtin::UtcTime,
+        "UTF8String" => Builtin::Utf8String,
+        "UniversalString" => Builtin::UniversalString,
+        "VideotexString" => Builtin::VideotexString,
+        "VisibleString" | "ISO646String" => Builtin::VisibleString,
+        _ => return None,
+    })
+}

@@ -1,0 +1,125 @@
+//! Values (X.680 17.7).
+use crate::fault::{Problem, Stop};
+use crate::parser::Parser;
+use crate::token::Kind;
+use crate::tree::Value;
+
+impl<'tokens, 'text> Parser<'tokens, 'text> {
+    /// Reads a value. One that others precede, as `name : value` or `Type : value`, is kept unread.
+    pub(crate) fn value(&mut self) -> Result<Value<'text>, Stop<'text>> {
+        let start = self.rest;
+        let mut is_governed = false;
+        for _ in 0..self.rest.len() {
+            if let Some(value) = self.plain_value()? {
+                if is_governed {
+                    return Ok(Value::Unread(self.since(start)));
+                }
+                return Ok(value);
+            }
+            self.governor()?;
+            is_governed = true;
+        }
+        Err(self.refuse("a value"))
+    }
+
+    /// Takes what stands before `:`, a type or the name of an alternative, and the colon.
+    fn governor(&mut self) -> Result<(), Stop<'text>> {
+        let mut count = 0usize;
+        for token in self.rest {
+            if token.text == ":" || token.text == "::=" {
+                break;
+            }
+            count = count.saturating_add(1);
+        }
+        if count == 0 || !self.is_after(count, ":") {
+            return Err(self.refuse("a value"));
+        }
+        self.skip(count.saturating_add(1));
+        Ok(())
+    }
+
+    /// Reads a value that no other precedes, if one stands here.
+    fn plain_value(&mut self) -> Result<Option<Value<'text>>, Stop<'text>> {
+        if self.is_after(1, ":") {
+            return Ok(None);
+        }
+        match self.peek() {
+            Kind::Number => Ok(Some(Value::Number {
+                is_negative: false,
+                digits: self.take(),
+            })),
+            Kind::Text => Ok(Some(Value::Text(self.take()))),
+            Kind::Digits => Ok(Some(Value::Digits(self.take()))),
+            Kind::Lower => Ok(Some(self.named_value()?)),
+            Kind::Upper if self.is_after(1, ".") && self.peek_after(2) == Kind::Lower => {
+                Ok(Some(self.outside_value()?))
+            }
+            Kind::Fixed => self.fixed_value(),
+            Kind::Unfinished => Err(self.refuse_at(
+                self.position(),
+                Problem::Expected("the end of a string or a comment"),
+            )),
+            _ => Ok(None),
+        }
+    }
+
+    /// Reads the name of a value, or `object.&field`.
+    fn named_value(&mut self) -> Result<Value<'text>, Stop<'text>> {
+        let start = self.rest;
+        let name = self.take();
+        if self.is("{") {
+            self.balanced()?;
+            return Ok(Value::Unread(self.since(start)));
+        }
+        if self.is(".") && self.peek_after(1) == Kind::Field {
+            let _path = self.path()?;
+            return Ok(Value::Unread(self.since(start)));
+        }
+        Ok(Value::Name { module: None, name })
+    }
+
+    /// Reads `Module.value`.
+    fn outside_value(&mut self) -> Result<Value<'text>, Stop<'text>> {
+        let start = self.rest;
+        let module = Some(self.take());
+        self.skip(1);
+        let name = self.take();
+        if self.is("{") {
+            self.balanced()?;
+            return Ok(Value::Unread(self.since(start)));
+        }
+        Ok(Value::Name { module, name })
+    }
+
+    /// Reads a value that a reserved word or a mark begins, if one stands here.
+    fn fixed_value(&mut self) -> Result<Option<Value<'text>>, Stop<'text>> {
+        let start = self.rest;
+        if self.is("{") {
+            self.balanced()?;
+            return Ok(Some(Value::Unread(self.since(start))));
+        }
+        if self.eat("-") {
+            let digits = self.expect_kind(Kind::Number, "a number")?;
+            return Ok(Some(Value::Number {
+                is_negative: true,
+                digits,
+            }));
+        }
+        Ok(self.worded_value())
+    }
+
+    /// Reads a value that is a reserved word, if one stands here.
+    fn worded_value(&mut self) -> Option<Value<'text>> {
+        if self.eat("TRUE") {
+            Some(Value::Boolean(true))
+        } else if self.eat("FALSE") {
+            Some(Value::Boolean(false))
+        } else if self.eat("NULL") {
+            Some(Value::Null)
+        } else if self.is("PLUS-INFINITY") || self.is("MINUS-INFINITY") || self.is("NOT-A-NUMBER") {
+            Some(Value::Special(self.take()))
+        } else {
+            None
+        }
+    }
+}
