@@ -11,6 +11,7 @@ pub mod Enclosed
 pub mod WrittenInside
 pub mod Canonical
 pub mod Fitted
+pub mod OnlyFitting
 pub mod FitsRead
 pub mod FixedOctets
 pub mod Numbers
