@@ -1,14 +1,14 @@
 -- What is written of a value, and what DER reads of it.
-use Rattle.std.proofs.Common.{◌≡◌, ◌⊎◌, inl, inr, ℕ, [], List, Bool, true, false, Result, Ok, Err, refl, sym, ap, ◌∙◌, subst, true≢false, Vec}
+use Rattle.std.proofs.Common.{◌≡◌, ◌⊎◌, inl, inr, ℕ, [], List, Bool, true, false, Result, Ok, Err, refl, sym, ap, ◌∙◌, subst, true≢false}
 use Rattle.std.specs.Prelude.{IfOk, IfErr}
-use Rattle.std.proofs.lemmas.Result.{IfOk-weaker, IfErr-weaker}
+use Rattle.std.proofs.lemmas.Result.{IfErr-weaker}
 use Rattle.rasn_types.specs.declared.types.codec.Codec.{Codec}
 use Rattle.rasn_types.specs.declared.types.codec.Codec.TheVariants.{Der}
 use Rattle.rasn_types.specs.declared.error.encode.EncodeError.{EncodeError}
 use Rattle.rasn_types.specs.declared.error.decode.DecodeError.{DecodeError}
 use Rattle.rasn_types.specs.declared.error.decode.DecodeErrorKind.{DecodeErrorKind}
 use Rattle.rasn_types.specs.declared.error.decode.DecodeErrorKind.TheVariants.{OutOfMemory}
-use Rattle.rasn_types.specs.Errors.{IsOutOfMemory, IsEncodeOutOfMemory}
+use Rattle.rasn_types.specs.Errors.{IsOutOfMemory}
 use Rattle.rasn_types.specs.Equality.{DecidesSame}
 use Rattle.rasn_types.specs.Shapes.{Shape, Tree}
 use Rattle.rasn_types.specs.Readings.{Reading}
@@ -16,11 +16,11 @@ use Rattle.rasn_types.specs.Grammar.{Reads, top}
 use Rattle.rasn_types.specs.Bytes.{Bytes, Same}
 use Rattle.rasn_types.proofs.SetOf.Same.{same_sym}
 use Rattle.rasn_de.specs.Outcomes.{Exact, refusal}
-use Rattle.rasn_enc.specs.View.{View, OpenList, started, AreTagsInOrder}
+use Rattle.rasn_enc.specs.View.{View, started, AreTagsInOrder}
 use Rattle.rasn_enc.specs.Encoding.{EncodeFails, NoEncoding}
 use Rattle.rasn_enc.specs.Primitive.{IsAllocError, IsOrderError}
 use Rattle.rasn.specs.Headline.{Identify, IsFollowed, EncodingFails}
-use Rattle.rasn.specs.Normal.{Means, IsNormal, IsNoNormal}
+use Rattle.rasn.specs.Normal.{Means}
 use Rattle.rasn.specs.declared.normal.NormaliseError.TheVariants.{Decode, Encode, NotCanonical}
 use Rattle.rasn.proofs.LawsHold.Written.{identify}
 use Rattle.rasn_dynamic.specs.Entry.{IsReadBack, IsNormalOf, IsNoNormalOf}

@@ -1,13 +1,11 @@
 -- Values that hold no other values, written as values of their kind.
-use Rattle.std.proofs.Common.{◌≡◌, ◌⊎◌, inl, inr, ℕ, ℤ, List, length, Contains, Result, OnOk, OnErr, IfErr, refl, sym, ap, ◌∙◌, subst}
+use Rattle.std.proofs.Common.{◌≡◌, inl, inr, ℕ, ℤ, List, length, Result, OnOk, IfErr, refl, ap, subst}
 use Rattle.std.proofs.lemmas.Result.{on_ok_weaker, IfErr-weaker}
 use Rattle.rasn_types.specs.CharacterString.{AreAdmitted}
-use Rattle.rasn_types.specs.Shapes.{Shape, Kind, Tree, Interval, IsIn, leaf, number, numbers, integer, enumerated, every, octet_string, fixed, numeric, printable, visible, ia5, any_octets}
+use Rattle.rasn_types.specs.Shapes.{Kind, Interval, IsIn, leaf, number, numbers, integer, enumerated, every, octet_string, fixed, numeric, printable, visible, ia5, any_octets}
 use Rattle.rasn_types.specs.Contents.{signed}
 use Rattle.rasn_types.specs.Trees.{signed_range, unsigned_range, unconstrained}
-use Rattle.rasn_types.specs.Bytes.{Bytes, Written, IsUntaggedOpen, WritesIn}
-use Rattle.rasn_types.specs.Grammar.{plain_family, text_family}
-use Rattle.rasn_types.specs.declared.types.codec.Codec.{Codec}
+use Rattle.rasn_types.specs.Bytes.{Bytes, Written, IsUntaggedOpen}
 use Rattle.rasn_types.specs.declared.types.tag.Tag.{Tag}
 use Rattle.rasn_types.specs.declared.types.constraints.Constraints.{Constraints}
 use Rattle.rasn_types.specs.declared.types.strings.alphabet.Alphabet.{Alphabet}
@@ -19,9 +17,8 @@ use Rattle.rasn_enc.specs.Errors.{FailsAtString, FailsAtInteger}
 use Rattle.rasn_enc.specs.Any.{FailsAtAny}
 use Rattle.rasn_enc.proofs.Leaves.CharacterString.{fixed_encoded, text_refused}
 use Rattle.rasn_enc.proofs.Leaves.Primitive.{integer_refused}
-use Rattle.rasn_enc.proofs.Leaves.ObjectIdentifier.{named_encoded}
 use Rattle.rasn_schema.specs.declared.types.LeafKind.{LeafKind}
-use Rattle.rasn_schema.specs.declared.types.LeafKind.TheVariants.{Boolean, Null, ObjectIdentifier, BitString, OctetString, FixedOctetString, Integer, Signed32, Signed64, Unsigned32, Unsigned64, Numeric, Printable, Visible, Ia5, AnyOctets, Bmp, Utf8, UtcTime, GeneralizedTime, Date}
+use Rattle.rasn_schema.specs.declared.types.LeafKind.TheVariants.{OctetString, FixedOctetString, Integer, Signed32, Signed64, Unsigned32, Unsigned64, Numeric, Printable, Visible, Ia5, AnyOctets}
 use Rattle.rasn_schema.specs.declared.value.Value.{Value, Integer as Whole, Octets}
 use Rattle.rasn_schema.specs.Trees.{tree_of}
 use Rattle.rasn_schema.specs.Shapes.{kind_of}

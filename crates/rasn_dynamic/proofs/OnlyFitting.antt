@@ -1,12 +1,9 @@
 -- Calls that write only values that fit.
-use Rattle.std.proofs.Common.{◌≡◌, ◌∙◌, Result, Ok, Err, OnOk, OnErr, IfErr, refl, ap, subst}
-use Rattle.std.proofs.lemmas.Result.{on_ok_weaker, IfErr-weaker}
+use Rattle.std.proofs.Common.{◌≡◌, Result, Ok, Err, OnOk, IfErr, subst}
+use Rattle.std.proofs.lemmas.Result.{on_ok_weaker}
 use Rattle.rasn_types.specs.declared.types.codec.Codec.{Codec}
-use Rattle.rasn_types.specs.declared.types.tag.Tag.{Tag}
 use Rattle.rasn_types.specs.declared.error.encode.EncodeError.{EncodeError}
-use Rattle.rasn_types.specs.Shapes.{Tree, Shape, prefix, Presence}
-use Rattle.rasn_enc.specs.View.{View, fresh, LeavesOthers}
-use Rattle.rasn_dynamic.specs.Written.{OnlyFitting, Encodes, EncodesIf, EncodesInside, EncodesInsideIf}
+use Rattle.rasn_dynamic.specs.Written.{OnlyFitting}
 
 module _ {F D K : Type 0} {rule : Codec} where
   -- A value of another form is refused.

@@ -34,7 +34,7 @@ use Rattle.rasn_enc.specs.Errors.{FailsAtSize}
 use Rattle.rasn_schema.specs.declared.types.Alternative.{Alternative}
 use Rattle.rasn_schema.proofs.Lists.{some_is}
 use Rattle.rasn_dynamic.specs.Fitting.{ComponentFits, ComponentsFit, EachFits, AreItems, IsListOf, IsChosen}
-use Rattle.rasn_dynamic.specs.Written.{WritesInside, EncodesPart, EncodesPartIf, Encodes, EncodesIf, EncodesInside, EncodesInsideIf, EncodesPartsIf, EncodesElements, EncodesElementsIf, EncodesSetOf, EncodesSetOfIf, OnlyFitting, IsEnclosed, HoldsOthers, keeps_tags, IsLeftOutAs}
+use Rattle.rasn_dynamic.specs.Written.{WritesInside, EncodesPartIf, Encodes, EncodesIf, EncodesInside, EncodesInsideIf, EncodesPartsIf, EncodesElements, EncodesElementsIf, EncodesSetOf, EncodesSetOfIf, OnlyFitting, IsEnclosed, HoldsOthers, keeps_tags, IsLeftOutAs}
 use Rattle.rasn_dynamic.proofs.OnlyFitting.{fits_as}
 use Rattle.rasn_dynamic.proofs.Fitted.{FitSoFar, EachSoFar}
 use Rattle.rasn_dynamic.proofs.ListsOf.{list_to}

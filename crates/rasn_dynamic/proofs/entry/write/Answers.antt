@@ -5,7 +5,7 @@ use Rattle.rasn_de.proofs.Leaves.Returns.{residual}
 use Rattle.rasn_enc.specs.View.{View, started}
 use Rattle.rasn_enc.proofs.Buffer.Output.{output_ok, output_refused}
 use Rattle.rasn_schema.specs.Trees.{tree_of}
-use Rattle.rasn_dynamic.specs.Entry.{shape_of, FitsType}
+use Rattle.rasn_dynamic.specs.Entry.{shape_of}
 use Rattle.rasn_dynamic.proofs.Canonical.{identified, start_refused, output_rules}
 use Rattle.rasn_dynamic.proofs.entry.write.Goals as goal
 

@@ -1,4 +1,4 @@
-use Rattle.std.proofs.Common.{◌≡◌, ◌∙◌, true≢false, refl, sym, inl, inr, chars, length, subst}
+use Rattle.std.proofs.Common.{◌≡◌, ◌∙◌, true≢false, refl, sym, inl, inr, chars, subst}
 use Rattle.rasn_types.specs.Shapes.{utf8}
 use Rattle.rasn_enc.proofs.Leaves.CharacterString.{text_refused}
 use Rattle.rasn_schema.specs.declared.types.LeafKind.TheVariants.{Boolean, Null, BitString, Bmp, ObjectIdentifier, Date, Utf8, UtcTime, GeneralizedTime}

@@ -1,9 +1,8 @@
-use Rattle.std.proofs.Common.{refl, subst}
+use Rattle.std.proofs.Common.{refl}
 use Rattle.rasn_types.specs.Shapes.{every}
 use Rattle.rasn_types.specs.Trees.{unconstrained}
 use Rattle.rasn_schema.specs.Shapes.{numbers_of}
 use Rattle.rasn_enc.proofs.Leaves.ObjectIdentifier.{named_encoded}
-use Rattle.rasn_dynamic.specs.Fitting.{IsNumber}
 use Rattle.rasn_dynamic.proofs.OnlyFitting.{form_refused, fitted}
 use Rattle.rasn_dynamic.proofs.LeafWritten.{named_refused, not_number}
 use Rattle.rasn_dynamic.proofs.write_leaf.encode_number.Goals as goal

@@ -1,6 +1,5 @@
-use Rattle.std.proofs.Common.{rules, arith, ◌≡◌, ◌≤◌, ◌-◌, map, true, false, refl, sym, ap, ◌∙◌, subst, inl, inr}
+use Rattle.std.proofs.Common.{arith, ◌≡◌, ◌≤◌, ◌-◌, map, true, false, refl, sym, ap, ◌∙◌, subst, inr}
 use Rattle.std.proofs.lemmas.List.{length-map}
-use Rattle.std.proofs.lemmas.Option.{slice_get_past}
 use Rattle.rasn_types.specs.declared.error.encode.EncodeError.{EncodeError}
 use Rattle.rasn_types.specs.Shapes.{Admits}
 use Rattle.rasn_de.proofs.Leaves.Returns.{residual}
@@ -8,16 +7,16 @@ use Rattle.rasn_enc.specs.View.{fresh}
 use Rattle.rasn_enc.proofs.Constructed.SequenceOf.{ElementsSoFar, split_is, elements_start, elements_more, elements_end}
 use Rattle.rasn_enc.proofs.Constructed.SetOf.{SetOfSoFar, set_of_start, set_of_more, set_of_end, none_left, fall_refused}
 use Rattle.rasn_schema.specs.Trees.{tree_of}
-use Rattle.rasn_schema.specs.Shapes.{shape_of_type, type_by, components_by, presence_of}
+use Rattle.rasn_schema.specs.Shapes.{shape_of_type, type_by, components_by}
 use Rattle.rasn_schema.proofs.TypeShapes.{shape_below}
 use Rattle.rasn_schema.proofs.Lists.{split, nothing_left, read_at}
-use Rattle.rasn_dynamic.specs.Fitting.{Fits, FitsBy, ComponentsFit, EachFits, AreItems, AreElements, IsChosen, AlternativeFits}
+use Rattle.rasn_dynamic.specs.Fitting.{Fits, ComponentsFit, EachFits, AlternativeFits}
 use Rattle.rasn_dynamic.specs.Written.{keeps_tags}
-use Rattle.rasn_dynamic.proofs.Enclosed.{enclosed, some_below}
+use Rattle.rasn_dynamic.proofs.Enclosed.{enclosed}
 use Rattle.rasn_dynamic.proofs.OnlyFitting.{form_refused, fits_as, fits_same}
 use Rattle.rasn_dynamic.proofs.Fitted.{fits_is, fits_none, fits_zero, no_alternative, alternative_there, fit_start, fit_more, fit_short, fit_end, each_start, each_more, each_end}
 use Rattle.rasn_dynamic.proofs.ListsOf.{list_to, list_from, set_to, set_from, no_list, no_set, list_means, set_means}
-use Rattle.rasn_dynamic.proofs.WrittenInside.{left_as_it_was, leaves_by, leaves_both, prefix_inside, seq_inside, set_inside_refused, set_ordered, set_unordered, size_refused, list_inside, set_of_inside, list_unsized, set_of_unsized, written_start, written_more, alternative_written, parts_ended, holds_others, keeps_as, part_skipped, part_written, not_opened, no_choice, none_when, some_when, component_refused, element_not_written, set_element_not_written}
+use Rattle.rasn_dynamic.proofs.WrittenInside.{left_as_it_was, leaves_by, leaves_both, prefix_inside, seq_inside, set_inside_refused, set_ordered, set_unordered, size_refused, list_inside, set_of_inside, list_unsized, set_of_unsized, written_start, written_more, alternative_written, parts_ended, part_skipped, part_written, not_opened, no_choice, none_when, some_when, component_refused, element_not_written, set_element_not_written}
 use Rattle.rasn_dynamic.proofs.writer.+encode.Goals as goal
 
 pub encode_at-returns-then-levels-eq0 : goal.encode_at-returns-then-levels-eq0
