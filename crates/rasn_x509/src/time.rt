@@ -42,6 +42,11 @@ impl LawfulEq for Time {
 }
 
 impl Decode for Time {
+    ghost use Rattle.std.specs.Prelude.{IfOk};
+    ghost use Rattle.rasn_x509.specs.Times.{time_beyond};
+
+    ghost beyond = { λ _ old result new. IfOk result (λ v. time_beyond old v new) };
+
     fn decode_with_tag_and_constraints(
         decoder: &mut Decoder<'_>,
         _tag: Tag,
