@@ -42,6 +42,12 @@ IsNoNormal rule s input (Decode e) = Exact (Reads rule s 128 (top rule)) input (
 IsNoNormal rule s input (Encode e) = IsEncodeOutOfMemory e.kind ⊎ ((value : Tree) × Means rule s input value × NoEncoding Der s value)
 IsNoNormal rule s input NotCanonical = IsNotCanonical rule s input
 
+-- An error has the rules by which the input was read, and DER's if DER was to write the value, or to read it again.
+abbrev pub IsByRules : Codec → NormaliseError → Type 0
+IsByRules rule (Decode e) = (e.codec ≡ rule) ⊎ (IsOutOfMemory e.kind × (e.codec ≡ Der))
+IsByRules rule (Encode e) = e.codec ≡ Der
+IsByRules rule NotCanonical = Unit {0}
+
 abbrev pub IsOutOfMemoryAlone : NormaliseError → Type 0
 IsOutOfMemoryAlone (Decode e) = IsOutOfMemory e.kind
 IsOutOfMemoryAlone (Encode e) = IsEncodeOutOfMemory e.kind

@@ -1,11 +1,21 @@
 -- Small clauses that contracts share: what they hold of, and what they don't.
-use Rattle.std.specs.Prelude.{◌≡◌, ℕ, ◌+◌, ◌<◌, [], ◌∷◌, Some, None, pos, negsuc}
+use Rattle.std.specs.Prelude.{◌≡◌, ℕ, ◌+◌, ◌<◌, List, [], ◌∷◌, Some, None, Result, Ok, Err, pos, negsuc}
+use Rattle.rasn_types.specs.Tags.{in_universal}
+use Rattle.rasn_types.specs.declared.types.codec.Codec.TheVariants.{Ber}
+use Rattle.rasn_de.specs.declared.ber.de.parser.ParseError.{ParseError}
+use Rattle.rasn_de.specs.declared.ber.de.parser.ParseError.TheVariants.{OutOfMemory}
+use Rattle.rasn_de.specs.Segments.{string_at, octets, without_memory}
+use Rattle.rasn_de.specs.OctetString.{CollectsOctets}
 use Rattle.rasn_types.specs.Options.{IsSomeMeaningExactlyIf}
 use Rattle.rasn_types.specs.Calendar.{IsOffset}
 use Rattle.rasn_types.specs.CharacterString.{IsFirstForeign}
 use Rattle.rasn_types.specs.declared.types.strings.alphabet.Alphabet.TheVariants.{Printable}
 use Rattle.rasn_types.specs.Text.{shown_bits}
 use Rattle.rasn_types.specs.Contents.{bits_of}
+
+-- what an OCTET STRING is read as where no memory is left
+abbrev pub bare_octets : List ℕ → Result (List ℕ × List ℕ) ParseError
+bare_octets l = string_at Ber (without_memory octets) (in_universal 4) 2 (in_universal 4) l
 
 pub record WorkedClauses : Type 0 where
   -- 23:59 west and east of UTC, and a whole day
@@ -23,3 +33,10 @@ pub record WorkedClauses : Type 0 where
   pub lacking_meaning : IsSomeMeaningExactlyIf (λ (n : ℕ). n + 1) None (2 < 3) 2 → ⊥
   -- the bits of the octet 05, as a value is written in ASN.1
   pub shown : shown_bits (bits_of 5) ≡ 39 ∷ 48 ∷ 48 ∷ 48 ∷ 48 ∷ 48 ∷ 49 ∷ 48 ∷ 49 ∷ 39 ∷ 66 ∷ []
+  -- 24 00 and 24 02 04 00 hold nothing, so they are read where no memory is left; 24 03 04 01 05 isn't; in 24 03 04 02 05 the octets are cut
+  pub nothing_inside : bare_octets (36 ∷ 0 ∷ []) ≡ Ok ([], [])
+  pub empty_segment : bare_octets (36 ∷ 2 ∷ 4 ∷ 0 ∷ []) ≡ Ok ([], [])
+  pub octet_in_segment : bare_octets (36 ∷ 3 ∷ 4 ∷ 1 ∷ 5 ∷ []) ≡ Err OutOfMemory
+  pub nothing_collected : CollectsOctets Ber 2 (in_universal 4) (36 ∷ 0 ∷ []) → ⊥
+  pub empty_collected : CollectsOctets Ber 2 (in_universal 4) (36 ∷ 2 ∷ 4 ∷ 0 ∷ []) → ⊥
+  pub cut_collected : CollectsOctets Ber 2 (in_universal 4) (36 ∷ 3 ∷ 4 ∷ 2 ∷ 5 ∷ []) → ⊥

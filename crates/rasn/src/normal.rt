@@ -1,9 +1,9 @@
 //! From an encoding of any of the three rules to the one that DER has (X.690 10).
-ghost use Rattle.std.specs.Prelude.{IfOk, IfErr, IsTrue, ◌↔◌};
+ghost use Rattle.std.specs.Prelude.{◌≡◌, IfOk, IfErr, IsTrue, ◌↔◌};
 ghost use Rattle.rasn_types.specs.declared.types.codec.Codec.TheVariants.{Der};
 ghost use Rattle.rasn_types.specs.Framing.{AreOctets};
 ghost use Rattle.rasn.specs.Headline.{AnsweredAlone};
-ghost use Rattle.rasn.specs.Normal.{IsNormal, IsNoNormal, IsIdentified, IsKept, IsUnchanged, IsAnswered, IsOutOfMemoryAlone, SameExactlyIfEqual};
+ghost use Rattle.rasn.specs.Normal.{IsNormal, IsNoNormal, IsIdentified, IsKept, IsUnchanged, IsAnswered, IsByRules, IsOutOfMemoryAlone, SameExactlyIfEqual};
 
 use crate::{decode, der};
 use rasn_de::de::Decode;
@@ -59,6 +59,7 @@ pub fn normalise<T: Decode + Encode + LawfulEq>(
     ensures unchanged { IfOk result (λ octets. IsUnchanged rule T.shape input.now octets.items) }
     ensures answered { IfErr result (λ error. IsAnswered rule T.shape input.now error) }
     ensures fails { IfErr result (λ error. IsNoNormal rule T.shape input.now error) }
+    ensures rules { IfErr result (λ error. IsByRules rule error) }
 {
     convert::<T>(alloc, rule, input)
 }
@@ -78,6 +79,7 @@ fn convert<T: Decode + Encode + LawfulEq>(
     ensures normal { IfOk result (λ octets. IsNormal rule T.shape input.now octets.items) }
     ensures octets { IfOk result (λ octets. AreOctets octets.items) }
     ensures fails { IfErr result (λ error. IsNoNormal rule T.shape input.now error) }
+    ensures rules { IfErr result (λ error. IsByRules rule error) }
 {
     let value = decode::<T>(alloc, rule, input).map_err(NormaliseError::Decode)?;
     let octets = der::encode(alloc, &value).map_err(NormaliseError::Encode)?;
@@ -91,6 +93,7 @@ fn convert<T: Decode + Encode + LawfulEq>(
 /// The value that is all of what was written.
 fn read_back<T: Decode>(alloc: Global, written: &[u8]) -> Result<T, DecodeError>
     ensures exact { AnsweredAlone Der T.shape T.tree written.now result }
+    ensures rules { IfErr result (λ e. e.codec ≡ Der) }
     ensures octets { AreOctets written.now }
 {
     der::decode(alloc, written)

@@ -1,5 +1,6 @@
 -- What the program answers to a line.
-use Rattle.std.specs.Prelude.{◌≡◌, ℕ, ◌⊎◌, List, Some, None, length, codes}
+use Rattle.std.specs.Prelude.{◌≡◌, ℕ, ◌⊎◌, List, Some, None, length, codes, Vec, Result, Ok, Err}
+use Rattle.std.specs.Global.{Global}
 use Rattle.rasn_types.specs.declared.types.codec.Codec.{Codec}
 use Rattle.rasn_types.specs.declared.types.codec.Codec.TheVariants.{Der}
 use Rattle.rasn_types.specs.Tags.{in_universal}
@@ -7,11 +8,13 @@ use Rattle.rasn_types.specs.Shapes.{Tree, Shape, leaf, boolean, integer, octet_s
 use Rattle.rasn_types.specs.Trees.{unconstrained, signed_range, unsigned_range}
 use Rattle.rasn_types.specs.Grammar.{Reads, top}
 use Rattle.rasn_types.specs.Bytes.{Bytes}
+use Rattle.rasn_types.specs.Errors.{IsEncodeOutOfMemory}
+use Rattle.rasn_types.specs.declared.error.encode.EncodeError.{EncodeError}
 use Rattle.rasn_bench.specs.declared.line.ValueType.{ValueType}
 use Rattle.rasn_bench.specs.declared.line.ValueType.TheVariants.{Bool, I32, U32, Octets, Pair, Integer, UtcTime, GeneralizedTime, Date, Null, ObjectIdentifier, Bits, Colour, Utf8, Ia5, Printable, Foo, OptionalBool, Validity, Any, AlgorithmIdentifier, RelativeDistinguishedName, Set3, Bag}
 use Rattle.rasn_bench.specs.declared.answer.Answer.{Answer}
 use Rattle.rasn_bench.specs.declared.answer.Answer.TheVariants.{Read, NotWritten, Refused, Malformed}
-use Rattle.rasn_bench.specs.Lines.{IsRequest, octets_of_digits}
+use Rattle.rasn_bench.specs.Lines.{Asks, type_word}
 use Rattle.rasn.specs.WorkedShapes.{named, perhaps_bool, octets_in_set_of}
 use Rattle.rasn_bench.specs.Pair.{pair_shape}
 use Rattle.rasn_x509.specs.Period.{validity_shape}
@@ -46,32 +49,6 @@ shape_of RelativeDistinguishedName = relative_shape
 shape_of Set3 = set3_shape
 shape_of Bag = octets_in_set_of
 
-abbrev pub type_word : ValueType → List ℕ
-type_word Bool = codes "BOOLEAN"
-type_word I32 = codes "INTEGER"
-type_word U32 = codes "INTEGER"
-type_word Octets = codes "OCTET-STRING"
-type_word Pair = codes "SEQUENCE"
-type_word Integer = codes "INTEGER"
-type_word UtcTime = codes "TIME"
-type_word GeneralizedTime = codes "TIME"
-type_word Date = codes "TIME"
-type_word Null = codes "NULL"
-type_word ObjectIdentifier = codes "OID"
-type_word Bits = codes "BIT-STRING"
-type_word Colour = codes "ENUMERATED"
-type_word Utf8 = codes "STRING"
-type_word Ia5 = codes "STRING"
-type_word Printable = codes "STRING"
-type_word Foo = codes "SEQUENCE"
-type_word OptionalBool = codes "OPTIONAL"
-type_word Validity = codes "SEQUENCE"
-type_word Any = codes "ANY"
-type_word AlgorithmIdentifier = codes "SEQUENCE"
-type_word RelativeDistinguishedName = codes "SET"
-type_word Set3 = codes "SET"
-type_word Bag = codes "SET"
-
 -- What is so of a rule, a shape, the word for a type, octets and an answer, of the shape and the word of the type that a line names.
 abbrev pub OfNamedType : {A : Type 0} → (Codec → Shape → List ℕ → List ℕ → A → Type 0) → Codec → ValueType → List ℕ → A → Type 0
 OfNamedType Is rule kind octets answer = Is rule (shape_of kind) (type_word kind) octets answer
@@ -90,12 +67,21 @@ IsAnswer rule shape kind input (NotWritten name count cause) = (name.now ≡ kin
 IsAnswer rule shape kind input (Refused cause) = (cause.now ≡ codes "OutOfMemory") ⊎ ((t : Tree) (rest : List ℕ) → Reads rule shape 128 (top rule) input t rest → ⊥)
 IsAnswer rule shape kind input Malformed = ⊥
 
--- The line asks for a type under these rules, by digits that spell octets.
-pub record Asks (line : List ℕ) (rule : Codec) (kind : ValueType) (octets : List ℕ) : Type 0 where
-  pub digits : List ℕ
-  pub request : IsRequest line rule kind digits
-  pub spelled : octets_of_digits digits ≡ Some octets
+-- The answer to the line, whose types have these shapes.
+abbrev pub IsAnswerBy : (ValueType → Shape) → List ℕ → Answer → Type 0
+IsAnswerBy shape line Malformed = (rule : Codec) (kind : ValueType) (octets : List ℕ) → Asks line rule kind octets → ⊥
+IsAnswerBy shape line answer = (rule : Codec) × (kind : ValueType) × (octets : List ℕ) × Asks line rule kind octets × IsAnswer rule (shape kind) (type_word kind) octets answer
 
 abbrev pub IsAnswerTo : List ℕ → Answer → Type 0
-IsAnswerTo line Malformed = (rule : Codec) (kind : ValueType) (octets : List ℕ) → Asks line rule kind octets → ⊥
-IsAnswerTo line answer = (rule : Codec) × (kind : ValueType) × (octets : List ℕ) × Asks line rule kind octets × IsAnswer rule (shape_of kind) (type_word kind) octets answer
+IsAnswerTo line answer = IsAnswerBy shape_of line answer
+
+-- The answer says that no value was read; if memory ran out, it says that.
+abbrev pub IsRefusal : Type 0 → Answer → Type 0
+IsRefusal MemoryRanOut (Refused cause) = MemoryRanOut → cause.now ≡ codes "OutOfMemory"
+IsRefusal MemoryRanOut _ = ⊥
+
+-- The answer says that a value was read, how many octets follow it, and its octets or why there are none.
+abbrev pub IsWrittenAnswer : List ℕ → ℕ → Result (Vec ℕ Global) EncodeError → Answer → Type 0
+IsWrittenAnswer kind count (Ok octets) (Read name n written) = (name.now ≡ kind) × (n ≡ count) × (written ≡ octets)
+IsWrittenAnswer kind count (Err e) (NotWritten name n cause) = (name.now ≡ kind) × (n ≡ count) × (IsEncodeOutOfMemory e.kind → cause.now ≡ codes "OutOfMemory")
+IsWrittenAnswer kind count _ _ = ⊥

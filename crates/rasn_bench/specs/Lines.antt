@@ -3,6 +3,7 @@ use Rattle.std.specs.Prelude.{◌≡◌, ◌≢◌, ℕ, ◌+◌, ◌-◌, ◌*�
 use Rattle.std.specs.List.{position_or_len, before_first, after_first}
 use Rattle.rasn_types.specs.declared.types.codec.Codec.{Codec}
 use Rattle.rasn_types.specs.declared.types.codec.Codec.TheVariants.{Ber, Cer, Der}
+use Rattle.rasn_bench.specs.declared.line.Request.{Request}
 use Rattle.rasn_bench.specs.declared.line.ValueType.{ValueType}
 use Rattle.rasn_bench.specs.declared.line.ValueType.TheVariants.{Bool as BoolType, I32, U32, Octets, Pair, Integer, UtcTime, GeneralizedTime, Date, Null, ObjectIdentifier, Bits, Colour, Utf8, Ia5, Printable, Foo, OptionalBool, Validity, Any, AlgorithmIdentifier, RelativeDistinguishedName, Set3, Bag}
 
@@ -31,6 +32,33 @@ name_of AlgorithmIdentifier = codes "algid"
 name_of RelativeDistinguishedName = codes "rdn"
 name_of Set3 = codes "set3"
 name_of Bag = codes "bag"
+
+-- what the program calls a value of the type
+abbrev pub type_word : ValueType → List ℕ
+type_word BoolType = codes "BOOLEAN"
+type_word I32 = codes "INTEGER"
+type_word U32 = codes "INTEGER"
+type_word Octets = codes "OCTET-STRING"
+type_word Pair = codes "SEQUENCE"
+type_word Integer = codes "INTEGER"
+type_word UtcTime = codes "TIME"
+type_word GeneralizedTime = codes "TIME"
+type_word Date = codes "TIME"
+type_word Null = codes "NULL"
+type_word ObjectIdentifier = codes "OID"
+type_word Bits = codes "BIT-STRING"
+type_word Colour = codes "ENUMERATED"
+type_word Utf8 = codes "STRING"
+type_word Ia5 = codes "STRING"
+type_word Printable = codes "STRING"
+type_word Foo = codes "SEQUENCE"
+type_word OptionalBool = codes "OPTIONAL"
+type_word Validity = codes "SEQUENCE"
+type_word Any = codes "ANY"
+type_word AlgorithmIdentifier = codes "SEQUENCE"
+type_word RelativeDistinguishedName = codes "SET"
+type_word Set3 = codes "SET"
+type_word Bag = codes "SET"
 
 abbrev pub rule_name : Codec → List ℕ
 rule_name Ber = codes "ber"
@@ -101,3 +129,14 @@ octets_of_digits (a ∷ b ∷ l) = pairs_at (a ∷ b ∷ l)
 abbrev pub Spells : {A : Type 0} → (List ℕ → Option (List ℕ)) → List ℕ → Option (Vec ℕ A) → Type 0
 Spells read digits None = read digits ≡ None
 Spells read digits (Some octets) = read digits ≡ Some octets.items
+
+-- The line asks for a type under these rules, by digits that spell octets.
+pub record Asks (line : List ℕ) (rule : Codec) (kind : ValueType) (octets : List ℕ) : Type 0 where
+  pub digits : List ℕ
+  pub request : IsRequest line rule kind digits
+  pub spelled : octets_of_digits digits ≡ Some octets
+
+-- What the line asks for, or nothing if it asks for nothing.
+abbrev pub IsAsked : {A : Type 0} → List ℕ → Option (Request × Vec ℕ A) → Type 0
+IsAsked line None = (rule : Codec) (kind : ValueType) (octets : List ℕ) → Asks line rule kind octets → ⊥
+IsAsked line (Some p) = Asks line p.0.rule p.0.value_type p.1.items

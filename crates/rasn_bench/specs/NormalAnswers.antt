@@ -1,12 +1,15 @@
 -- What the program answers to a line where it normalises.
-use Rattle.std.specs.Prelude.{◌≡◌, ℕ, ◌⊎◌, List, codes}
+use Rattle.std.specs.Prelude.{◌≡◌, ℕ, ◌⊎◌, List, codes, Vec, Result, Ok, Err}
+use Rattle.std.specs.Global.{Global}
 use Rattle.rasn_types.specs.declared.types.codec.Codec.{Codec}
 use Rattle.rasn_types.specs.Shapes.{Shape}
 use Rattle.rasn_bench.specs.declared.line.ValueType.{ValueType}
 use Rattle.rasn_bench.specs.declared.normal_answer.NormalAnswer.{NormalAnswer}
 use Rattle.rasn_bench.specs.declared.normal_answer.NormalAnswer.TheVariants.{Normal, Refused, Malformed}
-use Rattle.rasn_bench.specs.Answers.{Asks, shape_of}
-use Rattle.rasn.specs.Normal.{IsNormal}
+use Rattle.rasn_bench.specs.Answers.{shape_of}
+use Rattle.rasn_bench.specs.Lines.{Asks}
+use Rattle.rasn.specs.Normal.{IsNormal, IsOutOfMemoryAlone}
+use Rattle.rasn.specs.declared.normal.NormaliseError.{NormaliseError}
 
 -- The answer to these octets; memory aside.
 abbrev pub IsNormalAnswer : Codec → Shape → List ℕ → NormalAnswer → Type 0
@@ -14,6 +17,16 @@ IsNormalAnswer rule shape input (Normal octets) = IsNormal rule shape input octe
 IsNormalAnswer rule shape input (Refused cause) = (cause.now ≡ codes "OutOfMemory") ⊎ ((octets : List ℕ) → IsNormal rule shape input octets → ⊥)
 IsNormalAnswer rule shape input Malformed = ⊥
 
+-- The answer to the line, whose types have these shapes.
+abbrev pub IsNormalAnswerBy : (ValueType → Shape) → List ℕ → NormalAnswer → Type 0
+IsNormalAnswerBy shape line Malformed = (rule : Codec) (kind : ValueType) (octets : List ℕ) → Asks line rule kind octets → ⊥
+IsNormalAnswerBy shape line answer = (rule : Codec) × (kind : ValueType) × (octets : List ℕ) × Asks line rule kind octets × IsNormalAnswer rule (shape kind) octets answer
+
 abbrev pub IsNormalAnswerTo : List ℕ → NormalAnswer → Type 0
-IsNormalAnswerTo line Malformed = (rule : Codec) (kind : ValueType) (octets : List ℕ) → Asks line rule kind octets → ⊥
-IsNormalAnswerTo line answer = (rule : Codec) × (kind : ValueType) × (octets : List ℕ) × Asks line rule kind octets × IsNormalAnswer rule (shape_of kind) octets answer
+IsNormalAnswerTo line answer = IsNormalAnswerBy shape_of line answer
+
+-- The answer says what normalising returned: the octets, or why there are none.
+abbrev pub IsNormalisedAnswer : Result (Vec ℕ Global) NormaliseError → NormalAnswer → Type 0
+IsNormalisedAnswer (Ok octets) (Normal written) = written ≡ octets
+IsNormalisedAnswer (Err e) (Refused cause) = IsOutOfMemoryAlone e → cause.now ≡ codes "OutOfMemory"
+IsNormalisedAnswer _ _ = ⊥

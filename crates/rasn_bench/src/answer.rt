@@ -1,6 +1,7 @@
 //! What the program answers to a line.
 ghost use Rattle.std.specs.Prelude.{IfOk, IsTrue, ◌↔◌, ◌≢◌};
-ghost use Rattle.rasn_bench.specs.Answers.{IsAnswerTo};
+ghost use Rattle.rasn_bench.specs.Answers.{IsAnswerTo, IsRefusal, IsWrittenAnswer};
+ghost use Rattle.rasn_types.specs.Errors.{IsOutOfMemory};
 ghost use Rattle.rasn_bench.specs.declared.answer.Answer.TheVariants.{Malformed};
 
 use crate::line::Request;
@@ -9,6 +10,7 @@ use crate::typed_answer::{TypedAnswer, answer_to};
 use rasn::de::Decode;
 use rasn::der;
 use rasn::enc::Encode;
+use rasn::error::{DecodeError, EncodeError};
 use rasn::types::{Codec, LawfulEq};
 use std::alloc::{AllocError, Global};
 use std::fmt;
@@ -41,13 +43,37 @@ impl Answer {
     pub fn to_line(alloc: Global, line: &str) -> Result<Answer, AllocError>
         ensures { IfOk result (IsAnswerTo line.now) }
     {
-        let Some(request) = Request::of_line(line) else {
-            return Ok(Answer::Malformed);
-        };
-        let Some(octets) = request.octets(alloc)? else {
-            return Ok(Answer::Malformed);
-        };
-        Ok(answer_to(alloc, request, &octets))
+        match Request::asked(alloc, line)? {
+            Some((request, octets)) => Ok(answer_to(alloc, request, &octets)),
+            None => Ok(Answer::Malformed),
+        }
+    }
+
+    /// Returns the answer if a value is refused for this error.
+    pub fn refused(error: &DecodeError) -> Answer
+        ensures { IsRefusal (IsOutOfMemory error.now.kind) result }
+    {
+        Answer::Refused {
+            name: decode_error_name(&error.kind),
+        }
+    }
+
+    /// Returns the answer if a value was read, `rest` octets were left, and DER writes it so.
+    pub fn read(word: &'static str, rest: usize, written: Result<Vec<u8>, EncodeError>) -> Answer
+        ensures { IsWrittenAnswer word.now rest written result }
+    {
+        match written {
+            Ok(octets) => Answer::Read {
+                kind: word,
+                rest,
+                octets,
+            },
+            Err(error) => Answer::NotWritten {
+                kind: word,
+                rest,
+                name: encode_error_name(&error.kind),
+            },
+        }
     }
 
     /// Whether the line had a good form.
@@ -71,21 +97,8 @@ impl TypedAnswer for Answer {
         octets: &[u8],
     ) -> Answer {
         match rasn::decode_with_remainder::<T>(alloc, rule, octets) {
-            Err(error) => Answer::Refused {
-                name: decode_error_name(&error.kind),
-            },
-            Ok((value, rest)) => match der::encode(alloc, &value) {
-                Ok(octets) => Answer::Read {
-                    kind: word,
-                    rest: rest.len(),
-                    octets,
-                },
-                Err(error) => Answer::NotWritten {
-                    kind: word,
-                    rest: rest.len(),
-                    name: encode_error_name(&error.kind),
-                },
-            },
+            Err(error) => Answer::refused(&error),
+            Ok((value, rest)) => Answer::read(word, rest.len(), der::encode(alloc, &value)),
         }
     }
 }

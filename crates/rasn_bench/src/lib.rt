@@ -3,6 +3,7 @@
 
 mod answer;
 mod arguments;
+mod call;
 mod lawful;
 mod line;
 mod names;
@@ -14,11 +15,12 @@ mod worked;
 
 pub use answer::Answer;
 pub use arguments::{Usage, file_of};
+pub use call::{CallFault, answer_call};
 pub use lawful::{lawful_both, lawful_types};
 pub use line::{Request, ValueType};
 pub use normal::worked_normals;
 pub use normal_answer::NormalAnswer;
-pub use program::{RunFault, run, run_normalise};
+pub use program::{Answers, LineAnswer, RunFault, WorkedTypes, run, run_by, run_normalise};
 pub use rasn::{NormaliseError, normalise};
 pub use worked::{
     AlgorithmIdentifier, AttributeTypeAndValue, Both, Colour, Event, Foo, Group, Grouped, Pair,

@@ -1,7 +1,7 @@
 //! The lines of the program: `rule type hex`.
 ghost use Rattle.std.specs.Prelude.{◌≡◌, ◌<◌, MatchOption, IfOk, IfSome, List, length, ℕ};
 ghost use Rattle.rasn_types.specs.declared.types.codec.Codec.{Codec};
-ghost use Rattle.rasn_bench.specs.Lines.{name_of, rule_name, IsRequest, Spells, octets_of_digits, pairs_at, pair_at, digit_at, BeginsWithPair, BeginsWithoutPair};
+ghost use Rattle.rasn_bench.specs.Lines.{type_word, IsAsked, name_of, rule_name, IsRequest, Spells, octets_of_digits, pairs_at, pair_at, digit_at, BeginsWithPair, BeginsWithoutPair};
 ghost use Rattle.rasn_bench.specs.declared.line.ValueType.{ValueType};
 
 use rasn::types::Codec;
@@ -69,6 +69,30 @@ impl ValueType {
             _ => None,
         }
     }
+
+    /// Returns what the program calls a value of the type.
+    pub fn word(self) -> &'static str
+        ensures { result.now ≡ type_word self }
+    {
+        match self {
+            ValueType::Bool => "BOOLEAN",
+            ValueType::I32 | ValueType::U32 | ValueType::Integer => "INTEGER",
+            ValueType::Octets => "OCTET-STRING",
+            ValueType::UtcTime | ValueType::GeneralizedTime | ValueType::Date => "TIME",
+            ValueType::Null => "NULL",
+            ValueType::ObjectIdentifier => "OID",
+            ValueType::Bits => "BIT-STRING",
+            ValueType::Colour => "ENUMERATED",
+            ValueType::Utf8 | ValueType::Ia5 | ValueType::Printable => "STRING",
+            ValueType::OptionalBool => "OPTIONAL",
+            ValueType::Any => "ANY",
+            ValueType::Pair
+            | ValueType::Foo
+            | ValueType::Validity
+            | ValueType::AlgorithmIdentifier => "SEQUENCE",
+            ValueType::RelativeDistinguishedName | ValueType::Set3 | ValueType::Bag => "SET",
+        }
+    }
 }
 
 /// The rules of this name.
@@ -107,6 +131,22 @@ impl<'line> Request<'line> {
             value_type,
             digits,
         })
+    }
+
+    /// Returns what a line asks: its request and the octets that its digits spell, or nothing if it has another form.
+    pub fn asked(
+        alloc: Global,
+        line: &'line str,
+    ) -> Result<Option<(Request<'line>, Vec<u8>)>, AllocError>
+        ensures { IfOk result (IsAsked line.now) }
+    {
+        let Some(request) = Request::of_line(line) else {
+            return Ok(None);
+        };
+        match request.octets(alloc)? {
+            Some(octets) => Ok(Some((request, octets))),
+            None => Ok(None),
+        }
     }
 
     /// The octets that the digits spell, `-` for none; or nothing where they are no such spelling.

@@ -1,7 +1,7 @@
 //! What the program answers to a line where it normalises.
 ghost use Rattle.std.specs.Prelude.{IfOk, IsTrue, ◌↔◌, ◌≢◌, ◌≡◌, codes};
 ghost use Rattle.rasn.specs.Normal.{IsOutOfMemoryAlone};
-ghost use Rattle.rasn_bench.specs.NormalAnswers.{IsNormalAnswerTo};
+ghost use Rattle.rasn_bench.specs.NormalAnswers.{IsNormalAnswerTo, IsNormalisedAnswer};
 ghost use Rattle.rasn_bench.specs.declared.normal_answer.NormalAnswer.TheVariants.{Malformed};
 
 use crate::answer::write_octets;
@@ -31,13 +31,22 @@ impl NormalAnswer {
     pub fn to_line(alloc: Global, line: &str) -> Result<NormalAnswer, AllocError>
         ensures { IfOk result (IsNormalAnswerTo line.now) }
     {
-        let Some(request) = Request::of_line(line) else {
-            return Ok(NormalAnswer::Malformed);
-        };
-        let Some(octets) = request.octets(alloc)? else {
-            return Ok(NormalAnswer::Malformed);
-        };
-        Ok(answer_to(alloc, request, &octets))
+        match Request::asked(alloc, line)? {
+            Some((request, octets)) => Ok(answer_to(alloc, request, &octets)),
+            None => Ok(NormalAnswer::Malformed),
+        }
+    }
+
+    /// Returns the answer if octets are normalised so.
+    pub fn of_normalised(normalised: Result<Vec<u8>, NormaliseError>) -> NormalAnswer
+        ensures { IsNormalisedAnswer normalised result }
+    {
+        match normalised {
+            Ok(octets) => NormalAnswer::Normal { octets },
+            Err(error) => NormalAnswer::Refused {
+                name: error_name(&error),
+            },
+        }
     }
 
     /// Whether the line had a good form.
@@ -60,12 +69,7 @@ impl TypedAnswer for NormalAnswer {
         _word: &'static str,
         octets: &[u8],
     ) -> NormalAnswer {
-        match normalise::<T>(alloc, rule, octets) {
-            Ok(octets) => NormalAnswer::Normal { octets },
-            Err(error) => NormalAnswer::Refused {
-                name: error_name(&error),
-            },
-        }
+        NormalAnswer::of_normalised(normalise::<T>(alloc, rule, octets))
     }
 }
 

@@ -1,4 +1,5 @@
 //! The program's work: an answer for each line.
+ghost use Rattle.std.specs.Prelude.{IfOk};
 
 use crate::answer::Answer;
 use crate::normal_answer::NormalAnswer;
@@ -21,32 +22,75 @@ pub enum RunFault {
     Memory,
 }
 
-/// What is answered to a line.
-trait LineAnswer: fmt::Display + Drop {
-    /// The answer to a line without its line feed.
-    fn of_line(alloc: Global, line: &str) -> Result<Self, AllocError>;
+impl RunFault {
+    /// Returns what a refused read is.
+    pub fn of_read(kind: ErrorKind) -> RunFault {
+        match kind {
+            ErrorKind::OutOfMemory => RunFault::Memory,
+            _ => RunFault::Read,
+        }
+    }
+}
 
-    /// Whether the line had a good form.
+/// An answer to a line.
+pub trait LineAnswer: fmt::Display + Drop {
+    /// Returns whether the line had a good form.
     fn has_good_form(&self) -> bool;
 }
 
 impl LineAnswer for Answer {
-    fn of_line(alloc: Global, line: &str) -> Result<Answer, AllocError> {
-        Answer::to_line(alloc, line)
-    }
-
     fn has_good_form(&self) -> bool {
         self.is_well_formed()
     }
 }
 
 impl LineAnswer for NormalAnswer {
-    fn of_line(alloc: Global, line: &str) -> Result<NormalAnswer, AllocError> {
-        NormalAnswer::to_line(alloc, line)
-    }
-
     fn has_good_form(&self) -> bool {
         self.is_well_formed()
+    }
+}
+
+/// What answers lines.
+pub trait Answers {
+    ghost use Rattle.std.specs.Prelude.{List, ℕ};
+    ghost use Rattle.rasn_bench.specs.declared.normal_answer.NormalAnswer.{NormalAnswer};
+
+    /// The answers to lines.
+    type Answer: LineAnswer;
+
+    ghost IsAnswer: { Self → List ℕ → Self.Answer → Type 0 };
+
+    ghost IsNormalAnswer: { Self → List ℕ → NormalAnswer → Type 0 };
+
+    /// Returns the answer to a line without its line feed.
+    fn answer(&self, alloc: Global, line: &str) -> Result<Self::Answer, AllocError>
+        ensures { IfOk result (IsAnswer self.now line.now) };
+
+    /// Returns the answer to a line without its line feed, by the DER octets of its value alone.
+    fn normal_answer(&self, alloc: Global, line: &str) -> Result<NormalAnswer, AllocError>
+        ensures { IfOk result (IsNormalAnswer self.now line.now) };
+}
+
+/// Answers lines by the types of this crate.
+#[derive(Clone, Copy, Debug, PartialEq, Eq, Drop)]
+pub struct WorkedTypes;
+
+impl Answers for WorkedTypes {
+    ghost use Rattle.rasn_bench.specs.Answers.{IsAnswerTo};
+    ghost use Rattle.rasn_bench.specs.NormalAnswers.{IsNormalAnswerTo};
+
+    type Answer = Answer;
+
+    ghost IsAnswer = { λ _ line answer. IsAnswerTo line answer };
+
+    ghost IsNormalAnswer = { λ _ line answer. IsNormalAnswerTo line answer };
+
+    fn answer(&self, alloc: Global, line: &str) -> Result<Answer, AllocError> {
+        Answer::to_line(alloc, line)
+    }
+
+    fn normal_answer(&self, alloc: Global, line: &str) -> Result<NormalAnswer, AllocError> {
+        NormalAnswer::to_line(alloc, line)
     }
 }
 
@@ -57,7 +101,7 @@ pub fn run<R: BufRead, W: Write>(
     input: &mut R,
     output: &mut W,
 ) -> Result<bool, RunFault> {
-    answer_all::<Answer, R, W>(alloc, input, output)
+    run_by(alloc, &WorkedTypes, false, input, output)
 }
 
 /// As `run`, but each line is answered by the DER octets of its value alone.
@@ -66,12 +110,14 @@ pub fn run_normalise<R: BufRead, W: Write>(
     input: &mut R,
     output: &mut W,
 ) -> Result<bool, RunFault> {
-    answer_all::<NormalAnswer, R, W>(alloc, input, output)
+    run_by(alloc, &WorkedTypes, true, input, output)
 }
 
-/// Answers all lines.
-fn answer_all<A: LineAnswer, R: BufRead, W: Write>(
+/// As `run`, by these answers, and as `run_normalise` if `normalises`.
+pub fn run_by<A: Answers, R: BufRead, W: Write>(
     alloc: Global,
+    answers: &A,
+    normalises: bool,
     input: &mut R,
     output: &mut W,
 ) -> Result<bool, RunFault> {
@@ -82,20 +128,14 @@ fn answer_all<A: LineAnswer, R: BufRead, W: Write>(
         match input.read_until(b'\n', &mut line) {
             Ok(0) => break,
             Ok(_) => {}
-            Err(error) => {
-                return Err(if error.kind() == ErrorKind::OutOfMemory {
-                    RunFault::Memory
-                } else {
-                    RunFault::Read
-                });
-            }
+            Err(error) => return Err(RunFault::of_read(error.kind())),
         }
         let text = without_line_feed(&line);
         let Ok(text) = str::from_utf8(text) else {
             return Err(RunFault::Read);
         };
         if !text.is_empty() {
-            well_formed &= answer_line::<A, W>(alloc, text, output)?;
+            well_formed &= answer_line(alloc, answers, normalises, text, output)?;
         }
     }
     match output.flush() {
@@ -113,14 +153,28 @@ fn without_line_feed(line: &[u8]) -> &[u8] {
 }
 
 /// Writes the answer to a line, and returns whether the line had a good form.
-fn answer_line<A: LineAnswer, W: Write>(
+fn answer_line<A: Answers, W: Write>(
     alloc: Global,
+    answers: &A,
+    normalises: bool,
     line: &str,
     output: &mut W,
 ) -> Result<bool, RunFault> {
-    let Ok(answer) = A::of_line(alloc, line) else {
-        return Err(RunFault::Memory);
-    };
+    if normalises {
+        match answers.normal_answer(alloc, line) {
+            Ok(answer) => write_answer(output, &answer),
+            Err(_) => Err(RunFault::Memory),
+        }
+    } else {
+        match answers.answer(alloc, line) {
+            Ok(answer) => write_answer(output, &answer),
+            Err(_) => Err(RunFault::Memory),
+        }
+    }
+}
+
+/// Writes an answer as a line, and returns whether the line that it is to had a good form.
+fn write_answer<A: LineAnswer, W: Write>(output: &mut W, answer: &A) -> Result<bool, RunFault> {
     match writeln!(output, "{answer}") {
         Ok(()) => Ok(answer.has_good_form()),
         Err(_) => Err(RunFault::Write),

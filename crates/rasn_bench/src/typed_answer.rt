@@ -35,34 +35,35 @@ pub(crate) fn answer_to<A: TypedAnswer>(alloc: Global, request: Request<'_>, oct
     ensures { OfNamedType A.IsOfType request.entry.rule request.entry.value_type octets.now result }
 {
     let rule = request.rule;
+    let word = request.value_type.word();
     match request.value_type {
-        ValueType::Bool => A::of_type::<bool>(alloc, rule, "BOOLEAN", octets),
-        ValueType::I32 => A::of_type::<i32>(alloc, rule, "INTEGER", octets),
-        ValueType::U32 => A::of_type::<u32>(alloc, rule, "INTEGER", octets),
-        ValueType::Octets => A::of_type::<OctetString>(alloc, rule, "OCTET-STRING", octets),
-        ValueType::Pair => A::of_type::<Pair>(alloc, rule, "SEQUENCE", octets),
-        ValueType::Integer => A::of_type::<Integer>(alloc, rule, "INTEGER", octets),
-        ValueType::UtcTime => A::of_type::<UtcTime>(alloc, rule, "TIME", octets),
-        ValueType::GeneralizedTime => A::of_type::<GeneralizedTime>(alloc, rule, "TIME", octets),
-        ValueType::Date => A::of_type::<Date>(alloc, rule, "TIME", octets),
-        ValueType::Null => A::of_type::<()>(alloc, rule, "NULL", octets),
-        ValueType::ObjectIdentifier => A::of_type::<ObjectIdentifier>(alloc, rule, "OID", octets),
-        ValueType::Bits => A::of_type::<BitString>(alloc, rule, "BIT-STRING", octets),
-        ValueType::Colour => A::of_type::<Colour>(alloc, rule, "ENUMERATED", octets),
-        ValueType::Utf8 => A::of_type::<Utf8String>(alloc, rule, "STRING", octets),
-        ValueType::Ia5 => A::of_type::<Ia5String>(alloc, rule, "STRING", octets),
-        ValueType::Printable => A::of_type::<PrintableString>(alloc, rule, "STRING", octets),
-        ValueType::Foo => A::of_type::<Foo>(alloc, rule, "SEQUENCE", octets),
-        ValueType::OptionalBool => A::of_type::<Option<bool>>(alloc, rule, "OPTIONAL", octets),
-        ValueType::Validity => A::of_type::<Validity>(alloc, rule, "SEQUENCE", octets),
-        ValueType::Any => A::of_type::<Any>(alloc, rule, "ANY", octets),
+        ValueType::Bool => A::of_type::<bool>(alloc, rule, word, octets),
+        ValueType::I32 => A::of_type::<i32>(alloc, rule, word, octets),
+        ValueType::U32 => A::of_type::<u32>(alloc, rule, word, octets),
+        ValueType::Octets => A::of_type::<OctetString>(alloc, rule, word, octets),
+        ValueType::Pair => A::of_type::<Pair>(alloc, rule, word, octets),
+        ValueType::Integer => A::of_type::<Integer>(alloc, rule, word, octets),
+        ValueType::UtcTime => A::of_type::<UtcTime>(alloc, rule, word, octets),
+        ValueType::GeneralizedTime => A::of_type::<GeneralizedTime>(alloc, rule, word, octets),
+        ValueType::Date => A::of_type::<Date>(alloc, rule, word, octets),
+        ValueType::Null => A::of_type::<()>(alloc, rule, word, octets),
+        ValueType::ObjectIdentifier => A::of_type::<ObjectIdentifier>(alloc, rule, word, octets),
+        ValueType::Bits => A::of_type::<BitString>(alloc, rule, word, octets),
+        ValueType::Colour => A::of_type::<Colour>(alloc, rule, word, octets),
+        ValueType::Utf8 => A::of_type::<Utf8String>(alloc, rule, word, octets),
+        ValueType::Ia5 => A::of_type::<Ia5String>(alloc, rule, word, octets),
+        ValueType::Printable => A::of_type::<PrintableString>(alloc, rule, word, octets),
+        ValueType::Foo => A::of_type::<Foo>(alloc, rule, word, octets),
+        ValueType::OptionalBool => A::of_type::<Option<bool>>(alloc, rule, word, octets),
+        ValueType::Validity => A::of_type::<Validity>(alloc, rule, word, octets),
+        ValueType::Any => A::of_type::<Any>(alloc, rule, word, octets),
         ValueType::AlgorithmIdentifier => {
-            A::of_type::<AlgorithmIdentifier>(alloc, rule, "SEQUENCE", octets)
+            A::of_type::<AlgorithmIdentifier>(alloc, rule, word, octets)
         }
         ValueType::RelativeDistinguishedName => {
-            A::of_type::<RelativeDistinguishedName>(alloc, rule, "SET", octets)
+            A::of_type::<RelativeDistinguishedName>(alloc, rule, word, octets)
         }
-        ValueType::Set3 => A::of_type::<Set3>(alloc, rule, "SET", octets),
-        ValueType::Bag => A::of_type::<SetOf<OctetString>>(alloc, rule, "SET", octets),
+        ValueType::Set3 => A::of_type::<Set3>(alloc, rule, word, octets),
+        ValueType::Bag => A::of_type::<SetOf<OctetString>>(alloc, rule, word, octets),
     }
 }

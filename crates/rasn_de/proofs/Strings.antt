@@ -1,4 +1,5 @@
 pub mod Segments
+pub mod Bare
 pub mod Reads
 pub mod Ends
 pub mod OctetString

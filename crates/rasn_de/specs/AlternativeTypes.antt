@@ -5,7 +5,7 @@ use Rattle.rasn_types.specs.declared.types.tag.Tag.{Tag}
 use Rattle.rasn_types.specs.declared.error.decode.DecodeError.{DecodeError}
 use Rattle.rasn_types.specs.Tags.{form}
 use Rattle.rasn_types.specs.Framing.{NextTag}
-use Rattle.rasn_types.specs.Shapes.{Shape, Tree, chosen, choice, Parts, part, own}
+use Rattle.rasn_types.specs.Shapes.{Shape, Tree, chosen, choice, Parts, part, own, Presence, required, optional, addition, default}
 use Rattle.rasn_types.specs.Shapes.Parts.{none}
 use Rattle.rasn_types.specs.Readings.{Reading, ReadsChoice}
 use Rattle.rasn_types.specs.Grammar.{parts_of}
@@ -13,7 +13,7 @@ use Rattle.rasn_de.specs.State.{State, Call}
 use Rattle.rasn_de.specs.Steps.{PeeksTag}
 use Rattle.rasn_de.specs.NamedErrors.{IsNamedError, IsNoValidChoice}
 use Rattle.rasn_de.specs.Headers.{same_tag}
-use Rattle.rasn_de.specs.PartTypes.{same_own, DecodesTree}
+use Rattle.rasn_de.specs.PartTypes.{same_own, DecodesTree, FailsAtOnePart}
 use Rattle.rasn_de.specs.Decodes.{DecodesBy, Decodes}
 
 -- One of these alternatives is read, the first of which has the number k.
@@ -37,11 +37,18 @@ none_begins (part p s ps) t = is_other (own s) t && none_begins ps t
 abbrev pub is_first_alone : Shape → Tag → Parts → Bool
 is_first_alone s tag ps = same_own (own s) (Some tag) && none_begins ps tag
 
+-- The value of a part that comes isn't read.
+abbrev pub FailsAtValue : Presence → Shape → State → DecodeError → State → Type 0
+FailsAtValue required s old e new = DecodesTree s old (Err e) new
+FailsAtValue optional s old e new = DecodesTree s old (Err e) new
+FailsAtValue addition s old e new = DecodesTree s old (Err e) new
+FailsAtValue (default d) s old e new = FailsAtOnePart (default d) s old e new
+
 -- The first alternative of this tag isn't read; or none has it, and the error holds the name. Then nothing is consumed.
 abbrev pub FailsAtAlternative : Parts → List ℕ → Tag → State → DecodeError → State → Type 0
 FailsAtAlternative none name tag old e new = IsNamedError (IsNoValidChoice name) old.rule e × (new ≡ old)
 FailsAtAlternative (part p s ps) name tag old e new =
-    ((own s ≡ Some tag) × DecodesTree s old (Err e) new) ⊎ ((own s ≡ Some tag → ⊥) × FailsAtAlternative ps name tag old e new)
+    ((own s ≡ Some tag) × FailsAtValue p s old e new) ⊎ ((own s ≡ Some tag → ⊥) × FailsAtAlternative ps name tag old e new)
 
 -- The alternative of the next tag is read. A refusal is that of the look at this tag, which consumes nothing, or the alternative's.
 abbrev pub DecodesAlternative : {D : Type 0} → Parts → (D → Tree) → List ℕ → Call D

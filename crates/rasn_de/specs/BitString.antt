@@ -12,7 +12,7 @@ use Rattle.rasn_de.specs.declared.ber.de.parser.ParseError.{ParseError}
 use Rattle.rasn_de.specs.declared.ber.de.parser.ParseError.TheVariants.{OutOfMemory, UnexpectedEmptyInput, InvalidBitString, LengthExceedsPlatformWidth, SizeConstraintNotSatisfied, Der}
 use Rattle.rasn_types.specs.declared.error.decode.DerDecodeErrorKind.TheVariants.{NonzeroUnusedBits}
 use Rattle.rasn_de.specs.Headers.{is_der}
-use Rattle.rasn_de.specs.Segments.{string_at}
+use Rattle.rasn_de.specs.Segments.{string_at, without_memory}
 use Rattle.rasn_de.specs.OctetString.{IsPrimitive, IsConstructed}
 use Rattle.rasn_de.specs.CharacterString.{AllocFailsCollecting}
 use Rattle.rasn_de.specs.State.{State, at}
@@ -44,15 +44,19 @@ segment_bits rule (unused ∷ octets) =
 abbrev pub bit_string_at : Codec → ℕ → Tag → List ℕ → Result (List Bool × List ℕ) ParseError
 bit_string_at rule depth tag l = string_at rule (segment_bits rule) (in_universal 3) depth tag l
 
+-- There is something to collect, as of octets.
+abbrev pub CollectsBits : Codec → ℕ → Tag → List ℕ → Type 0
+CollectsBits rule depth tag l = IsConstructed rule tag l × (string_at rule (without_memory (segment_bits rule)) (in_universal 3) depth tag l ≡ Err OutOfMemory)
+
 abbrev pub bits_tree : List Bool → Tree
 bits_tree bs = bits bs
 
--- Why there are no bits, and what is left. The reading refuses them, or an allocation fails while segments are gathered: all of the input is
--- left. An allocation fails for the bits of a primitive value, which are in order: what follows the value is left.
+-- Why there are no bits, and what is left. The reading refuses them, or an allocation fails while segments are collected: all of the input is
+-- left. An allocation fails for the bits of a primitive value, which has some and is in order: what follows the value is left.
 pub data FailsAtBits (rule : Codec) (depth : ℕ) (tag : Tag) (l : List ℕ) : ParseError → List ℕ → Type 0 where
   refused : (f : ParseError) → f ≢ OutOfMemory → bit_string_at rule depth tag l ≡ Err f → FailsAtBits rule depth tag l f l
-  gathering : IsConstructed rule tag l → FailsAtBits rule depth tag l OutOfMemory l
-  copying : (bs : List Bool) (rest : List ℕ) → IsPrimitive rule tag l → bit_string_at rule depth tag l ≡ Ok (bs, rest) → FailsAtBits rule depth tag l OutOfMemory rest
+  gathering : CollectsBits rule depth tag l → FailsAtBits rule depth tag l OutOfMemory l
+  copying : (bs : List Bool) (rest : List ℕ) → bs ≢ [] → IsPrimitive rule tag l → bit_string_at rule depth tag l ≡ Ok (bs, rest) → FailsAtBits rule depth tag l OutOfMemory rest
 
 -- What a decoder gathers of a string: its bits and what follows.
 abbrev pub DecodesBits : Tag → State → Result (List Bool) DecodeError → State → Type 0
@@ -72,14 +76,14 @@ BitsAt bounds rule depth tag l (Err e) =
     ((f : ParseError) × (bit_string_at rule depth tag l ≡ Err f) × (e ≡ (fault f, l)))
     ⊎ ((bs : List Bool) × (bit_string_at rule depth tag l ≡ Ok (bs, e.1)) × IsOversized bounds bs e.0)
 
--- An allocation fails for the copy of a primitive string's bits, before their number is asked for, and the value is consumed.
+-- An allocation fails for the copy of a primitive string's bits, of which there are some, before their number is asked for, and the value is consumed.
 abbrev pub AllocFailsCopyingBits : Tag → State → DecodeError → State → Type 0
 AllocFailsCopyingBits tag old e new = IsOutOfMemory e.kind × (e.codec ≡ old.rule) × (new ≡ at old new.rest) × IsPrimitive old.rule tag old.rest
-    × (bs : List Bool) × (bit_string_at old.rule old.depth tag old.rest ≡ Ok (bs, new.rest))
+    × (bs : List Bool) × (bs ≢ []) × (bit_string_at old.rule old.depth tag old.rest ≡ Ok (bs, new.rest))
 
 -- A call answers what the reading is, or an allocation fails.
 abbrev pub DecodesBitString : Tag → Constraints → State → Result (List Bool) DecodeError → State → Type 0
 DecodesBitString tag bounds old (Ok bs) new = DecodesLeaf (λ s. s) (BitsAt bounds old.rule old.depth tag old.rest) old (Ok bs) new
 DecodesBitString tag bounds old (Err e) new =
-    AllocFailsCollecting tag old e new ⊎ (AllocFailsCopyingBits tag old e new
+    AllocFailsCollecting CollectsBits tag old e new ⊎ (AllocFailsCopyingBits tag old e new
     ⊎ ((IsOutOfMemory e.kind → ⊥) × FailsAs (BitsAt bounds old.rule old.depth tag old.rest) old e new))

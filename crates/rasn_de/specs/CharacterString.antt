@@ -23,7 +23,7 @@ use Rattle.rasn_de.specs.declared.ber.de.parser.ParseError.{ParseError}
 use Rattle.rasn_de.specs.declared.ber.de.parser.ParseError.TheVariants.{SizeConstraintNotSatisfied, PermittedAlphabetError, StringConversionFailed}
 use Rattle.rasn_de.specs.Causes.{fault}
 use Rattle.rasn_de.specs.Leaves.{Readings, FailsAs, DecodesLeaf}
-use Rattle.rasn_de.specs.OctetString.{octet_string_at, IsPrimitive, IsConstructed, IsBorrowedIfPrimitive}
+use Rattle.rasn_de.specs.OctetString.{octet_string_at, IsPrimitive, IsConstructed, CollectsOctets, IsBorrowedIfPrimitive}
 use Rattle.rasn_de.specs.State.{State, at}
 
 -- What is told of all octets of a string: the numbers that they mean, or the first refusal.
@@ -78,9 +78,9 @@ StringAt Told rule depth tag l (Err e) =
     ((f : ParseError) × (octet_string_at rule depth tag l ≡ Err f) × (e ≡ (fault f, l)))
     ⊎ ((xs : List ℕ) × (f : ParseError) × (octet_string_at rule depth tag l ≡ Ok (xs, e.1)) × Told xs (Err f) × (e.0 ≡ fault f))
 
--- An allocation fails while segments are gathered, and nothing is consumed.
-abbrev pub AllocFailsCollecting : Tag → State → DecodeError → State → Type 0
-AllocFailsCollecting tag old e new = IsOutOfMemory e.kind × (e.codec ≡ old.rule) × (new ≡ old) × IsConstructed old.rule tag old.rest
+-- An allocation fails while segments are collected, of which some hold something, and nothing is consumed.
+abbrev pub AllocFailsCollecting : (Codec → ℕ → Tag → List ℕ → Type 0) → Tag → State → DecodeError → State → Type 0
+AllocFailsCollecting Collects tag old e new = IsOutOfMemory e.kind × (e.codec ≡ old.rule) × (new ≡ old) × Collects old.rule old.depth tag old.rest
 
 -- An allocation fails for the copy of a primitive string that is in order, which is consumed.
 abbrev pub AllocFailsCopying : StringCheck → Tag → State → DecodeError → State → Type 0
@@ -91,7 +91,7 @@ AllocFailsCopying Told tag old e new = IsOutOfMemory e.kind × (e.codec ≡ old.
 abbrev pub DecodesString : {X : Type 0} → (X → List ℕ) → StringCheck → Tag → State → Result X DecodeError → State → Type 0
 DecodesString see Told tag old (Ok v) new = DecodesLeaf see (StringAt Told old.rule old.depth tag old.rest) old (Ok v) new
 DecodesString see Told tag old (Err e) new =
-    AllocFailsCollecting tag old e new ⊎ (AllocFailsCopying Told tag old e new
+    AllocFailsCollecting CollectsOctets tag old e new ⊎ (AllocFailsCopying Told tag old e new
     ⊎ ((IsOutOfMemory e.kind → ⊥) × FailsAs (StringAt Told old.rule old.depth tag old.rest) old e new))
 
 -- The characters are borrowed from a primitive string alone.
@@ -104,7 +104,7 @@ abbrev pub DecodesBorrowed : {X : Type 0} → (X → List ℕ) → (Codec → Ta
 DecodesBorrowed see borrowed Told tag old (Ok s) new =
     DecodesLeaf see (StringAt Told old.rule old.depth tag old.rest) old (Ok s) new × borrowed old.rule tag old.rest s
 DecodesBorrowed see borrowed Told tag old (Err e) new =
-    AllocFailsCollecting tag old e new ⊎ ((IsOutOfMemory e.kind → ⊥) × FailsAs (StringAt Told old.rule old.depth tag old.rest) old e new)
+    AllocFailsCollecting CollectsOctets tag old e new ⊎ ((IsOutOfMemory e.kind → ⊥) × FailsAs (StringAt Told old.rule old.depth tag old.rest) old e new)
 
 abbrev pub DecodesOctetString : Tag → Constraints → State → Result (CowSlice ℕ Global) DecodeError → State → Type 0
 DecodesOctetString tag bounds = DecodesBorrowed cow_slice_items IsBorrowedIfPrimitive (BySize bounds.size) tag

@@ -95,22 +95,26 @@ abbrev pub DecodesLeaf : {X Y : Type 0} → (X → Y) → Readings Y → State �
 DecodesLeaf see Is old (Ok v) new = Is (Ok (see v, new.rest)) × (new ≡ at old new.rest)
 DecodesLeaf see Is old (Err e) new = FailsAs Is old e new
 
--- A call returns what the reading of an INTEGER is, of a type whose numbers may take memory: where an allocation fails, the contents hold a
--- number, and the value was consumed.
-abbrev pub DecodesInteger : {X : Type 0} → (X → ℤ) → Type 0 → Tag → Readings ℤ → State → Result X DecodeError → State → Type 0
-DecodesInteger see Grows tag Is old (Ok v) new = DecodesLeaf see Is old (Ok v) new
-DecodesInteger see Grows tag Is old (Err e) new =
-    (IsOutOfMemory e.kind × Grows × (e.codec ≡ old.rule) × (new ≡ at old new.rest) × (c : List ℕ) × (definite_at old.rule tag old.rest ≡ Ok (c, new.rest)) × IsIntegerContents old.rule c) ⊎ FailsAs Is old e new
+-- A call returns what the reading of an INTEGER is, of a type of which some numbers take memory: where an allocation fails, the contents hold
+-- such a number, and the value was consumed.
+abbrev pub DecodesInteger : {X : Type 0} → (X → ℤ) → (ℤ → Type 0) → Tag → Readings ℤ → State → Result X DecodeError → State → Type 0
+DecodesInteger see Takes tag Is old (Ok v) new = DecodesLeaf see Is old (Ok v) new
+DecodesInteger see Takes tag Is old (Err e) new =
+    (IsOutOfMemory e.kind × (e.codec ≡ old.rule) × (new ≡ at old new.rest) × (c : List ℕ) × (definite_at old.rule tag old.rest ≡ Ok (c, new.rest)) × IsIntegerContents old.rule c × Takes (signed c)) ⊎ FailsAs Is old e new
 
--- A call reads an INTEGER of a type that has these numbers and so many bits, and may grow, within bounds.
-abbrev pub DecodesNumber : {X : Type 0} → (X → ℤ) → Bool → ℕ → Interval → Tag → Constraints → State → Result X DecodeError → State → Type 0
-DecodesNumber see grows width range tag bounds old result new = DecodesInteger see (grows ≡ true) tag (IntegerAt width range bounds old.rule tag old.rest) old result new
+-- A call reads an INTEGER of a type that has these numbers and so many bits, within bounds.
+abbrev pub DecodesNumber : {X : Type 0} → (X → ℤ) → (ℤ → Type 0) → ℕ → Interval → Tag → Constraints → State → Result X DecodeError → State → Type 0
+DecodesNumber see Takes width range tag bounds old result new = DecodesInteger see Takes tag (IntegerAt width range bounds old.rule tag old.rest) old result new
 
 -- The number is out of its bound.
 abbrev pub IsOutOfBound : Readings ℤ → List ℕ → Type 0
 IsOutOfBound Is rest = (z : ℤ) × (bound : Bounded ℤ) × Is (Err (out_of_bound z bound, rest))
 
--- Memory may be wanting for a number of a type whose numbers may grow, and for the error of a number out of its bound, and for nothing else.
-abbrev pub AllocMayFail : {X : Type 0} → Bool → ℕ → Interval → Tag → Constraints → State → Result X DecodeError → State → Type 0
-AllocMayFail grows width range tag bounds old result new =
-    IfErr result (λ e. IsOutOfMemory e.kind → (grows ≡ true) ⊎ IsOutOfBound (IntegerAt width range bounds old.rule tag old.rest) new.rest)
+-- The number that comes takes memory.
+abbrev pub TakesThere : (ℤ → Type 0) → Tag → State → List ℕ → Type 0
+TakesThere Takes tag old rest = (c : List ℕ) × (definite_at old.rule tag old.rest ≡ Ok (c, rest)) × Takes (signed c)
+
+-- Memory may be wanting for a number that takes memory, and for the error of a number out of its bound, and for nothing else.
+abbrev pub AllocMayFail : {X : Type 0} → (ℤ → Type 0) → ℕ → Interval → Tag → Constraints → State → Result X DecodeError → State → Type 0
+AllocMayFail Takes width range tag bounds old result new =
+    IfErr result (λ e. IsOutOfMemory e.kind → TakesThere Takes tag old new.rest ⊎ IsOutOfBound (IntegerAt width range bounds old.rule tag old.rest) new.rest)

@@ -26,3 +26,4 @@ pub mod BitString
 pub mod PartTypes
 pub mod AlternativeTypes
 pub mod SetPartTypes
+pub mod Beyond

@@ -12,7 +12,7 @@ use Rattle.rasn_types.specs.Framing.{Frame, Extent, definite}
 use Rattle.rasn_types.specs.Shapes.{Tree, numbers}
 use Rattle.rasn_de.specs.declared.ber.de.parser.ParseError.{ParseError}
 use Rattle.rasn_de.specs.declared.ber.de.parser.ParseError.TheVariants.{OutOfMemory}
-use Rattle.rasn_de.specs.Segments.{string_at, octets}
+use Rattle.rasn_de.specs.Segments.{string_at, octets, without_memory}
 use Rattle.rasn_de.specs.State.{State, at}
 use Rattle.rasn_de.specs.Steps.{IsErrorOf}
 
@@ -27,6 +27,10 @@ IsPrimitive rule tag l = (rest : List ℕ) × (contents : List ℕ) × Frame (fo
 abbrev pub IsConstructed : Codec → Tag → List ℕ → Type 0
 IsConstructed rule tag l = (rest : List ℕ) × (extent : Extent) × Frame (form rule) l tag true rest extent
 
+-- There is something to collect: the value is constructed, and without memory nothing else is wrong up to a segment that holds something.
+abbrev pub CollectsOctets : Codec → ℕ → Tag → List ℕ → Type 0
+CollectsOctets rule depth tag l = IsConstructed rule tag l × (string_at rule (without_memory octets) (in_universal 4) depth tag l ≡ Err OutOfMemory)
+
 -- Octets are borrowed from a primitive string alone.
 abbrev pub IsBorrowedIfPrimitive : Codec → Tag → List ℕ → CowSlice ℕ Global → Type 0
 IsBorrowedIfPrimitive rule tag l (Borrowed s) = IsPrimitive rule tag l
@@ -36,7 +40,7 @@ abbrev pub cow_tree : CowSlice ℕ Global → Tree
 cow_tree s = numbers (cow_slice_items s)
 
 -- What a decoder gathers of a string: its octets and what follows; a refusal leaves all of the input. Running out of memory is met where
--- segments are gathered, and nowhere else.
+-- there is something to collect, and nowhere else.
 abbrev pub DecodesOctets : Tag → State → Result (CowSlice ℕ Global) DecodeError → State → Type 0
 DecodesOctets tag old (Ok s) new = (octet_string_at old.rule old.depth tag old.rest ≡ Ok (cow_slice_items s, new.rest)) × (new ≡ at old new.rest) × IsBorrowedIfPrimitive old.rule tag old.rest s
-DecodesOctets tag old (Err e) new = (f : ParseError) × IsErrorOf f old e × (new ≡ old) × (f ≢ OutOfMemory → octet_string_at old.rule old.depth tag old.rest ≡ Err f) × (f ≡ OutOfMemory → IsConstructed old.rule tag old.rest)
+DecodesOctets tag old (Err e) new = (f : ParseError) × IsErrorOf f old e × (new ≡ old) × (f ≢ OutOfMemory → octet_string_at old.rule old.depth tag old.rest ≡ Err f) × (f ≡ OutOfMemory → CollectsOctets old.rule old.depth tag old.rest)

@@ -35,14 +35,18 @@ header_with v rest = record { tag = v.tag; bit = v.is_constructed; extent = exte
 abbrev pub header : Value × Bor (List ℕ) → Header
 header p = header_with p.0 p.1.now
 
--- What is read is appended, and the rest handed back; an error but running out of memory is the first fault.
-abbrev pub ParsesSegments : {X : Type 0} → Result (List X × List ℕ) ParseError → List X → List X → Result (Bor (List ℕ)) ParseError → Type 0
-ParsesSegments {X} read old new (Ok r) = (xs : List X) × (read ≡ Ok (xs, r.now)) × (new ≡ old ++ xs)
-ParsesSegments read old new (Err e) = e ≢ OutOfMemory → read ≡ Err e
+-- An error but running out of memory is the first fault; that is met where bare, the same without memory, meets it.
+abbrev pub FailsToParse : {Y : Type 0} → Result Y ParseError → Result Y ParseError → ParseError → Type 0
+FailsToParse read bare e = (e ≢ OutOfMemory → read ≡ Err e) × (e ≡ OutOfMemory → bare ≡ Err OutOfMemory)
 
-abbrev pub ParsesSegment : {X : Type 0} → Result (List X) ParseError → List X → List X → Result (Unit {0}) ParseError → Type 0
-ParsesSegment {X} read old new (Ok u) = (xs : List X) × (read ≡ Ok xs) × (new ≡ old ++ xs)
-ParsesSegment read old new (Err e) = e ≢ OutOfMemory → read ≡ Err e
+-- What is read is appended, and the rest handed back.
+abbrev pub ParsesSegments : {X : Type 0} → Result (List X × List ℕ) ParseError → Result (List X × List ℕ) ParseError → List X → List X → Result (Bor (List ℕ)) ParseError → Type 0
+ParsesSegments {X} read bare old new (Ok r) = (xs : List X) × (read ≡ Ok (xs, r.now)) × (new ≡ old ++ xs)
+ParsesSegments read bare old new (Err e) = FailsToParse read bare e
+
+abbrev pub ParsesSegment : {X : Type 0} → Result (List X) ParseError → Result (List X) ParseError → List X → List X → Result (Unit {0}) ParseError → Type 0
+ParsesSegment {X} read bare old new (Ok u) = (xs : List X) × (read ≡ Ok xs) × (new ≡ old ++ xs)
+ParsesSegment read bare old new (Err e) = FailsToParse read bare e
 
 abbrev pub IsNestedValue : Value → Type 0
 IsNestedValue v = (v.is_constructed ≡ true) ⊎ (extent v.contents ≡ indefinite)

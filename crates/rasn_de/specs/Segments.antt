@@ -3,7 +3,7 @@ use Rattle.std.specs.Prelude.{ℕ, zero, suc, Bool, true, false, ◌&&◌, nat_e
 use Rattle.rasn_types.specs.declared.types.tag.Tag.{Tag}
 use Rattle.rasn_types.specs.declared.types.codec.Codec.{Codec}
 use Rattle.rasn_de.specs.declared.ber.de.parser.ParseError.{ParseError}
-use Rattle.rasn_de.specs.declared.ber.de.parser.ParseError.TheVariants.{Incomplete, UnexpectedExtraData, ExceedsMaxParseDepth, MissingEndOfContents, Der}
+use Rattle.rasn_de.specs.declared.ber.de.parser.ParseError.TheVariants.{Incomplete, UnexpectedExtraData, ExceedsMaxParseDepth, MissingEndOfContents, OutOfMemory, Der}
 use Rattle.rasn_types.specs.declared.error.decode.DerDecodeErrorKind.TheVariants.{ConstructedEncodingNotAllowed}
 use Rattle.rasn_types.specs.Framing.{Extent, definite, indefinite}
 use Rattle.rasn_types.specs.Tags.{form}
@@ -75,3 +75,15 @@ octets l = Ok l
 -- a string with a tag of its own
 abbrev pub string_at : {X : Type 0} → Codec → (List ℕ → Result (List X) ParseError) → Tag → ℕ → Tag → List ℕ → Result (List X × List ℕ) ParseError
 string_at rule segment inner_tag depth tag l = header_at (form rule) (Tagged tag) l >>= string_of rule segment inner_tag depth
+
+-- What is collected of a segment where no memory is left.
+abbrev pub unless_some : {X : Type 0} → List X → Result (List X) ParseError
+unless_some [] = Ok []
+unless_some (x ∷ xs) = Err OutOfMemory
+
+abbrev pub without_memory : {X : Type 0} → (List ℕ → Result (List X) ParseError) → List ℕ → Result (List X) ParseError
+without_memory segment c = segment c >>= unless_some
+
+-- The string of a value whose header and contents were read, where no memory is left.
+abbrev pub bare_from : {X : Type 0} → Codec → (Codec → List ℕ → Result (List X) ParseError) → Tag → ℕ → Value → List ℕ → Result (List X × List ℕ) ParseError
+bare_from rule segment tag depth value rest = string_of rule (without_memory (segment rule)) tag depth (header_with value rest)

@@ -1,5 +1,5 @@
 -- The parts of a SET as types: what their slots hold while components are read, and what is made of them.
-use Rattle.std.specs.Prelude.{◌≡◌, ◌≢◌, ◌⊎◌, ℕ, zero, suc, ◌+◌, List, [], ◌∷◌, ◌++◌, length, Option, Some, None, Result, Ok, Err}
+use Rattle.std.specs.Prelude.{◌≡◌, ◌≢◌, ◌⊎◌, ℕ, zero, suc, ◌+◌, List, [], ◌∷◌, ◌++◌, length, IfErr, Option, Some, None, Result, Ok, Err}
 use Rattle.std.specs.Borrow.{Bor}
 use Rattle.rasn_types.specs.declared.types.codec.Codec.{Codec}
 use Rattle.rasn_types.specs.declared.types.tag.Tag.{Tag}
@@ -15,7 +15,7 @@ use Rattle.rasn_de.specs.Decodes.{DecodesExactly, Decodes}
 use Rattle.rasn_de.specs.Constructed.{sequence_header, DecodesInside}
 use Rattle.rasn_de.specs.SequenceOf.{FailsAtElement}
 use Rattle.rasn_de.specs.Set.{DecodesComponents, DecodesSetContents, AreParts}
-use Rattle.rasn_de.specs.AlternativeTypes.{ReadsNumbered}
+use Rattle.rasn_de.specs.AlternativeTypes.{ReadsNumbered, DecodesAlternative}
 
 -- what a slot holds
 abbrev pub held_tree : {T : Type 0} → (T → Tree) → Option T → Option Tree
@@ -72,6 +72,10 @@ IsPlaced before v name (Some told) after = (before ≢ None) × (after ≡ befor
 abbrev pub IsOrDefault : {T : Type 0} → (T → Tree) → Tree → Option T → Result T DecodeError → Type 0
 IsOrDefault tree d slot (Ok v) = (slot ≡ Some v) ⊎ ((slot ≡ None) × (tree v ≡ d))
 IsOrDefault tree d slot (Err e) = IsOutOfMemory e.kind
+
+-- A component is read as read_choice reads one of these parts: one of no part is refused by the type's name, and nothing of it is consumed.
+abbrev pub DecodesOneOf : Parts → List ℕ → Call Tree
+DecodesOneOf ps name old r new = Decodes (choice ps) (λ (t : Tree). t) old r new × IfErr r (λ e. DecodesAlternative ps (λ (t : Tree). t) name old (Err e) new)
 
 module _ (ps : Parts) (names : List (List ℕ)) (before : List (Option Tree)) (old : State) where
   -- The component that is next is read as a part, whose empty slot it fills, or whose name is told where that is filled; or it is no part.
@@ -152,3 +156,11 @@ DecodesSetPartContents ps tree names old =
 
 abbrev pub DecodesSetParts : {D : Type 0} → Parts → (D → Tree) → List (List ℕ) → Tag → Call D
 DecodesSetParts ps tree names tag = DecodesInside (DecodesSetPartContents ps tree names) (sequence_header tag)
+
+-- The same, where each component is read as one of these parts.
+abbrev pub DecodesNamedContents : {D : Type 0} → Parts → (D → Tree) → List ℕ → List (List ℕ) → Call D
+DecodesNamedContents ps tree name names old =
+    DecodesSetContents (DecodesComponents (DecodesOneOf ps name) (λ (l : List Tree). l)) (MakesOfReadings ps tree names old.rule) old
+
+abbrev pub DecodesNamedParts : {D : Type 0} → Parts → (D → Tree) → List ℕ → List (List ℕ) → Tag → Call D
+DecodesNamedParts ps tree name names tag = DecodesInside (DecodesNamedContents ps tree name names) (sequence_header tag)

@@ -15,6 +15,13 @@ mod error;
 /// A type whose values are read: a call succeeds exactly where the grammar relates what is left of the input to a tree and a
 /// rest, and then the value has this tree and the rest is left.
 pub trait Decode: AsnType {
+    ghost use Rattle.rasn_types.specs.declared.types.tag.Tag.{Tag};
+    ghost use Rattle.rasn_de.specs.State.{Call};
+
+    /// What else is said of a call that reads a value under a tag: what the value holds of its octets beyond its tree, such as the
+    /// offset of a time. Where a type leaves it out, nothing is said.
+    ghost beyond: { Tag → Call Self } = { λ _ _ _ _. Unit {0} };
+
     /// Reads a value with this outermost tag and these constraints in place of the type's own.
     ///
     /// # Errors
@@ -25,6 +32,7 @@ pub trait Decode: AsnType {
         constraints: &Constraints,
     ) -> Result<Self, DecodeError>
         ensures reads { Decodes (tagged_as tag constraints.now Self.shape) Self.tree decoder.old result decoder.new }
+        ensures beyond { Self.beyond tag decoder.old result decoder.new }
         ensures rules { IfErr result (λ e. e.codec ≡ decoder.old.rule) };
 
     /// Reads a value.
@@ -34,6 +42,7 @@ pub trait Decode: AsnType {
     #[inline(always)]
     final fn decode(decoder: &mut Decoder<'_>) -> Result<Self, DecodeError>
         ensures reads { Decodes Self.shape Self.tree decoder.old result decoder.new }
+        ensures beyond { Self.beyond Self.TAG decoder.old result decoder.new }
         ensures rules { IfErr result (λ e. e.codec ≡ decoder.old.rule) }
     {
         Self::decode_with_tag_and_constraints(decoder, Self::TAG, &Self::CONSTRAINTS)
@@ -45,6 +54,7 @@ pub trait Decode: AsnType {
     /// As `decode_with_tag_and_constraints`.
     final fn decode_with_tag(decoder: &mut Decoder<'_>, tag: Tag) -> Result<Self, DecodeError>
         ensures reads { Decodes (tagged_as tag Self.CONSTRAINTS Self.shape) Self.tree decoder.old result decoder.new }
+        ensures beyond { Self.beyond tag decoder.old result decoder.new }
         ensures rules { IfErr result (λ e. e.codec ≡ decoder.old.rule) }
     {
         Self::decode_with_tag_and_constraints(decoder, tag, &Self::CONSTRAINTS)
@@ -59,6 +69,7 @@ pub trait Decode: AsnType {
         constraints: &Constraints,
     ) -> Result<Self, DecodeError>
         ensures reads { Decodes (tagged_as Self.TAG constraints.now Self.shape) Self.tree decoder.old result decoder.new }
+        ensures beyond { Self.beyond Self.TAG decoder.old result decoder.new }
         ensures rules { IfErr result (λ e. e.codec ≡ decoder.old.rule) }
     {
         Self::decode_with_tag_and_constraints(decoder, Self::TAG, constraints)

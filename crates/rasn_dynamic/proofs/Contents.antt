@@ -39,7 +39,8 @@ use Rattle.rasn_dynamic.specs.Inside.{ReadsInside, ReadsSequence}
 use Rattle.rasn_de.specs.SetPartTypes.{MakesOfReadings, DecodesSetPartContents}
 use Rattle.rasn_de.proofs.Constructed.SetContents.{SetReads, set_collects}
 use Rattle.rasn_de.proofs.OwnTypes.SetPartTypes.{makes_set}
-use Rattle.rasn_dynamic.specs.Calls.{IsSized, IsSizedSet}
+use Rattle.rasn_dynamic.specs.Typed.{HoldsOthers, values_tree}
+use Rattle.rasn_de.specs.PartTypes.{FailsAtOnePart, FailsAtPart}
 use Rattle.rasn_schema.proofs.Values.{tree_items, tree_elements}
 use Rattle.rasn_schema.proofs.Alternatives.{first_of_all}
 
@@ -48,111 +49,6 @@ use Rattle.rasn_schema.proofs.Alternatives.{first_of_all}
 -- If nothing is read of a shape, any refusal is right.
 pub refused_none : (s : Shape) (old : State) (k : DecodeErrorKind) → ((t : Tree) (r : List ℕ) → Reads old.rule s old.depth old.closing old.rest t r → ⊥) → DecodesExactly (λ rule. Reads rule s) old (refusal k) old
 refused_none s old k n = record { stays = refl; end = IsEnd-refl old.rest; exact = Exact-none k (Reads old.rule s old.depth old.closing) old.rest n }
-
--- ---- elements
-
-counted : (l : List Value) (ts : List Tree) → list_tree tree_of l ≡ items ts → length ts ≡ length l
-counted l ts e = sym (ap length (items_one (map tree_of l) ts e)) ∙ length-map l tree_of
-
-module _ (tag : Tag) (s : Shape) (size : Option (Bound ℕ)) (old new : State) where
-  abbrev Elements : Result (Vec Value Global) DecodeError → Type 0
-  Elements r = DecodesElements (Decodes s tree_of) (λ (v : Vec Value Global). v.items) old r new
-
-  listed : (r : Result (Vec Value Global) DecodeError) → Elements r → DecodesBy (ReadsElements s) (λ (v : Vec Value Global). list_tree tree_of v.items) old r new
-  listed r k = each_decodes s tree_of (λ (v : Vec Value Global). v.items) old r new k
-
-  pub list_got : (vs : Vec Value Global) → Elements (Ok vs) → Admits ◌≤◌ size (length vs.items) → DecodesExactly (ReadsInside (list tag s size)) old (Got (list_tree tree_of vs.items) new.rest) new
-  unfolding ReadsInside ReadsElements
-  list_got vs k a =
-      let d = listed (Ok vs) k in
-      let x = d.exact.0 in
-      record {
-        stays = d.stays;
-        end = d.end;
-        exact = ((x.0, x.1, subst (Admits ◌≤◌ size) (sym (counted vs.items x.0 x.1)) a, x.2), λ u r w. d.exact.1 u r (w.0, w.1, w.3));
-      }
-
-  pub list_unsized : (vs : Vec Value Global) → Elements (Ok vs) → (Admits ◌≤◌ size (length vs.items) → ⊥) → (kind : DecodeErrorKind) → DecodesExactly (ReadsInside (list tag s size)) old (refusal kind) new
-  unfolding ReadsInside ReadsElements
-  list_unsized vs k n kind =
-      let d = listed (Ok vs) k in
-      record {
-        stays = d.stays;
-        end = d.end;
-        exact = Exact-none kind (ReadsInside (list tag s size) old.rule old.depth old.closing) old.rest (λ u r w.
-            let e = (d.exact.1 u r (w.0, w.1, w.3)).0 in
-            n (subst (Admits ◌≤◌ size) (counted vs.items w.0 (sym e ∙ w.1)) w.2));
-      }
-
-  pub list_refused : (e : DecodeError) → Elements (Err e) → DecodesExactly (ReadsInside (list tag s size)) old (refusal e.kind) new
-  unfolding ReadsInside ReadsElements
-  list_refused e k =
-      let d = listed (Err e) k in
-      record {
-        stays = d.stays;
-        end = d.end;
-        exact = Exact-refusal e.kind (ReadsElements s old.rule old.depth old.closing) (ReadsInside (list tag s size) old.rule old.depth old.closing) old.rest old.rest
-            (λ nothing u r w. nothing u r (w.0, w.1, w.3)) d.exact;
-      }
-
-  -- The elements, if their number is within the bound.
-  pub list_answers : (vs : Vec Value Global) → Elements (Ok vs) → (r : Result Value DecodeError) → IsSized size vs r → DecodesBy (ReadsInside (list tag s size)) tree_of old r new
-  list_answers vs k (Ok v) (a, e) = subst (λ z. DecodesExactly (ReadsInside (list tag s size)) old (Got z new.rest) new) (sym (ap tree_of e ∙ tree_items vs)) (list_got vs k a)
-  list_answers vs k (Err x) n = list_unsized vs k n x.kind
-
--- ---- elements of a SET OF
-
-counted_set : (l : List Value) (ts : List Tree) → set_elements (list_tree tree_of l) ≡ set_elements (items ts) → length ts ≡ length l
-counted_set l ts e = counted l ts cc
-
-module _ (tag : Tag) (s : Shape) (size : Option (Bound ℕ)) (old new : State) where
-  abbrev InOrder : Result (Vec Value Global) DecodeError → Type 0
-  InOrder r = DecodesElementsInOrder (Decodes s tree_of) (λ (v : Vec Value Global). v.items) old r new
-
-  abbrev walked : Vec Value Global → Tree
-  walked v = set_elements (list_tree tree_of v.items)
-
-  walks : (r : Result (Vec Value Global) DecodeError) → InOrder r → DecodesBy (ReadsSetElements s) walked old r new
-  walks r k = in_order_decodes s tree_of (λ (v : Vec Value Global). v.items) old r new k
-
-  set_got : (vs : Vec Value Global) → InOrder (Ok vs) → Admits ◌≤◌ size (length vs.items) → DecodesExactly (ReadsInside (set_of tag s size)) old (Got (walked vs) new.rest) new
-  unfolding ReadsInside ReadsSetElements
-  set_got vs k a =
-      let d = walks (Ok vs) k in
-      let x = d.exact.0 in
-      record {
-        stays = d.stays;
-        end = d.end;
-        exact = ((x.0, x.1, subst (Admits ◌≤◌ size) (sym (counted_set vs.items x.0 x.1)) a, x.2, x.3), λ u r w. d.exact.1 u r (w.0, w.1, w.3, w.4));
-      }
-
-  set_unsized : (vs : Vec Value Global) → InOrder (Ok vs) → (Admits ◌≤◌ size (length vs.items) → ⊥) → (kind : DecodeErrorKind) → DecodesExactly (ReadsInside (set_of tag s size)) old (refusal kind) new
-  unfolding ReadsInside ReadsSetElements
-  set_unsized vs k n kind =
-      let d = walks (Ok vs) k in
-      record {
-        stays = d.stays;
-        end = d.end;
-        exact = Exact-none kind (ReadsInside (set_of tag s size) old.rule old.depth old.closing) old.rest (λ u r w.
-            let e = (d.exact.1 u r (w.0, w.1, w.3, w.4)).0 in
-            n (subst (Admits ◌≤◌ size) (counted_set vs.items w.0 (sym e ∙ w.1)) w.2));
-      }
-
-  pub set_refused : (e : DecodeError) → InOrder (Err e) → DecodesExactly (ReadsInside (set_of tag s size)) old (refusal e.kind) new
-  unfolding ReadsInside ReadsSetElements
-  set_refused e k =
-      let d = walks (Err e) k in
-      record {
-        stays = d.stays;
-        end = d.end;
-        exact = Exact-refusal e.kind (ReadsSetElements s old.rule old.depth old.closing) (ReadsInside (set_of tag s size) old.rule old.depth old.closing) old.rest old.rest
-            (λ nothing u r w. nothing u r (w.0, w.1, w.3, w.4)) d.exact;
-      }
-
-  -- The elements, if their number is within the bound.
-  pub set_answers : (vs : Vec Value Global) → InOrder (Ok vs) → (r : Result Value DecodeError) → IsSizedSet size vs r → DecodesBy (ReadsInside (set_of tag s size)) tree_of old r new
-  set_answers vs k (Ok v) (a, e) = subst (λ z. DecodesExactly (ReadsInside (set_of tag s size)) old (Got z new.rest) new) (sym (ap tree_of e ∙ tree_elements vs)) (set_got vs k a)
-  set_answers vs k (Err x) n = set_unsized vs k n x.kind
 
 -- ---- parts
 
@@ -174,9 +70,10 @@ pub record PartsSoFar (all rest : Parts) (ts : List Tree) (old here : State) : T
   pub keeps : Keeps old here
   pub got : (u : Tree) (new : State) → DecodesExactly (ReadsParts rest) here (Got u new.rest) new → DecodesExactly (ReadsParts all) old (Got (before ts u) new.rest) new
   pub refused : (k : DecodeErrorKind) (new : State) → DecodesExactly (ReadsParts rest) here (refusal k) new → DecodesExactly (ReadsParts all) old (refusal k) new
+  pub fails : (e : DecodeError) (new : State) → FailsAtPart rest here e new → FailsAtPart all old e new
 
 pub parts_start : (all : Parts) (old : State) → PartsSoFar all all [] old old
-parts_start all old = record { keeps = kept old; got = λ u new a. a; refused = λ k new a. a }
+parts_start all old = record { keeps = kept old; got = λ u new a. a; refused = λ k new a. a; fails = λ e new a. a }
 
 module _ (all rest others : Parts) (p : Presence) (s : Shape) (ts : List Tree) (old here : State) (k : PartsSoFar all rest ts old here) (e : rest ≡ part p s others) where
   pub parts_more : (t : Tree) (us : List Tree) (mid : State) → us ≡ ts ++ t ∷ [] → DecodesExactly (OnePart p s) here (Got t mid.rest) mid → PartsSoFar all others us old mid
@@ -186,10 +83,14 @@ module _ (all rest others : Parts) (p : Presence) (s : Shape) (ts : List Tree) (
         subst (λ z. DecodesExactly (ReadsParts all) old (Got z new.rest) new) (sym (ap (λ l. before l u) f ∙ before_more ts t u))
         (k.got (joined t u) new (subst (λ z. DecodesExactly (ReadsParts z) here (Got (joined t u) new.rest) new) (sym e) (part_got p s others a b)));
     refused = λ q new b. k.refused q new (subst (λ z. DecodesExactly (ReadsParts z) here (refusal q) new) (sym e) (after_part_refused p s others q a b));
+    fails = λ x new b. k.fails x new (subst (λ z. FailsAtPart z here x new) (sym e) (inr (t, mid, a, b)));
   }
 
   pub part_fails : (q : DecodeErrorKind) (new : State) → DecodesExactly (OnePart p s) here (refusal q) new → DecodesExactly (ReadsParts all) old (refusal q) new
   part_fails q new a = k.refused q new (subst (λ z. DecodesExactly (ReadsParts z) here (refusal q) new) (sym e) (part_refused p s others q a))
+
+  pub part_fails_at : (x : DecodeError) (new : State) → FailsAtOnePart p s here x new → FailsAtPart all old x new
+  part_fails_at x new a = k.fails x new (subst (λ z. FailsAtPart z here x new) (sym e) (inl a))
 
 -- Memory runs out after a component.
 pub parts_run_out : (all rest : Parts) (ts : List Tree) (old here new : State) → PartsSoFar all rest ts old here → Keeps here new → (e : DecodeError) → IsOutOfMemory e.kind → DecodesExactly (ReadsParts all) old (refusal e.kind) new
@@ -209,9 +110,6 @@ parts_end all rest ts old here k e =
 pub inside_prefix : (tag : Tag) (s : Shape) (old new : State) (o : Outcome) → DecodesExactly (λ rule. Reads rule s) old o new → DecodesExactly (ReadsInside (prefix tag s)) old o new
 unfolding ReadsInside
 inside_prefix tag s old new o k = k
-
-abbrev pub values_tree : Vec Value Global → Tree
-values_tree vs = list_tree tree_of vs.items
 
 pub inside_seq : (tag : Tag) (ps : Parts) (old new : State) (e : DecodeError) → DecodesBy (ReadsSequence ps) values_tree old (Err e) new → DecodesBy (ReadsInside (seq tag ps)) tree_of old (Err e) new
 unfolding ReadsInside
@@ -233,36 +131,21 @@ unfolding ReadsInside
 inside_set_got tag ps names old new vs k = subst (λ z. DecodesExactly (SetReads ps) old (Got z new.rest) new) (sym (tree_items vs)) (set_reads ps names old new (Ok vs) k)
 
 -- Memory runs out before anything is read.
-pub inside_runs_out : (s : Shape) (old : State) (e : DecodeError) → IsOutOfMemory e.kind → DecodesBy (ReadsInside s) tree_of old (Err e) old
-inside_runs_out s old e m = alloc_failed (ReadsInside s) tree_of old old e m refl (IsEnd-refl old.rest)
-
 pub sequence_runs_out : (ps : Parts) (old : State) (e : DecodeError) → IsOutOfMemory e.kind → DecodesBy (ReadsSequence ps) values_tree old (Err e) old
 sequence_runs_out ps old e m = alloc_failed (ReadsSequence ps) values_tree old old e m refl (IsEnd-refl old.rest)
 
--- A type that holds no others has no such contents.
-module _ (f : ℕ → Shape) where
-  none_inside : (ty : «Type») → ((tag : Tag) (k : TypeId) → ty ≡ Tagged tag k → ⊥) → ((tag : Tag) (ps : Vec Component Global) → ty ≡ Sequence tag ps → ⊥) → ((name : String Global) (tag : Tag) (ps : Vec Component Global) → ty ≡ Set name tag ps → ⊥)
-      → ((tag : Tag) (k : TypeId) (c : Constraints) → ty ≡ SequenceOf tag k c → ⊥) → ((tag : Tag) (k : TypeId) (c : Constraints) → ty ≡ SetOf tag k c → ⊥)
-      → (rule : Codec) (depth : ℕ) (closing : Bool) (input : List ℕ) (t : Tree) (r : List ℕ) → ReadsInside (type_by f ty) rule depth closing input t r → ⊥
-  unfolding ReadsInside
-  none_inside (Leaf kind tag c names) a b d e g rule depth closing input t r h = h
-  none_inside (Enumerated tag ns) a b d e g rule depth closing input t r h = h
-  none_inside (Any tag) a b d e g rule depth closing input t r h = h
-  none_inside (Tagged tag k) a b d e g rule depth closing input t r h = a tag k refl
-  none_inside (Choice name ks) a b d e g rule depth closing input t r h = h
-  none_inside (Sequence tag ps) a b d e g rule depth closing input t r h = b tag ps refl
-  none_inside (Set name tag ps) a b d e g rule depth closing input t r h = d name tag ps refl
-  none_inside (SequenceOf tag k c) a b d e g rule depth closing input t r h = e tag k c refl
-  none_inside (SetOf tag k c) a b d e g rule depth closing input t r h = g tag k c refl
-
-  pub inside_none : (ty : «Type») → ((tag : Tag) (k : TypeId) → ty ≡ Tagged tag k → ⊥) → ((tag : Tag) (ps : Vec Component Global) → ty ≡ Sequence tag ps → ⊥) → ((name : String Global) (tag : Tag) (ps : Vec Component Global) → ty ≡ Set name tag ps → ⊥)
-      → ((tag : Tag) (k : TypeId) (c : Constraints) → ty ≡ SequenceOf tag k c → ⊥) → ((tag : Tag) (k : TypeId) (c : Constraints) → ty ≡ SetOf tag k c → ⊥)
-      → (old : State) (kind : DecodeErrorKind) → DecodesExactly (ReadsInside (type_by f ty)) old (refusal kind) old
-  inside_none ty a b d e g old kind = record {
-    stays = refl;
-    end = IsEnd-refl old.rest;
-    exact = Exact-none kind (ReadsInside (type_by f ty) old.rule old.depth old.closing) old.rest (none_inside ty a b d e g old.rule old.depth old.closing old.rest);
-  }
+-- No type is left that holds others.
+pub none_holds : (ty : «Type») → ((tag : Tag) (k : TypeId) → ty ≡ Tagged tag k → ⊥) → ((tag : Tag) (ps : Vec Component Global) → ty ≡ Sequence tag ps → ⊥) → ((name : String Global) (tag : Tag) (ps : Vec Component Global) → ty ≡ Set name tag ps → ⊥)
+    → ((tag : Tag) (k : TypeId) (c : Constraints) → ty ≡ SequenceOf tag k c → ⊥) → ((tag : Tag) (k : TypeId) (c : Constraints) → ty ≡ SetOf tag k c → ⊥) → HoldsOthers ty → ⊥
+none_holds (Leaf kind tag c names) a b d e g h = h
+none_holds (Enumerated tag ns) a b d e g h = h
+none_holds (Any tag) a b d e g h = h
+none_holds (Tagged tag k) a b d e g h = a tag k refl
+none_holds (Choice name ks) a b d e g h = h
+none_holds (Sequence tag ps) a b d e g h = b tag ps refl
+none_holds (Set name tag ps) a b d e g h = d name tag ps refl
+none_holds (SequenceOf tag k c) a b d e g h = e tag k c refl
+none_holds (SetOf tag k c) a b d e g h = g tag k c refl
 
 -- ---- what is lawful in a lawful shape
 

@@ -1,7 +1,7 @@
 -- A value that holds others is written if its contents are.
 use Rattle.std.proofs.Common.{◌≡◌, ◌⊎◌, inl, inr, ◌<◌, ◌∷◌, [], ℕ, List, Bool, length, Result, Ok, Err, OnOk, OnErr, IfErr, refl, sym, ap, ◌∙◌, subst, arith}
 use Rattle.std.proofs.lemmas.List.{length-append}
-use Rattle.std.proofs.lemmas.Result.{IfErr-weaker}
+use Rattle.std.proofs.lemmas.Result.{on_ok_weaker, IfErr-weaker}
 use Rattle.rasn_types.specs.declared.types.codec.Codec.{Codec}
 use Rattle.rasn_types.specs.declared.types.tag.Tag.{Tag}
 use Rattle.rasn_types.specs.declared.error.encode.EncodeError.{EncodeError}
@@ -13,7 +13,7 @@ use Rattle.rasn_enc.specs.View.{View, IsBelow, opened}
 use Rattle.rasn_enc.specs.Primitive.{Appends, IsAllocError}
 use Rattle.rasn_enc.specs.Encoding.{AppendsEncoding, EncodeFails}
 use Rattle.rasn_enc.proofs.Leaves.Primitive.{cons_begins, encoded_one}
-use Rattle.rasn_dynamic.specs.Written.{WritesInside, IsEnclosed, EncodesInside}
+use Rattle.rasn_dynamic.specs.Written.{WritesInside, IsEnclosed, EncodesIf, EncodesInsideIf}
 
 module _ (rule : Codec) (t : Tree) (u : Tag) (keeps : Bool) where
   bytes_of : (s : Shape) → IsEnclosed s u keeps → (c o : List ℕ) → WritesInside rule s t c → ConstructedEncoding rule u c o → Bytes rule s t o
@@ -53,7 +53,7 @@ module _ (rule : Codec) (t : Tree) (u : Tag) (keeps : Bool) where
   not_untagged (set_of tag s size) i b = b
 
 -- v before the value was opened, w after its contents were written with the result q.
-module _ (s : Shape) (t : Tree) (tag : Tag) (keeps : Bool) (i : IsEnclosed s tag keeps) (v a w : View) (o : a ≡ opened v keeps) (q : Result (Unit {0}) EncodeError) (k : EncodesInside s t a q w) where
+module _ {F : Type 0} (s : Shape) (t : Tree) (tag : Tag) (keeps : Bool) (i : IsEnclosed s tag keeps) (v a w : View) (o : a ≡ opened v keeps) (q : Result (Unit {0}) EncodeError) (k : EncodesInsideIf F s t a q w) where
   pub is_below : IsBelow v w
   is_below = (k.keeps.rule ∙ ap (λ (x : View). x.rule) o, k.keeps.below ∙ ap (λ (x : View). x.below) o)
 
@@ -63,23 +63,26 @@ module _ (s : Shape) (t : Tree) (tag : Tag) (keeps : Bool) (i : IsEnclosed s tag
   rule_is : a.rule ≡ v.rule
   rule_is = ap (λ (x : View). x.rule) o
 
-  pub enclosed_ok : (r : Result (Unit {0}) EncodeError) (x : View) → OnOk r (q ≡ Ok tt) → OnOk r ((y : View) → IsBelow y w → Appends (ConstructedEncoding y.rule tag w.last.octets) tag y x)
+  enclosed_fits : (r : Result (Unit {0}) EncodeError) → OnOk r (q ≡ Ok tt) → OnOk r F
+  enclosed_fits r e = on_ok_weaker r (λ m. subst (λ z. OnOk z F) m k.fits) e
+
+  enclosed_ok : (r : Result (Unit {0}) EncodeError) (x : View) → F → OnOk r (q ≡ Ok tt) → OnOk r ((y : View) → IsBelow y w → Appends (ConstructedEncoding y.rule tag w.last.octets) tag y x)
       → OnOk r (AppendsEncoding s t v x)
-  enclosed_ok (Ok tt) x e h =
-      let c = subst (λ z. OnOk z (WritesInside a.rule s t w.last.octets)) e k.ok in
+  enclosed_ok (Ok tt) x f e h =
+      let c = subst (λ z. OnOk z (WritesInside a.rule s t w.last.octets)) e (k.does f).ok in
       let d = subst (λ z. WritesInside z s t w.last.octets) rule_is c in
       encoded_one (ConstructedEncoding v.rule tag w.last.octets) tag s t v x (h v is_below) (not_untagged v.rule t tag keeps s i)
-      (λ b f. cons_begins v.rule tag w.last.octets b f) (λ b f. bytes_of v.rule t tag keeps s i w.last.octets b d f)
-  enclosed_ok (Err y) x e h = tt
+      (λ b g. cons_begins v.rule tag w.last.octets b g) (λ b g. bytes_of v.rule t tag keeps s i w.last.octets b d g)
+  enclosed_ok (Err y) x f e h = tt
 
-  pub enclosed_err : (r : Result (Unit {0}) EncodeError) (x : View) → OnErr r ((y : View) → IsBelow y w → x ≡ y) → OnErr r (x ≡ v)
+  enclosed_err : (r : Result (Unit {0}) EncodeError) (x : View) → OnErr r ((y : View) → IsBelow y w → x ≡ y) → OnErr r (x ≡ v)
   enclosed_err (Ok y) x h = tt
   enclosed_err (Err y) x h = h v is_below
 
-  pub enclosed_refused : (r : Result (Unit {0}) EncodeError) → IfErr r (λ e. IsAllocError w.rule e ⊎ (q ≡ Err e)) → IfErr r (EncodeFails s t v)
-  enclosed_refused r h = IfErr-weaker r _ _ (λ e. elim [
+  enclosed_refused : (r : Result (Unit {0}) EncodeError) → F → IfErr r (λ e. IsAllocError w.rule e ⊎ (q ≡ Err e)) → IfErr r (EncodeFails s t v)
+  enclosed_refused r f h = IfErr-weaker r _ _ (λ e. elim [
     | inl m ↦ record { why = inl (ap (λ (x : EncodeError). x.kind) m) }
-    | inr p ↦ elim (subst (λ z. IfErr z (λ x. IsEncodeOutOfMemory x.kind ⊎ ((c : List ℕ) → WritesInside a.rule s t c → ⊥))) p k.refused) [
+    | inr p ↦ elim (subst (λ z. IfErr z (λ x. IsEncodeOutOfMemory x.kind ⊎ ((c : List ℕ) → WritesInside a.rule s t c → ⊥))) p (k.does f).refused) [
       | inl m ↦ record { why = inl m }
       | inr n ↦ record {
         why = inr (inl (record {
@@ -88,3 +91,18 @@ module _ (s : Shape) (t : Tree) (tag : Tag) (keeps : Bool) (i : IsEnclosed s tag
       }
     ]
   ]) h
+
+  enclosed_rules : (r : Result (Unit {0}) EncodeError) → IfErr r (λ e. IsAllocError w.rule e ⊎ (q ≡ Err e)) → IfErr r (λ e. e.codec ≡ v.rule)
+  enclosed_rules r h = IfErr-weaker r _ _ (λ e. elim [
+    | inl m ↦ ap (λ (x : EncodeError). x.codec) m ∙ is_below.0
+    | inr p ↦ subst (λ z. IfErr z (λ x. x.codec ≡ a.rule)) p k.rules ∙ rule_is
+  ]) h
+
+  pub enclosed : (r : Result (Unit {0}) EncodeError) (x : View) → OnOk r (q ≡ Ok tt) → OnOk r ((y : View) → IsBelow y w → Appends (ConstructedEncoding y.rule tag w.last.octets) tag y x)
+      → OnErr r ((y : View) → IsBelow y w → x ≡ y) → IfErr r (λ e. IsAllocError w.rule e ⊎ (q ≡ Err e)) → EncodesIf F s t v r x
+  enclosed r x e h n m = record {
+    fits = enclosed_fits r e;
+    does = λ f. record { ok = enclosed_ok r x f e h; refused = enclosed_refused r f m };
+    keeps = enclosed_err r x n;
+    rules = enclosed_rules r m;
+  }

@@ -6,7 +6,6 @@ use Rattle.std.proofs.lemmas.List.{append-nil}
 use Rattle.rasn_types.specs.declared.types.tag.Tag.{Tag}
 use Rattle.rasn_types.specs.declared.types.codec.Codec.{Codec}
 use Rattle.rasn_types.specs.declared.types.constraints.Constraints.{Constraints}
-use Rattle.rasn_types.specs.declared.types.constraints.Bound.{Bound}
 use Rattle.rasn_types.specs.declared.error.decode.DecodeError.{DecodeError}
 use Rattle.rasn_types.specs.Shapes.{Tree, Same, items, joined, set_elements, number, leaf, integer, Interval, IsIn, Presence, required, optional, addition, default}
 use Rattle.rasn_types.specs.Readings.{IsMissing}
@@ -24,7 +23,9 @@ use Rattle.rasn_schema.specs.Shapes.{presence_of}
 use Rattle.rasn_dynamic.specs.Written.{IsLeftOutAs}
 use Rattle.rasn_dynamic.specs.Fitting.{Fits, FitsBy, FitsFound, NumberFits, OctetsFit, FitsLeaf, AreItems, AreElements, ComponentFits, ComponentsFit, EachFits}
 use Rattle.rasn_dynamic.specs.Found.{OneFound, FoundFit}
-use Rattle.rasn_dynamic.specs.Calls.{nones, IsPut, IsValueOf, AreSettled, Gathers, IsNumberIn, IsStringOf, IsSized, IsSizedSet}
+use Rattle.rasn_dynamic.specs.Calls.{nones, IsMade, IsPut, IsValueOf, AreSettled, Gathers, IsNumberIn, IsStringOf}
+use Rattle.rasn_dynamic.specs.Typed.{IsSized}
+use Rattle.rasn_de.specs.State.{State}
 
 pub fits_below : (types : List «Type») (levels below k : ℕ) (ty : «Type») (v : Value) → levels ≡ suc below → Some ty ≡ slice_get types k → FitsBy (λ j w. Fits types below j w) ty v → Fits types levels k v
 unfolding Fits
@@ -86,13 +87,9 @@ are_items P vs h = subst P (sym (items_hidden-the_row-Value-0 vs)) h
 pub are_elements : (P : List Value → Type 0) (vs : Vec Value Global) → P vs.items → AreElements P (Elements vs)
 are_elements P vs h = subst P (sym (items_hidden-the_row-Value-0 vs)) h
 
-pub sized_fits : (P : List Value → Type 0) (size : Option (Bound ℕ)) (vs : Vec Value Global) (r : Result Value DecodeError) → P vs.items → IsSized size vs r → IfOk r (AreItems P)
-sized_fits P size vs (Ok v) h (a, e) = subst (AreItems P) (sym e) (are_items P vs h)
-sized_fits P size vs (Err e) h n = tt
-
-pub sized_set_fits : (P : List Value → Type 0) (size : Option (Bound ℕ)) (vs : Vec Value Global) (r : Result Value DecodeError) → P vs.items → IsSizedSet size vs r → IfOk r (AreElements P)
-sized_set_fits P size vs (Ok v) h (a, e) = subst (AreElements P) (sym e) (are_elements P vs h)
-sized_set_fits P size vs (Err e) h n = tt
+pub sized_fits : (P : Value → Type 0) (c : Constraints) (s : State) (v : Value) (r : Result Value DecodeError) → P v → IsSized c s v r → IfOk r P
+sized_fits P c s v (Ok w) h (a, e) = subst P (sym e) h
+sized_fits P c s v (Err x) h n = tt
 
 pub each_more : (P : Value → Type 0) (vs us : List Value) (v : Value) → us ≡ vs ++ v ∷ [] → EachFits P vs → P v → EachFits P us
 each_more P vs us v e h p = subst (EachFits P) (sym e) (go vs h)
@@ -151,8 +148,12 @@ left_out addition v m = m
 left_out (default d) v m = subst (Same (tree_of v)) m (same_value v)
 
 module _ (g : ℕ → Value → Type 0) where
-  pub missing_fits : (p : Component) (v : Value) → IsMissing (presence_of p.presence) (tree_of v) → ComponentFits g p v
+  missing_fits : (p : Component) (v : Value) → IsMissing (presence_of p.presence) (tree_of v) → ComponentFits g p v
   missing_fits p v m = inl (left_out (presence_of p.presence) v m)
+
+  pub made_fits : (p : Component) (s : State) (r : Result Value DecodeError) → IsMade (presence_of p.presence) s r → IfOk r (λ v. ComponentFits g p v)
+  made_fits p s (Ok v) m = missing_fits p v m
+  made_fits p s (Err x) m = tt
 
   -- ---- components of a SET
 

@@ -1,6 +1,8 @@
 -- The components of a SEQUENCE, all of which are absent, or read in their order.
-use Rattle.std.proofs.Common.{◌≡◌, ℕ, ◌||◌, Bool, false, inl, inr, List, [], ◌∷◌, map, Option, Vec, Global, Result, Ok, Err, refl, sym, ◌∙◌, subst}
+use Rattle.std.proofs.Common.{◌≡◌, ◌⊎◌, ℕ, ◌||◌, Bool, false, inl, inr, List, [], ◌∷◌, map, Option, Vec, Global, Result, Ok, Err, refl, sym, ◌∙◌, subst}
+use Rattle.std.specs.Prelude.{IfErr}
 use Rattle.rasn_types.specs.declared.types.codec.Codec.{Codec}
+use Rattle.rasn_types.specs.Errors.{IsOutOfMemory}
 use Rattle.rasn_types.specs.declared.error.decode.DecodeError.{DecodeError}
 use Rattle.rasn_types.specs.Trees.{list_tree}
 use Rattle.rasn_de.specs.SetPartTypes.{LacksSlot}
@@ -67,6 +69,11 @@ module _ (f : ℕ → Shape) where
     }
     all_left l rule found e (Err x) (inl m) = alloc_failed_before (ReadsSequence (components_by f ps)) (λ (v : Vec Value Global). list_tree tree_of v.items) old old x m refl
     all_left (n, h, g) rule found e (Err x) (inr (k, l, w)) = absurd (nothing_lacks ps k n (subst (λ z. LacksSlot (presences_in ps) (held z) k) e l))
+
+    pub all_left_fails : LeavesAllOut ps old → (rule : Codec) (found : List (Option Value)) → found ≡ nones ps → (P : DecodeError → Type 0) (r : Result (Vec Value Global) DecodeError) → Gathers ps rule found r → IfErr r (λ e. P e ⊎ IsOutOfMemory e.kind)
+    all_left_fails l rule found e P (Ok vs) m = tt
+    all_left_fails l rule found e P (Err x) (inl m) = inr m
+    all_left_fails (n, h, g) rule found e P (Err x) (inr (k, l, w)) = absurd (nothing_lacks ps k n (subst (λ z. LacksSlot (presences_in ps) (held z) k) e l))
 
     -- Else they are read in their order.
     pub in_turn : (LeavesAllOut ps old → ⊥) → (o : Outcome) (new : State) → DecodesExactly (ReadsParts (components_by f ps)) old o new → DecodesExactly (ReadsSequence (components_by f ps)) old o new

@@ -1,9 +1,7 @@
 -- A value that holds others is read if its contents are.
 use Rattle.std.proofs.Common.{◌≡◌, ◌≢◌, ℕ, ◌-◌, ◌⊎◌, inl, Bool, Result, Ok, subst}
 use Rattle.rasn_types.specs.declared.types.tag.Tag.{Tag}
-use Rattle.rasn_types.specs.declared.types.constraints.Bound.{Bound}
 use Rattle.rasn_types.specs.declared.error.decode.DecodeError.{DecodeError}
-use Rattle.std.specs.Prelude.{Option}
 use Rattle.rasn_types.specs.Framing.{AreOctets}
 use Rattle.rasn_types.specs.Shapes.{Tree, Shape, leaf, any, prefix, choice, option, seq, set, list, set_of, Parts}
 use Rattle.rasn_types.specs.Readings.{Reading}
@@ -14,7 +12,7 @@ use Rattle.rasn_de.specs.State.{State}
 use Rattle.rasn_de.specs.Outcomes.{Exact, outcome}
 use Rattle.rasn_de.specs.Decodes.{Decodes, DecodesBy}
 use Rattle.rasn_de.specs.declared.ber.de.constructed.ConstructedHeader.{ConstructedHeader}
-use Rattle.rasn_de.specs.Constructed.{sequence_header, list_header, prefix_header, constructed_header_at, is_indefinite_extent, contents_state, DecodesInside}
+use Rattle.rasn_de.specs.Constructed.{sequence_header, prefix_header, constructed_header_at, is_indefinite_extent, contents_state, DecodesInside}
 use Rattle.rasn_de.proofs.Constructed.Reads.{IsCut, held_decodes, held_constructed, constructed_held}
 use Rattle.rasn_de.proofs.Constructed.Prefix.{prefix_decodes}
 use Rattle.rasn_schema.specs.declared.value.Value.{Value}
@@ -51,20 +49,6 @@ module _ (old : State) (o : old.depth ≢ 0 → AreOctets old.rest) (r : Result 
       held_decodes (sequence_header tag) R old o tree_of (DecodesBy (ReadsInside (set tag ps)) tree_of) (answers (set tag ps) (sequence_header tag)) (λ rule. Reads rule (set tag ps))
       (held_constructed tag 1 R old o old.rest) (constructed_held tag 1 R old o old.rest) r new k
 
-  as_list : (tag : Tag) (s : Shape) (size : Option (Bound ℕ)) → Call (list tag s size) (list_header tag) → Decodes (list tag s size) tree_of old r new
-  unfolding Reads ReadsInside
-  as_list tag s size k =
-      let R = Inner (list tag s size) 2 in
-      held_decodes (list_header tag) R old o tree_of (DecodesBy (ReadsInside (list tag s size)) tree_of) (answers (list tag s size) (list_header tag)) (λ rule. Reads rule (list tag s size))
-      (held_constructed tag 2 R old o old.rest) (constructed_held tag 2 R old o old.rest) r new k
-
-  as_set_of : (tag : Tag) (s : Shape) (size : Option (Bound ℕ)) → Call (set_of tag s size) (list_header tag) → Decodes (set_of tag s size) tree_of old r new
-  unfolding Reads ReadsInside
-  as_set_of tag s size k =
-      let R = Inner (set_of tag s size) 2 in
-      held_decodes (list_header tag) R old o tree_of (DecodesBy (ReadsInside (set_of tag s size)) tree_of) (answers (set_of tag s size) (list_header tag)) (λ rule. Reads rule (set_of tag s size))
-      (held_constructed tag 2 R old o old.rest) (constructed_held tag 2 R old o old.rest) r new k
-
   pub inside_decodes : (s : Shape) (d : ConstructedHeader) → IsHeaderOf s d → Call s d → Decodes s tree_of old r new
   inside_decodes (leaf kind tag bounds) d h k = absurd h
   inside_decodes (any tag) d h k = absurd h
@@ -73,5 +57,5 @@ module _ (old : State) (o : old.depth ≢ 0 → AreOctets old.rest) (r : Result 
   inside_decodes (option tag s) d h k = absurd h
   inside_decodes (seq tag ps) d h k = as_seq tag ps (subst (Call (seq tag ps)) h k)
   inside_decodes (set tag ps) d h k = as_set tag ps (subst (Call (set tag ps)) h k)
-  inside_decodes (list tag s size) d h k = as_list tag s size (subst (Call (list tag s size)) h k)
-  inside_decodes (set_of tag s size) d h k = as_set_of tag s size (subst (Call (set_of tag s size)) h k)
+  inside_decodes (list tag s size) d h k = absurd h
+  inside_decodes (set_of tag s size) d h k = absurd h

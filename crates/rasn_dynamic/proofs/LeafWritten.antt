@@ -1,13 +1,11 @@
 -- Values that hold no other values, written as values of their kind.
-use Rattle.std.proofs.Common.{◌≡◌, ◌⊎◌, inl, inr, ℕ, ℤ, List, length, Contains, Result, OnOk, OnErr, IfErr, refl, sym, ap, ◌∙◌, subst}
+use Rattle.std.proofs.Common.{◌≡◌, inl, inr, ℕ, ℤ, List, length, Result, OnOk, IfErr, refl, ap, subst}
 use Rattle.std.proofs.lemmas.Result.{on_ok_weaker, IfErr-weaker}
 use Rattle.rasn_types.specs.CharacterString.{AreAdmitted}
-use Rattle.rasn_types.specs.Shapes.{Shape, Kind, Tree, Interval, IsIn, leaf, number, numbers, integer, enumerated, every, octet_string, fixed, numeric, printable, visible, ia5, any_octets}
+use Rattle.rasn_types.specs.Shapes.{Kind, Interval, IsIn, leaf, number, numbers, integer, enumerated, every, octet_string, fixed, numeric, printable, visible, ia5, any_octets}
 use Rattle.rasn_types.specs.Contents.{signed}
 use Rattle.rasn_types.specs.Trees.{signed_range, unsigned_range, unconstrained}
-use Rattle.rasn_types.specs.Bytes.{Bytes, Written, IsUntaggedOpen, WritesIn}
-use Rattle.rasn_types.specs.Grammar.{plain_family, text_family}
-use Rattle.rasn_types.specs.declared.types.codec.Codec.{Codec}
+use Rattle.rasn_types.specs.Bytes.{Bytes, Written, IsUntaggedOpen}
 use Rattle.rasn_types.specs.declared.types.tag.Tag.{Tag}
 use Rattle.rasn_types.specs.declared.types.constraints.Constraints.{Constraints}
 use Rattle.rasn_types.specs.declared.types.strings.alphabet.Alphabet.{Alphabet}
@@ -16,22 +14,22 @@ use Rattle.rasn_types.specs.declared.error.encode.EncodeError.{EncodeError}
 use Rattle.rasn_enc.specs.View.{View}
 use Rattle.rasn_enc.specs.Encoding.{AppendsEncoding, EncodeFails}
 use Rattle.rasn_enc.specs.Errors.{FailsAtString, FailsAtInteger}
+use Rattle.rasn_enc.specs.Any.{FailsAtAny}
 use Rattle.rasn_enc.proofs.Leaves.CharacterString.{fixed_encoded, text_refused}
 use Rattle.rasn_enc.proofs.Leaves.Primitive.{integer_refused}
-use Rattle.rasn_enc.proofs.Leaves.ObjectIdentifier.{named_encoded}
 use Rattle.rasn_schema.specs.declared.types.LeafKind.{LeafKind}
-use Rattle.rasn_schema.specs.declared.types.LeafKind.TheVariants.{Boolean, Null, ObjectIdentifier, BitString, OctetString, FixedOctetString, Integer, Signed32, Signed64, Unsigned32, Unsigned64, Numeric, Printable, Visible, Ia5, AnyOctets, Bmp, Utf8, UtcTime, GeneralizedTime, Date}
-use Rattle.rasn_schema.specs.declared.value.Value.{Value}
+use Rattle.rasn_schema.specs.declared.types.LeafKind.TheVariants.{OctetString, FixedOctetString, Integer, Signed32, Signed64, Unsigned32, Unsigned64, Numeric, Printable, Visible, Ia5, AnyOctets}
+use Rattle.rasn_schema.specs.declared.value.Value.{Value, Integer as Whole, Octets}
 use Rattle.rasn_schema.specs.Trees.{tree_of}
 use Rattle.rasn_schema.specs.Shapes.{kind_of}
-use Rattle.rasn_dynamic.specs.Fitting.{NumberFits, OctetsFit}
+use Rattle.rasn_dynamic.specs.Fitting.{NumberFits, OctetsFit, IsNumber, AreOctets}
 use Rattle.rasn_dynamic.specs.Written.{Encodes}
 
 -- The kind and the value are these.
 pub leaf_as : (kind k : LeafKind) (v u : Value) (tag : Tag) (c : Constraints) (old new : View) (r : Result (Unit {0}) EncodeError) → kind ≡ k → v ≡ u
-    → OnOk r (AppendsEncoding (leaf (kind_of k) tag c) (tree_of u) old new) → OnErr r (new ≡ old) → IfErr r (EncodeFails (leaf (kind_of k) tag c) (tree_of u) old)
+    → OnOk r (AppendsEncoding (leaf (kind_of k) tag c) (tree_of u) old new) → IfErr r (EncodeFails (leaf (kind_of k) tag c) (tree_of u) old)
     → Encodes (leaf (kind_of kind) tag c) (tree_of v) old r new
-leaf_as kind k v u tag c old new r e f ok err refused = rw (e, f) (record { ok = ok; err = err; refused = refused })
+leaf_as kind k v u tag c old new r e f ok refused = rw (e, f) (record { ok = ok; refused = refused })
 
 -- ---- strings
 
@@ -108,4 +106,21 @@ pub named_refused : {R : Type 0} (r : Result R EncodeError) (known : List ℤ) (
 named_refused r known tag n v h = IfErr-weaker r _ _ (λ e. elim [
   | inl k ↦ absurd (k.unmet tt)
   | inr m ↦ record { why = inl (ap (λ (x : EncodeError). x.kind) m) }
+]) h
+
+-- ---- values of another form
+
+pub not_number : (known : List ℤ) (v : Value) → ((n : _) → v ≡ Whole n → ⊥) → IsNumber known v → ⊥
+not_number known (Whole n) h k = h n refl
+not_number known _ h k = k
+
+pub not_octets : (v : Value) → ((o : _) → v ≡ Octets o → ⊥) → AreOctets v → ⊥
+not_octets (Octets o) h k = h o refl
+not_octets _ h k = k
+
+-- The error of an open type names the rules.
+pub any_rules : {R : Type 0} (r : Result R EncodeError) (tag : Tag) (octets : List ℕ) (v : View) → IfErr r (FailsAtAny tag octets v) → IfErr r (λ e. e.codec ≡ v.rule)
+any_rules r tag octets v h = IfErr-weaker r _ _ (λ e k. elim k.1 [
+  | inl m ↦ ap (λ (x : EncodeError). x.codec) m.1
+  | inr m ↦ ap (λ (x : EncodeError). x.codec) m.1
 ]) h

@@ -1,5 +1,6 @@
 pub mod Inside
 pub mod Contents
+pub mod Typed
 pub mod Nothing
 pub mod OnePart
 pub mod Chosen
@@ -10,6 +11,7 @@ pub mod Enclosed
 pub mod WrittenInside
 pub mod Canonical
 pub mod Fitted
+pub mod OnlyFitting
 pub mod FitsRead
 pub mod FixedOctets
 pub mod Numbers

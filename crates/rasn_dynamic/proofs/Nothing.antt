@@ -1,6 +1,8 @@
 -- Nothing is read of a type that isn't there, or is too deep.
-use Rattle.std.proofs.Common.{◌≡◌, ℕ, zero, suc, Bool, List, Option, Some, None, subst}
-use Rattle.std.specs.Prelude.{slice_get}
+use Rattle.std.proofs.Common.{◌≡◌, ℕ, zero, suc, Bool, List, Option, Some, None, Result, Ok, Err, sym, ◌∙◌, subst}
+use Rattle.std.specs.Prelude.{slice_get, IfErr}
+use Rattle.rasn_types.specs.declared.error.decode.DecodeError.{DecodeError}
+use Rattle.rasn_schema.specs.declared.value.Value.{Value}
 use Rattle.rasn_types.specs.declared.types.codec.Codec.{Codec}
 use Rattle.rasn_types.specs.declared.types.tag.Tag.{Tag}
 use Rattle.rasn_types.specs.declared.error.decode.DecodeErrorKind.{DecodeErrorKind}
@@ -32,6 +34,14 @@ none_found : (types : List «Type») (levels k : ℕ) → None ≡ slice_get typ
 unfolding shape_of_type
 none_found types zero k e = nothing_unread (looked_for (tag_at types k))
 none_found types (suc m) k e = subst (λ o. IsUnread (found_by (shape_of_type types m) o)) e (nothing_unread None)
+
+-- There is a type.
+not_both : (o : Option «Type») (ty : «Type») → Some ty ≡ o → None ≡ o → ⊥
+not_both o ty e f = let g : Some ty ≡ None = e ∙ sym f in cc
+
+pub found_here : (o : Option «Type») (ty : «Type») → Some ty ≡ o → (P : DecodeError → Type 0) (r : Result Value DecodeError) → IfErr r (λ e. None ≡ o → P e)
+found_here o ty i P (Ok v) = tt
+found_here o ty i P (Err e) = λ f. absurd (not_both o ty i f)
 
 module _ (types : List «Type») (levels k : ℕ) (old : State) (kind : DecodeErrorKind) where
   pub refused_at_zero : levels ≡ 0 → DecodesExactly (λ rule. Reads rule (shape_of_type types levels k)) old (refusal kind) old

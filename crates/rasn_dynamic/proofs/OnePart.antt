@@ -10,12 +10,13 @@ use Rattle.rasn_types.specs.Tags.{IsStrict}
 use Rattle.rasn_types.specs.Shapes.{Tree, Same, Shape, own, looked_for, Presence, required, optional, addition, default}
 use Rattle.rasn_types.specs.Readings.{IsNoDefault, IsMissing}
 use Rattle.rasn_types.specs.Trees.{option_tree}
-use Rattle.rasn_de.specs.declared.ber.de.parser.ParseError.TheVariants.{Der}
+use Rattle.rasn_de.specs.declared.ber.de.parser.ParseError.TheVariants.{Der, OutOfMemory}
 use Rattle.rasn_de.specs.State.{State}
 use Rattle.rasn_de.specs.Steps.{IsErrorOf}
 use Rattle.rasn_de.specs.Outcomes.{Got, refusal, outcome}
 use Rattle.rasn_de.specs.Decodes.{Decodes, DecodesExactly}
-use Rattle.rasn_de.specs.Optional.{NextTagIs, DecodesIfPresent, DecodesOrDefault, no_look, no_read, present}
+use Rattle.rasn_de.specs.Optional.{NextTagIs, DecodesIfPresent, DecodesOrDefault, no_look, no_default, no_read, present}
+use Rattle.rasn_de.specs.PartTypes.{FailsAtOnePart}
 use Rattle.rasn_de.proofs.Constructed.Steps.{rules_same}
 use Rattle.rasn_de.proofs.Leaves.Outcomes.{alloc_failed}
 use Rattle.rasn_de.proofs.Headers.Ends.{IsEnd-refl}
@@ -27,7 +28,7 @@ use Rattle.rasn_schema.specs.declared.value.Value.{Value}
 use Rattle.rasn_schema.specs.Trees.{tree_of}
 use Rattle.rasn_schema.specs.Shapes.{presence_of}
 use Rattle.rasn_schema.specs.FirstTags.{IsAlwaysThere}
-use Rattle.rasn_dynamic.specs.Calls.{is_required, IsDefaultOf, DecodesPresent}
+use Rattle.rasn_dynamic.specs.Calls.{is_required, IsDefaultOf, IsMade, DecodesPresent}
 
 abbrev itself : Tree → Tree
 itself t = t
@@ -35,6 +36,9 @@ itself t = t
 -- the value of a default
 abbrev Made : Tree → Result Tree AllocError → Type 0
 Made d r = IfOk r (λ t. t ≡ d)
+
+ran_out : (s : State) (x : DecodeError) → IsErrorOf OutOfMemory s x → IsOutOfMemory x.kind
+ran_out s x w = subst (λ (z : DecodeError). IsOutOfMemory z.kind) (sym w) refl
 
 module _ (s : Shape) (tag : Tag) (e : own s ≡ looked_for tag) (old : State) where
   abbrev Read : Result Tree DecodeError → State → Type 0
@@ -80,10 +84,9 @@ module _ (s : Shape) (tag : Tag) (e : own s ≡ looked_for tag) (old : State) wh
   unmade : (p : Presence) (x : DecodeError) → IsOutOfMemory x.kind → DecodesExactly (OnePart p s) old (refusal x.kind) old
   unmade p x m = alloc_failed (OnePart p s) itself old old x m refl (IsEnd-refl old.rest)
 
-  pub made : (p : Presence) → (IsAlwaysThere p → ⊥) → NextTagIs tag old (Ok false) → (r : Result Value DecodeError) → IfOk r (λ v. IsMissing p (tree_of v)) → IfErr r (λ x. IsOutOfMemory x.kind)
-      → DecodesExactly (OnePart p s) old (outcome tree_of r old.rest) old
-  made p a l (Ok v) m e = left p a l v m
-  made p a l (Err x) m e = unmade p x e
+  pub made : (p : Presence) → (IsAlwaysThere p → ⊥) → NextTagIs tag old (Ok false) → (r : Result Value DecodeError) → IsMade p old r → DecodesExactly (OnePart p s) old (outcome tree_of r old.rest) old
+  made p a l (Ok v) m = left p a l v m
+  made p a l (Err x) (h, w) = unmade p x (ran_out old x w)
 
   -- The next tag is refused.
   pub unread : (p : Presence) → (IsAlwaysThere p → ⊥) → (x : DecodeError) → NextTagIs tag old (Err x) → DecodesExactly (OnePart p s) old (refusal x.kind) old
@@ -91,6 +94,48 @@ module _ (s : Shape) (tag : Tag) (e : own s ≡ looked_for tag) (old : State) wh
   unread addition a x k = absurd (a tt)
   unread optional a x k = perhaps (Err x) old (inl (k, refl))
   unread (default d) a x k = defaulted d (Err x) old (no_look k refl)
+
+  -- ---- why a component isn't read
+
+  always_there : (p : Presence) → IsAlwaysThere p → (x : DecodeError) (new : State) → DecodesPresent p s old (Err x) new → FailsAtOnePart p s old x new
+  always_there required a x new (inl k) = k
+  always_there required a x new (inr (v, k, st, n, w)) = absurd n
+  always_there addition a x new (inl k) = k
+  always_there addition a x new (inr (v, k, st, n, w)) = absurd n
+  always_there optional a x new k = absurd a
+  always_there (default d) a x new k = absurd a
+
+  pub always_fails : (p : Presence) → IsAlwaysThere p → (r : Result Value DecodeError) (new : State) → DecodesPresent p s old r new → IfErr r (λ x. FailsAtOnePart p s old x new)
+  always_fails p a (Ok v) new k = tt
+  always_fails p a (Err x) new k = always_there p a x new k
+
+  looked_there : (p : Presence) → (IsAlwaysThere p → ⊥) → NextTagIs tag old (Ok true) → (x : DecodeError) (new : State) → DecodesPresent p s old (Err x) new → FailsAtOnePart p s old x new
+  looked_there required a l x new k = absurd (a tt)
+  looked_there addition a l x new k = absurd (a tt)
+  looked_there optional a l x new (inl k) = (tag, e, inr (l, k))
+  looked_there optional a l x new (inr (v, k, st, n, w)) = absurd n
+  looked_there (default d) a l x new (inl k) = (tag, e, no_read l k)
+  looked_there (default d) a l x new (inr (v, k, st, n, w)) = (tag, e, present l (tree_of v) k st d refl n w)
+
+  pub looked_fails : (p : Presence) → (IsAlwaysThere p → ⊥) → NextTagIs tag old (Ok true) → (r : Result Value DecodeError) (new : State) → DecodesPresent p s old r new → IfErr r (λ x. FailsAtOnePart p s old x new)
+  looked_fails p a l (Ok v) new k = tt
+  looked_fails p a l (Err x) new k = looked_there p a l x new k
+
+  not_made : (p : Presence) → (IsAlwaysThere p → ⊥) → NextTagIs tag old (Ok false) → (x : DecodeError) → IsMade p old (Err x) → FailsAtOnePart p s old x old
+  not_made required a l x (h, w) = absurd h
+  not_made addition a l x (h, w) = absurd h
+  not_made optional a l x (h, w) = absurd h
+  not_made (default d) a l x (h, w) = (tag, e, no_default l (record {}, tt, w) refl)
+
+  pub made_fails : (p : Presence) → (IsAlwaysThere p → ⊥) → NextTagIs tag old (Ok false) → (r : Result Value DecodeError) → IsMade p old r → IfErr r (λ x. FailsAtOnePart p s old x old)
+  made_fails p a l (Ok v) k = tt
+  made_fails p a l (Err x) k = not_made p a l x k
+
+  pub unread_fails : (p : Presence) → (IsAlwaysThere p → ⊥) → (x : DecodeError) → NextTagIs tag old (Err x) → FailsAtOnePart p s old x old
+  unread_fails required a x k = absurd (a tt)
+  unread_fails addition a x k = absurd (a tt)
+  unread_fails optional a x k = (tag, e, inl (k, refl))
+  unread_fails (default d) a x k = (tag, e, no_look k refl)
 
 -- A component without a default is read as its shape.
 pub plain : (s : Shape) (q : PartPresence) (old new : State) → ((v : Value) → q ≡ Default v → ⊥) → (r : Result Value DecodeError) → Decodes s tree_of old r new → DecodesPresent (presence_of q) s old r new

@@ -35,7 +35,7 @@ module _ (f : ℕ → Shape) (tag : Tag) where
   first_of_no_part (p ∷ ps) n (inl h) = n 0 p refl h
   first_of_no_part (p ∷ ps) n (inr h) = first_of_no_part ps (λ k q e g. n (suc k) q e g) h
 
-  first_of_part : (ps : List Component) (k : ℕ) (p : Component) → Some p ≡ slice_get ps k → IsFirst (f p.type_id.0) tag → IsFirstOf (components_by f ps) tag
+  pub first_of_part : (ps : List Component) (k : ℕ) (p : Component) → Some p ≡ slice_get ps k → IsFirst (f p.type_id.0) tag → IsFirstOf (components_by f ps) tag
   first_of_part [] k p e h = cc
   first_of_part (q ∷ ps) zero p e h = inl (let same : p ≡ q = cc in subst (λ x. IsFirst (f x.type_id.0) tag) same h)
   first_of_part (q ∷ ps) (suc k) p e h = inr (first_of_part ps k p e h)

@@ -1,5 +1,5 @@
 -- What is written inside values that hold others.
-use Rattle.std.proofs.Common.{◌≡◌, ◌≢◌, ◌≤◌, ◌⊎◌, inl, inr, ◌∷◌, [], ◌++◌, ℕ, List, map, length, Bool, true, false, Option, None, Some, Result, Ok, Err, OnOk, OnErr, IfErr, refl, sym, ap, ◌∙◌, subst}
+use Rattle.std.proofs.Common.{◌≡◌, ◌≢◌, ◌≤◌, ◌⊎◌, inl, inr, ◌∷◌, [], ◌++◌, ℕ, List, map, length, Bool, true, false, true≢false, nat_eq, Option, None, Some, Result, Ok, Err, OnOk, OnErr, IfErr, refl, sym, ap, ◌∙◌, subst, rules, tests}
 use Rattle.rasn_types.specs.declared.types.tag.Tag.{Tag}
 use Rattle.rasn_types.specs.declared.types.constraints.Constraints.{Constraints}
 use Rattle.rasn_types.specs.declared.error.encode.EncodeError.{EncodeError}
@@ -9,16 +9,18 @@ use Rattle.rasn_types.specs.Shapes.{Tree, items, joined, set_elements, Shape, pr
 use Rattle.rasn_types.specs.Bytes.{Bytes, WritesPart, fields_of, PartsWritten, TagsOf, Each, AreAscending, IsLess}
 use Rattle.rasn_types.proofs.SetOf.Same.{items_one}
 use Rattle.rasn_types.proofs.Encoding.SameAsItself.{one_writing, parts_one_writing}
-use Rattle.rasn_enc.specs.View.{View, OpenList, fresh, kept_of, AreTagsInOrder, LeavesOthers}
+use Rattle.rasn_enc.specs.View.{View, OpenList, fresh, kept_of, appended, AreTagsInOrder, LeavesOthers}
 use Rattle.rasn_enc.specs.Encoding.{AppendsEncoding, AppendsPart, EncodeFails, EncodePartFails}
 use Rattle.rasn_enc.specs.Sequence.{EncodesParts}
-use Rattle.rasn_enc.specs.SequenceOf.{AppendsElements, AppendsSetOf, FailsAtElement, FailsAtElements}
+use Rattle.rasn_enc.specs.SequenceOf.{FailsAtElements}
 use Rattle.rasn_enc.proofs.OwnTypes.Sequence.{appended-nil, part_appended, parts_end}
 use Rattle.rasn_enc.proofs.OwnTypes.Set.{tags_one}
-use Rattle.rasn_enc.proofs.Constructed.SequenceOf.{each_at}
-use Rattle.rasn_enc.proofs.Constructed.SetOf.{set_elements_one, front_is, order_front}
+use Rattle.rasn_enc.proofs.Constructed.SequenceOf.{ElementsSoFar, element_refused, each_at}
+use Rattle.rasn_enc.proofs.Constructed.SetOf.{SetOfSoFar, set_elements_one, front_is, order_front, set_of_element_refused}
 use Rattle.rasn_schema.specs.declared.types.Component.{Component}
-use Rattle.rasn_schema.specs.declared.value.Value.{Value}
+use Rattle.rasn_schema.specs.declared.value.Value.{Value, Chosen, Chosen'}
+use Rattle.rasn_schema.specs.Kinds.{kind}
+use Rattle.rasn_schema.proofs.OtherKinds.{is_other, not_chosen}
 use Rattle.rasn_schema.specs.Trees.{tree_of}
 use Rattle.std.proofs.Common.{zero, suc, ◌<◌, arith}
 use Rattle.rasn_types.specs.Shapes.{choice, chosen}
@@ -27,11 +29,15 @@ use Rattle.rasn_enc.proofs.OwnTypes.Choice.{chosen_encoded, chosen_refused}
 use Rattle.rasn_schema.specs.Shapes.{components_by, alternatives_by, presence_of}
 use Rattle.rasn_types.specs.Trees.{list_tree}
 use Rattle.std.specs.Prelude.{slice_get}
-use Rattle.rasn_enc.specs.Primitive.{IsAllocError}
+use Rattle.rasn_enc.specs.Primitive.{IsAllocError, IsOrderError}
+use Rattle.rasn_enc.specs.Errors.{FailsAtSize}
 use Rattle.rasn_schema.specs.declared.types.Alternative.{Alternative}
 use Rattle.rasn_schema.proofs.Lists.{some_is}
-use Rattle.rasn_dynamic.specs.Fitting.{ComponentFits, ComponentsFit, EachFits}
-use Rattle.rasn_dynamic.specs.Written.{WritesInside, EncodesPart, Encodes, EncodesInside, IsEnclosed, HoldsOthers, keeps_tags, IsLeftOutAs}
+use Rattle.rasn_dynamic.specs.Fitting.{ComponentFits, ComponentsFit, EachFits, AreItems, IsListOf, IsChosen}
+use Rattle.rasn_dynamic.specs.Written.{WritesInside, EncodesPartIf, Encodes, EncodesIf, EncodesInside, EncodesInsideIf, EncodesPartsIf, EncodesElements, EncodesElementsIf, EncodesSetOf, EncodesSetOfIf, OnlyFitting, IsEnclosed, HoldsOthers, keeps_tags, IsLeftOutAs}
+use Rattle.rasn_dynamic.proofs.OnlyFitting.{fits_as}
+use Rattle.rasn_dynamic.proofs.Fitted.{FitSoFar, EachSoFar}
+use Rattle.rasn_dynamic.proofs.ListsOf.{list_to}
 
 octets_of_fresh : (l : OpenList) (keeps : Bool) → l ≡ fresh keeps → l.octets ≡ []
 octets_of_fresh l keeps e = ap (λ (x : OpenList). x.octets) e
@@ -45,28 +51,36 @@ no_tags v f = ap (λ (x : OpenList). x.tags) f
 keeps_some : (v : View) → v.last ≡ fresh true → v.last.tags ≢ None
 keeps_some v f e = let g : Some [] ≡ None = sym (ap (λ (x : OpenList). x.tags) f) ∙ e in cc
 
-left_as_it_was : (v w : View) → w ≡ v → LeavesOthers v w
+pub left_as_it_was : (v w : View) → w ≡ v → LeavesOthers v w
 left_as_it_was v w e = record { rule = ap (λ (x : View). x.rule) e; below = ap (λ (x : View). x.below) e }
+
+pub leaves_by : (v w : View) (octets : List ℕ) (tags : List Tag) → w ≡ appended v octets tags → LeavesOthers v w
+leaves_by v w octets tags e = record { rule = ap (λ (x : View). x.rule) e; below = ap (λ (x : View). x.below) e }
+
+pub leaves_both : {v u w : View} → LeavesOthers v u → LeavesOthers u w → LeavesOthers v w
+leaves_both h k = record { rule = k.rule ∙ h.rule; below = k.below ∙ h.below }
 
 -- ---- an explicit prefix
 
 module _ (tag : Tag) (s : Shape) (t : Tree) (v w : View) (f : v.last ≡ fresh false) where
-  pub prefix_inside : (r : Result (Unit {0}) EncodeError) → OnOk r (AppendsEncoding s t v w) → OnErr r (w ≡ v) → IfErr r (EncodeFails s t v) → EncodesInside (prefix tag s) t v r w
+  prefix_does : (r : Result (Unit {0}) EncodeError) → Encodes s t v r w → EncodesInside (prefix tag s) t v r w
   unfolding WritesInside
-  prefix_inside (Ok x) a b c = record {
-    keeps = record { rule = ap (λ (x : View). x.rule) a.appended; below = ap (λ (x : View). x.below) a.appended };
-    ok = subst (Bytes v.rule s t) (behind_nothing v w false a.octets f (ap (λ (x : View). x.last.octets) a.appended)) a.defined;
-    refused = tt;
-  }
-  prefix_inside (Err e) a b c = record {
-    keeps = left_as_it_was v w b;
+  prefix_does (Ok x) k = record { ok = subst (Bytes v.rule s t) (behind_nothing v w false k.ok.octets f (ap (λ (x : View). x.last.octets) k.ok.appended)) k.ok.defined; refused = tt }
+  prefix_does (Err e) k = record {
     ok = tt;
-    refused = elim c.why [
+    refused = elim k.refused.why [
       | inl m ↦ inl m
       | inr (inl n) ↦ inr n.none
       | inr (inr n) ↦ absurd (n.keeps (no_tags v f))
     ];
   }
+
+  prefix_keeps : {F : Type 0} (r : Result (Unit {0}) EncodeError) → EncodesIf F s t v r w → LeavesOthers v w
+  prefix_keeps (Ok x) h = leaves_by v w _ _ (h.does h.fits).ok.appended
+  prefix_keeps (Err e) h = left_as_it_was v w h.keeps
+
+  pub prefix_inside : {F : Type 0} (r : Result (Unit {0}) EncodeError) → EncodesIf F s t v r w → EncodesInsideIf F (prefix tag s) t v r w
+  prefix_inside r h = record { fits = h.fits; does = λ g. prefix_does r (h.does g); keeps = prefix_keeps r h; rules = h.rules }
 
 -- ---- a SEQUENCE
 
@@ -74,12 +88,10 @@ module _ (tag : Tag) (ps : Parts) (t u : Tree) (e : t ≡ u) (v w : View) where
   pub seq_inside : v.last ≡ fresh false → (r : Result (Unit {0}) EncodeError) → EncodesParts ps u v r w → EncodesInside (seq tag ps) t v r w
   unfolding WritesInside
   seq_inside f (Ok x) k = record {
-    keeps = k.keeps;
     ok = (k.ok.trees, k.ok.encoded, e ∙ k.ok.is, k.ok.written, sym (behind_nothing v w false (joined_lists k.ok.encoded) f (ap (λ (x : View). x.last.octets) k.ok.appended)));
     refused = tt;
   }
   seq_inside f (Err x) k = record {
-    keeps = k.keeps;
     ok = tt;
     refused = elim k.refused.why [
       | inl m ↦ inl m
@@ -93,7 +105,6 @@ module _ (tag : Tag) (ps : Parts) (t u : Tree) (e : t ≡ u) (v w : View) where
   pub set_inside_refused : (x : EncodeError) → EncodesParts ps u v (Err x) w → EncodesInside (set tag ps) t v (Err x) w
   unfolding WritesInside
   set_inside_refused x k = record {
-    keeps = k.keeps;
     ok = tt;
     refused = elim k.refused.why [
       | inl m ↦ inl m
@@ -113,7 +124,6 @@ module _ (tag : Tag) (ps : Parts) (t u : Tree) (e : t ≡ u) (v w : View) where
     pub set_inside_ok : AreTagsInOrder w → EncodesInside (set tag ps) t v (Ok tt) w
     unfolding WritesInside
     set_inside_ok order = record {
-      keeps = k.keeps;
       ok = (
         k.ok.trees,
         k.ok.encoded,
@@ -131,7 +141,6 @@ module _ (tag : Tag) (ps : Parts) (t u : Tree) (e : t ≡ u) (v w : View) where
     pub set_inside_unordered : (AreTagsInOrder w → ⊥) → (x : EncodeError) → EncodesInside (set tag ps) t v (Err x) w
     unfolding WritesInside
     set_inside_unordered falls x = record {
-      keeps = k.keeps;
       ok = tt;
       refused = inr (λ c b.
           let p = k.ok in
@@ -140,6 +149,23 @@ module _ (tag : Tag) (ps : Parts) (t u : Tree) (e : t ≡ u) (v w : View) where
           let q : b.2 ≡ p.tags = tags_one b.1 b.2 p.tags b.6 (subst (λ l. TagsOf l p.tags) j (p.heads (keeps_some v f))) in
           falls (subst (AreAscending Rattle.rasn_types.specs.Tags.IsTagBelow) (q ∙ sym kept_are) b.7));
     }
+
+-- Of components that fit, their tags are in ascending order, or they fall.
+module _ (P : List Value → Type 0) (tag : Tag) (ps : Parts) (t u : Tree) (e : t ≡ u) (v w : View) (vs : List Value) (value : Value) (is : IsListOf vs value) (f : v.last ≡ fresh true) (h : EncodesPartsIf (P vs) ps u v (Ok tt) w) where
+  pub set_ordered : AreTagsInOrder w → EncodesInsideIf (AreItems P value) (set tag ps) t v (Ok tt) w
+  set_ordered order = record { fits = list_to P vs value is h.fits; does = λ g. set_inside_ok tag ps t u e v w f (h.does h.fits) order; keeps = h.keeps; rules = tt }
+
+  pub set_unordered : (AreTagsInOrder w → ⊥) → (x : EncodeError) → IsOrderError w.rule x → EncodesInsideIf (AreItems P value) (set tag ps) t v (Err x) w
+  set_unordered falls x m = record {
+    fits = tt;
+    does = λ g. set_inside_unordered tag ps t u e v w f (h.does h.fits) falls x;
+    keeps = h.keeps;
+    rules = ap (λ (y : EncodeError). y.codec) m ∙ h.keeps.rule;
+  }
+
+-- The size isn't admitted.
+pub size_refused : {F D : Type 0} (v : View) (c : Constraints) (size : ℕ) (x : EncodeError) → FailsAtSize c size v.rule x → (F → D) → OnlyFitting F D (LeavesOthers v v) v.rule (Err x)
+size_refused v c size x m d = record { fits = tt; does = d; keeps = left_as_it_was v v refl; rules = ap (λ (y : EncodeError). y.codec) m.is }
 
 -- ---- elements
 
@@ -150,17 +176,15 @@ module _ (tag : Tag) (s : Shape) (c : Constraints) (t : Tree) (l : List Value) (
   abbrev AdmitsAll : Type 0
   AdmitsAll = Admits ◌≤◌ c.size (length trees)
 
-  pub list_inside : t ≡ items trees → AdmitsAll → LeavesOthers v w → (r : Result (Unit {0}) EncodeError) → OnOk r (AppendsElements s trees v w) → IfErr r (FailsAtElement s trees v.rule) → EncodesInside (list tag s c.size) t v r w
+  pub list_inside : t ≡ items trees → AdmitsAll → (r : Result (Unit {0}) EncodeError) → EncodesElements s trees v r w → EncodesInside (list tag s c.size) t v r w
   unfolding WritesInside
-  list_inside e a k (Ok x) p q = record {
-    keeps = k;
-    ok = (trees, p.encoded, e, a, p.each, sym (behind_nothing v w false (joined_lists p.encoded) f p.octets));
+  list_inside e a (Ok x) k = record {
+    ok = (trees, k.ok.encoded, e, a, k.ok.each, sym (behind_nothing v w false (joined_lists k.ok.encoded) f k.ok.octets));
     refused = tt;
   }
-  list_inside e a k (Err x) p q = record {
-    keeps = k;
+  list_inside e a (Err x) k = record {
     ok = tt;
-    refused = elim q.why [
+    refused = let q = k.refused in elim q.why [
       | inl m ↦ inl m
       | inr n ↦ inr (λ o b.
           let g = each_at (Bytes v.rule s) q.front q.tree q.back b.1 (subst (λ m. Each (Bytes v.rule s) m b.1) (sym (items_one trees b.0 (sym e ∙ b.2)) ∙ q.is) b.4) in
@@ -168,37 +192,31 @@ module _ (tag : Tag) (s : Shape) (c : Constraints) (t : Tree) (l : List Value) (
     ];
   }
 
-  pub set_of_inside : t ≡ set_elements (items trees) → AdmitsAll → LeavesOthers v w → (r : Result (Unit {0}) EncodeError) → OnOk r (AppendsSetOf s trees v w) → IfErr r (FailsAtElements s trees v.rule) → EncodesInside (set_of tag s c.size) t v r w
+  set_of_why : t ≡ set_elements (items trees) → (x : EncodeError) → FailsAtElements s trees v.rule x → IsEncodeOutOfMemory x.kind ⊎ ((o : List ℕ) → WritesInside v.rule (set_of tag s c.size) t o → ⊥)
   unfolding WritesInside
-  set_of_inside e a k (Ok x) p q = record {
-    keeps = k;
-    ok = (trees, p.wrote.encoded, e, a, p.wrote.each, p.order, sym (behind_nothing v w false (joined_lists p.wrote.encoded) f p.wrote.octets));
+  set_of_why e x (inl q) = elim q.element.why [
+    | inl m ↦ inl m
+    | inr n ↦ inr (λ o b.
+        let g = each_at (Bytes v.rule s) q.element.front q.element.tree q.element.back b.1
+        (subst (λ m. Each (Bytes v.rule s) m b.1) (sym (items_one trees b.0 (set_elements_one (items trees) (items b.0) (sym e ∙ b.2))) ∙ q.element.is) b.4) in
+        n.none g.0 g.1)
+  ]
+  set_of_why e x (inr q) = inr (λ o b.
+      let g = front_is (Bytes v.rule s) (one_writing s v.rule) q.front q.tree q.back q.encoded b.1 q.octets q.before q.defined
+      (subst (λ m. Each (Bytes v.rule s) m b.1) (sym (items_one trees b.0 (set_elements_one (items trees) (items b.0) (sym e ∙ b.2))) ∙ q.is) b.4) in
+      q.falls (order_front q.encoded q.octets g.0 (subst (AreAscending IsLess) g.1 b.5)))
+
+  pub set_of_inside : t ≡ set_elements (items trees) → AdmitsAll → (r : Result (Unit {0}) EncodeError) → EncodesSetOf s trees v r w → EncodesInside (set_of tag s c.size) t v r w
+  unfolding WritesInside
+  set_of_inside e a (Ok x) k = record {
+    ok = (trees, k.ok.wrote.encoded, e, a, k.ok.wrote.each, k.ok.order, sym (behind_nothing v w false (joined_lists k.ok.wrote.encoded) f k.ok.wrote.octets));
     refused = tt;
   }
-  set_of_inside e a k (Err x) p (inl q) = record {
-    keeps = k;
-    ok = tt;
-    refused = elim q.element.why [
-      | inl m ↦ inl m
-      | inr n ↦ inr (λ o b.
-          let g = each_at (Bytes v.rule s) q.element.front q.element.tree q.element.back b.1
-          (subst (λ m. Each (Bytes v.rule s) m b.1) (sym (items_one trees b.0 (set_elements_one (items trees) (items b.0) (sym e ∙ b.2))) ∙ q.element.is) b.4) in
-          n.none g.0 g.1)
-    ];
-  }
-  set_of_inside e a k (Err x) p (inr q) = record {
-    keeps = k;
-    ok = tt;
-    refused = inr (λ o b.
-        let g = front_is (Bytes v.rule s) (one_writing s v.rule) q.front q.tree q.back q.encoded b.1 q.octets q.before q.defined
-        (subst (λ m. Each (Bytes v.rule s) m b.1) (sym (items_one trees b.0 (set_elements_one (items trees) (items b.0) (sym e ∙ b.2))) ∙ q.is) b.4) in
-        q.falls (order_front q.encoded q.octets g.0 (subst (AreAscending IsLess) g.1 b.5)));
-  }
+  set_of_inside e a (Err x) k = record { ok = tt; refused = set_of_why e x k.refused }
 
   pub list_unsized : t ≡ items trees → (AdmitsAll → ⊥) → (x : EncodeError) → EncodesInside (list tag s c.size) t v (Err x) v
   unfolding WritesInside
   list_unsized e n x = record {
-    keeps = record { rule = refl; below = refl };
     ok = tt;
     refused = inr (λ o b. n (subst (λ m. Admits ◌≤◌ c.size (length m)) (sym (items_one trees b.0 (sym e ∙ b.2))) b.3));
   }
@@ -206,7 +224,6 @@ module _ (tag : Tag) (s : Shape) (c : Constraints) (t : Tree) (l : List Value) (
   pub set_of_unsized : t ≡ set_elements (items trees) → (AdmitsAll → ⊥) → (x : EncodeError) → EncodesInside (set_of tag s c.size) t v (Err x) v
   unfolding WritesInside
   set_of_unsized e n x = record {
-    keeps = record { rule = refl; below = refl };
     ok = tt;
     refused = inr (λ o b. n (subst (λ m. Admits ◌≤◌ c.size (length m)) (sym (items_one trees b.0 (set_elements_one (items trees) (items b.0) (sym e ∙ b.2)))) b.3));
   }
@@ -286,15 +303,28 @@ module _ (f : ℕ → Shape) where
 
   pub alternative_written : (ks : List Alternative) (k : ℕ) (a : Alternative) (t : Tree) (v w : View) (r : Result (Unit {0}) EncodeError) → Some a ≡ slice_get ks k
       → Encodes (f a.type_id.0) t v r w → Encodes (choice (alternatives_by f ks)) (chosen k t) v r w
-  alternative_written ks k a t v w (Ok x) e h = record { ok = chosen_encoded (alternatives_by f ks) k (f a.type_id.0) t (alternative_at ks k a e) v w h.ok; err = tt; refused = tt }
-  alternative_written ks k a t v w (Err x) e h = record { ok = tt; err = h.err; refused = chosen_refused (alternatives_by f ks) k (f a.type_id.0) t (alternative_at ks k a e) v v x h.refused }
+  alternative_written ks k a t v w (Ok x) e h = record { ok = chosen_encoded (alternatives_by f ks) k (f a.type_id.0) t (alternative_at ks k a e) v w h.ok; refused = tt }
+  alternative_written ks k a t v w (Err x) e h = record { ok = tt; refused = chosen_refused (alternatives_by f ks) k (f a.type_id.0) t (alternative_at ks k a e) v v x h.refused }
 
--- No component is left, and so no value.
-pub parts_ended : (f : ℕ → Shape) (g : ℕ → Value → Type 0) (rest : List Component) (left : List Value) (v : View) → length rest < 1 → ComponentsFit g rest left
-    → EncodesParts (components_by f rest) (list_tree tree_of left) v (Ok tt) v
-parts_ended f g [] [] v l h = parts_end v
-parts_ended f g [] (x ∷ left) v l h = absurd h
-parts_ended f g (p ∷ rest) left v l h = absurd (omega (arith, l))
+-- A value that isn't an alternative's.
+chosen_kind : (P : ℕ → Value → Type 0) (v : Value) → IsChosen P v → kind (tree_of v) ≡ 7
+chosen_kind P (Chosen' i _ w) h = refl
+chosen_kind P _ h = absurd h
+
+pub no_choice : (P : ℕ → Value → Type 0) (v : Value) → ((k : ℕ) (w : _) → v ≡ Chosen k w → ⊥) → IsChosen P v → ⊥
+no_choice P v n h = is_other 7 v (not_chosen v n) (chosen_kind P v h)
+
+-- No component and no value is left.
+pub parts_ended : (f : ℕ → Shape) (rest : List Component) (left : List Value) (v : View) → rest ≡ [] → left ≡ [] → EncodesParts (components_by f rest) (list_tree tree_of left) v (Ok tt) v
+parts_ended f rest left v e g = rw (e, g) (parts_end v)
+
+pub none_when : {X : Type 0} (l : List X) (b : Bool) → b ≡ nat_eq (length l) 0 → b ≡ true → l ≡ []
+none_when [] b e f = refl
+none_when (x ∷ l) b e f = let n : length (x ∷ l) ≡ 0 = search (rules, tests) in absurd (omega (arith, n))
+
+pub some_when : {X : Type 0} (l : List X) (b : Bool) → b ≡ nat_eq (length l) 0 → b ≡ false → l ≡ [] → ⊥
+some_when [] b e f g = true≢false (sym e ∙ f)
+some_when (x ∷ l) b e f g = cc
 
 -- ---- values that fit
 
@@ -302,9 +332,6 @@ module _ (g : ℕ → Value → Type 0) where
   pub next_component : (rest after : List Component) (p : Component) (left others : List Value) (v : Value) → rest ≡ p ∷ after → left ≡ v ∷ others → ComponentsFit g rest left
       → ComponentFits g p v × ComponentsFit g after others
   next_component rest after p left others v e f h = subst (λ l. ComponentsFit g (p ∷ after) l) f (subst (λ l. ComponentsFit g l left) e h)
-
-  pub no_value : (rest after : List Component) (p : Component) (left : List Value) → rest ≡ p ∷ after → left ≡ [] → ComponentsFit g rest left → ⊥
-  no_value rest after p left e f h = subst (λ l. ComponentsFit g (p ∷ after) l) f (subst (λ l. ComponentsFit g l left) e h)
 
   pub fits_there : (p : Component) (v : Value) → (IsLeftOutAs (presence_of p.presence) (tree_of v) → ⊥) → ComponentFits g p v → g p.type_id.0 v
   fits_there p v n (inl l) = absurd (n l)
@@ -329,14 +356,60 @@ keeps_as (list tag s size) u k h = sym h.1
 keeps_as (set_of tag s size) u k h = sym h.1
 keeps_as _ u k h = absurd h
 
+-- ---- a component or an element isn't written
+
+module _ (f : ℕ → Shape) (g : ℕ → Value → Type 0) (all rest after : List Component) (p : Component) (us left others : List Value) (u : Value) (old here : View)
+    (k : WrittenSoFar f all rest us left old here) (e : rest ≡ p ∷ after) (i : left ≡ u ∷ others) (j : FitSoFar g all rest us left) (o : LeavesOthers old here) where
+  pub component_refused : (x : EncodeError) (mid : View) → EncodesPartIf (ComponentFits g p u) (presence_of p.presence) (f p.type_id.0) (tree_of u) here (Err x) mid
+      → EncodesPartsIf (ComponentsFit g all us) (components_by f all) (list_tree tree_of us) old (Err x) mid
+  component_refused x mid h = record {
+    fits = tt;
+    does = λ a. written_fails f all rest after p us left others u old here k e i x mid (h.does (next_component g rest after p left others u e i (j.down a)).0).refused h.keeps;
+    keeps = leaves_both o (left_as_it_was here mid h.keeps);
+    rules = h.rules ∙ o.rule;
+  }
+
+module _ (P : Value → Type 0) (s : Shape) (all rest after : List Value) (u : Value) (old here : View) where
+  pub element_not_written : ElementsSoFar s (map tree_of all) (map tree_of rest) old here → rest ≡ u ∷ after → EachSoFar P all rest → (x : EncodeError) (mid : View)
+      → EncodesIf (P u) s (tree_of u) here (Err x) mid → EncodesElementsIf (EachFits P all) s (map tree_of all) old (Err x) mid
+  element_not_written k e j x mid h = record {
+    fits = tt;
+    does = λ a. record {
+      ok = tt;
+      refused = element_refused s (map tree_of all) (map tree_of rest) (map tree_of after) (tree_of u) old here k (ap (map tree_of) e) x (h.does (next_element P rest after u e (j.down a)).0).refused;
+    };
+    keeps = leaves_both k.others (left_as_it_was here mid h.keeps);
+    rules = h.rules ∙ k.others.rule;
+  }
+
+  pub set_element_not_written : (start : ℕ) → SetOfSoFar s (map tree_of all) (map tree_of rest) old here start → rest ≡ u ∷ after → EachSoFar P all rest → (x : EncodeError) (mid : View)
+      → EncodesIf (P u) s (tree_of u) here (Err x) mid → EncodesSetOfIf (EachFits P all) s (map tree_of all) old (Err x) mid
+  set_element_not_written start k e j x mid h = record {
+    fits = tt;
+    does = λ a. record {
+      ok = tt;
+      refused = inl (set_of_element_refused s (map tree_of all) (map tree_of rest) (map tree_of after) (tree_of u) old here start k (ap (map tree_of) e) x
+          (h.does (next_element P rest after u e (j.down a)).0).refused);
+    };
+    keeps = leaves_both k.so_far.others (left_as_it_was here mid h.keeps);
+    rules = h.rules ∙ k.so_far.others.rule;
+  }
+
 -- ---- one component
 
-module _ (s : Shape) (t : Tree) (v : View) (p : Presence) where
-  pub part_skipped : IsLeftOutAs p t → EncodesPart p s t v (Ok tt) v
-  part_skipped e = record { ok = part_left s t v v p e; err = tt; refused = tt }
+module _ (g : ℕ → Value → Type 0) (s : Shape) (p : Component) (u : Value) (v : View) where
+  pub part_skipped : IsLeftOutAs (presence_of p.presence) (tree_of u) → EncodesPartIf (ComponentFits g p u) (presence_of p.presence) s (tree_of u) v (Ok tt) v
+  part_skipped e = record { fits = inl e; does = λ h. record { ok = part_left s (tree_of u) v v (presence_of p.presence) e; refused = tt }; keeps = tt; rules = tt }
 
-  pub part_written : (IsLeftOutAs p t → ⊥) → (w : View) (r : Result (Unit {0}) EncodeError) → Encodes s t v r w → EncodesPart p s t v r w
-  part_written n w r h = record { ok = part_put s t v w p n r h.ok; err = h.err; refused = part_not_put s t v w p n r h.refused }
+  pub part_written : (IsLeftOutAs (presence_of p.presence) (tree_of u) → ⊥) → (w : View) (r : Result (Unit {0}) EncodeError) → EncodesIf (g p.type_id.0 u) s (tree_of u) v r w
+      → EncodesPartIf (ComponentFits g p u) (presence_of p.presence) s (tree_of u) v r w
+  part_written n w r h = fits_as r inr (fits_there g p u n)
+      (λ k. record { ok = part_put s (tree_of u) v w (presence_of p.presence) n r k.ok; refused = part_not_put s (tree_of u) v w (presence_of p.presence) n r k.refused }) h
 
-pub not_opened : (s : Shape) (t : Tree) (v w : View) (e : EncodeError) → w ≡ v → IsAllocError v.rule e → Encodes s t v (Err e) w
-not_opened s t v w e k m = record { ok = tt; err = k; refused = record { why = inl (ap (λ (x : EncodeError). x.kind) m) } }
+pub not_opened : {F : Type 0} (s : Shape) (t : Tree) (v w : View) (e : EncodeError) → w ≡ v → IsAllocError v.rule e → EncodesIf F s t v (Err e) w
+not_opened s t v w e k m = record {
+  fits = tt;
+  does = λ f. record { ok = tt; refused = record { why = inl (ap (λ (x : EncodeError). x.kind) m) } };
+  keeps = k;
+  rules = ap (λ (x : EncodeError). x.codec) m;
+}

@@ -1,22 +1,28 @@
 -- What the steps of a reader return.
-use Rattle.std.specs.Prelude.{map, get_or, slice_get, slice_set, ◌≡◌, ◌≢◌, ◌⊎◌, ◌≤◌, ◌||◌, ℕ, Bool, true, false, List, [], ◌∷◌, ◌++◌, length, Vec, Option, Some, None, Result, Ok, Err}
+use Rattle.std.specs.Prelude.{map, get_or, slice_get, slice_set, ◌≡◌, ◌≢◌, ◌⊎◌, ◌≤◌, ◌||◌, ℕ, ℤ, Bool, true, false, List, [], ◌∷◌, ◌++◌, length, Vec, Option, Some, None, Result, Ok, Err}
 use Rattle.std.specs.Global.{Global}
 use Rattle.std.specs.Borrow.{Bor}
 use Rattle.std.specs.String.{string_bytes}
 use Rattle.std.specs.Cow.{cow_slice_items}
+use Rattle.std.specs.declared.borrow.CowSlice.{CowSlice}
+use Rattle.rasn_types.specs.declared.types.constraints.Constraints.{Constraints}
+use Rattle.rasn_types.specs.declared.types.constraints.Bounded.TheVariants.{Single}
+use Rattle.rasn_types.specs.Trees.{unconstrained}
+use Rattle.rasn_de.specs.Leaves.{FailsAs}
+use Rattle.rasn_de.specs.Enumerated.{EnumeratedAt}
+use Rattle.rasn_de.specs.CharacterString.{DecodesOctetString}
 use Rattle.rasn_types.specs.declared.types.strings.alphabet.Alphabet.{Alphabet}
 use Rattle.rasn_types.specs.CharacterString.{AreAdmitted}
 use Rattle.rasn_types.specs.declared.types.codec.Codec.{Codec}
 use Rattle.rasn_types.specs.declared.types.tag.Tag.{Tag}
 use Rattle.rasn_types.specs.Tags.{form, IsStrict}
 use Rattle.rasn_types.specs.Framing.{NextTag}
-use Rattle.rasn_types.specs.declared.types.constraints.Bound.{Bound}
 use Rattle.rasn_types.specs.Errors.{IsOutOfMemory}
-use Rattle.rasn_types.specs.Shapes.{Tree, Shape, Interval, IsIn, Parts, IsFirst, IsFirstOf, Admits, Same, Presence, required, optional, addition, default}
+use Rattle.rasn_types.specs.Shapes.{Tree, Shape, Interval, IsIn, Parts, IsFirst, IsFirstOf, Admits, constraint_of, Same, Presence, required, optional, addition, default}
 use Rattle.rasn_types.specs.Readings.{IsNoDefault, IsMissing}
 use Rattle.rasn_types.specs.declared.error.decode.DecodeError.{DecodeError}
 use Rattle.rasn_types.specs.declared.error.decode.DerDecodeErrorKind.TheVariants.{DefaultValuePresent}
-use Rattle.rasn_de.specs.declared.ber.de.parser.ParseError.TheVariants.{UnexpectedExtraData, OutOfMemory, Der}
+use Rattle.rasn_de.specs.declared.ber.de.parser.ParseError.TheVariants.{UnexpectedExtraData, SizeConstraintNotSatisfied, OutOfMemory, Der}
 use Rattle.rasn_de.specs.State.{State}
 use Rattle.rasn_de.specs.Steps.{IsErrorOf}
 use Rattle.rasn_de.specs.Decodes.{Decodes}
@@ -25,7 +31,7 @@ use Rattle.rasn_de.specs.SetPartTypes.{held_tree, text, name_at, LacksSlot}
 use Rattle.rasn_schema.specs.declared.types.Presence.{Presence as PartPresence}
 use Rattle.rasn_schema.specs.declared.types.Presence.TheVariants.{Required, Optional, Addition, Default}
 use Rattle.rasn_schema.specs.declared.types.Component.{Component}
-use Rattle.rasn_schema.specs.declared.value.Value.{Value, Integer as Number, Octets, Items, Elements}
+use Rattle.rasn_schema.specs.declared.value.Value.{Value, Integer as Number, Octets}
 use Rattle.rasn_schema.specs.Trees.{tree_of}
 use Rattle.rasn_schema.specs.Shapes.{presence_of, presences_in}
 
@@ -39,19 +45,24 @@ abbrev pub IsStringOf : Alphabet → Value → Type 0
 IsStringOf alphabet (Octets o) = AreAdmitted alphabet (cow_slice_items o)
 IsStringOf alphabet _ = ⊥
 
+-- Memory runs out; or the number isn't read, as in an ENUMERATED of a type written in Rattle.
+abbrev pub FailsAtNumber : List ℤ → Tag → State → DecodeError → State → Type 0
+FailsAtNumber known tag old e new = FailsAs (EnumeratedAt known old.rule tag old.rest) old e new ⊎ IsOutOfMemory e.kind
+
+-- The octets have another number than n, or n isn't within the bound.
+abbrev pub IsOfWrongSize : ℕ → Constraints → List ℕ → State → DecodeError → Type 0
+IsOfWrongSize n c l s e = ((length l ≢ n) × IsErrorOf (SizeConstraintNotSatisfied (length l) (Single n)) s e)
+    ⊎ ((length l ≡ n) × (Admits ◌≤◌ c.size n → ⊥) × IsErrorOf (SizeConstraintNotSatisfied n (constraint_of c.size)) s e)
+
+-- An OCTET STRING of n octets isn't read: no OCTET STRING is; or one is, of a wrong size.
+abbrev pub FailsAtFixed : ℕ → Tag → Constraints → State → DecodeError → State → Type 0
+FailsAtFixed n tag c old e new = DecodesOctetString tag unconstrained old (Err e) new
+    ⊎ ((octets : CowSlice ℕ Global) × DecodesOctetString tag unconstrained old (Ok octets) new × IsOfWrongSize n c (cow_slice_items octets) new e)
+
 -- The value is appended, and some of the input was read; or nothing was read, or memory ran out.
 abbrev pub IsKept : ℕ → State → Value → List Value → Result (Unit {0}) DecodeError → List Value → Type 0
 IsKept left s v vs (Ok done) us = (us ≡ vs ++ v ∷ []) × (length s.rest ≢ left)
 IsKept left s v vs (Err e) us = ((length s.rest ≡ left) × IsErrorOf (UnexpectedExtraData left) s e) ⊎ IsErrorOf OutOfMemory s e
-
--- The elements of a list, if their number is within its bound.
-abbrev pub IsSized : Option (Bound ℕ) → Vec Value Global → Result Value DecodeError → Type 0
-IsSized size vs (Ok v) = Admits ◌≤◌ size (length vs.items) × (v ≡ Items vs)
-IsSized size vs (Err e) = Admits ◌≤◌ size (length vs.items) → ⊥
-
-abbrev pub IsSizedSet : Option (Bound ℕ) → Vec Value Global → Result Value DecodeError → Type 0
-IsSizedSet size vs (Ok v) = Admits ◌≤◌ size (length vs.items) × (v ≡ Elements vs)
-IsSizedSet size vs (Err e) = Admits ◌≤◌ size (length vs.items) → ⊥
 
 abbrev pub IsDefaultOf : Presence → Tree → Type 0
 IsDefaultOf required t = ⊥
@@ -68,6 +79,18 @@ DecodesPresent p s old (Err e) new = Decodes s tree_of old (Err e) new
 -- If the next tag is no alternative's, the error has this name, and nothing is consumed.
 abbrev pub IsNoAlternative : Parts → List ℕ → State → DecodeError → State → Type 0
 IsNoAlternative ps name old e new = (tag : Tag) → NextTag (form old.rule) old.rest tag → (IsFirstOf ps tag → ⊥) → IsNamedError (IsNoValidChoice name) old.rule e × (new ≡ old)
+
+-- The component has a default.
+abbrev pub HasDefault : Presence → Type 0
+HasDefault required = ⊥
+HasDefault optional = ⊥
+HasDefault addition = ⊥
+HasDefault (default d) = Unit {0}
+
+-- The value that an absent component has; or memory runs out for the copy of its default.
+abbrev pub IsMade : Presence → State → Result Value DecodeError → Type 0
+IsMade p s (Ok v) = IsMissing p (tree_of v)
+IsMade p s (Err e) = HasDefault p × IsErrorOf OutOfMemory s e
 
 -- whether some component is required
 abbrev pub is_required : PartPresence → Bool

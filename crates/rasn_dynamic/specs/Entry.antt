@@ -1,13 +1,14 @@
 -- What the entry points return.
-use Rattle.std.specs.Prelude.{◌⊎◌, ℕ, List, Vec, Result, Ok, Err}
-use Rattle.std.specs.Global.{Global}
+use Rattle.std.specs.Prelude.{◌≡◌, ◌⊎◌, ℕ, Bool, true, false, List, []}
 use Rattle.rasn_types.specs.declared.types.codec.Codec.{Codec}
+use Rattle.rasn_types.specs.declared.types.codec.Codec.TheVariants.{Der}
+use Rattle.rasn_types.specs.declared.error.encode.EncodeError.{EncodeError}
 use Rattle.rasn_types.specs.Shapes.{Shape, Tree}
 use Rattle.rasn_types.specs.Grammar.{Reads, top}
-use Rattle.rasn_types.specs.Bytes.{Bytes}
-use Rattle.rasn_de.specs.Outcomes.{Exact, refusal}
-use Rattle.rasn.specs.Headline.{IsFollowed, EncodingFails}
-use Rattle.rasn.specs.Normal.{Means}
+use Rattle.rasn_types.specs.Bytes.{Bytes, Same}
+use Rattle.rasn.specs.Headline.{EncodingFails}
+use Rattle.rasn.specs.Normal.{Means, IsNormal, IsNoNormal}
+use Rattle.rasn.specs.declared.normal.NormaliseError.{NormaliseError}
 use Rattle.rasn_schema.specs.declared.types.«Type».{«Type»}
 use Rattle.rasn_schema.specs.Shapes.{shape_of_type}
 use Rattle.rasn_schema.specs.declared.value.Value.{Value}
@@ -17,8 +18,6 @@ use Rattle.rasn_schema.specs.Trees.{tree_of}
 use Rattle.rasn_dynamic.specs.Fitting.{Fits, IsUnfitAt}
 use Rattle.rasn_dynamic.specs.declared.entry.WriteError.{WriteError}
 use Rattle.rasn_dynamic.specs.declared.entry.WriteError.TheVariants.{Unfit, Encode as Written}
-use Rattle.rasn_dynamic.specs.declared.entry.NormaliseError.{NormaliseError}
-use Rattle.rasn_dynamic.specs.declared.entry.NormaliseError.TheVariants.{Decode, Encode}
 
 -- The shape of the type with a number, as deep as any message goes: reading stops at 128 values in one another.
 abbrev pub shape_of : List «Type» → ℕ → Shape
@@ -41,8 +40,24 @@ abbrev pub IsNotEncoded : Codec → List «Type» → ℕ → Value → WriteErr
 IsNotEncoded rule types id v (Unfit path) = (FitsType types id v → ⊥) × IsUnfit types id v path.indices.items
 IsNotEncoded rule types id v (Written e) = IsEncodeOutOfMemory e.kind ⊎ (FitsType types id v × NoEncoding rule (shape_of types id) (tree_of v))
 
--- The octets are those by other rules of what all of the input means; or it means nothing, or has no octets by those rules.
-abbrev pub IsNormalised : Codec → Codec → Shape → List ℕ → Result (Vec ℕ Global) NormaliseError → Type 0
-IsNormalised from to s input (Ok octets) = (t : Tree) × Means from s input t × Bytes to s t octets.items
-IsNormalised from to s input (Err (Decode e)) = Exact (Reads from s 128 (top from)) input (refusal e.kind) ⊎ IsFollowed from s input e
-IsNormalised from to s input (Err (Encode e)) = (t : Tree) × Means from s input t × EncodingFails to s t e
+-- Of a value of the type: memory runs out, or it has no octets.
+abbrev pub FailsIfFits : Codec → List «Type» → ℕ → Value → EncodeError → Type 0
+FailsIfFits rule types id v e = FitsType types id v → EncodingFails rule (shape_of types id) (tree_of v) e
+
+-- The error of a value of the type names the rules.
+abbrev pub NamesRules : Codec → WriteError → Type 0
+NamesRules rule (Unfit path) = Unit {0}
+NamesRules rule (Written e) = e.codec ≡ rule
+
+-- DER reads the octets, alone, as a value that means the same; or it doesn't.
+abbrev pub IsReadBack : Bool → Shape → Tree → List ℕ → Type 0
+IsReadBack true s t octets = (again : Tree) × Means Der s octets again × Same t again
+IsReadBack false s t octets = (again : Tree) → Reads Der s 128 (top Der) octets again [] → Same t again → ⊥
+
+-- Of each input that means the tree, these are the normal octets.
+abbrev pub IsNormalOf : Shape → Tree → List ℕ → Type 0
+IsNormalOf s t octets = (rule : Codec) (input : List ℕ) → Means rule s input t → IsNormal rule s input octets
+
+-- No input that means the tree has normal octets, or memory runs out.
+abbrev pub IsNoNormalOf : Shape → Tree → NormaliseError → Type 0
+IsNoNormalOf s t e = (rule : Codec) (input : List ℕ) → Means rule s input t → IsNoNormal rule s input e

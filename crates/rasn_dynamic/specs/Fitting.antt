@@ -115,7 +115,7 @@ FitsBy g (Any tag) v = AreOctets v
 FitsBy g (Tagged tag k) v = g k.0 v
 FitsBy g (Choice name ks) v = IsChosen (AlternativeFits g ks.items) v
 FitsBy g (Sequence tag ps) v = AreItems (ComponentsFit g ps.items) v
-FitsBy g (Set tag ps) v = AreItems (ComponentsFit g ps.items) v
+FitsBy g (Set name tag ps) v = AreItems (ComponentsFit g ps.items) v
 FitsBy g (SequenceOf tag k c) v = AreItems (EachFits (g k.0)) v
 FitsBy g (SetOf tag k c) v = AreElements (EachFits (g k.0)) v
 
@@ -146,7 +146,7 @@ IsOfAlternative ks i j w n u = (n ≡ i) × (u ≡ w) × ((a : Alternative) × (
 abbrev pub IsPart : «Type» → Value → ℕ → ℕ → Value → Type 0
 IsPart (Choice name ks) v i j w = IsChosen (IsOfAlternative ks.items i j w) v
 IsPart (Sequence tag ps) v i j w = AreItems (IsComponent ps.items i j w) v
-IsPart (Set tag ps) v i j w = AreItems (IsComponent ps.items i j w) v
+IsPart (Set name tag ps) v i j w = AreItems (IsComponent ps.items i j w) v
 IsPart (SequenceOf tag k c) v i j w = AreItems (IsElement k.0 i j w) v
 IsPart (SetOf tag k c) v i j w = AreElements (IsElement k.0 i j w) v
 IsPart _ v i j w = ⊥

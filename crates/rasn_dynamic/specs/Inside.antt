@@ -1,11 +1,11 @@
--- The contents of a value that holds others, and its header.
+-- The contents of a value that holds others, and its header. Lists and sets of elements are in Typed.antt, since their size is asked after their end.
 use Rattle.std.specs.Prelude.{◌≡◌, ℕ, Bool}
 use Rattle.rasn_types.specs.declared.types.codec.Codec.{Codec}
 use Rattle.rasn_types.specs.Shapes.{Tree, Shape, leaf, any, prefix, choice, option, seq, set, list, set_of, presences, Parts, Presence, own}
 use Rattle.rasn_types.specs.Readings.{Reading, ReadsPart, ReadsSeq, ReadsChoice, ReadsSet}
-use Rattle.rasn_types.specs.Grammar.{Reads, parts_of, ReadsList, ReadsSetOf}
+use Rattle.rasn_types.specs.Grammar.{Reads, parts_of}
 use Rattle.rasn_de.specs.declared.ber.de.constructed.ConstructedHeader.{ConstructedHeader}
-use Rattle.rasn_de.specs.Constructed.{sequence_header, list_header, prefix_header}
+use Rattle.rasn_de.specs.Constructed.{sequence_header, prefix_header}
 
 unfoldable pub ReadsInside : Shape → Codec → ℕ → Bool → Reading Tree
 ReadsInside (leaf kind tag bounds) rule depth closing = λ input t rest. ⊥
@@ -15,8 +15,8 @@ ReadsInside (choice ps) rule depth closing = λ input t rest. ⊥
 ReadsInside (option tag s) rule depth closing = λ input t rest. ⊥
 ReadsInside (seq tag ps) rule depth closing = ReadsSeq rule (parts_of rule ps depth closing) closing
 ReadsInside (set tag ps) rule depth closing = ReadsSet rule (presences ps) (ReadsChoice rule 0 (parts_of rule ps depth closing)) closing
-ReadsInside (list tag s size) rule depth closing = ReadsList size (Reads rule s depth closing) closing
-ReadsInside (set_of tag s size) rule depth closing = ReadsSetOf rule size (Reads rule s depth closing) closing
+ReadsInside (list tag s size) rule depth closing = λ input t rest. ⊥
+ReadsInside (set_of tag s size) rule depth closing = λ input t rest. ⊥
 
 abbrev pub IsHeaderOf : Shape → ConstructedHeader → Type 0
 IsHeaderOf (leaf kind tag bounds) d = ⊥
@@ -26,8 +26,8 @@ IsHeaderOf (choice ps) d = ⊥
 IsHeaderOf (option tag s) d = ⊥
 IsHeaderOf (seq tag ps) d = d ≡ sequence_header tag
 IsHeaderOf (set tag ps) d = d ≡ sequence_header tag
-IsHeaderOf (list tag s size) d = d ≡ list_header tag
-IsHeaderOf (set_of tag s size) d = d ≡ list_header tag
+IsHeaderOf (list tag s size) d = ⊥
+IsHeaderOf (set_of tag s size) d = ⊥
 
 -- the components of a SEQUENCE
 abbrev pub ReadsSequence : Parts → Codec → ℕ → Bool → Reading Tree

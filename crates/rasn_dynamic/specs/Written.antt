@@ -6,10 +6,12 @@ use Rattle.rasn_types.specs.declared.error.encode.EncodeError.{EncodeError}
 use Rattle.rasn_types.specs.Errors.{IsEncodeOutOfMemory}
 use Rattle.rasn_types.specs.Tags.{IsTagBelow}
 use Rattle.rasn_types.specs.Contents.{joined_lists}
-use Rattle.rasn_types.specs.Shapes.{Tree, items, set_elements, absent, Same, Presence, required, optional, addition, default, Shape, leaf, any, prefix, choice, option, seq, set, list, set_of, Admits}
+use Rattle.rasn_types.specs.Shapes.{Tree, items, set_elements, absent, Same, Presence, required, optional, addition, default, Shape, leaf, any, prefix, choice, option, seq, set, list, set_of, Parts, Admits}
 use Rattle.rasn_types.specs.Bytes.{Bytes, fields_of, PartsWritten, NoneUntaggedOpen, TagsOf, Each, AreAscending, IsLess}
 use Rattle.rasn_enc.specs.View.{View, LeavesOthers}
 use Rattle.rasn_enc.specs.Encoding.{AppendsPart, EncodePartFails}
+use Rattle.rasn_enc.specs.Sequence.{EncodesParts}
+use Rattle.rasn_enc.specs.SequenceOf.{AppendsElements, AppendsSetOf, FailsAtElement, FailsAtElements}
 
 unfoldable pub WritesInside : Codec → Shape → Tree → List ℕ → Type 0
 WritesInside rule (leaf kind tag bounds) t c = ⊥
@@ -48,10 +50,9 @@ HoldsOthers (set tag ps) = Unit {0}
 HoldsOthers (list tag s size) = Unit {0}
 HoldsOthers (set_of tag s size) = Unit {0}
 
--- What a call that writes a component returns, and the encoder's state after it: the state before it if the component isn't written.
+-- What a call that writes a component returns, and the encoder's state after it.
 pub record EncodesPart (p : Presence) (s : Shape) (t : Tree) (v : View) (r : Result (Unit {0}) EncodeError) (w : View) : Type 0 where
   pub ok : OnOk r (AppendsPart p s t v w)
-  pub err : OnErr r (w ≡ v)
   pub refused : IfErr r (EncodePartFails p s t v)
 
 -- The same of a value.
@@ -60,9 +61,44 @@ Encodes = EncodesPart required
 
 -- What a call that writes the contents of an open value returns, and the encoder's state after it.
 pub record EncodesInside (s : Shape) (t : Tree) (v : View) (r : Result (Unit {0}) EncodeError) (w : View) : Type 0 where
-  pub keeps : LeavesOthers v w
   pub ok : OnOk r (WritesInside v.rule s t w.last.octets)
   pub refused : IfErr r (λ e. IsEncodeOutOfMemory e.kind ⊎ ((c : List ℕ) → WritesInside v.rule s t c → ⊥))
+
+-- The same of elements one behind the other, and of those of a SET OF.
+pub record EncodesElements (s : Shape) (ts : List Tree) (v : View) (r : Result (Unit {0}) EncodeError) (w : View) : Type 0 where
+  pub ok : OnOk r (AppendsElements s ts v w)
+  pub refused : IfErr r (FailsAtElement s ts v.rule)
+
+pub record EncodesSetOf (s : Shape) (ts : List Tree) (v : View) (r : Result (Unit {0}) EncodeError) (w : View) : Type 0 where
+  pub ok : OnOk r (AppendsSetOf s ts v w)
+  pub refused : IfErr r (FailsAtElements s ts v.rule)
+
+-- Only a value that fits is written, and of one that fits the call does this. Its error names these rules, and what is kept holds always.
+pub record OnlyFitting (Fitting Does Kept : Type 0) (rule : Codec) (r : Result (Unit {0}) EncodeError) : Type 0 where
+  pub fits : OnOk r Fitting
+  pub does : Fitting → Does
+  pub keeps : Kept
+  pub rules : IfErr r (λ e. e.codec ≡ rule)
+
+-- A component or a value that isn't written leaves the encoder as it was.
+abbrev pub EncodesPartIf : Type 0 → Presence → Shape → Tree → View → Result (Unit {0}) EncodeError → View → Type 0
+EncodesPartIf F p s t v r w = OnlyFitting F (EncodesPart p s t v r w) (OnErr r (w ≡ v)) v.rule r
+
+abbrev pub EncodesIf : Type 0 → Shape → Tree → View → Result (Unit {0}) EncodeError → View → Type 0
+EncodesIf F s t v r w = OnlyFitting F (Encodes s t v r w) (OnErr r (w ≡ v)) v.rule r
+
+-- What is written inside a value leaves the lists below it as they were.
+abbrev pub EncodesInsideIf : Type 0 → Shape → Tree → View → Result (Unit {0}) EncodeError → View → Type 0
+EncodesInsideIf F s t v r w = OnlyFitting F (EncodesInside s t v r w) (LeavesOthers v w) v.rule r
+
+abbrev pub EncodesPartsIf : Type 0 → Parts → Tree → View → Result (Unit {0}) EncodeError → View → Type 0
+EncodesPartsIf F ps t v r w = OnlyFitting F (EncodesParts ps t v r w) (LeavesOthers v w) v.rule r
+
+abbrev pub EncodesElementsIf : Type 0 → Shape → List Tree → View → Result (Unit {0}) EncodeError → View → Type 0
+EncodesElementsIf F s ts v r w = OnlyFitting F (EncodesElements s ts v r w) (LeavesOthers v w) v.rule r
+
+abbrev pub EncodesSetOfIf : Type 0 → Shape → List Tree → View → Result (Unit {0}) EncodeError → View → Type 0
+EncodesSetOfIf F s ts v r w = OnlyFitting F (EncodesSetOf s ts v r w) (LeavesOthers v w) v.rule r
 
 -- whether tags are kept inside a value of the shape
 abbrev pub keeps_tags : Shape → Bool

@@ -1,15 +1,12 @@
 //! Components that are absent, and the values that they have then (X.680 25).
-ghost use Rattle.std.specs.Prelude.{◌≡◌, [], false, IfOk, IfErr};
+ghost use Rattle.std.specs.Prelude.{◌≡◌, [], false, IfErr};
 ghost use Rattle.rasn_types.specs.Truth.{IsWhether};
-ghost use Rattle.rasn_types.specs.Readings.{IsMissing};
-ghost use Rattle.rasn_types.specs.Errors.{IsOutOfMemory};
 ghost use Rattle.rasn_types.specs.declared.error.decode.DerDecodeErrorKind.TheVariants.{DefaultValuePresent};
 ghost use Rattle.rasn_de.specs.declared.ber.de.parser.ParseError.TheVariants.{Der};
 ghost use Rattle.rasn_de.specs.Steps.{IsErrorOf};
-ghost use Rattle.rasn_schema.specs.Trees.{tree_of};
 ghost use Rattle.rasn_schema.specs.Shapes.{presence_of};
 ghost use Rattle.rasn_schema.specs.FirstTags.{IsAlwaysThere};
-ghost use Rattle.rasn_dynamic.specs.Calls.{LeavesAllOut, any_required, is_required};
+ghost use Rattle.rasn_dynamic.specs.Calls.{LeavesAllOut, any_required, is_required, IsMade};
 
 use crate::read_leaf::out_of_memory;
 use rasn_de::ber::de::Decoder;
@@ -64,13 +61,16 @@ pub fn leaves_all_out(decoder: &Decoder<'_>, components: &[Component]) -> bool
 }
 
 /// Returns the value of a component that is absent.
+///
+/// # Errors
+/// `OutOfMemory` if a default can't be copied.
 pub fn missing<'input>(
     decoder: &Decoder<'input>,
     component: &Component,
 ) -> Result<Value<'input>, DecodeError>
     requires { is_required component.now.presence ≡ false }
-    ensures ok { IfOk result (λ v. IsMissing (presence_of component.now.presence) (tree_of v)) }
-    ensures err { IfErr result (λ e. IsOutOfMemory e.kind) }
+    ensures made { IsMade (presence_of component.now.presence) decoder.now result }
+    ensures rules { IfErr result (λ e. e.codec ≡ decoder.now.rule) }
 {
     match &component.presence {
         Presence::Required => unreachable!(),

@@ -1,20 +1,21 @@
 //! Reads, writes and checks one value.
 ghost use Rattle.std.specs.Prelude.{◌≡◌, [], OnOk, OnErr, IfOk, IfErr};
-ghost use Rattle.rasn_types.specs.Bytes.{Bytes};
+ghost use Rattle.rasn_types.specs.Errors.{IsOutOfMemory};
+ghost use Rattle.rasn_types.specs.Framing.{AreOctets};
 ghost use Rattle.rasn_types.specs.Truth.{IsWhether};
 ghost use Rattle.rasn_types.specs.declared.types.codec.Codec.TheVariants.{Der};
-ghost use Rattle.rasn.specs.Headline.{Answered, AnsweredAlone, IsAsWritten, Identify, EncodingFails};
-ghost use Rattle.rasn.specs.Normal.{IsNormal, Means};
+ghost use Rattle.rasn.specs.Headline.{Answered, AnsweredAlone, IsAsWritten, Identify};
+ghost use Rattle.rasn.specs.Normal.{IsNormal, IsNoNormal, IsIdentified, IsKept, IsUnchanged, IsAnswered};
 ghost use Rattle.rasn_enc.specs.Primitive.{IsAllocError};
 ghost use Rattle.rasn_schema.specs.Trees.{tree_of};
-ghost use Rattle.rasn_dynamic.specs.Entry.{IsEncoded, IsNotEncoded, IsNormalised, FitsType, shape_of};
+ghost use Rattle.rasn_dynamic.specs.Entry.{IsEncoded, IsNotEncoded, FailsIfFits, NamesRules, IsReadBack, IsNormalOf, IsNoNormalOf, FitsType, shape_of};
 
 use crate::fitting::fits;
 use crate::path::ValuePath;
 use crate::reader::decode_at;
 use crate::unfit::append_unfit_path;
 use crate::writer::encode_at;
-use rasn::refuse_remainder;
+use rasn::{NormaliseError, refuse_remainder};
 use rasn_de::ber::de::{Decoder, DecoderOptions};
 use rasn_enc::ber::enc::{Encoder, EncoderOptions, INITIAL_CAPACITY};
 use rasn_schema::{Schema, TypeId, Value};
@@ -37,6 +38,7 @@ pub fn decode_with_remainder<'input>(
 ) -> Result<(Value<'input>, &'input [u8]), DecodeError>
     ensures exact { Answered rule (shape_of schema.now.types.items id.0) tree_of input.now result }
     ensures fits { IfOk result (λ read. FitsType schema.now.types.items id.0 read.0) }
+    ensures rules { IfErr result (λ e. e.codec ≡ rule) }
 {
     let mut decoder = Decoder::new(alloc, input, DecoderOptions::of(rule));
     let value = decode_at(&mut decoder, schema.types(), usize::MAX, id)?;
@@ -57,6 +59,7 @@ pub fn decode<'input>(
     ensures exact { AnsweredAlone rule (shape_of schema.now.types.items id.0) tree_of input.now result }
     ensures written { rule ≡ Der → IsAsWritten (shape_of schema.now.types.items id.0) tree_of input.now result }
     ensures fits { IfOk result (λ v. FitsType schema.now.types.items id.0 v) }
+    ensures rules { IfErr result (λ e. e.codec ≡ rule) }
 {
     let (value, remainder) = decode_with_remainder(alloc, rule, schema, id, input)?;
     refuse_remainder(rule, remainder)?;
@@ -80,8 +83,8 @@ pub enum WriteError {
 /// Returns the octets of a value.
 ///
 /// # Errors
-/// - `Unfit` exactly if [`fits`] is false, before anything is written, unless memory runs out.
-/// - `Encode` as the writer of a type written in Rattle.
+/// - `Unfit` exactly if [`fits`] is false, whatever else is wrong with the value, unless memory for the path runs out.
+/// - `Encode` as the writer of a type written in Rattle, with these rules.
 pub fn encode(
     alloc: Global,
     rule: Codec,
@@ -92,11 +95,11 @@ pub fn encode(
     ensures ok { IfOk result (λ octets. IsEncoded rule schema.now.types.items id.0 value.now octets.items) }
     ensures canonical { rule ≡ Der → IfOk result (λ octets. Identify (shape_of schema.now.types.items id.0) (tree_of value.now) octets.items) }
     ensures fails { IfErr result (IsNotEncoded rule schema.now.types.items id.0 value.now) }
+    ensures rules { IfErr result (NamesRules rule) }
 {
-    refuse_unfit(alloc, rule, schema, id, value)?;
-    match write(alloc, rule, schema, id, value) {
+    match write(alloc, rule, schema, id, value, Vec::new(alloc)) {
         Ok(octets) => Ok(octets),
-        Err(error) => Err(WriteError::Encode(error)),
+        Err(error) => Err(write_error(alloc, rule, schema, id, value, error)),
     }
 }
 
@@ -116,43 +119,20 @@ pub fn encode_buf(
     ensures canonical { rule ≡ Der → OnOk result (Identify (shape_of schema.now.types.items id.0) (tree_of value.now) buffer.new.items) }
     ensures emptied { OnErr result (buffer.new.items ≡ []) }
     ensures fails { IfErr result (IsNotEncoded rule schema.now.types.items id.0 value.now) }
+    ensures rules { IfErr result (NamesRules rule) }
 {
-    let mut held = mem::replace(buffer, Vec::new(alloc));
-    refuse_unfit(alloc, rule, schema, id, value)?;
-    held.clear();
-    if held.reserve(INITIAL_CAPACITY).is_err() {
-        return Err(WriteError::Encode(out_of_memory(rule)));
-    }
-    match write_over(alloc, rule, schema, id, value, held) {
+    let held = mem::replace(buffer, Vec::new(alloc));
+    match write(alloc, rule, schema, id, value, held) {
         Ok(octets) => {
             *buffer = octets;
             Ok(())
         }
-        Err(error) => Err(WriteError::Encode(error)),
+        Err(error) => Err(write_error(alloc, rule, schema, id, value, error)),
     }
 }
 
-/// Writes a value that fits its type.
+/// Writes a value into this vector, in place of what it holds, if the value fits its type.
 fn write(
-    alloc: Global,
-    rule: Codec,
-    schema: &Schema,
-    id: TypeId,
-    value: &Value<'_>,
-) -> Result<Vec<u8>, EncodeError>
-    requires { FitsType schema.now.types.items id.0 value.now }
-    ensures ok { IfOk result (λ octets. Bytes rule (shape_of schema.now.types.items id.0) (tree_of value.now) octets.items) }
-    ensures canonical { rule ≡ Der → IfOk result (λ octets. Identify (shape_of schema.now.types.items id.0) (tree_of value.now) octets.items) }
-    ensures fails { IfErr result (EncodingFails rule (shape_of schema.now.types.items id.0) (tree_of value.now)) }
-{
-    match Vec::with_capacity(alloc, INITIAL_CAPACITY) {
-        Ok(buffer) => write_over(alloc, rule, schema, id, value, buffer),
-        Err(_) => Err(out_of_memory(rule)),
-    }
-}
-
-/// Writes a value that fits its type into this vector, in place of what it holds.
-fn write_over(
     alloc: Global,
     rule: Codec,
     schema: &Schema,
@@ -160,36 +140,44 @@ fn write_over(
     value: &Value<'_>,
     buffer: Vec<u8>,
 ) -> Result<Vec<u8>, EncodeError>
-    requires { FitsType schema.now.types.items id.0 value.now }
-    ensures ok { IfOk result (λ octets. Bytes rule (shape_of schema.now.types.items id.0) (tree_of value.now) octets.items) }
+    ensures ok { IfOk result (λ octets. IsEncoded rule schema.now.types.items id.0 value.now octets.items) }
     ensures canonical { rule ≡ Der → IfOk result (λ octets. Identify (shape_of schema.now.types.items id.0) (tree_of value.now) octets.items) }
-    ensures fails { IfErr result (EncodingFails rule (shape_of schema.now.types.items id.0) (tree_of value.now)) }
+    ensures fails { IfErr result (FailsIfFits rule schema.now.types.items id.0 value.now) }
+    ensures rules { IfErr result (λ e. e.codec ≡ rule) }
 {
+    let mut buffer = buffer;
+    buffer.clear();
+    if buffer.reserve(INITIAL_CAPACITY).is_err() {
+        return Err(out_of_memory(rule));
+    }
     let mut encoder = Encoder::over(alloc, EncoderOptions::of(rule), buffer);
     encode_at(&mut encoder, schema.types(), usize::MAX, id, value)?;
     encoder.output()
 }
 
-/// Refuses a value that doesn't fit its type.
-fn refuse_unfit(
+/// Returns the error of a value that isn't written: `Unfit` if it doesn't fit its type, else that of the writer.
+fn write_error(
     alloc: Global,
     rule: Codec,
     schema: &Schema,
     id: TypeId,
     value: &Value<'_>,
-) -> Result<(), WriteError>
-    ensures ok { OnOk result (FitsType schema.now.types.items id.0 value.now) }
-    ensures fails { IfErr result (IsNotEncoded rule schema.now.types.items id.0 value.now) }
+    error: EncodeError,
+) -> WriteError
+    requires fails { FailsIfFits rule schema.now.types.items id.0 value.now error }
+    requires rules { error.codec ≡ rule }
+    ensures fails { IsNotEncoded rule schema.now.types.items id.0 value.now result }
+    ensures rules { NamesRules rule result }
 {
     if fits(schema, id, value) {
-        return Ok(());
+        return WriteError::Encode(error);
     }
     let mut indices = Vec::new(alloc);
     match append_unfit_path(schema.types(), usize::MAX, id, value, &mut indices) {
-        Ok(()) => Err(WriteError::Unfit {
+        Ok(()) => WriteError::Unfit {
             path: ValuePath { indices },
-        }),
-        Err(_) => Err(WriteError::Encode(out_of_memory(rule))),
+        },
+        Err(_) => WriteError::Encode(out_of_memory(rule)),
     }
 }
 
@@ -203,38 +191,100 @@ fn out_of_memory(rule: Codec) -> EncodeError
     }
 }
 
-/// What is wrong with octets that can't be written by other rules.
-#[derive(Debug, Drop, Error)]
-pub enum NormaliseError {
-    /// The octets aren't a value of the type.
-    #[error("{0}")]
-    Decode(DecodeError),
-    /// The value has no encoding by the other rules, or memory runs out.
-    #[error("{0}")]
-    Encode(EncodeError),
-}
-
-/// Reads the value that is all of the input by the rules `from`, and returns its octets by the rules `to`.
+/// Returns the DER octets of the value that is all of the input by these rules (X.690 10, 11).
+///
+/// As `rasn::normalise` does for a type written in Rattle: two inputs of carried values have the same octets exactly if their values mean
+/// the same, the octets of the octets are these again, what DER reads is returned as it is, and such an input is refused only if memory
+/// runs out.
+///
+/// # Errors
+/// - `Decode` as [`decode`] by these rules.
+/// - `Encode` if the value has no DER octets.
+/// - `NotCanonical` if DER doesn't read these octets, or reads another value.
 pub fn normalise(
     alloc: Global,
-    from: Codec,
-    to: Codec,
+    rule: Codec,
     schema: &Schema,
     id: TypeId,
     input: &[u8],
 ) -> Result<Vec<u8>, NormaliseError>
-    ensures { IsNormalised from to (shape_of schema.now.types.items id.0) input.now result }
+    ensures normal { IfOk result (λ octets. IsNormal rule (shape_of schema.now.types.items id.0) input.now octets.items) }
+    ensures identifies { IfOk result (λ octets. IsIdentified rule (shape_of schema.now.types.items id.0) input.now octets.items) }
+    ensures kept { IfOk result (λ octets. IsKept rule (shape_of schema.now.types.items id.0) input.now octets.items) }
+    ensures unchanged { IfOk result (λ octets. IsUnchanged rule (shape_of schema.now.types.items id.0) input.now octets.items) }
+    ensures answered { IfErr result (λ error. IsAnswered rule (shape_of schema.now.types.items id.0) input.now error) }
+    ensures fails { IfErr result (λ error. IsNoNormal rule (shape_of schema.now.types.items id.0) input.now error) }
 {
-    match decode(alloc, from, schema, id, input) {
-        Ok(value) => match write(alloc, to, schema, id, &value) {
-            Ok(octets) => Ok(octets),
-            Err(error) => Err(NormaliseError::Encode(error)),
-        },
+    convert(alloc, rule, schema, id, input)
+}
+
+/// Reads a value, writes it by DER, and reads that again.
+fn convert(
+    alloc: Global,
+    rule: Codec,
+    schema: &Schema,
+    id: TypeId,
+    input: &[u8],
+) -> Result<Vec<u8>, NormaliseError>
+    ensures normal { IfOk result (λ octets. IsNormal rule (shape_of schema.now.types.items id.0) input.now octets.items) }
+    ensures octets { IfOk result (λ octets. AreOctets octets.items) }
+    ensures fails { IfErr result (λ error. IsNoNormal rule (shape_of schema.now.types.items id.0) input.now error) }
+{
+    match decode(alloc, rule, schema, id, input) {
+        Ok(value) => write_normal(alloc, schema, id, &value),
         Err(error) => Err(NormaliseError::Decode(error)),
     }
 }
 
-/// Returns whether the octets are the one encoding of a value under DER.
+/// Returns the DER octets of a value that fits its type, if DER reads them as the same value.
+fn write_normal(
+    alloc: Global,
+    schema: &Schema,
+    id: TypeId,
+    value: &Value<'_>,
+) -> Result<Vec<u8>, NormaliseError>
+    requires { FitsType schema.now.types.items id.0 value.now }
+    ensures normal { IfOk result (λ octets. IsNormalOf (shape_of schema.now.types.items id.0) (tree_of value.now) octets.items) }
+    ensures octets { IfOk result (λ octets. AreOctets octets.items) }
+    ensures fails { IfErr result (IsNoNormalOf (shape_of schema.now.types.items id.0) (tree_of value.now)) }
+{
+    match write(alloc, Codec::Der, schema, id, value, Vec::new(alloc)) {
+        Ok(octets) => match is_read_back(alloc, schema, id, value, &octets) {
+            Ok(is_same) => {
+                if is_same {
+                    return Ok(octets);
+                }
+                Err(NormaliseError::NotCanonical)
+            }
+            Err(error) => Err(NormaliseError::Decode(error)),
+        },
+        Err(error) => Err(NormaliseError::Encode(error)),
+    }
+}
+
+/// Returns whether DER reads the octets, alone, as this value.
+///
+/// # Errors
+/// Returns an error only if memory runs out.
+fn is_read_back(
+    alloc: Global,
+    schema: &Schema,
+    id: TypeId,
+    value: &Value<'_>,
+    octets: &[u8],
+) -> Result<bool, DecodeError>
+    ensures ok { IfOk result (λ answer. IsReadBack answer (shape_of schema.now.types.items id.0) (tree_of value.now) octets.now) }
+    ensures octets { AreOctets octets.now }
+    ensures memory_alone { IfErr result (λ e. IsOutOfMemory e.kind) }
+{
+    match decode(alloc, Codec::Der, schema, id, octets) {
+        Ok(again) => Ok(again.means_same(value)),
+        Err(error) if error.is_out_of_memory() => Err(error),
+        Err(_) => Ok(false),
+    }
+}
+
+/// Returns whether the octets are the one encoding that DER has of a value of the type (X.690 10, 11).
 ///
 /// # Errors
 /// Returns an error if memory runs out.
@@ -246,27 +296,8 @@ pub fn is_canonical(
 ) -> Result<bool, AllocError>
     ensures { IfOk result (λ answer. IsWhether answer (IsNormal Der (shape_of schema.now.types.items id.0) octets.now octets.now)) }
 {
-    match decode(alloc, Codec::Der, schema, id, octets) {
-        Ok(value) => is_encoding_of(alloc, schema, id, &value, octets),
-        Err(error) if error.is_out_of_memory() => Err(AllocError),
-        Err(_) => Ok(false),
-    }
-}
-
-/// Returns whether the octets, which mean the value, are what DER writes of it.
-fn is_encoding_of(
-    alloc: Global,
-    schema: &Schema,
-    id: TypeId,
-    value: &Value<'_>,
-    octets: &[u8],
-) -> Result<bool, AllocError>
-    requires fits { FitsType schema.now.types.items id.0 value.now }
-    requires means { Means Der (shape_of schema.now.types.items id.0) octets.now (tree_of value.now) }
-    ensures { IfOk result (λ answer. IsWhether answer (IsNormal Der (shape_of schema.now.types.items id.0) octets.now octets.now)) }
-{
-    match write(alloc, Codec::Der, schema, id, value) {
-        Ok(written) => Ok(written.as_slice() == octets),
+    match normalise(alloc, Codec::Der, schema, id, octets) {
+        Ok(normal) => Ok(normal.as_slice() == octets),
         Err(error) if error.is_out_of_memory() => Err(AllocError),
         Err(_) => Ok(false),
     }

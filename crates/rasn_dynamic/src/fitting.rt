@@ -61,7 +61,8 @@ fn octets_fit(kind: LeafKind, octets: &[u8]) -> bool
 }
 
 /// Returns whether the value, which holds no other values, is one of this kind.
-fn leaf_fits(kind: LeafKind, value: &Value<'_>) -> bool
+#[inline(always)]
+pub(crate) fn leaf_fits(kind: LeafKind, value: &Value<'_>) -> bool
     ensures { IsWhether result (FitsLeaf kind value.now) }
 {
     match value {
@@ -101,7 +102,7 @@ fn is_named(named: &NamedNumber, number: &Integer) -> bool
 }
 
 /// Returns whether the number is one of these.
-fn is_listed(numbers: &[NamedNumber], number: &Integer) -> bool
+pub(crate) fn is_listed(numbers: &[NamedNumber], number: &Integer) -> bool
     ensures { IsWhether result (Contains (numbers_of numbers.now) number.now) }
 {
     for named in numbers {

@@ -17,8 +17,8 @@ mod write_leaf;
 mod writer;
 
 pub use entry::{
-    NormaliseError, WriteError, decode, decode_with_remainder, encode, encode_buf, is_canonical,
-    normalise,
+    WriteError, decode, decode_with_remainder, encode, encode_buf, is_canonical, normalise,
 };
 pub use fitting::fits;
 pub use path::ValuePath;
+pub use rasn::NormaliseError;

@@ -8,11 +8,11 @@ ghost use Rattle.rasn_types.specs.Trees.{unconstrained};
 ghost use Rattle.rasn_types.specs.Truth.{IsWhether};
 ghost use Rattle.rasn_de.specs.Decodes.{Decodes};
 ghost use Rattle.rasn_de.specs.Steps.{IsErrorOf};
-ghost use Rattle.rasn_de.specs.declared.ber.de.parser.ParseError.TheVariants.{OutOfMemory};
+ghost use Rattle.rasn_de.specs.declared.ber.de.parser.ParseError.TheVariants.{OutOfMemory, SizeConstraintNotSatisfied};
 ghost use Rattle.rasn_schema.specs.Trees.{tree_of};
 ghost use Rattle.rasn_schema.specs.Shapes.{kind_of, numbers_of};
 ghost use Rattle.rasn_schema.specs.declared.types.LeafKind.TheVariants.{FixedOctetString as FixedKind, UtcTime as UtcTimeKind};
-ghost use Rattle.rasn_dynamic.specs.Calls.{IsNumberIn, IsStringOf};
+ghost use Rattle.rasn_dynamic.specs.Calls.{IsNumberIn, IsStringOf, FailsAtNumber, FailsAtFixed};
 ghost use Rattle.rasn_dynamic.specs.Fitting.{FitsLeaf, IsNumber, AreOctets};
 
 use rasn_de::ber::de::Decoder;
@@ -47,6 +47,7 @@ pub(crate) fn push<'input>(
     ensures ok { OnOk result (values.new.items ≡ values.old.items ++ value.entry ∷ []) }
     ensures memory { IfErr result (IsErrorOf OutOfMemory decoder.now) }
     ensures kind { IfErr result (λ e. IsOutOfMemory e.kind) }
+    ensures rules { IfErr result (λ e. e.codec ≡ decoder.now.rule) }
 {
     match values.push(value) {
         Ok(()) => Ok(()),
@@ -66,7 +67,9 @@ fn integer_of<I: IntegerType>(alloc: Global, number: &I) -> Result<Integer, Allo
 }
 
 /// Returns the error that a string has another size.
-fn wrong_size(decoder: &Decoder<'_>, size: usize, expected: Bounded<usize>) -> DecodeError {
+fn wrong_size(decoder: &Decoder<'_>, size: usize, expected: Bounded<usize>) -> DecodeError
+    ensures { IsErrorOf (SizeConstraintNotSatisfied size expected) decoder.now result }
+{
     DecodeError {
         kind: DecodeErrorKind::SizeConstraintNotSatisfied {
             size: Some(size),
@@ -85,6 +88,7 @@ fn decode_fixed_width<'input, I: IntegerType + Decode>(
 ) -> Result<Value<'input>, DecodeError>
     ensures reads { Decodes (leaf (integer I.range) tag constraints.now) tree_of decoder.old result decoder.new }
     ensures fits { IfOk result (λ v. IsNumberIn I.range v) }
+    ensures rules { IfErr result (λ e. e.codec ≡ decoder.old.rule) }
 {
     let number = decoder.decode_integer::<I>(tag, constraints)?;
     match integer_of(decoder.alloc(), &number) {
@@ -101,7 +105,9 @@ fn decode_fixed_octets<'input>(
     constraints: &Constraints,
 ) -> Result<Value<'input>, DecodeError>
     ensures reads { Decodes (leaf (fixed len) tag constraints.now) tree_of decoder.old result decoder.new }
+    ensures fails { IfErr result (λ e. FailsAtFixed len tag constraints.now decoder.old e decoder.new) }
     ensures fits { IfOk result (λ v. FitsLeaf (FixedKind len) v) }
+    ensures rules { IfErr result (λ e. e.codec ≡ decoder.old.rule) }
 {
     let octets = decoder.decode_octet_string(tag, &Constraints::NONE)?;
     if octets.len() != len {
@@ -124,6 +130,7 @@ fn decode_string<'input>(
 ) -> Result<Value<'input>, DecodeError>
     ensures reads { Decodes (leaf (string_kind alphabet) tag constraints.now) tree_of decoder.old result decoder.new }
     ensures fits { IfOk result (λ v. IsStringOf alphabet v) }
+    ensures rules { IfErr result (λ e. e.codec ≡ decoder.old.rule) }
 {
     let octets = decoder.decode_restricted_string(alphabet, tag, constraints)?;
     Ok(Value::Octets(octets))
@@ -138,6 +145,7 @@ fn decode_utc_time<'input>(
 ) -> Result<Value<'input>, DecodeError>
     ensures reads { Decodes (leaf utc_time tag constraints.now) tree_of decoder.old result decoder.new }
     ensures fits { IfOk result (λ v. FitsLeaf UtcTimeKind v) }
+    ensures rules { IfErr result (λ e. e.codec ≡ decoder.old.rule) }
 {
     let time = UtcTime::decode_with_tag_and_constraints(decoder, tag, constraints)?;
     match GeneralizedTime::new(time, 0) {
@@ -155,6 +163,7 @@ pub fn decode_leaf<'input>(
 ) -> Result<Value<'input>, DecodeError>
     ensures reads { Decodes (leaf (kind_of kind) tag bounds.now) tree_of decoder.old result decoder.new }
     ensures fits { IfOk result (λ v. FitsLeaf kind v) }
+    ensures rules { IfErr result (λ e. e.codec ≡ decoder.old.rule) }
 {
     match kind {
         LeafKind::Boolean => Ok(Value::Boolean(bool::decode_with_tag_and_constraints(
@@ -240,7 +249,9 @@ pub fn decode_number<'input>(
     numbers: &[NamedNumber],
 ) -> Result<Value<'input>, DecodeError>
     ensures reads { Decodes (leaf (enumerated (numbers_of numbers.now)) tag unconstrained) tree_of decoder.old result decoder.new }
+    ensures fails { IfErr result (λ e. FailsAtNumber (numbers_of numbers.now) tag decoder.old e decoder.new) }
     ensures fits { IfOk result (λ v. IsNumber (numbers_of numbers.now) v) }
+    ensures rules { IfErr result (λ e. e.codec ≡ decoder.old.rule) }
 {
     let discriminant = match decoder.decode_integer::<isize>(tag, &Constraints::NONE) {
         Ok(discriminant) => discriminant,
@@ -270,6 +281,7 @@ pub fn decode_any_value<'input>(
 ) -> Result<Value<'input>, DecodeError>
     ensures reads { Decodes (any (looked_for tag)) tree_of decoder.old result decoder.new }
     ensures fits { IfOk result AreOctets }
+    ensures rules { IfErr result (λ e. e.codec ≡ decoder.old.rule) }
 {
     let octets = decoder.decode_open(tag)?;
     Ok(Value::Octets(CowSlice::Borrowed(octets)))

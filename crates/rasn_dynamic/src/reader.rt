@@ -1,20 +1,23 @@
 //! Reads a value of a type.
-ghost use Rattle.std.specs.Prelude.{◌≡◌, ◌≢◌, IfOk, IfErr};
+ghost use Rattle.std.specs.Prelude.{◌≡◌, ◌≢◌, ◌⊎◌, slice_get, None, IfOk, IfErr};
 ghost use Rattle.std.specs.String.{string_bytes};
 ghost use Rattle.rasn_types.specs.Framing.{AreOctets};
+ghost use Rattle.rasn_types.specs.Errors.{IsOutOfMemory};
 ghost use Rattle.rasn_types.specs.Lawful.{IsLawful, AreLawfulByTag};
 ghost use Rattle.rasn_types.specs.Shapes.{choice};
 ghost use Rattle.rasn_types.specs.Trees.{list_tree};
 ghost use Rattle.rasn_de.specs.Decodes.{Decodes, DecodesBy};
 ghost use Rattle.rasn_de.specs.Constructed.{DecodesInside};
-ghost use Rattle.rasn_de.specs.SequenceOf.{DecodesElements, DecodesElementsInOrder};
+ghost use Rattle.rasn_de.specs.SequenceOf.{DecodesElements, DecodesElementsInOrder, DecodesSized};
+ghost use Rattle.rasn_de.specs.PartTypes.{FailsAtPart, FailsAtOnePart};
 ghost use Rattle.rasn_de.specs.SetPartTypes.{DecodesNext, DecodesSetPartContents};
 ghost use Rattle.rasn_de.specs.Steps.{IsErrorOf};
-ghost use Rattle.rasn_de.specs.declared.ber.de.parser.ParseError.TheVariants.{UnexpectedExtraData};
+ghost use Rattle.rasn_de.specs.declared.ber.de.parser.ParseError.TheVariants.{UnexpectedExtraData, UnexpectedEmptyInput};
 ghost use Rattle.rasn_schema.specs.Trees.{tree_of};
 ghost use Rattle.rasn_schema.specs.Shapes.{shape_of_type, type_by, alternatives_by, components_by, presence_of, AreLawful};
-ghost use Rattle.rasn_dynamic.specs.Inside.{ReadsInside, ReadsSequence, ReadsComponent};
-ghost use Rattle.rasn_dynamic.specs.Calls.{held, nones, names_of, IsKept, IsSized, IsSizedSet, DecodesPresent, IsNoAlternative};
+ghost use Rattle.rasn_dynamic.specs.Inside.{ReadsSequence, ReadsComponent};
+ghost use Rattle.rasn_dynamic.specs.Typed.{element_count, IsSized, HoldsOthers, DecodesContents, DecodesType};
+ghost use Rattle.rasn_dynamic.specs.Calls.{held, nones, names_of, IsKept, DecodesPresent, IsNoAlternative};
 ghost use Rattle.rasn_dynamic.specs.Fitting.{Fits, FitsBy, IsChosen, AlternativeFits, ComponentFits, ComponentsFit, EachFits};
 ghost use Rattle.rasn_dynamic.specs.Found.{FoundFit};
 
@@ -28,10 +31,12 @@ use rasn_schema::{
     Alternative, Component, Presence, Type, TypeId, Value, alternative_for, tag_at, type_at,
 };
 use rasn_types::error::{DecodeError, DecodeErrorKind};
-use rasn_types::types::Constraints;
+use rasn_types::types::{Constraints, Tag};
 
-/// Returns the error that no value of the type is there.
-fn no_value(decoder: &Decoder<'_>) -> DecodeError {
+/// Returns the error that there is no such type, so no value of it.
+fn no_value(decoder: &Decoder<'_>) -> DecodeError
+    ensures { IsErrorOf UnexpectedEmptyInput decoder.now result }
+{
     DecodeError {
         kind: DecodeErrorKind::UnexpectedEmptyInput,
         codec: decoder.codec(),
@@ -56,7 +61,8 @@ fn keep<'input>(
     value: Value<'input>,
     values: &mut Vec<Value<'input>>,
 ) -> Result<(), DecodeError>
-    ensures { IsKept left decoder.now value.entry values.old.items result values.new.items }
+    ensures kept { IsKept left decoder.now value.entry values.old.items result values.new.items }
+    ensures rules { IfErr result (λ e. e.codec ≡ decoder.now.rule) }
 {
     if decoder.remaining().len() == left {
         return Err(extra(decoder, left));
@@ -64,51 +70,45 @@ fn keep<'input>(
     push(decoder, values, value)
 }
 
-/// Returns the elements of a SEQUENCE OF, if their number is within the bound.
+/// Returns the number of elements of a list or a set.
+#[inline(always)]
+fn element_count(value: &Value<'_>) -> usize
+    ensures { result ≡ element_count value.now }
+{
+    match value {
+        Value::Items(values) => values.len(),
+        Value::Elements(values) => values.len(),
+        _ => 0,
+    }
+}
+
+/// Returns the value, if the number of its elements is within the bound.
 #[inline(always)]
 fn sized<'input>(
     decoder: &Decoder<'input>,
-    values: Vec<Value<'input>>,
     constraints: &Constraints,
+    value: Value<'input>,
 ) -> Result<Value<'input>, DecodeError>
-    ensures { IsSized constraints.now.size values.entry result }
+    ensures sized { IsSized constraints.now decoder.now value.entry result }
+    ensures rules { IfErr result (λ e. e.codec ≡ decoder.now.rule) }
 {
-    if constraints.admits_size(values.len()) {
-        Ok(Value::Items(values))
-    } else {
-        Err(DecodeError {
-            kind: DecodeErrorKind::SizeConstraintNotSatisfied {
-                size: Some(values.len()),
-                expected: constraints.size_bounds(),
-            },
-            codec: decoder.codec(),
-        })
+    let count = element_count(&value);
+    if constraints.admits_size(count) {
+        return Ok(value);
     }
-}
-
-/// Returns the elements of a SET OF, if their number is within the bound.
-#[inline(always)]
-fn sized_set<'input>(
-    decoder: &Decoder<'input>,
-    values: Vec<Value<'input>>,
-    constraints: &Constraints,
-) -> Result<Value<'input>, DecodeError>
-    ensures { IsSizedSet constraints.now.size values.entry result }
-{
-    if constraints.admits_size(values.len()) {
-        Ok(Value::Elements(values))
-    } else {
-        Err(DecodeError {
-            kind: DecodeErrorKind::SizeConstraintNotSatisfied {
-                size: Some(values.len()),
-                expected: constraints.size_bounds(),
-            },
-            codec: decoder.codec(),
-        })
-    }
+    Err(DecodeError {
+        kind: DecodeErrorKind::SizeConstraintNotSatisfied {
+            size: Some(count),
+            expected: constraints.size_bounds(),
+        },
+        codec: decoder.codec(),
+    })
 }
 
 /// Reads a value of the type with this number. Types are followed `levels` deep.
+///
+/// # Errors
+/// `UnexpectedEmptyInput` if no type has the number, which consumes nothing.
 #[cycle(decode)]
 pub fn decode_at<'input>(
     decoder: &mut Decoder<'input>,
@@ -118,7 +118,9 @@ pub fn decode_at<'input>(
 ) -> Result<Value<'input>, DecodeError>
     requires { IsLawful (shape_of_type types.now levels id.0) }
     ensures reads { Decodes (shape_of_type types.now levels id.0) tree_of decoder.old result decoder.new }
+    ensures nothing { IfErr result (λ e. None ≡ slice_get types.now id.0 → IsErrorOf UnexpectedEmptyInput decoder.old e × (decoder.new ≡ decoder.old)) }
     ensures fits { IfOk result (λ v. Fits types.now levels id.0 v) }
+    ensures rules { IfErr result (λ e. e.codec ≡ decoder.old.rule) }
 {
     if levels == 0 {
         return Err(no_value(decoder));
@@ -139,8 +141,10 @@ fn decode_type<'input>(
     ty: &Type,
 ) -> Result<Value<'input>, DecodeError>
     requires { IsLawful (type_by (shape_of_type types.now below) ty.now) }
+    ensures exact { DecodesType (shape_of_type types.now below) ty.now decoder.old result decoder.new }
     ensures reads { Decodes (type_by (shape_of_type types.now below) ty.now) tree_of decoder.old result decoder.new }
     ensures fits { IfOk result (λ v. FitsBy (Fits types.now below) ty.now v) }
+    ensures rules { IfErr result (λ e. e.codec ≡ decoder.old.rule) }
 {
     match ty {
         Type::Leaf {
@@ -163,12 +167,16 @@ fn decode_type<'input>(
         Type::Set { tag, .. } => {
             decode_inside(decoder, types, below, ty, ConstructedHeader::sequence(*tag))
         }
-        Type::SequenceOf { tag, .. } => {
-            decode_inside(decoder, types, below, ty, ConstructedHeader::list(*tag))
-        }
-        Type::SetOf { tag, .. } => {
-            decode_inside(decoder, types, below, ty, ConstructedHeader::list(*tag))
-        }
+        Type::SequenceOf {
+            tag,
+            constraints,
+            ..
+        } => decode_list(decoder, types, below, ty, *tag, constraints),
+        Type::SetOf {
+            tag,
+            constraints,
+            ..
+        } => decode_list(decoder, types, below, ty, *tag, constraints),
     }
 }
 
@@ -188,6 +196,7 @@ fn decode_choice<'input>(
     ensures reads { Decodes (choice (alternatives_by (shape_of_type types.now below) alternatives.now)) tree_of decoder.old result decoder.new }
     ensures fits { IfOk result (λ v. IsChosen (AlternativeFits (Fits types.now below) alternatives.now) v) }
     ensures unknown { IfErr result (λ e. IsNoAlternative (alternatives_by (shape_of_type types.now below) alternatives.now) name.now decoder.old e decoder.new) }
+    ensures rules { IfErr result (λ e. e.codec ≡ decoder.old.rule) }
 {
     let tag = decoder.peek_tag()?;
     let Some(number) = alternative_for(types, below, alternatives, tag) else {
@@ -200,6 +209,30 @@ fn decode_choice<'input>(
     }
 }
 
+/// Reads a SEQUENCE OF or a SET OF (X.690 8.10, 8.12).
+///
+/// # Errors
+/// `SizeConstraintNotSatisfied` if the number of elements isn't within the bound, which consumes the value.
+#[cycle(decode)]
+fn decode_list<'input>(
+    decoder: &mut Decoder<'input>,
+    types: &[Type],
+    below: usize,
+    ty: &Type,
+    tag: Tag,
+    constraints: &Constraints,
+) -> Result<Value<'input>, DecodeError>
+    requires lawful { IsLawful (type_by (shape_of_type types.now below) ty.now) }
+    requires holds { HoldsOthers ty.now }
+    ensures exact { DecodesSized (DecodesContents (shape_of_type types.now below) ty.now) element_count tag constraints.now decoder.old result decoder.new }
+    ensures octets { decoder.old.depth ≢ 0 → AreOctets decoder.old.rest }
+    ensures fits { IfOk result (λ v. FitsBy (Fits types.now below) ty.now v) }
+    ensures rules { IfErr result (λ e. e.codec ≡ decoder.old.rule) }
+{
+    let value = decode_inside(decoder, types, below, ty, ConstructedHeader::list(tag))?;
+    sized(decoder, constraints, value)
+}
+
 /// Reads a value that holds other values, and its header.
 #[cycle(decode)]
 fn decode_inside<'input>(
@@ -209,10 +242,12 @@ fn decode_inside<'input>(
     ty: &Type,
     header: ConstructedHeader,
 ) -> Result<Value<'input>, DecodeError>
-    requires { IsLawful (type_by (shape_of_type types.now below) ty.now) }
-    ensures exact { DecodesInside (DecodesBy (ReadsInside (type_by (shape_of_type types.now below) ty.now)) tree_of) header decoder.old result decoder.new }
+    requires lawful { IsLawful (type_by (shape_of_type types.now below) ty.now) }
+    requires holds { HoldsOthers ty.now }
+    ensures exact { DecodesInside (DecodesContents (shape_of_type types.now below) ty.now) header decoder.old result decoder.new }
     ensures octets { decoder.old.depth ≢ 0 → AreOctets decoder.old.rest }
     ensures fits { IfOk result (λ v. FitsBy (Fits types.now below) ty.now v) }
+    ensures rules { IfErr result (λ e. e.codec ≡ decoder.old.rule) }
 {
     let (mut inner, contents) = decoder.open(header)?;
     let value = decode_contents(&mut inner, types, below, ty)?;
@@ -228,9 +263,11 @@ fn decode_contents<'input>(
     below: usize,
     ty: &Type,
 ) -> Result<Value<'input>, DecodeError>
-    requires { IsLawful (type_by (shape_of_type types.now below) ty.now) }
-    ensures reads { DecodesBy (ReadsInside (type_by (shape_of_type types.now below) ty.now)) tree_of decoder.old result decoder.new }
+    requires lawful { IsLawful (type_by (shape_of_type types.now below) ty.now) }
+    requires holds { HoldsOthers ty.now }
+    ensures exact { DecodesContents (shape_of_type types.now below) ty.now decoder.old result decoder.new }
     ensures fits { IfOk result (λ v. FitsBy (Fits types.now below) ty.now v) }
+    ensures rules { IfErr result (λ e. e.codec ≡ decoder.old.rule) }
 {
     match ty {
         Type::Tagged { inner, .. } => decode_at(decoder, types, below, *inner),
@@ -238,28 +275,24 @@ fn decode_contents<'input>(
             let values = decode_sequence(decoder, types, below, components)?;
             Ok(Value::Items(values))
         }
-        Type::SequenceOf {
-            element,
-            constraints,
-            ..
-        } => {
+        Type::SequenceOf { element, .. } => {
             let values = decode_elements(decoder, types, below, *element)?;
-            sized(decoder, values, constraints)
-        }
-        Type::SetOf {
-            element,
-            constraints,
-            ..
-        } => {
-            let values = decode_elements_in_order(decoder, types, below, *element)?;
-            sized_set(decoder, values, constraints)
-        }
-        Type::Set { components, .. } => {
-            let found = no_components(decoder, components)?;
-            let values = decode_set(decoder, types, below, components, found)?;
             Ok(Value::Items(values))
         }
-        _ => Err(no_value(decoder)),
+        Type::SetOf { element, .. } => {
+            let values = decode_elements_in_order(decoder, types, below, *element)?;
+            Ok(Value::Elements(values))
+        }
+        Type::Set {
+            name,
+            components,
+            ..
+        } => {
+            let found = no_components(decoder, components)?;
+            let values = decode_set(decoder, types, below, name.as_str(), components, found)?;
+            Ok(Value::Items(values))
+        }
+        _ => unreachable!(),
     }
 }
 
@@ -274,6 +307,7 @@ fn decode_elements<'input>(
     requires { IsLawful (shape_of_type types.now below element.0) }
     ensures reads { DecodesElements (Decodes (shape_of_type types.now below element.0) tree_of) (λ v. v.items) decoder.old result decoder.new }
     ensures fits { IfOk result (λ v. EachFits (Fits types.now below element.0) v.items) }
+    ensures rules { IfErr result (λ e. e.codec ≡ decoder.old.rule) }
 {
     let mut values = Vec::new(decoder.alloc());
     while !decoder.has_ended() {
@@ -295,6 +329,7 @@ fn decode_elements_in_order<'input>(
     requires { IsLawful (shape_of_type types.now below element.0) }
     ensures reads { DecodesElementsInOrder (Decodes (shape_of_type types.now below element.0) tree_of) (λ v. v.items) decoder.old result decoder.new }
     ensures fits { IfOk result (λ v. EachFits (Fits types.now below element.0) v.items) }
+    ensures rules { IfErr result (λ e. e.codec ≡ decoder.old.rule) }
 {
     let mut values = Vec::new(decoder.alloc());
     let mut last: &[u8] = &[];
@@ -321,7 +356,9 @@ fn decode_sequence<'input>(
 ) -> Result<Vec<Value<'input>>, DecodeError>
     requires { AreLawful (components_by (shape_of_type types.now below) components.now) }
     ensures reads { DecodesBy (ReadsSequence (components_by (shape_of_type types.now below) components.now)) (λ v. list_tree tree_of v.items) decoder.old result decoder.new }
+    ensures fails { IfErr result (λ e. FailsAtPart (components_by (shape_of_type types.now below) components.now) decoder.old e decoder.new ⊎ IsOutOfMemory e.kind) }
     ensures fits { IfOk result (λ v. ComponentsFit (Fits types.now below) components.now v.items) }
+    ensures rules { IfErr result (λ e. e.codec ≡ decoder.old.rule) }
 {
     if leaves_all_out(decoder, components) {
         let found = no_components(decoder, components)?;
@@ -349,7 +386,9 @@ fn decode_component<'input>(
 ) -> Result<Value<'input>, DecodeError>
     requires { IsLawful (shape_of_type types.now below component.now.type_id.0) }
     ensures reads { DecodesBy (ReadsComponent (presence_of component.now.presence) (shape_of_type types.now below component.now.type_id.0)) tree_of decoder.old result decoder.new }
+    ensures fails { IfErr result (λ e. FailsAtOnePart (presence_of component.now.presence) (shape_of_type types.now below component.now.type_id.0) decoder.old e decoder.new) }
     ensures fits { IfOk result (λ v. ComponentFits (Fits types.now below) component.now v) }
+    ensures rules { IfErr result (λ e. e.codec ≡ decoder.old.rule) }
 {
     if is_always_there(component) {
         return decode_present(decoder, types, below, component);
@@ -373,6 +412,7 @@ fn decode_present<'input>(
     requires { IsLawful (shape_of_type types.now below component.now.type_id.0) }
     ensures reads { DecodesPresent (presence_of component.now.presence) (shape_of_type types.now below component.now.type_id.0) decoder.old result decoder.new }
     ensures fits { IfOk result (λ v. Fits types.now below component.now.type_id.0 v) }
+    ensures rules { IfErr result (λ e. e.codec ≡ decoder.old.rule) }
 {
     let Presence::Default(default) = &component.presence else {
         return decode_at(decoder, types, below, component.type_id);
@@ -390,13 +430,14 @@ fn decode_present<'input>(
 /// Reads the components of a SET, in any order, up to the end of the contents (X.690 8.11). None was found yet.
 ///
 /// # Errors
-/// Those of the first component that isn't read. Once all are read, `DuplicateField` with the name of the first component that was
+/// Those of the first component that isn't read, `NoValidChoice` with the name of the SET for a tag that is no component's. Once all are read, `DuplicateField` with the name of the first component that was
 /// read before, else `MissingField` with that of the first required one that is missing.
 #[cycle(decode)]
 fn decode_set<'input>(
     decoder: &mut Decoder<'input>,
     types: &[Type],
     below: usize,
+    name: &str,
     components: &[Component],
     mut found: Vec<Option<Value<'input>>>,
 ) -> Result<Vec<Value<'input>>, DecodeError>
@@ -404,27 +445,32 @@ fn decode_set<'input>(
     requires none { found.items ≡ nones components.now }
     ensures exact { DecodesSetPartContents (components_by (shape_of_type types.now below) components.now) (λ v. list_tree tree_of v.items) (names_of components.now) decoder.old result decoder.new }
     ensures fits { IfOk result (λ v. ComponentsFit (Fits types.now below) components.now v.items) }
+    ensures rules { IfErr result (λ e. e.codec ≡ decoder.old.rule) }
 {
     let mut twice = None;
     let mut last = None;
     while !decoder.has_ended() {
         last = decoder.peek_tag_in_order(last)?;
-        let next = decode_set_component(decoder, types, below, components, &mut found)?;
+        let next = decode_set_component(decoder, types, below, name, components, &mut found)?;
         twice = twice.or(next);
     }
-    if let Some(name) = twice {
-        return Err(DecodeError::duplicate_field(decoder.alloc(), name, decoder.codec()));
+    if let Some(repeated) = twice {
+        return Err(DecodeError::duplicate_field(decoder.alloc(), repeated, decoder.codec()));
     }
     gather(decoder, components, found)
 }
 
 /// Reads one component of a SET, which must take some of the input, and puts it in its place. If that isn't empty, returns the
 /// component's name.
+///
+/// # Errors
+/// `NoValidChoice` with the name of the SET if the next tag is no component's, which consumes nothing.
 #[cycle(decode)]
 fn decode_set_component<'input, 'names>(
     decoder: &mut Decoder<'input>,
     types: &[Type],
     below: usize,
+    name: &str,
     components: &'names [Component],
     found: &mut Vec<Option<Value<'input>>>,
 ) -> Result<Option<&'names str>, DecodeError>
@@ -432,11 +478,13 @@ fn decode_set_component<'input, 'names>(
     requires found { FoundFit (Fits types.now below) components.now found.old.items }
     ensures next { DecodesNext (components_by (shape_of_type types.now below) components.now) (names_of components.now) (held found.old.items) decoder.old result decoder.new (held found.new.items) }
     ensures found { FoundFit (Fits types.now below) components.now found.new.items }
+    ensures unknown { IfErr result (λ e. IsNoAlternative (components_by (shape_of_type types.now below) components.now) name.now decoder.old e decoder.new) }
+    ensures rules { IfErr result (λ e. e.codec ≡ decoder.old.rule) }
 {
     let left = decoder.remaining().len();
     let tag = decoder.peek_tag()?;
     let Some((number, component)) = component_for(types, below, components, tag) else {
-        return Err(DecodeError::no_valid_choice(decoder.alloc(), "", decoder.codec()));
+        return Err(DecodeError::no_valid_choice(decoder.alloc(), name, decoder.codec()));
     };
     let value = decode_present(decoder, types, below, component)?;
     if decoder.remaining().len() == left {

@@ -39,6 +39,7 @@ pub fn no_components<'input>(
 ) -> Result<Vec<Option<Value<'input>>>, DecodeError>
     ensures ok { IfOk result (λ v. v.items ≡ nones components.now) }
     ensures err { IfErr result (λ e. IsOutOfMemory e.kind) }
+    ensures rules { IfErr result (λ e. e.codec ≡ decoder.now.rule) }
 {
     let mut found = Vec::new(decoder.alloc());
     let mut rest = components;
@@ -74,7 +75,8 @@ fn settle<'input>(
     component: &Component,
     found: Option<Value<'input>>,
 ) -> Result<Value<'input>, DecodeError>
-    ensures { IsSettled (presence_of component.now.presence) (string_bytes component.now.name) decoder.now.rule found.entry result }
+    ensures settled { IsSettled (presence_of component.now.presence) (string_bytes component.now.name) decoder.now.rule found.entry result }
+    ensures rules { IfErr result (λ e. e.codec ≡ decoder.now.rule) }
 {
     if let Some(value) = found {
         return Ok(value);
@@ -96,7 +98,8 @@ pub fn gather<'input>(
     found: Vec<Option<Value<'input>>>,
 ) -> Result<Vec<Value<'input>>, DecodeError>
     requires { length found.items ≡ length components.now }
-    ensures { Gathers components.now decoder.now.rule found.entry.items result }
+    ensures gathers { Gathers components.now decoder.now.rule found.entry.items result }
+    ensures rules { IfErr result (λ e. e.codec ≡ decoder.now.rule) }
 {
     let mut coming = found.into_iter();
     let mut values = Vec::new(decoder.alloc());

@@ -1,16 +1,29 @@
 //! Writes values that hold no other values.
+ghost use Rattle.std.specs.Prelude.{◌≡◌};
 ghost use Rattle.rasn_types.specs.Shapes.{leaf, any, looked_for, enumerated};
 ghost use Rattle.rasn_types.specs.Trees.{unconstrained};
 ghost use Rattle.rasn_schema.specs.Trees.{tree_of};
 ghost use Rattle.rasn_schema.specs.Shapes.{kind_of, numbers_of};
 ghost use Rattle.rasn_dynamic.specs.Fitting.{FitsLeaf, IsNumber, AreOctets};
-ghost use Rattle.rasn_dynamic.specs.Written.{Encodes};
+ghost use Rattle.rasn_dynamic.specs.Written.{EncodesIf};
 
+use crate::fitting::{is_listed, leaf_fits};
 use rasn_enc::ber::enc::Encoder;
 use rasn_enc::enc::Encode;
 use rasn_schema::{LeafKind, NamedNumber, Value};
-use rasn_types::error::EncodeError;
+use rasn_types::error::{EncodeError, EncodeErrorKind};
 use rasn_types::types::{Constraints, Identifier, Integer, Tag};
+
+/// Returns an error for a value of another form than its type's. No public call returns it: `encode` asks `fits` after an error, and
+/// returns `Unfit` then.
+pub fn other_form(encoder: &Encoder) -> EncodeError
+    ensures { result.codec ≡ encoder.now.rule }
+{
+    EncodeError {
+        kind: EncodeErrorKind::RealNotSupported,
+        codec: encoder.codec(),
+    }
+}
 
 /// Writes a value that holds no other values.
 #[inline(always)]
@@ -21,9 +34,11 @@ pub fn encode_leaf(
     constraints: &Constraints,
     value: &Value<'_>,
 ) -> Result<(), EncodeError>
-    requires { FitsLeaf kind value.now }
-    ensures { Encodes (leaf (kind_of kind) tag constraints.now) (tree_of value.now) encoder.old result encoder.new }
+    ensures { EncodesIf (FitsLeaf kind value.now) (leaf (kind_of kind) tag constraints.now) (tree_of value.now) encoder.old result encoder.new }
 {
+    if !leaf_fits(kind, value) {
+        return Err(other_form(encoder));
+    }
     let name = Identifier::EMPTY;
     match value {
         Value::Boolean(held) => held.encode_with_tag_and_constraints(
@@ -63,12 +78,14 @@ pub fn encode_number(
     numbers: &[NamedNumber],
     value: &Value<'_>,
 ) -> Result<(), EncodeError>
-    requires { IsNumber (numbers_of numbers.now) value.now }
-    ensures { Encodes (leaf (enumerated (numbers_of numbers.now)) tag unconstrained) (tree_of value.now) encoder.old result encoder.new }
+    ensures { EncodesIf (IsNumber (numbers_of numbers.now) value.now) (leaf (enumerated (numbers_of numbers.now)) tag unconstrained) (tree_of value.now) encoder.old result encoder.new }
 {
     let Value::Integer(held) = value else {
-        unreachable!();
+        return Err(other_form(encoder));
     };
+    if !is_listed(numbers, held) {
+        return Err(other_form(encoder));
+    }
     encoder.encode_integer::<Integer>(tag, &Constraints::NONE, held, Identifier::EMPTY)
 }
 
@@ -78,11 +95,10 @@ pub fn encode_open_value(
     tag: Tag,
     value: &Value<'_>,
 ) -> Result<(), EncodeError>
-    requires { AreOctets value.now }
-    ensures { Encodes (any (looked_for tag)) (tree_of value.now) encoder.old result encoder.new }
+    ensures { EncodesIf (AreOctets value.now) (any (looked_for tag)) (tree_of value.now) encoder.old result encoder.new }
 {
     let Value::Octets(held) = value else {
-        unreachable!();
+        return Err(other_form(encoder));
     };
     encoder.encode_open(tag, held.as_slice())
 }

@@ -1,18 +1,16 @@
 //! Writes a value of a type.
-ghost use Rattle.std.specs.Prelude.{◌≡◌, OnOk, IfErr, None, map};
+ghost use Rattle.std.specs.Prelude.{◌≡◌, None, map};
 ghost use Rattle.rasn_types.specs.Shapes.{choice};
 ghost use Rattle.rasn_types.specs.Trees.{list_tree};
-ghost use Rattle.rasn_enc.specs.View.{fresh, LeavesOthers};
+ghost use Rattle.rasn_enc.specs.View.{fresh};
 ghost use Rattle.rasn_enc.specs.Primitive.{IsOrderError};
-ghost use Rattle.rasn_enc.specs.Sequence.{EncodesParts};
-ghost use Rattle.rasn_enc.specs.SequenceOf.{AppendsElements, AppendsSetOf, FailsAtElement, FailsAtElements};
 ghost use Rattle.rasn_schema.specs.Trees.{tree_of};
 ghost use Rattle.rasn_schema.specs.Shapes.{shape_of_type, type_by, alternatives_by, components_by, presence_of};
 ghost use Rattle.rasn_dynamic.specs.Fitting.{AlternativeFits, IsChosen, ComponentFits, ComponentsFit, EachFits, FitsBy, Fits};
-ghost use Rattle.rasn_dynamic.specs.Written.{Encodes, EncodesPart, EncodesInside, IsEnclosed, HoldsOthers, keeps_tags};
+ghost use Rattle.rasn_dynamic.specs.Written.{EncodesIf, EncodesPartIf, EncodesInsideIf, EncodesPartsIf, EncodesElementsIf, EncodesSetOfIf, IsEnclosed, HoldsOthers, keeps_tags};
 
 use crate::fit::{elements_of, is_left_out, items_of};
-use crate::write_leaf::{encode_leaf, encode_number, encode_open_value};
+use crate::write_leaf::{encode_leaf, encode_number, encode_open_value, other_form};
 use rasn_enc::ber::enc::Encoder;
 use rasn_schema::{Alternative, Component, Type, TypeId, Value, type_at};
 use rasn_types::error::{BerEncodeErrorKind, CodecEncodeError, EncodeError, EncodeErrorKind};
@@ -30,7 +28,7 @@ fn out_of_order(encoder: &Encoder) -> EncodeError
     }
 }
 
-/// Writes a value of the type with this number. Types are followed `levels` deep.
+/// Writes a value of the type with this number, if it is one. Types are followed `levels` deep.
 #[cycle(encode)]
 pub fn encode_at(
     encoder: &mut Encoder,
@@ -39,15 +37,14 @@ pub fn encode_at(
     id: TypeId,
     value: &Value<'_>,
 ) -> Result<(), EncodeError>
-    requires { Fits types.now levels id.0 value.now }
-    ensures { Encodes (shape_of_type types.now levels id.0) (tree_of value.now) encoder.old result encoder.new }
+    ensures { EncodesIf (Fits types.now levels id.0 value.now) (shape_of_type types.now levels id.0) (tree_of value.now) encoder.old result encoder.new }
 {
     if levels == 0 {
-        unreachable!();
+        return Err(other_form(encoder));
     }
     match type_at(types, id) {
         Some(ty) => encode_type(encoder, types, levels - 1, ty, value),
-        None => unreachable!(),
+        None => Err(other_form(encoder)),
     }
 }
 
@@ -60,8 +57,7 @@ fn encode_type(
     ty: &Type,
     value: &Value<'_>,
 ) -> Result<(), EncodeError>
-    requires { FitsBy (Fits types.now below) ty.now value.now }
-    ensures { Encodes (type_by (shape_of_type types.now below) ty.now) (tree_of value.now) encoder.old result encoder.new }
+    ensures { EncodesIf (FitsBy (Fits types.now below) ty.now value.now) (type_by (shape_of_type types.now below) ty.now) (tree_of value.now) encoder.old result encoder.new }
 {
     match ty {
         Type::Leaf {
@@ -100,15 +96,14 @@ fn encode_choice(
     alternatives: &[Alternative],
     value: &Value<'_>,
 ) -> Result<(), EncodeError>
-    requires { IsChosen (AlternativeFits (Fits types.now below) alternatives.now) value.now }
-    ensures { Encodes (choice (alternatives_by (shape_of_type types.now below) alternatives.now)) (tree_of value.now) encoder.old result encoder.new }
+    ensures { EncodesIf (IsChosen (AlternativeFits (Fits types.now below) alternatives.now) value.now) (choice (alternatives_by (shape_of_type types.now below) alternatives.now)) (tree_of value.now) encoder.old result encoder.new }
 {
     let Value::Chosen(index, inner) = value else {
-        unreachable!();
+        return Err(other_form(encoder));
     };
     match alternatives.get(*index) {
         Some(alternative) => encode_at(encoder, types, below, alternative.type_id, inner),
-        None => unreachable!(),
+        None => Err(other_form(encoder)),
     }
 }
 
@@ -123,9 +118,8 @@ fn encode_inside(
     keeps: bool,
     value: &Value<'_>,
 ) -> Result<(), EncodeError>
-    requires fits { FitsBy (Fits types.now below) ty.now value.now }
-    requires enclosed { IsEnclosed (type_by (shape_of_type types.now below) ty.now) tag keeps }
-    ensures { Encodes (type_by (shape_of_type types.now below) ty.now) (tree_of value.now) encoder.old result encoder.new }
+    requires { IsEnclosed (type_by (shape_of_type types.now below) ty.now) tag keeps }
+    ensures { EncodesIf (FitsBy (Fits types.now below) ty.now value.now) (type_by (shape_of_type types.now below) ty.now) (tree_of value.now) encoder.old result encoder.new }
 {
     encoder.open(keeps)?;
     let outcome = encode_contents(encoder, types, below, ty, value);
@@ -141,16 +135,15 @@ fn encode_contents(
     ty: &Type,
     value: &Value<'_>,
 ) -> Result<(), EncodeError>
-    requires fits { FitsBy (Fits types.now below) ty.now value.now }
     requires holds { HoldsOthers (type_by (shape_of_type types.now below) ty.now) }
     requires fresh { encoder.old.last ≡ fresh (keeps_tags (type_by (shape_of_type types.now below) ty.now)) }
-    ensures { EncodesInside (type_by (shape_of_type types.now below) ty.now) (tree_of value.now) encoder.old result encoder.new }
+    ensures { EncodesInsideIf (FitsBy (Fits types.now below) ty.now value.now) (type_by (shape_of_type types.now below) ty.now) (tree_of value.now) encoder.old result encoder.new }
 {
     match ty {
         Type::Tagged { inner, .. } => encode_at(encoder, types, below, *inner, value),
         Type::Sequence { components, .. } => match items_of(value) {
             Some(values) => encode_components(encoder, types, below, components, values),
-            None => unreachable!(),
+            None => Err(other_form(encoder)),
         },
         Type::Set { components, .. } => match items_of(value) {
             Some(values) => {
@@ -160,7 +153,7 @@ fn encode_contents(
                 }
                 Ok(())
             }
-            None => unreachable!(),
+            None => Err(other_form(encoder)),
         },
         Type::SequenceOf {
             element,
@@ -171,7 +164,7 @@ fn encode_contents(
                 encoder.check_size(constraints, values.len())?;
                 encode_elements(encoder, types, below, *element, values)
             }
-            None => unreachable!(),
+            None => Err(other_form(encoder)),
         },
         Type::SetOf {
             element,
@@ -182,7 +175,7 @@ fn encode_contents(
                 encoder.check_size(constraints, values.len())?;
                 encode_elements_in_order(encoder, types, below, *element, values)
             }
-            None => unreachable!(),
+            None => Err(other_form(encoder)),
         },
         _ => unreachable!(),
     }
@@ -197,20 +190,22 @@ fn encode_components(
     components: &[Component],
     values: &[Value<'_>],
 ) -> Result<(), EncodeError>
-    requires { ComponentsFit (Fits types.now below) components.now values.now }
-    ensures { EncodesParts (components_by (shape_of_type types.now below) components.now) (list_tree tree_of values.now) encoder.old result encoder.new }
+    ensures { EncodesPartsIf (ComponentsFit (Fits types.now below) components.now values.now) (components_by (shape_of_type types.now below) components.now) (list_tree tree_of values.now) encoder.old result encoder.new }
 {
     let mut rest = components;
     let mut left = values;
     while let [component, after @ ..] = rest {
         let [value, others @ ..] = left else {
-            unreachable!();
+            return Err(other_form(encoder));
         };
         encode_component(encoder, types, below, component, value)?;
         rest = after;
         left = others;
     }
-    Ok(())
+    if left.is_empty() {
+        return Ok(());
+    }
+    Err(other_form(encoder))
 }
 
 /// Writes a component, or nothing if it is absent.
@@ -222,8 +217,7 @@ fn encode_component(
     component: &Component,
     value: &Value<'_>,
 ) -> Result<(), EncodeError>
-    requires { ComponentFits (Fits types.now below) component.now value.now }
-    ensures { EncodesPart (presence_of component.now.presence) (shape_of_type types.now below component.now.type_id.0) (tree_of value.now) encoder.old result encoder.new }
+    ensures { EncodesPartIf (ComponentFits (Fits types.now below) component.now value.now) (presence_of component.now.presence) (shape_of_type types.now below component.now.type_id.0) (tree_of value.now) encoder.old result encoder.new }
 {
     if is_left_out(component, value) {
         return Ok(());
@@ -240,11 +234,8 @@ fn encode_elements(
     element: TypeId,
     values: &[Value<'_>],
 ) -> Result<(), EncodeError>
-    requires fits { EachFits (Fits types.now below element.0) values.now }
-    requires untagged { encoder.old.last.tags ≡ None }
-    ensures keeps { LeavesOthers encoder.old encoder.new }
-    ensures ok { OnOk result (AppendsElements (shape_of_type types.now below element.0) (map tree_of values.now) encoder.old encoder.new) }
-    ensures refused { IfErr result (FailsAtElement (shape_of_type types.now below element.0) (map tree_of values.now) encoder.old.rule) }
+    requires { encoder.old.last.tags ≡ None }
+    ensures { EncodesElementsIf (EachFits (Fits types.now below element.0) values.now) (shape_of_type types.now below element.0) (map tree_of values.now) encoder.old result encoder.new }
 {
     let mut rest = values;
     while let [value, after @ ..] = rest {
@@ -263,11 +254,8 @@ fn encode_elements_in_order(
     element: TypeId,
     values: &[Value<'_>],
 ) -> Result<(), EncodeError>
-    requires fits { EachFits (Fits types.now below element.0) values.now }
-    requires untagged { encoder.old.last.tags ≡ None }
-    ensures keeps { LeavesOthers encoder.old encoder.new }
-    ensures ok { OnOk result (AppendsSetOf (shape_of_type types.now below element.0) (map tree_of values.now) encoder.old encoder.new) }
-    ensures refused { IfErr result (FailsAtElements (shape_of_type types.now below element.0) (map tree_of values.now) encoder.old.rule) }
+    requires { encoder.old.last.tags ≡ None }
+    ensures { EncodesSetOfIf (EachFits (Fits types.now below element.0) values.now) (shape_of_type types.now below element.0) (map tree_of values.now) encoder.old result encoder.new }
 {
     let mut previous = encoder.last_len();
     let mut rest = values;

@@ -82,7 +82,11 @@ fn typed(alloc: Global, rules: Codec, id: usize, octets: &[u8]) -> Option<Decode
             .map(|_| ()),
         SET => {
             decoder
-                .read_set::<Required<bool, Required<i64, End>>>(Tag::SET, "", &["flag", "number"])
+                .read_set::<Required<bool, Required<i64, End>>>(
+                    Tag::SET,
+                    "Both",
+                    &["flag", "number"],
+                )
                 .map(|_| ())
         }
         _ => decoder

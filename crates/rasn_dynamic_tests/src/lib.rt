@@ -8,6 +8,8 @@ mod messages;
 #[cfg(test)]
 mod refused;
 #[cfg(test)]
+mod sizes;
+#[cfg(test)]
 mod values;
 #[cfg(test)]
 mod written;

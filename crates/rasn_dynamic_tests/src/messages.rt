@@ -110,7 +110,7 @@ fn filters_are_read_to_the_depth_limit(rt: HostRuntime) {
 /// Returns whether the filter's normal encoding is this one, and only this one is canonical.
 fn is_normalised(alloc: Global, octets: &[u8], normal: &[u8]) -> Option<bool> {
     let schema = Schema::new(types(alloc, FILTER_TYPES).ok()?).ok()?;
-    let written = normalise(alloc, Codec::Ber, Codec::Der, &schema, FILTER, octets).ok()?;
+    let written = normalise(alloc, Codec::Ber, &schema, FILTER, octets).ok()?;
     let before = is_canonical(alloc, &schema, FILTER, octets).ok()?;
     let after = is_canonical(alloc, &schema, FILTER, normal).ok()?;
     Some(written.as_slice() == normal && !before && after)

@@ -4,7 +4,10 @@ use Rattle.rasn_types.specs.Tags.{in_universal}
 use Rattle.rasn_types.specs.Shapes.{Shape, Tree, items, seq, Parts, part, required}
 use Rattle.rasn_types.specs.Shapes.Parts.{none}
 use Rattle.rasn_types.specs.Trees.{unconstrained}
-use Rattle.rasn_x509.specs.Times.{time_shape, time_tree}
+use Rattle.rasn_types.specs.declared.types.tag.Tag.{Tag}
+use Rattle.rasn_de.specs.State.{State}
+use Rattle.rasn_de.specs.Beyond.{BeyondInside}
+use Rattle.rasn_x509.specs.Times.{time_shape, time_tree, time_beyond}
 use Rattle.rasn_x509.specs.declared.validity.Validity.{Validity}
 
 abbrev pub validity_parts : Parts
@@ -15,3 +18,8 @@ validity_shape = seq (in_universal 16) validity_parts
 
 abbrev pub validity_tree : Validity → Tree
 validity_tree v = items (time_tree v.not_before ∷ time_tree v.not_after ∷ [])
+
+-- Each time has the offset of its text.
+abbrev pub validity_beyond : Tag → State → Validity → Type 0
+validity_beyond tag old v =
+    BeyondInside (λ start (v : Validity) end. (mid : State) × time_beyond start v.not_before mid × ((last : State) × time_beyond mid v.not_after last × Unit {0})) tag old v

@@ -27,6 +27,7 @@ pub fn has_lawful_shape()
 pub fn read_certificate(alloc: Global, input: &[u8]) -> Result<Certificate, DecodeError>
     ensures exact { AnsweredAlone Der certificate_shape certificate_tree input.now result }
     ensures written { IsCarriedAsWritten certificate_shape certificate_tree input.now result }
+    ensures rules { IfErr result (λ e. e.codec ≡ Der) }
 {
     der::decode(alloc, input)
 }
@@ -39,6 +40,7 @@ pub fn write_certificate(alloc: Global, certificate: &Certificate) -> Result<Vec
     ensures ok { IfOk result (λ octets. Bytes Der certificate_shape (certificate_tree certificate.now) octets.items) }
     ensures canonical { IfOk result (λ octets. Identifies certificate_shape (certificate_tree certificate.now) octets.items) }
     ensures fails { IfErr result (EncodingFails Der certificate_shape (certificate_tree certificate.now)) }
+    ensures rules { IfErr result (λ e. e.codec ≡ Der) }
 {
     der::encode(alloc, certificate)
 }

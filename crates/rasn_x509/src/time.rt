@@ -42,11 +42,23 @@ impl LawfulEq for Time {
 }
 
 impl Decode for Time {
+    ghost use Rattle.std.specs.Prelude.{◌≡◌, IfOk, IfErr, Err};
+    ghost use Rattle.rasn_de.specs.Decodes.{Decodes};
+    ghost use Rattle.rasn_de.specs.AlternativeTypes.{DecodesAlternative};
+    ghost use Rattle.rasn_x509.specs.Times.{time_alternatives, time_shape, time_tree, time_name, time_beyond};
+
+    ghost beyond = { λ _ old result new. IfOk result (λ v. time_beyond old v new) };
+
     fn decode_with_tag_and_constraints(
         decoder: &mut Decoder<'_>,
         _tag: Tag,
         _constraints: &Constraints,
-    ) -> Result<Time, DecodeError> {
+    ) -> Result<Time, DecodeError>
+        ensures reads { Decodes time_shape time_tree decoder.old result decoder.new }
+        ensures beyond { IfOk result (λ v. time_beyond decoder.old v decoder.new) }
+        ensures rules { IfErr result (λ e. e.codec ≡ decoder.old.rule) }
+        ensures fails { IfErr result (λ e. DecodesAlternative time_alternatives time_tree time_name decoder.old (Err e) decoder.new) }
+    {
         match decoder.read_choice::<OneOf<UtcTime, Last<GeneralizedTime>>>("Time")? {
             OneOf::This(time) => Ok(Time::Utc(time)),
             OneOf::Other(Last(time)) => Ok(Time::General(time)),

@@ -49,6 +49,11 @@ impl Present for Validity {
 }
 
 impl Decode for Validity {
+    ghost use Rattle.std.specs.Prelude.{IfOk};
+    ghost use Rattle.rasn_x509.specs.Period.{validity_beyond};
+
+    ghost beyond = { λ tag old result _. IfOk result (validity_beyond tag old) };
+
     fn decode_with_tag_and_constraints(
         decoder: &mut Decoder<'_>,
         tag: Tag,

@@ -1,7 +1,14 @@
 -- Small clauses that contracts share: what they hold of, and what they don't.
-use Rattle.std.proofs.Common.{ℕ, zero, suc, ◌<◌, get_or, inl, inr, [], ◌∷◌, refl, arith, rules}
+use Rattle.std.proofs.Common.{◌≡◌, ℕ, zero, suc, ◌<◌, get_or, inl, inr, List, [], ◌∷◌, Result, Ok, Err, refl, sym, ◌∙◌, arith, rules}
+use Rattle.rasn_types.specs.Tags.{in_universal}
+use Rattle.rasn_types.specs.declared.types.codec.Codec.TheVariants.{Ber}
+use Rattle.rasn_de.specs.declared.ber.de.parser.ParseError.{ParseError}
+use Rattle.rasn_de.specs.declared.ber.de.parser.ParseError.TheVariants.{OutOfMemory, Incomplete}
+use Rattle.rasn_de.specs.Headers.{header_by, tag_number_at, identifier_by, length_at}
+use Rattle.rasn_de.specs.Segments.{segments_at, string_of}
+use Rattle.rasn_de.specs.OctetString.{CollectsOctets}
 use Rattle.rasn_types.specs.CharacterString.{IsPrintable}
-use Rattle.rasn.specs.WorkedClauses.{WorkedClauses}
+use Rattle.rasn.specs.WorkedClauses.{bare_octets, WorkedClauses}
 
 star : IsPrintable 42 → ⊥
 star (inl h) = omega (arith, h.0)
@@ -13,6 +20,25 @@ star (inr (inr (inr h))) = grind (arith, rules)
 first_letter : (k d : ℕ) → k < 1 → IsPrintable (get_or (65 ∷ 42 ∷ 64 ∷ 42 ∷ []) k d)
 first_letter zero d h = inl (omega arith, omega arith)
 first_letter (suc k) d h = absurd (omega (arith, h))
+
+nothing : bare_octets (36 ∷ 0 ∷ []) ≡ Ok ([], [])
+unfolding header_by tag_number_at identifier_by length_at segments_at string_of
+nothing = refl
+
+empty : bare_octets (36 ∷ 2 ∷ 4 ∷ 0 ∷ []) ≡ Ok ([], [])
+unfolding header_by tag_number_at identifier_by length_at segments_at string_of
+empty = refl
+
+octet : bare_octets (36 ∷ 3 ∷ 4 ∷ 1 ∷ 5 ∷ []) ≡ Err OutOfMemory
+unfolding header_by tag_number_at identifier_by length_at segments_at string_of
+octet = refl
+
+cut : bare_octets (36 ∷ 3 ∷ 4 ∷ 2 ∷ 5 ∷ []) ≡ Err (Incomplete 1)
+unfolding header_by tag_number_at identifier_by length_at segments_at string_of
+cut = refl
+
+not_wanted : (p : List ℕ × List ℕ) (r : Result (List ℕ × List ℕ) ParseError) → r ≡ Ok p → r ≡ Err OutOfMemory → ⊥
+not_wanted p r e h = cc
 
 pub worked : WorkedClauses
 worked = record {
@@ -27,4 +53,10 @@ worked = record {
   other_meaning = λ h. omega (arith, h.0);
   lacking_meaning = λ h. h (omega arith);
   shown = refl;
+  nothing_inside = nothing;
+  empty_segment = empty;
+  octet_in_segment = octet;
+  nothing_collected = λ h. not_wanted _ _ nothing h.1;
+  empty_collected = λ h. not_wanted _ _ empty h.1;
+  cut_collected = λ h. let e : ◌≡◌ {A = Result (List ℕ × List ℕ) ParseError} (Err (Incomplete 1)) (Err OutOfMemory) = sym cut ∙ h.1 in cc;
 }

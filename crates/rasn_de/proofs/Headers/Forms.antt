@@ -8,7 +8,7 @@ use Rattle.rasn_de.specs.declared.ber.de.parser.ParseError.{ParseError}
 use Rattle.rasn_de.specs.declared.ber.de.parser.ParseError.TheVariants.{OutOfMemory}
 use Rattle.rasn_de.specs.declared.ber.de.parser.headers.Expected.TheVariants.{Tagged}
 use Rattle.rasn_de.specs.Headers.{spelled, Header, header_at}
-use Rattle.rasn_de.specs.Segments.{octets, string_of}
+use Rattle.rasn_de.specs.Segments.{octets, string_of, string_at, without_memory}
 use Rattle.rasn_de.specs.OctetString.{octet_string_at, IsPrimitive, IsConstructed}
 use Rattle.rasn_de.proofs.Headers.Frames.{header_parsed}
 use Rattle.rasn_de.proofs.Headers.Memory.{NoMemory, header_none}
@@ -31,6 +31,11 @@ constructed_form rule tag l h o e (inr x) =
 pub nested_octets : (rule : Codec) (depth : ℕ) (tag : Tag) (l : List ℕ) (h : Header) (r : Result (List ℕ × List ℕ) ParseError) → header_at (form rule) (Tagged tag) l ≡ Ok h → string_of rule octets (in_universal 4) depth h ≡ r
     → octet_string_at rule depth tag l ≡ r
 nested_octets rule depth tag l h r e w = rw e w
+
+-- the same where no memory is left
+pub nested_bare : (rule : Codec) (depth : ℕ) (tag : Tag) (l : List ℕ) (h : Header) → header_at (form rule) (Tagged tag) l ≡ Ok h → string_of rule (without_memory octets) (in_universal 4) depth h ≡ Err OutOfMemory
+    → string_at rule (without_memory octets) (in_universal 4) depth tag l ≡ Err OutOfMemory
+nested_bare rule depth tag l h e w = rw e w
 
 -- one segment's octets
 pub plain_octets : (rule : Codec) (depth : ℕ) (tag : Tag) (l : List ℕ) (h : Header) (c : List ℕ) → header_at (form rule) (Tagged tag) l ≡ Ok h → (h.bit ≡ false) × (h.extent ≡ definite c) → octet_string_at rule depth tag l ≡ Ok (c, h.rest)

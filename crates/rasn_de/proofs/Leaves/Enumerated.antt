@@ -1,5 +1,5 @@
 -- An ENUMERATED is read exactly where the grammar has one.
-use Rattle.std.proofs.Common.{◌≡◌, ℕ, ℤ, inl, inr, Bool, true, false, List, pos, negsuc, FitsSigned, w64, to_z, of_z, arith, Result, Ok, Err, sym, ap, ◌∙◌, subst}
+use Rattle.std.proofs.Common.{◌≡◌, ℕ, ℤ, inl, inr, Bool, true, List, pos, negsuc, FitsSigned, w64, to_z, of_z, arith, Result, Ok, Err, sym, ap, ◌∙◌, subst}
 use Rattle.std.specs.Prelude.{Contains}
 use Rattle.std.proofs.lemmas.Int.{ints, to_z-of_z}
 use Rattle.rasn_types.specs.declared.types.tag.Tag.{Tag}
@@ -59,9 +59,9 @@ module _ (known : List ℤ) where
   number_unnamed rule (Ok p) z rest ((n, i, a, e), g) k = (inr (inr (n, i, (λ c. k (subst (Contains known) (sym e) c)), ap DiscriminantValueNotFound e)), g)
   number_unnamed rule (Err d) z rest h k = cc
 
-  pub enumerated_refused : {X : Type 0} (see : X → ℤ) (tag : Tag) (old new : State) (e : DecodeError) → DecodesInteger {X = X} see (false ≡ true) tag (NumberAt old.rule tag old.rest) old (Err e) new
+  pub enumerated_refused : {X : Type 0} (see : X → ℤ) (tag : Tag) (old new : State) (e : DecodeError) → DecodesInteger {X = X} see (λ z. ⊥) tag (NumberAt old.rule tag old.rest) old (Err e) new
       → FailsAs (EnumeratedAt known old.rule tag old.rest) old e new
-  enumerated_refused see tag old new e (inl (m, g, h, s, c, d, i)) = cc
+  enumerated_refused see tag old new e (inl (m, h, s, c, d, i, g)) = absurd g
   enumerated_refused see tag old new e (inr (cause, f, t, c, s)) = (cause, number_refused old.rule (definite_at old.rule tag old.rest) cause new.rest f, t, c, s)
 
   pub enumerated_named : {E : Type 0} (see : E → ℤ) (tag : Tag) (old new : State) (z : ℤ) (v : E) → NumberAt old.rule tag old.rest (Ok (z, new.rest)) → new ≡ at old new.rest → see v ≡ z → Contains known (see v)

@@ -17,7 +17,7 @@ use Rattle.rasn_de.specs.declared.ber.de.parser.ParseError.{ParseError}
 use Rattle.rasn_de.specs.declared.ber.de.parser.ParseError.TheVariants as fault_is
 use Rattle.rasn_de.specs.Steps.{IsErrorOf}
 use Rattle.rasn_de.proofs.Leaves.Errors.{rule_is}
-use Rattle.rasn_de.specs.Leaves.{Readings, FromContents, IsIntegerContents, IsNotIntegerContents, IntegerIn, IntegerAt, definite_at, FailsAs, DecodesLeaf, DecodesInteger, IsOutOfBound}
+use Rattle.rasn_de.specs.Leaves.{Readings, FromContents, IsIntegerContents, IsNotIntegerContents, IntegerIn, IntegerAt, definite_at, FailsAs, DecodesLeaf, DecodesInteger, TakesThere, IsOutOfBound}
 use Rattle.rasn_de.specs.State.{State, at}
 use Rattle.rasn_de.specs.Decodes.{Decodes}
 use Rattle.rasn_de.proofs.Leaves.Memory.{decoded_integer_memory}
@@ -48,23 +48,23 @@ module _ (width : ℕ) (range : Interval) (bounds : Constraints) where
       decoded_answers (λ rule. Reads rule (leaf (integer range) tag bounds)) number see _ old new result
       (plain_agrees old.rule tag old.rest o (integer range) old.depth (IsBounded (integer range) bounds) number (IntegerIn old.rule width range bounds) (integer_parsed old.rule) (integer_only old.rule) (integer_none old.rule)) g
 
-  integer_decodes : {X : Type 0} (see : X → ℤ) (Grows : Type 0) (tag : Tag) (old new : State) (result : Result X DecodeError) → AreOctets old.rest
-      → DecodesInteger see Grows tag (IntegerAt width range bounds old.rule tag old.rest) old result new → Decodes (leaf (integer range) tag bounds) (λ v. number (see v)) old result new
-  integer_decodes see Grows tag old new (Ok v) o g = integer_decoded see tag old new (Ok v) o g
-  integer_decodes see Grows tag old new (Err e) o (inr g) = integer_decoded see tag old new (Err e) o g
-  integer_decodes see Grows tag old new (Err e) o (inl (m, g, d, s, c, h, i)) =
+  integer_decodes : {X : Type 0} (see : X → ℤ) (Takes : ℤ → Type 0) (tag : Tag) (old new : State) (result : Result X DecodeError) → AreOctets old.rest
+      → DecodesInteger see Takes tag (IntegerAt width range bounds old.rule tag old.rest) old result new → Decodes (leaf (integer range) tag bounds) (λ v. number (see v)) old result new
+  integer_decodes see Takes tag old new (Ok v) o g = integer_decoded see tag old new (Ok v) o g
+  integer_decodes see Takes tag old new (Err e) o (inr g) = integer_decoded see tag old new (Err e) o g
+  integer_decodes see Takes tag old new (Err e) o (inl (m, d, s, c, h, i, g)) =
       alloc_failed (λ rule. Reads rule (leaf (integer range) tag bounds)) (λ v. number (see v)) old new e m s (definite_end old.rule tag old.rest o c new.rest h)
 
   -- What `decode_integer` ensures follows from its exact clause.
-  pub integer_ensured : {X : Type 0} (see : X → ℤ) (Grows : Type 0) (tag : Tag) (old new : State) (result : Result X DecodeError) → AreOctets old.rest
-      → DecodesInteger see Grows tag (IntegerAt width range bounds old.rule tag old.rest) old result new
+  pub integer_ensured : {X : Type 0} (see : X → ℤ) (Takes : ℤ → Type 0) (tag : Tag) (old new : State) (result : Result X DecodeError) → AreOctets old.rest
+      → DecodesInteger see Takes tag (IntegerAt width range bounds old.rule tag old.rest) old result new
       → record {
         reads : Decodes (leaf (integer range) tag bounds) (λ v. number (see v)) old result new;
-        exact : DecodesInteger see Grows tag (IntegerAt width range bounds old.rule tag old.rest) old result new;
-        memory : IfErr result (λ e. IsOutOfMemory e.kind → Grows ⊎ IsOutOfBound (IntegerAt width range bounds old.rule tag old.rest) new.rest);
+        exact : DecodesInteger see Takes tag (IntegerAt width range bounds old.rule tag old.rest) old result new;
+        memory : IfErr result (λ e. IsOutOfMemory e.kind → TakesThere Takes tag old new.rest ⊎ IsOutOfBound (IntegerAt width range bounds old.rule tag old.rest) new.rest);
         rules : IfErr result (λ e. e.codec ≡ old.rule);
       }
-  integer_ensured see Grows tag old new result o g = record { reads = integer_decodes see Grows tag old new result o g; exact = g; memory = decoded_integer_memory see Grows width range bounds tag old new result g; rules = integer_rules see Grows tag (IntegerAt width range bounds old.rule tag old.rest) old new result g }
+  integer_ensured see Takes tag old new result o g = record { reads = integer_decodes see Takes tag old new result o g; exact = g; memory = decoded_integer_memory see Takes width range bounds tag old new result g; rules = integer_rules see Takes tag (IntegerAt width range bounds old.rule tag old.rest) old new result g }
 
   -- a number out of its bound
   pub bound_refused : (tag : Tag) (old new : State) (c : List ℕ) (e : DecodeError) → definite_at old.rule tag old.rest ≡ Ok (c, new.rest) → new ≡ at old new.rest → IsIntegerContents old.rule c → IsIn range (signed c) → (Admits ◌≤ℤ◌ bounds.value (signed c) → ⊥)
@@ -73,9 +73,9 @@ module _ (width : ℕ) (range : Interval) (bounds : Constraints) where
       (out_of_bound (signed c) (constraint_of bounds.value), subst (λ d. FromContents (IntegerIn old.rule width range bounds) d (Err (out_of_bound (signed c) (constraint_of bounds.value), new.rest))) (sym h) ((n, i, a, refl, refl), refl), t, k ∙ rule_is old new s, s)
 
 -- running out of memory behind contents
-pub number_alloc_failed : {X : Type 0} (see : X → ℤ) (Grows : Type 0) (tag : Tag) (Is : Readings ℤ) (old new : State) (c : List ℕ) (e : DecodeError) → definite_at old.rule tag old.rest ≡ Ok (c, new.rest) → new ≡ at old new.rest → IsIntegerContents old.rule c → Grows → IsErrorOf fault_is.OutOfMemory new e
-    → DecodesInteger see Grows tag Is old (Err e) new
-number_alloc_failed see Grows tag Is old new c e h s i g k = inl (ap (λ (x : DecodeError). x.kind) k, g, ap (λ (x : DecodeError). x.codec) k ∙ rule_is old new s, s, c, h, i)
+pub number_alloc_failed : {X : Type 0} (see : X → ℤ) (Takes : ℤ → Type 0) (tag : Tag) (Is : Readings ℤ) (old new : State) (c : List ℕ) (e : DecodeError) → definite_at old.rule tag old.rest ≡ Ok (c, new.rest) → new ≡ at old new.rest → IsIntegerContents old.rule c → Takes (signed c) → IsErrorOf fault_is.OutOfMemory new e
+    → DecodesInteger see Takes tag Is old (Err e) new
+number_alloc_failed see Takes tag Is old new c e h s i g k = inl (ap (λ (x : DecodeError). x.kind) k, ap (λ (x : DecodeError). x.codec) k ∙ rule_is old new s, s, c, h, i, g)
 
 pub empty_is : (l : List ℕ) → true ≡ (length l == 0) → l ≡ []
 empty_is [] e = refl

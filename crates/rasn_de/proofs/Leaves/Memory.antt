@@ -13,7 +13,7 @@ use Rattle.rasn_de.specs.declared.ber.de.parser.ParseError.TheVariants.{OutOfMem
 use Rattle.rasn_types.specs.Tags.{form, loose, tag_bit}
 use Rattle.rasn_de.specs.Headers.{spelled, Header, header_at, as_written}
 use Rattle.rasn_de.specs.Causes.{Cause, fault, out_of_bound, HasCause}
-use Rattle.rasn_de.specs.Leaves.{on_header, definite_in, definite_at, FromContents, LeafAt, as_cause, is_ber, bool_in, FailsAs, DecodesLeaf, IsNotIntegerContents, IntegerIn, IntegerAt, DecodesInteger, IsOutOfBound}
+use Rattle.rasn_de.specs.Leaves.{on_header, definite_in, definite_at, FromContents, LeafAt, as_cause, is_ber, bool_in, FailsAs, DecodesLeaf, IsNotIntegerContents, IntegerIn, IntegerAt, DecodesInteger, TakesThere, IsOutOfBound}
 use Rattle.rasn_types.specs.declared.types.constraints.Constraints.{Constraints}
 use Rattle.rasn_types.specs.Shapes.{Interval, looked_for}
 use Rattle.rasn_de.specs.declared.ber.de.parser.headers.Expected.TheVariants.{AnyTag}
@@ -100,24 +100,24 @@ integer_cause rule width range bounds c (fault f) (inl h) = lacks_plain rule c f
 integer_cause rule width range bounds c (fault f) (inr (n, i, g)) = λ h. cc
 integer_cause rule width range bounds c (out_of_bound z bound) a = tt
 
-integer_memory : {X : Type 0} (see : X → ℤ) (Grows : Type 0) (width : ℕ) (range : Interval) (bounds : Constraints) (tag : Tag) (old new : State) (e : DecodeError)
-    → DecodesInteger see Grows tag (IntegerAt width range bounds old.rule tag old.rest) old (Err e) new → IsOutOfMemory e.kind → Grows ⊎ IsOutOfBound (IntegerAt width range bounds old.rule tag old.rest) new.rest
-integer_memory see Grows width range bounds tag old new e (inl (m, g, c, s, l, h, i)) n = inl g
-integer_memory see Grows width range bounds tag old new e (inr (cause, a, t, c, s)) n =
+integer_memory : {X : Type 0} (see : X → ℤ) (Takes : ℤ → Type 0) (width : ℕ) (range : Interval) (bounds : Constraints) (tag : Tag) (old new : State) (e : DecodeError)
+    → DecodesInteger see Takes tag (IntegerAt width range bounds old.rule tag old.rest) old (Err e) new → IsOutOfMemory e.kind → TakesThere Takes tag old new.rest ⊎ IsOutOfBound (IntegerAt width range bounds old.rule tag old.rest) new.rest
+integer_memory see Takes width range bounds tag old new e (inl (m, c, s, l, h, i, g)) n = inl (l, h, g)
+integer_memory see Takes width range bounds tag old new e (inr (cause, a, t, c, s)) n =
     inr (go cause a t (contents_bound (IntegerIn old.rule width range bounds) (integer_cause old.rule width range bounds) (definite_at old.rule tag old.rest) (definite_plain old.rule tag old.rest) (cause, new.rest) a))
   where
     go : (x : Cause) → IntegerAt width range bounds old.rule tag old.rest (Err (x, new.rest)) → HasCause x e.kind → IsPlainOrBound x → IsOutOfBound (IntegerAt width range bounds old.rule tag old.rest) new.rest
     go (fault f) a t p = absurd (tells_plain (fault f) e.kind p t n)
     go (out_of_bound z bound) a t p = (z, bound, a)
 
-pub decoded_integer_memory : {X : Type 0} (see : X → ℤ) (Grows : Type 0) (width : ℕ) (range : Interval) (bounds : Constraints) (tag : Tag) (old new : State) (result : Result X DecodeError)
-    → DecodesInteger see Grows tag (IntegerAt width range bounds old.rule tag old.rest) old result new → IfErr result (λ e. IsOutOfMemory e.kind → Grows ⊎ IsOutOfBound (IntegerAt width range bounds old.rule tag old.rest) new.rest)
-decoded_integer_memory see Grows width range bounds tag old new (Ok v) g = tt
-decoded_integer_memory see Grows width range bounds tag old new (Err e) g = integer_memory see Grows width range bounds tag old new e g
+pub decoded_integer_memory : {X : Type 0} (see : X → ℤ) (Takes : ℤ → Type 0) (width : ℕ) (range : Interval) (bounds : Constraints) (tag : Tag) (old new : State) (result : Result X DecodeError)
+    → DecodesInteger see Takes tag (IntegerAt width range bounds old.rule tag old.rest) old result new → IfErr result (λ e. IsOutOfMemory e.kind → TakesThere Takes tag old new.rest ⊎ IsOutOfBound (IntegerAt width range bounds old.rule tag old.rest) new.rest)
+decoded_integer_memory see Takes width range bounds tag old new (Ok v) g = tt
+decoded_integer_memory see Takes width range bounds tag old new (Err e) g = integer_memory see Takes width range bounds tag old new e g
 
 -- A primitive OCTET STRING is lent, so it asks for no memory.
 pub primitive_plain : (tag : Tag) (bounds : Constraints) (old new : State) (e : DecodeError) → DecodesOctetString tag bounds old (Err e) new → IsPrimitive old.rule tag old.rest → IsOutOfMemory e.kind → ⊥
-primitive_plain tag bounds old new e (inl (m, c, s, (rest, x, f))) (after, contents, p) h = let b : false ≡ true = (frame_one old.rest p f).bit in cc
+primitive_plain tag bounds old new e (inl (m, c, s, ((rest, x, f), w))) (after, contents, p) h = let b : false ≡ true = (frame_one old.rest p f).bit in cc
 primitive_plain tag bounds old new e (inr (n, g)) p h = n h
 
 -- The first fault where a whole encoding has to come is one of a header.

@@ -26,3 +26,7 @@ also_rules f c b = record { exact = b; reads = f b; rules = c }
 -- The same of a call whose `shaped` says of a value's shape what `exact` says of the calls that read it.
 pub also_shaped : {A B C D : Type 0} → (B → A) → D → C → B → record { exact : D; shaped : B; reads : A; rules : C }
 also_shaped f d c b = record { exact = d; shaped = b; reads = f b; rules = c }
+
+-- The same of a call whose `beyond` says what a value holds beyond its tree.
+pub also_beyond : {A B C D : Type 0} → (B → A) → D → C → B → record { exact : B; reads : A; beyond : D; rules : C }
+also_beyond f d c b = record { exact = b; reads = f b; beyond = d; rules = c }

@@ -1,7 +1,6 @@
 -- The errors of calls name the rules of their decoder.
-use Rattle.std.proofs.Common.{◌≡◌, ◌⊎◌, inl, inr, ℕ, ℤ, Bool, List, Option, Result, Ok, Err, Global, ap, ◌∙◌}
+use Rattle.std.proofs.Common.{◌≡◌, ◌⊎◌, inl, inr, ℕ, ℤ, Bool, List, Option, Result, Ok, Err, ap, ◌∙◌}
 use Rattle.std.specs.Prelude.{IfErr}
-use Rattle.std.specs.declared.borrow.CowSlice.{CowSlice}
 use Rattle.std.specs.declared.alloc.AllocError.{AllocError}
 use Rattle.rasn_types.specs.declared.types.codec.Codec.{Codec}
 use Rattle.rasn_types.specs.declared.types.tag.Tag.{Tag}
@@ -41,10 +40,10 @@ pub leaf_rules : {X Y : Type 0} (see : X → Y) (Is : Readings Y) (old new : Sta
 leaf_rules see Is old new (Ok v) k = tt
 leaf_rules see Is old new (Err e) k = k.3
 
-pub integer_rules : {X : Type 0} (see : X → ℤ) (Grows : Type 0) (tag : Tag) (Is : Readings ℤ) (old new : State) (r : Result X DecodeError) → DecodesInteger see Grows tag Is old r new → IfErr r (λ e. e.codec ≡ old.rule)
-integer_rules see Grows tag Is old new (Ok v) k = tt
-integer_rules see Grows tag Is old new (Err e) (inl k) = k.2
-integer_rules see Grows tag Is old new (Err e) (inr k) = k.3
+pub integer_rules : {X : Type 0} (see : X → ℤ) (Takes : ℤ → Type 0) (tag : Tag) (Is : Readings ℤ) (old new : State) (r : Result X DecodeError) → DecodesInteger see Takes tag Is old r new → IfErr r (λ e. e.codec ≡ old.rule)
+integer_rules see Takes tag Is old new (Ok v) k = tt
+integer_rules see Takes tag Is old new (Err e) (inl k) = k.1
+integer_rules see Takes tag Is old new (Err e) (inr k) = k.3
 
 pub object_rules : (tag : Tag) (old new : State) (r : Result (List ℕ) DecodeError) → DecodesObjectIdentifier tag old r new → IfErr r (λ e. e.codec ≡ old.rule)
 object_rules tag old new (Ok v) k = tt

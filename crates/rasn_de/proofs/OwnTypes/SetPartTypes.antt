@@ -24,21 +24,21 @@ use Rattle.rasn_de.specs.Decodes.{DecodesExactly, Decodes}
 use Rattle.rasn_de.specs.Constructed.{sequence_header, constructed_header_at, is_indefinite_extent, contents_state, DecodesInside}
 use Rattle.rasn_de.specs.Steps.{IsErrorOf}
 use Rattle.rasn_de.specs.SequenceOf.{DecodesInTurnFrom, FailsAtElement}
-use Rattle.rasn_de.specs.Set.{FailsAtComponent, not_read, AreParts, MakesSet, PeeksInOrder}
-use Rattle.rasn_de.specs.AlternativeTypes.{ReadsNumbered}
-use Rattle.rasn_de.specs.SetPartTypes.{held_tree, text, name_at, IsPart, AreEmpty, IsFilled, IsPlacedAt, ReadsPartAt, RefusesPart, IsPlaced, IsOrDefault, DecodesPlaced, DecodesNext, AreGathered, IsGathered, LacksSlot, IsLackOf, MakesParts, AreOnce, RepeatsFirst, LacksFirst, MakesOfReadings, DecodesSetPartContents}
+use Rattle.rasn_de.specs.Set.{FailsAtComponent, not_read, DecodesComponents, DecodesSetContents, AreParts, MakesSet, PeeksInOrder}
+use Rattle.rasn_de.specs.AlternativeTypes.{ReadsNumbered, FailsAtAlternative}
+use Rattle.rasn_de.specs.SetPartTypes.{held_tree, text, name_at, IsPart, AreEmpty, IsFilled, IsPlacedAt, ReadsPartAt, RefusesPart, IsPlaced, IsOrDefault, DecodesPlaced, DecodesNext, AreGathered, IsGathered, LacksSlot, IsLackOf, MakesParts, AreOnce, RepeatsFirst, LacksFirst, MakesOfReadings, DecodesOneOf, DecodesSetPartContents, DecodesNamedContents}
 use Rattle.rasn_de.proofs.Leaves.Outcomes.{Exact-none}
 use Rattle.rasn_de.proofs.Headers.Tags.{Tagged, tagged_order, look_refused, look_follows, look_kept}
 use Rattle.rasn_de.proofs.Constructed.Reads.{IsCut, held_decodes, held_constructed, constructed_held}
 use Rattle.rasn_de.proofs.Constructed.SetOfElements.{came_stays, passes_from}
-use Rattle.rasn_de.proofs.Constructed.OneReading.{one_of_one}
 use Rattle.rasn_de.proofs.Constructed.SetContents.{SetReads, set_collects}
 use Rattle.rasn_de.proofs.Constructed.Steps.{rules_same}
 use Rattle.rasn_de.proofs.OwnTypes.Parts.{call_keeps}
 use Rattle.rasn_de.proofs.OwnTypes.Alternatives.{OneAlternative}
 use Rattle.rasn_de.proofs.OwnTypes.AlternativeTypes.{first_got, first_refused, others_read, others_got, choice_read}
-use Rattle.rasn_de.proofs.OwnTypes.Components.{Slot, none_more, one_more, kept_more, not_none, no_parts_twice}
+use Rattle.rasn_de.proofs.OwnTypes.Components.{Slot, one_more, kept_more, not_none, no_parts_twice}
 use Rattle.rasn_de.proofs.Leaves.Errors.{rule_is}
+use Rattle.std.specs.Prelude.{IfErr}
 
 pub held_none : {T : Type 0} (tree : T → Tree) (h : Option T) → h ≡ None → held_tree tree h ≡ None
 held_none tree h e = ap (held_tree tree) e
@@ -68,6 +68,12 @@ module _ (p : Presence) (s : Shape) (ps : Parts) (names more : List (List ℕ)) 
       (suc k, u, c, ap (λ z. h ∷ z) f, m ∙ behind k, record { from = λ j. others_got p s ps tag t not_this e old new n j k u (a.from (suc j)) })
   placed_other h before held (Err x) a = record { from = λ j. others_read p s ps tag t not_this e old new n j (refusal x.kind) (a.from (suc j)) }
 
+-- It is refused as one of the others.
+pub others_fail : {X : Type 0} (p : Presence) (s : Shape) (ps : Parts) (name : List ℕ) (tag : Tag) (old new : State) (r : Result X DecodeError) → (own s ≡ Some tag → ⊥) → IfErr r (λ e. FailsAtAlternative ps name tag old e new)
+    → IfErr r (λ e. FailsAtAlternative (part p s ps) name tag old e new)
+others_fail p s ps name tag old new (Ok x) n f = tt
+others_fail p s ps name tag old new (Err e) n f = inr (n, f)
+
 -- What is read as a part is read as the choice among all.
 placed_decodes : (ps : Parts) (k : ℕ) (u : Tree) (old new : State) → ReadsPartAt ps k u old new → Decodes (choice ps) (λ (t : Tree). t) old (Ok (chosen k u)) new
 placed_decodes ps k u old new a =
@@ -76,6 +82,10 @@ placed_decodes ps k u old new a =
 
 pub next_refused : (ps : Parts) (old new : State) (e : DecodeError) → RefusesPart ps e old new → FailsAtElement (Decodes (choice ps) (λ (t : Tree). t)) old e new
 next_refused ps old new e a = inl (choice_read ps (a.from 0))
+
+pub named_refused : (ps : Parts) (name : List ℕ) (tag : Tag) (old new : State) (e : DecodeError) → NextTag (form old.rule) old.rest tag → RefusesPart ps e old new → FailsAtAlternative ps name tag old e new
+    → FailsAtElement (DecodesOneOf ps name) old e new
+named_refused ps name tag old new e n a f = inl (choice_read ps (a.from 0), inr (tag, n, f))
 
 module _ (ps : Parts) (names : List (List ℕ)) (before held : List (Option Tree)) (old new : State) where
   pub next_read : (r : Option (Bor (List ℕ))) → DecodesPlaced ps names before old (Ok r) new held → length new.rest ≢ length old.rest → DecodesNext ps names before old (Ok r) new held
@@ -92,6 +102,17 @@ module _ (ps : Parts) (names : List (List ℕ)) (before held : List (Option Tree
       → IsErrorOf (UnexpectedExtraData left) new e → DecodesNext ps names before old (Err e) new more
   next_takes_nothing None (k, u, c, a) = took_nothing k u a
   next_takes_nothing (Some x) (k, u, c, f, m, a) = took_nothing k u a
+
+  named_takes_nothing_at : (name : List ℕ) (k : ℕ) (u : Tree) → ReadsPartAt ps k u old new → length new.rest ≡ length old.rest → (left : ℕ) → left ≡ length old.rest → (e : DecodeError)
+      → IsErrorOf (UnexpectedExtraData left) new e → FailsAtElement (DecodesOneOf ps name) old e new
+  named_takes_nothing_at name k u a n left f e w =
+      let d = placed_decodes ps k u old new a in
+      inr (chosen k u, (d, tt), inl (n, rules_same old new (UnexpectedExtraData (length old.rest)) e (call_keeps d) (subst (λ m. IsErrorOf (UnexpectedExtraData m) new e) f w)))
+
+  pub named_takes_nothing : (name : List ℕ) (r : Option (Bor (List ℕ))) → DecodesPlaced ps names before old (Ok r) new held → length new.rest ≡ length old.rest → (left : ℕ) → left ≡ length old.rest → (e : DecodeError)
+      → IsErrorOf (UnexpectedExtraData left) new e → FailsAtElement (DecodesOneOf ps name) old e new
+  named_takes_nothing name None (k, u, c, a) = named_takes_nothing_at name k u a
+  named_takes_nothing name (Some x) (k, u, c, f, m, a) = named_takes_nothing_at name k u a
 
   -- The rules stay.
   pub placed_rules : (r : Option (Bor (List ℕ))) → DecodesPlaced ps names before old (Ok r) new held → new.rule ≡ old.rule
@@ -247,6 +268,13 @@ pub others_lack : (p : Presence) (s : Shape) (ps : Parts) (names more : List (Li
 others_lack p s ps names more behind rule held h n e (inl m) = inl m
 others_lack p s ps names more behind rule held h n e (inr (k, l, w)) = inr (suc k, (n, l), subst (λ z. IsNamedError (IsMissingField z) rule e) (behind k) w)
 
+-- What is made of all components is what their contents are read as.
+made_contents : {D : Type 0} (ps : Parts) (tree : D → Tree) (names : List (List ℕ)) (old here : State) (r : Result D DecodeError) (read : Call Tree)
+    → (fields : List Tree) × DecodesComponents read (λ (l : List Tree). l) old (Ok fields) here × MakesOfReadings ps tree names old.rule fields r
+    → DecodesSetContents (DecodesComponents read (λ (l : List Tree). l)) (MakesOfReadings ps tree names old.rule) old r here
+made_contents ps tree names old here (Ok v) read m = m
+made_contents ps tree names old here (Err e) read m = inr m
+
 -- Components up to here, what was put into slots, and the name of the first part that was read twice.
 module _ (ps : Parts) (names : List (List ℕ)) where
   abbrev pub Read : Call Tree
@@ -310,19 +338,44 @@ module _ (ps : Parts) (names : List (List ℕ)) where
           seen_twice twice x held after k.0 i u c m k.4,
         )
 
-  -- All components were read.
+  -- All components were read, and this is made of them.
+  abbrev pub Made : {D : Type 0} → (D → Tree) → State → State → Result D DecodeError → Type 0
+  Made tree old here r = (fields : List Tree) × DecodesComponents Read (λ (l : List Tree). l) old (Ok fields) here × MakesOfReadings ps tree names old.rule fields r
+
   module _ {D : Type 0} (tree : D → Tree) (old here : State) (last : Option Tag) (held : List (Option Tree)) (n : Ended here.closing here.rest) where
+    pub all_made : ReadTo old here last None held → (r : Result D DecodeError) → MakesParts ps tree names here.rule held r → Made tree old here r
+    all_made k r m = (k.0, (k.1, (k.2, tagged_order old k.1 last k.3), n), made_of_held ps tree names old.rule held k.0 k.4 r (subst (λ (z : State). MakesParts ps tree names z.rule held r) (came_stays (choice ps) (λ (t : Tree). t) old here k.0 k.1 k.2) m))
+
     pub all_once : ReadTo old here last None held → (r : Result D DecodeError) → MakesParts ps tree names here.rule held r → DecodesSetPartContents ps tree names old r here
-    all_once k r m = go r (made_of_held ps tree names old.rule held k.0 k.4 r (subst (λ (z : State). MakesParts ps tree names z.rule held r) (came_stays (choice ps) (λ (t : Tree). t) old here k.0 k.1 k.2) m))
-      where
-        go : (r : Result D DecodeError) → MakesOfReadings ps tree names old.rule k.0 r → DecodesSetPartContents ps tree names old r here
-        go (Ok v) m = (k.0, (k.1, (k.2, tagged_order old k.1 last k.3), n), m)
-        go (Err e) m = inr (k.0, (k.1, (k.2, tagged_order old k.1 last k.3), n), m)
+    all_once k r m = made_contents ps tree names old here r Read (all_made k r m)
+
+    pub made_twice : (x : Bor (List ℕ)) → ReadTo old here last (Some x) held → (e : DecodeError) → IsNamedError (IsDuplicateField (text x)) here.rule e → Made tree old here (Err e)
+    made_twice x (done, bs, p, t, (i, r, m)) e w =
+        let f = came_stays (choice ps) (λ (t : Tree). t) old here done bs p in
+        (done, (bs, (p, tagged_order old bs last t), n), inr (inl (i, r, subst (λ z. IsNamedError (IsDuplicateField z) old.rule e) m (subst (λ (z : State). IsNamedError (IsDuplicateField (text x)) z.rule e) f w))))
 
     pub one_twice : (x : Bor (List ℕ)) → ReadTo old here last (Some x) held → (e : DecodeError) → IsNamedError (IsDuplicateField (text x)) here.rule e → DecodesSetPartContents ps tree names old (Err e) here
-    one_twice x (done, bs, p, t, (i, r, m)) e w =
-        let f = came_stays (choice ps) (λ (t : Tree). t) old here done bs p in
-        inr (done, (bs, (p, tagged_order old bs last t), n), inr (inl (i, r, subst (λ z. IsNamedError (IsDuplicateField z) old.rule e) m (subst (λ (z : State). IsNamedError (IsDuplicateField (text x)) z.rule e) f w))))
+    one_twice x k e w = made_contents ps tree names old here (Err e) Read (made_twice x k e w)
+
+-- The same of components that are each read as one of the parts.
+module _ {D : Type 0} (ps : Parts) (tree : D → Tree) (name : List ℕ) (names : List (List ℕ)) where
+  turn_named : (old here : State) (vs : List Tree) (bs : List (List ℕ)) → DecodesInTurnFrom (Read ps names) old vs bs here → DecodesInTurnFrom (DecodesOneOf ps name) old vs bs here
+  turn_named old here [] bs p = p
+  turn_named old here (v ∷ vs) bs (b, more, next, e, f, d, r, n, p) = (b, more, next, e, f, d, (r, tt), n, turn_named next here vs more p)
+
+  pub made_named : (old here : State) (r : Result D DecodeError) → Made ps names tree old here r → DecodesNamedContents ps tree name names old r here
+  made_named old here r (fields, (bs, (p, o), n), m) = made_contents ps tree names old here r (DecodesOneOf ps name) (fields, (bs, (turn_named old here fields bs p, o), n), m)
+
+  module _ (old here : State) (last : Option Tag) (twice : Option (Bor (List ℕ))) (held : List (Option Tree)) (k : ReadTo ps names old here last twice held) where
+    unread_named : (Ended here.closing here.rest → ⊥) → (e : DecodeError) (new : State) → FailsAtComponent (DecodesOneOf ps name) k.1 here e new → DecodesNamedContents ps tree name names old (Err e) new
+    unread_named n e new f = inl (k.0, k.1, here, (turn_named old here k.0 k.1 k.2, tagged_order old k.1 last k.3), n, f)
+
+    pub untold_named : (Ended here.closing here.rest → ⊥) → (e : DecodeError) → PeeksInOrder last here (Err e) → DecodesNamedContents ps tree name names old (Err e) here
+    untold_named n e p = unread_named n e here (look_refused old here (stays_here ps names old here last twice held k) k.1 last k.3 (DecodesOneOf ps name) e p)
+
+    pub named_fails : (Ended here.closing here.rest → ⊥) → (found : Option Tag) → PeeksInOrder last here (Ok found) → (e : DecodeError) (new : State) → FailsAtElement (DecodesOneOf ps name) here e new
+        → DecodesNamedContents ps tree name names old (Err e) new
+    named_fails n found p e new f = unread_named n e new (not_read (look_follows old here (stays_here ps names old here last twice held k) k.1 last k.3 found p) f)
 
 -- A SET is read where its parts are read inside.
 module _ {D : Type 0} (ps : Parts) (tree : D → Tree) (names : List (List ℕ)) (tag : Tag) (old : State) (o : old.depth ≢ 0 → AreOctets old.rest) where

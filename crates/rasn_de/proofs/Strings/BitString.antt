@@ -21,7 +21,8 @@ use Rattle.rasn_de.specs.declared.ber.de.parser.ParseError.TheVariants.{OutOfMem
 use Rattle.rasn_types.specs.declared.error.decode.DerDecodeErrorKind.TheVariants.{NonzeroUnusedBits}
 use Rattle.rasn_de.specs.Headers.{is_der, Header, header_at}
 use Rattle.rasn_de.specs.declared.ber.de.parser.headers.Expected.TheVariants.{Tagged}
-use Rattle.rasn_de.specs.Segments.{string_of}
+use Rattle.rasn_de.specs.Segments.{string_of, without_memory}
+use Rattle.rasn_de.specs.ParserViews.{FailsToParse}
 use Rattle.rasn_de.specs.Causes.{Cause, fault, error_kind}
 use Rattle.rasn_de.specs.BitString.{is_miscounted, last_bits, is_any_set, segment_bits, bit_string_at, bits_tree, BitsAt, IsOversized, FailsAtBits, refused, gathering, copying, DecodesBitString, DecodesBits}
 use Rattle.rasn_de.specs.State.{State, at, IsEnd}
@@ -149,7 +150,7 @@ bits_decodes tag bounds old new (Ok s) o g =
 bits_decodes tag bounds old new (Err e) o (inr (inr g)) =
     decoded_answers (λ rule. Reads rule (leaf bit_string tag bounds)) bits_tree (λ (s : List Bool). s) (BitsAt bounds old.rule old.depth tag old.rest) old new (Err e) (bits_agree bounds old.rule old.depth tag old.rest o) g.1
 bits_decodes tag bounds old new (Err e) o (inl (m, c, s, k)) = alloc_failed_before (λ rule. Reads rule (leaf bit_string tag bounds)) bits_tree old new e m s
-bits_decodes tag bounds old new (Err e) o (inr (inl (m, c, s, k, bs, h))) =
+bits_decodes tag bounds old new (Err e) o (inr (inl (m, c, s, k, bs, n, h))) =
     alloc_failed (λ rule. Reads rule (leaf bit_string tag bounds)) bits_tree old new e m s (bits_end old.rule old.depth tag old.rest o bs new.rest h)
 
 -- bits that were gathered
@@ -174,7 +175,7 @@ collects_refused tag bounds old new e (f, k, s, lacks) = go f new.rest lacks (ap
     go : (f : ParseError) (left : List ℕ) → FailsAtBits old.rule old.depth tag old.rest f left → e.kind ≡ error_kind f → new.rest ≡ left → DecodesBitString tag bounds old (Err e) new
     go f left (refused g n read) m r = inr (inr ((λ h. kind_memory g n (sym m ∙ h)), (fault g, inl (g, read, ap (λ z. (fault g, z)) r), m, codec_is, s)))
     go f left (gathering w) m r = inl (m, codec_is, s ∙ ap (λ z. at old z) r, w)
-    go f left (copying bs rest w h) m r = inr (inl (m, codec_is, s, w, bs, h ∙ ap (λ z. Ok (bs, z)) (sym r)))
+    go f left (copying bs rest n w h) m r = inr (inl (m, codec_is, s, w, bs, n, h ∙ ap (λ z. Ok (bs, z)) (sym r)))
 
 -- 2 ^ 64 bits or more
 pub collects_wide : (tag : Tag) (bounds : Constraints) (old new : State) (bs : List Bool) (e : DecodeError) → DecodesBits tag old (Ok bs) new → 2 ^ 64 ≤ length bs → IsErrorOf LengthExceedsPlatformWidth new e → DecodesBitString tag bounds old (Err e) new
@@ -213,15 +214,15 @@ module _ (rule : Codec) (d : ℕ) (tag : Tag) (l : List ℕ) where
     pub segment_lacks : (c : List ℕ) (f : ParseError) → (h.bit ≡ false) × (h.extent ≡ definite c) → segment_bits rule c ≡ Err f → FailsAtBits rule d tag l f l
     segment_lacks c f (b, x) s = refused f (subst NoMemory s (segment_none rule c)) (rw e (string_plain_fault rule (segment_bits rule) (in_universal 3) d h c f b x s))
 
-    pub segment_uncopied : (c : List ℕ) (bs : List Bool) → AreOctets l → (h.bit ≡ false) × (h.extent ≡ definite c) → segment_bits rule c ≡ Ok bs → FailsAtBits rule d tag l OutOfMemory h.rest
-    segment_uncopied c bs o p s = copying bs h.rest (primitive_form rule tag l h c o e p) (one_segment c bs p s)
+    pub segment_uncopied : (c : List ℕ) (bs : List Bool) → bs ≢ [] → AreOctets l → (h.bit ≡ false) × (h.extent ≡ definite c) → segment_bits rule c ≡ Ok bs → FailsAtBits rule d tag l OutOfMemory h.rest
+    segment_uncopied c bs n o p s = copying bs h.rest n (primitive_form rule tag l h c o e p) (one_segment c bs p s)
 
     pub many_segments : (p : List Bool × List ℕ) → string_of rule (segment_bits rule) (in_universal 3) d h ≡ Ok p → bit_string_at rule d tag l ≡ Ok p
     many_segments p w = rw e w
 
-    pub segments_lack : (f : ParseError) → AreOctets l → IsNested h → (f ≢ OutOfMemory → string_of rule (segment_bits rule) (in_universal 3) d h ≡ Err f) → FailsAtBits rule d tag l f l
-    segments_lack f o n w = go (memory_or f)
+    pub segments_lack : (f : ParseError) → AreOctets l → IsNested h → FailsToParse (string_of rule (segment_bits rule) (in_universal 3) d h) (string_of rule (without_memory (segment_bits rule)) (in_universal 3) d h) f → FailsAtBits rule d tag l f l
+    segments_lack f o n (w, b) = go (memory_or f)
       where
         go : (f ≡ OutOfMemory) ⊎ (f ≢ OutOfMemory) → FailsAtBits rule d tag l f l
-        go (inl m) = subst (λ z. FailsAtBits rule d tag l z l) (sym m) (gathering (constructed_form rule tag l h o e n))
+        go (inl m) = subst (λ z. FailsAtBits rule d tag l z l) (sym m) (gathering (constructed_form rule tag l h o e n, rw e (b m)))
         go (inr m) = refused f m (rw e (w m))

@@ -20,7 +20,7 @@ use Rattle.rasn_types.specs.Grammar.{Reads, ReadsIn, ReadsLeaf, IsBounded, Text,
 use Rattle.rasn_de.specs.declared.ber.de.parser.ParseError.{ParseError}
 use Rattle.rasn_de.specs.declared.ber.de.parser.ParseError.TheVariants as fault_is
 use Rattle.rasn_de.specs.Causes.{Cause, fault, error_kind}
-use Rattle.rasn_de.specs.OctetString.{DecodesOctets, IsBorrowedIfPrimitive, IsPrimitive}
+use Rattle.rasn_de.specs.OctetString.{DecodesOctets, CollectsOctets, IsBorrowedIfPrimitive, IsPrimitive}
 use Rattle.rasn_de.specs.Leaves.{FailsAs}
 use Rattle.rasn_de.specs.CharacterString.{StringCheck, StringAt, AllocFailsCollecting, IsTextBorrowedIfPrimitive, DecodesString, DecodesBorrowed, DecodesRestricted}
 use Rattle.rasn_de.specs.State.{State, IsEnd, at}
@@ -96,7 +96,7 @@ module _ {kind : Kind} {bounds : Constraints} {Told : StringCheck} (fits : Fits 
 
 -- octets that weren't gathered
 pub ungathered : (Told : StringCheck) (tag : Tag) (old new : State) (e : DecodeError) → DecodesOctets tag old (Err e) new
-    → AllocFailsCollecting tag old e new ⊎ ((IsOutOfMemory e.kind → ⊥) × FailsAs (StringAt Told old.rule old.depth tag old.rest) old e new)
+    → AllocFailsCollecting CollectsOctets tag old e new ⊎ ((IsOutOfMemory e.kind → ⊥) × FailsAs (StringAt Told old.rule old.depth tag old.rest) old e new)
 ungathered Told tag old new e (f, k, s, read, memory) = go (memory_or f)
   where
     kind_is : e.kind ≡ error_kind f
@@ -105,7 +105,7 @@ ungathered Told tag old new e (f, k, s, read, memory) = go (memory_or f)
     codec_is : e.codec ≡ old.rule
     codec_is = ap (λ (x : DecodeError). x.codec) k
 
-    go : (f ≡ fault_is.OutOfMemory) ⊎ (f ≢ fault_is.OutOfMemory) → AllocFailsCollecting tag old e new ⊎ ((IsOutOfMemory e.kind → ⊥) × FailsAs (StringAt Told old.rule old.depth tag old.rest) old e new)
+    go : (f ≡ fault_is.OutOfMemory) ⊎ (f ≢ fault_is.OutOfMemory) → AllocFailsCollecting CollectsOctets tag old e new ⊎ ((IsOutOfMemory e.kind → ⊥) × FailsAs (StringAt Told old.rule old.depth tag old.rest) old e new)
     go (inl m) = inl (kind_is ∙ ap error_kind m, codec_is, s, memory m)
     go (inr n) =
         let r : new.rest ≡ old.rest = ap (λ (x : State). x.rest) s in

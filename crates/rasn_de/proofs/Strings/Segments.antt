@@ -155,7 +155,7 @@ pub record Gathering {X : Type 0} (read : List ℕ → Result (List X × List �
   pub appended : new ≡ old ++ found
   pub same : with_front found (segments read left) ≡ segments read start
 
-with_none : {X : Type 0} (r : Result (List X × List ℕ) ParseError) → with_front [] r ≡ r
+pub with_none : {X : Type 0} (r : Result (List X × List ℕ) ParseError) → with_front [] r ≡ r
 with_none (Ok q) = refl
 with_none (Err e) = refl
 

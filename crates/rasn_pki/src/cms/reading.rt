@@ -28,6 +28,7 @@ pub fn has_lawful_shape()
 pub fn read_signed_message(alloc: Global, input: &[u8]) -> Result<SignedMessage, DecodeError>
     ensures exact { AnsweredAlone Der signed_message_shape signed_message_tree input.now result }
     ensures written { IsCarriedAsWritten signed_message_shape signed_message_tree input.now result }
+    ensures rules { IfErr result (λ e. e.codec ≡ Der) }
 {
     der::decode(alloc, input)
 }
@@ -43,6 +44,7 @@ pub fn read_streamed_message(
 ) -> Result<(SignedMessage, &[u8]), DecodeError>
     ensures exact { Answered Ber signed_message_shape signed_message_tree input.now result }
     ensures end { IfOk result (λ read. IsEnd input.now read.1.now) }
+    ensures rules { IfErr result (λ e. e.codec ≡ Ber) }
 {
     ber::decode_with_remainder(alloc, input)
 }
@@ -55,6 +57,7 @@ pub fn write_signed_message(alloc: Global, message: &SignedMessage) -> Result<Ve
     ensures ok { IfOk result (λ octets. Bytes Der signed_message_shape (signed_message_tree message.now) octets.items) }
     ensures canonical { IfOk result (λ octets. Identifies signed_message_shape (signed_message_tree message.now) octets.items) }
     ensures fails { IfErr result (EncodingFails Der signed_message_shape (signed_message_tree message.now)) }
+    ensures rules { IfErr result (λ e. e.codec ≡ Der) }
 {
     der::encode(alloc, message)
 }

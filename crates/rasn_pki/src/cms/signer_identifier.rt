@@ -45,11 +45,20 @@ impl LawfulEq for SignerIdentifier {
 }
 
 impl Decode for SignerIdentifier {
+    ghost use Rattle.std.specs.Prelude.{◌≡◌, IfErr, Err};
+    ghost use Rattle.rasn_de.specs.Decodes.{Decodes};
+    ghost use Rattle.rasn_de.specs.AlternativeTypes.{DecodesAlternative};
+    ghost use Rattle.rasn_pki.specs.Cms.SignerIdentifier.{signer_identifier_alternatives, signer_identifier_shape, signer_identifier_tree, signer_identifier_name};
+
     fn decode_with_tag_and_constraints(
         decoder: &mut Decoder<'_>,
         _tag: Tag,
         _constraints: &Constraints,
-    ) -> Result<SignerIdentifier, DecodeError> {
+    ) -> Result<SignerIdentifier, DecodeError>
+        ensures reads { Decodes signer_identifier_shape signer_identifier_tree decoder.old result decoder.new }
+        ensures rules { IfErr result (λ e. e.codec ≡ decoder.old.rule) }
+        ensures fails { IfErr result (λ e. DecodesAlternative signer_identifier_alternatives signer_identifier_tree signer_identifier_name decoder.old (Err e) decoder.new) }
+    {
         match decoder.read_choice::<Alternatives>("SignerIdentifier")? {
             OneOf::This(certificate) => Ok(SignerIdentifier::IssuerAndSerialNumber(certificate)),
             OneOf::Other(Last(key)) => Ok(SignerIdentifier::SubjectKeyIdentifier(key)),

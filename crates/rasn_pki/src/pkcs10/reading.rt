@@ -27,6 +27,7 @@ pub fn has_lawful_shape()
 pub fn read_request(alloc: Global, input: &[u8]) -> Result<CertificationRequest, DecodeError>
     ensures exact { AnsweredAlone Der request_shape request_tree input.now result }
     ensures written { IsCarriedAsWritten request_shape request_tree input.now result }
+    ensures rules { IfErr result (λ e. e.codec ≡ Der) }
 {
     der::decode(alloc, input)
 }
@@ -39,6 +40,7 @@ pub fn write_request(alloc: Global, request: &CertificationRequest) -> Result<Ve
     ensures ok { IfOk result (λ octets. Bytes Der request_shape (request_tree request.now) octets.items) }
     ensures canonical { IfOk result (λ octets. Identifies request_shape (request_tree request.now) octets.items) }
     ensures fails { IfErr result (EncodingFails Der request_shape (request_tree request.now)) }
+    ensures rules { IfErr result (λ e. e.codec ≡ Der) }
 {
     der::encode(alloc, request)
 }

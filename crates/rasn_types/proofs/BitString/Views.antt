@@ -187,6 +187,10 @@ collects_whole unused octets more new h e =
 pub length-but_last : (u : ℕ) (octets : List ℕ) → length (but_last u octets) ≡ 8 * length octets - u
 length-but_last u octets = length-take-le (8 * length octets - u) (bits_in octets) (omega (arith, length-bits_in octets))
 
+-- Of octets some bits count.
+pub some_bits : (u : ℕ) (octets : List ℕ) → u < 8 → 0 < length octets → but_last u octets ≢ []
+some_bits u octets few h e = let n : length (but_last u octets) ≡ 0 = ap length e in omega (arith, length-but_last u octets, n, few, h)
+
 -- Octets that are put behind bits, of whose last octet some are unused.
 pub joins : (u last moved : ℕ) (octets front more new : List ℕ) → drop u (bits_of moved) ≡ take (8 - u) (bits_of last) → u < 8 → octets ≡ front ++ last ∷ [] → Shifts u (moved ∷ more) front new → Joins u octets more new
 joins u last moved octets front more new down few e s = record { long = long; all = all }

@@ -1,5 +1,5 @@
 //! Bits gathered piece by piece.
-ghost use Rattle.std.specs.Prelude.{◌≡◌, ◌≤◌, ◌<◌, ◌*◌, ◌^◌, ◌++◌, [], length, OnOk, OnErr, MatchOption};
+ghost use Rattle.std.specs.Prelude.{◌≡◌, ◌≤◌, ◌<◌, ◌*◌, ◌^◌, ◌++◌, [], ◌≢◌, length, OnOk, OnErr, MatchOption};
 ghost use Rattle.rasn_types.specs.BitString.{but_last};
 
 use crate::types::BitString;
@@ -36,12 +36,14 @@ impl CollectedBits {
         }
     }
 
-    /// Appends the bits of octets, but the last `unused` ones. If an allocation fails, nothing is appended.
+    /// Appends the bits of octets, but the last `unused` ones. If an allocation fails, which it may only where there are bits, nothing is
+    /// appended.
     pub fn append(&mut self, octets: &[u8], unused: usize) -> Result<(), AllocError>
         requires few { unused < 8 }
         requires held { unused ≤ 8 * length octets.now }
         ensures ok { OnOk result (self.new ≡ self.old ++ but_last unused octets.now) }
         ensures err { OnErr result (self.new ≡ self.old) }
+        ensures memory { OnErr result (but_last unused octets.now ≢ []) }
     {
         if self.unused == 0 {
             self.octets.extend_from_slice(octets)?;

@@ -1,5 +1,5 @@
 //! INTEGER: whole numbers of a fixed width, and of any length.
-ghost use Rattle.std.specs.Prelude.{◌≡◌, ◌<◌, length, true, IfOk, IfErr};
+ghost use Rattle.std.specs.Prelude.{◌≡◌, ◌<◌, length, IfOk, IfErr};
 ghost use Rattle.rasn_types.specs.Contents.{signed};
 ghost use Rattle.rasn_types.specs.Options.{IsSomeMeaningExactlyIf};
 ghost use Rattle.rasn_types.specs.Shapes.{IsIn};
@@ -18,7 +18,7 @@ pub const LONGEST_NUMBER: usize = 17;
 
 /// A type of whole numbers that an INTEGER is read as and written from (X.690 8.3).
 pub trait IntegerType: Drop {
-    ghost use Rattle.std.specs.Prelude.{ℕ, ℤ, Bool};
+    ghost use Rattle.std.specs.Prelude.{ℕ, ℤ};
     ghost use Rattle.rasn_types.specs.Shapes.{Interval};
 
     ghost WIDTH: { ℕ };
@@ -32,14 +32,17 @@ pub trait IntegerType: Drop {
     /// A value's number.
     ghost number: { Self → ℤ };
 
-    /// Whether a value takes memory.
-    ghost grows: { Bool };
+    /// Of which numbers a value takes memory.
+    ghost takes_memory: { ℤ → Type 0 };
 
     /// The number that octets in two's complement stand for, where the type has it.
+    ///
+    /// # Errors
+    /// Running out of memory, for a number whose value takes memory.
     fn from_octets(alloc: Global, octets: &[u8]) -> Result<Option<Self>, AllocError>
         requires { 0 < length octets.now }
         ensures ok { IfOk result (λ v. IsSomeMeaningExactlyIf number v (IsIn range (signed octets.now)) (signed octets.now)) }
-        ensures memory { IfErr result (λ _. grows ≡ true) };
+        ensures memory { IfErr result (λ _. takes_memory (signed octets.now)) };
 
     /// The number, which the type has, in two's complement and in the fewest octets: octets that it has, or that are made in this room.
     fn octets<'a>(&'a self, room: &'a mut [u8; LONGEST_NUMBER]) -> &'a [u8]

@@ -1,5 +1,5 @@
 //! A CHOICE whose alternatives are a type (X.690 8.13): the first, or one of the others.
-ghost use Rattle.std.specs.Prelude.{◌≡◌, true, IfErr};
+ghost use Rattle.std.specs.Prelude.{◌≡◌, true, IfOk, IfErr};
 ghost use Rattle.rasn_types.specs.Framing.{NextTag};
 ghost use Rattle.rasn_types.specs.Tags.{form};
 ghost use Rattle.rasn_types.specs.Shapes.{choice, chosen};
@@ -15,6 +15,7 @@ use rasn_types::types::{Last, OneOf, Tag};
 /// [`Last`] for the last.
 pub trait DecodeAlternatives: Drop {
     ghost use Rattle.std.specs.Prelude.{Bool, ℕ};
+    ghost use Rattle.rasn_de.specs.State.{State};
     ghost use Rattle.rasn_types.specs.Shapes.{Parts, Tree};
 
     ghost parts: { Parts };
@@ -22,6 +23,9 @@ pub trait DecodeAlternatives: Drop {
     ghost number: { Self → ℕ };
 
     ghost inner: { Self → Tree };
+
+    /// What the alternative holds of its octets beyond its tree.
+    ghost beyond: { State → Self → State → Type 0 } = { λ _ _ _. Unit {0} };
 
     /// Whether each alternative has a tag of its own, which no other has.
     ghost tags_differ: { Bool };
@@ -39,11 +43,12 @@ pub trait DecodeAlternatives: Drop {
         requires differ { tags_differ ≡ true }
         ensures reads { DecodesNumbered parts number inner decoder.old result decoder.new }
         ensures fails { IfErr result (λ e. FailsAtAlternative parts name.now tag decoder.old e decoder.new) }
+        ensures beyond { IfOk result (λ v. beyond decoder.old v decoder.new) }
         ensures rules { IfErr result (λ e. e.codec ≡ decoder.old.rule) };
 }
 
 impl<A: Decode> DecodeAlternatives for Last<A> {
-    ghost use Rattle.std.specs.Prelude.{true, ◌&&◌};
+    ghost use Rattle.std.specs.Prelude.{true, ◌&&◌, Ok};
     ghost use Rattle.rasn_types.specs.Shapes.{part, required};
     ghost use Rattle.rasn_types.specs.Shapes.Parts.{none};
     ghost use Rattle.rasn_de.specs.AlternativeTypes.{is_first_alone};
@@ -53,6 +58,8 @@ impl<A: Decode> DecodeAlternatives for Last<A> {
     ghost number = { λ v. 0 };
 
     ghost inner = { λ v. A.tree v.0 };
+
+    ghost beyond = { λ old v new. A.beyond A.TAG old (Ok v.0) new };
 
     ghost tags_differ = { is_first_alone A.shape A.TAG none && true };
 
@@ -73,6 +80,7 @@ impl<A: Decode, R: DecodeAlternatives> DecodeAlternatives for OneOf<A, R> {
     ghost use Rattle.std.specs.Prelude.{◌&&◌};
     ghost use Rattle.rasn_types.specs.Shapes.{part, required};
     ghost use Rattle.rasn_types.specs.OwnTypes.{one_of_number, one_of_tree};
+    ghost use Rattle.rasn_de.specs.Beyond.{got, BeyondOneOf};
     ghost use Rattle.rasn_de.specs.AlternativeTypes.{is_first_alone};
 
     ghost parts = { part required A.shape R.parts };
@@ -80,6 +88,8 @@ impl<A: Decode, R: DecodeAlternatives> DecodeAlternatives for OneOf<A, R> {
     ghost number = { one_of_number R.number };
 
     ghost inner = { one_of_tree A.tree R.inner };
+
+    ghost beyond = { BeyondOneOf (got (A.beyond A.TAG)) R.beyond };
 
     ghost tags_differ = { is_first_alone A.shape A.TAG R.parts && R.tags_differ };
 
@@ -107,6 +117,7 @@ impl<'input> Decoder<'input> {
         requires { P.tags_differ ≡ true }
         ensures exact { DecodesAlternative P.parts (λ v. chosen (P.number v) (P.inner v)) name.now self.old result self.new }
         ensures reads { Decodes (choice P.parts) (λ v. chosen (P.number v) (P.inner v)) self.old result self.new }
+        ensures beyond { IfOk result (λ v. P.beyond self.old v self.new) }
         ensures rules { IfErr result (λ e. e.codec ≡ self.old.rule) }
     {
         let tag = self.peek_tag()?;

@@ -30,8 +30,8 @@ impl<'input> Decoder<'input> {
     /// An INTEGER of the type `I`, within bounds (X.690 8.3).
     ///
     /// # Errors
-    /// Framing faults. With the value consumed: `UnexpectedEmptyInput`, under DER `NonMinimalInteger`, `IntegerOverflow`, then
-    /// `ValueConstraintNotSatisfied`.
+    /// Framing faults. With the value consumed: `UnexpectedEmptyInput`, under DER `NonMinimalInteger`, `OutOfMemory` for a number that
+    /// takes memory, which an `Integer` does above 23 octets, `IntegerOverflow`, then `ValueConstraintNotSatisfied`.
     #[inline(always)]
     pub fn decode_integer<I: IntegerType>(
         &mut self,
@@ -39,8 +39,8 @@ impl<'input> Decoder<'input> {
         constraints: &Constraints,
     ) -> Result<I, DecodeError>
         ensures reads { Decodes (leaf (integer I.range) tag constraints.now) (λ v. number (I.number v)) self.old result self.new }
-        ensures exact { DecodesNumber I.number I.grows I.WIDTH I.range tag constraints.now self.old result self.new }
-        ensures memory { AllocMayFail I.grows I.WIDTH I.range tag constraints.now self.old result self.new }
+        ensures exact { DecodesNumber I.number I.takes_memory I.WIDTH I.range tag constraints.now self.old result self.new }
+        ensures memory { AllocMayFail I.takes_memory I.WIDTH I.range tag constraints.now self.old result self.new }
         ensures rules { IfErr result (λ e. e.codec ≡ self.old.rule) }
     {
         let rules = self.codec();

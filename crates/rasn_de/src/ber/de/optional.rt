@@ -1,9 +1,10 @@
 //! Values that may be left out (X.680 25.5 to 25.8).
-ghost use Rattle.std.specs.Prelude.{◌≡◌, IfErr};
+ghost use Rattle.std.specs.Prelude.{◌≡◌, IfOk, IfErr};
 ghost use Rattle.rasn_types.specs.Shapes.{prefix};
 ghost use Rattle.rasn_de.specs.Decodes.{Decodes};
 ghost use Rattle.rasn_de.specs.Optional.{NextTagIs, DecodesIfPresent, DecodesIfPresentAs, DecodesOption, DecodesOptionAs};
 ghost use Rattle.rasn_de.specs.Prefix.{DecodesPrefixBy};
+ghost use Rattle.rasn_de.specs.Beyond.{got, BeyondOptional};
 
 use crate::ber::de::Decoder;
 use crate::de::Decode;
@@ -31,6 +32,7 @@ impl<'input> Decoder<'input> {
     pub fn decode_optional<D: Decode>(&mut self) -> Result<Option<D>, DecodeError>
         ensures exact { DecodesIfPresent (Decodes D.shape D.tree) D.TAG self.old result self.new }
         ensures reads { DecodesOption D.TAG D.shape D.tree self.old result self.new }
+        ensures beyond { IfOk result (λ v. BeyondOptional (got (D.beyond D.TAG)) self.old v self.new) }
         ensures rules { IfErr result (λ e. e.codec ≡ self.old.rule) }
     {
         self.decode_optional_with_tag_and_constraints(D::TAG, &D::CONSTRAINTS)
@@ -46,6 +48,7 @@ impl<'input> Decoder<'input> {
     ) -> Result<Option<D>, DecodeError>
         ensures exact { DecodesIfPresentAs tag D.CONSTRAINTS D.shape D.tree self.old result self.new }
         ensures reads { DecodesOptionAs tag D.CONSTRAINTS D.shape D.tree self.old result self.new }
+        ensures beyond { IfOk result (λ v. BeyondOptional (got (D.beyond tag)) self.old v self.new) }
         ensures rules { IfErr result (λ e. e.codec ≡ self.old.rule) }
     {
         self.decode_optional_with_tag_and_constraints(tag, &D::CONSTRAINTS)
@@ -61,6 +64,7 @@ impl<'input> Decoder<'input> {
     ) -> Result<Option<D>, DecodeError>
         ensures exact { DecodesIfPresentAs D.TAG constraints.now D.shape D.tree self.old result self.new }
         ensures reads { DecodesOptionAs D.TAG constraints.now D.shape D.tree self.old result self.new }
+        ensures beyond { IfOk result (λ v. BeyondOptional (got (D.beyond D.TAG)) self.old v self.new) }
         ensures rules { IfErr result (λ e. e.codec ≡ self.old.rule) }
     {
         self.decode_optional_with_tag_and_constraints(D::TAG, constraints)
@@ -77,6 +81,7 @@ impl<'input> Decoder<'input> {
     ) -> Result<Option<D>, DecodeError>
         ensures exact { DecodesIfPresentAs tag constraints.now D.shape D.tree self.old result self.new }
         ensures reads { DecodesOptionAs tag constraints.now D.shape D.tree self.old result self.new }
+        ensures beyond { IfOk result (λ v. BeyondOptional (got (D.beyond tag)) self.old v self.new) }
         ensures rules { IfErr result (λ e. e.codec ≡ self.old.rule) }
     {
         if !self.next_tag_is(tag)? {
@@ -107,6 +112,11 @@ impl<'input> Decoder<'input> {
 }
 
 impl<T: Decode> Decode for Option<T> {
+    ghost use Rattle.rasn_de.specs.Beyond.{got, BeyondOptional};
+    ghost use Rattle.std.specs.Prelude.{IfOk};
+
+    ghost beyond = { λ tag old result new. IfOk result (λ v. BeyondOptional (got (T.beyond tag)) old v new) };
+
     fn decode_with_tag_and_constraints(
         decoder: &mut Decoder<'_>,
         tag: Tag,

@@ -2,6 +2,7 @@
 ghost use Rattle.std.specs.Prelude.{◌≡◌, true, IfOk, IfErr};
 ghost use Rattle.rasn_types.specs.Shapes.{seq};
 ghost use Rattle.rasn_de.specs.Decodes.{Decodes, DecodesParts};
+ghost use Rattle.rasn_de.specs.Beyond.{BeyondInside};
 ghost use Rattle.rasn_de.specs.PartTypes.{needs_no_initializer, FailsAtPart, DecodesInParts, DecodesSequenceParts};
 
 use crate::ber::de::Decoder;
@@ -16,10 +17,14 @@ use std::alloc::AllocError;
 pub trait DecodeParts: Drop {
     ghost use Rattle.std.specs.Prelude.{Bool};
     ghost use Rattle.rasn_types.specs.Shapes.{Parts, Tree};
+    ghost use Rattle.rasn_de.specs.State.{State};
 
     ghost parts: { Parts };
 
     ghost tree: { Self → Tree };
+
+    /// What the parts hold of their octets beyond their trees.
+    ghost beyond: { State → Self → State → Type 0 } = { λ _ _ _. Unit {0} };
 
     /// Whether each part that may be left out is looked for by the tag that it has.
     ghost tags_agree: { Bool };
@@ -32,6 +37,7 @@ pub trait DecodeParts: Drop {
         requires { tags_agree ≡ true }
         ensures reads { DecodesParts parts tree decoder.old result decoder.new }
         ensures fails { IfErr result (λ e. FailsAtPart parts decoder.old e decoder.new) }
+        ensures beyond { IfOk result (λ v. beyond decoder.old v decoder.new) }
         ensures rules { IfErr result (λ e. e.codec ≡ decoder.old.rule) };
 }
 
@@ -74,11 +80,14 @@ impl DecodeParts for End {
 }
 
 impl<A: Decode, R: DecodeParts> DecodeParts for Required<A, R> {
+    ghost use Rattle.rasn_de.specs.Beyond.{got, BeyondPart};
     ghost use Rattle.rasn_types.specs.Shapes.{part, required, joined};
 
     ghost parts = { part required A.shape R.parts };
 
     ghost tree = { λ p. joined (A.tree p.0) (R.tree p.1) };
+
+    ghost beyond = { λ old p new. BeyondPart (got (A.beyond A.TAG)) R.beyond old p.0 p.1 new };
 
     ghost tags_agree = { R.tags_agree };
 
@@ -91,6 +100,7 @@ impl<A: Decode, R: DecodeParts> DecodeParts for Required<A, R> {
 }
 
 impl<A: Decode, R: DecodeParts> DecodeParts for Optional<A, R> {
+    ghost use Rattle.rasn_de.specs.Beyond.{got, BeyondOptional, BeyondPart};
     ghost use Rattle.std.specs.Prelude.{◌&&◌};
     ghost use Rattle.rasn_types.specs.Shapes.{part, optional, joined};
     ghost use Rattle.rasn_types.specs.Trees.{option_tree};
@@ -99,6 +109,8 @@ impl<A: Decode, R: DecodeParts> DecodeParts for Optional<A, R> {
     ghost parts = { part optional A.shape R.parts };
 
     ghost tree = { λ p. joined (option_tree A.tree p.0) (R.tree p.1) };
+
+    ghost beyond = { λ old p new. BeyondPart (BeyondOptional (got (A.beyond A.TAG))) R.beyond old p.0 p.1 new };
 
     ghost tags_agree = { is_looked_for A.shape A.TAG && R.tags_agree };
 
@@ -113,6 +125,7 @@ impl<V: DefaultValue, R: DecodeParts> DecodeParts for Defaulted<V, R>
 where
     V::Value: Decode,
 {
+    ghost use Rattle.rasn_de.specs.Beyond.{BeyondPart};
     ghost use Rattle.std.specs.Prelude.{◌&&◌};
     ghost use Rattle.rasn_types.specs.Shapes.{part, default, joined};
     ghost use Rattle.rasn_de.specs.PartTypes.{is_looked_for};
@@ -120,6 +133,8 @@ where
     ghost parts = { part (default V.default_tree) V.Value.shape R.parts };
 
     ghost tree = { λ p. joined (V.Value.tree p.0) (R.tree p.1) };
+
+    ghost beyond = { λ old p new. BeyondPart (λ o v n. Unit {0}) R.beyond old p.0 p.1 new };
 
     ghost tags_agree = { is_looked_for V.Value.shape V.Value.TAG && R.tags_agree };
 
@@ -139,6 +154,7 @@ impl<V: ExplicitDefault, R: DecodeParts> DecodeParts for DefaultedExplicit<V, R>
 where
     V::Value: Decode,
 {
+    ghost use Rattle.rasn_de.specs.Beyond.{BeyondPart};
     ghost use Rattle.std.specs.Prelude.{◌&&◌};
     ghost use Rattle.rasn_types.specs.Shapes.{part, default, prefix, joined};
     ghost use Rattle.rasn_de.specs.PartTypes.{is_looked_for};
@@ -146,6 +162,8 @@ where
     ghost parts = { part (default V.default_tree) (prefix V.Prefix.TAG V.Value.shape) R.parts };
 
     ghost tree = { λ p. joined (V.Value.tree p.0) (R.tree p.1) };
+
+    ghost beyond = { λ old p new. BeyondPart (λ o v n. Unit {0}) R.beyond old p.0 p.1 new };
 
     ghost tags_agree = { is_looked_for (prefix V.Prefix.TAG V.Value.shape) V.Prefix.TAG && R.tags_agree };
 
@@ -163,12 +181,15 @@ where
 }
 
 impl<A: Decode, R: DecodeParts> DecodeParts for Addition<A, R> {
+    ghost use Rattle.rasn_de.specs.Beyond.{got, BeyondOptional, BeyondPart};
     ghost use Rattle.rasn_types.specs.Shapes.{part, addition, joined};
     ghost use Rattle.rasn_types.specs.Trees.{option_tree};
 
     ghost parts = { part addition A.shape R.parts };
 
     ghost tree = { λ p. joined (option_tree A.tree p.0) (R.tree p.1) };
+
+    ghost beyond = { λ old p new. BeyondPart (BeyondOptional (got (A.beyond A.TAG))) R.beyond old p.0 p.1 new };
 
     ghost tags_agree = { R.tags_agree };
 
@@ -192,6 +213,7 @@ impl<'input> Decoder<'input> {
         requires no_initializer { needs_no_initializer P.parts ≡ true }
         ensures exact { DecodesSequenceParts P.parts P.tree tag self.old result self.new }
         ensures reads { Decodes (seq tag P.parts) P.tree self.old result self.new }
+        ensures beyond { IfOk result (λ v. BeyondInside P.beyond tag self.old v) }
         ensures rules { IfErr result (λ e. e.codec ≡ self.old.rule) }
     {
         self.inside(
@@ -201,6 +223,7 @@ impl<'input> Decoder<'input> {
                 ensures exact { DecodesInParts P.parts P.tree inner.old result inner.new }
                 ensures reads { DecodesParts P.parts P.tree inner.old result inner.new }
                 ensures rules { IfErr result (λ e. e.codec ≡ inner.old.rule) }
+                ensures beyond { IfOk result (λ v. P.beyond inner.old v inner.new) }
             { P::decode_parts(inner) },
         )
     }

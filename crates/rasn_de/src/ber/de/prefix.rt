@@ -34,6 +34,10 @@ impl<'input> Decoder<'input> {
 }
 
 impl<G: AsnType, T: Decode> Decode for Implicit<G, T> {
+    ghost use Rattle.std.specs.Prelude.{IfOk, Ok};
+
+    ghost beyond = { λ tag old result new. IfOk result (λ v. T.beyond tag old (Ok v) new) };
+
     fn decode_with_tag_and_constraints(
         decoder: &mut Decoder<'_>,
         tag: Tag,

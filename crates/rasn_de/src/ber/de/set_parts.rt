@@ -4,7 +4,9 @@ ghost use Rattle.rasn_types.specs.Framing.{NextTag};
 ghost use Rattle.rasn_types.specs.Tags.{form};
 ghost use Rattle.rasn_types.specs.Shapes.{set};
 ghost use Rattle.rasn_de.specs.Decodes.{Decodes};
-ghost use Rattle.rasn_de.specs.SetPartTypes.{text, name_at, AreEmpty, IsPlaced, IsOrDefault, DecodesPlaced, DecodesNext, MakesParts, DecodesSetPartContents, DecodesSetParts};
+ghost use Rattle.rasn_de.specs.SetPartTypes.{text, name_at, AreEmpty, IsPlaced, IsOrDefault, DecodesPlaced, DecodesOneOf, DecodesNext, MakesParts, DecodesSetPartContents, DecodesSetParts, DecodesNamedContents, DecodesNamedParts};
+ghost use Rattle.rasn_de.specs.AlternativeTypes.{FailsAtAlternative};
+ghost use Rattle.rasn_de.specs.SequenceOf.{FailsAtElement};
 
 use crate::ber::de::Decoder;
 use crate::ber::de::constructed::ConstructedHeader;
@@ -52,6 +54,7 @@ pub trait DecodeSetParts: Drop {
         requires next { NextTag (form decoder.old.rule) decoder.old.rest tag }
         requires differ { tags_differ ≡ true }
         ensures reads { DecodesPlaced parts (map text names.now) (held slots.old) decoder.old result decoder.new (held slots.new) }
+        ensures fails { IfErr result (λ e. FailsAtAlternative parts name.now tag decoder.old e decoder.new) }
         ensures rules { IfErr result (λ e. e.codec ≡ decoder.old.rule) };
 
     /// Returns the parts that the slots hold.
@@ -317,6 +320,7 @@ impl<'input> Decoder<'input> {
     ) -> Result<Option<&'names str>, DecodeError>
         requires { P.tags_differ ≡ true }
         ensures exact { DecodesNext P.parts (map text names.now) (P.held slots.old) self.old result self.new (P.held slots.new) }
+        ensures fails { IfErr result (λ e. FailsAtElement (DecodesOneOf P.parts name.now) self.old e self.new) }
         ensures rules { IfErr result (λ e. e.codec ≡ self.old.rule) }
     {
         let left = self.rest.len();
@@ -332,6 +336,7 @@ impl<'input> Decoder<'input> {
     fn set_parts<P: DecodeSetParts>(&mut self, name: &str, names: &[&str]) -> Result<P, DecodeError>
         requires { P.tags_differ ≡ true }
         ensures exact { DecodesSetPartContents P.parts P.tree (map text names.now) self.old result self.new }
+        ensures fails { DecodesNamedContents P.parts P.tree name.now (map text names.now) self.old result self.new }
         ensures rules { IfErr result (λ e. e.codec ≡ self.old.rule) }
     {
         let mut slots = P::empty();
@@ -366,6 +371,7 @@ impl<'input> Decoder<'input> {
     ) -> Result<P, DecodeError>
         requires { P.tags_differ ≡ true }
         ensures exact { DecodesSetParts P.parts P.tree (map text names.now) tag self.old result self.new }
+        ensures fails { DecodesNamedParts P.parts P.tree name.now (map text names.now) tag self.old result self.new }
         ensures reads { Decodes (set tag P.parts) P.tree self.old result self.new }
         ensures rules { IfErr result (λ e. e.codec ≡ self.old.rule) }
     {
@@ -374,6 +380,7 @@ impl<'input> Decoder<'input> {
             |inner| -> Result<P, DecodeError>
                 requires { P.tags_differ ≡ true }
                 ensures exact { DecodesSetPartContents P.parts P.tree (map text names.entry.now) inner.old result inner.new }
+                ensures fails { DecodesNamedContents P.parts P.tree name.entry.now (map text names.entry.now) inner.old result inner.new }
                 ensures rules { IfErr result (λ e. e.codec ≡ inner.old.rule) }
             { inner.set_parts::<P>(name, names) },
         )

@@ -209,7 +209,13 @@ impl Decode for UtcTime {
     }
 }
 
+/// Beyond its instant, a time has the offset of its text.
 impl Decode for GeneralizedTime {
+    ghost use Rattle.rasn_types.specs.Grammar.{GeneralizedText};
+    ghost use Rattle.rasn_de.specs.Time.{DecodesTime};
+
+    ghost beyond = { λ tag old. DecodesTime (GeneralizedText old.rule) tag old };
+
     fn decode_with_tag_and_constraints(
         decoder: &mut Decoder<'_>,
         tag: Tag,

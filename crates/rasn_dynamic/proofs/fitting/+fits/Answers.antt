@@ -1,8 +1,8 @@
-use Rattle.std.proofs.Common.{◌-◌, ◌≡◌, subst, sym, refl, arith}
+use Rattle.std.proofs.Common.{◌-◌, subst, arith}
 use Rattle.rasn_types.specs.Truth.{IsWhether}
 use Rattle.rasn_schema.proofs.Lists.{split, nothing_left, read_at}
-use Rattle.rasn_dynamic.specs.Fitting.{ComponentsFit, EachFits, Fits}
-use Rattle.rasn_dynamic.proofs.Fitted.{alternative_told, no_alternative, fit_more, fit_not, fit_short, fit_end, each_more, each_not, each_end, fits_is, fits_none, fits_zero}
+use Rattle.rasn_dynamic.specs.Fitting.{Fits}
+use Rattle.rasn_dynamic.proofs.Fitted.{alternative_told, no_alternative, fit_more, fit_not, fit_short, each_more, each_not, each_end, fits_is, fits_none, fits_zero}
 use Rattle.rasn_dynamic.proofs.fitting.+fits.Goals as goal
 
 pub fits_at-returns-then-levels-eq0 : goal.fits_at-returns-then-levels-eq0

@@ -22,3 +22,12 @@ returns-then-admits_size-clause-fits c = omega (arith, c.len.ensures, c.if-len.f
 pub returns-clause-reads : goal.returns-clause-reads
 returns-clause-reads c =
     fixed_refused c.args.tag c.args.len c.args.constraints.now c.args.decoder.now _ c.in_ok-octets.octets c.in_ok-octets.ensures.reads (inr c.if-admits_size.ensures) _
+
+pub returns-in_err-octets-clause-fails : goal.returns-in_err-octets-clause-fails
+returns-in_err-octets-clause-fails c = rw (residual _ c.from_residual.ensures.1) (inl c.in_err-octets.ensures.exact)
+
+pub returns-then-len-clause-fails : goal.returns-then-len-clause-fails
+returns-then-len-clause-fails c = inr (c.in_ok-octets.octets, c.in_ok-octets.ensures.exact, inl (rw (← c.len.ensures) c.if-len.true, rw (← c.len-then-len.ensures) c.wrong_size.ensures))
+
+pub returns-clause-fails : goal.returns-clause-fails
+returns-clause-fails c = inr (c.in_ok-octets.octets, c.in_ok-octets.ensures.exact, inr (omega (arith, c.len.ensures, c.if-len.false), c.if-admits_size.ensures, rw (← c.size_bounds.ensures) c.wrong_size-else-admits_size.ensures))

@@ -1,11 +1,11 @@
 use Rattle.std.proofs.Common.{rules, arith, ◌≡◌, ◌-◌, [], ◌∷◌, ◌++◌, length, map, true, false, Some, None, Ok, refl, sym, ap, ◌∙◌, subst, inl, inr}
-use Rattle.std.specs.Prelude.{get_or, slice_get}
+use Rattle.std.specs.Prelude.{get_or, slice_get, IfErr}
 use Rattle.std.proofs.lemmas.Option.{slice_get_within}
 use Rattle.rasn_types.specs.Shapes.{IsFirstOf}
 use Rattle.rasn_types.proofs.Headers.Frames.{next_one}
 use Rattle.rasn_de.specs.NamedErrors.{IsNamedError, IsDuplicateField}
 use Rattle.rasn_de.specs.SetPartTypes.{text}
-use Rattle.rasn_de.proofs.OwnTypes.SetPartTypes.{ReadTo, none_read, untold, next_fails, next_passes, all_once, one_twice}
+use Rattle.rasn_de.proofs.OwnTypes.SetPartTypes.{ReadTo, read_rules, none_read, untold, next_fails, next_passes, all_once, one_twice}
 use Rattle.rasn_schema.proofs.Alternatives.{first_of_all}
 use Rattle.rasn_types.specs.Lawful.{IsLawful}
 use Rattle.rasn_types.specs.Tags.{IsStrict}
@@ -19,9 +19,10 @@ use Rattle.rasn_de.specs.Steps.{IsErrorOf}
 use Rattle.rasn_de.specs.Optional.{NextTagIs}
 use Rattle.rasn_de.proofs.Leaves.Returns.{residual}
 use Rattle.rasn_de.proofs.OwnTypes.Alternatives.{no_alternative}
-use Rattle.rasn_de.proofs.Constructed.NextElement.{passes_more}
+use Rattle.rasn_de.proofs.Constructed.NextElement.{passes_more, turn_rules}
+use Rattle.rasn_de.proofs.Leaves.Rules.{codec_is, same_rules, peek_rules, look_rules, order_rules}
 use Rattle.rasn_de.proofs.Constructed.SetOfElements.{passes_from, came_stays}
-use Rattle.rasn_de.proofs.Constructed.Steps.{step_none, step_refused, step_unclosed, step_closed, rules_same}
+use Rattle.rasn_de.proofs.Constructed.Steps.{step_none, step_refused, step_end, step_unclosed, step_closed, rules_same}
 use Rattle.rasn_de.proofs.Constructed.Optional.{strict_before, strict_after}
 use Rattle.rasn_de.proofs.OwnTypes.Parts.{call_keeps}
 use Rattle.rasn_schema.specs.declared.types.Alternative.{Alternative}
@@ -29,17 +30,17 @@ use Rattle.rasn_schema.specs.Trees.{tree_of}
 use Rattle.rasn_schema.specs.Shapes.{shape_of_type, type_by, alternatives_by, components_by, presence_of, tag_at, AreLawful}
 use Rattle.rasn_schema.proofs.TypeShapes.{shape_below, own_is}
 use Rattle.rasn_schema.proofs.Lists.{split, nothing_left, read_at}
-use Rattle.rasn_dynamic.specs.Inside.{IsHeaderOf}
+use Rattle.rasn_dynamic.specs.Typed.{DecodesContents, values_tree}
 use Rattle.rasn_dynamic.specs.Calls.{held, names_of, nones}
-use Rattle.rasn_dynamic.specs.Fitting.{Fits, ComponentsFit, EachFits}
-use Rattle.rasn_dynamic.proofs.FitsRead.{if_ok, fits_below, are_items, sized_fits, sized_set_fits, each_more, fit_more, fit_end, missing_fits, gathered_fit, nones_fit, found_length, put_fits}
-use Rattle.rasn_dynamic.proofs.Inside.{inside_decodes}
-use Rattle.rasn_dynamic.proofs.Nothing.{refused_at_zero, refused_not_there}
+use Rattle.rasn_dynamic.specs.Fitting.{Fits, FitsBy, ComponentsFit, EachFits}
+use Rattle.rasn_dynamic.proofs.FitsRead.{if_ok, fits_below, are_items, are_elements, sized_fits, each_more, fit_more, fit_end, made_fits, gathered_fit, nones_fit, found_length, put_fits}
+use Rattle.rasn_dynamic.proofs.Nothing.{refused_at_zero, refused_not_there, found_here}
 use Rattle.rasn_dynamic.proofs.Chosen.{no_tag, lawful_at, first_at, chosen_got, chosen_refused}
-use Rattle.rasn_dynamic.proofs.InOrder.{lawful_parts, all_left, in_turn}
-use Rattle.rasn_dynamic.proofs.OnePart.{always, looked, made, unread, plain, kept, differs, default_is_written, not_required}
-use Rattle.rasn_dynamic.proofs.Contents.{list_refused, list_answers, set_refused, set_answers, inside_prefix, inside_seq, inside_seq_got, inside_set, inside_set_got, prefix_lawful, list_lawful, set_of_lawful, seq_lawful, set_lawful, inside_none, inside_runs_out, sequence_runs_out, values_tree, parts_start, parts_more, part_fails, parts_run_out, one_more, parts_end}
-use Rattle.rasn_dynamic.proofs.Pieces.{got_below, part_lawful, nones_come, as_many_nones, makes_parts}
+use Rattle.rasn_dynamic.proofs.InOrder.{lawful_parts, all_left, all_left_fails, in_turn}
+use Rattle.rasn_dynamic.proofs.OnePart.{always, always_fails, looked, looked_fails, made, made_fails, unread, unread_fails, plain, kept, differs, default_is_written, not_required}
+use Rattle.rasn_dynamic.proofs.Contents.{prefix_lawful, list_lawful, set_of_lawful, seq_lawful, set_lawful, none_holds, sequence_runs_out, parts_start, parts_more, part_fails, part_fails_at, parts_run_out, one_more, parts_end}
+use Rattle.rasn_dynamic.proofs.Typed.{contents_end, not_sized, sized_inside, by_prefix, by_sequence, by_set, by_list, by_set_of, type_decodes, sequence_fails, sequence_made, set_fails, set_made, set_runs_out}
+use Rattle.rasn_dynamic.proofs.Pieces.{got_below, first_of_part, part_lawful, nones_come, as_many_nones, makes_parts}
 use Rattle.rasn_dynamic.proofs.Component.{next_unpeeked, next_unknown, next_unread, next_idle, next_put}
 use Rattle.rasn_dynamic.proofs.reader.+decode.Goals.{decode_elements_in_order-else-is_strict-via-then-is_strict+else-is_less, decode_elements_in_order-else-is_strict-via-else-is_strict}
 use Rattle.rasn_dynamic.proofs.reader.+decode.Goals as goal
@@ -59,6 +60,15 @@ pub decode_at-returns-in-Some-clause-fits : goal.decode_at-returns-in-Some-claus
 decode_at-returns-in-Some-clause-fits t c =
     if_ok _ _ _ (λ v. fits_below c.args.types.now c.args.levels (c.args.levels - 1) c.args.id.0 c.in-Some.ty.now v (let n = c.if-levels-eq0.false in omega arith) c.in-Some.ensures) c.decode_type.ensures.fits
 
+pub decode_at-returns-then-levels-eq0-clause-nothing : goal.decode_at-returns-then-levels-eq0-clause-nothing
+decode_at-returns-then-levels-eq0-clause-nothing t c = λ h. (c.no_value.ensures, refl)
+
+pub decode_at-returns-in-Some-clause-nothing : goal.decode_at-returns-in-Some-clause-nothing
+decode_at-returns-in-Some-clause-nothing t c = found_here _ c.in-Some.ty.now c.in-Some.ensures _ _
+
+pub decode_at-returns-in-None-clause-nothing : goal.decode_at-returns-in-None-clause-nothing
+decode_at-returns-in-None-clause-nothing t c = λ h. (c.no_value-in-None.ensures, refl)
+
 pub decode_at-returns-in-None-clause-reads : goal.decode_at-returns-in-None-clause-reads
 decode_at-returns-in-None-clause-reads t c = refused_not_there _ _ _ _ _ c.in-None.ensures
 
@@ -70,11 +80,17 @@ decode_choice-returns-in_err-tag-clause-reads t c = rw (residual _ c.from_residu
 pub decode_choice-returns-in_err-tag-clause-unknown : goal.decode_choice-returns-in_err-tag-clause-unknown
 decode_choice-returns-in_err-tag-clause-unknown t c = rw (residual _ c.from_residual.ensures.1) (λ tag n others. absurd (c.in_err-tag.ensures.next tag n))
 
+pub decode_choice-returns-in_err-tag-clause-rules : goal.decode_choice-returns-in_err-tag-clause-rules
+decode_choice-returns-in_err-tag-clause-rules t c = rw (residual _ c.from_residual.ensures.1) (peek_rules c.args.decoder.now _ c.in_err-tag.ensures.exact)
+
 pub decode_choice-returns-in_default-clause-reads : goal.decode_choice-returns-in_default-clause-reads
 decode_choice-returns-in_default-clause-reads t c = no_alternative (alternatives_by (shape_of_type c.args.types.now c.args.below) c.args.alternatives.now) c.in_ok-tag.tag c.in_ok-tag.ensures.next c.in_default.ensures _
 
 pub decode_choice-returns-in_default-clause-unknown : goal.decode_choice-returns-in_default-clause-unknown
 decode_choice-returns-in_default-clause-unknown t c = λ tag n others. (rw (← c.codec.ensures) c.no_valid_choice.ensures, refl)
+
+pub decode_choice-returns-in_default-clause-rules : goal.decode_choice-returns-in_default-clause-rules
+decode_choice-returns-in_default-clause-rules t c = c.no_valid_choice.ensures.0 ∙ c.codec.ensures
 
 pub decode_choice-bounds-alternatives-number : goal.decode_choice-bounds-alternatives-number
 decode_choice-bounds-alternatives-number t c = slice_get_within c.args.alternatives.now c.in-Some.number c.in-Some.ensures.0 (sym c.in-Some.ensures.1)
@@ -122,87 +138,71 @@ decode_choice-returns-clause-unknown t c = λ tag n others.
 -- ---- contents
 
 pub decode_contents-decode_at-requires : goal.decode_contents-decode_at-requires
-decode_contents-decode_at-requires t c = (search rules, prefix_lawful _ _ (subst (λ n. IsLawful (type_by (shape_of_type c.args.types.now c.args.below) n)) c.in-Tagged.is c.requires))
+decode_contents-decode_at-requires t c = (search rules, prefix_lawful _ _ (subst (λ n. IsLawful (type_by (shape_of_type c.args.types.now c.args.below) n)) c.in-Tagged.is c.requires.lawful))
 
 pub decode_contents-decode_sequence-requires : goal.decode_contents-decode_sequence-requires
-decode_contents-decode_sequence-requires t c = (search rules, rw c.deref.ensures.value (lawful_parts (shape_of_type c.args.types.now c.args.below) _ (seq_lawful _ _ (subst (λ n. IsLawful (type_by (shape_of_type c.args.types.now c.args.below) n)) c.in-Sequence.is c.requires))))
+decode_contents-decode_sequence-requires t c = (search rules, rw c.deref.ensures.value (lawful_parts (shape_of_type c.args.types.now c.args.below) _ (seq_lawful _ _ (subst (λ n. IsLawful (type_by (shape_of_type c.args.types.now c.args.below) n)) c.in-Sequence.is c.requires.lawful))))
+
+pub decode_contents-returns-in_ok-values-in-Sequence-clause-exact : goal.decode_contents-returns-in_ok-values-in-Sequence-clause-exact
+decode_contents-returns-in_ok-values-in-Sequence-clause-exact t c = rw c.in-Sequence.is (sequence_made (shape_of_type c.args.types.now c.args.below) _ c.in-Sequence.components c.deref.ensures.value _ _ c.in-Sequence.tag c.in_ok-values-in-Sequence.values (c.in_ok-values-in-Sequence.ensures.reads, tt))
+
+pub decode_contents-returns-in_err-values-in-Sequence-clause-exact : goal.decode_contents-returns-in_err-values-in-Sequence-clause-exact
+decode_contents-returns-in_err-values-in-Sequence-clause-exact t c = rw (residual _ c.from_residual.ensures.1, c.in-Sequence.is) (sequence_fails (shape_of_type c.args.types.now c.args.below) _ c.in-Sequence.components c.deref.ensures.value _ _ c.in-Sequence.tag _ (c.in_err-values-in-Sequence.ensures.reads, c.in_err-values-in-Sequence.ensures.fails))
 
 pub decode_contents-decode_elements-requires : goal.decode_contents-decode_elements-requires
-decode_contents-decode_elements-requires t c = (search rules, list_lawful _ _ c.in-SequenceOf.constraints.size (subst (λ n. IsLawful (type_by (shape_of_type c.args.types.now c.args.below) n)) c.in-SequenceOf.is c.requires))
+decode_contents-decode_elements-requires t c = (search rules, list_lawful _ _ c.in-SequenceOf.constraints.size (subst (λ n. IsLawful (type_by (shape_of_type c.args.types.now c.args.below) n)) c.in-SequenceOf.is c.requires.lawful))
 
-pub decode_contents-returns-in_err-values-in-SequenceOf-clause-reads :
-    goal.decode_contents-returns-in_err-values-in-SequenceOf-clause-reads
-decode_contents-returns-in_err-values-in-SequenceOf-clause-reads t c =
-    rw (residual _ c.from_residual-in_err-values-in-SequenceOf.ensures.1, c.in-SequenceOf.is)
-    (list_refused c.in-SequenceOf.tag ((shape_of_type c.args.types.now c.args.below) c.in-SequenceOf.element.0) c.in-SequenceOf.constraints.size _ _ _ c.in_err-values-in-SequenceOf.ensures.reads)
+pub decode_contents-returns-in_ok-values-in-SequenceOf-clause-fits : goal.decode_contents-returns-in_ok-values-in-SequenceOf-clause-fits
+decode_contents-returns-in_ok-values-in-SequenceOf-clause-fits t c = rw c.in-SequenceOf.is (are_items (EachFits (Fits c.args.types.now c.args.below c.in-SequenceOf.element.0)) c.in_ok-values-in-SequenceOf.values c.in_ok-values-in-SequenceOf.ensures.fits)
 
-pub decode_contents-returns-in-Tagged-clause-reads : goal.decode_contents-returns-in-Tagged-clause-reads
-decode_contents-returns-in-Tagged-clause-reads t c = rw c.in-Tagged.is (inside_prefix c.in-Tagged.tag ((shape_of_type c.args.types.now c.args.below) c.in-Tagged.inner.0) _ _ _ c.decode_at.ensures.reads)
+pub decode_contents-returns-in_ok-values-in-SequenceOf-clause-exact : goal.decode_contents-returns-in_ok-values-in-SequenceOf-clause-exact
+decode_contents-returns-in_ok-values-in-SequenceOf-clause-exact t c = rw c.in-SequenceOf.is (c.in_ok-values-in-SequenceOf.values, refl, c.in_ok-values-in-SequenceOf.ensures.reads)
+
+pub decode_contents-returns-in_err-values-in-SequenceOf-clause-exact : goal.decode_contents-returns-in_err-values-in-SequenceOf-clause-exact
+decode_contents-returns-in_err-values-in-SequenceOf-clause-exact t c = rw (residual _ c.from_residual-in_err-values-in-SequenceOf.ensures.1, c.in-SequenceOf.is) c.in_err-values-in-SequenceOf.ensures.reads
 
 pub decode_contents-returns-in-Tagged-clause-fits : goal.decode_contents-returns-in-Tagged-clause-fits
 decode_contents-returns-in-Tagged-clause-fits t c = rw c.in-Tagged.is c.decode_at.ensures.fits
 
-pub decode_contents-returns-in_err-values-in-Sequence-clause-reads : goal.decode_contents-returns-in_err-values-in-Sequence-clause-reads
-decode_contents-returns-in_err-values-in-Sequence-clause-reads t c =
-    rw (residual _ c.from_residual.ensures.1, c.in-Sequence.is)
-    (inside_seq c.in-Sequence.tag (components_by (shape_of_type c.args.types.now c.args.below) c.in-Sequence.components.items) _ _ c.in_err-values-in-Sequence.field-0.0 (rw (← c.deref.ensures.value) c.in_err-values-in-Sequence.ensures.reads))
-
-pub decode_contents-returns-in_ok-values-in-Sequence-clause-reads : goal.decode_contents-returns-in_ok-values-in-Sequence-clause-reads
-decode_contents-returns-in_ok-values-in-Sequence-clause-reads t c =
-    rw c.in-Sequence.is (inside_seq_got c.in-Sequence.tag (components_by (shape_of_type c.args.types.now c.args.below) c.in-Sequence.components.items) _ _ c.in_ok-values-in-Sequence.values (rw (← c.deref.ensures.value) c.in_ok-values-in-Sequence.ensures.reads))
+pub decode_contents-returns-in-Tagged-clause-exact : goal.decode_contents-returns-in-Tagged-clause-exact
+decode_contents-returns-in-Tagged-clause-exact t c = rw c.in-Tagged.is c.decode_at.ensures.reads
 
 pub decode_contents-returns-in_ok-values-in-Sequence-clause-fits : goal.decode_contents-returns-in_ok-values-in-Sequence-clause-fits
 decode_contents-returns-in_ok-values-in-Sequence-clause-fits t c =
     rw c.in-Sequence.is (are_items (ComponentsFit (Fits c.args.types.now c.args.below) c.in-Sequence.components.items) c.in_ok-values-in-Sequence.values (rw (← c.deref.ensures.value) c.in_ok-values-in-Sequence.ensures.fits))
 
-pub decode_contents-returns-in_ok-values-in-SequenceOf-clause-reads :
-    goal.decode_contents-returns-in_ok-values-in-SequenceOf-clause-reads
-decode_contents-returns-in_ok-values-in-SequenceOf-clause-reads t c =
-    rw c.in-SequenceOf.is
-    (list_answers c.in-SequenceOf.tag ((shape_of_type c.args.types.now c.args.below) c.in-SequenceOf.element.0) c.in-SequenceOf.constraints.size _ _ c.in_ok-values-in-SequenceOf.values c.in_ok-values-in-SequenceOf.ensures.reads _ c.sized.ensures)
-
-pub decode_contents-returns-in_ok-values-in-SequenceOf-clause-fits : goal.decode_contents-returns-in_ok-values-in-SequenceOf-clause-fits
-decode_contents-returns-in_ok-values-in-SequenceOf-clause-fits t c =
-    rw c.in-SequenceOf.is (sized_fits (EachFits (Fits c.args.types.now c.args.below c.in-SequenceOf.element.0)) c.in-SequenceOf.constraints.size c.in_ok-values-in-SequenceOf.values _ c.in_ok-values-in-SequenceOf.ensures.fits c.sized.ensures)
-
-pub decode_contents-returns-in_default-clause-reads : goal.decode_contents-returns-in_default-clause-reads
-decode_contents-returns-in_default-clause-reads t c =
-    inside_none (shape_of_type c.args.types.now c.args.below) c.args.ty.now c.in_default.not-Tagged c.in_default.not-Sequence c.in_default.not-Set c.in_default.not-SequenceOf c.in_default.not-SetOf _ _
-
 pub decode_contents-decode_elements_in_order-requires : goal.decode_contents-decode_elements_in_order-requires
-decode_contents-decode_elements_in_order-requires t c = (search rules, set_of_lawful _ _ c.in-SetOf.constraints.size (subst (λ n. IsLawful (type_by (shape_of_type c.args.types.now c.args.below) n)) c.in-SetOf.is c.requires))
-
-pub decode_contents-returns-in_err-values-in-SetOf-clause-reads : goal.decode_contents-returns-in_err-values-in-SetOf-clause-reads
-decode_contents-returns-in_err-values-in-SetOf-clause-reads t c =
-    rw (residual _ c.from_residual-in_err-values-in-SetOf.ensures.1, c.in-SetOf.is)
-    (set_refused c.in-SetOf.tag ((shape_of_type c.args.types.now c.args.below) c.in-SetOf.element.0) c.in-SetOf.constraints.size _ _ _ c.in_err-values-in-SetOf.ensures.reads)
-
-pub decode_contents-returns-in_ok-values-in-SetOf-clause-reads : goal.decode_contents-returns-in_ok-values-in-SetOf-clause-reads
-decode_contents-returns-in_ok-values-in-SetOf-clause-reads t c =
-    rw c.in-SetOf.is
-    (set_answers c.in-SetOf.tag ((shape_of_type c.args.types.now c.args.below) c.in-SetOf.element.0) c.in-SetOf.constraints.size _ _ c.in_ok-values-in-SetOf.values c.in_ok-values-in-SetOf.ensures.reads _ c.sized_set.ensures)
+decode_contents-decode_elements_in_order-requires t c = (search rules, set_of_lawful _ _ c.in-SetOf.constraints.size (subst (λ n. IsLawful (type_by (shape_of_type c.args.types.now c.args.below) n)) c.in-SetOf.is c.requires.lawful))
 
 pub decode_contents-returns-in_ok-values-in-SetOf-clause-fits : goal.decode_contents-returns-in_ok-values-in-SetOf-clause-fits
-decode_contents-returns-in_ok-values-in-SetOf-clause-fits t c =
-    rw c.in-SetOf.is (sized_set_fits (EachFits (Fits c.args.types.now c.args.below c.in-SetOf.element.0)) c.in-SetOf.constraints.size c.in_ok-values-in-SetOf.values _ c.in_ok-values-in-SetOf.ensures.fits c.sized_set.ensures)
+decode_contents-returns-in_ok-values-in-SetOf-clause-fits t c = rw c.in-SetOf.is (are_elements (EachFits (Fits c.args.types.now c.args.below c.in-SetOf.element.0)) c.in_ok-values-in-SetOf.values c.in_ok-values-in-SetOf.ensures.fits)
+
+pub decode_contents-returns-in_ok-values-in-SetOf-clause-exact : goal.decode_contents-returns-in_ok-values-in-SetOf-clause-exact
+decode_contents-returns-in_ok-values-in-SetOf-clause-exact t c = rw c.in-SetOf.is (c.in_ok-values-in-SetOf.values, refl, c.in_ok-values-in-SetOf.ensures.reads)
+
+pub decode_contents-returns-in_err-values-in-SetOf-clause-exact : goal.decode_contents-returns-in_err-values-in-SetOf-clause-exact
+decode_contents-returns-in_err-values-in-SetOf-clause-exact t c = rw (residual _ c.from_residual-in_err-values-in-SetOf.ensures.1, c.in-SetOf.is) c.in_err-values-in-SetOf.ensures.reads
 
 pub decode_contents-decode_set-requires : goal.decode_contents-decode_set-requires
 decode_contents-decode_set-requires t c = (
   search rules,
   (
-    rw c.deref-in-Set-2.ensures.value (set_lawful _ _ (subst (λ n. IsLawful (type_by (shape_of_type c.args.types.now c.args.below) n)) c.in-Set.is c.requires)),
+    rw c.deref-in-Set-2.ensures.value (set_lawful _ _ (subst (λ n. IsLawful (type_by (shape_of_type c.args.types.now c.args.below) n)) c.in-Set.is c.requires.lawful)),
     c.in_ok-found-in-Set.ensures.ok ∙ ap nones (c.deref-in-Set.ensures.value ∙ sym c.deref-in-Set-2.ensures.value),
   ),
 )
 
-pub decode_contents-returns-in_err-values-in-Set-clause-reads : goal.decode_contents-returns-in_err-values-in-Set-clause-reads
-decode_contents-returns-in_err-values-in-Set-clause-reads t c =
-    rw (residual _ c.from_residual-in_err-values-in-Set.ensures.1, c.in-Set.is)
-    (inside_set c.in-Set.tag (components_by (shape_of_type c.args.types.now c.args.below) c.in-Set.components.items) (names_of c.in-Set.components.items) _ _ c.in_err-values-in-Set.field-0.0 (rw (← c.deref-in-Set-2.ensures.value) c.in_err-values-in-Set.ensures.exact))
+pub decode_contents-unreachable-requires : goal.decode_contents-unreachable-requires
+decode_contents-unreachable-requires t c = none_holds c.args.ty.now c.in_default.not-Tagged c.in_default.not-Sequence c.in_default.not-Set c.in_default.not-SequenceOf c.in_default.not-SetOf c.requires.holds
 
-pub decode_contents-returns-in_ok-values-in-Set-clause-reads : goal.decode_contents-returns-in_ok-values-in-Set-clause-reads
-decode_contents-returns-in_ok-values-in-Set-clause-reads t c =
-    rw c.in-Set.is (inside_set_got c.in-Set.tag (components_by (shape_of_type c.args.types.now c.args.below) c.in-Set.components.items) (names_of c.in-Set.components.items) _ _ c.in_ok-values-in-Set.values (rw (← c.deref-in-Set-2.ensures.value) c.in_ok-values-in-Set.ensures.exact))
+pub decode_contents-returns-in_ok-values-in-Set-clause-exact : goal.decode_contents-returns-in_ok-values-in-Set-clause-exact
+decode_contents-returns-in_ok-values-in-Set-clause-exact t c = rw c.in-Set.is (set_made (shape_of_type c.args.types.now c.args.below) _ c.in-Set.components c.deref-in-Set-2.ensures.value _ _ c.in-Set.name c.in-Set.tag c.in_ok-values-in-Set.values c.in_ok-values-in-Set.ensures.exact)
+
+pub decode_contents-returns-in_err-values-in-Set-clause-exact : goal.decode_contents-returns-in_err-values-in-Set-clause-exact
+decode_contents-returns-in_err-values-in-Set-clause-exact t c = rw (residual _ c.from_residual-in_err-values-in-Set.ensures.1, c.in-Set.is) (set_fails (shape_of_type c.args.types.now c.args.below) _ c.in-Set.components c.deref-in-Set-2.ensures.value _ _ c.in-Set.name c.in-Set.tag _ c.in_err-values-in-Set.ensures.exact)
+
+pub decode_contents-returns-in_err-found-in-Set-clause-exact : goal.decode_contents-returns-in_err-found-in-Set-clause-exact
+decode_contents-returns-in_err-found-in-Set-clause-exact t c = rw (residual _ c.from_residual-in_err-found-in-Set.ensures.1, c.in-Set.is) (set_runs_out (shape_of_type c.args.types.now c.args.below) c.in-Set.name c.in-Set.tag c.in-Set.components _ _ c.in_err-found-in-Set.ensures.err)
 
 pub decode_contents-returns-in_ok-values-in-Set-clause-fits : goal.decode_contents-returns-in_ok-values-in-Set-clause-fits
 decode_contents-returns-in_ok-values-in-Set-clause-fits t c =
@@ -213,9 +213,15 @@ decode_contents-returns-in_ok-values-in-Set-clause-fits t c =
 pub decode_elements-loop-element-preserved : goal.decode_elements-loop-element-preserved
 decode_elements-loop-element-preserved t c = (
   passes_more (Decodes (shape_of_type c.args.types.now c.args.below c.args.element.0) tree_of) c.loop-element.decoder _ c.in_ok-value.value c.loop-element-test.ensures c.in_ok-value.ensures.reads
-      (λ e. c.in_ok-keep.ensures.1 (e ∙ sym (ap length c.remaining-left.ensures.value))) c.args.decoder.now c.loop-element.values.items _ c.in_ok-keep.ensures.0 c.loop-element.invariant.0,
-  each_more (Fits c.args.types.now c.args.below c.args.element.0) c.loop-element.values.items _ c.in_ok-value.value c.in_ok-keep.ensures.0 c.loop-element.invariant.1 c.in_ok-value.ensures.fits,
+      (λ e. c.in_ok-keep.ensures.kept.1 (e ∙ sym (ap length c.remaining-left.ensures.value))) c.args.decoder.now c.loop-element.values.items _ c.in_ok-keep.ensures.kept.0 c.loop-element.invariant.0,
+  each_more (Fits c.args.types.now c.args.below c.args.element.0) c.loop-element.values.items _ c.in_ok-value.value c.in_ok-keep.ensures.kept.0 c.loop-element.invariant.1 c.in_ok-value.ensures.fits,
 )
+
+pub decode_elements-returns-in_err-value-clause-rules : goal.decode_elements-returns-in_err-value-clause-rules
+decode_elements-returns-in_err-value-clause-rules t c = rw (residual _ c.from_residual.ensures.1) (c.in_err-value.ensures.rules ∙ turn_rules (shape_of_type c.args.types.now c.args.below c.args.element.0) tree_of _ _ _ c.loop-element.invariant.0)
+
+pub decode_elements-returns-in_err-keep-clause-rules : goal.decode_elements-returns-in_err-keep-clause-rules
+decode_elements-returns-in_err-keep-clause-rules t c = rw (residual _ c.from_residual-in_err-keep.ensures.1) (c.in_err-keep.ensures.rules ∙ same_rules c.in_ok-value.ensures.reads.stays ∙ turn_rules (shape_of_type c.args.types.now c.args.below c.args.element.0) tree_of _ _ _ c.loop-element.invariant.0)
 
 pub decode_elements_in_order-loop-last-init : goal.decode_elements_in_order-loop-last-init
 decode_elements_in_order-loop-last-init t c = rw c.new-values.ensures.items (([], (refl, refl), (λ strict. tt), refl), tt)
@@ -237,7 +243,7 @@ decode_elements_in_order-returns-in_err-keep-clause-reads t c =
       inl (inr (
         c.in_ok-value.value,
         c.in_ok-value.ensures.reads,
-        elim c.in_err-keep.ensures [
+        elim c.in_err-keep.ensures.kept [
           | inl p ↦ inl (p.0 ∙ at, subst (λ n. IsErrorOf (UnexpectedExtraData n) c.loop-last.decoder e) at (rules_same c.loop-last.decoder _ (UnexpectedExtraData (length c.remaining-start.result.now)) e k p.1))
           | inr q ↦ inr (rules_same c.loop-last.decoder _ OutOfMemory e k q)
         ],
@@ -258,7 +264,7 @@ decode_elements_in_order-returns-then-is_less-clause-reads t c =
         c.octets_before-octets.result.now,
         c.in_ok-value.ensures.reads,
         rw (← c.remaining-start.ensures.value, ← c.remaining.ensures.value) c.octets_before-octets.ensures,
-        (λ e. c.in_ok-keep.ensures.1 (e ∙ sym (ap length c.remaining-start.ensures.value))),
+        (λ e. c.in_ok-keep.ensures.kept.1 (e ∙ sym (ap length c.remaining-start.ensures.value))),
         strict_before c.loop-last.decoder _ k c.if-is_strict.ensures,
         out_of_order c.loop-last.invariant.0.0 c.loop-last.last.now c.octets_before-octets.result.now c.loop-last.invariant.0.3 c.if-is_less.ensures,
         rules_same c.loop-last.decoder _ (Der SetOfOutOfOrder) c.out_of_order.result k c.out_of_order.ensures,
@@ -278,12 +284,21 @@ decode_elements_in_order-loop-last-preserved t c =
         c.loop-last.invariant.0.0 ++ (c.octets_before-octets.result.now ∷ []),
         passes_from (Decodes (shape_of_type c.args.types.now c.args.below c.args.element.0) tree_of) c.loop-last.decoder _ c.in_ok-value.value c.octets_before-octets.result.now
             (rw (← c.remaining-start.ensures.value, ← c.remaining.ensures.value) c.octets_before-octets.ensures) c.loop-last-test.ensures c.in_ok-value.ensures.reads
-            (λ e. c.in_ok-keep.ensures.1 (e ∙ sym (ap length c.remaining-start.ensures.value))) c.args.decoder.now c.loop-last.values.items _ c.loop-last.invariant.0.0 c.in_ok-keep.ensures.0 c.loop-last.invariant.0.1,
+            (λ e. c.in_ok-keep.ensures.kept.1 (e ∙ sym (ap length c.remaining-start.ensures.value))) c.args.decoder.now c.loop-last.values.items _ c.loop-last.invariant.0.0 c.in_ok-keep.ensures.kept.0 c.loop-last.invariant.0.1,
         (λ s. in_order c.loop-last.invariant.0.0 c.loop-last.last.now c.octets_before-octets.result.now (c.loop-last.invariant.0.2 s) c.loop-last.invariant.0.3 (not_less s)),
         ends_more c.loop-last.invariant.0.0 c.octets_before-octets.result.now,
       ),
-      each_more (Fits c.args.types.now c.args.below c.args.element.0) c.loop-last.values.items _ c.in_ok-value.value c.in_ok-keep.ensures.0 c.loop-last.invariant.1 c.in_ok-value.ensures.fits,
+      each_more (Fits c.args.types.now c.args.below c.args.element.0) c.loop-last.values.items _ c.in_ok-value.value c.in_ok-keep.ensures.kept.0 c.loop-last.invariant.1 c.in_ok-value.ensures.fits,
     )
+
+pub decode_elements_in_order-returns-in_err-value-clause-rules : goal.decode_elements_in_order-returns-in_err-value-clause-rules
+decode_elements_in_order-returns-in_err-value-clause-rules t c = rw (residual _ c.from_residual.ensures.1) (c.in_err-value.ensures.rules ∙ same_rules (came_stays (shape_of_type c.args.types.now c.args.below c.args.element.0) tree_of c.args.decoder.now c.loop-last.decoder c.loop-last.values.items c.loop-last.invariant.0.0 c.loop-last.invariant.0.1))
+
+pub decode_elements_in_order-returns-in_err-keep-clause-rules : goal.decode_elements_in_order-returns-in_err-keep-clause-rules
+decode_elements_in_order-returns-in_err-keep-clause-rules t c = rw (residual _ c.from_residual-in_err-keep.ensures.1) (c.in_err-keep.ensures.rules ∙ same_rules c.in_ok-value.ensures.reads.stays ∙ same_rules (came_stays (shape_of_type c.args.types.now c.args.below c.args.element.0) tree_of c.args.decoder.now c.loop-last.decoder c.loop-last.values.items c.loop-last.invariant.0.0 c.loop-last.invariant.0.1))
+
+pub decode_elements_in_order-returns-then-is_less-clause-rules : goal.decode_elements_in_order-returns-then-is_less-clause-rules
+decode_elements_in_order-returns-then-is_less-clause-rules t c = codec_is c.out_of_order.ensures ∙ same_rules c.in_ok-value.ensures.reads.stays ∙ same_rules (came_stays (shape_of_type c.args.types.now c.args.below c.args.element.0) tree_of c.args.decoder.now c.loop-last.decoder c.loop-last.values.items c.loop-last.invariant.0.0 c.loop-last.invariant.0.1)
 
 -- ---- a value that holds others
 
@@ -295,44 +310,75 @@ decode_inside-returns-in_err-inner-clause-exact t c =
 pub decode_inside-returns-in_err-value-clause-exact :
     goal.decode_inside-returns-in_err-value-clause-exact
 decode_inside-returns-in_err-value-clause-exact t c =
-    rw (residual _ c.from_residual-in_err-value.ensures.1) (step_refused _ c.args.header c.args.decoder.now _ _ _ c.in_ok-inner.ensures.exact _ _ c.in_err-value.ensures.reads)
+    rw (residual _ c.from_residual-in_err-value.ensures.1) (step_refused _ c.args.header c.args.decoder.now _ _ _ c.in_ok-inner.ensures.exact _ _ c.in_err-value.ensures.exact)
 
 pub decode_inside-returns-in_err-close-clause-exact :
     goal.decode_inside-returns-in_err-close-clause-exact
 decode_inside-returns-in_err-close-clause-exact t c =
     rw (residual _ c.from_residual-in_err-close.ensures.1)
-    (step_unclosed _ c.args.header c.args.decoder.now _ _ _ c.in_ok-inner.ensures.exact c.in_ok-value.value _ c.in_ok-value.ensures.reads _ c.remaining.ensures.value _ _ c.in_err-close.ensures)
+    (step_unclosed _ c.args.header c.args.decoder.now _ _ _ c.in_ok-inner.ensures.exact c.in_ok-value.value _ c.in_ok-value.ensures.exact _ c.remaining.ensures.value _ _ c.in_err-close.ensures)
+
+pub decode_inside-close-requires : goal.decode_inside-close-requires
+decode_inside-close-requires t c = λ x.
+    step_end (DecodesContents (shape_of_type c.args.types.now c.args.below) c.args.ty.now) c.args.header c.args.decoder.now _ _ _ c.in_ok-inner.ensures.exact _ _
+    (contents_end (shape_of_type c.args.types.now c.args.below) c.args.ty.now _ c.in_ok-value.value _ c.in_ok-value.ensures.exact) c.remaining.ensures.value x
 
 pub decode_inside-returns-clause-exact : goal.decode_inside-returns-clause-exact
 decode_inside-returns-clause-exact t c =
-    step_closed _ c.args.header c.args.decoder.now _ _ _ c.in_ok-inner.ensures.exact c.in_ok-value.value _ c.in_ok-value.ensures.reads _ c.remaining.ensures.value _ c.in_ok-close.ensures
+    step_closed _ c.args.header c.args.decoder.now _ _ _ c.in_ok-inner.ensures.exact c.in_ok-value.value _ c.in_ok-value.ensures.exact _ c.remaining.ensures.value _ c.in_ok-close.ensures
+
+pub decode_inside-returns-in_err-inner-clause-rules : goal.decode_inside-returns-in_err-inner-clause-rules
+decode_inside-returns-in_err-inner-clause-rules t c = rw (residual _ c.from_residual.ensures.1) (codec_is c.in_err-inner.ensures.exact.2)
+
+pub decode_list-returns-in_err-value-clause-exact : goal.decode_list-returns-in_err-value-clause-exact
+decode_list-returns-in_err-value-clause-exact t c = rw (residual _ c.from_residual.ensures.1) (not_sized (DecodesContents (shape_of_type c.args.types.now c.args.below) c.args.ty.now) c.args.tag c.args.constraints.now c.list.result c.list.ensures c.args.decoder.now _ _ c.in_err-value.ensures.exact)
+
+pub decode_list-returns-clause-exact : goal.decode_list-returns-clause-exact
+decode_list-returns-clause-exact t c = sized_inside (DecodesContents (shape_of_type c.args.types.now c.args.below) c.args.ty.now) c.args.tag c.args.constraints.now c.list.result c.list.ensures c.args.decoder.now _ c.in_ok-value.value c.in_ok-value.ensures.exact _ c.sized.ensures.sized
+
+pub decode_list-returns-clause-rules : goal.decode_list-returns-clause-rules
+decode_list-returns-clause-rules t c = subst (λ z. IfErr c.sized.result (λ e. e.codec ≡ z)) (same_rules c.in_ok-value.ensures.exact.0.stays) c.sized.ensures.rules
+
+pub decode_list-returns-clause-fits : goal.decode_list-returns-clause-fits
+decode_list-returns-clause-fits t c = sized_fits (λ v. FitsBy (Fits c.args.types.now c.args.below) c.args.ty.now v) c.args.constraints.now c.decode_inside.new.decoder c.in_ok-value.value _ c.in_ok-value.ensures.fits c.sized.ensures.sized
+
+pub decode_inside-returns-in_err-value-clause-rules : goal.decode_inside-returns-in_err-value-clause-rules
+decode_inside-returns-in_err-value-clause-rules t c = rw (residual _ c.from_residual-in_err-value.ensures.1) (c.in_err-value.ensures.rules ∙ same_rules c.in_ok-inner.ensures.exact.2)
+
+pub decode_inside-returns-in_err-close-clause-rules : goal.decode_inside-returns-in_err-close-clause-rules
+decode_inside-returns-in_err-close-clause-rules t c = rw (residual _ c.from_residual-in_err-close.ensures.1) (codec_is c.in_err-close.ensures.2 ∙ same_rules c.in_ok-inner.ensures.exact.5.stays)
 
 -- ---- a type
 
 pub decode_type-returns-in-Tagged-clause-reads : goal.decode_type-returns-in-Tagged-clause-reads
-decode_type-returns-in-Tagged-clause-reads t c =
-    inside_decodes c.args.decoder.now c.decode_inside.ensures.octets _ _ (type_by (shape_of_type c.args.types.now c.args.below) c.args.ty.now) c.prefix.result
-    (subst (λ n. IsHeaderOf (type_by (shape_of_type c.args.types.now c.args.below) n) c.prefix.result) (sym c.in-Tagged.is) c.prefix.ensures) c.decode_inside.ensures.exact
+decode_type-returns-in-Tagged-clause-reads t c = type_decodes (shape_of_type c.args.types.now c.args.below) c.args.decoder.now c.decode_inside.ensures.octets _ _ c.args.ty.now (by_prefix (shape_of_type c.args.types.now c.args.below) c.args.ty.now c.args.decoder.now _ _ c.in-Tagged.tag c.in-Tagged.inner c.prefix.result c.in-Tagged.is c.prefix.ensures c.decode_inside.ensures.exact)
+
+pub decode_type-returns-in-Tagged-clause-exact : goal.decode_type-returns-in-Tagged-clause-exact
+decode_type-returns-in-Tagged-clause-exact t c = by_prefix (shape_of_type c.args.types.now c.args.below) c.args.ty.now c.args.decoder.now _ _ c.in-Tagged.tag c.in-Tagged.inner c.prefix.result c.in-Tagged.is c.prefix.ensures c.decode_inside.ensures.exact
 
 pub decode_type-returns-in-Sequence-clause-reads : goal.decode_type-returns-in-Sequence-clause-reads
-decode_type-returns-in-Sequence-clause-reads t c =
-    inside_decodes c.args.decoder.now c.decode_inside-in-Sequence.ensures.octets _ _ (type_by (shape_of_type c.args.types.now c.args.below) c.args.ty.now) c.sequence.result
-    (subst (λ n. IsHeaderOf (type_by (shape_of_type c.args.types.now c.args.below) n) c.sequence.result) (sym c.in-Sequence.is) c.sequence.ensures) c.decode_inside-in-Sequence.ensures.exact
+decode_type-returns-in-Sequence-clause-reads t c = type_decodes (shape_of_type c.args.types.now c.args.below) c.args.decoder.now c.decode_inside-in-Sequence.ensures.octets _ _ c.args.ty.now (by_sequence (shape_of_type c.args.types.now c.args.below) c.args.ty.now c.args.decoder.now _ _ c.in-Sequence.tag c.in-Sequence.components c.sequence.result c.in-Sequence.is c.sequence.ensures c.decode_inside-in-Sequence.ensures.exact)
+
+pub decode_type-returns-in-Sequence-clause-exact : goal.decode_type-returns-in-Sequence-clause-exact
+decode_type-returns-in-Sequence-clause-exact t c = by_sequence (shape_of_type c.args.types.now c.args.below) c.args.ty.now c.args.decoder.now _ _ c.in-Sequence.tag c.in-Sequence.components c.sequence.result c.in-Sequence.is c.sequence.ensures c.decode_inside-in-Sequence.ensures.exact
 
 pub decode_type-returns-in-Set-clause-reads : goal.decode_type-returns-in-Set-clause-reads
-decode_type-returns-in-Set-clause-reads t c =
-    inside_decodes c.args.decoder.now c.decode_inside-in-Set.ensures.octets _ _ (type_by (shape_of_type c.args.types.now c.args.below) c.args.ty.now) c.sequence-in-Set.result
-    (subst (λ n. IsHeaderOf (type_by (shape_of_type c.args.types.now c.args.below) n) c.sequence-in-Set.result) (sym c.in-Set.is) c.sequence-in-Set.ensures) c.decode_inside-in-Set.ensures.exact
+decode_type-returns-in-Set-clause-reads t c = type_decodes (shape_of_type c.args.types.now c.args.below) c.args.decoder.now c.decode_inside-in-Set.ensures.octets _ _ c.args.ty.now (by_set (shape_of_type c.args.types.now c.args.below) c.args.ty.now c.args.decoder.now _ _ c.in-Set.name c.in-Set.tag c.in-Set.components c.sequence-in-Set.result c.in-Set.is c.sequence-in-Set.ensures c.decode_inside-in-Set.ensures.exact)
+
+pub decode_type-returns-in-Set-clause-exact : goal.decode_type-returns-in-Set-clause-exact
+decode_type-returns-in-Set-clause-exact t c = by_set (shape_of_type c.args.types.now c.args.below) c.args.ty.now c.args.decoder.now _ _ c.in-Set.name c.in-Set.tag c.in-Set.components c.sequence-in-Set.result c.in-Set.is c.sequence-in-Set.ensures c.decode_inside-in-Set.ensures.exact
 
 pub decode_type-returns-in-SequenceOf-clause-reads : goal.decode_type-returns-in-SequenceOf-clause-reads
-decode_type-returns-in-SequenceOf-clause-reads t c =
-    inside_decodes c.args.decoder.now c.decode_inside-in-SequenceOf.ensures.octets _ _ (type_by (shape_of_type c.args.types.now c.args.below) c.args.ty.now) c.list.result
-    (subst (λ n. IsHeaderOf (type_by (shape_of_type c.args.types.now c.args.below) n) c.list.result) (sym c.in-SequenceOf.is) c.list.ensures) c.decode_inside-in-SequenceOf.ensures.exact
+decode_type-returns-in-SequenceOf-clause-reads t c = type_decodes (shape_of_type c.args.types.now c.args.below) c.args.decoder.now c.decode_list.ensures.octets _ _ c.args.ty.now (by_list (shape_of_type c.args.types.now c.args.below) c.args.ty.now c.args.decoder.now _ _ c.in-SequenceOf.tag c.in-SequenceOf.element c.in-SequenceOf.constraints c.in-SequenceOf.is c.decode_list.ensures.exact)
+
+pub decode_type-returns-in-SequenceOf-clause-exact : goal.decode_type-returns-in-SequenceOf-clause-exact
+decode_type-returns-in-SequenceOf-clause-exact t c = by_list (shape_of_type c.args.types.now c.args.below) c.args.ty.now c.args.decoder.now _ _ c.in-SequenceOf.tag c.in-SequenceOf.element c.in-SequenceOf.constraints c.in-SequenceOf.is c.decode_list.ensures.exact
 
 pub decode_type-returns-in-SetOf-clause-reads : goal.decode_type-returns-in-SetOf-clause-reads
-decode_type-returns-in-SetOf-clause-reads t c =
-    inside_decodes c.args.decoder.now c.decode_inside-in-SetOf.ensures.octets _ _ (type_by (shape_of_type c.args.types.now c.args.below) c.args.ty.now) c.list-in-SetOf.result
-    (subst (λ n. IsHeaderOf (type_by (shape_of_type c.args.types.now c.args.below) n) c.list-in-SetOf.result) (sym c.in-SetOf.is) c.list-in-SetOf.ensures) c.decode_inside-in-SetOf.ensures.exact
+decode_type-returns-in-SetOf-clause-reads t c = type_decodes (shape_of_type c.args.types.now c.args.below) c.args.decoder.now c.decode_list-in-SetOf.ensures.octets _ _ c.args.ty.now (by_set_of (shape_of_type c.args.types.now c.args.below) c.args.ty.now c.args.decoder.now _ _ c.in-SetOf.tag c.in-SetOf.element c.in-SetOf.constraints c.in-SetOf.is c.decode_list-in-SetOf.ensures.exact)
+
+pub decode_type-returns-in-SetOf-clause-exact : goal.decode_type-returns-in-SetOf-clause-exact
+decode_type-returns-in-SetOf-clause-exact t c = by_set_of (shape_of_type c.args.types.now c.args.below) c.args.ty.now c.args.decoder.now _ _ c.in-SetOf.tag c.in-SetOf.element c.in-SetOf.constraints c.in-SetOf.is c.decode_list-in-SetOf.ensures.exact
 
 -- ---- components
 
@@ -353,13 +399,28 @@ pub decode_component-missing-requires : goal.decode_component-missing-requires
 decode_component-missing-requires t c = not_required c.args.component.now.presence c.if-is_always_there.ensures
 
 pub decode_component-returns-in-Ok-false-clause-reads : goal.decode_component-returns-in-Ok-false-clause-reads
-decode_component-returns-in-Ok-false-clause-reads t c = made ((shape_of_type c.args.types.now c.args.below) c.args.component.now.type_id.0) c.tag_at.result (rw c.tag_at.ensures (own_is _ _ _ c.requires)) _ (presence_of c.args.component.now.presence) c.if-is_always_there.ensures (let w = c.in-Ok-false.field-0-test in let h : c.in-Ok-false.field-0 ≡ false = cc in subst (λ b. NextTagIs c.tag_at.result c.args.decoder.now (Ok b)) h c.in-Ok-false.ensures) _ c.missing.ensures.ok c.missing.ensures.err
+decode_component-returns-in-Ok-false-clause-reads t c = made ((shape_of_type c.args.types.now c.args.below) c.args.component.now.type_id.0) c.tag_at.result (rw c.tag_at.ensures (own_is _ _ _ c.requires)) _ (presence_of c.args.component.now.presence) c.if-is_always_there.ensures (let w = c.in-Ok-false.field-0-test in let h : c.in-Ok-false.field-0 ≡ false = cc in subst (λ b. NextTagIs c.tag_at.result c.args.decoder.now (Ok b)) h c.in-Ok-false.ensures) _ c.missing.ensures.made
 
 pub decode_component-returns-in-Ok-false-clause-fits : goal.decode_component-returns-in-Ok-false-clause-fits
-decode_component-returns-in-Ok-false-clause-fits t c = if_ok _ _ _ (λ v m. missing_fits (Fits c.args.types.now c.args.below) c.args.component.now v m) c.missing.ensures.ok
+decode_component-returns-in-Ok-false-clause-fits t c = made_fits (Fits c.args.types.now c.args.below) c.args.component.now c.args.decoder.now _ c.missing.ensures.made
 
 pub decode_component-returns-in-Err-clause-reads : goal.decode_component-returns-in-Err-clause-reads
 decode_component-returns-in-Err-clause-reads t c = unread ((shape_of_type c.args.types.now c.args.below) c.args.component.now.type_id.0) c.tag_at.result (rw c.tag_at.ensures (own_is _ _ _ c.requires)) _ (presence_of c.args.component.now.presence) c.if-is_always_there.ensures c.in-Err.error c.in-Err.ensures
+
+pub decode_component-returns-then-is_always_there-clause-fails : goal.decode_component-returns-then-is_always_there-clause-fails
+decode_component-returns-then-is_always_there-clause-fails t c = always_fails ((shape_of_type c.args.types.now c.args.below) c.args.component.now.type_id.0) (tag_at c.args.types.now c.args.component.now.type_id.0) (own_is _ _ _ c.requires) _ (presence_of c.args.component.now.presence) c.if-is_always_there.ensures _ _ c.decode_present.ensures.reads
+
+pub decode_component-returns-in-Ok-true-clause-fails : goal.decode_component-returns-in-Ok-true-clause-fails
+decode_component-returns-in-Ok-true-clause-fails t c = looked_fails ((shape_of_type c.args.types.now c.args.below) c.args.component.now.type_id.0) c.tag_at.result (rw c.tag_at.ensures (own_is _ _ _ c.requires)) _ (presence_of c.args.component.now.presence) c.if-is_always_there.ensures (let w = c.in-Ok-true.field-0-test in let h : c.in-Ok-true.field-0 ≡ true = cc in subst (λ b. NextTagIs c.tag_at.result c.args.decoder.now (Ok b)) h c.in-Ok-true.ensures) _ _ c.decode_present-in-Ok-true.ensures.reads
+
+pub decode_component-returns-in-Ok-false-clause-fails : goal.decode_component-returns-in-Ok-false-clause-fails
+decode_component-returns-in-Ok-false-clause-fails t c = made_fails ((shape_of_type c.args.types.now c.args.below) c.args.component.now.type_id.0) c.tag_at.result (rw c.tag_at.ensures (own_is _ _ _ c.requires)) _ (presence_of c.args.component.now.presence) c.if-is_always_there.ensures (let w = c.in-Ok-false.field-0-test in let h : c.in-Ok-false.field-0 ≡ false = cc in subst (λ b. NextTagIs c.tag_at.result c.args.decoder.now (Ok b)) h c.in-Ok-false.ensures) _ c.missing.ensures.made
+
+pub decode_component-returns-in-Err-clause-fails : goal.decode_component-returns-in-Err-clause-fails
+decode_component-returns-in-Err-clause-fails t c = unread_fails ((shape_of_type c.args.types.now c.args.below) c.args.component.now.type_id.0) c.tag_at.result (rw c.tag_at.ensures (own_is _ _ _ c.requires)) _ (presence_of c.args.component.now.presence) c.if-is_always_there.ensures c.in-Err.error c.in-Err.ensures
+
+pub decode_component-returns-in-Err-clause-rules : goal.decode_component-returns-in-Err-clause-rules
+decode_component-returns-in-Err-clause-rules t c = look_rules c.tag_at.result c.args.decoder.now _ c.in-Err.ensures
 
 pub decode_present-returns-in_default-clause-reads : goal.decode_present-returns-in_default-clause-reads
 decode_present-returns-in_default-clause-reads t c = plain ((shape_of_type c.args.types.now c.args.below) c.args.component.now.type_id.0) c.args.component.now.presence _ _ c.in_default.not-Default _ c.decode_at.ensures.reads
@@ -373,6 +434,9 @@ decode_present-returns-then-not-is_strict-clause-reads t c = kept ((shape_of_typ
 pub decode_present-returns-then-means_same-clause-reads : goal.decode_present-returns-then-means_same-clause-reads
 decode_present-returns-then-means_same-clause-reads t c =
     default_is_written ((shape_of_type c.args.types.now c.args.below) c.args.component.now.type_id.0) c.args.component.now.presence c.in-Default.default c.in-Default.is _ _ c.in_ok-value.value c.in_ok-value.ensures.reads c.if-not-is_strict.ensures (c.means_same.ensures.same c.if-means_same.true) c.default_present.result c.default_present.ensures
+
+pub decode_present-returns-then-means_same-clause-rules : goal.decode_present-returns-then-means_same-clause-rules
+decode_present-returns-then-means_same-clause-rules t c = codec_is c.default_present.ensures ∙ same_rules c.in_ok-value.ensures.reads.stays
 
 pub decode_present-returns-clause-reads : goal.decode_present-returns-clause-reads
 decode_present-returns-clause-reads t c =
@@ -388,11 +452,11 @@ decode_sequence-gather-requires t c = ap length c.in_ok-found.ensures.ok ∙ as_
 
 pub decode_sequence-returns-then-leaves_all_out-clause-reads : goal.decode_sequence-returns-then-leaves_all_out-clause-reads
 decode_sequence-returns-then-leaves_all_out-clause-reads t c =
-    all_left (shape_of_type c.args.types.now c.args.below) c.args.components.now c.args.decoder.now c.if-leaves_all_out.ensures _ c.in_ok-found.found.items c.in_ok-found.ensures.ok _ c.gather.ensures
+    all_left (shape_of_type c.args.types.now c.args.below) c.args.components.now c.args.decoder.now c.if-leaves_all_out.ensures _ c.in_ok-found.found.items c.in_ok-found.ensures.ok _ c.gather.ensures.gathers
 
 pub decode_sequence-returns-then-leaves_all_out-clause-fits : goal.decode_sequence-returns-then-leaves_all_out-clause-fits
 decode_sequence-returns-then-leaves_all_out-clause-fits t c =
-    gathered_fit (Fits c.args.types.now c.args.below) c.args.components.now _ c.in_ok-found.found.items _ (nones_fit (Fits c.args.types.now c.args.below) c.args.components.now c.in_ok-found.found.items c.in_ok-found.ensures.ok) c.gather.ensures
+    gathered_fit (Fits c.args.types.now c.args.below) c.args.components.now _ c.in_ok-found.found.items _ (nones_fit (Fits c.args.types.now c.args.below) c.args.components.now c.in_ok-found.found.items c.in_ok-found.ensures.ok) c.gather.ensures.gathers
 
 pub decode_sequence-returns-in_default-clause-reads : goal.decode_sequence-returns-in_default-clause-reads
 decode_sequence-returns-in_default-clause-reads t c = sequence_runs_out _ _ c.out_of_memory.result c.out_of_memory.ensures.kind
@@ -429,12 +493,33 @@ decode_sequence-returns-clause-reads t c =
 pub decode_sequence-returns-clause-fits : goal.decode_sequence-returns-clause-fits
 decode_sequence-returns-clause-fits t c = fit_end (Fits c.args.types.now c.args.below) _ _ _ c.loop-rest.invariant.2 (nothing_left _ c.in_default-rest.len_below)
 
+pub decode_sequence-returns-in_err-found-clause-fails : goal.decode_sequence-returns-in_err-found-clause-fails
+decode_sequence-returns-in_err-found-clause-fails t c = rw (residual _ c.from_residual.ensures.1) (inr c.in_err-found.ensures.err)
+
+pub decode_sequence-returns-then-leaves_all_out-clause-fails : goal.decode_sequence-returns-then-leaves_all_out-clause-fails
+decode_sequence-returns-then-leaves_all_out-clause-fails t c = all_left_fails (shape_of_type c.args.types.now c.args.below) c.args.components.now c.args.decoder.now c.if-leaves_all_out.ensures _ c.in_ok-found.found.items c.in_ok-found.ensures.ok _ _ c.gather.ensures.gathers
+
+pub decode_sequence-returns-in_default-clause-fails : goal.decode_sequence-returns-in_default-clause-fails
+decode_sequence-returns-in_default-clause-fails t c = inr c.out_of_memory.ensures.kind
+
+pub decode_sequence-returns-in_err-value-clause-fails : goal.decode_sequence-returns-in_err-value-clause-fails
+decode_sequence-returns-in_err-value-clause-fails t c = rw (residual _ c.from_residual-in_err-value.ensures.1) (inl (part_fails_at _ _ _ (presence_of c.component-item.result.presence) ((shape_of_type c.args.types.now c.args.below) c.component-item.result.type_id.0) _ _ _ c.loop-rest.invariant.0 (ap (components_by (shape_of_type c.args.types.now c.args.below)) (split c.loop-rest.rest.now _ c.in-len1-up.len_at_least c.component-item.is)) _ _ c.in_err-value.ensures.fails))
+
+pub decode_sequence-returns-in_err-push-clause-fails : goal.decode_sequence-returns-in_err-push-clause-fails
+decode_sequence-returns-in_err-push-clause-fails t c = rw (residual _ c.from_residual-in_err-push.ensures.1) (inr c.in_err-push.ensures.kind)
+
+pub decode_sequence-returns-in_err-value-clause-rules : goal.decode_sequence-returns-in_err-value-clause-rules
+decode_sequence-returns-in_err-value-clause-rules t c = rw (residual _ c.from_residual-in_err-value.ensures.1) (c.in_err-value.ensures.rules ∙ same_rules c.loop-rest.invariant.0.keeps.stays)
+
+pub decode_sequence-returns-in_err-push-clause-rules : goal.decode_sequence-returns-in_err-push-clause-rules
+decode_sequence-returns-in_err-push-clause-rules t c = rw (residual _ c.from_residual-in_err-push.ensures.1) (c.in_err-push.ensures.rules ∙ same_rules c.in_ok-value.ensures.reads.stays ∙ same_rules c.loop-rest.invariant.0.keeps.stays)
+
 -- ---- the components of a SET
 
 pub decode_set-loop-last-init : goal.decode_set-loop-last-init
 decode_set-loop-last-init t c = (
-  none_read (components_by (shape_of_type c.args.types.now c.args.below) c.args.components.now) (names_of c.args.components.now) _ _ (nones_come (shape_of_type c.args.types.now c.args.below) c.args.components.now _ c.requires.none),
-  nones_fit (Fits c.args.types.now c.args.below) c.args.components.now _ c.requires.none,
+  none_read (components_by (shape_of_type c.args.types.now c.args.below) c.args.components.now) (names_of c.args.components.now) _ _ (nones_come (shape_of_type c.args.types.now c.args.below) c.args.components.now _ c.requires.1.1.1),
+  nones_fit (Fits c.args.types.now c.args.below) c.args.components.now _ c.requires.1.1.1,
 )
 
 pub decode_set-returns-in_err-last-clause-exact : goal.decode_set-returns-in_err-last-clause-exact
@@ -460,10 +545,10 @@ decode_set-returns-in-Some-clause-exact t c =
     let at = c.loop-last in
     let ps = components_by (shape_of_type c.args.types.now c.args.below) c.args.components.now in
     let names = names_of c.args.components.now in
-    let h : at.twice ≡ Some c.in-Some.name = search rules in
-    one_twice ps names values_tree c.args.decoder.now at.decoder at.last (held at.found.items) c.loop-last-test.ensures c.in-Some.name
+    let h : at.twice ≡ Some c.in-Some.repeated = search rules in
+    one_twice ps names values_tree c.args.decoder.now at.decoder at.last (held at.found.items) c.loop-last-test.ensures c.in-Some.repeated
     (subst (λ z. ReadTo ps names c.args.decoder.now at.decoder at.last z (held at.found.items)) h at.invariant.0) _
-    (subst (λ z. IsNamedError (IsDuplicateField (text c.in-Some.name)) z c.duplicate_field.result) c.codec.ensures c.duplicate_field.ensures)
+    (subst (λ z. IsNamedError (IsDuplicateField (text c.in-Some.repeated)) z c.duplicate_field.result) c.codec.ensures c.duplicate_field.ensures)
 
 pub decode_set-gather-requires : goal.decode_set-gather-requires
 decode_set-gather-requires t c = found_length (Fits c.args.types.now c.args.below) c.args.components.now _ c.loop-last.invariant.1
@@ -475,10 +560,22 @@ decode_set-returns-clause-exact t c =
     let names = names_of c.args.components.now in
     let h : at.twice ≡ None = search rules in
     all_once ps names values_tree c.args.decoder.now at.decoder at.last (held at.found.items) c.loop-last-test.ensures
-    (subst (λ z. ReadTo ps names c.args.decoder.now at.decoder at.last z (held at.found.items)) h at.invariant.0) _ (makes_parts (shape_of_type c.args.types.now c.args.below) c.args.components.now _ at.found.items _ c.gather.ensures)
+    (subst (λ z. ReadTo ps names c.args.decoder.now at.decoder at.last z (held at.found.items)) h at.invariant.0) _ (makes_parts (shape_of_type c.args.types.now c.args.below) c.args.components.now _ at.found.items _ c.gather.ensures.gathers)
 
 pub decode_set-returns-clause-fits : goal.decode_set-returns-clause-fits
-decode_set-returns-clause-fits t c = gathered_fit (Fits c.args.types.now c.args.below) c.args.components.now _ c.loop-last.found.items _ c.loop-last.invariant.1 c.gather.ensures
+decode_set-returns-clause-fits t c = gathered_fit (Fits c.args.types.now c.args.below) c.args.components.now _ c.loop-last.found.items _ c.loop-last.invariant.1 c.gather.ensures.gathers
+
+pub decode_set-returns-in_err-last-clause-rules : goal.decode_set-returns-in_err-last-clause-rules
+decode_set-returns-in_err-last-clause-rules t c = rw (residual _ c.from_residual.ensures.1) (order_rules _ c.loop-last.decoder _ c.in_err-last.ensures ∙ read_rules (components_by (shape_of_type c.args.types.now c.args.below) c.args.components.now) _ _ _ _ _ _ c.loop-last.invariant.0)
+
+pub decode_set-returns-in_err-next-clause-rules : goal.decode_set-returns-in_err-next-clause-rules
+decode_set-returns-in_err-next-clause-rules t c = rw (residual _ c.from_residual-in_err-next.ensures.1) (c.in_err-next.ensures.rules ∙ read_rules (components_by (shape_of_type c.args.types.now c.args.below) c.args.components.now) _ _ _ _ _ _ c.loop-last.invariant.0)
+
+pub decode_set-returns-in-Some-clause-rules : goal.decode_set-returns-in-Some-clause-rules
+decode_set-returns-in-Some-clause-rules t c = c.duplicate_field.ensures.0 ∙ c.codec.ensures ∙ read_rules (components_by (shape_of_type c.args.types.now c.args.below) c.args.components.now) _ _ _ _ _ _ c.loop-last.invariant.0
+
+pub decode_set-returns-clause-rules : goal.decode_set-returns-clause-rules
+decode_set-returns-clause-rules t c = subst (λ z. IfErr c.gather.result (λ e. e.codec ≡ z)) (read_rules (components_by (shape_of_type c.args.types.now c.args.below) c.args.components.now) _ _ _ _ _ _ c.loop-last.invariant.0) c.gather.ensures.rules
 
 -- ---- one of them
 
@@ -491,27 +588,48 @@ decode_set_component-returns-in_default-clause-next t c =
     next_unknown (components_by (shape_of_type c.args.types.now c.args.below) c.args.components.now) (names_of c.args.components.now) (held c.args.found.now.items) (held c.args.found.now.items) _ c.in_ok-tag.tag c.in_ok-tag.ensures.next c.in_default.ensures c.no_valid_choice.result
 
 pub decode_set_component-decode_present-requires : goal.decode_set_component-decode_present-requires
-decode_set_component-decode_present-requires t c = (search rules, part_lawful (shape_of_type c.args.types.now c.args.below) c.args.components.now c.in-Some.number c.in-Some.component.now c.requires.lawful c.in-Some.ensures.0)
+decode_set_component-decode_present-requires t c = (search rules, part_lawful (shape_of_type c.args.types.now c.args.below) c.args.components.now c.in-Some.number c.in-Some.component.now c.requires.1.1.0 c.in-Some.ensures.0)
 
 pub decode_set_component-returns-in_err-value-clause-next : goal.decode_set_component-returns-in_err-value-clause-next
 decode_set_component-returns-in_err-value-clause-next t c =
     rw (residual _ c.from_residual-in_err-value.ensures.1)
-    (next_unread (shape_of_type c.args.types.now c.args.below) c.args.components.now c.in-Some.number c.in-Some.component.now c.in_ok-tag.tag c.requires.lawful c.in-Some.ensures _ _ c.in_ok-tag.ensures.next c.in_err-value.field-0.0 (held c.args.found.now.items) (held c.args.found.now.items) c.in_err-value.ensures.reads)
+    (next_unread (shape_of_type c.args.types.now c.args.below) c.args.components.now c.in-Some.number c.in-Some.component.now c.in_ok-tag.tag c.requires.1.1.0 c.in-Some.ensures _ _ c.in_ok-tag.ensures.next c.in_err-value.field-0.0 (held c.args.found.now.items) (held c.args.found.now.items) c.in_err-value.ensures.reads)
 
 pub decode_set_component-returns-then-remaining-left-clause-next : goal.decode_set_component-returns-then-remaining-left-clause-next
 decode_set_component-returns-then-remaining-left-clause-next t c =
-    next_idle (shape_of_type c.args.types.now c.args.below) c.args.components.now c.in-Some.number c.in-Some.component.now c.in_ok-tag.tag c.requires.lawful c.in-Some.ensures _ _ c.in_ok-tag.ensures.next c.in_ok-value.value c.in_ok-value.ensures.reads
+    next_idle (shape_of_type c.args.types.now c.args.below) c.args.components.now c.in-Some.number c.in-Some.component.now c.in_ok-tag.tag c.requires.1.1.0 c.in-Some.ensures _ _ c.in_ok-tag.ensures.next c.in_ok-value.value c.in_ok-value.ensures.reads
     (held c.args.found.now.items) (held c.args.found.now.items) _ (ap length c.remaining-left.ensures.value) (sym (ap length c.remaining.ensures.value) ∙ c.if-remaining-left.true) c.extra.result c.extra.ensures
 
 pub decode_set_component-put-requires : goal.decode_set_component-put-requires
-decode_set_component-put-requires t c = rw (found_length (Fits c.args.types.now c.args.below) c.args.components.now _ c.requires.found) (got_below c.args.components.now c.in-Some.number c.in-Some.component.now c.in-Some.ensures.0)
+decode_set_component-put-requires t c = rw (found_length (Fits c.args.types.now c.args.below) c.args.components.now _ c.requires.1.1.1) (got_below c.args.components.now c.in-Some.number c.in-Some.component.now c.in-Some.ensures.0)
 
 pub decode_set_component-returns-clause-next : goal.decode_set_component-returns-clause-next
 decode_set_component-returns-clause-next t c =
-    next_put (shape_of_type c.args.types.now c.args.below) c.args.components.now c.in-Some.number c.in-Some.component.now c.in_ok-tag.tag c.requires.lawful c.in-Some.ensures _ _ c.in_ok-tag.ensures.next c.in_ok-value.value c.in_ok-value.ensures.reads
-    c.args.found.now.items (rw (found_length (Fits c.args.types.now c.args.below) c.args.components.now _ c.requires.found) (got_below c.args.components.now c.in-Some.number c.in-Some.component.now c.in-Some.ensures.0)) _ (ap length c.remaining-left.ensures.value)
+    next_put (shape_of_type c.args.types.now c.args.below) c.args.components.now c.in-Some.number c.in-Some.component.now c.in_ok-tag.tag c.requires.1.1.0 c.in-Some.ensures _ _ c.in_ok-tag.ensures.next c.in_ok-value.value c.in_ok-value.ensures.reads
+    c.args.found.now.items (rw (found_length (Fits c.args.types.now c.args.below) c.args.components.now _ c.requires.1.1.1) (got_below c.args.components.now c.in-Some.number c.in-Some.component.now c.in-Some.ensures.0)) _ (ap length c.remaining-left.ensures.value)
     (λ e. c.if-remaining-left.false (ap length c.remaining.ensures.value ∙ e)) _ _ (rw (← c.as_str.ensures.value) c.put.ensures)
 
 pub decode_set_component-returns-clause-found : goal.decode_set_component-returns-clause-found
 decode_set_component-returns-clause-found t c =
-    put_fits (Fits c.args.types.now c.args.below) c.args.components.now c.args.found.now.items _ c.in-Some.number c.in-Some.component.now c.in_ok-value.value _ _ c.requires.found c.in-Some.ensures.0 c.in_ok-value.ensures.fits c.put.ensures
+    put_fits (Fits c.args.types.now c.args.below) c.args.components.now c.args.found.now.items _ c.in-Some.number c.in-Some.component.now c.in_ok-value.value _ _ c.requires.1.1.1 c.in-Some.ensures.0 c.in_ok-value.ensures.fits c.put.ensures
+
+pub decode_set_component-returns-in_err-tag-clause-rules : goal.decode_set_component-returns-in_err-tag-clause-rules
+decode_set_component-returns-in_err-tag-clause-rules t c = rw (residual _ c.from_residual.ensures.1) (peek_rules c.args.decoder.now _ c.in_err-tag.ensures.exact)
+
+pub decode_set_component-returns-in_err-tag-clause-unknown : goal.decode_set_component-returns-in_err-tag-clause-unknown
+decode_set_component-returns-in_err-tag-clause-unknown t c = rw (residual _ c.from_residual.ensures.1) (λ tag n others. absurd (c.in_err-tag.ensures.next tag n))
+
+pub decode_set_component-returns-in_default-clause-rules : goal.decode_set_component-returns-in_default-clause-rules
+decode_set_component-returns-in_default-clause-rules t c = c.no_valid_choice.ensures.0 ∙ c.codec.ensures
+
+pub decode_set_component-returns-in_default-clause-unknown : goal.decode_set_component-returns-in_default-clause-unknown
+decode_set_component-returns-in_default-clause-unknown t c = λ tag n others. (rw (← c.codec.ensures) c.no_valid_choice.ensures, refl)
+
+pub decode_set_component-returns-in_err-value-clause-unknown : goal.decode_set_component-returns-in_err-value-clause-unknown
+decode_set_component-returns-in_err-value-clause-unknown t c = rw (residual _ c.from_residual-in_err-value.ensures.1) (λ tag n others. absurd (others (subst (IsFirstOf (components_by (shape_of_type c.args.types.now c.args.below) c.args.components.now)) (next_one c.args.decoder.now.rest c.in_ok-tag.tag tag c.in_ok-tag.ensures.next n) (first_of_part (shape_of_type c.args.types.now c.args.below) c.in_ok-tag.tag c.args.components.now c.in-Some.number c.in-Some.component.now c.in-Some.ensures.0 c.in-Some.ensures.1))))
+
+pub decode_set_component-returns-then-remaining-left-clause-unknown : goal.decode_set_component-returns-then-remaining-left-clause-unknown
+decode_set_component-returns-then-remaining-left-clause-unknown t c = λ tag n others. absurd (others (subst (IsFirstOf (components_by (shape_of_type c.args.types.now c.args.below) c.args.components.now)) (next_one c.args.decoder.now.rest c.in_ok-tag.tag tag c.in_ok-tag.ensures.next n) (first_of_part (shape_of_type c.args.types.now c.args.below) c.in_ok-tag.tag c.args.components.now c.in-Some.number c.in-Some.component.now c.in-Some.ensures.0 c.in-Some.ensures.1)))
+
+pub decode_set_component-returns-then-remaining-left-clause-rules : goal.decode_set_component-returns-then-remaining-left-clause-rules
+decode_set_component-returns-then-remaining-left-clause-rules t c = codec_is c.extra.ensures ∙ same_rules c.in_ok-value.ensures.reads.0.stays

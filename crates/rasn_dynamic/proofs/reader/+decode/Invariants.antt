@@ -15,40 +15,43 @@ use Rattle.rasn_dynamic.proofs.FitsRead.{FitSoFar}
 use Rattle.rasn_dynamic.proofs.reader.+decode.Given as goal
 
 abbrev pub decreases-decode_at : goal.decreases-decode_at
-decreases-decode_at l = 8 * l.levels
+decreases-decode_at l = 9 * l.levels
 
 abbrev pub decreases-decode_type : goal.decreases-decode_type
-decreases-decode_type l = 8 * l.below + 7
+decreases-decode_type l = 9 * l.below + 8
+
+abbrev pub decreases-decode_list : goal.decreases-decode_list
+decreases-decode_list l = 9 * l.below + 7
 
 abbrev pub decreases-decode_choice : goal.decreases-decode_choice
-decreases-decode_choice l = 8 * l.below + 6
+decreases-decode_choice l = 9 * l.below + 6
 
 abbrev pub decreases-decode_inside : goal.decreases-decode_inside
-decreases-decode_inside l = 8 * l.below + 6
+decreases-decode_inside l = 9 * l.below + 6
 
 abbrev pub decreases-decode_contents : goal.decreases-decode_contents
-decreases-decode_contents l = 8 * l.below + 5
+decreases-decode_contents l = 9 * l.below + 5
 
 abbrev pub decreases-decode_sequence : goal.decreases-decode_sequence
-decreases-decode_sequence l = 8 * l.below + 4
+decreases-decode_sequence l = 9 * l.below + 4
 
 abbrev pub decreases-decode_elements : goal.decreases-decode_elements
-decreases-decode_elements l = 8 * l.below + 3
+decreases-decode_elements l = 9 * l.below + 3
 
 abbrev pub decreases-decode_elements_in_order : goal.decreases-decode_elements_in_order
-decreases-decode_elements_in_order l = 8 * l.below + 3
+decreases-decode_elements_in_order l = 9 * l.below + 3
 
 abbrev pub decreases-decode_component : goal.decreases-decode_component
-decreases-decode_component l = 8 * l.below + 2
+decreases-decode_component l = 9 * l.below + 2
 
 abbrev pub decreases-decode_present : goal.decreases-decode_present
-decreases-decode_present l = 8 * l.below + 1
+decreases-decode_present l = 9 * l.below + 1
 
 abbrev pub decreases-decode_set : goal.decreases-decode_set
-decreases-decode_set l = 8 * l.below + 4
+decreases-decode_set l = 9 * l.below + 4
 
 abbrev pub decreases-decode_set_component : goal.decreases-decode_set_component
-decreases-decode_set_component l = 8 * l.below + 3
+decreases-decode_set_component l = 9 * l.below + 3
 
 abbrev pub invariant-decode_elements-loop-element : goal.invariant-decode_elements-loop-element
 invariant-decode_elements-loop-element l = DecodesInTurn (Decodes (shape_of_type l.types l.below l.element.0) tree_of) l.fn.decoder l.values.items l.decoder × EachFits (Fits l.types l.below l.element.0) l.values.items

@@ -1,4 +1,4 @@
-use Rattle.std.proofs.Common.{◌≡◌, ◌-◌, suc, [], ◌∷◌, refl, sym, ap, subst, ◌∙◌, append-nil, arith}
+use Rattle.std.proofs.Common.{◌-◌, [], ◌∷◌, sym, subst, append-nil, arith}
 use Rattle.std.proofs.lemmas.Result.{on_ok_weaker}
 use Rattle.rasn_dynamic.specs.Fitting.{Fits, FitsBy, IsUnfitAt}
 use Rattle.rasn_dynamic.proofs.UnfitParts.{unfit_zero, unfit_none, type_unfit, path_of_type, path_ends, path_goes_on, longer}

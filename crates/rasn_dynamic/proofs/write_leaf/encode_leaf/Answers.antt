@@ -1,64 +1,87 @@
-use Rattle.std.proofs.Common.{◌≡◌, refl, sym, inl, inr, chars, length, subst}
+use Rattle.std.proofs.Common.{◌≡◌, ◌∙◌, true≢false, refl, sym, inl, inr, chars, subst}
 use Rattle.rasn_types.specs.Shapes.{utf8}
 use Rattle.rasn_enc.proofs.Leaves.CharacterString.{text_refused}
 use Rattle.rasn_schema.specs.declared.types.LeafKind.TheVariants.{Boolean, Null, BitString, Bmp, ObjectIdentifier, Date, Utf8, UtcTime, GeneralizedTime}
+use Rattle.rasn_schema.specs.declared.value.Value.{Instant}
 use Rattle.rasn_dynamic.specs.Fitting.{FitsLeaf}
+use Rattle.rasn_dynamic.proofs.OnlyFitting.{form_refused, fitted}
 use Rattle.rasn_dynamic.proofs.LeafWritten.{leaf_as, string_encoded, string_refused, number_encoded, number_refused}
 use Rattle.rasn_dynamic.proofs.write_leaf.encode_leaf.Goals as goal
+use Rattle.rasn_dynamic.proofs.write_leaf.encode_leaf.Goals.{in-UtcTime, in_default}
+
+pub returns-then-not-leaf_fits : goal.returns-then-not-leaf_fits
+returns-then-not-leaf_fits c = form_refused _ c.if-not-leaf_fits.ensures refl c.other_form.ensures
+
+pub returns-then-matches : goal.returns-then-matches
+returns-then-matches c = elim c.match-matches.branch [
+  | in-UtcTime w ↦
+      let call = c.encode_with_tag_and_constraints-then-matches in
+      fitted _ c.if-not-leaf_fits.ensures (leaf_as c.args.kind UtcTime _ (Instant c.in-Instant.held) c.args.tag c.args.constraints.now _ _ _ w.in-UtcTime.is c.in-Instant.is
+      (rw (← c.utc-time.ensures) call.ensures.ok) (rw (← c.utc-time.ensures) call.ensures.refused)) call.ensures.err call.ensures.rules
+  | in_default w ↦ absurd (true≢false (sym c.if-matches.true ∙ w.matches-is))
+]
+
+pub returns-else-matches : goal.returns-else-matches
+returns-else-matches c = elim c.match-matches.branch [
+  | in-UtcTime w ↦ absurd (true≢false (sym w.matches-is ∙ c.if-matches.false))
+  | in_default w ↦ elim (subst (FitsLeaf c.args.kind) c.in-Instant.is c.if-not-leaf_fits.ensures) [
+    | inl e ↦ absurd (w.in_default.not-UtcTime e)
+    | inr e ↦
+        let call = c.encode_with_tag_and_constraints-else-matches in
+        fitted _ c.if-not-leaf_fits.ensures (leaf_as c.args.kind GeneralizedTime _ (Instant c.in-Instant.held) c.args.tag c.args.constraints.now _ _ _ e c.in-Instant.is call.ensures.ok call.ensures.refused) call.ensures.err call.ensures.rules
+  ]
+]
 
 pub returns-in-Boolean : goal.returns-in-Boolean
 returns-in-Boolean c =
     let call = c.encode_with_tag_and_constraints in
-    leaf_as c.args.kind Boolean _ _ c.args.tag c.args.constraints.now _ _ _ (subst (FitsLeaf c.args.kind) c.in-Boolean.is c.requires) c.in-Boolean.is call.ensures.ok call.ensures.err call.ensures.refused
+    fitted _ c.if-not-leaf_fits.ensures (leaf_as c.args.kind Boolean _ _ c.args.tag c.args.constraints.now _ _ _ (subst (FitsLeaf c.args.kind) c.in-Boolean.is c.if-not-leaf_fits.ensures) c.in-Boolean.is call.ensures.ok call.ensures.refused) call.ensures.err call.ensures.rules
 
 pub returns-in-Null : goal.returns-in-Null
 returns-in-Null c =
     let call = c.encode_with_tag_and_constraints-in-Null in
-    leaf_as c.args.kind Null _ _ c.args.tag c.args.constraints.now _ _ _ (subst (FitsLeaf c.args.kind) c.in-Null.is c.requires) c.in-Null.is call.ensures.ok call.ensures.err call.ensures.refused
+    fitted _ c.if-not-leaf_fits.ensures (leaf_as c.args.kind Null _ _ c.args.tag c.args.constraints.now _ _ _ (subst (FitsLeaf c.args.kind) c.in-Null.is c.if-not-leaf_fits.ensures) c.in-Null.is call.ensures.ok call.ensures.refused) call.ensures.err call.ensures.rules
 
 pub returns-in-Bits : goal.returns-in-Bits
 returns-in-Bits c =
     let call = c.encode_with_tag_and_constraints-in-Bits in
-    leaf_as c.args.kind BitString _ _ c.args.tag c.args.constraints.now _ _ _ (subst (FitsLeaf c.args.kind) c.in-Bits.is c.requires) c.in-Bits.is call.ensures.ok call.ensures.err call.ensures.refused
+    fitted _ c.if-not-leaf_fits.ensures (leaf_as c.args.kind BitString _ _ c.args.tag c.args.constraints.now _ _ _ (subst (FitsLeaf c.args.kind) c.in-Bits.is c.if-not-leaf_fits.ensures) c.in-Bits.is call.ensures.ok call.ensures.refused) call.ensures.err call.ensures.rules
 
 pub returns-in-Units : goal.returns-in-Units
 returns-in-Units c =
     let call = c.encode_with_tag_and_constraints-in-Units in
-    leaf_as c.args.kind Bmp _ _ c.args.tag c.args.constraints.now _ _ _ (subst (FitsLeaf c.args.kind) c.in-Units.is c.requires) c.in-Units.is call.ensures.ok call.ensures.err call.ensures.refused
+    fitted _ c.if-not-leaf_fits.ensures (leaf_as c.args.kind Bmp _ _ c.args.tag c.args.constraints.now _ _ _ (subst (FitsLeaf c.args.kind) c.in-Units.is c.if-not-leaf_fits.ensures) c.in-Units.is call.ensures.ok call.ensures.refused) call.ensures.err call.ensures.rules
 
 pub returns-in-Arcs : goal.returns-in-Arcs
 returns-in-Arcs c =
     let call = c.encode_with_tag_and_constraints-in-Arcs in
-    leaf_as c.args.kind ObjectIdentifier _ _ c.args.tag c.args.constraints.now _ _ _ (subst (FitsLeaf c.args.kind) c.in-Arcs.is c.requires) c.in-Arcs.is call.ensures.ok call.ensures.err call.ensures.refused
+    fitted _ c.if-not-leaf_fits.ensures (leaf_as c.args.kind ObjectIdentifier _ _ c.args.tag c.args.constraints.now _ _ _ (subst (FitsLeaf c.args.kind) c.in-Arcs.is c.if-not-leaf_fits.ensures) c.in-Arcs.is call.ensures.ok call.ensures.refused) call.ensures.err call.ensures.rules
 
 pub returns-in-Day : goal.returns-in-Day
 returns-in-Day c =
     let call = c.encode_with_tag_and_constraints-in-Day in
-    leaf_as c.args.kind Date _ _ c.args.tag c.args.constraints.now _ _ _ (subst (FitsLeaf c.args.kind) c.in-Day.is c.requires) c.in-Day.is call.ensures.ok call.ensures.err call.ensures.refused
+    fitted _ c.if-not-leaf_fits.ensures (leaf_as c.args.kind Date _ _ c.args.tag c.args.constraints.now _ _ _ (subst (FitsLeaf c.args.kind) c.in-Day.is c.if-not-leaf_fits.ensures) c.in-Day.is call.ensures.ok call.ensures.refused) call.ensures.err call.ensures.rules
 
 pub returns-in-Integer : goal.returns-in-Integer
 returns-in-Integer c =
-    let fits = subst (FitsLeaf c.args.kind) c.in-Integer.is c.requires in
-    rw c.in-Integer.is (record {
+    let fits = subst (FitsLeaf c.args.kind) c.in-Integer.is c.if-not-leaf_fits.ensures in
+    fitted _ c.if-not-leaf_fits.ensures (rw c.in-Integer.is (record {
       ok = number_encoded _ c.args.tag c.args.constraints.now _ _ _ c.args.kind fits c.encode_integer.ensures.ok;
-      err = c.encode_integer.ensures.err;
       refused = number_refused _ c.args.tag c.args.constraints.now _ _ c.args.kind fits c.encode_integer.ensures.fails;
-    })
+    })) c.encode_integer.ensures.err c.encode_integer.ensures.rules
 
 pub returns-in-Octets : goal.returns-in-Octets
 returns-in-Octets c =
-    let fits = subst (FitsLeaf c.args.kind) c.in-Octets.is c.requires in
-    rw (c.in-Octets.is, ← c.as_slice.ensures.value) (record {
+    let fits = subst (FitsLeaf c.args.kind) c.in-Octets.is c.if-not-leaf_fits.ensures in
+    fitted _ c.if-not-leaf_fits.ensures (rw (c.in-Octets.is, ← c.as_slice.ensures.value) (record {
       ok = string_encoded _ c.args.tag c.args.constraints.now _ _ _ c.args.kind (rw c.as_slice.ensures.value fits) c.encode_octet_string.ensures.ok;
-      err = c.encode_octet_string.ensures.err;
       refused = string_refused _ c.args.tag c.args.constraints.now _ _ c.args.kind (rw c.as_slice.ensures.value fits) c.encode_octet_string.ensures.fails;
-    })
+    })) c.encode_octet_string.ensures.err c.encode_octet_string.ensures.rules
 
 pub returns-in-Text : goal.returns-in-Text
 returns-in-Text c =
-    let fits : c.args.kind ≡ Utf8 = subst (FitsLeaf c.args.kind) c.in-Text.is c.requires in
-    rw (c.in-Text.is, fits, ← c.as_str.ensures.value) (record {
+    let fits : c.args.kind ≡ Utf8 = subst (FitsLeaf c.args.kind) c.in-Text.is c.if-not-leaf_fits.ensures in
+    fitted _ c.if-not-leaf_fits.ensures (rw (c.in-Text.is, fits, ← c.as_str.ensures.value) (record {
       ok = c.encode_utf8_string.ensures.ok;
-      err = c.encode_utf8_string.ensures.err;
       refused = text_refused _ utf8 c.args.tag c.args.constraints.now (chars c.as_str.result.now) _ refl c.encode_utf8_string.ensures.fails;
-    })
+    })) c.encode_utf8_string.ensures.err c.encode_utf8_string.ensures.rules

@@ -3,7 +3,9 @@ use Rattle.rasn_enc.proofs.Constructed.SequenceOf.{ElementsSoFar}
 use Rattle.rasn_enc.proofs.Constructed.SetOf.{SetOfSoFar}
 use Rattle.rasn_schema.specs.Trees.{tree_of}
 use Rattle.rasn_schema.specs.Shapes.{shape_of_type}
-use Rattle.rasn_dynamic.specs.Fitting.{ComponentsFit, EachFits, Fits}
+use Rattle.rasn_enc.specs.View.{LeavesOthers}
+use Rattle.rasn_dynamic.specs.Fitting.{Fits}
+use Rattle.rasn_dynamic.proofs.Fitted.{FitSoFar, EachSoFar}
 use Rattle.rasn_dynamic.proofs.WrittenInside.{WrittenSoFar}
 use Rattle.rasn_dynamic.proofs.writer.+encode.Given as goal
 
@@ -37,7 +39,8 @@ decreases-encode_component l = 8 * l.below + 3
 abbrev pub invariant-encode_components-loop-rest : goal.invariant-encode_components-loop-rest
 invariant-encode_components-loop-rest l = record {
   written : WrittenSoFar (shape_of_type l.types l.below) l.components l.rest l.values l.left l.fn.encoder l.encoder;
-  fits : ComponentsFit (Fits l.types l.below) l.rest l.left;
+  fits : FitSoFar (Fits l.types l.below) l.components l.rest l.values l.left;
+  keeps : LeavesOthers l.fn.encoder l.encoder;
 }
 
 abbrev pub decreases-encode_components-loop-rest : goal.decreases-encode_components-loop-rest
@@ -46,7 +49,7 @@ decreases-encode_components-loop-rest l = length l.rest
 abbrev pub invariant-encode_elements-loop-rest : goal.invariant-encode_elements-loop-rest
 invariant-encode_elements-loop-rest l = record {
   written : ElementsSoFar (shape_of_type l.types l.below l.element.0) (map tree_of l.values) (map tree_of l.rest) l.fn.encoder l.encoder;
-  fits : EachFits (Fits l.types l.below l.element.0) l.rest;
+  fits : EachSoFar (Fits l.types l.below l.element.0) l.values l.rest;
 }
 
 abbrev pub decreases-encode_elements-loop-rest : goal.decreases-encode_elements-loop-rest
@@ -55,7 +58,7 @@ decreases-encode_elements-loop-rest l = length l.rest
 abbrev pub invariant-encode_elements_in_order-loop-rest : goal.invariant-encode_elements_in_order-loop-rest
 invariant-encode_elements_in_order-loop-rest l = record {
   written : SetOfSoFar (shape_of_type l.types l.below l.element.0) (map tree_of l.values) (map tree_of l.rest) l.fn.encoder l.encoder l.previous;
-  fits : EachFits (Fits l.types l.below l.element.0) l.rest;
+  fits : EachSoFar (Fits l.types l.below l.element.0) l.values l.rest;
 }
 
 abbrev pub decreases-encode_elements_in_order-loop-rest : goal.decreases-encode_elements_in_order-loop-rest

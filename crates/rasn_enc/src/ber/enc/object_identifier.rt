@@ -1,5 +1,6 @@
 //! OBJECT IDENTIFIER (X.690 8.19).
-ghost use Rattle.std.specs.Prelude.{◌≡◌, ◌⊎◌, ◌∷◌, MatchOption, OnOk, OnErr, IfErr};
+ghost use Rattle.std.specs.Prelude.{◌≡◌, ◌≢◌, ◌⊎◌, [], ◌∷◌, MatchOption, OnOk, OnErr, IfErr};
+ghost use Rattle.rasn_types.specs.Errors.{IsEncodeOutOfMemory};
 ghost use Rattle.rasn_types.specs.declared.types.codec.Codec.TheVariants.{Ber};
 ghost use Rattle.rasn_enc.specs.ObjectIdentifier.{AreEncodable, AreSubidentifiers, AppendsContents, FailsAtArcs};
 ghost use Rattle.rasn_enc.specs.Primitive.{IsAllocError};
@@ -27,6 +28,7 @@ pub fn object_identifier_as_bytes(
     ensures ok { OnOk result (AppendsContents oid.now buffer.old.items buffer.new.items) }
     ensures err { OnErr result (buffer.new.items ≡ buffer.old.items) }
     ensures fails { IfErr result (λ e. FailsAtArcs oid.now Ber e ⊎ IsAllocError Ber e) }
+    ensures memory { IfErr result (λ e. IsEncodeOutOfMemory e.kind → oid.now ≢ []) }
 {
     let Some(subidentifiers) = Subidentifiers::of_arcs(oid) else {
         return Err(refused_arcs(alloc, Codec::Ber, oid));
@@ -96,7 +98,8 @@ impl Contents for Subidentifiers<'_> {
 /// The error of arcs that have no octets, which holds them. Where the copy finds no memory, that is the error.
 fn refused_arcs(alloc: Global, codec: Codec, arcs: &[u32]) -> EncodeError
     requires { AreEncodable arcs.now → ⊥ }
-    ensures { FailsAtArcs arcs.now codec result ⊎ IsAllocError codec result }
+    ensures fails { FailsAtArcs arcs.now codec result ⊎ IsAllocError codec result }
+    ensures memory { IsEncodeOutOfMemory result.kind → arcs.now ≢ [] }
 {
     let mut oid = Vec::new(alloc);
     match oid.extend_from_slice(arcs) {
@@ -125,6 +128,7 @@ impl Encoder {
         ensures ok { AppendsLeaf object_identifier tag (numbers value.now) result self.old self.new }
         ensures err { OnErr result (self.new ≡ self.old) }
         ensures fails { IfErr result (λ e. FailsAtArcs value.now self.old.rule e ⊎ IsAllocError self.old.rule e) }
+        ensures memory { IfErr result (λ e. IsEncodeOutOfMemory e.kind → value.now ≢ []) }
         ensures rules { IfErr result (λ e. e.codec ≡ self.old.rule) }
     {
         match Subidentifiers::of_arcs(value) {

@@ -121,11 +121,20 @@ type Alternatives = OneOf<
 >;
 
 impl Decode for GeneralName {
+    ghost use Rattle.std.specs.Prelude.{◌≡◌, IfErr, Err};
+    ghost use Rattle.rasn_de.specs.Decodes.{Decodes};
+    ghost use Rattle.rasn_de.specs.AlternativeTypes.{DecodesAlternative};
+    ghost use Rattle.rasn_pki.specs.X509.Extensions.Names.{general_name_alternatives, general_name_shape, general_name_tree, general_name_name};
+
     fn decode_with_tag_and_constraints(
         decoder: &mut Decoder<'_>,
         _tag: Tag,
         _constraints: &Constraints,
-    ) -> Result<GeneralName, DecodeError> {
+    ) -> Result<GeneralName, DecodeError>
+        ensures reads { Decodes general_name_shape general_name_tree decoder.old result decoder.new }
+        ensures rules { IfErr result (λ e. e.codec ≡ decoder.old.rule) }
+        ensures fails { IfErr result (λ e. DecodesAlternative general_name_alternatives general_name_tree general_name_name decoder.old (Err e) decoder.new) }
+    {
         match decoder.read_choice::<Alternatives>("GeneralName")? {
             This(name) => Ok(GeneralName::Other(name)),
             Other(This(name)) => Ok(GeneralName::Rfc822(name)),

@@ -27,6 +27,7 @@ pub fn has_lawful_shape()
 pub fn read_revocation_list(alloc: Global, input: &[u8]) -> Result<CertificateList, DecodeError>
     ensures exact { AnsweredAlone Der certificate_list_shape certificate_list_tree input.now result }
     ensures written { IsCarriedAsWritten certificate_list_shape certificate_list_tree input.now result }
+    ensures rules { IfErr result (λ e. e.codec ≡ Der) }
 {
     der::decode(alloc, input)
 }
@@ -42,6 +43,7 @@ pub fn write_revocation_list(
     ensures ok { IfOk result (λ octets. Bytes Der certificate_list_shape (certificate_list_tree revocation_list.now) octets.items) }
     ensures canonical { IfOk result (λ octets. Identifies certificate_list_shape (certificate_list_tree revocation_list.now) octets.items) }
     ensures fails { IfErr result (EncodingFails Der certificate_list_shape (certificate_list_tree revocation_list.now)) }
+    ensures rules { IfErr result (λ e. e.codec ≡ Der) }
 {
     der::encode(alloc, revocation_list)
 }

@@ -33,7 +33,7 @@ impl IntegerType for i8 {
 
     ghost number = { λ v. v };
 
-    ghost grows = { false };
+    ghost takes_memory = { λ z. ⊥ };
 
     fn from_octets(_alloc: Global, octets: &[u8]) -> Result<Option<i8>, AllocError> {
         Ok(signed_i128(octets).and_then(|number| i8::try_from(number).ok()))
@@ -70,7 +70,7 @@ impl IntegerType for i16 {
 
     ghost number = { λ v. v };
 
-    ghost grows = { false };
+    ghost takes_memory = { λ z. ⊥ };
 
     fn from_octets(_alloc: Global, octets: &[u8]) -> Result<Option<i16>, AllocError> {
         Ok(signed_i128(octets).and_then(|number| i16::try_from(number).ok()))
@@ -107,7 +107,7 @@ impl IntegerType for i32 {
 
     ghost number = { λ v. v };
 
-    ghost grows = { false };
+    ghost takes_memory = { λ z. ⊥ };
 
     fn from_octets(_alloc: Global, octets: &[u8]) -> Result<Option<i32>, AllocError> {
         Ok(signed_i128(octets).and_then(|number| i32::try_from(number).ok()))
@@ -144,7 +144,7 @@ impl IntegerType for i64 {
 
     ghost number = { λ v. v };
 
-    ghost grows = { false };
+    ghost takes_memory = { λ z. ⊥ };
 
     fn from_octets(_alloc: Global, octets: &[u8]) -> Result<Option<i64>, AllocError> {
         Ok(signed_i128(octets).and_then(|number| i64::try_from(number).ok()))
@@ -181,7 +181,7 @@ impl IntegerType for i128 {
 
     ghost number = { λ v. v };
 
-    ghost grows = { false };
+    ghost takes_memory = { λ z. ⊥ };
 
     fn from_octets(_alloc: Global, octets: &[u8]) -> Result<Option<i128>, AllocError> {
         Ok(signed_i128(octets))
@@ -218,7 +218,7 @@ impl IntegerType for isize {
 
     ghost number = { λ v. v };
 
-    ghost grows = { false };
+    ghost takes_memory = { λ z. ⊥ };
 
     fn from_octets(_alloc: Global, octets: &[u8]) -> Result<Option<isize>, AllocError> {
         Ok(signed_i128(octets).and_then(|number| isize::try_from(number).ok()))

@@ -1,5 +1,5 @@
 //! Octets of a number that stand in the value itself while they are few.
-ghost use Rattle.std.specs.Prelude.{◌≡◌, ◌<◌, ◌≤◌, length, IfOk, MatchOption};
+ghost use Rattle.std.specs.Prelude.{◌≡◌, ◌<◌, ◌≤◌, length, IfOk, IfErr, MatchOption};
 ghost use Rattle.rasn_types.specs.Inline.{inline_capacity};
 
 use std::alloc::{AllocError, Global};
@@ -75,10 +75,11 @@ impl SmallOctets {
     /// A copy of these octets.
     ///
     /// # Errors
-    /// Running out of memory.
+    /// Running out of memory, for more than 23 octets.
     #[inline]
     pub fn from_slice(alloc: Global, octets: &[u8]) -> Result<SmallOctets, AllocError>
-        ensures { IfOk result (λ v. v ≡ octets.now) }
+        ensures ok { IfOk result (λ v. v ≡ octets.now) }
+        ensures memory { IfErr result (λ _. inline_capacity < length octets.now) }
     {
         let storage = match FewOctets::from_slice(octets) {
             Some(few) => Storage::Inline(few),
@@ -101,16 +102,18 @@ impl SmallOctets {
     /// A copy of the octets.
     ///
     /// # Errors
-    /// Running out of memory.
+    /// Running out of memory, for more than 23 octets.
     #[inline]
     pub fn try_clone(&self, alloc: Global) -> Result<SmallOctets, AllocError>
-        ensures { IfOk result (λ v. v ≡ self.now) }
+        ensures ok { IfOk result (λ v. v ≡ self.now) }
+        ensures memory { IfErr result (λ _. inline_capacity < length self.now) }
     {
-        let storage = match &self.storage {
-            Storage::Inline(few) => Storage::Inline(*few),
-            Storage::Allocated(octets) => Storage::Allocated(Vec::from_slice(alloc, octets)?),
-        };
-        Ok(SmallOctets { storage })
+        match &self.storage {
+            Storage::Inline(few) => Ok(SmallOctets {
+                storage: Storage::Inline(*few),
+            }),
+            Storage::Allocated(octets) => SmallOctets::from_slice(alloc, octets),
+        }
     }
 }
 

@@ -1,8 +1,9 @@
 //! Whole numbers of any length.
-ghost use Rattle.std.specs.Prelude.{◌≡◌, ◌≢◌, ◌<◌, [], length, IfOk, MatchOption, pos, ◌<ℤ◌, ◌↔◌, IsTrue};
+ghost use Rattle.std.specs.Prelude.{◌≡◌, ◌≢◌, ◌<◌, [], length, IfOk, IfErr, MatchOption, pos, ◌<ℤ◌, ◌↔◌, IsTrue};
 ghost use Rattle.rasn_types.specs.Framing.{AreOctets};
 ghost use Rattle.rasn_types.specs.Contents.{signed, IsShortestInteger};
 ghost use Rattle.rasn_types.specs.Shapes.{IsIn};
+ghost use Rattle.rasn_types.specs.Inline.{IsLong};
 ghost use Rattle.std.specs.Ordering.{int_cmp};
 ghost use Rattle.rasn_types.specs.Trees.{IsShortestOf, signed_range, unsigned_range};
 
@@ -38,8 +39,12 @@ impl Model for Integer {
 
 impl Integer {
     /// The number that octets in two's complement stand for. No octets stand for none.
+    ///
+    /// # Errors
+    /// Running out of memory, for a number that takes more than 23 octets.
     pub fn from_octets(alloc: Global, octets: &[u8]) -> Result<Option<Integer>, AllocError>
-        ensures { IfOk result (λ v. MatchOption v (octets.now ≡ []) (λ n. (octets.now ≢ []) × (n ≡ signed octets.now))) }
+        ensures ok { IfOk result (λ v. MatchOption v (octets.now ≡ []) (λ n. (octets.now ≢ []) × (n ≡ signed octets.now))) }
+        ensures memory { IfErr result (λ _. IsLong (signed octets.now)) }
     {
         if octets.is_empty() {
             return Ok(None);
@@ -219,7 +224,6 @@ impl AsnType for Integer {
 }
 
 impl IntegerType for Integer {
-    ghost use Rattle.std.specs.Prelude.{true};
     ghost use Rattle.rasn_types.specs.Shapes.{every};
 
     ghost WIDTH = { 0 };
@@ -230,7 +234,7 @@ impl IntegerType for Integer {
 
     ghost number = { λ v. v };
 
-    ghost grows = { true };
+    ghost takes_memory = { IsLong };
 
     fn from_octets(alloc: Global, octets: &[u8]) -> Result<Option<Integer>, AllocError> {
         Integer::from_octets(alloc, octets)
@@ -244,7 +248,8 @@ impl IntegerType for Integer {
 
 impl TryClone for Integer {
     fn try_clone(&self, alloc: Global) -> Result<Integer, AllocError>
-        ensures { IfOk result (λ v. v ≡ self.now) }
+        ensures ok { IfOk result (λ v. v ≡ self.now) }
+        ensures memory { IfErr result (λ _. IsLong self.now) }
     {
         let octets = self.octets.try_clone(alloc)?;
         Ok(Integer { octets })

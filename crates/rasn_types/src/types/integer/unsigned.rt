@@ -35,7 +35,7 @@ impl IntegerType for u8 {
 
     ghost number = { λ v. pos v };
 
-    ghost grows = { false };
+    ghost takes_memory = { λ z. ⊥ };
 
     fn from_octets(_alloc: Global, octets: &[u8]) -> Result<Option<u8>, AllocError> {
         Ok(signed_i128(octets).and_then(|number| u8::try_from(number).ok()))
@@ -72,7 +72,7 @@ impl IntegerType for u16 {
 
     ghost number = { λ v. pos v };
 
-    ghost grows = { false };
+    ghost takes_memory = { λ z. ⊥ };
 
     fn from_octets(_alloc: Global, octets: &[u8]) -> Result<Option<u16>, AllocError> {
         Ok(signed_i128(octets).and_then(|number| u16::try_from(number).ok()))
@@ -109,7 +109,7 @@ impl IntegerType for u32 {
 
     ghost number = { λ v. pos v };
 
-    ghost grows = { false };
+    ghost takes_memory = { λ z. ⊥ };
 
     fn from_octets(_alloc: Global, octets: &[u8]) -> Result<Option<u32>, AllocError> {
         Ok(signed_i128(octets).and_then(|number| u32::try_from(number).ok()))
@@ -146,7 +146,7 @@ impl IntegerType for u64 {
 
     ghost number = { λ v. pos v };
 
-    ghost grows = { false };
+    ghost takes_memory = { λ z. ⊥ };
 
     fn from_octets(_alloc: Global, octets: &[u8]) -> Result<Option<u64>, AllocError> {
         Ok(signed_i128(octets).and_then(|number| u64::try_from(number).ok()))
@@ -183,7 +183,7 @@ impl IntegerType for u128 {
 
     ghost number = { λ v. pos v };
 
-    ghost grows = { false };
+    ghost takes_memory = { λ z. ⊥ };
 
     fn from_octets(_alloc: Global, octets: &[u8]) -> Result<Option<u128>, AllocError> {
         Ok(unsigned_u128(octets))
@@ -220,7 +220,7 @@ impl IntegerType for usize {
 
     ghost number = { λ v. pos v };
 
-    ghost grows = { false };
+    ghost takes_memory = { λ z. ⊥ };
 
     fn from_octets(_alloc: Global, octets: &[u8]) -> Result<Option<usize>, AllocError> {
         Ok(signed_i128(octets).and_then(|number| usize::try_from(number).ok()))

@@ -1,9 +1,5 @@
-use Rattle.std.proofs.Common.{inl, inr}
-use Rattle.rasn.proofs.Normalised.{no_normal}
+use Rattle.rasn_bench.proofs.LineAnswers.{normalised_answer}
 use Rattle.rasn_bench.proofs.normal_answer.NormalAnswerTypedAnswer.of_type.Goals as goal
 
-pub returns-in-Err : goal.returns-in-Err
-returns-in-Err g c = elim (no_normal {rule = c.args.rule} {s = g.T.AsnType.shape} {input = c.args.octets.now} c.in-Err.error c.in-Err.ensures.fails) [
-  | inl m ↦ inl (c.error_name.ensures m)
-  | inr n ↦ inr n
-]
+pub returns : goal.returns
+returns g c = normalised_answer c.args.rule g.T.AsnType.shape c.args.octets.now c.normalise.result c.of_normalised.result c.normalise.ensures.normal c.normalise.ensures.fails c.of_normalised.ensures

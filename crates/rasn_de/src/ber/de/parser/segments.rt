@@ -2,7 +2,7 @@
 ghost use Rattle.std.specs.Prelude.{List, ℕ, MatchOption, Result};
 ghost use Rattle.rasn_de.specs.declared.ber.de.parser.ParseError.{ParseError};
 ghost use Rattle.rasn_types.specs.declared.types.codec.Codec.{Codec};
-ghost use Rattle.rasn_de.specs.Segments.{string_from, octets};
+ghost use Rattle.rasn_de.specs.Segments.{string_from, bare_from, without_memory, octets};
 ghost use Rattle.rasn_de.specs.ParserViews.{IsNestedValue, IsPlainValue, ParsesSegments, ParsesSegment};
 
 use crate::ber::de::parser::constructed::{finish, has_ended, held};
@@ -22,7 +22,7 @@ pub trait Segmented: Drop {
 
     /// Puts what the octets of a segment hold behind the rest.
     fn append_segment(&mut self, rules: Codec, octets: &[u8]) -> Result<(), ParseError>
-        ensures { ParsesSegment (segment rules octets.now) (items self.old) (items self.new) result };
+        ensures { ParsesSegment (segment rules octets.now) (without_memory (segment rules) octets.now) (items self.old) (items self.new) result };
 }
 
 impl Segmented for Vec<u8> {
@@ -63,7 +63,7 @@ pub fn string_contents<'a, T: Segmented>(
     rest: &'a [u8],
     out: &mut T,
 ) -> Result<&'a [u8], ParseError>
-    ensures { ParsesSegments (string_from rule T.segment tag depth value.entry rest.entry.now) (T.items out.old) (T.items out.new) result }
+    ensures { ParsesSegments (string_from rule T.segment tag depth value.entry rest.entry.now) (bare_from rule T.segment tag depth value.entry rest.entry.now) (T.items out.old) (T.items out.new) result }
 {
     if let Some(segment) = segment_of(value) {
         out.append_segment(rule, segment)?;

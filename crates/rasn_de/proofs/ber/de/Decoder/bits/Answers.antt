@@ -47,4 +47,4 @@ pub returns-in-Err-append-clause-exact : goal.returns-in-Err-append-clause-exact
 returns-in-Err-append-clause-exact c =
     let h = spelled_by (form c.self.inside.rules) _ c.of_rule.ensures (Tagged c.args.tag) c.self.inside.rest.now _ c.in-Ok.ensures.exact in
     lacked_bits c.args.tag c.args.self.now _ OutOfMemory c.in-Ok.found.1.now _
-    (rw (← c.self.view_is) (segment_uncopied c.self.inside.rules c.self.inside.depth c.args.tag c.self.inside.rest.now _ h c.in-Some.segment.now _ c.in-Ok.ensures.octets c.in-Some.ensures c.in-Ok-counted.ensures.exact)) c.advance-2.ensures c.error-in-Err-append.ensures
+    (rw (← c.self.view_is) (segment_uncopied c.self.inside.rules c.self.inside.depth c.args.tag c.self.inside.rest.now _ h c.in-Some.segment.now _ c.in-Err-append.ensures.memory c.in-Ok.ensures.octets c.in-Some.ensures c.in-Ok-counted.ensures.exact)) c.advance-2.ensures c.error-in-Err-append.ensures

@@ -1,4 +1,4 @@
-use Rattle.std.proofs.Common.{rules, Ok, Err, refl}
+use Rattle.std.proofs.Common.{rules, Ok, Err}
 use Rattle.rasn_de.proofs.Any.Reads.{borrowed_decodes}
 use Rattle.rasn_de.proofs.Leaves.Memory.{borrowed_plain}
 use Rattle.rasn_de.proofs.ber.de.Decoder.decode_open.Goals as goal

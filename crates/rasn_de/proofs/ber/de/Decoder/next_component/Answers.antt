@@ -3,7 +3,7 @@ use Rattle.rasn_types.specs.Shapes.{Tree, choice}
 use Rattle.rasn_de.specs.State.{State}
 use Rattle.rasn_de.proofs.Leaves.Returns.{residual}
 use Rattle.rasn_de.proofs.Constructed.Choice.{choice_decodes}
-use Rattle.rasn_de.proofs.OwnTypes.SetPartTypes.{next_refused, next_read, next_takes_nothing, placed_rules}
+use Rattle.rasn_de.proofs.OwnTypes.SetPartTypes.{next_refused, named_refused, next_read, next_takes_nothing, named_takes_nothing, placed_rules}
 use Rattle.rasn_de.proofs.Leaves.Rules.{codec_is, peek_rules}
 use Rattle.rasn_de.proofs.ber.de.Decoder.next_component.Goals as goal
 
@@ -30,3 +30,18 @@ returns-in_err-tag-clause-rules g c = rw (residual _ c.from_residual.ensures.1) 
 
 pub returns-then-self-left-clause-rules : goal.returns-then-self-left-clause-rules
 returns-then-self-left-clause-rules g c = (codec_is c.error.ensures) ∙ (placed_rules g.P.DecodeSetParts.parts _ _ (g.P.DecodeSetParts.held c.decode_component.new.slots) _ _ c.in_ok-twice.twice c.in_ok-twice.ensures.reads)
+
+pub returns-in_err-tag-clause-fails : goal.returns-in_err-tag-clause-fails
+returns-in_err-tag-clause-fails g c =
+    let ps = g.P.DecodeSetParts.parts in
+    rw (residual _ c.from_residual.ensures.1) (inl (choice_decodes (choice ps) ps refl (λ (t : Tree). t) c.args.self.now (Err c.in_err-tag.field-0.0) c.args.self.now (inl (c.in_err-tag.ensures.exact, refl)), inl (c.in_err-tag.ensures.exact, refl)))
+
+pub returns-in_err-twice-clause-fails : goal.returns-in_err-twice-clause-fails
+returns-in_err-twice-clause-fails g c =
+    rw (residual _ c.from_residual-in_err-twice.ensures.1) (named_refused g.P.DecodeSetParts.parts _ _ _ _ _ c.in_ok-tag.ensures.next c.in_err-twice.ensures.reads c.in_err-twice.ensures.fails)
+
+pub returns-then-self-left-clause-fails : goal.returns-then-self-left-clause-fails
+returns-then-self-left-clause-fails g c =
+    named_takes_nothing g.P.DecodeSetParts.parts _ (g.P.DecodeSetParts.held c.args.slots.now) (g.P.DecodeSetParts.held c.decode_component.new.slots) _ _ c.args.name.now
+    c.in_ok-twice.twice c.in_ok-twice.ensures.reads (search rules) (length c.self.inside.rest.now)
+    (ap (λ (s : State). length s.rest) c.self.view_is) _ c.error.ensures

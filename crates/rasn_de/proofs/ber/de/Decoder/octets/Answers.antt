@@ -2,7 +2,7 @@ use Rattle.std.proofs.Common.{refl}
 use Rattle.std.specs.declared.borrow.CowSlice.TheVariants.{Borrowed, Owned}
 use Rattle.rasn_types.specs.Tags.{form}
 use Rattle.rasn_de.specs.declared.ber.de.parser.headers.Expected.TheVariants.{Tagged}
-use Rattle.rasn_de.proofs.Headers.Forms.{primitive_form, constructed_form, plain_octets, nested_octets, header_memory}
+use Rattle.rasn_de.proofs.Headers.Forms.{primitive_form, constructed_form, plain_octets, nested_octets, nested_bare, header_memory}
 use Rattle.rasn_de.proofs.Headers.Frames.{spelled_by}
 use Rattle.rasn_de.proofs.Strings.Ends.{octets_end}
 use Rattle.rasn_de.proofs.Headers.Steps.{gathered}
@@ -42,6 +42,9 @@ returns-clause-exact c =
       c.in-Err-string_contents.fault,
       c.error-in-Err-string_contents.ensures,
       refl,
-      (λ n. rw (← c.self.view_is) (nested_octets c.self.inside.rules c.self.inside.depth c.args.tag c.self.inside.rest.now _ _ h (c.in-Err-string_contents.ensures n))),
-      (λ m. rw (← c.self.view_is) (constructed_form c.self.inside.rules c.args.tag c.self.inside.rest.now _ c.in-Ok.ensures.octets h c.in_default.ensures)),
+      (λ n. rw (← c.self.view_is) (nested_octets c.self.inside.rules c.self.inside.depth c.args.tag c.self.inside.rest.now _ _ h (c.in-Err-string_contents.ensures.0 n))),
+      (λ m. rw (← c.self.view_is) (
+        constructed_form c.self.inside.rules c.args.tag c.self.inside.rest.now _ c.in-Ok.ensures.octets h c.in_default.ensures,
+        nested_bare c.self.inside.rules c.self.inside.depth c.args.tag c.self.inside.rest.now _ h (c.in-Err-string_contents.ensures.1 m),
+      )),
     )

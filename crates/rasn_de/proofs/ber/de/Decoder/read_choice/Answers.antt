@@ -1,6 +1,6 @@
 use Rattle.std.proofs.Common.{Err, inl, refl}
 use Rattle.rasn_types.specs.Shapes.{choice, chosen}
-use Rattle.rasn_de.proofs.Leaves.Returns.{residual, also_rules}
+use Rattle.rasn_de.proofs.Leaves.Returns.{residual}
 use Rattle.rasn_de.proofs.Constructed.Choice.{choice_decodes}
 use Rattle.rasn_de.proofs.OwnTypes.AlternativeTypes.{numbered_decodes, alternative_decodes}
 use Rattle.rasn_de.proofs.Leaves.Rules.{peek_rules}
@@ -9,8 +9,12 @@ use Rattle.rasn_de.proofs.ber.de.Decoder.read_choice.Goals as goal
 pub returns-in_err-tag : goal.returns-in_err-tag
 returns-in_err-tag g c =
     let ps = g.P.DecodeAlternatives.parts in
-    rw (residual _ c.from_residual.ensures.1) (also_rules (λ k. choice_decodes (choice ps) ps refl (λ v. chosen (g.P.DecodeAlternatives.number v) (g.P.DecodeAlternatives.inner v)) c.args.self.now (Err c.in_err-tag.field-0.0) c.args.self.now (inl (c.in_err-tag.ensures.exact, refl)))
-    (peek_rules c.args.self.now _ c.in_err-tag.ensures.exact) (inl (c.in_err-tag.ensures.exact, refl)))
+    rw (residual _ c.from_residual.ensures.1) (record {
+      exact = inl (c.in_err-tag.ensures.exact, refl);
+      reads = choice_decodes (choice ps) ps refl (λ v. chosen (g.P.DecodeAlternatives.number v) (g.P.DecodeAlternatives.inner v)) c.args.self.now (Err c.in_err-tag.field-0.0) c.args.self.now (inl (c.in_err-tag.ensures.exact, refl));
+      beyond = tt;
+      rules = peek_rules c.args.self.now _ c.in_err-tag.ensures.exact;
+    })
 
 pub returns : goal.returns
 returns g c =
@@ -18,5 +22,6 @@ returns g c =
     record {
       exact = alternative_decodes _ _ _ c.in_ok-tag.tag _ _ _ c.in_ok-tag.ensures.next k c.decode_alternative.ensures.fails;
       reads = k;
+      beyond = c.decode_alternative.ensures.beyond;
       rules = c.decode_alternative.ensures.rules;
     }

@@ -1,6 +1,6 @@
 use Rattle.std.proofs.Common.{List, map}
 use Rattle.rasn_types.specs.Shapes.{Tree, choice}
-use Rattle.rasn_de.specs.SetPartTypes.{text, MakesOfReadings, DecodesSetPartContents}
+use Rattle.rasn_de.specs.SetPartTypes.{text, MakesOfReadings, DecodesSetPartContents, DecodesNamedContents}
 use Rattle.rasn_de.proofs.Constructed.Set.{collects_leaves}
 use Rattle.rasn_de.proofs.Constructed.Steps.{closure_leaves, closure_inside, closure_rules}
 use Rattle.rasn_de.proofs.OwnTypes.SetPartTypes.{set_parts_decode}
@@ -22,6 +22,7 @@ returns g c =
     let k = closure_inside _ _ (DecodesSetPartContents ps tree names) (λ p r q m. m.0) _ _ c.sequence.ensures _ _ _ c.inside.ensures.exact in
     record {
       exact = k;
+      fails = closure_inside _ _ (DecodesNamedContents ps tree c.args.name.now names) (λ p r q m. m.1.0) _ _ c.sequence.ensures _ _ _ c.inside.ensures.exact;
       reads = set_parts_decode ps tree names c.args.tag c.args.self.now c.inside.ensures.octets _ _ k;
-      rules = closure_rules c.args.self.now _ _ (λ p r q m same. m.1) _ _ _ c.inside.ensures.exact;
+      rules = closure_rules c.args.self.now _ _ (λ p r q m same. m.1.1) _ _ _ c.inside.ensures.exact;
     }

@@ -1,8 +1,8 @@
-use Rattle.std.proofs.Common.{◌≡◌, map, Some, None, subst, rules, ◌∙◌}
+use Rattle.std.proofs.Common.{◌≡◌, map, Some, None, Err, subst, rules, ◌∙◌}
 use Rattle.rasn_de.specs.NamedErrors.{IsNamedError, IsDuplicateField}
 use Rattle.rasn_de.specs.SetPartTypes.{text}
 use Rattle.rasn_de.proofs.Leaves.Returns.{residual}
-use Rattle.rasn_de.proofs.OwnTypes.SetPartTypes.{ReadTo, read_rules, none_read, untold, next_fails, next_passes, all_once, one_twice}
+use Rattle.rasn_de.proofs.OwnTypes.SetPartTypes.{ReadTo, read_rules, none_read, untold, next_fails, next_passes, all_made, made_twice, all_once, one_twice, made_named, untold_named, named_fails}
 use Rattle.rasn_de.proofs.Leaves.Rules.{order_rules}
 use Rattle.std.specs.Prelude.{IfErr}
 use Rattle.rasn_de.proofs.ber.de.Decoder.set_parts.Goals as goal
@@ -54,3 +54,31 @@ returns-in-Some-clause-rules g c = (c.duplicate_field.ensures.0 ∙ c.codec.ensu
 
 pub returns-clause-rules : goal.returns-clause-rules
 returns-clause-rules g c = subst (λ z. IfErr c.gather.result (λ e. e.codec ≡ z)) (read_rules g.P.DecodeSetParts.parts _ _ _ _ _ _ c.loop-last.invariant) c.gather.ensures.rules
+
+pub returns-in_err-last-clause-fails : goal.returns-in_err-last-clause-fails
+returns-in_err-last-clause-fails g c =
+    let at = c.loop-last in
+    rw (residual _ c.from_residual.ensures.1) (untold_named g.P.DecodeSetParts.parts g.P.DecodeSetParts.tree _ _ c.args.self.now at.self at.last at.twice _ at.invariant c.loop-last-test.ensures _ c.in_err-last.ensures)
+
+pub returns-in_err-next-clause-fails : goal.returns-in_err-next-clause-fails
+returns-in_err-next-clause-fails g c =
+    let at = c.loop-last in
+    rw (residual _ c.from_residual-in_err-next.ensures.1)
+    (named_fails g.P.DecodeSetParts.parts g.P.DecodeSetParts.tree _ _ c.args.self.now at.self at.last at.twice _ at.invariant c.loop-last-test.ensures _ c.in_ok-last.ensures _ _ c.in_err-next.ensures.fails)
+
+pub returns-in-Some-clause-fails : goal.returns-in-Some-clause-fails
+returns-in-Some-clause-fails g c =
+    let at = c.loop-last in
+    let names = map text c.args.names.now in
+    let h : at.twice ≡ Some c.in-Some.part = search rules in
+    made_named g.P.DecodeSetParts.parts g.P.DecodeSetParts.tree c.args.name.now names c.args.self.now at.self (Err c.duplicate_field.result) (made_twice g.P.DecodeSetParts.parts names g.P.DecodeSetParts.tree c.args.self.now at.self at.last (g.P.DecodeSetParts.held at.slots) c.loop-last-test.ensures c.in-Some.part
+    (subst (λ z. ReadTo g.P.DecodeSetParts.parts names c.args.self.now at.self at.last z (g.P.DecodeSetParts.held at.slots)) h at.invariant) _
+    (subst (λ z. IsNamedError (IsDuplicateField (text c.in-Some.part)) z c.duplicate_field.result) c.codec.ensures c.duplicate_field.ensures))
+
+pub returns-clause-fails : goal.returns-clause-fails
+returns-clause-fails g c =
+    let at = c.loop-last in
+    let names = map text c.args.names.now in
+    let h : at.twice ≡ None = search rules in
+    made_named g.P.DecodeSetParts.parts g.P.DecodeSetParts.tree c.args.name.now names c.args.self.now at.self c.gather.result (all_made g.P.DecodeSetParts.parts names g.P.DecodeSetParts.tree c.args.self.now at.self at.last (g.P.DecodeSetParts.held at.slots) c.loop-last-test.ensures
+    (subst (λ z. ReadTo g.P.DecodeSetParts.parts names c.args.self.now at.self at.last z (g.P.DecodeSetParts.held at.slots)) h at.invariant) _ c.gather.ensures.makes)

@@ -1,8 +1,11 @@
-use Rattle.std.proofs.Common.{◌-◌, ◌<◌, ◌≤◌, length, sym, ◌∙◌, arith}
+use Rattle.std.proofs.Common.{◌-◌, ◌<◌, ◌≤◌, length, sym, inr, refl, ◌∙◌, arith}
 use Rattle.rasn_types.specs.Tags.{form}
 use Rattle.rasn_de.specs.declared.ber.de.parser.headers.Expected.TheVariants.{Tagged}
 use Rattle.rasn_de.specs.Headers.{spelled}
-use Rattle.rasn_de.specs.Segments.{segment_at}
+use Rattle.rasn_de.specs.declared.ber.de.parser.ParseError.TheVariants.{OutOfMemory}
+use Rattle.rasn_de.specs.Segments.{segment_at, without_memory}
+use Rattle.rasn_de.proofs.Headers.Forms.{header_memory}
+use Rattle.rasn_de.proofs.Strings.Bare.{segment_at_bare, bare_step, bare_fault}
 use Rattle.rasn_de.proofs.Headers.Frames.{spelled_by}
 use Rattle.rasn_de.proofs.Headers.Shorter.{header_shorter}
 use Rattle.rasn_de.proofs.Strings.Segments.{ends_tested, gathering_start, gathering_step, gathering_end, gathering_fault, segment_shorter, string_der, string_deep, string_nested, string_plain, string_plain_fault, string_shorter, segment_fault, segment_parsed}
@@ -21,29 +24,53 @@ returns-in-Some g t c =
 
 pub returns-in_err-append_segment : goal.returns-in_err-append_segment
 returns-in_err-append_segment g t c =
-    rw (residual _ c.from_residual.ensures.1) (λ n. string_plain_fault c.args.rule (g.T.Segmented.segment c.args.rule) c.args.tag c.args.depth (header (c.args.value, c.args.rest)) c.in-Some.segment.now _ c.in-Some.ensures.0 c.in-Some.ensures.1 (c.in_err-append_segment.ensures n))
+    let segment = g.T.Segmented.segment c.args.rule in
+    rw (residual _ c.from_residual.ensures.1) (
+      (λ n. string_plain_fault c.args.rule segment c.args.tag c.args.depth (header (c.args.value, c.args.rest)) c.in-Some.segment.now _ c.in-Some.ensures.0 c.in-Some.ensures.1 (c.in_err-append_segment.ensures.0 n)),
+      (λ m. string_plain_fault c.args.rule (without_memory segment) c.args.tag c.args.depth (header (c.args.value, c.args.rest)) c.in-Some.segment.now OutOfMemory c.in-Some.ensures.0 c.in-Some.ensures.1 (c.in_err-append_segment.ensures.1 m)),
+    )
 
 pub returns-then-is_der : goal.returns-then-is_der
-returns-then-is_der g t c = λ n.
-    string_der c.args.rule (g.T.Segmented.segment c.args.rule) c.args.tag c.args.depth (header (c.args.value, c.args.rest)) c.in_default.ensures (sym c.is_der.ensures ∙ c.if-is_der.true)
+returns-then-is_der g t c = (
+  (λ n. string_der c.args.rule (g.T.Segmented.segment c.args.rule) c.args.tag c.args.depth (header (c.args.value, c.args.rest)) c.in_default.ensures (sym c.is_der.ensures ∙ c.if-is_der.true)),
+  (λ m. cc),
+)
 
 pub returns-then-depth-eq0 : goal.returns-then-depth-eq0
-returns-then-depth-eq0 g t c = λ n.
-    string_deep c.args.rule (g.T.Segmented.segment c.args.rule) c.args.tag c.args.depth (header (c.args.value, c.args.rest)) c.in_default.ensures (sym c.is_der.ensures ∙ c.if-is_der.false) c.if-depth-eq0.true
+returns-then-depth-eq0 g t c = (
+  (λ n. string_deep c.args.rule (g.T.Segmented.segment c.args.rule) c.args.tag c.args.depth (header (c.args.value, c.args.rest)) c.in_default.ensures (sym c.is_der.ensures ∙ c.if-is_der.false) c.if-depth-eq0.true),
+  (λ m. cc),
+)
 
 pub returns-in_err-segment : goal.returns-in_err-segment
 returns-in_err-segment g t c =
+    let read = segment_at c.args.rule (g.T.Segmented.segment c.args.rule) c.args.tag (c.args.depth - 1) in
     let whole = string_nested c.args.rule (g.T.Segmented.segment c.args.rule) c.args.tag c.args.depth (header (c.args.value, c.args.rest)) c.in_default.ensures (sym c.is_der.ensures ∙ c.if-is_der.false) c.if-depth-eq0.false in
-    rw (residual _ c.from_residual-in_err-segment.ensures.1) (λ n. appends_fault (segment_at c.args.rule (g.T.Segmented.segment c.args.rule) c.args.tag (c.args.depth - 1)) _ (extent c.args.value.contents) c.args.rest.now (g.T.Segmented.items c.args.out.now) (g.T.Segmented.items c.segments.out) _ whole
-    (gathering_fault (segment_at c.args.rule (g.T.Segmented.segment c.args.rule) c.args.tag (c.args.depth - 1)) _ c.segments.left.now _ _ _ c.segments.invariant (ends_tested _ c.segments.left.now c.has_ended.ensures ∙ c.segments-test.true)
-    (segment_fault c.args.rule (g.T.Segmented.segment c.args.rule) c.args.tag (c.args.depth - 1) c.segments.left.now _ (spelled_by (form c.args.rule) _ c.of_rule.ensures (Tagged c.args.tag) c.segments.left.now _ c.in_err-segment.ensures.exact))))
+    let h = spelled_by (form c.args.rule) _ c.of_rule.ensures (Tagged c.args.tag) c.segments.left.now _ c.in_err-segment.ensures.exact in
+    rw (residual _ c.from_residual-in_err-segment.ensures.1) (
+      (λ n. appends_fault read _ (extent c.args.value.contents) c.args.rest.now (g.T.Segmented.items c.args.out.now) (g.T.Segmented.items c.segments.out) _ whole
+          (gathering_fault read _ c.segments.left.now _ _ _ c.segments.invariant.0 (ends_tested _ c.segments.left.now c.has_ended.ensures ∙ c.segments-test.true)
+          (segment_fault c.args.rule (g.T.Segmented.segment c.args.rule) c.args.tag (c.args.depth - 1) c.segments.left.now _ h))),
+      (λ m. absurd (header_memory c.args.rule c.args.tag c.segments.left.now _ h m)),
+    )
 
 pub returns-in_err-left : goal.returns-in_err-left
 returns-in_err-left g t c =
-    let whole = string_nested c.args.rule (g.T.Segmented.segment c.args.rule) c.args.tag c.args.depth (header (c.args.value, c.args.rest)) c.in_default.ensures (sym c.is_der.ensures ∙ c.if-is_der.false) c.if-depth-eq0.false in
-    rw (residual _ c.from_residual-in_err-left.ensures.1) (λ n. appends_fault (segment_at c.args.rule (g.T.Segmented.segment c.args.rule) c.args.tag (c.args.depth - 1)) _ (extent c.args.value.contents) c.args.rest.now (g.T.Segmented.items c.args.out.now) (g.T.Segmented.items c.segments.out) _ whole
-    (gathering_fault (segment_at c.args.rule (g.T.Segmented.segment c.args.rule) c.args.tag (c.args.depth - 1)) _ c.segments.left.now _ _ _ c.segments.invariant (ends_tested _ c.segments.left.now c.has_ended.ensures ∙ c.segments-test.true)
-    (segment_parsed c.args.rule (g.T.Segmented.segment c.args.rule) c.args.tag (c.args.depth - 1) c.segments.left.now (header (c.in_ok-segment.segment, c.in_ok-segment.after)) (spelled_by (form c.args.rule) _ c.of_rule.ensures (Tagged c.args.tag) c.segments.left.now _ c.in_ok-segment.ensures.exact) ∙ c.in_err-left.ensures n)))
+    let segment = g.T.Segmented.segment c.args.rule in
+    let read = segment_at c.args.rule segment c.args.tag (c.args.depth - 1) in
+    let bare = segment_at c.args.rule (without_memory segment) c.args.tag (c.args.depth - 1) in
+    let whole = string_nested c.args.rule segment c.args.tag c.args.depth (header (c.args.value, c.args.rest)) c.in_default.ensures (sym c.is_der.ensures ∙ c.if-is_der.false) c.if-depth-eq0.false in
+    let all_bare = string_nested c.args.rule (without_memory segment) c.args.tag c.args.depth (header (c.args.value, c.args.rest)) c.in_default.ensures (sym c.is_der.ensures ∙ c.if-is_der.false) c.if-depth-eq0.false in
+    let h = spelled_by (form c.args.rule) _ c.of_rule.ensures (Tagged c.args.tag) c.segments.left.now _ c.in_ok-segment.ensures.exact in
+    let on = ends_tested _ c.segments.left.now c.has_ended.ensures ∙ c.segments-test.true in
+    rw (residual _ c.from_residual-in_err-left.ensures.1) (
+      (λ n. appends_fault read _ (extent c.args.value.contents) c.args.rest.now (g.T.Segmented.items c.args.out.now) (g.T.Segmented.items c.segments.out) _ whole
+          (gathering_fault read _ c.segments.left.now _ _ _ c.segments.invariant.0 on
+          (segment_parsed c.args.rule segment c.args.tag (c.args.depth - 1) c.segments.left.now (header (c.in_ok-segment.segment, c.in_ok-segment.after)) h ∙ c.in_err-left.ensures.0 n))),
+      (λ m. appends_fault bare _ (extent c.args.value.contents) c.args.rest.now (g.T.Segmented.items c.args.out.now) (g.T.Segmented.items c.segments.out) OutOfMemory all_bare
+          (bare_fault bare _ c.segments.left.now c.segments.invariant.1 on
+          (segment_parsed c.args.rule (without_memory segment) c.args.tag (c.args.depth - 1) c.segments.left.now (header (c.in_ok-segment.segment, c.in_ok-segment.after)) h ∙ c.in_err-left.ensures.1 m))),
+    )
 
 pub segments-smaller : goal.segments-smaller
 segments-smaller g t c =
@@ -55,15 +82,23 @@ segments-smaller g t c =
 pub segments-preserved : goal.segments-preserved
 segments-preserved g t c =
     let e = c.in_ok-left.ensures in
-    gathering_step (segment_at c.args.rule (g.T.Segmented.segment c.args.rule) c.args.tag (c.args.depth - 1)) (segment_shorter c.args.rule (g.T.Segmented.segment c.args.rule) c.args.tag (c.args.depth - 1)) _ c.segments.left.now _ _ _ (e.0, c.in_ok-left.left.now)
-    c.segments.invariant (ends_tested _ c.segments.left.now c.has_ended.ensures ∙ c.segments-test.true)
-    (segment_parsed c.args.rule (g.T.Segmented.segment c.args.rule) c.args.tag (c.args.depth - 1) c.segments.left.now (header (c.in_ok-segment.segment, c.in_ok-segment.after)) (spelled_by (form c.args.rule) _ c.of_rule.ensures (Tagged c.args.tag) c.segments.left.now _ c.in_ok-segment.ensures.exact) ∙ e.1) e.2
+    let segment = g.T.Segmented.segment c.args.rule in
+    let read = segment_at c.args.rule segment c.args.tag (c.args.depth - 1) in
+    let bare = segment_at c.args.rule (without_memory segment) c.args.tag (c.args.depth - 1) in
+    let on = ends_tested _ c.segments.left.now c.has_ended.ensures ∙ c.segments-test.true in
+    let k = segment_parsed c.args.rule segment c.args.tag (c.args.depth - 1) c.segments.left.now (header (c.in_ok-segment.segment, c.in_ok-segment.after)) (spelled_by (form c.args.rule) _ c.of_rule.ensures (Tagged c.args.tag) c.segments.left.now _ c.in_ok-segment.ensures.exact) ∙ e.1 in (
+      gathering_step read (segment_shorter c.args.rule segment c.args.tag (c.args.depth - 1)) _ c.segments.left.now _ _ _ (e.0, c.in_ok-left.left.now) c.segments.invariant.0 on k e.2,
+      bare_step bare (segment_shorter c.args.rule (without_memory segment) c.args.tag (c.args.depth - 1)) _ c.segments.left.now c.in_ok-left.left.now c.segments.invariant.1 on
+          (segment_at_bare c.args.rule segment c.args.tag (c.args.depth - 1) c.segments.left.now (e.0, c.in_ok-left.left.now) k),
+    )
 
 pub returns : goal.returns
 returns g t c =
+    let read = segment_at c.args.rule (g.T.Segmented.segment c.args.rule) c.args.tag (c.args.depth - 1) in
     let whole = string_nested c.args.rule (g.T.Segmented.segment c.args.rule) c.args.tag c.args.depth (header (c.args.value, c.args.rest)) c.in_default.ensures (sym c.is_der.ensures ∙ c.if-is_der.false) c.if-depth-eq0.false in
-    let e = gathering_end (segment_at c.args.rule (g.T.Segmented.segment c.args.rule) c.args.tag (c.args.depth - 1)) _ c.segments.left.now _ _ c.segments.invariant (ends_tested _ c.segments.left.now c.has_ended.ensures ∙ c.segments-test.false) in
-    appends_finished (segment_at c.args.rule (g.T.Segmented.segment c.args.rule) c.args.tag (c.args.depth - 1)) _ (extent c.args.value.contents) c.args.rest.now c.segments.left.now _ _ e.0 _ whole e.1 e.2 c.finish.ensures
+    let e = gathering_end read _ c.segments.left.now _ _ c.segments.invariant.0 (ends_tested _ c.segments.left.now c.has_ended.ensures ∙ c.segments-test.false) in
+    appends_finished read _ _ (extent c.args.value.contents) c.args.rest.now c.segments.left.now _ _ e.0 _ whole e.1 e.2 c.finish.ensures
 
 pub segments-init : goal.segments-init
-segments-init g t c = rw c.held-left.ensures (gathering_start (segment_at c.args.rule (g.T.Segmented.segment c.args.rule) c.args.tag (c.args.depth - 1)) _ _)
+segments-init g t c =
+    rw c.held-left.ensures (gathering_start (segment_at c.args.rule (g.T.Segmented.segment c.args.rule) c.args.tag (c.args.depth - 1)) _ _, inr refl)

@@ -1,12 +1,12 @@
-use Rattle.std.proofs.Common.{◌≡◌, ◌∷◌, ◌&&◌, rules, ◌∙◌}
+use Rattle.std.proofs.Common.{◌≡◌, ◌&&◌, rules, ◌∙◌, inl}
 use Rattle.rasn_types.specs.Shapes.{default}
 use Rattle.rasn_de.specs.PartTypes.{is_looked_for}
 use Rattle.rasn_de.proofs.Leaves.Returns.{residual}
-use Rattle.rasn_de.proofs.OwnTypes.Parts.{default_part}
+use Rattle.rasn_de.proofs.OwnTypes.Parts.{default_part, default_fails}
 use Rattle.rasn_de.proofs.OwnTypes.PartTypes.{first_agrees, others_agree}
-use Rattle.rasn_de.proofs.OwnTypes.AlternativeTypes.{first_has, others_have_not, others_differ}
+use Rattle.rasn_de.proofs.OwnTypes.AlternativeTypes.{first_has, others_have_not, others_differ, own_tag, other_tag}
 use Rattle.rasn_de.proofs.OwnTypes.Tags.{tag_is}
-use Rattle.rasn_de.proofs.OwnTypes.SetPartTypes.{placed_here, placed_refused, placed_other}
+use Rattle.rasn_de.proofs.OwnTypes.SetPartTypes.{placed_here, placed_refused, placed_other, others_fail}
 use Rattle.rasn_de.proofs.ber.de.set_parts.DefaultedDecodeSetParts.decode_component.Goals as goal
 
 pub decode_component-requires-clause-differ : goal.decode_component-requires-clause-differ
@@ -31,3 +31,21 @@ returns-clause-reads g c =
     let own = first_has g.V.Value.AsnType.shape g.V.Value.AsnType.TAG g.R.DecodeSetParts.parts (is_looked_for g.V.Value.AsnType.shape g.V.Value.AsnType.TAG && g.R.DecodeSetParts.tags_differ) c.requires.differ in
     let h : c.args.tag ≡ g.V.Value.AsnType.TAG → ⊥ = search rules in
     placed_other (default g.V.DefaultValue.default_tree) g.V.Value.AsnType.shape g.R.DecodeSetParts.parts _ _ c.other_names.ensures c.args.tag g.V.Value.AsnType.TAG h own _ _ c.requires.next _ _ _ _ c.decode_component.ensures.reads
+
+pub returns-in_err-value-clause-fails : goal.returns-in_err-value-clause-fails
+returns-in_err-value-clause-fails g c =
+    let h : c.args.tag ≡ g.V.Value.AsnType.TAG = tag_is c.args.tag c.TAG.result c.if-eq.ensures ∙ c.TAG.ensures in
+    rw (residual _ c.from_residual.ensures.1) (inl (
+      own_tag g.V.Value.AsnType.shape c.args.tag g.V.Value.AsnType.TAG h (first_has g.V.Value.AsnType.shape g.V.Value.AsnType.TAG g.R.DecodeSetParts.parts (is_looked_for g.V.Value.AsnType.shape g.V.Value.AsnType.TAG && g.R.DecodeSetParts.tags_differ) c.requires.differ),
+      (
+        g.V.Value.AsnType.TAG,
+        first_agrees g.V.Value.AsnType.shape g.V.Value.AsnType.TAG g.R.DecodeSetParts.tags_differ (others_differ g.V.Value.AsnType.shape g.V.Value.AsnType.TAG g.R.DecodeSetParts.parts (is_looked_for g.V.Value.AsnType.shape g.V.Value.AsnType.TAG && g.R.DecodeSetParts.tags_differ) c.requires.differ),
+        default_fails _ g.V.Value.AsnType.tree _ g.V.DefaultValue.default_tree _ _ _ _ (λ v h. h) c.in_err-value.ensures.exact,
+      ),
+    ))
+
+pub returns-clause-fails : goal.returns-clause-fails
+returns-clause-fails g c =
+    let own = first_has g.V.Value.AsnType.shape g.V.Value.AsnType.TAG g.R.DecodeSetParts.parts (is_looked_for g.V.Value.AsnType.shape g.V.Value.AsnType.TAG && g.R.DecodeSetParts.tags_differ) c.requires.differ in
+    let h : c.args.tag ≡ g.V.Value.AsnType.TAG → ⊥ = search rules in
+    others_fail (default g.V.DefaultValue.default_tree) g.V.Value.AsnType.shape g.R.DecodeSetParts.parts _ _ _ _ _ (other_tag g.V.Value.AsnType.shape c.args.tag g.V.Value.AsnType.TAG h own) c.decode_component.ensures.fails

@@ -1,5 +1,4 @@
-use Rattle.rasn_types.specs.Shapes.{joined, optional}
-use Rattle.rasn_types.specs.Trees.{option_tree}
+use Rattle.rasn_types.specs.Shapes.{optional}
 use Rattle.rasn_de.specs.SetPartTypes.{held_tree}
 use Rattle.rasn_de.proofs.Leaves.Returns.{residual}
 use Rattle.rasn_de.proofs.OwnTypes.SetPartTypes.{others_lack, gathered_optional}

@@ -6,4 +6,5 @@ returns g c = record {
   exact = in_parts _ _ _ _ _ c.decode_parts.ensures.reads c.decode_parts.ensures.fails;
   reads = c.decode_parts.ensures.reads;
   rules = c.decode_parts.ensures.rules;
+  beyond = c.decode_parts.ensures.beyond;
 }
