@@ -21,10 +21,10 @@ mod unfold;
 
 use crate::fault::Stop;
 use crate::modules::Modules;
-use build::Builder;
 use emit::emit;
 use node::Use;
 use rasn_schema::{Schema, TypeId};
+use shape::Resolver;
 use std::alloc::Global;
 
 /// A type that was resolved.
@@ -50,9 +50,17 @@ impl<'text> Modules<'text> {
         name: &'text str,
     ) -> Result<Resolved, Stop<'text>> {
         let (at, index) = self.type_named(module, name)?;
-        let mut builder = Builder::new(alloc, self);
-        let root = builder.request(Use::of(at, index), name)?;
-        builder.run()?;
-        emit(builder, root, name)
+        let resolver = Resolver {
+            alloc,
+            modules: self,
+        };
+        let mut unchecked = 0;
+        let nodes = resolver.nodes(Use::of(at, index), name, &mut unchecked)?;
+        let (schema, root) = emit(alloc, self, nodes, name)?;
+        Ok(Resolved {
+            schema,
+            root,
+            unchecked,
+        })
     }
 }

@@ -20,13 +20,8 @@ pub(crate) fn schema_fault<'text>(
     };
     let (one, first) = part(node, index);
     let (two, second) = part(node, other);
-    let what = if is_clash(error) {
-        Problem::Clash(one, two)
-    } else {
-        problem(error)
-    };
     let position = second.or(first).unwrap_or(node.position);
-    modules.fault(node.module, position, what)
+    modules.fault(node.module, position, problem(error, one, two))
 }
 
 /// Returns the name and the place of a part, or those of the type.
@@ -60,18 +55,12 @@ fn place(error: SchemaError) -> (TypeId, Option<usize>, Option<usize>) {
     }
 }
 
-fn is_clash(error: SchemaError) -> bool {
+/// Returns why the standard or only the schema refuses a type, of which two parts may clash.
+fn problem<'text>(error: SchemaError, one: &'text str, other: &'text str) -> Problem<'text> {
     match error {
         SchemaError::AlternativesClash { .. }
         | SchemaError::ComponentsClash { .. }
-        | SchemaError::SetClash { .. } => true,
-        _ => false,
-    }
-}
-
-/// Returns whether the standard or only the schema refuses a type, and why.
-fn problem<'text>(error: SchemaError) -> Problem<'text> {
-    match error {
+        | SchemaError::SetClash { .. } => Problem::Clash(one, other),
         SchemaError::UntaggedComponent { .. } => {
             Problem::Unsupported("a component that may be absent, has no tag and isn't the last")
         }
