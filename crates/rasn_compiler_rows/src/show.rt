@@ -1,6 +1,6 @@
 //! Types of a schema as text.
 use rasn_compiler::Resolved;
-use rasn_schema::{Component, NamedNumber, Presence, Schema, Type, TypeId};
+use rasn_schema::{Alternative, Component, NamedNumber, Presence, Schema, Type, TypeId};
 use rasn_types::types::{Bounded, Class, Constraints, Tag};
 use std::alloc::{AllocError, Global};
 
@@ -24,66 +24,43 @@ fn show(text: &mut String, schema: &Schema, id: TypeId, levels: usize) -> Result
     if levels == 0 {
         return text.push_str("..");
     }
-    match schema.types().get(id.0) {
-        None => text.push('?'),
-        Some(Type::Choice { alternatives, .. }) => {
-            text.push_str("CHOICE {")?;
-            for alternative in alternatives {
-                write!(text, " {}: ", alternative.name.as_str())?;
-                show(text, schema, alternative.type_id, levels - 1)?;
-            }
-            text.push_str(" }")
+    let Some(ty) = schema.types().get(id.0) else {
+        return text.push('?');
+    };
+    push_head(text, ty)?;
+    match ty {
+        Type::Choice { alternatives, .. } => {
+            show_alternatives(text, schema, alternatives, levels - 1)
         }
-        Some(Type::Sequence { tag, components }) => {
-            text.push_str("SEQUENCE")?;
-            push_tag(text, *tag)?;
+        Type::Sequence { components, .. } | Type::Set { components, .. } => {
             show_components(text, schema, components, levels - 1)
         }
-        Some(
-            Type::Set {
-                tag,
-                components,
-                ..
-            },
-        ) => {
-            text.push_str("SET")?;
-            push_tag(text, *tag)?;
-            show_components(text, schema, components, levels - 1)
-        }
-        Some(Type::Tagged { tag, inner }) => {
-            text.push_str("explicit")?;
-            push_tag(text, *tag)?;
+        Type::Tagged { inner, .. } => {
             text.push(' ')?;
             show(text, schema, *inner, levels - 1)
         }
-        Some(
-            Type::SequenceOf {
-                tag,
-                element,
-                constraints,
-            },
-        ) => {
-            text.push_str("SEQUENCE")?;
-            push_tag(text, *tag)?;
-            push_constraints(text, constraints)?;
+        Type::SequenceOf { element, .. } | Type::SetOf { element, .. } => {
             text.push_str(" OF ")?;
             show(text, schema, *element, levels - 1)
         }
-        Some(
-            Type::SetOf {
-                tag,
-                element,
-                constraints,
-            },
-        ) => {
-            text.push_str("SET")?;
-            push_tag(text, *tag)?;
-            push_constraints(text, constraints)?;
-            text.push_str(" OF ")?;
-            show(text, schema, *element, levels - 1)
-        }
-        Some(other) => push_leaf(text, other),
+        _ => Ok(()),
     }
+}
+
+/// Adds alternatives.
+#[cycle(show)]
+fn show_alternatives(
+    text: &mut String,
+    schema: &Schema,
+    alternatives: &[Alternative],
+    levels: usize,
+) -> Result<(), AllocError> {
+    text.push_str(" {")?;
+    for alternative in alternatives {
+        write!(text, " {}: ", alternative.name.as_str())?;
+        show(text, schema, alternative.type_id, levels)?;
+    }
+    text.push_str(" }")
 }
 
 /// Adds components.
@@ -120,9 +97,29 @@ fn push_presence(
     }
 }
 
-/// Adds a type that holds no others.
-fn push_leaf(text: &mut String, ty: &Type) -> Result<(), AllocError> {
+/// Adds the name of a type, its tag and its bounds, and the names of its numbers.
+fn push_head(text: &mut String, ty: &Type) -> Result<(), AllocError> {
     match ty {
+        Type::Choice { .. } => text.push_str("CHOICE"),
+        Type::Sequence { tag, .. } => push_tagged(text, "SEQUENCE", *tag),
+        Type::Set { tag, .. } => push_tagged(text, "SET", *tag),
+        Type::Tagged { tag, .. } => push_tagged(text, "explicit", *tag),
+        Type::SequenceOf {
+            tag,
+            constraints,
+            ..
+        } => {
+            push_tagged(text, "SEQUENCE", *tag)?;
+            push_constraints(text, constraints)
+        }
+        Type::SetOf {
+            tag,
+            constraints,
+            ..
+        } => {
+            push_tagged(text, "SET", *tag)?;
+            push_constraints(text, constraints)
+        }
         Type::Leaf {
             kind,
             tag,
@@ -135,19 +132,17 @@ fn push_leaf(text: &mut String, ty: &Type) -> Result<(), AllocError> {
             push_numbers(text, names)
         }
         Type::Enumerated { tag, numbers } => {
-            text.push_str("ENUMERATED")?;
-            push_tag(text, *tag)?;
+            push_tagged(text, "ENUMERATED", *tag)?;
             push_numbers(text, numbers)
         }
-        Type::Any { tag } => {
-            text.push_str("ANY")?;
-            if *tag == Tag::EOC {
-                return Ok(());
-            }
-            push_tag(text, *tag)
-        }
-        _ => Ok(()),
+        Type::Any { tag } if *tag == Tag::EOC => text.push_str("ANY"),
+        Type::Any { tag } => push_tagged(text, "ANY", *tag),
     }
+}
+
+fn push_tagged(text: &mut String, word: &str, tag: Tag) -> Result<(), AllocError> {
+    text.push_str(word)?;
+    push_tag(text, tag)
 }
 
 fn push_tag(text: &mut String, tag: Tag) -> Result<(), AllocError> {

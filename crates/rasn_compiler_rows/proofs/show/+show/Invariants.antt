@@ -6,3 +6,6 @@ decreases-show l = 2 * l.levels
 
 abbrev pub decreases-show_components : goal.decreases-show_components
 decreases-show_components l = 2 * l.levels + 1
+
+abbrev pub decreases-show_alternatives : goal.decreases-show_alternatives
+decreases-show_alternatives l = 2 * l.levels + 1
