@@ -17,3 +17,4 @@ pub mod Numbers
 pub mod ListsOf
 pub mod UnfitParts
 pub mod LeafWritten
+pub mod Faults

@@ -7,11 +7,13 @@ mod components;
 mod entry;
 mod fit;
 mod fitting;
+mod locate;
 mod order;
 mod path;
 mod read_leaf;
 mod reader;
 mod set;
+mod trace;
 mod unfit;
 mod write_leaf;
 mod writer;
@@ -21,4 +23,5 @@ pub use entry::{
     normalise,
 };
 pub use fitting::fits;
+pub use locate::{Refusal, decode_or_locate};
 pub use path::ValuePath;
