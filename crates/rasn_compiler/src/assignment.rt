@@ -53,7 +53,7 @@ impl<'tokens, 'text> Parser<'tokens, 'text> {
         Ok(Assigned::Type(self.read_type(MAX_DEPTH)?))
     }
 
-    /// Takes what stands in braces, which have to be next.
+    /// Takes what is in braces, which have to be next.
     fn expect_braces(&mut self) -> Result<Unread<'text>, Stop<'text>> {
         match self.braces()? {
             Some(inner) => Ok(inner),

@@ -32,7 +32,7 @@ impl<'tokens, 'text> Parser<'tokens, 'text> {
         Ok(found)
     }
 
-    /// Reads what stands between two commas.
+    /// Reads what is between two commas.
     #[cycle(types)]
     fn component(&mut self, depth: usize) -> Result<Component<'text>, Stop<'text>> {
         if self.eat("...") {

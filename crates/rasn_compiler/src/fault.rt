@@ -6,9 +6,9 @@ use std::fmt;
 /// What is wrong.
 #[derive(Clone, Copy, Debug, PartialEq, Eq)]
 pub enum Problem<'text> {
-    /// Something else has to stand here.
+    /// Something else has to be here.
     Expected(&'static str),
-    /// Types stand more than 64 deep in one another.
+    /// Types are nested more than 64 deep.
     TooDeep,
     /// No module has this name, or none that is imported.
     Undefined(&'text str),
@@ -49,7 +49,7 @@ impl fmt::Display for Problem<'_> {
 pub struct Fault<'text> {
     /// The name of the text.
     pub source: &'text str,
-    /// Where the fault stands.
+    /// Where the fault is.
     pub position: Position,
     /// What is wrong.
     pub problem: Problem<'text>,

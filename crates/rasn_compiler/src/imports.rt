@@ -14,7 +14,7 @@ impl<'tokens, 'text> Parser<'tokens, 'text> {
         Ok(())
     }
 
-    /// Reads IMPORTS, if it stands here.
+    /// Reads IMPORTS, if it is next.
     pub(crate) fn imports(&mut self) -> Result<Vec<Import<'text>>, Stop<'text>> {
         let mut imports = Vec::new(self.alloc);
         if !self.eat("IMPORTS") {

@@ -152,7 +152,7 @@ fn digits_length(text: &str) -> usize {
         .unwrap_or(text.len())
 }
 
-/// Reads a string, in which two quotation marks stand for one (X.680 12.14).
+/// Reads a string, in which two quotation marks mean one (X.680 12.14).
 fn string(text: &str) -> (Kind, usize) {
     let mut is_open = false;
     for (at, octet) in text.bytes().enumerate() {

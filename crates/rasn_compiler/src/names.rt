@@ -29,7 +29,7 @@ impl<'tokens, 'text> Parser<'tokens, 'text> {
         }
     }
 
-    /// Returns whether a macro's notation stands here in place of a type, as OPERATION or ERROR with arguments (X.219).
+    /// Returns whether a macro's notation is next in place of a type, as OPERATION or ERROR with arguments (X.219).
     pub(crate) fn begins_macro_use(&self) -> bool {
         let Some(token) = self.rest.first() else {
             return false;

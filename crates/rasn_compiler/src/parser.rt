@@ -8,7 +8,7 @@ use crate::token::{Kind, Token};
 use crate::tree::{Type, Unread};
 use std::alloc::Global;
 
-/// How deep types may stand in one another.
+/// How deep types may be nested.
 pub(crate) const MAX_DEPTH: usize = 64;
 
 /// The items of a text that are left, and the types that were read.
@@ -118,7 +118,7 @@ impl<'tokens, 'text> Parser<'tokens, 'text> {
         }
     }
 
-    /// Returns how deep types may stand in what is read here.
+    /// Returns how deep types may be nested in what is read here.
     pub(crate) fn deeper(&self, depth: usize) -> Result<usize, Stop<'text>>
         ensures { IfOk result (λ d. d + 1 ≡ depth) }
     {
@@ -128,7 +128,7 @@ impl<'tokens, 'text> Parser<'tokens, 'text> {
         Ok(depth - 1)
     }
 
-    /// Takes what stands between a bracket and the one that closes it.
+    /// Takes what is between a bracket and the one that closes it.
     pub(crate) fn balanced(&mut self) -> Result<Unread<'text>, Stop<'text>> {
         let mut open = Vec::new(self.alloc);
         for (at, token) in self.rest.iter().enumerate() {
@@ -162,7 +162,7 @@ impl<'tokens, 'text> Parser<'tokens, 'text> {
         }
     }
 
-    /// Takes what stands in braces, if a brace is next.
+    /// Takes what is in braces, if a brace is next.
     pub(crate) fn braces(&mut self) -> Result<Option<Unread<'text>>, Stop<'text>> {
         if self.is("{") {
             Ok(Some(self.balanced()?))

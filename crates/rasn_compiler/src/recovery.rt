@@ -60,7 +60,7 @@ impl<'tokens, 'text> Parser<'tokens, 'text> {
         false
     }
 
-    /// Returns whether the item that so many others precede may stand in a type before `::=`.
+    /// Returns whether the item that so many others precede may be a part of a type before `::=`.
     fn may_govern(&self, ahead: usize) -> bool {
         match self.rest.get(ahead) {
             Some(token) => {
@@ -83,7 +83,7 @@ impl<'tokens, 'text> Parser<'tokens, 'text> {
         }
     }
 
-    /// Returns whether a name, an identifier and DEFINITIONS stand here.
+    /// Returns whether a name, an identifier and DEFINITIONS are next.
     fn begins_module(&self) -> bool {
         if self.peek() != Kind::Upper {
             return false;
@@ -100,7 +100,7 @@ impl<'tokens, 'text> Parser<'tokens, 'text> {
         }
     }
 
-    /// Returns how many items stand up to the brace that closes the one after the next item, if that isn't far.
+    /// Returns how many items there are up to the brace that closes the one after the next item, if that isn't far.
     fn after_braces(&self) -> Option<usize> {
         let mut depth = 0usize;
         for ahead in 1..MAX_AHEAD {

@@ -5,7 +5,7 @@ use crate::token::Kind;
 use crate::tree::{Tag, TagClass, Tagging, Unread};
 
 impl<'tokens, 'text> Parser<'tokens, 'text> {
-    /// Reads the tags that stand here.
+    /// Reads the tags that are next.
     pub(crate) fn tags(&mut self) -> Result<Vec<Tag<'text>>, Stop<'text>> {
         let mut tags = Vec::new(self.alloc);
         for _ in 0..self.rest.len() {
@@ -59,7 +59,7 @@ impl<'tokens, 'text> Parser<'tokens, 'text> {
         }
     }
 
-    /// Takes the constraints that stand here.
+    /// Takes the constraints that are next.
     pub(crate) fn constraints(&mut self) -> Result<Vec<Unread<'text>>, Stop<'text>> {
         let mut constraints = Vec::new(self.alloc);
         for _ in 0..self.rest.len() {

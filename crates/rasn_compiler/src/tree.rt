@@ -1,7 +1,7 @@
 //! What a module says, as it is written.
 //!
-//! Types stand in a list of their module and name one another by [`TypeIndex`], so that no tree is deeper than one level.
-//! Values, constraints and what stands in braces are read further once their type is known (X.680 17.7).
+//! Types are in a list of their module and name one another by [`TypeIndex`], so that no tree is deeper than one level.
+//! Values, constraints and what is in braces are read further once their type is known (X.680 17.7).
 use crate::position::Position;
 use std::collections::BTreeMap;
 
@@ -17,19 +17,19 @@ pub struct Unread<'text> {
 /// A module (X.680 13).
 #[derive(Drop)]
 pub struct Module<'text> {
-    /// The name of the text that it stands in.
+    /// The name of the text that it is in.
     pub source: &'text str,
     pub name: &'text str,
     /// The place of its name.
     pub position: Position,
-    /// What stands in braces after its name.
+    /// What is in braces after its name.
     pub identifier: Option<Unread<'text>>,
     /// What a tag without IMPLICIT or EXPLICIT is.
     pub tagging: Tagging,
-    /// Whether EXTENSIBILITY IMPLIED stands in its head.
+    /// Whether EXTENSIBILITY IMPLIED is in its head.
     pub is_extensible: bool,
     pub imports: Vec<Import<'text>>,
-    /// The types that stand in its assignments, also within other types.
+    /// The types in its assignments, also within other types.
     pub types: Vec<Type<'text>>,
     pub assignments: Vec<Assignment<'text>>,
     /// What each name means in the module.
@@ -104,7 +104,7 @@ pub struct Type<'text> {
     pub position: Position,
     pub tags: Vec<Tag<'text>>,
     pub base: Base<'text>,
-    /// What stands in parentheses after it (X.680 49).
+    /// What is in parentheses after it (X.680 49).
     pub constraints: Vec<Unread<'text>>,
 }
 
@@ -170,7 +170,7 @@ pub enum Base<'text> {
 /// What SEQUENCE OF or SET OF says of its elements (X.680 26, 28).
 #[derive(Clone, Copy)]
 pub struct ListOf<'text> {
-    /// A constraint that stands before OF.
+    /// A constraint that is before OF.
     pub size: Option<Unread<'text>>,
     pub name: Option<&'text str>,
     pub element: TypeIndex,
@@ -224,7 +224,7 @@ pub struct NamedNumber<'text> {
     pub number: Option<Value<'text>>,
 }
 
-/// What stands between the commas of SEQUENCE, SET or CHOICE (X.680 25, 27, 29). Version brackets aren't kept.
+/// What is between the commas of SEQUENCE, SET or CHOICE (X.680 25, 27, 29). Version brackets aren't kept.
 #[derive(Clone, Copy)]
 pub enum Component<'text> {
     Named {
@@ -268,6 +268,6 @@ pub enum Value<'text> {
         module: Option<&'text str>,
         name: &'text str,
     },
-    /// Any other: what stands in braces, `name : value`, `Type : value`, `object.&field`.
+    /// Any other: what is in braces, `name : value`, `Type : value`, `object.&field`.
     Unread(Unread<'text>),
 }

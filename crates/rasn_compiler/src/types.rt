@@ -6,7 +6,7 @@ use crate::tree::{Base, Builtin, ListOf, NamedNumber, Type, TypeIndex, Unread};
 use std::alloc::AllocError;
 
 impl<'tokens, 'text> Parser<'tokens, 'text> {
-    /// Reads a type in which others may stand so deep.
+    /// Reads a type in which others may be nested so deep.
     #[cycle(types)]
     pub(crate) fn read_type(&mut self, depth: usize) -> Result<TypeIndex, Stop<'text>> {
         let depth = self.deeper(depth)?;
@@ -51,7 +51,7 @@ impl<'tokens, 'text> Parser<'tokens, 'text> {
         self.simple_type()
     }
 
-    /// Reads the elements of SEQUENCE OF or SET OF, whose size may stand before OF (X.680 26, 28).
+    /// Reads the elements of SEQUENCE OF or SET OF, whose size may be before OF (X.680 26, 28).
     #[cycle(types)]
     fn element(&mut self, depth: usize) -> Result<ListOf<'text>, Stop<'text>> {
         let size = self.size()?;
@@ -92,7 +92,7 @@ impl<'tokens, 'text> Parser<'tokens, 'text> {
         }
     }
 
-    /// Reads a type in which no other stands.
+    /// Reads a type that holds no other.
     fn simple_type(&mut self) -> Result<Base<'text>, Stop<'text>> {
         match self.peek() {
             Kind::Upper => self.reference(),

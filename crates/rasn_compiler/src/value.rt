@@ -22,7 +22,7 @@ impl<'tokens, 'text> Parser<'tokens, 'text> {
         Err(self.refuse("a value"))
     }
 
-    /// Takes what stands before `:`, a type or the name of an alternative, and the colon.
+    /// Takes what is before `:`, a type or the name of an alternative, and the colon.
     fn governor(&mut self) -> Result<(), Stop<'text>> {
         let mut count = 0usize;
         for token in self.rest {
@@ -38,7 +38,7 @@ impl<'tokens, 'text> Parser<'tokens, 'text> {
         Ok(())
     }
 
-    /// Reads a value that no other precedes, if one stands here.
+    /// Reads a value that no other precedes, if one is next.
     fn plain_value(&mut self) -> Result<Option<Value<'text>>, Stop<'text>> {
         if self.is_after(1, ":") {
             return Ok(None);
@@ -91,7 +91,7 @@ impl<'tokens, 'text> Parser<'tokens, 'text> {
         Ok(Value::Name { module, name })
     }
 
-    /// Reads a value that a reserved word or a mark begins, if one stands here.
+    /// Reads a value that begins with a reserved word or a mark, if one is next.
     fn fixed_value(&mut self) -> Result<Option<Value<'text>>, Stop<'text>> {
         let start = self.rest;
         if self.is("{") {
@@ -108,7 +108,7 @@ impl<'tokens, 'text> Parser<'tokens, 'text> {
         Ok(self.worded_value())
     }
 
-    /// Reads a value that is a reserved word, if one stands here.
+    /// Reads a value that is a reserved word, if one is next.
     fn worded_value(&mut self) -> Option<Value<'text>> {
         if self.eat("TRUE") {
             Some(Value::Boolean(true))

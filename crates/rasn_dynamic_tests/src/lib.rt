@@ -1,15 +1,11 @@
-//! The tests of schemas, and of values that are read and written by them.
+//! The tests of schemas, and of values by schema, whose calls are what is tested. What octets mean is in the rows of `rasn_schema_vectors`.
 #![tactic(auto)]
 
 #[cfg(test)]
-mod errors;
-#[cfg(test)]
-mod messages;
-#[cfg(test)]
-mod refused;
+mod names;
 #[cfg(test)]
 mod sizes;
 #[cfg(test)]
-mod values;
+mod types;
 #[cfg(test)]
-mod written;
+mod values;

@@ -11,3 +11,4 @@ pub mod OtherKinds
 pub mod EqualLists
 pub mod NamedTypes
 pub mod Depth
+pub mod Clash

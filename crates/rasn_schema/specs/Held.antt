@@ -5,7 +5,7 @@ use Rattle.rasn_schema.specs.declared.type_id.TypeId.{TypeId}
 use Rattle.rasn_schema.specs.declared.types.Component.{Component}
 use Rattle.rasn_schema.specs.declared.types.Alternative.{Alternative}
 use Rattle.rasn_schema.specs.declared.types.«Type».{«Type»}
-use Rattle.rasn_schema.specs.declared.types.«Type».TheVariants.{Choice, Sequence, Set}
+use Rattle.rasn_schema.specs.declared.types.«Type».TheVariants.{Choice, Sequence, Set, SequenceOf, SetOf}
 use Rattle.rasn_schema.specs.declared.value.Value.{Value, Items', Elements', Chosen', items-the_row-Value}
 
 abbrev pub held_in : Value → List Value
@@ -36,3 +36,19 @@ IsOneOf types ty = (j : ℕ) × (Some ty ≡ slice_get types j)
 -- The value is a part with this name of a value of one of the types.
 abbrev pub IsNamedPartOf : List «Type» → Value → List ℕ → TypeId → Value → Type 0
 IsNamedPartOf types v name id part = (k : ℕ) × (ty : «Type») × IsOneOf types ty × IsPartNamed ty name k id × (Some part ≡ slice_get (held_in v) k)
+
+-- The type of component k has this number.
+abbrev pub IsComponentType : List Component → ℕ → TypeId → Type 0
+IsComponentType ps k id = (c : Component) × (Some c ≡ slice_get ps k) × (c.type_id ≡ id)
+
+-- The type of component or element k of a value of this type has this number.
+abbrev pub IsTypeOfPart : «Type» → ℕ → TypeId → Type 0
+IsTypeOfPart (Sequence tag ps) k id = IsComponentType ps.items k id
+IsTypeOfPart (Set tag name ps) k id = IsComponentType ps.items k id
+IsTypeOfPart (SequenceOf tag element c) k id = element ≡ id
+IsTypeOfPart (SetOf tag element c) k id = element ≡ id
+IsTypeOfPart _ k id = ⊥
+
+-- The value is component or element k of a value of one of the types.
+abbrev pub IsPartAt : List «Type» → Value → ℕ → TypeId → Value → Type 0
+IsPartAt types v k id part = ((ty : «Type») × IsOneOf types ty × IsTypeOfPart ty k id) × (Some part ≡ slice_get (held_in v) k)

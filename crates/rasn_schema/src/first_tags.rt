@@ -13,6 +13,7 @@ use crate::types::{Alternative, Type, tag_at, type_at};
 use rasn_types::types::Tag;
 
 /// The tags with which the values of a type may begin.
+#[derive(Clone, Copy)]
 pub enum FirstTags<'types> {
     /// None.
     Nothing,

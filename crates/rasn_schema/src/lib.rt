@@ -20,7 +20,7 @@ mod view;
 
 pub use begin::{alternative_for, begins};
 pub use error::SchemaError;
-pub use named::{TypeName, alternative_named, component_named, name_of_number, number_named};
+pub use named::{Named, TypeName, index_named, name_of_number};
 pub use schema::Schema;
 pub use type_id::TypeId;
 pub use types::{Alternative, Component, LeafKind, NamedNumber, Presence, Type, tag_at, type_at};

@@ -15,7 +15,7 @@ ghost use Rattle.rasn_schema.specs.Faults.{IsTagFault, IsTaggedFault, IsLeafFaul
 
 use crate::begin::begins;
 use crate::error::SchemaError;
-use crate::first_tags::{is_before, is_distinct};
+use crate::first_tags::{FirstTags, first_tags_at, is_before, is_distinct};
 use crate::type_id::TypeId;
 use crate::types::{
     Alternative, Component, LeafKind, NamedNumber, Presence, Type, tag_at, type_at,
@@ -210,8 +210,31 @@ fn late_or_untagged(
     None
 }
 
-/// Returns the index of the first alternative after `index` that may begin with a tag with which `alternative` begins.
-fn same_alternative(
+/// Returns the index of the first alternative after `index` that may begin with the tag.
+fn alternative_with(
+    types: &[Type],
+    levels: usize,
+    alternatives: &[Alternative],
+    index: usize,
+    tag: Tag,
+) -> Option<usize>
+    requires { index < length alternatives.now }
+    ensures { let f = shape_of_type types.now levels in
+        MatchOption result
+        ((j : ℕ) (a : Alternative) → index < j → Some a ≡ slice_get alternatives.now j → IsFirst (f a.type_id.0) tag → ⊥)
+        (λ j. (index < j) × ((a : Alternative) × (Some a ≡ slice_get alternatives.now j) × IsFirst (f a.type_id.0) tag)) }
+{
+    for other in index + 1..alternatives.len() {
+        let next = &alternatives[other];
+        if begins(types, levels, next.type_id, tag) {
+            return Some(other);
+        }
+    }
+    None
+}
+
+/// Returns the index of the first alternative after `index` that may begin with one of the tags with which `alternative` begins.
+fn overlapping_alternative(
     types: &[Type],
     levels: usize,
     alternatives: &[Alternative],
@@ -231,6 +254,26 @@ fn same_alternative(
         }
     }
     None
+}
+
+/// Returns the index of the first alternative after `index` that may begin with a tag with which `alternative` begins.
+fn same_alternative(
+    types: &[Type],
+    levels: usize,
+    alternatives: &[Alternative],
+    index: usize,
+    alternative: TypeId,
+) -> Option<usize>
+    requires { index < length alternatives.now }
+    ensures { let f = shape_of_type types.now levels in
+        MatchOption result
+        ((j : ℕ) (a : Alternative) → index < j → Some a ≡ slice_get alternatives.now j → AreDistinct (f alternative.0) (f a.type_id.0))
+        (λ j. (index < j) × ((a : Alternative) × (Some a ≡ slice_get alternatives.now j) × (AreDistinct (f alternative.0) (f a.type_id.0) → ⊥))) }
+{
+    match first_tags_at(types, levels, alternative) {
+        FirstTags::One(tag) => alternative_with(types, levels, alternatives, index, tag),
+        _ => overlapping_alternative(types, levels, alternatives, index, alternative),
+    }
 }
 
 /// Returns the first two alternatives that may begin with the same tag (X.680 29.3).

@@ -87,7 +87,9 @@ impl Schema {
         type_id: TypeId,
         value: &'view Value<'input>,
     ) -> View<'view, 'input>
-        ensures { result.value.now ≡ value.now }
+        ensures schema { result.schema.now ≡ self.now }
+        ensures type_id { result.type_id ≡ type_id }
+        ensures value { result.value.now ≡ value.now }
     {
         View {
             schema: self,

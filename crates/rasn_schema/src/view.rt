@@ -1,9 +1,9 @@
 //! Access into values by index and by name.
 ghost use Rattle.std.specs.Prelude.{◌≡◌, ℕ, Some, slice_get, IfSome};
 ghost use Rattle.std.specs.String.{string_bytes};
-ghost use Rattle.rasn_schema.specs.Held.{held_in, IsComponentNamed, IsAlternativeNamed, IsPartNamed, IsNamedPartOf, IsOneOf};
+ghost use Rattle.rasn_schema.specs.Held.{held_in, IsComponentNamed, IsAlternativeNamed, IsPartNamed, IsNamedPartOf, IsOneOf, IsComponentType, IsTypeOfPart, IsPartAt};
 
-use crate::named::{component_named, is_name};
+use crate::named::{has_name, index_named};
 use crate::schema::Schema;
 use crate::type_id::TypeId;
 use crate::types::{Alternative, Component, Type, type_at};
@@ -34,12 +34,21 @@ pub fn untagged(types: &[Type], id: TypeId) -> Option<&Type>
     Some(ty)
 }
 
+/// Returns the number of the type of the component with this index.
+fn component_type(components: &[Component], index: usize) -> Option<TypeId>
+    ensures { IfSome result (IsComponentType components.now index) }
+{
+    let component = component_at(components, index)?;
+    Some(component.type_id)
+}
+
 /// Returns the number of the type of the part with this index.
-fn part_type(ty: &Type, index: usize) -> Option<TypeId> {
+fn part_type(ty: &Type, index: usize) -> Option<TypeId>
+    ensures { IfSome result (IsTypeOfPart ty.now index) }
+{
     match ty {
-        Type::Sequence { components, .. } | Type::Set { components, .. } => {
-            Some(components.get(index)?.type_id)
-        }
+        Type::Sequence { components, .. } => component_type(components.as_slice(), index),
+        Type::Set { components, .. } => component_type(components.as_slice(), index),
         Type::SequenceOf { element, .. } | Type::SetOf { element, .. } => Some(*element),
         _ => None,
     }
@@ -90,7 +99,7 @@ fn chosen_named<'view, 'input>(
         return None;
     };
     let alternative = alternative_at(alternatives, *index)?;
-    if is_name(&alternative.name, name) {
+    if has_name(alternative, name) {
         Some((alternative.type_id, inner))
     } else {
         None
@@ -105,7 +114,7 @@ fn component_value<'view, 'input>(
 ) -> Option<(TypeId, &'view Value<'input>)>
     ensures { IfSome result (λ part. (k : ℕ) × IsComponentNamed components.now name.now k part.0 × (Some part.1.now ≡ slice_get (held_in value.now) k)) }
 {
-    let index = component_named(components, name)?;
+    let index = index_named(components, name)?;
     let component = component_at(components, index)?;
     Some((component.type_id, part_at(value, index)?))
 }
@@ -129,7 +138,7 @@ fn part_named<'view, 'input>(
 impl<'view, 'input> View<'view, 'input> {
     /// Returns the component or the element with this index, counted from 0.
     pub fn at(&self, index: usize) -> Option<View<'view, 'input>>
-        ensures { IfSome result (λ part. Some part.value.now ≡ slice_get (held_in self.now.value.now) index) }
+        ensures { IfSome result (λ part. IsPartAt self.now.schema.now.types.items self.now.value.now index part.type_id part.value.now) }
     {
         let ty = untagged(self.schema.types(), self.type_id)?;
         Some(View {

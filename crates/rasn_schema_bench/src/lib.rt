@@ -9,3 +9,4 @@ mod tags;
 pub use certificate::{CERTIFICATE, CERTIFICATE_TYPES};
 pub use definition::{Definition, ONE_OR_MORE, Occurrence, Part, types};
 pub use filter::{FILTER, FILTER_TYPES};
+pub use tags::{CONTEXT_0, CONTEXT_1, CONTEXT_2, CONTEXT_3};

@@ -1,12 +1,15 @@
-use Rattle.std.proofs.Common.{refl, arith}
-use Rattle.rasn_schema.proofs.Lists.{so_far_more, so_far_end, read_at}
+use Rattle.std.proofs.Common.{◌<◌, length, sym, ap, ◌∙◌}
+use Rattle.std.proofs.lemmas.Option.{slice_get_within}
+use Rattle.rasn_schema.specs.declared.named.TypeName.{TypeName}
+use Rattle.rasn_schema.proofs.Lists.{read_at, some_is}
 use Rattle.rasn_schema.proofs.named.type_named.Goals as goal
 
-pub returns-then-is_name : goal.returns-then-is_name
-returns-then-is_name c = (c.loop-named.named-index, c.named-item.result, (read_at c.args.names.now c.loop-named.named-index c.named-item.result (let n = c.loop-named-test.true in omega arith) c.named-item.is), c.if-is_name.ensures, refl)
-
-pub loop-named-preserved : goal.loop-named-preserved
-loop-named-preserved c = so_far_more _ c.args.names.now c.loop-named.named-index c.named-item.result (read_at c.args.names.now c.loop-named.named-index c.named-item.result (let n = c.loop-named-test.true in omega arith) c.named-item.is) c.if-is_name.ensures c.loop-named.invariant
-
 pub returns : goal.returns
-returns c = so_far_end _ c.args.names.now c.loop-named.named-index (let n = c.loop-named-test.false in omega arith) c.loop-named.invariant
+returns c =
+    let p = c.in_ok-index.ensures.0 in
+    let l = c.args.names.now in
+    let i = c.in_ok-index.index in
+    let r = c.index-names-index.result in
+    let within : i < length l = slice_get_within l i p.0 (sym p.1) in
+    let here = read_at l i r within c.index-names-index.is in
+    (i, p.0, p.1, p.2, ap (λ (n : TypeName). n.type_id) (some_is p.0 r (p.1 ∙ sym here) ∙ c.index-names-index.is))

@@ -1,12 +1,8 @@
-use Rattle.std.proofs.Common.{arith}
-use Rattle.rasn_schema.proofs.Lists.{so_far_more, so_far_end, read_at}
+use Rattle.rasn_schema.specs.Shapes.{shape_of_type}
+use Rattle.rasn_schema.proofs.Clash.{clash_by_tag}
 use Rattle.rasn_schema.proofs.rules.same_alternative.Goals as goal
 
-pub returns-then-not-is_distinct : goal.returns-then-not-is_distinct
-returns-then-not-is_distinct c = (omega arith, (c.index-alternatives-other.result, (read_at c.args.alternatives.now c.loop-other.other c.index-alternatives-other.result (let n = c.loop-other-test.true in omega arith) c.index-alternatives-other.is), c.if-not-is_distinct.ensures))
-
-pub loop-other-preserved : goal.loop-other-preserved
-loop-other-preserved c = so_far_more _ c.args.alternatives.now c.loop-other.other c.index-alternatives-other.result (read_at c.args.alternatives.now c.loop-other.other c.index-alternatives-other.result (let n = c.loop-other-test.true in omega arith) c.index-alternatives-other.is) (λ h. c.if-not-is_distinct.ensures) c.loop-other.invariant
-
-pub returns : goal.returns
-returns c = λ j a l e. so_far_end _ c.args.alternatives.now c.loop-other.other (let n = c.loop-other-test.false in omega arith) c.loop-other.invariant j a e l
+pub returns-in-One : goal.returns-in-One
+returns-in-One c =
+    let f = shape_of_type c.args.types.now c.args.levels in
+    clash_by_tag f (f c.args.alternative.0) c.in-One.tag c.args.alternatives.now c.args.index _ c.in-One.ensures.tags.0 c.in-One.ensures.tags.1 c.alternative_with.ensures

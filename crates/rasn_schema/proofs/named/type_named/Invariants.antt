@@ -1,7 +1,0 @@
-use Rattle.std.proofs.Common.{◌≢◌}
-use Rattle.std.specs.String.{string_bytes}
-use Rattle.rasn_schema.proofs.Lists.{SoFar}
-use Rattle.rasn_schema.proofs.named.type_named.Given as goal
-
-abbrev pub invariant-loop-named : goal.invariant-loop-named
-invariant-loop-named l = SoFar (λ j n. string_bytes n.name ≢ l.name) l.names l.named-index

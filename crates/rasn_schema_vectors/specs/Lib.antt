@@ -1,0 +1,2 @@
+pub mod LineShapes
+pub mod SchemaAnswers
