@@ -1,4 +1,4 @@
--- The laws that the functions of src/laws.rt and src/time_laws.rt promise, but for those that need an answer.
+-- The laws that the functions of src/laws.rt and src/time_laws.rt promise, except those that need an answer.
 use Rattle.rasn.proofs.StrictDer.AllCarried.{lawful_tested}
 use Rattle.rasn.proofs.LawsHold.Written.{included, one_choice, one_leaf, one_open, one_option, one_prefix, one_reading, one_sequence, one_sequence_of, one_set, one_set_of, read_again, strict_der, turns, written_once}
 use Rattle.rasn.proofs.Worked.Shapes.{carried, shapes}

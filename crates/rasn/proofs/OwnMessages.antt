@@ -1,4 +1,4 @@
--- What the clauses of `der` say of a type of one's own whose shape is lawful, and of which all that DER reads is carried: the same, without a premise.
+-- What the clauses of `der` say of your own type whose shape is lawful, and of which all that DER reads is carried: the same, without a premise.
 use Rattle.std.proofs.Common.{◌≡◌, ℕ, List, [], true, Result, Ok, Err, IfOk, ◌∙◌}
 use Rattle.std.proofs.lemmas.List.{append-nil}
 use Rattle.std.specs.Global.{Vec}

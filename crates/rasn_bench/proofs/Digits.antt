@@ -1,4 +1,4 @@
--- Readings of digits, one behind the other.
+-- Readings of digits, one after the other.
 use Rattle.std.proofs.Common.{◌≡◌, ◌≤◌, ◌<◌, length, get_or, arith, ℕ, List, [], ◌∷◌, ◌++◌, Option, Some, None, refl, sym, ap, ◌∙◌, append_assoc}
 use Rattle.rasn_bench.specs.Lines.{behind, pairs_at}
 

@@ -1,4 +1,4 @@
--- What came of each part of an Event.
+-- What was read of each part of an Event.
 use Rattle.std.proofs.Common.{◌≡◌, ◌⊎◌, inl, inr, ℕ, Bool, List, [], ◌∷◌, ◌++◌, Option, Some, None, map, unwrap_or, refl, sym, ap, subst, arith}
 use Rattle.rasn_types.specs.Tags.{in_universal}
 use Rattle.rasn_types.specs.declared.types.tag.Tag.{Tag}
@@ -25,7 +25,7 @@ time_alone tag (inr (inr e)) = absurd e
 abbrev pub Slots : Option Time → Option ℕ → Option Bool → List Tree → Type 0
 Slots time level confirmed readings = Slot 0 time_tree time readings × Slot 1 level_tree level readings × Slot 2 bool_tree confirmed readings
 
--- The next component is put where none of its part has come.
+-- The next component is put where none of its part was read.
 module _ (done : List Component) (time : Option Time) (level : Option ℕ) (confirmed : Option Bool) (s : Slots time level confirmed (map component_tree done)) where
   pub appended_time : (t : Time) → time ≡ None → Slots (Some t) level confirmed (map component_tree (done ++ At t ∷ []))
   appended_time t e = (
@@ -48,13 +48,13 @@ module _ (done : List Component) (time : Option Time) (level : Option ℕ) (conf
     slot_appended component_tree bool_tree done (Confirmed b) b 2 refl confirmed e s.2,
   )
 
--- No time has come at the end.
+-- No time was read at the end.
 pub no_time : (all done : List Component) → done ≡ all → (held : Option Time) → held ≡ None → Slot 0 time_tree held (map component_tree done) → (kind : DecodeErrorKind)
     → Exact (λ input v left. AreParts event_parts (map component_tree all) v) [] (refusal kind)
 no_time all done e held f s kind = component_missing event_parts 0 refl (map component_tree all)
     (subst (λ h. Slot 0 time_tree h (map component_tree all)) f (subst (λ l. Slot 0 time_tree held (map component_tree l)) e s)) kind
 
--- The level that came, or the default.
+-- The level that was read, or the default.
 found : (held : Option ℕ) (n : ℕ) → n ≡ unwrap_or held 7 → (held ≡ Some n) ⊎ ((held ≡ None) × (level_tree n ≡ level_tree 7))
 found None n e = inr (refl, ap level_tree e)
 found (Some m) n e = inl (ap Some (sym e))

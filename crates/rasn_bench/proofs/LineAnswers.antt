@@ -1,4 +1,4 @@
--- Answers to octets, from what was read, written and normalised.
+-- Results for octets, from what was read, written and normalised.
 use Rattle.std.proofs.Common.{◌≡◌, ◌⊎◌, inl, inr, ℕ, List, Vec, Result, Ok, Err, length, sym, subst, refl}
 use Rattle.std.specs.Prelude.{IfOk, IfErr}
 use Rattle.std.specs.Global.{Global}

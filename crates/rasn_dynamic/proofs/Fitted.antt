@@ -80,7 +80,7 @@ module _ (g : ℕ → Value → Type 0) (ks : List Alternative) (i : ℕ) (w : V
   pub no_alternative : length ks ≤ i → AlternativeFits g ks i w → ⊥
   no_alternative l (x, f, k) = omega (arith, l, slice_get_within ks i x (sym f))
 
--- A name that stands in the list has a listed number.
+-- A name that is in the list has a listed number.
 pub named_listed : (ns : List NamedNumber) (i : ℕ) (m : NamedNumber) (z : ℤ) → Some m ≡ slice_get ns i → m.number ≡ z → Contains (numbers_of ns) z
 named_listed [] i m z e f = cc
 named_listed (n ∷ ns) zero m z e f = (0, omega arith, ap (λ (x : NamedNumber). x.number) (some_is n m (sym e)) ∙ f)

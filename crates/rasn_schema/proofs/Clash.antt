@@ -1,4 +1,4 @@
--- A type whose values begin with one tag alone is told from another one by that tag.
+-- A type whose values begin with one tag alone is distinguished from another one by that tag.
 use Rattle.std.proofs.Common.{◌≡◌, ◌<◌, ℕ, List, Option, Some, None, subst}
 use Rattle.std.specs.Prelude.{slice_get, MatchOption}
 use Rattle.rasn_types.specs.declared.types.tag.Tag.{Tag}

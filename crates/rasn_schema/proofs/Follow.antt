@@ -41,7 +41,7 @@ module _ (f : ℕ → Shape) (tag : Tag) (ps : List Component) (index : ℕ) whe
           n (subst (λ (y : Component). IsFirst (f y.type_id.0) tag) (some_is q x (k ∙ sym e)) h)
       go (inr (inr u)) = m.1 other x l u e a
 
--- what a component without a tag of its own is told from
+-- what a component without a tag of its own is distinguished from
 module _ (types : List «Type») where
   pub own_none : (k : ℕ) (tag : Tag) → tag ≡ tag_at types k → tag ≡ eoc → own_at types k ≡ None
   own_none k tag e n = let h : tag_at types k ≡ eoc = sym e ∙ n in rw h refl

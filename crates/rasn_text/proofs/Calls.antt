@@ -6,7 +6,7 @@ use Rattle.rasn_text.specs.declared.kind.Kind.TheVariants.{Certificate, Revocati
 use Rattle.rasn_text.specs.Arguments.{IsCall, IsOptionOf, ber_word, check_word, given, named}
 use Rattle.rasn_text.specs.Kinds.{name_of}
 
--- What stands behind an option that may be given is what was found behind it, where that doesn't begin with the option itself.
+-- What follows an option that may be given is what was found after it, if that doesn't begin with the option itself.
 behind : (words : List (List ℕ)) (option : List ℕ) (found is_given : Bool) (others rest : List (List ℕ)) → IsOptionOf words option found others
     → words ≡ given is_given option ++ rest → ((after : List (List ℕ)) → rest ≢ option ∷ after) → others ≡ rest
 behind words option true true others rest o e n = let i = o.is in cc
@@ -26,7 +26,7 @@ no_dash Snmp = λ e. omega arith
 no_option : (kind : Kind) (option : List ℕ) → get_or option 0 0 ≡ 45 → name_of kind ≢ option
 no_option kind option dash = λ e. no_dash kind (ap (λ w. get_or w 0 0) e ∙ dash)
 
--- Neither do the words behind an option begin with it again.
+-- Neither do the words after an option begin with it again.
 no_ber : (checks : Bool) (kind : Kind) (rest after : List (List ℕ)) → given checks check_word ++ (name_of kind ∷ rest) ≢ ber_word ∷ after
 no_ber true kind rest after = λ e. cc
 no_ber false kind rest after = λ e. no_option kind ber_word refl (cc)
@@ -34,7 +34,7 @@ no_ber false kind rest after = λ e. no_option kind ber_word refl (cc)
 no_check : (kind : Kind) (rest after : List (List ℕ)) → name_of kind ∷ rest ≢ check_word ∷ after
 no_check kind rest after = λ e. no_option kind check_word refl (cc)
 
--- Words are no call where what stands behind the options names no kind.
+-- Words are no call if what follows the options names no kind.
 pub none : (words behind_ber behind_check : List (List ℕ)) (reads_ber checks : Bool) → IsOptionOf words ber_word reads_ber behind_ber
     → IsOptionOf behind_ber check_word checks behind_check → ((kind : Kind) (file : Option (List ℕ)) → behind_check ≢ name_of kind ∷ named file)
     → (rule : Codec) (is_checked : Bool) (kind : Kind) (file : Option (List ℕ)) → IsCall words rule is_checked kind file → ⊥

@@ -93,7 +93,7 @@ last_only rest r s is [] h b e = absurd (h refl)
 last_only rest r s is (z ∷ []) h b e = (z, refl, All-head IsSmall z [] b, e ∙ append-nil (decimal z))
 last_only rest r s is (z ∷ y ∷ l) h b e = absurd (rw is at (split_after 46 rest (decimal z) (dotted (y ∷ l)) r s (omega arith) e (no_point z (All-head IsSmall z (y ∷ l) b))))
 
--- What is left of a text behind arcs that were read.
+-- What remains of a text after arcs that were read.
 pub record Parsing (text arcs rest : List ℕ) : Type 0 where
   pub below : All IsSmall arcs
   pub sound : (m : List ℕ) → m ≢ [] → rest ≡ dotted m → text ≡ dotted (arcs ++ m)

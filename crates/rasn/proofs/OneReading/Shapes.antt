@@ -85,7 +85,7 @@ one_set_of rule tag s size one depth closing = λ input t u r o h k.
     inside_one (λ c. ReadsSetOf rule size (Reads rule s (depth - 2) c) c)
     (set_of_one rule size (λ c. Reads rule s (depth - 2) c) (λ c. one (depth - 2) c)) input t u r o h.1 k.1
 
--- The parts of lawful shapes are lawful, and told apart where they must be.
+-- The parts of lawful shapes are lawful, and distinguished where they have to be.
 abbrev pub EachLawful : Parts → Type 0
 EachLawful none = Unit {0}
 EachLawful (part presence s ps) = IsLawful s × EachLawful ps

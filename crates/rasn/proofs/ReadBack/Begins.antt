@@ -69,7 +69,7 @@ tagged (set tag ps) = inl tt
 tagged (list tag s size) = inl tt
 tagged (set_of tag s size) = inl tt
 
--- Some identifier comes, in a spelling of some form: open octets without a tag stay lenient.
+-- An identifier follows, in a spelling of some form: open octets without a tag stay lenient.
 abbrev pub HasNextTag : List ℕ → Type 0
 HasNextTag input = (spelling : Form) × (n : Tag) × NextTag spelling input n
 
@@ -85,7 +85,7 @@ has_next_tag s solid rule depth closing input t rest h = go (tagged s)
     go (inl has) = let b = begins s solid has rule depth closing input t rest h in (form rule, b.0, b.1)
     go (inr e) = any_is_next rule depth closing input t rest (subst (λ x. Reads rule x depth closing input t rest) e h)
 
--- A first tag comes in the form's spelling, or any tag may come.
+-- A first tag follows in the form's spelling, or any tag may follow.
 abbrev pub Starts : Form → (Tag → Type 0) → List ℕ → Type 0
 Starts spelling P input = BeginsIn spelling P input ⊎ ((n : Tag) → P n)
 
@@ -120,7 +120,7 @@ mutual
       inl (u, e, n, p, f, solid_closing s solid.0 rule depth c d input u rest h, z)
   some_closing (part presence s ps) solid k rule depth c d input t rest (inr h) = inr (some_closing ps solid.1 (suc k) rule depth c d input t rest h)
 
--- At the top, where end-of-contents octets may stand, what was read without them is read too.
+-- At the top, where end-of-contents octets are allowed, what was read without them is read too.
 left_out_wider : (spelling : Form) (tag : Option Tag) (input : List ℕ) → IsLeftOut spelling tag false input → IsLeftOut spelling tag true input
 left_out_wider spelling None input (inl h) = inl h
 left_out_wider spelling None input (inr h) = let e = h.0 in cc

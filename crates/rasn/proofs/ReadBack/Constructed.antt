@@ -11,7 +11,7 @@ use Rattle.rasn_types.specs.Bytes.{DefiniteForm, IndefiniteForm, ConstructedEnco
 use Rattle.rasn_types.proofs.Headers.Frames.{not_ended}
 use Rattle.rasn.proofs.ReadBack.Begins.{HasNextTag}
 
--- What may stand behind the values of some contents.
+-- What may follow the values of some contents.
 abbrev pub IsTail : Bool → List ℕ → Type 0
 IsTail false tail = tail ≡ []
 IsTail true tail = (more : List ℕ) × (tail ≡ 0 ∷ 0 ∷ more)

@@ -44,7 +44,7 @@ own_first (set t ps) solid tag n e h = cc
 own_first (list t s size) solid tag n e h = cc
 own_first (set_of t s size) solid tag n e h = cc
 
--- The contents end, or one of the parts comes.
+-- The contents end, or one of the parts follows.
 abbrev pub IsFollowed : Form → Parts → Bool → List ℕ → Type 0
 IsFollowed spelling ps closing input = Ended closing input ⊎ Starts spelling (IsFirstBehind ps) input
 

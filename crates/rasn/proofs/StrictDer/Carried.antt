@@ -47,7 +47,7 @@ missing_made s depth addition t e m = absurd (m.0 e)
 missing_made s depth (default d) t e (inl m) = inl (m, refl)
 missing_made s depth (default d) t e (inr m) = inl (m.1 e, refl)
 
--- A part, with the rest behind it.
+-- A part, with the rest after it.
 abbrev pub PartMade : Shape → Presence → List ℕ → Tree → List ℕ → Type 0
 PartMade s presence input t rest = (b : List ℕ) × WritesPart presence (Bytes Der s) t b × (input ≡ b ++ rest)
 

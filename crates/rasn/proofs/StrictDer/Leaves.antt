@@ -1,4 +1,4 @@
--- A leaf that DER reads stands as it is written.
+-- The octets of a leaf that DER reads are those that are written.
 use Rattle.std.proofs.Common.{◌≡◌, ℕ, inl, List, ◌++◌, Bool, false, refl, sym, ap, ◌∙◌, subst, append_assoc}
 use Rattle.rasn_types.specs.Tags.{der_form, in_universal}
 use Rattle.rasn_types.specs.declared.types.codec.Codec.TheVariants.{Der}
@@ -16,7 +16,7 @@ use Rattle.rasn.proofs.StrictDer.Time.{utc_written, generalized_written, date_wr
 pub tail_octets : (input a b : List ℕ) → input ≡ a ++ b → AreOctets input → AreOctets b
 tail_octets input a b e o = (front_octets a b (subst AreOctets e o)).1
 
--- A value that DER frames stands as it is written.
+-- The octets of a value that DER frames are those that are written.
 pub record Framed (tag : Tag) (bit : Bool) (contents rest input : List ℕ) : Type 0 where
   pub text : List ℕ
   pub is : DefiniteForm tag bit contents text

@@ -1,4 +1,4 @@
--- What a tree that DER reads owes to be written: it meets the depth, and a default is the same as what stands for it.
+-- What a tree that DER reads needs to be written: it is within the depth, and a default is the same as the value that it replaces.
 use Rattle.std.proofs.Common.{◌≡◌, ℕ, suc, ◌-◌, ◌<◌, ◌⊎◌, ◌≢◌, inl, inr, List, [], ◌∷◌, refl, sym, ◌∙◌, subst, arith, Some, None}
 use Rattle.rasn_types.specs.declared.types.codec.Codec.TheVariants.{Der}
 use Rattle.rasn_types.specs.Shapes.{Tree, joined, items, set_elements, chosen, absent, Shape, leaf, any, prefix, choice, option, seq, set, list, set_of, Parts, part, Presence, required, optional, addition, default}

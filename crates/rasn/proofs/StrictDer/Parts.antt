@@ -1,4 +1,4 @@
--- What DER reads of parts and elements stands as it is written.
+-- The octets of parts and elements that DER reads are those that are written.
 use Rattle.std.proofs.Common.{◌≡◌, ℕ, suc, ◌<◌, ◌≢◌, inl, inr, List, [], ◌∷◌, ◌++◌, Bool, Option, sym, ap, ap₂, ◌∙◌, subst, arith, append_assoc}
 use Rattle.rasn_types.specs.declared.types.codec.Codec.TheVariants.{Der}
 use Rattle.rasn_types.specs.declared.types.tag.Tag.{Tag}
@@ -42,7 +42,7 @@ default_left s depth back d t b e (inr (f, w)) (inl m) = absurd (f m)
 default_left s depth back d t b e (inr (f, w)) (inr m) =
     let r = back t b m w in absurd (f (subst (Same t) e (same_trans t r.0 t r.1 (same_sym t r.0 r.1))))
 
--- A part that doesn't come isn't written.
+-- A part that is missing isn't written.
 pub missing_told : (s : Shape) (depth : ℕ) → IsBack Der s depth → (presence : Presence) (t : Tree) (b : List ℕ) → IsMissing presence t
     → WritesPart presence (Bytes Der s) t b → PartIsWithinLimits presence (IsWithinLimits Der s depth) t → b ≡ []
 missing_told s depth back required t b e w m = absurd e
@@ -51,7 +51,7 @@ missing_told s depth back optional t b e (inr w) m = absurd (w.0 e)
 missing_told s depth back addition t b e w m = absurd (m.0 e)
 missing_told s depth back (default d) t b e w m = default_left s depth back d t b e w m
 
--- A part that comes is written.
+-- A part that is present is written.
 pub next_told : (s : Shape) (depth : ℕ) → Told s depth → (presence : Presence) (closing : Bool) (input : List ℕ) (t : Tree) (rest b : List ℕ) → AreOctets input
     → Reads Der s depth closing input t rest → IsNoDefault presence t → WritesPart presence (Bytes Der s) t b → PartIsWithinLimits presence (IsWithinLimits Der s depth) t → input ≡ b ++ rest
 next_told s depth k required closing input t rest b o h n w m = k.told closing input t rest b o h w m
@@ -91,7 +91,7 @@ in_order_told (part presence s ps) depth k c closing input ts rest bs o (t, us, 
     (subst (λ x. PartsWritten (fields_of Der ps) x cs) q ws) (subst (AreWithinLimits Der ps depth) q' ms) in
     a ∙ (ap (λ l. b ++ l) r ∙ (sym (append_assoc b (joined_lists cs) rest) ∙ ap (λ l. joined_lists l ++ rest) (sym f)))
 
--- Where nothing comes, nothing is written.
+-- If nothing is present, nothing is written.
 pub all_missing_told : (ps : Parts) (depth : ℕ) → EachTold depth ps → (c : Bool) (ts : List Tree) (bs : List (List ℕ)) → AllMissing (presences_in (parts_of Der ps depth c)) ts
     → PartsWritten (fields_of Der ps) ts bs → AreWithinLimits Der ps depth ts → joined_lists bs ≡ []
 unfolding Reads parts_of Bytes fields_of IsWithinLimits

@@ -1,4 +1,4 @@
--- What DER reads of the components of a SET stands as it is written.
+-- The octets of the components of a SET that DER reads are those that are written.
 use Rattle.std.proofs.Common.{◌≡◌, ℕ, suc, ◌<◌, ◌⊎◌, ◌≢◌, inl, inr, List, [], ◌∷◌, ◌++◌, Bool, sym, ap, ◌∙◌, subst, arith, append_assoc}
 use Rattle.rasn_types.specs.Tags.{der_form, IsTagBelow}
 use Rattle.rasn_types.specs.declared.types.codec.Codec.TheVariants.{Der}
@@ -30,7 +30,7 @@ first_of none depth k c input t rest h = absurd h
 first_of (part presence s ps) depth k c input t rest (inl h) = (h.2, h.3, inl h.4)
 first_of (part presence s ps) depth k c input t rest (inr h) = let r = first_of ps depth (suc k) c input t rest h in (r.0, r.1, inr r.2)
 
--- the tag of a piece is the one that comes
+-- the tag of a piece is the next tag
 same_first : (input b rest : List ℕ) (t n : Tag) → input ≡ b ++ rest → Begins b t → NextTag der_form input n → t ≡ n
 same_first input b rest t n e h next = begins_one input t n (subst (λ i. Begins i t) (sym e) (begins_more b rest t h)) next.begins
 
@@ -52,7 +52,7 @@ module _ (presence : Presence) (s : Shape) (ps : Parts) (depth k : ℕ) (c : Boo
       let z : n ≡ o = same_first middle d rest n o j q next in
       subst (λ l. IsTagBelow l m) (sym z) (subst (IsTagBelow o) (sym w) (below o r.0 first r.2))
 
-  -- So that of part k comes first.
+  -- So that of part k is the first.
   pub first_is_next : (input : List ℕ) (rs : List Tree) (rest : List ℕ) (os : List (List ℕ)) (tags : List Tag) (x : Tree) (before after : List Tree) (t : Tree)
       → ReadsFrom (Components (part presence s ps) depth k c) input rs rest os → Each Begins os tags → AreAscending IsTagBelow tags
       → rs ≡ x ∷ (before ++ (chosen k t ∷ after)) → NoneOf k (x ∷ before) → ⊥
@@ -70,7 +70,7 @@ module _ (presence : Presence) (s : Shape) (ps : Parts) (depth k : ℕ) (c : Boo
       let l : q ∷ rs ≡ y ∷ (before ++ (chosen k t ∷ after)) = cc in
       first_is_next middle (q ∷ rs) rest az z.1 y before after t hs z.4 (fewer z.0 z.1 (subst (AreAscending IsTagBelow) z.2 d)) l f.1
 
-  -- Components none of which is of part k are of the parts behind it.
+  -- Components none of which is of part k are of the parts after it.
   pub behind : (input : List ℕ) (rs : List Tree) (rest : List ℕ) (os : List (List ℕ)) → ReadsFrom (Components (part presence s ps) depth k c) input rs rest os → NoneOf k rs
       → ReadsFrom (Components ps depth (suc k) c) input rs rest os
   unfolding Reads parts_of
@@ -96,7 +96,7 @@ IsSetTold ps depth = (k : ℕ) (c : Bool) (input : List ℕ) (rs : List Tree) (r
     → ReadsFrom (Components ps depth k c) input rs rest os → ByPart k (presences ps) rs ts → AreInTagOrder os
     → PartsWritten (fields_of Der ps) ts bs → AreWithinLimits Der ps depth ts → input ≡ joined_lists bs ++ rest
 
--- The component of part k comes first, and then those of the parts behind it.
+-- The component of part k is the first, followed by those of the parts after it.
 is_next_first : (presence : Presence) (s : Shape) (ps : Parts) (depth : ℕ) → EachTold depth (part presence s ps) → ((m n : Tag) → IsFirst s m → IsFirstOf ps n → IsTagBelow m n)
     → IsSetTold ps depth → (k : ℕ) (c : Bool) (input : List ℕ) (rs : List Tree) (rest : List ℕ) (os : List (List ℕ)) (t : Tree) (us : List Tree) (b : List ℕ) (cs : List (List ℕ)) → AreOctets input
     → ReadsFrom (Components (part presence s ps) depth k c) input rs rest os → OneOf k t rs

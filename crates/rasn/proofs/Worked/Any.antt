@@ -115,7 +115,7 @@ empty_not_written : (rule : Codec) → Bytes rule (any (Some (contextual 1))) (n
 unfolding Bytes fields_of
 empty_not_written rule = ([], refl, inl (refl, refl))
 
--- No value comes where nothing is left.
+-- There is no value in empty octets.
 nothing_is_next : {spelling : Form} {tag : Tag} {bit : Bool} {rest : List ℕ} {extent : Extent} → Frame spelling [] tag bit rest extent → ⊥
 nothing_is_next {tag = tag} f = not_ended false [] tag (frame_next f) (inl refl)
 
@@ -161,7 +161,7 @@ no_inside : {X : Type 0} (rule : Codec) (tag : Tag) (bit : Bool) (reads : Bool �
 no_inside rule tag bit reads input x rest e (definite_form c f h) = nothing_is_next (subst (λ l. Frame (form rule) l tag bit rest (definite c)) (sym e) f)
 no_inside rule tag bit reads input x rest e (indefinite_form b f h) = nothing_is_next (subst (λ l. Frame (form rule) l tag bit b indefinite) (sym e) f)
 
--- Behind the BOOLEAN nothing is left.
+-- After the BOOLEAN nothing remains.
 awaited : (rule : Codec) (c : List ℕ) (ts : List Tree) (rest : List ℕ) → 1 ∷ 1 ∷ 255 ∷ [] ≡ c
     → ReadsInOrder rule (parts_of rule (part required (plain boolean 1) (part addition (prefix (contextual 0) (plain (integer every) 2)) none)) 127 false) false c ts rest → ⊥
 unfolding Reads parts_of

@@ -16,7 +16,7 @@ star (inr (inl h)) = omega (arith, h.0)
 star (inr (inr (inl h))) = omega (arith, h.0)
 star (inr (inr (inr h))) = grind (arith, rules)
 
--- what stands in front of the first `*`
+-- what precedes the first `*`
 first_letter : (k d : ℕ) → k < 1 → IsPrintable (get_or (65 ∷ 42 ∷ 64 ∷ 42 ∷ []) k d)
 first_letter zero d h = inl (omega arith, omega arith)
 first_letter (suc k) d h = absurd (omega (arith, h))

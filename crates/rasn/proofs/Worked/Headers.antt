@@ -86,7 +86,7 @@ padded_tag_31 = lenient (tagged boolean 31) tagged_lawful (159 ∷ 128 ∷ 31 �
   tt,
 ) tagged_carried (λ e. cc)
 
--- 128 octets, behind 81 80 and behind 82 00 80.
+-- 128 octets, after 81 80 and after 82 00 80.
 length_128 : (octets : List ℕ) → length octets ≡ 128 → SpellsLength (129 ∷ 128 ∷ []) (length octets)
 length_128 octets e = inr (refl, omega arith, omega arith, e, omega (arith, e))
 

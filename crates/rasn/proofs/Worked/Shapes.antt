@@ -65,7 +65,7 @@ no_set_elements (vs, ws, e, p, h) = no_list vs h
     no_list [] h = cc
     no_list (v ∷ vs) h = cc
 
--- Empty contents leave an addition out where no part has to come.
+-- Empty contents leave an addition out if no part is required.
 nothing_read : Reads Der added_alone 128 false (48 ∷ 0 ∷ []) (items (absent ∷ [])) []
 unfolding Reads parts_of
 nothing_read = (

@@ -30,13 +30,13 @@ use Rattle.rasn_de.proofs.Leaves.Errors.{same_at}
 use Rattle.rasn_de.proofs.Headers.Frames.{header_parsed, header_spelled, IsExpected}
 use Rattle.rasn_de.proofs.Headers.Ends.{IsEnd-refl, IsEnd-frame, IsEnd-trans}
 
--- what stands in front of the last octets
+-- what precedes the last octets
 front_is : (l text rest : List ℕ) → l ≡ text ++ rest → take (length l - length rest) l ≡ text
 front_is l text rest e =
     let n : length (text ++ rest) - length rest ≡ length text = simp length-append (omega arith) in
     rw (e, n) (take-append_seam text rest)
 
--- One whole encoding: all that stands in front of what follows.
+-- One whole encoding: all that precedes what follows.
 pub encoding_open : (rule : Codec) (input : List ℕ) (t : ℕ) (rest : List ℕ) → Exactly (Skipped rule input) (IsFault rule input) (Ok (t, rest))
     → OpenAt rule None input (Ok (take (length input - length rest) input, rest))
 encoding_open rule input t rest (s, one) = ((s.text, ap numbers front, s.whole, s.is), same)

@@ -64,7 +64,7 @@ pass_on rule n input tag bit contents after t rest f (middle, s, u, c, h, e) =
       omega arith,
     )
 
--- whole encodings behind one another: the first of them
+-- whole encodings one after the other: the first of them
 data First (rule : Codec) (input : List ℕ) (s : ℕ) (middle : List ℕ) : Type 0 where
   definite_first : (tag : Tag) (bit : Bool) (contents after : List ℕ) (v : ℕ) → Frame (loose rule) input tag bit after (definite contents) → EncodingsToEnd rule after v middle → s ≡ 1 + v → First rule input s middle
   open_first : (tag : Tag) (bit : Bool) (after between : List ℕ) (v w : ℕ) → Frame (loose rule) input tag bit after indefinite → EncodingsToEnd rule after v between → EncodingsToEnd rule between w middle → s ≡ 1 + (v + w) → First rule input s middle
@@ -133,7 +133,7 @@ enter_back rule n input tag bit after t rest o f (middle, s, u, c, h, e) = go (f
         (v + (w + u), omega arith, (m, v, w + u, subst (λ z. EncodingsToEnd rule z v m) (sym r) d, (middle, w, u, q, h, refl), refl))
     go (closed_first x y) = absurd (frame_not_zero (0 ∷ middle) f x)
 
--- Where neither a value nor end-of-contents octets come, nothing is completed.
+-- If neither a value nor end-of-contents octets follow, nothing is completed.
 pub unparsable_back : (rule : Codec) (n : ℕ) (input : List ℕ) (t : ℕ) (rest : List ℕ) (fault : ParseError) → AreOctets input → header_at (loose rule) AnyTag input ≡ Err fault
     → ((more : List ℕ) → input ≡ 0 ∷ 0 ∷ more → ⊥) → Levels rule (suc n) input t rest → ⊥
 unparsable_back rule n input t rest fault o x y (middle, s, u, c, h, e) = go (first_of_closed rule input s middle c)

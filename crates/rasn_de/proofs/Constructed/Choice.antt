@@ -1,4 +1,4 @@
--- A CHOICE is read where a tag comes.
+-- A CHOICE is read if a tag follows.
 use Rattle.std.proofs.Common.{◌≡◌, inl, inr, ℕ, Bool, suc, List, [], ◌∷◌, Result, Ok, Err, refl, sym, subst}
 use Rattle.rasn_types.specs.declared.types.codec.Codec.{Codec}
 use Rattle.rasn_types.specs.declared.types.tag.Tag.{Tag}

@@ -69,7 +69,7 @@ expected_tag false rule tag found bit e = written_tag rule tag found true bit e
 pub constructed_header_tag : (d : ConstructedHeader) (rule : Codec) (found : Tag) (bit : Bool) → IsExpected (expected_header d rule) found bit → found ≡ d.tag
 constructed_header_tag d rule found bit e = expected_tag d.must_be_constructed rule d.tag found bit e
 
--- the header of a value behind the constructed header
+-- the header of a value after the constructed header
 module _ (d : ConstructedHeader) (rule : Codec) (depth : ℕ) (l : List ℕ) where
   constructed_header_cases : (b : Bool) → nat_eq depth 0 ≡ b → (r : Result Header ParseError) → header_at (form rule) (expected_header d rule) l ≡ r → (h : Header) → constructed_header_at d rule depth l ≡ Ok h → (depth ≢ 0) × (header_at (form rule) (expected_header d rule) l ≡ Ok h) × (d.must_be_constructed && not h.bit ≡ false)
   constructed_header_cases true e r f h g = let k : nat_eq depth 0 ≡ true = e in absurd (let m : constructed_header_at d rule depth l ≡ Err (Rattle.rasn_de.specs.declared.ber.de.parser.ParseError.TheVariants.ExceedsMaxParseDepth, l) = rw e refl in cc)

@@ -65,7 +65,7 @@ module _ (R : Reading Tree) (closing : Bool) where
       go [] k = n k.0
       go (u ∷ us) (k, s, x, j) = none u s x
 
-  -- An element that takes nothing would come again and again.
+  -- An element that consumes nothing would be read again and again.
   unparsable : (here : List ℕ) (t : Tree) → (Ended closing here → ⊥) → ((u : Tree) (s : List ℕ) → R here u s → (u ≡ t) × (s ≡ here)) → (us : List Tree) (r : List ℕ) → ReadsMany R closing here us r → ⊥
   unparsable here t n one [] r m = n m.0
   unparsable here t n one (u ∷ us) r (k, s, x, m) = unparsable here t n one us r (subst (λ z. ReadsMany R closing z us r) (one u s x).1 m)
@@ -73,12 +73,12 @@ module _ (R : Reading Tree) (closing : Bool) where
   pub passed_unparsable : (start here : List ℕ) (before : List Tree) (t : Tree) → Passed start here before → (Ended closing here → ⊥) → Exact R here (Got t here) → (u : Tree) (r : List ℕ) → Items start u r → ⊥
   passed_unparsable start here before t p n x u r (ts, q, m) = let b = p.back ts r m in unparsable here t n x.1 b.0 r b.2
 
--- What stands at the end of a list and is as long is the list.
+-- What is at the end of a list and is as long is the list.
 same_end : (l r : List ℕ) → IsEnd l r → length r ≡ length l → r ≡ l
 same_end l r ([], e) n = sym e
 same_end l r (b ∷ front, e) n = absurd (let k : length l ≡ suc (length front + length r) = ap length e ∙ ap suc (length-append front r) in omega arith)
 
--- Elements on a decoder: old is where they begin, here is where they have come to.
+-- Elements on a decoder: old is where they begin, here is where the read ones end.
 module _ {D : Type 0} (s : Shape) (tree : D → Tree) (old : State) where
   abbrev pub Come : State → List D → Type 0
   Come here vs = (here ≡ at old here.rest) × IsEnd old.rest here.rest × Passed (Reads old.rule s old.depth old.closing) old.closing old.rest here.rest (map tree vs)

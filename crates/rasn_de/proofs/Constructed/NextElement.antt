@@ -17,7 +17,7 @@ module _ {D : Type 0} (read : Call D) (here next : State) (v : D) (d : Ended her
   pub passes_more : (old : State) (vs us : List D) → us ≡ vs ++ v ∷ [] → DecodesInTurn read old vs here → DecodesInTurn read old us next
   passes_more old vs us e p = subst (λ l. DecodesInTurn read old l next) (sym e) (behind old vs p)
 
--- Where elements have come to, the rules are the same.
+-- Where the read elements end, the rules are the same.
 turn_stays : {D : Type 0} (s : Shape) (tree : D → Tree) (old here : State) (vs : List D) → DecodesInTurn (Decodes s tree) old vs here → here ≡ at old here.rest
 turn_stays s tree old here [] e = same_at old here e
 turn_stays s tree old here (v ∷ vs) (m, e, q, k, p) = turn_stays s tree m here vs p ∙ ap (λ (x : State). at x here.rest) q.stays

@@ -1,4 +1,4 @@
--- A value that may be left out is read where it comes.
+-- A value that may be left out is read where it is present.
 use Rattle.std.proofs.Common.{◌≡◌, ◌≢◌, ◌⊎◌, inl, inr, Bool, true, false, List, ℕ, Option, Some, None, Result, Ok, Err, refl, sym, ap, subst}
 use Rattle.std.specs.declared.alloc.AllocError.{AllocError}
 use Rattle.rasn_types.specs.declared.types.tag.Tag.{Tag}
@@ -33,7 +33,7 @@ apart spelling (Some tag) closing input (inl e) t = t.0 e
 apart spelling (Some tag) closing input (inr (next, n, d)) t = d (next_one input next tag n t.1)
 apart spelling None closing input e t = t e
 
--- Where the look at the next tag is refused, no value comes next.
+-- If peeking at the next tag fails, no value follows.
 pub peeks_none : (s : State) (e : DecodeError) → PeeksTag s (Err e) → (t : Tag) → NextTag (form s.rule) s.rest t → ⊥
 peeks_none s e (f, p, w) t n = found (identifier_at (form s.rule) s.rest) refl p
   where
@@ -102,7 +102,7 @@ perhaps_decodes s tree tag old (Err e) new (inl (c, q)) = subst (λ n. Decodes (
     (record { stays = refl; end = IsEnd-refl old.rest; exact = unread (ReadsIt s old) absent tag old e c })
 perhaps_decodes s tree tag old (Err e) new (inr (t, k)) = record { stays = k.stays; end = k.end; exact = in_it (ReadsIt s old) absent tag old t (refusal e.kind) k.exact }
 
--- Running out of memory is told by the same rules before a value is read and behind it.
+-- A failed allocation is reported by the same rules before a value is read and after it.
 pub made_before : {D : Type 0} (made : Result D AllocError → Type 0) (old mid : State) (e : DecodeError) → Keeps old mid → MakesValue made mid (Err e) → MakesValue made old (Err e)
 made_before made old mid e k (x, m, w) = (x, m, rules_same old mid OutOfMemory e k w)
 
@@ -110,7 +110,7 @@ made_before made old mid e k (x, m, w) = (x, m, rules_same old mid OutOfMemory e
 alloc_failed : {D : Type 0} (R : Reading Tree) (made : Result D AllocError → Type 0) (old : State) (e : DecodeError) → MakesValue made old (Err e) → Exact R old.rest (refusal e.kind)
 alloc_failed R made old e (x, m, w) = subst (λ k. Exact R old.rest (refusal k)) (sym (ap (λ (y : DecodeError). y.kind) w)) tt
 
--- So the rules are strict before a value is read exactly if they are behind it.
+-- So the rules are strict before a value is read exactly if they are after it.
 pub strict_before : (old mid : State) → Keeps old mid → IsStrict mid.rule → IsStrict old.rule
 strict_before old mid k h = subst IsStrict (ap (λ (s : State). s.rule) k.stays) h
 
@@ -131,7 +131,7 @@ module _ (rule : Codec) (without : Tree) (R : Reading Tree) where
   default_refused : (input : List ℕ) (k : DecodeErrorKind) (v : Tree) (r : List ℕ) → IsStrict rule → Same v without → Exact R input (Got v r) → Exact NotDefault input (refusal k)
   default_refused input k v r h same x = Exact-none k NotDefault input (λ u s w. w.1 h (subst (λ z. Same z without) (sym (x.1 u s w.0).0) same))
 
--- The same of a default, whose tree stands where the value is left out.
+-- The same of a default, whose tree is used if the value is left out.
 pub default_decodes : {D : Type 0} (s : Shape) (tree : D → Tree) (made : Result D AllocError → Type 0) (tag : Tag) (old : State) (result : Result D DecodeError) (new : State)
     → DecodesOrDefault (Decodes s tree) tree made tag old result new → DecodesDefault tag s tree made old result new
 default_decodes s tree made tag old (Ok v) new (inl (a, m, e)) without is =

@@ -1,4 +1,4 @@
--- A prefixed value is read where the value stands alone in its contents.
+-- A value under an explicit tag is read if it is alone in the tag's contents.
 use Rattle.std.proofs.Common.{◌≡◌, ◌≢◌, ℕ, ◌-◌, ◌⊎◌, inl, List, Bool, true, Result, Ok, refl}
 use Rattle.rasn_types.specs.declared.types.tag.Tag.{Tag}
 use Rattle.rasn_types.specs.declared.error.decode.DecodeError.{DecodeError}

@@ -1,4 +1,4 @@
--- A value that holds others is read where what stands in it is.
+-- A value that holds others is read if its contents are.
 use Rattle.std.proofs.Common.{◌≡◌, ◌≢◌, ℕ, ◌<◌, ◌⊎◌, inl, inr, Bool, true, false, ◌&&◌, not, List, Result, Ok, Err, refl, sym, subst, arith}
 use Rattle.rasn_types.specs.declared.types.tag.Tag.{Tag}
 use Rattle.rasn_types.specs.declared.types.codec.Codec.{Codec}

@@ -1,4 +1,4 @@
--- A SEQUENCE is read where what stands in it is.
+-- A SEQUENCE is read if its contents are.
 use Rattle.std.proofs.Common.{◌≡◌, ◌≢◌, ℕ, ◌-◌, ◌⊎◌, inl, inr, Bool, true, List, [], Option, Some, None, Result, Ok, Err, ap, subst}
 use Rattle.std.specs.Prelude.{IfErr}
 use Rattle.std.specs.declared.alloc.AllocError.{AllocError}
@@ -42,7 +42,7 @@ pub fills_rules : {D : Type 0} (starts : List ℕ → Bool) (initial : State →
 fills_rules starts initial called first names o r n (inl (s, i, e)) = first o r i
 fills_rules starts initial called first names o r n (inr (s, c)) = names o r n c
 
--- At the end of an input nothing is read in front of end-of-contents octets.
+-- At the end of an input nothing is read before end-of-contents octets.
 cut_none : (rule : Codec) (parts : Parts) (depth : ℕ) (closing : Bool) (t : Tree) (l : List ℕ) → SeqReads parts rule depth closing [] t l → (closing ≡ true) → l ≡ []
 cut_none rule parts depth closing t l (ts, e, inl (b, m, r)) c = let f = b.1 in cc
 cut_none rule parts depth closing t l (ts, e, inr (b, r)) c = parts_nothing rule parts depth closing ts l r
@@ -52,7 +52,7 @@ unfolding end_of_contents_at
 cut_open (definite c) rest s e f = cc
 cut_open indefinite rest s e f = cc
 
--- what stands in a SEQUENCE of these parts
+-- the contents of a SEQUENCE of these parts
 abbrev pub R : Parts → State → Bool → Reading Tree
 R parts old c = SeqReads parts old.rule (old.depth - 1) c
 

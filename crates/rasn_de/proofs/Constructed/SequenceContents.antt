@@ -49,7 +49,7 @@ not_required rule ps depth closing n = go (has_required ps) refl
     go true e = absurd (n (required_part rule ps depth closing e))
     go false e = e
 
--- Parts of which none comes are missing wherever they are read.
+-- Parts none of which is present are missing wherever they are read.
 are_missing : (rule : Codec) (ps : Parts) (depth : ℕ) (closing : Bool) (ts : List Tree) → AllMissing (presences ps) ts → AllMissing (presences_in (parts_of rule ps depth closing)) ts
 unfolding parts_of
 are_missing rule none depth closing ts e = e

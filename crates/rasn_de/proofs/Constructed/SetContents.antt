@@ -27,7 +27,7 @@ use Rattle.rasn_de.proofs.Constructed.Optional.{peeks_none}
 use Rattle.rasn_de.proofs.Headers.Begins.{begins_more}
 use Rattle.rasn_de.proofs.Headers.Tags.{tags_split, tags_more, front_in_order}
 
--- What stands in a SET of these parts.
+-- The contents of a SET of these parts.
 abbrev pub SetReads : Parts → Codec → ℕ → Bool → Reading Tree
 SetReads ps rule depth closing = ReadsSet rule (presences ps) (ReadsChoice rule 0 (parts_of rule ps depth closing)) closing
 

@@ -47,7 +47,7 @@ module _ {D : Type 0} (s : Shape) (tree : D → Tree) where
   abbrev pub R : State → Reading Tree
   R old = Reads old.rule s old.depth old.closing
 
-  -- old is where elements begin, here is where they have come to
+  -- old is where elements begin, here is where the read ones end
   pub record Came (old here : State) (vs : List D) (bs : List (List ℕ)) : Type 0 where
     pub come : Come s tree old here vs
     pub ran : Ran (R old) old.rest here.rest (map tree vs) bs
@@ -159,7 +159,7 @@ module _ {D : Type 0} (s : Shape) (tree : D → Tree) where
   pub in_order_leaves : {L : Type 0} (elements : L → List D) → EachCall (DecodesElementsInOrder (Decodes s tree) elements) (λ o r n. IsEnd o.rest n.rest)
   in_order_leaves elements o r n k = (in_order_decodes elements o r n k).end
 
--- where elements have come to, only less is left
+-- where the read elements end, only fewer octets remain
 pub came_stays : {D : Type 0} (s : Shape) (tree : D → Tree) (old here : State) (vs : List D) (bs : List (List ℕ)) → DecodesInTurnFrom (Decodes s tree) old vs bs here → here ≡ at old here.rest
 came_stays s tree old here vs bs p = (came s tree old here vs bs p).come.0
 

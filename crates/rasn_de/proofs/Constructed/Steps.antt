@@ -30,7 +30,7 @@ module _ {D : Type 0} (read : Call D) (d : ConstructedHeader) (old : State) wher
     moved : (r : Result D DecodeError) (left : State) → read p r left → read (contents_state d old w.0) r left
     moved r left k = subst (λ z. read z r left) w.2 k
 
-    -- the value's extent and what stood behind its header
+    -- the value's extent and what followed its header
     closing_at : (l m : List ℕ) (r : Result (List ℕ) ParseError) → l ≡ m → end_at (extent c) mid.rest l ≡ r → end_at w.0.extent w.0.rest m ≡ r
     closing_at l m r e f =
         let q : mid.rest ≡ w.0.rest = ap (λ (s : State). s.rest) w.4 in
@@ -48,7 +48,7 @@ module _ {D : Type 0} (read : Call D) (d : ConstructedHeader) (old : State) wher
     open_end (definite b) rest l e h = cc
     open_end indefinite rest l e h = h
 
-    -- what is left inside an indefinite value ends what stands behind its header
+    -- what remains inside an indefinite value ends what follows its header
     pub step_end : (left l : List ℕ) → IsEnd p.rest left → l ≡ left → extent c ≡ indefinite → IsEnd mid.rest l
     step_end left l k e x =
         let q : mid.rest ≡ w.0.rest = ap (λ (s : State). s.rest) w.4 in

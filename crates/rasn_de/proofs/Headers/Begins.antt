@@ -73,7 +73,7 @@ mutual
 pub begins_more : (b rest : List ℕ) (tag : Tag) → Begins b tag → Begins (b ++ rest) tag
 begins_more b rest tag h = record { id = h.id; bit = h.bit; more = h.more ++ rest; spells = h.spells; is = ap (λ z. z ++ rest) h.is ∙ append_assoc h.id h.more rest }
 
--- So it begins with the tag that came next.
+-- So it begins with the tag that was next.
 pub strict_begins : (rule : Codec) → IsStrict rule → (s : Shape) (depth : ℕ) (closing : Bool) (input : List ℕ) (t : Tree) (rest b : List ℕ) → input ≡ b ++ rest → b ≢ []
     → Reads rule s depth closing input t rest → (tag : Tag) → Begins input tag → Begins b tag
 strict_begins Ber strict s depth closing input t rest b e n r tag h = absurd strict

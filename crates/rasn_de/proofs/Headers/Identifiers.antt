@@ -14,7 +14,7 @@ use Rattle.rasn_de.specs.Headers.{class_of, tag_of, bit_at, number128_at, spelle
 use Rattle.rasn_de.proofs.Headers.Results.{bind_ok, chosen, guarded, AreOctets}
 use Rattle.rasn_de.proofs.Headers.Numbers.{number128_parsed, number128_spelled}
 
--- the tag number behind a first octet
+-- the tag number after a first octet
 abbrev pub IsTagNumber : ℕ → List ℕ → ℕ → Type 0
 IsTagNumber low more n = ((low < 31) × (more ≡ []) × (n ≡ low)) ⊎ ((low ≡ 31) × Spells128 more n)
 

@@ -34,7 +34,7 @@ next_unread spelling s e l f g = next_none spelling l f (subst (λ (z : Spelling
 pub next_memory : (shortest : Bool) (l : List ℕ) (f : ParseError) → identifier_by shortest l ≡ Err f → f ≢ fault.OutOfMemory
 next_memory shortest l f e = subst NoMemory e (identifier_none shortest l)
 
--- A fault but running out of memory isn't told as running out of memory.
+-- A fault other than a failed allocation isn't reported as one.
 pub kind_memory : (f : ParseError) → f ≢ fault.OutOfMemory → IsOutOfMemory (error_kind f) → ⊥
 kind_memory fault.OutOfMemory n e = n refl
 kind_memory _ n e = cc

@@ -38,7 +38,7 @@ pub tags_more : (bs : List (List ℕ)) (ts : List Tag) (b : List ℕ) (tag : Tag
 tags_more [] ts b tag e h = subst (λ l. Each Begins (b ∷ []) (l ++ tag ∷ [])) (sym e) (tag, [], refl, h, refl)
 tags_more (a ∷ bs) ts b tag (t, us, f, g, k) h = (t, us ++ tag ∷ [], ap (λ l. l ++ tag ∷ []) f, g, tags_more bs us b tag k h)
 
--- The tags of these octets, and of some behind them.
+-- The tags of these octets, and of some after them.
 pub tags_split : (bs cs : List (List ℕ)) (ts : List Tag) → Each Begins (bs ++ cs) ts → (us : List Tag) × (vs : List Tag) × (ts ≡ us ++ vs) × Each Begins bs us × Each Begins cs vs
 tags_split [] cs ts e = ([], ts, refl, refl, e)
 tags_split (b ∷ bs) cs ts (t, us, f, g, k) = let s = tags_split bs cs us k in (t ∷ s.0, s.1, f ∙ ap (λ l. t ∷ l) s.2, (t, s.0, refl, g, s.3), s.4)
@@ -60,7 +60,7 @@ Tagged old bs last = IsStrict old.rule → (tags : List Tag) × Each Begins bs t
 pub tagged_order : (old : State) (bs : List (List ℕ)) (last : Option Tag) → Tagged old bs last → IsStrict old.rule → AreInTagOrder bs
 tagged_order old bs last k strict = let t = k strict in (t.0, t.1, t.2)
 
--- where octets have come to
+-- where the read octets end
 module _ (old here : State) (stays : here ≡ at old here.rest) (bs : List (List ℕ)) (last : Option Tag) (k : Tagged old bs last) where
   strict_before : IsStrict here.rule → IsStrict old.rule
   strict_before h = subst (λ (s : State). IsStrict s.rule) stays h

@@ -72,7 +72,7 @@ module _ (width : ℕ) (range : Interval) (bounds : Constraints) where
   bound_refused tag old new c e h s n i a (t, k) =
       (out_of_bound (signed c) (constraint_of bounds.value), subst (λ d. FromContents (IntegerIn old.rule width range bounds) d (Err (out_of_bound (signed c) (constraint_of bounds.value), new.rest))) (sym h) ((n, i, a, refl, refl), refl), t, k ∙ rule_is old new s, s)
 
--- running out of memory behind contents
+-- a failed allocation after contents
 pub number_alloc_failed : {X : Type 0} (see : X → ℤ) (Takes : ℤ → Type 0) (tag : Tag) (Is : Readings ℤ) (old new : State) (c : List ℕ) (e : DecodeError) → definite_at old.rule tag old.rest ≡ Ok (c, new.rest) → new ≡ at old new.rest → IsIntegerContents old.rule c → Takes (signed c) → IsErrorOf fault_is.OutOfMemory new e
     → DecodesInteger see Takes tag Is old (Err e) new
 number_alloc_failed see Takes tag Is old new c e h s i g k = inl (ap (λ (x : DecodeError). x.kind) k, ap (λ (x : DecodeError). x.codec) k ∙ rule_is old new s, s, c, h, i, g)

@@ -120,7 +120,7 @@ pub primitive_plain : (tag : Tag) (bounds : Constraints) (old new : State) (e : 
 primitive_plain tag bounds old new e (inl (m, c, s, ((rest, x, f), w))) (after, contents, p) h = let b : false ≡ true = (frame_one old.rest p f).bit in cc
 primitive_plain tag bounds old new e (inr (n, g)) p h = n h
 
--- The first fault where a whole encoding has to come is one of a header.
+-- The first fault where a whole encoding has to follow is one of a header.
 fault_plain : (rule : Codec) (input : List ℕ) (f : ParseError) → IsFault rule input f → f ≢ OutOfMemory
 fault_plain rule input f (inl e) = subst NoMemory e (header_none (spelled (loose rule)) AnyTag input)
 fault_plain rule input f (inr (tag, body, x, unparsable)) = subst NoMemory unparsable.refused (header_none (spelled (loose rule)) AnyTag unparsable.left)

@@ -167,7 +167,7 @@ rule_arcs Ber ns l a w = lenient_arcs Ber (λ s. s) ns l a
 rule_arcs Cer ns l a w = lenient_arcs Cer (λ s. s) ns l a
 rule_arcs Der ns l a w = let m = w tt in strict_arcs Der ns l (subst (ShortArcs l) (arcs_one m.0 ns l (short_arcs m.0 l m.1) a) m.1)
 
--- Behind subidentifiers stand the others.
+-- Subidentifiers are followed by the others.
 arcs_left : (rule : Codec) (ns ms front back : List ℕ) → Arcs front ns → RuleArcs rule (front ++ back) ms → (rest : List ℕ) × RuleArcs rule back rest × (ms ≡ ns ++ rest)
 arcs_left rule [] ms front back a b = (ms, subst (λ l. RuleArcs rule (l ++ back) ms) a b, refl)
 arcs_left rule (n ∷ ns) [] front back (p, q, s, e, a) b =

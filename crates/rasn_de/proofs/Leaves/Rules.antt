@@ -32,7 +32,7 @@ codec_is k = ap (λ (x : DecodeError). x.codec) k
 pub same_rules : {here new : State} → new ≡ here → new.rule ≡ here.rule
 same_rules s = ap (λ (x : State). x.rule) s
 
--- The error of a call that comes after one that has read.
+-- The error of a call that follows one that has read.
 pub after : {R : Codec → ℕ → Bool → Reading Tree} {o : Outcome} {old here : State} {rule : Codec} → DecodesExactly R old o here → rule ≡ here.rule → rule ≡ old.rule
 after a k = k ∙ same_rules a.stays
 

@@ -71,7 +71,7 @@ module _ (s : Shape) (t : Tag) (ps : Parts) (b : Bool) (e : is_first_alone s t p
   pub others_differ : b ≡ true
   others_differ = (both_true (is_first_alone s t ps) b e).1
 
--- The shape has the tag that comes, or another one.
+-- The shape has the next tag, or another one.
 pub own_tag : (s : Shape) (tag t : Tag) → tag ≡ t → own s ≡ Some t → own s ≡ Some tag
 own_tag s tag t h e = e ∙ ap (λ x. Some x) (sym h)
 

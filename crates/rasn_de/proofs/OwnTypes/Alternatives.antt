@@ -1,4 +1,4 @@
--- How the read of an alternative is a read of its CHOICE. `from_tag` answers a line for each `?`, one for each `Ok`, and one where no
+-- How the read of an alternative is a read of its CHOICE. The proof of `from_tag` has a line for each `?`, one for each `Ok`, and one if no
 -- alternative begins with the tag:
 --
 --     returns-in_err-time c = refused _ _ _ c.from_residual.ensures.1 (alternative_refused _ 0 _ _ c.args.tag c.requires ONLY _ c.in_err-time.ensures)

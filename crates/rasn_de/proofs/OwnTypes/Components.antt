@@ -1,7 +1,7 @@
 -- How components, gathered one by one, are the parts of a SET. A loop over the components has an optional value for each part, and keeps
 -- of each `Slot`, with the readings `map COMPONENT_TREE YIELDED`; its function says `MakesSet PARTS TREE (map COMPONENT_TREE components.items) result`.
--- It answers two lines for each part, of a component that comes twice and of one that is put where none has come, one for each required part that
--- doesn't come, and one for `Ok`:
+-- The proof has two lines for each part, of a component that is there twice and of the first one, a line for each required part that is
+-- missing, and one for `Ok`:
 --
 --     component_twice COMPONENT_TREE PARTS K tt _ YIELDED _ COMPONENT _ refl EQUATION PART_TREE _ (search rules) SLOT _
 --     slot_appended COMPONENT_TREE PART_TREE YIELDED COMPONENT VALUE K refl _ (search rules) SLOT, and for each other part
@@ -9,7 +9,7 @@
 --     component_missing PARTS K refl _ SLOT _
 --     (_, refl, component_there _ _ K _ _ _ SLOT (component_default _ _ K+1 _ _ _ _ _ SLOT FOUND (component_optional _ K+2 _ _ _ _ SLOT (components_end _ _))))
 --
--- FOUND says which value a part that has a default was given: the one that came, or where none came one with the default's tree.
+-- FOUND says which value a part with a default was given: the one that was read, or else one with the default's tree.
 use Rattle.std.proofs.Common.{◌≡◌, ◌+◌, ◌⊎◌, inl, inr, ℕ, zero, suc, List, [], ◌∷◌, ◌++◌, map, Option, Some, None, refl, sym, ap, ◌∙◌, subst, append_assoc, arith}
 use Rattle.std.proofs.lemmas.List.{map-append}
 use Rattle.rasn_types.specs.declared.error.decode.DecodeErrorKind.{DecodeErrorKind}
@@ -22,7 +22,7 @@ use Rattle.rasn_de.specs.Set.{AreParts}
 use Rattle.rasn_de.specs.SetPartTypes.{IsPart}
 use Rattle.rasn_de.proofs.Leaves.Outcomes.{Exact-none}
 
--- What came of part k: one reading, with the tree of this value, or none.
+-- What was read of part k: one reading, with the tree of this value, or none.
 abbrev pub Slot : {D : Type 0} → ℕ → (D → Tree) → Option D → List Tree → Type 0
 Slot k tree None readings = NoneOf k readings
 Slot k tree (Some v) readings = OneOf k (tree v) readings
@@ -36,7 +36,7 @@ IsRequired (suc k) (part p s ps) = IsRequired k ps
 number_one : (j k : ℕ) (t u : Tree) → chosen j t ≡ chosen k u → j ≡ k
 number_one j k t u e = cc
 
--- Another reading is put behind these.
+-- Another reading is put after these.
 pub none_more : (k j : ℕ) (u : Tree) (rs : List Tree) → (j ≡ k → ⊥) → NoneOf k rs → NoneOf k (rs ++ chosen j u ∷ [])
 none_more k j u [] n h = (λ v e. n (number_one j k u v e), tt)
 none_more k j u (r ∷ rs) n h = (h.0, none_more k j u rs n h.1)
@@ -54,7 +54,7 @@ kept_more k tree (Some v) j u rs n h = record {
   none_after = none_more k j u h.after n h.none_after;
 }
 
--- The next component is put where none of its part has come, and says nothing of other parts.
+-- The next component is put where none of its part was read, and says nothing of other parts.
 module _ {C D : Type 0} (piece : C → Tree) (tree : D → Tree) (done : List C) (c : C) where
   more_is : (t : Tree) → piece c ≡ t → map piece (done ++ c ∷ []) ≡ map piece done ++ t ∷ []
   more_is t e = map-append piece done (c ∷ []) ∙ ap (λ z. map piece done ++ z ∷ []) e
@@ -69,7 +69,7 @@ pub not_none : (k : ℕ) (t : Tree) (before after : List Tree) → NoneOf k (bef
 not_none k t [] after h = h.0 t refl
 not_none k t (b ∷ before) after h = not_none k t before after h.1
 
--- Of a reading and another one behind it, neither is the one.
+-- Of a reading and another one after it, neither is the one.
 not_one : (k : ℕ) (t u v : Tree) (x y a b c : List Tree) → NoneOf k x → NoneOf k y → (a ++ chosen k u ∷ b) ++ chosen k v ∷ c ≡ x ++ chosen k t ∷ y → ⊥
 not_one k t u v [] y [] b c h l e = not_none k v b c (subst (NoneOf k) (sym (let f : b ++ chosen k v ∷ c ≡ y = cc in f)) l)
 not_one k t u v [] y (d ∷ a) b c h l e = not_none k v (a ++ chosen k u ∷ b) c (subst (NoneOf k) (sym (let f : (a ++ chosen k u ∷ b) ++ chosen k v ∷ c ≡ y = cc in f)) l)
@@ -90,7 +90,7 @@ by_part_required (part p s ps) zero i n rs ts e q (t, us, f, inl o, h) m =
 by_part_required (part p s ps) zero i n rs ts e q (t, us, f, inr (o, w), h) m = subst (λ z. IsMissing z t) q w
 by_part_required (part p s ps) (suc k) i n rs ts e q (t, us, f, o, h) m = by_part_required ps k (suc i) n rs us (omega arith) q h m
 
--- Where a component of part k comes behind one of it, the components are no parts.
+-- If a component of part k follows one of it, the components are no parts.
 pub no_parts_twice : (ps : Parts) (k : ℕ) → IsPart k ps → (rs : List Tree) (t u : Tree) (more readings : List Tree) → readings ≡ rs ++ chosen k u ∷ more → OneOf k t rs → (v : Tree) → AreParts ps readings v → ⊥
 no_parts_twice ps k q rs t u more readings e o v (ts, f, h) = go (by_part_some ps k 0 k readings ts (omega arith) q h)
   where
@@ -101,7 +101,7 @@ no_parts_twice ps k q rs t u more readings e o v (ts, f, h) = go (by_part_some p
     go (inl (x, p)) = not_one k x t u p.before p.after o.before o.after more p.none_before p.none_after (sym is ∙ p.is)
     go (inr p) = not_none k u rs more (subst (NoneOf k) e p)
 
--- A component comes whose part has come.
+-- A component is read whose part was read before.
 pub component_twice : {C D : Type 0} (piece : C → Tree) (ps : Parts) (k : ℕ) → IsPart k ps → (all done rest : List C) (c : C) (u : Tree) → piece c ≡ chosen k u → all ≡ done ++ c ∷ rest
     → (tree : D → Tree) (held : Option D) → (held ≡ None → ⊥) → Slot k tree held (map piece done) → (kind : DecodeErrorKind) → Exact (λ input v left. AreParts ps (map piece all) v) [] (refusal kind)
 component_twice piece ps k q all done rest c u f e tree None n s kind = absurd (n refl)
@@ -109,11 +109,11 @@ component_twice piece ps k q all done rest c u f e tree (Some v) n s kind = Exac
     (λ w r h. no_parts_twice ps k q (map piece done) (tree v) u (map piece rest) (map piece all)
     (ap (map piece) e ∙ map-append piece done (c ∷ rest) ∙ ap (λ t. map piece done ++ t ∷ map piece rest) f) s w h)
 
--- No component of part k comes, which is required.
+-- No component of part k is present, which is required.
 pub component_missing : (ps : Parts) (k : ℕ) → IsRequired k ps → (readings : List Tree) → NoneOf k readings → (kind : DecodeErrorKind) → Exact (λ input v rest. AreParts ps readings v) [] (refusal kind)
 component_missing ps k q readings o kind = Exact-none kind (λ input v rest. AreParts ps readings v) [] (λ v r (ts, f, h). by_part_required ps k 0 k readings ts (omega arith) q h o)
 
--- A part has come, or has what stands in its place where it may be left out, and so have the others.
+-- A part is present, or has the value that replaces it if it may be left out, and so have the others.
 pub component_there : (p : Presence) (ps : List Presence) (k : ℕ) (t : Tree) (us readings : List Tree) → OneOf k t readings → ByPart (suc k) ps readings us → ByPart k (p ∷ ps) readings (t ∷ us)
 component_there p ps k t us readings o h = (t, us, refl, inl o, h)
 

@@ -31,7 +31,7 @@ same_own_is (Some a) (Some b) e = ap (λ t. Some t) (same_tag_is a b e)
 same_own_is None (Some b) e = cc
 same_own_is (Some a) None e = cc
 
--- The tags of a part and of those behind it agree.
+-- The tags of a part and of those after it agree.
 pub first_agrees : (s : Shape) (tag : Tag) (b : Bool) → is_looked_for s tag && b ≡ true → own s ≡ looked_for tag
 first_agrees s tag b e = same_own_is (own s) (looked_for tag) (both_true (is_looked_for s tag) b e).0
 
@@ -81,7 +81,7 @@ empty_or false [] = inl (refl, refl)
 empty_or false (b ∷ l) = inr (λ e. let f = e.1 in cc)
 
 module _ (parts : Parts) (plain : needs_no_initializer parts ≡ true) (rule : Codec) (depth : ℕ) (closing : Bool) where
-  -- What is read in order is what stands in the SEQUENCE.
+  -- What is read in order is the contents of the SEQUENCE.
   in_seq : (input : List ℕ) (t : Tree) (rest : List ℕ) → ReadsParts parts rule depth closing input t rest → SeqReads parts rule depth closing input t rest
   unfolding ReadsParts
   in_seq input t rest (ts, e, i) = go (has_required parts) refl (empty_or closing input)

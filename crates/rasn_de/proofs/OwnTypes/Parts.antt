@@ -1,5 +1,5 @@
--- How the reads of parts, one behind the other, are a read of all. A closure that reads the parts of a SEQUENCE writes one
--- clause, `ensures { DecodesParts PARTS TREE decoder.old result decoder.new }`, and answers a line for each `?` and one for `Ok`:
+-- How the reads of parts, one after the other, are a read of all. A closure that reads the parts of a SEQUENCE writes one
+-- clause, `ensures { DecodesParts PARTS TREE decoder.old result decoder.new }`, and its proof has a line for each `?` and one for `Ok`:
 --
 --     pub returns-in_err-first : goal.returns-in_err-first
 --     returns-in_err-first c = refused _ _ _ c.from_residual.ensures.1 (part_refused _ _ _ _ c.in_err-first.ensures)
@@ -63,7 +63,7 @@ module _ (p : Presence) (s : Shape) (ps : Parts) (old mid new : State) (t : Tree
   later_exact o x = subst (λ c. Exact (ReadsParts ps old.rule old.depth c) mid.rest o) (closing_is old mid a.stays)
       (subst (λ d. Exact (ReadsParts ps old.rule d mid.closing) mid.rest o) (depth_is old mid a.stays) (subst (λ r. Exact (ReadsParts ps r mid.depth mid.closing) mid.rest o) (rule_is old mid a.stays) x))
 
-  -- what is related goes on behind the first part
+  -- what is related goes on after the first part
   behind_first : (v : Tree) (r : List ℕ) → ReadsParts (part p s ps) old.rule old.depth old.closing old.rest v r → (u : Tree) × (v ≡ joined t u) × ReadsParts ps old.rule old.depth old.closing mid.rest u r
   unfolding ReadsParts parts_of
   behind_first v r (ts, e, (x, xs, middle, f, y, z)) =
@@ -102,7 +102,7 @@ optional_part {g} s e {old} {new} {o} a = record { stays = a.stays; end = a.end;
 pub default_part : (tag : Tag) (d : Tree) (s : Shape) → own s ≡ looked_for tag → {old new : State} {o : Outcome} → DecodesExactly (ReadsDefault tag d s) old o new → DecodesExactly (OnePart (default d) s) old o new
 default_part tag d s e {old} {new} {o} a = record { stays = a.stays; end = a.end; exact = subst (λ h. Exact (ReadsPart old.rule (default d) h (Reads old.rule s old.depth old.closing) old.closing) old.rest o) (sym e) a.exact }
 
--- Why a value that has a default isn't read, told of its tree.
+-- Why a value that has a default isn't read, stated of its tree.
 pub default_fails : {D : Type 0} (s : Shape) (tree : D → Tree) (made : Result D AllocError → Type 0) (d : Tree) (tag : Tag) (old new : State) (e : DecodeError) → ((v : D) → made (Ok v) → tree v ≡ d)
     → DecodesOrDefault (Decodes s tree) tree made tag old (Err e) new → DecodesOrDefault (DecodesTree s) (λ (t : Tree). t) (λ m. IfOk m (λ t. t ≡ d)) tag old (Err e) new
 default_fails s tree made d tag old new e is (no_look a q) = no_look a q
@@ -137,7 +137,7 @@ pub in_parts : {D : Type 0} (ps : Parts) (tree : D → Tree) (old : State) (r : 
 in_parts ps tree old (Ok v) new a f = a
 in_parts ps tree old (Err e) new a f = f
 
--- What a reading closure owes of any calls: each one keeps it, and so do two, one behind the other.
+-- What a reading closure has to keep by any calls: each one keeps it, and so do two, one after the other.
 pub call_keeps : {R : Codec → ℕ → Bool → Reading Tree} {o : Outcome} {old new : State} → DecodesExactly R old o new → Keeps old new
 call_keeps a = record { stays = a.stays; end = a.end }
 

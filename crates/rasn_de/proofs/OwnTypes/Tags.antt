@@ -1,4 +1,4 @@
--- Which alternative a tag belongs to, by computing. Where a tag is that of a type parameter, it is told by hand (`IsOnlyAlternative`).
+-- Which alternative a tag belongs to, by computing. If a tag is that of a type parameter, it is proved by hand (`IsOnlyAlternative`).
 use Rattle.std.proofs.Common.{rules, ◌≡◌, ◌&&◌, ◌||◌, not, ℕ, zero, suc, Bool, true, false, Option, Some, None, refl, sym, ap, subst, inl, inr, ◌⊎◌}
 use denote.Enum.Bare.{sameb}
 use lib.Dec.{eqb}
@@ -122,7 +122,7 @@ abbrev pub NoneBegins : Parts → Tag → Type 0
 NoneBegins none n = Unit {0}
 NoneBegins (part presence s ps) n = (IsFirst s n → ⊥) × NoneBegins ps n
 
--- No alternative begins with the tag, told for each of them.
+-- No alternative begins with the tag, stated for each of them.
 pub nowhere : (ps : Parts) (n : Tag) → NoneBegins ps n → IsFirstOf ps n → ⊥
 nowhere none n h f = f
 nowhere (part presence s ps) n h (inl f) = h.0 f

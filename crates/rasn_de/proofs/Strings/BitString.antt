@@ -159,7 +159,7 @@ collected_bits tag old new bs rest h e =
     let P : State → Type 0 = λ n. DecodesBits tag old (Ok bs) n in
     subst P (sym e) (h, refl)
 
--- a fault that was told behind it
+-- a fault that was reported after it
 pub lacked_bits : (tag : Tag) (old new : State) (f : ParseError) (left : List ℕ) (e : DecodeError) → FailsAtBits old.rule old.depth tag old.rest f left → new ≡ at old left → IsErrorOf f new e → DecodesBits tag old (Err e) new
 lacked_bits tag old new f left e w k x =
     let P : State → Type 0 = λ n. IsErrorOf f n e → DecodesBits tag old (Err e) n in

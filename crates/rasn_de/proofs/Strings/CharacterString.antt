@@ -34,7 +34,7 @@ use Rattle.rasn_de.proofs.Leaves.Errors.{refuses_fault, same_at, rule_is}
 use Rattle.rasn_de.proofs.Strings.Ends.{octets_there, octets_only, octets_end}
 use Rattle.rasn_de.proofs.Leaves.Rules.{string_rules}
 
--- What is told of octets is what the kind says of them.
+-- What is reported of octets is what the kind says of them.
 pub record Fits (kind : Kind) (bounds : Constraints) (Told : StringCheck) : Type 0 where
   pub is_text : family kind ≡ text_family
   pub found : (rule : Codec) (xs ns : List ℕ) → Told xs (Ok ns) → Text rule kind xs (numbers ns) × IsBounded kind bounds (numbers ns)

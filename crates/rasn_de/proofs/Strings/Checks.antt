@@ -1,4 +1,4 @@
--- What is told of a string's octets is what its kind says of them.
+-- What is reported of a string's octets is what its kind says of them.
 use Rattle.std.proofs.Common.{◌≡◌, ◌≢◌, ◌≤◌, ℕ, ◌/◌, inl, inr, List, length, Option, Result, Ok, Err, refl, sym, ap, ◌∙◌, subst, chars, IsUtf8}
 use Rattle.rasn_types.specs.declared.types.codec.Codec.{Codec}
 use Rattle.rasn_types.specs.declared.types.constraints.Bound.{Bound}

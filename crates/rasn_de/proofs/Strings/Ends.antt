@@ -24,7 +24,7 @@ mutual
   segments_end rule S inner_tag d closing l xs rest (ReadsSegments.one_more first others middle n s more is) =
       IsEnd-trans l middle rest (string_ends rule S inner_tag d inner_tag l first middle s) (segments_end rule S inner_tag d closing middle others rest more)
 
--- Octets are read exactly where a string of octets stands.
+-- Octets are read exactly if there is a string of octets.
 module _ (rule : Codec) (d : ℕ) (tag : Tag) (l : List ℕ) (o : AreOctets l) where
   pub octets_there : (xs r : List ℕ) → octet_string_at rule d tag l ≡ Ok (xs, r) → ReadsString rule OctetSegment (in_universal 4) d tag l xs r
   octets_there xs r e =

@@ -1,4 +1,4 @@
--- Segments one behind the other.
+-- Segments one after the other.
 use Rattle.std.proofs.Common.{◌≡◌, ◌≢◌, ℕ, zero, suc, ◌-◌, ◌<◌, ◌≤◌, ◌⊎◌, inl, inr, Bool, true, false, ◌&&◌, cond, List, [], ◌∷◌, ◌++◌, length, Result, Ok, Err, refl, sym, ap, ◌∙◌, arith, append_assoc, append-nil}
 use Rattle.std.proofs.lemmas.Bool.Decides.{nat_tests}
 use Rattle.std.specs.Prelude.{nat_eq, MatchBool}
@@ -15,7 +15,7 @@ use Rattle.rasn_de.specs.Segments.{ends, segments_at, end_of_contents_at, octets
 use Rattle.rasn_de.proofs.Headers.Results.{bind_ok, chosen, guarded}
 use Rattle.rasn_de.proofs.Headers.Shorter.{header_shorter}
 
--- The test of the end, where end-of-contents octets may stand.
+-- The test of the end, where end-of-contents octets are allowed.
 pub ends_tested : (b : Bool) (l : List ℕ) → MatchBool b (Ended true l) (Ended true l → ⊥) → ends l ≡ b
 ends_tested true [] h = refl
 ends_tested false [] h = absurd (h (inl refl))

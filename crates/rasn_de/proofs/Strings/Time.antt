@@ -36,12 +36,12 @@ use Rattle.rasn_de.proofs.Headers.NextTag.{memory_or}
 use Rattle.rasn_de.proofs.Leaves.Errors.{same_at, rule_is}
 use Rattle.rasn_de.proofs.Strings.Ends.{octets_there, octets_only, octets_end}
 
--- Strings whose text stands for a tree.
+-- Strings whose text means a tree.
 abbrev pub ParsesUtf8 : (List ℕ → Tree → Type 0) → Codec → Tag → ℕ → Reading Tree
 ParsesUtf8 T rule tag depth input t rest =
     ((text : List ℕ) × ReadsString rule OctetSegment (in_universal 4) depth tag input text rest × T text t) × Unit {0}
 
--- Texts stand for the trees of the values that they mean, of which there is one.
+-- Texts mean the trees of the values that they spell, of which there is one.
 module _ {X : Type 0} (Means : List ℕ → X → Type 0) (tree : X → Tree) (T : List ℕ → Tree → Type 0)
     (there : (text : List ℕ) (x : X) → Means text x → T text (tree x))
     (found : (text : List ℕ) (t : Tree) → T text t → (x : X) × Means text x × (t ≡ tree x))
@@ -159,7 +159,7 @@ time_refused {X} Means tag old new s rule text e (h, k, f) r q n w =
     told (inl t) = inl t
     told (inr (m, b)) = inr (m, lent s f b)
 
--- A text that is no time's, told by a function without a decoder.
+-- A text that is no time's, reported by a function without a decoder.
 pub parsed_none : {X : Type 0} (Means : List ℕ → X → Type 0) (text read told : List ℕ) (e : DecodeError) → read ≡ text → told ≡ text → ((x : X) → Means read x → ⊥) → IsInvalidDate told Ber e
     → ParsesTime Means text (Err e)
 parsed_none Means text read told e r t n w = (λ x m. n x (subst (λ z. Means z x) (sym r) m), subst (λ z. IsInvalidDate z Ber e) t w)

@@ -1,4 +1,4 @@
--- Primitive values behind octets, header first.
+-- Primitive values after octets, header first.
 use Rattle.std.proofs.Common.{◌≡◌, ℕ, ◌<◌, List, ◌++◌, length, refl, ◌∙◌}
 use Rattle.std.proofs.lemmas.List.{append_assoc}
 use Rattle.rasn_types.specs.Tags.{tag_bit}

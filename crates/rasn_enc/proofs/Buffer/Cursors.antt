@@ -85,7 +85,7 @@ module _ (g : List ℕ) (ms : List DeferredHeader) (start want k at back n : ℕ
         counted = rw (left ms k m d inside read, none) (omega (arith, e, o, l, c, length-append (deferred_octets m) (rendered g m.at (drop (suc k) ms))));
       }
 
--- What is known at the deferred header that is reached: the place stands in the run behind it, in its head, or further in front.
+-- What is known at the deferred header that is reached: the place is in the run after it, in its head, or further to the front.
 pub record AtHeader (g : List ℕ) (ms : List DeferredHeader) (start want k at back n : ℕ) (m : DeferredHeader) : Type 0 where
   pub order : m.at ≤ at
   pub upper : Rising m.at (drop k ms) (length g)

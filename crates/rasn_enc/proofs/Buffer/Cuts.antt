@@ -51,7 +51,7 @@ module _ (xs : List ℕ) (ms : List DeferredHeader) (start first m : ℕ) (ys : 
     fronts : take first ns ≡ take first ps
     fronts = rw is (take-append-le first ps (header ∷ []) fw)
 
-    -- what a last header shows where it stands behind all octets
+    -- what a last header shows if it follows all octets
     shows_last : (n : DeferredHeader) → n.at ≡ header.at → header.at ≡ length ys → rendered ys start (drop first ps ++ n ∷ []) ≡ list_from ys ps start first ++ deferred_octets n
     shows_last n same at_end =
         let r : Rising start (drop first ps) n.at = rw same front_rising in

@@ -1,4 +1,4 @@
--- Headers, and what of them comes still.
+-- Headers, and what of them is still to be read.
 use Rattle.std.proofs.Common.{◌≡◌, ◌≤◌, ◌<◌, ◌-◌, ◌++◌, ℕ, zero, suc, [], ◌∷◌, List, Bool, true, false, cond, drop, take, set, get_or, ◌+◌, length, refl, sym, ap, ap₂, arith, ◌∙◌, length-append}
 use Rattle.std.proofs.lemmas.List.{append-nil, append_assoc, drop_all, drop_at, drop-drop, get_or-drop, length-drop, length-take-le, take-append-drop, take_all}
 use Rattle.std.proofs.lemmas.List.Edits.{paste_more}
@@ -59,7 +59,7 @@ any_default (x ∷ h) (suc i) d w = any_default h i d (omega arith)
 pub take-drop_length : (n : ℕ) (ys : List ℕ) → take (length ys - n) (drop n ys) ≡ drop n ys
 take-drop_length n ys = take_all _ (drop n ys) (omega (arith, length-drop n ys))
 
--- What is written behind octets: it stands there, and is taken off there.
+-- What is written after octets: it is there, and is taken off there.
 module _ (xs h ys : List ℕ) (end : ℕ) (l : end ≡ length xs) (e : ys ≡ xs ++ h) where
   pub spelled_behind : drop end ys ≡ h
   spelled_behind = ap (drop end) e ∙ drop_at xs h end (sym l)

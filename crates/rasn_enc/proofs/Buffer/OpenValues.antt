@@ -165,7 +165,7 @@ module _ (r : Codec) (xs : List ℕ) (ms : List DeferredHeader) (os : List Open)
     finish-start : s ≤ length xs
     finish-start = sound.start_within
 
-    -- behind the room
+    -- after the room
     finish-split : ys ≡ (take o.end xs ++ take 2 (header_octets (head_of r tag n))) ++ (drop s xs ++ back r)
     finish-split = q.octets ∙ (ap (λ i. take o.end xs ++ (take 2 (header_octets (head_of r tag n)) ++ (drop i xs ++ back r))) h.ends ∙ sym (append_assoc (take o.end xs) (take 2 (header_octets (head_of r tag n))) (drop s xs ++ back r)))
 
@@ -276,7 +276,7 @@ module _ (r : Codec) (xs : List ℕ) (ms : List DeferredHeader) (os : List Open)
         let lower : map (frame_in (take o.end xs) (take o.last ms)) os ≡ v.below = sym (frames-same xs (take o.end xs) ms (take o.last ms) 0 0 os o.list.start o.list.first h.front (sym (take-take o.list.start o.end xs start-end)) (sym (take-take o.list.first o.last ms first-last))) ∙ (both all is v below).0 in
         rw (lower, (both all is v below).1, rule) refl
 
--- octets behind all
+-- octets after all
 module _ (r : Codec) (xs c : List ℕ) (ms : List DeferredHeader) (s f n : ℕ) (os : List Open) (h : Sound xs ms s f n) (k : Chain xs ms 0 0 os s f) (ys : List ℕ) (y : ys ≡ xs ++ c) where
   put-front : take s xs ≡ take s ys
   put-front = rw y (sym (take-append-le s xs c h.start_within))

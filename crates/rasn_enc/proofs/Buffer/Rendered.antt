@@ -28,7 +28,7 @@ pub rising-more : (a : ℕ) (ms : List DeferredHeader) (e f : ℕ) → e ≤ f �
 rising-more a [] e f k h = omega (arith, k, h)
 rising-more a (m ∷ ms) e f k h = (h.0, rising-more m.at ms e f k h.1)
 
--- in front of a deferred header stands what the octets and the headers before it stand for
+-- before a deferred header is what the octets and the headers before it render to
 pub rendered-append : (xs : List ℕ) (a : ℕ) (ms : List DeferredHeader) (m : DeferredHeader) (ns : List DeferredHeader) → Rising a ms m.at → rendered xs a (ms ++ m ∷ ns) ≡ rendered (take m.at xs) a ms ++ (deferred_octets m ++ rendered xs m.at ns)
 rendered-append xs a [] m ns h = refl
 rendered-append xs a (n ∷ ms) m ns h =
@@ -63,7 +63,7 @@ length-rendered xs a (m ∷ ms) h =
     let d = length-drop a (take m.at xs) in
     omega (arith, i, o, t, d, length-append (drop a (take m.at xs)) (deferred_octets m ++ rendered xs m.at ms), length-append (deferred_octets m) (rendered xs m.at ms))
 
--- octets behind all
+-- octets after all
 pub rendered-more : (xs ys : List ℕ) (a : ℕ) (ms : List DeferredHeader) → Rising a ms (length xs) → rendered (xs ++ ys) a ms ≡ rendered xs a ms ++ ys
 rendered-more xs ys a [] h = drop-append-le a xs ys h
 rendered-more xs ys a (m ∷ ms) h =
@@ -83,7 +83,7 @@ rendered-join g a (m ∷ ms) b ns h k =
     rw (rendered-join g m.at ms b ns h.1 k, take-take m.at b g q)
     (ap (λ l. drop a (take m.at g) ++ l) (sym (append_assoc (deferred_octets m) (rendered (take b g) m.at ms) (rendered g b ns))) ∙ sym (append_assoc (drop a (take m.at g)) (deferred_octets m ++ rendered (take b g) m.at ms) (rendered g b ns)))
 
--- what stands before a place changes nothing from it on
+-- what precedes a place changes nothing from it on
 pub rendered-same : (xs ys : List ℕ) (a : ℕ) (ms : List DeferredHeader) (e : ℕ) → drop a xs ≡ drop a ys → Rising a ms e → rendered xs a ms ≡ rendered ys a ms
 rendered-same xs ys a [] e h r = h
 rendered-same xs ys a (m ∷ ms) e h r =

@@ -34,7 +34,7 @@ turned xs ys zs o run d n to h k l e y z =
     let f : take (d - n) ys ≡ take (d - n) xs = rw (y, take-append-le (d - n) (take d xs) (run ++ drop to xs) inside) (take-take (d - n) d xs (omega arith)) in
     z ∙ rw (back, b, f) refl
 
--- the header read at k, with the headers before it and those behind it
+-- the header read at k, with the headers before it and those after it
 module _ (ms : List DeferredHeader) (k : ℕ) (m d : DeferredHeader) (inside : k < length ms) (read : m ≡ get_or ms k d) where
   pub taken : take (suc k) ms ≡ take k ms ++ m ∷ []
   taken = take-suc ms k d inside ∙ ap (λ x. take k ms ++ x ∷ []) (sym read)
@@ -42,7 +42,7 @@ module _ (ms : List DeferredHeader) (k : ℕ) (m d : DeferredHeader) (inside : k
   pub left : drop k ms ≡ m ∷ drop (suc k) ms
   left = drop-cons ms k d inside ∙ ap (λ x. x ∷ drop (suc k) ms) (sym read)
 
--- what holds between steps: k headers are left, which stand from 0 to `from` in the gathered octets g; the rest is rendered
+-- what holds between steps: k headers remain, which are from 0 to `from` in the gathered octets g; the rest is rendered
 pub record Rest (g : List ℕ) (ms : List DeferredHeader) (buffer : List ℕ) (k from to copies : ℕ) : Type 0 where
   pub below : k ≤ length ms
   pub rising : Rising 0 (take k ms) from

@@ -1,4 +1,4 @@
--- Values behind an explicit prefix.
+-- Values after an explicit tag.
 use Rattle.std.proofs.Common.{◌≡◌, ◌⊎◌, refl, ap, subst, Result, Ok, Err, OnOk, IfErr, false, inl, inr}
 use Rattle.std.proofs.lemmas.Result.{on_ok_weaker, IfErr-weaker}
 use Rattle.std.specs.Fn.{FnOnceReturnsAtMut}

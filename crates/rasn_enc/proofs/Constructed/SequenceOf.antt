@@ -1,4 +1,4 @@
--- Elements, one behind the other.
+-- Elements, one after the other.
 use Rattle.std.proofs.Common.{◌≡◌, ◌≢◌, ◌≤◌, ◌-◌, ℕ, List, [], ◌∷◌, ◌++◌, length, map, take, drop, get_or, arith, refl, sym, ap, ◌∙◌, subst, Option, None, option_map, ◌⊎◌, Result, Ok, Err, OnOk, IfErr, false, inl, inr}
 use Rattle.std.proofs.lemmas.List.{append_assoc, append-nil, take_rest}
 use Rattle.std.proofs.lemmas.Result.{on_ok_weaker, IfErr-weaker}
@@ -28,7 +28,7 @@ pub split_is : {X : Type 0} (f : X → Tree) (l : List X) (x : X) → 1 ≤ leng
 split_is f [] x h e = absurd (omega arith)
 split_is f (y ∷ l) x h e = rw e (ap (λ m. f y ∷ map f m) (sym (take_rest (y ∷ l) 1)))
 
--- Elements stand behind the last list, and the rest of them is left.
+-- Elements follow the last list, and the rest of them remains.
 pub record ElementsSoFar (s : Shape) (ts rest : List Tree) (v w : View) : Type 0 where
   pub front : List Tree
   pub encoded : List (List ℕ)

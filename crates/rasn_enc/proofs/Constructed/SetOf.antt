@@ -22,7 +22,7 @@ use Rattle.rasn_enc.specs.SequenceOf.{AppendsSetOf, FailsInSetOf, FailsOutOfOrde
 use Rattle.rasn_enc.proofs.Leaves.Primitive.{cons_begins, encoded_one}
 use Rattle.rasn_enc.proofs.Constructed.SequenceOf.{ElementsSoFar, elements_start, elements_more, elements_end, element_refused, each_at}
 
--- Elements stand behind the last list and don't fall; the last of them begins at this place.
+-- Elements follow the last list and are in order; the last of them begins at this place.
 pub record SetOfSoFar (s : Shape) (ts rest : List Tree) (v w : View) (start : ℕ) : Type 0 where
   pub so_far : ElementsSoFar s ts rest v w
   pub order : AreAscending IsLess so_far.encoded
@@ -32,7 +32,7 @@ pub record SetOfSoFar (s : Shape) (ts rest : List Tree) (v w : View) (start : �
   pub is : w.last.octets ≡ before ++ piece
   pub starts : start ≡ length before
 
--- what stands between two places
+-- what is between two places
 between_is : (whole a b c : List ℕ) (i j : ℕ) → whole ≡ a ++ (b ++ c) → i ≡ length a → j ≡ length a + length b → take (j - i) (drop i whole) ≡ b
 between_is whole a b c i j e p q =
     let n : j - i ≡ length b = omega (arith, p, q) in

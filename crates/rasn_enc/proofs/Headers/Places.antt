@@ -45,7 +45,7 @@ pub octets_none : (k n : ℕ) → k ≡ 0 → digits 256 k n ≡ []
 unfolding digits
 octets_none k n e = rw e refl
 
--- One octet is written, and more behind it.
+-- One octet is written, and more after it.
 pub appended_one : (out new octets : List ℕ) (d e : ℕ) → new ≡ out ++ d ∷ [] → d ≡ e → octets ≡ e ∷ [] → new ≡ out ++ octets
 appended_one out new octets d e p q r = p ∙ ap (λ l. out ++ l) (ap (λ z. z ∷ []) q ∙ sym r)
 

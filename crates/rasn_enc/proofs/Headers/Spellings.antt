@@ -44,7 +44,7 @@ number_in-digits base h (suc count) n =
 pub digits_spell : (base : ℕ) → 0 < base → (count n : ℕ) → n < base ^ count → n ≡ number_in base (digits base count n)
 digits_spell base h count n k = sym (number_in-digits base h count n ∙ mod-eq_of_lt k)
 
--- a first digit that is 0 leaves less than what the digits behind it can hold
+-- a first digit that is 0 leaves less than what the digits after it can hold
 lead : (base : ℕ) → 0 < base → (b : ℕ) (l : List ℕ) → b % base ≡ 0 → number_in base (b ∷ l) < base ^ length l
 lead base h b l e =
     let k = number_lt base h l in

@@ -27,7 +27,7 @@ all_false (suc n) = (refl, all_false n)
 same_count : (n u v a : ℕ) → n + u ≡ 8 * a → (n + v) % 8 ≡ 0 → u < 8 → v < 8 → u ≡ v
 same_count n u v a h k i j = omega arith
 
--- A count and the octets behind it are the contents of bits.
+-- A count and the octets after it are the contents of bits.
 bits_written : (bs : List Bool) (unused : ℕ) (counted contents : List ℕ) → unused < 8 → (length bs + unused) % 8 ≡ 0 → counted ≡ unused ∷ [] → Pushes bs counted contents → AreOctets contents → WrittenBits bs contents
 bits_written bs unused counted contents few whole e p o =
     let q = p.packs in
@@ -46,7 +46,7 @@ bits_written bs unused counted contents few whole e p o =
       octets = o;
     }
 
--- A count and octets put behind others are too.
+-- A count and octets put after others are too.
 bits_put : (bs : List Bool) (unused : ℕ) (old counted new : List ℕ) → unused < 8 → (length bs + unused) % 8 ≡ 0 → counted ≡ old ++ unused ∷ [] → Pushes bs counted new → AreOctets new
     → AppendsOctets (WrittenBits bs) old new
 bits_put bs unused old counted new few whole e p o =

@@ -16,11 +16,11 @@ joined_one : {X : Type 0} (xs : List (List X)) (x : List X) → joined_lists (xs
 joined_one [] x = append-nil x
 joined_one (y ∷ xs) x = ap (λ l. y ++ l) (joined_one xs x) ∙ sym (append_assoc y (joined_lists xs) x)
 
--- One more piece behind octets that stand behind others.
+-- One more piece after octets that follow others.
 pub joined_behind : (a b c piece : List ℕ) (bs : List (List ℕ)) → c ≡ b ++ piece → b ≡ a ++ joined_lists bs → c ≡ a ++ joined_lists (bs ++ piece ∷ [])
 joined_behind a b c piece bs e k = e ∙ (ap (λ l. l ++ piece) k ∙ (append_assoc a (joined_lists bs) piece ∙ ap (λ l. a ++ l) (sym (joined_one bs piece))))
 
--- A value behind a view that leaves the others alone.
+-- A value after a view that leaves the others alone.
 pub others_more : (v w u : View) (octets : List ℕ) (tags : List Tag) → u ≡ appended w octets tags → LeavesOthers v w → LeavesOthers v u
 others_more v w u octets tags e k = record { rule = ap (λ (x : View). x.rule) e ∙ k.rule; below = ap (λ (x : View). x.below) e ∙ k.below }
 
@@ -40,7 +40,7 @@ module _ {X : Type 0} (writes : Writing (List X)) (size : ℕ) (inner : Tag) whe
   AreFull [] = Unit {0}
   AreFull (p ∷ ps) = (length p ≡ size) × AreFull ps
 
-  -- Whole segments stand behind the last list, and the rest of the string is left.
+  -- Whole segments follow the last list, and the rest of the string remains.
   pub record SegmentsSoFar (xs rest : List X) (v w : View) : Type 0 where
     pub pieces : List (List X)
     pub encoded : List (List ℕ)

@@ -109,7 +109,7 @@ module _ (ps : Parts) (k : ℕ) (s : Shape) (t : Tree) (a : IsAlternative ps k s
   refused_by : (r : Result Tag EncodeError) (e : EncodeError) → EncodeFails s t v e → w ≡ v → r ≡ Err e → EncodesAlternative ps (chosen k t) v r w
   refused_by r e h i q = rw q (record { keeps = record { octets = []; tags = []; appended = i ∙ appended-nil v }; ok = tt; refused = chosen_refused e h })
 
-  -- The alternative is refused, and the closure answers that by `?`.
+  -- The alternative is refused, and the closure returns that by `?`.
   pub alternative_refused : (r : Result Tag EncodeError) (e : EncodeError) → EncodeFails s t v e → w ≡ v → IsErrAnd r (λ y. y ≡ e) → EncodesAlternative ps (chosen k t) v r w
   alternative_refused r e h i q =
       let x = err_from_is_err_and r q in

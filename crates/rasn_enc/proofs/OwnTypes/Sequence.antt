@@ -14,7 +14,7 @@
 --         identifier,
 --     )
 --
--- The closure answers a line for each `?` and one for `Ok`. A last call whose result is the closure's goes by `last_part` in the place of the last `?`:
+-- The closure's proof is a line for each `?` and one for `Ok`. A last call whose result is the closure's uses `last_part` in place of the last `?`:
 --
 --     returns-in_err-encode g c = part_refused _ _ _ _ _ _ _ _ c.in_err-encode.ensures.refused c.in_err-encode.ensures.err c.from_residual.ensures.1
 --     returns-in_err-encode-2 g c = part_appended _ _ _ _ _ _ _ _ c.in_ok-encode.ensures.ok
@@ -189,7 +189,7 @@ refused_by p s parts t tree v u r e h k q = rw q (record {
   refused = first_refused p s parts t tree v e h;
 })
 
--- A part is refused, and the closure answers that by `?`.
+-- A part is refused, and the closure returns that by `?`.
 pub part_refused : {p : Presence} (s : Shape) (parts : Parts) (t tree : Tree) (v u : View) (r : Result (Unit {0}) EncodeError) (e : EncodeError)
     → EncodePartFails p s t v e → u ≡ v → IsErrAnd r (λ y. y ≡ e) → EncodesParts (part p s parts) (joined t tree) v r u
 part_refused {p} s parts t tree v u r e h k q =
@@ -238,7 +238,7 @@ sequence_refused g f v tag parts tree r h refused = IfErr-weaker r _ _ (λ e. el
   ]
 ]) h
 
--- What a writing closure owes of any calls: each one keeps it, written or refused, and so do two, one behind the other.
+-- What a writing closure has to keep by any calls: each one keeps it, written or refused, and so do two, one after the other.
 pub call_keeps : {T : Type 0} (s : Shape) (t : Tree) {v w : View} (r : Result T EncodeError) → OnOk r (AppendsEncoding s t v w) → OnErr r (w ≡ v) → LeavesOthers v w
 call_keeps {T} s t {v} {w} (Ok x) a e = record { rule = ap (λ (u : View). u.rule) a.appended; below = ap (λ (u : View). u.below) a.appended }
 call_keeps {T} s t {v} {w} (Err x) a e = record { rule = ap (λ (u : View). u.rule) e; below = ap (λ (u : View). u.below) e }

@@ -152,7 +152,7 @@ value-drop k n l e =
     ap (λ z. z % 2 ^ n) (ap value (sym (take-append-drop k l)) ∙ (value-append (take k l) (drop k l) ∙ ap (λ z. value (take k l) * 2 ^ z + value (drop k l)) d))
     ∙ mod_low (value (take k l)) n (value (drop k l)) (subst (λ z. value (drop k l) < 2 ^ z) d (value_below (drop k l)))
 
--- The eight bits behind the first few of two octets.
+-- The eight bits after the first few of two octets.
 pub across_bits : (a b s : ℕ) → a < 256 → b < 256 → s < 8 → bits_of ((a * 256 + b) / 2 ^ (8 - s) % 256) ≡ take 8 (drop s (bits_of a ++ bits_of b))
 across_bits a b s h k n =
     let l = bits_of a ++ bits_of b in
@@ -201,7 +201,7 @@ moved_bits b k h n =
     none : (p v : ℕ) → 0 * p + v ≡ v
     none p v = omega arith
 
--- ---- octets pushed behind others, shifted
+-- ---- octets pushed after others, shifted
 across_step : (p q r : List Bool) (s : ℕ) → length p ≡ 8 → length q ≡ 8 → s < 8 → drop s (p ++ (q ++ r)) ≡ take 8 (drop s (p ++ q)) ++ drop s (q ++ r)
 across_step p q r s m n h =
     let e : drop s (p ++ (q ++ r)) ≡ drop s (p ++ q) ++ r = ap (drop s) (sym (append_assoc p q r)) ∙ drop-append-le s (p ++ q) r (omega (arith, length-append p q, m)) in
@@ -216,7 +216,7 @@ across_end p s m h =
     let n : length (drop s p) ≡ 8 - s = length-drop s p ∙ omega (arith, m) in
     ap (take 8) e ∙ (consume_behind (drop s p) (zeros 8) s 8 (omega (arith, n)) ∙ ap (λ z. drop s p ++ z) (take-replicate s 8 false (omega arith)))
 
--- The octets so far hold what stood before the last octet that was read.
+-- The octets so far hold what preceded the last octet that was read.
 pub record Shifting (bits first : ℕ) (more old : List ℕ) (k previous : ℕ) (now : List ℕ) : Type 0 where
   pub added : List ℕ
   pub is : now ≡ old ++ added

@@ -87,7 +87,7 @@ last_split (x ∷ old) k (y ∷ front) last h e =
     let r = last_split old k front last h m in
     (r.0, ap₂ (λ a b. a ∷ b) (sym xy) r.1, r.2)
 
--- The last bits of octets that stand behind others are cleared.
+-- The last bits of octets that follow others are cleared.
 pub cleared_end : (u len : ℕ) (old k new : List ℕ) → u < 8 → len + u ≡ 8 * length k → 0 < length k → ClearsOne u (old ++ k) new → Pushes (take len (bits_in k)) old new
 cleared_end u len old k new h n some c =
     let s = last_split old k c.front c.last some c.was in
@@ -109,7 +109,7 @@ cleared_end u len old k new h n some c =
 length-zeros : (n : ℕ) → length (zeros n) ≡ n
 length-zeros n = length-replicate n false
 
--- What is kept of bits that are shifted behind others and cut.
+-- What is kept of bits that are shifted after others and cut.
 cut_kept : (shift held n : ℕ) (octets old mid cut : List ℕ) → shift ≤ 8 * held → n ≤ held → held ≤ length octets → (s : Shifts shift (take held octets) old mid) → cut ≡ take (length old + n) mid
     → (length (take n s.added) ≡ n) × (cut ≡ old ++ take n s.added)
 cut_kept shift held n octets old mid cut f h there s c =
@@ -130,7 +130,7 @@ cut_kept shift held n octets old mid cut f h there s c =
           length-zeros shift,
         )
 
--- Bits that are shifted behind others, cut and cleared, are packed.
+-- Bits that are shifted after others, cut and cleared, are packed.
 pub packed : (shift len held n u : ℕ) (octets old mid cut new : List ℕ) → shift < 8 → 0 < len → shift + len ≤ 8 * held → held ≤ length octets → len + u ≡ 8 * n → u < 8
     → Shifts shift (take held octets) old mid → cut ≡ take (length old + n) mid → Clears u cut new → Pushes (bits_from shift len octets) old new
 packed shift len held n u octets old mid cut new h some fits there e few s c (inl (x, y)) =
@@ -175,7 +175,7 @@ kept len n u octets cut new e few there c (inr x) o =
       f ∙ d,
     )
 
--- Octets that are put behind whole octets.
+-- Octets that are put after whole octets.
 pub collects_whole : (unused : ℕ) (octets more new : List ℕ) → unused ≤ 8 * length more → new ≡ octets ++ more → but_last unused new ≡ but_last 0 octets ++ but_last unused more
 collects_whole unused octets more new h e =
     let n : length new ≡ length octets + length more = ap length e ∙ length-append octets more in
@@ -191,7 +191,7 @@ length-but_last u octets = length-take-le (8 * length octets - u) (bits_in octet
 pub some_bits : (u : ℕ) (octets : List ℕ) → u < 8 → 0 < length octets → but_last u octets ≢ []
 some_bits u octets few h e = let n : length (but_last u octets) ≡ 0 = ap length e in omega (arith, length-but_last u octets, n, few, h)
 
--- Octets that are put behind bits, of whose last octet some are unused.
+-- Octets that are put after bits, of whose last octet some are unused.
 pub joins : (u last moved : ℕ) (octets front more new : List ℕ) → drop u (bits_of moved) ≡ take (8 - u) (bits_of last) → u < 8 → octets ≡ front ++ last ∷ [] → Shifts u (moved ∷ more) front new → Joins u octets more new
 joins u last moved octets front more new down few e s = record { long = long; all = all }
   where

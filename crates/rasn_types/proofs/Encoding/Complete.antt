@@ -5,7 +5,7 @@ use Rattle.rasn_types.specs.Tags.{Form, loose, Codec, Tag}
 use Rattle.rasn_types.specs.Framing.{Extent, definite, indefinite, Frame, with_length, without_length, SpellsLength, SpellsAnyIdentifier, NextTag, CompleteEncoding, plain, closed, CompleteEncodings, none, one_more, steps_in, steps_of}
 use Rattle.rasn_types.proofs.Headers.Frames.{frame_one, not_ended, frame_next}
 
--- What stands behind goes on behind the rest.
+-- What follows an encoding follows its rest.
 pub frame_more : {rule : Form} {input rest : List ℕ} {s : Tag} {b : Bool} {m : Extent} (x : List ℕ)
     → Frame rule input s b rest m → Frame rule (input ++ x) s b (rest ++ x) m
 frame_more {rest = rest} x (with_length id len c p q z e) =

@@ -208,7 +208,7 @@ pub arcs_of : (l ns : List ℕ) → ShortArcs l ns → Arcs l ns
 arcs_of l [] h = h
 arcs_of l (n ∷ ns) (f, b, s, p, e, h) = (f, b, s, e, arcs_of b ns h)
 
--- Subidentifiers are told apart.
+-- Subidentifiers are distinguished.
 pub arcs_one : (ms ns l : List ℕ) → Arcs l ms → Arcs l ns → ms ≡ ns
 arcs_one [] [] l h k = refl
 arcs_one [] (n ∷ ns) l h k = absurd (no_short_arc k.0 k.1 n k.2 (sym h ∙ k.3))

@@ -30,7 +30,7 @@ number_of_bytes (suc k) n =
     ap₂ ◌+◌ (ap₂ ◌*◌ (ap (λ x. x % 256) (byte_is k n) ∙ octet_again (n / 256 ^ k)) (ap (λ x. 256 ^ x) (length_bytes k n))) (number_of_bytes k n)
     ∙ (sym (mod-mul n {m = 256} {c = 256 ^ k} (omega arith) (one-le-pow k 256 (omega arith))) ∙ ap (λ x. n % x) (sym (pow-succ' 256 k)))
 
--- The number that the octets stand for, by the bits.
+-- The number that the octets spell, by the bits.
 signed_bytes : (k n : ℕ) → n < 256 * 256 ^ k → signed (bytes_high_first (suc k) n) ≡ pos n -ℤ pos (n / 256 ^ k / 128 * (256 * 256 ^ k))
 signed_bytes k n h =
     let p : 256 ^ length (bytes_high_first (suc k) n) ≡ 256 * 256 ^ k = ap (λ x. 256 ^ x) (length_bytes (suc k) n) ∙ pow-succ' 256 k in

@@ -1,4 +1,4 @@
--- The order of whole numbers, told by their fewest octets.
+-- The order of whole numbers, decided by their fewest octets.
 use Rattle.std.proofs.Common.{◌≡◌, ℕ, ◌+◌, ◌*◌, ◌^◌, ◌/◌, ◌<◌, ◌≤◌, ◌⊎◌, inl, inr, List, [], ◌∷◌, length, get_or, ℤ, pos, neg_ℤ, ◌+ℤ◌, ◌-ℤ◌, ◌≤ℤ◌, ◌<ℤ◌, refl, sym, ap, ◌∙◌, subst, arith, Ordering, Less, Equal, Greater}
 use Rattle.std.specs.Ordering.{MatchOrdering, ordering_then, nat_cmp, int_cmp}
 use Rattle.std.specs.Cmp.{ranks, int_cmp_is}
@@ -24,7 +24,7 @@ first_apart Less s p a b x y v w e f h k m g = lower p a b x y v w e f h m
 first_apart Equal s p a b x y v w e f h k m g = level s p a b x y v w e f m g
 first_apart Greater s p a b x y v w e f h k m g = lower p b a y x w v f e k m
 
--- As many octets are ordered as the numbers that they stand for.
+-- As many octets are ordered as the numbers that they spell.
 octets_ranked : (k l : List ℕ) → AreOctets k → AreOctets l → length k ≡ length l
     → MatchOrdering (slice_cmp nat_cmp k l) (number_in 256 k < number_in 256 l) (number_in 256 k ≡ number_in 256 l) (number_in 256 l < number_in 256 k)
 octets_ranked [] [] o u n = refl

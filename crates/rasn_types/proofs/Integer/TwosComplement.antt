@@ -49,7 +49,7 @@ signed_high b l h k = ap₂ (λ x y. pos x -ℤ pos (y * 256 ^ length (b ∷ l))
     plain : (n p q : ℕ) → p ≡ q → pos n -ℤ pos (1 * p) ≡ pos n -ℤ pos q
     plain n p q e = omega (arith, ints)
 
--- The sign is told by the first octet.
+-- The first octet decides the sign.
 pub not_negative : (b : ℕ) (l : List ℕ) → b < 128 → pos 0 ≤ℤ signed (b ∷ l)
 not_negative b l h = subst (λ z. pos 0 ≤ℤ z) (sym (signed_low b l h)) (omega (arith, ints))
 
@@ -60,7 +60,7 @@ negative b l h k = subst (λ z. z <ℤ pos 0) (sym (signed_high b l h k))
     under : (n p : ℕ) → n < p → (pos n -ℤ pos p) <ℤ pos 0
     under n p h = omega (arith, ints)
 
--- An octet that only repeats the sign of what is behind it changes nothing.
+-- An octet that only repeats the sign of what follows it changes nothing.
 pub same_by_zero : (b : ℕ) (l : List ℕ) → b < 128 → signed (0 ∷ b ∷ l) ≡ signed (b ∷ l)
 same_by_zero b l h = signed_low 0 (b ∷ l) (omega arith)
     ∙ (plain (256 ^ length (b ∷ l)) (number_in 256 (b ∷ l)) ∙ (ap pos (first_digit b l (omega arith)) ∙ sym (signed_low b l h)))

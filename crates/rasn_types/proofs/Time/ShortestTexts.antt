@@ -20,7 +20,7 @@ and_right : (a b : Bool) → a && b ≡ true → b ≡ true
 and_right true b e = e
 and_right false b e = cc
 
--- behind a year, fourteen digits in all, a fraction and Z
+-- after a year, fourteen digits in all, a fraction and Z
 spelled_out : (y : ℕ) (clock : Clock) (zone : Zone) (s : Spelling) → s.clock ≡ clock → s.zone ≡ zone → has_seconds clock ≡ true → is_utc zone ≡ true
     → (front : List ℕ) × (length front ≡ 14) × (four y ++ tail_text s ≡ front ++ (fraction_text s.fraction ++ 90 ∷ []))
 spelled_out y (Seconds m n) Utc s c z e f =

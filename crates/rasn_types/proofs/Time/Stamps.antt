@@ -1,4 +1,4 @@
--- Which texts stand for which stamps, by the reading's functions.
+-- Which texts spell which stamps, by the reading's functions.
 use Rattle.std.proofs.Common.{◌≡◌, ℕ, ◌<◌, Bool, true, false, ◌&&◌, List, ◌++◌, Option, Some, None, refl, sym, ap, ◌∙◌, subst, ℤ, pos}
 use Rattle.std.proofs.lemmas.Option.{same_Some, none-some}
 use Rattle.rasn_types.specs.declared.ber.time.text.Fields.{Fields}
