@@ -54,7 +54,7 @@ abbrev pub IsSized : Constraints → State → Value → Result Value DecodeErro
 IsSized c s v (Ok w) = Admits ◌≤◌ c.size (element_count v) × (w ≡ v)
 IsSized c s v (Err e) = (Admits ◌≤◌ c.size (element_count v) → ⊥) × IsErrorOf (SizeConstraintNotSatisfied (element_count v) (constraint_of c.size)) s e
 
--- The values of the type hold other values, behind a header of their own.
+-- The values of the type hold other values, after a header of their own.
 abbrev pub HoldsOthers : «Type» → Type 0
 HoldsOthers (Leaf kind tag c names) = ⊥
 HoldsOthers (Enumerated tag ns) = ⊥

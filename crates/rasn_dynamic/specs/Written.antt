@@ -64,7 +64,7 @@ pub record EncodesInside (s : Shape) (t : Tree) (v : View) (r : Result (Unit {0}
   pub ok : OnOk r (WritesInside v.rule s t w.last.octets)
   pub refused : IfErr r (λ e. IsEncodeOutOfMemory e.kind ⊎ ((c : List ℕ) → WritesInside v.rule s t c → ⊥))
 
--- The same of elements one behind the other, and of those of a SET OF.
+-- The same of elements one after the other, and of those of a SET OF.
 pub record EncodesElements (s : Shape) (ts : List Tree) (v : View) (r : Result (Unit {0}) EncodeError) (w : View) : Type 0 where
   pub ok : OnOk r (AppendsElements s ts v w)
   pub refused : IfErr r (FailsAtElement s ts v.rule)

@@ -48,7 +48,7 @@ IsAlternativesFault f id ks (UntaggedAlternative k i) = (k.0 ≡ id) × ((a : Al
 IsAlternativesFault f id ks (AlternativesClash k i j) = (k.0 ≡ id) × (i < j) × ((a b : Alternative) × (Some a ≡ slice_get ks i) × (Some b ≡ slice_get ks j) × (AreDistinct (f a.type_id.0) (f b.type_id.0) → ⊥))
 IsAlternativesFault f id ks _ = ⊥
 
--- Component i may be absent, and isn't told from component j, which may follow then; or has no tag, and isn't the last.
+-- Component i may be absent, and isn't distinguished from component j, which may follow then; or has no tag, and isn't the last.
 abbrev pub IsSequenceFault : (ℕ → Option Tag) → (ℕ → Shape) → ℕ → Tag → List Component → SchemaError → Type 0
 IsSequenceFault own f id tag ps (ReservedTag k) = (k.0 ≡ id) × (tag ≡ eoc)
 IsSequenceFault own f id tag ps (ComponentsClash k i j) = (k.0 ≡ id) × MayFollow ps i j × ((p q : Component) × (Some p ≡ slice_get ps i) × (Some q ≡ slice_get ps j)

@@ -43,12 +43,12 @@ AreDistinctNumbers ns = (i j : ℕ) (m n : NamedNumber) → i < j → Some m ≡
 abbrev pub MayFollow : List Component → ℕ → ℕ → Type 0
 MayFollow ps i j = (i < j) × ((m : ℕ) (p : Component) → i < m → m < j → Some p ≡ slice_get ps m → IsAlwaysThere (presence_of p.presence) → ⊥)
 
--- A component is told by its tag, which it has to have.
+-- A component is distinguished by its tag, which it has to have.
 abbrev pub IsToldFrom : Option Tag → Shape → Type 0
 IsToldFrom None s = ⊥
 IsToldFrom (Some tag) s = IsFirst s tag → ⊥
 
--- A component that may be absent is told from each one that may follow then (X.680 25.6).
+-- A component that may be absent is distinguished from each one that may follow then (X.680 25.6).
 abbrev pub AreToldInOrder : (ℕ → Option Tag) → (ℕ → Shape) → List Component → Type 0
 AreToldInOrder own f ps = (i j : ℕ) (p q : Component) → Some p ≡ slice_get ps i → Some q ≡ slice_get ps j → (IsAlwaysThere (presence_of p.presence) → ⊥) → MayFollow ps i j → IsToldFrom (own p.type_id.0) (f q.type_id.0)
 

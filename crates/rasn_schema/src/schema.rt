@@ -10,7 +10,7 @@ use crate::types::Type;
 use crate::value::Value;
 use crate::view::View;
 
-/// Types that refer to one another by number, and whose values can be told apart by their tags,
+/// Types that refer to one another by number, and whose values can be distinguished by their tags,
 /// however deep they are nested.
 #[derive(Drop)]
 pub struct Schema {
