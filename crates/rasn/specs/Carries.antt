@@ -1,4 +1,4 @@
--- The test of shapes of which all that DER reads is carried.
+-- The test for shapes of which every value that DER reads is carried.
 use Rattle.std.specs.Prelude.{Bool, true, false, not, ◌&&◌, ◌||◌, Some, None}
 use Rattle.rasn_types.specs.Shapes.{Tree, number, bits, numbers, instant, on_day, done, joined, set_elements, chosen, absent, Shape, leaf, any, prefix, choice, option, seq, set, list, set_of, Parts, part, Presence, required, optional, addition, default}
 use Rattle.rasn_types.specs.Shapes.Parts.{none}
@@ -35,8 +35,8 @@ is_own_default optional = true
 is_own_default addition = true
 is_own_default (default d) = is_same_as_itself d
 
--- Not of an open type with a tag, in which there need not be one encoding; nor of a SEQUENCE that has additions and no required part,
--- since empty contents leave these out; nor where a default isn't the same as itself.
+-- False for an open type with a tag, whose contents need not be one encoding; for a SEQUENCE that has additions and no
+-- required part, since empty contents leave the additions out; and for a default that isn't the same as itself.
 abbrev mutual
   pub carries_all : Shape → Bool
   carries_all (leaf kind tag bounds) = true

@@ -1,4 +1,4 @@
--- Laws of the grammar.
+-- The laws of the grammar.
 use Rattle.std.specs.Prelude.{◌≡◌, ◌↔◌, ℕ, ◌*◌, ◌≤◌, List, [], ◌++◌, length, Bool, true, Option}
 use Rattle.rasn_types.specs.declared.types.codec.Codec.{Codec}
 use Rattle.rasn_types.specs.declared.types.codec.Codec.TheVariants.{Ber, Der}
@@ -15,7 +15,7 @@ use Rattle.rasn_types.specs.Lawful.{AreDistinguished, IsLawful}
 use Rattle.rasn_types.specs.LawfulTest.{is_lawful}
 use Rattle.rasn.specs.Carries.{carries_all}
 
--- At most one value and one rest, at each depth.
+-- At every depth, an input is read as at most one tree with at most one rest.
 abbrev pub IsReadOnce : Codec → Shape → Type 0
 IsReadOnce rule s = (depth : ℕ) (closing : Bool) (input : List ℕ) (t u : Tree) (rest other : List ℕ)
     → Reads rule s depth closing input t rest → Reads rule s depth closing input u other → (t ≡ u) × (rest ≡ other)
@@ -24,11 +24,11 @@ abbrev pub AreReadOnce : Codec → Parts → Type 0
 AreReadOnce rule none = Unit {0}
 AreReadOnce rule (part presence s ps) = IsReadOnce rule s × AreReadOnce rule ps
 
--- The test of a lawful shape decides.
+-- A shape is lawful exactly if it passes the test `is_lawful`.
 abbrev pub LawfulTested : Type 0
 LawfulTested = (s : Shape) → (IsLawful s ↔ (is_lawful s ≡ true))
 
--- Each case, resting on its parts.
+-- The law of one reading for each kind of shape, given the law for its parts.
 abbrev pub OneLeaf : Type 0
 OneLeaf = (rule : Codec) (kind : Kind) (tag : Tag) (bounds : Constraints) → IsReadOnce rule (leaf kind tag bounds)
 
@@ -75,7 +75,7 @@ Canonical = (s : Shape) → IsLawful s → (t u : Tree) (c : Carried Der s t) (d
 abbrev pub WrittenOnce : Type 0
 WrittenOnce = (s : Shape) (rule : Codec) (t u : Tree) (a b : List ℕ) → Same t u → Bytes rule s t a → Bytes rule s u b → a ≡ b
 
--- Each default is the same as itself, as the tree of a value is.
+-- Each default is the same as itself, as the tree of every value is.
 abbrev pub IsOwnDefault : Presence → Type 0
 IsOwnDefault (default d) = Same d d
 IsOwnDefault presence = Unit {0}
@@ -96,30 +96,30 @@ abbrev mutual
   HaveOwnDefaults none = Unit {0}
   HaveOwnDefaults (part presence s ps) = IsOwnDefault presence × HasOwnDefaults s × HaveOwnDefaults ps
 
--- What DER reads, and meets the depth, is carried.
+-- What DER reads of a lawful shape whose defaults are the same as themselves is carried if it is within limits.
 abbrev pub OnlyCarried : Type 0
 OnlyCarried = (s : Shape) → IsLawful s → HasOwnDefaults s → (input : List ℕ) → AreOctets input → (t : Tree) (rest : List ℕ) → Reads Der s 128 (top Der) input t rest → IsWithinLimits Der s 128 t
     → (c : Carried Der s t) × (input ≡ c.octets ++ rest)
 
--- What DER reads of a shape that passes the test is carried.
+-- What DER reads of a lawful shape that passes the test `carries_all` is carried.
 abbrev pub AllCarried : Type 0
 AllCarried = (s : Shape) → IsLawful s → carries_all s ≡ true → (input : List ℕ) → AreOctets input → (t : Tree) (rest : List ℕ) → Reads Der s 128 (top Der) input t rest
     → (c : Carried Der s t) × (input ≡ c.octets ++ rest)
 
--- What DER reads of a carried tree's octets is carried too, with the same octets.
+-- What DER reads of the octets of a carried tree of a lawful shape is carried too, with the same octets.
 abbrev pub StaysCarried : Type 0
 StaysCarried = (s : Shape) → IsLawful s → (t : Tree) (c : Carried Der s t) → AreOctets c.octets → (u : Tree) → Reads Der s 128 (top Der) c.octets u [] → (d : Carried Der s u) × (d.octets ≡ c.octets)
 
--- Of octets that DER reads as a carried tree, those that are consumed are its DER octets.
+-- If DER reads a carried tree of a lawful shape, the octets that are consumed are the tree's DER octets.
 abbrev pub StrictDer : Type 0
 StrictDer = (s : Shape) → IsLawful s → (input : List ℕ) → AreOctets input → (t : Tree) (rest : List ℕ) → Reads Der s 128 (top Der) input t rest → Carried Der s t
     → (text : List ℕ) × Bytes Der s t text × (input ≡ text ++ rest)
 
--- Of two whole encodings at the front of one input, each is the other, and both take the same steps.
+-- Two complete encodings at the front of the same input are equal, and skipping either takes the same number of steps.
 abbrev pub OneEncoding : Type 0
 OneEncoding = (rule other : Codec) (a b x y : List ℕ) (v : CompleteEncoding rule a) (w : CompleteEncoding other b) → a ++ x ≡ b ++ y
     → (a ≡ b) × (x ≡ y) × (steps_in v ≡ steps_in w)
 
--- A step passes two octets at least.
+-- Each step of skipping an encoding skips at least two octets.
 abbrev pub EncodingSteps : Type 0
 EncodingSteps = (rule : Codec) (text : List ℕ) (w : CompleteEncoding rule text) → 2 * steps_in w ≤ length text

@@ -1,4 +1,4 @@
--- The one encoding that DER has of what an input means.
+-- The DER encoding of the value that an input holds.
 use Rattle.std.specs.Prelude.{◌≡◌, ◌⊎◌, ◌↔◌, ℕ, List, []}
 use Rattle.rasn_types.specs.declared.types.codec.Codec.{Codec}
 use Rattle.rasn_types.specs.declared.types.codec.Codec.TheVariants.{Der}
@@ -14,11 +14,12 @@ use Rattle.rasn.specs.Headline.{IsFollowed}
 use Rattle.rasn.specs.declared.normal.NormaliseError.{NormaliseError}
 use Rattle.rasn.specs.declared.normal.NormaliseError.TheVariants.{Decode, Encode, NotCanonical}
 
--- All of the input is this value, and no other.
+-- All of the input is read as this tree, and the input is read as no other.
 abbrev pub Means : Codec → Shape → List ℕ → Tree → Type 0
 Means rule s input t = Exact (Reads rule s 128 (top rule)) input (Got t [])
 
--- The octets are the DER octets of what all of the input means by these rules, and DER reads them as the same.
+-- The octets are the DER octets of the value that is all of the input by these rules, and DER reads them as the same
+-- value.
 pub record IsNormal (rule : Codec) (s : Shape) (input octets : List ℕ) : Type 0 where
   pub value : Tree
   pub means : Means rule s input value
@@ -27,7 +28,7 @@ pub record IsNormal (rule : Codec) (s : Shape) (input octets : List ℕ) : Type 
   pub read_again : Means Der s octets again
   pub same : Same value again
 
--- The value has DER octets that DER doesn't read alone as the same value.
+-- The value has DER octets, but DER doesn't read them, alone, as the same value.
 pub record IsNotCanonical (rule : Codec) (s : Shape) (input : List ℕ) : Type 0 where
   pub value : Tree
   pub means : Means rule s input value
@@ -35,14 +36,14 @@ pub record IsNotCanonical (rule : Codec) (s : Shape) (input : List ℕ) : Type 0
   pub written : Bytes Der s value octets
   pub other : (again : Tree) → Reads Der s 128 (top Der) octets again [] → Same value again → ⊥
 
--- Each cause, memory aside: the rules don't read the input, or something follows the value; the value has no DER octets; they aren't
--- read back.
+-- Why there is no normal encoding, if no allocation fails: the rules don't read the input, or octets follow the value;
+-- the value has no DER octets; or DER doesn't read these back as the same value.
 abbrev pub IsNoNormal : Codec → Shape → List ℕ → NormaliseError → Type 0
 IsNoNormal rule s input (Decode e) = Exact (Reads rule s 128 (top rule)) input (refusal e.kind) ⊎ IsFollowed rule s input e
 IsNoNormal rule s input (Encode e) = IsEncodeOutOfMemory e.kind ⊎ ((value : Tree) × Means rule s input value × NoEncoding Der s value)
 IsNoNormal rule s input NotCanonical = IsNotCanonical rule s input
 
--- An error has the rules by which the input was read, and DER's if DER was to write the value, or to read it again.
+-- The error names the rules by which the input was read; or DER, if DER had to write the value or to read it back.
 abbrev pub IsByRules : Codec → NormaliseError → Type 0
 IsByRules rule (Decode e) = (e.codec ≡ rule) ⊎ (IsOutOfMemory e.kind × (e.codec ≡ Der))
 IsByRules rule (Encode e) = e.codec ≡ Der
@@ -53,35 +54,37 @@ IsOutOfMemoryAlone (Decode e) = IsOutOfMemory e.kind
 IsOutOfMemoryAlone (Encode e) = IsEncodeOutOfMemory e.kind
 IsOutOfMemoryAlone NotCanonical = ⊥
 
--- All of the input is read as this value, which is carried.
+-- All of the input is read as this tree, which is carried under DER.
 pub record IsCarriedIn (rule : Codec) (s : Shape) (input : List ℕ) (t : Tree) : Type 0 where
   pub reads : Reads rule s 128 (top rule) input t []
   pub carried : Carried Der s t
 
--- The octets are those of all carried values that are the same as the input's, and of no others.
+-- If the input is a carried value of a lawful shape, a carried tree has these DER octets exactly if it is the same as
+-- the input's.
 abbrev pub IsIdentified : Codec → Shape → List ℕ → List ℕ → Type 0
 IsIdentified rule s input octets = IsLawful s → (t : Tree) → IsCarriedIn rule s input t → (u : Tree) (c : Carried Der s u) → (Same t u ↔ (octets ≡ c.octets))
 
--- DER reads the octets as a carried value, whose one encoding they are.
+-- DER reads the octets as a carried value, and they are its only normal encoding.
 pub record IsStable (s : Shape) (octets : List ℕ) : Type 0 where
   pub value : Tree
   pub carried : IsCarriedIn Der s octets value
   pub again : IsNormal Der s octets octets
   pub only : (other : List ℕ) → IsNormal Der s octets other → other ≡ octets
 
--- The octets are their own normal encoding.
+-- If the input is a carried value of a lawful shape, the octets are their own normal encoding.
 abbrev pub IsKept : Codec → Shape → List ℕ → List ℕ → Type 0
 IsKept rule s input octets = IsLawful s → (t : Tree) → IsCarriedIn rule s input t → IsStable s octets
 
--- An input of a carried value that DER reads is its own answer.
+-- If the input is a carried value of a lawful shape and DER reads it, the octets are the input itself.
 abbrev pub IsUnchanged : Codec → Shape → List ℕ → List ℕ → Type 0
 IsUnchanged rule s input octets = IsLawful s → (t : Tree) → IsCarriedIn rule s input t → (u : Tree) → Reads Der s 128 (top Der) input u [] → octets ≡ input
 
--- Only running out of memory refuses what is read as a carried value.
+-- If the input is a carried value of a lawful shape, the only failure is that of an allocation.
 abbrev pub IsAnswered : Codec → Shape → List ℕ → NormaliseError → Type 0
 IsAnswered rule s input e = IsLawful s → (t : Tree) → IsCarriedIn rule s input t → IsOutOfMemoryAlone e
 
--- Two inputs of carried values, by any rules, have the same octets exactly if their values are the same.
+-- Two inputs of carried values of a lawful shape, each read by any rules, have the same normal encoding exactly if
+-- their values are the same.
 abbrev pub SameExactlyIfEqual : Type 0
 SameExactlyIfEqual = (s : Shape) → IsLawful s → (rule other : Codec) (input second : List ℕ) (t u : Tree) → IsCarriedIn rule s input t → IsCarriedIn other s second u
     → (a b : List ℕ) → IsNormal rule s input a → IsNormal other s second b → (Same t u ↔ (a ≡ b))

@@ -1,4 +1,4 @@
--- Octets that were worked out by hand, and what they are read as and written from.
+-- Octets worked out by hand, and the values as which they are read or from which they are written.
 use Rattle.std.specs.Prelude.{◌≡◌, ℕ, List, [], ◌∷◌, ◌++◌, length, Bool, true, false, pos, negsuc, map, Some, None}
 use Rattle.rasn_types.specs.Tags.{Form, der_form, IsStrict, in_universal}
 use Rattle.rasn_types.specs.declared.types.codec.Codec.{Codec}
@@ -16,7 +16,7 @@ pub use Rattle.rasn.specs.WorkedShapes.{plain, contextual, named, perhaps_bool, 
 abbrev pub IsRefusedBy : Codec → Shape → List ℕ → Type 0
 IsRefusedBy rule s input = (t : Tree) (rest : List ℕ) → Reads rule s 128 (top rule) input t rest → ⊥
 
--- This tree is read, and this is left.
+-- The input is read as this tree, with this rest.
 abbrev pub IsReadAs : Codec → Shape → List ℕ → Tree → List ℕ → Type 0
 IsReadAs rule s input t rest = Reads rule s 128 (top rule) input t rest
 
@@ -27,62 +27,62 @@ IsCarriedAs rule s t b = (c : Carried rule s t) × (c.octets ≡ b)
 abbrev pub nested : List ℕ
 nested = 48 ∷ 128 ∷ 48 ∷ 128 ∷ 2 ∷ 1 ∷ 1 ∷ 0 ∷ 0 ∷ 4 ∷ 1 ∷ 0 ∷ 0 ∷ 0 ∷ []
 
--- two octet strings with one octet each, in this order
+-- The list of the octet strings `a` and `b`, of one octet each.
 abbrev pub octets_each : ℕ → ℕ → Tree
 octets_each a b = items (numbers (a ∷ []) ∷ numbers (b ∷ []) ∷ [])
 
--- 03 82 03 E8, no unused bits, 999 octets
+-- The octets are `03 82 03 E8 00` and 999 more: a BIT STRING without unused bits.
 abbrev pub IsLongPiece : List ℕ → Type 0
 IsLongPiece b = (front : List ℕ) × (length front ≡ 999) × (b ≡ 3 ∷ 130 ∷ 3 ∷ 232 ∷ 0 ∷ front)
 
--- 23 80, such a piece, 03 02 00 and one octet, 00 00
+-- The octets are `23 80`, a BIT STRING as in `IsLongPiece`, `03 02 00` with one more octet, and `00 00`.
 abbrev pub AreTwoPieces : List ℕ → Type 0
 AreTwoPieces b = (front : List ℕ) × (last : ℕ) × (length front ≡ 999) × (b ≡ 35 ∷ 128 ∷ 3 ∷ 130 ∷ 3 ∷ 232 ∷ 0 ∷ (front ++ (3 ∷ 2 ∷ 0 ∷ last ∷ 0 ∷ 0 ∷ [])))
 
 abbrev pub leap : Moment
 leap = record { day = record { year = pos 2016; month = 12; day = 31 }; hour = 23; minute = 59; second = 59; nanosecond = 1500000000 }
 
--- 20161231235960.5Z
+-- The text 20161231235960.5Z.
 abbrev pub leap_text : List ℕ
 leap_text = 50 ∷ 48 ∷ 49 ∷ 54 ∷ 49 ∷ 50 ∷ 51 ∷ 49 ∷ 50 ∷ 51 ∷ 53 ∷ 57 ∷ 54 ∷ 48 ∷ 46 ∷ 53 ∷ 90 ∷ []
 
--- Smith, TRUE
+-- The tree of { Smith, TRUE }.
 abbrev pub smith : Tree
 smith = items (numbers (83 ∷ 109 ∷ 105 ∷ 116 ∷ 104 ∷ []) ∷ number (pos 1) ∷ [])
 
--- 20161231235960.50Z
+-- The text 20161231235960.50Z.
 abbrev pub long_leap_text : List ℕ
 long_leap_text = 50 ∷ 48 ∷ 49 ∷ 54 ∷ 49 ∷ 50 ∷ 51 ∷ 49 ∷ 50 ∷ 51 ∷ 53 ∷ 57 ∷ 54 ∷ 48 ∷ 46 ∷ 53 ∷ 48 ∷ 90 ∷ []
 
 abbrev pub afternoon : Moment
 afternoon = record { day = record { year = pos 2018; month = 6; day = 13 }; hour = 12; minute = 29; second = 59; nanosecond = 123456789 }
 
--- 20180613122959.123456789Z, and one more digit
+-- The text 20180613122959.123456789Z, and below it the text with one more digit.
 abbrev pub nine_digits : List ℕ
 nine_digits = 50 ∷ 48 ∷ 49 ∷ 56 ∷ 48 ∷ 54 ∷ 49 ∷ 51 ∷ 49 ∷ 50 ∷ 50 ∷ 57 ∷ 53 ∷ 57 ∷ 46 ∷ 49 ∷ 50 ∷ 51 ∷ 52 ∷ 53 ∷ 54 ∷ 55 ∷ 56 ∷ 57 ∷ 90 ∷ []
 
 abbrev pub ten_digits : List ℕ
 ten_digits = 50 ∷ 48 ∷ 49 ∷ 56 ∷ 48 ∷ 54 ∷ 49 ∷ 51 ∷ 49 ∷ 50 ∷ 50 ∷ 57 ∷ 53 ∷ 57 ∷ 46 ∷ 49 ∷ 50 ∷ 51 ∷ 52 ∷ 53 ∷ 54 ∷ 55 ∷ 56 ∷ 57 ∷ 49 ∷ 90 ∷ []
 
--- 1, 2, 3 and the same in falling order
+-- The list 1, 2, 3, and below it the same numbers in descending order.
 abbrev pub one_two_three : Tree
 one_two_three = items (number (pos 1) ∷ number (pos 2) ∷ number (pos 3) ∷ [])
 
 abbrev pub three_two_one : Tree
 three_two_one = items (number (pos 3) ∷ number (pos 2) ∷ number (pos 1) ∷ [])
 
--- 80 01 01, 81 01 02, 82 01 03, and the same in falling order
+-- A SET of `80 01 01`, `81 01 02` and `82 01 03`, and below it the same components in descending order.
 abbrev pub rising_octets : List ℕ
 rising_octets = 49 ∷ 9 ∷ 128 ∷ 1 ∷ 1 ∷ 129 ∷ 1 ∷ 2 ∷ 130 ∷ 1 ∷ 3 ∷ []
 
 abbrev pub falling_octets : List ℕ
 falling_octets = 49 ∷ 9 ∷ 130 ∷ 1 ∷ 3 ∷ 129 ∷ 1 ∷ 2 ∷ 128 ∷ 1 ∷ 1 ∷ []
 
--- BER reads this tree of all the octets, and DER reads nothing.
+-- BER reads all of the octets as this tree, and DER reads nothing.
 abbrev pub IsLenient : Shape → List ℕ → Tree → Type 0
 IsLenient s input t = IsReadAs Ber s input t [] × IsRefusedBy Der s input
 
--- What BER reads and DER doesn't, since another spelling is written; open octets stay as they are.
+-- What BER reads and DER doesn't, since DER writes it in another way. Inside open types, DER reads such octets too.
 pub record WorkedStrict : Type 0 where
   pub high_tag : IsLenient (plain boolean 1) (31 ∷ 1 ∷ 1 ∷ 255 ∷ []) (number (pos 1))
   pub high_tag_next : NextTag der_form (31 ∷ 1 ∷ 1 ∷ 255 ∷ []) (in_universal 1) → ⊥

@@ -1,4 +1,4 @@
--- Small clauses that contracts share: what they hold of, and what they don't.
+-- Small clauses that several contracts share: what satisfies them, and what doesn't.
 use Rattle.std.specs.Prelude.{◌≡◌, ℕ, ◌+◌, ◌<◌, List, [], ◌∷◌, Some, None, Result, Ok, Err, pos, negsuc}
 use Rattle.rasn_types.specs.Tags.{in_universal}
 use Rattle.rasn_types.specs.declared.types.codec.Codec.TheVariants.{Ber}
@@ -13,27 +13,29 @@ use Rattle.rasn_types.specs.declared.types.strings.alphabet.Alphabet.TheVariants
 use Rattle.rasn_types.specs.Text.{shown_bits}
 use Rattle.rasn_types.specs.Contents.{bits_of}
 
--- what an OCTET STRING is read as where no memory is left
+-- The outcome of reading an OCTET STRING if every allocation fails.
 abbrev pub bare_octets : List ℕ → Result (List ℕ × List ℕ) ParseError
 bare_octets l = string_at Ber (without_memory octets) (in_universal 4) 2 (in_universal 4) l
 
 pub record WorkedClauses : Type 0 where
-  -- 23:59 west and east of UTC, and a whole day
+  -- Offsets of 23:59 west and east of UTC are valid, and offsets of a whole day aren't.
   pub least_offset : IsOffset (negsuc 1438)
   pub below_offset : IsOffset (negsuc 1439) → ⊥
   pub greatest_offset : IsOffset (pos 1439)
   pub above_offset : IsOffset (pos 1440) → ⊥
-  -- in "A*@*" the first `*` is the first octet that PrintableString doesn't admit
+  -- In "A*@*", the first `*`, with the index 1, is the first octet that PrintableString doesn't admit.
   pub first_foreign : IsFirstForeign Printable (65 ∷ 42 ∷ 64 ∷ 42 ∷ []) 1
   pub second_foreign : IsFirstForeign Printable (65 ∷ 42 ∷ 64 ∷ 42 ∷ []) 2 → ⊥
   pub admitted : IsFirstForeign Printable (65 ∷ 42 ∷ 64 ∷ 42 ∷ []) 0 → ⊥
-  -- a value where one is due, and none elsewhere
+  -- If the condition holds, `Some` with the right meaning satisfies the clause; `Some` with another meaning and `None`
+  -- don't.
   pub some_meaning : IsSomeMeaningExactlyIf (λ (n : ℕ). n + 1) (Some 1) (2 < 3) 2
   pub other_meaning : IsSomeMeaningExactlyIf (λ (n : ℕ). n + 1) (Some 2) (2 < 3) 2 → ⊥
   pub lacking_meaning : IsSomeMeaningExactlyIf (λ (n : ℕ). n + 1) None (2 < 3) 2 → ⊥
-  -- the bits of the octet 05, as a value is written in ASN.1
+  -- The bits of the octet 05 in value notation are '00000101'B.
   pub shown : shown_bits (bits_of 5) ≡ 39 ∷ 48 ∷ 48 ∷ 48 ∷ 48 ∷ 48 ∷ 49 ∷ 48 ∷ 49 ∷ 39 ∷ 66 ∷ []
-  -- 24 00 and 24 02 04 00 hold nothing, so they are read where no memory is left; 24 03 04 01 05 isn't; in 24 03 04 02 05 the octets are cut
+  -- `24 00` and `24 02 04 00` hold no octets, so they are read even if every allocation fails; `24 03 04 01 05` isn't.
+  -- In `24 03 04 02 05` the octets are cut short.
   pub nothing_inside : bare_octets (36 ∷ 0 ∷ []) ≡ Ok ([], [])
   pub empty_segment : bare_octets (36 ∷ 2 ∷ 4 ∷ 0 ∷ []) ≡ Ok ([], [])
   pub octet_in_segment : bare_octets (36 ∷ 3 ∷ 4 ∷ 1 ∷ 5 ∷ []) ≡ Err OutOfMemory

@@ -1,4 +1,4 @@
--- Values nested as deep as they may be, and one deeper.
+-- Values nested as deeply as a decoder allows, and values nested one level deeper.
 use Rattle.std.specs.Prelude.{ℕ, zero, suc, List, [], ◌∷◌, ◌++◌, length, pos, None}
 use Rattle.rasn_types.specs.Tags.{in_universal}
 use Rattle.rasn_types.specs.declared.types.codec.Codec.TheVariants.{Ber}
@@ -7,16 +7,17 @@ use Rattle.rasn_types.specs.Shapes.Parts.{none}
 use Rattle.rasn.specs.Worked.{IsRefusedBy, IsReadAs}
 use Rattle.rasn.specs.WorkedShapes.{plain, contextual}
 
--- Octets in the indefinite form, nested so deep: each value begins with this octet and `80`, and ends in `00 00`.
+-- `n` encodings of the indefinite form, one inside the other: each begins with the octet `first` and `80`, and ends in
+-- `00 00`. The innermost contents are `inner`.
 unfoldable pub nested_in : ℕ → List ℕ → ℕ → List ℕ
 nested_in first inner zero = inner
 nested_in first inner (suc n) = first ∷ 128 ∷ (nested_in first inner n ++ (0 ∷ 0 ∷ []))
 
--- Segments of no octets, nested so deep.
+-- `n` constructed segments, one inside the other, that hold no octets.
 abbrev pub segments : ℕ → List ℕ
 segments n = nested_in 36 [] n
 
--- An empty SEQUENCE in so many others, an empty SET in so many others, and NULL behind so many prefixes.
+-- An empty SEQUENCE inside `n` others, an empty SET inside `n` others, and NULL under `n` explicit tags.
 unfoldable pub sequences : ℕ → Shape
 sequences zero = seq (in_universal 16) none
 sequences (suc n) = seq (in_universal 16) (part required (sequences n) none)
@@ -29,7 +30,8 @@ unfoldable pub prefixes : ℕ → Shape
 prefixes zero = plain null 5
 prefixes (suc n) = prefix (contextual 0) (prefixes n)
 
--- SEQUENCE OF, nested so deep in another one, and an empty one in as many: `30 00`, `30 02 30 00`, ..
+-- A SEQUENCE OF INTEGER inside `n` other SEQUENCE OF; below it, the octets (`30 00`, `30 02 30 00`, ..) and the tree of
+-- an empty one inside `n` others.
 unfoldable pub lists : ℕ → Shape
 lists zero = list (in_universal 16) (plain (integer every) 2) None
 lists (suc n) = list (in_universal 16) (lists n) None

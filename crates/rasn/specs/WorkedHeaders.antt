@@ -1,4 +1,4 @@
--- The fewest octets of a tag number and of a length, and one more.
+-- Tag numbers and lengths in the fewest octets, and in one octet more.
 use Rattle.std.specs.Prelude.{◌≡◌, ℕ, List, [], ◌∷◌, length, pos}
 use Rattle.rasn_types.specs.Tags.{in_universal}
 use Rattle.rasn_types.specs.declared.types.codec.Codec.{Codec}

@@ -1,4 +1,4 @@
--- Shapes that are lawful, and shapes that aren't; parts that a type describes, and parts that it doesn't.
+-- Shapes that are lawful, and shapes that aren't; parts that the fields of a type describe, and parts that they don't.
 use Rattle.std.specs.Prelude.{◌≡◌, ℕ, [], ◌∷◌, pos, Some, None, true, false}
 use Rattle.rasn_types.specs.Tags.{in_universal}
 use Rattle.rasn_types.specs.declared.types.tag.Tag.{Tag}
@@ -15,14 +15,14 @@ use Rattle.rasn_types.specs.Carried.{Carried}
 use Rattle.rasn.specs.Laws.{HasOwnDefaults}
 use Rattle.rasn.specs.Carries.{carries_all}
 
--- a type of this kind with its universal tag and no bounds
+-- A leaf of this kind with the universal tag n and no constraints.
 abbrev pub plain : Kind → ℕ → Shape
 plain kind n = leaf kind (in_universal n) unconstrained
 
 abbrev pub contextual : ℕ → Tag
 contextual n = record { class = Context; value = n }
 
--- a type of this kind with the implicit tag [n]
+-- A leaf of this kind with the implicit tag [n] and no constraints.
 abbrev pub tagged : Kind → ℕ → Shape
 tagged kind n = leaf kind (contextual n) unconstrained
 
@@ -46,7 +46,8 @@ validity = seq (in_universal 16) (part required either_time (part required eithe
 abbrev pub small : ℕ → Shape
 small n = tagged (integer (unsigned_range 8)) n
 
--- SET { [0] INTEGER (0..255), [1] INTEGER (0..255), [2] INTEGER (0..255) }, and the same with its components the other way round
+-- SET { [0] INTEGER (0..255), [1] INTEGER (0..255), [2] INTEGER (0..255) }, and below it the same components in reverse
+-- order
 abbrev pub three_of_set : Shape
 three_of_set = set (in_universal 17) (part required (small 0) (part required (small 1) (part required (small 2) none)))
 
@@ -85,7 +86,8 @@ mixed = set (in_universal 17) (
     (part required (any (Some (contextual 2))) (part required (prefix (contextual 3) (list (in_universal 16) (plain (integer every) 2) None)) none)))
     )
 
--- the parts of SEQUENCE { INTEGER, BOOLEAN }, of SEQUENCE { INTEGER DEFAULT 7 }, and of SEQUENCE { BOOLEAN, ..., [0] EXPLICIT INTEGER }
+-- The parts of SEQUENCE { INTEGER, BOOLEAN }, SEQUENCE { BOOLEAN, BOOLEAN }, SEQUENCE { INTEGER DEFAULT 7 } and
+-- SEQUENCE { BOOLEAN, ..., [0] EXPLICIT INTEGER }.
 abbrev pub two_parts : Parts
 two_parts = part required (plain (integer every) 2) (part required (plain boolean 1) none)
 
@@ -163,7 +165,7 @@ with_group = seq (in_universal 16) (part required truth (part optional (seq (in_
 abbrev pub added_alone : Shape
 added_alone = seq (in_universal 16) (part addition (prefix (contextual 0) whole_number) none)
 
--- a default that is the tree of no value: the elements of a SET OF are a list
+-- A default that is no value's tree: the elements of a SET OF have to be a list.
 abbrev pub no_value : Shape
 no_value = seq (in_universal 16) (part (default (set_elements (number (pos 0)))) (set_of (in_universal 17) whole_number None) none)
 
@@ -193,7 +195,8 @@ pub record LawfulShapes : Type 0 where
   pub string_as_sequence : IsLawful (plain octet_string 16) → ⊥
   pub value_of_no_tag : IsLawful (plain (integer every) 0) → ⊥
 
--- Shapes of which all that DER reads is carried, and shapes of which it isn't; defaults that are the same as themselves, and one that isn't.
+-- Shapes that pass the test `carries_all`, and shapes that don't; a default that is the same as itself, and one that
+-- isn't; a value that DER reads and that isn't carried.
 pub record CarriedShapes : Type 0 where
   pub whole_certificate : carries_all certificate ≡ true
   pub default_alone : carries_all seven ≡ true

@@ -1,4 +1,5 @@
--- Values with their octets, worked out by hand: which are carried, and which aren't written or aren't carried.
+-- Values with their octets, worked out by hand: values that are carried, and values that aren't written or aren't
+-- carried.
 use Rattle.std.specs.Prelude.{◌≡◌, ℕ, ◌<◌, List, [], ◌∷◌, ◌++◌, length, true, false, pos, negsuc, Some, None}
 use Rattle.rasn_types.specs.Tags.{in_universal}
 use Rattle.rasn_types.specs.declared.types.codec.Codec.{Codec}
@@ -15,14 +16,14 @@ use Rattle.rasn.specs.WorkedShapes.{plain, contextual, perhaps_bool, validity, t
 abbrev pub on : ℕ → ℕ → ℕ → Day
 on y m d = record { year = pos y; month = m; day = d }
 
--- 2018-01-22 13:29:00 as a UTCTime, and 2050-01-01 00:00:00 as a GeneralizedTime
+-- A Validity from 2018-01-22 13:29:00, a UTCTime, to 2050-01-01 00:00:00, a GeneralizedTime.
 abbrev pub valid : Tree
 valid = items (
     chosen 0 (instant (record { day = on 2018 1 22; hour = 13; minute = 29; second = 0; nanosecond = 0 }))
     ∷ chosen 1 (instant (record { day = on 2050 1 1; hour = 0; minute = 0; second = 0; nanosecond = 0 })) ∷ []
     )
 
--- `30 20`, `17 0D` with 180122132900Z, `18 0F` with 20500101000000Z
+-- The octets of `valid`: `30 20`, `17 0D` with 180122132900Z, `18 0F` with 20500101000000Z.
 abbrev pub valid_octets : List ℕ
 valid_octets = 48 ∷ 32 ∷ 23 ∷ 13 ∷ 49 ∷ 56 ∷ 48 ∷ 49 ∷ 50 ∷ 50 ∷ 49 ∷ 51 ∷ 50 ∷ 57 ∷ 48 ∷ 48 ∷ 90
     ∷ 24 ∷ 15 ∷ 50 ∷ 48 ∷ 53 ∷ 48 ∷ 48 ∷ 49 ∷ 48 ∷ 49 ∷ 48 ∷ 48 ∷ 48 ∷ 48 ∷ 48 ∷ 48 ∷ 90 ∷ []

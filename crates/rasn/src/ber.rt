@@ -1,4 +1,4 @@
-//! Basic encoding rules (X.690 8): reading and writing one value.
+//! Reading and writing one value by the basic encoding rules (X.690 8).
 ghost use Rattle.std.specs.Prelude.{◌≡◌, [], IfOk, IfErr, OnOk, OnErr, false};
 ghost use Rattle.std.specs.Fn.{FnOnceTakesAtMut};
 ghost use Rattle.rasn_types.specs.Bytes.{Bytes};
@@ -19,10 +19,10 @@ use rasn_types::error::{DecodeError, EncodeError};
 use rasn_types::types::Codec;
 use std::alloc::Global;
 
-/// Returns the value that begins the input, and ignores what follows it.
+/// Reads the value at the front of the input, and ignores the octets after it.
 ///
 /// # Errors
-/// As `decode_with_remainder`.
+/// Those of `decode_with_remainder`.
 #[inline(always)]
 pub fn decode<T: Decode>(alloc: Global, input: &[u8]) -> Result<T, DecodeError>
     ensures exact { AnsweredFirst Ber T.shape T.tree input.now result }
@@ -32,11 +32,13 @@ pub fn decode<T: Decode>(alloc: Global, input: &[u8]) -> Result<T, DecodeError>
     Ok(value)
 }
 
-/// Returns the value that begins the input, and what follows it, which is an end of the input: exactly where the grammar relates the
-/// input to them.
+/// Reads the value at the front of the input, and returns it with the remaining octets, which are a
+/// suffix of the input. The value and the remainder are exactly those to which the grammar relates
+/// the input.
 ///
 /// # Errors
-/// What `T::decode` refuses: then no value of the type begins the input. `OutOfMemory` where an allocation fails.
+/// The error of `T::decode` if the input doesn't begin with a value of the type; `OutOfMemory` if
+/// an allocation fails.
 #[inline(always)]
 pub fn decode_with_remainder<T: Decode>(
     alloc: Global,
@@ -52,7 +54,8 @@ pub fn decode_with_remainder<T: Decode>(
 /// Returns the value's octets.
 ///
 /// # Errors
-/// What the value's `encode` refuses: then it has no encoding under these rules. `OutOfMemory` where an allocation fails.
+/// The error of the value's `encode` if the value has no encoding under these rules; `OutOfMemory`
+/// if an allocation fails.
 #[inline(always)]
 pub fn encode<T: Encode>(alloc: Global, value: &T) -> Result<Vec<u8>, EncodeError>
     ensures ok { IfOk result (λ octets. Bytes Ber T.shape (T.tree value.now) octets.items) }
@@ -62,10 +65,10 @@ pub fn encode<T: Encode>(alloc: Global, value: &T) -> Result<Vec<u8>, EncodeErro
     entry::encode(alloc, value, EncoderOptions::ber())
 }
 
-/// Puts the value's octets into the vector, in place of what it holds.
+/// Writes the value's octets into the vector, replacing what it holds.
 ///
 /// # Errors
-/// As `encode`. The vector is empty then.
+/// Those of `encode`. The vector is then empty.
 pub fn encode_buf<T: Encode>(
     alloc: Global,
     value: &T,
@@ -79,10 +82,11 @@ pub fn encode_buf<T: Encode>(
     entry::encode_buf(alloc, value, buffer, EncoderOptions::ber())
 }
 
-/// Returns the octets of the values that `values` writes, one after the other. It may write any number of them.
+/// Returns the octets of the values that the closure `values` writes, one after the other. It may
+/// write any number of values.
 ///
 /// # Errors
-/// What `values` returns, which may be any error; `OutOfMemory` where an allocation fails.
+/// Any error that `values` returns; `OutOfMemory` if an allocation fails.
 pub fn encode_scope<F: FnOnce(&mut Encoder) -> Result<(), EncodeError>>(
     alloc: Global,
     values: F,

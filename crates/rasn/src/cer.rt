@@ -1,4 +1,4 @@
-//! Canonical encoding rules (X.690 9, 11): reading and writing one value.
+//! Reading and writing one value by the canonical encoding rules (X.690 9, 11).
 ghost use Rattle.std.specs.Prelude.{◌≡◌, [], IfOk, IfErr, OnOk, OnErr};
 ghost use Rattle.rasn_types.specs.Bytes.{Bytes};
 ghost use Rattle.rasn_types.specs.declared.types.codec.Codec.TheVariants.{Cer};
@@ -14,10 +14,10 @@ use rasn_types::error::{DecodeError, EncodeError};
 use rasn_types::types::Codec;
 use std::alloc::Global;
 
-/// Returns the value that begins the input, and ignores what follows it.
+/// Reads the value at the front of the input, and ignores the octets after it.
 ///
 /// # Errors
-/// As `decode_with_remainder`.
+/// Those of `decode_with_remainder`.
 #[inline(always)]
 pub fn decode<T: Decode>(alloc: Global, input: &[u8]) -> Result<T, DecodeError>
     ensures exact { AnsweredFirst Cer T.shape T.tree input.now result }
@@ -27,11 +27,13 @@ pub fn decode<T: Decode>(alloc: Global, input: &[u8]) -> Result<T, DecodeError>
     Ok(value)
 }
 
-/// Returns the value that begins the input, and what follows it, which is an end of the input: exactly where the grammar relates the
-/// input to them.
+/// Reads the value at the front of the input, and returns it with the remaining octets, which are a
+/// suffix of the input. The value and the remainder are exactly those to which the grammar relates
+/// the input.
 ///
 /// # Errors
-/// What `T::decode` refuses: then no value of the type begins the input. `OutOfMemory` where an allocation fails.
+/// The error of `T::decode` if the input doesn't begin with a value of the type; `OutOfMemory` if
+/// an allocation fails.
 #[inline(always)]
 pub fn decode_with_remainder<T: Decode>(
     alloc: Global,
@@ -47,7 +49,8 @@ pub fn decode_with_remainder<T: Decode>(
 /// Returns the value's octets.
 ///
 /// # Errors
-/// What the value's `encode` refuses: then it has no encoding under these rules. `OutOfMemory` where an allocation fails.
+/// The error of the value's `encode` if the value has no encoding under these rules; `OutOfMemory`
+/// if an allocation fails.
 #[inline(always)]
 pub fn encode<T: Encode>(alloc: Global, value: &T) -> Result<Vec<u8>, EncodeError>
     ensures ok { IfOk result (λ octets. Bytes Cer T.shape (T.tree value.now) octets.items) }
@@ -57,10 +60,10 @@ pub fn encode<T: Encode>(alloc: Global, value: &T) -> Result<Vec<u8>, EncodeErro
     entry::encode(alloc, value, EncoderOptions::cer())
 }
 
-/// Puts the value's octets into the vector, in place of what it holds.
+/// Writes the value's octets into the vector, replacing what it holds.
 ///
 /// # Errors
-/// As `encode`. The vector is empty then.
+/// Those of `encode`. The vector is then empty.
 pub fn encode_buf<T: Encode>(
     alloc: Global,
     value: &T,

@@ -1,4 +1,8 @@
-//! Distinguished encoding rules (X.690 10, 11): reading and writing one value.
+//! Reading and writing one value by the distinguished encoding rules (X.690 10, 11).
+//!
+//! A value is *carried* if it has DER octets and is within the limits of the decoder, so that it is
+//! read back. A type has a *lawful* shape if its parts are distinguished by their tags where X.680
+//! asks for it (25.6, 27.3, 29.3) and its open types are in places where they can be read.
 ghost use Rattle.std.specs.Prelude.{◌≡◌, [], IfOk, IfErr, OnOk, OnErr, false};
 ghost use Rattle.std.specs.Fn.{FnOnceTakesAtMut};
 ghost use Rattle.rasn_types.specs.Bytes.{Bytes};
@@ -19,10 +23,12 @@ use rasn_types::error::{DecodeError, EncodeError};
 use rasn_types::types::{Codec, LawfulEq};
 use std::alloc::{AllocError, Global};
 
-/// The value that is all of the input, which, for a carried value, is exactly what `encode` writes of it.
+/// Reads an input that is exactly one value. If the value is carried and its shape is lawful, the
+/// input is exactly what `encode` writes of the value.
 ///
 /// # Errors
-/// As `decode_with_remainder`; `UnexpectedExtraData` where octets follow the value, with their number (X.690 8.1.1.1).
+/// Those of `decode_with_remainder`; `UnexpectedExtraData` with the number of octets if octets
+/// follow the value (X.690 8.1.1.1).
 #[inline(always)]
 pub fn decode<T: Decode>(alloc: Global, input: &[u8]) -> Result<T, DecodeError>
     ensures exact { AnsweredAlone Der T.shape T.tree input.now result }
@@ -32,12 +38,17 @@ pub fn decode<T: Decode>(alloc: Global, input: &[u8]) -> Result<T, DecodeError>
     entry::decode(alloc, Codec::Der, input)
 }
 
-/// Returns the value that begins the input, and what follows it, which is an end of the input: exactly where the grammar relates the
-/// input to them. The octets before the rest are, for a carried value, exactly those that `encode` writes of it: there is one encoding,
-/// and no other is read (X.690 10, 11).
+/// Reads the value at the front of the input, and returns it with the remaining octets, which are a
+/// suffix of the input. The value and the remainder are exactly those to which the grammar relates
+/// the input.
+///
+/// If the value is carried and its shape is lawful, the octets before the remainder are exactly
+/// those that `encode` writes of the value: it has one encoding, and no other is read
+/// (X.690 10, 11).
 ///
 /// # Errors
-/// What `T::decode` refuses: then no value of the type begins the input. `OutOfMemory` where an allocation fails.
+/// The error of `T::decode` if the input doesn't begin with a value of the type; `OutOfMemory` if
+/// an allocation fails.
 #[inline(always)]
 pub fn decode_with_remainder<T: Decode>(
     alloc: Global,
@@ -51,10 +62,12 @@ pub fn decode_with_remainder<T: Decode>(
     entry::decode_with_remainder(alloc, Codec::Der, input)
 }
 
-/// Returns the value's octets, which depend on the value alone: two carried values have the same ones exactly if they are equal.
+/// Returns the value's octets, which depend on the value alone: two carried values of a lawful
+/// shape have the same octets exactly if they are equal.
 ///
 /// # Errors
-/// What the value's `encode` refuses: then it has no encoding under these rules. `OutOfMemory` where an allocation fails.
+/// The error of the value's `encode` if the value has no encoding under these rules; `OutOfMemory`
+/// if an allocation fails.
 #[inline(always)]
 pub fn encode<T: Encode>(alloc: Global, value: &T) -> Result<Vec<u8>, EncodeError>
     ensures ok { IfOk result (λ octets. Bytes Der T.shape (T.tree value.now) octets.items) }
@@ -65,10 +78,10 @@ pub fn encode<T: Encode>(alloc: Global, value: &T) -> Result<Vec<u8>, EncodeErro
     entry::encode(alloc, value, EncoderOptions::der())
 }
 
-/// Puts the value's octets into the vector, in place of what it holds.
+/// Writes the value's octets into the vector, replacing what it holds.
 ///
 /// # Errors
-/// As `encode`. The vector is empty then.
+/// Those of `encode`. The vector is then empty.
 pub fn encode_buf<T: Encode>(
     alloc: Global,
     value: &T,
@@ -83,10 +96,11 @@ pub fn encode_buf<T: Encode>(
     entry::encode_buf(alloc, value, buffer, EncoderOptions::der())
 }
 
-/// Returns the octets of the values that `values` writes, one after the other. It may write any number of them.
+/// Returns the octets of the values that the closure `values` writes, one after the other. It may
+/// write any number of values.
 ///
 /// # Errors
-/// What `values` returns, which may be any error; `OutOfMemory` where an allocation fails.
+/// Any error that `values` returns; `OutOfMemory` if an allocation fails.
 pub fn encode_scope<F: FnOnce(&mut Encoder) -> Result<(), EncodeError>>(
     alloc: Global,
     values: F,
@@ -99,10 +113,10 @@ pub fn encode_scope<F: FnOnce(&mut Encoder) -> Result<(), EncodeError>>(
     entry::encode_scope(alloc, values, EncoderOptions::der())
 }
 
-/// Whether the octets are the one encoding that DER has of a value of the type (X.690 10, 11).
+/// Returns whether the octets are the one DER encoding of a value of the type (X.690 10, 11).
 ///
 /// # Errors
-/// Where memory runs out.
+/// `AllocError` if an allocation fails.
 pub fn is_canonical<T: Decode + Encode + LawfulEq>(
     alloc: Global,
     octets: &[u8],

@@ -1,4 +1,5 @@
-//! Whole values by rules that are given at run time, and what the entry points of each rule share.
+//! Reading and writing whole values by rules that are chosen at run time, and what the entry points
+//! of the three rules share.
 ghost use Rattle.std.specs.Prelude.{◌≡◌, [], IfOk, IfErr, OnOk, OnErr, MatchResult, false};
 ghost use Rattle.std.specs.Fn.{FnOnceTakesAtMut, FnOnceReturnsAtMut};
 ghost use Rattle.rasn_types.specs.Bytes.{Bytes};
@@ -17,18 +18,24 @@ use rasn_types::types::Codec;
 use std::alloc::Global;
 use std::mem;
 
-/// Returns the value that is all of the input by these rules: exactly where the grammar relates the input to it and to no rest.
+/// Reads an input that is exactly one value by these rules. The value is exactly the one to which
+/// the grammar relates the input with no rest.
 ///
-/// Under DER it does what `der::decode` does. `ber::decode` and `cer::decode` ignore what follows the value, and this call refuses it.
+/// Under DER it does what `der::decode` does. `ber::decode` and `cer::decode` ignore octets after
+/// the value, and this function refuses them.
 ///
 /// # Errors
-/// What `T::decode` refuses, and then `UnexpectedExtraData` where octets follow the value, with their number (X.690 8.1.1.1): then the input isn't
-/// one value of the type. `OutOfMemory` where an allocation fails.
+/// The error of `T::decode`, or `UnexpectedExtraData` with the number of octets if octets follow
+/// the value (X.690 8.1.1.1), if the input isn't one value of the type; `OutOfMemory` if an
+/// allocation fails.
 ///
 /// # Examples
 /// ```
-/// let value: bool = rasn::decode(alloc, Codec::Ber, &[0x01, 0x01, 0x05])?;                   // true
-/// let refused = rasn::decode::<bool>(alloc, Codec::Ber, &[0x01, 0x01, 0xFF, 0x00, 0x00]);   // UnexpectedExtraData { length: 2 }
+/// let value: bool = rasn::decode(alloc, Codec::Ber, &[0x01, 0x01, 0x05])?;
+/// // `value` is true
+/// let octets: &[u8] = &[0x01, 0x01, 0xFF, 0x00, 0x00];
+/// let refused = rasn::decode::<bool>(alloc, Codec::Ber, octets);
+/// // `refused` is the error UnexpectedExtraData { length: 2 }
 /// ```
 #[inline(always)]
 pub fn decode<T: Decode>(alloc: Global, codec: Codec, input: &[u8]) -> Result<T, DecodeError>
@@ -40,17 +47,20 @@ pub fn decode<T: Decode>(alloc: Global, codec: Codec, input: &[u8]) -> Result<T,
     Ok(value)
 }
 
-/// Returns the value that begins the input by these rules, and what follows it: exactly where the grammar relates the input to them.
+/// Reads the value at the front of the input by these rules, and returns it with the remaining
+/// octets. The value and the remainder are exactly those to which the grammar relates the input.
 ///
-/// What follows is an end of the input, so the value has `input.len() - remainder.len()` octets.
+/// The remainder is a suffix of the input, so the value has `input.len() - remainder.len()` octets.
 ///
 /// # Errors
-/// What `T::decode` refuses: then no value of the type begins the input. `OutOfMemory` where an allocation fails.
+/// The error of `T::decode` if the input doesn't begin with a value of the type; `OutOfMemory` if
+/// an allocation fails.
 ///
 /// # Examples
 /// ```
-/// let (value, remainder) = rasn::decode_with_remainder::<bool>(alloc, Codec::Cer, &[0x01, 0x01, 0xFF, 0x00])?;
-/// // `value` is true, and `remainder` the octet 00
+/// let octets: &[u8] = &[0x01, 0x01, 0xFF, 0x00];
+/// let (value, remainder) = rasn::decode_with_remainder::<bool>(alloc, Codec::Cer, octets)?;
+/// // `value` is true, and `remainder` is the octet 00
 /// ```
 #[inline(always)]
 pub fn decode_with_remainder<T: Decode>(
@@ -67,16 +77,18 @@ pub fn decode_with_remainder<T: Decode>(
     Ok((value, decoder.remaining()))
 }
 
-/// Refuses octets that follow a value, such as the remainder of `decode_with_remainder` (X.690 8.1.1.1).
+/// Refuses octets that follow a value, such as the remainder of `decode_with_remainder`
+/// (X.690 8.1.1.1).
 ///
 /// # Errors
-/// `UnexpectedExtraData` with the number of octets and with these rules, where there are any.
+/// `UnexpectedExtraData` with the number of octets and these rules if there are any octets.
 ///
 /// # Examples
 /// ```
 /// let (first, remainder) = rasn::decode_with_remainder::<bool>(alloc, Codec::Der, octets)?;
 /// let (second, remainder) = rasn::decode_with_remainder::<Integer>(alloc, Codec::Der, remainder)?;
-/// rasn::refuse_remainder(Codec::Der, remainder)?;   // these two values, and nothing else
+/// rasn::refuse_remainder(Codec::Der, remainder)?;
+/// // the octets are these two values, and nothing else
 /// ```
 #[inline(always)]
 pub fn refuse_remainder(codec: Codec, remainder: &[u8]) -> Result<(), DecodeError>
@@ -93,7 +105,7 @@ pub fn refuse_remainder(codec: Codec, remainder: &[u8]) -> Result<(), DecodeErro
     })
 }
 
-/// The value's octets.
+/// Returns the value's octets.
 #[inline(always)]
 pub(crate) fn encode<T: Encode>(
     alloc: Global,
@@ -110,7 +122,7 @@ pub(crate) fn encode<T: Encode>(
     encode_over(alloc, value, buffer, options)
 }
 
-// The value's octets, in this vector, in the place of what it holds.
+// Writes the value's octets into this vector, replacing what it holds, and returns the vector.
 #[inline(always)]
 fn encode_over<T: Encode>(
     alloc: Global,
@@ -127,7 +139,8 @@ fn encode_over<T: Encode>(
     encoder.output()
 }
 
-/// Puts the value's octets into the vector, in the place of what it holds. Where the value is refused, it is empty.
+/// Writes the value's octets into the vector, replacing what it holds. On error, the vector is
+/// empty.
 pub(crate) fn encode_buf<T: Encode>(
     alloc: Global,
     value: &T,
@@ -159,7 +172,7 @@ fn out_of_memory(options: EncoderOptions) -> EncodeError
     }
 }
 
-/// The octets of what `values` writes.
+/// Returns the octets that the closure `values` writes.
 pub(crate) fn encode_scope<F: FnOnce(&mut Encoder) -> Result<(), EncodeError>>(
     alloc: Global,
     values: F,
@@ -178,7 +191,7 @@ pub(crate) fn encode_scope<F: FnOnce(&mut Encoder) -> Result<(), EncodeError>>(
     encoder.output()
 }
 
-// The call of a closure that writes.
+// Calls a closure that writes.
 fn run<F: FnOnce(&mut Encoder) -> Result<(), EncodeError>>(
     encoder: &mut Encoder,
     values: F,

@@ -1,4 +1,6 @@
-//! The laws of the grammar, for every rule. Each is a promise about its definitions: the functions do nothing when they run.
+//! The laws of the grammar, for every rule. The contract of each function is a theorem about the
+//! definitions; the functions do nothing when they run. *Carried*, *lawful* and the other terms are
+//! those of docs/GLOSSARY.md.
 #![tactic(auto, using(crate::proofs::AllLaws::laws))]
 
 ghost use Rattle.rasn.specs.Laws.{OneLeaf, OneOpen, OnePrefix, OneChoice, OneOption, OneSequence, OneSet, OneSequenceOf, OneSetOf};
@@ -10,164 +12,182 @@ ghost use Rattle.rasn.specs.WorkedClauses.{WorkedClauses};
 ghost use Rattle.rasn.specs.WorkedValues.{WorkedValues, WorkedSets, WorkedOpens};
 ghost use Rattle.rasn.specs.Laws.{OneReading, Included, ReadAgain, Canonical, WrittenOnce, StrictDer, OnlyCarried, AllCarried, StaysCarried, LawfulTested, OneEncoding, EncodingSteps};
 
-/// An input is read as at most one value of a kind that holds no others, with one rest.
+/// Proves that an input is read as at most one value of a leaf type, with at most one rest.
 pub fn one_leaf()
     ensures { OneLeaf }
 {}
 
-/// Open octets, with a tag or without one, are read in at most one way.
+/// Proves that an open type, with or without a tag, is read in at most one way.
 pub fn one_open()
     ensures { OneOpen }
 {}
 
-/// An explicitly tagged value is read in at most one way if the value inside it is.
+/// Proves that a value under an explicit tag is read in at most one way if the value inside it is.
 pub fn one_prefix()
     ensures { OnePrefix }
 {}
 
-/// A CHOICE is read in at most one way if its alternatives are, and no two of them begin with one tag.
+/// Proves that a CHOICE is read in at most one way if its alternatives are, and no two alternatives
+/// begin with the same tag.
 pub fn one_choice()
     ensures { OneChoice }
 {}
 
-/// A value that may be absent is read in at most one way if the value is.
+/// Proves that an optional value is read in at most one way if the value itself is.
 pub fn one_option()
     ensures { OneOption }
 {}
 
-/// A SEQUENCE is read in at most one way if its parts are.
+/// Proves that a SEQUENCE is read in at most one way if its parts are.
 pub fn one_sequence()
     ensures { OneSequence }
 {}
 
-/// A SET is read in at most one way if its parts are, and no two of them begin with one tag.
+/// Proves that a SET is read in at most one way if its parts are, and no two parts begin with the
+/// same tag.
 pub fn one_set()
     ensures { OneSet }
 {}
 
-/// A SEQUENCE OF is read in at most one way if its elements are.
+/// Proves that a SEQUENCE OF is read in at most one way if its elements are.
 pub fn one_sequence_of()
     ensures { OneSequenceOf }
 {}
 
-/// A SET OF is read in at most one way if its elements are.
+/// Proves that a SET OF is read in at most one way if its elements are.
 pub fn one_set_of()
     ensures { OneSetOf }
 {}
 
-/// An input is read as at most one value of a lawful shape, with one rest.
+/// Proves that an input is read as at most one value of a lawful shape, with at most one rest.
 pub fn one_reading()
     ensures { OneReading }
 {}
 
-/// What CER or DER reads of a lawful shape, BER reads as the same value with the same rest.
+/// Proves that what CER or DER reads of a lawful shape, BER reads as the same value with the same
+/// rest.
 pub fn included()
     ensures { Included }
 {}
 
-/// What is written of a carried value of a lawful shape is read again under its rule as the same value, with nothing left.
-/// Where every value of the shape is there, whatever follows is the rest.
+/// Proves that what a rule writes of a carried value of a lawful shape is read back under that rule
+/// as the same value, with no rest. If no value of the shape is absent, any octets may follow, and
+/// they are the rest.
 pub fn read_again()
     ensures { ReadAgain }
 {}
 
-/// Carried values of one lawful shape are the same exactly if their DER octets are.
+/// Proves that carried values of one lawful shape are the same exactly if their DER octets are
+/// equal.
 pub fn canonical()
     ensures { Canonical }
 {}
 
-/// Values that are the same are written alike, whatever their shape.
+/// Proves that values that are the same are written as the same octets, whatever their shape.
 pub fn written_once()
     ensures { WrittenOnce }
 {}
 
-/// Of octets that DER reads as a carried value of a lawful shape, those that are consumed are its DER octets.
+/// Proves that if DER reads a carried value of a lawful shape, the octets that are consumed are the
+/// value's DER octets.
 pub fn strict_der()
     ensures { StrictDer }
 {}
 
-/// A shape is lawful exactly if it passes the test `is_lawful`.
+/// Proves that a shape is lawful exactly if it passes the test `is_lawful`.
 pub fn lawful_tested()
     ensures { LawfulTested }
 {}
 
-/// A value of a lawful shape that DER reads is carried where it meets the depth and what open octets, times and additions owe; the octets
-/// that are consumed are its DER octets.
+/// Proves that a value that DER reads is carried if it is within the limits of depth, open types,
+/// times and additions, and its shape is lawful with defaults that are the same as themselves. The
+/// octets that are consumed are the value's DER octets.
 pub fn only_carried()
     ensures { OnlyCarried }
 {}
 
-/// A value that DER reads of a lawful shape that passes the test `carries_all` is carried, and the octets that are consumed are its DER octets.
+/// Proves that a value that DER reads is carried if its shape is lawful and passes the test
+/// `carries_all`. The octets that are consumed are the value's DER octets.
 pub fn all_carried()
     ensures { AllCarried }
 {}
 
-/// What DER reads of a carried value's octets is carried too, with the same octets.
+/// Proves that what DER reads of the octets of a carried value of a lawful shape is carried too,
+/// with the same octets.
 pub fn stays_carried()
     ensures { StaysCarried }
 {}
 
-/// No whole encoding begins another, and the steps that pass one are determined.
+/// Proves that no complete encoding is the beginning of another one, and that the number of steps
+/// that skipping an encoding takes is determined.
 pub fn one_encoding()
     ensures { OneEncoding }
 {}
 
-/// A whole encoding is passed in at most half as many steps as it has octets.
+/// Proves that skipping a complete encoding takes at most half as many steps as the encoding has
+/// octets.
 pub fn encoding_steps()
     ensures { EncodingSteps }
 {}
 
-/// Octets that were worked out by hand are read and written as they must be.
+/// Proves that octets worked out by hand are read and written as X.690 requires.
 pub fn worked_octets()
     ensures { Worked }
 {}
 
-/// Octets that are spelled otherwise than they are written are read under BER, and not under DER.
+/// Proves that BER reads octets that DER would write in another way, and that DER doesn't read
+/// them, except inside open types.
 pub fn worked_strict()
     ensures { WorkedStrict }
 {}
 
-/// Shapes that are lawful, and shapes that aren't.
+/// Proves of some shapes that they are lawful, and of others that they aren't.
 pub fn lawful_shapes()
     ensures { LawfulShapes }
 {}
 
-/// Shapes of which all that DER reads is carried, and shapes of which it isn't.
+/// Proves that some shapes pass the test `carries_all` and others don't, and that DER reads a value
+/// of one of the others that isn't carried.
 pub fn carried_shapes()
     ensures { CarriedShapes }
 {}
 
-/// Parts whose count and need a type's fields tell, and parts that they don't.
+/// Proves that a type's fields describe some parts, by their number and by whether one of them is
+/// required, and don't describe others.
 pub fn described_parts()
     ensures { DescribedParts }
 {}
 
-/// A tag number and a length are the shortest in their fewest octets, and in no more.
+/// Proves of some identifier and length octets that they are the shortest, and of others, one octet
+/// longer, that they aren't: BER reads the longer ones, and DER doesn't.
 pub fn worked_headers()
     ensures { WorkedHeaders }
 {}
 
-/// Values nested as deep as they may be are read, and those one deeper aren't.
+/// Proves that values nested as deeply as a decoder allows are read, and that those one level
+/// deeper aren't.
 pub fn worked_depths()
     ensures { WorkedDepths }
 {}
 
-/// Values that are carried, with their octets.
+/// Proves of some values that they are carried, with given octets.
 pub fn worked_values()
     ensures { WorkedValues }
 {}
 
-/// A SET and a SET OF are written in rising order alone.
+/// Proves that a SET and a SET OF are written in ascending order only.
 pub fn worked_sets()
     ensures { WorkedSets }
 {}
 
-/// Open types, extension additions and CER's segments: what is read, written and carried.
+/// Proves examples of open types, extension additions and CER segments that are read, written and
+/// carried, and examples of some that aren't.
 pub fn worked_opens()
     ensures { WorkedOpens }
 {}
 
-/// Offsets from UTC, octets that an alphabet doesn't admit, and other small clauses: what they hold of, and what they don't.
+/// Proves examples and counterexamples of small clauses, such as those for offsets from UTC and for
+/// octets that an alphabet doesn't admit.
 pub fn worked_clauses()
     ensures { WorkedClauses }
 {}

@@ -1,4 +1,5 @@
-//! Basic, canonical and distinguished encoding rules of ASN.1 (ITU-T X.690): values, traits and entry points under one name.
+//! Basic, canonical and distinguished encoding rules of ASN.1 (ITU-T X.690): values, traits and
+//! entry points in one crate.
 #![tactic(auto)]
 
 pub mod ber;

@@ -1,4 +1,5 @@
-//! From an encoding of any of the three rules to the one that DER has (X.690 10).
+//! Conversion of an encoding under any of the three rules to the DER encoding of its value
+//! (X.690 10).
 ghost use Rattle.std.specs.Prelude.{◌≡◌, IfOk, IfErr, IsTrue, ◌↔◌};
 ghost use Rattle.rasn_types.specs.declared.types.codec.Codec.TheVariants.{Der};
 ghost use Rattle.rasn_types.specs.Framing.{AreOctets};
@@ -13,22 +14,22 @@ use rasn_types::types::{Codec, LawfulEq};
 use std::alloc::Global;
 use thiserror::Error;
 
-/// Why an input has no DER encoding.
+/// The reason why an input has no DER encoding.
 #[derive(Debug, PartialEq, Eq, Drop, Error)]
 pub enum NormaliseError {
-    /// The input isn't one value of the type, alone.
+    /// The input isn't exactly one value of the type.
     #[error("{0}")]
     Decode(DecodeError),
     /// The value has no DER octets.
     #[error("{0}")]
     Encode(EncodeError),
-    /// DER doesn't read what it writes of the value, or not as the same value.
+    /// DER doesn't read back what it writes of the value, or reads it as another value.
     #[error("the value isn't read back from its DER octets")]
     NotCanonical,
 }
 
 impl NormaliseError {
-    /// Whether the cause is running out of memory alone.
+    /// Returns whether the cause is that an allocation failed.
     pub fn is_out_of_memory(&self) -> bool
         ensures { IsTrue result ↔ IsOutOfMemoryAlone self.now }
     {
@@ -40,14 +41,18 @@ impl NormaliseError {
     }
 }
 
-/// The DER octets of the value that is all of the input by these rules.
+/// Returns the DER encoding of the value in the input, which must be exactly one value by these
+/// rules.
 ///
-/// Of inputs of carried values, two have the same octets exactly if their values are equal; the octets of the octets are these
-/// again; what DER reads is its own answer; and only running out of memory refuses.
+/// If the input is a carried value of a lawful shape (docs/GLOSSARY.md): two such inputs have the
+/// same octets exactly if their values are equal; normalising the result returns the same octets
+/// again; an input that DER reads is returned unchanged; and the only error is that an allocation
+/// fails.
 ///
 /// # Errors
-/// `Decode` where the rules don't read the input, and `UnexpectedExtraData` with these rules where octets follow the value
-/// (X.690 8.1.1.1). `Encode` where the value has no DER octets. `NotCanonical` where DER doesn't read them, or reads another value.
+/// `Decode` if the rules don't read the input, with `UnexpectedExtraData` and these rules if octets
+/// follow the value (X.690 8.1.1.1). `Encode` if the value has no DER octets. `NotCanonical` if DER
+/// doesn't read these octets, or reads them as another value.
 pub fn normalise<T: Decode + Encode + LawfulEq>(
     alloc: Global,
     rule: Codec,
@@ -64,13 +69,14 @@ pub fn normalise<T: Decode + Encode + LawfulEq>(
     convert::<T>(alloc, rule, input)
 }
 
-/// Two inputs of carried values have the same octets exactly if the values are equal, whatever rules each is read by. It is a
-/// promise about the clauses of `normalise`: the function does nothing when it runs.
+/// Proves that two inputs of carried values of a lawful shape have the same DER octets exactly if
+/// the values are equal, whatever rules each is read by. It is a theorem about the clauses of
+/// `normalise`; the function does nothing when it runs.
 pub fn same_exactly_if_equal()
     ensures { SameExactlyIfEqual }
 {}
 
-/// Reads the value, writes it by DER, and reads that again.
+/// Reads the value, writes it by DER, and reads the result back.
 fn convert<T: Decode + Encode + LawfulEq>(
     alloc: Global,
     rule: Codec,
@@ -90,7 +96,7 @@ fn convert<T: Decode + Encode + LawfulEq>(
     }
 }
 
-/// The value that is all of what was written.
+/// Reads back what was written, which must be exactly one value.
 fn read_back<T: Decode>(alloc: Global, written: &[u8]) -> Result<T, DecodeError>
     ensures exact { AnsweredAlone Der T.shape T.tree written.now result }
     ensures rules { IfErr result (λ e. e.codec ≡ Der) }

@@ -1,4 +1,4 @@
-//! Values of a known type in an open type (X.680 14, X.690 8.15).
+//! Values of a known type in an open type (X.681 14, X.690 8.15).
 ghost use Rattle.std.specs.Prelude.{IfOk, IfErr, MatchResult, ◌≡◌};
 ghost use Rattle.rasn_types.specs.declared.types.tag.Tag.{Tag};
 ghost use Rattle.rasn_types.specs.Tags.{form};
@@ -15,10 +15,10 @@ use rasn_types::error::{DecodeError, EncodeError};
 use rasn_types::types::{Any, Codec, Tag};
 use std::alloc::Global;
 
-/// The value's octets by these rules, as an open type.
+/// Returns the value's octets by these rules, as an open type.
 ///
 /// # Errors
-/// As `ber::encode`, `cer::encode` and `der::encode`.
+/// Those of `ber::encode`, `cer::encode` and `der::encode`.
 pub fn encode_any<T: Encode>(alloc: Global, rules: Codec, value: &T) -> Result<Any, EncodeError>
     ensures ok { IfOk result (λ any. Bytes rules T.shape (T.tree value.now) any) }
     ensures fails { IfErr result (EncodingFails rules T.shape (T.tree value.now)) }
@@ -28,10 +28,11 @@ pub fn encode_any<T: Encode>(alloc: Global, rules: Codec, value: &T) -> Result<A
     Ok(Any::new(octets))
 }
 
-/// The value that an open type holds by these rules, alone.
+/// Reads the octets of an open type, which must be exactly one value by these rules.
 ///
 /// # Errors
-/// Those of `rasn::decode`: `UnexpectedExtraData` where octets follow the value (X.690 8.1.1.1).
+/// Those of `rasn::decode`, such as `UnexpectedExtraData` if octets follow the value
+/// (X.690 8.1.1.1).
 pub fn decode_any<T: Decode>(alloc: Global, rules: Codec, any: &Any) -> Result<T, DecodeError>
     ensures exact { AnsweredAlone rules T.shape T.tree any.now result }
     ensures rules { IfErr result (λ e. e.codec ≡ rules) }
@@ -39,10 +40,10 @@ pub fn decode_any<T: Decode>(alloc: Global, rules: Codec, any: &Any) -> Result<T
     entry::decode(alloc, rules, any.as_bytes())
 }
 
-/// The outermost tag of what an open type holds by these rules.
+/// Returns the outermost tag of what an open type holds, by these rules.
 ///
 /// # Errors
-/// As `Decoder::peek_tag`: where no identifier begins the octets (X.690 8.1.2).
+/// Those of `Decoder::peek_tag` if the octets don't begin with an identifier (X.690 8.1.2).
 pub fn any_tag(alloc: Global, rules: Codec, any: &Any) -> Result<Tag, DecodeError>
     ensures next { MatchResult result (λ t. NextTag (form rules) any.now t) (λ e. (t : Tag) → NextTag (form rules) any.now t → ⊥) }
     ensures rules { IfErr result (λ e. e.codec ≡ rules) }

@@ -1,4 +1,5 @@
-//! The parts of a SEQUENCE or a SET, and the alternatives of a CHOICE, as types: what a type of one's own is read and written with.
+//! The parts of a SEQUENCE or a SET and the alternatives of a CHOICE, as types, with which your own
+//! types are read and written.
 pub use rasn_de::ber::de::alternatives::DecodeAlternatives;
 pub use rasn_de::ber::de::parts::{
     Addition, DecodeParts, Defaulted, DefaultedExplicit, Optional, Required,

@@ -1,4 +1,4 @@
-//! What a type of one's own is made of: `use rasn::prelude::*;`.
+//! The items that your own types need: `use rasn::prelude::*;`.
 
 pub use crate::parts::{
     Addition, DecodeAlternatives, DecodeParts, DecodeSetParts, DefaultValue, Defaulted,

@@ -3,32 +3,34 @@
 
 ghost use Rattle.rasn.specs.TimeLaws.{OneMeaning, IncludedTexts, ReadBack, Distinct, Steps, Seconds};
 
-/// A text has at most one meaning.
+/// Proves that a text has at most one meaning.
 pub fn one_meaning()
     ensures { OneMeaning }
 {}
 
-/// A canonical text is a general one.
+/// Proves that a canonical text is also a general one, with the same meaning.
 pub fn included()
     ensures { IncludedTexts }
 {}
 
-/// What is written is read back.
+/// Proves that a text that is written is read back.
 pub fn read_back()
     ensures { ReadBack }
 {}
 
-/// Different carried values are written differently.
+/// Proves that different carried values have different texts.
 pub fn distinct()
     ensures { Distinct }
 {}
 
-/// Days follow one another, and an offset taken off and put on again is undone.
+/// Proves that the next and the previous day are inverse to each other, and so are adding and
+/// subtracting an offset.
 pub fn steps()
     ensures { Steps }
 {}
 
-/// Instants count as whole numbers of seconds do, and an offset is so many of them.
+/// Proves that days are numbered one after the other, that an instant n minutes later is 60 n
+/// seconds later, and that instants are ordered as their numbers of seconds and nanoseconds.
 pub fn seconds()
     ensures { Seconds }
 {}

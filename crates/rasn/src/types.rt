@@ -1,4 +1,4 @@
-//! Values and schema: tags, constraints, and the types that have a value of their own.
+//! The types of ASN.1 values, their tags and their constraints.
 
 pub use rasn_de::de::DecodeChoice;
 pub use rasn_types::types::{

@@ -1,4 +1,4 @@
--- Alternatives as types: the shape of the one that is written.
+-- Alternatives as types: the shape of the alternative that is written.
 use Rattle.std.specs.Prelude.{ℕ, refl}
 use Rattle.rasn_types.specs.Shapes.{Shape, Parts, part, required}
 use Rattle.rasn_types.specs.declared.types.parts.OneOf.{OneOf}

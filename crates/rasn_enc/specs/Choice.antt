@@ -1,4 +1,4 @@
--- What a closure that writes an alternative does to the last list, and why it may refuse.
+-- What a closure that writes an alternative does to the last list, and why it may fail.
 use Rattle.std.specs.Prelude.{ℕ, zero, suc, ◌≡◌, Result, OnOk, IfErr}
 use Rattle.rasn_types.specs.Shapes.{Shape, Tree, choice, Parts, part}
 use Rattle.rasn_types.specs.Shapes.Parts.{none}
@@ -7,13 +7,13 @@ use Rattle.rasn_types.specs.declared.error.encode.EncodeError.{EncodeError}
 use Rattle.rasn_enc.specs.View.{View, Extends}
 use Rattle.rasn_enc.specs.Encoding.{AppendsEncoding, EncodeFails}
 
--- The alternative of this number has this shape; the first has the number 0.
+-- The alternative with this number has this shape. The first alternative has the number 0.
 abbrev pub IsAlternative : Parts → ℕ → Shape → Type 0
 IsAlternative none k s = ⊥
 IsAlternative (part presence x ps) zero s = x ≡ s
 IsAlternative (part presence x ps) (suc k) s = IsAlternative ps k s
 
--- What the closure answers, and what it does to the view. The tree is the one of the chosen alternative, with its number.
+-- What the closure returns, and what it does to the view. The tree is that of the chosen alternative, with its number.
 pub record EncodesAlternative (ps : Parts) (tree : Tree) (v : View) (r : Result Tag EncodeError) (w : View) : Type 0 where
   pub keeps : Extends v w
   pub ok : OnOk r (AppendsEncoding (choice ps) tree v w)

@@ -1,4 +1,4 @@
--- The exact refusals of values that hold no others.
+-- The exact errors of values that hold no others.
 use Rattle.std.specs.Prelude.{ℕ, ℤ, ◌≡◌, ◌≤◌, ◌≤ℤ◌, ◌⊎◌, Box}
 use Rattle.std.specs.Global.{Global}
 use Rattle.rasn_types.specs.declared.types.constraints.Bounded.{Bounded}
@@ -9,27 +9,27 @@ use Rattle.rasn_types.specs.declared.error.encode.EncodeError.{EncodeError}
 use Rattle.rasn_types.specs.declared.error.encode.EncodeErrorKind.TheVariants.{SizeConstraintNotSatisfied, ValueConstraintNotSatisfied}
 use Rattle.rasn_enc.specs.Primitive.{IsAllocError}
 
--- The size isn't admitted.
+-- The size is out of bounds, and the error holds the size and its bounds.
 pub record FailsAtSize (c : Constraints) (size : ℕ) (rule : Codec) (e : EncodeError) : Type 0 where
   pub unmet : Admits ◌≤◌ c.size size → ⊥
   pub is : e ≡ record { kind = SizeConstraintNotSatisfied size (constraint_of c.size); codec = rule }
 
--- Where the size is admitted, memory alone is wanted.
+-- The size is within bounds, and an allocation fails.
 pub record AllocFailsWithinSize (c : Constraints) (size : ℕ) (rule : Codec) (e : EncodeError) : Type 0 where
   pub met : Admits ◌≤◌ c.size size
   pub memory : IsAllocError rule e
 
--- Why a string isn't written: its size isn't admitted; or else memory runs out.
+-- Why a string isn't written: its size is out of bounds; otherwise an allocation fails.
 abbrev pub FailsAtString : Constraints → ℕ → Codec → EncodeError → Type 0
 FailsAtString c size rule e = FailsAtSize c size rule e ⊎ AllocFailsWithinSize c size rule e
 
--- The number isn't admitted.
+-- The number is out of bounds, and the error holds the number and its bounds.
 pub record FailsAtValue (c : Constraints) (number : ℤ) (rule : Codec) (e : EncodeError) : Type 0 where
   pub unmet : Admits ◌≤ℤ◌ c.value number → ⊥
   pub bound : Box (Bounded ℤ) Global
   pub tells : bound.value ≡ constraint_of c.value
   pub is : e ≡ record { kind = ValueConstraintNotSatisfied number bound; codec = rule }
 
--- Why an INTEGER isn't written: the number isn't admitted, or memory runs out.
+-- Why an INTEGER isn't written: the number is out of bounds, or an allocation fails.
 abbrev pub FailsAtInteger : Constraints → ℤ → Codec → EncodeError → Type 0
 FailsAtInteger c number rule e = FailsAtValue c number rule e ⊎ IsAllocError rule e

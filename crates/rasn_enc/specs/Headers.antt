@@ -4,37 +4,37 @@ use Rattle.rasn_types.specs.Tags.{rank}
 use Rattle.rasn_types.specs.declared.types.tag.Tag.{Tag}
 use Rattle.rasn_types.specs.Framing.{bit_of}
 
--- The last count digits of a number, most significant first.
+-- The last `count` digits of a number, the most significant one first.
 unfoldable pub digits : ℕ → ℕ → ℕ → List ℕ
 digits base zero n = []
 digits base (suc count) n = (n / base ^ count) % base ∷ digits base count n
 
--- Every octet but the last has its high bit set.
+-- The octets with the high bit set in each except the last.
 unfoldable pub chained : List ℕ → List ℕ
 chained [] = []
 chained (d ∷ []) = d ∷ []
 chained (d ∷ e ∷ l) = (128 + d) ∷ chained (e ∷ l)
 
--- how many groups of seven bits a number below 2 ^ 32 takes
+-- The number of groups of seven bits in a number below 2 ^ 32.
 abbrev pub group_count : ℕ → ℕ
 group_count n = cond (ltb n 128) 1 (cond (ltb n 16384) 2 (cond (ltb n 2097152) 3 (cond (ltb n 268435456) 4 5)))
 
--- how many octets a number below 2 ^ 64 takes
+-- The number of octets in a number below 2 ^ 64.
 abbrev pub octet_count : ℕ → ℕ
 octet_count n = cond (ltb n 256) 1 (cond (ltb n 65536) 2 (cond (ltb n 16777216) 3 (cond (ltb n 4294967296) 4
     (cond (ltb n 1099511627776) 5 (cond (ltb n 281474976710656) 6 (cond (ltb n 72057594037927936) 7 8))))))
 
--- The identifier of a tag (8.1.2).
+-- The identifier octets of a tag (8.1.2).
 unfoldable pub id_octets : Tag → Bool → List ℕ
 id_octets tag bit = cond (ltb tag.value 31)
     ((64 * rank tag.class + (32 * bit_of bit + tag.value)) ∷ [])
     ((64 * rank tag.class + (32 * bit_of bit + 31)) ∷ chained (digits 128 (group_count tag.value) tag.value))
 
--- The length octets of a number of contents octets (8.1.3).
+-- The length octets for n contents octets (8.1.3).
 unfoldable pub length_octets : ℕ → List ℕ
 length_octets n = cond (ltb n 128) (n ∷ []) ((128 + octet_count n) ∷ digits 256 (octet_count n) n)
 
--- A value in the definite form, and one in the indefinite form.
+-- A value of the definite form, and below it a value of the indefinite form.
 unfoldable pub definite : Tag → Bool → List ℕ → List ℕ
 definite tag bit contents = id_octets tag bit ++ (length_octets (length contents) ++ contents)
 

@@ -6,25 +6,25 @@ use Rattle.rasn_types.specs.declared.types.tag.Tag.{Tag}
 use Rattle.rasn_enc.specs.Primitive.{Appends}
 use Rattle.rasn_enc.specs.View.{View}
 
--- The octets are those of a string in one piece.
+-- The octets are a primitive encoding of the piece.
 abbrev pub IsSegment : {X : Type 0} → Writing (List X) → Tag → List X → List ℕ → Type 0
 IsSegment writes tag piece octets = (contents : List ℕ) × writes piece contents × PrimitiveEncoding tag contents octets
 
 module _ {X : Type 0} (writes : Writing (List X)) (size : ℕ) (inner : Tag) where
-  -- The segments of this string: so many units each, but the last one, which may have fewer.
+  -- The segments of the string: `size` units each, except the last segment, which may have fewer.
   pub record AreSegments (xs : List X) (encoded : List (List ℕ)) : Type 0 where
     pub pieces : List (List X)
     pub is : xs ≡ joined_lists pieces
     pub cut : AreCut size pieces
     pub each : Each (IsSegment writes inner) pieces encoded
 
-  -- They stand behind the last list.
+  -- The segments are appended to the last list.
   pub record AppendsSegments (xs : List X) (v w : View) : Type 0 where
     pub encoded : List (List ℕ)
     pub segments : AreSegments xs encoded
     pub octets : w.last.octets ≡ v.last.octets ++ joined_lists encoded
 
-  -- A constructed value whose contents they are stands behind the last list.
+  -- A constructed value is appended to the last list, and its contents are the segments.
   pub record AppendsSegmented (tag : Tag) (xs : List X) (v w : View) : Type 0 where
     pub encoded : List (List ℕ)
     pub segments : AreSegments xs encoded

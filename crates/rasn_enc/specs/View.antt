@@ -1,31 +1,32 @@
--- What an encoder holds: the output, then one list for each open value. Headers that aren't finished aren't in it.
+-- What an encoder holds: the output, then one list for each open value. The headers of open values aren't part of it.
 use Rattle.std.specs.Prelude.{ℕ, ◌≡◌, Bool, cond, List, [], ◌∷◌, ◌++◌, Option, Some, None, option_map}
 use Rattle.rasn_types.specs.Order.{AreAscending}
 use Rattle.rasn_types.specs.Tags.{IsTagBelow}
 use Rattle.rasn_types.specs.declared.types.codec.Codec.{Codec}
 use Rattle.rasn_types.specs.declared.types.tag.Tag.{Tag}
 
--- One list; where tags are kept, the outermost tags of the values in it.
+-- A list of values: their octets and, if tags are kept, their outermost tags.
 pub record OpenList : Type 0 where
   pub octets : List ℕ
   pub tags : Option (List Tag)
 
--- The last list, and those below it, the output first.
+-- The last list, and the lists below it, the output first.
 pub record View : Type 0 where
   pub rule : Codec
   pub below : List OpenList
   pub last : OpenList
 
--- the tags that are kept
+-- The tags that are kept.
 abbrev pub kept_of : Option (List Tag) → List Tag
 kept_of None = []
 kept_of (Some tags) = tags
 
--- The tags that the last list keeps don't fall: none is below the one before it (X.690 9.3, 10.3; X.680 8.6).
+-- The tags that the last list keeps are in ascending order: none is below the one before it
+-- (X.690 9.3, 10.3; X.680 8.6).
 abbrev pub AreTagsInOrder : View → Type 0
 AreTagsInOrder v = AreAscending IsTagBelow (kept_of v.last.tags)
 
--- octets behind a list, and tags behind those that it keeps
+-- A list with octets appended, and with tags appended to those that it keeps.
 abbrev pub added : OpenList → List ℕ → List Tag → OpenList
 added f octets tags = record { octets = f.octets ++ octets; tags = option_map (λ kept. kept ++ tags) f.tags }
 
@@ -35,15 +36,15 @@ appended v octets tags = record { rule = v.rule; below = v.below; last = added v
 abbrev pub fresh : Bool → OpenList
 fresh keeps = record { octets = []; tags = cond keeps (Some []) None }
 
--- Nothing is written yet.
+-- The view of a new encoder: nothing is written yet.
 abbrev pub started : Codec → Bool → View
 started rule keeps = record { rule = rule; below = []; last = fresh keeps }
 
--- A new value is open.
+-- The view after a new value is opened.
 abbrev pub opened : View → Bool → View
 opened v keeps = record { rule = v.rule; below = v.below ++ v.last ∷ []; last = fresh keeps }
 
--- The view before the last value was opened.
+-- `v` is the view before the last open value of `u` was opened.
 abbrev pub IsBelow : View → View → Type 0
 IsBelow v u = (u.rule ≡ v.rule) × (u.below ≡ v.below ++ v.last ∷ [])
 
@@ -52,7 +53,7 @@ pub record LeavesOthers (v w : View) : Type 0 where
   pub rule : w.rule ≡ v.rule
   pub below : w.below ≡ v.below
 
--- More stands behind the last list.
+-- `w` is `v`, with octets and tags appended to the last list.
 pub record Extends (v w : View) : Type 0 where
   pub octets : List ℕ
   pub tags : List Tag

@@ -8,12 +8,15 @@ use crate::ber::enc::Encoder;
 use rasn_types::error::EncodeError;
 use rasn_types::types::{AsnType, Constraints, Identifier, Tag};
 
-/// A value that can be written. The forms without a tag or constraints hand in the type's own. The name of a field is ignored.
+/// A value that can be written. The methods that take no tag or no constraints use those of the
+/// type. The name of a field is ignored.
 pub trait Encode: AsnType {
     /// Writes the value under this tag and these constraints.
     ///
     /// # Errors
-    /// Nothing is written then. But for `OutOfMemory` the value has no octets under the encoder's rules.
+    /// On error, nothing is written. Any error except `OutOfMemory` means that the value has no
+    /// octets under the encoder's rules, or that octets without a tag would be written directly in
+    /// a SET.
     fn encode_with_tag_and_constraints(
         &self,
         encoder: &mut Encoder,
@@ -72,7 +75,7 @@ pub trait Encode: AsnType {
         self.encode_with_tag_and_constraints(encoder, Self::TAG, constraints, identifier)
     }
 
-    /// Whether there is a value: not where an optional one is absent.
+    /// Returns whether there is a value: `false` only for an optional value that is absent.
     fn is_present(&self) -> bool
         ensures { IsUnless result (Self.tree self.now ≡ absent) };
 }

@@ -1,4 +1,4 @@
-//! The writer: values to octets.
+//! The library that writes values as octets.
 #![tactic(auto)]
 
 pub mod ber;

@@ -1,4 +1,4 @@
--- The octets that gathered octets and deferred headers stand for.
+-- The octets that gathered octets and deferred headers render.
 use Rattle.std.specs.Prelude.{ℕ, ◌≡◌, ◌+◌, ◌≤◌, true, List, [], ◌∷◌, ◌++◌, length, take, drop}
 use Rattle.rasn_types.specs.declared.types.codec.Codec.{Codec}
 use Rattle.rasn_types.specs.declared.types.codec.Codec.TheVariants.{Ber, Cer, Der}
@@ -9,60 +9,61 @@ use Rattle.rasn_enc.specs.declared.ber.enc.writer.deferred_headers.HeaderForm.{H
 use Rattle.rasn_enc.specs.declared.ber.enc.writer.deferred_headers.HeaderForm.TheVariants.{Definite, Indefinite}
 use Rattle.rasn_enc.specs.declared.ber.enc.writer.deferred_headers.DeferredHeader.{DeferredHeader}
 
--- the octets of a header
+-- The octets of a header.
 abbrev pub header_octets : HeaderForm → List ℕ
 header_octets (Definite t n) = id_octets t true ++ length_octets n
 header_octets (Indefinite t) = id_octets t true ++ 128 ∷ []
 
--- the octets that a deferred header puts in
+-- The octets that a deferred header inserts.
 abbrev pub deferred_octets : DeferredHeader → List ℕ
 deferred_octets m = rest_octets m.rest
 
--- the gathered octets from `from` on, with the octets of each deferred header where it stands
+-- The gathered octets from `from` on, with the octets of each deferred header inserted at its place.
 abbrev pub rendered : List ℕ → ℕ → List DeferredHeader → List ℕ
 rendered xs from [] = drop from xs
 rendered xs from (m ∷ ms) = drop from (take m.at xs) ++ (deferred_octets m ++ rendered xs m.at ms)
 
--- deferred headers stand from `from` to `end`, one behind the other
+-- The places of the deferred headers ascend from `from` to `end`.
 abbrev pub Rising : ℕ → List DeferredHeader → ℕ → Type 0
 Rising from [] end = from ≤ end
 Rising from (m ∷ ms) end = (from ≤ m.at) × Rising m.at ms end
 
--- how many octets the deferred headers put in
+-- The number of octets that the deferred headers insert.
 abbrev pub header_octets_count : List DeferredHeader → ℕ
 header_octets_count [] = 0
 header_octets_count (m ∷ ms) = length (deferred_octets m) + header_octets_count ms
 
--- the header of a constructed value of n octets
+-- The header of a constructed value of n contents octets.
 abbrev pub head_of : Codec → Tag → ℕ → HeaderForm
 head_of Ber t n = Definite t n
 head_of Cer t n = Indefinite t
 head_of Der t n = Definite t n
 
--- what stands behind the contents of a constructed value
+-- The octets after the contents of a constructed value: end-of-contents octets under CER.
 abbrev pub back : Codec → List ℕ
 back Ber = []
 back Cer = 0 ∷ 0 ∷ []
 back Der = []
 
--- a constructed value
+-- The octets of a constructed value.
 abbrev pub constructed : Codec → Tag → List ℕ → List ℕ
 constructed Ber t c = definite t true c
 constructed Cer t c = closed t c
 constructed Der t c = definite t true c
 
--- how many of n gathered octets stand before the first deferred header
+-- The number of gathered octets before the first deferred header, out of n.
 abbrev pub front_run : List DeferredHeader → ℕ → ℕ
 front_run [] n = n
 front_run (m ∷ ms) n = m.at
 
--- At a place these octets come still: none, or those of one deferred header.
+-- The deferred headers insert the octets `rest` at the place `at`: there is no header and no octet, or one header.
 abbrev pub Defers : ℕ → List ℕ → List DeferredHeader → Type 0
 Defers at rest [] = rest ≡ []
 Defers at rest (m ∷ []) = (m.at ≡ at) × (deferred_octets m ≡ rest)
 Defers at rest (m ∷ n ∷ ms) = ⊥
 
--- The header of a value fills the room at `at`, and the rest of it comes still; its contents stand behind it, with the deferred headers from number `index` on.
+-- The first two octets of the header fill the room at `at`, and a deferred header inserts the others. The contents
+-- follow the room, with the deferred headers from number `index` on, and `tail` follows the contents.
 pub record Encloses (at index : ℕ) (head tail xs : List ℕ) (ms : List DeferredHeader) (ys : List ℕ) (ns : List DeferredHeader) : Type 0 where
   pub deferred : List DeferredHeader
   pub defers : Defers (at + 2) (drop 2 head) deferred

@@ -1,4 +1,4 @@
--- The octets of a header that come later than its first ones.
+-- The octets of a header after its first two.
 use Rattle.std.specs.Prelude.{ℕ, List, take}
 use Rattle.rasn_enc.specs.declared.ber.enc.writer.header_rest.HeaderRest.{HeaderRest}
 

@@ -7,7 +7,7 @@ use Rattle.rasn_enc.specs.declared.ber.enc.writer.ListEnd.{ListEnd}
 abbrev pub tags_of : {A : Type 0} → Option (Vec Tag A) → Option (List Tag)
 tags_of tags = option_map (λ v. v.items) tags
 
--- One more tag can be kept.
+-- There is room for one more tag if tags are kept.
 abbrev pub HasRoom : {A : Type 0} → Option (Vec Tag A) → Type 0
 HasRoom None = Unit {0}
 HasRoom (Some tags) = vec_len tags < vec_capacity tags
@@ -16,7 +16,7 @@ abbrev pub count_of : Option (List Tag) → ℕ
 count_of None = 0
 count_of (Some tags) = length tags
 
--- This is where the list ends.
+-- `m` is the end of the list: its number of octets and its number of kept tags.
 pub record IsEndOf (f : OpenList) (m : ListEnd) : Type 0 where
   pub octets : m.octets ≡ length f.octets
   pub tags : m.tags ≡ count_of f.tags

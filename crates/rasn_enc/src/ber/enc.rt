@@ -1,4 +1,4 @@
-//! The encoder: it writes values one behind the other.
+//! The encoder, which writes values one after the other.
 ghost use Rattle.std.specs.Prelude.{◌≡◌, ◌≤◌, ◌⊎◌, length, IfOk, IfErr, OnOk, OnErr, false, true};
 ghost use Rattle.rasn_types.specs.Truth.{IsWhether};
 ghost use Rattle.rasn_types.specs.Shapes.{Admits};
@@ -46,24 +46,28 @@ use std::marker::Model;
 use writer::deferred_headers::DeferredHeader;
 use writer::{Open, ValueList};
 
-/// The octets that `Encoder::new` and the entry points make room for before anything is written.
+/// The number of octets that `Encoder::new` and the entry points reserve before anything is
+/// written.
 pub const INITIAL_CAPACITY: usize = 1024;
 
-/// Writes values. To contracts it is the list of octets written so far, with a list for each value that is still open. The names
-/// that its calls take (`Identifier`) are ignored: no rule of X.690 writes them.
+/// An encoder of values. To contracts it is the rule and the octets written so far, with a list for
+/// each value that is still open. The names that its calls take (`Identifier`) are ignored: no rule
+/// of X.690 writes them.
 #[derive(Drop)]
 pub struct Encoder {
     alloc: Global,
     rule: Codec,
-    /// What is written, one value behind the other, but for what deferred headers have.
+    /// The octets written, one value after the other, without those of deferred headers.
     gathered: Vec<u8>,
     /// The deferred headers, in the order of their places.
     headers: Vec<DeferredHeader>,
-    /// The last list.
+    /// The last list, to which values are appended: the contents of the innermost open value, or
+    /// the output.
     list: ValueList,
     /// The open values around the innermost one, the outermost first.
     around: Vec<Open>,
-    /// The innermost open value. It stands apart, so that one alone asks for no memory.
+    /// The innermost open value. It isn't in `around`, so that a single open value needs no
+    /// allocation.
     innermost: Option<Open>,
 }
 
@@ -82,7 +86,7 @@ impl Model for Encoder {
     ghost invariant = { λ e. Sound e.gathered.items e.headers.items e.list.start e.list.first e.list.measured × Chain e.gathered.items e.headers.items 0 0 (opens e.around.items e.innermost) e.list.start e.list.first × IsInnermost e.around.items e.innermost };
 }
 
-/// The rules, and how many octets the last list has.
+/// Shows the rules and the number of octets in the last list.
 impl fmt::Debug for Encoder {
     fn fmt<W: fmt::Write>(&self, f: &mut fmt::Formatter<W>) -> fmt::Result {
         f.debug_struct("Encoder")
@@ -93,10 +97,10 @@ impl fmt::Debug for Encoder {
 }
 
 impl Encoder {
-    /// An encoder with no output yet.
+    /// Makes an encoder with an empty output.
     ///
     /// # Errors
-    /// `OutOfMemory`: it reserves 1024 octets.
+    /// `OutOfMemory` if 1024 octets can't be reserved.
     #[inline(always)]
     pub fn new(alloc: Global, options: EncoderOptions) -> Result<Encoder, EncodeError>
         ensures ok { IfOk result (λ e. e ≡ started options false) }
@@ -105,10 +109,11 @@ impl Encoder {
         Encoder::new_with_buffer(alloc, options, Vec::new(alloc))
     }
 
-    /// An encoder of the components of a SET: its output keeps their outermost tags, which must be in ascending order (X.690 9.3, 10.3).
+    /// Makes an encoder of the components of a SET. Its output keeps their outermost tags, which
+    /// must be in ascending order (X.690 9.3, 10.3).
     ///
     /// # Errors
-    /// `OutOfMemory`: it reserves 1024 octets.
+    /// `OutOfMemory` if 1024 octets can't be reserved.
     pub fn new_set(alloc: Global, options: EncoderOptions) -> Result<Encoder, EncodeError>
         ensures ok { IfOk result (λ e. e ≡ started options true) }
         ensures memory_alone { IfErr result (IsAllocError options) }
@@ -120,10 +125,10 @@ impl Encoder {
         }
     }
 
-    /// An encoder whose output will be put into this vector, in the place of what it holds.
+    /// Makes an encoder that writes its output into this vector, replacing what it holds.
     ///
     /// # Errors
-    /// `OutOfMemory`: it reserves 1024 octets.
+    /// `OutOfMemory` if 1024 octets can't be reserved.
     #[inline(always)]
     pub fn new_with_buffer(
         alloc: Global,
@@ -141,8 +146,8 @@ impl Encoder {
         }
     }
 
-    /// An encoder whose output will be put into this vector, in the place of what it holds. Unlike `new_with_buffer` it reserves nothing, so
-    /// it can't fail.
+    /// Makes an encoder that writes its output into this vector, replacing what it holds. Unlike
+    /// `new_with_buffer`, this call reserves nothing, so it can't fail.
     #[inline(always)]
     pub fn over(alloc: Global, options: EncoderOptions, buffer: Vec<u8>) -> Encoder
         ensures { result ≡ started options false }
@@ -150,22 +155,24 @@ impl Encoder {
         Encoder::empty(alloc, options.current_codec(), buffer, false)
     }
 
-    /// The name of the rules that it writes by.
+    /// Returns the rules by which the encoder writes.
     pub fn codec(&self) -> Codec
         ensures { result ≡ self.now.rule }
     {
         self.rule
     }
 
-    /// The allocator that it writes with.
+    /// Returns the encoder's allocator.
     pub fn alloc(&self) -> Global {
         self.alloc
     }
 
-    /// The octets written. Where a value is still open, which it is only while its closure runs, they are those of its contents.
+    /// Returns the octets written. If a value is still open, they are the contents of the innermost
+    /// open value.
     ///
     /// # Errors
-    /// `SetOutOfOrder` where the output keeps tags and some tag is below the one before it; else `OutOfMemory` alone.
+    /// `SetOutOfOrder` if the output keeps tags and one of them is below the one before it;
+    /// otherwise only `OutOfMemory`.
     #[inline(always)]
     pub fn output(self) -> Result<Vec<u8>, EncodeError>
         ensures ok { IfOk result (λ v. v.items ≡ self.last.octets) }
@@ -178,7 +185,7 @@ impl Encoder {
         self.rendered()
     }
 
-    /// Returns an error if a size isn't within its bound.
+    /// Returns an error if a size isn't within the bounds of the constraints.
     #[inline(always)]
     pub fn check_size(&self, constraints: &Constraints, size: usize) -> Result<(), EncodeError>
         ensures ok { OnOk result (Admits ◌≤◌ constraints.now.size size) }

@@ -1,4 +1,5 @@
-//! Writing a CHOICE whose alternatives are a type (X.690 8.13): the first, or one of the others.
+//! Writing a CHOICE whose alternatives are types (X.690 8.13): the first alternative, or one of the
+//! others.
 ghost use Rattle.std.specs.Prelude.{◌≡◌, IfErr, OnOk, OnErr};
 ghost use Rattle.rasn_types.specs.Shapes.{choice, chosen};
 ghost use Rattle.rasn_enc.specs.Encoding.{AppendsEncoding, EncodeFails};
@@ -8,7 +9,8 @@ use crate::enc::Encode;
 use rasn_types::error::EncodeError;
 use rasn_types::types::{Last, OneOf};
 
-/// An alternative among others: [`OneOf`] for each, over a reference and those behind it, and [`Last`] for the last.
+/// An alternative of a CHOICE: [`OneOf`] for each alternative except the last, of a reference to
+/// its value and the alternatives after it, and [`Last`] for the last.
 pub trait EncodeAlternative: Drop {
     ghost use Rattle.std.specs.Prelude.{ℕ};
     ghost use Rattle.rasn_types.specs.Shapes.{Parts, Shape, Tree};
@@ -25,14 +27,14 @@ pub trait EncodeAlternative: Drop {
     /// Writes the alternative.
     ///
     /// # Errors
-    /// What it refuses. Nothing is written then.
+    /// The error of the alternative. On error, nothing is written.
     fn encode_alternative(self, encoder: &mut Encoder) -> Result<(), EncodeError>
         ensures ok { OnOk result (AppendsEncoding (shape self) (inner self) encoder.old encoder.new) }
         ensures err { OnErr result (encoder.new ≡ encoder.old) }
         ensures refused { IfErr result (EncodeFails (shape self) (inner self) encoder.old) }
         ensures rules { IfErr result (λ e. e.codec ≡ encoder.old.rule) };
 
-    /// The number is the one that the alternative has among the parts.
+    /// The alternative has this number among the parts.
     ghost stands: { (v : Self) → IsAlternative parts (number v) (shape v) };
 }
 
@@ -80,10 +82,10 @@ impl<'a, A: Encode, R: EncodeAlternative> EncodeAlternative for OneOf<&'a A, R> 
 }
 
 impl Encoder {
-    /// Writes the alternative of a CHOICE that is chosen (X.690 8.13).
+    /// Writes the chosen alternative of a CHOICE (X.690 8.13).
     ///
     /// # Errors
-    /// What it refuses. Nothing is written then.
+    /// The error of the alternative. On error, nothing is written.
     pub fn write_choice<P: EncodeAlternative>(&mut self, value: P) -> Result<(), EncodeError>
         ensures ok { OnOk result (AppendsEncoding (choice P.parts) (chosen (P.number value) (P.inner value)) self.old self.new) }
         ensures err { OnErr result (self.new ≡ self.old) }

@@ -1,4 +1,4 @@
-//! Open types.
+//! Writing open types.
 ghost use Rattle.std.specs.Prelude.{◌≡◌, None, [], IfErr, OnOk, OnErr};
 ghost use Rattle.rasn_types.specs.Shapes.{any, looked_for, numbers};
 ghost use Rattle.rasn_types.specs.Bytes.{ConstructedEncoding};
@@ -13,12 +13,14 @@ use rasn_types::error::{BerEncodeErrorKind, CodecEncodeError, EncodeError, Encod
 use rasn_types::types::{Any, Codec, Constraints, Identifier, Tag};
 
 impl Encoder {
-    /// Writes a value of an open type (X.680 30): with a tag as a value of this tag round the octets (X.690 8.14.2), with `Tag::EOC` as
-    /// the octets alone (8.15). One that has no octets is written as nothing.
+    /// Writes a value of an open type (X.681 14). With a tag, the octets are the contents of a
+    /// constructed value of this tag (X.690 8.14.2); with `Tag::EOC`, they are written alone
+    /// (8.15). A value without octets is written as nothing.
     ///
     /// # Errors
-    /// `AnyInSet` where octets without a tag would stand directly in a SET, or in the output of an encoder that `new_set` made: their
-    /// order isn't known (X.690 9.3, 10.3). Else `OutOfMemory` alone. Nothing is written then.
+    /// `AnyInSet` if octets without a tag would be written directly in a SET, or in the output of
+    /// an encoder that `new_set` made: their order isn't known (X.690 9.3, 10.3). Otherwise only
+    /// `OutOfMemory`. On error, nothing is written.
     pub fn encode_any(
         &mut self,
         tag: Tag,
@@ -33,10 +35,10 @@ impl Encoder {
         self.encode_open(tag, value.as_bytes())
     }
 
-    /// Writes the octets of a value of an open type as `encode_any` does (X.680 30, X.690 8.15).
+    /// Writes the octets of a value of an open type, as `encode_any` does (X.681 14, X.690 8.15).
     ///
     /// # Errors
-    /// As of `encode_any`.
+    /// Those of `encode_any`.
     pub fn encode_open(&mut self, tag: Tag, octets: &[u8]) -> Result<(), EncodeError>
         ensures ok { OnOk result (AppendsEncoding (any (looked_for tag)) (numbers octets.now) self.old self.new) }
         ensures err { OnErr result (self.new ≡ self.old) }
@@ -52,7 +54,7 @@ impl Encoder {
         }
     }
 
-    /// Puts octets behind the last list, unless that keeps the tags of what stands in it.
+    /// Appends octets to the last list, unless that list keeps tags.
     fn append_untagged(&mut self, octets: &[u8]) -> Result<(), EncodeError>
         ensures ok { OnOk result (self.new ≡ appended self.old octets.now []) }
         ensures free { OnOk result (self.old.last.tags ≡ None) }
@@ -65,7 +67,7 @@ impl Encoder {
         self.append_encoded(octets)
     }
 
-    /// Writes a value of this tag round octets.
+    /// Writes a constructed value of this tag with these contents octets.
     fn append_tagged(&mut self, tag: Tag, octets: &[u8]) -> Result<(), EncodeError>
         ensures ok { OnOk result (Appends (ConstructedEncoding self.old.rule tag octets.now) tag self.old self.new) }
         ensures err { OnErr result (self.new ≡ self.old) }

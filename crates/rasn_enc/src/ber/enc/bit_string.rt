@@ -17,10 +17,11 @@ use rasn_types::error::EncodeError;
 use rasn_types::types::{BitStr, BitString, Constraints, Identifier, Tag};
 use std::alloc::AllocError;
 
-/// The bits of a segment under the canonical rules: those of its contents octets but the count of unused bits (X.690 8.6.2, 9.2).
+/// The number of bits in a segment under the canonical rules: those of its contents octets, except
+/// the count of unused bits (X.690 8.6.2, 9.2).
 const SEGMENT_BITS: usize = 8 * (MAX_SEGMENT_LENGTH - 1);
 
-/// The contents of bits in one piece: the count of unused bits, and octets (X.690 8.6.2).
+/// The contents octets of bits in one piece: the count of unused bits, then the bits (X.690 8.6.2).
 impl Contents for BitStr<'_> {
     ghost IsWritten = { λ value contents. WrittenBits value contents };
 
@@ -35,11 +36,12 @@ impl Contents for BitStr<'_> {
 }
 
 impl Encoder {
-    /// Writes a BIT STRING (X.690 8.6). Unused bits aren't set. The canonical rules write more than 1000 contents octets in
-    /// segments (9.2).
+    /// Writes a BIT STRING (X.690 8.6). Unused bits are zero. The canonical rules write more than
+    /// 1000 contents octets in segments (9.2).
     ///
     /// # Errors
-    /// `SizeConstraintNotSatisfied` where the number of bits is out of its bound, else `OutOfMemory` alone.
+    /// `SizeConstraintNotSatisfied` if the number of bits is out of bounds, otherwise only
+    /// `OutOfMemory`.
     pub fn encode_bit_string(
         &mut self,
         tag: Tag,
@@ -59,7 +61,7 @@ impl Encoder {
         self.append_bits(tag, value)
     }
 
-    /// Puts bits behind the last list, in one piece.
+    /// Appends bits to the last list, in one piece.
     fn append_bits(&mut self, tag: Tag, value: &BitStr<'_>) -> Result<(), EncodeError>
         ensures ok { OnOk result (Appends (IsSegment WrittenBits tag value.now) tag self.old self.new) }
         ensures err { OnErr result (self.new ≡ self.old) }

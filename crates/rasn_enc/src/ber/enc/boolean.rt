@@ -14,7 +14,7 @@ impl Encoder {
     /// Writes a BOOLEAN (X.690 8.2, 11.1).
     ///
     /// # Errors
-    /// `OutOfMemory` alone.
+    /// Only `OutOfMemory`.
     #[inline(always)]
     pub fn encode_bool(
         &mut self,

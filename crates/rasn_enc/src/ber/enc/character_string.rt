@@ -1,4 +1,4 @@
-//! Character strings (X.690 8.23).
+//! Writing character strings (X.690 8.23).
 ghost use Rattle.std.specs.Prelude.{◌≡◌, chars, length, IfErr, OnOk, OnErr};
 ghost use Rattle.rasn_types.specs.CharacterString.{string_kind, units_of};
 ghost use Rattle.rasn_types.specs.Shapes.{leaf, numbers, numeric, printable, visible, ia5, any_octets, bmp, utf8};
@@ -15,7 +15,7 @@ use rasn_types::types::{
     RestrictedString, StringType, Tag, TeletexString, TeletexType, VisibleString, VisibleType,
 };
 
-/// Counts the characters of a text where there is a bound on them.
+/// Returns the number of characters in a text, or 0 if the number has no bound.
 fn character_count(constraints: &Constraints, text: &str) -> usize
     ensures { IsCounted constraints.now result (length (chars text.now)) }
 {
@@ -26,10 +26,12 @@ fn character_count(constraints: &Constraints, text: &str) -> usize
 }
 
 impl Encoder {
-    /// Writes a VisibleString (X.690 8.23). The canonical rules write more than 1000 octets in segments (9.2).
+    /// Writes a VisibleString (X.690 8.23). The canonical rules write more than 1000 octets in
+    /// segments (9.2).
     ///
     /// # Errors
-    /// `SizeConstraintNotSatisfied` where the number of octets is out of its bound, else `OutOfMemory` alone.
+    /// `SizeConstraintNotSatisfied` if the number of octets is out of bounds, otherwise only
+    /// `OutOfMemory`.
     pub fn encode_visible_string(
         &mut self,
         tag: Tag,
@@ -45,10 +47,12 @@ impl Encoder {
         self.restricted::<VisibleType>(tag, constraints, value)
     }
 
-    /// Writes an IA5String (X.690 8.23). The canonical rules write more than 1000 octets in segments (9.2).
+    /// Writes an IA5String (X.690 8.23). The canonical rules write more than 1000 octets in
+    /// segments (9.2).
     ///
     /// # Errors
-    /// `SizeConstraintNotSatisfied` where the number of octets is out of its bound, else `OutOfMemory` alone.
+    /// `SizeConstraintNotSatisfied` if the number of octets is out of bounds, otherwise only
+    /// `OutOfMemory`.
     pub fn encode_ia5_string(
         &mut self,
         tag: Tag,
@@ -64,10 +68,12 @@ impl Encoder {
         self.restricted::<Ia5Type>(tag, constraints, value)
     }
 
-    /// Writes a PrintableString (X.690 8.23). The canonical rules write more than 1000 octets in segments (9.2).
+    /// Writes a PrintableString (X.690 8.23). The canonical rules write more than 1000 octets in
+    /// segments (9.2).
     ///
     /// # Errors
-    /// `SizeConstraintNotSatisfied` where the number of octets is out of its bound, else `OutOfMemory` alone.
+    /// `SizeConstraintNotSatisfied` if the number of octets is out of bounds, otherwise only
+    /// `OutOfMemory`.
     pub fn encode_printable_string(
         &mut self,
         tag: Tag,
@@ -83,10 +89,12 @@ impl Encoder {
         self.restricted::<PrintableType>(tag, constraints, value)
     }
 
-    /// Writes a NumericString (X.690 8.23). The canonical rules write more than 1000 octets in segments (9.2).
+    /// Writes a NumericString (X.690 8.23). The canonical rules write more than 1000 octets in
+    /// segments (9.2).
     ///
     /// # Errors
-    /// `SizeConstraintNotSatisfied` where the number of octets is out of its bound, else `OutOfMemory` alone.
+    /// `SizeConstraintNotSatisfied` if the number of octets is out of bounds, otherwise only
+    /// `OutOfMemory`.
     pub fn encode_numeric_string(
         &mut self,
         tag: Tag,
@@ -102,10 +110,12 @@ impl Encoder {
         self.restricted::<NumericType>(tag, constraints, value)
     }
 
-    /// Writes a TeletexString (X.690 8.23). The canonical rules write more than 1000 octets in segments (9.2).
+    /// Writes a TeletexString (X.690 8.23). The canonical rules write more than 1000 octets in
+    /// segments (9.2).
     ///
     /// # Errors
-    /// `SizeConstraintNotSatisfied` where the number of octets is out of its bound, else `OutOfMemory` alone.
+    /// `SizeConstraintNotSatisfied` if the number of octets is out of bounds, otherwise only
+    /// `OutOfMemory`.
     pub fn encode_teletex_string(
         &mut self,
         tag: Tag,
@@ -121,10 +131,12 @@ impl Encoder {
         self.restricted::<TeletexType>(tag, constraints, value)
     }
 
-    /// Writes a GeneralString (X.690 8.23). The canonical rules write more than 1000 octets in segments (9.2).
+    /// Writes a GeneralString (X.690 8.23). The canonical rules write more than 1000 octets in
+    /// segments (9.2).
     ///
     /// # Errors
-    /// `SizeConstraintNotSatisfied` where the number of octets is out of its bound, else `OutOfMemory` alone.
+    /// `SizeConstraintNotSatisfied` if the number of octets is out of bounds, otherwise only
+    /// `OutOfMemory`.
     pub fn encode_general_string(
         &mut self,
         tag: Tag,
@@ -140,10 +152,12 @@ impl Encoder {
         self.restricted::<GeneralType>(tag, constraints, value)
     }
 
-    /// Writes a GraphicString (X.690 8.23). The canonical rules write more than 1000 octets in segments (9.2).
+    /// Writes a GraphicString (X.690 8.23). The canonical rules write more than 1000 octets in
+    /// segments (9.2).
     ///
     /// # Errors
-    /// `SizeConstraintNotSatisfied` where the number of octets is out of its bound, else `OutOfMemory` alone.
+    /// `SizeConstraintNotSatisfied` if the number of octets is out of bounds, otherwise only
+    /// `OutOfMemory`.
     pub fn encode_graphic_string(
         &mut self,
         tag: Tag,
@@ -159,10 +173,12 @@ impl Encoder {
         self.restricted::<GraphicType>(tag, constraints, value)
     }
 
-    /// Writes a BMPString: 16-bit units, the high octet first (X.690 8.23.8). The canonical rules write more than 1000 octets in segments (9.2).
+    /// Writes a BMPString: 16-bit units, the high octet first (X.690 8.23.8). The canonical rules
+    /// write more than 1000 octets in segments (9.2).
     ///
     /// # Errors
-    /// `SizeConstraintNotSatisfied` where the number of units is out of its bound, else `OutOfMemory` alone.
+    /// `SizeConstraintNotSatisfied` if the number of units is out of bounds, otherwise only
+    /// `OutOfMemory`.
     pub fn encode_bmp_string(
         &mut self,
         tag: Tag,
@@ -179,10 +195,12 @@ impl Encoder {
         self.string(tag, constraints, octets, octets.len() / 2)
     }
 
-    /// Writes a UTF8String (X.690 8.23.10). The canonical rules write more than 1000 octets in segments (9.2).
+    /// Writes a UTF8String (X.690 8.23.10). The canonical rules write more than 1000 octets in
+    /// segments (9.2).
     ///
     /// # Errors
-    /// `SizeConstraintNotSatisfied` where the number of characters is out of its bound, else `OutOfMemory` alone.
+    /// `SizeConstraintNotSatisfied` if the number of characters is out of bounds, otherwise only
+    /// `OutOfMemory`.
     pub fn encode_utf8_string(
         &mut self,
         tag: Tag,

@@ -1,4 +1,4 @@
-//! CHOICE (X.690 8.13).
+//! Writing CHOICE (X.690 8.13).
 ghost use Rattle.std.specs.Prelude.{◌≡◌, IfErr, OnOk, OnErr};
 ghost use Rattle.std.specs.Fn.{FnOnceTakesAtMut};
 ghost use Rattle.rasn_enc.specs.Closures.{OnlyAppends, MayFail, MaySucceed};
@@ -8,11 +8,11 @@ use rasn_types::error::EncodeError;
 use rasn_types::types::{AsnType, Constraints, Identifier, Tag};
 
 impl Encoder {
-    /// Writes a CHOICE (X.690 8.13): `alternative` writes the value that is chosen and answers its tag. Constraints, tag and name are
-    /// ignored.
+    /// Writes a CHOICE (X.690 8.13): `alternative` writes the chosen value and returns its tag. The
+    /// returned tag and the other arguments are ignored.
     ///
     /// # Errors
-    /// What `alternative` refuses. Nothing is written then.
+    /// The error of `alternative`. On error, nothing is written.
     pub fn encode_choice<E: AsnType, F: FnOnce(&mut Encoder) -> Result<Tag, EncodeError>>(
         &mut self,
         _constraints: &Constraints,

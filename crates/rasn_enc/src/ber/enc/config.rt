@@ -1,10 +1,11 @@
-//! Options of the encoder.
+//! The options of the encoder.
 ghost use Rattle.std.specs.Prelude.{◌≡◌};
 
 use rasn_types::types::Codec;
 use std::marker::Model;
 
-/// What an encoder is made with: the encoding rules. To contracts they are all there is.
+/// The options with which an encoder is made: the encoding rules. To contracts they are these
+/// rules.
 #[derive(Clone, Copy, Debug)]
 pub struct EncoderOptions {
     rule: Codec,
@@ -21,35 +22,35 @@ impl Model for EncoderOptions {
 }
 
 impl EncoderOptions {
-    /// The rules of this name.
+    /// Returns the options for these encoding rules.
     pub const fn of(codec: Codec) -> EncoderOptions
         ensures { result ≡ codec }
     {
         EncoderOptions { rule: codec }
     }
 
-    /// The basic encoding rules (X.690 8).
+    /// Returns the options for the basic encoding rules (X.690 8).
     pub const fn ber() -> EncoderOptions
         ensures { result ≡ Codec.Ber }
     {
         EncoderOptions { rule: Codec::Ber }
     }
 
-    /// The canonical encoding rules (X.690 9 and 11).
+    /// Returns the options for the canonical encoding rules (X.690 9 and 11).
     pub const fn cer() -> EncoderOptions
         ensures { result ≡ Codec.Cer }
     {
         EncoderOptions { rule: Codec::Cer }
     }
 
-    /// The distinguished encoding rules (X.690 10 and 11).
+    /// Returns the options for the distinguished encoding rules (X.690 10 and 11).
     pub const fn der() -> EncoderOptions
         ensures { result ≡ Codec.Der }
     {
         EncoderOptions { rule: Codec::Der }
     }
 
-    /// The rules' name.
+    /// Returns the encoding rules.
     pub fn current_codec(&self) -> Codec
         ensures { result ≡ self.now }
     {

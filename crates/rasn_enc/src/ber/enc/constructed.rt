@@ -1,4 +1,5 @@
-//! Values that hold others: how they are opened and closed (X.690 8.1), and what closures write inside them.
+//! Constructed values: how they are opened and closed (X.690 8.1), and what closures write inside
+//! them.
 ghost use Rattle.std.specs.Prelude.{◌≡◌, ◌<◌, ◌⊎◌, length, true, Ok, Err, IfErr, OnOk, OnErr};
 ghost use Rattle.std.specs.Fn.{FnOnceTakesAtMut, FnOnceReturnsAtMut};
 ghost use Rattle.rasn_types.specs.Bytes.{ConstructedEncoding};
@@ -11,7 +12,8 @@ use rasn_types::error::EncodeError;
 use rasn_types::types::Tag;
 
 impl Encoder {
-    /// Writes a constructed value, whose contents are what `contents` writes. Where that refuses, nothing is written.
+    /// Writes a constructed value, whose contents are what `contents` writes. If `contents` fails,
+    /// nothing is written.
     #[inline(always)]
     pub(super) fn enclose<F: FnOnce(&mut Encoder) -> Result<(), EncodeError>>(
         &mut self,
@@ -30,7 +32,8 @@ impl Encoder {
         self.close(tag, outcome)
     }
 
-    /// Writes a constructed value as `enclose` does, and refuses one whose outermost tags aren't in ascending order.
+    /// Writes a constructed value as `enclose` does, but fails if its outermost tags aren't in
+    /// ascending order.
     pub(super) fn enclose_in_order<F: FnOnce(&mut Encoder) -> Result<(), EncodeError>>(
         &mut self,
         tag: Tag,
@@ -48,7 +51,8 @@ impl Encoder {
         self.close(tag, ordered)
     }
 
-    /// Passes on an outcome, but refuses where the tags that the last list keeps aren't in ascending order.
+    /// Returns the outcome, or an error if it is `Ok` and the tags that the last list keeps aren't
+    /// in ascending order.
     fn in_order(&self, outcome: Result<(), EncodeError>) -> Result<(), EncodeError>
         ensures ok { OnOk result ((outcome ≡ Ok tt) × AreTagsInOrder self.now) }
         ensures refused { IfErr result (λ e. (outcome ≡ Err e) ⊎ ((outcome ≡ Ok tt) × FailsAtTags self.now e)) }
@@ -59,7 +63,7 @@ impl Encoder {
         }
     }
 
-    /// Closes the value that was opened last, or drops it if its contents were refused.
+    /// Closes the value that was opened last, or drops it if `outcome` is an error.
     #[inline(always)]
     pub fn close(&mut self, tag: Tag, outcome: Result<(), EncodeError>) -> Result<(), EncodeError>
         requires { 0 < length self.old.below }
@@ -77,7 +81,7 @@ impl Encoder {
         }
     }
 
-    /// Writes what `values` does, or nothing where that refuses.
+    /// Writes what `values` writes, or nothing if `values` fails.
     pub(super) fn attempt<T, F: FnOnce(&mut Encoder) -> Result<T, EncodeError>>(
         &mut self,
         values: F,

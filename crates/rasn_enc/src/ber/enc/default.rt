@@ -1,4 +1,4 @@
-//! Values that have a default where they are left out (X.680 25.8).
+//! Writing values that are left out if they equal their default (X.680 25.8).
 ghost use Rattle.std.specs.Prelude.{◌≡◌, IfErr, OnOk, OnErr};
 ghost use Rattle.rasn_types.specs.Shapes.{tagged_as, prefix};
 ghost use Rattle.rasn_enc.specs.Default.{AppendsUnlessDefault, FailsUnlessDefault, EncodesDefault};
@@ -10,10 +10,11 @@ use rasn_types::types::{Constraints, Identifier, LawfulEq, Tag};
 use std::alloc::AllocError;
 
 impl Encoder {
-    /// Writes a value under its own tag, but nothing where it equals its default (X.690 11.5).
+    /// Writes a value under its own tag, or nothing if it equals its default (X.690 11.5).
     ///
     /// # Errors
-    /// What the value refuses; running out of memory of the default. Nothing is written then.
+    /// The error of the value; `OutOfMemory` if making the default fails to allocate. On error,
+    /// nothing is written.
     pub fn encode_default<E: Encode + LawfulEq, F: FnOnce() -> Result<E, AllocError>>(
         &mut self,
         value: &E,
@@ -36,10 +37,10 @@ impl Encoder {
         )
     }
 
-    /// Writes a value under this tag, but nothing where it equals its default (X.690 11.5).
+    /// Writes a value under this tag, or nothing if it equals its default (X.690 11.5).
     ///
     /// # Errors
-    /// As `encode_default`.
+    /// Those of `encode_default`.
     pub fn encode_default_with_tag<E: Encode + LawfulEq, F: FnOnce() -> Result<E, AllocError>>(
         &mut self,
         tag: Tag,
@@ -66,10 +67,11 @@ impl Encoder {
         )
     }
 
-    /// Writes a value under its own tag and these constraints, but nothing where it equals its default (X.690 11.5).
+    /// Writes a value under its own tag and these constraints, or nothing if it equals its default
+    /// (X.690 11.5).
     ///
     /// # Errors
-    /// As `encode_default`.
+    /// Those of `encode_default`.
     pub fn encode_default_with_constraints<
         E: Encode + LawfulEq,
         F: FnOnce() -> Result<E, AllocError>,
@@ -99,10 +101,11 @@ impl Encoder {
         )
     }
 
-    /// Writes a value under this tag and these constraints, but nothing where it equals its default (X.690 11.5).
+    /// Writes a value under this tag and these constraints, or nothing if it equals its default
+    /// (X.690 11.5).
     ///
     /// # Errors
-    /// As `encode_default`.
+    /// Those of `encode_default`.
     pub fn encode_default_with_tag_and_constraints<
         E: Encode + LawfulEq,
         F: FnOnce() -> Result<E, AllocError>,
@@ -130,10 +133,11 @@ impl Encoder {
             Err(AllocError) => Err(out_of_memory(self.codec())),
         }
     }
-    /// Writes a value behind a prefix of this tag, in front of its own (X.690 8.14.2), but nothing where it equals its default (X.690 11.5).
+    /// Writes a value under this explicit tag, which precedes its own (X.690 8.14.2), or nothing if
+    /// it equals its default (X.690 11.5).
     ///
     /// # Errors
-    /// As `encode_default`.
+    /// Those of `encode_default`.
     pub fn encode_default_with_explicit_prefix<
         E: Encode + LawfulEq,
         F: FnOnce() -> Result<E, AllocError>,

@@ -1,4 +1,4 @@
-//! ENUMERATED (X.690 8.4).
+//! Writing ENUMERATED (X.690 8.4).
 ghost use Rattle.std.specs.Prelude.{◌≡◌, IfErr, OnErr};
 ghost use Rattle.rasn_types.specs.Shapes.{enumerated, number as number_tree};
 ghost use Rattle.rasn_enc.specs.Primitive.{IsAllocError};
@@ -12,7 +12,7 @@ impl Encoder {
     /// Writes an ENUMERATED (X.690 8.4) in the fewest octets.
     ///
     /// # Errors
-    /// `OutOfMemory` alone.
+    /// Only `OutOfMemory`.
     pub fn encode_enumerated<E: Enumerated>(
         &mut self,
         tag: Tag,

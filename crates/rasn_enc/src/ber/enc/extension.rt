@@ -1,4 +1,4 @@
-//! Extension additions (X.680 25.4).
+//! Writing extension additions (X.680 25.4).
 ghost use Rattle.std.specs.Prelude.{◌≡◌, IfErr, OnOk, OnErr};
 ghost use Rattle.rasn_types.specs.Shapes.{tagged_as, looked_for, option};
 ghost use Rattle.rasn_enc.specs.Extension.{group_tree};
@@ -12,11 +12,11 @@ use rasn_types::types::{Constraints, Constructed, Identifier, Tag};
 impl Encoder {
     /// Writes an extension addition under this tag and these constraints.
     ///
-    /// It takes the value. One that is lent and can't be copied is written by its own `encode_with_tag_and_constraints`, which does
-    /// and promises the same.
+    /// It takes ownership of the value. A borrowed value that can't be copied is written by its own
+    /// `encode_with_tag_and_constraints`, which does the same under the same contract.
     ///
     /// # Errors
-    /// What the value refuses. Nothing is written then.
+    /// The error of the value. On error, nothing is written.
     pub fn encode_extension_addition<E: Encode>(
         &mut self,
         tag: Tag,
@@ -32,11 +32,11 @@ impl Encoder {
         value.encode_with_tag_and_constraints(self, tag, constraints, identifier)
     }
 
-    /// Writes an extension addition group, which is a SEQUENCE of its own; nothing where there is none (X.680 25.10). The name is
-    /// ignored.
+    /// Writes an extension addition group, which is a SEQUENCE of its own, or nothing if there is
+    /// no group (X.680 25.10). The name is ignored.
     ///
     /// # Errors
-    /// What the value refuses. Nothing is written then.
+    /// The error of the value. On error, nothing is written.
     pub fn encode_extension_addition_group<
         const RC: usize,
         const EC: usize,

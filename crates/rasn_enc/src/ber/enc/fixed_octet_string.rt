@@ -1,4 +1,4 @@
-//! OCTET STRING of a fixed size (X.690 8.7).
+//! Writing OCTET STRING of a fixed size (X.690 8.7).
 ghost use Rattle.std.specs.Prelude.{◌≡◌, IfErr, OnOk, OnErr};
 ghost use Rattle.rasn_types.specs.Shapes.{leaf, fixed, numbers};
 ghost use Rattle.rasn_enc.specs.Encoding.{AppendsEncoding, EncodeFails};
@@ -13,7 +13,7 @@ impl<const N: usize> Encode for FixedOctetString<N> {
     /// Writes an OCTET STRING of `N` octets (X.690 8.7).
     ///
     /// # Errors
-    /// `SizeConstraintNotSatisfied` where `N` is out of the bound, else `OutOfMemory` alone.
+    /// `SizeConstraintNotSatisfied` if `N` is out of bounds, otherwise only `OutOfMemory`.
     fn encode_with_tag_and_constraints(
         &self,
         encoder: &mut Encoder,

@@ -1,4 +1,4 @@
-//! Writing INTEGER.
+//! Writing INTEGER (X.690 8.3).
 #![tactic(auto, using(crate::proofs::Leaves::Primitive::integer_refused))]
 
 ghost use Rattle.std.specs.Prelude.{◌≡◌, ◌<◌, ◌≤ℤ◌, length, IfErr, OnOk, OnErr};
@@ -20,7 +20,8 @@ impl Encoder {
     /// Writes an INTEGER in the fewest octets (X.690 8.3).
     ///
     /// # Errors
-    /// `ValueConstraintNotSatisfied` where the number is out of its bound and memory holds a copy of it, else `OutOfMemory` alone.
+    /// `ValueConstraintNotSatisfied` with a copy of the number if the number is out of bounds;
+    /// `OutOfMemory` if an allocation fails, including that of the copy.
     #[inline(always)]
     pub fn encode_integer<I: IntegerType>(
         &mut self,
@@ -43,7 +44,7 @@ impl Encoder {
     }
 }
 
-/// Whether a number meets its bound.
+/// Returns whether a number is within its bounds.
 #[inline(always)]
 fn admits(constraints: &Constraints, octets: &[u8]) -> bool
     requires { 0 < length octets.now }
@@ -52,7 +53,8 @@ fn admits(constraints: &Constraints, octets: &[u8]) -> bool
     constraints.value.is_none() || meets_bound(constraints, octets)
 }
 
-/// Whether a number meets its bound. It isn't inlined, so that the octets of a number without one are written by inlined code.
+/// Returns whether a number is within its bounds. It isn't inlined, so that the octets of a number
+/// without bounds are written by inlined code.
 #[inline(never)]
 fn meets_bound(constraints: &Constraints, octets: &[u8]) -> bool
     requires { 0 < length octets.now }
@@ -61,7 +63,8 @@ fn meets_bound(constraints: &Constraints, octets: &[u8]) -> bool
     constraints.admits_number(octets)
 }
 
-/// Makes the error of a number that is out of its bound, with a copy of the number; if the copy finds no memory, that is the error.
+/// Returns the error for a number that is out of bounds, with a copy of the number, or
+/// `OutOfMemory` if the copy can't be allocated.
 fn refused_number(
     alloc: Global,
     rule: Codec,

@@ -1,4 +1,4 @@
-//! NULL (X.690 8.8).
+//! Writing NULL (X.690 8.8).
 ghost use Rattle.std.specs.Prelude.{◌≡◌, IfErr, OnErr, pos};
 ghost use Rattle.rasn_types.specs.Shapes.{null, number as number_tree};
 ghost use Rattle.rasn_enc.specs.Primitive.{IsAllocError};
@@ -13,7 +13,7 @@ impl Encoder {
     /// Writes a NULL (X.690 8.8).
     ///
     /// # Errors
-    /// `OutOfMemory` alone.
+    /// Only `OutOfMemory`.
     pub fn encode_null(&mut self, tag: Tag, _identifier: Identifier) -> Result<(), EncodeError>
         ensures ok { AppendsLeaf null tag (number_tree (pos 0)) result self.old self.new }
         ensures err { OnErr result (self.new ≡ self.old) }

@@ -1,4 +1,4 @@
-//! OBJECT IDENTIFIER (X.690 8.19).
+//! Writing OBJECT IDENTIFIER (X.690 8.19).
 ghost use Rattle.std.specs.Prelude.{◌≡◌, ◌≢◌, ◌⊎◌, [], ◌∷◌, MatchOption, OnOk, OnErr, IfErr};
 ghost use Rattle.rasn_types.specs.Errors.{IsEncodeOutOfMemory};
 ghost use Rattle.rasn_types.specs.declared.types.codec.Codec.TheVariants.{Ber};
@@ -18,8 +18,10 @@ use std::alloc::{AllocError, Global};
 /// Appends the contents octets of an object identifier (X.690 8.19) in the fewest octets.
 ///
 /// # Errors
-/// Under `Codec::Ber`, and the vector is unchanged then: `InvalidObjectIdentifier` where there are fewer than two arcs, the first
-/// is above 2, the second is above 39 where the first is below 2, or above 4294967215 where it is 2; else `OutOfMemory`.
+/// The errors are under `Codec::Ber`, and leave the vector unchanged: `InvalidObjectIdentifier` if
+/// there are fewer than two arcs, if the first is above 2, if the first is below 2 and the second
+/// above 39, or if the first is 2 and the second above 4294967215; `OutOfMemory` if an allocation
+/// fails.
 pub fn object_identifier_as_bytes(
     alloc: Global,
     oid: &[u32],
@@ -39,7 +41,8 @@ pub fn object_identifier_as_bytes(
     }
 }
 
-/// The numbers that stand for arcs (X.690 8.19.4): the first for two of them, each other one for itself.
+/// The subidentifiers of arcs (X.690 8.19.4): the first one holds the first two arcs, and each
+/// other one is a single arc.
 #[derive(Clone, Copy, Drop)]
 struct Subidentifiers<'a> {
     first: u32,
@@ -47,7 +50,7 @@ struct Subidentifiers<'a> {
 }
 
 impl<'a> Subidentifiers<'a> {
-    /// The subidentifiers of arcs, if these have octets.
+    /// Returns the subidentifiers of the arcs, or `None` if the arcs have no octets.
     fn of_arcs(arcs: &'a [u32]) -> Option<Subidentifiers<'a>>
         ensures { MatchOption result (AreEncodable arcs.now → ⊥) (λ s. AreEncodable arcs.now × AreSubidentifiers (s.first ∷ s.others.now) arcs.now) }
     {
@@ -65,7 +68,7 @@ impl<'a> Subidentifiers<'a> {
     }
 }
 
-/// The subidentifiers one behind the other, each in the fewest octets (X.690 8.19.2).
+/// The octets of the subidentifiers, one after the other, each in the fewest octets (X.690 8.19.2).
 impl Contents for Subidentifiers<'_> {
     ghost use Rattle.std.specs.Prelude.{◌≡◌, ◌∷◌};
     ghost use Rattle.rasn_enc.specs.ObjectIdentifier.{subidentifier_octets};
@@ -95,7 +98,8 @@ impl Contents for Subidentifiers<'_> {
     }
 }
 
-/// The error of arcs that have no octets, which holds them. Where the copy finds no memory, that is the error.
+/// Returns the error for arcs that have no octets, with a copy of the arcs, or `OutOfMemory` if the
+/// copy can't be allocated.
 fn refused_arcs(alloc: Global, codec: Codec, arcs: &[u32]) -> EncodeError
     requires { AreEncodable arcs.now → ⊥ }
     ensures fails { FailsAtArcs arcs.now codec result ⊎ IsAllocError codec result }
@@ -117,7 +121,8 @@ impl Encoder {
     /// Writes an OBJECT IDENTIFIER of these arcs (X.690 8.19) in the fewest octets.
     ///
     /// # Errors
-    /// `InvalidObjectIdentifier` where the arcs have no octets and memory holds a copy of them, else `OutOfMemory` alone.
+    /// `InvalidObjectIdentifier` with a copy of the arcs if they have no octets; `OutOfMemory` if
+    /// an allocation fails, including that of the copy.
     #[inline(always)]
     pub fn encode_object_identifier(
         &mut self,

@@ -1,4 +1,4 @@
-//! OCTET STRING (X.690 8.7).
+//! Writing OCTET STRING (X.690 8.7).
 ghost use Rattle.std.specs.Prelude.{◌≡◌, length, IfErr, OnOk, OnErr};
 ghost use Rattle.rasn_types.specs.Shapes.{leaf, numbers, octet_string};
 ghost use Rattle.rasn_enc.specs.Errors.{FailsAtString};
@@ -10,10 +10,12 @@ use rasn_types::error::EncodeError;
 use rasn_types::types::{Constraints, Identifier, OctetString, Tag};
 
 impl Encoder {
-    /// Writes an OCTET STRING (X.690 8.7). The canonical rules write more than 1000 octets in segments (9.2).
+    /// Writes an OCTET STRING (X.690 8.7). The canonical rules write more than 1000 octets in
+    /// segments (9.2).
     ///
     /// # Errors
-    /// `SizeConstraintNotSatisfied` where the number of octets is out of its bound, else `OutOfMemory` alone.
+    /// `SizeConstraintNotSatisfied` if the number of octets is out of bounds, otherwise only
+    /// `OutOfMemory`.
     #[inline(always)]
     pub fn encode_octet_string(
         &mut self,

@@ -1,4 +1,4 @@
-//! Values that may be left out (X.680 25.5 to 25.8).
+//! Writing values that may be left out (X.680 25.5 to 25.8).
 ghost use Rattle.std.specs.Prelude.{◌≡◌, Ok, IfErr, OnOk, OnErr};
 ghost use Rattle.rasn_types.specs.Shapes.{tagged_as};
 ghost use Rattle.rasn_enc.specs.Encoding.{AppendsEncoding, EncodeFails};
@@ -9,10 +9,10 @@ use rasn_types::error::EncodeError;
 use rasn_types::types::{Constraints, Identifier, Tag};
 
 impl Encoder {
-    /// Writes an optional value that is there.
+    /// Writes an optional value that is present.
     ///
     /// # Errors
-    /// What the value refuses. Nothing is written then.
+    /// The error of the value. On error, nothing is written.
     pub fn encode_some<E: Encode>(
         &mut self,
         value: &E,
@@ -26,10 +26,10 @@ impl Encoder {
         value.encode(self)
     }
 
-    /// Writes an optional value that is there, under this tag.
+    /// Writes an optional value that is present, under this tag.
     ///
     /// # Errors
-    /// What the value refuses. Nothing is written then.
+    /// The error of the value. On error, nothing is written.
     pub fn encode_some_with_tag<E: Encode>(
         &mut self,
         tag: Tag,
@@ -44,10 +44,10 @@ impl Encoder {
         value.encode_with_tag(self, tag, identifier)
     }
 
-    /// Writes an optional value that is there, under this tag and these constraints.
+    /// Writes an optional value that is present, under this tag and these constraints.
     ///
     /// # Errors
-    /// What the value refuses. Nothing is written then.
+    /// The error of the value. On error, nothing is written.
     pub fn encode_some_with_tag_and_constraints<E: Encode>(
         &mut self,
         tag: Tag,

@@ -1,4 +1,5 @@
-//! Writing a SEQUENCE or a SET whose parts are a type (X.690 8.9, 8.11): nested to the right, each with its presence (X.680 25).
+//! Writing a SEQUENCE or a SET whose parts are types (X.690 8.9, 8.11), nested to the right, each
+//! with its presence (X.680 25).
 ghost use Rattle.std.specs.Prelude.{◌≡◌, IfOk, IfErr, OnOk, OnErr};
 ghost use Rattle.rasn_types.specs.Shapes.{seq, set};
 ghost use Rattle.rasn_enc.specs.Encoding.{AppendsEncoding, EncodeFails};
@@ -10,8 +11,9 @@ use rasn_types::error::EncodeError;
 use rasn_types::types::{AsnType, DefaultValue, End, ExplicitDefault, Identifier, Tag};
 use std::alloc::AllocError;
 
-/// Parts that are written in their order: [`Put`], [`PutOptional`], [`PutDefault`], [`PutDefaultExplicit`] and [`PutAddition`], each with what follows it,
-/// and [`End`] behind the last.
+/// Parts that are written in their order: [`Put`], [`PutOptional`], [`PutDefault`],
+/// [`PutDefaultExplicit`] and [`PutAddition`], each with the parts after it, and [`End`] after the
+/// last.
 pub trait EncodeParts: Drop {
     ghost use Rattle.rasn_types.specs.Shapes.{Parts, Tree};
 
@@ -22,29 +24,31 @@ pub trait EncodeParts: Drop {
     /// Writes the parts.
     ///
     /// # Errors
-    /// What a part refuses.
+    /// The error of a part.
     fn encode_parts(self, encoder: &mut Encoder) -> Result<(), EncodeError>
         ensures writes { EncodesParts parts (tree self) encoder.old result encoder.new }
         ensures rules { IfErr result (λ e. e.codec ≡ encoder.old.rule) };
 }
 
-/// A part that has to come, and those behind it.
+/// A required part, and the parts after it.
 #[derive(Drop)]
 pub struct Put<'a, A, R>(pub &'a A, pub R);
 
-/// A part that may be left out (X.680 25.5), and those behind it.
+/// A part that may be left out (X.680 25.5), and the parts after it.
 #[derive(Drop)]
 pub struct PutOptional<'a, A, R>(pub &'a Option<A>, pub R);
 
-/// A part that is left out where it equals its default (X.690 11.5), and those behind it.
+/// A part that is left out if it equals its default (X.690 11.5), and the parts after it.
 #[derive(Drop)]
 pub struct PutDefault<'a, V: DefaultValue, R>(pub &'a V::Value, pub R);
 
-/// A part under an explicit tag that is left out where it equals its default (X.690 11.5; X.680 31.2.7), and those behind it.
+/// A part under an explicit tag that is left out if it equals its default
+/// (X.690 11.5; X.680 31.2.7), and the parts after it.
 #[derive(Drop)]
 pub struct PutDefaultExplicit<'a, V: ExplicitDefault, R>(pub &'a V::Value, pub R);
 
-/// An extension addition under an explicit tag (X.680 25.4), which is left out where there is no value, and the parts behind it.
+/// An extension addition under an explicit tag (X.680 25.4), which is left out if there is no
+/// value, and the parts after it.
 #[derive(Drop)]
 pub struct PutAddition<'a, A, R>(pub &'a Option<A>, pub R);
 
@@ -158,7 +162,7 @@ impl Encoder {
     /// Writes a SEQUENCE (X.690 8.9) of these parts.
     ///
     /// # Errors
-    /// What a part refuses, else `OutOfMemory` alone. Nothing is written then.
+    /// The error of a part, otherwise only `OutOfMemory`. On error, nothing is written.
     pub fn write_sequence<P: EncodeParts>(&mut self, tag: Tag, parts: P) -> Result<(), EncodeError>
         ensures ok { OnOk result (AppendsEncoding (seq tag P.parts) (P.tree parts) self.old self.new) }
         ensures err { OnErr result (self.new ≡ self.old) }
@@ -175,12 +179,12 @@ impl Encoder {
         )
     }
 
-    /// Writes a SET (X.690 8.11) of these parts. Under any rules they stand in the order given, and their outermost tags must not fall
-    /// (X.690 9.3, 10.3; X.680 8.6).
+    /// Writes a SET (X.690 8.11) of these parts. Under all rules they are written in the order
+    /// given, and their outermost tags must be in ascending order (X.690 9.3, 10.3; X.680 8.6).
     ///
     /// # Errors
-    /// What a part refuses; `SetOutOfOrder` where some tag is below the one before it; else `OutOfMemory` alone. Nothing is written
-    /// then.
+    /// The error of a part; `SetOutOfOrder` if a tag is below the one before it; otherwise only
+    /// `OutOfMemory`. On error, nothing is written.
     pub fn write_set<P: EncodeParts>(&mut self, tag: Tag, parts: P) -> Result<(), EncodeError>
         ensures ok { OnOk result (AppendsEncoding (set tag P.parts) (P.tree parts) self.old self.new) }
         ensures err { OnErr result (self.new ≡ self.old) }

@@ -1,4 +1,4 @@
-//! Explicit prefixes (X.690 8.14.2).
+//! Writing values under explicit tags (X.690 8.14.2).
 ghost use Rattle.std.specs.Prelude.{◌≡◌, IfErr, OnOk, OnErr};
 ghost use Rattle.rasn_types.specs.Shapes.{prefix, optional};
 ghost use Rattle.rasn_enc.specs.Encoding.{AppendsEncoding, AppendsPart, EncodeFails, EncodePartFails};
@@ -9,10 +9,11 @@ use rasn_types::error::EncodeError;
 use rasn_types::types::{AsnType, Constraints, Explicit, Identifier, Implicit, Tag};
 
 impl Encoder {
-    /// Writes a value behind a prefix of this tag, in front of its own (X.690 8.14.2; X.680 31.2.7); nothing where it isn't present.
+    /// Writes a value under this explicit tag, which precedes its own (X.690 8.14.2; X.680 31.2.7),
+    /// or nothing if the value isn't present.
     ///
     /// # Errors
-    /// What the value refuses, else `OutOfMemory` alone. Nothing is written then.
+    /// The error of the value, otherwise only `OutOfMemory`. On error, nothing is written.
     pub fn encode_explicit_prefix<V: Encode>(
         &mut self,
         tag: Tag,
@@ -31,7 +32,7 @@ impl Encoder {
         }
     }
 
-    /// Writes a value under a prefix, which is written where the value isn't present too.
+    /// Writes a value under an explicit tag, which is written even if the value isn't present.
     pub(crate) fn append_prefixed<V: Encode>(
         &mut self,
         tag: Tag,
@@ -66,7 +67,7 @@ impl<G: AsnType, T: Encode> Encode for Implicit<G, T> {
     }
 }
 
-/// The prefix is written where the value is absent too, so that it is read again.
+/// The explicit tag is written even if the value is absent, so that the value is read back.
 impl<G: AsnType, T: Encode> Encode for Explicit<G, T> {
     fn encode_with_tag_and_constraints(
         &self,

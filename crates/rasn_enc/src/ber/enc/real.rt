@@ -7,10 +7,10 @@ use rasn_types::error::{EncodeError, EncodeErrorKind};
 use rasn_types::types::{Constraints, Identifier, RealType, Tag};
 
 impl Encoder {
-    /// Refuses: REAL (X.690 8.5) isn't supported. Nothing is written.
+    /// Returns an error: REAL (X.690 8.5) isn't supported. Nothing is written.
     ///
     /// # Errors
-    /// `RealNotSupported`, always.
+    /// Always `RealNotSupported`.
     pub fn encode_real<R: RealType>(
         &mut self,
         _tag: Tag,

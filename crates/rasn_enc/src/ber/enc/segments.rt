@@ -1,4 +1,4 @@
-//! Strings of octets: in one piece, or in segments (X.690 8.7, 8.23, 9.2).
+//! Writing strings of octets in one piece or in segments (X.690 8.7, 8.23, 9.2).
 ghost use Rattle.std.specs.Prelude.{◌≡◌, ◌<◌, length, IfErr, OnOk, OnErr};
 ghost use Rattle.rasn_types.specs.Bytes.{IsCer, WritesOctets};
 ghost use Rattle.rasn_types.specs.Tags.{in_universal};
@@ -14,11 +14,11 @@ use rasn_types::ber::rules::{EncodingRules, MAX_SEGMENT_LENGTH};
 use rasn_types::error::EncodeError;
 use rasn_types::types::{Constraints, Tag};
 
-/// The contents octets of a segment under the canonical rules (X.690 9.2).
+/// The number of contents octets in a segment under the canonical rules (X.690 9.2).
 const SEGMENT: usize = MAX_SEGMENT_LENGTH;
 
 impl Encoder {
-    /// Writes the octets of a string of so many characters, where these are within the size.
+    /// Writes the octets of a string of `size` characters, if that size is within bounds.
     #[inline(always)]
     pub(super) fn string(
         &mut self,
@@ -39,7 +39,8 @@ impl Encoder {
         self.leaf(tag, &contents)
     }
 
-    /// The canonical rules write a string in segments where it is longer than one may be (X.690 9.2).
+    /// Returns whether a string of `count` units is written in segments: under the canonical rules,
+    /// if it has more than the `most` units that one segment holds (X.690 9.2).
     pub(super) fn is_cut(&self, count: usize, most: usize) -> bool
         ensures { IsWhether result (IsCer self.now.rule × (most < count)) }
     {

@@ -10,10 +10,10 @@ use rasn_types::error::EncodeError;
 use rasn_types::types::{Constructed, Identifier, Tag};
 
 impl Encoder {
-    /// Writes a SEQUENCE (X.690 8.9): `parts` writes its components, one behind the other.
+    /// Writes a SEQUENCE (X.690 8.9), whose components `parts` writes one after the other.
     ///
     /// # Errors
-    /// What `parts` refuses, else `OutOfMemory` alone. Nothing is written then.
+    /// The error of `parts`, otherwise only `OutOfMemory`. On error, nothing is written.
     pub fn encode_sequence<
         const RC: usize,
         const EC: usize,

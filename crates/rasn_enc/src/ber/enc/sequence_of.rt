@@ -12,10 +12,11 @@ use rasn_types::error::EncodeError;
 use rasn_types::types::{Constraints, Identifier, Tag};
 
 impl Encoder {
-    /// Writes a SEQUENCE OF, within a size in elements (X.690 8.10).
+    /// Writes a SEQUENCE OF (X.690 8.10), whose size in elements is constrained.
     ///
     /// # Errors
-    /// `SizeConstraintNotSatisfied`; what an element refuses; else `OutOfMemory` alone. Nothing is written then.
+    /// `SizeConstraintNotSatisfied` if the number of elements is out of bounds; the error of an
+    /// element; otherwise only `OutOfMemory`. On error, nothing is written.
     #[inline(always)]
     pub fn encode_sequence_of<E: Encode>(
         &mut self,

@@ -9,12 +9,13 @@ use rasn_types::error::EncodeError;
 use rasn_types::types::{Constructed, Identifier, Tag};
 
 impl Encoder {
-    /// Writes a SET (X.690 8.11): `components` writes its components, one behind the other. Under any rules they stand in the order of
-    /// the calls, and their outermost tags must be in ascending order (X.690 9.3, 10.3; X.680 8.6).
+    /// Writes a SET (X.690 8.11), whose components `components` writes one after the other. Under
+    /// all rules they are written in the order of the calls, and their outermost tags must be in
+    /// ascending order (X.690 9.3, 10.3; X.680 8.6).
     ///
     /// # Errors
-    /// What `components` refuses; `SetOutOfOrder` where it accepts and some tag is below the one before it; else `OutOfMemory` alone.
-    /// Nothing is written then.
+    /// The error of `components`; `SetOutOfOrder` if `components` succeeds and a tag is below the
+    /// one before it; otherwise only `OutOfMemory`. On error, nothing is written.
     pub fn encode_set<
         const RC: usize,
         const EC: usize,

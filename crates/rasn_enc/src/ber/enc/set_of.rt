@@ -12,12 +12,14 @@ use rasn_types::error::EncodeError;
 use rasn_types::types::{Constraints, Identifier, SetOf, Tag};
 
 impl Encoder {
-    /// Writes a SET OF, within a size in elements (X.690 8.12): its elements in their order. Under any rules the octets of
-    /// an element must not be less than those of the one before it (X.690 11.6).
+    /// Writes a SET OF (X.690 8.12), whose size in elements is constrained, with its elements in
+    /// their order. Under all rules the octets of an element must not be less than those of the one
+    /// before it (X.690 11.6).
     ///
     /// # Errors
-    /// `SizeConstraintNotSatisfied`; what an element refuses; `SetOutOfOrder` at the first element whose octets are less; else
-    /// `OutOfMemory` alone. Nothing is written then.
+    /// `SizeConstraintNotSatisfied` if the number of elements is out of bounds; the error of an
+    /// element; `SetOutOfOrder` at the first element whose octets are less than those of the one
+    /// before it; otherwise only `OutOfMemory`. On error, nothing is written.
     pub fn encode_set_of<E: Encode + Eq>(
         &mut self,
         tag: Tag,
@@ -41,7 +43,7 @@ impl Encoder {
         })
     }
 
-    /// Writes elements whose octets are in ascending order.
+    /// Writes elements, and fails if their octets aren't in ascending order.
     fn append_in_order<E: Encode>(&mut self, values: &[E]) -> Result<(), EncodeError>
         requires { self.old.last.tags ≡ None }
         ensures keeps { LeavesOthers self.old self.new }

@@ -1,4 +1,4 @@
-//! Writing times, in their canonical forms (X.680 38.4.1; X.690 11.7, 11.8).
+//! Writing times in their canonical forms (X.680 38.4.1; X.690 11.7, 11.8).
 ghost use Rattle.std.specs.Prelude.{◌≡◌, ◌<◌, ◌≤◌, ◌≤ℤ◌, length, pos, negsuc, IfOk, IfErr, OnErr};
 ghost use Rattle.rasn_types.specs.Calendar.{IsDay, IsMoment};
 ghost use Rattle.rasn_types.specs.Shapes.{utc_time, generalized_time, date, instant, on_day};
@@ -52,7 +52,7 @@ impl Contents for Date {
     }
 }
 
-/// Counts the octets of a year: its digits, at least four, and a sign outside 0 to 9999.
+/// Returns the number of octets of a year: at least four digits, and a sign outside 0 to 9999.
 fn year_len(year: i32) -> usize
     requires from { negsuc 99998 ≤ℤ year }
     requires to { year ≤ℤ pos 99999 }
@@ -66,7 +66,8 @@ fn year_len(year: i32) -> usize
     }
 }
 
-/// Counts the octets of a fraction: its point, and its digits without zeros at the end.
+/// Returns the number of octets of a fraction: the point, and the digits without zeros at the end.
+/// A fraction of zero has no octets.
 fn fraction_len(billionths: u32) -> usize
     requires { billionths < 1000000000 }
     ensures exact { result ≡ length (written_fraction billionths) }
@@ -84,7 +85,8 @@ fn fraction_len(billionths: u32) -> usize
     10 - place as usize
 }
 
-/// The text of a time as the public calls return it: a failed allocation is an error under the name of BER.
+/// Returns the text of a time for the public calls, which report a failed allocation under
+/// `Codec::Ber`.
 fn canonical_text<T: Contents>(alloc: Global, value: &T) -> Result<Vec<u8>, EncodeError>
     ensures ok { IfOk result (λ v. T.IsWritten value.now v.items) }
     ensures memory_alone { IfErr result (IsAllocError Ber) }
@@ -100,7 +102,7 @@ impl Encoder {
     /// Writes a UTCTime (X.690 11.8): the year without its century, and no fraction.
     ///
     /// # Errors
-    /// `OutOfMemory` alone.
+    /// Only `OutOfMemory`.
     pub fn encode_utc_time(
         &mut self,
         tag: Tag,
@@ -115,10 +117,11 @@ impl Encoder {
         self.leaf(tag, value)
     }
 
-    /// Writes a GeneralizedTime (X.690 11.7), in UTC whatever its offset. A year outside 0 to 9999 has a sign.
+    /// Writes a GeneralizedTime (X.690 11.7) in UTC, whatever its offset. A year outside 0 to 9999
+    /// has a sign.
     ///
     /// # Errors
-    /// `OutOfMemory` alone.
+    /// Only `OutOfMemory`.
     pub fn encode_generalized_time(
         &mut self,
         tag: Tag,
@@ -136,7 +139,7 @@ impl Encoder {
     /// Writes a DATE (X.680 38.4.1). A year outside 0 to 9999 has a sign.
     ///
     /// # Errors
-    /// `OutOfMemory` alone.
+    /// Only `OutOfMemory`.
     pub fn encode_date(
         &mut self,
         tag: Tag,
@@ -151,10 +154,10 @@ impl Encoder {
         self.leaf(tag, value)
     }
 
-    /// The text of a GeneralizedTime (X.690 11.7).
+    /// Returns the text of a GeneralizedTime (X.690 11.7).
     ///
     /// # Errors
-    /// `OutOfMemory` alone, under the name of BER.
+    /// Only `OutOfMemory`, under `Codec::Ber`.
     pub fn datetime_to_canonical_generalized_time_bytes(
         alloc: Global,
         value: &GeneralizedTime,
@@ -165,10 +168,10 @@ impl Encoder {
         canonical_text(alloc, value)
     }
 
-    /// The text of a UTCTime (X.690 11.8).
+    /// Returns the text of a UTCTime (X.690 11.8).
     ///
     /// # Errors
-    /// `OutOfMemory` alone, under the name of BER.
+    /// Only `OutOfMemory`, under `Codec::Ber`.
     pub fn datetime_to_canonical_utc_time_bytes(
         alloc: Global,
         value: &UtcTime,
@@ -179,10 +182,10 @@ impl Encoder {
         canonical_text(alloc, value)
     }
 
-    /// The text of a DATE (X.680 38.4.1).
+    /// Returns the text of a DATE (X.680 38.4.1).
     ///
     /// # Errors
-    /// `OutOfMemory` alone, under the name of BER.
+    /// Only `OutOfMemory`, under `Codec::Ber`.
     pub fn naivedate_to_date_bytes(alloc: Global, value: &Date) -> Result<Vec<u8>, EncodeError>
         ensures ok { IfOk result (λ v. v.items ≡ written_date value.now) }
         ensures memory_alone { IfErr result (IsAllocError Ber) }

@@ -1,9 +1,10 @@
-//! Where values are written: the output, and a list for each value that is still open.
+//! The storage of what an encoder writes: the output, and a list for each value that is still open.
 //!
-//! Values are gathered one behind the other in one vector. A value that holds others leaves room in front of its contents for the two octets
-//! that its header has at least. Where it has more, a deferred header tells what comes still: these octets are put in once, from the back,
-//! when the output is asked for. The contracts of these calls speak of views alone, so that another way to hold the octets is another body of
-//! these calls.
+//! Values are gathered one after the other in one vector. A constructed value leaves room before
+//! its contents for the two octets that every header has at least. If its header has more, a
+//! deferred header holds the others; the octets of all deferred headers are inserted at once, from
+//! the back, when the output is asked for. The contracts of these calls are about views alone, so
+//! only the bodies of the calls depend on how the octets are stored.
 ghost use Rattle.std.specs.Prelude.{ℕ, List, ◌≡◌, ◌<◌, ◌≤◌, ◌-◌, [], length, take, drop, IfOk, IfErr, OnOk, OnErr, false};
 ghost use Rattle.rasn_types.specs.Truth.{IsWhether, IsUnless};
 ghost use Rattle.rasn_types.specs.Bytes.{ConstructedEncoding, AreAscending};
@@ -42,7 +43,7 @@ pub(super) mod open_values;
 pub(super) mod rendering;
 mod untagged;
 
-/// Where a list ends: how many octets and tags it has.
+/// The end of a list: its number of octets and its number of tags.
 #[derive(Clone, Copy, Drop)]
 pub struct ListEnd {
     octets: usize,
@@ -52,18 +53,18 @@ pub struct ListEnd {
 /// A list of values.
 #[derive(Drop)]
 pub struct ValueList {
-    /// Where it begins in the gathered octets.
+    /// The index of the list's first octet in the gathered octets.
     pub start: usize,
-    /// The number of its first deferred header.
+    /// The index of the list's first deferred header.
     pub first: usize,
-    /// How many octets it has once it is rendered.
+    /// The number of octets in the list once it is rendered.
     pub measured: usize,
-    /// The tags of its values, where they are kept.
+    /// The tags of the list's values, if they are kept.
     pub tags: Option<Vec<Tag>>,
 }
 
-/// An open value: the list that it interrupted, which has the gathered octets up to `end`, where the value's room begins, and the deferred
-/// headers up to number `last`.
+/// An open value, with the list that it interrupted. That list has the gathered octets up to `end`,
+/// where the value's room begins, and the deferred headers up to number `last`.
 #[derive(Drop)]
 pub struct Open {
     pub list: ValueList,
@@ -72,7 +73,8 @@ pub struct Open {
 }
 
 impl Encoder {
-    /// Nothing is written: the octets will be put into this vector, in the place of what it holds.
+    /// Makes an encoder with an empty output, which is written into this vector, replacing what it
+    /// holds.
     #[inline(always)]
     pub(super) fn empty(alloc: Global, rule: Codec, buffer: Vec<u8>, keeps_tags: bool) -> Encoder
         ensures { result ≡ started rule keeps_tags }
@@ -100,7 +102,7 @@ impl Encoder {
         }
     }
 
-    /// The octets of the last list.
+    /// Returns the octets of the last list.
     #[inline(always)]
     pub(super) fn rendered(self) -> Result<Vec<u8>, EncodeError>
         ensures ok { IfOk result (λ v. v.items ≡ self.last.octets) }
@@ -127,7 +129,7 @@ impl Encoder {
         }
     }
 
-    /// Opens a value: what is written now are its contents, up to `close`.
+    /// Opens a value, whose contents are all that is written until `close`.
     #[inline(always)]
     pub fn open(&mut self, keeps_tags: bool) -> Result<(), EncodeError>
         ensures ok { OnOk result (self.new ≡ opened self.old keeps_tags) }
@@ -174,7 +176,7 @@ impl Encoder {
         self.list = list;
     }
 
-    /// Closes the value that was opened last: it stands behind the list below.
+    /// Closes the value that was opened last, and appends it to the list below.
     #[inline(always)]
     pub(super) fn finish(&mut self, tag: Tag) -> Result<(), EncodeError>
         requires { 0 < length self.old.below }
@@ -205,7 +207,7 @@ impl Encoder {
         }
     }
 
-    /// Puts a primitive value behind the last list.
+    /// Appends a primitive value to the last list.
     #[inline(always)]
     pub(super) fn leaf<T: Contents>(&mut self, tag: Tag, contents: &T) -> Result<(), EncodeError>
         ensures ok { OnOk result (AppendsPrimitive (T.IsWritten contents.now) tag self.old self.new) }
@@ -227,7 +229,7 @@ impl Encoder {
         }
     }
 
-    /// Where the last list ends.
+    /// Returns the end of the last list.
     pub(super) fn end(&self) -> ListEnd
         ensures { IsEndOf self.now.last result }
     {
@@ -237,7 +239,7 @@ impl Encoder {
         }
     }
 
-    /// Takes off the last list what was put behind it since.
+    /// Removes from the last list what was appended after `end`.
     pub(super) fn cut_back(&mut self, end: ListEnd)
         ensures { (v : View) (octets : List ℕ) (tags : List Tag) → IsEndOf v.last end → self.old ≡ appended v octets tags → self.new ≡ v }
     {
@@ -256,14 +258,16 @@ impl Encoder {
         cut_tags(&mut self.list.tags, end.tags);
     }
 
-    /// Returns how many octets of the open value's contents were written.
+    /// Returns the number of octets in the last list, which is the contents of the value that was
+    /// opened last, or the output if no value is open.
     pub fn last_len(&self) -> usize
         ensures { result ≡ length self.now.last.octets }
     {
         self.list.measured
     }
 
-    /// Returns whether the octets of the contents from `middle` on are less than those from `from` to `middle` (X.690 11.6).
+    /// Returns whether the octets of the last list from `middle` on are less than those from `from`
+    /// to `middle` (X.690 11.6).
     pub fn neighbours_out_of_order(&self, from: usize, middle: usize) -> bool
         requires order { from ≤ middle }
         requires within { middle ≤ length self.now.last.octets }
@@ -295,7 +299,7 @@ impl Encoder {
         rendered_before(&self.gathered, headers, left, right, middle - from)
     }
 
-    /// Returns whether some tag that the open value keeps is below the one before it (X.690 9.3).
+    /// Returns whether a tag that the last list keeps is below the one before it (X.690 9.3).
     pub fn kept_tags_out_of_order(&self) -> bool
         ensures { IsUnless result (AreAscending IsTagBelow (kept_of self.now.last.tags)) }
     {

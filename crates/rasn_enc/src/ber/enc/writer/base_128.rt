@@ -1,8 +1,9 @@
-//! Numbers in base 128, every octet but the last with its high bit set: of tags (X.690 8.1.2.4) and in object identifiers (8.19.2).
+//! Numbers in base 128, with the high bit set in every octet except the last: tag numbers
+//! (X.690 8.1.2.4) and subidentifiers (8.19.2).
 ghost use Rattle.std.specs.Prelude.{◌≡◌, ◌+◌, ◌/◌, ◌%◌, ◌^◌, ◌<◌, ◌≤◌, ◌++◌, vec_len, vec_capacity};
 ghost use Rattle.rasn_enc.specs.Headers.{digits, chained, group_count};
 
-/// How many groups of seven bits a number takes.
+/// Returns the number of groups of seven bits in a number.
 pub fn count_groups(number: u32) -> usize
     ensures { result ≡ group_count number }
 {
@@ -19,7 +20,7 @@ pub fn count_groups(number: u32) -> usize
     }
 }
 
-/// Writes a number in base 128, every octet but the last with its high bit set.
+/// Writes a number in base 128, with the high bit set in every octet except the last.
 pub fn write_groups(out: &mut Vec<u8>, number: u32)
     requires { vec_len out.old + group_count number ≤ vec_capacity out.old }
     ensures items { out.new.items ≡ out.old.items ++ chained (digits 128 (group_count number) number) }

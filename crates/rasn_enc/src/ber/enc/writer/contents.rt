@@ -1,4 +1,4 @@
-//! Primitive values, appended to octets: header and contents in one piece.
+//! Primitive values, appended to octets: the header and the contents together.
 ghost use Rattle.std.specs.Prelude.{ℕ, List, ◌≡◌, ◌≤◌, ◌+◌, ◌++◌, length, take, vec_len, vec_capacity, OnOk, OnErr};
 ghost use Rattle.rasn_enc.specs.Buffer.Contents.{AppendsOctets, AppendsPrimitiveOctets};
 
@@ -9,15 +9,15 @@ use rasn_types::ber::is_always_constructed;
 use rasn_types::types::Tag;
 use std::alloc::AllocError;
 
-/// The contents octets of a primitive encoding. How many there are is known before they are written, so the length octets are
-/// written first.
+/// The contents octets of a primitive encoding. Their number is known before they are written, so
+/// that the length octets can be written first.
 pub trait Contents {
     ghost use Rattle.std.specs.Prelude.{ℕ, List};
 
     /// The octets that may be written.
     ghost IsWritten: { Self → List ℕ → Type 0 };
 
-    /// Counts the octets.
+    /// Returns the number of octets.
     fn count(&self) -> usize
         ensures { (l : List ℕ) → IsWritten self.now l → length l ≡ result };
 
@@ -28,7 +28,7 @@ pub trait Contents {
         ensures err { OnErr result ((l : List ℕ) × (octets.new.items ≡ octets.old.items ++ l)) };
 }
 
-/// Contents octets that are there already.
+/// Contents octets that are already in a slice.
 impl Contents for &[u8] {
     ghost use Rattle.std.specs.Prelude.{◌≡◌};
 
@@ -77,7 +77,8 @@ pub fn append_primitive<T: Contents>(
     append_reserved(octets, contents, start)
 }
 
-/// Appends contents octets that there is room for. If an allocation fails, the octets from `start` on are taken off.
+/// Appends contents octets for which there is room. If an allocation fails, the octets from `start`
+/// on are removed.
 #[inline(always)]
 fn append_reserved<T: Contents>(
     octets: &mut Vec<u8>,

@@ -1,4 +1,4 @@
-//! Places in rendered octets that are not written out.
+//! Places in rendered octets, without rendering them.
 ghost use Rattle.std.specs.Prelude.{◌≡◌, ◌≤◌, ◌+◌, ◌-◌, ◌++◌, ◌∷◌, [], length, take, drop, suc, MatchOption};
 ghost use Rattle.rasn_enc.specs.Buffer.DeferredHeaders.{rendered, Rising};
 ghost use Rattle.rasn_enc.specs.Order.{octets_less};
@@ -7,8 +7,8 @@ ghost use Rattle.rasn_enc.specs.Buffer.Cursors.{ahead, Placed, Away};
 use crate::ber::enc::writer::deferred_headers::DeferredHeader;
 use crate::ber::enc::writer::header_rest::HeaderRest;
 
-/// A place in rendered octets: what is left of a deferred header, then the gathered octets from `at` on with the deferred headers from number
-/// `first` on.
+/// A place in rendered octets: in `rest`, which remains of a deferred header from `inside` on, and
+/// then in the gathered octets from `at` on, with the deferred headers from number `first` on.
 #[derive(Clone, Copy, Drop)]
 pub struct Cursor {
     pub rest: HeaderRest,
@@ -17,7 +17,8 @@ pub struct Cursor {
     pub first: usize,
 }
 
-/// Finds the place behind the first n octets of a list of `total`, from its back.
+/// Returns the place after the first `n` octets of a list of `total` octets. It searches from the
+/// end of the list.
 pub fn place(
     gathered: &[u8],
     headers: &[DeferredHeader],
@@ -66,7 +67,7 @@ pub fn place(
     }
 }
 
-/// Gives the octets of the deferred header that stands at a place, if one does.
+/// Returns the octets of deferred header number `k` if its place is `at`.
 fn header_here(headers: &[DeferredHeader], k: usize, at: usize) -> Option<HeaderRest>
     requires { k ≤ length headers.now }
     ensures { MatchOption result (Away at (drop k headers.now)) (λ r. drop k headers.now ≡ record { at = at; rest = r } ∷ drop (suc k) headers.now) }
@@ -80,7 +81,7 @@ fn header_here(headers: &[DeferredHeader], k: usize, at: usize) -> Option<Header
     None
 }
 
-/// Gives the octet at a place, and the place behind it.
+/// Returns the octet at a place and the place after it, or `None` at the end.
 fn next(gathered: &[u8], headers: &[DeferredHeader], cursor: Cursor) -> Option<(u8, Cursor)>
     requires { Placed gathered.now headers.now cursor }
     ensures { MatchOption result (ahead gathered.now headers.now cursor ≡ []) (λ p. (ahead gathered.now headers.now cursor ≡ p.0 ∷ ahead gathered.now headers.now p.1) × Placed gathered.now headers.now p.1) }
@@ -124,7 +125,7 @@ fn next(gathered: &[u8], headers: &[DeferredHeader], cursor: Cursor) -> Option<(
     }
 }
 
-/// Whether what stands ahead of `left` is less than the first n octets that stand ahead of `right`.
+/// Returns whether the octets from `left` on are less than the first `n` octets from `right` on.
 pub fn rendered_before(
     gathered: &[u8],
     headers: &[DeferredHeader],

@@ -1,10 +1,11 @@
-//! Octets taken off the back of a list.
+//! Removing octets from the end of a list.
 ghost use Rattle.std.specs.Prelude.{◌≤◌};
 ghost use Rattle.rasn_enc.specs.Buffer.Cuts.{Sound, Cut};
 
 use crate::ber::enc::writer::deferred_headers::DeferredHeader;
 
-/// Takes octets off the back of a list that begins at `start`, with deferred header number `first`, until `count` are left of `measured`.
+/// Cuts a list of `measured` octets to its first `count`. The list begins at `start`, with deferred
+/// header number `first`.
 pub fn cut(
     gathered: &mut Vec<u8>,
     headers: &mut Vec<DeferredHeader>,

@@ -1,4 +1,5 @@
-//! Headers of values that hold others, and what of them comes later than the octets behind them.
+//! Headers of constructed values, and deferred headers, whose octets are inserted after the
+//! contents are written.
 ghost use Rattle.std.specs.Prelude.{ℕ, List, ◌≡◌, ◌<◌, ◌≤◌, ◌+◌, ◌++◌, ◌∷◌, [], true, length, take, drop, vec_len, vec_capacity, IfOk, OnOk, OnErr};
 ghost use Rattle.rasn_enc.specs.Headers.{id_octets, length_octets};
 ghost use Rattle.rasn_enc.specs.Buffer.DeferredHeaders.{header_octets, head_of, rest_octets, Defers, Encloses, back};
@@ -11,29 +12,30 @@ use rasn_types::ber::rules::EncodingRules;
 use rasn_types::types::{Codec, Tag};
 use std::alloc::AllocError;
 
-/// An open value leaves room for so many octets of its header, which has no fewer.
+/// The number of octets that an open value reserves for its header. No header has fewer.
 pub const ROOM: usize = 2;
 
-/// The header of a value that holds others.
+/// The header of a constructed value.
 #[derive(Clone, Copy, Drop)]
 pub enum HeaderForm {
     /// An identifier, and the length of the contents.
     Definite(Tag, usize),
-    /// An identifier, where end-of-contents octets end the contents.
+    /// An identifier, with end-of-contents octets after the contents.
     Indefinite(Tag),
 }
 
-/// Where in the gathered octets the octets of a header come still that had no room.
+/// The octets of a header for which there was no room, and the place in the gathered octets where
+/// they are inserted.
 #[derive(Clone, Copy, Drop)]
 pub struct DeferredHeader {
     pub at: usize,
     pub rest: HeaderRest,
 }
 
-// There are many deferred headers, so they stay small.
+// There may be many deferred headers, so they are small.
 const _: () = prove!(size_of::<DeferredHeader>() == 24);
 
-/// What stands before the contents of a constructed value.
+/// Returns the header of a constructed value.
 #[inline(always)]
 pub fn header_for(rule: Codec, tag: Tag, count: usize) -> HeaderForm
     ensures { result ≡ head_of rule tag count }
@@ -45,7 +47,7 @@ pub fn header_for(rule: Codec, tag: Tag, count: usize) -> HeaderForm
     }
 }
 
-/// Counts the octets of a header.
+/// Returns the number of octets of a header.
 #[inline(always)]
 pub fn header_len(head: HeaderForm) -> usize
     ensures count { result ≡ length (header_octets head) }
@@ -76,7 +78,8 @@ fn write_header(octets: &mut Vec<u8>, head: HeaderForm)
     }
 }
 
-/// Fills the room for a header, which is written behind all and taken off there, and gives its octets that have no room.
+/// Writes the first two octets of a header into the room at `at`, and returns its other octets. The
+/// header is first written at the end of the vector, and then removed from there.
 #[inline(always)]
 fn fill_room(octets: &mut Vec<u8>, at: usize, head: HeaderForm) -> Result<HeaderRest, AllocError>
     requires { at + 2 ≤ vec_len octets.old }
@@ -95,7 +98,7 @@ fn fill_room(octets: &mut Vec<u8>, at: usize, head: HeaderForm) -> Result<Header
     Ok(rest)
 }
 
-/// Puts a deferred header in its place, where a header has more octets than there is room for.
+/// Inserts a deferred header at `index` if the header has octets for which there was no room.
 #[inline(always)]
 fn defer_rest(
     headers: &mut Vec<DeferredHeader>,
@@ -116,7 +119,7 @@ fn defer_rest(
     }
 }
 
-/// Puts end-of-contents octets behind all where the rule has them.
+/// Appends end-of-contents octets if the rule has them.
 #[inline(always)]
 fn append_end_of_contents(octets: &mut Vec<u8>, rule: Codec) -> Result<(), AllocError>
     ensures ok { OnOk result (octets.new.items ≡ octets.old.items ++ back rule) }
@@ -128,8 +131,9 @@ fn append_end_of_contents(octets: &mut Vec<u8>, rule: Codec) -> Result<(), Alloc
     octets.extend_from_slice(&[0, 0])
 }
 
-/// Puts the header of a value and what ends it round its contents, which stand behind the room at `at`, with the deferred headers from
-/// number `index` on. Where memory runs out, what stands before it stays.
+/// Writes the header of a value before its contents, and the end-of-contents octets, if any, after
+/// them. The contents follow the room at `at`, with the deferred headers from number `index` on. If
+/// an allocation fails, what is before the value stays as it is.
 #[inline(always)]
 pub fn enclose_contents(
     octets: &mut Vec<u8>,

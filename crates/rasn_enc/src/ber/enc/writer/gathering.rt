@@ -1,4 +1,5 @@
-//! Primitive values gathered, and others closed: each is counted into the list that it stands in.
+//! Gathering primitive values and closing constructed ones: each is counted in the length of its
+//! list.
 ghost use Rattle.std.specs.Prelude.{◌≡◌, ◌<◌, ◌≤◌, ◌+◌, ◌++◌, ◌∷◌, [], length, take, drop, suc, vec_len, IfOk, OnOk, OnErr};
 ghost use Rattle.rasn_enc.specs.Buffer.Lists.{tags_of};
 ghost use Rattle.rasn_enc.specs.Buffer.DeferredHeaders.{header_octets, head_of, back, Encloses};
@@ -14,7 +15,8 @@ use rasn_types::ber::rules::EncodingRules;
 use rasn_types::types::{Codec, Tag};
 use std::alloc::AllocError;
 
-/// Counts the octets from `at` on to those that were measured. Where they can't be counted, they are taken off.
+/// Returns the sum of `measured` and the number of octets from `at` on. If it overflows, the octets
+/// from `at` on are removed.
 fn count_from(gathered: &mut Vec<u8>, at: usize, measured: usize) -> Result<usize, AllocError>
     requires { at ≤ vec_len gathered.old }
     ensures total { IfOk result (λ n. n + at ≡ measured + vec_len gathered.old) }
@@ -30,7 +32,7 @@ fn count_from(gathered: &mut Vec<u8>, at: usize, measured: usize) -> Result<usiz
     }
 }
 
-/// Gathers a primitive value, and returns how long its list is then.
+/// Gathers a primitive value, and returns the new length of its list.
 #[inline(always)]
 pub fn gather<T: Contents>(
     gathered: &mut Vec<u8>,
@@ -52,7 +54,7 @@ pub fn gather<T: Contents>(
     Ok(total)
 }
 
-/// Gathers octets as they are, and answers how long their list is then.
+/// Gathers octets as they are, and returns the new length of their list.
 pub fn gather_octets(
     gathered: &mut Vec<u8>,
     measured: usize,
@@ -69,7 +71,7 @@ pub fn gather_octets(
     Ok(total)
 }
 
-/// Counts the end-of-contents octets of a rule.
+/// Returns the number of end-of-contents octets that a rule writes.
 fn back_len(rule: Codec) -> usize
     ensures count { result ≡ length (back rule) }
     ensures small { result < 3 }
@@ -93,8 +95,8 @@ fn sum(a: usize, b: usize, c: usize) -> Result<usize, AllocError>
     }
 }
 
-/// Closes a value of `count` contents octets: it stands behind the list that it interrupted. Where memory runs out, what was written before
-/// it stays.
+/// Closes a value of `count` contents octets, and appends it to the list that it interrupted. If an
+/// allocation fails, what was written before the value stays as it is.
 #[inline(always)]
 pub fn surround(
     gathered: &mut Vec<u8>,

@@ -1,7 +1,7 @@
-//! The octets of a header that come later than its first ones.
+//! The octets of a header after its first two.
 ghost use Rattle.std.specs.Prelude.{◌≡◌, ◌≤◌, [], length, take};
 
-/// At most 15 octets. No header has more, and the count of them fills the word.
+/// Up to 15 octets of a header. No header has more, and with their count they fill 16 octets.
 #[derive(Clone, Copy, Drop)]
 pub struct HeaderRest {
     octets: [u8; 15],
@@ -12,7 +12,7 @@ pub struct HeaderRest {
 impl HeaderRest {
     ghost use Rattle.rasn_enc.specs.Buffer.HeaderRest.{rest_octets};
 
-    /// No octets.
+    /// Makes an empty `HeaderRest`.
     pub fn new() -> HeaderRest
         ensures { rest_octets result ≡ [] }
     {
@@ -22,7 +22,7 @@ impl HeaderRest {
         }
     }
 
-    /// These octets.
+    /// Makes a `HeaderRest` of these octets.
     #[inline(always)]
     pub fn from_slice(octets: &[u8]) -> HeaderRest
         requires { length octets.now ≤ 15 }
@@ -36,21 +36,21 @@ impl HeaderRest {
         }
     }
 
-    /// The octets.
+    /// Returns the octets.
     pub fn as_slice(&self) -> &[u8]
         ensures { result.now ≡ rest_octets self.now }
     {
         &self.octets[..usize::from(self.count)]
     }
 
-    /// Counts the octets.
+    /// Returns the number of octets.
     pub fn len(&self) -> usize
         ensures { result ≡ length (rest_octets self.now) }
     {
         usize::from(self.count)
     }
 
-    /// Leaves the first so many of the octets.
+    /// Keeps the first `count` octets.
     pub fn truncate(&mut self, count: usize)
         requires { count ≤ length (rest_octets self.old) }
         ensures { rest_octets self.new ≡ take count (rest_octets self.old) }

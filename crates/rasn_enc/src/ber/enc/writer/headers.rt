@@ -7,10 +7,11 @@ ghost use Rattle.rasn_enc.specs.Headers.{digits, octet_count, id_octets, length_
 use crate::ber::enc::writer::base_128::{count_groups, write_groups};
 use rasn_types::types::{Class, Tag};
 
-/// The first octet of a length that isn't told, which end-of-contents octets end (X.690 8.1.3.6).
+/// The length octet of the indefinite form, in which end-of-contents octets end the contents
+/// (X.690 8.1.3.6).
 pub const INDEFINITE_LENGTH: u8 = 128;
 
-/// How many octets the identifier of a tag takes.
+/// Returns the number of identifier octets of a tag.
 #[inline(always)]
 pub fn identifier_len(tag: Tag) -> usize
     ensures exact { (bit : Bool) → length (id_octets tag bit) ≡ result }
@@ -23,7 +24,7 @@ pub fn identifier_len(tag: Tag) -> usize
     }
 }
 
-/// How many octets a length takes in the definite form.
+/// Returns the number of octets that a length takes in the definite form.
 #[inline(always)]
 pub fn length_len(count: usize) -> usize
     ensures exact { length (length_octets count) ≡ result }
@@ -67,7 +68,7 @@ pub fn write_length(out: &mut Vec<u8>, count: usize)
     }
 }
 
-/// Gives the first identifier octet: the class, the constructed bit and five bits of the number.
+/// Returns the first identifier octet: the class, the constructed bit and five bits of the number.
 #[inline(always)]
 fn leading_octet(class: Class, constructed: bool, low: u8) -> u8
     requires { low < 32 }
@@ -77,7 +78,7 @@ fn leading_octet(class: Class, constructed: bool, low: u8) -> u8
     64 * rank(class) + (bit + low)
 }
 
-/// The place of a class in the order of tags.
+/// Returns the position of a class in the order of tags.
 #[inline(always)]
 pub fn rank(class: Class) -> u8
     ensures exact { result ≡ rank_of class }
@@ -91,7 +92,7 @@ pub fn rank(class: Class) -> u8
     }
 }
 
-/// Counts the octets that a number takes.
+/// Returns the number of octets that a number takes in base 256.
 fn count_octets(number: usize) -> usize
     ensures { result ≡ octet_count number }
 {
@@ -114,7 +115,7 @@ fn count_octets(number: usize) -> usize
     }
 }
 
-/// Writes a number in base 256.
+/// Writes a number in base 256, the most significant octet first.
 fn write_octets(out: &mut Vec<u8>, number: usize)
     requires { vec_len out.old + octet_count number ≤ vec_capacity out.old }
     ensures items { out.new.items ≡ out.old.items ++ digits 256 (octet_count number) number }

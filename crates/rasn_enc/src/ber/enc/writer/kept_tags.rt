@@ -1,4 +1,4 @@
-//! The tags that a list keeps, where it does.
+//! The tags that a list keeps, if it keeps any.
 ghost use Rattle.std.specs.Prelude.{◌≡◌, ◌++◌, ◌∷◌, [], take, option_map, OnOk};
 ghost use Rattle.rasn_types.specs.Truth.{IsWhether, IsUnless};
 ghost use Rattle.rasn_types.specs.Tags.{IsTagBelow};
@@ -9,7 +9,7 @@ ghost use Rattle.rasn_enc.specs.Order.{FallsAt};
 use rasn_types::types::Tag;
 use std::alloc::AllocError;
 
-/// Makes room for one more tag.
+/// Reserves room for one more tag, if tags are kept.
 pub fn reserve_tag(tags: &mut Option<Vec<Tag>>) -> Result<(), AllocError>
     ensures same { tags_of tags.new ≡ tags_of tags.old }
     ensures room { OnOk result (HasRoom tags.new) }
@@ -20,7 +20,7 @@ pub fn reserve_tag(tags: &mut Option<Vec<Tag>>) -> Result<(), AllocError>
     }
 }
 
-/// Puts a tag behind those that are kept.
+/// Appends a tag to those that are kept.
 pub fn record_tag(tags: &mut Option<Vec<Tag>>, tag: Tag)
     requires { HasRoom tags.old }
     ensures { tags_of tags.new ≡ option_map (λ kept. kept ++ tag ∷ []) (tags_of tags.old) }
@@ -30,7 +30,7 @@ pub fn record_tag(tags: &mut Option<Vec<Tag>>, tag: Tag)
     }
 }
 
-/// Leaves the first so many of them.
+/// Keeps the first `count` tags.
 pub fn cut_tags(tags: &mut Option<Vec<Tag>>, count: usize)
     ensures { tags_of tags.new ≡ option_map (take count) (tags_of tags.old) }
 {
@@ -39,7 +39,7 @@ pub fn cut_tags(tags: &mut Option<Vec<Tag>>, count: usize)
     }
 }
 
-/// Whether some tag is below the one before it.
+/// Returns whether a tag is below the one before it.
 pub fn tags_out_of_order(tags: &[Tag]) -> bool
     ensures { IsUnless result (AreAscending IsTagBelow tags.now) }
 {
@@ -53,7 +53,7 @@ pub fn tags_out_of_order(tags: &[Tag]) -> bool
     false
 }
 
-/// Whether the tag that follows is below this one.
+/// Returns whether the tag that follows is below this one.
 fn is_out_of_order_at(tag: Tag, after: &[Tag]) -> bool
     ensures { IsWhether result (FallsAt tag after.now) }
 {

@@ -6,7 +6,7 @@ use crate::ber::enc::writer::Open;
 use std::alloc::AllocError;
 use std::mem;
 
-/// Puts the innermost open value behind those around it.
+/// Moves the innermost open value, if there is one, to the end of those around it.
 #[inline(always)]
 pub fn push_innermost(
     around: &mut Vec<Open>,
@@ -27,7 +27,7 @@ pub fn push_innermost(
     }
 }
 
-/// Takes the innermost open value off: the last of those around it is the innermost then.
+/// Removes and returns the innermost open value. The last of those around it becomes the innermost.
 #[inline(always)]
 pub fn pop_innermost(around: &mut Vec<Open>, innermost: &mut Option<Open>) -> Open
     requires { IsSome innermost.old }

@@ -1,4 +1,4 @@
-//! Gathered octets and what deferred headers hold, put together from the back.
+//! Rendering: the octets of deferred headers are inserted into the gathered octets, from the back.
 ghost use Rattle.std.specs.Prelude.{◌≡◌, ◌<◌, ◌≤◌, ◌+◌, ◌-◌, ◌++◌, length, take, drop, IfOk, OnOk, OnErr};
 ghost use Rattle.rasn_enc.specs.Buffer.DeferredHeaders.{deferred_octets, rendered, Rising, header_octets_count, front_run};
 ghost use Rattle.rasn_enc.specs.Buffer.Moves.{Moves};
@@ -7,7 +7,8 @@ use crate::ber::enc::writer::deferred_headers::DeferredHeader;
 use std::alloc::AllocError;
 use std::simd::Simd;
 
-/// Moves octets up in blocks, the last first, until fewer than a block are left in front of them. The answer is where those end.
+/// Moves octets up by `by` in blocks of `N`, the last block first, until fewer than `N` octets
+/// remain. Returns the end of the octets that remain.
 fn move_blocks<const N: usize>(buffer: &mut [u8], at: usize, end: usize, by: usize) -> usize
     requires some { 0 < N }
     requires order { at ≤ end }
@@ -23,7 +24,7 @@ fn move_blocks<const N: usize>(buffer: &mut [u8], at: usize, end: usize, by: usi
     left
 }
 
-/// Moves the octets from `at` to `end` up.
+/// Moves the octets from `at` to `end` up by `by`.
 fn move_up(buffer: &mut [u8], at: usize, end: usize, by: usize)
     requires order { at ≤ end }
     requires within { end + by ≤ length buffer.old }
@@ -34,7 +35,7 @@ fn move_up(buffer: &mut [u8], at: usize, end: usize, by: usize)
     buffer.copy_within(at..left, at + by);
 }
 
-/// Writes octets from a place on.
+/// Writes octets into the buffer, from `at` on.
 fn write_at(buffer: &mut [u8], at: usize, octets: &[u8])
     requires { at + length octets.now ≤ length buffer.old }
     ensures { buffer.new ≡ take at buffer.old ++ (octets.now ++ drop (at + length octets.now) buffer.old) }
@@ -42,8 +43,8 @@ fn write_at(buffer: &mut [u8], at: usize, octets: &[u8])
     buffer[at..at + octets.len()].copy_from_slice(octets);
 }
 
-/// Moves the octets from the deferred header to `from` behind all that is unrendered, to end at `to`, and puts its own in front of them.
-/// The answer is how many octets were written.
+/// Moves the octets from the deferred header's place to `from` up, to end at `to`, and writes the
+/// header's own octets before them. Returns the number of octets written.
 fn splice_header(buffer: &mut [u8], header: DeferredHeader, from: usize, to: usize) -> usize
     requires order { header.at ≤ from }
     requires within { to ≤ length buffer.old }
@@ -59,8 +60,9 @@ fn splice_header(buffer: &mut [u8], header: DeferredHeader, from: usize, to: usi
     run + n
 }
 
-/// The buffer holds `gathered` octets in front, and is as long as what they and the deferred headers stand for, which it then holds.
-/// The answer is the number of copies: of gathered octets that were put in their places, and of octets of deferred headers.
+/// Renders a buffer that begins with `gathered` octets and has the length of the rendered octets.
+/// Returns the number of copies: of gathered octets that are moved to their places, and of octets
+/// of deferred headers.
 fn render(buffer: &mut [u8], gathered: usize, headers: &[DeferredHeader]) -> usize
     requires rising { Rising 0 headers.now gathered }
     requires room { length buffer.old ≡ gathered + header_octets_count headers.now }
@@ -83,7 +85,8 @@ fn render(buffer: &mut [u8], gathered: usize, headers: &[DeferredHeader]) -> usi
     copies
 }
 
-/// Puts the octets of all deferred headers in between the gathered octets. The vector grows once, where there is one.
+/// Inserts the octets of all deferred headers into the gathered octets. The vector grows once, if
+/// there is a deferred header.
 #[inline(always)]
 fn rendered_in(
     gathered: Vec<u8>,
@@ -104,7 +107,8 @@ fn rendered_in(
     Ok(buffer)
 }
 
-/// Puts the octets of all deferred headers in between the gathered octets of a list that begins at `start`: the octets before it are taken off.
+/// Inserts the octets of all deferred headers into the gathered octets of a list that begins at
+/// `start`, and removes the octets before the list.
 #[inline(always)]
 pub fn rendered_from(
     gathered: Vec<u8>,
@@ -124,7 +128,7 @@ pub fn rendered_from(
     Ok(octets)
 }
 
-/// Takes so many octets off the front.
+/// Removes the first `count` octets.
 fn cut_front(octets: &mut Vec<u8>, count: usize)
     requires { count ≤ length octets.old.items }
     ensures { octets.new.items ≡ drop count octets.old.items }
@@ -134,7 +138,7 @@ fn cut_front(octets: &mut Vec<u8>, count: usize)
     }
 }
 
-/// Makes a vector longer: it then has so many octets, those that it had first.
+/// Grows a vector to `whole` octets, the first of which are those that it had.
 fn grow(buffer: &mut Vec<u8>, whole: usize) -> Result<(), AllocError>
     requires { length buffer.old.items ≤ whole }
     ensures len { OnOk result (length buffer.new.items ≡ whole) }

@@ -1,4 +1,4 @@
-//! Octets without a header of their own.
+//! Octets without a header.
 ghost use Rattle.std.specs.Prelude.{◌≡◌, None, [], IfErr, OnOk, OnErr};
 ghost use Rattle.rasn_types.specs.Truth.{IsUnless};
 ghost use Rattle.rasn_enc.specs.View.{appended};
@@ -9,14 +9,14 @@ use crate::ber::enc::{Encoder, out_of_memory};
 use rasn_types::error::EncodeError;
 
 impl Encoder {
-    /// Whether the last list keeps the outermost tags of what stands in it.
+    /// Returns whether the last list keeps the outermost tags of its values.
     pub(crate) fn keeps_tags(&self) -> bool
         ensures { IsUnless result (self.now.last.tags ≡ None) }
     {
         self.list.tags.is_some()
     }
 
-    /// Puts octets behind the last list, without a header and without a tag.
+    /// Appends octets to the last list, without a header and without a tag.
     pub(crate) fn append_encoded(&mut self, octets: &[u8]) -> Result<(), EncodeError>
         ensures ok { OnOk result (self.new ≡ appended self.old octets.now []) }
         ensures err { OnErr result (self.new ≡ self.old) }
