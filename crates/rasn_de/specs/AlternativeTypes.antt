@@ -28,12 +28,12 @@ abbrev pub is_other : Option Tag → Tag → Bool
 is_other None t = false
 is_other (Some u) t = not (same_tag u t)
 
--- Whether each of these alternatives has a tag of its own, which isn't t.
+-- Whether each of the parts has a tag of its own, which isn't t.
 abbrev pub none_begins : Parts → Tag → Bool
 none_begins none t = true
 none_begins (part p s ps) t = is_other (own s) t && none_begins ps t
 
--- Whether the shape has this tag of its own, and none of the others has it.
+-- Whether this is the shape's own tag, and each of the parts has another tag of its own.
 abbrev pub is_first_alone : Shape → Tag → Parts → Bool
 is_first_alone s tag ps = same_own (own s) (Some tag) && none_begins ps tag
 

@@ -27,7 +27,7 @@ abbrev pub BeyondOptional : {A : Type 0} → Beyond A → Beyond (Option A)
 BeyondOptional part old (Some v) new = part old v new
 BeyondOptional part old None new = new ≡ old
 
--- The parts of a SEQUENCE with this tag.
+-- What the parts of a SEQUENCE with this tag keep.
 abbrev pub BeyondInside : {D : Type 0} → Beyond D → Tag → State → D → Type 0
 BeyondInside parts tag old v =
     (h : Header) × (constructed_header_at (sequence_header tag) old.rule old.depth old.rest ≡ Ok h) × (left : State) × parts (contents_state (sequence_header tag) old h) v left

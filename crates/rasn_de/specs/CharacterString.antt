@@ -38,18 +38,18 @@ abbrev pub IsOutsideAlphabet : Alphabet → List ℕ → ParseError → Type 0
 IsOutsideAlphabet a l f = (k : ℕ) × (k < length l) × AllWithin (IsAdmitted a) l 0 k × (IsAdmitted a (slice_index l k) → ⊥)
     × (f ≡ PermittedAlphabetError (slice_index l k) k)
 
--- The number of octets is within the size; after that, each octet is in the alphabet.
+-- The number of octets is within the size, which is checked first, and each octet is in the alphabet.
 abbrev pub ByAlphabet : Alphabet → Option (Bound ℕ) → StringCheck
 ByAlphabet a size l (Ok ns) = (ns ≡ l) × Admits ◌≤◌ size (length l) × AreAdmitted a l
 ByAlphabet a size l (Err f) = IsOutOfSize size (length l) f ⊎ (Admits ◌≤◌ size (length l) × IsOutsideAlphabet a l f)
 
--- The octets mean characters; after that, the number of characters is within the size.
+-- The octets mean characters, which is checked first, and the number of characters is within the size.
 abbrev pub ByCharacters : (List ℕ → List ℕ → Type 0) → Tag → Option (Bound ℕ) → StringCheck
 ByCharacters Mean tag size l (Ok ns) = Mean l ns × Admits ◌≤◌ size (length ns)
 ByCharacters Mean tag size l (Err f) =
     (((ns : List ℕ) → Mean l ns → ⊥) × (f ≡ StringConversionFailed tag)) ⊎ ((ns : List ℕ) × Mean l ns × IsOutOfSize size (length ns) f)
 
--- There are n octets; after that, n is within the size.
+-- There are n octets, which is checked first, and n is within the size.
 abbrev pub ByLength : ℕ → Option (Bound ℕ) → StringCheck
 ByLength n size l (Ok ns) = (ns ≡ l) × (length l ≡ n) × Admits ◌≤◌ size (length l)
 ByLength n size l (Err f) =
@@ -63,11 +63,11 @@ abbrev pub BySize : Option (Bound ℕ) → StringCheck
 BySize size l (Ok ns) = (ns ≡ l) × Admits ◌≤◌ size (length l)
 BySize size l (Err f) = IsOutOfSize size (length l) f
 
--- The octets are UTF-8; after that, the number of characters is within the size.
+-- The octets are UTF-8, which is checked first, and the number of characters is within the size.
 abbrev pub ByUtf8 : Option (Bound ℕ) → StringCheck
 ByUtf8 size = ByCharacters AreUtf8 UTF8_STRING size
 
--- The octets are 16-bit units; after that, the number of units is within the size.
+-- The octets are 16-bit units, which is checked first, and the number of units is within the size.
 abbrev pub ByUnits : Option (Bound ℕ) → StringCheck
 ByUnits size = ByCharacters units BMP_STRING size
 

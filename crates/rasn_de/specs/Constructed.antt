@@ -87,7 +87,7 @@ module _ {D : Type 0} (read : Call D) (d : ConstructedHeader) (old : State) wher
     not_closed : (h : Header) → constructed_header_at d old.rule old.depth old.rest ≡ Ok h → (v : D) (left : State) → read (contents_state d old h) (Ok v) left
         → (f : ParseError) → end_at h.extent h.rest left.rest ≡ Err f → IsErrorOf f old e → rest ≡ unclosed h.extent h.rest left.rest → FailsInside e rest
 
-  -- What the one call inside returned, and how the value was closed.
+  -- What the one call inside returns, and how the value is closed.
   pub record FinishesInside (v : D) (rest : List ℕ) : Type 0 where
     pub header : Header
     pub opened : constructed_header_at d old.rule old.depth old.rest ≡ Ok header

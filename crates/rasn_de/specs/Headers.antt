@@ -1,4 +1,4 @@
--- Headers, read octet by octet from the left, up to the value or to the first fault.
+-- Headers, read octet by octet from the left, up to the contents or to the first fault.
 use Rattle.std.specs.Prelude.{ℕ, ◌+◌, ◌-◌, ◌*◌, ◌/◌, ◌%◌, Bool, true, false, ◌&&◌, ◌||◌, nat_eq, nat_lt, nat_le, if◌then◌else◌, List, [], ◌∷◌, length, take, drop, Option, Some, None, Result, Ok, Err}
 use Rattle.std.specs.Bool.{beq}
 use Rattle.rasn_types.specs.declared.types.tag.Tag.{Tag}
@@ -83,7 +83,7 @@ number256_at n (b ∷ l) = if nat_le 0x100_0000_0000_0000 n then Err LengthExcee
 abbrev pub first_octets : ℕ → List ℕ → Result (List ℕ × List ℕ) ParseError
 first_octets k l = if nat_lt (length l) k then Err (Incomplete (k - length l)) else Ok (take k l, drop k l)
 
--- Fewer octets could encode the length that these encode: the first of these is zero, or the short form would do.
+-- Fewer octets could encode the length that these encode: the first one is zero, or the length fits in the short form.
 abbrev pub begins_with_zero : List ℕ → Bool
 begins_with_zero [] = false
 begins_with_zero (b ∷ l) = nat_eq b 0

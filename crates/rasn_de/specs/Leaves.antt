@@ -78,7 +78,7 @@ abbrev pub ChecksIntegerContents : Codec → List ℕ → Result (Unit {0}) Pars
 ChecksIntegerContents rule c (Ok u) = IsIntegerContents rule c
 ChecksIntegerContents rule c (Err f) = IsNotIntegerContents rule c f
 
--- The contents of an INTEGER (8.3), of a type that has width bits and the numbers in range, within bounds.
+-- The contents of an INTEGER (8.3) that is within bounds, for a type of width bits with the numbers in range.
 abbrev pub IntegerIn : Codec → ℕ → Interval → Constraints → List ℕ → Result ℤ Cause → Type 0
 IntegerIn rule width range bounds c (Ok z) = IsIntegerContents rule c × IsIn range (signed c) × Admits ◌≤ℤ◌ bounds.value (signed c) × (z ≡ signed c)
 IntegerIn rule width range bounds c (Err (fault f)) = IsNotIntegerContents rule c f ⊎ (IsIntegerContents rule c × (IsIn range (signed c) → ⊥) × (f ≡ IntegerOverflow width))
@@ -98,13 +98,13 @@ DecodesLeaf see Is old (Ok v) new = Is (Ok (see v, new.rest)) × (new ≡ at old
 DecodesLeaf see Is old (Err e) new = FailsAs Is old e new
 
 -- A call returns the result of reading an INTEGER. If an allocation fails, the contents encode a number that Takes says
--- is allocated, and the value is consumed.
+-- is stored on the heap, and the value is consumed.
 abbrev pub DecodesInteger : {X : Type 0} → (X → ℤ) → (ℤ → Type 0) → Tag → Readings ℤ → State → Result X DecodeError → State → Type 0
 DecodesInteger see Takes tag Is old (Ok v) new = DecodesLeaf see Is old (Ok v) new
 DecodesInteger see Takes tag Is old (Err e) new =
     (IsOutOfMemory e.kind × (e.codec ≡ old.rule) × (new ≡ at old new.rest) × (c : List ℕ) × (definite_at old.rule tag old.rest ≡ Ok (c, new.rest)) × IsIntegerContents old.rule c × Takes (signed c)) ⊎ FailsAs Is old e new
 
--- A call reads an INTEGER of a type that has width bits and the numbers in range, within bounds.
+-- A call reads an INTEGER that is within bounds, for a type of width bits with the numbers in range.
 abbrev pub DecodesNumber : {X : Type 0} → (X → ℤ) → (ℤ → Type 0) → ℕ → Interval → Tag → Constraints → State → Result X DecodeError → State → Type 0
 DecodesNumber see Takes width range tag bounds old result new = DecodesInteger see Takes tag (IntegerAt width range bounds old.rule tag old.rest) old result new
 
@@ -112,11 +112,11 @@ DecodesNumber see Takes width range tag bounds old result new = DecodesInteger s
 abbrev pub IsOutOfBound : Readings ℤ → List ℕ → Type 0
 IsOutOfBound Is rest = (z : ℤ) × (bound : Bounded ℤ) × Is (Err (out_of_bound z bound, rest))
 
--- The next number is one that is allocated.
+-- The next number is one that is stored on the heap.
 abbrev pub TakesThere : (ℤ → Type 0) → Tag → State → List ℕ → Type 0
 TakesThere Takes tag old rest = (c : List ℕ) × (definite_at old.rule tag old.rest ≡ Ok (c, rest)) × Takes (signed c)
 
--- An allocation can fail only for a number that is allocated, or for the error of a number out of its bound.
+-- An allocation can fail only for a number that is stored on the heap, or for the error of a number out of its bound.
 abbrev pub AllocMayFail : {X : Type 0} → (ℤ → Type 0) → ℕ → Interval → Tag → Constraints → State → Result X DecodeError → State → Type 0
 AllocMayFail Takes width range tag bounds old result new =
     IfErr result (λ e. IsOutOfMemory e.kind → TakesThere Takes tag old new.rest ⊎ IsOutOfBound (IntegerAt width range bounds old.rule tag old.rest) new.rest)

@@ -27,8 +27,8 @@ first_two s = min 2 (s / 40) ∷ (s - 40 * min 2 (s / 40)) ∷ []
 abbrev pub ReadsArcs : Codec → List ℕ → List ℕ → Type 0
 ReadsArcs rule c arcs = IsObjectIdentifier c arcs × (IsStrict rule → IsShortest object_identifier c)
 
--- After whole subidentifiers, the next one can't be read (8.19.2): its octets are cut short, its value is 2 ^ 32 or
--- more, or under the strict rule it has superfluous octets. There must be a first one.
+-- After whole subidentifiers, the next one can't be read (8.19.2): octets of it are missing, its value is 2 ^ 32 or
+-- more, or under the strict rule it has superfluous octets. Contents must have at least one subidentifier.
 pub record FailsAtSubidentifier (rule : Codec) (c : List ℕ) (f : ParseError) : Type 0 where
   pub front : List ℕ
   pub numbers : List ℕ
@@ -57,8 +57,8 @@ abbrev pub ParsesArcs : Codec → List ℕ → Result (List ℕ) ParseError → 
 ParsesArcs rule c (Ok arcs) = ReadsArcs rule c arcs
 ParsesArcs rule c (Err f) = ((f ≡ OutOfMemory) × HasFirstSubidentifier rule c) ⊎ FailsAtSubidentifier rule c f
 
--- What a decoder returns for contents that are read by rule. Its errors name the decoder's own rule, which is named. An
--- allocation can fail only after the first subidentifier.
+-- What a decoder returns for contents that are read by rule. Its errors name the decoder's own rule, the first
+-- argument. An allocation can fail only after the first subidentifier.
 abbrev pub DecodesArcs : Codec → Codec → List ℕ → Result (List ℕ) DecodeError → Type 0
 DecodesArcs named rule c (Ok arcs) = ReadsArcs rule c arcs
 DecodesArcs named rule c (Err e) = (e.codec ≡ named) × ((IsOutOfMemory e.kind × HasFirstSubidentifier rule c) ⊎ ((f : ParseError) × FailsAtSubidentifier rule c f × (e.kind ≡ error_kind f)))

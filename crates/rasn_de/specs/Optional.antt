@@ -47,8 +47,8 @@ abbrev pub MakesValue : {D : Type 0} → (Result D AllocError → Type 0) → St
 MakesValue made s (Ok v) = made (Ok v)
 MakesValue made s (Err e) = (x : AllocError) × made (Err x) × IsErrorOf OutOfMemory s e
 
--- A value that has a default. The default is made at most once: if the value is left out, or if a value is present
--- under the strict rule, which must not equal the default.
+-- A value that has a default. The default is made at most once: if the value is left out, or, under the strict rule, if
+-- a value is present, since it must not equal the default.
 module _ {D : Type 0} (read : Call D) (tree : D → Tree) (made : Result D AllocError → Type 0) (tag : Tag) (old : State) where
   -- The cause of an error, and the remaining input. A value that was read before the error is consumed.
   pub data FailsWithDefault (e : DecodeError) (new : State) : Type 0 where

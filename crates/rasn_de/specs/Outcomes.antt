@@ -6,7 +6,7 @@ use Rattle.rasn_types.specs.declared.error.decode.DecodeError.{DecodeError}
 use Rattle.rasn_types.specs.Shapes.{Tree}
 use Rattle.rasn_types.specs.Readings.{Reading}
 
--- A tree and the remaining input; a refusal; or an allocation that failed.
+-- A tree and the remaining input; a refusal; or a failed allocation.
 pub data Outcome : Type 0 where
   Got : Tree → List ℕ → Outcome
   Refused : Outcome

@@ -11,7 +11,7 @@ use Rattle.rasn_de.specs.declared.ber.de.parser.Contents.{Contents}
 use Rattle.rasn_de.specs.declared.ber.de.parser.Contents.TheVariants.{Definite, Indefinite}
 use Rattle.rasn_de.specs.declared.ber.de.parser.Value.{Value}
 
--- A function returned, seen by view, what reading returns.
+-- The result of a function, with view applied to its value, is the result of reading.
 abbrev pub ParsesAs : {X Y : Type 0} → (X → Y) → Result X ParseError → Result Y ParseError → Type 0
 ParsesAs view (Ok x) read = read ≡ Ok (view x)
 ParsesAs view (Err e) read = read ≡ Err e

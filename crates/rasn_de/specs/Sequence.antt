@@ -23,7 +23,7 @@ is_empty (b ∷ l) = false
 abbrev pub is_read_by_initializer : ℕ → Bool → Bool → List ℕ → Bool
 is_read_by_initializer root extensible needs_field input = is_fieldless root extensible || (not needs_field && is_empty input)
 
--- What an initializer returns: its value, or OutOfMemory; without an initializer, the error that there are no contents.
+-- What an initializer returns: its value, or OutOfMemory; without an initializer, UnexpectedEmptyInput.
 abbrev pub MakesInitial : {I D : Type 0} → (I → Result D AllocError → Type 0) → Option I → State → Result D DecodeError → Type 0
 MakesInitial made None s (Ok v) = ⊥
 MakesInitial made None s (Err e) = IsErrorOf UnexpectedEmptyInput s e

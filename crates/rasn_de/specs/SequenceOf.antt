@@ -29,7 +29,7 @@ ReadsSetElements s rule depth closing input t rest = (ts : List Tree) × (t ≡ 
 
 -- What reads of elements do, one after the other.
 module _ {D : Type 0} (read : Call D) where
-  -- These elements were read, and each consumed octets.
+  -- These elements are read, and each consumes octets.
   abbrev pub DecodesInTurn : State → List D → State → Type 0
   DecodesInTurn old [] here = here ≡ old
   DecodesInTurn old (v ∷ vs) here = (next : State) × (Ended old.closing old.rest → ⊥) × read old (Ok v) next × (length next.rest ≢ length old.rest) × DecodesInTurn next vs here
@@ -39,7 +39,7 @@ module _ {D : Type 0} (read : Call D) where
   FailsAtElement here e new = read here (Err e) new
       ⊎ ((v : D) × read here (Ok v) new × (((length new.rest ≡ length here.rest) × IsErrorOf (UnexpectedExtraData (length here.rest)) here e) ⊎ IsErrorOf OutOfMemory here e))
 
-  -- One more element, which consumed octets, is appended to the others.
+  -- One more element, which consumes octets, is appended to the others.
   abbrev pub DecodesElement : State → List D → Result (Unit {0}) DecodeError → State → List D → Type 0
   DecodesElement old vs (Ok u) new all = (v : D) × (all ≡ vs ++ (v ∷ [])) × read old (Ok v) new × (length new.rest ≢ length old.rest)
   DecodesElement old vs (Err e) new all = FailsAtElement old e new
@@ -49,7 +49,7 @@ module _ {D : Type 0} (read : Call D) where
   DecodesElements elements old (Ok v) new = DecodesInTurn old (elements v) new × Ended new.closing new.rest
   DecodesElements elements old (Err e) new = (vs : List D) × (here : State) × DecodesInTurn old vs here × (Ended here.closing here.rest → ⊥) × FailsAtElement here e new
 
-  -- These elements were read from these octets, and each consumed octets.
+  -- These elements are read from these octets, and each consumes some.
   abbrev pub DecodesInTurnFrom : State → List D → List (List ℕ) → State → Type 0
   DecodesInTurnFrom old [] bs here = (bs ≡ []) × (here ≡ old)
   DecodesInTurnFrom old (v ∷ vs) bs here = (b : List ℕ) × (more : List (List ℕ)) × (next : State) × (bs ≡ b ∷ more) × (old.rest ≡ b ++ next.rest)

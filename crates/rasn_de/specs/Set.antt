@@ -30,7 +30,7 @@ PeeksInOrder last s (Err e) = IsStrict s.rule
     × (PeeksTag s (Err e) ⊎ ((tag : Tag) × NextTag (form s.rule) s.rest tag × IsBelowLast tag last × IsErrorOf (Der SetComponentsOutOfOrder) s e))
 
 module _ {D : Type 0} (read : Call D) where
-  -- Components were read from these octets. Under the strict rule their tags are in ascending order (10.3).
+  -- Components are read from these octets. Under the strict rule their tags are in ascending order (10.3).
   abbrev pub DecodesInTagOrder : State → List D → List (List ℕ) → State → Type 0
   DecodesInTagOrder old vs bs here = DecodesInTurnFrom read old vs bs here × (IsStrict old.rule → AreInTagOrder bs)
 
@@ -59,7 +59,7 @@ MakesByRules {F} {D} rule made = (fields : Vec F Global) (r : Result D DecodeErr
 abbrev pub DecodesSetBy : {F D : Type 0} → Call F → (Vec F Global → Result D DecodeError → Type 0) → Tag → Call D
 DecodesSetBy {F} read made tag = DecodesInside (DecodesSetContents (DecodesComponents read (λ (v : Vec F Global). v.items)) made) (sequence_header tag)
 
--- The components that were read are these parts.
+-- The readings of the components, in any order, are these parts, and t is their tree.
 abbrev pub AreParts : Parts → List Tree → Tree → Type 0
 AreParts parts readings t = (ts : List Tree) × (t ≡ items ts) × ByPart 0 (presences parts) readings ts
 

@@ -90,13 +90,14 @@ module _ (ps : Parts) (names : List (List ℕ)) (before : List (Option Tree)) (o
   abbrev pub DecodesComponent : ℕ → Tree → State → Type 0
   DecodesComponent k u new = Decodes (choice ps) (λ (t : Tree). t) old (Ok (chosen k u)) new × (length new.rest ≢ length old.rest)
 
-  -- One more component is read in this way, and consumed octets.
+  -- One more component is read in the same way, and consumes octets.
   abbrev pub DecodesNext : Result (Option (Bor (List ℕ))) DecodeError → State → List (Option Tree) → Type 0
   DecodesNext (Ok None) new held = (k : ℕ) × (u : Tree) × IsPlacedAt before k u held × DecodesComponent k u new
   DecodesNext (Ok (Some told)) new held = (k : ℕ) × (u : Tree) × IsFilled before k × (held ≡ before) × (text told ≡ name_at names k) × DecodesComponent k u new
   DecodesNext (Err e) new held = FailsAtElement (Decodes (choice ps) (λ (t : Tree). t)) old e new
 
--- Each part is the value in its slot or, if the slot is empty, the value of a part that may be left out and is.
+-- Each part is the value in its slot. If the slot is empty, the part is one that may be left out, and is absent or its
+-- default.
 abbrev pub AreGathered : List Presence → List (Option Tree) → List Tree → Type 0
 AreGathered [] [] ts = ts ≡ []
 AreGathered [] (h ∷ held) ts = ⊥
@@ -114,7 +115,7 @@ LacksSlot (p ∷ ps) [] k = ⊥
 LacksSlot (p ∷ ps) (h ∷ held) zero = (p ≡ required) × (h ≡ None)
 LacksSlot (p ∷ ps) (h ∷ held) (suc k) = (p ≡ required → h ≢ None) × LacksSlot ps held k
 
--- The error reports that part; or an allocation failed.
+-- The error reports the first required part that is missing; or an allocation failed.
 abbrev pub IsLackOf : Parts → List (List ℕ) → Codec → List (Option Tree) → DecodeError → Type 0
 IsLackOf ps names rule held e = IsOutOfMemory e.kind ⊎ ((k : ℕ) × LacksSlot (presences ps) held k × IsNamedError (IsMissingField (name_at names k)) rule e)
 
@@ -138,7 +139,7 @@ pub record RepeatsFirst (ps : Parts) (k : ℕ) (readings : List Tree) : Type 0 w
   pub is_part : IsPart k ps
   pub read : (t : Tree) × OneOf k t before
 
--- The first required part that wasn't read is part k of these, the first of which has the number j.
+-- The first required part that isn't read is part k of these, the first of which has the number j.
 abbrev pub LacksFirst : ℕ → List Presence → List Tree → ℕ → Type 0
 LacksFirst j [] readings k = ⊥
 LacksFirst j (p ∷ ps) readings zero = (p ≡ required) × NoneOf j readings

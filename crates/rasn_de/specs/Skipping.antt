@@ -16,15 +16,14 @@ pub record Skipped (rule : Codec) (input : List ℕ) (t : ℕ) (rest : List ℕ)
   pub is : input ≡ text ++ rest
   pub steps_are : t ≡ steps_in whole
 
--- Complete encodings up to their end-of-contents octets, and one more step that skips these octets.
+-- Complete encodings up to their end-of-contents octets, with one more step for these octets.
 pub record EncodingsToEnd (rule : Codec) (input : List ℕ) (t : ℕ) (rest : List ℕ) : Type 0 where
   pub nested : List ℕ
   pub inside : CompleteEncodings rule nested
   pub is : input ≡ nested ++ (0 ∷ 0 ∷ rest)
   pub steps_are : t ≡ 1 + steps_of inside
 
--- The list follows, in the input, complete encodings and the headers of values that aren't closed, the number of which
--- is given.
+-- In the input, the list follows complete encodings, and a given number of headers whose values aren't closed.
 abbrev pub IsNestedIn : Codec → ℕ → List ℕ → List ℕ → Type 0
 IsNestedIn rule zero input l = (nested : List ℕ) × CompleteEncodings rule nested × (input ≡ nested ++ l)
 IsNestedIn rule (suc m) input l =

@@ -24,6 +24,6 @@ IsEnd m l = (front : List ℕ) × (m ≡ front ++ l)
 abbrev pub Call : Type 0 → Type 1
 Call D = State → Result D DecodeError → State → Type 0
 
--- Whatever these calls do, those calls do too.
+-- Every result that these allow, those allow too.
 abbrev pub EachCall : {D : Type 0} → Call D → Call D → Type 0
 EachCall {D} these those = (o : State) (r : Result D DecodeError) (n : State) → these o r n → those o r n

@@ -19,7 +19,7 @@ use Rattle.rasn_de.specs.State.{State, at}
 abbrev pub AtAnyOffset : (List ℕ → Stamp → Type 0) → List ℕ → Moment → Type 0
 AtAnyOffset R text m = (offset : ℤ) × R text (record { moment = m; offset = offset })
 
--- The error contains the whole text, which isn't a valid time.
+-- The error contains the whole text, which isn't a valid time or date.
 pub record IsInvalidDate (text : List ℕ) (rule : Codec) (e : DecodeError) : Type 0 where
   pub octets : Vec ℕ Global
   pub items : octets.items ≡ text
@@ -29,7 +29,7 @@ pub record IsInvalidDate (text : List ℕ) (rule : Codec) (e : DecodeError) : Ty
 abbrev pub IsAllocError : Codec → DecodeError → Type 0
 IsAllocError rule e = e ≡ record { kind = OutOfMemory; codec = rule }
 
--- The error contains the octets of a string that isn't a valid time. Borrowed octets are copied for it.
+-- The error contains the octets of a string that isn't a valid time or date. Borrowed octets are copied for it.
 abbrev pub IsInvalidString : CowSlice ℕ Global → Codec → DecodeError → Type 0
 IsInvalidString s rule e = IsInvalidDate (cow_slice_items s) rule e ⊎ (IsAllocError rule e × IsBorrowedSlice s)
 
@@ -43,9 +43,9 @@ abbrev pub ParsesCopiedTime : {X : Type 0} → (List ℕ → X → Type 0) → L
 ParsesCopiedTime Means text (Ok x) = Means text x
 ParsesCopiedTime {X} Means text (Err e) = ((x : X) → Means text x → ⊥) × (IsInvalidDate text Ber e ⊎ IsAllocError Ber e)
 
--- A call consumes a string whose text means a time. If the string can't be read, the error is that of the string, and
--- nothing is consumed. If its text means nothing, the string is consumed; the text of a primitive string is copied for
--- the error.
+-- A call consumes a string whose text means a time or a date. If the string can't be read, the error is that of the
+-- string, and nothing is consumed. If its text means nothing, the string is consumed; the text of a primitive string is
+-- copied for the error.
 abbrev pub DecodesTime : {X : Type 0} → (List ℕ → X → Type 0) → Tag → State → Result X DecodeError → State → Type 0
 DecodesTime Means tag old (Ok x) new =
     (text : List ℕ) × (octet_string_at old.rule old.depth tag old.rest ≡ Ok (text, new.rest)) × (new ≡ at old new.rest) × Means text x

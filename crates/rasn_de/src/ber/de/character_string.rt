@@ -105,8 +105,8 @@ impl<'input> Decoder<'input> {
         self.restricted::<VisibleType>(tag, constraints)
     }
 
-    /// Reads an IA5String of octets `00` to `7F`, whose size in octets meets the constraint (X.680
-    /// 41).
+    /// Reads an IA5String of octets `00` to `7F`, whose size in octets meets the constraint
+    /// (X.680 41).
     ///
     /// # Errors
     /// With nothing consumed: framing errors, errors of a segment, and `OutOfMemory` while segments
@@ -143,8 +143,8 @@ impl<'input> Decoder<'input> {
         self.restricted::<PrintableType>(tag, constraints)
     }
 
-    /// Reads a NumericString of digits and space, whose size in octets meets the constraint (X.680
-    /// 41).
+    /// Reads a NumericString of digits and space, whose size in octets meets the constraint
+    /// (X.680 41).
     ///
     /// # Errors
     /// With nothing consumed: framing errors, errors of a segment, and `OutOfMemory` while segments
@@ -216,8 +216,8 @@ impl<'input> Decoder<'input> {
         self.restricted::<GraphicType>(tag, constraints)
     }
 
-    /// Reads a BMPString of 16-bit units, the number of which meets the size constraint (X.690
-    /// 8.23.8).
+    /// Reads a BMPString of 16-bit units, the number of which meets the size constraint
+    /// (X.690 8.23.8).
     ///
     /// # Errors
     /// With nothing consumed: framing errors, errors of a segment, and `OutOfMemory` while segments

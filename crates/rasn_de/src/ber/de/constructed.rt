@@ -80,9 +80,10 @@ fn is_indefinite(contents: Contents<'_>) -> bool
 }
 
 impl<'input> Decoder<'input> {
-    /// Reads a header that meets these requirements. Returns a decoder of the contents, and the
-    /// contents, which are skipped. If the length is indefinite, the decoder reads what follows the
-    /// header, and nothing more is skipped.
+    /// Opens a value that contains others. Returns a decoder inside the value, and the contents. If
+    /// the length is definite, the header and the contents are consumed, and the inner decoder
+    /// reads the contents. If it is indefinite, only the header is consumed, and the inner decoder
+    /// reads what follows it.
     #[inline(always)]
     pub fn open(
         &mut self,
@@ -110,7 +111,8 @@ impl<'input> Decoder<'input> {
         Ok((inner, value.contents))
     }
 
-    /// Reads the end of a value, inside which `left` remains.
+    /// Closes a value inside which `left` remains. Definite contents must be read entirely; if the
+    /// length is indefinite, end-of-contents octets must follow, and are consumed.
     #[inline(always)]
     pub fn close(
         &mut self,
@@ -149,8 +151,8 @@ impl<'input> Decoder<'input> {
         has_ended(self.closing, self.rest)
     }
 
-    /// Calls `f` inside a value whose header meets these requirements. `f` must read all of the
-    /// contents.
+    /// Opens a value that contains others, calls `f` on the decoder inside it, and closes the
+    /// value. `f` must read all of the contents.
     #[inline(always)]
     pub(super) fn inside<D: Drop, F: FnOnce(&mut Decoder<'_>) -> Result<D, DecodeError>>(
         &mut self,

@@ -19,8 +19,9 @@ impl<'input> Decoder<'input> {
     /// # Errors
     /// An error in the next identifier, which consumes nothing; the error of the value; or
     /// `OutOfMemory` if an allocation for the default fails. Under DER the default is also made if
-    /// a value is present, and a value that equals it is refused with `DefaultValuePresent` (X.690
-    /// 11.5). This error, and `OutOfMemory` for the default at this point, consume the value.
+    /// a value is present, and a value that equals it is refused with `DefaultValuePresent`
+    /// (X.690 11.5). This error, and `OutOfMemory` for the default at this point, consume the
+    /// value.
     pub fn decode_default<D: Decode + LawfulEq, F: FnOnce() -> Result<D, AllocError>>(
         &mut self,
         default: F,

@@ -32,9 +32,9 @@ impl<'input> Decoder<'input> {
     ///
     /// # Errors
     /// A framing error. With the value consumed: `UnexpectedEmptyInput`, under DER
-    /// `NonMinimalInteger`, `OutOfMemory` for a number that is allocated, as an `Integer` of more
-    /// than 23 octets is, `IntegerOverflow`, then `ValueConstraintNotSatisfied`, or `OutOfMemory`
-    /// if an allocation for that error fails.
+    /// `NonMinimalInteger`, `OutOfMemory` for a number that is stored on the heap, as an `Integer`
+    /// of more than 23 octets is, `IntegerOverflow`, then `ValueConstraintNotSatisfied`, or
+    /// `OutOfMemory` if an allocation for that error fails.
     #[inline(always)]
     pub fn decode_integer<I: IntegerType>(
         &mut self,

@@ -47,8 +47,8 @@ impl<'input> Decoder<'input> {
     }
 
     /// Returns the object identifier that contents octets encode (X.690 8.19). They are read as
-    /// under BER whatever the decoder's rules are, so that a subidentifier may begin with octets
-    /// 80. The remaining input isn't changed.
+    /// under BER whatever the decoder's rules are, so that a subidentifier may begin with
+    /// octets 80. The remaining input isn't changed.
     ///
     /// # Errors
     /// As `decode_object_identifier` under BER, except framing errors. The errors name the

@@ -13,8 +13,8 @@ use crate::de::Decode;
 use rasn_types::error::{DecodeError, DerDecodeErrorKind};
 use rasn_types::types::{Constraints, SetOf, Tag};
 
-/// Returns whether `octets` are less than `others`, of which a proper beginning is less (X.690
-/// 11.6).
+/// Returns whether `octets` are less than `others`. Octets are less than any longer ones that begin
+/// with them (X.690 11.6).
 #[tactic(auto, using(crate::proofs::Constructed::Ascending::less_told))]
 fn is_less(octets: &[u8], others: &[u8]) -> bool
     ensures { IsWhether result (IsLess octets.now others.now) }

@@ -42,7 +42,7 @@ fn read_generalized_time(rules: Codec, text: &[u8]) -> Option<GeneralizedTime>
     }
 }
 
-/// Returns the error for a text that isn't a valid time.
+/// Returns the error for a text that isn't a valid time or date.
 fn invalid_date(octets: Vec<u8>, codec: Codec) -> DecodeError
     ensures { IsInvalidDate octets.items codec result }
 {
@@ -53,8 +53,8 @@ fn invalid_date(octets: Vec<u8>, codec: Codec) -> DecodeError
     }
 }
 
-/// Returns the error for a text that isn't a valid time and has to be copied. If the allocation for
-/// the copy fails, the error is `OutOfMemory`.
+/// Returns the error for a text that isn't a valid time or date and has to be copied. If the
+/// allocation for the copy fails, the error is `OutOfMemory`.
 fn invalid_text(alloc: Global, text: &[u8], codec: Codec) -> DecodeError
     ensures { IsInvalidDate text.now codec result ⊎ IsAllocError codec result }
 {
@@ -68,8 +68,8 @@ fn invalid_text(alloc: Global, text: &[u8], codec: Codec) -> DecodeError
 }
 
 impl<'input> Decoder<'input> {
-    /// Returns the error for a string that isn't a valid time. Only borrowed octets are copied for
-    /// it.
+    /// Returns the error for a string that isn't a valid time or date. Only borrowed octets are
+    /// copied for it.
     fn invalid_date(&self, text: CowSlice<'_, u8>) -> DecodeError
         ensures { IsInvalidString text.entry self.now.rule result }
     {
@@ -118,7 +118,8 @@ impl<'input> Decoder<'input> {
         }
     }
 
-    /// Reads a DATE (X.680 38.4.1): eight digits, with a year from 0 to 9999.
+    /// Reads a DATE (X.680 38.4.1): eight digits, which are a year from 0 to 9999, a month and a
+    /// day.
     ///
     /// # Errors
     /// As `decode_utc_time`.

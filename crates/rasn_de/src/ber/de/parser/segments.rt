@@ -55,8 +55,8 @@ pub(crate) fn segment_of(value: Value<'_>) -> Option<&[u8]>
     }
 }
 
-/// Collects the string of a value whose header is read from its segments, in their order. Returns
-/// what follows the value.
+/// Collects the string of a value, of which the header is already read, from its segments in their
+/// order. Returns what follows the value.
 pub fn string_contents<'a, T: Segmented>(
     rule: Codec,
     tag: Tag,
