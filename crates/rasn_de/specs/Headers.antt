@@ -132,8 +132,8 @@ expected_at AnyTag tag bit = Ok tt
 expected_at (Tagged wanted) tag bit = tagged_at wanted tag
 expected_at (Exactly wanted) tag bit = tagged_at wanted.tag tag >>= λ u. if beq bit wanted.bit then Ok tt else Err (Der ConstructedBitMismatch)
 
--- The requirement of a tag and, under DER, of the constructed bit that the type is written with. Under the other rules
--- either bit is accepted.
+-- The requirement that an identifier has this tag and, under DER, the constructed bit that the type is written with.
+-- Under the other rules either bit is accepted.
 abbrev pub as_written : Codec → Tag → Bool → Expected
 as_written Ber tag bit = Tagged tag
 as_written Cer tag bit = Tagged tag

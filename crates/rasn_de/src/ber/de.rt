@@ -99,7 +99,7 @@ impl fmt::Debug for Decoder<'_> {
     }
 }
 
-/// Returns a kind of error of X.690 8, which any of the rules may have.
+/// Returns the kind of an error of X.690 8, which can occur under any of the rules.
 fn in_ber(inner: BerDecodeErrorKind) -> DecodeErrorKind
     ensures { result ≡ in_ber inner }
 {

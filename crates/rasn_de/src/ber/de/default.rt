@@ -14,7 +14,8 @@ use std::alloc::AllocError;
 
 impl<'input> Decoder<'input> {
     /// Reads a value, or returns its default if the contents end or a tag other than the type's own
-    /// follows.
+    /// follows. If the type has no tag of its own, the default is returned only at the end of the
+    /// contents.
     ///
     /// # Errors
     /// An error in the next identifier, which consumes nothing; the error of the value; or

@@ -45,6 +45,7 @@ impl<'input> Decoder<'input> {
     }
 
     /// Reads a value with this tag, or returns `None` if the contents end or another tag follows.
+    /// If the tag is `Tag::EOC`, `None` is returned only at the end of the contents.
     ///
     /// # Errors
     /// As `decode_optional`.
@@ -78,7 +79,8 @@ impl<'input> Decoder<'input> {
     }
 
     /// Reads a value with this tag and these constraints, or returns `None` if the contents end or
-    /// another tag follows.
+    /// another tag follows. If the tag is `Tag::EOC`, `None` is returned only at the end of the
+    /// contents.
     ///
     /// # Errors
     /// As `decode_optional`.

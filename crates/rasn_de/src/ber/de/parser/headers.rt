@@ -55,8 +55,8 @@ pub enum Expected {
 }
 
 impl Expected {
-    /// Returns the requirement of this tag and, under DER, of the constructed bit that the type is
-    /// written with.
+    /// Returns the requirement that an identifier has this tag and, under DER, the constructed bit
+    /// that the type is written with.
     pub fn as_written(rule: Codec, tag: Tag, bit: bool) -> Expected
         ensures { result ≡ as_written rule tag bit }
     {
@@ -67,8 +67,8 @@ impl Expected {
         }
     }
 
-    /// Returns the requirement of this tag and, under DER, of the constructed bit that a value
-    /// which contains no others is written with.
+    /// Returns the requirement that an identifier has this tag and, under DER, the constructed bit
+    /// that a value which contains no others is written with.
     pub fn leaf(rule: Codec, tag: Tag) -> Expected
         ensures { result ≡ as_written rule tag (tag_bit tag) }
     {
