@@ -1,4 +1,4 @@
--- Alternatives as types: one, or one of the others.
+-- Alternatives as types: the first one, or one of the others.
 use Rattle.std.specs.Prelude.{◌≡◌, ◌⊎◌, ℕ, ◌+◌, Bool, true, false, not, ◌&&◌, List, Option, Some, None, Result, Ok, Err}
 use Rattle.rasn_types.specs.declared.types.codec.Codec.{Codec}
 use Rattle.rasn_types.specs.declared.types.tag.Tag.{Tag}
@@ -16,11 +16,11 @@ use Rattle.rasn_de.specs.Headers.{same_tag}
 use Rattle.rasn_de.specs.PartTypes.{same_own, DecodesTree, FailsAtOnePart}
 use Rattle.rasn_de.specs.Decodes.{DecodesBy, Decodes}
 
--- One of these alternatives is read, the first of which has the number k.
+-- One of these alternatives is read. The first one has the number k.
 abbrev pub ReadsNumbered : ℕ → Parts → Codec → ℕ → Bool → Reading Tree
 ReadsNumbered k ps rule depth closing = ReadsChoice rule k (parts_of rule ps depth closing)
 
--- Whatever number the first alternative has, the value that stands here by its own is read.
+-- The value is read as the alternative that has its number, whatever number k the first alternative has.
 pub record DecodesNumbered {T : Type 0} (ps : Parts) (number : T → ℕ) (inner : T → Tree) (old : State) (result : Result T DecodeError) (new : State) : Type 0 where
   pub from : (k : ℕ) → DecodesBy (ReadsNumbered k ps) (λ v. chosen (k + number v) (inner v)) old result new
 
@@ -28,29 +28,31 @@ abbrev pub is_other : Option Tag → Tag → Bool
 is_other None t = false
 is_other (Some u) t = not (same_tag u t)
 
--- Whether each of these has a tag of its own, and another one than t.
+-- Whether each of the parts has a tag of its own, which isn't t.
 abbrev pub none_begins : Parts → Tag → Bool
 none_begins none t = true
 none_begins (part p s ps) t = is_other (own s) t && none_begins ps t
 
--- Whether the shape has this tag of its own, and none of the others has it.
+-- Whether this is the shape's own tag, and each of the parts has another tag of its own.
 abbrev pub is_first_alone : Shape → Tag → Parts → Bool
 is_first_alone s tag ps = same_own (own s) (Some tag) && none_begins ps tag
 
--- The value of a part that comes isn't read.
+-- The value of a part that is present can't be read.
 abbrev pub FailsAtValue : Presence → Shape → State → DecodeError → State → Type 0
 FailsAtValue required s old e new = DecodesTree s old (Err e) new
 FailsAtValue optional s old e new = DecodesTree s old (Err e) new
 FailsAtValue addition s old e new = DecodesTree s old (Err e) new
 FailsAtValue (default d) s old e new = FailsAtOnePart (default d) s old e new
 
--- The first alternative of this tag isn't read; or none has it, and the error holds the name. Then nothing is consumed.
+-- The first alternative with this tag can't be read; or no alternative has the tag, the error contains the name, and
+-- nothing is consumed.
 abbrev pub FailsAtAlternative : Parts → List ℕ → Tag → State → DecodeError → State → Type 0
 FailsAtAlternative none name tag old e new = IsNamedError (IsNoValidChoice name) old.rule e × (new ≡ old)
 FailsAtAlternative (part p s ps) name tag old e new =
     ((own s ≡ Some tag) × FailsAtValue p s old e new) ⊎ ((own s ≡ Some tag → ⊥) × FailsAtAlternative ps name tag old e new)
 
--- The alternative of the next tag is read. A refusal is that of the look at this tag, which consumes nothing, or the alternative's.
+-- The alternative with the next tag is read. An error is that of the look at the tag, which consumes nothing, or one of
+-- FailsAtAlternative.
 abbrev pub DecodesAlternative : {D : Type 0} → Parts → (D → Tree) → List ℕ → Call D
 DecodesAlternative ps tree name old (Ok v) new = Decodes (choice ps) tree old (Ok v) new
 DecodesAlternative ps tree name old (Err e) new = (PeeksTag old (Err e) × (new ≡ old))

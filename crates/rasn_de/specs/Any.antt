@@ -18,19 +18,20 @@ use Rattle.rasn_de.specs.Outcomes.{Exact, Got, Refused}
 use Rattle.rasn_de.specs.State.{State, at}
 use Rattle.rasn_de.specs.Steps.{IsErrorOf}
 
--- one complete encoding, or the contents of one value of the tag
+-- One complete encoding, or the contents of one value with the tag.
 abbrev pub ReadsOpenOctets : Codec → Option Tag → Reading Tree
 ReadsOpenOctets rule None = ReadsAny rule
 ReadsOpenOctets rule (Some tag) = ReadsOpen rule tag
 
--- The first fault: of the header, or where contents of indefinite length aren't whole encodings and end-of-contents octets.
+-- The first fault: of the header, or where contents of indefinite length aren't complete encodings and end-of-contents
+-- octets.
 abbrev pub IsOpenFault : Codec → Option Tag → List ℕ → ParseError → Type 0
 IsOpenFault rule None input fault = IsFault rule input fault
 IsOpenFault rule (Some tag) input fault =
     (header_at (form rule) (as_written rule tag true) input ≡ Err fault)
     ⊎ ((h : Header) × (header_at (form rule) (as_written rule tag true) input ≡ Ok h) × (h.extent ≡ indefinite) × IsUnparsable rule h.rest fault)
 
--- The octets are the only ones that are read, with what follows; or none are, and this is the first fault.
+-- The octets are the only ones that are read, with what follows. An error means that none are, and is the first fault.
 abbrev pub OpenAt : Codec → Option Tag → List ℕ → Result (List ℕ × List ℕ) ParseError → Type 0
 OpenAt rule tag input (Ok p) = Exact (ReadsOpenOctets rule tag) input (Got (numbers p.0) p.1)
 OpenAt rule tag input (Err fault) = Exact (ReadsOpenOctets rule tag) input Refused × IsOpenFault rule tag input fault
@@ -39,7 +40,8 @@ abbrev pub as_lists : Result (Bor (List ℕ) × Bor (List ℕ)) ParseError → R
 as_lists (Ok p) = Ok (p.0.now, p.1.now)
 as_lists (Err e) = Err e
 
--- A call returns the octets, or the first fault, or an allocation fails for the copy of octets that are there. A refusal consumes nothing.
+-- A call returns the octets, or the first fault, or the allocation for the copy of octets that were read fails. An
+-- error consumes nothing.
 abbrev pub DecodesOpenType : Tag → State → Result Any DecodeError → State → Type 0
 DecodesOpenType tag old (Ok a) new = OpenAt old.rule (looked_for tag) old.rest (Ok (a, new.rest)) × (new ≡ at old new.rest)
 DecodesOpenType tag old (Err e) new = ((IsOutOfMemory e.kind × (e.codec ≡ old.rule) × (p : List ℕ × List ℕ) × OpenAt old.rule (looked_for tag) old.rest (Ok p)) ⊎ ((fault : ParseError) × OpenAt old.rule (looked_for tag) old.rest (Err fault) × IsErrorOf fault old e)) × (new ≡ old)
@@ -49,7 +51,8 @@ abbrev pub BorrowsOpenType : Tag → State → Result (Bor (List ℕ)) DecodeErr
 BorrowsOpenType tag old (Ok o) new = OpenAt old.rule (looked_for tag) old.rest (Ok (o.now, new.rest)) × (new ≡ at old new.rest)
 BorrowsOpenType tag old (Err e) new = ((fault : ParseError) × OpenAt old.rule (looked_for tag) old.rest (Err fault) × IsErrorOf fault old e) × (new ≡ old)
 
--- One complete encoding is passed, in so many steps; or there is none, this is the first fault, and nothing is consumed.
+-- One complete encoding is skipped, in n steps. An error means that there is none, is the first fault, and consumes
+-- nothing.
 abbrev pub SkipsValue : State → Result ℕ DecodeError → State → Type 0
 SkipsValue old (Ok n) new = Exactly (Skipped old.rule old.rest) (IsFault old.rule old.rest) (Ok (n, new.rest)) × (new ≡ at old new.rest)
 SkipsValue old (Err e) new = (fault : ParseError) × Exactly (Skipped old.rule old.rest) (IsFault old.rule old.rest) (Err fault) × IsErrorOf fault old e × (new ≡ old)

@@ -20,21 +20,22 @@ use Rattle.rasn_de.specs.Causes.{Cause, fault}
 use Rattle.rasn_de.specs.Leaves.{Readings, FailsAs, DecodesLeaf}
 use Rattle.rasn_de.specs.Steps.{IsErrorOf}
 
--- The count is above 7, or above 0 where nothing follows.
+-- The number of unused bits is above 7, or above 0 although no octet follows.
 abbrev pub is_miscounted : ℕ → List ℕ → Bool
 is_miscounted unused [] = nat_lt 0 unused
 is_miscounted unused (b ∷ l) = nat_lt 7 unused
 
--- the bits that don't count
+-- The unused bits.
 abbrev pub last_bits : ℕ → List ℕ → List Bool
 last_bits unused octets = drop (8 * length octets - unused) (bits_in octets)
 
--- one of these bits is set
+-- One of these bits is set.
 abbrev pub is_any_set : List Bool → Bool
 is_any_set [] = false
 is_any_set (b ∷ bs) = b || is_any_set bs
 
--- The bits of a segment: a count of unused bits, and octets (8.6.2). Under DER no unused bit is set (11.2.1).
+-- The bits of a segment, which is the number of unused bits and octets (8.6.2). Under DER no unused bit is set
+-- (11.2.1).
 abbrev pub segment_bits : Codec → List ℕ → Result (List Bool) ParseError
 segment_bits rule [] = Err UnexpectedEmptyInput
 segment_bits rule (unused ∷ octets) =
@@ -44,26 +45,28 @@ segment_bits rule (unused ∷ octets) =
 abbrev pub bit_string_at : Codec → ℕ → Tag → List ℕ → Result (List Bool × List ℕ) ParseError
 bit_string_at rule depth tag l = string_at rule (segment_bits rule) (in_universal 3) depth tag l
 
--- There is something to collect, as of octets.
+-- There is something to collect, as in CollectsOctets.
 abbrev pub CollectsBits : Codec → ℕ → Tag → List ℕ → Type 0
 CollectsBits rule depth tag l = IsConstructed rule tag l × (string_at rule (without_memory (segment_bits rule)) (in_universal 3) depth tag l ≡ Err OutOfMemory)
 
 abbrev pub bits_tree : List Bool → Tree
 bits_tree bs = bits bs
 
--- Why there are no bits, and what is left. The reading refuses them, or an allocation fails while segments are collected: all of the input is
--- left. An allocation fails for the bits of a primitive value, which has some and is in order: what follows the value is left.
+-- Why no bits are returned, and the remaining octets. If the reading refuses the bits, or an allocation fails while
+-- segments are collected, nothing is consumed. If an allocation fails for the bits of a valid primitive value, of which
+-- there is at least one, the value is consumed.
 pub data FailsAtBits (rule : Codec) (depth : ℕ) (tag : Tag) (l : List ℕ) : ParseError → List ℕ → Type 0 where
   refused : (f : ParseError) → f ≢ OutOfMemory → bit_string_at rule depth tag l ≡ Err f → FailsAtBits rule depth tag l f l
   gathering : CollectsBits rule depth tag l → FailsAtBits rule depth tag l OutOfMemory l
   copying : (bs : List Bool) (rest : List ℕ) → bs ≢ [] → IsPrimitive rule tag l → bit_string_at rule depth tag l ≡ Ok (bs, rest) → FailsAtBits rule depth tag l OutOfMemory rest
 
--- What a decoder gathers of a string: its bits and what follows.
+-- What a decoder collects of a string: its bits and what follows.
 abbrev pub DecodesBits : Tag → State → Result (List Bool) DecodeError → State → Type 0
 DecodesBits tag old (Ok bs) new = (bit_string_at old.rule old.depth tag old.rest ≡ Ok (bs, new.rest)) × (new ≡ at old new.rest)
 DecodesBits tag old (Err e) new = (f : ParseError) × IsErrorOf f old e × (new ≡ at old new.rest) × FailsAtBits old.rule old.depth tag old.rest f new.rest
 
--- What is refused of bits that were read, and why: 2 ^ 64 of them or more, and then a size out of bounds.
+-- Why bits that were read are refused: there are 2 ^ 64 or more, which is checked first, or their number is out of
+-- bounds.
 abbrev pub IsOversized : Constraints → List Bool → Cause → Type 0
 IsOversized bounds bs cause =
     ((2 ^ 64 ≤ length bs) × (cause ≡ fault LengthExceedsPlatformWidth))
@@ -76,12 +79,13 @@ BitsAt bounds rule depth tag l (Err e) =
     ((f : ParseError) × (bit_string_at rule depth tag l ≡ Err f) × (e ≡ (fault f, l)))
     ⊎ ((bs : List Bool) × (bit_string_at rule depth tag l ≡ Ok (bs, e.1)) × IsOversized bounds bs e.0)
 
--- An allocation fails for the copy of a primitive string's bits, of which there are some, before their number is asked for, and the value is consumed.
+-- An allocation fails for the copy of a primitive string's bits, of which there is at least one, before their number is
+-- checked, and the value is consumed.
 abbrev pub AllocFailsCopyingBits : Tag → State → DecodeError → State → Type 0
 AllocFailsCopyingBits tag old e new = IsOutOfMemory e.kind × (e.codec ≡ old.rule) × (new ≡ at old new.rest) × IsPrimitive old.rule tag old.rest
     × (bs : List Bool) × (bs ≢ []) × (bit_string_at old.rule old.depth tag old.rest ≡ Ok (bs, new.rest))
 
--- A call answers what the reading is, or an allocation fails.
+-- A call returns the result of the reading, or an allocation fails.
 abbrev pub DecodesBitString : Tag → Constraints → State → Result (List Bool) DecodeError → State → Type 0
 DecodesBitString tag bounds old (Ok bs) new = DecodesLeaf (λ s. s) (BitsAt bounds old.rule old.depth tag old.rest) old (Ok bs) new
 DecodesBitString tag bounds old (Err e) new =

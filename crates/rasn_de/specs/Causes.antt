@@ -1,4 +1,4 @@
--- What errors say.
+-- The causes of errors.
 use Rattle.std.specs.Prelude.{◌≡◌, ℤ, Some}
 use Rattle.rasn_types.specs.Errors.{needed_of}
 use Rattle.rasn_types.specs.declared.types.constraints.Bounded.{Bounded}
@@ -13,7 +13,7 @@ use Rattle.rasn_de.specs.declared.ber.de.parser.ParseError.TheVariants.{Incomple
 abbrev pub in_ber : BerDecodeErrorKind → DecodeErrorKind
 in_ber k = kind.CodecSpecific (codec.Ber k)
 
--- the kind of error that stands for a fault
+-- The kind of error that reports a fault.
 abbrev pub error_kind : ParseError → DecodeErrorKind
 error_kind (Incomplete needed) = kind.Incomplete (needed_of needed)
 error_kind (UnexpectedExtraData length) = kind.UnexpectedExtraData length
@@ -44,7 +44,7 @@ pub data Cause : Type 0 where
   fault : ParseError → Cause
   out_of_bound : ℤ → Bounded ℤ → Cause
 
--- The error has this cause. Where the copy of a number finds no memory, running out of memory stands in its place.
+-- The error has this cause. If the copy of a number can't be allocated, the error is OutOfMemory instead.
 abbrev pub HasCause : Cause → DecodeErrorKind → Type 0
 HasCause (fault f) k = k ≡ error_kind f
 HasCause (out_of_bound z bound) (kind.ValueConstraintNotSatisfied value expected) = (value ≡ z) × (expected.value ≡ bound)

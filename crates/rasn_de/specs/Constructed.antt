@@ -1,4 +1,4 @@
--- Values that hold others: how they are opened, read inside and closed.
+-- Values that contain others: how they are opened, read inside and closed.
 use Rattle.std.specs.Prelude.{◌≡◌, ℕ, ◌-◌, nat_eq, Bool, true, false, ◌&&◌, not, if◌then◌else◌, List, Result, Ok, Err}
 use Rattle.std.specs.Fn.{FnOnceReturnsAtMut, Once}
 use Rattle.std.specs.Borrow.{MutBor}
@@ -19,7 +19,7 @@ use Rattle.rasn_de.specs.ParserViews.{extent}
 use Rattle.rasn_de.specs.State.{State, at, IsEnd, Call, EachCall}
 use Rattle.rasn_de.specs.Steps.{IsErrorOf}
 
--- The headers of a SEQUENCE or SET, of a SEQUENCE OF or SET OF, and of an explicit prefix.
+-- The headers of a SEQUENCE or SET, of a SEQUENCE OF or SET OF, and of an explicit tag.
 abbrev pub sequence_header : Tag → ConstructedHeader
 sequence_header tag = record { tag = tag; must_be_constructed = true; levels = 1 }
 
@@ -29,16 +29,17 @@ list_header tag = record { tag = tag; must_be_constructed = true; levels = 2 }
 abbrev pub prefix_header : Tag → ConstructedHeader
 prefix_header tag = record { tag = tag; must_be_constructed = false; levels = 1 }
 
--- A value that needn't be constructed is asked under DER for the bit that it is written with.
+-- If the value needn't be constructed under every rule, DER requires the bit that it is written with.
 abbrev pub expected_header : ConstructedHeader → Codec → Expected
 expected_header d rule = if d.must_be_constructed then Tagged d.tag else as_written rule d.tag true
 
--- A header, or the fault and what it leaves: all of the input, or for a primitive identifier what follows the value.
+-- A header, or the fault and the remaining octets: all of the input or, if the value isn't constructed but must be,
+-- what follows the value.
 abbrev pub through : Bool → List ℕ → Result Header ParseError → Result Header (ParseError × List ℕ)
 through needed l (Ok h) = if needed && not h.bit then Err (InvalidConstructedIdentifier, h.rest) else Ok h
 through needed l (Err f) = Err (f, l)
 
--- Depth is reported before the header.
+-- The depth is checked before the header.
 abbrev pub constructed_header_at : ConstructedHeader → Codec → ℕ → List ℕ → Result Header (ParseError × List ℕ)
 constructed_header_at d rule depth l = if nat_eq depth 0 then Err (ExceedsMaxParseDepth, l) else through d.must_be_constructed l (header_at (form rule) (expected_header d rule) l)
 
@@ -46,25 +47,26 @@ abbrev pub is_indefinite_extent : Extent → Bool
 is_indefinite_extent (definite c) = false
 is_indefinite_extent indefinite = true
 
--- the decoder inside: of the contents, or of what follows the header
+-- The state of the decoder inside: at the contents or, if the length is indefinite, at what follows the header.
 abbrev pub contents_state : ConstructedHeader → State → Header → State
 contents_state d s h = record { rule = s.rule; depth = s.depth - d.levels; closing = is_indefinite_extent h.extent; whole = octets_inside h.extent h.rest; rest = octets_inside h.extent h.rest }
 
--- what is left where a value isn't closed: what follows it, or where reading inside came to
+-- The remaining octets if a value isn't closed: what follows it or, if the length is indefinite, what remained inside.
 abbrev pub unclosed : Extent → List ℕ → List ℕ → List ℕ
 unclosed (definite c) rest left = rest
 unclosed indefinite rest left = left
 
--- An end of what remained is left, and all else stays.
+-- The remaining input afterwards is a suffix of that before, and nothing else changes.
 pub record Keeps (old new : State) : Type 0 where
   pub stays : new ≡ at old new.rest
   pub end : IsEnd old.rest new.rest
 
--- What a closure over a decoder is to clauses.
+-- A closure over a decoder, as clauses see it.
 abbrev pub Closure : Type 0 → Type 0 → Type 1
 Closure F D = Once F (MutBor State × Unit {0}) (Result D DecodeError × (MutBor State × Unit {0}))
 
--- What a closure that reads owes: whatever it returns, what remains afterwards is an end of what remained before.
+-- What is required of a closure that reads: whatever it returns, what remains afterwards is a suffix of what remained
+-- before.
 abbrev pub LeavesAnEnd : {F D : Type 0} → Closure F D → F → Type 0
 LeavesAnEnd g f = EachCall (FnOnceReturnsAtMut g f) (λ o r n. IsEnd o.rest n.rest)
 
@@ -76,16 +78,16 @@ abbrev pub ConsumesEnd : Extent → List ℕ → State → Result (Unit {0}) Dec
 ConsumesEnd x left old (Ok u) new = (end_at x old.rest left ≡ Ok new.rest) × Keeps old new
 ConsumesEnd x left old (Err e) new = (f : ParseError) × (end_at x old.rest left ≡ Err f) × IsErrorOf f old e × (new.rest ≡ unclosed x old.rest left) × Keeps old new
 
--- read is what is done inside.
+-- read is the call that is made inside the value.
 module _ {D : Type 0} (read : Call D) (d : ConstructedHeader) (old : State) where
-  -- what a refusal comes from, and what it leaves
+  -- The cause of an error, and the remaining octets.
   pub data FailsInside (e : DecodeError) (rest : List ℕ) : Type 0 where
     no_value : (f : ParseError) → constructed_header_at d old.rule old.depth old.rest ≡ Err (f, rest) → IsErrorOf f old e → FailsInside e rest
     inside : (h : Header) → constructed_header_at d old.rule old.depth old.rest ≡ Ok h → (left : State) → read (contents_state d old h) (Err e) left → rest ≡ h.rest → FailsInside e rest
     not_closed : (h : Header) → constructed_header_at d old.rule old.depth old.rest ≡ Ok h → (v : D) (left : State) → read (contents_state d old h) (Ok v) left
         → (f : ParseError) → end_at h.extent h.rest left.rest ≡ Err f → IsErrorOf f old e → rest ≡ unclosed h.extent h.rest left.rest → FailsInside e rest
 
-  -- what was answered, once, inside, and how the value was closed
+  -- What the one call inside returns, and how the value is closed.
   pub record FinishesInside (v : D) (rest : List ℕ) : Type 0 where
     pub header : Header
     pub opened : constructed_header_at d old.rule old.depth old.rest ≡ Ok header

@@ -9,7 +9,8 @@ use Rattle.rasn_de.specs.declared.ber.de.parser.ParseError.TheVariants.{Mismatch
 use Rattle.rasn_de.specs.Causes.{Cause, fault, out_of_bound}
 use Rattle.rasn_de.specs.Leaves.{Readings, LeafAt, IsIntegerContents, IsNotIntegerContents}
 
--- The contents of an ENUMERATED (8.4): of a type that names these numbers. A number is asked for 64 bits first.
+-- The contents of an ENUMERATED (8.4) of a type that names these numbers. That the number fits in 64 bits is checked
+-- first.
 abbrev pub EnumeratedIn : Codec → List ℤ → List ℕ → Result ℤ Cause → Type 0
 EnumeratedIn rule known c (Ok z) = IsIntegerContents rule c × Contains known (signed c) × (z ≡ signed c)
 EnumeratedIn rule known c (Err (fault f)) =
@@ -21,7 +22,7 @@ EnumeratedIn rule known c (Err (out_of_bound z bound)) = ⊥
 abbrev pub EnumeratedAt : List ℤ → Codec → Tag → List ℕ → Readings ℤ
 EnumeratedAt known rule tag l = LeafAt (EnumeratedIn rule known) rule tag l
 
--- The contents of a NULL (8.8): none.
+-- The contents of a NULL (8.8), which are empty.
 abbrev pub NullIn : List ℕ → Result (Unit {0}) Cause → Type 0
 NullIn c (Ok u) = c ≡ []
 NullIn c (Err e) = (c ≢ []) × (e ≡ fault (MismatchedLength 0 (length c)))

@@ -1,4 +1,4 @@
--- Headers read from the left, octet by octet, to the value or to the first fault.
+-- Headers, read octet by octet from the left, up to the contents or to the first fault.
 use Rattle.std.specs.Prelude.{ℕ, ◌+◌, ◌-◌, ◌*◌, ◌/◌, ◌%◌, Bool, true, false, ◌&&◌, ◌||◌, nat_eq, nat_lt, nat_le, if◌then◌else◌, List, [], ◌∷◌, length, take, drop, Option, Some, None, Result, Ok, Err}
 use Rattle.std.specs.Bool.{beq}
 use Rattle.rasn_types.specs.declared.types.tag.Tag.{Tag}
@@ -30,28 +30,29 @@ tag_of first n = record { class = class_of (first / 64); value = n }
 abbrev pub bit_at : ℕ → Bool
 bit_at first = nat_le 32 (first % 64)
 
--- A number in base 128 behind groups that are worth n; groups worth 2 ^ 25 or more leave no room for another.
+-- A number in base 128, of which the octets already read have the value n. If n is 2 ^ 25 or more, a further octet
+-- makes the number too large.
 unfoldable pub number128_at : ParseError → ℕ → List ℕ → Result (ℕ × List ℕ) ParseError
 number128_at wide n [] = Err (Incomplete 1)
 number128_at wide n (b ∷ l) =
     if nat_le 0x2000000 n then Err wide else (if nat_lt b 128 then Ok (n * 128 + b, l) else number128_at wide (n * 128 + b % 128) l)
 
--- How the headers of a form may be spelled.
+-- How headers may be encoded in a form.
 abbrev pub spelled : Form → Spelling
 spelled basic_form = record { shortest = false; indefinite = true }
 spelled der_form = record { shortest = true; indefinite = false }
 spelled loose_form = record { shortest = false; indefinite = false }
 
--- The first seven bits of a number in base 128 are zero: its first octet says nothing (8.1.2.4.2, 8.19.2).
+-- The first seven bits of a number in base 128 are zero, so that its first octet is superfluous (8.1.2.4.2, 8.19.2).
 abbrev pub is_padded : List ℕ → Bool
 is_padded [] = false
 is_padded (b ∷ l) = nat_eq b 128
 
--- the tag number of an identifier
+-- The tag number of an identifier.
 unfoldable pub tag_number_at : ℕ → List ℕ → Result (ℕ × List ℕ) ParseError
 tag_number_at first l = if nat_eq (first % 32) 31 then number128_at UnsupportedTagNumber 0 l else Ok (first % 32, l)
 
--- The number n in the octets behind a first one could be spelled in fewer.
+-- The number n in the octets after the first could be encoded in fewer octets.
 abbrev pub is_longer : ℕ → List ℕ → ℕ → Bool
 is_longer first l n = nat_eq (first % 32) 31 && (is_padded l || nat_lt n 31)
 
@@ -61,7 +62,7 @@ pub record Identified : Type 0 where
   pub bit : Bool
   pub rest : List ℕ
 
--- Universal 0 is reported before the spelling.
+-- Universal 0 is reported before superfluous octets.
 abbrev pub checked_identifier : Bool → ℕ → List ℕ → ℕ × List ℕ → Result Identified ParseError
 checked_identifier shortest first l p =
     if is_eoc (tag_of first p.0) then Err UnexpectedEndOfContents else (if shortest && is_longer first l p.0 then Err (Der NonMinimalTagNumber)
@@ -74,7 +75,7 @@ identifier_by shortest (b ∷ l) = tag_number_at b l >>= checked_identifier shor
 abbrev pub identifier_at : Form → List ℕ → Result Identified ParseError
 identifier_at spelling l = identifier_by (spelled spelling).shortest l
 
--- The number of octets, most significant first, behind octets that are worth n.
+-- The number that octets encode, most significant first, after octets with the value n.
 unfoldable pub number256_at : ℕ → List ℕ → Result ℕ ParseError
 number256_at n [] = Ok n
 number256_at n (b ∷ l) = if nat_le 0x100_0000_0000_0000 n then Err LengthExceedsPlatformWidth else number256_at (n * 256 + b) l
@@ -82,7 +83,7 @@ number256_at n (b ∷ l) = if nat_le 0x100_0000_0000_0000 n then Err LengthExcee
 abbrev pub first_octets : ℕ → List ℕ → Result (List ℕ × List ℕ) ParseError
 first_octets k l = if nat_lt (length l) k then Err (Incomplete (k - length l)) else Ok (take k l, drop k l)
 
--- These octets spell a length that fewer would: the first of them is zero, or the length stands in the short form.
+-- Fewer octets could encode the length that these encode: the first one is zero, or the length fits in the short form.
 abbrev pub begins_with_zero : List ℕ → Bool
 begins_with_zero [] = false
 begins_with_zero (b ∷ l) = nat_eq b 0
@@ -90,12 +91,12 @@ begins_with_zero (b ∷ l) = nat_eq b 0
 abbrev pub has_spare : List ℕ → ℕ → Bool
 has_spare l n = begins_with_zero l || nat_lt n 128
 
--- The long form: missing octets, then a width of 2 ^ 64 or more, and then octets to spare.
+-- The long form. Missing octets are reported first, then a length of 2 ^ 64 or more, then superfluous octets.
 unfoldable pub long_at : Bool → ℕ → List ℕ → Result (Option ℕ × List ℕ) ParseError
 long_at shortest k l =
     first_octets k l >>= λ p. number256_at 0 p.0 >>= λ n. if shortest && has_spare p.0 n then Err (Der NonMinimalLength) else Ok (Some n, p.1)
 
--- A length, or none in the indefinite form, which a constructed encoding may have.
+-- A length, which is None in the indefinite form. Only a constructed encoding may have that form.
 unfoldable pub length_at : Spelling → Bool → List ℕ → Result (Option ℕ × List ℕ) ParseError
 length_at spelling bit [] = Err (Incomplete 1)
 length_at spelling bit (b ∷ l) =
@@ -125,19 +126,20 @@ same_tag s t = same_class s.class t.class && nat_eq s.value t.value
 abbrev pub tagged_at : Tag → Tag → Result (Unit {0}) ParseError
 tagged_at wanted tag = if same_tag tag wanted then Ok tt else Err (MismatchedTag wanted tag)
 
--- The tag is reported before the constructed bit.
+-- The tag is checked before the constructed bit.
 abbrev pub expected_at : Expected → Tag → Bool → Result (Unit {0}) ParseError
 expected_at AnyTag tag bit = Ok tt
 expected_at (Tagged wanted) tag bit = tagged_at wanted tag
 expected_at (Exactly wanted) tag bit = tagged_at wanted.tag tag >>= λ u. if beq bit wanted.bit then Ok tt else Err (Der ConstructedBitMismatch)
 
--- A tag that under DER has the constructed bit that it is written with, and under the other rules either one.
+-- The requirement that an identifier has this tag and, under DER, the constructed bit that the type is written with.
+-- Under the other rules either bit is accepted.
 abbrev pub as_written : Codec → Tag → Bool → Expected
 as_written Ber tag bit = Tagged tag
 as_written Cer tag bit = Tagged tag
 as_written Der tag bit = Exactly (record { tag = tag; bit = bit })
 
--- The header of the value that begins a list, with its contents.
+-- The header of the value at the start of a list, with its contents.
 unfoldable pub header_by : Spelling → Expected → List ℕ → Result Header ParseError
 header_by spelling expected l =
     identifier_by spelling.shortest l >>= λ i. expected_at expected i.tag i.bit >>= λ u. length_at spelling i.bit i.rest >>= λ n. contents_at i.tag i.bit n.0 n.1

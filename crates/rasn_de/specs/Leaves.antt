@@ -1,4 +1,5 @@
--- Values that hold no others, read from lists: the value and what follows it, or the first refusal and what is left.
+-- Values that contain no others, read from lists: the value and what follows it, or the cause of an error and the
+-- remaining octets.
 use Rattle.std.specs.Prelude.{◌≡◌, ◌≢◌, ◌⊎◌, ℕ, ℤ, ◌≤ℤ◌, Bool, true, false, nat_eq, IfErr, if◌then◌else◌, List, [], ◌∷◌, length, Result, Ok, Err}
 use Rattle.rasn_types.specs.declared.types.tag.Tag.{Tag}
 use Rattle.rasn_types.specs.declared.types.codec.Codec.{Codec}
@@ -18,12 +19,12 @@ use Rattle.rasn_types.specs.Errors.{IsOutOfMemory}
 use Rattle.rasn_de.specs.Causes.{Cause, fault, out_of_bound, HasCause}
 use Rattle.rasn_de.specs.State.{State, at}
 
--- Framing faults leave all of the input.
+-- A fault in a header consumes nothing.
 abbrev pub on_header : {Y : Type 0} → List ℕ → Result Header ParseError → (Header → Result Y (Cause × List ℕ)) → Result Y (Cause × List ℕ)
 on_header l (Ok h) f = f h
 on_header l (Err e) f = Err (fault e, l)
 
--- the contents of definite length and what follows them; an indefinite form is refused behind the header
+-- The contents of definite length and what follows them. An indefinite length is refused after the header is consumed.
 abbrev pub definite_in : Extent → List ℕ → Result (List ℕ × List ℕ) (Cause × List ℕ)
 definite_in (definite contents) rest = Ok (contents, rest)
 definite_in indefinite rest = Err (fault IndefiniteLengthNotAllowed, rest)
@@ -31,11 +32,12 @@ definite_in indefinite rest = Err (fault IndefiniteLengthNotAllowed, rest)
 abbrev pub definite_at : Codec → Tag → List ℕ → Result (List ℕ × List ℕ) (Cause × List ℕ)
 definite_at rule tag l = on_header l (header_at (form rule) (as_written rule tag (tag_bit tag)) l) (λ h. definite_in h.extent h.rest)
 
--- What a reading of the list may be: a value and what follows it, or a refusal and what is left.
+-- A statement about the result of reading a list: a value and what follows it, or the cause of an error and the
+-- remaining octets.
 abbrev pub Readings : Type 0 → Type 1
 Readings Y = Result (Y × List ℕ) (Cause × List ℕ) → Type 0
 
--- what is read of contents, where a refusal too leaves what follows the value
+-- The result of reading contents. Whether they are accepted or refused, what follows the value remains.
 abbrev pub FromContents : {X : Type 0} → (List ℕ → Result X Cause → Type 0) → Result (List ℕ × List ℕ) (Cause × List ℕ) → Readings X
 FromContents read (Ok p) (Ok q) = read p.0 (Ok q.0) × (q.1 ≡ p.1)
 FromContents read (Ok p) (Err q) = read p.0 (Err q.0) × (q.1 ≡ p.1)
@@ -63,11 +65,11 @@ bool_in rule (b ∷ c ∷ l) = Err (MismatchedLength 1 (length (b ∷ c ∷ l)))
 abbrev pub BoolAt : Codec → Tag → List ℕ → Readings Bool
 BoolAt rule tag l = LeafAt (λ c r. as_cause (bool_in rule c) ≡ r) rule tag l
 
--- Octets hold a number (8.3.1, 8.3.2): there are some, and under the strict rule they are as few as can be.
+-- Octets encode a number (8.3.1, 8.3.2): there is at least one, and under the strict rule they are the fewest possible.
 abbrev pub IsIntegerContents : Codec → List ℕ → Type 0
 IsIntegerContents rule c = (c ≢ []) × (IsStrict rule → IsShortestInteger c)
 
--- why octets don't: there are none, or the first only repeats the sign
+-- Why octets don't encode a number: there are none, or under the strict rule the first one only repeats the sign.
 abbrev pub IsNotIntegerContents : Codec → List ℕ → ParseError → Type 0
 IsNotIntegerContents rule c f =
     ((c ≡ []) × (f ≡ UnexpectedEmptyInput)) ⊎ ((c ≢ []) × IsStrict rule × (IsShortestInteger c → ⊥) × (f ≡ Der NonMinimalInteger))
@@ -76,7 +78,7 @@ abbrev pub ChecksIntegerContents : Codec → List ℕ → Result (Unit {0}) Pars
 ChecksIntegerContents rule c (Ok u) = IsIntegerContents rule c
 ChecksIntegerContents rule c (Err f) = IsNotIntegerContents rule c f
 
--- The contents of an INTEGER (8.3): of a type of so many bits that has these numbers, within bounds.
+-- The contents of an INTEGER (8.3) that is within bounds, for a type of width bits with the numbers in range.
 abbrev pub IntegerIn : Codec → ℕ → Interval → Constraints → List ℕ → Result ℤ Cause → Type 0
 IntegerIn rule width range bounds c (Ok z) = IsIntegerContents rule c × IsIn range (signed c) × Admits ◌≤ℤ◌ bounds.value (signed c) × (z ≡ signed c)
 IntegerIn rule width range bounds c (Err (fault f)) = IsNotIntegerContents rule c f ⊎ (IsIntegerContents rule c × (IsIn range (signed c) → ⊥) × (f ≡ IntegerOverflow width))
@@ -86,23 +88,23 @@ IntegerIn rule width range bounds c (Err (out_of_bound z bound)) =
 abbrev pub IntegerAt : ℕ → Interval → Constraints → Codec → Tag → List ℕ → Readings ℤ
 IntegerAt width range bounds rule tag l = LeafAt (IntegerIn rule width range bounds) rule tag l
 
--- The call is refused as the reading is, which changes nothing but what is left.
+-- The call fails as the reading does, and changes nothing except the remaining input.
 abbrev pub FailsAs : {Y : Type 0} → Readings Y → State → DecodeError → State → Type 0
 FailsAs Is old e new = (cause : Cause) × Is (Err (cause, new.rest)) × HasCause cause e.kind × (e.codec ≡ old.rule) × (new ≡ at old new.rest)
 
--- A call answers what the reading is of the list that remained; it leaves what is left of it, and changes nothing else.
+-- A call returns the result of reading the remaining input, leaves what the reading leaves, and changes nothing else.
 abbrev pub DecodesLeaf : {X Y : Type 0} → (X → Y) → Readings Y → State → Result X DecodeError → State → Type 0
 DecodesLeaf see Is old (Ok v) new = Is (Ok (see v, new.rest)) × (new ≡ at old new.rest)
 DecodesLeaf see Is old (Err e) new = FailsAs Is old e new
 
--- A call returns what the reading of an INTEGER is, of a type of which some numbers take memory: where an allocation fails, the contents hold
--- such a number, and the value was consumed.
+-- A call returns the result of reading an INTEGER. If an allocation fails, the contents encode a number that Takes says
+-- is stored on the heap, and the value is consumed.
 abbrev pub DecodesInteger : {X : Type 0} → (X → ℤ) → (ℤ → Type 0) → Tag → Readings ℤ → State → Result X DecodeError → State → Type 0
 DecodesInteger see Takes tag Is old (Ok v) new = DecodesLeaf see Is old (Ok v) new
 DecodesInteger see Takes tag Is old (Err e) new =
     (IsOutOfMemory e.kind × (e.codec ≡ old.rule) × (new ≡ at old new.rest) × (c : List ℕ) × (definite_at old.rule tag old.rest ≡ Ok (c, new.rest)) × IsIntegerContents old.rule c × Takes (signed c)) ⊎ FailsAs Is old e new
 
--- A call reads an INTEGER of a type that has these numbers and so many bits, within bounds.
+-- A call reads an INTEGER that is within bounds, for a type of width bits with the numbers in range.
 abbrev pub DecodesNumber : {X : Type 0} → (X → ℤ) → (ℤ → Type 0) → ℕ → Interval → Tag → Constraints → State → Result X DecodeError → State → Type 0
 DecodesNumber see Takes width range tag bounds old result new = DecodesInteger see Takes tag (IntegerAt width range bounds old.rule tag old.rest) old result new
 
@@ -110,11 +112,11 @@ DecodesNumber see Takes width range tag bounds old result new = DecodesInteger s
 abbrev pub IsOutOfBound : Readings ℤ → List ℕ → Type 0
 IsOutOfBound Is rest = (z : ℤ) × (bound : Bounded ℤ) × Is (Err (out_of_bound z bound, rest))
 
--- The number that comes takes memory.
+-- The next number is one that is stored on the heap.
 abbrev pub TakesThere : (ℤ → Type 0) → Tag → State → List ℕ → Type 0
 TakesThere Takes tag old rest = (c : List ℕ) × (definite_at old.rule tag old.rest ≡ Ok (c, rest)) × Takes (signed c)
 
--- Memory may be wanting for a number that takes memory, and for the error of a number out of its bound, and for nothing else.
+-- An allocation can fail only for a number that is stored on the heap, or for the error of a number out of its bound.
 abbrev pub AllocMayFail : {X : Type 0} → (ℤ → Type 0) → ℕ → Interval → Tag → Constraints → State → Result X DecodeError → State → Type 0
 AllocMayFail Takes width range tag bounds old result new =
     IfErr result (λ e. IsOutOfMemory e.kind → TakesThere Takes tag old new.rest ⊎ IsOutOfBound (IntegerAt width range bounds old.rule tag old.rest) new.rest)

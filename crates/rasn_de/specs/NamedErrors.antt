@@ -1,4 +1,4 @@
--- Errors that tell a name.
+-- Errors that contain a name.
 use Rattle.std.specs.Prelude.{ℕ, ◌≡◌, ◌⊎◌, List, string_bytes}
 use Rattle.rasn_types.specs.declared.types.codec.Codec.{Codec}
 use Rattle.rasn_types.specs.declared.error.decode.DecodeError.{DecodeError}
@@ -17,6 +17,6 @@ abbrev pub IsDuplicateField : List ℕ → DecodeErrorKind → Type 0
 IsDuplicateField name (DuplicateField told) = string_bytes told ≡ name
 IsDuplicateField name _ = ⊥
 
--- The error is of this kind, or memory ran out for its copy of the name.
+-- The error is of this kind, or the allocation for its copy of the name failed.
 abbrev pub IsNamedError : (DecodeErrorKind → Type 0) → Codec → DecodeError → Type 0
 IsNamedError is rule e = (e.codec ≡ rule) × (is e.kind ⊎ (e.kind ≡ OutOfMemory))

@@ -19,19 +19,20 @@ use Rattle.rasn_de.specs.Steps.{IsErrorOf}
 abbrev pub octet_string_at : Codec → ℕ → Tag → List ℕ → Result (List ℕ × List ℕ) ParseError
 octet_string_at rule depth tag l = string_at rule octets (in_universal 4) depth tag l
 
--- A primitive value of the tag begins the list.
+-- A primitive value with the tag begins the list.
 abbrev pub IsPrimitive : Codec → Tag → List ℕ → Type 0
 IsPrimitive rule tag l = (rest : List ℕ) × (contents : List ℕ) × Frame (form rule) l tag false rest (definite contents)
 
--- A constructed value of the tag begins the list.
+-- A constructed value with the tag begins the list.
 abbrev pub IsConstructed : Codec → Tag → List ℕ → Type 0
 IsConstructed rule tag l = (rest : List ℕ) × (extent : Extent) × Frame (form rule) l tag true rest extent
 
--- There is something to collect: the value is constructed, and without memory nothing else is wrong up to a segment that holds something.
+-- There is something to collect: the value is constructed, and if every allocation fails, there is no other fault
+-- before a segment that isn't empty.
 abbrev pub CollectsOctets : Codec → ℕ → Tag → List ℕ → Type 0
 CollectsOctets rule depth tag l = IsConstructed rule tag l × (string_at rule (without_memory octets) (in_universal 4) depth tag l ≡ Err OutOfMemory)
 
--- Octets are borrowed from a primitive string alone.
+-- Octets are borrowed from a primitive string, and owned otherwise.
 abbrev pub IsBorrowedIfPrimitive : Codec → Tag → List ℕ → CowSlice ℕ Global → Type 0
 IsBorrowedIfPrimitive rule tag l (Borrowed s) = IsPrimitive rule tag l
 IsBorrowedIfPrimitive rule tag l (Owned v) = IsConstructed rule tag l
@@ -39,8 +40,8 @@ IsBorrowedIfPrimitive rule tag l (Owned v) = IsConstructed rule tag l
 abbrev pub cow_tree : CowSlice ℕ Global → Tree
 cow_tree s = numbers (cow_slice_items s)
 
--- What a decoder gathers of a string: its octets and what follows; a refusal leaves all of the input. Running out of memory is met where
--- there is something to collect, and nowhere else.
+-- What a decoder collects of a string: its octets and what follows. An error consumes nothing. OutOfMemory is returned
+-- only if there is something to collect.
 abbrev pub DecodesOctets : Tag → State → Result (CowSlice ℕ Global) DecodeError → State → Type 0
 DecodesOctets tag old (Ok s) new = (octet_string_at old.rule old.depth tag old.rest ≡ Ok (cow_slice_items s, new.rest)) × (new ≡ at old new.rest) × IsBorrowedIfPrimitive old.rule tag old.rest s
 DecodesOctets tag old (Err e) new = (f : ParseError) × IsErrorOf f old e × (new ≡ old) × (f ≢ OutOfMemory → octet_string_at old.rule old.depth tag old.rest ≡ Err f) × (f ≡ OutOfMemory → CollectsOctets old.rule old.depth tag old.rest)

@@ -17,38 +17,40 @@ use Rattle.rasn_de.specs.declared.ber.de.parser.ParseError.TheVariants.{OutOfMem
 use Rattle.rasn_de.specs.State.{State, Call}
 use Rattle.rasn_de.specs.Steps.{IsErrorOf, PeeksTag}
 
--- Whether the value that is looked for by this tag comes next. The look is refused where the contents go on with no tag.
+-- Whether the next value is the one that is looked for by this tag. The look fails if the contents continue without a
+-- valid tag.
 abbrev pub NextTagIs : Tag → State → Result Bool DecodeError → Type 0
 NextTagIs tag s (Ok true) = IsPresent (form s.rule) (looked_for tag) s.closing s.rest
 NextTagIs tag s (Ok false) = IsLeftOut (form s.rule) (looked_for tag) s.closing s.rest
 NextTagIs tag s (Err e) = (looked_for tag ≢ None) × (Ended s.closing s.rest → ⊥) × PeeksTag s (Err e)
 
 module _ {D : Type 0} (read : Call D) (tag : Tag) (old : State) where
-  -- The value is left out; or it comes and is read; or the look at the next tag is refused, which consumes nothing.
+  -- The value is left out; or it is present and read; or the look at the next tag fails, which consumes nothing.
   abbrev pub DecodesIfPresent : Result (Option D) DecodeError → State → Type 0
   DecodesIfPresent (Ok None) new = NextTagIs tag old (Ok false) × (new ≡ old)
   DecodesIfPresent (Ok (Some v)) new = NextTagIs tag old (Ok true) × read old (Ok v) new
   DecodesIfPresent (Err e) new = (NextTagIs tag old (Err e) × (new ≡ old)) ⊎ (NextTagIs tag old (Ok true) × read old (Err e) new)
 
--- A value of the shape that may be left out, under this tag and these constraints.
+-- A value of the shape that may be left out, with this tag and these constraints.
 abbrev pub DecodesIfPresentAs : {D : Type 0} → Tag → Constraints → Shape → (D → Tree) → Call (Option D)
 DecodesIfPresentAs tag c s tree = DecodesIfPresent (Decodes (tagged_as tag c s) tree) tag
 
--- Such a value is decoded; and under this tag and these constraints.
+-- A value that may be left out is decoded; in the second definition, with this tag and these constraints.
 abbrev pub DecodesOption : {D : Type 0} → Tag → Shape → (D → Tree) → Call (Option D)
 DecodesOption tag s tree = Decodes (option (looked_for tag) s) (option_tree tree)
 
 abbrev pub DecodesOptionAs : {D : Type 0} → Tag → Constraints → Shape → (D → Tree) → Call (Option D)
 DecodesOptionAs tag c s tree = DecodesOption tag (tagged_as tag c s) tree
 
--- The value that is made, or running out of memory: made r says that r may be made.
+-- The value that is made, or OutOfMemory. made r means that r may be the result.
 abbrev pub MakesValue : {D : Type 0} → (Result D AllocError → Type 0) → State → Result D DecodeError → Type 0
 MakesValue made s (Ok v) = made (Ok v)
 MakesValue made s (Err e) = (x : AllocError) × made (Err x) × IsErrorOf OutOfMemory s e
 
--- A value that has a default, which is made once at most: where the value is left out, and where one comes that may not be the default.
+-- A value that has a default. The default is made at most once: if the value is left out, or, under the strict rule, if
+-- a value is present, since it must not equal the default.
 module _ {D : Type 0} (read : Call D) (tree : D → Tree) (made : Result D AllocError → Type 0) (tag : Tag) (old : State) where
-  -- What a refusal comes from, and what it leaves. A value that was read before is consumed.
+  -- The cause of an error, and the remaining input. A value that was read before the error is consumed.
   pub data FailsWithDefault (e : DecodeError) (new : State) : Type 0 where
     no_look : NextTagIs tag old (Err e) → new ≡ old → FailsWithDefault e new
     no_default : NextTagIs tag old (Ok false) → MakesValue made old (Err e) → new ≡ old → FailsWithDefault e new
@@ -62,24 +64,24 @@ module _ {D : Type 0} (read : Call D) (tree : D → Tree) (made : Result D Alloc
       ⊎ (NextTagIs tag old (Ok true) × read old (Ok v) new × (IsStrict old.rule → (d : D) × made (Ok d) × (Same (tree v) (tree d) → ⊥)))
   DecodesOrDefault (Err e) new = FailsWithDefault e new
 
--- A value of the shape that has a default, under this tag and these constraints.
+-- A value of the shape that has a default, with this tag and these constraints.
 abbrev pub DecodesOrDefaultAs : {D : Type 0} → Tag → Constraints → Shape → (D → Tree) → (Result D AllocError → Type 0) → Call D
 DecodesOrDefaultAs tag c s tree made = DecodesOrDefault (Decodes (tagged_as tag c s) tree) tree made tag
 
--- The value has to be there.
+-- The value must be present.
 abbrev pub DecodesAlways : {D : Type 0} → Call D → Call (Option D)
 DecodesAlways read old (Ok None) new = ⊥
 DecodesAlways read old (Ok (Some v)) new = read old (Ok v) new
 DecodesAlways read old (Err e) new = read old (Err e) new
 
--- a part of a SEQUENCE that has its default where it is left out
+-- A part of a SEQUENCE that has a default if it is left out.
 abbrev pub ReadsDefault : Tag → Tree → Shape → Codec → ℕ → Bool → Reading Tree
 ReadsDefault tag without s rule depth closing = ReadsPart rule (default without) (looked_for tag) (Reads rule s depth closing) closing
 
--- Whatever the default's tree is, the part is read with it.
+-- The part is read with the tree of the default, whatever that tree is.
 abbrev pub DecodesDefault : {D : Type 0} → Tag → Shape → (D → Tree) → (Result D AllocError → Type 0) → Call D
 DecodesDefault {D} tag s tree made old result new = (without : Tree) → ((v : D) → made (Ok v) → tree v ≡ without) → DecodesBy (ReadsDefault tag without s) tree old result new
 
--- A value that has a default is decoded, under this tag and these constraints.
+-- A value that has a default is decoded, with this tag and these constraints.
 abbrev pub DecodesDefaultAs : {D : Type 0} → Tag → Constraints → Shape → (D → Tree) → (Result D AllocError → Type 0) → Call D
 DecodesDefaultAs tag c s tree made = DecodesDefault tag (tagged_as tag c s) tree made

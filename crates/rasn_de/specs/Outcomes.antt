@@ -1,4 +1,4 @@
--- What an answer says of a reading.
+-- What the result of a call says of a reading.
 use Rattle.std.specs.Prelude.{◌≡◌, ℕ, List, Result, Ok, Err}
 use Rattle.rasn_types.specs.declared.error.decode.DecodeErrorKind.{DecodeErrorKind}
 use Rattle.rasn_types.specs.declared.error.decode.DecodeErrorKind.TheVariants.{OutOfMemory}
@@ -6,7 +6,7 @@ use Rattle.rasn_types.specs.declared.error.decode.DecodeError.{DecodeError}
 use Rattle.rasn_types.specs.Shapes.{Tree}
 use Rattle.rasn_types.specs.Readings.{Reading}
 
--- a tree and what is left; a refusal; running out of memory
+-- A tree and the remaining input; a refusal; or a failed allocation.
 pub data Outcome : Type 0 where
   Got : Tree → List ℕ → Outcome
   Refused : Outcome
@@ -20,7 +20,8 @@ abbrev pub outcome : {T : Type 0} → (T → Tree) → Result T DecodeError → 
 outcome tree (Ok v) r = Got (tree v) r
 outcome tree (Err e) r = refusal e.kind
 
--- The reading relates what was got to the input, and nothing else; at a refusal nothing; for running out of memory nothing is said.
+-- The reading relates the input to the tree and the rest of the outcome, and to nothing else. If the outcome is a
+-- refusal, it relates the input to nothing. If an allocation failed, nothing is said.
 abbrev pub Exact : Reading Tree → List ℕ → Outcome → Type 0
 Exact R input (Got t r) = R input t r × ((u : Tree) (s : List ℕ) → R input u s → (u ≡ t) × (s ≡ r))
 Exact R input Refused = (u : Tree) (s : List ℕ) → R input u s → ⊥

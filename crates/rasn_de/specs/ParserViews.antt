@@ -1,4 +1,4 @@
--- What the code's values are as lists.
+-- The values of the code, seen as lists.
 use Rattle.std.specs.Prelude.{◌≡◌, ℕ, true, false, ◌⊎◌, List, Result, Ok, Err, ◌++◌, ◌≢◌}
 use Rattle.std.specs.Borrow.{Bor}
 use Rattle.rasn_types.specs.declared.types.tag.Tag.{Tag}
@@ -11,7 +11,7 @@ use Rattle.rasn_de.specs.declared.ber.de.parser.Contents.{Contents}
 use Rattle.rasn_de.specs.declared.ber.de.parser.Contents.TheVariants.{Definite, Indefinite}
 use Rattle.rasn_de.specs.declared.ber.de.parser.Value.{Value}
 
--- What a function returned, seen by view, is what reading returns.
+-- The result of a function, with view applied to its value, is the result of reading.
 abbrev pub ParsesAs : {X Y : Type 0} → (X → Y) → Result X ParseError → Result Y ParseError → Type 0
 ParsesAs view (Ok x) read = read ≡ Ok (view x)
 ParsesAs view (Err e) read = read ≡ Err e
@@ -35,11 +35,12 @@ header_with v rest = record { tag = v.tag; bit = v.is_constructed; extent = exte
 abbrev pub header : Value × Bor (List ℕ) → Header
 header p = header_with p.0 p.1.now
 
--- An error but running out of memory is the first fault; that is met where bare, the same without memory, meets it.
+-- An error other than OutOfMemory is the first fault. OutOfMemory is returned only if bare, which is the same reading
+-- with every allocation failing, returns it.
 abbrev pub FailsToParse : {Y : Type 0} → Result Y ParseError → Result Y ParseError → ParseError → Type 0
 FailsToParse read bare e = (e ≢ OutOfMemory → read ≡ Err e) × (e ≡ OutOfMemory → bare ≡ Err OutOfMemory)
 
--- What is read is appended, and the rest handed back.
+-- What is read is appended, and the rest is returned.
 abbrev pub ParsesSegments : {X : Type 0} → Result (List X × List ℕ) ParseError → Result (List X × List ℕ) ParseError → List X → List X → Result (Bor (List ℕ)) ParseError → Type 0
 ParsesSegments {X} read bare old new (Ok r) = (xs : List X) × (read ≡ Ok (xs, r.now)) × (new ≡ old ++ xs)
 ParsesSegments read bare old new (Err e) = FailsToParse read bare e

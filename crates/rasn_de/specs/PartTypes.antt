@@ -1,4 +1,4 @@
--- Parts as types: what is told of them by computing, and which is the first that isn't read.
+-- Parts as types: tests on them that compute, and the first part that can't be read.
 use Rattle.std.specs.Prelude.{◌≡◌, ◌⊎◌, ℕ, Bool, true, false, ◌||◌, not, IfOk, Option, Some, None, Ok, Err}
 use Rattle.rasn_types.specs.declared.types.codec.Codec.{Codec}
 use Rattle.rasn_types.specs.declared.types.tag.Tag.{Tag}
@@ -21,24 +21,25 @@ same_own (Some a) (Some b) = same_tag a b
 same_own None (Some b) = false
 same_own (Some a) None = false
 
--- Whether a value of the shape has the tag that it is looked for by.
+-- Whether values of the shape are looked for by their own tag.
 abbrev pub is_looked_for : Shape → Tag → Bool
 is_looked_for s tag = same_own (own s) (looked_for tag)
 
--- Whether reading the parts in order reads empty contents too: all parts are left out then, or a required one is missing. Behind an
--- extension marker an addition would be missing as well.
+-- Whether reading the parts in order reads empty contents correctly too: either a required part is missing, or all
+-- parts are left out. Without a required part, an addition would be missing as well, so that an initializer is needed.
 abbrev pub needs_no_initializer : Parts → Bool
 needs_no_initializer parts = has_required parts || not (has_addition parts)
 
--- One part, as its presence says.
+-- One part, read as its presence requires.
 abbrev pub OnePart : Presence → Shape → Codec → ℕ → Bool → Reading Tree
 OnePart p s rule depth closing = ReadsPart rule p (own s) (Reads rule s depth closing) closing
 
--- A value of the shape, which is its tree.
+-- A value of the shape is decoded as its tree.
 abbrev pub DecodesTree : Shape → Call Tree
 DecodesTree s = Decodes s (λ (t : Tree). t)
 
--- A part isn't read: its value, or the look at the next tag where it may be left out, or its default.
+-- A part can't be read: its value can't, or the look at the next tag fails for a part that may be left out, or its
+-- default can't be made.
 abbrev pub FailsAtOnePart : Presence → Shape → State → DecodeError → State → Type 0
 FailsAtOnePart required s old e new = DecodesTree s old (Err e) new
 FailsAtOnePart addition s old e new = DecodesTree s old (Err e) new
@@ -46,13 +47,13 @@ FailsAtOnePart optional s old e new = (tag : Tag) × (own s ≡ looked_for tag) 
 FailsAtOnePart (default d) s old e new = (tag : Tag) × (own s ≡ looked_for tag)
     × DecodesOrDefault (DecodesTree s) (λ (t : Tree). t) (λ made. IfOk made (λ t. t ≡ d)) tag old (Err e) new
 
--- The parts before some part are read, and that part isn't.
+-- The parts before some part are read, and that part can't be read.
 abbrev pub FailsAtPart : Parts → State → DecodeError → State → Type 0
 FailsAtPart none old e new = ⊥
 FailsAtPart (part p s ps) old e new = FailsAtOnePart p s old e new
     ⊎ ((t : Tree) × (here : State) × DecodesExactly (OnePart p s) old (Got t here.rest) here × FailsAtPart ps here e new)
 
--- Parts are read in their order, up to the first that isn't read.
+-- Parts are read in their order, up to the first one that can't be read.
 abbrev pub DecodesInParts : {D : Type 0} → Parts → (D → Tree) → Call D
 DecodesInParts ps tree old (Ok v) new = DecodesParts ps tree old (Ok v) new
 DecodesInParts ps tree old (Err e) new = FailsAtPart ps old e new

@@ -1,4 +1,4 @@
--- SET: components in any order, of which a function makes the value.
+-- SET: components in any order, from which a function makes the value.
 use Rattle.std.specs.Prelude.{◌≡◌, ◌⊎◌, ℕ, List, [], ◌∷◌, ◌++◌, map, Vec, Option, Some, None, Result, Ok, Err, IfErr}
 use Rattle.std.specs.Global.{Global}
 use Rattle.rasn_types.specs.declared.types.codec.Codec.{Codec}
@@ -17,12 +17,12 @@ use Rattle.rasn_de.specs.Steps.{IsErrorOf, PeeksTag}
 use Rattle.rasn_de.specs.SequenceOf.{DecodesInTurnFrom, FailsAtElement}
 use Rattle.rasn_de.specs.Outcomes.{Exact, refusal}
 
--- A tag is below the last one, where there is one.
+-- A tag is less than the last one, if there is one.
 abbrev pub IsBelowLast : Tag → Option Tag → Type 0
 IsBelowLast tag None = ⊥
 IsBelowLast tag (Some last) = IsTagBelow tag last
 
--- The look at the next tag, which the strict rule asks for.
+-- The look at the next tag, which only the strict rule requires.
 abbrev pub PeeksInOrder : Option Tag → State → Result (Option Tag) DecodeError → Type 0
 PeeksInOrder last s (Ok None) = IsStrict s.rule → ⊥
 PeeksInOrder last s (Ok (Some tag)) = NextTag (form s.rule) s.rest tag × (IsBelowLast tag last → ⊥)
@@ -30,22 +30,23 @@ PeeksInOrder last s (Err e) = IsStrict s.rule
     × (PeeksTag s (Err e) ⊎ ((tag : Tag) × NextTag (form s.rule) s.rest tag × IsBelowLast tag last × IsErrorOf (Der SetComponentsOutOfOrder) s e))
 
 module _ {D : Type 0} (read : Call D) where
-  -- Components are read from these octets, whose tags don't fall under the strict rule (10.3).
+  -- Components are read from these octets. Under the strict rule their tags are in ascending order (10.3).
   abbrev pub DecodesInTagOrder : State → List D → List (List ℕ) → State → Type 0
   DecodesInTagOrder old vs bs here = DecodesInTurnFrom read old vs bs here × (IsStrict old.rule → AreInTagOrder bs)
 
-  -- The next component has no tag, or one that falls behind those of these octets, or isn't read. Only the strict rule asks for the tag.
+  -- The next component has no valid tag, or its tag is out of order after those of these octets, or it can't be read.
+  -- Only the strict rule requires a look at the tag.
   pub data FailsAtComponent (bs : List (List ℕ)) (here : State) (e : DecodeError) (new : State) : Type 0 where
     no_tag : IsStrict here.rule → PeeksTag here (Err e) → new ≡ here → FailsAtComponent bs here e new
     falls : IsStrict here.rule → (tag : Tag) → NextTag (form here.rule) here.rest tag → (AreInTagOrder (bs ++ here.rest ∷ []) → ⊥) → IsErrorOf (Der SetComponentsOutOfOrder) here e → new ≡ here → FailsAtComponent bs here e new
     not_read : (IsStrict here.rule → (tag : Tag) × NextTag (form here.rule) here.rest tag × AreInTagOrder (bs ++ here.rest ∷ [])) → FailsAtElement read here e new → FailsAtComponent bs here e new
 
-  -- Components up to the end, or up to the first that isn't read.
+  -- Components up to the end, or up to the first one that can't be read.
   abbrev pub DecodesComponents : {L : Type 0} → (L → List D) → Call L
   DecodesComponents elements old (Ok v) new = (bs : List (List ℕ)) × DecodesInTagOrder old (elements v) bs new × Ended new.closing new.rest
   DecodesComponents elements old (Err e) new = (vs : List D) × (bs : List (List ℕ)) × (here : State) × DecodesInTagOrder old vs bs here × (Ended here.closing here.rest → ⊥) × FailsAtComponent bs here e new
 
--- A function is called on what was read, once; a refusal is that of the read, or the function's.
+-- A function is called once on what was read. An error is that of the read or that of the function.
 abbrev pub DecodesSetContents : {L D : Type 0} → Call L → (L → Result D DecodeError → Type 0) → Call D
 DecodesSetContents {L} read made old (Ok v) new = (fields : L) × read old (Ok fields) new × made fields (Ok v)
 DecodesSetContents {L} read made old (Err e) new = read old (Err e) new ⊎ ((fields : L) × read old (Ok fields) new × made fields (Err e))
@@ -54,20 +55,21 @@ DecodesSetContents {L} read made old (Err e) new = read old (Err e) new ⊎ ((fi
 abbrev pub MakesByRules : {F D : Type 0} → Codec → (Vec F Global → Result D DecodeError → Type 0) → Type 0
 MakesByRules {F} {D} rule made = (fields : Vec F Global) (r : Result D DecodeError) → made fields r → IfErr r (λ e. e.codec ≡ rule)
 
--- The components of a SET are read one by one by read, and made is what a function makes of them.
+-- The components of a SET are read one by one by the call read, and made says what a function makes from them.
 abbrev pub DecodesSetBy : {F D : Type 0} → Call F → (Vec F Global → Result D DecodeError → Type 0) → Tag → Call D
 DecodesSetBy {F} read made tag = DecodesInside (DecodesSetContents (DecodesComponents read (λ (v : Vec F Global). v.items)) made) (sequence_header tag)
 
--- The readings of components are these parts.
+-- The readings of the components, in any order, are these parts, and t is their tree.
 abbrev pub AreParts : Parts → List Tree → Tree → Type 0
 AreParts parts readings t = (ts : List Tree) × (t ≡ items ts) × ByPart 0 (presences parts) readings ts
 
--- What a function makes of components by their readings: the parts, or a refusal where they are no parts.
+-- What a function makes from components, given their readings: the parts, or an error if they aren't parts.
 abbrev pub MakesSet : {D : Type 0} → Parts → (D → Tree) → List Tree → Result D DecodeError → Type 0
 MakesSet parts tree readings (Ok v) = AreParts parts readings (tree v)
 MakesSet parts tree readings (Err e) = Exact (λ input t rest. AreParts parts readings t) [] (refusal e.kind)
 
--- A SET of these parts is read, where a component is one of them, and the function makes the parts of what was read.
+-- A SET of these parts is read, if each component is one of the parts and the function makes the parts from what was
+-- read.
 abbrev pub DecodesSet : {F D : Type 0} → Shape → (F → Tree) → (Vec F Global → Result D DecodeError → Type 0) → Parts → (D → Tree) → Tag → Call D
 DecodesSet {F} {D} component reading made parts tree tag old result new = component ≡ choice parts
     → ((fields : Vec F Global) (r : Result D DecodeError) → made fields r → MakesSet parts tree (map reading fields.items) r)

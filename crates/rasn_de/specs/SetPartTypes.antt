@@ -1,4 +1,4 @@
--- The parts of a SET as types: what their slots hold while components are read, and what is made of them.
+-- The parts of a SET as types: what their slots contain while components are read, and what is made from them.
 use Rattle.std.specs.Prelude.{◌≡◌, ◌≢◌, ◌⊎◌, ℕ, zero, suc, ◌+◌, List, [], ◌∷◌, ◌++◌, length, IfErr, Option, Some, None, Result, Ok, Err}
 use Rattle.std.specs.Borrow.{Bor}
 use Rattle.rasn_types.specs.declared.types.codec.Codec.{Codec}
@@ -17,22 +17,22 @@ use Rattle.rasn_de.specs.SequenceOf.{FailsAtElement}
 use Rattle.rasn_de.specs.Set.{DecodesComponents, DecodesSetContents, AreParts}
 use Rattle.rasn_de.specs.AlternativeTypes.{ReadsNumbered, DecodesAlternative}
 
--- what a slot holds
+-- The tree of the value in a slot.
 abbrev pub held_tree : {T : Type 0} → (T → Tree) → Option T → Option Tree
 held_tree tree None = None
 held_tree tree (Some v) = Some (tree v)
 
--- the octets of a name that is borrowed
+-- The octets of a borrowed name.
 abbrev pub text : Bor (List ℕ) → List ℕ
 text name = name.now
 
--- the name of part k; it is empty where the names don't go so far
+-- The name of part k, which is empty if there are too few names.
 abbrev pub name_at : List (List ℕ) → ℕ → List ℕ
 name_at [] k = []
 name_at (n ∷ names) zero = n
 name_at (n ∷ names) (suc k) = name_at names k
 
--- There is a part k.
+-- There is a part with the number k.
 abbrev pub IsPart : ℕ → Parts → Type 0
 IsPart k none = ⊥
 IsPart zero (part p s ps) = Unit {0}
@@ -49,7 +49,7 @@ IsFilled [] k = ⊥
 IsFilled (h ∷ held) zero = h ≢ None
 IsFilled (h ∷ held) (suc k) = IsFilled held k
 
--- The slot of part k was empty, and now holds this tree.
+-- The slot of part k was empty, and now contains this tree.
 abbrev pub IsPlacedAt : List (Option Tree) → ℕ → Tree → List (Option Tree) → Type 0
 IsPlacedAt [] k u held = ⊥
 IsPlacedAt (h ∷ before) zero u held = (h ≡ None) × (held ≡ Some u ∷ before)
@@ -59,26 +59,29 @@ IsPlacedAt (h ∷ before) (suc k) u held = (others : List (Option Tree)) × (hel
 pub record ReadsPartAt (ps : Parts) (k : ℕ) (u : Tree) (old new : State) : Type 0 where
   pub from : (j : ℕ) → DecodesExactly (ReadsNumbered j ps) old (Got (chosen (j + k) u) new.rest) new
 
--- It is no part.
+-- The component can't be read as any part.
 pub record RefusesPart (ps : Parts) (e : DecodeError) (old new : State) : Type 0 where
   pub from : (j : ℕ) → DecodesExactly (ReadsNumbered j ps) old (refusal e.kind) new
 
--- An empty slot is filled with a value; or it is filled already, and the part's name is told.
+-- An empty slot is filled with a value; or it is filled already, and the name of the part is returned.
 abbrev pub IsPlaced : {T : Type 0} → Option T → T → List ℕ → Option (Bor (List ℕ)) → Option T → Type 0
 IsPlaced before v name None after = (before ≡ None) × (after ≡ Some v)
 IsPlaced before v name (Some told) after = (before ≢ None) × (after ≡ before) × (text told ≡ name)
 
--- The value is the one in the slot, or one that means the default where that is empty; it is refused where memory runs out.
+-- The value is the one in the slot or, if the slot is empty, one that equals the default. An error means that an
+-- allocation failed.
 abbrev pub IsOrDefault : {T : Type 0} → (T → Tree) → Tree → Option T → Result T DecodeError → Type 0
 IsOrDefault tree d slot (Ok v) = (slot ≡ Some v) ⊎ ((slot ≡ None) × (tree v ≡ d))
 IsOrDefault tree d slot (Err e) = IsOutOfMemory e.kind
 
--- A component is read as read_choice reads one of these parts: one of no part is refused by the type's name, and nothing of it is consumed.
+-- A component is read as read_choice reads one of these parts. If it is no part, the error contains the name of the
+-- type, and nothing of the component is consumed.
 abbrev pub DecodesOneOf : Parts → List ℕ → Call Tree
 DecodesOneOf ps name old r new = Decodes (choice ps) (λ (t : Tree). t) old r new × IfErr r (λ e. DecodesAlternative ps (λ (t : Tree). t) name old (Err e) new)
 
 module _ (ps : Parts) (names : List (List ℕ)) (before : List (Option Tree)) (old : State) where
-  -- The component that is next is read as a part, whose empty slot it fills, or whose name is told where that is filled; or it is no part.
+  -- The next component is read as a part, and fills the slot of the part if that is empty, or else the name of the part
+  -- is returned; or the component can't be read as any part.
   abbrev pub DecodesPlaced : Result (Option (Bor (List ℕ))) DecodeError → State → List (Option Tree) → Type 0
   DecodesPlaced (Ok None) new held = (k : ℕ) × (u : Tree) × IsPlacedAt before k u held × ReadsPartAt ps k u old new
   DecodesPlaced (Ok (Some told)) new held = (k : ℕ) × (u : Tree) × IsFilled before k × (held ≡ before) × (text told ≡ name_at names k) × ReadsPartAt ps k u old new
@@ -87,13 +90,14 @@ module _ (ps : Parts) (names : List (List ℕ)) (before : List (Option Tree)) (o
   abbrev pub DecodesComponent : ℕ → Tree → State → Type 0
   DecodesComponent k u new = Decodes (choice ps) (λ (t : Tree). t) old (Ok (chosen k u)) new × (length new.rest ≢ length old.rest)
 
-  -- One more component is read so, and took something.
+  -- One more component is read in the same way, and consumes octets.
   abbrev pub DecodesNext : Result (Option (Bor (List ℕ))) DecodeError → State → List (Option Tree) → Type 0
   DecodesNext (Ok None) new held = (k : ℕ) × (u : Tree) × IsPlacedAt before k u held × DecodesComponent k u new
   DecodesNext (Ok (Some told)) new held = (k : ℕ) × (u : Tree) × IsFilled before k × (held ≡ before) × (text told ≡ name_at names k) × DecodesComponent k u new
   DecodesNext (Err e) new held = FailsAtElement (Decodes (choice ps) (λ (t : Tree). t)) old e new
 
--- Each part is what its slot holds, or what stands in its place where it may be left out.
+-- Each part is the value in its slot. If the slot is empty, the part is one that may be left out, and is absent or its
+-- default.
 abbrev pub AreGathered : List Presence → List (Option Tree) → List Tree → Type 0
 AreGathered [] [] ts = ts ≡ []
 AreGathered [] (h ∷ held) ts = ⊥
@@ -111,16 +115,16 @@ LacksSlot (p ∷ ps) [] k = ⊥
 LacksSlot (p ∷ ps) (h ∷ held) zero = (p ≡ required) × (h ≡ None)
 LacksSlot (p ∷ ps) (h ∷ held) (suc k) = (p ≡ required → h ≢ None) × LacksSlot ps held k
 
--- It is told; or memory ran out.
+-- The error reports the first required part that is missing; or an allocation failed.
 abbrev pub IsLackOf : Parts → List (List ℕ) → Codec → List (Option Tree) → DecodeError → Type 0
 IsLackOf ps names rule held e = IsOutOfMemory e.kind ⊎ ((k : ℕ) × LacksSlot (presences ps) held k × IsNamedError (IsMissingField (name_at names k)) rule e)
 
--- The parts that are made of what the slots hold, or the first that is missing.
+-- The parts that are made from the slots, or the error for the first one that is missing.
 abbrev pub MakesParts : {D : Type 0} → Parts → (D → Tree) → List (List ℕ) → Codec → List (Option Tree) → Result D DecodeError → Type 0
 MakesParts ps tree names rule held (Ok v) = IsGathered ps held (tree v)
 MakesParts ps tree names rule held (Err e) = IsLackOf ps names rule held e
 
--- Of each part there is one reading at most; the first part has the number j.
+-- Each part has at most one reading. The first part has the number j.
 abbrev pub AreOnce : ℕ → List Presence → List Tree → Type 0
 AreOnce j [] readings = Unit {0}
 AreOnce j (p ∷ ps) readings = (NoneOf j readings ⊎ ((t : Tree) × OneOf j t readings)) × AreOnce (suc j) ps readings
@@ -135,21 +139,21 @@ pub record RepeatsFirst (ps : Parts) (k : ℕ) (readings : List Tree) : Type 0 w
   pub is_part : IsPart k ps
   pub read : (t : Tree) × OneOf k t before
 
--- The first required part that wasn't read is part k; the first of these has the number j.
+-- The first required part that isn't read is part k of these, the first of which has the number j.
 abbrev pub LacksFirst : ℕ → List Presence → List Tree → ℕ → Type 0
 LacksFirst j [] readings k = ⊥
 LacksFirst j (p ∷ ps) readings zero = (p ≡ required) × NoneOf j readings
 LacksFirst j (p ∷ ps) readings (suc k) = (p ≡ required → NoneOf j readings → ⊥) × LacksFirst (suc j) ps readings k
 
--- What is made of all components by their readings: the parts; or the first that repeats a part is told, and where none does the first
--- required part that is missing.
+-- What is made from all components, given their readings: the parts; or the error for the first component that repeats
+-- a part or, if none does, for the first required part that is missing; or an allocation failed.
 abbrev pub MakesOfReadings : {D : Type 0} → Parts → (D → Tree) → List (List ℕ) → Codec → List Tree → Result D DecodeError → Type 0
 MakesOfReadings ps tree names rule readings (Ok v) = AreParts ps readings (tree v)
 MakesOfReadings ps tree names rule readings (Err e) = IsOutOfMemory e.kind
     ⊎ (((k : ℕ) × RepeatsFirst ps k readings × IsNamedError (IsDuplicateField (name_at names k)) rule e)
     ⊎ (AreOnce 0 (presences ps) readings × ((k : ℕ) × LacksFirst 0 (presences ps) readings k × IsNamedError (IsMissingField (name_at names k)) rule e)))
 
--- Components are read as decode_set reads them, and the parts are made of all of them at the end.
+-- Components are read as decode_set reads them, and at the end the parts are made from all of them.
 abbrev pub DecodesSetPartContents : {D : Type 0} → Parts → (D → Tree) → List (List ℕ) → Call D
 DecodesSetPartContents ps tree names old =
     DecodesSetContents (DecodesComponents (Decodes (choice ps) (λ (t : Tree). t)) (λ (l : List Tree). l)) (MakesOfReadings ps tree names old.rule) old
@@ -157,7 +161,7 @@ DecodesSetPartContents ps tree names old =
 abbrev pub DecodesSetParts : {D : Type 0} → Parts → (D → Tree) → List (List ℕ) → Tag → Call D
 DecodesSetParts ps tree names tag = DecodesInside (DecodesSetPartContents ps tree names) (sequence_header tag)
 
--- The same, where each component is read as one of these parts.
+-- The same, if each component is read as in DecodesOneOf.
 abbrev pub DecodesNamedContents : {D : Type 0} → Parts → (D → Tree) → List ℕ → List (List ℕ) → Call D
 DecodesNamedContents ps tree name names old =
     DecodesSetContents (DecodesComponents (DecodesOneOf ps name) (λ (l : List Tree). l)) (MakesOfReadings ps tree names old.rule) old

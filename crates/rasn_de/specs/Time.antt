@@ -19,32 +19,33 @@ use Rattle.rasn_de.specs.State.{State, at}
 abbrev pub AtAnyOffset : (List ℕ → Stamp → Type 0) → List ℕ → Moment → Type 0
 AtAnyOffset R text m = (offset : ℤ) × R text (record { moment = m; offset = offset })
 
--- The error holds the whole text, which is no time's.
+-- The error contains the whole text, which isn't a valid time or date.
 pub record IsInvalidDate (text : List ℕ) (rule : Codec) (e : DecodeError) : Type 0 where
   pub octets : Vec ℕ Global
   pub items : octets.items ≡ text
   pub is : e ≡ record { kind = in_ber (InvalidDate octets); codec = rule }
 
--- No memory was found for the error's copy of the text.
+-- The allocation for the error's copy of the text failed.
 abbrev pub IsAllocError : Codec → DecodeError → Type 0
 IsAllocError rule e = e ≡ record { kind = OutOfMemory; codec = rule }
 
--- The error holds the octets of a string that is no time's. Those that are borrowed are copied for it.
+-- The error contains the octets of a string that isn't a valid time or date. Borrowed octets are copied for it.
 abbrev pub IsInvalidString : CowSlice ℕ Global → Codec → DecodeError → Type 0
 IsInvalidString s rule e = IsInvalidDate (cow_slice_items s) rule e ⊎ (IsAllocError rule e × IsBorrowedSlice s)
 
--- A text is parsed to what it means; where it means nothing, the error holds it.
+-- A text is parsed to what it means. If it means nothing, the error contains it.
 abbrev pub ParsesTime : {X : Type 0} → (List ℕ → X → Type 0) → List ℕ → Result X DecodeError → Type 0
 ParsesTime Means text (Ok x) = Means text x
 ParsesTime {X} Means text (Err e) = ((x : X) → Means text x → ⊥) × IsInvalidDate text Ber e
 
--- A text is parsed to what it means; where it means nothing, the error holds it, or that no memory was found for its copy.
+-- A text is parsed to what it means. If it means nothing, the error contains it, or the allocation for its copy failed.
 abbrev pub ParsesCopiedTime : {X : Type 0} → (List ℕ → X → Type 0) → List ℕ → Result X DecodeError → Type 0
 ParsesCopiedTime Means text (Ok x) = Means text x
 ParsesCopiedTime {X} Means text (Err e) = ((x : X) → Means text x → ⊥) × (IsInvalidDate text Ber e ⊎ IsAllocError Ber e)
 
--- A call consumes a string whose text means a time. It is refused as the string is, and then consumes nothing; or it consumes the string, whose
--- text means nothing. The text of a primitive string is copied for the error.
+-- A call consumes a string whose text means a time or a date. If the string can't be read, the error is that of the
+-- string, and nothing is consumed. If its text means nothing, the string is consumed; the text of a primitive string is
+-- copied for the error.
 abbrev pub DecodesTime : {X : Type 0} → (List ℕ → X → Type 0) → Tag → State → Result X DecodeError → State → Type 0
 DecodesTime Means tag old (Ok x) new =
     (text : List ℕ) × (octet_string_at old.rule old.depth tag old.rest ≡ Ok (text, new.rest)) × (new ≡ at old new.rest) × Means text x

@@ -1,4 +1,4 @@
-//! The basic encoding rules, and those that build on them.
+//! The basic encoding rules and the rules derived from them.
 
 pub mod de;
 mod rules;

@@ -1,4 +1,4 @@
-//! What a type needs in order to be read.
+//! The traits of types that can be decoded.
 ghost use Rattle.std.specs.Prelude.{◌≡◌, IfErr};
 ghost use Rattle.rasn_types.specs.Framing.{NextTag};
 ghost use Rattle.rasn_types.specs.Tags.{form};
@@ -12,20 +12,21 @@ use rasn_types::types::{AsnType, Constraints, Tag};
 
 mod error;
 
-/// A type whose values are read: a call succeeds exactly where the grammar relates what is left of the input to a tree and a
-/// rest, and then the value has this tree and the rest is left.
+/// A type whose values can be decoded. Unless an allocation fails, a call succeeds exactly if the
+/// grammar relates the remaining input to a tree and a rest; the value then has this tree, and the
+/// rest remains.
 pub trait Decode: AsnType {
     ghost use Rattle.rasn_types.specs.declared.types.tag.Tag.{Tag};
     ghost use Rattle.rasn_de.specs.State.{Call};
 
-    /// What else is said of a call that reads a value under a tag: what the value holds of its octets beyond its tree, such as the
-    /// offset of a time. Where a type leaves it out, nothing is said.
+    /// What a contract says, besides the tree, of a call that reads a value under a tag: what the
+    /// value keeps of its octets, such as the offset of a time. By default it says nothing.
     ghost beyond: { Tag → Call Self } = { λ _ _ _ _. Unit {0} };
 
-    /// Reads a value with this outermost tag and these constraints in place of the type's own.
+    /// Reads a value that has this outermost tag and these constraints in place of the type's own.
     ///
     /// # Errors
-    /// Where no such value comes next; if an allocation fails.
+    /// Returns an error if no such value follows, or if an allocation fails.
     fn decode_with_tag_and_constraints(
         decoder: &mut Decoder<'_>,
         tag: Tag,
@@ -48,7 +49,7 @@ pub trait Decode: AsnType {
         Self::decode_with_tag_and_constraints(decoder, Self::TAG, &Self::CONSTRAINTS)
     }
 
-    /// Reads a value with this outermost tag in place of the type's own.
+    /// Reads a value that has this outermost tag in place of the type's own.
     ///
     /// # Errors
     /// As `decode_with_tag_and_constraints`.
@@ -60,7 +61,7 @@ pub trait Decode: AsnType {
         Self::decode_with_tag_and_constraints(decoder, tag, &Self::CONSTRAINTS)
     }
 
-    /// Reads a value under these constraints in place of the type's own.
+    /// Reads a value that has these constraints in place of the type's own.
     ///
     /// # Errors
     /// As `decode_with_tag_and_constraints`.
@@ -76,18 +77,20 @@ pub trait Decode: AsnType {
     }
 }
 
-/// A CHOICE that can be read (X.680 29). Its shape has the alternatives, none of which is optional.
+/// A CHOICE that can be decoded (X.680 29). Its shape consists of the alternatives, none of which
+/// is optional.
 pub trait DecodeChoice: AsnType {
     ghost use Rattle.std.specs.Prelude.{◌≡◌};
     ghost use Rattle.rasn_types.specs.Shapes.{Parts, choice};
 
     ghost alternatives: { Parts };
 
-    /// Reads the alternative that begins with this tag. A caller has looked at it: it is the tag of the value that comes next, as
-    /// `Decoder::peek_tag` answers it, and isn't universal 0. `Decoder::decode_choice` calls it so.
+    /// Reads the alternative that begins with this tag. The caller has already looked at the tag:
+    /// it is that of the next value, as returned by `Decoder::peek_tag`, and isn't universal 0.
+    /// `Decoder::decode_choice` calls the function in this way.
     ///
     /// # Errors
-    /// `NoValidChoice` where no alternative does; what the alternative refuses.
+    /// `NoValidChoice` if no alternative has the tag; otherwise the error of the alternative.
     fn from_tag(decoder: &mut Decoder<'_>, tag: Tag) -> Result<Self, DecodeError>
         requires { NextTag (form decoder.old.rule) decoder.old.rest tag }
         ensures reads { Decodes Self.shape Self.tree decoder.old result decoder.new }

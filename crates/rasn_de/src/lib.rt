@@ -1,4 +1,4 @@
-//! Reading of values by the basic, the canonical and the distinguished encoding rules (X.690).
+//! Decoding of values by the basic, canonical and distinguished encoding rules (X.690).
 #![tactic(auto)]
 
 pub mod ber;

@@ -1,4 +1,9 @@
-//! The reader of BER, CER and DER.
+//! The decoder of BER, CER and DER.
+//!
+//! A *framing error* is an error in the identifier or length octets of a value, or in the number of
+//! its contents octets (X.690 8.1). It consumes nothing, with one exception: if a value must have a
+//! definite length, a constructed encoding of indefinite length consumes its header under BER and
+//! CER.
 ghost use Rattle.std.specs.Prelude.{◌≡◌, ◌+◌, length, IfErr, Result};
 ghost use Rattle.rasn_types.specs.declared.types.codec.Codec.{Codec};
 ghost use Rattle.rasn_types.specs.Framing.{AreOctets};
@@ -56,13 +61,13 @@ pub use config::DecoderOptions;
 pub use constructed::ConstructedHeader;
 pub(crate) use octet_string::owned;
 
-/// How many values may be nested in one another.
+/// The maximum depth to which values may be nested.
 const MAX_DEPTH: usize = 128;
 
-/// A reader of values, one behind the other, from one input.
+/// A decoder, which reads values one after the other from one input.
 ///
-/// Contracts see it as a `State`: the rules, the depth that is left, whether end-of-contents octets may end the contents, the whole
-/// input, and what is left of it.
+/// In contracts it is a `State`: the rules, the remaining depth, whether end-of-contents octets may
+/// end the contents, the whole input, and the remaining input.
 #[derive(Drop)]
 pub struct Decoder<'input> {
     whole: &'input [u8],
@@ -83,7 +88,7 @@ impl<'input> Model for Decoder<'input> {
     ghost invariant = { λ d. IsEnd d.whole.now d.rest.now };
 }
 
-/// The rules, and how many octets were passed and are left.
+/// Shows the rules, the number of octets consumed, and the number of octets remaining.
 impl fmt::Debug for Decoder<'_> {
     fn fmt<W: fmt::Write>(&self, f: &mut fmt::Formatter<W>) -> fmt::Result {
         f.debug_struct("Decoder")
@@ -94,7 +99,7 @@ impl fmt::Debug for Decoder<'_> {
     }
 }
 
-/// A kind of error of X.690 8, under any rule.
+/// Returns the kind of an error of X.690 8, which can occur under any of the rules.
 fn in_ber(inner: BerDecodeErrorKind) -> DecodeErrorKind
     ensures { result ≡ in_ber inner }
 {
@@ -103,7 +108,7 @@ fn in_ber(inner: BerDecodeErrorKind) -> DecodeErrorKind
     }
 }
 
-/// The kind of error that stands for a fault.
+/// Returns the kind of error that reports a fault.
 #[inline(always)]
 fn error_kind(fault: ParseError) -> DecodeErrorKind
     ensures { result ≡ error_kind fault }
@@ -156,7 +161,7 @@ fn error_kind(fault: ParseError) -> DecodeErrorKind
     }
 }
 
-/// Whether a size is within its bound, in octets, bits, characters or elements.
+/// Checks that a size in octets, bits, characters or elements is within its bound.
 #[inline]
 fn check_size(constraints: &Constraints, size: usize) -> Result<(), ParseError>
     ensures { IsWithinSize constraints.now size result }
@@ -170,7 +175,7 @@ fn check_size(constraints: &Constraints, size: usize) -> Result<(), ParseError>
 }
 
 impl<'input> Decoder<'input> {
-    /// A reader of the input from its start, at depth 128.
+    /// Returns a decoder at the start of the input, with a remaining depth of 128.
     pub fn new(alloc: Global, input: &'input [u8], options: DecoderOptions) -> Decoder<'input>
         ensures { result ≡ record { rule = options; depth = 128; closing = top options; whole = input.now; rest = input.now } }
     {
@@ -185,26 +190,27 @@ impl<'input> Decoder<'input> {
         }
     }
 
-    /// The rules that it reads by.
+    /// Returns the rules that the decoder reads by.
     pub fn codec(&self) -> Codec
         ensures { result ≡ self.now.rule }
     {
         self.rules
     }
 
-    /// Returns whether only what the writer writes is read.
+    /// Returns whether the rules are DER, under which only the encoding that the encoder writes is
+    /// read.
     pub fn is_strict(&self) -> bool
         ensures { IsWhether result (IsStrict self.now.rule) }
     {
         is_der(self.rules)
     }
 
-    /// What new values are allocated in.
+    /// Returns the allocator for new values.
     pub fn alloc(&self) -> Global {
         self.alloc
     }
 
-    /// What is left of the input.
+    /// Returns the remaining input.
     pub fn remaining(&self) -> &'input [u8]
         ensures value { result.now ≡ self.now.rest }
         ensures end { IsEnd self.now.whole result.now }
@@ -212,18 +218,19 @@ impl<'input> Decoder<'input> {
         self.rest
     }
 
-    /// How many octets of the input were passed.
+    /// Returns the number of octets of the input that are consumed.
     pub fn decoded_len(&self) -> usize
         ensures { result + length self.now.rest ≡ length self.now.whole }
     {
         self.whole.len() - self.rest.len()
     }
 
-    /// The tag of the next value, which stays where it is.
+    /// Returns the tag of the next value without consuming it.
     ///
     /// # Errors
-    /// Where no value's identifier comes next (X.690 8.1.2): `Incomplete` or `UnsupportedTagNumber`, octet by octet, then
-    /// `UnexpectedEndOfContents`, and under DER then `NonMinimalTagNumber`.
+    /// If no identifier of a value follows (X.690 8.1.2): `Incomplete` or `UnsupportedTagNumber`,
+    /// whichever is found first, octet by octet; then `UnexpectedEndOfContents`; then, under DER,
+    /// `NonMinimalTagNumber`.
     pub fn peek_tag(&self) -> Result<Tag, DecodeError>
         ensures next { IsNextTag self.now result }
         ensures exact { PeeksTag self.now result }
@@ -236,7 +243,7 @@ impl<'input> Decoder<'input> {
         Ok(found.tag)
     }
 
-    /// The error of a fault, under the decoder's rules.
+    /// Returns the error that reports a fault, with the decoder's rules.
     #[inline(always)]
     fn error(&self, fault: ParseError) -> DecodeError
         ensures { result ≡ record { kind = error_kind fault; codec = self.now.rule } }
@@ -247,7 +254,7 @@ impl<'input> Decoder<'input> {
         }
     }
 
-    /// Goes on at an end of what is left.
+    /// Continues at `rest`, which must be a suffix of the remaining input.
     fn advance(&mut self, rest: &'input [u8])
         requires { IsEnd self.old.rest rest.now }
         ensures { self.new ≡ at self.old rest.now }
@@ -255,7 +262,8 @@ impl<'input> Decoder<'input> {
         self.rest = rest;
     }
 
-    /// Takes the header and contents of the next value, or nothing.
+    /// Consumes the header of the next value, and its contents if the length is definite. An error
+    /// consumes nothing.
     #[inline(always)]
     fn header(&mut self, expected: Expected) -> Result<Value<'input>, DecodeError>
         ensures exact { Consumes expected self.old result self.new }

@@ -1,20 +1,20 @@
-//! Errors that types make while they are read.
+//! Errors that implementations of `Decode` and `DecodeChoice` construct.
 ghost use Rattle.rasn_de.specs.NamedErrors.{IsNamedError, IsNoValidChoice, IsMissingField, IsDuplicateField};
 
 use rasn_types::error::{DecodeError, DecodeErrorKind};
 use rasn_types::types::Codec;
 use std::alloc::{AllocError, Global};
 
-/// Makes the errors that an implementation of `Decode` or `DecodeChoice` answers for itself. Each copies the name that it reports; where
-/// the copy finds no memory, it is `OutOfMemory`.
+/// Constructors of the errors that an implementation of `Decode` or `DecodeChoice` returns itself.
+/// Each copies the name that it reports; if that allocation fails, the error is `OutOfMemory`.
 pub trait Error: Drop {
-    /// No alternative of the CHOICE of this name begins with the tag that comes.
+    /// Returns the error that no alternative of the CHOICE called `name` has the next tag.
     fn no_valid_choice(alloc: Global, name: &str, codec: Codec) -> Self;
 
-    /// A required component of this name is missing.
+    /// Returns the error that the required component called `name` is missing.
     fn missing_field(alloc: Global, name: &str, codec: Codec) -> Self;
 
-    /// The component of this name occurs twice.
+    /// Returns the error that the component called `name` occurs twice.
     fn duplicate_field(alloc: Global, name: &str, codec: Codec) -> Self;
 }
 

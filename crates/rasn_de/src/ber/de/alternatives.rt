@@ -1,4 +1,5 @@
-//! A CHOICE whose alternatives are a type (X.690 8.13): the first, or one of the others.
+//! A CHOICE whose alternatives are described by a type (X.690 8.13): the first, or one of the
+//! others.
 ghost use Rattle.std.specs.Prelude.{◌≡◌, true, IfOk, IfErr};
 ghost use Rattle.rasn_types.specs.Framing.{NextTag};
 ghost use Rattle.rasn_types.specs.Tags.{form};
@@ -11,8 +12,8 @@ use crate::de::{Decode, Error};
 use rasn_types::error::DecodeError;
 use rasn_types::types::{Last, OneOf, Tag};
 
-/// Alternatives, each of which has a tag of its own: [`OneOf`] for each, with those behind it, and
-/// [`Last`] for the last.
+/// Alternatives, each of which has a tag of its own: [`OneOf`] for each one with those after it,
+/// and [`Last`] for the last.
 pub trait DecodeAlternatives: Drop {
     ghost use Rattle.std.specs.Prelude.{Bool, ℕ};
     ghost use Rattle.rasn_de.specs.State.{State};
@@ -24,16 +25,17 @@ pub trait DecodeAlternatives: Drop {
 
     ghost inner: { Self → Tree };
 
-    /// What the alternative holds of its octets beyond its tree.
+    /// What the alternative keeps of its octets beyond its tree.
     ghost beyond: { State → Self → State → Type 0 } = { λ _ _ _. Unit {0} };
 
     /// Whether each alternative has a tag of its own, which no other has.
     ghost tags_differ: { Bool };
 
-    /// Reads the alternative of this tag, which is the next one.
+    /// Reads the alternative that has this tag, which must be the next tag.
     ///
     /// # Errors
-    /// What the alternative refuses; `NoValidChoice` of this name where the tag is no alternative's.
+    /// The error of the alternative, or `NoValidChoice` with this name if no alternative has the
+    /// tag.
     fn decode_alternative(
         decoder: &mut Decoder<'_>,
         tag: Tag,
@@ -108,11 +110,12 @@ impl<A: Decode, R: DecodeAlternatives> DecodeAlternatives for OneOf<A, R> {
 }
 
 impl<'input> Decoder<'input> {
-    /// The alternative of a CHOICE that the next tag belongs to (X.690 8.13). `name` is the type's, and stands in the refusal of
-    /// another tag.
+    /// Reads the alternative of a CHOICE that the next tag belongs to (X.690 8.13). `name` is the
+    /// name of the type, which the error for any other tag contains.
     ///
     /// # Errors
-    /// Faults of the next identifier, which take nothing; what the alternative refuses; `NoValidChoice`, which takes nothing.
+    /// An error in the next identifier or `NoValidChoice`, which consume nothing, or the error of
+    /// the alternative.
     pub fn read_choice<P: DecodeAlternatives>(&mut self, name: &str) -> Result<P, DecodeError>
         requires { P.tags_differ ≡ true }
         ensures exact { DecodesAlternative P.parts (λ v. chosen (P.number v) (P.inner v)) name.now self.old result self.new }

@@ -1,4 +1,4 @@
-//! Open types, and values that are passed over.
+//! Open types, and values that are skipped.
 ghost use Rattle.std.specs.Prelude.{◌+◌, ◌*◌, ◌≤◌, length, IfOk, IfErr, ◌≡◌};
 ghost use Rattle.rasn_types.specs.Errors.{IsOutOfMemory};
 ghost use Rattle.rasn_types.specs.Shapes.{any, looked_for, numbers};
@@ -13,12 +13,16 @@ use rasn_types::error::DecodeError;
 use rasn_types::types::{Any, Constraints, Tag};
 
 impl<'input> Decoder<'input> {
-    /// A value of an open type, kept as its octets (X.680 30): with a tag the contents of the one value of this tag, in either
-    /// length form and without end-of-contents octets; with `Tag::EOC` one complete encoding, end-of-contents octets included. What it holds may be
-    /// nested to any depth, and is spelled as under BER, but for the indefinite form, which DER never has.
+    /// Reads a value of an open type as its octets (X.680 30). With a tag, they are the contents of
+    /// one value of this tag, in either form of length and without end-of-contents octets. With
+    /// `Tag::EOC`, they are one complete encoding, including end-of-contents octets. The octets may
+    /// be nested to any depth, and their identifiers and lengths may be encoded as under BER,
+    /// except that DER never allows the indefinite form. What is inside a definite length isn't
+    /// examined.
     ///
     /// # Errors
-    /// Framing faults of the value and of those that it holds, which consume nothing.
+    /// Nothing is consumed by an error: a framing error of the value or, inside an indefinite
+    /// length, of the encodings there; or `OutOfMemory` for the copy of the octets.
     pub fn decode_any(&mut self, tag: Tag) -> Result<Any, DecodeError>
         ensures reads { Decodes (any (looked_for tag)) numbers self.old result self.new }
         ensures exact { DecodesOpenType tag self.old result self.new }
@@ -36,10 +40,10 @@ impl<'input> Decoder<'input> {
         }
     }
 
-    /// Reads a value of an open type as `decode_any` does, and borrows its octets from the input.
+    /// Reads a value of an open type as `decode_any` does, but borrows its octets from the input.
     ///
     /// # Errors
-    /// As `decode_any`, except that no memory is asked for.
+    /// As `decode_any`, except `OutOfMemory`, since nothing is allocated.
     #[inline(always)]
     pub fn decode_open(&mut self, tag: Tag) -> Result<&'input [u8], DecodeError>
         ensures reads { Decodes (any (looked_for tag)) (λ o. numbers o.now) self.old result self.new }
@@ -56,12 +60,15 @@ impl<'input> Decoder<'input> {
         }
     }
 
-    /// Passes one complete encoding at any depth (X.690 8.1.1.1), in constant memory. Answers how many steps this took, which are at
-    /// most half as many as the octets: one for each end-of-contents octets that it passed, and one for each value inside with a definite
-    /// length or header of indefinite length; none for a value of definite length.
+    /// Skips one complete encoding, nested to any depth (X.690 8.1.1.1), in constant memory.
+    /// Returns the number of steps, which is at most half the number of octets skipped. A value of
+    /// definite length takes no steps. Within a value of indefinite length, there is one step for
+    /// each header, with its contents if their length is definite, and one for each pair of
+    /// end-of-contents octets, including the value's own.
     ///
     /// # Errors
-    /// Framing faults of the value and of those that it holds, which consume nothing.
+    /// Nothing is consumed by an error: a framing error of the value or, inside an indefinite
+    /// length, of the encodings there.
     pub fn skip_value(&mut self) -> Result<usize, DecodeError>
         ensures exact { SkipsValue self.old result self.new }
         ensures half { IfOk result (λ turns. 2 * turns + length self.new.rest ≤ length self.old.rest) }

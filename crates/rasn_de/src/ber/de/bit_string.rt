@@ -16,8 +16,8 @@ use rasn_types::error::DecodeError;
 use rasn_types::types::{BitString, Constraints, Tag};
 
 impl<'input> Decoder<'input> {
-    /// The bits of the next value as a string, gathered from its segments. A refusal consumes nothing, but for running out of memory
-    /// for the bits of a primitive value, which consumes the value.
+    /// Reads the bits of the next value as a string, collected from its segments. An error consumes
+    /// nothing, except that `OutOfMemory` for the bits of a primitive value consumes the value.
     fn bits(&mut self, tag: Tag) -> Result<CollectedBits, DecodeError>
         ensures exact { DecodesBits tag self.old result self.new }
         ensures octets { AreOctets self.old.rest }
@@ -52,12 +52,14 @@ impl<'input> Decoder<'input> {
         }
     }
 
-    /// A BIT STRING within a size in bits (X.690 8.6). Bits that a segment counts as unused don't belong to it, set or not; under
-    /// DER none is set (X.690 11.2.1).
+    /// Reads a BIT STRING whose size in bits meets the constraint (X.690 8.6). Bits that a segment
+    /// counts as unused aren't part of the string, whether they are set or not; under DER none may
+    /// be set (X.690 11.2.1).
     ///
     /// # Errors
-    /// With nothing consumed: framing faults, `UnexpectedEmptyInput` and `InvalidBitString` of a segment (X.690 8.6.2), under DER
-    /// `NonzeroUnusedBits`, and `OutOfMemory` while segments are gathered. With the value consumed: `OutOfMemory` of a primitive one,
+    /// With nothing consumed: framing errors, `UnexpectedEmptyInput` and `InvalidBitString` for a
+    /// segment (X.690 8.6.2), under DER `NonzeroUnusedBits`, and `OutOfMemory` while segments are
+    /// collected. With the value consumed: `OutOfMemory` for a primitive encoding,
     /// `LengthExceedsPlatformWidth` for 2^64 bits or more, then `SizeConstraintNotSatisfied`.
     pub fn decode_bit_string(
         &mut self,

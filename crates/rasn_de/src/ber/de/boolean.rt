@@ -14,7 +14,7 @@ use crate::de::Decode;
 use rasn_types::error::DecodeError;
 use rasn_types::types::{Codec, Constraints, Tag};
 
-/// The contents of a BOOLEAN.
+/// Reads the contents of a BOOLEAN.
 fn read_bool(rules: Codec, contents: &[u8]) -> Result<bool, ParseError>
     ensures { ParsesAs (λ b. b) result (bool_in rules contents.now) }
 {
@@ -31,11 +31,11 @@ fn read_bool(rules: Codec, contents: &[u8]) -> Result<bool, ParseError>
 }
 
 impl<'input> Decoder<'input> {
-    /// A BOOLEAN (X.690 8.2, 11.1).
+    /// Reads a BOOLEAN (X.690 8.2, 11.1).
     ///
     /// # Errors
-    /// Framing faults. With the value consumed: `MismatchedLength` where the contents aren't one octet, and under CER and DER `InvalidBool`
-    /// of another octet than `00` and `FF`.
+    /// A framing error. With the value consumed: `MismatchedLength` if the contents aren't one
+    /// octet, and under CER and DER `InvalidBool` for an octet other than `00` and `FF`.
     #[inline(always)]
     pub fn decode_bool(&mut self, tag: Tag) -> Result<bool, DecodeError>
         ensures reads { Decodes (leaf boolean tag unconstrained) bool_tree self.old result self.new }

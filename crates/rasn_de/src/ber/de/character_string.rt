@@ -21,7 +21,8 @@ use rasn_types::types::{
 };
 use std::borrow::{CowSlice, CowStr};
 
-/// Whether octets are within a size, and then all in the alphabet.
+/// Checks that the number of octets is within its bound, and then that all octets are in the
+/// alphabet.
 #[inline(always)]
 fn check_alphabet(
     alphabet: Alphabet,
@@ -40,7 +41,7 @@ fn check_alphabet(
     }
 }
 
-/// Whether octets are 16-bit units, and these within a size.
+/// Checks that octets form 16-bit units, and then that the number of units is within its bound.
 fn check_units(constraints: &Constraints, octets: &[u8]) -> Result<(), ParseError>
     ensures { ChecksString (ByUnits constraints.now.size) octets.now (units_of octets.now) result }
 {
@@ -52,7 +53,8 @@ fn check_units(constraints: &Constraints, octets: &[u8]) -> Result<(), ParseErro
     check_size(constraints, octets.len() / 2)
 }
 
-/// Whether the characters are within a size. They are counted only where there is a bound.
+/// Checks that the number of characters is within its bound. The characters are counted only if
+/// there is a bound.
 #[inline(always)]
 fn check_characters(constraints: &Constraints, text: &str) -> Result<(), ParseError>
     ensures { ChecksString (ByUtf8 constraints.now.size) text.now (chars text.now) result }
@@ -63,7 +65,7 @@ fn check_characters(constraints: &Constraints, text: &str) -> Result<(), ParseEr
     }
 }
 
-/// Octets as text, which stays borrowed where it is.
+/// Returns octets as text, which is borrowed if they are.
 #[inline(always)]
 fn text_of(octets: CowSlice<'_, u8>) -> Result<CowStr<'_>, ParseError>
     ensures { ParsesUtf8 octets.entry result }
@@ -84,11 +86,13 @@ fn text_of(octets: CowSlice<'_, u8>) -> Result<CowStr<'_>, ParseError>
 }
 
 impl<'input> Decoder<'input> {
-    /// A VisibleString of octets `20` to `7E`, within a size in octets (X.680 41).
+    /// Reads a VisibleString of octets `20` to `7E`, whose size in octets meets the constraint
+    /// (X.680 41).
     ///
     /// # Errors
-    /// Framing faults and faults of a segment, which consume nothing. With the value consumed: `SizeConstraintNotSatisfied`, then
-    /// `PermittedAlphabetError`.
+    /// With nothing consumed: framing errors, errors of a segment, and `OutOfMemory` while segments
+    /// are collected. With the value consumed: `SizeConstraintNotSatisfied`,
+    /// `PermittedAlphabetError`, then `OutOfMemory` for the copy of a primitive string.
     pub fn decode_visible_string(
         &mut self,
         tag: Tag,
@@ -101,11 +105,13 @@ impl<'input> Decoder<'input> {
         self.restricted::<VisibleType>(tag, constraints)
     }
 
-    /// An IA5String of octets `00` to `7F`, within a size in octets (X.680 41).
+    /// Reads an IA5String of octets `00` to `7F`, whose size in octets meets the constraint
+    /// (X.680 41).
     ///
     /// # Errors
-    /// Framing faults and faults of a segment, which consume nothing. With the value consumed: `SizeConstraintNotSatisfied`, then
-    /// `PermittedAlphabetError`.
+    /// With nothing consumed: framing errors, errors of a segment, and `OutOfMemory` while segments
+    /// are collected. With the value consumed: `SizeConstraintNotSatisfied`,
+    /// `PermittedAlphabetError`, then `OutOfMemory` for the copy of a primitive string.
     pub fn decode_ia5_string(
         &mut self,
         tag: Tag,
@@ -118,11 +124,13 @@ impl<'input> Decoder<'input> {
         self.restricted::<Ia5Type>(tag, constraints)
     }
 
-    /// A PrintableString of letters, digits, space and `' ( ) + , - . / : = ?`, within a size in octets (X.680 41).
+    /// Reads a PrintableString of letters, digits, space and `' ( ) + , - . / : = ?`, whose size in
+    /// octets meets the constraint (X.680 41).
     ///
     /// # Errors
-    /// Framing faults and faults of a segment, which consume nothing. With the value consumed: `SizeConstraintNotSatisfied`, then
-    /// `PermittedAlphabetError`.
+    /// With nothing consumed: framing errors, errors of a segment, and `OutOfMemory` while segments
+    /// are collected. With the value consumed: `SizeConstraintNotSatisfied`,
+    /// `PermittedAlphabetError`, then `OutOfMemory` for the copy of a primitive string.
     pub fn decode_printable_string(
         &mut self,
         tag: Tag,
@@ -135,11 +143,13 @@ impl<'input> Decoder<'input> {
         self.restricted::<PrintableType>(tag, constraints)
     }
 
-    /// A NumericString of digits and space, within a size in octets (X.680 41).
+    /// Reads a NumericString of digits and space, whose size in octets meets the constraint
+    /// (X.680 41).
     ///
     /// # Errors
-    /// Framing faults and faults of a segment, which consume nothing. With the value consumed: `SizeConstraintNotSatisfied`, then
-    /// `PermittedAlphabetError`.
+    /// With nothing consumed: framing errors, errors of a segment, and `OutOfMemory` while segments
+    /// are collected. With the value consumed: `SizeConstraintNotSatisfied`,
+    /// `PermittedAlphabetError`, then `OutOfMemory` for the copy of a primitive string.
     pub fn decode_numeric_string(
         &mut self,
         tag: Tag,
@@ -152,10 +162,12 @@ impl<'input> Decoder<'input> {
         self.restricted::<NumericType>(tag, constraints)
     }
 
-    /// A TeletexString of any octets, within a size in octets (X.680 41).
+    /// Reads a TeletexString of any octets, whose size in octets meets the constraint (X.680 41).
     ///
     /// # Errors
-    /// Framing faults and faults of a segment, which consume nothing; `SizeConstraintNotSatisfied`, which consumes the value.
+    /// With nothing consumed: framing errors, errors of a segment, and `OutOfMemory` while segments
+    /// are collected. With the value consumed: `SizeConstraintNotSatisfied`, then `OutOfMemory` for
+    /// the copy of a primitive string.
     pub fn decode_teletex_string(
         &mut self,
         tag: Tag,
@@ -168,10 +180,12 @@ impl<'input> Decoder<'input> {
         self.restricted::<TeletexType>(tag, constraints)
     }
 
-    /// A GeneralString of any octets, within a size in octets (X.680 41).
+    /// Reads a GeneralString of any octets, whose size in octets meets the constraint (X.680 41).
     ///
     /// # Errors
-    /// Framing faults and faults of a segment, which consume nothing; `SizeConstraintNotSatisfied`, which consumes the value.
+    /// With nothing consumed: framing errors, errors of a segment, and `OutOfMemory` while segments
+    /// are collected. With the value consumed: `SizeConstraintNotSatisfied`, then `OutOfMemory` for
+    /// the copy of a primitive string.
     pub fn decode_general_string(
         &mut self,
         tag: Tag,
@@ -184,10 +198,12 @@ impl<'input> Decoder<'input> {
         self.restricted::<GeneralType>(tag, constraints)
     }
 
-    /// A GraphicString of any octets, within a size in octets (X.680 41).
+    /// Reads a GraphicString of any octets, whose size in octets meets the constraint (X.680 41).
     ///
     /// # Errors
-    /// Framing faults and faults of a segment, which consume nothing; `SizeConstraintNotSatisfied`, which consumes the value.
+    /// With nothing consumed: framing errors, errors of a segment, and `OutOfMemory` while segments
+    /// are collected. With the value consumed: `SizeConstraintNotSatisfied`, then `OutOfMemory` for
+    /// the copy of a primitive string.
     pub fn decode_graphic_string(
         &mut self,
         tag: Tag,
@@ -200,11 +216,13 @@ impl<'input> Decoder<'input> {
         self.restricted::<GraphicType>(tag, constraints)
     }
 
-    /// A BMPString of 16-bit units, within a size in units (X.690 8.23.8).
+    /// Reads a BMPString of 16-bit units, the number of which meets the size constraint
+    /// (X.690 8.23.8).
     ///
     /// # Errors
-    /// Framing faults and faults of a segment, which consume nothing. With the value consumed: `StringConversionFailed` of an odd number
-    /// of octets, then `SizeConstraintNotSatisfied`.
+    /// With nothing consumed: framing errors, errors of a segment, and `OutOfMemory` while segments
+    /// are collected. With the value consumed: `StringConversionFailed` for an odd number of
+    /// octets, `SizeConstraintNotSatisfied`, then `OutOfMemory` for the copy of a primitive string.
     pub fn decode_bmp_string(
         &mut self,
         tag: Tag,
@@ -224,11 +242,13 @@ impl<'input> Decoder<'input> {
         }
     }
 
-    /// A UTF8String, within a size in characters (X.690 8.23.10).
+    /// Reads a UTF8String whose size in characters meets the constraint (X.690 8.23.10).
     ///
     /// # Errors
-    /// Framing faults and faults of a segment, which consume nothing. With the value consumed: `StringConversionFailed` of octets that
-    /// aren't UTF-8, all segments taken together, then `SizeConstraintNotSatisfied`.
+    /// With nothing consumed: framing errors, errors of a segment, and `OutOfMemory` while segments
+    /// are collected. With the value consumed: `StringConversionFailed` if the octets of all
+    /// segments together aren't UTF-8, `SizeConstraintNotSatisfied`, then `OutOfMemory` for the
+    /// copy of a primitive string.
     #[inline(always)]
     pub fn decode_utf8_string(
         &mut self,
@@ -246,10 +266,11 @@ impl<'input> Decoder<'input> {
         }
     }
 
-    /// Reads a UTF8String as `decode_utf8_string` does, and borrows the characters of a primitive one from the input.
+    /// Reads a UTF8String as `decode_utf8_string` does, but borrows the characters of a primitive
+    /// one from the input.
     ///
     /// # Errors
-    /// As `decode_utf8_string`.
+    /// As `decode_utf8_string`, except `OutOfMemory` for a copy.
     #[inline(always)]
     pub fn decode_utf8_text(
         &mut self,
@@ -271,11 +292,12 @@ impl<'input> Decoder<'input> {
         }
     }
 
-    /// Reads a string whose octets are characters of one alphabet, within a size in octets (X.680 41). The octets of a primitive one are
-    /// borrowed from the input.
+    /// Reads a string whose octets are characters of one alphabet, and whose size in octets meets
+    /// the constraint (X.680 41). The octets of a primitive one are borrowed from the input.
     ///
     /// # Errors
-    /// Framing faults and faults of a segment, which consume nothing. With the value consumed: `SizeConstraintNotSatisfied`, then
+    /// With nothing consumed: framing errors, errors of a segment, and `OutOfMemory` while segments
+    /// are collected. With the value consumed: `SizeConstraintNotSatisfied`, then
     /// `PermittedAlphabetError`.
     #[inline(always)]
     pub fn decode_restricted_string(
@@ -295,7 +317,7 @@ impl<'input> Decoder<'input> {
         }
     }
 
-    /// A string whose octets are characters of one alphabet.
+    /// Reads a string as `decode_restricted_string` does, but copies borrowed octets.
     #[inline(always)]
     pub(crate) fn restricted<S: StringType>(
         &mut self,

@@ -9,10 +9,10 @@ use rasn_types::error::DecodeError;
 use rasn_types::types::Constraints;
 
 impl<'input> Decoder<'input> {
-    /// A value of the alternative that the next tag belongs to. Constraints are ignored.
+    /// Reads the alternative that the next tag belongs to. The constraints are ignored.
     ///
     /// # Errors
-    /// Faults of the next identifier, which consume nothing; what `D::from_tag` refuses.
+    /// An error in the next identifier, which consumes nothing, or the error of `D::from_tag`.
     pub fn decode_choice<D: DecodeChoice>(
         &mut self,
         _constraints: &Constraints,

@@ -5,7 +5,8 @@ ghost use Rattle.rasn_types.specs.declared.types.codec.Codec.TheVariants.{Ber, C
 use rasn_types::types::Codec;
 use std::marker::Model;
 
-/// How a decoder reads: by which rules. To contracts they are all there is.
+/// The options of a decoder, which are the rules that it reads by. In contracts the options are
+/// these rules.
 #[derive(Clone, Copy, Debug)]
 pub struct DecoderOptions {
     rules: Codec,
@@ -22,35 +23,35 @@ impl Model for DecoderOptions {
 }
 
 impl DecoderOptions {
-    /// By the rules of this name.
+    /// Returns the options for these rules.
     pub const fn of(codec: Codec) -> DecoderOptions
         ensures { result ≡ codec }
     {
         DecoderOptions { rules: codec }
     }
 
-    /// By the basic encoding rules (X.690 8).
+    /// Returns the options for the basic encoding rules (X.690 8).
     pub const fn ber() -> DecoderOptions
         ensures { result ≡ Ber }
     {
         DecoderOptions { rules: Codec::Ber }
     }
 
-    /// By the canonical encoding rules (X.690 9, 11).
+    /// Returns the options for the canonical encoding rules (X.690 9, 11).
     pub const fn cer() -> DecoderOptions
         ensures { result ≡ Cer }
     {
         DecoderOptions { rules: Codec::Cer }
     }
 
-    /// By the distinguished encoding rules (X.690 10, 11).
+    /// Returns the options for the distinguished encoding rules (X.690 10, 11).
     pub const fn der() -> DecoderOptions
         ensures { result ≡ Der }
     {
         DecoderOptions { rules: Codec::Der }
     }
 
-    /// The rules that these options name.
+    /// Returns the rules.
     pub fn current_codec(&self) -> Codec
         ensures { result ≡ self.now }
     {

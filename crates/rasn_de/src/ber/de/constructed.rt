@@ -1,4 +1,4 @@
-//! Values that hold others: how they are opened and closed (X.690 8.1).
+//! Values that contain others: how they are opened and closed (X.690 8.1).
 ghost use Rattle.std.specs.Prelude.{◌≡◌, ◌≢◌};
 ghost use Rattle.std.specs.Fn.{FnOnceReturnsAtMut};
 ghost use Rattle.rasn_types.specs.Framing.{indefinite, AreOctets, Ended};
@@ -14,8 +14,8 @@ use crate::ber::de::parser::{Contents, ParseError};
 use rasn_types::error::DecodeError;
 use rasn_types::types::{Codec, Tag};
 
-/// How the header of a value that holds others has to be: its tag, whether it must be constructed under every rule, and how many levels
-/// of depth the value takes.
+/// The requirements on the header of a value that contains others: its tag, whether it must be
+/// constructed under every rule, and the number of levels of depth that the value takes.
 #[derive(Clone, Copy)]
 pub struct ConstructedHeader {
     pub(crate) tag: Tag,
@@ -24,7 +24,7 @@ pub struct ConstructedHeader {
 }
 
 impl ConstructedHeader {
-    /// The header of a SEQUENCE or SET.
+    /// Returns the header of a SEQUENCE or SET.
     pub fn sequence(tag: Tag) -> ConstructedHeader
         ensures { result ≡ sequence_header tag }
     {
@@ -35,7 +35,7 @@ impl ConstructedHeader {
         }
     }
 
-    /// The header of a SEQUENCE OF or SET OF, which takes two levels of depth.
+    /// Returns the header of a SEQUENCE OF or SET OF, which takes two levels of depth.
     pub fn list(tag: Tag) -> ConstructedHeader
         ensures { result ≡ list_header tag }
     {
@@ -46,7 +46,7 @@ impl ConstructedHeader {
         }
     }
 
-    /// The header of an explicit prefix, whose constructed bit is looked at under DER alone.
+    /// Returns the header of an explicit tag, whose constructed bit is checked only under DER.
     pub fn prefix(tag: Tag) -> ConstructedHeader
         ensures { result ≡ prefix_header tag }
     {
@@ -57,7 +57,8 @@ impl ConstructedHeader {
         }
     }
 
-    /// Which identifier begins the value: of one that needn't be constructed, under DER with the bit that it is written with.
+    /// Returns the identifier that must begin the value. If the value needn't be constructed under
+    /// every rule, the constructed bit that it is written with is required under DER.
     fn expected(self, rules: Codec) -> Expected
         ensures { result ≡ expected_header self rules }
     {
@@ -79,8 +80,10 @@ fn is_indefinite(contents: Contents<'_>) -> bool
 }
 
 impl<'input> Decoder<'input> {
-    /// Reads such a header. Returns a decoder of the contents, and the contents, which are skipped; or a decoder of what follows the header,
-    /// if the length is indefinite.
+    /// Opens a value that contains others. Returns a decoder inside the value, and the contents. If
+    /// the length is definite, the header and the contents are consumed, and the inner decoder
+    /// reads the contents. If it is indefinite, only the header is consumed, and the inner decoder
+    /// reads what follows it.
     #[inline(always)]
     pub fn open(
         &mut self,
@@ -108,7 +111,8 @@ impl<'input> Decoder<'input> {
         Ok((inner, value.contents))
     }
 
-    /// Reads the end of a value, of whose contents `left` wasn't read.
+    /// Closes a value inside which `left` remains. Definite contents must be read entirely; if the
+    /// length is indefinite, end-of-contents octets must follow, and are consumed.
     #[inline(always)]
     pub fn close(
         &mut self,
@@ -139,14 +143,16 @@ impl<'input> Decoder<'input> {
         self.closing
     }
 
-    /// Returns whether the contents end: nothing is left, or end-of-contents octets follow where they may.
+    /// Returns whether the contents end: no input remains, or end-of-contents octets follow and may
+    /// end the contents.
     pub fn has_ended(&self) -> bool
         ensures { IsWhether result (Ended self.now.closing self.now.rest) }
     {
         has_ended(self.closing, self.rest)
     }
 
-    /// Reads inside a value with such a header. `f` has to read all of its contents.
+    /// Opens a value that contains others, calls `f` on the decoder inside it, and closes the
+    /// value. `f` must read all of the contents.
     #[inline(always)]
     pub(super) fn inside<D: Drop, F: FnOnce(&mut Decoder<'_>) -> Result<D, DecodeError>>(
         &mut self,

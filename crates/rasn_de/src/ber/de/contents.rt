@@ -11,7 +11,9 @@ use rasn_types::error::DecodeError;
 use rasn_types::types::Tag;
 
 impl<'input> Decoder<'input> {
-    /// The contents of the next value, which has to have a definite length, and under DER the constructed bit that it is written with.
+    /// Reads the contents of the next value, which must have a definite length and, under DER, the
+    /// constructed bit that it is written with. An indefinite length that the rules allow consumes
+    /// the header.
     #[inline(always)]
     pub(super) fn contents(&mut self, tag: Tag) -> Result<&'input [u8], DecodeError>
         ensures exact { DecodesLeaf (λ c. c.now) (λ r. definite_at self.old.rule tag self.old.rest ≡ r) self.old result self.new }

@@ -1,4 +1,4 @@
-//! Values that have a default where they are left out (X.680 25.8).
+//! Values that have a default if they are left out (X.680 25.8).
 ghost use Rattle.std.specs.Prelude.{◌≡◌, IfErr};
 ghost use Rattle.rasn_types.specs.Shapes.{prefix};
 ghost use Rattle.rasn_de.specs.Decodes.{Decodes};
@@ -13,12 +13,16 @@ use rasn_types::types::{Constraints, LawfulEq, Tag};
 use std::alloc::AllocError;
 
 impl<'input> Decoder<'input> {
-    /// A value, or its default where the contents end or another tag than the type's own comes.
+    /// Reads a value, or returns its default if the contents end or a tag other than the type's own
+    /// follows. If the type has no tag of its own, the default is returned only at the end of the
+    /// contents.
     ///
     /// # Errors
-    /// Faults of the next identifier, which consume nothing; what the value refuses; running out of memory of the default. Under DER the
-    /// default is also made where a value comes, and `DefaultValuePresent` refuses the value that equals it (X.690 11.5); this
-    /// refusal, and running out of memory then, consume the value.
+    /// An error in the next identifier, which consumes nothing; the error of the value; or
+    /// `OutOfMemory` if an allocation for the default fails. Under DER the default is also made if
+    /// a value is present, and a value that equals it is refused with `DefaultValuePresent`
+    /// (X.690 11.5). This error, and `OutOfMemory` for the default at this point, consume the
+    /// value.
     pub fn decode_default<D: Decode + LawfulEq, F: FnOnce() -> Result<D, AllocError>>(
         &mut self,
         default: F,
@@ -31,7 +35,8 @@ impl<'input> Decoder<'input> {
         self.decode_default_with_tag_and_constraints(D::TAG, default, &D::CONSTRAINTS)
     }
 
-    /// A value under this tag, or its default where the contents end or another tag comes.
+    /// Reads a value with this tag, or returns its default if the contents end or another tag
+    /// follows.
     ///
     /// # Errors
     /// As `decode_default`.
@@ -48,7 +53,8 @@ impl<'input> Decoder<'input> {
         self.decode_default_with_tag_and_constraints(tag, default, &D::CONSTRAINTS)
     }
 
-    /// A value under these constraints, or its default where the contents end or another tag than the type's own comes.
+    /// Reads a value with these constraints, or returns its default if the contents end or a tag
+    /// other than the type's own follows.
     ///
     /// # Errors
     /// As `decode_default`.
@@ -64,7 +70,8 @@ impl<'input> Decoder<'input> {
         self.decode_default_with_tag_and_constraints(D::TAG, default, constraints)
     }
 
-    /// A value under this tag and these constraints, or its default where the contents end or another tag comes.
+    /// Reads a value with this tag and these constraints, or returns its default if the contents
+    /// end or another tag follows.
     ///
     /// # Errors
     /// As `decode_default`.
@@ -92,7 +99,8 @@ impl<'input> Decoder<'input> {
         Ok(value)
     }
 
-    /// A value under a prefix of this tag in front of its own (X.690 8.14.2), or its default where the contents end or another tag comes.
+    /// Reads a value under an explicit tag (X.690 8.14.2), or returns its default if the contents
+    /// end or another tag follows.
     ///
     /// # Errors
     /// As `decode_default`, and those of `decode_explicit_prefix`.
@@ -122,7 +130,7 @@ impl<'input> Decoder<'input> {
         Ok(value)
     }
 
-    /// The value that the closure makes.
+    /// Returns the value that the closure makes, or `OutOfMemory` if it fails.
     pub(super) fn default_value<D: Drop, F: FnOnce() -> Result<D, AllocError>>(
         &self,
         make: F,

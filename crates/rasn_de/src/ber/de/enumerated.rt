@@ -13,11 +13,12 @@ use rasn_types::error::DecodeError;
 use rasn_types::types::{Constraints, Enumerated, Tag};
 
 impl<'input> Decoder<'input> {
-    /// An ENUMERATED of the type `E` (X.690 8.4).
+    /// Reads an ENUMERATED of the type `E` (X.690 8.4).
     ///
     /// # Errors
-    /// Framing faults. With the value consumed: `UnexpectedEmptyInput`, under DER `NonMinimalInteger`, `IntegerOverflow` from 64
-    /// bits on, then `DiscriminantValueNotFound` where the type doesn't name the number.
+    /// A framing error. With the value consumed: `UnexpectedEmptyInput`, under DER
+    /// `NonMinimalInteger`, `IntegerOverflow` if the number needs more than 64 bits, then
+    /// `DiscriminantValueNotFound` if the type doesn't name the number.
     pub fn decode_enumerated<E: Enumerated>(&mut self, tag: Tag) -> Result<E, DecodeError>
         ensures reads { Decodes (leaf (enumerated E.known) tag unconstrained) (λ v. number (E.number v)) self.old result self.new }
         ensures exact { DecodesLeaf E.number (EnumeratedAt E.known self.old.rule tag self.old.rest) self.old result self.new }

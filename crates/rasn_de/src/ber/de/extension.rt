@@ -12,7 +12,8 @@ use rasn_types::error::DecodeError;
 use rasn_types::types::{Constraints, Constructed, Tag};
 
 impl<'input> Decoder<'input> {
-    /// An extension addition under this tag, unless the contents end or another tag comes. Constraints are ignored.
+    /// Reads an extension addition with this tag, or returns `None` if the contents end or another
+    /// tag follows. The constraints are ignored.
     ///
     /// # Errors
     /// As `decode_optional`.
@@ -28,8 +29,8 @@ impl<'input> Decoder<'input> {
         self.decode_optional_with_tag(tag)
     }
 
-    /// An extension addition in an explicit prefix of this tag, which has to be there: the answer is never `None`. Constraints are
-    /// ignored.
+    /// Reads an extension addition under this explicit tag, which must be present: `None` is never
+    /// returned. The constraints are ignored.
     ///
     /// # Errors
     /// As `decode_explicit_prefix`.
@@ -46,7 +47,8 @@ impl<'input> Decoder<'input> {
         Ok(Some(value))
     }
 
-    /// An extension addition group, which is a SEQUENCE of its own, unless the contents end or another tag comes (X.680 25.10).
+    /// Reads an extension addition group, which is a SEQUENCE of its own, or returns `None` if the
+    /// contents end or another tag follows (X.680 25.10).
     ///
     /// # Errors
     /// As `decode_optional`.

@@ -11,10 +11,11 @@ use rasn_types::error::DecodeError;
 use rasn_types::types::{Bounded, Constraints, FixedOctetString, Tag};
 
 impl<'input> Decoder<'input> {
-    /// An OCTET STRING of `N` octets, which are also within a size (X.690 8.7).
+    /// Reads an OCTET STRING of `N` octets, which must also meet the size constraint (X.690 8.7).
     ///
     /// # Errors
-    /// As `decode_octet_string`; another number of octets than `N` is reported before the size that is handed in.
+    /// As `decode_octet_string`. A number of octets other than `N` is reported before the size
+    /// constraint.
     pub(crate) fn decode_fixed_octet_string<const N: usize>(
         &mut self,
         tag: Tag,

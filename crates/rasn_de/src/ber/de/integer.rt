@@ -13,7 +13,8 @@ use crate::de::Decode;
 use rasn_types::error::{DecodeError, DecodeErrorKind, DerDecodeErrorKind};
 use rasn_types::types::{Bounded, Codec, Constraints, Integer, IntegerType, Tag};
 
-/// Whether octets hold a number: there are some, and under DER the first nine bits aren't equal (X.690 8.3.1, 8.3.2).
+/// Checks that octets encode a number: there is at least one octet, and under DER the first nine
+/// bits aren't equal (X.690 8.3.1, 8.3.2).
 fn check_number(rules: Codec, octets: &[u8]) -> Result<(), ParseError>
     ensures { ChecksIntegerContents rules octets.now result }
 {
@@ -27,11 +28,13 @@ fn check_number(rules: Codec, octets: &[u8]) -> Result<(), ParseError>
 }
 
 impl<'input> Decoder<'input> {
-    /// An INTEGER of the type `I`, within bounds (X.690 8.3).
+    /// Reads an INTEGER of the type `I` that is within its bound (X.690 8.3).
     ///
     /// # Errors
-    /// Framing faults. With the value consumed: `UnexpectedEmptyInput`, under DER `NonMinimalInteger`, `OutOfMemory` for a number that
-    /// takes memory, which an `Integer` does above 23 octets, `IntegerOverflow`, then `ValueConstraintNotSatisfied`.
+    /// A framing error. With the value consumed: `UnexpectedEmptyInput`, under DER
+    /// `NonMinimalInteger`, `OutOfMemory` for a number that is stored on the heap, as an `Integer`
+    /// of more than 23 octets is, `IntegerOverflow`, then `ValueConstraintNotSatisfied`, or
+    /// `OutOfMemory` if an allocation for that error fails.
     #[inline(always)]
     pub fn decode_integer<I: IntegerType>(
         &mut self,
@@ -63,7 +66,8 @@ impl<'input> Decoder<'input> {
         }
     }
 
-    /// The error of a number out of its bound, which holds both. Where these find no memory, that is the error.
+    /// Returns the error for a number out of its bound, which contains both. If an allocation for
+    /// them fails, the error is `OutOfMemory`.
     #[cold]
     #[inline(never)]
     fn out_of_bound(&self, octets: &[u8], expected: Bounded<i128>) -> DecodeError

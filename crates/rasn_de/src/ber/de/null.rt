@@ -14,10 +14,10 @@ use rasn_types::error::DecodeError;
 use rasn_types::types::{Constraints, Tag};
 
 impl<'input> Decoder<'input> {
-    /// A NULL (X.690 8.8).
+    /// Reads a NULL (X.690 8.8).
     ///
     /// # Errors
-    /// Framing faults. With the value consumed: `MismatchedLength`, where there are contents.
+    /// A framing error. With the value consumed: `MismatchedLength` if the contents aren't empty.
     pub fn decode_null(&mut self, tag: Tag) -> Result<(), DecodeError>
         ensures reads { Decodes (leaf null tag unconstrained) (λ _. number (pos 0)) self.old result self.new }
         ensures exact { DecodesLeaf (λ u. u) (NullAt self.old.rule tag self.old.rest) self.old result self.new }

@@ -13,12 +13,12 @@ use rasn_types::error::DecodeError;
 use rasn_types::types::{Codec, Constraints, ObjectIdentifier, Tag};
 
 impl<'input> Decoder<'input> {
-    /// An OBJECT IDENTIFIER (X.690 8.19).
+    /// Reads an OBJECT IDENTIFIER (X.690 8.19).
     ///
     /// # Errors
-    /// Framing faults. With the value consumed: `Incomplete` where octets of a subidentifier are missing,
-    /// `UnsupportedObjectIdentifierArc` where one is 2^32 or more, under DER `NonMinimalArc` where one begins with the octet 80,
-    /// whatever follows that, and `OutOfMemory`.
+    /// A framing error. With the value consumed: `Incomplete` if octets of a subidentifier are
+    /// missing, `UnsupportedObjectIdentifierArc` if one is 2^32 or more, under DER `NonMinimalArc`
+    /// if one begins with the octet 80, whatever follows that octet, and `OutOfMemory`.
     #[inline(always)]
     pub fn decode_object_identifier(&mut self, tag: Tag) -> Result<ObjectIdentifier, DecodeError>
         ensures reads { Decodes (leaf object_identifier tag unconstrained) numbers self.old result self.new }
@@ -30,7 +30,7 @@ impl<'input> Decoder<'input> {
         self.object_identifier(rules, contents)
     }
 
-    /// The object identifier that contents octets hold as these rules read them.
+    /// Returns the object identifier that contents octets encode under these rules.
     #[tactic(auto, using(crate::proofs::Leaves::ObjectIdentifier::arcs_told))]
     #[inline(always)]
     fn object_identifier(
@@ -46,11 +46,13 @@ impl<'input> Decoder<'input> {
         }
     }
 
-    /// The object identifier that contents octets hold (X.690 8.19), read as under BER whatever the rules of the decoder are: a
-    /// subidentifier may begin with octets 80. What is left of the input stays as it is.
+    /// Returns the object identifier that contents octets encode (X.690 8.19). They are read as
+    /// under BER whatever the decoder's rules are, so that a subidentifier may begin with
+    /// octets 80. The remaining input isn't changed.
     ///
     /// # Errors
-    /// As `decode_object_identifier` under BER, but for framing faults. They name the rules of the decoder.
+    /// As `decode_object_identifier` under BER, except framing errors. The errors name the
+    /// decoder's rules.
     #[tactic(auto, using(crate::proofs::Leaves::ObjectIdentifier::arcs_held))]
     pub fn decode_object_identifier_from_bytes(
         &self,

@@ -18,7 +18,8 @@ use rasn_types::types::{Constraints, OctetString, Tag};
 use std::alloc::{AllocError, Global};
 use std::borrow::CowSlice;
 
-/// Octets of one's own. Borrowed ones are copied at once, which `into_owned` does one by one.
+/// Returns the octets as a vector. Borrowed octets are copied at once, whereas `into_owned` copies
+/// them one by one.
 pub(crate) fn owned(alloc: Global, octets: CowSlice<'_, u8>) -> Result<Vec<u8>, AllocError>
     ensures items { IfOk result (λ v. v.items ≡ cow_slice_items octets.entry) }
     ensures succeeds { IsOwnedSlice octets.entry → IsOk result }
@@ -30,7 +31,8 @@ pub(crate) fn owned(alloc: Global, octets: CowSlice<'_, u8>) -> Result<Vec<u8>, 
 }
 
 impl<'input> Decoder<'input> {
-    /// The octets of the next value as a string: borrowed from a primitive one, gathered from segments. A refusal consumes nothing.
+    /// Reads the octets of the next value as a string. They are borrowed from a primitive value,
+    /// and collected from segments otherwise. An error consumes nothing.
     #[inline(always)]
     pub(super) fn octets(&mut self, tag: Tag) -> Result<CowSlice<'input, u8>, DecodeError>
         ensures exact { DecodesOctets tag self.old result self.new }
@@ -59,10 +61,12 @@ impl<'input> Decoder<'input> {
         }
     }
 
-    /// An OCTET STRING within a size in octets (X.690 8.7). The octets are borrowed exactly where the encoding is primitive.
+    /// Reads an OCTET STRING whose size in octets meets the constraint (X.690 8.7). The octets are
+    /// borrowed exactly if the encoding is primitive.
     ///
     /// # Errors
-    /// Framing faults; faults of a segment, which consume nothing (X.690 8.7.3); `SizeConstraintNotSatisfied`, which consumes the value.
+    /// With nothing consumed: framing errors, errors of a segment (X.690 8.7.3), and `OutOfMemory`
+    /// while segments are collected. With the value consumed: `SizeConstraintNotSatisfied`.
     #[inline(always)]
     pub fn decode_octet_string(
         &mut self,

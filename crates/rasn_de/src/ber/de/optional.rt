@@ -12,7 +12,11 @@ use rasn_types::error::DecodeError;
 use rasn_types::types::{Constraints, Tag};
 
 impl<'input> Decoder<'input> {
-    /// Returns whether the next value has this tag, or whether there is one if the tag is `Tag::EOC`.
+    /// Returns whether the next value has this tag; if the tag is `Tag::EOC`, whether a value
+    /// follows.
+    ///
+    /// # Errors
+    /// The errors of `peek_tag`, unless the contents end or the tag is `Tag::EOC`.
     pub fn next_tag_is(&self, tag: Tag) -> Result<bool, DecodeError>
         ensures { NextTagIs tag self.now result }
     {
@@ -25,10 +29,12 @@ impl<'input> Decoder<'input> {
         Ok(self.peek_tag()? == tag)
     }
 
-    /// A value, unless the contents end or another tag than the type's own comes.
+    /// Reads a value, or returns `None` if the contents end or a tag other than the type's own
+    /// follows. If the type has no tag of its own, `None` is returned only at the end of the
+    /// contents.
     ///
     /// # Errors
-    /// Faults of the next identifier, which consume nothing; what the value refuses.
+    /// An error in the next identifier, which consumes nothing, or the error of the value.
     pub fn decode_optional<D: Decode>(&mut self) -> Result<Option<D>, DecodeError>
         ensures exact { DecodesIfPresent (Decodes D.shape D.tree) D.TAG self.old result self.new }
         ensures reads { DecodesOption D.TAG D.shape D.tree self.old result self.new }
@@ -38,7 +44,8 @@ impl<'input> Decoder<'input> {
         self.decode_optional_with_tag_and_constraints(D::TAG, &D::CONSTRAINTS)
     }
 
-    /// A value under this tag, unless the contents end or another tag comes.
+    /// Reads a value with this tag, or returns `None` if the contents end or another tag follows.
+    /// If the tag is `Tag::EOC`, `None` is returned only at the end of the contents.
     ///
     /// # Errors
     /// As `decode_optional`.
@@ -54,7 +61,8 @@ impl<'input> Decoder<'input> {
         self.decode_optional_with_tag_and_constraints(tag, &D::CONSTRAINTS)
     }
 
-    /// A value under these constraints, unless the contents end or another tag than the type's own comes.
+    /// Reads a value with these constraints, or returns `None` if the contents end or a tag other
+    /// than the type's own follows.
     ///
     /// # Errors
     /// As `decode_optional`.
@@ -70,7 +78,9 @@ impl<'input> Decoder<'input> {
         self.decode_optional_with_tag_and_constraints(D::TAG, constraints)
     }
 
-    /// A value under this tag and these constraints, unless the contents end or another tag comes.
+    /// Reads a value with this tag and these constraints, or returns `None` if the contents end or
+    /// another tag follows. If the tag is `Tag::EOC`, `None` is returned only at the end of the
+    /// contents.
     ///
     /// # Errors
     /// As `decode_optional`.
@@ -91,10 +101,12 @@ impl<'input> Decoder<'input> {
         Ok(Some(value))
     }
 
-    /// A value in an explicit prefix, unless the contents end or another tag comes.
+    /// Reads a value under an explicit tag, or returns `None` if the contents end or another tag
+    /// follows.
     ///
     /// # Errors
-    /// Faults of the next identifier, which consume nothing; where the prefix comes, as `decode_explicit_prefix`.
+    /// An error in the next identifier, which consumes nothing, or, if the explicit tag follows,
+    /// the errors of `decode_explicit_prefix`.
     pub fn decode_optional_with_explicit_prefix<D: Decode>(
         &mut self,
         tag: Tag,

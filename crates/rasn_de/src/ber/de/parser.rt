@@ -17,7 +17,7 @@ pub mod object_identifier;
 pub mod segments;
 pub mod skipping;
 
-/// Why a read is refused, as far as a refusal holds nothing in memory.
+/// The reasons for which input is refused, except those that own memory.
 #[derive(Clone, Copy, Debug)]
 pub enum ParseError {
     Incomplete {
@@ -71,14 +71,14 @@ pub enum ParseError {
     UnsupportedObjectIdentifierArc,
 }
 
-/// What a value's length says.
+/// The contents of a value: octets, unless the length is indefinite.
 #[derive(Clone, Copy, Debug)]
 pub enum Contents<'input> {
     Definite(&'input [u8]),
     Indefinite,
 }
 
-/// A value's header and contents.
+/// The header of a value, with its contents.
 #[derive(Clone, Copy, Debug)]
 pub struct Value<'input> {
     pub tag: Tag,
@@ -86,7 +86,8 @@ pub struct Value<'input> {
     pub contents: Contents<'input>,
 }
 
-/// A number below 2^32 in base 128, whose last octet is below 128, and what follows. A number of 2^32 or more is the fault `wide`.
+/// Reads a number below 2^32 in base 128, whose last octet is below 128, and returns it and what
+/// follows. A number of 2^32 or more is the fault `wide`.
 #[tactic(auto, unfolding(crate::specs::Headers::number128_at))]
 pub fn read_number128(wide: ParseError, input: &[u8]) -> Result<(u32, &[u8]), ParseError>
     ensures { ParsesAs pair result (number128_at wide 0 input.now) }
@@ -106,7 +107,7 @@ pub fn read_number128(wide: ParseError, input: &[u8]) -> Result<(u32, &[u8]), Pa
     Err(ParseError::Incomplete { needed: 1 })
 }
 
-/// The class that the first two bits of an identifier name.
+/// Returns the class that the first two bits of an identifier name.
 fn class_at(n: u8) -> Class
     ensures { result ≡ class_of n }
 {
@@ -118,7 +119,8 @@ fn class_at(n: u8) -> Class
     }
 }
 
-/// Whether the first seven bits of a number in base 128 are zero, so that it doesn't need its first octet (X.690 8.1.2.4.2, 8.19.2).
+/// Returns whether the first seven bits of a number in base 128 are zero, so that its first octet
+/// is superfluous (X.690 8.1.2.4.2, 8.19.2).
 pub fn is_padded(input: &[u8]) -> bool
     ensures { result ≡ is_padded input.now }
 {
@@ -128,7 +130,8 @@ pub fn is_padded(input: &[u8]) -> bool
     }
 }
 
-/// The tag number of an identifier, from its first octet and from those that follow (X.690 8.1.2.2, 8.1.2.4), and what follows them.
+/// Reads the tag number of an identifier from its first octet and those that follow (X.690 8.1.2.2,
+/// 8.1.2.4), and returns it and what follows them.
 #[tactic(auto, unfolding(crate::specs::Headers::tag_number_at))]
 fn read_tag_number(first: u8, input: &[u8]) -> Result<(u32, &[u8]), ParseError>
     ensures { ParsesAs pair result (tag_number_at first input.now) }
@@ -139,14 +142,14 @@ fn read_tag_number(first: u8, input: &[u8]) -> Result<(u32, &[u8]), ParseError>
     read_number128(ParseError::UnsupportedTagNumber, input)
 }
 
-/// Whether a number in the octets behind a first one could be spelled in fewer.
+/// Returns whether the tag number in the octets after the first could be encoded in fewer octets.
 fn is_longer(first: u8, input: &[u8], number: u32) -> bool
     ensures { result ≡ is_longer first input.now number }
 {
     first % 32 == 31 && (is_padded(input) || number < 31)
 }
 
-/// Whether this is the tag of end-of-contents octets, which no value has (X.690 8.1.5).
+/// Returns whether this is the tag of end-of-contents octets, which no value has (X.690 8.1.5).
 fn is_end_of_contents(tag: Tag) -> bool
     ensures { result ≡ is_eoc tag }
 {
@@ -156,7 +159,8 @@ fn is_end_of_contents(tag: Tag) -> bool
     }
 }
 
-/// The identifier that begins the input, which may have to be the shortest one, and what follows.
+/// Reads the identifier at the start of the input, and returns it and what follows. If `shortest`
+/// is set, the identifier must have no superfluous octets.
 #[tactic(auto, using(crate::proofs::Headers::Results::octets_all), unfolding(crate::specs::Headers::identifier_by))]
 #[inline(always)]
 pub fn read_identifier(shortest: bool, input: &[u8]) -> Result<(Identifier, &[u8]), ParseError>
@@ -182,7 +186,7 @@ pub fn read_identifier(shortest: bool, input: &[u8]) -> Result<(Identifier, &[u8
     }
 }
 
-/// The length that these octets spell, where it is below 2^64.
+/// Returns the length that these octets encode, if it is below 2^64.
 #[tactic(auto, unfolding(crate::specs::Headers::number256_at))]
 fn read_number256(octets: &[u8]) -> Result<usize, ParseError>
     ensures { ParsesAs (λ n. n) result (number256_at 0 octets.now) }
@@ -199,7 +203,7 @@ fn read_number256(octets: &[u8]) -> Result<usize, ParseError>
     Ok(number)
 }
 
-/// So many octets, and what follows them.
+/// Returns the first `count` octets, and what follows them.
 fn take_octets(count: usize, input: &[u8]) -> Result<(&[u8], &[u8]), ParseError>
     ensures { ParsesAs both result (first_octets count input.now) }
 {
@@ -211,7 +215,7 @@ fn take_octets(count: usize, input: &[u8]) -> Result<(&[u8], &[u8]), ParseError>
     Ok(input.split_at(count))
 }
 
-/// Whether the first octet is zero.
+/// Returns whether the first octet is zero.
 fn begins_with_zero(octets: &[u8]) -> bool
     ensures { result ≡ begins_with_zero octets.now }
 {
@@ -221,14 +225,14 @@ fn begins_with_zero(octets: &[u8]) -> bool
     }
 }
 
-/// Whether fewer octets would spell this length, which these spell.
+/// Returns whether `length`, which these octets encode, could be encoded in fewer octets.
 fn has_spare(octets: &[u8], length: usize) -> bool
     ensures { result ≡ has_spare octets.now length }
 {
     begins_with_zero(octets) || length < 128
 }
 
-/// A length in so many octets (X.690 8.1.3.5), and what follows.
+/// Reads a length of `count` octets (X.690 8.1.3.5), and returns it and what follows.
 #[tactic(auto, unfolding(crate::specs::Headers::long_at))]
 #[inline(always)]
 fn read_long(
@@ -246,7 +250,8 @@ fn read_long(
     Ok((Some(length), rest))
 }
 
-/// A length, or none in the indefinite form, which a constructed encoding may have.
+/// Reads a length, which is `None` in the indefinite form. Only a constructed encoding may have
+/// that form.
 #[tactic(auto, unfolding(crate::specs::Headers::length_at))]
 #[inline(always)]
 fn read_length(
@@ -268,7 +273,8 @@ fn read_length(
     }
 }
 
-/// A value of so many octets, or of indefinite length, behind its header, and what follows.
+/// Returns the value whose header precedes the input, and what follows it. If `length` is `None`,
+/// the length is indefinite, and the contents are still to be read.
 fn read_contents(
     identifier: Identifier,
     length: Option<usize>,
@@ -299,7 +305,8 @@ fn read_contents(
     }
 }
 
-/// The header of the value that begins the input, with its contents, and what follows.
+/// Reads the header of the value at the start of the input, and its contents if the length is
+/// definite. Returns them and what follows.
 #[tactic(auto, unfolding(crate::specs::Headers::header_by))]
 #[inline(always)]
 pub fn read_value(

@@ -1,4 +1,5 @@
-//! A SEQUENCE whose parts are a type (X.690 8.9): nested to the right, each with its presence (X.680 25).
+//! A SEQUENCE whose parts are described by a type (X.690 8.9): nested to the right, each with its
+//! presence (X.680 25).
 ghost use Rattle.std.specs.Prelude.{◌≡◌, true, IfOk, IfErr};
 ghost use Rattle.rasn_types.specs.Shapes.{seq};
 ghost use Rattle.rasn_de.specs.Decodes.{Decodes, DecodesParts};
@@ -12,8 +13,8 @@ use rasn_types::error::DecodeError;
 use rasn_types::types::{AsnType, DefaultValue, End, ExplicitDefault, Tag};
 use std::alloc::AllocError;
 
-/// Parts that are read in their order: [`Required`], [`Optional`], [`Defaulted`], [`DefaultedExplicit`] and [`Addition`], each with what follows it, and
-/// [`End`] behind the last.
+/// Parts that are read in their order: [`Required`], [`Optional`], [`Defaulted`],
+/// [`DefaultedExplicit`] and [`Addition`], each with those after it, and [`End`] after the last.
 pub trait DecodeParts: Drop {
     ghost use Rattle.std.specs.Prelude.{Bool};
     ghost use Rattle.rasn_types.specs.Shapes.{Parts, Tree};
@@ -23,16 +24,16 @@ pub trait DecodeParts: Drop {
 
     ghost tree: { Self → Tree };
 
-    /// What the parts hold of their octets beyond their trees.
+    /// What the parts keep of their octets beyond their trees.
     ghost beyond: { State → Self → State → Type 0 } = { λ _ _ _. Unit {0} };
 
-    /// Whether each part that may be left out is looked for by the tag that it has.
+    /// Whether each part that may be left out is looked for by its own tag.
     ghost tags_agree: { Bool };
 
     /// Reads the parts.
     ///
     /// # Errors
-    /// What a part refuses.
+    /// The error of the first part that can't be read.
     fn decode_parts(decoder: &mut Decoder<'_>) -> Result<Self, DecodeError>
         requires { tags_agree ≡ true }
         ensures reads { DecodesParts parts tree decoder.old result decoder.new }
@@ -41,24 +42,25 @@ pub trait DecodeParts: Drop {
         ensures rules { IfErr result (λ e. e.codec ≡ decoder.old.rule) };
 }
 
-/// A part that has to come, and those behind it.
+/// A part that must be present, and those after it.
 #[derive(Debug, Drop)]
 pub struct Required<A, R>(pub A, pub R);
 
-/// A part that may be left out (X.680 25.5), and those behind it.
+/// A part that may be left out (X.680 25.5), and those after it.
 #[derive(Debug, Drop)]
 pub struct Optional<A, R>(pub Option<A>, pub R);
 
-/// A part that has a default where it is left out (X.680 25.8), and those behind it.
+/// A part that has a default if it is left out (X.680 25.8), and those after it.
 #[derive(Drop)]
 pub struct Defaulted<V: DefaultValue, R>(pub V::Value, pub R);
 
-/// A part under an explicit tag that has a default where it is left out (X.680 25.8, 31.2.7), and those behind it. The value stands here
-/// without the tag.
+/// A part under an explicit tag that has a default if it is left out (X.680 25.8, 31.2.7), and
+/// those after it. The value is stored without the tag.
 #[derive(Drop)]
 pub struct DefaultedExplicit<V: ExplicitDefault, R>(pub V::Value, pub R);
 
-/// An extension addition under an explicit tag, which always comes (X.680 25.4), and the parts behind it. The value is never `None`.
+/// An extension addition under an explicit tag, which must be present (X.680 25.4), and the parts
+/// after it. The value is never `None`.
 #[derive(Debug, Drop)]
 pub struct Addition<A, R>(pub Option<A>, pub R);
 
@@ -201,12 +203,17 @@ impl<A: Decode, R: DecodeParts> DecodeParts for Addition<A, R> {
 }
 
 impl<'input> Decoder<'input> {
-    /// The parts of a SEQUENCE (X.690 8.9). Empty contents leave all parts out that may be left out.
+    /// Reads the parts of a SEQUENCE (X.690 8.9). If the contents are empty, all parts that may be
+    /// left out are left out.
     ///
     /// # Errors
-    /// `ExceedsMaxParseDepth` before the header; framing faults; with the value taken, `InvalidConstructedIdentifier`; what a part
-    /// refuses and `UnexpectedExtraData`, which take header and contents, or of an indefinite length the header; end-of-contents
-    /// octets that are missing (`Incomplete`, `MissingEndOfContents`), which take what was read inside too.
+    /// - `ExceedsMaxParseDepth`, which is checked before the header, and framing errors: nothing is
+    ///   consumed.
+    /// - `InvalidConstructedIdentifier`: the value is consumed.
+    /// - The error of a part, and `UnexpectedExtraData` if definite contents remain: the header and
+    ///   the contents are consumed, or only the header if the length is indefinite.
+    /// - Missing end-of-contents octets (`Incomplete`, `MissingEndOfContents`): what was read
+    ///   inside is consumed too.
     #[inline(always)]
     pub fn read_sequence<P: DecodeParts>(&mut self, tag: Tag) -> Result<P, DecodeError>
         requires tags_agree { P.tags_agree ≡ true }

@@ -1,4 +1,4 @@
-//! Explicit prefixes (X.690 8.14.2).
+//! Explicit tags (X.690 8.14.2).
 ghost use Rattle.std.specs.Prelude.{◌≡◌, IfErr};
 ghost use Rattle.rasn_types.specs.Shapes.{prefix};
 ghost use Rattle.rasn_de.specs.Decodes.{Decodes};
@@ -11,13 +11,17 @@ use rasn_types::error::DecodeError;
 use rasn_types::types::{AsnType, Constraints, Explicit, Implicit, Tag};
 
 impl<'input> Decoder<'input> {
-    /// A value under a tag in front of its own (X.690 8.14.2; X.680 31.2.7): it stands alone in the contents of a value of the tag,
-    /// whose constructed bit has to be set under DER, and isn't looked at otherwise.
+    /// Reads a value under an explicit tag (X.690 8.14.2; X.680 31.2.7): it is all of the contents
+    /// of a value of this tag. The constructed bit of the outer value must be set under DER, and
+    /// isn't checked under the other rules.
     ///
     /// # Errors
-    /// `ExceedsMaxParseDepth` before the header; framing faults; what the value refuses, and `UnexpectedExtraData`, which consume header and
-    /// contents, or of an indefinite length the header; end-of-contents octets that are missing (`Incomplete`, `MissingEndOfContents`), which consume
-    /// what was read inside too.
+    /// - `ExceedsMaxParseDepth`, which is checked before the header, and framing errors: nothing is
+    ///   consumed.
+    /// - The error of the value, and `UnexpectedExtraData` if definite contents remain: the header
+    ///   and the contents are consumed, or only the header if the length is indefinite.
+    /// - Missing end-of-contents octets (`Incomplete`, `MissingEndOfContents`): what was read
+    ///   inside is consumed too.
     pub fn decode_explicit_prefix<D: Decode>(&mut self, tag: Tag) -> Result<D, DecodeError>
         ensures exact { DecodesPrefixBy D.shape D.tree tag self.old result self.new }
         ensures reads { Decodes (prefix tag D.shape) D.tree self.old result self.new }

@@ -7,7 +7,7 @@ use rasn_types::error::{DecodeError, DecodeErrorKind};
 use rasn_types::types::{Constraints, RealType, Tag};
 
 impl<'input> Decoder<'input> {
-    /// Refuses: REAL (X.690 8.5) isn't supported.
+    /// Returns an error, since REAL (X.690 8.5) isn't supported.
     ///
     /// # Errors
     /// `RealNotSupported`, always. Nothing is consumed.

@@ -14,7 +14,7 @@ use rasn_types::types::{Constructed, Tag};
 use std::alloc::AllocError;
 
 impl<'input> Decoder<'input> {
-    /// The initializer's value.
+    /// Returns the value that the initializer makes.
     fn initializer_value<D: Drop, DF: FnOnce() -> Result<D, AllocError>>(
         &self,
         default: Option<DF>,
@@ -28,15 +28,21 @@ impl<'input> Decoder<'input> {
         }
     }
 
-    /// A SEQUENCE (X.690 8.9). Calls `f` once, on the contents of a value of the tag, all of which it has to read. In its place
-    /// the initializer makes the value of a type without root fields and extension marker, and of empty contents where no root field is required.
-    /// `f` has to leave an end of what it gets. It may put another decoder in its place: the value is closed by the rules of this one.
+    /// Reads a SEQUENCE (X.690 8.9). Calls `f` once on the contents of a value of the tag, all of
+    /// which it must read. The initializer is called in place of `f` if the type has neither root
+    /// fields nor an extension marker, or if the contents are empty and no root field is required.
+    /// What `f` leaves must be a suffix of the input that it is given. `f` may replace the decoder
+    /// that it is given: the value is closed by the rules of this one.
     ///
     /// # Errors
-    /// `ExceedsMaxParseDepth` before the header; framing faults; with the value consumed, `InvalidConstructedIdentifier`; what `f`
-    /// or the initializer refuses, `UnexpectedEmptyInput` where an initializer is needed and none is handed in, and
-    /// `UnexpectedExtraData`, which consume header and contents, or of an indefinite length the header; end-of-contents octets that are
-    /// missing (`Incomplete`, `MissingEndOfContents`), which consume what was read inside too.
+    /// - `ExceedsMaxParseDepth`, which is checked before the header, and framing errors: nothing is
+    ///   consumed.
+    /// - `InvalidConstructedIdentifier`: the value is consumed.
+    /// - The error of `f` or of the initializer, `UnexpectedEmptyInput` if an initializer is needed
+    ///   and none is given, and `UnexpectedExtraData` if definite contents remain: the header and
+    ///   the contents are consumed, or only the header if the length is indefinite.
+    /// - Missing end-of-contents octets (`Incomplete`, `MissingEndOfContents`): what was read
+    ///   inside is consumed too.
     #[inline(always)]
     pub fn decode_sequence<
         const RC: usize,
@@ -74,7 +80,7 @@ impl<'input> Decoder<'input> {
     }
 }
 
-/// Whether a type with so many root fields is read by an initializer.
+/// Returns whether a type of `root` root fields is read from these contents by an initializer.
 fn reads_initially(root: usize, is_extensible: bool, needs_field: bool, input: &[u8]) -> bool
     ensures { result ≡ is_read_by_initializer root is_extensible needs_field input.now }
 {

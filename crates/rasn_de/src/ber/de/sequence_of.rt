@@ -11,7 +11,7 @@ use rasn_types::error::DecodeError;
 use rasn_types::types::{Constraints, Tag};
 
 impl<'input> Decoder<'input> {
-    /// Reads one more element, which has to consume something, behind the others.
+    /// Reads one more element, which must consume octets, and appends it to the others.
     #[inline(always)]
     pub(super) fn push_element<D: Decode>(&mut self, values: &mut Vec<D>) -> Result<(), DecodeError>
         ensures exact { DecodesElement (Decodes D.shape D.tree) self.old values.old.items result self.new values.new.items }
@@ -28,7 +28,7 @@ impl<'input> Decoder<'input> {
         }
     }
 
-    /// Elements up to the end of the contents.
+    /// Reads elements up to the end of the contents.
     #[inline(always)]
     fn elements<D: Decode>(&mut self) -> Result<Vec<D>, DecodeError>
         ensures exact { DecodesElements (Decodes D.shape D.tree) (λ v. v.items) self.old result self.new }
@@ -41,12 +41,17 @@ impl<'input> Decoder<'input> {
         Ok(values)
     }
 
-    /// A SEQUENCE OF, within a size in elements (X.690 8.10). It takes two levels of depth.
+    /// Reads a SEQUENCE OF whose number of elements meets the size constraint (X.690 8.10). It
+    /// takes two levels of depth.
     ///
     /// # Errors
-    /// `ExceedsMaxParseDepth` before the header; framing faults; with the value consumed, `InvalidConstructedIdentifier` and
-    /// `SizeConstraintNotSatisfied`; what an element refuses, and `UnexpectedExtraData` at one that consumes nothing, which consume header and
-    /// contents, or of an indefinite length the header; end-of-contents octets that are missing, which consume what was read inside too.
+    /// - `ExceedsMaxParseDepth`, which is checked before the header, and framing errors: nothing is
+    ///   consumed.
+    /// - `InvalidConstructedIdentifier` and `SizeConstraintNotSatisfied`: the value is consumed.
+    /// - The error of an element, `UnexpectedExtraData` for an element that consumes nothing, and
+    ///   `OutOfMemory`: the header and the contents are consumed, or only the header if the length
+    ///   is indefinite.
+    /// - Missing end-of-contents octets (`Incomplete`): what was read inside is consumed too.
     #[inline(always)]
     pub fn decode_sequence_of<D: Decode>(
         &mut self,

@@ -12,7 +12,7 @@ use crate::de::Decode;
 use rasn_types::error::{DecodeError, DerDecodeErrorKind};
 use rasn_types::types::{Constructed, Tag};
 
-/// Whether a tag is below the last one (X.680 8.6).
+/// Returns whether a tag is less than the last one, if there is one (X.680 8.6).
 fn is_below_last(tag: Tag, last: Option<Tag>) -> bool
     ensures { IsWhether result (IsBelowLast tag last) }
 {
@@ -23,7 +23,8 @@ fn is_below_last(tag: Tag, last: Option<Tag>) -> bool
 }
 
 impl<'input> Decoder<'input> {
-    /// Returns, under DER, the next tag, which must not be below the last one (X.690 10.3). Under the other rules nothing is looked at.
+    /// Returns, under DER, the next tag, which must not be less than the last one (X.690 10.3).
+    /// Under the other rules nothing is examined, and `None` is returned.
     pub fn peek_tag_in_order(&self, last: Option<Tag>) -> Result<Option<Tag>, DecodeError>
         ensures { PeeksInOrder last self.now result }
     {
@@ -37,7 +38,8 @@ impl<'input> Decoder<'input> {
         Ok(Some(tag))
     }
 
-    /// Components up to the end of the contents, whose tags are in ascending order under DER (X.690 10.3).
+    /// Reads components up to the end of the contents. Under DER their tags must be in ascending
+    /// order (X.690 10.3).
     fn components<FIELDS: Decode>(&mut self) -> Result<Vec<FIELDS>, DecodeError>
         ensures exact { DecodesComponents (Decodes FIELDS.shape FIELDS.tree) (λ v. v.items) self.old result self.new }
         ensures rules { IfErr result (λ e. e.codec ≡ self.old.rule) }
@@ -51,16 +53,20 @@ impl<'input> Decoder<'input> {
         Ok(values)
     }
 
-    /// A SET (X.690 8.11). Its components are read in any order, each as one `FIELDS`, up to the end of the contents; `f` makes
-    /// the value of them. Under DER the tag of a component must not be below that of the one before (X.690 10.3). The first closure
-    /// isn't called.
+    /// Reads a SET (X.690 8.11). Its components are read in any order, each as one `FIELDS`, up to
+    /// the end of the contents, and `f` makes the value from them. Under DER the tag of a component
+    /// must not be less than that of the one before it (X.690 10.3). The first closure isn't
+    /// called.
     ///
     /// # Errors
-    /// `ExceedsMaxParseDepth` before the header; framing faults; with the value consumed, `InvalidConstructedIdentifier`; what a
-    /// component refuses, `UnexpectedExtraData` at one that consumes nothing, under DER faults of the next identifier and
-    /// `SetComponentsOutOfOrder` before the component is read, and what `f` refuses, which consume header and contents, or of an
-    /// indefinite length the header; end-of-contents octets that are missing (`Incomplete`, `MissingEndOfContents`), which take what was
-    /// read inside too.
+    /// - `ExceedsMaxParseDepth`, which is checked before the header, and framing errors: nothing is
+    ///   consumed.
+    /// - `InvalidConstructedIdentifier`: the value is consumed.
+    /// - The error of a component, `UnexpectedExtraData` for a component that consumes nothing,
+    ///   under DER framing errors of the next identifier and `SetComponentsOutOfOrder`, both before
+    ///   the component is read, `OutOfMemory`, and the error of `f`: the header and the contents
+    ///   are consumed, or only the header if the length is indefinite.
+    /// - Missing end-of-contents octets (`Incomplete`): what was read inside is consumed too.
     pub fn decode_set<
         const RL: usize,
         const EL: usize,

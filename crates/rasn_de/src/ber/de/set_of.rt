@@ -13,7 +13,8 @@ use crate::de::Decode;
 use rasn_types::error::{DecodeError, DerDecodeErrorKind};
 use rasn_types::types::{Constraints, SetOf, Tag};
 
-/// Whether octets are less than others, a proper beginning being less (X.690 11.6).
+/// Returns whether `octets` are less than `others`. Octets are less than any longer ones that begin
+/// with them (X.690 11.6).
 #[tactic(auto, using(crate::proofs::Constructed::Ascending::less_told))]
 fn is_less(octets: &[u8], others: &[u8]) -> bool
     ensures { IsWhether result (IsLess octets.now others.now) }
@@ -21,7 +22,7 @@ fn is_less(octets: &[u8], others: &[u8]) -> bool
     octets < others
 }
 
-/// What was passed of the input.
+/// Returns the octets of `start` before `rest`.
 #[tactic(auto, using(crate::proofs::Constructed::Ascending::cut_before))]
 fn octets_before<'input>(start: &'input [u8], rest: &[u8]) -> &'input [u8]
     requires { IsEnd start.now rest.now }
@@ -31,7 +32,8 @@ fn octets_before<'input>(start: &'input [u8], rest: &[u8]) -> &'input [u8]
 }
 
 impl<'input> Decoder<'input> {
-    /// Elements up to the end of the contents, whose octets are in ascending order under DER (X.690 11.6).
+    /// Reads elements up to the end of the contents. Under DER their octets must be in ascending
+    /// order (X.690 11.6).
     fn elements_in_order<D: Decode>(&mut self) -> Result<SetOf<D>, DecodeError>
         ensures exact { DecodesElementsInOrder (Decodes D.shape D.tree) (λ v. v) self.old result self.new }
         ensures rules { IfErr result (λ e. e.codec ≡ self.old.rule) }
@@ -50,12 +52,14 @@ impl<'input> Decoder<'input> {
         Ok(SetOf::from_vec(values))
     }
 
-    /// A SET OF, within a size in elements (X.690 8.12). Under DER the octets of an element must not be less than those of the one
-    /// before (X.690 11.6). It takes two levels of depth.
+    /// Reads a SET OF whose number of elements meets the size constraint (X.690 8.12). Under DER
+    /// the octets of an element must not be less than those of the one before it (X.690 11.6). It
+    /// takes two levels of depth.
     ///
     /// # Errors
-    /// As `decode_sequence_of`; under DER also `SetOfOutOfOrder`, behind the element whose octets are less and before the next, which
-    /// consumes header and contents.
+    /// As `decode_sequence_of`. Under DER also `SetOfOutOfOrder`, which is reported after the
+    /// element whose octets are less and before the next one is read, and consumes the header and
+    /// the contents.
     pub fn decode_set_of<D: Decode + Eq>(
         &mut self,
         tag: Tag,

@@ -1,4 +1,5 @@
-//! A SET whose parts are a type (X.690 8.11): nested to the right, read in any order, each once.
+//! A SET whose parts are described by a type (X.690 8.11): nested to the right, read in any order,
+//! each once.
 ghost use Rattle.std.specs.Prelude.{◌≡◌, ℕ, zero, suc, true, IfOk, map, IfErr};
 ghost use Rattle.rasn_types.specs.Framing.{NextTag};
 ghost use Rattle.rasn_types.specs.Tags.{form};
@@ -17,8 +18,8 @@ use rasn_types::error::DecodeError;
 use rasn_types::types::{AsnType, DefaultValue, End, Tag};
 use std::alloc::AllocError;
 
-/// Parts that are read in any order, each of which has a tag of its own: [`Required`], [`Optional`] and [`Defaulted`], each with those
-/// after it, and [`End`] after the last.
+/// Parts that are read in any order, each of which has a tag of its own: [`Required`], [`Optional`]
+/// and [`Defaulted`], each with those after it, and [`End`] after the last.
 pub trait DecodeSetParts: Drop {
     ghost use Rattle.std.specs.Prelude.{Bool, List, Option};
     ghost use Rattle.rasn_types.specs.Shapes.{Parts, Tree};
@@ -39,11 +40,12 @@ pub trait DecodeSetParts: Drop {
     fn empty() -> Self::Slots
         ensures { AreEmpty parts (held result) };
 
-    /// Reads the component of this tag, which is the next one, and puts it into the slot of its part. Where it is filled, returns the
-    /// name of the part and drops the component.
+    /// Reads the component that has this tag, which must be the next tag, and puts it into the slot
+    /// of its part. If the slot is filled already, drops the component and returns the name of the
+    /// part.
     ///
     /// # Errors
-    /// What the part refuses; `NoValidChoice` of the name of the type where the tag is no part's.
+    /// The error of the part, or `NoValidChoice` with the name of the type if no part has the tag.
     fn decode_component<'names>(
         slots: &mut Self::Slots,
         decoder: &mut Decoder<'_>,
@@ -57,10 +59,11 @@ pub trait DecodeSetParts: Drop {
         ensures fails { IfErr result (λ e. FailsAtAlternative parts name.now tag decoder.old e decoder.new) }
         ensures rules { IfErr result (λ e. e.codec ≡ decoder.old.rule) };
 
-    /// Returns the parts that the slots hold.
+    /// Returns the parts that the slots contain.
     ///
     /// # Errors
-    /// `MissingField` of the name of the first required part whose slot is empty; what the default of a part refuses.
+    /// `MissingField` with the name of the first required part whose slot is empty, or
+    /// `OutOfMemory`.
     fn gather(
         slots: Self::Slots,
         decoder: &Decoder<'_>,
@@ -70,7 +73,7 @@ pub trait DecodeSetParts: Drop {
         ensures rules { IfErr result (λ e. e.codec ≡ decoder.now.rule) };
 }
 
-/// Returns the name of the first of these parts, or an empty one where the name is missing.
+/// Returns the name of the first of these parts, or an empty name if there are no names.
 fn first_name<'names>(names: &[&'names str]) -> &'names str
     ensures { result.now ≡ name_at (map text names.now) zero }
 {
@@ -90,7 +93,8 @@ fn other_names<'a, 'names>(names: &'a [&'names str]) -> &'a [&'names str]
     others
 }
 
-/// Fills the slot of the first of these parts; where it is filled, returns the part's name.
+/// Fills the slot of the first of these parts. If it is filled already, returns the name of the
+/// part.
 fn place<'names, A: Drop>(
     slot: &mut Option<A>,
     value: A,
@@ -105,7 +109,7 @@ fn place<'names, A: Drop>(
     None
 }
 
-/// Returns what the slot of a part holds, or the default.
+/// Returns the value in the slot of a part, or the default if the slot is empty.
 fn or_default<V: DefaultValue>(
     slot: Option<V::Value>,
     decoder: &Decoder<'_>,
@@ -310,8 +314,8 @@ where
 }
 
 impl<'input> Decoder<'input> {
-    /// Reads one more component, which has to consume something, and puts it into the slot of its part. Where it is filled, returns the
-    /// name of the part.
+    /// Reads one more component, which must consume octets, and puts it into the slot of its part.
+    /// If the slot is filled already, returns the name of the part.
     fn next_component<'names, P: DecodeSetParts>(
         &mut self,
         slots: &mut P::Slots,
@@ -332,7 +336,8 @@ impl<'input> Decoder<'input> {
         Ok(twice)
     }
 
-    /// Reads components up to the end of the contents and makes the parts of them. Their tags are in ascending order under DER (X.690 10.3).
+    /// Reads components up to the end of the contents, and makes the parts from them. Under DER the
+    /// tags of the components must be in ascending order (X.690 10.3).
     fn set_parts<P: DecodeSetParts>(&mut self, name: &str, names: &[&str]) -> Result<P, DecodeError>
         requires { P.tags_differ ≡ true }
         ensures exact { DecodesSetPartContents P.parts P.tree (map text names.now) self.old result self.new }
@@ -353,16 +358,24 @@ impl<'input> Decoder<'input> {
         P::gather(slots, self, names)
     }
 
-    /// Reads the parts of a SET (X.690 8.11), which are in any order, each once. Under DER the tag of a component must not be below that
-    /// of the one before (X.690 10.3). `name` is the type's and `names` are those of its parts, in their order; errors have them.
+    /// Reads the parts of a SET (X.690 8.11), which are in any order, each once. Under DER the tag
+    /// of a component must not be less than that of the one before it (X.690 10.3). `name` is the
+    /// name of the type, and `names` are those of its parts, in their order; errors contain them.
     ///
     /// # Errors
-    /// `ExceedsMaxParseDepth` before the header; framing faults; with the value consumed, `InvalidConstructedIdentifier`. Then the
-    /// first component that isn't read: faults of its identifier, under DER `SetComponentsOutOfOrder`, `NoValidChoice` where its tag is no
-    /// part's, what its part refuses, `UnexpectedExtraData` if it consumes nothing. Once all are read, `DuplicateField` of the first
-    /// component whose part was read before, else `MissingField` of the first required part that is missing. These consume header and
-    /// contents, or of an indefinite length the header. Last, end-of-contents octets that are missing (`Incomplete`,
-    /// `MissingEndOfContents`), which consume what was read inside too. `decode_set` reports faults in the same order.
+    /// - `ExceedsMaxParseDepth`, which is checked before the header, and framing errors: nothing is
+    ///   consumed.
+    /// - `InvalidConstructedIdentifier`: the value is consumed.
+    /// - The error of the first component that can't be read: an error in its identifier, under DER
+    ///   `SetComponentsOutOfOrder`, `NoValidChoice` if no part has its tag, the error of its part,
+    ///   or `UnexpectedExtraData` if it consumes nothing. The header and the contents are consumed,
+    ///   or only the header if the length is indefinite.
+    /// - If all components are read, `DuplicateField` for the first component whose part was read
+    ///   before, or else `MissingField` for the first required part that is missing, or
+    ///   `OutOfMemory`. The same octets are consumed.
+    /// - Last, missing end-of-contents octets (`Incomplete`): what was read inside is consumed too.
+    ///
+    /// `decode_set` reports errors in the same order.
     pub fn read_set<P: DecodeSetParts>(
         &mut self,
         tag: Tag,

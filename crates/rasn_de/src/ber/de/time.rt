@@ -20,7 +20,7 @@ use rasn_types::types::{Codec, Constraints, Date, GeneralizedTime, Tag, UtcTime}
 use std::alloc::Global;
 use std::borrow::CowSlice;
 
-/// The UTCTime of a text: of any form under BER, else of the canonical one.
+/// Parses a UTCTime: in any form under BER, in the canonical form under CER and DER.
 fn read_utc_time(rules: Codec, text: &[u8]) -> Option<UtcTime>
     ensures { IsSomeRelated result (AtAnyOffset (UtcText rules) text.now) }
 {
@@ -30,7 +30,8 @@ fn read_utc_time(rules: Codec, text: &[u8]) -> Option<UtcTime>
     }
 }
 
-/// The GeneralizedTime of a text: of any form under BER, of the canonical one under CER, of the shortest canonical one under DER.
+/// Parses a GeneralizedTime: in any form under BER, in the canonical form under CER, in the
+/// shortest canonical form under DER.
 fn read_generalized_time(rules: Codec, text: &[u8]) -> Option<GeneralizedTime>
     ensures { IsSomeRelated result (GeneralizedText rules text.now) }
 {
@@ -41,7 +42,7 @@ fn read_generalized_time(rules: Codec, text: &[u8]) -> Option<GeneralizedTime>
     }
 }
 
-/// The error of a text that is no time's.
+/// Returns the error for a text that isn't a valid time or date.
 fn invalid_date(octets: Vec<u8>, codec: Codec) -> DecodeError
     ensures { IsInvalidDate octets.items codec result }
 {
@@ -52,7 +53,8 @@ fn invalid_date(octets: Vec<u8>, codec: Codec) -> DecodeError
     }
 }
 
-/// The error of a text that is no time's and has to be copied. Where the copy finds no memory, that is the error.
+/// Returns the error for a text that isn't a valid time or date and has to be copied. If the
+/// allocation for the copy fails, the error is `OutOfMemory`.
 fn invalid_text(alloc: Global, text: &[u8], codec: Codec) -> DecodeError
     ensures { IsInvalidDate text.now codec result ⊎ IsAllocError codec result }
 {
@@ -66,7 +68,8 @@ fn invalid_text(alloc: Global, text: &[u8], codec: Codec) -> DecodeError
 }
 
 impl<'input> Decoder<'input> {
-    /// The error of a string that is no time's. Only borrowed octets are copied for it.
+    /// Returns the error for a string that isn't a valid time or date. Only borrowed octets are
+    /// copied for it.
     fn invalid_date(&self, text: CowSlice<'_, u8>) -> DecodeError
         ensures { IsInvalidString text.entry self.now.rule result }
     {
@@ -76,10 +79,13 @@ impl<'input> Decoder<'input> {
         }
     }
 
-    /// A UTCTime (X.680 47): of any form under BER, else of the canonical one (X.690 11.8). A year from 70 on is 19YY, else 20YY.
+    /// Reads a UTCTime (X.680 47): in any form under BER, in the canonical form under CER and DER
+    /// (X.690 11.8). A year YY from 70 on is 19YY, any other is 20YY.
     ///
     /// # Errors
-    /// Faults of the string, which consume nothing; `InvalidDate` with the whole text, which consumes the value.
+    /// With nothing consumed: framing errors, errors of a segment, and `OutOfMemory` while segments
+    /// are collected. With the value consumed: `InvalidDate` with the whole text, or `OutOfMemory`
+    /// if the allocation for a copy of the text fails.
     pub fn decode_utc_time(&mut self, tag: Tag) -> Result<UtcTime, DecodeError>
         ensures reads { (c : Constraints) → Decodes (leaf utc_time tag c) (λ m. instant m) self.old result self.new }
         ensures exact { DecodesTime (AtAnyOffset (UtcText self.old.rule)) tag self.old result self.new }
@@ -93,8 +99,9 @@ impl<'input> Decoder<'input> {
         }
     }
 
-    /// A GeneralizedTime (X.680 46): of any form under BER, else of the canonical one (X.690 11.7), under DER with at most nine digits
-    /// of a fraction, the last of which isn't 0. A text without a zone is in UTC.
+    /// Reads a GeneralizedTime (X.680 46): in any form under BER, in the canonical form under CER
+    /// and DER (X.690 11.7). Under DER, a fraction must have at most nine digits, the last of which
+    /// isn't 0. A text without a zone is in UTC.
     ///
     /// # Errors
     /// As `decode_utc_time`.
@@ -111,7 +118,8 @@ impl<'input> Decoder<'input> {
         }
     }
 
-    /// A DATE (X.680 38.4.1): eight digits, of a year from 0 to 9999.
+    /// Reads a DATE (X.680 38.4.1): eight digits, which are a year from 0 to 9999, a month and a
+    /// day.
     ///
     /// # Errors
     /// As `decode_utc_time`.
@@ -127,10 +135,10 @@ impl<'input> Decoder<'input> {
         }
     }
 
-    /// The GeneralizedTime of a text of any form (X.680 46).
+    /// Parses a GeneralizedTime in any form (X.680 46).
     ///
     /// # Errors
-    /// `InvalidDate` with the whole text, under the name of BER.
+    /// `InvalidDate` with the whole text. The error names BER as its rules.
     pub fn parse_any_generalized_time_string(text: String) -> Result<GeneralizedTime, DecodeError>
         ensures { ParsesTime GeneralGeneralized (string_bytes text) result }
     {
@@ -140,11 +148,11 @@ impl<'input> Decoder<'input> {
         }
     }
 
-    /// The GeneralizedTime of a text of the canonical form (X.690 11.7), as DER reads it: a fraction has at most nine digits, the last
-    /// of which isn't 0.
+    /// Parses a GeneralizedTime in the canonical form (X.690 11.7) as DER reads it: a fraction has
+    /// at most nine digits, the last of which isn't 0.
     ///
     /// # Errors
-    /// `InvalidDate` with the whole text, under the name of BER.
+    /// `InvalidDate` with the whole text. The error names BER as its rules.
     pub fn parse_canonical_generalized_time_string(
         text: String,
     ) -> Result<GeneralizedTime, DecodeError>
@@ -156,10 +164,10 @@ impl<'input> Decoder<'input> {
         }
     }
 
-    /// The UTCTime of a text of any form (X.680 47).
+    /// Parses a UTCTime in any form (X.680 47).
     ///
     /// # Errors
-    /// `InvalidDate` with the whole text, under the name of BER.
+    /// `InvalidDate` with the whole text. The error names BER as its rules.
     pub fn parse_any_utc_time_string(text: String) -> Result<UtcTime, DecodeError>
         ensures { ParsesTime (AtAnyOffset GeneralUtc) (string_bytes text) result }
     {
@@ -169,10 +177,11 @@ impl<'input> Decoder<'input> {
         }
     }
 
-    /// The UTCTime of a text of the canonical form (X.690 11.8).
+    /// Parses a UTCTime in the canonical form (X.690 11.8).
     ///
     /// # Errors
-    /// `InvalidDate` with the whole text, under the name of BER; where its copy finds no memory, `OutOfMemory`.
+    /// `InvalidDate` with the whole text, or `OutOfMemory` if the allocation for its copy fails.
+    /// The error names BER as its rules.
     pub fn parse_canonical_utc_time_string(
         alloc: Global,
         text: &str,
@@ -185,7 +194,7 @@ impl<'input> Decoder<'input> {
         }
     }
 
-    /// The day of a DATE's text (X.680 38.4.1).
+    /// Parses the text of a DATE (X.680 38.4.1).
     ///
     /// # Errors
     /// As `parse_canonical_utc_time_string`.
@@ -209,7 +218,7 @@ impl Decode for UtcTime {
     }
 }
 
-/// Beyond its instant, a time has the offset of its text.
+/// Besides its instant, a GeneralizedTime has the offset of its text.
 impl Decode for GeneralizedTime {
     ghost use Rattle.rasn_types.specs.Grammar.{GeneralizedText};
     ghost use Rattle.rasn_de.specs.Time.{DecodesTime};

@@ -1,4 +1,4 @@
-//! The bits of a segment (X.690 8.6.2).
+//! The bits of a segment of a BIT STRING (X.690 8.6.2).
 ghost use Rattle.std.specs.Prelude.{◌≡◌, ◌<◌, ◌≤◌, ◌*◌, length, IfOk};
 ghost use Rattle.rasn_types.specs.BitString.{but_last};
 ghost use Rattle.rasn_de.specs.BitString.{segment_bits, is_miscounted, is_any_set, last_bits};
@@ -11,7 +11,7 @@ use rasn_types::ber::collected_bits::CollectedBits;
 use rasn_types::error::DerDecodeErrorKind;
 use rasn_types::types::Codec;
 
-/// Whether a segment can't have so many unused bits.
+/// Returns whether a segment of these octets can't have this number of unused bits.
 fn is_miscounted(unused: u8, octets: &[u8]) -> bool
     ensures { result ≡ is_miscounted unused octets.now }
 {
@@ -21,7 +21,7 @@ fn is_miscounted(unused: u8, octets: &[u8]) -> bool
     }
 }
 
-/// Whether one of the last bits is set.
+/// Returns whether one of the last `unused` bits is set.
 fn is_any_set(unused: u8, octets: &[u8]) -> bool
     requires { unused < 8 }
     ensures { result ≡ is_any_set (last_bits unused octets.now) }
@@ -32,7 +32,7 @@ fn is_any_set(unused: u8, octets: &[u8]) -> bool
     }
 }
 
-/// How many bits of a segment's last octet don't count, and its octets (X.690 8.6.2).
+/// Returns the number of unused bits in the last octet of a segment, and its octets (X.690 8.6.2).
 pub fn counted(rules: Codec, segment: &[u8]) -> Result<(usize, &[u8]), ParseError>
     ensures exact { ParsesAs (λ p. but_last p.0 p.1.now) result (segment_bits rules segment.now) }
     ensures few { IfOk result (λ p. (p.0 < 8) × (p.0 ≤ 8 * length p.1.now)) }

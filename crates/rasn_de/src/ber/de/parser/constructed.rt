@@ -1,4 +1,4 @@
-//! Values that hold others: what they hold, and how they are closed (X.690 8.1.5).
+//! Values that contain others: their contents, and how they are closed (X.690 8.1.5).
 ghost use Rattle.std.specs.Prelude.{◌≡◌};
 ghost use Rattle.rasn_types.specs.Framing.{Ended};
 ghost use Rattle.rasn_de.specs.Segments.{end_of_contents_at, end_at, octets_inside};
@@ -7,7 +7,8 @@ ghost use Rattle.rasn_types.specs.Truth.{IsWhether};
 
 use crate::ber::de::parser::{Contents, ParseError};
 
-/// Whether contents end: nothing is left, or end-of-contents octets come where they may.
+/// Returns whether the contents end: no octets remain, or end-of-contents octets follow and
+/// `closing` allows them.
 pub(crate) fn has_ended(closing: bool, input: &[u8]) -> bool
     ensures { IsWhether result (Ended closing input.now) }
 {
@@ -18,7 +19,7 @@ pub(crate) fn has_ended(closing: bool, input: &[u8]) -> bool
     }
 }
 
-/// What follows the end-of-contents octets.
+/// Returns what follows end-of-contents octets.
 #[tactic(auto, unfolding(crate::specs::Segments::end_of_contents_at))]
 pub fn end_of_contents(input: &[u8]) -> Result<&[u8], ParseError>
     ensures { ParsesAs (λ r. r.now) result (end_of_contents_at input.now) }
@@ -38,7 +39,8 @@ pub fn end_of_contents(input: &[u8]) -> Result<&[u8], ParseError>
     }
 }
 
-/// What follows a value that was read inside up to what is left.
+/// Returns what follows a value inside which `left` remains. Definite contents must be read
+/// entirely; indefinite ones must end with end-of-contents octets.
 pub(crate) fn finish<'a>(
     contents: Contents<'a>,
     rest: &'a [u8],
@@ -58,7 +60,7 @@ pub(crate) fn finish<'a>(
     }
 }
 
-/// What a value holds: its contents, or all that follows its header where its length is indefinite.
+/// Returns the contents of a value, or all that follows its header if the length is indefinite.
 pub(crate) fn held<'a>(contents: Contents<'a>, rest: &'a [u8]) -> &'a [u8]
     ensures { result.now ≡ octets_inside (extent contents.entry) rest.now }
 {

@@ -1,4 +1,5 @@
-//! What a header may be: how it may be spelled (X.690 8.1, 10.1), and which tag and constructed bit it has to have.
+//! Requirements on headers: how they may be encoded (X.690 8.1, 10.1), and which tag and
+//! constructed bit they must have.
 ghost use Rattle.std.specs.Prelude.{◌≡◌};
 ghost use Rattle.rasn_types.specs.Tags.{form, loose, tag_bit};
 ghost use Rattle.rasn_de.specs.Headers.{spelled, as_written, tagged_at, expected_at};
@@ -10,17 +11,17 @@ use rasn_types::ber::{Identifier, is_always_constructed};
 use rasn_types::error::DerDecodeErrorKind;
 use rasn_types::types::{Codec, Tag};
 
-/// How headers may be spelled.
+/// The ways in which headers may be encoded.
 #[derive(Clone, Copy, Debug)]
 pub struct Spelling {
-    /// In no more octets than are needed.
+    /// Whether superfluous octets are refused.
     pub shortest: bool,
-    /// With the indefinite form of lengths too.
+    /// Whether lengths may have the indefinite form.
     pub indefinite: bool,
 }
 
 impl Spelling {
-    /// As these rules do.
+    /// Returns how headers may be encoded under these rules.
     pub fn of_rule(rule: Codec) -> Spelling
         ensures { result ≡ spelled (form rule) }
     {
@@ -30,7 +31,8 @@ impl Spelling {
         }
     }
 
-    /// As they may be in an open type under these rules: in any number of octets, under DER in the definite form.
+    /// Returns how headers may be encoded in an open type under these rules: in any number of
+    /// octets, and under DER only in the definite form.
     pub fn loose(rule: Codec) -> Spelling
         ensures { result ≡ spelled (loose rule) }
     {
@@ -41,19 +43,20 @@ impl Spelling {
     }
 }
 
-/// Which identifier has to come next.
+/// The identifier that must follow.
 #[derive(Clone, Copy, Debug)]
 pub enum Expected {
-    /// Any.
+    /// Any identifier.
     AnyTag,
-    /// One of this tag.
+    /// An identifier with this tag.
     Tagged(Tag),
-    /// This one, with its constructed bit.
+    /// This identifier, including its constructed bit.
     Exactly(Identifier),
 }
 
 impl Expected {
-    /// One of this tag, under DER with the constructed bit that the type is written with.
+    /// Returns the requirement that an identifier has this tag and, under DER, the constructed bit
+    /// that the type is written with.
     pub fn as_written(rule: Codec, tag: Tag, bit: bool) -> Expected
         ensures { result ≡ as_written rule tag bit }
     {
@@ -64,14 +67,15 @@ impl Expected {
         }
     }
 
-    /// One of this tag, under DER with the constructed bit that a value which holds no others is written with.
+    /// Returns the requirement that an identifier has this tag and, under DER, the constructed bit
+    /// that a value which contains no others is written with.
     pub fn leaf(rule: Codec, tag: Tag) -> Expected
         ensures { result ≡ as_written rule tag (tag_bit tag) }
     {
         Expected::as_written(rule, tag, is_always_constructed(tag))
     }
 
-    /// Refuses another identifier: first another tag, then another constructed bit.
+    /// Checks an identifier: first its tag, then its constructed bit.
     pub fn check(self, identifier: Identifier) -> Result<(), ParseError>
         ensures { ParsesAs (λ _. record {}) result (expected_at self identifier.tag identifier.bit) }
     {
@@ -90,7 +94,7 @@ impl Expected {
     }
 }
 
-/// Whether this is the tag that has to come.
+/// Checks that a tag is the expected one.
 fn check_tag(wanted: Tag, tag: Tag) -> Result<(), ParseError>
     ensures { ParsesAs (λ _. record {}) result (tagged_at wanted tag) }
 {

@@ -10,7 +10,7 @@ use rasn_types::error::DerDecodeErrorKind;
 use rasn_types::types::{Codec, ObjectIdentifier};
 use std::alloc::Global;
 
-/// Puts an arc behind the others.
+/// Appends an arc to the others.
 fn push_arc(arcs: &mut Vec<u32>, arc: u32) -> Result<(), ParseError>
     ensures ok { OnOk result (arcs.new.items ≡ arcs.old.items ++ arc ∷ []) }
     ensures err { IfErr result (λ f. f ≡ OutOfMemory) }
@@ -21,7 +21,8 @@ fn push_arc(arcs: &mut Vec<u32>, arc: u32) -> Result<(), ParseError>
     }
 }
 
-/// The first two arcs, which the first subidentifier holds (X.690 8.19.4), with room for as many as the octets behind it can hold.
+/// Returns the first two arcs, which share the first subidentifier (X.690 8.19.4), with capacity
+/// for one more arc for each octet after it.
 fn first_arcs(alloc: Global, subidentifier: u32, behind: usize) -> Result<Vec<u32>, ParseError>
     ensures ok { IfOk result (λ v. v.items ≡ first_two subidentifier) }
     ensures err { IfErr result (λ f. f ≡ OutOfMemory) }
@@ -35,7 +36,9 @@ fn first_arcs(alloc: Global, subidentifier: u32, behind: usize) -> Result<Vec<u3
     Ok(arcs)
 }
 
-/// The next subidentifier, and what follows it. Under DER it has no octet that it doesn't need. One of a single octet, as most are, is told first.
+/// Reads the next subidentifier, and returns it and what follows. Under DER it must have no
+/// superfluous octets. A subidentifier of one octet is the most frequent one, and is checked for
+/// first.
 #[tactic(auto, unfolding(crate::specs::Headers::number128_at))]
 #[inline(always)]
 fn read_arc(rules: Codec, input: &[u8]) -> Result<(u32, &[u8]), ParseError>
@@ -50,7 +53,7 @@ fn read_arc(rules: Codec, input: &[u8]) -> Result<(u32, &[u8]), ParseError>
     read_number128(ParseError::UnsupportedObjectIdentifierArc, input)
 }
 
-/// The object identifier that contents octets hold.
+/// Returns the object identifier that contents octets encode.
 #[inline]
 pub fn read_object_identifier(
     alloc: Global,

@@ -1,4 +1,4 @@
-//! Strings: primitive, or gathered from segments (X.690 8.6.4, 8.7.3, 8.23).
+//! Strings, either primitive or in segments (X.690 8.6.4, 8.7.3, 8.23).
 ghost use Rattle.std.specs.Prelude.{List, ℕ, MatchOption, Result};
 ghost use Rattle.rasn_de.specs.declared.ber.de.parser.ParseError.{ParseError};
 ghost use Rattle.rasn_types.specs.declared.types.codec.Codec.{Codec};
@@ -12,7 +12,7 @@ use crate::ber::rules::is_der;
 use rasn_types::error::DerDecodeErrorKind;
 use rasn_types::types::{Codec, Tag};
 
-/// What gathers the segments of a string, one behind the other.
+/// A collector of the segments of a string, in their order.
 pub trait Segmented: Drop {
     type Item;
 
@@ -20,7 +20,7 @@ pub trait Segmented: Drop {
 
     ghost segment: { Codec → List ℕ → Result (List Self.Item) ParseError };
 
-    /// Puts what the octets of a segment hold behind the rest.
+    /// Appends what the octets of a segment contain.
     fn append_segment(&mut self, rules: Codec, octets: &[u8]) -> Result<(), ParseError>
         ensures { ParsesSegment (segment rules octets.now) (without_memory (segment rules) octets.now) (items self.old) (items self.new) result };
 }
@@ -40,7 +40,8 @@ impl Segmented for Vec<u8> {
     }
 }
 
-/// The octets of a value that is one segment.
+/// Returns the octets of a primitive value, which is a single segment, or `None` for a constructed
+/// one.
 pub(crate) fn segment_of(value: Value<'_>) -> Option<&[u8]>
     ensures { MatchOption result (IsNestedValue value.entry) (λ s. IsPlainValue value.entry s.now) }
 {
@@ -54,7 +55,8 @@ pub(crate) fn segment_of(value: Value<'_>) -> Option<&[u8]>
     }
 }
 
-/// Gathers the string of the value whose header and contents these are, from its segments in order.
+/// Collects the string of a value, of which the header is already read, from its segments in their
+/// order. Returns what follows the value.
 pub fn string_contents<'a, T: Segmented>(
     rule: Codec,
     tag: Tag,

@@ -1,4 +1,4 @@
-//! Passing whole encodings, at any nesting, without recursion (X.690 8.1.1.1, 8.1.5).
+//! Skipping of complete encodings, nested to any depth, without recursion (X.690 8.1.1.1, 8.1.5).
 ghost use Rattle.std.specs.Prelude.{◌≡◌, ◌+◌, ◌*◌, ◌≤◌, ◌∷◌, List, ℕ, Some, None, length, MatchOption, IfOk};
 ghost use Rattle.rasn_types.specs.Tags.{loose};
 ghost use Rattle.rasn_types.specs.Framing.{AreOctets};
@@ -14,10 +14,11 @@ use crate::ber::de::parser::headers::{Expected, Spelling};
 use crate::ber::de::parser::{Contents, ParseError, Value, read_value};
 use rasn_types::types::{Codec, Tag};
 
-/// How many octets close contents of indefinite length (X.690 8.1.5).
+/// The number of octets that close contents of indefinite length (X.690 8.1.5).
 const CLOSING_LENGTH: usize = 2;
 
-/// The value that begins the input, of any tag and in any spelling, and what follows.
+/// Reads the value at the start of the input, which may have any tag and be encoded as in an open
+/// type. Returns it and what follows.
 fn read_any_value(rule: Codec, input: &[u8]) -> Result<(Value<'_>, &[u8]), ParseError>
     ensures exact { ParsesAs header result (header_at (loose rule) AnyTag input.now) }
     ensures octets { AreOctets input.now }
@@ -25,7 +26,7 @@ fn read_any_value(rule: Codec, input: &[u8]) -> Result<(Value<'_>, &[u8]), Parse
     read_value(Spelling::loose(rule), Expected::AnyTag, input)
 }
 
-/// What follows end-of-contents octets, where these come.
+/// Returns what follows end-of-contents octets, or `None` if the input doesn't begin with them.
 fn after_closing(input: &[u8]) -> Option<&[u8]>
     ensures { MatchOption result ((more : List ℕ) → input.now ≡ 0 ∷ 0 ∷ more → ⊥) (λ after. input.now ≡ 0 ∷ 0 ∷ after.now) }
 {
@@ -35,9 +36,10 @@ fn after_closing(input: &[u8]) -> Option<&[u8]>
     }
 }
 
-/// Passes the contents of a value of indefinite length, which are whole encodings, and their end-of-contents octets, with a count of
-/// the values that are open. Answers how many steps it took, and what follows: a step passes end-of-contents octets, or a header with
-/// its definite contents.
+/// Skips the contents of a value of indefinite length, which are complete encodings, and their
+/// end-of-contents octets. A counter of the values that are open replaces recursion. Returns the
+/// number of steps and what follows. A step skips end-of-contents octets, or a header and its
+/// contents if their length is definite.
 pub fn skip_contents(rule: Codec, input: &[u8]) -> Result<(usize, &[u8]), ParseError>
     ensures exact { Exactly (EncodingsToEnd rule input.now) (IsUnparsable rule input.now) (passed result) }
     ensures half { IfOk result (λ p. 2 * p.0 + length p.1.now ≤ length input.now) }
@@ -65,7 +67,8 @@ pub fn skip_contents(rule: Codec, input: &[u8]) -> Result<(usize, &[u8]), ParseE
     }
 }
 
-/// Passes one complete encoding. Answers how many steps its contents took, none where its length is definite, and what follows.
+/// Skips one complete encoding. Returns the number of steps that its contents take, which is 0 if
+/// its length is definite, and what follows.
 pub fn skip_encoding(rule: Codec, input: &[u8]) -> Result<(usize, &[u8]), ParseError>
     ensures exact { Exactly (Skipped rule input.now) (IsFault rule input.now) (passed result) }
     ensures half { IfOk result (λ p. 2 * p.0 + length p.1.now ≤ length input.now) }
@@ -77,7 +80,7 @@ pub fn skip_encoding(rule: Codec, input: &[u8]) -> Result<(usize, &[u8]), ParseE
     }
 }
 
-/// One complete encoding, and what follows.
+/// Returns one complete encoding and what follows.
 fn read_encoding(rule: Codec, input: &[u8]) -> Result<(&[u8], &[u8]), ParseError>
     ensures { OpenAt rule None input.now (as_lists result) }
 {
@@ -86,7 +89,8 @@ fn read_encoding(rule: Codec, input: &[u8]) -> Result<(&[u8], &[u8]), ParseError
     Ok((text, after))
 }
 
-/// The contents of the one value of this tag, end-of-contents octets not included, and what follows the value.
+/// Returns the contents of the next value, which must have this tag, without end-of-contents
+/// octets, and what follows the value.
 fn read_tagged(rule: Codec, tag: Tag, input: &[u8]) -> Result<(&[u8], &[u8]), ParseError>
     ensures { OpenAt rule (Some tag) input.now (as_lists result) }
 {
@@ -102,7 +106,8 @@ fn read_tagged(rule: Codec, tag: Tag, input: &[u8]) -> Result<(&[u8], &[u8]), Pa
     }
 }
 
-/// The octets of an open type, and what follows: one complete encoding by `Tag::EOC`, else the contents of the one value of the tag.
+/// Returns the octets of an open type and what follows. If the tag is `Tag::EOC`, the octets are
+/// one complete encoding; otherwise they are the contents of one value of the tag.
 #[tactic(auto, using(crate::proofs::Any::Reads::opens_end))]
 pub fn read_open(rule: Codec, tag: Tag, input: &[u8]) -> Result<(&[u8], &[u8]), ParseError>
     ensures exact { OpenAt rule (looked_for tag) input.now (as_lists result) }
