@@ -1,4 +1,4 @@
-//! REAL, which this codec refuses to read and to write.
+//! REAL, which this codec neither reads nor writes.
 
-/// A type that a REAL stands for. Values of it are neither read nor written.
+/// A type of the values of a REAL. Reading or writing one always fails.
 pub trait RealType: Drop {}
