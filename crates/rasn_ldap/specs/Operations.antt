@@ -1,7 +1,7 @@
 -- protocolOp CHOICE { bindRequest [APPLICATION 0], bindResponse [APPLICATION 1], unbindRequest [APPLICATION 2] NULL,
--- searchRequest [APPLICATION 3], searchResEntry [APPLICATION 4], searchResDone [APPLICATION 5] LDAPResult, searchResRef
--- [APPLICATION 19] SEQUENCE OF URI, modifyRequest [APPLICATION 6], modifyResponse [APPLICATION 7] LDAPResult,
--- extendedReq [APPLICATION 23], extendedResp [APPLICATION 24] }
+-- searchRequest [APPLICATION 3], searchResEntry [APPLICATION 4], searchResDone [APPLICATION 5] LDAPResult,
+-- searchResRef [APPLICATION 19] SEQUENCE OF URI, modifyRequest [APPLICATION 6],
+-- modifyResponse [APPLICATION 7] LDAPResult, extendedReq [APPLICATION 23], extendedResp [APPLICATION 24] }
 use Rattle.std.specs.Prelude.{◌≢◌, ℕ, pos, refl, true}
 use Rattle.rasn_types.specs.Shapes.{Shape, Tree, number, chosen, absent, leaf, null, choice, seq, Parts, part, required}
 use Rattle.rasn_types.specs.Shapes.Parts.{none}

@@ -1,5 +1,5 @@
--- LDAPString ::= OCTET STRING of text in UTF-8 (RFC 4511, 4.1.2): a UTF8String under the tag of OCTET STRING (X.690
--- 8.23)
+-- LDAPString ::= OCTET STRING of text in UTF-8 (RFC 4511, 4.1.2): a UTF8String under the tag of OCTET STRING
+-- (X.690 8.23)
 use Rattle.std.specs.Prelude.{List, String, None, chars}
 use Rattle.std.specs.String.{string_bytes}
 use Rattle.rasn_types.specs.Tags.{in_universal}

@@ -6,8 +6,8 @@ use rasn::parts::{End, Put, Required};
 use rasn::types::{AsnType, Class, Constraints, Identifier, LawfulEq, Present, Tag};
 use rasn::{Decode, Decoder, Encode, Encoder};
 
-/// \[APPLICATION 0\] SEQUENCE { version INTEGER (1..127), name LDAPDN, authentication
-/// AuthenticationChoice }: the request of a client to be authenticated.
+/// \[APPLICATION 0\] SEQUENCE { version INTEGER (1..127), name LDAPDN,
+/// authentication AuthenticationChoice }: the request of a client to be authenticated.
 #[derive(Debug, PartialEq, Eq, Drop)]
 pub struct BindRequest {
     pub version: IntegerWithin<1, 127>,

@@ -1,5 +1,5 @@
-//! `Control ::= SEQUENCE { controlType LDAPOID, criticality BOOLEAN DEFAULT FALSE, controlValue
-//! OCTET STRING OPTIONAL }` (RFC 4511, 4.1.11).
+//! `Control ::= SEQUENCE { controlType LDAPOID, criticality BOOLEAN DEFAULT FALSE,
+//! controlValue OCTET STRING OPTIONAL }` (RFC 4511, 4.1.11).
 use crate::LdapString;
 use rasn::error::{DecodeError, EncodeError};
 use rasn::parts::{DefaultValue, Defaulted, End, Optional, Put, PutDefault, PutOptional, Required};
@@ -7,8 +7,8 @@ use rasn::types::{AsnType, Constraints, Identifier, LawfulEq, OctetString, Prese
 use rasn::{Decode, Decoder, Encode, Encoder};
 use std::alloc::{AllocError, Global};
 
-/// SEQUENCE { controlType LDAPOID, criticality BOOLEAN DEFAULT FALSE, controlValue OCTET STRING
-/// OPTIONAL }: an extension of an operation.
+/// SEQUENCE { controlType LDAPOID, criticality BOOLEAN DEFAULT FALSE,
+/// controlValue OCTET STRING OPTIONAL }: an extension of an operation.
 #[derive(Debug, PartialEq, Eq, Drop)]
 pub struct Control {
     pub control_type: LdapString,

@@ -1,5 +1,5 @@
-//! `ExtendedResponse ::= [APPLICATION 24] SEQUENCE { COMPONENTS OF LDAPResult, responseName [10]
-//! LDAPOID OPTIONAL, ..` (RFC 4511, 4.12).
+//! `ExtendedResponse ::= [APPLICATION 24] SEQUENCE { COMPONENTS OF LDAPResult,
+//! responseName [10] LDAPOID OPTIONAL, ..` (RFC 4511, 4.12).
 use crate::{LdapString, ResultCode};
 use rasn::error::{DecodeError, EncodeError};
 use rasn::parts::{End, Optional, Put, PutOptional, Required};

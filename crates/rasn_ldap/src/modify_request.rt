@@ -1,5 +1,5 @@
-//! `ModifyRequest ::= [APPLICATION 6] SEQUENCE { object LDAPDN, changes SEQUENCE OF change }` (RFC
-//! 4511, 4.6).
+//! `ModifyRequest ::= [APPLICATION 6] SEQUENCE { object LDAPDN, changes SEQUENCE OF change }`
+//! (RFC 4511, 4.6).
 use crate::{Change, LdapString};
 use rasn::error::{DecodeError, EncodeError};
 use rasn::parts::{End, Put, Required};

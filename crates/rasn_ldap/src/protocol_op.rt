@@ -1,5 +1,5 @@
-//! `protocolOp CHOICE { bindRequest BindRequest, bindResponse BindResponse, unbindRequest
-//! UnbindRequest, .. }` (RFC 4511, 4.1.1).
+//! `protocolOp CHOICE { bindRequest BindRequest, bindResponse BindResponse,
+//! unbindRequest UnbindRequest, .. }` (RFC 4511, 4.1.1).
 use crate::{
     BindRequest, BindResponse, ExtendedRequest, ExtendedResponse, ModifyRequest, ModifyResponse,
     SearchRequest, SearchResultDone, SearchResultEntry, SearchResultReference,

@@ -22,7 +22,8 @@ pub fn has_lawful_shape()
 {}
 
 /// Reads the message that begins the input, in BER, and returns it with the rest of the input, such
-/// as the next message of a connection. It returns one exactly if the grammar has one.
+/// as the next message of a connection. Unless an allocation fails, the call succeeds exactly if
+/// the input begins with a message by the grammar.
 ///
 /// # Errors
 /// The errors of `ber::decode_with_remainder`. `Incomplete` is returned for a message of which
@@ -35,8 +36,9 @@ pub fn read_message(alloc: Global, input: &[u8]) -> Result<(LdapMessage, &[u8]),
 }
 
 /// Returns the octets of a message in the forms that LDAP requires (RFC 4511, 5.1): definite
-/// lengths, primitive strings, TRUE as `FF`, and no `criticality` that is FALSE. Of the carried
-/// messages, only those that are the same have these octets, and `read_message` reads them back.
+/// lengths, primitive strings, TRUE as `FF`, and no `criticality` that is FALSE. Two carried
+/// messages have the same octets exactly if the messages are the same, and `read_message` reads the
+/// octets back.
 ///
 /// The octets of the filter are written unchanged, so all of this holds for the filter only if its
 /// octets are one encoding of definite length.

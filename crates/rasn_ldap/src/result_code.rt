@@ -1,5 +1,5 @@
-//! `resultCode ENUMERATED { success (0), operationsError (1), .., other (80), ... }` (RFC 4511,
-//! 4.1.9).
+//! `resultCode ENUMERATED { success (0), operationsError (1), .., other (80), ... }`
+//! (RFC 4511, 4.1.9).
 use rasn::error::{DecodeError, EncodeError};
 use rasn::types::{AsnType, Constraints, Identifier, LawfulEq, Present, Tag};
 use rasn::{Decode, Decoder, Encode, Encoder};

@@ -1,5 +1,5 @@
-//! `SaslCredentials ::= SEQUENCE { mechanism LDAPString, credentials OCTET STRING OPTIONAL }` (RFC
-//! 4511, 4.2).
+//! `SaslCredentials ::= SEQUENCE { mechanism LDAPString, credentials OCTET STRING OPTIONAL }`
+//! (RFC 4511, 4.2).
 use crate::LdapString;
 use rasn::error::{DecodeError, EncodeError};
 use rasn::parts::{End, Optional, Put, PutOptional, Required};

@@ -1,5 +1,5 @@
-//! `SearchRequest ::= [APPLICATION 3] SEQUENCE { baseObject LDAPDN, scope ENUMERATED, derefAliases
-//! ENUMERATED, ..` (RFC 4511, 4.5.1).
+//! `SearchRequest ::= [APPLICATION 3] SEQUENCE { baseObject LDAPDN, scope ENUMERATED,
+//! derefAliases ENUMERATED, ..` (RFC 4511, 4.5.1).
 use crate::{DerefAliases, LdapString, MaxInt, SearchScope};
 use rasn::error::{DecodeError, EncodeError};
 use rasn::parts::{End, Put, Required};

@@ -1,5 +1,5 @@
-//! `SearchResultEntry ::= [APPLICATION 4] SEQUENCE { objectName LDAPDN, attributes
-//! PartialAttributeList }` (RFC 4511, 4.5.2).
+//! `SearchResultEntry ::= [APPLICATION 4] SEQUENCE { objectName LDAPDN,
+//! attributes PartialAttributeList }` (RFC 4511, 4.5.2).
 use crate::{LdapString, PartialAttribute};
 use rasn::error::{DecodeError, EncodeError};
 use rasn::parts::{End, Put, Required};

@@ -1,5 +1,5 @@
-//! `scope ENUMERATED { baseObject (0), singleLevel (1), wholeSubtree (2), ... }` (RFC 4511,
-//! 4.5.1.2).
+//! `scope ENUMERATED { baseObject (0), singleLevel (1), wholeSubtree (2), ... }`
+//! (RFC 4511, 4.5.1.2).
 use rasn::error::{DecodeError, EncodeError};
 use rasn::types::{AsnType, Constraints, Identifier, LawfulEq, Present, Tag};
 use rasn::{Decode, Decoder, Encode, Encoder};

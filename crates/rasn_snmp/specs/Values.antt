@@ -1,8 +1,10 @@
--- CHOICE { integer-value INTEGER (-2147483648..2147483647), string-value OCTET STRING, objectID-value OBJECT
--- IDENTIFIER, ipAddress-value [APPLICATION 0] OCTET STRING (SIZE (4)), counter-value [APPLICATION 1] INTEGER
--- (0..4294967295), unsigned-integer-value [APPLICATION 2] INTEGER (0..4294967295), timeticks-value [APPLICATION 3]
--- INTEGER (0..4294967295), arbitrary-value [APPLICATION 4] OCTET STRING, big-counter-value [APPLICATION 6] INTEGER
--- (0..18446744073709551615), unSpecified NULL, noSuchObject [0] NULL, noSuchInstance [1] NULL, endOfMibView [2] NULL }
+-- CHOICE { integer-value INTEGER (-2147483648..2147483647), string-value OCTET STRING,
+-- objectID-value OBJECT IDENTIFIER, ipAddress-value [APPLICATION 0] OCTET STRING (SIZE (4)),
+-- counter-value [APPLICATION 1] INTEGER (0..4294967295),
+-- unsigned-integer-value [APPLICATION 2] INTEGER (0..4294967295),
+-- timeticks-value [APPLICATION 3] INTEGER (0..4294967295), arbitrary-value [APPLICATION 4] OCTET STRING,
+-- big-counter-value [APPLICATION 6] INTEGER (0..18446744073709551615), unSpecified NULL, noSuchObject [0] NULL,
+-- noSuchInstance [1] NULL, endOfMibView [2] NULL }
 use Rattle.std.specs.Prelude.{◌≢◌, ℕ, pos, refl, true}
 use Rattle.rasn_types.specs.Tags.{in_universal}
 use Rattle.rasn_types.specs.Shapes.{Shape, Tree, number, numbers, chosen, absent, leaf, choice, Parts, part, required, octet_string, fixed, object_identifier, null}

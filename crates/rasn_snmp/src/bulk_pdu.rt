@@ -8,8 +8,8 @@ use rasn::{Decode, Decoder, Encode, Encoder};
 
 /// SEQUENCE { request-id INTEGER (-214783648..214783647), non-repeaters INTEGER (0..2147483647),
 /// max-repetitions INTEGER (0..2147483647), variable-bindings VarBindList }: the PDU of
-/// GetBulkRequest. A negative `non_repeaters` or `max_repetitions` is treated as 0 (RFC 3416,
-/// 4.2.3).
+/// GetBulkRequest. A negative `non_repeaters` or `max_repetitions` is treated as 0
+/// (RFC 3416, 4.2.3).
 #[derive(Debug, PartialEq, Eq, Drop)]
 pub struct BulkPdu {
     /// The number that relates a response to its request.

@@ -1,5 +1,5 @@
-//! `Message ::= SEQUENCE { version INTEGER { version(1) }, community OCTET STRING, data ANY }` (RFC
-//! 1901; RFC 1157, 4).
+//! `Message ::= SEQUENCE { version INTEGER { version(1) }, community OCTET STRING, data ANY }`
+//! (RFC 1901; RFC 1157, 4).
 use crate::Pdus;
 use rasn::error::{DecodeError, EncodeError};
 use rasn::parts::{End, Put, Required};

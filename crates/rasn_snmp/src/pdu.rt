@@ -6,9 +6,9 @@ use rasn::parts::{End, Put, Required};
 use rasn::types::{AsnType, Constraints, Identifier, LawfulEq, Present, Tag};
 use rasn::{Decode, Decoder, Encode, Encoder};
 
-/// SEQUENCE { request-id INTEGER (-214783648..214783647), error-status INTEGER, error-index INTEGER
-/// (0..2147483647), variable-bindings VarBindList }: the PDU of all operations except
-/// GetBulkRequest and the trap of version 1.
+/// SEQUENCE { request-id INTEGER (-214783648..214783647), error-status INTEGER,
+/// error-index INTEGER (0..2147483647), variable-bindings VarBindList }: the PDU of all operations
+/// except GetBulkRequest and the trap of version 1.
 #[derive(Debug, PartialEq, Eq, Drop)]
 pub struct Pdu {
     /// The number that relates a response to its request.

@@ -20,9 +20,10 @@ pub fn has_lawful_shape()
     ensures carried { carries_all message_shape ≡ true }
 {}
 
-/// Reads the message that begins the input, in BER, and returns it with the rest of the input. It
-/// returns one exactly if the grammar has one. A message takes up a whole datagram (RFC 3417, 3),
-/// so the rest should be empty; `rasn::refuse_remainder` refuses a rest that isn't.
+/// Reads the message that begins the input, in BER, and returns it with the rest of the input.
+/// Unless an allocation fails, the call succeeds exactly if the input begins with a message by the
+/// grammar. A message takes up a whole datagram (RFC 3417, 3), so the rest should be empty:
+/// `rasn::refuse_remainder` returns an error if it isn't.
 ///
 /// # Errors
 /// The errors of `ber::decode_with_remainder`.
@@ -34,8 +35,8 @@ pub fn read_message(alloc: Global, input: &[u8]) -> Result<(Message, &[u8]), Dec
 }
 
 /// Returns the DER octets of a message, which meet the restrictions of SNMP on BER: definite
-/// lengths and primitive strings (RFC 3417, 8). Of the carried messages, only those that are the
-/// same have these octets.
+/// lengths and primitive strings (RFC 3417, 8). Two carried messages have the same octets exactly
+/// if the messages are the same.
 ///
 /// # Errors
 /// `OutOfMemory`, and errors of messages without an encoding.

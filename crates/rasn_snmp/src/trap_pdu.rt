@@ -1,5 +1,5 @@
-//! `Trap-PDU ::= SEQUENCE { enterprise OBJECT IDENTIFIER, agent-addr NetworkAddress, generic-trap
-//! INTEGER, ..` (RFC 1157, 4.1.6).
+//! `Trap-PDU ::= SEQUENCE { enterprise OBJECT IDENTIFIER, agent-addr NetworkAddress,
+//! generic-trap INTEGER, ..` (RFC 1157, 4.1.6).
 use crate::{IpAddress, TimeTicks, VarBindList};
 use rasn::error::{DecodeError, EncodeError};
 use rasn::parts::{End, Put, Required};

@@ -6,8 +6,9 @@ use rasn::parts::{End, Put, Required};
 use rasn::types::{AsnType, Constraints, Identifier, LawfulEq, Present, Tag};
 use rasn::{Decode, Decoder, Encode, Encoder};
 
-/// SEQUENCE { name ObjectName, CHOICE { value ObjectSyntax, unSpecified NULL, noSuchObject \[0\]
-/// NULL, noSuchInstance \[1\] NULL, endOfMibView \[2\] NULL } }: a variable and its value.
+/// SEQUENCE { name ObjectName, CHOICE { value ObjectSyntax, unSpecified NULL,
+/// noSuchObject \[0\] NULL, noSuchInstance \[1\] NULL, endOfMibView \[2\] NULL } }: a variable and
+/// its value.
 #[derive(Debug, PartialEq, Eq, Drop)]
 pub struct VarBind {
     /// The name of the variable.

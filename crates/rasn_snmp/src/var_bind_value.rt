@@ -13,8 +13,8 @@ use rasn::{Decode, Decoder, Encode, Encoder};
 /// CHOICE { integer-value INTEGER (-2147483648..2147483647), string-value OCTET STRING,
 /// objectID-value OBJECT IDENTIFIER, ipAddress-value IpAddress, counter-value Counter32,
 /// unsigned-integer-value Unsigned32, timeticks-value TimeTicks, arbitrary-value Opaque,
-/// big-counter-value Counter64, unSpecified NULL, noSuchObject \[0\] NULL, noSuchInstance \[1\]
-/// NULL, endOfMibView \[2\] NULL }
+/// big-counter-value Counter64, unSpecified NULL, noSuchObject \[0\] NULL,
+/// noSuchInstance \[1\] NULL, endOfMibView \[2\] NULL }
 #[derive(Debug, PartialEq, Eq, Drop)]
 pub enum VarBindValue {
     Integer(i32),

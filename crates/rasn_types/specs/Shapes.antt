@@ -133,8 +133,8 @@ abbrev mutual
 abbrev pub looked_for : Tag → Option Tag
 looked_for tag = if is_eoc tag then None else Some tag
 
--- The shape under another outermost tag and other constraints: an implicit tag replaces the outermost one (X.680
--- 31.2.7). A CHOICE has no tag to replace, and universal 0 removes the tag of an open type.
+-- The shape under another outermost tag and other constraints: an implicit tag replaces the outermost one
+-- (X.680 31.2.7). A CHOICE has no tag to replace, and universal 0 removes the tag of an open type.
 abbrev pub tagged_as : Tag → Constraints → Shape → Shape
 tagged_as t c (leaf kind tag bounds) = leaf kind t c
 tagged_as t c (any tag) = any (looked_for t)

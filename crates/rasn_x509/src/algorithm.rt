@@ -1,5 +1,5 @@
-//! `AlgorithmIdentifier ::= SEQUENCE { algorithm OBJECT IDENTIFIER, parameters ANY DEFINED BY
-//! algorithm OPTIONAL }` (RFC 5280, 4.1.1.2).
+//! `AlgorithmIdentifier ::= SEQUENCE { algorithm OBJECT IDENTIFIER,
+//! parameters ANY DEFINED BY algorithm OPTIONAL }` (RFC 5280, 4.1.1.2).
 use rasn::error::{DecodeError, EncodeError};
 use rasn::parts::{End, Optional, Put, PutOptional, Required};
 use rasn::types::{

@@ -1,5 +1,5 @@
-//! `Extension ::= SEQUENCE { extnID OBJECT IDENTIFIER, critical BOOLEAN DEFAULT FALSE, extnValue
-//! OCTET STRING }` (RFC 5280, 4.1).
+//! `Extension ::= SEQUENCE { extnID OBJECT IDENTIFIER, critical BOOLEAN DEFAULT FALSE,
+//! extnValue OCTET STRING }` (RFC 5280, 4.1).
 use rasn::error::{DecodeError, EncodeError};
 use rasn::parts::{DefaultValue, Defaulted, End, Put, PutDefault, Required};
 use rasn::types::{

@@ -1,5 +1,5 @@
-//! `SubjectPublicKeyInfo ::= SEQUENCE { algorithm AlgorithmIdentifier, subjectPublicKey BIT STRING
-//! }` (RFC 5280, 4.1).
+//! `SubjectPublicKeyInfo ::= SEQUENCE { algorithm AlgorithmIdentifier,
+//! subjectPublicKey BIT STRING }` (RFC 5280, 4.1).
 use crate::AlgorithmIdentifier;
 use rasn::error::{DecodeError, EncodeError};
 use rasn::parts::{End, Put, Required};

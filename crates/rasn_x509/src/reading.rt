@@ -20,8 +20,9 @@ pub fn has_lawful_shape()
     ensures carried { carries_all certificate_shape ≡ true }
 {}
 
-/// Reads the certificate that is the whole input, in DER. It returns one exactly if the grammar has
-/// one, and then `write_certificate` writes the input again.
+/// Reads the certificate that is the whole input, in DER. Unless an allocation fails, the call
+/// succeeds exactly if the input is a certificate by the grammar, and then `write_certificate`
+/// writes the same octets.
 ///
 /// # Errors
 /// The errors of `der::decode`.
@@ -33,8 +34,8 @@ pub fn read_certificate(alloc: Global, input: &[u8]) -> Result<Certificate, Deco
     der::decode(alloc, input)
 }
 
-/// Returns the DER octets of a certificate. Of the carried certificates, only those that are the
-/// same have these octets.
+/// Returns the DER octets of a certificate. Two carried certificates have the same octets exactly
+/// if the certificates are the same.
 ///
 /// # Errors
 /// `OutOfMemory`, and errors of certificates without an encoding, such as one with a name whose

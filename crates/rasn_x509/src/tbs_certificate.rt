@@ -1,5 +1,5 @@
-//! `TBSCertificate ::= SEQUENCE { version [0] EXPLICIT Version DEFAULT v1, serialNumber
-//! CertificateSerialNumber, signature AlgorithmIdentifier, ..` (RFC 5280, 4.1).
+//! `TBSCertificate ::= SEQUENCE { version [0] EXPLICIT Version DEFAULT v1,
+//! serialNumber CertificateSerialNumber, signature AlgorithmIdentifier, ..` (RFC 5280, 4.1).
 use crate::{AlgorithmIdentifier, Extension, Name, SubjectPublicKeyInfo, Validity};
 use rasn::error::{DecodeError, EncodeError};
 use rasn::parts::{
@@ -13,11 +13,12 @@ use rasn::types::{
 use rasn::{Decode, Decoder, Encode, Encoder};
 use std::alloc::{AllocError, Global};
 
-/// SEQUENCE { version \[0\] EXPLICIT INTEGER { v1(0), v2(1), v3(2) } DEFAULT v1, serialNumber
-/// INTEGER, signature AlgorithmIdentifier, issuer Name, validity Validity, subject Name,
-/// subjectPublicKeyInfo SubjectPublicKeyInfo, issuerUniqueID \[1\] IMPLICIT BIT STRING OPTIONAL,
-/// subjectUniqueID \[2\] IMPLICIT BIT STRING OPTIONAL, extensions \[3\] EXPLICIT SEQUENCE OF
-/// Extension OPTIONAL }
+/// SEQUENCE { version \[0\] EXPLICIT INTEGER { v1(0), v2(1), v3(2) } DEFAULT v1,
+/// serialNumber INTEGER, signature AlgorithmIdentifier, issuer Name, validity Validity,
+/// subject Name, subjectPublicKeyInfo SubjectPublicKeyInfo,
+/// issuerUniqueID \[1\] IMPLICIT BIT STRING OPTIONAL,
+/// subjectUniqueID \[2\] IMPLICIT BIT STRING OPTIONAL,
+/// extensions \[3\] EXPLICIT SEQUENCE OF Extension OPTIONAL }
 #[derive(Debug, PartialEq, Eq, Drop)]
 pub struct TbsCertificate {
     /// The version minus 1: 2 is version 3.

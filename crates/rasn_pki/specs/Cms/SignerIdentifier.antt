@@ -1,5 +1,5 @@
--- SignerIdentifier ::= CHOICE { issuerAndSerialNumber IssuerAndSerialNumber, subjectKeyIdentifier [0] IMPLICIT OCTET
--- STRING }
+-- SignerIdentifier ::= CHOICE { issuerAndSerialNumber IssuerAndSerialNumber,
+-- subjectKeyIdentifier [0] IMPLICIT OCTET STRING }
 use Rattle.std.specs.Prelude.{ℕ, List, codes}
 use Rattle.rasn_types.specs.Shapes.{Shape, Tree, numbers, chosen, leaf, octet_string, choice, Parts, part, required}
 use Rattle.rasn_types.specs.Shapes.Parts.{none}

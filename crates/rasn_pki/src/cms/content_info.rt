@@ -1,5 +1,5 @@
-//! `ContentInfo ::= SEQUENCE { contentType ContentType, content [0] EXPLICIT ANY DEFINED BY
-//! contentType }` (RFC 5652, 3).
+//! `ContentInfo ::= SEQUENCE { contentType ContentType,
+//! content [0] EXPLICIT ANY DEFINED BY contentType }` (RFC 5652, 3).
 use rasn::error::{DecodeError, EncodeError};
 use rasn::parts::{End, Put, Required};
 use rasn::types::{

@@ -1,5 +1,5 @@
-//! `EncapsulatedContentInfo ::= SEQUENCE { eContentType ContentType, eContent [0] EXPLICIT OCTET
-//! STRING OPTIONAL }` (RFC 5652, 5.2).
+//! `EncapsulatedContentInfo ::= SEQUENCE { eContentType ContentType,
+//! eContent [0] EXPLICIT OCTET STRING OPTIONAL }` (RFC 5652, 5.2).
 use rasn::error::{DecodeError, EncodeError};
 use rasn::parts::{End, Optional, Put, PutOptional, Required};
 use rasn::types::{

@@ -1,5 +1,5 @@
-//! `IssuerAndSerialNumber ::= SEQUENCE { issuer Name, serialNumber CertificateSerialNumber }` (RFC
-//! 5652, 10.2.4).
+//! `IssuerAndSerialNumber ::= SEQUENCE { issuer Name, serialNumber CertificateSerialNumber }`
+//! (RFC 5652, 10.2.4).
 use crate::x509::Name;
 use rasn::error::{DecodeError, EncodeError};
 use rasn::parts::{End, Put, Required};

@@ -21,8 +21,9 @@ pub fn has_lawful_shape()
     ensures carried { carries_all signed_message_shape ≡ true }
 {}
 
-/// Reads the signed message that is the whole input, in DER. It returns one exactly if the grammar
-/// has one, and then `write_signed_message` writes the input again.
+/// Reads the signed message that is the whole input, in DER. Unless an allocation fails, the call
+/// succeeds exactly if the input is a signed message by the grammar, and then
+/// `write_signed_message` writes the same octets.
 ///
 /// # Errors
 /// The errors of `der::decode`.
@@ -51,8 +52,8 @@ pub fn read_streamed_message(
     ber::decode_with_remainder(alloc, input)
 }
 
-/// Returns the DER octets of a signed message. Of the carried messages, only those that are the
-/// same have these octets.
+/// Returns the DER octets of a signed message. Two carried messages have the same octets exactly if
+/// the messages are the same.
 ///
 /// # Errors
 /// `OutOfMemory`, and errors of messages without an encoding, such as one whose certificates aren't

@@ -9,9 +9,10 @@ use rasn::types::{
 };
 use rasn::{Decode, Decoder, Encode, Encoder};
 
-/// SEQUENCE { version INTEGER, digestAlgorithms SET OF AlgorithmIdentifier, encapContentInfo
-/// EncapsulatedContentInfo, certificates \[0\] IMPLICIT SET OF CertificateChoices OPTIONAL, crls
-/// \[1\] IMPLICIT SET OF RevocationInfoChoice OPTIONAL, signerInfos SET OF SignerInfo }
+/// SEQUENCE { version INTEGER, digestAlgorithms SET OF AlgorithmIdentifier,
+/// encapContentInfo EncapsulatedContentInfo,
+/// certificates \[0\] IMPLICIT SET OF CertificateChoices OPTIONAL,
+/// crls \[1\] IMPLICIT SET OF RevocationInfoChoice OPTIONAL, signerInfos SET OF SignerInfo }
 ///
 /// The certificates and revocation lists are open types. `read_certificate` and
 /// `read_revocation_list` read the octets of those in DER.

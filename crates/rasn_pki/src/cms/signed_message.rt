@@ -1,5 +1,5 @@
-//! `ContentInfo` of signed data: `SEQUENCE { contentType ContentType, content [0] EXPLICIT
-//! SignedData }` (RFC 5652, 3 and 5).
+//! `ContentInfo` of signed data: `SEQUENCE { contentType ContentType,
+//! content [0] EXPLICIT SignedData }` (RFC 5652, 3 and 5).
 use crate::cms::SignedData;
 use rasn::error::{DecodeError, EncodeError};
 use rasn::parts::{End, Put, Required};

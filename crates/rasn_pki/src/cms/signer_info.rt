@@ -1,5 +1,5 @@
-//! `SignerInfo ::= SEQUENCE { version CMSVersion, sid SignerIdentifier, digestAlgorithm
-//! AlgorithmIdentifier, ..` (RFC 5652, 5.3).
+//! `SignerInfo ::= SEQUENCE { version CMSVersion, sid SignerIdentifier,
+//! digestAlgorithm AlgorithmIdentifier, ..` (RFC 5652, 5.3).
 use crate::cms::SignerIdentifier;
 use crate::x509::{AlgorithmIdentifier, Attribute};
 use rasn::error::{DecodeError, EncodeError};

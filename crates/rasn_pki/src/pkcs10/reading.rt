@@ -20,8 +20,9 @@ pub fn has_lawful_shape()
     ensures carried { carries_all request_shape ≡ true }
 {}
 
-/// Reads the certification request that is the whole input, in DER. It returns one exactly if the
-/// grammar has one, and then `write_request` writes the input again.
+/// Reads the certification request that is the whole input, in DER. Unless an allocation fails, the
+/// call succeeds exactly if the input is a certification request by the grammar, and then
+/// `write_request` writes the same octets.
 ///
 /// # Errors
 /// The errors of `der::decode`.
@@ -33,8 +34,8 @@ pub fn read_request(alloc: Global, input: &[u8]) -> Result<CertificationRequest,
     der::decode(alloc, input)
 }
 
-/// Returns the DER octets of a certification request. Of the carried requests, only those that are
-/// the same have these octets.
+/// Returns the DER octets of a certification request. Two carried requests have the same octets
+/// exactly if the requests are the same.
 ///
 /// # Errors
 /// `OutOfMemory`, and errors of requests without an encoding, such as one whose attributes aren't

@@ -7,8 +7,8 @@ use rasn::parts::{End, Put, Required};
 use rasn::types::{AsnType, BitString, Constraints, Identifier, LawfulEq, Present, Tag};
 use rasn::{Decode, Decoder, Encode, Encoder};
 
-/// SEQUENCE { certificationRequestInfo CertificationRequestInfo, signatureAlgorithm
-/// AlgorithmIdentifier, signature BIT STRING }
+/// SEQUENCE { certificationRequestInfo CertificationRequestInfo,
+/// signatureAlgorithm AlgorithmIdentifier, signature BIT STRING }
 #[derive(Debug, PartialEq, Eq, Drop)]
 pub struct CertificationRequest {
     /// The signed part.

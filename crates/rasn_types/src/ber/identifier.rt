@@ -68,8 +68,8 @@ impl Identifier {
     }
 }
 
-/// Returns whether every value with this tag is constructed: EXTERNAL, SEQUENCE and SET (X.690
-/// 8.18, 8.9, 8.11).
+/// Returns whether every value with this tag is constructed: EXTERNAL, SEQUENCE and SET
+/// (X.690 8.18, 8.9, 8.11).
 #[inline]
 pub fn is_always_constructed(tag: Tag) -> bool
     ensures { result ≡ tag_bit tag }

@@ -1,6 +1,6 @@
--- GeneralName ::= CHOICE { otherName [0] OtherName, rfc822Name [1] IA5String, dNSName [2] IA5String, x400Address [3]
--- SEQUENCE OF ANY, directoryName [4] EXPLICIT Name, ediPartyName [5] EDIPartyName, uniformResourceIdentifier [6]
--- IA5String, iPAddress [7] OCTET STRING, registeredID [8] OBJECT IDENTIFIER }
+-- GeneralName ::= CHOICE { otherName [0] OtherName, rfc822Name [1] IA5String, dNSName [2] IA5String,
+-- x400Address [3] SEQUENCE OF ANY, directoryName [4] EXPLICIT Name, ediPartyName [5] EDIPartyName,
+-- uniformResourceIdentifier [6] IA5String, iPAddress [7] OCTET STRING, registeredID [8] OBJECT IDENTIFIER }
 use Rattle.std.specs.Prelude.{◌≢◌, None, ℕ, List, codes}
 use Rattle.rasn_types.specs.Tags.{in_universal}
 use Rattle.rasn_types.specs.Shapes.{Shape, Tree, numbers, chosen, absent, leaf, any, prefix, choice, seq, list, Parts, part, required, ia5, octet_string, object_identifier}

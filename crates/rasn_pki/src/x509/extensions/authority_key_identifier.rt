@@ -9,8 +9,9 @@ use rasn::types::{
 };
 use rasn::{Decode, Decoder, Encode, Encoder};
 
-/// SEQUENCE { keyIdentifier \[0\] IMPLICIT OCTET STRING OPTIONAL, authorityCertIssuer \[1\]
-/// IMPLICIT GeneralNames OPTIONAL, authorityCertSerialNumber \[2\] IMPLICIT INTEGER OPTIONAL }
+/// SEQUENCE { keyIdentifier \[0\] IMPLICIT OCTET STRING OPTIONAL,
+/// authorityCertIssuer \[1\] IMPLICIT GeneralNames OPTIONAL,
+/// authorityCertSerialNumber \[2\] IMPLICIT INTEGER OPTIONAL }
 #[derive(Debug, PartialEq, Eq, Drop)]
 pub struct AuthorityKeyIdentifier {
     /// The `SubjectKeyIdentifier` of the issuer.

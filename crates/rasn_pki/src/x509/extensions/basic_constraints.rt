@@ -1,5 +1,5 @@
-//! `BasicConstraints ::= SEQUENCE { cA BOOLEAN DEFAULT FALSE, pathLenConstraint INTEGER (0..MAX)
-//! OPTIONAL }` (RFC 5280, 4.2.1.9).
+//! `BasicConstraints ::= SEQUENCE { cA BOOLEAN DEFAULT FALSE,
+//! pathLenConstraint INTEGER (0..MAX) OPTIONAL }` (RFC 5280, 4.2.1.9).
 use rasn::error::{DecodeError, EncodeError};
 use rasn::parts::{DefaultValue, Defaulted, End, Optional, PutDefault, PutOptional};
 use rasn::types::{AsnType, Constraints, Identifier, Integer, LawfulEq, Present, Tag};

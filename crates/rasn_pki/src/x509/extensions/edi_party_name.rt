@@ -1,5 +1,5 @@
-//! `EDIPartyName ::= SEQUENCE { nameAssigner [0] DirectoryString OPTIONAL, partyName [1]
-//! DirectoryString }` (RFC 5280, 4.2.1.6).
+//! `EDIPartyName ::= SEQUENCE { nameAssigner [0] DirectoryString OPTIONAL,
+//! partyName [1] DirectoryString }` (RFC 5280, 4.2.1.6).
 use rasn::error::{DecodeError, EncodeError};
 use rasn::parts::{End, Optional, Put, PutOptional, Required};
 use rasn::types::{

@@ -9,8 +9,8 @@ use rasn::{Decode, Decoder, Encode, Encoder};
 
 /// BIT STRING { digitalSignature (0), nonRepudiation (1), keyEncipherment (2), dataEncipherment
 /// (3), keyAgreement (4), keyCertSign (5), cRLSign (6), encipherOnly (7), decipherOnly (8) }: the
-/// uses of the key. A missing bit is 0. Trailing zeros are kept as they are read, although DER
-/// writes none (X.690 11.2.2).
+/// uses of the key. A missing bit is 0. Trailing zeros are kept as they are read, although DER has
+/// none in a list of named bits (X.690 11.2.2).
 #[derive(Debug, PartialEq, Eq, Drop)]
 pub struct KeyUsage {
     /// The bits, as they are read.

@@ -1,5 +1,5 @@
-//! `OtherName ::= SEQUENCE { type-id OBJECT IDENTIFIER, value [0] EXPLICIT ANY DEFINED BY type-id
-//! }` (RFC 5280, 4.2.1.6).
+//! `OtherName ::= SEQUENCE { type-id OBJECT IDENTIFIER,
+//! value [0] EXPLICIT ANY DEFINED BY type-id }` (RFC 5280, 4.2.1.6).
 use rasn::error::{DecodeError, EncodeError};
 use rasn::parts::{End, Put, Required};
 use rasn::types::{

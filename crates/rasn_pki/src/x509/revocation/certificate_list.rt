@@ -7,8 +7,8 @@ use rasn::parts::{End, Put, Required};
 use rasn::types::{AsnType, BitString, Constraints, Identifier, LawfulEq, Present, Tag};
 use rasn::{Decode, Decoder, Encode, Encoder};
 
-/// SEQUENCE { tbsCertList TBSCertList, signatureAlgorithm AlgorithmIdentifier, signatureValue BIT
-/// STRING }
+/// SEQUENCE { tbsCertList TBSCertList, signatureAlgorithm AlgorithmIdentifier,
+/// signatureValue BIT STRING }
 #[derive(Debug, PartialEq, Eq, Drop)]
 pub struct CertificateList {
     /// The signed part.

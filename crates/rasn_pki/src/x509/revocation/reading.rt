@@ -19,8 +19,9 @@ pub fn has_lawful_shape()
     ensures carried { carries_all certificate_list_shape ≡ true }
 {}
 
-/// Reads the revocation list that is the whole input, in DER. It returns one exactly if the grammar
-/// has one, and then `write_revocation_list` writes the input again.
+/// Reads the revocation list that is the whole input, in DER. Unless an allocation fails, the call
+/// succeeds exactly if the input is a revocation list by the grammar, and then
+/// `write_revocation_list` writes the same octets.
 ///
 /// # Errors
 /// The errors of `der::decode`.
@@ -32,8 +33,8 @@ pub fn read_revocation_list(alloc: Global, input: &[u8]) -> Result<CertificateLi
     der::decode(alloc, input)
 }
 
-/// Returns the DER octets of a revocation list. Of the carried lists, only those that are the same
-/// have these octets.
+/// Returns the DER octets of a revocation list. Two carried lists have the same octets exactly if
+/// the lists are the same.
 ///
 /// # Errors
 /// `OutOfMemory`, and errors of lists without an encoding, such as one with a name whose attributes

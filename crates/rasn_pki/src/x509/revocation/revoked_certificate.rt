@@ -6,8 +6,8 @@ use rasn::parts::{End, Optional, Put, PutOptional, Required};
 use rasn::types::{AsnType, Constraints, Identifier, Integer, LawfulEq, Present, Tag};
 use rasn::{Decode, Decoder, Encode, Encoder};
 
-/// SEQUENCE { userCertificate CertificateSerialNumber, revocationDate Time, crlEntryExtensions
-/// SEQUENCE OF Extension OPTIONAL }
+/// SEQUENCE { userCertificate CertificateSerialNumber, revocationDate Time,
+/// crlEntryExtensions SEQUENCE OF Extension OPTIONAL }
 #[derive(Debug, PartialEq, Eq, Drop)]
 pub struct RevokedCertificate {
     /// The serial number of the certificate.

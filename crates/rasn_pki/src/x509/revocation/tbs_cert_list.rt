@@ -11,12 +11,13 @@ use rasn::types::{
 use rasn::{Decode, Decoder, Encode, Encoder};
 
 /// SEQUENCE { version INTEGER { v2(1) } OPTIONAL, signature AlgorithmIdentifier, issuer Name,
-/// thisUpdate Time, nextUpdate Time OPTIONAL, revokedCertificates SEQUENCE OF RevokedCertificate
-/// OPTIONAL, crlExtensions \[0\] EXPLICIT SEQUENCE OF Extension OPTIONAL }
+/// thisUpdate Time, nextUpdate Time OPTIONAL,
+/// revokedCertificates SEQUENCE OF RevokedCertificate OPTIONAL,
+/// crlExtensions \[0\] EXPLICIT SEQUENCE OF Extension OPTIONAL }
 ///
 /// An optional CHOICE has no tag that a reader could look for, so each alternative of `nextUpdate`
-/// is an optional part of its own. At most one of them is present in a list that conforms to RFC
-/// 5280.
+/// is an optional part of its own. At most one of them is present in a list that conforms to
+/// RFC 5280.
 #[derive(Debug, PartialEq, Eq, Drop)]
 pub struct TbsCertList {
     /// 1 in a list of version 2, `None` in a list of version 1.

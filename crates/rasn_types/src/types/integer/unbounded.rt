@@ -18,8 +18,8 @@ use std::cmp::Ordering;
 use std::fmt;
 use std::marker::Model;
 
-/// A whole number of any length, kept as octets in two's complement, most significant first (X.690
-/// 8.3). Values are ordered as numbers.
+/// A whole number of any length, kept as octets in two's complement, most significant first
+/// (X.690 8.3). Values are ordered as numbers.
 #[derive(Debug, Drop)]
 pub struct Integer {
     octets: SmallOctets,
