@@ -21,7 +21,8 @@ pub record ClearsOne (bits : ℕ) (old new : List ℕ) : Type 0 where
 abbrev pub Clears : ℕ → List ℕ → List ℕ → Type 0
 Clears bits old new = ((old ≡ []) × (new ≡ [])) ⊎ ClearsOne bits old new
 
--- Octets are appended to bits, whose last octet has `unused` unused bits, so that no bit is between them.
+-- Octets are appended to others, whose last octet has `unused` unused bits. Their bits follow the used bits without a
+-- gap.
 pub record Joins (unused : ℕ) (old more new : List ℕ) : Type 0 where
   pub long : length new ≡ length old + length more
   pub all : bits_in new ≡ but_last unused old ++ (bits_in more ++ zeros unused)

@@ -74,7 +74,7 @@ abbrev pub shown_codec_decode : CodecDecodeError → List ℕ
 shown_codec_decode (Ber cause) = shown_ber_decode cause
 shown_codec_decode (Der cause) = shown_der_decode cause
 
--- The texts of the other causes. Positions are counted from 0.
+-- The texts of the kinds of errors of reading. Positions are counted from 0.
 abbrev pub shown_decode_kind : DecodeErrorKind → Option (List ℕ)
 shown_decode_kind (kind.Incomplete needed) = Some (shown_needed needed)
 shown_decode_kind (kind.UnexpectedExtraData length) = Some (shown_octets length (codes "trailing"))

@@ -65,7 +65,8 @@ HasIndefinite basic_form = Unit {0}
 HasIndefinite der_form = ⊥
 HasIndefinite loose_form = ⊥
 
--- The input begins with the header of a value. If the length is definite, the contents follow it, and then the rest.
+-- The input begins with the header of a value. After a definite length, the contents follow and then the rest; after an
+-- indefinite length, the rest.
 pub data Frame (spelling : Form) (input : List ℕ) (tag : Tag) (bit : Bool) (rest : List ℕ) : Extent → Type 0 where
   with_length : (id len contents : List ℕ) → SpellsIdentifier id tag bit → SpellsLength len (length contents)
       → (HasStrictForm spelling → IsShortestIdentifier id tag × IsShortestLength len (length contents))

@@ -51,8 +51,8 @@ abbrev pub is_first : Firsts → Tag → Bool
 is_first None n = true
 is_first (Some tags) n = list_any (is_same_tag n) tags
 
--- The test holds of each tag of the one list and each of the other. If every tag is a first tag it fails, since no test
--- used here holds of a tag and itself.
+-- The test holds of each tag of the one list and each of the other. If every tag is a first tag on one side, there must
+-- be none on the other, since no test used here holds of a tag and itself.
 abbrev pub holds_between : (Tag → Tag → Bool) → Firsts → Firsts → Bool
 holds_between test (Some a) (Some b) = list_all (λ s. list_all (test s) b) a
 holds_between test (Some []) None = true

@@ -12,8 +12,8 @@ use std::marker::Model;
 /// its own, the contents octets of the value with this tag. Contracts see it as the list of its
 /// octets.
 ///
-/// Values are ordered lexicographically by their octets. For encodings, this is the order of the
-/// elements of a SET OF (X.690 11.6).
+/// Values are ordered lexicographically by their octets. For complete encodings, this is the order
+/// of the elements of a SET OF (X.690 11.6).
 #[derive(Debug, Drop)]
 pub struct Any {
     octets: Vec<u8>,

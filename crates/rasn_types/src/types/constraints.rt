@@ -76,8 +76,8 @@ impl Constraints {
         size: None,
     };
 
-    /// Returns whether a size meets its constraint. Every size does if there is none or it is
-    /// extensible.
+    /// Returns whether a size meets its constraint. Every size does if there is no constraint or it
+    /// is extensible.
     pub fn admits_size(&self, size: usize) -> bool
         ensures { IsWhether result (Admits ◌≤◌ self.now.size size) }
     {
@@ -88,7 +88,7 @@ impl Constraints {
     }
 
     /// Returns whether the whole number that octets represent in two's complement (X.690 8.3) meets
-    /// its constraint. Every number does if there is none or it is extensible.
+    /// its constraint. Every number does if there is no constraint or it is extensible.
     #[inline(always)]
     pub fn admits_number(&self, octets: &[u8]) -> bool
         requires { 0 < length octets.now }
@@ -152,8 +152,8 @@ fn is_within(bounded: Bounded<i128>, number: i128) -> bool
     }
 }
 
-// Returns whether a number of more than 128 bits is within the bounds. It is only if the end on its
-// side is open.
+// Returns whether a number that doesn't fit in 128 bits is within the bounds. It is only if the end
+// on its side is open.
 fn is_far_within(bounded: Bounded<i128>, octets: &[u8]) -> bool
     requires some { 0 < length octets.now }
     requires far { IsIn (signed_range 128) (signed octets.now) → ⊥ }

@@ -23,8 +23,8 @@ pub trait Enumerated: Drop {
     /// The proof that the type names the number of each value.
     ghost listed: { (v : Self) → Contains known (number v) };
 
-    /// The proof that each number has one value: `from_discriminant` returns the value that has the
-    /// number.
+    /// The proof that no two values have the same number, so that `from_discriminant` returns the
+    /// value that `discriminant` was called on.
     ghost distinct: { (v : Self) → (w : Self) → number v ≡ number w → v ≡ w };
 
     /// The proof that the numbers fit in 64 bits.

@@ -6,7 +6,7 @@ use std::alloc::{AllocError, Global};
 #[derive(Debug, Drop)]
 pub struct End;
 
-/// The default of a part (X.680 25.8). Your own type that implements it names the part in
+/// The default of a part (X.680 25.8). A type that implements this trait identifies the part in
 /// `Defaulted` and `PutDefault`.
 pub trait DefaultValue {
     ghost use Rattle.std.specs.Prelude.{◌≡◌, IfOk};
@@ -26,7 +26,7 @@ pub trait DefaultValue {
 }
 
 /// The default of a part under an explicit tag (X.680 31.2.7), which isn't in the type of the
-/// field. Your own type that implements it names the part in `DefaultedExplicit` and
+/// field. A type that implements this trait identifies the part in `DefaultedExplicit` and
 /// `PutDefaultExplicit`.
 pub trait ExplicitDefault: DefaultValue {
     /// The type that names the explicit tag.

@@ -1,4 +1,4 @@
 //! REAL, which this codec neither reads nor writes.
 
-/// A type of the values of a REAL. Reading or writing one always fails.
+/// A type that represents a REAL. Its values are neither read nor written.
 pub trait RealType: Drop {}

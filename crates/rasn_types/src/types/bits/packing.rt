@@ -74,8 +74,8 @@ pub(crate) fn clear_last(octets: &mut Vec<u8>, bits: usize)
     }
 }
 
-/// Appends octets to the bits of others, whose last octet has `unused` unused bits, so that no bit
-/// is between them.
+/// Appends the bits of octets to the bits of others, whose last octet has `unused` unused bits. The
+/// bits that are appended follow the used bits without a gap.
 pub(crate) fn push_joined(out: &mut Vec<u8>, unused: usize, more: &[u8])
     requires few { unused < 8 }
     requires some { 0 < vec_len out.old }
