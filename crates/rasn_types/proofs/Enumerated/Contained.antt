@@ -1,4 +1,4 @@
--- A search in a list answers whether the number is in it.
+-- A search in a list returns whether the number is in it.
 use Rattle.std.proofs.Common.{◌≡◌, ℕ, zero, suc, Bool, true, false, ◌||◌, nat_eq, List, [], ◌∷◌, Contains, refl, sym, arith}
 use Rattle.rasn_types.specs.Truth.{IsWhether}
 use Rattle.std.specs.List.{list_any}

@@ -160,7 +160,7 @@ id_there : (l more : List ℕ) (s : Tag) (b : Bool) → SpellsAnyIdentifier l s 
 id_there [] more s b h k = h
 id_there (x ∷ l) more s b h k = cc
 
--- Where a value comes, the contents haven't ended.
+-- If a value follows, the contents haven't ended.
 pub not_ended : {spelling : Form} (closing : Bool) (input : List ℕ) (s : Tag) → NextTag spelling input s → Ended closing input → ⊥
 not_ended closing input s n (inl e) = id_there n.begins.id n.begins.more s n.begins.bit n.begins.spells (sym n.begins.is ∙ e)
 not_ended closing input s n (inr (c, more, e)) =
