@@ -198,7 +198,7 @@ impl<S: StringType> AsnType for RestrictedString<S> {
     ghost own = { refl };
 }
 
-/// The name of NumericString as a string type.
+/// The parameter of `RestrictedString` for NumericString.
 #[derive(Clone, Copy, Debug, Drop)]
 pub struct NumericType;
 
@@ -224,7 +224,7 @@ impl AsciiType for NumericType {
     ghost ascii = { numeric_ascii };
 }
 
-/// The name of PrintableString as a string type.
+/// The parameter of `RestrictedString` for PrintableString.
 #[derive(Clone, Copy, Debug, Drop)]
 pub struct PrintableType;
 
@@ -250,7 +250,7 @@ impl AsciiType for PrintableType {
     ghost ascii = { printable_ascii };
 }
 
-/// The name of VisibleString as a string type.
+/// The parameter of `RestrictedString` for VisibleString.
 #[derive(Clone, Copy, Debug, Drop)]
 pub struct VisibleType;
 
@@ -276,7 +276,7 @@ impl AsciiType for VisibleType {
     ghost ascii = { visible_ascii };
 }
 
-/// The name of IA5String as a string type.
+/// The parameter of `RestrictedString` for IA5String.
 #[derive(Clone, Copy, Debug, Drop)]
 pub struct Ia5Type;
 
@@ -302,7 +302,7 @@ impl AsciiType for Ia5Type {
     ghost ascii = { ia5_ascii };
 }
 
-/// The name of TeletexString as a string type.
+/// The parameter of `RestrictedString` for TeletexString.
 #[derive(Clone, Copy, Debug, Drop)]
 pub struct TeletexType;
 
@@ -322,7 +322,7 @@ impl StringType for TeletexType {
     const ALPHABET: Alphabet = Alphabet::Every;
 }
 
-/// The name of GeneralString as a string type.
+/// The parameter of `RestrictedString` for GeneralString.
 #[derive(Clone, Copy, Debug, Drop)]
 pub struct GeneralType;
 
@@ -342,7 +342,7 @@ impl StringType for GeneralType {
     const ALPHABET: Alphabet = Alphabet::Every;
 }
 
-/// The name of GraphicString as a string type.
+/// The parameter of `RestrictedString` for GraphicString.
 #[derive(Clone, Copy, Debug, Drop)]
 pub struct GraphicType;
 
