@@ -1,4 +1,5 @@
--- BindRequest ::= [APPLICATION 0] SEQUENCE { version INTEGER (1..127), name LDAPDN, authentication AuthenticationChoice }
+-- BindRequest ::= [APPLICATION 0] SEQUENCE { version INTEGER (1..127), name LDAPDN,
+-- authentication AuthenticationChoice }
 use Rattle.std.specs.Prelude.{[], ◌∷◌, pos}
 use Rattle.rasn_types.specs.Tags.{in_universal}
 use Rattle.rasn_types.specs.Shapes.{Shape, Tree, number, items, seq, Parts, part, required}

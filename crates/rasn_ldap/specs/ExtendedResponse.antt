@@ -1,4 +1,5 @@
--- ExtendedResponse ::= [APPLICATION 24] SEQUENCE { COMPONENTS OF LDAPResult, responseName [10] LDAPOID OPTIONAL, responseValue [11] OCTET STRING OPTIONAL }
+-- ExtendedResponse ::= [APPLICATION 24] SEQUENCE { COMPONENTS OF LDAPResult, responseName [10] LDAPOID OPTIONAL,
+-- responseValue [11] OCTET STRING OPTIONAL }
 use Rattle.std.specs.Prelude.{[], ◌∷◌}
 use Rattle.rasn_types.specs.Shapes.{Shape, Tree, numbers, items, leaf, octet_string, utf8, seq, Parts, part, required, optional}
 use Rattle.rasn_types.specs.Shapes.Parts.{none}

@@ -1,5 +1,6 @@
--- protocolOp CHOICE { bindRequest [APPLICATION 0], bindResponse [APPLICATION 1], unbindRequest [APPLICATION 2] NULL, searchRequest [APPLICATION 3],
--- searchResEntry [APPLICATION 4], searchResDone [APPLICATION 5] LDAPResult, searchResRef [APPLICATION 19] SEQUENCE OF URI, modifyRequest [APPLICATION 6],
+-- protocolOp CHOICE { bindRequest [APPLICATION 0], bindResponse [APPLICATION 1], unbindRequest [APPLICATION 2] NULL,
+-- searchRequest [APPLICATION 3], searchResEntry [APPLICATION 4], searchResDone [APPLICATION 5] LDAPResult,
+-- searchResRef [APPLICATION 19] SEQUENCE OF URI, modifyRequest [APPLICATION 6],
 -- modifyResponse [APPLICATION 7] LDAPResult, extendedReq [APPLICATION 23], extendedResp [APPLICATION 24] }
 use Rattle.std.specs.Prelude.{◌≢◌, ℕ, pos, refl, true}
 use Rattle.rasn_types.specs.Shapes.{Shape, Tree, number, chosen, absent, leaf, null, choice, seq, Parts, part, required}
@@ -35,7 +36,7 @@ protocol_op_alternatives = part required bind_request_shape
 abbrev pub protocol_op_shape : Shape
 protocol_op_shape = choice protocol_op_alternatives
 
--- the value of NULL
+-- The tree of the value of NULL.
 abbrev pub null_tree : Tree
 null_tree = number (pos 0)
 
@@ -65,6 +66,6 @@ protocol_op_not_absent (ModifyResponse value) = chosen_not_absent
 protocol_op_not_absent (ExtendedRequest value) = chosen_not_absent
 protocol_op_not_absent (ExtendedResponse value) = chosen_not_absent
 
--- An alternative that is a NULL, in a variant without a field: it has one value.
+-- An alternative that is a NULL is a variant without a field, which has one value.
 pub no_field : {X : Type 0} {k : ℕ} → Alternative k (λ (x y : X). true) (λ x. chosen k null_tree)
 no_field = record { inner = λ x. null_tree; is = λ x. refl; decided = λ x y. unsigned_decided 0 0 }

@@ -1,4 +1,5 @@
--- LDAPResult ::= SEQUENCE { resultCode ENUMERATED, matchedDN LDAPDN, diagnosticMessage LDAPString, referral [3] Referral OPTIONAL }
+-- LDAPResult ::= SEQUENCE { resultCode ENUMERATED, matchedDN LDAPDN, diagnosticMessage LDAPString,
+-- referral [3] Referral OPTIONAL }
 use Rattle.std.specs.Prelude.{[], ◌∷◌}
 use Rattle.rasn_types.specs.Tags.{in_universal}
 use Rattle.rasn_types.specs.Shapes.{Shape, Tree, items, seq, Parts, part, required, optional}

@@ -1,4 +1,5 @@
--- SearchRequest ::= [APPLICATION 3] SEQUENCE { baseObject LDAPDN, scope ENUMERATED, derefAliases ENUMERATED, sizeLimit INTEGER (0..maxInt), ..
+-- SearchRequest ::= [APPLICATION 3] SEQUENCE { baseObject LDAPDN, scope ENUMERATED, derefAliases ENUMERATED,
+-- sizeLimit INTEGER (0..maxInt), ..
 use Rattle.std.specs.Prelude.{[], ◌∷◌, None, pos}
 use Rattle.rasn_types.specs.Tags.{in_universal}
 use Rattle.rasn_types.specs.Shapes.{Shape, Tree, number, numbers, items, leaf, boolean, any, seq, Parts, part, required}

@@ -6,7 +6,7 @@ use Rattle.rasn_types.specs.declared.types.constraints.Constraints.{Constraints}
 use Rattle.rasn_types.specs.Shapes.{Shape, leaf, integer}
 use Rattle.rasn_types.specs.Trees.{unsigned_range}
 
--- both ends are included
+-- The constraint to the numbers from low to high, both of which are included.
 abbrev pub from_to : ℕ → ℕ → Constraints
 from_to low high = record { value = Some (record { constraint = Range (Some (pos low)) (Some (pos high)); extensible = false }); size = None }
 

@@ -1,4 +1,5 @@
-//! `AuthenticationChoice ::= CHOICE { simple [0] OCTET STRING, sasl [3] SaslCredentials, ... }` (RFC 4511, 4.2).
+//! `AuthenticationChoice ::= CHOICE { simple [0] OCTET STRING, sasl [3] SaslCredentials, ... }`
+//! (RFC 4511, 4.2).
 use crate::SaslCredentials;
 use rasn::error::{DecodeError, EncodeError};
 use rasn::parts::{Last, OneOf};
@@ -7,7 +8,8 @@ use rasn::types::{
 };
 use rasn::{Decode, Decoder, Encode, Encoder};
 
-/// CHOICE { simple \[0\] OCTET STRING, sasl \[3\] SaslCredentials, ... }: a password, or one step of a SASL mechanism.
+/// CHOICE { simple \[0\] OCTET STRING, sasl \[3\] SaslCredentials, ... }: a password, or one step
+/// of a SASL mechanism.
 #[derive(Debug, PartialEq, Eq, Drop)]
 pub enum AuthenticationChoice {
     Simple(Implicit<ContextTag<0>, OctetString>),

@@ -1,11 +1,13 @@
-//! `BindRequest ::= [APPLICATION 0] SEQUENCE { version INTEGER (1..127), name LDAPDN, authentication AuthenticationChoice }` (RFC 4511, 4.2).
+//! `BindRequest ::= [APPLICATION 0] SEQUENCE { version INTEGER (1..127), name LDAPDN,
+//! authentication AuthenticationChoice }` (RFC 4511, 4.2).
 use crate::{AuthenticationChoice, IntegerWithin, LdapString};
 use rasn::error::{DecodeError, EncodeError};
 use rasn::parts::{End, Put, Required};
 use rasn::types::{AsnType, Class, Constraints, Identifier, LawfulEq, Present, Tag};
 use rasn::{Decode, Decoder, Encode, Encoder};
 
-/// \[APPLICATION 0\] SEQUENCE { version INTEGER (1..127), name LDAPDN, authentication AuthenticationChoice }: who the client is.
+/// \[APPLICATION 0\] SEQUENCE { version INTEGER (1..127), name LDAPDN,
+/// authentication AuthenticationChoice }: the request of a client to be authenticated.
 #[derive(Debug, PartialEq, Eq, Drop)]
 pub struct BindRequest {
     pub version: IntegerWithin<1, 127>,

@@ -1,4 +1,5 @@
-//! `BindResponse ::= [APPLICATION 1] SEQUENCE { COMPONENTS OF LDAPResult, serverSaslCreds [7] OCTET STRING OPTIONAL }` (RFC 4511, 4.2.2).
+//! `BindResponse ::= [APPLICATION 1] SEQUENCE { COMPONENTS OF LDAPResult,
+//! serverSaslCreds [7] OCTET STRING OPTIONAL }` (RFC 4511, 4.2.2).
 use crate::{LdapString, ResultCode};
 use rasn::error::{DecodeError, EncodeError};
 use rasn::parts::{End, Optional, Put, PutOptional, Required};
@@ -8,7 +9,8 @@ use rasn::types::{
 };
 use rasn::{Decode, Decoder, Encode, Encoder};
 
-/// \[APPLICATION 1\] SEQUENCE { COMPONENTS OF LDAPResult, serverSaslCreds \[7\] OCTET STRING OPTIONAL }
+/// \[APPLICATION 1\] SEQUENCE { COMPONENTS OF LDAPResult,
+/// serverSaslCreds \[7\] OCTET STRING OPTIONAL }
 #[derive(Debug, PartialEq, Eq, Drop)]
 pub struct BindResponse {
     pub result_code: ResultCode,

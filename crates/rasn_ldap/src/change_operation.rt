@@ -3,8 +3,9 @@ use rasn::error::{DecodeError, EncodeError};
 use rasn::types::{AsnType, Constraints, Identifier, LawfulEq, Present, Tag};
 use rasn::{Decode, Decoder, Encode, Encoder};
 
-/// ENUMERATED { add (0), delete (1), replace (2), ... }: what is done with the values of an attribute, as its number. The type is extensible, and numbers that
-/// aren't named here, such as increment (3) of RFC 4525, are read and written like the others.
+/// ENUMERATED { add (0), delete (1), replace (2), ... }: what is done with the values of an
+/// attribute, as a number. The type is extensible, and numbers without a name here, such as
+/// increment (3) of RFC 4525, are read and written like the others.
 #[derive(Clone, Copy, Debug, PartialEq, Eq, Drop)]
 pub struct ChangeOperation {
     pub number: i32,

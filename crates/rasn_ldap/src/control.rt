@@ -1,4 +1,5 @@
-//! `Control ::= SEQUENCE { controlType LDAPOID, criticality BOOLEAN DEFAULT FALSE, controlValue OCTET STRING OPTIONAL }` (RFC 4511, 4.1.11).
+//! `Control ::= SEQUENCE { controlType LDAPOID, criticality BOOLEAN DEFAULT FALSE,
+//! controlValue OCTET STRING OPTIONAL }` (RFC 4511, 4.1.11).
 use crate::LdapString;
 use rasn::error::{DecodeError, EncodeError};
 use rasn::parts::{DefaultValue, Defaulted, End, Optional, Put, PutDefault, PutOptional, Required};
@@ -6,7 +7,8 @@ use rasn::types::{AsnType, Constraints, Identifier, LawfulEq, OctetString, Prese
 use rasn::{Decode, Decoder, Encode, Encoder};
 use std::alloc::{AllocError, Global};
 
-/// SEQUENCE { controlType LDAPOID, criticality BOOLEAN DEFAULT FALSE, controlValue OCTET STRING OPTIONAL }: what extends an operation.
+/// SEQUENCE { controlType LDAPOID, criticality BOOLEAN DEFAULT FALSE,
+/// controlValue OCTET STRING OPTIONAL }: an extension of an operation.
 #[derive(Debug, PartialEq, Eq, Drop)]
 pub struct Control {
     pub control_type: LdapString,
@@ -47,7 +49,7 @@ impl Present for Control {
     ghost present = { λ _. parts_not_absent };
 }
 
-/// That a control isn't critical, which is meant where nothing is written.
+/// The default of `criticality`: the control isn't critical.
 #[derive(Drop)]
 pub struct NotCritical;
 

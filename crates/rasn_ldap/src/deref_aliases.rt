@@ -1,9 +1,11 @@
-//! `derefAliases ENUMERATED { neverDerefAliases (0), derefInSearching (1), derefFindingBaseObj (2), derefAlways (3) }` (RFC 4511, 4.5.1.3).
+//! `derefAliases ENUMERATED { neverDerefAliases (0), derefInSearching (1), derefFindingBaseObj (2),
+//! derefAlways (3) }` (RFC 4511, 4.5.1.3).
 use rasn::error::{DecodeError, EncodeError};
 use rasn::types::{AsnType, Constraints, Enumerated, Identifier, LawfulEq, Present, Tag};
 use rasn::{Decode, Decoder, Encode, Encoder};
 
-/// ENUMERATED { neverDerefAliases (0), derefInSearching (1), derefFindingBaseObj (2), derefAlways (3) }: where a search follows aliases.
+/// ENUMERATED { neverDerefAliases (0), derefInSearching (1), derefFindingBaseObj (2),
+/// derefAlways (3) }: the parts of a search in which aliases are followed.
 #[derive(Clone, Copy, Debug, PartialEq, Eq, Drop)]
 pub enum DerefAliases {
     Never,

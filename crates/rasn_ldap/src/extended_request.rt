@@ -1,4 +1,5 @@
-//! `ExtendedRequest ::= [APPLICATION 23] SEQUENCE { requestName [0] LDAPOID, requestValue [1] OCTET STRING OPTIONAL }` (RFC 4511, 4.12).
+//! `ExtendedRequest ::= [APPLICATION 23] SEQUENCE { requestName [0] LDAPOID,
+//! requestValue [1] OCTET STRING OPTIONAL }` (RFC 4511, 4.12).
 use rasn::error::{DecodeError, EncodeError};
 use rasn::parts::{End, Optional, Put, PutOptional, Required};
 use rasn::types::{
@@ -7,7 +8,8 @@ use rasn::types::{
 };
 use rasn::{Decode, Decoder, Encode, Encoder};
 
-/// \[APPLICATION 23\] SEQUENCE { requestName \[0\] LDAPOID, requestValue \[1\] OCTET STRING OPTIONAL }: an operation that another document defines.
+/// \[APPLICATION 23\] SEQUENCE { requestName \[0\] LDAPOID,
+/// requestValue \[1\] OCTET STRING OPTIONAL }: an operation that another document defines.
 #[derive(Debug, PartialEq, Eq, Drop)]
 pub struct ExtendedRequest {
     pub request_name: Implicit<ContextTag<0>, Utf8String>,

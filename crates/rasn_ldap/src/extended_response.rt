@@ -1,4 +1,5 @@
-//! `ExtendedResponse ::= [APPLICATION 24] SEQUENCE { COMPONENTS OF LDAPResult, responseName [10] LDAPOID OPTIONAL, ..` (RFC 4511, 4.12).
+//! `ExtendedResponse ::= [APPLICATION 24] SEQUENCE { COMPONENTS OF LDAPResult,
+//! responseName [10] LDAPOID OPTIONAL, ..` (RFC 4511, 4.12).
 use crate::{LdapString, ResultCode};
 use rasn::error::{DecodeError, EncodeError};
 use rasn::parts::{End, Optional, Put, PutOptional, Required};
@@ -8,7 +9,8 @@ use rasn::types::{
 };
 use rasn::{Decode, Decoder, Encode, Encoder};
 
-/// \[APPLICATION 24\] SEQUENCE { COMPONENTS OF LDAPResult, responseName \[10\] LDAPOID OPTIONAL, responseValue \[11\] OCTET STRING OPTIONAL }
+/// \[APPLICATION 24\] SEQUENCE { COMPONENTS OF LDAPResult, responseName \[10\] LDAPOID OPTIONAL,
+/// responseValue \[11\] OCTET STRING OPTIONAL }
 #[derive(Debug, PartialEq, Eq, Drop)]
 pub struct ExtendedResponse {
     pub result_code: ResultCode,

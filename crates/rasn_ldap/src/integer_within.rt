@@ -3,7 +3,8 @@ use rasn::error::{DecodeError, EncodeError};
 use rasn::types::{AsnType, Bound, Bounded, Constraints, Identifier, LawfulEq, Present, Tag};
 use rasn::{Decode, Decoder, Encode, Encoder};
 
-/// INTEGER (LOW..HIGH), both ends included. A number outside is neither read nor written.
+/// INTEGER (LOW..HIGH), including both ends. A number outside the range is neither read nor
+/// written.
 #[derive(Clone, Copy, Debug, PartialEq, Eq, Drop)]
 pub struct IntegerWithin<const LOW: u32, const HIGH: u32> {
     pub number: u32,

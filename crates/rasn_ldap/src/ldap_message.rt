@@ -1,12 +1,13 @@
-//! `LDAPMessage ::= SEQUENCE { messageID MessageID, protocolOp CHOICE, controls [0] Controls OPTIONAL }` (RFC 4511, 4.1.1).
+//! `LDAPMessage ::= SEQUENCE { messageID MessageID, protocolOp CHOICE,
+//! controls [0] Controls OPTIONAL }` (RFC 4511, 4.1.1).
 use crate::{Control, MaxInt, ProtocolOp};
 use rasn::error::{DecodeError, EncodeError};
 use rasn::parts::{End, Optional, Put, PutOptional, Required};
 use rasn::types::{AsnType, Constraints, ContextTag, Identifier, Implicit, LawfulEq, Present, Tag};
 use rasn::{Decode, Decoder, Encode, Encoder};
 
-/// SEQUENCE { messageID INTEGER (0..maxInt), protocolOp CHOICE, controls \[0\] SEQUENCE OF Control OPTIONAL }: what client and server send each
-/// other.
+/// SEQUENCE { messageID INTEGER (0..maxInt), protocolOp CHOICE,
+/// controls \[0\] SEQUENCE OF Control OPTIONAL }: a message between a client and a server.
 #[derive(Debug, PartialEq, Eq, Drop)]
 pub struct LdapMessage {
     pub message_id: MaxInt,

@@ -1,12 +1,13 @@
-//! `LDAPResult ::= SEQUENCE { resultCode ENUMERATED, matchedDN LDAPDN, diagnosticMessage LDAPString, ..` (RFC 4511, 4.1.9).
+//! `LDAPResult ::= SEQUENCE { resultCode ENUMERATED, matchedDN LDAPDN,
+//! diagnosticMessage LDAPString, ..` (RFC 4511, 4.1.9).
 use crate::{LdapString, ResultCode};
 use rasn::error::{DecodeError, EncodeError};
 use rasn::parts::{End, Optional, Put, PutOptional, Required};
 use rasn::types::{AsnType, Constraints, ContextTag, Identifier, Implicit, LawfulEq, Present, Tag};
 use rasn::{Decode, Decoder, Encode, Encoder};
 
-/// SEQUENCE { resultCode ENUMERATED, matchedDN LDAPDN, diagnosticMessage LDAPString, referral \[3\] SEQUENCE OF URI OPTIONAL }: how an operation
-/// ended.
+/// SEQUENCE { resultCode ENUMERATED, matchedDN LDAPDN, diagnosticMessage LDAPString,
+/// referral \[3\] SEQUENCE OF URI OPTIONAL }: the result of an operation.
 #[derive(Debug, PartialEq, Eq, Drop)]
 pub struct LdapResult {
     pub result_code: ResultCode,

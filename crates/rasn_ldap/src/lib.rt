@@ -1,5 +1,6 @@
-//! Messages of the Lightweight Directory Access Protocol (LDAP, RFC 4511) as types: read under BER, and written in the forms that LDAP asks for, with no
-//! premise but memory.
+//! Messages of the Lightweight Directory Access Protocol (LDAP, RFC 4511) as types that are read
+//! under BER and written in the forms that LDAP requires. A valid message is refused only if an
+//! allocation fails.
 #![tactic(auto)]
 
 mod authentication_choice;
@@ -47,21 +48,24 @@ pub use search_request::SearchRequest;
 pub use search_result_entry::SearchResultEntry;
 pub use search_scope::SearchScope;
 
-/// LDAPString ::= OCTET STRING of text in UTF-8 (RFC 4511, 4.1.2): LDAPDN, LDAPOID, AttributeDescription and URI too. Octets that aren't UTF-8 are refused.
+/// LDAPString ::= OCTET STRING of text in UTF-8 (RFC 4511, 4.1.2). It is also the type of LDAPDN,
+/// LDAPOID, AttributeDescription and URI. Octets that aren't UTF-8 are refused.
 pub type LdapString = Implicit<OctetString, Utf8String>;
 
-/// INTEGER (0..maxInt), with maxInt 2147483647 (RFC 4511, 4.1.1): MessageID, sizeLimit and timeLimit.
+/// INTEGER (0..maxInt), with maxInt 2147483647 (RFC 4511, 4.1.1): MessageID, sizeLimit and
+/// timeLimit.
 pub type MaxInt = IntegerWithin<0, 2147483647>;
 
-/// SET OF AttributeValue (RFC 4511, 4.1.7). LDAP asks for no order of the values: they are read and written in the one in which they stand, by which `==`
-/// compares them.
+/// SET OF AttributeValue (RFC 4511, 4.1.7). LDAP requires no order of the values: they are read and
+/// written in their order in the vector, by which `==` compares them.
 pub type AttributeValues = Implicit<SetOf<OctetString>, Vec<OctetString>>;
 
 /// \[APPLICATION 5\] LDAPResult (RFC 4511, 4.5.2): the end of a search.
 pub type SearchResultDone = Implicit<ApplicationTag<5>, LdapResult>;
 
-/// \[APPLICATION 19\] SEQUENCE OF URI (RFC 4511, 4.5.3, which asks for at least one): where else to search.
+/// \[APPLICATION 19\] SEQUENCE OF URI (RFC 4511, 4.5.3, which requires at least one): other servers
+/// to search.
 pub type SearchResultReference = Implicit<ApplicationTag<19>, Vec<LdapString>>;
 
-/// \[APPLICATION 7\] LDAPResult (RFC 4511, 4.6)
+/// \[APPLICATION 7\] LDAPResult (RFC 4511, 4.6): the result of a modification.
 pub type ModifyResponse = Implicit<ApplicationTag<7>, LdapResult>;

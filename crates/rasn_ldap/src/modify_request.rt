@@ -1,12 +1,13 @@
-//! `ModifyRequest ::= [APPLICATION 6] SEQUENCE { object LDAPDN, changes SEQUENCE OF change }` (RFC 4511, 4.6).
+//! `ModifyRequest ::= [APPLICATION 6] SEQUENCE { object LDAPDN, changes SEQUENCE OF change }`
+//! (RFC 4511, 4.6).
 use crate::{Change, LdapString};
 use rasn::error::{DecodeError, EncodeError};
 use rasn::parts::{End, Put, Required};
 use rasn::types::{AsnType, Class, Constraints, Identifier, LawfulEq, Present, Tag};
 use rasn::{Decode, Decoder, Encode, Encoder};
 
-/// \[APPLICATION 6\] SEQUENCE { object LDAPDN, changes SEQUENCE OF SEQUENCE { operation ENUMERATED, modification PartialAttribute } }: changes of an
-/// entry, made in their order.
+/// \[APPLICATION 6\] SEQUENCE { object LDAPDN, changes SEQUENCE OF SEQUENCE { operation ENUMERATED,
+/// modification PartialAttribute } }: changes of an entry, which are made in their order.
 #[derive(Debug, PartialEq, Eq, Drop)]
 pub struct ModifyRequest {
     pub object: LdapString,

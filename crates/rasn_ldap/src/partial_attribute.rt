@@ -1,11 +1,13 @@
-//! `PartialAttribute ::= SEQUENCE { type AttributeDescription, vals SET OF value AttributeValue }` (RFC 4511, 4.1.7).
+//! `PartialAttribute ::= SEQUENCE { type AttributeDescription, vals SET OF value AttributeValue }`
+//! (RFC 4511, 4.1.7).
 use crate::{AttributeValues, LdapString};
 use rasn::error::{DecodeError, EncodeError};
 use rasn::parts::{End, Put, Required};
 use rasn::types::{AsnType, Constraints, Identifier, LawfulEq, Present, Tag};
 use rasn::{Decode, Decoder, Encode, Encoder};
 
-/// SEQUENCE { type AttributeDescription, vals SET OF AttributeValue }: an attribute and its values, of which there may be none.
+/// SEQUENCE { type AttributeDescription, vals SET OF AttributeValue }: an attribute and its values,
+/// of which there may be none.
 #[derive(Debug, PartialEq, Eq, Drop)]
 pub struct PartialAttribute {
     pub description: LdapString,

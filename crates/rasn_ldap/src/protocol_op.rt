@@ -1,4 +1,5 @@
-//! `protocolOp CHOICE { bindRequest BindRequest, bindResponse BindResponse, unbindRequest UnbindRequest, .. }` (RFC 4511, 4.1.1).
+//! `protocolOp CHOICE { bindRequest BindRequest, bindResponse BindResponse,
+//! unbindRequest UnbindRequest, .. }` (RFC 4511, 4.1.1).
 use crate::{
     BindRequest, BindResponse, ExtendedRequest, ExtendedResponse, ModifyRequest, ModifyResponse,
     SearchRequest, SearchResultDone, SearchResultEntry, SearchResultReference,
@@ -11,7 +12,7 @@ use rasn::types::{
 };
 use rasn::{Decode, Decoder, Encode, Encoder};
 
-/// CHOICE of the operations and their responses, each under an application tag of its own, by which it is told apart.
+/// CHOICE of the operations and their responses, which are distinguished by their application tags.
 #[derive(Debug, PartialEq, Eq, Drop)]
 pub enum ProtocolOp {
     BindRequest(BindRequest),

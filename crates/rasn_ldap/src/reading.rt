@@ -1,4 +1,4 @@
-//! Messages as a whole: what is read and written, with no premise but memory.
+//! Reading and writing whole messages. A valid message is refused only if an allocation fails.
 ghost use Rattle.std.specs.Prelude.{◌≡◌, true, IfOk, IfErr};
 ghost use Rattle.rasn_types.specs.declared.types.codec.Codec.TheVariants.{Ber, Der};
 ghost use Rattle.rasn_types.specs.Bytes.{Bytes};
@@ -14,18 +14,20 @@ use rasn::error::{DecodeError, EncodeError};
 use rasn::{ber, der};
 use std::alloc::Global;
 
-/// The shape of a message is lawful, and all that DER reads of it is carried. A promise about the type: the function does nothing when it
-/// runs.
+/// Proves that the shape of a message is lawful, and that everything that DER reads of it is
+/// carried. The function does nothing when it runs.
 pub fn has_lawful_shape()
     ensures lawful { IsLawful ldap_message_shape }
     ensures carried { carries_all ldap_message_shape ≡ true }
 {}
 
-/// The message that begins the input, in BER, and what follows it, which is an end of the input, such as the next message of a connection:
-/// exactly where the grammar has one.
+/// Reads the message that begins the input, in BER, and returns it with the rest of the input, such
+/// as the next message of a connection. Unless an allocation fails, the call succeeds exactly if
+/// the input begins with a message by the grammar.
 ///
 /// # Errors
-/// Those of `ber::decode_with_remainder`: `Incomplete` of a message that hasn't come as a whole yet.
+/// The errors of `ber::decode_with_remainder`. `Incomplete` is returned for a message of which
+/// octets are still missing.
 pub fn read_message(alloc: Global, input: &[u8]) -> Result<(LdapMessage, &[u8]), DecodeError>
     ensures exact { Answered Ber ldap_message_shape ldap_message_tree input.now result }
     ensures end { IfOk result (λ read. IsEnd input.now read.1.now) }
@@ -33,13 +35,16 @@ pub fn read_message(alloc: Global, input: &[u8]) -> Result<(LdapMessage, &[u8]),
     ber::decode_with_remainder(alloc, input)
 }
 
-/// The message's octets, in the forms that LDAP asks for (RFC 4511, 5.1): definite lengths, strings in one piece, TRUE as `FF`, and no `criticality`
-/// that is FALSE. They are those of the same carried messages and of no others, and `read_message` reads them back.
+/// Returns the octets of a message in the forms that LDAP requires (RFC 4511, 5.1): definite
+/// lengths, primitive strings, TRUE as `FF`, and no `criticality` that is FALSE. Two carried
+/// messages have the same octets exactly if the messages are the same, and `read_message` reads the
+/// octets back.
 ///
-/// The filter is written as it is: what is said of it holds where its octets are one encoding of definite length.
+/// The octets of the filter are written unchanged, so all of this holds for the filter only if its
+/// octets are one encoding of definite length.
 ///
 /// # Errors
-/// `OutOfMemory`, and what has no octets: a number outside its bounds.
+/// `OutOfMemory`, and errors of messages without an encoding: a number is outside its bounds.
 pub fn write_message(alloc: Global, message: &LdapMessage) -> Result<Vec<u8>, EncodeError>
     ensures ok { IfOk result (λ octets. Bytes Der ldap_message_shape (ldap_message_tree message.now) octets.items) }
     ensures canonical { IfOk result (λ octets. Identifies ldap_message_shape (ldap_message_tree message.now) octets.items) }

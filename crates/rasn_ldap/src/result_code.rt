@@ -1,10 +1,13 @@
-//! `resultCode ENUMERATED { success (0), operationsError (1), .., other (80), ... }` (RFC 4511, 4.1.9).
+//! `resultCode ENUMERATED { success (0), operationsError (1), .., other (80), ... }`
+//! (RFC 4511, 4.1.9).
 use rasn::error::{DecodeError, EncodeError};
 use rasn::types::{AsnType, Constraints, Identifier, LawfulEq, Present, Tag};
 use rasn::{Decode, Decoder, Encode, Encoder};
 
-/// ENUMERATED { success (0), operationsError (1), protocolError (2), .., other (80), ... }: how an operation ended, as its number. The type is extensible,
-/// and numbers that aren't named here are read and written like the others. The octets of an ENUMERATED are those of the INTEGER of its number (X.690 8.4).
+/// ENUMERATED { success (0), operationsError (1), protocolError (2), .., other (80), ... }: the
+/// result of an operation, as a number. The type is extensible, and numbers without a name here are
+/// read and written like the others. The octets of an ENUMERATED are those of the INTEGER of its
+/// number (X.690 8.4).
 #[derive(Clone, Copy, Debug, PartialEq, Eq, Drop)]
 pub struct ResultCode {
     pub number: i32,

@@ -1,11 +1,13 @@
-//! `SaslCredentials ::= SEQUENCE { mechanism LDAPString, credentials OCTET STRING OPTIONAL }` (RFC 4511, 4.2).
+//! `SaslCredentials ::= SEQUENCE { mechanism LDAPString, credentials OCTET STRING OPTIONAL }`
+//! (RFC 4511, 4.2).
 use crate::LdapString;
 use rasn::error::{DecodeError, EncodeError};
 use rasn::parts::{End, Optional, Put, PutOptional, Required};
 use rasn::types::{AsnType, Constraints, Identifier, LawfulEq, OctetString, Present, Tag};
 use rasn::{Decode, Decoder, Encode, Encoder};
 
-/// SEQUENCE { mechanism LDAPString, credentials OCTET STRING OPTIONAL }: one step of a SASL mechanism (RFC 4422).
+/// SEQUENCE { mechanism LDAPString, credentials OCTET STRING OPTIONAL }: one step of a SASL
+/// mechanism (RFC 4422).
 #[derive(Debug, PartialEq, Eq, Drop)]
 pub struct SaslCredentials {
     pub mechanism: LdapString,

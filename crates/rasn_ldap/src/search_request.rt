@@ -1,12 +1,14 @@
-//! `SearchRequest ::= [APPLICATION 3] SEQUENCE { baseObject LDAPDN, scope ENUMERATED, derefAliases ENUMERATED, ..` (RFC 4511, 4.5.1).
+//! `SearchRequest ::= [APPLICATION 3] SEQUENCE { baseObject LDAPDN, scope ENUMERATED,
+//! derefAliases ENUMERATED, ..` (RFC 4511, 4.5.1).
 use crate::{DerefAliases, LdapString, MaxInt, SearchScope};
 use rasn::error::{DecodeError, EncodeError};
 use rasn::parts::{End, Put, Required};
 use rasn::types::{Any, AsnType, Class, Constraints, Identifier, LawfulEq, Present, Tag};
 use rasn::{Decode, Decoder, Encode, Encoder};
 
-/// \[APPLICATION 3\] SEQUENCE { baseObject LDAPDN, scope ENUMERATED, derefAliases ENUMERATED, sizeLimit INTEGER (0..maxInt), timeLimit INTEGER
-/// (0..maxInt), typesOnly BOOLEAN, filter Filter, attributes SEQUENCE OF LDAPString }
+/// \[APPLICATION 3\] SEQUENCE { baseObject LDAPDN, scope ENUMERATED, derefAliases ENUMERATED,
+/// sizeLimit INTEGER (0..maxInt), timeLimit INTEGER (0..maxInt), typesOnly BOOLEAN, filter Filter,
+/// attributes SEQUENCE OF LDAPString }
 #[derive(Debug, PartialEq, Eq, Drop)]
 pub struct SearchRequest {
     pub base_object: LdapString,

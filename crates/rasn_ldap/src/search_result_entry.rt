@@ -1,11 +1,13 @@
-//! `SearchResultEntry ::= [APPLICATION 4] SEQUENCE { objectName LDAPDN, attributes PartialAttributeList }` (RFC 4511, 4.5.2).
+//! `SearchResultEntry ::= [APPLICATION 4] SEQUENCE { objectName LDAPDN,
+//! attributes PartialAttributeList }` (RFC 4511, 4.5.2).
 use crate::{LdapString, PartialAttribute};
 use rasn::error::{DecodeError, EncodeError};
 use rasn::parts::{End, Put, Required};
 use rasn::types::{AsnType, Class, Constraints, Identifier, LawfulEq, Present, Tag};
 use rasn::{Decode, Decoder, Encode, Encoder};
 
-/// \[APPLICATION 4\] SEQUENCE { objectName LDAPDN, attributes SEQUENCE OF PartialAttribute }: an entry that was found.
+/// \[APPLICATION 4\] SEQUENCE { objectName LDAPDN, attributes SEQUENCE OF PartialAttribute }: an
+/// entry that a search found.
 #[derive(Debug, PartialEq, Eq, Drop)]
 pub struct SearchResultEntry {
     pub object_name: LdapString,

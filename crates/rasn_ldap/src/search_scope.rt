@@ -1,10 +1,12 @@
-//! `scope ENUMERATED { baseObject (0), singleLevel (1), wholeSubtree (2), ... }` (RFC 4511, 4.5.1.2).
+//! `scope ENUMERATED { baseObject (0), singleLevel (1), wholeSubtree (2), ... }`
+//! (RFC 4511, 4.5.1.2).
 use rasn::error::{DecodeError, EncodeError};
 use rasn::types::{AsnType, Constraints, Identifier, LawfulEq, Present, Tag};
 use rasn::{Decode, Decoder, Encode, Encoder};
 
-/// ENUMERATED { baseObject (0), singleLevel (1), wholeSubtree (2), ... }: which entries are searched, as its number. The type is extensible, and numbers
-/// that aren't named here are read and written like the others.
+/// ENUMERATED { baseObject (0), singleLevel (1), wholeSubtree (2), ... }: the entries that are
+/// searched, as a number. The type is extensible, and numbers without a name here are read and
+/// written like the others.
 #[derive(Clone, Copy, Debug, PartialEq, Eq, Drop)]
 pub struct SearchScope {
     pub number: i32,

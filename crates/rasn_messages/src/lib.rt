@@ -1,5 +1,6 @@
-//! Messages of the standards that BER, CER and DER were made for, as types: certificates (`x509`), requests for them (`pkcs10`), signed data
-//! (`cms`), network management (`snmp`) and directories (`ldap`).
+//! Messages of standards that use BER, CER or DER, as types: certificates (`x509`), requests for
+//! certificates (`pkcs10`), signed data (`cms`), network management (`snmp`) and directories
+//! (`ldap`).
 #![tactic(auto)]
 
 pub mod ldap;

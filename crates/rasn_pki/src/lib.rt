@@ -1,5 +1,5 @@
-//! Messages of the public-key infrastructure: what the extensions of certificates hold, and revocation lists (`x509`), requests for certificates
-//! (`pkcs10`), and signed data (`cms`).
+//! Messages of the public-key infrastructure: the contents of certificate extensions, and
+//! revocation lists (`x509`), requests for certificates (`pkcs10`), and signed data (`cms`).
 #![tactic(auto)]
 
 pub mod cms;

@@ -1,7 +1,8 @@
 //! A certificate (RFC 5280).
 
-/// Made by OpenSSL 3.0: `openssl req -x509 -new -key k.pem -config c.cnf -days 3650 -set_serial 0x0102030405 -outform DER`, of a key on P-256,
-/// the subject C = DE, O = Example, CN = example.org, critical basic constraints and a subject alternative name.
+/// A certificate made by OpenSSL 3.0: `openssl req -x509 -new -key k.pem -config c.cnf -days 3650
+/// -set_serial 0x0102030405 -outform DER`, with a P-256 key, the subject C = DE, O = Example, CN =
+/// example.org, critical basic constraints and a subject alternative name.
 pub const CERTIFICATE: &[u8] = &[
     0x30, 0x82, 0x01, 0xA3, 0x30, 0x82, 0x01, 0x4A, 0xA0, 0x03, 0x02, 0x01, 0x02, 0x02, 0x05, 0x01,
     0x02, 0x03, 0x04, 0x05, 0x30, 0x0A, 0x06, 0x08, 0x2A, 0x86, 0x48, 0xCE, 0x3D, 0x04, 0x03, 0x02,

@@ -1,4 +1,5 @@
-//! Messages that other programs made, for the tests of messages and of the program that shows them.
+//! Messages made by other programs, for the tests of messages and of the program that shows
+//! messages.
 #![tactic(auto)]
 
 pub mod certificate;

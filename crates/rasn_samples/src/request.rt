@@ -1,7 +1,8 @@
 //! A certification request (RFC 2986).
 
-/// Made by OpenSSL 3.0: `openssl req -new -key k.pem -config r.cnf -outform DER`, of an Ed25519 key, the subject C = DE, OU = web + CN = www, a
-/// challenge password and a request for a subject alternative name.
+/// A request made by OpenSSL 3.0: `openssl req -new -key k.pem -config r.cnf -outform DER`, with an
+/// Ed25519 key, the subject C = DE, OU = web + CN = www, a challenge password and a request for a
+/// subject alternative name.
 pub const REQUEST: &[u8] = &[
     0x30, 0x81, 0xE7, 0x30, 0x81, 0x9A, 0x02, 0x01, 0x00, 0x30, 0x27, 0x31, 0x0B, 0x30, 0x09, 0x06,
     0x03, 0x55, 0x04, 0x06, 0x13, 0x02, 0x44, 0x45, 0x31, 0x18, 0x30, 0x0A, 0x06, 0x03, 0x55, 0x04,

@@ -1,7 +1,8 @@
 //! A revocation list (RFC 5280, 5).
 
-/// Made by OpenSSL 3.0: `openssl ca -gencrl -config c.cnf -keyfile k.pem -cert c.pem`, of an Ed25519 key, two revoked certificates, the first for a key
-/// that got known, and the list's number 7.
+/// A list made by OpenSSL 3.0: `openssl ca -gencrl -config c.cnf -keyfile k.pem -cert c.pem`, with
+/// an Ed25519 key, two revoked certificates, of which the first has a compromised key, and the
+/// number 7.
 pub const REVOCATION_LIST: &[u8] = &[
     0x30, 0x81, 0xEF, 0x30, 0x81, 0xA2, 0x02, 0x01, 0x01, 0x30, 0x05, 0x06, 0x03, 0x2B, 0x65, 0x70,
     0x30, 0x0D, 0x31, 0x0B, 0x30, 0x09, 0x06, 0x03, 0x55, 0x04, 0x03, 0x0C, 0x02, 0x43, 0x41, 0x17,

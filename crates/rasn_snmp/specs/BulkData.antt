@@ -1,4 +1,5 @@
--- BulkPDU ::= SEQUENCE { request-id INTEGER, non-repeaters INTEGER, max-repetitions INTEGER, variable-bindings VarBindList }, the numbers of 32 bits
+-- BulkPDU ::= SEQUENCE { request-id INTEGER, non-repeaters INTEGER, max-repetitions INTEGER,
+-- variable-bindings VarBindList }, with numbers of 32 bits
 use Rattle.std.specs.Prelude.{[], ◌∷◌}
 use Rattle.rasn_types.specs.Tags.{in_universal}
 use Rattle.rasn_types.specs.Shapes.{Shape, Tree, number, items, seq, Parts, part, required}

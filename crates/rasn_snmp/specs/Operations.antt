@@ -1,5 +1,6 @@
--- PDUs ::= CHOICE { get-request [0] PDU, get-next-request [1] PDU, get-bulk-request [5] BulkPDU, response [2] PDU, set-request [3] PDU,
--- inform-request [6] PDU, snmpV2-trap [7] PDU, report [8] PDU, trap [4] Trap-PDU }, with implicit tags
+-- PDUs ::= CHOICE { get-request [0] PDU, get-next-request [1] PDU, get-bulk-request [5] BulkPDU, response [2] PDU,
+-- set-request [3] PDU, inform-request [6] PDU, snmpV2-trap [7] PDU, report [8] PDU, trap [4] Trap-PDU }, with implicit
+-- tags
 use Rattle.std.specs.Prelude.{◌≢◌}
 use Rattle.rasn_types.specs.Shapes.{Shape, Tree, chosen, absent, choice, seq, Parts, part, required}
 use Rattle.rasn_types.specs.Shapes.Parts.{none}

@@ -1,4 +1,5 @@
--- PDU ::= SEQUENCE { request-id INTEGER, error-status INTEGER, error-index INTEGER, variable-bindings VarBindList }, the numbers of 32 bits
+-- PDU ::= SEQUENCE { request-id INTEGER, error-status INTEGER, error-index INTEGER, variable-bindings VarBindList },
+-- with numbers of 32 bits
 use Rattle.std.specs.Prelude.{[], ◌∷◌}
 use Rattle.rasn_types.specs.Tags.{in_universal}
 use Rattle.rasn_types.specs.Shapes.{Shape, Tree, number, items, seq, Parts, part, required}

@@ -6,11 +6,11 @@ use Rattle.rasn_types.specs.declared.types.tag.Class.TheVariants.{Application, C
 use Rattle.rasn_types.specs.Shapes.{Shape, leaf, integer}
 use Rattle.rasn_types.specs.Trees.{signed_range, unsigned_range, unconstrained}
 
--- the tag [n]
+-- The tag [n].
 abbrev pub context : ℕ → Tag
 context n = record { class = Context; value = n }
 
--- the tag [APPLICATION n]
+-- The tag [APPLICATION n].
 abbrev pub application : ℕ → Tag
 application n = record { class = Application; value = n }
 

@@ -1,5 +1,5 @@
--- Trap-PDU ::= SEQUENCE { enterprise OBJECT IDENTIFIER, agent-addr IpAddress, generic-trap INTEGER, specific-trap INTEGER, time-stamp TimeTicks,
--- variable-bindings VarBindList }, the INTEGERs of 32 bits
+-- Trap-PDU ::= SEQUENCE { enterprise OBJECT IDENTIFIER, agent-addr IpAddress, generic-trap INTEGER,
+-- specific-trap INTEGER, time-stamp TimeTicks, variable-bindings VarBindList }, with INTEGERs of 32 bits
 use Rattle.std.specs.Prelude.{[], ◌∷◌, pos}
 use Rattle.rasn_types.specs.Tags.{in_universal}
 use Rattle.rasn_types.specs.Shapes.{Shape, Tree, number, numbers, items, seq, Parts, part, required, leaf, object_identifier, fixed}

@@ -1,7 +1,10 @@
--- CHOICE { integer-value INTEGER (-2147483648..2147483647), string-value OCTET STRING, objectID-value OBJECT IDENTIFIER, ipAddress-value [APPLICATION 0]
--- OCTET STRING (SIZE (4)), counter-value [APPLICATION 1] INTEGER (0..4294967295), unsigned-integer-value [APPLICATION 2] INTEGER (0..4294967295),
+-- CHOICE { integer-value INTEGER (-2147483648..2147483647), string-value OCTET STRING,
+-- objectID-value OBJECT IDENTIFIER, ipAddress-value [APPLICATION 0] OCTET STRING (SIZE (4)),
+-- counter-value [APPLICATION 1] INTEGER (0..4294967295),
+-- unsigned-integer-value [APPLICATION 2] INTEGER (0..4294967295),
 -- timeticks-value [APPLICATION 3] INTEGER (0..4294967295), arbitrary-value [APPLICATION 4] OCTET STRING,
--- big-counter-value [APPLICATION 6] INTEGER (0..18446744073709551615), unSpecified NULL, noSuchObject [0] NULL, noSuchInstance [1] NULL, endOfMibView [2] NULL }
+-- big-counter-value [APPLICATION 6] INTEGER (0..18446744073709551615), unSpecified NULL, noSuchObject [0] NULL,
+-- noSuchInstance [1] NULL, endOfMibView [2] NULL }
 use Rattle.std.specs.Prelude.{◌≢◌, ℕ, pos, refl, true}
 use Rattle.rasn_types.specs.Tags.{in_universal}
 use Rattle.rasn_types.specs.Shapes.{Shape, Tree, number, numbers, chosen, absent, leaf, choice, Parts, part, required, octet_string, fixed, object_identifier, null}
@@ -30,7 +33,7 @@ var_bind_value_alternatives = part required integer32
 abbrev pub var_bind_value_shape : Shape
 var_bind_value_shape = choice var_bind_value_alternatives
 
--- the value of NULL
+-- The tree of the value of NULL.
 abbrev pub null_tree : Tree
 null_tree = number (pos 0)
 
@@ -64,6 +67,6 @@ var_bind_value_not_absent NoSuchObject = chosen_not_absent
 var_bind_value_not_absent NoSuchInstance = chosen_not_absent
 var_bind_value_not_absent EndOfMibView = chosen_not_absent
 
--- An alternative that is a NULL, in a variant without a field: it has one value.
+-- An alternative that is a NULL is a variant without a field, which has one value.
 pub no_field : {X : Type 0} {k : ℕ} → Alternative k (λ (x y : X). true) (λ x. chosen k null_tree)
 no_field = record { inner = λ x. null_tree; is = λ x. refl; decided = λ x y. unsigned_decided 0 0 }

@@ -1,4 +1,5 @@
--- VarBind ::= SEQUENCE { name ObjectName, CHOICE { value ObjectSyntax, unSpecified NULL, noSuchObject [0] NULL, noSuchInstance [1] NULL, endOfMibView [2] NULL } }
+-- VarBind ::= SEQUENCE { name ObjectName, CHOICE { value ObjectSyntax, unSpecified NULL, noSuchObject [0] NULL,
+-- noSuchInstance [1] NULL, endOfMibView [2] NULL } }
 use Rattle.std.specs.Prelude.{[], ◌∷◌, List, None}
 use Rattle.rasn_types.specs.Tags.{in_universal}
 use Rattle.rasn_types.specs.Shapes.{Shape, Tree, numbers, items, seq, list, Parts, part, required, leaf, object_identifier}

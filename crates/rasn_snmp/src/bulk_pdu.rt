@@ -1,21 +1,24 @@
-//! `BulkPDU ::= SEQUENCE { request-id INTEGER, non-repeaters INTEGER, max-repetitions INTEGER, variable-bindings VarBindList }` (RFC 3416, 3).
+//! `BulkPDU ::= SEQUENCE { request-id INTEGER, non-repeaters INTEGER, max-repetitions INTEGER,
+//! variable-bindings VarBindList }` (RFC 3416, 3).
 use crate::VarBindList;
 use rasn::error::{DecodeError, EncodeError};
 use rasn::parts::{End, Put, Required};
 use rasn::types::{AsnType, Constraints, Identifier, LawfulEq, Present, Tag};
 use rasn::{Decode, Decoder, Encode, Encoder};
 
-/// SEQUENCE { request-id INTEGER (-214783648..214783647), non-repeaters INTEGER (0..2147483647), max-repetitions INTEGER (0..2147483647),
-/// variable-bindings VarBindList }: the PDU of GetBulkRequest. A negative number of either is taken for 0 (RFC 3416, 4.2.3).
+/// SEQUENCE { request-id INTEGER (-214783648..214783647), non-repeaters INTEGER (0..2147483647),
+/// max-repetitions INTEGER (0..2147483647), variable-bindings VarBindList }: the PDU of
+/// GetBulkRequest. A negative `non_repeaters` or `max_repetitions` is treated as 0
+/// (RFC 3416, 4.2.3).
 #[derive(Debug, PartialEq, Eq, Drop)]
 pub struct BulkPdu {
-    /// Ties an answer to its request.
+    /// The number that relates a response to its request.
     pub request_id: i32,
-    /// How many of the variables are asked for once; the others are asked for again and again.
+    /// The number of variables that are requested once; the others are requested repeatedly.
     pub non_repeaters: i32,
-    /// How often each of the others is asked for at most.
+    /// The highest number of times that each of the other variables is requested.
     pub max_repetitions: i32,
-    /// The variables that are asked for.
+    /// The requested variables.
     pub variable_bindings: VarBindList,
 }
 

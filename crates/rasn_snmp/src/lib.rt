@@ -1,5 +1,6 @@
-//! Messages of SNMP with a community, of version 1 and 2c (RFC 1157, 1901 and 3416), as types: read under BER and written under DER with no
-//! premise but memory.
+//! Messages of SNMP with a community, of versions 1 and 2c (RFC 1157, 1901 and 3416), as types that
+//! are read under BER and written under DER. A valid message is refused only if an allocation
+//! fails.
 #![tactic(auto)]
 
 mod bulk_pdu;
@@ -26,8 +27,8 @@ pub use trap_pdu::TrapPdu;
 pub use var_bind::VarBind;
 pub use var_bind_value::VarBindValue;
 
-/// version-1(0) of the `version` of a message (RFC 1157, 4).
+/// The `version` of a message of version 1: version-1(0) (RFC 1157, 4).
 pub const VERSION_1: u8 = 0;
 
-/// version(1) of the `version` of a message (RFC 1901): version 2c.
+/// The `version` of a message of version 2c: version(1) (RFC 1901).
 pub const VERSION_2C: u8 = 1;

@@ -1,4 +1,5 @@
-//! `Message ::= SEQUENCE { version INTEGER { version(1) }, community OCTET STRING, data ANY }` (RFC 1901; RFC 1157, 4).
+//! `Message ::= SEQUENCE { version INTEGER { version(1) }, community OCTET STRING, data ANY }`
+//! (RFC 1901; RFC 1157, 4).
 use crate::Pdus;
 use rasn::error::{DecodeError, EncodeError};
 use rasn::parts::{End, Put, Required};
@@ -12,7 +13,7 @@ pub struct Message {
     pub version: u8,
     /// The name of the community, which serves as a password.
     pub community: OctetString,
-    /// What is asked, answered or reported.
+    /// The operation: a request, a response or a report.
     pub data: Pdus,
 }
 

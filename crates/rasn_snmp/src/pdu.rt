@@ -1,19 +1,21 @@
-//! `PDU ::= SEQUENCE { request-id INTEGER, error-status INTEGER, error-index INTEGER, variable-bindings VarBindList }` (RFC 3416, 3).
+//! `PDU ::= SEQUENCE { request-id INTEGER, error-status INTEGER, error-index INTEGER,
+//! variable-bindings VarBindList }` (RFC 3416, 3).
 use crate::VarBindList;
 use rasn::error::{DecodeError, EncodeError};
 use rasn::parts::{End, Put, Required};
 use rasn::types::{AsnType, Constraints, Identifier, LawfulEq, Present, Tag};
 use rasn::{Decode, Decoder, Encode, Encoder};
 
-/// SEQUENCE { request-id INTEGER (-214783648..214783647), error-status INTEGER, error-index INTEGER (0..2147483647), variable-bindings
-/// VarBindList }: the PDU of all operations but GetBulkRequest and the trap of version 1.
+/// SEQUENCE { request-id INTEGER (-214783648..214783647), error-status INTEGER,
+/// error-index INTEGER (0..2147483647), variable-bindings VarBindList }: the PDU of all operations
+/// except GetBulkRequest and the trap of version 1.
 #[derive(Debug, PartialEq, Eq, Drop)]
 pub struct Pdu {
-    /// Ties an answer to its request.
+    /// The number that relates a response to its request.
     pub request_id: i32,
     /// One of [`error_status`](crate::error_status).
     pub error_status: i32,
-    /// Counted from 1 on; 0 names no variable binding.
+    /// The position of the variable binding that the error is about, counted from 1, or 0 for none.
     pub error_index: i32,
     /// The variables with their values.
     pub variable_bindings: VarBindList,

@@ -1,4 +1,5 @@
-//! `PDUs ::= CHOICE { get-request [0] PDU, get-next-request [1] PDU, get-bulk-request [5] BulkPDU, response [2] PDU, ..` (RFC 3416, 3).
+//! `PDUs ::= CHOICE { get-request [0] PDU, get-next-request [1] PDU, get-bulk-request [5] BulkPDU,
+//! response [2] PDU, ..` (RFC 3416, 3).
 use crate::{BulkPdu, Pdu, TrapPdu};
 use rasn::error::{DecodeError, EncodeError};
 use rasn::parts::OneOf::{Other, This};
@@ -6,9 +7,9 @@ use rasn::parts::{Last, OneOf};
 use rasn::types::{AsnType, Constraints, ContextTag, Identifier, Implicit, LawfulEq, Present, Tag};
 use rasn::{Decode, Decoder, Encode, Encoder};
 
-/// CHOICE { get-request \[0\] PDU, get-next-request \[1\] PDU, get-bulk-request \[5\] BulkPDU, response \[2\] PDU, set-request \[3\] PDU,
-/// inform-request \[6\] PDU, snmpV2-trap \[7\] PDU, report \[8\] PDU } with implicit tags, and the trap \[4\] Trap-PDU of version 1
-/// (RFC 1157, 4.1).
+/// CHOICE { get-request \[0\] PDU, get-next-request \[1\] PDU, get-bulk-request \[5\] BulkPDU,
+/// response \[2\] PDU, set-request \[3\] PDU, inform-request \[6\] PDU, snmpV2-trap \[7\] PDU,
+/// report \[8\] PDU } with implicit tags, and the trap \[4\] Trap-PDU of version 1 (RFC 1157, 4.1).
 #[derive(Debug, PartialEq, Eq, Drop)]
 pub enum Pdus {
     GetRequest(Implicit<ContextTag<0>, Pdu>),

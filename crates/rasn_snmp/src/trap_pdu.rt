@@ -1,25 +1,29 @@
-//! `Trap-PDU ::= SEQUENCE { enterprise OBJECT IDENTIFIER, agent-addr NetworkAddress, generic-trap INTEGER, ..` (RFC 1157, 4.1.6).
+//! `Trap-PDU ::= SEQUENCE { enterprise OBJECT IDENTIFIER, agent-addr NetworkAddress,
+//! generic-trap INTEGER, ..` (RFC 1157, 4.1.6).
 use crate::{IpAddress, TimeTicks, VarBindList};
 use rasn::error::{DecodeError, EncodeError};
 use rasn::parts::{End, Put, Required};
 use rasn::types::{AsnType, Constraints, Identifier, LawfulEq, ObjectIdentifier, Present, Tag};
 use rasn::{Decode, Decoder, Encode, Encoder};
 
-/// SEQUENCE { enterprise OBJECT IDENTIFIER, agent-addr NetworkAddress, generic-trap INTEGER, specific-trap INTEGER, time-stamp TimeTicks,
-/// variable-bindings VarBindList }: the trap of version 1. NetworkAddress is a CHOICE of IpAddress alone.
+/// SEQUENCE { enterprise OBJECT IDENTIFIER, agent-addr NetworkAddress, generic-trap INTEGER,
+/// specific-trap INTEGER, time-stamp TimeTicks, variable-bindings VarBindList }: the trap of
+/// version 1. NetworkAddress is a CHOICE whose only alternative is IpAddress.
 #[derive(Debug, PartialEq, Eq, Drop)]
 pub struct TrapPdu {
-    /// What kind of system reports (sysObjectID).
+    /// The type of the system that sends the trap (sysObjectID).
     pub enterprise: ObjectIdentifier,
-    /// The address of the system that reports.
+    /// The address of the system that sends the trap.
     pub agent_addr: IpAddress,
-    /// coldStart(0), warmStart(1), linkDown(2), linkUp(3), authenticationFailure(4), egpNeighborLoss(5) or enterpriseSpecific(6).
+    /// coldStart(0), warmStart(1), linkDown(2), linkUp(3), authenticationFailure(4),
+    /// egpNeighborLoss(5) or enterpriseSpecific(6).
     pub generic_trap: i32,
-    /// What is reported, where the trap is one of the enterprise.
+    /// The number of the trap among those of the enterprise, if `generic_trap` is
+    /// enterpriseSpecific(6).
     pub specific_trap: i32,
-    /// How long the system has been running, in hundredths of a second.
+    /// The time that the system has been running, in hundredths of a second.
     pub time_stamp: TimeTicks,
-    /// What else is of interest.
+    /// Variables with further information.
     pub variable_bindings: VarBindList,
 }
 

@@ -1,17 +1,19 @@
-//! `VarBind ::= SEQUENCE { name ObjectName, CHOICE { value ObjectSyntax, unSpecified NULL, .. } }` (RFC 3416, 3).
+//! `VarBind ::= SEQUENCE { name ObjectName, CHOICE { value ObjectSyntax, unSpecified NULL, .. } }`
+//! (RFC 3416, 3).
 use crate::{ObjectName, VarBindValue};
 use rasn::error::{DecodeError, EncodeError};
 use rasn::parts::{End, Put, Required};
 use rasn::types::{AsnType, Constraints, Identifier, LawfulEq, Present, Tag};
 use rasn::{Decode, Decoder, Encode, Encoder};
 
-/// SEQUENCE { name ObjectName, CHOICE { value ObjectSyntax, unSpecified NULL, noSuchObject \[0\] NULL, noSuchInstance \[1\] NULL,
-/// endOfMibView \[2\] NULL } }: a variable and its value.
+/// SEQUENCE { name ObjectName, CHOICE { value ObjectSyntax, unSpecified NULL,
+/// noSuchObject \[0\] NULL, noSuchInstance \[1\] NULL, endOfMibView \[2\] NULL } }: a variable and
+/// its value.
 #[derive(Debug, PartialEq, Eq, Drop)]
 pub struct VarBind {
-    /// Which variable it is.
+    /// The name of the variable.
     pub name: ObjectName,
-    /// Its value, or why there is none.
+    /// The value, or the reason why there is none.
     pub value: VarBindValue,
 }
 

@@ -1,4 +1,5 @@
-//! The CHOICE in `VarBind`, with ObjectSyntax (RFC 2578, 2 and 7.1) and its two CHOICEs in place (RFC 3416, 3).
+//! The CHOICE in `VarBind`, with ObjectSyntax (RFC 2578, 2 and 7.1) and its two CHOICEs in place
+//! (RFC 3416, 3).
 use crate::{Counter32, Counter64, IpAddress, Opaque, TimeTicks, Unsigned32};
 use rasn::error::{DecodeError, EncodeError};
 use rasn::parts::OneOf::{Other, This};
@@ -9,9 +10,11 @@ use rasn::types::{
 };
 use rasn::{Decode, Decoder, Encode, Encoder};
 
-/// CHOICE { integer-value INTEGER (-2147483648..2147483647), string-value OCTET STRING, objectID-value OBJECT IDENTIFIER, ipAddress-value
-/// IpAddress, counter-value Counter32, unsigned-integer-value Unsigned32, timeticks-value TimeTicks, arbitrary-value Opaque,
-/// big-counter-value Counter64, unSpecified NULL, noSuchObject \[0\] NULL, noSuchInstance \[1\] NULL, endOfMibView \[2\] NULL }
+/// CHOICE { integer-value INTEGER (-2147483648..2147483647), string-value OCTET STRING,
+/// objectID-value OBJECT IDENTIFIER, ipAddress-value IpAddress, counter-value Counter32,
+/// unsigned-integer-value Unsigned32, timeticks-value TimeTicks, arbitrary-value Opaque,
+/// big-counter-value Counter64, unSpecified NULL, noSuchObject \[0\] NULL,
+/// noSuchInstance \[1\] NULL, endOfMibView \[2\] NULL }
 #[derive(Debug, PartialEq, Eq, Drop)]
 pub enum VarBindValue {
     Integer(i32),
@@ -23,13 +26,13 @@ pub enum VarBindValue {
     TimeTicks(TimeTicks),
     Opaque(Opaque),
     Counter64(Counter64),
-    /// No value, as in a request.
+    /// There is no value, as in a request.
     Unspecified,
-    /// No object has the name.
+    /// There is no object with this name.
     NoSuchObject,
     /// The object has no such instance.
     NoSuchInstance,
-    /// No name is behind the one that was asked for.
+    /// No name follows the requested one.
     EndOfMibView,
 }
 

@@ -19,7 +19,7 @@ own = numerals_by_value (λ ds. all_ascii_digits ds ≡ true) tells_all_ascii_di
 pub wide : (n : ℕ) → IsSmall n → n < 2 ^ 64
 wide n h = omega arith
 
--- An arc's text is plain.
+-- The text of an arc is plain.
 pub arc_plain : (text : List ℕ) (n : ℕ) → IsArcText text n → IsPlain text
 arc_plain text n h = rw h.1 (plain n h.0)
   where
@@ -38,7 +38,7 @@ arc_plain text n h = rw h.1 (plain n h.0)
       alone = λ e. alone m b e;
     }
 
--- A plain text is an arc's where it is read as a number.
+-- A plain text is that of an arc if it is read as a number.
 pub arc_read : {E : Type 0} (text : List ℕ) (r : Result ℕ E) → IsPlain text → ParsesUnsigned 32 10 text r → IsSomeRelated (result_ok r) (IsArcText text)
 arc_read {E = E} text (Ok n) p h =
     let k = parse_plain own {E = E} 32 text (Ok n) h (λ e. omega (arith, p.from)) in
@@ -66,7 +66,7 @@ dotted_more x (y ∷ l) h = refl
 abbrev Cut : Type 0
 Cut = Option (Bor (List ℕ) × Bor (List ℕ))
 
--- The first arc of a text that is cut at its first point.
+-- The first arc of a text that is split at its first point.
 record First (m : List ℕ) (front behind : List ℕ) : Type 0 where
   arc : ℕ
   others : List ℕ
@@ -87,13 +87,13 @@ first_cut rest r front behind s is (z ∷ y ∷ l) h b e =
     let parts = rw is at (split_after 46 rest (decimal z) (dotted (y ∷ l)) r s (omega arith) e (no_point z (All-head IsSmall z (y ∷ l) b))) in
     record { arc = z; others = y ∷ l; is = refl; some = λ k. cc; small = All-head IsSmall z (y ∷ l) b; smalls = All-tail IsSmall z (y ∷ l) b; at = parts.0; then = parts.1 }
 
--- no arc follows where a text has no point
+-- No arc follows if a text has no point.
 last_only : (rest : List ℕ) (r : Cut) → IsSplitOnceResult 46 rest r → r ≡ None → (m : List ℕ) → m ≢ [] → All IsSmall m → rest ≡ dotted m → (z : ℕ) × (m ≡ z ∷ []) × IsSmall z × (rest ≡ decimal z)
 last_only rest r s is [] h b e = absurd (h refl)
 last_only rest r s is (z ∷ []) h b e = (z, refl, All-head IsSmall z [] b, e ∙ append-nil (decimal z))
 last_only rest r s is (z ∷ y ∷ l) h b e = absurd (rw is at (split_after 46 rest (decimal z) (dotted (y ∷ l)) r s (omega arith) e (no_point z (All-head IsSmall z (y ∷ l) b))))
 
--- What remains of a text after arcs that were read.
+-- The rest of a text after the arcs that were read.
 pub record Parsing (text arcs rest : List ℕ) : Type 0 where
   pub below : All IsSmall arcs
   pub sound : (m : List ℕ) → m ≢ [] → rest ≡ dotted m → text ≡ dotted (arcs ++ m)
@@ -139,7 +139,7 @@ parsing_stopped text arcs rest r front behind p s is bad k h t f =
     let c = first_cut rest r front behind s is m n u v in
     bad c.arc (c.small, c.at)
 
--- Nor is the last part.
+-- The last part isn't the text of an arc.
 pub parsing_failed : (text arcs rest : List ℕ) (r : Cut) → Parsing text arcs rest → IsSplitOnceResult 46 rest r → r ≡ None
     → ((n : ℕ) → IsSmall n × (rest ≡ decimal n) → ⊥) → (k : List ℕ) → k ≢ [] → All IsSmall k → text ≡ dotted k → ⊥
 parsing_failed text arcs rest r p s is bad k h t f =
@@ -147,7 +147,7 @@ parsing_failed text arcs rest r p s is bad k h t f =
     let (z, o, b, e) = last_only rest r s is m n u v in
     bad z (b, e)
 
--- The last part is.
+-- The last part is the text of an arc.
 pub parsing_ended : (text arcs rest : List ℕ) (x : ℕ) → Parsing text arcs rest → IsSmall x → rest ≡ decimal x → All IsSmall (arcs ++ x ∷ []) × (text ≡ dotted (arcs ++ x ∷ []))
 parsing_ended text arcs rest x p b e = (All-push IsSmall arcs x p.below b, p.sound (x ∷ []) (λ k. cc) (e ∙ sym (append-nil (decimal x))))
 
@@ -163,12 +163,12 @@ arcs_some : (l : List ℕ) → AreArcs l → l ≢ []
 arcs_some [] h e = h
 arcs_some (x ∷ l) h e = cc
 
--- What is read is an object identifier, where its arcs are one's.
+-- The arcs that are read are an object identifier if they are those of one.
 pub parsed : (text arcs : List ℕ) (v : Option (List ℕ)) → IsSomeExactlyIf v (AreArcs arcs) arcs → All IsSmall arcs → text ≡ dotted arcs
     → ((k : List ℕ) → k ≢ [] → All IsSmall k → text ≡ dotted k → k ≡ arcs) → IsSomeRelated v (IsDotted text)
 parsed text arcs (Some o) h b t only = rw h.1 (h.0, b, t)
 parsed text arcs None h b t only = λ k d. h (subst AreArcs (only k (arcs_some k d.0) d.1 d.2) d.0)
 
--- Nothing is, where no arcs have the text.
+-- If no arcs have the text, nothing is read.
 pub unparsed : (text : List ℕ) → ((k : List ℕ) → k ≢ [] → All IsSmall k → text ≡ dotted k → ⊥) → (k : List ℕ) → IsDotted text k → ⊥
 unparsed text none k d = none k (arcs_some k d.0) d.1 d.2

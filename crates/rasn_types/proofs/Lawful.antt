@@ -10,7 +10,7 @@ use Rattle.rasn_types.specs.Grammar.{Family, plain_family, bit_family, text_fami
 use Rattle.rasn_types.specs.Lawful.{AreDisjoint, AreDistinguished, IsFirstBehind, IsDistinguished, MayBeLeftOut, IsBitFree, HasTag, IsLawful, AreAlternatives, AreLawfulInOrder, AreLawfulByTag}
 use Rattle.rasn_types.specs.LawfulTest.{is_same_tag, is_other_tag, is_tag_below, Firsts, either_first, firsts, firsts_of, firsts_behind, is_first, holds_between, are_distinguished, is_none, is_distinguished, may_be_left_out, is_bit_free, has_tag, is_always_present, are_always_present, is_required, is_addition, is_same_own, is_lawful, are_alternatives, are_lawful_in_order, are_lawful_by_tag}
 
--- ---- tests that are fixed
+-- ---- constant tests
 
 decides_yes : Decides true (Unit {0})
 decides_yes = (λ e. tt, λ h. refl)
@@ -71,7 +71,7 @@ abbrev IsIn : Firsts → Tag → Type 0
 IsIn None n = Unit {0}
 IsIn (Some tags) n = IsAmong tags n
 
--- The list says which tags P holds of.
+-- The list has the tags for which P holds.
 abbrev DescribesFirsts : Firsts → (Tag → Type 0) → Type 0
 DescribesFirsts f P = (n : Tag) → (P n → IsIn f n) × (IsIn f n → P n)
 
@@ -195,7 +195,7 @@ left_out addition tag ps = decides_yes
 left_out optional tag ps = told_behind tag ps
 left_out (default d) tag ps = told_behind tag ps
 
--- ---- what is asked of one shape
+-- ---- the conditions on one shape
 
 unset : (b : Bool) → Decides (not b) (b ≡ false)
 unset true = decides_no (λ e. cc)
@@ -252,7 +252,7 @@ same_own None (Some t) = decides_no (λ e. cc)
 same_own (Some s) None = decides_no (λ e. cc)
 same_own (Some s) (Some t) = Decides-like (is_same_tag s t) (λ e. ap Some e) (λ e. cc) (same_tag s t)
 
--- Three and more in one.
+-- Three tests in one.
 both : {P Q R : Type 0} (x y z : Bool) → Decides x P → Decides y Q → Decides z R → Decides (x && (y && z)) (P × Q × R)
 both x y z p q r = Decides-like (x && (y && z)) (λ h. (h.0, h.1.0, h.1.1)) (λ h. (h.0, (h.1, h.2))) (Decides-and x (y && z) p (Decides-and y z q r))
 

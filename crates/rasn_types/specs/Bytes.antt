@@ -1,4 +1,5 @@
--- The octets that are written of a tree: a plain recursion on the shape. Octets are related, or none are.
+-- The octets that a tree is written as, by recursion on the shape. A tree that can't be written is related to no
+-- octets.
 use Rattle.std.specs.Prelude.{◌≡◌, ℕ, suc, ◌<◌, ◌≤◌, ◌⊎◌, ◌≢◌, List, [], ◌∷◌, ◌++◌, length, Bool, true, Option, Some, None}
 use Rattle.rasn_types.specs.Tags.{tag_bit, Codec, Ber, Cer, Der, Tag, in_universal, IsTagBelow}
 use Rattle.rasn_types.specs.Framing.{SpellsAnyIdentifier, SpellsLength, IsShortestIdentifier, IsShortestLength, Begins, AreOctets}
@@ -15,7 +16,7 @@ use Rattle.rasn_types.specs.Grammar.{Family, plain_family, bit_family, text_fami
 abbrev pub Writing : Type 0 → Type 1
 Writing X = X → List ℕ → Type 0
 
--- An identifier and a length before contents, each in its fewest octets (8.1).
+-- An identifier and a definite length before contents, both in their fewest octets (8.1).
 pub record DefiniteForm (tag : Tag) (bit : Bool) (contents b : List ℕ) : Type 0 where
   pub id : List ℕ
   pub len : List ℕ
@@ -27,7 +28,7 @@ pub record DefiniteForm (tag : Tag) (bit : Bool) (contents b : List ℕ) : Type 
   pub len_octets : AreOctets len
   pub is : b ≡ id ++ (len ++ contents)
 
--- An identifier, the octet 80, constructed contents and end-of-contents octets (8.1.3.6, 8.1.5).
+-- An identifier, the octet 80, the contents of a constructed encoding, and end-of-contents octets (8.1.3.6, 8.1.5).
 pub record IndefiniteForm (tag : Tag) (contents b : List ℕ) : Type 0 where
   pub id : List ℕ
   pub id_spells : SpellsAnyIdentifier id tag true
@@ -35,7 +36,7 @@ pub record IndefiniteForm (tag : Tag) (contents b : List ℕ) : Type 0 where
   pub id_octets : AreOctets id
   pub is : b ≡ id ++ (128 ∷ (contents ++ (0 ∷ 0 ∷ [])))
 
--- EXTERNAL, SEQUENCE and SET have the constructed bit whatever is written.
+-- The constructed bit is that of the tag: EXTERNAL, SEQUENCE and SET are always constructed.
 abbrev pub PrimitiveEncoding : Tag → List ℕ → List ℕ → Type 0
 PrimitiveEncoding tag = DefiniteForm tag (tag_bit tag)
 
@@ -44,7 +45,7 @@ ConstructedEncoding Ber tag = DefiniteForm tag true
 ConstructedEncoding Cer tag = IndefiniteForm tag
 ConstructedEncoding Der tag = DefiniteForm tag true
 
--- A part, as it is written, and the trees of it that are written as open octets without a tag.
+-- A part as it is written, and which of its trees are written as untagged open types.
 pub record Field : Type 1 where
   pub presence : Presence
   pub writes : Writing Tree
@@ -61,24 +62,24 @@ PartsWritten [] ts bs = (ts ≡ []) × (bs ≡ [])
 PartsWritten (f ∷ fs) ts bs = (t : Tree) × (us : List Tree) × (b : List ℕ) × (cs : List (List ℕ)) × (ts ≡ t ∷ us) × (bs ≡ b ∷ cs)
     × WritesPart f.presence f.writes t b × PartsWritten fs us cs
 
--- The tags of those that aren't empty.
+-- The tags that the lists begin with, except the empty lists.
 abbrev pub TagsOf : List (List ℕ) → List Tag → Type 0
 TagsOf [] tags = tags ≡ []
 TagsOf ([] ∷ bs) tags = TagsOf bs tags
 TagsOf ((o ∷ b) ∷ bs) tags = (tag : Tag) × (more : List Tag) × (tags ≡ tag ∷ more) × Begins (o ∷ b) tag × TagsOf bs more
 
--- No part of a SET is written as open octets without a tag: their order isn't known.
+-- No part of a SET is written as an untagged open type, since its position in the order of tags isn't known.
 abbrev pub NoneUntaggedOpen : List Field → List Tree → List (List ℕ) → Type 0
 NoneUntaggedOpen (f ∷ fs) (t ∷ ts) (b ∷ bs) = (f.is_untagged_open t → b ≡ []) × NoneUntaggedOpen fs ts bs
 NoneUntaggedOpen fs ts bs = Unit {0}
 
--- Contents as they are written.
+-- Contents octets as they are written: under DER, and in the fewest octets.
 pub record Written (kind : Kind) (t : Tree) (l : List ℕ) : Type 0 where
   pub is : Contents Der kind l t
   pub octets : AreOctets l
   pub shortest : IsShortest kind l
 
--- Every piece but the last is of this size, and the last isn't empty and isn't larger.
+-- Every piece except the last has this size; the last isn't empty and isn't larger.
 abbrev pub AreCut : {X : Type 0} → ℕ → List (List X) → Type 0
 AreCut size [] = ⊥
 AreCut size (p ∷ []) = (0 < length p) × (length p ≤ size)
@@ -89,7 +90,7 @@ IsCer Ber = ⊥
 IsCer Cer = Unit {0}
 IsCer Der = ⊥
 
--- A string is written as one piece, but under CER in segments where it has more than size units (9.2).
+-- A string is written as one primitive encoding or, under CER and with more than `size` units, in segments (9.2).
 abbrev pub WritesString : {X : Type 0} → Codec → Writing (List X) → ℕ → Tag → Tag → Writing (List X)
 WritesString {X} rule writes size inner tag xs b =
     ((IsCer rule → length xs ≤ size) × (contents : List ℕ) × writes xs contents × PrimitiveEncoding tag contents b)
@@ -101,7 +102,7 @@ pub record WrittenBits (bs : List Bool) (l : List ℕ) : Type 0 where
   pub zeros : AllFalse is.unused
   pub octets : AreOctets l
 
--- The octets of a string's text: for a time the canonical form (11.7, 11.8).
+-- The contents octets of a string; those of a time are its canonical form (11.7, 11.8).
 abbrev pub WritesText : Kind → List ℕ → Tree → Type 0
 WritesText utc_time l t = (m : Moment) × (t ≡ instant m) × IsMoment m × (l ≡ written_utc m)
 WritesText generalized_time l t = (m : Moment) × (t ≡ instant m) × IsMoment m × (l ≡ written_generalized m)
@@ -135,7 +136,7 @@ abbrev pub WritesSetOf : Codec → Tag → Option (Bound ℕ) → Writing Tree �
 WritesSetOf rule tag size writes t b = (ts : List Tree) × (bs : List (List ℕ)) × (t ≡ set_elements (items ts)) × Admits ◌≤◌ size (length ts)
     × Each writes ts bs × AreAscending IsLess bs × ConstructedEncoding rule tag (joined_lists bs) b
 
--- What is written of the tree are open octets without a tag.
+-- The tree is written as an untagged open type.
 unfoldable mutual
   pub IsUntaggedOpen : Shape → Tree → Type 0
   IsUntaggedOpen (leaf kind tag bounds) t = ⊥
@@ -153,7 +154,7 @@ unfoldable mutual
   IsUntaggedOpenIn k none t = ⊥
   IsUntaggedOpenIn k (part presence s ps) t = ((u : Tree) × (t ≡ chosen k u) × IsUntaggedOpen s u) ⊎ IsUntaggedOpenIn (suc k) ps t
 
--- Bytes rule shape tree octets
+-- Bytes rule shape tree octets: the tree of a value of the shape is written as these octets.
 unfoldable mutual
   pub Bytes : Codec → Shape → Writing Tree
   Bytes rule (leaf kind tag bounds) = λ t b. IsBounded kind bounds t × WritesIn (family kind) rule kind tag t b

@@ -6,7 +6,7 @@ pub record Day : Type 0 where
   pub month : ℕ
   pub day : ℕ
 
--- Every fourth year, but of the hundredth ones only every fourth.
+-- Whether a year is a leap year: every fourth year is, but of the years divisible by 100 only those divisible by 400.
 abbrev pub is_leap : ℤ → Bool
 is_leap y = unsigned_abs y % 4 == 0 && (not (unsigned_abs y % 100 == 0) || unsigned_abs y % 400 == 0)
 
@@ -31,11 +31,11 @@ previous_day d = if nat_lt 1 d.day then record d { day = d.day - 1 }
     else if nat_lt 1 d.month then record { year = d.year; month = d.month - 1; day = days_of_month d.year (d.month - 1) }
     else record { year = d.year -ℤ pos 1; month = 12; day = 31 }
 
--- An offset from UTC in minutes: less than a day.
+-- An offset from UTC in minutes, which is less than a day.
 abbrev pub IsOffset : ℤ → Type 0
 IsOffset m = (negsuc 1438 ≤ℤ m) × (m ≤ℤ pos 1439)
 
--- An instant, by its fields in UTC. From 1000000000 nanoseconds on it lies in a leap second.
+-- An instant, by its fields in UTC. With 1000000000 nanoseconds or more it lies in a leap second.
 pub record Moment : Type 0 where
   pub day : Day
   pub hour : ℕ
@@ -54,11 +54,11 @@ pub record IsMoment (m : Moment) : Type 0 where
 abbrev pub minute_of_day : Moment → ℕ
 minute_of_day m = 60 * m.hour + m.minute
 
--- the same second of the day's minute n
+-- The same second in minute n of the day.
 abbrev pub at_minute : Day → ℕ → Moment → Moment
 at_minute d n m = record { day = d; hour = n / 60; minute = n % 60; second = m.second; nanosecond = m.nanosecond }
 
--- less than a day later, in minutes
+-- The instant n minutes later, and the one n minutes earlier, where n minutes are less than a day.
 unfoldable pub later : ℕ → Moment → Moment
 later n m = if nat_lt (minute_of_day m + n) 1440 then at_minute m.day (minute_of_day m + n) m
     else at_minute (next_day m.day) (minute_of_day m + n - 1440) m
@@ -67,7 +67,7 @@ unfoldable pub earlier : ℕ → Moment → Moment
 earlier n m = if nat_lt (minute_of_day m) n then at_minute (previous_day m.day) (minute_of_day m + 1440 - n) m
     else at_minute m.day (minute_of_day m - n) m
 
--- an instant, and the offset of its text in minutes
+-- An instant, and the offset of its text in minutes.
 pub record Stamp : Type 0 where
   pub moment : Moment
   pub offset : ℤ

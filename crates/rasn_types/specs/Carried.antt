@@ -1,4 +1,4 @@
--- Which values are read back: those that are carried.
+-- The values that are read back after they are written: those that are carried.
 use Rattle.std.specs.Prelude.{◌≡◌, ℕ, suc, ◌-◌, ◌^◌, ◌<◌, ◌⊎◌, ◌≢◌, List, [], ◌∷◌, length, Bool}
 use Rattle.rasn_types.specs.Tags.{loose_form, Codec, Tag}
 use Rattle.rasn_types.specs.Framing.{Frame, definite}
@@ -13,21 +13,23 @@ abbrev pub EachOf : (Tree → Type 0) → List Tree → Type 0
 EachOf P [] = Unit {0}
 EachOf P (t ∷ ts) = P t × EachOf P ts
 
--- What of a part meets the depth: nothing where it isn't written.
+-- A part that is written meets the limits. An absent optional part and a default aren't written; an addition has to be
+-- present.
 abbrev pub PartIsWithinLimits : Presence → (Tree → Type 0) → Tree → Type 0
 PartIsWithinLimits required within_limits t = within_limits t
 PartIsWithinLimits optional within_limits t = (t ≡ absent) ⊎ within_limits t
 PartIsWithinLimits addition within_limits t = (t ≢ absent) × within_limits t
 PartIsWithinLimits (default d) within_limits t = Same t d ⊎ within_limits t
 
--- What is read back of a written time's text: UTCTime has two digits of the year and no fraction, the others four digits.
+-- The times whose written text is read back: UTCTime has two digits of the year and no fraction, the others have four
+-- digits of the year.
 abbrev pub IsCarriedTime : Kind → Tree → Type 0
 IsCarriedTime utc_time t = (m : Moment) → t ≡ instant m → CarriedUtc m
 IsCarriedTime generalized_time t = (m : Moment) → t ≡ instant m → CarriedDay m.day
 IsCarriedTime date t = (d : Day) → t ≡ on_day d → CarriedDay d
 IsCarriedTime kind t = Unit {0}
 
--- The depth, where a string is written in segments; and fewer than 2 ^ 64 bits.
+-- A string has fewer than 2 ^ 64 bits, and the depth suffices for its segments.
 abbrev pub LeafIsWithinLimits : Family → Codec → Kind → ℕ → Tree → Type 0
 LeafIsWithinLimits plain_family rule kind depth t = Unit {0}
 LeafIsWithinLimits bit_family rule kind depth t = (bs : List Bool) → t ≡ bits bs → (length bs < 2 ^ 64) × (IsCer rule → 7992 < length bs → 0 < depth)
@@ -41,7 +43,8 @@ pub record IsOneEncoding (t : Tree) : Type 0 where
   pub contents : List ℕ
   pub frame : Frame loose_form octets tag bit [] (definite contents)
 
--- Carried but for the octets: the depth, counted down from 128, and what open octets, times and additions owe.
+-- The limits of a carried value: the depth, counted down from 128, suffices, and open types, times and additions are
+-- within their limits.
 unfoldable mutual
   pub IsWithinLimits : Codec → Shape → ℕ → Tree → Type 0
   IsWithinLimits rule (leaf kind tag bounds) depth t = LeafIsWithinLimits (family kind) rule kind depth t
@@ -62,7 +65,7 @@ unfoldable mutual
   ChosenIsWithinLimits rule k none depth t = ⊥
   ChosenIsWithinLimits rule k (part presence s ps) depth t = ((u : Tree) × (t ≡ chosen k u) × IsWithinLimits rule s depth u) ⊎ ChosenIsWithinLimits rule (suc k) ps depth t
 
--- Written under the rule, and read back under it.
+-- The value is written under the rule, and is read back under it.
 pub record Carried (rule : Codec) (s : Shape) (t : Tree) : Type 0 where
   pub octets : List ℕ
   pub is : Bytes rule s t octets

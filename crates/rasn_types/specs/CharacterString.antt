@@ -1,4 +1,4 @@
--- Which octets the restricted character string types admit, and the characters that they mean (X.680 41).
+-- The octets that the restricted character string types admit, and the characters that they mean (X.680 41).
 use Rattle.std.specs.Prelude.{◌≡◌, ℕ, ◌+◌, ◌*◌, ◌<◌, ◌≤◌, ◌⊎◌, ◌%◌, List, [], ◌∷◌, length, All, Contains, slice_index}
 use Rattle.std.specs.List.{AllWithin}
 use Rattle.std.proofs.Common.{inl, inr, arith, rules}
@@ -10,11 +10,11 @@ use Rattle.rasn_types.specs.Shapes.{Kind, numeric, printable, visible, ia5, any_
 abbrev pub IsDigitOrSpace : ℕ → Type 0
 IsDigitOrSpace c = ((48 ≤ c) × (c < 58)) ⊎ (c ≡ 32)
 
--- what PrintableString admits besides letters and digits: space and ' ( ) + , - . / : = ?
+-- The characters of PrintableString besides letters and digits: space and ' ( ) + , - . / : = ?
 abbrev pub printable_marks : List ℕ
 printable_marks = 32 ∷ 39 ∷ 40 ∷ 41 ∷ 43 ∷ 44 ∷ 45 ∷ 46 ∷ 47 ∷ 58 ∷ 61 ∷ 63 ∷ []
 
--- letters, digits and these (X.680 41.4)
+-- Letters, digits and these characters (X.680 41.4).
 abbrev pub IsPrintable : ℕ → Type 0
 IsPrintable c = ((65 ≤ c) × (c < 91)) ⊎ (((97 ≤ c) × (c < 123)) ⊎ (((48 ≤ c) × (c < 58)) ⊎ Contains printable_marks c))
 
@@ -28,7 +28,7 @@ IsAdmitted Every c = Unit {0}
 abbrev pub AreAdmitted : Alphabet → List ℕ → Type 0
 AreAdmitted a l = All (IsAdmitted a) l
 
--- The first octet that isn't admitted stands at this place.
+-- The first octet that isn't admitted is at this position.
 abbrev pub IsFirstForeign : Alphabet → List ℕ → ℕ → Type 0
 IsFirstForeign a octets place = (place < length octets) × AllWithin (IsAdmitted a) octets 0 place × (IsAdmitted a (slice_index octets place) → ⊥)
 
@@ -55,7 +55,7 @@ visible_ascii c h = omega arith
 pub ia5_ascii : IsWithinAscii Ia5
 ia5_ascii c h = h
 
--- the kind of the string types with this alphabet
+-- The kind of the string types with this alphabet.
 abbrev pub string_kind : Alphabet → Kind
 string_kind Numeric = numeric
 string_kind Printable = printable
@@ -63,11 +63,11 @@ string_kind Visible = visible
 string_kind Ia5 = ia5
 string_kind Every = any_octets
 
--- Octets that are a whole number of 16-bit units.
+-- The octets are a whole number of 16-bit units.
 abbrev pub ArePaired : List ℕ → Type 0
 ArePaired l = length l % 2 ≡ 0
 
--- their units, the high octet first
+-- The 16-bit units of octets, the high octet first.
 abbrev pub units_of : List ℕ → List ℕ
 units_of [] = []
 units_of (a ∷ []) = []

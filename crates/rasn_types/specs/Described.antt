@@ -1,17 +1,17 @@
--- What a constructed type tells of its parts, and of its fields.
+-- What a constructed type states about its parts and its fields.
 use Rattle.std.specs.Prelude.{ℕ, suc, ◌+◌, Bool, true, false, ◌&&◌, ◌||◌, not, nat_eq}
 use Rattle.rasn_types.specs.Shapes.{Parts, part, required, optional, addition, default}
 use Rattle.rasn_types.specs.Shapes.Parts.{none}
 use Rattle.rasn_types.specs.declared.types.fields.FieldPresence.{FieldPresence}
 use Rattle.rasn_types.specs.declared.types.fields.FieldPresence.TheVariants.{Required, Optional, Default}
 
--- whether some part is required
+-- Whether a part is required.
 abbrev pub has_required : Parts → Bool
 has_required none = false
 has_required (part required s ps) = true
 has_required (part _ s ps) = has_required ps
 
--- whether some part is an addition under an explicit tag
+-- Whether a part is an addition with an explicit tag.
 abbrev pub has_addition : Parts → Bool
 has_addition none = false
 has_addition (part required s ps) = has_addition ps
@@ -19,7 +19,7 @@ has_addition (part optional s ps) = has_addition ps
 has_addition (part addition s ps) = true
 has_addition (part (default d) s ps) = has_addition ps
 
--- how many parts there are
+-- The number of parts.
 abbrev pub count : Parts → ℕ
 count none = 0
 count (part p s ps) = suc (count ps)
@@ -28,16 +28,16 @@ abbrev pub same_bool : Bool → Bool → Bool
 same_bool true b = b
 same_bool false b = not b
 
--- whether a type has no fields and no extension marker
+-- Whether a type has no fields and no extension marker.
 abbrev pub is_fieldless : ℕ → Bool → Bool
 is_fieldless root extensible = nat_eq root 0 && not extensible
 
--- There are as many parts as fields, in the root and behind an extension marker together; fields stand behind one only where there is one; and
--- the flag tells whether some part is required.
+-- The flag says whether a part is required, there are as many parts as fields in the root and after the extension
+-- marker together, and a type with fields after a marker has one.
 abbrev pub describes : ℕ → ℕ → Bool → Bool → Parts → Bool
 describes root more extensible flag parts = same_bool (has_required parts) flag && nat_eq (count parts) (root + more) && (extensible || nat_eq more 0)
 
--- whether a value may do without a field of this presence
+-- Whether a value may lack a field of this presence.
 abbrev pub is_optional_or_default : FieldPresence → Bool
 is_optional_or_default Required = false
 is_optional_or_default Optional = true

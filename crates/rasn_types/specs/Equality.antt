@@ -1,4 +1,4 @@
--- What `==` of a type tells, and how it is told part by part.
+-- What `==` of a type decides, and how it is decided part by part.
 use Rattle.std.proofs.Common.{◌≡◌, ◌≢◌, ◌≤◌, inl, inr, suc, arith, ℕ, ℤ, pos, String, chars, List, [], ◌∷◌, Bool, true, false, ◌&&◌, Some, None, refl, sym, ap, ◌∙◌, subst, true≢false}
 use denote.Struct.Field.{Field}
 use denote.Enum.Declared.{Record, Declared, Choice}
@@ -19,7 +19,7 @@ use Rattle.rasn_types.specs.Shapes.{Tree, number, bits, numbers, instant, on_day
 use Rattle.rasn_types.specs.Bytes.{Same}
 use Rattle.rasn_types.specs.Trees.{bool_tree, option_tree, list_tree}
 
--- The flag is true exactly if the trees are the same. It is a record so that its type shows all three.
+-- The flag is true exactly if the trees are the same. It is a record so that its type shows the flag and both trees.
 pub record DecidesSame (flag : Bool) (t u : Tree) : Type 0 where
   pub same : flag ≡ true → Same t u
   pub equal : Same t u → flag ≡ true
@@ -28,11 +28,11 @@ pub record DecidesSame (flag : Bool) (t u : Tree) : Type 0 where
 abbrev pub EqDecidesSame : {E : Type 0} → (E → E → Bool) → (E → Tree) → Type 0
 EqDecidesSame {E} eq tree = (a b : E) → DecidesSame (eq a b) (tree a) (tree b)
 
--- Every value is there.
+-- No value is absent.
 abbrev pub AreNeverAbsent : {E : Type 0} → (E → Tree) → Type 0
 AreNeverAbsent {E} tree = (a : E) → tree a ≢ absent
 
--- ---- leaves: two values are equal exactly if what their trees hold is
+-- ---- leaves: two values are equal exactly if the contents of their trees are equal
 
 number_decided : {r : Bool} (y z : ℤ) → Decides r (y ≡ z) → DecidesSame r (number y) (number z)
 number_decided y z h = record { same = λ e. ap number (sym (h.0 e)); equal = λ (s : number z ≡ number y). h.1 cc }
@@ -46,7 +46,7 @@ signed_decided y z = number_decided y z (signed_Decides y z)
 pub unsigned_decided : (m n : ℕ) → DecidesSame (nat_eq m n) (number (pos m)) (number (pos n))
 unsigned_decided m n = number_decided (pos m) (pos n) ((λ e. ap pos ((unsigned_Decides m n).0 e)), (λ e. (unsigned_Decides m n).1 cc))
 
--- where a type has one value
+-- For a type with one value.
 pub single_decided : (z : ℤ) → DecidesSame true (number z) (number z)
 single_decided z = number_decided z z ((λ e. refl), (λ e. refl))
 
@@ -77,7 +77,7 @@ text_decided s t =
     let back : chars k ≡ chars l → k ≡ l = λ e. sym (encodes-chars k (IsUtf8-string_bytes s)) ∙ (ap encodes e ∙ encodes-chars l (IsUtf8-string_bytes t)) in
     numbers_decided (chars k) (chars l) ((λ e. ap chars ((bytes_decides k l).0 e)), (λ e. (bytes_decides k l).1 (back e)))
 
--- An enum whose variants have no fields, and different numbers.
+-- An enum whose variants have no fields, and have different numbers.
 pub enumerated_decided : (D : Declared) → Bare D.parts → (f : D.D → ℤ) → ((v w : D.D) → f v ≡ f w → v ≡ w) → EqDecidesSame (sameb D) (λ v. number (f v))
 enumerated_decided D bare f distinct v w = number_decided (f v) (f w) ((λ e. ap f (same_true D bare v w e)), (λ e. true_same D v w (distinct v w e)))
 
@@ -125,14 +125,14 @@ same_joined t ts u us (v, vs, e, s, h) =
     (subst (Same t) f s, subst (Same ts) g h)
 
 module _ {s : Bool} {t u : Tree} (p : DecidesSame s t u) where
-  -- a part in front of others
+  -- A part before others.
   pub part : {r : Bool} {ts us : Tree} → DecidesSame r ts us → DecidesSame (s && r) (joined t ts) (joined u us)
   part {r} {ts} {us} q = record {
     same = λ e. (u, us, refl, p.same (first_so s r e), q.same (second_so s r e));
     equal = λ h. let k = same_joined t ts u us h in both_true (p.equal k.0) (q.equal k.1);
   }
 
-  -- the last part
+  -- The last part.
   pub last : DecidesSame s (joined t done) (joined u done)
   last = record { same = λ e. (u, done, refl, p.same e, refl); equal = λ h. p.equal (same_joined t done u done h).0 }
 
@@ -141,7 +141,7 @@ module _ {s : Bool} {t u : Tree} (p : DecidesSame s t u) where
 same_chosen : (k m : ℕ) (t u : Tree) → Same (chosen k t) (chosen m u) → (k ≡ m) × Same t u
 same_chosen k m t u (v, e, s) = let f : v ≡ u = cc in (cc, subst (Same t) f s)
 
--- A variant's values are those of the k-th alternative.
+-- The values of a variant are those of alternative k.
 pub record Alternative {X : Type 0} (k : ℕ) (eq : X → X → Bool) (tree : X → Tree) : Type 0 where
   pub inner : X → Tree
   pub is : (x : X) → tree x ≡ chosen k (inner x)
@@ -215,7 +215,7 @@ module _ {T : Type 0} {eq : T → T → Bool} {tree : T → Tree} (p : EqDecides
   list_decided (x ∷ xs) [] = record { same = λ e. absurd (true≢false (sym e)); equal = λ (v, vs, e, s, h). cc }
   list_decided (x ∷ xs) (y ∷ ys) = part (p x y) (list_decided xs ys)
 
--- ---- what is there
+-- ---- values that aren't absent
 
 pub number_not_absent : (z : ℤ) → number z ≢ absent
 number_not_absent z e = cc
@@ -240,7 +240,7 @@ pub list_not_absent : {T : Type 0} (tree : T → Tree) (l : List T) → list_tre
 list_not_absent tree [] e = cc
 list_not_absent tree (x ∷ xs) e = cc
 
--- a SEQUENCE or a SET with a part
+-- A SEQUENCE or a SET with a part.
 pub parts_not_absent : {t ts : Tree} → joined t ts ≢ absent
 parts_not_absent e = cc
 

@@ -1,4 +1,4 @@
--- What errors are shown as.
+-- The texts of errors.
 use Rattle.std.specs.Prelude.{ℕ, ℤ, List, ◌++◌, ◌==◌, if◌then◌else◌, Option, Some, None, codes, string_bytes}
 use Rattle.std.specs.Fmt.{decimal, signed_decimal, debug_list, ◌++?◌}
 use Rattle.rasn_types.specs.Text.{two_digits, hexadecimal, shown_number, shown_bounds, shown_tag, shown_rules}
@@ -22,7 +22,7 @@ use Rattle.rasn_types.specs.declared.error.encode.EncodeErrorKind.{EncodeErrorKi
 use Rattle.rasn_types.specs.declared.error.encode.EncodeErrorKind.TheVariants.{SizeConstraintNotSatisfied, ValueConstraintNotSatisfied, RealNotSupported, OutOfMemory, CodecSpecific}
 use Rattle.rasn_types.specs.declared.error.encode.EncodeError.{EncodeError}
 
--- one octet, or several
+-- A number of octets of a kind, in the singular or in the plural.
 abbrev pub shown_octets : ℕ → List ℕ → List ℕ
 shown_octets n which = if n == 1 then codes "1 " ++ (which ++ codes " octet") else decimal n ++ (codes " " ++ (which ++ codes " octets"))
 
@@ -30,7 +30,7 @@ abbrev pub shown_needed : Needed → List ℕ
 shown_needed Unknown = codes "unexpected end of input"
 shown_needed (Size n) = codes "unexpected end of input, need " ++ shown_octets n (codes "more")
 
--- A value of this kind, and what its bounds are.
+-- A value of this kind, and the bounds that it violates.
 abbrev pub shown_outside : List ℕ → Option (List ℕ) → Option (List ℕ) → Option (List ℕ)
 shown_outside what value bounds = Some what ++? value ++? Some (codes " violates the constraint ") ++? bounds
 
@@ -44,7 +44,7 @@ abbrev pub shown_size : Option ℕ → Bounded ℕ → Option (List ℕ)
 shown_size None expected = Some (codes "size violates the constraint ") ++? size_bounds expected
 shown_size (Some n) expected = shown_outside (codes "size ") (Some (decimal n)) (size_bounds expected)
 
--- Causes of X.690 8.
+-- The texts of the causes of X.690 8.
 abbrev pub shown_ber_decode : BerDecodeErrorKind → List ℕ
 shown_ber_decode ber.UnsupportedTagNumber = codes "tag number exceeds 32 bits"
 shown_ber_decode ber.UnsupportedObjectIdentifierArc = codes "OBJECT IDENTIFIER arc exceeds 32 bits"
@@ -57,7 +57,7 @@ shown_ber_decode ber.InvalidConstructedIdentifier = codes "primitive encoding, e
 shown_ber_decode ber.InvalidObjectIdentifier = codes "invalid OBJECT IDENTIFIER"
 shown_ber_decode (ber.InvalidDate octets) = codes "invalid time, octets " ++ hexadecimal octets.items
 
--- Causes of X.690 10 and 11.
+-- The texts of the causes of X.690 10 and 11.
 abbrev pub shown_der_decode : DerDecodeErrorKind → List ℕ
 shown_der_decode der.ConstructedEncodingNotAllowed = codes "constructed encoding of a string is not allowed"
 shown_der_decode der.NonMinimalTagNumber = codes "tag number is not in the fewest octets"
@@ -74,7 +74,7 @@ abbrev pub shown_codec_decode : CodecDecodeError → List ℕ
 shown_codec_decode (Ber cause) = shown_ber_decode cause
 shown_codec_decode (Der cause) = shown_der_decode cause
 
--- Positions are counted from 0.
+-- The texts of the kinds of errors of reading. Positions are counted from 0.
 abbrev pub shown_decode_kind : DecodeErrorKind → Option (List ℕ)
 shown_decode_kind (kind.Incomplete needed) = Some (shown_needed needed)
 shown_decode_kind (kind.UnexpectedExtraData length) = Some (shown_octets length (codes "trailing"))
@@ -101,7 +101,7 @@ shown_decode_kind (kind.CodecSpecific inner) = Some (shown_codec_decode inner)
 abbrev pub shown_decode_error : DecodeError → Option (List ℕ)
 shown_decode_error error = Some (shown_rules error.codec) ++? Some (codes ": ") ++? shown_decode_kind error.kind
 
--- Arcs that aren't an object identifier's are listed in brackets.
+-- Arcs that aren't those of an object identifier are listed in brackets.
 abbrev pub shown_ber_encode : BerEncodeErrorKind → Option (List ℕ)
 shown_ber_encode (InvalidObjectIdentifier oid) = Some (codes "invalid OBJECT IDENTIFIER: ") ++? debug_list (λ n. Some (decimal n)) oid.items
 shown_ber_encode AnyInSet = Some (codes "untagged open type in a SET")

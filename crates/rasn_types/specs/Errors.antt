@@ -1,4 +1,4 @@
--- What errors say, to contracts: vectors are lists.
+-- What errors say. Contracts see vectors as lists.
 use Rattle.std.specs.Prelude.{◌≡◌, ℕ, zero, suc}
 use Rattle.rasn_types.specs.declared.error.decode.Needed.{Needed}
 use Rattle.rasn_types.specs.declared.error.decode.Needed.TheVariants.{Unknown, Size}

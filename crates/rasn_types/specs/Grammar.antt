@@ -1,4 +1,4 @@
--- The grammar: which inputs begin with a value of a shape, which value, and what is left.
+-- The grammar: which inputs begin with a value of a shape, which value that is, and what remains.
 use Rattle.std.specs.Prelude.{◌≡◌, ℕ, ◌+◌, ◌*◌, ◌-◌, ◌^◌, ◌<◌, ◌≤◌, ◌⊎◌, List, [], ◌∷◌, ◌++◌, length, Bool, true, false, ◌≤ℤ◌, chars, IsUtf8, Option, Some, None}
 use Rattle.rasn_types.specs.Tags.{tag_bit, form, IsStrict, Codec, Ber, Cer, Der, Tag, in_universal}
 use Rattle.rasn_types.specs.Order.{IsLess, AreAscending}
@@ -12,7 +12,8 @@ use Rattle.rasn_types.specs.CharacterString.{AreAdmitted}
 use Rattle.rasn_types.specs.Readings.{Reading, ReadsContents, ReadsMany, ReadsFrom, ReadsOptional, Part, ReadsSeq, ReadsChoice, ReadsSet}
 use Rattle.rasn_types.specs.Contents.{IsShortest, Contents, ReadsString, ReadsBitSegment, OctetSegment}
 
--- BER reads the general forms of times, CER and DER the canonical ones, DER the shortest of these (11.7, 11.8).
+-- The texts of times: BER reads the general forms, CER and DER the canonical ones, DER only the shortest of these
+-- (11.7, 11.8).
 abbrev pub UtcText : Codec → List ℕ → Stamp → Type 0
 UtcText Ber = GeneralUtc
 UtcText Cer = CanonicalUtc
@@ -23,7 +24,7 @@ GeneralizedText Ber = GeneralGeneralized
 GeneralizedText Cer = CanonicalGeneralized
 GeneralizedText Der = StrictGeneralized
 
--- 16-bit units, the high octet first
+-- 16-bit units, the high octet first.
 abbrev pub units : List ℕ → List ℕ → Type 0
 units [] us = us ≡ []
 units (a ∷ []) us = ⊥
@@ -45,7 +46,7 @@ Text rule generalized_time l t = (s : Stamp) × (t ≡ instant s.moment) × Gene
 Text rule date l t = (d : Day) × (t ≡ on_day d) × DateText l d
 Text rule kind l t = ⊥
 
--- What a bound is of: nothing, the value, or the size.
+-- What a bound applies to: nothing, the value, or the size.
 pub data Measure : Type 0 where
   unmeasured by_value by_size : Measure
 
@@ -69,7 +70,7 @@ measure any_octets = by_size
 measure bmp = by_size
 measure utf8 = by_size
 
--- The constraints hold of the tree, as far as its kind has them (X.680 51).
+-- The tree meets the constraints that apply to its kind (X.680 51).
 abbrev pub Fulfils : Measure → Constraints → Tree → Type 0
 Fulfils unmeasured c t = Unit {0}
 Fulfils by_value c (number z) = Admits ◌≤ℤ◌ c.value z
@@ -80,7 +81,7 @@ Fulfils m c t = ⊥
 abbrev pub IsBounded : Kind → Constraints → Tree → Type 0
 IsBounded kind c t = Fulfils (measure kind) c t
 
--- How contents are read: at once, or as bits or octets gathered from segments.
+-- How contents are read: at once, or as bits or octets collected from segments.
 pub data Family : Type 0 where
   plain_family bit_family text_family : Family
 
@@ -104,7 +105,7 @@ family utc_time = text_family
 family generalized_time = text_family
 family date = text_family
 
--- A value that holds no others.
+-- The value of a leaf.
 abbrev pub ReadsIn : Family → Codec → Kind → Tag → ℕ → Reading Tree
 ReadsIn plain_family rule kind tag depth input t rest =
     (bit : Bool) × (contents : List ℕ) × Frame (form rule) input tag bit rest (definite contents) × Contents rule kind contents t
@@ -117,17 +118,18 @@ ReadsIn text_family rule kind tag depth input t rest =
 abbrev pub ReadsLeaf : Codec → Kind → Tag → Constraints → ℕ → Reading Tree
 ReadsLeaf rule kind tag bounds depth input t rest = ReadsIn (family kind) rule kind tag depth input t rest × IsBounded kind bounds t
 
--- The contents of a value of the tag, end-of-contents octets not included.
+-- The contents octets of a value with the tag, without end-of-contents octets.
 abbrev pub ReadsOpen : Codec → Tag → Reading Tree
 ReadsOpen rule tag input t rest = (bit : Bool) × (contents : List ℕ) × (t ≡ numbers contents) × (IsStrict rule → bit ≡ true)
     × (Frame (form rule) input tag bit rest (definite contents)
     ⊎ ((body : List ℕ) × Frame (form rule) input tag bit body indefinite × CompleteEncodings rule contents × (body ≡ contents ++ (0 ∷ 0 ∷ rest))))
 
--- One complete encoding, octets and all.
+-- One complete encoding, with all its octets.
 abbrev pub ReadsAny : Codec → Reading Tree
 ReadsAny rule input t rest = (text : List ℕ) × (t ≡ numbers text) × CompleteEncoding rule text × (input ≡ text ++ rest)
 
--- Elements up to the end, as a list and as set elements, whose octets are ascending where the writer's order alone is read (11.6).
+-- Elements up to the end, as a list and as set elements. Under DER the encodings of set elements are in ascending order
+-- (11.6).
 abbrev pub ReadsList : Option (Bound ℕ) → Reading Tree → Bool → Reading Tree
 ReadsList size reads closing input t rest = (ts : List Tree) × (t ≡ items ts) × Admits ◌≤◌ size (length ts) × ReadsMany reads closing input ts rest
 
@@ -135,7 +137,8 @@ abbrev pub ReadsSetOf : Codec → Option (Bound ℕ) → Reading Tree → Bool �
 ReadsSetOf rule size reads closing input t rest = (ts : List Tree) × (t ≡ set_elements (items ts)) × Admits ◌≤◌ size (length ts) × ReadsMany reads closing input ts rest
     × (IsStrict rule → (bs : List (List ℕ)) × ReadsFrom reads input ts rest bs × AreAscending IsLess bs)
 
--- Reads rule shape depth closing input tree rest: the input begins with a value of the shape, and the rest is left.
+-- Reads rule shape depth closing input tree rest: the input begins with a value of the shape and this tree, before the
+-- rest.
 unfoldable mutual
   pub Reads : Codec → Shape → ℕ → Bool → Reading Tree
   Reads rule (leaf kind tag bounds) depth closing = ReadsLeaf rule kind tag bounds depth
@@ -154,7 +157,7 @@ unfoldable mutual
   parts_of rule (part presence s ps) depth closing =
       record { presence = presence; own = own s; IsFirst = IsFirst s; reads = Reads rule s depth closing } ∷ parts_of rule ps depth closing
 
--- Whether end-of-contents octets may stand behind a value at the top.
+-- Whether end-of-contents octets may follow a value that isn't nested in another.
 abbrev pub top : Codec → Bool
 top Ber = true
 top Cer = true

@@ -8,12 +8,12 @@ use Rattle.rasn_types.specs.Grammar.{Family, plain_family, bit_family, text_fami
 abbrev pub AreDisjoint : (Tag → Type 0) → (Tag → Type 0) → Type 0
 AreDisjoint P Q = (n : Tag) → P n → Q n → ⊥
 
--- No two parts begin with one tag.
+-- No two parts begin with the same tag.
 abbrev pub AreDistinguished : Parts → Type 0
 AreDistinguished none = Unit {0}
 AreDistinguished (part presence s ps) = AreDisjoint (IsFirst s) (IsFirstOf ps) × AreDistinguished ps
 
--- The first tags of the parts, up to and with the next one that is always there.
+-- The first tags of the parts, up to and including the next part that is always present.
 abbrev pub IsFirstBehind : Parts → Tag → Type 0
 IsFirstBehind none n = ⊥
 IsFirstBehind (part required s ps) n = IsFirst s n
@@ -21,7 +21,7 @@ IsFirstBehind (part addition s ps) n = IsFirst s n
 IsFirstBehind (part optional s ps) n = IsFirst s n ⊎ IsFirstBehind ps n
 IsFirstBehind (part (default d) s ps) n = IsFirst s n ⊎ IsFirstBehind ps n
 
--- A part that may be left out is told from what follows by its own tag, or nothing follows it.
+-- The own tag of a part that may be left out distinguishes it from what follows. A part without an own tag is the last.
 abbrev pub IsDistinguished : Option Tag → Parts → Type 0
 IsDistinguished (Some tag) ps = IsFirstBehind ps tag → ⊥
 IsDistinguished None ps = ps ≡ none
@@ -32,13 +32,13 @@ MayBeLeftOut addition tag ps = Unit {0}
 MayBeLeftOut optional tag ps = IsDistinguished tag ps
 MayBeLeftOut (default d) tag ps = IsDistinguished tag ps
 
--- no string and no time has a tag that is always written as constructed
+-- No string and no time has a tag that is always written as constructed.
 abbrev pub IsBitFree : Family → Tag → Type 0
 IsBitFree plain_family tag = Unit {0}
 IsBitFree bit_family tag = tag_bit tag ≡ false
 IsBitFree text_family tag = tag_bit tag ≡ false
 
--- not an open type without a tag
+-- The shape isn't an open type without a tag.
 abbrev pub HasTag : Shape → Type 0
 HasTag (any None) = ⊥
 HasTag s = Unit {0}
@@ -64,7 +64,7 @@ unfoldable mutual
   AreLawfulInOrder none = Unit {0}
   AreLawfulInOrder (part presence s ps) = IsAlwaysPresent s × IsLawful s × MayBeLeftOut presence (own s) ps × AreLawfulInOrder ps
 
-  -- by rising tags, in ranges that don't overlap
+  -- The parts are in ascending order of tags, in ranges that don't overlap.
   pub AreLawfulByTag : Parts → Type 0
   AreLawfulByTag none = Unit {0}
   AreLawfulByTag (part presence s ps) = (presence ≢ addition) × HasTag s × IsAlwaysPresent s × IsLawful s

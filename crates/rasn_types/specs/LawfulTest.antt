@@ -1,4 +1,4 @@
--- The test of a lawful shape, which computes. First tags are a list, or None where every tag is one.
+-- A test of lawful shapes that computes. First tags are a list, or `None` if every tag is a first tag.
 use Rattle.std.specs.Prelude.{Bool, true, false, not, ◌&&◌, ◌||◌, nat_eq, nat_lt, List, [], ◌∷◌, ◌++◌, Option, Some, None}
 use Rattle.std.specs.List.{list_all, list_any}
 use Rattle.rasn_types.specs.Tags.{tag_bit, Tag, rank, is_eoc}
@@ -51,7 +51,8 @@ abbrev pub is_first : Firsts → Tag → Bool
 is_first None n = true
 is_first (Some tags) n = list_any (is_same_tag n) tags
 
--- The test holds of each of these and each of those; none that is asked here holds of a tag and itself.
+-- The test holds of each tag of the one list and each of the other. If every tag is a first tag on one side, there must
+-- be none on the other, since no test used here holds of a tag and itself.
 abbrev pub holds_between : (Tag → Tag → Bool) → Firsts → Firsts → Bool
 holds_between test (Some a) (Some b) = list_all (λ s. list_all (test s) b) a
 holds_between test (Some []) None = true

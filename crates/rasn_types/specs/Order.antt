@@ -1,12 +1,12 @@
--- Lists in pairs and in order (X.690 9.3, 10.3, 11.6).
+-- Relations of lists element by element, and order (X.690 9.3, 10.3, 11.6).
 use Rattle.std.specs.Prelude.{◌≡◌, ℕ, ◌<◌, ◌⊎◌, List, [], ◌∷◌}
 
--- The lists pair off by R.
+-- The lists have the same length, and R relates each two elements at the same position.
 abbrev pub Each : {X Y : Type 0} → (X → Y → Type 0) → List X → List Y → Type 0
 Each R [] ys = ys ≡ []
 Each {Y = Y} R (x ∷ xs) ys = (y : Y) × (more : List Y) × (ys ≡ y ∷ more) × R x y × Each R xs more
 
--- Octet by octet, a proper beginning being less (11.6).
+-- The lexicographic order of octets, in which a proper prefix is less (11.6).
 abbrev pub IsLess : List ℕ → List ℕ → Type 0
 IsLess a [] = ⊥
 IsLess [] (c ∷ d) = Unit {0}

@@ -1,4 +1,4 @@
--- An ENUMERATED of one's own (X.680 20): what its trait asks for, each law from a test that computes.
+-- Your own ENUMERATED type (X.680 20): the laws that its trait requires, each from a test that computes.
 use Rattle.std.proofs.Common.{◌≡◌, ◌≢◌, zero, suc, inl, inr, arith, ℤ, List, [], ◌∷◌, Bool, true, false, ◌&&◌, ◌||◌, cond, refl, sym, ap, ◌∙◌, subst, true≢false}
 use Rattle.std.specs.Prelude.{Contains}
 use Rattle.std.specs.List.{list_all, list_any}
@@ -11,13 +11,13 @@ use denote.Enum.Bare.{Bare, sameb}
 use Rattle.rasn_types.specs.Shapes.{number}
 use Rattle.rasn_types.specs.Equality.{EqDecidesSame, enumerated_decided}
 
--- The variants have no fields.
+-- Whether no variant has fields.
 abbrev pub are_bare : List (List Field) → Bool
 are_bare [] = true
 are_bare ([] ∷ Fss) = are_bare Fss
 are_bare ((F ∷ Fs) ∷ Fss) = false
 
--- The numbers of variants without fields, in their order.
+-- The numbers of the variants without fields, in their order.
 abbrev pub numbers_in : (Fss : List (List Field)) → (Choice Fss → ℤ) → List ℤ
 numbers_in [] f = []
 numbers_in ([] ∷ Fss) f = f (inl tt) ∷ numbers_in Fss (λ c. f (inr c))
@@ -26,7 +26,7 @@ numbers_in ((F ∷ Fs) ∷ Fss) f = numbers_in Fss (λ c. f (inr c))
 abbrev pub is_among : List ℤ → ℤ → Bool
 is_among known z = list_any (λ y. int_eq y z) known
 
--- ---- what the tests tell of choices
+-- ---- what the tests say of choices
 
 bare : (Fss : List (List Field)) → are_bare Fss ≡ true → Bare Fss
 bare [] e = tt
@@ -68,15 +68,15 @@ one_in ((F ∷ Fs) ∷ Fss) f b e c d s = absurd (true≢false (sym b))
 -- ---- an enum whose variants are the names of an ENUMERATED
 
 module _ (N : Record) (numbered : N.D → ℤ) where
-  -- the numbers of the values, in the order of the variants
+  -- The numbers of the values, in the order of the variants.
   abbrev pub numbers_of : List ℤ
   numbers_of = numbers_in N.parts (λ c. numbered (N.make c))
 
-  -- The number of each value is of the list.
+  -- Whether the list has the number of each value.
   abbrev pub names_listed : List ℤ → Bool
   names_listed known = are_bare N.parts && list_all (is_among known) numbers_of
 
-  -- No two values have one number.
+  -- Whether no two values have the same number.
   abbrev pub names_distinct : Bool
   names_distinct = are_bare N.parts && once numbers_of
 
@@ -92,6 +92,6 @@ module _ (N : Record) (numbered : N.D → ℤ) where
         ∙ (ap N.make (one_in N.parts (λ c. numbered (N.make c)) (first_so (are_bare N.parts) _ e) (second_so (are_bare N.parts) _ e) (N.as_values v) (N.as_values w) (ap numbered (N.eta v) ∙ (s ∙ sym (ap numbered (N.eta w)))))
         ∙ N.eta w)
 
-    -- `==` that is derived
+    -- The law of a derived `==`.
     pub all_decided : EqDecidesSame (sameb (declared N)) (λ v. number (numbered v))
     all_decided = enumerated_decided (declared N) (bare N.parts (first_so (are_bare N.parts) _ e)) numbered all_distinct

@@ -1,4 +1,4 @@
--- Alternatives as types: the number and the tree of the one that is chosen.
+-- Alternatives as types: the number and the tree of the chosen alternative.
 use Rattle.std.specs.Prelude.{ℕ, suc}
 use Rattle.rasn_types.specs.Shapes.{Tree}
 use Rattle.rasn_types.specs.declared.types.parts.OneOf.{OneOf}

@@ -1,4 +1,4 @@
--- How readings join. A reading relates an input to what stands at its front, and to the rest.
+-- How readings are combined. A reading relates an input to the value at its front, and to the rest.
 use Rattle.std.specs.Prelude.{◌≡◌, ℕ, suc, ◌⊎◌, ◌≢◌, List, [], ◌∷◌, ◌++◌, Bool, true, false, Option, Some, None}
 use Rattle.rasn_types.specs.Tags.{Form, form, IsStrict, Codec, Tag, IsTagBelow}
 use Rattle.rasn_types.specs.Framing.{Frame, definite, indefinite, Begins, NextTag, Ended}
@@ -8,12 +8,13 @@ use Rattle.rasn_types.specs.Order.{Each, AreAscending}
 abbrev pub Reading : Type 0 → Type 1
 Reading X = List ℕ → X → List ℕ → Type 0
 
--- What stands in one value's contents: all of them, or up to the end-of-contents octets. inner takes closing.
+-- The contents of one value: all of the definite form, or those up to the end-of-contents octets. The argument of
+-- `inner` is `closing`.
 pub data ReadsContents {X : Type 0} (rule : Codec) (tag : Tag) (bit : Bool) (inner : Bool → Reading X) (input : List ℕ) (x : X) (rest : List ℕ) : Type 0 where
   definite_form : (contents : List ℕ) → Frame (form rule) input tag bit rest (definite contents) → inner false contents x [] → ReadsContents rule tag bit inner input x rest
   indefinite_form : (body : List ℕ) → Frame (form rule) input tag bit body indefinite → inner true body x (0 ∷ 0 ∷ rest) → ReadsContents rule tag bit inner input x rest
 
--- Values one behind the other, up to the end of the contents.
+-- Values, one after another, up to the end of the contents.
 abbrev pub ReadsMany : {X : Type 0} → Reading X → Bool → List ℕ → List X → List ℕ → Type 0
 ReadsMany reads closing input [] rest = Ended closing input × (rest ≡ input)
 ReadsMany reads closing input (x ∷ xs) rest = (Ended closing input → ⊥) × (middle : List ℕ) × reads input x middle × ReadsMany reads closing middle xs rest
@@ -24,12 +25,12 @@ ReadsFrom reads input [] rest bs = (bs ≡ []) × (rest ≡ input)
 ReadsFrom reads input (x ∷ xs) rest bs = (b : List ℕ) × (more : List (List ℕ)) × (middle : List ℕ) × (bs ≡ b ∷ more) × (input ≡ b ++ middle)
     × reads input x middle × ReadsFrom reads middle xs rest more
 
--- A value that may be left out is left out: the contents end, or another tag comes.
+-- A value that may be left out is left out: the contents end, or another tag follows.
 abbrev pub IsLeftOut : Form → Option Tag → Bool → List ℕ → Type 0
 IsLeftOut spelling (Some tag) closing input = Ended closing input ⊎ ((next : Tag) × NextTag spelling input next × (next ≢ tag))
 IsLeftOut spelling None closing input = Ended closing input
 
--- It is there: the contents go on, with its tag where it has one.
+-- A value that may be left out is present: the contents don't end, and its tag follows if it has one.
 abbrev pub IsPresent : Form → Option Tag → Bool → List ℕ → Type 0
 IsPresent spelling (Some tag) closing input = (Ended closing input → ⊥) × NextTag spelling input tag
 IsPresent spelling None closing input = Ended closing input → ⊥
@@ -46,7 +47,7 @@ pub record Part : Type 1 where
   pub IsFirst : Tag → Type 0
   pub reads : Reading Tree
 
--- A part that is there isn't its default (11.5).
+-- A part that is present isn't its default (11.5).
 abbrev pub IsNoDefault : Presence → Tree → Type 0
 IsNoDefault (default d) t = Same t d → ⊥
 IsNoDefault presence t = Unit {0}
@@ -64,7 +65,7 @@ ReadsInOrder rule [] closing input ts rest = (ts ≡ []) × (rest ≡ input)
 ReadsInOrder rule (p ∷ ps) closing input ts rest = (t : Tree) × (us : List Tree) × (middle : List ℕ) × (ts ≡ t ∷ us)
     × ReadsPart rule p.presence p.own p.reads closing input t middle × ReadsInOrder rule ps closing middle us rest
 
--- what a part that doesn't come has in its place
+-- The tree of a part that is missing.
 abbrev pub IsMissing : Presence → Tree → Type 0
 IsMissing required t = ⊥
 IsMissing optional t = t ≡ absent
@@ -75,7 +76,7 @@ abbrev pub presences_in : List Part → List Presence
 presences_in [] = []
 presences_in (p ∷ ps) = p.presence ∷ presences_in ps
 
--- These are the trees of parts all of which are absent.
+-- The trees of parts that are all missing.
 abbrev pub AllMissing : List Presence → List Tree → Type 0
 AllMissing [] ts = ts ≡ []
 AllMissing (p ∷ ps) ts = (t : Tree) × (us : List Tree) × (ts ≡ t ∷ us) × IsMissing p t × AllMissing ps us
@@ -84,7 +85,7 @@ abbrev pub HasRequired : List Part → Type 0
 HasRequired [] = ⊥
 HasRequired (p ∷ ps) = (p.presence ≡ required) ⊎ HasRequired ps
 
--- The contents are empty and in the definite form, and none of the parts has to come: all are left out.
+-- All parts are left out: the contents are empty and in the definite form, and no part is required.
 abbrev pub AreAllLeftOut : List Part → Bool → List ℕ → Type 0
 AreAllLeftOut ps closing input = (HasRequired ps → ⊥) × (closing ≡ false) × (input ≡ [])
 
@@ -93,15 +94,15 @@ abbrev pub ReadsSeq : Codec → List Part → Bool → Reading Tree
 ReadsSeq rule ps closing input t rest = (ts : List Tree) × (t ≡ items ts)
     × ((AreAllLeftOut ps closing input × AllMissing (presences_in ps) ts × (rest ≡ input)) ⊎ ((AreAllLeftOut ps closing input → ⊥) × ReadsInOrder rule ps closing input ts rest))
 
--- The alternative whose first tags hold the next one; the first has the number k. A CHOICE's are all required; where they are
--- the parts of a SET, one that has a default isn't its default.
+-- The alternative that has the next tag among its first tags. The first alternative has the number k. The alternatives
+-- of a CHOICE are all required; of the parts of a SET, one with a default isn't its default under DER.
 abbrev pub ReadsChoice : Codec → ℕ → List Part → Reading Tree
 ReadsChoice rule k [] input t rest = ⊥
 ReadsChoice rule k (p ∷ ps) input t rest =
     ((u : Tree) × (t ≡ chosen k u) × (next : Tag) × NextTag (form rule) input next × p.IsFirst next × p.reads input u rest × (IsStrict rule → IsNoDefault p.presence u))
     ⊎ ReadsChoice rule (suc k) ps input t rest
 
--- The reading of part k is among these, and no other of it.
+-- `NoneOf`: none of the readings is of part k. `OneOf`: exactly one is.
 abbrev pub NoneOf : ℕ → List Tree → Type 0
 NoneOf k [] = Unit {0}
 NoneOf k (r ∷ rs) = ((u : Tree) → r ≢ chosen k u) × NoneOf k rs
@@ -113,13 +114,14 @@ pub record OneOf (k : ℕ) (t : Tree) (readings : List Tree) : Type 0 where
   pub none_before : NoneOf k before
   pub none_after : NoneOf k after
 
--- The readings, in any order, are these by part: none twice, and each required one there. The first part has the number k.
+-- The readings, in any order, are these trees in the order of the parts: no part is read twice, and each required one
+-- is read. The first part has the number k.
 abbrev pub ByPart : ℕ → List Presence → List Tree → List Tree → Type 0
 ByPart k [] readings ts = ts ≡ []
 ByPart k (p ∷ ps) readings ts = (t : Tree) × (us : List Tree) × (ts ≡ t ∷ us)
     × (OneOf k t readings ⊎ (NoneOf k readings × IsMissing p t)) × ByPart (suc k) ps readings us
 
--- The tags that these begin with don't fall (9.3, 10.3).
+-- The tags that the lists begin with are in ascending order (9.3, 10.3).
 abbrev pub AreInTagOrder : List (List ℕ) → Type 0
 AreInTagOrder bs = (tags : List Tag) × Each Begins bs tags × AreAscending IsTagBelow tags
 

@@ -4,7 +4,7 @@ use Rattle.rasn_types.specs.declared.types.codec.Codec.TheVariants.{Ber, Cer, De
 pub use Rattle.rasn_types.specs.declared.ber.rules.EncodingRules.{EncodingRules}
 use Rattle.rasn_types.specs.declared.ber.rules.EncodingRules.TheVariants.{Ber as basic, Cer as canonical, Der as distinguished}
 
--- the rules' name, in which the grammar speaks of what they allow
+-- The name of the rules, by which the grammar says what they allow.
 abbrev pub codec_of : EncodingRules → Codec
 codec_of basic = Ber
 codec_of canonical = Cer

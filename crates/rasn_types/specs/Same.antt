@@ -1,4 +1,4 @@
--- Same is an equivalence, and elements that are alike stay so in another order.
+-- `Same` is an equivalence, and lists that are related element by element stay so in another order.
 use Rattle.std.proofs.Common.{◌≡◌, ℕ, suc, ◌<◌, List, [], ◌∷◌, length, map, swap, set, get_or, refl, sym, ap, ◌∙◌, subst, IsPermutation}
 use Rattle.std.proofs.lemmas.List.Sorted.{IsPermutation-refl, IsPermutation-sym, IsPermutation-trans, IsPermutation-keeps, IsPermutation-swap}
 use Rattle.std.proofs.lemmas.List.{map-set}
@@ -40,7 +40,7 @@ unpaired : {X Y : Type 0} (R : X → Y → Type 0) (ps : List (Pair X Y R)) → 
 unpaired R [] = refl
 unpaired R (p ∷ ps) = (p.other, map (λ p. p.other) ps, refl, p.alike, unpaired R ps)
 
--- In another order of the one, the other has an order too.
+-- If one list is reordered, the other can be reordered accordingly.
 pub each_moved : {X Y : Type 0} (R : X → Y → Type 0) (xs : List X) (ys : List Y) (zs : List X) → Each R xs ys → IsPermutation xs zs
     → (ws : List Y) × Each R zs ws × IsPermutation ys ws
 each_moved {X} {Y} R xs ys zs h p = IsPermutation-keeps xs (λ l. (ws : List Y) × Each R l ws × IsPermutation ys ws) (ys, h, IsPermutation-refl ys) step zs p
@@ -58,7 +58,7 @@ each_moved {X} {Y} R xs ys zs h p = IsPermutation-keeps xs (λ l. (ws : List Y) 
           IsPermutation-trans ys ws (swap ws i j) q (IsPermutation-swap ws (swap ws i j) i j (subst (λ z. i < z) (sym n) hi) (subst (λ z. j < z) (sym n) hj) refl),
         )
 
--- What is the same as a list of trees is one.
+-- A tree that is the same as a list of trees is itself such a list.
 pub same_items : (ts : Tree) (vs : List Tree) → Same ts (items vs) → (us : List Tree) × (ts ≡ items us) × Each Same us vs
 same_items (number z) [] h = cc
 same_items (number z) (v ∷ vs) h = cc

@@ -1,4 +1,4 @@
--- `==` of SET OF by counting decides whether their set elements are the same.
+-- `==` of SET OF, which counts elements, decides whether the set elements are the same.
 use Rattle.std.proofs.Common.{◌≡◌, ℕ, zero, suc, ◌+◌, ◌<◌, List, [], ◌∷◌, Bool, true, false, ◌&&◌, cond, map, refl, sym, ap, ◌∙◌, subst, arith, true≢false, IsPermutation, nat_eq}
 use Rattle.std.specs.List.{count_by, list_all}
 use Rattle.std.specs.Cmp.{IsEquivalence, equiv, first_so, second_so, unsigned_Decides}
@@ -11,7 +11,7 @@ use Rattle.rasn_types.specs.Bytes.{Same, Each}
 use Rattle.rasn_types.specs.Trees.{list_tree}
 use Rattle.rasn_types.specs.Equality.{DecidesSame, EqDecidesSame, list_decided}
 
--- Each element of either is as often in the one as in the other.
+-- Each element of either list occurs equally often in both.
 abbrev pub set_of_eq : {T : Type 0} → (T → T → Bool) → List T → List T → Bool
 set_of_eq eq xs ys = list_all (λ z. nat_eq (count_by (eq z) xs) (count_by (eq z) ys)) xs && list_all (λ z. nat_eq (count_by (eq z) xs) (count_by (eq z) ys)) ys
 
@@ -32,7 +32,7 @@ module _ {T : Type 0} {eq : T → T → Bool} (o : IsEquivalence eq) where
   counts_one x y e [] = refl
   counts_one x y e (z ∷ l) = one_more x z l ∙ (ap (λ b. cond b 1 0 + count_by (eq x) l) (o.congr x y z e) ∙ (ap (λ n. cond (eq y z) 1 0 + n) (counts_one x y e l) ∙ sym (one_more y z l)))
 
-  -- equal lists count alike
+  -- Equal lists have equal counts.
   counts_alike : (xs ys : List T) → pointwise eq xs ys ≡ true → AsOften xs ys
   counts_alike [] [] e z = refl
   counts_alike [] (y ∷ ys) e z = absurd (true≢false (sym e))
@@ -41,7 +41,7 @@ module _ {T : Type 0} {eq : T → T → Bool} (o : IsEquivalence eq) where
       one_more z x xs ∙ (ap (λ b. cond b 1 0 + count_by (eq z) xs) (swapped x y z (first_so (eq x y) (pointwise eq xs ys) e))
       ∙ (ap (λ n. cond (eq z y) 1 0 + n) (counts_alike xs ys (second_so (eq x y) (pointwise eq xs ys) e) z) ∙ sym (one_more z y ys)))
 
-  -- An element that is counted is taken out.
+  -- A counted element is removed from the list.
   record Taken (z : T) (l : List T) : Type 0 where
     y : T
     rest : List T
@@ -94,7 +94,7 @@ module _ {T : Type 0} {eq : T → T → Bool} (o : IsEquivalence eq) where
           let r = f t.rest fewer in
           (t.y ∷ r.0, both_true t.equal r.1, IsPermutation-trans (t.y ∷ r.0) (t.y ∷ t.rest) ys (IsPermutation-cons t.y r.0 t.rest r.2) t.order)
 
-  -- the flag says so
+  -- The flag of lists with equal counts is true.
   all_true : (p : T → Bool) → ((z : T) → p z ≡ true) → (l : List T) → list_all p l ≡ true
   all_true p h [] = refl
   all_true p h (x ∷ l) = both_true (h x) (all_true p h l)
@@ -105,7 +105,7 @@ module _ {T : Type 0} {eq : T → T → Bool} (o : IsEquivalence eq) where
       let q : (z : T) → p z ≡ true = λ z. (unsigned_Decides (count_by (eq z) xs) (count_by (eq z) ys)).1 (h z) in
       both_true (all_true p q xs) (all_true p q ys)
 
-  -- What is counted in a list whose elements all pass equals one that passes.
+  -- An element that is counted in a list equals one for which `p` is true, if `p` is true for all of the list.
   found : (p : T → Bool) (z : T) (l : List T) → list_all p l ≡ true → 0 < count_by (eq z) l → (y : T) × (eq z y ≡ true) × (p y ≡ true)
   found p z [] a h = absurd (omega (arith, h))
   found p z (x ∷ l) a h = at (eq z x) refl (subst (λ n. 0 < n) (one_more z x l) h) (λ k. found p z l (second_so (p x) (list_all p l) a) k)

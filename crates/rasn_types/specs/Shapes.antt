@@ -24,7 +24,7 @@ abbrev pub items : List Tree → Tree
 items [] = done
 items (t ∷ ts) = joined t (items ts)
 
--- Equality of trees, but that the order of set elements doesn't count.
+-- Equality of trees, except that the order of set elements doesn't count.
 abbrev pub Same : Tree → Tree → Type 0
 Same (number z) u = u ≡ number z
 Same (bits bs) u = u ≡ bits bs
@@ -59,22 +59,22 @@ IsWithin le Free x = Unit {0}
 IsWithin le (Single y) x = x ≡ y
 IsWithin le (Range start end) x = IfSome start (λ l. le l x) × IfSome end (λ h. le x h)
 
--- A bound that isn't extensible holds.
+-- The bound holds, or is extensible.
 abbrev pub Admits : {X : Type 0} → (X → X → Type 0) → Option (Bound X) → X → Type 0
 Admits le None x = Unit {0}
 Admits le (Some bound) x = (bound.extensible ≡ true) ⊎ IsWithin le bound.constraint x
 
--- What a bound says, also where it is extensible.
+-- The range of a bound, even if the bound is extensible.
 abbrev pub constraint_of : {X : Type 0} → Option (Bound X) → Bounded X
 constraint_of None = Free
 constraint_of (Some bound) = bound.constraint
 
--- A default part has its default's tree; an addition is tagged explicitly, and is always read.
+-- `default` has the tree of the default. An addition has an explicit tag; it is read unless the contents are empty.
 pub data Presence : Type 0 where
   required optional addition : Presence
   default : Tree → Presence
 
--- `any None` is an open type without a tag; `option` carries the tag that is looked for.
+-- `any None` is an open type without a tag. The tag of `option` is the one that is looked for.
 mutual
   pub data Shape : Type 0 where
     leaf : Kind → Tag → Constraints → Shape
@@ -87,7 +87,7 @@ mutual
     list : Tag → Shape → Option (Bound ℕ) → Shape
     set_of : Tag → Shape → Option (Bound ℕ) → Shape
 
-  -- the parts of a SEQUENCE or a SET, or the alternatives of a CHOICE, which are all required
+  -- The parts of a SEQUENCE or a SET, or the alternatives of a CHOICE, which are all required.
   pub data Parts : Type 0 where
     none : Parts
     part : Presence → Shape → Parts → Parts
@@ -96,7 +96,7 @@ abbrev pub presences : Parts → List Presence
 presences none = []
 presences (part presence s parts) = presence ∷ presences parts
 
--- The tag that all values of the shape begin with, where there is one.
+-- The tag that all values of the shape begin with, if there is one.
 abbrev pub own : Shape → Option Tag
 own (leaf kind tag bounds) = Some tag
 own (any tag) = tag
@@ -129,12 +129,12 @@ abbrev mutual
   IsFirstOf none n = ⊥
   IsFirstOf (part presence s parts) n = IsFirst s n ⊎ IsFirstOf parts n
 
--- The tag that is looked for: none where it is universal 0.
+-- The tag that is looked for: universal 0 means none.
 abbrev pub looked_for : Tag → Option Tag
 looked_for tag = if is_eoc tag then None else Some tag
 
--- The shape under another outermost tag and other constraints: an implicit tag replaces the outermost one (X.680 31.2.7).
--- A CHOICE has none to replace, and universal 0 takes an open type's away.
+-- The shape under another outermost tag and other constraints: an implicit tag replaces the outermost one
+-- (X.680 31.2.7). A CHOICE has no tag to replace, and universal 0 removes the tag of an open type.
 abbrev pub tagged_as : Tag → Constraints → Shape → Shape
 tagged_as t c (leaf kind tag bounds) = leaf kind t c
 tagged_as t c (any tag) = any (looked_for t)
@@ -146,7 +146,7 @@ tagged_as t c (set tag parts) = set t parts
 tagged_as t c (list tag s size) = list t s c.size
 tagged_as t c (set_of tag s size) = set_of t s c.size
 
--- Every value of a solid shape is there.
+-- No value of the shape is absent.
 abbrev mutual
   pub IsAlwaysPresent : Shape → Type 0
   IsAlwaysPresent (leaf kind tag bounds) = Unit {0}

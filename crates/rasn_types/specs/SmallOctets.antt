@@ -1,4 +1,4 @@
--- The octets of a number, in the value itself or in memory of their own.
+-- The octets of a number, inline or on the heap.
 use Rattle.std.specs.Prelude.{ℕ, List, take}
 use Rattle.rasn_types.specs.declared.types.integer.small_octets.FewOctets.{FewOctets}
 use Rattle.rasn_types.specs.declared.types.integer.small_octets.Storage.{Storage}

@@ -1,10 +1,10 @@
--- A tag and constraints that are handed in twice.
+-- Retagging a shape twice.
 use Rattle.std.proofs.Common.{◌≡◌, refl, ap}
 use Rattle.rasn_types.specs.Shapes.{Shape, leaf, any, prefix, choice, option, seq, set, list, set_of, tagged_as, looked_for}
 use Rattle.rasn_types.specs.declared.types.tag.Tag.{Tag}
 use Rattle.rasn_types.specs.declared.types.constraints.Constraints.{Constraints}
 
--- Those that are handed in last count.
+-- Only the tag and the constraints that are passed in last have an effect.
 pub tagged_again : (t : Tag) (c : Constraints) (u : Tag) (d : Constraints) (s : Shape) → tagged_as t c (tagged_as u d s) ≡ tagged_as t c s
 tagged_again t c u d (leaf kind tag bounds) = refl
 tagged_again t c u d (any tag) = refl

@@ -6,7 +6,7 @@ pub use Rattle.rasn_types.specs.declared.types.tag.Class.{Class}
 pub use Rattle.rasn_types.specs.declared.types.tag.Class.TheVariants.{Universal, Application, Context, Private}
 pub use Rattle.rasn_types.specs.declared.types.tag.Tag.{Tag}
 
--- How headers are spelled: as BER and CER do, as DER does, or as DER does but in any number of octets.
+-- How headers are spelled: as in BER and CER, as in DER, or as in DER but in any number of octets.
 pub data Form : Type 0 where
   basic_form der_form loose_form : Form
 
@@ -15,19 +15,19 @@ form Ber = basic_form
 form Cer = basic_form
 form Der = der_form
 
--- Open octets stay lenient under DER.
+-- Open types are read leniently under DER.
 abbrev pub loose : Codec → Form
 loose Ber = basic_form
 loose Cer = basic_form
 loose Der = loose_form
 
--- The form whose spellings are the shortest ones.
+-- The form in which only the shortest spellings are allowed.
 abbrev pub HasStrictForm : Form → Type 0
 HasStrictForm basic_form = ⊥
 HasStrictForm der_form = Unit {0}
 HasStrictForm loose_form = ⊥
 
--- Whether the rule is the one whose reader reads only what its writer writes.
+-- Whether the rule is strict: nothing is read except what the encoder writes.
 abbrev pub is_der : Codec → Bool
 is_der Ber = false
 is_der Cer = false
@@ -42,19 +42,19 @@ rank Application = 1
 rank Context = 2
 rank Private = 3
 
--- What an identifier tells (X.690 8.1.2): a tag, and whether the encoding is constructed.
+-- What an identifier says (X.690 8.1.2): a tag, and whether the encoding is constructed.
 pub record TagAndBit : Type 0 where
   pub tag : Tag
   pub bit : Bool
 
--- The tag of no value, which closes contents of indefinite length.
+-- The tag of end-of-contents octets, which no value has.
 abbrev pub eoc : Tag
 eoc = record { class = Universal; value = 0 }
 
 abbrev pub in_universal : ℕ → Tag
 in_universal n = record { class = Universal; value = n }
 
--- By class, and then by number (X.680 8.6).
+-- The order of tags, by class and then by number (X.680 8.6).
 abbrev pub IsTagBelow : Tag → Tag → Type 0
 IsTagBelow s t = (rank s.class < rank t.class) ⊎ ((rank s.class ≡ rank t.class) × (s.value < t.value))
 
@@ -68,7 +68,7 @@ bit_in Private n = false
 abbrev pub tag_bit : Tag → Bool
 tag_bit tag = bit_in tag.class tag.value
 
--- Whether the tag is universal 0, in calls the sign that no tag is looked for.
+-- Whether a tag is universal 0, which in a call means that no tag is looked for.
 abbrev pub is_universal : Class → Bool
 is_universal Universal = true
 is_universal Application = false

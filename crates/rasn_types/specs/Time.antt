@@ -1,4 +1,4 @@
--- Which texts stand for which instants and days (X.680 46, 47; X.690 11.7, 11.8), and the text that is written.
+-- The instants and days that texts mean (X.680 46, 47; X.690 11.7, 11.8), and the text that is written.
 use Rattle.std.specs.Prelude.{◌≡◌, ℕ, zero, suc, ◌+◌, ◌-◌, ◌/◌, ◌%◌, ◌^◌, ◌<◌, ◌≤◌, ◌⊎◌, ◌≢◌, Bool, true, false, ◌==◌, ◌&&◌, ℤ, pos, negsuc, if◌then◌else◌, nat_lt, List, [], ◌∷◌, ◌++◌, length, map, Option, Some, None, unsigned_abs}
 use Rattle.std.specs.Int.{int_rem_euclid}
 use Rattle.rasn_types.specs.declared.ber.time.text.Clock.{Clock}
@@ -12,7 +12,7 @@ use Rattle.rasn_types.specs.TimeSpelling.{two, four, Spelling, IsSpelling, tail_
 abbrev pub fields_of : Spelling → Fields
 fields_of s = record { month = s.month; day = s.day; hour = s.hour; clock = s.clock; fraction = fraction_of s.fraction; zone = s.zone }
 
--- what the clock shows in the text's zone
+-- What the clock shows in the zone of the text.
 abbrev pub shown : ℤ → Fields → Moment
 shown y f = record {
   day = record { year = y; month = f.month; day = f.day };
@@ -55,14 +55,14 @@ is_utc Utc = true
 is_utc (East h m) = false
 is_utc (West h m) = false
 
--- UTCTime has minutes, no fraction and a zone
+-- The form of a UTCTime: with minutes, without a fraction, and with a zone.
 abbrev pub short_form : Fields → Bool
 short_form f = has_minutes f.clock && is_whole f.fraction && is_named f.zone
 
 abbrev pub long_form : Fields → Bool
 long_form f = true
 
--- 11.7, 11.8
+-- The canonical form (11.7, 11.8).
 abbrev pub canonical_form : Fields → Bool
 canonical_form f = has_seconds f.clock && has_no_comma f.fraction && is_utc f.zone
 
@@ -75,7 +75,7 @@ century y = if nat_lt y 70 then 2000 + y else 1900 + y
 abbrev pub as_given : ℕ → ℕ
 as_given y = y
 
--- year_text writes the years below limit
+-- A text, and the instant that it means. `year_text` writes the years below `limit`.
 pub record TimeText (year_text : ℕ → List ℕ) (limit : ℕ) (year_of : ℕ → ℕ) (form : Fields → Bool) (text : List ℕ) (t : Stamp) : Type 0 where
   pub year : ℕ
   pub rest : Spelling
@@ -98,7 +98,7 @@ GeneralGeneralized = TimeText four 10000 as_given long_form
 abbrev pub CanonicalGeneralized : List ℕ → Stamp → Type 0
 CanonicalGeneralized = TimeText four 10000 as_given (both long_form canonical_form)
 
--- No zero ends the fraction, and it has at most nine digits.
+-- The last digit of the fraction isn't 0, and it has at most nine digits.
 abbrev pub EndsInNoZero : List ℕ → Type 0
 EndsInNoZero [] = Unit {0}
 EndsInNoZero (d ∷ []) = d ≢ 0
@@ -108,7 +108,7 @@ abbrev pub IsShortFraction : Option (ℕ × List ℕ) → Type 0
 IsShortFraction None = Unit {0}
 IsShortFraction (Some f) = (length f.1 ≤ 9) × EndsInNoZero f.1
 
--- The canonical text in its fewest octets.
+-- The canonical text in the fewest octets.
 pub record StrictGeneralized (text : List ℕ) (t : Stamp) : Type 0 where
   pub is : CanonicalGeneralized text t
   pub short : IsShortFraction is.rest.fraction
@@ -120,7 +120,7 @@ pub record DateText (text : List ℕ) (d : Day) : Type 0 where
   pub same : d.year ≡ pos year
   pub exists : IsDay d
 
--- The digits of a number below 10 ^ k, without zeros at the end.
+-- The digits of a number below 10 ^ k, without trailing zeros.
 unfoldable pub digits_of : ℕ → ℕ → List ℕ
 digits_of zero n = []
 digits_of (suc k) n = if n == 0 then [] else (n / 10 ^ k) ∷ digits_of k (n % 10 ^ k)
@@ -128,7 +128,7 @@ digits_of (suc k) n = if n == 0 then [] else (n / 10 ^ k) ∷ digits_of k (n % 1
 abbrev pub written_fraction : ℕ → List ℕ
 written_fraction n = if n == 0 then [] else 46 ∷ map (λ d. 48 + d) (digits_of 9 n)
 
--- second 60 for a leap second
+-- The second that is written, which is 60 in a leap second.
 abbrev pub written_second : Moment → ℕ
 written_second m = if nat_lt m.nanosecond 1000000000 then m.second else m.second + 1
 
@@ -154,7 +154,7 @@ written_generalized m = written_date m.day ++ (clock_written m ++ (written_fract
 unfoldable pub written_utc : Moment → List ℕ
 written_utc m = two (unsigned_abs (int_rem_euclid m.day.year (pos 100))) ++ (two m.day.month ++ (two m.day.day ++ (clock_written m ++ 90 ∷ [])))
 
--- What is carried: a moment or a day with a written text that is read back
+-- The days and instants that are carried: their written text is read back.
 pub record CarriedDay (d : Day) : Type 0 where
   pub year : ℕ
   pub same : d.year ≡ pos year

@@ -1,4 +1,4 @@
--- What the reader's functions give, each of the octets before it.
+-- What the parsers of times return, each for the octets that it is given.
 use Rattle.std.specs.Prelude.{◌≡◌, ℕ, zero, suc, ◌+◌, ◌-◌, ◌*◌, ◌^◌, Bool, true, false, ◌==◌, ◌&&◌, ◌||◌, if◌then◌else◌, nat_lt, List, [], ◌∷◌, Option, Some, None}
 use Rattle.std.specs.Char.{is_ascii_digit}
 use Rattle.rasn_types.specs.declared.ber.time.text.Clock.{Clock}
@@ -37,7 +37,7 @@ four_at l = do
 unfoldable pub clock_at : List ℕ → Option (Clock × List ℕ)
 clock_at l = if starts_decimal l then (two_at l >>= λ m. if starts_decimal m.1 then (two_at m.1 >>= λ s. Some (Seconds m.0 s.0, s.1)) else Some (Minutes m.0, m.1)) else Some (Hours, l)
 
--- the digits at the beginning, of which k count
+-- The leading digits as a number of k digits. Digits after the first k are skipped.
 unfoldable pub digits_at : ℕ → List ℕ → ℕ × List ℕ
 digits_at k [] = (0, [])
 digits_at zero (c ∷ l) = if is_decimal c then digits_at zero l else (0, c ∷ l)
@@ -70,7 +70,7 @@ fields_at l = do
   zone ← zone_at fraction.1
   Some (record { month = month.0; day = day.0; hour = hour.0; clock = clock.0; fraction = fraction.0; zone = zone })
 
--- A year and what is behind it.
+-- A year, and everything after it.
 abbrev pub parts_at : (List ℕ → Option (ℕ × List ℕ)) → List ℕ → Option (ℕ × Fields)
 parts_at year_at l = year_at l >>= λ y. fields_at y.1 >>= λ f. Some (y.0, f)
 
@@ -80,7 +80,7 @@ long_at l = parts_at four_at l
 unfoldable pub short_at : List ℕ → Option (ℕ × Fields)
 short_at l = parts_at two_at l
 
--- What a function answered, seen by view, is what reading returns.
+-- The result of a function, seen by `view`, is what the parser returns.
 abbrev pub ParsesOption : {X Y : Type 0} → (X → Y) → Option X → Option Y → Type 0
 ParsesOption view None r = r ≡ None
 ParsesOption view (Some x) r = r ≡ Some (view x)

@@ -7,14 +7,14 @@ use Rattle.rasn_types.specs.declared.ber.time.text.Zone.{Zone}
 use Rattle.rasn_types.specs.declared.ber.time.text.Zone.TheVariants.{Unnamed, Utc, East, West}
 use Rattle.rasn_types.specs.Calendar.{Moment, later, earlier}
 
--- two digits, for a number below 100
+-- A number below 100 as two digits.
 abbrev pub two : ℕ → List ℕ
 two n = (48 + n / 10) ∷ (48 + n % 10) ∷ []
 
 abbrev pub four : ℕ → List ℕ
 four n = two (n / 100) ++ two (n % 100)
 
--- what is given behind the hour
+-- The text of the minutes and seconds, after the hour.
 abbrev pub clock_text : Clock → List ℕ
 clock_text Hours = []
 clock_text (Minutes m) = two m
@@ -25,7 +25,7 @@ IsClock Hours = Unit {0}
 IsClock (Minutes m) = m < 100
 IsClock (Seconds m s) = (m < 100) × (s < 100)
 
--- a separator and the digits behind it
+-- The text of a fraction: a separator, and digits after it.
 abbrev pub fraction_text : Option (ℕ × List ℕ) → List ℕ
 fraction_text None = []
 fraction_text (Some f) = f.0 ∷ map (λ d. 48 + d) f.1
@@ -34,7 +34,7 @@ abbrev pub IsFraction : Option (ℕ × List ℕ) → Type 0
 IsFraction None = Unit {0}
 IsFraction (Some f) = ((f.0 ≡ 46) ⊎ (f.0 ≡ 44)) × (f.1 ≢ []) × AllByRecursion (λ d. d < 10) f.1
 
--- The first k digits, as a number of k digits. The others don't count.
+-- The first k digits, as a number of k digits. The other digits are skipped.
 unfoldable pub parts : ℕ → List ℕ → ℕ
 parts k [] = 0
 parts zero (d ∷ ds) = 0
@@ -60,21 +60,21 @@ IsZone Utc = Unit {0}
 IsZone (East h m) = (m < 100) × (60 * h + m < 1440)
 IsZone (West h m) = (m < 100) × (60 * h + m < 1440)
 
--- in minutes
+-- The offset in minutes.
 abbrev pub offset_of : Zone → ℤ
 offset_of Unnamed = pos 0
 offset_of Utc = pos 0
 offset_of (East h m) = pos (60 * h + m)
 offset_of (West h m) = pos 0 -ℤ pos (60 * h + m)
 
--- what a clock in this zone shows, in UTC
+-- The instant in UTC at which a clock in this zone shows m.
 abbrev pub in_utc : Zone → Moment → Moment
 in_utc Unnamed m = m
 in_utc Utc m = m
 in_utc (East h n) m = earlier (60 * h + n) m
 in_utc (West h n) m = later (60 * h + n) m
 
--- What a text of UTCTime or GeneralizedTime says behind its year.
+-- The parts of the text of a UTCTime or GeneralizedTime after its year.
 pub record Spelling : Type 0 where
   pub month : ℕ
   pub day : ℕ
@@ -94,7 +94,7 @@ pub record IsSpelling (s : Spelling) : Type 0 where
   pub fraction : IsFraction s.fraction
   pub zone : IsZone s.zone
 
--- minute, second and nanosecond; a fraction is one of the last unit given, second 60 a leap second
+-- The minute, second and nanosecond. A fraction is one of the last unit that is given, and second 60 is a leap second.
 abbrev pub minute_of : Clock → ℕ → ℕ
 minute_of Hours f = 3600 * f / 60000000000
 minute_of (Minutes m) f = m

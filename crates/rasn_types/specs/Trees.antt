@@ -20,18 +20,18 @@ pub record IsShortestOf (z : ℤ) (l : List ℕ) : Type 0 where
   pub shortest : IsShortestInteger l
   pub octets : AreOctets l
 
--- The whole numbers that so many bits hold, in two's complement or without a sign.
+-- The whole numbers that fit in this number of bits, signed and unsigned.
 abbrev pub signed_range : ℕ → Interval
 signed_range bits = between (neg_ℤ (pos (2 ^ (bits - 1)))) (pos (2 ^ (bits - 1) - 1))
 
 abbrev pub unsigned_range : ℕ → Interval
 unsigned_range bits = between (pos 0) (pos (2 ^ bits - 1))
 
--- a value that may be absent
+-- The tree of a value that may be absent.
 abbrev pub option_tree : {T : Type 0} → (T → Tree) → Option T → Tree
 option_tree tree None = absent
 option_tree tree (Some v) = tree v
 
--- the values of a list
+-- The tree of a list of values.
 abbrev pub list_tree : {T : Type 0} → (T → Tree) → List T → Tree
 list_tree tree vs = items (map tree vs)

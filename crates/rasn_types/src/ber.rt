@@ -1,4 +1,4 @@
-//! What the encoding rules share: rules, identifiers, gathered bits and times.
+//! Rules, identifiers, collected bits and times, which the decoder and the encoder share.
 
 pub mod collected_bits;
 mod identifier;

@@ -1,4 +1,4 @@
-//! Why a value isn't read or isn't written.
+//! Errors of reading and of writing values.
 
 mod decode;
 mod encode;

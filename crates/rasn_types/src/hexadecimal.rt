@@ -6,7 +6,8 @@ ghost use Rattle.rasn_types.specs.Text.{two_digits};
 use std::fmt;
 use std::marker::Model;
 
-/// Octets that are shown by two hexadecimal digits each, in capitals. To contracts it is the list of the octets.
+/// Octets that are shown as two hexadecimal digits each, in capitals. Contracts see it as the list
+/// of the octets.
 #[derive(Debug, Drop)]
 pub struct Hexadecimal<'a>(pub(crate) &'a [u8]);
 
@@ -19,7 +20,7 @@ impl<'a> Model for Hexadecimal<'a> {
 }
 
 impl<'a> Hexadecimal<'a> {
-    /// These octets, to be shown.
+    /// Returns a value that shows these octets.
     pub fn new(octets: &'a [u8]) -> Hexadecimal<'a>
         ensures { result ≡ octets.entry.now }
     {

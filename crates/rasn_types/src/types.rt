@@ -1,4 +1,4 @@
-//! Values and schema: tags, constraints, and the types that have a value of their own.
+//! Values and schema: tags, constraints, and the types that the codec reads and writes.
 
 mod any;
 mod asn_type;

@@ -8,7 +8,7 @@ use Rattle.rasn_types.specs.Trees.{list_tree}
 use Rattle.rasn_x509.specs.Attribute.{attribute_shape, attribute_tree}
 use Rattle.rasn_x509.specs.declared.attribute.AttributeTypeAndValue.{AttributeTypeAndValue}
 
--- the tag [n]
+-- The tag [n].
 abbrev pub context : ℕ → Tag
 context n = record { class = Context; value = n }
 

@@ -10,7 +10,7 @@ use Rattle.rasn_de.specs.Time.{DecodesTime}
 use Rattle.rasn_x509.specs.declared.time.Time.{Time}
 use Rattle.rasn_x509.specs.declared.time.Time.TheVariants.{Utc, General}
 
--- its name, as refusals have it
+-- The name of the type in errors.
 abbrev pub time_name : List ℕ
 time_name = codes "Time"
 

@@ -1,6 +1,7 @@
--- TBSCertificate ::= SEQUENCE { version [0] EXPLICIT Version DEFAULT v1, serialNumber INTEGER, signature AlgorithmIdentifier, issuer Name, validity Validity,
--- subject Name, subjectPublicKeyInfo SubjectPublicKeyInfo, issuerUniqueID [1] IMPLICIT BIT STRING OPTIONAL, subjectUniqueID [2] IMPLICIT BIT STRING OPTIONAL,
--- extensions [3] EXPLICIT SEQUENCE OF Extension OPTIONAL }
+-- TBSCertificate ::= SEQUENCE { version [0] EXPLICIT Version DEFAULT v1, serialNumber INTEGER,
+-- signature AlgorithmIdentifier, issuer Name, validity Validity, subject Name,
+-- subjectPublicKeyInfo SubjectPublicKeyInfo, issuerUniqueID [1] IMPLICIT BIT STRING OPTIONAL,
+-- subjectUniqueID [2] IMPLICIT BIT STRING OPTIONAL, extensions [3] EXPLICIT SEQUENCE OF Extension OPTIONAL }
 use Rattle.std.specs.Prelude.{[], ◌∷◌, pos, None}
 use Rattle.rasn_types.specs.Tags.{in_universal}
 use Rattle.rasn_types.specs.Shapes.{Shape, Tree, items, number, bits, seq, Parts, part, required, optional, default, leaf, prefix, list, integer, every, bit_string}

@@ -1,4 +1,5 @@
-//! `AlgorithmIdentifier ::= SEQUENCE { algorithm OBJECT IDENTIFIER, parameters ANY DEFINED BY algorithm OPTIONAL }` (RFC 5280, 4.1.1.2).
+//! `AlgorithmIdentifier ::= SEQUENCE { algorithm OBJECT IDENTIFIER,
+//! parameters ANY DEFINED BY algorithm OPTIONAL }` (RFC 5280, 4.1.1.2).
 use rasn::error::{DecodeError, EncodeError};
 use rasn::parts::{End, Optional, Put, PutOptional, Required};
 use rasn::types::{
@@ -6,13 +7,13 @@ use rasn::types::{
 };
 use rasn::{Decode, Decoder, Encode, Encoder};
 
-/// SEQUENCE { algorithm OBJECT IDENTIFIER, parameters ANY OPTIONAL }: the parameters are the one value that is left behind the algorithm,
-/// whatever it is.
+/// SEQUENCE { algorithm OBJECT IDENTIFIER, parameters ANY OPTIONAL }. The parameters are the single
+/// value that remains after the algorithm, of any type.
 #[derive(Debug, PartialEq, Eq, Drop)]
 pub struct AlgorithmIdentifier {
-    /// Which algorithm it is.
+    /// The algorithm.
     pub algorithm: ObjectIdentifier,
-    /// What the algorithm asks for beside its name, as an open type.
+    /// The parameters of the algorithm, as an open type.
     pub parameters: Option<Any>,
 }
 

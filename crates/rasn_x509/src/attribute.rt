@@ -1,4 +1,5 @@
-//! `AttributeTypeAndValue ::= SEQUENCE { type OBJECT IDENTIFIER, value ANY DEFINED BY type }` (RFC 5280, 4.1.2.4).
+//! `AttributeTypeAndValue ::= SEQUENCE { type OBJECT IDENTIFIER, value ANY DEFINED BY type }`
+//! (RFC 5280, 4.1.2.4).
 use rasn::error::{DecodeError, EncodeError};
 use rasn::parts::{End, Put, Required};
 use rasn::types::{
@@ -9,9 +10,9 @@ use rasn::{Decode, Decoder, Encode, Encoder};
 /// SEQUENCE { type OBJECT IDENTIFIER, value ANY DEFINED BY type }
 #[derive(Debug, PartialEq, Eq, Drop)]
 pub struct AttributeTypeAndValue {
-    /// The type of the attribute; `type` is a word of Rust.
+    /// The type of the attribute. It is named `kind` since `type` is a keyword of Rust.
     pub kind: ObjectIdentifier,
-    /// Its value, as an open type.
+    /// The value, as an open type.
     pub value: Any,
 }
 

@@ -1,16 +1,19 @@
-//! `Certificate ::= SEQUENCE { tbsCertificate TBSCertificate, signatureAlgorithm AlgorithmIdentifier, signatureValue BIT STRING }` (RFC 5280, 4.1).
+//! `Certificate ::= SEQUENCE { tbsCertificate TBSCertificate,
+//! signatureAlgorithm AlgorithmIdentifier, signatureValue BIT STRING }` (RFC 5280, 4.1).
 use crate::{AlgorithmIdentifier, TbsCertificate};
 use rasn::error::{DecodeError, EncodeError};
 use rasn::parts::{End, Put, Required};
 use rasn::types::{AsnType, BitString, Constraints, Identifier, LawfulEq, Present, Tag};
 use rasn::{Decode, Decoder, Encode, Encoder};
 
-/// SEQUENCE { tbsCertificate TBSCertificate, signatureAlgorithm AlgorithmIdentifier, signatureValue BIT STRING }
+/// SEQUENCE { tbsCertificate TBSCertificate, signatureAlgorithm AlgorithmIdentifier,
+/// signatureValue BIT STRING }
 #[derive(Debug, PartialEq, Eq, Drop)]
 pub struct Certificate {
-    /// What is signed.
+    /// The signed part.
     pub tbs_certificate: TbsCertificate,
-    /// How it is signed: the same as `signature` in what is signed (RFC 5280 4.1.1.2).
+    /// The algorithm of the signature, which is the same as `signature` in the signed part
+    /// (RFC 5280 4.1.1.2).
     pub signature_algorithm: AlgorithmIdentifier,
     /// The signature of the DER encoding of `tbs_certificate`.
     pub signature_value: BitString,

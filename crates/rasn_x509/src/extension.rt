@@ -1,4 +1,5 @@
-//! `Extension ::= SEQUENCE { extnID OBJECT IDENTIFIER, critical BOOLEAN DEFAULT FALSE, extnValue OCTET STRING }` (RFC 5280, 4.1).
+//! `Extension ::= SEQUENCE { extnID OBJECT IDENTIFIER, critical BOOLEAN DEFAULT FALSE,
+//! extnValue OCTET STRING }` (RFC 5280, 4.1).
 use rasn::error::{DecodeError, EncodeError};
 use rasn::parts::{DefaultValue, Defaulted, End, Put, PutDefault, Required};
 use rasn::types::{
@@ -7,15 +8,15 @@ use rasn::types::{
 use rasn::{Decode, Decoder, Encode, Encoder};
 use std::alloc::{AllocError, Global};
 
-/// SEQUENCE { extnID OBJECT IDENTIFIER, critical BOOLEAN DEFAULT FALSE, extnValue OCTET STRING }: the octets are the DER encoding of what the
-/// identifier names.
+/// SEQUENCE { extnID OBJECT IDENTIFIER, critical BOOLEAN DEFAULT FALSE, extnValue OCTET STRING }.
+/// The octets are the DER encoding of a value of the type that the identifier names.
 #[derive(Debug, PartialEq, Eq, Drop)]
 pub struct Extension {
-    /// Which extension it is.
+    /// The identifier of the extension.
     pub extn_id: ObjectIdentifier,
-    /// Whether a reader that doesn't know the extension has to reject the certificate (RFC 5280 4.2).
+    /// Whether a reader that doesn't know the extension must reject the certificate (RFC 5280 4.2).
     pub critical: bool,
-    /// The DER encoding of its contents.
+    /// The DER encoding of the contents of the extension.
     pub extn_value: OctetString,
 }
 
@@ -52,7 +53,7 @@ impl Present for Extension {
     ghost present = { λ _. parts_not_absent };
 }
 
-/// That an extension isn't critical, which is meant where nothing is written.
+/// The default of `critical`: the extension isn't critical.
 #[derive(Drop)]
 pub struct NotCritical;
 

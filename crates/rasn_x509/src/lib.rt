@@ -1,4 +1,5 @@
-//! Certificates of the Internet (RFC 5280) as types: read and written under DER with no premise but memory.
+//! Certificates of the Internet (RFC 5280) as types that are read and written under DER. A valid
+//! certificate is refused only if an allocation fails.
 #![tactic(auto)]
 
 mod algorithm;
@@ -22,8 +23,9 @@ pub use tbs_certificate::{TbsCertificate, VersionOne};
 pub use time::Time;
 pub use validity::Validity;
 
-/// SET OF AttributeTypeAndValue (RFC 5280, 4.1.2.4, which asks for at least one)
+/// SET OF AttributeTypeAndValue (RFC 5280, 4.1.2.4, which requires at least one).
 pub type RelativeDistinguishedName = SetOf<AttributeTypeAndValue>;
 
-/// SEQUENCE OF RelativeDistinguishedName (RFC 5280, 4.1.2.4: a CHOICE of this alternative alone)
+/// SEQUENCE OF RelativeDistinguishedName (RFC 5280, 4.1.2.4, where it is the only alternative of a
+/// CHOICE).
 pub type Name = Vec<RelativeDistinguishedName>;

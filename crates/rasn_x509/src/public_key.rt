@@ -1,11 +1,13 @@
-//! `SubjectPublicKeyInfo ::= SEQUENCE { algorithm AlgorithmIdentifier, subjectPublicKey BIT STRING }` (RFC 5280, 4.1).
+//! `SubjectPublicKeyInfo ::= SEQUENCE { algorithm AlgorithmIdentifier,
+//! subjectPublicKey BIT STRING }` (RFC 5280, 4.1).
 use crate::AlgorithmIdentifier;
 use rasn::error::{DecodeError, EncodeError};
 use rasn::parts::{End, Put, Required};
 use rasn::types::{AsnType, BitString, Constraints, Identifier, LawfulEq, Present, Tag};
 use rasn::{Decode, Decoder, Encode, Encoder};
 
-/// SEQUENCE { algorithm AlgorithmIdentifier, subjectPublicKey BIT STRING }: the bits are the key as its algorithm has it.
+/// SEQUENCE { algorithm AlgorithmIdentifier, subjectPublicKey BIT STRING }. The format of the bits
+/// depends on the algorithm.
 #[derive(Debug, PartialEq, Eq, Drop)]
 pub struct SubjectPublicKeyInfo {
     /// The algorithm that the key is for.

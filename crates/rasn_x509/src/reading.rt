@@ -1,4 +1,5 @@
-//! Certificates as a whole: what is read and written, with no premise but memory.
+//! Reading and writing whole certificates. A valid certificate is refused only if an allocation
+//! fails.
 ghost use Rattle.std.specs.Prelude.{◌≡◌, true, IfOk, IfErr};
 ghost use Rattle.rasn_types.specs.declared.types.codec.Codec.TheVariants.{Der};
 ghost use Rattle.rasn_types.specs.Bytes.{Bytes};
@@ -12,18 +13,19 @@ use rasn::der;
 use rasn::error::{DecodeError, EncodeError};
 use std::alloc::Global;
 
-/// The shape of a certificate is lawful, and all that DER reads of it is carried. A promise about the type: the function does nothing
-/// when it runs.
+/// Proves that the shape of a certificate is lawful, and that everything that DER reads of it is
+/// carried. The function does nothing when it runs.
 pub fn has_lawful_shape()
     ensures lawful { IsLawful certificate_shape }
     ensures carried { carries_all certificate_shape ≡ true }
 {}
 
-/// The certificate that is all of the input, in DER: exactly where the grammar has one, and then the input is what `write_certificate`
-/// writes of it.
+/// Reads the certificate that is the whole input, in DER. Unless an allocation fails, the call
+/// succeeds exactly if the input is a certificate by the grammar, and then `write_certificate`
+/// writes the same octets.
 ///
 /// # Errors
-/// Those of `der::decode`.
+/// The errors of `der::decode`.
 pub fn read_certificate(alloc: Global, input: &[u8]) -> Result<Certificate, DecodeError>
     ensures exact { AnsweredAlone Der certificate_shape certificate_tree input.now result }
     ensures written { IsCarriedAsWritten certificate_shape certificate_tree input.now result }
@@ -32,10 +34,12 @@ pub fn read_certificate(alloc: Global, input: &[u8]) -> Result<Certificate, Deco
     der::decode(alloc, input)
 }
 
-/// The certificate's DER octets, which are those of the same carried certificates and of no others.
+/// Returns the DER octets of a certificate. Two carried certificates have the same octets exactly
+/// if the certificates are the same.
 ///
 /// # Errors
-/// `OutOfMemory`, and what has no octets: a time that its type can't write, say.
+/// `OutOfMemory`, and errors of certificates without an encoding, such as one with a name whose
+/// attributes are out of order (X.690 11.6).
 pub fn write_certificate(alloc: Global, certificate: &Certificate) -> Result<Vec<u8>, EncodeError>
     ensures ok { IfOk result (λ octets. Bytes Der certificate_shape (certificate_tree certificate.now) octets.items) }
     ensures canonical { IfOk result (λ octets. Identifies certificate_shape (certificate_tree certificate.now) octets.items) }

@@ -1,4 +1,5 @@
-//! `TBSCertificate ::= SEQUENCE { version [0] EXPLICIT Version DEFAULT v1, serialNumber CertificateSerialNumber, signature AlgorithmIdentifier, ..` (RFC 5280, 4.1).
+//! `TBSCertificate ::= SEQUENCE { version [0] EXPLICIT Version DEFAULT v1,
+//! serialNumber CertificateSerialNumber, signature AlgorithmIdentifier, ..` (RFC 5280, 4.1).
 use crate::{AlgorithmIdentifier, Extension, Name, SubjectPublicKeyInfo, Validity};
 use rasn::error::{DecodeError, EncodeError};
 use rasn::parts::{
@@ -12,30 +13,33 @@ use rasn::types::{
 use rasn::{Decode, Decoder, Encode, Encoder};
 use std::alloc::{AllocError, Global};
 
-/// SEQUENCE { version \[0\] EXPLICIT INTEGER { v1(0), v2(1), v3(2) } DEFAULT v1, serialNumber INTEGER, signature AlgorithmIdentifier, issuer Name,
-/// validity Validity, subject Name, subjectPublicKeyInfo SubjectPublicKeyInfo, issuerUniqueID \[1\] IMPLICIT BIT STRING OPTIONAL,
-/// subjectUniqueID \[2\] IMPLICIT BIT STRING OPTIONAL, extensions \[3\] EXPLICIT SEQUENCE OF Extension OPTIONAL }
+/// SEQUENCE { version \[0\] EXPLICIT INTEGER { v1(0), v2(1), v3(2) } DEFAULT v1,
+/// serialNumber INTEGER, signature AlgorithmIdentifier, issuer Name, validity Validity,
+/// subject Name, subjectPublicKeyInfo SubjectPublicKeyInfo,
+/// issuerUniqueID \[1\] IMPLICIT BIT STRING OPTIONAL,
+/// subjectUniqueID \[2\] IMPLICIT BIT STRING OPTIONAL,
+/// extensions \[3\] EXPLICIT SEQUENCE OF Extension OPTIONAL }
 #[derive(Debug, PartialEq, Eq, Drop)]
 pub struct TbsCertificate {
-    /// The version less one: 2 is version 3.
+    /// The version minus 1: 2 is version 3.
     pub version: u8,
-    /// The issuer's number for the certificate.
+    /// The number that the issuer gave the certificate.
     pub serial_number: Integer,
-    /// How the certificate is signed.
+    /// The algorithm by which the certificate is signed.
     pub signature: AlgorithmIdentifier,
-    /// Who signed it.
+    /// The name of the authority that signed the certificate.
     pub issuer: Name,
-    /// When it is valid.
+    /// The period in which the certificate is valid.
     pub validity: Validity,
-    /// Whose key it holds.
+    /// The name of the owner of the key.
     pub subject: Name,
     /// The key.
     pub subject_public_key_info: SubjectPublicKeyInfo,
-    /// Tells issuers of one name apart (RFC 5280 4.1.2.8).
+    /// A number that distinguishes issuers with the same name (RFC 5280 4.1.2.8).
     pub issuer_unique_id: Option<Implicit<ContextTag<1>, BitString>>,
-    /// Tells subjects of one name apart (RFC 5280 4.1.2.8).
+    /// A number that distinguishes subjects with the same name (RFC 5280 4.1.2.8).
     pub subject_unique_id: Option<Implicit<ContextTag<2>, BitString>>,
-    /// The extensions, of version 3 alone (RFC 5280 4.1.2.9).
+    /// The extensions, which only version 3 has (RFC 5280 4.1.2.9).
     pub extensions: Option<Explicit<ContextTag<3>, Vec<Extension>>>,
 }
 
@@ -73,7 +77,7 @@ impl Present for TbsCertificate {
     ghost present = { λ _. parts_not_absent };
 }
 
-/// Version 1, which is meant where none is written.
+/// The default of `version`: version 1.
 #[derive(Drop)]
 pub struct VersionOne;
 

@@ -8,9 +8,9 @@ use rasn::{Decode, Decoder, Encode, Encoder};
 /// SEQUENCE { notBefore Time, notAfter Time }
 #[derive(Debug, PartialEq, Eq, Drop)]
 pub struct Validity {
-    /// The first moment at which it is valid (RFC 5280 4.1.2.5).
+    /// The first moment at which the certificate is valid (RFC 5280 4.1.2.5).
     pub not_before: Time,
-    /// The last moment at which it is valid.
+    /// The last moment at which the certificate is valid.
     pub not_after: Time,
 }
 

@@ -1,5 +1,6 @@
--- SignedData ::= SEQUENCE { version INTEGER, digestAlgorithms SET OF AlgorithmIdentifier, encapContentInfo EncapsulatedContentInfo,
--- certificates [0] IMPLICIT SET OF ANY OPTIONAL, crls [1] IMPLICIT SET OF ANY OPTIONAL, signerInfos SET OF SignerInfo }
+-- SignedData ::= SEQUENCE { version INTEGER, digestAlgorithms SET OF AlgorithmIdentifier,
+-- encapContentInfo EncapsulatedContentInfo, certificates [0] IMPLICIT SET OF ANY OPTIONAL,
+-- crls [1] IMPLICIT SET OF ANY OPTIONAL, signerInfos SET OF SignerInfo }
 use Rattle.std.specs.Prelude.{[], ◌∷◌, pos, None}
 use Rattle.rasn_types.specs.Tags.{in_universal}
 use Rattle.rasn_types.specs.Shapes.{Shape, Tree, items, number, numbers, set_elements, any, seq, Parts, part, required, optional, leaf, set_of, integer}

@@ -1,4 +1,5 @@
--- SignerIdentifier ::= CHOICE { issuerAndSerialNumber IssuerAndSerialNumber, subjectKeyIdentifier [0] IMPLICIT OCTET STRING }
+-- SignerIdentifier ::= CHOICE { issuerAndSerialNumber IssuerAndSerialNumber,
+-- subjectKeyIdentifier [0] IMPLICIT OCTET STRING }
 use Rattle.std.specs.Prelude.{ℕ, List, codes}
 use Rattle.rasn_types.specs.Shapes.{Shape, Tree, numbers, chosen, leaf, octet_string, choice, Parts, part, required}
 use Rattle.rasn_types.specs.Shapes.Parts.{none}
@@ -8,7 +9,7 @@ use Rattle.rasn_pki.specs.Cms.IssuerAndSerial.{issuer_and_serial_shape, issuer_a
 use Rattle.rasn_pki.specs.declared.cms.signer_identifier.SignerIdentifier.{SignerIdentifier}
 use Rattle.rasn_pki.specs.declared.cms.signer_identifier.SignerIdentifier.TheVariants.{IssuerAndSerialNumber, SubjectKeyIdentifier}
 
--- its name, as refusals have it
+-- The name of the type in errors.
 abbrev pub signer_identifier_name : List ℕ
 signer_identifier_name = codes "SignerIdentifier"
 

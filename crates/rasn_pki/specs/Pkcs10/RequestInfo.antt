@@ -1,4 +1,5 @@
--- CertificationRequestInfo ::= SEQUENCE { version INTEGER { v1(0) }, subject Name, subjectPKInfo SubjectPublicKeyInfo, attributes [0] IMPLICIT SET OF Attribute }
+-- CertificationRequestInfo ::= SEQUENCE { version INTEGER { v1(0) }, subject Name, subjectPKInfo SubjectPublicKeyInfo,
+-- attributes [0] IMPLICIT SET OF Attribute }
 use Rattle.std.specs.Prelude.{[], ◌∷◌, pos, None}
 use Rattle.rasn_types.specs.Tags.{in_universal}
 use Rattle.rasn_types.specs.Shapes.{Shape, Tree, items, number, set_elements, seq, Parts, part, required, leaf, set_of, integer}

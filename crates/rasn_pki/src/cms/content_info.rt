@@ -1,4 +1,5 @@
-//! `ContentInfo ::= SEQUENCE { contentType ContentType, content [0] EXPLICIT ANY DEFINED BY contentType }` (RFC 5652, 3).
+//! `ContentInfo ::= SEQUENCE { contentType ContentType,
+//! content [0] EXPLICIT ANY DEFINED BY contentType }` (RFC 5652, 3).
 use rasn::error::{DecodeError, EncodeError};
 use rasn::parts::{End, Put, Required};
 use rasn::types::{
@@ -7,11 +8,11 @@ use rasn::types::{
 };
 use rasn::{Decode, Decoder, Encode, Encoder};
 
-/// SEQUENCE { contentType OBJECT IDENTIFIER, content \[0\] EXPLICIT ANY DEFINED BY contentType }: a message of any content type. One of signed data is a
-/// `SignedMessage`, too.
+/// SEQUENCE { contentType OBJECT IDENTIFIER, content \[0\] EXPLICIT ANY DEFINED BY contentType }: a
+/// message of any content type. A message of signed data can also be read as a `SignedMessage`.
 #[derive(Debug, PartialEq, Eq, Drop)]
 pub struct ContentInfo {
-    /// What the content is.
+    /// The type of the content.
     pub content_type: ObjectIdentifier,
     /// The content, as an open type.
     pub content: Explicit<ContextTag<0>, Any>,

@@ -1,4 +1,5 @@
-//! `EncapsulatedContentInfo ::= SEQUENCE { eContentType ContentType, eContent [0] EXPLICIT OCTET STRING OPTIONAL }` (RFC 5652, 5.2).
+//! `EncapsulatedContentInfo ::= SEQUENCE { eContentType ContentType,
+//! eContent [0] EXPLICIT OCTET STRING OPTIONAL }` (RFC 5652, 5.2).
 use rasn::error::{DecodeError, EncodeError};
 use rasn::parts::{End, Optional, Put, PutOptional, Required};
 use rasn::types::{
@@ -7,13 +8,13 @@ use rasn::types::{
 };
 use rasn::{Decode, Decoder, Encode, Encoder};
 
-/// SEQUENCE { eContentType OBJECT IDENTIFIER, eContent \[0\] EXPLICIT OCTET STRING OPTIONAL }: what is signed. Without `e_content` the signatures are
-/// detached from it.
+/// SEQUENCE { eContentType OBJECT IDENTIFIER, eContent \[0\] EXPLICIT OCTET STRING OPTIONAL }: the
+/// signed content. Without `e_content` the signatures are detached from the content.
 #[derive(Debug, PartialEq, Eq, Drop)]
 pub struct EncapsulatedContentInfo {
-    /// What the content is.
+    /// The type of the content.
     pub e_content_type: ObjectIdentifier,
-    /// The content's octets.
+    /// The octets of the content.
     pub e_content: Option<Explicit<ContextTag<0>, OctetString>>,
 }
 

@@ -1,16 +1,18 @@
-//! `IssuerAndSerialNumber ::= SEQUENCE { issuer Name, serialNumber CertificateSerialNumber }` (RFC 5652, 10.2.4).
+//! `IssuerAndSerialNumber ::= SEQUENCE { issuer Name, serialNumber CertificateSerialNumber }`
+//! (RFC 5652, 10.2.4).
 use crate::x509::Name;
 use rasn::error::{DecodeError, EncodeError};
 use rasn::parts::{End, Put, Required};
 use rasn::types::{AsnType, Constraints, Identifier, Integer, LawfulEq, Present, Tag};
 use rasn::{Decode, Decoder, Encode, Encoder};
 
-/// SEQUENCE { issuer Name, serialNumber INTEGER }: a certificate by the two that tell it from all others.
+/// SEQUENCE { issuer Name, serialNumber INTEGER }: the issuer and the serial number, which together
+/// identify a certificate.
 #[derive(Debug, PartialEq, Eq, Drop)]
 pub struct IssuerAndSerialNumber {
-    /// The certificate's issuer.
+    /// The issuer of the certificate.
     pub issuer: Name,
-    /// The issuer's number for it.
+    /// The number that the issuer gave the certificate.
     pub serial_number: Integer,
 }
 

@@ -1,4 +1,5 @@
-//! Messages of signed data as a whole: what is read and written, with no premise but memory.
+//! Reading and writing whole messages of signed data. A valid message is refused only if an
+//! allocation fails.
 ghost use Rattle.std.specs.Prelude.{◌≡◌, true, IfOk, IfErr};
 ghost use Rattle.rasn_types.specs.declared.types.codec.Codec.TheVariants.{Ber, Der};
 ghost use Rattle.rasn_types.specs.Bytes.{Bytes};
@@ -13,18 +14,19 @@ use rasn::error::{DecodeError, EncodeError};
 use rasn::{ber, der};
 use std::alloc::Global;
 
-/// The shape of a signed message is lawful, and all that DER reads of it is carried. A promise about the type: the function does nothing
-/// when it runs.
+/// Proves that the shape of a signed message is lawful, and that everything that DER reads of it is
+/// carried. The function does nothing when it runs.
 pub fn has_lawful_shape()
     ensures lawful { IsLawful signed_message_shape }
     ensures carried { carries_all signed_message_shape ≡ true }
 {}
 
-/// The signed message that is all of the input, in DER: exactly where the grammar has one, and then the input is what
-/// `write_signed_message` writes of it.
+/// Reads the signed message that is the whole input, in DER. Unless an allocation fails, the call
+/// succeeds exactly if the input is a signed message by the grammar, and then
+/// `write_signed_message` writes the same octets.
 ///
 /// # Errors
-/// Those of `der::decode`.
+/// The errors of `der::decode`.
 pub fn read_signed_message(alloc: Global, input: &[u8]) -> Result<SignedMessage, DecodeError>
     ensures exact { AnsweredAlone Der signed_message_shape signed_message_tree input.now result }
     ensures written { IsCarriedAsWritten signed_message_shape signed_message_tree input.now result }
@@ -33,11 +35,12 @@ pub fn read_signed_message(alloc: Global, input: &[u8]) -> Result<SignedMessage,
     der::decode(alloc, input)
 }
 
-/// The signed message that begins the input, in BER, and what follows it: a message that is written while its content comes in has
-/// indefinite lengths and its content in segments (RFC 5652, 5.1).
+/// Reads the signed message that begins the input, in BER, and returns it with the rest of the
+/// input. A message that is written while its content is still arriving has indefinite lengths and
+/// its content in segments (RFC 5652, 5.1).
 ///
 /// # Errors
-/// Those of `ber::decode_with_remainder`.
+/// The errors of `ber::decode_with_remainder`.
 pub fn read_streamed_message(
     alloc: Global,
     input: &[u8],
@@ -49,10 +52,12 @@ pub fn read_streamed_message(
     ber::decode_with_remainder(alloc, input)
 }
 
-/// The signed message's DER octets, which are those of the same carried messages and of no others.
+/// Returns the DER octets of a signed message. Two carried messages have the same octets exactly if
+/// the messages are the same.
 ///
 /// # Errors
-/// `OutOfMemory`, and what has no octets: certificates that don't stand in the order of their octets (X.690 11.6), say.
+/// `OutOfMemory`, and errors of messages without an encoding, such as one whose certificates aren't
+/// in the order of their octets (X.690 11.6).
 pub fn write_signed_message(alloc: Global, message: &SignedMessage) -> Result<Vec<u8>, EncodeError>
     ensures ok { IfOk result (λ octets. Bytes Der signed_message_shape (signed_message_tree message.now) octets.items) }
     ensures canonical { IfOk result (λ octets. Identifies signed_message_shape (signed_message_tree message.now) octets.items) }

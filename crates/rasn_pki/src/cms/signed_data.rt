@@ -1,4 +1,5 @@
-//! `SignedData ::= SEQUENCE { version CMSVersion, digestAlgorithms DigestAlgorithmIdentifiers, encapContentInfo EncapsulatedContentInfo, ..` (RFC 5652, 5.1).
+//! `SignedData ::= SEQUENCE { version CMSVersion, digestAlgorithms DigestAlgorithmIdentifiers,
+//! encapContentInfo EncapsulatedContentInfo, ..` (RFC 5652, 5.1).
 use crate::cms::{EncapsulatedContentInfo, SignerInfo};
 use crate::x509::AlgorithmIdentifier;
 use rasn::error::{DecodeError, EncodeError};
@@ -8,23 +9,26 @@ use rasn::types::{
 };
 use rasn::{Decode, Decoder, Encode, Encoder};
 
-/// SEQUENCE { version INTEGER, digestAlgorithms SET OF AlgorithmIdentifier, encapContentInfo EncapsulatedContentInfo,
-/// certificates \[0\] IMPLICIT SET OF CertificateChoices OPTIONAL, crls \[1\] IMPLICIT SET OF RevocationInfoChoice OPTIONAL, signerInfos SET OF SignerInfo }
+/// SEQUENCE { version INTEGER, digestAlgorithms SET OF AlgorithmIdentifier,
+/// encapContentInfo EncapsulatedContentInfo,
+/// certificates \[0\] IMPLICIT SET OF CertificateChoices OPTIONAL,
+/// crls \[1\] IMPLICIT SET OF RevocationInfoChoice OPTIONAL, signerInfos SET OF SignerInfo }
 ///
-/// The certificates and revocation lists are open types: `read_certificate` and `read_revocation_list` read the octets of those that are in DER.
+/// The certificates and revocation lists are open types. `read_certificate` and
+/// `read_revocation_list` read the octets of those in DER.
 #[derive(Debug, PartialEq, Eq, Drop)]
 pub struct SignedData {
     /// The version of the syntax: 1, 3, 4 or 5 (RFC 5652 5.1).
     pub version: u8,
     /// The digest algorithms of the signers.
     pub digest_algorithms: SetOf<AlgorithmIdentifier>,
-    /// What is signed.
+    /// The signed content.
     pub encap_content_info: EncapsulatedContentInfo,
     /// Certificates that help to verify the signatures.
     pub certificates: Option<Implicit<ContextTag<0>, SetOf<Any>>>,
-    /// Revocation lists that help to verify them.
+    /// Revocation lists that help to verify the signatures.
     pub crls: Option<Implicit<ContextTag<1>, SetOf<Any>>>,
-    /// A signature of each signer.
+    /// The signature of each signer.
     pub signer_infos: SetOf<SignerInfo>,
 }
 

@@ -1,4 +1,5 @@
-//! `ContentInfo` of signed data: `SEQUENCE { contentType ContentType, content [0] EXPLICIT SignedData }` (RFC 5652, 3 and 5).
+//! `ContentInfo` of signed data: `SEQUENCE { contentType ContentType,
+//! content [0] EXPLICIT SignedData }` (RFC 5652, 3 and 5).
 use crate::cms::SignedData;
 use rasn::error::{DecodeError, EncodeError};
 use rasn::parts::{End, Put, Required};
@@ -8,10 +9,11 @@ use rasn::types::{
 };
 use rasn::{Decode, Decoder, Encode, Encoder};
 
-/// SEQUENCE { contentType OBJECT IDENTIFIER, content \[0\] EXPLICIT SignedData }. The standard has 1.2.840.113549.1.7.2 for `content_type`; it is what it is.
+/// SEQUENCE { contentType OBJECT IDENTIFIER, content \[0\] EXPLICIT SignedData }. RFC 5652 requires
+/// 1.2.840.113549.1.7.2 as `content_type`; the type admits any.
 #[derive(Debug, PartialEq, Eq, Drop)]
 pub struct SignedMessage {
-    /// What the content is: signed data.
+    /// The type of the content, which should be that of signed data.
     pub content_type: ObjectIdentifier,
     /// The signed data.
     pub content: Explicit<ContextTag<0>, SignedData>,

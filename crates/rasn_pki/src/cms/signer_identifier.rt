@@ -1,4 +1,5 @@
-//! `SignerIdentifier ::= CHOICE { issuerAndSerialNumber IssuerAndSerialNumber, subjectKeyIdentifier [0] SubjectKeyIdentifier }` (RFC 5652, 5.3).
+//! `SignerIdentifier ::= CHOICE { issuerAndSerialNumber IssuerAndSerialNumber,
+//! subjectKeyIdentifier [0] SubjectKeyIdentifier }` (RFC 5652, 5.3).
 use crate::cms::IssuerAndSerialNumber;
 use rasn::error::{DecodeError, EncodeError};
 use rasn::parts::{Last, OneOf};
@@ -7,7 +8,8 @@ use rasn::types::{
 };
 use rasn::{Decode, Decoder, Encode, Encoder};
 
-/// CHOICE { issuerAndSerialNumber IssuerAndSerialNumber, subjectKeyIdentifier \[0\] IMPLICIT OCTET STRING }: the signer's certificate.
+/// CHOICE { issuerAndSerialNumber IssuerAndSerialNumber,
+/// subjectKeyIdentifier \[0\] IMPLICIT OCTET STRING }: the certificate of the signer.
 #[derive(Debug, PartialEq, Eq, Drop)]
 pub enum SignerIdentifier {
     IssuerAndSerialNumber(IssuerAndSerialNumber),

@@ -1,4 +1,5 @@
-//! `SignerInfo ::= SEQUENCE { version CMSVersion, sid SignerIdentifier, digestAlgorithm AlgorithmIdentifier, ..` (RFC 5652, 5.3).
+//! `SignerInfo ::= SEQUENCE { version CMSVersion, sid SignerIdentifier,
+//! digestAlgorithm AlgorithmIdentifier, ..` (RFC 5652, 5.3).
 use crate::cms::SignerIdentifier;
 use crate::x509::{AlgorithmIdentifier, Attribute};
 use rasn::error::{DecodeError, EncodeError};
@@ -9,19 +10,20 @@ use rasn::types::{
 };
 use rasn::{Decode, Decoder, Encode, Encoder};
 
-/// SEQUENCE { version INTEGER, sid SignerIdentifier, digestAlgorithm AlgorithmIdentifier, signedAttrs \[0\] IMPLICIT SET OF Attribute OPTIONAL,
-/// signatureAlgorithm AlgorithmIdentifier, signature OCTET STRING, unsignedAttrs \[1\] IMPLICIT SET OF Attribute OPTIONAL }
+/// SEQUENCE { version INTEGER, sid SignerIdentifier, digestAlgorithm AlgorithmIdentifier,
+/// signedAttrs \[0\] IMPLICIT SET OF Attribute OPTIONAL, signatureAlgorithm AlgorithmIdentifier,
+/// signature OCTET STRING, unsignedAttrs \[1\] IMPLICIT SET OF Attribute OPTIONAL }
 #[derive(Debug, PartialEq, Eq, Drop)]
 pub struct SignerInfo {
-    /// 1 where the signer is named by issuer and serial number, 3 where by its key (RFC 5652 5.3).
+    /// 1 if the signer is identified by issuer and serial number, 3 if by its key (RFC 5652 5.3).
     pub version: u8,
-    /// Whose signature it is.
+    /// The signer.
     pub sid: SignerIdentifier,
-    /// How the content and the signed attributes are digested.
+    /// The digest algorithm for the content and the signed attributes.
     pub digest_algorithm: AlgorithmIdentifier,
     /// Attributes that are signed with the content.
     pub signed_attrs: Option<Implicit<ContextTag<0>, SetOf<Attribute>>>,
-    /// How the digest is signed.
+    /// The algorithm by which the digest is signed.
     pub signature_algorithm: AlgorithmIdentifier,
     /// The signature.
     pub signature: OctetString,

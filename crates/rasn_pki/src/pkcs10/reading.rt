@@ -1,4 +1,5 @@
-//! Certification requests as a whole: what is read and written, with no premise but memory.
+//! Reading and writing whole certification requests. A valid request is refused only if an
+//! allocation fails.
 ghost use Rattle.std.specs.Prelude.{◌≡◌, true, IfOk, IfErr};
 ghost use Rattle.rasn_types.specs.declared.types.codec.Codec.TheVariants.{Der};
 ghost use Rattle.rasn_types.specs.Bytes.{Bytes};
@@ -12,18 +13,19 @@ use rasn::der;
 use rasn::error::{DecodeError, EncodeError};
 use std::alloc::Global;
 
-/// The shape of a certification request is lawful, and all that DER reads of it is carried. A promise about the type: the function does
-/// nothing when it runs.
+/// Proves that the shape of a certification request is lawful, and that everything that DER reads
+/// of it is carried. The function does nothing when it runs.
 pub fn has_lawful_shape()
     ensures lawful { IsLawful request_shape }
     ensures carried { carries_all request_shape ≡ true }
 {}
 
-/// The certification request that is all of the input, in DER: exactly where the grammar has one, and then the input is what
-/// `write_request` writes of it.
+/// Reads the certification request that is the whole input, in DER. Unless an allocation fails, the
+/// call succeeds exactly if the input is a certification request by the grammar, and then
+/// `write_request` writes the same octets.
 ///
 /// # Errors
-/// Those of `der::decode`.
+/// The errors of `der::decode`.
 pub fn read_request(alloc: Global, input: &[u8]) -> Result<CertificationRequest, DecodeError>
     ensures exact { AnsweredAlone Der request_shape request_tree input.now result }
     ensures written { IsCarriedAsWritten request_shape request_tree input.now result }
@@ -32,10 +34,12 @@ pub fn read_request(alloc: Global, input: &[u8]) -> Result<CertificationRequest,
     der::decode(alloc, input)
 }
 
-/// The certification request's DER octets, which are those of the same carried requests and of no others.
+/// Returns the DER octets of a certification request. Two carried requests have the same octets
+/// exactly if the requests are the same.
 ///
 /// # Errors
-/// `OutOfMemory`, and what has no octets: attributes that don't stand in the order of their octets (X.690 11.6), say.
+/// `OutOfMemory`, and errors of requests without an encoding, such as one whose attributes aren't
+/// in the order of their octets (X.690 11.6).
 pub fn write_request(alloc: Global, request: &CertificationRequest) -> Result<Vec<u8>, EncodeError>
     ensures ok { IfOk result (λ octets. Bytes Der request_shape (request_tree request.now) octets.items) }
     ensures canonical { IfOk result (λ octets. Identifies request_shape (request_tree request.now) octets.items) }

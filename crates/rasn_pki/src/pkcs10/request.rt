@@ -1,4 +1,5 @@
-//! `CertificationRequest ::= SEQUENCE { certificationRequestInfo CertificationRequestInfo, signatureAlgorithm AlgorithmIdentifier, ..` (RFC 2986, 4.2).
+//! `CertificationRequest ::= SEQUENCE { certificationRequestInfo CertificationRequestInfo,
+//! signatureAlgorithm AlgorithmIdentifier, ..` (RFC 2986, 4.2).
 use crate::pkcs10::CertificationRequestInfo;
 use crate::x509::AlgorithmIdentifier;
 use rasn::error::{DecodeError, EncodeError};
@@ -6,12 +7,13 @@ use rasn::parts::{End, Put, Required};
 use rasn::types::{AsnType, BitString, Constraints, Identifier, LawfulEq, Present, Tag};
 use rasn::{Decode, Decoder, Encode, Encoder};
 
-/// SEQUENCE { certificationRequestInfo CertificationRequestInfo, signatureAlgorithm AlgorithmIdentifier, signature BIT STRING }
+/// SEQUENCE { certificationRequestInfo CertificationRequestInfo,
+/// signatureAlgorithm AlgorithmIdentifier, signature BIT STRING }
 #[derive(Debug, PartialEq, Eq, Drop)]
 pub struct CertificationRequest {
-    /// What is signed.
+    /// The signed part.
     pub certification_request_info: CertificationRequestInfo,
-    /// How it is signed.
+    /// The algorithm of the signature.
     pub signature_algorithm: AlgorithmIdentifier,
     /// The signature of the DER encoding of `certification_request_info`.
     pub signature: BitString,

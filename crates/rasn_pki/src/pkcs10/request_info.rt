@@ -1,4 +1,5 @@
-//! `CertificationRequestInfo ::= SEQUENCE { version INTEGER { v1(0) }, subject Name, subjectPKInfo SubjectPublicKeyInfo, ..` (RFC 2986, 4.1).
+//! `CertificationRequestInfo ::= SEQUENCE { version INTEGER { v1(0) }, subject Name, subjectPKInfo
+//! SubjectPublicKeyInfo, ..` (RFC 2986, 4.1).
 use crate::x509::{Attribute, Name, SubjectPublicKeyInfo};
 use rasn::error::{DecodeError, EncodeError};
 use rasn::parts::{End, Put, Required};
@@ -7,16 +8,17 @@ use rasn::types::{
 };
 use rasn::{Decode, Decoder, Encode, Encoder};
 
-/// SEQUENCE { version INTEGER { v1(0) }, subject Name, subjectPKInfo SubjectPublicKeyInfo, attributes \[0\] IMPLICIT SET OF Attribute }
+/// SEQUENCE { version INTEGER { v1(0) }, subject Name, subjectPKInfo SubjectPublicKeyInfo,
+/// attributes \[0\] IMPLICIT SET OF Attribute }
 #[derive(Debug, PartialEq, Eq, Drop)]
 pub struct CertificationRequestInfo {
-    /// 0 (RFC 2986 4.1).
+    /// The version, which is 0 (RFC 2986 4.1).
     pub version: u8,
-    /// Whose key it holds.
+    /// The name of the owner of the key.
     pub subject: Name,
     /// The key.
     pub subject_pk_info: SubjectPublicKeyInfo,
-    /// What else is asked for, such as extensions.
+    /// Further requested properties, such as extensions.
     pub attributes: Implicit<ContextTag<0>, SetOf<Attribute>>,
 }
 

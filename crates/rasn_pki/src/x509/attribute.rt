@@ -1,4 +1,5 @@
-//! `Attribute ::= SEQUENCE { type OBJECT IDENTIFIER, values SET OF ANY }` (RFC 5280, A.1; RFC 2986, 4.1; RFC 5652, 5.3).
+//! `Attribute ::= SEQUENCE { type OBJECT IDENTIFIER, values SET OF ANY }` (RFC 5280, A.1; RFC 2986,
+//! 4.1; RFC 5652, 5.3).
 use rasn::error::{DecodeError, EncodeError};
 use rasn::parts::{End, Put, Required};
 use rasn::types::{
@@ -6,12 +7,13 @@ use rasn::types::{
 };
 use rasn::{Decode, Decoder, Encode, Encoder};
 
-/// SEQUENCE { type OBJECT IDENTIFIER, values SET OF ANY DEFINED BY type }. The standards ask for at least one value.
+/// SEQUENCE { type OBJECT IDENTIFIER, values SET OF ANY DEFINED BY type }. The standards require at
+/// least one value.
 #[derive(Debug, PartialEq, Eq, Drop)]
 pub struct Attribute {
-    /// The type of the attribute; `type` is a word of Rust.
+    /// The type of the attribute. It is named `kind` since `type` is a keyword of Rust.
     pub kind: ObjectIdentifier,
-    /// Its values, as open types.
+    /// The values, as open types.
     pub values: SetOf<Any>,
 }
 

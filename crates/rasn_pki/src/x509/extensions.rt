@@ -1,5 +1,5 @@
-//! Contents of the usual extensions of certificates and revocation lists (RFC 5280, 4.2.1): what the octets of `Extension::extn_value` are the DER
-//! encoding of.
+//! The contents of the usual extensions of certificates and revocation lists (RFC 5280, 4.2.1),
+//! whose DER encodings are the octets of `Extension::extn_value`.
 
 mod authority_key_identifier;
 mod basic_constraints;
@@ -18,11 +18,12 @@ pub use lawful::have_lawful_shapes;
 pub use other_name::OtherName;
 use rasn::types::{ObjectIdentifier, OctetString};
 
-/// SEQUENCE OF GeneralName (RFC 5280, 4.2.1.6, which asks for at least one): subjectAltName and issuerAltName.
+/// SEQUENCE OF GeneralName (RFC 5280, 4.2.1.6, which requires at least one): the contents of
+/// subjectAltName and issuerAltName.
 pub type GeneralNames = Vec<GeneralName>;
 
-/// OCTET STRING (RFC 5280, 4.2.1.2)
+/// OCTET STRING (RFC 5280, 4.2.1.2).
 pub type SubjectKeyIdentifier = OctetString;
 
-/// SEQUENCE OF KeyPurposeId (RFC 5280, 4.2.1.12, which asks for at least one)
+/// SEQUENCE OF KeyPurposeId (RFC 5280, 4.2.1.12, which requires at least one).
 pub type ExtendedKeyUsage = Vec<ObjectIdentifier>;

@@ -114,7 +114,7 @@ half32 b = omega arith
 half64 : (b : ℕ) → b < 256 → b / 64 ≡ 2 * (b / 128 % 2) + b / 64 % 2
 half64 b h = omega arith
 
--- An octet's bits spell it.
+-- The bits of an octet spell it.
 pub value_octet : (b : ℕ) → b < 256 → value (bits_of b) ≡ b
 value_octet b h =
     let p7 = bit_set (b / 128 % 2) (mod_two (b / 128)) in
@@ -139,7 +139,7 @@ split_at : (k : ℕ) (l : List Bool) → k ≤ length l → value l ≡ value (t
 split_at k l h =
     ap value (sym (take-append-drop k l)) ∙ (value-append (take k l) (drop k l) ∙ ap (λ z. value (take k l) * 2 ^ z + value (drop k l)) (length-drop k l))
 
--- The number without its last bits, and its last bits.
+-- The number without its last bits, and the number of its last bits.
 pub value-take : (k n : ℕ) (l : List Bool) → length l ≡ k + n → value l / 2 ^ n ≡ value (take k l)
 value-take k n l e =
     let d : length (drop k l) ≡ n = length-drop k l ∙ omega (arith, e) in
@@ -152,7 +152,7 @@ value-drop k n l e =
     ap (λ z. z % 2 ^ n) (ap value (sym (take-append-drop k l)) ∙ (value-append (take k l) (drop k l) ∙ ap (λ z. value (take k l) * 2 ^ z + value (drop k l)) d))
     ∙ mod_low (value (take k l)) n (value (drop k l)) (subst (λ z. value (drop k l) < 2 ^ z) d (value_below (drop k l)))
 
--- The eight bits after the first few of two octets.
+-- The eight bits after the first s bits of two octets.
 pub across_bits : (a b s : ℕ) → a < 256 → b < 256 → s < 8 → bits_of ((a * 256 + b) / 2 ^ (8 - s) % 256) ≡ take 8 (drop s (bits_of a ++ bits_of b))
 across_bits a b s h k n =
     let l = bits_of a ++ bits_of b in
@@ -174,7 +174,7 @@ value_zeros (suc n) = nothing (2 ^ length (zeros n)) (value (zeros n)) (value_ze
     nothing : (p v : ℕ) → v ≡ 0 → 0 * p + v ≡ 0
     nothing p v e = omega arith
 
--- An octet whose last bits are cleared, and one that is moved down.
+-- An octet whose last bits are cleared, and an octet that is shifted down.
 pub cleared_bits : (b k : ℕ) → b < 256 → k < 8 → bits_of (b / 2 ^ k * 2 ^ k) ≡ take (8 - k) (bits_of b) ++ zeros k
 cleared_bits b k h n =
     let f = take (8 - k) (bits_of b) in
@@ -201,7 +201,7 @@ moved_bits b k h n =
     none : (p v : ℕ) → 0 * p + v ≡ v
     none p v = omega arith
 
--- ---- octets pushed after others, shifted
+-- ---- octets appended to others, shifted
 across_step : (p q r : List Bool) (s : ℕ) → length p ≡ 8 → length q ≡ 8 → s < 8 → drop s (p ++ (q ++ r)) ≡ take 8 (drop s (p ++ q)) ++ drop s (q ++ r)
 across_step p q r s m n h =
     let e : drop s (p ++ (q ++ r)) ≡ drop s (p ++ q) ++ r = ap (drop s) (sym (append_assoc p q r)) ∙ drop-append-le s (p ++ q) r (omega (arith, length-append p q, m)) in
@@ -216,7 +216,7 @@ across_end p s m h =
     let n : length (drop s p) ≡ 8 - s = length-drop s p ∙ omega (arith, m) in
     ap (take 8) e ∙ (consume_behind (drop s p) (zeros 8) s 8 (omega (arith, n)) ∙ ap (λ z. drop s p ++ z) (take-replicate s 8 false (omega arith)))
 
--- The octets so far hold what preceded the last octet that was read.
+-- The octets so far hold everything before the last octet that was read.
 pub record Shifting (bits first : ℕ) (more old : List ℕ) (k previous : ℕ) (now : List ℕ) : Type 0 where
   pub added : List ℕ
   pub is : now ≡ old ++ added

@@ -29,7 +29,7 @@ bits_from_front held start len octets h =
     ∙ (ap (λ z. take len (drop start (take z (bits_in octets)))) e
     ∙ (ap (take len) (drop-take start m (bits_in octets)) ∙ take-take len m (drop start (bits_in octets)) (omega arith)))
 
--- The bits before a place, and those from it on.
+-- The bits before a position, and those from it on.
 pub front_bits : (place start len : ℕ) (octets : List ℕ) → place ≤ len → bits_from start place octets ≡ take place (bits_from start len octets)
 front_bits place start len octets h = sym (take-take place len (drop start (bits_in octets)) h)
 
@@ -87,7 +87,7 @@ last_split (x ∷ old) k (y ∷ front) last h e =
     let r = last_split old k front last h m in
     (r.0, ap₂ (λ a b. a ∷ b) (sym xy) r.1, r.2)
 
--- The last bits of octets that follow others are cleared.
+-- The last bits of octets that are appended to others are cleared.
 pub cleared_end : (u len : ℕ) (old k new : List ℕ) → u < 8 → len + u ≡ 8 * length k → 0 < length k → ClearsOne u (old ++ k) new → Pushes (take len (bits_in k)) old new
 cleared_end u len old k new h n some c =
     let s = last_split old k c.front c.last some c.was in
@@ -109,7 +109,7 @@ cleared_end u len old k new h n some c =
 length-zeros : (n : ℕ) → length (zeros n) ≡ n
 length-zeros n = length-replicate n false
 
--- What is kept of bits that are shifted after others and cut.
+-- The octets that are kept of bits that are appended to others, shifted and cut.
 cut_kept : (shift held n : ℕ) (octets old mid cut : List ℕ) → shift ≤ 8 * held → n ≤ held → held ≤ length octets → (s : Shifts shift (take held octets) old mid) → cut ≡ take (length old + n) mid
     → (length (take n s.added) ≡ n) × (cut ≡ old ++ take n s.added)
 cut_kept shift held n octets old mid cut f h there s c =
@@ -130,7 +130,7 @@ cut_kept shift held n octets old mid cut f h there s c =
           length-zeros shift,
         )
 
--- Bits that are shifted after others, cut and cleared, are packed.
+-- Bits that are appended to others, shifted, cut and cleared, are packed.
 pub packed : (shift len held n u : ℕ) (octets old mid cut new : List ℕ) → shift < 8 → 0 < len → shift + len ≤ 8 * held → held ≤ length octets → len + u ≡ 8 * n → u < 8
     → Shifts shift (take held octets) old mid → cut ≡ take (length old + n) mid → Clears u cut new → Pushes (bits_from shift len octets) old new
 packed shift len held n u octets old mid cut new h some fits there e few s c (inl (x, y)) =
@@ -149,8 +149,8 @@ packed shift len held n u octets old mid cut new h some fits there e few s c (in
         ∙ (take-append-le len (drop shift (bits_in (take held octets))) (zeros shift) (omega (arith, length-drop shift (bits_in (take held octets)), length-bits_in (take held octets), length-take-le held octets there))
         ∙ bits_from_front held shift len octets fits)))
 
--- ---- strings and gathered bits
--- So many bits in as few octets as they take.
+-- ---- strings and collected bits
+-- Bits are kept in as few octets as possible.
 pub kept : (len n u : ℕ) (octets cut new : List ℕ) → len + u ≡ 8 * n → u < 8 → n ≤ length octets → cut ≡ take n octets → Clears u cut new → AreOctets new
     → HoldsBits len new × (bits_from 0 len new ≡ bits_from 0 len octets)
 kept len n u octets cut new e few there c (inl (x, y)) o =
@@ -175,7 +175,7 @@ kept len n u octets cut new e few there c (inr x) o =
       f ∙ d,
     )
 
--- Octets that are put after whole octets.
+-- Octets that are appended to whole octets.
 pub collects_whole : (unused : ℕ) (octets more new : List ℕ) → unused ≤ 8 * length more → new ≡ octets ++ more → but_last unused new ≡ but_last 0 octets ++ but_last unused more
 collects_whole unused octets more new h e =
     let n : length new ≡ length octets + length more = ap length e ∙ length-append octets more in
@@ -187,11 +187,11 @@ collects_whole unused octets more new h e =
 pub length-but_last : (u : ℕ) (octets : List ℕ) → length (but_last u octets) ≡ 8 * length octets - u
 length-but_last u octets = length-take-le (8 * length octets - u) (bits_in octets) (omega (arith, length-bits_in octets))
 
--- Of octets some bits count.
+-- Octets of which some bits are used.
 pub some_bits : (u : ℕ) (octets : List ℕ) → u < 8 → 0 < length octets → but_last u octets ≢ []
 some_bits u octets few h e = let n : length (but_last u octets) ≡ 0 = ap length e in omega (arith, length-but_last u octets, n, few, h)
 
--- Octets that are put after bits, of whose last octet some are unused.
+-- Octets that are appended to others, whose last octet has unused bits.
 pub joins : (u last moved : ℕ) (octets front more new : List ℕ) → drop u (bits_of moved) ≡ take (8 - u) (bits_of last) → u < 8 → octets ≡ front ++ last ∷ [] → Shifts u (moved ∷ more) front new → Joins u octets more new
 joins u last moved octets front more new down few e s = record { long = long; all = all }
   where
@@ -225,7 +225,7 @@ joined_bits u unused octets more new k h j =
     ∙ (consume_behind (but_last u octets) (bits_in more ++ zeros u) (8 * length more - unused) (8 * length new - (u + unused)) (omega (arith, length-but_last u octets, j.long))
     ∙ ap (λ z. but_last u octets ++ z) (take-append-le (8 * length more - unused) (bits_in more) (zeros u) (omega (arith, length-bits_in more))))
 
--- The bits but the last are those of fewer octets.
+-- If eight or more last bits are left out, the bits are those of one octet less.
 pub but_last_popped : (v : ℕ) (octets : List ℕ) → 8 ≤ v → v ≤ 8 * length octets → but_last (v - 8) (take (length octets - 1) octets) ≡ take (8 * length octets - v) (bits_in octets)
 but_last_popped v octets h k =
     let n : length (take (length octets - 1) octets) ≡ length octets - 1 = length-take-le (length octets - 1) octets (omega arith) in
@@ -238,7 +238,7 @@ first_more [] h = absurd (omega arith)
 first_more (x ∷ l) h = ap (λ z. x ∷ z) (take_all (length (x ∷ l) - 1) l (omega arith))
 
 -- ---- equality
--- what a type says of its octets
+-- What a type says of its octets.
 pub octets_by : (l : List ℕ) → ((i d : ℕ) → i < length l → get_or l i d < 256) → AreOctets l
 octets_by [] h = tt
 octets_by (x ∷ l) h = (h 0 0 (omega arith), octets_by l (λ i d n. h (suc i) d (omega (arith, n))))
@@ -255,7 +255,7 @@ octets_one (a ∷ k) (b ∷ l) o u e = ap₂ (λ x y. x ∷ y) (octet_one a b o.
 same_count : (n u v a b : ℕ) → n + u ≡ 8 * a → n + v ≡ 8 * b → u < 8 → v < 8 → u ≡ v
 same_count n u v a b h k i j = omega arith
 
--- As few octets as they take hold the same bits in one way.
+-- Octets that are as few as possible for their bits are determined by the bits.
 pub kept_one : (len : ℕ) (k l : List ℕ) → HoldsBits len k → HoldsBits len l → bits_from 0 len k ≡ bits_from 0 len l → k ≡ l
 kept_one len k l p q e =
     let a = ap length p.packs.all in
@@ -289,7 +289,7 @@ unequal_bits m n k l p q e = same_from_decides (nat_eq m n) (pointwise beq (bits
         let a = ap length h in
         absurd (e (omega (arith, a, length-take-le m (bits_in k) (omega (arith, p.held, length-bits_in k)), length-take-le n (bits_in l) (omega (arith, q.held, length-bits_in l)))))
 
--- Two lists of bits that differ at a place, and two that don't as far as they go.
+-- Two lists of bits that differ at a position, and two whose bits are equal so far.
 pub one_bit : (x y : Bool) → not (beq x y) ≡ false → x ≡ y
 one_bit true true e = refl
 one_bit true false e = cc

@@ -1,4 +1,4 @@
--- What the texts of string types are, by alphabet and by units.
+-- The texts of string types, by alphabet and by units.
 use Rattle.std.proofs.Common.{◌≡◌, ℕ, ◌+◌, ◌*◌, ◌/◌, List, [], ◌∷◌, length, Bool, nat_eq, refl, ap, subst, ◌∙◌, arith}
 use Rattle.std.specs.Bool.{one_answer}
 use Rattle.std.specs.Cmp.Lexicographic.{pointwise, bytes_decides}

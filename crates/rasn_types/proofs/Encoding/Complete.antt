@@ -1,11 +1,11 @@
--- No whole encoding begins another, and its steps are determined.
+-- No complete encoding is a proper prefix of another, and its steps are determined.
 use Rattle.std.proofs.Common.{◌≡◌, ℕ, ◌+◌, ◌*◌, ◌<◌, ◌≤◌, inr, List, [], ◌∷◌, ◌++◌, length, Bool, true, refl, sym, ap, ap₂, ◌∙◌, subst, arith, append_assoc, length-append}
 use Rattle.std.proofs.lemmas.List.{append_cancel_right}
 use Rattle.rasn_types.specs.Tags.{Form, loose, Codec, Tag}
 use Rattle.rasn_types.specs.Framing.{Extent, definite, indefinite, Frame, with_length, without_length, SpellsLength, SpellsAnyIdentifier, NextTag, CompleteEncoding, plain, closed, CompleteEncodings, none, one_more, steps_in, steps_of}
 use Rattle.rasn_types.proofs.Headers.Frames.{frame_one, not_ended, frame_next}
 
--- What follows an encoding follows its rest.
+-- If octets are appended to the input, they are appended to the rest.
 pub frame_more : {rule : Form} {input rest : List ℕ} {s : Tag} {b : Bool} {m : Extent} (x : List ℕ)
     → Frame rule input s b rest m → Frame rule (input ++ x) s b (rest ++ x) m
 frame_more {rest = rest} x (with_length id len c p q z e) =
@@ -22,7 +22,7 @@ some_whole {text = text} front back x y h e f =
     let g : front ++ (back ++ x) ≡ 0 ∷ 0 ∷ y = sym (append_assoc front back x) ∙ (sym (ap (λ l. l ++ x) e) ∙ f) in
     not_ended true (front ++ (back ++ x)) n.0 n.1 (inr (refl, y, g))
 
--- What follows is the same, and so are the steps.
+-- The octets after it are the same, and so are the steps.
 abbrev pub IsSameEnd : List ℕ → List ℕ → ℕ → ℕ → Type 0
 IsSameEnd x y m n = (x ≡ y) × (m ≡ n)
 
@@ -69,7 +69,7 @@ indefinite_long {rest = rest} {tag = tag} {bit = bit} (without_length id p q r e
     let f = ap length e in
     omega (arith, spelled_some id tag bit p.spells, length-append id (128 ∷ rest))
 
--- Each step passes two octets at least, and the first header two more.
+-- Each step skips at least two octets, and the first header takes two more.
 mutual
   pub steps_twice : {rule : Codec} {text : List ℕ} (w : CompleteEncoding rule text) → 2 + 2 * steps_in w ≤ length text
   steps_twice (plain tag bit contents f) = definite_long f

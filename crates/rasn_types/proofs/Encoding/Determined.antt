@@ -32,7 +32,7 @@ cons_one Ber tag k l a b h i e = definite_one tag true k l a b h i e
 cons_one Cer tag k l a b h i e = closed_one tag k l a b h i e
 cons_one Der tag k l a b h i e = definite_one tag true k l a b h i e
 
--- what is written determines
+-- The value determines the octets that are written.
 abbrev pub IsWrittenOnce : {X : Type 0} → Writing X → Type 0
 IsWrittenOnce {X} writes = (x : X) (a b : List ℕ) → writes x a → writes x b → a ≡ b
 

@@ -1,4 +1,4 @@
--- A tree that has octets is the same as itself (set elements that are no list aren't), so it has no others.
+-- A tree that has octets is the same as itself (set elements that are no list aren't), so it has no other octets.
 use Rattle.std.proofs.Common.{◌≡◌, ℕ, suc, inl, inr, List, [], ◌∷◌, refl, sym, subst, Some, None}
 use Rattle.std.proofs.lemmas.List.Sorted.{IsPermutation-refl}
 use Rattle.rasn_types.specs.Tags.{Codec}

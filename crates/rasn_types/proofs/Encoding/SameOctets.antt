@@ -1,4 +1,4 @@
--- Trees that are the same are written alike.
+-- Trees that are the same have the same octets.
 use Rattle.std.proofs.Common.{◌≡◌, ℕ, suc, ◌<◌, ◌⊎◌, ◌≢◌, inl, inr, List, [], ◌∷◌, refl, sym, ap, ap₂, ◌∙◌, subst, arith, IsPermutation, Some, None}
 use Rattle.std.proofs.lemmas.List.Sorted.{IsPermutation-sym}
 use Rattle.rasn_types.specs.Tags.{Codec, Der, Tag}
@@ -10,7 +10,7 @@ use Rattle.rasn_types.proofs.SetOf.Same.{items_one, same_sym, same_trans, same_e
 use Rattle.rasn_types.proofs.Encoding.Determined.{numbers_one, cons_one, in_once}
 use Rattle.rasn_types.proofs.SetOf.OneOrder.{ordered_one}
 
--- A tree of a value that holds no others: it is the same as no other tree.
+-- The tree of a leaf: it is the same as no other tree.
 abbrev pub IsFlat : Tree → Type 0
 IsFlat (number z) = Unit {0}
 IsFlat (bits bs) = Unit {0}
@@ -66,7 +66,7 @@ flat_one (instant m) u h s = s
 flat_one (on_day d) u h s = s
 flat_one t u h s = absurd h
 
--- trees that are the same are written alike
+-- Trees that are the same have the same octets.
 abbrev pub IsOnce : Codec → Shape → Type 0
 IsOnce rule s = (t u : Tree) (a b : List ℕ) → Same t u → Bytes rule s t a → Bytes rule s u b → a ≡ b
 

@@ -1,4 +1,4 @@
--- 64 bits hold the numbers that an ENUMERATED names.
+-- The numbers that an ENUMERATED names fit in 64 bits.
 use Rattle.std.proofs.Common.{◌≡◌, zero, suc, ℤ, Bool, true, false, ◌&&◌, List, [], ◌∷◌, refl, arith}
 use Rattle.std.specs.Prelude.{Contains}
 use Rattle.std.specs.Int.Signed.{le_z_yes}

@@ -17,7 +17,7 @@ number_lt base h (b ∷ l) =
     let d : b % base * base ^ length l + number_in base l < base * base ^ length l = digits_lt m i in
     subst (λ z. b % base * base ^ length l + number_in base l < z) (sym (pow-succ' base (length l))) d
 
--- the digits pair off
+-- The digits at the same position are equal.
 abbrev pub SameDigits : ℕ → List ℕ → List ℕ → Type 0
 SameDigits base [] l = Unit {0}
 SameDigits base (a ∷ k) [] = Unit {0}
@@ -42,7 +42,7 @@ same_digits base h (a ∷ k) (b ∷ l) n e =
 lead : (base a : ℕ) (l : List ℕ) → 0 < a % base → base ^ length l ≤ number_in base (a ∷ l)
 lead base a l h = let m : 1 * base ^ length l ≤ a % base * base ^ length l = mul-le-mul_right (base ^ length l) h in omega (arith, one-mul (base ^ length l))
 
--- the longer of two has the greater number, where its first digit isn't 0
+-- The longer of two numbers is greater if its first digit isn't 0.
 longer : (base : ℕ) → 0 < base → (k : List ℕ) (b : ℕ) (l : List ℕ) → 0 < b % base → length k ≤ length l → number_in base k < number_in base (b ∷ l)
 longer base h k b l lead_b n =
     let p : base ^ length k ≤ base ^ length l = pow-le-pow_right h n in
@@ -76,7 +76,7 @@ chain_digits (a ∷ k) (b ∷ l) (inr p) (inl q) o u n s = absurd (empty l k q.1
 chain_digits (a ∷ k) (b ∷ l) (inr p) (inr q) o u n s =
     ap₂ ◌∷◌ (same_mod a b p.0 o.0 q.0 u.0 s.0) (chain_digits k l p.1 q.1 o.1 u.1 (omega arith) s.1)
 
--- a chain of two octets or more begins with a digit that isn't 0
+-- A chain of two octets or more begins with a digit that isn't 0.
 chain_lead : (b c : ℕ) (l : List ℕ) → IsChain (b ∷ c ∷ l) → b ≢ 128 → b < 256 → 0 < b % 128
 chain_lead b c l (inl h) n k = let e = h.1 in cc
 chain_lead b c l (inr h) n k = high_digit b h.0 n k
@@ -208,7 +208,7 @@ pub arcs_of : (l ns : List ℕ) → ShortArcs l ns → Arcs l ns
 arcs_of l [] h = h
 arcs_of l (n ∷ ns) (f, b, s, p, e, h) = (f, b, s, e, arcs_of b ns h)
 
--- Subidentifiers are distinguished.
+-- Octets spell only one list of subidentifiers.
 pub arcs_one : (ms ns l : List ℕ) → Arcs l ms → Arcs l ns → ms ≡ ns
 arcs_one [] [] l h k = refl
 arcs_one [] (n ∷ ns) l h k = absurd (no_short_arc k.0 k.1 n k.2 (sym h ∙ k.3))

@@ -30,7 +30,7 @@ number_of_bytes (suc k) n =
     ap₂ ◌+◌ (ap₂ ◌*◌ (ap (λ x. x % 256) (byte_is k n) ∙ octet_again (n / 256 ^ k)) (ap (λ x. 256 ^ x) (length_bytes k n))) (number_of_bytes k n)
     ∙ (sym (mod-mul n {m = 256} {c = 256 ^ k} (omega arith) (one-le-pow k 256 (omega arith))) ∙ ap (λ x. n % x) (sym (pow-succ' 256 k)))
 
--- The number that the octets spell, by the bits.
+-- The number that the octets represent, by the bits.
 signed_bytes : (k n : ℕ) → n < 256 * 256 ^ k → signed (bytes_high_first (suc k) n) ≡ pos n -ℤ pos (n / 256 ^ k / 128 * (256 * 256 ^ k))
 signed_bytes k n h =
     let p : 256 ^ length (bytes_high_first (suc k) n) ≡ 256 * 256 ^ k = ap (λ x. 256 ^ x) (length_bytes (suc k) n) ∙ pow-succ' 256 k in
@@ -73,7 +73,7 @@ signed_after_zero n h =
     plain : (p n : ℕ) → pos (0 * p + n) ≡ pos n
     plain p n = omega (arith, ints)
 
--- A step of the fold of digits, where 128 bits hold the number.
+-- A step of the fold of digits, if the number fits in 128 bits.
 pub record DigitStep (l : List ℕ) (i : ℕ) (number : ℕ) : Type 0 where
   pub fits : number * 256 + get_or l i 0 < 2 ^ 128
   pub is : number * 256 + get_or l i 0 ≡ number_in 256 (take (i + 1) l)
@@ -88,7 +88,7 @@ digit_step l i number o h few e =
     let b = below_power (take (i + 1) l) in
     record { fits = omega arith; is = f }
 
--- What 128 bits hold without a sign, and what they don't.
+-- The numbers that fit in 128 bits without a sign, and those that don't.
 pub without_sign : (l : List ℕ) → AreOctets l → 0 < length l → get_or l 0 0 < 128 → signed l ≡ pos (number_in 256 l)
 without_sign [] o h k = absurd (omega arith)
 without_sign (b ∷ l) o h k = signed_low b l k ∙ ap (λ x. pos (x * 256 ^ length l + number_in 256 l)) (sym (mod-eq_of_lt o.0))

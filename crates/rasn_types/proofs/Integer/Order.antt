@@ -1,4 +1,4 @@
--- The order of whole numbers, decided by their fewest octets.
+-- The order of whole numbers by their fewest octets.
 use Rattle.std.proofs.Common.{◌≡◌, ℕ, ◌+◌, ◌*◌, ◌^◌, ◌/◌, ◌<◌, ◌≤◌, ◌⊎◌, inl, inr, List, [], ◌∷◌, length, get_or, ℤ, pos, neg_ℤ, ◌+ℤ◌, ◌-ℤ◌, ◌≤ℤ◌, ◌<ℤ◌, refl, sym, ap, ◌∙◌, subst, arith, Ordering, Less, Equal, Greater}
 use Rattle.std.specs.Ordering.{MatchOrdering, ordering_then, nat_cmp, int_cmp}
 use Rattle.std.specs.Cmp.{ranks, int_cmp_is}
@@ -24,7 +24,7 @@ first_apart Less s p a b x y v w e f h k m g = lower p a b x y v w e f h m
 first_apart Equal s p a b x y v w e f h k m g = level s p a b x y v w e f m g
 first_apart Greater s p a b x y v w e f h k m g = lower p b a y x w v f e k m
 
--- As many octets are ordered as the numbers that they spell.
+-- Octets of the same length have the order of the numbers that they represent.
 octets_ranked : (k l : List ℕ) → AreOctets k → AreOctets l → length k ≡ length l
     → MatchOrdering (slice_cmp nat_cmp k l) (number_in 256 k < number_in 256 l) (number_in 256 k ≡ number_in 256 l) (number_in 256 l < number_in 256 k)
 octets_ranked [] [] o u n = refl
@@ -41,7 +41,7 @@ moved Less n m c y z e f g = omega (arith, ints)
 moved Equal n m c y z e f g = e ∙ (ap (λ x. pos x -ℤ pos c) g ∙ sym f)
 moved Greater n m c y z e f g = omega (arith, ints)
 
--- Numbers of one sign and length are ordered as their octets.
+-- Numbers of the same sign and length have the order of their octets.
 same_length_order : (k l : List ℕ) → AreOctets k → AreOctets l → 0 < length k → length k ≡ length l → get_or k 0 0 / 128 ≡ get_or l 0 0 / 128
     → MatchOrdering (slice_cmp nat_cmp k l) (signed k <ℤ signed l) (signed k ≡ signed l) (signed l <ℤ signed k)
 same_length_order [] l o u h n e = absurd (omega arith)
@@ -57,7 +57,7 @@ pub sign_of : (l : List ℕ) → AreOctets l → 0 < length l → (get_or l 0 0 
 sign_of [] o h = absurd (omega arith)
 sign_of (b ∷ l) o h = (λ k. not_negative b l k, λ k. negative b l k o.0)
 
--- Of more octets a number that isn't negative is greater, and a negative one less.
+-- Of two numbers, the one with more octets is greater if it isn't negative, and less if it is.
 longer_order : (k l : List ℕ) → AreOctets k → AreOctets l → IsShortestInteger k → IsShortestInteger l → length k < length l
     → (pos 0 ≤ℤ signed l → signed k <ℤ signed l) × (signed l <ℤ pos 0 → signed l <ℤ signed k)
 longer_order k [] o u p q n = absurd q

@@ -45,7 +45,7 @@ same_length (a ∷ k) (b ∷ l) o u n e =
     across : (n a m b : ℕ) → pos n -ℤ pos a ≡ pos m -ℤ pos b → b + n ≡ a + m
     across n a m b e = omega (arith, ints)
 
--- A longer one is another number.
+-- A number with more octets is another number.
 longer : (k l : List ℕ) → AreOctets k → AreOctets l → IsShortestInteger k → IsShortestInteger l → length k < length l → signed k ≡ signed l → ⊥
 longer k [] o u p q n e = q
 longer k (c ∷ []) o u p q n e = let h = shortest_some k p in omega arith

@@ -1,4 +1,4 @@
--- The octets that a whole number is shown by.
+-- The octets that a whole number is shown as.
 use Rattle.std.proofs.Common.{◌≡◌, ℕ, zero, suc, ◌+◌, ◌-◌, ◌*◌, ◌^◌, ◌<◌, ◌≤◌, ◌⊎◌, inl, inr, Bool, true, false, nat_lt, if◌then◌else◌, List, [], ◌∷◌, ◌++◌, length, get_or, ℤ, pos, negsuc, ◌-ℤ◌, ◌<ℤ◌, FitsSigned, codes, refl, sym, ap, ◌∙◌, arith}
 use Rattle.std.specs.Int.{w128}
 use Rattle.std.specs.List.{AllByRecursion}
@@ -17,7 +17,7 @@ use Rattle.rasn_types.specs.Text.{after_sign, complement, fewest_octets, shown_n
 use Rattle.rasn_types.proofs.Integer.TwosComplement.{first_digit, signed_low, signed_high, negative, half}
 use Rattle.rasn_types.proofs.Integer.Shortest.{same_shortest}
 
--- digits are octets
+-- Digits are octets.
 are_digits : (l : List ℕ) → AllByRecursion (λ d. d < 256) l → AreOctets l
 are_digits [] h = tt
 are_digits (b ∷ l) h = (h.0, are_digits l h.1)
@@ -128,11 +128,11 @@ unfolding fewest_octets
 fewest (pos n) = number_after_sign n
 fewest (negsuc n) = complement_of n (after_sign (digits_of 256 n)) (number_after_sign n)
 
--- The octets of a number are those that it is shown by.
+-- The octets of a number are those that it is shown as.
 fewest_is : (l : List ℕ) (z : ℤ) → IsShortestOf z l → fewest_octets z ≡ l
 fewest_is l z s = let f = fewest z in same_shortest (fewest_octets z) l f.octets s.octets f.shortest s.shortest (f.is ∙ sym s.is)
 
--- The text, by what 128 bits hold.
+-- The text, if the number fits in 128 bits and if it doesn't.
 pub shown_signed : (z : ℤ) → FitsSigned w128 z → shown_number z ≡ signed_decimal z
 unfolding shown_number
 shown_signed (pos n) f = let h = f.sfits in ap (λ b. if b then decimal n else codes "0x" ++ hexadecimal (fewest_octets (pos n))) (lt-ltb n (2 ^ 128) (omega arith))

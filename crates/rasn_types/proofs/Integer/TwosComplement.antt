@@ -32,7 +32,7 @@ below_power = number_lt 256 (omega arith)
 pub first_digit : (b : ℕ) (l : List ℕ) → b < 256 → number_in 256 (b ∷ l) ≡ b * 256 ^ length l + number_in 256 l
 first_digit b l h = ap (λ z. z * 256 ^ length l + number_in 256 l) (mod-eq_of_lt h)
 
--- a number whose first octet is below 128
+-- A number whose first octet is below 128.
 pub signed_low : (b : ℕ) (l : List ℕ) → b < 128 → signed (b ∷ l) ≡ pos (b * 256 ^ length l + number_in 256 l)
 signed_low b l h = ap₂ (λ x y. pos x -ℤ pos (y * 256 ^ length (b ∷ l))) (first_digit b l (omega arith)) (small b h)
     ∙ plain (b * 256 ^ length l + number_in 256 l) (256 ^ length (b ∷ l))
@@ -40,7 +40,7 @@ signed_low b l h = ap₂ (λ x y. pos x -ℤ pos (y * 256 ^ length (b ∷ l))) (
     plain : (n p : ℕ) → pos n -ℤ pos (0 * p) ≡ pos n
     plain n p = omega (arith, ints)
 
--- and one whose first octet isn't
+-- A number whose first octet isn't below 128.
 pub signed_high : (b : ℕ) (l : List ℕ) → 128 ≤ b → b < 256
     → signed (b ∷ l) ≡ pos (b * 256 ^ length l + number_in 256 l) -ℤ pos (256 * 256 ^ length l)
 signed_high b l h k = ap₂ (λ x y. pos x -ℤ pos (y * 256 ^ length (b ∷ l))) (first_digit b l k) (great b h k)
@@ -49,7 +49,7 @@ signed_high b l h k = ap₂ (λ x y. pos x -ℤ pos (y * 256 ^ length (b ∷ l))
     plain : (n p q : ℕ) → p ≡ q → pos n -ℤ pos (1 * p) ≡ pos n -ℤ pos q
     plain n p q e = omega (arith, ints)
 
--- The first octet decides the sign.
+-- The first octet determines the sign.
 pub not_negative : (b : ℕ) (l : List ℕ) → b < 128 → pos 0 ≤ℤ signed (b ∷ l)
 not_negative b l h = subst (λ z. pos 0 ≤ℤ z) (sym (signed_low b l h)) (omega (arith, ints))
 
@@ -60,7 +60,7 @@ negative b l h k = subst (λ z. z <ℤ pos 0) (sym (signed_high b l h k))
     under : (n p : ℕ) → n < p → (pos n -ℤ pos p) <ℤ pos 0
     under n p h = omega (arith, ints)
 
--- An octet that only repeats the sign of what follows it changes nothing.
+-- An octet that only repeats the sign of the octet after it changes nothing.
 pub same_by_zero : (b : ℕ) (l : List ℕ) → b < 128 → signed (0 ∷ b ∷ l) ≡ signed (b ∷ l)
 same_by_zero b l h = signed_low 0 (b ∷ l) (omega arith)
     ∙ (plain (256 ^ length (b ∷ l)) (number_in 256 (b ∷ l)) ∙ (ap pos (first_digit b l (omega arith)) ∙ sym (signed_low b l h)))
@@ -76,7 +76,7 @@ same_by_ones b l h k = signed_high 255 (b ∷ l) (omega arith) (omega arith)
     plain : (p q n m : ℕ) → p ≡ q → n ≡ m → pos (255 * p + n) -ℤ pos (256 * p) ≡ pos m -ℤ pos q
     plain p q n m e f = omega (arith, ints)
 
--- What so many octets hold.
+-- The numbers that fit in these octets.
 pub within_octets : (l : List ℕ) → AreOctets l → 0 < length l
     → (neg_ℤ (pos (256 ^ length l)) ≤ℤ (signed l +ℤ signed l)) × ((signed l +ℤ signed l) <ℤ pos (256 ^ length l))
 within_octets [] o h = absurd (omega arith)
@@ -96,7 +96,7 @@ within_octets (b ∷ l) o h = go (half b)
         high (256 ^ length l) (b * 256 ^ length l + number_in 256 l) (256 ^ length (b ∷ l)) (signed (b ∷ l)) (signed_high b l k o.0)
         (omega arith) (digits_lt o.0 (below_power l)) (pow-succ' 256 (length l))
 
--- not negative, and more than one octet
+-- A number that isn't negative and has more than one octet.
 far : (c d m q : ℕ) → m < q → (((c ≡ 0) × (d < 128)) → ⊥) → 128 * q ≤ c * (256 * q) + (d * q + m)
 far c d m q h low = by (cases_order c 0)
   where
@@ -109,7 +109,7 @@ far c d m q h low = by (cases_order c 0)
     by (inr (inl z)) = absurd (omega arith)
     by (inr (inr z)) = let g : 1 * (256 * q) ≤ c * (256 * q) = mul-le-mul_right (256 * q) z in omega arith
 
--- negative, and more than one octet
+-- A number that is negative and has more than one octet.
 deep : (c d m q : ℕ) → c < 256 → d < 256 → m < q → (((c ≡ 255) × (128 ≤ d)) → ⊥) → c * (256 * q) + (d * q + m) < 256 * (256 * q) - 128 * q
 deep c d m q hc hd hm high = by (cases_order c 255)
   where
@@ -127,7 +127,7 @@ deep c d m q hc hd hm high = by (cases_order c 255)
     by (inr (inl z)) = let g : c * (256 * q) ≤ 254 * (256 * q) = mul-le-mul_right (256 * q) (omega arith) in let r = rest in omega arith
     by (inr (inr z)) = absurd (omega arith)
 
--- Shortest octets hold a number that fewer octets don't.
+-- The fewest octets hold a number that doesn't fit in fewer.
 pub beyond_octets : (c d : ℕ) (l : List ℕ) → AreOctets (c ∷ d ∷ l) → IsShortestInteger (c ∷ d ∷ l)
     → ((signed (c ∷ d ∷ l) +ℤ signed (c ∷ d ∷ l)) <ℤ neg_ℤ (pos (256 ^ length (d ∷ l)))) ⊎ (pos (256 ^ length (d ∷ l)) ≤ℤ (signed (c ∷ d ∷ l) +ℤ signed (c ∷ d ∷ l)))
 beyond_octets c d l o s = go (half c)
@@ -185,7 +185,7 @@ short_behind zero (a ∷ b ∷ l) h r = r (omega arith)
 short_behind (suc i) [] h r = absurd (omega arith)
 short_behind (suc i) (a ∷ l) h r = short_behind i l (omega arith) (λ k. r (omega arith))
 
--- The octets so far, folded from the left, where sign is 1 for a negative number.
+-- The octets so far, folded from the left. `sign` is 1 for a negative number.
 abbrev pub folded : ℕ → List ℕ → ℤ
 folded sign l = pos (number_in 256 l) -ℤ pos (sign * 256 ^ length l)
 
@@ -233,7 +233,7 @@ fits_128 : (z : ℤ) → neg_ℤ (pos (2 ^ 127)) ≤ℤ z → z ≤ℤ pos (2 ^ 
 fits_128 (pos n) low high = record { sfits = omega (arith, ints) }
 fits_128 (negsuc n) low high = record { sfits = omega (arith, ints) }
 
--- A step of the fold, where 128 bits hold the number.
+-- A step of the fold, if the number fits in 128 bits.
 pub record FoldStep (l : List ℕ) (i : ℕ) (number : ℤ) : Type 0 where
   pub shifts : FitsSigned w128 (number *ℤ pos 256)
   pub adds : FitsSigned w128 (number *ℤ pos 256 +ℤ pos (get_or l i 0))
@@ -258,14 +258,14 @@ fold_step l i number o h few e =
     fits a b z p h e k low high =
         (fits_128 (a *ℤ pos 256) (omega (arith, ints)) (omega (arith, ints)), fits_128 (a *ℤ pos 256 +ℤ pos b) (omega (arith, ints)) (omega (arith, ints)))
 
--- The same, as the program computes it.
+-- The same step, as the program computes it.
 pub stepped : (l : List ℕ) (i : ℕ) (number octet : ℤ) → FoldStep l i number → FitsSigned w128 octet → octet ≡ pos (get_or l i 0)
     → to_z w128 (of_z w128 (to_z w128 (of_z w128 (number *ℤ pos 256)) +ℤ to_z w128 (of_z w128 octet))) ≡ folded (get_or l 0 0 / 128) (take (i + 1) l)
 stepped l i number octet s f e =
     ap₂ (λ x y. to_z w128 (of_z w128 (x +ℤ y))) (to_z-of_z w128 (number *ℤ pos 256) s.shifts) (to_z-of_z w128 octet f ∙ e)
     ∙ (to_z-of_z w128 (number *ℤ pos 256 +ℤ pos (get_or l i 0)) s.adds ∙ rw (add-one i) s.is)
 
--- What 128 bits hold, and what they don't.
+-- The numbers that fit in 128 bits, and those that don't.
 pub in_128 : (l : List ℕ) → AreOctets l → 0 < length l → length l ≤ 16 → IsIn (signed_range 128) (signed l)
 in_128 l o h few =
     let w = within_octets l o h in
@@ -287,7 +287,7 @@ not_in_128 (c ∷ d ∷ l) o s h i =
     plain z p k (inl e) low high = omega (arith, ints)
     plain z p k (inr e) low high = omega (arith, ints)
 
--- On which side a number lies that 128 bits don't hold.
+-- Whether a number that doesn't fit in 128 bits is above or below those that do.
 pub far_below : (l : List ℕ) → AreOctets l → 0 < length l → 128 ≤ get_or l 0 0 → (IsIn (signed_range 128) (signed l) → ⊥)
     → signed l <ℤ neg_ℤ (pos (2 ^ 127))
 far_below [] o h k far = absurd (omega arith)

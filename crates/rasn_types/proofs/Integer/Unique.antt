@@ -35,7 +35,7 @@ apart b p n c d q m hb hc hd hn hm hp low high e = go (cases_order b 128) (cases
     great : (x : ℕ) → 128 ≤ x → x < 256 → x / 128 ≡ 1
     great x h k = omega arith
 
-    -- not negative: at least 128 q
+    -- Not negative: at least 128 q.
     far : c < 128 → 128 * q ≤ c * (256 * q) + (d * q + m)
     far h = far_by (cases_order c 0)
       where
@@ -49,7 +49,7 @@ apart b p n c d q m hb hc hd hn hm hp low high e = go (cases_order b 128) (cases
         far_by (inr (inl z)) = absurd (omega arith)
         far_by (inr (inr z)) = let g : 1 * (256 * q) ≤ c * (256 * q) = mul-le-mul_right (256 * q) z in omega arith
 
-    -- negative: below 65536 q - 128 q
+    -- Negative: below 65536 q - 128 q.
     deep : 128 ≤ c → c * (256 * q) + (d * q + m) < 256 * (256 * q) - 128 * q
     deep h = deep_by (cases_order c 255)
       where

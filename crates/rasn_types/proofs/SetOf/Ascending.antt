@@ -1,8 +1,8 @@
--- Runs of octets that don't fall (X.690 11.6).
+-- Runs of octets in ascending order (X.690 11.6).
 use Rattle.std.proofs.Common.{◌≡◌, ℕ, List, [], ◌∷◌, ◌++◌, refl, subst}
 use Rattle.rasn_types.specs.Order.{IsLess, AreAscending}
 
--- The last of these octets are the piece; of none it is empty.
+-- The piece is the last of these lists, or empty if there are none.
 abbrev pub EndsBy : List (List ℕ) → List ℕ → Type 0
 EndsBy [] piece = piece ≡ []
 EndsBy (b ∷ []) piece = piece ≡ b
@@ -27,7 +27,7 @@ out_of_order [] piece next e h d = nothing_less next (subst (IsLess next) e h)
 out_of_order (b ∷ []) piece next e h d = d.0 (subst (IsLess next) e h)
 out_of_order (a ∷ b ∷ bs) piece next e h d = out_of_order (b ∷ bs) piece next e h d.1
 
--- the first of these don't fall where none of them does
+-- If a list is in ascending order, so is its front.
 pub fall_front : (bs more : List (List ℕ)) → AreAscending IsLess (bs ++ more) → AreAscending IsLess bs
 fall_front [] more d = tt
 fall_front (b ∷ []) more d = tt

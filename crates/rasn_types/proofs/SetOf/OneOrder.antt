@@ -1,4 +1,4 @@
--- Octet strings in order have one order.
+-- Octet strings have only one ascending order.
 use Rattle.std.proofs.Common.{◌≡◌, ℕ, zero, suc, ◌+◌, ◌<◌, ◌⊎◌, inl, inr, List, [], ◌∷◌, refl, sym, ap, ap₂, ◌∙◌, subst, arith, sum_by, IsPermutation}
 use Rattle.std.proofs.lemmas.List.Sums.{sum_by-cons}
 use Rattle.std.proofs.lemmas.List.Sorted.{sum_by-IsPermutation}
@@ -38,7 +38,7 @@ neither_less (a ∷ x) (b ∷ y) h k = go (neither_less x y) (cases_order a b)
     go f (inr (inl l)) = absurd (h (inl l))
     go f (inr (inr l)) = absurd (k (inl l))
 
--- 1 where the two are equal, else 0
+-- 1 if the two are equal, and otherwise 0.
 is_one : ℕ → ℕ → ℕ
 is_one zero zero = 1
 is_one zero (suc n) = 0

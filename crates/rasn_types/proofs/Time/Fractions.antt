@@ -1,4 +1,4 @@
--- The digits that are written spell their number.
+-- The digits that are written represent their number.
 use Rattle.std.proofs.Common.{◌≡◌, ℕ, zero, suc, ◌+◌, ◌-◌, ◌*◌, ◌/◌, ◌%◌, ◌^◌, ◌<◌, ◌≤◌, ◌⊎◌, ◌≢◌, true, false, ◌==◌, List, [], ◌∷◌, ◌++◌, map, length, refl, sym, ap, ◌∙◌, arith, append_assoc, inl, inr, mul-le-mul_right}
 use Rattle.std.proofs.lemmas.Bool.Decides.{nat_tests}
 use Rattle.std.proofs.Math.Nat.{mod-lt, pow-succ', div-lt_iff_lt-mul}
@@ -73,7 +73,7 @@ digits_back (suc k) n h = elim (test n) [
 pub digits_some : (n : ℕ) → 0 < n → digits_of 9 n ≢ []
 digits_some n h e = let s = digits_of_suc 8 n h in absurd (cc)
 
--- The digits that are written are few, and the last isn't 0.
+-- At most k digits are written, and the last isn't 0.
 pub digits_long : (k n : ℕ) → length (digits_of k n) ≤ k
 digits_long zero n = rw (digits_of_none zero n refl) (omega arith)
 digits_long (suc k) n = elim (test n) [
@@ -125,7 +125,7 @@ parts_some (suc k) (d ∷ c ∷ ds) h n e =
     let i = parts_some k (c ∷ ds) (omega arith) (λ f. cc) e in
     omega (arith, parts_step k d (c ∷ ds), i)
 
--- Few digits of which the last isn't 0 are those that are written.
+-- At most k digits, the last of which isn't 0, are those that are written.
 pub digits_again : (k : ℕ) (ds : List ℕ) → length ds ≤ k → AllByRecursion (λ d. d < 10) ds → EndsInNoZero ds → digits_of k (parts k ds) ≡ ds
 digits_again k [] h a e = rw (parts_nothing k) (digits_of_zero k)
 digits_again zero (d ∷ ds) h a e = absurd (omega arith)

@@ -1,4 +1,4 @@
--- Canonical texts of GeneralizedTime whose length and last digit tell whether they are the shortest ones.
+-- Canonical texts of GeneralizedTime, whose length and last digit determine whether they are the shortest ones.
 use Rattle.std.proofs.Common.{◌≡◌, ◌≢◌, ℕ, ◌+◌, ◌-◌, ◌<◌, ◌≤◌, ◌⊎◌, inl, inr, ◌&&◌, Bool, true, false, get_or, List, [], ◌∷◌, ◌++◌, map, length, Option, Some, None, refl, sym, ap, ◌∙◌, subst, true≢false, arith, append_assoc, length-append}
 use Rattle.std.proofs.lemmas.Bool.Decides.{nat_tests}
 use Rattle.std.specs.Prelude.{not, nat_eq}
@@ -20,7 +20,7 @@ and_right : (a b : Bool) → a && b ≡ true → b ≡ true
 and_right true b e = e
 and_right false b e = cc
 
--- after a year, fourteen digits in all, a fraction and Z
+-- After a year: fourteen digits in all, a fraction and Z.
 spelled_out : (y : ℕ) (clock : Clock) (zone : Zone) (s : Spelling) → s.clock ≡ clock → s.zone ≡ zone → has_seconds clock ≡ true → is_utc zone ≡ true
     → (front : List ℕ) × (length front ≡ 14) × (four y ++ tail_text s ≡ front ++ (fraction_text s.fraction ++ 90 ∷ []))
 spelled_out y (Seconds m n) Utc s c z e f =
@@ -31,12 +31,13 @@ spelled_out y (Seconds m n) Unnamed s c z e f = cc
 spelled_out y (Seconds m n) (East h k) s c z e f = cc
 spelled_out y (Seconds m n) (West h k) s c z e f = cc
 
--- the last of some digits
+-- The last of some digits.
 last_digit : (d : ℕ) (ds : List ℕ) → (front : List ℕ) × (last : ℕ) × (d ∷ ds ≡ front ++ last ∷ []) × (EndsInNoZero (d ∷ ds) → last ≢ 0) × (last ≢ 0 → EndsInNoZero (d ∷ ds))
 last_digit d [] = ([], d, refl, (λ h. h), (λ h. h))
 last_digit d (e ∷ ds) = let r = last_digit e ds in (d ∷ r.0, r.1, ap (λ l. d ∷ l) r.2, r.3, r.4)
 
--- A text of fifteen octets has no fraction; of another one the length and the last octet but one tell.
+-- A text of fifteen octets has no fraction. For any other, the length and the octet before the last determine whether
+-- the fraction is short.
 abbrev pub IsTold : List ℕ → Option (ℕ × List ℕ) → Type 0
 IsTold text f =
     ((length text ≡ 15) × IsShortFraction f)
@@ -77,7 +78,7 @@ text_decided text t c =
     let p = spelled_out c.year c.rest.clock c.rest.zone c.rest refl refl (and_left seconds point (and_left (seconds && point) (is_utc c.rest.zone) a)) (and_right (seconds && point) (is_utc c.rest.zone) a) in
     told p.0 text c.rest.fraction c.spelled.fraction p.1 (c.is ∙ p.2)
 
--- both ways, as a test
+-- A test that is true exactly if P holds.
 whether : (b : Bool) (P : Type 0) → (b ≡ true → P) → (P → b ≡ true) → IsWhether b P
 whether true P f g = f refl
 whether false P f g = λ p. true≢false (sym (g p))

@@ -1,4 +1,4 @@
--- Which texts spell which stamps, by the reading's functions.
+-- The stamps that texts mean, by the functions of the parser.
 use Rattle.std.proofs.Common.{◌≡◌, ℕ, ◌<◌, Bool, true, false, ◌&&◌, List, ◌++◌, Option, Some, None, refl, sym, ap, ◌∙◌, subst, ℤ, pos}
 use Rattle.std.proofs.lemmas.Option.{same_Some, none-some}
 use Rattle.rasn_types.specs.declared.ber.time.text.Fields.{Fields}
@@ -77,7 +77,7 @@ pub utc_parsed : (form : Fields → Bool) (text : List ℕ) (t : Stamp) → Foun
 unfolding short_at
 utc_parsed form = found two 100 two_at two_again two_consumes century form
 
--- What the parsers answer, by what they read.
+-- What the parsers return, by what they read.
 pub none_parsed : (year_of : ℕ → ℕ) (form : Fields → Bool) (o : Option (ℕ × Fields)) → o ≡ None → (t : Stamp) → Found year_of form o t → ⊥
 none_parsed year_of form o e t r = none-some _ (sym e ∙ r.is)
 
@@ -124,6 +124,6 @@ both_off a b e = rw e refl
 pub both_on : (a b : Bool) → a ≡ true → b ≡ true → (a && b) ≡ true
 both_on a b e f = rw (e, f) refl
 
--- without its offset
+-- The moment without its offset.
 pub moment_none : (R : Stamp → Type 0) → ((t : Stamp) → R t → ⊥) → (m : Moment) → ((offset : ℤ) × R (record { moment = m; offset = offset })) → ⊥
 moment_none R h m r = h (record { moment = m; offset = r.0 }) r.1

@@ -1,4 +1,4 @@
-//! Bits gathered piece by piece.
+//! Bits collected piece by piece.
 ghost use Rattle.std.specs.Prelude.{◌≡◌, ◌≤◌, ◌<◌, ◌*◌, ◌^◌, ◌++◌, [], ◌≢◌, length, OnOk, OnErr, MatchOption};
 ghost use Rattle.rasn_types.specs.BitString.{but_last};
 
@@ -7,7 +7,8 @@ use crate::types::bits::packing::{push_joined, shorten};
 use std::alloc::{AllocError, Global};
 use std::marker::Model;
 
-/// Bits one behind the other, as many as memory holds. To contracts they are a list of bits.
+/// A list of bits that is appended to piece by piece, without a limit on its length. Contracts see
+/// it as the list of the bits.
 #[derive(Debug, Drop)]
 pub struct CollectedBits {
     octets: Vec<u8>,
@@ -26,7 +27,7 @@ impl Model for CollectedBits {
 }
 
 impl CollectedBits {
-    /// No bits yet.
+    /// Returns an empty list.
     pub fn new(alloc: Global) -> CollectedBits
         ensures { result ≡ [] }
     {
@@ -36,8 +37,8 @@ impl CollectedBits {
         }
     }
 
-    /// Appends the bits of octets, but the last `unused` ones. If an allocation fails, which it may only where there are bits, nothing is
-    /// appended.
+    /// Appends the bits of the octets, except the last `unused` ones. If an allocation fails, which
+    /// happens only if there are bits to append, nothing is appended.
     pub fn append(&mut self, octets: &[u8], unused: usize) -> Result<(), AllocError>
         requires few { unused < 8 }
         requires held { unused ≤ 8 * length octets.now }
@@ -56,7 +57,7 @@ impl CollectedBits {
         Ok(())
     }
 
-    /// The bits as a string. `None` where there are 2^64 or more.
+    /// Returns the bits as a string, or `None` if there are 2^64 bits or more.
     pub fn into_string(self) -> Option<BitString>
         ensures { MatchOption result (2 ^ 64 ≤ length self) (λ s. s ≡ self) }
     {

@@ -6,7 +6,8 @@ use crate::types::{Class, Tag};
 use std::marker::Model;
 use std::ops::Deref;
 
-/// A tag and whether the encoding is constructed, ordered by the tag and then primitive before constructed.
+/// A tag, and whether the encoding is constructed. Identifiers are ordered by the tag, then
+/// primitive before constructed.
 #[derive(Clone, Copy, Debug, PartialEq, Eq, PartialOrd, Ord)]
 pub struct Identifier {
     /// The tag.
@@ -25,14 +26,14 @@ impl Model for Identifier {
 }
 
 impl Identifier {
-    /// The identifier of a class, a bit and a tag number.
+    /// Returns the identifier with a class, a constructed bit and a tag number.
     pub fn new(class: Class, is_constructed: bool, tag: u32) -> Identifier
         ensures { result ≡ record { tag = record { class = class; value = tag }; bit = is_constructed } }
     {
         Identifier::from_tag(Tag::new(class, tag), is_constructed)
     }
 
-    /// The identifier of a tag and a bit.
+    /// Returns the identifier with a tag and a constructed bit.
     pub fn from_tag(tag: Tag, is_constructed: bool) -> Identifier
         ensures { result ≡ record { tag = tag; bit = is_constructed } }
     {
@@ -42,7 +43,7 @@ impl Identifier {
         }
     }
 
-    /// An identifier of this class and bit with another tag number.
+    /// Returns the identifier with this class and constructed bit and another tag number.
     pub fn tag(self, tag: u32) -> Identifier
         ensures { result ≡ record { tag = record { class = self.tag.class; value = tag }; bit = self.bit } }
     {
@@ -52,14 +53,14 @@ impl Identifier {
         }
     }
 
-    /// Whether the encoding is constructed.
+    /// Returns whether the encoding is constructed.
     pub fn is_constructed(&self) -> bool
         ensures { result ≡ self.now.bit }
     {
         self.is_constructed
     }
 
-    /// Whether the encoding is primitive.
+    /// Returns whether the encoding is primitive.
     pub fn is_primitive(&self) -> bool
         ensures { result ≡ not self.now.bit }
     {
@@ -67,7 +68,8 @@ impl Identifier {
     }
 }
 
-/// Whether values of this tag are constructed whatever is written: EXTERNAL, SEQUENCE and SET (X.690 8.18, 8.9, 8.11).
+/// Returns whether every value with this tag is constructed: EXTERNAL, SEQUENCE and SET
+/// (X.690 8.18, 8.9, 8.11).
 #[inline]
 pub fn is_always_constructed(tag: Tag) -> bool
     ensures { result ≡ tag_bit tag }

@@ -1,4 +1,4 @@
-//! What the encoding rules allow (X.690 9, 10, 11): the one place where reader and writer ask it.
+//! What each set of encoding rules allows (X.690 9, 10, 11), for the decoder and the encoder.
 ghost use Rattle.std.specs.Prelude.{◌≡◌, ◌^◌, ◌-◌};
 ghost use Rattle.rasn_types.specs.Truth.{IsWhether};
 ghost use Rattle.rasn_types.specs.Tags.{form, IsStrict};
@@ -9,10 +9,11 @@ ghost use Rattle.rasn_types.specs.declared.types.codec.Codec.TheVariants.{Ber};
 
 use crate::types::Codec;
 
-/// How many contents octets the canonical rules leave in one piece of a string (X.690 9.2).
+/// The highest number of contents octets in one segment of a string under the canonical rules
+/// (X.690 9.2).
 pub const MAX_SEGMENT_LENGTH: usize = 1000;
 
-/// A set of encoding rules, and what it allows.
+/// A set of encoding rules, with methods that say what the rules allow.
 #[derive(Clone, Copy, Debug, PartialEq, Eq, PartialOrd, Ord)]
 pub enum EncodingRules {
     /// Basic encoding rules (X.690 8).
@@ -24,7 +25,7 @@ pub enum EncodingRules {
 }
 
 impl EncodingRules {
-    /// The rules of this name.
+    /// Returns the rules with this name.
     #[inline]
     pub fn of_codec(codec: Codec) -> EncodingRules
         ensures { codec_of result ≡ codec }
@@ -36,7 +37,7 @@ impl EncodingRules {
         }
     }
 
-    /// The rules' name.
+    /// Returns the name of the rules.
     #[inline]
     pub fn codec(self) -> Codec
         ensures { result ≡ codec_of self }
@@ -48,7 +49,7 @@ impl EncodingRules {
         }
     }
 
-    /// Whether these are the basic rules, under which any encoding of a value may stand for it.
+    /// Returns whether these are the basic rules, under which a value may have several encodings.
     #[inline]
     pub fn is_ber(self) -> bool
         ensures { IsWhether result (codec_of self ≡ Ber) }
@@ -56,8 +57,8 @@ impl EncodingRules {
         matches!(self, EncodingRules::Ber)
     }
 
-    /// Whether these are the canonical rules, which write values that hold others in the indefinite form and long strings in
-    /// segments (X.690 9.1, 9.2).
+    /// Returns whether these are the canonical rules, under which constructed values are written in
+    /// the indefinite form and long strings in segments (X.690 9.1, 9.2).
     #[inline]
     pub fn is_cer(self) -> bool
         ensures { IsWhether result (IsCer (codec_of self)) }
@@ -65,7 +66,8 @@ impl EncodingRules {
         matches!(self, EncodingRules::Cer)
     }
 
-    /// Whether these are the distinguished rules, under which only what their writer writes is read (X.690 10, 11).
+    /// Returns whether these are the distinguished rules, under which each value has one encoding
+    /// and no other is read (X.690 10, 11).
     #[inline]
     pub fn is_der(self) -> bool
         ensures { IsWhether result (IsStrict (codec_of self)) }
@@ -73,7 +75,7 @@ impl EncodingRules {
         matches!(self, EncodingRules::Der)
     }
 
-    /// Whether strings may be constructed, of segments (X.690 8.6.4, 8.7.3, 10.2).
+    /// Returns whether strings may be constructed of segments (X.690 8.6.4, 8.7.3, 10.2).
     #[inline]
     pub fn allows_constructed_strings(self) -> bool
         ensures { IsWhether result (IsStrict (codec_of self) → ⊥) }
@@ -81,7 +83,8 @@ impl EncodingRules {
         matches!(self, EncodingRules::Ber | EncodingRules::Cer)
     }
 
-    /// Whether lengths may have the indefinite form (X.690 8.1.3.6, 10.1), and so end-of-contents octets stand where values do.
+    /// Returns whether lengths may have the indefinite form (X.690 8.1.3.6, 10.1), so that
+    /// end-of-contents octets may follow values.
     #[inline]
     pub fn allows_indefinite(self) -> bool
         ensures { IsWhether result (HasIndefinite (form (codec_of self))) }
@@ -89,7 +92,8 @@ impl EncodingRules {
         matches!(self, EncodingRules::Ber | EncodingRules::Cer)
     }
 
-    /// How many contents octets of a string are written in one piece: 1000 under the canonical rules (X.690 9.2), else as many as there are.
+    /// Returns the highest number of contents octets that are written in one segment of a string:
+    /// 1000 under the canonical rules (X.690 9.2), otherwise `usize::MAX`.
     #[inline]
     pub fn max_string_length(self) -> usize
         ensures canonical { IsCer (codec_of self) → result ≡ 1000 }

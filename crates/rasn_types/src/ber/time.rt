@@ -1,4 +1,4 @@
-//! Times as texts (X.680 46, 47; X.690 11.7, 11.8).
+//! Times as text (X.680 46, 47; X.690 11.7, 11.8).
 
 mod parse;
 mod text;

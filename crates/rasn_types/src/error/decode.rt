@@ -5,17 +5,17 @@ ghost use Rattle.rasn_types.specs.Truth.{IsWhether};
 
 use crate::types::{Bounded, Codec, Integer, Tag};
 
-/// How many more octets are needed.
+/// The number of octets that are missing.
 #[derive(Clone, Copy, Debug, PartialEq, Eq)]
 pub enum Needed {
-    /// It isn't known how many.
+    /// The number isn't known.
     Unknown,
-    /// So many octets.
+    /// This number of octets.
     Size(usize),
 }
 
 impl Needed {
-    /// So many octets; not known where that is 0.
+    /// Returns the number of missing octets, or `Unknown` if it is 0.
     pub fn new(octets: usize) -> Needed
         ensures { result ≡ needed_of octets }
     {
@@ -27,7 +27,7 @@ impl Needed {
     }
 }
 
-/// Why a value isn't read, and under which rules.
+/// The reason why a value isn't read, and the rules by which it was read.
 #[derive(Debug, PartialEq, Eq, Drop)]
 pub struct DecodeError {
     /// What is wrong.
@@ -36,11 +36,11 @@ pub struct DecodeError {
     pub codec: Codec,
 }
 
-// Every layer hands it on.
+// Every layer returns this type, so its size is kept small.
 const _: () = prove!(size_of::<Result<(), DecodeError>>() == 80);
 
 impl DecodeError {
-    /// Whether the cause is running out of memory alone.
+    /// Returns whether the cause is a failed allocation.
     pub fn is_out_of_memory(&self) -> bool
         ensures { IsWhether result (IsOutOfMemory self.now.kind) }
     {
@@ -48,64 +48,68 @@ impl DecodeError {
     }
 }
 
-/// Why a value isn't read. Lengths, counts and positions are in octets unless told otherwise.
+/// The reason why a value isn't read. Lengths, counts and positions are in octets unless said
+/// otherwise.
 #[derive(Debug, PartialEq, Eq, Drop)]
 pub enum DecodeErrorKind {
-    /// The input ends within a piece (X.690 8.1).
+    /// The input ends within an encoding (X.690 8.1).
     Incomplete {
         needed: Needed,
     },
-    /// Octets are left where a value or an input has to end.
+    /// Octets remain where a value or the input has to end.
     UnexpectedExtraData {
         length: usize,
     },
-    /// No octets stand where at least one has to.
+    /// There are no octets where at least one is needed.
     UnexpectedEmptyInput,
-    /// Values are nested too deep.
+    /// Values are nested too deeply.
     ExceedsMaxParseDepth,
     /// REAL isn't supported.
     RealNotSupported,
-    /// A growth of memory was refused.
+    /// An allocation failed.
     OutOfMemory,
-    /// A length, or a count of bits, of 2^64 or more.
+    /// A length, or a number of bits, is 2^64 or more.
     LengthExceedsPlatformWidth,
-    /// A BOOLEAN that is neither `00` nor `FF` under canonical rules (X.690 11.1).
+    /// A BOOLEAN is neither `00` nor `FF` under canonical rules (X.690 11.1).
     InvalidBool {
         value: u8,
     },
-    /// Contents of a fixed length have another one.
+    /// The contents of a type of fixed length have another length.
     MismatchedLength {
         expected: usize,
         actual: usize,
     },
-    /// The number needs more than `max_width` bits, or is negative where the type isn't.
+    /// The number needs more than `max_width` bits, or is negative and the type is unsigned.
     IntegerOverflow {
         max_width: u32,
     },
-    /// The number isn't one of the enumeration's.
+    /// The enumeration has no such number.
     DiscriminantValueNotFound {
         discriminant: isize,
     },
-    /// The count of unused bits of a BIT STRING is above 7, or above 0 with no octet behind it (X.690 8.6.2).
+    /// The number of unused bits of a BIT STRING is above 7, or above 0 with no octet after it
+    /// (X.690 8.6.2).
     InvalidBitString {
         bits: u8,
     },
-    /// The size is out of its bound: of octets, characters, units, bits or elements, as the type counts.
+    /// The size violates its constraint. It is in octets, characters, units, bits or elements,
+    /// depending on the type.
     SizeConstraintNotSatisfied {
         size: Option<usize>,
         expected: Bounded<usize>,
     },
-    /// The number is out of its bound. The bound is boxed, so that no error is made large by it.
+    /// The number violates its constraint. The bound is boxed to keep all errors small.
     ValueConstraintNotSatisfied {
         value: Integer,
         expected: Box<Bounded<i128>>,
     },
-    /// The first octet that the alphabet doesn't have, at its place counted from 0.
+    /// An octet isn't in the alphabet of its type: the first such octet, and its position counted
+    /// from 0.
     PermittedAlphabetError {
         octet: u8,
         position: usize,
     },
-    /// The octets aren't of the string type with this tag.
+    /// The octets aren't valid in the string type with this tag.
     StringConversionFailed {
         tag: Tag,
     },
@@ -134,52 +138,52 @@ pub enum CodecDecodeError {
     Der(DerDecodeErrorKind),
 }
 
-/// Causes of X.690 8, under all three rules.
+/// Causes defined by X.690 8, under all three rules.
 #[derive(Debug, PartialEq, Eq, Drop)]
 pub enum BerDecodeErrorKind {
-    /// A tag number of 2^32 or more (X.690 8.1.2.4).
+    /// A tag number is 2^32 or more (X.690 8.1.2.4).
     UnsupportedTagNumber,
-    /// An arc of 2^32 or more (X.690 8.19).
+    /// An arc is 2^32 or more (X.690 8.19).
     UnsupportedObjectIdentifierArc,
-    /// End-of-contents octets stand where a value has to (X.690 8.1.5).
+    /// End-of-contents octets are present where a value is needed (X.690 8.1.5).
     UnexpectedEndOfContents,
-    /// A value stands where end-of-contents octets have to (X.690 8.1.5).
+    /// A value is present where end-of-contents octets are needed (X.690 8.1.5).
     MissingEndOfContents,
     /// The indefinite form isn't allowed here (X.690 8.1.3.2, 10.1).
     IndefiniteLengthNotAllowed,
-    /// `FF` as the first length octet (X.690 8.1.3.5).
+    /// The first length octet is `FF` (X.690 8.1.3.5).
     ReservedLengthOctet,
-    /// Another tag than the expected one.
+    /// The tag isn't the expected one.
     MismatchedTag { expected: Tag, actual: Tag },
-    /// A SEQUENCE, SET or list without the constructed bit (X.690 8.9.1).
+    /// A SEQUENCE, a SET or a list lacks the constructed bit (X.690 8.9.1).
     InvalidConstructedIdentifier,
-    /// Arcs that aren't an object identifier's.
+    /// The arcs aren't those of an object identifier.
     InvalidObjectIdentifier,
-    /// The text isn't of the time type.
+    /// The text isn't one of the time type.
     InvalidDate { octets: Vec<u8> },
 }
 
-/// Causes of X.690 10 and 11, under DER: another encoding of the value than the one that DER writes.
+/// Causes defined by X.690 10 and 11, under DER: the encoding isn't the one that DER writes.
 #[derive(Clone, Copy, Debug, PartialEq, Eq)]
 pub enum DerDecodeErrorKind {
-    /// A string in segments (X.690 10.2).
+    /// A string is encoded in segments (X.690 10.2).
     ConstructedEncodingNotAllowed,
-    /// A tag number in more octets than it needs (X.690 8.1.2.4.2).
+    /// A tag number has more octets than it needs (X.690 8.1.2.4.2).
     NonMinimalTagNumber,
     /// The constructed bit isn't the one that the type is written with (X.690 8.1.2.5).
     ConstructedBitMismatch,
-    /// A length in more octets than it needs (X.690 10.1).
+    /// A length has more octets than it needs (X.690 10.1).
     NonMinimalLength,
-    /// A number whose first nine bits are equal (X.690 8.3.2).
+    /// The first nine bits of a number are equal (X.690 8.3.2).
     NonMinimalInteger,
-    /// A subidentifier of an object identifier in more octets than it needs (X.690 8.19.2).
+    /// A subidentifier of an object identifier has more octets than it needs (X.690 8.19.2).
     NonMinimalArc,
     /// An unused bit of a BIT STRING is set (X.690 11.2.1).
     NonzeroUnusedBits,
-    /// A part that equals its default is there (X.690 11.5).
+    /// A part that equals its default is present (X.690 11.5).
     DefaultValuePresent,
     /// The tags of the components of a SET aren't in ascending order (X.690 10.3).
     SetComponentsOutOfOrder,
-    /// The octets of the elements of a SET OF aren't in ascending order (X.690 11.6).
+    /// The encodings of the elements of a SET OF aren't in ascending order (X.690 11.6).
     SetOfOutOfOrder,
 }

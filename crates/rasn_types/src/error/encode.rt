@@ -4,7 +4,7 @@ ghost use Rattle.rasn_types.specs.Truth.{IsWhether};
 
 use crate::types::{Bounded, Codec, Integer};
 
-/// Why a value isn't written, and under which rules.
+/// The reason why a value isn't written, and the rules by which it was to be written.
 #[derive(Debug, PartialEq, Eq, Drop)]
 pub struct EncodeError {
     /// What is wrong.
@@ -13,11 +13,11 @@ pub struct EncodeError {
     pub codec: Codec,
 }
 
-// Every layer hands it on.
+// Every layer returns this type, so its size is kept small.
 const _: () = prove!(size_of::<Result<(), EncodeError>>() == 72);
 
 impl EncodeError {
-    /// Whether the cause is running out of memory alone.
+    /// Returns whether the cause is a failed allocation.
     pub fn is_out_of_memory(&self) -> bool
         ensures { IsWhether result (IsEncodeOutOfMemory self.now.kind) }
     {
@@ -25,22 +25,23 @@ impl EncodeError {
     }
 }
 
-/// Why a value isn't written.
+/// The reason why a value isn't written.
 #[derive(Debug, PartialEq, Eq, Drop)]
 pub enum EncodeErrorKind {
-    /// The size is out of its bound: of octets, characters, units, bits or elements, as the type counts.
+    /// The size violates its constraint. It is in octets, characters, units, bits or elements,
+    /// depending on the type.
     SizeConstraintNotSatisfied {
         size: usize,
         expected: Bounded<usize>,
     },
-    /// The number is out of its bound. The bound is boxed, so that no error is made large by it.
+    /// The number violates its constraint. The bound is boxed to keep all errors small.
     ValueConstraintNotSatisfied {
         value: Integer,
         expected: Box<Bounded<i128>>,
     },
     /// REAL isn't supported.
     RealNotSupported,
-    /// A growth of memory was refused.
+    /// An allocation failed.
     OutOfMemory,
     /// A cause that only these rules have.
     CodecSpecific {
@@ -54,13 +55,14 @@ pub enum CodecEncodeError {
     Ber(BerEncodeErrorKind),
 }
 
-/// Causes of X.690 8 to 11.
+/// Causes defined by X.690 8 to 11.
 #[derive(Debug, PartialEq, Eq, Drop)]
 pub enum BerEncodeErrorKind {
-    /// The arcs aren't an object identifier's (X.690 8.19.4).
+    /// The arcs aren't those of an object identifier that can be encoded (X.690 8.19.4).
     InvalidObjectIdentifier { oid: Vec<u32> },
-    /// Open octets without a tag directly in a SET.
+    /// An untagged open type is a component of a SET.
     AnyInSet,
-    /// The tags of a SET's components, or the octets of a SET OF's elements, aren't in ascending order (X.690 9.3, 10.3, 11.6).
+    /// The tags of the components of a SET, or the encodings of the elements of a SET OF, aren't in
+    /// ascending order (X.690 9.3, 10.3, 11.6).
     SetOutOfOrder,
 }

@@ -1,4 +1,5 @@
-//! The texts of errors. They are put together by small functions, which are proved sooner than one for all kinds.
+//! The texts of errors, composed by small functions: they are proved faster than one function for
+//! all kinds.
 ghost use Rattle.std.specs.Prelude.{◌++◌, Some, codes, decimal};
 ghost use Rattle.std.specs.Fmt.{DisplaysOnOk, WritesOnOk, ◌++?◌};
 ghost use Rattle.rasn_types.specs.Text.{two_digits, shown_bounds, shown_rules};
@@ -27,7 +28,7 @@ impl fmt::Display for Codec {
     }
 }
 
-/// The rules, and what is wrong.
+/// Writes the rules, and what is wrong.
 impl fmt::Display for DecodeError {
     ghost use Rattle.rasn_types.specs.ErrorText.{shown_decode_error};
 
@@ -40,7 +41,7 @@ impl fmt::Display for DecodeError {
 
 impl Error for DecodeError {}
 
-/// The rules, and what is wrong.
+/// Writes the rules, and what is wrong.
 impl fmt::Display for EncodeError {
     ghost use Rattle.rasn_types.specs.ErrorText.{shown_encode_error};
 
@@ -229,7 +230,7 @@ impl fmt::Display for BerEncodeErrorKind {
 
 impl Error for BerEncodeErrorKind {}
 
-// The rules, and what is wrong.
+// Writes the rules, and what is wrong.
 fn write_under<W: fmt::Write, K: fmt::Display>(
     f: &mut fmt::Formatter<W>,
     codec: Codec,
@@ -240,7 +241,7 @@ fn write_under<W: fmt::Write, K: fmt::Display>(
     write!(f, "{codec}: {kind}")
 }
 
-// A value after a text.
+// Writes a value after a text.
 fn after<W: fmt::Write, T: fmt::Display>(
     f: &mut fmt::Formatter<W>,
     front: &str,
@@ -251,7 +252,7 @@ fn after<W: fmt::Write, T: fmt::Display>(
     write!(f, "{front}{value}")
 }
 
-// A value between two texts.
+// Writes a value between two texts.
 fn around<W: fmt::Write, T: fmt::Display>(
     f: &mut fmt::Formatter<W>,
     front: &str,
@@ -263,7 +264,7 @@ fn around<W: fmt::Write, T: fmt::Display>(
     write!(f, "{front}{value}{back}")
 }
 
-// What was found and what was expected.
+// Writes what was found and what was expected.
 fn instead<W: fmt::Write, T: fmt::Display>(
     f: &mut fmt::Formatter<W>,
     front: &str,
@@ -276,7 +277,7 @@ fn instead<W: fmt::Write, T: fmt::Display>(
     write!(f, "{front}{actual}, expected {expected}")
 }
 
-// What violates its constraint.
+// Writes what violates its constraint.
 fn outside<W: fmt::Write, V: fmt::Display, T: fmt::Display>(
     f: &mut fmt::Formatter<W>,
     front: &str,
@@ -289,7 +290,7 @@ fn outside<W: fmt::Write, V: fmt::Display, T: fmt::Display>(
     write!(f, "{front}{value} violates the constraint {expected}")
 }
 
-// How many octets of this kind there are.
+// Writes a number of octets of this kind.
 fn write_octets<W: fmt::Write>(f: &mut fmt::Formatter<W>, octets: usize, kind: &str) -> fmt::Result
     ensures { WritesOnOk W.write_str_gives f.old result (shown_octets octets kind.now) f.new }
 {

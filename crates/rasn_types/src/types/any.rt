@@ -8,11 +8,12 @@ use std::cmp::Ordering;
 use std::fmt;
 use std::marker::Model;
 
-/// A value of a type that isn't known here, kept as its octets (X.680 30): one complete encoding, or, under a tag of its own, what
-/// stands inside the value with this tag. To contracts it is the list of its octets.
+/// A value of an open type, kept as its octets (X.680 30): one complete encoding or, under a tag of
+/// its own, the contents octets of the value with this tag. Contracts see it as the list of its
+/// octets.
 ///
-/// They are ordered by their octets, the first that differ deciding; one that another begins with comes before it. So encodings have
-/// the order of the elements of a SET OF (X.690 11.6).
+/// Values are ordered lexicographically by their octets. For complete encodings, this is the order
+/// of the elements of a SET OF (X.690 11.6).
 #[derive(Debug, Drop)]
 pub struct Any {
     octets: Vec<u8>,
@@ -27,21 +28,21 @@ impl Model for Any {
 }
 
 impl Any {
-    /// The value with these octets.
+    /// Returns the value with these octets.
     pub fn new(octets: Vec<u8>) -> Any
         ensures { result ≡ octets.items }
     {
         Any { octets }
     }
 
-    /// Its octets.
+    /// Returns the octets.
     pub fn as_bytes(&self) -> &[u8]
         ensures { result.now ≡ self.now }
     {
         &self.octets
     }
 
-    /// Its octets, without a copy.
+    /// Returns the octets without a copy.
     pub fn into_vec(self) -> Vec<u8>
         ensures { result.items ≡ self }
     {
@@ -50,7 +51,7 @@ impl Any {
     }
 }
 
-/// Its octets in hexadecimal, two digits each.
+/// Writes the octets in hexadecimal, two digits each.
 impl fmt::Display for Any {
     ghost use Rattle.std.specs.Prelude.{Some};
     ghost use Rattle.rasn_types.specs.Text.{hexadecimal};

@@ -1,7 +1,8 @@
-//! What all types have in common.
+//! The items that all types have in common.
 use crate::types::{Constraints, Tag};
 
-/// A type with a tag and constraints of its own. For contracts it has a shape, and each value a tree.
+/// A type with its own tag and constraints. Contracts see a shape of the type, and a tree of each
+/// value.
 pub trait AsnType: Drop {
     ghost use Rattle.std.specs.Prelude.{◌≡◌};
     ghost use Rattle.rasn_types.specs.declared.types.tag.Tag.{Tag};
@@ -10,19 +11,19 @@ pub trait AsnType: Drop {
 
     ghost TAG: { Tag };
 
-    /// The tag that a value has where none is handed in: `Tag::EOC` for a CHOICE and for an open type.
+    /// The tag of a value if no tag is passed in: `Tag::EOC` for a CHOICE and for an open type.
     const TAG: Tag;
 
     ghost CONSTRAINTS: { Constraints };
 
-    /// The constraints that hold where none are handed in.
+    /// The constraints on a value if no constraints are passed in.
     const CONSTRAINTS: Constraints;
 
     ghost shape: { Shape };
 
     ghost tree: { Self → Tree };
 
-    /// Its own tag and constraints change nothing.
+    /// The proof that `TAG` and `CONSTRAINTS` are those of the shape.
     ghost own: { tagged_as TAG CONSTRAINTS shape ≡ shape };
 }
 

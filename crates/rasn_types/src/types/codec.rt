@@ -1,6 +1,6 @@
 //! The name of a set of encoding rules.
 
-/// The rules that a value is read or written by.
+/// The encoding rules that a value is read or written by.
 #[derive(Clone, Copy, Debug, PartialEq, Eq, PartialOrd, Ord, Hash)]
 pub enum Codec {
     /// Basic encoding rules (X.690 8).

@@ -10,7 +10,7 @@ ghost use Rattle.rasn_types.specs.Trees.{signed_range};
 use crate::types::twos_complement::signed_i128;
 use std::fmt;
 
-/// What a number may be. Both ends are included; an end that is `None` is open.
+/// A range of numbers. Both ends are included; an end that is `None` is open.
 #[derive(Clone, Copy, Debug, PartialEq, Eq, Hash, Drop)]
 pub enum Bounded<T> {
     None,
@@ -18,7 +18,7 @@ pub enum Bounded<T> {
     Range { start: Option<T>, end: Option<T> },
 }
 
-/// As the standard writes a range, `MIN` and `MAX` for open ends (X.680 51.4).
+/// Writes the range as in ASN.1, with `MIN` and `MAX` for open ends (X.680 51.4).
 impl<T: fmt::Display> fmt::Display for Bounded<T> {
     ghost use Rattle.rasn_types.specs.Text.{shown_bounds};
 
@@ -37,7 +37,7 @@ impl<T: fmt::Display> fmt::Display for Bounded<T> {
     }
 }
 
-// An end of a range, or what stands for an open one.
+// Writes an end of a range, or `open_end` if the end is open.
 fn write_end<W: fmt::Write, T: fmt::Display>(
     f: &mut fmt::Formatter<W>,
     end: &Option<T>,
@@ -51,21 +51,21 @@ fn write_end<W: fmt::Write, T: fmt::Display>(
     }
 }
 
-/// A constraint. An extensible one isn't checked.
+/// A constraint. An extensible constraint isn't checked.
 #[derive(Clone, Copy, Debug, PartialEq, Eq, Hash, Drop)]
 pub struct Bound<T> {
-    /// What is admitted.
+    /// The admitted values.
     pub constraint: Bounded<T>,
-    /// Whether it has an extension marker (`...`): then every value is admitted.
+    /// Whether the constraint has an extension marker (`...`). Every value is admitted then.
     pub extensible: bool,
 }
 
-/// The constraints that a type or a call is given: of a whole number, and of a size.
+/// The constraints of a type or of a call: on the value of a whole number, and on a size.
 #[derive(Clone, Copy, Debug, Default, PartialEq, Eq, Hash)]
 pub struct Constraints {
-    /// Of the number, where there is one.
+    /// The constraint on the number, if any.
     pub value: Option<Bound<i128>>,
-    /// Of the size, where there is one: in octets, bits, characters or elements.
+    /// The constraint on the size, if any, in octets, bits, characters or elements.
     pub size: Option<Bound<usize>>,
 }
 
@@ -76,7 +76,8 @@ impl Constraints {
         size: None,
     };
 
-    /// Whether a size meets its bound, as each does where there is none or it is extensible.
+    /// Returns whether a size meets its constraint. Every size does if there is no constraint or it
+    /// is extensible.
     pub fn admits_size(&self, size: usize) -> bool
         ensures { IsWhether result (Admits ◌≤◌ self.now.size size) }
     {
@@ -86,8 +87,8 @@ impl Constraints {
         }
     }
 
-    /// Whether the whole number that octets in two's complement stand for (X.690 8.3) meets its bound, as each does where
-    /// there is none or it is extensible.
+    /// Returns whether the whole number that octets represent in two's complement (X.690 8.3) meets
+    /// its constraint. Every number does if there is no constraint or it is extensible.
     #[inline(always)]
     pub fn admits_number(&self, octets: &[u8]) -> bool
         requires { 0 < length octets.now }
@@ -99,14 +100,14 @@ impl Constraints {
         }
     }
 
-    /// What a size may be, for errors that tell it.
+    /// Returns the range of sizes, for errors that report it.
     pub fn size_bounds(&self) -> Bounded<usize>
         ensures { result ≡ constraint_of self.now.size }
     {
         self.size.map_or(Bounded::None, |bound| bound.constraint)
     }
 
-    /// What a whole number may be, for errors that tell it.
+    /// Returns the range of numbers, for errors that report it.
     pub fn value_bounds(&self) -> Bounded<i128>
         ensures { result ≡ constraint_of self.now.value }
     {
@@ -151,7 +152,8 @@ fn is_within(bounded: Bounded<i128>, number: i128) -> bool
     }
 }
 
-// A number beyond 128 bits is inside an open end alone.
+// Returns whether a number that doesn't fit in 128 bits is within the bounds. It is only if the end
+// on its side is open.
 fn is_far_within(bounded: Bounded<i128>, octets: &[u8]) -> bool
     requires some { 0 < length octets.now }
     requires far { IsIn (signed_range 128) (signed octets.now) → ⊥ }

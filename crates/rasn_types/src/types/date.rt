@@ -7,7 +7,8 @@ ghost use Rattle.rasn_types.specs.Truth.{IsWhether};
 use crate::types::{AsnType, Constraints, Tag};
 use std::marker::Model;
 
-/// A day of the proleptic Gregorian calendar, which has a year 0; years run from -99999 to 99999 (X.680 38.4.1).
+/// A day of the proleptic Gregorian calendar, which has a year 0. Years are from -99999 to 99999
+/// (X.680 38.4.1).
 #[derive(Clone, Copy, Debug, PartialEq, Eq, PartialOrd, Ord)]
 pub struct Date {
     year: i32,
@@ -47,7 +48,7 @@ fn month_length(year: i32, month: u8) -> u8
 }
 
 impl Date {
-    /// The day, where there is one.
+    /// Returns the day, or `None` if there is no such day.
     pub fn new(year: i32, month: u8, day: u8) -> Option<Date>
         ensures { let d : Day = record { year = year; month = month; day = day } in IsSomeExactlyIf result (IsDay d) d }
     {
@@ -64,7 +65,7 @@ impl Date {
         }
     }
 
-    /// Its year.
+    /// Returns the year.
     pub fn year(&self) -> i32
         ensures is { result ≡ self.now.year }
         ensures exists { IsDay self.now }
@@ -72,21 +73,21 @@ impl Date {
         self.year
     }
 
-    /// Its month, from 1.
+    /// Returns the month, from 1.
     pub fn month(&self) -> u8
         ensures { result ≡ self.now.month }
     {
         self.month
     }
 
-    /// Its day of the month, from 1.
+    /// Returns the day of the month, from 1.
     pub fn day(&self) -> u8
         ensures { result ≡ self.now.day }
     {
         self.day
     }
 
-    /// The day behind it.
+    /// Returns the day after this one.
     #[tactic(auto, unfolding(crate::specs::Calendar::next_day))]
     pub(crate) fn following(self) -> Date
         requires { self.year <ℤ pos 99999 }
@@ -114,7 +115,7 @@ impl Date {
         }
     }
 
-    /// The day before it.
+    /// Returns the day before this one.
     #[tactic(auto, unfolding(crate::specs::Calendar::previous_day))]
     pub(crate) fn preceding(self) -> Date
         requires { negsuc 99998 <ℤ self.year }
@@ -142,14 +143,14 @@ impl Date {
         }
     }
 
-    /// Whether the two are the same day, as `==` tells.
+    /// Returns whether the two days are the same, as `==` does.
     pub fn is_same(&self, other: &Date) -> bool
         ensures { IsWhether result (self.now ≡ other.now) }
     {
         self == other
     }
 
-    /// Whether it lies before the other day, as `<` tells.
+    /// Returns whether this day is before the other, as `<` does.
     pub fn is_before(&self, other: &Date) -> bool
         ensures { IsWhether result (DayBefore self.now other.now) }
     {

@@ -9,29 +9,29 @@ use crate::types::Tag;
 /// Whether a field is required.
 #[derive(Clone, Copy, Debug, PartialEq, Eq)]
 pub enum FieldPresence {
-    /// It has to come.
+    /// The field is always present.
     Required,
-    /// It may be left out (OPTIONAL).
+    /// The field may be left out (OPTIONAL).
     Optional,
-    /// It may be left out, and then has its default (DEFAULT).
+    /// The field may be left out, and then has its default (DEFAULT).
     Default,
 }
 
 /// A field of a SEQUENCE or a SET.
 #[derive(Clone, Copy, Debug)]
 pub struct Field {
-    /// Its place among the fields, from 0.
+    /// The position among the fields, from 0.
     pub index: usize,
-    /// The tag of its encoding.
+    /// The tag of the field's encoding.
     pub tag: Tag,
-    /// Whether it may be left out.
+    /// Whether the field may be left out.
     pub presence: FieldPresence,
-    /// Its name, which errors tell.
+    /// The name that errors report.
     pub name: &'static str,
 }
 
 impl Field {
-    /// A required field.
+    /// Returns a required field.
     pub const fn new_required(index: usize, tag: Tag, name: &'static str) -> Field
         ensures { (result.index ≡ index) × (result.tag ≡ tag) × (result.presence ≡ Required) × (result.name ≡ name.entry) }
     {
@@ -43,7 +43,7 @@ impl Field {
         }
     }
 
-    /// A field that may be left out.
+    /// Returns a field that may be left out.
     pub const fn new_optional(index: usize, tag: Tag, name: &'static str) -> Field
         ensures { (result.index ≡ index) × (result.tag ≡ tag) × (result.presence ≡ Optional) × (result.name ≡ name.entry) }
     {
@@ -55,7 +55,7 @@ impl Field {
         }
     }
 
-    /// A field that may be left out, and then has its default.
+    /// Returns a field that may be left out, and then has its default.
     pub const fn new_default(index: usize, tag: Tag, name: &'static str) -> Field
         ensures { (result.index ≡ index) × (result.tag ≡ tag) × (result.presence ≡ Default) × (result.name ≡ name.entry) }
     {
@@ -68,14 +68,14 @@ impl Field {
     }
 }
 
-/// What has a presence: a field.
+/// A type of fields, each of which has a presence.
 pub trait HasPresence {
     ghost use Rattle.std.specs.Prelude.{◌≡◌};
     ghost use Rattle.rasn_types.specs.declared.types.fields.FieldPresence.{FieldPresence};
 
     ghost presence_of: { Self → FieldPresence };
 
-    /// Whether it is required.
+    /// Returns whether the field is required, optional or has a default.
     fn presence(&self) -> FieldPresence
         ensures { result ≡ presence_of self.now };
 }
@@ -91,33 +91,33 @@ impl HasPresence for Field {
 /// The fields of a constructed type, in their order.
 #[derive(Clone, Copy, Debug)]
 pub struct Fields<const N: usize, F = Field> {
-    /// Them, in their order.
+    /// The fields, in their order.
     pub fields: [F; N],
 }
 
 impl<const N: usize, F: HasPresence + Copy> Fields<N, F> {
-    /// These fields.
+    /// Returns a list of these fields.
     pub const fn from_static(fields: [F; N]) -> Fields<N, F>
         ensures { result.fields ≡ fields }
     {
         Fields { fields }
     }
 
-    /// How many there are.
+    /// Returns the number of fields.
     pub const fn len(&self) -> usize
         ensures { result ≡ N }
     {
         N
     }
 
-    /// Whether there are none.
+    /// Returns whether there are no fields.
     pub const fn is_empty(&self) -> bool
         ensures { IsWhether result (N ≡ 0) }
     {
         N == 0
     }
 
-    /// How many of them may be left out.
+    /// Returns the number of fields that may be left out.
     pub fn number_of_optional_and_default_fields(&self) -> usize
         ensures { result ≡ count_by (λ field. is_optional_or_default (F.presence_of field)) self.now.fields }
     {

@@ -8,7 +8,7 @@ use crate::types::{AsnType, Constraints, Tag, UtcTime};
 use std::cmp::Ordering;
 use std::marker::Model;
 
-/// An instant with the offset that its text had (X.680 46). Equality and order are those of the instant.
+/// An instant with the offset of its text (X.680 46). Equality and order are those of the instant.
 #[derive(Clone, Copy, Debug)]
 pub struct GeneralizedTime {
     utc: UtcTime,
@@ -28,7 +28,7 @@ impl Model for GeneralizedTime {
 }
 
 impl GeneralizedTime {
-    /// The instant with an offset, where that is below a day.
+    /// Returns the instant with this offset in minutes, or `None` if the offset is a day or more.
     pub fn new(utc: UtcTime, offset_minutes: i16) -> Option<GeneralizedTime>
         ensures { IsSomeExactlyIf result (IsOffset offset_minutes) (record { moment = utc; offset = offset_minutes }) }
     {
@@ -42,28 +42,28 @@ impl GeneralizedTime {
         }
     }
 
-    /// The instant.
+    /// Returns the instant.
     pub fn utc(&self) -> UtcTime
         ensures { result ≡ self.now.moment }
     {
         self.utc
     }
 
-    /// How far the clock of its text is ahead of UTC, in minutes.
+    /// Returns the number of minutes by which the clock of the text is ahead of UTC.
     pub fn offset_minutes(&self) -> i16
         ensures { result ≡ self.now.offset }
     {
         self.offset_minutes
     }
 
-    /// Whether the two are the same instant, as `==` tells.
+    /// Returns whether the two instants are the same, as `==` does.
     pub fn is_same(&self, other: &GeneralizedTime) -> bool
         ensures { IsWhether result (self.now.moment ≡ other.now.moment) }
     {
         self == other
     }
 
-    /// Whether it lies before the other instant, as `<` tells.
+    /// Returns whether this instant is before the other, as `<` does.
     pub fn is_before(&self, other: &GeneralizedTime) -> bool
         ensures { IsWhether result (Before self.now.moment other.now.moment) }
     {

@@ -1,6 +1,7 @@
 //! Names of fields.
 
-/// The name of a field where a value is written. The rules of this codec write no names, and ignore it.
+/// The name of a field in a call that writes a value. BER, CER and DER write no names and ignore
+/// it.
 #[derive(Clone, Copy, Debug)]
 pub struct Identifier(pub Option<&'static str>);
 

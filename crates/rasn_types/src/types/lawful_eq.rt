@@ -1,4 +1,4 @@
-//! Types whose `==` is told by what their values mean.
+//! Types whose `==` is determined by what their values mean.
 use crate::types::{
     AsnType, BitString, BmpString, Date, Explicit, FixedOctetString, GeneralizedTime, Implicit,
     Integer, ObjectIdentifier, OctetString, RestrictedString, StringType, UtcTime,
@@ -6,14 +6,14 @@ use crate::types::{
 
 /// A type whose values are equal exactly if they mean the same.
 ///
-/// To contracts `==` decides whether trees are the same. A type with `#[derive(PartialEq)]` whose tree has its fields in their
-/// order has the law from those of its fields.
+/// In contracts, `==` decides whether trees are the same. If a type derives `PartialEq` and its
+/// tree has its fields in their order, the law follows from those of its fields.
 pub trait LawfulEq: AsnType + PartialEq {
     ghost use Rattle.rasn_types.specs.Equality.{DecidesSame, EqDecidesSame};
 
     ghost decides: { EqDecidesSame Self.eq Self.tree };
 
-    /// Whether the two mean the same, as `==` tells.
+    /// Returns whether the two values mean the same, as `==` does.
     final fn means_same(&self, other: &Self) -> bool
         ensures { DecidesSame result (Self.tree self.now) (Self.tree other.now) }
     {
@@ -21,7 +21,7 @@ pub trait LawfulEq: AsnType + PartialEq {
     }
 }
 
-/// A type whose values are all there. `Option` has a value that is not.
+/// A type without an absent value. `Option` has one: `None`.
 pub trait Present: AsnType {
     ghost use Rattle.rasn_types.specs.Equality.{AreNeverAbsent};
 

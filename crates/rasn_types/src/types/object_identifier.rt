@@ -15,10 +15,10 @@ use std::marker::Model;
 
 /// A list of at least two arcs, the first at most 2 (X.660 7.6, X.680 32).
 ///
-/// They are ordered by their arcs, the first that differ deciding; one that another begins with comes before it.
+/// Values are ordered lexicographically by their arcs.
 ///
-/// Where the first arc is below 2 and the second above 39, or the first is 2 and the second above 4294967215, it has no octets
-/// (X.690 8.19.4).
+/// If the first arc is below 2 and the second is above 39, or the first is 2 and the second is
+/// above 4294967215, the value has no encoding (X.690 8.19.4).
 #[derive(Debug, Drop)]
 pub struct ObjectIdentifier {
     arcs: Vec<u32>,
@@ -36,7 +36,8 @@ impl Model for ObjectIdentifier {
 }
 
 impl ObjectIdentifier {
-    /// The object identifier of these arcs, where there are at least two and the first is at most 2. No memory is taken.
+    /// Returns the object identifier with these arcs, or `None` unless there are at least two and
+    /// the first is at most 2. Nothing is allocated.
     pub fn new(arcs: Vec<u32>) -> Option<ObjectIdentifier>
         ensures { IsSomeExactlyIf result (AreArcs arcs.items) arcs.items }
     {
@@ -46,10 +47,11 @@ impl ObjectIdentifier {
         }
     }
 
-    /// The object identifier of a copy of these arcs, where there are at least two and the first is at most 2.
+    /// Returns the object identifier with a copy of these arcs, or `None` unless there are at least
+    /// two and the first is at most 2.
     ///
     /// # Errors
-    /// Running out of memory.
+    /// If an allocation fails.
     pub fn from_arcs(alloc: Global, arcs: &[u32]) -> Result<Option<ObjectIdentifier>, AllocError>
         ensures { IfOk result (λ v. IsSomeExactlyIf v (AreArcs arcs.now) arcs.now) }
     {
@@ -62,11 +64,12 @@ impl ObjectIdentifier {
         }
     }
 
-    /// The object identifier whose arcs stand in the text as `Display` shows them: in decimal, without a sign or zeros in front, and with a point
-    /// between two. `None` where there is none.
+    /// Parses the text of an object identifier as `Display` writes it: its arcs in decimal, without
+    /// a sign or leading zeros, with a point between each two. Returns `None` if the text isn't
+    /// one.
     ///
     /// # Errors
-    /// Running out of memory.
+    /// If an allocation fails.
     pub fn parse(alloc: Global, text: &str) -> Result<Option<ObjectIdentifier>, AllocError>
         ensures { IfOk result (λ v. IsSomeRelated v (IsDotted text.now)) }
     {
@@ -86,7 +89,7 @@ impl ObjectIdentifier {
         Ok(ObjectIdentifier::new(arcs))
     }
 
-    /// Its arcs.
+    /// Returns the arcs.
     pub fn arcs(&self) -> &[u32]
         ensures arcs { result.now ≡ self.now }
         ensures some { AreArcs self.now }
@@ -94,7 +97,7 @@ impl ObjectIdentifier {
         &self.arcs
     }
 
-    /// Its arcs, without a copy.
+    /// Returns the arcs without a copy.
     pub fn into_vec(self) -> Vec<u32>
         ensures arcs { result.items ≡ self }
         ensures some { AreArcs self }
@@ -104,7 +107,7 @@ impl ObjectIdentifier {
     }
 }
 
-/// Its arcs in decimal, with a point between two: `2.999.3`.
+/// Writes the arcs in decimal, with a point between each two: `2.999.3`.
 impl fmt::Display for ObjectIdentifier {
     ghost use Rattle.std.specs.Prelude.{Some};
     ghost use Rattle.rasn_types.specs.Text.{dotted};
@@ -120,7 +123,7 @@ impl fmt::Display for ObjectIdentifier {
     }
 }
 
-// The arc whose text this is.
+// Parses the text of one arc.
 fn parse_arc(text: &str) -> Option<u32>
     ensures { IsSomeRelated result (IsArcText text.now) }
 {
@@ -131,7 +134,7 @@ fn parse_arc(text: &str) -> Option<u32>
     }
 }
 
-// Whether a digit comes first, and 0 alone.
+// Returns whether the text begins with a digit, and with `0` only if that is the whole text.
 fn is_plain(octets: &[u8]) -> bool
     ensures { IsWhether result (IsPlain octets.now) }
 {
@@ -141,7 +144,7 @@ fn is_plain(octets: &[u8]) -> bool
     }
 }
 
-// Each arc behind a point.
+// Writes each arc after a point.
 fn write_arcs<W: fmt::Write>(f: &mut fmt::Formatter<W>, arcs: &[u32]) -> fmt::Result
     ensures { WritesOnOk W.write_str_gives f.old result (flat_map point_and_arc arcs.now) f.new }
 {

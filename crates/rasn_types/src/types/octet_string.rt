@@ -8,9 +8,9 @@ use std::cmp::Ordering;
 use std::fmt;
 use std::marker::Model;
 
-/// A list of octets (X.680 23), which is what contracts see.
+/// A list of octets (X.680 23). Contracts see it as this list.
 ///
-/// They are ordered by their octets, the first that differ deciding; one that another begins with comes before it.
+/// Values are ordered lexicographically by their octets.
 #[derive(Debug, Drop)]
 pub struct OctetString {
     octets: Vec<u8>,
@@ -25,21 +25,21 @@ impl Model for OctetString {
 }
 
 impl OctetString {
-    /// The string of these octets.
+    /// Returns the string of these octets.
     pub fn from_vec(octets: Vec<u8>) -> OctetString
         ensures { result ≡ octets.items }
     {
         OctetString { octets }
     }
 
-    /// Its octets.
+    /// Returns the octets.
     pub fn as_octets(&self) -> &[u8]
         ensures { result.now ≡ self.now }
     {
         &self.octets
     }
 
-    /// Its octets, without a copy.
+    /// Returns the octets without a copy.
     pub fn into_vec(self) -> Vec<u8>
         ensures { result.items ≡ self }
     {
@@ -48,7 +48,7 @@ impl OctetString {
     }
 }
 
-/// Its octets in hexadecimal, two digits each.
+/// Writes the octets in hexadecimal, two digits each.
 impl fmt::Display for OctetString {
     ghost use Rattle.std.specs.Prelude.{Some};
     ghost use Rattle.rasn_types.specs.Text.{hexadecimal};

@@ -2,7 +2,7 @@
 use crate::types::{AsnType, Constraints, Tag, TryClone};
 use std::alloc::{AllocError, Global};
 
-/// The value of an OPTIONAL component (X.680 25.5). The tag is the one that is looked for where it is read.
+/// The value of an OPTIONAL component (X.680 25.5). `TAG` is the tag that the decoder looks for.
 impl<T: AsnType> AsnType for Option<T> {
     ghost use Rattle.std.proofs.Common.{ap};
     ghost use Rattle.rasn_types.specs.Shapes.{option, looked_for};

@@ -1,12 +1,13 @@
-//! What the parts of a SEQUENCE, a SET or a CHOICE as types have in common in reading and writing.
+//! What readers and writers of the parts of a SEQUENCE, a SET or a CHOICE have in common.
 use crate::types::{AsnType, LawfulEq};
 use std::alloc::{AllocError, Global};
 
-/// No part: the end of a list of parts.
+/// The end of a list of parts.
 #[derive(Debug, Drop)]
 pub struct End;
 
-/// The default of a part (X.680 25.8). The type that implements it names the part in `Defaulted` and `PutDefault`.
+/// The default of a part (X.680 25.8). A type that implements this trait identifies the part in
+/// `Defaulted` and `PutDefault`.
 pub trait DefaultValue {
     ghost use Rattle.std.specs.Prelude.{◌≡◌, IfOk};
     ghost use Rattle.rasn_types.specs.Shapes.{Tree};
@@ -16,7 +17,7 @@ pub trait DefaultValue {
 
     ghost default_tree: { Tree };
 
-    /// Returns the value that is meant where the part is left out, allocated in `alloc`.
+    /// Returns the value of the part if it is left out, allocated in `alloc`.
     ///
     /// # Errors
     /// If an allocation fails.
@@ -24,10 +25,11 @@ pub trait DefaultValue {
         ensures { IfOk result (λ v. Self.Value.tree v ≡ default_tree) };
 }
 
-/// The default of a part that stands under an explicit tag (X.680 31.2.7), which the field doesn't show. The type that implements it names the
-/// part in `DefaultedExplicit` and `PutDefaultExplicit`.
+/// The default of a part under an explicit tag (X.680 31.2.7), which isn't in the type of the
+/// field. A type that implements this trait identifies the part in `DefaultedExplicit` and
+/// `PutDefaultExplicit`.
 pub trait ExplicitDefault: DefaultValue {
-    /// Whose tag it is.
+    /// The type that names the explicit tag.
     type Prefix: AsnType;
 }
 

@@ -1,4 +1,4 @@
-//! Values under a tag that a type names (X.680 31).
+//! Values under a tag that a type parameter names (X.680 31).
 ghost use Rattle.std.specs.Prelude.{◌≡◌};
 
 use crate::types::{AsnType, Constraints, Tag, TryClone};
@@ -6,9 +6,10 @@ use std::alloc::{AllocError, Global};
 use std::marker::{Model, PhantomData};
 use std::ops::Deref;
 
-/// A value whose outermost tag is the one of `G` (X.680 31.2.7). A CHOICE has none to replace.
+/// A value whose outermost tag is replaced by the tag of `G` (X.680 31.2.7). A CHOICE has no tag to
+/// replace.
 ///
-/// To contracts it is the value.
+/// Contracts see it as the value.
 #[derive(Debug, Drop)]
 pub struct Implicit<G: AsnType, T> {
     value: T,
@@ -22,7 +23,7 @@ impl<G: AsnType, T> Model for Implicit<G, T> {
 }
 
 impl<G: AsnType, T> Implicit<G, T> {
-    /// The value under the tag.
+    /// Returns the value under the tag.
     pub fn new(value: T) -> Implicit<G, T>
         ensures { result ≡ value }
     {
@@ -32,7 +33,7 @@ impl<G: AsnType, T> Implicit<G, T> {
         }
     }
 
-    /// The value, without the tag.
+    /// Returns the value without the tag.
     pub fn into_inner(self) -> T
         ensures { result ≡ self }
     {
@@ -98,9 +99,9 @@ impl<G: AsnType, T: AsnType> AsnType for Implicit<G, T> {
     ghost own = { tagged_again G.TAG T.CONSTRAINTS G.TAG T.CONSTRAINTS T.shape };
 }
 
-/// A value behind a prefix of the tag of `G`, in front of its own tag (X.680 31.2.7).
+/// A value under the explicit tag of `G`, before its own tag (X.680 31.2.7).
 ///
-/// To contracts it is the value.
+/// Contracts see it as the value.
 #[derive(Debug, Drop)]
 pub struct Explicit<G: AsnType, T> {
     value: T,
@@ -114,7 +115,7 @@ impl<G: AsnType, T> Model for Explicit<G, T> {
 }
 
 impl<G: AsnType, T> Explicit<G, T> {
-    /// The value behind the prefix.
+    /// Returns the value under the explicit tag.
     pub fn new(value: T) -> Explicit<G, T>
         ensures { result ≡ value }
     {
@@ -124,7 +125,7 @@ impl<G: AsnType, T> Explicit<G, T> {
         }
     }
 
-    /// The value, without the prefix.
+    /// Returns the value without the explicit tag.
     pub fn into_inner(self) -> T
         ensures { result ≡ self }
     {

@@ -1,4 +1,4 @@
-//! REAL, which this codec refuses to read and to write.
+//! REAL, which this codec neither reads nor writes.
 
-/// A type that a REAL stands for. Values of it are neither read nor written.
+/// A type that represents a REAL. Its values are neither read nor written.
 pub trait RealType: Drop {}

@@ -8,9 +8,10 @@ use std::alloc::{AllocError, Global};
 use std::marker::Model;
 use std::slice;
 
-/// The elements of a SET OF (X.680 28), in the order in which they were inserted. Two are equal if they hold equal elements equally often.
+/// The elements of a SET OF (X.680 28), in the order in which they were inserted. Two values are
+/// equal if each element occurs equally often in both.
 ///
-/// To contracts it is the list of its elements.
+/// Contracts see it as the list of its elements.
 #[derive(Debug, Drop)]
 pub struct SetOf<T> {
     elements: Vec<T>,
@@ -25,7 +26,7 @@ impl<T> Model for SetOf<T> {
 }
 
 impl<T> SetOf<T> {
-    /// No elements.
+    /// Returns a value without elements.
     pub fn new(alloc: Global) -> SetOf<T>
         ensures { result ≡ [] }
     {
@@ -34,42 +35,42 @@ impl<T> SetOf<T> {
         }
     }
 
-    /// These elements, in their order.
+    /// Returns a value with these elements, in their order.
     pub fn from_vec(elements: Vec<T>) -> SetOf<T>
         ensures { result ≡ elements.items }
     {
         SetOf { elements }
     }
 
-    /// How many elements there are, equal ones counted each.
+    /// Returns the number of elements. Equal elements are counted separately.
     pub fn len(&self) -> usize
         ensures { result ≡ length self.now }
     {
         self.elements.len()
     }
 
-    /// Whether there are none.
+    /// Returns whether there are no elements.
     pub fn is_empty(&self) -> bool
         ensures { result ≡ nat_eq (length self.now) 0 }
     {
         self.elements.is_empty()
     }
 
-    /// The elements in their order.
+    /// Returns an iterator over the elements, in their order.
     pub fn iter(&self) -> slice::Iter<'_, T>
         ensures { iter_rest result ≡ self.now }
     {
         self.elements.iter()
     }
 
-    /// The elements in their order.
+    /// Returns the elements, in their order.
     pub fn as_slice(&self) -> &[T]
         ensures { result.now ≡ self.now }
     {
         self.elements.as_slice()
     }
 
-    /// The elements in their order.
+    /// Returns the elements, in their order, without a copy.
     pub fn into_vec(self) -> Vec<T>
         ensures { result.items ≡ self }
     {
@@ -79,10 +80,10 @@ impl<T> SetOf<T> {
 }
 
 impl<T: Drop> SetOf<T> {
-    /// Puts an element behind the others.
+    /// Appends an element.
     ///
     /// # Errors
-    /// Running out of memory, and the elements stay as they were.
+    /// If an allocation fails. The elements are unchanged then.
     pub fn insert(&mut self, value: T) -> Result<(), AllocError>
         ensures ok { OnOk result (self.new ≡ self.old ++ value ∷ []) }
         ensures err { OnErr result (self.new ≡ self.old) }
@@ -129,7 +130,7 @@ impl<'a, T> IntoIterator for &'a SetOf<T> {
     }
 }
 
-// Whether each of these stands equally often in both lists.
+// Returns whether each of `these` occurs equally often in both lists.
 fn are_as_often<T: PartialEq>(these: &[T], first: &[T], second: &[T]) -> bool
     ensures { result ≡ list_all (λ z. nat_eq (count_by (T.eq z) first.now) (count_by (T.eq z) second.now)) these.now }
 {
@@ -138,7 +139,7 @@ fn are_as_often<T: PartialEq>(these: &[T], first: &[T], second: &[T]) -> bool
         .all(|value| count(value, first) == count(value, second))
 }
 
-// How many of these equal the value.
+// Returns the number of values in `these` that equal `value`.
 fn count<T: PartialEq>(value: &T, these: &[T]) -> usize
     ensures { result ≡ count_by (T.eq value.now) these.now }
 {

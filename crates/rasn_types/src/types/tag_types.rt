@@ -1,4 +1,5 @@
-//! Tags of one's own as types (X.680 31): the marker of [`Implicit`](crate::types::Implicit) and [`Explicit`](crate::types::Explicit).
+//! Types that name a tag (X.680 31), for [`Implicit`](crate::types::Implicit) and
+//! [`Explicit`](crate::types::Explicit).
 use crate::types::{AsnType, Class, Constraints, Tag};
 
 /// The context-specific tag `[N]`.

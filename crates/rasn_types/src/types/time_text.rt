@@ -1,4 +1,4 @@
-//! Days and instants as RFC 3339 writes them (5.6).
+//! Days and instants as text (RFC 3339 5.6).
 ghost use Rattle.std.specs.Prelude.{◌≤ℤ◌, ◌+◌, ◌<◌, ◌++◌, ◌∷◌, [], map, pos, negsuc, Some};
 ghost use Rattle.std.specs.Fmt.{WritesOnOk};
 ghost use Rattle.rasn_types.specs.Calendar.{IsMoment};
@@ -10,7 +10,8 @@ use crate::ber::time::{shown_fraction, shown_second};
 use crate::types::{Date, GeneralizedTime, UtcTime};
 use std::fmt;
 
-/// As RFC 3339 writes it: `1985-11-14`. A year outside 0 to 9999, which that has no text for, has its sign.
+/// Writes the day as in RFC 3339: `1985-11-14`. A year outside 0 to 9999, which RFC 3339 has no
+/// text for, is written with its sign.
 impl fmt::Display for Date {
     ghost output = { λ d. Some (shown_day d) };
 
@@ -24,7 +25,8 @@ impl fmt::Display for Date {
     }
 }
 
-/// As RFC 3339 writes it in UTC, with the digits of its fraction up to the last that isn't 0: `1985-04-12T23:20:50.52Z`.
+/// Writes the instant in UTC as in RFC 3339, with a fraction without trailing zeros:
+/// `1985-04-12T23:20:50.52Z`.
 impl fmt::Display for UtcTime {
     ghost output = { λ m. Some (shown_moment m) };
 
@@ -37,7 +39,7 @@ impl fmt::Display for UtcTime {
     }
 }
 
-/// Its instant, as RFC 3339 writes it in UTC.
+/// Writes the instant in UTC as in RFC 3339.
 impl fmt::Display for GeneralizedTime {
     ghost output = { λ t. Some (shown_moment t.moment) };
 
@@ -70,7 +72,7 @@ fn write_four<W: fmt::Write>(f: &mut fmt::Formatter<W>, number: u16) -> fmt::Res
     write_two(f, (number % 100) as u8)
 }
 
-// A year of at least four digits.
+// Writes a year that isn't negative, with at least four digits.
 fn write_long<W: fmt::Write>(f: &mut fmt::Formatter<W>, number: u32) -> fmt::Result
     requires { number < 100000 }
     ensures { WritesOnOk W.write_str_gives f.old result (long_year number) f.new }
@@ -120,7 +122,7 @@ fn write_fraction<W: fmt::Write>(f: &mut fmt::Formatter<W>, billionths: u32) -> 
     write_digits(f, billionths)
 }
 
-// The digits of a number of billionths, without zeros at the end.
+// Writes the digits of a number of billionths, without trailing zeros.
 fn write_digits<W: fmt::Write>(f: &mut fmt::Formatter<W>, billionths: u32) -> fmt::Result
     requires { billionths < 1000000000 }
     ensures { WritesOnOk W.write_str_gives f.old result (map (λ d. 48 + d) (digits_of 9 billionths)) f.new }

@@ -1,15 +1,15 @@
-//! Copies of values that hold memory.
+//! Copies of values that own memory.
 ghost use Rattle.std.specs.Prelude.{◌≡◌, IfOk};
 
 use crate::types::{AsnType, Date, GeneralizedTime, UtcTime};
 use std::alloc::{AllocError, Global};
 
-/// Types whose values are copied with memory that may be refused.
+/// A type whose values are copied with an allocator, which may fail.
 pub trait TryClone: AsnType {
-    /// A copy of the value.
+    /// Returns a copy of the value.
     ///
     /// # Errors
-    /// Running out of memory.
+    /// If an allocation fails.
     fn try_clone(&self, alloc: Global) -> Result<Self, AllocError>
         ensures { IfOk result (λ v. Self.tree v ≡ Self.tree self.now) };
 }

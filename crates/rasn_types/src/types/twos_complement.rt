@@ -8,7 +8,7 @@ ghost use Rattle.rasn_types.specs.Trees.{signed_range, unsigned_range, IsShortes
 
 use crate::types::LONGEST_NUMBER;
 
-/// The octets without those at the front that only repeat the sign (X.690 8.3.2).
+/// Returns the octets without the leading ones that only repeat the sign (X.690 8.3.2).
 #[inline(always)]
 pub fn shortest(octets: &[u8]) -> &[u8]
     requires { 0 < length octets.now }
@@ -23,7 +23,7 @@ pub fn shortest(octets: &[u8]) -> &[u8]
     &octets[start..]
 }
 
-// Whether an octet in front of another is nothing but its sign.
+// Returns whether an octet only repeats the sign of the octet after it.
 #[inline(always)]
 fn repeats_sign(octet: u8, next: u8) -> bool
     ensures { IsWhether result (RepeatsSign octet next) }
@@ -31,7 +31,7 @@ fn repeats_sign(octet: u8, next: u8) -> bool
     if next < 128 { octet == 0 } else { octet == 255 }
 }
 
-/// The number that octets stand for, where 128 bits hold it.
+/// Returns the number that octets represent, or `None` if it doesn't fit in an `i128`.
 pub fn signed_i128(octets: &[u8]) -> Option<i128>
     requires { 0 < length octets.now }
     ensures { MatchOption result (IsIn (signed_range 128) (signed octets.now) → ⊥) (λ n. n ≡ signed octets.now) }
@@ -56,7 +56,7 @@ fn fold_i128(octets: &[u8]) -> i128
     number
 }
 
-/// The number that octets stand for, where 128 bits hold it without a sign.
+/// Returns the number that octets represent, or `None` if it doesn't fit in a `u128`.
 pub fn unsigned_u128(octets: &[u8]) -> Option<u128>
     requires { 0 < length octets.now }
     ensures { MatchOption result (IsIn (unsigned_range 128) (signed octets.now) → ⊥) (λ n. pos n ≡ signed octets.now) }
@@ -84,7 +84,7 @@ fn fold_u128(digits: &[u8]) -> u128
     number
 }
 
-/// The number's octets in two's complement, the fewest, made in this room.
+/// Writes a number to `room` in two's complement, and returns its fewest octets.
 #[inline(always)]
 pub fn i64_octets(number: i64, room: &mut [u8; LONGEST_NUMBER]) -> &[u8]
     ensures { IsShortestOf number result.now }
@@ -94,7 +94,7 @@ pub fn i64_octets(number: i64, room: &mut [u8; LONGEST_NUMBER]) -> &[u8]
     shortest(octets)
 }
 
-/// The number's octets in two's complement, the fewest, made in this room.
+/// Writes a number to `room` in two's complement, and returns its fewest octets.
 #[inline(always)]
 pub fn i128_octets(number: i128, room: &mut [u8; LONGEST_NUMBER]) -> &[u8]
     ensures { IsShortestOf number result.now }
@@ -104,7 +104,7 @@ pub fn i128_octets(number: i128, room: &mut [u8; LONGEST_NUMBER]) -> &[u8]
     shortest(octets)
 }
 
-/// The number's octets in two's complement, the fewest, made in this room.
+/// Writes a number to `room` in two's complement, and returns its fewest octets.
 #[inline(always)]
 pub fn u128_octets(number: u128, room: &mut [u8; LONGEST_NUMBER]) -> &[u8]
     ensures { IsShortestOf (pos number) result.now }

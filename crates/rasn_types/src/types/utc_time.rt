@@ -7,7 +7,8 @@ ghost use Rattle.rasn_types.specs.Truth.{IsWhether};
 use crate::types::{AsnType, Constraints, Date, Tag};
 use std::marker::Model;
 
-/// An instant, by its fields in UTC (X.680 47). From 1000000000 nanoseconds on it lies in a leap second, which only second 59 has.
+/// An instant, by its fields in UTC (X.680 47). With 1000000000 nanoseconds or more it lies in a
+/// leap second, which only second 59 has.
 #[derive(Clone, Copy, Debug, PartialEq, Eq, PartialOrd, Ord)]
 pub struct UtcTime {
     date: Date,
@@ -30,7 +31,7 @@ impl Model for UtcTime {
 }
 
 impl UtcTime {
-    /// The instant, where there is one.
+    /// Returns the instant, or `None` if there is no such instant.
     pub fn new(date: Date, hour: u8, minute: u8, second: u8, nanosecond: u32) -> Option<UtcTime>
         ensures { let m : Moment = record { day = date; hour = hour; minute = minute; second = second; nanosecond = nanosecond } in
             IsSomeExactlyIf result (IsMoment m) m }
@@ -54,7 +55,7 @@ impl UtcTime {
         }
     }
 
-    /// Its day.
+    /// Returns the day.
     pub fn date(&self) -> Date
         ensures is { result ≡ self.now.day }
         ensures exists { IsMoment self.now }
@@ -62,35 +63,35 @@ impl UtcTime {
         self.date
     }
 
-    /// Its hour, from 0 to 23.
+    /// Returns the hour, from 0 to 23.
     pub fn hour(&self) -> u8
         ensures { result ≡ self.now.hour }
     {
         self.hour
     }
 
-    /// Its minute, from 0 to 59.
+    /// Returns the minute, from 0 to 59.
     pub fn minute(&self) -> u8
         ensures { result ≡ self.now.minute }
     {
         self.minute
     }
 
-    /// Its second, from 0 to 59.
+    /// Returns the second, from 0 to 59.
     pub fn second(&self) -> u8
         ensures { result ≡ self.now.second }
     {
         self.second
     }
 
-    /// Its nanosecond, from 1000000000 on of the leap second behind its second.
+    /// Returns the nanosecond: 1000000000 or more in the leap second that follows second 59.
     pub fn nanosecond(&self) -> u32
         ensures { result ≡ self.now.nanosecond }
     {
         self.nanosecond
     }
 
-    /// This second of another minute of the day.
+    /// Returns the same second in another minute of a day, counted from 0.
     fn at_minute(self, date: Date, minute: u16) -> UtcTime
         requires { minute < 1440 }
         ensures { result ≡ at_minute date minute self }
@@ -112,7 +113,7 @@ impl UtcTime {
         }
     }
 
-    /// Less than a day later.
+    /// Returns the instant this number of minutes later, which is less than a day.
     #[tactic(auto, unfolding(crate::specs::Calendar::later))]
     pub(crate) fn later(self, minutes: u16) -> UtcTime
         requires below { minutes < 1440 }
@@ -127,7 +128,7 @@ impl UtcTime {
         }
     }
 
-    /// Less than a day earlier.
+    /// Returns the instant this number of minutes earlier, which is less than a day.
     #[tactic(auto, unfolding(crate::specs::Calendar::earlier))]
     pub(crate) fn earlier(self, minutes: u16) -> UtcTime
         requires below { minutes < 1440 }
@@ -142,14 +143,14 @@ impl UtcTime {
         }
     }
 
-    /// Whether the two are the same instant, as `==` tells.
+    /// Returns whether the two instants are the same, as `==` does.
     pub fn is_same(&self, other: &UtcTime) -> bool
         ensures { IsWhether result (self.now ≡ other.now) }
     {
         self == other
     }
 
-    /// Whether it lies before the other instant, as `<` tells.
+    /// Returns whether this instant is before the other, as `<` does.
     pub fn is_before(&self, other: &UtcTime) -> bool
         ensures { IsWhether result (Before self.now other.now) }
     {

@@ -1,5 +1,5 @@
--- AuthorityKeyIdentifier ::= SEQUENCE { keyIdentifier [0] IMPLICIT OCTET STRING OPTIONAL, authorityCertIssuer [1] IMPLICIT GeneralNames OPTIONAL,
--- authorityCertSerialNumber [2] IMPLICIT INTEGER OPTIONAL }
+-- AuthorityKeyIdentifier ::= SEQUENCE { keyIdentifier [0] IMPLICIT OCTET STRING OPTIONAL,
+-- authorityCertIssuer [1] IMPLICIT GeneralNames OPTIONAL, authorityCertSerialNumber [2] IMPLICIT INTEGER OPTIONAL }
 use Rattle.std.specs.Prelude.{[], ◌∷◌, None}
 use Rattle.rasn_types.specs.Tags.{in_universal}
 use Rattle.rasn_types.specs.Shapes.{Shape, Tree, items, number, numbers, seq, Parts, part, optional, leaf, list, integer, every, octet_string}

@@ -1,4 +1,5 @@
--- EDIPartyName ::= SEQUENCE { nameAssigner [0] EXPLICIT DirectoryString OPTIONAL, partyName [1] EXPLICIT DirectoryString }, whose strings are open types
+-- EDIPartyName ::= SEQUENCE { nameAssigner [0] EXPLICIT DirectoryString OPTIONAL,
+-- partyName [1] EXPLICIT DirectoryString }, with the strings as open types
 use Rattle.std.specs.Prelude.{[], ◌∷◌, None}
 use Rattle.rasn_types.specs.Tags.{in_universal}
 use Rattle.rasn_types.specs.Shapes.{Shape, Tree, numbers, items, any, prefix, seq, Parts, part, required, optional}

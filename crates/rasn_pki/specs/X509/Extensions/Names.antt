@@ -1,6 +1,6 @@
--- GeneralName ::= CHOICE { otherName [0] OtherName, rfc822Name [1] IA5String, dNSName [2] IA5String, x400Address [3] SEQUENCE OF ANY,
--- directoryName [4] EXPLICIT Name, ediPartyName [5] EDIPartyName, uniformResourceIdentifier [6] IA5String, iPAddress [7] OCTET STRING,
--- registeredID [8] OBJECT IDENTIFIER }
+-- GeneralName ::= CHOICE { otherName [0] OtherName, rfc822Name [1] IA5String, dNSName [2] IA5String,
+-- x400Address [3] SEQUENCE OF ANY, directoryName [4] EXPLICIT Name, ediPartyName [5] EDIPartyName,
+-- uniformResourceIdentifier [6] IA5String, iPAddress [7] OCTET STRING, registeredID [8] OBJECT IDENTIFIER }
 use Rattle.std.specs.Prelude.{◌≢◌, None, ℕ, List, codes}
 use Rattle.rasn_types.specs.Tags.{in_universal}
 use Rattle.rasn_types.specs.Shapes.{Shape, Tree, numbers, chosen, absent, leaf, any, prefix, choice, seq, list, Parts, part, required, ia5, octet_string, object_identifier}
@@ -13,7 +13,7 @@ use Rattle.rasn_pki.specs.X509.Extensions.EdiParty.{edi_party_name_parts, edi_pa
 use Rattle.rasn_pki.specs.declared.x509.extensions.general_name.GeneralName.{GeneralName}
 use Rattle.rasn_pki.specs.declared.x509.extensions.general_name.GeneralName.TheVariants.{Other, Rfc822, Dns, X400Address, Directory, EdiParty, UniformResourceIdentifier, IpAddress, RegisteredId}
 
--- its name, as refusals have it
+-- The name of the type in errors.
 abbrev pub general_name_name : List ℕ
 general_name_name = codes "GeneralName"
 

@@ -11,6 +11,6 @@ usage_shape = leaf bit_string (in_universal 3) unconstrained
 abbrev pub usage_tree : KeyUsage → Tree
 usage_tree u = bits u.bits
 
--- The bit at this place is one; behind the last bit there are zeros.
+-- Whether the bit at this position is 1. A missing bit is 0.
 abbrev pub is_named : ℕ → KeyUsage → Bool
 is_named place u = get_or u.bits place false

@@ -1,6 +1,6 @@
--- TBSCertList ::= SEQUENCE { version INTEGER { v2(1) } OPTIONAL, signature AlgorithmIdentifier, issuer Name, thisUpdate Time, nextUpdate Time OPTIONAL,
--- revokedCertificates SEQUENCE OF RevokedCertificate OPTIONAL, crlExtensions [0] EXPLICIT SEQUENCE OF Extension OPTIONAL }, with each alternative of nextUpdate
--- as an optional part
+-- TBSCertList ::= SEQUENCE { version INTEGER { v2(1) } OPTIONAL, signature AlgorithmIdentifier, issuer Name,
+-- thisUpdate Time, nextUpdate Time OPTIONAL, revokedCertificates SEQUENCE OF RevokedCertificate OPTIONAL,
+-- crlExtensions [0] EXPLICIT SEQUENCE OF Extension OPTIONAL }, with each alternative of nextUpdate as an optional part
 use Rattle.std.specs.Prelude.{[], ◌∷◌, pos, None}
 use Rattle.rasn_types.specs.Tags.{in_universal}
 use Rattle.rasn_types.specs.Shapes.{Shape, Tree, items, number, instant, seq, Parts, part, required, optional, leaf, prefix, list, integer, utc_time, generalized_time}

@@ -1,4 +1,5 @@
--- SEQUENCE { userCertificate CertificateSerialNumber, revocationDate Time, crlEntryExtensions SEQUENCE OF Extension OPTIONAL }
+-- SEQUENCE { userCertificate CertificateSerialNumber, revocationDate Time,
+-- crlEntryExtensions SEQUENCE OF Extension OPTIONAL }
 use Rattle.std.specs.Prelude.{[], ◌∷◌, None}
 use Rattle.rasn_types.specs.Tags.{in_universal}
 use Rattle.rasn_types.specs.Shapes.{Shape, Tree, items, number, seq, Parts, part, required, optional, leaf, list, integer, every}

@@ -1,4 +1,5 @@
--- CertificateList ::= SEQUENCE { tbsCertList TBSCertList, signatureAlgorithm AlgorithmIdentifier, signatureValue BIT STRING }
+-- CertificateList ::= SEQUENCE { tbsCertList TBSCertList, signatureAlgorithm AlgorithmIdentifier,
+-- signatureValue BIT STRING }
 use Rattle.std.specs.Prelude.{[], ◌∷◌}
 use Rattle.rasn_types.specs.Tags.{in_universal}
 use Rattle.rasn_types.specs.Shapes.{Shape, Tree, items, bits, seq, Parts, part, required, leaf, bit_string}

@@ -1,4 +1,5 @@
-//! `AuthorityKeyIdentifier ::= SEQUENCE { keyIdentifier [0] KeyIdentifier OPTIONAL, authorityCertIssuer [1] GeneralNames OPTIONAL, ..` (RFC 5280, 4.2.1.1).
+//! `AuthorityKeyIdentifier ::= SEQUENCE { keyIdentifier [0] KeyIdentifier OPTIONAL,
+//! authorityCertIssuer [1] GeneralNames OPTIONAL, ..` (RFC 5280, 4.2.1.1).
 use crate::x509::extensions::GeneralNames;
 use rasn::error::{DecodeError, EncodeError};
 use rasn::parts::{End, Optional, PutOptional};
@@ -8,11 +9,12 @@ use rasn::types::{
 };
 use rasn::{Decode, Decoder, Encode, Encoder};
 
-/// SEQUENCE { keyIdentifier \[0\] IMPLICIT OCTET STRING OPTIONAL, authorityCertIssuer \[1\] IMPLICIT GeneralNames OPTIONAL,
+/// SEQUENCE { keyIdentifier \[0\] IMPLICIT OCTET STRING OPTIONAL,
+/// authorityCertIssuer \[1\] IMPLICIT GeneralNames OPTIONAL,
 /// authorityCertSerialNumber \[2\] IMPLICIT INTEGER OPTIONAL }
 #[derive(Debug, PartialEq, Eq, Drop)]
 pub struct AuthorityKeyIdentifier {
-    /// The issuer's `SubjectKeyIdentifier`.
+    /// The `SubjectKeyIdentifier` of the issuer.
     pub key_identifier: Option<Implicit<ContextTag<0>, OctetString>>,
     /// The issuer of the issuer's certificate.
     pub authority_cert_issuer: Option<Implicit<ContextTag<1>, GeneralNames>>,

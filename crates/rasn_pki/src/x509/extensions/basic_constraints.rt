@@ -1,17 +1,19 @@
-//! `BasicConstraints ::= SEQUENCE { cA BOOLEAN DEFAULT FALSE, pathLenConstraint INTEGER (0..MAX) OPTIONAL }` (RFC 5280, 4.2.1.9).
+//! `BasicConstraints ::= SEQUENCE { cA BOOLEAN DEFAULT FALSE,
+//! pathLenConstraint INTEGER (0..MAX) OPTIONAL }` (RFC 5280, 4.2.1.9).
 use rasn::error::{DecodeError, EncodeError};
 use rasn::parts::{DefaultValue, Defaulted, End, Optional, PutDefault, PutOptional};
 use rasn::types::{AsnType, Constraints, Identifier, Integer, LawfulEq, Present, Tag};
 use rasn::{Decode, Decoder, Encode, Encoder};
 use std::alloc::{AllocError, Global};
 
-/// SEQUENCE { cA BOOLEAN DEFAULT FALSE, pathLenConstraint INTEGER OPTIONAL }: whether the subject is a certification authority, and how many certificates of
-/// others may follow.
+/// SEQUENCE { cA BOOLEAN DEFAULT FALSE, pathLenConstraint INTEGER OPTIONAL }: whether the subject
+/// is a certification authority, and how many certificates of other authorities may follow.
 #[derive(Debug, PartialEq, Eq, Drop)]
 pub struct BasicConstraints {
     /// Whether the subject is a certification authority.
     pub ca: bool,
-    /// How many certificates of other authorities may stand between this one and the last of a path; no limit where it is left out.
+    /// The highest number of certificates of other authorities between this certificate and the
+    /// last of a path, or `None` for no limit.
     pub path_len_constraint: Option<Integer>,
 }
 
@@ -48,7 +50,7 @@ impl Present for BasicConstraints {
     ghost present = { λ _. parts_not_absent };
 }
 
-/// That the subject is no certification authority, which is meant where nothing is written.
+/// The default of `ca`: the subject isn't a certification authority.
 #[derive(Drop)]
 pub struct NoAuthority;
 

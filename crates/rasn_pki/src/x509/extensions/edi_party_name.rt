@@ -1,4 +1,5 @@
-//! `EDIPartyName ::= SEQUENCE { nameAssigner [0] DirectoryString OPTIONAL, partyName [1] DirectoryString }` (RFC 5280, 4.2.1.6).
+//! `EDIPartyName ::= SEQUENCE { nameAssigner [0] DirectoryString OPTIONAL,
+//! partyName [1] DirectoryString }` (RFC 5280, 4.2.1.6).
 use rasn::error::{DecodeError, EncodeError};
 use rasn::parts::{End, Optional, Put, PutOptional, Required};
 use rasn::types::{
@@ -6,11 +7,12 @@ use rasn::types::{
 };
 use rasn::{Decode, Decoder, Encode, Encoder};
 
-/// SEQUENCE { nameAssigner \[0\] DirectoryString OPTIONAL, partyName \[1\] DirectoryString }. A CHOICE is tagged explicitly (X.680 31.2.7); its
-/// strings are kept as open types.
+/// SEQUENCE { nameAssigner \[0\] DirectoryString OPTIONAL, partyName \[1\] DirectoryString }.
+/// DirectoryString is a CHOICE, so its tags are explicit (X.680 31.2.7); its strings are kept as
+/// open types.
 #[derive(Debug, PartialEq, Eq, Drop)]
 pub struct EdiPartyName {
-    /// Who assigned the name.
+    /// The authority that assigned the name.
     pub name_assigner: Option<Explicit<ContextTag<0>, Any>>,
     /// The name.
     pub party_name: Explicit<ContextTag<1>, Any>,

@@ -1,4 +1,5 @@
-//! `GeneralName ::= CHOICE { otherName [0] OtherName, rfc822Name [1] IA5String, dNSName [2] IA5String, x400Address [3] ORAddress, ..` (RFC 5280, 4.2.1.6).
+//! `GeneralName ::= CHOICE { otherName [0] OtherName, rfc822Name [1] IA5String,
+//! dNSName [2] IA5String, x400Address [3] ORAddress, ..` (RFC 5280, 4.2.1.6).
 use crate::x509::Name;
 use crate::x509::extensions::{EdiPartyName, OtherName};
 use rasn::error::{DecodeError, EncodeError};
@@ -10,9 +11,11 @@ use rasn::types::{
 };
 use rasn::{Decode, Decoder, Encode, Encoder};
 
-/// CHOICE { otherName \[0\] OtherName, rfc822Name \[1\] IA5String, dNSName \[2\] IA5String, x400Address \[3\] ORAddress, directoryName \[4\] EXPLICIT Name,
-/// ediPartyName \[5\] EDIPartyName, uniformResourceIdentifier \[6\] IA5String, iPAddress \[7\] OCTET STRING, registeredID \[8\] OBJECT IDENTIFIER }, with
-/// implicit tags but for the one of `Name`, which is a CHOICE. An ORAddress is kept as the values in its SEQUENCE, whatever they are.
+/// CHOICE { otherName \[0\] OtherName, rfc822Name \[1\] IA5String, dNSName \[2\] IA5String,
+/// x400Address \[3\] ORAddress, directoryName \[4\] EXPLICIT Name, ediPartyName \[5\] EDIPartyName,
+/// uniformResourceIdentifier \[6\] IA5String, iPAddress \[7\] OCTET STRING,
+/// registeredID \[8\] OBJECT IDENTIFIER }. The tags are implicit, except that of `Name`, which is a
+/// CHOICE. An ORAddress is kept as the values in its SEQUENCE, of any types.
 #[derive(Debug, PartialEq, Eq, Drop)]
 pub enum GeneralName {
     Other(Implicit<ContextTag<0>, OtherName>),

@@ -1,4 +1,5 @@
-//! `KeyUsage ::= BIT STRING { digitalSignature (0), nonRepudiation (1), keyEncipherment (2), dataEncipherment (3), ..` (RFC 5280, 4.2.1.3).
+//! `KeyUsage ::= BIT STRING { digitalSignature (0), nonRepudiation (1), keyEncipherment (2),
+//! dataEncipherment (3), ..` (RFC 5280, 4.2.1.3).
 ghost use Rattle.std.specs.Prelude.{◌≡◌};
 ghost use Rattle.rasn_pki.specs.X509.Extensions.Usage.{is_named};
 
@@ -6,9 +7,10 @@ use rasn::error::{DecodeError, EncodeError};
 use rasn::types::{AsnType, BitString, Constraints, Identifier, LawfulEq, Present, Tag};
 use rasn::{Decode, Decoder, Encode, Encoder};
 
-/// BIT STRING { digitalSignature (0), nonRepudiation (1), keyEncipherment (2), dataEncipherment (3), keyAgreement (4), keyCertSign (5), cRLSign (6),
-/// encipherOnly (7), decipherOnly (8) }: what the key may be used for. Bits that aren't there are zero. Zeros behind the last one are kept as they are
-/// read, though DER writes none of them (X.690 11.2.2).
+/// BIT STRING { digitalSignature (0), nonRepudiation (1), keyEncipherment (2), dataEncipherment
+/// (3), keyAgreement (4), keyCertSign (5), cRLSign (6), encipherOnly (7), decipherOnly (8) }: the
+/// uses of the key. A missing bit is 0. Trailing zeros are kept as they are read, although DER has
+/// none in a list of named bits (X.690 11.2.2).
 #[derive(Debug, PartialEq, Eq, Drop)]
 pub struct KeyUsage {
     /// The bits, as they are read.
@@ -16,7 +18,7 @@ pub struct KeyUsage {
 }
 
 impl KeyUsage {
-    /// Whether the bit at this place is there and one.
+    /// Returns whether the bit at this position is present and 1.
     fn names(&self, place: usize) -> bool
         ensures { result ≡ is_named place self.now }
     {
@@ -26,63 +28,65 @@ impl KeyUsage {
         }
     }
 
-    /// Signatures on what is neither a certificate nor a revocation list.
+    /// Returns whether the key is for signatures on data other than certificates and revocation
+    /// lists.
     pub fn digital_signature(&self) -> bool
         ensures { result ≡ is_named 0 self.now }
     {
         self.names(0)
     }
 
-    /// Signatures that can't be denied; also called contentCommitment.
+    /// Returns whether the key is for signatures that can't be denied, also called
+    /// contentCommitment.
     pub fn non_repudiation(&self) -> bool
         ensures { result ≡ is_named 1 self.now }
     {
         self.names(1)
     }
 
-    /// Enciphering keys.
+    /// Returns whether the key is for enciphering keys.
     pub fn key_encipherment(&self) -> bool
         ensures { result ≡ is_named 2 self.now }
     {
         self.names(2)
     }
 
-    /// Enciphering data other than keys.
+    /// Returns whether the key is for enciphering data other than keys.
     pub fn data_encipherment(&self) -> bool
         ensures { result ≡ is_named 3 self.now }
     {
         self.names(3)
     }
 
-    /// Agreeing on a key.
+    /// Returns whether the key is for key agreement.
     pub fn key_agreement(&self) -> bool
         ensures { result ≡ is_named 4 self.now }
     {
         self.names(4)
     }
 
-    /// Signatures on certificates.
+    /// Returns whether the key is for signatures on certificates.
     pub fn key_cert_sign(&self) -> bool
         ensures { result ≡ is_named 5 self.now }
     {
         self.names(5)
     }
 
-    /// Signatures on revocation lists.
+    /// Returns whether the key is for signatures on revocation lists.
     pub fn crl_sign(&self) -> bool
         ensures { result ≡ is_named 6 self.now }
     {
         self.names(6)
     }
 
-    /// With `key_agreement`: enciphering alone.
+    /// Returns whether a key for key agreement is only for enciphering.
     pub fn encipher_only(&self) -> bool
         ensures { result ≡ is_named 7 self.now }
     {
         self.names(7)
     }
 
-    /// With `key_agreement`: deciphering alone.
+    /// Returns whether a key for key agreement is only for deciphering.
     pub fn decipher_only(&self) -> bool
         ensures { result ≡ is_named 8 self.now }
     {

@@ -1,4 +1,5 @@
-//! The shapes of what extensions hold are lawful, so what the laws say of lawful shapes holds of them.
+//! Proofs that the shapes of the contents of extensions are lawful, so that the laws on lawful
+//! shapes hold for them.
 ghost use Rattle.std.specs.Prelude.{◌≡◌, true};
 ghost use Rattle.rasn_types.specs.Lawful.{IsLawful};
 ghost use Rattle.rasn.specs.Carries.{carries_all};
@@ -7,8 +8,9 @@ ghost use Rattle.rasn_pki.specs.X509.Extensions.Usage.{usage_shape};
 ghost use Rattle.rasn_pki.specs.X509.Extensions.Names.{general_names_shape};
 ghost use Rattle.rasn_pki.specs.X509.Extensions.AuthorityKey.{authority_key_shape};
 
-/// The shapes of `BasicConstraints`, `KeyUsage`, `GeneralNames` and `AuthorityKeyIdentifier` are lawful, and all that DER reads of them is
-/// carried. A promise about the types: the function does nothing when it runs.
+/// Proves that the shapes of `BasicConstraints`, `KeyUsage`, `GeneralNames` and
+/// `AuthorityKeyIdentifier` are lawful, and that everything that DER reads of them is carried. The
+/// function does nothing when it runs.
 pub fn have_lawful_shapes()
     ensures basic_constraints { IsLawful basic_constraints_shape }
     ensures key_usage { IsLawful usage_shape }

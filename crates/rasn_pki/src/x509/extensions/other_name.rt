@@ -1,4 +1,5 @@
-//! `OtherName ::= SEQUENCE { type-id OBJECT IDENTIFIER, value [0] EXPLICIT ANY DEFINED BY type-id }` (RFC 5280, 4.2.1.6).
+//! `OtherName ::= SEQUENCE { type-id OBJECT IDENTIFIER,
+//! value [0] EXPLICIT ANY DEFINED BY type-id }` (RFC 5280, 4.2.1.6).
 use rasn::error::{DecodeError, EncodeError};
 use rasn::parts::{End, Put, Required};
 use rasn::types::{
@@ -10,7 +11,7 @@ use rasn::{Decode, Decoder, Encode, Encoder};
 /// SEQUENCE { type-id OBJECT IDENTIFIER, value \[0\] EXPLICIT ANY DEFINED BY type-id }
 #[derive(Debug, PartialEq, Eq, Drop)]
 pub struct OtherName {
-    /// What the name is.
+    /// The type of the name.
     pub type_id: ObjectIdentifier,
     /// The name, as an open type.
     pub value: Explicit<ContextTag<0>, Any>,

@@ -1,4 +1,5 @@
-//! `CertificateList ::= SEQUENCE { tbsCertList TBSCertList, signatureAlgorithm AlgorithmIdentifier, signatureValue BIT STRING }` (RFC 5280, 5.1).
+//! `CertificateList ::= SEQUENCE { tbsCertList TBSCertList, signatureAlgorithm AlgorithmIdentifier,
+//! signatureValue BIT STRING }` (RFC 5280, 5.1).
 use crate::x509::AlgorithmIdentifier;
 use crate::x509::revocation::TbsCertList;
 use rasn::error::{DecodeError, EncodeError};
@@ -6,12 +7,13 @@ use rasn::parts::{End, Put, Required};
 use rasn::types::{AsnType, BitString, Constraints, Identifier, LawfulEq, Present, Tag};
 use rasn::{Decode, Decoder, Encode, Encoder};
 
-/// SEQUENCE { tbsCertList TBSCertList, signatureAlgorithm AlgorithmIdentifier, signatureValue BIT STRING }
+/// SEQUENCE { tbsCertList TBSCertList, signatureAlgorithm AlgorithmIdentifier,
+/// signatureValue BIT STRING }
 #[derive(Debug, PartialEq, Eq, Drop)]
 pub struct CertificateList {
-    /// What is signed.
+    /// The signed part.
     pub tbs_cert_list: TbsCertList,
-    /// How it is signed.
+    /// The algorithm of the signature.
     pub signature_algorithm: AlgorithmIdentifier,
     /// The signature of the DER encoding of `tbs_cert_list`.
     pub signature_value: BitString,

@@ -1,4 +1,4 @@
-//! Revocation lists as a whole: what is read and written, with no premise but memory.
+//! Reading and writing whole revocation lists. A valid list is refused only if an allocation fails.
 ghost use Rattle.std.specs.Prelude.{◌≡◌, true, IfOk, IfErr};
 ghost use Rattle.rasn_types.specs.declared.types.codec.Codec.TheVariants.{Der};
 ghost use Rattle.rasn_types.specs.Bytes.{Bytes};
@@ -12,18 +12,19 @@ use rasn::der;
 use rasn::error::{DecodeError, EncodeError};
 use std::alloc::Global;
 
-/// The shape of a revocation list is lawful, and all that DER reads of it is carried. A promise about the type: the function does nothing
-/// when it runs.
+/// Proves that the shape of a revocation list is lawful, and that everything that DER reads of it
+/// is carried. The function does nothing when it runs.
 pub fn has_lawful_shape()
     ensures lawful { IsLawful certificate_list_shape }
     ensures carried { carries_all certificate_list_shape ≡ true }
 {}
 
-/// The revocation list that is all of the input, in DER: exactly where the grammar has one, and then the input is what
-/// `write_revocation_list` writes of it.
+/// Reads the revocation list that is the whole input, in DER. Unless an allocation fails, the call
+/// succeeds exactly if the input is a revocation list by the grammar, and then
+/// `write_revocation_list` writes the same octets.
 ///
 /// # Errors
-/// Those of `der::decode`.
+/// The errors of `der::decode`.
 pub fn read_revocation_list(alloc: Global, input: &[u8]) -> Result<CertificateList, DecodeError>
     ensures exact { AnsweredAlone Der certificate_list_shape certificate_list_tree input.now result }
     ensures written { IsCarriedAsWritten certificate_list_shape certificate_list_tree input.now result }
@@ -32,10 +33,12 @@ pub fn read_revocation_list(alloc: Global, input: &[u8]) -> Result<CertificateLi
     der::decode(alloc, input)
 }
 
-/// The revocation list's DER octets, which are those of the same carried lists and of no others.
+/// Returns the DER octets of a revocation list. Two carried lists have the same octets exactly if
+/// the lists are the same.
 ///
 /// # Errors
-/// `OutOfMemory`, and what has no octets: a time that its type can't write, say.
+/// `OutOfMemory`, and errors of lists without an encoding, such as one with a name whose attributes
+/// are out of order (X.690 11.6).
 pub fn write_revocation_list(
     alloc: Global,
     revocation_list: &CertificateList,

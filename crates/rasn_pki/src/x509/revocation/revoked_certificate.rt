@@ -1,16 +1,18 @@
-//! An entry of a revocation list: `SEQUENCE { userCertificate INTEGER, revocationDate Time, crlEntryExtensions Extensions OPTIONAL }` (RFC 5280, 5.1).
+//! An entry of a revocation list: `SEQUENCE { userCertificate INTEGER, revocationDate Time,
+//! crlEntryExtensions Extensions OPTIONAL }` (RFC 5280, 5.1).
 use crate::x509::{Extension, Time};
 use rasn::error::{DecodeError, EncodeError};
 use rasn::parts::{End, Optional, Put, PutOptional, Required};
 use rasn::types::{AsnType, Constraints, Identifier, Integer, LawfulEq, Present, Tag};
 use rasn::{Decode, Decoder, Encode, Encoder};
 
-/// SEQUENCE { userCertificate CertificateSerialNumber, revocationDate Time, crlEntryExtensions SEQUENCE OF Extension OPTIONAL }
+/// SEQUENCE { userCertificate CertificateSerialNumber, revocationDate Time,
+/// crlEntryExtensions SEQUENCE OF Extension OPTIONAL }
 #[derive(Debug, PartialEq, Eq, Drop)]
 pub struct RevokedCertificate {
     /// The serial number of the certificate.
     pub user_certificate: Integer,
-    /// When it was revoked.
+    /// The time at which the certificate was revoked.
     pub revocation_date: Time,
     /// Extensions of the entry, such as the reason (RFC 5280 5.3).
     pub crl_entry_extensions: Option<Vec<Extension>>,

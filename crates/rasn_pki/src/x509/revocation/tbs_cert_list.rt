@@ -1,4 +1,5 @@
-//! `TBSCertList ::= SEQUENCE { version INTEGER { v2(1) } OPTIONAL, signature AlgorithmIdentifier, issuer Name, thisUpdate Time, ..` (RFC 5280, 5.1).
+//! `TBSCertList ::= SEQUENCE { version INTEGER { v2(1) } OPTIONAL, signature AlgorithmIdentifier,
+//! issuer Name, thisUpdate Time, ..` (RFC 5280, 5.1).
 use crate::x509::revocation::RevokedCertificate;
 use crate::x509::{AlgorithmIdentifier, Extension, Name, Time};
 use rasn::error::{DecodeError, EncodeError};
@@ -9,26 +10,29 @@ use rasn::types::{
 };
 use rasn::{Decode, Decoder, Encode, Encoder};
 
-/// SEQUENCE { version INTEGER { v2(1) } OPTIONAL, signature AlgorithmIdentifier, issuer Name, thisUpdate Time, nextUpdate Time OPTIONAL,
-/// revokedCertificates SEQUENCE OF RevokedCertificate OPTIONAL, crlExtensions \[0\] EXPLICIT SEQUENCE OF Extension OPTIONAL }
+/// SEQUENCE { version INTEGER { v2(1) } OPTIONAL, signature AlgorithmIdentifier, issuer Name,
+/// thisUpdate Time, nextUpdate Time OPTIONAL,
+/// revokedCertificates SEQUENCE OF RevokedCertificate OPTIONAL,
+/// crlExtensions \[0\] EXPLICIT SEQUENCE OF Extension OPTIONAL }
 ///
-/// A CHOICE that may be left out has no tag to be looked for, so each alternative of `nextUpdate` is an optional part of its own; at most one of
-/// them is there where the list is that of RFC 5280.
+/// An optional CHOICE has no tag that a reader could look for, so each alternative of `nextUpdate`
+/// is an optional part of its own. At most one of them is present in a list that conforms to
+/// RFC 5280.
 #[derive(Debug, PartialEq, Eq, Drop)]
 pub struct TbsCertList {
-    /// 1 in a list of version 2; left out in one of version 1.
+    /// 1 in a list of version 2, `None` in a list of version 1.
     pub version: Option<u8>,
-    /// How the list is signed.
+    /// The algorithm by which the list is signed.
     pub signature: AlgorithmIdentifier,
-    /// Who signed it.
+    /// The name of the authority that signed the list.
     pub issuer: Name,
-    /// When it was issued.
+    /// The time at which the list was issued.
     pub this_update: Time,
-    /// When the next list is issued at the latest, written as a UTCTime.
+    /// The time by which the next list is issued, written as a UTCTime.
     pub next_update_utc: Option<UtcTime>,
-    /// The same, written as a GeneralizedTime.
+    /// The time by which the next list is issued, written as a GeneralizedTime.
     pub next_update_general: Option<GeneralizedTime>,
-    /// The certificates that are revoked.
+    /// The revoked certificates.
     pub revoked_certificates: Option<Vec<RevokedCertificate>>,
     /// Extensions of the list (RFC 5280 5.2).
     pub crl_extensions: Option<Explicit<ContextTag<0>, Vec<Extension>>>,

@@ -1,4 +1,4 @@
-//! Texts of times read.
+//! Parsers of times.
 ghost use Rattle.std.specs.Prelude.{◌≡◌, ◌<◌, ◌<ℤ◌, ◌≤ℤ◌, pos, negsuc};
 ghost use Rattle.rasn_types.specs.Calendar.{Day, IsDay, IsMoment, Stamp};
 ghost use Rattle.rasn_types.specs.Options.{IsSomeExactlyIf, IsSomeRelated};
@@ -60,7 +60,7 @@ fn billionths_of(fraction: Option<(u8, u32)>) -> u32
     }
 }
 
-/// The instant that a clock in this zone shows.
+/// Returns the instant, in UTC, at which a clock in this zone shows `local`.
 fn in_zone(local: UtcTime, zone: Zone) -> UtcTime
     requires zone { IsZone zone }
     requires from { negsuc 99998 <ℤ local.day.year }
@@ -87,7 +87,7 @@ fn offset(zone: Zone) -> i16
     }
 }
 
-/// A day of a year that isn't negative.
+/// Returns a day of a year that isn't negative, or `None` if the day doesn't exist.
 #[inline(always)]
 fn day_of(year: u16, month: u8, day: u8) -> Option<Date>
     ensures { let d : Day = record { year = pos year; month = month; day = day } in IsSomeExactlyIf result (IsDay d) d }
@@ -95,7 +95,7 @@ fn day_of(year: u16, month: u8, day: u8) -> Option<Date>
     Date::new(i32::from(year), month, day)
 }
 
-/// The instant of a text's fields, where the day and the time of day exist.
+/// Returns the instant of a text's fields, or `None` if the day or the time of day doesn't exist.
 #[inline(always)]
 fn stamp(year: u16, fields: &Fields) -> Option<GeneralizedTime>
     requires year { year < 10000 }
@@ -112,8 +112,8 @@ fn stamp(year: u16, fields: &Fields) -> Option<GeneralizedTime>
     GeneralizedTime::new(in_zone(local, fields.zone), offset(fields.zone))
 }
 
-/// The GeneralizedTime of a text in a general form (X.680 46), as BER reads it. `None` where the text has no such form, or where its day or its
-/// time of day isn't there.
+/// Parses a GeneralizedTime in any form (X.680 46), as BER reads it. Returns `None` if the text
+/// doesn't have such a form, or if its day or its time of day doesn't exist.
 pub fn parse_generalized_time(text: &[u8]) -> Option<GeneralizedTime>
     ensures { IsSomeRelated result (GeneralGeneralized text.now) }
 {
@@ -121,7 +121,8 @@ pub fn parse_generalized_time(text: &[u8]) -> Option<GeneralizedTime>
     stamp(year, &fields)
 }
 
-/// The GeneralizedTime of a text in the canonical form (X.690 11.7), as CER reads it: with seconds, a point before a fraction, and `Z`.
+/// Parses a GeneralizedTime in the canonical form (X.690 11.7), as CER reads it: with seconds, a
+/// point before a fraction, and `Z`.
 pub fn parse_canonical_generalized_time(text: &[u8]) -> Option<GeneralizedTime>
     ensures { IsSomeRelated result (CanonicalGeneralized text.now) }
 {
@@ -132,7 +133,8 @@ pub fn parse_canonical_generalized_time(text: &[u8]) -> Option<GeneralizedTime>
     stamp(year, &parts)
 }
 
-/// Whether a canonical text is the shortest one: it has no fraction, or one of at most nine digits, the last of which isn't 0.
+/// Returns whether a canonical text is the shortest one: it has no fraction, or a fraction of at
+/// most nine digits, the last of which isn't 0.
 fn is_shortest(text: &[u8]) -> bool
     ensures { (t : Stamp) → (c : CanonicalGeneralized text.now t) → IsWhether result (IsShortFraction c.rest.fraction) }
 {
@@ -142,8 +144,8 @@ fn is_shortest(text: &[u8]) -> bool
     }
 }
 
-/// The GeneralizedTime of a text in the canonical form, as DER reads it: a fraction has at most nine digits, the last of which isn't 0
-/// (X.690 11.7).
+/// Parses a GeneralizedTime in the canonical form, as DER reads it: a fraction has at most nine
+/// digits, the last of which isn't 0 (X.690 11.7).
 pub fn parse_strict_generalized_time(text: &[u8]) -> Option<GeneralizedTime>
     ensures { IsSomeRelated result (StrictGeneralized text.now) }
 {
@@ -163,7 +165,7 @@ fn full_year(year: u8) -> u16
     }
 }
 
-/// A UTCTime in a general form; the offset of its text is kept beside it.
+/// Parses a UTCTime in any form, and keeps the offset of its text.
 fn utc_stamp(text: &[u8]) -> Option<GeneralizedTime>
     ensures { IsSomeRelated result (GeneralUtc text.now) }
 {
@@ -174,7 +176,7 @@ fn utc_stamp(text: &[u8]) -> Option<GeneralizedTime>
     stamp(full_year(year), &fields)
 }
 
-/// A UTCTime in the canonical form.
+/// Parses a UTCTime in the canonical form.
 #[inline(always)]
 fn canonical_utc_stamp(text: &[u8]) -> Option<GeneralizedTime>
     ensures { IsSomeRelated result (CanonicalUtc text.now) }
@@ -189,8 +191,8 @@ fn canonical_utc_stamp(text: &[u8]) -> Option<GeneralizedTime>
     stamp(full_year(year), &fields)
 }
 
-/// The UTCTime of a text in a general form (X.680 47), as BER reads it. `None` where the text has no such form, or where its day or its time of
-/// day isn't there.
+/// Parses a UTCTime in any form (X.680 47), as BER reads it. Returns `None` if the text doesn't
+/// have such a form, or if its day or its time of day doesn't exist.
 pub fn parse_utc_time(text: &[u8]) -> Option<UtcTime>
     ensures { IsSomeRelated result (λ m. (offset : _) × GeneralUtc text.now (record { moment = m; offset = offset })) }
 {
@@ -198,7 +200,8 @@ pub fn parse_utc_time(text: &[u8]) -> Option<UtcTime>
     Some(stamp.utc())
 }
 
-/// The UTCTime of a text in the canonical form (X.690 11.8), as CER and DER read it: with seconds and `Z`.
+/// Parses a UTCTime in the canonical form (X.690 11.8), as CER and DER read it: with seconds and
+/// `Z`.
 pub fn parse_canonical_utc_time(text: &[u8]) -> Option<UtcTime>
     ensures { IsSomeRelated result (λ m. (offset : _) × CanonicalUtc text.now (record { moment = m; offset = offset })) }
 {
@@ -206,7 +209,8 @@ pub fn parse_canonical_utc_time(text: &[u8]) -> Option<UtcTime>
     Some(stamp.utc())
 }
 
-/// The DATE of a text of eight digits. `None` where it isn't that, or where the day isn't there.
+/// Parses a DATE of eight digits. Returns `None` if the text isn't eight digits, or if the day
+/// doesn't exist.
 pub fn parse_date(text: &[u8]) -> Option<Date>
     ensures { IsSomeRelated result (DateText text.now) }
 {

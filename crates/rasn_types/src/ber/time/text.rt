@@ -1,10 +1,10 @@
-//! What a time's text says, part by part.
+//! The parts of a time's text.
 ghost use Rattle.std.specs.Prelude.{◌≡◌, ◌+◌, ◌*◌, ◌<◌, IfSome};
 ghost use Rattle.rasn_types.specs.TimeParsing.{ParsesOption, starts_decimal, two_at, four_at, clock_at, digits_at, fraction_at, offset_at, zone_at, fields_at, short_at, long_at, date_at};
 ghost use Rattle.rasn_types.specs.TimeSpelling.{IsZone, billionths};
 ghost use Rattle.rasn_types.specs.Time.{short_form, canonical_form};
 
-/// What a time's text says behind its hour.
+/// The minutes and seconds after the hour in a time's text.
 #[derive(Clone, Copy, Debug)]
 pub enum Clock {
     Hours,
@@ -12,7 +12,7 @@ pub enum Clock {
     Seconds(u8, u8),
 }
 
-/// What a time's text ends with: an offset in hours and minutes.
+/// The end of a time's text: nothing, `Z`, or an offset in hours and minutes.
 #[derive(Clone, Copy, Debug)]
 pub enum Zone {
     Unnamed,
@@ -21,7 +21,8 @@ pub enum Zone {
     West(u8, u8),
 }
 
-/// What a text says behind its year; a fraction with its separator, in billionths.
+/// The parts of a time's text after its year. A fraction is kept as its separator and its value in
+/// billionths.
 #[derive(Clone, Copy, Debug)]
 pub struct Fields {
     pub month: u8,
@@ -32,7 +33,7 @@ pub struct Fields {
     pub zone: Zone,
 }
 
-/// Two digits.
+/// Reads two digits.
 #[tactic(auto, unfolding(crate::specs::TimeParsing::two_at))]
 #[inline(always)]
 fn two_digits(text: &[u8]) -> Option<(u8, &[u8])>
@@ -51,7 +52,7 @@ fn two_digits(text: &[u8]) -> Option<(u8, &[u8])>
     }
 }
 
-/// Four digits.
+/// Reads four digits.
 #[tactic(auto, unfolding(crate::specs::TimeParsing::four_at))]
 #[inline(always)]
 fn four_digits(text: &[u8]) -> Option<(u16, &[u8])>
@@ -73,7 +74,7 @@ fn starts_with_digit(text: &[u8]) -> bool
     }
 }
 
-/// Minutes and seconds, where they are given.
+/// Reads minutes and seconds, if they are given.
 #[tactic(auto, unfolding(crate::specs::TimeParsing::clock_at))]
 #[inline(always)]
 fn read_clock(text: &[u8]) -> Option<(Clock, &[u8])>
@@ -90,7 +91,7 @@ fn read_clock(text: &[u8]) -> Option<(Clock, &[u8])>
     Some((Clock::Seconds(minute, second), rest))
 }
 
-/// The digits at the beginning, as billionths.
+/// Reads the leading digits as a fraction, in billionths. Digits after the ninth are skipped.
 #[tactic(auto, unfolding(crate::specs::TimeParsing::digits_at))]
 #[inline(always)]
 fn read_digits(text: &[u8]) -> (u32, &[u8])
@@ -113,7 +114,7 @@ fn read_digits(text: &[u8]) -> (u32, &[u8])
     (total, rest)
 }
 
-/// A fraction, where one is given, with its separator.
+/// Reads a fraction with its separator, if one is given.
 #[tactic(auto, unfolding(crate::specs::TimeParsing::fraction_at))]
 #[inline(always)]
 fn read_fraction(text: &[u8]) -> Option<(Option<(u8, u32)>, &[u8])>
@@ -132,7 +133,7 @@ fn read_fraction(text: &[u8]) -> Option<(Option<(u8, u32)>, &[u8])>
     }
 }
 
-/// Hours and minutes of an offset, and nothing behind them.
+/// Reads the hours and minutes of an offset, which nothing may follow.
 #[tactic(auto, unfolding(crate::specs::TimeParsing::offset_at))]
 #[inline(always)]
 fn read_offset(text: &[u8]) -> Option<(u8, u8)>
@@ -148,7 +149,7 @@ fn read_offset(text: &[u8]) -> Option<(u8, u8)>
     }
 }
 
-/// What is left is a zone, or nothing.
+/// Reads the remaining text, which is a zone or empty.
 #[tactic(auto, unfolding(crate::specs::TimeParsing::zone_at))]
 #[inline(always)]
 fn read_zone(text: &[u8]) -> Option<Zone>
@@ -176,7 +177,7 @@ fn read_zone(text: &[u8]) -> Option<Zone>
     }
 }
 
-/// All that stands behind the year.
+/// Reads everything after the year.
 #[tactic(auto, unfolding(crate::specs::TimeParsing::fields_at))]
 #[inline(always)]
 fn read_fields(text: &[u8]) -> Option<Fields>
@@ -200,7 +201,7 @@ fn read_fields(text: &[u8]) -> Option<Fields>
     })
 }
 
-/// A year of four digits, and what stands behind it.
+/// Reads a year of four digits, and everything after it.
 #[tactic(auto, unfolding(crate::specs::TimeParsing::long_at))]
 #[inline(always)]
 pub fn long_parts(text: &[u8]) -> Option<(u16, Fields)>
@@ -214,7 +215,7 @@ pub fn long_parts(text: &[u8]) -> Option<(u16, Fields)>
     Some((year, fields))
 }
 
-/// A year of two digits, and what stands behind it.
+/// Reads a year of two digits, and everything after it.
 #[tactic(auto, unfolding(crate::specs::TimeParsing::short_at))]
 #[inline(always)]
 pub fn short_parts(text: &[u8]) -> Option<(u8, Fields)>
@@ -229,7 +230,8 @@ pub fn short_parts(text: &[u8]) -> Option<(u8, Fields)>
 }
 
 impl Fields {
-    /// Whether this is the form of a UTCTime: minutes, no fraction, a zone.
+    /// Returns whether this is the form of a UTCTime: with minutes, without a fraction, and with a
+    /// zone.
     #[inline(always)]
     pub fn is_short(&self) -> bool
         ensures { result ≡ short_form self.now }
@@ -239,7 +241,7 @@ impl Fields {
             && !matches!(self.zone, Zone::Unnamed)
     }
 
-    /// Whether this is the canonical form (X.690 11.7, 11.8).
+    /// Returns whether this is the canonical form (X.690 11.7, 11.8).
     #[inline(always)]
     pub fn is_canonical(&self) -> bool
         ensures { result ≡ canonical_form self.now }
@@ -252,7 +254,7 @@ impl Fields {
     }
 }
 
-/// The year, month and day of a DATE.
+/// Reads the year, month and day of a DATE.
 #[tactic(auto, unfolding(crate::specs::TimeParsing::date_at))]
 pub fn date_parts(text: &[u8]) -> Option<(u16, u8, u8)>
     ensures exact { ParsesOption (λ x. x) result (date_at text.now) }

@@ -1,4 +1,4 @@
-//! Texts of times written, in their canonical forms (X.690 11.7, 11.8).
+//! Writers of times in their canonical forms (X.690 11.7, 11.8).
 ghost use Rattle.std.specs.Prelude.{ℕ, List, ◌≡◌, ◌<◌, ◌≤ℤ◌, ◌++◌, IfOk, OnErr, map, ◌+◌, pos, negsuc, unsigned_abs};
 ghost use Rattle.std.specs.Int.{int_rem_euclid};
 ghost use Rattle.rasn_types.specs.Calendar.{IsDay, IsMoment};
@@ -8,7 +8,7 @@ ghost use Rattle.rasn_types.specs.Time.{written_date, written_year, long_year, w
 use crate::types::{Date, GeneralizedTime, UtcTime};
 use std::alloc::AllocError;
 
-/// Two digits.
+/// Appends a number as two digits.
 fn push_two(out: &mut Vec<u8>, number: u8) -> Result<(), AllocError>
     requires { number < 100 }
     ensures ok { IfOk result (λ _. out.new.items ≡ out.old.items ++ two number) }
@@ -28,7 +28,7 @@ fn push_four(out: &mut Vec<u8>, number: u16) -> Result<(), AllocError>
     push_two(out, (number % 100) as u8)
 }
 
-/// A year of any number of digits, at least four.
+/// Appends a year that isn't negative, with at least four digits.
 fn push_long(out: &mut Vec<u8>, number: u32) -> Result<(), AllocError>
     requires { number < 100000 }
     ensures ok { IfOk result (λ _. out.new.items ≡ out.old.items ++ long_year number) }
@@ -56,7 +56,10 @@ fn push_year(out: &mut Vec<u8>, year: i32) -> Result<(), AllocError>
     }
 }
 
-/// Appends a day's text, a year outside 0 to 9999 with its sign. Fails where memory runs out.
+/// Appends the text of a day. A year outside 0 to 9999 is written with its sign.
+///
+/// # Errors
+/// If an allocation fails. Part of the text may have been appended.
 #[tactic(auto, unfolding(crate::specs::Time::written_date))]
 pub fn write_date(out: &mut Vec<u8>, value: &Date) -> Result<(), AllocError>
     ensures ok { IfOk result (λ _. out.new.items ≡ out.old.items ++ written_date value.now) }
@@ -68,7 +71,7 @@ pub fn write_date(out: &mut Vec<u8>, value: &Date) -> Result<(), AllocError>
     push_two(out, value.day())
 }
 
-/// The digits of a number of billionths, without zeros at the end.
+/// Appends the digits of a number of billionths, without trailing zeros.
 fn push_digits(out: &mut Vec<u8>, billionths: u32) -> Result<(), AllocError>
     requires { billionths < 1000000000 }
     ensures ok { IfOk result (λ _. out.new.items ≡ out.old.items ++ map (λ d. 48 + d) (digits_of 9 billionths)) }
@@ -130,7 +133,10 @@ fn push_clock(out: &mut Vec<u8>, value: &UtcTime) -> Result<(), AllocError>
     push_two(out, shown_second(value))
 }
 
-/// Appends an instant as a GeneralizedTime in the canonical form (X.690 11.7). Fails where memory runs out.
+/// Appends an instant as a GeneralizedTime in the canonical form (X.690 11.7).
+///
+/// # Errors
+/// If an allocation fails. Part of the text may have been appended.
 #[tactic(auto, unfolding(crate::specs::Time::written_generalized))]
 pub fn write_generalized_time(out: &mut Vec<u8>, value: &GeneralizedTime) -> Result<(), AllocError>
     ensures ok { IfOk result (λ _. out.new.items ≡ out.old.items ++ written_generalized value.now.moment) }
@@ -153,8 +159,11 @@ fn year_in_century(date: &Date) -> u8
     date.year().rem_euclid(100) as u8
 }
 
-/// Appends an instant as a UTCTime in the canonical form (X.690 11.8): the year without its century, and no fraction. Fails where memory is
-/// wanted.
+/// Appends an instant as a UTCTime in the canonical form (X.690 11.8): without the century of its
+/// year, and without a fraction.
+///
+/// # Errors
+/// If an allocation fails. Part of the text may have been appended.
 #[tactic(auto, unfolding(crate::specs::Time::written_utc))]
 pub fn write_utc_time(out: &mut Vec<u8>, value: &UtcTime) -> Result<(), AllocError>
     ensures ok { IfOk result (λ _. out.new.items ≡ out.old.items ++ written_utc value.now) }

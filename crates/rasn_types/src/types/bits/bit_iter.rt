@@ -1,10 +1,10 @@
-//! Bits one by one.
+//! An iterator over bits.
 ghost use Rattle.std.specs.Prelude.{◌≡◌};
 
 use crate::types::bits::BitStr;
 use std::marker::Model;
 
-/// The bits of a list that are left, the first of them next. To contracts they are a list of bits.
+/// An iterator over the bits of a list. Contracts see it as the list of the remaining bits.
 #[derive(Debug, Drop)]
 pub struct BitIter<'a> {
     rest: BitStr<'a>,
@@ -19,7 +19,7 @@ impl<'a> Model for BitIter<'a> {
 }
 
 impl<'a> BitIter<'a> {
-    // All of these bits.
+    // Returns an iterator over all of these bits.
     pub(crate) fn over(bits: BitStr<'a>) -> BitIter<'a>
         ensures { result ≡ bits.entry }
     {

@@ -11,7 +11,8 @@ use crate::types::bits::packing::{clear_last, octets_for, push_shifted, unused_b
 use std::alloc::AllocError;
 use std::marker::Model;
 
-/// Bits borrowed from octets, which may begin and end inside one. To contracts they are a list of bits.
+/// Bits borrowed from octets, which may begin and end inside an octet. Contracts see them as a list
+/// of bits.
 #[derive(Debug, Drop)]
 pub struct BitStr<'a> {
     octets: &'a [u8],
@@ -31,8 +32,8 @@ impl<'a> Model for BitStr<'a> {
 }
 
 impl<'a> BitStr<'a> {
-    /// So many bits of the octets, the highest bit of each octet first, from the place `start` on. `None` where the octets
-    /// hold fewer.
+    /// Returns `len` bits of the octets from the bit `start` on, counted from 0; the first bit of
+    /// an octet is its highest. Returns `None` if the octets have fewer bits.
     pub fn new(octets: &'a [u8], start: usize, len: usize) -> Option<BitStr<'a>>
         ensures { IsSomeExactlyIf result (start + len ≤ 8 * length octets.now) (bits_from start len octets.now) }
     {
@@ -47,7 +48,7 @@ impl<'a> BitStr<'a> {
         Some(BitStr { octets, shift, len })
     }
 
-    // The first so many bits of the octets.
+    // Returns the first `len` bits of the octets.
     pub(crate) fn at_front(octets: &'a [u8], len: usize) -> BitStr<'a>
         requires { len ≤ 8 * length octets.now }
         ensures { result ≡ bits_from 0 len octets.now }
@@ -59,21 +60,22 @@ impl<'a> BitStr<'a> {
         }
     }
 
-    /// How many bits there are.
+    /// Returns the number of bits.
     pub fn len(&self) -> usize
         ensures { result ≡ length self.now }
     {
         self.len
     }
 
-    /// Whether there are none.
+    /// Returns whether there are no bits.
     pub fn is_empty(&self) -> bool
         ensures { result ≡ nat_eq (length self.now) 0 }
     {
         self.len() == 0
     }
 
-    /// The bit at a place, counted from 0. `None` behind the last.
+    /// Returns the bit at `place`, counted from 0, or `None` if there are no more than `place`
+    /// bits.
     pub fn get(&self, place: usize) -> Option<bool>
         ensures { MatchOption result (length self.now ≤ place) (λ b. (place < length self.now) × (b ≡ get_or self.now place b)) }
     {
@@ -84,7 +86,7 @@ impl<'a> BitStr<'a> {
         }
     }
 
-    // The bit at a place.
+    // Returns the bit at `place`.
     fn bit(&self, place: usize) -> bool
         requires { place < length self.now }
         ensures { (b : Bool) → result ≡ get_or self.now place b }
@@ -94,7 +96,7 @@ impl<'a> BitStr<'a> {
         (octet >> (7 - behind % 8)) % 2 == 1
     }
 
-    // Whether two of one length have the same bits.
+    // Returns whether two views of the same length have the same bits.
     fn agrees(&self, other: &BitStr<'_>) -> bool
         requires { length self.now ≡ length other.now }
         ensures { result ≡ pointwise beq self.now other.now }
@@ -107,7 +109,7 @@ impl<'a> BitStr<'a> {
         true
     }
 
-    /// The bits one by one.
+    /// Returns an iterator over the bits.
     pub fn iter(&self) -> BitIter<'a>
         ensures { result ≡ self.now }
     {
@@ -118,7 +120,7 @@ impl<'a> BitStr<'a> {
         })
     }
 
-    /// The bits before a place, and those from it on.
+    /// Returns the bits before `place`, and those from `place` on.
     pub fn split_at(&self, place: usize) -> (BitStr<'a>, BitStr<'a>)
         requires { place ≤ length self.now }
         ensures front { result.0 ≡ take place self.now }
@@ -138,7 +140,8 @@ impl<'a> BitStr<'a> {
         (front, back)
     }
 
-    /// How many bits of the last octet they leave unused where they are packed from an octet's first bit on (X.690 8.6.2.2).
+    /// Returns the number of bits of the last octet that are unused if the bits are packed from the
+    /// first bit of an octet on (X.690 8.6.2.2).
     pub fn unused(&self) -> u8
         ensures few { result < 8 }
         ensures whole { (length self.now + result) % 8 ≡ 0 }
@@ -146,8 +149,8 @@ impl<'a> BitStr<'a> {
         unused_by(self.len) as u8
     }
 
-    /// Puts the bits behind octets, packed from the first bit of an octet on. The bits that are left over in the last octet
-    /// aren't set. If an allocation fails, nothing is appended.
+    /// Appends the bits to octets, packed from the first bit of an octet on. The unused bits of the
+    /// last octet are 0. If an allocation fails, nothing is appended.
     pub fn append_to(&self, out: &mut Vec<u8>) -> Result<(), AllocError>
         ensures ok { OnOk result (Pushes self.now out.old.items out.new.items) }
         ensures err { OnErr result (out.new.items ≡ out.old.items) }
@@ -190,7 +193,8 @@ impl Eq for BitStr<'_> {
     ghost laws = { Prim.search (comparing, rules) };
 }
 
-// How many octets hold so many bits behind the first few of them.
+// Returns the number of octets that `len` bits span if they begin after the first `shift` bits of
+// an octet.
 fn octets_across(shift: usize, len: usize) -> usize
     requires { shift < 8 }
     ensures { result ≡ (shift + len + 7) / 8 }

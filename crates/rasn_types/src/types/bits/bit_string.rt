@@ -10,7 +10,7 @@ use std::alloc::{AllocError, Global};
 use std::fmt;
 use std::marker::Model;
 
-/// A list of bits (X.680 22), kept in as few octets as they take. To contracts it is the list.
+/// A list of bits (X.680 22), kept in as few octets as possible. Contracts see it as this list.
 #[derive(Debug, Drop)]
 pub struct BitString {
     octets: Vec<u8>,
@@ -29,7 +29,8 @@ impl Model for BitString {
 }
 
 impl BitString {
-    /// The first so many bits of the octets, the highest bit of each octet first. `None` where the octets hold fewer.
+    /// Returns the first `len` bits of the octets; the first bit of an octet is its highest.
+    /// Returns `None` if the octets have fewer bits.
     pub fn new(octets: Vec<u8>, len: usize) -> Option<BitString>
         ensures { IsSomeExactlyIf result (len ≤ 8 * length octets.items) (bits_from 0 len octets.items) }
     {
@@ -43,49 +44,51 @@ impl BitString {
         Some(BitString { octets, len })
     }
 
-    /// How many bits there are.
+    /// Returns the number of bits.
     pub fn len(&self) -> usize
         ensures { result ≡ length self.now }
     {
         self.len
     }
 
-    /// Whether there are none.
+    /// Returns whether there are no bits.
     pub fn is_empty(&self) -> bool
         ensures { result ≡ nat_eq (length self.now) 0 }
     {
         self.len() == 0
     }
 
-    /// The bit at a place, counted from 0. `None` behind the last.
+    /// Returns the bit at `place`, counted from 0, or `None` if there are no more than `place`
+    /// bits.
     pub fn get(&self, place: usize) -> Option<bool>
         ensures { MatchOption result (length self.now ≤ place) (λ b. (place < length self.now) × (b ≡ get_or self.now place b)) }
     {
         self.as_bitstr().get(place)
     }
 
-    /// A view of all its bits.
+    /// Returns a view of all bits.
     pub fn as_bitstr(&self) -> BitStr<'_>
         ensures { result ≡ self.now }
     {
         BitStr::at_front(&self.octets, self.len)
     }
 
-    /// The bits one by one.
+    /// Returns an iterator over the bits.
     pub fn iter(&self) -> BitIter<'_>
         ensures { result ≡ self.now }
     {
         self.as_bitstr().iter()
     }
 
-    /// Its bits in as few octets as they take, the first bit of each highest, and zeros behind the last.
+    /// Returns the bits in as few octets as possible; the first bit of an octet is its highest, and
+    /// the unused bits of the last octet are 0.
     pub fn as_octets(&self) -> &[u8]
         ensures { Packs self.now result.now }
     {
         self.octets.as_slice()
     }
 
-    /// Its bits in as few octets as they take, as `as_octets` lends them, without a copy.
+    /// Returns the octets of `as_octets` without a copy.
     pub fn into_vec(self) -> Vec<u8>
         ensures { Packs self result.items }
     {
@@ -94,7 +97,7 @@ impl BitString {
     }
 }
 
-/// Its bits as a value is written in ASN.1 (X.680 12.10): `'10110'B`. `Hexadecimal` shows its octets.
+/// Writes the bits in ASN.1 notation (X.680 12.10): `'10110'B`. `Hexadecimal` shows octets.
 impl fmt::Display for BitString {
     ghost use Rattle.std.specs.Prelude.{Some};
     ghost use Rattle.rasn_types.specs.Text.{shown_bits};

@@ -1,11 +1,11 @@
-//! Octets that bits are packed in, the first bit of each highest (X.690 8.6.2).
+//! Bits packed in octets, the first bit of each octet highest (X.690 8.6.2).
 ghost use Rattle.std.specs.Prelude.{◌≡◌, ◌+◌, ◌-◌, ◌*◌, ◌/◌, ◌%◌, ◌<◌, ◌≤◌, ◌++◌, ◌∷◌, length, take, drop, vec_len, vec_capacity};
 ghost use Rattle.rasn_types.specs.Framing.{AreOctets};
 ghost use Rattle.rasn_types.specs.Contents.{bits_of};
 ghost use Rattle.rasn_types.specs.BitString.{zeros, but_last};
 ghost use Rattle.rasn_types.specs.BitPacking.{Shifts, Clears, Joins};
 
-/// How many octets so many bits take.
+/// Returns the number of octets that this number of bits takes.
 pub(crate) fn octets_for(bits: usize) -> usize
     ensures { result ≡ (bits + 7) / 8 }
 {
@@ -16,14 +16,14 @@ pub(crate) fn octets_for(bits: usize) -> usize
     }
 }
 
-/// How many bits of the last octet so many bits leave unused.
+/// Returns the number of bits that are unused in the last octet of packed bits.
 pub(crate) fn unused_by(bits: usize) -> usize
     ensures { result ≡ (8 - bits % 8) % 8 }
 {
     (8 - bits % 8) % 8
 }
 
-// The octet that begins behind so many bits of the first of two.
+// Returns the octet that begins after the first `bits` bits of two octets.
 fn across(first: u8, second: u8, bits: usize) -> u8
     requires { bits < 8 }
     ensures { bits_of result ≡ take 8 (drop bits (bits_of first ++ bits_of second)) }
@@ -32,7 +32,8 @@ fn across(first: u8, second: u8, bits: usize) -> u8
     ((both >> (8 - bits)) % 256) as u8
 }
 
-/// Puts the bits of octets but the first few behind others, and zeros up to the end of the last octet.
+/// Appends the bits of octets except the first `bits` ones, and zeros up to the end of the last
+/// octet.
 pub(crate) fn push_shifted(out: &mut Vec<u8>, first: u8, more: &[u8], bits: usize)
     requires few { bits < 8 }
     requires room { vec_len out.old + (1 + length more.now) ≤ vec_capacity out.old }
@@ -46,7 +47,7 @@ pub(crate) fn push_shifted(out: &mut Vec<u8>, first: u8, more: &[u8], bits: usiz
     out.push_reserved(across(previous, 0, bits));
 }
 
-// An octet whose last bits are cleared.
+// Returns an octet with its last `bits` bits cleared.
 fn cleared(octet: u8, bits: usize) -> u8
     requires { bits < 8 }
     ensures { bits_of result ≡ take (8 - bits) (bits_of octet) ++ zeros bits }
@@ -54,7 +55,7 @@ fn cleared(octet: u8, bits: usize) -> u8
     octet >> bits << bits
 }
 
-// An octet whose first bits stand behind so many others.
+// Returns an octet shifted down by `bits` bits.
 fn moved_down(octet: u8, bits: usize) -> u8
     requires { bits < 8 }
     ensures { drop bits (bits_of result) ≡ take (8 - bits) (bits_of octet) }
@@ -62,7 +63,7 @@ fn moved_down(octet: u8, bits: usize) -> u8
     octet >> bits
 }
 
-/// Clears the last bits of the last octet.
+/// Clears the last `bits` bits of the last octet.
 pub(crate) fn clear_last(octets: &mut Vec<u8>, bits: usize)
     requires { bits < 8 }
     ensures cleared { Clears bits octets.old.items octets.new.items }
@@ -73,7 +74,8 @@ pub(crate) fn clear_last(octets: &mut Vec<u8>, bits: usize)
     }
 }
 
-/// Puts octets behind others, of whose last octet so many bits are unused: bit joins bit.
+/// Appends the bits of octets to the bits of others, whose last octet has `unused` unused bits. The
+/// bits that are appended follow the used bits without a gap.
 pub(crate) fn push_joined(out: &mut Vec<u8>, unused: usize, more: &[u8])
     requires few { unused < 8 }
     requires some { 0 < vec_len out.old }
@@ -85,7 +87,8 @@ pub(crate) fn push_joined(out: &mut Vec<u8>, unused: usize, more: &[u8])
     }
 }
 
-/// Drops a last octet none of whose bits are used, and returns how many bits are unused then.
+/// Drops the last octet if none of its bits are used, and returns the number of bits that are
+/// unused then.
 pub(crate) fn shorten(octets: &mut Vec<u8>, unused: usize) -> usize
     requires few { unused < 16 }
     requires held { unused ≤ 8 * length octets.old.items }

@@ -1,4 +1,4 @@
-//! Octets of a number that stand in the value itself while they are few.
+//! Octets of a number: up to 23 inline, more on the heap.
 ghost use Rattle.std.specs.Prelude.{◌≡◌, ◌<◌, ◌≤◌, length, IfOk, IfErr, MatchOption};
 ghost use Rattle.rasn_types.specs.Inline.{inline_capacity};
 
@@ -6,10 +6,10 @@ use std::alloc::{AllocError, Global};
 use std::fmt;
 use std::marker::Model;
 
-// How many octets stand in the value itself: with their count they are as long as the vector that holds more.
+// The highest number of octets kept inline: with their number they take as much space as a vector.
 const INLINE_CAPACITY: usize = 23;
 
-/// At most 23 octets, which take no memory of their own.
+/// Up to 23 octets, kept inline.
 #[derive(Clone, Copy, Drop)]
 pub struct FewOctets {
     octets: [u8; INLINE_CAPACITY],
@@ -20,7 +20,7 @@ pub struct FewOctets {
 impl FewOctets {
     ghost use Rattle.rasn_types.specs.SmallOctets.{few_octets};
 
-    /// These octets, where there are no more than 23.
+    /// Returns a copy of these octets, or `None` if there are more than 23.
     #[inline]
     fn from_slice(octets: &[u8]) -> Option<FewOctets>
         ensures { MatchOption result (inline_capacity < length octets.now) (λ few. few_octets few ≡ octets.now) }
@@ -37,7 +37,7 @@ impl FewOctets {
         })
     }
 
-    /// The octets.
+    /// Returns the octets.
     #[inline(always)]
     fn as_slice(&self) -> &[u8]
         ensures { result.now ≡ few_octets self.now }
@@ -46,16 +46,16 @@ impl FewOctets {
     }
 }
 
-/// Where octets stand.
+/// The storage of octets.
 #[derive(Drop)]
 pub enum Storage {
-    /// In the value itself.
+    /// Octets in the value itself.
     Inline(FewOctets),
-    /// In memory of their own.
+    /// Octets on the heap.
     Allocated(Vec<u8>),
 }
 
-/// Octets, which take no memory where there are at most 23.
+/// A list of octets: up to 23 inline, more on the heap.
 #[derive(Drop)]
 pub struct SmallOctets {
     storage: Storage,
@@ -72,10 +72,10 @@ impl Model for SmallOctets {
 }
 
 impl SmallOctets {
-    /// A copy of these octets.
+    /// Returns a copy of these octets.
     ///
     /// # Errors
-    /// Running out of memory, for more than 23 octets.
+    /// If an allocation fails, for more than 23 octets.
     #[inline]
     pub fn from_slice(alloc: Global, octets: &[u8]) -> Result<SmallOctets, AllocError>
         ensures ok { IfOk result (λ v. v ≡ octets.now) }
@@ -88,7 +88,7 @@ impl SmallOctets {
         Ok(SmallOctets { storage })
     }
 
-    /// The octets.
+    /// Returns the octets.
     #[inline(always)]
     pub fn as_slice(&self) -> &[u8]
         ensures { result.now ≡ self.now }
@@ -99,10 +99,10 @@ impl SmallOctets {
         }
     }
 
-    /// A copy of the octets.
+    /// Returns a copy of the octets.
     ///
     /// # Errors
-    /// Running out of memory, for more than 23 octets.
+    /// If an allocation fails, for more than 23 octets.
     #[inline]
     pub fn try_clone(&self, alloc: Global) -> Result<SmallOctets, AllocError>
         ensures ok { IfOk result (λ v. v ≡ self.now) }

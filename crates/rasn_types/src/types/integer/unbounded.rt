@@ -18,8 +18,8 @@ use std::cmp::Ordering;
 use std::fmt;
 use std::marker::Model;
 
-/// A whole number of any length, kept as octets in two's complement, most significant first (X.690 8.3), and ordered as numbers
-/// are.
+/// A whole number of any length, kept as octets in two's complement, most significant first
+/// (X.690 8.3). Values are ordered as numbers.
 #[derive(Debug, Drop)]
 pub struct Integer {
     octets: SmallOctets,
@@ -38,10 +38,11 @@ impl Model for Integer {
 }
 
 impl Integer {
-    /// The number that octets in two's complement stand for. No octets stand for none.
+    /// Returns the number that octets represent in two's complement, or `None` if there are no
+    /// octets.
     ///
     /// # Errors
-    /// Running out of memory, for a number that takes more than 23 octets.
+    /// If an allocation fails, for a number that takes more than 23 octets.
     pub fn from_octets(alloc: Global, octets: &[u8]) -> Result<Option<Integer>, AllocError>
         ensures ok { IfOk result (λ v. MatchOption v (octets.now ≡ []) (λ n. (octets.now ≢ []) × (n ≡ signed octets.now))) }
         ensures memory { IfErr result (λ _. IsLong (signed octets.now)) }
@@ -53,10 +54,10 @@ impl Integer {
         Ok(Some(Integer { octets }))
     }
 
-    /// This number.
+    /// Returns this number.
     ///
     /// # Errors
-    /// Running out of memory.
+    /// If an allocation fails.
     pub fn from_i128(alloc: Global, number: i128) -> Result<Integer, AllocError>
         ensures { IfOk result (λ n. n ≡ number) }
     {
@@ -65,10 +66,10 @@ impl Integer {
         Ok(Integer { octets })
     }
 
-    /// This number.
+    /// Returns this number.
     ///
     /// # Errors
-    /// Running out of memory.
+    /// If an allocation fails.
     pub fn from_u128(alloc: Global, number: u128) -> Result<Integer, AllocError>
         ensures { IfOk result (λ n. n ≡ pos number) }
     {
@@ -77,28 +78,28 @@ impl Integer {
         Ok(Integer { octets })
     }
 
-    /// The number, where 128 bits hold it.
+    /// Returns the number, or `None` if it doesn't fit in an `i128`.
     pub fn to_i128(&self) -> Option<i128>
         ensures { MatchOption result (IsIn (signed_range 128) self.now → ⊥) (λ n. n ≡ self.now) }
     {
         signed_i128(self.octets.as_slice())
     }
 
-    /// The number, where 128 bits hold it without a sign.
+    /// Returns the number, or `None` if it doesn't fit in a `u128`.
     pub fn to_u128(&self) -> Option<u128>
         ensures { MatchOption result (IsIn (unsigned_range 128) self.now → ⊥) (λ n. pos n ≡ self.now) }
     {
         unsigned_u128(self.octets.as_slice())
     }
 
-    /// Whether it is below 0.
+    /// Returns whether the number is below 0.
     pub fn is_negative(&self) -> bool
         ensures { IsTrue result ↔ (self.now <ℤ pos 0) }
     {
         is_below_zero(self.octets.as_slice())
     }
 
-    /// Its octets in two's complement, the fewest (X.690 8.3.2).
+    /// Returns the fewest octets of the number in two's complement (X.690 8.3.2).
     pub fn as_octets(&self) -> &[u8]
         ensures { IsShortestOf self.now result.now }
     {
@@ -106,7 +107,8 @@ impl Integer {
     }
 }
 
-/// The number in decimal if `i128` or `u128` holds it, else its octets in two's complement, in hexadecimal after `0x`.
+/// Writes the number in decimal if it fits in an `i128` or a `u128`, and otherwise its octets in
+/// two's complement, in hexadecimal after `0x`.
 impl fmt::Display for Integer {
     ghost use Rattle.std.specs.Prelude.{Some};
     ghost use Rattle.rasn_types.specs.Text.{shown_number};
@@ -179,7 +181,7 @@ impl Ord for Integer {
     }
 }
 
-// Whether octets in two's complement stand for a number below 0.
+// Returns whether octets represent a number below 0 in two's complement.
 fn is_below_zero(octets: &[u8]) -> bool
     requires some { 0 < length octets.now }
     requires octets { AreOctets octets.now }
@@ -188,7 +190,8 @@ fn is_below_zero(octets: &[u8]) -> bool
     octets[0] >= 128
 }
 
-// The order of two numbers in their fewest octets: by sign, then by how many octets there are, then by the octets.
+// Compares two numbers by their fewest octets: by sign, then by the number of octets, then by the
+// octets.
 fn order(octets: &[u8], others: &[u8]) -> Ordering
     requires short { IsShortestInteger octets.now × IsShortestInteger others.now }
     requires octets { AreOctets octets.now × AreOctets others.now }

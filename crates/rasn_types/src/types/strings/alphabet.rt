@@ -4,7 +4,7 @@ ghost use Rattle.rasn_types.specs.Truth.{IsWhether};
 ghost use Rattle.rasn_types.specs.CharacterString.{IsAdmitted, AreAdmitted, IsFirstForeign, printable_marks};
 ghost use Rattle.rasn_types.specs.declared.types.strings.alphabet.Alphabet.TheVariants.{Numeric, Printable};
 
-/// The octets that a string type admits, each being one character (X.680 41).
+/// The octets that a string type admits, each of which is one character (X.680 41).
 #[derive(Clone, Copy, Debug, PartialEq, Eq)]
 pub enum Alphabet {
     /// Digits and space.
@@ -20,7 +20,7 @@ pub enum Alphabet {
 }
 
 impl Alphabet {
-    /// Whether it has this octet.
+    /// Returns whether the alphabet has this octet.
     pub fn admits(self, octet: u8) -> bool
         ensures { IsWhether result (IsAdmitted self octet) }
     {
@@ -33,7 +33,8 @@ impl Alphabet {
         }
     }
 
-    /// The place of the first octet that it doesn't have, counted from 0.
+    /// Returns the position of the first octet that the alphabet doesn't have, counted from 0, or
+    /// `None` if it has all.
     pub fn first_foreign(self, octets: &[u8]) -> Option<usize>
         ensures { MatchOption result (AreAdmitted self octets.now) (IsFirstForeign self octets.now) }
     {

@@ -11,11 +11,11 @@ use std::alloc::{AllocError, Global};
 use std::cmp::Ordering;
 use std::marker::Model;
 
-/// BMPString: 16-bit units, the high octet first (X.690 8.23.8). Its size is the number of units.
+/// A BMPString: 16-bit units, the high octet first (X.690 8.23.8). Its size is the number of units.
 ///
-/// They are ordered by their units, the first that differ deciding; one that another begins with comes before it.
+/// Values are ordered lexicographically by their units.
 ///
-/// To contracts it is the list of its octets.
+/// Contracts see it as the list of its octets.
 #[derive(Debug, Drop)]
 pub struct BmpString {
     octets: Vec<u8>,
@@ -33,10 +33,10 @@ impl Model for BmpString {
 }
 
 impl BmpString {
-    /// A copy of these octets as a string; none where their number is odd.
+    /// Returns a string with a copy of these octets, or `None` if their number is odd.
     ///
     /// # Errors
-    /// Running out of memory.
+    /// If an allocation fails.
     pub fn from_octets(alloc: Global, octets: &[u8]) -> Result<Option<BmpString>, AllocError>
         ensures { IfOk result (λ v. IsSomeExactlyIf v (ArePaired octets.now) octets.now) }
     {
@@ -48,7 +48,7 @@ impl BmpString {
         Ok(Some(BmpString::from_paired(kept)))
     }
 
-    /// The string of these octets, whose number is even.
+    /// Returns the string of these octets, whose number is even.
     pub fn from_paired(octets: Vec<u8>) -> BmpString
         requires { ArePaired octets.items }
         ensures { result ≡ octets.items }
@@ -56,7 +56,7 @@ impl BmpString {
         BmpString { octets }
     }
 
-    /// Its octets.
+    /// Returns the octets.
     pub fn as_octets(&self) -> &[u8]
         ensures octets { result.now ≡ self.now }
         ensures paired { ArePaired self.now }
@@ -64,7 +64,7 @@ impl BmpString {
         self.octets.as_slice()
     }
 
-    /// Its octets, without a copy.
+    /// Returns the octets without a copy.
     pub fn into_vec(self) -> Vec<u8>
         ensures octets { result.items ≡ self }
         ensures paired { ArePaired self }
@@ -75,7 +75,7 @@ impl BmpString {
 }
 
 impl BmpString {
-    /// Its 16-bit units.
+    /// Returns an iterator over the 16-bit units.
     pub fn units(&self) -> Units<'_>
         ensures { result ≡ units_of self.now }
     {
@@ -85,7 +85,8 @@ impl BmpString {
     }
 }
 
-/// The 16-bit units of a BMPString that are left, the first of them next. To contracts they are a list of numbers.
+/// An iterator over the 16-bit units of a BMPString. Contracts see it as the list of the remaining
+/// units, as numbers.
 #[derive(Debug, Drop)]
 pub struct Units<'a> {
     octets: &'a [u8],
@@ -123,7 +124,7 @@ impl Iterator for Units<'_> {
     }
 }
 
-// Octets that are whole units are equal where their units are.
+// Returns whether octets that are whole units are equal, which they are exactly if their units are.
 fn are_equal(octets: &[u8], others: &[u8]) -> bool
     requires paired { ArePaired octets.now × ArePaired others.now }
     requires octets { AreOctets octets.now × AreOctets others.now }
@@ -196,7 +197,7 @@ impl Ord for BmpString {
     }
 }
 
-// Octets that are whole units have the order of their units.
+// Compares octets that are whole units, which have the order of their units.
 fn order(octets: &[u8], others: &[u8]) -> Ordering
     requires whole { ArePaired octets.now × ArePaired others.now }
     requires octets { AreOctets octets.now × AreOctets others.now }

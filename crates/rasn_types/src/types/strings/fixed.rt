@@ -7,7 +7,7 @@ use std::marker::Model;
 
 /// An OCTET STRING of `N` octets (X.680 23).
 ///
-/// To contracts it is the list of its octets.
+/// Contracts see it as the list of its octets.
 #[derive(Clone, Copy, Debug, PartialEq, Eq, PartialOrd, Ord, Drop)]
 pub struct FixedOctetString<const N: usize> {
     octets: [u8; N],
@@ -24,14 +24,14 @@ impl<const N: usize> Model for FixedOctetString<N> {
 }
 
 impl<const N: usize> FixedOctetString<N> {
-    /// The string of these octets.
+    /// Returns the string of these octets.
     pub fn new(octets: [u8; N]) -> FixedOctetString<N>
         ensures { result ≡ octets.entry }
     {
         FixedOctetString { octets }
     }
 
-    /// Its octets.
+    /// Returns the octets.
     pub fn as_octets(&self) -> &[u8]
         ensures octets { result.now ≡ self.now }
         ensures size { length result.now ≡ N }

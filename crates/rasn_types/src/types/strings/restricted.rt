@@ -9,34 +9,34 @@ use std::cmp::Ordering;
 use std::marker::{Model, PhantomData};
 use std::{fmt, str};
 
-/// What tells a string type from the others: its tag and its alphabet.
+/// The tag and the alphabet that distinguish a string type from the others.
 pub trait StringType: Drop {
     ghost use Rattle.rasn_types.specs.declared.types.tag.Tag.{Tag};
     ghost use Rattle.rasn_types.specs.declared.types.strings.alphabet.Alphabet.{Alphabet};
 
     ghost TAG: { Tag };
 
-    /// The type's own tag.
+    /// The tag of the type.
     const TAG: Tag;
 
     ghost ALPHABET: { Alphabet };
 
-    /// The octets that it admits.
+    /// The octets that the type admits.
     const ALPHABET: Alphabet;
 }
 
-/// A string type that admits ASCII alone.
+/// A string type that admits only ASCII.
 pub trait AsciiType: StringType {
     ghost use Rattle.rasn_types.specs.CharacterString.{IsWithinAscii};
 
     ghost ascii: { IsWithinAscii Self.ALPHABET };
 }
 
-/// A string of a type whose octets are single characters, all of its alphabet (X.680 41).
+/// A string of a type whose octets are single characters, all of them in its alphabet (X.680 41).
 ///
-/// They are ordered by their octets, the first that differ deciding; one that another begins with comes before it.
+/// Values are ordered lexicographically by their octets.
 ///
-/// To contracts it is the list of its octets.
+/// Contracts see it as the list of its octets.
 #[derive(Debug, Drop)]
 pub struct RestrictedString<S: StringType> {
     octets: Vec<u8>,
@@ -55,10 +55,11 @@ impl<S: StringType> Model for RestrictedString<S> {
 }
 
 impl<S: StringType> RestrictedString<S> {
-    /// A copy of these octets as a string; none where the alphabet lacks one of them.
+    /// Returns a string with a copy of these octets, or `None` if one of them isn't in the
+    /// alphabet.
     ///
     /// # Errors
-    /// Running out of memory.
+    /// If an allocation fails.
     pub fn from_octets(
         alloc: Global,
         octets: &[u8],
@@ -73,7 +74,7 @@ impl<S: StringType> RestrictedString<S> {
         Ok(Some(RestrictedString::from_admitted(kept)))
     }
 
-    /// The string of these octets, which are all in the alphabet.
+    /// Returns the string of these octets, which are all in the alphabet.
     pub fn from_admitted(octets: Vec<u8>) -> RestrictedString<S>
         requires { AreAdmitted S.ALPHABET octets.items }
         ensures { result ≡ octets.items }
@@ -84,7 +85,7 @@ impl<S: StringType> RestrictedString<S> {
         }
     }
 
-    /// Its octets.
+    /// Returns the octets.
     pub fn as_octets(&self) -> &[u8]
         ensures octets { result.now ≡ self.now }
         ensures admitted { AreAdmitted S.ALPHABET self.now }
@@ -92,7 +93,7 @@ impl<S: StringType> RestrictedString<S> {
         self.octets.as_slice()
     }
 
-    /// Its octets, without a copy.
+    /// Returns the octets without a copy.
     pub fn into_vec(self) -> Vec<u8>
         ensures octets { result.items ≡ self }
         ensures admitted { AreAdmitted S.ALPHABET self }
@@ -103,7 +104,7 @@ impl<S: StringType> RestrictedString<S> {
 }
 
 impl<S: AsciiType> RestrictedString<S> {
-    /// The string as text: each octet is its character.
+    /// Returns the string as text: each octet is its character.
     pub fn as_str(&self) -> &str
         ensures { result.now ≡ self.now }
     {
@@ -113,7 +114,7 @@ impl<S: AsciiType> RestrictedString<S> {
     }
 }
 
-/// Its text.
+/// Writes the text.
 impl<S: AsciiType> fmt::Display for RestrictedString<S> {
     ghost use Rattle.std.specs.Prelude.{Some};
 
@@ -197,7 +198,7 @@ impl<S: StringType> AsnType for RestrictedString<S> {
     ghost own = { refl };
 }
 
-/// Names NumericString.
+/// The parameter of `RestrictedString` for NumericString.
 #[derive(Clone, Copy, Debug, Drop)]
 pub struct NumericType;
 
@@ -223,7 +224,7 @@ impl AsciiType for NumericType {
     ghost ascii = { numeric_ascii };
 }
 
-/// Names PrintableString.
+/// The parameter of `RestrictedString` for PrintableString.
 #[derive(Clone, Copy, Debug, Drop)]
 pub struct PrintableType;
 
@@ -249,7 +250,7 @@ impl AsciiType for PrintableType {
     ghost ascii = { printable_ascii };
 }
 
-/// Names VisibleString.
+/// The parameter of `RestrictedString` for VisibleString.
 #[derive(Clone, Copy, Debug, Drop)]
 pub struct VisibleType;
 
@@ -275,7 +276,7 @@ impl AsciiType for VisibleType {
     ghost ascii = { visible_ascii };
 }
 
-/// Names IA5String.
+/// The parameter of `RestrictedString` for IA5String.
 #[derive(Clone, Copy, Debug, Drop)]
 pub struct Ia5Type;
 
@@ -301,7 +302,7 @@ impl AsciiType for Ia5Type {
     ghost ascii = { ia5_ascii };
 }
 
-/// Names TeletexString.
+/// The parameter of `RestrictedString` for TeletexString.
 #[derive(Clone, Copy, Debug, Drop)]
 pub struct TeletexType;
 
@@ -321,7 +322,7 @@ impl StringType for TeletexType {
     const ALPHABET: Alphabet = Alphabet::Every;
 }
 
-/// Names GeneralString.
+/// The parameter of `RestrictedString` for GeneralString.
 #[derive(Clone, Copy, Debug, Drop)]
 pub struct GeneralType;
 
@@ -341,7 +342,7 @@ impl StringType for GeneralType {
     const ALPHABET: Alphabet = Alphabet::Every;
 }
 
-/// Names GraphicString.
+/// The parameter of `RestrictedString` for GraphicString.
 #[derive(Clone, Copy, Debug, Drop)]
 pub struct GraphicType;
 

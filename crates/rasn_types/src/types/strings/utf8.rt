@@ -4,7 +4,7 @@ ghost use Rattle.std.specs.Prelude.{◌≡◌, IfOk, string_bytes};
 use crate::types::{AsnType, Constraints, Tag, TryClone};
 use std::alloc::{AllocError, Global};
 
-/// UTF8String (X.680 41): its size is the number of characters.
+/// UTF8String (X.680 41). Its size is the number of characters.
 pub type Utf8String = String;
 
 impl AsnType for String {

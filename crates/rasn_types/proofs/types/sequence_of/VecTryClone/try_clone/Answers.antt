@@ -3,7 +3,7 @@ use Rattle.std.proofs.lemmas.List.{take_more, map-append, take_all}
 use Rattle.rasn_types.specs.Shapes.{items}
 use Rattle.rasn_types.proofs.types.sequence_of.VecTryClone.try_clone.Goals as goal
 
--- one more value that means the same
+-- One more value that means the same.
 alike_more : {X Y : Type 0} (f : X → Y) (xs : List X) (i : ℕ) (x y : X) (old new : List X) → i < length xs → x ≡ get_or xs i x → f y ≡ f x → new ≡ old ++ y ∷ []
     → map f old ≡ map f (take i xs) → map f new ≡ map f (take (i + 1) xs)
 alike_more f xs i x y old new h at e is so_far =
