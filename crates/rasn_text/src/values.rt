@@ -1,11 +1,13 @@
-//! Values in octets that are kept as they are.
+//! Values that are kept as octets.
 
 use rasn::de::Decode;
 use rasn::types::Codec;
 use rasn::{ber, der};
 use std::alloc::{AllocError, Global};
 
-/// The value that is all of the octets in DER, or else in BER; none where they aren't one.
+/// Returns the value that all of the octets encode, under DER or otherwise BER; `None` if they
+/// aren't an
+/// encoding of one.
 pub(crate) fn value_of<T: Decode>(
     alloc: Global,
     rule: Codec,
