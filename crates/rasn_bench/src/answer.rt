@@ -59,8 +59,7 @@ impl Answer {
     }
 
     /// Returns the result if a value was read, `rest` octets follow it, and encoding it under DER
-    /// returned
-    /// `written`.
+    /// returned `written`.
     pub fn read(word: &'static str, rest: usize, written: Result<Vec<u8>, EncodeError>) -> Answer
         ensures { IsWrittenAnswer word.now rest written result }
     {

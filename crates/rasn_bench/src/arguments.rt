@@ -20,8 +20,7 @@ fn is_option(word: &String) -> bool
 }
 
 /// Returns whether the arguments after the program's name ask to normalise, and the file that they
-/// name,
-/// or `None` for standard input.
+/// name, or `None` for standard input.
 ///
 /// # Errors
 /// `Usage` if the arguments aren't well-formed.

@@ -19,8 +19,7 @@ pub enum CallFault {
 }
 
 /// Prints a result for each line of the file that the program's arguments name, or of standard
-/// input.
-/// Returns whether all lines were well-formed.
+/// input. Returns whether all lines were well-formed.
 pub fn answer_call<R: Env + Files + Input + Print + AllocGlobal, A: Answers>(
     rt: &R,
     answers: &A,

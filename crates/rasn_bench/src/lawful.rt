@@ -1,6 +1,5 @@
 //! Proofs that the shapes of the types are lawful, so that the laws about lawful shapes apply to
-//! them.
-//! Each is the contract of a function that does nothing when it runs.
+//! them. Each is the contract of a function that does nothing when it runs.
 ghost use Rattle.std.specs.Prelude.{◌≡◌, ◌∷◌, []};
 ghost use Rattle.rasn_types.specs.Shapes.{IsAlwaysPresent};
 ghost use Rattle.rasn_types.specs.Lawful.{IsLawful};
@@ -63,8 +62,7 @@ pub fn lawful_types()
 {}
 
 /// Proves that the shape of `Both` is lawful if the shapes of its fields are lawful and their
-/// values are
-/// always present.
+/// values are always present.
 pub fn lawful_both<A: AsnType, B: AsnType>()
     ensures { IsLawful A.shape → IsAlwaysPresent A.shape → IsLawful B.shape → IsAlwaysPresent B.shape → IsLawful ⟦<Both<A, B> as AsnType>⟧.shape }
 {}

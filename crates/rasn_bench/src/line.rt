@@ -117,8 +117,7 @@ pub struct Request<'line> {
 
 impl<'line> Request<'line> {
     /// Returns the request of a line of three words, separated by single spaces; `None` if a word
-    /// is missing
-    /// or the rule or the type is unknown.
+    /// is missing or the rule or the type is unknown.
     pub fn of_line(line: &'line str) -> Option<Request<'line>>
         ensures { MatchOption result
             ((rule : Codec) (kind : ValueType) (digits : List ℕ) → IsRequest line.now rule kind digits → ⊥)

@@ -96,8 +96,7 @@ impl Answers for WorkedTypes {
 
 /// Writes a line to the output for each line of the input, skipping empty ones. Returns whether all
 /// lines were well-formed. A line ends with a line feed, and the last one may end with the input.
-/// One
-/// line is held in memory at a time.
+/// One line is held in memory at a time.
 pub fn run<R: BufRead, W: Write>(
     alloc: Global,
     input: &mut R,

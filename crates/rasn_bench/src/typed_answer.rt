@@ -21,8 +21,7 @@ pub(crate) trait TypedAnswer {
     ghost IsOfType: { Codec → Shape → List ℕ → List ℕ → Self → Type 0 };
 
     /// Returns the result of reading these octets under the rule as a value of the type. `word` is
-    /// the
-    /// program's word for the type.
+    /// the program's word for the type.
     fn of_type<T: Decode + Encode + LawfulEq>(
         alloc: Global,
         rule: Codec,

@@ -22,8 +22,7 @@ IsRefused rule shape octets (Decode place error) = IsMessage rule shape octets �
 IsRefused rule shape octets OutOfMemory = Unit {0}
 
 -- How a decoding error is reported: unless an allocation failed, with a place; otherwise as `OutOfMemory`.
--- `OutOfMemory` is
--- also allowed for other errors, since finding the place allocates.
+-- `OutOfMemory` is also allowed for other errors, since finding the place allocates.
 abbrev pub IsToldOf : DecodeError → ReadError → Type 0
 IsToldOf e (Decode place error) = (error ≡ e) × (IsOutOfMemory e.kind → ⊥)
 IsToldOf e OutOfMemory = Unit {0}

@@ -36,8 +36,7 @@ fn list_attribute(listing: &mut Listing, attribute: &Attribute) -> Result<(), Al
 }
 
 /// Lists a value of an attribute of this type. Requested extensions are listed one by one, other
-/// values
-/// as text.
+/// values as text.
 fn list_value(
     listing: &mut Listing,
     title: &str,
@@ -60,8 +59,7 @@ fn list_value(
 }
 
 /// Returns the value of an attribute of this type as text; `None` if the type is unknown or the
-/// value
-/// isn't of it.
+/// value isn't of it.
 fn value_text(alloc: Global, kind: &[u32], value: &Any) -> Result<Option<String>, AllocError> {
     match kind {
         [1, 2, 840, 113549, 1, 9, 2 | 7] => string_of(alloc, value),

@@ -63,8 +63,7 @@ pub(crate) fn list_algorithm(
 }
 
 /// Returns the parameters of an algorithm: an object identifier by its name, and others as their
-/// octets
-/// in hexadecimal.
+/// octets in hexadecimal.
 fn parameters_text(alloc: Global, parameters: &Any) -> Result<String, AllocError> {
     match value_of::<ObjectIdentifier>(alloc, Codec::Ber, parameters.as_bytes())? {
         Some(identifier) => identifier_text(alloc, &identifier),

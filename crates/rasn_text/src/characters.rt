@@ -35,10 +35,8 @@ impl Characters for BmpString {
 }
 
 /// Appends the characters of a value to the text. A backslash precedes each character that has a
-/// meaning
-/// of its own in names, and control characters are written as the hexadecimal digits of their
-/// octets in
-/// UTF-8.
+/// meaning of its own in names, and control characters are written as the hexadecimal digits of
+/// their octets in UTF-8.
 pub(crate) fn push_escaped(text: &mut String, value: &str) -> Result<(), AllocError> {
     if value.starts_with('#') || value.starts_with(' ') {
         text.push('\\')?;
@@ -68,8 +66,7 @@ fn is_special(character: char) -> bool {
 }
 
 /// Appends a control character to the text. Those from 80 on have two octets in UTF-8, and the
-/// first of
-/// the two is C2.
+/// first of the two is C2.
 fn push_control(text: &mut String, number: u32) -> Result<(), AllocError> {
     if number >= 0x80 {
         text.push_str("\\C2")?;

@@ -95,8 +95,7 @@ fn read_text<T: Decode + Characters>(
 }
 
 /// Returns the text of a TeletexString whose octets are all ASCII; `None` for others, since few
-/// programs
-/// use the other octets as T.61 defines them.
+/// programs use the other octets as T.61 defines them.
 fn read_ascii(alloc: Global, octets: &[u8]) -> Result<Option<String>, AllocError> {
     let Some(value) = value_of::<TeletexString>(alloc, Codec::Ber, octets)? else {
         return Ok(None);

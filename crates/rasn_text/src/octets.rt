@@ -15,8 +15,7 @@ pub(crate) fn bits_text(alloc: Global, bits: &BitString) -> Result<String, Alloc
 }
 
 /// Returns the octets of the number in hexadecimal, without the leading zero octet of a positive
-/// number
-/// whose first bit is set.
+/// number whose first bit is set.
 pub(crate) fn number_text(alloc: Global, number: &Integer) -> Result<String, AllocError> {
     if number.is_negative() {
         let shown = Hexadecimal::new(number.as_octets());
@@ -31,8 +30,7 @@ pub(crate) fn number_text(alloc: Global, number: &Integer) -> Result<String, All
 }
 
 /// Returns the octets as text in quotation marks if they are UTF-8 without control characters,
-/// otherwise
-/// in hexadecimal.
+/// otherwise in hexadecimal.
 pub(crate) fn octets_text(alloc: Global, octets: &[u8]) -> Result<String, AllocError> {
     match str::from_utf8(octets) {
         Ok(text) => quoted_text(alloc, text),

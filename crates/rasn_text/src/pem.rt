@@ -42,10 +42,8 @@ pub fn is_pem(octets: &[u8]) -> bool {
 }
 
 /// Returns the octets of the block that the text begins with, and the text after the block. The
-/// text
-/// between the first and the last line of the block, without white space, is the base64 of the
-/// octets.
-/// Both lines must have the same label, which may be any.
+/// text between the first and the last line of the block, without white space, is the base64 of the
+/// octets. Both lines must have the same label, which may be any.
 ///
 /// # Errors
 /// An error if the text doesn't begin with a block; `OutOfMemory` if an allocation fails.
@@ -120,8 +118,7 @@ fn without_spaces(alloc: Global, text: &[u8]) -> Result<Vec<u8>, AllocError>
 }
 
 /// Returns whether the octet is white space: space, tab, line feed, vertical tab, form feed or
-/// carriage
-/// return (RFC 7468, 3).
+/// carriage return (RFC 7468, 3).
 fn is_space(octet: u8) -> bool
     ensures { result ≡ is_space octet }
 {

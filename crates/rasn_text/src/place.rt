@@ -100,8 +100,7 @@ pub(crate) trait Located: Decode {
 }
 
 /// The contents of a value, the number of its octets that have been read, and the value's
-/// identifier
-/// octet.
+/// identifier octet.
 #[derive(Debug, Drop)]
 pub(crate) struct Walk<'octets> {
     alloc: Global,
@@ -155,8 +154,7 @@ impl<'octets> Walk<'octets> {
     }
 
     /// Reads the next part, whose value has an explicit tag, if it is present. Under DER its value
-    /// must not
-    /// be the default.
+    /// must not be the default.
     pub(crate) fn explicit_default_part<V: ExplicitDefault>(
         &mut self,
         name: &str,
@@ -207,8 +205,7 @@ impl<'octets> Walk<'octets> {
 }
 
 /// Returns the number of octets of the value that the octets begin with, or the place where they
-/// aren't
-/// one.
+/// aren't one.
 fn length_of<T: Located>(alloc: Global, rule: Codec, octets: &[u8]) -> Result<usize, Found> {
     let mut decoder = Decoder::new(alloc, octets, DecoderOptions::of(rule));
     match T::decode(&mut decoder) {
@@ -235,10 +232,8 @@ where
 }
 
 /// Returns where the octets aren't a value of the type: the start of the deepest part that is
-/// refused,
-/// or of the octets that no part reads, or of the value itself. The parts of a value that has
-/// another
-/// tag or is primitive aren't searched.
+/// refused, or of the octets that no part reads, or of the value itself. The parts of a value that
+/// has another tag or is primitive aren't searched.
 pub(crate) fn place_in<T: Located>(alloc: Global, rule: Codec, octets: &[u8]) -> Found {
     let Some((identifier, header, contents)) = contents_of(octets) else {
         return Found::At(Place::at(alloc, 0));
@@ -267,8 +262,7 @@ pub(crate) fn place_in<T: Located>(alloc: Global, rule: Codec, octets: &[u8]) ->
 }
 
 /// Returns whether the first value has the tag of the type. A CHOICE and an open type have no tag
-/// of
-/// their own, so any tag is accepted (X.680 14, 29).
+/// of their own, so any tag is accepted (X.680 14, 29).
 fn has_tag_of<T: Located>(alloc: Global, rule: Codec, octets: &[u8]) -> bool {
     let decoder = Decoder::new(alloc, octets, DecoderOptions::of(rule));
     T::TAG == Tag::EOC || matches!(decoder.peek_tag(), Ok(tag) if tag == T::TAG)
@@ -281,10 +275,8 @@ const CONSTRUCTED: u8 = 0x20;
 const HIGH_NUMBER: u8 = 0x1F;
 
 /// Returns the identifier octet, the number of header octets and the contents of the first value.
-/// `None`
-/// if the identifier has more than one octet, the length is indefinite or has more than three
-/// octets
-/// after its first, or the contents aren't all present.
+/// `None` if the identifier has more than one octet, the length is indefinite or has more than
+/// three octets after its first, or the contents aren't all present.
 fn contents_of(octets: &[u8]) -> Option<(u8, usize, &[u8])> {
     if octets.first()? & HIGH_NUMBER == HIGH_NUMBER {
         return None;

@@ -58,9 +58,8 @@ impl From<PemError> for Refusal {
 }
 
 /// Reads the whole input, and writes the text of its messages to the output, or the reason why it
-/// is
-/// refused to `refusals`. If the call only checks, nothing is written. Returns whether the input is
-/// accepted.
+/// is refused to `refusals`. If the call only checks, nothing is written. Returns whether the input
+/// is accepted.
 pub fn run<R: Read, W: Write, E: Write>(
     alloc: Global,
     call: &Call<'_>,
@@ -144,8 +143,7 @@ fn answer(alloc: Global, call: &Call<'_>, octets: &[u8]) -> Result<String, Refus
 }
 
 /// Returns the texts of the messages of all blocks, one after another. Only white space may
-/// separate two
-/// blocks.
+/// separate two blocks.
 fn answer_blocks(alloc: Global, call: &Call<'_>, text: &str) -> Result<String, Refusal> {
     let mut answers = String::new(alloc);
     let mut rest = text;

@@ -29,8 +29,7 @@ pub enum ReadError {
 }
 
 /// Returns the value that all of the octets encode under the rules. Fails exactly if there is none,
-/// or
-/// an allocation fails.
+/// or an allocation fails.
 fn read<T: Located>(alloc: Global, rule: Codec, octets: &[u8]) -> Result<T, ReadError>
     ensures { MatchResult result (λ value. IsWhole rule T.shape octets.now (T.tree value)) (IsRefused rule T.shape octets.now) }
 {
@@ -61,8 +60,7 @@ fn refused<T: Located>(alloc: Global, rule: Codec, octets: &[u8], error: DecodeE
 }
 
 /// Checks that all of the octets encode one message under the rules. Under DER they are then its
-/// only
-/// encoding (X.690 10).
+/// only encoding (X.690 10).
 ///
 /// # Errors
 /// `Decode` exactly if they don't, `OutOfMemory` if an allocation fails.

@@ -5,9 +5,8 @@ use rasn::types::Codec;
 use rasn::{ber, der};
 use std::alloc::{AllocError, Global};
 
-/// Returns the value that all of the octets encode, under DER or otherwise BER; `None` if they
-/// aren't an
-/// encoding of one.
+/// Returns the value that the octets encode under DER, or under BER for other rules; `None` if
+/// there is none. Only DER refuses octets after the value.
 pub(crate) fn value_of<T: Decode>(
     alloc: Global,
     rule: Codec,

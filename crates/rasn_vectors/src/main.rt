@@ -1,6 +1,5 @@
 //! Prints the answers to lines `rule type hex` from a file or, if none is named, from standard
-//! input. With
-//! `--normalise` an answer is the DER octets alone.
+//! input. With `--normalise` an answer is the DER octets alone.
 #![tactic(auto)]
 
 use rasn_bench::{WorkedTypes, answer_call};

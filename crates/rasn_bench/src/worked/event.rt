@@ -1,5 +1,5 @@
-//! `Event ::= SET { time Time, level [0] IMPLICIT INTEGER (0..255) DEFAULT 7,
-//! confirmed [1] IMPLICIT BOOLEAN OPTIONAL }`
+//! `Event ::= SET { time Time, level [0] IMPLICIT INTEGER (0..255) DEFAULT 7, confirmed [1]
+//! IMPLICIT BOOLEAN OPTIONAL }`
 ghost use Rattle.std.specs.Prelude.{◌≡◌, IfOk, IfErr, map};
 ghost use Rattle.rasn_types.specs.Shapes.{IsFirst};
 ghost use Rattle.rasn_de.specs.Set.{MakesSet};
@@ -29,8 +29,7 @@ const CONFIRMED: Tag = Tag {
 };
 
 /// SET { time Time, level \[0\] INTEGER (0..255) DEFAULT 7, confirmed \[1\] BOOLEAN OPTIONAL },
-/// with
-/// implicit tags.
+/// with implicit tags.
 #[derive(Debug, PartialEq, Eq, Drop)]
 pub struct Event {
     pub time: Time,
