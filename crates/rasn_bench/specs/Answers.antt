@@ -60,7 +60,7 @@ pub record IsRead (rule : Codec) (shape : Shape) (input : List ℕ) (t : Tree) (
   pub count_is : length rest ≡ count
 
 -- The result of reading these octets as the shape under the rules, and writing the value by DER. The cause
--- `OutOfMemory` is possible for all octets.
+-- `OutOfMemory` may be reported for any octets.
 abbrev pub IsAnswer : Codec → Shape → List ℕ → List ℕ → Answer → Type 0
 IsAnswer rule shape kind input (Read name count octets) = (name.now ≡ kind) × ((t : Tree) × IsRead rule shape input t count × Bytes Der shape t octets.items)
 IsAnswer rule shape kind input (NotWritten name count cause) = (name.now ≡ kind)

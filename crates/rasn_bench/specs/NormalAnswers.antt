@@ -11,7 +11,7 @@ use Rattle.rasn_bench.specs.Lines.{Asks}
 use Rattle.rasn.specs.Normal.{IsNormal, IsOutOfMemoryAlone}
 use Rattle.rasn.specs.declared.normal.NormaliseError.{NormaliseError}
 
--- The result of normalising these octets. The cause `OutOfMemory` is possible for all octets.
+-- The result of normalising these octets. The cause `OutOfMemory` may be reported for any octets.
 abbrev pub IsNormalAnswer : Codec → Shape → List ℕ → NormalAnswer → Type 0
 IsNormalAnswer rule shape input (Normal octets) = IsNormal rule shape input octets.items
 IsNormalAnswer rule shape input (Refused cause) = (cause.now ≡ codes "OutOfMemory") ⊎ ((octets : List ℕ) → IsNormal rule shape input octets → ⊥)

@@ -24,7 +24,7 @@ pub fn assert_facts(rt: &impl Abort, facts: &[bool]) {
     }
 }
 
-/// Returns the octets with the one at this place replaced.
+/// Returns the octets with the one at this index replaced.
 pub fn spoilt(rt: &impl Abort, alloc: Global, octets: &[u8], at: usize, octet: u8) -> Vec<u8> {
     let Ok(mut copy) = Vec::from_slice(alloc, octets) else {
         rt.abort()

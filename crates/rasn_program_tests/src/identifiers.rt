@@ -199,7 +199,7 @@ const IDENTIFIERS: &[Row] = &[
         b"\x2B\x06\x01\x04\x01\xD6\x79\x02\x04\x02",
         "signedCertificateTimestampList (1.3.6.1.4.1.11129.2.4.2)",
     ),
-    // Purposes of keys (RFC 5280, 4.2.1.12).
+    // Key purposes (RFC 5280, 4.2.1.12).
     (
         b"\x2B\x06\x01\x05\x05\x07\x03\x01",
         "id-kp-serverAuth (1.3.6.1.5.5.7.3.1)",

@@ -309,7 +309,7 @@ fn result_codes_have_their_names(rt: HostRuntime) {
     }
 }
 
-// RFC 4511, 4.5.1, 4.6 and 4.1.11.
+// The names are those of RFC 4511, 4.5.1, 4.6 and 4.1.11.
 #[test]
 fn other_numbers_have_their_names(rt: HostRuntime) {
     const LINES: &[(&[u8], usize, u8, &str)] = &[
@@ -403,8 +403,8 @@ fn spoilt_binds_are_refused(rt: HostRuntime) {
 }
 
 // The rows: a number that derefAliases doesn't have (RFC 4511, 4.5.1), a negative limit (4.1.1), an
-// attribute and a control whose names aren't UTF-8 (4.1.2), a DEFAULT that DER doesn't write (X.690
-// 11.5), a value of another type, and an attribute type that isn't UTF-8.
+// attribute and a control whose names aren't UTF-8 (4.1.2), a DEFAULT that DER doesn't write
+// (X.690 11.5), a value of another type, and an attribute type that isn't UTF-8.
 #[test]
 fn spoilt_searches_are_refused(rt: HostRuntime) {
     const ROWS: &[Row] = &[
@@ -455,8 +455,8 @@ fn spoilt_searches_are_refused(rt: HostRuntime) {
 }
 
 // The rows: results whose code isn't an ENUMERATED and whose name isn't UTF-8, a URI of another
-// type, a change that isn't one, and an extended request and responses with parts that RFC 4511,
-// 4.12, doesn't have.
+// type, a change that isn't one, and an extended request and responses with parts that
+// RFC 4511, 4.12, doesn't have.
 #[test]
 fn other_spoilt_messages_of_ldap_are_refused(rt: HostRuntime) {
     const ROWS: &[Row] = &[

@@ -178,8 +178,8 @@ fn what_is_not_written_is_refused(rt: HostRuntime) {
     assert_refuses::<SetOf<OctetString>>(&rt, rt.alloc(), ROWS);
 }
 
-// The time 691231235900-0100 is in 2070 in UTC, which a year of two digits can't express (X.680
-// 47).
+// The time 691231235900-0100 is in 2070 in UTC, which a year of two digits can't express
+// (X.680 47).
 #[test]
 fn what_is_read_back_otherwise_is_refused(rt: HostRuntime) {
     const ROWS: &[(&'static [u8], Codec, &'static str)] = &[(

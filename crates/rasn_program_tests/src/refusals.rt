@@ -53,9 +53,9 @@ pub(crate) fn assert_refused(rt: &impl Abort, alloc: Global, rows: &[Row]) {
     }
 }
 
-// The places are those of `openssl asn1parse`, and the names of the parts those of the ASN.1 of RFC
-// 5280, A. In the order of the rows: X.690 8.1.1, 8.1.3, the rule of rasn-show that the message is
-// all of the input, X.690 8.9.1, 11.5, 11.5, 11.1, 8.3.2, 10.1, 8.19.2, 8.9.2, X.680 47.3 (month
+// The places are those of `openssl asn1parse`, and the names of the parts those of the ASN.1 of
+// RFC 5280, A. In the order of the rows: X.690 8.1.1, 8.1.3, the rule of rasn-show that the message
+// is all of the input, X.690 8.9.1, 11.5, 11.5, 11.1, 8.3.2, 10.1, 8.19.2, 8.9.2, X.680 47.3 (month
 // 91), X.690 11.8.1 (an offset), 11.8.2 (no seconds), 11.2.1, 8.2.1.
 #[test]
 fn spoilt_certificates_are_refused(rt: HostRuntime) {
@@ -275,8 +275,8 @@ fn spoilt_revocation_lists_are_refused(rt: HostRuntime) {
     assert_refused(&rt, rt.alloc(), ROWS);
 }
 
-// The names are those of RFC 2986, 4, and RFC 5652, 5. The rows: a negative version, X.690 11.6,
-// 8.9.2; 10.2, 8.3.2, 10.1, 8.1.5.
+// The names are those of RFC 2986, 4, and RFC 5652, 5. The rows: a negative version,
+// X.690 11.6, 8.9.2; 10.2, 8.3.2, 10.1, 8.1.5.
 #[test]
 fn spoilt_requests_and_signed_messages_are_refused(rt: HostRuntime) {
     const ROWS: &[Row] = &[

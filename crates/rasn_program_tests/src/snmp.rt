@@ -349,8 +349,8 @@ fn spoilt_messages_of_snmp_are_refused(rt: HostRuntime) {
 }
 
 // The names are those of RFC 1157, 4.1.6, and RFC 3416, 3. The rows: an address and a time of other
-// types, an address of three octets, a Counter64 of 2^64 and more, and an INTEGER of 2^31 (RFC
-// 2578, 7.1).
+// types, an address of three octets, a Counter64 of 2^64 and more, and an INTEGER of 2^31
+// (RFC 2578, 7.1).
 #[test]
 fn spoilt_traps_are_refused(rt: HostRuntime) {
     const ROWS: &[Row] = &[

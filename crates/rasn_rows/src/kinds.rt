@@ -1,4 +1,4 @@
-//! The types that a row may name. Each function knows a few, and asks the next about the others.
+//! The types that a row may name. Each function handles some, and calls the next for the others.
 
 use crate::cut::{cut, open};
 use crate::lists::SixtyFour;

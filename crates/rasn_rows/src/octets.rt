@@ -1,11 +1,11 @@
-//! Octets as text: hexadecimal digits, where a repeated octet between commas has its count, as
-//! `55*1000`. The empty list is `-`.
+//! Octets as text: hexadecimal digits. A repeated octet is written once with its count, between
+//! commas, as `55*1000`. The empty list is `-`.
 
 use rasn::types::Codec;
 use rasn_bench::{Request, ValueType};
 use std::alloc::{AllocError, Global};
 
-/// The number of equal octets from which on a row gives their count.
+/// The smallest number of equal octets that is written as a count.
 const COUNTED: usize = 32;
 
 /// Returns the octets that a text denotes; `None` if it isn't well-formed.

@@ -4,7 +4,7 @@ use crate::octets::octets_of;
 use rasn::types::Codec;
 use std::alloc::{AllocError, Global};
 
-/// What a row does with its octets.
+/// The operation of a row on its octets.
 #[derive(Clone, Copy)]
 pub enum Verb {
     /// Reads a value with a decoder, and reports how many octets are consumed.
@@ -24,7 +24,7 @@ pub enum Verb {
 }
 
 impl Verb {
-    /// The verb of this name.
+    /// Returns the verb of this name.
     fn of_name(name: &str) -> Option<Verb> {
         match name {
             "read" => Some(Verb::Read),

@@ -33,5 +33,5 @@ fn one_boolean(decoder: &mut Decoder<'_>) -> Result<NumberAndTruth, DecodeError>
     )
 }
 
-/// The text of SEQUENCE { BOOLEAN } if it is read with TRUE in it.
+/// The text of the value that is read from a SEQUENCE { BOOLEAN } with TRUE.
 const TRUE_ALONE: &str = "Both { first: 0, second: true }";

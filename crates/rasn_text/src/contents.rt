@@ -21,7 +21,7 @@ trait Contents: Decode {
 }
 
 /// Returns the contents of the extension as text; `None` if the type of the extension is unknown or
-/// the octets aren't DER of it.
+/// its octets aren't a DER encoding of it.
 pub(crate) fn contents_text(
     alloc: Global,
     extension: &Extension,

@@ -10,8 +10,8 @@ use rasn_x509::Name;
 use std::alloc::{AllocError, Global};
 use std::net::{Ipv4Addr, Ipv6Addr};
 
-/// Returns the names, each after the identifier of its alternative: `dNSName=example.org,
-/// iPAddress=192.0.2.1`.
+/// Returns the names, each after the identifier of its alternative:
+/// `dNSName=example.org, iPAddress=192.0.2.1`.
 pub(crate) fn names_text(alloc: Global, names: &[GeneralName]) -> Result<String, AllocError> {
     let mut text = String::new(alloc);
     for name in names {

@@ -85,7 +85,7 @@ const IDENTIFIERS: &[Named] = &[
     // Extensions of RFC 5280, 4.2.2.
     (&[1, 3, 6, 1, 5, 5, 7, 1, 1], "authorityInfoAccess"),
     (&[1, 3, 6, 1, 5, 5, 7, 1, 11], "subjectInfoAccess"),
-    // Purposes of keys (RFC 5280, 4.2.1.12).
+    // Key purposes (RFC 5280, 4.2.1.12).
     (&[1, 3, 6, 1, 5, 5, 7, 3, 1], "id-kp-serverAuth"),
     (&[1, 3, 6, 1, 5, 5, 7, 3, 2], "id-kp-clientAuth"),
     (&[1, 3, 6, 1, 5, 5, 7, 3, 3], "id-kp-codeSigning"),

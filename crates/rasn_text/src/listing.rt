@@ -100,8 +100,8 @@ impl Listing {
         }
     }
 
-    /// Appends a line of a variable, the type of its value and the value: `1.3.6.1.2.1.1.3.0 =
-    /// TimeTicks 77`.
+    /// Appends a line of a variable, the type of its value and the value:
+    /// `1.3.6.1.2.1.1.3.0 = TimeTicks 77`.
     pub(crate) fn binding<N: fmt::Display, T: fmt::Display>(
         &mut self,
         name: &N,

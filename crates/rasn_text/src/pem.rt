@@ -46,7 +46,8 @@ pub fn is_pem(octets: &[u8]) -> bool {
 /// octets. Both lines must have the same label, which may be any.
 ///
 /// # Errors
-/// An error if the text doesn't begin with a block; `OutOfMemory` if an allocation fails.
+/// `Begin`, `End` or `Base64` if the text doesn't begin with a block; `OutOfMemory` if an
+/// allocation fails.
 pub fn first_block(alloc: Global, text: &str) -> Result<(Vec<u8>, &str), PemError>
     ensures block { IfOk result (λ r. IsBlock text.now r.0.items r.1.now) }
     ensures fewer { IfOk result (λ r. length r.1.now < length text.now) }

@@ -138,8 +138,8 @@ impl<'octets> Walk<'octets> {
         }
     }
 
-    /// Reads the next part if it is present. Under DER its value must not be the default (X.690
-    /// 11.5).
+    /// Reads the next part if it is present. Under DER its value must not be the default
+    /// (X.690 11.5).
     pub(crate) fn default_part<V: DefaultValue>(&mut self, name: &str) -> Result<(), Found>
     where
         V::Value: Located,

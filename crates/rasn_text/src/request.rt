@@ -1,4 +1,4 @@
-//! Requests for certificates as text.
+//! Certification requests as text.
 
 use crate::attribute::list_attributes;
 use crate::certificate::{list_algorithm, list_bits, list_name, list_public_key};

@@ -1,5 +1,5 @@
-//! `Grouped ::= SEQUENCE { truth BOOLEAN, ..., number [1] INTEGER, [[ first INTEGER, second BOOLEAN
-//! ]] }`
+//! `Grouped ::= SEQUENCE { truth BOOLEAN, ..., number [1] INTEGER, [[ first INTEGER, second
+//! BOOLEAN ]] }`
 
 use crate::worked::Both;
 use rasn::error::{DecodeError, EncodeError};

@@ -84,7 +84,7 @@ fn open_types_are_read_by_their_rules(rt: HostRuntime) {
     );
 }
 
-/// Returns whether `is_canonical` says of the octets what `canonical` says.
+/// Returns whether `der::is_canonical` returns `canonical` for the octets.
 fn is_told<T: Decode + Encode + LawfulEq>(alloc: Global, octets: &[u8], canonical: bool) -> bool {
     match der::is_canonical::<T>(alloc, octets) {
         Ok(answer) => answer == canonical,
@@ -110,8 +110,8 @@ fn one_encoding_is_told_from_others(rt: HostRuntime) {
     );
 }
 
-// Under DER a value that equals its default is refused, and an absent value is the default (X.690
-// 11.5).
+// Under DER a value that equals its default is refused, and an absent value is the default
+// (X.690 11.5).
 #[test]
 fn reads_defaults_under_prefixes(rt: HostRuntime) {
     let alloc = rt.alloc();

@@ -135,8 +135,8 @@ fn write_falling(encoder: &mut Encoder) -> Result<(), EncodeError>
     )
 }
 
-/// Writes a SET whose closure writes \[0\] and \[1\], and between them drops the refusal of a SET
-/// whose components are out of order.
+/// Writes a SET whose closure writes \[0\] and \[1\], and between them drops the refusal of a
+/// SET whose components are out of order.
 fn write_past_a_set(encoder: &mut Encoder) -> Result<(), EncodeError> {
     encoder.encode_set::<3, 0, Components, _>(
         Tag::SET,
@@ -151,8 +151,8 @@ fn write_past_a_set(encoder: &mut Encoder) -> Result<(), EncodeError> {
     )
 }
 
-// A refused SET leaves neither octets nor its tag, which would be out of order before [1] (X.690
-// 10.3).
+// A refused SET leaves neither octets nor its tag, which would be out of order before [1]
+// (X.690 10.3).
 #[test]
 fn a_dropped_set_leaves_no_tag(rt: HostRuntime) {
     let mut encoder = new_encoder(&rt, rt.alloc(), Codec::Der);

@@ -26,7 +26,7 @@ fn small() -> Constraints {
     within(0, 10)
 }
 
-/// Returns whether a call returns this number, or `None` if there is none.
+/// Returns whether a call returns `number`.
 fn is_number(answer: Result<Option<u8>, DecodeError>, number: Option<u8>) -> bool {
     match answer {
         Ok(found) => found == number,

@@ -110,8 +110,8 @@ fn a_closure_reads_by_other_rules(rt: HostRuntime) {
     assert_answer(&rt, alloc, Codec::Der, answer, "InvalidBool { value: 1 }");
 }
 
-// The error for octets that such a closure leaves names the outer rules, under which the SEQUENCE
-// is closed.
+// The error for octets that such a closure leaves names the outer rules, under which the
+// SEQUENCE is closed.
 #[test]
 fn octets_left_by_other_rules_are_refused_outside(rt: HostRuntime) {
     let alloc = rt.alloc();

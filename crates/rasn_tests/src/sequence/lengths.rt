@@ -34,8 +34,8 @@ fn nest(encoder: &mut Encoder, levels: u8) -> Result<(), EncodeError>
     )
 }
 
-/// Returns the headers of 100 nested SEQUENCEs, the outermost of 1404 octets, and of the OCTET
-/// STRING inside.
+/// Returns the headers of 100 nested SEQUENCEs, the outermost of 1404 octets, and of the
+/// OCTET STRING inside.
 fn headers(alloc: Global) -> Result<Vec<u8>, AllocError> {
     let mut octets = Vec::new(alloc);
     let mut length: u16 = 1404;
@@ -48,8 +48,8 @@ fn headers(alloc: Global) -> Result<Vec<u8>, AllocError> {
     Ok(octets)
 }
 
-// The outermost SEQUENCE has 1400 octets of contents, and each inner one four octets less (X.690
-// 8.1.3).
+// The outermost SEQUENCE has 1400 octets of contents, and each inner one four octets less
+// (X.690 8.1.3).
 #[test]
 fn writes_sequences_in_one_another(rt: HostRuntime) {
     let alloc = rt.alloc();

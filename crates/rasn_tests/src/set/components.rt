@@ -67,8 +67,8 @@ fn nested(alloc: Global) -> Result<Option<Nested>, AllocError> {
     }))
 }
 
-// Each SET of SET { SET { [0] 1, [1] 2 }, [APPLICATION 0] 7, [3] EXPLICIT SEQUENCE OF INTEGER { 9 }
-// } is ordered separately.
+// SET { SET { [0] 1, [1] 2 }, [APPLICATION 0] 7, [3] EXPLICIT SEQUENCE OF INTEGER { 9 } }: each SET
+// is ordered separately.
 #[test]
 fn writes_sets_in_sets(rt: HostRuntime) {
     let value = made(&rt, nested(rt.alloc()));

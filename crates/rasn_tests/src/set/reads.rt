@@ -40,8 +40,8 @@ fn reads_sets_of_in_any_order(rt: HostRuntime) {
 
 const FOUR_STRINGS: &[&[u8]] = &[&[0x01], &[0x02], &[0x01, 0xFF], &[0x02, 0x01]];
 
-// DER reads a SET OF whose elements are in the order of their octets; some may be equal (X.690
-// 11.6).
+// DER reads a SET OF whose elements are in the order of their octets; some may be equal
+// (X.690 11.6).
 #[test]
 fn reads_sets_of_in_order(rt: HostRuntime) {
     let alloc = rt.alloc();

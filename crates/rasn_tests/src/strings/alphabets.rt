@@ -24,8 +24,8 @@ fn alphabets_are_those_of_the_standard(rt: HostRuntime) {
     }
 }
 
-/// Returns whether the octets are admitted as a string of this type, with these octets, exactly if
-/// `is_admitted`.
+/// Returns whether this type admits the octets exactly if `is_admitted`, and a string of them has
+/// these octets.
 fn is_string<S: StringType>(alloc: Global, octets: &[u8], is_admitted: bool) -> bool {
     match RestrictedString::<S>::from_octets(alloc, octets) {
         Ok(Some(string)) => is_admitted && string.as_octets() == octets,

@@ -14,8 +14,8 @@ fn are_packed(alloc: Global, bits: &BitStr<'_>, octets: &[u8]) -> bool {
         && found.strip_prefix(&[7]) == Some(octets)
 }
 
-// The bits 1,1,0,1,0,1,0,1,1,0,1 take two octets, whatever bits follow them, and the last ten of
-// them are a string of their own.
+// The bits 1,1,0,1,0,1,0,1,1,0,1 take two octets, whatever bits follow them. Without the first bit
+// there are ten.
 #[test]
 fn packs_bits(rt: HostRuntime) {
     let alloc = rt.alloc();

@@ -110,8 +110,8 @@ fn writes_128_bits(rt: HostRuntime) {
     }
 }
 
-/// Returns whether an `Integer` of the octets keeps these octets; none if the octets aren't a
-/// number.
+/// Returns whether the `Integer` of `octets` has the octets `kept`, which are empty if there is
+/// none.
 fn is_kept(alloc: Global, octets: &[u8], kept: &[u8]) -> bool {
     match Integer::from_octets(alloc, octets) {
         Ok(Some(number)) => number.as_octets() == kept,

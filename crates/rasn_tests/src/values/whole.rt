@@ -1,5 +1,5 @@
-//! Whole values under rules that are chosen at run time, and octets that follow them (X.690
-//! 8.1.1.1).
+//! Whole values under rules that are chosen at run time, and octets that follow them
+//! (X.690 8.1.1.1).
 
 use crate::reading::assert_answer;
 use crate::whole::Answer;
