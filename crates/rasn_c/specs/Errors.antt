@@ -55,8 +55,7 @@ pub record IsTold (rule : Codec) (shape : Shape) (octets : List ℕ) (fault : Fa
   pub memory : IsOutOfMemory error.kind → ⊥
   pub kind : fault.kind ≡ kind_number error.kind
 
--- The status and fault of a call that reads octets as exactly one value of the type and under the rules of these
--- numbers.
+-- The status and fault of a call that reads octets as exactly one value, with the numbers of a type and of rules.
 abbrev pub AnswersError : ℕ → ℕ → List ℕ → Fault → Status → Type 0
 AnswersError type number octets fault Ok = ((rule : Codec) × (shape : Shape) × Asks type number shape rule × IsAlone rule shape octets) × IsNoFault fault
 AnswersError type number octets fault Refused = (rule : Codec) × (shape : Shape) × Asks type number shape rule × IsTold rule shape octets fault

@@ -24,8 +24,8 @@ pub struct Fault {
     pub text_length: usize,
 }
 
-/// Reports why the octets aren't exactly one value of the type and under the rules of these
-/// numbers. `buffer` receives the text.
+/// Reports why the octets aren't exactly one value. The type and the rules are given by their
+/// numbers, and `buffer` receives the text.
 #[unsafe(no_mangle)]
 pub extern "C" fn soq_proved_decode_error(
     alloc: Global,
@@ -90,8 +90,8 @@ impl Told {
     }
 }
 
-/// Returns the reason why the octets aren't exactly one value of the type and under the rules of
-/// these numbers.
+/// Returns the reason why the octets aren't exactly one value. The type and the rules are given by
+/// their numbers.
 fn tell(alloc: Global, type_number: u32, rule: u32, octets: &[u8]) -> Told
     ensures answer { AnswersError type_number rule octets.now result.fault result.status }
     ensures text { result.fault.text_length ≡ length (string_bytes result.text) }

@@ -28,9 +28,9 @@ impl TypedAnswer for Result<Vec<u8>, NormaliseError> {
     }
 }
 
-/// Writes the DER octets of the value that all of the octets encode to the buffer, with the type
-/// and under the rules of these numbers. The octets are those that `normalise` returns. `needed` is
-/// their number, also if the buffer is smaller; the buffer is then unchanged.
+/// Writes the DER octets of the value that all of the octets encode to the buffer, as `normalise`
+/// returns them. The type and the rules are given by their numbers. `needed` is the number of DER
+/// octets, also if the buffer is smaller; the buffer is then unchanged.
 #[unsafe(no_mangle)]
 pub extern "C" fn soq_proved_normalise(
     alloc: Global,

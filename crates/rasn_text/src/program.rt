@@ -17,7 +17,7 @@ pub enum RunFault {
     /// The output can't be written.
     #[error("cannot write")]
     Write,
-    /// An allocation fails outside the reading of a message.
+    /// An allocation fails.
     #[error("out of memory")]
     Memory,
 }

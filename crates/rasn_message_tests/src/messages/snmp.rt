@@ -74,7 +74,7 @@ fn a_report_is_read_and_written_back(rt: HostRuntime) {
     );
 }
 
-// The parts of each kind of PDU, as the programs were given or printed them.
+// The parts of each kind of PDU, as given to the programs or printed by them.
 #[test]
 fn parts_of_messages_are_read(rt: HostRuntime) {
     const ROWS: &[Answer<'static>] = &[
@@ -102,7 +102,7 @@ fn parts_of_messages_are_read(rt: HostRuntime) {
     assert_decodes::<Message>(&rt, rt.alloc(), ROWS);
 }
 
-// The values of the trap and of the agent's responses, as the programs were given or printed them.
+// The values of the trap and of the agent's responses, as given to the programs or printed by them.
 #[test]
 fn values_are_read(rt: HostRuntime) {
     const ROWS: &[Answer<'static>] = &[
