@@ -1,18 +1,18 @@
 /*
  * Soqavise for C11: BER, CER and DER (ITU-T X.690), read and written by a library whose functions are proved to meet their contracts.
  *
- * The functions below test pointers and lengths, and hand them to functions of the archive, `soq_proved_..`, which are proved. What is
- * promised of each stands in front of it, with the contract that carries it (crates/rasn_c). What they owe to this header stands at the
- * end: that nothing is null and nothing overlaps, which no proof sees.
+ * The functions below check pointers and lengths, and pass them to the functions of the archive, `soq_proved_..`, which are proved. The
+ * comment before each function says what it guarantees, and names the contract that the guarantee rests on (crates/rasn_c). The contracts
+ * assume that no pointer is null and that no memory overlaps. No proof covers that; the functions below ensure it.
  *
- * Of every function:
- * - It keeps nothing and has no state, so any number of threads may call it at a time, but not a signal handler.
- * - It ends for every input. It doesn't abort, and it uses the memory that it is handed, its stack, and `malloc`, `realloc` and `free`,
- *   by which it keeps nothing. A refused request for memory is answered by SOQ_OUT_OF_MEMORY.
- * - A pointer may be null where its length is 0. Else a null pointer is answered by SOQ_NULL_POINTER, a length that no object has by
- *   SOQ_TOO_LONG, and memory that is to be written and overlaps what else is handed in by SOQ_OVERLAP. Nothing is written then.
+ * Every function:
+ * - has no state and keeps nothing, so any number of threads may call it at the same time. A signal handler must not call it.
+ * - returns for every input and doesn't abort. It uses the memory that the caller passes, its stack, and `malloc`, `realloc` and `free`;
+ *   it frees all that it allocates. It returns SOQ_OUT_OF_MEMORY if an allocation fails.
+ * - accepts a null pointer if its length is 0. Otherwise it returns SOQ_NULL_POINTER for a null pointer, SOQ_TOO_LONG for a length that
+ *   no object can have, and SOQ_OVERLAP if memory that it would write overlaps other memory of the call. It then writes nothing.
  *
- * Link libsoqavise.a, which stands alone: cc -std=c11 program.c libsoqavise.a.
+ * Link libsoqavise.a, which needs only the C library: cc -std=c11 program.c libsoqavise.a.
  */
 #ifndef SOQAVISE_H
 #define SOQAVISE_H
@@ -26,16 +26,16 @@
 extern "C" {
 #endif
 
-/* What a function answers. */
+/* The status that a function returns. */
 typedef enum soq_status {
     SOQ_OK = 0,
-    /* The octets aren't what is asked for. */
+    /* The octets aren't what the call asks for. */
     SOQ_REFUSED = 1,
     SOQ_OUT_OF_MEMORY = 2,
     SOQ_BUFFER_TOO_SMALL = 3,
     SOQ_UNKNOWN_TYPE = 4,
     SOQ_UNKNOWN_RULE = 5,
-    /* These three are this header's. */
+    /* The functions of this header return these three; those of the archive don't. */
     SOQ_NULL_POINTER = 16,
     SOQ_OVERLAP = 17,
     SOQ_TOO_LONG = 18
@@ -48,7 +48,7 @@ typedef enum soq_rule {
     SOQ_DER = 2
 } soq_rule;
 
-/* The kinds of errors, as `DecodeErrorKind` of the crate `rasn` has them. A later version may have more. */
+/* The kinds of errors: those of `DecodeErrorKind` of the crate `rasn`. A later version may have more. */
 typedef enum soq_kind {
     SOQ_KIND_NONE = 0,
     SOQ_KIND_INCOMPLETE = 1,
@@ -94,7 +94,7 @@ typedef enum soq_kind {
     SOQ_KIND_SET_OF_OUT_OF_ORDER = 73,
 } soq_kind;
 
-/* The types, each with its name in X.680 or its standard. A later version may have more. */
+/* The types, each with its name in X.680 or in its standard. A later version may have more. */
 typedef enum soq_type {
     SOQ_BOOL = 0,          /* BOOLEAN */
     SOQ_INTEGER = 1,       /* INTEGER */
@@ -116,27 +116,27 @@ typedef enum soq_type {
     SOQ_LDAP = 17          /* LDAPMessage (RFC 4511) */
 } soq_type;
 
-/* One whole encoding. */
+/* One whole encoding that was skipped. */
 typedef struct soq_passed {
-    /* How many octets it has. */
+    /* The number of its octets. */
     size_t consumed;
-    /* In how many steps it was passed, at most half as many as the octets: none for a value of definite length, else one for each value
-     * inside and one for each end-of-contents octets. */
+    /* The number of steps that skipping it took, at most half the number of octets: 0 for a value of definite length, otherwise one for
+     * each value inside and one for each pair of end-of-contents octets. */
     size_t steps;
 } soq_passed;
 
-/* Why octets aren't one value. */
+/* The reason why octets aren't one value. */
 typedef struct soq_fault {
     /* A soq_kind. */
     uint32_t kind;
-    /* Where what follows the value begins, or 0, where the value begins that isn't read. */
+    /* The offset of the octets that follow the value; 0 if no value is read. */
     size_t offset;
-    /* How long the text is that says so, without its zero. */
+    /* The length of the error's text, without the zero at its end. */
     size_t text_length;
 } soq_fault;
 
-/* The functions of the archive. `soq_skip` and the others call them. A pointer is never null, also where its length is 0, a length is below
- * 2^63, and memory that is written overlaps nothing else. */
+/* The functions of the archive, which `soq_skip` and the others call. A pointer must not be null, even if its length is 0, a length must be
+ * below 2^63, and memory that is written must not overlap other memory of the call. */
 uint32_t soq_proved_skip(uint32_t rule, const uint8_t *octets, size_t length, soq_passed *passed);
 uint32_t soq_proved_check(uint32_t type, const uint8_t *octets, size_t length);
 uint32_t soq_proved_normalise(uint32_t type, uint32_t rule, const uint8_t *octets, size_t length,
@@ -144,7 +144,7 @@ uint32_t soq_proved_normalise(uint32_t type, uint32_t rule, const uint8_t *octet
 uint32_t soq_proved_decode_error(uint32_t type, uint32_t rule, const uint8_t *octets, size_t length,
                                  soq_fault *fault, uint8_t *text, size_t capacity);
 
-/* Whether so many octets can stand there: SOQ_OK, SOQ_NULL_POINTER or SOQ_TOO_LONG. */
+/* Returns whether an object of this length can be at this address: SOQ_OK, SOQ_NULL_POINTER or SOQ_TOO_LONG. */
 static inline soq_status soq_tested(const void *at, size_t length) {
     if (length == 0) {
         return SOQ_OK;
@@ -155,25 +155,25 @@ static inline soq_status soq_tested(const void *at, size_t length) {
     return length > (size_t)PTRDIFF_MAX || length - 1 > UINTPTR_MAX - (uintptr_t)at ? SOQ_TOO_LONG : SOQ_OK;
 }
 
-/* Whether two pieces of memory, which can stand there, have an octet in common. */
+/* Returns whether two pieces of memory, which `soq_tested` accepts, have an octet in common. */
 static inline int soq_overlap(const void *one, size_t length, const void *other, size_t other_length) {
     uintptr_t a = (uintptr_t)one, b = (uintptr_t)other;
     return length != 0 && other_length != 0 && (a <= b ? b - a < length : a - b < other_length);
 }
 
-/* The pointer, or one that isn't null where it stands for no octets. */
+/* Returns the pointer, or one that isn't null in place of a null pointer to no octets. */
 static inline const uint8_t *soq_octets(const uint8_t *at) {
     static const uint8_t none = 0;
     return at == NULL ? &none : at;
 }
 
 /*
- * Passes the one whole encoding at the front of the octets, of any type and nested to any depth, without recursion, and doesn't look into
+ * Skips the one whole encoding at the front of the octets, of any type and nested to any depth. It doesn't recurse, and doesn't check the
  * contents of a definite length.
  *
- * SOQ_OK: it has `passed->consumed` octets; no other whole encoding begins them.
- * SOQ_REFUSED: none begins them. `soq_decode_error` of SOQ_ANY says why.
- * Both counts are 0 but for SOQ_OK. It asks for no memory.
+ * SOQ_OK: the encoding has `passed->consumed` octets; the octets begin with no other whole encoding.
+ * SOQ_REFUSED: the octets don't begin with a whole encoding. `soq_decode_error` with SOQ_ANY reports why.
+ * For SOQ_REFUSED and SOQ_UNKNOWN_RULE both counts are 0. The function allocates no memory.
  *
  * Contract: AnswersSkip (crates/rasn_c/specs/Skipping.antt), from that of `Decoder::skip_value`.
  */
@@ -194,12 +194,12 @@ static inline soq_status soq_skip(soq_rule rule, const uint8_t *octets, size_t l
 /*
  * Returns whether the octets are the one DER encoding of a value of the type.
  *
- * It doesn't look into open types, such as the parameters of an algorithm and the values in a name, nor into the octets of an extension. An
- * open type is an identifier and a definite length, in any spelling, and any contents. SOQ_ANY is one: of `02 81 01 05` the answer is
- * SOQ_OK, although its length isn't in the fewest octets.
+ * It doesn't check inside open types, such as the parameters of an algorithm and the values in a name, nor inside the octets of an
+ * extension. An open type is an identifier and a definite length, in any form, and any contents. SOQ_ANY is one: for `02 81 01 05` the
+ * function returns SOQ_OK, although the length isn't in the fewest octets.
  *
- * SOQ_OK: they are: all of them are one value under DER, and its encoding is they and no others.
- * SOQ_REFUSED: they aren't. `soq_decode_error` by SOQ_DER says why.
+ * SOQ_OK: they are. All of them are one value under DER, and its encoding is these octets and no others.
+ * SOQ_REFUSED: they aren't. `soq_decode_error` with SOQ_DER reports why.
  *
  * Contract: AnswersCheck (crates/rasn_c/specs/Canonical.antt), from that of `der::is_canonical`.
  */
@@ -212,14 +212,14 @@ static inline soq_status soq_check(soq_type type, const uint8_t *octets, size_t 
 }
 
 /*
- * Puts the one DER encoding of the value that all of the octets are, by these rules, at the front of the buffer.
+ * Writes the one DER encoding of the value that all of the octets encode under these rules to the front of the buffer.
  *
- * SOQ_OK: it has `*needed` octets, and what is behind them in the buffer stays.
- * SOQ_BUFFER_TOO_SMALL: it has `*needed` octets, which are more than `capacity`. The buffer stays as it was, so a null pointer and 0 ask for
- * the number alone.
- * SOQ_REFUSED: the octets have none. `soq_decode_error` by the same rules says why, and answers SOQ_OK where they are read and
- * the value has no DER octets.
- * `*needed` is 0 and the buffer stays for every other answer.
+ * SOQ_OK: the DER encoding has `*needed` octets. The rest of the buffer is unchanged.
+ * SOQ_BUFFER_TOO_SMALL: the DER encoding has `*needed` octets, which is more than `capacity`. The buffer is unchanged, so a null pointer
+ * and a capacity of 0 ask for the number alone.
+ * SOQ_REFUSED: there is no DER encoding. `soq_decode_error` with the same rules reports why; it returns SOQ_OK if the octets are read
+ * but their value has no DER encoding.
+ * For SOQ_REFUSED, SOQ_OUT_OF_MEMORY, SOQ_UNKNOWN_TYPE and SOQ_UNKNOWN_RULE `*needed` is 0 and the buffer is unchanged.
  *
  * Contract: AnswersNormalise (crates/rasn_c/specs/Normal.antt), from that of `rasn::normalise`.
  */
@@ -245,15 +245,17 @@ static inline soq_status soq_normalise(soq_type type, soq_rule rule, const uint8
 }
 
 /*
- * Why the octets aren't one value of the type, alone, by these rules.
+ * Reports why the octets aren't exactly one value of the type under these rules.
  *
  * SOQ_OK: they are one.
- * SOQ_REFUSED: they aren't, and `fault` and `text` say why. Where a value is read and octets follow it, the kind is
- * SOQ_KIND_UNEXPECTED_EXTRA_DATA, and the offset is where these begin. Else the kind is that of the error for which no value is read,
- * and the offset is 0, where the value begins: which part of it is refused isn't told.
- * The text is cut where it and a zero have no room; a capacity of 0 takes none. `fault` is zeros and the text empty but for SOQ_REFUSED.
+ * SOQ_REFUSED: they aren't, and `fault` and `text` report why. If a value is read and octets follow it, the kind is
+ * SOQ_KIND_UNEXPECTED_EXTRA_DATA, and the offset is that of the octets that follow. Otherwise the kind is that of the error for which no
+ * value is read, and the offset is 0, where the value begins: the part of it that is refused isn't reported.
+ * The text is truncated if the buffer can't hold it and the zero at its end; with a capacity of 0 no text is written. For SOQ_OK,
+ * SOQ_OUT_OF_MEMORY, SOQ_UNKNOWN_TYPE and SOQ_UNKNOWN_RULE the fields of `fault` are 0 and the text is empty.
  *
- * Contract: AnswersError, HoldsText (crates/rasn_c/specs/Errors.antt), from that of `Decode::decode`. Which text it is is tested.
+ * Contract: AnswersError, HoldsText (crates/rasn_c/specs/Errors.antt), from that of `Decode::decode`. The words of the text are tested, not
+ * proved.
  */
 static inline soq_status soq_decode_error(soq_type type, soq_rule rule, const uint8_t *octets, size_t length, soq_fault *fault,
                                           char *text, size_t capacity) {

@@ -1,7 +1,7 @@
 /*
- * Calls the library in every way that its header allows: rows of known octets, spoilt ones, buffers of every size beside a page that may
- * not be touched, arguments that are refused, memory that is refused, a million calls, eight threads. Its argument is a certificate in
- * DER. It is linked with --wrap=malloc,--wrap=realloc,--wrap=free, to count and refuse what the library asks for.
+ * Calls the library in every way that its header allows: with rows of known octets and changed ones, buffers of every size beside an
+ * inaccessible page, invalid arguments, and failing allocations; a million times; and from eight threads. Its argument is a certificate
+ * in DER. It is linked with --wrap=malloc,--wrap=realloc,--wrap=free, to count the library's allocations and make them fail.
  */
 #include "soqavise.h"
 
@@ -22,7 +22,7 @@
         }                                                                    \
     } while (0)
 
-/* Requests for memory: how many blocks are held, and which of this thread's requests is refused. */
+/* Allocations: the number of blocks in use, and which of this thread's next allocations fails. */
 void *__real_malloc(size_t size);
 void *__real_realloc(void *block, size_t size);
 void __real_free(void *block);
@@ -54,7 +54,7 @@ void __wrap_free(void *block) {
     __real_free(block);
 }
 
-/* A piece of memory that ends, or begins, at a page that may not be touched. */
+/* Pieces of memory that end, or begin, at an inaccessible page. */
 static uint8_t *pages;
 static size_t page;
 enum { PAGES = 3 };
@@ -67,7 +67,7 @@ static uint8_t *behind_guard(int piece) {
     return pages + (size_t)piece * (PAGES + 1) * page;
 }
 
-/* Two pieces, with a guard before, between and behind them. */
+/* Allocates two pieces, with an inaccessible page before, between and after them. */
 static void guard_pages(void) {
     size_t whole;
     page = (size_t)sysconf(_SC_PAGESIZE);
@@ -84,13 +84,13 @@ typedef struct row {
     soq_type type;
     soq_rule rule;
     const char *octets;
-    /* The DER octets, none where it is refused. */
+    /* The DER octets; NULL if the row is refused. */
     const char *normal;
     soq_kind kind;
     size_t offset;
 } row;
 
-/* Worked out from X.690 by hand; the sections are its. */
+/* Worked out by hand from X.690. Sections without another name are of X.690. */
 static const row rows[] = {
     {SOQ_BOOL, SOQ_DER, "0101FF", "0101FF", SOQ_KIND_NONE, 0},
     {SOQ_BOOL, SOQ_BER, "010105", "0101FF", SOQ_KIND_NONE, 0},                             /* 8.2.2 */
@@ -119,7 +119,7 @@ static const row rows[] = {
     {SOQ_GENTIME, SOQ_DER, "180F32303236313132343132303030305A", "180F32303236313132343132303030305A", SOQ_KIND_NONE, 0},
     {SOQ_GENTIME, SOQ_BER, "181132303236313132343132303030302E305A", "180F32303236313132343132303030305A", SOQ_KIND_NONE, 0}, /* 11.7.3 */
     {SOQ_ANY, SOQ_DER, "30030101FF", "30030101FF", SOQ_KIND_NONE, 0},                      /* 8.15 */
-    /* Its first part has to come, and the contents end (RFC 5280 4.1). */
+    /* The first part is required, and the contents are empty (RFC 5280 4.1). */
     {SOQ_CERTIFICATE, SOQ_DER, "3000", NULL, SOQ_KIND_INCOMPLETE, 0},
     {SOQ_LDAP, SOQ_DER, "30050201034200", "30050201034200", SOQ_KIND_NONE, 0},             /* RFC 4511, 4.3 */
     {SOQ_LDAP, SOQ_BER, "308002010342000000", "30050201034200", SOQ_KIND_NONE, 0},         /* 8.1.3.6 */
@@ -127,7 +127,7 @@ static const row rows[] = {
 
 enum { ROWS = sizeof rows / sizeof *rows, LONGEST = 64 };
 
-/* The octets of hexadecimal digits, of which spaces are none. */
+/* Writes the octets of hexadecimal digits, skipping spaces, and returns their number. */
 static size_t octets_of(const char *digits, uint8_t *octets) {
     size_t length = 0;
     for (; *digits != 0; digits++) {
@@ -142,7 +142,7 @@ static size_t octets_of(const char *digits, uint8_t *octets) {
     return length;
 }
 
-/* What all four functions say of octets agrees, for buffers of every size around the right one. */
+/* Ensures that the results of all four functions agree, for buffers of sizes around the right one. Returns that of soq_decode_error. */
 static soq_status agree(soq_type type, soq_rule rule, const uint8_t *octets, size_t length, size_t step) {
     uint8_t *in = before_guard(0, length);
     size_t needed = 7, size;
@@ -179,7 +179,7 @@ static soq_status agree(soq_type type, soq_rule rule, const uint8_t *octets, siz
     return status;
 }
 
-/* The text is the same in buffers of every size, but for its end. */
+/* Ensures that buffers of all sizes receive the same text, truncated to their size. */
 static void texts_fit(soq_type type, soq_rule rule, const uint8_t *octets, size_t length) {
     char whole[512];
     soq_fault fault, again;
@@ -220,7 +220,7 @@ static void rows_are_answered(void) {
     }
 }
 
-/* Each row and its cuts, and with each octet made every other. */
+/* Each row's proper prefixes, and each row with one octet changed: the first two octets to every other value, the rest to some. */
 static void spoilt_rows_are_answered(void) {
     size_t i, at, cut;
     for (i = 0; i < ROWS; i++) {
@@ -243,7 +243,7 @@ static void spoilt_rows_are_answered(void) {
 static void whole_encodings_are_passed(void) {
     static const uint8_t nested[] = {0x30, 0x80, 0x01, 0x01, 0xFF, 0x00, 0x00, 0x05, 0x00};
     soq_passed passed;
-    /* A value and end-of-contents octets are inside (8.1.5). */
+    /* One step for the value inside, and one for the end-of-contents octets (8.1.5). */
     ENSURE(soq_skip(SOQ_BER, nested, sizeof nested, &passed) == SOQ_OK && passed.consumed == 7 && passed.steps == 2);
     ENSURE(soq_skip(SOQ_BER, nested + 7, 2, &passed) == SOQ_OK && passed.consumed == 2 && passed.steps == 0);
     ENSURE(soq_skip(SOQ_DER, nested, sizeof nested, &passed) == SOQ_REFUSED && passed.consumed == 0 && passed.steps == 0);
@@ -283,7 +283,7 @@ static void wrong_arguments_are_answered(void) {
     ENSURE(soq_decode_error(SOQ_BOOL, SOQ_DER, shared.octets, 3, &fault, shared.text + 2, 8) == SOQ_OVERLAP);
     ENSURE(shared.octets[0] == 0x01 && shared.octets[1] == 0x01 && shared.octets[2] == 0xFF && shared.octets[3] == 0);
     ENSURE(needed == 7 && fault.kind == 7 && passed.steps == 7 && out[0] == 0);
-    /* Neighbours don't overlap. */
+    /* Adjacent pieces of memory don't overlap. */
     ENSURE(soq_normalise(SOQ_BOOL, SOQ_DER, shared.octets, 3, shared.octets + 3, 3, &needed) == SOQ_OK && shared.octets[5] == 0xFF);
     ENSURE(soq_check((soq_type)18, octets, 3) == SOQ_UNKNOWN_TYPE && soq_check((soq_type)1000000, octets, 3) == SOQ_UNKNOWN_TYPE);
     ENSURE(soq_normalise((soq_type)18, SOQ_DER, octets, 3, out, 8, &needed) == SOQ_UNKNOWN_TYPE && needed == 0);
@@ -293,7 +293,7 @@ static void wrong_arguments_are_answered(void) {
     ENSURE(soq_decode_error((soq_type)18, SOQ_DER, octets, 3, &fault, shared.text, 8) == SOQ_UNKNOWN_TYPE && shared.text[0] == 0);
 }
 
-/* A value that BER reads and DER has no octets for: an indefinite length in an open type. */
+/* A value that BER reads but that has no DER encoding: an open type of indefinite length. */
 static void what_has_no_normal_is_refused(void) {
     static const uint8_t open[] = {0x30, 0x80, 0x00, 0x00};
     size_t needed = 7;
@@ -302,7 +302,7 @@ static void what_has_no_normal_is_refused(void) {
     ENSURE(soq_decode_error(SOQ_ANY, SOQ_BER, open, sizeof open, &fault, NULL, 0) == SOQ_OK && fault.kind == 0);
 }
 
-/* Each request for memory of a call is refused once: the answer says so, or is the same. Nothing is kept. */
+/* Makes each allocation of a call fail once: the status is SOQ_OUT_OF_MEMORY or as usual, and no block stays in use. */
 static void refused_memory_is_answered(const uint8_t *octets, size_t length) {
     static const soq_type types[] = {SOQ_CERTIFICATE, SOQ_OCTETS};
     int which;
@@ -367,7 +367,7 @@ static long resident(void) {
     return usage.ru_maxrss;
 }
 
-/* Four calls, of each function one. */
+/* Calls each of the four functions once. */
 static void call_all(void) {
     static const uint8_t spelled[] = {0x01, 0x01, 0x05}, constructed[] = {0x24, 0x80, 0x04, 0x01, 0x41, 0x00, 0x00};
     uint8_t out[8];

@@ -1,4 +1,4 @@
--- What the program answers to a line.
+-- The results that the program prints for lines.
 use Rattle.std.specs.Prelude.{◌≡◌, ℕ, ◌⊎◌, List, Some, None, length, codes, Vec, Result, Ok, Err}
 use Rattle.std.specs.Global.{Global}
 use Rattle.rasn_types.specs.declared.types.codec.Codec.{Codec}
@@ -49,17 +49,18 @@ shape_of RelativeDistinguishedName = relative_shape
 shape_of Set3 = set3_shape
 shape_of Bag = octets_in_set_of
 
--- What is so of a rule, a shape, the word for a type, octets and an answer, of the shape and the word of the type that a line names.
+-- The relation `Is` of a rule, octets and a result, for the shape and the word of the type that a line names.
 abbrev pub OfNamedType : {A : Type 0} → (Codec → Shape → List ℕ → List ℕ → A → Type 0) → Codec → ValueType → List ℕ → A → Type 0
 OfNamedType Is rule kind octets answer = Is rule (shape_of kind) (type_word kind) octets answer
 
--- By these rules the input begins with this value, and so many octets follow it.
+-- Under the rules the input begins with this value, followed by `count` octets.
 pub record IsRead (rule : Codec) (shape : Shape) (input : List ℕ) (t : Tree) (count : ℕ) : Type 0 where
   pub rest : List ℕ
   pub reads : Reads rule shape 128 (top rule) input t rest
   pub count_is : length rest ≡ count
 
--- The answer to these octets, read as the shape by these rules and written by DER; memory aside.
+-- The result of reading these octets as the shape under the rules, and writing the value by DER. The cause
+-- `OutOfMemory` may be reported for any octets.
 abbrev pub IsAnswer : Codec → Shape → List ℕ → List ℕ → Answer → Type 0
 IsAnswer rule shape kind input (Read name count octets) = (name.now ≡ kind) × ((t : Tree) × IsRead rule shape input t count × Bytes Der shape t octets.items)
 IsAnswer rule shape kind input (NotWritten name count cause) = (name.now ≡ kind)
@@ -67,7 +68,7 @@ IsAnswer rule shape kind input (NotWritten name count cause) = (name.now ≡ kin
 IsAnswer rule shape kind input (Refused cause) = (cause.now ≡ codes "OutOfMemory") ⊎ ((t : Tree) (rest : List ℕ) → Reads rule shape 128 (top rule) input t rest → ⊥)
 IsAnswer rule shape kind input Malformed = ⊥
 
--- The answer to the line, whose types have these shapes.
+-- The result for the line, if its types have these shapes.
 abbrev pub IsAnswerBy : (ValueType → Shape) → List ℕ → Answer → Type 0
 IsAnswerBy shape line Malformed = (rule : Codec) (kind : ValueType) (octets : List ℕ) → Asks line rule kind octets → ⊥
 IsAnswerBy shape line answer = (rule : Codec) × (kind : ValueType) × (octets : List ℕ) × Asks line rule kind octets × IsAnswer rule (shape kind) (type_word kind) octets answer
@@ -75,12 +76,12 @@ IsAnswerBy shape line answer = (rule : Codec) × (kind : ValueType) × (octets :
 abbrev pub IsAnswerTo : List ℕ → Answer → Type 0
 IsAnswerTo line answer = IsAnswerBy shape_of line answer
 
--- The answer says that no value was read; if memory ran out, it says that.
+-- The result says that no value was read, with the cause `OutOfMemory` if an allocation failed.
 abbrev pub IsRefusal : Type 0 → Answer → Type 0
 IsRefusal MemoryRanOut (Refused cause) = MemoryRanOut → cause.now ≡ codes "OutOfMemory"
 IsRefusal MemoryRanOut _ = ⊥
 
--- The answer says that a value was read, how many octets follow it, and its octets or why there are none.
+-- The result says that a value was read, how many octets follow it, and its octets or why there are none.
 abbrev pub IsWrittenAnswer : List ℕ → ℕ → Result (Vec ℕ Global) EncodeError → Answer → Type 0
 IsWrittenAnswer kind count (Ok octets) (Read name n written) = (name.now ≡ kind) × (n ≡ count) × (written ≡ octets)
 IsWrittenAnswer kind count (Err e) (NotWritten name n cause) = (name.now ≡ kind) × (n ≡ count) × (IsEncodeOutOfMemory e.kind → cause.now ≡ codes "OutOfMemory")

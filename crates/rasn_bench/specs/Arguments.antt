@@ -1,4 +1,4 @@
--- What the program is called with: `[--normalise] [file]`.
+-- The arguments of the program: `[--normalise] [file]`.
 use Rattle.std.specs.Borrow.{Bor}
 use Rattle.std.specs.Prelude.{◌≡◌, ◌≢◌, ℕ, Bool, true, false, List, [], ◌∷◌, ◌++◌, Option, Some, None, codes}
 
@@ -14,7 +14,8 @@ abbrev pub named : Option (List ℕ) → List (List ℕ)
 named (Some file) = file ∷ []
 named None = []
 
--- The option where it is given, and then the file where one is named. A first word that is the option's is the option.
+-- The words are the option if it is given, and then the file if one is named. A first word that equals the option is
+-- the option.
 pub record IsCall (words : List (List ℕ)) (normalises : Bool) (file : Option (List ℕ)) : Type 0 where
   pub is : words ≡ given normalises ++ named file
   pub told : normalises ≡ false → file ≢ Some option_word

@@ -1,4 +1,4 @@
--- The worked ENUMERATED: its numbers.
+-- The numbers of the example ENUMERATED.
 use Rattle.std.specs.Prelude.{ℤ, pos, List, [], ◌∷◌}
 use Rattle.rasn_bench.specs.declared.worked.colour.Colour.{Colour}
 use Rattle.rasn_bench.specs.declared.worked.colour.Colour.TheVariants.{Red, Green, Blue}

@@ -6,11 +6,11 @@ use Rattle.rasn.specs.Carries.{carries_all}
 use Rattle.rasn_bench.specs.declared.line.ValueType.{ValueType}
 use Rattle.rasn_bench.specs.Answers.{shape_of}
 
--- The shapes are lawful, and all that DER reads of them is carried.
+-- The shapes are lawful, and every value of them that DER reads is carried.
 unfoldable pub AreLawful : List Shape → Type 0
 AreLawful [] = Unit {0}
 AreLawful (s ∷ shapes) = IsLawful s × (carries_all s ≡ true) × AreLawful shapes
 
--- The shape of every type that a line may name is lawful, and all that DER reads of it is carried.
+-- The shape of every type that a line may name is lawful, and every value of it that DER reads is carried.
 abbrev pub AreLawfulInLines : Type 0
 AreLawfulInLines = (kind : ValueType) → IsLawful (shape_of kind) × (carries_all (shape_of kind) ≡ true)

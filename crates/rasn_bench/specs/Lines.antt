@@ -1,4 +1,4 @@
--- The lines of the program.
+-- The input lines of the program.
 use Rattle.std.specs.Prelude.{◌≡◌, ◌≢◌, ℕ, ◌+◌, ◌-◌, ◌*◌, ◌<◌, ◌==◌, length, Bool, ◌&&◌, nat_le, nat_eq, if◌then◌else◌, List, [], ◌∷◌, Option, Some, None, Vec, codes}
 use Rattle.std.specs.List.{position_or_len, before_first, after_first}
 use Rattle.rasn_types.specs.declared.types.codec.Codec.{Codec}
@@ -33,7 +33,7 @@ name_of RelativeDistinguishedName = codes "rdn"
 name_of Set3 = codes "set3"
 name_of Bag = codes "bag"
 
--- what the program calls a value of the type
+-- the word that the program prints for a value of the type
 abbrev pub type_word : ValueType → List ℕ
 type_word BoolType = codes "BOOLEAN"
 type_word I32 = codes "INTEGER"
@@ -71,14 +71,14 @@ is_space c = c == 32
 abbrev pub HasSpace : List ℕ → Type 0
 HasSpace l = position_or_len is_space l < length l
 
--- what stands in front of the first space, and behind it
+-- the text before the first space, and the text after it
 abbrev pub word : List ℕ → List ℕ
 word l = before_first is_space l
 
 abbrev pub others : List ℕ → List ℕ
 others l = after_first is_space l
 
--- The line is these rules' name, this type's name and these digits, with one space between two of them.
+-- The line is the name of these rules, the name of this type and these digits, separated by single spaces.
 pub record IsRequest (line : List ℕ) (rule : Codec) (kind : ValueType) (digits : List ℕ) : Type 0 where
   pub first_space : HasSpace line
   pub rule_is : word line ≡ rule_name rule
@@ -89,7 +89,7 @@ pub record IsRequest (line : List ℕ) (rule : Codec) (kind : ValueType) (digits
 abbrev pub between : ℕ → ℕ → ℕ → Bool
 between low high c = nat_le low c && nat_le c high
 
--- the worth of a hexadecimal digit of either case
+-- the value of a hexadecimal digit, in upper or lower case
 abbrev pub digit_at : ℕ → Option ℕ
 digit_at c = if between 48 57 c then Some (c - 48) else if between 65 70 c then Some (c - 55) else if between 97 102 c then Some (c - 87) else None
 
@@ -97,7 +97,7 @@ abbrev pub joined : Option ℕ → Option ℕ → Option ℕ
 joined (Some high) (Some low) = Some (16 * high + low)
 joined high low = None
 
--- the octet of two digits
+-- the octet that two digits spell
 abbrev pub pair_at : ℕ → ℕ → Option ℕ
 pair_at a b = joined (digit_at a) (digit_at b)
 
@@ -105,38 +105,38 @@ abbrev pub behind : Option ℕ → Option (List ℕ) → Option (List ℕ)
 behind (Some octet) (Some octets) = Some (octet ∷ octets)
 behind octet octets = None
 
--- two digits an octet
+-- the octets that digits spell, two digits for each
 unfoldable pub pairs_at : List ℕ → Option (List ℕ)
 pairs_at [] = Some []
 pairs_at (a ∷ []) = None
 pairs_at (a ∷ b ∷ l) = behind (pair_at a b) (pairs_at l)
 
--- The digits begin with two that spell this octet, and the rest follows them.
+-- The first two digits spell this octet, and the rest follows them.
 abbrev pub BeginsWithPair : List ℕ → ℕ → List ℕ → Type 0
 BeginsWithPair digits octet rest = pairs_at digits ≡ behind (Some octet) (pairs_at rest)
 
--- There are digits, and they spell no octets.
+-- If there are digits, they spell no octets.
 abbrev pub BeginsWithoutPair : List ℕ → Type 0
 BeginsWithoutPair digits = digits ≢ [] → pairs_at digits ≡ None
 
--- What digits spell: a hyphen is no octets, and no digits spell nothing.
+-- What digits spell: a hyphen spells the empty list of octets, and an empty text spells nothing.
 abbrev pub octets_of_digits : List ℕ → Option (List ℕ)
 octets_of_digits [] = None
 octets_of_digits (c ∷ []) = if nat_eq c 45 then Some [] else None
 octets_of_digits (a ∷ b ∷ l) = pairs_at (a ∷ b ∷ l)
 
--- What was read off the digits.
+-- The result of reading digits: their octets, or `None` if they spell nothing.
 abbrev pub Spells : {A : Type 0} → (List ℕ → Option (List ℕ)) → List ℕ → Option (Vec ℕ A) → Type 0
 Spells read digits None = read digits ≡ None
 Spells read digits (Some octets) = read digits ≡ Some octets.items
 
--- The line asks for a type under these rules, by digits that spell octets.
+-- The line asks for a type under these rules, with digits that spell these octets.
 pub record Asks (line : List ℕ) (rule : Codec) (kind : ValueType) (octets : List ℕ) : Type 0 where
   pub digits : List ℕ
   pub request : IsRequest line rule kind digits
   pub spelled : octets_of_digits digits ≡ Some octets
 
--- What the line asks for, or nothing if it asks for nothing.
+-- The request of the line with its octets, or `None` if the line asks for nothing.
 abbrev pub IsAsked : {A : Type 0} → List ℕ → Option (Request × Vec ℕ A) → Type 0
 IsAsked line None = (rule : Codec) (kind : ValueType) (octets : List ℕ) → Asks line rule kind octets → ⊥
 IsAsked line (Some p) = Asks line p.0.rule p.0.value_type p.1.items

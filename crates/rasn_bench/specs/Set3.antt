@@ -1,4 +1,5 @@
--- Set3 ::= SET { zero [0] IMPLICIT INTEGER (0..255), one [1] IMPLICIT INTEGER (0..255), two [2] IMPLICIT INTEGER (0..255) }
+-- Set3 ::= SET { zero [0] IMPLICIT INTEGER (0..255), one [1] IMPLICIT INTEGER (0..255), two [2] IMPLICIT INTEGER
+-- (0..255) }
 use Rattle.std.specs.Prelude.{ℕ, pos, [], ◌∷◌}
 use Rattle.rasn_types.specs.Tags.{in_universal}
 use Rattle.rasn_types.specs.declared.types.tag.Class.TheVariants.{Context}

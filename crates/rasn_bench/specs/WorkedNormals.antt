@@ -1,10 +1,10 @@
--- Normal encodings that were worked out by hand.
+-- Normal encodings, worked out by hand.
 use Rattle.std.specs.Prelude.{◌≡◌, ℕ, List, [], ◌∷◌}
 use Rattle.rasn_types.specs.declared.types.codec.Codec.TheVariants.{Ber}
 use Rattle.rasn.specs.WorkedShapes.{named, octets_in_set_of}
 use Rattle.rasn.specs.Normal.{IsNormal}
 
--- SEQUENCE { IA5String, BOOLEAN } with Smith and TRUE: lengths in the indefinite form, the string in two segments, and TRUE as 01
+-- SEQUENCE { IA5String, BOOLEAN } with Smith and TRUE: indefinite lengths, the string in two segments, and TRUE as 01
 abbrev pub smith_in_segments : List ℕ
 smith_in_segments = 48 ∷ 128 ∷ 54 ∷ 128 ∷ 4 ∷ 2 ∷ 83 ∷ 109 ∷ 4 ∷ 3 ∷ 105 ∷ 116 ∷ 104 ∷ 0 ∷ 0 ∷ 1 ∷ 1 ∷ 1 ∷ 0 ∷ 0 ∷ []
 

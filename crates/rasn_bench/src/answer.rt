@@ -1,4 +1,4 @@
-//! What the program answers to a line.
+//! The results that the program prints for lines.
 ghost use Rattle.std.specs.Prelude.{IfOk, IsTrue, ◌↔◌, ◌≢◌};
 ghost use Rattle.rasn_bench.specs.Answers.{IsAnswerTo, IsRefusal, IsWrittenAnswer};
 ghost use Rattle.rasn_types.specs.Errors.{IsOutOfMemory};
@@ -15,31 +15,31 @@ use rasn::types::{Codec, LawfulEq};
 use std::alloc::{AllocError, Global};
 use std::fmt;
 
-/// The answer to a line.
+/// The result for a line.
 #[derive(Debug, Drop)]
 pub enum Answer {
-    /// A value was read, and its DER octets are these; `rest` octets were left.
+    /// A value was read, `rest` octets follow it, and `octets` are its DER octets.
     Read {
         kind: &'static str,
         rest: usize,
         octets: Vec<u8>,
     },
-    /// A value was read and isn't written, for this cause; `rest` octets were left.
+    /// A value was read, `rest` octets follow it, and it can't be written for the cause `name`.
     NotWritten {
         kind: &'static str,
         rest: usize,
         name: &'static str,
     },
-    /// No value was read, for this cause.
+    /// No value was read, for the cause `name`.
     Refused {
         name: &'static str,
     },
-    /// The line has another form.
+    /// The line isn't well-formed.
     Malformed,
 }
 
 impl Answer {
-    /// The answer to a line without its line feed.
+    /// Returns the result for a line without its line feed.
     pub fn to_line(alloc: Global, line: &str) -> Result<Answer, AllocError>
         ensures { IfOk result (IsAnswerTo line.now) }
     {
@@ -49,7 +49,7 @@ impl Answer {
         }
     }
 
-    /// Returns the answer if a value is refused for this error.
+    /// Returns the result if a value is refused with this error.
     pub fn refused(error: &DecodeError) -> Answer
         ensures { IsRefusal (IsOutOfMemory error.now.kind) result }
     {
@@ -58,7 +58,8 @@ impl Answer {
         }
     }
 
-    /// Returns the answer if a value was read, `rest` octets were left, and DER writes it so.
+    /// Returns the result if a value was read, `rest` octets follow it, and encoding it under DER
+    /// returned `written`.
     pub fn read(word: &'static str, rest: usize, written: Result<Vec<u8>, EncodeError>) -> Answer
         ensures { IsWrittenAnswer word.now rest written result }
     {
@@ -76,7 +77,7 @@ impl Answer {
         }
     }
 
-    /// Whether the line had a good form.
+    /// Returns whether the line was well-formed.
     pub fn is_well_formed(&self) -> bool
         ensures { IsTrue result ↔ (self.now ≢ Malformed) }
     {
@@ -89,7 +90,7 @@ impl TypedAnswer for Answer {
 
     ghost IsOfType = { IsAnswer };
 
-    /// Reads a value of the type by these rules, and writes it by DER.
+    /// Reads a value of the type under these rules, and encodes it under DER.
     fn of_type<T: Decode + Encode + LawfulEq>(
         alloc: Global,
         rule: Codec,
@@ -117,7 +118,7 @@ impl fmt::Display for Answer {
     }
 }
 
-/// Writes octets as digits, and none as `-`.
+/// Writes octets as hexadecimal digits, and the empty list as `-`.
 pub(crate) fn write_octets<W: fmt::Write>(octets: &[u8], f: &mut fmt::Formatter<W>) -> fmt::Result {
     if octets.is_empty() {
         return f.write_str("-");

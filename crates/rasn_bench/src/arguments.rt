@@ -1,10 +1,10 @@
-//! What the program is called with.
+//! The arguments of the program.
 ghost use Rattle.std.specs.Prelude.{IsTrue, ◌↔◌, ◌≡◌, Bool, map, MatchResult, ℕ, List, Option, string_bytes};
 ghost use Rattle.rasn_bench.specs.Arguments.{option_word, IsCall, name_in};
 
 use thiserror::Error;
 
-/// How the program is called.
+/// The error of arguments that aren't well-formed. Its text says how the program is called.
 #[derive(Clone, Copy, Debug, PartialEq, Eq, Drop, Error)]
 #[error("usage: rasn-vectors [--normalise] [file]")]
 pub struct Usage;
@@ -12,15 +12,18 @@ pub struct Usage;
 /// The option that asks for normal encodings.
 const NORMALISE: &str = "--normalise";
 
-/// Whether the word is the option.
+/// Returns whether the word is the option.
 fn is_option(word: &String) -> bool
     ensures { IsTrue result ↔ (string_bytes word.now ≡ option_word) }
 {
     word.as_str() == NORMALISE
 }
 
-/// Whether the arguments behind the program's name ask to normalise, and the file that they tell, or none for standard input.
-/// Arguments of another form are refused.
+/// Returns whether the arguments after the program's name ask to normalise, and the file that they
+/// name, or `None` for standard input.
+///
+/// # Errors
+/// `Usage` if the arguments aren't well-formed.
 pub fn file_of(arguments: &[String]) -> Result<(bool, Option<&str>), Usage>
     ensures { MatchResult result
         (λ call. IsCall (map string_bytes arguments.now) call.0 (name_in call.1))

@@ -1,4 +1,4 @@
-//! A call of the program: its arguments, and where its lines come from and go.
+//! A call of the program: its arguments, its input and its output.
 
 use crate::arguments::{Usage, file_of};
 use crate::program::{Answers, RunFault, run_by};
@@ -9,7 +9,7 @@ use std::io::{self, BufReader, BufWriter, Read};
 use std::rt::{Env, Files};
 use thiserror::Error;
 
-/// What the program says if it can't go on.
+/// The error that the program reports before it ends.
 #[derive(Clone, Copy, Debug, PartialEq, Eq, Drop, Error)]
 pub enum CallFault {
     #[error(transparent)]
@@ -18,8 +18,8 @@ pub enum CallFault {
     Run(RunFault),
 }
 
-/// Answers the lines of the file that the program's arguments name, or of standard input, and returns whether none was
-/// malformed.
+/// Prints a result for each line of the file that the program's arguments name, or of standard
+/// input. Returns whether all lines were well-formed.
 pub fn answer_call<R: Env + Files + Input + Print + AllocGlobal, A: Answers>(
     rt: &R,
     answers: &A,
@@ -42,7 +42,7 @@ pub fn answer_call<R: Env + Files + Input + Print + AllocGlobal, A: Answers>(
     answered.map_err(CallFault::Run)
 }
 
-/// Answers the lines of the reader, by the DER octets alone where it normalises.
+/// Prints a result for each line of the reader: if `normalises`, the DER octets alone.
 fn answer_all<P: Print + AllocGlobal, A: Answers, R: Read + Drop>(
     rt: &P,
     answers: &A,

@@ -1,5 +1,5 @@
-//! The shapes of the types are lawful, so what the laws say of lawful shapes holds of them. Each is a promise about the types: the
-//! functions do nothing when they run.
+//! Proofs that the shapes of the types are lawful, so that the laws about lawful shapes apply to
+//! them. Each is the contract of a function that does nothing when it runs.
 ghost use Rattle.std.specs.Prelude.{◌≡◌, ◌∷◌, []};
 ghost use Rattle.rasn_types.specs.Shapes.{IsAlwaysPresent};
 ghost use Rattle.rasn_types.specs.Lawful.{IsLawful};
@@ -15,7 +15,8 @@ use rasn::types::{
     OctetString, PrintableString, SetOf, UtcTime, Utf8String,
 };
 
-/// The shapes of these types are lawful, and all that DER reads of them is carried; the worked facts of `rasn::laws` are of the types' own shapes.
+/// Proves that the shapes of these types are lawful, and that every value of them that DER reads is
+/// carried. The worked facts of `rasn::laws` are of the types' own shapes.
 pub fn lawful_types()
     ensures in_lines { AreLawfulInLines }
     ensures types { AreLawful (
@@ -60,7 +61,8 @@ pub fn lawful_types()
     ensures name { ⟦<RelativeDistinguishedName as AsnType>⟧.shape ≡ relative_name }
 {}
 
-/// The shape of `Both` is lawful where those of its fields are, and their values are always there.
+/// Proves that the shape of `Both` is lawful if the shapes of its fields are lawful and their
+/// values are always present.
 pub fn lawful_both<A: AsnType, B: AsnType>()
     ensures { IsLawful A.shape → IsAlwaysPresent A.shape → IsLawful B.shape → IsAlwaysPresent B.shape → IsLawful ⟦<Both<A, B> as AsnType>⟧.shape }
 {}

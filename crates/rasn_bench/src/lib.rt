@@ -1,4 +1,4 @@
-//! Worked types over the public crate, and what the program `rasn-vectors` does with its lines.
+//! Example types that use the public crate alone, and the work of the program `rasn-vectors`.
 #![tactic(auto)]
 
 mod answer;

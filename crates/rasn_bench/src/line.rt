@@ -1,4 +1,4 @@
-//! The lines of the program: `rule type hex`.
+//! The input lines of the program: `rule type hex`.
 ghost use Rattle.std.specs.Prelude.{◌≡◌, ◌<◌, MatchOption, IfOk, IfSome, List, length, ℕ};
 ghost use Rattle.rasn_types.specs.declared.types.codec.Codec.{Codec};
 ghost use Rattle.rasn_bench.specs.Lines.{type_word, IsAsked, name_of, rule_name, IsRequest, Spells, octets_of_digits, pairs_at, pair_at, digit_at, BeginsWithPair, BeginsWithoutPair};
@@ -37,7 +37,7 @@ pub enum ValueType {
 }
 
 impl ValueType {
-    /// The type of this name.
+    /// Returns the type of this name.
     pub fn of_name(name: &str) -> Option<ValueType>
         ensures { MatchOption result ((kind : ValueType) → name.now ≡ name_of kind → ⊥) (λ kind. name.now ≡ name_of kind) }
     {
@@ -70,7 +70,7 @@ impl ValueType {
         }
     }
 
-    /// Returns what the program calls a value of the type.
+    /// Returns the word that the program prints for a value of the type.
     pub fn word(self) -> &'static str
         ensures { result.now ≡ type_word self }
     {
@@ -95,7 +95,7 @@ impl ValueType {
     }
 }
 
-/// The rules of this name.
+/// Returns the rules of this name.
 fn rule_of_name(name: &str) -> Option<Codec>
     ensures { MatchOption result ((rule : Codec) → name.now ≡ rule_name rule → ⊥) (λ rule. name.now ≡ rule_name rule) }
 {
@@ -107,7 +107,7 @@ fn rule_of_name(name: &str) -> Option<Codec>
     }
 }
 
-/// What a line of a good form asks: the rules to read by, the type to read, and the octets as digits.
+/// A well-formed line: the rules to read by, the type to read, and the octets as digits.
 #[derive(Clone, Copy, Debug)]
 pub struct Request<'line> {
     pub rule: Codec,
@@ -116,7 +116,8 @@ pub struct Request<'line> {
 }
 
 impl<'line> Request<'line> {
-    /// The request of a line with three words and single spaces, where rule and type are known.
+    /// Returns the request of a line of three words, separated by single spaces; `None` if a word
+    /// is missing or the rule or the type is unknown.
     pub fn of_line(line: &'line str) -> Option<Request<'line>>
         ensures { MatchOption result
             ((rule : Codec) (kind : ValueType) (digits : List ℕ) → IsRequest line.now rule kind digits → ⊥)
@@ -133,7 +134,8 @@ impl<'line> Request<'line> {
         })
     }
 
-    /// Returns what a line asks: its request and the octets that its digits spell, or nothing if it has another form.
+    /// Returns the request of a line and the octets that its digits spell; `None` if the line isn't
+    /// well-formed.
     pub fn asked(
         alloc: Global,
         line: &'line str,
@@ -149,7 +151,8 @@ impl<'line> Request<'line> {
         }
     }
 
-    /// The octets that the digits spell, `-` for none; or nothing where they are no such spelling.
+    /// Returns the octets that the digits spell, none for `-`; `None` if they aren't valid
+    /// hexadecimal.
     pub fn octets(&self, alloc: Global) -> Result<Option<Vec<u8>>, AllocError>
         ensures { IfOk result (Spells octets_of_digits self.now.digits.now) }
     {
@@ -165,7 +168,8 @@ impl<'line> Request<'line> {
     }
 }
 
-/// The octets of an even number of digits.
+/// Returns the octets that the digits spell, two digits for each; `None` if they aren't valid
+/// hexadecimal.
 #[tactic(auto, unfolding(crate::specs::Lines::pairs_at))]
 fn octets_of_digits(alloc: Global, digits: &[u8]) -> Result<Option<Vec<u8>>, AllocError>
     ensures { IfOk result (Spells pairs_at digits.now) }
@@ -182,7 +186,7 @@ fn octets_of_digits(alloc: Global, digits: &[u8]) -> Result<Option<Vec<u8>>, All
     Ok(Some(octets))
 }
 
-/// The octet of the first two digits, and what follows them.
+/// Returns the octet that the first two digits spell, and the digits after them.
 #[tactic(auto, unfolding(crate::specs::Lines::pairs_at))]
 fn first_octet(digits: &[u8]) -> Option<(u8, &[u8])>
     ensures read { MatchOption result (BeginsWithoutPair digits.now) (λ p. BeginsWithPair digits.now p.0 p.1.now) }
@@ -199,7 +203,7 @@ fn octet_of(high: u8, low: u8) -> Option<u8>
     Some(16 * digit_of(high)? + digit_of(low)?)
 }
 
-/// The worth of a hexadecimal digit of either case.
+/// Returns the value of a hexadecimal digit, in upper or lower case.
 fn digit_of(octet: u8) -> Option<u8>
     ensures worth { result ≡ digit_at octet }
     ensures below { IfSome result (λ n. n < 16) }

@@ -7,7 +7,7 @@ use rasn::error::{
     DerDecodeErrorKind, EncodeErrorKind,
 };
 
-/// The name of the innermost kind of a refused read.
+/// Returns the name of the innermost kind of a decoding error.
 pub(crate) fn decode_error_name(kind: &DecodeErrorKind) -> &'static str
     ensures { IsOutOfMemory kind.now → result.now ≡ codes "OutOfMemory" }
 {
@@ -72,7 +72,7 @@ fn ber_decode_error_name(kind: &BerDecodeErrorKind) -> &'static str {
     }
 }
 
-/// The name of the innermost kind of a refused write.
+/// Returns the name of the innermost kind of an encoding error.
 pub(crate) fn encode_error_name(kind: &EncodeErrorKind) -> &'static str
     ensures { IsEncodeOutOfMemory kind.now → result.now ≡ codes "OutOfMemory" }
 {

@@ -1,7 +1,8 @@
-//! Worked normal encodings.
+//! Worked facts about normal encodings.
 ghost use Rattle.rasn_bench.specs.WorkedNormals.{WorkedNormals};
 
-/// Encodings with their DER, worked out by hand; the function does nothing when it runs.
+/// Proves that encodings have the DER that was worked out by hand. The function does nothing when
+/// it runs.
 pub fn worked_normals()
     ensures { WorkedNormals }
 {}

@@ -1,4 +1,4 @@
-//! What the program answers to a line where it normalises.
+//! The results that the program prints for lines when it normalises.
 ghost use Rattle.std.specs.Prelude.{IfOk, IsTrue, ◌↔◌, ◌≢◌, ◌≡◌, codes};
 ghost use Rattle.rasn.specs.Normal.{IsOutOfMemoryAlone};
 ghost use Rattle.rasn_bench.specs.NormalAnswers.{IsNormalAnswerTo, IsNormalisedAnswer};
@@ -15,19 +15,19 @@ use rasn::{NormaliseError, normalise};
 use std::alloc::{AllocError, Global};
 use std::fmt;
 
-/// The answer to a line.
+/// The result for a line.
 #[derive(Debug, Drop)]
 pub enum NormalAnswer {
     /// The DER octets of the value.
     Normal { octets: Vec<u8> },
-    /// There are none, for this cause.
+    /// There are no DER octets, for the cause `name`.
     Refused { name: &'static str },
-    /// The line has another form.
+    /// The line isn't well-formed.
     Malformed,
 }
 
 impl NormalAnswer {
-    /// The answer to a line without its line feed.
+    /// Returns the result for a line without its line feed.
     pub fn to_line(alloc: Global, line: &str) -> Result<NormalAnswer, AllocError>
         ensures { IfOk result (IsNormalAnswerTo line.now) }
     {
@@ -37,7 +37,7 @@ impl NormalAnswer {
         }
     }
 
-    /// Returns the answer if octets are normalised so.
+    /// Returns the result if normalising octets returned this.
     pub fn of_normalised(normalised: Result<Vec<u8>, NormaliseError>) -> NormalAnswer
         ensures { IsNormalisedAnswer normalised result }
     {
@@ -49,7 +49,7 @@ impl NormalAnswer {
         }
     }
 
-    /// Whether the line had a good form.
+    /// Returns whether the line was well-formed.
     pub fn is_well_formed(&self) -> bool
         ensures { IsTrue result ↔ (self.now ≢ Malformed) }
     {
@@ -62,7 +62,7 @@ impl TypedAnswer for NormalAnswer {
 
     ghost IsOfType = { λ rule shape _ input answer. IsNormalAnswer rule shape input answer };
 
-    /// The DER octets of all that these are by the rule.
+    /// Reads all of the octets as a value of the type under the rule, and encodes it under DER.
     fn of_type<T: Decode + Encode + LawfulEq>(
         alloc: Global,
         rule: Codec,
@@ -73,7 +73,7 @@ impl TypedAnswer for NormalAnswer {
     }
 }
 
-/// The name of the innermost kind of a refusal.
+/// Returns the name of the innermost kind of the error.
 fn error_name(error: &NormaliseError) -> &'static str
     ensures { IsOutOfMemoryAlone error.now → result.now ≡ codes "OutOfMemory" }
 {

@@ -1,4 +1,4 @@
-//! The program's work: an answer for each line.
+//! The work of the program: it prints a result for each line.
 ghost use Rattle.std.specs.Prelude.{IfOk};
 
 use crate::answer::Answer;
@@ -8,7 +8,7 @@ use std::fmt;
 use std::io::{BufRead, ErrorKind, Write};
 use thiserror::Error;
 
-/// Why the work stopped.
+/// The reason why the program stops.
 #[derive(Clone, Copy, Debug, PartialEq, Eq, Drop, Error)]
 pub enum RunFault {
     /// The input can't be read, or isn't UTF-8.
@@ -17,13 +17,13 @@ pub enum RunFault {
     /// The output can't be written.
     #[error("cannot write")]
     Write,
-    /// A growth of the program's own was refused.
+    /// An allocation of the program itself fails.
     #[error("out of memory")]
     Memory,
 }
 
 impl RunFault {
-    /// Returns what a refused read is.
+    /// Returns the fault of a failed read.
     pub fn of_read(kind: ErrorKind) -> RunFault {
         match kind {
             ErrorKind::OutOfMemory => RunFault::Memory,
@@ -32,9 +32,9 @@ impl RunFault {
     }
 }
 
-/// An answer to a line.
+/// A result for a line.
 pub trait LineAnswer: fmt::Display + Drop {
-    /// Returns whether the line had a good form.
+    /// Returns whether the line was well-formed.
     fn has_good_form(&self) -> bool;
 }
 
@@ -50,28 +50,28 @@ impl LineAnswer for NormalAnswer {
     }
 }
 
-/// What answers lines.
+/// A source of results for lines.
 pub trait Answers {
     ghost use Rattle.std.specs.Prelude.{List, ℕ};
     ghost use Rattle.rasn_bench.specs.declared.normal_answer.NormalAnswer.{NormalAnswer};
 
-    /// The answers to lines.
+    /// The type of the results.
     type Answer: LineAnswer;
 
     ghost IsAnswer: { Self → List ℕ → Self.Answer → Type 0 };
 
     ghost IsNormalAnswer: { Self → List ℕ → NormalAnswer → Type 0 };
 
-    /// Returns the answer to a line without its line feed.
+    /// Returns the result for a line without its line feed.
     fn answer(&self, alloc: Global, line: &str) -> Result<Self::Answer, AllocError>
         ensures { IfOk result (IsAnswer self.now line.now) };
 
-    /// Returns the answer to a line without its line feed, by the DER octets of its value alone.
+    /// Returns the result for a line without its line feed: the DER octets of its value alone.
     fn normal_answer(&self, alloc: Global, line: &str) -> Result<NormalAnswer, AllocError>
         ensures { IfOk result (IsNormalAnswer self.now line.now) };
 }
 
-/// Answers lines by the types of this crate.
+/// The results for the types of this crate.
 #[derive(Clone, Copy, Debug, PartialEq, Eq, Drop)]
 pub struct WorkedTypes;
 
@@ -94,8 +94,9 @@ impl Answers for WorkedTypes {
     }
 }
 
-/// Answers each line of the input by a line of the output, an empty one by nothing, and returns whether none was
-/// malformed. A line ends by a line feed, the last one also by the end of input. One line is held at a time.
+/// Writes a line to the output for each line of the input, skipping empty ones. Returns whether all
+/// lines were well-formed. A line ends with a line feed, and the last one may end with the input.
+/// One line is held in memory at a time.
 pub fn run<R: BufRead, W: Write>(
     alloc: Global,
     input: &mut R,
@@ -104,7 +105,7 @@ pub fn run<R: BufRead, W: Write>(
     run_by(alloc, &WorkedTypes, false, input, output)
 }
 
-/// As `run`, but each line is answered by the DER octets of its value alone.
+/// Works like `run`, but writes only the DER octets of each line's value.
 pub fn run_normalise<R: BufRead, W: Write>(
     alloc: Global,
     input: &mut R,
@@ -113,7 +114,7 @@ pub fn run_normalise<R: BufRead, W: Write>(
     run_by(alloc, &WorkedTypes, true, input, output)
 }
 
-/// As `run`, by these answers, and as `run_normalise` if `normalises`.
+/// Works like `run`, or like `run_normalise` if `normalises`, with results from `answers`.
 pub fn run_by<A: Answers, R: BufRead, W: Write>(
     alloc: Global,
     answers: &A,
@@ -144,7 +145,7 @@ pub fn run_by<A: Answers, R: BufRead, W: Write>(
     }
 }
 
-/// A line without the line feed that ends it.
+/// Returns a line without the line feed that ends it.
 fn without_line_feed(line: &[u8]) -> &[u8] {
     match line {
         [text @ .., b'\n'] => text,
@@ -152,7 +153,7 @@ fn without_line_feed(line: &[u8]) -> &[u8] {
     }
 }
 
-/// Writes the answer to a line, and returns whether the line had a good form.
+/// Writes the result for a line, and returns whether the line was well-formed.
 fn answer_line<A: Answers, W: Write>(
     alloc: Global,
     answers: &A,
@@ -173,7 +174,7 @@ fn answer_line<A: Answers, W: Write>(
     }
 }
 
-/// Writes an answer as a line, and returns whether the line that it is to had a good form.
+/// Writes a result as a line, and returns whether the line that it belongs to was well-formed.
 fn write_answer<A: LineAnswer, W: Write>(output: &mut W, answer: &A) -> Result<bool, RunFault> {
     match writeln!(output, "{answer}") {
         Ok(()) => Ok(answer.has_good_form()),

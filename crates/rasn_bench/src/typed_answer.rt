@@ -1,4 +1,4 @@
-//! The types that a line may name, each in a line of one list, and answers that are of a type.
+//! The list of the types that a line may name, and results that depend on the type.
 ghost use Rattle.std.specs.Prelude.{List, ℕ};
 ghost use Rattle.rasn_types.specs.declared.types.codec.Codec.{Codec};
 ghost use Rattle.rasn_types.specs.Shapes.{Shape};
@@ -16,11 +16,12 @@ use rasn::types::{
 };
 use std::alloc::Global;
 
-/// Answers to octets that are read as a value of a type.
+/// A result of reading octets as a value of a type.
 pub(crate) trait TypedAnswer {
     ghost IsOfType: { Codec → Shape → List ℕ → List ℕ → Self → Type 0 };
 
-    /// The answer to these octets, read by the rule as a value of the type, which the program calls by this word.
+    /// Returns the result of reading these octets under the rule as a value of the type. `word` is
+    /// the program's word for the type.
     fn of_type<T: Decode + Encode + LawfulEq>(
         alloc: Global,
         rule: Codec,
@@ -30,7 +31,7 @@ pub(crate) trait TypedAnswer {
         ensures { IsOfType rule T.shape word.now octets.now result };
 }
 
-/// The answer to a request for these octets.
+/// Returns the result for a request with these octets.
 pub(crate) fn answer_to<A: TypedAnswer>(alloc: Global, request: Request<'_>, octets: &[u8]) -> A
     ensures { OfNamedType A.IsOfType request.entry.rule request.entry.value_type octets.now result }
 {

@@ -1,4 +1,4 @@
-//! Types as a user of the public crate writes them, with their proofs.
+//! Example types as users of the public crate write them, with their proofs.
 
 mod both;
 mod colour;

@@ -1,4 +1,4 @@
--- Whether octets are the one DER encoding of a value of a type.
+-- The check that octets are the one DER encoding of a value of a type.
 use Rattle.std.specs.Prelude.{ℕ, List}
 use Rattle.rasn_types.specs.declared.types.codec.Codec.{Codec}
 use Rattle.rasn_types.specs.declared.types.codec.Codec.TheVariants.{Der}
@@ -8,7 +8,7 @@ use Rattle.rasn_c.specs.Types.{IsShapeOf, IsUnknownType}
 use Rattle.rasn_c.specs.declared.status.Status.{Status}
 use Rattle.rasn_c.specs.declared.status.Status.TheVariants.{Ok, Refused, OutOfMemory, BufferTooSmall, UnknownType, UnknownRule}
 
--- What is answered of octets that are to be the one DER encoding of a value of the type of this number.
+-- The status of a check that octets are the one DER encoding of a value of the type with this number.
 abbrev pub AnswersCheck : ℕ → List ℕ → Status → Type 0
 AnswersCheck type octets Ok = (shape : Shape) × IsShapeOf type shape × IsNormal Der shape octets octets
 AnswersCheck type octets Refused = (shape : Shape) × IsShapeOf type shape × (IsNormal Der shape octets octets → ⊥)

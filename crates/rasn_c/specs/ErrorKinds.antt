@@ -1,4 +1,4 @@
--- The numbers of the kinds of errors in C: `soq_kind`. 0 is none's.
+-- The numbers of the kinds of errors in C: `soq_kind`. 0 means no error.
 use Rattle.std.specs.Prelude.{ℕ}
 use Rattle.rasn_types.specs.declared.error.decode.DecodeErrorKind.{DecodeErrorKind}
 use Rattle.rasn_types.specs.declared.error.decode.DecodeErrorKind.TheVariants as kind

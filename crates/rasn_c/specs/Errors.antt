@@ -1,4 +1,4 @@
--- Why octets aren't one value of a type, alone.
+-- The reason why octets aren't exactly one value of a type.
 use Rattle.std.specs.Prelude.{◌≡◌, ◌+◌, ◌⊎◌, ℕ, List, [], length}
 use Rattle.rasn_types.specs.declared.types.codec.Codec.{Codec}
 use Rattle.rasn_types.specs.declared.error.decode.DecodeError.{DecodeError}
@@ -22,7 +22,7 @@ use Rattle.rasn_c.specs.declared.status.Status.TheVariants.{Ok, Refused, OutOfMe
 abbrev pub IsAlone : Codec → Shape → List ℕ → Type 0
 IsAlone rule shape octets = (tree : Tree) × Exact (Reads rule shape 128 (top rule)) octets (Got tree [])
 
--- A value begins the octets, and others follow it from this offset on, which the error counts.
+-- The octets begin with a value, others follow it from this offset on, and the error reports how many.
 pub record IsFollowedAt (rule : Codec) (shape : Shape) (octets : List ℕ) (offset : ℕ) (e : DecodeError) : Type 0 where
   pub tree : Tree
   pub rest : List ℕ
@@ -30,32 +30,32 @@ pub record IsFollowedAt (rule : Codec) (shape : Shape) (octets : List ℕ) (offs
   pub offset_is : offset + length rest ≡ length octets
   pub extra : IsExtraData rule rest e
 
--- No value begins the octets, for this cause, by these rules; the value that would is at the offset 0.
+-- Under these rules the octets don't begin with a value, for the cause that the error has. The offset is 0.
 abbrev pub IsUnread : Codec → Shape → List ℕ → ℕ → DecodeError → Type 0
 IsUnread rule shape octets offset e = Exact (Reads rule shape 128 (top rule)) octets (refusal e.kind) × (offset ≡ 0) × (e.codec ≡ rule)
 
 abbrev pub IsRefusedAt : Codec → Shape → List ℕ → ℕ → DecodeError → Type 0
 IsRefusedAt rule shape octets offset e = IsFollowedAt rule shape octets offset e ⊎ IsUnread rule shape octets offset e
 
--- What octets are, read as a value of a shape by some rules.
+-- The result of reading octets as exactly one value of a shape under these rules.
 abbrev pub IsReading : Codec → Shape → List ℕ → Reading → Type 0
 IsReading rule shape octets Alone = IsAlone rule shape octets
 IsReading rule shape octets (RefusedAt offset error) = IsRefusedAt rule shape octets offset error
 
--- There is nothing to tell.
+-- There is nothing to report: all fields are 0.
 pub record IsNoFault (fault : Fault) : Type 0 where
   pub kind : fault.kind ≡ 0
   pub offset : fault.offset ≡ 0
   pub text_length : fault.text_length ≡ 0
 
--- The octets are refused for an error, which isn't that memory ran out, and the fault has its kind and its offset.
+-- The octets are refused for an error other than a failed allocation, and the fault has its kind and offset.
 pub record IsTold (rule : Codec) (shape : Shape) (octets : List ℕ) (fault : Fault) : Type 0 where
   pub error : DecodeError
   pub refused : IsRefusedAt rule shape octets fault.offset error
   pub memory : IsOutOfMemory error.kind → ⊥
   pub kind : fault.kind ≡ kind_number error.kind
 
--- What is answered of octets that are to be one value, alone, as the type and by the rules of these numbers.
+-- The status and fault of a call that reads octets as exactly one value, with the numbers of a type and of rules.
 abbrev pub AnswersError : ℕ → ℕ → List ℕ → Fault → Status → Type 0
 AnswersError type number octets fault Ok = ((rule : Codec) × (shape : Shape) × Asks type number shape rule × IsAlone rule shape octets) × IsNoFault fault
 AnswersError type number octets fault Refused = (rule : Codec) × (shape : Shape) × Asks type number shape rule × IsTold rule shape octets fault
@@ -64,7 +64,7 @@ AnswersError type number octets fault UnknownType = IsUnknownType type × IsNoFa
 AnswersError type number octets fault UnknownRule = IsUnknownRule number × IsNoFault fault
 AnswersError type number octets fault BufferTooSmall = ⊥
 
--- The buffer holds a text of this length, cut where it doesn't fit.
+-- The buffer holds a text of the length that the fault reports, truncated if it doesn't fit.
 pub record HoldsText (fault : Fault) (old new : List ℕ) : Type 0 where
   pub text : List ℕ
   pub long : fault.text_length ≡ length text

@@ -1,4 +1,4 @@
--- The one encoding that DER has of what octets mean, in a caller's buffer.
+-- The one DER encoding of the value that octets encode, in a caller's buffer.
 use Rattle.std.specs.Prelude.{◌≡◌, ◌<◌, ◌≤◌, ℕ, List, length}
 use Rattle.rasn_types.specs.declared.types.codec.Codec.{Codec}
 use Rattle.rasn_types.specs.Shapes.{Shape}
@@ -9,17 +9,17 @@ use Rattle.rasn_c.specs.Buffers.{written_over}
 use Rattle.rasn_c.specs.declared.status.Status.{Status}
 use Rattle.rasn_c.specs.declared.status.Status.TheVariants.{Ok, Refused, OutOfMemory, BufferTooSmall, UnknownType, UnknownRule}
 
--- What a call asks for by its numbers: a type and rules.
+-- The type and the rules that a call names by their numbers.
 pub record Asks (type number : ℕ) (shape : Shape) (rule : Codec) : Type 0 where
   pub shape_is : IsShapeOf type shape
   pub rule_is : number ≡ rule_number rule
 
--- The buffer as it was, and no length.
+-- The buffer is unchanged, and the length is 0.
 pub record IsUntouched (old new : List ℕ) (needed : ℕ) : Type 0 where
   pub same : new ≡ old
   pub none : needed ≡ 0
 
--- What is answered of the DER octets: they are in the buffer, or don't fit there, or there are none.
+-- The status of normalising octets: their DER octets are in the buffer, or don't fit in it, or there are none.
 abbrev pub AnswersNormalise : ℕ → ℕ → List ℕ → List ℕ → List ℕ → ℕ → Status → Type 0
 AnswersNormalise type number octets old new needed Ok = (rule : Codec) × (shape : Shape) × (normal : List ℕ) × Asks type number shape rule × IsNormal rule shape octets normal
     × (needed ≡ length normal) × (needed ≤ length old) × (new ≡ written_over normal old)

@@ -1,4 +1,4 @@
--- What a function answers, and its number in C: `soq_status`.
+-- The status that a function returns, and its number in C: `soq_status`.
 use Rattle.std.specs.Prelude.{◌≡◌, ℕ}
 use Rattle.rasn_c.specs.declared.status.Status.{Status}
 use Rattle.rasn_c.specs.declared.status.Status.TheVariants.{Ok, Refused, OutOfMemory, BufferTooSmall, UnknownType, UnknownRule}
@@ -11,7 +11,7 @@ status_number BufferTooSmall = 3
 status_number UnknownType = 4
 status_number UnknownRule = 5
 
--- The number is a status's of which this is so.
+-- The number is that of a status for which `Is` holds.
 pub record IsNumberOf (Is : Status → Type 0) (number : ℕ) : Type 0 where
   pub status : Status
   pub numbered : number ≡ status_number status

@@ -1,4 +1,4 @@
--- The types that a caller may ask for, and their numbers in C: `soq_type`.
+-- The types that a caller may name, and their numbers in C: `soq_type`.
 use Rattle.std.specs.Prelude.{◌≡◌, ◌≤◌, ℕ, List, [], ◌∷◌, Some, None, length, slice_get}
 use Rattle.rasn_types.specs.declared.types.codec.Codec.{Codec}
 use Rattle.rasn_types.specs.Tags.{in_universal}
@@ -11,7 +11,7 @@ use Rattle.rasn_pki.specs.Cms.Message.{signed_message_shape}
 use Rattle.rasn_snmp.specs.CommunityMessage.{message_shape}
 use Rattle.rasn_ldap.specs.Message.{ldap_message_shape}
 
--- the shapes of the types, in the order of their numbers from 0 on
+-- the shapes of the types, in the order of their numbers, beginning with 0
 abbrev pub numbered_shapes : List Shape
 numbered_shapes =
     leaf boolean (in_universal 1) unconstrained
@@ -37,10 +37,10 @@ numbered_shapes =
 abbrev pub IsShapeOf : ℕ → Shape → Type 0
 IsShapeOf number shape = slice_get numbered_shapes number ≡ Some shape
 
--- the number is beyond the list
+-- no type has the number
 abbrev pub IsUnknownType : ℕ → Type 0
 IsUnknownType number = length numbered_shapes ≤ number
 
--- What is so of a rule, a shape, octets and an answer, of the shape of the type of this number.
+-- The relation `Is` of a rule, octets and a result, for the shape of the type with this number.
 abbrev pub OfType : {A : Type 0} → (Codec → Shape → List ℕ → A → Type 0) → ℕ → Codec → List ℕ → A → Type 0
 OfType Is number rule octets answer = (shape : Shape) × IsShapeOf number shape × Is rule shape octets answer

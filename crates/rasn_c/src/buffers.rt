@@ -1,7 +1,8 @@
-//! Octets that are put into a caller's buffer.
+//! Functions that write octets to a caller's buffer.
 ghost use Rattle.rasn_c.specs.Buffers.{IsPut, IsCutInto};
 
-/// Puts the octets at the front of the buffer where they fit, and else nothing. Answers whether they fit.
+/// Writes the octets to the front of the buffer if they fit, and nothing otherwise. Returns whether
+/// they fit.
 pub(crate) fn put(octets: &[u8], buffer: &mut [u8]) -> bool
     ensures { IsPut octets.now buffer.old result buffer.new }
 {
@@ -12,7 +13,8 @@ pub(crate) fn put(octets: &[u8], buffer: &mut [u8]) -> bool
     true
 }
 
-/// Puts as much of the text as fits at the front of the buffer, and a zero behind it. An empty buffer stays.
+/// Writes as much of the text as fits to the front of the buffer, followed by a zero. An empty
+/// buffer is unchanged.
 pub(crate) fn put_text(text: &str, buffer: &mut [u8])
     ensures { IsCutInto text.now buffer.old buffer.new }
 {

@@ -1,4 +1,4 @@
-//! Whether octets are the one DER encoding of a value.
+//! The check that octets are the one DER encoding of a value.
 ghost use Rattle.rasn_c.specs.Status.{IsNumberOf};
 ghost use Rattle.rasn_c.specs.Canonical.{AnswersCheck};
 
@@ -18,7 +18,7 @@ impl TypedAnswer for Result<bool, AllocError> {
 
     ghost IsOfType = { λ rule shape octets answer. IfOk answer (λ is. IsWhether is (IsNormal Der shape octets octets)) };
 
-    /// Whether the octets are the one DER encoding of a value of the type.
+    /// Returns whether the octets are the one DER encoding of a value of the type.
     fn of_type<T: Decode + Encode + LawfulEq>(
         alloc: Global,
         _rule: Codec,
@@ -28,7 +28,8 @@ impl TypedAnswer for Result<bool, AllocError> {
     }
 }
 
-/// Whether the octets are the one DER encoding of a value of the type of this number, as `der::is_canonical` answers.
+/// Returns the status of the check that the octets are the one DER encoding of a value of the type
+/// with this number. The result is that of `der::is_canonical`.
 #[unsafe(no_mangle)]
 pub extern "C" fn soq_proved_check(alloc: Global, type_number: u32, octets: &[u8]) -> u32
     ensures { IsNumberOf (AnswersCheck type_number octets.now) result }

@@ -4,7 +4,7 @@ ghost use Rattle.rasn_c.specs.ErrorKinds.{kind_number, ber_kind_number, der_kind
 
 use rasn::error::{BerDecodeErrorKind, CodecDecodeError, DecodeErrorKind, DerDecodeErrorKind};
 
-/// The number of the innermost kind of a refused read. The header has it as `soq_kind`.
+/// Returns the number of the innermost kind of a decoding error: a `soq_kind` of the header.
 pub(crate) fn kind_number(kind: &DecodeErrorKind) -> u32
     ensures { result ≡ kind_number kind.now }
 {

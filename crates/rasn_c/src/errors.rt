@@ -1,4 +1,4 @@
-//! Why octets aren't one value.
+//! The reason why octets aren't one value.
 ghost use Rattle.std.specs.Prelude.{◌≡◌, length, string_bytes};
 ghost use Rattle.rasn_c.specs.Status.{IsNumberOf};
 ghost use Rattle.rasn_c.specs.declared.status.Status.TheVariants.{Refused};
@@ -12,20 +12,20 @@ use crate::status::Status;
 use crate::types::answer_of;
 use std::alloc::Global;
 
-/// Why octets aren't one value: the number of the error's kind, 0 for none, the offset of what follows the value or of the value that isn't
-/// read, and how long the text is that says so. The header has it as `soq_fault`.
+/// The reason why octets aren't one value: `soq_fault` of the header.
 #[repr(C)]
 #[derive(Clone, Copy, Debug, PartialEq, Eq)]
 pub struct Fault {
-    /// The number of the error's kind, 0 for none.
+    /// The number of the error's kind; 0 if there is no error.
     pub kind: u32,
-    /// Where what follows the value begins, in octets; 0 where no value is read.
+    /// The offset of the octets that follow the value; 0 if no value is read.
     pub offset: usize,
-    /// How many octets the text has that says so.
+    /// The number of octets of the error's text.
     pub text_length: usize,
 }
 
-/// Says why the octets aren't one value, alone, of the type and by the rules of these numbers. `buffer` takes the text.
+/// Reports why the octets aren't exactly one value. The type and the rules are given by their
+/// numbers, and `buffer` receives the text.
 #[unsafe(no_mangle)]
 pub extern "C" fn soq_proved_decode_error(
     alloc: Global,
@@ -44,7 +44,7 @@ pub extern "C" fn soq_proved_decode_error(
     told.status.number()
 }
 
-/// What is told of octets.
+/// The result for octets: a status, the fault, and its text.
 #[derive(Debug, Drop)]
 struct Told {
     status: Status,
@@ -53,7 +53,7 @@ struct Told {
 }
 
 impl Told {
-    /// The status alone.
+    /// Returns a result that has a status alone.
     fn without_fault(alloc: Global, status: Status) -> Told
         ensures status { result.status ≡ status }
         ensures none { IsNoFault result.fault }
@@ -70,7 +70,8 @@ impl Told {
         }
     }
 
-    /// That they aren't read from the offset on, for the cause of this number.
+    /// Returns the result for octets that are refused from the offset on, for the cause of this
+    /// number.
     fn refused(kind: u32, offset: usize, text: String) -> Told
         ensures status { result.status ≡ Refused }
         ensures kind { result.fault.kind ≡ kind }
@@ -89,7 +90,8 @@ impl Told {
     }
 }
 
-/// Why the octets aren't one value, alone, of the type and by the rules of these numbers.
+/// Returns the reason why the octets aren't exactly one value. The type and the rules are given by
+/// their numbers.
 fn tell(alloc: Global, type_number: u32, rule: u32, octets: &[u8]) -> Told
     ensures answer { AnswersError type_number rule octets.now result.fault result.status }
     ensures text { result.fault.text_length ≡ length (string_bytes result.text) }

@@ -1,7 +1,9 @@
-//! Functions for C: one whole encoding is passed, octets are checked for being the one DER encoding of a value, brought into it, or told
-//! why they aren't read. Each answers what the call in Rust answers that it is named for; `include/soqavise.h` has them for C.
+//! Functions for C: they skip one whole encoding, check that octets are the one DER encoding of a
+//! value, normalise octets to DER, or report why octets aren't read. Each returns what the call in
+//! Rust that it is named after returns; `include/soqavise.h` declares them for C.
 //!
-//! A slice is a pointer, which isn't null, and a length. None of the slices and results of a call may overlap one that is written.
+//! A slice is a pointer that isn't null, and a length. Memory that a call writes must not overlap
+//! any other slice or result of the call.
 #![tactic(auto)]
 
 mod buffers;

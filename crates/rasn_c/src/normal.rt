@@ -1,4 +1,4 @@
-//! From an encoding of any of the three rules to the one that DER has.
+//! Conversion of an encoding under any of the three rules to that of DER.
 ghost use Rattle.rasn_c.specs.Status.{IsNumberOf};
 ghost use Rattle.rasn_c.specs.Normal.{AnswersNormalise};
 
@@ -18,7 +18,7 @@ impl TypedAnswer for Result<Vec<u8>, NormaliseError> {
 
     ghost IsOfType = { λ rule shape input answer. MatchResult answer (λ octets. IsNormal rule shape input octets.items) (IsNoNormal rule shape input) };
 
-    /// The DER octets of what all of the octets mean.
+    /// Returns the DER octets of the value that all of the octets encode.
     fn of_type<T: Decode + Encode + LawfulEq>(
         alloc: Global,
         rule: Codec,
@@ -28,8 +28,9 @@ impl TypedAnswer for Result<Vec<u8>, NormaliseError> {
     }
 }
 
-/// Puts the DER octets of what all of the octets mean into the buffer, as the type and by the rules of these numbers, as `normalise`
-/// answers them. `needed` is how many they are, also where the buffer has less room, and then stays as it was.
+/// Writes the DER octets of the value that all of the octets encode to the buffer, as `normalise`
+/// returns them. The type and the rules are given by their numbers. `needed` is the number of DER
+/// octets, also if the buffer is smaller; the buffer is then unchanged.
 #[unsafe(no_mangle)]
 pub extern "C" fn soq_proved_normalise(
     alloc: Global,

@@ -1,4 +1,4 @@
-//! What octets are, read as one value.
+//! The reading of octets as one value.
 
 use crate::types::TypedAnswer;
 use rasn::de::Decode;
@@ -7,12 +7,13 @@ use rasn::error::DecodeError;
 use rasn::types::{Codec, LawfulEq};
 use std::alloc::Global;
 
-/// What octets are, read as a value of a type by some rules.
+/// The result of reading octets as one value of a type.
 #[derive(Debug, Drop)]
 pub enum Reading {
-    /// One value, alone.
+    /// All of the octets are one value.
     Alone,
-    /// They aren't, for this error. What follows the value begins at the offset, or the value that isn't read.
+    /// They aren't, for this error. The offset is that of the octets after the value, or 0 if no
+    /// value is read.
     Refused { offset: usize, error: DecodeError },
 }
 
@@ -21,7 +22,7 @@ impl TypedAnswer for Reading {
 
     ghost IsOfType = { IsReading };
 
-    /// Reads a value, and sees whether octets follow it.
+    /// Reads a value, and checks whether octets follow it.
     fn of_type<T: Decode + Encode + LawfulEq>(
         alloc: Global,
         rule: Codec,

@@ -4,7 +4,7 @@ ghost use Rattle.rasn_c.specs.Rules.{rule_number, IsUnknownRule};
 
 use rasn::types::Codec;
 
-/// The rules of this number. The header has them as `soq_rule`.
+/// Returns the rules of this number: a `soq_rule` of the header.
 pub(crate) fn rule_numbered(number: u32) -> Option<Codec>
     ensures { MatchOption result (IsUnknownRule number) (λ rule. number ≡ rule_number rule) }
 {

@@ -1,4 +1,4 @@
-//! Passing one whole encoding.
+//! Skipping one whole encoding.
 ghost use Rattle.rasn_c.specs.Status.{IsNumberOf};
 ghost use Rattle.rasn_c.specs.Skipping.{AnswersSkip};
 
@@ -8,17 +8,18 @@ use rasn::Decoder;
 use rasn::ber::de::DecoderOptions;
 use std::alloc::Global;
 
-/// One whole encoding that was passed: how many octets it has, and in how many steps it was passed. The header has it as `soq_passed`.
+/// One whole encoding that was skipped: `soq_passed` of the header.
 #[repr(C)]
 #[derive(Clone, Copy, Debug, PartialEq, Eq)]
 pub struct Passed {
-    /// How many octets it has.
+    /// The number of octets of the encoding.
     pub consumed: usize,
-    /// In how many steps it was passed.
+    /// The number of steps that skipping the encoding took.
     pub steps: usize,
 }
 
-/// Passes the one whole encoding at the front of the octets by the rules of this number, as `Decoder::skip_value` does.
+/// Skips the one whole encoding at the front of the octets under the rules of this number, as
+/// `Decoder::skip_value` does.
 #[unsafe(no_mangle)]
 pub extern "C" fn soq_proved_skip(
     alloc: Global,

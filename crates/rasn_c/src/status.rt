@@ -1,17 +1,17 @@
-//! What a function answers.
+//! The status that a function returns.
 ghost use Rattle.std.specs.Prelude.{◌≡◌};
 ghost use Rattle.rasn_c.specs.Status.{status_number};
 
-/// What a function answers. The header has it as `soq_status`.
+/// The status that a function returns: `soq_status` of the header.
 #[derive(Clone, Copy, Debug, PartialEq, Eq)]
 pub enum Status {
-    /// The octets are what they are asked for.
+    /// The octets are what the call asks for.
     Ok,
-    /// They aren't.
+    /// The octets aren't what the call asks for.
     Refused,
-    /// A growth of memory was refused.
+    /// An allocation failed.
     OutOfMemory,
-    /// What is answered has more octets than the buffer.
+    /// The result has more octets than the buffer.
     BufferTooSmall,
     /// No type has the number.
     UnknownType,
@@ -20,7 +20,7 @@ pub enum Status {
 }
 
 impl Status {
-    /// Its number in C.
+    /// Returns the number of the status in C.
     pub fn number(self) -> u32
         ensures { result ≡ status_number self }
     {

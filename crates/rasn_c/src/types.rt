@@ -1,4 +1,4 @@
-//! The types that a caller may ask for, each in a line of one list, and answers that are of a type.
+//! The list of the types that a caller may name, and results that depend on the type.
 ghost use Rattle.std.specs.Prelude.{List, ℕ, MatchOption};
 ghost use Rattle.rasn_types.specs.declared.types.codec.Codec.{Codec};
 ghost use Rattle.rasn_types.specs.Shapes.{Shape};
@@ -18,16 +18,17 @@ use rasn_pki::x509::revocation::CertificateList;
 use rasn_snmp::Message;
 use std::alloc::Global;
 
-/// Answers to octets that are read as a value of a type.
+/// A result of reading octets as a value of a type.
 pub(crate) trait TypedAnswer {
     ghost IsOfType: { Codec → Shape → List ℕ → Self → Type 0 };
 
-    /// The answer to these octets, by these rules.
+    /// Returns the result for these octets under this rule.
     fn of_type<T: Decode + Encode + LawfulEq>(alloc: Global, rule: Codec, octets: &[u8]) -> Self
         ensures { IsOfType rule T.shape octets.now result };
 }
 
-/// The answer to these octets, by these rules, as the type of this number, where there is one. The header has the numbers as `soq_type`.
+/// Returns the result for these octets under this rule, as the type of this number; `None` if there
+/// is no such type. The number is a `soq_type` of the header.
 pub(crate) fn answer_of<A: TypedAnswer>(
     alloc: Global,
     number: u32,

@@ -1,4 +1,5 @@
-//! What the tests share: calls whose answers are told as text or as octets, and rows of octets, rules and answers.
+//! Functions that the tests share: rows of octets, rules and results, and assertions on results as
+//! text or as octets.
 
 use rasn::de::Decode;
 use rasn::enc::Encode;
@@ -9,25 +10,25 @@ use std::alloc::{AllocError, Global};
 use std::fmt::Debug;
 use std::process::Abort;
 
-/// Octets, the rules they are read by, and the text of the value or of the error's kind.
+/// Octets, the rules to read them by, and the text of the value or of the error's kind.
 pub type Answer<'octets> = (&'octets [u8], Codec, &'static str);
 
-/// Octets, the rules they are read by, those that the value is written by, and what is written.
+/// Octets, the rules to read them by, the rules to write the value by, and the octets written.
 pub type Rewritten<'octets> = (&'octets [u8], Codec, Codec, &'octets [u8]);
 
-/// A value as text.
+/// Returns the value as text.
 pub fn debug_text<T: Debug>(alloc: Global, value: &T) -> Result<String, AllocError> {
     format!(in alloc; "{value:?}")
 }
 
-/// Asserts that each of these is true.
+/// Asserts that all facts are true.
 pub fn assert_facts(rt: &impl Abort, facts: &[bool]) {
     for (place, fact) in facts.iter().enumerate() {
         assert!(rt; *fact, "{place}");
     }
 }
 
-/// The value that a call answers, which has to be one.
+/// Returns the value of a call. Panics if the call failed.
 pub fn value<T>(rt: &impl Abort, answer: Result<T, DecodeError>) -> T {
     match answer {
         Ok(value) => value,
@@ -43,7 +44,7 @@ pub fn assert_output(rt: &impl Abort, answer: Result<Vec<u8>, EncodeError>, octe
     }
 }
 
-/// The message that a call answers, behind which these octets have to be left.
+/// Returns the message of a call, and asserts that the octets after it are `behind`.
 pub fn ahead_of<T>(
     rt: &impl Abort,
     answer: Result<(T, &[u8]), DecodeError>,
@@ -58,7 +59,7 @@ pub fn ahead_of<T>(
     }
 }
 
-/// Asserts that a call answers a value with these parts.
+/// Asserts that a call returns a value that `has_parts` accepts.
 pub fn assert_has<T: Drop, F: Fn(&T) -> bool>(
     rt: &impl Abort,
     answer: Result<T, DecodeError>,
@@ -70,7 +71,7 @@ pub fn assert_has<T: Drop, F: Fn(&T) -> bool>(
     assert!(rt; has_parts(&value));
 }
 
-/// Asserts that a call answers a value, of which `write` writes these octets.
+/// Asserts that a call returns a value that `write` encodes as these octets.
 pub fn assert_written_as<T: Drop, W: Fn(Global, &T) -> Result<Vec<u8>, EncodeError>>(
     rt: &impl Abort,
     alloc: Global,
@@ -84,7 +85,8 @@ pub fn assert_written_as<T: Drop, W: Fn(Global, &T) -> Result<Vec<u8>, EncodeErr
     assert_output(rt, write(alloc, &value), octets);
 }
 
-/// Asserts that a call answers a value, and that what `write` writes of it is read by `read` as the same value.
+/// Asserts that a call returns a value that `read` reads back from the encoding that `write` makes
+/// of it.
 pub fn assert_read_back<
     T: PartialEq + Drop,
     W: Fn(Global, &T) -> Result<Vec<u8>, EncodeError>,
@@ -100,7 +102,8 @@ pub fn assert_read_back<
     }
 }
 
-/// The value that the octets begin with, by the entry point of these rules.
+/// Decodes the value that the octets begin with, by the entry point `decode` of these rules. Only
+/// that of DER refuses further octets.
 pub fn decoded<T: Decode>(alloc: Global, rules: Codec, octets: &[u8]) -> Result<T, DecodeError> {
     match rules {
         Codec::Ber => ber::decode(alloc, octets),
@@ -109,7 +112,7 @@ pub fn decoded<T: Decode>(alloc: Global, rules: Codec, octets: &[u8]) -> Result<
     }
 }
 
-/// The value's octets, by the entry point of these rules.
+/// Encodes the value with the entry point of these rules.
 fn encoded<T: Encode>(alloc: Global, rules: Codec, value: &T) -> Result<Vec<u8>, EncodeError> {
     match rules {
         Codec::Ber => ber::encode(alloc, value),
@@ -118,7 +121,8 @@ fn encoded<T: Encode>(alloc: Global, rules: Codec, value: &T) -> Result<Vec<u8>,
     }
 }
 
-/// The text of a value or of an error's kind; that of an error under other rules is one that no kind has.
+/// Returns the text of a value or of an error's kind; for an error under other rules, a text that
+/// no kind has.
 fn answer_text<T: Debug>(
     alloc: Global,
     rules: Codec,
@@ -131,7 +135,7 @@ fn answer_text<T: Debug>(
     }
 }
 
-/// Asserts what the entry point reads each row's octets as.
+/// Asserts the result of the entry point for the octets of each row.
 pub fn assert_decodes<T: Decode + Debug + Drop>(
     rt: &impl Abort,
     alloc: Global,
@@ -146,7 +150,7 @@ pub fn assert_decodes<T: Decode + Debug + Drop>(
     }
 }
 
-/// What is written of the value that is read, if it is read and written.
+/// Returns the encoding of the value that is read, if it is read and written.
 fn rewritten<T: Decode + Encode>(
     alloc: Global,
     octets: &[u8],
@@ -157,7 +161,8 @@ fn rewritten<T: Decode + Encode>(
     encoded(alloc, to, &value).ok()
 }
 
-/// Asserts that each row's octets are read, and that the value is written as the row's other octets.
+/// Asserts that the octets of each row are read, and that the value is written as the row's other
+/// octets.
 pub fn assert_rewrites<T: Decode + Encode>(rt: &impl Abort, alloc: Global, rows: &[Rewritten<'_>]) {
     for (octets, from, to, written) in rows {
         match rewritten::<T>(alloc, octets, *from, *to) {

@@ -1,5 +1,5 @@
-//! The tests of messages, with octets that others made. They stand in a crate of their own, so that the tests of the library needn't wait
-//! for the messages.
+//! The tests of messages, with octets made by other programs. They are in a separate crate, so that
+//! the tests of the library needn't wait for the messages.
 #![tactic(auto)]
 
 #[cfg(test)]

@@ -1,4 +1,4 @@
-//! Messages of the standards, as others made them.
+//! Messages of the standards, made by other programs.
 
 mod certificate;
 mod choices;

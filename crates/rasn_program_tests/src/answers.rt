@@ -1,4 +1,4 @@
-//! What the program that shows messages answers.
+//! Runs of the program that shows messages.
 
 use crate::faults::arguments;
 use rasn_text::{RunFault, call_of, run};
@@ -6,7 +6,8 @@ use std::alloc::Global;
 use std::io::{Read, Write};
 use std::str;
 
-/// Whether the call with these words is answered so: by whether the input is a message, the output, and what is said of a refusal.
+/// Returns whether the run with these arguments accepts or refuses the input as `is_message` says,
+/// and writes this output and this text of a refusal.
 pub(crate) fn is_answered(
     alloc: Global,
     words: &[&str],
@@ -23,7 +24,7 @@ pub(crate) fn is_answered(
         && refusals.as_slice() == refusal.as_bytes()
 }
 
-/// Whether this line is in the output of the call with these words.
+/// Returns whether this line is in the output of the run with these arguments.
 pub(crate) fn has_line(alloc: Global, words: &[&str], input: &[u8], line: &str) -> bool {
     let mut output = Vec::new(alloc);
     let mut refusals = Vec::new(alloc);
@@ -37,7 +38,7 @@ pub(crate) fn has_line(alloc: Global, words: &[&str], input: &[u8], line: &str) 
     }
 }
 
-/// What the call with these words answers; none where it isn't one.
+/// Returns the result of the run with these arguments; `None` if they aren't well-formed.
 pub(crate) fn answer<R: Read, W: Write, E: Write>(
     alloc: Global,
     words: &[&str],

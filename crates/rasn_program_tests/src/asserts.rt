@@ -1,15 +1,15 @@
-//! What the tests share.
+//! Functions that the tests share.
 
 use std::alloc::{AllocError, Global};
 use std::fmt::Debug;
 use std::process::Abort;
 
-/// A value as text.
+/// Returns the value as text.
 pub fn debug_text<T: Debug>(alloc: Global, value: &T) -> Result<String, AllocError> {
     format!(in alloc; "{value:?}")
 }
 
-/// Asserts that the text is this one.
+/// Asserts that `found` is this text.
 pub fn assert_text(rt: &impl Abort, found: Result<String, AllocError>, text: &str) {
     match found {
         Ok(found) => assert_eq!(rt; found.as_str(), text),
@@ -17,14 +17,14 @@ pub fn assert_text(rt: &impl Abort, found: Result<String, AllocError>, text: &st
     }
 }
 
-/// Asserts that each of these is true.
+/// Asserts that all facts are true.
 pub fn assert_facts(rt: &impl Abort, facts: &[bool]) {
     for (place, fact) in facts.iter().enumerate() {
         assert!(rt; *fact, "{place}");
     }
 }
 
-/// The octets with another one at this place.
+/// Returns the octets with the one at this index replaced.
 pub fn spoilt(rt: &impl Abort, alloc: Global, octets: &[u8], at: usize, octet: u8) -> Vec<u8> {
     let Ok(mut copy) = Vec::from_slice(alloc, octets) else {
         rt.abort()

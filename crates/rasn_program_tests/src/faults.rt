@@ -5,7 +5,7 @@ use rasn_bench::{RunFault, file_of, run};
 use std::alloc::{AllocError, Global};
 use std::io::{self, BufRead, BufReader, Error, ErrorKind, Read, Write};
 
-/// A reader of some octets that then fails.
+/// A reader that returns some octets and then fails.
 #[derive(Drop)]
 pub(crate) struct Failing<'octets> {
     pub(crate) before: &'octets [u8],
@@ -35,14 +35,14 @@ impl Write for Full {
     }
 }
 
-/// Whether the work stops with this fault after a good line was answered.
+/// Returns whether the program stops with this fault after the result of a well-formed line.
 fn stops<R: BufRead>(alloc: Global, input: &mut R, fault: RunFault) -> bool {
     let mut output = Vec::new(alloc);
     run(alloc, input, &mut output) == Err(fault)
         && output.as_slice() == b"BOOLEAN 0 010100\n".as_slice()
 }
 
-/// Whether the work stops with this fault where the reader fails after a good line.
+/// Returns whether the program stops with this fault if the reader fails after a well-formed line.
 fn is_stopped(alloc: Global, kind: ErrorKind, fault: RunFault) -> bool {
     let before = b"ber bool 010100\nber";
     match BufReader::new(alloc, Failing { before, kind }) {
@@ -75,7 +75,7 @@ fn failing_writers_are_faults(rt: HostRuntime) {
     assert!(rt; run(rt.alloc(), &mut input, &mut Full) == Err(RunFault::Write));
 }
 
-/// The words as arguments of the program.
+/// Returns the words as arguments of the program.
 pub(crate) fn arguments(alloc: Global, words: &[&str]) -> Result<Vec<String>, AllocError> {
     let mut arguments = Vec::new(alloc);
     for word in words {
@@ -84,7 +84,7 @@ pub(crate) fn arguments(alloc: Global, words: &[&str]) -> Result<Vec<String>, Al
     Ok(arguments)
 }
 
-/// Whether the arguments name this file, and ask to normalise exactly if `normalises`.
+/// Returns whether the arguments name this file, and ask to normalise exactly if `normalises`.
 fn are_read(alloc: Global, words: &[&str], normalises: bool, file: Option<&str>) -> bool {
     match arguments(alloc, words) {
         Ok(arguments) => file_of(&arguments) == Ok((normalises, file)),
@@ -92,7 +92,7 @@ fn are_read(alloc: Global, words: &[&str], normalises: bool, file: Option<&str>)
     }
 }
 
-/// Whether the arguments are refused with the text of the usage.
+/// Returns whether the arguments are refused with the text of the usage.
 fn are_refused(alloc: Global, words: &[&str]) -> bool {
     let Ok(arguments) = arguments(alloc, words) else {
         return false;

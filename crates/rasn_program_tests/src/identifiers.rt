@@ -1,9 +1,9 @@
-//! The names of object identifiers in texts, each by a row with the arcs that its standard gives.
+//! The names of object identifiers in texts. Each row has the arcs that its standard gives.
 
 use crate::answers::has_line;
 use std::alloc::{AllocError, Global};
 
-/// The contents octets of an identifier (X.690 8.19), and how it is shown.
+/// The contents octets of an object identifier (X.690 8.19), and the text that is shown for it.
 type Row = (&'static [u8], &'static str);
 
 const IDENTIFIERS: &[Row] = &[
@@ -52,7 +52,7 @@ const IDENTIFIERS: &[Row] = &[
         b"\x2A\x86\x48\x86\xF7\x0D\x01\x01\x0E",
         "sha224WithRSAEncryption (1.2.840.113549.1.1.14)",
     ),
-    // Contents of signed messages (RFC 5652).
+    // Content types of signed messages (RFC 5652).
     (
         b"\x2A\x86\x48\x86\xF7\x0D\x01\x07\x01",
         "id-data (1.2.840.113549.1.7.1)",
@@ -199,7 +199,7 @@ const IDENTIFIERS: &[Row] = &[
         b"\x2B\x06\x01\x04\x01\xD6\x79\x02\x04\x02",
         "signedCertificateTimestampList (1.3.6.1.4.1.11129.2.4.2)",
     ),
-    // Purposes of keys (RFC 5280, 4.2.1.12).
+    // Key purposes (RFC 5280, 4.2.1.12).
     (
         b"\x2B\x06\x01\x05\x05\x07\x03\x01",
         "id-kp-serverAuth (1.3.6.1.5.5.7.3.1)",
@@ -226,14 +226,15 @@ const IDENTIFIERS: &[Row] = &[
     ),
 ];
 
-/// A value of this tag with these contents, which are fewer than 128 octets.
+/// Appends a value of this tag with these contents, which are shorter than 128 octets.
 fn put(octets: &mut Vec<u8>, tag: u8, contents: &[u8]) -> Result<(), AllocError> {
     octets.push(tag)?;
     octets.push(u8::try_from(contents.len()).unwrap_or(u8::MAX))?;
     octets.extend_from_slice(contents)
 }
 
-/// A revocation list of nobody, signed by an algorithm of this identifier: `CertificateList` of RFC 5280, 5.1.
+/// Returns a revocation list with an empty issuer, whose signature algorithm has this identifier:
+/// `CertificateList` of RFC 5280, 5.1.
 fn list_signed_by(alloc: Global, identifier: &[u8]) -> Result<Vec<u8>, AllocError> {
     let mut algorithm = Vec::new(alloc);
     put(&mut algorithm, 0x06, identifier)?;

@@ -7,11 +7,13 @@ use rasn_samples::request::REQUEST;
 use rasn_samples::revocation::REVOCATION_LIST;
 use std::alloc::Global;
 
-// Made by OpenSSL 3.0: `openssl req -x509 -new -key k.pem -config c.cnf -set_serial 0x1234 -days 3650 -outform DER`, of a key on Ed25519, with the
-// extensions basicConstraints=critical,CA:TRUE,pathlen:3, keyUsage=critical,keyCertSign,cRLSign,decipherOnly, extendedKeyUsage=serverAuth,1.2.3.4,
-// subjectKeyIdentifier=hash, authorityKeyIdentifier=keyid:always,issuer:always, subjectAltName of otherName:1.2.3.4;UTF8:x, email:a@example.org,
-// DNS:example.org, dirName of C = DE, CN = x,y, URI:http://example.org/, IP:192.0.2.1, RID:1.2.3.4, issuerAltName=IP:2001:db8::1 and
-// certificatePolicies=2.5.29.32.0.
+// Made by OpenSSL 3.0: `openssl req -x509 -new -key k.pem -config c.cnf -set_serial 0x1234 -days
+// 3650 -outform DER`, with an Ed25519 key and the extensions
+// basicConstraints=critical,CA:TRUE,pathlen:3, keyUsage=critical,keyCertSign,cRLSign,decipherOnly,
+// extendedKeyUsage=serverAuth,1.2.3.4, subjectKeyIdentifier=hash,
+// authorityKeyIdentifier=keyid:always,issuer:always, subjectAltName of otherName:1.2.3.4;UTF8:x,
+// email:a@example.org, DNS:example.org, dirName of C = DE, CN = x,y, URI:http://example.org/,
+// IP:192.0.2.1, RID:1.2.3.4, issuerAltName=IP:2001:db8::1 and certificatePolicies=2.5.29.32.0.
 const EXTENDED: &[u8] = &[
     0x30, 0x82, 0x02, 0x08, 0x30, 0x82, 0x01, 0xBA, 0xA0, 0x03, 0x02, 0x01, 0x02, 0x02, 0x02, 0x12,
     0x34, 0x30, 0x05, 0x06, 0x03, 0x2B, 0x65, 0x70, 0x30, 0x0D, 0x31, 0x0B, 0x30, 0x09, 0x06, 0x03,
@@ -48,7 +50,7 @@ const EXTENDED: &[u8] = &[
     0xAF, 0xF3, 0x23, 0xE2, 0xE1, 0x57, 0x64, 0x76, 0x54, 0xBB, 0xAD, 0x05,
 ];
 
-// What `openssl x509 -noout -text` says of it, in the words of the program.
+// The output of `openssl x509 -noout -text` for it, in the words of the program.
 const EXTENDED_SHOWN: &str = "\
 certificate
 \x20 version: 3
@@ -74,7 +76,7 @@ certificate
 \x20 signature: AA46AA1FE93FFAE154197DB00602F0F87DD4392EDD7C750117D1A170D20AEEB216B83C8BA77FA56B4AE5CAA401EC926350D882B7AFF323E2E157647654BBAD05
 ";
 
-// What `openssl crl -noout -text` says of the list, in the words of the program.
+// The output of `openssl crl -noout -text` for the list, in the words of the program.
 const LIST_SHOWN: &str = "\
 crl
 \x20 version: 2
@@ -98,7 +100,7 @@ crl
 \x20 signature: 085A6D64C61F2248C5C767F5B9A86DC36128F5950055230CE8B93A0115668C3C619DF7CEFF566FE192DA2BE566E524D268236CB98A4B06DAFA7DB12F3F399F05
 ";
 
-// What `openssl req -noout -text` says of the request, in the words of the program.
+// The output of `openssl req -noout -text` for the request, in the words of the program.
 const REQUEST_SHOWN: &str = "\
 request
 \x20 version: 1
@@ -115,7 +117,7 @@ request
 \x20 signature: 53114898E1DE3533993087633D0FFBEC7CC06A9F23A5F31AE02523CD6E94C87C229A399195DC44649D0642826C39E3BA8AA04A5A1F222FA36DAAB645681B3A02
 ";
 
-// What `openssl cms -cmsout -print -noout` says of the message, in the words of the program.
+// The output of `openssl cms -cmsout -print -noout` for the message, in the words of the program.
 const MESSAGE_SHOWN: &str = "\
 cms
 \x20 content type: id-signedData (1.2.840.113549.1.7.2)
@@ -153,7 +155,7 @@ cms
 \x20     signature: 3045022027D68D2348D46AF48CDA974DFCB73FD19C502578E00E9FDBE325A7551804C03A0221009E722D3E611D6D714B98E3C17E1D5C3D36CB1BA06D34A9A9D1512C01CC9A78BC
 ";
 
-// The same of the one that is written while its content comes in.
+// The output of the same command for the message that was written as a stream.
 const STREAMED_SHOWN: &str = "\
 cms
 \x20 content type: id-signedData (1.2.840.113549.1.7.2)
@@ -174,7 +176,8 @@ cms
 \x20     signature: 304502200BA78D14D93D40D64765CABDC5AC9A9EDFFFF8BD2F8EEA789B1FB10422EB72CF0221009C8BB9598127F6B76D0967E6C2F95384369508D6FB43B40D8167336991F8390E
 ";
 
-/// Whether the message is shown so by the call with these words, and passes the check.
+/// Returns whether the run with the arguments `words` shows the message as this text, and the run
+/// with `checks` accepts it.
 fn is_shown(alloc: Global, words: &[&str], checks: &[&str], message: &[u8], shown: &str) -> bool {
     is_answered(alloc, words, message, true, shown, "")
         && is_answered(alloc, checks, message, true, "", "")

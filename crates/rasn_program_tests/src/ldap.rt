@@ -1,5 +1,5 @@
-//! Messages of LDAP, shown as text, and what is said of spoilt ones. The texts are those of the commands beside the octets, of the answers that the
-//! clients printed, and of RFC 4511.
+//! LDAP messages, shown as text, and the refusals of invalid ones. The texts are taken from the
+//! commands beside the octets, from the responses that the clients printed, and from RFC 4511.
 
 use crate::answers::{has_line, is_answered};
 use crate::asserts::{assert_facts, spoilt};
@@ -166,7 +166,8 @@ ldap
 \x20   response value: \"dn:cn=admin,dc=example\"
 ";
 
-// The notice that a server ends the session (RFC 4511, 4.4.1), spelled by hand, with a name, a message with a tabulator in it, and a referral.
+// The notice that a server ends the session (RFC 4511, 4.4.1), written by hand, with a name, a
+// message that has a tab, and a referral.
 const NOTICE: &[u8] = &[
     0x30, 0x38, 0x02, 0x01, 0x00, 0x78, 0x33, 0x0A, 0x01, 0x34, 0x04, 0x04, 0x64, 0x63, 0x3D, 0x78,
     0x04, 0x03, 0x61, 0x09, 0x62, 0xA3, 0x0B, 0x04, 0x09, 0x6C, 0x64, 0x61, 0x70, 0x3A, 0x2F, 0x2F,
@@ -186,16 +187,16 @@ ldap
 \x20   response name: \"1.3.6.1.4.1.1466.20036\"
 ";
 
-// UNBIND with a control `1` whose `criticality FALSE` is written, spelled by hand.
+// An UNBIND with a control `1` that contains `criticality FALSE`, written by hand.
 const USUAL: &[u8] = &[
     0x30, 0x0F, 0x02, 0x01, 0x03, 0x42, 0x00, 0xA0, 0x08, 0x30, 0x06, 0x04, 0x01, 0x31, 0x01, 0x01,
     0x00,
 ];
 
-/// The words that ask for a message in BER.
+/// The arguments that ask for a message in BER.
 const CALL: &[&str] = &["--ber", "ldap"];
 
-/// Whether the message is shown so, and passes the checks by BER and by DER.
+/// Returns whether the message is shown as this text, and accepted by the checks under BER and DER.
 fn is_shown(alloc: Global, message: &[u8], shown: &str) -> bool {
     is_answered(alloc, CALL, message, true, shown, "")
         && is_answered(alloc, &["ldap"], message, true, shown, "")
@@ -237,7 +238,7 @@ fn answers_are_shown(rt: HostRuntime) {
     );
 }
 
-/// Whether the answer to a bind with this result code is shown with this text of it.
+/// Returns whether the bind response with this result code is shown with this text for the code.
 fn has_code(alloc: Global, answer: &[u8], code: &str) -> bool {
     let shown = format!(in alloc;
         "ldap\n  message id: 1\n  bind response\n    result code: {code}\n    matched DN: \"\"\n    diagnostic message: \"\"\n"
@@ -248,7 +249,7 @@ fn has_code(alloc: Global, answer: &[u8], code: &str) -> bool {
     }
 }
 
-// All of RFC 4511, 4.1.9, and reserved and unnamed numbers between them.
+// All result codes of RFC 4511, 4.1.9, and reserved and unnamed numbers between them.
 #[test]
 fn result_codes_have_their_names(rt: HostRuntime) {
     const CODES: &[(u8, &str)] = &[
@@ -308,7 +309,7 @@ fn result_codes_have_their_names(rt: HostRuntime) {
     }
 }
 
-// RFC 4511, 4.5.1, 4.6 and 4.1.11.
+// The names are those of RFC 4511, 4.5.1, 4.6 and 4.1.11.
 #[test]
 fn other_numbers_have_their_names(rt: HostRuntime) {
     const LINES: &[(&[u8], usize, u8, &str)] = &[
@@ -327,7 +328,7 @@ fn other_numbers_have_their_names(rt: HostRuntime) {
     }
 }
 
-// BER reads a DEFAULT that is written (X.690 11.5), and DER doesn't.
+// BER reads a DEFAULT that is written (X.690 11.5), DER doesn't.
 #[test]
 fn messages_of_ldap_are_read_by_ber(rt: HostRuntime) {
     let alloc = rt.alloc();
@@ -349,8 +350,9 @@ ldap
     );
 }
 
-// The names are those of RFC 4511, B. The rows: UNBIND cut short, another operation than those of the types, a message of SNMP, and octets behind a
-// message; a version 0 (4.2), a name and a mechanism that aren't UTF-8 (4.1.2).
+// The names are those of RFC 4511, B. The rows: a truncated UNBIND, an operation that the type
+// doesn't have, an SNMP message, and octets after a message; a version 0 (4.2), a name and a
+// mechanism that aren't UTF-8 (4.1.2).
 #[test]
 fn spoilt_binds_are_refused(rt: HostRuntime) {
     const ROWS: &[Row] = &[
@@ -400,8 +402,9 @@ fn spoilt_binds_are_refused(rt: HostRuntime) {
     assert_refused(&rt, rt.alloc(), ROWS);
 }
 
-// The rows: a number that derefAliases doesn't have (RFC 4511, 4.5.1), a negative limit (4.1.1), an attribute and a control whose names aren't UTF-8
-// (4.1.2), a DEFAULT that DER doesn't write (X.690 11.5), a value of another type, and a type that isn't UTF-8.
+// The rows: a number that derefAliases doesn't have (RFC 4511, 4.5.1), a negative limit (4.1.1), an
+// attribute and a control whose names aren't UTF-8 (4.1.2), a DEFAULT that DER doesn't write
+// (X.690 11.5), a value of another type, and an attribute type that isn't UTF-8.
 #[test]
 fn spoilt_searches_are_refused(rt: HostRuntime) {
     const ROWS: &[Row] = &[
@@ -451,8 +454,9 @@ fn spoilt_searches_are_refused(rt: HostRuntime) {
     assert_refused(&rt, rt.alloc(), ROWS);
 }
 
-// The rows: results whose code isn't an ENUMERATED and whose name isn't UTF-8, a URI of another type, a change that isn't one, and an extended request
-// and answers with other parts than RFC 4511, 4.12, has.
+// The rows: results whose code isn't an ENUMERATED and whose name isn't UTF-8, a URI of another
+// type, a change that isn't one, and an extended request and responses with parts that
+// RFC 4511, 4.12, doesn't have.
 #[test]
 fn other_spoilt_messages_of_ldap_are_refused(rt: HostRuntime) {
     const ROWS: &[Row] = &[

@@ -1,5 +1,6 @@
-//! The tests of the programs: lines and their answers, messages as text, and readers and writers that fail. They stand in a crate of their own, so that
-//! the tests of the messages needn't wait for the texts.
+//! The tests of the programs: lines and their results, messages as text, and readers and writers
+//! that fail. They are in a separate crate, so that `rasn_message_tests` needn't wait for
+//! `rasn_text`.
 #![tactic(auto)]
 
 #[cfg(test)]

@@ -1,9 +1,10 @@
-//! Lines that the program answers: values are decoded by BER, CER or DER and encoded by DER (X.690 8 to 11).
+//! Lines and the results that the program prints: values are decoded under BER, CER or DER and
+//! encoded under DER (X.690 8 to 11).
 
 use rasn_bench::run;
 use std::alloc::{AllocError, Global};
 
-/// Each row is a line, an arrow and the answer.
+/// Rows of a line, an arrow and the result.
 const TABLE: &str = "\
 ber bool 0101FF00 -> BOOLEAN 1 0101FF
 ber i32 0206FFFFFFFF7F00 -> INTEGER 0 0203FF7F00
@@ -258,14 +259,16 @@ cer bag 3106040102040101 -> SET 0 refused SetOutOfOrder
 der bag 3106040102040101 -> refused SetOfOutOfOrder
 ";
 
-/// Whether these lines have these answers, and whether all of them are well-formed.
+/// Returns whether these lines have these results, and all are well-formed exactly if
+/// `well_formed`.
 fn are_answered(alloc: Global, lines: &str, answers: &str, well_formed: bool) -> bool {
     let mut output = Vec::new(alloc);
     let answer = run(alloc, &mut lines.as_bytes(), &mut output);
     answer == Ok(well_formed) && output.as_slice() == answers.as_bytes()
 }
 
-/// Whether the answer to the line is this one, and the line is reported as malformed exactly where the answer is `malformed`.
+/// Returns whether the result of the line is `answer`, and the line is reported as malformed
+/// exactly if `answer` is `malformed`.
 fn is_answered(alloc: Global, line: &str, answer: &str) -> bool {
     let mut output = Vec::new(alloc);
     match run(alloc, &mut line.as_bytes(), &mut output) {
@@ -287,7 +290,7 @@ fn lines_are_answered(rt: HostRuntime) {
     }
 }
 
-/// Lines, their answers, and whether all of them are well-formed.
+/// Lines, their results, and whether all lines are well-formed.
 const LINES: &[(&str, &str, bool)] = &[
     ("", "", true),
     ("\n\n", "", true),
@@ -315,14 +318,14 @@ fn lines_end_by_line_feeds(rt: HostRuntime) {
     }
 }
 
-/// Whether the answer to a small number is the number itself.
+/// Returns whether the result of a small number is the number itself.
 fn is_echoed(alloc: Global, number: u8) -> Result<bool, AllocError> {
     let line = format!(in alloc; "ber u32 0201{number:02x}")?;
     let answer = format!(in alloc; "INTEGER 0 0201{number:02X}")?;
     Ok(is_answered(alloc, &line, &answer))
 }
 
-/// The numbers stand in no table, so their answers are computed.
+/// These numbers are in no table, so their results are computed.
 #[test]
 fn other_values_are_answered(rt: HostRuntime) {
     for number in 0..128u8 {

@@ -1,4 +1,5 @@
-//! Lines that the program normalises: from an encoding of any of the three rules to the one that DER has (X.690 10, 11).
+//! Lines that the program normalises: from an encoding under any of the three rules to that of DER
+//! (X.690 10, 11).
 
 use crate::asserts::{assert_text, debug_text};
 use rasn::de::Decode;
@@ -9,7 +10,7 @@ use rasn_bench::{Foo, NormaliseError, RunFault, normalise, run_normalise};
 use std::alloc::Global;
 use std::process::Abort;
 
-/// Each row is a line, an arrow and the answer.
+/// Rows of a line, an arrow and the result.
 const TABLE: &str = "\
 ber foo 308036800402536D040369746800000101010000 -> 300A1605536D6974680101FF
 ber algid 308006092A864886F70D01010105000000 -> 300D06092A864886F70D0101010500
@@ -47,7 +48,8 @@ der foo 30801605536D6974680101FF0000 -> refused IndefiniteLengthNotAllowed
 der validity 3020170D3138303132323133323930305A180F32303530303130313030303030305A -> 3020170D3138303132323133323930305A180F32303530303130313030303030305A
 ";
 
-/// Whether the answer to the line is this one, and the line is reported as malformed exactly where the answer is `malformed`.
+/// Returns whether the result of the line is `answer`, and the line is reported as malformed
+/// exactly if `answer` is `malformed`.
 fn is_answered(alloc: Global, line: &str, answer: &str) -> bool {
     let mut output = Vec::new(alloc);
     match run_normalise(alloc, &mut line.as_bytes(), &mut output) {
@@ -59,7 +61,7 @@ fn is_answered(alloc: Global, line: &str, answer: &str) -> bool {
     }
 }
 
-// Encodings of any of the three rules come out as the one that DER has (X.690 10, 11).
+// Encodings under any of the three rules are normalised to that of DER (X.690 10, 11).
 #[test]
 fn lines_are_normalised(rt: HostRuntime) {
     for row in TABLE.lines() {
@@ -79,7 +81,7 @@ fn all_lines_are_normalised(rt: HostRuntime) {
     assert!(rt; output.as_slice() == b"0101FF\n020107\nmalformed\n".as_slice());
 }
 
-/// Whether the answer is these octets.
+/// Returns whether the result is these octets.
 fn is_normal(answer: Result<Vec<u8>, NormaliseError>, octets: &[u8]) -> bool {
     match answer {
         Ok(found) => found.as_slice() == octets,
@@ -87,7 +89,8 @@ fn is_normal(answer: Result<Vec<u8>, NormaliseError>, octets: &[u8]) -> bool {
     }
 }
 
-/// Two encodings of `Smith` and TRUE by BER and one by CER come out as the one by DER, which comes out as itself.
+/// Two BER encodings of `Smith` and TRUE, one CER encoding and the DER encoding are all normalised
+/// to the DER encoding.
 #[test]
 fn equal_values_come_out_alike(rt: HostRuntime) {
     const SMITH: &[u8] = &[
@@ -121,7 +124,7 @@ fn equal_values_come_out_alike(rt: HostRuntime) {
     }
 }
 
-/// Why the octets are refused, which they have to be.
+/// Returns the reason why the octets are refused. Panics if they are not.
 fn refusal(rt: &impl Abort, answer: Result<Vec<u8>, NormaliseError>) -> NormaliseError {
     match answer {
         Ok(found) => panic!(rt; "{found:?}"),
@@ -129,7 +132,7 @@ fn refusal(rt: &impl Abort, answer: Result<Vec<u8>, NormaliseError>) -> Normalis
     }
 }
 
-/// Asserts that each row's octets are refused, and that the refusal is shown as the row's text.
+/// Asserts that the octets of each row are refused, with an error whose text is that of the row.
 fn assert_refuses<T: Decode + Encode + LawfulEq>(
     rt: &impl Abort,
     alloc: Global,
@@ -141,7 +144,7 @@ fn assert_refuses<T: Decode + Encode + LawfulEq>(
     }
 }
 
-// What follows the value is refused under the input's rules (X.690 8.1.1.1).
+// Octets after the value are refused under the rules of the input (X.690 8.1.1.1).
 #[test]
 fn what_is_no_value_alone_is_refused(rt: HostRuntime) {
     const ROWS: &[(&[u8], Codec, &str)] = &[
@@ -175,7 +178,8 @@ fn what_is_not_written_is_refused(rt: HostRuntime) {
     assert_refuses::<SetOf<OctetString>>(&rt, rt.alloc(), ROWS);
 }
 
-// The time 691231235900-0100 is in 2070 by UTC, which two digits of a year can't say (X.680 47).
+// The time 691231235900-0100 is in 2070 in UTC, which a year of two digits can't express
+// (X.680 47).
 #[test]
 fn what_is_read_back_otherwise_is_refused(rt: HostRuntime) {
     const ROWS: &[(&'static [u8], Codec, &'static str)] = &[(
@@ -186,7 +190,7 @@ fn what_is_read_back_otherwise_is_refused(rt: HostRuntime) {
     assert_refuses::<UtcTime>(&rt, rt.alloc(), ROWS);
 }
 
-/// Whether the cause is that, by CER, one octet follows the value.
+/// Returns whether the error is that one octet follows the value under CER.
 fn is_one_octet_more_by_cer(cause: NormaliseError) -> bool {
     cause
         == NormaliseError::Decode(DecodeError {
@@ -195,7 +199,7 @@ fn is_one_octet_more_by_cer(cause: NormaliseError) -> bool {
         })
 }
 
-// Causes are equal exactly if their errors and rules are.
+// Two errors are equal exactly if their kinds and rules are.
 #[test]
 fn causes_are_compared(rt: HostRuntime) {
     const ROWS: &[(&[u8], Codec, bool)] = &[

@@ -1,4 +1,4 @@
-//! Messages that the program shows as text, and what it says of octets that aren't one.
+//! Messages that the program shows as text, and the refusals of octets that aren't one.
 
 use crate::answers::{answer, is_answered};
 use crate::asserts::{assert_facts, spoilt};
@@ -8,7 +8,7 @@ use rasn_text::{RunFault, call_of};
 use std::alloc::Global;
 use std::io::ErrorKind;
 
-// The certificate's PEM by OpenSSL 3.0: `openssl x509 -inform DER -in c.der`.
+// The certificate as PEM, by OpenSSL 3.0: `openssl x509 -inform DER -in c.der`.
 const PEM: &str = "\
 -----BEGIN CERTIFICATE-----
 MIIBozCCAUqgAwIBAgIFAQIDBAUwCgYIKoZIzj0EAwIwNTELMAkGA1UEBhMCREUx
@@ -23,7 +23,7 @@ wOujtmUCICC8m7MPG/RwPCs60xnKFGY+OIGvTbUdTg47CAMBDWjP
 -----END CERTIFICATE-----
 ";
 
-// What `openssl x509 -noout -text` says of it, in the words of the program.
+// The output of `openssl x509 -noout -text` for it, in the words of the program.
 const SHOWN: &str = "\
 certificate
 \x20 version: 3
@@ -44,10 +44,11 @@ certificate
 \x20 signature: 304402205FD74EEB097DDE8E1FE52CDC25D027C8935133D9765685B382EEF2C0EBA3B665022020BC9BB30F1BF4703C2B3AD319CA14663E3881AF4DB51D4E0E3B0803010D68CF
 ";
 
-// Made by OpenSSL 3.0: `openssl req -x509 -new -key k.pem -config c.cnf -utf8 -subj '/C=DE/O=Exämple, "B" <c>;d\\e/OU=#1/CN=a
-// b+emailAddress=x@y.de/other=t<tab>u' -set_serial 0xFF00 -days 20000 -outform DER`, of a key on Ed25519, with `string_mask = MASK:0x802`
-// and `other = 1.2.3.4` in c.cnf: names in BMPString and PrintableString, two attributes in one relative distinguished name, characters
-// with a meaning of their own, and a GeneralizedTime.
+// Made by OpenSSL 3.0: `openssl req -x509 -new -key k.pem -config c.cnf -utf8 -subj
+// '/C=DE/O=Exämple, "B" <c>;d\\e/OU=#1/CN=a b+emailAddress=x@y.de/other=t<tab>u' -set_serial 0xFF00
+// -days 20000 -outform DER`, with an Ed25519 key, and `string_mask = MASK:0x802` and `other =
+// 1.2.3.4` in c.cnf: names in BMPString and PrintableString, two attributes in one relative
+// distinguished name, characters with a meaning of their own, and a GeneralizedTime.
 const NAMED: &[u8] = &[
     0x30, 0x82, 0x01, 0xB4, 0x30, 0x82, 0x01, 0x66, 0x02, 0x03, 0x00, 0xFF, 0x00, 0x30, 0x05, 0x06,
     0x03, 0x2B, 0x65, 0x70, 0x30, 0x81, 0x83, 0x31, 0x0B, 0x30, 0x09, 0x06, 0x03, 0x55, 0x04, 0x06,
@@ -79,7 +80,8 @@ const NAMED: &[u8] = &[
     0xA9, 0xDF, 0x4A, 0x97, 0x84, 0x21, 0x1D, 0x0C,
 ];
 
-// What `openssl x509 -noout -text -nameopt sep_comma_plus_space,sname,utf8,esc_2253,esc_ctrl` says of it, in the words of the program.
+// The output of `openssl x509 -noout -text -nameopt
+// sep_comma_plus_space,sname,utf8,esc_2253,esc_ctrl` for it, in the words of the program.
 const NAMED_SHOWN: &str = "\
 certificate
 \x20 version: 1
@@ -96,13 +98,13 @@ certificate
 \x20 signature: 9B0A42378350F3586AC7B5780BD8DCB93AB18BB355FAFCB0E42CCADA38E6F924C6B811D19C3B3E266E982EA1D97002E90C96EF3B6C51C53CA9DF4A9784211D0C
 ";
 
-/// The words that ask for a certificate.
+/// The arguments that ask for a certificate.
 const CALL: &[&str] = &["certificate"];
 
-/// The words that ask whether there is one.
+/// The arguments that ask whether the input is a certificate.
 const CHECK: &[&str] = &["--check", "certificate"];
 
-/// Whether the input isn't a certificate, and this is said of it.
+/// Returns whether the input isn't a certificate, and this text is printed for it.
 fn is_refused(alloc: Global, input: &[u8], refusal: &str) -> bool {
     is_answered(alloc, CALL, input, false, "", refusal)
         && is_answered(alloc, CHECK, input, false, "", "")
@@ -123,7 +125,7 @@ fn certificates_are_shown(rt: HostRuntime) {
     );
 }
 
-// RFC 7468, 2 and 3, and RFC 4648, 4.
+// The rules of these texts are in RFC 7468, 2 and 3, and RFC 4648, 4.
 #[test]
 fn other_texts_than_pem_are_refused(rt: HostRuntime) {
     let alloc = rt.alloc();
@@ -159,7 +161,7 @@ fn other_texts_than_pem_are_refused(rt: HostRuntime) {
     );
 }
 
-// BER reads another TRUE than FF (X.690 8.2.2), and DER doesn't.
+// BER reads a TRUE other than FF (X.690 8.2.2), DER doesn't.
 #[test]
 fn certificates_are_read_by_ber(rt: HostRuntime) {
     let alloc = rt.alloc();
@@ -188,7 +190,7 @@ fn certificates_are_read_by_ber(rt: HostRuntime) {
     );
 }
 
-/// Whether the arguments are refused with the text of the usage.
+/// Returns whether the arguments are refused with the text of the usage.
 fn are_refused(alloc: Global, words: &[&str]) -> bool {
     let Ok(arguments) = arguments(alloc, words) else {
         return false;

@@ -1,5 +1,5 @@
-//! Messages of SNMP, shown as text, and what is said of spoilt ones. The texts are those of the commands beside the octets, of what the agent printed, and
-//! of RFC 3416, 2578 and 1157.
+//! SNMP messages, shown as text, and the refusals of invalid ones. The texts are taken from the
+//! commands beside the octets, from what the agent printed, and from RFC 3416, 2578 and 1157.
 
 use crate::answers::{has_line, is_answered};
 use crate::asserts::{assert_facts, spoilt};
@@ -145,10 +145,10 @@ snmp
 \x20     1.3.6.1.2.1.1.5.0 = OCTET STRING \"name\"
 ";
 
-/// The words that ask for a message in BER.
+/// The arguments that ask for a message in BER.
 const CALL: &[&str] = &["--ber", "snmp"];
 
-/// Whether the message is shown so, and passes the checks by BER and by DER.
+/// Returns whether the message is shown as this text, and accepted by the checks under BER and DER.
 fn is_shown(alloc: Global, message: &[u8], shown: &str) -> bool {
     is_answered(alloc, CALL, message, true, shown, "")
         && is_answered(alloc, &["snmp"], message, true, shown, "")
@@ -175,7 +175,8 @@ fn messages_of_snmp_are_shown(rt: HostRuntime) {
     );
 }
 
-/// Whether an operation of this name, in the place of the agent's answer and with this error status, is shown with these texts.
+/// Returns whether `message`, the agent's response with this operation and error status in place of
+/// its own, is shown with these texts.
 fn has_status(alloc: Global, message: &[u8], operation: &str, status: &str) -> bool {
     let shown = format!(in alloc;
         "snmp\n  version: 2c\n  community: \"private\"\n  {operation}\n    request id: 360256838\n    error status: {status}\n    error index: 1\n    variable bindings\n      1.3.6.1.2.1.1.6.0 = OCTET STRING \"x\"\n"
@@ -186,7 +187,7 @@ fn has_status(alloc: Global, message: &[u8], operation: &str, status: &str) -> b
     }
 }
 
-// All of RFC 3416, 3, and numbers on both sides of them.
+// All error statuses of RFC 3416, 3, and the numbers before and after them.
 #[test]
 fn error_statuses_have_their_names(rt: HostRuntime) {
     const STATUSES: &[(u8, &str)] = &[
@@ -221,7 +222,7 @@ fn error_statuses_have_their_names(rt: HostRuntime) {
     assert!(rt; has_status(alloc, &report, "report", "17 (notWritable)"));
 }
 
-// RFC 1157, 4.1.6, and a number behind those that have names.
+// The generic traps of RFC 1157, 4.1.6, and a number after those that have names.
 #[test]
 fn generic_traps_have_their_names(rt: HostRuntime) {
     const TRAPS: &[(u8, &str)] = &[
@@ -240,7 +241,8 @@ fn generic_traps_have_their_names(rt: HostRuntime) {
     }
 }
 
-// A version that has no name here, and a community whose octets aren't text, in the request of `snmpgetnext`.
+// The request of `snmpgetnext` with a version that has no name here, and with a community whose
+// octets aren't text.
 #[test]
 fn other_versions_and_communities_are_shown(rt: HostRuntime) {
     const OTHER_SHOWN: &str = "\
@@ -260,7 +262,8 @@ snmp
     assert!(rt; is_shown(alloc, &other, OTHER_SHOWN));
 }
 
-// The request of `snmpgetnext` in an indefinite length (X.690 8.1.3.6): BER reads it, and DER doesn't (10.1).
+// The request of `snmpgetnext` with an indefinite length (X.690 8.1.3.6): BER reads it, DER doesn't
+// (10.1).
 #[test]
 fn messages_of_snmp_are_read_by_ber(rt: HostRuntime) {
     const INDEFINITE: &[u8] = &[
@@ -286,8 +289,9 @@ fn messages_of_snmp_are_read_by_ber(rt: HostRuntime) {
     );
 }
 
-// The names are those of RFC 3416, 3. The rows: a PDU that isn't there, a message of version 3, which has a SEQUENCE in the place of the community
-// (RFC 3412, 6), one of LDAP, a name and a value of other types, `non-repeaters` that aren't an INTEGER, an octet that is missing, and a padded number
+// The names are those of RFC 3416, 3. The rows: a PDU that is missing, a message of version 3,
+// which has a SEQUENCE in place of the community (RFC 3412, 6), an LDAP message, a name and a value
+// of other types, `non-repeaters` that aren't an INTEGER, a missing octet, and a padded number
 // under DER (X.690 8.3.2).
 #[test]
 fn spoilt_messages_of_snmp_are_refused(rt: HostRuntime) {
@@ -344,8 +348,9 @@ fn spoilt_messages_of_snmp_are_refused(rt: HostRuntime) {
     assert_refused(&rt, rt.alloc(), ROWS);
 }
 
-// The names are those of RFC 1157, 4.1.6, and RFC 3416, 3. The rows: an address and a time of other types, an address of three octets, a Counter64 of
-// 2^64 and more, and an INTEGER of 2^31 (RFC 2578, 7.1).
+// The names are those of RFC 1157, 4.1.6, and RFC 3416, 3. The rows: an address and a time of other
+// types, an address of three octets, a Counter64 of 2^64 and more, and an INTEGER of 2^31
+// (RFC 2578, 7.1).
 #[test]
 fn spoilt_traps_are_refused(rt: HostRuntime) {
     const ROWS: &[Row] = &[

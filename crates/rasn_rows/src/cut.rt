@@ -1,4 +1,4 @@
-//! Values that are cut: each proper prefix of their octets is refused (X.690 8.1.3).
+//! Truncated values: each proper prefix of their octets is refused (X.690 8.1.3).
 
 use crate::row::Row;
 use rasn::ber::de::{Decoder, DecoderOptions};
@@ -7,8 +7,9 @@ use rasn::error::{BerDecodeErrorKind, CodecDecodeError, DecodeError, DecodeError
 use rasn::types::{Codec, Constraints};
 use std::alloc::{AllocError, Global};
 
-/// How many octets each prefix lacks where it is refused for that, and consumes nothing; 0 of the whole, where that is a value. `?` is
-/// another result.
+/// Returns for each prefix, the shortest first, the number of octets that its refusal reports as
+/// missing if nothing was consumed. The number is 0 if all of the prefix is read as a value. Any
+/// other result is shown as `?`.
 pub fn cut<T: Decode>(
     alloc: Global,
     row: &Row<'_>,
@@ -25,7 +26,8 @@ pub fn cut<T: Decode>(
     Ok(text)
 }
 
-/// How many octets are reported missing, or 0 where all are read as a value.
+/// Returns the number of octets that are reported as missing, or 0 if all of the octets are read as
+/// a value.
 fn lacking<T: Decode>(
     alloc: Global,
     octets: &[u8],
@@ -39,7 +41,7 @@ fn lacking<T: Decode>(
     }
 }
 
-/// How many octets the error reports missing, if it does so under these rules.
+/// Returns the number of octets that the error reports as missing, if it does so under these rules.
 fn needed(error: &DecodeError, rules: Codec) -> Option<usize> {
     match &error.kind {
         DecodeErrorKind::Incomplete {
@@ -49,7 +51,7 @@ fn needed(error: &DecodeError, rules: Codec) -> Option<usize> {
     }
 }
 
-/// How many proper prefixes are refused as cut, where the whole is a value.
+/// Returns the number of proper prefixes that are refused as truncated, if the whole is a value.
 pub fn open<T: Decode>(alloc: Global, row: &Row<'_>) -> Result<String, AllocError> {
     let mut refused = 0usize;
     for count in 0..row.octets.len() {
@@ -64,7 +66,8 @@ pub fn open<T: Decode>(alloc: Global, row: &Row<'_>) -> Result<String, AllocErro
     }
 }
 
-/// Whether octets are refused as a value that is cut: octets are missing, or a zero octet stands alone where a value may begin.
+/// Returns whether the octets are refused as a truncated value: octets or a component are missing,
+/// or a single zero octet is where a value may begin.
 fn is_cut<T: Decode>(alloc: Global, octets: &[u8], rules: Codec) -> bool {
     let mut decoder = Decoder::new(alloc, octets, DecoderOptions::of(rules));
     match T::decode(&mut decoder) {

@@ -1,4 +1,4 @@
-//! The types that a row may name, a few in each function: what a type isn't in one is looked for in the next.
+//! The types that a row may name. Each function handles some, and calls the next for the others.
 
 use crate::cut::{cut, open};
 use crate::lists::SixtyFour;
@@ -21,7 +21,7 @@ use rasn_bench::{
 use std::alloc::{AllocError, Global};
 use std::fmt::Debug;
 
-/// The answer to a row of a type that is read and written.
+/// Returns the result of a row whose type is read and written.
 fn both<T: Decode + Encode + Debug>(alloc: Global, row: &Row<'_>) -> Result<String, AllocError> {
     match row.verb {
         Verb::Write(rules) => write::<T>(alloc, row, rules),
@@ -29,7 +29,7 @@ fn both<T: Decode + Encode + Debug>(alloc: Global, row: &Row<'_>) -> Result<Stri
     }
 }
 
-/// The answer to a row of a type that is read.
+/// Returns the result of a row whose type is read only.
 fn one<T: Decode + Debug>(alloc: Global, row: &Row<'_>) -> Result<String, AllocError> {
     match row.verb {
         Verb::Read => read::<T>(alloc, row),
@@ -42,19 +42,21 @@ fn one<T: Decode + Debug>(alloc: Global, row: &Row<'_>) -> Result<String, AllocE
     }
 }
 
-/// What the entry point of the rules reads all of the octets as.
+/// Returns the result of `decode`, the entry point of the rules, which refuses further octets only
+/// under DER.
 fn whole<T: Decode + Debug>(alloc: Global, row: &Row<'_>) -> Result<String, AllocError> {
     let answer = decoded::<T>(alloc, row.rules, &row.octets);
     told(alloc, &answer)
 }
 
-/// What the entry point of the rules reads the octets as that they begin with.
+/// Returns the result of `decode_with_remainder`, the entry point of the rules that returns further
+/// octets.
 fn begin<T: Decode + Debug>(alloc: Global, row: &Row<'_>) -> Result<String, AllocError> {
     let answer = begun::<T>(alloc, row.rules, &row.octets);
     told(alloc, &answer)
 }
 
-/// The answer to a row of a type under constraints.
+/// Returns the result of a row whose type has constraints.
 fn bound<T: Decode + Debug>(
     alloc: Global,
     row: &Row<'_>,
@@ -75,7 +77,7 @@ fn unknown(alloc: Global) -> Result<String, AllocError> {
     )
 }
 
-/// The answer to a row.
+/// Returns the result of a row.
 pub fn answer_to(alloc: Global, row: &Row<'_>) -> Result<String, AllocError> {
     match row.name {
         "bool" => both::<bool>(alloc, row),
@@ -91,7 +93,7 @@ pub fn answer_to(alloc: Global, row: &Row<'_>) -> Result<String, AllocError> {
     }
 }
 
-/// The answer to a row of a string.
+/// Returns the result of a row of a string.
 fn of_string(alloc: Global, row: &Row<'_>) -> Result<String, AllocError> {
     match row.name {
         "bits" => both::<BitString>(alloc, row),
@@ -105,7 +107,7 @@ fn of_string(alloc: Global, row: &Row<'_>) -> Result<String, AllocError> {
     }
 }
 
-/// The answer to a row of a character string of one alphabet.
+/// Returns the result of a row of a character string of one alphabet.
 fn of_characters(alloc: Global, row: &Row<'_>) -> Result<String, AllocError> {
     match row.name {
         "numeric" => both::<NumericString>(alloc, row),
@@ -119,7 +121,7 @@ fn of_characters(alloc: Global, row: &Row<'_>) -> Result<String, AllocError> {
     }
 }
 
-/// The answer to a row of a time, or of a number or of several under a name.
+/// Returns the result of a row of a time, a period or an ENUMERATED.
 fn of_time(alloc: Global, row: &Row<'_>) -> Result<String, AllocError> {
     match row.name {
         "utctime" => both::<UtcTime>(alloc, row),
@@ -133,7 +135,7 @@ fn of_time(alloc: Global, row: &Row<'_>) -> Result<String, AllocError> {
     }
 }
 
-/// The answer to a row of what may be absent, has a tag of its own, or comes several times.
+/// Returns the result of a row of an OPTIONAL, tagged or repeated type.
 fn of_list(alloc: Global, row: &Row<'_>) -> Result<String, AllocError> {
     match row.name {
         "option(bool)" => both::<Option<bool>>(alloc, row),
@@ -149,7 +151,7 @@ fn of_list(alloc: Global, row: &Row<'_>) -> Result<String, AllocError> {
     }
 }
 
-/// The answer to a row of a SET OF, or of lists of lists.
+/// Returns the result of a row of a SET OF, or of nested lists.
 fn of_bag(alloc: Global, row: &Row<'_>) -> Result<String, AllocError> {
     match row.name {
         "setof(octets)" => both::<SetOf<OctetString>>(alloc, row),
@@ -164,7 +166,7 @@ fn of_bag(alloc: Global, row: &Row<'_>) -> Result<String, AllocError> {
     }
 }
 
-/// The answer to a row of a SEQUENCE or SET.
+/// Returns the result of a row of a SEQUENCE or SET.
 fn of_components(alloc: Global, row: &Row<'_>) -> Result<String, AllocError> {
     match row.name {
         "pair" => both::<Pair>(alloc, row),
@@ -179,7 +181,7 @@ fn of_components(alloc: Global, row: &Row<'_>) -> Result<String, AllocError> {
     }
 }
 
-/// The answer to a row of a SEQUENCE with an open type or with defaults.
+/// Returns the result of a row of a SEQUENCE with an open type or with defaults.
 fn of_names(alloc: Global, row: &Row<'_>) -> Result<String, AllocError> {
     match row.name {
         "algid" => both::<AlgorithmIdentifier>(alloc, row),
@@ -195,7 +197,7 @@ fn of_names(alloc: Global, row: &Row<'_>) -> Result<String, AllocError> {
     }
 }
 
-/// The constraint that a value has this size.
+/// Returns the constraint that a value has this size.
 const fn sized(size: usize) -> Constraints {
     let constraint = Bounded::Single(size);
     Constraints {
@@ -207,7 +209,7 @@ const fn sized(size: usize) -> Constraints {
     }
 }
 
-/// The constraint that a number is in this range.
+/// Returns the constraint that a number is in this range.
 const fn within(start: i128, end: i128) -> Constraints {
     let constraint = Bounded::Range {
         start: Some(start),
@@ -222,7 +224,7 @@ const fn within(start: i128, end: i128) -> Constraints {
     }
 }
 
-/// The answer to a row of a type under constraints.
+/// Returns the result of a row whose type has constraints.
 fn of_bounds(alloc: Global, row: &Row<'_>) -> Result<String, AllocError> {
     match row.name {
         "size1(ia5)" => bound::<Ia5String>(alloc, row, &sized(1)),
@@ -238,7 +240,8 @@ fn of_bounds(alloc: Global, row: &Row<'_>) -> Result<String, AllocError> {
     }
 }
 
-/// The answer to a row of a value of any type: its tag, or the steps in which it is skipped.
+/// Returns the result of a row of a value of any type: its tag, or the number of steps that
+/// skipping it takes.
 fn of_value(alloc: Global, row: &Row<'_>) -> Result<String, AllocError> {
     match row.name {
         "tag" => peek(alloc, row),
@@ -248,20 +251,21 @@ fn of_value(alloc: Global, row: &Row<'_>) -> Result<String, AllocError> {
     }
 }
 
-/// The tag that the octets begin with, of which nothing is consumed.
+/// Returns the tag that the octets begin with. Nothing is consumed.
 fn peek(alloc: Global, row: &Row<'_>) -> Result<String, AllocError> {
     let decoder = decoder_of(alloc, row);
     counted(alloc, &decoder.peek_tag(), decoder.decoded_len())
 }
 
-/// In how many steps a value is skipped.
+/// Returns the number of steps that skipping a value takes.
 fn skip(alloc: Global, row: &Row<'_>) -> Result<String, AllocError> {
     let mut decoder = decoder_of(alloc, row);
     let answer = decoder.skip_value();
     counted(alloc, &answer, decoder.decoded_len())
 }
 
-/// The octets of a value that is written and not read: an extension addition is absent.
+/// Returns the octets of a value that is written without being read: its extension addition is
+/// absent.
 fn write_unmarked(alloc: Global, row: &Row<'_>) -> Result<String, AllocError> {
     let unmarked = Graded {
         passed: true,

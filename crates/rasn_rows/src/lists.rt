@@ -1,14 +1,15 @@
-//! SEQUENCEs OF in one another (X.690 8.10): each takes two of 128 levels, and a SEQUENCE one, so that 64 lists are read.
+//! Nested SEQUENCEs OF (X.690 8.10): each takes two of 128 levels, and a SEQUENCE one, so that 64
+//! lists are read.
 
 use rasn::error::DecodeError;
 use rasn::types::{AsnType, Constraints, Tag};
 use rasn::{Decode, Decoder};
 use std::fmt;
 
-/// Four SEQUENCEs OF in one another.
+/// Four nested SEQUENCEs OF.
 type Lists<T> = Vec<Vec<Vec<Vec<T>>>>;
 
-/// Four SEQUENCEs OF in one another, under a name.
+/// Four nested SEQUENCEs OF, as a struct.
 #[derive(Drop)]
 pub struct Four<T> {
     lists: Lists<T>,
@@ -45,17 +46,17 @@ impl<T: Decode> Decode for Four<T> {
     }
 }
 
-/// The lists alone.
+/// Writes the lists alone.
 impl<T: fmt::Debug> fmt::Debug for Four<T> {
     fn fmt<W: fmt::Write>(&self, f: &mut fmt::Formatter<W>) -> fmt::Result {
         write!(f, "{:?}", self.lists)
     }
 }
 
-/// Sixteen SEQUENCEs OF in one another.
+/// Sixteen nested SEQUENCEs OF.
 type Fours<T> = Four<Four<Four<Four<T>>>>;
 
-/// Sixteen SEQUENCEs OF in one another, under a name.
+/// Sixteen nested SEQUENCEs OF, as a struct.
 #[derive(Drop)]
 pub struct Sixteen<T> {
     lists: Fours<T>,
@@ -92,12 +93,12 @@ impl<T: Decode> Decode for Sixteen<T> {
     }
 }
 
-/// The lists alone.
+/// Writes the lists alone.
 impl<T: fmt::Debug> fmt::Debug for Sixteen<T> {
     fn fmt<W: fmt::Write>(&self, f: &mut fmt::Formatter<W>) -> fmt::Result {
         write!(f, "{:?}", self.lists)
     }
 }
 
-/// Sixty-four SEQUENCEs OF in one another.
+/// Sixty-four nested SEQUENCEs OF.
 pub type SixtyFour = Sixteen<Sixteen<Sixteen<Sixteen<bool>>>>;

@@ -1,4 +1,4 @@
-//! Reads and writes the values of the rows of standard input, and prints each row with what came of it.
+//! Reads and writes the values of the rows of standard input, and prints each row with its result.
 #![tactic(auto)]
 
 mod cut;
@@ -26,7 +26,7 @@ fn main(rt: HostRuntime) -> ExitCode {
     }
 }
 
-/// Prints the lines of standard input, each row with its answer.
+/// Prints the lines of standard input, each row with its result.
 fn print_all(rt: &HostRuntime) -> io::Result<()> {
     let alloc = rt.alloc();
     let input = BufReader::new(alloc, rt.stdin())?;
@@ -38,7 +38,8 @@ fn print_all(rt: &HostRuntime) -> io::Result<()> {
     output.flush()
 }
 
-/// Prints a line: a row with its answer, and an empty line or a comment, which begins with `#`, as it is.
+/// Prints a line: a row with its result, and an empty line or a comment, which begins with `#`, as
+/// it is.
 fn print<W: Write>(alloc: Global, line: &str, output: &mut W) -> io::Result<()> {
     if line.is_empty() || line.starts_with('#') {
         return writeln!(output, "{line}");
@@ -47,7 +48,7 @@ fn print<W: Write>(alloc: Global, line: &str, output: &mut W) -> io::Result<()> 
     writeln!(output, "{line} {answer}")
 }
 
-/// The answer to a row.
+/// Returns the result of a row.
 fn answer_of(alloc: Global, line: &str) -> Result<String, AllocError> {
     match Row::of_line(alloc, line)? {
         Some(row) => answer_to(alloc, &row),

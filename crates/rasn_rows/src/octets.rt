@@ -1,13 +1,14 @@
-//! Octets as text: hexadecimal digits, and between commas an octet that comes several times, as `55*1000`. No octets are `-`.
+//! Octets as text: hexadecimal digits. A repeated octet is written once with its count, between
+//! commas, as `55*1000`. The empty list is `-`.
 
 use rasn::types::Codec;
 use rasn_bench::{Request, ValueType};
 use std::alloc::{AllocError, Global};
 
-/// From how many on equal octets in a row are counted.
+/// The smallest number of equal octets that is written as a count.
 const COUNTED: usize = 32;
 
-/// The octets that a text stands for.
+/// Returns the octets that a text denotes; `None` if it isn't well-formed.
 pub fn octets_of(alloc: Global, text: &str) -> Result<Option<Vec<u8>>, AllocError> {
     let mut octets = Vec::new(alloc);
     for piece in text.split(',') {
@@ -23,7 +24,7 @@ pub fn octets_of(alloc: Global, text: &str) -> Result<Option<Vec<u8>>, AllocErro
     Ok(Some(octets))
 }
 
-/// The octets of a piece, and how often they come.
+/// Returns the octets of a piece and the number of times that they are repeated.
 fn piece_of(alloc: Global, piece: &str) -> Result<Option<(Vec<u8>, u16)>, AllocError> {
     let (digits, count) = match piece.split_once('*') {
         Some((digits, count)) => (digits, count.parse::<u16>().unwrap_or(0)),
@@ -38,7 +39,7 @@ fn piece_of(alloc: Global, piece: &str) -> Result<Option<(Vec<u8>, u16)>, AllocE
     Ok(octets.map(|octets| (octets, count)))
 }
 
-/// The text of octets.
+/// Returns the text of octets.
 pub fn text_of(alloc: Global, octets: &[u8]) -> Result<String, AllocError> {
     let mut text = String::from_str(alloc, if octets.is_empty() { "-" } else { "" })?;
     let (mut last, mut count) = (0u8, 0usize);
@@ -54,7 +55,7 @@ pub fn text_of(alloc: Global, octets: &[u8]) -> Result<String, AllocError> {
     Ok(text)
 }
 
-/// Appends an octet that comes so many times.
+/// Appends `count` equal octets.
 fn push_run(alloc: Global, text: &mut String, octet: u8, count: usize) -> Result<(), AllocError> {
     if count >= COUNTED {
         return text.push_str(&format!(in alloc; ",{octet:02X}*{count},")?);

@@ -1,4 +1,4 @@
-//! Values that are read, and what refuses them.
+//! The reading of values, and the errors that refuse them.
 
 use crate::row::Row;
 use rasn::ber::de::{Decoder, DecoderOptions};
@@ -9,7 +9,7 @@ use rasn::{ber, cer, der};
 use std::alloc::{AllocError, Global};
 use std::fmt::Debug;
 
-/// The text of a value, or of the error's rules and kind.
+/// Returns the text of a value, or of the error's rules and kind.
 pub fn told<T: Debug>(
     alloc: Global,
     answer: &Result<T, DecodeError>,
@@ -20,7 +20,7 @@ pub fn told<T: Debug>(
     }
 }
 
-/// The same, and how many octets are consumed.
+/// Returns the same text, with the number of octets that are consumed.
 pub fn counted<T: Debug>(
     alloc: Global,
     answer: &Result<T, DecodeError>,
@@ -30,19 +30,19 @@ pub fn counted<T: Debug>(
     format!(in alloc; "{text}, {consumed}")
 }
 
-/// A decoder of the octets of a row by its rules.
+/// Returns a decoder of the octets of a row under its rules.
 pub fn decoder_of<'row>(alloc: Global, row: &'row Row<'_>) -> Decoder<'row> {
     Decoder::new(alloc, &row.octets, DecoderOptions::of(row.rules))
 }
 
-/// What a value of the type is read as.
+/// Returns the result of reading a value of the type.
 pub fn read<T: Decode + Debug>(alloc: Global, row: &Row<'_>) -> Result<String, AllocError> {
     let mut decoder = decoder_of(alloc, row);
     let answer = T::decode(&mut decoder);
     counted(alloc, &answer, decoder.decoded_len())
 }
 
-/// What a value of the type is read as under these constraints.
+/// Returns the result of reading a value of the type under these constraints.
 pub fn read_within<T: Decode + Debug>(
     alloc: Global,
     row: &Row<'_>,
@@ -53,7 +53,7 @@ pub fn read_within<T: Decode + Debug>(
     counted(alloc, &answer, decoder.decoded_len())
 }
 
-/// The text of the refusal under these constraints.
+/// Returns the text of the error under these constraints.
 pub fn tell_within<T: Decode>(
     alloc: Global,
     row: &Row<'_>,
@@ -65,7 +65,8 @@ pub fn tell_within<T: Decode>(
     }
 }
 
-/// The value that the octets begin with, by the entry point of these rules.
+/// Decodes the value that the octets begin with, by the entry point `decode` of these rules. Only
+/// that of DER refuses further octets.
 pub fn decoded<T: Decode>(alloc: Global, rules: Codec, octets: &[u8]) -> Result<T, DecodeError> {
     match rules {
         Codec::Ber => ber::decode(alloc, octets),
@@ -74,7 +75,8 @@ pub fn decoded<T: Decode>(alloc: Global, rules: Codec, octets: &[u8]) -> Result<
     }
 }
 
-/// The value that the octets begin with and the octets that follow it, by the entry point of these rules.
+/// Decodes the value that the octets begin with, by the entry point `decode_with_remainder` of
+/// these rules, and returns it with the octets that follow.
 pub fn begun<T: Decode>(
     alloc: Global,
     rules: Codec,

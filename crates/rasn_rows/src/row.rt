@@ -1,30 +1,30 @@
-//! Rows: what is done, with which type, by which rules, and with which octets.
+//! Rows: a verb, a type, the rules to read by, and octets.
 
 use crate::octets::octets_of;
 use rasn::types::Codec;
 use std::alloc::{AllocError, Global};
 
-/// What a row does with its octets.
+/// The operation of a row on its octets.
 #[derive(Clone, Copy)]
 pub enum Verb {
-    /// Reads a value with a decoder, and tells how many octets are consumed.
+    /// Reads a value with a decoder, and reports how many octets are consumed.
     Read,
     /// Reads a value with the entry point of the rules.
     Whole,
-    /// Reads the value that the octets begin with, and tells those that follow it.
+    /// Reads the value that the octets begin with, and reports the octets that follow it.
     Begin,
-    /// Shows the text of a refusal.
+    /// Shows the text of an error.
     Tell,
-    /// Tells how many octets each prefix lacks.
+    /// Reports for each prefix how many octets are missing.
     Cut,
-    /// Counts the prefixes that are refused as cut.
+    /// Counts the prefixes that are refused as truncated.
     Open,
-    /// Reads a value, and writes it by these rules.
+    /// Reads a value, and writes it under these rules.
     Write(Codec),
 }
 
 impl Verb {
-    /// The verb of this name.
+    /// Returns the verb of this name.
     fn of_name(name: &str) -> Option<Verb> {
         match name {
             "read" => Some(Verb::Read),
@@ -52,7 +52,7 @@ pub struct Row<'line> {
 }
 
 impl<'line> Row<'line> {
-    /// The row of a line `VERB TYPE RULES OCTETS`.
+    /// Returns the row of a line `VERB TYPE RULES OCTETS`.
     pub fn of_line(alloc: Global, line: &'line str) -> Result<Option<Row<'line>>, AllocError> {
         match words_of(line) {
             Some((verb, name, rules, digits)) => {
@@ -69,7 +69,7 @@ impl<'line> Row<'line> {
     }
 }
 
-/// The words of a line.
+/// Returns the words of a line.
 fn words_of(line: &str) -> Option<(Verb, &str, Codec, &str)> {
     let (verb, rest) = line.split_once(' ')?;
     let (name, rest) = rest.split_once(' ')?;
@@ -77,7 +77,7 @@ fn words_of(line: &str) -> Option<(Verb, &str, Codec, &str)> {
     Some((Verb::of_name(verb)?, name, rules_of(rules)?, digits))
 }
 
-/// The rules of this name.
+/// Returns the rules of this name.
 fn rules_of(name: &str) -> Option<Codec> {
     match name {
         "ber" => Some(Codec::Ber),

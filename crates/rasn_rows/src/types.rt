@@ -1,4 +1,4 @@
-//! Types of one's own.
+//! User-defined types, for tests.
 
 mod counted;
 mod eight;

@@ -1,4 +1,4 @@
-//! Values that are read and written.
+//! The writing of values that are read.
 
 use crate::octets::text_of;
 use crate::reading::decoded;
@@ -10,7 +10,7 @@ use rasn::types::Codec;
 use rasn::{ber, cer, der};
 use std::alloc::{AllocError, Global};
 
-/// The octets of a value of the type by these rules.
+/// Returns the result of reading a value of the type and writing it under these rules.
 pub fn write<T: Decode + Encode>(
     alloc: Global,
     row: &Row<'_>,
@@ -22,7 +22,7 @@ pub fn write<T: Decode + Encode>(
     }
 }
 
-/// The octets of a value, by the entry point of these rules.
+/// Encodes a value with the entry point of these rules.
 fn encoded<T: Encode>(alloc: Global, rules: Codec, value: &T) -> Result<Vec<u8>, EncodeError> {
     match rules {
         Codec::Ber => ber::encode(alloc, value),
@@ -31,7 +31,7 @@ fn encoded<T: Encode>(alloc: Global, rules: Codec, value: &T) -> Result<Vec<u8>,
     }
 }
 
-/// The text of the octets of a value, or of the error's rules and kind.
+/// Returns the text of the octets of a value, or of the error's rules and kind.
 pub fn write_value<T: Encode>(
     alloc: Global,
     rules: Codec,

@@ -1,4 +1,4 @@
-//! Shows a message of a standard as text, from a file or from standard input where none is named.
+//! Shows a message of a standard as text, from a file or, if none is named, from standard input.
 #![tactic(auto)]
 
 use rasn_text::{Call, RunFault, Usage, call_of, run};
@@ -8,7 +8,7 @@ use std::io::{ErrorKind, Read};
 use std::process::ExitCode;
 use thiserror::Error;
 
-/// What the program says where it can't go on.
+/// The error that the program reports before it ends.
 #[derive(Debug, Drop, Error)]
 enum Fault {
     #[error(transparent)]
@@ -28,7 +28,7 @@ fn main(rt: HostRuntime) -> ExitCode {
     }
 }
 
-/// Answers the arguments, and returns whether the input is what they name.
+/// Runs the program for its arguments, and returns whether the input is accepted.
 fn answer(rt: &HostRuntime) -> Result<bool, Fault> {
     let mut arguments = Vec::new(rt.alloc());
     let all = env::args(rt).map_err(|error| Fault::Run(fault_of(error.kind())))?;
@@ -47,7 +47,7 @@ fn answer(rt: &HostRuntime) -> Result<bool, Fault> {
     }
 }
 
-/// Answers the reader's octets.
+/// Runs the call on the octets of the reader.
 fn answer_input<R: Read + Drop>(
     rt: &HostRuntime,
     call: &Call<'_>,
@@ -59,7 +59,7 @@ fn answer_input<R: Read + Drop>(
     run(rt.alloc(), call, &mut reader, &mut output, &mut refusals).map_err(Fault::Run)
 }
 
-/// What a refused read of arguments or of a file's name is.
+/// Returns the fault of a failed read of arguments or opening of a file.
 fn fault_of(kind: ErrorKind) -> RunFault {
     match kind {
         ErrorKind::OutOfMemory => RunFault::Memory,

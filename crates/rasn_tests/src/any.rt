@@ -1,4 +1,4 @@
-//! Open types, kept as their octets and written again (X.690 8.15), and values that are skipped (8.1.5).
+//! Open types, kept as their octets and written again (X.690 8.15), and skipped values (8.1.5).
 
 use rasn::types::{Any, Class, Tag};
 use std::alloc::{AllocError, Global};
@@ -13,13 +13,13 @@ const TAG_1: Tag = Tag {
     value: 1,
 };
 
-/// An open type that holds these octets.
+/// Returns an open type with these octets.
 fn any_of(alloc: Global, octets: &[u8]) -> Result<Option<Any>, AllocError> {
     let octets = Vec::from_slice(alloc, octets)?;
     Ok(Some(Any::new(octets)))
 }
 
-/// A million SEQUENCEs of indefinite length in one another.
+/// Returns a million nested SEQUENCEs of indefinite length.
 fn deep(alloc: Global) -> Result<Vec<u8>, AllocError> {
     let mut octets = Vec::new(alloc);
     for _ in 0..1_000_000u32 {

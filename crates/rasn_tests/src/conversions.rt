@@ -1,4 +1,4 @@
-//! Values that are taken out, lent, copied, compared and shown.
+//! Values that are converted, borrowed, copied, compared and shown.
 
 mod numbers;
 mod open_types;

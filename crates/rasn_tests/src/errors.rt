@@ -1,4 +1,4 @@
-//! Errors and values as text, and values compared.
+//! Errors and values as text, and comparisons.
 
 mod compared;
 mod texts;

@@ -1,5 +1,5 @@
-//! Untrusted input: headers that are padded, lengths beyond any input, universal 0 and values that are cut (X.690 8.1), closures that
-//! drop refusals, and how many octets each refusal consumes.
+//! Untrusted input: padded headers, lengths beyond any input, universal 0 and truncated values
+//! (X.690 8.1), closures that drop refusals, and the number of octets that each refusal consumes.
 ghost use Rattle.rasn_de.specs.Constructed.{Keeps};
 
 use crate::types::NumberAndTruth;
@@ -33,5 +33,5 @@ fn one_boolean(decoder: &mut Decoder<'_>) -> Result<NumberAndTruth, DecodeError>
     )
 }
 
-/// What SEQUENCE { BOOLEAN } is read as where it holds TRUE.
+/// The text of the value that is read from a SEQUENCE { BOOLEAN } with TRUE.
 const TRUE_ALONE: &str = "Both { first: 0, second: true }";

@@ -1,5 +1,5 @@
-//! The tests of all crates: values from the standard's examples and from the public crate's behaviour. They stand in a crate of
-//! their own, since a crate with tests is proved twice.
+//! The tests of all crates: values from the examples of the standard and from the behaviour of the
+//! public crate. They are in a separate crate, since a crate with tests is proved twice.
 #![tactic(auto)]
 
 #[cfg(test)]

@@ -1,5 +1,6 @@
-//! Components that are OPTIONAL or DEFAULT (X.690 8.9.3), CHOICE (8.13), SEQUENCE OF (8.10), tags (8.14) and extension additions;
-//! ENUMERATED (8.4), whose types are a user's own; REAL, which isn't supported.
+//! Components that are OPTIONAL or DEFAULT (X.690 8.9.3), CHOICE (8.13), SEQUENCE OF (8.10), tags
+//! (8.14) and extension additions; ENUMERATED (8.4), whose types are user-defined; REAL, which
+//! isn't supported.
 
 mod choice;
 mod enumerated;

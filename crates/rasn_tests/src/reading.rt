@@ -1,4 +1,5 @@
-//! What the tests of reading share: rows of octets, rules and answers, and calls whose answers are told as text or as octets.
+//! Functions that the tests of reading share: rows of octets, rules and results, and assertions on
+//! results as text or as octets.
 
 use rasn_de::ber::de::{Decoder, DecoderOptions};
 use rasn_de::de::Decode;
@@ -13,10 +14,11 @@ use std::cmp::Ordering;
 use std::fmt::{Debug, Display};
 use std::process::Abort;
 
-/// Octets, the rules they are read by, the text of the value or of the error's kind, and how many octets are consumed.
+/// Octets, the rules to read them by, the text of the value or of the error's kind, and the number
+/// of octets consumed.
 pub type Row = (&'static [u8], Codec, &'static str, usize);
 
-/// The constraint that a number is in this range.
+/// Returns the constraint that a number is in this range.
 pub fn within(start: i128, end: i128) -> Constraints {
     let constraint = Bounded::Range {
         start: Some(start),
@@ -31,7 +33,7 @@ pub fn within(start: i128, end: i128) -> Constraints {
     }
 }
 
-/// The constraint that a value has this size.
+/// Returns the constraint that a value has this size.
 pub fn sized(size: usize) -> Constraints {
     Constraints {
         value: None,
@@ -42,17 +44,18 @@ pub fn sized(size: usize) -> Constraints {
     }
 }
 
-/// A decoder of the octets by these rules.
+/// Returns a decoder of the octets under these rules.
 pub fn decoder_of(alloc: Global, octets: &[u8], rules: Codec) -> Decoder<'_> {
     Decoder::new(alloc, octets, DecoderOptions::of(rules))
 }
 
-/// A value as text.
+/// Returns the value as text.
 pub fn debug_text<T: Debug>(alloc: Global, value: &T) -> Result<String, AllocError> {
     format!(in alloc; "{value:?}")
 }
 
-/// An error's kind as text, if the error is one under these rules; else a text that no kind has.
+/// Returns the kind of an error as text if the error is one under these rules, otherwise a text
+/// that no kind has.
 pub fn kind_text<K: Debug>(
     alloc: Global,
     rules: Codec,
@@ -66,19 +69,20 @@ pub fn kind_text<K: Debug>(
     }
 }
 
-/// Asserts that each of these is true. Many calls whose answers stand in a list cost less to prove than as many asserts.
+/// Asserts that all facts are true. One list of many calls is cheaper to prove than an assertion
+/// for each.
 pub fn assert_facts(rt: &impl Abort, facts: &[bool]) {
     for (place, fact) in facts.iter().enumerate() {
         assert!(rt; *fact, "{place}");
     }
 }
 
-/// Asserts this of the octets of a row.
+/// Asserts the fact, with the octets and rules of a row in the message.
 pub fn assert_row(rt: &impl Abort, octets: &[u8], rules: Codec, fact: bool) {
     assert!(rt; fact, "{octets:?} {rules:?}");
 }
 
-/// The value, for which there has to be memory.
+/// Returns the value. Panics if an allocation failed.
 pub fn held<T>(rt: &impl Abort, value: Result<T, AllocError>) -> T {
     match value {
         Ok(value) => value,
@@ -86,7 +90,7 @@ pub fn held<T>(rt: &impl Abort, value: Result<T, AllocError>) -> T {
     }
 }
 
-/// Asserts that the text is this one.
+/// Asserts that `found` is this text.
 pub fn assert_text(rt: &impl Abort, found: Result<String, AllocError>, text: &str) {
     assert_eq!(rt; held(rt, found).as_str(), text);
 }
@@ -96,7 +100,7 @@ pub fn assert_shown<T: Display + Drop>(rt: &impl Abort, alloc: Global, value: T,
     assert_text(rt, format!(in alloc; "{value}"), text);
 }
 
-/// The value that a call answers, which has to be one.
+/// Returns the value of a call. Panics if the call failed.
 pub fn value<T>(rt: &impl Abort, answer: Result<T, DecodeError>) -> T {
     match answer {
         Ok(value) => value,
@@ -104,7 +108,7 @@ pub fn value<T>(rt: &impl Abort, answer: Result<T, DecodeError>) -> T {
     }
 }
 
-/// The error of a call that is refused.
+/// Returns the error of a call. Panics if the call succeeded.
 pub fn refusal<T: Drop>(rt: &impl Abort, answer: Result<T, DecodeError>) -> DecodeError {
     match answer {
         Ok(_) => panic!(rt; "it is read"),
@@ -112,7 +116,7 @@ pub fn refusal<T: Drop>(rt: &impl Abort, answer: Result<T, DecodeError>) -> Deco
     }
 }
 
-/// Whether the error is that this many octets are missing, under these rules.
+/// Returns whether the error is that this number of octets is missing, under these rules.
 pub fn is_incomplete(error: &DecodeError, octets: usize, codec: Codec) -> bool {
     let kind = DecodeErrorKind::Incomplete {
         needed: Needed::new(octets),
@@ -120,7 +124,7 @@ pub fn is_incomplete(error: &DecodeError, octets: usize, codec: Codec) -> bool {
     *error == DecodeError { kind, codec }
 }
 
-/// Asserts that the values are equal, and that neither is the greater.
+/// Asserts that the values are equal, and neither is greater.
 pub fn assert_equal<T: Ord + Drop>(rt: &impl Abort, one: T, other: T) {
     assert_facts(
         rt,
@@ -133,7 +137,7 @@ pub fn assert_equal<T: Ord + Drop>(rt: &impl Abort, one: T, other: T) {
     );
 }
 
-/// Asserts that the values differ, and that the second is the greater.
+/// Asserts that the second value is greater than the first.
 pub fn assert_ascends<T: Ord + Drop>(rt: &impl Abort, one: T, other: T) {
     assert_facts(
         rt,
@@ -148,7 +152,7 @@ pub fn assert_ascends<T: Ord + Drop>(rt: &impl Abort, one: T, other: T) {
     );
 }
 
-/// The text of what a call answers: of the value, or of the error's kind.
+/// Returns the text of a call's result: of the value, or of the error's kind.
 fn answer_text<T: Debug>(
     alloc: Global,
     rules: Codec,
@@ -160,7 +164,7 @@ fn answer_text<T: Debug>(
     }
 }
 
-/// Asserts that a call answers the value or the error's kind of this text.
+/// Asserts that a call returns the value, or an error of the kind, with this text.
 pub fn assert_answer<T: Debug + Drop>(
     rt: &impl Abort,
     alloc: Global,
@@ -171,7 +175,8 @@ pub fn assert_answer<T: Debug + Drop>(
     assert_text(rt, answer_text(alloc, rules, &answer), text);
 }
 
-/// Asserts what INTEGER (0..255) DEFAULT 7 is read as from each row's octets, and how many are consumed.
+/// Asserts the result of reading INTEGER (0..255) DEFAULT 7 from the octets of each row, and the
+/// number of octets consumed.
 pub fn assert_reads_default(rt: &impl Abort, alloc: Global, rows: &[Row]) {
     for (octets, rules, text, consumed) in rows {
         let mut decoder = decoder_of(alloc, octets, *rules);
@@ -181,7 +186,8 @@ pub fn assert_reads_default(rt: &impl Abort, alloc: Global, rows: &[Row]) {
     }
 }
 
-/// Asserts what a value of the type is read as from each row's octets, and how many are consumed.
+/// Asserts the result of reading a value of the type from the octets of each row, and the number of
+/// octets consumed.
 pub fn assert_reads<T: Decode + Debug>(rt: &impl Abort, alloc: Global, rows: &[Row]) {
     for (octets, rules, text, consumed) in rows {
         let mut decoder = decoder_of(alloc, octets, *rules);
@@ -190,9 +196,9 @@ pub fn assert_reads<T: Decode + Debug>(rt: &impl Abort, alloc: Global, rows: &[R
     }
 }
 
-/// Values that are octets.
+/// A value that consists of octets.
 pub trait Octets: Drop {
-    /// The octets.
+    /// Returns the octets.
     fn octets(&self) -> &[u8];
 }
 
@@ -226,7 +232,7 @@ impl<const N: usize> Octets for FixedOctetString<N> {
     }
 }
 
-/// Asserts that a call answers a value of these octets.
+/// Asserts that a call returns a value with these octets.
 pub fn assert_has_octets<T: Octets>(
     rt: &impl Abort,
     answer: Result<T, DecodeError>,
@@ -235,7 +241,7 @@ pub fn assert_has_octets<T: Octets>(
     assert!(rt; value(rt, answer).octets() == octets);
 }
 
-/// Whether a call answers these octets, borrowed or not.
+/// Returns whether a call returns these octets, borrowed or owned as `is_borrowed` says.
 pub fn answers_octets(
     answer: Result<CowSlice<'_, u8>, DecodeError>,
     octets: &[u8],

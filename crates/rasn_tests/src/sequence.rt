@@ -1,4 +1,4 @@
-//! SEQUENCE (X.690 8.9): what is read and written inside, and what a refusal says and consumes.
+//! SEQUENCE (X.690 8.9): what is read and written inside, and what a refusal reports and consumes.
 
 mod closures;
 mod fieldless;

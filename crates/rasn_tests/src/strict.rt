@@ -1,4 +1,4 @@
-//! What DER alone refuses: other encodings than the one that it writes (X.690 10, 11).
+//! Encodings that DER alone refuses, since it writes others (X.690 10, 11).
 
 mod defaults;
 mod rules;

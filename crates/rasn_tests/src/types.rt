@@ -13,5 +13,5 @@ pub use signal::Signal;
 pub use signal_component::decode_signal;
 pub use three::Three;
 
-/// SEQUENCE { first INTEGER, second BOOLEAN }, of what its readers by closures make.
+/// SEQUENCE { first INTEGER, second BOOLEAN }, the value that closures of the tests return.
 pub type NumberAndTruth = Both<i32, bool>;

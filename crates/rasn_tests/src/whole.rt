@@ -1,4 +1,4 @@
-//! What the tests of the entry points share: rows of octets, rules and answers, over whole calls.
+//! Functions that the tests of the entry points share: rows of octets, rules and results.
 
 use crate::reading::{assert_answer, value};
 use crate::writing::assert_output;
@@ -11,13 +11,14 @@ use std::alloc::Global;
 use std::fmt::Debug;
 use std::process::Abort;
 
-/// Octets, the rules they are read by, and the text of the value or of the error's kind.
+/// Octets, the rules to read them by, and the text of the value or of the error's kind.
 pub type Answer<'octets> = (&'octets [u8], Codec, &'static str);
 
-/// Octets, the rules they are read by, those that the value is written by, and what is written.
+/// Octets, the rules to read them by, the rules to write the value by, and the octets written.
 pub type Rewritten<'octets> = (&'octets [u8], Codec, Codec, &'octets [u8]);
 
-/// The value that the octets begin with, by the entry point of these rules.
+/// Decodes the value that the octets begin with, by the entry point `decode` of these rules. Only
+/// that of DER refuses further octets.
 pub fn decoded<T: Decode>(alloc: Global, rules: Codec, octets: &[u8]) -> Result<T, DecodeError> {
     match rules {
         Codec::Ber => ber::decode(alloc, octets),
@@ -26,7 +27,7 @@ pub fn decoded<T: Decode>(alloc: Global, rules: Codec, octets: &[u8]) -> Result<
     }
 }
 
-/// The value's octets, by the entry point of these rules.
+/// Encodes the value with the entry point of these rules.
 pub fn encoded<T: Encode>(alloc: Global, rules: Codec, value: &T) -> Result<Vec<u8>, EncodeError> {
     match rules {
         Codec::Ber => ber::encode(alloc, value),
@@ -35,7 +36,7 @@ pub fn encoded<T: Encode>(alloc: Global, rules: Codec, value: &T) -> Result<Vec<
     }
 }
 
-/// Asserts what the entry point reads each row's octets as.
+/// Asserts the result of the entry point for the octets of each row.
 pub fn assert_decodes<T: Decode + Debug + Drop>(
     rt: &impl Abort,
     alloc: Global,
@@ -46,7 +47,8 @@ pub fn assert_decodes<T: Decode + Debug + Drop>(
     }
 }
 
-/// Asserts that each row's octets are read, and that the value is written as the row's other octets.
+/// Asserts that the octets of each row are read, and that the value is written as the row's other
+/// octets.
 pub fn assert_rewrites<T: Decode + Encode>(rt: &impl Abort, alloc: Global, rows: &[Rewritten<'_>]) {
     for (octets, from, to, written) in rows {
         let found = value(rt, decoded::<T>(alloc, *from, octets));

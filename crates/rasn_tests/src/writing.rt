@@ -1,4 +1,5 @@
-//! What the tests of writing share: values held against octets, calls whose answers are told as text, and long strings as pieces.
+//! Functions that the tests of writing share: assertions on octets and on the text of results, and
+//! long strings as pieces.
 
 use crate::reading::{assert_text, held, kind_text};
 use rasn_enc::ber::enc::{Encoder, EncoderOptions};
@@ -10,13 +11,13 @@ use rasn_types::types::{
 use std::alloc::{AllocError, Global};
 use std::process::Abort;
 
-/// A value, the rules it is written by, and its octets.
+/// A value, the rules to write it by, and its octets.
 pub type Written<T> = (T, Codec, &'static [u8]);
 
-/// Octets, and behind them one octet so many times. A long string is a few of these.
+/// Octets, followed by one octet repeated. A long string is a few of these pieces.
 pub type Piece<'octets> = (&'octets [u8], u8, usize);
 
-/// The constraint that a number is a percentage.
+/// The constraint 0..100.
 pub const PERCENTAGE: Constraints = Constraints {
     value: Some(Bound {
         constraint: Bounded::Range {
@@ -28,18 +29,18 @@ pub const PERCENTAGE: Constraints = Constraints {
     size: None,
 };
 
-/// The kind of the refusal of 200, which isn't in 0..100.
+/// The text of the error kind for 200, which isn't in 0..100.
 pub const NO_PERCENTAGE: &str =
     "ValueConstraintNotSatisfied { value: Integer { octets: [0, 200] }, expected: Range { start: Some(0), end: Some(100) } }";
 
-/// The octets of a value.
+/// Returns the octets of a value.
 fn octets_of<T: Encode>(alloc: Global, rules: Codec, value: &T) -> Result<Vec<u8>, EncodeError> {
     let mut encoder = Encoder::new(alloc, EncoderOptions::of(rules))?;
     value.encode(&mut encoder)?;
     encoder.output()
 }
 
-/// Asserts that a call succeeds, and hands on what it answers.
+/// Asserts that a call succeeds, and returns its value.
 pub fn assert_written<T>(rt: &impl Abort, answer: Result<T, EncodeError>) -> T {
     match answer {
         Ok(value) => value,
@@ -59,7 +60,7 @@ pub fn assert_writes<T: Encode>(rt: &impl Abort, alloc: Global, rows: &[Written<
     }
 }
 
-/// The value that is made, which has to be one, with memory for it.
+/// Returns the value. Panics if there is none or an allocation failed.
 pub fn made<T>(rt: &impl Abort, value: Result<Option<T>, AllocError>) -> T {
     match value {
         Ok(Some(value)) => value,
@@ -90,7 +91,7 @@ pub fn assert_writes_pieces<T: Encode>(
     assert_output_pieces(rt, alloc, octets_of(alloc, rules, &value), pieces);
 }
 
-/// The octets of some pieces.
+/// Returns the octets of some pieces.
 pub fn of_pieces(alloc: Global, pieces: &[Piece<'_>]) -> Result<Vec<u8>, AllocError> {
     let mut octets = Vec::new(alloc);
     for (before, octet, count) in pieces {
@@ -100,25 +101,25 @@ pub fn of_pieces(alloc: Global, pieces: &[Piece<'_>]) -> Result<Vec<u8>, AllocEr
     Ok(octets)
 }
 
-/// An octet so many times.
+/// Returns an OCTET STRING of `count` equal octets.
 pub fn repeated(alloc: Global, octet: u8, count: usize) -> Result<Option<OctetString>, AllocError> {
     let octets = vec![in alloc; octet; count]?;
     Ok(Some(OctetString::from_vec(octets)))
 }
 
-/// So many bits, all set.
+/// Returns `count` bits, all set.
 pub fn set_bits(alloc: Global, count: usize) -> Result<Option<BitString>, AllocError> {
     let octets = vec![in alloc; 0xFF; count / 8 + 1]?;
     Ok(BitString::new(octets, count))
 }
 
-/// The object identifier of these arcs.
+/// Returns the object identifier of these arcs.
 pub fn identifier_of(alloc: Global, arcs: &[u32]) -> Result<Option<ObjectIdentifier>, AllocError> {
     let arcs = Vec::from_slice(alloc, arcs)?;
     Ok(ObjectIdentifier::new(arcs))
 }
 
-/// The object identifiers of these arcs, where each is one.
+/// Returns the object identifiers of these arcs; `None` if one of them isn't valid.
 pub fn identifiers_of(
     alloc: Global,
     arcs: &[&[u32]],
@@ -133,11 +134,11 @@ pub fn identifiers_of(
     Ok(Some(identifiers))
 }
 
-/// The kind of the refusal of the object identifier 0.40, which has no encoding (X.690 8.19.4).
+/// The text of the error kind for the object identifier 0.40, which has no encoding (X.690 8.19.4).
 pub const INVALID_0_40: &str =
     "CodecSpecific { inner: Ber(InvalidObjectIdentifier { oid: [0, 40] }) }";
 
-/// An encoder with no output yet.
+/// Returns an encoder without output.
 pub fn new_encoder(rt: &impl Abort, alloc: Global, rules: Codec) -> Encoder {
     match Encoder::new(alloc, EncoderOptions::of(rules)) {
         Ok(encoder) => encoder,
@@ -145,7 +146,7 @@ pub fn new_encoder(rt: &impl Abort, alloc: Global, rules: Codec) -> Encoder {
     }
 }
 
-/// An encoder of the components of a SET, with no output yet.
+/// Returns an encoder of the components of a SET, without output.
 pub fn new_set_encoder(rt: &impl Abort, alloc: Global, rules: Codec) -> Encoder {
     match Encoder::new_set(alloc, EncoderOptions::of(rules)) {
         Ok(encoder) => encoder,
@@ -153,7 +154,7 @@ pub fn new_set_encoder(rt: &impl Abort, alloc: Global, rules: Codec) -> Encoder 
     }
 }
 
-/// The text of what a call answers: that it wrote, or of the error's kind.
+/// Returns the text of a call's result: `written`, or the error's kind.
 fn refusal_text(
     alloc: Global,
     rules: Codec,
@@ -165,7 +166,7 @@ fn refusal_text(
     }
 }
 
-/// Asserts that a call refuses under these rules, with the error's kind of this text.
+/// Asserts that a call fails under these rules, with an error kind of this text.
 pub fn assert_refuses(
     rt: &impl Abort,
     alloc: Global,

@@ -1,4 +1,4 @@
--- What the program is called with: `[--ber] [--check] KIND [file]`.
+-- The arguments of the program: `[--ber] [--check] KIND [file]`.
 use Rattle.std.specs.Borrow.{Bor}
 use Rattle.std.specs.Prelude.{◌≡◌, ◌≢◌, ℕ, Bool, true, false, List, [], ◌∷◌, ◌++◌, Option, Some, None, codes}
 use Rattle.rasn_types.specs.declared.types.codec.Codec.{Codec}
@@ -13,7 +13,7 @@ ber_word = codes "--ber"
 abbrev pub check_word : List ℕ
 check_word = codes "--check"
 
--- a word where it is given
+-- a list of the word if it is given, otherwise empty
 abbrev pub given : Bool → List ℕ → List (List ℕ)
 given true word = word ∷ []
 given false word = []
@@ -30,12 +30,13 @@ abbrev pub rule_of : Bool → Codec
 rule_of true = Ber
 rule_of false = Der
 
--- The first of the words is the option's where it is given, and isn't where it isn't; the others are these.
+-- The words are the option and then the others if the option is given. If it isn't, they are the others, and the first
+-- of them isn't the option.
 pub record IsOptionOf (words : List (List ℕ)) (option : List ℕ) (is_given : Bool) (others : List (List ℕ)) : Type 0 where
   pub is : words ≡ given is_given option ++ others
   pub told : is_given ≡ false → (behind : List (List ℕ)) → words ≢ option ∷ behind
 
--- The options where they are given, the kind, and then the file where one is named.
+-- The words are the options that are given, the kind, and then the file if one is named.
 pub record IsCall (words : List (List ℕ)) (rule : Codec) (checks : Bool) (kind : Kind) (file : Option (List ℕ)) : Type 0 where
   pub reads_ber : Bool
   pub by : rule ≡ rule_of reads_ber

@@ -1,4 +1,4 @@
--- The messages that can be shown.
+-- The kinds of messages that can be shown.
 use Rattle.std.specs.Prelude.{ℕ, List, codes}
 use Rattle.rasn_types.specs.Shapes.{Shape}
 use Rattle.rasn_x509.specs.Signed.{certificate_shape}

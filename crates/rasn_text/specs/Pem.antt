@@ -1,4 +1,4 @@
--- Octets as text (RFC 7468).
+-- Octets in PEM (RFC 7468).
 use Rattle.std.specs.Prelude.{◌≡◌, ℕ, Bool, not, ◌||◌, ◌==◌, List, ◌++◌, codes}
 use Rattle.std.specs.List.{filter}
 use Rattle.base64.specs.Engines.{standard}
@@ -20,7 +20,8 @@ is_space c = (c == 32) || (c == 9) || (c == 10) || (c == 11) || (c == 12) || (c 
 abbrev pub is_symbol : ℕ → Bool
 is_symbol c = not (is_space c)
 
--- The text begins with a block of this label between its two lines: what stands between them, less white space, is the base64 of the octets. The rest follows.
+-- The text begins with a block whose first and last line have the same label. The text between these two lines, without
+-- white space, is the base64 of the octets. The rest follows the block.
 pub record IsBlock (text octets rest : List ℕ) : Type 0 where
   pub label : List ℕ
   pub body : List ℕ

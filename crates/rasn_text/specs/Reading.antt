@@ -1,4 +1,4 @@
--- Messages that are all of some octets.
+-- Inputs that are one whole message.
 use Rattle.std.specs.Prelude.{◌≡◌, ℕ, List, []}
 use Rattle.rasn_types.specs.declared.types.codec.Codec.{Codec}
 use Rattle.rasn_types.specs.declared.error.decode.DecodeError.{DecodeError}
@@ -8,20 +8,21 @@ use Rattle.rasn_types.specs.Grammar.{Reads, top}
 use Rattle.rasn_text.specs.declared.reading.ReadError.{ReadError}
 use Rattle.rasn_text.specs.declared.reading.ReadError.TheVariants.{Decode, OutOfMemory}
 
--- All of the octets are this value of the shape.
+-- All of the octets are the encoding of this value of the shape.
 abbrev pub IsWhole : Codec → Shape → List ℕ → Tree → Type 0
 IsWhole rule shape octets tree = Reads rule shape 128 (top rule) octets tree []
 
--- All of the octets are a value of the shape.
+-- All of the octets are the encoding of a value of the shape.
 abbrev pub IsMessage : Codec → Shape → List ℕ → Type 0
 IsMessage rule shape octets = (tree : Tree) × IsWhole rule shape octets tree
 
--- They aren't one, or memory ran out.
+-- The octets aren't the encoding of a value of the shape, or an allocation failed.
 abbrev pub IsRefused : Codec → Shape → List ℕ → ReadError → Type 0
 IsRefused rule shape octets (Decode place error) = IsMessage rule shape octets → ⊥
 IsRefused rule shape octets OutOfMemory = Unit {0}
 
--- What is told of an error: it with a place where memory didn't run out, or that memory did.
+-- How a decoding error is reported: unless an allocation failed, with a place; otherwise as `OutOfMemory`.
+-- `OutOfMemory` is also allowed for other errors, since finding the place allocates.
 abbrev pub IsToldOf : DecodeError → ReadError → Type 0
 IsToldOf e (Decode place error) = (error ≡ e) × (IsOutOfMemory e.kind → ⊥)
 IsToldOf e OutOfMemory = Unit {0}

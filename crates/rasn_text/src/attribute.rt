@@ -23,7 +23,7 @@ pub(crate) fn list_attributes(
     Ok(())
 }
 
-/// Lists an attribute: each of its values on a line of its own.
+/// Lists an attribute, with one line for each of its values.
 fn list_attribute(listing: &mut Listing, attribute: &Attribute) -> Result<(), AllocError> {
     let title = identifier_text(listing.alloc(), &attribute.kind)?;
     if attribute.values.is_empty() {
@@ -35,7 +35,8 @@ fn list_attribute(listing: &mut Listing, attribute: &Attribute) -> Result<(), Al
     Ok(())
 }
 
-/// Lists a value of an attribute of this type: requested extensions as such, and others as text.
+/// Lists a value of an attribute of this type. Requested extensions are listed one by one, other
+/// values as text.
 fn list_value(
     listing: &mut Listing,
     title: &str,
@@ -57,7 +58,8 @@ fn list_value(
     }
 }
 
-/// The value of an attribute of this type as text; none of an unknown type, or where the value isn't of its type.
+/// Returns the value of an attribute of this type as text; `None` if the type is unknown or the
+/// value isn't of it.
 fn value_text(alloc: Global, kind: &[u32], value: &Any) -> Result<Option<String>, AllocError> {
     match kind {
         [1, 2, 840, 113549, 1, 9, 2 | 7] => string_of(alloc, value),
@@ -68,7 +70,7 @@ fn value_text(alloc: Global, kind: &[u32], value: &Any) -> Result<Option<String>
     }
 }
 
-/// The type of what is signed.
+/// Returns the type of the signed contents as text.
 fn type_text(alloc: Global, value: &Any) -> Result<Option<String>, AllocError> {
     match value_of::<ObjectIdentifier>(alloc, Codec::Ber, value.as_bytes())? {
         Some(identifier) => Ok(Some(identifier_text(alloc, &identifier)?)),
@@ -76,7 +78,7 @@ fn type_text(alloc: Global, value: &Any) -> Result<Option<String>, AllocError> {
     }
 }
 
-/// The digest of what is signed.
+/// Returns the digest of the signed contents as text.
 fn digest_text(alloc: Global, value: &Any) -> Result<Option<String>, AllocError> {
     match value_of::<OctetString>(alloc, Codec::Ber, value.as_bytes())? {
         Some(digest) => Ok(Some(format!(in alloc; "{digest}")?)),
@@ -84,7 +86,7 @@ fn digest_text(alloc: Global, value: &Any) -> Result<Option<String>, AllocError>
     }
 }
 
-/// When it was signed.
+/// Returns the time of signing as text.
 fn time_text(alloc: Global, value: &Any) -> Result<Option<String>, AllocError> {
     match value_of::<Time>(alloc, Codec::Ber, value.as_bytes())? {
         Some(time) => Ok(Some(instant_text(alloc, &time)?)),
@@ -92,7 +94,7 @@ fn time_text(alloc: Global, value: &Any) -> Result<Option<String>, AllocError> {
     }
 }
 
-/// An instant.
+/// Returns an instant as text.
 fn instant_text(alloc: Global, time: &Time) -> Result<String, AllocError> {
     match time {
         Time::Utc(time) => format!(in alloc; "{time}"),

@@ -23,7 +23,7 @@ impl Listed for Certificate {
     }
 }
 
-/// Lists what is signed.
+/// Lists the signed part.
 fn list_signed(listing: &mut Listing, signed: &TbsCertificate) -> Result<(), AllocError> {
     let version = u16::from(signed.version) + 1;
     listing.line("version", &version)?;
@@ -45,7 +45,7 @@ fn list_signed(listing: &mut Listing, signed: &TbsCertificate) -> Result<(), All
     Ok(())
 }
 
-/// Lists an algorithm, and behind it its parameters where it has some.
+/// Lists an algorithm, followed by its parameters if it has any.
 pub(crate) fn list_algorithm(
     listing: &mut Listing,
     title: &str,
@@ -62,7 +62,8 @@ pub(crate) fn list_algorithm(
     }
 }
 
-/// Parameters of an algorithm: an object identifier by its name, and others as their octets in hexadecimal.
+/// Returns the parameters of an algorithm: an object identifier by its name, and others as their
+/// octets in hexadecimal.
 fn parameters_text(alloc: Global, parameters: &Any) -> Result<String, AllocError> {
     match value_of::<ObjectIdentifier>(alloc, Codec::Ber, parameters.as_bytes())? {
         Some(identifier) => identifier_text(alloc, &identifier),
@@ -80,7 +81,7 @@ pub(crate) fn list_identifier(
     listing.line(title, &text)
 }
 
-/// Lists a number, such as that of a certificate.
+/// Lists an INTEGER, such as a serial number, in hexadecimal.
 pub(crate) fn list_number(
     listing: &mut Listing,
     title: &str,
@@ -96,7 +97,7 @@ pub(crate) fn list_name(listing: &mut Listing, title: &str, name: &Name) -> Resu
     listing.line(title, &text)
 }
 
-/// Lists bits.
+/// Lists a BIT STRING.
 pub(crate) fn list_bits(
     listing: &mut Listing,
     title: &str,
@@ -106,7 +107,7 @@ pub(crate) fn list_bits(
     listing.line(title, &text)
 }
 
-/// Lists from when to when the certificate is valid.
+/// Lists the period in which the certificate is valid.
 fn list_validity(listing: &mut Listing, validity: &Validity) -> Result<(), AllocError> {
     list_time(listing, "not before", &validity.not_before)?;
     list_time(listing, "not after", &validity.not_after)

@@ -1,11 +1,11 @@
-//! Character strings as text that stands in a name (RFC 4514, 2.4).
+//! Character strings as text in names (RFC 4514, 2.4).
 
 use rasn::types::{AsciiType, BmpString, RestrictedString, Utf8String};
 use std::alloc::{AllocError, Global};
 
 /// A character string.
 pub(crate) trait Characters {
-    /// Its characters as text; none where a unit isn't a character.
+    /// Returns the characters as text; `None` if a unit isn't a character.
     fn to_text(&self, alloc: Global) -> Result<Option<String>, AllocError>;
 }
 
@@ -34,8 +34,9 @@ impl Characters for BmpString {
     }
 }
 
-/// Puts the characters of a value behind the text, with a backslash before those that would end the value, and control characters by the
-/// hexadecimal digits of their octets in UTF-8.
+/// Appends the characters of a value to the text. A backslash precedes each character that has a
+/// meaning of its own in names, and control characters are written as the hexadecimal digits of
+/// their octets in UTF-8.
 pub(crate) fn push_escaped(text: &mut String, value: &str) -> Result<(), AllocError> {
     if value.starts_with('#') || value.starts_with(' ') {
         text.push('\\')?;
@@ -46,7 +47,7 @@ pub(crate) fn push_escaped(text: &mut String, value: &str) -> Result<(), AllocEr
     Ok(())
 }
 
-/// Puts one character behind the text.
+/// Appends one character to the text.
 fn push_character(text: &mut String, character: char) -> Result<(), AllocError> {
     if is_special(character) {
         text.push('\\')?;
@@ -59,12 +60,13 @@ fn push_character(text: &mut String, character: char) -> Result<(), AllocError> 
     Ok(())
 }
 
-/// Whether the character has a meaning of its own in a name.
+/// Returns whether the character has a meaning of its own in names.
 fn is_special(character: char) -> bool {
     matches!(character, '"' | '+' | ',' | ';' | '<' | '>' | '\\')
 }
 
-/// Puts a control character behind the text. Those from 80 on have two octets in UTF-8, the first of them C2.
+/// Appends a control character to the text. Those from 80 on have two octets in UTF-8, and the
+/// first of the two is C2.
 fn push_control(text: &mut String, number: u32) -> Result<(), AllocError> {
     if number >= 0x80 {
         text.push_str("\\C2")?;

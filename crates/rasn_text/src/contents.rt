@@ -1,4 +1,4 @@
-//! Contents of extensions as text (RFC 5280, 4.2.1 and 5.2).
+//! The contents of extensions as text (RFC 5280, 4.2.1 and 5.2).
 
 use crate::general_name::names_text;
 use crate::identifiers::identifier_text;
@@ -14,13 +14,14 @@ use rasn_pki::x509::extensions::{
 use std::alloc::{AllocError, Global};
 use std::fmt;
 
-/// A type of contents.
+/// A type of extension contents.
 trait Contents: Decode {
-    /// The contents in words.
+    /// Returns the contents as text.
     fn to_text(&self, alloc: Global) -> Result<String, AllocError>;
 }
 
-/// The contents of the extension in words, where its type is a known one and DER reads them as such; none else.
+/// Returns the contents of the extension as text; `None` if the type of the extension is unknown or
+/// its octets aren't a DER encoding of it.
 pub(crate) fn contents_text(
     alloc: Global,
     extension: &Extension,
@@ -38,7 +39,8 @@ pub(crate) fn contents_text(
     }
 }
 
-/// The octets read as contents of the type, in words; none where they aren't such.
+/// Returns the octets, read as contents of the type, as text; `None` if they aren't an encoding of
+/// it.
 fn read_text<T: Contents>(alloc: Global, octets: &[u8]) -> Result<Option<String>, AllocError> {
     match value_of::<T>(alloc, Codec::Der, octets)? {
         Some(contents) => Ok(Some(contents.to_text(alloc)?)),
@@ -46,7 +48,7 @@ fn read_text<T: Contents>(alloc: Global, octets: &[u8]) -> Result<Option<String>
     }
 }
 
-/// The octets read as names, in words; none where they aren't such.
+/// Returns the octets, read as GeneralNames, as text; `None` if they aren't an encoding of them.
 fn read_names(alloc: Global, octets: &[u8]) -> Result<Option<String>, AllocError> {
     match value_of::<GeneralNames>(alloc, Codec::Der, octets)? {
         Some(names) => Ok(Some(names_text(alloc, &names)?)),
@@ -54,7 +56,7 @@ fn read_names(alloc: Global, octets: &[u8]) -> Result<Option<String>, AllocError
     }
 }
 
-/// The octets read as what a key is used for, in words; none where they aren't such.
+/// Returns the octets, read as ExtendedKeyUsage, as text; `None` if they aren't an encoding of it.
 fn read_purposes(alloc: Global, octets: &[u8]) -> Result<Option<String>, AllocError> {
     match value_of::<ExtendedKeyUsage>(alloc, Codec::Der, octets)? {
         Some(purposes) => Ok(Some(purposes_text(alloc, &purposes)?)),
@@ -62,7 +64,7 @@ fn read_purposes(alloc: Global, octets: &[u8]) -> Result<Option<String>, AllocEr
     }
 }
 
-/// What a key is used for, with a comma between two.
+/// Returns the purposes of a key, separated by commas.
 fn purposes_text(alloc: Global, purposes: &[ObjectIdentifier]) -> Result<String, AllocError> {
     let mut text = String::new(alloc);
     for purpose in purposes {
@@ -71,7 +73,7 @@ fn purposes_text(alloc: Global, purposes: &[ObjectIdentifier]) -> Result<String,
     Ok(text)
 }
 
-/// Puts a word behind the others, with a comma between two.
+/// Appends a word to the text, after a comma unless it is the first.
 pub(crate) fn push_word<T: fmt::Display>(text: &mut String, word: &T) -> Result<(), AllocError> {
     if !text.is_empty() {
         text.push_str(", ")?;

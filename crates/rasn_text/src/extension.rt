@@ -19,7 +19,7 @@ pub(crate) fn list_extensions(
     Ok(())
 }
 
-/// Lists an extension with what it holds.
+/// Lists an extension with its contents.
 fn list_extension(listing: &mut Listing, extension: &Extension) -> Result<(), AllocError> {
     let mut title = identifier_text(listing.alloc(), &extension.extn_id)?;
     if extension.critical {

@@ -10,7 +10,8 @@ use rasn_x509::Name;
 use std::alloc::{AllocError, Global};
 use std::net::{Ipv4Addr, Ipv6Addr};
 
-/// The names, each behind the identifier of its alternative: `dNSName=example.org, iPAddress=192.0.2.1`.
+/// Returns the names, each after the identifier of its alternative:
+/// `dNSName=example.org, iPAddress=192.0.2.1`.
 pub(crate) fn names_text(alloc: Global, names: &[GeneralName]) -> Result<String, AllocError> {
     let mut text = String::new(alloc);
     for name in names {
@@ -19,7 +20,7 @@ pub(crate) fn names_text(alloc: Global, names: &[GeneralName]) -> Result<String,
     Ok(text)
 }
 
-/// A name behind the identifier of its alternative.
+/// Returns a name after the identifier of its alternative.
 fn general_name_text(alloc: Global, name: &GeneralName) -> Result<String, AllocError> {
     match name {
         GeneralName::Other(name) => other_name_text(alloc, name),
@@ -36,33 +37,33 @@ fn general_name_text(alloc: Global, name: &GeneralName) -> Result<String, AllocE
     }
 }
 
-/// A name of the directory (RFC 4514).
+/// Returns a directory name as text (RFC 4514).
 fn directory_text(alloc: Global, name: &Name) -> Result<String, AllocError> {
     let name = name_text(alloc, name)?;
     format!(in alloc; "directoryName=({name})")
 }
 
-/// An identifier that is registered.
+/// Returns a registered identifier as text.
 fn registered_text(alloc: Global, identifier: &ObjectIdentifier) -> Result<String, AllocError> {
     let identifier = identifier_text(alloc, identifier)?;
     format!(in alloc; "registeredID={identifier}")
 }
 
-/// Characters behind an identifier.
+/// Returns a character string after the identifier of its alternative.
 fn ia5_text(alloc: Global, title: &str, name: &Ia5String) -> Result<String, AllocError> {
     let mut text = format!(in alloc; "{title}=")?;
     push_escaped(&mut text, name.as_str())?;
     Ok(text)
 }
 
-/// A name of another kind: the identifier of its type and its value in hexadecimal.
+/// Returns a name of another type: the identifier of its type and its value in hexadecimal.
 fn other_name_text(alloc: Global, name: &OtherName) -> Result<String, AllocError> {
     let kind = identifier_text(alloc, &name.type_id)?;
     let value: &Any = &name.value;
     format!(in alloc; "otherName=({kind}, {value})")
 }
 
-/// An address of X.400: the values in it in hexadecimal.
+/// Returns an X.400 address: its values in hexadecimal.
 fn values_text(alloc: Global, values: &[Any]) -> Result<String, AllocError> {
     let mut text = String::new(alloc);
     for value in values {
@@ -71,7 +72,7 @@ fn values_text(alloc: Global, values: &[Any]) -> Result<String, AllocError> {
     format!(in alloc; "x400Address=({text})")
 }
 
-/// A name of EDI: its strings in hexadecimal.
+/// Returns an EDI party name: its strings in hexadecimal.
 fn edi_party_text(alloc: Global, name: &EdiPartyName) -> Result<String, AllocError> {
     let party: &Any = &name.party_name;
     match &name.name_assigner {
@@ -83,7 +84,8 @@ fn edi_party_text(alloc: Global, name: &EdiPartyName) -> Result<String, AllocErr
     }
 }
 
-/// An address of the Internet's protocol, where there are so many octets as one has, and else the octets in hexadecimal.
+/// Returns an IPv4 or IPv6 address as such if it has 4 or 16 octets, and other octets in
+/// hexadecimal.
 fn address_text(alloc: Global, address: &OctetString) -> Result<String, AllocError> {
     match address.as_octets() {
         [a, b, c, d] => {

@@ -3,10 +3,10 @@
 use rasn::types::ObjectIdentifier;
 use std::alloc::{AllocError, Global};
 
-/// Arcs and the name of the identifier that has them.
+/// The arcs of an object identifier, and its name.
 type Named = (&'static [u32], &'static str);
 
-/// Algorithms, contents, attributes, extensions and purposes.
+/// The names of algorithms, content types, attributes, extensions and key purposes.
 const IDENTIFIERS: &[Named] = &[
     // Algorithms of PKCS #1 (RFC 8017, appendix C).
     (&[1, 2, 840, 113549, 1, 1, 1], "rsaEncryption"),
@@ -20,7 +20,7 @@ const IDENTIFIERS: &[Named] = &[
     (&[1, 2, 840, 113549, 1, 1, 12], "sha384WithRSAEncryption"),
     (&[1, 2, 840, 113549, 1, 1, 13], "sha512WithRSAEncryption"),
     (&[1, 2, 840, 113549, 1, 1, 14], "sha224WithRSAEncryption"),
-    // Contents of signed messages (RFC 5652).
+    // Content types of signed messages (RFC 5652).
     (&[1, 2, 840, 113549, 1, 7, 1], "id-data"),
     (&[1, 2, 840, 113549, 1, 7, 2], "id-signedData"),
     (&[1, 2, 840, 113549, 1, 7, 3], "id-envelopedData"),
@@ -85,7 +85,7 @@ const IDENTIFIERS: &[Named] = &[
     // Extensions of RFC 5280, 4.2.2.
     (&[1, 3, 6, 1, 5, 5, 7, 1, 1], "authorityInfoAccess"),
     (&[1, 3, 6, 1, 5, 5, 7, 1, 11], "subjectInfoAccess"),
-    // Purposes of keys (RFC 5280, 4.2.1.12).
+    // Key purposes (RFC 5280, 4.2.1.12).
     (&[1, 3, 6, 1, 5, 5, 7, 3, 1], "id-kp-serverAuth"),
     (&[1, 3, 6, 1, 5, 5, 7, 3, 2], "id-kp-clientAuth"),
     (&[1, 3, 6, 1, 5, 5, 7, 3, 3], "id-kp-codeSigning"),
@@ -99,7 +99,7 @@ const IDENTIFIERS: &[Named] = &[
     ),
 ];
 
-/// The types of attributes by their short names (RFC 4514, 3, RFC 4519, RFC 5280, appendix A.1).
+/// The short names of attribute types (RFC 4514, 3, RFC 4519, RFC 5280, appendix A.1).
 const ATTRIBUTES: &[Named] = &[
     // X.520.
     (&[2, 5, 4, 3], "CN"),
@@ -120,7 +120,7 @@ const ATTRIBUTES: &[Named] = &[
     (&[1, 2, 840, 113549, 1, 9, 1], "emailAddress"),
 ];
 
-/// The name of these arcs.
+/// Returns the name of these arcs.
 fn name_of(arcs: &[u32], names: &[Named]) -> Option<&'static str> {
     for (known, name) in names {
         if *known == arcs {
@@ -130,7 +130,8 @@ fn name_of(arcs: &[u32], names: &[Named]) -> Option<&'static str> {
     None
 }
 
-/// The arcs of an identifier with its name in front where it is well known: `sha256WithRSAEncryption (1.2.840.113549.1.1.11)`.
+/// Returns the arcs of an object identifier, with its name before them if it is well known:
+/// `sha256WithRSAEncryption (1.2.840.113549.1.1.11)`.
 pub(crate) fn identifier_text(
     alloc: Global,
     identifier: &ObjectIdentifier,
@@ -141,7 +142,7 @@ pub(crate) fn identifier_text(
     }
 }
 
-/// The short name of an attribute's type.
+/// Returns the short name of an attribute type.
 pub(crate) fn attribute_name(arcs: &[u32]) -> Option<&'static str> {
     name_of(arcs, ATTRIBUTES)
 }

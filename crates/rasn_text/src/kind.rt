@@ -1,27 +1,27 @@
-//! The messages that can be shown.
+//! The kinds of messages that can be shown.
 ghost use Rattle.std.specs.Prelude.{◌≡◌, MatchOption};
 ghost use Rattle.rasn_text.specs.Kinds.{name_of};
 ghost use Rattle.rasn_text.specs.declared.kind.Kind.{Kind};
 
-/// A message that can be shown.
+/// A kind of message that can be shown.
 #[derive(Clone, Copy, Debug, PartialEq, Eq)]
 pub enum Kind {
     /// A certificate (RFC 5280).
     Certificate,
     /// A revocation list (RFC 5280, 5).
     RevocationList,
-    /// A request for a certificate (RFC 2986).
+    /// A certification request (RFC 2986).
     Request,
     /// A signed message (RFC 5652).
     SignedMessage,
-    /// A message of LDAP (RFC 4511, 4.1.1).
+    /// An LDAP message (RFC 4511, 4.1.1).
     Ldap,
-    /// A message of SNMP with a community (RFC 1901; RFC 1157, 4).
+    /// An SNMP message with a community (RFC 1901; RFC 1157, 4).
     Snmp,
 }
 
 impl Kind {
-    /// The message of this name.
+    /// Returns the kind of this name.
     pub fn of_name(name: &str) -> Option<Kind>
         ensures { MatchOption result ((kind : Kind) → name.now ≡ name_of kind → ⊥) (λ kind. name.now ≡ name_of kind) }
     {
@@ -36,7 +36,7 @@ impl Kind {
         }
     }
 
-    /// Its name.
+    /// Returns its name.
     pub fn name(self) -> &'static str
         ensures { result.now ≡ name_of self }
     {

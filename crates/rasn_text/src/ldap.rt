@@ -1,4 +1,4 @@
-//! Messages of LDAP as text (RFC 4511).
+//! LDAP messages as text (RFC 4511).
 
 mod bind;
 mod entry;
@@ -32,7 +32,7 @@ impl Listed for LdapMessage {
     }
 }
 
-/// The name of an operation or of an answer (RFC 4511, 4.1.1).
+/// Returns the name of a request or response (RFC 4511, 4.1.1).
 fn operation_name(operation: &ProtocolOp) -> &'static str {
     match operation {
         ProtocolOp::BindRequest(_) => "bind request",
@@ -49,7 +49,7 @@ fn operation_name(operation: &ProtocolOp) -> &'static str {
     }
 }
 
-/// Lists the parts of an operation or of an answer.
+/// Lists the parts of a request or response.
 fn list_operation(listing: &mut Listing, operation: &ProtocolOp) -> Result<(), AllocError> {
     match operation {
         ProtocolOp::BindRequest(request) => list_bind_request(listing, request),
@@ -88,13 +88,13 @@ fn list_control(listing: &mut Listing, control: &Control) -> Result<(), AllocErr
     Ok(())
 }
 
-/// Lists a string.
+/// Lists a string in quotation marks.
 fn list_string(listing: &mut Listing, title: &str, text: &str) -> Result<(), AllocError> {
     let text = quoted_text(listing.alloc(), text)?;
     listing.line(title, &text)
 }
 
-/// Lists octets, which may be text.
+/// Lists octets: as text if they are UTF-8 without control characters, otherwise in hexadecimal.
 fn list_octets(listing: &mut Listing, title: &str, octets: &OctetString) -> Result<(), AllocError> {
     let text = octets_text(listing.alloc(), octets.as_octets())?;
     listing.line(title, &text)

@@ -1,4 +1,4 @@
-//! Messages of the standards as indented text, and what the program `rasn-show` does.
+//! Messages of the standards as indented text, and the work of the program `rasn-show`.
 #![tactic(auto)]
 
 mod arguments;

@@ -1,18 +1,18 @@
-//! Lines of text, each deeper one further to the right.
+//! Lines of text, indented by their depth.
 
 use std::alloc::{AllocError, Global};
 use std::fmt;
 
-/// A message that is shown as lines of text.
+/// A message that can be shown as lines of text.
 pub(crate) trait Listed {
-    /// Puts its lines behind those that are there.
+    /// Appends the lines of this message.
     fn list(&self, listing: &mut Listing) -> Result<(), AllocError>;
 }
 
 /// A number and its name in ASN.1.
 pub(crate) type NamedNumber = (i32, &'static str);
 
-/// The name of the number, if it has one.
+/// Returns the name of the number, if it has one.
 fn name_of(number: i32, names: &[NamedNumber]) -> Option<&'static str> {
     for (named, name) in names {
         if *named == number {
@@ -22,7 +22,7 @@ fn name_of(number: i32, names: &[NamedNumber]) -> Option<&'static str> {
     None
 }
 
-/// Lines of text that are put together, two spaces further to the right for each heading that is open.
+/// Lines of text that are appended one by one, indented by two spaces for each open heading.
 #[derive(Debug, Drop)]
 pub(crate) struct Listing {
     text: String,
@@ -31,7 +31,7 @@ pub(crate) struct Listing {
 }
 
 impl Listing {
-    /// No lines.
+    /// Returns a listing without lines.
     pub(crate) fn new(alloc: Global) -> Listing {
         Listing {
             text: String::new(alloc),
@@ -40,12 +40,12 @@ impl Listing {
         }
     }
 
-    /// What texts are allocated in.
+    /// Returns the allocator of texts.
     pub(crate) fn alloc(&self) -> Global {
         self.alloc
     }
 
-    /// The lines.
+    /// Returns the lines as one text.
     pub(crate) fn into_text(self) -> String {
         let Listing {
             text,
@@ -55,7 +55,7 @@ impl Listing {
         text
     }
 
-    /// Puts the spaces of a line.
+    /// Appends the indentation of a line.
     fn begin(&mut self) -> Result<(), AllocError> {
         for _ in 0..self.depth {
             self.text.push_str("  ")?;
@@ -63,7 +63,7 @@ impl Listing {
         Ok(())
     }
 
-    /// Puts a heading, under which the lines stand until it is closed.
+    /// Appends a heading. The lines after it are indented further until it is closed.
     pub(crate) fn open(&mut self, heading: &str) -> Result<(), AllocError> {
         self.begin()?;
         writeln!(self.text, "{heading}")?;
@@ -71,12 +71,12 @@ impl Listing {
         Ok(())
     }
 
-    /// Closes the last heading.
+    /// Closes the innermost open heading.
     pub(crate) fn close(&mut self) {
         self.depth = self.depth.saturating_sub(1);
     }
 
-    /// Puts a line of a name and a value.
+    /// Appends a line of a name and a value.
     pub(crate) fn line<T: fmt::Display>(
         &mut self,
         name: &str,
@@ -86,7 +86,7 @@ impl Listing {
         writeln!(self.text, "{name}: {value}")
     }
 
-    /// Puts a line of a number and the name that it has, if any: `result code: 0 (success)`.
+    /// Appends a line of a number and its name, if it has one: `result code: 0 (success)`.
     pub(crate) fn numbered(
         &mut self,
         title: &str,
@@ -100,7 +100,8 @@ impl Listing {
         }
     }
 
-    /// Puts a line of a variable, the type of its value and the value: `1.3.6.1.2.1.1.3.0 = TimeTicks 77`.
+    /// Appends a line of a variable, the type of its value and the value:
+    /// `1.3.6.1.2.1.1.3.0 = TimeTicks 77`.
     pub(crate) fn binding<N: fmt::Display, T: fmt::Display>(
         &mut self,
         name: &N,
@@ -111,7 +112,7 @@ impl Listing {
         writeln!(self.text, "{name} = {kind} {value}")
     }
 
-    /// Puts a line of a variable that has no value, and why.
+    /// Appends a line of a variable that has no value, with the reason.
     pub(crate) fn unbound<N: fmt::Display>(
         &mut self,
         name: &N,

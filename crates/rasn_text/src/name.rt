@@ -1,4 +1,4 @@
-//! Names as text.
+//! Distinguished names as text.
 
 use crate::characters::{Characters, push_escaped};
 use crate::identifiers::attribute_name;
@@ -12,7 +12,8 @@ use rasn_x509::{AttributeTypeAndValue, Name, RelativeDistinguishedName};
 use std::alloc::{AllocError, Global};
 use std::str;
 
-/// The attributes of a name in their order, `C=DE, O=Example, CN=example.org`, those of one relative distinguished name with a `+` between two.
+/// Returns the attributes of a name in their order, `C=DE, O=Example, CN=example.org`. Those of one
+/// relative distinguished name are separated by `+`.
 pub(crate) fn name_text(alloc: Global, name: &Name) -> Result<String, AllocError> {
     let mut text = String::new(alloc);
     for relative in name {
@@ -24,7 +25,7 @@ pub(crate) fn name_text(alloc: Global, name: &Name) -> Result<String, AllocError
     Ok(text)
 }
 
-/// Puts the attributes of one relative distinguished name behind the text.
+/// Appends the attributes of one relative distinguished name to the text.
 fn push_relative(
     text: &mut String,
     alloc: Global,
@@ -41,7 +42,7 @@ fn push_relative(
     Ok(())
 }
 
-/// Puts one attribute behind the text.
+/// Appends one attribute to the text.
 fn push_attribute(
     text: &mut String,
     alloc: Global,
@@ -58,7 +59,7 @@ fn push_attribute(
     }
 }
 
-/// Puts an attribute's type behind the text, by its short name where it has one.
+/// Appends the type of an attribute to the text, by its short name if it has one.
 fn push_type(text: &mut String, kind: &ObjectIdentifier) -> Result<(), AllocError> {
     match attribute_name(kind.arcs()) {
         Some(name) => text.push_str(name),
@@ -66,7 +67,7 @@ fn push_type(text: &mut String, kind: &ObjectIdentifier) -> Result<(), AllocErro
     }
 }
 
-/// The text of a value of a string type, and none of another.
+/// Returns the text of a value of a string type; `None` for a value of another type.
 pub(crate) fn string_of(alloc: Global, value: &Any) -> Result<Option<String>, AllocError> {
     let octets = value.as_bytes();
     match octets {
@@ -81,7 +82,8 @@ pub(crate) fn string_of(alloc: Global, value: &Any) -> Result<Option<String>, Al
     }
 }
 
-/// The text of the octets read as a value of the type; none where they aren't one.
+/// Returns the text of the octets, read as a value of the type; `None` if they aren't an encoding
+/// of it.
 fn read_text<T: Decode + Characters>(
     alloc: Global,
     octets: &[u8],
@@ -92,7 +94,8 @@ fn read_text<T: Decode + Characters>(
     }
 }
 
-/// The text of a TeletexString whose octets are all ASCII; none of another, since few keep to what T.61 says of the others.
+/// Returns the text of a TeletexString whose octets are all ASCII; `None` for others, since few
+/// programs use the other octets as T.61 defines them.
 fn read_ascii(alloc: Global, octets: &[u8]) -> Result<Option<String>, AllocError> {
     let Some(value) = value_of::<TeletexString>(alloc, Codec::Ber, octets)? else {
         return Ok(None);

@@ -4,7 +4,8 @@ use rasn::types::{BitString, Hexadecimal, Integer};
 use std::alloc::{AllocError, Global};
 use std::str;
 
-/// The bits in hexadecimal, and how many of the last octet are unused where some are.
+/// Returns the bits in hexadecimal, with the number of unused bits of the last octet unless it is
+/// 0.
 pub(crate) fn bits_text(alloc: Global, bits: &BitString) -> Result<String, AllocError> {
     let shown = Hexadecimal::new(bits.as_octets());
     match bits.as_bitstr().unused() {
@@ -13,7 +14,8 @@ pub(crate) fn bits_text(alloc: Global, bits: &BitString) -> Result<String, Alloc
     }
 }
 
-/// The number's octets in hexadecimal, without the zero octet that stands before a positive number whose first bit is set.
+/// Returns the octets of the number in hexadecimal, without the leading zero octet of a positive
+/// number whose first bit is set.
 pub(crate) fn number_text(alloc: Global, number: &Integer) -> Result<String, AllocError> {
     if number.is_negative() {
         let shown = Hexadecimal::new(number.as_octets());
@@ -27,7 +29,8 @@ pub(crate) fn number_text(alloc: Global, number: &Integer) -> Result<String, All
     format!(in alloc; "{shown}")
 }
 
-/// The octets as text in quotation marks, where they are UTF-8 without control characters, and else in hexadecimal.
+/// Returns the octets as text in quotation marks if they are UTF-8 without control characters,
+/// otherwise in hexadecimal.
 pub(crate) fn octets_text(alloc: Global, octets: &[u8]) -> Result<String, AllocError> {
     match str::from_utf8(octets) {
         Ok(text) => quoted_text(alloc, text),
@@ -35,7 +38,7 @@ pub(crate) fn octets_text(alloc: Global, octets: &[u8]) -> Result<String, AllocE
     }
 }
 
-/// The text in quotation marks, or the octets of one with control characters in hexadecimal.
+/// Returns the text in quotation marks, or its octets in hexadecimal if it has control characters.
 pub(crate) fn quoted_text(alloc: Global, text: &str) -> Result<String, AllocError> {
     if has_control(text) {
         hexadecimal_text(alloc, text.as_bytes())
@@ -44,7 +47,7 @@ pub(crate) fn quoted_text(alloc: Global, text: &str) -> Result<String, AllocErro
     }
 }
 
-/// Whether one of the characters is a control character.
+/// Returns whether the text has a control character.
 fn has_control(text: &str) -> bool {
     for character in text.chars() {
         if character.is_control() {
@@ -54,7 +57,7 @@ fn has_control(text: &str) -> bool {
     false
 }
 
-/// The octets in hexadecimal.
+/// Returns the octets in hexadecimal.
 fn hexadecimal_text(alloc: Global, octets: &[u8]) -> Result<String, AllocError> {
     let shown = Hexadecimal::new(octets);
     format!(in alloc; "{shown}")

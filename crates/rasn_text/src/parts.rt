@@ -1,4 +1,4 @@
-//! The parts of messages by their names, as they are read one behind the other.
+//! The parts of messages with their names, read one after another.
 
 mod certificate;
 mod ldap;

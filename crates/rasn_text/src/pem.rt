@@ -1,4 +1,4 @@
-//! Octets as text: PEM (RFC 7468).
+//! PEM, the textual encoding of octets (RFC 7468).
 ghost use Rattle.std.specs.Prelude.{◌≡◌, ◌<◌, ◌++◌, IfOk, IfSome, length};
 ghost use Rattle.std.specs.List.{filter};
 ghost use Rattle.base64.specs.Engines.{standard};
@@ -10,42 +10,44 @@ use base64::engine::general_purpose::STANDARD;
 use std::alloc::{AllocError, Global};
 use thiserror::Error;
 
-/// Why a text has no octets.
+/// The reason why a text isn't PEM.
 #[derive(Clone, Copy, Debug, PartialEq, Eq, Drop, Error)]
 pub enum PemError {
-    /// Its first line isn't `-----BEGIN LABEL-----`.
+    /// The first line isn't `-----BEGIN LABEL-----`.
     #[error("PEM: no line -----BEGIN LABEL-----")]
     Begin,
     /// No line `-----END LABEL-----` with the same label follows.
     #[error("PEM: no line -----END LABEL----- with the label of the first")]
     End,
-    /// What stands between these lines isn't base64 (RFC 4648, 4).
+    /// The text between these lines isn't base64 (RFC 4648, 4).
     #[error("PEM: {0}")]
     Base64(base64::DecodeError),
-    /// A growth of memory was refused.
+    /// An allocation failed.
     #[error("out of memory")]
     OutOfMemory,
 }
 
-/// What a text in PEM begins with.
+/// The text that the first line of a block begins with.
 const BEGIN: &str = "-----BEGIN ";
 
-/// What the last line of a block begins with.
+/// The text that the last line of a block begins with.
 const END: &str = "-----END ";
 
-/// What both lines end with.
+/// The text that both lines end with.
 const DASHES: &str = "-----";
 
-/// Whether the octets begin as a text in PEM does.
+/// Returns whether the octets begin as a text in PEM does.
 pub fn is_pem(octets: &[u8]) -> bool {
     octets.starts_with(BEGIN.as_bytes())
 }
 
-/// The octets of the block that begins the text, and what follows it: what stands between the first line and the last one, less white space, is
-/// the base64 of the octets. Labels aren't looked at, but that both are the same.
+/// Returns the octets of the block that the text begins with, and the text after the block. The
+/// text between the first and the last line of the block, without white space, is the base64 of the
+/// octets. Both lines must have the same label, which may be any.
 ///
 /// # Errors
-/// Where the text doesn't begin with a block; running out of memory.
+/// `Begin`, `End` or `Base64` if the text doesn't begin with a block; `OutOfMemory` if an
+/// allocation fails.
 pub fn first_block(alloc: Global, text: &str) -> Result<(Vec<u8>, &str), PemError>
     ensures block { IfOk result (λ r. IsBlock text.now r.0.items r.1.now) }
     ensures fewer { IfOk result (λ r. length r.1.now < length text.now) }
@@ -60,7 +62,7 @@ pub fn first_block(alloc: Global, text: &str) -> Result<(Vec<u8>, &str), PemErro
     Ok((octets, behind))
 }
 
-/// The label of the first line, and what follows the line's dashes.
+/// Returns the label of the first line, and the text after the dashes that end the line.
 fn after_begin(text: &str) -> Option<(&str, &str)>
     ensures { IfSome result (λ r. text.now ≡ begin ++ (r.0.now ++ (dashes ++ r.1.now))) }
 {
@@ -68,7 +70,7 @@ fn after_begin(text: &str) -> Option<(&str, &str)>
     parted(behind, DASHES)
 }
 
-/// What stands before the last line, which has the label, and what follows that.
+/// Returns the text before the last line, which has this label, and the text after that line.
 fn before_end<'text>(text: &'text str, label: &str) -> Option<(&'text str, &'text str)>
     ensures { IfSome result (λ r. text.now ≡ r.0.now ++ (end ++ (label.now ++ (dashes ++ r.1.now)))) }
 {
@@ -78,21 +80,21 @@ fn before_end<'text>(text: &'text str, label: &str) -> Option<(&'text str, &'tex
     Some((body, rest))
 }
 
-/// What follows the front.
+/// Returns the text after `front`.
 fn behind<'text>(text: &'text str, front: &str) -> Option<&'text str>
     ensures { IfSome result (λ r. text.now ≡ front.now ++ r.now) }
 {
     text.strip_prefix(front)
 }
 
-/// What stands before the first place where the words stand, and behind it.
+/// Returns the text before the first place where `words` occurs, and the text after it.
 fn parted<'text>(text: &'text str, words: &str) -> Option<(&'text str, &'text str)>
     ensures { IfSome result (λ r. text.now ≡ r.0.now ++ (words.now ++ r.1.now)) }
 {
     text.split_once(words)
 }
 
-/// The octets that a text in base64 stands for, whatever its lines are.
+/// Returns the octets that the base64 text encodes, however it is broken into lines.
 fn octets_of(alloc: Global, body: &str) -> Result<Vec<u8>, PemError>
     ensures { IfOk result (λ v. filter is_symbol body.now ≡ encode_of standard v.items) }
 {
@@ -106,7 +108,7 @@ fn octets_of(alloc: Global, body: &str) -> Result<Vec<u8>, PemError>
     }
 }
 
-/// The text without spaces, tabs and the ends of its lines.
+/// Returns the text without white space.
 fn without_spaces(alloc: Global, text: &[u8]) -> Result<Vec<u8>, AllocError>
     ensures { IfOk result (λ v. v.items ≡ filter is_symbol text.now) }
 {
@@ -116,7 +118,8 @@ fn without_spaces(alloc: Global, text: &[u8]) -> Result<Vec<u8>, AllocError>
         .collect(alloc)
 }
 
-/// Whether the octet is a space, a tab, or of the end of a line (RFC 7468, 3).
+/// Returns whether the octet is white space: space, tab, line feed, vertical tab, form feed or
+/// carriage return (RFC 7468, 3).
 fn is_space(octet: u8) -> bool
     ensures { result ≡ is_space octet }
 {

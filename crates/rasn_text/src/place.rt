@@ -1,4 +1,4 @@
-//! Where octets aren't the message that they have to be.
+//! The places where octets aren't an encoding of the expected message.
 use rasn::ber::de::{Decoder, DecoderOptions};
 use rasn::de::Decode;
 use rasn::parts::{DefaultValue, ExplicitDefault};
@@ -6,8 +6,8 @@ use rasn::types::{Codec, Explicit, Tag};
 use std::alloc::{AllocError, Global};
 use std::fmt;
 
-/// Where a message isn't read: the part of it by the names of ASN.1, `tbsCertificate.extensions[2].critical`, and the octet that the part begins
-/// with, counted from 0.
+/// The place of a part that is refused: its path in the names of ASN.1, such as
+/// `tbsCertificate.extensions[2].critical`, and the offset of its first octet, counted from 0.
 #[derive(Debug, PartialEq, Eq, Drop)]
 pub struct Place {
     path: String,
@@ -15,7 +15,7 @@ pub struct Place {
 }
 
 impl Place {
-    /// This octet, in no part.
+    /// Returns the place of this octet, with an empty path.
     pub(crate) fn at(alloc: Global, octet: usize) -> Place {
         Place {
             path: String::new(alloc),
@@ -35,12 +35,12 @@ impl fmt::Display for Place {
     }
 }
 
-/// What is found where a part is refused.
+/// The outcome of the search for the place of a refused part.
 #[derive(Debug, Drop)]
 pub(crate) enum Found {
-    /// The part's place.
+    /// The place of the part.
     At(Place),
-    /// Memory ran out while it was looked for.
+    /// An allocation failed during the search.
     OutOfMemory,
 }
 
@@ -51,7 +51,7 @@ impl From<AllocError> for Found {
 }
 
 impl Found {
-    /// What was found, so many octets further on.
+    /// Returns the same outcome, with `passed` added to the octet.
     fn behind(self, passed: usize) -> Found {
         match self {
             Found::At(Place { path, octet }) => Found::At(Place {
@@ -62,7 +62,7 @@ impl Found {
         }
     }
 
-    /// What was found, in the part of this name.
+    /// Returns the same outcome, within the part of this name.
     fn within(self, alloc: Global, name: &str) -> Found {
         match self {
             Found::At(Place { path, octet }) => match joined(alloc, name, path.as_str()) {
@@ -73,7 +73,7 @@ impl Found {
         }
     }
 
-    /// What was found, in the element of this number.
+    /// Returns the same outcome, within the element of this number.
     fn within_element(self, alloc: Global, number: usize) -> Found {
         match format!(in alloc; "[{number}]") {
             Ok(name) => self.within(alloc, name.as_str()),
@@ -82,7 +82,7 @@ impl Found {
     }
 }
 
-/// The path of a part within the part of this name.
+/// Returns the path of a part that is within the part of this name.
 fn joined(alloc: Global, name: &str, path: &str) -> Result<String, AllocError> {
     if path.is_empty() || path.starts_with('[') {
         format!(in alloc; "{name}{path}")
@@ -91,15 +91,16 @@ fn joined(alloc: Global, name: &str, path: &str) -> Result<String, AllocError> {
     }
 }
 
-/// A type whose parts can be read one behind the other.
+/// A type whose parts can be read one after another.
 pub(crate) trait Located: Decode {
-    /// Reads the parts up to the first that is refused. A type without parts has none to read.
+    /// Reads the parts up to the first that is refused. Does nothing for a type without parts.
     fn parts(_walk: &mut Walk<'_>) -> Result<(), Found> {
         Ok(())
     }
 }
 
-/// The contents of a value, of which so many octets were read, and the octet of its identifier.
+/// The contents of a value, the number of its octets that have been read, and the value's
+/// identifier octet.
 #[derive(Debug, Drop)]
 pub(crate) struct Walk<'octets> {
     alloc: Global,
@@ -110,7 +111,7 @@ pub(crate) struct Walk<'octets> {
 }
 
 impl<'octets> Walk<'octets> {
-    /// What wasn't read.
+    /// Returns the octets that haven't been read.
     fn rest(&self) -> &'octets [u8] {
         match self.contents.get(self.passed..) {
             Some(rest) => rest,
@@ -118,7 +119,7 @@ impl<'octets> Walk<'octets> {
         }
     }
 
-    /// Reads the next value, which has no name of its own.
+    /// Reads the next value, which has no name.
     pub(crate) fn value<T: Located>(&mut self) -> Result<(), Found> {
         match length_of::<T>(self.alloc, self.rule, self.rest()) {
             Ok(length) => {
@@ -129,7 +130,7 @@ impl<'octets> Walk<'octets> {
         }
     }
 
-    /// Reads the next part.
+    /// Reads the next part, which has this name.
     pub(crate) fn part<T: Located>(&mut self, name: &str) -> Result<(), Found> {
         match self.value::<T>() {
             Ok(()) => Ok(()),
@@ -137,7 +138,8 @@ impl<'octets> Walk<'octets> {
         }
     }
 
-    /// Reads the next part where it comes, which has to be another value than the default (X.690 11.5).
+    /// Reads the next part if it is present. Under DER its value must not be the default
+    /// (X.690 11.5).
     pub(crate) fn default_part<V: DefaultValue>(&mut self, name: &str) -> Result<(), Found>
     where
         V::Value: Located,
@@ -151,7 +153,8 @@ impl<'octets> Walk<'octets> {
         Ok(())
     }
 
-    /// Reads the next part, whose value stands under an explicit tag, where it comes. It has to be another value than the default.
+    /// Reads the next part, whose value has an explicit tag, if it is present. Under DER its value
+    /// must not be the default.
     pub(crate) fn explicit_default_part<V: ExplicitDefault>(
         &mut self,
         name: &str,
@@ -171,7 +174,7 @@ impl<'octets> Walk<'octets> {
         Ok(())
     }
 
-    /// Reads elements of one type up to the end.
+    /// Reads elements of one type up to the end of the contents.
     pub(crate) fn elements<T: Located>(&mut self) -> Result<(), Found> {
         for number in 0..self.contents.len() {
             if self.rest().is_empty() {
@@ -184,7 +187,8 @@ impl<'octets> Walk<'octets> {
         Ok(())
     }
 
-    /// Reads the parts of the alternative of a CHOICE where the value begins with this octet.
+    /// Reads the parts of this alternative of a CHOICE if its identifier octet is that of the
+    /// value.
     pub(crate) fn alternative<T: Located>(
         &mut self,
         identifier: u8,
@@ -200,7 +204,8 @@ impl<'octets> Walk<'octets> {
     }
 }
 
-/// How many octets the value has that begins the octets, and else where they aren't one.
+/// Returns the number of octets of the value that the octets begin with, or the place where they
+/// aren't one.
 fn length_of<T: Located>(alloc: Global, rule: Codec, octets: &[u8]) -> Result<usize, Found> {
     let mut decoder = Decoder::new(alloc, octets, DecoderOptions::of(rule));
     match T::decode(&mut decoder) {
@@ -210,7 +215,7 @@ fn length_of<T: Located>(alloc: Global, rule: Codec, octets: &[u8]) -> Result<us
     }
 }
 
-/// Whether the octets begin with the default under DER, which leaves it out.
+/// Returns whether, under DER, the octets begin with the default value, which DER leaves out.
 fn is_default<V: DefaultValue>(alloc: Global, rule: Codec, octets: &[u8]) -> Result<bool, Found>
 where
     V::Value: Decode,
@@ -226,8 +231,9 @@ where
     }
 }
 
-/// Where octets aren't a value of the type: the start of the deepest part that is refused, or of what no part reads, or of the value. A value of another
-/// tag, or of a primitive encoding, has no parts of the type.
+/// Returns where the octets aren't a value of the type: the start of the deepest part that is
+/// refused, or of the octets that no part reads, or of the value itself. The parts of a value that
+/// has another tag or is primitive aren't searched.
 pub(crate) fn place_in<T: Located>(alloc: Global, rule: Codec, octets: &[u8]) -> Found {
     let Some((identifier, header, contents)) = contents_of(octets) else {
         return Found::At(Place::at(alloc, 0));
@@ -255,20 +261,22 @@ pub(crate) fn place_in<T: Located>(alloc: Global, rule: Codec, octets: &[u8]) ->
     }
 }
 
-/// Whether the first value has the tag of the type. A CHOICE and an open type have none, and may begin with any (X.680 14, 29).
+/// Returns whether the first value has the tag of the type. A CHOICE and an open type have no tag
+/// of their own, so any tag is accepted (X.680 14, 29).
 fn has_tag_of<T: Located>(alloc: Global, rule: Codec, octets: &[u8]) -> bool {
     let decoder = Decoder::new(alloc, octets, DecoderOptions::of(rule));
     T::TAG == Tag::EOC || matches!(decoder.peek_tag(), Ok(tag) if tag == T::TAG)
 }
 
-/// The bit of an identifier that a constructed encoding has (X.690 8.1.2.5).
+/// The bit that is set in the identifier of a constructed encoding (X.690 8.1.2.5).
 const CONSTRUCTED: u8 = 0x20;
 
-/// What the low bits of an identifier are where further octets have the number of its tag (X.690 8.1.2.4).
+/// The low bits of an identifier octet if the tag number follows in further octets (X.690 8.1.2.4).
 const HIGH_NUMBER: u8 = 0x1F;
 
-/// The identifier of the first value, how many octets its header has, and its contents, where these are there, the length is definite and below
-/// 2^24, and the identifier is one octet.
+/// Returns the identifier octet, the number of header octets and the contents of the first value.
+/// `None` if the identifier has more than one octet, the length is indefinite or has more than
+/// three octets after its first, or the contents aren't all present.
 fn contents_of(octets: &[u8]) -> Option<(u8, usize, &[u8])> {
     if octets.first()? & HIGH_NUMBER == HIGH_NUMBER {
         return None;

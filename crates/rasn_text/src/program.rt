@@ -1,4 +1,4 @@
-//! The program's work: the text of the messages that are all of an input.
+//! The work of the program: it prints the messages of an input as text.
 
 use crate::arguments::Call;
 use crate::pem::{PemError, first_block, is_pem};
@@ -8,7 +8,7 @@ use std::io::{self, ErrorKind, Read, Write};
 use std::str;
 use thiserror::Error;
 
-/// Why the work stopped.
+/// The reason why the program stops.
 #[derive(Clone, Copy, Debug, PartialEq, Eq, Drop, Error)]
 pub enum RunFault {
     /// The input can't be read.
@@ -17,12 +17,12 @@ pub enum RunFault {
     /// The output can't be written.
     #[error("cannot write")]
     Write,
-    /// A growth of the program's own was refused.
+    /// An allocation fails.
     #[error("out of memory")]
     Memory,
 }
 
-/// Why an input isn't answered.
+/// The reason why an input isn't shown.
 #[derive(Debug, Drop, Error)]
 enum Refusal {
     #[error("{0}")]
@@ -57,8 +57,9 @@ impl From<PemError> for Refusal {
     }
 }
 
-/// Answers what is called for: the text of the message that is all of the input goes to the output, and why there is none to `refusals`. Where
-/// the call only checks, nothing is written. It returns whether there is a message.
+/// Reads the whole input, and writes the text of its messages to the output, or the reason why it
+/// is refused to `refusals`. If the call only checks, nothing is written. Returns whether the input
+/// is accepted.
 pub fn run<R: Read, W: Write, E: Write>(
     alloc: Global,
     call: &Call<'_>,
@@ -71,7 +72,7 @@ pub fn run<R: Read, W: Write, E: Write>(
     tell(alloc, call, &answer, output, refusals)
 }
 
-/// Writes the answer, and returns whether it is a message.
+/// Writes the text or the reason of the refusal, and returns whether there is a text.
 fn tell<W: Write, E: Write>(
     alloc: Global,
     call: &Call<'_>,
@@ -86,7 +87,7 @@ fn tell<W: Write, E: Write>(
     Ok(answer.is_ok())
 }
 
-/// Says why there is no message, where the call doesn't only check.
+/// Writes the reason of the refusal, unless the call only checks.
 fn refuse<E: Write>(
     alloc: Global,
     call: &Call<'_>,
@@ -106,7 +107,7 @@ fn refuse<E: Write>(
     }
 }
 
-/// All of the input.
+/// Reads all of the input.
 fn read_all<R: Read>(alloc: Global, input: &mut R) -> Result<Vec<u8>, RunFault> {
     let mut octets = Vec::new(alloc);
     match input.read_to_end(&mut octets) {
@@ -116,7 +117,7 @@ fn read_all<R: Read>(alloc: Global, input: &mut R) -> Result<Vec<u8>, RunFault> 
     }
 }
 
-/// Writes a text to its end.
+/// Writes all of a text and flushes the output.
 fn write_all<W: Write>(output: &mut W, text: &str) -> Result<(), RunFault> {
     match write_and_flush(output, text) {
         Ok(()) => Ok(()),
@@ -129,7 +130,7 @@ fn write_and_flush<W: Write>(output: &mut W, text: &str) -> io::Result<()> {
     output.flush()
 }
 
-/// The text of the message that the octets are, or of each of the messages that they are in PEM.
+/// Returns the text of the message that the octets are, or of all messages of a text in PEM.
 fn answer(alloc: Global, call: &Call<'_>, octets: &[u8]) -> Result<String, Refusal> {
     if is_pem(octets) {
         match str::from_utf8(octets) {
@@ -141,7 +142,8 @@ fn answer(alloc: Global, call: &Call<'_>, octets: &[u8]) -> Result<String, Refus
     }
 }
 
-/// The texts of all blocks, one behind the other. Nothing but spaces and ends of lines stands between two.
+/// Returns the texts of the messages of all blocks, one after another. Only white space may
+/// separate two blocks.
 fn answer_blocks(alloc: Global, call: &Call<'_>, text: &str) -> Result<String, Refusal> {
     let mut answers = String::new(alloc);
     let mut rest = text;
@@ -154,7 +156,8 @@ fn answer_blocks(alloc: Global, call: &Call<'_>, text: &str) -> Result<String, R
     Ok(answers)
 }
 
-/// The text of the message that is all of the octets, or none where the call only checks.
+/// Returns the text of the message that all of the octets are; an empty text if the call only
+/// checks.
 fn answer_message(alloc: Global, call: &Call<'_>, octets: &[u8]) -> Result<String, ReadError> {
     if call.checks {
         check(alloc, call.kind, call.rule, octets)?;

@@ -1,4 +1,4 @@
-//! Messages that are all of some octets.
+//! The reading of inputs that are one whole message.
 ghost use Rattle.std.specs.Prelude.{MatchResult};
 ghost use Rattle.rasn_text.specs.Reading.{IsMessage, IsRefused, IsToldOf, IsWhole};
 ghost use Rattle.rasn_text.specs.Kinds.{shape_of};
@@ -17,18 +17,19 @@ use rasn_snmp::Message;
 use std::alloc::Global;
 use thiserror::Error;
 
-/// Why octets aren't shown.
+/// The reason why octets aren't shown.
 #[derive(Debug, PartialEq, Eq, Drop, Error)]
 pub enum ReadError {
-    /// They aren't one message of the kind, alone. It isn't read from this place on.
+    /// The octets aren't exactly one message of the kind. `place` is where the reading fails.
     #[error("{place}: {error}")]
     Decode { place: Place, error: DecodeError },
-    /// A growth of memory was refused.
+    /// An allocation fails.
     #[error("out of memory")]
     OutOfMemory,
 }
 
-/// The value that is all of the octets by these rules: exactly where there is one, but for running out of memory.
+/// Returns the value that all of the octets encode under the rules. Fails exactly if there is none,
+/// or an allocation fails.
 fn read<T: Located>(alloc: Global, rule: Codec, octets: &[u8]) -> Result<T, ReadError>
     ensures { MatchResult result (λ value. IsWhole rule T.shape octets.now (T.tree value)) (IsRefused rule T.shape octets.now) }
 {
@@ -45,7 +46,7 @@ fn read<T: Located>(alloc: Global, rule: Codec, octets: &[u8]) -> Result<T, Read
     }
 }
 
-/// What is told of octets that aren't read for this error.
+/// Returns the error to report for octets that are refused with this decoding error.
 fn refused<T: Located>(alloc: Global, rule: Codec, octets: &[u8], error: DecodeError) -> ReadError
     ensures { IsToldOf error result }
 {
@@ -58,10 +59,11 @@ fn refused<T: Located>(alloc: Global, rule: Codec, octets: &[u8], error: DecodeE
     }
 }
 
-/// Reads the message that is all of the octets by these rules. By DER they are then the one encoding of it (X.690 10).
+/// Checks that all of the octets encode one message under the rules. Under DER they are then its
+/// only encoding (X.690 10).
 ///
 /// # Errors
-/// `Decode` exactly where they aren't one, but for running out of memory.
+/// `Decode` exactly if they don't, `OutOfMemory` if an allocation fails.
 pub fn check(alloc: Global, kind: Kind, rule: Codec, octets: &[u8]) -> Result<(), ReadError>
     ensures { MatchResult result (λ _. IsMessage rule (shape_of kind) octets.now) (IsRefused rule (shape_of kind) octets.now) }
 {
@@ -75,7 +77,7 @@ pub fn check(alloc: Global, kind: Kind, rule: Codec, octets: &[u8]) -> Result<()
     }
 }
 
-/// Reads the value that is all of the octets.
+/// Reads the value that all of the octets encode.
 fn check_as<T: Located>(alloc: Global, rule: Codec, octets: &[u8]) -> Result<(), ReadError>
     ensures { MatchResult result (λ _. IsMessage rule T.shape octets.now) (IsRefused rule T.shape octets.now) }
 {
@@ -83,10 +85,10 @@ fn check_as<T: Located>(alloc: Global, rule: Codec, octets: &[u8]) -> Result<(),
     Ok(())
 }
 
-/// The message that is all of the octets by these rules, as text.
+/// Returns the message that all of the octets encode under the rules, as text.
 ///
 /// # Errors
-/// `Decode` exactly where they aren't one, but for running out of memory.
+/// `Decode` exactly if there is none, `OutOfMemory` if an allocation fails.
 pub fn show(alloc: Global, kind: Kind, rule: Codec, octets: &[u8]) -> Result<String, ReadError>
     ensures { MatchResult result (λ _. IsMessage rule (shape_of kind) octets.now) (IsRefused rule (shape_of kind) octets.now) }
 {
@@ -100,7 +102,7 @@ pub fn show(alloc: Global, kind: Kind, rule: Codec, octets: &[u8]) -> Result<Str
     }
 }
 
-/// The value that is all of the octets, as text.
+/// Returns the value that all of the octets encode, as text.
 fn show_as<T: Located + Listed>(
     alloc: Global,
     rule: Codec,

@@ -1,4 +1,4 @@
-//! Requests for certificates as text.
+//! Certification requests as text.
 
 use crate::attribute::list_attributes;
 use crate::certificate::{list_algorithm, list_bits, list_name, list_public_key};
@@ -17,7 +17,7 @@ impl Listed for CertificationRequest {
     }
 }
 
-/// Lists what is signed.
+/// Lists the signed part.
 fn list_signed(listing: &mut Listing, signed: &CertificationRequestInfo) -> Result<(), AllocError> {
     let version = u16::from(signed.version) + 1;
     listing.line("version", &version)?;

@@ -17,7 +17,7 @@ impl Listed for CertificateList {
     }
 }
 
-/// Lists what is signed. A list without a version is of version 1.
+/// Lists the signed part. A list without a version is of version 1.
 fn list_signed(listing: &mut Listing, signed: &TbsCertList) -> Result<(), AllocError> {
     let version = match signed.version {
         Some(version) => u16::from(version) + 1,
@@ -42,7 +42,7 @@ fn list_signed(listing: &mut Listing, signed: &TbsCertList) -> Result<(), AllocE
     Ok(())
 }
 
-/// Lists the certificates that are revoked.
+/// Lists the revoked certificates.
 fn list_revoked(
     listing: &mut Listing,
     certificates: &[RevokedCertificate],
@@ -55,7 +55,7 @@ fn list_revoked(
     Ok(())
 }
 
-/// Lists a certificate that is revoked.
+/// Lists a revoked certificate.
 fn list_one(listing: &mut Listing, certificate: &RevokedCertificate) -> Result<(), AllocError> {
     listing.open("certificate")?;
     list_number(listing, "serial number", &certificate.user_certificate)?;

@@ -37,7 +37,7 @@ fn list_signed(listing: &mut Listing, signed: &SignedData) -> Result<(), AllocEr
     list_signers(listing, &signed.signer_infos)
 }
 
-/// Lists the algorithms of digests.
+/// Lists the digest algorithms.
 fn list_digests(
     listing: &mut Listing,
     algorithms: &SetOf<AlgorithmIdentifier>,
@@ -48,7 +48,7 @@ fn list_digests(
     Ok(())
 }
 
-/// Lists what is signed, where it is there.
+/// Lists the signed contents, if they are present.
 fn list_content(
     listing: &mut Listing,
     content: &EncapsulatedContentInfo,
@@ -65,7 +65,7 @@ fn list_content(
     Ok(())
 }
 
-/// Lists values of a type, and as octets those that DER doesn't read as one.
+/// Lists values of a type. Those that aren't DER of it are listed as octets.
 fn list_all<T: Decode + Listed>(
     listing: &mut Listing,
     title: &str,
@@ -82,7 +82,7 @@ fn list_all<T: Decode + Listed>(
     Ok(())
 }
 
-/// Lists those who signed.
+/// Lists the signers.
 fn list_signers(listing: &mut Listing, signers: &SetOf<SignerInfo>) -> Result<(), AllocError> {
     listing.open("signers")?;
     for signer in signers {
@@ -92,7 +92,7 @@ fn list_signers(listing: &mut Listing, signers: &SetOf<SignerInfo>) -> Result<()
     Ok(())
 }
 
-/// Lists one who signed.
+/// Lists a signer.
 fn list_signer(listing: &mut Listing, signer: &SignerInfo) -> Result<(), AllocError> {
     listing.open("signer")?;
     listing.line("version", &signer.version)?;
@@ -110,7 +110,7 @@ fn list_signer(listing: &mut Listing, signer: &SignerInfo) -> Result<(), AllocEr
     Ok(())
 }
 
-/// Lists the certificate of one who signed.
+/// Lists the certificate of a signer.
 fn list_signer_identifier(
     listing: &mut Listing,
     signer: &SignerIdentifier,

@@ -1,4 +1,4 @@
-//! Messages of SNMP with a community as text (RFC 1901, 1157 and 3416).
+//! SNMP messages with a community as text (RFC 1901, 1157 and 3416).
 
 mod error_status;
 mod trap;
@@ -26,7 +26,7 @@ impl Listed for Message {
     }
 }
 
-/// Lists the version by the name that people know it by, or the number of another one.
+/// Lists the version by its usual name, or by its number if it is unknown.
 fn list_version(listing: &mut Listing, version: u8) -> Result<(), AllocError> {
     match version {
         VERSION_1 => listing.line("version", &"1"),
@@ -38,7 +38,7 @@ fn list_version(listing: &mut Listing, version: u8) -> Result<(), AllocError> {
     }
 }
 
-/// The name of an operation (RFC 3416, 3; RFC 1157, 4.1).
+/// Returns the name of an operation (RFC 3416, 3; RFC 1157, 4.1).
 fn operation_name(data: &Pdus) -> &'static str {
     match data {
         Pdus::GetRequest(_) => "get-request",
@@ -68,7 +68,7 @@ fn list_operation(listing: &mut Listing, data: &Pdus) -> Result<(), AllocError> 
     }
 }
 
-/// Lists the parts of all operations but two.
+/// Lists the parts of an operation other than get-bulk-request and trap.
 fn list_pdu(listing: &mut Listing, pdu: &Pdu) -> Result<(), AllocError> {
     listing.line("request id", &pdu.request_id)?;
     listing.numbered("error status", pdu.error_status, ERROR_STATUSES)?;

@@ -1,11 +1,12 @@
-//! Values in octets that are kept as they are.
+//! Values that are kept as octets.
 
 use rasn::de::Decode;
 use rasn::types::Codec;
 use rasn::{ber, der};
 use std::alloc::{AllocError, Global};
 
-/// The value that is all of the octets in DER, or else in BER; none where they aren't one.
+/// Returns the value that the octets encode under DER, or under BER for other rules; `None` if
+/// there is none. Only DER refuses octets after the value.
 pub(crate) fn value_of<T: Decode>(
     alloc: Global,
     rule: Codec,

@@ -1,4 +1,5 @@
-//! Answers lines `rule type hex` from a file, or from standard input where none is named; with `--normalise` by the DER octets alone.
+//! Prints the results of lines `rule type hex` from a file or, if none is named, from standard
+//! input. With `--normalise` a result is the DER octets alone.
 #![tactic(auto)]
 
 use rasn_bench::{WorkedTypes, answer_call};

@@ -1,4 +1,4 @@
-//! The worked ENUMERATED { red (0), green (1), blue (2) }.
+//! The example ENUMERATED { red (0), green (1), blue (2) }.
 use rasn::ber::de::Decoder;
 use rasn::ber::enc::Encoder;
 use rasn::de::Decode;

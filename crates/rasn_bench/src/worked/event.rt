@@ -1,4 +1,5 @@
-//! `Event ::= SET { time Time, level [0] IMPLICIT INTEGER (0..255) DEFAULT 7, confirmed [1] IMPLICIT BOOLEAN OPTIONAL }`
+//! `Event ::= SET { time Time, level [0] IMPLICIT INTEGER (0..255) DEFAULT 7, confirmed [1]
+//! IMPLICIT BOOLEAN OPTIONAL }`
 ghost use Rattle.std.specs.Prelude.{◌≡◌, IfOk, IfErr, map};
 ghost use Rattle.rasn_types.specs.Shapes.{IsFirst};
 ghost use Rattle.rasn_de.specs.Set.{MakesSet};
@@ -27,7 +28,8 @@ const CONFIRMED: Tag = Tag {
     value: 1,
 };
 
-/// SET { time Time, level \[0\] INTEGER (0..255) DEFAULT 7, confirmed \[1\] BOOLEAN OPTIONAL }, with implicit tags.
+/// SET { time Time, level \[0\] INTEGER (0..255) DEFAULT 7, confirmed \[1\] BOOLEAN OPTIONAL },
+/// with implicit tags.
 #[derive(Debug, PartialEq, Eq, Drop)]
 pub struct Event {
     pub time: Time,
@@ -111,14 +113,14 @@ impl Constructed<3, 0> for Event {
     ghost described = { refl };
 }
 
-/// The level that is meant where none is written.
+/// Returns the default level.
 fn usual() -> Result<u8, AllocError>
     ensures { IfOk result (λ level. level ≡ 7) }
 {
     Ok(7)
 }
 
-/// Whether values of a `Time` may begin with the tag.
+/// Returns whether values of `Time` may begin with the tag.
 fn is_time(tag: Tag) -> bool
     ensures { IsWhether result (IsFirst time_shape tag) }
 {
@@ -190,7 +192,7 @@ impl DecodeChoice for Component {
     ghost chooses = { refl };
 }
 
-/// The value of these components, none of which may come twice.
+/// Returns the value of these components. A component that is present twice is an error.
 fn gather(alloc: Global, codec: Codec, components: Vec<Component>) -> Result<Event, DecodeError>
     ensures makes { MakesSet event_parts event_tree (map component_tree components.items) result }
     ensures rules { IfErr result (λ e. e.codec ≡ codec) }

@@ -1,4 +1,5 @@
-//! `Grouped ::= SEQUENCE { truth BOOLEAN, ..., number [1] INTEGER, [[ first INTEGER, second BOOLEAN ]] }`
+//! `Grouped ::= SEQUENCE { truth BOOLEAN, ..., number [1] INTEGER, [[ first INTEGER, second
+//! BOOLEAN ]] }`
 
 use crate::worked::Both;
 use rasn::error::{DecodeError, EncodeError};
@@ -6,7 +7,7 @@ use rasn::parts::{End, Optional, Put, PutOptional, Required};
 use rasn::types::{AsnType, Constraints, ContextTag, Identifier, Implicit, Integer, LawfulEq, Tag};
 use rasn::{Decode, Decoder, Encode, Encoder};
 
-/// What stands behind the extension marker in one group.
+/// The components after the extension marker that form one group.
 pub type Group = Both<Integer, bool>;
 
 /// SEQUENCE { truth BOOLEAN, ..., number [1] INTEGER, [[ first INTEGER, second BOOLEAN ]] }

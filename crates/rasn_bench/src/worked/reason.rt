@@ -6,7 +6,7 @@ use rasn::enc::Encode;
 use rasn::error::{DecodeError, EncodeError};
 use rasn::types::{AsnType, Constraints, Enumerated, Identifier, LawfulEq, Present, Tag};
 
-/// Why a certificate was revoked.
+/// The reason why a certificate was revoked.
 #[derive(Clone, Copy, Debug, PartialEq, Eq, Drop)]
 pub enum Reason {
     Unspecified,

@@ -1,4 +1,5 @@
-//! `Set3 ::= SET { zero [0] IMPLICIT INTEGER (0..255), one [1] IMPLICIT INTEGER (0..255), two [2] IMPLICIT INTEGER (0..255) }`
+//! `Set3 ::= SET { zero [0] IMPLICIT INTEGER (0..255), one [1] IMPLICIT INTEGER (0..255), two [2]
+//! IMPLICIT INTEGER (0..255) }`
 use rasn::error::{DecodeError, EncodeError};
 use rasn::parts::{End, Put, Required};
 use rasn::types::{
@@ -27,7 +28,8 @@ type At<const N: u32> = Implicit<ContextTag<N>, u8>;
 
 type Components = Required<At<0>, Required<At<1>, Required<At<2>, End>>>;
 
-/// SET { zero \[0\] INTEGER (0..255), one \[1\] INTEGER (0..255), two \[2\] INTEGER (0..255) }, with implicit tags.
+/// SET { zero \[0\] INTEGER (0..255), one \[1\] INTEGER (0..255), two \[2\] INTEGER (0..255) },
+/// with implicit tags.
 #[derive(Debug, PartialEq, Eq, Drop)]
 pub struct Set3 {
     pub zero: u8,

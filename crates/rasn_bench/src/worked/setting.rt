@@ -46,7 +46,7 @@ impl Present for Setting {
     ghost present = { λ _. parts_not_absent };
 }
 
-/// The level that is meant where none is written.
+/// The default level.
 #[derive(Drop)]
 pub struct Seven;
 

@@ -1,4 +1,4 @@
-//! Certificates (RFC 5280) that others made, and spoilt ones.
+//! Certificates (RFC 5280) made by other programs, and invalid ones.
 
 use crate::asserts::{assert_has, assert_written_as};
 use crate::messages::spoilt::{READ, Spoilt, assert_spoilt};
@@ -6,7 +6,7 @@ use rasn::types::Codec;
 use rasn_samples::certificate::CERTIFICATE;
 use rasn_x509::{Certificate, Extension, Time, read_certificate, write_certificate};
 
-/// Whether this is the time 13:07 of a day in 2026, as a UTCTime.
+/// Returns whether the time is 13:07 on a day in 2026, as a UTCTime.
 fn is_start(time: &Time) -> bool {
     match time {
         Time::Utc(utc) => utc.date().year() == 2026 && utc.hour() == 13 && utc.minute() == 7,
@@ -14,12 +14,12 @@ fn is_start(time: &Time) -> bool {
     }
 }
 
-/// Whether there are three extensions, one of them critical.
+/// Returns whether there are three extensions, and at least one of them is critical.
 fn are_three(extensions: &[Extension]) -> bool {
     extensions.len() == 3 && extensions.iter().any(|one| one.critical)
 }
 
-/// Whether these are the parts that OpenSSL was told.
+/// Returns whether these are the parts that OpenSSL was given.
 fn has_parts(certificate: &Certificate) -> bool {
     let signed = &certificate.tbs_certificate;
     signed.version == 2
@@ -43,7 +43,8 @@ fn a_certificate_is_written_back(rt: HostRuntime) {
     assert_written_as(&rt, alloc, answer, write, CERTIFICATE);
 }
 
-// What isn't the one DER encoding is refused (X.690 8.3.2, 11.1, 11.5, 8.1.1.1), and BER reads what it may.
+// An encoding other than the one DER encoding is refused (X.690 8.3.2, 11.1, 11.5, 8.1.1.1). BER
+// reads those that it admits.
 #[test]
 fn spoilt_certificates_are_refused(rt: HostRuntime) {
     const VERSION: usize = 12;

@@ -1,4 +1,5 @@
-//! What errors say of CHOICEs: their names, which are those of the standards, and the rules. What a value of a CHOICE keeps beyond its tree.
+//! Errors about CHOICEs, with the names that the standards have and with the rules, and the parts
+//! of a CHOICE's value that aren't in its tree.
 
 use crate::asserts::{Answer, assert_decodes, decoded};
 use rasn::error::DecodeError;
@@ -7,7 +8,8 @@ use rasn_ldap::AuthenticationChoice;
 use rasn_messages::cms::SignerIdentifier;
 use rasn_x509::Time;
 
-// A BOOLEAN is none of `simple [0]` and `sasl [3]` (RFC 4511, 4.2), nor a SEQUENCE or `[0]` (RFC 5652, 5.3), nor a time (RFC 5280, 4.1).
+// A BOOLEAN is neither `simple [0]` nor `sasl [3]` (RFC 4511, 4.2), neither a SEQUENCE nor `[0]`
+// (RFC 5652, 5.3), and not a time (RFC 5280, 4.1).
 #[test]
 fn a_boolean_is_no_alternative(rt: HostRuntime) {
     const BOOLEAN: &[u8] = &[0x01, 0x01, 0xFF];
@@ -45,7 +47,7 @@ fn a_time_of_a_certificate_keeps_its_offset(rt: HostRuntime) {
     assert!(rt; is_at_offset(&decoded::<Time>(alloc, Codec::Ber, WEST), -330));
 }
 
-/// Whether a `GeneralizedTime` was read that is so many minutes ahead of UTC.
+/// Returns whether a `GeneralizedTime` was read whose offset from UTC is this number of minutes.
 fn is_at_offset(answer: &Result<Time, DecodeError>, minutes: i16) -> bool {
     match answer {
         Ok(Time::General(time)) => time.offset_minutes() == minutes,

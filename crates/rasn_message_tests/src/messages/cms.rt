@@ -1,4 +1,4 @@
-//! Signed messages (RFC 5652) that others made, and spoilt ones.
+//! Signed messages (RFC 5652) made by other programs, and invalid ones.
 
 use crate::asserts::{
     Answer, ahead_of, assert_decodes, assert_has, assert_read_back, assert_written_as,
@@ -11,7 +11,7 @@ use rasn_messages::cms::{
 };
 use rasn_samples::cms::{MESSAGE, STREAMED};
 
-/// Whether these are the parts that OpenSSL was told.
+/// Returns whether these are the parts that OpenSSL was given.
 fn has_parts(message: &SignedMessage) -> bool {
     let signed = &message.content;
     signed.version == 1
@@ -38,20 +38,21 @@ fn a_signed_message_is_written_back(rt: HostRuntime) {
     assert_written_as(&rt, alloc, answer, write, MESSAGE);
 }
 
-/// Whether each signer is told by its key.
+/// Returns whether each signer is identified by its key.
 fn is_signed_by_keys(message: &SignedMessage) -> bool {
     let signers = &message.content.signer_infos;
     signers.iter().all(|one| is_by_key(&one.sid))
 }
 
-// BER reads indefinite lengths and the content in segments.
+// BER reads indefinite lengths, and contents in segments.
 #[test]
 fn a_streamed_message_is_read(rt: HostRuntime) {
     let answer = read_streamed_message(rt.alloc(), STREAMED);
     assert_has(&rt, ahead_of(&rt, answer, &[]), is_signed_by_keys);
 }
 
-// DER refuses both (X.690 10.1, 10.2) and writes neither: what is written is read as the same message.
+// DER has neither (X.690 10.1, 10.2), so the message is written with other octets, which are read
+// as the same message.
 #[test]
 fn a_streamed_message_is_written_in_der(rt: HostRuntime) {
     let alloc = rt.alloc();
@@ -61,7 +62,7 @@ fn a_streamed_message_is_written_in_der(rt: HostRuntime) {
     assert_read_back(&rt, alloc, answer, write, read);
 }
 
-/// Whether a signer is told by its key.
+/// Returns whether a signer is identified by its key.
 fn is_by_key(signer: &SignerIdentifier) -> bool {
     match signer {
         SignerIdentifier::SubjectKeyIdentifier(_) => true,
@@ -69,7 +70,8 @@ fn is_by_key(signer: &SignerIdentifier) -> bool {
     }
 }
 
-// What isn't the one DER encoding is refused (X.690 8.3.2, 10.1), and BER reads a padded INTEGER.
+// An encoding other than the one DER encoding is refused (X.690 8.3.2, 10.1). BER reads a padded
+// INTEGER.
 #[test]
 fn spoilt_signed_messages_are_refused(rt: HostRuntime) {
     const SERIAL: usize = 397;

@@ -1,4 +1,4 @@
-//! Contents of extensions (RFC 5280, 4.2.1) that others made, and spoilt ones.
+//! Contents of extensions (RFC 5280, 4.2.1) made by other programs, and invalid ones.
 
 use crate::asserts::{Answer, Rewritten, assert_decodes, assert_facts, assert_rewrites, value};
 use rasn::der;
@@ -7,8 +7,9 @@ use rasn_messages::x509::extensions::{
     AuthorityKeyIdentifier, BasicConstraints, GeneralName, GeneralNames, KeyUsage,
 };
 
-// The contents of the extensions of a certificate that OpenSSL 3.0 made: `openssl req -x509 -new -key k.pem -config c.cnf -set_serial 0x1234`, with
-// basicConstraints=CA:TRUE,pathlen:3, keyUsage=keyCertSign,cRLSign,decipherOnly and authorityKeyIdentifier=keyid:always,issuer:always.
+// The contents of the extensions of a certificate made by OpenSSL 3.0: `openssl req -x509 -new -key
+// k.pem -config c.cnf -set_serial 0x1234`, with basicConstraints=CA:TRUE,pathlen:3,
+// keyUsage=keyCertSign,cRLSign,decipherOnly and authorityKeyIdentifier=keyid:always,issuer:always.
 const CONSTRAINTS: &[u8] = &[0x30, 0x06, 0x01, 0x01, 0xFF, 0x02, 0x01, 0x03];
 
 const USAGE: &[u8] = &[0x03, 0x03, 0x07, 0x06, 0x80];
@@ -19,8 +20,8 @@ const AUTHORITY_KEY: &[u8] = &[
     0x30, 0x09, 0x06, 0x03, 0x55, 0x04, 0x03, 0x0C, 0x02, 0x43, 0x41, 0x82, 0x02, 0x12, 0x34,
 ];
 
-// The same certificate's subjectAltName: otherName:1.2.3.4;UTF8:x, email:a@example.org, DNS:example.org, dirName of CN = x, URI:http://example.org/,
-// IP:192.0.2.1, RID:1.2.3.4.
+// The subjectAltName of the same certificate: otherName:1.2.3.4;UTF8:x, email:a@example.org,
+// DNS:example.org, dirName of CN = x, URI:http://example.org/, IP:192.0.2.1, RID:1.2.3.4.
 const NAMES: &[u8] = &[
     0x30, 0x58, 0xA0, 0x0A, 0x06, 0x03, 0x2A, 0x03, 0x04, 0xA0, 0x03, 0x0C, 0x01, 0x78, 0x81, 0x0D,
     0x61, 0x40, 0x65, 0x78, 0x61, 0x6D, 0x70, 0x6C, 0x65, 0x2E, 0x6F, 0x72, 0x67, 0x82, 0x0B, 0x65,
@@ -47,7 +48,8 @@ fn contents_are_read_and_written_back(rt: HostRuntime) {
     assert_rewrites::<GeneralNames>(&rt, alloc, GENERAL_NAMES_ROWS);
 }
 
-// Those that OpenSSL doesn't make: an x400Address with a country name, and an ediPartyName of a party alone.
+// Names that OpenSSL doesn't make: an x400Address with a country name, and an ediPartyName that has
+// a party alone.
 #[test]
 fn rare_names_are_read_and_written_back(rt: HostRuntime) {
     const ADDRESS: &[u8] = &[0xA3, 0x08, 0x30, 0x06, 0x61, 0x04, 0x13, 0x02, 0x44, 0x45];

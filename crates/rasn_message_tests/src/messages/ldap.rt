@@ -1,4 +1,4 @@
-//! Messages of LDAP (RFC 4511) between OpenLDAP's programs, and spoilt ones.
+//! LDAP messages (RFC 4511) between OpenLDAP's programs, and invalid ones.
 
 use crate::asserts::{
     Answer, Rewritten, ahead_of, assert_decodes, assert_has, assert_output, assert_rewrites,
@@ -17,7 +17,7 @@ use rasn_samples::ldap::{
 use std::alloc::Global;
 use std::process::Abort;
 
-/// Asserts that each of these is read as a message with nothing behind it, and written back.
+/// Asserts that each of the messages is read, without octets after it, and written back.
 fn assert_written_back(rt: &impl Abort, alloc: Global, messages: &[&[u8]]) {
     for octets in messages {
         let answer = ahead_of(rt, read_message(alloc, octets), &[]);
@@ -38,7 +38,7 @@ fn answers_are_read_and_written_back(rt: HostRuntime) {
     assert_written_back(&rt, rt.alloc(), ROWS);
 }
 
-/// Whether these are the parts of the search that `ldapsearch` was told.
+/// Returns whether these are the parts of the search that `ldapsearch` was given.
 fn has_parts(search: &SearchRequest) -> bool {
     search.base_object.as_str() == "dc=example"
         && search.scope == SearchScope::WHOLE_SUBTREE
@@ -50,7 +50,7 @@ fn has_parts(search: &SearchRequest) -> bool {
         && search.attributes.iter().any(|name| name.as_str() == "uid")
 }
 
-/// Whether the message is the second one, that search with controls.
+/// Returns whether the message is the second one, the same search with controls.
 fn is_search(message: &LdapMessage) -> bool {
     match &message.protocol_op {
         ProtocolOp::SearchRequest(search) => {
@@ -66,7 +66,7 @@ fn a_search_has_its_parts(rt: HostRuntime) {
     assert_has(&rt, answer, is_search);
 }
 
-/// Whether the bind goes on.
+/// Returns whether the bind is in progress.
 fn is_bind_in_progress(message: &LdapMessage) -> bool {
     match &message.protocol_op {
         ProtocolOp::BindResponse(response) => {
@@ -76,7 +76,7 @@ fn is_bind_in_progress(message: &LdapMessage) -> bool {
     }
 }
 
-/// Whether the first change of a modification is to replace values.
+/// Returns whether the first change of a modification replaces values.
 fn is_replaced_first(message: &LdapMessage) -> bool {
     match &message.protocol_op {
         ProtocolOp::ModifyRequest(modify) => modify
@@ -87,7 +87,7 @@ fn is_replaced_first(message: &LdapMessage) -> bool {
     }
 }
 
-/// Whether the message is the third one, without controls.
+/// Returns whether the message is the third one, without controls.
 fn is_third(message: &LdapMessage) -> bool {
     message.message_id.number == 3 && message.controls.is_none()
 }
@@ -101,7 +101,7 @@ fn named_numbers_are_read(rt: HostRuntime) {
     assert_has(&rt, answer, is_replaced_first);
 }
 
-// Two messages that came in one piece.
+// Two messages in one input.
 #[test]
 fn what_follows_a_message_is_left(rt: HostRuntime) {
     const BOTH: &[u8] = &[
@@ -111,8 +111,9 @@ fn what_follows_a_message_is_left(rt: HostRuntime) {
     assert_has(&rt, answer, is_third);
 }
 
-// What is BER, but not in the forms of RFC 4511 5.1, is read, and written in them: an indefinite length, a TRUE that isn't FF, a string in segments, and
-// a DEFAULT that is written. The octets are those of UNBIND and of controls spelled by hand (X.690 8.1.3.6, 8.2.2, 8.7.3, 11.5).
+// BER that isn't in the forms of RFC 4511 5.1 is read, and written in those forms: an indefinite
+// length, a TRUE other than FF, a string in segments, and a DEFAULT that is written. The octets are
+// those of UNBIND and of controls written by hand (X.690 8.1.3.6, 8.2.2, 8.7.3, 11.5).
 #[test]
 fn other_forms_are_written_as_ldap_asks(rt: HostRuntime) {
     const PLAIN: &[u8] = &[0x30, 0x05, 0x02, 0x01, 0x03, 0x42, 0x00];
@@ -161,8 +162,9 @@ fn other_forms_are_written_as_ldap_asks(rt: HostRuntime) {
     assert_rewrites::<LdapMessage>(&rt, rt.alloc(), ROWS);
 }
 
-// UNBIND, cut short, as a SET, with an operation 17 that the standard doesn't have (4.1.1), with a message number of 2^31 and of -1 (4.1.1), and with
-// octets behind its parts; then a name that isn't UTF-8 (4.1.2), and a version 0 (4.2).
+// UNBIND, truncated, as a SET, with an operation 17 that the standard doesn't have (4.1.1), with
+// the message numbers 2^31 and -1 (4.1.1), and with octets after its parts; then a name that isn't
+// UTF-8 (4.1.2), and a version 0 (4.2).
 #[test]
 fn spoilt_messages_are_refused(rt: HostRuntime) {
     const ROWS: &[Answer<'static>] = &[
@@ -217,7 +219,7 @@ fn spoilt_messages_are_refused(rt: HostRuntime) {
     assert_decodes::<LdapMessage>(&rt, rt.alloc(), ROWS);
 }
 
-/// What is written of the end of a session, as the message of this number.
+/// Encodes an UNBIND with this message number.
 fn written_unbind(alloc: Global, number: u32) -> Result<Vec<u8>, EncodeError> {
     let message = LdapMessage {
         message_id: MaxInt { number },
@@ -227,7 +229,7 @@ fn written_unbind(alloc: Global, number: u32) -> Result<Vec<u8>, EncodeError> {
     write_message(alloc, &message)
 }
 
-// INTEGER (0..maxInt) ends at 2147483647 (RFC 4511, 4.1.1).
+// The largest INTEGER (0..maxInt) is 2147483647 (RFC 4511, 4.1.1).
 #[test]
 fn numbers_out_of_bounds_are_not_written(rt: HostRuntime) {
     let alloc = rt.alloc();

@@ -1,4 +1,4 @@
-//! Certification requests (RFC 2986) that others made, and spoilt ones.
+//! Certification requests (RFC 2986) made by other programs, and invalid ones.
 
 use crate::asserts::{assert_has, assert_written_as};
 use crate::messages::spoilt::{READ, Spoilt, assert_spoilt};
@@ -6,7 +6,7 @@ use rasn::types::Codec;
 use rasn_messages::pkcs10::{CertificationRequest, read_request, write_request};
 use rasn_samples::request::REQUEST;
 
-/// Whether these are the parts that OpenSSL was told.
+/// Returns whether these are the parts that OpenSSL was given.
 fn has_parts(request: &CertificationRequest) -> bool {
     let signed = &request.certification_request_info;
     signed.version == 0
@@ -29,7 +29,8 @@ fn a_request_is_written_back(rt: HostRuntime) {
     assert_written_as(&rt, alloc, answer, write, REQUEST);
 }
 
-// What isn't the one DER encoding is refused (X.690 10.1, 11.6), and BER reads a SET OF in any order.
+// An encoding other than the one DER encoding is refused (X.690 10.1, 11.6). BER reads a SET OF in
+// any order.
 #[test]
 fn spoilt_requests_are_refused(rt: HostRuntime) {
     const LENGTH: usize = 1;

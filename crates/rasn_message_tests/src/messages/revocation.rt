@@ -1,4 +1,4 @@
-//! Revocation lists (RFC 5280, 5) that others made, and spoilt ones.
+//! Revocation lists (RFC 5280, 5) made by other programs, and invalid ones.
 
 use crate::asserts::{assert_has, assert_written_as};
 use crate::messages::spoilt::{READ, Spoilt, assert_spoilt};
@@ -8,7 +8,7 @@ use rasn_messages::x509::revocation::{
 };
 use rasn_samples::revocation::REVOCATION_LIST;
 
-// The same without revoked certificates and extensions, which is of version 1.
+// The same list without revoked certificates and extensions, which is of version 1.
 const EMPTY_LIST: &[u8] = &[
     0x30, 0x81, 0x80, 0x30, 0x34, 0x30, 0x05, 0x06, 0x03, 0x2B, 0x65, 0x70, 0x30, 0x0D, 0x31, 0x0B,
     0x30, 0x09, 0x06, 0x03, 0x55, 0x04, 0x03, 0x0C, 0x02, 0x43, 0x41, 0x17, 0x0D, 0x32, 0x36, 0x31,
@@ -21,7 +21,7 @@ const EMPTY_LIST: &[u8] = &[
     0xF5, 0x4B, 0x0D,
 ];
 
-/// Whether these are the parts that OpenSSL was told: a list of version 2.
+/// Returns whether these are the parts that OpenSSL was given: a list of version 2.
 fn has_parts(list: &CertificateList) -> bool {
     let signed = &list.tbs_cert_list;
     signed.version == Some(1)
@@ -31,7 +31,7 @@ fn has_parts(list: &CertificateList) -> bool {
         && signed.crl_extensions.is_some()
 }
 
-/// Whether the list is of version 1, and has no certificate and no extension.
+/// Returns whether the list is of version 1, and has no certificates and no extensions.
 fn is_empty(list: &CertificateList) -> bool {
     let signed = &list.tbs_cert_list;
     signed.version.is_none()
@@ -56,7 +56,8 @@ fn revocation_lists_are_written_back(rt: HostRuntime) {
     }
 }
 
-// What isn't the one DER encoding is refused (X.690 8.3.2, 10.1), and BER reads a padded INTEGER.
+// An encoding other than the one DER encoding is refused (X.690 8.3.2, 10.1). BER reads a padded
+// INTEGER.
 #[test]
 fn spoilt_revocation_lists_are_refused(rt: HostRuntime) {
     const LENGTH: usize = 1;

@@ -1,4 +1,4 @@
-//! Messages of SNMP (RFC 1157, 1901 and 3416) that net-snmp made, and spoilt ones.
+//! SNMP messages (RFC 1157, 1901 and 3416) made by net-snmp, and invalid ones.
 
 use crate::asserts::{Answer, ahead_of, assert_decodes, assert_has, assert_written_as};
 use crate::messages::spoilt::{Spoilt, assert_spoilt, spoilt};
@@ -11,7 +11,7 @@ use rasn_snmp::{Message, Pdus, VarBindValue, read_message, write_message};
 use std::alloc::Global;
 use std::process::Abort;
 
-/// Octets, and the alternative of PDUs in them.
+/// Octets, and the alternative of PDUs that they contain.
 const MESSAGES: &[(&[u8], &str)] = &[
     (GET, "get-request"),
     (RESPONSE, "response"),
@@ -25,7 +25,7 @@ const MESSAGES: &[(&[u8], &str)] = &[
     (TRAP_OF_VERSION_1, "trap"),
 ];
 
-/// The name of an alternative in RFC 3416, 3, or RFC 1157, 4.1.
+/// Returns the name of an alternative in RFC 3416, 3, or RFC 1157, 4.1.
 fn operation(data: &Pdus) -> &'static str {
     match data {
         Pdus::GetRequest(_) => "get-request",
@@ -40,7 +40,7 @@ fn operation(data: &Pdus) -> &'static str {
     }
 }
 
-/// Asserts that the octets are a message with this alternative of PDUs, and what is written of it.
+/// Asserts that the octets are a message with this alternative of PDUs, and are written back.
 fn assert_is_message(rt: &impl Abort, alloc: Global, octets: &[u8], name: &str) {
     let answer = ahead_of(rt, read_message(alloc, octets), &[]);
     assert_has(
@@ -60,7 +60,8 @@ fn messages_are_read_and_written_back(rt: HostRuntime) {
     }
 }
 
-// No program at hand makes a report without the frame of version 3: the agent's answer with the tag [8] (RFC 3416, 3).
+// No available program makes a report outside of version 3, so this is the agent's response with
+// the tag [8] (RFC 3416, 3).
 #[test]
 fn a_report_is_read_and_written_back(rt: HostRuntime) {
     let alloc = rt.alloc();
@@ -73,7 +74,7 @@ fn a_report_is_read_and_written_back(rt: HostRuntime) {
     );
 }
 
-// The parts of each kind of PDU, as the programs were told them or printed them.
+// The parts of each kind of PDU, as given to the programs or printed by them.
 #[test]
 fn parts_of_messages_are_read(rt: HostRuntime) {
     const ROWS: &[Answer<'static>] = &[
@@ -101,7 +102,7 @@ fn parts_of_messages_are_read(rt: HostRuntime) {
     assert_decodes::<Message>(&rt, rt.alloc(), ROWS);
 }
 
-// The values of the trap and of the agent's answers, as the programs were told them or printed them.
+// The values of the trap and of the agent's responses, as given to the programs or printed by them.
 #[test]
 fn values_are_read(rt: HostRuntime) {
     const ROWS: &[Answer<'static>] = &[
@@ -160,7 +161,8 @@ fn values_are_read(rt: HostRuntime) {
     assert_decodes::<VarBindValue>(&rt, rt.alloc(), ROWS);
 }
 
-// Values that their types don't hold (RFC 2578, 7.1), tags that no alternative has, NULL with contents (X.690 8.8.2), and an octet that is missing.
+// Values that their types don't hold (RFC 2578, 7.1), tags that no alternative has, NULL with
+// contents (X.690 8.8.2), and a missing octet.
 #[test]
 fn spoilt_values_are_refused(rt: HostRuntime) {
     const OVERFLOW: &str = "IntegerOverflow { max_width: 32 }";
@@ -210,8 +212,8 @@ fn spoilt_values_are_refused(rt: HostRuntime) {
     assert_decodes::<VarBindValue>(&rt, rt.alloc(), ROWS);
 }
 
-// A padded INTEGER (X.690 8.3.2), a length in more octets than it needs (10.1) and an OCTET STRING in segments (10.2): BER reads them, and
-// DER, which is what is written, doesn't.
+// A padded INTEGER (X.690 8.3.2), a length in more octets than it needs (10.1) and an OCTET STRING
+// in segments (10.2): BER reads them. DER, which is what is written, doesn't.
 #[test]
 fn values_that_der_does_not_have_are_read(rt: HostRuntime) {
     const ROWS: &[Answer<'static>] = &[
@@ -236,8 +238,9 @@ fn values_that_der_does_not_have_are_read(rt: HostRuntime) {
     assert_decodes::<VarBindValue>(&rt, rt.alloc(), ROWS);
 }
 
-// The request of `snmpgetnext`: with a length of one octet more, another PDU than those of RFC 3416, another type of version, and of version 3, which has a
-// SEQUENCE in the place of the community (RFC 3412, 6).
+// The request of `snmpgetnext` with a length that is one too large, with a PDU that RFC 3416
+// doesn't have, with a version of another type, and with a SEQUENCE in place of the community, as
+// in version 3 (RFC 3412, 6).
 #[test]
 fn spoilt_messages_are_refused(rt: HostRuntime) {
     const LENGTH: usize = 1;
@@ -263,7 +266,8 @@ fn spoilt_messages_are_refused(rt: HostRuntime) {
     assert_spoilt::<Message>(&rt, rt.alloc(), GET_NEXT, ROWS);
 }
 
-// The same request in an indefinite length, which RFC 3417 8 has nobody write, and two octets behind it: BER reads it, and what is written is definite.
+// The same request with an indefinite length, which RFC 3417 8 forbids senders to write, and two
+// octets after it. BER reads it, and it is written with definite lengths.
 #[test]
 fn a_message_of_indefinite_length_is_written_definite(rt: HostRuntime) {
     let alloc = rt.alloc();

@@ -1,4 +1,4 @@
-//! Octets of messages with a fault.
+//! Octets of messages with one octet replaced.
 
 use crate::asserts::{debug_text, decoded};
 use rasn::de::Decode;
@@ -7,13 +7,14 @@ use rasn::types::Codec;
 use std::alloc::{AllocError, Global};
 use std::process::Abort;
 
-/// The place of an octet, another one in its place, the rules that the octets are then read by, and the text of the error's kind, or `READ`.
+/// The index of an octet, its replacement, the rules to read by, and the text of the error's kind
+/// or `READ`.
 pub type Spoilt = (usize, u8, Codec, &'static str);
 
-/// What stands in a row where the spoilt octets are read.
+/// The text of a row whose octets are read as a value.
 pub const READ: &str = "a value";
 
-/// The octets with another one at this place.
+/// Returns the octets with the one at this index replaced.
 pub fn spoilt(rt: &impl Abort, alloc: Global, octets: &[u8], at: usize, octet: u8) -> Vec<u8> {
     let Ok(mut copy) = Vec::from_slice(alloc, octets) else {
         rt.abort()
@@ -24,7 +25,8 @@ pub fn spoilt(rt: &impl Abort, alloc: Global, octets: &[u8], at: usize, octet: u
     copy
 }
 
-/// The text of a row for an answer; that of an error under other rules is one that no row has.
+/// Returns the text of a row for this result; for an error under other rules, a text that no row
+/// has.
 fn outcome<T>(
     alloc: Global,
     rules: Codec,
@@ -37,7 +39,7 @@ fn outcome<T>(
     }
 }
 
-/// Asserts what the octets are read as with each row's fault.
+/// Asserts the result of reading the octets with the replacement of each row.
 pub fn assert_spoilt<T: Decode>(rt: &impl Abort, alloc: Global, octets: &[u8], rows: &[Spoilt]) {
     for (at, octet, rules, text) in rows {
         let octets = spoilt(rt, alloc, octets, *at, *octet);

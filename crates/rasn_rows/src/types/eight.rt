@@ -1,4 +1,4 @@
-//! A SEQUENCE of eight components of each presence (X.680 25), for tests.
+//! A SEQUENCE of eight components, with every presence (X.680 25), for tests.
 
 use rasn::error::{DecodeError, EncodeError};
 use rasn::parts::{DefaultValue, Defaulted, End, Optional, Put, PutDefault, PutOptional, Required};
@@ -10,8 +10,9 @@ use rasn::{Decode, Decoder, Encode, Encoder};
 use rasn_bench::{AlgorithmIdentifier, Seven};
 use std::alloc::{AllocError, Global};
 
-/// SEQUENCE { version [0] EXPLICIT INTEGER (0..255) DEFAULT 0, serial OCTET STRING, algorithm AlgorithmIdentifier, truth BOOLEAN,
-/// name OBJECT IDENTIFIER OPTIONAL, mark [0] IMPLICIT INTEGER (0..255) OPTIONAL, level INTEGER (0..255) DEFAULT 7, more ANY OPTIONAL }
+/// SEQUENCE { version [0] EXPLICIT INTEGER (0..255) DEFAULT 0, serial OCTET STRING, algorithm
+/// AlgorithmIdentifier, truth BOOLEAN, name OBJECT IDENTIFIER OPTIONAL, mark [0] IMPLICIT INTEGER
+/// (0..255) OPTIONAL, level INTEGER (0..255) DEFAULT 7, more ANY OPTIONAL }
 #[derive(Debug, PartialEq, Eq, Drop)]
 pub struct Eight {
     pub version: Explicit<ContextTag<0>, u8>,
@@ -63,7 +64,7 @@ impl LawfulEq for Eight {
     ghost decides = { Prim.search deciding depth 64 };
 }
 
-/// The version that is meant where none is written.
+/// The default version.
 #[derive(Drop)]
 pub struct FirstVersion;
 

@@ -35,7 +35,7 @@ impl AsnType for Levelled {
     ghost own = { refl };
 }
 
-/// The level that is meant where none is written.
+/// The default level.
 #[derive(Drop)]
 pub struct UsualLevel;
 

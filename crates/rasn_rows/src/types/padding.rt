@@ -1,4 +1,5 @@
-//! A SEQUENCE whose defaults are allocated (X.680 25.8), after RSASSA-PSS-params of RFC 8017, A.2.3, for tests.
+//! A SEQUENCE whose defaults are allocated (X.680 25.8), modelled on RSASSA-PSS-params of RFC 8017,
+//! A.2.3, for tests.
 
 use rasn::error::{DecodeError, EncodeError};
 use rasn::parts::{
@@ -9,7 +10,8 @@ use rasn::types::{AsnType, Constraints, ContextTag, Identifier, Integer, ObjectI
 use rasn::{Decode, Decoder, Encode, Encoder};
 use std::alloc::{AllocError, Global};
 
-/// SEQUENCE { hash [0] EXPLICIT OBJECT IDENTIFIER DEFAULT { 1 3 14 3 2 26 }, saltLength INTEGER DEFAULT 20 }
+/// SEQUENCE { hash [0] EXPLICIT OBJECT IDENTIFIER DEFAULT { 1 3 14 3 2 26 }, saltLength INTEGER
+/// DEFAULT 20 }
 #[derive(Debug, Drop)]
 pub struct Padding {
     pub hash: ObjectIdentifier,
@@ -41,7 +43,7 @@ impl AsnType for Padding {
     ghost own = { refl };
 }
 
-/// id-sha1 of RFC 8017, A.2.3: the hash that is meant where none is written.
+/// The default hash: id-sha1 (RFC 8017, A.2.3).
 #[derive(Drop)]
 pub struct Sha1;
 
@@ -63,7 +65,7 @@ impl ExplicitDefault for Sha1 {
     type Prefix = ContextTag<0>;
 }
 
-/// The length that is meant where none is written.
+/// The default length.
 #[derive(Drop)]
 pub struct Twenty;
 

@@ -1,4 +1,4 @@
-//! A SEQUENCE all of whose components may be left out (X.680 25), for tests.
+//! A SEQUENCE whose components may all be absent (X.680 25), for tests.
 
 use rasn::error::{DecodeError, EncodeError};
 use rasn::parts::{End, Optional, PutOptional};

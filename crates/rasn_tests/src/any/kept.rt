@@ -1,4 +1,5 @@
-//! Open types are decoded: without a tag as one complete encoding (X.690 8.15), under a tag as what the tag holds (8.14).
+//! Decoding of open types: without a tag as one complete encoding (X.690 8.15), under a tag as the
+//! contents of the tag (8.14).
 
 use crate::any::{TAG_1, any_of, deep};
 use crate::reading::{assert_answer, decoder_of};
@@ -12,7 +13,7 @@ fn holds_octets(rt: HostRuntime) {
     assert!(rt; null.as_bytes() == [0x05, 0x00].as_slice());
 }
 
-// Under DER a tag round an open type is constructed (X.690 8.14.3).
+// Under DER a tag around an open type is constructed (X.690 8.14.3).
 #[test]
 fn der_refuses_a_primitive_tag(rt: HostRuntime) {
     let alloc = rt.alloc();
@@ -28,7 +29,7 @@ fn der_refuses_a_primitive_tag(rt: HostRuntime) {
     assert!(rt; decoder.decoded_len() == 0);
 }
 
-// No level is kept in memory, so values may be in one another to any depth.
+// No memory is needed for a level, so values may be nested to any depth.
 #[test]
 fn keeps_a_million_levels(rt: HostRuntime) {
     let alloc = rt.alloc();

@@ -1,4 +1,4 @@
-//! `skip_value` skips one value of definite or indefinite length (X.690 8.1.3, 8.1.5).
+//! `skip_value`, which skips one value of definite or indefinite length (X.690 8.1.3, 8.1.5).
 
 use crate::any::deep;
 use crate::reading::{assert_answer, decoder_of};

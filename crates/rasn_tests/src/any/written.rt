@@ -1,5 +1,5 @@
-//! Open types are encoded: without a tag as their octets alone (X.690 8.15), under a tag as a constructed value (8.14.2), and in a SET only
-//! under a tag (9.3, 10.3).
+//! Encoding of open types: without a tag as their octets alone (X.690 8.15), under a tag as a
+//! constructed value (8.14.2), and in a SET only under a tag (9.3, 10.3).
 ghost use Rattle.rasn_enc.specs.View.{LeavesOthers};
 
 use crate::any::{TAG_1, any_of};
@@ -15,13 +15,13 @@ use rasn_bench::Set3;
 use std::alloc::{AllocError, Global};
 use std::process::Abort;
 
-/// The kind of the refusal of an open type without a tag in a SET.
+/// The error kind of an open type without a tag in a SET.
 const ANY_IN_SET: &str = "CodecSpecific { inner: Ber(AnyInSet) }";
 
 /// \[N\] INTEGER (0..255)
 type At<const N: u32> = Implicit<ContextTag<N>, u8>;
 
-/// Asserts what is written of an open type that holds these octets, under this tag or under none.
+/// Asserts the encoding of an open type with these octets, under this tag or without a tag.
 fn assert_writes_open(
     rt: &impl Abort,
     alloc: Global,
@@ -36,7 +36,8 @@ fn assert_writes_open(
     assert_output(rt, encoder.output(), octets);
 }
 
-// Without a tag the octets are written alone (X.690 8.15), whether an identifier begins them or not.
+// Without a tag the octets are written alone (X.690 8.15), whether they begin with an identifier or
+// not.
 #[test]
 fn writes_octets_alone(rt: HostRuntime) {
     let alloc = rt.alloc();
@@ -61,7 +62,8 @@ fn refuses_bare_octets_where_tags_are_kept(rt: HostRuntime) {
     }
 }
 
-/// A SET of three components, the last of them an open type without a tag that holds these octets.
+/// Returns a SET of three components, the last of them an open type without a tag that has these
+/// octets.
 fn ends_open(alloc: Global, octets: &[u8]) -> Result<Option<Three<At<0>, At<1>, Any>>, AllocError> {
     let octets = Vec::from_slice(alloc, octets)?;
     Ok(Some(Three {
@@ -71,7 +73,8 @@ fn ends_open(alloc: Global, octets: &[u8]) -> Result<Option<Three<At<0>, At<1>, 
     }))
 }
 
-// An open type without a tag is refused in a SET, but an empty one writes nothing and is in order.
+// An open type without a tag is refused in a SET. One without octets writes nothing, so it is
+// accepted.
 #[test]
 fn refuses_bare_octets_in_sets(rt: HostRuntime) {
     let alloc = rt.alloc();
@@ -86,7 +89,8 @@ fn refuses_bare_octets_in_sets(rt: HostRuntime) {
     }
 }
 
-/// The components of the SET below: a SET, a number, an open type with a tag and a list in a prefix.
+/// The components of the SET below: a SET, a number, an open type with a tag, and a list under an
+/// explicit tag.
 #[derive(Drop)]
 struct Four {
     set: Three<At<0>, At<1>, Option<At<2>>>,
@@ -126,8 +130,8 @@ fn put_four(encoder: &mut Encoder, value: &Four) -> Result<(), EncodeError> {
     )
 }
 
-// SET { SET { [0] 1, [1] 2 }, [APPLICATION 0] 7, [2] open type 05 00, [3] EXPLICIT SEQUENCE OF INTEGER { 9 } }: with a tag an open type
-// is a component as any other.
+// SET { SET { [0] 1, [1] 2 }, [APPLICATION 0] 7, [2] open type 05 00, [3] EXPLICIT SEQUENCE OF
+// INTEGER { 9 } }: an open type with a tag is a component like any other.
 #[test]
 fn writes_open_types_in_sets(rt: HostRuntime) {
     let alloc = rt.alloc();

@@ -1,4 +1,5 @@
-//! Whole numbers of any length from and to those of 128 bits, and object identifiers from arcs.
+//! Conversions of integers of any length from and to those of 128 bits, and object identifiers from
+//! arcs.
 
 use crate::reading::assert_facts;
 use crate::writing::made;
@@ -6,7 +7,8 @@ use rasn::prelude::*;
 use std::alloc::AllocError;
 use std::process::Abort;
 
-/// Asserts that the number has these octets (X.690 8.3.3), whether it is below 0, and what it is in 128 bits.
+/// Asserts the octets of the number (X.690 8.3.3), whether it is negative, and its values in 128
+/// bits.
 fn assert_number(
     rt: &impl Abort,
     number: Result<Integer, AllocError>,
@@ -40,7 +42,7 @@ fn numbers_of_128_bits(rt: HostRuntime) {
     assert_number(&rt, number, &greatest, false, None, Some(u128::MAX));
 }
 
-// 2^128 and what is below -2^127 have no 128 bits.
+// 2^128 and numbers below -2^127 don't fit in 128 bits.
 #[test]
 fn longer_numbers_have_no_128_bits(rt: HostRuntime) {
     let alloc = rt.alloc();

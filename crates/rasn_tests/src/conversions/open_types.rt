@@ -1,5 +1,5 @@
-//! Values of a known type in an open type (X.690 8.15), the one encoding of a value (X.690 10), defaults under a prefix (X.690 8.14.2, 11.5), and readers
-//! and writers as text.
+//! Values of a known type in an open type (X.690 8.15), the one encoding of a value (X.690 10),
+//! defaults under an explicit tag (X.690 8.14.2, 11.5), and decoders and encoders as text.
 
 use crate::reading::{assert_answer, assert_facts, assert_text, debug_text, decoder_of, held};
 use crate::writing::{assert_output, assert_written, new_encoder};
@@ -9,7 +9,7 @@ use rasn::{Codec, der};
 use std::alloc::Global;
 use std::process::Abort;
 
-/// TRUE under BER as DER writes it, and under other octets (X.690 8.2.2, 11.1).
+/// TRUE as DER writes it, and as other octets under BER (X.690 8.2.2, 11.1).
 const TRUE: &[u8] = &[0x01, 0x01, 0xFF];
 
 const OTHER_TRUE: &[u8] = &[0x01, 0x01, 0x05];
@@ -23,12 +23,12 @@ const TAG_0: Tag = Tag {
     value: 0,
 };
 
-/// An open type of these octets.
+/// Returns an open type with these octets.
 fn any_of(rt: &impl Abort, alloc: Global, octets: &[u8]) -> Any {
     Any::new(held(rt, Vec::from_slice(alloc, octets)))
 }
 
-/// An open type of a value by these rules.
+/// Returns an open type with the encoding of a value under these rules.
 fn any_with<T: Encode>(rt: &impl Abort, alloc: Global, rules: Codec, value: &T) -> Any {
     assert_written(rt, encode_any(alloc, rules, value))
 }
@@ -54,7 +54,8 @@ fn open_types_hold_values(rt: HostRuntime) {
     );
 }
 
-// The octets of an open type are one value of the type asked for, by the rules asked for, and nothing else (X.690 8.1.1.1).
+// The octets of an open type have to be one value of the given type under the given rules, and
+// nothing else (X.690 8.1.1.1).
 #[test]
 fn open_types_are_read_by_their_rules(rt: HostRuntime) {
     let alloc = rt.alloc();
@@ -83,7 +84,7 @@ fn open_types_are_read_by_their_rules(rt: HostRuntime) {
     );
 }
 
-/// Whether the octets are found to be, or not to be, the one encoding of a value.
+/// Returns whether `der::is_canonical` returns `canonical` for the octets.
 fn is_told<T: Decode + Encode + LawfulEq>(alloc: Global, octets: &[u8], canonical: bool) -> bool {
     match der::is_canonical::<T>(alloc, octets) {
         Ok(answer) => answer == canonical,
@@ -91,7 +92,8 @@ fn is_told<T: Decode + Encode + LawfulEq>(alloc: Global, octets: &[u8], canonica
     }
 }
 
-// A TRUE that isn't FF, a padded number, a length that is longer than it has to be, and what follows (X.690 10.1, 11.1, 8.3.2).
+// A TRUE other than FF, a padded number, a length in more octets than needed, and an octet after
+// the value (X.690 10.1, 11.1, 8.3.2).
 #[test]
 fn one_encoding_is_told_from_others(rt: HostRuntime) {
     let alloc = rt.alloc();
@@ -108,7 +110,8 @@ fn one_encoding_is_told_from_others(rt: HostRuntime) {
     );
 }
 
-// A value that equals its default isn't there under DER, and the default is meant where none is (X.690 11.5).
+// Under DER a value that equals its default is refused, and an absent value is the default
+// (X.690 11.5).
 #[test]
 fn reads_defaults_under_prefixes(rt: HostRuntime) {
     let alloc = rt.alloc();

@@ -1,4 +1,4 @@
-//! What values hold is taken out, lent, copied and compared.
+//! The contents of values that are moved out, borrowed, copied and compared.
 
 use crate::reading::{assert_ascends, assert_facts, held};
 use crate::writing::made;
@@ -6,18 +6,18 @@ use rasn::prelude::*;
 use std::alloc::Global;
 use std::process::Abort;
 
-/// A vector of these octets.
+/// Returns a vector of these octets.
 fn vec_of(rt: &impl Abort, alloc: Global, octets: &[u8]) -> Vec<u8> {
     held(rt, Vec::from_slice(alloc, octets))
 }
 
-/// 0A3B5F291CD, the example of a BIT STRING (X.690 8.6.4.2).
+/// Returns 0A3B5F291CD, the example of a BIT STRING (X.690 8.6.4.2).
 fn worked_bits(rt: &impl Abort, alloc: Global) -> BitString {
     let octets = vec_of(rt, alloc, &[0x0A, 0x3B, 0x5F, 0x29, 0x1C, 0xDF]);
     made(rt, Ok(BitString::new(octets, 44)))
 }
 
-/// { joint-iso-itu-t(2) 999 3 }, the example of an OBJECT IDENTIFIER (X.690 8.19.5).
+/// Returns { joint-iso-itu-t(2) 999 3 }, the example of an OBJECT IDENTIFIER (X.690 8.19.5).
 fn worked_arcs(rt: &impl Abort, alloc: Global) -> ObjectIdentifier {
     made(
         rt,
@@ -51,7 +51,7 @@ fn takes_octets_out(rt: HostRuntime) {
     assert_items(&rt, units.into_vec(), &[0x00, 0x4A]);
 }
 
-/// How many of the bits are set.
+/// Returns the number of bits that are set.
 fn count_ones(bits: &BitString) -> u32 {
     let mut ones = 0u32;
     for bit in bits.iter() {
@@ -62,7 +62,7 @@ fn count_ones(bits: &BitString) -> u32 {
     ones
 }
 
-// The bits that the last octet leaves unused are zeros (X.690 11.2.1).
+// The unused bits of the last octet are zeros (X.690 11.2.1).
 #[test]
 fn lends_bits(rt: HostRuntime) {
     const OCTETS: &[u8] = &[0x0A, 0x3B, 0x5F, 0x29, 0x1C, 0xD0];
@@ -83,7 +83,7 @@ fn lends_bits(rt: HostRuntime) {
     assert!(rt; bits.into_vec().as_slice() == OCTETS);
 }
 
-// VisibleString "Jones" (X.690 8.23.3), and the characters U+015C and U+20AC of Unicode as units.
+// VisibleString "Jones" (X.690 8.23.3), and the Unicode characters U+015C and U+20AC as units.
 #[test]
 fn lends_text(rt: HostRuntime) {
     let alloc = rt.alloc();

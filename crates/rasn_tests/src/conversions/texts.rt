@@ -7,7 +7,8 @@ use rasn::types::Hexadecimal;
 use std::alloc::Global;
 use std::process::Abort;
 
-// The example of an OBJECT IDENTIFIER (X.690 8.19.5), and the arcs of rsaEncryption (RFC 8017, appendix C).
+// The example of an OBJECT IDENTIFIER (X.690 8.19.5), and the arcs of rsaEncryption (RFC 8017,
+// appendix C).
 #[test]
 fn object_identifiers(rt: HostRuntime) {
     let alloc = rt.alloc();
@@ -20,13 +21,14 @@ fn object_identifiers(rt: HostRuntime) {
     assert_shown(&rt, alloc, rsa, "1.2.840.113549.1.1.1");
 }
 
-/// Asserts that the text names the object identifier of these arcs.
+/// Asserts that the text is parsed as the object identifier of these arcs.
 fn assert_names(rt: &impl Abort, alloc: Global, text: &str, arcs: &[u32]) {
     let found = made(rt, ObjectIdentifier::parse(alloc, text));
     assert_eq!(rt; found.arcs(), arcs);
 }
 
-// The example of X.690 8.19.5, rsaEncryption (RFC 8017, appendix C), and the greatest arc of 32 bits.
+// The example of X.690 8.19.5, rsaEncryption (RFC 8017, appendix C), and the largest arc of 32
+// bits.
 #[test]
 fn names_of_object_identifiers(rt: HostRuntime) {
     let alloc = rt.alloc();
@@ -36,7 +38,8 @@ fn names_of_object_identifiers(rt: HostRuntime) {
     assert_names(&rt, alloc, "2.4294967295", &[2, u32::MAX]);
 }
 
-// Too few arcs, a first arc above 2, an empty arc, zeros and a sign in front, an arc beyond 32 bits, and what is no digit.
+// Too few arcs, a first arc above 2, an empty arc, leading zeros and a sign, an arc beyond 32 bits,
+// and characters that aren't digits.
 #[test]
 fn names_of_nothing(rt: HostRuntime) {
     for text in [
@@ -57,7 +60,7 @@ fn names_of_nothing(rt: HostRuntime) {
     }
 }
 
-/// The octets of a number (X.690 8.3.3), and its text.
+/// The octets of numbers (X.690 8.3.3), and their texts.
 const NUMBERS: &[(&[u8], &str)] = &[
     (
         &[
@@ -103,8 +106,8 @@ const NUMBERS: &[(&[u8], &str)] = &[
     ),
 ];
 
-// A number that 128 bits hold, with a sign or without one, is shown in decimal: -2^127, 2^127 - 1, 2^127 and 2^128 - 1. 2^128 and
-// -2^127 - 1 are shown as their octets.
+// A number that fits in 128 bits, signed or unsigned, is shown in decimal: -2^127, 2^127 - 1, 2^127
+// and 2^128 - 1. 2^128 and -2^127 - 1 are shown as their octets.
 #[test]
 fn numbers(rt: HostRuntime) {
     let alloc = rt.alloc();
@@ -114,7 +117,7 @@ fn numbers(rt: HostRuntime) {
     }
 }
 
-// The octets of NULL, and of the ends of a hexadecimal digit's range.
+// The octets of NULL, and octets with the first and last digits of the hexadecimal ranges.
 #[test]
 fn octets(rt: HostRuntime) {
     let alloc = rt.alloc();
@@ -145,7 +148,7 @@ fn strings(rt: HostRuntime) {
     assert_shown(&rt, alloc, jones, "Jones");
 }
 
-/// An instant of these fields.
+/// Returns the instant of these fields.
 fn instant_of(
     rt: &impl Abort,
     (year, month, day): (i32, u8, u8),
@@ -156,7 +159,7 @@ fn instant_of(
     made(rt, Ok(UtcTime::new(date, hour, minute, second, nanosecond)))
 }
 
-// The first example, an instant with an offset in UTC, and the leap second of RFC 3339 5.8.
+// Examples of RFC 3339 5.8: an instant in UTC, one with an offset, and a leap second.
 #[test]
 fn instants(rt: HostRuntime) {
     let alloc = rt.alloc();
@@ -169,7 +172,7 @@ fn instants(rt: HostRuntime) {
     assert_shown(&rt, alloc, leap, "1990-12-31T23:59:60Z");
 }
 
-// A full date of RFC 3339 5.6, and years of ISO 8601 that have a sign.
+// A full date of RFC 3339 5.6, and years that have a sign by ISO 8601.
 #[test]
 fn days(rt: HostRuntime) {
     let alloc = rt.alloc();

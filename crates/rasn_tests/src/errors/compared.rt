@@ -1,5 +1,5 @@
-//! Values and errors compared: INTEGER by its number (X.690 8.3), OBJECT IDENTIFIER by its arcs, BIT STRING by its bits, OCTET STRING and
-//! open types by their octets.
+//! Comparisons of values and errors: INTEGER by its number (X.690 8.3), OBJECT IDENTIFIER by its
+//! arcs, BIT STRING by its bits, OCTET STRING and open types by their octets.
 
 use crate::reading::{
     assert_ascends, assert_equal, assert_facts, decoder_of, held, is_incomplete, refusal,
@@ -44,10 +44,11 @@ fn arcs(rt: &impl Abort, alloc: Global, arcs: &[u32]) -> ObjectIdentifier {
     made(rt, ObjectIdentifier::from_arcs(alloc, arcs))
 }
 
-/// Arcs in ascending order: the first arc that differs decides, and a prefix comes first.
+/// Arcs in ascending order: the first arc that differs decides, and a prefix is less than the
+/// whole.
 const ARCS: &[&[u32]] = &[&[1, 2], &[1, 2, 840], &[1, 3], &[2, 1]];
 
-/// Whether `<` holds of the object identifiers of these arcs.
+/// Returns whether `<` holds of the object identifiers of these arcs.
 fn is_less(rt: &impl Abort, alloc: Global, least: &[u32], more: &[u32]) -> bool {
     arcs(rt, alloc, least) < arcs(rt, alloc, more)
 }
@@ -65,7 +66,7 @@ fn view<'a>(rt: &impl Abort, octets: &'a [u8], start: usize, len: usize) -> BitS
     made(rt, Ok(BitStr::new(octets, start, len)))
 }
 
-// The bits 1,0,1 at two places of octets are equal; they differ from 1,0,0 and from 1,0.
+// The bits 1,0,1 at two different places in octets are equal; they differ from 1,0,0 and from 1,0.
 #[test]
 fn compares_views_of_bits(rt: HostRuntime) {
     let front = view(&rt, &[0xA0], 0, 3);
@@ -103,7 +104,8 @@ fn string(rt: &impl Abort, alloc: Global, octets: &[u8]) -> OctetString {
     OctetString::from_vec(held(rt, Vec::from_slice(alloc, octets)))
 }
 
-/// Octets in ascending order: the first octet that differs decides, and a prefix comes first.
+/// Octets in ascending order: the first octet that differs decides, and a prefix is less than the
+/// whole.
 const STRINGS: &[&[u8]] = &[&[], &[0x00], &[0x01, 0xFF], &[0x02], &[0x02, 0x00], &[0xFF]];
 
 #[test]
@@ -121,7 +123,8 @@ fn open(rt: &impl Abort, alloc: Global, octets: &[u8]) -> Any {
     Any::new(held(rt, Vec::from_slice(alloc, octets)))
 }
 
-// Open types are equal exactly if their octets are, whatever these mean: 05 00 and 05 81 00 are both NULL.
+// Open types are equal exactly if their octets are, whatever the octets mean: 05 00 and 05 81 00
+// are both NULL.
 #[test]
 fn compares_open_values(rt: HostRuntime) {
     let alloc = rt.alloc();

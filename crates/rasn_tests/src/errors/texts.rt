@@ -24,7 +24,7 @@ fn tells_open_ends(rt: HostRuntime) {
     assert_shown(&rt, alloc, lower, "7..MAX");
 }
 
-// The texts show the names that a type reports, and why a value isn't written.
+// The texts show the name that a type reports, and why a value isn't written.
 #[test]
 fn tells_names(rt: HostRuntime) {
     let alloc = rt.alloc();

@@ -1,4 +1,5 @@
-//! Closures that drop refusals, and elements that consume nothing: what is read and written behind them (X.690 8.9 to 8.12).
+//! Closures that drop refusals, and elements that consume nothing: what is read and written after
+//! them (X.690 8.9 to 8.12).
 ghost use Rattle.rasn_de.specs.Constructed.{Keeps};
 ghost use Rattle.rasn_enc.specs.View.{LeavesOthers};
 
@@ -15,7 +16,7 @@ use rasn_bench::Both;
 use std::alloc::{AllocError, Global};
 use std::process::Abort;
 
-/// What the closures return, whatever they read.
+/// The value that the closures return, whatever they read.
 const ANSWER: NumberAndTruth = Both {
     first: 0,
     second: true,
@@ -49,7 +50,8 @@ fn past_a_sequence(decoder: &mut Decoder<'_>) -> Result<NumberAndTruth, DecodeEr
     )
 }
 
-/// Asserts what a SEQUENCE whose closure drops a BOOLEAN is read as, and how many octets it consumes.
+/// Asserts the result of reading a SEQUENCE whose closure drops a BOOLEAN, and the number of octets
+/// consumed.
 fn assert_drops_a_boolean(
     rt: &impl Abort,
     alloc: Global,
@@ -62,7 +64,8 @@ fn assert_drops_a_boolean(
     assert!(rt; decoder.decoded_len() == consumed);
 }
 
-/// Asserts what a SEQUENCE whose closure drops a SEQUENCE is read as, and how many octets it consumes.
+/// Asserts the result of reading a SEQUENCE whose closure drops a SEQUENCE, and the number of
+/// octets consumed.
 fn assert_drops_a_sequence(
     rt: &impl Abort,
     alloc: Global,
@@ -75,7 +78,8 @@ fn assert_drops_a_sequence(
     assert!(rt; decoder.decoded_len() == consumed);
 }
 
-// Contents that are no BOOLEAN's are consumed. A fault of identifier or length consumes nothing, so octets are left.
+// A BOOLEAN with invalid contents is consumed. A fault of the identifier or length consumes
+// nothing, so octets remain.
 #[test]
 fn a_dropped_refusal_leaves_what_it_leaves(rt: HostRuntime) {
     let alloc = rt.alloc();
@@ -94,8 +98,8 @@ fn a_dropped_refusal_leaves_what_it_leaves(rt: HostRuntime) {
     );
 }
 
-// A refused value of definite length is consumed whole, of one of indefinite length the header alone: then the end-of-contents octets of
-// the inner value close the outer one.
+// A refused value of definite length is consumed whole. Of one of indefinite length the header
+// alone is consumed, and then the end-of-contents octets of the inner value close the outer one.
 #[test]
 fn a_dropped_value_is_gone_on_from(rt: HostRuntime) {
     let alloc = rt.alloc();
@@ -131,7 +135,8 @@ fn write_falling(encoder: &mut Encoder) -> Result<(), EncodeError>
     )
 }
 
-/// Writes a SET whose closure writes \[0\] and \[1\], and between them drops the refusal of a SET out of order.
+/// Writes a SET whose closure writes \[0\] and \[1\], and between them drops the refusal of a
+/// SET whose components are out of order.
 fn write_past_a_set(encoder: &mut Encoder) -> Result<(), EncodeError> {
     encoder.encode_set::<3, 0, Components, _>(
         Tag::SET,
@@ -146,7 +151,8 @@ fn write_past_a_set(encoder: &mut Encoder) -> Result<(), EncodeError> {
     )
 }
 
-// A SET that is refused leaves neither octets nor its tag, which would be out of order before [1] (X.690 10.3).
+// A refused SET leaves neither octets nor its tag, which would be out of order before [1]
+// (X.690 10.3).
 #[test]
 fn a_dropped_set_leaves_no_tag(rt: HostRuntime) {
     let mut encoder = new_encoder(&rt, rt.alloc(), Codec::Der);

@@ -1,4 +1,5 @@
-//! Values of indefinite length that are cut (X.690 8.1.3.6): each proper prefix of their octets is refused.
+//! Truncated values of indefinite length (X.690 8.1.3.6): each proper prefix of their octets is
+//! refused.
 
 use crate::reading::{assert_answer, decoder_of, held};
 use rasn::de::Decode;
@@ -6,7 +7,7 @@ use rasn::types::{Any, Codec};
 use std::alloc::{AllocError, Global};
 use std::process::Abort;
 
-/// A thousand SEQUENCEs of indefinite length in one another.
+/// Returns a thousand nested SEQUENCEs of indefinite length.
 fn levels(alloc: Global) -> Result<Vec<u8>, AllocError> {
     let mut octets = Vec::new(alloc);
     for _ in 0..1000u32 {
@@ -18,8 +19,8 @@ fn levels(alloc: Global) -> Result<Vec<u8>, AllocError> {
     Ok(octets)
 }
 
-/// Asserts that a value that is skipped or kept as an open type lacks an octet or, where one zero octet is left over, ends too early, and
-/// that nothing is consumed.
+/// Asserts that a value that is skipped or kept as an open type is refused and nothing is consumed:
+/// an octet is missing, or, if a single zero octet remains, the end of contents is unexpected.
 fn assert_is_not_taken(rt: &impl Abort, alloc: Global, front: &[u8]) {
     const ONE_OCTET_MISSING: &str = "Incomplete { needed: Size(1) }";
     const END_OF_CONTENTS: &str = "CodecSpecific { inner: Ber(UnexpectedEndOfContents) }";
@@ -34,7 +35,7 @@ fn assert_is_not_taken(rt: &impl Abort, alloc: Global, front: &[u8]) {
     assert!(rt; decoder.decoded_len() == 0);
 }
 
-// The prefixes lack one to a hundred octets (X.690 8.1.5).
+// One to a hundred octets are missing from the prefixes (X.690 8.1.5).
 #[test]
 fn cut_levels_are_refused(rt: HostRuntime) {
     let alloc = rt.alloc();

@@ -1,4 +1,5 @@
-//! Headers in more octets than are needed (X.690 8.1.2.4, 8.1.3.5), lengths beyond any input, and universal 0 (8.1.5).
+//! Headers in more octets than needed (X.690 8.1.2.4, 8.1.3.5), lengths beyond any input, and
+//! universal 0 (8.1.5).
 
 use crate::reading::{answers_octets, assert_answer, decoder_of};
 use crate::writing::of_pieces;
@@ -6,7 +7,7 @@ use rasn::types::{Codec, Constraints, Tag};
 use std::alloc::Global;
 use std::process::Abort;
 
-/// Asserts that the octets are an OCTET STRING of one octet behind a long header.
+/// Asserts that the octets are an OCTET STRING of one octet with a long header.
 fn assert_reads_one_octet(rt: &impl Abort, alloc: Global, octets: &[u8]) {
     let mut decoder = decoder_of(alloc, octets, Codec::Ber);
     let answer = decoder.decode_octet_string(Tag::OCTET_STRING, &Constraints::NONE);
@@ -14,7 +15,8 @@ fn assert_reads_one_octet(rt: &impl Abort, alloc: Global, octets: &[u8]) {
     assert!(rt; decoder.remaining().is_empty());
 }
 
-// A length may have 126 octets, all but the last of them zero, but not under DER (X.690 8.1.3.5, 10.1).
+// A length may have 126 octets, all but the last of them zero, except under DER (X.690 8.1.3.5,
+// 10.1).
 #[test]
 fn lengths_of_126_octets(rt: HostRuntime) {
     let alloc = rt.alloc();

@@ -1,5 +1,5 @@
-//! How many octets a refusal consumes: none for a fault of the identifier or length (X.690 8.1.2, 8.1.3), else the value, its header, or
-//! what was read inside.
+//! The number of octets that a refusal consumes: none for a fault of the identifier or length
+//! (X.690 8.1.2, 8.1.3), otherwise the value, its header, or the octets that were read inside.
 
 use crate::hostile::one_boolean;
 use crate::reading::{Row, assert_answer, assert_row, decoder_of};
@@ -7,7 +7,8 @@ use rasn::types::{Class, Codec, Tag};
 use std::alloc::Global;
 use std::process::Abort;
 
-/// Asserts what SEQUENCE { BOOLEAN } is read as from each row's octets, and how many are consumed.
+/// Asserts the result of reading SEQUENCE { BOOLEAN } from the octets of each row, and the number
+/// of octets consumed.
 fn assert_reads_one_boolean(rt: &impl Abort, alloc: Global, rows: &[Row]) {
     for (octets, rules, text, consumed) in rows {
         let mut decoder = decoder_of(alloc, octets, *rules);
@@ -16,7 +17,7 @@ fn assert_reads_one_boolean(rt: &impl Abort, alloc: Global, rows: &[Row]) {
     }
 }
 
-/// What is reported of an INTEGER where a BOOLEAN is expected.
+/// The error kind of an INTEGER in place of a BOOLEAN.
 const FOUND_INTEGER: &str =
     "CodecSpecific { inner: Ber(MismatchedTag { expected: Tag { class: Universal, value: 1 }, actual: Tag { class: Universal, value: 2 } }) }";
 
@@ -26,8 +27,9 @@ const MISSING_END_OF_CONTENTS: &str = "CodecSpecific { inner: Ber(MissingEndOfCo
 
 const END_OF_CONTENTS: &str = "CodecSpecific { inner: Ber(UnexpectedEndOfContents) }";
 
-// A refusal inside consumes header and contents, of an indefinite length the header alone. Where end-of-contents octets are missing (X.690
-// 8.1.5), it consumes what was read inside too. A SEQUENCE is constructed (8.9.1).
+// A refusal inside consumes header and contents, or the header alone if the length is indefinite.
+// If end-of-contents octets are missing (X.690 8.1.5), the octets that were read inside are
+// consumed too. A SEQUENCE is constructed (8.9.1).
 #[test]
 fn sequences_take_what_was_read(rt: HostRuntime) {
     const ROWS: &[Row] = &[
@@ -84,7 +86,8 @@ fn sequences_take_what_was_read(rt: HostRuntime) {
     assert_reads_one_boolean(&rt, rt.alloc(), ROWS);
 }
 
-/// Asserts what \[0\] EXPLICIT BOOLEAN OPTIONAL is read as from each row's octets, and how many are consumed.
+/// Asserts the result of reading \[0\] EXPLICIT BOOLEAN OPTIONAL from the octets of each row, and
+/// the number of octets consumed.
 fn assert_reads_optional_prefix(rt: &impl Abort, alloc: Global, rows: &[Row]) {
     for (octets, rules, text, consumed) in rows {
         let mut decoder = decoder_of(alloc, octets, *rules);
@@ -95,7 +98,7 @@ fn assert_reads_optional_prefix(rt: &impl Abort, alloc: Global, rows: &[Row]) {
     }
 }
 
-/// Octets of \[0\] EXPLICIT BOOLEAN that are refused.
+/// Rows of \[0\] EXPLICIT BOOLEAN that are refused.
 const PREFIXED_BOOLEANS: [Row; 5] = [
     (
         &[0xA0, 0x03, 0x02, 0x01, 0x01],
@@ -129,7 +132,8 @@ const PREFIXED_BOOLEANS: [Row; 5] = [
     ),
 ];
 
-// An OPTIONAL prefix that is there is refused as one that is required. Where another tag comes, nothing is consumed.
+// An OPTIONAL value under an explicit tag that is present is refused like a required one. Before
+// another tag nothing is consumed.
 #[test]
 fn prefixes_take_what_was_read(rt: HostRuntime) {
     const ROWS: &[Row] = &[
@@ -142,7 +146,8 @@ fn prefixes_take_what_was_read(rt: HostRuntime) {
     assert_reads_optional_prefix(&rt, alloc, ROWS);
 }
 
-/// Asserts what \[0\] EXPLICIT BOOLEAN is read as from each row's octets, and how many are consumed.
+/// Asserts the result of reading \[0\] EXPLICIT BOOLEAN from the octets of each row, and the number
+/// of octets consumed.
 fn assert_reads_prefix(rt: &impl Abort, alloc: Global, rows: &[Row]) {
     for (octets, rules, text, consumed) in rows {
         let mut decoder = decoder_of(alloc, octets, *rules);

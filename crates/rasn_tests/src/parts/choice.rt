@@ -1,4 +1,4 @@
-//! A CHOICE is encoded as its alternative (X.690 8.13).
+//! Encoding of a CHOICE as its alternative (X.690 8.13).
 ghost use Rattle.rasn_enc.specs.View.{Extends};
 
 use crate::writing::{assert_output, assert_refuses, assert_written, new_encoder};
@@ -21,7 +21,7 @@ fn choose_true(encoder: &mut Encoder) -> Result<(), EncodeError> {
     )
 }
 
-/// Writes FALSE as the alternative of a CHOICE, and then refuses.
+/// Writes FALSE as the alternative of a CHOICE, and then returns an error.
 fn choose_nothing(encoder: &mut Encoder) -> Result<(), EncodeError> {
     encoder.encode_choice::<bool, _>(
         &Constraints::NONE,
@@ -46,7 +46,7 @@ fn writes_choices(rt: HostRuntime) {
     assert_output(&rt, encoder.output(), &[0x01, 0x01, 0xFF]);
 }
 
-// What a closure writes before it refuses is removed.
+// What a closure writes before it fails is removed.
 #[test]
 fn a_refused_choice_leaves_no_octets(rt: HostRuntime) {
     let alloc = rt.alloc();

@@ -1,4 +1,5 @@
-//! Components that are OPTIONAL or DEFAULT (X.690 8.9.3), explicit and implicit tags (8.14) and extension additions are decoded.
+//! Decoding of components that are OPTIONAL or DEFAULT (X.690 8.9.3), of explicit and implicit tags
+//! (8.14) and of extension additions.
 ghost use Rattle.rasn_de.specs.Constructed.{Keeps};
 
 use crate::reading::{Row, assert_answer, assert_facts, assert_reads_default, decoder_of, within};
@@ -20,12 +21,12 @@ fn context(value: u32) -> Tag {
     Tag::new(Class::Context, value)
 }
 
-/// INTEGER (0..10)
+/// Returns the constraint of INTEGER (0..10).
 fn small() -> Constraints {
     within(0, 10)
 }
 
-/// Whether a call answers this number, or that there is none.
+/// Returns whether a call returns `number`.
 fn is_number(answer: Result<Option<u8>, DecodeError>, number: Option<u8>) -> bool {
     match answer {
         Ok(found) => found == number,
@@ -33,7 +34,7 @@ fn is_number(answer: Result<Option<u8>, DecodeError>, number: Option<u8>) -> boo
     }
 }
 
-// Each call reads a value, and at the end there is none.
+// Each call reads a value; at the end of the input each returns `None`.
 #[test]
 fn reads_optional_values(rt: HostRuntime) {
     const FIVE_VALUES: &[u8] = &[
@@ -66,7 +67,7 @@ fn reads_optional_values(rt: HostRuntime) {
     );
 }
 
-// An OPTIONAL value that is there has to meet its constraints.
+// An OPTIONAL value that is present has to meet its constraints.
 #[test]
 fn constrains_optional_values(rt: HostRuntime) {
     let mut decoder = decoder_of(rt.alloc(), &[0x02, 0x01, 0x0B], Codec::Der);
@@ -75,7 +76,7 @@ fn constrains_optional_values(rt: HostRuntime) {
     assert!(rt; decoder.decoded_len() == 3);
 }
 
-// An INTEGER DEFAULT 7 is the number that is there, and 7 at the end and before another tag.
+// An INTEGER DEFAULT 7 is the number if one is present, and 7 at the end and before another tag.
 #[test]
 fn reads_defaults(rt: HostRuntime) {
     const ROWS: &[Row] = &[
@@ -87,7 +88,7 @@ fn reads_defaults(rt: HostRuntime) {
     assert_reads_default(&rt, rt.alloc(), ROWS);
 }
 
-// Each call reads a value, and at the end it answers the default.
+// Each call reads a value; at the end of the input each returns the default.
 #[test]
 fn reads_tagged_defaults(rt: HostRuntime) {
     const THREE_VALUES: &[u8] = &[0x80, 0x01, 0x05, 0x02, 0x01, 0x0A, 0x81, 0x01, 0x0A];
@@ -115,7 +116,8 @@ fn tells_that_a_default_has_no_memory(rt: HostRuntime) {
     assert!(rt; decoder.decoded_len() == 0);
 }
 
-// What stands in an explicit prefix has to be the value (X.690 8.14.2): a BOOLEAN in [0] is no INTEGER. The header and the contents are consumed.
+// The value under an explicit tag has to be of the type (X.690 8.14.2): a BOOLEAN in [0] is not an
+// INTEGER. The header and the contents are consumed.
 #[test]
 fn refuses_another_value_in_a_prefix(rt: HostRuntime) {
     let mut decoder = decoder_of(rt.alloc(), &[0xA0, 0x03, 0x01, 0x01, 0xFF], Codec::Der);
@@ -124,7 +126,7 @@ fn refuses_another_value_in_a_prefix(rt: HostRuntime) {
     assert!(rt; decoder.decoded_len() == 5);
 }
 
-// A group of extension additions may be left out.
+// A group of extension additions may be absent.
 #[test]
 fn reads_a_group(rt: HostRuntime) {
     const GROUP_THEN_SEVEN: &[u8] = &[
@@ -138,12 +140,13 @@ fn reads_a_group(rt: HostRuntime) {
     assert!(rt; decoder.decoded_len() == 8);
 }
 
-/// An addition that is read under \[1\], whatever its constraints.
+/// Reads an addition under \[1\], whatever its constraints.
 fn addition(decoder: &mut Decoder<'_>) -> Result<Option<u8>, DecodeError> {
     decoder.decode_extension_addition_with_tag_and_constraints(context(1), &small())
 }
 
-/// Reads SEQUENCE { second BOOLEAN, ..., first \[0\] EXPLICIT INTEGER }, by the call for additions.
+/// Reads SEQUENCE { second BOOLEAN, ..., first \[0\] EXPLICIT INTEGER } with the call for
+/// additions.
 fn read_addition(decoder: &mut Decoder<'_>) -> Result<NumberAndTruth, DecodeError> {
     decoder.decode_sequence::<2, 0, NumberAndTruth, fn() -> Result<NumberAndTruth, AllocError>, _>(
         Tag::SEQUENCE,
@@ -164,7 +167,8 @@ fn read_addition(decoder: &mut Decoder<'_>) -> Result<NumberAndTruth, DecodeErro
     )
 }
 
-/// SEQUENCE { BOOLEAN, ..., \[0\] EXPLICIT INTEGER }, what it is read as, and how many octets are consumed.
+/// SEQUENCE { BOOLEAN, ..., \[0\] EXPLICIT INTEGER }, the result of reading it, and the number of
+/// octets consumed.
 const EXPLICIT_ADDITIONS: &[Row] = &[
     (
         &[0x30, 0x08, 0x01, 0x01, 0xFF, 0xA0, 0x03, 0x02, 0x01, 0x05],
@@ -180,7 +184,8 @@ const EXPLICIT_ADDITIONS: &[Row] = &[
     ),
 ];
 
-// The call for additions under an explicit tag (X.680 25.4) wants the tag: where the contents end before it, an octet is missing.
+// The call for additions under an explicit tag (X.680 25.4) requires the tag: if the contents end
+// before it, an octet is missing.
 #[test]
 fn an_explicit_addition_is_asked_for(rt: HostRuntime) {
     for (octets, rules, text, consumed) in EXPLICIT_ADDITIONS {
@@ -191,12 +196,13 @@ fn an_explicit_addition_is_asked_for(rt: HostRuntime) {
     }
 }
 
-/// An addition that is read inside \[0\], whatever its constraints.
+/// Reads an addition inside \[0\], whatever its constraints.
 fn prefixed_addition(decoder: &mut Decoder<'_>) -> Result<Option<u8>, DecodeError> {
     decoder.decode_extension_addition_with_explicit_tag_and_constraints(context(0), &small())
 }
 
-// An addition under a tag may be left out; one in an explicit prefix has to be there. Constraints are ignored.
+// An addition under an implicit tag may be absent; one under an explicit tag is required.
+// Constraints are ignored.
 #[test]
 fn reads_additions(rt: HostRuntime) {
     const ELEVEN_THEN_FIVE: &[u8] = &[0x81, 0x01, 0x0B, 0xA0, 0x03, 0x02, 0x01, 0x05];
@@ -220,7 +226,8 @@ fn reads_additions(rt: HostRuntime) {
     );
 }
 
-// An explicit tag is read with the constructed bit and without it, and of definite and indefinite length.
+// An explicit tag is read with and without the constructed bit, and with definite and indefinite
+// length.
 #[test]
 fn reads_prefixes(rt: HostRuntime) {
     const THREE_PREFIXES: &[u8] = &[
@@ -235,7 +242,7 @@ fn reads_prefixes(rt: HostRuntime) {
     }
 }
 
-// Octets behind the value inside a prefix are refused, and the prefix is consumed.
+// Octets after the value under an explicit tag are refused, and the whole encoding is consumed.
 #[test]
 fn holds_one_value(rt: HostRuntime) {
     const FIVE_AND_NULL: &[u8] = &[0xA0, 0x05, 0x02, 0x01, 0x05, 0x05, 0x00, 0x01];

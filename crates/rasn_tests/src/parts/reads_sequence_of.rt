@@ -1,9 +1,9 @@
-//! SEQUENCE OF is decoded (X.690 8.10), of definite length under DER (10.1).
+//! Decoding of SEQUENCE OF (X.690 8.10), of definite length under DER (10.1).
 
 use crate::reading::{assert_answer, decoder_of};
 use rasn_types::types::{Bound, Bounded, Class, Codec, Constraints, Tag};
 
-// A list has exactly two elements. One of a single element is refused and consumed.
+// The list must have exactly two elements. One with a single element is refused and consumed.
 #[test]
 fn counts_elements(rt: HostRuntime) {
     let constraint = Bounded::Range {

@@ -1,4 +1,4 @@
-//! SEQUENCE OF is encoded (X.690 8.10), of definite length but under CER (9.1).
+//! Encoding of SEQUENCE OF (X.690 8.10), of definite length except under CER (9.1).
 
 use crate::writing::{
     INVALID_0_40, assert_output, assert_refuses, assert_written, identifiers_of, made, new_encoder,
@@ -20,13 +20,13 @@ const SIZE_2: Constraints = Constraints {
     }),
 };
 
-/// SEQUENCE OF INTEGER
+/// Returns a SEQUENCE OF INTEGER.
 fn numbers(alloc: Global, numbers: &[u8]) -> Result<Option<Vec<u8>>, AllocError> {
     let numbers = Vec::from_slice(alloc, numbers)?;
     Ok(Some(numbers))
 }
 
-/// SEQUENCE OF SEQUENCE OF OCTET STRING, of one string in one list.
+/// Returns a SEQUENCE OF SEQUENCE OF OCTET STRING, with one string in one list.
 pub fn lists(
     alloc: Global,
     octet: u8,
@@ -70,7 +70,7 @@ fn refuses_sizes_of_lists(rt: HostRuntime) {
     assert_output(&rt, encoder.output(), &[]);
 }
 
-// The object identifier 1.2 has an encoding, and 0.40 has none (X.690 8.19.4).
+// The object identifier 1.2 has an encoding, 0.40 doesn't (X.690 8.19.4).
 #[test]
 fn a_refused_element_takes_the_list_along(rt: HostRuntime) {
     let alloc = rt.alloc();

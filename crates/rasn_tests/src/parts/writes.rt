@@ -1,4 +1,5 @@
-//! Components that are OPTIONAL or DEFAULT (X.690 8.9.3, 11.5), explicit and implicit tags (8.14) and extension additions are encoded.
+//! Encoding of components that are OPTIONAL or DEFAULT (X.690 8.9.3, 11.5), of explicit and
+//! implicit tags (8.14) and of extension additions.
 
 use crate::reading::assert_facts;
 use crate::types::NumberAndTruth;
@@ -77,13 +78,13 @@ fn refused_options_write_nothing(rt: HostRuntime) {
     assert_output(&rt, encoder.output(), &[]);
 }
 
-/// Writes a number whose default is 7 by the two calls without constraints.
+/// Writes a number whose default is 7, with the two calls without constraints.
 fn write_twice(encoder: &mut Encoder, number: u8) -> Result<(), EncodeError> {
     encoder.encode_default(&number, || Ok(7), NO_IDENTIFIER)?;
     encoder.encode_default_with_tag(TAG_0, &number, || Ok(7), NO_IDENTIFIER)
 }
 
-/// Writes a percentage whose default is 7 by the two calls with constraints.
+/// Writes a percentage whose default is 7, with the two calls with constraints.
 fn write_percentage_twice(encoder: &mut Encoder, number: u8) -> Result<(), EncodeError> {
     encoder.encode_default_with_constraints(&PERCENTAGE, &number, || Ok(7), NO_IDENTIFIER)?;
     encoder.encode_default_with_tag_and_constraints(
@@ -148,7 +149,8 @@ fn writes_explicit_prefixes(rt: HostRuntime) {
     assert_output(&rt, encoder.output(), &[0xA0, 0x03, 0x02, 0x01, 0x05]);
 }
 
-// A group of extension additions is written as a SEQUENCE, and as nothing where there is none.
+// A group of extension additions is written as a SEQUENCE, and nothing is written for an absent
+// group.
 #[test]
 fn writes_extension_additions(rt: HostRuntime) {
     let mut encoder = new_encoder(&rt, rt.alloc(), Codec::Der);

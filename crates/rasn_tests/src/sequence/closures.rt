@@ -1,4 +1,5 @@
-//! Closures of a SEQUENCE (X.690 8.9) that drop a refusal and go on, or that read by rules of their own.
+//! Closures of a SEQUENCE (X.690 8.9) that drop a refusal and go on, or that read under other
+//! rules.
 ghost use Rattle.rasn_de.specs.Constructed.{Keeps};
 ghost use Rattle.rasn_de.specs.State.{IsEnd};
 ghost use Rattle.rasn_enc.specs.View.{LeavesOthers};
@@ -40,7 +41,8 @@ fn read_past_a_refusal(decoder: &mut Decoder<'_>) -> Result<NumberAndTruth, Deco
     )
 }
 
-/// Reads a SEQUENCE whose closure reads a number and a BOOLEAN by BER, with a decoder of its own.
+/// Reads a SEQUENCE whose closure reads a number and a BOOLEAN under BER, with a decoder that it
+/// creates.
 fn read_by_ber(decoder: &mut Decoder<'_>) -> Result<NumberAndTruth, DecodeError> {
     decoder.decode_sequence::<2, 0, NumberAndTruth, fn() -> Result<NumberAndTruth, AllocError>, _>(
         Tag::SEQUENCE,
@@ -90,8 +92,9 @@ fn a_dropped_refusal_is_gone_on_from(rt: HostRuntime) {
     assert!(rt; decoder.decoded_len() == 5);
 }
 
-// Under BER any octet but 00 is TRUE, under DER FF alone (X.690 8.2.2, 11.1). What a closure puts in the place of the decoder inside
-// holds for the contents alone: the SEQUENCE is closed, and the next value read, by the rules and at the place of the decoder outside.
+// Under BER any octet but 00 is TRUE, under DER FF alone (X.690 8.2.2, 11.1). A decoder that a
+// closure puts in place of the inner one is used for the contents alone: the SEQUENCE is closed,
+// and the next value read, under the rules and at the place of the outer decoder.
 #[test]
 fn a_closure_reads_by_other_rules(rt: HostRuntime) {
     let alloc = rt.alloc();
@@ -107,7 +110,8 @@ fn a_closure_reads_by_other_rules(rt: HostRuntime) {
     assert_answer(&rt, alloc, Codec::Der, answer, "InvalidBool { value: 1 }");
 }
 
-// The fault of octets that such a closure leaves names the rules outside, under which the SEQUENCE is closed.
+// The error for octets that such a closure leaves names the outer rules, under which the
+// SEQUENCE is closed.
 #[test]
 fn octets_left_by_other_rules_are_refused_outside(rt: HostRuntime) {
     let alloc = rt.alloc();
@@ -119,7 +123,7 @@ fn octets_left_by_other_rules_are_refused_outside(rt: HostRuntime) {
     assert!(rt; decoder.decoded_len() == 10);
 }
 
-// A refused call inside writes nothing.
+// A refused call in a closure writes nothing.
 #[test]
 fn a_dropped_refusal_leaves_no_octets(rt: HostRuntime) {
     let mut encoder = new_encoder(&rt, rt.alloc(), Codec::Der);

@@ -1,4 +1,5 @@
-//! A SEQUENCE without components (X.690 8.9), with and without an extension marker (X.680 25): which closure reads it.
+//! SEQUENCEs without components (X.690 8.9), with and without an extension marker (X.680 25), and
+//! the closure that reads them.
 ghost use Rattle.rasn_de.specs.Constructed.{Keeps};
 
 use crate::reading::{Row, assert_answer, assert_row, decoder_of};
@@ -9,7 +10,7 @@ use rasn::types::{Codec, Tag};
 use std::alloc::{AllocError, Global};
 use std::process::Abort;
 
-/// Reads a BOOLEAN where the closure is called.
+/// Reads a SEQUENCE {}, with a BOOLEAN in it if the closure is called.
 fn read_closed(decoder: &mut Decoder<'_>) -> Result<Closed, DecodeError> {
     decoder.decode_sequence::<0, 0, Closed, _, _>(
         Tag::SEQUENCE,
@@ -23,7 +24,7 @@ fn read_closed(decoder: &mut Decoder<'_>) -> Result<Closed, DecodeError> {
     )
 }
 
-/// Reads a BOOLEAN where the closure is called.
+/// Reads a SEQUENCE { ... }, with a BOOLEAN in it if the closure is called.
 fn read_extensible(decoder: &mut Decoder<'_>) -> Result<Extensible, DecodeError> {
     decoder.decode_sequence::<0, 0, Extensible, _, _>(
         Tag::SEQUENCE,
@@ -37,7 +38,8 @@ fn read_extensible(decoder: &mut Decoder<'_>) -> Result<Extensible, DecodeError>
     )
 }
 
-/// Asserts what SEQUENCE {} is read as from each row's octets, and how many are consumed.
+/// Asserts the result of reading SEQUENCE {} from the octets of each row, and the number of octets
+/// consumed.
 fn assert_reads_closed(rt: &impl Abort, alloc: Global, rows: &[Row]) {
     for (octets, rules, text, consumed) in rows {
         let mut decoder = decoder_of(alloc, octets, *rules);
@@ -46,7 +48,8 @@ fn assert_reads_closed(rt: &impl Abort, alloc: Global, rows: &[Row]) {
     }
 }
 
-/// Asserts what SEQUENCE { ... } is read as from each row's octets, and how many are consumed.
+/// Asserts the result of reading SEQUENCE { ... } from the octets of each row, and the number of
+/// octets consumed.
 fn assert_reads_extensible(rt: &impl Abort, alloc: Global, rows: &[Row]) {
     for (octets, rules, text, consumed) in rows {
         let mut decoder = decoder_of(alloc, octets, *rules);
@@ -59,7 +62,8 @@ const TRUE_ALONE: &[u8] = &[0x30, 0x03, 0x01, 0x01, 0xFF];
 
 const TRUE_ALONE_INDEFINITE: &[u8] = &[0x30, 0x80, 0x01, 0x01, 0xFF, 0x00, 0x00];
 
-// Where there are neither components nor an extension marker, the initializer makes the value and the closure isn't called.
+// If there are neither components nor an extension marker, the initializer makes the value and the
+// closure isn't called.
 #[test]
 fn initializers_read_types_without_fields(rt: HostRuntime) {
     const BY_INITIALIZER: &str = "Closed { by_closure: false }";
@@ -76,7 +80,7 @@ fn initializers_read_types_without_fields(rt: HostRuntime) {
     assert_reads_closed(&rt, rt.alloc(), ROWS);
 }
 
-// Where there is an extension marker, the closure is called, unless the contents are empty.
+// If there is an extension marker, the closure is called unless the contents are empty.
 #[test]
 fn closures_read_extensible_types(rt: HostRuntime) {
     const BY_INITIALIZER: &str = "Extensible { by_closure: false }";

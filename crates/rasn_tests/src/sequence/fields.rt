@@ -1,9 +1,11 @@
-//! The components of a SEQUENCE (X.680 25) or a SET (X.680 27), as readers of the schema see them.
+//! The components of a SEQUENCE (X.680 25) or a SET (X.680 27), as programs that inspect types see
+//! them.
 
 use crate::reading::assert_facts;
 use rasn_types::types::{Field, FieldPresence, Fields, HasPresence, Tag};
 
-// Two components of SEQUENCE { first BOOLEAN, second INTEGER OPTIONAL, third NULL DEFAULT NULL } may be left out.
+// Two components of SEQUENCE { first BOOLEAN, second INTEGER OPTIONAL, third NULL DEFAULT NULL }
+// may be absent.
 #[test]
 fn counts_fields(rt: HostRuntime) {
     let fields = Fields::from_static([

@@ -1,4 +1,4 @@
-//! The lengths of SEQUENCEs in one another (X.690 8.1.3).
+//! The lengths of nested SEQUENCEs (X.690 8.1.3).
 ghost use Rattle.rasn_enc.specs.View.{LeavesOthers};
 
 use crate::reading::held;
@@ -9,10 +9,10 @@ use rasn::error::EncodeError;
 use rasn::types::{Codec, Constraints, Identifier, Tag};
 use std::alloc::{AllocError, Global};
 
-/// The octets of the OCTET STRING inside.
+/// The octets of the innermost OCTET STRING.
 const THOUSAND_OCTETS: [u8; 1000] = [0x55; 1000];
 
-/// Writes so many SEQUENCEs in one another round an OCTET STRING.
+/// Writes an OCTET STRING inside `levels` nested SEQUENCEs.
 fn nest(encoder: &mut Encoder, levels: u8) -> Result<(), EncodeError>
     ensures { LeavesOthers encoder.old encoder.new }
 {
@@ -34,7 +34,8 @@ fn nest(encoder: &mut Encoder, levels: u8) -> Result<(), EncodeError>
     )
 }
 
-/// The headers of 100 SEQUENCEs in one another, the outermost of 1404 octets, and that of the OCTET STRING inside.
+/// Returns the headers of 100 nested SEQUENCEs, the outermost of 1404 octets, and of the
+/// OCTET STRING inside.
 fn headers(alloc: Global) -> Result<Vec<u8>, AllocError> {
     let mut octets = Vec::new(alloc);
     let mut length: u16 = 1404;
@@ -47,7 +48,8 @@ fn headers(alloc: Global) -> Result<Vec<u8>, AllocError> {
     Ok(octets)
 }
 
-// The outermost SEQUENCE has 1400 octets of contents, and each further one four less (X.690 8.1.3).
+// The outermost SEQUENCE has 1400 octets of contents, and each inner one four octets less
+// (X.690 8.1.3).
 #[test]
 fn writes_sequences_in_one_another(rt: HostRuntime) {
     let alloc = rt.alloc();

@@ -1,4 +1,4 @@
-//! SEQUENCEs of indefinite length in one another (X.690 8.1.3.6) are decoded to a depth of 128.
+//! Decoding of nested SEQUENCEs of indefinite length (X.690 8.1.3.6) to a depth of 128.
 ghost use Rattle.rasn_de.specs.Constructed.{Keeps};
 
 use crate::reading::{assert_answer, decoder_of};
@@ -10,7 +10,7 @@ use rasn_bench::Both;
 use std::alloc::{AllocError, Global};
 use std::process::Abort;
 
-/// Reads so many SEQUENCEs in one another round a BOOLEAN.
+/// Reads a BOOLEAN inside `levels` nested SEQUENCEs.
 fn nested(decoder: &mut Decoder<'_>, levels: u8) -> Result<NumberAndTruth, DecodeError>
     ensures { Keeps decoder.old decoder.new }
 {
@@ -31,7 +31,7 @@ fn nested(decoder: &mut Decoder<'_>, levels: u8) -> Result<NumberAndTruth, Decod
     )
 }
 
-/// TRUE in 128 SEQUENCEs of indefinite length.
+/// Returns TRUE in 128 SEQUENCEs of indefinite length.
 fn nest(alloc: Global) -> Result<Vec<u8>, AllocError> {
     let mut octets = Vec::new(alloc);
     for _ in 0..128u8 {
@@ -44,7 +44,7 @@ fn nest(alloc: Global) -> Result<Vec<u8>, AllocError> {
     Ok(octets)
 }
 
-/// Asserts what so many SEQUENCEs in one another are read as, and how many octets are consumed.
+/// Asserts the result of reading `levels` nested SEQUENCEs, and the number of octets consumed.
 fn assert_reads_nested(
     rt: &impl Abort,
     alloc: Global,

@@ -1,8 +1,9 @@
-//! A SEQUENCE with a DEFAULT component (X.690 11.5), and the items that the modules of the rules share.
+//! A SEQUENCE with a DEFAULT component (X.690 11.5), and the items that the modules of the rules
+//! share.
 
 use rasn::{Codec, cer, der};
 
-// A type has a name in each of the modules of the rules.
+// A type can be named through each of the modules of the rules.
 #[test]
 fn modules_share_their_items(rt: HostRuntime) {
     let sequence = cer::Identifier::from_tag(rasn::Tag::SEQUENCE, true);

@@ -1,4 +1,4 @@
-//! A SET is encoded with its components in the order of their tags (X.690 9.3, 10.3).
+//! Encoding of a SET with its components in the order of their tags (X.690 9.3, 10.3).
 
 use crate::set::order::{assert_always_out_of_order, assert_in_order};
 use crate::types::Three;
@@ -33,7 +33,7 @@ fn refuses_sets_that_fall(rt: HostRuntime) {
     assert_always_out_of_order(&rt, alloc, &late);
 }
 
-// Only the tags are compared, so the constructed bit of [2] doesn't put it behind [3] (X.680 8.6).
+// Only the tags are compared, so the constructed bit of [2] doesn't put it after [3] (X.680 8.6).
 #[test]
 fn constructed_components_go_by_their_tags(rt: HostRuntime) {
     let alloc = rt.alloc();
@@ -67,7 +67,8 @@ fn nested(alloc: Global) -> Result<Option<Nested>, AllocError> {
     }))
 }
 
-// Each SET of SET { SET { [0] 1, [1] 2 }, [APPLICATION 0] 7, [3] EXPLICIT SEQUENCE OF INTEGER { 9 } } has an order of its own.
+// SET { SET { [0] 1, [1] 2 }, [APPLICATION 0] 7, [3] EXPLICIT SEQUENCE OF INTEGER { 9 } }: each SET
+// is ordered separately.
 #[test]
 fn writes_sets_in_sets(rt: HostRuntime) {
     let value = made(&rt, nested(rt.alloc()));

@@ -5,13 +5,13 @@ use crate::whole::decoded;
 use rasn::types::Codec;
 use rasn_bench::Event;
 
-/// A UTCTime alone, with the level left out, which is the default of 7.
+/// A UTCTime alone; the level is absent, so it is the default of 7.
 const USUAL: &[u8] = &[
     0x31, 0x0F, 0x17, 0x0D, 0x39, 0x39, 0x31, 0x32, 0x33, 0x31, 0x32, 0x33, 0x35, 0x39, 0x35, 0x39,
     0x5A,
 ];
 
-/// That it is confirmed, by another octet than FF, the UTCTime, and the default level of 7.
+/// A `confirmed` whose TRUE isn't FF, the UTCTime, and the default level of 7.
 const LAST_SEVEN: &[u8] = &[
     0x31, 0x15, 0x81, 0x01, 0x05, 0x17, 0x0D, 0x39, 0x39, 0x31, 0x32, 0x33, 0x31, 0x32, 0x33, 0x35,
     0x39, 0x35, 0x39, 0x5A, 0x80, 0x01, 0x07,
@@ -23,7 +23,7 @@ const GENERAL: &[u8] = &[
     0x35, 0x39, 0x5A, 0x80, 0x01, 0x08,
 ];
 
-// Components are read in any order (X.690 8.11.2), and a level that is left out is the default of 7.
+// Components are read in any order (X.690 8.11.2), and an absent level is the default of 7.
 #[test]
 fn sets_have_defaults(rt: HostRuntime) {
     let alloc = rt.alloc();

@@ -1,4 +1,5 @@
-//! A SET OF as a value: its elements keep the order that they were inserted in, which doesn't count (X.680 28).
+//! SET OF as a value: its elements keep the order of their insertion, which comparisons ignore
+//! (X.680 28).
 
 use crate::reading::assert_facts;
 use crate::writing::made;
@@ -6,13 +7,13 @@ use rasn_types::types::SetOf;
 use std::alloc::{AllocError, Global};
 use std::process::Abort;
 
-/// A SET OF of these numbers.
+/// Returns a SET OF these numbers.
 fn set_of(alloc: Global, numbers: &[u8]) -> Result<Option<SetOf<u8>>, AllocError> {
     let numbers = Vec::from_slice(alloc, numbers)?;
     Ok(Some(SetOf::from_vec(numbers)))
 }
 
-// A new number is the last of the elements.
+// A new number is inserted as the last element.
 #[test]
 fn keeps_the_order_of_elements(rt: HostRuntime) {
     let alloc = rt.alloc();
@@ -37,7 +38,8 @@ fn begins_without_elements(rt: HostRuntime) {
     assert_facts(&rt, &[empty.is_empty(), empty.len() == 0, next.is_none()]);
 }
 
-/// Asserts that the SETs OF of these numbers are equal, either way round, exactly if `equal`.
+/// Asserts that the SETs OF these numbers are equal exactly if `equal`, compared in both
+/// directions.
 fn assert_equality(rt: &impl Abort, alloc: Global, first: &[u8], second: &[u8], equal: bool) {
     let first = made(rt, set_of(alloc, first));
     let second = made(rt, set_of(alloc, second));
@@ -47,7 +49,7 @@ fn assert_equality(rt: &impl Abort, alloc: Global, first: &[u8], second: &[u8], 
     );
 }
 
-// The order of the elements doesn't count, but how often each is there does (X.680 28).
+// Comparisons ignore the order of the elements, but count how often each is present (X.680 28).
 #[test]
 fn equal_sets_of_have_equal_elements_equally_often(rt: HostRuntime) {
     let alloc = rt.alloc();

@@ -1,4 +1,5 @@
-//! A SET that has several faults is refused for the same one by `read_set` and by `decode_set` (X.690 8.11, 10.3, 11.5).
+//! SETs with several faults: `read_set` and `decode_set` report the same one (X.690 8.11, 10.3,
+//! 11.5).
 
 use crate::reading::{Row, assert_reads, decoder_of, held};
 use crate::types::{Signal, decode_signal};
@@ -22,7 +23,8 @@ const TRUTH_TWICE: &str = "DuplicateField { name: \"truth\" }";
 const MARK_TWICE: &str = "DuplicateField { name: \"mark\" }";
 
 const FIRST_FAULTS: &[Row] = &[
-    // A part that is read twice is reported after each component is read, and so after what a later component is refused for.
+    // A part that is present twice is reported after each component is read, and so after the
+    // refusal of a later component.
     (
         &[
             0x31, 0x09, 0x80, 0x01, 0x05, 0x80, 0x01, 0x05, 0x81, 0x01, 0x05,
@@ -55,7 +57,7 @@ const FIRST_FAULTS: &[Row] = &[
         DEFAULT_PRESENT,
         11,
     ),
-    // It is reported before a part that is missing, and before end-of-contents octets that are missing.
+    // It is reported before a missing part and before missing end-of-contents octets.
     (
         &[0x31, 0x06, 0x01, 0x01, 0xFF, 0x01, 0x01, 0xFF],
         Codec::Ber,
@@ -68,7 +70,7 @@ const FIRST_FAULTS: &[Row] = &[
         MARK_TWICE,
         2,
     ),
-    // Of two parts that are read twice, the one is reported whose second component is first.
+    // Of two parts that are present twice, the one whose second component is earlier is reported.
     (
         &[
             0x31, 0x0C, 0x80, 0x01, 0x05, 0x01, 0x01, 0xFF, 0x01, 0x01, 0xFF, 0x80, 0x01, 0x05,
@@ -87,7 +89,7 @@ const FIRST_FAULTS: &[Row] = &[
     ),
 ];
 
-// Components are read to the end of the contents before a part that is there twice or missing is refused.
+// Components are read to the end of the contents before a duplicate or missing part is refused.
 #[test]
 fn reports_the_first_of_two_faults(rt: HostRuntime) {
     assert_reads::<Signal>(&rt, rt.alloc(), FIRST_FAULTS);
@@ -113,12 +115,14 @@ const COMPONENTS: [&[u8]; 16] = [
     // A tag that no part has, and end-of-contents octets.
     &[0x81, 0x01, 0x05],
     &[0x00, 0x00],
-    // A mark whose tag isn't written in the shortest form (8.1.2.4), and a length that goes past the end.
+    // A mark whose tag isn't in the shortest form (8.1.2.4), and a length beyond the end of the
+    // input.
     &[0x9F, 0x00, 0x01, 0x05],
     &[0x80, 0x1F, 0x05],
 ];
 
-/// How a SET is encoded: its length is that of the contents, one more, or indefinite, with end-of-contents octets or without.
+/// The form of a SET's encoding: its length is that of the contents, one more, or indefinite, with
+/// or without end-of-contents octets.
 #[derive(Clone, Copy)]
 enum Form {
     Definite,
@@ -157,7 +161,8 @@ fn encoding(alloc: Global, form: Form, components: &[&[u8]]) -> Result<Vec<u8>, 
     Ok(octets)
 }
 
-/// Asserts that the SET is read or refused alike by its parts and by its components, and that as many octets are consumed.
+/// Asserts that `Signal::decode` and `decode_signal` return the same result for the SET, and
+/// consume the same number of octets.
 fn assert_alike(rt: &impl Abort, alloc: Global, rules: Codec, octets: &[u8]) {
     let mut by_parts = decoder_of(alloc, octets, rules);
     let mut by_components = decoder_of(alloc, octets, rules);
@@ -170,7 +175,7 @@ fn assert_alike(rt: &impl Abort, alloc: Global, rules: Codec, octets: &[u8]) {
     );
 }
 
-/// Asserts this of a SET of these components in each form and by each rule.
+/// Asserts the same of a SET of these components, in each form and under each rule.
 fn assert_each_alike(rt: &impl Abort, alloc: Global, components: &[&[u8]]) {
     for form in FORMS {
         let octets = held(rt, encoding(alloc, form, components));
@@ -180,7 +185,7 @@ fn assert_each_alike(rt: &impl Abort, alloc: Global, components: &[&[u8]]) {
     }
 }
 
-// Each two of these components, alone or before a mark, which is a required part.
+// Each pair of these components, alone or before a mark, which is a required part.
 #[test]
 fn refuses_alike_by_parts_and_by_components(rt: HostRuntime) {
     const MARK: &[u8] = &[0x80, 0x01, 0x05];

@@ -1,4 +1,5 @@
-//! The calls that write over a vector, for a closure, and the components of a SET (X.690 9.3, 10.3).
+//! The calls that write into a vector or with a closure, and those that write the components of a
+//! SET (X.690 9.3, 10.3).
 ghost use Rattle.rasn_enc.specs.View.{Extends};
 
 use crate::set::order::OUT_OF_ORDER;
@@ -15,13 +16,14 @@ use std::process::Abort;
 /// The octets of TRUE.
 const TRUE: [u8; 3] = [0x01, 0x01, 0xFF];
 
-/// A vector that holds an octet.
+/// Returns a vector of one octet.
 fn held(alloc: Global) -> Result<Option<Vec<u8>>, AllocError> {
     let octets = Vec::from_slice(alloc, &[0xAA])?;
     Ok(Some(octets))
 }
 
-/// Writes the value over what the vector holds, by the entry point of these rules.
+/// Replaces the contents of the vector by the value's encoding, with the entry point of these
+/// rules.
 fn fill<T: Encode>(
     alloc: Global,
     rules: Codec,
@@ -35,7 +37,7 @@ fn fill<T: Encode>(
     }
 }
 
-// What the vector holds is written over.
+// The contents of the vector are replaced.
 #[test]
 fn fills_vectors(rt: HostRuntime) {
     let alloc = rt.alloc();
@@ -57,7 +59,7 @@ fn a_refused_value_empties_the_vector(rt: HostRuntime) {
     assert!(rt; buffer.is_empty());
 }
 
-// A closure that writes nothing leaves no octets.
+// A closure that writes nothing produces no octets.
 #[test]
 fn an_empty_scope_has_no_octets_by_ber(rt: HostRuntime) {
     let answer = ber::encode_scope(
@@ -80,7 +82,7 @@ fn an_empty_scope_has_no_octets_by_der(rt: HostRuntime) {
     assert_output(&rt, answer, &[]);
 }
 
-/// The encoder that is made, with memory for it.
+/// Returns the encoder. Panics if an allocation failed.
 fn started(rt: &impl Abort, encoder: Result<Encoder, EncodeError>) -> Encoder {
     match encoder {
         Ok(encoder) => encoder,
@@ -104,14 +106,14 @@ fn encoders_begin_without_octets(rt: HostRuntime) {
     assert_output(&rt, encoder.output(), &TRUE);
 }
 
-/// What the encoder outputs after an INTEGER and a BOOLEAN, whose tags are out of order.
+/// Returns the output of the encoder after an INTEGER and a BOOLEAN, whose tags are out of order.
 fn outputs_falling(rt: &impl Abort, mut encoder: Encoder) -> Result<Vec<u8>, EncodeError> {
     assert_written(rt, 2u8.encode(&mut encoder));
     assert_written(rt, true.encode(&mut encoder));
     encoder.output()
 }
 
-// Only what is written to an encoder of `new_set` has to be in order.
+// Only an encoder of `new_set` requires an order.
 #[test]
 fn outputs_of_sets_are_in_order(rt: HostRuntime) {
     let alloc = rt.alloc();

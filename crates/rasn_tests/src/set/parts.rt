@@ -1,4 +1,5 @@
-//! A SET whose parts are a type: components in any order, each once (X.690 8.11, 10.3, 11.5).
+//! A SET whose parts are a type: components in any order, each at most once (X.690 8.11, 10.3,
+//! 11.5).
 
 use crate::types::Signal;
 use crate::whole::{Answer, Rewritten, assert_decodes, assert_rewrites};
@@ -13,7 +14,7 @@ const ALL: &[u8] = &[
     0x31, 0x09, 0x01, 0x01, 0xFF, 0x02, 0x01, 0x08, 0x80, 0x01, 0x05,
 ];
 
-/// The same from the last to the first.
+/// The same components in descending order of their tags.
 const FALLING: &[u8] = &[
     0x31, 0x09, 0x80, 0x01, 0x05, 0x02, 0x01, 0x08, 0x01, 0x01, 0xFF,
 ];
@@ -39,7 +40,7 @@ fn components_come_in_any_order(rt: HostRuntime) {
     assert_rewrites::<Signal>(&rt, rt.alloc(), ROWS);
 }
 
-// DER asks for the order of the tags (10.3), and leaves a default out (11.5).
+// DER requires the order of the tags (10.3), and omits a default (11.5).
 #[test]
 fn der_refuses_other_forms(rt: HostRuntime) {
     const ROWS: &[Answer<'static>] = &[
@@ -49,7 +50,7 @@ fn der_refuses_other_forms(rt: HostRuntime) {
     assert_decodes::<Signal>(&rt, rt.alloc(), ROWS);
 }
 
-// No component comes twice, a required one comes, and no other (X.680 27).
+// No component may be present twice, a required one must be present, and no other may (X.680 27).
 #[test]
 fn components_twice_missing_and_unknown_are_refused(rt: HostRuntime) {
     const MARK_TWICE: &[u8] = &[0x31, 0x06, 0x80, 0x01, 0x05, 0x80, 0x01, 0x06];

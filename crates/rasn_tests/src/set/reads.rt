@@ -1,4 +1,5 @@
-//! SET OF is decoded (X.690 8.12): in any order under BER and CER, in the order of its octets under DER (11.6).
+//! Decoding of SET OF (X.690 8.12): in any order under BER and CER, in the order of its octets
+//! under DER (11.6).
 
 use crate::reading::{assert_facts, decoder_of};
 use crate::set::set_of::strings;
@@ -6,14 +7,15 @@ use rasn_de::de::Decode;
 use rasn_types::types::{Codec, OctetString, SetOf};
 use std::alloc::Global;
 
-/// The SET OF that all of the octets are read as, if they are.
+/// Returns the SET OF that all of the octets are read as, if they are.
 fn set_of_of(alloc: Global, octets: &[u8], rules: Codec) -> Option<SetOf<OctetString>> {
     let mut decoder = decoder_of(alloc, octets, rules);
     let set_of = SetOf::decode(&mut decoder).ok()?;
     decoder.remaining().is_empty().then_some(set_of)
 }
 
-/// Whether all of the octets are read as a SET OF, which equals that of these strings exactly if `equal`.
+/// Returns whether all of the octets are read as a SET OF that equals that of these strings exactly
+/// if `equal`.
 fn is_set_of(alloc: Global, octets: &[u8], rules: Codec, elements: &[&[u8]], equal: bool) -> bool {
     match (set_of_of(alloc, octets, rules), strings(alloc, elements)) {
         (Some(set_of), Ok(Some(expected))) => (set_of == expected) == equal,
@@ -21,7 +23,7 @@ fn is_set_of(alloc: Global, octets: &[u8], rules: Codec, elements: &[&[u8]], equ
     }
 }
 
-// BER and CER read a SET OF in any order, and the order doesn't count (X.690 8.12).
+// BER and CER read a SET OF in any order, and the order has no meaning (X.690 8.12).
 #[test]
 fn reads_sets_of_in_any_order(rt: HostRuntime) {
     const FALLING: &[u8] = &[0x31, 0x06, 0x04, 0x01, 0x02, 0x04, 0x01, 0x01];
@@ -38,7 +40,8 @@ fn reads_sets_of_in_any_order(rt: HostRuntime) {
 
 const FOUR_STRINGS: &[&[u8]] = &[&[0x01], &[0x02], &[0x01, 0xFF], &[0x02, 0x01]];
 
-// DER reads a SET OF in the order of its octets, with equal elements too (X.690 11.6).
+// DER reads a SET OF whose elements are in the order of their octets; some may be equal
+// (X.690 11.6).
 #[test]
 fn reads_sets_of_in_order(rt: HostRuntime) {
     let alloc = rt.alloc();

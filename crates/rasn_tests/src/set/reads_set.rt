@@ -1,4 +1,5 @@
-//! SET is decoded (X.690 8.11): in any order under BER and CER, in the order of its tags under DER (10.3).
+//! Decoding of SET (X.690 8.11): in any order under BER and CER, in the order of its tags under DER
+//! (10.3).
 
 use crate::reading::{assert_answer, decoder_of};
 use rasn::ber::de::Decoder;
@@ -7,7 +8,7 @@ use rasn::error::DecodeError;
 use rasn::types::{Codec, Tag};
 use rasn_bench::Set3;
 
-/// Reads a SET of BOOLEANs that may be left out, and counts them.
+/// Reads a SET of OPTIONAL BOOLEANs, and counts them.
 fn count_booleans(decoder: &mut Decoder<'_>) -> Result<Set3, DecodeError> {
     decoder.decode_set::<3, 0, Option<bool>, Set3, _, _>(
         Tag::SET,
@@ -25,7 +26,7 @@ fn count_booleans(decoder: &mut Decoder<'_>) -> Result<Set3, DecodeError> {
     )
 }
 
-// A component that consumes nothing is refused with the number of octets that are left.
+// A component that consumes nothing is refused with the number of remaining octets.
 #[test]
 fn refuses_components_of_nothing(rt: HostRuntime) {
     let alloc = rt.alloc();

@@ -1,4 +1,4 @@
-//! A SET that is refused leaves neither octets nor a tag (X.690 9.3, 10.3).
+//! Refused SETs, which leave neither octets nor a tag (X.690 9.3, 10.3).
 ghost use Rattle.rasn_enc.specs.View.{LeavesOthers};
 
 use crate::types::Three;
@@ -14,7 +14,8 @@ type At<const N: u32> = Implicit<ContextTag<N>, u8>;
 /// SET { \[1\] INTEGER (0..255), \[0\] INTEGER (0..255), \[2\] INTEGER (0..255) OPTIONAL }
 type Falling = Three<At<1>, At<0>, Option<At<2>>>;
 
-/// Writes a SET of \[0\] 1 and \[1\] 2. Between them it drops the refusal of a SET whose tags are out of order.
+/// Writes a SET of \[0\] 1 and \[1\] 2, and between them drops the refusal of a SET whose tags are
+/// out of order.
 fn write_past_a_refused_set(encoder: &mut Encoder) -> Result<(), EncodeError> {
     encoder.encode_set::<3, 0, Falling, _>(
         Tag::SET,
@@ -34,7 +35,7 @@ fn write_past_a_refused_set(encoder: &mut Encoder) -> Result<(), EncodeError> {
     )
 }
 
-// A refused SET leaves neither octets nor its tag, which would stand before [1] (X.690 9.3, 10.3).
+// A refused SET leaves neither octets nor its tag, which would be before [1] (X.690 9.3, 10.3).
 #[test]
 fn a_refused_set_leaves_no_tag(rt: HostRuntime) {
     let mut encoder = new_encoder(&rt, rt.alloc(), Codec::Der);

@@ -1,4 +1,4 @@
-//! SET OF is encoded with its elements in the order of their octets (X.690 11.6).
+//! Encoding of SET OF with its elements in the order of their octets (X.690 11.6).
 
 use crate::set::order::{assert_always_out_of_order, assert_in_order, assert_out_of_order};
 use crate::whole::encoded;
@@ -10,7 +10,7 @@ use rasn_enc::enc::Encode;
 use rasn_types::types::{Codec, OctetString, SetOf};
 use std::alloc::{AllocError, Global};
 
-/// A SET OF OCTET STRING with these elements, in this order.
+/// Returns a SET OF OCTET STRING with these elements, in this order.
 pub(super) fn strings(
     alloc: Global,
     elements: &[&[u8]],
@@ -22,7 +22,7 @@ pub(super) fn strings(
     Ok(Some(strings))
 }
 
-/// A SET OF OCTET STRING with two strings, each of one octet so many times.
+/// Returns a SET OF OCTET STRING with two strings, each of one octet repeated.
 fn long_strings(
     alloc: Global,
     first: (u8, usize),
@@ -37,7 +37,7 @@ fn long_strings(
     Ok(Some(strings))
 }
 
-// Headers are compared too, so 127 octets FF come before 128 octets 00.
+// Headers are compared too, so 127 octets FF are before 128 octets 00.
 #[test]
 fn lengths_are_compared(rt: HostRuntime) {
     let alloc = rt.alloc();
@@ -53,7 +53,7 @@ fn lengths_are_compared(rt: HostRuntime) {
     assert_always_out_of_order(&rt, alloc, &falling);
 }
 
-/// A SET OF SEQUENCE OF INTEGER with these elements, in this order.
+/// Returns a SET OF SEQUENCE OF INTEGER with these elements, in this order.
 pub fn lists(alloc: Global, elements: &[&[u8]]) -> Result<Option<SetOf<Vec<u8>>>, AllocError> {
     let mut lists = SetOf::new(alloc);
     for numbers in elements {
@@ -62,7 +62,8 @@ pub fn lists(alloc: Global, elements: &[&[u8]]) -> Result<Option<SetOf<Vec<u8>>>
     Ok(Some(lists))
 }
 
-// A SEQUENCE of two numbers has the greater length octet under BER and DER, and CER writes no such octet.
+// The length octet of a SEQUENCE of two numbers is greater under BER and DER; CER writes no such
+// octet.
 #[test]
 fn each_rule_orders_by_its_octets(rt: HostRuntime) {
     let alloc = rt.alloc();
@@ -91,7 +92,8 @@ fn lengths_that_are_not_told_are_not_compared(rt: HostRuntime) {
     assert_out_of_order(&rt, alloc, Codec::Der, &longer_first);
 }
 
-// The object identifier 0.40 has no encoding (X.690 8.19.4). A SET OF with it is refused for that, and not for its order.
+// The object identifier 0.40 has no encoding (X.690 8.19.4). A SET OF with it is refused for this
+// reason, not for its order.
 #[test]
 fn a_refused_element_takes_the_set_along(rt: HostRuntime) {
     const ALONE: &[&[u32]] = &[&[0, 40]];

@@ -1,4 +1,4 @@
-//! Under DER a component that equals its default is left out (X.690 11.5).
+//! Components that equal their default, which DER omits (X.690 11.5).
 
 use crate::reading::{Row, assert_answer, assert_reads_default, decoder_of};
 use rasn_types::types::Codec;
@@ -6,7 +6,8 @@ use std::alloc::AllocError;
 
 const DEFAULT_PRESENT: &str = "CodecSpecific { inner: Der(DefaultValuePresent) }";
 
-/// Octets, the rules they are read by, what INTEGER DEFAULT 7 is read as, and how many octets are consumed.
+/// Octets, the rules to read them by, the result for INTEGER DEFAULT 7, and the number of octets
+/// consumed.
 const DEFAULTS: &[Row] = &[
     (&[0x02, 0x01, 0x07], Codec::Ber, "7", 3),
     (&[0x02, 0x01, 0x07], Codec::Cer, "7", 3),
@@ -21,14 +22,14 @@ fn defaults_are_left_out(rt: HostRuntime) {
     assert_reads_default(&rt, rt.alloc(), DEFAULTS);
 }
 
-/// Rules, and what they read a value as if its default can't be allocated.
+/// Rules, and the result of reading a value whose default can't be allocated.
 const WITHOUT_MEMORY: &[(Codec, &str)] = &[
     (Codec::Ber, "5"),
     (Codec::Cer, "5"),
     (Codec::Der, "OutOfMemory"),
 ];
 
-// DER compares a value with its default, which is allocated for that; BER and CER don't.
+// DER compares a value with its default, which it allocates for the comparison; BER and CER don't.
 #[test]
 fn a_default_to_hold_against_may_want_memory(rt: HostRuntime) {
     for (rules, text) in WITHOUT_MEMORY {

@@ -1,13 +1,15 @@
-//! What each of the rules allows (X.690 9, 10).
+//! The differences between the rules (X.690 9, 10).
 
 use crate::reading::assert_facts;
 use rasn_types::ber::rules::EncodingRules;
 use rasn_types::types::Codec;
 
-/// A set of rules, its name, whether it has constructed strings and the indefinite form, and how long a string in one piece may be.
+/// A set of rules, its name, whether it admits constructed strings and indefinite lengths, and the
+/// maximum length of a string in one piece.
 type Row = (EncodingRules, Codec, bool, usize);
 
-// Constructed strings and the indefinite form are of BER and CER (10.1, 10.2); a segment of CER has 1000 contents octets (9.2).
+// BER and CER admit constructed strings and indefinite lengths (10.1, 10.2); a CER segment has at
+// most 1000 contents octets (9.2).
 const EACH_RULE: &[Row] = &[
     (EncodingRules::Ber, Codec::Ber, true, usize::MAX),
     (EncodingRules::Cer, Codec::Cer, true, 1000),

@@ -8,7 +8,7 @@ use rasn_types::types::{
 use std::alloc::Global;
 use std::process::Abort;
 
-/// An alphabet, octets, and the place of the first octet that isn't in it.
+/// An alphabet, octets, and the index of the first octet that isn't in it.
 const ALPHABETS: &[(Alphabet, &[u8], Option<usize>)] = &[
     (Alphabet::Numeric, b"1 2a", Some(3)),
     (Alphabet::Printable, b"A?*b", Some(2)),
@@ -24,7 +24,8 @@ fn alphabets_are_those_of_the_standard(rt: HostRuntime) {
     }
 }
 
-/// Whether the octets make a string of this type, which then has them, or none.
+/// Returns whether this type admits the octets exactly if `is_admitted`, and a string of them has
+/// these octets.
 fn is_string<S: StringType>(alloc: Global, octets: &[u8], is_admitted: bool) -> bool {
     match RestrictedString::<S>::from_octets(alloc, octets) {
         Ok(Some(string)) => is_admitted && string.as_octets() == octets,

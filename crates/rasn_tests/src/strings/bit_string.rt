@@ -15,12 +15,12 @@ fn packed(alloc: Global, bits: &BitString) -> Result<Vec<u8>, AllocError> {
     Ok(octets)
 }
 
-/// Whether there are so many bits, which have these octets.
+/// Returns whether the string has `len` bits with these octets.
 fn has_bits(alloc: Global, bits: &BitString, len: usize, octets: &[u8]) -> bool {
     bits.len() == len && packed(alloc, bits).is_ok_and(|found| found.as_slice() == octets)
 }
 
-/// Asserts that a call answers so many bits, which have these octets.
+/// Asserts that a call returns a string of `len` bits with these octets.
 fn assert_has_bits(
     rt: &impl Abort,
     alloc: Global,
@@ -56,7 +56,7 @@ fn calls_read_bits(rt: HostRuntime) {
     );
 }
 
-/// Asserts which octets these rules write the bits as.
+/// Asserts that these rules write the bits as these octets.
 fn assert_writes_bits(
     rt: &impl Abort,
     alloc: Global,
@@ -75,7 +75,7 @@ fn assert_writes_bits(
     assert_output(rt, encoder.output(), octets);
 }
 
-// The bits 1,1,0,1,0,1,0,1,1,0,1, those from the second on, and none (X.690 8.6.2).
+// The bits 1,1,0,1,0,1,0,1,1,0,1, the last ten of them, and no bits (X.690 8.6.2).
 #[test]
 fn writes_bits(rt: HostRuntime) {
     let alloc = rt.alloc();
@@ -90,7 +90,7 @@ fn writes_bits(rt: HostRuntime) {
     }
 }
 
-// There are three bits where there have to be four.
+// Three bits are refused if the size has to be four.
 #[test]
 fn refuses_bits_out_of_bounds(rt: HostRuntime) {
     let alloc = rt.alloc();

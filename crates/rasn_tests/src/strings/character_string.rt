@@ -8,7 +8,8 @@ use rasn_types::types::{
 };
 use std::alloc::{AllocError, Global};
 
-// The size of a UTF8String counts characters, that of a BMPString units, and the octets are checked before the size.
+// The size of a UTF8String counts characters, that of a BMPString counts units. The octets are
+// checked before the size.
 #[test]
 fn counts_characters_and_units(rt: HostRuntime) {
     const FOUR_STRINGS: &[u8] = &[
@@ -104,7 +105,7 @@ const SIZE_2: Constraints = Constraints {
     }),
 };
 
-/// A UTF8String.
+/// Returns a UTF8String.
 fn text(alloc: Global, characters: &str) -> Result<Option<String>, AllocError> {
     let text = String::from_str(alloc, characters)?;
     Ok(Some(text))
@@ -195,7 +196,7 @@ fn calls_write_graphic_to_general(rt: HostRuntime) {
     assert_output(&rt, encoder.output(), THREE_STRINGS);
 }
 
-// The size of a UTF8String counts characters, that of a BMPString units.
+// The size of a UTF8String counts characters, that of a BMPString counts units.
 #[test]
 fn checks_sizes_in_characters_and_units(rt: HostRuntime) {
     let alloc = rt.alloc();

@@ -5,7 +5,7 @@ use crate::writing::{assert_output, assert_refuses, made, new_encoder, repeated}
 use rasn_enc::enc::Encode;
 use rasn_types::types::{Codec, Constraints, Identifier, Tag};
 
-/// The octets A1 B2 C3 in segments of definite and indefinite length in one another.
+/// The octets A1 B2 C3 in nested segments of definite and indefinite length.
 const SEGMENTS: &[u8] = &[
     0x24, 0x80, 0x04, 0x01, 0xA1, 0x24, 0x03, 0x04, 0x01, 0xB2, 0x24, 0x80, 0x04, 0x01, 0xC3, 0x00,
     0x00, 0x00, 0x00,
@@ -14,7 +14,7 @@ const SEGMENTS: &[u8] = &[
 /// The same octets in one piece.
 const ONE_PIECE: &[u8] = &[0x04, 0x03, 0xA1, 0xB2, 0xC3];
 
-/// Octets of A1 B2 C3, the rules they are read by, and whether what is read is borrowed.
+/// Encodings of A1 B2 C3, the rules to read them by, and whether the result is borrowed.
 const THREE_OCTETS: &[(&[u8], Codec, bool)] = &[
     (SEGMENTS, Codec::Ber, false),
     (SEGMENTS, Codec::Cer, false),
@@ -23,7 +23,7 @@ const THREE_OCTETS: &[(&[u8], Codec, bool)] = &[
     (ONE_PIECE, Codec::Der, true),
 ];
 
-// Segments are gathered; one primitive string is borrowed (X.690 8.7).
+// Segments are joined; one primitive string is borrowed (X.690 8.7).
 #[test]
 fn gathers_segments(rt: HostRuntime) {
     for (octets, rules, is_borrowed) in THREE_OCTETS {
@@ -34,7 +34,7 @@ fn gathers_segments(rt: HostRuntime) {
     }
 }
 
-// Three octets are refused where there have to be two, and nothing is written.
+// Three octets are refused if the size has to be two, and nothing is written.
 #[test]
 fn refuses_octets_out_of_bounds(rt: HostRuntime) {
     let alloc = rt.alloc();

@@ -1,4 +1,4 @@
-//! BIT STRING as a value: bits in octets (X.690 8.6.2), and bits gathered from segments (8.6.4).
+//! BIT STRING as a value: bits in octets (X.690 8.6.2), and bits joined from segments (8.6.4).
 
 use crate::reading::assert_facts;
 use crate::writing::made;
@@ -6,7 +6,7 @@ use rasn_types::ber::collected_bits::CollectedBits;
 use rasn_types::types::{BitStr, BitString};
 use std::alloc::{AllocError, Global};
 
-/// Whether the bits take these octets behind another octet.
+/// Returns whether the bits are appended to another octet as these octets.
 fn are_packed(alloc: Global, bits: &BitStr<'_>, octets: &[u8]) -> bool {
     let mut found = Vec::new(alloc);
     found.push(7).is_ok()
@@ -14,7 +14,8 @@ fn are_packed(alloc: Global, bits: &BitStr<'_>, octets: &[u8]) -> bool {
         && found.strip_prefix(&[7]) == Some(octets)
 }
 
-// The bits 1,1,0,1,0,1,0,1,1,0,1 have two octets, whatever stands behind them, and from the second on they are ten.
+// The bits 1,1,0,1,0,1,0,1,1,0,1 take two octets, whatever bits follow them. Without the first bit
+// there are ten.
 #[test]
 fn packs_bits(rt: HostRuntime) {
     let alloc = rt.alloc();
@@ -37,13 +38,13 @@ fn packs_bits(rt: HostRuntime) {
     );
 }
 
-/// The first `len` bits of the octets, if there are so many and memory for them.
+/// Returns the first `len` bits of the octets; `None` if there are fewer.
 fn first_bits(alloc: Global, octets: &[u8], len: usize) -> Result<Option<BitString>, AllocError> {
     let octets = Vec::from_slice(alloc, octets)?;
     Ok(BitString::new(octets, len))
 }
 
-// Strings are equal by their bits alone.
+// Bit strings are equal exactly if their bits are.
 #[test]
 fn compares_bits(rt: HostRuntime) {
     let alloc = rt.alloc();
@@ -61,7 +62,7 @@ fn compares_bits(rt: HostRuntime) {
     );
 }
 
-/// Three bits, four and nine.
+/// Returns three, four and nine bits, joined.
 fn gathered(alloc: Global) -> Result<Option<BitString>, AllocError> {
     let mut bits = CollectedBits::new(alloc);
     bits.append(&[0xE0], 5)?;
@@ -70,7 +71,7 @@ fn gathered(alloc: Global) -> Result<Option<BitString>, AllocError> {
     Ok(bits.into_string())
 }
 
-// Three bits and then four are seven, and nine more fill two octets.
+// Three and four bits are seven, and nine more fill two octets.
 #[test]
 fn gathers_bits(rt: HostRuntime) {
     let alloc = rt.alloc();

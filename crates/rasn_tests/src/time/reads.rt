@@ -1,4 +1,4 @@
-//! UTCTime (X.690 11.8), GeneralizedTime (11.7) and DATE (8.26) are decoded.
+//! Decoding of UTCTime (X.690 11.8), GeneralizedTime (11.7) and DATE (8.26).
 
 use crate::reading::{assert_facts, decoder_of, value};
 use rasn_de::de::Decode;

@@ -1,4 +1,5 @@
-//! The texts of GeneralizedTime (X.680 46, X.690 11.7), UTCTime (X.680 47, X.690 11.8) and DATE are parsed and written.
+//! Parsing and writing of the texts of GeneralizedTime (X.680 46, X.690 11.7), UTCTime (X.680 47,
+//! X.690 11.8) and DATE.
 
 use crate::reading::assert_facts;
 use rasn_de::ber::de::Decoder;
@@ -15,9 +16,9 @@ use std::process::Abort;
 /// Year, month, day, hour, minute, second and nanosecond in UTC.
 pub type Seen = (i32, u8, u8, u8, u8, u8, u32);
 
-/// Values that lie in time.
+/// A value that denotes a time.
 pub trait Timed {
-    /// The time by UTC; a day begins at midnight.
+    /// Returns the time in UTC; for a day, its midnight.
     fn seen(&self) -> Seen;
 }
 
@@ -55,7 +56,7 @@ fn seen<T: Timed + Drop>(time: Option<T>) -> Option<Seen> {
     }
 }
 
-/// Whether the error is that, by these rules, the text is no time.
+/// Returns whether the error is that, under these rules, the text isn't a time.
 pub fn tells(error: &DecodeError, rules: Codec, text: &str) -> bool {
     match &error.kind {
         DecodeErrorKind::CodecSpecific {
@@ -65,7 +66,7 @@ pub fn tells(error: &DecodeError, rules: Codec, text: &str) -> bool {
     }
 }
 
-/// The time that a call answers, or none where the error names this text.
+/// Returns the time that a call returns; `None` if the error reports this text.
 fn answered<T: Timed + Drop>(
     rt: &impl Abort,
     answer: Result<T, DecodeError>,
@@ -87,7 +88,7 @@ fn owned(rt: &impl Abort, alloc: Global, text: &str) -> String {
     }
 }
 
-/// What a text is parsed as.
+/// The type and form as which a text is parsed.
 #[derive(Clone, Copy)]
 enum Form {
     General,
@@ -139,7 +140,7 @@ fn decoded(rt: &impl Abort, alloc: Global, form: Form, text: &str) -> Option<See
 /// A text, and its time, if it is one.
 type TextRow = (&'static str, Option<Seen>);
 
-/// Asserts what each text is parsed as, by the function on octets and by the decoder's.
+/// Asserts the result of parsing each text, with the function on octets and with the decoder.
 fn assert_parses(rt: &impl Abort, alloc: Global, form: Form, rows: &[TextRow]) {
     for (text, time) in rows {
         assert!(rt; parsed(form, text.as_bytes()) == *time, "{text}");
@@ -147,7 +148,7 @@ fn assert_parses(rt: &impl Abort, alloc: Global, form: Form, rows: &[TextRow]) {
     }
 }
 
-// Hours and minutes have fractions, and a second 60 is the leap second behind 59 (X.680 46).
+// Hours and minutes may have fractions, and second 60 is the leap second after 59 (X.680 46).
 #[test]
 fn parses_general_times(rt: HostRuntime) {
     const ELEVEN: Option<Seen> = Some((2018, 6, 13, 11, 0, 0, 0));
@@ -182,7 +183,7 @@ fn parses_general_times(rt: HostRuntime) {
     assert_parses(&rt, rt.alloc(), Form::General, ROWS);
 }
 
-// Whole offsets are below a day, whatever their minutes.
+// Offsets are less than a day, and their minutes may be up to 99.
 #[test]
 fn parses_far_zones(rt: HostRuntime) {
     const ROWS: &[TextRow] = &[
@@ -224,7 +225,7 @@ const CANONICAL_TEXTS: &[TextRow] = &[
     ("", None),
 ];
 
-/// Asserts what each text of the canonical form is parsed as; its fraction may have any digits.
+/// Asserts the result of parsing each text in canonical form, with any digits in its fraction.
 fn assert_parses_canonical(rt: &impl Abort, rows: &[TextRow]) {
     for (text, time) in rows {
         let found = seen(parse_canonical_generalized_time(text.as_bytes()));
@@ -238,7 +239,7 @@ fn parses_canonical_times(rt: HostRuntime) {
     assert_parses(&rt, rt.alloc(), Form::Strict, CANONICAL_TEXTS);
 }
 
-// A fraction has no 0 at its end under DER (X.690 11.7.3), nor more digits than are kept.
+// Under DER a fraction doesn't end in 0 (X.690 11.7.3), nor has it more digits than a value keeps.
 #[test]
 fn strict_fractions_are_the_shortest(rt: HostRuntime) {
     const HALF: Option<Seen> = Some((2018, 6, 13, 11, 0, 0, 500000000));
@@ -351,7 +352,8 @@ fn writes_far_days_and_leap_seconds(rt: HostRuntime) {
     assert_writes_general(&rt, alloc, &leap, LEAP_SECOND);
 }
 
-// Times are compared as instants; a leap second has second 59 alone, and offsets are below a day.
+// Times are compared as instants. Only second 59 has a leap second, and offsets are less than a
+// day.
 #[test]
 fn compares_times(rt: HostRuntime) {
     let west = some(&rt, parse_generalized_time(b"20230122130000-0500"));

@@ -1,11 +1,12 @@
-//! Times by the entry points (X.690 11.7, 11.8).
+//! Times, read and written with the entry points (X.690 11.7, 11.8).
 
 use crate::reading::{assert_facts, value};
 use crate::whole::{decoded, encoded};
 use crate::writing::{assert_output, made};
 use rasn::types::{Codec, Date, GeneralizedTime, UtcTime};
 
-// A leap second is second 59 with a second of nanoseconds more, and two digits below 70 are a year of the twenty-first century.
+// A leap second is second 59 with more than a second of nanoseconds, and a year of two digits below
+// 70 is in the twenty-first century.
 #[test]
 fn seconds_and_centuries(rt: HostRuntime) {
     const LEAP: &[u8] = b"\x18\x1120161231235960.5Z";

@@ -1,20 +1,21 @@
-//! UTCTime (X.690 11.8), GeneralizedTime (11.7) and DATE (8.26) are encoded in their canonical forms.
+//! Encoding of UTCTime (X.690 11.8), GeneralizedTime (11.7) and DATE (8.26) in their canonical
+//! forms.
 
 use crate::writing::{assert_output, assert_written, made, new_encoder};
 use rasn_enc::ber::enc::Encoder;
 use rasn_types::types::{Class, Codec, Date, GeneralizedTime, Identifier, Tag, UtcTime};
 
-/// The instant of 13 June 2018, 11 o'clock by UTC.
+/// Returns 11 o'clock UTC on 13 June 2018.
 fn eleven() -> Option<UtcTime> {
     UtcTime::new(Date::new(2018, 6, 13)?, 11, 0, 0, 0)
 }
 
-/// The instant of 13 June 2018, 11 o'clock by UTC, with an offset in minutes.
+/// Returns the same instant, with an offset in minutes.
 fn eleven_at(offset: i16) -> Option<GeneralizedTime> {
     GeneralizedTime::new(eleven()?, offset)
 }
 
-/// The instant half a second into the leap second of 2016.
+/// Returns the instant half a second into the leap second of 2016.
 fn leap() -> Option<GeneralizedTime> {
     let instant = UtcTime::new(Date::new(2016, 12, 31)?, 23, 59, 59, 1_500_000_000)?;
     GeneralizedTime::new(instant, 0)
@@ -33,7 +34,7 @@ fn texts_of_times(rt: HostRuntime) {
     assert_output(&rt, text, b"20180613");
 }
 
-// A fraction has no zeros at its end (X.690 11.7.3), and a leap second is second 60.
+// A fraction doesn't end in zeros (X.690 11.7.3), and a leap second is second 60.
 #[test]
 fn writes_fractions(rt: HostRuntime) {
     let alloc = rt.alloc();

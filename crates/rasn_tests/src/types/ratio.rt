@@ -1,4 +1,4 @@
-//! A type for REAL, which is refused, for tests.
+//! A type for REAL, which isn't supported, for tests.
 
 use rasn_types::types::RealType;
 

@@ -1,4 +1,4 @@
-//! A SET of components of each presence (X.680 27), for tests.
+//! A SET of components with each presence (X.680 27), for tests.
 
 use rasn::error::{DecodeError, EncodeError};
 use rasn::parts::{Defaulted, End, Optional, Put, PutDefault, PutOptional, Required};
@@ -6,7 +6,8 @@ use rasn::types::{AsnType, Constraints, ContextTag, Identifier, Implicit, Lawful
 use rasn::{Decode, Decoder, Encode, Encoder};
 use rasn_bench::Seven;
 
-/// SET { truth BOOLEAN OPTIONAL, level INTEGER (0..255) DEFAULT 7, mark [0] IMPLICIT INTEGER (0..255) }
+/// SET { truth BOOLEAN OPTIONAL, level INTEGER (0..255) DEFAULT 7, mark [0] IMPLICIT INTEGER
+/// (0..255) }
 #[derive(Debug, PartialEq, Eq, Drop)]
 pub struct Signal {
     pub truth: Option<bool>,

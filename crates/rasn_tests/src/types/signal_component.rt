@@ -1,4 +1,4 @@
-//! `Signal` by its components, of which a function makes it, for tests.
+//! `Signal`, made by a function from its components, for tests.
 ghost use Rattle.std.specs.Prelude.{◌≡◌, IfOk};
 
 use crate::types::Signal;
@@ -98,7 +98,7 @@ impl Decode for Component {
     }
 }
 
-/// The level that is meant where none is written.
+/// Returns the default level.
 fn usual() -> Result<u8, AllocError>
     ensures { IfOk result (λ level. level ≡ 7) }
 {
@@ -130,7 +130,7 @@ impl DecodeChoice for Component {
     ghost chooses = { refl };
 }
 
-/// The value of these components, none of which may be there twice.
+/// Returns the value of these components. A component that is present twice is an error.
 fn gather(alloc: Global, codec: Codec, components: Vec<Component>) -> Result<Signal, DecodeError> {
     let mut truth = None;
     let mut level = None;

@@ -6,7 +6,7 @@ use rasn_types::types::{Bound, Bounded, Constraints};
 /// The number -2^128 in two's complement.
 const MINUS_2_128: &[u8] = &[0xFF, 0, 0, 0, 0, 0, 0, 0, 0, 0, 0, 0, 0, 0, 0, 0, 0];
 
-/// Whether -2^128 is within these ends.
+/// Returns whether -2^128 is within these bounds.
 fn is_inside(start: Option<i128>, end: Option<i128>) -> bool {
     let constraint = Bounded::Range { start, end };
     let value = Some(Bound {
@@ -16,7 +16,7 @@ fn is_inside(start: Option<i128>, end: Option<i128>) -> bool {
     Constraints { value, size: None }.admits_number(MINUS_2_128)
 }
 
-// The number -2^128 is below each lower bound, and within a range without one.
+// The number -2^128 is below each lower bound, and within a range without a lower bound.
 #[test]
 fn far_numbers_are_inside_open_ends(rt: HostRuntime) {
     assert_facts(

@@ -4,10 +4,10 @@ use crate::writing::{assert_output, assert_written, new_encoder};
 use rasn_enc::enc::Encode;
 use rasn_types::types::{Class, Codec, Identifier, Tag};
 
-/// A tag's class and number, and the octets of TRUE under the tag.
+/// The class and number of a tag, and the octets of TRUE under the tag.
 type TagRow = (Class, u32, &'static [u8]);
 
-// Tags of each class, and the identifiers that they have (X.690 8.1.2).
+// Tags of each class, and their identifiers (X.690 8.1.2).
 const TAGS: &[TagRow] = &[
     (Class::Context, 30, &[0x9E, 0x01, 0xFF]),
     (Class::Application, 31, &[0x5F, 0x1F, 0x01, 0xFF]),
@@ -38,7 +38,7 @@ const HIGH_TAGS: &[(Class, u32)] = &[
     (Class::Universal, 4294967295),
 ];
 
-// From number 31 on the identifier has more octets (X.690 8.1.2.4).
+// From number 31 on the identifier has several octets (X.690 8.1.2.4).
 #[test]
 fn writes_high_tag_numbers(rt: HostRuntime) {
     let mut encoder = new_encoder(&rt, rt.alloc(), Codec::Der);

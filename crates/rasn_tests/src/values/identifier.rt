@@ -1,4 +1,4 @@
-//! Identifiers as values: a tag and the bit that tells a constructed encoding (X.690 8.1.2).
+//! Identifiers as values: a tag and the bit of a constructed encoding (X.690 8.1.2).
 
 use crate::reading::assert_facts;
 use rasn_types::ber::Identifier;
@@ -19,7 +19,7 @@ fn holds_a_tag_and_a_bit(rt: HostRuntime) {
     );
 }
 
-// The tag decides first, and primitive comes before constructed.
+// The tag is compared first, and primitive is less than constructed.
 #[test]
 fn is_ordered_by_its_tag_first(rt: HostRuntime) {
     let primitive = Identifier::new(Class::Context, false, 1);

@@ -6,7 +6,7 @@ use crate::writing::{
 use rasn_enc::enc::Encode;
 use rasn_types::types::{Codec, Identifier};
 
-// The number 100 is in 0..100, and 200 isn't.
+// The number 100 is in 0..100, 200 isn't.
 #[test]
 fn refuses_numbers_out_of_bounds(rt: HostRuntime) {
     let alloc = rt.alloc();

@@ -1,11 +1,11 @@
-//! The octets of whole numbers in two's complement (X.690 8.3).
+//! The octets of integers in two's complement (X.690 8.3).
 
 use crate::reading::assert_facts;
 use rasn_types::types::{Integer, IntegerType, LONGEST_NUMBER};
 use std::alloc::Global;
 use std::process::Abort;
 
-/// Octets in two's complement, and the number, where the type has it.
+/// Octets in two's complement, and the number, if it fits in the type.
 type Row<T> = (&'static [u8], Option<T>);
 
 fn is_read<T: IntegerType + PartialEq>(alloc: Global, octets: &[u8], number: &Option<T>) -> bool {
@@ -18,7 +18,7 @@ fn is_read<T: IntegerType + PartialEq>(alloc: Global, octets: &[u8], number: &Op
     }
 }
 
-/// Asserts that each row's octets are the row's number of the type.
+/// Asserts that the octets of each row are read as the row's number of the type.
 fn assert_stands_for<T: IntegerType + PartialEq>(rt: &impl Abort, alloc: Global, rows: &[Row<T>]) {
     for (octets, number) in rows {
         assert!(rt; is_read(alloc, octets, number), "{octets:?}");
@@ -30,7 +30,7 @@ fn is_written<T: IntegerType>(number: &T, octets: &[u8]) -> bool {
     number.octets(&mut room) == octets
 }
 
-/// Asserts that the number has these octets, and is read of them.
+/// Asserts that the number has these octets, and is read from them.
 fn assert_takes<T: IntegerType + PartialEq>(
     rt: &impl Abort,
     alloc: Global,
@@ -48,7 +48,7 @@ const U128_MAX: &[u8] = &[
     0xFF,
 ];
 
-// Octets are one number, in each type that has it.
+// The octets are the same number in each type that it fits in.
 #[test]
 fn reads_fixed_widths(rt: HostRuntime) {
     const LARGEST: &[u8] = &[0x00, 0xFF, 0xFF, 0xFF, 0xFF, 0xFF, 0xFF, 0xFF, 0xFF];
@@ -86,7 +86,7 @@ fn writes_fewest_octets(rt: HostRuntime) {
     assert_takes(&rt, alloc, u128::MAX, U128_MAX);
 }
 
-/// Numbers at the ends of 128 bits and about 0, and their octets.
+/// Numbers at the bounds of 128 bits and around 0, and their octets.
 const NUMBERS_OF_128_BITS: &[(i128, &[u8])] = &[
     (
         i128::MAX,
@@ -110,7 +110,8 @@ fn writes_128_bits(rt: HostRuntime) {
     }
 }
 
-/// Whether these octets are kept of a number of any length; none where there is no number.
+/// Returns whether the `Integer` of `octets` has the octets `kept`, which are empty if there is
+/// none.
 fn is_kept(alloc: Global, octets: &[u8], kept: &[u8]) -> bool {
     match Integer::from_octets(alloc, octets) {
         Ok(Some(number)) => number.as_octets() == kept,
@@ -129,12 +130,13 @@ fn are_equal(alloc: Global, one: &[u8], other: &[u8]) -> bool {
     }
 }
 
-/// As many octets as stand in a value itself, and one more.
+/// The maximum number of octets that are kept inline, and one more.
 const INLINE: &[u8] = &[0x01; 23];
 
 const ALLOCATED: &[u8] = &[0x01; 24];
 
-// Redundant octets are dropped, so equal numbers are equal values; no octets are no number.
+// Redundant octets are dropped, so equal numbers are equal values. An empty list of octets isn't a
+// number.
 #[test]
 fn keeps_any_length(rt: HostRuntime) {
     let alloc = rt.alloc();

@@ -26,7 +26,7 @@ fn reads_null(rt: HostRuntime) {
     assert!(rt; decoder.decoded_len() == 5);
 }
 
-// NULL has no contents, under [0] too (X.690 8.8).
+// NULL has no contents, also under [0] (X.690 8.8).
 #[test]
 fn writes_null(rt: HostRuntime) {
     let mut encoder = new_encoder(&rt, rt.alloc(), Codec::Cer);

@@ -9,14 +9,14 @@ use rasn_types::types::{Codec, Identifier, ObjectIdentifier, Tag};
 use std::alloc::Global;
 use std::process::Abort;
 
-/// Whether these arcs make no object identifier.
+/// Returns whether these arcs aren't an object identifier.
 fn is_none(alloc: Global, arcs: &[u32]) -> bool {
     identifier_of(alloc, arcs).is_ok_and(|identifier| identifier.is_none())
 }
 
 const RSA_ARCS: &[u32] = &[1, 2, 840, 113549];
 
-// An object identifier has two arcs at least, and a first arc of at most 2 (X.660 7.6).
+// An object identifier has at least two arcs, and a first arc of at most 2 (X.660 7.6).
 #[test]
 fn keeps_arcs(rt: HostRuntime) {
     let alloc = rt.alloc();
@@ -57,7 +57,7 @@ fn calls_read_object_identifiers(rt: HostRuntime) {
 /// The arcs {2 999 1} and {2 4294967215}.
 const ARCS: &[&[u32]] = &[&[2, 999, 1], &[2, 4294967215]];
 
-// Each arc has seven bits an octet (X.690 8.19).
+// An octet holds seven bits of an arc (X.690 8.19).
 #[test]
 fn writes_object_identifiers(rt: HostRuntime) {
     let mut encoder = new_encoder(&rt, rt.alloc(), Codec::Der);
@@ -72,7 +72,8 @@ fn writes_object_identifiers(rt: HostRuntime) {
     assert_output(&rt, encoder.output(), TWO_IDENTIFIERS);
 }
 
-/// Asserts what appending the arcs' octets behind 2A answers, and which octets stand there then.
+/// Asserts that appending the octets of the arcs to 2A fails with an error of this text, and leaves
+/// these octets.
 fn assert_appends(rt: &impl Abort, alloc: Global, arcs: &[u32], text: &str, octets: &[u8]) {
     let mut found = Vec::new(alloc);
     assert!(rt; found.push(0x2A).is_ok(), "no memory");
@@ -81,7 +82,7 @@ fn assert_appends(rt: &impl Abort, alloc: Global, arcs: &[u32], text: &str, octe
     assert!(rt; found.as_slice() == octets, "{arcs:?}");
 }
 
-/// Arcs that have no encoding, and the refusal's kind.
+/// Arcs that have no encoding, and the kind of the error.
 const NO_IDENTIFIERS: &[(&[u32], &str)] = &[
     (
         &[2, 4294967216],

@@ -1,14 +1,16 @@
-//! Whole values by rules that are given at run time, and octets that follow them (X.690 8.1.1.1).
+//! Whole values under rules that are chosen at run time, and octets that follow them
+//! (X.690 8.1.1.1).
 
 use crate::reading::assert_answer;
 use crate::whole::Answer;
 use rasn::types::Codec;
 use rasn::{decode, decode_with_remainder, refuse_remainder};
 
-/// `UnexpectedExtraData` of the octets `00 00`.
+/// The text of `UnexpectedExtraData` for the octets `00 00`.
 const TWO_OCTETS_FOLLOW: &str = "UnexpectedExtraData { length: 2 }";
 
-// TRUE is any octet but 00 under BER (X.690 8.2.2), and FF alone under CER and DER (11.1). No octets follow an encoding (8.1.1.1).
+// TRUE is any octet but 00 under BER (X.690 8.2.2), and FF alone under CER and DER (11.1). No
+// octets follow an encoding (8.1.1.1).
 #[test]
 fn values_are_all_of_the_input(rt: HostRuntime) {
     const ROWS: &[Answer<'_>] = &[
@@ -45,7 +47,8 @@ fn values_are_all_of_the_input(rt: HostRuntime) {
     }
 }
 
-// Under DER a number is refused that isn't in its fewest octets (X.690 8.3.2), and under BER and CER it is read. What follows is left as it is.
+// DER refuses a number that isn't in the fewest octets (X.690 8.3.2), BER and CER read it. The
+// octets after the value are returned.
 #[test]
 fn values_begin_the_input(rt: HostRuntime) {
     const ROWS: &[Answer<'_>] = &[

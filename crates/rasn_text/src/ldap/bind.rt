@@ -6,7 +6,7 @@ use crate::listing::Listing;
 use rasn_ldap::{AuthenticationChoice, BindRequest, BindResponse, SaslCredentials};
 use std::alloc::AllocError;
 
-/// Lists who the client is.
+/// Lists a bind request.
 pub(crate) fn list_bind_request(
     listing: &mut Listing,
     request: &BindRequest,
@@ -19,7 +19,7 @@ pub(crate) fn list_bind_request(
     }
 }
 
-/// Lists credentials of SASL.
+/// Lists SASL credentials.
 fn list_sasl(listing: &mut Listing, sasl: &SaslCredentials) -> Result<(), AllocError> {
     listing.open("sasl")?;
     list_string(listing, "mechanism", sasl.mechanism.as_str())?;
@@ -30,7 +30,7 @@ fn list_sasl(listing: &mut Listing, sasl: &SaslCredentials) -> Result<(), AllocE
     Ok(())
 }
 
-/// Lists the server's answer.
+/// Lists a bind response.
 pub(crate) fn list_bind_response(
     listing: &mut Listing,
     response: &BindResponse,

@@ -6,14 +6,14 @@ use rasn::types::OctetString;
 use rasn_ldap::{Change, ChangeOperation, ModifyRequest, PartialAttribute, SearchResultEntry};
 use std::alloc::AllocError;
 
-/// What is done with the values of an attribute (RFC 4511, 4.6).
+/// The names of the operations on the values of an attribute (RFC 4511, 4.6).
 const OPERATIONS: &[NamedNumber] = &[
     (ChangeOperation::ADD.number, "add"),
     (ChangeOperation::DELETE.number, "delete"),
     (ChangeOperation::REPLACE.number, "replace"),
 ];
 
-/// Lists an entry that was found.
+/// Lists an entry that a search found.
 pub(crate) fn list_entry(
     listing: &mut Listing,
     entry: &SearchResultEntry,
@@ -29,7 +29,7 @@ pub(crate) fn list_entry(
     Ok(())
 }
 
-/// Lists what is to change.
+/// Lists a modify request.
 pub(crate) fn list_modify_request(
     listing: &mut Listing,
     request: &ModifyRequest,

@@ -6,7 +6,7 @@ use crate::listing::Listing;
 use rasn_ldap::{ExtendedRequest, ExtendedResponse};
 use std::alloc::AllocError;
 
-/// Lists a request.
+/// Lists an extended request.
 pub(crate) fn list_extended_request(
     listing: &mut Listing,
     request: &ExtendedRequest,
@@ -18,7 +18,7 @@ pub(crate) fn list_extended_request(
     Ok(())
 }
 
-/// Lists the answer.
+/// Lists an extended response.
 pub(crate) fn list_extended_response(
     listing: &mut Listing,
     response: &ExtendedResponse,

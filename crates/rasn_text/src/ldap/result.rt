@@ -109,7 +109,7 @@ const RESULT_CODES: &[NamedNumber] = &[
     (ResultCode::OTHER.number, "other"),
 ];
 
-/// Where else to ask (RFC 4511, 4.1.10).
+/// The URIs of other servers to ask (RFC 4511, 4.1.10).
 pub(crate) type Referral = Option<Implicit<ContextTag<3>, Vec<LdapString>>>;
 
 /// Lists a result.
@@ -123,7 +123,7 @@ pub(crate) fn list_result(listing: &mut Listing, answer: &LdapResult) -> Result<
     )
 }
 
-/// Lists the parts that every answer with a result has.
+/// Lists the parts that all responses with a result share.
 pub(crate) fn list_parts(
     listing: &mut Listing,
     code: ResultCode,
@@ -142,7 +142,7 @@ pub(crate) fn list_parts(
     Ok(())
 }
 
-/// Lists where else to ask or to search.
+/// Lists the URIs of a referral or of a search result reference.
 pub(crate) fn list_uris(listing: &mut Listing, uris: &[LdapString]) -> Result<(), AllocError> {
     for uri in uris {
         list_string(listing, "uri", uri.as_str())?;

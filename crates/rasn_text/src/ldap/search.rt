@@ -5,14 +5,14 @@ use crate::listing::{Listing, NamedNumber};
 use rasn_ldap::{DerefAliases, SearchRequest, SearchScope};
 use std::alloc::AllocError;
 
-/// Which entries are searched (RFC 4511, 4.5.1.2).
+/// The names of the scopes of a search (RFC 4511, 4.5.1.2).
 const SCOPES: &[NamedNumber] = &[
     (SearchScope::BASE_OBJECT.number, "baseObject"),
     (SearchScope::SINGLE_LEVEL.number, "singleLevel"),
     (SearchScope::WHOLE_SUBTREE.number, "wholeSubtree"),
 ];
 
-/// Which aliases a search follows (RFC 4511, 4.5.1.3).
+/// The names of the rules by which a search follows aliases (RFC 4511, 4.5.1.3).
 const ALIAS_RULES: &[NamedNumber] = &[
     (0, "neverDerefAliases"),
     (1, "derefInSearching"),
@@ -20,7 +20,7 @@ const ALIAS_RULES: &[NamedNumber] = &[
     (3, "derefAlways"),
 ];
 
-/// Lists what is searched for. The filter is shown as the octets of its encoding.
+/// Lists a search request. The filter is shown as the octets of its encoding.
 pub(crate) fn list_search_request(
     listing: &mut Listing,
     request: &SearchRequest,
@@ -38,7 +38,7 @@ pub(crate) fn list_search_request(
     Ok(())
 }
 
-/// Lists which aliases the search follows.
+/// Lists the rule by which the search follows aliases.
 fn list_alias_rule(listing: &mut Listing, rule: &DerefAliases) -> Result<(), AllocError> {
     let number = match rule {
         DerefAliases::Never => 0,

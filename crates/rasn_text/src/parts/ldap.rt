@@ -1,4 +1,4 @@
-//! The parts of messages of LDAP (RFC 4511, 4).
+//! The parts of LDAP messages (RFC 4511, 4).
 
 use crate::place::{Found, Located, Walk};
 use rasn::types::{Any, ContextTag, Implicit, OctetString, Utf8String};
@@ -43,7 +43,7 @@ impl Located for BindRequest {
     }
 }
 
-/// Reads the parts of a result.
+/// Reads the parts of an LDAPResult.
 fn result_parts(walk: &mut Walk<'_>) -> Result<(), Found> {
     walk.part::<ResultCode>("resultCode")?;
     walk.part::<LdapString>("matchedDN")?;

@@ -1,4 +1,4 @@
-//! The parts of requests for certificates (RFC 2986, 4).
+//! The parts of certification requests (RFC 2986, 4).
 
 use crate::place::{Found, Located, Walk};
 use rasn::types::{Any, BitString, ContextTag, Implicit, ObjectIdentifier, SetOf};

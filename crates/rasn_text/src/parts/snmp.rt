@@ -1,4 +1,4 @@
-//! The parts of messages of SNMP (RFC 1901; RFC 3416, 3; of the trap of version 1 RFC 1157, 4.1.6).
+//! The parts of SNMP messages (RFC 1901; RFC 3416, 3; for the trap of version 1 RFC 1157, 4.1.6).
 
 use crate::place::{Found, Located, Walk};
 use rasn::types::{FixedOctetString, ObjectIdentifier, OctetString};

@@ -5,7 +5,7 @@ use crate::snmp::variable::{address_text, list_variables};
 use rasn_snmp::{IpAddress, TrapPdu};
 use std::alloc::AllocError;
 
-/// What is reported (RFC 1157, 4.1.6).
+/// The names of generic traps (RFC 1157, 4.1.6).
 const GENERIC_TRAPS: &[NamedNumber] = &[
     (0, "coldStart"),
     (1, "warmStart"),

@@ -56,7 +56,7 @@ fn list_variable(listing: &mut Listing, variable: &VarBind) -> Result<(), AllocE
     }
 }
 
-/// Lists a variable whose value is octets.
+/// Lists a variable whose value is an octet string.
 fn list_octets(
     listing: &mut Listing,
     name: &ObjectIdentifier,
@@ -67,7 +67,7 @@ fn list_octets(
     listing.binding(name, kind, &text)
 }
 
-/// Lists a variable whose value is an address.
+/// Lists a variable whose value is an IP address.
 fn list_address(
     listing: &mut Listing,
     name: &ObjectIdentifier,
@@ -77,7 +77,7 @@ fn list_address(
     listing.binding(name, "IpAddress", &text)
 }
 
-/// An address in dotted decimals.
+/// Returns an address in dotted decimal.
 pub(crate) fn address_text(alloc: Global, address: &IpAddress) -> Result<String, AllocError> {
     match address.as_octets() {
         [a, b, c, d] => {
