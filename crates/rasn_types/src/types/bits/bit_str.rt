@@ -9,6 +9,7 @@ ghost use Rattle.rasn_types.specs.BitString.{bits_from, Pushes};
 use crate::types::bits::BitIter;
 use crate::types::bits::packing::{clear_last, octets_for, push_shifted, unused_by};
 use std::alloc::AllocError;
+use std::fmt;
 use std::marker::Model;
 
 /// Bits borrowed from octets, which may begin and end inside one. To contracts they are a list of bits.
@@ -107,15 +108,22 @@ impl<'a> BitStr<'a> {
         true
     }
 
+    // All the bits.
+    pub(crate) fn all(&self) -> BitStr<'a>
+        ensures { result ≡ self.now }
+    {
+        BitStr {
+            octets: self.octets,
+            shift: self.shift,
+            len: self.len,
+        }
+    }
+
     /// The bits one by one.
     pub fn iter(&self) -> BitIter<'a>
         ensures { result ≡ self.now }
     {
-        BitIter::over(BitStr {
-            octets: self.octets,
-            shift: self.shift,
-            len: self.len,
-        })
+        BitIter::over(self.all())
     }
 
     /// The bits before a place, and those from it on.
@@ -165,6 +173,22 @@ impl<'a> BitStr<'a> {
             clear_last(out, unused_by(self.len));
         }
         Ok(())
+    }
+}
+
+/// Its bits as a value is written in ASN.1 (X.680 12.10): `'10110'B`.
+impl fmt::Display for BitStr<'_> {
+    ghost use Rattle.std.specs.Prelude.{Some};
+    ghost use Rattle.rasn_types.specs.Text.{shown_bits};
+
+    ghost output = { λ s. Some (shown_bits s) };
+
+    fn fmt<W: fmt::Write>(&self, f: &mut fmt::Formatter<W>) -> fmt::Result {
+        f.write_str("'")?;
+        for bit in self.iter() {
+            f.write_char(if bit { '1' } else { '0' })?;
+        }
+        f.write_str("'B")
     }
 }
 
