@@ -4,6 +4,7 @@ pub mod Reads
 pub mod Ends
 pub mod OctetString
 pub mod BitString
+pub mod CowBits
 pub mod UnusedBits
 pub mod CharacterString
 pub mod Checks

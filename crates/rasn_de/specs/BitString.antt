@@ -1,5 +1,5 @@
 -- BIT STRING, read from lists.
-use Rattle.std.specs.Prelude.{◌≡◌, ◌≢◌, ◌≤◌, ◌<◌, ◌^◌, ◌⊎◌, ℕ, ◌-◌, ◌*◌, Bool, false, ◌||◌, ◌&&◌, nat_lt, if◌then◌else◌, List, [], ◌∷◌, length, drop, Result, Ok, Err}
+use Rattle.std.specs.Prelude.{◌≡◌, ◌≢◌, ◌≤◌, ◌<◌, ◌^◌, ◌⊎◌, ℕ, ◌-◌, ◌*◌, Bool, false, ◌||◌, ◌&&◌, nat_lt, if◌then◌else◌, List, [], ◌∷◌, length, drop, Option, Some, None, Result, Ok, Err}
 use Rattle.rasn_types.specs.declared.types.tag.Tag.{Tag}
 use Rattle.rasn_types.specs.declared.types.codec.Codec.{Codec}
 use Rattle.rasn_types.specs.declared.types.constraints.Constraints.{Constraints}
@@ -7,6 +7,9 @@ use Rattle.rasn_types.specs.declared.error.decode.DecodeError.{DecodeError}
 use Rattle.rasn_types.specs.Tags.{in_universal}
 use Rattle.rasn_types.specs.Shapes.{Tree, bits, Admits, constraint_of}
 use Rattle.rasn_types.specs.BitString.{bits_in, but_last}
+use Rattle.rasn_types.specs.CowBits.{cow_bits}
+use Rattle.rasn_types.specs.declared.types.bits.cow_bits.CowBits.{CowBits}
+use Rattle.rasn_types.specs.declared.types.bits.cow_bits.CowBits.TheVariants.{Borrowed, Owned}
 use Rattle.rasn_types.specs.Errors.{IsOutOfMemory}
 use Rattle.rasn_de.specs.declared.ber.de.parser.ParseError.{ParseError}
 use Rattle.rasn_de.specs.declared.ber.de.parser.ParseError.TheVariants.{OutOfMemory, UnexpectedEmptyInput, InvalidBitString, LengthExceedsPlatformWidth, SizeConstraintNotSatisfied, Der}
@@ -91,3 +94,21 @@ DecodesBitString tag bounds old (Ok bs) new = DecodesLeaf (λ s. s) (BitsAt boun
 DecodesBitString tag bounds old (Err e) new =
     AllocFailsCollecting CollectsBits tag old e new ⊎ (AllocFailsCopyingBits tag old e new
     ⊎ ((IsOutOfMemory e.kind → ⊥) × FailsAs (BitsAt bounds old.rule old.depth tag old.rest) old e new))
+
+-- ---- bits that are borrowed
+
+-- Bits are borrowed from a primitive string alone.
+abbrev pub AreBorrowedIfPrimitive : Codec → Tag → List ℕ → CowBits → Type 0
+AreBorrowedIfPrimitive rule tag l (Borrowed bs) = IsPrimitive rule tag l
+AreBorrowedIfPrimitive rule tag l (Owned bs) = IsConstructed rule tag l
+
+-- The same call, which copies no bits of a primitive string.
+abbrev pub DecodesCowBits : Tag → Constraints → State → Result CowBits DecodeError → State → Type 0
+DecodesCowBits tag bounds old (Ok b) new = DecodesBitString tag bounds old (Ok (cow_bits b)) new × AreBorrowedIfPrimitive old.rule tag old.rest b
+DecodesCowBits tag bounds old (Err e) new = DecodesBitString tag bounds old (Err e) new × (IsPrimitive old.rule tag old.rest → IsOutOfMemory e.kind → ⊥)
+
+-- The bits of a primitive string; or it is constructed, and nothing is consumed; or it is refused, whatever its bounds are.
+abbrev pub DecodesPrimitiveBits : Tag → State → Result (Option (List Bool)) DecodeError → State → Type 0
+DecodesPrimitiveBits tag old (Ok (Some bs)) new = DecodesBits tag old (Ok bs) new × IsPrimitive old.rule tag old.rest
+DecodesPrimitiveBits tag old (Ok None) new = (new ≡ old) × IsConstructed old.rule tag old.rest
+DecodesPrimitiveBits tag old (Err e) new = ((bounds : Constraints) → DecodesBitString tag bounds old (Err e) new) × (IsOutOfMemory e.kind → ⊥)

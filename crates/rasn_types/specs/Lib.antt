@@ -34,3 +34,4 @@ pub mod Text
 pub mod ErrorText
 pub mod SmallOctets
 pub mod Inline
+pub mod CowBits

@@ -33,7 +33,7 @@ mod utc_time;
 pub use crate::hexadecimal::Hexadecimal;
 pub use any::Any;
 pub use asn_type::AsnType;
-pub use bits::{BitIter, BitStr, BitString};
+pub use bits::{BitIter, BitStr, BitString, CowBits};
 pub use codec::Codec;
 pub use constraints::{Bound, Bounded, Constraints};
 pub use constructed::Constructed;

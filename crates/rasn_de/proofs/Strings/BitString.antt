@@ -203,6 +203,9 @@ segment_none : (rule : Codec) (l : List ℕ) → NoMemory (segment_bits rule l)
 segment_none rule [] = λ e. cc
 segment_none rule (u ∷ octets) = none_cond (is_miscounted u octets) _ _ (λ e. cc) (none_cond (is_der rule && is_any_set (last_bits u octets)) _ _ (λ e. cc) tt)
 
+pub segment_plain : (rule : Codec) (l : List ℕ) (f : ParseError) → segment_bits rule l ≡ Err f → f ≢ OutOfMemory
+segment_plain rule l f e = subst NoMemory e (segment_none rule l)
+
 module _ (rule : Codec) (d : ℕ) (tag : Tag) (l : List ℕ) where
   pub no_header : (f : ParseError) → header_at (form rule) (Tagged tag) l ≡ Err f → FailsAtBits rule d tag l f l
   no_header f e = refused f (header_memory rule tag l f e) (rw e refl)

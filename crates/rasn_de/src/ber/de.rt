@@ -37,6 +37,7 @@ mod choice;
 mod config;
 mod constructed;
 mod contents;
+mod cow_bits;
 mod default;
 mod enumerated;
 mod extension;

@@ -175,6 +175,20 @@ kept len n u octets cut new e few there c (inr x) o =
       f ∙ d,
     )
 
+-- Octets into which only these bits were put hold them.
+pub pushed : (bs : List Bool) (n : ℕ) (new : List ℕ) → n ≡ length bs → Pushes bs [] new → AreOctets new → HoldsBits n new × (bits_from 0 n new ≡ bs)
+pushed bs n new l p o =
+    let e : bits_in new ≡ bs ++ zeros p.packs.unused = ap bits_in p.is ∙ p.packs.all in
+    let f : take n (bits_in new) ≡ bs = ap (take n) e ∙ (consume_behind bs (zeros p.packs.unused) 0 n (omega (arith, l)) ∙ append-nil bs) in
+    let g = ap length e in (
+      record {
+        held = omega (arith, g, length-append bs (zeros p.packs.unused), l, length-bits_in new);
+        packs = record { unused = p.packs.unused; few = p.packs.few; all = e ∙ ap (λ z. z ++ zeros p.packs.unused) (sym f) };
+        are = o;
+      },
+      f,
+    )
+
 -- Octets that are appended to whole octets.
 pub collects_whole : (unused : ℕ) (octets more new : List ℕ) → unused ≤ 8 * length more → new ≡ octets ++ more → but_last unused new ≡ but_last 0 octets ++ but_last unused more
 collects_whole unused octets more new h e =

@@ -3,8 +3,10 @@
 mod bit_iter;
 mod bit_str;
 mod bit_string;
+mod cow_bits;
 pub(crate) mod packing;
 
 pub use bit_iter::BitIter;
 pub use bit_str::BitStr;
 pub use bit_string::BitString;
+pub use cow_bits::CowBits;

@@ -9,6 +9,7 @@ ghost use Rattle.rasn_types.specs.BitString.{bits_from, Pushes};
 use crate::types::bits::BitIter;
 use crate::types::bits::packing::{clear_last, octets_for, push_shifted, unused_by};
 use std::alloc::AllocError;
+use std::fmt;
 use std::marker::Model;
 
 /// Bits borrowed from octets, which may begin and end inside an octet. Contracts see them as a list
@@ -109,15 +110,22 @@ impl<'a> BitStr<'a> {
         true
     }
 
+    // Returns all the bits.
+    pub(crate) fn all(&self) -> BitStr<'a>
+        ensures { result ≡ self.now }
+    {
+        BitStr {
+            octets: self.octets,
+            shift: self.shift,
+            len: self.len,
+        }
+    }
+
     /// Returns an iterator over the bits.
     pub fn iter(&self) -> BitIter<'a>
         ensures { result ≡ self.now }
     {
-        BitIter::over(BitStr {
-            octets: self.octets,
-            shift: self.shift,
-            len: self.len,
-        })
+        BitIter::over(self.all())
     }
 
     /// Returns the bits before `place`, and those from `place` on.
@@ -168,6 +176,22 @@ impl<'a> BitStr<'a> {
             clear_last(out, unused_by(self.len));
         }
         Ok(())
+    }
+}
+
+/// Its bits as a value is written in ASN.1 (X.680 12.10): `'10110'B`.
+impl fmt::Display for BitStr<'_> {
+    ghost use Rattle.std.specs.Prelude.{Some};
+    ghost use Rattle.rasn_types.specs.Text.{shown_bits};
+
+    ghost output = { λ s. Some (shown_bits s) };
+
+    fn fmt<W: fmt::Write>(&self, f: &mut fmt::Formatter<W>) -> fmt::Result {
+        f.write_str("'")?;
+        for bit in self.iter() {
+            f.write_char(if bit { '1' } else { '0' })?;
+        }
+        f.write_str("'B")
     }
 }
 

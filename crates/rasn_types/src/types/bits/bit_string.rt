@@ -44,6 +44,21 @@ impl BitString {
         Some(BitString { octets, len })
     }
 
+    /// Returns a copy of the bits of a view.
+    ///
+    /// # Errors
+    /// Returns an error if there is no memory.
+    pub fn from_bitstr(alloc: Global, bits: &BitStr<'_>) -> Result<BitString, AllocError>
+        ensures { IfOk result (λ s. s ≡ bits.now) }
+    {
+        let mut octets = Vec::new(alloc);
+        bits.append_to(&mut octets)?;
+        Ok(BitString {
+            octets,
+            len: bits.len(),
+        })
+    }
+
     /// Returns the number of bits.
     pub fn len(&self) -> usize
         ensures { result ≡ length self.now }
@@ -105,11 +120,7 @@ impl fmt::Display for BitString {
     ghost output = { λ s. Some (shown_bits s) };
 
     fn fmt<W: fmt::Write>(&self, f: &mut fmt::Formatter<W>) -> fmt::Result {
-        f.write_str("'")?;
-        for bit in self.iter() {
-            f.write_char(if bit { '1' } else { '0' })?;
-        }
-        f.write_str("'B")
+        write!(f, "{}", self.as_bitstr())
     }
 }
 
