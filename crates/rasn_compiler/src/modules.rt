@@ -79,7 +79,7 @@ impl<'text> Modules<'text> {
     }
 
     /// Returns the index of the first module with this name.
-    pub fn index_of(&self, name: &str) -> Option<usize> {
+    pub(crate) fn index_of(&self, name: &str) -> Option<usize> {
         self.names.get(name).copied()
     }
 }
