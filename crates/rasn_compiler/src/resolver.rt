@@ -3,6 +3,9 @@
 //! Types are resolved one after another from a list. Each names the types that it is made of, which are added to the list
 //! unless they are there, so that types that reach themselves end.
 
+ghost use Rattle.std.specs.Prelude.{◌≡◌, ◌<◌, length, IfOk, Some};
+ghost use Rattle.rasn_schema.specs.Named.{IsNamed};
+
 mod bounds;
 mod build;
 mod components;
@@ -39,7 +42,7 @@ pub struct Resolved {
 }
 
 impl<'text> Modules<'text> {
-    /// Returns a schema of a type of a module (X.680 16.2).
+    /// Returns a schema of a type of a module (X.680 16.2), in which the type has its name.
     ///
     /// # Errors
     /// Returns the first fault that is found in what the type is made of, or that memory ran out.
@@ -48,7 +51,10 @@ impl<'text> Modules<'text> {
         alloc: Global,
         module: &'text str,
         name: &'text str,
-    ) -> Result<Resolved, Stop<'text>> {
+    ) -> Result<Resolved, Stop<'text>>
+        ensures root { IfOk result (λ r. r.root.0 < length r.schema.types.items) }
+        ensures named { IfOk result (λ r. (names : _) × (r.schema.names ≡ Some names) × IsNamed names.items name.now r.root) }
+    {
         let (at, index) = self.type_named(module, name)?;
         let resolver = Resolver {
             alloc,
@@ -56,11 +62,6 @@ impl<'text> Modules<'text> {
         };
         let mut unchecked = 0;
         let nodes = resolver.nodes(Use::of(at, index), name, &mut unchecked)?;
-        let (schema, root) = emit(alloc, self, nodes, name)?;
-        Ok(Resolved {
-            schema,
-            root,
-            unchecked,
-        })
+        emit(alloc, self, nodes, name, unchecked)
     }
 }

@@ -30,6 +30,28 @@ impl Range {
             _ => self,
         }
     }
+
+    /// Returns the range if nothing follows it but the parenthesis that closes SIZE, or the marker.
+    fn ended(self, parser: &mut Parser<'_, '_>, is_size: bool) -> Option<Range> {
+        let is_marked = eat_marker(parser);
+        if is_size && !parser.eat(")") && !is_marked {
+            return None;
+        }
+        let is_extensible = is_marked || (is_size && eat_marker(parser));
+        if !parser.rest.is_empty() && !is_extensible {
+            return None;
+        }
+        Some(Range {
+            low: self.low,
+            high: self.high,
+            is_extensible,
+        })
+    }
+}
+
+/// Takes the marker that a comma precedes, and returns whether it was there.
+fn eat_marker(parser: &mut Parser<'_, '_>) -> bool {
+    parser.eat(",") && parser.eat("...")
 }
 
 impl<'modules, 'text> Resolver<'modules, 'text> {
@@ -113,24 +135,10 @@ impl<'modules, 'text> Resolver<'modules, 'text> {
         if is_size && !(parser.eat("SIZE") && parser.eat("(")) {
             return Ok(None);
         }
-        let Some((low, high)) = self.range(&mut parser, module, names, home)? else {
-            return Ok(None);
-        };
-        let mut is_extensible = parser.eat(",") && parser.eat("...");
-        if is_size {
-            if !parser.eat(")") && !is_extensible {
-                return Ok(None);
-            }
-            is_extensible = is_extensible || (parser.eat(",") && parser.eat("..."));
+        match self.range(&mut parser, module, names, home)? {
+            Some(range) => Ok(range.ended(&mut parser, is_size)),
+            None => Ok(None),
         }
-        if !parser.rest.is_empty() && !is_extensible {
-            return Ok(None);
-        }
-        Ok(Some(Range {
-            low,
-            high,
-            is_extensible,
-        }))
     }
 
     /// Reads a value or a range of values (X.680 51.2, 51.4).
@@ -140,7 +148,7 @@ impl<'modules, 'text> Resolver<'modules, 'text> {
         module: usize,
         names: &[NamedNumber<'text>],
         home: usize,
-    ) -> Result<Option<(Option<i128>, Option<i128>)>, Stop<'text>> {
+    ) -> Result<Option<Range>, Stop<'text>> {
         let position = parser.position();
         let Some(low) = read_end(parser, "MIN") else {
             return Ok(None);
@@ -153,7 +161,11 @@ impl<'modules, 'text> Resolver<'modules, 'text> {
             return Ok(None);
         };
         let high = self.bound(module, high, names, home, position)?;
-        Ok(Some((low, high)))
+        Ok(Some(Range {
+            low,
+            high,
+            is_extensible: false,
+        }))
     }
 
     /// Returns the number at an end of a range.
@@ -229,11 +241,15 @@ fn value_bound(range: Option<Range>) -> Option<Bound<i128>> {
 }
 
 /// Returns the range of a single number, which MIN isn't.
-fn single(only: Option<i128>) -> Option<(Option<i128>, Option<i128>)> {
-    match only {
-        Some(only) => Some((Some(only), Some(only))),
-        None => None,
+fn single(only: Option<i128>) -> Option<Range> {
+    if only.is_none() {
+        return None;
     }
+    Some(Range {
+        low: only,
+        high: only,
+        is_extensible: false,
+    })
 }
 
 /// Returns bounds of sizes.

@@ -12,12 +12,15 @@ const MAX_TYPES: usize = 100_000;
 /// How many components and alternatives these may have in all.
 const MAX_PARTS: usize = 1_000_000;
 
-/// Types that were asked for, in the order of their nodes.
+/// Types that were asked for, in the order of their nodes, and the nodes of the first of them.
 #[derive(Drop)]
 struct Requests<'text> {
     asked: Vec<Asked<'text>>,
-    /// The nodes of these types.
+    /// The numbers of these types' nodes.
     numbers: BTreeMap<Use, usize>,
+    nodes: Vec<Node<'text>>,
+    /// How many components and alternatives the nodes have.
+    parts: usize,
 }
 
 impl<'text> Requests<'text> {
@@ -44,25 +47,42 @@ impl<'modules, 'text> Resolver<'modules, 'text> {
         let mut requests = Requests {
             asked: Vec::new(self.alloc),
             numbers: BTreeMap::new(self.alloc),
+            nodes: Vec::new(self.alloc),
+            parts: 0,
         };
-        let mut nodes = Vec::new(self.alloc);
-        let mut parts = 0usize;
         self.request(&mut requests, of, name)?;
         for next in 0..MAX_TYPES {
             let Some(asked) = requests.asked.get(next).copied() else {
+                let Requests { nodes, .. } = requests;
                 return Ok(nodes);
             };
-            let shape = self.shape(asked, unchecked)?;
-            parts = parts.saturating_add(shape.parts.len());
-            if parts > MAX_PARTS {
+            self.resolve(&mut requests, asked, unchecked)?;
+            if requests.parts > MAX_PARTS {
                 break;
             }
-            nodes.push(self.node(&mut requests, asked, shape)?)?;
         }
         Err(
             self.modules
                 .fault(of.module, Position::START, Problem::TooLarge),
         )
+    }
+
+    /// Resolves a type that was asked for.
+    fn resolve(
+        self,
+        requests: &mut Requests<'text>,
+        asked: Asked<'text>,
+        unchecked: &mut usize,
+    ) -> Result<(), Stop<'text>> {
+        let position = self
+            .modules
+            .type_at(asked.of.module, asked.of.index)?
+            .position;
+        let shape = self.shape(asked, unchecked)?;
+        requests.parts = requests.parts.saturating_add(shape.parts.len());
+        let node = self.node(requests, asked, position, shape)?;
+        requests.nodes.push(node)?;
+        Ok(())
     }
 
     /// Returns the node of a type that is used so.
@@ -81,24 +101,18 @@ impl<'modules, 'text> Resolver<'modules, 'text> {
         self,
         requests: &mut Requests<'text>,
         asked: Asked<'text>,
+        position: Position,
         shape: Shape<'text>,
     ) -> Result<Node<'text>, Stop<'text>> {
-        let position = self
-            .modules
-            .type_at(asked.of.module, asked.of.index)?
-            .position;
-        let Shape {
-            ty,
-            mut parts,
-            inner,
-        } = shape;
-        for part in parts.iter_mut() {
+        let mut shape = shape;
+        for part in shape.parts.iter_mut() {
             part.node = self.request(requests, part.of, part.name)?;
         }
-        let inner = match inner {
+        let inner = match shape.inner {
             Some(of) => self.request(requests, of, asked.name)?,
             None => 0,
         };
+        let Shape { ty, parts, .. } = shape;
         Ok(Node {
             ty,
             parts,

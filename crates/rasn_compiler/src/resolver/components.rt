@@ -52,34 +52,49 @@ impl<'modules, 'text> Resolver<'modules, 'text> {
             markers: 0,
         };
         for component in list {
-            match component {
-                Component::Named {
-                    position,
-                    name,
-                    of,
-                    presence,
-                } => {
-                    let is_addition = seen.is_addition();
-                    let number = seen.count();
-                    let of_part = part_use(module, of.0, is_automatic, number);
-                    parts.push(Part {
-                        name,
-                        position: *position,
-                        of: of_part,
-                        node: 0,
-                        presence: self.presence(module, *of, *presence, is_addition)?,
-                        first: Tag::EOC,
-                    })?;
-                }
-                Component::Of(of) => {
-                    let position = self.modules.type_at(module, of.0)?.position;
-                    let problem = Problem::Unsupported("COMPONENTS OF");
-                    return Err(self.modules.fault(module, position, problem));
-                }
-                Component::Marker => seen.markers = seen.markers.saturating_add(1),
+            if let Some(part) = self.part(module, *component, is_automatic, &mut seen)? {
+                parts.push(part)?;
             }
         }
         Ok(parts)
+    }
+
+    /// Resolves a component or an alternative, if it isn't a marker.
+    fn part(
+        self,
+        module: usize,
+        component: Component<'text>,
+        is_automatic: bool,
+        seen: &mut Seen,
+    ) -> Result<Option<Part<'text>>, Stop<'text>> {
+        match component {
+            Component::Named {
+                position,
+                name,
+                of,
+                presence,
+            } => {
+                let is_addition = seen.is_addition();
+                let number = seen.count();
+                Ok(Some(Part {
+                    name,
+                    position,
+                    of: part_use(module, of.0, is_automatic, number),
+                    node: 0,
+                    presence: self.presence(module, of, presence, is_addition)?,
+                    first: Tag::EOC,
+                }))
+            }
+            Component::Of(of) => {
+                let position = self.modules.type_at(module, of.0)?.position;
+                let problem = Problem::Unsupported("COMPONENTS OF");
+                Err(self.modules.fault(module, position, problem))
+            }
+            Component::Marker => {
+                seen.markers = seen.markers.saturating_add(1);
+                Ok(None)
+            }
+        }
     }
 
     /// Returns whether the components of a list get automatic tags: none of them has a tag that is written (X.680 25.7, 29.2).

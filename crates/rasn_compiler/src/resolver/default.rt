@@ -5,7 +5,7 @@ use crate::resolver::digits::{Digits, read_digits};
 use crate::resolver::lookup::MAX_NAMES;
 use crate::resolver::shape::Resolver;
 use crate::tree::{Assigned, Base, Builtin, TypeIndex, Value as Written};
-use rasn_schema::Value;
+use rasn_schema::{NamedNumber, Value, index_named};
 use rasn_types::types::{BitString, Integer};
 use std::alloc::{AllocError, Global};
 use std::borrow::{CowSlice, CowStr};
@@ -20,29 +20,47 @@ impl<'modules, 'text> Resolver<'modules, 'text> {
     ) -> Result<Value<'static>, Stop<'text>> {
         let position = self.modules.type_at(module, of.0)?.position;
         let (at, end) = self.modules.end_of(module, of.0, position)?;
-        let base = &self.modules.type_at(at, end)?.base;
-        if let Base::Integer(names) = base {
-            let names = names.as_slice();
-            let number = self.modules.number(module, written, names, at, position)?;
-            return Ok(Value::Integer(Integer::from_i128(self.alloc, number)?));
-        }
-        if let Base::Enumerated(names) = base {
-            let numbers = self.enumeration(at, names.as_slice(), position)?;
-            for named in &numbers {
-                if is_name(written, named.name.as_str()) {
-                    let number = named.number as i128;
-                    return Ok(Value::Integer(Integer::from_i128(self.alloc, number)?));
+        match &self.modules.type_at(at, end)?.base {
+            Base::Integer(names) => {
+                let names = names.as_slice();
+                let number = self.modules.number(module, written, names, at, position)?;
+                self.number_default(number)
+            }
+            Base::Enumerated(names) => {
+                let numbers = self.enumeration(at, names.as_slice(), position)?;
+                match number_of(numbers.as_slice(), written) {
+                    Some(number) => self.number_default(number as i128),
+                    None => Err(self.unsupported(module, position)),
                 }
             }
+            base => self.other_default(module, base, written, position),
         }
+    }
+
+    /// Returns a number as a value.
+    fn number_default(self, number: i128) -> Result<Value<'static>, Stop<'text>> {
+        Ok(Value::Integer(Integer::from_i128(self.alloc, number)?))
+    }
+
+    /// Returns the value of a component of another type.
+    fn other_default(
+        self,
+        module: usize,
+        base: &Base<'text>,
+        written: Written<'text>,
+        position: Position,
+    ) -> Result<Value<'static>, Stop<'text>> {
         let value = self.value_meant(module, written, position)?;
         match plain_default(self.alloc, base, value)? {
             Some(value) => Ok(value),
-            None => {
-                let problem = Problem::Unsupported("such a default value");
-                Err(self.modules.fault(module, position, problem))
-            }
+            None => Err(self.unsupported(module, position)),
         }
+    }
+
+    /// Returns the fault of a default value that a schema can't carry.
+    fn unsupported(self, module: usize, position: Position) -> Stop<'text> {
+        let problem = Problem::Unsupported("such a default value");
+        self.modules.fault(module, position, problem)
     }
 
     /// Returns the value that a name means.
@@ -82,12 +100,13 @@ impl<'modules, 'text> Resolver<'modules, 'text> {
     }
 }
 
-/// Returns whether a value is this name.
-fn is_name(value: Written<'_>, own: &str) -> bool {
-    match value {
-        Written::Name { module: None, name } => name == own,
-        _ => false,
-    }
+/// Returns the number of the name that a value is.
+fn number_of(numbers: &[NamedNumber], value: Written<'_>) -> Option<isize> {
+    let Written::Name { module: None, name } = value else {
+        return None;
+    };
+    let index = index_named(numbers, name)?;
+    Some(numbers.get(index)?.number)
 }
 
 /// Returns a value of a type, if it is of a kind that is supported.

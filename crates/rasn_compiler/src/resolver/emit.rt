@@ -1,6 +1,12 @@
 //! The schema of the types that were resolved.
-use crate::fault::Stop;
+ghost use Rattle.std.specs.Prelude.{◌≡◌, ◌<◌, length, IfOk, OnOk, Some};
+ghost use Rattle.rasn_schema.specs.Named.{IsNamed};
+ghost use Rattle.rasn_schema.specs.declared.type_id.TypeId.{TypeId};
+
+use crate::fault::{Problem, Stop};
 use crate::modules::Modules;
+use crate::position::Position;
+use crate::resolver::Resolved;
 use crate::resolver::node::{Node, Part};
 use crate::resolver::order::{Order, first_of, first_tags, ordered};
 use crate::resolver::schema_fault::schema_fault;
@@ -9,20 +15,44 @@ use rasn_types::types::Tag;
 use std::alloc::{AllocError, Global};
 use std::mem;
 
-/// Returns the schema of the types that were resolved, and the number of the first, which is named so.
+/// Returns the schema of the types that were resolved. The root is the type of the first node, which is named so.
 pub(crate) fn emit<'text>(
     alloc: Global,
     modules: &Modules<'text>,
     nodes: Vec<Node<'text>>,
     name: &str,
-) -> Result<(Schema, TypeId), Stop<'text>> {
+    unchecked: usize,
+) -> Result<Resolved, Stop<'text>>
+    ensures root { IfOk result (λ r. r.root.0 < length r.schema.types.items) }
+    ensures named { IfOk result (λ r. (names : _) × (r.schema.names ≡ Some names) × IsNamed names.items name.now r.root) }
+{
     let mut nodes = nodes;
     let order = ordered(alloc, modules, nodes.as_slice())?;
-    let names = names(alloc, nodes.as_slice(), &order, name)?;
+    let root = order.type_id(0);
+    let names = names(alloc, nodes.as_slice(), &order, name, root)?;
     let types = filled(alloc, &mut nodes, &order)?;
+    if root.0 >= types.len() {
+        return Err(modules.fault(0, Position::START, Problem::TooLarge));
+    }
     match Schema::new(types) {
-        Ok(schema) => Ok((schema.with_names(names), order.type_id(0))),
+        Ok(schema) => Ok(Resolved {
+            schema: named(schema, names),
+            root,
+            unchecked,
+        }),
         Err(error) => Err(schema_fault(modules, nodes.as_slice(), &order, error)),
+    }
+}
+
+/// Returns a schema with these names of types.
+fn named(schema: Schema, names: Vec<TypeName>) -> Schema
+    ensures types { result.types ≡ schema.types }
+    ensures names { result.names ≡ Some names }
+{
+    let Schema { types, .. } = schema;
+    Schema {
+        types,
+        names: Some(names),
     }
 }
 
@@ -122,25 +152,37 @@ fn is_set(ty: &Type) -> bool {
     }
 }
 
-/// Returns the names of types.
+/// Returns the names of types. The first is that of the root.
 fn names(
     alloc: Global,
     nodes: &[Node<'_>],
     order: &Order,
     name: &str,
-) -> Result<Vec<TypeName>, AllocError> {
+    root: TypeId,
+) -> Result<Vec<TypeName>, AllocError>
+    ensures { IfOk result (λ names. IsNamed names.items name.now root) }
+{
     let mut names = Vec::new(alloc);
-    names.push(TypeName {
-        name: String::from_str(alloc, name)?,
-        type_id: order.type_id(0),
-    })?;
+    push_name(alloc, &mut names, name, root)?;
     for (index, node) in nodes.iter().enumerate() {
         if node.is_named {
-            names.push(TypeName {
-                name: String::from_str(alloc, node.name)?,
-                type_id: order.type_id(index),
-            })?;
+            push_name(alloc, &mut names, node.name, order.type_id(index))?;
         }
     }
     Ok(names)
+}
+
+/// Adds the name of a type.
+fn push_name(
+    alloc: Global,
+    names: &mut Vec<TypeName>,
+    name: &str,
+    type_id: TypeId,
+) -> Result<(), AllocError>
+    ensures last { OnOk result (IsNamed names.new.items name.now type_id) }
+    ensures more { (other : _) (id : TypeId) → IsNamed names.old.items other id → OnOk result (IsNamed names.new.items other id) }
+{
+    let name = String::from_str(alloc, name)?;
+    names.push(TypeName { name, type_id })?;
+    Ok(())
 }

@@ -4,7 +4,38 @@ use crate::position::Position;
 use crate::resolver::shape::Resolver;
 use crate::tree::{NamedNumber, Value};
 use rasn_schema::NamedNumber as Numbered;
+use std::alloc::{AllocError, Global};
 use std::collections::BTreeSet;
+
+/// The numbers of an ENUMERATED that are known so far.
+#[derive(Drop)]
+struct Enumeration {
+    numbers: Vec<Numbered>,
+    /// The numbers that no other name gets.
+    used: BTreeSet<isize>,
+    /// No lower number is free.
+    free: isize,
+}
+
+impl Enumeration {
+    /// Adds a name with the number that is written after it, or with the lowest that is free.
+    fn add(
+        &mut self,
+        alloc: Global,
+        name: &str,
+        written: Option<isize>,
+        is_addition: bool,
+    ) -> Result<(), AllocError> {
+        let number = written.unwrap_or(next_free(&self.used, self.free));
+        if is_addition || written.is_none() {
+            self.used.insert(number)?;
+            self.free = self.free.max(number.saturating_add(1));
+        }
+        let name = String::from_str(alloc, name)?;
+        self.numbers.push(Numbered { name, number })?;
+        Ok(())
+    }
+}
 
 impl<'modules, 'text> Resolver<'modules, 'text> {
     /// Returns the names of an INTEGER's numbers (X.680 19).
@@ -38,27 +69,21 @@ impl<'modules, 'text> Resolver<'modules, 'text> {
         position: Position,
     ) -> Result<Vec<Numbered>, Stop<'text>> {
         let root = root_length(names);
-        let mut used = self.written_numbers(module, names.get(..root).unwrap_or(&[]))?;
-        let mut numbers = Vec::new(self.alloc);
-        let mut free = 0isize;
+        let mut found = Enumeration {
+            numbers: Vec::new(self.alloc),
+            used: self.written_numbers(module, names.get(..root).unwrap_or(&[]))?,
+            free: 0,
+        };
         for (index, named) in names.iter().enumerate() {
-            let Some(name) = named.name else {
-                free = 0;
-                continue;
-            };
-            let number = match named.number {
-                Some(value) => self.enumerated_number(module, value, named.position)?,
-                None => next_free(&used, free),
-            };
-            if index >= root || named.number.is_none() {
-                used.insert(number)?;
-                free = free.max(number.saturating_add(1));
+            match named.name {
+                Some(name) => {
+                    let written = self.written_number(module, *named)?;
+                    found.add(self.alloc, name, written, index >= root)?;
+                }
+                None => found.free = 0,
             }
-            numbers.push(Numbered {
-                name: String::from_str(self.alloc, name)?,
-                number,
-            })?;
         }
+        let Enumeration { numbers, .. } = found;
         if numbers.is_empty() {
             let problem = Problem::Broken("an ENUMERATED without names (X.680 20.1)");
             return Err(self.modules.fault(module, position, problem));
@@ -74,11 +99,23 @@ impl<'modules, 'text> Resolver<'modules, 'text> {
     ) -> Result<BTreeSet<isize>, Stop<'text>> {
         let mut used = BTreeSet::new(self.alloc);
         for named in names {
-            if let Some(value) = named.number {
-                used.insert(self.enumerated_number(module, value, named.position)?)?;
+            if let Some(number) = self.written_number(module, *named)? {
+                used.insert(number)?;
             }
         }
         Ok(used)
+    }
+
+    /// Returns the number that is written after a name.
+    fn written_number(
+        self,
+        module: usize,
+        named: NamedNumber<'text>,
+    ) -> Result<Option<isize>, Stop<'text>> {
+        match named.number {
+            Some(value) => Ok(Some(self.enumerated_number(module, value, named.position)?)),
+            None => Ok(None),
+        }
     }
 
     /// Returns a number that has a name.

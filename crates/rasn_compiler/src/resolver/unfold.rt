@@ -4,7 +4,7 @@ use crate::modules::Modules;
 use crate::position::Position;
 use crate::resolver::lookup::MAX_NAMES;
 use crate::resolver::node::{Asked, Tags, Unfolded, Use};
-use crate::tree::{Base, Tag as WrittenTag, TagClass, Tagging, Type};
+use crate::tree::{Base, Tag as WrittenTag, TagClass, Tagging, Type, Unread};
 use rasn_types::types::{Class, Tag};
 use std::alloc::{AllocError, Global};
 
@@ -26,6 +26,31 @@ impl Tags {
             self.implicit = Some(outer);
         }
         Ok(())
+    }
+}
+
+impl<'text> Unfolded<'text> {
+    /// Adds the constraints of a type on the way.
+    fn add_constraints(&mut self, constraints: &[Unread<'text>]) -> Result<(), AllocError> {
+        for constraint in constraints {
+            self.constraints.push((self.module, *constraint))?;
+        }
+        Ok(())
+    }
+
+    /// Goes on to the type of this name. It means the same if nothing is said on the way.
+    fn go_to(&mut self, alloc: Global, module: usize, index: usize, name: &'text str) {
+        self.module = module;
+        self.index = index;
+        self.name = Some(name);
+        if self.constraints.is_empty()
+            && self.tags.implicit.is_none()
+            && self.tags.explicit.len() == self.same.peeled
+        {
+            self.same = Use::of(module, index);
+            self.same_name = Some(name);
+            self.tags = Tags::new(alloc);
+        }
     }
 }
 
@@ -73,9 +98,7 @@ impl<'text> Modules<'text> {
     fn follow(&self, alloc: Global, found: &mut Unfolded<'text>) -> Result<bool, Stop<'text>> {
         let ty = self.type_at(found.module, found.index)?;
         self.add_tags(found.module, ty, &mut found.tags)?;
-        for constraint in &ty.constraints {
-            found.constraints.push((found.module, *constraint))?;
-        }
+        found.add_constraints(ty.constraints.as_slice())?;
         let Base::Reference {
             module: outside,
             name,
@@ -85,17 +108,7 @@ impl<'text> Modules<'text> {
             return Ok(false);
         };
         let (module, index) = self.type_meant(found.module, *outside, name, ty.position)?;
-        found.module = module;
-        found.index = index;
-        found.name = Some(name);
-        if found.constraints.is_empty()
-            && found.tags.implicit.is_none()
-            && found.tags.explicit.len() == found.same.peeled
-        {
-            found.same = Use::of(module, index);
-            found.same_name = Some(name);
-            found.tags = Tags::new(alloc);
-        }
+        found.go_to(alloc, module, index, name);
         Ok(true)
     }
 
