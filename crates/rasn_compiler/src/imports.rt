@@ -31,24 +31,36 @@ impl<'tokens, 'text> Parser<'tokens, 'text> {
 
     /// Reads symbols, FROM and a module, with its identifier.
     fn import(&mut self) -> Result<Import<'text>, Stop<'text>> {
+        let symbols = self.symbols()?;
+        let module = self.expect_kind(Kind::Upper, "a module's name")?;
+        self.import_identifier()?;
+        Ok(Import { symbols, module })
+    }
+
+    /// Reads symbols and FROM.
+    fn symbols(&mut self) -> Result<Vec<&'text str>, Stop<'text>> {
         let mut symbols = Vec::new(self.alloc);
         for _ in 0..self.rest.len() {
-            if self.peek() != Kind::Upper && self.peek() != Kind::Lower {
-                return Err(self.refuse("a symbol"));
-            }
-            symbols.push(self.take())?;
-            // The symbol of a parameterized assignment.
-            self.braces()?;
+            symbols.push(self.symbol()?)?;
             if !self.eat(",") {
                 break;
             }
         }
-        if !self.eat("FROM") {
-            return Err(self.refuse(", or FROM"));
+        if self.eat("FROM") {
+            Ok(symbols)
+        } else {
+            Err(self.refuse(", or FROM"))
         }
-        let module = self.expect_kind(Kind::Upper, "a module's name")?;
-        self.import_identifier()?;
-        Ok(Import { symbols, module })
+    }
+
+    /// Reads a symbol, with the braces of a parameterized one.
+    fn symbol(&mut self) -> Result<&'text str, Stop<'text>> {
+        if self.peek() != Kind::Upper && self.peek() != Kind::Lower {
+            return Err(self.refuse("a symbol"));
+        }
+        let symbol = self.take();
+        self.braces()?;
+        Ok(symbol)
     }
 
     /// Takes a module's identifier, in braces or as the name of a value (X.680 13.16).

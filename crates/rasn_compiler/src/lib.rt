@@ -12,6 +12,7 @@ mod names;
 mod parser;
 mod position;
 mod recovery;
+mod resolver;
 mod tags;
 mod token;
 mod tree;
@@ -22,6 +23,7 @@ mod words;
 pub use fault::{Fault, Problem, Stop};
 pub use modules::{Modules, Source};
 pub use position::Position;
+pub use resolver::Resolved;
 pub use tree::{
     Assigned, Assignment, Base, Builtin, Component, Import, ListOf, Module, NamedNumber, Presence,
     Tag, TagClass, Tagging, Type, TypeIndex, Unread, Value,

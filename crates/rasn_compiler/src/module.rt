@@ -1,20 +1,62 @@
 //! Modules (X.680 13).
-ghost use Rattle.std.specs.Prelude.{◌<◌, length, OnOk};
+ghost use Rattle.std.specs.Prelude.{◌≡◌, ◌<◌, length, IfOk, OnOk};
 
 use crate::fault::{Fault, Stop};
 use crate::parser::Parser;
+use crate::position::Position;
 use crate::token::Kind;
-use crate::tree::{Assignment, Import, Meaning, Module, Tagging};
+use crate::tree::{Assignment, Import, Meaning, Module, Tagging, Unread};
 use std::alloc::{AllocError, Global};
 use std::collections::BTreeMap;
 use std::mem;
 
+/// What is before a module's imports (X.680 13.1).
+#[derive(Clone, Copy)]
+struct Head<'text> {
+    name: &'text str,
+    position: Position,
+    identifier: Option<Unread<'text>>,
+    tagging: Tagging,
+    is_extensible: bool,
+}
+
 impl<'tokens, 'text> Parser<'tokens, 'text> {
-    /// Reads a module. The faults of its assignments are added.
+    /// Reads a module of the text with this name. The faults of its assignments are added.
     pub(crate) fn module(
         &mut self,
+        source: &'text str,
         faults: &mut Vec<Fault<'text>>,
-    ) -> Result<Module<'text>, Stop<'text>> {
+    ) -> Result<Module<'text>, Stop<'text>>
+        ensures { IfOk result (λ m. m.source.now ≡ source.now) }
+    {
+        let Head {
+            name,
+            position,
+            identifier,
+            tagging,
+            is_extensible,
+        } = self.head()?;
+        self.exports()?;
+        let imports = self.imports()?;
+        let assignments = self.assignments(faults)?;
+        let meanings = meanings(self.alloc, &imports, &assignments)?;
+        let types = mem::replace(&mut self.types, Vec::new(self.alloc));
+        Ok(Module {
+            source,
+            name,
+            position,
+            identifier,
+            tagging,
+            is_extensible,
+            imports,
+            types,
+            assignments,
+            meanings,
+        })
+    }
+
+    /// Reads a module's name and what follows it, up to BEGIN.
+    fn head(&mut self) -> Result<Head<'text>, Stop<'text>> {
         let position = self.position();
         let name = self.expect_kind(Kind::Upper, "a module's name")?;
         let identifier = self.braces()?;
@@ -27,22 +69,12 @@ impl<'tokens, 'text> Parser<'tokens, 'text> {
         let is_extensible = self.extensibility()?;
         self.expect("::=")?;
         self.expect("BEGIN")?;
-        self.exports()?;
-        let imports = self.imports()?;
-        let assignments = self.assignments(faults)?;
-        let meanings = meanings(self.alloc, &imports, &assignments)?;
-        let types = mem::replace(&mut self.types, Vec::new(self.alloc));
-        Ok(Module {
-            source: self.source.name,
+        Ok(Head {
             name,
             position,
             identifier,
             tagging,
             is_extensible,
-            imports,
-            types,
-            assignments,
-            meanings,
         })
     }
 

@@ -1,4 +1,9 @@
 //! Texts of modules.
+ghost use Rattle.std.specs.Prelude.{◌≡◌, [], ◌∷◌, ◌++◌, IfOk, OnOk, IfSome, Some, slice_get};
+ghost use Rattle.rasn_compiler.specs.declared.tree.Module.{Module};
+ghost use Rattle.rasn_types.specs.Truth.{IsWhether};
+ghost use Rattle.rasn_compiler.specs.Sources.{HasName, AreOf};
+
 use crate::fault::{Fault, Stop};
 use crate::lexer::tokens;
 use crate::parser::Parser;
@@ -25,11 +30,14 @@ pub struct Modules<'text> {
 }
 
 impl<'text> Modules<'text> {
-    /// Reads all modules of some texts (X.680 13), as far as they have no faults.
+    /// Reads all modules of some texts (X.680 13), as far as they have no faults. Each has the name
+    /// of its text.
     ///
     /// # Errors
     /// Returns an error if memory runs out.
-    pub fn parse(alloc: Global, sources: &[Source<'text>]) -> Result<Modules<'text>, AllocError> {
+    pub fn parse(alloc: Global, sources: &[Source<'text>]) -> Result<Modules<'text>, AllocError>
+        ensures { IfOk result (λ read. AreOf sources.now read.modules.items) }
+    {
         let mut read = Modules {
             modules: Vec::new(alloc),
             faults: Vec::new(alloc),
@@ -42,7 +50,9 @@ impl<'text> Modules<'text> {
     }
 
     /// Adds the modules of a text.
-    fn read(&mut self, alloc: Global, source: Source<'text>) -> Result<(), AllocError> {
+    fn read(&mut self, alloc: Global, source: Source<'text>) -> Result<(), AllocError>
+        ensures { (all : _) → HasName all source.entry.name.now → AreOf all self.old.modules.items → OnOk result (AreOf all self.new.modules.items) }
+    {
         let tokens = tokens(alloc, source.text, Position::START)?;
         let mut parser = Parser {
             alloc,
@@ -55,31 +65,64 @@ impl<'text> Modules<'text> {
             if parser.rest.is_empty() {
                 break;
             }
-            match parser.module(&mut self.faults) {
-                Ok(module) => self.add(alloc, module)?,
-                Err(Stop::OutOfMemory) => return Err(AllocError),
-                Err(Stop::Fault(fault)) => {
-                    self.faults.push(fault)?;
-                    parser.skip(1);
-                    parser.skip_to_module();
-                }
-            }
+            self.read_module(alloc, source.name, &mut parser)?;
         }
         Ok(())
     }
 
+    /// Adds the next module of the text with this name, or its fault.
+    fn read_module(
+        &mut self,
+        alloc: Global,
+        source: &'text str,
+        parser: &mut Parser<'_, 'text>,
+    ) -> Result<(), AllocError>
+        ensures { (all : _) → HasName all source.now → AreOf all self.old.modules.items → OnOk result (AreOf all self.new.modules.items) }
+    {
+        match parser.module(source, &mut self.faults) {
+            Ok(added) => {
+                self.add(alloc, added)?;
+                Ok(())
+            }
+            Err(Stop::OutOfMemory) => Err(AllocError),
+            Err(Stop::Fault(fault)) => {
+                self.faults.push(fault)?;
+                parser.skip(1);
+                parser.skip_to_module();
+                Ok(())
+            }
+        }
+    }
+
     /// Adds a module.
-    fn add(&mut self, alloc: Global, module: Module<'text>) -> Result<(), AllocError> {
-        if !self.names.contains_key(module.name) {
-            let name = String::from_str(alloc, module.name)?;
+    fn add(&mut self, alloc: Global, added: Module<'text>) -> Result<(), AllocError>
+        ensures { OnOk result (self.new.modules.items ≡ self.old.modules.items ++ added.entry ∷ []) }
+    {
+        if !self.names.contains_key(added.name) {
+            let name = String::from_str(alloc, added.name)?;
             self.names.insert(name, self.modules.len())?;
         }
-        self.modules.push(module)?;
+        self.modules.push(added)?;
         Ok(())
     }
 
     /// Returns the index of the first module with this name.
-    pub fn index_of(&self, name: &str) -> Option<usize> {
-        self.names.get(name).copied()
+    pub(crate) fn index_of(&self, name: &str) -> Option<usize>
+        ensures { IfSome result (λ k. (m : Module) × (Some m ≡ slice_get self.now.modules.items k) × (m.name.now ≡ name.now)) }
+    {
+        let index = *self.names.get(name)?;
+        let module = self.modules.get(index)?;
+        if has_name(module, name) {
+            Some(index)
+        } else {
+            None
+        }
     }
+}
+
+/// Returns whether this is the module's name.
+fn has_name(found: &Module<'_>, name: &str) -> bool
+    ensures { IsWhether result (found.now.name.now ≡ name.now) }
+{
+    found.name == name
 }

@@ -114,31 +114,36 @@ impl<'tokens, 'text> Parser<'tokens, 'text> {
             return Ok(Base::Builtin(builtin));
         }
         match word {
-            "INTEGER" => {
-                self.skip(1);
-                Ok(Base::Integer(self.named_numbers()?))
-            }
-            "ENUMERATED" => {
-                self.skip(1);
-                Ok(Base::Enumerated(self.named_numbers()?))
-            }
-            "BIT" => {
-                self.skip(1);
-                self.expect("STRING")?;
-                Ok(Base::BitString(self.named_numbers()?))
-            }
+            "INTEGER" | "ENUMERATED" | "BIT" => self.type_with_names(word),
             "OCTET" => self.pair("STRING", Builtin::OctetString),
             "OBJECT" => self.pair("IDENTIFIER", Builtin::ObjectIdentifier),
             "EMBEDDED" => self.pair("PDV", Builtin::EmbeddedPdv),
             "CHARACTER" => self.pair("STRING", Builtin::CharacterString),
             "ANY" => self.any(),
-            "INSTANCE" => {
-                self.skip(1);
-                self.expect("OF")?;
-                Ok(Base::InstanceOf(self.expect_kind(Kind::Upper, "a class")?))
-            }
+            "INSTANCE" => self.instance_of(),
             _ => Err(self.refuse("a type")),
         }
+    }
+
+    /// Reads an INTEGER, an ENUMERATED or a BIT STRING, whose first word this is.
+    fn type_with_names(&mut self, word: &str) -> Result<Base<'text>, Stop<'text>> {
+        self.skip(1);
+        if word == "BIT" {
+            self.expect("STRING")?;
+        }
+        let names = self.named_numbers()?;
+        Ok(match word {
+            "INTEGER" => Base::Integer(names),
+            "ENUMERATED" => Base::Enumerated(names),
+            _ => Base::BitString(names),
+        })
+    }
+
+    /// Reads INSTANCE OF (X.681 C).
+    fn instance_of(&mut self) -> Result<Base<'text>, Stop<'text>> {
+        self.skip(1);
+        self.expect("OF")?;
+        Ok(Base::InstanceOf(self.expect_kind(Kind::Upper, "a class")?))
     }
 
     /// Reads a type of two words.
@@ -235,35 +240,44 @@ impl<'tokens, 'text> Parser<'tokens, 'text> {
     }
 }
 
+/// The types that one word names.
+const BUILTINS: [(&str, Builtin); 28] = [
+    ("BMPString", Builtin::BmpString),
+    ("BOOLEAN", Builtin::Boolean),
+    ("DATE", Builtin::Date),
+    ("DATE-TIME", Builtin::DateTime),
+    ("DURATION", Builtin::Duration),
+    ("EXTERNAL", Builtin::External),
+    ("GeneralString", Builtin::GeneralString),
+    ("GeneralizedTime", Builtin::GeneralizedTime),
+    ("GraphicString", Builtin::GraphicString),
+    ("IA5String", Builtin::Ia5String),
+    ("NULL", Builtin::Null),
+    ("NumericString", Builtin::NumericString),
+    ("ObjectDescriptor", Builtin::ObjectDescriptor),
+    ("OID-IRI", Builtin::ObjectIdentifierIri),
+    ("PrintableString", Builtin::PrintableString),
+    ("REAL", Builtin::Real),
+    ("RELATIVE-OID", Builtin::RelativeObjectIdentifier),
+    ("RELATIVE-OID-IRI", Builtin::RelativeObjectIdentifierIri),
+    ("T61String", Builtin::TeletexString),
+    ("TeletexString", Builtin::TeletexString),
+    ("TIME", Builtin::Time),
+    ("TIME-OF-DAY", Builtin::TimeOfDay),
+    ("UTCTime", Builtin::UtcTime),
+    ("UTF8String", Builtin::Utf8String),
+    ("UniversalString", Builtin::UniversalString),
+    ("VideotexString", Builtin::VideotexString),
+    ("VisibleString", Builtin::VisibleString),
+    ("ISO646String", Builtin::VisibleString),
+];
+
 /// Returns the type that the word names alone.
 fn builtin(word: &str) -> Option<Builtin> {
-    Some(match word {
-        "BMPString" => Builtin::BmpString,
-        "BOOLEAN" => Builtin::Boolean,
-        "DATE" => Builtin::Date,
-        "DATE-TIME" => Builtin::DateTime,
-        "DURATION" => Builtin::Duration,
-        "EXTERNAL" => Builtin::External,
-        "GeneralString" => Builtin::GeneralString,
-        "GeneralizedTime" => Builtin::GeneralizedTime,
-        "GraphicString" => Builtin::GraphicString,
-        "IA5String" => Builtin::Ia5String,
-        "NULL" => Builtin::Null,
-        "NumericString" => Builtin::NumericString,
-        "ObjectDescriptor" => Builtin::ObjectDescriptor,
-        "OID-IRI" => Builtin::ObjectIdentifierIri,
-        "PrintableString" => Builtin::PrintableString,
-        "REAL" => Builtin::Real,
-        "RELATIVE-OID" => Builtin::RelativeObjectIdentifier,
-        "RELATIVE-OID-IRI" => Builtin::RelativeObjectIdentifierIri,
-        "T61String" | "TeletexString" => Builtin::TeletexString,
-        "TIME" => Builtin::Time,
-        "TIME-OF-DAY" => Builtin::TimeOfDay,
-        "UTCTime" => Builtin::UtcTime,
-        "UTF8String" => Builtin::Utf8String,
-        "UniversalString" => Builtin::UniversalString,
-        "VideotexString" => Builtin::VideotexString,
-        "VisibleString" | "ISO646String" => Builtin::VisibleString,
-        _ => return None,
-    })
+    for (name, builtin) in BUILTINS {
+        if name == word {
+            return Some(builtin);
+        }
+    }
+    None
 }

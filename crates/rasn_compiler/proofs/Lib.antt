@@ -1,0 +1,2 @@
+pub mod TypeNames
+pub mod Texts

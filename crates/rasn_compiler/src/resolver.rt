@@ -1,0 +1,67 @@
+//! Schemas of types (X.680 to X.683): what a type of a module is once its references, tags and constraints are followed.
+//!
+//! Types are resolved one after another from a list. Each names the types that it is made of, which are added to the list
+//! unless they are there, so that types that reach themselves end.
+
+ghost use Rattle.std.specs.Prelude.{◌≡◌, ◌<◌, length, IfOk, Some};
+ghost use Rattle.rasn_schema.specs.Named.{IsNamed};
+
+mod bounds;
+mod build;
+mod components;
+mod default;
+mod digits;
+mod emit;
+mod enumerated;
+mod leaf;
+mod lookup;
+mod node;
+mod number;
+mod order;
+mod schema_fault;
+mod shape;
+mod unfold;
+
+use crate::fault::Stop;
+use crate::modules::Modules;
+use emit::emit;
+use node::Use;
+use rasn_schema::{Schema, TypeId};
+use shape::Resolver;
+use std::alloc::Global;
+
+/// A type that was resolved.
+#[derive(Drop)]
+pub struct Resolved {
+    /// The type and the types that it is made of, with the names of those that have one.
+    pub schema: Schema,
+    /// The number of the type.
+    pub root: TypeId,
+    /// The number of constraints that the schema doesn't check.
+    pub unchecked: usize,
+}
+
+impl<'text> Modules<'text> {
+    /// Returns a schema of a type of a module (X.680 16.2), in which the type has its name.
+    ///
+    /// # Errors
+    /// Returns the first fault that is found in what the type is made of, or that memory ran out.
+    pub fn schema(
+        &self,
+        alloc: Global,
+        module: &'text str,
+        name: &'text str,
+    ) -> Result<Resolved, Stop<'text>>
+        ensures root { IfOk result (λ r. r.root.0 < length r.schema.types.items) }
+        ensures named { IfOk result (λ r. (names : _) × (r.schema.names ≡ Some names) × IsNamed names.items name.now r.root) }
+    {
+        let (at, index) = self.type_named(module, name)?;
+        let resolver = Resolver {
+            alloc,
+            modules: self,
+        };
+        let mut unchecked = 0;
+        let nodes = resolver.nodes(Use::of(at, index), name, &mut unchecked)?;
+        emit(alloc, self, nodes, name, unchecked)
+    }
+}

@@ -1,0 +1,273 @@
+//! Constraints that a schema checks: a single range of values or of sizes (X.680 51.4, 51.5).
+use crate::fault::Stop;
+use crate::lexer::tokens;
+use crate::modules::Source;
+use crate::parser::Parser;
+use crate::position::Position;
+use crate::resolver::node::Unfolded;
+use crate::resolver::shape::Resolver;
+use crate::tree::{NamedNumber, Unread, Value};
+use rasn_types::types::{Bound, Bounded, Constraints};
+
+/// A range, open at an end that is None.
+#[derive(Clone, Copy)]
+struct Range {
+    low: Option<i128>,
+    high: Option<i128>,
+    is_extensible: bool,
+}
+
+impl Range {
+    /// Returns what is in this range and in one that was known before. An extensible one checks nothing.
+    fn within(self, known: Option<Range>) -> Range {
+        match known {
+            Some(known) if self.is_extensible => known,
+            Some(known) if !known.is_extensible => Range {
+                low: greater(self.low, known.low),
+                high: lesser(self.high, known.high),
+                is_extensible: false,
+            },
+            _ => self,
+        }
+    }
+
+    /// Returns the range if nothing follows it but the parenthesis that closes SIZE, or the marker.
+    fn ended(self, parser: &mut Parser<'_, '_>, is_size: bool) -> Option<Range> {
+        let is_marked = eat_marker(parser);
+        if is_size && !parser.eat(")") && !is_marked {
+            return None;
+        }
+        let is_extensible = is_marked || (is_size && eat_marker(parser));
+        if !parser.rest.is_empty() && !is_extensible {
+            return None;
+        }
+        Some(Range {
+            low: self.low,
+            high: self.high,
+            is_extensible,
+        })
+    }
+}
+
+/// Takes the marker that a comma precedes, and returns whether it was there.
+fn eat_marker(parser: &mut Parser<'_, '_>) -> bool {
+    parser.eat(",") && parser.eat("...")
+}
+
+impl<'modules, 'text> Resolver<'modules, 'text> {
+    /// Returns the bounds of an INTEGER's values.
+    pub(crate) fn value_bounds(
+        self,
+        unfolded: &Unfolded<'text>,
+        names: &[NamedNumber<'text>],
+        unchecked: &mut usize,
+    ) -> Result<Constraints, Stop<'text>> {
+        let mut range = None;
+        for (module, constraint) in unfolded.constraints.iter().rev() {
+            match self.constraint(*module, *constraint, names, unfolded.module, false)? {
+                Some(found) => range = Some(found.within(range)),
+                None => *unchecked = unchecked.saturating_add(1),
+            }
+        }
+        Ok(Constraints {
+            value: value_bound(range),
+            size: None,
+        })
+    }
+
+    /// Returns the bounds of sizes. One of them is before OF.
+    pub(crate) fn size_bounds(
+        self,
+        unfolded: &Unfolded<'text>,
+        before_of: Option<Unread<'text>>,
+        unchecked: &mut usize,
+    ) -> Result<Constraints, Stop<'text>> {
+        let mut range = None;
+        if let Some(constraint) = before_of {
+            range = self.size_within(unfolded.module, constraint, range, unchecked)?;
+        }
+        for (module, constraint) in unfolded.constraints.iter().rev() {
+            range = self.size_within(*module, *constraint, range, unchecked)?;
+        }
+        Ok(Constraints {
+            value: None,
+            size: size_bound(range),
+        })
+    }
+
+    /// Returns what a constraint leaves of sizes.
+    fn size_within(
+        self,
+        module: usize,
+        constraint: Unread<'text>,
+        known: Option<Range>,
+        unchecked: &mut usize,
+    ) -> Result<Option<Range>, Stop<'text>> {
+        match self.constraint(module, constraint, &[], module, true)? {
+            Some(found) => Ok(Some(found.within(known))),
+            None => {
+                *unchecked = unchecked.saturating_add(1);
+                Ok(known)
+            }
+        }
+    }
+
+    /// Returns the range of a constraint, if it is a single one.
+    fn constraint(
+        self,
+        module: usize,
+        constraint: Unread<'text>,
+        names: &[NamedNumber<'text>],
+        home: usize,
+        is_size: bool,
+    ) -> Result<Option<Range>, Stop<'text>> {
+        let items = tokens(self.alloc, constraint.text, constraint.position)?;
+        let mut parser = Parser {
+            alloc: self.alloc,
+            source: Source {
+                name: "",
+                text: constraint.text,
+            },
+            rest: items.as_slice(),
+            end: constraint.position,
+            types: Vec::new(self.alloc),
+        };
+        if is_size && !(parser.eat("SIZE") && parser.eat("(")) {
+            return Ok(None);
+        }
+        match self.range(&mut parser, module, names, home)? {
+            Some(range) => Ok(range.ended(&mut parser, is_size)),
+            None => Ok(None),
+        }
+    }
+
+    /// Reads a value or a range of values (X.680 51.2, 51.4).
+    fn range(
+        self,
+        parser: &mut Parser<'_, 'text>,
+        module: usize,
+        names: &[NamedNumber<'text>],
+        home: usize,
+    ) -> Result<Option<Range>, Stop<'text>> {
+        let position = parser.position();
+        let Some(low) = read_end(parser, "MIN") else {
+            return Ok(None);
+        };
+        let low = self.bound(module, low, names, home, position)?;
+        if !parser.eat("..") {
+            return Ok(single(low));
+        }
+        let Some(high) = read_end(parser, "MAX") else {
+            return Ok(None);
+        };
+        let high = self.bound(module, high, names, home, position)?;
+        Ok(Some(Range {
+            low,
+            high,
+            is_extensible: false,
+        }))
+    }
+
+    /// Returns the number at an end of a range.
+    fn bound(
+        self,
+        module: usize,
+        end: End<'text>,
+        names: &[NamedNumber<'text>],
+        home: usize,
+        position: Position,
+    ) -> Result<Option<i128>, Stop<'text>> {
+        match end {
+            End::Open => Ok(None),
+            End::At(value) => {
+                let number = self.modules.number(module, value, names, home, position)?;
+                Ok(Some(number))
+            }
+        }
+    }
+}
+
+/// An end of a range.
+#[derive(Clone, Copy)]
+enum End<'text> {
+    Open,
+    At(Value<'text>),
+}
+
+/// Reads an end of a range, if it is a number, a name or this word.
+fn read_end<'text>(parser: &mut Parser<'_, 'text>, open: &str) -> Option<End<'text>> {
+    if parser.eat(open) {
+        return Some(End::Open);
+    }
+    match parser.value() {
+        Ok(
+            Value::Number {
+                is_negative,
+                digits,
+            },
+        ) => Some(End::At(Value::Number {
+            is_negative,
+            digits,
+        })),
+        Ok(Value::Name { module, name }) => Some(End::At(Value::Name { module, name })),
+        _ => None,
+    }
+}
+
+fn greater(one: Option<i128>, other: Option<i128>) -> Option<i128> {
+    match (one, other) {
+        (Some(one), Some(other)) => Some(one.max(other)),
+        (None, end) | (end, None) => end,
+    }
+}
+
+fn lesser(one: Option<i128>, other: Option<i128>) -> Option<i128> {
+    match (one, other) {
+        (Some(one), Some(other)) => Some(one.min(other)),
+        (None, end) | (end, None) => end,
+    }
+}
+
+/// Returns bounds of values.
+fn value_bound(range: Option<Range>) -> Option<Bound<i128>> {
+    let range = range?;
+    Some(Bound {
+        constraint: Bounded::Range {
+            start: range.low,
+            end: range.high,
+        },
+        extensible: range.is_extensible,
+    })
+}
+
+/// Returns the range of a single number, which MIN isn't.
+fn single(only: Option<i128>) -> Option<Range> {
+    if only.is_none() {
+        return None;
+    }
+    Some(Range {
+        low: only,
+        high: only,
+        is_extensible: false,
+    })
+}
+
+/// Returns bounds of sizes.
+fn size_bound(range: Option<Range>) -> Option<Bound<usize>> {
+    let range = range?;
+    Some(Bound {
+        constraint: Bounded::Range {
+            start: size(range.low),
+            end: size(range.high),
+        },
+        extensible: range.is_extensible,
+    })
+}
+
+/// Returns an end of a range of sizes, which are whole numbers from 0 to 18446744073709551615.
+fn size(end: Option<i128>) -> Option<usize> {
+    match usize::try_from(end?.max(0)) {
+        Ok(size) => Some(size),
+        Err(_) => Some(usize::MAX),
+    }
+}

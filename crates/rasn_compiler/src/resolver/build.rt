@@ -1,0 +1,126 @@
+//! The list of types that are being resolved.
+use crate::fault::{Problem, Stop};
+use crate::position::Position;
+use crate::resolver::node::{Asked, Node, Shape, Use};
+use crate::resolver::shape::Resolver;
+use std::alloc::AllocError;
+use std::collections::BTreeMap;
+
+/// How many types a type may be made of.
+const MAX_TYPES: usize = 100_000;
+
+/// How many components and alternatives these may have in all.
+const MAX_PARTS: usize = 1_000_000;
+
+/// Types that were asked for, in the order of their nodes, and the nodes of the first of them.
+#[derive(Drop)]
+struct Requests<'text> {
+    asked: Vec<Asked<'text>>,
+    /// The numbers of these types' nodes.
+    numbers: BTreeMap<Use, usize>,
+    nodes: Vec<Node<'text>>,
+    /// How many components and alternatives the nodes have.
+    parts: usize,
+}
+
+impl<'text> Requests<'text> {
+    /// Returns the node of a type, which is added if it isn't there.
+    fn node_of(&mut self, asked: Asked<'text>) -> Result<usize, AllocError> {
+        if let Some(node) = self.numbers.get(&asked.of) {
+            return Ok(*node);
+        }
+        let node = self.asked.len();
+        self.numbers.insert(asked.of, node)?;
+        self.asked.push(asked)?;
+        Ok(node)
+    }
+}
+
+impl<'modules, 'text> Resolver<'modules, 'text> {
+    /// Resolves a type and those that it is made of. The first node is that of the type.
+    pub(crate) fn nodes(
+        self,
+        of: Use,
+        name: &'text str,
+        unchecked: &mut usize,
+    ) -> Result<Vec<Node<'text>>, Stop<'text>> {
+        let mut requests = Requests {
+            asked: Vec::new(self.alloc),
+            numbers: BTreeMap::new(self.alloc),
+            nodes: Vec::new(self.alloc),
+            parts: 0,
+        };
+        self.request(&mut requests, of, name)?;
+        for next in 0..MAX_TYPES {
+            let Some(asked) = requests.asked.get(next).copied() else {
+                let Requests { nodes, .. } = requests;
+                return Ok(nodes);
+            };
+            self.resolve(&mut requests, asked, unchecked)?;
+            if requests.parts > MAX_PARTS {
+                break;
+            }
+        }
+        Err(
+            self.modules
+                .fault(of.module, Position::START, Problem::TooLarge),
+        )
+    }
+
+    /// Resolves a type that was asked for.
+    fn resolve(
+        self,
+        requests: &mut Requests<'text>,
+        asked: Asked<'text>,
+        unchecked: &mut usize,
+    ) -> Result<(), Stop<'text>> {
+        let position = self
+            .modules
+            .type_at(asked.of.module, asked.of.index)?
+            .position;
+        let shape = self.shape(asked, unchecked)?;
+        requests.parts = requests.parts.saturating_add(shape.parts.len());
+        let node = self.node(requests, asked, position, shape)?;
+        requests.nodes.push(node)?;
+        Ok(())
+    }
+
+    /// Returns the node of a type that is used so.
+    fn request(
+        self,
+        requests: &mut Requests<'text>,
+        of: Use,
+        name: &'text str,
+    ) -> Result<usize, Stop<'text>> {
+        let asked = self.modules.asked(self.alloc, of, name)?;
+        Ok(requests.node_of(asked)?)
+    }
+
+    /// Returns a node, and asks for the types that it is made of.
+    fn node(
+        self,
+        requests: &mut Requests<'text>,
+        asked: Asked<'text>,
+        position: Position,
+        shape: Shape<'text>,
+    ) -> Result<Node<'text>, Stop<'text>> {
+        let mut shape = shape;
+        for part in shape.parts.iter_mut() {
+            part.node = self.request(requests, part.of, part.name)?;
+        }
+        let inner = match shape.inner {
+            Some(of) => self.request(requests, of, asked.name)?,
+            None => 0,
+        };
+        let Shape { ty, parts, .. } = shape;
+        Ok(Node {
+            ty,
+            parts,
+            inner,
+            name: asked.name,
+            is_named: asked.is_named,
+            module: asked.of.module,
+            position,
+        })
+    }
+}

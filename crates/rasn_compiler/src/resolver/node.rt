@@ -1,0 +1,112 @@
+//! Types that are being resolved.
+use crate::position::Position;
+use crate::tree::Unread;
+use rasn_schema::{Presence, Type};
+use rasn_types::types::Tag;
+use std::alloc::Global;
+
+/// A type as it is used: a type of a module within an automatic tag (X.680 25.7), without so many of its explicit tags.
+#[derive(Clone, Copy, PartialEq, Eq, PartialOrd, Ord)]
+pub(crate) struct Use {
+    pub(crate) module: usize,
+    pub(crate) index: usize,
+    pub(crate) automatic: Option<u32>,
+    pub(crate) peeled: usize,
+}
+
+impl Use {
+    /// Returns the use of a type as it is written.
+    pub(crate) fn of(module: usize, index: usize) -> Use {
+        Use {
+            module,
+            index,
+            automatic: None,
+            peeled: 0,
+        }
+    }
+}
+
+/// The tags of a type that are known so far, the outermost first.
+#[derive(Drop)]
+pub(crate) struct Tags {
+    /// Tags of their own.
+    pub(crate) explicit: Vec<Tag>,
+    /// The tag that replaces the next one (X.680 31.2.7).
+    pub(crate) implicit: Option<Tag>,
+}
+
+/// A type whose references were followed.
+#[derive(Drop)]
+pub(crate) struct Unfolded<'text> {
+    /// The last use on the way that means the same.
+    pub(crate) same: Use,
+    /// The name of that type, if it is an assignment's.
+    pub(crate) same_name: Option<&'text str>,
+    /// The name of the last reference on the way.
+    pub(crate) name: Option<&'text str>,
+    /// The tags on the way from there.
+    pub(crate) tags: Tags,
+    /// The constraints on the way, each with its module, the outermost first.
+    pub(crate) constraints: Vec<(usize, Unread<'text>)>,
+    /// The module of the type at the end, which is no reference.
+    pub(crate) module: usize,
+    /// The index of that type.
+    pub(crate) index: usize,
+}
+
+/// A component or an alternative.
+#[derive(Drop)]
+pub(crate) struct Part<'text> {
+    pub(crate) name: &'text str,
+    pub(crate) position: Position,
+    pub(crate) of: Use,
+    /// The index of its type's node.
+    pub(crate) node: usize,
+    pub(crate) presence: Presence,
+    /// The least tag that it begins with.
+    pub(crate) first: Tag,
+}
+
+/// A type whose references were followed, without the numbers of other types.
+#[derive(Drop)]
+pub(crate) struct Shape<'text> {
+    /// The type, without its components or alternatives.
+    pub(crate) ty: Type,
+    /// Its components or alternatives.
+    pub(crate) parts: Vec<Part<'text>>,
+    /// The type within its explicit tag, or of its elements.
+    pub(crate) inner: Option<Use>,
+}
+
+impl<'text> Shape<'text> {
+    /// Returns the shape of a type that is made of no others.
+    pub(crate) fn alone(alloc: Global, ty: Type) -> Shape<'text> {
+        Shape {
+            ty,
+            parts: Vec::new(alloc),
+            inner: None,
+        }
+    }
+}
+
+/// A type that was resolved, which has the numbers of nodes in place of those of types.
+#[derive(Drop)]
+pub(crate) struct Node<'text> {
+    pub(crate) ty: Type,
+    pub(crate) parts: Vec<Part<'text>>,
+    /// The node of the type within its explicit tag, or of its elements.
+    pub(crate) inner: usize,
+    pub(crate) name: &'text str,
+    /// Whether the name is the type's own, and not that of a component.
+    pub(crate) is_named: bool,
+    pub(crate) module: usize,
+    pub(crate) position: Position,
+}
+
+/// A type that was asked for, and what it is called in errors.
+#[derive(Clone, Copy)]
+pub(crate) struct Asked<'text> {
+    pub(crate) of: Use,
+    pub(crate) name: &'text str,
+    pub(crate) is_named: bool,
+}

@@ -1,0 +1,179 @@
+//! Types of a schema as text.
+use rasn_compiler::Resolved;
+use rasn_schema::{Alternative, Component, NamedNumber, Presence, Schema, Type, TypeId};
+use rasn_types::types::{Bounded, Class, Constraints, Tag};
+use std::alloc::{AllocError, Global};
+
+/// How deep types are shown in one another. Deeper ones are `..`.
+const MAX_LEVELS: usize = 4;
+
+/// Returns a type as text, and the number of constraints that aren't checked.
+pub(crate) fn shown(alloc: Global, resolved: &Resolved) -> Result<String, AllocError> {
+    let mut text = String::new(alloc);
+    show(&mut text, &resolved.schema, resolved.root, MAX_LEVELS)?;
+    if resolved.unchecked > 0 {
+        let unchecked = resolved.unchecked;
+        write!(text, " ({unchecked} unchecked)")?;
+    }
+    Ok(text)
+}
+
+/// Adds a type, with those that it is made of so many levels deep.
+#[cycle(show)]
+fn show(text: &mut String, schema: &Schema, id: TypeId, levels: usize) -> Result<(), AllocError> {
+    if levels == 0 {
+        return text.push_str("..");
+    }
+    let Some(ty) = schema.types().get(id.0) else {
+        return text.push('?');
+    };
+    push_head(text, ty)?;
+    match ty {
+        Type::Choice { alternatives, .. } => {
+            show_alternatives(text, schema, alternatives, levels - 1)
+        }
+        Type::Sequence { components, .. } | Type::Set { components, .. } => {
+            show_components(text, schema, components, levels - 1)
+        }
+        Type::Tagged { inner, .. } => {
+            text.push(' ')?;
+            show(text, schema, *inner, levels - 1)
+        }
+        Type::SequenceOf { element, .. } | Type::SetOf { element, .. } => {
+            text.push_str(" OF ")?;
+            show(text, schema, *element, levels - 1)
+        }
+        _ => Ok(()),
+    }
+}
+
+/// Adds alternatives.
+#[cycle(show)]
+fn show_alternatives(
+    text: &mut String,
+    schema: &Schema,
+    alternatives: &[Alternative],
+    levels: usize,
+) -> Result<(), AllocError> {
+    text.push_str(" {")?;
+    for alternative in alternatives {
+        write!(text, " {}: ", alternative.name.as_str())?;
+        show(text, schema, alternative.type_id, levels)?;
+    }
+    text.push_str(" }")
+}
+
+/// Adds components.
+#[cycle(show)]
+fn show_components(
+    text: &mut String,
+    schema: &Schema,
+    components: &[Component],
+    levels: usize,
+) -> Result<(), AllocError> {
+    text.push_str(" {")?;
+    for component in components {
+        write!(text, " {}: ", component.name.as_str())?;
+        show(text, schema, component.type_id, levels)?;
+        push_presence(text, schema, component)?;
+    }
+    text.push_str(" }")
+}
+
+/// Adds whether a component may be absent, and the value that it has then.
+fn push_presence(
+    text: &mut String,
+    schema: &Schema,
+    component: &Component,
+) -> Result<(), AllocError> {
+    match &component.presence {
+        Presence::Required => Ok(()),
+        Presence::Optional => text.push_str(" OPTIONAL"),
+        Presence::Addition => text.push_str(" ADDITION"),
+        Presence::Default(value) => {
+            let view = schema.view(component.type_id, value);
+            write!(text, " DEFAULT {view}")
+        }
+    }
+}
+
+/// Adds the name of a type, its tag and its bounds, and the names of its numbers.
+fn push_head(text: &mut String, ty: &Type) -> Result<(), AllocError> {
+    match ty {
+        Type::Choice { .. } => text.push_str("CHOICE"),
+        Type::Sequence { tag, .. } => push_tagged(text, "SEQUENCE", *tag),
+        Type::Set { tag, .. } => push_tagged(text, "SET", *tag),
+        Type::Tagged { tag, .. } => push_tagged(text, "explicit", *tag),
+        Type::SequenceOf {
+            tag,
+            constraints,
+            ..
+        } => {
+            push_tagged(text, "SEQUENCE", *tag)?;
+            push_constraints(text, constraints)
+        }
+        Type::SetOf {
+            tag,
+            constraints,
+            ..
+        } => {
+            push_tagged(text, "SET", *tag)?;
+            push_constraints(text, constraints)
+        }
+        Type::Leaf {
+            kind,
+            tag,
+            constraints,
+            names,
+        } => {
+            write!(text, "{kind:?}")?;
+            push_tag(text, *tag)?;
+            push_constraints(text, constraints)?;
+            push_numbers(text, names)
+        }
+        Type::Enumerated { tag, numbers } => {
+            push_tagged(text, "ENUMERATED", *tag)?;
+            push_numbers(text, numbers)
+        }
+        Type::Any { tag } if *tag == Tag::EOC => text.push_str("ANY"),
+        Type::Any { tag } => push_tagged(text, "ANY", *tag),
+    }
+}
+
+fn push_tagged(text: &mut String, word: &str, tag: Tag) -> Result<(), AllocError> {
+    text.push_str(word)?;
+    push_tag(text, tag)
+}
+
+fn push_tag(text: &mut String, tag: Tag) -> Result<(), AllocError> {
+    let class = match tag.class {
+        Class::Universal => 'u',
+        Class::Application => 'a',
+        Class::Context => 'c',
+        Class::Private => 'p',
+    };
+    let value = tag.value;
+    write!(text, " {class}{value}")
+}
+
+fn push_numbers(text: &mut String, numbers: &[NamedNumber]) -> Result<(), AllocError> {
+    for named in numbers {
+        let number = named.number;
+        write!(text, " {}({number})", named.name.as_str())?;
+    }
+    Ok(())
+}
+
+fn push_constraints(text: &mut String, constraints: &Constraints) -> Result<(), AllocError> {
+    if let Some(bound) = constraints.value {
+        let bounds: Bounded<i128> = bound.constraint;
+        let marker = if bound.extensible { ", ..." } else { "" };
+        write!(text, " ({bounds}{marker})")?;
+    }
+    if let Some(bound) = constraints.size {
+        let bounds: Bounded<usize> = bound.constraint;
+        let marker = if bound.extensible { ", ..." } else { "" };
+        write!(text, " SIZE ({bounds}{marker})")?;
+    }
+    Ok(())
+}
