@@ -18,3 +18,4 @@ pub mod Numbers
 pub mod ListsOf
 pub mod UnfitParts
 pub mod LeafWritten
+pub mod Faults

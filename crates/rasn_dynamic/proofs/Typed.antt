@@ -9,7 +9,7 @@ use Rattle.rasn_types.specs.Grammar.{Reads}
 use Rattle.rasn_types.specs.Trees.{list_tree}
 use Rattle.rasn_types.specs.Shapes.{Tree, set_elements, Shape, list, set_of, Parts, Admits, constraint_of}
 use Rattle.rasn_de.specs.declared.ber.de.parser.ParseError.TheVariants.{SizeConstraintNotSatisfied}
-use Rattle.rasn_de.specs.State.{State, IsEnd, Call}
+use Rattle.rasn_de.specs.State.{State, at, IsEnd, Call}
 use Rattle.rasn_de.specs.Steps.{IsErrorOf}
 use Rattle.rasn_de.specs.Outcomes.{Got}
 use Rattle.rasn_de.specs.Decodes.{Decodes, DecodesBy, DecodesExactly}
@@ -20,7 +20,7 @@ use Rattle.rasn_de.proofs.Leaves.Outcomes.{alloc_failed}
 use Rattle.rasn_de.proofs.Constructed.Opening.{kept}
 use Rattle.rasn_de.specs.SetPartTypes.{DecodesSetPartContents}
 use Rattle.rasn_de.proofs.Constructed.Steps.{rules_same, inside_by}
-use Rattle.rasn_de.proofs.Constructed.SetOfElements.{each_leaves, in_order_leaves}
+use Rattle.rasn_de.proofs.Constructed.SetOfElements.{each_decodes, in_order_decodes, each_leaves, in_order_leaves}
 use Rattle.rasn_de.proofs.Constructed.SequenceOf.{sequence_of_decodes, set_of_decodes}
 use Rattle.rasn_schema.specs.declared.types.«Type».{«Type»}
 use Rattle.rasn_schema.specs.declared.types.«Type».TheVariants.{Leaf, Enumerated, Any, Tagged, Choice, Sequence, Set, SequenceOf, SetOf}
@@ -184,6 +184,18 @@ module _ (f : ℕ → Shape) where
   contents_end (Set name tag ps) o v n h = (set_contents name tag ps o (Ok v) n h).end
   contents_end (SequenceOf tag k c) o v n (vs, e, h) = each_leaves (f k.0) tree_of values_in o (Ok vs) n h
   contents_end (SetOf tag k c) o v n (vs, e, h) = in_order_leaves (f k.0) tree_of values_in o (Ok vs) n h
+
+  -- Only what is left of the contents changes.
+  pub contents_stay : (ty : «Type») (o : State) (e : DecodeError) (n : State) → DecodesContents f ty o (Err e) n → n ≡ at o n.rest
+  contents_stay (Leaf kind tag c names) o e n h = absurd h
+  contents_stay (Enumerated tag ns) o e n h = absurd h
+  contents_stay (Any tag) o e n h = absurd h
+  contents_stay (Tagged tag k) o e n h = h.stays
+  contents_stay (Choice name ks) o e n h = absurd h
+  contents_stay (Sequence tag ps) o e n h = (sequence_contents tag ps o (Err e) n h).stays
+  contents_stay (Set name tag ps) o e n h = (set_contents name tag ps o (Err e) n h).stays
+  contents_stay (SequenceOf tag k c) o e n h = (each_decodes (f k.0) tree_of values_in o (Err e) n h).stays
+  contents_stay (SetOf tag k c) o e n h = (in_order_decodes (f k.0) tree_of values_in o (Err e) n h).stays
 
   module _ (old : State) (o : old.depth ≢ 0 → AreOctets old.rest) (r : Result Value DecodeError) (new : State) where
     prefixed : (tag : Tag) (k : TypeId) → DecodesType f (Tagged tag k) old r new → Decodes (type_by f (Tagged tag k)) tree_of old r new

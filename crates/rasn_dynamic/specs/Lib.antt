@@ -5,4 +5,5 @@ pub mod Written
 pub mod Entry
 pub mod Fitting
 pub mod Found
+pub mod Faults
 pub mod Paths

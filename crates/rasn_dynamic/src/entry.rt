@@ -41,7 +41,7 @@ pub fn decode_with_remainder<'input>(
     ensures rules { IfErr result (λ e. e.codec ≡ rule) }
 {
     let mut decoder = Decoder::new(alloc, input, DecoderOptions::of(rule));
-    let value = decode_at(&mut decoder, schema.types(), usize::MAX, id)?;
+    let value = decode_at(&mut decoder, &mut None, schema.types(), usize::MAX, id)?;
     Ok((value, decoder.remaining()))
 }
 

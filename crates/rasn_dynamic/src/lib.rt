@@ -7,11 +7,14 @@ mod components;
 mod entry;
 mod fit;
 mod fitting;
+mod locate;
 mod order;
 mod path;
 mod read_leaf;
 mod reader;
+mod refusal;
 mod set;
+mod trace;
 mod unfit;
 mod write_leaf;
 mod writer;
@@ -20,5 +23,7 @@ pub use entry::{
     WriteError, decode, decode_with_remainder, encode, encode_buf, is_canonical, normalise,
 };
 pub use fitting::fits;
+pub use locate::decode_or_locate;
 pub use path::ValuePath;
 pub use rasn::NormaliseError;
+pub use refusal::{NamedRefusal, Refusal};

@@ -1,5 +1,5 @@
 //! Reads a value of a type.
-ghost use Rattle.std.specs.Prelude.{◌≡◌, ◌≢◌, ◌⊎◌, slice_get, None, IfOk, IfErr};
+ghost use Rattle.std.specs.Prelude.{◌≡◌, ◌≢◌, ◌⊎◌, slice_get, None, Err, IfOk, IfErr};
 ghost use Rattle.std.specs.String.{string_bytes};
 ghost use Rattle.rasn_types.specs.Framing.{AreOctets};
 ghost use Rattle.rasn_types.specs.Errors.{IsOutOfMemory};
@@ -20,11 +20,14 @@ ghost use Rattle.rasn_dynamic.specs.Typed.{element_count, IsSized, HoldsOthers, 
 ghost use Rattle.rasn_dynamic.specs.Calls.{held, nones, names_of, IsKept, DecodesPresent, IsNoAlternative};
 ghost use Rattle.rasn_dynamic.specs.Fitting.{Fits, FitsBy, IsChosen, AlternativeFits, ComponentFits, ComponentsFit, EachFits};
 ghost use Rattle.rasn_dynamic.specs.Found.{FoundFit};
+ghost use Rattle.rasn_dynamic.specs.Faults.{IsFault, IsFaultIn, IsFaultOf, IsFaultInside, IsOnly, IsAlternativeAt, IsElementAt, IsComponentAt, IsMember, IsMemberAt, IsPart, Told, TellsOf, FailsAt, FailsItself, ReadsEachPart, StopsAtChoice, StopsInside, StopsInElements, StopsInOrder, StopsInSequence, StopsAtComponent, IsDefaultWritten, StopsInSet, StopsAtMember};
+ghost use Rattle.rasn_de.specs.Constructed.{list_header};
 
 use crate::components::{default_present, is_always_there, leaves_all_out, missing};
 use crate::order::{is_less, octets_before, out_of_order};
 use crate::read_leaf::{decode_any_value, decode_leaf, decode_number, out_of_memory, push};
 use crate::set::{component_for, gather, no_components, put};
+use crate::trace::{Fault, add_after, mark, octets_after, octets_left, step};
 use rasn_de::ber::de::{ConstructedHeader, Decoder};
 use rasn_de::de::Error;
 use rasn_schema::{
@@ -105,28 +108,85 @@ fn sized<'input>(
     })
 }
 
-/// Reads a value of the type with this number. Types are followed `levels` deep.
-///
-/// # Errors
-/// `UnexpectedEmptyInput` if no type has the number, which consumes nothing.
+/// Reads a value of the type with this number. Types are followed `levels` deep. If it can't be read, names the innermost value that
+/// can't.
 #[cycle(decode)]
+#[inline(always)]
 pub fn decode_at<'input>(
     decoder: &mut Decoder<'input>,
+    trace: &mut Option<Fault>,
     types: &[Type],
     levels: usize,
     id: TypeId,
 ) -> Result<Value<'input>, DecodeError>
-    requires { IsLawful (shape_of_type types.now levels id.0) }
+    requires lawful { IsLawful (shape_of_type types.now levels id.0) }
+    requires clear { trace.old ≡ None }
     ensures reads { Decodes (shape_of_type types.now levels id.0) tree_of decoder.old result decoder.new }
     ensures nothing { IfErr result (λ e. None ≡ slice_get types.now id.0 → IsErrorOf UnexpectedEmptyInput decoder.old e × (decoder.new ≡ decoder.old)) }
     ensures fits { IfOk result (λ v. Fits types.now levels id.0 v) }
     ensures rules { IfErr result (λ e. e.codec ≡ decoder.old.rule) }
+    ensures told { TellsOf (IsFault types.now levels id.0 decoder.old) result trace.new }
+{
+    let left = decoder.remaining().len();
+    match decode_found(decoder, trace, types, levels, id) {
+        Ok(value) => Ok(value),
+        Err(error) => {
+            mark(decoder.alloc(), trace, id, left);
+            Err(error)
+        }
+    }
+}
+
+/// Reads such a value as the part with this index of the value that holds it.
+#[cycle(decode)]
+#[inline(always)]
+fn decode_part<'input>(
+    decoder: &mut Decoder<'input>,
+    trace: &mut Option<Fault>,
+    types: &[Type],
+    levels: usize,
+    id: TypeId,
+    index: usize,
+) -> Result<Value<'input>, DecodeError>
+    requires lawful { IsLawful (shape_of_type types.now levels id.0) }
+    requires clear { trace.old ≡ None }
+    ensures reads { Decodes (shape_of_type types.now levels id.0) tree_of decoder.old result decoder.new }
+    ensures fits { IfOk result (λ v. Fits types.now levels id.0 v) }
+    ensures rules { IfErr result (λ e. e.codec ≡ decoder.old.rule) }
+    ensures told { TellsOf (IsFaultIn types.now levels (IsOnly index id.0 decoder.old) decoder.old decoder.old) result trace.new }
+{
+    match decode_at(decoder, trace, types, levels, id) {
+        Ok(value) => Ok(value),
+        Err(error) => {
+            step(trace, index);
+            Err(error)
+        }
+    }
+}
+
+/// Reads a value of the type with this number. Names what can't be read inside it.
+#[cycle(decode)]
+fn decode_found<'input>(
+    decoder: &mut Decoder<'input>,
+    trace: &mut Option<Fault>,
+    types: &[Type],
+    levels: usize,
+    id: TypeId,
+) -> Result<Value<'input>, DecodeError>
+    requires lawful { IsLawful (shape_of_type types.now levels id.0) }
+    requires clear { trace.old ≡ None }
+    ensures reads { Decodes (shape_of_type types.now levels id.0) tree_of decoder.old result decoder.new }
+    ensures nothing { IfErr result (λ e. None ≡ slice_get types.now id.0 → IsErrorOf UnexpectedEmptyInput decoder.old e × (decoder.new ≡ decoder.old)) }
+    ensures fits { IfOk result (λ v. Fits types.now levels id.0 v) }
+    ensures rules { IfErr result (λ e. e.codec ≡ decoder.old.rule) }
+    ensures told { Told (IsFault types.now levels id.0 decoder.old) result trace.new }
+    ensures itself { IfErr result (λ e. trace.new ≡ None → FailsAt types.now levels id.0 decoder.old e) }
 {
     if levels == 0 {
         return Err(no_value(decoder));
     }
     match type_at(types, id) {
-        Some(ty) => decode_type(decoder, types, levels - 1, ty),
+        Some(ty) => decode_type(decoder, trace, types, levels - 1, ty),
         None => Err(no_value(decoder)),
     }
 }
@@ -136,15 +196,19 @@ pub fn decode_at<'input>(
 #[inline(always)]
 fn decode_type<'input>(
     decoder: &mut Decoder<'input>,
+    trace: &mut Option<Fault>,
     types: &[Type],
     below: usize,
     ty: &Type,
 ) -> Result<Value<'input>, DecodeError>
-    requires { IsLawful (type_by (shape_of_type types.now below) ty.now) }
+    requires lawful { IsLawful (type_by (shape_of_type types.now below) ty.now) }
+    requires clear { trace.old ≡ None }
     ensures exact { DecodesType (shape_of_type types.now below) ty.now decoder.old result decoder.new }
     ensures reads { Decodes (type_by (shape_of_type types.now below) ty.now) tree_of decoder.old result decoder.new }
     ensures fits { IfOk result (λ v. FitsBy (Fits types.now below) ty.now v) }
     ensures rules { IfErr result (λ e. e.codec ≡ decoder.old.rule) }
+    ensures told { Told (IsFaultOf types.now below ty.now decoder.old) result trace.new }
+    ensures itself { IfErr result (λ e. trace.new ≡ None → FailsItself (shape_of_type types.now below) ty.now decoder.old e) }
 {
     match ty {
         Type::Leaf {
@@ -156,27 +220,48 @@ fn decode_type<'input>(
         Type::Enumerated { tag, numbers } => decode_number(decoder, *tag, numbers),
         Type::Any { tag } => decode_any_value(decoder, *tag),
         Type::Choice { name, alternatives } => {
-            decode_choice(decoder, types, below, name.as_str(), alternatives)
+            decode_choice(decoder, trace, types, below, name.as_str(), alternatives)
         }
         Type::Tagged { tag, .. } => {
-            decode_inside(decoder, types, below, ty, ConstructedHeader::prefix(*tag))
+            decode_inside(
+                decoder,
+                trace,
+                types,
+                below,
+                ty,
+                ConstructedHeader::prefix(*tag),
+            )
         }
         Type::Sequence { tag, .. } => {
-            decode_inside(decoder, types, below, ty, ConstructedHeader::sequence(*tag))
+            decode_inside(
+                decoder,
+                trace,
+                types,
+                below,
+                ty,
+                ConstructedHeader::sequence(*tag),
+            )
         }
         Type::Set { tag, .. } => {
-            decode_inside(decoder, types, below, ty, ConstructedHeader::sequence(*tag))
+            decode_inside(
+                decoder,
+                trace,
+                types,
+                below,
+                ty,
+                ConstructedHeader::sequence(*tag),
+            )
         }
         Type::SequenceOf {
             tag,
             constraints,
             ..
-        } => decode_list(decoder, types, below, ty, *tag, constraints),
+        } => decode_list(decoder, trace, types, below, ty, *tag, constraints),
         Type::SetOf {
             tag,
             constraints,
             ..
-        } => decode_list(decoder, types, below, ty, *tag, constraints),
+        } => decode_list(decoder, trace, types, below, ty, *tag, constraints),
     }
 }
 
@@ -187,22 +272,27 @@ fn decode_type<'input>(
 #[cycle(decode)]
 fn decode_choice<'input>(
     decoder: &mut Decoder<'input>,
+    trace: &mut Option<Fault>,
     types: &[Type],
     below: usize,
     name: &str,
     alternatives: &[Alternative],
 ) -> Result<Value<'input>, DecodeError>
     requires lawful { IsLawful (choice (alternatives_by (shape_of_type types.now below) alternatives.now)) }
+    requires clear { trace.old ≡ None }
     ensures reads { Decodes (choice (alternatives_by (shape_of_type types.now below) alternatives.now)) tree_of decoder.old result decoder.new }
     ensures fits { IfOk result (λ v. IsChosen (AlternativeFits (Fits types.now below) alternatives.now) v) }
     ensures unknown { IfErr result (λ e. IsNoAlternative (alternatives_by (shape_of_type types.now below) alternatives.now) name.now decoder.old e decoder.new) }
     ensures rules { IfErr result (λ e. e.codec ≡ decoder.old.rule) }
+    ensures told { Told (IsFaultIn types.now below (IsAlternativeAt alternatives.now decoder.old) decoder.old decoder.old) result trace.new }
+    ensures itself { IfErr result (λ e. trace.new ≡ None → StopsAtChoice (shape_of_type types.now below) alternatives.now decoder.old e) }
 {
     let tag = decoder.peek_tag()?;
     let Some(number) = alternative_for(types, below, alternatives, tag) else {
         return Err(DecodeError::no_valid_choice(decoder.alloc(), name, decoder.codec()));
     };
-    let value = decode_at(decoder, types, below, alternatives[number].type_id)?;
+    let id = alternatives[number].type_id;
+    let value = decode_part(decoder, trace, types, below, id, number)?;
     match Box::new(decoder.alloc(), value) {
         Ok(value) => Ok(Value::Chosen(number, value)),
         Err(_) => Err(out_of_memory(decoder)),
@@ -216,6 +306,7 @@ fn decode_choice<'input>(
 #[cycle(decode)]
 fn decode_list<'input>(
     decoder: &mut Decoder<'input>,
+    trace: &mut Option<Fault>,
     types: &[Type],
     below: usize,
     ty: &Type,
@@ -224,12 +315,22 @@ fn decode_list<'input>(
 ) -> Result<Value<'input>, DecodeError>
     requires lawful { IsLawful (type_by (shape_of_type types.now below) ty.now) }
     requires holds { HoldsOthers ty.now }
+    requires clear { trace.old ≡ None }
     ensures exact { DecodesSized (DecodesContents (shape_of_type types.now below) ty.now) element_count tag constraints.now decoder.old result decoder.new }
     ensures octets { decoder.old.depth ≢ 0 → AreOctets decoder.old.rest }
     ensures fits { IfOk result (λ v. FitsBy (Fits types.now below) ty.now v) }
     ensures rules { IfErr result (λ e. e.codec ≡ decoder.old.rule) }
+    ensures told { Told (IsFaultInside types.now below (list_header tag) ty.now decoder.old) result trace.new }
+    ensures itself { IfErr result (λ e. trace.new ≡ None → DecodesSized (ReadsEachPart (shape_of_type types.now below) ty.now) element_count tag constraints.now decoder.old (Err e) decoder.new) }
 {
-    let value = decode_inside(decoder, types, below, ty, ConstructedHeader::list(tag))?;
+    let value = decode_inside(
+        decoder,
+        trace,
+        types,
+        below,
+        ty,
+        ConstructedHeader::list(tag),
+    )?;
     sized(decoder, constraints, value)
 }
 
@@ -237,6 +338,7 @@ fn decode_list<'input>(
 #[cycle(decode)]
 fn decode_inside<'input>(
     decoder: &mut Decoder<'input>,
+    trace: &mut Option<Fault>,
     types: &[Type],
     below: usize,
     ty: &Type,
@@ -244,13 +346,24 @@ fn decode_inside<'input>(
 ) -> Result<Value<'input>, DecodeError>
     requires lawful { IsLawful (type_by (shape_of_type types.now below) ty.now) }
     requires holds { HoldsOthers ty.now }
+    requires clear { trace.old ≡ None }
     ensures exact { DecodesInside (DecodesContents (shape_of_type types.now below) ty.now) header decoder.old result decoder.new }
     ensures octets { decoder.old.depth ≢ 0 → AreOctets decoder.old.rest }
     ensures fits { IfOk result (λ v. FitsBy (Fits types.now below) ty.now v) }
     ensures rules { IfErr result (λ e. e.codec ≡ decoder.old.rule) }
+    ensures told { Told (IsFaultInside types.now below header ty.now decoder.old) result trace.new }
+    ensures itself { IfErr result (λ e. trace.new ≡ None → DecodesInside (ReadsEachPart (shape_of_type types.now below) ty.now) header decoder.old (Err e) decoder.new) }
 {
+    // The octets that are left have a number of this type, so the sum in `add_after` has too.
+    let _ = octets_left(decoder);
     let (mut inner, contents) = decoder.open(header)?;
-    let value = decode_contents(&mut inner, types, below, ty)?;
+    let value = match decode_contents(&mut inner, trace, types, below, ty) {
+        Ok(value) => value,
+        Err(error) => {
+            add_after(trace, octets_after(decoder, &inner));
+            return Err(error);
+        }
+    };
     decoder.close(contents, inner.remaining())?;
     Ok(value)
 }
@@ -259,28 +372,32 @@ fn decode_inside<'input>(
 #[cycle(decode)]
 fn decode_contents<'input>(
     decoder: &mut Decoder<'input>,
+    trace: &mut Option<Fault>,
     types: &[Type],
     below: usize,
     ty: &Type,
 ) -> Result<Value<'input>, DecodeError>
     requires lawful { IsLawful (type_by (shape_of_type types.now below) ty.now) }
     requires holds { HoldsOthers ty.now }
+    requires clear { trace.old ≡ None }
     ensures exact { DecodesContents (shape_of_type types.now below) ty.now decoder.old result decoder.new }
     ensures fits { IfOk result (λ v. FitsBy (Fits types.now below) ty.now v) }
     ensures rules { IfErr result (λ e. e.codec ≡ decoder.old.rule) }
+    ensures told { Told (IsFaultIn types.now below (IsPart (shape_of_type types.now below) ty.now decoder.old) decoder.old decoder.old) result trace.new }
+    ensures itself { IfErr result (λ e. trace.new ≡ None → StopsInside (shape_of_type types.now below) ty.now decoder.old e) }
 {
     match ty {
-        Type::Tagged { inner, .. } => decode_at(decoder, types, below, *inner),
+        Type::Tagged { inner, .. } => decode_part(decoder, trace, types, below, *inner, 0),
         Type::Sequence { components, .. } => {
-            let values = decode_sequence(decoder, types, below, components)?;
+            let values = decode_sequence(decoder, trace, types, below, components)?;
             Ok(Value::Items(values))
         }
         Type::SequenceOf { element, .. } => {
-            let values = decode_elements(decoder, types, below, *element)?;
+            let values = decode_elements(decoder, trace, types, below, *element)?;
             Ok(Value::Items(values))
         }
         Type::SetOf { element, .. } => {
-            let values = decode_elements_in_order(decoder, types, below, *element)?;
+            let values = decode_elements_in_order(decoder, trace, types, below, *element)?;
             Ok(Value::Elements(values))
         }
         Type::Set {
@@ -289,7 +406,15 @@ fn decode_contents<'input>(
             ..
         } => {
             let found = no_components(decoder, components)?;
-            let values = decode_set(decoder, types, below, name.as_str(), components, found)?;
+            let values = decode_set(
+                decoder,
+                trace,
+                types,
+                below,
+                name.as_str(),
+                components,
+                found,
+            )?;
             Ok(Value::Items(values))
         }
         _ => unreachable!(),
@@ -300,19 +425,23 @@ fn decode_contents<'input>(
 #[cycle(decode)]
 fn decode_elements<'input>(
     decoder: &mut Decoder<'input>,
+    trace: &mut Option<Fault>,
     types: &[Type],
     below: usize,
     element: TypeId,
 ) -> Result<Vec<Value<'input>>, DecodeError>
-    requires { IsLawful (shape_of_type types.now below element.0) }
+    requires lawful { IsLawful (shape_of_type types.now below element.0) }
+    requires clear { trace.old ≡ None }
     ensures reads { DecodesElements (Decodes (shape_of_type types.now below element.0) tree_of) (λ v. v.items) decoder.old result decoder.new }
     ensures fits { IfOk result (λ v. EachFits (Fits types.now below element.0) v.items) }
     ensures rules { IfErr result (λ e. e.codec ≡ decoder.old.rule) }
+    ensures told { Told (IsFaultIn types.now below (IsElementAt (shape_of_type types.now below) element.0 decoder.old) decoder.old decoder.old) result trace.new }
+    ensures itself { IfErr result (λ e. trace.new ≡ None → StopsInElements (shape_of_type types.now below) element.0 decoder.old e) }
 {
     let mut values = Vec::new(decoder.alloc());
     while !decoder.has_ended() {
         let left = decoder.remaining().len();
-        let value = decode_at(decoder, types, below, element)?;
+        let value = decode_part(decoder, trace, types, below, element, values.len())?;
         keep(decoder, left, value, &mut values)?;
     }
     Ok(values)
@@ -322,20 +451,24 @@ fn decode_elements<'input>(
 #[cycle(decode)]
 fn decode_elements_in_order<'input>(
     decoder: &mut Decoder<'input>,
+    trace: &mut Option<Fault>,
     types: &[Type],
     below: usize,
     element: TypeId,
 ) -> Result<Vec<Value<'input>>, DecodeError>
-    requires { IsLawful (shape_of_type types.now below element.0) }
+    requires lawful { IsLawful (shape_of_type types.now below element.0) }
+    requires clear { trace.old ≡ None }
     ensures reads { DecodesElementsInOrder (Decodes (shape_of_type types.now below element.0) tree_of) (λ v. v.items) decoder.old result decoder.new }
     ensures fits { IfOk result (λ v. EachFits (Fits types.now below element.0) v.items) }
     ensures rules { IfErr result (λ e. e.codec ≡ decoder.old.rule) }
+    ensures told { Told (IsFaultIn types.now below (IsElementAt (shape_of_type types.now below) element.0 decoder.old) decoder.old decoder.old) result trace.new }
+    ensures itself { IfErr result (λ e. trace.new ≡ None → StopsInOrder (shape_of_type types.now below) element.0 decoder.old e) }
 {
     let mut values = Vec::new(decoder.alloc());
     let mut last: &[u8] = &[];
     while !decoder.has_ended() {
         let start = decoder.remaining();
-        let value = decode_at(decoder, types, below, element)?;
+        let value = decode_part(decoder, trace, types, below, element, values.len())?;
         keep(decoder, start.len(), value, &mut values)?;
         let octets = octets_before(start, decoder.remaining());
         if decoder.is_strict() && is_less(octets, last) {
@@ -350,15 +483,19 @@ fn decode_elements_in_order<'input>(
 #[cycle(decode)]
 fn decode_sequence<'input>(
     decoder: &mut Decoder<'input>,
+    trace: &mut Option<Fault>,
     types: &[Type],
     below: usize,
     components: &[Component],
 ) -> Result<Vec<Value<'input>>, DecodeError>
-    requires { AreLawful (components_by (shape_of_type types.now below) components.now) }
+    requires lawful { AreLawful (components_by (shape_of_type types.now below) components.now) }
+    requires clear { trace.old ≡ None }
     ensures reads { DecodesBy (ReadsSequence (components_by (shape_of_type types.now below) components.now)) (λ v. list_tree tree_of v.items) decoder.old result decoder.new }
     ensures fails { IfErr result (λ e. FailsAtPart (components_by (shape_of_type types.now below) components.now) decoder.old e decoder.new ⊎ IsOutOfMemory e.kind) }
     ensures fits { IfOk result (λ v. ComponentsFit (Fits types.now below) components.now v.items) }
     ensures rules { IfErr result (λ e. e.codec ≡ decoder.old.rule) }
+    ensures told { Told (IsFaultIn types.now below (IsComponentAt (shape_of_type types.now below) components.now decoder.old) decoder.old decoder.old) result trace.new }
+    ensures itself { IfErr result (λ e. trace.new ≡ None → StopsInSequence (shape_of_type types.now below) components.now decoder.old e) }
 {
     if leaves_all_out(decoder, components) {
         let found = no_components(decoder, components)?;
@@ -369,7 +506,7 @@ fn decode_sequence<'input>(
     };
     let mut rest = components;
     while let [component, after @ ..] = rest {
-        let value = decode_component(decoder, types, below, component)?;
+        let value = decode_component(decoder, trace, types, below, component, values.len())?;
         push(decoder, &mut values, value)?;
         rest = after;
     }
@@ -380,21 +517,26 @@ fn decode_sequence<'input>(
 #[cycle(decode)]
 fn decode_component<'input>(
     decoder: &mut Decoder<'input>,
+    trace: &mut Option<Fault>,
     types: &[Type],
     below: usize,
     component: &Component,
+    index: usize,
 ) -> Result<Value<'input>, DecodeError>
-    requires { IsLawful (shape_of_type types.now below component.now.type_id.0) }
+    requires lawful { IsLawful (shape_of_type types.now below component.now.type_id.0) }
+    requires clear { trace.old ≡ None }
     ensures reads { DecodesBy (ReadsComponent (presence_of component.now.presence) (shape_of_type types.now below component.now.type_id.0)) tree_of decoder.old result decoder.new }
     ensures fails { IfErr result (λ e. FailsAtOnePart (presence_of component.now.presence) (shape_of_type types.now below component.now.type_id.0) decoder.old e decoder.new) }
     ensures fits { IfOk result (λ v. ComponentFits (Fits types.now below) component.now v) }
     ensures rules { IfErr result (λ e. e.codec ≡ decoder.old.rule) }
+    ensures told { Told (IsFaultIn types.now below (IsOnly index component.now.type_id.0 decoder.old) decoder.old decoder.old) result trace.new }
+    ensures itself { IfErr result (λ e. trace.new ≡ None → StopsAtComponent (shape_of_type types.now below) component.now decoder.old e) }
 {
     if is_always_there(component) {
-        return decode_present(decoder, types, below, component);
+        return decode_present(decoder, trace, types, below, component, index);
     }
     match decoder.next_tag_is(tag_at(types, component.type_id)) {
-        Ok(true) => decode_present(decoder, types, below, component),
+        Ok(true) => decode_present(decoder, trace, types, below, component, index),
         Ok(false) => missing(decoder, component),
         Err(error) => Err(error),
     }
@@ -405,19 +547,24 @@ fn decode_component<'input>(
 #[inline(always)]
 fn decode_present<'input>(
     decoder: &mut Decoder<'input>,
+    trace: &mut Option<Fault>,
     types: &[Type],
     below: usize,
     component: &Component,
+    index: usize,
 ) -> Result<Value<'input>, DecodeError>
-    requires { IsLawful (shape_of_type types.now below component.now.type_id.0) }
+    requires lawful { IsLawful (shape_of_type types.now below component.now.type_id.0) }
+    requires clear { trace.old ≡ None }
     ensures reads { DecodesPresent (presence_of component.now.presence) (shape_of_type types.now below component.now.type_id.0) decoder.old result decoder.new }
     ensures fits { IfOk result (λ v. Fits types.now below component.now.type_id.0 v) }
     ensures rules { IfErr result (λ e. e.codec ≡ decoder.old.rule) }
+    ensures told { Told (IsFaultIn types.now below (IsOnly index component.now.type_id.0 decoder.old) decoder.old decoder.old) result trace.new }
+    ensures itself { IfErr result (λ e. trace.new ≡ None → IsDefaultWritten (shape_of_type types.now below) component.now decoder.old e) }
 {
     let Presence::Default(default) = &component.presence else {
-        return decode_at(decoder, types, below, component.type_id);
+        return decode_part(decoder, trace, types, below, component.type_id, index);
     };
-    let value = decode_at(decoder, types, below, component.type_id)?;
+    let value = decode_part(decoder, trace, types, below, component.type_id, index)?;
     if !decoder.is_strict() {
         return Ok(value);
     }
@@ -435,6 +582,7 @@ fn decode_present<'input>(
 #[cycle(decode)]
 fn decode_set<'input>(
     decoder: &mut Decoder<'input>,
+    trace: &mut Option<Fault>,
     types: &[Type],
     below: usize,
     name: &str,
@@ -443,15 +591,20 @@ fn decode_set<'input>(
 ) -> Result<Vec<Value<'input>>, DecodeError>
     requires lawful { AreLawfulByTag (components_by (shape_of_type types.now below) components.now) }
     requires none { found.items ≡ nones components.now }
+    requires clear { trace.old ≡ None }
     ensures exact { DecodesSetPartContents (components_by (shape_of_type types.now below) components.now) (λ v. list_tree tree_of v.items) (names_of components.now) decoder.old result decoder.new }
     ensures fits { IfOk result (λ v. ComponentsFit (Fits types.now below) components.now v.items) }
     ensures rules { IfErr result (λ e. e.codec ≡ decoder.old.rule) }
+    ensures told { Told (IsFaultIn types.now below (IsMemberAt (shape_of_type types.now below) components.now decoder.old) decoder.old decoder.old) result trace.new }
+    ensures itself { IfErr result (λ e. trace.new ≡ None → StopsInSet (shape_of_type types.now below) components.now decoder.old e) }
 {
     let mut twice = None;
     let mut last = None;
     while !decoder.has_ended() {
         last = decoder.peek_tag_in_order(last)?;
-        let next = decode_set_component(decoder, types, below, name, components, &mut found)?;
+        let next = decode_set_component(
+            decoder, trace, types, below, name, components, &mut found,
+        )?;
         twice = twice.or(next);
     }
     if let Some(repeated) = twice {
@@ -468,6 +621,7 @@ fn decode_set<'input>(
 #[cycle(decode)]
 fn decode_set_component<'input, 'names>(
     decoder: &mut Decoder<'input>,
+    trace: &mut Option<Fault>,
     types: &[Type],
     below: usize,
     name: &str,
@@ -476,17 +630,20 @@ fn decode_set_component<'input, 'names>(
 ) -> Result<Option<&'names str>, DecodeError>
     requires lawful { AreLawfulByTag (components_by (shape_of_type types.now below) components.now) }
     requires found { FoundFit (Fits types.now below) components.now found.old.items }
+    requires clear { trace.old ≡ None }
     ensures next { DecodesNext (components_by (shape_of_type types.now below) components.now) (names_of components.now) (held found.old.items) decoder.old result decoder.new (held found.new.items) }
     ensures found { FoundFit (Fits types.now below) components.now found.new.items }
     ensures unknown { IfErr result (λ e. IsNoAlternative (components_by (shape_of_type types.now below) components.now) name.now decoder.old e decoder.new) }
     ensures rules { IfErr result (λ e. e.codec ≡ decoder.old.rule) }
+    ensures told { Told (IsFaultIn types.now below (IsMember components.now decoder.old) decoder.old decoder.old) result trace.new }
+    ensures itself { IfErr result (λ e. trace.new ≡ None → StopsAtMember (shape_of_type types.now below) components.now decoder.old e) }
 {
     let left = decoder.remaining().len();
     let tag = decoder.peek_tag()?;
     let Some((number, component)) = component_for(types, below, components, tag) else {
         return Err(DecodeError::no_valid_choice(decoder.alloc(), name, decoder.codec()));
     };
-    let value = decode_present(decoder, types, below, component)?;
+    let value = decode_present(decoder, trace, types, below, component, number)?;
     if decoder.remaining().len() == left {
         return Err(extra(decoder, left));
     }

@@ -1,0 +1,293 @@
+-- Where in the input a value couldn't be read.
+use Rattle.std.specs.Prelude.{◌≡◌, ◌⊎◌, ◌+◌, ◌-◌, ℕ, suc, List, [], ◌∷◌, ◌++◌, length, reverse, Bool, true, false, slice_get, Option, Some, None, Result, Ok, Err}
+use Rattle.rasn_types.specs.declared.types.codec.Codec.{Codec}
+use Rattle.rasn_types.specs.declared.error.decode.DecodeError.{DecodeError}
+use Rattle.rasn_types.specs.Framing.{Ended, NextTag}
+use Rattle.rasn_types.specs.Grammar.{Reads, top}
+use Rattle.rasn_types.specs.declared.error.decode.DerDecodeErrorKind.TheVariants.{DefaultValuePresent}
+use Rattle.rasn_types.specs.declared.types.tag.Tag.{Tag}
+use Rattle.rasn_types.specs.Tags.{form, IsStrict}
+use Rattle.rasn_types.specs.Errors.{IsOutOfMemory}
+use Rattle.rasn_types.specs.Shapes.{Shape, Tree, Parts, choice, IsFirstOf}
+use Rattle.rasn_de.specs.Headers.{Header}
+use Rattle.rasn_de.specs.declared.ber.de.parser.ParseError.TheVariants.{Der}
+use Rattle.rasn_de.specs.State.{State, at, IsEnd, Call}
+use Rattle.rasn_de.specs.Steps.{IsErrorOf, PeeksTag}
+use Rattle.rasn_de.specs.Outcomes.{Exact, refusal}
+use Rattle.rasn_de.specs.Decodes.{Decodes, DecodesBy}
+use Rattle.rasn_de.specs.SequenceOf.{DecodesInTurn, DecodesInTurnFrom, IsOutOfOrder, DecodesSized}
+use Rattle.rasn_de.specs.Set.{FailsAtComponent}
+use Rattle.rasn_de.specs.declared.ber.de.constructed.ConstructedHeader.{ConstructedHeader}
+use Rattle.rasn_de.specs.Constructed.{sequence_header, list_header, prefix_header, constructed_header_at, contents_state, DecodesInside}
+use Rattle.rasn_schema.specs.declared.type_id.TypeId.{TypeId}
+use Rattle.rasn_schema.specs.declared.types.Component.{Component}
+use Rattle.rasn_schema.specs.declared.types.Alternative.{Alternative}
+use Rattle.rasn_schema.specs.declared.types.«Type».{«Type»}
+use Rattle.rasn_schema.specs.declared.types.«Type».TheVariants.{Leaf, Enumerated, Any, Tagged, Choice, Sequence, Set, SequenceOf, SetOf}
+use Rattle.rasn_schema.specs.declared.value.Value.{Value}
+use Rattle.rasn_schema.specs.Trees.{tree_of}
+use Rattle.rasn_schema.specs.Shapes.{shape_of_type, alternatives_by, components_by, presence_of}
+use Rattle.rasn_schema.specs.FirstTags.{IsAlwaysThere}
+use Rattle.rasn_dynamic.specs.Inside.{ReadsComponent}
+use Rattle.rasn_dynamic.specs.Calls.{IsDefaultOf}
+use Rattle.rasn_dynamic.specs.Typed.{element_count, DecodesContents}
+use Rattle.rasn_dynamic.specs.declared.trace.Fault.{Fault}
+use Rattle.rasn_dynamic.specs.declared.refusal.Refusal.{Refusal}
+
+-- ---- steps on a trace
+
+-- A value is named, unless one is.
+abbrev pub IsMarked : TypeId → ℕ → Option Fault → Option Fault → Type 0
+IsMarked id left None new = (f : Fault) × (new ≡ Some f) × (f.id ≡ id) × (f.left ≡ left) × (f.steps.items ≡ []) × (f.is_cut ≡ false)
+IsMarked id left (Some f) new = new ≡ Some f
+
+-- Unless steps are missing, there is one more.
+abbrev pub IsLonger : ℕ → Fault → Fault → Type 0
+IsLonger k f g = (g.id ≡ f.id) × (g.left ≡ f.left) × (g.is_cut ≡ false → (f.is_cut ≡ false) × (g.steps.items ≡ f.steps.items ++ k ∷ []))
+
+-- What is named stays named, by one step more.
+abbrev pub IsStepped : ℕ → Option Fault → Option Fault → Type 0
+IsStepped k None new = new ≡ None
+IsStepped k (Some f) new = (g : Fault) × (new ≡ Some g) × IsLonger k f g
+
+abbrev pub IsMoved : ℕ → Option Fault → Option Fault → Type 0
+IsMoved after None new = new ≡ None
+IsMoved after (Some f) new = (g : Fault) × (new ≡ Some g) × (g.id ≡ f.id) × (g.left ≡ f.left + after) × (g.steps ≡ f.steps) × (g.is_cut ≡ f.is_cut)
+
+-- how many octets follow contents that the decoder of the contents doesn't see: of those that end-of-contents octets end, none
+abbrev pub octets_after : Bool → ℕ → ℕ
+octets_after true n = 0
+octets_after false n = n
+
+-- ---- where a part is
+
+-- The octets are in these, and so many are left from their start to the end.
+abbrev pub IsWithin : List ℕ → List ℕ → ℕ → Type 0
+IsWithin all octets left = (front back : List ℕ) × (all ≡ front ++ (octets ++ back)) × (left ≡ length (octets ++ back))
+
+-- Part k of what is read in the state s is of the type with the number next, and is read in the state here. f gives the shape of the type with a number.
+
+-- What begins there, as this part.
+abbrev pub IsOnly : ℕ → ℕ → State → ℕ → ℕ → State → Type 0
+IsOnly index id s k next here = (k ≡ index) × (next ≡ id) × (here ≡ s)
+
+abbrev pub IsAlternativeAt : List Alternative → State → ℕ → ℕ → State → Type 0
+IsAlternativeAt ks s k next here = (a : Alternative) × (Some a ≡ slice_get ks k) × (next ≡ a.type_id.0) × (here ≡ s)
+
+-- So many elements were read before it.
+abbrev pub IsElementAt : (ℕ → Shape) → ℕ → State → ℕ → ℕ → State → Type 0
+IsElementAt f id s k next here = (next ≡ id) × (vs : List Value) × (length vs ≡ k) × DecodesInTurn (Decodes (f id) tree_of) s vs here × (Ended here.closing here.rest → ⊥)
+
+-- These components were read, or are absent.
+abbrev pub ComponentsInTurn : (ℕ → Shape) → List Component → State → State → Type 0
+ComponentsInTurn f [] s here = here ≡ s
+ComponentsInTurn f (p ∷ ps) s here = (v : Value) × (next : State) × DecodesBy (ReadsComponent (presence_of p.presence) (f p.type_id.0)) tree_of s (Ok v) next × ComponentsInTurn f ps next here
+
+abbrev pub IsComponentAt : (ℕ → Shape) → List Component → State → ℕ → ℕ → State → Type 0
+IsComponentAt f ps s k next here = (done : List Component) × (p : Component) × (after : List Component) × (ps ≡ done ++ p ∷ after) × (length done ≡ k) × (next ≡ p.type_id.0) × ComponentsInTurn f done s here
+
+abbrev pub IsMember : List Component → State → ℕ → ℕ → State → Type 0
+IsMember ps s k next here = (p : Component) × (Some p ≡ slice_get ps k) × (next ≡ p.type_id.0) × (here ≡ s)
+
+-- Other components of the SET were read before it.
+abbrev pub IsMemberAt : (ℕ → Shape) → List Component → State → ℕ → ℕ → State → Type 0
+IsMemberAt f ps s k next here = (p : Component) × (Some p ≡ slice_get ps k) × (next ≡ p.type_id.0)
+    × (done : List Tree) × (bs : List (List ℕ)) × DecodesInTurnFrom (Decodes (choice (components_by f ps)) (λ (t : Tree). t)) s done bs here
+
+abbrev pub IsPart : (ℕ → Shape) → «Type» → State → ℕ → ℕ → State → Type 0
+IsPart f (Leaf kind tag c names) s k next here = ⊥
+IsPart f (Enumerated tag ns) s k next here = ⊥
+IsPart f (Any tag) s k next here = ⊥
+IsPart f (Tagged tag id) s k next here = IsOnly 0 id.0 s k next here
+IsPart f (Choice name ks) s k next here = IsAlternativeAt ks.items s k next here
+IsPart f (Sequence tag ps) s k next here = IsComponentAt f ps.items s k next here
+IsPart f (Set name tag ps) s k next here = IsMemberAt f ps.items s k next here
+IsPart f (SequenceOf tag id c) s k next here = IsElementAt f id.0 s k next here
+IsPart f (SetOf tag id c) s k next here = IsElementAt f id.0 s k next here
+
+-- ---- a value that can't be read itself, while each of its parts that was reached is read
+
+module _ (f : ℕ → Shape) where
+  -- The component is read, but it is its default, which must not be written (X.690 11.5).
+  abbrev pub IsDefaultWritten : Component → State → DecodeError → Type 0
+  IsDefaultWritten p s e = (v : Value) × (new : State) × Decodes (f p.type_id.0) tree_of s (Ok v) new × IsStrict s.rule × IsDefaultOf (presence_of p.presence) (tree_of v) × IsErrorOf (Der DefaultValuePresent) s e
+
+  -- A value of the type is read, but it takes none of the octets.
+  abbrev pub TakesNothing : ℕ → State → Type 0
+  TakesNothing id s = (v : Value) × (new : State) × Decodes (f id) tree_of s (Ok v) new × (length new.rest ≡ length s.rest)
+
+  -- The next tag is that of no part.
+  abbrev pub IsUnknown : Parts → State → Type 0
+  IsUnknown ps s = (tag : Tag) × NextTag (form s.rule) s.rest tag × (IsFirstOf ps tag → ⊥)
+
+  -- No tag comes, or none of an alternative; or memory runs out.
+  abbrev pub StopsAtChoice : List Alternative → State → DecodeError → Type 0
+  StopsAtChoice ks s e = PeeksTag s (Err e) ⊎ (IsUnknown (alternatives_by f ks) s ⊎ IsOutOfMemory e.kind)
+
+  -- No tag comes that says whether the component is there; or it is its default.
+  abbrev pub StopsAtComponent : Component → State → DecodeError → Type 0
+  StopsAtComponent p s e = ((IsAlwaysThere (presence_of p.presence) → ⊥) × PeeksTag s (Err e)) ⊎ (IsDefaultWritten p s e ⊎ IsOutOfMemory e.kind)
+
+  -- Components of a SEQUENCE were read in their order up to there; or memory runs out.
+  abbrev pub StopsInSequence : List Component → State → DecodeError → Type 0
+  StopsInSequence ps s e = IsOutOfMemory e.kind
+      ⊎ ((done : List Component) × (p : Component) × (after : List Component) × (here : State) × (ps ≡ done ++ p ∷ after) × ComponentsInTurn f done s here × StopsAtComponent p here e)
+
+  -- No tag comes, or none of a component of the SET; or the component is its default, or takes nothing.
+  abbrev pub StopsAtMember : List Component → State → DecodeError → Type 0
+  StopsAtMember ps s e = PeeksTag s (Err e) ⊎ (IsUnknown (components_by f ps) s
+      ⊎ ((k : ℕ) × (p : Component) × (Some p ≡ slice_get ps k) × (IsDefaultWritten p s e ⊎ TakesNothing p.type_id.0 s)))
+
+  -- what is done with each component of a SET, where none is refused
+  abbrev pub MembersStop : List Component → Call (Unit {0})
+  MembersStop ps s (Ok u) new = ⊥
+  MembersStop ps s (Err e) new = StopsAtMember ps s e
+
+  -- Components of a SET were read up to there, or all were: then one is missing, or comes twice; or memory runs out.
+  abbrev pub StopsInSet : List Component → State → DecodeError → Type 0
+  StopsInSet ps s e = IsOutOfMemory e.kind ⊎ ((done : List Tree) × (bs : List (List ℕ)) × (here : State) × DecodesInTurnFrom (Decodes (choice (components_by f ps)) (λ (t : Tree). t)) s done bs here
+      × (Ended here.closing here.rest ⊎ ((new : State) × FailsAtComponent (MembersStop ps) bs here e new)))
+
+  -- Elements were read up to there, and the next one takes nothing; or memory runs out.
+  abbrev pub StopsInElements : ℕ → State → DecodeError → Type 0
+  StopsInElements id s e = IsOutOfMemory e.kind ⊎ ((vs : List Value) × (here : State) × DecodesInTurn (Decodes (f id) tree_of) s vs here × TakesNothing id here)
+
+  -- The same; or the next one's octets aren't behind those of the elements before it (X.690 11.6).
+  abbrev pub StopsInOrder : ℕ → State → DecodeError → Type 0
+  StopsInOrder id s e = IsOutOfMemory e.kind ⊎ ((vs : List Value) × (bs : List (List ℕ)) × (here : State) × DecodesInTurnFrom (Decodes (f id) tree_of) s vs bs here
+      × (TakesNothing id here ⊎ ((new : State) × IsOutOfOrder (Decodes (f id) tree_of) bs here e new)))
+
+  -- The contents of a value.
+  abbrev pub StopsInside : «Type» → State → DecodeError → Type 0
+  StopsInside (Leaf kind tag c names) s e = ⊥
+  StopsInside (Enumerated tag ns) s e = ⊥
+  StopsInside (Any tag) s e = ⊥
+  StopsInside (Tagged tag id) s e = ⊥
+  StopsInside (Choice name ks) s e = ⊥
+  StopsInside (Sequence tag ps) s e = StopsInSequence ps.items s e
+  StopsInside (Set name tag ps) s e = StopsInSet ps.items s e
+  StopsInside (SequenceOf tag id c) s e = StopsInElements id.0 s e
+  StopsInside (SetOf tag id c) s e = StopsInOrder id.0 s e
+
+  -- how contents are read, where no part of them is refused
+  abbrev pub ReadsEachPart : «Type» → Call Value
+  ReadsEachPart ty s (Ok v) new = DecodesContents f ty s (Ok v) new
+  ReadsEachPart ty s (Err e) new = StopsInside ty s e
+
+  -- A value, with its header and its end, and the number of its elements.
+  abbrev pub FailsItself : «Type» → State → DecodeError → Type 0
+  FailsItself (Leaf kind tag c names) s e = Unit {0}
+  FailsItself (Enumerated tag ns) s e = Unit {0}
+  FailsItself (Any tag) s e = Unit {0}
+  FailsItself (Tagged tag id) s e = (new : State) × DecodesInside (ReadsEachPart (Tagged tag id)) (prefix_header tag) s (Err e) new
+  FailsItself (Choice name ks) s e = StopsAtChoice ks.items s e
+  FailsItself (Sequence tag ps) s e = (new : State) × DecodesInside (ReadsEachPart (Sequence tag ps)) (sequence_header tag) s (Err e) new
+  FailsItself (Set name tag ps) s e = (new : State) × DecodesInside (ReadsEachPart (Set name tag ps)) (sequence_header tag) s (Err e) new
+  FailsItself (SequenceOf tag id c) s e = (new : State) × DecodesSized (ReadsEachPart (SequenceOf tag id c)) element_count tag c s (Err e) new
+  FailsItself (SetOf tag id c) s e = (new : State) × DecodesSized (ReadsEachPart (SetOf tag id c)) element_count tag c s (Err e) new
+
+-- A value of the type with the number, if there is one.
+abbrev pub FailsAt : List «Type» → ℕ → ℕ → State → DecodeError → Type 0
+FailsAt types levels id s e = (n : ℕ) (ty : «Type») → levels ≡ suc n → slice_get types id ≡ Some ty → FailsItself (shape_of_type types n) ty s e
+
+-- ---- the way to a part
+
+-- After such a header the contents are read in this state.
+abbrev pub EntersBy : ConstructedHeader → State → State → Type 0
+EntersBy d s inner = (h : Header) × (constructed_header_at d s.rule s.depth s.rest ≡ Ok h) × (inner ≡ contents_state d s h)
+
+abbrev pub Enters : «Type» → State → State → Type 0
+Enters (Leaf kind tag c names) s inner = ⊥
+Enters (Enumerated tag ns) s inner = ⊥
+Enters (Any tag) s inner = ⊥
+Enters (Tagged tag id) s inner = EntersBy (prefix_header tag) s inner
+Enters (Choice name ks) s inner = inner ≡ s
+Enters (Sequence tag ps) s inner = EntersBy (sequence_header tag) s inner
+Enters (Set name tag ps) s inner = EntersBy (sequence_header tag) s inner
+Enters (SequenceOf tag id c) s inner = EntersBy (list_header tag) s inner
+Enters (SetOf tag id c) s inner = EntersBy (list_header tag) s inner
+
+-- From a value in the state s, through parts with these indices, to the value that is read in the state last.
+unfoldable pub Leads : List «Type» → List ℕ → ℕ → ℕ → State → ℕ → ℕ → State → Type 0
+Leads types [] levels id s below end last = (levels ≡ below) × (id ≡ end) × (s ≡ last)
+Leads types (k ∷ ks) levels id s below end last = (n : ℕ) × (levels ≡ suc n) × (ty : «Type») × (slice_get types id ≡ Some ty) × (inner : State) × Enters ty s inner
+    × (next : ℕ) × (here : State) × IsPart (shape_of_type types n) ty inner k next here × (here ≡ at inner here.rest) × IsEnd inner.rest here.rest × Leads types ks n next here below end last
+
+-- The steps are those of the path, unless they are cut.
+abbrev pub HasPath : Fault → List ℕ → Type 0
+HasPath f path = f.is_cut ≡ false → reverse f.steps.items ≡ path
+
+-- The value that is named can't be read where it begins.
+pub record IsFault (types : List «Type») (levels id : ℕ) (s : State) (e : DecodeError) (f : Fault) : Type 0 where
+  pub path : List ℕ
+  pub below : ℕ
+  pub last : State
+  pub has_path : HasPath f path
+  pub leads : Leads types path levels id s below f.id.0 last
+  pub within : IsWithin s.rest last.rest f.left
+  pub refused : Exact (Reads last.rule (shape_of_type types below f.id.0) last.depth last.closing) last.rest (refusal e.kind)
+  pub itself : FailsAt types below f.id.0 last e
+
+-- The same of a part of what is read in the state inner, which is in the state s.
+pub record IsFaultIn (types : List «Type») (levels : ℕ) (C : ℕ → ℕ → State → Type 0) (s inner : State) (e : DecodeError) (f : Fault) : Type 0 where
+  pub index : ℕ
+  pub next : ℕ
+  pub path : List ℕ
+  pub below : ℕ
+  pub here : State
+  pub last : State
+  pub has_path : HasPath f (index ∷ path)
+  pub part : C index next here
+  pub stays : here ≡ at inner here.rest
+  pub end : IsEnd inner.rest here.rest
+  pub leads : Leads types path levels next here below f.id.0 last
+  pub within : IsWithin s.rest last.rest f.left
+  pub refused : Exact (Reads last.rule (shape_of_type types below f.id.0) last.depth last.closing) last.rest (refusal e.kind)
+  pub itself : FailsAt types below f.id.0 last e
+
+-- The same of a type, whose value is entered; and of a value with this header.
+abbrev pub IsFaultOf : List «Type» → ℕ → «Type» → State → DecodeError → Fault → Type 0
+IsFaultOf types levels ty s e f = (inner : State) × Enters ty s inner × IsFaultIn types levels (IsPart (shape_of_type types levels) ty inner) s inner e f
+
+abbrev pub IsFaultInside : List «Type» → ℕ → ConstructedHeader → «Type» → State → DecodeError → Fault → Type 0
+IsFaultInside types levels d ty s e f = (inner : State) × EntersBy d s inner × IsFaultIn types levels (IsPart (shape_of_type types levels) ty inner) s inner e f
+
+-- Nothing is named if a value was read; what is named at a refusal is a fault.
+abbrev pub Told : {T : Type 0} → (DecodeError → Fault → Type 0) → Result T DecodeError → Option Fault → Type 0
+Told P (Ok v) t = t ≡ None
+Told P (Err e) t = (f : Fault) → t ≡ Some f → P e f
+
+-- The same, and something is named.
+abbrev pub TellsOf : {T : Type 0} → (DecodeError → Fault → Type 0) → Result T DecodeError → Option Fault → Type 0
+TellsOf P (Ok v) t = t ≡ None
+TellsOf P (Err e) t = (f : Fault) × (t ≡ Some f) × P e f
+
+-- ---- a refusal
+
+-- The fault, with its offset in an input of so many octets.
+abbrev pub IsRefusalOf : DecodeError → Option Fault → ℕ → Refusal → Type 0
+IsRefusalOf e None len r = r.error ≡ e
+IsRefusalOf e (Some f) len r = (r.error ≡ e) × (r.offset ≡ len - f.left) × (r.id ≡ f.id) × (r.is_cut ≡ f.is_cut) × (r.steps.items ≡ reverse f.steps.items)
+
+abbrev pub unlocated : {T : Type 0} → Result T Refusal → Result T DecodeError
+unlocated (Ok v) = Ok v
+unlocated (Err r) = Err r.error
+
+-- the state in which a whole input is read
+abbrev pub start : Codec → List ℕ → State
+start rule input = record { rule = rule; depth = 128; closing = top rule; whole = input; rest = input }
+
+-- At the offset are octets of which the grammar relates nothing to the shape of the named type, to which the path leads from the type that was
+-- asked for, through the headers that are there, and at the depth that is left there.
+pub record IsLocated (types : List «Type») (rule : Codec) (id : ℕ) (input : List ℕ) (r : Refusal) : Type 0 where
+  pub path : List ℕ
+  pub below : ℕ
+  pub last : State
+  pub front : List ℕ
+  pub back : List ℕ
+  pub is : input ≡ front ++ (last.rest ++ back)
+  pub offset : length front ≡ r.offset
+  pub has_path : r.is_cut ≡ false → r.steps.items ≡ path
+  pub leads : Leads types path 18446744073709551615 id (start rule input) below r.id.0 last
+  pub refused : Exact (Reads last.rule (shape_of_type types below r.id.0) last.depth last.closing) last.rest (refusal r.error.kind)
+  pub itself : FailsAt types below r.id.0 last r.error

@@ -1,0 +1,73 @@
+//! Reads a value, or says where it can't be read.
+ghost use Rattle.std.specs.Prelude.{◌≡◌, ◌≤◌, Some, IfOk, IfErr};
+ghost use Rattle.rasn.specs.Headline.{Answered};
+ghost use Rattle.rasn_schema.specs.Trees.{tree_of};
+ghost use Rattle.rasn_dynamic.specs.Entry.{FitsType, shape_of};
+ghost use Rattle.rasn_dynamic.specs.Faults.{IsLocated, IsRefusalOf, unlocated};
+ghost use Rattle.rasn_dynamic.specs.declared.trace.Fault.{Fault};
+
+use crate::reader::decode_at;
+use crate::refusal::Refusal;
+use crate::trace::Fault;
+use rasn_de::ber::de::{Decoder, DecoderOptions};
+use rasn_schema::{Schema, TypeId, Value};
+use rasn_types::error::DecodeError;
+use rasn_types::types::Codec;
+use std::alloc::Global;
+
+/// Returns the refusal of an input of so many octets.
+fn refusal_of(
+    alloc: Global,
+    error: DecodeError,
+    trace: Option<Fault>,
+    id: TypeId,
+    len: usize,
+) -> Refusal
+    requires { (f : Fault) → trace ≡ Some f → f.left ≤ len }
+    ensures { IsRefusalOf error trace len result }
+{
+    match trace {
+        Some(fault) => {
+            let mut steps = fault.steps;
+            steps.reverse();
+            Refusal {
+                error,
+                offset: len - fault.left,
+                id: fault.id,
+                steps,
+                is_cut: fault.is_cut,
+            }
+        }
+        None => Refusal {
+            error,
+            offset: 0,
+            id,
+            steps: Vec::new(alloc),
+            is_cut: false,
+        },
+    }
+}
+
+/// Reads the value with which the input begins. Returns it and what follows it.
+///
+/// # Errors
+/// As `decode_with_remainder`, with the place of the innermost value that can't be read.
+pub fn decode_or_locate<'input>(
+    alloc: Global,
+    rule: Codec,
+    schema: &Schema,
+    id: TypeId,
+    input: &'input [u8],
+) -> Result<(Value<'input>, &'input [u8]), Refusal>
+    ensures exact { Answered rule (shape_of schema.now.types.items id.0) tree_of input.now (unlocated result) }
+    ensures fits { IfOk result (λ read. FitsType schema.now.types.items id.0 read.0) }
+    ensures rules { IfErr result (λ r. r.error.codec ≡ rule) }
+    ensures located { IfErr result (IsLocated schema.now.types.items rule id.0 input.now) }
+{
+    let mut decoder = Decoder::new(alloc, input, DecoderOptions::of(rule));
+    let mut trace = None;
+    match decode_at(&mut decoder, &mut trace, schema.types(), usize::MAX, id) {
+        Ok(value) => Ok((value, decoder.remaining())),
+        Err(error) => Err(refusal_of(alloc, error, trace, id, input.len())),
+    }
+}

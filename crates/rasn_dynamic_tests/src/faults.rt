@@ -1,0 +1,88 @@
+//! Where an input is refused.
+
+use rasn_dynamic::{Refusal, decode_or_locate};
+use rasn_schema::{LeafKind, Schema, TypeId};
+use rasn_schema_bench::{Definition, Occurrence, Part, types};
+use rasn_types::types::{Class, Codec, Constraints, Tag};
+use std::alloc::Global;
+
+const CONTEXT_0: Tag = Tag {
+    class: Class::Context,
+    value: 0,
+};
+
+const PAIR: &[Part] = &[
+    ("flag", Occurrence::Required, 0),
+    ("number", Occurrence::Required, 1),
+];
+
+const TYPES: &[Definition] = &[
+    Definition::Leaf(LeafKind::Boolean, Tag::BOOL),
+    Definition::Leaf(LeafKind::Signed64, Tag::INTEGER),
+    Definition::Sequence(Tag::SEQUENCE, PAIR),
+    Definition::SequenceOf(Tag::SEQUENCE, 2, Constraints::NONE),
+    Definition::Tagged(CONTEXT_0, 3),
+    Definition::Choice("Any", &[("flag", 0), ("list", 3), ("tagged", 4)]),
+];
+
+/// Where octets are refused: the offset, the type of what is there, the steps to it, and how the
+/// refusal with its names begins.
+type Place = (usize, usize, &'static [usize], &'static str);
+
+/// Returns whether a refusal is at this place.
+fn is_at(alloc: Global, refusal: &Refusal, schema: &Schema, id: TypeId, place: &Place) -> bool {
+    let (offset, inner, steps, shown) = place;
+    let text = format!(in alloc; "{}", refusal.with_names(schema, id));
+    refusal.offset == *offset
+        && refusal.id == TypeId(*inner)
+        && refusal.steps.as_slice() == *steps
+        && !refusal.is_cut
+        && text.is_ok_and(|text| text.as_str().starts_with(*shown))
+}
+
+/// Returns whether octets are refused at this place.
+fn is_refused_at(alloc: Global, id: TypeId, octets: &[u8], place: &Place) -> Option<bool> {
+    let schema = Schema::new(types(alloc, TYPES).ok()?).ok()?;
+    let refusal = decode_or_locate(alloc, Codec::Ber, &schema, id, octets).err()?;
+    Some(is_at(alloc, &refusal, &schema, id, place))
+}
+
+/// A type, octets, and where they are refused.
+type Row = (usize, &'static [u8], Place);
+
+// X.690 8.1.2, 8.1.3, 8.2.1, 8.3.1: offsets are counted in the octets by hand.
+#[test]
+fn innermost_value_is_named(rt: HostRuntime) {
+    const ROWS: &[Row] = &[
+        (
+            3,
+            &[0x30, 14, 0x30, 6, 1, 1, 0xFF, 2, 1, 7, 0x30, 4, 1, 2, 0, 0],
+            (12, 0, &[1, 0], "[1].flag, byte 12: BER: "),
+        ),
+        (
+            3,
+            &[0x30, 0x80, 0x30, 0x80, 1, 1, 0xFF, 2, 0, 0, 0, 0, 0],
+            (7, 1, &[0, 1], "[0].number, byte 7: BER: "),
+        ),
+        (
+            2,
+            &[0x30, 6, 1, 1, 0xFF, 2, 2, 7],
+            (5, 1, &[1], "number, byte 5: BER: "),
+        ),
+        (
+            2,
+            &[0x30, 3, 1, 1, 0xFF],
+            (5, 1, &[1], "number, byte 5: BER: "),
+        ),
+        (
+            5,
+            &[0xA0, 2, 4, 0],
+            (2, 3, &[2, 0], "tagged, byte 2: BER: "),
+        ),
+        (2, &[0x31, 0], (0, 2, &[], "byte 0: BER: ")),
+    ];
+    for (id, octets, place) in ROWS {
+        let refused = is_refused_at(rt.alloc(), TypeId(*id), octets, place);
+        assert!(rt; refused == Some(true));
+    }
+}
