@@ -1,5 +1,5 @@
 -- AuthenticationChoice ::= CHOICE { simple [0] OCTET STRING, sasl [3] SaslCredentials }
-use Rattle.std.specs.Prelude.{◌≢◌}
+use Rattle.std.specs.Prelude.{◌≢◌, ℕ, List, codes}
 use Rattle.rasn_types.specs.Shapes.{Shape, Tree, numbers, chosen, absent, leaf, octet_string, choice, seq, Parts, part, required}
 use Rattle.rasn_types.specs.Shapes.Parts.{none}
 use Rattle.rasn_types.specs.Trees.{unconstrained}
@@ -8,6 +8,10 @@ use Rattle.rasn_ldap.specs.Tags.{context}
 use Rattle.rasn_ldap.specs.Sasl.{sasl_credentials_parts, sasl_credentials_tree}
 use Rattle.rasn_ldap.specs.declared.authentication_choice.AuthenticationChoice.{AuthenticationChoice}
 use Rattle.rasn_ldap.specs.declared.authentication_choice.AuthenticationChoice.TheVariants.{Simple, Sasl}
+
+-- its name, as refusals have it
+abbrev pub authentication_name : List ℕ
+authentication_name = codes "AuthenticationChoice"
 
 abbrev pub authentication_alternatives : Parts
 authentication_alternatives = part required (leaf octet_string (context 0) unconstrained) (part required (seq (context 3) sasl_credentials_parts) none)

@@ -2,7 +2,7 @@
 -- searchRequest [APPLICATION 3], searchResEntry [APPLICATION 4], searchResDone [APPLICATION 5] LDAPResult,
 -- searchResRef [APPLICATION 19] SEQUENCE OF URI, modifyRequest [APPLICATION 6],
 -- modifyResponse [APPLICATION 7] LDAPResult, extendedReq [APPLICATION 23], extendedResp [APPLICATION 24] }
-use Rattle.std.specs.Prelude.{◌≢◌, ℕ, pos, refl, true}
+use Rattle.std.specs.Prelude.{◌≢◌, ℕ, pos, refl, true, List, codes}
 use Rattle.rasn_types.specs.Shapes.{Shape, Tree, number, chosen, absent, leaf, null, choice, seq, Parts, part, required}
 use Rattle.rasn_types.specs.Shapes.Parts.{none}
 use Rattle.rasn_types.specs.Trees.{unconstrained}
@@ -19,6 +19,10 @@ use Rattle.rasn_ldap.specs.ExtendedRequest.{extended_request_shape, extended_req
 use Rattle.rasn_ldap.specs.ExtendedResponse.{extended_response_shape, extended_response_tree}
 use Rattle.rasn_ldap.specs.declared.protocol_op.ProtocolOp.{ProtocolOp}
 use Rattle.rasn_ldap.specs.declared.protocol_op.ProtocolOp.TheVariants.{BindRequest, BindResponse, UnbindRequest, SearchRequest, SearchResultEntry, SearchResultDone, SearchResultReference, ModifyRequest, ModifyResponse, ExtendedRequest, ExtendedResponse}
+
+-- its name, as refusals have it
+abbrev pub protocol_op_name : List ℕ
+protocol_op_name = codes "ProtocolOp"
 
 abbrev pub protocol_op_alternatives : Parts
 protocol_op_alternatives = part required bind_request_shape

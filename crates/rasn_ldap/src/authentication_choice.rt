@@ -59,11 +59,20 @@ type Alternatives = OneOf<
 >;
 
 impl Decode for AuthenticationChoice {
+    ghost use Rattle.std.specs.Prelude.{◌≡◌, IfErr, Err};
+    ghost use Rattle.rasn_de.specs.Decodes.{Decodes};
+    ghost use Rattle.rasn_de.specs.AlternativeTypes.{DecodesAlternative};
+    ghost use Rattle.rasn_ldap.specs.Authentication.{authentication_alternatives, authentication_shape, authentication_tree, authentication_name};
+
     fn decode_with_tag_and_constraints(
         decoder: &mut Decoder<'_>,
         _tag: Tag,
         _constraints: &Constraints,
-    ) -> Result<AuthenticationChoice, DecodeError> {
+    ) -> Result<AuthenticationChoice, DecodeError>
+        ensures reads { Decodes authentication_shape authentication_tree decoder.old result decoder.new }
+        ensures rules { IfErr result (λ e. e.codec ≡ decoder.old.rule) }
+        ensures fails { IfErr result (λ e. DecodesAlternative authentication_alternatives authentication_tree authentication_name decoder.old (Err e) decoder.new) }
+    {
         match decoder.read_choice::<Alternatives>("AuthenticationChoice")? {
             OneOf::This(password) => Ok(AuthenticationChoice::Simple(password)),
             OneOf::Other(Last(credentials)) => Ok(AuthenticationChoice::Sasl(credentials)),

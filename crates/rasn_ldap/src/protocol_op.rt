@@ -124,11 +124,20 @@ type Alternatives = OneOf<
 >;
 
 impl Decode for ProtocolOp {
+    ghost use Rattle.std.specs.Prelude.{◌≡◌, IfErr, Err};
+    ghost use Rattle.rasn_de.specs.Decodes.{Decodes};
+    ghost use Rattle.rasn_de.specs.AlternativeTypes.{DecodesAlternative};
+    ghost use Rattle.rasn_ldap.specs.Operations.{protocol_op_alternatives, protocol_op_shape, protocol_op_tree, protocol_op_name};
+
     fn decode_with_tag_and_constraints(
         decoder: &mut Decoder<'_>,
         _tag: Tag,
         _constraints: &Constraints,
-    ) -> Result<ProtocolOp, DecodeError> {
+    ) -> Result<ProtocolOp, DecodeError>
+        ensures reads { Decodes protocol_op_shape protocol_op_tree decoder.old result decoder.new }
+        ensures rules { IfErr result (λ e. e.codec ≡ decoder.old.rule) }
+        ensures fails { IfErr result (λ e. DecodesAlternative protocol_op_alternatives protocol_op_tree protocol_op_name decoder.old (Err e) decoder.new) }
+    {
         match decoder.read_choice::<Alternatives>("ProtocolOp")? {
             This(value) => Ok(ProtocolOp::BindRequest(value)),
             Other(This(value)) => Ok(ProtocolOp::BindResponse(value)),

@@ -31,6 +31,7 @@ pub fn has_lawful_shape()
 pub fn read_message(alloc: Global, input: &[u8]) -> Result<(LdapMessage, &[u8]), DecodeError>
     ensures exact { Answered Ber ldap_message_shape ldap_message_tree input.now result }
     ensures end { IfOk result (λ read. IsEnd input.now read.1.now) }
+    ensures rules { IfErr result (λ e. e.codec ≡ Ber) }
 {
     ber::decode_with_remainder(alloc, input)
 }
@@ -50,6 +51,7 @@ pub fn write_message(alloc: Global, message: &LdapMessage) -> Result<Vec<u8>, En
     ensures canonical { IfOk result (λ octets. Identifies ldap_message_shape (ldap_message_tree message.now) octets.items) }
     ensures read_back { IfOk result (λ octets. IsReadBack ldap_message_shape (ldap_message_tree message.now) octets.items) }
     ensures fails { IfErr result (EncodingFails Der ldap_message_shape (ldap_message_tree message.now)) }
+    ensures rules { IfErr result (λ e. e.codec ≡ Der) }
 {
     der::encode(alloc, message)
 }

@@ -1,7 +1,7 @@
 -- PDUs ::= CHOICE { get-request [0] PDU, get-next-request [1] PDU, get-bulk-request [5] BulkPDU, response [2] PDU,
 -- set-request [3] PDU, inform-request [6] PDU, snmpV2-trap [7] PDU, report [8] PDU, trap [4] Trap-PDU }, with implicit
 -- tags
-use Rattle.std.specs.Prelude.{◌≢◌}
+use Rattle.std.specs.Prelude.{◌≢◌, ℕ, List, codes}
 use Rattle.rasn_types.specs.Shapes.{Shape, Tree, chosen, absent, choice, seq, Parts, part, required}
 use Rattle.rasn_types.specs.Shapes.Parts.{none}
 use Rattle.rasn_types.specs.Equality.{chosen_not_absent}
@@ -11,6 +11,10 @@ use Rattle.rasn_snmp.specs.BulkData.{bulk_pdu_parts, bulk_pdu_tree}
 use Rattle.rasn_snmp.specs.TrapData.{trap_pdu_parts, trap_pdu_tree}
 use Rattle.rasn_snmp.specs.declared.pdus.Pdus.{Pdus}
 use Rattle.rasn_snmp.specs.declared.pdus.Pdus.TheVariants.{GetRequest, GetNextRequest, GetBulkRequest, Response, SetRequest, InformRequest, SnmpV2Trap, Report, Trap}
+
+-- its name, as refusals have it
+abbrev pub pdus_name : List ℕ
+pdus_name = codes "Pdus"
 
 abbrev pub pdus_alternatives : Parts
 pdus_alternatives = part required (seq (context 0) pdu_parts)

@@ -5,7 +5,7 @@
 -- timeticks-value [APPLICATION 3] INTEGER (0..4294967295), arbitrary-value [APPLICATION 4] OCTET STRING,
 -- big-counter-value [APPLICATION 6] INTEGER (0..18446744073709551615), unSpecified NULL, noSuchObject [0] NULL,
 -- noSuchInstance [1] NULL, endOfMibView [2] NULL }
-use Rattle.std.specs.Prelude.{◌≢◌, ℕ, pos, refl, true}
+use Rattle.std.specs.Prelude.{◌≢◌, ℕ, pos, refl, true, List, codes}
 use Rattle.rasn_types.specs.Tags.{in_universal}
 use Rattle.rasn_types.specs.Shapes.{Shape, Tree, number, numbers, chosen, absent, leaf, choice, Parts, part, required, octet_string, fixed, object_identifier, null}
 use Rattle.rasn_types.specs.Shapes.Parts.{none}
@@ -14,6 +14,10 @@ use Rattle.rasn_types.specs.Equality.{Alternative, chosen_not_absent, unsigned_d
 use Rattle.rasn_snmp.specs.Tagged.{context, application, integer32, counter}
 use Rattle.rasn_snmp.specs.declared.var_bind_value.VarBindValue.{VarBindValue}
 use Rattle.rasn_snmp.specs.declared.var_bind_value.VarBindValue.TheVariants.{Integer, OctetString, ObjectIdentifier, IpAddress, Counter32, Unsigned32, TimeTicks, Opaque, Counter64, Unspecified, NoSuchObject, NoSuchInstance, EndOfMibView}
+
+-- its name, as refusals have it
+abbrev pub var_bind_value_name : List ℕ
+var_bind_value_name = codes "VarBindValue"
 
 abbrev pub var_bind_value_alternatives : Parts
 var_bind_value_alternatives = part required integer32

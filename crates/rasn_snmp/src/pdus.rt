@@ -111,11 +111,20 @@ type Alternatives = OneOf<
 >;
 
 impl Decode for Pdus {
+    ghost use Rattle.std.specs.Prelude.{◌≡◌, IfErr, Err};
+    ghost use Rattle.rasn_de.specs.Decodes.{Decodes};
+    ghost use Rattle.rasn_de.specs.AlternativeTypes.{DecodesAlternative};
+    ghost use Rattle.rasn_snmp.specs.Operations.{pdus_alternatives, pdus_shape, pdus_tree, pdus_name};
+
     fn decode_with_tag_and_constraints(
         decoder: &mut Decoder<'_>,
         _tag: Tag,
         _constraints: &Constraints,
-    ) -> Result<Pdus, DecodeError> {
+    ) -> Result<Pdus, DecodeError>
+        ensures reads { Decodes pdus_shape pdus_tree decoder.old result decoder.new }
+        ensures rules { IfErr result (λ e. e.codec ≡ decoder.old.rule) }
+        ensures fails { IfErr result (λ e. DecodesAlternative pdus_alternatives pdus_tree pdus_name decoder.old (Err e) decoder.new) }
+    {
         match decoder.read_choice::<Alternatives>("Pdus")? {
             This(pdu) => Ok(Pdus::GetRequest(pdu)),
             Other(This(pdu)) => Ok(Pdus::GetNextRequest(pdu)),

@@ -30,6 +30,7 @@ pub fn has_lawful_shape()
 pub fn read_message(alloc: Global, input: &[u8]) -> Result<(Message, &[u8]), DecodeError>
     ensures exact { Answered Ber message_shape message_tree input.now result }
     ensures end { IfOk result (λ read. IsEnd input.now read.1.now) }
+    ensures rules { IfErr result (λ e. e.codec ≡ Ber) }
 {
     ber::decode_with_remainder(alloc, input)
 }
@@ -44,6 +45,7 @@ pub fn write_message(alloc: Global, message: &Message) -> Result<Vec<u8>, Encode
     ensures ok { IfOk result (λ octets. Bytes Der message_shape (message_tree message.now) octets.items) }
     ensures canonical { IfOk result (λ octets. Identifies message_shape (message_tree message.now) octets.items) }
     ensures fails { IfErr result (EncodingFails Der message_shape (message_tree message.now)) }
+    ensures rules { IfErr result (λ e. e.codec ≡ Der) }
 {
     der::encode(alloc, message)
 }

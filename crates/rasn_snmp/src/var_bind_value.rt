@@ -139,11 +139,20 @@ type Alternatives = OneOf<
 >;
 
 impl Decode for VarBindValue {
+    ghost use Rattle.std.specs.Prelude.{◌≡◌, IfErr, Err};
+    ghost use Rattle.rasn_de.specs.Decodes.{Decodes};
+    ghost use Rattle.rasn_de.specs.AlternativeTypes.{DecodesAlternative};
+    ghost use Rattle.rasn_snmp.specs.Values.{var_bind_value_alternatives, var_bind_value_shape, var_bind_value_tree, var_bind_value_name};
+
     fn decode_with_tag_and_constraints(
         decoder: &mut Decoder<'_>,
         _tag: Tag,
         _constraints: &Constraints,
-    ) -> Result<VarBindValue, DecodeError> {
+    ) -> Result<VarBindValue, DecodeError>
+        ensures reads { Decodes var_bind_value_shape var_bind_value_tree decoder.old result decoder.new }
+        ensures rules { IfErr result (λ e. e.codec ≡ decoder.old.rule) }
+        ensures fails { IfErr result (λ e. DecodesAlternative var_bind_value_alternatives var_bind_value_tree var_bind_value_name decoder.old (Err e) decoder.new) }
+    {
         match decoder.read_choice::<Alternatives>("VarBindValue")? {
             This(value) => Ok(VarBindValue::Integer(value)),
             Other(This(value)) => Ok(VarBindValue::OctetString(value)),
