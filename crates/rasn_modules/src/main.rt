@@ -1,8 +1,9 @@
-//! Reads files of modules, all at once: `rasn-modules FILE..`. Prints each fault of a text, each type that has no schema with the fault of its schema, and for
-//! each module how many types it has and how many of them have a schema.
+//! Reads files of modules, all at once: `rasn-modules FILE..`. Prints each fault of a text, each type
+//! that has no schema with its first fault, and for each module how many types it has and how many of
+//! them have a schema.
 #![tactic(auto)]
 
-use rasn_compiler::{Assigned, Module, Modules, Source};
+use rasn_compiler::{Assigned, Assignment, Module, Modules, Source};
 use std::{env, fs, io};
 
 fn main(rt: HostRuntime) -> io::Result<()> {
@@ -29,27 +30,46 @@ fn main(rt: HostRuntime) -> io::Result<()> {
     Ok(())
 }
 
-/// Prints which types of a module have no schema, and how many have one.
+/// Prints which types of a module have no schema, and how many have one. Types with parameters aren't
+/// counted.
 fn print_module<'text>(
     rt: &HostRuntime,
     read: &Modules<'text>,
     module: &Module<'text>,
 ) -> io::Result<()> {
-    let name = module.name;
     let mut types = 0usize;
     let mut loaded = 0usize;
     for assignment in &module.assignments {
-        if let Assigned::Type(_) = assignment.assigned {
+        if is_plain_type(assignment) {
             types = types.saturating_add(1);
-            match read.schema(rt.alloc(), name, assignment.name) {
-                Ok(_) => loaded = loaded.saturating_add(1),
-                Err(stop) => {
-                    let of = assignment.name;
-                    println!(rt; "type\t{name}.{of}\t{stop}")?;
-                }
+            if print_type(rt, read, module.name, assignment.name)? {
+                loaded = loaded.saturating_add(1);
             }
         }
     }
     let source = module.source;
+    let name = module.name;
     println!(rt; "module\t{source}\t{name}\t{types}\t{loaded}")
+}
+
+/// Returns whether an assignment is one of a type without parameters.
+fn is_plain_type(assignment: &Assignment<'_>) -> bool {
+    match assignment.assigned {
+        Assigned::Type(_) => assignment.parameters.is_none(),
+        _ => false,
+    }
+}
+
+/// Returns whether a type has a schema, and prints why if it has none.
+fn print_type<'text>(
+    rt: &HostRuntime,
+    read: &Modules<'text>,
+    module: &'text str,
+    name: &'text str,
+) -> io::Result<bool> {
+    if let Err(stop) = read.schema(rt.alloc(), module, name) {
+        println!(rt; "type\t{module}.{name}\t{stop}")?;
+        return Ok(false);
+    }
+    Ok(true)
 }
