@@ -898,14 +898,16 @@ decode_elements_in_order-returns-then-is_less-clause-itself t c =
       c.loop-last.invariant.0.1,
       inr (
         _,
-        (c.in_ok-value.value,
-        c.octets_before-octets.result.now,
-        c.in_ok-value.ensures.reads,
-        rw (← c.remaining-start.ensures.value, ← c.remaining.ensures.value) c.octets_before-octets.ensures,
-        (λ e. c.in_ok-keep.ensures.kept.1 (e ∙ sym (ap length c.remaining-start.ensures.value))),
-        strict_before c.loop-last.decoder _ k c.if-is_strict.ensures,
-        out_of_order c.loop-last.invariant.0.0 c.loop-last.last.now c.octets_before-octets.result.now c.loop-last.invariant.0.3 c.if-is_less.ensures,
-        rules_same c.loop-last.decoder _ (Der SetOfOutOfOrder) c.out_of_order.result k c.out_of_order.ensures),
+        (
+          c.in_ok-value.value,
+          c.octets_before-octets.result.now,
+          c.in_ok-value.ensures.reads,
+          rw (← c.remaining-start.ensures.value, ← c.remaining.ensures.value) c.octets_before-octets.ensures,
+          (λ e. c.in_ok-keep.ensures.kept.1 (e ∙ sym (ap length c.remaining-start.ensures.value))),
+          strict_before c.loop-last.decoder _ k c.if-is_strict.ensures,
+          out_of_order c.loop-last.invariant.0.0 c.loop-last.last.now c.octets_before-octets.result.now c.loop-last.invariant.0.3 c.if-is_less.ensures,
+          rules_same c.loop-last.decoder _ (Der SetOfOutOfOrder) c.out_of_order.result k c.out_of_order.ensures,
+        ),
       ),
     )
 
