@@ -262,7 +262,7 @@ pub(crate) fn place_in<T: Located>(alloc: Global, rule: Codec, octets: &[u8]) ->
 }
 
 /// Returns whether the first value has the tag of the type. A CHOICE and an open type have no tag
-/// of their own, so any tag is accepted (X.680 14, 29).
+/// of their own, so any tag is accepted (X.681 14, X.680 29).
 fn has_tag_of<T: Located>(alloc: Global, rule: Codec, octets: &[u8]) -> bool {
     let decoder = Decoder::new(alloc, octets, DecoderOptions::of(rule));
     T::TAG == Tag::EOC || matches!(decoder.peek_tag(), Ok(tag) if tag == T::TAG)

@@ -8,7 +8,7 @@ use std::cmp::Ordering;
 use std::fmt;
 use std::marker::Model;
 
-/// A value of an open type, kept as its octets (X.680 30): one complete encoding or, under a tag of
+/// A value of an open type, kept as its octets (X.681 14): one complete encoding or, under a tag of
 /// its own, the contents octets of the value with this tag. Contracts see it as the list of its
 /// octets.
 ///

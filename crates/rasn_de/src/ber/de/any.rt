@@ -13,7 +13,7 @@ use rasn_types::error::DecodeError;
 use rasn_types::types::{Any, Constraints, Tag};
 
 impl<'input> Decoder<'input> {
-    /// Reads a value of an open type as its octets (X.680 30). With a tag, they are the contents of
+    /// Reads a value of an open type as its octets (X.681 14). With a tag, they are the contents of
     /// one value of this tag, in either form of length and without end-of-contents octets. With
     /// `Tag::EOC`, they are one complete encoding, including end-of-contents octets. The octets may
     /// be nested to any depth, and their identifiers and lengths may be encoded as under BER,
