@@ -253,7 +253,8 @@ static inline soq_status soq_normalise(soq_type type, soq_rule rule, const uint8
  * and the offset is 0, where the value begins: which part of it is refused isn't told.
  * The text is cut where it and a zero have no room; a capacity of 0 takes none. `fault` is zeros and the text empty but for SOQ_REFUSED.
  *
- * Contract: AnswersError, HoldsText (crates/rasn_c/specs/Errors.antt), from that of `Decode::decode`. Which text it is is tested.
+ * Contract: AnswersError, HoldsText (crates/rasn_c/specs/Errors.antt), from that of `Decode::decode`. The text is the error's own: the
+ * rules, and what is wrong.
  */
 static inline soq_status soq_decode_error(soq_type type, soq_rule rule, const uint8_t *octets, size_t length, soq_fault *fault,
                                           char *text, size_t capacity) {
