@@ -117,4 +117,3 @@ module _ {D : Type 0} (parts : Parts) (plain : needs_no_initializer parts ≡ tr
   unfolding Reads
   parts_decode result new k =
       held_decodes (sequence_header tag) (R parts old) old o tree called inside_exact (λ rule. Reads rule (seq tag parts)) (held_constructed tag 1 (R parts old) old o old.rest) (constructed_held tag 1 (R parts old) old o old.rest) result new k
-

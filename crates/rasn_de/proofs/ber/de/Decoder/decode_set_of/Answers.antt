@@ -28,9 +28,9 @@ returns-in-Ok g c =
     let read = DecodesElementsInOrder (Decodes g.D.AsnType.shape g.D.AsnType.tree) (λ (v : List g.row.D.Denot). v) in
     let k = closure_inside _ _ read (λ p r q m. m.0) _ _ c.list.ensures c.args.self.now (Ok c.in_ok-values.values) c.inside.new.self c.in_ok-values.ensures.exact in
     also_beyond (set_of_decodes g.D.AsnType.shape g.D.AsnType.tree c.args.tag c.args.constraints.now c.args.self.now c.inside.ensures.octets (Ok c.in_ok-values.values) _)
-        (inside_beyond (λ o (v : List g.row.D.Denot) n. BeyondElements (got (g.D.Decode.beyond g.D.AsnType.TAG)) o v n) (list_header c.args.tag) c.args.self.now (Ok c.in_ok-values.values) c.inside.new.self
-            (closure_inside _ _ (λ o r n. IfOk r (λ (v : List g.row.D.Denot). BeyondElements (got (g.D.Decode.beyond g.D.AsnType.TAG)) o v n)) (λ p r q m. m.1.1) _ _ c.list.ensures c.args.self.now (Ok c.in_ok-values.values) c.inside.new.self c.in_ok-values.ensures.exact))
-        tt (rw (← c.len.ensures) c.in-Ok.ensures, k)
+    (inside_beyond (λ o (v : List g.row.D.Denot) n. BeyondElements (got (g.D.Decode.beyond g.D.AsnType.TAG)) o v n) (list_header c.args.tag) c.args.self.now (Ok c.in_ok-values.values) c.inside.new.self
+    (closure_inside _ _ (λ o r n. IfOk r (λ (v : List g.row.D.Denot). BeyondElements (got (g.D.Decode.beyond g.D.AsnType.TAG)) o v n)) (λ p r q m. m.1.1) _ _ c.list.ensures c.args.self.now (Ok c.in_ok-values.values) c.inside.new.self c.in_ok-values.ensures.exact))
+    tt (rw (← c.len.ensures) c.in-Ok.ensures, k)
 
 pub returns-in-Err : goal.returns-in-Err
 returns-in-Err g c =

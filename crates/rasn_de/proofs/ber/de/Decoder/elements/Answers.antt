@@ -16,8 +16,7 @@ returns-in_err-push_element-clause-rules g c =
 
 pub loop-self-preserved : goal.loop-self-preserved
 loop-self-preserved g c =
-    let k = c.in_ok-push_element.ensures.exact in
-    (
+    let k = c.in_ok-push_element.ensures.exact in (
       passes_more (Decodes g.D.AsnType.shape g.D.AsnType.tree) c.loop-self.self _ k.0 c.loop-self-test.ensures k.2 k.3 c.args.self.now c.loop-self.values.items _ k.1 c.loop-self.invariant.0,
       beyond_more (got (g.D.Decode.beyond g.D.AsnType.TAG)) c.args.self.now c.loop-self.self _ c.loop-self.values.items _ c.loop-self.invariant.1 c.in_ok-push_element.ensures.beyond,
     )
