@@ -10,11 +10,9 @@ pub mod Component
 pub mod Enclosed
 pub mod WrittenInside
 pub mod Canonical
-pub mod Fitted
 pub mod OnlyFitting
 pub mod FitsRead
 pub mod FixedOctets
 pub mod Numbers
-pub mod ListsOf
 pub mod UnfitParts
 pub mod LeafWritten

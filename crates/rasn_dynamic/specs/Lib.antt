@@ -3,6 +3,6 @@ pub mod Typed
 pub mod Calls
 pub mod Written
 pub mod Entry
-pub mod Fitting
+pub mod Unfit
 pub mod Found
 pub mod Paths

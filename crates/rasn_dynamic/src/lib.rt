@@ -5,8 +5,6 @@
 
 mod components;
 mod entry;
-mod fit;
-mod fitting;
 mod order;
 mod path;
 mod read_leaf;
@@ -19,6 +17,6 @@ mod writer;
 pub use entry::{
     WriteError, decode, decode_with_remainder, encode, encode_buf, is_canonical, normalise,
 };
-pub use fitting::fits;
 pub use path::ValuePath;
 pub use rasn::NormaliseError;
+pub use rasn_schema::fits;
