@@ -174,7 +174,7 @@ module _ (types : List «Type») where
 
   -- ---- contents
 
-  -- what stands behind contents, as far as it is known
+  -- what follows contents, as far as it is known
   abbrev after : Extent → List ℕ → List ℕ
   after (definite c) rest = rest
   after indefinite rest = []
@@ -204,7 +204,7 @@ module _ (types : List «Type») where
         ap (λ (z : State). octets_after z.closing (length mid.rest)) w.2 ∙ ap (λ l. octets_after (is_indefinite_extent w.0.extent) (length l)) q ∙ sym (after_length w.0.extent w.0.rest) in
         subst (λ n. IsWithin old.rest octets (left + n)) (sym b) v
 
-    -- It doesn't come to more octets than there are.
+    -- It isn't more octets than there are.
     pub opened_short : (levels : ℕ) (C : ℕ → ℕ → State → Type 0) (k : DecodeError) (f : Fault) (closing : Bool) (n : ℕ) → closing ≡ p.closing → n ≡ octets_after closing (length mid.rest)
         → IsFaultIn types levels C p p k f → f.left + n ≤ length old.rest
     opened_short levels C k f closing n e b i =
@@ -285,7 +285,7 @@ pub member_behind : (f : ℕ → Shape) (ps : List Component) (s here : State) (
     → (k next : ℕ) (x : State) → IsMember ps here k next x → IsMemberAt f ps s k next x
 member_behind f ps s here done bs d k next x (p, e, b, g) = (p, e, b, done, bs, subst (λ z. DecodesInTurnFrom (Decodes (choice (components_by f ps)) (λ (t : Tree). t)) s done bs z) (sym g) d)
 
--- Elements that are read one behind the other leave an end of what there was.
+-- Elements that are read one after the other leave an end of what there was.
 pub turns_keep : {D : Type 0} (s : Shape) (tree : D → Tree) (old : State) (vs : List D) (here : State) → DecodesInTurn (Decodes s tree) old vs here → (here ≡ at old here.rest) × IsEnd old.rest here.rest
 turns_keep s tree old [] here e = (e ∙ ap (λ (z : State). at old z.rest) (sym e), subst (λ (z : State). IsEnd old.rest z.rest) (sym e) (IsEnd-refl old.rest))
 turns_keep s tree old (v ∷ vs) here (next, n, d, l, p) = let k = turns_keep s tree next vs here p in (k.0 ∙ ap (λ (z : State). at z here.rest) d.stays, IsEnd-trans old.rest next.rest here.rest d.end k.1)

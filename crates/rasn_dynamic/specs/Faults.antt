@@ -120,11 +120,11 @@ module _ (f : ℕ → Shape) where
   abbrev pub IsUnknown : Parts → State → Type 0
   IsUnknown ps s = (tag : Tag) × NextTag (form s.rule) s.rest tag × (IsFirstOf ps tag → ⊥)
 
-  -- No tag comes, or none of an alternative; or memory runs out.
+  -- No tag follows, or none of an alternative; or an allocation fails.
   abbrev pub StopsAtChoice : List Alternative → State → DecodeError → Type 0
   StopsAtChoice ks s e = PeeksTag s (Err e) ⊎ (IsUnknown (alternatives_by f ks) s ⊎ IsOutOfMemory e.kind)
 
-  -- No tag comes that says whether the component is there; or it is its default.
+  -- No tag follows that says whether the component is there; or it is its default.
   abbrev pub StopsAtComponent : Component → State → DecodeError → Type 0
   StopsAtComponent p s e = ((IsAlwaysThere (presence_of p.presence) → ⊥) × PeeksTag s (Err e)) ⊎ (IsDefaultWritten p s e ⊎ IsOutOfMemory e.kind)
 
@@ -133,7 +133,7 @@ module _ (f : ℕ → Shape) where
   StopsInSequence ps s e = IsOutOfMemory e.kind
       ⊎ ((done : List Component) × (p : Component) × (after : List Component) × (here : State) × (ps ≡ done ++ p ∷ after) × ComponentsInTurn f done s here × StopsAtComponent p here e)
 
-  -- No tag comes, or none of a component of the SET; or the component is its default, or takes nothing.
+  -- No tag follows, or none of a component of the SET; or the component is its default, or takes nothing.
   abbrev pub StopsAtMember : List Component → State → DecodeError → Type 0
   StopsAtMember ps s e = PeeksTag s (Err e) ⊎ (IsUnknown (components_by f ps) s
       ⊎ ((k : ℕ) × (p : Component) × (Some p ≡ slice_get ps k) × (IsDefaultWritten p s e ⊎ TakesNothing p.type_id.0 s)))
@@ -143,7 +143,7 @@ module _ (f : ℕ → Shape) where
   MembersStop ps s (Ok u) new = ⊥
   MembersStop ps s (Err e) new = StopsAtMember ps s e
 
-  -- Components of a SET were read up to there, or all were: then one is missing, or comes twice; or memory runs out.
+  -- Components of a SET were read up to there, or all were: then one is missing, or is there twice; or an allocation fails.
   abbrev pub StopsInSet : List Component → State → DecodeError → Type 0
   StopsInSet ps s e = IsOutOfMemory e.kind ⊎ ((done : List Tree) × (bs : List (List ℕ)) × (here : State) × DecodesInTurnFrom (Decodes (choice (components_by f ps)) (λ (t : Tree). t)) s done bs here
       × (Ended here.closing here.rest ⊎ ((new : State) × FailsAtComponent (MembersStop ps) bs here e new)))
@@ -152,7 +152,7 @@ module _ (f : ℕ → Shape) where
   abbrev pub StopsInElements : ℕ → State → DecodeError → Type 0
   StopsInElements id s e = IsOutOfMemory e.kind ⊎ ((vs : List Value) × (here : State) × DecodesInTurn (Decodes (f id) tree_of) s vs here × TakesNothing id here)
 
-  -- The same; or the next one's octets aren't behind those of the elements before it (X.690 11.6).
+  -- The same; or the next one's octets are less than those of an element before it (X.690 11.6).
   abbrev pub StopsInOrder : ℕ → State → DecodeError → Type 0
   StopsInOrder id s e = IsOutOfMemory e.kind ⊎ ((vs : List Value) × (bs : List (List ℕ)) × (here : State) × DecodesInTurnFrom (Decodes (f id) tree_of) s vs bs here
       × (TakesNothing id here ⊎ ((new : State) × IsOutOfOrder (Decodes (f id) tree_of) bs here e new)))

@@ -379,7 +379,8 @@ fn component_fault(
     }
 }
 
-/// Returns the first component of a SEQUENCE that may be absent and isn't told from what may follow then (X.680 25.6).
+/// Returns the first component of a SEQUENCE that may be absent and isn't distinguished from what may
+/// follow then (X.680 25.6).
 fn components_clash(
     types: &[Type],
     levels: usize,

@@ -1,4 +1,4 @@
--- What the program answers to a line.
+-- The result of a line.
 use Rattle.std.specs.Prelude.{ℕ, List}
 use Rattle.rasn_types.specs.Shapes.{Shape}
 use Rattle.rasn_bench.specs.declared.line.ValueType.{ValueType}

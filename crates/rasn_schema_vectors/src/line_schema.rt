@@ -1,4 +1,4 @@
-//! Answers to the lines of `rasn-vectors`, by a schema.
+//! Results of the lines of `rasn-vectors`, by a schema.
 ghost use Rattle.std.specs.Prelude.{◌≡◌, IfOk, IfErr};
 ghost use Rattle.rasn_types.specs.Bytes.{Bytes};
 ghost use Rattle.rasn_types.specs.declared.types.codec.Codec.TheVariants.{Der};

@@ -33,7 +33,7 @@ fn main(rt: HostRuntime) -> ExitCode {
     }
 }
 
-/// Answers the lines that the arguments name, and returns whether none was malformed.
+/// Prints the results of the lines that the arguments name, and returns whether none was malformed.
 fn answer(rt: &HostRuntime) -> Result<bool, Fault> {
     let schema = LineSchema::new(rt.alloc()).map_err(Fault::Schema)?;
     answer_call(rt, &schema).map_err(Fault::Call)

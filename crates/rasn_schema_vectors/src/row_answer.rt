@@ -1,4 +1,4 @@
-//! The answers to rows: a row with what came of it.
+//! The results of rows: a row with its result.
 
 use crate::line_types::{LINE_TYPES, type_id};
 use crate::row::{Row, Verb};
