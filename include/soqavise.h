@@ -254,8 +254,8 @@ static inline soq_status soq_normalise(soq_type type, soq_rule rule, const uint8
  * The text is truncated if the buffer can't hold it and the zero at its end; with a capacity of 0 no text is written. For SOQ_OK,
  * SOQ_OUT_OF_MEMORY, SOQ_UNKNOWN_TYPE and SOQ_UNKNOWN_RULE the fields of `fault` are 0 and the text is empty.
  *
- * Contract: AnswersError, HoldsText (crates/rasn_c/specs/Errors.antt), from that of `Decode::decode`. The words of the text are tested, not
- * proved.
+ * Contract: AnswersError, HoldsText (crates/rasn_c/specs/Errors.antt), from that of `Decode::decode`. The text is the error's own: the
+ * rules, and what is wrong.
  */
 static inline soq_status soq_decode_error(soq_type type, soq_rule rule, const uint8_t *octets, size_t length, soq_fault *fault,
                                           char *text, size_t capacity) {

@@ -1,5 +1,5 @@
 -- Small clauses that several contracts share: what satisfies them, and what doesn't.
-use Rattle.std.specs.Prelude.{◌≡◌, ℕ, ◌+◌, ◌<◌, List, [], ◌∷◌, Some, None, Result, Ok, Err, pos, negsuc}
+use Rattle.std.specs.Prelude.{◌≡◌, ℕ, ◌+◌, ◌-◌, ◌^◌, ◌<◌, List, [], ◌∷◌, Some, None, Result, Ok, Err, pos, negsuc}
 use Rattle.rasn_types.specs.Tags.{in_universal}
 use Rattle.rasn_types.specs.declared.types.codec.Codec.TheVariants.{Ber}
 use Rattle.rasn_de.specs.declared.ber.de.parser.ParseError.{ParseError}
@@ -12,6 +12,7 @@ use Rattle.rasn_types.specs.CharacterString.{IsFirstForeign}
 use Rattle.rasn_types.specs.declared.types.strings.alphabet.Alphabet.TheVariants.{Printable}
 use Rattle.rasn_types.specs.Text.{shown_bits}
 use Rattle.rasn_types.specs.Contents.{bits_of}
+use Rattle.rasn_types.specs.Inline.{IsLong}
 
 -- The outcome of reading an OCTET STRING if every allocation fails.
 abbrev pub bare_octets : List ℕ → Result (List ℕ × List ℕ) ParseError
@@ -42,3 +43,8 @@ pub record WorkedClauses : Type 0 where
   pub nothing_collected : CollectsOctets Ber 2 (in_universal 4) (36 ∷ 0 ∷ []) → ⊥
   pub empty_collected : CollectsOctets Ber 2 (in_universal 4) (36 ∷ 2 ∷ 4 ∷ 0 ∷ []) → ⊥
   pub cut_collected : CollectsOctets Ber 2 (in_universal 4) (36 ∷ 3 ∷ 4 ∷ 2 ∷ 5 ∷ []) → ⊥
+  -- 2^183 and -2^183 - 1 take 24 octets, 2^183 - 1 and -2^183 take 23
+  pub long_number : IsLong (pos (2 ^ 183))
+  pub long_below : IsLong (negsuc (2 ^ 183))
+  pub greatest_inline : IsLong (pos (2 ^ 183 - 1)) → ⊥
+  pub least_inline : IsLong (negsuc (2 ^ 183 - 1)) → ⊥

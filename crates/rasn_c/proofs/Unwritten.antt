@@ -1,16 +1,31 @@
 -- Octets that have no normal encoding.
-use Rattle.std.proofs.Common.{◌≡◌, ◌↔◌, inl, inr, ℕ, List, Bool, true, false, sym, ◌∙◌, true≢false}
-use Rattle.std.specs.Prelude.{IsTrue}
+use Rattle.std.proofs.Common.{inl, inr, ℕ, List}
 use Rattle.rasn_types.specs.declared.types.codec.Codec.{Codec}
 use Rattle.rasn_types.specs.Shapes.{Shape}
 use Rattle.rasn.specs.declared.normal.NormaliseError.{NormaliseError}
-use Rattle.rasn.specs.Normal.{IsNormal, IsNoNormal, IsOutOfMemoryAlone}
+use Rattle.rasn.specs.Normal.{IsNoNormal}
 use Rattle.rasn.proofs.Normalised.{no_normal}
+use Rattle.rasn_c.specs.declared.status.Status.{Status}
+use Rattle.rasn_c.specs.declared.status.Status.TheVariants.{Ok, Refused, OutOfMemory, BufferTooSmall, UnknownType, UnknownRule}
+use Rattle.rasn_c.specs.Normal.{Asks, IsRefusal, IsUntouched, AnswersNormalise}
 
 -- What is refused for another cause than memory has none.
-pub no_encoding : {rule : Codec} {shape : Shape} {input : List ℕ} {memory : Bool} (e : NormaliseError) → IsNoNormal rule shape input e → (IsTrue memory ↔ IsOutOfMemoryAlone e) → memory ≡ false
-    → (octets : List ℕ) → IsNormal rule shape input octets → ⊥
-no_encoding {rule} {shape} {input} e n tells f octets m = elim (no_normal e n) [
-  | inl o ↦ true≢false (sym (tells.1 o) ∙ f)
-  | inr none ↦ none octets m
-]
+pub refused : {type number : ℕ} {rule : Codec} {shape : Shape} {old new : List ℕ} {needed : ℕ} (input : List ℕ) (error : NormaliseError) (status : Status) → IsRefusal error status
+    → Asks type number shape rule → IsNoNormal rule shape input error → IsUntouched old new needed → AnswersNormalise type number input old new needed status
+refused {type} {number} {rule} {shape} input error Refused is asks none same = (
+  (
+    rule,
+    shape,
+    asks,
+    λ normal m. elim (no_normal error none) [
+      | inl memory ↦ is memory
+      | inr missing ↦ missing normal m
+    ],
+  ),
+  same,
+)
+refused {type} {number} {rule} {shape} input error OutOfMemory is asks none same = ((rule, shape, asks), same)
+refused input error Ok is asks none same = absurd is
+refused input error BufferTooSmall is asks none same = absurd is
+refused input error UnknownType is asks none same = absurd is
+refused input error UnknownRule is asks none same = absurd is

@@ -1,8 +1,9 @@
 -- The reason why octets aren't exactly one value of a type.
-use Rattle.std.specs.Prelude.{◌≡◌, ◌+◌, ◌⊎◌, ℕ, List, [], length}
+use Rattle.std.specs.Prelude.{◌≡◌, ◌+◌, ◌⊎◌, ℕ, List, [], Some, length}
 use Rattle.rasn_types.specs.declared.types.codec.Codec.{Codec}
 use Rattle.rasn_types.specs.declared.error.decode.DecodeError.{DecodeError}
 use Rattle.rasn_types.specs.Errors.{IsOutOfMemory}
+use Rattle.rasn_types.specs.ErrorText.{shown_decode_error}
 use Rattle.rasn_types.specs.Shapes.{Shape, Tree}
 use Rattle.rasn_types.specs.Grammar.{Reads, top}
 use Rattle.rasn_de.specs.Outcomes.{Exact, Got, refusal}
@@ -48,24 +49,38 @@ pub record IsNoFault (fault : Fault) : Type 0 where
   pub offset : fault.offset ≡ 0
   pub text_length : fault.text_length ≡ 0
 
--- The octets are refused for an error other than a failed allocation, and the fault has its kind and offset.
-pub record IsTold (rule : Codec) (shape : Shape) (octets : List ℕ) (fault : Fault) : Type 0 where
-  pub error : DecodeError
-  pub refused : IsRefusedAt rule shape octets fault.offset error
+-- The fault and the text are those of this error, at this offset. It isn't a failed allocation.
+pub record IsFaultOf (offset : ℕ) (error : DecodeError) (fault : Fault) (text : List ℕ) : Type 0 where
   pub memory : IsOutOfMemory error.kind → ⊥
   pub kind : fault.kind ≡ kind_number error.kind
+  pub offset_is : fault.offset ≡ offset
+  pub shown : shown_decode_error error ≡ Some text
 
--- The status and fault of a call that reads octets as exactly one value, with the numbers of a type and of rules.
-abbrev pub AnswersError : ℕ → ℕ → List ℕ → Fault → Status → Type 0
-AnswersError type number octets fault Ok = ((rule : Codec) × (shape : Shape) × Asks type number shape rule × IsAlone rule shape octets) × IsNoFault fault
-AnswersError type number octets fault Refused = (rule : Codec) × (shape : Shape) × Asks type number shape rule × IsTold rule shape octets fault
-AnswersError type number octets fault OutOfMemory = ((rule : Codec) × (shape : Shape) × Asks type number shape rule) × IsNoFault fault
-AnswersError type number octets fault UnknownType = IsUnknownType type × IsNoFault fault
-AnswersError type number octets fault UnknownRule = IsUnknownRule number × IsNoFault fault
-AnswersError type number octets fault BufferTooSmall = ⊥
+-- The result for an error at this offset: its fault; or a failed allocation, which may also be that of the text.
+abbrev pub IsToldOf : ℕ → DecodeError → Fault → List ℕ → Status → Type 0
+IsToldOf offset error fault text Refused = IsFaultOf offset error fault text
+IsToldOf offset error fault text OutOfMemory = IsNoFault fault
+IsToldOf offset error fault text _ = ⊥
 
--- The buffer holds a text of the length that the fault reports, truncated if it doesn't fit.
-pub record HoldsText (fault : Fault) (old new : List ℕ) : Type 0 where
+-- The octets are refused for an error, and the fault and the text are its own.
+pub record IsTold (rule : Codec) (shape : Shape) (octets : List ℕ) (fault : Fault) (text : List ℕ) : Type 0 where
+  pub offset : ℕ
+  pub error : DecodeError
+  pub refused : IsRefusedAt rule shape octets offset error
+  pub told : IsFaultOf offset error fault text
+
+-- The status, fault and text of a call that reads octets as exactly one value, with the numbers of a type and of rules.
+abbrev pub AnswersError : ℕ → ℕ → List ℕ → Fault → List ℕ → Status → Type 0
+AnswersError type number octets fault text Ok = ((rule : Codec) × (shape : Shape) × Asks type number shape rule × IsAlone rule shape octets) × IsNoFault fault
+AnswersError type number octets fault text Refused = (rule : Codec) × (shape : Shape) × Asks type number shape rule × IsTold rule shape octets fault text
+AnswersError type number octets fault text OutOfMemory = ((rule : Codec) × (shape : Shape) × Asks type number shape rule) × IsNoFault fault
+AnswersError type number octets fault text UnknownType = IsUnknownType type × IsNoFault fault
+AnswersError type number octets fault text UnknownRule = IsUnknownRule number × IsNoFault fault
+AnswersError type number octets fault text BufferTooSmall = ⊥
+
+-- The buffer holds a text of which this is true, truncated if it doesn't fit, and the fault has its length.
+pub record HoldsText (Is : List ℕ → Type 0) (fault : Fault) (old new : List ℕ) : Type 0 where
   pub text : List ℕ
+  pub is : Is text
   pub long : fault.text_length ≡ length text
   pub cut : IsCutInto text old new

@@ -2,7 +2,8 @@
 use Rattle.std.specs.Prelude.{◌≡◌, ◌<◌, ◌≤◌, ℕ, List, length}
 use Rattle.rasn_types.specs.declared.types.codec.Codec.{Codec}
 use Rattle.rasn_types.specs.Shapes.{Shape}
-use Rattle.rasn.specs.Normal.{IsNormal}
+use Rattle.rasn.specs.declared.normal.NormaliseError.{NormaliseError}
+use Rattle.rasn.specs.Normal.{IsNormal, IsOutOfMemoryAlone}
 use Rattle.rasn_c.specs.Types.{IsShapeOf, IsUnknownType}
 use Rattle.rasn_c.specs.Rules.{rule_number, IsUnknownRule}
 use Rattle.rasn_c.specs.Buffers.{written_over}
@@ -13,6 +14,12 @@ use Rattle.rasn_c.specs.declared.status.Status.TheVariants.{Ok, Refused, OutOfMe
 pub record Asks (type number : ℕ) (shape : Shape) (rule : Codec) : Type 0 where
   pub shape_is : IsShapeOf type shape
   pub rule_is : number ≡ rule_number rule
+
+-- The status of a refusal: a failed allocation exactly if nothing else is the cause.
+abbrev pub IsRefusal : NormaliseError → Status → Type 0
+IsRefusal error Refused = IsOutOfMemoryAlone error → ⊥
+IsRefusal error OutOfMemory = IsOutOfMemoryAlone error
+IsRefusal error _ = ⊥
 
 -- The buffer is unchanged, and the length is 0.
 pub record IsUntouched (old new : List ℕ) (needed : ℕ) : Type 0 where

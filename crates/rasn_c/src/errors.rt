@@ -1,8 +1,9 @@
 //! The reason why octets aren't one value.
-ghost use Rattle.std.specs.Prelude.{◌≡◌, length, string_bytes};
+ghost use Rattle.std.specs.Prelude.{◌≡◌, List, ℕ, Some, IfOk, length, string_bytes};
+ghost use Rattle.rasn_types.specs.ErrorText.{shown_decode_error};
 ghost use Rattle.rasn_c.specs.Status.{IsNumberOf};
 ghost use Rattle.rasn_c.specs.declared.status.Status.TheVariants.{Refused};
-ghost use Rattle.rasn_c.specs.Errors.{AnswersError, HoldsText, IsNoFault};
+ghost use Rattle.rasn_c.specs.Errors.{AnswersError, HoldsText, IsNoFault, IsToldOf};
 
 use crate::buffers::put_text;
 use crate::error_kinds::kind_number;
@@ -10,7 +11,8 @@ use crate::reading::Reading;
 use crate::rules::rule_numbered;
 use crate::status::Status;
 use crate::types::answer_of;
-use std::alloc::Global;
+use rasn::error::DecodeError;
+use std::alloc::{AllocError, Global};
 
 /// The reason why octets aren't one value: `soq_fault` of the header.
 #[repr(C)]
@@ -35,8 +37,7 @@ pub extern "C" fn soq_proved_decode_error(
     fault: &mut Fault,
     buffer: &mut [u8],
 ) -> u32
-    ensures answer { IsNumberOf (AnswersError type_number rule octets.now fault.new) result }
-    ensures text { HoldsText fault.new buffer.old buffer.new }
+    ensures { IsNumberOf (λ status. HoldsText (λ text. AnswersError type_number rule octets.now fault.new text status) fault.new buffer.old buffer.new) result }
 {
     let told = tell(alloc, type_number, rule, octets);
     *fault = told.fault;
@@ -70,12 +71,27 @@ impl Told {
         }
     }
 
+    /// Returns the result for an error at this offset, or for a failed allocation.
+    fn of_error(alloc: Global, offset: usize, error: &DecodeError) -> Told
+        ensures told { IsToldOf offset error.now result.fault (string_bytes result.text) result.status }
+        ensures text { result.fault.text_length ≡ length (string_bytes result.text) }
+    {
+        if error.is_out_of_memory() {
+            return Told::without_fault(alloc, Status::OutOfMemory);
+        }
+        let Ok(text) = shown(alloc, error) else {
+            return Told::without_fault(alloc, Status::OutOfMemory);
+        };
+        Told::refused(kind_number(&error.kind), offset, text)
+    }
+
     /// Returns the result for octets that are refused from the offset on, for the cause of this
     /// number.
     fn refused(kind: u32, offset: usize, text: String) -> Told
         ensures status { result.status ≡ Refused }
         ensures kind { result.fault.kind ≡ kind }
         ensures offset { result.fault.offset ≡ offset }
+        ensures told { string_bytes result.text ≡ string_bytes text }
         ensures text { result.fault.text_length ≡ length (string_bytes result.text) }
     {
         Told {
@@ -93,7 +109,7 @@ impl Told {
 /// Returns the reason why the octets aren't exactly one value. The type and the rules are given by
 /// their numbers.
 fn tell(alloc: Global, type_number: u32, rule: u32, octets: &[u8]) -> Told
-    ensures answer { AnswersError type_number rule octets.now result.fault result.status }
+    ensures answer { AnswersError type_number rule octets.now result.fault (string_bytes result.text) result.status }
     ensures text { result.fault.text_length ≡ length (string_bytes result.text) }
 {
     let Some(rule) = rule_numbered(rule) else {
@@ -102,14 +118,13 @@ fn tell(alloc: Global, type_number: u32, rule: u32, octets: &[u8]) -> Told
     match answer_of::<Reading>(alloc, type_number, rule, octets) {
         None => Told::without_fault(alloc, Status::UnknownType),
         Some(Reading::Alone) => Told::without_fault(alloc, Status::Ok),
-        Some(Reading::Refused { offset, error }) => {
-            if error.is_out_of_memory() {
-                return Told::without_fault(alloc, Status::OutOfMemory);
-            }
-            let Ok(text) = format!(in alloc; "{error}") else {
-                return Told::without_fault(alloc, Status::OutOfMemory);
-            };
-            Told::refused(kind_number(&error.kind), offset, text)
-        }
+        Some(Reading::Refused { offset, error }) => Told::of_error(alloc, offset, &error),
     }
+}
+
+/// The text of an error: the rules, and what is wrong.
+fn shown(alloc: Global, error: &DecodeError) -> Result<String, AllocError>
+    ensures { IfOk result (λ text. shown_decode_error error.now ≡ Some (string_bytes text)) }
+{
+    format!(in alloc; "{error}")
 }

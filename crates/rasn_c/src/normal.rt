@@ -1,6 +1,6 @@
 //! Conversion of an encoding under any of the three rules to that of DER.
 ghost use Rattle.rasn_c.specs.Status.{IsNumberOf};
-ghost use Rattle.rasn_c.specs.Normal.{AnswersNormalise};
+ghost use Rattle.rasn_c.specs.Normal.{AnswersNormalise, IsRefusal};
 
 use crate::buffers::put;
 use crate::rules::rule_numbered;
@@ -45,7 +45,6 @@ pub extern "C" fn soq_proved_normalise(
     put_normal(alloc, type_number, rule, octets, buffer, needed).number()
 }
 
-#[tactic(auto, using(crate::proofs::Unwritten::no_encoding))]
 fn put_normal(
     alloc: Global,
     type_number: u32,
@@ -69,8 +68,18 @@ fn put_normal(
                 Status::BufferTooSmall
             }
         }
-        Some(Err(error)) if error.is_out_of_memory() => Status::OutOfMemory,
-        Some(Err(_)) => Status::Refused,
+        Some(Err(error)) => refusal(&error),
         None => Status::UnknownType,
+    }
+}
+
+/// The status of a refusal.
+fn refusal(error: &NormaliseError) -> Status
+    ensures { IsRefusal error.now result }
+{
+    if error.is_out_of_memory() {
+        Status::OutOfMemory
+    } else {
+        Status::Refused
     }
 }

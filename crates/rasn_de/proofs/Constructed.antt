@@ -16,3 +16,4 @@ pub mod Ascending
 pub mod Prefix
 pub mod Optional
 pub mod Choice
+pub mod Beyond

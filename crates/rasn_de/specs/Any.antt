@@ -1,5 +1,5 @@
 -- Open types: which octets are read, and the first fault (8.1.1.1, 8.14).
-use Rattle.std.specs.Prelude.{◌≡◌, ◌⊎◌, ℕ, true, List, Option, Some, None, Result, Ok, Err}
+use Rattle.std.specs.Prelude.{◌≡◌, ◌≢◌, ◌⊎◌, ℕ, true, List, [], Option, Some, None, Result, Ok, Err}
 use Rattle.std.specs.Borrow.{Bor}
 use Rattle.rasn_types.specs.declared.types.tag.Tag.{Tag}
 use Rattle.rasn_types.specs.declared.types.codec.Codec.{Codec}
@@ -40,11 +40,11 @@ abbrev pub as_lists : Result (Bor (List ℕ) × Bor (List ℕ)) ParseError → R
 as_lists (Ok p) = Ok (p.0.now, p.1.now)
 as_lists (Err e) = Err e
 
--- A call returns the octets, or the first fault, or the allocation for the copy of octets that were read fails. An
--- error consumes nothing.
+-- A call returns the octets, or the first fault, or an allocation fails for the copy of octets, of which there are some.
+-- An error consumes nothing.
 abbrev pub DecodesOpenType : Tag → State → Result Any DecodeError → State → Type 0
 DecodesOpenType tag old (Ok a) new = OpenAt old.rule (looked_for tag) old.rest (Ok (a, new.rest)) × (new ≡ at old new.rest)
-DecodesOpenType tag old (Err e) new = ((IsOutOfMemory e.kind × (e.codec ≡ old.rule) × (p : List ℕ × List ℕ) × OpenAt old.rule (looked_for tag) old.rest (Ok p)) ⊎ ((fault : ParseError) × OpenAt old.rule (looked_for tag) old.rest (Err fault) × IsErrorOf fault old e)) × (new ≡ old)
+DecodesOpenType tag old (Err e) new = ((IsOutOfMemory e.kind × (e.codec ≡ old.rule) × (p : List ℕ × List ℕ) × OpenAt old.rule (looked_for tag) old.rest (Ok p) × (p.0 ≢ [])) ⊎ ((fault : ParseError) × OpenAt old.rule (looked_for tag) old.rest (Err fault) × IsErrorOf fault old e)) × (new ≡ old)
 
 -- A call returns the octets, or the first fault, which consumes nothing.
 abbrev pub BorrowsOpenType : Tag → State → Result (Bor (List ℕ)) DecodeError → State → Type 0

@@ -1,11 +1,12 @@
 -- What values keep of the octets that they were read from, beyond their trees.
-use Rattle.std.specs.Prelude.{◌≡◌, Option, Some, None, Ok}
+use Rattle.std.specs.Prelude.{◌≡◌, ◌⊎◌, Option, Some, None, Ok, List, [], ◌∷◌, ◌++◌}
 use Rattle.rasn_types.specs.declared.types.tag.Tag.{Tag}
 use Rattle.rasn_types.specs.declared.types.parts.OneOf.{OneOf}
 use Rattle.rasn_types.specs.declared.types.parts.OneOf.TheVariants.{This, Other}
 use Rattle.rasn_de.specs.Headers.{Header}
 use Rattle.rasn_de.specs.State.{State, Call}
-use Rattle.rasn_de.specs.Constructed.{sequence_header, constructed_header_at, contents_state}
+use Rattle.rasn_de.specs.declared.ber.de.constructed.ConstructedHeader.{ConstructedHeader}
+use Rattle.rasn_de.specs.Constructed.{prefix_header, constructed_header_at, contents_state}
 
 -- A statement about a value that a decoder reads from one state to another.
 abbrev pub Beyond : Type 0 → Type 1
@@ -27,7 +28,23 @@ abbrev pub BeyondOptional : {A : Type 0} → Beyond A → Beyond (Option A)
 BeyondOptional part old (Some v) new = part old v new
 BeyondOptional part old None new = new ≡ old
 
--- What the parts of a SEQUENCE with this tag keep.
-abbrev pub BeyondInside : {D : Type 0} → Beyond D → Tag → State → D → Type 0
-BeyondInside parts tag old v =
-    (h : Header) × (constructed_header_at (sequence_header tag) old.rule old.depth old.rest ≡ Ok h) × (left : State) × parts (contents_state (sequence_header tag) old h) v left
+-- A default is made if the value is left out.
+abbrev pub BeyondDefault : {A : Type 0} → Beyond A → Beyond A
+BeyondDefault part old v new = part old v new ⊎ (new ≡ old)
+
+-- One more element, and all elements, one after the other.
+abbrev pub BeyondElement : {A : Type 0} → Beyond A → State → List A → List A → State → Type 0
+BeyondElement {A} element old before all new = (v : A) × (all ≡ before ++ (v ∷ [])) × element old v new
+
+abbrev pub BeyondElements : {A : Type 0} → Beyond A → Beyond (List A)
+BeyondElements element old [] new = new ≡ old
+BeyondElements element old (v ∷ vs) new = (here : State) × element old v here × BeyondElements element here vs new
+
+-- What the contents of a value with such a header keep.
+abbrev pub BeyondInside : {D : Type 0} → Beyond D → ConstructedHeader → State → D → Type 0
+BeyondInside held header old v =
+    (h : Header) × (constructed_header_at header old.rule old.depth old.rest ≡ Ok h) × (left : State) × held (contents_state header old h) v left
+
+-- A value under an explicit tag.
+abbrev pub BeyondPrefix : {D : Type 0} → Beyond D → Tag → Beyond D
+BeyondPrefix held tag old v new = BeyondInside held (prefix_header tag) old v

@@ -1,5 +1,5 @@
 -- Character strings, read from lists: all octets are collected, and then checked as a whole.
-use Rattle.std.specs.Prelude.{◌≡◌, ◌≢◌, ◌<◌, ◌≤◌, ◌⊎◌, ℕ, List, length, slice_index, Option, Result, Ok, Err, chars, IsUtf8}
+use Rattle.std.specs.Prelude.{◌≡◌, ◌≢◌, ◌<◌, ◌≤◌, ◌⊎◌, ℕ, List, [], length, slice_index, Option, Result, Ok, Err, chars, IsUtf8}
 use Rattle.std.specs.List.{AllWithin}
 use Rattle.std.specs.Cow.{cow_slice_items, cow_str_bytes, IsOwnedSlice, IsOwnedStr}
 use Rattle.std.specs.declared.borrow.CowSlice.{CowSlice}
@@ -82,10 +82,10 @@ StringAt Told rule depth tag l (Err e) =
 abbrev pub AllocFailsCollecting : (Codec → ℕ → Tag → List ℕ → Type 0) → Tag → State → DecodeError → State → Type 0
 AllocFailsCollecting Collects tag old e new = IsOutOfMemory e.kind × (e.codec ≡ old.rule) × (new ≡ old) × Collects old.rule old.depth tag old.rest
 
--- An allocation fails for the copy of a primitive string that passes its check, and the value is consumed.
+-- An allocation fails for the copy of a primitive string that passes its check and isn't empty, and the value is consumed.
 abbrev pub AllocFailsCopying : StringCheck → Tag → State → DecodeError → State → Type 0
 AllocFailsCopying Told tag old e new = IsOutOfMemory e.kind × (e.codec ≡ old.rule) × (new ≡ at old new.rest) × IsPrimitive old.rule tag old.rest
-    × (p : List ℕ × List ℕ) × StringAt Told old.rule old.depth tag old.rest (Ok p) × (p.1 ≡ new.rest)
+    × (p : List ℕ × List ℕ) × StringAt Told old.rule old.depth tag old.rest (Ok p) × (p.1 ≡ new.rest) × (p.0 ≢ [])
 
 -- A call returns the result of the reading, or an allocation fails.
 abbrev pub DecodesString : {X : Type 0} → (X → List ℕ) → StringCheck → Tag → State → Result X DecodeError → State → Type 0

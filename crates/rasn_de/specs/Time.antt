@@ -1,5 +1,5 @@
 -- Times, read as strings whose octets are the text of an instant or a day.
-use Rattle.std.specs.Prelude.{◌≡◌, ◌⊎◌, ℕ, ℤ, List, Result, Ok, Err}
+use Rattle.std.specs.Prelude.{◌≡◌, ◌≢◌, ◌⊎◌, ℕ, ℤ, List, [], Result, Ok, Err}
 use Rattle.std.specs.Cow.{cow_slice_items, IsBorrowedSlice}
 use Rattle.std.specs.declared.alloc.Global.{Global}
 use Rattle.std.specs.declared.borrow.CowSlice.{CowSlice}
@@ -29,9 +29,13 @@ pub record IsInvalidDate (text : List ℕ) (rule : Codec) (e : DecodeError) : Ty
 abbrev pub IsAllocError : Codec → DecodeError → Type 0
 IsAllocError rule e = e ≡ record { kind = OutOfMemory; codec = rule }
 
+-- The error of a text that isn't a valid time and has to be copied: an empty one takes no memory.
+abbrev pub IsInvalidText : List ℕ → Codec → DecodeError → Type 0
+IsInvalidText text rule e = IsInvalidDate text rule e ⊎ (IsAllocError rule e × (text ≢ []))
+
 -- The error contains the octets of a string that isn't a valid time or date. Borrowed octets are copied for it.
 abbrev pub IsInvalidString : CowSlice ℕ Global → Codec → DecodeError → Type 0
-IsInvalidString s rule e = IsInvalidDate (cow_slice_items s) rule e ⊎ (IsAllocError rule e × IsBorrowedSlice s)
+IsInvalidString s rule e = IsInvalidDate (cow_slice_items s) rule e ⊎ (IsAllocError rule e × IsBorrowedSlice s × (cow_slice_items s ≢ []))
 
 -- A text is parsed to what it means. If it means nothing, the error contains it.
 abbrev pub ParsesTime : {X : Type 0} → (List ℕ → X → Type 0) → List ℕ → Result X DecodeError → Type 0
@@ -41,7 +45,7 @@ ParsesTime {X} Means text (Err e) = ((x : X) → Means text x → ⊥) × IsInva
 -- A text is parsed to what it means. If it means nothing, the error contains it, or the allocation for its copy failed.
 abbrev pub ParsesCopiedTime : {X : Type 0} → (List ℕ → X → Type 0) → List ℕ → Result X DecodeError → Type 0
 ParsesCopiedTime Means text (Ok x) = Means text x
-ParsesCopiedTime {X} Means text (Err e) = ((x : X) → Means text x → ⊥) × (IsInvalidDate text Ber e ⊎ IsAllocError Ber e)
+ParsesCopiedTime {X} Means text (Err e) = ((x : X) → Means text x → ⊥) × IsInvalidText text Ber e
 
 -- A call consumes a string whose text means a time or a date. If the string can't be read, the error is that of the
 -- string, and nothing is consumed. If its text means nothing, the string is consumed; the text of a primitive string is
@@ -52,4 +56,4 @@ DecodesTime Means tag old (Ok x) new =
 DecodesTime {X} Means tag old (Err e) new =
     DecodesOctets tag old (Err e) new
     ⊎ ((text : List ℕ) × (octet_string_at old.rule old.depth tag old.rest ≡ Ok (text, new.rest)) × (new ≡ at old new.rest) × ((x : X) → Means text x → ⊥)
-    × (IsInvalidDate text old.rule e ⊎ (IsAllocError old.rule e × IsPrimitive old.rule tag old.rest)))
+    × (IsInvalidDate text old.rule e ⊎ (IsAllocError old.rule e × IsPrimitive old.rule tag old.rest × (text ≢ []))))

@@ -20,8 +20,8 @@ use Rattle.rasn_schema.specs.declared.types.«Type».{«Type»}
 use Rattle.rasn_schema.specs.declared.value.Value.{Value, Boolean, Null, Integer as Number, Bits, Octets, Text, Units, Arcs, Instant, Day, Absent, Items, Items', Elements, Elements', Chosen', Row_of-Value, end_of-Value, more_of-Value, items-the_row-Value, items_hidden-the_row-Value-0}
 use Rattle.rasn_schema.specs.Trees.{tree_of, trees_in}
 use Rattle.rasn_schema.specs.Shapes.{presence_of}
-use Rattle.rasn_dynamic.specs.Written.{IsLeftOutAs}
-use Rattle.rasn_dynamic.specs.Fitting.{Fits, FitsBy, FitsFound, NumberFits, OctetsFit, FitsLeaf, AreItems, AreElements, ComponentFits, ComponentsFit, EachFits}
+use Rattle.rasn_schema.specs.Fitting.{IsLeftOutAs}
+use Rattle.rasn_schema.specs.Fitting.{Fits, FitsBy, FitsFound, NumberFits, OctetsFit, FitsLeaf, AreItems, AreElements, ComponentFits, ComponentsFit, EachFits}
 use Rattle.rasn_dynamic.specs.Found.{OneFound, FoundFit}
 use Rattle.rasn_dynamic.specs.Calls.{nones, IsMade, IsPut, IsValueOf, AreSettled, Gathers, IsNumberIn, IsStringOf}
 use Rattle.rasn_dynamic.specs.Typed.{IsSized}

@@ -22,7 +22,7 @@ use Rattle.rasn_schema.specs.declared.types.LeafKind.TheVariants.{OctetString, F
 use Rattle.rasn_schema.specs.declared.value.Value.{Value, Integer as Whole, Octets}
 use Rattle.rasn_schema.specs.Trees.{tree_of}
 use Rattle.rasn_schema.specs.Shapes.{kind_of}
-use Rattle.rasn_dynamic.specs.Fitting.{NumberFits, OctetsFit, IsNumber, AreOctets}
+use Rattle.rasn_schema.specs.Fitting.{NumberFits, OctetsFit, IsNumber, AreOctets}
 use Rattle.rasn_dynamic.specs.Written.{Encodes}
 
 -- The kind and the value are these.

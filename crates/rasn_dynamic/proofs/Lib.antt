@@ -10,12 +10,10 @@ pub mod Component
 pub mod Enclosed
 pub mod WrittenInside
 pub mod Canonical
-pub mod Fitted
 pub mod OnlyFitting
 pub mod FitsRead
 pub mod FixedOctets
 pub mod Numbers
-pub mod ListsOf
 pub mod UnfitParts
 pub mod LeafWritten
 pub mod Faults

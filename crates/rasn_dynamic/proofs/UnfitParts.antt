@@ -10,9 +10,10 @@ use Rattle.rasn_schema.proofs.Lists.{some_is}
 use Rattle.rasn_types.specs.declared.types.tag.Tag.{Tag}
 use Rattle.rasn_schema.specs.declared.type_id.TypeId.{TypeId}
 use Rattle.rasn_dynamic.specs.declared.unfit.Part.{Part}
-use Rattle.rasn_dynamic.proofs.Fitted.{fits_is}
-use Rattle.rasn_dynamic.proofs.ListsOf.{list_to, list_from}
-use Rattle.rasn_dynamic.specs.Fitting.{Fits, FitsBy, AreItems, AreElements, IsListOf, IsSetOf, AlternativeFits, ComponentFits, ComponentsFit, EachFits, IsChosen, IsOfAlternative, IsPart, IsOtherForm, IsUnfitIn, IsUnfitBy, IsUnfitFound, IsUnfitAt}
+use Rattle.rasn_schema.proofs.Fitted.{fits_is}
+use Rattle.rasn_schema.proofs.ListsOf.{list_to, list_from}
+use Rattle.rasn_schema.specs.Fitting.{Fits, FitsBy, AreItems, AreElements, IsListOf, IsSetOf, AlternativeFits, ComponentFits, ComponentsFit, EachFits, IsChosen}
+use Rattle.rasn_dynamic.specs.Unfit.{IsOfAlternative, IsPart, IsOtherForm, IsUnfitIn, IsUnfitBy, IsUnfitFound, IsUnfitAt}
 
 -- ---- components and elements by index
 

@@ -33,11 +33,12 @@ use Rattle.rasn_enc.specs.Primitive.{IsAllocError, IsOrderError}
 use Rattle.rasn_enc.specs.Errors.{FailsAtSize}
 use Rattle.rasn_schema.specs.declared.types.Alternative.{Alternative}
 use Rattle.rasn_schema.proofs.Lists.{some_is}
-use Rattle.rasn_dynamic.specs.Fitting.{ComponentFits, ComponentsFit, EachFits, AreItems, IsListOf, IsChosen}
-use Rattle.rasn_dynamic.specs.Written.{WritesInside, EncodesPartIf, Encodes, EncodesIf, EncodesInside, EncodesInsideIf, EncodesPartsIf, EncodesElements, EncodesElementsIf, EncodesSetOf, EncodesSetOfIf, OnlyFitting, IsEnclosed, HoldsOthers, keeps_tags, IsLeftOutAs}
+use Rattle.rasn_schema.specs.Fitting.{ComponentFits, ComponentsFit, EachFits, AreItems, IsListOf, IsChosen}
+use Rattle.rasn_dynamic.specs.Written.{WritesInside, EncodesPartIf, Encodes, EncodesIf, EncodesInside, EncodesInsideIf, EncodesPartsIf, EncodesElements, EncodesElementsIf, EncodesSetOf, EncodesSetOfIf, OnlyFitting, IsEnclosed, HoldsOthers, keeps_tags}
+use Rattle.rasn_schema.specs.Fitting.{IsLeftOutAs}
 use Rattle.rasn_dynamic.proofs.OnlyFitting.{fits_as}
-use Rattle.rasn_dynamic.proofs.Fitted.{FitSoFar, EachSoFar}
-use Rattle.rasn_dynamic.proofs.ListsOf.{list_to}
+use Rattle.rasn_schema.proofs.Fitted.{FitSoFar, EachSoFar}
+use Rattle.rasn_schema.proofs.ListsOf.{list_to}
 
 octets_of_fresh : (l : OpenList) (keeps : Bool) → l ≡ fresh keeps → l.octets ≡ []
 octets_of_fresh l keeps e = ap (λ (x : OpenList). x.octets) e

@@ -15,7 +15,8 @@ use Rattle.rasn_schema.specs.declared.value.Value.{Value}
 use Rattle.rasn_types.specs.Errors.{IsEncodeOutOfMemory}
 use Rattle.rasn_enc.specs.Encoding.{NoEncoding}
 use Rattle.rasn_schema.specs.Trees.{tree_of}
-use Rattle.rasn_dynamic.specs.Fitting.{Fits, IsUnfitAt}
+use Rattle.rasn_schema.specs.Fitting.{Fits}
+use Rattle.rasn_dynamic.specs.Unfit.{IsUnfitAt}
 use Rattle.rasn_dynamic.specs.declared.entry.WriteError.{WriteError}
 use Rattle.rasn_dynamic.specs.declared.entry.WriteError.TheVariants.{Unfit, Encode as Written}
 

@@ -3,7 +3,7 @@ pub mod Typed
 pub mod Calls
 pub mod Written
 pub mod Entry
-pub mod Fitting
+pub mod Unfit
 pub mod Found
 pub mod Faults
 pub mod Paths

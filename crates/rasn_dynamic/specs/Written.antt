@@ -64,7 +64,7 @@ pub record EncodesInside (s : Shape) (t : Tree) (v : View) (r : Result (Unit {0}
   pub ok : OnOk r (WritesInside v.rule s t w.last.octets)
   pub refused : IfErr r (λ e. IsEncodeOutOfMemory e.kind ⊎ ((c : List ℕ) → WritesInside v.rule s t c → ⊥))
 
--- The same of elements one after the other, and of those of a SET OF.
+-- The same of elements, one after the other, and of those of a SET OF.
 pub record EncodesElements (s : Shape) (ts : List Tree) (v : View) (r : Result (Unit {0}) EncodeError) (w : View) : Type 0 where
   pub ok : OnOk r (AppendsElements s ts v w)
   pub refused : IfErr r (FailsAtElement s ts v.rule)
@@ -104,10 +104,3 @@ EncodesSetOfIf F s ts v r w = OnlyFitting F (EncodesSetOf s ts v r w) (LeavesOth
 abbrev pub keeps_tags : Shape → Bool
 keeps_tags (set tag ps) = true
 keeps_tags _ = false
-
--- a component that isn't written if its value means this
-abbrev pub IsLeftOutAs : Presence → Tree → Type 0
-IsLeftOutAs required t = ⊥
-IsLeftOutAs optional t = t ≡ absent
-IsLeftOutAs addition t = t ≡ absent
-IsLeftOutAs (default d) t = Same t d

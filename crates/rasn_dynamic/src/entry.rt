@@ -10,7 +10,6 @@ ghost use Rattle.rasn_enc.specs.Primitive.{IsAllocError};
 ghost use Rattle.rasn_schema.specs.Trees.{tree_of};
 ghost use Rattle.rasn_dynamic.specs.Entry.{IsEncoded, IsNotEncoded, FailsIfFits, NamesRules, IsReadBack, IsNormalOf, IsNoNormalOf, FitsType, shape_of};
 
-use crate::fitting::fits;
 use crate::path::ValuePath;
 use crate::reader::decode_at;
 use crate::unfit::append_unfit_path;
@@ -18,7 +17,7 @@ use crate::writer::encode_at;
 use rasn::{NormaliseError, refuse_remainder};
 use rasn_de::ber::de::{Decoder, DecoderOptions};
 use rasn_enc::ber::enc::{Encoder, EncoderOptions, INITIAL_CAPACITY};
-use rasn_schema::{Schema, TypeId, Value};
+use rasn_schema::{Schema, TypeId, Value, fits};
 use rasn_types::error::{DecodeError, EncodeError, EncodeErrorKind};
 use rasn_types::types::Codec;
 use std::alloc::{AllocError, Global};

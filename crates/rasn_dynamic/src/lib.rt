@@ -5,8 +5,6 @@
 
 mod components;
 mod entry;
-mod fit;
-mod fitting;
 mod locate;
 mod order;
 mod path;
@@ -22,8 +20,8 @@ mod writer;
 pub use entry::{
     WriteError, decode, decode_with_remainder, encode, encode_buf, is_canonical, normalise,
 };
-pub use fitting::fits;
 pub use locate::decode_or_locate;
 pub use path::ValuePath;
 pub use rasn::NormaliseError;
+pub use rasn_schema::fits;
 pub use refusal::{NamedRefusal, Refusal};

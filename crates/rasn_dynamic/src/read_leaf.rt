@@ -13,15 +13,15 @@ ghost use Rattle.rasn_schema.specs.Trees.{tree_of};
 ghost use Rattle.rasn_schema.specs.Shapes.{kind_of, numbers_of};
 ghost use Rattle.rasn_schema.specs.declared.types.LeafKind.TheVariants.{FixedOctetString as FixedKind, UtcTime as UtcTimeKind};
 ghost use Rattle.rasn_dynamic.specs.Calls.{IsNumberIn, IsStringOf, FailsAtNumber, FailsAtFixed};
-ghost use Rattle.rasn_dynamic.specs.Fitting.{FitsLeaf, IsNumber, AreOctets};
+ghost use Rattle.rasn_schema.specs.Fitting.{FitsLeaf, IsNumber, AreOctets};
 
 use rasn_de::ber::de::Decoder;
 use rasn_de::de::Decode;
 use rasn_schema::{LeafKind, NamedNumber, Value};
 use rasn_types::error::{DecodeError, DecodeErrorKind};
 use rasn_types::types::{
-    Alphabet, BitString, Bounded, Constraints, Date, GeneralizedTime, Integer, IntegerType,
-    LONGEST_NUMBER, ObjectIdentifier, Tag, UtcTime,
+    Alphabet, Bounded, Constraints, Date, GeneralizedTime, Integer, IntegerType, LONGEST_NUMBER,
+    ObjectIdentifier, Tag, UtcTime,
 };
 use std::alloc::{AllocError, Global};
 use std::borrow::CowSlice;
@@ -176,9 +176,7 @@ pub fn decode_leaf<'input>(
         LeafKind::ObjectIdentifier => Ok(Value::Arcs(
             ObjectIdentifier::decode_with_tag_and_constraints(decoder, tag, bounds)?,
         )),
-        LeafKind::BitString => Ok(Value::Bits(BitString::decode_with_tag_and_constraints(
-            decoder, tag, bounds,
-        )?)),
+        LeafKind::BitString => Ok(Value::Bits(decoder.decode_bits(tag, bounds)?)),
         LeafKind::OctetString => Ok(Value::Octets(decoder.decode_octet_string(tag, bounds)?)),
         LeafKind::FixedOctetString(len) => decode_fixed_octets(decoder, len, tag, bounds),
         LeafKind::Integer => Ok(Value::Integer(Integer::decode_with_tag_and_constraints(

@@ -18,7 +18,7 @@ ghost use Rattle.rasn_schema.specs.Shapes.{shape_of_type, type_by, alternatives_
 ghost use Rattle.rasn_dynamic.specs.Inside.{ReadsSequence, ReadsComponent};
 ghost use Rattle.rasn_dynamic.specs.Typed.{element_count, IsSized, HoldsOthers, DecodesContents, DecodesType};
 ghost use Rattle.rasn_dynamic.specs.Calls.{held, nones, names_of, IsKept, DecodesPresent, IsNoAlternative};
-ghost use Rattle.rasn_dynamic.specs.Fitting.{Fits, FitsBy, IsChosen, AlternativeFits, ComponentFits, ComponentsFit, EachFits};
+ghost use Rattle.rasn_schema.specs.Fitting.{Fits, FitsBy, IsChosen, AlternativeFits, ComponentFits, ComponentsFit, EachFits};
 ghost use Rattle.rasn_dynamic.specs.Found.{FoundFit};
 ghost use Rattle.rasn_dynamic.specs.Faults.{IsFault, IsFaultIn, IsFaultOf, IsFaultInside, IsOnly, IsAlternativeAt, IsElementAt, IsComponentAt, IsMember, IsMemberAt, IsPart, Told, TellsOf, FailsAt, FailsItself, ReadsEachPart, StopsAtChoice, StopsInside, StopsInElements, StopsInOrder, StopsInSequence, StopsAtComponent, IsDefaultWritten, StopsInSet, StopsAtMember};
 ghost use Rattle.rasn_de.specs.Constructed.{list_header};

@@ -1,13 +1,15 @@
 //! Which part of a value isn't of its type.
 ghost use Rattle.std.specs.Prelude.{◌≡◌, ◌++◌, List, ℕ, MatchOption, OnOk};
-ghost use Rattle.rasn_dynamic.specs.Fitting.{AlternativeFits, IsChosen, ComponentsFit, EachFits, FitsBy, Fits, IsComponent, IsElement, IsOfAlternative, IsPart, IsOtherForm, IsUnfitBy, IsUnfitAt};
+ghost use Rattle.rasn_schema.specs.Fitting.{AlternativeFits, IsChosen, ComponentsFit, EachFits, FitsBy, Fits};
+ghost use Rattle.rasn_dynamic.specs.Unfit.{IsComponent, IsElement, IsOfAlternative, IsPart, IsOtherForm, IsUnfitBy, IsUnfitAt};
 ghost use Rattle.rasn_schema.specs.declared.types.«Type».TheVariants.{Tagged};
 ghost use Rattle.rasn_schema.specs.declared.type_id.TypeId.{TypeId};
 ghost use Rattle.rasn_types.specs.declared.types.tag.Tag.{Tag};
 
-use crate::fit::{elements_of, items_of};
-use crate::fitting::{component_fits, fits_at};
-use rasn_schema::{Alternative, Component, Type, TypeId, Value, type_at};
+use rasn_schema::{
+    Alternative, Component, Type, TypeId, Value, component_fits, elements_of, fits_at, items_of,
+    type_at,
+};
 use std::alloc::AllocError;
 
 /// A part of a value: its index, and the number of its type.

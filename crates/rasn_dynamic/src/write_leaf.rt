@@ -4,13 +4,12 @@ ghost use Rattle.rasn_types.specs.Shapes.{leaf, any, looked_for, enumerated};
 ghost use Rattle.rasn_types.specs.Trees.{unconstrained};
 ghost use Rattle.rasn_schema.specs.Trees.{tree_of};
 ghost use Rattle.rasn_schema.specs.Shapes.{kind_of, numbers_of};
-ghost use Rattle.rasn_dynamic.specs.Fitting.{FitsLeaf, IsNumber, AreOctets};
+ghost use Rattle.rasn_schema.specs.Fitting.{FitsLeaf, IsNumber, AreOctets};
 ghost use Rattle.rasn_dynamic.specs.Written.{EncodesIf};
 
-use crate::fitting::{is_listed, leaf_fits};
 use rasn_enc::ber::enc::Encoder;
 use rasn_enc::enc::Encode;
-use rasn_schema::{LeafKind, NamedNumber, Value};
+use rasn_schema::{LeafKind, NamedNumber, Value, is_listed, leaf_fits};
 use rasn_types::error::{EncodeError, EncodeErrorKind};
 use rasn_types::types::{Constraints, Identifier, Integer, Tag};
 
@@ -49,7 +48,7 @@ pub fn encode_leaf(
         ),
         Value::Null => ().encode_with_tag_and_constraints(encoder, tag, constraints, name),
         Value::Integer(held) => encoder.encode_integer::<Integer>(tag, constraints, held, name),
-        Value::Bits(held) => held.encode_with_tag_and_constraints(encoder, tag, constraints, name),
+        Value::Bits(held) => encoder.encode_bit_string(tag, constraints, &held.as_bitstr(), name),
         Value::Octets(held) => {
             encoder.encode_octet_string(tag, constraints, held.as_slice(), name)
         }

@@ -6,13 +6,14 @@ ghost use Rattle.rasn_enc.specs.View.{fresh};
 ghost use Rattle.rasn_enc.specs.Primitive.{IsOrderError};
 ghost use Rattle.rasn_schema.specs.Trees.{tree_of};
 ghost use Rattle.rasn_schema.specs.Shapes.{shape_of_type, type_by, alternatives_by, components_by, presence_of};
-ghost use Rattle.rasn_dynamic.specs.Fitting.{AlternativeFits, IsChosen, ComponentFits, ComponentsFit, EachFits, FitsBy, Fits};
+ghost use Rattle.rasn_schema.specs.Fitting.{AlternativeFits, IsChosen, ComponentFits, ComponentsFit, EachFits, FitsBy, Fits};
 ghost use Rattle.rasn_dynamic.specs.Written.{EncodesIf, EncodesPartIf, EncodesInsideIf, EncodesPartsIf, EncodesElementsIf, EncodesSetOfIf, IsEnclosed, HoldsOthers, keeps_tags};
 
-use crate::fit::{elements_of, is_left_out, items_of};
 use crate::write_leaf::{encode_leaf, encode_number, encode_open_value, other_form};
 use rasn_enc::ber::enc::Encoder;
-use rasn_schema::{Alternative, Component, Type, TypeId, Value, type_at};
+use rasn_schema::{
+    Alternative, Component, Type, TypeId, Value, elements_of, is_left_out, items_of, type_at,
+};
 use rasn_types::error::{BerEncodeErrorKind, CodecEncodeError, EncodeError, EncodeErrorKind};
 use rasn_types::types::Tag;
 

@@ -5,6 +5,7 @@ mod choices;
 mod cms;
 mod extensions;
 mod ldap;
+mod numbers;
 mod request;
 mod revocation;
 mod snmp;

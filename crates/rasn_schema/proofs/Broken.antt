@@ -1,5 +1,5 @@
 -- A type that has a fault breaks a rule.
-use Rattle.std.proofs.Common.{◌≡◌, ◌≢◌, ℕ, zero, suc, ◌+◌, ◌<◌, List, [], ◌∷◌, length, Option, Some, None, refl, subst, arith}
+use Rattle.std.proofs.Common.{◌≡◌, ◌≢◌, ℕ, zero, suc, ◌+◌, ◌<◌, List, [], ◌∷◌, length, Option, Some, None, inl, inr, refl, subst, arith}
 use Rattle.std.specs.Prelude.{slice_get}
 use Rattle.rasn_types.specs.declared.types.tag.Tag.{Tag}
 use Rattle.rasn_types.specs.Tags.{eoc}
@@ -14,12 +14,12 @@ use Rattle.rasn_schema.specs.declared.types.LeafKind.{LeafKind}
 use Rattle.rasn_schema.specs.declared.types.«Type».{«Type»}
 use Rattle.rasn_schema.specs.declared.types.«Type».TheVariants.{Leaf, Enumerated, Any, Tagged, Choice, Sequence, Set, SequenceOf, SetOf}
 use Rattle.rasn_schema.specs.declared.error.SchemaError.{SchemaError}
-use Rattle.rasn_schema.specs.declared.error.SchemaError.TheVariants.{ReservedTag, ConstructedTag, LateInner, NumbersClash, NoNumbers, NoAlternatives, LateAlternative, UntaggedAlternative, AlternativesClash, ComponentsClash, UntaggedComponent, AdditionInSet, UntaggedInSet, SetClash, SetOutOfOrder}
+use Rattle.rasn_schema.specs.declared.error.SchemaError.TheVariants.{ReservedTag, ConstructedTag, LateInner, NumbersClash, NoNumbers, NoAlternatives, LateAlternative, UntaggedAlternative, AlternativesClash, ComponentsClash, UntaggedComponent, AdditionInSet, UntaggedInSet, SetClash, SetOutOfOrder, UnfitDefault}
 use Rattle.rasn_schema.specs.Shapes.{kind_of, presence_of, shape_of_type}
-use Rattle.rasn_schema.specs.Schemas.{IsPrefix, AreDistinct, IsBefore, AreLowerAndTagged, AreDistinctAlternatives, AreDistinctNumbers, AreToldInOrder, IsToldFrom, AreTagged, AreInOrderOfTags, IsWellFormed, AreWellFormed, AreChoicesWellFormed, AreOthersWellFormed, IsSchema, own_at, begin_at}
+use Rattle.rasn_schema.specs.Schemas.{IsPrefix, AreDistinct, IsBefore, AreLowerAndTagged, AreDistinctAlternatives, AreDistinctNumbers, AreToldInOrder, IsToldFrom, AreTagged, AreInOrderOfTags, IsWellFormed, AreWellFormed, AreChoicesWellFormed, AreOthersWellFormed, HaveFitDefaults, IsSchema, own_at, begin_at}
 use Rattle.rasn_schema.specs.FirstTags.{IsAlwaysThere}
 use Rattle.rasn_schema.proofs.Firsts.{not_below}
-use Rattle.rasn_schema.specs.Faults.{IsTagFault, IsTaggedFault, IsLeafFault, IsNumbersFault, IsAlternativesFault, IsSequenceFault, IsSetFault, IsFaultOf, SomeFault, IsFault}
+use Rattle.rasn_schema.specs.Faults.{IsTagFault, IsTaggedFault, IsLeafFault, IsNumbersFault, IsAlternativesFault, IsSequenceFault, IsSetFault, IsFaultOf, SomeFault, IsDefaultFault, IsFault}
 
 -- the element at an index that is within the list
 slice_get_in : {X : Type 0} (l : List X) (i : ℕ) → i < length l → (x : X) × (Some x ≡ slice_get l i)
@@ -43,6 +43,7 @@ tag_broken id tag (AdditionInSet k i) h w = h
 tag_broken id tag (UntaggedInSet k i) h w = h
 tag_broken id tag (SetClash k i j) h w = h
 tag_broken id tag (SetOutOfOrder k i j) h w = h
+tag_broken id tag (UnfitDefault k i) h w = h
 
 tagged_broken : (f : ℕ → Shape) (id : ℕ) (tag : Tag) (j : ℕ) (e : SchemaError) → IsTaggedFault f id tag j e → (tag ≢ eoc) × (IsPrefix (f j) → j < id) → ⊥
 tagged_broken f id tag m (ReservedTag k) h w = w.0 h.1
@@ -60,6 +61,7 @@ tagged_broken f id tag m (AdditionInSet k i) h w = h
 tagged_broken f id tag m (UntaggedInSet k i) h w = h
 tagged_broken f id tag m (SetClash k i j) h w = h
 tagged_broken f id tag m (SetOutOfOrder k i j) h w = h
+tagged_broken f id tag m (UnfitDefault k i) h w = h
 
 leaf_broken : (id : ℕ) (kind : LeafKind) (tag : Tag) (e : SchemaError) → IsLeafFault id kind tag e → (tag ≢ eoc) × IsBitFree (family (kind_of kind)) tag → ⊥
 leaf_broken id kind tag (ReservedTag k) h w = w.0 h.1
@@ -77,6 +79,7 @@ leaf_broken id kind tag (AdditionInSet k i) h w = h
 leaf_broken id kind tag (UntaggedInSet k i) h w = h
 leaf_broken id kind tag (SetClash k i j) h w = h
 leaf_broken id kind tag (SetOutOfOrder k i j) h w = h
+leaf_broken id kind tag (UnfitDefault k i) h w = h
 
 numbers_broken : (id : ℕ) (tag : Tag) (ns : List NamedNumber) (e : SchemaError) → IsNumbersFault id tag ns e → (tag ≢ eoc) × (ns ≢ []) × AreDistinctNumbers ns → ⊥
 numbers_broken id tag ns (ReservedTag k) h w = w.0 h.1
@@ -94,6 +97,7 @@ numbers_broken id tag ns (AdditionInSet k i) h w = h
 numbers_broken id tag ns (UntaggedInSet k i) h w = h
 numbers_broken id tag ns (SetClash k i j) h w = h
 numbers_broken id tag ns (SetOutOfOrder k i j) h w = h
+numbers_broken id tag ns (UnfitDefault k i) h w = h
 
 choice_broken : (f : ℕ → Shape) (id : ℕ) (ks : List Alternative) (e : SchemaError) → IsAlternativesFault f id ks e → (ks ≢ []) × AreLowerAndTagged f id ks × AreDistinctAlternatives f ks → ⊥
 choice_broken f id ks (ReservedTag k) h w = h
@@ -111,6 +115,7 @@ choice_broken f id ks (AdditionInSet k i) h w = h
 choice_broken f id ks (UntaggedInSet k i) h w = h
 choice_broken f id ks (SetClash k i j) h w = h
 choice_broken f id ks (SetOutOfOrder k i j) h w = h
+choice_broken f id ks (UnfitDefault k i) h w = h
 
 next : (own : ℕ → Option Tag) (f : ℕ → Shape) (ps : List Component) (i : ℕ) (p : Component) → i + 1 < length ps → Some p ≡ slice_get ps i → (IsAlwaysThere (presence_of p.presence) → ⊥) → own p.type_id.0 ≡ None → AreToldInOrder own f ps → ⊥
 next own f ps i p l d a n w = let q = slice_get_in ps (i + 1) l in
@@ -132,6 +137,7 @@ sequence_broken own f id tag ps (AdditionInSet k i) h w = h
 sequence_broken own f id tag ps (UntaggedInSet k i) h w = h
 sequence_broken own f id tag ps (SetClash k i j) h w = h
 sequence_broken own f id tag ps (SetOutOfOrder k i j) h w = h
+sequence_broken own f id tag ps (UnfitDefault k i) h w = h
 
 set_broken : (f : ℕ → Shape) (id : ℕ) (tag : Tag) (ps : List Component) (e : SchemaError) → IsSetFault f id tag ps e → (tag ≢ eoc) × AreTagged f ps × AreInOrderOfTags f ps → ⊥
 set_broken f id tag ps (ReservedTag k) h w = w.0 h.1
@@ -149,6 +155,7 @@ set_broken f id tag ps (AdditionInSet k i) (g, (p, e, n)) w = (w.1 i p e).0 n
 set_broken f id tag ps (UntaggedInSet k i) (g, (p, e, n)) w = n (w.1 i p e).1
 set_broken f id tag ps (SetClash k i j) (g, l, (p, q, d, e, n)) w = n (λ t a b. not_below t (w.2 i j p q l d e t a t b))
 set_broken f id tag ps (SetOutOfOrder k i j) (g, l, (p, q, d, e, n)) w = n (w.2 i j p q l d e)
+set_broken f id tag ps (UnfitDefault k i) h w = h
 
 type_broken : (own : ℕ → Option Tag) (f : ℕ → Shape) (id : ℕ) (ty : «Type») (e : SchemaError) → IsFaultOf own f id ty e → IsWellFormed own f id ty → ⊥
 type_broken own f id (Leaf kind tag c names) e h w = leaf_broken id kind tag e h w
@@ -161,21 +168,43 @@ type_broken own f id (Set name tag ps) e h w = set_broken f id tag ps.items e h 
 type_broken own f id (SequenceOf tag k c) e h w = tag_broken id tag e h w
 type_broken own f id (SetOf tag k c) e h w = tag_broken id tag e h w
 
+default_broken : (types : List «Type») (e : SchemaError) → IsDefaultFault types e → HaveFitDefaults types → ⊥
+default_broken types (ReservedTag k) h w = h
+default_broken types (ConstructedTag k) h w = h
+default_broken types (LateInner k) h w = h
+default_broken types (NumbersClash k i j) h w = h
+default_broken types (NoNumbers k) h w = h
+default_broken types (NoAlternatives k) h w = h
+default_broken types (LateAlternative k i) h w = h
+default_broken types (UntaggedAlternative k i) h w = h
+default_broken types (AlternativesClash k i j) h w = h
+default_broken types (ComponentsClash k i j) h w = h
+default_broken types (UntaggedComponent k i) h w = h
+default_broken types (AdditionInSet k i) h w = h
+default_broken types (UntaggedInSet k i) h w = h
+default_broken types (SetClash k i j) h w = h
+default_broken types (SetOutOfOrder k i j) h w = h
+default_broken types (UnfitDefault k i) (ty, e, h) w = w k.0 ty e i h
+
 -- Types that have a fault aren't a schema.
 pub no_schema : (types : List «Type») (e : SchemaError) → IsFault types e → IsSchema types → ⊥
-no_schema types e (k, ty, g, h) w = type_broken (own_at types) (begin_at types) k ty e h (w k ty g)
+no_schema types e (inl (k, ty, g, h)) w = type_broken (own_at types) (begin_at types) k ty e h (w.0 k ty g)
+no_schema types e (inr h) w = default_broken types e h w.1
 
 module _ (types : List «Type») (levels : ℕ) (n : levels ≡ suc (length types)) where
   pub fault_by : (e : SchemaError) → SomeFault (own_at types) (shape_of_type types levels) types e → IsFault types e
-  fault_by e h = subst (λ m. SomeFault (own_at types) (shape_of_type types m) types e) n h
+  fault_by e h = inl (subst (λ m. SomeFault (own_at types) (shape_of_type types m) types e) n h)
 
-  pub schema_by : AreWellFormed (own_at types) (shape_of_type types levels) types → IsSchema types
-  schema_by h = subst (λ m. AreWellFormed (own_at types) (shape_of_type types m) types) n h
+  pub well_formed_by : AreWellFormed (own_at types) (shape_of_type types levels) types → AreWellFormed (own_at types) (begin_at types) types
+  well_formed_by h = subst (λ m. AreWellFormed (own_at types) (shape_of_type types m) types) n h
 
 -- the same of a slice that has the types
 module _ (types ts : List «Type») (levels : ℕ) (s : ts ≡ types) (n : levels ≡ suc (length types)) where
   pub fault_of : (e : SchemaError) → SomeFault (own_at ts) (shape_of_type ts levels) ts e → IsFault types e
   fault_of e h = fault_by types levels n e (subst (λ l. SomeFault (own_at l) (shape_of_type l levels) l e) s h)
+
+pub default_fault_of : (types ts : List «Type») → ts ≡ types → (e : SchemaError) → IsDefaultFault ts e → IsFault types e
+default_fault_of types ts s e h = inr (subst (λ l. IsDefaultFault l e) s h)
 
 -- Two components of a SET that aren't in order.
 module _ (f : ℕ → Shape) (k : TypeId) (tag : Tag) (ps : List Component) (i j : ℕ) (p : Component) (h : Some p ≡ slice_get ps i) (next : TypeId)
@@ -202,8 +231,11 @@ module _ (own : ℕ → Option Tag) (f : ℕ → Shape) (types : List «Type») 
       go (SequenceOf tag j b) e = o k (SequenceOf tag j b) e (λ h. h)
       go (SetOf tag j b) e = o k (SetOf tag j b) e (λ h. h)
 
-module _ (types ts us : List «Type») (levels : ℕ) (s : ts ≡ types) (u : us ≡ types) (n : levels ≡ suc (length types)) where
+module _ (types ts us vs : List «Type») (levels : ℕ) (s : ts ≡ types) (u : us ≡ types) (v : vs ≡ types) (n : levels ≡ suc (length types)) where
   -- the same of slices that have the types
-  pub schema_from : AreChoicesWellFormed (own_at ts) (shape_of_type ts levels) ts → AreOthersWellFormed (own_at us) (shape_of_type us levels) us → IsSchema types
-  schema_from c o = schema_by types levels n (both_well_formed (own_at types) (shape_of_type types levels) types
-      (subst (λ l. AreChoicesWellFormed (own_at l) (shape_of_type l levels) l) s c) (subst (λ l. AreOthersWellFormed (own_at l) (shape_of_type l levels) l) u o))
+  pub schema_from : AreChoicesWellFormed (own_at ts) (shape_of_type ts levels) ts → AreOthersWellFormed (own_at us) (shape_of_type us levels) us → HaveFitDefaults vs → IsSchema types
+  schema_from c o d = (
+    well_formed_by types levels n (both_well_formed (own_at types) (shape_of_type types levels) types
+        (subst (λ l. AreChoicesWellFormed (own_at l) (shape_of_type l levels) l) s c) (subst (λ l. AreOthersWellFormed (own_at l) (shape_of_type l levels) l) u o)),
+    subst HaveFitDefaults v d,
+  )

@@ -12,3 +12,5 @@ pub mod EqualLists
 pub mod NamedTypes
 pub mod Depth
 pub mod Clash
+pub mod Fitted
+pub mod ListsOf

@@ -105,7 +105,7 @@ all_before types w k = go (slice_get types k) refl
   where
     go : (o : Option «Type») → slice_get types k ≡ o → IsBehindOwn k o
     go None e = tt
-    go (Some ty) e = node_before types k ty (w k ty (sym e))
+    go (Some ty) e = node_before types k ty (w.0 k ty (sym e))
 
 -- At any depth a type begins only with tags that the check sees.
 begins_as_told : (types : List «Type») → IsSchema types → (i k : ℕ) (n : Tag) → IsFirst (shape_of_type types i k) n → IsFirst (begin_at types k) n
@@ -247,7 +247,7 @@ module _ (types : List «Type») (i : ℕ) (w : IsSchema types) (lawful : (k : �
 
   found_lawful : (k : ℕ) (o : Option «Type») → slice_get types k ≡ o → IsLawful (found_by (shape_of_type types i) o)
   found_lawful k None e = none_lawful
-  found_lawful k (Some ty) e = type_lawful k ty (w k ty (sym e))
+  found_lawful k (Some ty) e = type_lawful k ty (w.0 k ty (sym e))
 
 -- The theorem: if each type keeps the rules, each shape is lawful, however deep types are followed.
 pub schema_lawful : (types : List «Type») → IsSchema types → (levels k : ℕ) → IsLawful (shape_of_type types levels k)

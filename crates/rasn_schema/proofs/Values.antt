@@ -5,6 +5,7 @@ use Rattle.rasn_types.specs.Shapes.{number, bits, numbers, instant, on_day, join
 use Rattle.rasn_types.specs.Equality.{bool_not_absent}
 use Rattle.rasn_types.specs.Trees.{list_tree}
 use Rattle.rasn_schema.specs.declared.value.Value.{Value, Boolean, Null, Integer, Bits, Octets, Text, Units, Arcs, Instant, Day, Absent, Chosen', Items, Items', Elements, Elements', Row_of-Value, end_of-Value, more_of-Value, items-the_row-Value, items_hidden-the_row-Value-0}
+use Rattle.rasn_types.specs.CowBits.{cow_bits}
 use Rattle.rasn_schema.specs.Trees.{tree_of, trees_in}
 use Rattle.rasn_schema.specs.Held.{held_in}
 
@@ -41,7 +42,7 @@ no_absent Absent n = λ e. n refl
 no_absent (Boolean x) n = bool_not_absent x
 no_absent Null n = λ (e : number (pos 0) ≡ absent). cc
 no_absent (Integer x) n = λ (e : number x ≡ absent). cc
-no_absent (Bits x) n = λ (e : bits x ≡ absent). cc
+no_absent (Bits x) n = λ (e : bits (cow_bits x) ≡ absent). cc
 no_absent (Octets x) n = λ e. not_numbers _ e
 no_absent (Text x) n = λ e. not_numbers _ e
 no_absent (Units x) n = λ e. not_numbers _ e

@@ -1,5 +1,5 @@
 -- Which rule a type breaks.
-use Rattle.std.specs.Prelude.{◌≡◌, ℕ, ◌+◌, ◌<◌, List, [], length, Option, Some, None, slice_get}
+use Rattle.std.specs.Prelude.{◌≡◌, ◌⊎◌, ℕ, ◌+◌, ◌<◌, List, [], length, Option, Some, None, slice_get}
 use Rattle.rasn_types.specs.declared.types.tag.Tag.{Tag}
 use Rattle.rasn_types.specs.Tags.{eoc}
 use Rattle.rasn_types.specs.Grammar.{family}
@@ -12,10 +12,11 @@ use Rattle.rasn_schema.specs.declared.types.LeafKind.{LeafKind}
 use Rattle.rasn_schema.specs.declared.types.«Type».{«Type»}
 use Rattle.rasn_schema.specs.declared.types.«Type».TheVariants.{Leaf, Enumerated, Any, Tagged, Choice, Sequence, Set, SequenceOf, SetOf}
 use Rattle.rasn_schema.specs.declared.error.SchemaError.{SchemaError}
-use Rattle.rasn_schema.specs.declared.error.SchemaError.TheVariants.{ReservedTag, ConstructedTag, LateInner, NumbersClash, NoNumbers, NoAlternatives, LateAlternative, UntaggedAlternative, AlternativesClash, ComponentsClash, UntaggedComponent, AdditionInSet, UntaggedInSet, SetClash, SetOutOfOrder}
+use Rattle.rasn_schema.specs.declared.error.SchemaError.TheVariants.{ReservedTag, ConstructedTag, LateInner, NumbersClash, NoNumbers, NoAlternatives, LateAlternative, UntaggedAlternative, AlternativesClash, ComponentsClash, UntaggedComponent, AdditionInSet, UntaggedInSet, SetClash, SetOutOfOrder, UnfitDefault}
 use Rattle.rasn_schema.specs.Shapes.{presence_of, kind_of}
 use Rattle.rasn_schema.specs.FirstTags.{IsAlwaysThere}
-use Rattle.rasn_schema.specs.Schemas.{IsPrefix, AreDistinct, IsBefore, MayFollow, IsToldFrom, own_at, begin_at}
+use Rattle.rasn_schema.specs.Fitting.{Fits}
+use Rattle.rasn_schema.specs.Schemas.{IsPrefix, AreDistinct, IsBefore, MayFollow, IsToldFrom, HasUnfitDefault, own_at, begin_at}
 
 -- The tag is universal 0.
 abbrev pub IsTagFault : ℕ → Tag → SchemaError → Type 0
@@ -80,6 +81,11 @@ IsFaultOf own f id (SetOf tag k c) e = IsTagFault id tag e
 abbrev pub SomeFault : (ℕ → Option Tag) → (ℕ → Shape) → List «Type» → SchemaError → Type 0
 SomeFault own f types e = (k : ℕ) × (ty : «Type») × (Some ty ≡ slice_get types k) × IsFaultOf own f k ty e
 
+-- The error names a component whose default isn't a value of its type.
+abbrev pub IsDefaultFault : List «Type» → SchemaError → Type 0
+IsDefaultFault types (UnfitDefault k i) = (ty : «Type») × (Some ty ≡ slice_get types k.0) × HasUnfitDefault (Fits types 18446744073709551615) ty i
+IsDefaultFault types _ = ⊥
+
 -- The error names a rule that one of the types breaks.
 abbrev pub IsFault : List «Type» → SchemaError → Type 0
-IsFault types e = SomeFault (own_at types) (begin_at types) types e
+IsFault types e = SomeFault (own_at types) (begin_at types) types e ⊎ IsDefaultFault types e

@@ -11,3 +11,4 @@ pub mod Equals
 pub mod Held
 pub mod Named
 pub mod Depth
+pub mod Fitting

@@ -17,7 +17,7 @@ use Rattle.rasn_schema.specs.declared.types.NamedNumber.{NamedNumber}
 use Rattle.rasn_schema.specs.declared.types.«Type».{«Type»}
 use Rattle.rasn_schema.specs.declared.types.«Type».TheVariants.{Leaf, Enumerated, Any, Tagged, Choice, Sequence, Set, SequenceOf, SetOf}
 use Rattle.rasn_schema.specs.Shapes.{kind_of}
-use Rattle.rasn_schema.specs.Schemas.{AreDistinct, IsBefore, AreLowerAndTagged, AreDistinctAlternatives, AreDistinctNumbers, IsToldFrom, AreToldInOrder, AreTagged, AreInOrderOfTags, IsWellFormed, IsSchema, own_at, begin_at}
+use Rattle.rasn_schema.specs.Schemas.{AreDistinct, IsBefore, AreLowerAndTagged, AreDistinctAlternatives, AreDistinctNumbers, IsToldFrom, AreToldInOrder, AreTagged, AreInOrderOfTags, IsWellFormed, HaveFitDefaults, IsSchema, own_at, begin_at}
 
 -- ---- facts of several parts
 
@@ -102,5 +102,8 @@ type_prop own f id (Set name tag ps) = three_prop (not_prop (tag ≡ eoc)) (tagg
 type_prop own f id (SequenceOf tag k c) = not_prop _
 type_prop own f id (SetOf tag k c) = not_prop _
 
+defaults_prop : (types : List «Type») → IsProp (HaveFitDefaults types)
+defaults_prop types = each_prop _ (λ k. each_prop _ (λ ty. each_prop _ (λ e. each_prop _ (λ i. not_prop _))))
+
 pub schema_prop : (types : List «Type») → IsProp (IsSchema types)
-schema_prop types = each_prop _ (λ k. each_prop _ (λ ty. each_prop _ (λ e. type_prop (own_at types) (begin_at types) k ty)))
+schema_prop types = ×_prop (each_prop _ (λ k. each_prop _ (λ ty. each_prop _ (λ e. type_prop (own_at types) (begin_at types) k ty)))) (defaults_prop types)

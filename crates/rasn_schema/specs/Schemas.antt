@@ -12,6 +12,10 @@ use Rattle.rasn_schema.specs.declared.types.«Type».{«Type»}
 use Rattle.rasn_schema.specs.declared.types.«Type».TheVariants.{Leaf, Enumerated, Any, Tagged, Choice, Sequence, Set, SequenceOf, SetOf}
 use Rattle.rasn_schema.specs.Shapes.{presence_of, kind_of, tag_at, shape_of_type}
 use Rattle.rasn_schema.specs.FirstTags.{EachFirst, IsAlwaysThere}
+use Rattle.rasn_schema.specs.declared.types.Presence.{Presence}
+use Rattle.rasn_schema.specs.declared.types.Presence.TheVariants.{Default}
+use Rattle.rasn_schema.specs.declared.value.Value.{Value}
+use Rattle.rasn_schema.specs.Fitting.{Fits}
 
 -- ---- rules, where f gives the shape of the type with a number
 
@@ -94,5 +98,28 @@ AreOthersWellFormed own f types = (k : ℕ) (ty : «Type») → Some ty ≡ slic
 abbrev pub AreChoicesWellFormed : (ℕ → Option Tag) → (ℕ → Shape) → List «Type» → Type 0
 AreChoicesWellFormed own f types = (k : ℕ) (ty : «Type») → Some ty ≡ slice_get types k → IsChoice ty → IsWellFormed own f k ty
 
+-- ---- defaults
+
+abbrev pub components_in : «Type» → List Component
+components_in (Sequence tag ps) = ps.items
+components_in (Set name tag ps) = ps.items
+components_in _ = []
+
+abbrev pub IsDefaultWithout : (Value → Type 0) → Presence → Type 0
+IsDefaultWithout P (Default v) = P v → ⊥
+IsDefaultWithout P _ = ⊥
+
+-- The component has a default that isn't a value of its type. Of a type, g tells which values fit.
+abbrev pub IsUnfitDefault : (ℕ → Value → Type 0) → Component → Type 0
+IsUnfitDefault g p = IsDefaultWithout (g p.type_id.0) p.presence
+
+-- So has component i of the type.
+abbrev pub HasUnfitDefault : (ℕ → Value → Type 0) → «Type» → ℕ → Type 0
+HasUnfitDefault g ty i = (p : Component) × (Some p ≡ slice_get (components_in ty) i) × IsUnfitDefault g p
+
+-- No default isn't a value of its component's type (X.680 25).
+abbrev pub HaveFitDefaults : List «Type» → Type 0
+HaveFitDefaults types = (k : ℕ) (ty : «Type») → Some ty ≡ slice_get types k → (i : ℕ) → HasUnfitDefault (Fits types 18446744073709551615) ty i → ⊥
+
 abbrev pub IsSchema : List «Type» → Type 0
-IsSchema types = AreWellFormed (own_at types) (begin_at types) types
+IsSchema types = AreWellFormed (own_at types) (begin_at types) types × HaveFitDefaults types

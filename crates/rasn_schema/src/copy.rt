@@ -1,13 +1,20 @@
 //! Copies of values.
 ghost use Rattle.std.specs.Prelude.{◌≡◌, IfOk};
 ghost use Rattle.std.specs.Cow.{cow_slice_items, cow_str_bytes};
+ghost use Rattle.rasn_types.specs.CowBits.{cow_bits};
 ghost use Rattle.rasn_types.specs.Trees.{list_tree};
 ghost use Rattle.rasn_schema.specs.Trees.{tree_of};
 
 use crate::value::Value;
-use rasn_types::types::TryClone;
+use rasn_types::types::{BitString, CowBits, TryClone};
 use std::alloc::{AllocError, Global};
 use std::borrow::{CowSlice, CowStr};
+
+fn owned_bits<'any>(bits: &CowBits<'_>, alloc: Global) -> Result<CowBits<'any>, AllocError>
+    ensures { IfOk result (λ copy. cow_bits copy ≡ cow_bits bits.now) }
+{
+    Ok(CowBits::Owned(BitString::from_bitstr(alloc, &bits.as_bitstr())?))
+}
 
 fn owned_octets<'any>(octets: &[u8], alloc: Global) -> Result<CowSlice<'any, u8>, AllocError>
     ensures { IfOk result (λ copy. cow_slice_items copy ≡ octets.now) }
@@ -30,7 +37,7 @@ pub fn copy_of<'any>(value: &Value<'_>, alloc: Global) -> Result<Value<'any>, Al
         Value::Boolean(truth) => Ok(Value::Boolean(*truth)),
         Value::Null => Ok(Value::Null),
         Value::Integer(integer) => Ok(Value::Integer(integer.try_clone(alloc)?)),
-        Value::Bits(bits) => Ok(Value::Bits(bits.try_clone(alloc)?)),
+        Value::Bits(bits) => Ok(Value::Bits(owned_bits(bits, alloc)?)),
         Value::Octets(octets) => Ok(Value::Octets(owned_octets(octets.as_slice(), alloc)?)),
         Value::Text(text) => Ok(Value::Text(owned_text(text.as_str(), alloc)?)),
         Value::Units(units) => Ok(Value::Units(units.try_clone(alloc)?)),

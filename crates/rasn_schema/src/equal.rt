@@ -2,6 +2,7 @@
 ghost use Rattle.std.specs.Prelude.{◌≡◌, count_by};
 ghost use Rattle.std.specs.Bool.{Decides};
 ghost use Rattle.rasn_types.specs.Shapes.{number, bits, numbers, instant, on_day, set_elements, chosen, absent};
+ghost use Rattle.rasn_types.specs.CowBits.{cow_bits};
 ghost use Rattle.rasn_types.specs.Equality.{DecidesSame};
 ghost use Rattle.rasn_types.specs.Trees.{list_tree};
 ghost use Rattle.rasn_schema.specs.Trees.{tree_of};
@@ -10,7 +11,7 @@ ghost use Rattle.rasn_schema.specs.Numbers.{numbers_left};
 
 use crate::numbers::{Numbers, are_same_numbers, numbers_of};
 use crate::value::Value;
-use rasn_types::types::{BitString, Date, GeneralizedTime, Integer, LawfulEq};
+use rasn_types::types::{CowBits, Date, GeneralizedTime, Integer, LawfulEq};
 
 /// Returns whether the number is this one.
 fn is_small(integer: &Integer, small: i128) -> bool
@@ -47,11 +48,11 @@ fn is_integer(integer: &Integer, other: &Value<'_>) -> bool
 }
 
 /// Returns whether the value is these bits.
-fn is_bits(own: &BitString, other: &Value<'_>) -> bool
-    ensures { DecidesSame result (bits own.now) (tree_of other.now) }
+fn is_bits(own: &CowBits<'_>, other: &Value<'_>) -> bool
+    ensures { DecidesSame result (bits (cow_bits own.now)) (tree_of other.now) }
 {
     match other {
-        Value::Bits(other) => own.means_same(other),
+        Value::Bits(other) => own.as_bitstr() == other.as_bitstr(),
         _ => false,
     }
 }

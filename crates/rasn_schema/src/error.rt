@@ -95,4 +95,10 @@ pub enum SchemaError {
         index: usize,
         other: usize,
     },
+    /// The default of a component isn't a value of the component's type (X.680 25).
+    #[error("type {id}: the default of component {index} isn't a value of its type (X.680 25)")]
+    UnfitDefault {
+        id: TypeId,
+        index: usize,
+    },
 }

@@ -5,9 +5,12 @@
 
 mod begin;
 mod copy;
+mod defaults;
 mod equal;
 mod error;
 mod first_tags;
+mod fit;
+mod fitting;
 mod named;
 mod notation;
 mod numbers;
@@ -20,6 +23,8 @@ mod view;
 
 pub use begin::{alternative_for, begins};
 pub use error::SchemaError;
+pub use fit::{elements_of, is_left_out, items_of};
+pub use fitting::{component_fits, fits, fits_at, is_listed, leaf_fits};
 pub use named::{Named, TypeName, index_named, name_of_number};
 pub use schema::Schema;
 pub use type_id::TypeId;

@@ -1,31 +1,34 @@
 //! Values as text, in the value notation of X.680 as far as the type or its names are known.
+use crate::defaults::components_of;
 use crate::named::name_of_number;
 use crate::types::{LeafKind, NamedNumber, Type};
 use crate::value::Value;
-use crate::view::{View, untagged};
+use crate::view::{View, part_type, untagged};
 use rasn_types::types::{BmpString, Hexadecimal, Integer};
 use std::fmt;
 
-/// Writes a text in quotes, each quote in it twice (X.680 12.14).
+/// Writes a character of a text in quotes, a quote twice (X.680 12.14).
+fn write_quoted<W: fmt::Write>(f: &mut fmt::Formatter<W>, character: char) -> fmt::Result {
+    if character == '"' {
+        f.write_char('"')?;
+    }
+    f.write_char(character)
+}
+
+/// Writes a text in quotes.
 fn write_text<W: fmt::Write>(f: &mut fmt::Formatter<W>, text: &str) -> fmt::Result {
     f.write_char('"')?;
     for character in text.chars() {
-        if character == '"' {
-            f.write_char('"')?;
-        }
-        f.write_char(character)?;
+        write_quoted(f, character)?;
     }
     f.write_char('"')
 }
 
-/// Writes octets that are characters in quotes, each quote among them twice.
+/// Writes octets that are characters in quotes.
 fn write_characters<W: fmt::Write>(f: &mut fmt::Formatter<W>, octets: &[u8]) -> fmt::Result {
     f.write_char('"')?;
     for octet in octets {
-        if *octet == b'"' {
-            f.write_char('"')?;
-        }
-        f.write_char(char::from(*octet))?;
+        write_quoted(f, char::from(*octet))?;
     }
     f.write_char('"')
 }
@@ -34,11 +37,7 @@ fn write_characters<W: fmt::Write>(f: &mut fmt::Formatter<W>, octets: &[u8]) -> 
 fn write_units<W: fmt::Write>(f: &mut fmt::Formatter<W>, units: &BmpString) -> fmt::Result {
     f.write_char('"')?;
     for unit in units.units() {
-        let character = char::from_u32(u32::from(unit)).unwrap_or('\u{fffd}');
-        if character == '"' {
-            f.write_char('"')?;
-        }
-        f.write_char(character)?;
+        write_quoted(f, char::from_u32(u32::from(unit)).unwrap_or('\u{fffd}'))?;
     }
     f.write_char('"')
 }
@@ -99,22 +98,16 @@ fn write_octets<W: fmt::Write>(
 /// Returns the name of the component with this index.
 fn part_name<'types>(ty: Option<&'types Type>, index: usize) -> Option<&'types str> {
     match ty? {
-        Type::Sequence { components, .. } => Some(components.get(index)?.name.as_str()),
-        Type::Set { components, .. } => Some(components.get(index)?.name.as_str()),
         Type::Choice { alternatives, .. } => Some(alternatives.get(index)?.name.as_str()),
-        _ => None,
+        ty => Some(components_of(ty).get(index)?.name.as_str()),
     }
 }
 
 /// Returns the type of the part with this index, inside its explicit tags.
 fn part_of<'types>(types: &'types [Type], ty: Option<&Type>, index: usize) -> Option<&'types Type> {
     let id = match ty? {
-        Type::Sequence { components, .. } => components.get(index)?.type_id,
-        Type::Set { components, .. } => components.get(index)?.type_id,
         Type::Choice { alternatives, .. } => alternatives.get(index)?.type_id,
-        Type::SequenceOf { element, .. } => *element,
-        Type::SetOf { element, .. } => *element,
-        _ => return None,
+        ty => part_type(ty, index)?,
     };
     untagged(types, id)
 }
@@ -131,7 +124,7 @@ fn write_value<W: fmt::Write>(
         Value::Boolean(truth) => f.write_str(if *truth { "TRUE" } else { "FALSE" }),
         Value::Null => f.write_str("NULL"),
         Value::Integer(integer) => write_number(f, integer, ty),
-        Value::Bits(bits) => write!(f, "{bits}"),
+        Value::Bits(bits) => write!(f, "{}", bits.as_bitstr()),
         Value::Octets(octets) => write_octets(f, octets.as_slice(), ty),
         Value::Text(text) => write_text(f, text.as_str()),
         Value::Units(units) => write_units(f, units),

@@ -2,6 +2,7 @@
 ghost use Rattle.rasn_schema.specs.Schemas.{IsSchema};
 ghost use Rattle.rasn_schema.specs.SchemaProps.{schema_prop};
 
+use crate::defaults::first_unfit_default;
 use crate::error::SchemaError;
 use crate::named::{TypeName, type_named};
 use crate::rules::{first_choice_fault, first_other_fault};
@@ -22,19 +23,20 @@ pub struct Schema {
 }
 
 impl Schema {
-    ghost use Rattle.std.specs.Prelude.{◌≡◌, IfOk, IfErr, IfSome, Some, ℕ};
-    ghost use Rattle.rasn_schema.specs.Named.{IsNamed};
+    ghost use Rattle.std.specs.Prelude.{◌≡◌, IfOk, IfErr, MatchOption, Some, ℕ};
+    ghost use Rattle.rasn_schema.specs.Named.{IsNamed, IsUnnamed};
     ghost use Rattle.rasn_types.specs.Lawful.{IsLawful};
     ghost use Rattle.rasn_types.specs.declared.types.codec.Codec.{Codec};
     ghost use Rattle.rasn_schema.specs.Shapes.{shape_of_type};
     ghost use Rattle.rasn_schema.specs.Depth.{AreDeep, AreReadAlike};
+    ghost use Rattle.rasn_schema.specs.Schemas.{HaveFitDefaults};
     ghost use Rattle.rasn_schema.specs.Faults.{IsFault};
 
     /// Checks each type once and returns the schema of the types.
     ///
     /// # Errors
-    /// Returns the first rule that a type breaks; CHOICEs are checked before other types. The
-    /// types are dropped.
+    /// Returns the first rule that a type breaks; CHOICEs are checked before other types, and
+    /// whether defaults are values of their types last. The types are dropped.
     pub fn new(types: Vec<Type>) -> Result<Schema, SchemaError>
         ensures ok { IfOk result (λ schema. schema.types ≡ types) }
         ensures fault { IfErr result (λ error. IsFault types.items error) }
@@ -47,15 +49,20 @@ impl Schema {
         if let Some(fault) = first_other_fault(types.as_slice(), levels) {
             return Err(fault);
         }
+        if let Some(fault) = first_unfit_default(types.as_slice()) {
+            return Err(fault);
+        }
         Ok(Schema { types, names: None })
     }
 
     /// Returns the types. Each is lawful, however deep it is read. How deep types are followed makes
-    /// no difference to what is read, from the depth on to which values are read.
+    /// no difference to what is read, from the depth on to which values are read. Each default is a
+    /// value of its component's type.
     pub fn types(&self) -> &[Type]
         ensures types { result.now ≡ self.now.types.items }
         ensures lawful { (levels id : ℕ) → IsLawful (shape_of_type result.now levels id) }
         ensures deep { (rule : Codec) (i j depth id : ℕ) → AreDeep result.now depth i → AreDeep result.now depth j → AreReadAlike rule depth (shape_of_type result.now i id) (shape_of_type result.now j id) }
+        ensures defaults { HaveFitDefaults result.now }
     {
         self.types.as_slice()
     }
@@ -73,7 +80,7 @@ impl Schema {
 
     /// Returns the number of the first type with this name, if there is one.
     pub fn type_named(&self, name: &str) -> Option<TypeId>
-        ensures { IfSome result (λ id. (names : _) × (self.now.names ≡ Some names) × IsNamed names.items name.now id) }
+        ensures { MatchOption result (IsUnnamed self.now.names name.now) (λ id. (names : _) × (self.now.names ≡ Some names) × IsNamed names.items name.now id) }
     {
         match &self.names {
             Some(names) => type_named(names, name),

@@ -5,12 +5,12 @@ ghost use Rattle.rasn_schema.specs.Trees.{tree_of};
 
 use crate::copy::copy_of;
 use crate::equal::is_same;
-use rasn_types::types::{BitString, BmpString, Date, GeneralizedTime, Integer, ObjectIdentifier};
+use rasn_types::types::{BmpString, CowBits, Date, GeneralizedTime, Integer, ObjectIdentifier};
 use std::alloc::{AllocError, Global};
 use std::borrow::{CowSlice, CowStr};
 
-/// A value of any type. Strings and open types borrow from the input where their encoding is
-/// primitive.
+/// A value of any type. Strings, a BIT STRING among them, and open types borrow from the input where
+/// their encoding is primitive.
 #[derive(Drop)]
 pub enum Value<'input> {
     /// A BOOLEAN.
@@ -20,7 +20,7 @@ pub enum Value<'input> {
     /// The number of an INTEGER or an ENUMERATED.
     Integer(Integer),
     /// The bits of a BIT STRING.
-    Bits(BitString),
+    Bits(CowBits<'input>),
     /// The octets of an OCTET STRING, of a string whose characters are octets, or of an open type.
     Octets(CowSlice<'input, u8>),
     /// The characters of a UTF8String.

@@ -43,7 +43,7 @@ fn component_type(components: &[Component], index: usize) -> Option<TypeId>
 }
 
 /// Returns the number of the type of the part with this index.
-fn part_type(ty: &Type, index: usize) -> Option<TypeId>
+pub fn part_type(ty: &Type, index: usize) -> Option<TypeId>
     ensures { IfSome result (IsTypeOfPart ty.now index) }
 {
     match ty {

@@ -47,7 +47,7 @@ const CERTIFICATE_PARTS: &[Part] = &[
 ];
 
 const TBS_CERTIFICATE: &[Part] = &[
-    ("version", Occurrence::Zero, 4),
+    ("version", Occurrence::Number(0), 4),
     ("serialNumber", Occurrence::Required, 5),
     ("signature", Occurrence::Required, 2),
     ("issuer", Occurrence::Required, 9),

@@ -45,8 +45,8 @@ pub enum Occurrence {
     Addition,
     /// DEFAULT FALSE.
     False,
-    /// DEFAULT 0.
-    Zero,
+    /// DEFAULT this number.
+    Number(i128),
 }
 
 /// SIZE (1..MAX)
@@ -173,6 +173,8 @@ fn presence(alloc: Global, occurrence: Occurrence) -> Result<Presence, AllocErro
         Occurrence::Optional => Presence::Optional,
         Occurrence::Addition => Presence::Addition,
         Occurrence::False => Presence::Default(Value::Boolean(false)),
-        Occurrence::Zero => Presence::Default(Value::Integer(Integer::from_i128(alloc, 0)?)),
+        Occurrence::Number(number) => {
+            Presence::Default(Value::Integer(Integer::from_i128(alloc, number)?))
+        }
     })
 }

@@ -20,7 +20,7 @@ use Rattle.rasn_schema.specs.declared.types.«Type».TheVariants.{Leaf, Enumerat
 use Rattle.rasn_schema.specs.Trees.{tree_of}
 use Rattle.rasn_dynamic.specs.Entry.{shape_of, IsNotEncoded}
 use Rattle.rasn_dynamic.specs.declared.entry.WriteError.TheVariants.{Encode as Written}
-use Rattle.rasn_dynamic.specs.Fitting.{Fits, FitsBy, FitsFound}
+use Rattle.rasn_schema.specs.Fitting.{Fits, FitsBy, FitsFound}
 use Rattle.rasn_bench.specs.declared.line.ValueType.{ValueType}
 use Rattle.rasn_bench.specs.declared.line.ValueType.TheVariants.{OptionalBool}
 use Rattle.rasn_schema_vectors.specs.LineShapes.{type_number, line_shape, LooksAhead, FitsLine}

@@ -50,6 +50,7 @@ fn types_named(name: &str) -> Option<(&'static [Definition], TypeId)> {
         "answer" => Some((ROW_TYPES, TypeId(21))),
         "set2" => Some((ROW_TYPES, TypeId(22))),
         "pair2" => Some((ROW_TYPES, TypeId(23))),
+        "bounds" => Some((ROW_TYPES, TypeId(26))),
         _ => Some((LINE_TYPES, type_id(ValueType::of_name(name)?))),
     }
 }

@@ -1,7 +1,7 @@
 //! The types that rows name beside those of lines, and types that aren't a schema.
 
 use rasn_schema::LeafKind;
-use rasn_schema_bench::{CONTEXT_0, Definition, Occurrence, Part};
+use rasn_schema_bench::{CONTEXT_0, CONTEXT_1, Definition, Occurrence, Part};
 use rasn_types::types::{Constraints, Tag};
 
 /// The types that rows name beside those of lines, and those that they are made of. The number before each is its number.
@@ -28,11 +28,19 @@ pub const ROW_TYPES: &[Definition] = &[
     Definition::Leaf(LeafKind::ObjectIdentifier, Tag::OBJECT_IDENTIFIER),
     Definition::SetOf(Tag::SET, 0, Constraints::NONE),
     Definition::Sequence(Tag::SEQUENCE, EACH_KIND),
-    // 20 to 23
+    // 20 to 26
     Definition::Leaf(LeafKind::Signed64, Tag::INTEGER),
     Definition::Choice("Answer", &[("flag", 0), ("number", 20)]),
     Definition::Set("Set2", Tag::SET, FLAG_AND_NUMBER),
     Definition::Sequence(Tag::SEQUENCE, FLAG_AND_NUMBER),
+    Definition::Leaf(LeafKind::Signed32, CONTEXT_0),
+    Definition::Leaf(LeafKind::Unsigned32, CONTEXT_1),
+    Definition::Sequence(Tag::SEQUENCE, BOUNDS),
+];
+
+const BOUNDS: &[Part] = &[
+    ("low", Occurrence::Number(-2147483648), 24),
+    ("high", Occurrence::Number(4294967295), 25),
 ];
 
 const NAMED_FLAG: &[Part] = &[
@@ -140,7 +148,27 @@ pub const WRONG_TYPES: &[(&str, &[Definition])] = &[
             Definition::Set("Both", Tag::SET, FALLING),
         ],
     ),
+    (
+        "default-of-another-type",
+        &[NUMBER, Definition::Sequence(Tag::SEQUENCE, FALSE)],
+    ),
+    (
+        "default-too-low",
+        &[NUMBER, Definition::Sequence(Tag::SEQUENCE, TOO_LOW)],
+    ),
+    (
+        "default-too-high",
+        &[NUMBER, Definition::Set("One", Tag::SET, TOO_HIGH)],
+    ),
 ];
+
+const NUMBER: Definition = Definition::Leaf(LeafKind::Signed32, Tag::INTEGER);
+
+const FALSE: &[Part] = &[("part", Occurrence::False, 0)];
+
+const TOO_LOW: &[Part] = &[("part", Occurrence::Number(-2147483649), 0)];
+
+const TOO_HIGH: &[Part] = &[("part", Occurrence::Number(2147483648), 0)];
 
 const TWO_FLAGS: &[Part] = &[
     ("part", Occurrence::Optional, 0),

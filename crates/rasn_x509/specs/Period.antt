@@ -7,6 +7,7 @@ use Rattle.rasn_types.specs.Trees.{unconstrained}
 use Rattle.rasn_types.specs.declared.types.tag.Tag.{Tag}
 use Rattle.rasn_de.specs.State.{State}
 use Rattle.rasn_de.specs.Beyond.{BeyondInside}
+use Rattle.rasn_de.specs.Constructed.{sequence_header}
 use Rattle.rasn_x509.specs.Times.{time_shape, time_tree, time_beyond}
 use Rattle.rasn_x509.specs.declared.validity.Validity.{Validity}
 
@@ -22,4 +23,4 @@ validity_tree v = items (time_tree v.not_before ∷ time_tree v.not_after ∷ []
 -- Each time has the offset of its text.
 abbrev pub validity_beyond : Tag → State → Validity → Type 0
 validity_beyond tag old v =
-    BeyondInside (λ start (v : Validity) end. (mid : State) × time_beyond start v.not_before mid × ((last : State) × time_beyond mid v.not_after last × Unit {0})) tag old v
+    BeyondInside (λ start (v : Validity) end. (mid : State) × time_beyond start v.not_before mid × ((last : State) × time_beyond mid v.not_after last × Unit {0})) (sequence_header tag) old v

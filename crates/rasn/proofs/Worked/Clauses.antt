@@ -1,5 +1,9 @@
 -- Small clauses that contracts share: what they hold of, and what they don't.
-use Rattle.std.proofs.Common.{◌≡◌, ℕ, zero, suc, ◌<◌, get_or, inl, inr, List, [], ◌∷◌, Result, Ok, Err, refl, sym, ◌∙◌, arith, rules}
+use Rattle.std.proofs.Common.{◌≡◌, ℕ, ℤ, zero, suc, ◌-◌, ◌^◌, ◌<◌, get_or, inl, inr, List, [], ◌∷◌, length, Result, Ok, Err, pos, negsuc, refl, sym, ap, ◌∙◌, arith, rules}
+use Rattle.rasn_types.specs.Contents.{RepeatsSign}
+use Rattle.rasn_types.specs.Inline.{IsLong}
+use Rattle.rasn_types.specs.Trees.{IsShortestOf}
+use Rattle.rasn_types.proofs.Integer.Shortest.{same_shortest}
 use Rattle.rasn_types.specs.Tags.{in_universal}
 use Rattle.rasn_types.specs.declared.types.codec.Codec.TheVariants.{Ber}
 use Rattle.rasn_de.specs.declared.ber.de.parser.ParseError.{ParseError}
@@ -40,6 +44,39 @@ cut = refl
 not_wanted : (p : List ℕ × List ℕ) (r : Result (List ℕ × List ℕ) ParseError) → r ≡ Ok p → r ≡ Err OutOfMemory → ⊥
 not_wanted p r e h = cc
 
+-- 2^183 and -2^183 - 1 in their fewest octets, and the numbers next to them, which take one octet less
+falls : RepeatsSign 0 128 → ⊥
+falls (inl h) = omega (arith, h.1)
+falls (inr h) = omega (arith, h.0)
+
+rises : RepeatsSign 255 127 → ⊥
+rises (inl h) = omega (arith, h.0)
+rises (inr h) = omega (arith, h.1)
+
+goes_on : RepeatsSign 127 255 → ⊥
+goes_on (inl h) = omega (arith, h.0)
+goes_on (inr h) = omega (arith, h.0)
+
+turns : RepeatsSign 128 0 → ⊥
+turns (inl h) = omega (arith, h.0)
+turns (inr h) = omega (arith, h.0)
+
+above : IsShortestOf (pos (2 ^ 183)) (0 ∷ 128 ∷ 0 ∷ 0 ∷ 0 ∷ 0 ∷ 0 ∷ 0 ∷ 0 ∷ 0 ∷ 0 ∷ 0 ∷ 0 ∷ 0 ∷ 0 ∷ 0 ∷ 0 ∷ 0 ∷ 0 ∷ 0 ∷ 0 ∷ 0 ∷ 0 ∷ 0 ∷ [])
+above = record { is = refl; shortest = falls; octets = search (arith, rules) }
+
+below : IsShortestOf (negsuc (2 ^ 183)) (255 ∷ 127 ∷ 255 ∷ 255 ∷ 255 ∷ 255 ∷ 255 ∷ 255 ∷ 255 ∷ 255 ∷ 255 ∷ 255 ∷ 255 ∷ 255 ∷ 255 ∷ 255 ∷ 255 ∷ 255 ∷ 255 ∷ 255 ∷ 255 ∷ 255 ∷ 255 ∷ 255 ∷ [])
+below = record { is = refl; shortest = rises; octets = search (arith, rules) }
+
+greatest : IsShortestOf (pos (2 ^ 183 - 1)) (127 ∷ 255 ∷ 255 ∷ 255 ∷ 255 ∷ 255 ∷ 255 ∷ 255 ∷ 255 ∷ 255 ∷ 255 ∷ 255 ∷ 255 ∷ 255 ∷ 255 ∷ 255 ∷ 255 ∷ 255 ∷ 255 ∷ 255 ∷ 255 ∷ 255 ∷ 255 ∷ [])
+greatest = record { is = refl; shortest = goes_on; octets = search (arith, rules) }
+
+least : IsShortestOf (negsuc (2 ^ 183 - 1)) (128 ∷ 0 ∷ 0 ∷ 0 ∷ 0 ∷ 0 ∷ 0 ∷ 0 ∷ 0 ∷ 0 ∷ 0 ∷ 0 ∷ 0 ∷ 0 ∷ 0 ∷ 0 ∷ 0 ∷ 0 ∷ 0 ∷ 0 ∷ 0 ∷ 0 ∷ 0 ∷ [])
+least = record { is = refl; shortest = turns; octets = search (arith, rules) }
+
+-- A number whose fewest octets stand in the value isn't long.
+inline : (z : ℤ) (l : List ℕ) → IsShortestOf z l → length l ≡ 23 → IsLong z → ⊥
+inline z l s n (k, t, m) = let e = same_shortest k l t.octets s.octets t.shortest s.shortest (t.is ∙ sym s.is) in omega (arith, n, m, ap length e)
+
 pub worked : WorkedClauses
 worked = record {
   least_offset = search (arith, rules);
@@ -59,4 +96,8 @@ worked = record {
   nothing_collected = λ h. not_wanted _ _ nothing h.1;
   empty_collected = λ h. not_wanted _ _ empty h.1;
   cut_collected = λ h. let e : ◌≡◌ {A = Result (List ℕ × List ℕ) ParseError} (Err (Incomplete 1)) (Err OutOfMemory) = sym cut ∙ h.1 in cc;
+  long_number = (_, above, omega arith);
+  long_below = (_, below, omega arith);
+  greatest_inline = inline _ _ greatest refl;
+  least_inline = inline _ _ least refl;
 }

@@ -6,7 +6,7 @@ use crate::resolver::lookup::MAX_NAMES;
 use crate::resolver::shape::Resolver;
 use crate::tree::{Assigned, Base, Builtin, TypeIndex, Value as Written};
 use rasn_schema::{NamedNumber, Value, index_named};
-use rasn_types::types::{BitString, Integer};
+use rasn_types::types::{BitString, CowBits, Integer};
 use std::alloc::{AllocError, Global};
 use std::borrow::{CowSlice, CowStr};
 
@@ -127,7 +127,7 @@ fn plain_default(
         (Base::BitString(_), Written::Digits(digits)) => {
             let Digits { octets, bits } = read_digits(alloc, digits)?;
             match BitString::new(octets, bits) {
-                Some(bits) => Ok(Some(Value::Bits(bits))),
+                Some(bits) => Ok(Some(Value::Bits(CowBits::Owned(bits)))),
                 None => Ok(None),
             }
         }

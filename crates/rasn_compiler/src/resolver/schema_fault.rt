@@ -47,7 +47,8 @@ fn place(error: SchemaError) -> (TypeId, Option<usize>, Option<usize>) {
         | SchemaError::UntaggedAlternative { id, index }
         | SchemaError::UntaggedComponent { id, index }
         | SchemaError::AdditionInSet { id, index }
-        | SchemaError::UntaggedInSet { id, index } => (id, Some(index), None),
+        | SchemaError::UntaggedInSet { id, index }
+        | SchemaError::UnfitDefault { id, index } => (id, Some(index), None),
         SchemaError::AlternativesClash { id, index, other }
         | SchemaError::ComponentsClash { id, index, other }
         | SchemaError::SetClash { id, index, other }
@@ -86,6 +87,7 @@ fn rule(error: SchemaError) -> &'static str {
         SchemaError::NoAlternatives { .. } => "a CHOICE without alternatives (X.680 29.1)",
         SchemaError::UntaggedAlternative { .. } => "an open type without a tag (X.680 29.3)",
         SchemaError::UntaggedInSet { .. } => "an open type without a tag (X.680 27.3)",
+        SchemaError::UnfitDefault { .. } => "the default isn't a value of the type (X.680 25)",
         _ => "two parts begin with the same tag (X.680 25.6, 27.3, 29.3)",
     }
 }

@@ -1,5 +1,5 @@
 -- Open types are read exactly where the grammar has them.
-use Rattle.std.proofs.Common.{◌≡◌, ℕ, ◌+◌, ◌-◌, ◌≤◌, ◌⊎◌, inl, inr, Bool, true, List, [], ◌∷◌, ◌++◌, length, take, Option, Some, None, Result, Ok, Err, refl, sym, ap, ◌∙◌, subst, arith, append_assoc, length-append}
+use Rattle.std.proofs.Common.{◌≡◌, ◌≢◌, ℕ, ◌+◌, ◌-◌, ◌≤◌, ◌⊎◌, inl, inr, Bool, true, List, [], ◌∷◌, ◌++◌, length, take, Option, Some, None, Result, Ok, Err, refl, sym, ap, ◌∙◌, subst, arith, append_assoc, length-append}
 use Rattle.std.proofs.lemmas.List.{append_cancel_right}
 use Rattle.std.proofs.Math.Seq.{take-append_seam}
 use Rattle.rasn_types.specs.declared.types.tag.Tag.{Tag}
@@ -161,8 +161,8 @@ open_decodes tag old new (Err e) (h, s) = record {
     R : Reading Tree
     R = Reads old.rule (any (looked_for tag)) old.depth old.closing
 
-    exactly : (IsOutOfMemory e.kind × (e.codec ≡ old.rule) × (p : List ℕ × List ℕ) × OpenAt old.rule (looked_for tag) old.rest (Ok p)) ⊎ ((f : ParseError) × OpenAt old.rule (looked_for tag) old.rest (Err f) × IsErrorOf f old e) → Exact R old.rest (refusal e.kind)
-    exactly (inl (m, c, p, x)) = subst (λ k. Exact R old.rest (refusal k)) (sym m) tt
+    exactly : (IsOutOfMemory e.kind × (e.codec ≡ old.rule) × (p : List ℕ × List ℕ) × OpenAt old.rule (looked_for tag) old.rest (Ok p) × (p.0 ≢ [])) ⊎ ((f : ParseError) × OpenAt old.rule (looked_for tag) old.rest (Err f) × IsErrorOf f old e) → Exact R old.rest (refusal e.kind)
+    exactly (inl (m, c, p, x, n)) = subst (λ k. Exact R old.rest (refusal k)) (sym m) tt
     exactly (inr (f, x, k)) = Exact-none e.kind R old.rest (reads_octets old.rule (looked_for tag) old.depth old.closing old.rest Refused x.0)
 
 pub borrowed_decodes : (tag : Tag) (old new : State) (result : Result (Bor (List ℕ)) DecodeError) → BorrowsOpenType tag old result new → Decodes (any (looked_for tag)) (λ o. numbers o.now) old result new

@@ -19,13 +19,9 @@ with_rules f h b = record { reads = f b; exact = b; rules = h b }
 pub also_reads : {A B : Type 0} → (B → A) → B → record { exact : B; reads : A }
 also_reads f b = record { exact = b; reads = f b }
 
--- The same beside what is known of the rules of errors.
-pub also_rules : {A B C : Type 0} → (B → A) → C → B → record { exact : B; reads : A; rules : C }
-also_rules f c b = record { exact = b; reads = f b; rules = c }
-
 -- The same of a call whose `shaped` says of a value's shape what `exact` says of the calls that read it.
-pub also_shaped : {A B C D : Type 0} → (B → A) → D → C → B → record { exact : D; shaped : B; reads : A; rules : C }
-also_shaped f d c b = record { exact = d; shaped = b; reads = f b; rules = c }
+pub also_shaped : {A B C D E : Type 0} → (B → A) → D → E → C → B → record { exact : D; shaped : B; reads : A; beyond : E; rules : C }
+also_shaped f d e c b = record { exact = d; shaped = b; reads = f b; beyond = e; rules = c }
 
 -- The same of a call whose `beyond` says what a value holds beyond its tree.
 pub also_beyond : {A B C D : Type 0} → (B → A) → D → C → B → record { exact : B; reads : A; beyond : D; rules : C }

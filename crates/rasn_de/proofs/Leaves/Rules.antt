@@ -1,5 +1,5 @@
 -- The errors of calls name the rules of their decoder.
-use Rattle.std.proofs.Common.{◌≡◌, ◌⊎◌, inl, inr, ℕ, ℤ, Bool, List, Option, Result, Ok, Err, ap, ◌∙◌}
+use Rattle.std.proofs.Common.{◌≡◌, ◌≢◌, ◌⊎◌, inl, inr, ℕ, ℤ, Bool, List, [], Option, Result, Ok, Err, ap, ◌∙◌}
 use Rattle.std.specs.Prelude.{IfErr}
 use Rattle.std.specs.declared.alloc.AllocError.{AllocError}
 use Rattle.rasn_types.specs.declared.types.codec.Codec.{Codec}
@@ -66,7 +66,7 @@ pub octets_rules : (tag : Tag) (c : Constraints) (old new : State) (e : DecodeEr
 octets_rules tag c old new e (inl k) = k.1
 octets_rules tag c old new e (inr (n, k)) = k.3
 
-date_told : (text : List ℕ) (rule : Codec) (e : DecodeError) (P : Type 0) → IsInvalidDate text rule e ⊎ (IsAllocError rule e × P) → e.codec ≡ rule
+date_told : (text : List ℕ) (rule : Codec) (e : DecodeError) (P : Type 0) → IsInvalidDate text rule e ⊎ (IsAllocError rule e × P × (text ≢ [])) → e.codec ≡ rule
 date_told text rule e P (inl k) = codec_is k.is
 date_told text rule e P (inr k) = codec_is k.0
 

@@ -2,7 +2,6 @@
 use Rattle.std.proofs.Common.{◌≡◌, ◌≢◌, ℕ, ◌⊎◌, ◌||◌, ◌&&◌, not, inl, inr, Bool, true, false, List, [], ◌∷◌, Option, Some, None, Result, Ok, Err, refl, ap, sym, ◌∙◌, subst}
 use Rattle.std.specs.Prelude.{IfOk}
 use Rattle.rasn_types.specs.declared.types.tag.Tag.{Tag}
-use Rattle.rasn_de.specs.Beyond.{BeyondInside}
 use Rattle.rasn_types.specs.declared.types.codec.Codec.{Codec}
 use Rattle.rasn_types.specs.declared.error.decode.DecodeError.{DecodeError}
 use Rattle.rasn_types.specs.Tags.{Form, form}
@@ -118,9 +117,3 @@ module _ {D : Type 0} (parts : Parts) (plain : needs_no_initializer parts ≡ tr
   unfolding Reads
   parts_decode result new k =
       held_decodes (sequence_header tag) (R parts old) old o tree called inside_exact (λ rule. Reads rule (seq tag parts)) (held_constructed tag 1 (R parts old) old o old.rest) (constructed_held tag 1 (R parts old) old o old.rest) result new k
-
--- What is said of the parts that are read inside.
-pub inside_beyond : {D : Type 0} (beyond : State → D → State → Type 0) (tag : Tag) (old : State) (r : Result D DecodeError) (new : State) → DecodesInside (λ o r n. IfOk r (λ v. beyond o v n)) (sequence_header tag) old r new
-    → IfOk r (λ v. BeyondInside beyond tag old v)
-inside_beyond beyond tag old (Ok v) new (k, f) = (f.header, f.opened, f.left, f.call)
-inside_beyond beyond tag old (Err e) new k = tt

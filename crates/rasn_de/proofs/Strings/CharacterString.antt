@@ -1,5 +1,5 @@
 -- A character string is read exactly where the grammar has one.
-use Rattle.std.proofs.Common.{◌≡◌, ◌≢◌, ℕ, ◌⊎◌, inl, inr, true, false, List, Result, Ok, Err, refl, sym, ap, ◌∙◌, subst}
+use Rattle.std.proofs.Common.{◌≡◌, ◌≢◌, ℕ, ◌⊎◌, inl, inr, true, false, List, [], ◌∷◌, Result, Ok, Err, refl, sym, ap, ◌∙◌, subst, arith}
 use Rattle.std.specs.Prelude.{IfErr}
 use Rattle.std.specs.Cow.{cow_slice_items, IsOwnedSlice, IsOwnedStr}
 use Rattle.std.specs.declared.alloc.Global.{Global}
@@ -12,7 +12,7 @@ use Rattle.rasn_types.specs.declared.types.codec.Codec.{Codec}
 use Rattle.rasn_types.specs.declared.types.constraints.Constraints.{Constraints}
 use Rattle.rasn_types.specs.declared.error.decode.DecodeError.{DecodeError}
 use Rattle.rasn_types.specs.declared.types.strings.alphabet.Alphabet.{Alphabet}
-use Rattle.rasn_types.specs.CharacterString.{AreAdmitted}
+use Rattle.rasn_types.specs.CharacterString.{AreAdmitted, ArePaired, units_of}
 use Rattle.rasn_types.specs.Errors.{IsOutOfMemory}
 use Rattle.rasn_types.specs.Framing.{AreOctets}
 use Rattle.rasn_types.specs.Shapes.{Tree, numbers, Kind, leaf}
@@ -81,7 +81,7 @@ module _ {kind : Kind} {bounds : Constraints} {Told : StringCheck} (fits : Fits 
   string_decodes see tag old new (Ok v) o g =
       decoded_answers (λ rule. Reads rule (leaf kind tag bounds)) numbers see (StringAt Told old.rule old.depth tag old.rest) old new (Ok v) (agrees old.rule old.depth tag old.rest o) g
   string_decodes see tag old new (Err e) o (inl (m, c, s, k)) = alloc_failed_before (λ rule. Reads rule (leaf kind tag bounds)) (λ x. numbers (see x)) old new e m s
-  string_decodes see tag old new (Err e) o (inr (inl (m, c, s, k, p, (xs, h, a), r))) =
+  string_decodes see tag old new (Err e) o (inr (inl (m, c, s, k, p, (xs, h, a), r, n))) =
       alloc_failed (λ rule. Reads rule (leaf kind tag bounds)) (λ x. numbers (see x)) old new e m s (subst (IsEnd old.rest) r (octets_end old.rule old.depth tag old.rest o xs p.1 h))
   string_decodes {X} see tag old new (Err e) o (inr (inr g)) =
       decoded_answers {X = List ℕ} {Y = X} (λ rule. Reads rule (leaf kind tag bounds)) numbers see (StringAt Told old.rule old.depth tag old.rest) old new (Err e) (agrees old.rule old.depth tag old.rest o) g.1
@@ -132,9 +132,9 @@ module _ {kind : Kind} {bounds : Constraints} {Told : StringCheck} (fits : Fits 
     pub string_refused : (f : ParseError) (e : DecodeError) → Told (cow_slice_items s) (Err f) → IsErrorOf f new e → Ensured (Err e)
     string_refused f e a x = ensured (Err e) (inr (inr (untold fits tag old new s g f e a x)))
 
-    -- octets in order that aren't copied
-    pub string_alloc_failed : (ns : List ℕ) (e : DecodeError) → Told (cow_slice_items s) (Ok ns) → (IsOwnedSlice s → false ≡ true) → IsErrorOf fault_is.OutOfMemory new e → Ensured (Err e)
-    string_alloc_failed ns e a n x =
+    -- octets in order, some of them, that aren't copied
+    pub string_alloc_failed : (ns : List ℕ) (e : DecodeError) → Told (cow_slice_items s) (Ok ns) → (IsOwnedSlice s → false ≡ true) → ns ≢ [] → IsErrorOf fault_is.OutOfMemory new e → Ensured (Err e)
+    string_alloc_failed ns e a n m x =
         ensured (Err e) (inr (inl (
           ap (λ (y : DecodeError). y.kind) x,
           ap (λ (y : DecodeError). y.codec) x ∙ rule_is old new g.1,
@@ -143,6 +143,7 @@ module _ {kind : Kind} {bounds : Constraints} {Told : StringCheck} (fits : Fits 
           (ns, new.rest),
           (cow_slice_items s, g.0, a),
           refl,
+          m,
         )))
 
     -- octets in order
@@ -189,14 +190,14 @@ module _ (kind : Kind) (bounds : Constraints) (Told : StringCheck) {X : Type 0} 
         rules = tt;
       }
 
-      pub not_copied : IsPrimitive old.rule tag old.rest → (e : DecodeError) → IsErrorOf fault_is.OutOfMemory new e → Copies (Err e)
-      not_copied p e x =
+      pub not_copied : IsPrimitive old.rule tag old.rest → (see v ≡ [] → false ≡ true) → (e : DecodeError) → IsErrorOf fault_is.OutOfMemory new e → Copies (Err e)
+      not_copied p some e x =
           let m : IsOutOfMemory e.kind = ap (λ (y : DecodeError). y.kind) x in
           let s : new ≡ at old new.rest = g.exact.0.1 in
           let c : e.codec ≡ old.rule = ap (λ (y : DecodeError). y.codec) x ∙ rule_is old new s in
           record {
             reads = alloc_failed (λ rule. Reads rule (leaf kind tag bounds)) (λ y. numbers (seen y)) old new e m s g.reads.end;
-            exact = inr (inl (m, c, s, p, (see v, new.rest), g.exact.0.0, refl));
+            exact = inr (inl (m, c, s, p, (see v, new.rest), g.exact.0.0, refl, λ n. let k = some n in cc));
             rules = c;
           }
 
@@ -219,3 +220,9 @@ text_borrowed rule tag l (Owned x) (text.Owned y) f g h = h
 -- The octets of a string that is read are in its alphabet.
 pub restricted_admitted : (a : Alphabet) (tag : Tag) (bounds : Constraints) (old new : State) (s : CowSlice ℕ Global) → DecodesRestricted a tag bounds old (Ok s) new → AreAdmitted a (cow_slice_items s)
 restricted_admitted a tag bounds old new s g = subst (AreAdmitted a) (sym g.0.0.2.0) g.0.0.2.2
+
+-- What has no 16-bit units has no octets.
+pub some_units : (l : List ℕ) → ArePaired l → (l ≡ [] → false ≡ true) → units_of l ≡ [] → ⊥
+some_units [] h n e = let k = n refl in cc
+some_units (a ∷ []) h n e = absurd (omega arith)
+some_units (a ∷ b ∷ l) h n e = cc

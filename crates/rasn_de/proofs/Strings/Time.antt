@@ -1,5 +1,5 @@
 -- A time is read exactly where the grammar has one.
-use Rattle.std.proofs.Common.{◌≡◌, ◌≢◌, ℕ, ◌⊎◌, inl, inr, List, Result, Ok, Err, refl, sym, ap, ◌∙◌, subst}
+use Rattle.std.proofs.Common.{◌≡◌, ◌≢◌, ℕ, ◌⊎◌, inl, inr, List, [], Result, Ok, Err, refl, sym, ap, ◌∙◌, subst}
 use Rattle.std.specs.Cow.{cow_slice_items, IsBorrowedSlice}
 use Rattle.std.specs.declared.alloc.Global.{Global}
 use Rattle.std.specs.declared.borrow.CowSlice.{CowSlice}
@@ -29,7 +29,7 @@ use Rattle.rasn_de.specs.OctetString.{octet_string_at, DecodesOctets, IsPrimitiv
 use Rattle.rasn_de.specs.Outcomes.{Exact, Got, refusal}
 use Rattle.rasn_de.specs.State.{State, IsEnd}
 use Rattle.rasn_de.specs.Decodes.{Decodes, DecodesBy}
-use Rattle.rasn_de.specs.Time.{AtAnyOffset, IsInvalidDate, IsAllocError, IsInvalidString, ParsesTime, ParsesCopiedTime, DecodesTime}
+use Rattle.rasn_de.specs.Time.{AtAnyOffset, IsInvalidDate, IsAllocError, IsInvalidText, IsInvalidString, ParsesTime, ParsesCopiedTime, DecodesTime}
 use Rattle.rasn_de.proofs.Leaves.Outcomes.{Exact-none}
 use Rattle.rasn_de.proofs.Headers.Ends.{IsEnd-refl}
 use Rattle.rasn_de.proofs.Headers.NextTag.{memory_or}
@@ -155,15 +155,15 @@ time_refused {X} Means tag old new s rule text e (h, k, f) r q n w =
     lent (Borrowed b) f u = f
     lent (Owned v) f u = absurd u
 
-    told : IsInvalidString s old.rule e → IsInvalidDate (cow_slice_items s) old.rule e ⊎ (IsAllocError old.rule e × IsPrimitive old.rule tag old.rest)
+    told : IsInvalidString s old.rule e → IsInvalidDate (cow_slice_items s) old.rule e ⊎ (IsAllocError old.rule e × IsPrimitive old.rule tag old.rest × (cow_slice_items s ≢ []))
     told (inl t) = inl t
-    told (inr (m, b)) = inr (m, lent s f b)
+    told (inr (m, b, n)) = inr (m, lent s f b, n)
 
 -- A text that is no time's, reported by a function without a decoder.
 pub parsed_none : {X : Type 0} (Means : List ℕ → X → Type 0) (text read told : List ℕ) (e : DecodeError) → read ≡ text → told ≡ text → ((x : X) → Means read x → ⊥) → IsInvalidDate told Ber e
     → ParsesTime Means text (Err e)
 parsed_none Means text read told e r t n w = (λ x m. n x (subst (λ z. Means z x) (sym r) m), subst (λ z. IsInvalidDate z Ber e) t w)
 
-pub copied_none : {X : Type 0} (Means : List ℕ → X → Type 0) (text read told : List ℕ) (e : DecodeError) → read ≡ text → told ≡ text → ((x : X) → Means read x → ⊥) → IsInvalidDate told Ber e ⊎ IsAllocError Ber e
+pub copied_none : {X : Type 0} (Means : List ℕ → X → Type 0) (text read told : List ℕ) (e : DecodeError) → read ≡ text → told ≡ text → ((x : X) → Means read x → ⊥) → IsInvalidText told Ber e
     → ParsesCopiedTime Means text (Err e)
-copied_none Means text read told e r t n w = (λ x m. n x (subst (λ z. Means z x) (sym r) m), subst (λ z. IsInvalidDate z Ber e ⊎ IsAllocError Ber e) t w)
+copied_none Means text read told e r t n w = (λ x m. n x (subst (λ z. Means z x) (sym r) m), subst (λ z. IsInvalidText z Ber e) t w)

@@ -153,16 +153,26 @@ fn writes_defaults_under_prefixes(rt: HostRuntime) {
     assert_output(&rt, encoder.output(), EIGHT);
 }
 
+// A reader shows what it has passed and what is left, a writer the octets of the value that was opened last.
 #[test]
 fn readers_and_writers_are_shown(rt: HostRuntime) {
+    const TRUE_AND_NULL: &[u8] = &[0x01, 0x01, 0xFF, 0x05, 0x00];
     let alloc = rt.alloc();
-    let decoder = decoder_of(alloc, TRUE, Codec::Der);
-    let encoder = new_encoder(&rt, alloc, Codec::Cer);
+    let mut decoder = decoder_of(alloc, TRUE_AND_NULL, Codec::Der);
+    assert!(rt; decoder.skip_value().is_ok());
     assert_text(
         &rt,
         debug_text(alloc, &decoder),
-        "Decoder { codec: Der, decoded_len: 0, remaining: 3 }",
+        "Decoder { codec: Der, decoded_len: 3, remaining: 2 }",
     );
+    let mut encoder = new_encoder(&rt, alloc, Codec::Cer);
+    assert!(rt; encoder.encode_null(Tag::NULL, Identifier::EMPTY).is_ok());
+    assert_text(
+        &rt,
+        debug_text(alloc, &encoder),
+        "Encoder { codec: Cer, written: 2 }",
+    );
+    assert!(rt; encoder.open(false).is_ok());
     assert_text(
         &rt,
         debug_text(alloc, &encoder),

@@ -6,11 +6,13 @@ ghost use Rattle.rasn_de.specs.Decodes.{Decodes};
 ghost use Rattle.rasn_de.specs.Any.{DecodesOpenType, BorrowsOpenType, SkipsValue};
 
 use crate::ber::de::Decoder;
+use crate::ber::de::octet_string::owned;
 use crate::ber::de::parser::ParseError;
 use crate::ber::de::parser::skipping::{read_open, skip_encoding};
 use crate::de::Decode;
 use rasn_types::error::DecodeError;
 use rasn_types::types::{Any, Constraints, Tag};
+use std::borrow::CowSlice;
 
 impl<'input> Decoder<'input> {
     /// Reads a value of an open type as its octets (X.681 14). With a tag, they are the contents of
@@ -29,7 +31,7 @@ impl<'input> Decoder<'input> {
         ensures rules { IfErr result (λ e. e.codec ≡ self.old.rule) }
     {
         match read_open(self.rules, tag, self.rest) {
-            Ok((octets, rest)) => match octets.to_vec(self.alloc) {
+            Ok((octets, rest)) => match owned(self.alloc, CowSlice::Borrowed(octets)) {
                 Ok(octets) => {
                     self.advance(rest);
                     Ok(Any::new(octets))

@@ -1,6 +1,6 @@
 //! Character strings (X.690 8.23).
-ghost use Rattle.std.specs.Prelude.{chars, ◌≡◌, IfErr};
-ghost use Rattle.std.specs.Cow.{cow_str_bytes};
+ghost use Rattle.std.specs.Prelude.{chars, ◌≡◌, [], IfOk, IfErr, IsOk};
+ghost use Rattle.std.specs.Cow.{cow_str_bytes, IsOwnedStr};
 ghost use Rattle.std.specs.String.{string_bytes};
 ghost use Rattle.rasn_types.specs.declared.types.strings.alphabet.Alphabet.TheVariants.{Numeric, Printable, Visible, Ia5, Every};
 ghost use Rattle.rasn_types.specs.CharacterString.{string_kind, units_of};
@@ -19,6 +19,7 @@ use rasn_types::types::{
     Ia5String, Ia5Type, NumericString, NumericType, PrintableString, PrintableType,
     RestrictedString, StringType, Tag, TeletexString, TeletexType, VisibleString, VisibleType,
 };
+use std::alloc::{AllocError, Global};
 use std::borrow::{CowSlice, CowStr};
 
 /// Checks that the number of octets is within its bound, and then that all octets are in the
@@ -83,6 +84,19 @@ fn text_of(octets: CowSlice<'_, u8>) -> Result<CowStr<'_>, ParseError>
             Err(_) => Err(fault),
         },
     }
+}
+
+/// Text that is owned. No characters take no memory.
+#[inline(always)]
+fn owned_text(alloc: Global, text: CowStr<'_>) -> Result<String, AllocError>
+    ensures ok { IfOk result (λ s. string_bytes s ≡ cow_str_bytes text.entry) }
+    ensures succeeds { IsOwnedStr text.entry → IsOk result }
+    ensures empty { chars (cow_str_bytes text.entry) ≡ [] → IsOk result }
+{
+    if text.as_str().is_empty() {
+        return Ok(String::new(alloc));
+    }
+    text.into_owned(alloc)
 }
 
 impl<'input> Decoder<'input> {
@@ -260,7 +274,7 @@ impl<'input> Decoder<'input> {
         ensures rules { IfErr result (λ e. e.codec ≡ self.old.rule) }
     {
         let text = self.decode_utf8_text(tag, constraints)?;
-        match text.into_owned(self.alloc()) {
+        match owned_text(self.alloc(), text) {
             Ok(text) => Ok(text),
             Err(_) => Err(self.error(ParseError::OutOfMemory)),
         }

@@ -1,8 +1,9 @@
 //! Values that have a default if they are left out (X.680 25.8).
-ghost use Rattle.std.specs.Prelude.{◌≡◌, IfErr};
+ghost use Rattle.std.specs.Prelude.{◌≡◌, IfOk, IfErr};
 ghost use Rattle.rasn_types.specs.Shapes.{prefix};
 ghost use Rattle.rasn_de.specs.Decodes.{Decodes};
 ghost use Rattle.rasn_de.specs.Optional.{MakesValue, DecodesOrDefault, DecodesOrDefaultAs, DecodesDefault, DecodesDefaultAs};
+ghost use Rattle.rasn_de.specs.Beyond.{got, BeyondDefault, BeyondPrefix};
 ghost use Rattle.rasn_de.specs.Prefix.{DecodesPrefixBy};
 
 use crate::ber::de::Decoder;
@@ -30,6 +31,7 @@ impl<'input> Decoder<'input> {
         requires { F.IsAlwaysCallable default }
         ensures exact { DecodesOrDefault (Decodes D.shape D.tree) D.tree (F.post default) D.TAG self.old result self.new }
         ensures reads { DecodesDefault D.TAG D.shape D.tree (F.post default) self.old result self.new }
+        ensures beyond { IfOk result (λ v. BeyondDefault (got (D.beyond D.TAG)) self.old v self.new) }
         ensures rules { IfErr result (λ e. e.codec ≡ self.old.rule) }
     {
         self.decode_default_with_tag_and_constraints(D::TAG, default, &D::CONSTRAINTS)
@@ -48,6 +50,7 @@ impl<'input> Decoder<'input> {
         requires { F.IsAlwaysCallable default }
         ensures exact { DecodesOrDefaultAs tag D.CONSTRAINTS D.shape D.tree (F.post default) self.old result self.new }
         ensures reads { DecodesDefaultAs tag D.CONSTRAINTS D.shape D.tree (F.post default) self.old result self.new }
+        ensures beyond { IfOk result (λ v. BeyondDefault (got (D.beyond tag)) self.old v self.new) }
         ensures rules { IfErr result (λ e. e.codec ≡ self.old.rule) }
     {
         self.decode_default_with_tag_and_constraints(tag, default, &D::CONSTRAINTS)
@@ -65,6 +68,7 @@ impl<'input> Decoder<'input> {
         requires { F.IsAlwaysCallable default }
         ensures exact { DecodesOrDefaultAs D.TAG constraints.now D.shape D.tree (F.post default) self.old result self.new }
         ensures reads { DecodesDefaultAs D.TAG constraints.now D.shape D.tree (F.post default) self.old result self.new }
+        ensures beyond { IfOk result (λ v. BeyondDefault (got (D.beyond D.TAG)) self.old v self.new) }
         ensures rules { IfErr result (λ e. e.codec ≡ self.old.rule) }
     {
         self.decode_default_with_tag_and_constraints(D::TAG, default, constraints)
@@ -82,6 +86,7 @@ impl<'input> Decoder<'input> {
         requires { F.IsAlwaysCallable default }
         ensures exact { DecodesOrDefaultAs tag constraints.now D.shape D.tree (F.post default) self.old result self.new }
         ensures reads { DecodesDefaultAs tag constraints.now D.shape D.tree (F.post default) self.old result self.new }
+        ensures beyond { IfOk result (λ v. BeyondDefault (got (D.beyond tag)) self.old v self.new) }
         ensures rules { IfErr result (λ e. e.codec ≡ self.old.rule) }
     {
         if !self.next_tag_is(tag)? {
@@ -112,6 +117,7 @@ impl<'input> Decoder<'input> {
         ensures exact { DecodesOrDefault (DecodesPrefixBy D.shape D.tree tag) D.tree (F.post default) tag self.old result self.new }
         ensures shaped { DecodesOrDefault (Decodes (prefix tag D.shape) D.tree) D.tree (F.post default) tag self.old result self.new }
         ensures reads { DecodesDefault tag (prefix tag D.shape) D.tree (F.post default) self.old result self.new }
+        ensures beyond { IfOk result (λ v. BeyondDefault (BeyondPrefix (got (D.beyond D.TAG)) tag) self.old v self.new) }
         ensures rules { IfErr result (λ e. e.codec ≡ self.old.rule) }
     {
         if !self.next_tag_is(tag)? {

@@ -1,9 +1,10 @@
 //! Extension additions (X.680 25.4).
-ghost use Rattle.std.specs.Prelude.{◌≡◌, IfErr};
+ghost use Rattle.std.specs.Prelude.{◌≡◌, IfOk, IfErr};
 ghost use Rattle.rasn_types.specs.Shapes.{prefix};
 ghost use Rattle.rasn_types.specs.Trees.{option_tree};
 ghost use Rattle.rasn_de.specs.Decodes.{Decodes};
 ghost use Rattle.rasn_de.specs.Optional.{DecodesAlways, DecodesIfPresent, DecodesIfPresentAs, DecodesOption, DecodesOptionAs};
+ghost use Rattle.rasn_de.specs.Beyond.{got, BeyondOptional, BeyondPrefix};
 ghost use Rattle.rasn_de.specs.Prefix.{DecodesPrefixBy};
 
 use crate::ber::de::Decoder;
@@ -24,6 +25,7 @@ impl<'input> Decoder<'input> {
     ) -> Result<Option<D>, DecodeError>
         ensures exact { DecodesIfPresentAs tag D.CONSTRAINTS D.shape D.tree self.old result self.new }
         ensures reads { DecodesOptionAs tag D.CONSTRAINTS D.shape D.tree self.old result self.new }
+        ensures beyond { IfOk result (λ v. BeyondOptional (got (D.beyond tag)) self.old v self.new) }
         ensures rules { IfErr result (λ e. e.codec ≡ self.old.rule) }
     {
         self.decode_optional_with_tag(tag)
@@ -41,6 +43,7 @@ impl<'input> Decoder<'input> {
     ) -> Result<Option<D>, DecodeError>
         ensures exact { DecodesAlways (DecodesPrefixBy D.shape D.tree tag) self.old result self.new }
         ensures reads { Decodes (prefix tag D.shape) (option_tree D.tree) self.old result self.new }
+        ensures beyond { IfOk result (λ v. BeyondOptional (BeyondPrefix (got (D.beyond D.TAG)) tag) self.old v self.new) }
         ensures rules { IfErr result (λ e. e.codec ≡ self.old.rule) }
     {
         let value = self.decode_explicit_prefix::<D>(tag)?;
@@ -59,6 +62,7 @@ impl<'input> Decoder<'input> {
     >(&mut self) -> Result<Option<D>, DecodeError>
         ensures exact { DecodesIfPresent (Decodes D.shape D.tree) D.TAG self.old result self.new }
         ensures reads { DecodesOption D.TAG D.shape D.tree self.old result self.new }
+        ensures beyond { IfOk result (λ v. BeyondOptional (got (D.beyond D.TAG)) self.old v self.new) }
         ensures rules { IfErr result (λ e. e.codec ≡ self.old.rule) }
     {
         self.decode_optional::<D>()

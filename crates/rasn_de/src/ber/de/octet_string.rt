@@ -1,5 +1,5 @@
 //! OCTET STRING (X.690 8.7).
-ghost use Rattle.std.specs.Prelude.{◌≡◌, IfOk, IfErr, IsOk};
+ghost use Rattle.std.specs.Prelude.{◌≡◌, [], IfOk, IfErr, IsOk};
 ghost use Rattle.std.specs.Cow.{cow_slice_items, IsOwnedSlice};
 ghost use Rattle.rasn_types.specs.Errors.{IsOutOfMemory};
 ghost use Rattle.rasn_types.specs.Framing.{AreOctets};
@@ -19,12 +19,14 @@ use std::alloc::{AllocError, Global};
 use std::borrow::CowSlice;
 
 /// Returns the octets as a vector. Borrowed octets are copied at once, whereas `into_owned` copies
-/// them one by one.
+/// them one by one. No octets take no memory.
 pub(crate) fn owned(alloc: Global, octets: CowSlice<'_, u8>) -> Result<Vec<u8>, AllocError>
     ensures items { IfOk result (λ v. v.items ≡ cow_slice_items octets.entry) }
     ensures succeeds { IsOwnedSlice octets.entry → IsOk result }
+    ensures empty { cow_slice_items octets.entry ≡ [] → IsOk result }
 {
     match octets {
+        CowSlice::Borrowed([]) => Ok(Vec::new(alloc)),
         CowSlice::Borrowed(octets) => Vec::from_slice(alloc, octets),
         CowSlice::Owned(octets) => Ok(octets),
     }

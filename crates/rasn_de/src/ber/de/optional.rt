@@ -4,7 +4,7 @@ ghost use Rattle.rasn_types.specs.Shapes.{prefix};
 ghost use Rattle.rasn_de.specs.Decodes.{Decodes};
 ghost use Rattle.rasn_de.specs.Optional.{NextTagIs, DecodesIfPresent, DecodesIfPresentAs, DecodesOption, DecodesOptionAs};
 ghost use Rattle.rasn_de.specs.Prefix.{DecodesPrefixBy};
-ghost use Rattle.rasn_de.specs.Beyond.{got, BeyondOptional};
+ghost use Rattle.rasn_de.specs.Beyond.{got, BeyondOptional, BeyondPrefix};
 
 use crate::ber::de::Decoder;
 use crate::de::Decode;
@@ -113,6 +113,7 @@ impl<'input> Decoder<'input> {
     ) -> Result<Option<D>, DecodeError>
         ensures exact { DecodesIfPresent (DecodesPrefixBy D.shape D.tree tag) tag self.old result self.new }
         ensures reads { DecodesOption tag (prefix tag D.shape) D.tree self.old result self.new }
+        ensures beyond { IfOk result (λ v. BeyondOptional (BeyondPrefix (got (D.beyond D.TAG)) tag) self.old v self.new) }
         ensures rules { IfErr result (λ e. e.codec ≡ self.old.rule) }
     {
         if !self.next_tag_is(tag)? {

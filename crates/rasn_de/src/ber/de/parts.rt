@@ -4,6 +4,7 @@ ghost use Rattle.std.specs.Prelude.{◌≡◌, true, IfOk, IfErr};
 ghost use Rattle.rasn_types.specs.Shapes.{seq};
 ghost use Rattle.rasn_de.specs.Decodes.{Decodes, DecodesParts};
 ghost use Rattle.rasn_de.specs.Beyond.{BeyondInside};
+ghost use Rattle.rasn_de.specs.Constructed.{sequence_header};
 ghost use Rattle.rasn_de.specs.PartTypes.{needs_no_initializer, FailsAtPart, DecodesInParts, DecodesSequenceParts};
 
 use crate::ber::de::Decoder;
@@ -127,7 +128,7 @@ impl<V: DefaultValue, R: DecodeParts> DecodeParts for Defaulted<V, R>
 where
     V::Value: Decode,
 {
-    ghost use Rattle.rasn_de.specs.Beyond.{BeyondPart};
+    ghost use Rattle.rasn_de.specs.Beyond.{got, BeyondDefault, BeyondPart};
     ghost use Rattle.std.specs.Prelude.{◌&&◌};
     ghost use Rattle.rasn_types.specs.Shapes.{part, default, joined};
     ghost use Rattle.rasn_de.specs.PartTypes.{is_looked_for};
@@ -136,7 +137,7 @@ where
 
     ghost tree = { λ p. joined (V.Value.tree p.0) (R.tree p.1) };
 
-    ghost beyond = { λ old p new. BeyondPart (λ o v n. Unit {0}) R.beyond old p.0 p.1 new };
+    ghost beyond = { λ old p new. BeyondPart (BeyondDefault (got (V.Value.beyond V.Value.TAG))) R.beyond old p.0 p.1 new };
 
     ghost tags_agree = { is_looked_for V.Value.shape V.Value.TAG && R.tags_agree };
 
@@ -156,7 +157,7 @@ impl<V: ExplicitDefault, R: DecodeParts> DecodeParts for DefaultedExplicit<V, R>
 where
     V::Value: Decode,
 {
-    ghost use Rattle.rasn_de.specs.Beyond.{BeyondPart};
+    ghost use Rattle.rasn_de.specs.Beyond.{got, BeyondDefault, BeyondPart, BeyondPrefix};
     ghost use Rattle.std.specs.Prelude.{◌&&◌};
     ghost use Rattle.rasn_types.specs.Shapes.{part, default, prefix, joined};
     ghost use Rattle.rasn_de.specs.PartTypes.{is_looked_for};
@@ -165,7 +166,7 @@ where
 
     ghost tree = { λ p. joined (V.Value.tree p.0) (R.tree p.1) };
 
-    ghost beyond = { λ old p new. BeyondPart (λ o v n. Unit {0}) R.beyond old p.0 p.1 new };
+    ghost beyond = { λ old p new. BeyondPart (BeyondDefault (BeyondPrefix (got (V.Value.beyond V.Value.TAG)) V.Prefix.TAG)) R.beyond old p.0 p.1 new };
 
     ghost tags_agree = { is_looked_for (prefix V.Prefix.TAG V.Value.shape) V.Prefix.TAG && R.tags_agree };
 
@@ -220,7 +221,7 @@ impl<'input> Decoder<'input> {
         requires no_initializer { needs_no_initializer P.parts ≡ true }
         ensures exact { DecodesSequenceParts P.parts P.tree tag self.old result self.new }
         ensures reads { Decodes (seq tag P.parts) P.tree self.old result self.new }
-        ensures beyond { IfOk result (λ v. BeyondInside P.beyond tag self.old v) }
+        ensures beyond { IfOk result (λ v. BeyondInside P.beyond (sequence_header tag) self.old v) }
         ensures rules { IfErr result (λ e. e.codec ≡ self.old.rule) }
     {
         self.inside(

@@ -1,7 +1,8 @@
 //! Explicit tags (X.690 8.14.2).
-ghost use Rattle.std.specs.Prelude.{◌≡◌, IfErr};
+ghost use Rattle.std.specs.Prelude.{◌≡◌, IfOk, IfErr};
 ghost use Rattle.rasn_types.specs.Shapes.{prefix};
 ghost use Rattle.rasn_de.specs.Decodes.{Decodes};
+ghost use Rattle.rasn_de.specs.Beyond.{got, BeyondPrefix};
 ghost use Rattle.rasn_de.specs.Prefix.{DecodesPrefixBy};
 
 use crate::ber::de::Decoder;
@@ -25,6 +26,7 @@ impl<'input> Decoder<'input> {
     pub fn decode_explicit_prefix<D: Decode>(&mut self, tag: Tag) -> Result<D, DecodeError>
         ensures exact { DecodesPrefixBy D.shape D.tree tag self.old result self.new }
         ensures reads { Decodes (prefix tag D.shape) D.tree self.old result self.new }
+        ensures beyond { IfOk result (λ v. BeyondPrefix (got (D.beyond D.TAG)) tag self.old v self.new) }
         ensures rules { IfErr result (λ e. e.codec ≡ self.old.rule) }
     {
         self.inside(
@@ -32,6 +34,7 @@ impl<'input> Decoder<'input> {
             |inner| -> Result<D, DecodeError>
                 ensures reads { Decodes D.shape D.tree inner.old result inner.new }
                 ensures rules { IfErr result (λ e. e.codec ≡ inner.old.rule) }
+                ensures beyond { D.beyond D.TAG inner.old result inner.new }
             { D::decode(inner) },
         )
     }
@@ -53,6 +56,11 @@ impl<G: AsnType, T: Decode> Decode for Implicit<G, T> {
 }
 
 impl<G: AsnType, T: Decode> Decode for Explicit<G, T> {
+    ghost use Rattle.std.specs.Prelude.{IfOk};
+    ghost use Rattle.rasn_de.specs.Beyond.{got, BeyondPrefix};
+
+    ghost beyond = { λ tag old result new. IfOk result (λ v. BeyondPrefix (got (T.beyond T.TAG)) tag old v new) };
+
     fn decode_with_tag_and_constraints(
         decoder: &mut Decoder<'_>,
         tag: Tag,

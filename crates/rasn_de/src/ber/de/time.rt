@@ -1,5 +1,5 @@
 //! Times (X.680 38.4.1, 46, 47; X.690 11.7, 11.8).
-ghost use Rattle.std.specs.Prelude.{◌⊎◌, ◌≡◌, IfErr};
+ghost use Rattle.std.specs.Prelude.{◌≡◌, IfErr};
 ghost use Rattle.std.specs.String.{string_bytes};
 ghost use Rattle.rasn_types.specs.declared.types.constraints.Constraints.{Constraints};
 ghost use Rattle.rasn_types.specs.Options.{IsSomeRelated};
@@ -7,9 +7,10 @@ ghost use Rattle.rasn_types.specs.Shapes.{leaf, utc_time, generalized_time, date
 ghost use Rattle.rasn_types.specs.Time.{GeneralUtc, CanonicalUtc, GeneralGeneralized, StrictGeneralized, DateText};
 ghost use Rattle.rasn_types.specs.Grammar.{UtcText, GeneralizedText};
 ghost use Rattle.rasn_de.specs.Decodes.{Decodes};
-ghost use Rattle.rasn_de.specs.Time.{AtAnyOffset, IsInvalidDate, IsAllocError, IsInvalidString, ParsesTime, ParsesCopiedTime, DecodesTime};
+ghost use Rattle.rasn_de.specs.Time.{AtAnyOffset, IsInvalidDate, IsInvalidText, IsInvalidString, ParsesTime, ParsesCopiedTime, DecodesTime};
 
 use crate::ber::de::Decoder;
+use crate::ber::de::octet_string::owned;
 use crate::de::Decode;
 use rasn_types::ber::time::{
     parse_canonical_generalized_time, parse_canonical_utc_time, parse_date, parse_generalized_time,
@@ -56,9 +57,9 @@ fn invalid_date(octets: Vec<u8>, codec: Codec) -> DecodeError
 /// Returns the error for a text that isn't a valid time or date and has to be copied. If the
 /// allocation for the copy fails, the error is `OutOfMemory`.
 fn invalid_text(alloc: Global, text: &[u8], codec: Codec) -> DecodeError
-    ensures { IsInvalidDate text.now codec result ⊎ IsAllocError codec result }
+    ensures { IsInvalidText text.now codec result }
 {
-    match Vec::from_slice(alloc, text) {
+    match owned(alloc, CowSlice::Borrowed(text)) {
         Ok(octets) => invalid_date(octets, codec),
         Err(_) => DecodeError {
             kind: DecodeErrorKind::OutOfMemory,

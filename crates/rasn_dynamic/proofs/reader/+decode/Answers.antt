@@ -32,7 +32,7 @@ use Rattle.rasn_schema.proofs.TypeShapes.{shape_below, own_is}
 use Rattle.rasn_schema.proofs.Lists.{split, nothing_left, read_at}
 use Rattle.rasn_dynamic.specs.Typed.{DecodesContents, element_count, values_tree}
 use Rattle.rasn_dynamic.specs.Calls.{held, names_of, nones}
-use Rattle.rasn_dynamic.specs.Fitting.{Fits, FitsBy, ComponentsFit, EachFits}
+use Rattle.rasn_schema.specs.Fitting.{Fits, FitsBy, ComponentsFit, EachFits}
 use Rattle.rasn_dynamic.proofs.FitsRead.{if_ok, fits_below, are_items, are_elements, sized_fits, each_more, fit_more, fit_end, made_fits, gathered_fit, nones_fit, found_length, put_fits}
 use Rattle.rasn_dynamic.proofs.Nothing.{refused_at_zero, refused_not_there, found_here}
 use Rattle.rasn_dynamic.proofs.Chosen.{no_tag, lawful_at, first_at, chosen_got, chosen_refused}

@@ -10,7 +10,7 @@ use Rattle.rasn_de.proofs.OwnTypes.SetPartTypes.{ReadTo}
 use Rattle.rasn_schema.specs.Trees.{tree_of}
 use Rattle.rasn_schema.specs.Shapes.{shape_of_type, components_by, AreLawful}
 use Rattle.rasn_dynamic.specs.Calls.{held, names_of}
-use Rattle.rasn_dynamic.specs.Fitting.{Fits, EachFits}
+use Rattle.rasn_schema.specs.Fitting.{Fits, EachFits}
 use Rattle.rasn_dynamic.specs.Found.{FoundFit}
 use Rattle.rasn_dynamic.proofs.Contents.{PartsSoFar}
 use Rattle.rasn_dynamic.proofs.FitsRead.{FitSoFar}

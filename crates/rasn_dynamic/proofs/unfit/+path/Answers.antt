@@ -1,6 +1,7 @@
 use Rattle.std.proofs.Common.{◌-◌, [], ◌∷◌, sym, subst, append-nil, arith}
 use Rattle.std.proofs.lemmas.Result.{on_ok_weaker}
-use Rattle.rasn_dynamic.specs.Fitting.{Fits, FitsBy, IsUnfitAt}
+use Rattle.rasn_schema.specs.Fitting.{Fits, FitsBy}
+use Rattle.rasn_dynamic.specs.Unfit.{IsUnfitAt}
 use Rattle.rasn_dynamic.proofs.UnfitParts.{unfit_zero, unfit_none, type_unfit, path_of_type, path_ends, path_goes_on, longer}
 use Rattle.rasn_dynamic.proofs.unfit.+path.Goals as goal
 

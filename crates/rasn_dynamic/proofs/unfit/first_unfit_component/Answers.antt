@@ -1,7 +1,7 @@
 use Rattle.std.proofs.Common.{refl, sym, inl, inr}
 use Rattle.std.proofs.lemmas.Option.{slice_get_past}
 use Rattle.rasn_schema.proofs.Lists.{read_at}
-use Rattle.rasn_dynamic.specs.Fitting.{Fits}
+use Rattle.rasn_schema.specs.Fitting.{Fits}
 use Rattle.rasn_dynamic.proofs.UnfitParts.{next_fits, too_few, none_after}
 use Rattle.rasn_dynamic.proofs.unfit.first_unfit_component.Goals as goal
 

@@ -1,5 +1,5 @@
 use Rattle.std.proofs.Common.{◌-◌, drop, length}
-use Rattle.rasn_dynamic.specs.Fitting.{ComponentsFit, Fits}
+use Rattle.rasn_schema.specs.Fitting.{ComponentsFit, Fits}
 use Rattle.rasn_dynamic.proofs.unfit.first_unfit_component.Given as goal
 
 abbrev pub invariant-loop-component : goal.invariant-loop-component

@@ -1,5 +1,5 @@
 use Rattle.std.proofs.Common.{◌-◌, drop, length}
-use Rattle.rasn_dynamic.specs.Fitting.{EachFits, Fits}
+use Rattle.rasn_schema.specs.Fitting.{EachFits, Fits}
 use Rattle.rasn_dynamic.proofs.unfit.first_unfit_element.Given as goal
 
 abbrev pub invariant-loop-value : goal.invariant-loop-value

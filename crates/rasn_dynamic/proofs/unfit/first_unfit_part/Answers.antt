@@ -1,7 +1,8 @@
-use Rattle.rasn_dynamic.specs.Fitting.{Fits, ComponentsFit, IsComponent}
+use Rattle.rasn_schema.specs.Fitting.{Fits, ComponentsFit}
+use Rattle.rasn_dynamic.specs.Unfit.{IsComponent}
 use Rattle.std.proofs.Common.{subst}
 use Rattle.rasn_dynamic.proofs.UnfitParts.{choice_part, list_part}
-use Rattle.rasn_dynamic.specs.Fitting.{FitsBy}
+use Rattle.rasn_schema.specs.Fitting.{FitsBy}
 use Rattle.rasn_dynamic.proofs.unfit.first_unfit_part.Goals as goal
 
 pub returns-in-Choice : goal.returns-in-Choice

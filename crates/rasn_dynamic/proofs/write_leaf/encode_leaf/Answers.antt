@@ -1,9 +1,10 @@
 use Rattle.std.proofs.Common.{◌≡◌, ◌∙◌, true≢false, refl, sym, inl, inr, chars, subst}
-use Rattle.rasn_types.specs.Shapes.{utf8}
+use Rattle.rasn_types.specs.Shapes.{utf8, bit_string, bits}
 use Rattle.rasn_enc.proofs.Leaves.CharacterString.{text_refused}
+use Rattle.rasn_enc.proofs.Leaves.Primitive.{size_refused}
 use Rattle.rasn_schema.specs.declared.types.LeafKind.TheVariants.{Boolean, Null, BitString, Bmp, ObjectIdentifier, Date, Utf8, UtcTime, GeneralizedTime}
 use Rattle.rasn_schema.specs.declared.value.Value.{Instant}
-use Rattle.rasn_dynamic.specs.Fitting.{FitsLeaf}
+use Rattle.rasn_schema.specs.Fitting.{FitsLeaf}
 use Rattle.rasn_dynamic.proofs.OnlyFitting.{form_refused, fitted}
 use Rattle.rasn_dynamic.proofs.LeafWritten.{leaf_as, string_encoded, string_refused, number_encoded, number_refused}
 use Rattle.rasn_dynamic.proofs.write_leaf.encode_leaf.Goals as goal
@@ -44,8 +45,11 @@ returns-in-Null c =
 
 pub returns-in-Bits : goal.returns-in-Bits
 returns-in-Bits c =
-    let call = c.encode_with_tag_and_constraints-in-Bits in
-    fitted _ c.if-not-leaf_fits.ensures (leaf_as c.args.kind BitString _ _ c.args.tag c.args.constraints.now _ _ _ (subst (FitsLeaf c.args.kind) c.in-Bits.is c.if-not-leaf_fits.ensures) c.in-Bits.is call.ensures.ok call.ensures.refused) call.ensures.err call.ensures.rules
+    let fits : c.args.kind ≡ BitString = subst (FitsLeaf c.args.kind) c.in-Bits.is c.if-not-leaf_fits.ensures in
+    fitted _ c.if-not-leaf_fits.ensures (rw (c.in-Bits.is, fits, ← c.as_bitstr.ensures) (record {
+      ok = c.encode_bit_string.ensures.ok;
+      refused = size_refused _ bit_string c.args.tag c.args.constraints.now (bits c.as_bitstr.result) _ _ (λ b. b) c.encode_bit_string.ensures.fails;
+    })) c.encode_bit_string.ensures.err c.encode_bit_string.ensures.rules
 
 pub returns-in-Units : goal.returns-in-Units
 returns-in-Units c =

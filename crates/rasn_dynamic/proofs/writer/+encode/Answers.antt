@@ -10,12 +10,12 @@ use Rattle.rasn_schema.specs.Trees.{tree_of}
 use Rattle.rasn_schema.specs.Shapes.{shape_of_type, type_by, components_by}
 use Rattle.rasn_schema.proofs.TypeShapes.{shape_below}
 use Rattle.rasn_schema.proofs.Lists.{split, nothing_left, read_at}
-use Rattle.rasn_dynamic.specs.Fitting.{Fits, ComponentsFit, EachFits, AlternativeFits}
+use Rattle.rasn_schema.specs.Fitting.{Fits, ComponentsFit, EachFits, AlternativeFits}
 use Rattle.rasn_dynamic.specs.Written.{keeps_tags}
 use Rattle.rasn_dynamic.proofs.Enclosed.{enclosed}
 use Rattle.rasn_dynamic.proofs.OnlyFitting.{form_refused, fits_as, fits_same}
-use Rattle.rasn_dynamic.proofs.Fitted.{fits_is, fits_none, fits_zero, no_alternative, alternative_there, fit_start, fit_more, fit_short, fit_end, each_start, each_more, each_end}
-use Rattle.rasn_dynamic.proofs.ListsOf.{list_to, list_from, set_to, set_from, no_list, no_set, list_means, set_means}
+use Rattle.rasn_schema.proofs.Fitted.{fits_is, fits_none, fits_zero, no_alternative, alternative_there, fit_start, fit_more, fit_short, fit_end, each_start, each_more, each_end}
+use Rattle.rasn_schema.proofs.ListsOf.{list_to, list_from, set_to, set_from, no_list, no_set, list_means, set_means}
 use Rattle.rasn_dynamic.proofs.WrittenInside.{left_as_it_was, leaves_by, leaves_both, prefix_inside, seq_inside, set_inside_refused, set_ordered, set_unordered, size_refused, list_inside, set_of_inside, list_unsized, set_of_unsized, written_start, written_more, alternative_written, parts_ended, part_skipped, part_written, not_opened, no_choice, none_when, some_when, component_refused, element_not_written, set_element_not_written}
 use Rattle.rasn_dynamic.proofs.writer.+encode.Goals as goal
 

@@ -4,8 +4,8 @@ use Rattle.rasn_enc.proofs.Constructed.SetOf.{SetOfSoFar}
 use Rattle.rasn_schema.specs.Trees.{tree_of}
 use Rattle.rasn_schema.specs.Shapes.{shape_of_type}
 use Rattle.rasn_enc.specs.View.{LeavesOthers}
-use Rattle.rasn_dynamic.specs.Fitting.{Fits}
-use Rattle.rasn_dynamic.proofs.Fitted.{FitSoFar, EachSoFar}
+use Rattle.rasn_schema.specs.Fitting.{Fits}
+use Rattle.rasn_schema.proofs.Fitted.{FitSoFar, EachSoFar}
 use Rattle.rasn_dynamic.proofs.WrittenInside.{WrittenSoFar}
 use Rattle.rasn_dynamic.proofs.writer.+encode.Given as goal
 

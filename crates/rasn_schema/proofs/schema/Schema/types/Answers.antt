@@ -3,6 +3,7 @@ use Rattle.rasn_types.specs.declared.types.codec.Codec.{Codec}
 use Rattle.rasn_types.specs.Lawful.{IsLawful}
 use Rattle.rasn_schema.specs.declared.types.«Type».{«Type»}
 use Rattle.rasn_schema.specs.Shapes.{shape_of_type}
+use Rattle.rasn_schema.specs.Schemas.{HaveFitDefaults}
 use Rattle.rasn_schema.specs.Depth.{AreDeep, AreReadAlike}
 use Rattle.rasn_schema.proofs.Schemas.{schema_lawful}
 use Rattle.rasn_schema.proofs.Depth.{read_alike}
@@ -17,3 +18,6 @@ AllDeep l = (rule : Codec) (i j depth id : ℕ) → AreDeep l depth i → AreDee
 pub returns-clause-deep : goal.returns-clause-deep
 unfolding AllDeep
 returns-clause-deep c = subst AllDeep (sym c.as_slice.ensures.value) (λ rule i j depth id a b. read_alike c.args.self.now.types.items c.args.self.now.lawful rule i j depth id a b)
+
+pub returns-clause-defaults : goal.returns-clause-defaults
+returns-clause-defaults c = subst HaveFitDefaults (sym c.as_slice.ensures.value) c.args.self.now.lawful.1

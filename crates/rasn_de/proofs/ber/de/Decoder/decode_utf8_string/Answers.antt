@@ -17,4 +17,4 @@ returns-in-Ok c = copied utf8 c.args.constraints.now (ByUtf8 c.args.constraints.
 pub returns-in-Err : goal.returns-in-Err
 returns-in-Err c =
     let e = c.in_ok-text.ensures in
-    not_copied utf8 c.args.constraints.now (ByUtf8 c.args.constraints.now.size) (λ s. chars (cow_str_bytes {Z = Global} s)) IsTextBorrowedIfPrimitive c.args.tag c.args.self.now _ (λ s. chars (string_bytes {Z = Global} s)) c.in_ok-text.text e (text_primitive c.args.self.now.rule c.args.tag c.args.self.now.rest c.in_ok-text.text c.in-Err.ensures.succeeds e.exact.1) _ c.error.ensures
+    not_copied utf8 c.args.constraints.now (ByUtf8 c.args.constraints.now.size) (λ s. chars (cow_str_bytes {Z = Global} s)) IsTextBorrowedIfPrimitive c.args.tag c.args.self.now _ (λ s. chars (string_bytes {Z = Global} s)) c.in_ok-text.text e (text_primitive c.args.self.now.rule c.args.tag c.args.self.now.rest c.in_ok-text.text c.in-Err.ensures.succeeds e.exact.1) c.in-Err.ensures.empty _ c.error.ensures

@@ -20,4 +20,4 @@ returns-in-Ok g c = copied (string_kind g.S.StringType.ALPHABET) c.args.constrai
 pub returns-in-Err : goal.returns-in-Err
 returns-in-Err g c =
     let e = c.in_ok-octets.ensures in
-    not_copied (string_kind g.S.StringType.ALPHABET) c.args.constraints.now (ByAlphabet g.S.StringType.ALPHABET c.args.constraints.now.size) cow_slice_items IsBorrowedIfPrimitive c.args.tag c.args.self.now _ (λ s. s) c.in_ok-octets.octets (rw (← c.ALPHABET.ensures) e) (slice_primitive c.args.self.now.rule c.args.tag c.args.self.now.rest c.in_ok-octets.octets c.in-Err.ensures.succeeds e.exact.1) _ c.error.ensures
+    not_copied (string_kind g.S.StringType.ALPHABET) c.args.constraints.now (ByAlphabet g.S.StringType.ALPHABET c.args.constraints.now.size) cow_slice_items IsBorrowedIfPrimitive c.args.tag c.args.self.now _ (λ s. s) c.in_ok-octets.octets (rw (← c.ALPHABET.ensures) e) (slice_primitive c.args.self.now.rule c.args.tag c.args.self.now.rest c.in_ok-octets.octets c.in-Err.ensures.succeeds e.exact.1) c.in-Err.ensures.empty _ c.error.ensures

@@ -10,7 +10,7 @@ use Rattle.rasn_schema.specs.declared.types.NamedNumber.{NamedNumber}
 use Rattle.rasn_schema.specs.declared.value.Value.{Value}
 use Rattle.rasn_schema.specs.Shapes.{numbers_of}
 use Rattle.rasn_schema.proofs.Lists.{some_is}
-use Rattle.rasn_dynamic.specs.Fitting.{AlternativeFits, ComponentFits, ComponentsFit, EachFits, FitsFound, FitsBy, Fits}
+use Rattle.rasn_schema.specs.Fitting.{AlternativeFits, ComponentFits, ComponentsFit, EachFits, FitsFound, FitsBy, Fits}
 
 -- Those so far fit if the rest does.
 pub record FitSoFar (g : ℕ → Value → Type 0) (all rest : List Component) (values left : List Value) : Type 0 where

@@ -5,7 +5,7 @@ use Rattle.rasn_types.specs.Trees.{list_tree}
 use Rattle.rasn_schema.specs.declared.value.Value.{Value, Items', Elements'}
 use Rattle.rasn_schema.specs.Trees.{tree_of}
 use Rattle.rasn_schema.proofs.Values.{trees_listed}
-use Rattle.rasn_dynamic.specs.Fitting.{AreItems, AreElements, IsListOf, IsNoList, IsSetOf, IsNoSet}
+use Rattle.rasn_schema.specs.Fitting.{AreItems, AreElements, IsListOf, IsNoList, IsSetOf, IsNoSet}
 
 module _ (P : List Value → Type 0) where
   pub list_to : (vs : List Value) (v : Value) → IsListOf vs v → P vs → AreItems P v

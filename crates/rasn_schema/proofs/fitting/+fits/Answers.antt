@@ -1,9 +1,9 @@
 use Rattle.std.proofs.Common.{◌-◌, subst, arith}
 use Rattle.rasn_types.specs.Truth.{IsWhether}
 use Rattle.rasn_schema.proofs.Lists.{split, nothing_left, read_at}
-use Rattle.rasn_dynamic.specs.Fitting.{Fits}
-use Rattle.rasn_dynamic.proofs.Fitted.{alternative_told, no_alternative, fit_more, fit_not, fit_short, each_more, each_not, each_end, fits_is, fits_none, fits_zero}
-use Rattle.rasn_dynamic.proofs.fitting.+fits.Goals as goal
+use Rattle.rasn_schema.specs.Fitting.{Fits}
+use Rattle.rasn_schema.proofs.Fitted.{alternative_told, no_alternative, fit_more, fit_not, fit_short, each_more, each_not, each_end, fits_is, fits_none, fits_zero}
+use Rattle.rasn_schema.proofs.fitting.+fits.Goals as goal
 
 pub fits_at-returns-then-levels-eq0 : goal.fits_at-returns-then-levels-eq0
 fits_at-returns-then-levels-eq0 t c = fits_zero c.args.types.now c.args.levels c.args.id.0 c.args.value.now c.if-levels-eq0.true

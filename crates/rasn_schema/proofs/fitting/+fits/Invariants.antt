@@ -1,7 +1,7 @@
 use Rattle.std.proofs.Common.{◌+◌, ◌*◌, length}
-use Rattle.rasn_dynamic.specs.Fitting.{Fits}
-use Rattle.rasn_dynamic.proofs.Fitted.{FitSoFar, EachSoFar}
-use Rattle.rasn_dynamic.proofs.fitting.+fits.Given as goal
+use Rattle.rasn_schema.specs.Fitting.{Fits}
+use Rattle.rasn_schema.proofs.Fitted.{FitSoFar, EachSoFar}
+use Rattle.rasn_schema.proofs.fitting.+fits.Given as goal
 
 abbrev pub decreases-fits_at : goal.decreases-fits_at
 decreases-fits_at l = 8 * l.levels

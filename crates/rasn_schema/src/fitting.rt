@@ -5,12 +5,13 @@ ghost use Rattle.rasn_types.specs.Shapes.{IsIn, between};
 ghost use Rattle.rasn_types.specs.CharacterString.{AreAdmitted};
 ghost use Rattle.rasn_types.specs.Truth.{IsWhether};
 ghost use Rattle.rasn_schema.specs.Shapes.{numbers_of};
-ghost use Rattle.rasn_dynamic.specs.Fitting.{IsNumber, NumberFits, OctetsFit, FitsLeaf, AreOctets, AlternativeFits, IsChosen, ComponentFits, ComponentsFit, AreItems, EachFits, FitsBy, Fits};
+ghost use Rattle.rasn_schema.specs.Fitting.{IsNumber, NumberFits, OctetsFit, FitsLeaf, AreOctets, AlternativeFits, IsChosen, ComponentFits, ComponentsFit, AreItems, EachFits, FitsBy, Fits};
 
 use crate::fit::{elements_of, is_left_out, items_of};
-use rasn_schema::{
-    Alternative, Component, LeafKind, NamedNumber, Schema, Type, TypeId, Value, type_at,
-};
+use crate::schema::Schema;
+use crate::type_id::TypeId;
+use crate::types::{Alternative, Component, LeafKind, NamedNumber, Type, type_at};
+use crate::value::Value;
 use rasn_types::types::{Alphabet, Integer};
 
 /// Returns whether the number is one of those from `low` to `high`.
@@ -62,7 +63,7 @@ fn octets_fit(kind: LeafKind, octets: &[u8]) -> bool
 
 /// Returns whether the value, which holds no other values, is one of this kind.
 #[inline(always)]
-pub(crate) fn leaf_fits(kind: LeafKind, value: &Value<'_>) -> bool
+pub fn leaf_fits(kind: LeafKind, value: &Value<'_>) -> bool
     ensures { IsWhether result (FitsLeaf kind value.now) }
 {
     match value {
@@ -102,7 +103,7 @@ fn is_named(named: &NamedNumber, number: &Integer) -> bool
 }
 
 /// Returns whether the number is one of these.
-pub(crate) fn is_listed(numbers: &[NamedNumber], number: &Integer) -> bool
+pub fn is_listed(numbers: &[NamedNumber], number: &Integer) -> bool
     ensures { IsWhether result (Contains (numbers_of numbers.now) number.now) }
 {
     for named in numbers {
@@ -132,7 +133,7 @@ fn are_octets(value: &Value<'_>) -> bool
 
 /// Returns whether the value is one of the type with this number. Types are followed `levels` deep.
 #[cycle(fits)]
-pub(crate) fn fits_at(types: &[Type], levels: usize, id: TypeId, value: &Value<'_>) -> bool
+pub fn fits_at(types: &[Type], levels: usize, id: TypeId, value: &Value<'_>) -> bool
     ensures { IsWhether result (Fits types.now levels id.0 value.now) }
 {
     if levels == 0 {
@@ -225,7 +226,7 @@ fn components_fit(
 
 /// Returns whether the component is absent or has its default's value, or the value is one of its type.
 #[cycle(fits)]
-pub(crate) fn component_fits(
+pub fn component_fits(
     types: &[Type],
     below: usize,
     component: &Component,

@@ -4,10 +4,10 @@ ghost use Rattle.rasn_types.specs.Shapes.{absent};
 ghost use Rattle.rasn_types.specs.Truth.{IsWhether};
 ghost use Rattle.rasn_schema.specs.Trees.{tree_of};
 ghost use Rattle.rasn_schema.specs.Shapes.{presence_of};
-ghost use Rattle.rasn_dynamic.specs.Written.{IsLeftOutAs};
-ghost use Rattle.rasn_dynamic.specs.Fitting.{IsListOf, IsNoList, IsSetOf, IsNoSet};
+ghost use Rattle.rasn_schema.specs.Fitting.{IsLeftOutAs, IsListOf, IsNoList, IsSetOf, IsNoSet};
 
-use rasn_schema::{Component, Presence, Value};
+use crate::types::{Component, Presence};
+use crate::value::Value;
 
 /// Returns the values of a list.
 #[inline(always)]

@@ -1,7 +1,7 @@
 use Rattle.std.proofs.Common.{◌≡◌, arith}
 use Rattle.rasn_schema.proofs.Lists.{read_at, so_far_more, so_far_end}
-use Rattle.rasn_dynamic.proofs.Fitted.{named_listed, not_listed}
-use Rattle.rasn_dynamic.proofs.fitting.is_listed.Goals as goal
+use Rattle.rasn_schema.proofs.Fitted.{named_listed, not_listed}
+use Rattle.rasn_schema.proofs.fitting.is_listed.Goals as goal
 
 pub returns-then-is_named : goal.returns-then-is_named
 returns-then-is_named c = named_listed c.args.numbers.now c.loop-named.named-index c.named-item.result c.args.number.now (read_at c.args.numbers.now c.loop-named.named-index c.named-item.result (omega arith) c.named-item.is) c.if-is_named.ensures

@@ -1,0 +1,19 @@
+-- What is told of octets that are refused.
+use Rattle.std.proofs.Common.{ℕ, List}
+use Rattle.rasn_types.specs.declared.types.codec.Codec.{Codec}
+use Rattle.rasn_types.specs.declared.error.decode.DecodeError.{DecodeError}
+use Rattle.rasn_types.specs.Shapes.{Shape}
+use Rattle.rasn_c.specs.declared.errors.Fault.{Fault}
+use Rattle.rasn_c.specs.declared.status.Status.{Status}
+use Rattle.rasn_c.specs.declared.status.Status.TheVariants.{Ok, Refused, OutOfMemory, BufferTooSmall, UnknownType, UnknownRule}
+use Rattle.rasn_c.specs.Normal.{Asks}
+use Rattle.rasn_c.specs.Errors.{IsRefusedAt, IsToldOf, AnswersError}
+
+pub told : {type number : ℕ} {rule : Codec} {shape : Shape} {octets : List ℕ} {offset : ℕ} (text : List ℕ) (fault : Fault) (error : DecodeError) (status : Status) → Asks type number shape rule
+    → IsRefusedAt rule shape octets offset error → IsToldOf offset error fault text status → AnswersError type number octets fault text status
+told {type} {number} {rule} {shape} {octets} {offset} text fault error Refused asks refused is = (rule, shape, asks, record { offset = offset; error = error; refused = refused; told = is })
+told {type} {number} {rule} {shape} text fault error OutOfMemory asks refused is = ((rule, shape, asks), is)
+told text fault error Ok asks refused is = absurd is
+told text fault error BufferTooSmall asks refused is = absurd is
+told text fault error UnknownType asks refused is = absurd is
+told text fault error UnknownRule asks refused is = absurd is
