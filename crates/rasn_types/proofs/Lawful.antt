@@ -4,11 +4,11 @@ use Rattle.std.specs.Bool.{Decides}
 use Rattle.std.specs.List.{list_all, list_any}
 use Rattle.std.proofs.lemmas.Bool.Decides.{Decides-eqb, Decides-ltb, Decides-and, Decides-or, Decides-not, Decides-like, not_from_Decides}
 use Rattle.rasn_types.specs.Tags.{Class, Universal, Application, Context, Private, Tag, tag_bit, rank, eoc, is_universal, is_eoc, IsTagBelow}
-use Rattle.rasn_types.specs.Shapes.{Shape, leaf, any, prefix, choice, option, seq, set, list, set_of, Parts, part, own, IsFirst, IsFirstOf, IsAlwaysPresent, AreAlwaysPresent, Presence, required, optional, addition, default}
+use Rattle.rasn_types.specs.Shapes.{Shape, leaf, any, prefix, choice, option, seq, set, list, set_of, Parts, part, own, IsFirst, IsFirstOf, IsAlwaysPresent, AreAlwaysPresent, Key, own_tag, first_tags, Presence, required, addition, optional_by, default_by, one_tag, sought_by}
 use Rattle.rasn_types.specs.Shapes.Parts.{none}
 use Rattle.rasn_types.specs.Grammar.{Family, plain_family, bit_family, text_family, family}
 use Rattle.rasn_types.specs.Lawful.{AreDisjoint, AreDistinguished, IsFirstBehind, IsDistinguished, MayBeLeftOut, IsBitFree, HasTag, IsLawful, AreAlternatives, AreLawfulInOrder, AreLawfulByTag}
-use Rattle.rasn_types.specs.LawfulTest.{is_same_tag, is_other_tag, is_tag_below, Firsts, either_first, firsts, firsts_of, firsts_behind, is_first, holds_between, are_distinguished, is_none, is_distinguished, may_be_left_out, is_bit_free, has_tag, is_always_present, are_always_present, is_required, is_addition, is_same_own, is_lawful, are_alternatives, are_lawful_in_order, are_lawful_by_tag}
+use Rattle.rasn_types.specs.LawfulTest.{is_same_tag, is_other_tag, is_tag_below, Firsts, either_first, firsts, firsts_of, firsts_behind, is_first, holds_between, are_distinguished, is_none, has_own_tag_alone, is_distinguished, may_be_left_out, is_bit_free, has_tag, is_always_present, are_always_present, is_required, is_addition, is_same_own, is_lawful, are_alternatives, are_lawful_in_order, are_lawful_by_tag}
 
 -- ---- constant tests
 
@@ -121,8 +121,8 @@ behind_tell : (ps : Parts) → DescribesFirsts (firsts_behind ps) (IsFirstBehind
 behind_tell none = λ n. (λ h. h, λ h. h)
 behind_tell (part required s ps) = firsts_tell s
 behind_tell (part addition s ps) = firsts_tell s
-behind_tell (part optional s ps) = tells_either (firsts s) (firsts_behind ps) (IsFirst s) (IsFirstBehind ps) (firsts_tell s) (behind_tell ps)
-behind_tell (part (default d) s ps) = tells_either (firsts s) (firsts_behind ps) (IsFirst s) (IsFirstBehind ps) (firsts_tell s) (behind_tell ps)
+behind_tell (part (optional_by key) s ps) = tells_either (firsts s) (firsts_behind ps) (IsFirst s) (IsFirstBehind ps) (firsts_tell s) (behind_tell ps)
+behind_tell (part (default_by key d) s ps) = tells_either (firsts s) (firsts_behind ps) (IsFirst s) (IsFirstBehind ps) (firsts_tell s) (behind_tell ps)
 
 among : (tags : List Tag) (n : Tag) → Decides (list_any (is_same_tag n) tags) (IsAmong tags n)
 among [] n = decides_no (λ h. h)
@@ -184,16 +184,20 @@ no_parts : (ps : Parts) → Decides (is_none ps) (ps ≡ none)
 no_parts none = (λ e. refl, λ e. refl)
 no_parts (part presence s ps) = decides_no (λ e. cc)
 
-told_behind : (tag : Option Tag) (ps : Parts) → Decides (is_distinguished tag ps) (IsDistinguished tag ps)
-told_behind (Some tag) ps = Decides-not (is_first (firsts_behind ps) tag)
+alone_behind : (tag : Option Tag) (ps : Parts) → Decides (has_own_tag_alone tag ps) (IsDistinguished (one_tag tag) ps)
+alone_behind (Some tag) ps = Decides-not (is_first (firsts_behind ps) tag)
     (Decides-like (is_first (firsts_behind ps) tag) (behind_tell ps tag).1 (behind_tell ps tag).0 (is_in (firsts_behind ps) tag))
-told_behind None ps = no_parts ps
+alone_behind None ps = no_parts ps
 
-left_out : (presence : Presence) (tag : Option Tag) (ps : Parts) → Decides (may_be_left_out presence tag ps) (MayBeLeftOut presence tag ps)
-left_out required tag ps = decides_yes
-left_out addition tag ps = decides_yes
-left_out optional tag ps = told_behind tag ps
-left_out (default d) tag ps = told_behind tag ps
+told_behind : (key : Key) (s : Shape) (ps : Parts) → Decides (is_distinguished key s ps) (IsDistinguished (sought_by key s) ps)
+told_behind own_tag s ps = alone_behind (own s) ps
+told_behind first_tags s ps = disjoint (firsts s) (firsts_behind ps) (IsFirst s) (IsFirstBehind ps) (firsts_tell s) (behind_tell ps)
+
+left_out : (presence : Presence) (s : Shape) (ps : Parts) → Decides (may_be_left_out presence s ps) (MayBeLeftOut presence s ps)
+left_out required s ps = decides_yes
+left_out addition s ps = decides_yes
+left_out (optional_by key) s ps = told_behind key s ps
+left_out (default_by key d) s ps = told_behind key s ps
 
 -- ---- the conditions on one shape
 
@@ -236,15 +240,15 @@ mutual
 
 is_root : (presence : Presence) → Decides (is_required presence) (presence ≡ required)
 is_root required = (λ e. refl, λ e. refl)
-is_root optional = decides_no (λ e. cc)
 is_root addition = decides_no (λ e. cc)
-is_root (default d) = decides_no (λ e. cc)
+is_root (optional_by key) = decides_no (λ e. cc)
+is_root (default_by key d) = decides_no (λ e. cc)
 
 no_addition : (presence : Presence) → Decides (not (is_addition presence)) (presence ≢ addition)
 no_addition required = (λ e f. cc, λ h. refl)
-no_addition optional = (λ e f. cc, λ h. refl)
 no_addition addition = decides_no (λ h. h refl)
-no_addition (default d) = (λ e f. cc, λ h. refl)
+no_addition (optional_by key) = (λ e f. cc, λ h. refl)
+no_addition (default_by key d) = (λ e f. cc, λ h. refl)
 
 same_own : (s t : Option Tag) → Decides (is_same_own s t) (s ≡ t)
 same_own None None = (λ e. refl, λ e. refl)
@@ -284,7 +288,7 @@ mutual
   in_order : (ps : Parts) → Decides (are_lawful_in_order ps) (AreLawfulInOrder ps)
   in_order none = decides_yes
   in_order (part presence s ps) = Decides-like (are_lawful_in_order (part presence s ps)) (λ h. (h.0, h.1, h.2.0, h.2.1)) (λ h. (h.0, h.1, (h.2, h.3)))
-      (both _ _ _ (solid s) (lawful_decides s) (Decides-and _ _ (left_out presence (own s) ps) (in_order ps)))
+      (both _ _ _ (solid s) (lawful_decides s) (Decides-and _ _ (left_out presence s ps) (in_order ps)))
 
   by_tag : (ps : Parts) → Decides (are_lawful_by_tag ps) (AreLawfulByTag ps)
   by_tag none = decides_yes

@@ -1,7 +1,7 @@
 -- Lawful shapes.
 use Rattle.std.specs.Prelude.{◌≡◌, ◌⊎◌, ◌≢◌, false, Option, Some, None}
 use Rattle.rasn_types.specs.Tags.{tag_bit, Tag, eoc, IsTagBelow}
-use Rattle.rasn_types.specs.Shapes.{Shape, leaf, any, prefix, choice, option, seq, set, list, set_of, Parts, part, own, IsFirst, IsFirstOf, Presence, required, optional, addition, default, IsAlwaysPresent}
+use Rattle.rasn_types.specs.Shapes.{Shape, leaf, any, prefix, choice, option, seq, set, list, set_of, Parts, part, own, IsFirst, IsFirstOf, Presence, required, addition, optional_by, default_by, Sought, one_tag, any_of, sought_by, IsAlwaysPresent}
 use Rattle.rasn_types.specs.Shapes.Parts.{none}
 use Rattle.rasn_types.specs.Grammar.{Family, plain_family, bit_family, text_family, family}
 
@@ -18,19 +18,21 @@ abbrev pub IsFirstBehind : Parts → Tag → Type 0
 IsFirstBehind none n = ⊥
 IsFirstBehind (part required s ps) n = IsFirst s n
 IsFirstBehind (part addition s ps) n = IsFirst s n
-IsFirstBehind (part optional s ps) n = IsFirst s n ⊎ IsFirstBehind ps n
-IsFirstBehind (part (default d) s ps) n = IsFirst s n ⊎ IsFirstBehind ps n
+IsFirstBehind (part (optional_by key) s ps) n = IsFirst s n ⊎ IsFirstBehind ps n
+IsFirstBehind (part (default_by key d) s ps) n = IsFirst s n ⊎ IsFirstBehind ps n
 
--- The own tag of a part that may be left out distinguishes it from what follows. A part without an own tag is the last.
-abbrev pub IsDistinguished : Option Tag → Parts → Type 0
-IsDistinguished (Some tag) ps = IsFirstBehind ps tag → ⊥
-IsDistinguished None ps = ps ≡ none
+-- What a part that may be left out is recognized by distinguishes it from what follows. A part that is recognized by
+-- its own tag, and has none, is the last.
+abbrev pub IsDistinguished : Sought → Parts → Type 0
+IsDistinguished (one_tag (Some tag)) ps = IsFirstBehind ps tag → ⊥
+IsDistinguished (one_tag None) ps = ps ≡ none
+IsDistinguished (any_of P) ps = AreDisjoint P (IsFirstBehind ps)
 
-abbrev pub MayBeLeftOut : Presence → Option Tag → Parts → Type 0
-MayBeLeftOut required tag ps = Unit {0}
-MayBeLeftOut addition tag ps = Unit {0}
-MayBeLeftOut optional tag ps = IsDistinguished tag ps
-MayBeLeftOut (default d) tag ps = IsDistinguished tag ps
+abbrev pub MayBeLeftOut : Presence → Shape → Parts → Type 0
+MayBeLeftOut required s ps = Unit {0}
+MayBeLeftOut addition s ps = Unit {0}
+MayBeLeftOut (optional_by key) s ps = IsDistinguished (sought_by key s) ps
+MayBeLeftOut (default_by key d) s ps = IsDistinguished (sought_by key s) ps
 
 -- No string and no time has a tag that is always written as constructed.
 abbrev pub IsBitFree : Family → Tag → Type 0
@@ -62,7 +64,7 @@ unfoldable mutual
 
   pub AreLawfulInOrder : Parts → Type 0
   AreLawfulInOrder none = Unit {0}
-  AreLawfulInOrder (part presence s ps) = IsAlwaysPresent s × IsLawful s × MayBeLeftOut presence (own s) ps × AreLawfulInOrder ps
+  AreLawfulInOrder (part presence s ps) = IsAlwaysPresent s × IsLawful s × MayBeLeftOut presence s ps × AreLawfulInOrder ps
 
   -- The parts are in ascending order of tags, in ranges that don't overlap.
   pub AreLawfulByTag : Parts → Type 0

@@ -2,7 +2,7 @@ use Rattle.std.proofs.Common.{◌≡◌, ◌&&◌, rules, ◌∙◌, inl}
 use Rattle.rasn_types.specs.Shapes.{default}
 use Rattle.rasn_de.specs.PartTypes.{is_looked_for}
 use Rattle.rasn_de.proofs.Leaves.Returns.{residual}
-use Rattle.rasn_de.proofs.OwnTypes.Parts.{default_part, default_fails}
+use Rattle.rasn_de.proofs.OwnTypes.Parts.{default_part, default_fails, own_default_fails}
 use Rattle.rasn_de.proofs.OwnTypes.PartTypes.{first_agrees, others_agree}
 use Rattle.rasn_de.proofs.OwnTypes.AlternativeTypes.{first_has, others_have_not, others_differ, own_tag, other_tag}
 use Rattle.rasn_de.proofs.OwnTypes.Tags.{tag_is}
@@ -37,11 +37,9 @@ returns-in_err-value-clause-fails g c =
     let h : c.args.tag ≡ g.V.Value.AsnType.TAG = tag_is c.args.tag c.TAG.result c.if-eq.ensures ∙ c.TAG.ensures in
     rw (residual _ c.from_residual.ensures.1) (inl (
       own_tag g.V.Value.AsnType.shape c.args.tag g.V.Value.AsnType.TAG h (first_has g.V.Value.AsnType.shape g.V.Value.AsnType.TAG g.R.DecodeSetParts.parts (is_looked_for g.V.Value.AsnType.shape g.V.Value.AsnType.TAG && g.R.DecodeSetParts.tags_differ) c.requires.differ),
-      (
-        g.V.Value.AsnType.TAG,
-        first_agrees g.V.Value.AsnType.shape g.V.Value.AsnType.TAG g.R.DecodeSetParts.tags_differ (others_differ g.V.Value.AsnType.shape g.V.Value.AsnType.TAG g.R.DecodeSetParts.parts (is_looked_for g.V.Value.AsnType.shape g.V.Value.AsnType.TAG && g.R.DecodeSetParts.tags_differ) c.requires.differ),
-        default_fails _ g.V.Value.AsnType.tree _ g.V.DefaultValue.default_tree _ _ _ _ (λ v h. h) c.in_err-value.ensures.exact,
-      ),
+      own_default_fails g.V.Value.AsnType.shape g.V.DefaultValue.default_tree
+          (first_agrees g.V.Value.AsnType.shape g.V.Value.AsnType.TAG g.R.DecodeSetParts.tags_differ (others_differ g.V.Value.AsnType.shape g.V.Value.AsnType.TAG g.R.DecodeSetParts.parts (is_looked_for g.V.Value.AsnType.shape g.V.Value.AsnType.TAG && g.R.DecodeSetParts.tags_differ) c.requires.differ))
+          (default_fails _ g.V.Value.AsnType.tree _ g.V.DefaultValue.default_tree _ _ _ _ (λ v h. h) c.in_err-value.ensures.exact),
     ))
 
 pub returns-clause-fails : goal.returns-clause-fails
