@@ -69,25 +69,6 @@ abbrev pub is_none : Parts → Bool
 is_none none = true
 is_none (part presence s ps) = false
 
-abbrev pub has_own_tag_alone : Option Tag → Parts → Bool
-has_own_tag_alone (Some tag) ps = not (is_first (firsts_behind ps) tag)
-has_own_tag_alone None ps = is_none ps
-
-abbrev pub is_distinguished : Key → Shape → Parts → Bool
-is_distinguished own_tag s ps = has_own_tag_alone (own s) ps
-is_distinguished first_tags s ps = holds_between is_other_tag (firsts s) (firsts_behind ps)
-
-abbrev pub may_be_left_out : Presence → Shape → Parts → Bool
-may_be_left_out required s ps = true
-may_be_left_out addition s ps = true
-may_be_left_out (optional_by key) s ps = is_distinguished key s ps
-may_be_left_out (default_by key d) s ps = is_distinguished key s ps
-
-abbrev pub is_bit_free : Family → Tag → Bool
-is_bit_free plain_family tag = true
-is_bit_free bit_family tag = not (tag_bit tag)
-is_bit_free text_family tag = not (tag_bit tag)
-
 abbrev pub has_tag : Shape → Bool
 has_tag (leaf kind tag bounds) = true
 has_tag (any None) = false
@@ -99,6 +80,29 @@ has_tag (seq tag ps) = true
 has_tag (set tag ps) = true
 has_tag (list tag s size) = true
 has_tag (set_of tag s size) = true
+
+abbrev pub is_distinguished : Option Tag → Parts → Bool
+is_distinguished (Some tag) ps = not (is_first (firsts_behind ps) tag)
+is_distinguished None ps = is_none ps
+
+abbrev pub is_every : Firsts → Bool
+is_every None = true
+is_every (Some tags) = false
+
+abbrev pub is_recognized : Key → Shape → Parts → Bool
+is_recognized own_tag s ps = is_distinguished (own s) ps
+is_recognized first_tags s ps = has_tag s && (not (is_every (firsts_behind ps)) && holds_between is_other_tag (firsts s) (firsts_behind ps))
+
+abbrev pub may_be_left_out : Presence → Shape → Parts → Bool
+may_be_left_out required s ps = true
+may_be_left_out addition s ps = true
+may_be_left_out (optional_by key) s ps = is_recognized key s ps
+may_be_left_out (default_by key d) s ps = is_recognized key s ps
+
+abbrev pub is_bit_free : Family → Tag → Bool
+is_bit_free plain_family tag = true
+is_bit_free bit_family tag = not (tag_bit tag)
+is_bit_free text_family tag = not (tag_bit tag)
 
 abbrev mutual
   pub is_always_present : Shape → Bool
