@@ -8,17 +8,16 @@ use Rattle.rasn_types.specs.declared.types.tag.Tag.{Tag}
 use Rattle.rasn_types.specs.Tags.{IsStrict, form}
 use Rattle.rasn_types.specs.Shapes.Parts.{none}
 use Rattle.rasn_types.specs.Shapes.{Tree, Shape, choice, own, looked_for, IsFirst, Key, own_tag, first_tags, presences, Presence, required, addition, optional_by, default_by, Sought, one_tag, sought_by, sought_in}
-use Rattle.rasn_types.specs.Readings.{Reading, ReadsContents, definite_form, indefinite_form, ReadsMany, ReadsFrom, ReadsOptional, IsNoDefault, ReadsPart, ReadsInOrder, IsMissing, AllMissing, presences_in, HasRequired, AreAllLeftOut, ReadsSeq, ReadsChoice, ByPart, ReadsSet}
+use Rattle.rasn_types.specs.Readings.{Reading, ReadsContents, definite_form, indefinite_form, ReadsMany, ReadsFrom, ReadsOptional, ReadsPart, ReadsInOrder, AllMissing, presences_in, HasRequired, AreAllLeftOut, ReadsSeq, ReadsChoice, ByPart, ReadsSet}
 use Rattle.rasn_types.specs.Grammar.{Reads, parts_of, ReadsList, ReadsSetOf}
 use Rattle.rasn_schema.specs.declared.types.«Type».{«Type»}
 use Rattle.rasn_schema.specs.declared.types.«Type».TheVariants.{Leaf, Enumerated, Any, Tagged, Choice, Sequence, Set, SequenceOf, SetOf}
 use Rattle.rasn_schema.specs.declared.types.Component.{Component}
 use Rattle.rasn_schema.specs.declared.types.Alternative.{Alternative}
 use Rattle.rasn_schema.specs.Shapes.{found_by, type_by, alternatives_by, components_by, key_of, presence_by, tag_at, shape_of_type}
-use Rattle.rasn_schema.specs.declared.types.Presence.{Presence as ComponentPresence}
-use Rattle.rasn_schema.specs.declared.types.Presence.TheVariants.{Required, Optional, Addition, Default}
 use Rattle.rasn_schema.specs.Schemas.{IsSchema}
 use Rattle.rasn_schema.specs.Depth.{AreDeep, AreReadAlike}
+use Rattle.rasn_schema.proofs.Presences.{missing_by, no_default_by, required_by}
 use Rattle.rasn_schema.proofs.TypeShapes.{own_is, shape_none}
 use Rattle.rasn_schema.proofs.Schemas.{AreBefore, IsBehindOwn, all_before, settled, none_first, schema_lawful}
 
@@ -81,26 +80,6 @@ part_moved addition s u b reads rule closing input t rest h = h
 part_moved (optional_by key) s u b reads rule closing input t rest h = perhaps_moved key s u b _ reads rule closing input t rest h
 part_moved (default_by key d) s u b reads rule closing input t rest h = perhaps_moved key s u b d _ rule closing input t rest h
 
--- ---- what doesn't depend on it
-
-missing_by : (key other : Key) (p : ComponentPresence) (t : Tree) → IsMissing (presence_by key p) t → IsMissing (presence_by other p) t
-missing_by key other Required t m = m
-missing_by key other Optional t m = m
-missing_by key other Addition t m = m
-missing_by key other (Default v) t m = m
-
-required_by : (key other : Key) (p : ComponentPresence) → presence_by key p ≡ required → presence_by other p ≡ required
-required_by key other Required e = refl
-required_by key other Optional e = cc
-required_by key other Addition e = cc
-required_by key other (Default v) e = cc
-
-no_default : (key other : Key) (p : ComponentPresence) (t : Tree) → IsNoDefault (presence_by key p) t → IsNoDefault (presence_by other p) t
-no_default key other Required t m = m
-no_default key other Optional t m = m
-no_default key other Addition t m = m
-no_default key other (Default v) t m = m
-
 -- ---- components and alternatives, whose types f and g give
 
 -- The types named here are read by g as by f.
@@ -154,7 +133,7 @@ module _ (f g : ℕ → Shape) (rule : Codec) (depth : ℕ) (closing : Bool) (h 
   component_in [] n input t rest r = r
   component_in (p ∷ ps) n input t rest (inl (u, e, next, a, b, r, s)) =
       let k = p.type_id.0 in
-      inl (u, e, next, a, (h k).begins.firsts next b, (h k).reads closing input u rest r, λ z. no_default (key_of (f k)) (key_of (g k)) p.presence u (s z))
+      inl (u, e, next, a, (h k).begins.firsts next b, (h k).reads closing input u rest r, λ z. no_default_by (key_of (f k)) (key_of (g k)) p.presence u (s z))
   component_in (p ∷ ps) n input t rest (inr r) = inr (component_in ps (suc n) input t rest r)
 
   set_in : (ps : List Component) → IsIn (ReadsSet rule (presences (components_by f ps)) (ReadsChoice rule 0 (parts_of rule (components_by f ps) depth closing)) closing) (ReadsSet rule (presences (components_by g ps)) (ReadsChoice rule 0 (parts_of rule (components_by g ps) depth closing)) closing)

@@ -16,6 +16,7 @@ use Rattle.rasn_schema.specs.declared.types.Alternative.{Alternative}
 use Rattle.rasn_schema.specs.Shapes.{nothing, found_by, type_by, alternatives_by, components_by, key_of, presence_by, presence_of, tag_at, tag_found, shape_of_type}
 use Rattle.rasn_schema.specs.FirstTags.{EachFirst, EachFirstOf, IsAlwaysThere}
 use Rattle.rasn_schema.specs.Schemas.{AreLowerAndTagged, AreDistinctAlternatives, MayFollow, IsToldFrom, AreToldInOrder, AreTagged, AreInOrderOfTags, IsWellFormed, IsSchema, own_at, begin_at}
+use Rattle.rasn_schema.proofs.Presences.{always_by, no_addition_by}
 use Rattle.rasn_schema.proofs.TypeShapes.{looked, own_is}
 use Rattle.rasn_schema.proofs.LawfulTypes.{is_present, cut_lawful, none_lawful, open_lawful, put_alternative, put_in_order, put_by_tag, none_in_order, none_by_tag}
 
@@ -141,19 +142,6 @@ has_tag_at types zero k w = nothing_has_tag (looked_for (tag_at types k))
 has_tag_at types (suc i) k w = found_has_tag (shape_of_type types i) (shape_of_type types (length types)) (slice_get types k) w
 
 -- ---- from indices to lists
-
--- What a component is recognized by makes no difference to whether it may be absent, or is an addition.
-always_by : (key other : Key) (p : ComponentPresence) → IsAlwaysThere (presence_by key p) → IsAlwaysThere (presence_by other p)
-always_by key other Required a = a
-always_by key other Optional a = a
-always_by key other Addition a = a
-always_by key other (Default v) a = a
-
-no_addition_by : (key : Key) (p : ComponentPresence) → presence_of p ≢ addition → presence_by key p ≢ addition
-no_addition_by key Required n e = cc
-no_addition_by key Optional n e = cc
-no_addition_by key Addition n e = n refl
-no_addition_by key (Default v) n e = cc
 
 -- one more component that may be absent
 apart : (p : Component) (ps : List Component) (j : ℕ) → (IsAlwaysThere (presence_of p.presence) → ⊥) → ((m : ℕ) (q : Component) → m < j → Some q ≡ slice_get ps m → IsAlwaysThere (presence_of q.presence) → ⊥)

@@ -390,7 +390,7 @@ fn untagged_fault(
     index: usize,
     component: &Component,
 ) -> Option<SchemaError>
-    requires { index < length components.now }
+    requires within { index < length components.now }
     requires untagged { own_at types.now component.now.type_id.0 ≡ None }
     requires absent { IsAlwaysThere (presence_of component.now.presence) → ⊥ }
     ensures { let f = shape_of_type types.now levels in

@@ -206,21 +206,32 @@ tagged (list tag s size) = decides_yes
 tagged (set_of tag s size) = decides_yes
 
 -- A number above those of the tags.
-above : List Tag → ℕ
+abbrev above : List Tag → ℕ
 above [] = 0
 above (t ∷ ts) = suc (t.value + above ts)
 
 among_below : (tags : List Tag) (n : Tag) → IsAmong tags n → n.value < above tags
 among_below [] n h = absurd h
-among_below (t ∷ ts) n (inl e) = let v : n.value ≡ t.value = ap (λ (x : Tag). x.value) e in omega (arith, v)
-among_below (t ∷ ts) n (inr h) = let l = among_below ts n h in omega (arith, l)
+among_below (t ∷ ts) n h = subst (λ m. n.value < m) q (elim h [ inl e ↦ first (ap (λ (x : Tag). x.value) e) | inr l ↦ later (among_below ts n l) ])
+  where
+    q : suc (t.value + above ts) ≡ above (t ∷ ts)
+    q = refl
+
+    first : n.value ≡ t.value → n.value < suc (t.value + above ts)
+    first v = omega (arith, v)
+
+    later : n.value < above ts → n.value < suc (t.value + above ts)
+    later l = omega (arith, l)
 
 not_every : (f : Firsts) (P : Tag → Type 0) → DescribesFirsts f P → Decides (not (is_every f)) (((n : Tag) → P n) → ⊥)
 not_every None P p = decides_no (λ h. h (λ n. (p n).1 tt))
 not_every (Some tags) P p = (
-  λ e all. let n : Tag = record { class = Universal; value = above tags } in let l = among_below tags n ((p n).0 (all n)) in omega (arith, l),
+  λ e all. none (above tags) (among_below tags (record { class = Universal; value = above tags }) ((p _).0 (all _))),
   λ h. refl,
 )
+  where
+    none : (m : ℕ) → m < m → ⊥
+    none m l = omega (arith, l)
 
 recognized : (key : Key) (s : Shape) (ps : Parts) → Decides (is_recognized key s ps) (IsRecognized key s ps)
 recognized own_tag s ps = told_behind (own s) ps

@@ -159,9 +159,10 @@ impl<'input> Decoder<'input> {
             drop(default);
             return Ok(value);
         }
-        let without = self.default_value(default)?;
-        if value.means_same(&without) {
-            return Err(self.error(ParseError::Der(DerDecodeErrorKind::DefaultValuePresent)));
+        let usual = self.default_value(default)?;
+        if value.means_same(&usual) {
+            let kind = DerDecodeErrorKind::DefaultValuePresent;
+            return Err(self.error(ParseError::Der(kind)));
         }
         Ok(value)
     }

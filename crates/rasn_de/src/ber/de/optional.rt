@@ -36,11 +36,7 @@ impl<'input> Decoder<'input> {
     pub fn next_is<D: FirstTags>(&self) -> Result<bool, DecodeError>
         ensures { NextIs (any_of (IsFirst D.shape)) self.now result }
     {
-        if self.has_ended() {
-            return Ok(false);
-        }
-        let tag = self.peek_tag()?;
-        Ok(D::is_first_tag(tag))
+        Ok(!self.has_ended() && D::is_first_tag(self.peek_tag()?))
     }
 
     /// Reads a value, or returns `None` if the contents end or a tag other than the type's own

@@ -34,17 +34,17 @@ returns-then-not-is_strict g c =
     also_beyond (sought_default_decodes first_tags g.D.AsnType.shape g.D.AsnType.tree (goal.F-post g c.args.default) (any_of (IsFirst g.D.AsnType.shape)) c.args.self.now (Ok c.in_ok-value.value) _) (inl c.in_ok-value.ensures.beyond) tt
     (inr (parsed_there (any_of (IsFirst g.D.AsnType.shape)) c.args.self.now c.in_ok-next_is.field-0 c.if-not-branch.false c.in_ok-next_is.ensures, c.in_ok-value.ensures.reads, λ h. absurd (c.if-not-is_strict.ensures (strict_after c.args.self.now _ (call_keeps c.in_ok-value.ensures.reads) h))))
 
-pub returns-in_err-without : goal.returns-in_err-without
-returns-in_err-without g c =
-    rw (residual _ c.from_residual-in_err-without.ensures.1) (also_beyond (sought_default_decodes first_tags g.D.AsnType.shape g.D.AsnType.tree (goal.F-post g c.args.default) (any_of (IsFirst g.D.AsnType.shape)) c.args.self.now (Err c.in_err-without.field-0.0) _) tt ((codec_is c.in_err-without.ensures.2) ∙ (same_rules c.in_ok-value.ensures.reads.stays))
+pub returns-in_err-usual : goal.returns-in_err-usual
+returns-in_err-usual g c =
+    rw (residual _ c.from_residual-in_err-usual.ensures.1) (also_beyond (sought_default_decodes first_tags g.D.AsnType.shape g.D.AsnType.tree (goal.F-post g c.args.default) (any_of (IsFirst g.D.AsnType.shape)) c.args.self.now (Err c.in_err-usual.field-0.0) _) tt ((codec_is c.in_err-usual.ensures.2) ∙ (same_rules c.in_ok-value.ensures.reads.stays))
     (not_compared (parsed_there (any_of (IsFirst g.D.AsnType.shape)) c.args.self.now c.in_ok-next_is.field-0 c.if-not-branch.false c.in_ok-next_is.ensures) c.in_ok-value.value c.in_ok-value.ensures.reads
-    (strict_before c.args.self.now _ (call_keeps c.in_ok-value.ensures.reads) c.if-not-is_strict.ensures) (made_before (goal.F-post g c.args.default) c.args.self.now _ _ (call_keeps c.in_ok-value.ensures.reads) c.in_err-without.ensures)))
+    (strict_before c.args.self.now _ (call_keeps c.in_ok-value.ensures.reads) c.if-not-is_strict.ensures) (made_before (goal.F-post g c.args.default) c.args.self.now _ _ (call_keeps c.in_ok-value.ensures.reads) c.in_err-usual.ensures)))
 
 pub returns-then-means_same : goal.returns-then-means_same
 returns-then-means_same g c =
     also_beyond (sought_default_decodes first_tags g.D.AsnType.shape g.D.AsnType.tree (goal.F-post g c.args.default) (any_of (IsFirst g.D.AsnType.shape)) c.args.self.now (Err c.error.result) _) tt ((codec_is c.error.ensures) ∙ (same_rules c.in_ok-value.ensures.reads.stays))
     (present (parsed_there (any_of (IsFirst g.D.AsnType.shape)) c.args.self.now c.in_ok-next_is.field-0 c.if-not-branch.false c.in_ok-next_is.ensures) c.in_ok-value.value c.in_ok-value.ensures.reads
-    (strict_before c.args.self.now _ (call_keeps c.in_ok-value.ensures.reads) c.if-not-is_strict.ensures) c.in_ok-without.without c.in_ok-without.ensures (c.means_same.ensures.same c.if-means_same.true)
+    (strict_before c.args.self.now _ (call_keeps c.in_ok-value.ensures.reads) c.if-not-is_strict.ensures) c.in_ok-usual.usual c.in_ok-usual.ensures (c.means_same.ensures.same c.if-means_same.true)
     (rules_same c.args.self.now _ (Der DefaultValuePresent) _ (call_keeps c.in_ok-value.ensures.reads) c.error.ensures))
 
 pub returns : goal.returns
@@ -52,5 +52,5 @@ returns g c =
     also_beyond (sought_default_decodes first_tags g.D.AsnType.shape g.D.AsnType.tree (goal.F-post g c.args.default) (any_of (IsFirst g.D.AsnType.shape)) c.args.self.now (Ok c.in_ok-value.value) _) (inl c.in_ok-value.ensures.beyond) tt (inr (
       parsed_there (any_of (IsFirst g.D.AsnType.shape)) c.args.self.now c.in_ok-next_is.field-0 c.if-not-branch.false c.in_ok-next_is.ensures,
       c.in_ok-value.ensures.reads,
-      λ h. (c.in_ok-without.without, c.in_ok-without.ensures, λ same. absurd (true≢false (sym (c.means_same.ensures.equal same) ∙ c.if-means_same.false))),
+      λ h. (c.in_ok-usual.usual, c.in_ok-usual.ensures, λ same. absurd (true≢false (sym (c.means_same.ensures.equal same) ∙ c.if-means_same.false))),
     ))
