@@ -7,8 +7,8 @@ use Rattle.rasn_types.specs.declared.types.codec.Codec.{Codec}
 use Rattle.rasn_types.specs.declared.types.tag.Tag.{Tag}
 use Rattle.rasn_types.specs.Tags.{IsStrict, form}
 use Rattle.rasn_types.specs.Shapes.Parts.{none}
-use Rattle.rasn_types.specs.Shapes.{Tree, Shape, choice, own, looked_for, IsFirst, Key, own_tag, first_tags, presences, Presence, required, addition, optional_by, default_by, Sought, one_tag, sought_by, sought_in}
-use Rattle.rasn_types.specs.Readings.{Reading, ReadsContents, definite_form, indefinite_form, ReadsMany, ReadsFrom, ReadsOptional, ReadsPart, ReadsInOrder, AllMissing, presences_in, HasRequired, AreAllLeftOut, ReadsSeq, ReadsChoice, ByPart, ReadsSet}
+use Rattle.rasn_types.specs.Shapes.{Tree, absent, Shape, choice, own, looked_for, IsFirst, Key, own_tag, first_tags, presences, Presence, required, addition, optional_by, default_by, Sought, one_tag, sought_by, sought_in}
+use Rattle.rasn_types.specs.Readings.{Reading, ReadsContents, definite_form, indefinite_form, ReadsMany, ReadsFrom, ReadsOptional, IsNoDefault, ReadsPart, ReadsInOrder, AllMissing, presences_in, HasRequired, AreAllLeftOut, ReadsSeq, ReadsChoice, ByPart, ReadsSet}
 use Rattle.rasn_types.specs.Grammar.{Reads, parts_of, ReadsList, ReadsSetOf}
 use Rattle.rasn_schema.specs.declared.types.«Type».{«Type»}
 use Rattle.rasn_schema.specs.declared.types.«Type».TheVariants.{Leaf, Enumerated, Any, Tagged, Choice, Sequence, Set, SequenceOf, SetOf}
@@ -69,16 +69,17 @@ record Begins (s u : Shape) : Type 0 where
 perhaps_moved : (key : Key) (s u : Shape) → Begins s u → (without : Tree) (reads : Reading Tree) (rule : Codec) (closing : Bool)
     → IsIn (ReadsOptional (form rule) (sought_by key s) without reads closing) (ReadsOptional (form rule) (sought_by key u) without reads closing)
 perhaps_moved own_tag s u b without reads rule closing input t rest h = subst (λ o. ReadsOptional (form rule) (one_tag o) without reads closing input t rest) b.owns h
-perhaps_moved first_tags s u b without reads rule closing input t rest (inl (inl e, h)) = inl (inl e, h)
-perhaps_moved first_tags s u b without reads rule closing input t rest (inl (inr (n, next, other), h)) = inl (inr (n, next, λ k. other (b.back n k)), h)
+perhaps_moved first_tags s u b without reads rule closing input t rest (inl (inl e, h, k)) = inl (inl e, h, k)
+perhaps_moved first_tags s u b without reads rule closing input t rest (inl (inr (n, next, other), h, k)) = inl (inr (n, next, λ f. other (b.back n f)), h, k)
 perhaps_moved first_tags s u b without reads rule closing input t rest (inr ((more, n, next, first), h)) = inr ((more, n, next, b.firsts n first), h)
 
 part_moved : (p : Presence) (s u : Shape) → Begins s u → (reads : Reading Tree) (rule : Codec) (closing : Bool)
     → IsIn (ReadsPart rule p (sought_in p s) reads closing) (ReadsPart rule p (sought_in p u) reads closing)
 part_moved required s u b reads rule closing input t rest h = h
 part_moved addition s u b reads rule closing input t rest h = h
-part_moved (optional_by key) s u b reads rule closing input t rest h = perhaps_moved key s u b _ reads rule closing input t rest h
-part_moved (default_by key d) s u b reads rule closing input t rest h = perhaps_moved key s u b d _ rule closing input t rest h
+part_moved (optional_by key) s u b reads rule closing input t rest h = perhaps_moved key s u b absent reads rule closing input t rest h
+part_moved (default_by key d) s u b reads rule closing input t rest h =
+    perhaps_moved key s u b d (λ i x r. reads i x r × (IsStrict rule → IsNoDefault (default_by key d) x)) rule closing input t rest h
 
 -- ---- components and alternatives, whose types f and g give
 

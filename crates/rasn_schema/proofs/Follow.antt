@@ -1,10 +1,12 @@
 -- Which components may follow one that is absent.
 use Rattle.std.proofs.Common.{◌≡◌, ◌≢◌, ◌⊎◌, inl, inr, ℕ, zero, suc, ◌<◌, List, Some, None, refl, sym, subst, ◌∙◌, arith}
-use Rattle.std.specs.Prelude.{slice_get, length, ◌+◌, Option, MatchOption}
+use Rattle.std.specs.Prelude.{slice_get, length, ◌+◌, Bool, true, false, Option, MatchOption}
 use Rattle.rasn_schema.specs.declared.error.SchemaError.{SchemaError}
 use Rattle.rasn_types.specs.declared.types.tag.Tag.{Tag}
 use Rattle.rasn_types.specs.Tags.{eoc}
 use Rattle.rasn_types.specs.Shapes.{Shape, IsFirst, looked_for}
+use Rattle.rasn_types.specs.Lawful.{HasTag}
+use Rattle.rasn_types.specs.Truth.{IsWhether}
 use Rattle.rasn_schema.specs.declared.types.Component.{Component}
 use Rattle.rasn_schema.specs.declared.types.«Type».{«Type»}
 use Rattle.rasn_schema.specs.Shapes.{presence_of, tag_at}
@@ -61,11 +63,15 @@ module _ (types : List «Type») where
   untold k tag p s e h t = subst (λ o. IsToldFrom o p s) (sym e) t h
 
   -- the same of a component that is recognized by its first tags
-  pub untagged_fault_is : {A : Type 0} (i k : ℕ) (f : ℕ → Shape) (ps : List Component) (r : Option SchemaError) (P : SchemaError → Type 0) → own_at types k ≡ None
+  pub untagged_fault_is : (A : Type 0) (i k : ℕ) (f : ℕ → Shape) (ps : List Component) (r : Option SchemaError) (P : SchemaError → Type 0) → own_at types k ≡ None
       → MatchOption r ((j : ℕ) (q : Component) → Some q ≡ slice_get ps j → MayFollow ps i j → IsToldFrom None (f k) (f q.type_id.0)) P
       → MatchOption r ((j : ℕ) (q : Component) → Some q ≡ slice_get ps j → A → MayFollow ps i j → IsToldFrom (own_at types k) (f k) (f q.type_id.0)) P
-  untagged_fault_is i k f ps None P e h = λ j q g a m. subst (λ o. IsToldFrom o (f k) (f q.type_id.0)) (sym e) (h j q g m)
-  untagged_fault_is i k f ps (Some x) P e h = h
+  untagged_fault_is A i k f ps None P e h = λ j q g a m. subst (λ o. IsToldFrom o (f k) (f q.type_id.0)) (sym e) (h j q g m)
+  untagged_fault_is A i k f ps (Some x) P e h = h
 
   pub untold_by_firsts : (k : ℕ) (p s : Shape) → own_at types k ≡ None → (AreDistinct p s → ⊥) → IsToldFrom (own_at types k) p s → ⊥
   untold_by_firsts k p s e n t = n (subst (λ o. IsToldFrom o p s) e t).1
+
+pub recognizable : (s : Shape) (b : Bool) → HasTag s → IsWhether b ((n : Tag) × IsFirst s n) → IsWhether b (IsRecognizable s)
+recognizable s true h (n, f) = (h, λ none. none n f)
+recognizable s false h none = λ r. r.1 (λ n f. none (n, f))

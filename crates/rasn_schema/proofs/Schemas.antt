@@ -269,7 +269,7 @@ module _ (types : List «Type») (i : ℕ) (w : IsSchema types) (lawful : (k : �
         go (q ∷ qs) f =
             let r : IsToldFrom None (begin_at types p.type_id.0) (begin_at types q.type_id.0) =
             subst (λ o. IsToldFrom o (begin_at types p.type_id.0) (begin_at types q.type_id.0)) e (next_told q qs f) in
-            apart_from e r.0.1.0 r.0.1.1 (all r.0.1.0)
+            r.0.1 (λ n b. apart_from e n b (all n))
 
     recognized : (key : Key) → key_of (shape_of_type types i p.type_id.0) ≡ key → IsRecognized key (shape_of_type types i p.type_id.0) (components_by (shape_of_type types i) ps)
     recognized own_tag e = subst (λ o. IsDistinguished o (components_by (shape_of_type types i) ps)) (sym (own_is types i p.type_id.0 (lawful p.type_id.0))) (told_by_own (own_at types p.type_id.0) refl e)

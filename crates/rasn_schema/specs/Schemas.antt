@@ -49,7 +49,7 @@ MayFollow ps i j = (i < j) × ((m : ℕ) (p : Component) → i < m → m < j →
 
 -- The type isn't an open type without a tag, and some value begins with some tag.
 abbrev pub IsRecognizable : Shape → Type 0
-IsRecognizable s = HasTag s × ((n : Tag) × IsFirst s n)
+IsRecognizable s = HasTag s × (((n : Tag) → IsFirst s n → ⊥) → ⊥)
 
 -- A component is distinguished by its tag or, if it is a CHOICE, by those of its alternatives (X.680 29.3).
 abbrev pub IsToldFrom : Option Tag → Shape → Shape → Type 0

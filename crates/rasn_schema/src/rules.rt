@@ -378,7 +378,10 @@ fn overlapping_component(
 fn is_recognizable(types: &[Type], levels: usize, id: TypeId) -> bool
     ensures { IsWhether result (IsRecognizable (shape_of_type types.now levels id.0)) }
 {
-    has_tag(types, levels, id) && has_firsts(types, levels, id)
+    if !has_tag(types, levels, id) {
+        return false;
+    }
+    has_firsts(types, levels, id)
 }
 
 /// Returns what is wrong with a component of a SEQUENCE that may be absent and has no tag of its own, as a CHOICE.

@@ -1,13 +1,14 @@
 -- Alternatives as types: one is read, or one of the others.
-use Rattle.std.proofs.Common.{◌≡◌, ◌+◌, ◌&&◌, ℕ, suc, Bool, true, List, Option, Some, None, Result, Ok, Err, refl, sym, ap, ◌∙◌, subst, arith, inl, inr}
+use Rattle.std.proofs.Common.{◌≡◌, ◌+◌, ◌&&◌, ℕ, suc, Bool, true, false, List, Option, Some, None, Result, Ok, Err, refl, sym, ap, ◌∙◌, subst, arith, inl, inr}
 use Rattle.rasn_types.specs.declared.types.tag.Tag.{Tag}
 use Rattle.rasn_types.specs.declared.error.decode.DecodeError.{DecodeError}
 use Rattle.rasn_types.specs.declared.error.decode.DecodeErrorKind.{DecodeErrorKind}
 use Rattle.rasn_types.specs.Tags.{form}
 use Rattle.rasn_types.specs.Framing.{NextTag}
-use Rattle.rasn_types.specs.Shapes.{Tree, chosen, Shape, leaf, any, prefix, choice, option, seq, set, list, set_of, Parts, part, Presence, own, IsFirst, IsFirstOf}
+use Rattle.rasn_types.specs.Shapes.{Tree, chosen, Shape, leaf, any, prefix, choice, option, seq, set, list, set_of, Parts, part, Presence, required, own, IsFirst, IsFirstOf}
 use Rattle.rasn_types.specs.Shapes.Parts.{none}
 use Rattle.rasn_types.specs.Grammar.{Reads, parts_of}
+use Rattle.rasn_types.specs.Truth.{IsWhether}
 use Rattle.rasn_types.proofs.Headers.Frames.{next_one}
 use Rattle.rasn_types.proofs.Time.Spellings.{both_true}
 use Rattle.rasn_de.specs.State.{State}
@@ -70,6 +71,18 @@ module _ (s : Shape) (t : Tag) (ps : Parts) (b : Bool) (e : is_first_alone s t p
 
   pub others_differ : b ≡ true
   others_differ = (both_true (is_first_alone s t ps) b e).1
+
+-- The tags with which alternatives begin.
+pub last_tag : (s : Shape) (t tag : Tag) → own s ≡ Some t → (b : Bool) → IsWhether b (tag ≡ t) → IsWhether b (IsFirstOf (part required s none) tag)
+last_tag s t tag e true h = inl (subst (IsFirst s) (sym h) (own_first s t e))
+last_tag s t tag e false n = elim [ inl f ↦ n (first_own s t tag e f) | inr x ↦ x ]
+
+pub this_tag : (s : Shape) (t tag : Tag) (ps : Parts) → own s ≡ Some t → tag ≡ t → IsFirstOf (part required s ps) tag
+this_tag s t tag ps e h = inl (subst (IsFirst s) (sym h) (own_first s t e))
+
+pub later_tag : (s : Shape) (t tag : Tag) (ps : Parts) → own s ≡ Some t → (tag ≡ t → ⊥) → (b : Bool) → IsWhether b (IsFirstOf ps tag) → IsWhether b (IsFirstOf (part required s ps) tag)
+later_tag s t tag ps e n true h = inr h
+later_tag s t tag ps e n false m = elim [ inl f ↦ n (first_own s t tag e f) | inr f ↦ m f ]
 
 -- The shape has the next tag, or another one.
 pub own_tag : (s : Shape) (tag t : Tag) → tag ≡ t → own s ≡ Some t → own s ≡ Some tag

@@ -7,7 +7,7 @@ pub untagged_fault-requires-clause-untagged : goal.untagged_fault-requires-claus
 untagged_fault-requires-clause-untagged c = own_none c.args.types.now c.args.component.now.type_id.0 c.tag_at-tag.result c.tag_at-tag.ensures c.if-is_no_tag.ensures
 
 pub returns-then-is_no_tag : goal.returns-then-is_no_tag
-returns-then-is_no_tag c = untagged_fault_is c.args.types.now c.args.index c.args.component.now.type_id.0 (shape_of_type c.args.types.now c.args.levels) c.args.components.now c.untagged_fault.result _
+returns-then-is_no_tag c = untagged_fault_is c.args.types.now _ c.args.index c.args.component.now.type_id.0 (shape_of_type c.args.types.now c.args.levels) c.args.components.now c.untagged_fault.result _
     (own_none c.args.types.now c.args.component.now.type_id.0 c.tag_at-tag.result c.tag_at-tag.ensures c.if-is_no_tag.ensures) c.untagged_fault.ensures
 
 pub returns-in-None : goal.returns-in-None

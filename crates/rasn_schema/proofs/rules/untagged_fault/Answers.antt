@@ -4,7 +4,7 @@ use Rattle.rasn_schema.proofs.Follow.{none_after, untold_by_firsts}
 use Rattle.rasn_schema.proofs.rules.untagged_fault.Goals as goal
 
 pub returns-then-index-components : goal.returns-then-index-components
-returns-then-index-components c = λ j q e m. none_after c.args.components.now c.args.index j q (omega arith) e m
+returns-then-index-components c = λ j q e m. none_after c.args.types.now c.args.components.now c.args.index j q (omega arith) e m
 
 pub returns-then-not-is_recognizable : goal.returns-then-not-is_recognizable
 returns-then-not-is_recognizable c = λ tag h. (refl, omega arith, (c.args.component.now, h, c.requires.absent, c.requires.untagged, c.if-not-is_recognizable.ensures))
