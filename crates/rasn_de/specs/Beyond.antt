@@ -1,5 +1,5 @@
 -- What values keep of the octets that they were read from, beyond their trees.
-use Rattle.std.specs.Prelude.{◌≡◌, ◌⊎◌, Option, Some, None, Ok, List, [], ◌∷◌, ◌++◌}
+use Rattle.std.specs.Prelude.{◌≡◌, ◌⊎◌, Option, Some, None, Ok, List, [], ◌∷◌, ◌++◌, Contains}
 use Rattle.rasn_types.specs.declared.types.tag.Tag.{Tag}
 use Rattle.rasn_types.specs.declared.types.parts.OneOf.{OneOf}
 use Rattle.rasn_types.specs.declared.types.parts.OneOf.TheVariants.{This, Other}
@@ -48,3 +48,8 @@ BeyondInside held header old v =
 -- A value under an explicit tag.
 abbrev pub BeyondPrefix : {D : Type 0} → Beyond D → Tag → Beyond D
 BeyondPrefix held tag old v new = BeyondInside held (prefix_header tag) old v
+
+-- The value in a slot was read at one of these states.
+abbrev pub BeyondSlot : {A : Type 0} → Beyond A → List State → Option A → Type 0
+BeyondSlot part starts None = Unit {0}
+BeyondSlot part starts (Some v) = (here : State) × Contains starts here × (next : State) × part here v next
