@@ -278,8 +278,12 @@ fn is_read_back(
 {
     match decode(alloc, Codec::Der, schema, id, octets) {
         Ok(again) => Ok(again.means_same(value)),
-        Err(error) if error.is_out_of_memory() => Err(error),
-        Err(_) => Ok(false),
+        Err(error) => {
+            if error.is_out_of_memory() {
+                return Err(error);
+            }
+            Ok(false)
+        }
     }
 }
 
@@ -297,7 +301,11 @@ pub fn is_canonical(
 {
     match normalise(alloc, Codec::Der, schema, id, octets) {
         Ok(normal) => Ok(normal.as_slice() == octets),
-        Err(error) if error.is_out_of_memory() => Err(AllocError),
-        Err(_) => Ok(false),
+        Err(error) => {
+            if error.is_out_of_memory() {
+                return Err(AllocError);
+            }
+            Ok(false)
+        }
     }
 }

@@ -102,7 +102,7 @@ impl<A: Decode, R: DecodeParts> DecodeParts for Required<A, R> {
 
     ghost tree = { λ p. joined (A.tree p.0) (R.tree p.1) };
 
-    ghost beyond = { λ old p new. BeyondPart (got (A.beyond A.TAG)) R.beyond old p.0 p.1 new };
+    ghost beyond = { λ old p new. BeyondPart required A.shape A.tree (got (A.beyond A.TAG)) R.beyond old p.0 p.1 new };
 
     ghost tags_agree = { R.tags_agree };
 
@@ -125,7 +125,7 @@ impl<A: Decode, R: DecodeParts> DecodeParts for Optional<A, R> {
 
     ghost tree = { λ p. joined (option_tree A.tree p.0) (R.tree p.1) };
 
-    ghost beyond = { λ old p new. BeyondPart (BeyondOptional (got (A.beyond A.TAG))) R.beyond old p.0 p.1 new };
+    ghost beyond = { λ old p new. BeyondPart optional A.shape (option_tree A.tree) (BeyondOptional (got (A.beyond A.TAG))) R.beyond old p.0 p.1 new };
 
     ghost tags_agree = { is_looked_for A.shape A.TAG && R.tags_agree };
 
@@ -169,7 +169,7 @@ where
 
     ghost tree = { λ p. joined (V.Value.tree p.0) (R.tree p.1) };
 
-    ghost beyond = { λ old p new. BeyondPart (BeyondDefault (got (V.Value.beyond V.Value.TAG))) R.beyond old p.0 p.1 new };
+    ghost beyond = { λ old p new. BeyondPart (default V.default_tree) V.Value.shape V.Value.tree (BeyondDefault (got (V.Value.beyond V.Value.TAG))) R.beyond old p.0 p.1 new };
 
     ghost tags_agree = { is_looked_for V.Value.shape V.Value.TAG && R.tags_agree };
 
@@ -225,7 +225,7 @@ where
 
     ghost tree = { λ p. joined (V.Value.tree p.0) (R.tree p.1) };
 
-    ghost beyond = { λ old p new. BeyondPart (BeyondDefault (BeyondPrefix (got (V.Value.beyond V.Value.TAG)) V.Prefix.TAG)) R.beyond old p.0 p.1 new };
+    ghost beyond = { λ old p new. BeyondPart (default V.default_tree) (prefix V.Prefix.TAG V.Value.shape) V.Value.tree (BeyondDefault (BeyondPrefix (got (V.Value.beyond V.Value.TAG)) V.Prefix.TAG)) R.beyond old p.0 p.1 new };
 
     ghost tags_agree = { is_looked_for (prefix V.Prefix.TAG V.Value.shape) V.Prefix.TAG && R.tags_agree };
 
@@ -251,7 +251,7 @@ impl<A: Decode, R: DecodeParts> DecodeParts for Addition<A, R> {
 
     ghost tree = { λ p. joined (option_tree A.tree p.0) (R.tree p.1) };
 
-    ghost beyond = { λ old p new. BeyondPart (BeyondOptional (got (A.beyond A.TAG))) R.beyond old p.0 p.1 new };
+    ghost beyond = { λ old p new. BeyondPart addition A.shape (option_tree A.tree) (BeyondOptional (got (A.beyond A.TAG))) R.beyond old p.0 p.1 new };
 
     ghost tags_agree = { R.tags_agree };
 

@@ -31,4 +31,4 @@ returns-in_err-rest-clause-rules g c =
     rw (residual _ c.from_residual-in_err-rest.ensures.1) (c.in_err-rest.ensures.rules ∙ (same_rules (default_part g.V.Value.AsnType.TAG _ _ (first_agrees g.V.Value.AsnType.shape g.V.Value.AsnType.TAG g.R.DecodeParts.tags_agree c.requires) (c.in_ok-value.ensures.reads g.V.DefaultValue.default_tree (λ v h. h))).stays))
 
 pub returns-clause-beyond : goal.returns-clause-beyond
-returns-clause-beyond g c = (_, c.in_ok-value.ensures.beyond, c.in_ok-rest.ensures.beyond)
+returns-clause-beyond g c = (_, default_part g.V.Value.AsnType.TAG _ _ (first_agrees g.V.Value.AsnType.shape g.V.Value.AsnType.TAG g.R.DecodeParts.tags_agree c.requires) (c.in_ok-value.ensures.reads g.V.DefaultValue.default_tree (λ v h. h)), c.in_ok-value.ensures.beyond, c.in_ok-rest.ensures.beyond)

@@ -30,4 +30,4 @@ returns-in_err-rest-clause-rules g c =
     rw (residual _ c.from_residual-in_err-rest.ensures.1) (c.in_err-rest.ensures.rules ∙ (same_rules (optional_part _ (first_agrees g.A.AsnType.shape g.A.AsnType.TAG g.R.DecodeParts.tags_agree c.requires) c.in_ok-value.ensures.reads).stays))
 
 pub returns-clause-beyond : goal.returns-clause-beyond
-returns-clause-beyond g c = (_, c.in_ok-value.ensures.beyond, c.in_ok-rest.ensures.beyond)
+returns-clause-beyond g c = (_, optional_part _ (first_agrees g.A.AsnType.shape g.A.AsnType.TAG g.R.DecodeParts.tags_agree c.requires) c.in_ok-value.ensures.reads, c.in_ok-value.ensures.beyond, c.in_ok-rest.ensures.beyond)
