@@ -3,7 +3,7 @@ use Rattle.std.proofs.Common.{◌≡◌, ℕ, suc, ◌<◌, ◌≢◌, inl, inr,
 use Rattle.rasn_types.specs.declared.types.codec.Codec.TheVariants.{Der}
 use Rattle.rasn_types.specs.declared.types.tag.Tag.{Tag}
 use Rattle.rasn_types.specs.Framing.{AreOctets}
-use Rattle.rasn_types.specs.Shapes.{Tree, chosen, absent, Shape, Parts, part, own, Presence, required, addition, optional_by, default_by, Sought, sought_in}
+use Rattle.rasn_types.specs.Shapes.{Tree, chosen, absent, Shape, Parts, part, own, Presence, required, addition, optional_by, default_by, default, Sought, sought_in}
 use Rattle.rasn_types.specs.Shapes.Parts.{none}
 use Rattle.rasn_types.specs.Readings.{ReadsMany, IsNoDefault, ReadsPart, ReadsInOrder, IsMissing, AllMissing, presences_in, ReadsChoice}
 use Rattle.rasn_types.specs.Order.{Each}

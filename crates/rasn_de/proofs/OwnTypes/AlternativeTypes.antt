@@ -5,10 +5,10 @@ use Rattle.rasn_types.specs.declared.error.decode.DecodeError.{DecodeError}
 use Rattle.rasn_types.specs.declared.error.decode.DecodeErrorKind.{DecodeErrorKind}
 use Rattle.rasn_types.specs.Tags.{form}
 use Rattle.rasn_types.specs.Framing.{NextTag}
+use Rattle.rasn_types.specs.Truth.{IsWhether}
 use Rattle.rasn_types.specs.Shapes.{Tree, chosen, Shape, leaf, any, prefix, choice, option, seq, set, list, set_of, Parts, part, Presence, required, own, IsFirst, IsFirstOf}
 use Rattle.rasn_types.specs.Shapes.Parts.{none}
 use Rattle.rasn_types.specs.Grammar.{Reads, parts_of}
-use Rattle.rasn_types.specs.Truth.{IsWhether}
 use Rattle.rasn_types.proofs.Headers.Frames.{next_one}
 use Rattle.rasn_types.proofs.Time.Spellings.{both_true}
 use Rattle.rasn_de.specs.State.{State}
@@ -72,24 +72,25 @@ module _ (s : Shape) (t : Tag) (ps : Parts) (b : Bool) (e : is_first_alone s t p
   pub others_differ : b ≡ true
   others_differ = (both_true (is_first_alone s t ps) b e).1
 
--- The tags with which alternatives begin.
-pub last_tag : (s : Shape) (t tag : Tag) → own s ≡ Some t → (b : Bool) → IsWhether b (tag ≡ t) → IsWhether b (IsFirstOf (part required s none) tag)
-last_tag s t tag e true h = inl (subst (IsFirst s) (sym h) (own_first s t e))
-last_tag s t tag e false n = elim [ inl f ↦ n (first_own s t tag e f) | inr x ↦ x ]
-
-pub this_tag : (s : Shape) (t tag : Tag) (ps : Parts) → own s ≡ Some t → tag ≡ t → IsFirstOf (part required s ps) tag
-this_tag s t tag ps e h = inl (subst (IsFirst s) (sym h) (own_first s t e))
-
-pub later_tag : (s : Shape) (t tag : Tag) (ps : Parts) → own s ≡ Some t → (tag ≡ t → ⊥) → (b : Bool) → IsWhether b (IsFirstOf ps tag) → IsWhether b (IsFirstOf (part required s ps) tag)
-later_tag s t tag ps e n true h = inr h
-later_tag s t tag ps e n false m = elim [ inl f ↦ n (first_own s t tag e f) | inr f ↦ m f ]
-
 -- The shape has the next tag, or another one.
 pub own_tag : (s : Shape) (tag t : Tag) → tag ≡ t → own s ≡ Some t → own s ≡ Some tag
 own_tag s tag t h e = e ∙ ap (λ x. Some x) (sym h)
 
 pub other_tag : (s : Shape) (tag t : Tag) → (tag ≡ t → ⊥) → own s ≡ Some t → own s ≡ Some tag → ⊥
 other_tag s tag t h e f = let k : Some tag ≡ Some t = sym f ∙ e in h cc
+
+-- Whether the first alternative, or one of the others, has a tag.
+pub first_whether : (s : Shape) (tag t : Tag) (b : Bool) → own s ≡ Some t → IsWhether b (tag ≡ t) → IsWhether b (IsFirstOf (part required s none) tag)
+first_whether s tag t true e h = inl (own_first s tag (own_tag s tag t h e))
+first_whether s tag t false e h = λ f. elim f [ inl g ↦ h (first_own s t tag e g) | inr n ↦ n ]
+
+pub this_whether : (s : Shape) (ps : Parts) (tag t : Tag) (b : Bool) → own s ≡ Some t → tag ≡ t → b ≡ true → IsWhether b (IsFirstOf (part required s ps) tag)
+this_whether s ps tag t true e h x = inl (own_first s tag (own_tag s tag t h e))
+this_whether s ps tag t false e h x = cc
+
+pub others_whether : (s : Shape) (ps : Parts) (tag t : Tag) (b : Bool) → own s ≡ Some t → (tag ≡ t → ⊥) → IsWhether b (IsFirstOf ps tag) → IsWhether b (IsFirstOf (part required s ps) tag)
+others_whether s ps tag t true e n h = inr h
+others_whether s ps tag t false e n h = λ f. elim f [ inl g ↦ n (first_own s t tag e g) | inr i ↦ h i ]
 
 -- A refusal of alternatives is one of the CHOICE.
 pub alternative_decodes : {D : Type 0} (ps : Parts) (tree : D → Tree) (name : List ℕ) (tag : Tag) (old : State) (r : Result D DecodeError) (new : State) → NextTag (form old.rule) old.rest tag → Decodes (choice ps) tree old r new

@@ -112,15 +112,15 @@ default_fails s tree made d tags old new e is (not_compared a v r h (x, m, w)) =
 default_fails s tree made d tags old new e is (present a v r h u m same w) = present a (tree v) r h (tree u) (is u m) same w
 
 -- A part that is looked for by a tag is looked for by its own.
-pub optional_fails : (s : Shape) {g : Option Tag} → own s ≡ g → {old new : State} {e : DecodeError} → DecodesIfSought (DecodesTree s) (one_tag g) old (Err e) new
-    → DecodesIfSought (DecodesTree s) (one_tag (own s)) old (Err e) new
-optional_fails s own {old} {new} {e} k = subst (λ o. DecodesIfSought (DecodesTree s) (one_tag o) old (Err e) new) (sym own) k
+pub optional_fails : (s : Shape) {g : Option Tag} → own s ≡ g → {old new : State} {x : DecodeError} → DecodesIfSought (DecodesTree s) (one_tag g) old (Err x) new
+    → DecodesIfSought (DecodesTree s) (one_tag (own s)) old (Err x) new
+optional_fails s e {old} {new} {x} k = subst (λ o. DecodesIfSought (DecodesTree s) (one_tag o) old (Err x) new) (sym e) k
 
-pub own_default_fails : (s : Shape) (d : Tree) {g : Option Tag} → own s ≡ g → {old new : State} {e : DecodeError}
-    → DecodesSoughtOrDefault (DecodesTree s) (λ (t : Tree). t) (λ m. IfOk m (λ t. t ≡ d)) (one_tag g) old (Err e) new
-    → DecodesSoughtOrDefault (DecodesTree s) (λ (t : Tree). t) (λ m. IfOk m (λ t. t ≡ d)) (one_tag (own s)) old (Err e) new
-own_default_fails s d own {old} {new} {e} k =
-    subst (λ o. DecodesSoughtOrDefault (DecodesTree s) (λ (t : Tree). t) (λ m. IfOk m (λ t. t ≡ d)) (one_tag o) old (Err e) new) (sym own) k
+pub own_default_fails : (s : Shape) (d : Tree) {g : Option Tag} → own s ≡ g → {old new : State} {x : DecodeError}
+    → DecodesSoughtOrDefault (DecodesTree s) (λ (t : Tree). t) (λ m. IfOk m (λ t. t ≡ d)) (one_tag g) old (Err x) new
+    → DecodesSoughtOrDefault (DecodesTree s) (λ (t : Tree). t) (λ m. IfOk m (λ t. t ≡ d)) (one_tag (own s)) old (Err x) new
+own_default_fails s d e {old} {new} {x} k =
+    subst (λ o. DecodesSoughtOrDefault (DecodesTree s) (λ (t : Tree). t) (λ m. IfOk m (λ t. t ≡ d)) (one_tag o) old (Err x) new) (sym e) k
 
 -- The same of a part under a prefix whose tag is known by another name.
 pub under_tag : {t tag : Tag} → t ≡ tag → (d : Tree) (s : Shape) {old new : State} {o : Outcome} → DecodesExactly (ReadsDefault t d (prefix t s)) old o new

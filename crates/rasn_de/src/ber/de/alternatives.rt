@@ -55,14 +55,6 @@ pub trait DecodeAlternatives: Drop {
         ensures rules { IfErr result (λ e. e.codec ≡ decoder.old.rule) };
 }
 
-/// Returns whether two tags are the same.
-#[inline(always)]
-fn is_tag(tag: Tag, own: Tag) -> bool
-    ensures { IsWhether result (tag ≡ own) }
-{
-    tag == own
-}
-
 impl<A: Decode> DecodeAlternatives for Last<A> {
     ghost use Rattle.std.specs.Prelude.{true, ◌&&◌, Ok};
     ghost use Rattle.rasn_types.specs.Shapes.{part, required};
@@ -80,7 +72,7 @@ impl<A: Decode> DecodeAlternatives for Last<A> {
     ghost tags_differ = { is_first_alone A.shape A.TAG none && true };
 
     fn has_tag(tag: Tag) -> bool {
-        is_tag(tag, A::TAG)
+        tag == A::TAG
     }
 
     fn decode_alternative(
@@ -114,7 +106,7 @@ impl<A: Decode, R: DecodeAlternatives> DecodeAlternatives for OneOf<A, R> {
     ghost tags_differ = { is_first_alone A.shape A.TAG R.parts && R.tags_differ };
 
     fn has_tag(tag: Tag) -> bool {
-        is_tag(tag, A::TAG) || R::has_tag(tag)
+        tag == A::TAG || R::has_tag(tag)
     }
 
     fn decode_alternative(

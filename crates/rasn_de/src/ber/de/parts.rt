@@ -145,7 +145,7 @@ impl<A: Decode + FirstTags, R: DecodeParts> DecodeParts for OptionalChoice<A, R>
 
     ghost tree = { λ p. joined (option_tree A.tree p.0) (R.tree p.1) };
 
-    ghost beyond = { λ old p new. BeyondPart (BeyondOptional (got (A.beyond A.TAG))) R.beyond old p.0 p.1 new };
+    ghost beyond = { λ old p new. BeyondPart optional_choice A.shape (option_tree A.tree) (BeyondOptional (got (A.beyond A.TAG))) R.beyond old p.0 p.1 new };
 
     ghost tags_agree = { R.tags_agree };
 
@@ -196,7 +196,7 @@ where
 
     ghost tree = { λ p. joined (V.Value.tree p.0) (R.tree p.1) };
 
-    ghost beyond = { λ old p new. BeyondPart (BeyondDefault (got (V.Value.beyond V.Value.TAG))) R.beyond old p.0 p.1 new };
+    ghost beyond = { λ old p new. BeyondPart (default_choice V.default_tree) V.Value.shape V.Value.tree (BeyondDefault (got (V.Value.beyond V.Value.TAG))) R.beyond old p.0 p.1 new };
 
     ghost tags_agree = { R.tags_agree };
 
