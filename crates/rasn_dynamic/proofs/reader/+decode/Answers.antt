@@ -398,7 +398,7 @@ pub decode_component-returns-then-is_always_there-clause-fits : goal.decode_comp
 decode_component-returns-then-is_always_there-clause-fits t c = if_ok _ _ _ (λ v h. inr h) c.decode_present.ensures.fits
 
 pub decode_component-returns-in-Ok-true-clause-reads : goal.decode_component-returns-in-Ok-true-clause-reads
-decode_component-returns-in-Ok-true-clause-reads t c = looked ((shape_of_type c.args.types.now c.args.below) c.args.component.now.type_id.0) _ (presence_in (shape_of_type c.args.types.now c.args.below) c.args.component.now) (λ a. c.if-is_always_there.ensures (always_by (key_of ((shape_of_type c.args.types.now c.args.below) c.args.component.now.type_id.0)) own_tag c.args.component.now.presence a)) (let w = c.in-Ok-true.field-0-test in let h : c.in-Ok-true.field-0 ≡ true = cc in next_of (key_of ((shape_of_type c.args.types.now c.args.below) c.args.component.now.type_id.0)) ((shape_of_type c.args.types.now c.args.below) c.args.component.now.type_id.0) c.args.component.now.presence _ (Ok true) c.if-is_always_there.ensures (subst (λ b. NextIs (sought_by (key_of ((shape_of_type c.args.types.now c.args.below) c.args.component.now.type_id.0)) ((shape_of_type c.args.types.now c.args.below) c.args.component.now.type_id.0)) c.args.decoder.now (Ok b)) h c.in-Ok-true.ensures)) _ _ c.decode_present-in-Ok-true.ensures.reads
+decode_component-returns-in-Ok-true-clause-reads t c = looked ((shape_of_type c.args.types.now c.args.below) c.args.component.now.type_id.0) _ (presence_in (shape_of_type c.args.types.now c.args.below) c.args.component.now) (λ a. c.if-is_always_there.ensures (always_by (key_of ((shape_of_type c.args.types.now c.args.below) c.args.component.now.type_id.0)) own_tag c.args.component.now.presence a)) (let w = c.in-Ok-true.field-0-test in let h : c.in-Ok-true.field-0 ≡ true = cc in next_of (key_of ((shape_of_type c.args.types.now c.args.below) c.args.component.now.type_id.0)) ((shape_of_type c.args.types.now c.args.below) c.args.component.now.type_id.0) c.args.component.now.presence c.args.decoder.now (Ok true) c.if-is_always_there.ensures (subst (λ b. NextIs (sought_by (key_of ((shape_of_type c.args.types.now c.args.below) c.args.component.now.type_id.0)) ((shape_of_type c.args.types.now c.args.below) c.args.component.now.type_id.0)) c.args.decoder.now (Ok b)) h c.in-Ok-true.ensures)) _ _ c.decode_present-in-Ok-true.ensures.reads
 
 pub decode_component-returns-in-Ok-true-clause-fits : goal.decode_component-returns-in-Ok-true-clause-fits
 decode_component-returns-in-Ok-true-clause-fits t c = if_ok _ _ _ (λ v h. inr h) c.decode_present-in-Ok-true.ensures.fits
@@ -407,25 +407,25 @@ pub decode_component-missing-requires : goal.decode_component-missing-requires
 decode_component-missing-requires t c = not_required c.args.component.now.presence c.if-is_always_there.ensures
 
 pub decode_component-returns-in-Ok-false-clause-reads : goal.decode_component-returns-in-Ok-false-clause-reads
-decode_component-returns-in-Ok-false-clause-reads t c = made ((shape_of_type c.args.types.now c.args.below) c.args.component.now.type_id.0) _ (presence_in (shape_of_type c.args.types.now c.args.below) c.args.component.now) (λ a. c.if-is_always_there.ensures (always_by (key_of ((shape_of_type c.args.types.now c.args.below) c.args.component.now.type_id.0)) own_tag c.args.component.now.presence a)) (let w = c.in-Ok-false.field-0-test in let h : c.in-Ok-false.field-0 ≡ false = cc in next_of (key_of ((shape_of_type c.args.types.now c.args.below) c.args.component.now.type_id.0)) ((shape_of_type c.args.types.now c.args.below) c.args.component.now.type_id.0) c.args.component.now.presence _ (Ok false) c.if-is_always_there.ensures (subst (λ b. NextIs (sought_by (key_of ((shape_of_type c.args.types.now c.args.below) c.args.component.now.type_id.0)) ((shape_of_type c.args.types.now c.args.below) c.args.component.now.type_id.0)) c.args.decoder.now (Ok b)) h c.in-Ok-false.ensures)) _ (made_of (key_of ((shape_of_type c.args.types.now c.args.below) c.args.component.now.type_id.0)) c.args.component.now.presence _ _ c.missing.ensures.made)
+decode_component-returns-in-Ok-false-clause-reads t c = made ((shape_of_type c.args.types.now c.args.below) c.args.component.now.type_id.0) _ (presence_in (shape_of_type c.args.types.now c.args.below) c.args.component.now) (λ a. c.if-is_always_there.ensures (always_by (key_of ((shape_of_type c.args.types.now c.args.below) c.args.component.now.type_id.0)) own_tag c.args.component.now.presence a)) (let w = c.in-Ok-false.field-0-test in let h : c.in-Ok-false.field-0 ≡ false = cc in next_of (key_of ((shape_of_type c.args.types.now c.args.below) c.args.component.now.type_id.0)) ((shape_of_type c.args.types.now c.args.below) c.args.component.now.type_id.0) c.args.component.now.presence c.args.decoder.now (Ok false) c.if-is_always_there.ensures (subst (λ b. NextIs (sought_by (key_of ((shape_of_type c.args.types.now c.args.below) c.args.component.now.type_id.0)) ((shape_of_type c.args.types.now c.args.below) c.args.component.now.type_id.0)) c.args.decoder.now (Ok b)) h c.in-Ok-false.ensures)) _ (made_of (key_of ((shape_of_type c.args.types.now c.args.below) c.args.component.now.type_id.0)) c.args.component.now.presence c.args.decoder.now _ c.missing.ensures.made)
 
 pub decode_component-returns-in-Ok-false-clause-fits : goal.decode_component-returns-in-Ok-false-clause-fits
 decode_component-returns-in-Ok-false-clause-fits t c = made_fits (Fits c.args.types.now c.args.below) c.args.component.now c.args.decoder.now _ c.missing.ensures.made
 
 pub decode_component-returns-in-Err-clause-reads : goal.decode_component-returns-in-Err-clause-reads
-decode_component-returns-in-Err-clause-reads t c = unread ((shape_of_type c.args.types.now c.args.below) c.args.component.now.type_id.0) _ (presence_in (shape_of_type c.args.types.now c.args.below) c.args.component.now) (λ a. c.if-is_always_there.ensures (always_by (key_of ((shape_of_type c.args.types.now c.args.below) c.args.component.now.type_id.0)) own_tag c.args.component.now.presence a)) c.in-Err.error (next_of (key_of ((shape_of_type c.args.types.now c.args.below) c.args.component.now.type_id.0)) ((shape_of_type c.args.types.now c.args.below) c.args.component.now.type_id.0) c.args.component.now.presence _ (Err c.in-Err.error) c.if-is_always_there.ensures c.in-Err.ensures)
+decode_component-returns-in-Err-clause-reads t c = unread ((shape_of_type c.args.types.now c.args.below) c.args.component.now.type_id.0) _ (presence_in (shape_of_type c.args.types.now c.args.below) c.args.component.now) (λ a. c.if-is_always_there.ensures (always_by (key_of ((shape_of_type c.args.types.now c.args.below) c.args.component.now.type_id.0)) own_tag c.args.component.now.presence a)) c.in-Err.error (next_of (key_of ((shape_of_type c.args.types.now c.args.below) c.args.component.now.type_id.0)) ((shape_of_type c.args.types.now c.args.below) c.args.component.now.type_id.0) c.args.component.now.presence c.args.decoder.now (Err c.in-Err.error) c.if-is_always_there.ensures c.in-Err.ensures)
 
 pub decode_component-returns-then-is_always_there-clause-fails : goal.decode_component-returns-then-is_always_there-clause-fails
 decode_component-returns-then-is_always_there-clause-fails t c = always_fails ((shape_of_type c.args.types.now c.args.below) c.args.component.now.type_id.0) _ (presence_in (shape_of_type c.args.types.now c.args.below) c.args.component.now) (always_by own_tag (key_of ((shape_of_type c.args.types.now c.args.below) c.args.component.now.type_id.0)) c.args.component.now.presence c.if-is_always_there.ensures) _ _ c.decode_present.ensures.reads
 
 pub decode_component-returns-in-Ok-true-clause-fails : goal.decode_component-returns-in-Ok-true-clause-fails
-decode_component-returns-in-Ok-true-clause-fails t c = looked_fails ((shape_of_type c.args.types.now c.args.below) c.args.component.now.type_id.0) _ (presence_in (shape_of_type c.args.types.now c.args.below) c.args.component.now) (λ a. c.if-is_always_there.ensures (always_by (key_of ((shape_of_type c.args.types.now c.args.below) c.args.component.now.type_id.0)) own_tag c.args.component.now.presence a)) (let w = c.in-Ok-true.field-0-test in let h : c.in-Ok-true.field-0 ≡ true = cc in next_of (key_of ((shape_of_type c.args.types.now c.args.below) c.args.component.now.type_id.0)) ((shape_of_type c.args.types.now c.args.below) c.args.component.now.type_id.0) c.args.component.now.presence _ (Ok true) c.if-is_always_there.ensures (subst (λ b. NextIs (sought_by (key_of ((shape_of_type c.args.types.now c.args.below) c.args.component.now.type_id.0)) ((shape_of_type c.args.types.now c.args.below) c.args.component.now.type_id.0)) c.args.decoder.now (Ok b)) h c.in-Ok-true.ensures)) _ _ c.decode_present-in-Ok-true.ensures.reads
+decode_component-returns-in-Ok-true-clause-fails t c = looked_fails ((shape_of_type c.args.types.now c.args.below) c.args.component.now.type_id.0) _ (presence_in (shape_of_type c.args.types.now c.args.below) c.args.component.now) (λ a. c.if-is_always_there.ensures (always_by (key_of ((shape_of_type c.args.types.now c.args.below) c.args.component.now.type_id.0)) own_tag c.args.component.now.presence a)) (let w = c.in-Ok-true.field-0-test in let h : c.in-Ok-true.field-0 ≡ true = cc in next_of (key_of ((shape_of_type c.args.types.now c.args.below) c.args.component.now.type_id.0)) ((shape_of_type c.args.types.now c.args.below) c.args.component.now.type_id.0) c.args.component.now.presence c.args.decoder.now (Ok true) c.if-is_always_there.ensures (subst (λ b. NextIs (sought_by (key_of ((shape_of_type c.args.types.now c.args.below) c.args.component.now.type_id.0)) ((shape_of_type c.args.types.now c.args.below) c.args.component.now.type_id.0)) c.args.decoder.now (Ok b)) h c.in-Ok-true.ensures)) _ _ c.decode_present-in-Ok-true.ensures.reads
 
 pub decode_component-returns-in-Ok-false-clause-fails : goal.decode_component-returns-in-Ok-false-clause-fails
-decode_component-returns-in-Ok-false-clause-fails t c = made_fails ((shape_of_type c.args.types.now c.args.below) c.args.component.now.type_id.0) _ (presence_in (shape_of_type c.args.types.now c.args.below) c.args.component.now) (λ a. c.if-is_always_there.ensures (always_by (key_of ((shape_of_type c.args.types.now c.args.below) c.args.component.now.type_id.0)) own_tag c.args.component.now.presence a)) (let w = c.in-Ok-false.field-0-test in let h : c.in-Ok-false.field-0 ≡ false = cc in next_of (key_of ((shape_of_type c.args.types.now c.args.below) c.args.component.now.type_id.0)) ((shape_of_type c.args.types.now c.args.below) c.args.component.now.type_id.0) c.args.component.now.presence _ (Ok false) c.if-is_always_there.ensures (subst (λ b. NextIs (sought_by (key_of ((shape_of_type c.args.types.now c.args.below) c.args.component.now.type_id.0)) ((shape_of_type c.args.types.now c.args.below) c.args.component.now.type_id.0)) c.args.decoder.now (Ok b)) h c.in-Ok-false.ensures)) _ (made_of (key_of ((shape_of_type c.args.types.now c.args.below) c.args.component.now.type_id.0)) c.args.component.now.presence _ _ c.missing.ensures.made)
+decode_component-returns-in-Ok-false-clause-fails t c = made_fails ((shape_of_type c.args.types.now c.args.below) c.args.component.now.type_id.0) _ (presence_in (shape_of_type c.args.types.now c.args.below) c.args.component.now) (λ a. c.if-is_always_there.ensures (always_by (key_of ((shape_of_type c.args.types.now c.args.below) c.args.component.now.type_id.0)) own_tag c.args.component.now.presence a)) (let w = c.in-Ok-false.field-0-test in let h : c.in-Ok-false.field-0 ≡ false = cc in next_of (key_of ((shape_of_type c.args.types.now c.args.below) c.args.component.now.type_id.0)) ((shape_of_type c.args.types.now c.args.below) c.args.component.now.type_id.0) c.args.component.now.presence c.args.decoder.now (Ok false) c.if-is_always_there.ensures (subst (λ b. NextIs (sought_by (key_of ((shape_of_type c.args.types.now c.args.below) c.args.component.now.type_id.0)) ((shape_of_type c.args.types.now c.args.below) c.args.component.now.type_id.0)) c.args.decoder.now (Ok b)) h c.in-Ok-false.ensures)) _ (made_of (key_of ((shape_of_type c.args.types.now c.args.below) c.args.component.now.type_id.0)) c.args.component.now.presence c.args.decoder.now _ c.missing.ensures.made)
 
 pub decode_component-returns-in-Err-clause-fails : goal.decode_component-returns-in-Err-clause-fails
-decode_component-returns-in-Err-clause-fails t c = unread_fails ((shape_of_type c.args.types.now c.args.below) c.args.component.now.type_id.0) _ (presence_in (shape_of_type c.args.types.now c.args.below) c.args.component.now) (λ a. c.if-is_always_there.ensures (always_by (key_of ((shape_of_type c.args.types.now c.args.below) c.args.component.now.type_id.0)) own_tag c.args.component.now.presence a)) c.in-Err.error (next_of (key_of ((shape_of_type c.args.types.now c.args.below) c.args.component.now.type_id.0)) ((shape_of_type c.args.types.now c.args.below) c.args.component.now.type_id.0) c.args.component.now.presence _ (Err c.in-Err.error) c.if-is_always_there.ensures c.in-Err.ensures)
+decode_component-returns-in-Err-clause-fails t c = unread_fails ((shape_of_type c.args.types.now c.args.below) c.args.component.now.type_id.0) _ (presence_in (shape_of_type c.args.types.now c.args.below) c.args.component.now) (λ a. c.if-is_always_there.ensures (always_by (key_of ((shape_of_type c.args.types.now c.args.below) c.args.component.now.type_id.0)) own_tag c.args.component.now.presence a)) c.in-Err.error (next_of (key_of ((shape_of_type c.args.types.now c.args.below) c.args.component.now.type_id.0)) ((shape_of_type c.args.types.now c.args.below) c.args.component.now.type_id.0) c.args.component.now.presence c.args.decoder.now (Err c.in-Err.error) c.if-is_always_there.ensures c.in-Err.ensures)
 
 pub decode_component-returns-in-Err-clause-rules : goal.decode_component-returns-in-Err-clause-rules
 decode_component-returns-in-Err-clause-rules t c = look_rules (sought_by (key_of ((shape_of_type c.args.types.now c.args.below) c.args.component.now.type_id.0)) ((shape_of_type c.args.types.now c.args.below) c.args.component.now.type_id.0)) c.args.decoder.now _ c.in-Err.ensures
