@@ -48,9 +48,11 @@ impl FirstTags for Level {
 }
 
 impl LawfulEq for Level {
-    ghost use Rattle.rasn_types.specs.Deciding.{deciding};
+    ghost use Rattle.rasn_types.specs.Equality.{choice_decided, alternative, unsigned_decided};
+    ghost use Rattle.rasn_tests.specs.contracts.types.lamp.Level.{enum as level_enum};
+    ghost use Rattle.rasn_tests.specs.Lamp.{level_tree, no_field};
 
-    ghost decides = { Prim.search deciding depth 64 };
+    ghost decides = { choice_decided level_enum _ level_tree (alternative (λ x. x.0) unsigned_decided, (no_field, tt)) };
 }
 
 impl Decode for Level {
