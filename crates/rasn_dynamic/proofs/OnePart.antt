@@ -1,5 +1,5 @@
 -- A component of a SEQUENCE is read, or is absent.
-use Rattle.std.proofs.Common.{◌≡◌, inl, inr, true, false, Option, Some, None, Result, Ok, Err, refl, sym, subst}
+use Rattle.std.proofs.Common.{Bool, ◌≡◌, inl, inr, true, false, Option, Some, None, Result, Ok, Err, refl, sym, subst}
 use Rattle.std.specs.Prelude.{IfOk, IfErr}
 use Rattle.std.specs.declared.alloc.AllocError.{AllocError}
 use Rattle.rasn_types.specs.declared.types.tag.Tag.{Tag}
@@ -7,7 +7,7 @@ use Rattle.rasn_types.specs.declared.error.decode.DecodeError.{DecodeError}
 use Rattle.rasn_types.specs.declared.error.decode.DerDecodeErrorKind.TheVariants.{DefaultValuePresent}
 use Rattle.rasn_types.specs.Errors.{IsOutOfMemory}
 use Rattle.rasn_types.specs.Tags.{IsStrict}
-use Rattle.rasn_types.specs.Shapes.{Tree, Same, Shape, Key, Presence, required, addition, optional_by, default_by, sought_by, sought_in}
+use Rattle.rasn_types.specs.Shapes.{Tree, Same, Shape, Key, own_tag, first_tags, own, looked_for, Presence, required, addition, optional_by, default_by, one_tag, sought_by, sought_in}
 use Rattle.rasn_types.specs.Readings.{IsNoDefault, IsMissing}
 use Rattle.rasn_types.specs.Trees.{option_tree}
 use Rattle.rasn_de.specs.declared.ber.de.parser.ParseError.TheVariants.{Der, OutOfMemory}
@@ -171,6 +171,11 @@ next_of key s Required old r n k = absurd (n tt)
 next_of key s Optional old r n k = k
 next_of key s Addition old r n k = absurd (n tt)
 next_of key s (Default v) old r n k = k
+
+-- A shape that isn't recognized by its first tags is by its own.
+pub next_by_own : (key : Key) (s : Shape) (tag : Tag) (old : State) (r : Result Bool DecodeError) → (key ≡ first_tags → ⊥) → own s ≡ looked_for tag → NextIs (one_tag (looked_for tag)) old r → NextIs (sought_by key s) old r
+next_by_own own_tag s tag old r n e k = subst (λ o. NextIs (one_tag o) old r) (sym e) k
+next_by_own first_tags s tag old r n e k = absurd (n refl)
 
 pub made_of : (key : Key) (q : PartPresence) (old : State) (r : Result Value DecodeError) → IsMade (presence_of q) old r → IsMade (presence_by key q) old r
 made_of key Required old r m = m

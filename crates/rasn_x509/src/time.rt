@@ -3,7 +3,7 @@
 use rasn::error::{DecodeError, EncodeError};
 use rasn::parts::{DecodeAlternatives, Last, OneOf};
 use rasn::types::{
-    AsnType, Constraints, FirstTags, GeneralizedTime, Identifier, LawfulEq, Tag, UtcTime,
+    AsnType, Constraints, FirstTags, GeneralizedTime, Identifier, LawfulEq, Present, Tag, UtcTime,
 };
 use rasn::{Decode, Decoder, Encode, Encoder};
 
@@ -50,6 +50,12 @@ impl LawfulEq for Time {
     ghost use Rattle.rasn_x509.specs.Times.{time_tree};
 
     ghost decides = { choice_decided time_enum _ time_tree (alternative (λ x. x.0) instant_decided, (alternative (λ x. x.0) (λ s t. instant_decided s.moment t.moment), tt)) };
+}
+
+impl Present for Time {
+    ghost use Rattle.rasn_x509.specs.Times.{time_not_absent};
+
+    ghost present = { time_not_absent };
 }
 
 impl Decode for Time {

@@ -1,4 +1,4 @@
-use Rattle.std.proofs.Common.{rules, arith, append_assoc, ◌≡◌, ◌-◌, [], ◌∷◌, ◌++◌, length, map, true, false, Some, None, Ok, refl, sym, ap, ◌∙◌, subst, inl, inr}
+use Rattle.std.proofs.Common.{rules, arith, append_assoc, ◌≡◌, ◌-◌, [], ◌∷◌, ◌++◌, length, map, true, false, Some, None, Ok, Err, refl, sym, ap, ◌∙◌, subst, inl, inr}
 use Rattle.std.specs.Prelude.{get_or, slice_get, IfErr}
 use Rattle.std.proofs.lemmas.Option.{slice_get_within}
 use Rattle.rasn_types.specs.Shapes.{Tree, choice, IsFirstOf, own_tag, sought_by}

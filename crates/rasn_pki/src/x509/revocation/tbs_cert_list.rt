@@ -3,12 +3,8 @@
 use crate::x509::revocation::RevokedCertificate;
 use crate::x509::{AlgorithmIdentifier, Extension, Name, Time};
 use rasn::error::{DecodeError, EncodeError};
-use rasn::parts::{
-    End, Optional, OptionalChoice, Put, PutOptional, PutOptionalChoice, Required,
-};
-use rasn::types::{
-    AsnType, Constraints, ContextTag, Explicit, Identifier, LawfulEq, Present, Tag,
-};
+use rasn::parts::{End, Optional, OptionalChoice, Put, PutOptional, PutOptionalChoice, Required};
+use rasn::types::{AsnType, Constraints, ContextTag, Explicit, Identifier, LawfulEq, Present, Tag};
 use rasn::{Decode, Decoder, Encode, Encoder};
 
 /// SEQUENCE { version INTEGER { v2(1) } OPTIONAL, signature AlgorithmIdentifier, issuer Name,
@@ -56,9 +52,10 @@ impl AsnType for TbsCertList {
 
 impl LawfulEq for TbsCertList {
     ghost use Rattle.rasn_types.specs.Deciding.{deciding};
+    ghost use Rattle.rasn_x509.specs.Times.{time_not_absent};
     ghost use Rattle.rasn_x509.specs.contracts.time.TimeLawfulEq.TheImpl.Laws.{decides-law as time_law};
 
-    ghost decides = { Prim.search (time_law, deciding) depth 64 };
+    ghost decides = { Prim.search (time_law, time_not_absent, deciding) depth 64 };
 }
 
 impl Present for TbsCertList {
