@@ -51,7 +51,7 @@ use Rattle.rasn_dynamic.specs.Faults.{IsMarked, IsStepped, IsMoved, octets_after
 pub append_three : (a b c d : List ℕ) → a ++ (b ++ (c ++ d)) ≡ (a ++ b) ++ (c ++ d)
 append_three a b c d = sym (append_assoc a b (c ++ d))
 
-within_itself : (l : List ℕ) → IsWithin l l (length l)
+pub within_itself : (l : List ℕ) → IsWithin l l (length l)
 within_itself l = ([], [], sym (append-nil l), sym (ap length (append-nil l)))
 
 within_after : (all here octets : List ℕ) (left : ℕ) → IsEnd all here → IsWithin here octets left → IsWithin all octets left
@@ -183,7 +183,7 @@ module _ (types : List «Type») where
   frame_within rule l rest (with_length id len contents s a strict e) = (id ++ len, e ∙ sym (append_assoc id len (contents ++ rest)))
   frame_within rule l rest (without_length id s b h e) = (id ++ (128 ∷ []), e ∙ sym (append_assoc id (128 ∷ []) rest) ∙ ap (λ z. (id ++ (128 ∷ [])) ++ z) (sym (append-nil rest)))
 
-  contents_within : (d : ConstructedHeader) (s : State) → (s.depth ≢ 0 → AreOctets s.rest) → (h : Header) → constructed_header_at d s.rule s.depth s.rest ≡ Ok h
+  pub contents_within : (d : ConstructedHeader) (s : State) → (s.depth ≢ 0 → AreOctets s.rest) → (h : Header) → constructed_header_at d s.rule s.depth s.rest ≡ Ok h
       → (pre : List ℕ) × (s.rest ≡ pre ++ (octets_inside h.extent h.rest ++ after h.extent h.rest))
   contents_within d s o h e =
       let p = constructed_header_parsed d s.rule s.depth s.rest h e in
@@ -194,7 +194,7 @@ module _ (types : List «Type») where
   after_length indefinite rest = refl
 
   module _ (d : ConstructedHeader) (old : State) (o : old.depth ≢ 0 → AreOctets old.rest) (p : State) (c : Contents) (mid : State) (w : ConsumesOpening d old (Ok (p, c)) mid) where
-    opened_within : (octets : List ℕ) (left : ℕ) → IsWithin p.rest octets left → IsWithin old.rest octets (left + octets_after p.closing (length mid.rest))
+    pub opened_within : (octets : List ℕ) (left : ℕ) → IsWithin p.rest octets left → IsWithin old.rest octets (left + octets_after p.closing (length mid.rest))
     opened_within octets left s =
         let q : mid.rest ≡ w.0.rest = ap (λ (z : State). z.rest) w.4 in
         let t = contents_within d old o w.0 w.1 in

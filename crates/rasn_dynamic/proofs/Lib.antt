@@ -17,3 +17,4 @@ pub mod Numbers
 pub mod UnfitParts
 pub mod LeafWritten
 pub mod Faults
+pub mod Parts

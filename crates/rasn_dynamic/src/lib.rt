@@ -5,8 +5,10 @@
 
 mod components;
 mod entry;
+mod find;
 mod locate;
 mod order;
+mod part;
 mod path;
 mod read_leaf;
 mod reader;
@@ -20,7 +22,9 @@ mod writer;
 pub use entry::{
     WriteError, decode, decode_with_remainder, encode, encode_buf, is_canonical, normalise,
 };
+pub use find::find_part;
 pub use locate::decode_or_locate;
+pub use part::Part;
 pub use path::ValuePath;
 pub use rasn::NormaliseError;
 pub use rasn_schema::fits;
