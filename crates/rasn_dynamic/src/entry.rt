@@ -273,13 +273,16 @@ fn is_read_back(
     octets: &[u8],
 ) -> Result<bool, DecodeError>
     ensures ok { IfOk result (λ answer. IsReadBack answer (shape_of schema.now.types.items id.0) (tree_of value.now) octets.now) }
-    ensures octets { AreOctets octets.now }
     ensures memory_alone { IfErr result (λ e. IsOutOfMemory e.kind) }
 {
     match decode(alloc, Codec::Der, schema, id, octets) {
         Ok(again) => Ok(again.means_same(value)),
-        Err(error) if error.is_out_of_memory() => Err(error),
-        Err(_) => Ok(false),
+        Err(error) => {
+            if error.is_out_of_memory() {
+                return Err(error);
+            }
+            Ok(false)
+        }
     }
 }
 
@@ -297,7 +300,11 @@ pub fn is_canonical(
 {
     match normalise(alloc, Codec::Der, schema, id, octets) {
         Ok(normal) => Ok(normal.as_slice() == octets),
-        Err(error) if error.is_out_of_memory() => Err(AllocError),
-        Err(_) => Ok(false),
+        Err(error) => {
+            if error.is_out_of_memory() {
+                return Err(AllocError);
+            }
+            Ok(false)
+        }
     }
 }
