@@ -1,6 +1,6 @@
 -- The way to the part at the end of a path.
-use Rattle.std.proofs.Common.{◌≡◌, ◌≢◌, ℕ, zero, suc, ◌+◌, ◌-◌, ◌≤◌, List, [], ◌∷◌, ◌++◌, length, length-append, append_assoc, Some, None, Ok, Bool, true, false, refl, sym, ap, ◌∙◌, subst, arith}
-use Rattle.std.specs.Prelude.{slice_get}
+use Rattle.std.proofs.Common.{◌≡◌, ◌≢◌, ℕ, zero, suc, ◌+◌, ◌-◌, ◌<◌, ◌≤◌, List, [], ◌∷◌, ◌++◌, length, take, drop, get_or, Vec, Global, String, Option, length-append, append_assoc, Some, None, Ok, Bool, true, false, refl, sym, ap, ◌∙◌, subst, arith}
+use Rattle.std.specs.Prelude.{slice_get, MatchOption, MatchBool}
 use Rattle.std.proofs.lemmas.List.{append-nil}
 use Rattle.rasn_types.specs.declared.types.tag.Tag.{Tag}
 use Rattle.rasn_types.specs.declared.types.codec.Codec.TheVariants.{Ber}
@@ -14,7 +14,7 @@ use Rattle.rasn_de.specs.declared.ber.de.parser.Contents.{Contents}
 use Rattle.rasn_de.specs.declared.ber.de.constructed.ConstructedHeader.{ConstructedHeader}
 use Rattle.rasn_de.specs.Headers.{Header}
 use Rattle.rasn_de.specs.Segments.{octets_inside}
-use Rattle.rasn_de.specs.Constructed.{ConsumesOpening, is_indefinite_extent}
+use Rattle.rasn_de.specs.Constructed.{ConsumesOpening, expected_header, is_indefinite_extent}
 use Rattle.rasn_de.specs.Decodes.{Decodes}
 use Rattle.rasn_de.specs.SequenceOf.{DecodesInTurn}
 use Rattle.rasn_de.proofs.Headers.Ends.{IsEnd-refl, IsEnd-trans}
@@ -23,8 +23,15 @@ use Rattle.rasn_schema.specs.declared.types.«Type».TheVariants.{Leaf, Enumerat
 use Rattle.rasn_schema.specs.declared.types.Component.{Component}
 use Rattle.rasn_schema.specs.Trees.{tree_of}
 use Rattle.rasn_schema.specs.Shapes.{shape_of_type, type_by, components_by, AreLawful}
-use Rattle.rasn_dynamic.specs.Faults.{octets_after, ComponentsInTurn, IsPart, EntersBy, Enters, Leads}
-use Rattle.rasn_dynamic.specs.Parts.{IsSeen, IsEntered, IsHeader, IsHeaderOf}
+use Rattle.rasn_dynamic.specs.Faults.{octets_after, ComponentsInTurn, IsPart, EntersBy, Enters, Leads, start}
+use Rattle.rasn_dynamic.specs.Parts.{IsSeen, IsEntered, IsHeader, IsHeaderOf, LacksPart, IsReadHere, IsPartAt}
+use Rattle.rasn_dynamic.specs.declared.part.Part.{Part}
+use Rattle.rasn_de.proofs.Headers.Frames.{header_parsed}
+use Rattle.rasn_de.proofs.Constructed.Contents.{constructed_header_parsed}
+use Rattle.rasn_types.specs.declared.types.codec.Codec.{Codec}
+use Rattle.rasn_dynamic.specs.Typed.{HoldsOthers}
+use Rattle.rasn_schema.specs.declared.types.Alternative.{Alternative}
+use Rattle.rasn_schema.proofs.Lists.{split}
 use Rattle.rasn_dynamic.proofs.Faults.{within_itself, within_short, opened_within, forgotten, turns_keep}
 use Rattle.rasn_dynamic.proofs.Contents.{prefix_lawful, list_lawful, set_of_lawful, seq_lawful, set_lawful}
 use Rattle.rasn_dynamic.proofs.InOrder.{lawful_parts}
@@ -56,13 +63,13 @@ seen_short a b m n (p, q, e, f) h =
     omega (arith, x, y, f, h)
 
 -- The contents of a value are seen from it.
-module _ (types : List «Type») (d : ConstructedHeader) (old : State) (o : old.depth ≢ 0 → AreOctets old.rest) (p : State) (c : Contents) (mid : State) (w : ConsumesOpening d old (Ok (p, c)) mid) where
+module _ (d : ConstructedHeader) (old : State) (o : old.depth ≢ 0 → AreOctets old.rest) (p : State) (c : Contents) (mid : State) (w : ConsumesOpening d old (Ok (p, c)) mid) where
   pub inside_short : length p.rest + octets_after p.closing (length mid.rest) ≤ length old.rest
-  inside_short = within_short old.rest p.rest _ (opened_within types d old o p c mid w p.rest (length p.rest) (within_itself p.rest))
+  inside_short = within_short old.rest p.rest _ (opened_within [] d old o p c mid w p.rest (length p.rest) (within_itself p.rest))
 
   pub seen_inside : (end : ℕ) → length old.rest ≤ end → IsSeen old.rest end p.rest (end - octets_after p.closing (length mid.rest))
   seen_inside end h =
-      let (front, back, e, n) = opened_within types d old o p c mid w p.rest (length p.rest) (within_itself p.rest) in
+      let (front, back, e, n) = opened_within [] d old o p c mid w p.rest (length p.rest) (within_itself p.rest) in
       let y = length-append p.rest back in
       let z = inside_short in
       (front, back, e, omega (arith, y, z, n, h))
@@ -100,7 +107,7 @@ lawful_part f (Any tag) h s k next here i = absurd i
 lawful_part f (Tagged tag id) h s k next here (a, b, g) = subst (λ z. IsLawful (f z)) (sym b) (prefix_lawful tag (f id.0) h)
 lawful_part f (Choice name ks) h s k next here (a, e, b, g) = subst (λ z. IsLawful (f z)) (sym b) (lawful_at f ks.items k a h e)
 lawful_part f (Sequence tag ps) h s k next here (done, p, after, e, l, b, t) =
-    let all = lawful_parts (components_by f ps.items) (seq_lawful tag (components_by f ps.items) h) in
+    let all = lawful_parts f (components_by f ps.items) (seq_lawful tag (components_by f ps.items) h) in
     subst (λ z. IsLawful (f z)) (sym b) (component_lawful f done p after (subst (λ z. AreLawful (components_by f z)) e all))
 lawful_part f (Set name tag ps) h s k next here (p, e, b, done, bs, d) = subst (λ z. IsLawful (f z)) (sym b) (part_lawful f ps.items k p (set_lawful tag (components_by f ps.items) h) e)
 lawful_part f (SequenceOf tag id c) h s k next here (b, vs, l, d, n) = subst (λ z. IsLawful (f z)) (sym b) (list_lawful tag (f id.0) c.size h)
@@ -180,3 +187,88 @@ header_is octets tag bit h f inner e g n m = go h.extent f e g
     go : (x : Extent) → Frame (form Ber) octets tag bit h.rest x → inner.closing ≡ is_indefinite_extent x → inner.rest ≡ octets_inside x h.rest → IsHeader octets n inner.closing
     go (definite c) f e g = subst (IsHeader octets n) (sym e) (tag, bit, c, h.rest, f, (let a = ap length g in let b = ap (λ z. octets_after z (length h.rest)) e in omega (arith, m, a, b)))
     go indefinite f e g = subst (IsHeader octets n) (sym e) (tag, bit, h.rest, f, (let a = ap length g in let b = ap (λ z. octets_after z (length h.rest)) e in omega (arith, m, a, b)))
+
+-- A value that holds no others has no header of this kind.
+pub no_header : (ty : «Type») → (HoldsOthers ty → ⊥) → IsHeaderOf ty None
+no_header (Leaf kind tag c names) n = refl
+no_header (Enumerated tag ns) n = refl
+no_header (Any tag) n = refl
+no_header (Tagged tag id) n = absurd (n tt)
+no_header (Choice name ks) n = refl
+no_header (Sequence tag ps) n = absurd (n tt)
+no_header (Set name tag ps) n = absurd (n tt)
+no_header (SequenceOf tag id c) n = absurd (n tt)
+no_header (SetOf tag id c) n = absurd (n tt)
+
+-- A type that holds no others, and isn't a CHOICE, has no part.
+pub no_parts : (types : List «Type») (f : ℕ → Shape) (ty : «Type») → (HoldsOthers ty → ⊥) → ((name : String Global) (ks : Vec Alternative Global) → ty ≡ Choice name ks → ⊥) → (s : State) (k : ℕ) → LacksPart types f ty s k
+no_parts types f (Leaf kind tag c names) n m s k = tt
+no_parts types f (Enumerated tag ns) n m s k = tt
+no_parts types f (Any tag) n m s k = tt
+no_parts types f (Tagged tag id) n m s k = absurd (n tt)
+no_parts types f (Choice name ks) n m s k = absurd (m name ks refl)
+no_parts types f (Sequence tag ps) n m s k = absurd (n tt)
+no_parts types f (Set name tag ps) n m s k = absurd (n tt)
+no_parts types f (SequenceOf tag id c) n m s k = absurd (n tt)
+no_parts types f (SetOf tag id c) n m s k = absurd (n tt)
+
+-- ---- results
+
+pub option_weaker : {T : Type 0} (r : Option T) (P Q : Type 0) (A B : T → Type 0) → (P → Q) → ((x : T) → A x → B x) → MatchOption r P A → MatchOption r Q B
+option_weaker None P Q A B h g w = h w
+option_weaker (Some x) P Q A B h g w = g x w
+
+pub if_some : {T : Type 0} (r : Option T) (x : T) (P : Type 0) (A : T → Type 0) → r ≡ Some x → MatchOption r P A → A x
+if_some r x P A e w = subst (λ z. MatchOption z P A) e w
+
+pub if_none : {T : Type 0} (r : Option T) (P : Type 0) (A : T → Type 0) → r ≡ None → MatchOption r P A → P
+if_none r P A e w = subst (λ z. MatchOption z P A) e w
+
+pub if_true : (b : Bool) (P Q : Type 0) → b ≡ true → MatchBool b P Q → P
+if_true b P Q e w = subst (λ z. MatchBool z P Q) e w
+
+pub if_false : (b : Bool) (P Q : Type 0) → b ≡ false → MatchBool b P Q → Q
+if_false b P Q e w = subst (λ z. MatchBool z P Q) e w
+
+-- Fewer octets are left.
+pub shorter : (a b : List ℕ) → IsEnd a b → length b ≢ length a → length b < length a
+shorter a b (front, e) n = let x = ap length e ∙ length-append front b in omega (arith, x, n)
+
+pub first_and_rest : (l : List ℕ) → 1 ≤ length l → l ≡ get_or l 0 0 ∷ take (length l - 1) (drop 1 l)
+first_and_rest l h = split l (get_or l 0 0) h (first_again l)
+  where
+    first_again : (l : List ℕ) → get_or l 0 0 ≡ get_or l 0 (get_or l 0 0)
+    first_again [] = refl
+    first_again (x ∷ l) = refl
+
+-- ---- a part in a message
+
+-- The header that is opened under BER is that of the octets.
+pub header_opened : (d : ConstructedHeader) (old : State) → (old.depth ≢ 0 → AreOctets old.rest) → (p : State) (c : Contents) (mid : State) → ConsumesOpening d old (Ok (p, c)) mid → old.rule ≡ Ber
+    → (n : ℕ) (closing : Bool) → closing ≡ p.closing → n + (length p.rest + octets_after closing (length mid.rest)) ≡ length old.rest → IsHeader old.rest n closing
+header_opened d old o p c mid w r n closing k m =
+    let x = constructed_header_parsed d old.rule old.depth old.rest w.0 w.1 in
+    let f = (header_parsed (form old.rule) (expected_header d old.rule) old.rest w.0 (o x.0) x.1).0 in
+    let g : Frame (form Ber) old.rest w.0.tag w.0.bit w.0.rest w.0.extent = subst (λ z. Frame (form z) old.rest w.0.tag w.0.bit w.0.rest w.0.extent) r f in
+    let after : mid.rest ≡ w.0.rest = ap (λ (z : State). z.rest) w.4 in
+    subst (IsHeader old.rest n) (sym k)
+    (header_is old.rest w.0.tag w.0.bit w.0 g p (ap (λ (z : State). z.closing) w.2) (ap (λ (z : State). z.rest) w.2) n
+    (subst (λ z. n + (length p.rest + octets_after z (length w.0.rest)) ≡ length old.rest) k (subst (λ z. n + (length p.rest + octets_after closing (length z)) ≡ length old.rest) after m)))
+
+pub found_at : (types : List «Type») (rule : Codec) (id : ℕ) (input path : List ℕ) (p : Part) (s : State) → s ≡ start rule input → (below next : ℕ) (last : State) (end : ℕ)
+    → Leads types path 18446744073709551615 id s below next last → IsSeen s.rest (length input) last.rest end → p.id.0 ≡ next → p.offset + length last.rest ≡ end
+    → IsReadHere types below next last p.octets.now p.header_len p.is_indefinite → IsPartAt types rule id input path p
+found_at types rule id input path p s e below next last end l (front, back, f, n) i o r =
+    let whole : input ≡ front ++ (last.rest ++ back) = sym (ap (λ (z : State). z.rest) e) ∙ f in
+    let x = ap length whole ∙ length-append front (last.rest ++ back) in
+    let y = length-append last.rest back in
+    record {
+      below = below;
+      last = last;
+      front = front;
+      back = back;
+      is = whole;
+      offset = omega (arith, x, y, n, o);
+      leads = subst (λ z. Leads types path 18446744073709551615 id z below p.id.0 last) e (subst (λ z. Leads types path 18446744073709551615 id s below z last) (sym i) l);
+      read = subst (λ z. IsReadHere types below z last p.octets.now p.header_len p.is_indefinite) (sym i) r;
+    }

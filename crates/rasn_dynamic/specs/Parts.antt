@@ -5,14 +5,14 @@ use Rattle.rasn_types.specs.declared.types.codec.Codec.TheVariants.{Ber}
 use Rattle.rasn_types.specs.declared.types.tag.Tag.{Tag}
 use Rattle.rasn_types.specs.Framing.{Frame, definite, indefinite, NextTag, Ended}
 use Rattle.rasn_types.specs.Tags.{form}
-use Rattle.rasn_types.specs.Shapes.{Shape, Tree, choice, IsFirst}
+use Rattle.rasn_types.specs.Shapes.{Shape, Tree, choice, Presence, IsFirst}
 use Rattle.rasn_types.specs.Grammar.{Reads}
-use Rattle.rasn_types.specs.Readings.{NoneOf}
+use Rattle.rasn_types.specs.Readings.{Reading, NoneOf}
 use Rattle.rasn_de.specs.State.{State}
 use Rattle.rasn_de.specs.declared.ber.de.constructed.ConstructedHeader.{ConstructedHeader}
 use Rattle.rasn_de.specs.Constructed.{sequence_header, list_header, prefix_header}
 use Rattle.rasn_de.specs.Outcomes.{Exact, Got}
-use Rattle.rasn_de.specs.Decodes.{Decodes}
+use Rattle.rasn_de.specs.Decodes.{Decodes, DecodesBy}
 use Rattle.rasn_de.specs.Optional.{NextTagIs}
 use Rattle.rasn_de.specs.SequenceOf.{DecodesInTurn, DecodesInTurnFrom}
 use Rattle.rasn_schema.specs.declared.types.«Type».{«Type»}
@@ -23,7 +23,7 @@ use Rattle.rasn_schema.specs.declared.value.Value.{Value}
 use Rattle.rasn_schema.specs.Trees.{tree_of}
 use Rattle.rasn_schema.specs.Shapes.{shape_of_type, components_by, presence_of, tag_at}
 use Rattle.rasn_schema.specs.FirstTags.{IsAlwaysThere}
-use Rattle.rasn_dynamic.specs.Calls.{LeavesAllOut}
+use Rattle.rasn_dynamic.specs.Calls.{LeavesAllOut, DecodesPresent}
 use Rattle.rasn_dynamic.specs.Faults.{ComponentsInTurn, Enters, Leads, start}
 use Rattle.rasn_dynamic.specs.declared.part.Part.{Part}
 
@@ -35,6 +35,19 @@ IsHeader octets n true = (tag : Tag) × (bit : Bool) × (rest : List ℕ) × Fra
 -- The inner octets are among the outer ones. If these end at the one offset of a message, those end at the other.
 abbrev pub IsSeen : List ℕ → ℕ → List ℕ → ℕ → Type 0
 IsSeen outer end inner new_end = (front : List ℕ) × (back : List ℕ) × (outer ≡ front ++ (inner ++ back)) × (new_end + length back ≡ end)
+
+-- ---- values that are read and not kept
+
+-- Some value is read by R.
+abbrev pub PassesBy : (Codec → ℕ → Bool → Reading Tree) → State → State → Type 0
+PassesBy R old new = (v : Value) × DecodesBy R tree_of old (Ok v) new
+
+-- Some value is read by its shape, and takes some of the octets; one of a component that is present.
+abbrev pub PassesElement : Shape → State → State → Type 0
+PassesElement s old new = (v : Value) × Decodes s tree_of old (Ok v) new × (length new.rest ≢ length old.rest)
+
+abbrev pub PassesPresent : Presence → Shape → State → State → Type 0
+PassesPresent p s old new = (v : Value) × DecodesPresent p s old (Ok v) new × (length new.rest ≢ length old.rest)
 
 -- ---- no part k in what is read in the state s. f gives the shape of the type with a number.
 

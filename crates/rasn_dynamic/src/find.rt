@@ -1,10 +1,11 @@
 //! Finds a part of a message.
-ghost use Rattle.std.specs.Prelude.{◌≡◌, ◌⊎◌, ◌+◌, ◌≤◌, ◌∷◌, [], length, true, OnOk, IfOk, IfErr, MatchOption, MatchBool};
+ghost use Rattle.std.specs.Prelude.{◌≡◌, ◌≢◌, ◌⊎◌, ◌+◌, ◌≤◌, ◌∷◌, [], length, true, OnOk, IfOk, IfErr, MatchOption, MatchBool};
 ghost use Rattle.rasn_types.specs.Errors.{IsOutOfMemory};
 ghost use Rattle.rasn_types.specs.Lawful.{IsLawful, AreLawfulByTag};
-ghost use Rattle.rasn_schema.specs.Shapes.{shape_of_type, type_by, components_by, AreLawful};
+ghost use Rattle.rasn_schema.specs.Shapes.{shape_of_type, type_by, components_by, presence_of, AreLawful};
+ghost use Rattle.rasn_dynamic.specs.Inside.{ReadsComponent};
 ghost use Rattle.rasn_dynamic.specs.Faults.{IsAlternativeAt, IsComponentAt, IsMemberAt, IsElementAt, IsPart, Leads, IsLocated, start};
-ghost use Rattle.rasn_dynamic.specs.Parts.{IsSeen, LacksAlternative, IsAbsentHere, LacksComponent, LacksMember, LacksElement, LacksPart, IsEntered, LacksPartAt, LacksPath, IsReadHere, IsPartAt, IsHeaderOf};
+ghost use Rattle.rasn_dynamic.specs.Parts.{IsSeen, LacksAlternative, IsAbsentHere, LacksComponent, LacksMember, LacksElement, LacksPart, IsEntered, LacksPartAt, LacksPath, IsReadHere, IsPartAt, IsHeaderOf, PassesBy, PassesPresent, PassesElement};
 
 use crate::components::{is_always_there, leaves_all_out};
 use crate::locate::decode_or_locate;
@@ -91,10 +92,34 @@ fn component_here(
 ) -> Result<Option<TypeId>, DecodeError>
     ensures { IfOk result (λ found. MatchOption found (IsAbsentHere types.now component.now decoder.now) (λ id. id ≡ component.now.type_id)) }
 {
-    if is_always_there(component) || decoder.next_tag_is(tag_at(types, component.type_id))? {
+    if is_always_there(component) {
         return Ok(Some(component.type_id));
     }
-    Ok(None)
+    match decoder.next_tag_is(tag_at(types, component.type_id)) {
+        Ok(true) => Ok(Some(component.type_id)),
+        Ok(false) => Ok(None),
+        Err(error) => Err(error),
+    }
+}
+
+/// Reads a component of a SEQUENCE, unless it is absent.
+fn pass_component(
+    decoder: &mut Decoder<'_>,
+    types: &[Type],
+    below: usize,
+    component: &Component,
+) -> Result<(), DecodeError>
+    requires lawful { IsLawful (shape_of_type types.now below component.now.type_id.0) }
+    ensures { OnOk result (PassesBy (ReadsComponent (presence_of component.now.presence) (shape_of_type types.now below component.now.type_id.0)) decoder.old decoder.new) }
+{
+    let mut trace = None;
+    match decode_component(decoder, &mut trace, types, below, component, 0) {
+        Ok(value) => {
+            drop(value);
+            Ok(())
+        }
+        Err(error) => Err(error),
+    }
 }
 
 /// Goes to the component of a SEQUENCE with this index. Returns its type, if it is present.
@@ -117,11 +142,42 @@ fn go_to_component(
         if number == index {
             return component_here(decoder, types, component);
         }
-        decode_component(decoder, &mut None, types, below, component, number)?;
+        pass_component(decoder, types, below, component)?;
         rest = after;
         number += 1;
     }
     Ok(None)
+}
+
+/// Returns an error if a value took nothing of so many octets.
+fn check_taken(decoder: &Decoder<'_>, left: usize) -> Result<(), DecodeError>
+    ensures { OnOk result (length decoder.now.rest ≢ left) }
+{
+    if decoder.remaining().len() == left {
+        return Err(extra(decoder, left));
+    }
+    Ok(())
+}
+
+/// Reads a component of a SET, which must take some of the input. It is present.
+fn pass_member(
+    decoder: &mut Decoder<'_>,
+    types: &[Type],
+    below: usize,
+    component: &Component,
+) -> Result<(), DecodeError>
+    requires lawful { IsLawful (shape_of_type types.now below component.now.type_id.0) }
+    ensures { OnOk result (PassesPresent (presence_of component.now.presence) (shape_of_type types.now below component.now.type_id.0) decoder.old decoder.new) }
+{
+    let left = decoder.remaining().len();
+    let mut trace = None;
+    match decode_present(decoder, &mut trace, types, below, component, 0) {
+        Ok(value) => {
+            drop(value);
+            check_taken(decoder, left)
+        }
+        Err(error) => Err(error),
+    }
 }
 
 /// Goes to the component of a SET with this index. Returns its type, if it is present.
@@ -136,7 +192,6 @@ fn go_to_member(
     ensures found { IfOk result (λ found. MatchOption found (LacksMember (shape_of_type types.now below) components.now decoder.old index) (λ id. IsMemberAt (shape_of_type types.now below) components.now decoder.old index id.0 decoder.new)) }
 {
     while !decoder.has_ended() {
-        let left = decoder.remaining().len();
         let tag = decoder.peek_tag()?;
         let Some((number, component)) = component_for(types, below, components, tag) else {
             return Err(no_value(decoder));
@@ -144,15 +199,33 @@ fn go_to_member(
         if number == index {
             return Ok(Some(component.type_id));
         }
-        decode_present(decoder, &mut None, types, below, component, number)?;
-        if decoder.remaining().len() == left {
-            return Err(extra(decoder, left));
-        }
+        pass_member(decoder, types, below, component)?;
     }
     Ok(None)
 }
 
-/// Goes to the element with this index. Returns whether there is one.
+/// Reads an element, which must take some of the input.
+fn pass_element(
+    decoder: &mut Decoder<'_>,
+    types: &[Type],
+    below: usize,
+    element: TypeId,
+) -> Result<(), DecodeError>
+    requires lawful { IsLawful (shape_of_type types.now below element.0) }
+    ensures { OnOk result (PassesElement (shape_of_type types.now below element.0) decoder.old decoder.new) }
+{
+    let left = decoder.remaining().len();
+    let mut trace = None;
+    match decode_at(decoder, &mut trace, types, below, element) {
+        Ok(value) => {
+            drop(value);
+            check_taken(decoder, left)
+        }
+        Err(error) => Err(error),
+    }
+}
+
+/// Goes to the element with this index. Returns its type, if there is one.
 fn go_to_element(
     decoder: &mut Decoder<'_>,
     types: &[Type],
@@ -168,14 +241,20 @@ fn go_to_element(
         if number == index {
             return Ok(Some(element));
         }
-        let left = decoder.remaining().len();
-        decode_at(decoder, &mut None, types, below, element)?;
-        if decoder.remaining().len() == left {
-            return Err(extra(decoder, left));
-        }
+        pass_element(decoder, types, below, element)?;
         number += 1;
     }
     Ok(None)
+}
+
+/// Returns the type of the one part of a value, if it is the one with this index.
+fn only_part(inner: TypeId, index: usize) -> Option<TypeId>
+    ensures { MatchOption result (index ≢ 0) (λ id. (index ≡ 0) × (id ≡ inner)) }
+{
+    if index == 0 {
+        return Some(inner);
+    }
+    None
 }
 
 /// Goes to the part with this index in the contents of a value. Returns its type, if it is present.
@@ -190,7 +269,7 @@ fn go_inside(
     ensures found { IfOk result (λ found. MatchOption found (LacksPart types.now (shape_of_type types.now below) ty.now decoder.old index) (λ id. IsPart (shape_of_type types.now below) ty.now decoder.old index id.0 decoder.new)) }
 {
     match ty {
-        Type::Tagged { inner, .. } => Ok(if index == 0 { Some(*inner) } else { None }),
+        Type::Tagged { inner, .. } => Ok(only_part(*inner, index)),
         Type::Choice { alternatives, .. } => {
             alternative_here(decoder, types, below, alternatives, index)
         }
@@ -240,31 +319,44 @@ fn go_along(place: &mut Place<'_>, types: &[Type], path: &[usize]) -> Result<boo
 {
     let mut rest = path;
     while let [index, after @ ..] = rest {
-        if !go_to_part(place, types, *index)? {
+        if go_to_part(place, types, *index)? {
+            rest = after;
+        } else {
             return Ok(false);
         }
-        rest = after;
     }
     Ok(true)
 }
 
 /// Reads the value at a place, and returns where it is.
-fn read_part<'input>(mut place: Place<'input>, types: &[Type]) -> Result<Part<'input>, DecodeError>
-    requires lawful { IsLawful (shape_of_type types.now place.levels place.id.0) }
-    requires seen { length place.decoder.rest ≤ place.end }
-    ensures read { IfOk result (λ p. IsReadHere types.now place.levels place.id.0 place.decoder p.octets.now p.header_len p.is_indefinite) }
-    ensures at { IfOk result (λ p. (p.id ≡ place.id) × (p.offset + length place.decoder.rest ≡ place.end)) }
+fn read_part<'input>(place: &mut Place<'input>, types: &[Type]) -> Result<Part<'input>, DecodeError>
+    requires lawful { IsLawful (shape_of_type types.now place.old.levels place.old.id.0) }
+    requires seen { length place.old.decoder.rest ≤ place.old.end }
+    ensures read { IfOk result (λ p. IsReadHere types.now place.old.levels place.old.id.0 place.old.decoder p.octets.now p.header_len p.is_indefinite) }
+    ensures at { IfOk result (λ p. (p.id ≡ place.old.id) × (p.offset + length place.old.decoder.rest ≡ place.old.end)) }
 {
     let start = place.decoder.remaining();
     let (header_len, is_indefinite) = header_of(place.decoder.alloc(), start)?;
-    decode_at(&mut place.decoder, &mut None, types, place.levels, place.id)?;
-    Ok(Part {
-        id: place.id,
-        offset: place.end - start.len(),
-        header_len,
-        is_indefinite,
-        octets: octets_before(start, place.decoder.remaining()),
-    })
+    let mut trace = None;
+    match decode_at(
+        &mut place.decoder,
+        &mut trace,
+        types,
+        place.levels,
+        place.id,
+    ) {
+        Ok(value) => {
+            drop(value);
+            Ok(Part {
+                id: place.id,
+                offset: place.end - start.len(),
+                header_len,
+                is_indefinite,
+                octets: octets_before(start, place.decoder.remaining()),
+            })
+        }
+        Err(error) => Err(error),
+    }
 }
 
 /// Goes to the part at the end of a path, and reads it.
@@ -278,14 +370,18 @@ fn read_along<'input>(
 ) -> Result<Option<Part<'input>>, DecodeError>
     ensures found { IfOk result (λ found. MatchOption found (LacksPath schema.now.types.items path.now 18446744073709551615 id.0 (start rule input.now)) (IsPartAt schema.now.types.items rule id.0 input.now path.now)) }
 {
+    let types = schema.types();
     let mut place = Place {
         decoder: Decoder::new(alloc, input, DecoderOptions::of(rule)),
         end: input.len(),
         id,
         levels: usize::MAX,
     };
-    if go_along(&mut place, schema.types(), path)? {
-        Ok(Some(read_part(place, schema.types())?))
+    if go_along(&mut place, types, path)? {
+        match read_part(&mut place, types) {
+            Ok(part) => Ok(Some(part)),
+            Err(error) => Err(error),
+        }
     } else {
         Ok(None)
     }
@@ -297,17 +393,20 @@ fn refuse(alloc: Global, rule: Codec, schema: &Schema, id: TypeId, input: &[u8])
     ensures rules { result.error.codec ≡ rule }
 {
     match decode_or_locate(alloc, rule, schema, id, input) {
+        Ok((value, _)) => {
+            drop(value);
+            Refusal {
+                error: DecodeError {
+                    kind: DecodeErrorKind::OutOfMemory,
+                    codec: rule,
+                },
+                offset: 0,
+                id,
+                steps: Vec::new(alloc),
+                is_cut: false,
+            }
+        }
         Err(refusal) => refusal,
-        Ok(_) => Refusal {
-            error: DecodeError {
-                kind: DecodeErrorKind::OutOfMemory,
-                codec: rule,
-            },
-            offset: 0,
-            id,
-            steps: Vec::new(alloc),
-            is_cut: false,
-        },
     }
 }
 
@@ -332,6 +431,9 @@ pub fn find_part<'input>(
 {
     match read_along(alloc, rule, schema, id, input, path) {
         Ok(found) => Ok(found),
-        Err(_) => Err(refuse(alloc, rule, schema, id, input)),
+        Err(error) => {
+            drop(error);
+            Err(refuse(alloc, rule, schema, id, input))
+        }
     }
 }

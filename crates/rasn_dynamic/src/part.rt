@@ -35,6 +35,6 @@ pub fn header_of(alloc: Global, octets: &[u8]) -> Result<(usize, bool), DecodeEr
     let mut decoder = Decoder::new(alloc, octets, DecoderOptions::of(Codec::Ber));
     let tag = decoder.peek_tag()?;
     let (inner, _) = decoder.open(ConstructedHeader::prefix(tag))?;
-    let after = inner.remaining().len() + octets_after(&decoder, &inner);
-    Ok((octets.len() - after, inner.may_be_closed()))
+    let end = octets.len() - octets_after(&decoder, &inner);
+    Ok((end - inner.remaining().len(), inner.may_be_closed()))
 }

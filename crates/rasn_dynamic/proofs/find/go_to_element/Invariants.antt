@@ -6,8 +6,8 @@ use Rattle.rasn_schema.specs.Trees.{tree_of}
 use Rattle.rasn_schema.specs.Shapes.{shape_of_type}
 use Rattle.rasn_dynamic.proofs.find.go_to_element.Given as goal
 
-abbrev pub invariant-loop-number : goal.invariant-loop-number
-invariant-loop-number l = (l.number ≤ l.index) × (vs : List Value) × (length vs ≡ l.number) × DecodesInTurn (Decodes (shape_of_type l.types l.below l.element.0) tree_of) l.fn.decoder vs l.decoder
+abbrev pub invariant-loop-element : goal.invariant-loop-element
+invariant-loop-element l = (l.number ≤ l.index) × (vs : List Value) × (length vs ≡ l.number) × DecodesInTurn (Decodes (shape_of_type l.types l.below l.element.0) tree_of) l.fn.decoder vs l.decoder
 
-abbrev pub decreases-loop-number : goal.decreases-loop-number
-decreases-loop-number l = length l.decoder.rest
+abbrev pub decreases-loop-element : goal.decreases-loop-element
+decreases-loop-element l = length l.decoder.rest
