@@ -14,7 +14,7 @@ use Rattle.rasn_de.specs.declared.ber.de.parser.Contents.{Contents}
 use Rattle.rasn_de.specs.declared.ber.de.constructed.ConstructedHeader.{ConstructedHeader}
 use Rattle.rasn_de.specs.Headers.{Header}
 use Rattle.rasn_de.specs.Segments.{octets_inside}
-use Rattle.rasn_de.specs.Constructed.{ConsumesOpening, expected_header, is_indefinite_extent}
+use Rattle.rasn_de.specs.Constructed.{sequence_header, list_header, prefix_header, ConsumesOpening, expected_header, is_indefinite_extent}
 use Rattle.rasn_de.specs.Decodes.{Decodes}
 use Rattle.rasn_de.specs.SequenceOf.{DecodesInTurn}
 use Rattle.rasn_de.proofs.Headers.Ends.{IsEnd-refl, IsEnd-trans}
@@ -91,7 +91,7 @@ part_keeps f (Any tag) s k next here i = absurd i
 part_keeps f (Tagged tag id) s k next here (a, b, g) = same_keeps s here g
 part_keeps f (Choice name ks) s k next here (a, e, b, g) = same_keeps s here g
 part_keeps f (Sequence tag ps) s k next here (done, p, after, e, l, b, t) = components_keep f done s here t
-part_keeps f (Set name tag ps) s k next here (p, e, b, done, bs, d) = turns_keep (choice (components_by f ps.items)) (λ (t : Tree). t) s done here (forgotten _ s done bs here d)
+part_keeps f (Set name tag ps) s k next here (p, e, b, done, bs, d) = turns_keep (choice (components_by f ps.items)) (λ (t : Tree). t) s done here (forgotten (Decodes (choice (components_by f ps.items)) (λ (t : Tree). t)) s done bs here d)
 part_keeps f (SequenceOf tag id c) s k next here (b, vs, l, d, n) = turns_keep (f id.0) tree_of s vs here d
 part_keeps f (SetOf tag id c) s k next here (b, vs, l, d, n) = turns_keep (f id.0) tree_of s vs here d
 
@@ -161,12 +161,12 @@ pub entered_by : (ty : «Type») (d : ConstructedHeader) (s inner mid : State) (
 entered_by (Leaf kind tag cs names) d s inner mid c e w = absurd cc
 entered_by (Enumerated tag ns) d s inner mid c e w = absurd cc
 entered_by (Any tag) d s inner mid c e w = absurd cc
-entered_by (Tagged tag id) d s inner mid c e w = subst (λ z. EntersBy z s inner) cc (w.0, w.1, w.2)
+entered_by (Tagged tag id) d s inner mid c e w = let same : d ≡ prefix_header tag = cc in subst (λ z. EntersBy z s inner) same (w.0, w.1, w.2)
 entered_by (Choice name ks) d s inner mid c e w = absurd cc
-entered_by (Sequence tag ps) d s inner mid c e w = subst (λ z. EntersBy z s inner) cc (w.0, w.1, w.2)
-entered_by (Set name tag ps) d s inner mid c e w = subst (λ z. EntersBy z s inner) cc (w.0, w.1, w.2)
-entered_by (SequenceOf tag id cs) d s inner mid c e w = subst (λ z. EntersBy z s inner) cc (w.0, w.1, w.2)
-entered_by (SetOf tag id cs) d s inner mid c e w = subst (λ z. EntersBy z s inner) cc (w.0, w.1, w.2)
+entered_by (Sequence tag ps) d s inner mid c e w = let same : d ≡ sequence_header tag = cc in subst (λ z. EntersBy z s inner) same (w.0, w.1, w.2)
+entered_by (Set name tag ps) d s inner mid c e w = let same : d ≡ sequence_header tag = cc in subst (λ z. EntersBy z s inner) same (w.0, w.1, w.2)
+entered_by (SequenceOf tag id cs) d s inner mid c e w = let same : d ≡ list_header tag = cc in subst (λ z. EntersBy z s inner) same (w.0, w.1, w.2)
+entered_by (SetOf tag id cs) d s inner mid c e w = let same : d ≡ list_header tag = cc in subst (λ z. EntersBy z s inner) same (w.0, w.1, w.2)
 
 pub not_entered : (ty : «Type») (s : State) → IsHeaderOf ty None → IsEntered ty s s
 not_entered (Leaf kind tag c names) s e = refl
@@ -245,15 +245,15 @@ first_and_rest l h = split l (get_or l 0 0) h (first_again l)
 
 -- The header that is opened under BER is that of the octets.
 pub header_opened : (d : ConstructedHeader) (old : State) → (old.depth ≢ 0 → AreOctets old.rest) → (p : State) (c : Contents) (mid : State) → ConsumesOpening d old (Ok (p, c)) mid → old.rule ≡ Ber
-    → (n : ℕ) (closing : Bool) → closing ≡ p.closing → n + (length p.rest + octets_after closing (length mid.rest)) ≡ length old.rest → IsHeader old.rest n closing
+    → (n : ℕ) (closing : Bool) → closing ≡ p.closing → n + (length p.rest + octets_after p.closing (length mid.rest)) ≡ length old.rest → IsHeader old.rest n closing
 header_opened d old o p c mid w r n closing k m =
     let x = constructed_header_parsed d old.rule old.depth old.rest w.0 w.1 in
     let f = (header_parsed (form old.rule) (expected_header d old.rule) old.rest w.0 (o x.0) x.1).0 in
     let g : Frame (form Ber) old.rest w.0.tag w.0.bit w.0.rest w.0.extent = subst (λ z. Frame (form z) old.rest w.0.tag w.0.bit w.0.rest w.0.extent) r f in
     let after : mid.rest ≡ w.0.rest = ap (λ (z : State). z.rest) w.4 in
     subst (IsHeader old.rest n) (sym k)
-    (header_is old.rest w.0.tag w.0.bit w.0 g p (ap (λ (z : State). z.closing) w.2) (ap (λ (z : State). z.rest) w.2) n
-    (subst (λ z. n + (length p.rest + octets_after z (length w.0.rest)) ≡ length old.rest) k (subst (λ z. n + (length p.rest + octets_after closing (length z)) ≡ length old.rest) after m)))
+        (header_is old.rest w.0.tag w.0.bit w.0 g p (ap (λ (z : State). z.closing) w.2) (ap (λ (z : State). z.rest) w.2) n
+        (subst (λ z. n + (length p.rest + octets_after p.closing (length z)) ≡ length old.rest) after m))
 
 pub found_at : (types : List «Type») (rule : Codec) (id : ℕ) (input path : List ℕ) (p : Part) (s : State) → s ≡ start rule input → (below next : ℕ) (last : State) (end : ℕ)
     → Leads types path 18446744073709551615 id s below next last → IsSeen s.rest (length input) last.rest end → p.id.0 ≡ next → p.offset + length last.rest ≡ end

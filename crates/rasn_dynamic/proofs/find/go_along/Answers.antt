@@ -1,4 +1,4 @@
-use Rattle.std.proofs.Common.{◌≡◌, ◌∷◌, [], ◌++◌, append_assoc, append_nil, refl, sym, ap, ◌∙◌, subst}
+use Rattle.std.proofs.Common.{◌≡◌, ◌∷◌, [], ◌++◌, append_assoc, refl, sym, ap, ◌∙◌, subst}
 use Rattle.std.proofs.lemmas.List.{append-nil}
 use Rattle.rasn_schema.proofs.Lists.{nothing_left}
 use Rattle.rasn_dynamic.specs.Faults.{Leads}
@@ -36,7 +36,7 @@ pub returns-clause-found : goal.returns-clause-found
 returns-clause-found c =
     let i = c.loop-rest.invariant in
     let e = i.3 ∙ ap (λ l. i.2 ++ l) (nothing_left _ c.in_default.len_below) ∙ append-nil i.2 in
-    subst (λ z. Leads c.args.types.now z _ _ _ _ _ _) (sym e) i.4
+    subst (λ z. Leads c.args.types.now z c.args.place.now.levels c.args.place.now.id.0 c.args.place.now.decoder c.loop-rest.place.levels c.loop-rest.place.id.0 c.loop-rest.place.decoder) (sym e) i.4
 
 pub returns-clause-seen : goal.returns-clause-seen
 returns-clause-seen c = λ e. c.loop-rest.invariant.1

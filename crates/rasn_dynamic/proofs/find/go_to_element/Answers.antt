@@ -10,9 +10,11 @@ pub loop-element-init : goal.loop-element-init
 loop-element-init c = (omega arith, [], refl, refl)
 
 pub returns-then-number-index : goal.returns-then-number-index
-returns-then-number-index c =
+returns-then-number-index c = record {
+  found =
     let i = c.loop-element.invariant in
-    (refl, i.1, i.2 ∙ c.if-number-index.true, i.3, c.loop-element-test.ensures)
+    (refl, i.1, i.2 ∙ c.if-number-index.true, i.3, c.loop-element-test.ensures);
+}
 
 pub loop-element-smaller : goal.loop-element-smaller
 loop-element-smaller c =
@@ -30,6 +32,8 @@ loop-element-preserved c =
     )
 
 pub returns : goal.returns
-returns c =
+returns c = record {
+  found =
     let i = c.loop-element.invariant in
-    (i.1, c.loop-element.decoder, i.3, c.loop-element-test.ensures, omega (arith, i.2, i.0))
+    (i.1, c.loop-element.decoder, i.3, c.loop-element-test.ensures, omega (arith, i.2, i.0));
+}

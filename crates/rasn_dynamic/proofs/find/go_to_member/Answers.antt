@@ -14,12 +14,16 @@ pub loop-decoder-init : goal.loop-decoder-init
 loop-decoder-init c = ([], [], (refl, refl), tt)
 
 pub returns-then-number-index : goal.returns-then-number-index
-returns-then-number-index c =
+returns-then-number-index c = record {
+  found =
     let i = c.loop-decoder.invariant in
-    (c.in-Some.component.now, subst (λ z. Some c.in-Some.component.now ≡ slice_get c.args.components.now z) c.if-number-index.true c.in-Some.ensures.0, refl, i.0, i.1, i.2)
+    (c.in-Some.component.now, subst (λ z. Some c.in-Some.component.now ≡ slice_get c.args.components.now z) c.if-number-index.true c.in-Some.ensures.0, refl, i.0, i.1, i.2);
+}
 
-pub pass_member-requires-clause-lawful : goal.pass_member-requires-clause-lawful
-pass_member-requires-clause-lawful c = part_lawful (shape_of_type c.args.types.now c.args.below) c.args.components.now c.in-Some.number c.in-Some.component.now c.requires.lawful c.in-Some.ensures.0
+pub pass_member-requires : goal.pass_member-requires
+pass_member-requires c = record {
+  lawful = part_lawful (shape_of_type c.args.types.now c.args.below) c.args.components.now c.in-Some.number c.in-Some.component.now c.requires.lawful c.in-Some.ensures.0;
+}
 
 pub loop-decoder-smaller : goal.loop-decoder-smaller
 loop-decoder-smaller c =
@@ -38,6 +42,8 @@ loop-decoder-preserved c =
     )
 
 pub returns : goal.returns
-returns c =
+returns c = record {
+  found =
     let i = c.loop-decoder.invariant in
-    (i.0, i.1, c.loop-decoder.decoder, i.2, i.3, c.loop-decoder-test.ensures)
+    (i.0, i.1, c.loop-decoder.decoder, i.2, i.3, c.loop-decoder-test.ensures);
+}

@@ -5,9 +5,11 @@ use Rattle.rasn_schema.proofs.TypeShapes.{shape_below}
 use Rattle.rasn_dynamic.proofs.Parts.{leads_one, lawful_part, part_keeps, seen_through, seen_end, if_some, if_none}
 use Rattle.rasn_dynamic.proofs.find.go_to_part.Goals as goal
 
-pub go_inside-requires-clause-lawful : goal.go_inside-requires-clause-lawful
-go_inside-requires-clause-lawful c =
-    subst IsLawful (shape_below c.args.types.now c.args.place.now.levels (c.args.place.now.levels - 1) c.args.place.now.id.0 c.in-Some.ty.now (let n = c.if-place-eq0.false in omega arith) c.in-Some.ensures) c.requires.lawful
+pub go_inside-requires : goal.go_inside-requires
+go_inside-requires c = record {
+  lawful =
+    subst IsLawful (shape_below c.args.types.now c.args.place.now.levels (c.args.place.now.levels - 1) c.args.place.now.id.0 c.in-Some.ty.now (let n = c.if-place-eq0.false in omega arith) c.in-Some.ensures) c.requires.lawful;
+}
 
 pub returns-in-Some-2-clause-found : goal.returns-in-Some-2-clause-found
 returns-in-Some-2-clause-found c =

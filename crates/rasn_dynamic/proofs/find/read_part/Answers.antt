@@ -15,7 +15,7 @@ returns-in-Ok-clause-read c = record {
   rest = _;
   is = sym c.remaining-start.ensures.value ∙ c.octets_before.ensures ∙ ap (λ l. c.octets_before.result.now ++ l) c.remaining.ensures.value;
   reads = c.in-Ok.ensures.reads.exact;
-  header = subst (λ l. IsHeader l _ _) c.remaining-start.ensures.value c.in_ok-header_len.ensures;
+  header = subst (λ l. IsHeader l c.in_ok-header_len.header_len c.in_ok-header_len.is_indefinite) c.remaining-start.ensures.value c.in_ok-header_len.ensures;
 }
 
 pub returns-in-Ok-clause-at : goal.returns-in-Ok-clause-at

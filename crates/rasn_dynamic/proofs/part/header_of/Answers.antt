@@ -1,4 +1,4 @@
-use Rattle.std.proofs.Common.{arith, ◌≡◌, ap, ◌∙◌, length, subst}
+use Rattle.std.proofs.Common.{arith, ◌≡◌, ap, ◌∙◌, ◌-◌, length, subst}
 use Rattle.rasn_types.specs.declared.types.codec.Codec.TheVariants.{Ber}
 use Rattle.rasn_de.specs.State.{State}
 use Rattle.rasn_dynamic.specs.Faults.{start}
@@ -25,5 +25,6 @@ returns c =
     let short = inside_short c.prefix.result c.new-decoder.result c.in_ok-inner.ensures.octets _ _ _ c.in_ok-inner.ensures.exact in
     let whole = ap (λ (s : State). length s.rest) c.new-decoder.ensures in
     let left = ap length c.remaining.ensures.value in
-    subst (λ (s : State). IsHeader s.rest _ _) e
-    (header_opened c.prefix.result c.new-decoder.result c.in_ok-inner.ensures.octets _ _ _ c.in_ok-inner.ensures.exact (ap (λ (s : State). s.rule) e) _ _ c.may_be_closed.ensures (rw c.may_be_closed.ensures (omega (arith, short, whole, left, c.octets_after.ensures))))
+    let n = (length c.args.octets.now - c.octets_after.result) - length c.remaining.result.now in
+    subst (λ (s : State). IsHeader s.rest n c.may_be_closed.result) e
+    (header_opened c.prefix.result c.new-decoder.result c.in_ok-inner.ensures.octets _ _ _ c.in_ok-inner.ensures.exact (ap (λ (s : State). s.rule) e) n c.may_be_closed.result c.may_be_closed.ensures (omega (arith, short, whole, left, c.octets_after.ensures)))
