@@ -273,6 +273,7 @@ fn is_read_back(
     octets: &[u8],
 ) -> Result<bool, DecodeError>
     ensures ok { IfOk result (λ answer. IsReadBack answer (shape_of schema.now.types.items id.0) (tree_of value.now) octets.now) }
+    ensures octets { AreOctets octets.now }
     ensures memory_alone { IfErr result (λ e. IsOutOfMemory e.kind) }
 {
     match decode(alloc, Codec::Der, schema, id, octets) {

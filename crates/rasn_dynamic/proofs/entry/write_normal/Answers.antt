@@ -1,5 +1,5 @@
-use Rattle.std.proofs.Common.{subst, true, false, arith}
-use Rattle.rasn_de.proofs.Headers.Results.{octets_all}
+use Rattle.std.proofs.Common.{subst, true, false}
+use Rattle.rasn_types.specs.Framing.{AreOctets}
 use Rattle.rasn_schema.specs.Trees.{tree_of}
 use Rattle.rasn_dynamic.specs.Entry.{shape_of, IsReadBack}
 use Rattle.rasn_dynamic.proofs.Canonical.{normal_octets, not_read_back, memory_ran_out, not_written}
@@ -9,7 +9,7 @@ pub returns-then-is_same-clause-normal : goal.returns-then-is_same-clause-normal
 returns-then-is_same-clause-normal c = normal_octets (shape_of c.args.schema.now.types.items c.args.id.0) (tree_of c.args.value.now) c.in-Ok.octets.items c.in-Ok.ensures.ok.1 (subst (IsReadBack true (shape_of c.args.schema.now.types.items c.args.id.0) (tree_of c.args.value.now)) c.deref.ensures.value (subst (λ b. IsReadBack b (shape_of c.args.schema.now.types.items c.args.id.0) (tree_of c.args.value.now) c.deref.result.now) c.if-is_same.true c.in-Ok-is_read_back.ensures.ok))
 
 pub returns-then-is_same-clause-octets : goal.returns-then-is_same-clause-octets
-returns-then-is_same-clause-octets c = octets_all c.in-Ok.octets.items (λ i. omega (arith, c.type_inv.octets i))
+returns-then-is_same-clause-octets c = subst AreOctets c.deref.ensures.value c.is_read_back.ensures.octets
 
 pub returns-in-Ok-is_read_back-clause-fails : goal.returns-in-Ok-is_read_back-clause-fails
 returns-in-Ok-is_read_back-clause-fails c = not_read_back (shape_of c.args.schema.now.types.items c.args.id.0) (tree_of c.args.value.now) c.in-Ok.octets.items c.in-Ok.ensures.ok.1 (subst (IsReadBack false (shape_of c.args.schema.now.types.items c.args.id.0) (tree_of c.args.value.now)) c.deref.ensures.value (subst (λ b. IsReadBack b (shape_of c.args.schema.now.types.items c.args.id.0) (tree_of c.args.value.now) c.deref.result.now) c.if-is_same.false c.in-Ok-is_read_back.ensures.ok))
