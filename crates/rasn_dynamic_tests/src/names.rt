@@ -1,7 +1,7 @@
 //! Parts and types that are found by name.
 
 use crate::types::{A_PAIR, PAIR, TYPES, schema, value};
-use rasn_schema::{Schema, Type, TypeName, View, index_named, name_of_number};
+use rasn_schema::{Schema, Type, TypeId, TypeName, View, index_named, name_of_number};
 use rasn_schema_bench::types;
 use std::alloc::Global;
 
@@ -39,14 +39,19 @@ fn parts_are_found_by_name(rt: HostRuntime) {
     assert!(rt; are_found(rt.alloc()) == Some(true));
 }
 
-/// Returns the schema with a name.
+fn type_name(alloc: Global, name: &str, type_id: TypeId) -> Option<TypeName> {
+    Some(TypeName {
+        name: String::from_str(alloc, name).ok()?,
+        type_id,
+    })
+}
+
+/// Returns the schema with names, one of them of two types.
 fn named(alloc: Global) -> Option<Schema> {
-    let name = TypeName {
-        name: String::from_str(alloc, "Pair").ok()?,
-        type_id: PAIR,
-    };
     let mut names = Vec::new(alloc);
-    names.push(name).ok()?;
+    for (name, id) in [("Kind", TypeId(0)), ("Pair", PAIR), ("Pair", TypeId(0))] {
+        names.push(type_name(alloc, name, id)?).ok()?;
+    }
     Some(schema(alloc)?.with_names(names))
 }
 

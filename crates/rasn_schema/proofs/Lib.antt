@@ -14,3 +14,5 @@ pub mod Depth
 pub mod Clash
 pub mod Fitted
 pub mod ListsOf
+pub mod Untagged
+pub mod Parts

@@ -1,54 +1,78 @@
 -- The values that a value holds, and their names.
-use Rattle.std.specs.Prelude.{◌≡◌, ℕ, List, [], ◌∷◌, Some, slice_get}
+use Rattle.std.specs.Prelude.{◌≡◌, ◌≢◌, ◌<◌, ℕ, zero, suc, List, [], Some, slice_get}
 use Rattle.std.specs.String.{string_bytes}
+use Rattle.rasn_types.specs.declared.types.tag.Tag.{Tag}
 use Rattle.rasn_schema.specs.declared.type_id.TypeId.{TypeId}
 use Rattle.rasn_schema.specs.declared.types.Component.{Component}
 use Rattle.rasn_schema.specs.declared.types.Alternative.{Alternative}
 use Rattle.rasn_schema.specs.declared.types.«Type».{«Type»}
-use Rattle.rasn_schema.specs.declared.types.«Type».TheVariants.{Choice, Sequence, Set, SequenceOf, SetOf}
-use Rattle.rasn_schema.specs.declared.value.Value.{Value, Items', Elements', Chosen', items-the_row-Value}
+use Rattle.rasn_schema.specs.declared.types.«Type».TheVariants.{Tagged, Choice, Sequence, Set, SequenceOf, SetOf}
+use Rattle.rasn_schema.specs.declared.value.Value.{Value, Items', Elements', items-the_row-Value}
+use Rattle.rasn_schema.specs.Fitting.{IsChosen}
 
+-- ---- the type inside explicit tags
+
+abbrev pub IsTagged : «Type» → Type 0
+IsTagged (Tagged tag inner) = Unit {0}
+IsTagged _ = ⊥
+
+-- So many explicit tags lead from the type with number k to this one, which has none.
+unfoldable pub IsInside : List «Type» → ℕ → ℕ → «Type» → Type 0
+IsInside types zero k ty = (Some ty ≡ slice_get types k) × (IsTagged ty → ⊥)
+IsInside types (suc tags) k ty = (tag : Tag) × (inner : TypeId) × (Some (Tagged tag inner) ≡ slice_get types k) × IsInside types tags inner.0 ty
+
+-- The type with number k is this one, without its explicit tags.
+abbrev pub IsUntagged : List «Type» → ℕ → «Type» → Type 0
+IsUntagged types k ty = (tags : ℕ) × IsInside types tags k ty
+
+-- ---- parts by index
+
+-- The values of a list or a set.
 abbrev pub held_in : Value → List Value
 held_in (Items' _ row) = items-the_row-Value _ row
 held_in (Elements' _ row) = items-the_row-Value _ row
-held_in (Chosen' k _ w) = w ∷ []
 held_in _ = []
 
--- Component k has this name, and its type this number.
-abbrev pub IsComponentNamed : List Component → List ℕ → ℕ → TypeId → Type 0
-IsComponentNamed ps name k id = (c : Component) × (Some c ≡ slice_get ps k) × (string_bytes c.name ≡ name) × (c.type_id ≡ id)
-
--- An alternative has this name, and its type this number.
-abbrev pub IsAlternativeNamed : List Alternative → List ℕ → TypeId → Type 0
-IsAlternativeNamed ks name id = (i : ℕ) × (a : Alternative) × (Some a ≡ slice_get ks i) × (string_bytes a.name ≡ name) × (a.type_id ≡ id)
-
--- Part k of a value of this type has this name, and its type this number.
-abbrev pub IsPartNamed : «Type» → List ℕ → ℕ → TypeId → Type 0
-IsPartNamed (Sequence tag ps) name k id = IsComponentNamed ps.items name k id
-IsPartNamed (Set n tag ps) name k id = IsComponentNamed ps.items name k id
-IsPartNamed (Choice n ks) name k id = (k ≡ 0) × IsAlternativeNamed ks.items name id
-IsPartNamed _ name k id = ⊥
-
--- It is one of the types.
-abbrev pub IsOneOf : List «Type» → «Type» → Type 0
-IsOneOf types ty = (j : ℕ) × (Some ty ≡ slice_get types j)
-
--- The value is a part with this name of a value of one of the types.
-abbrev pub IsNamedPartOf : List «Type» → Value → List ℕ → TypeId → Value → Type 0
-IsNamedPartOf types v name id part = (k : ℕ) × (ty : «Type») × IsOneOf types ty × IsPartNamed ty name k id × (Some part ≡ slice_get (held_in v) k)
-
--- The type of component k has this number.
+-- The type of component i has this number.
 abbrev pub IsComponentType : List Component → ℕ → TypeId → Type 0
-IsComponentType ps k id = (c : Component) × (Some c ≡ slice_get ps k) × (c.type_id ≡ id)
+IsComponentType ps i id = (c : Component) × (Some c ≡ slice_get ps i) × (c.type_id ≡ id)
 
--- The type of component or element k of a value of this type has this number.
+-- The type of component or element i of a value of this type has this number.
 abbrev pub IsTypeOfPart : «Type» → ℕ → TypeId → Type 0
-IsTypeOfPart (Sequence tag ps) k id = IsComponentType ps.items k id
-IsTypeOfPart (Set tag name ps) k id = IsComponentType ps.items k id
-IsTypeOfPart (SequenceOf tag element c) k id = element ≡ id
-IsTypeOfPart (SetOf tag element c) k id = element ≡ id
-IsTypeOfPart _ k id = ⊥
+IsTypeOfPart (Sequence tag ps) i id = IsComponentType ps.items i id
+IsTypeOfPart (Set name tag ps) i id = IsComponentType ps.items i id
+IsTypeOfPart (SequenceOf tag element c) i id = element ≡ id
+IsTypeOfPart (SetOf tag element c) i id = element ≡ id
+IsTypeOfPart _ i id = ⊥
 
--- The value is component or element k of a value of one of the types.
-abbrev pub IsPartAt : List «Type» → Value → ℕ → TypeId → Value → Type 0
-IsPartAt types v k id part = ((ty : «Type») × IsOneOf types ty × IsTypeOfPart ty k id) × (Some part ≡ slice_get (held_in v) k)
+-- The value is component or element i of a value of type k.
+abbrev pub IsPartAt : List «Type» → ℕ → Value → ℕ → TypeId → Value → Type 0
+IsPartAt types k v i id part = ((ty : «Type») × IsUntagged types k ty × IsTypeOfPart ty i id) × (Some part ≡ slice_get (held_in v) i)
+
+-- ---- parts by name
+
+-- Component i is the first with this name, and its type has this number.
+abbrev pub IsComponentNamed : List Component → List ℕ → ℕ → TypeId → Type 0
+IsComponentNamed ps name i id = ((c : Component) × (Some c ≡ slice_get ps i) × (string_bytes c.name ≡ name) × (c.type_id ≡ id))
+    × ((j : ℕ) (c : Component) → j < i → Some c ≡ slice_get ps j → string_bytes c.name ≢ name)
+
+abbrev pub IsComponentValue : List Component → List ℕ → Value → TypeId → Value → Type 0
+IsComponentValue ps name v id part = (i : ℕ) × IsComponentNamed ps name i id × (Some part ≡ slice_get (held_in v) i)
+
+-- Alternative i has this name, and its type this number.
+abbrev pub IsAlternativeNamed : List Alternative → List ℕ → ℕ → TypeId → Type 0
+IsAlternativeNamed ks name i id = (a : Alternative) × (Some a ≡ slice_get ks i) × (string_bytes a.name ≡ name) × (a.type_id ≡ id)
+
+abbrev pub IsChosenValue : List Alternative → List ℕ → Value → TypeId → Value → Type 0
+IsChosenValue ks name v id part = IsChosen (λ i w. IsAlternativeNamed ks name i id × (w ≡ part)) v
+
+-- The part with this name of a value of this type: a component, or the alternative that is chosen.
+abbrev pub IsPartNamed : «Type» → List ℕ → Value → TypeId → Value → Type 0
+IsPartNamed (Sequence tag ps) name v id part = IsComponentValue ps.items name v id part
+IsPartNamed (Set n tag ps) name v id part = IsComponentValue ps.items name v id part
+IsPartNamed (Choice n ks) name v id part = IsChosenValue ks.items name v id part
+IsPartNamed _ name v id part = ⊥
+
+-- The value is the part with this name of a value of type k.
+abbrev pub IsNamedPartOf : List «Type» → ℕ → Value → List ℕ → TypeId → Value → Type 0
+IsNamedPartOf types k v name id part = (ty : «Type») × IsUntagged types k ty × IsPartNamed ty name v id part

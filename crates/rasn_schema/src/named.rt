@@ -5,7 +5,7 @@ ghost use Rattle.std.specs.String.{string_bytes};
 ghost use Rattle.rasn_types.specs.Truth.{IsWhether};
 ghost use Rattle.rasn_schema.specs.declared.types.NamedNumber.{NamedNumber};
 ghost use Rattle.rasn_schema.specs.declared.named.TypeName.{TypeName};
-ghost use Rattle.rasn_schema.specs.Named.{IsNamed};
+ghost use Rattle.rasn_schema.specs.Named.{IsFirstNamed};
 
 use crate::type_id::TypeId;
 use crate::types::{Alternative, Component, NamedNumber};
@@ -88,7 +88,7 @@ pub fn index_named<N: Named>(list: &[N], name: &str) -> Option<usize>
 pub fn type_named(names: &[TypeName], name: &str) -> Option<TypeId>
     ensures { MatchOption result
         ((j : ℕ) (n : TypeName) → Some n ≡ slice_get names.now j → string_bytes n.name ≢ name.now)
-        (λ id. IsNamed names.now name.now id) }
+        (λ id. IsFirstNamed names.now name.now id) }
 {
     let index = index_named(names, name)?;
     Some(names[index].type_id)

@@ -1,6 +1,7 @@
 //! Values as text, in the value notation of X.680 as far as the type or its names are known.
 use crate::defaults::components_of;
 use crate::named::name_of_number;
+use crate::schema::Schema;
 use crate::types::{LeafKind, NamedNumber, Type};
 use crate::value::Value;
 use crate::view::{View, part_type, untagged};
@@ -104,12 +105,16 @@ fn part_name<'types>(ty: Option<&'types Type>, index: usize) -> Option<&'types s
 }
 
 /// Returns the type of the part with this index, inside its explicit tags.
-fn part_of<'types>(types: &'types [Type], ty: Option<&Type>, index: usize) -> Option<&'types Type> {
+fn part_of<'schema>(
+    schema: Option<&'schema Schema>,
+    ty: Option<&Type>,
+    index: usize,
+) -> Option<&'schema Type> {
     let id = match ty? {
         Type::Choice { alternatives, .. } => alternatives.get(index)?.type_id,
         ty => part_type(ty, index)?,
     };
-    untagged(types, id)
+    untagged(schema?, id)
 }
 
 /// Writes a value. Names are those of its type, if it is given.
@@ -117,7 +122,7 @@ fn part_of<'types>(types: &'types [Type], ty: Option<&Type>, index: usize) -> Op
 fn write_value<W: fmt::Write>(
     f: &mut fmt::Formatter<W>,
     value: &Value<'_>,
-    types: &[Type],
+    schema: Option<&Schema>,
     ty: Option<&Type>,
 ) -> fmt::Result {
     match value {
@@ -131,9 +136,9 @@ fn write_value<W: fmt::Write>(
         Value::Arcs(arcs) => write!(f, "{arcs}"),
         Value::Instant(time) => write!(f, "\"{time}\""),
         Value::Day(date) => write!(f, "\"{date}\""),
-        Value::Items(values) => write_values(f, values.as_slice(), types, ty),
-        Value::Elements(values) => write_values(f, values.as_slice(), types, ty),
-        Value::Chosen(index, value) => write_chosen(f, *index, value, types, ty),
+        Value::Items(values) => write_values(f, values.as_slice(), schema, ty),
+        Value::Elements(values) => write_values(f, values.as_slice(), schema, ty),
+        Value::Chosen(index, value) => write_chosen(f, *index, value, schema, ty),
         Value::Absent => f.write_str("absent"),
     }
 }
@@ -143,7 +148,7 @@ fn write_value<W: fmt::Write>(
 fn write_values<W: fmt::Write>(
     f: &mut fmt::Formatter<W>,
     values: &[Value<'_>],
-    types: &[Type],
+    schema: Option<&Schema>,
     ty: Option<&Type>,
 ) -> fmt::Result {
     let mut first = true;
@@ -157,7 +162,7 @@ fn write_values<W: fmt::Write>(
             f.write_str(name)?;
             f.write_char(' ')?;
         }
-        write_value(f, value, types, part_of(types, ty, index))?;
+        write_value(f, value, schema, part_of(schema, ty, index))?;
     }
     f.write_str(if first { "{ }" } else { " }" })
 }
@@ -168,7 +173,7 @@ fn write_chosen<W: fmt::Write>(
     f: &mut fmt::Formatter<W>,
     index: usize,
     value: &Value<'_>,
-    types: &[Type],
+    schema: Option<&Schema>,
     ty: Option<&Type>,
 ) -> fmt::Result {
     match part_name(ty, index) {
@@ -176,27 +181,27 @@ fn write_chosen<W: fmt::Write>(
         None => write!(f, "[{index}]")?,
     }
     f.write_str(" : ")?;
-    write_value(f, value, types, part_of(types, ty, index))
+    write_value(f, value, schema, part_of(schema, ty, index))
 }
 
 /// Shows a value without names, as `{ 5, TRUE }`.
 impl fmt::Display for Value<'_> {
     fn fmt<W: fmt::Write>(&self, f: &mut fmt::Formatter<W>) -> fmt::Result {
-        write_value(f, self, &[], None)
+        write_value(f, self, None, None)
     }
 }
 
 /// Shows a value as [`Display`](fmt::Display) does.
 impl fmt::Debug for Value<'_> {
     fn fmt<W: fmt::Write>(&self, f: &mut fmt::Formatter<W>) -> fmt::Result {
-        write_value(f, self, &[], None)
+        write_value(f, self, None, None)
     }
 }
 
 /// Shows a value with the names of its type, as `{ version 2, critical TRUE }`.
 impl fmt::Display for View<'_, '_> {
     fn fmt<W: fmt::Write>(&self, f: &mut fmt::Formatter<W>) -> fmt::Result {
-        let types = self.schema.types();
-        write_value(f, self.value, types, untagged(types, self.type_id))
+        let schema = self.schema;
+        write_value(f, self.value, Some(schema), untagged(schema, self.type_id))
     }
 }

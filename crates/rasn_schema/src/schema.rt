@@ -24,7 +24,7 @@ pub struct Schema {
 
 impl Schema {
     ghost use Rattle.std.specs.Prelude.{◌≡◌, IfOk, IfErr, MatchOption, Some, ℕ};
-    ghost use Rattle.rasn_schema.specs.Named.{IsNamed, IsUnnamed};
+    ghost use Rattle.rasn_schema.specs.Named.{IsFirstNamed, IsUnnamed};
     ghost use Rattle.rasn_types.specs.Lawful.{IsLawful};
     ghost use Rattle.rasn_types.specs.declared.types.codec.Codec.{Codec};
     ghost use Rattle.rasn_schema.specs.Shapes.{shape_of_type};
@@ -39,6 +39,7 @@ impl Schema {
     /// whether defaults are values of their types last. The types are dropped.
     pub fn new(types: Vec<Type>) -> Result<Schema, SchemaError>
         ensures ok { IfOk result (λ schema. schema.types ≡ types) }
+        ensures names { IfOk result (λ schema. schema.names ≡ None) }
         ensures fault { IfErr result (λ error. IsFault types.items error) }
         ensures exact { IfErr result (λ error. IsSchema types.items → ⊥) }
     {
@@ -69,7 +70,8 @@ impl Schema {
 
     /// Returns the schema with these names of types.
     pub fn with_names(self, names: Vec<TypeName>) -> Schema
-        ensures { result.types ≡ self.types }
+        ensures types { result.types ≡ self.types }
+        ensures names { result.names ≡ Some names }
     {
         let Schema { types, .. } = self;
         Schema {
@@ -80,7 +82,7 @@ impl Schema {
 
     /// Returns the number of the first type with this name, if there is one.
     pub fn type_named(&self, name: &str) -> Option<TypeId>
-        ensures { MatchOption result (IsUnnamed self.now.names name.now) (λ id. (names : _) × (self.now.names ≡ Some names) × IsNamed names.items name.now id) }
+        ensures { MatchOption result (IsUnnamed self.now.names name.now) (λ id. (names : _) × (self.now.names ≡ Some names) × IsFirstNamed names.items name.now id) }
     {
         match &self.names {
             Some(names) => type_named(names, name),

@@ -1,7 +1,10 @@
 //! Access into values by index and by name.
-ghost use Rattle.std.specs.Prelude.{◌≡◌, ℕ, Some, slice_get, IfSome};
+ghost use Rattle.std.specs.Prelude.{◌≡◌, ℕ, slice_get, option_copied, IfSome, MatchOption};
 ghost use Rattle.std.specs.String.{string_bytes};
-ghost use Rattle.rasn_schema.specs.Held.{held_in, IsComponentNamed, IsAlternativeNamed, IsPartNamed, IsNamedPartOf, IsOneOf, IsComponentType, IsTypeOfPart, IsPartAt};
+ghost use Rattle.rasn_schema.specs.declared.type_id.TypeId.{TypeId};
+ghost use Rattle.rasn_schema.specs.declared.types.«Type».{«Type»};
+ghost use Rattle.rasn_schema.specs.declared.value.Value.{Value};
+ghost use Rattle.rasn_schema.specs.Held.{held_in, IsUntagged, IsComponentType, IsTypeOfPart, IsPartAt, IsComponentValue, IsChosenValue, IsPartNamed, IsNamedPartOf};
 
 use crate::named::{has_name, index_named};
 use crate::schema::Schema;
@@ -21,22 +24,18 @@ pub struct View<'view, 'input> {
 }
 
 /// Returns the type with this number, or the one inside its explicit tags.
-pub fn untagged(types: &[Type], id: TypeId) -> Option<&Type>
-    ensures { IfSome result (λ ty. IsOneOf types.now ty.now) }
+pub fn untagged(schema: &Schema, id: TypeId) -> Option<&Type>
+    ensures { MatchOption result ((ty : «Type») → IsUntagged schema.now.types.items id.0 ty → ⊥) (λ ty. IsUntagged schema.now.types.items id.0 ty.now) }
 {
-    let mut ty = type_at(types, id)?;
-    for _ in 0..types.len() {
-        match ty {
-            Type::Tagged { inner, .. } => ty = type_at(types, *inner)?,
-            _ => return Some(ty),
-        }
+    match type_at(schema.types(), id)? {
+        Type::Tagged { inner, .. } => untagged(schema, *inner),
+        ty => Some(ty),
     }
-    Some(ty)
 }
 
 /// Returns the number of the type of the component with this index.
 fn component_type(components: &[Component], index: usize) -> Option<TypeId>
-    ensures { IfSome result (IsComponentType components.now index) }
+    ensures { MatchOption result ((id : TypeId) → IsComponentType components.now index id → ⊥) (λ id. IsComponentType components.now index id) }
 {
     let component = component_at(components, index)?;
     Some(component.type_id)
@@ -44,7 +43,7 @@ fn component_type(components: &[Component], index: usize) -> Option<TypeId>
 
 /// Returns the number of the type of the part with this index.
 pub fn part_type(ty: &Type, index: usize) -> Option<TypeId>
-    ensures { IfSome result (IsTypeOfPart ty.now index) }
+    ensures { MatchOption result ((id : TypeId) → IsTypeOfPart ty.now index id → ⊥) (λ id. IsTypeOfPart ty.now index id) }
 {
     match ty {
         Type::Sequence { components, .. } => component_type(components.as_slice(), index),
@@ -58,14 +57,14 @@ fn value_at<'view, 'input>(
     values: &'view [Value<'input>],
     index: usize,
 ) -> Option<&'view Value<'input>>
-    ensures { IfSome result (λ part. Some part.now ≡ slice_get values.now index) }
+    ensures { option_copied result ≡ slice_get values.now index }
 {
     values.get(index)
 }
 
 /// Returns the value with this index among those that a value holds.
 fn part_at<'view, 'input>(value: &'view Value<'input>, index: usize) -> Option<&'view Value<'input>>
-    ensures { IfSome result (λ part. Some part.now ≡ slice_get (held_in value.now) index) }
+    ensures { option_copied result ≡ slice_get (held_in value.now) index }
 {
     match value {
         Value::Items(values) => value_at(values.as_slice(), index),
@@ -75,25 +74,27 @@ fn part_at<'view, 'input>(value: &'view Value<'input>, index: usize) -> Option<&
 }
 
 fn component_at(components: &[Component], index: usize) -> Option<&Component>
-    ensures { IfSome result (λ c. Some c.now ≡ slice_get components.now index) }
+    ensures { option_copied result ≡ slice_get components.now index }
 {
     components.get(index)
 }
 
 fn alternative_at(alternatives: &[Alternative], index: usize) -> Option<&Alternative>
-    ensures { IfSome result (λ a. Some a.now ≡ slice_get alternatives.now index) }
+    ensures { option_copied result ≡ slice_get alternatives.now index }
 {
     alternatives.get(index)
 }
 
-/// Returns the alternative of a CHOICE with this name, and its value, if it is the one that is
-/// chosen.
+/// Returns the value of the alternative that is chosen, and the number of its type, if the
+/// alternative has this name.
 fn chosen_named<'view, 'input>(
     alternatives: &'view [Alternative],
     value: &'view Value<'input>,
     name: &str,
 ) -> Option<(TypeId, &'view Value<'input>)>
-    ensures { IfSome result (λ part. (k : ℕ) × ((k ≡ 0) × IsAlternativeNamed alternatives.now name.now part.0) × (Some part.1.now ≡ slice_get (held_in value.now) k)) }
+    ensures { MatchOption result
+        ((id : TypeId) (part : Value) → IsChosenValue alternatives.now name.now value.now id part → ⊥)
+        (λ part. IsChosenValue alternatives.now name.now value.now part.0 part.1.now) }
 {
     let Value::Chosen(index, inner) = value else {
         return None;
@@ -106,26 +107,30 @@ fn chosen_named<'view, 'input>(
     }
 }
 
-/// Returns the component with this name, and its value.
+/// Returns the value of the first component with this name, and the number of its type.
 fn component_value<'view, 'input>(
     components: &'view [Component],
     value: &'view Value<'input>,
     name: &str,
 ) -> Option<(TypeId, &'view Value<'input>)>
-    ensures { IfSome result (λ part. (k : ℕ) × IsComponentNamed components.now name.now k part.0 × (Some part.1.now ≡ slice_get (held_in value.now) k)) }
+    ensures { MatchOption result
+        ((id : TypeId) (part : Value) → IsComponentValue components.now name.now value.now id part → ⊥)
+        (λ part. IsComponentValue components.now name.now value.now part.0 part.1.now) }
 {
     let index = index_named(components, name)?;
     let component = component_at(components, index)?;
     Some((component.type_id, part_at(value, index)?))
 }
 
-/// Returns the part with this name, and its value.
+/// Returns the part with this name, and the number of its type.
 fn part_named<'view, 'input>(
     ty: &'view Type,
     value: &'view Value<'input>,
     name: &str,
 ) -> Option<(TypeId, &'view Value<'input>)>
-    ensures { IfSome result (λ part. (k : ℕ) × IsPartNamed ty.now name.now k part.0 × (Some part.1.now ≡ slice_get (held_in value.now) k)) }
+    ensures { MatchOption result
+        ((id : TypeId) (part : Value) → IsPartNamed ty.now name.now value.now id part → ⊥)
+        (λ part. IsPartNamed ty.now name.now value.now part.0 part.1.now) }
 {
     match ty {
         Type::Sequence { components, .. } => component_value(components.as_slice(), value, name),
@@ -136,11 +141,14 @@ fn part_named<'view, 'input>(
 }
 
 impl<'view, 'input> View<'view, 'input> {
-    /// Returns the component or the element with this index, counted from 0.
+    /// Returns the component or the element with this index, counted from 0, if there is one.
     pub fn at(&self, index: usize) -> Option<View<'view, 'input>>
-        ensures { IfSome result (λ part. IsPartAt self.now.schema.now.types.items self.now.value.now index part.type_id part.value.now) }
+        ensures part { MatchOption result
+            ((id : TypeId) (part : Value) → IsPartAt self.now.schema.now.types.items self.now.type_id.0 self.now.value.now index id part → ⊥)
+            (λ part. IsPartAt self.now.schema.now.types.items self.now.type_id.0 self.now.value.now index part.type_id part.value.now) }
+        ensures schema { IfSome result (λ part. part.schema.now ≡ self.now.schema.now) }
     {
-        let ty = untagged(self.schema.types(), self.type_id)?;
+        let ty = untagged(self.schema, self.type_id)?;
         Some(View {
             schema: self.schema,
             type_id: part_type(ty, index)?,
@@ -148,12 +156,15 @@ impl<'view, 'input> View<'view, 'input> {
         })
     }
 
-    /// Returns the component with this name, or the value of the alternative with this name, if it
-    /// is the one that is chosen.
+    /// Returns the first component with this name, or the value of the alternative with this name,
+    /// if it is the one that is chosen.
     pub fn get(&self, name: &str) -> Option<View<'view, 'input>>
-        ensures { IfSome result (λ part. IsNamedPartOf self.now.schema.now.types.items self.now.value.now name.now part.type_id part.value.now) }
+        ensures part { MatchOption result
+            ((id : TypeId) (part : Value) → IsNamedPartOf self.now.schema.now.types.items self.now.type_id.0 self.now.value.now name.now id part → ⊥)
+            (λ part. IsNamedPartOf self.now.schema.now.types.items self.now.type_id.0 self.now.value.now name.now part.type_id part.value.now) }
+        ensures schema { IfSome result (λ part. part.schema.now ≡ self.now.schema.now) }
     {
-        let ty = untagged(self.schema.types(), self.type_id)?;
+        let ty = untagged(self.schema, self.type_id)?;
         let (type_id, value) = part_named(ty, self.value, name)?;
         Some(View {
             schema: self.schema,

@@ -12,4 +12,4 @@ returns c =
     let r = c.index-names-index.result in
     let within : i < length l = slice_get_within l i p.0 (sym p.1) in
     let here = read_at l i r within c.index-names-index.is in
-    (i, p.0, p.1, p.2, ap (λ (n : TypeName). n.type_id) (some_is p.0 r (p.1 ∙ sym here) ∙ c.index-names-index.is))
+    (i, p.0, p.1, p.2, ap (λ (n : TypeName). n.type_id) (some_is p.0 r (p.1 ∙ sym here) ∙ c.index-names-index.is), c.in_ok-index.ensures.1)
