@@ -1,5 +1,5 @@
 -- Where in the input a value couldn't be read.
-use Rattle.std.proofs.Common.{◌≡◌, ◌≢◌, ℕ, zero, suc, ◌+◌, ◌-◌, ◌<◌, ◌≤◌, List, [], ◌∷◌, ◌++◌, inl, inr, Vec, Global, String, length, length-append, append_assoc, get_or, Option, Some, None, Result, Ok, Err, Bool, true, false, refl, sym, ap, ◌∙◌, subst, arith}
+use Rattle.std.proofs.Common.{◌≡◌, ◌≢◌, ℕ, suc, ◌+◌, ◌≤◌, List, [], ◌∷◌, ◌++◌, inl, inr, Vec, Global, String, length, length-append, append_assoc, Option, Some, None, Result, Ok, Err, Bool, false, refl, sym, ap, ◌∙◌, subst, arith}
 use Rattle.std.specs.Prelude.{◌⊎◌, IfErr, reverse, slice_get}
 use Rattle.std.proofs.lemmas.List.{append-nil, reverse-append}
 use Rattle.rasn_types.specs.declared.types.codec.Codec.{Codec}
@@ -10,14 +10,13 @@ use Rattle.rasn_types.specs.Grammar.{Reads}
 use Rattle.rasn_types.specs.Shapes.{Shape, Tree, Same, choice}
 use Rattle.rasn_de.specs.Headers.{Header}
 use Rattle.rasn_de.specs.Segments.{octets_inside}
-use Rattle.rasn_de.specs.ParserViews.{extent}
 use Rattle.rasn_de.specs.State.{State, at, IsEnd, Call}
 use Rattle.rasn_de.specs.Outcomes.{Exact, refusal}
 use Rattle.rasn_de.specs.Decodes.{Decodes, DecodesBy}
 use Rattle.rasn_de.specs.SequenceOf.{DecodesInTurn, DecodesInTurnFrom, DecodesSized}
 use Rattle.rasn_de.specs.declared.ber.de.parser.Contents.{Contents}
 use Rattle.rasn_de.specs.declared.ber.de.constructed.ConstructedHeader.{ConstructedHeader}
-use Rattle.rasn_de.specs.Constructed.{expected_header, constructed_header_at, contents_state, is_indefinite_extent, Keeps, ConsumesOpening, DecodesInside, sequence_header, prefix_header}
+use Rattle.rasn_de.specs.Constructed.{expected_header, constructed_header_at, is_indefinite_extent, ConsumesOpening, DecodesInside, sequence_header, prefix_header}
 use Rattle.rasn_de.proofs.Headers.Ends.{IsEnd-refl, IsEnd-trans}
 use Rattle.rasn_de.proofs.Headers.Frames.{header_parsed}
 use Rattle.rasn_de.proofs.Constructed.Contents.{constructed_header_parsed}
@@ -44,7 +43,7 @@ use Rattle.rasn_dynamic.specs.Calls.{IsDefaultOf, IsMade}
 use Rattle.rasn_dynamic.specs.Typed.{element_count}
 use Rattle.rasn_dynamic.specs.declared.trace.Fault.{Fault}
 use Rattle.rasn_dynamic.specs.declared.refusal.Refusal.{Refusal}
-use Rattle.rasn_dynamic.specs.Faults.{IsMarked, IsStepped, IsMoved, octets_after, IsWithin, IsComponentAt, ComponentsInTurn, IsMember, IsMemberAt, IsElementAt, IsAlternativeAt, IsOnly, IsPart, EntersBy, Enters, Leads, HasPath, IsFault, IsFaultIn, IsFaultOf, IsFaultInside, Told, TellsOf, IsRefusalOf, IsLocated, FailsAt, FailsItself, ReadsEachPart, StopsAtChoice, StopsInElements, StopsInOrder, StopsInSequence, StopsInSet, StopsAtComponent, IsDefaultWritten, TakesNothing, start}
+use Rattle.rasn_dynamic.specs.Faults.{IsMarked, IsStepped, IsMoved, octets_after, IsWithin, IsComponentAt, ComponentsInTurn, IsMember, IsMemberAt, IsElementAt, IsAlternativeAt, IsOnly, IsPart, Leads, HasPath, IsFault, IsFaultIn, IsFaultOf, IsFaultInside, Told, TellsOf, IsRefusalOf, IsLocated, FailsAt, FailsItself, ReadsEachPart, StopsAtChoice, StopsInElements, StopsInOrder, StopsInSequence, StopsInSet, StopsAtComponent, IsDefaultWritten, TakesNothing, start}
 
 -- ---- lists
 

@@ -18,3 +18,4 @@ pub mod UnfitParts
 pub mod LeafWritten
 pub mod Faults
 pub mod Parts
+pub mod Worked

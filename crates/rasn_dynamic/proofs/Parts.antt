@@ -1,5 +1,5 @@
 -- The way to the part at the end of a path.
-use Rattle.std.proofs.Common.{◌≡◌, ◌≢◌, ℕ, zero, suc, ◌+◌, ◌-◌, ◌<◌, ◌≤◌, List, [], ◌∷◌, ◌++◌, length, take, drop, get_or, Vec, Global, String, Option, length-append, append_assoc, Some, None, Ok, Bool, true, false, refl, sym, ap, ◌∙◌, subst, arith}
+use Rattle.std.proofs.Common.{◌≡◌, ◌≢◌, ℕ, suc, ◌+◌, ◌-◌, ◌<◌, ◌≤◌, List, [], ◌∷◌, ◌++◌, length, take, drop, get_or, Vec, Global, String, Option, length-append, append_assoc, Some, None, Ok, Bool, true, false, refl, sym, ap, ◌∙◌, subst, arith}
 use Rattle.std.specs.Prelude.{slice_get, MatchOption, MatchBool}
 use Rattle.std.proofs.lemmas.List.{append-nil}
 use Rattle.rasn_types.specs.declared.types.tag.Tag.{Tag}
@@ -16,7 +16,6 @@ use Rattle.rasn_de.specs.Headers.{Header}
 use Rattle.rasn_de.specs.Segments.{octets_inside}
 use Rattle.rasn_de.specs.Constructed.{sequence_header, list_header, prefix_header, ConsumesOpening, expected_header, is_indefinite_extent}
 use Rattle.rasn_de.specs.Decodes.{Decodes}
-use Rattle.rasn_de.specs.SequenceOf.{DecodesInTurn}
 use Rattle.rasn_de.proofs.Headers.Ends.{IsEnd-refl, IsEnd-trans}
 use Rattle.rasn_schema.specs.declared.types.«Type».{«Type»}
 use Rattle.rasn_schema.specs.declared.types.«Type».TheVariants.{Leaf, Enumerated, Any, Tagged, Choice, Sequence, Set, SequenceOf, SetOf}
@@ -252,8 +251,8 @@ header_opened d old o p c mid w r n closing k m =
     let g : Frame (form Ber) old.rest w.0.tag w.0.bit w.0.rest w.0.extent = subst (λ z. Frame (form z) old.rest w.0.tag w.0.bit w.0.rest w.0.extent) r f in
     let after : mid.rest ≡ w.0.rest = ap (λ (z : State). z.rest) w.4 in
     subst (IsHeader old.rest n) (sym k)
-        (header_is old.rest w.0.tag w.0.bit w.0 g p (ap (λ (z : State). z.closing) w.2) (ap (λ (z : State). z.rest) w.2) n
-        (subst (λ z. n + (length p.rest + octets_after p.closing (length z)) ≡ length old.rest) after m))
+    (header_is old.rest w.0.tag w.0.bit w.0 g p (ap (λ (z : State). z.closing) w.2) (ap (λ (z : State). z.rest) w.2) n
+    (subst (λ z. n + (length p.rest + octets_after p.closing (length z)) ≡ length old.rest) after m))
 
 pub found_at : (types : List «Type») (rule : Codec) (id : ℕ) (input path : List ℕ) (p : Part) (s : State) → s ≡ start rule input → (below next : ℕ) (last : State) (end : ℕ)
     → Leads types path 18446744073709551615 id s below next last → IsSeen s.rest (length input) last.rest end → p.id.0 ≡ next → p.offset + length last.rest ≡ end

@@ -8,3 +8,4 @@ pub mod Found
 pub mod Faults
 pub mod Paths
 pub mod Parts
+pub mod Worked

@@ -1,5 +1,5 @@
 -- Where the part at the end of a path is.
-use Rattle.std.specs.Prelude.{◌≡◌, ◌≢◌, ◌⊎◌, ◌+◌, ◌≤◌, ℕ, suc, List, [], ◌∷◌, ◌++◌, length, Bool, true, false, slice_get, Option, Some, None, Ok}
+use Rattle.std.specs.Prelude.{◌≡◌, ◌≢◌, ◌⊎◌, ◌+◌, ◌≤◌, ℕ, suc, List, ◌∷◌, ◌++◌, length, Bool, true, false, slice_get, Option, Some, None, Ok}
 use Rattle.rasn_types.specs.declared.types.codec.Codec.{Codec}
 use Rattle.rasn_types.specs.declared.types.codec.Codec.TheVariants.{Ber}
 use Rattle.rasn_types.specs.declared.types.tag.Tag.{Tag}

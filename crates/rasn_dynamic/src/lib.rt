@@ -16,6 +16,7 @@ mod refusal;
 mod set;
 mod trace;
 mod unfit;
+mod worked;
 mod write_leaf;
 mod writer;
 
@@ -29,3 +30,4 @@ pub use path::ValuePath;
 pub use rasn::NormaliseError;
 pub use rasn_schema::fits;
 pub use refusal::{NamedRefusal, Refusal};
+pub use worked::worked_places;

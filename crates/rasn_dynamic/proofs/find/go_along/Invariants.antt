@@ -1,4 +1,4 @@
-use Rattle.std.proofs.Common.{◌≡◌, ◌≤◌, ◌++◌, ℕ, List, length}
+use Rattle.std.proofs.Common.{◌≡◌, ◌++◌, ℕ, List, length}
 use Rattle.rasn_types.specs.Lawful.{IsLawful}
 use Rattle.rasn_schema.specs.Shapes.{shape_of_type}
 use Rattle.rasn_dynamic.specs.Faults.{Leads}

@@ -1,4 +1,4 @@
-use Rattle.std.proofs.Common.{arith, ◌∷◌, [], ◌++◌, ◌+◌, length, length-append, refl, ap, ◌∙◌}
+use Rattle.std.proofs.Common.{arith, ◌∷◌, [], ◌++◌, ◌+◌, length-append, refl, ap, ◌∙◌}
 use Rattle.rasn_de.specs.Decodes.{Decodes}
 use Rattle.rasn_de.proofs.Constructed.NextElement.{passes_more}
 use Rattle.rasn_schema.specs.Trees.{tree_of}
@@ -12,8 +12,8 @@ loop-element-init c = (omega arith, [], refl, refl)
 pub returns-then-number-index : goal.returns-then-number-index
 returns-then-number-index c = record {
   found =
-    let i = c.loop-element.invariant in
-    (refl, i.1, i.2 ∙ c.if-number-index.true, i.3, c.loop-element-test.ensures);
+      let i = c.loop-element.invariant in
+      (refl, i.1, i.2 ∙ c.if-number-index.true, i.3, c.loop-element-test.ensures);
 }
 
 pub loop-element-smaller : goal.loop-element-smaller
@@ -34,6 +34,6 @@ loop-element-preserved c =
 pub returns : goal.returns
 returns c = record {
   found =
-    let i = c.loop-element.invariant in
-    (i.1, c.loop-element.decoder, i.3, c.loop-element-test.ensures, omega (arith, i.2, i.0));
+      let i = c.loop-element.invariant in
+      (i.1, c.loop-element.decoder, i.3, c.loop-element-test.ensures, omega (arith, i.2, i.0));
 }

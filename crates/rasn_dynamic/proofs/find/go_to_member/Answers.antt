@@ -1,4 +1,4 @@
-use Rattle.std.proofs.Common.{◌≡◌, ◌∷◌, [], ◌++◌, Some, refl, sym, subst}
+use Rattle.std.proofs.Common.{◌≡◌, ◌∷◌, [], ◌++◌, Some, refl, subst}
 use Rattle.std.specs.Prelude.{slice_get}
 use Rattle.rasn_types.specs.Shapes.{Tree, chosen, choice}
 use Rattle.rasn_de.specs.Decodes.{Decodes}
@@ -16,8 +16,8 @@ loop-decoder-init c = ([], [], (refl, refl), tt)
 pub returns-then-number-index : goal.returns-then-number-index
 returns-then-number-index c = record {
   found =
-    let i = c.loop-decoder.invariant in
-    (c.in-Some.component.now, subst (λ z. Some c.in-Some.component.now ≡ slice_get c.args.components.now z) c.if-number-index.true c.in-Some.ensures.0, refl, i.0, i.1, i.2);
+      let i = c.loop-decoder.invariant in
+      (c.in-Some.component.now, subst (λ z. Some c.in-Some.component.now ≡ slice_get c.args.components.now z) c.if-number-index.true c.in-Some.ensures.0, refl, i.0, i.1, i.2);
 }
 
 pub pass_member-requires : goal.pass_member-requires
@@ -44,6 +44,6 @@ loop-decoder-preserved c =
 pub returns : goal.returns
 returns c = record {
   found =
-    let i = c.loop-decoder.invariant in
-    (i.0, i.1, c.loop-decoder.decoder, i.2, i.3, c.loop-decoder-test.ensures);
+      let i = c.loop-decoder.invariant in
+      (i.0, i.1, c.loop-decoder.decoder, i.2, i.3, c.loop-decoder-test.ensures);
 }

@@ -1,6 +1,6 @@
-use Rattle.std.proofs.Common.{arith, ◌≡◌, ◌-◌, suc, refl, sym, subst}
+use Rattle.std.proofs.Common.{arith, ◌-◌, sym, subst}
 use Rattle.rasn_types.specs.Lawful.{IsLawful}
-use Rattle.rasn_schema.specs.Shapes.{shape_of_type, type_by}
+use Rattle.rasn_schema.specs.Shapes.{shape_of_type}
 use Rattle.rasn_schema.proofs.TypeShapes.{shape_below}
 use Rattle.rasn_dynamic.proofs.Parts.{leads_one, lawful_part, part_keeps, seen_through, seen_end, if_some, if_none}
 use Rattle.rasn_dynamic.proofs.find.go_to_part.Goals as goal
@@ -8,7 +8,7 @@ use Rattle.rasn_dynamic.proofs.find.go_to_part.Goals as goal
 pub go_inside-requires : goal.go_inside-requires
 go_inside-requires c = record {
   lawful =
-    subst IsLawful (shape_below c.args.types.now c.args.place.now.levels (c.args.place.now.levels - 1) c.args.place.now.id.0 c.in-Some.ty.now (let n = c.if-place-eq0.false in omega arith) c.in-Some.ensures) c.requires.lawful;
+      subst IsLawful (shape_below c.args.types.now c.args.place.now.levels (c.args.place.now.levels - 1) c.args.place.now.id.0 c.in-Some.ty.now (let n = c.if-place-eq0.false in omega arith) c.in-Some.ensures) c.requires.lawful;
 }
 
 pub returns-in-Some-2-clause-found : goal.returns-in-Some-2-clause-found

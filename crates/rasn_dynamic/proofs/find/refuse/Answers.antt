@@ -1,4 +1,4 @@
-use Rattle.std.proofs.Common.{inl, inr, refl}
+use Rattle.std.proofs.Common.{inr}
 use Rattle.rasn_dynamic.proofs.find.refuse.Goals as goal
 
 pub returns-in-Err-clause-located : goal.returns-in-Err-clause-located
