@@ -8,7 +8,9 @@ use Rattle.rasn_types.proofs.Headers.Frames.{frame_one}
 use Rattle.rasn_de.specs.Headers.{Header}
 use Rattle.rasn_de.specs.State.{State, IsEnd, Call}
 use Rattle.rasn_de.specs.Constructed.{list_header, constructed_header_at, contents_state}
+use Rattle.rasn_de.specs.Decodes.{Decodes}
 use Rattle.rasn_de.specs.SequenceOf.{DecodesInTurn}
+use Rattle.rasn_schema.specs.Trees.{tree_of}
 use Rattle.rasn_de.proofs.Headers.Ends.{IsEnd-refl}
 use Rattle.rasn_de.proofs.Headers.Frames.{header_spelled}
 use Rattle.rasn_de.proofs.Constructed.Contents.{constructed_header_spelled}
@@ -29,18 +31,18 @@ list_of contents = record { tag = in_universal 16; bit = true; extent = definite
 one_opened : constructed_header_at (list_header (in_universal 16)) Ber 128 one_element ≡ Ok (list_of the_element)
 one_opened =
     constructed_header_spelled (list_header (in_universal 16)) Ber 128 one_element (list_of the_element) (omega arith)
-    (header_spelled (form Ber) _ one_element (in_universal 16) true [] (definite the_element) (omega arith, omega arith, omega arith, omega arith, omega arith, tt) refl (short 16 true the_element [] (omega arith) (omega arith) (omega arith)))
+    (header_spelled (form Ber) _ one_element (in_universal 16) true [] (definite the_element) (omega arith, (omega arith, (omega arith, (omega arith, (omega arith, tt))))) refl (short 16 true the_element [] (omega arith) (omega arith) (omega arith)))
     refl
 
 none_opened : constructed_header_at (list_header (in_universal 16)) Ber 128 no_element ≡ Ok (list_of [])
 none_opened =
     constructed_header_spelled (list_header (in_universal 16)) Ber 128 no_element (list_of []) (omega arith)
-    (header_spelled (form Ber) _ no_element (in_universal 16) true [] (definite []) (omega arith, omega arith, tt) refl (short 16 true [] [] (omega arith) (omega arith) (omega arith)))
+    (header_spelled (form Ber) _ no_element (in_universal 16) true [] (definite []) (omega arith, (omega arith, tt)) refl (short 16 true [] [] (omega arith) (omega arith) (omega arith)))
     refl
 
 not_ended : Ended false the_element → ⊥
 not_ended (inl e) = cc
-not_ended (inr (e, more)) = cc
+not_ended (inr (e, more, is)) = cc
 
 first : (element : TypeId) → Leads (list_alone element) (0 ∷ []) 1 0 (start Ber one_element) 0 element.0 inside_one
 unfolding Leads
@@ -50,27 +52,30 @@ no_more : (read : Call Value) (vs : List Value) (inner here : State) → length 
 no_more read [] inner here e d = d
 no_more read (v ∷ vs) inner here e d = absurd (omega (arith, e))
 
+opened_so : (h : Header) → constructed_header_at (list_header (in_universal 16)) Ber 128 no_element ≡ Ok h → list_of [] ≡ h
+opened_so h o = let both = sym none_opened ∙ o in cc
+
 none_first : (element : TypeId) (below end : ℕ) (last : State) → Leads (list_alone element) (0 ∷ []) 1 0 (start Ber no_element) below end last → ⊥
 unfolding Leads
 none_first element below end last (n, l, ty, g, inner, e, next, here, part, stays, back, rest) =
     let same : ty ≡ SequenceOf (in_universal 16) element unconstrained = cc in
     let (h, opened, entered) = subst (λ z. Enters z (start Ber no_element) inner) same e in
     let (type, vs, count, turn, more) = subst (λ z. IsPart (shape_of_type (list_alone element) n) z inner 0 next here) same part in
-    let header : list_of [] ≡ h = cc in
-    let is : here ≡ contents_state (list_header (in_universal 16)) (start Ber no_element) h = no_more _ vs inner here count turn ∙ entered in
+    let header = opened_so h opened in
+    let is : here ≡ contents_state (list_header (in_universal 16)) (start Ber no_element) h = no_more (Decodes (shape_of_type (list_alone element) n element.0) tree_of) vs inner here count turn ∙ entered in
     more (subst (λ (z : State). Ended z.closing z.rest) (sym is) (subst (λ (z : Header). Ended (contents_state (list_header (in_universal 16)) (start Ber no_element) z).closing (contents_state (list_header (in_universal 16)) (start Ber no_element) z).rest) header (inl refl)))
 
 no_type : (below end : ℕ) (last : State) → Leads [] (0 ∷ []) 1 0 (start Ber one_element) below end last → ⊥
 unfolding Leads
-no_type below end last (n, l, ty, g, more) = cc
+no_type below end last (n, l, ty, g, inner, e, next, here, part, stays, back, rest) = cc
 
 has_element : (f : ℕ → Shape) (id : ℕ) → LacksElement f id inside_one 0 → ⊥
 has_element f id (vs, here, turn, ended, count) =
     let none : length vs ≡ 0 = omega (arith, count) in
-    not_ended (subst (λ (z : State). Ended z.closing z.rest) (no_more _ vs inside_one here none turn) ended)
+    not_ended (subst (λ (z : State). Ended z.closing z.rest) (no_more (Decodes (f id) tree_of) vs inside_one here none turn) ended)
 
 not_inside : (left : ℕ) → IsWithin (1 ∷ []) (2 ∷ []) left → ⊥
-not_inside left ([], back, e, n) = let a : 1 ≡ 2 = cc in omega (arith, a)
+not_inside left ([], back, e, n) = let a : ◌≡◌ {A = ℕ} 1 2 = cc in omega (arith, a)
 not_inside left (x ∷ front, back, e, n) =
     let a = ap length e in
     let b = length-append front (2 ∷ back) in

@@ -5,6 +5,7 @@
 
 mod components;
 mod entry;
+mod facts;
 mod find;
 mod locate;
 mod order;
@@ -16,13 +17,13 @@ mod refusal;
 mod set;
 mod trace;
 mod unfit;
-mod worked;
 mod write_leaf;
 mod writer;
 
 pub use entry::{
     WriteError, decode, decode_with_remainder, encode, encode_buf, is_canonical, normalise,
 };
+pub use facts::worked_places;
 pub use find::find_part;
 pub use locate::decode_or_locate;
 pub use part::Part;
@@ -30,4 +31,3 @@ pub use path::ValuePath;
 pub use rasn::NormaliseError;
 pub use rasn_schema::fits;
 pub use refusal::{NamedRefusal, Refusal};
-pub use worked::worked_places;
