@@ -1,12 +1,12 @@
 -- What was worked out by hand.
-use Rattle.std.proofs.Common.{◌≡◌, ℕ, ◌+◌, List, [], ◌∷◌, ◌++◌, length, length-append, true, false, Some, None, Ok, inl, inr, refl, sym, ap, subst, ◌∙◌, arith}
+use Rattle.std.proofs.Common.{◌≡◌, ℕ, List, [], ◌∷◌, length, length-append, true, false, Ok, inl, inr, refl, sym, ap, subst, ◌∙◌, arith}
 use Rattle.rasn_types.specs.declared.types.codec.Codec.TheVariants.{Ber, Der}
 use Rattle.rasn_types.specs.Tags.{in_universal, form}
-use Rattle.rasn_types.specs.Framing.{Ended, definite, indefinite, Extent, Frame}
+use Rattle.rasn_types.specs.Framing.{Ended, definite, indefinite}
 use Rattle.rasn_types.specs.Shapes.{Shape}
 use Rattle.rasn_types.proofs.Headers.Frames.{frame_one}
 use Rattle.rasn_de.specs.Headers.{Header}
-use Rattle.rasn_de.specs.State.{State, IsEnd, Call}
+use Rattle.rasn_de.specs.State.{State, Call}
 use Rattle.rasn_de.specs.Constructed.{list_header, constructed_header_at, contents_state}
 use Rattle.rasn_de.specs.Decodes.{Decodes}
 use Rattle.rasn_de.specs.SequenceOf.{DecodesInTurn}
@@ -20,9 +20,8 @@ use Rattle.rasn_schema.specs.declared.type_id.TypeId.{TypeId}
 use Rattle.rasn_schema.specs.declared.types.«Type».TheVariants.{SequenceOf}
 use Rattle.rasn_schema.specs.declared.value.Value.{Value}
 use Rattle.rasn_schema.specs.Shapes.{shape_of_type}
-use Rattle.rasn_dynamic.specs.declared.trace.Fault.{Fault}
-use Rattle.rasn_dynamic.specs.Faults.{IsStepped, IsWithin, IsPart, Enters, Leads, start}
-use Rattle.rasn_dynamic.specs.Parts.{IsHeader, IsSeen, LacksElement}
+use Rattle.rasn_dynamic.specs.Faults.{IsWithin, IsPart, Enters, Leads, start}
+use Rattle.rasn_dynamic.specs.Parts.{IsHeader, LacksElement}
 use Rattle.rasn_dynamic.specs.Worked.{list_alone, one_element, the_element, no_element, inside_one, WorkedPlaces}
 
 abbrev list_of : List ℕ → Header
