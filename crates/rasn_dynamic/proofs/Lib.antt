@@ -19,3 +19,4 @@ pub mod LeafWritten
 pub mod Faults
 pub mod Parts
 pub mod Worked
+pub mod Ways

@@ -9,3 +9,4 @@ pub mod Faults
 pub mod Paths
 pub mod Parts
 pub mod Worked
+pub mod Steps

@@ -1,7 +1,7 @@
 //! Parts of messages, by their paths.
 
 use crate::faults::TYPES;
-use rasn_dynamic::{Part, find_part};
+use rasn_dynamic::{Part, Step, find_part, path_named};
 use rasn_schema::{Schema, TypeId};
 use rasn_schema_bench::types;
 use rasn_types::types::Codec;
@@ -70,4 +70,26 @@ fn parts_are_found(rt: HostRuntime) {
     for row in ROWS {
         assert!(rt; finds(rt.alloc(), row) == Some(true));
     }
+}
+
+/// Returns whether the names lead along this path, or nowhere.
+fn leads(alloc: Global, id: usize, steps: &[Step<'_>], expected: Option<&[usize]>) -> Option<bool> {
+    let schema = Schema::new(types(alloc, TYPES).ok()?).ok()?;
+    let path = path_named(alloc, &schema, TypeId(id), steps).ok()?;
+    match (&path, expected) {
+        (Some(path), Some(expected)) => Some(path.as_slice() == expected),
+        (None, None) => Some(true),
+        _ => Some(false),
+    }
+}
+
+#[test]
+fn names_lead_along_paths(rt: HostRuntime) {
+    let number = [Step::Name("list"), Step::Index(4), Step::Name("number")];
+    assert!(rt; leads(rt.alloc(), 5, &number, Some(&[1, 4, 1])) == Some(true));
+    let tagged = [Step::Name("tagged"), Step::Index(0)];
+    assert!(rt; leads(rt.alloc(), 5, &tagged, Some(&[2, 0, 0])) == Some(true));
+    assert!(rt; leads(rt.alloc(), 5, &[Step::Name("flags")], None) == Some(true));
+    assert!(rt; leads(rt.alloc(), 2, &[Step::Index(0)], None) == Some(true));
+    assert!(rt; leads(rt.alloc(), 2, &[], Some(&[])) == Some(true));
 }
