@@ -95,7 +95,7 @@ module _ (types : List «Type») where
     module _ (ty : «Type») (g : Some ty ≡ slice_get types id) (t : IsTagged ty → ⊥) (old new : List ℕ) where
       one_way : Appended old new (IsPartWay types n ty step after) → Appended old new (IsWay types levels id steps)
       unfolding IsWay
-      one_way (more, q, k, next, rest, i, s, w) = (k ∷ rest, q ∙ ap (λ z. old ++ z) i, (n, l, step, after, e, inr (ty, next, g, t, s, w)))
+      one_way (more, q, (k, next, rest, i, s, w)) = (k ∷ rest, q ∙ ap (λ z. old ++ z) i, (n, l, step, after, e, inr (ty, next, g, t, s, w)))
 
       no_one_way : IsNoPartWay types n ty step after → IsNoWay types levels id steps
       unfolding IsNoWay

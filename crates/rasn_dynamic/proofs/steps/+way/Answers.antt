@@ -5,6 +5,7 @@ use Rattle.rasn_schema.proofs.Lists.{nothing_left}
 use Rattle.rasn_schema.specs.declared.types.«Type».TheVariants.{Tagged}
 use Rattle.std.specs.Prelude.{slice_get, Some, ◌≡◌}
 use Rattle.std.proofs.Common.{subst}
+use Rattle.rasn_dynamic.specs.declared.steps.Step.TheVariants.{Index}
 use Rattle.rasn_dynamic.proofs.Ways.{way_ends, too_deep, no_type, tagged_way, part_way, stepped_way, first_item, some_left, not_tagged}
 use Rattle.rasn_dynamic.proofs.steps.+way.Goals as goal
 
@@ -16,11 +17,11 @@ append_way-returns-then-levels-eq0 t c = too_deep c.args.types.now c.args.levels
 
 pub append_way-returns-in_default-type_at : goal.append_way-returns-in_default-type_at
 append_way-returns-in_default-type_at t c =
-    no_type c.args.types.now c.args.levels (c.args.levels - 1) c.args.id.0 (let n = c.if-levels-eq0.false in omega arith) c.args.steps.now _ _ (first_item _ _ c.in-len1-up.len_at_least) c.in_default-type_at.ensures
+    no_type c.args.types.now c.args.levels (c.args.levels - 1) c.args.id.0 (let n = c.if-levels-eq0.false in omega arith) c.args.steps.now _ _ (first_item _ (Index 0) c.in-len1-up.len_at_least) c.in_default-type_at.ensures
 
 pub append_way-returns-in_ok-append-in-Tagged : goal.append_way-returns-in_ok-append-in-Tagged
 append_way-returns-in_ok-append-in-Tagged t c =
-    IfOk-weaker c.append_way.result _ _ (λ b w. tagged_way c.args.types.now c.args.levels (c.args.levels - 1) c.args.id.0 (let n = c.if-levels-eq0.false in omega arith) c.args.steps.now _ _ (first_item _ _ c.in-len1-up.len_at_least)
+    IfOk-weaker c.append_way.result _ _ (λ b w. tagged_way c.args.types.now c.args.levels (c.args.levels - 1) c.args.id.0 (let n = c.if-levels-eq0.false in omega arith) c.args.steps.now _ _ (first_item _ (Index 0) c.in-len1-up.len_at_least)
     c.in-Tagged.tag c.in-Tagged.inner (subst (λ z. Some z ≡ slice_get c.args.types.now c.args.id.0) c.in-Tagged.is c.in-Some.ensures) _ _ _ c.in_ok-append-in-Tagged.ensures b w) c.append_way.ensures
 
 pub append_way-returns-in_default-ty : goal.append_way-returns-in_default-ty
