@@ -90,7 +90,7 @@ module _ (f : ℕ → Shape) (ps : List Component) (k : ℕ) (p : Component) (ta
   next_unread e before after d = inl (alternative_refused (components_by f ps) k (presence_in f p) (f p.type_id.0) tag n only e.kind (one_present (presence_in f p) (f p.type_id.0) tag b.1 old n (Err e) new d))
 
   module _ (v : Value) (d : DecodesPresent (presence_in f p) (f p.type_id.0) old (Ok v) new) where
-    got : DecodesExactly (λ rule. Reads rule (choice (components_by f ps))) old (Got (chosen k (tree_of v)) new.rest) new
+    pub got : DecodesExactly (λ rule. Reads rule (choice (components_by f ps))) old (Got (chosen k (tree_of v)) new.rest) new
     got = alternative_got (components_by f ps) k (presence_in f p) (f p.type_id.0) tag n only (one_present (presence_in f p) (f p.type_id.0) tag b.1 old n (Ok v) new d)
 
     pub next_idle : (before after : List (Option Tree)) (left : ℕ) → left ≡ length old.rest → length new.rest ≡ left → (e : DecodeError) → IsErrorOf (UnexpectedExtraData left) new e

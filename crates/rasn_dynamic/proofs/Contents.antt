@@ -1,47 +1,41 @@
 -- What is read inside values that hold others: elements, components and alternatives.
-use Rattle.std.proofs.Common.{◌≡◌, ℕ, zero, suc, ◌≤◌, inl, inr, Bool, List, String, [], ◌∷◌, ◌++◌, map, length, Vec, Global, Result, Ok, Err, refl, sym, ap, ◌∙◌, subst}
-use Rattle.std.proofs.lemmas.List.{length-map}
+use Rattle.std.proofs.Common.{◌≡◌, ℕ, zero, suc, inl, inr, List, String, [], ◌∷◌, ◌++◌, map, Vec, Global, Result, Ok, Err, refl, sym, ap, ◌∙◌, subst}
 use Rattle.std.specs.Prelude.{Option, Some, slice_get}
 use Rattle.rasn_types.specs.declared.types.tag.Tag.{Tag}
 use Rattle.rasn_types.specs.declared.types.constraints.Bound.{Bound}
 use Rattle.rasn_types.specs.declared.error.decode.DecodeError.{DecodeError}
 use Rattle.rasn_types.specs.declared.error.decode.DecodeErrorKind.{DecodeErrorKind}
-use Rattle.rasn_types.specs.Shapes.{Tree, items, done, joined, set_elements, Shape, prefix, seq, set, list, set_of, Parts, part, required, Presence, Admits, IsFirst}
+use Rattle.rasn_types.specs.Shapes.{Tree, items, done, joined, Shape, prefix, seq, set, list, set_of, Parts, part, required, Presence, IsFirst}
 use Rattle.rasn_types.specs.Shapes.Parts.{none}
-use Rattle.rasn_types.specs.Trees.{list_tree}
 use Rattle.rasn_types.specs.Lawful.{IsLawful, AreDistinguished, AreAlternatives, AreLawfulInOrder, AreLawfulByTag}
 use Rattle.rasn_types.specs.Grammar.{Reads}
-use Rattle.rasn_types.proofs.SetOf.Same.{items_one}
 use Rattle.rasn_de.specs.State.{State}
 use Rattle.rasn_de.specs.Outcomes.{Outcome, Got, refusal}
-use Rattle.rasn_de.specs.Decodes.{Decodes, DecodesBy, DecodesExactly, ReadsParts}
+use Rattle.rasn_de.specs.Decodes.{DecodesBy, DecodesExactly, ReadsParts}
 use Rattle.rasn_de.specs.Choice.{IsOnlyAlternative}
 use Rattle.rasn_de.specs.Constructed.{Keeps}
-use Rattle.rasn_de.specs.SequenceOf.{ReadsElements, ReadsSetElements, DecodesElements, DecodesElementsInOrder}
 use Rattle.rasn_types.specs.Errors.{IsOutOfMemory}
-use Rattle.rasn_de.proofs.Leaves.Outcomes.{Exact-none, Exact-refusal, alloc_failed}
+use Rattle.rasn_de.proofs.Leaves.Outcomes.{Exact-none, alloc_failed}
 use Rattle.rasn_de.proofs.Headers.Ends.{IsEnd-refl}
 use Rattle.rasn_de.proofs.Constructed.Opening.{kept}
 use Rattle.rasn_de.proofs.Constructed.Steps.{kept_after}
-use Rattle.rasn_de.proofs.Constructed.SetOfElements.{each_decodes, in_order_decodes}
 use Rattle.rasn_de.proofs.OwnTypes.Parts.{OnePart, no_parts, part_refused, after_part_refused, part_got, call_keeps}
 use Rattle.rasn_schema.specs.declared.value.Value.{Value, Items}
 use Rattle.rasn_schema.specs.Trees.{tree_of}
-use Rattle.rasn_types.specs.declared.types.codec.Codec.{Codec}
 use Rattle.rasn_types.specs.declared.types.constraints.Constraints.{Constraints}
 use Rattle.rasn_schema.specs.declared.types.«Type».{«Type»}
 use Rattle.rasn_schema.specs.declared.types.«Type».TheVariants.{Leaf, Enumerated, Any, Tagged, Choice, Sequence, Set, SequenceOf, SetOf}
 use Rattle.rasn_schema.specs.declared.type_id.TypeId.{TypeId}
 use Rattle.rasn_schema.specs.declared.types.Alternative.{Alternative}
 use Rattle.rasn_schema.specs.declared.types.Component.{Component}
-use Rattle.rasn_schema.specs.Shapes.{alternatives_by, type_by}
+use Rattle.rasn_schema.specs.Shapes.{alternatives_by}
 use Rattle.rasn_dynamic.specs.Inside.{ReadsInside, ReadsSequence}
 use Rattle.rasn_de.specs.SetPartTypes.{MakesOfReadings, DecodesSetPartContents}
 use Rattle.rasn_de.proofs.Constructed.SetContents.{SetReads, set_collects}
 use Rattle.rasn_de.proofs.OwnTypes.SetPartTypes.{makes_set}
 use Rattle.rasn_dynamic.specs.Typed.{HoldsOthers, values_tree}
 use Rattle.rasn_de.specs.PartTypes.{FailsAtOnePart, FailsAtPart}
-use Rattle.rasn_schema.proofs.Values.{tree_items, tree_elements}
+use Rattle.rasn_schema.proofs.Values.{tree_items}
 use Rattle.rasn_schema.proofs.Alternatives.{first_of_all}
 
 -- ---- nothing

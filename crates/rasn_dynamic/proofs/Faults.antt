@@ -1,5 +1,5 @@
 -- Where in the input a value couldn't be read.
-use Rattle.std.proofs.Common.{◌≡◌, ◌≢◌, ℕ, zero, suc, ◌+◌, ◌-◌, ◌<◌, ◌≤◌, List, [], ◌∷◌, ◌++◌, inl, inr, Vec, Global, String, length, length-append, append_assoc, get_or, Option, Some, None, Result, Ok, Err, Bool, true, false, refl, sym, ap, ◌∙◌, subst, arith}
+use Rattle.std.proofs.Common.{◌≡◌, ◌≢◌, ℕ, suc, ◌+◌, ◌≤◌, List, [], ◌∷◌, ◌++◌, inl, inr, Vec, Global, String, length, length-append, append_assoc, Option, Some, None, Result, Ok, Err, Bool, false, refl, sym, ap, ◌∙◌, subst, arith}
 use Rattle.std.specs.Prelude.{◌⊎◌, IfErr, reverse, slice_get}
 use Rattle.std.proofs.lemmas.List.{append-nil, reverse-append}
 use Rattle.rasn_types.specs.declared.types.codec.Codec.{Codec}
@@ -10,14 +10,13 @@ use Rattle.rasn_types.specs.Grammar.{Reads}
 use Rattle.rasn_types.specs.Shapes.{Shape, Tree, Same, choice}
 use Rattle.rasn_de.specs.Headers.{Header}
 use Rattle.rasn_de.specs.Segments.{octets_inside}
-use Rattle.rasn_de.specs.ParserViews.{extent}
 use Rattle.rasn_de.specs.State.{State, at, IsEnd, Call}
 use Rattle.rasn_de.specs.Outcomes.{Exact, refusal}
 use Rattle.rasn_de.specs.Decodes.{Decodes, DecodesBy}
 use Rattle.rasn_de.specs.SequenceOf.{DecodesInTurn, DecodesInTurnFrom, DecodesSized}
 use Rattle.rasn_de.specs.declared.ber.de.parser.Contents.{Contents}
 use Rattle.rasn_de.specs.declared.ber.de.constructed.ConstructedHeader.{ConstructedHeader}
-use Rattle.rasn_de.specs.Constructed.{expected_header, constructed_header_at, contents_state, is_indefinite_extent, Keeps, ConsumesOpening, DecodesInside, sequence_header, prefix_header}
+use Rattle.rasn_de.specs.Constructed.{expected_header, constructed_header_at, is_indefinite_extent, ConsumesOpening, DecodesInside, sequence_header, prefix_header}
 use Rattle.rasn_de.proofs.Headers.Ends.{IsEnd-refl, IsEnd-trans}
 use Rattle.rasn_de.proofs.Headers.Frames.{header_parsed}
 use Rattle.rasn_de.proofs.Constructed.Contents.{constructed_header_parsed}
@@ -44,14 +43,14 @@ use Rattle.rasn_dynamic.specs.Calls.{IsDefaultOf, IsMade}
 use Rattle.rasn_dynamic.specs.Typed.{element_count}
 use Rattle.rasn_dynamic.specs.declared.trace.Fault.{Fault}
 use Rattle.rasn_dynamic.specs.declared.refusal.Refusal.{Refusal}
-use Rattle.rasn_dynamic.specs.Faults.{IsMarked, IsStepped, IsMoved, octets_after, IsWithin, IsComponentAt, ComponentsInTurn, IsMember, IsMemberAt, IsElementAt, IsAlternativeAt, IsOnly, IsPart, EntersBy, Enters, Leads, HasPath, IsFault, IsFaultIn, IsFaultOf, IsFaultInside, Told, TellsOf, IsRefusalOf, IsLocated, FailsAt, FailsItself, ReadsEachPart, StopsAtChoice, StopsInElements, StopsInOrder, StopsInSequence, StopsInSet, StopsAtComponent, IsDefaultWritten, TakesNothing, start}
+use Rattle.rasn_dynamic.specs.Faults.{IsMarked, IsStepped, IsMoved, octets_after, IsWithin, IsComponentAt, ComponentsInTurn, IsMember, IsMemberAt, IsElementAt, IsAlternativeAt, IsOnly, IsPart, Leads, HasPath, IsFault, IsFaultIn, IsFaultOf, IsFaultInside, Told, TellsOf, IsRefusalOf, IsLocated, FailsAt, FailsItself, ReadsEachPart, StopsAtChoice, StopsInElements, StopsInOrder, StopsInSequence, StopsInSet, StopsAtComponent, IsDefaultWritten, TakesNothing, start}
 
 -- ---- lists
 
 pub append_three : (a b c d : List ℕ) → a ++ (b ++ (c ++ d)) ≡ (a ++ b) ++ (c ++ d)
 append_three a b c d = sym (append_assoc a b (c ++ d))
 
-within_itself : (l : List ℕ) → IsWithin l l (length l)
+pub within_itself : (l : List ℕ) → IsWithin l l (length l)
 within_itself l = ([], [], sym (append-nil l), sym (ap length (append-nil l)))
 
 within_after : (all here octets : List ℕ) (left : ℕ) → IsEnd all here → IsWithin here octets left → IsWithin all octets left
@@ -183,7 +182,7 @@ module _ (types : List «Type») where
   frame_within rule l rest (with_length id len contents s a strict e) = (id ++ len, e ∙ sym (append_assoc id len (contents ++ rest)))
   frame_within rule l rest (without_length id s b h e) = (id ++ (128 ∷ []), e ∙ sym (append_assoc id (128 ∷ []) rest) ∙ ap (λ z. (id ++ (128 ∷ [])) ++ z) (sym (append-nil rest)))
 
-  contents_within : (d : ConstructedHeader) (s : State) → (s.depth ≢ 0 → AreOctets s.rest) → (h : Header) → constructed_header_at d s.rule s.depth s.rest ≡ Ok h
+  pub contents_within : (d : ConstructedHeader) (s : State) → (s.depth ≢ 0 → AreOctets s.rest) → (h : Header) → constructed_header_at d s.rule s.depth s.rest ≡ Ok h
       → (pre : List ℕ) × (s.rest ≡ pre ++ (octets_inside h.extent h.rest ++ after h.extent h.rest))
   contents_within d s o h e =
       let p = constructed_header_parsed d s.rule s.depth s.rest h e in
@@ -194,7 +193,7 @@ module _ (types : List «Type») where
   after_length indefinite rest = refl
 
   module _ (d : ConstructedHeader) (old : State) (o : old.depth ≢ 0 → AreOctets old.rest) (p : State) (c : Contents) (mid : State) (w : ConsumesOpening d old (Ok (p, c)) mid) where
-    opened_within : (octets : List ℕ) (left : ℕ) → IsWithin p.rest octets left → IsWithin old.rest octets (left + octets_after p.closing (length mid.rest))
+    pub opened_within : (octets : List ℕ) (left : ℕ) → IsWithin p.rest octets left → IsWithin old.rest octets (left + octets_after p.closing (length mid.rest))
     opened_within octets left s =
         let q : mid.rest ≡ w.0.rest = ap (λ (z : State). z.rest) w.4 in
         let t = contents_within d old o w.0 w.1 in

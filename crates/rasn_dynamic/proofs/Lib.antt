@@ -17,3 +17,6 @@ pub mod Numbers
 pub mod UnfitParts
 pub mod LeafWritten
 pub mod Faults
+pub mod Parts
+pub mod Worked
+pub mod Ways

@@ -1,5 +1,5 @@
 -- The numbers of an ENUMERATED.
-use Rattle.std.proofs.Common.{◌≡◌, ℕ, zero, suc, ◌<◌, ℤ, pos, negsuc, Bool, true, ◌&&◌, List, [], ◌∷◌, length, FitsSigned, w64, refl, sym, ap, ◌∙◌, subst, arith, Ok}
+use Rattle.std.proofs.Common.{◌≡◌, ℕ, zero, suc, ◌<◌, ℤ, pos, negsuc, Bool, true, ◌&&◌, List, [], ◌∷◌, FitsSigned, w64, refl, sym, ap, ◌∙◌, subst, arith, Ok}
 use Rattle.std.specs.Prelude.{Contains, ◌^◌, ◌-◌, neg_ℤ}
 use Rattle.std.specs.Int.Signed.{le_z}
 use borrow.Author.Tests.{le-leb}

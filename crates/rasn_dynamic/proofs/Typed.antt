@@ -6,15 +6,14 @@ use Rattle.rasn_types.specs.declared.error.decode.DecodeError.{DecodeError}
 use Rattle.rasn_types.specs.Framing.{AreOctets}
 use Rattle.rasn_types.specs.Errors.{IsOutOfMemory}
 use Rattle.rasn_types.specs.Grammar.{Reads}
-use Rattle.rasn_types.specs.Trees.{list_tree}
-use Rattle.rasn_types.specs.Shapes.{Tree, set_elements, Shape, list, set_of, Parts, Admits, constraint_of}
+use Rattle.rasn_types.specs.Shapes.{Shape, list, set_of, Admits, constraint_of}
 use Rattle.rasn_de.specs.declared.ber.de.parser.ParseError.TheVariants.{SizeConstraintNotSatisfied}
 use Rattle.rasn_de.specs.State.{State, at, IsEnd, Call}
 use Rattle.rasn_de.specs.Steps.{IsErrorOf}
 use Rattle.rasn_de.specs.Outcomes.{Got}
 use Rattle.rasn_de.specs.Decodes.{Decodes, DecodesBy, DecodesExactly}
 use Rattle.rasn_de.specs.declared.ber.de.constructed.ConstructedHeader.{ConstructedHeader}
-use Rattle.rasn_de.specs.Constructed.{sequence_header, list_header, prefix_header, Keeps, FailsInside, no_value, inside, not_closed, DecodesInside}
+use Rattle.rasn_de.specs.Constructed.{sequence_header, list_header, prefix_header, FailsInside, no_value, inside, not_closed, DecodesInside}
 use Rattle.rasn_de.specs.SequenceOf.{DecodesElements, DecodesElementsInOrder, DecodesSized}
 use Rattle.rasn_de.proofs.Leaves.Outcomes.{alloc_failed}
 use Rattle.rasn_de.proofs.Constructed.Opening.{kept}

@@ -1,5 +1,5 @@
 -- Values that aren't of their type, and where.
-use Rattle.std.proofs.Common.{◌≡◌, ◌+◌, ℕ, zero, suc, List, [], ◌∷◌, ◌++◌, drop, length, Option, Some, None, refl, sym, ap, subst, ◌∙◌, append_assoc, add-one}
+use Rattle.std.proofs.Common.{◌≡◌, ◌+◌, ℕ, zero, suc, List, [], ◌∷◌, ◌++◌, drop, Option, Some, None, refl, sym, ap, subst, ◌∙◌, append_assoc, add-one}
 use Rattle.std.specs.Prelude.{slice_get, MatchOption}
 use Rattle.rasn_schema.specs.declared.types.Alternative.{Alternative}
 use Rattle.rasn_schema.specs.declared.types.Component.{Component}
@@ -12,7 +12,7 @@ use Rattle.rasn_schema.specs.declared.type_id.TypeId.{TypeId}
 use Rattle.rasn_dynamic.specs.declared.unfit.Part.{Part}
 use Rattle.rasn_schema.proofs.Fitted.{fits_is}
 use Rattle.rasn_schema.proofs.ListsOf.{list_to, list_from}
-use Rattle.rasn_schema.specs.Fitting.{Fits, FitsBy, AreItems, AreElements, IsListOf, IsSetOf, AlternativeFits, ComponentFits, ComponentsFit, EachFits, IsChosen}
+use Rattle.rasn_schema.specs.Fitting.{Fits, FitsBy, AreItems, IsListOf, AlternativeFits, ComponentFits, ComponentsFit, EachFits, IsChosen}
 use Rattle.rasn_dynamic.specs.Unfit.{IsOfAlternative, IsPart, IsOtherForm, IsUnfitIn, IsUnfitBy, IsUnfitFound, IsUnfitAt}
 
 -- ---- components and elements by index

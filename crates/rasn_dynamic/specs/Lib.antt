@@ -7,3 +7,6 @@ pub mod Unfit
 pub mod Found
 pub mod Faults
 pub mod Paths
+pub mod Parts
+pub mod Worked
+pub mod Steps

@@ -5,13 +5,17 @@
 
 mod components;
 mod entry;
+mod facts;
+mod find;
 mod locate;
 mod order;
+mod part;
 mod path;
 mod read_leaf;
 mod reader;
 mod refusal;
 mod set;
+mod steps;
 mod trace;
 mod unfit;
 mod write_leaf;
@@ -20,8 +24,12 @@ mod writer;
 pub use entry::{
     WriteError, decode, decode_with_remainder, encode, encode_buf, is_canonical, normalise,
 };
+pub use facts::worked_places;
+pub use find::find_part;
 pub use locate::decode_or_locate;
+pub use part::Part;
 pub use path::ValuePath;
 pub use rasn::NormaliseError;
 pub use rasn_schema::fits;
 pub use refusal::{NamedRefusal, Refusal};
+pub use steps::{Step, path_named};

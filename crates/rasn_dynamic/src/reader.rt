@@ -39,7 +39,7 @@ use rasn_types::error::{DecodeError, DecodeErrorKind};
 use rasn_types::types::{Constraints, Tag};
 
 /// Returns the error that there is no such type, so no value of it.
-fn no_value(decoder: &Decoder<'_>) -> DecodeError
+pub fn no_value(decoder: &Decoder<'_>) -> DecodeError
     ensures { IsErrorOf UnexpectedEmptyInput decoder.now result }
 {
     DecodeError {
@@ -49,7 +49,7 @@ fn no_value(decoder: &Decoder<'_>) -> DecodeError
 }
 
 /// Returns the error that a value took nothing.
-fn extra(decoder: &Decoder<'_>, left: usize) -> DecodeError
+pub fn extra(decoder: &Decoder<'_>, left: usize) -> DecodeError
     ensures { IsErrorOf (UnexpectedExtraData left) decoder.now result }
 {
     DecodeError {
@@ -539,7 +539,7 @@ fn is_next(
 
 /// Reads a component of a SEQUENCE, unless it is absent.
 #[cycle(decode)]
-fn decode_component<'input>(
+pub fn decode_component<'input>(
     decoder: &mut Decoder<'input>,
     trace: &mut Option<Fault>,
     types: &[Type],
@@ -569,7 +569,7 @@ fn decode_component<'input>(
 /// Reads a component that is present. Under DER it must not be its default (X.690 11.5).
 #[cycle(decode)]
 #[inline(always)]
-fn decode_present<'input>(
+pub fn decode_present<'input>(
     decoder: &mut Decoder<'input>,
     trace: &mut Option<Fault>,
     types: &[Type],

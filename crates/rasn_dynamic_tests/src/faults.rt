@@ -16,7 +16,7 @@ const PAIR: &[Part] = &[
     ("number", Occurrence::Required, 1),
 ];
 
-const TYPES: &[Definition] = &[
+pub const TYPES: &[Definition] = &[
     Definition::Leaf(LeafKind::Boolean, Tag::BOOL),
     Definition::Leaf(LeafKind::Signed64, Tag::INTEGER),
     Definition::Sequence(Tag::SEQUENCE, PAIR),

@@ -8,6 +8,8 @@ mod faults;
 #[cfg(test)]
 mod names;
 #[cfg(test)]
+mod parts;
+#[cfg(test)]
 mod sizes;
 #[cfg(test)]
 mod types;

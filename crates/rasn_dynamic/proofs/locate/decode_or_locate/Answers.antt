@@ -1,6 +1,6 @@
-use Rattle.std.proofs.Common.{◌≡◌, ◌≤◌, length, arith, subst, sym, ap, ◌∙◌, refl}
+use Rattle.std.proofs.Common.{◌≡◌, ◌≤◌, length, subst, ap, ◌∙◌, refl}
 use Rattle.rasn_de.specs.State.{State}
-use Rattle.rasn_dynamic.specs.Faults.{IsFault, IsLocated, start}
+use Rattle.rasn_dynamic.specs.Faults.{IsFault, start}
 use Rattle.rasn_dynamic.proofs.Faults.{fault_short, located}
 use Rattle.rasn_dynamic.proofs.locate.decode_or_locate.Goals as goal
 

@@ -1,4 +1,3 @@
-use Rattle.std.proofs.Common.{sym}
 use Rattle.rasn_schema.proofs.Lists.{split, nothing_left}
 use Rattle.rasn_dynamic.proofs.Numbers.{listed_start, listed_here, listed_more, listed_end}
 use Rattle.rasn_dynamic.proofs.read_leaf.is_listed.Goals as goal

@@ -1,7 +1,7 @@
-use Rattle.std.proofs.Common.{arith, inl, ◌≡◌, ◌+◌, ℕ, suc, ap, length}
+use Rattle.std.proofs.Common.{arith, ◌≡◌, ◌+◌, ℕ, suc, ap, length}
 use Rattle.rasn_schema.proofs.Lists.{split, nothing_left}
 use Rattle.rasn_de.proofs.Leaves.Returns.{residual}
-use Rattle.rasn_dynamic.proofs.Pieces.{settled_start, settled_more, settled_fails, settled_end}
+use Rattle.rasn_dynamic.proofs.Pieces.{settled_more, settled_fails, settled_end}
 use Rattle.rasn_dynamic.proofs.set.gather.Goals as goal
 
 pub returns-in_err-value-clause-gathers : goal.returns-in_err-value-clause-gathers

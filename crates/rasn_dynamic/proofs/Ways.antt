@@ -1,0 +1,110 @@
+-- Paths by names.
+use Rattle.std.proofs.Common.{◌≡◌, ◌≢◌, ℕ, suc, ◌-◌, ◌≤◌, List, [], ◌∷◌, ◌++◌, length, take, drop, get_or, append_assoc, Vec, Global, String, Some, None, Bool, true, false, inl, inr, refl, sym, ap, ◌∙◌, subst, arith}
+use Rattle.std.specs.Prelude.{slice_get, MatchBool}
+use Rattle.rasn_types.specs.declared.types.tag.Tag.{Tag}
+use Rattle.rasn_types.specs.declared.types.constraints.Constraints.{Constraints}
+use Rattle.rasn_schema.specs.declared.type_id.TypeId.{TypeId}
+use Rattle.rasn_schema.specs.declared.types.«Type».{«Type»}
+use Rattle.rasn_schema.specs.declared.types.«Type».TheVariants.{Leaf, Enumerated, Any, Tagged, Choice, Sequence, Set, SequenceOf, SetOf}
+use Rattle.rasn_schema.specs.declared.types.Component.{Component}
+use Rattle.rasn_schema.specs.declared.types.Alternative.{Alternative}
+use Rattle.rasn_schema.specs.Held.{IsTagged}
+use Rattle.rasn_schema.proofs.Lists.{split}
+use Rattle.rasn_dynamic.specs.declared.steps.Step.{Step}
+use Rattle.rasn_dynamic.specs.Steps.{IsNamedStep, IsIndexedStep, IsStepOf, IsWay, IsNoWay, IsPartWay, IsNoPartWay}
+
+pub no_named : (ty : «Type») (name : List ℕ) → ((tag : Tag) (ps : Vec Component Global) → ty ≡ Sequence tag ps → ⊥) → ((n : String Global) (tag : Tag) (ps : Vec Component Global) → ty ≡ Set n tag ps → ⊥)
+    → ((n : String Global) (ks : Vec Alternative Global) → ty ≡ Choice n ks → ⊥) → (k : ℕ) (id : TypeId) → IsNamedStep ty name k id → ⊥
+no_named (Leaf kind tag c names) name a b d k id h = h
+no_named (Enumerated tag ns) name a b d k id h = h
+no_named (Any tag) name a b d k id h = h
+no_named (Tagged tag inner) name a b d k id h = h
+no_named (Choice n ks) name a b d k id h = d n ks refl
+no_named (Sequence tag ps) name a b d k id h = a tag ps refl
+no_named (Set n tag ps) name a b d k id h = b n tag ps refl
+no_named (SequenceOf tag element c) name a b d k id h = h
+no_named (SetOf tag element c) name a b d k id h = h
+
+pub no_indexed : (ty : «Type») (index : ℕ) → ((tag : Tag) (element : TypeId) (c : Constraints) → ty ≡ SequenceOf tag element c → ⊥) → ((tag : Tag) (element : TypeId) (c : Constraints) → ty ≡ SetOf tag element c → ⊥)
+    → (k : ℕ) (id : TypeId) → IsIndexedStep ty index k id → ⊥
+no_indexed (Leaf kind tag c names) index a b k id h = h
+no_indexed (Enumerated tag ns) index a b k id h = h
+no_indexed (Any tag) index a b k id h = h
+no_indexed (Tagged tag inner) index a b k id h = h
+no_indexed (Choice n ks) index a b k id h = h
+no_indexed (Sequence tag ps) index a b k id h = h
+no_indexed (Set n tag ps) index a b k id h = h
+no_indexed (SequenceOf tag element c) index a b k id h = a tag element c refl
+no_indexed (SetOf tag element c) index a b k id h = b tag element c refl
+
+pub not_tagged : (ty : «Type») → ((tag : Tag) (inner : TypeId) → ty ≡ Tagged tag inner → ⊥) → IsTagged ty → ⊥
+not_tagged (Leaf kind tag c names) n h = h
+not_tagged (Enumerated tag ns) n h = h
+not_tagged (Any tag) n h = h
+not_tagged (Tagged tag inner) n h = n tag inner refl
+not_tagged (Choice name ks) n h = h
+not_tagged (Sequence tag ps) n h = h
+not_tagged (Set name tag ps) n h = h
+not_tagged (SequenceOf tag element c) n h = h
+not_tagged (SetOf tag element c) n h = h
+
+pub bool_weaker : (b : Bool) (P Q R S : Type 0) → (P → R) → (Q → S) → MatchBool b P Q → MatchBool b R S
+bool_weaker true P Q R S h g w = h w
+bool_weaker false P Q R S h g w = g w
+
+pub first_item : {X : Type 0} (l : List X) (d : X) → 1 ≤ length l → l ≡ get_or l 0 d ∷ take (length l - 1) (drop 1 l)
+first_item l d h = split l (get_or l 0 d) h (again l d)
+  where
+    again : {X : Type 0} (l : List X) (d : X) → get_or l 0 d ≡ get_or l 0 (get_or l 0 d)
+    again [] d = refl
+    again (x ∷ l) d = refl
+
+pub some_left : {X : Type 0} (l : List X) → 1 ≤ length l → l ≢ []
+some_left l h e = let n = ap length e in omega (arith, n, h)
+
+module _ (types : List «Type») where
+  pub way_ends : (levels id : ℕ) (steps : List Step) → steps ≡ [] → IsWay types levels id steps []
+  unfolding IsWay
+  way_ends levels id steps e = e
+
+  pub too_deep : (levels id : ℕ) (steps : List Step) → levels ≡ 0 → steps ≢ [] → IsNoWay types levels id steps
+  unfolding IsNoWay
+  too_deep levels id steps e n = subst (λ z. IsNoWay types z id steps) (sym e) n
+
+  module _ (levels n id : ℕ) (l : levels ≡ suc n) (steps : List Step) (step : Step) (after : List Step) (e : steps ≡ step ∷ after) where
+    pub no_type : None ≡ slice_get types id → IsNoWay types levels id steps
+    unfolding IsNoWay
+    no_type g = subst (λ z. IsNoWay types z id steps) (sym l) (step, after, e, inl g)
+
+    -- So many more indices after these.
+    abbrev Appended : List ℕ → List ℕ → (List ℕ → Type 0) → Type 0
+    Appended old new P = (more : List ℕ) × (new ≡ old ++ more) × P more
+
+    module _ (tag : Tag) (inner : TypeId) (g : Some (Tagged tag inner) ≡ slice_get types id) (old mid new : List ℕ) (m : mid ≡ old ++ 0 ∷ []) where
+      tag_way : Appended mid new (IsWay types n inner.0 steps) → Appended old new (IsWay types levels id steps)
+      unfolding IsWay
+      tag_way (more, q, w) = (0 ∷ more, q ∙ ap (λ z. z ++ more) m ∙ append_assoc old (0 ∷ []) more, (n, l, step, after, e, inl (tag, inner, g, refl, w)))
+
+      no_tag_way : IsNoWay types n inner.0 steps → IsNoWay types levels id steps
+      unfolding IsNoWay
+      no_tag_way w = subst (λ z. IsNoWay types z id steps) (sym l) (step, after, e, inr (inl (tag, inner, g, w)))
+
+      pub tagged_way : (b : Bool) → MatchBool b (Appended mid new (IsWay types n inner.0 steps)) (IsNoWay types n inner.0 steps) → MatchBool b (Appended old new (IsWay types levels id steps)) (IsNoWay types levels id steps)
+      tagged_way b w = bool_weaker b _ _ _ _ tag_way no_tag_way w
+
+    module _ (ty : «Type») (g : Some ty ≡ slice_get types id) (t : IsTagged ty → ⊥) (old new : List ℕ) where
+      one_way : Appended old new (IsPartWay types n ty step after) → Appended old new (IsWay types levels id steps)
+      unfolding IsWay
+      one_way (more, q, (k, next, rest, i, s, w)) = (k ∷ rest, q ∙ ap (λ z. old ++ z) i, (n, l, step, after, e, inr (ty, next, g, t, s, w)))
+
+      no_one_way : IsNoPartWay types n ty step after → IsNoWay types levels id steps
+      unfolding IsNoWay
+      no_one_way w = subst (λ z. IsNoWay types z id steps) (sym l) (step, after, e, inr (inr (ty, g, t, w)))
+
+      pub part_way : (b : Bool) → MatchBool b (Appended old new (IsPartWay types n ty step after)) (IsNoPartWay types n ty step after) → MatchBool b (Appended old new (IsWay types levels id steps)) (IsNoWay types levels id steps)
+      part_way b w = bool_weaker b _ _ _ _ one_way no_one_way w
+
+  pub stepped_way : (n : ℕ) (ty : «Type») (step : Step) (after : List Step) (k : ℕ) (next : TypeId) → IsStepOf ty step k next → (old mid new : List ℕ) → mid ≡ old ++ k ∷ [] → (b : Bool)
+      → MatchBool b ((more : List ℕ) × (new ≡ mid ++ more) × IsWay types n next.0 after more) (IsNoWay types n next.0 after) → MatchBool b ((more : List ℕ) × (new ≡ old ++ more) × IsPartWay types n ty step after more) (IsNoPartWay types n ty step after)
+  stepped_way n ty step after k next s old mid new m b w =
+      bool_weaker b _ _ _ _ (λ (more, q, v). (k ∷ more, q ∙ ap (λ z. z ++ more) m ∙ append_assoc old (k ∷ []) more, (k, next, more, refl, s, v))) (λ v. inr (k, next, s, v)) w

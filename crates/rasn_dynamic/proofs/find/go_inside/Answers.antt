@@ -1,0 +1,50 @@
+use Rattle.std.proofs.Common.{refl, ap, subst}
+use Rattle.rasn_types.specs.Lawful.{IsLawful}
+use Rattle.rasn_schema.specs.declared.type_id.TypeId.{TypeId}
+use Rattle.rasn_schema.specs.Shapes.{shape_of_type, type_by}
+use Rattle.rasn_dynamic.proofs.Contents.{list_lawful, set_of_lawful, seq_lawful, set_lawful, none_holds}
+use Rattle.rasn_dynamic.proofs.InOrder.{lawful_parts}
+use Rattle.rasn_dynamic.proofs.Parts.{option_weaker, no_parts}
+use Rattle.rasn_dynamic.proofs.find.go_inside.Goals as goal
+
+pub go_to_component-requires : goal.go_to_component-requires
+go_to_component-requires c = record {
+  lawful = rw c.deref-in-Sequence.ensures.value (lawful_parts (shape_of_type c.args.types.now c.args.below) _ (seq_lawful _ _ (subst (λ n. IsLawful (type_by (shape_of_type c.args.types.now c.args.below) n)) c.in-Sequence.is c.requires.lawful)));
+}
+
+pub go_to_member-requires : goal.go_to_member-requires
+go_to_member-requires c = record {
+  lawful = rw c.deref-in-Set.ensures.value (set_lawful _ _ (subst (λ n. IsLawful (type_by (shape_of_type c.args.types.now c.args.below) n)) c.in-Set.is c.requires.lawful));
+}
+
+pub go_to_element-requires : goal.go_to_element-requires
+go_to_element-requires c = record {
+  lawful = list_lawful _ _ c.in-SequenceOf.constraints.size (subst (λ n. IsLawful (type_by (shape_of_type c.args.types.now c.args.below) n)) c.in-SequenceOf.is c.requires.lawful);
+}
+
+pub go_to_element-requires-in-SetOf : goal.go_to_element-requires-in-SetOf
+go_to_element-requires-in-SetOf c = record {
+  lawful = set_of_lawful _ _ c.in-SetOf.constraints.size (subst (λ n. IsLawful (type_by (shape_of_type c.args.types.now c.args.below) n)) c.in-SetOf.is c.requires.lawful);
+}
+
+pub returns-in-Tagged : goal.returns-in-Tagged
+returns-in-Tagged c = rw c.in-Tagged.is (record { found = option_weaker c.only_part.result _ _ _ _ (λ n. n) (λ id w. (w.0, ap (λ (z : TypeId). z.0) w.1, refl)) c.only_part.ensures })
+
+pub returns-in-Choice : goal.returns-in-Choice
+returns-in-Choice c = rw (c.in-Choice.is, ← c.deref.ensures.value) (record { found = c.alternative_here.ensures })
+
+pub returns-in-Sequence : goal.returns-in-Sequence
+returns-in-Sequence c = rw (c.in-Sequence.is, ← c.deref-in-Sequence.ensures.value) (record { found = c.go_to_component.ensures.found })
+
+pub returns-in-Set : goal.returns-in-Set
+returns-in-Set c = rw (c.in-Set.is, ← c.deref-in-Set.ensures.value) (record { found = c.go_to_member.ensures.found })
+
+pub returns-in-SequenceOf : goal.returns-in-SequenceOf
+returns-in-SequenceOf c = rw c.in-SequenceOf.is (record { found = c.go_to_element.ensures.found })
+
+pub returns-in-SetOf : goal.returns-in-SetOf
+returns-in-SetOf c = rw c.in-SetOf.is (record { found = c.go_to_element-in-SetOf.ensures.found })
+
+pub returns-in_default : goal.returns-in_default
+returns-in_default c =
+    record { found = no_parts c.args.types.now (shape_of_type c.args.types.now c.args.below) c.args.ty.now (none_holds c.args.ty.now c.in_default.not-Tagged c.in_default.not-Sequence c.in_default.not-Set c.in_default.not-SequenceOf c.in_default.not-SetOf) c.in_default.not-Choice c.args.decoder.now c.args.index }

@@ -1,0 +1,138 @@
+-- Where the part at the end of a path is.
+use Rattle.std.specs.Prelude.{◌≡◌, ◌≢◌, ◌⊎◌, ◌+◌, ◌≤◌, ℕ, suc, List, ◌∷◌, ◌++◌, length, Bool, true, false, slice_get, Option, Some, None, Ok}
+use Rattle.rasn_types.specs.declared.types.codec.Codec.{Codec}
+use Rattle.rasn_types.specs.declared.types.codec.Codec.TheVariants.{Ber}
+use Rattle.rasn_types.specs.declared.types.tag.Tag.{Tag}
+use Rattle.rasn_types.specs.Framing.{Frame, definite, indefinite, NextTag, Ended}
+use Rattle.rasn_types.specs.Tags.{form}
+use Rattle.rasn_types.specs.Shapes.{Shape, Tree, choice, Presence, IsFirst}
+use Rattle.rasn_types.specs.Grammar.{Reads}
+use Rattle.rasn_types.specs.Readings.{Reading, NoneOf}
+use Rattle.rasn_de.specs.State.{State}
+use Rattle.rasn_de.specs.declared.ber.de.constructed.ConstructedHeader.{ConstructedHeader}
+use Rattle.rasn_de.specs.Constructed.{sequence_header, list_header, prefix_header}
+use Rattle.rasn_de.specs.Outcomes.{Exact, Got}
+use Rattle.rasn_de.specs.Decodes.{Decodes, DecodesBy}
+use Rattle.rasn_de.specs.Optional.{NextTagIs}
+use Rattle.rasn_de.specs.SequenceOf.{DecodesInTurn, DecodesInTurnFrom}
+use Rattle.rasn_schema.specs.declared.types.«Type».{«Type»}
+use Rattle.rasn_schema.specs.declared.types.«Type».TheVariants.{Leaf, Enumerated, Any, Tagged, Choice, Sequence, Set, SequenceOf, SetOf}
+use Rattle.rasn_schema.specs.declared.types.Component.{Component}
+use Rattle.rasn_schema.specs.declared.types.Alternative.{Alternative}
+use Rattle.rasn_schema.specs.declared.value.Value.{Value}
+use Rattle.rasn_schema.specs.Trees.{tree_of}
+use Rattle.rasn_schema.specs.Shapes.{shape_of_type, components_by, presence_of, tag_at}
+use Rattle.rasn_schema.specs.FirstTags.{IsAlwaysThere}
+use Rattle.rasn_dynamic.specs.Calls.{LeavesAllOut, DecodesPresent}
+use Rattle.rasn_dynamic.specs.Faults.{ComponentsInTurn, Enters, Leads, start}
+use Rattle.rasn_dynamic.specs.declared.part.Part.{Part}
+
+-- The octets begin with a header of so many octets, of the definite or the indefinite form (X.690 8.1.3).
+abbrev pub IsHeader : List ℕ → ℕ → Bool → Type 0
+IsHeader octets n false = (tag : Tag) × (bit : Bool) × (contents : List ℕ) × (rest : List ℕ) × Frame (form Ber) octets tag bit rest (definite contents) × (n + (length contents + length rest) ≡ length octets)
+IsHeader octets n true = (tag : Tag) × (bit : Bool) × (rest : List ℕ) × Frame (form Ber) octets tag bit rest indefinite × (n + length rest ≡ length octets)
+
+-- The inner octets are among the outer ones. If these end at the one offset of a message, those end at the other.
+abbrev pub IsSeen : List ℕ → ℕ → List ℕ → ℕ → Type 0
+IsSeen outer end inner new_end = (front : List ℕ) × (back : List ℕ) × (outer ≡ front ++ (inner ++ back)) × (new_end + length back ≡ end)
+
+-- ---- values that are read and not kept
+
+-- Some value is read by R.
+abbrev pub PassesBy : (Codec → ℕ → Bool → Reading Tree) → State → State → Type 0
+PassesBy R old new = (v : Value) × DecodesBy R tree_of old (Ok v) new
+
+-- Some value is read by its shape, and takes some of the octets; one of a component that is present.
+abbrev pub PassesElement : Shape → State → State → Type 0
+PassesElement s old new = (v : Value) × Decodes s tree_of old (Ok v) new × (length new.rest ≢ length old.rest)
+
+abbrev pub PassesPresent : Presence → Shape → State → State → Type 0
+PassesPresent p s old new = (v : Value) × DecodesPresent p s old (Ok v) new × (length new.rest ≢ length old.rest)
+
+-- ---- no part k in what is read in the state s. f gives the shape of the type with a number.
+
+-- The alternative that follows is another one.
+abbrev pub LacksAlternative : (ℕ → Shape) → List Alternative → State → ℕ → Type 0
+LacksAlternative f ks s k = (tag : Tag) × (j : ℕ) × (a : Alternative) × NextTag (form s.rule) s.rest tag × (Some a ≡ slice_get ks j) × IsFirst (f a.type_id.0) tag × (j ≢ k)
+
+-- The component may be absent, and its tag doesn't follow.
+abbrev pub IsAbsentHere : List «Type» → Component → State → Type 0
+IsAbsentHere types p s = (IsAlwaysThere (presence_of p.presence) → ⊥) × NextTagIs (tag_at types p.type_id.0) s (Ok false)
+
+-- All components are left out; or there are no more of them; or the component is absent after those before it.
+abbrev pub LacksComponent : List «Type» → (ℕ → Shape) → List Component → State → ℕ → Type 0
+LacksComponent types f ps s k = LeavesAllOut ps s ⊎ ((length ps ≤ k)
+    ⊎ ((done : List Component) × (p : Component) × (after : List Component) × (here : State) × (ps ≡ done ++ p ∷ after) × (length done ≡ k) × ComponentsInTurn f done s here × IsAbsentHere types p here))
+
+-- Other components of the SET are read up to the end.
+abbrev pub LacksMember : (ℕ → Shape) → List Component → State → ℕ → Type 0
+LacksMember f ps s k = (done : List Tree) × (bs : List (List ℕ)) × (here : State) × DecodesInTurnFrom (Decodes (choice (components_by f ps)) (λ (t : Tree). t)) s done bs here × NoneOf k done × Ended here.closing here.rest
+
+-- There are no more elements.
+abbrev pub LacksElement : (ℕ → Shape) → ℕ → State → ℕ → Type 0
+LacksElement f id s k = (vs : List Value) × (here : State) × DecodesInTurn (Decodes (f id) tree_of) s vs here × Ended here.closing here.rest × (length vs ≤ k)
+
+abbrev pub LacksPart : List «Type» → (ℕ → Shape) → «Type» → State → ℕ → Type 0
+LacksPart types f (Leaf kind tag c names) s k = Unit {0}
+LacksPart types f (Enumerated tag ns) s k = Unit {0}
+LacksPart types f (Any tag) s k = Unit {0}
+LacksPart types f (Tagged tag id) s k = k ≢ 0
+LacksPart types f (Choice name ks) s k = LacksAlternative f ks.items s k
+LacksPart types f (Sequence tag ps) s k = LacksComponent types f ps.items s k
+LacksPart types f (Set name tag ps) s k = LacksMember f ps.items s k
+LacksPart types f (SequenceOf tag id c) s k = LacksElement f id.0 s k
+LacksPart types f (SetOf tag id c) s k = LacksElement f id.0 s k
+
+-- The state in which the contents of a value are read, if it holds others; else the state in which the value is.
+abbrev pub IsEntered : «Type» → State → State → Type 0
+IsEntered (Leaf kind tag c names) s inner = inner ≡ s
+IsEntered (Enumerated tag ns) s inner = inner ≡ s
+IsEntered (Any tag) s inner = inner ≡ s
+IsEntered (Tagged tag id) s inner = Enters (Tagged tag id) s inner
+IsEntered (Choice name ks) s inner = Enters (Choice name ks) s inner
+IsEntered (Sequence tag ps) s inner = Enters (Sequence tag ps) s inner
+IsEntered (Set name tag ps) s inner = Enters (Set name tag ps) s inner
+IsEntered (SequenceOf tag id c) s inner = Enters (SequenceOf tag id c) s inner
+IsEntered (SetOf tag id c) s inner = Enters (SetOf tag id c) s inner
+
+-- The header of a value of the type, if it holds others after one.
+abbrev pub IsHeaderOf : «Type» → Option ConstructedHeader → Type 0
+IsHeaderOf (Leaf kind tag c names) d = d ≡ None
+IsHeaderOf (Enumerated tag ns) d = d ≡ None
+IsHeaderOf (Any tag) d = d ≡ None
+IsHeaderOf (Tagged tag id) d = d ≡ Some (prefix_header tag)
+IsHeaderOf (Choice name ks) d = d ≡ None
+IsHeaderOf (Sequence tag ps) d = d ≡ Some (sequence_header tag)
+IsHeaderOf (Set name tag ps) d = d ≡ Some (sequence_header tag)
+IsHeaderOf (SequenceOf tag id c) d = d ≡ Some (list_header tag)
+IsHeaderOf (SetOf tag id c) d = d ≡ Some (list_header tag)
+
+-- A value of the type with the number has no part k.
+abbrev pub LacksPartAt : List «Type» → ℕ → ℕ → State → ℕ → Type 0
+LacksPartAt types levels id s k = (n : ℕ) × (levels ≡ suc n) × (ty : «Type») × (slice_get types id ≡ Some ty) × (inner : State) × IsEntered ty s inner × LacksPart types (shape_of_type types n) ty inner k
+
+-- The path leads to a value that has no such part.
+abbrev pub LacksPath : List «Type» → List ℕ → ℕ → ℕ → State → Type 0
+LacksPath types path levels id s = (done : List ℕ) × (k : ℕ) × (after : List ℕ) × (path ≡ done ++ k ∷ after)
+    × (below : ℕ) × (next : ℕ) × (here : State) × Leads types done levels id s below next here × LacksPartAt types below next here k
+
+-- ---- a part
+
+-- A value of the type with the number is read from these octets.
+pub record IsReadHere (types : List «Type») (levels id : ℕ) (s : State) (octets : List ℕ) (header_len : ℕ) (is_indefinite : Bool) : Type 0 where
+  pub tree : Tree
+  pub rest : List ℕ
+  pub is : s.rest ≡ octets ++ rest
+  pub reads : Exact (Reads s.rule (shape_of_type types levels id) s.depth s.closing) s.rest (Got tree rest)
+  pub header : IsHeader s.rest header_len is_indefinite
+
+-- The path leads to a value that the grammar relates to the octets of the part, and they are at its offset in the input.
+pub record IsPartAt (types : List «Type») (rule : Codec) (id : ℕ) (input path : List ℕ) (p : Part) : Type 0 where
+  pub below : ℕ
+  pub last : State
+  pub front : List ℕ
+  pub back : List ℕ
+  pub is : input ≡ front ++ (last.rest ++ back)
+  pub offset : length front ≡ p.offset
+  pub leads : Leads types path 18446744073709551615 id (start rule input) below p.id.0 last
+  pub read : IsReadHere types below p.id.0 last p.octets.now p.header_len p.is_indefinite

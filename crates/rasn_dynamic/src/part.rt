@@ -1,0 +1,40 @@
+//! A part of a message.
+ghost use Rattle.std.specs.Prelude.{IfOk};
+ghost use Rattle.rasn_dynamic.specs.Parts.{IsHeader};
+
+use crate::trace::octets_after;
+use rasn_de::ber::de::{ConstructedHeader, Decoder, DecoderOptions};
+use rasn_schema::TypeId;
+use rasn_types::error::DecodeError;
+use rasn_types::types::Codec;
+use std::alloc::Global;
+
+/// A part of a message: a value that is in it, or the message itself.
+#[derive(Debug, Drop)]
+pub struct Part<'input> {
+    /// The number of its type.
+    pub id: TypeId,
+    /// Where it begins, in octets from the start of the message: at its identifier octets.
+    pub offset: usize,
+    /// The number of its identifier and length octets (X.690 8.1.2, 8.1.3).
+    pub header_len: usize,
+    /// Whether its length is indefinite: then end-of-contents octets end it (X.690 8.1.3.6).
+    pub is_indefinite: bool,
+    /// All of its octets: the header, the contents, and end-of-contents octets if they end it.
+    pub octets: &'input [u8],
+}
+
+/// Returns the number of identifier and length octets of the encoding with which the octets begin,
+/// and whether its length is indefinite.
+///
+/// # Errors
+/// The framing error of BER, if no encoding begins there.
+pub fn header_of(alloc: Global, octets: &[u8]) -> Result<(usize, bool), DecodeError>
+    ensures { IfOk result (λ h. IsHeader octets.now h.0 h.1) }
+{
+    let mut decoder = Decoder::new(alloc, octets, DecoderOptions::of(Codec::Ber));
+    let tag = decoder.peek_tag()?;
+    let (inner, _) = decoder.open(ConstructedHeader::prefix(tag))?;
+    let end = octets.len() - octets_after(&decoder, &inner);
+    Ok((end - inner.remaining().len(), inner.may_be_closed()))
+}

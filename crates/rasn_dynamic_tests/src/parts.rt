@@ -1,0 +1,95 @@
+//! Parts of messages, by their paths.
+
+use crate::faults::TYPES;
+use rasn_dynamic::{Part, Step, find_part, path_named};
+use rasn_schema::{Schema, TypeId};
+use rasn_schema_bench::types;
+use rasn_types::types::Codec;
+use std::alloc::Global;
+
+/// Where a part is: the offset, the type, the length of its header and of all of it.
+type Found = (usize, usize, usize, usize);
+
+/// A type, octets of it, a path, and the part there.
+type Row = (
+    usize,
+    &'static [u8],
+    &'static [usize],
+    Option<(Found, bool)>,
+);
+
+fn is_found(found: &Option<Part<'_>>, expected: &Option<(Found, bool)>) -> bool {
+    match (found, expected) {
+        (Some(part), Some(((offset, id, header_len, len), is_indefinite))) => {
+            part.offset == *offset
+                && part.id == TypeId(*id)
+                && part.header_len == *header_len
+                && part.octets.len() == *len
+                && part.is_indefinite == *is_indefinite
+        }
+        (None, None) => true,
+        _ => false,
+    }
+}
+
+/// Returns whether the part is found.
+fn finds(alloc: Global, row: &Row) -> Option<bool> {
+    let (id, octets, path, expected) = row;
+    let schema = Schema::new(types(alloc, TYPES).ok()?).ok()?;
+    let found = find_part(alloc, Codec::Ber, &schema, TypeId(*id), *octets, *path).ok()?;
+    Some(is_found(&found, expected))
+}
+
+const LIST: &[u8] = &[0x30, 13, 0x30, 6, 1, 1, 0xFF, 2, 1, 7, 0x30, 3, 1, 1, 0];
+
+const OPEN_LIST: &[u8] = &[
+    0x30, 0x80, 0x30, 0x80, 1, 1, 0xFF, 2, 1, 9, 0, 0, 0x30, 6, 1, 1, 0, 2, 1, 1, 0, 0,
+];
+
+// X.690 8.1.2, 8.1.3, 8.9, 8.10, 8.13: offsets are counted in the octets by hand.
+#[test]
+fn parts_are_found(rt: HostRuntime) {
+    const ROWS: &[Row] = &[
+        (3, OPEN_LIST, &[], Some(((0, 3, 2, 22), true))),
+        (3, OPEN_LIST, &[0], Some(((2, 2, 2, 10), true))),
+        (3, OPEN_LIST, &[0, 1], Some(((7, 1, 2, 3), false))),
+        (3, OPEN_LIST, &[1], Some(((12, 2, 2, 8), false))),
+        (3, OPEN_LIST, &[1, 1], Some(((17, 1, 2, 3), false))),
+        (3, OPEN_LIST, &[2], None),
+        (3, OPEN_LIST, &[1, 2], None),
+        (3, LIST, &[0, 1], Some(((7, 1, 2, 3), false))),
+        (5, &[1, 1, 0], &[0], Some(((0, 0, 2, 3), false))),
+        (5, &[1, 1, 0], &[1], None),
+        (
+            5,
+            &[0xA0, 4, 0x30, 0, 5, 0],
+            &[2, 0],
+            Some(((2, 3, 2, 2), false)),
+        ),
+    ];
+    for row in ROWS {
+        assert!(rt; finds(rt.alloc(), row) == Some(true));
+    }
+}
+
+/// Returns whether the names lead along this path, or nowhere.
+fn leads(alloc: Global, id: usize, steps: &[Step<'_>], expected: Option<&[usize]>) -> Option<bool> {
+    let schema = Schema::new(types(alloc, TYPES).ok()?).ok()?;
+    let path = path_named(alloc, &schema, TypeId(id), steps).ok()?;
+    match (&path, expected) {
+        (Some(path), Some(expected)) => Some(path.as_slice() == expected),
+        (None, None) => Some(true),
+        _ => Some(false),
+    }
+}
+
+#[test]
+fn names_lead_along_paths(rt: HostRuntime) {
+    let number = [Step::Name("list"), Step::Index(4), Step::Name("number")];
+    assert!(rt; leads(rt.alloc(), 5, &number, Some(&[1, 4, 1])) == Some(true));
+    let tagged = [Step::Name("tagged"), Step::Index(0)];
+    assert!(rt; leads(rt.alloc(), 5, &tagged, Some(&[2, 0, 0])) == Some(true));
+    assert!(rt; leads(rt.alloc(), 5, &[Step::Name("flags")], None) == Some(true));
+    assert!(rt; leads(rt.alloc(), 2, &[Step::Index(0)], None) == Some(true));
+    assert!(rt; leads(rt.alloc(), 2, &[], Some(&[])) == Some(true));
+}
