@@ -200,16 +200,16 @@ no_header (SequenceOf tag id c) n = absurd (n tt)
 no_header (SetOf tag id c) n = absurd (n tt)
 
 -- A type that holds no others, and isn't a CHOICE, has no part.
-pub no_parts : (types : List «Type») (f : ℕ → Shape) (ty : «Type») → (HoldsOthers ty → ⊥) → ((name : String Global) (ks : Vec Alternative Global) → ty ≡ Choice name ks → ⊥) → (s : State) (k : ℕ) → LacksPart types f ty s k
-no_parts types f (Leaf kind tag c names) n m s k = tt
-no_parts types f (Enumerated tag ns) n m s k = tt
-no_parts types f (Any tag) n m s k = tt
-no_parts types f (Tagged tag id) n m s k = absurd (n tt)
-no_parts types f (Choice name ks) n m s k = absurd (m name ks refl)
-no_parts types f (Sequence tag ps) n m s k = absurd (n tt)
-no_parts types f (Set name tag ps) n m s k = absurd (n tt)
-no_parts types f (SequenceOf tag id c) n m s k = absurd (n tt)
-no_parts types f (SetOf tag id c) n m s k = absurd (n tt)
+pub no_parts : (f : ℕ → Shape) (ty : «Type») → (HoldsOthers ty → ⊥) → ((name : String Global) (ks : Vec Alternative Global) → ty ≡ Choice name ks → ⊥) → (s : State) (k : ℕ) → LacksPart f ty s k
+no_parts f (Leaf kind tag c names) n m s k = tt
+no_parts f (Enumerated tag ns) n m s k = tt
+no_parts f (Any tag) n m s k = tt
+no_parts f (Tagged tag id) n m s k = absurd (n tt)
+no_parts f (Choice name ks) n m s k = absurd (m name ks refl)
+no_parts f (Sequence tag ps) n m s k = absurd (n tt)
+no_parts f (Set name tag ps) n m s k = absurd (n tt)
+no_parts f (SequenceOf tag id c) n m s k = absurd (n tt)
+no_parts f (SetOf tag id c) n m s k = absurd (n tt)
 
 -- ---- results
 

@@ -5,7 +5,7 @@ use Rattle.rasn_types.specs.declared.types.codec.Codec.TheVariants.{Ber}
 use Rattle.rasn_types.specs.declared.types.tag.Tag.{Tag}
 use Rattle.rasn_types.specs.Framing.{Frame, definite, indefinite, NextTag, Ended}
 use Rattle.rasn_types.specs.Tags.{form}
-use Rattle.rasn_types.specs.Shapes.{Shape, Tree, choice, Presence, IsFirst}
+use Rattle.rasn_types.specs.Shapes.{Shape, Tree, choice, Presence, IsFirst, sought_by}
 use Rattle.rasn_types.specs.Grammar.{Reads}
 use Rattle.rasn_types.specs.Readings.{Reading, NoneOf}
 use Rattle.rasn_de.specs.State.{State}
@@ -13,7 +13,7 @@ use Rattle.rasn_de.specs.declared.ber.de.constructed.ConstructedHeader.{Construc
 use Rattle.rasn_de.specs.Constructed.{sequence_header, list_header, prefix_header}
 use Rattle.rasn_de.specs.Outcomes.{Exact, Got}
 use Rattle.rasn_de.specs.Decodes.{Decodes, DecodesBy}
-use Rattle.rasn_de.specs.Optional.{NextTagIs}
+use Rattle.rasn_de.specs.Optional.{NextIs}
 use Rattle.rasn_de.specs.SequenceOf.{DecodesInTurn, DecodesInTurnFrom}
 use Rattle.rasn_schema.specs.declared.types.«Type».{«Type»}
 use Rattle.rasn_schema.specs.declared.types.«Type».TheVariants.{Leaf, Enumerated, Any, Tagged, Choice, Sequence, Set, SequenceOf, SetOf}
@@ -21,7 +21,7 @@ use Rattle.rasn_schema.specs.declared.types.Component.{Component}
 use Rattle.rasn_schema.specs.declared.types.Alternative.{Alternative}
 use Rattle.rasn_schema.specs.declared.value.Value.{Value}
 use Rattle.rasn_schema.specs.Trees.{tree_of}
-use Rattle.rasn_schema.specs.Shapes.{shape_of_type, components_by, presence_of, tag_at}
+use Rattle.rasn_schema.specs.Shapes.{shape_of_type, components_by, presence_of, key_of}
 use Rattle.rasn_schema.specs.FirstTags.{IsAlwaysThere}
 use Rattle.rasn_dynamic.specs.Calls.{LeavesAllOut, DecodesPresent}
 use Rattle.rasn_dynamic.specs.Faults.{ComponentsInTurn, Enters, Leads, start}
@@ -55,14 +55,14 @@ PassesPresent p s old new = (v : Value) × DecodesPresent p s old (Ok v) new × 
 abbrev pub LacksAlternative : (ℕ → Shape) → List Alternative → State → ℕ → Type 0
 LacksAlternative f ks s k = (tag : Tag) × (j : ℕ) × (a : Alternative) × NextTag (form s.rule) s.rest tag × (Some a ≡ slice_get ks j) × IsFirst (f a.type_id.0) tag × (j ≢ k)
 
--- The component may be absent, and its tag doesn't follow.
-abbrev pub IsAbsentHere : List «Type» → Component → State → Type 0
-IsAbsentHere types p s = (IsAlwaysThere (presence_of p.presence) → ⊥) × NextTagIs (tag_at types p.type_id.0) s (Ok false)
+-- The component may be absent, and none of the tags that it is recognized by follows.
+abbrev pub IsAbsentHere : (ℕ → Shape) → Component → State → Type 0
+IsAbsentHere f p s = (IsAlwaysThere (presence_of p.presence) → ⊥) × NextIs (sought_by (key_of (f p.type_id.0)) (f p.type_id.0)) s (Ok false)
 
 -- All components are left out; or there are no more of them; or the component is absent after those before it.
-abbrev pub LacksComponent : List «Type» → (ℕ → Shape) → List Component → State → ℕ → Type 0
-LacksComponent types f ps s k = LeavesAllOut ps s ⊎ ((length ps ≤ k)
-    ⊎ ((done : List Component) × (p : Component) × (after : List Component) × (here : State) × (ps ≡ done ++ p ∷ after) × (length done ≡ k) × ComponentsInTurn f done s here × IsAbsentHere types p here))
+abbrev pub LacksComponent : (ℕ → Shape) → List Component → State → ℕ → Type 0
+LacksComponent f ps s k = LeavesAllOut ps s ⊎ ((length ps ≤ k)
+    ⊎ ((done : List Component) × (p : Component) × (after : List Component) × (here : State) × (ps ≡ done ++ p ∷ after) × (length done ≡ k) × ComponentsInTurn f done s here × IsAbsentHere f p here))
 
 -- Other components of the SET are read up to the end.
 abbrev pub LacksMember : (ℕ → Shape) → List Component → State → ℕ → Type 0
@@ -72,16 +72,16 @@ LacksMember f ps s k = (done : List Tree) × (bs : List (List ℕ)) × (here : S
 abbrev pub LacksElement : (ℕ → Shape) → ℕ → State → ℕ → Type 0
 LacksElement f id s k = (vs : List Value) × (here : State) × DecodesInTurn (Decodes (f id) tree_of) s vs here × Ended here.closing here.rest × (length vs ≤ k)
 
-abbrev pub LacksPart : List «Type» → (ℕ → Shape) → «Type» → State → ℕ → Type 0
-LacksPart types f (Leaf kind tag c names) s k = Unit {0}
-LacksPart types f (Enumerated tag ns) s k = Unit {0}
-LacksPart types f (Any tag) s k = Unit {0}
-LacksPart types f (Tagged tag id) s k = k ≢ 0
-LacksPart types f (Choice name ks) s k = LacksAlternative f ks.items s k
-LacksPart types f (Sequence tag ps) s k = LacksComponent types f ps.items s k
-LacksPart types f (Set name tag ps) s k = LacksMember f ps.items s k
-LacksPart types f (SequenceOf tag id c) s k = LacksElement f id.0 s k
-LacksPart types f (SetOf tag id c) s k = LacksElement f id.0 s k
+abbrev pub LacksPart : (ℕ → Shape) → «Type» → State → ℕ → Type 0
+LacksPart f (Leaf kind tag c names) s k = Unit {0}
+LacksPart f (Enumerated tag ns) s k = Unit {0}
+LacksPart f (Any tag) s k = Unit {0}
+LacksPart f (Tagged tag id) s k = k ≢ 0
+LacksPart f (Choice name ks) s k = LacksAlternative f ks.items s k
+LacksPart f (Sequence tag ps) s k = LacksComponent f ps.items s k
+LacksPart f (Set name tag ps) s k = LacksMember f ps.items s k
+LacksPart f (SequenceOf tag id c) s k = LacksElement f id.0 s k
+LacksPart f (SetOf tag id c) s k = LacksElement f id.0 s k
 
 -- The state in which the contents of a value are read, if it holds others; else the state in which the value is.
 abbrev pub IsEntered : «Type» → State → State → Type 0
@@ -109,7 +109,7 @@ IsHeaderOf (SetOf tag id c) d = d ≡ Some (list_header tag)
 
 -- A value of the type with the number has no part k.
 abbrev pub LacksPartAt : List «Type» → ℕ → ℕ → State → ℕ → Type 0
-LacksPartAt types levels id s k = (n : ℕ) × (levels ≡ suc n) × (ty : «Type») × (slice_get types id ≡ Some ty) × (inner : State) × IsEntered ty s inner × LacksPart types (shape_of_type types n) ty inner k
+LacksPartAt types levels id s k = (n : ℕ) × (levels ≡ suc n) × (ty : «Type») × (slice_get types id ≡ Some ty) × (inner : State) × IsEntered ty s inner × LacksPart (shape_of_type types n) ty inner k
 
 -- The path leads to a value that has no such part.
 abbrev pub LacksPath : List «Type» → List ℕ → ℕ → ℕ → State → Type 0

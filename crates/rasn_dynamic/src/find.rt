@@ -2,7 +2,7 @@
 ghost use Rattle.std.specs.Prelude.{◌≡◌, ◌≢◌, ◌⊎◌, ◌+◌, ◌≤◌, ◌∷◌, [], length, true, OnOk, IfOk, IfErr, MatchOption, MatchBool};
 ghost use Rattle.rasn_types.specs.Errors.{IsOutOfMemory};
 ghost use Rattle.rasn_types.specs.Lawful.{IsLawful, AreLawfulByTag};
-ghost use Rattle.rasn_schema.specs.Shapes.{shape_of_type, type_by, components_by, presence_of, AreLawful};
+ghost use Rattle.rasn_schema.specs.Shapes.{shape_of_type, type_by, components_by, presence_in, AreLawful};
 ghost use Rattle.rasn_dynamic.specs.Inside.{ReadsComponent};
 ghost use Rattle.rasn_dynamic.specs.Faults.{IsAlternativeAt, IsComponentAt, IsMemberAt, IsElementAt, IsPart, Leads, IsLocated, start};
 ghost use Rattle.rasn_dynamic.specs.Parts.{IsSeen, LacksAlternative, IsAbsentHere, LacksComponent, LacksMember, LacksElement, LacksPart, IsEntered, LacksPartAt, LacksPath, IsReadHere, IsPartAt, IsHeaderOf, PassesBy, PassesPresent, PassesElement};
@@ -11,12 +11,12 @@ use crate::components::{is_always_there, leaves_all_out};
 use crate::locate::decode_or_locate;
 use crate::order::octets_before;
 use crate::part::{Part, header_of};
-use crate::reader::{decode_at, decode_component, decode_present, extra, no_value};
+use crate::reader::{decode_at, decode_component, decode_present, extra, is_next, no_value};
 use crate::refusal::Refusal;
 use crate::set::component_for;
 use crate::trace::octets_after;
 use rasn_de::ber::de::{ConstructedHeader, Decoder, DecoderOptions};
-use rasn_schema::{Alternative, Component, Schema, Type, TypeId, alternative_for, tag_at, type_at};
+use rasn_schema::{Alternative, Component, Schema, Type, TypeId, alternative_for, type_at};
 use rasn_types::error::{DecodeError, DecodeErrorKind};
 use rasn_types::types::Codec;
 use std::alloc::Global;
@@ -88,14 +88,16 @@ fn alternative_here(
 fn component_here(
     decoder: &Decoder<'_>,
     types: &[Type],
+    below: usize,
     component: &Component,
 ) -> Result<Option<TypeId>, DecodeError>
-    ensures { IfOk result (λ found. MatchOption found (IsAbsentHere types.now component.now decoder.now) (λ id. id ≡ component.now.type_id)) }
+    requires lawful { IsLawful (shape_of_type types.now below component.now.type_id.0) }
+    ensures { IfOk result (λ found. MatchOption found (IsAbsentHere (shape_of_type types.now below) component.now decoder.now) (λ id. id ≡ component.now.type_id)) }
 {
     if is_always_there(component) {
         return Ok(Some(component.type_id));
     }
-    match decoder.next_tag_is(tag_at(types, component.type_id)) {
+    match is_next(decoder, types, below, component.type_id) {
         Ok(true) => Ok(Some(component.type_id)),
         Ok(false) => Ok(None),
         Err(error) => Err(error),
@@ -110,7 +112,7 @@ fn pass_component(
     component: &Component,
 ) -> Result<(), DecodeError>
     requires lawful { IsLawful (shape_of_type types.now below component.now.type_id.0) }
-    ensures { OnOk result (PassesBy (ReadsComponent (presence_of component.now.presence) (shape_of_type types.now below component.now.type_id.0)) decoder.old decoder.new) }
+    ensures { OnOk result (PassesBy (ReadsComponent (presence_in (shape_of_type types.now below) component.now) (shape_of_type types.now below component.now.type_id.0)) decoder.old decoder.new) }
 {
     let mut trace = None;
     match decode_component(decoder, &mut trace, types, below, component, 0) {
@@ -131,7 +133,7 @@ fn go_to_component(
     index: usize,
 ) -> Result<Option<TypeId>, DecodeError>
     requires lawful { AreLawful (components_by (shape_of_type types.now below) components.now) }
-    ensures found { IfOk result (λ found. MatchOption found (LacksComponent types.now (shape_of_type types.now below) components.now decoder.old index) (λ id. IsComponentAt (shape_of_type types.now below) components.now decoder.old index id.0 decoder.new)) }
+    ensures found { IfOk result (λ found. MatchOption found (LacksComponent (shape_of_type types.now below) components.now decoder.old index) (λ id. IsComponentAt (shape_of_type types.now below) components.now decoder.old index id.0 decoder.new)) }
 {
     if leaves_all_out(decoder, components) {
         return Ok(None);
@@ -140,7 +142,7 @@ fn go_to_component(
     let mut number = 0;
     while let [component, after @ ..] = rest {
         if number == index {
-            return component_here(decoder, types, component);
+            return component_here(decoder, types, below, component);
         }
         pass_component(decoder, types, below, component)?;
         rest = after;
@@ -167,7 +169,7 @@ fn pass_member(
     component: &Component,
 ) -> Result<(), DecodeError>
     requires lawful { IsLawful (shape_of_type types.now below component.now.type_id.0) }
-    ensures { OnOk result (PassesPresent (presence_of component.now.presence) (shape_of_type types.now below component.now.type_id.0) decoder.old decoder.new) }
+    ensures { OnOk result (PassesPresent (presence_in (shape_of_type types.now below) component.now) (shape_of_type types.now below component.now.type_id.0) decoder.old decoder.new) }
 {
     let left = decoder.remaining().len();
     let mut trace = None;
@@ -266,7 +268,7 @@ fn go_inside(
     index: usize,
 ) -> Result<Option<TypeId>, DecodeError>
     requires lawful { IsLawful (type_by (shape_of_type types.now below) ty.now) }
-    ensures found { IfOk result (λ found. MatchOption found (LacksPart types.now (shape_of_type types.now below) ty.now decoder.old index) (λ id. IsPart (shape_of_type types.now below) ty.now decoder.old index id.0 decoder.new)) }
+    ensures found { IfOk result (λ found. MatchOption found (LacksPart (shape_of_type types.now below) ty.now decoder.old index) (λ id. IsPart (shape_of_type types.now below) ty.now decoder.old index id.0 decoder.new)) }
 {
     match ty {
         Type::Tagged { inner, .. } => Ok(only_part(*inner, index)),

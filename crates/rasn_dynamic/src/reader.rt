@@ -518,7 +518,7 @@ fn decode_sequence<'input>(
 /// Returns whether the next value is one of the type with this number: a CHOICE is recognized by its first tags, and any other type by its
 /// own tag.
 #[inline(always)]
-fn is_next(
+pub(crate) fn is_next(
     decoder: &Decoder<'_>,
     types: &[Type],
     levels: usize,

@@ -47,4 +47,4 @@ returns-in-SetOf c = rw c.in-SetOf.is (record { found = c.go_to_element-in-SetOf
 
 pub returns-in_default : goal.returns-in_default
 returns-in_default c =
-    record { found = no_parts c.args.types.now (shape_of_type c.args.types.now c.args.below) c.args.ty.now (none_holds c.args.ty.now c.in_default.not-Tagged c.in_default.not-Sequence c.in_default.not-Set c.in_default.not-SequenceOf c.in_default.not-SetOf) c.in_default.not-Choice c.args.decoder.now c.args.index }
+    record { found = no_parts (shape_of_type c.args.types.now c.args.below) c.args.ty.now (none_holds c.args.ty.now c.in_default.not-Tagged c.in_default.not-Sequence c.in_default.not-Set c.in_default.not-SequenceOf c.in_default.not-SetOf) c.in_default.not-Choice c.args.decoder.now c.args.index }

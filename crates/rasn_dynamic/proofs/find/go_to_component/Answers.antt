@@ -25,6 +25,13 @@ returns-then-number-index c = record {
       IfOk-weaker c.component_here.result _ _ (λ r w. option_weaker r _ _ _ _ (λ absent. inr (inr (i.2, c.component-item.result, _, c.loop-rest.decoder, e, l, i.5, absent))) (λ id same. (i.2, c.component-item.result, _, e, l, ap (λ (z : TypeId). z.0) same, i.5)) w) c.component_here.ensures;
 }
 
+pub component_here-requires : goal.component_here-requires
+component_here-requires c = record {
+  lawful =
+      let at = split c.loop-rest.rest.now _ c.in-len1-up.len_at_least c.component-item.is in
+      (subst AreLawful (ap (components_by (shape_of_type c.args.types.now c.args.below)) at) c.loop-rest.invariant.0).0;
+}
+
 pub pass_component-requires : goal.pass_component-requires
 pass_component-requires c = record {
   lawful =
