@@ -243,9 +243,13 @@ fn other_values_are_told_at_their_tag(rt: HostRuntime) {
 }
 
 // The names are those of RFC 5280, 5.1. The rows: X.690 10.1, 11.8.1 (a lowercase z), 8.3.2, 8.9.2
-// (a tag that no part has).
+// (a tag that no part has; a second nextUpdate, which 5.1.2.5 has once).
 #[test]
 fn spoilt_revocation_lists_are_refused(rt: HostRuntime) {
+    const DECEMBER: &[u8] = &[
+        0x18, 0x0F, 0x32, 0x30, 0x32, 0x36, 0x31, 0x32, 0x32, 0x34, 0x31, 0x36, 0x35, 0x38, 0x30,
+        0x38, 0x5A,
+    ];
     const ROWS: &[Row] = &[
         (
             &["crl"],
@@ -270,6 +274,16 @@ fn spoilt_revocation_lists_are_refused(rt: HostRuntime) {
             REVOCATION_LIST,
             &[(119, 1, &[0xA1])],
             "crl: tbsCertList, byte 119: DER: 49 trailing octets\n",
+        ),
+        (
+            &["crl"],
+            REVOCATION_LIST,
+            &[
+                (1, 2, &[0x82, 0x01, 0x00]),
+                (5, 1, &[0xB3]),
+                (61, 0, DECEMBER),
+            ],
+            "crl: tbsCertList, byte 62: DER: 124 trailing octets\n",
         ),
     ];
     assert_refused(&rt, rt.alloc(), ROWS);
