@@ -2,7 +2,6 @@ use Rattle.std.proofs.Common.{arith, ◌-◌, [], inl, sym}
 use Rattle.std.proofs.lemmas.List.{append-nil}
 use Rattle.std.proofs.lemmas.Result.{IfOk-weaker}
 use Rattle.rasn_schema.proofs.Lists.{nothing_left}
-use Rattle.rasn_schema.specs.declared.types.«Type».TheVariants.{Tagged}
 use Rattle.std.specs.Prelude.{slice_get, Some, ◌≡◌}
 use Rattle.std.proofs.Common.{subst}
 use Rattle.rasn_dynamic.specs.declared.steps.Step.TheVariants.{Index}
