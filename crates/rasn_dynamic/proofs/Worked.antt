@@ -103,7 +103,7 @@ fifth element = (0, refl, Index 4, [], refl, inr (SequenceOf (in_universal 16) e
 
 not_fourth : (element : TypeId) → IsWay (list_alone element) 1 0 (Index 4 ∷ []) (3 ∷ []) → ⊥
 unfolding IsWay
-not_fourth element (n, l, step, after, e, inl (tag, inner, g, more)) = cc
+not_fourth element (n, l, step, after, e, inl (tag, inner, g, zero_index, way)) = cc
 not_fourth element (n, l, step, after, e, inr (ty, next, g, t, s, w)) =
     let type : ty ≡ SequenceOf (in_universal 16) element unconstrained = cc in
     let fourth : step ≡ Index 4 = cc in
