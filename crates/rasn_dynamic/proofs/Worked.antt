@@ -22,6 +22,8 @@ use Rattle.rasn_schema.specs.declared.value.Value.{Value}
 use Rattle.rasn_schema.specs.Shapes.{shape_of_type}
 use Rattle.rasn_dynamic.specs.Faults.{IsWithin, IsPart, Enters, Leads, start}
 use Rattle.rasn_dynamic.specs.Parts.{IsHeader, LacksElement}
+use Rattle.rasn_dynamic.specs.declared.steps.Step.TheVariants.{Index}
+use Rattle.rasn_dynamic.specs.Steps.{IsStepOf, IsWay, IsNoWay}
 use Rattle.rasn_dynamic.specs.Worked.{list_alone, one_element, the_element, no_element, inside_one, WorkedPlaces}
 
 abbrev list_of : List ℕ → Header
@@ -95,6 +97,28 @@ is_definite (tag, bit, rest, f, e) =
     let x : definite (7 ∷ []) ≡ indefinite = o.extent in
     cc
 
+fifth : (element : TypeId) → IsWay (list_alone element) 1 0 (Index 4 ∷ []) (4 ∷ [])
+unfolding IsWay
+fifth element = (0, refl, Index 4, [], refl, inr (SequenceOf (in_universal 16) element unconstrained, element, refl, (λ h. h), (refl, refl), refl))
+
+not_fourth : (element : TypeId) → IsWay (list_alone element) 1 0 (Index 4 ∷ []) (3 ∷ []) → ⊥
+unfolding IsWay
+not_fourth element (n, l, step, after, e, inl (tag, inner, g, zero_index, way)) = cc
+not_fourth element (n, l, step, after, e, inr (ty, next, g, t, s, w)) =
+    let type : ty ≡ SequenceOf (in_universal 16) element unconstrained = cc in
+    let fourth : step ≡ Index 4 = cc in
+    let i = subst (λ z. IsStepOf z (Index 4) 3 next) type (subst (λ z. IsStepOf ty z 3 next) fourth s) in
+    let a = i.0 in
+    omega (arith, a)
+
+missing : IsNoWay [] 1 0 (Index 4 ∷ [])
+unfolding IsNoWay
+missing = (Index 4, [], refl, inl refl)
+
+some_way : (element : TypeId) → IsNoWay (list_alone element) 1 0 [] → ⊥
+unfolding IsNoWay
+some_way element (step, after, e, more) = cc
+
 pub worked_places : WorkedPlaces
 worked_places = record {
   first_element = first;
@@ -116,4 +140,8 @@ worked_places = record {
   not_the_fourth = λ s w. let e = w.0 in omega (arith, e);
   after_definite_contents = refl;
   after_indefinite_contents = refl;
+  fifth_element = fifth;
+  not_the_fourth_element = not_fourth;
+  no_way_into_a_missing_type = missing;
+  way_into_a_list = some_way;
 }

@@ -11,6 +11,8 @@ use Rattle.rasn_schema.specs.declared.types.«Type».TheVariants.{SequenceOf}
 use Rattle.rasn_dynamic.specs.declared.trace.Fault.{Fault}
 use Rattle.rasn_dynamic.specs.Faults.{IsStepped, octets_after, IsWithin, IsOnly, Leads, start}
 use Rattle.rasn_dynamic.specs.Parts.{IsHeader, IsSeen, LacksElement}
+use Rattle.rasn_dynamic.specs.declared.steps.Step.TheVariants.{Index}
+use Rattle.rasn_dynamic.specs.Steps.{IsWay, IsNoWay}
 
 -- One type, a SEQUENCE OF.
 abbrev pub list_alone : TypeId → List «Type»
@@ -50,3 +52,7 @@ pub record WorkedPlaces : Type 0 where
   pub not_the_fourth : (s : State) → IsOnly 3 7 s 4 7 s → ⊥
   pub after_definite_contents : octets_after false 4 ≡ 4
   pub after_indefinite_contents : octets_after true 4 ≡ 0
+  pub fifth_element : (element : TypeId) → IsWay (list_alone element) 1 0 (Index 4 ∷ []) (4 ∷ [])
+  pub not_the_fourth_element : (element : TypeId) → IsWay (list_alone element) 1 0 (Index 4 ∷ []) (3 ∷ []) → ⊥
+  pub no_way_into_a_missing_type : IsNoWay [] 1 0 (Index 4 ∷ [])
+  pub way_into_a_list : (element : TypeId) → IsNoWay (list_alone element) 1 0 [] → ⊥
