@@ -1,8 +1,13 @@
-//! Reads files of modules, all at once: `rasn-modules FILE..`. Prints each fault of a text, each type
-//! that has no schema with its first fault, and for each module how many types it has and how many of
-//! them have a schema.
+//! Reads files of modules, all at once, and messages by their types: `rasn-modules FILE..`. Prints
+//! each fault of a text, each type that has no schema with its first fault, and for each module how
+//! many types it has and how many of them have a schema; then each row of standard input with its
+//! result.
 #![tactic(auto)]
 
+mod octets;
+mod rows;
+
+use crate::rows::print_rows;
 use rasn_compiler::{Assigned, Assignment, Module, Modules, Source};
 use std::{env, fs, io};
 
@@ -27,7 +32,7 @@ fn main(rt: HostRuntime) -> io::Result<()> {
     for module in &read.modules {
         print_module(&rt, &read, module)?;
     }
-    Ok(())
+    print_rows(&rt, &read)
 }
 
 /// Prints which types of a module have no schema, and how many have one. Types with parameters aren't
