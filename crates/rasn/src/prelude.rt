@@ -9,10 +9,10 @@ pub use crate::parts::{
 pub use crate::types::{
     Alphabet, Any, ApplicationTag, AsnType, BitStr, BitString, BmpString, Bound, Bounded, Class,
     Codec, Constraints, Constructed, ContextTag, Date, Enumerated, Explicit, Field, FieldPresence,
-    Fields, FirstTags, FixedOctetString, GeneralString, GeneralizedTime, GraphicString, Ia5String, Identifier,
-    Implicit, Integer, IntegerType, LawfulEq, NumericString, ObjectIdentifier, OctetString,
-    Present, PrintableString, PrivateTag, SetOf, Tag, TeletexString, TryClone, UtcTime, Utf8String,
-    VisibleString,
+    Fields, FirstTags, FixedOctetString, GeneralString, GeneralizedTime, GraphicString, Ia5String,
+    Identifier, Implicit, Integer, IntegerType, LawfulEq, NumericString, ObjectIdentifier,
+    OctetString, Present, PrintableString, PrivateTag, SetOf, Tag, TeletexString, TryClone,
+    UtcTime, Utf8String, VisibleString,
 };
 pub use rasn_de::ber::de::Decoder;
 pub use rasn_de::de::{Decode, DecodeChoice, Error};
