@@ -1,7 +1,7 @@
 //! Rows of messages: a type of a module, the rules that read, and octets.
 
 use crate::octets::octets_of;
-use rasn_compiler::{Modules, Resolved};
+use rasn_compiler::{Modules, Resolved, Stop};
 use rasn_dynamic::{decode_or_locate, encode};
 use rasn_schema::Value;
 use rasn_types::types::{Codec, Hexadecimal};
@@ -35,21 +35,56 @@ fn print_row<W: Write>(
     writeln!(output, "{line} {answer}")
 }
 
-/// Returns the result of a row.
-fn answer_of(alloc: Global, read: &Modules<'_>, line: &str) -> Result<String, AllocError> {
-    let Some((module, name, rules, digits)) = words_of(line) else {
-        return String::from_str(alloc, "is no row");
-    };
-    let Some(octets) = octets_of(alloc, digits)? else {
-        return String::from_str(alloc, "is no row");
-    };
-    match read.schema(alloc, module, name) {
-        Ok(resolved) => answer_to(alloc, &resolved, rules, &octets),
-        Err(stop) => format!(in alloc; "has no schema: {stop}"),
+/// A row.
+#[derive(Drop)]
+struct Row<'line> {
+    module: &'line str,
+    /// The name of the type.
+    name: &'line str,
+    rules: Codec,
+    octets: Vec<u8>,
+}
+
+impl<'line> Row<'line> {
+    /// Returns the row of a line `MODULE.TYPE RULES OCTETS`.
+    fn of_line(alloc: Global, line: &'line str) -> Result<Option<Row<'line>>, AllocError> {
+        match words_of(line) {
+            Some((module, name, rules, digits)) => {
+                let octets = octets_of(alloc, digits)?;
+                Ok(octets.map(|octets| Row {
+                    module,
+                    name,
+                    rules,
+                    octets,
+                }))
+            }
+            None => Ok(None),
+        }
     }
 }
 
-/// Returns the words of a row `MODULE.TYPE RULES OCTETS`.
+/// Returns the result of a line.
+fn answer_of(alloc: Global, read: &Modules<'_>, line: &str) -> Result<String, AllocError> {
+    match Row::of_line(alloc, line)? {
+        Some(row) => answer_to(alloc, read, &row),
+        None => String::from_str(alloc, "is no row"),
+    }
+}
+
+/// Returns the result of a row.
+fn answer_to(alloc: Global, read: &Modules<'_>, row: &Row<'_>) -> Result<String, AllocError> {
+    match read.schema(alloc, row.module, row.name) {
+        Ok(resolved) => read_message(alloc, &resolved, row.rules, &row.octets),
+        Err(stop) => missing_schema(alloc, &stop),
+    }
+}
+
+/// Returns why a type has no schema.
+fn missing_schema(alloc: Global, stop: &Stop<'_>) -> Result<String, AllocError> {
+    format!(in alloc; "has no schema: {stop}")
+}
+
+/// Returns the words of a line: a module, a type, rules and digits.
 fn words_of(line: &str) -> Option<(&str, &str, Codec, &str)> {
     let (name, rest) = line.split_once(' ')?;
     let (rules, digits) = rest.split_once(' ')?;
@@ -69,7 +104,7 @@ fn rules_of(name: &str) -> Option<Codec> {
 
 /// Returns the DER octets of the message and how many octets follow it, or where it is refused and
 /// why.
-fn answer_to(
+fn read_message(
     alloc: Global,
     resolved: &Resolved,
     rules: Codec,
