@@ -1,4 +1,4 @@
--- What is told of octets that are refused.
+-- What is reported of octets that are refused.
 use Rattle.std.proofs.Common.{ℕ, List}
 use Rattle.rasn_types.specs.declared.types.codec.Codec.{Codec}
 use Rattle.rasn_types.specs.declared.error.decode.DecodeError.{DecodeError}

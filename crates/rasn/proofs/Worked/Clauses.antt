@@ -70,7 +70,7 @@ greatest = record { is = refl; shortest = goes_on; octets = search (arith, rules
 least : IsShortestOf (negsuc (2 ^ 183 - 1)) (128 ∷ 0 ∷ 0 ∷ 0 ∷ 0 ∷ 0 ∷ 0 ∷ 0 ∷ 0 ∷ 0 ∷ 0 ∷ 0 ∷ 0 ∷ 0 ∷ 0 ∷ 0 ∷ 0 ∷ 0 ∷ 0 ∷ 0 ∷ 0 ∷ 0 ∷ 0 ∷ [])
 least = record { is = refl; shortest = turns; octets = search (arith, rules) }
 
--- A number whose fewest octets stand in the value isn't long.
+-- An integer of 23 octets isn't long.
 inline : (z : ℤ) (l : List ℕ) → IsShortestOf z l → length l ≡ 23 → IsLong z → ⊥
 inline z l s n (k, t, m) = let e = same_shortest k l t.octets s.octets t.shortest s.shortest (t.is ∙ sym s.is) in omega (arith, n, m, ap length e)
 

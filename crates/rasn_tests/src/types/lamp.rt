@@ -1,4 +1,4 @@
-//! A CHOICE that may be left out, before other components and behind them (X.680 25.5, 25.8), for
+//! A CHOICE that is optional or has a default, before and after other components (X.680 25.5, 25.8), for
 //! tests.
 
 use rasn::error::{DecodeError, EncodeError};
