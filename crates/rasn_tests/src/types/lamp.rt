@@ -1,5 +1,5 @@
-//! A CHOICE that is optional or has a default, before and after other components (X.680 25.5, 25.8), for
-//! tests.
+//! A CHOICE that is optional or has a default, before and after other components (X.680 25.5,
+//! 25.8), for tests.
 
 use rasn::error::{DecodeError, EncodeError};
 use rasn::parts::{
