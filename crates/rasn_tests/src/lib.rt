@@ -24,7 +24,6 @@ mod strict;
 mod strings;
 #[cfg(test)]
 mod time;
-#[cfg(test)]
 mod types;
 #[cfg(test)]
 mod values;
