@@ -1,4 +1,5 @@
 pub mod Octets
+pub mod Choices
 pub mod Clauses
 pub mod Cuts
 pub mod Depths

@@ -5,12 +5,12 @@ use Rattle.rasn_types.specs.declared.types.codec.Codec.{Codec}
 use Rattle.rasn_types.specs.declared.types.codec.Codec.TheVariants.{Ber, Cer, Der}
 use Rattle.rasn_types.specs.Framing.{CompleteEncoding, steps_in, NextTag}
 use Rattle.rasn_types.specs.Calendar.{Moment}
-use Rattle.rasn_types.specs.Shapes.{Tree, number, bits, numbers, instant, items, set_elements, absent, every, between, boolean, integer, object_identifier, bit_string, octet_string, generalized_time, Shape, any, prefix}
+use Rattle.rasn_types.specs.Shapes.{Tree, number, bits, numbers, instant, items, set_elements, chosen, absent, every, between, boolean, integer, object_identifier, bit_string, octet_string, generalized_time, Shape, any, prefix}
 use Rattle.rasn_types.specs.Contents.{bits_of, joined_lists}
 use Rattle.rasn_types.specs.Grammar.{Reads, top}
 use Rattle.rasn_types.specs.Bytes.{Same, Bytes}
 use Rattle.rasn_types.specs.Carried.{Carried}
-pub use Rattle.rasn.specs.WorkedShapes.{plain, contextual, named, perhaps_bool, octets_in_set_of, seven, seven_of_set, three_of_set}
+pub use Rattle.rasn.specs.WorkedShapes.{plain, contextual, named, perhaps_bool, octets_in_set_of, seven, seven_of_set, three_of_set, choice_before}
 
 -- Nothing is read.
 abbrev pub IsRefusedBy : Codec → Shape → List ℕ → Type 0
@@ -135,6 +135,9 @@ pub record Worked : Type 0 where
   pub great_arc : (rule : Codec) → IsReadAs rule (plain object_identifier 6) (6 ∷ 5 ∷ 143 ∷ 255 ∷ 255 ∷ 255 ∷ 127 ∷ []) (numbers (2 ∷ 4294967215 ∷ [])) []
   pub leap_second : (rule : Codec) → IsReadAs rule (plain generalized_time 24) (24 ∷ 17 ∷ leap_text) (instant leap) []
   pub zeros_in_definite_string : IsRefusedBy Ber (plain octet_string 4) (36 ∷ 5 ∷ 4 ∷ 1 ∷ 161 ∷ 0 ∷ 0 ∷ [])
+  pub choice_absent : (rule : Codec) → IsReadAs rule choice_before (48 ∷ 3 ∷ 2 ∷ 1 ∷ 7 ∷ []) (items (absent ∷ number (pos 7) ∷ [])) []
+  pub choice_present : (rule : Codec) → IsReadAs rule choice_before (48 ∷ 6 ∷ 1 ∷ 1 ∷ 255 ∷ 2 ∷ 1 ∷ 7 ∷ []) (items (chosen 0 (number (pos 1)) ∷ number (pos 7) ∷ [])) []
+  pub choice_not_left_out : (rule : Codec) → IsReadAs rule choice_before (48 ∷ 6 ∷ 1 ∷ 1 ∷ 255 ∷ 2 ∷ 1 ∷ 7 ∷ []) (items (absent ∷ number (pos 7) ∷ [])) [] → ⊥
   pub smith_in_segments : IsReadAs Ber named (48 ∷ 128 ∷ 54 ∷ 128 ∷ 4 ∷ 2 ∷ 83 ∷ 109 ∷ 4 ∷ 3 ∷ 105 ∷ 116 ∷ 104 ∷ 0 ∷ 0 ∷ 1 ∷ 1 ∷ 1 ∷ 0 ∷ 0 ∷ []) smith []
   pub smith_in_one : (rule : Codec) → IsReadAs rule named (48 ∷ 10 ∷ 22 ∷ 5 ∷ 83 ∷ 109 ∷ 105 ∷ 116 ∷ 104 ∷ 1 ∷ 1 ∷ 255 ∷ []) smith []
   pub smith_in_ber : IsCarriedAs Ber named smith (48 ∷ 10 ∷ 22 ∷ 5 ∷ 83 ∷ 109 ∷ 105 ∷ 116 ∷ 104 ∷ 1 ∷ 1 ∷ 255 ∷ [])

@@ -19,6 +19,7 @@ use Rattle.rasn.proofs.Time.Texts.{generalized_of}
 use Rattle.rasn.proofs.ReadBack.Headers.{no_eoc, short, without, no_next, plain_read, octets_read}
 use Rattle.rasn.proofs.Worked.Strings.{octets_in_segments, bits_in_segments, zeros_in_definite_string}
 use Rattle.rasn.proofs.Worked.Cuts.{sets_of_in_any_order, lists_in_order, bits_in_one, bits_in_two, octets_in_one, octets_in_two}
+use Rattle.rasn.proofs.Worked.Choices.{choice_absent, choice_present, choice_not_left_out}
 use Rattle.rasn.proofs.Worked.Parts.{default_left_out, default_spelled, default_not_written, set_of_out_of_order, set_of_not_written, smith_in_segments, smith_in_one, smith_in_ber, smith_in_der, smith_in_cer}
 
 nested_whole : CompleteEncoding Ber nested
@@ -156,6 +157,9 @@ worked = record {
   great_arc = great_arc;
   leap_second = leap_second;
   zeros_in_definite_string = zeros_in_definite_string;
+  choice_absent = choice_absent;
+  choice_present = choice_present;
+  choice_not_left_out = choice_not_left_out;
   smith_in_segments = smith_in_segments;
   smith_in_one = smith_in_one;
   smith_in_ber = smith_in_ber;

@@ -153,7 +153,7 @@ smith_in_segments = (
   ),
 )
 
-full_true : (rule : Codec) → IsBool rule (255 ∷ []) (pos 1)
+pub full_true : (rule : Codec) → IsBool rule (255 ∷ []) (pos 1)
 full_true Ber = (255, refl, inr ((λ e. omega arith), refl))
 full_true Cer = inr (refl, refl)
 full_true Der = inr (refl, refl)
