@@ -60,18 +60,21 @@ pub fn leaves_all_out(decoder: &Decoder<'_>, components: &[Component]) -> bool
     !decoder.may_be_closed() && decoder.remaining().is_empty() && !any_required(components)
 }
 
-/// Returns the value of a component that is absent.
+/// Returns the value of a component that is absent, where values are kept.
 ///
 /// # Errors
 /// `OutOfMemory` if a default can't be copied.
-pub fn missing<'input>(
+pub fn missing<'input, const KEEP: bool>(
     decoder: &Decoder<'input>,
     component: &Component,
 ) -> Result<Value<'input>, DecodeError>
     requires { is_required component.now.presence ≡ false }
-    ensures made { IsMade (presence_of component.now.presence) decoder.now result }
+    ensures made { IsMade KEEP (presence_of component.now.presence) decoder.now result }
     ensures rules { IfErr result (λ e. e.codec ≡ decoder.now.rule) }
 {
+    if !KEEP {
+        return Ok(Value::Absent);
+    }
     match &component.presence {
         Presence::Required => unreachable!(),
         Presence::Optional | Presence::Addition => Ok(Value::Absent),

@@ -37,18 +37,21 @@ pub(crate) fn out_of_memory(decoder: &Decoder<'_>) -> DecodeError
     }
 }
 
-/// Appends a value.
+/// Appends a value, where values are kept.
 #[inline(always)]
-pub(crate) fn push<'input>(
+pub(crate) fn push<'input, const KEEP: bool>(
     decoder: &Decoder<'input>,
     values: &mut Vec<Value<'input>>,
     value: Value<'input>,
 ) -> Result<(), DecodeError>
-    ensures ok { OnOk result (values.new.items ≡ values.old.items ++ value.entry ∷ []) }
+    ensures ok { KEEP ≡ true → OnOk result (values.new.items ≡ values.old.items ++ value.entry ∷ []) }
     ensures memory { IfErr result (IsErrorOf OutOfMemory decoder.now) }
     ensures kind { IfErr result (λ e. IsOutOfMemory e.kind) }
     ensures rules { IfErr result (λ e. e.codec ≡ decoder.now.rule) }
 {
+    if !KEEP {
+        return Ok(());
+    }
     match values.push(value) {
         Ok(()) => Ok(()),
         Err(_) => Err(out_of_memory(decoder)),
