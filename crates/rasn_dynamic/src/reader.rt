@@ -12,7 +12,7 @@ ghost use Rattle.rasn_de.specs.Optional.{NextIs};
 ghost use Rattle.rasn_de.specs.PartTypes.{FailsAtPart, FailsAtOnePart};
 ghost use Rattle.rasn_de.specs.SetPartTypes.{DecodesSetPartContents};
 ghost use Rattle.rasn_de.specs.Steps.{IsErrorOf};
-ghost use Rattle.rasn_de.specs.declared.ber.de.parser.ParseError.TheVariants.{UnexpectedExtraData, UnexpectedEmptyInput, OutOfMemory};
+ghost use Rattle.rasn_de.specs.declared.ber.de.parser.ParseError.TheVariants.{UnexpectedExtraData, UnexpectedEmptyInput};
 ghost use Rattle.rasn_schema.specs.Trees.{tree_of};
 ghost use Rattle.rasn_schema.specs.Shapes.{shape_of_type, type_by, alternatives_by, components_by, key_of, presence_in, AreLawful};
 ghost use Rattle.rasn_dynamic.specs.Inside.{ReadsSequence, DecodesTree, DecodesComponent};
@@ -104,8 +104,8 @@ fn choose<'input, const KEEP: bool>(
     value: Value<'input>,
 ) -> Result<Value<'input>, DecodeError>
     ensures ok { KEEP ≡ true → IfOk result (IsChosen (λ k v. (k ≡ number) × (v ≡ value.entry))) }
-    ensures memory { IfErr result (IsErrorOf OutOfMemory decoder.now) }
     ensures kind { IfErr result (λ e. IsOutOfMemory e.kind) }
+    ensures rules { IfErr result (λ e. e.codec ≡ decoder.now.rule) }
 {
     if !KEEP {
         return Ok(Value::Absent);
