@@ -291,6 +291,16 @@ pub turns_keep : {D : Type 0} (s : Shape) (tree : D → Tree) (old : State) (vs 
 turns_keep s tree old [] here e = (e ∙ ap (λ (z : State). at old z.rest) (sym e), subst (λ (z : State). IsEnd old.rest z.rest) (sym e) (IsEnd-refl old.rest))
 turns_keep s tree old (v ∷ vs) here (next, n, d, l, p) = let k = turns_keep s tree next vs here p in (k.0 ∙ ap (λ (z : State). at z here.rest) d.stays, IsEnd-trans old.rest next.rest here.rest d.end k.1)
 
+-- What is read takes some of the octets.
+pub one_taken : (all octets rest : List ℕ) → all ≡ octets ++ rest → (length rest ≡ length all → ⊥) → 1 + length rest ≤ length all
+one_taken all [] rest e n = absurd (n (sym (ap length e)))
+one_taken all (x ∷ octets) rest e n = let l : length all ≡ suc (length octets) + length rest = ap length e ∙ length-append (x ∷ octets) rest in omega (arith, l)
+
+-- There are no more elements than octets.
+pub turns_long : {D : Type 0} (s : Shape) (tree : D → Tree) (old : State) (vs : List D) (here : State) → DecodesInTurn (Decodes s tree) old vs here → length vs + length here.rest ≤ length old.rest
+turns_long s tree old [] here e = let l : length here.rest ≡ length old.rest = ap (λ (z : State). length z.rest) e in omega (arith, l)
+turns_long s tree old (v ∷ vs) here (next, n, d, l, p) = omega (arith, turns_long s tree next vs here p, one_taken old.rest d.end.0 next.rest d.end.1 l)
+
 -- ---- a refusal
 
 pub fault_short : (types : List «Type») (levels id : ℕ) (s : State) (k : DecodeError) (f : Fault) → IsFault types levels id s k f → f.left ≤ length s.rest

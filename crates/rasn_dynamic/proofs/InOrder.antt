@@ -27,13 +27,9 @@ use Rattle.rasn_schema.proofs.Presences.{missing_by}
 use Rattle.rasn_dynamic.specs.Inside.{ReadsSequence}
 use Rattle.rasn_dynamic.specs.Making.{Making, trees_of}
 use Rattle.rasn_dynamic.specs.Calls.{nones, is_required, any_required, LeavesAllOut, AreSettled}
-use Rattle.rasn_dynamic.proofs.Pieces.{settled_missing}
+use Rattle.rasn_dynamic.proofs.Pieces.{none_of, settled_missing}
 
 -- the trees of components none of which is required
-none_of : (a b : Bool) → a || b ≡ false → (a ≡ false) × (b ≡ false)
-none_of false b e = (refl, e)
-none_of true b e = absurd cc
-
 one_missing : (p : PartPresence) → is_required p ≡ false → (t : Tree) × IsMissing (presence_of p) t
 one_missing Required e = absurd cc
 one_missing Optional e = (absent, refl)

@@ -1,11 +1,12 @@
 -- The components of a SET, one by one.
-use Rattle.std.proofs.Common.{◌≡◌, ◌≢◌, ℕ, zero, suc, ◌<◌, Bool, true, false, inl, inr, List, [], ◌∷◌, ◌++◌, map, length, get_or, Option, Some, None, Vec, Global, Result, Ok, Err, refl, sym, ap, ap₂, ◌∙◌, subst, append_assoc, arith}
-use Rattle.std.specs.Prelude.{slice_get, slice_set}
+use Rattle.std.proofs.Common.{◌≡◌, ◌≢◌, ℕ, zero, suc, ◌<◌, ◌||◌, Bool, true, false, true≢false, inl, inr, List, [], ◌∷◌, ◌++◌, map, length, get_or, Option, Some, None, Vec, Global, Result, Ok, Err, refl, sym, ap, ap₂, ◌∙◌, subst, append_assoc, arith}
+use Rattle.std.specs.Prelude.{slice_get, slice_set, IfOk, IfErr}
 use Rattle.std.specs.String.{string_bytes}
 use Rattle.std.proofs.lemmas.List.{append-nil}
 use Rattle.rasn_types.specs.declared.types.codec.Codec.{Codec}
 use Rattle.rasn_types.specs.declared.types.tag.Tag.{Tag}
 use Rattle.rasn_types.specs.declared.error.decode.DecodeError.{DecodeError}
+use Rattle.rasn_types.specs.Errors.{IsOutOfMemory}
 use Rattle.rasn_types.specs.Tags.{IsTagBelow}
 use Rattle.rasn_types.specs.Shapes.{Tree, items, absent, Shape, Parts, part, presences, own_tag, Presence, required, IsFirst, IsFirstOf}
 use Rattle.rasn_types.specs.Readings.{IsMissing, AllMissing}
@@ -22,7 +23,7 @@ use Rattle.rasn_schema.specs.Shapes.{components_by, key_of, presence_in, presenc
 use Rattle.rasn_schema.proofs.Presences.{missing_by, required_by}
 use Rattle.rasn_de.specs.State.{State, Call}
 use Rattle.rasn_dynamic.specs.Making.{Making, trees_of}
-use Rattle.rasn_dynamic.specs.Calls.{held, nones, names_of, HoldsSlot, HoldsSlots, IsComponentFor, IsValueOf, IsSettled, AreSettled, LacksNone, Gathers}
+use Rattle.rasn_dynamic.specs.Calls.{held, nones, names_of, is_required, any_required, HoldsSlot, HoldsSlots, IsComponentFor, IsValueOf, IsSettled, AreSettled, LacksNone, Gathers}
 
 -- ---- indices
 
@@ -49,6 +50,10 @@ module _ (f : ℕ → Shape) (tag : Tag) where
       let same : q ≡ p = cc in
       (ap (λ (x : Component). presence_in f x) same, ap (λ (x : Component). f x.type_id.0) same, h, λ g. d.0 tag (subst (λ x. IsFirst (f x.type_id.0) tag) (sym same) h) g)
   only_part (q ∷ ps) (suc k) p d (e, h) = ((λ g. d.0 tag g (first_of_part ps k p e h)), only_part ps k p d.1 (e, h))
+
+pub none_of : (a b : Bool) → a || b ≡ false → (a ≡ false) × (b ≡ false)
+none_of false b e = (refl, e)
+none_of true b e = absurd (true≢false e)
 
 pub part_lawful : (f : ℕ → Shape) (ps : List Component) (k : ℕ) (p : Component) → AreLawfulByTag (components_by f ps) → Some p ≡ slice_get ps k → IsLawful (f p.type_id.0)
 unfolding IsLawful
@@ -164,6 +169,29 @@ lacks_same f [] slots k l = l
 lacks_same f (p ∷ ps) [] k l = l
 lacks_same f (p ∷ ps) (x ∷ slots) zero (e, n) = (required_by own_tag (key_of (f p.type_id.0)) p.presence e, n)
 lacks_same f (p ∷ ps) (x ∷ slots) (suc k) (n, l) = ((λ e. n (required_by (key_of (f p.type_id.0)) own_tag p.presence e)), lacks_same f ps slots k l)
+
+-- Nothing is lacking if no component is required.
+nothing_lacks : (ps : List Component) (k : ℕ) → any_required ps ≡ false → LacksSlot (presences_in ps) (held (nones ps)) k → ⊥
+nothing_lacks [] k n l = l
+nothing_lacks (p ∷ ps) zero n (e, f) = first p.presence e (none_of (is_required p.presence) (any_required ps) n).0
+  where
+    first : (q : PartPresence) → presence_of q ≡ required → is_required q ≡ false → ⊥
+    first Required e n = true≢false n
+    first Optional e n = cc
+    first Addition e n = cc
+    first (Default v) e n = cc
+nothing_lacks (p ∷ ps) (suc k) n (e, l) = nothing_lacks ps k (none_of (is_required p.presence) (any_required ps) n).1 l
+
+pub all_settled : (keep : Bool) (ps : List Component) (found : List (Option Value)) → found ≡ nones ps → (rule : Codec) (r : Result (Vec Value Global) DecodeError) → Gathers keep ps rule found r
+    → keep ≡ true → IfOk r (λ vs. AreSettled ps (nones ps) vs.items)
+all_settled keep ps found e rule (Ok vs) (n, a) k = subst (λ l. AreSettled ps l vs.items) e (a k)
+all_settled keep ps found e rule (Err x) h k = tt
+
+pub only_memory_lacks : (keep : Bool) (ps : List Component) → any_required ps ≡ false → (found : List (Option Value)) → found ≡ nones ps → (rule : Codec) (r : Result (Vec Value Global) DecodeError) → Gathers keep ps rule found r
+    → IfErr r (λ x. IsOutOfMemory x.kind)
+only_memory_lacks keep ps n found e rule (Ok vs) h = tt
+only_memory_lacks keep ps n found e rule (Err x) (inl m) = m
+only_memory_lacks keep ps n found e rule (Err x) (inr (k, l, w)) = absurd (nothing_lacks ps k n (subst (λ z. LacksSlot (presences_in ps) (held z) k) e l))
 
 -- ---- slots
 

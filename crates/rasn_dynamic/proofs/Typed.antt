@@ -28,7 +28,7 @@ use Rattle.rasn_schema.specs.declared.types.Component.{Component}
 use Rattle.rasn_schema.specs.Shapes.{type_by, components_by}
 use Rattle.rasn_dynamic.specs.Inside.{ReadsInside, DecodesTree}
 use Rattle.rasn_dynamic.specs.Making.{these}
-use Rattle.rasn_dynamic.specs.Typed.{Makes, elements, DecodesComponents, element_count, IsSized, DecodesContents, DecodesType}
+use Rattle.rasn_dynamic.specs.Typed.{Makes, elements, DecodesComponents, element_count, IsSized, HoldsOthers, HoldsElements, CountsElements, DecodesContents, DecodesType}
 use Rattle.rasn_dynamic.specs.Calls.{names_of}
 use Rattle.rasn_dynamic.proofs.Contents.{inside_prefix, inside_seq, inside_seq_got, inside_set, inside_set_got}
 use Rattle.rasn_dynamic.proofs.Inside.{inside_decodes}
@@ -50,6 +50,28 @@ module _ (read : Call Tree) (tag : Tag) (c : Constraints) (d : ConstructedHeader
     missized x (a, w) =
         inr (t, listed (Ok t) k, (λ b. a (subst (Admits ◌≤◌ c.size) (sym g) b)),
         rules_same old new (SizeConstraintNotSatisfied (element_count t) (constraint_of c.size)) x k.0 (subst (λ z. IsErrorOf (SizeConstraintNotSatisfied z (constraint_of c.size)) new x) g w))
+
+pub holds_others : (ty : «Type») → HoldsElements ty → HoldsOthers ty
+holds_others (Leaf kind tag c names) h = absurd h
+holds_others (Enumerated tag ns) h = absurd h
+holds_others (Any tag) h = absurd h
+holds_others (Tagged tag k) h = tt
+holds_others (Choice name ks) h = absurd h
+holds_others (Sequence tag ps) h = tt
+holds_others (Set name tag ps) h = tt
+holds_others (SequenceOf tag k c) h = tt
+holds_others (SetOf tag k c) h = tt
+
+pub is_counted : (ty : «Type») (n : ℕ) (t : Tree) → HoldsElements ty → CountsElements ty n t → n ≡ element_count t
+is_counted (Leaf kind tag c names) n t h k = absurd h
+is_counted (Enumerated tag ns) n t h k = absurd h
+is_counted (Any tag) n t h k = absurd h
+is_counted (Tagged tag i) n t h k = absurd h
+is_counted (Choice name ks) n t h k = absurd h
+is_counted (Sequence tag ps) n t h k = absurd h
+is_counted (Set name tag ps) n t h k = absurd h
+is_counted (SequenceOf tag i c) n t h k = k
+is_counted (SetOf tag i c) n t h k = k
 
 -- ---- lists
 

@@ -17,7 +17,7 @@ ghost use Rattle.rasn_schema.specs.Trees.{tree_of};
 ghost use Rattle.rasn_schema.specs.Shapes.{shape_of_type, type_by, alternatives_by, components_by, key_of, presence_in, AreLawful};
 ghost use Rattle.rasn_dynamic.specs.Inside.{ReadsSequence, DecodesTree, DecodesComponent};
 ghost use Rattle.rasn_dynamic.specs.Making.{Making, Counting, IsLength, trees_of, these};
-ghost use Rattle.rasn_dynamic.specs.Typed.{element_count, IsSized, HoldsOthers, CountsElements, DecodesContents, DecodesType};
+ghost use Rattle.rasn_dynamic.specs.Typed.{element_count, IsSized, HoldsOthers, HoldsElements, CountsElements, DecodesContents, DecodesType};
 ghost use Rattle.rasn_dynamic.specs.Calls.{nones, names_of, IsKept, DecodesPresent, DecodesMember, IsNoAlternative};
 ghost use Rattle.rasn_schema.specs.Fitting.{Fits, FitsBy, IsChosen, AlternativeFits, ComponentFits, ComponentsFit, EachFits};
 ghost use Rattle.rasn_dynamic.specs.Found.{FoundFit};
@@ -340,7 +340,7 @@ fn decode_list<'input, const KEEP: bool>(
     constraints: &Constraints,
 ) -> Result<Value<'input>, DecodeError>
     requires lawful { IsLawful (type_by (shape_of_type types.now below) ty.now) }
-    requires holds { HoldsOthers ty.now }
+    requires elements { HoldsElements ty.now }
     requires clear { trace.old ≡ None }
     ensures exact { Making KEEP tree_of (DecodesSized (DecodesContents (shape_of_type types.now below) ty.now) element_count tag constraints.now) decoder.old result decoder.new }
     ensures octets { decoder.old.depth ≢ 0 → AreOctets decoder.old.rest }

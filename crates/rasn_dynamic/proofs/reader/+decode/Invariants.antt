@@ -1,19 +1,25 @@
-use Rattle.std.proofs.Common.{◌≡◌, ℕ, ◌+◌, ◌*◌, ◌++◌, map, length, List, None}
+use Rattle.std.proofs.Common.{◌≡◌, ℕ, ◌+◌, ◌*◌, ◌++◌, map, length, List, Option, None, true}
 use Rattle.rasn_schema.specs.declared.types.Component.{Component}
 use Rattle.rasn_dynamic.specs.Faults.{ComponentsInTurn}
 use Rattle.rasn_types.specs.Tags.{IsStrict}
 use Rattle.rasn_types.specs.Order.{IsLess, AreAscending}
 use Rattle.rasn_types.proofs.SetOf.Ascending.{EndsBy}
-use Rattle.rasn_de.specs.Decodes.{Decodes}
+use Rattle.rasn_types.specs.Shapes.{Tree}
 use Rattle.rasn_de.specs.SequenceOf.{DecodesInTurn, DecodesInTurnFrom}
 use Rattle.rasn_de.proofs.OwnTypes.SetPartTypes.{ReadTo}
 use Rattle.rasn_schema.specs.Trees.{tree_of}
 use Rattle.rasn_schema.specs.Shapes.{shape_of_type, components_by, AreLawful}
-use Rattle.rasn_dynamic.specs.Calls.{held, names_of}
+use Rattle.rasn_dynamic.specs.Inside.{DecodesTree}
+use Rattle.rasn_dynamic.specs.Calls.{names_of, HoldsSlots}
 use Rattle.rasn_schema.specs.Fitting.{Fits, EachFits}
 use Rattle.rasn_dynamic.specs.Found.{FoundFit}
 use Rattle.rasn_dynamic.proofs.Contents.{PartsSoFar}
 use Rattle.rasn_dynamic.proofs.FitsRead.{FitSoFar}
+use Rattle.rasn_dynamic.specs.contracts.reader.decode_elements.{KEEP-type as keep_elements}
+use Rattle.rasn_dynamic.specs.contracts.reader.decode_elements_in_order.{KEEP-type as keep_in_order}
+use Rattle.rasn_dynamic.specs.contracts.reader.decode_sequence.{KEEP-type as keep_sequence}
+use Rattle.rasn_dynamic.specs.contracts.reader.decode_set.{KEEP-type as keep_set}
+use denote.Param.{number}
 use Rattle.rasn_dynamic.proofs.reader.+decode.Given as goal
 
 abbrev pub decreases-decode_at : goal.decreases-decode_at
@@ -62,28 +68,33 @@ abbrev pub decreases-decode_set_component : goal.decreases-decode_set_component
 decreases-decode_set_component g l = 16 * l.below + 7
 
 abbrev pub invariant-decode_elements-loop-element : goal.invariant-decode_elements-loop-element
-invariant-decode_elements-loop-element g l = DecodesInTurn (Decodes (shape_of_type l.types l.below l.element.0) tree_of) l.fn.decoder l.values.items l.decoder × EachFits (Fits l.types l.below l.element.0) l.values.items × (l.trace ≡ None)
+invariant-decode_elements-loop-element g l = ((ts : List Tree) × (keep_elements (number g.row.KEEP) ≡ true → map tree_of l.values.items ≡ ts) × (l.count ≡ length ts) × DecodesInTurn (DecodesTree (shape_of_type l.types l.below l.element.0)) l.fn.decoder ts l.decoder)
+    × (keep_elements (number g.row.KEEP) ≡ true → EachFits (Fits l.types l.below l.element.0) l.values.items) × (l.trace ≡ None)
 
 abbrev pub decreases-decode_elements-loop-element : goal.decreases-decode_elements-loop-element
 decreases-decode_elements-loop-element g l = length l.decoder.rest
 
 abbrev pub invariant-decode_elements_in_order-loop-last : goal.invariant-decode_elements_in_order-loop-last
-invariant-decode_elements_in_order-loop-last g l = ((bs : List (List ℕ)) × DecodesInTurnFrom (Decodes (shape_of_type l.types l.below l.element.0) tree_of) l.fn.decoder l.values.items bs l.decoder
-    × (IsStrict l.fn.decoder.rule → AreAscending IsLess bs) × EndsBy bs l.last) × EachFits (Fits l.types l.below l.element.0) l.values.items × (l.trace ≡ None)
+invariant-decode_elements_in_order-loop-last g l = ((ts : List Tree) × (bs : List (List ℕ)) × (keep_in_order (number g.row.KEEP) ≡ true → map tree_of l.values.items ≡ ts) × (l.count ≡ length ts)
+    × DecodesInTurnFrom (DecodesTree (shape_of_type l.types l.below l.element.0)) l.fn.decoder ts bs l.decoder × (IsStrict l.fn.decoder.rule → AreAscending IsLess bs) × EndsBy bs l.last)
+    × (keep_in_order (number g.row.KEEP) ≡ true → EachFits (Fits l.types l.below l.element.0) l.values.items) × (l.trace ≡ None)
 
 abbrev pub decreases-decode_elements_in_order-loop-last : goal.decreases-decode_elements_in_order-loop-last
 decreases-decode_elements_in_order-loop-last g l = length l.decoder.rest
 
 abbrev pub invariant-decode_sequence-loop-rest : goal.invariant-decode_sequence-loop-rest
-invariant-decode_sequence-loop-rest g l = PartsSoFar (components_by (shape_of_type l.types l.below) l.components) (components_by (shape_of_type l.types l.below) l.rest) (map tree_of l.values.items) l.fn.decoder l.decoder
-    × AreLawful (components_by (shape_of_type l.types l.below) l.rest) × FitSoFar (Fits l.types l.below) l.components l.rest l.values.items × (l.trace ≡ None)
-    × (done : List Component) × (l.components ≡ done ++ l.rest) × (length done ≡ length l.values.items) × ComponentsInTurn (shape_of_type l.types l.below) done l.fn.decoder l.decoder
+invariant-decode_sequence-loop-rest g l = ((ts : List Tree) × (keep_sequence (number g.row.KEEP) ≡ true → map tree_of l.values.items ≡ ts)
+    × PartsSoFar (components_by (shape_of_type l.types l.below) l.components) (components_by (shape_of_type l.types l.below) l.rest) ts l.fn.decoder l.decoder)
+    × AreLawful (components_by (shape_of_type l.types l.below) l.rest) × (keep_sequence (number g.row.KEEP) ≡ true → FitSoFar (Fits l.types l.below) l.components l.rest l.values.items) × (l.trace ≡ None)
+    × (done : List Component) × (l.components ≡ done ++ l.rest) × ComponentsInTurn (shape_of_type l.types l.below) done l.fn.decoder l.decoder
 
 abbrev pub decreases-decode_sequence-loop-rest : goal.decreases-decode_sequence-loop-rest
 decreases-decode_sequence-loop-rest g l = length l.rest
 
 abbrev pub invariant-decode_set-loop-last : goal.invariant-decode_set-loop-last
-invariant-decode_set-loop-last g l = ReadTo (components_by (shape_of_type l.types l.below) l.components) (names_of l.components) l.fn.decoder l.decoder l.last l.twice (held l.found.items) × FoundFit (Fits l.types l.below) l.components l.found.items × (l.trace ≡ None)
+invariant-decode_set-loop-last g l = ((slots : List (Option Tree)) × HoldsSlots (keep_set (number g.row.KEEP)) l.found.items slots
+    × ReadTo (components_by (shape_of_type l.types l.below) l.components) (names_of l.components) l.fn.decoder l.decoder l.last l.twice slots)
+    × FoundFit (λ k v. keep_set (number g.row.KEEP) ≡ true → Fits l.types l.below k v) l.components l.found.items × (l.trace ≡ None)
 
 abbrev pub decreases-decode_set-loop-last : goal.decreases-decode_set-loop-last
 decreases-decode_set-loop-last g l = length l.decoder.rest
