@@ -21,3 +21,4 @@ pub mod Faults
 pub mod Parts
 pub mod Worked
 pub mod Ways
+pub mod Checked

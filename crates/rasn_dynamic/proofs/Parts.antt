@@ -20,7 +20,6 @@ use Rattle.rasn_de.proofs.Headers.Ends.{IsEnd-refl, IsEnd-trans}
 use Rattle.rasn_schema.specs.declared.types.«Type».{«Type»}
 use Rattle.rasn_schema.specs.declared.types.«Type».TheVariants.{Leaf, Enumerated, Any, Tagged, Choice, Sequence, Set, SequenceOf, SetOf}
 use Rattle.rasn_schema.specs.declared.types.Component.{Component}
-use Rattle.rasn_schema.specs.Trees.{tree_of}
 use Rattle.rasn_schema.specs.Shapes.{shape_of_type, type_by, components_by, AreLawful}
 use Rattle.rasn_dynamic.specs.Faults.{octets_after, ComponentsInTurn, IsPart, EntersBy, Enters, Leads, start}
 use Rattle.rasn_dynamic.specs.Parts.{IsSeen, IsEntered, IsHeader, IsHeaderOf, LacksPart, IsReadHere, IsPartAt}

@@ -139,9 +139,10 @@ no_left (x ∷ l) e = cc
 pub settled_end : (keep : Bool) (all rest : List Component) (found left : List (Option Value)) (vs : List Value) → SettledSoFar keep all rest found left vs → rest ≡ []
     → LacksNone all found × (keep ≡ true → AreSettled all found vs)
 settled_end keep all rest found left vs k e =
-    let n = no_left left (k.as_many ∙ ap length e) in
-    (k.none_yet (subst (λ l. LacksNone l left) (sym e) (λ j l. l)),
-    λ q. subst (AreSettled all found) (append-nil vs) (k.on q [] (subst (λ l. AreSettled l left []) (sym e) (subst (λ l. AreSettled [] l []) (sym n) refl))))
+    let n = no_left left (k.as_many ∙ ap length e) in (
+      k.none_yet (subst (λ l. LacksNone l left) (sym e) (λ j l. l)),
+      λ q. subst (AreSettled all found) (append-nil vs) (k.on q [] (subst (λ l. AreSettled l left []) (sym e) (subst (λ l. AreSettled [] l []) (sym n) refl))),
+    )
 
 -- ---- as trees
 
@@ -211,7 +212,7 @@ lacks_slots keep (p ∷ ps) (x ∷ found) slots (suc k) (slot, others, e, h, hs)
 pub held_slots : (found : List (Option Value)) (slots : List (Option Tree)) → HoldsSlots true found slots → slots ≡ held found
 held_slots [] slots e = e
 held_slots (None ∷ found) slots (slot, others, e, h, hs) = e ∙ ap₂ (λ x l. x ∷ l) h (held_slots found others hs)
-held_slots (Some v ∷ found) slots (slot, others, e, (t, g, k), hs) = e ∙ ap₂ (λ x l. x ∷ l) (g ∙ ap Some (sym (k refl))) (held_slots found others hs)
+held_slots (Some v ∷ found) slots (slot, others, e, (t, g, k), hs) = e ∙ ap₂ (λ x l. x ∷ l) (g ∙ ap (λ z. Some z) (sym (k refl))) (held_slots found others hs)
 
 -- the tree of a component that may be absent
 one_left : (p : PartPresence) → (presence_of p ≡ required → ⊥) → (t : Tree) × IsMissing (presence_of p) t

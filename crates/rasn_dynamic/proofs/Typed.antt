@@ -48,8 +48,12 @@ module _ (read : Call Tree) (tag : Tag) (c : Constraints) (d : ConstructedHeader
 
     pub missized : (x : DecodeError) → IsSized c new n (Err x) → DecodesSized read element_count tag c old (Err x) new
     missized x (a, w) =
-        inr (t, listed (Ok t) k, (λ b. a (subst (Admits ◌≤◌ c.size) (sym g) b)),
-        rules_same old new (SizeConstraintNotSatisfied (element_count t) (constraint_of c.size)) x k.0 (subst (λ z. IsErrorOf (SizeConstraintNotSatisfied z (constraint_of c.size)) new x) g w))
+        inr (
+          t,
+          listed (Ok t) k,
+          (λ b. a (subst (Admits ◌≤◌ c.size) (sym g) b)),
+          rules_same old new (SizeConstraintNotSatisfied (element_count t) (constraint_of c.size)) x k.0 (subst (λ z. IsErrorOf (SizeConstraintNotSatisfied z (constraint_of c.size)) new x) g w),
+        )
 
 pub holds_others : (ty : «Type») → HoldsElements ty → HoldsOthers ty
 holds_others (Leaf kind tag c names) h = absurd h

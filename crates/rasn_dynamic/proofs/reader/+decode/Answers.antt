@@ -138,13 +138,13 @@ pub decode_choice-returns-clause-rules : goal.decode_choice-returns-clause-rules
 decode_choice-returns-clause-rules g t c = subst (λ z. IfErr c.choose.result (λ e. e.codec ≡ z)) (same_rules c.in_ok-value.ensures.reads.2.stays) c.choose.ensures.rules
 
 pub decode_choice-returns-clause-fits : goal.decode_choice-returns-clause-fits
-decode_choice-returns-clause-fits g t c = 
+decode_choice-returns-clause-fits g t c =
     let at = read_at c.args.alternatives.now c.in-Some.number c.index-alternatives-number.result (slice_get_within c.args.alternatives.now c.in-Some.number c.in-Some.ensures.0 (sym c.in-Some.ensures.1)) c.index-alternatives-number.is in
     choice_fits _ c.in-Some.number c.in_ok-value.value _ c.choose.result c.choose.ensures.ok
     (λ k. (c.index-alternatives-number.result, at, subst (λ (a : Alternative). Fits c.args.types.now c.args.below a.type_id.0 c.in_ok-value.value) (sym c.index-alternatives-number.is) (c.in_ok-value.ensures.fits k)))
 
 pub decode_choice-returns-clause-reads : goal.decode_choice-returns-clause-reads
-decode_choice-returns-clause-reads g t c = 
+decode_choice-returns-clause-reads g t c =
     let el = get_or c.args.alternatives.now c.in-Some.number c.index-alternatives-number.result in
     let at : Some el ≡ slice_get c.args.alternatives.now c.in-Some.number = subst (λ (a : Alternative). Some a ≡ slice_get c.args.alternatives.now c.in-Some.number) c.index-alternatives-number.is
     (read_at c.args.alternatives.now c.in-Some.number c.index-alternatives-number.result (slice_get_within c.args.alternatives.now c.in-Some.number c.in-Some.ensures.0 (sym c.in-Some.ensures.1)) c.index-alternatives-number.is) in
@@ -163,7 +163,7 @@ pub decode_contents-decode_sequence-requires : goal.decode_contents-decode_seque
 decode_contents-decode_sequence-requires g t c = (search rules, (rw c.deref.ensures.value (lawful_parts (shape_of_type c.args.types.now c.args.below) _ (seq_lawful _ _ (subst (λ n. IsLawful (type_by (shape_of_type c.args.types.now c.args.below) n)) c.in-Sequence.is c.requires.lawful))), c.requires.clear))
 
 pub decode_contents-returns-in_ok-values-in-Sequence-clause-exact : goal.decode_contents-returns-in_ok-values-in-Sequence-clause-exact
-decode_contents-returns-in_ok-values-in-Sequence-clause-exact g t c = 
+decode_contents-returns-in_ok-values-in-Sequence-clause-exact g t c =
     let w = c.in_ok-values-in-Sequence.ensures.reads in
     rw c.in-Sequence.is (items w.0, items_made _ c.in_ok-values-in-Sequence.values w.0 w.1, tt, sequence_made (shape_of_type c.args.types.now c.args.below) _ c.in-Sequence.components c.deref.ensures.value _ _ c.in-Sequence.tag w.0 (w.2, tt))
 
@@ -177,7 +177,7 @@ pub decode_contents-returns-in_ok-values-in-SequenceOf-clause-fits : goal.decode
 decode_contents-returns-in_ok-values-in-SequenceOf-clause-fits g t c = λ k. rw c.in-SequenceOf.is (are_items (EachFits (Fits c.args.types.now c.args.below c.in-SequenceOf.element.0)) c.in_ok-values-in-SequenceOf.values (c.in_ok-values-in-SequenceOf.ensures.fits k))
 
 pub decode_contents-returns-in_ok-values-in-SequenceOf-clause-exact : goal.decode_contents-returns-in_ok-values-in-SequenceOf-clause-exact
-decode_contents-returns-in_ok-values-in-SequenceOf-clause-exact g t c = 
+decode_contents-returns-in_ok-values-in-SequenceOf-clause-exact g t c =
     let w = c.in_ok-values-in-SequenceOf.ensures.reads in
     rw c.in-SequenceOf.is (items w.0, items_made _ c.in_ok-values-in-SequenceOf.values w.0 w.1, w.2 ∙ sym (count_items w.0), (w.0, refl, w.3))
 
@@ -201,7 +201,7 @@ pub decode_contents-returns-in_ok-values-in-SetOf-clause-fits : goal.decode_cont
 decode_contents-returns-in_ok-values-in-SetOf-clause-fits g t c = λ k. rw c.in-SetOf.is (are_elements (EachFits (Fits c.args.types.now c.args.below c.in-SetOf.element.0)) c.in_ok-values-in-SetOf.values (c.in_ok-values-in-SetOf.ensures.fits k))
 
 pub decode_contents-returns-in_ok-values-in-SetOf-clause-exact : goal.decode_contents-returns-in_ok-values-in-SetOf-clause-exact
-decode_contents-returns-in_ok-values-in-SetOf-clause-exact g t c = 
+decode_contents-returns-in_ok-values-in-SetOf-clause-exact g t c =
     let w = c.in_ok-values-in-SetOf.ensures.reads in
     rw c.in-SetOf.is (elements w.0, elements_made _ c.in_ok-values-in-SetOf.values w.0 w.1, w.2 ∙ sym (count_items w.0), (w.0, refl, w.3))
 
@@ -221,7 +221,7 @@ pub decode_contents-unreachable-requires : goal.decode_contents-unreachable-requ
 decode_contents-unreachable-requires g t c = none_holds c.args.ty.now c.in_default.not-Tagged c.in_default.not-Sequence c.in_default.not-Set c.in_default.not-SequenceOf c.in_default.not-SetOf c.requires.holds
 
 pub decode_contents-returns-in_ok-values-in-Set-clause-exact : goal.decode_contents-returns-in_ok-values-in-Set-clause-exact
-decode_contents-returns-in_ok-values-in-Set-clause-exact g t c = 
+decode_contents-returns-in_ok-values-in-Set-clause-exact g t c =
     let w = c.in_ok-values-in-Set.ensures.exact in
     rw c.in-Set.is (items w.0, items_made _ c.in_ok-values-in-Set.values w.0 w.1, tt, set_made (shape_of_type c.args.types.now c.args.below) _ c.in-Set.components c.deref-in-Set-2.ensures.value _ _ c.in-Set.name c.in-Set.tag w.0 w.2)
 
@@ -238,7 +238,7 @@ decode_contents-returns-in_ok-values-in-Set-clause-fits g t c = λ k.
 -- ---- elements
 
 pub decode_elements-loop-element-preserved : goal.decode_elements-loop-element-preserved
-decode_elements-loop-element-preserved g t c = 
+decode_elements-loop-element-preserved g t c =
     let i = c.loop-element.invariant.0 in
     let w = c.in_ok-value.ensures.reads in (
       (
@@ -253,7 +253,7 @@ decode_elements-loop-element-preserved g t c =
     )
 
 pub decode_elements-returns-in_err-keep-clause-reads : goal.decode_elements-returns-in_err-keep-clause-reads
-decode_elements-returns-in_err-keep-clause-reads g t c = 
+decode_elements-returns-in_err-keep-clause-reads g t c =
     let i = c.loop-element.invariant.0 in
     let w = c.in_ok-value.ensures.reads in
     let k = call_keeps w.2 in
@@ -275,16 +275,16 @@ decode_elements-returns-in_err-keep-clause-reads g t c =
     )
 
 pub decode_elements-returns-in_err-value-clause-reads : goal.decode_elements-returns-in_err-value-clause-reads
-decode_elements-returns-in_err-value-clause-reads g t c = 
+decode_elements-returns-in_err-value-clause-reads g t c =
     let i = c.loop-element.invariant.0 in
     rw (residual _ c.from_residual.ensures.1) (i.0, c.loop-element.decoder, i.3, c.loop-element-test.ensures, inl c.in_err-value.ensures.reads)
 
 pub decode_elements-returns-clause-reads : goal.decode_elements-returns-clause-reads
-decode_elements-returns-clause-reads g t c = 
+decode_elements-returns-clause-reads g t c =
     let i = c.loop-element.invariant.0 in (i.0, i.1, i.2, (i.3, c.loop-element-test.ensures))
 
 pub decode_elements-overflow_add-count : goal.decode_elements-overflow_add-count
-decode_elements-overflow_add-count g t c = 
+decode_elements-overflow_add-count g t c =
     let i = c.loop-element.invariant.0 in
     let w = c.in_ok-value.ensures.reads in
     let n = turns_long (shape_of_type c.args.types.now c.args.below c.args.element.0) (λ (z : Tree). z) c.args.decoder.now i.0 c.loop-element.decoder i.3 in
@@ -305,16 +305,16 @@ pub decode_elements_in_order-loop-last-init : goal.decode_elements_in_order-loop
 decode_elements_in_order-loop-last-init g t c = rw c.new-values.ensures.items (([], [], (λ k. refl), c.requires.counts, (refl, refl), (λ strict. tt), refl), (λ k. tt), c.requires.clear)
 
 pub decode_elements_in_order-returns-in_err-value-clause-reads : goal.decode_elements_in_order-returns-in_err-value-clause-reads
-decode_elements_in_order-returns-in_err-value-clause-reads g t c = 
+decode_elements_in_order-returns-in_err-value-clause-reads g t c =
     let i = c.loop-last.invariant.0 in
     rw (residual _ c.from_residual.ensures.1) (i.0, i.1, c.loop-last.decoder, i.4, i.5, c.loop-last-test.ensures, inl (inl c.in_err-value.ensures.reads))
 
 pub decode_elements_in_order-returns-clause-reads : goal.decode_elements_in_order-returns-clause-reads
-decode_elements_in_order-returns-clause-reads g t c = 
+decode_elements_in_order-returns-clause-reads g t c =
     let i = c.loop-last.invariant.0 in (i.0, i.2, i.3, (i.1, i.4, i.5, c.loop-last-test.ensures))
 
 pub decode_elements_in_order-overflow_add-count : goal.decode_elements_in_order-overflow_add-count
-decode_elements_in_order-overflow_add-count g t c = 
+decode_elements_in_order-overflow_add-count g t c =
     let i = c.loop-last.invariant.0 in
     let w = c.in_ok-value.ensures.reads in
     let p = forgotten (DecodesTree (shape_of_type c.args.types.now c.args.below c.args.element.0)) c.args.decoder.now i.0 i.1 c.loop-last.decoder i.4 in
@@ -326,7 +326,7 @@ decode_elements_in_order-overflow_add-count g t c =
 -- ---- elements in order
 
 pub decode_elements_in_order-returns-in_err-keep-clause-reads : goal.decode_elements_in_order-returns-in_err-keep-clause-reads
-decode_elements_in_order-returns-in_err-keep-clause-reads g t c = 
+decode_elements_in_order-returns-in_err-keep-clause-reads g t c =
     let i = c.loop-last.invariant.0 in
     let w = c.in_ok-value.ensures.reads in
     let k = call_keeps w.2 in
@@ -350,7 +350,7 @@ decode_elements_in_order-returns-in_err-keep-clause-reads g t c =
     )
 
 pub decode_elements_in_order-returns-then-is_less-clause-reads : goal.decode_elements_in_order-returns-then-is_less-clause-reads
-decode_elements_in_order-returns-then-is_less-clause-reads g t c = 
+decode_elements_in_order-returns-then-is_less-clause-reads g t c =
     let i = c.loop-last.invariant.0 in
     let w = c.in_ok-value.ensures.reads in
     let k = call_keeps w.2 in (
@@ -373,7 +373,7 @@ decode_elements_in_order-returns-then-is_less-clause-reads g t c =
     )
 
 pub decode_elements_in_order-loop-last-preserved : goal.decode_elements_in_order-loop-last-preserved
-decode_elements_in_order-loop-last-preserved g t c = 
+decode_elements_in_order-loop-last-preserved g t c =
     let i = c.loop-last.invariant.0 in
     let w = c.in_ok-value.ensures.reads in
     let k = call_keeps w.2 in
@@ -420,7 +420,7 @@ decode_inside-returns-in-Err-clause-exact g t c =
     (step_refused _ c.args.header c.args.decoder.now _ _ _ c.in_ok-inner.ensures.exact _ _ c.in-Err.ensures.exact)
 
 pub decode_inside-returns-in_err-close-clause-exact : goal.decode_inside-returns-in_err-close-clause-exact
-decode_inside-returns-in_err-close-clause-exact g t c = 
+decode_inside-returns-in_err-close-clause-exact g t c =
     let w = c.in-Ok.ensures.exact in
     rw (residual _ c.from_residual-in_err-close.ensures.1)
     (step_unclosed _ c.args.header c.args.decoder.now _ _ _ c.in_ok-inner.ensures.exact w.0 _ w.3 _ c.remaining.ensures.value _ _ c.in_err-close.ensures)
@@ -432,7 +432,7 @@ decode_inside-close-requires g t c = λ x.
     (contents_end (shape_of_type c.args.types.now c.args.below) c.args.ty.now _ w.0 _ w.3) c.remaining.ensures.value x
 
 pub decode_inside-returns-clause-exact : goal.decode_inside-returns-clause-exact
-decode_inside-returns-clause-exact g t c = 
+decode_inside-returns-clause-exact g t c =
     let w = c.in-Ok.ensures.exact in
     (w.0, w.1, w.2, step_closed _ c.args.header c.args.decoder.now _ _ _ c.in_ok-inner.ensures.exact w.0 _ w.3 _ c.remaining.ensures.value _ c.in_ok-close.ensures)
 
@@ -446,12 +446,12 @@ pub decode_list-decode_inside-requires : goal.decode_list-decode_inside-requires
 decode_list-decode_inside-requires g t c = (search rules, (c.requires.lawful, (holds_others c.args.ty.now c.requires.elements, (refl, c.requires.clear))))
 
 pub decode_list-returns-clause-exact : goal.decode_list-returns-clause-exact
-decode_list-returns-clause-exact g t c = 
+decode_list-returns-clause-exact g t c =
     let w = c.in_ok-value.ensures.exact in
     (w.0, w.1, is_sized (DecodesContents (shape_of_type c.args.types.now c.args.below) c.args.ty.now) c.args.tag c.args.constraints.now c.list.result c.list.ensures c.args.decoder.now _ w.0 w.3 _ (is_counted c.args.ty.now _ w.0 c.requires.elements w.2) c.in_ok-check_size.ensures.sized)
 
 pub decode_list-returns-in_err-check_size-clause-itself : goal.decode_list-returns-in_err-check_size-clause-itself
-decode_list-returns-in_err-check_size-clause-itself g t c = 
+decode_list-returns-in_err-check_size-clause-itself g t c =
     let w = c.in_ok-value.ensures.exact in
     rw (residual _ c.from_residual-in_err-check_size.ensures.1)
     (λ n. missized (ReadsEachPart (shape_of_type c.args.types.now c.args.below) c.args.ty.now) c.args.tag c.args.constraints.now c.list.result c.list.ensures c.args.decoder.now _ w.0
@@ -464,7 +464,7 @@ pub decode_list-returns-in_err-check_size-clause-rules : goal.decode_list-return
 decode_list-returns-in_err-check_size-clause-rules g t c = rw (residual _ c.from_residual-in_err-check_size.ensures.1) (c.in_err-check_size.ensures.rules ∙ same_rules c.in_ok-value.ensures.exact.3.0.stays)
 
 pub decode_list-returns-in_err-check_size-clause-exact : goal.decode_list-returns-in_err-check_size-clause-exact
-decode_list-returns-in_err-check_size-clause-exact g t c = 
+decode_list-returns-in_err-check_size-clause-exact g t c =
     let w = c.in_ok-value.ensures.exact in
     rw (residual _ c.from_residual-in_err-check_size.ensures.1)
     (missized (DecodesContents (shape_of_type c.args.types.now c.args.below) c.args.ty.now) c.args.tag c.args.constraints.now c.list.result c.list.ensures c.args.decoder.now _ w.0 w.3 _ (is_counted c.args.ty.now _ w.0 c.requires.elements w.2) _ c.in_err-check_size.ensures.sized)
@@ -476,7 +476,7 @@ pub decode_type-returns-in-Any-clause-exact : goal.decode_type-returns-in-Any-cl
 decode_type-returns-in-Any-clause-exact g t c = rw c.in-Any.is (made_of_value _ _ c.args.decoder.now c.decode_any_value.result _ c.decode_any_value.ensures.reads)
 
 pub decode_type-returns-in-Choice-clause-exact : goal.decode_type-returns-in-Choice-clause-exact
-decode_type-returns-in-Choice-clause-exact g t c = 
+decode_type-returns-in-Choice-clause-exact g t c =
     rw (c.in-Choice.is, ← c.deref-in-Choice.ensures.value, ← c.as_str.ensures.value)
     (with_error _ tree_of (DecodesTree (choice (alternatives_by (shape_of_type c.args.types.now c.args.below) c.deref-in-Choice.result.now))) c.args.decoder.now c.decode_choice.result _ c.decode_choice.ensures.reads c.decode_choice.ensures.unknown)
 
@@ -499,11 +499,11 @@ pub decode_type-returns-in-Any-clause-reads : goal.decode_type-returns-in-Any-cl
 decode_type-returns-in-Any-clause-reads g t c = rw c.in-Any.is (made_of_value _ _ c.args.decoder.now c.decode_any_value.result _ c.decode_any_value.ensures.reads)
 
 pub decode_type-returns-in-Enumerated-clause-exact : goal.decode_type-returns-in-Enumerated-clause-exact
-decode_type-returns-in-Enumerated-clause-exact g t c = 
+decode_type-returns-in-Enumerated-clause-exact g t c =
     rw (c.in-Enumerated.is, ← c.deref.ensures.value) (made_of_value _ _ c.args.decoder.now c.decode_number.result _ c.decode_number.ensures.reads)
 
 pub decode_type-returns-in-Enumerated-clause-reads : goal.decode_type-returns-in-Enumerated-clause-reads
-decode_type-returns-in-Enumerated-clause-reads g t c = 
+decode_type-returns-in-Enumerated-clause-reads g t c =
     rw (c.in-Enumerated.is, ← c.deref.ensures.value) (made_of_value _ _ c.args.decoder.now c.decode_number.result _ c.decode_number.ensures.reads)
 
 pub decode_type-returns-in-Leaf-clause-exact : goal.decode_type-returns-in-Leaf-clause-exact
@@ -521,76 +521,76 @@ decode_inside-returns-in_err-close-clause-rules g t c = rw (residual _ c.from_re
 -- ---- a type
 
 pub decode_type-returns-in-Tagged-clause-reads : goal.decode_type-returns-in-Tagged-clause-reads
-decode_type-returns-in-Tagged-clause-reads g t c = 
+decode_type-returns-in-Tagged-clause-reads g t c =
     made_as _ tree_of (DecodesType (shape_of_type c.args.types.now c.args.below) c.args.ty.now) (DecodesTree (type_by (shape_of_type c.args.types.now c.args.below) c.args.ty.now)) c.args.decoder.now _ _
     (λ q h. type_decodes (shape_of_type c.args.types.now c.args.below) c.args.decoder.now c.decode_inside.ensures.octets q _ c.args.ty.now h)
     (uncounted _ tree_of (CountsElements c.args.ty.now) (DecodesInside (DecodesContents (shape_of_type c.args.types.now c.args.below) c.args.ty.now) _) (DecodesType (shape_of_type c.args.types.now c.args.below) c.args.ty.now) c.args.decoder.now _ _ _
     (λ q h. by_prefix (shape_of_type c.args.types.now c.args.below) c.args.ty.now c.args.decoder.now q _ c.in-Tagged.tag c.in-Tagged.inner c.prefix.result c.in-Tagged.is c.prefix.ensures h) c.decode_inside.ensures.exact)
 
 pub decode_type-returns-in-Tagged-clause-exact : goal.decode_type-returns-in-Tagged-clause-exact
-decode_type-returns-in-Tagged-clause-exact g t c = 
+decode_type-returns-in-Tagged-clause-exact g t c =
     uncounted _ tree_of (CountsElements c.args.ty.now) (DecodesInside (DecodesContents (shape_of_type c.args.types.now c.args.below) c.args.ty.now) _) (DecodesType (shape_of_type c.args.types.now c.args.below) c.args.ty.now) c.args.decoder.now _ _ _
     (λ q h. by_prefix (shape_of_type c.args.types.now c.args.below) c.args.ty.now c.args.decoder.now q _ c.in-Tagged.tag c.in-Tagged.inner c.prefix.result c.in-Tagged.is c.prefix.ensures h) c.decode_inside.ensures.exact
 
 pub decode_type-returns-in-Sequence-clause-reads : goal.decode_type-returns-in-Sequence-clause-reads
-decode_type-returns-in-Sequence-clause-reads g t c = 
+decode_type-returns-in-Sequence-clause-reads g t c =
     made_as _ tree_of (DecodesType (shape_of_type c.args.types.now c.args.below) c.args.ty.now) (DecodesTree (type_by (shape_of_type c.args.types.now c.args.below) c.args.ty.now)) c.args.decoder.now _ _
     (λ q h. type_decodes (shape_of_type c.args.types.now c.args.below) c.args.decoder.now c.decode_inside-in-Sequence.ensures.octets q _ c.args.ty.now h)
     (uncounted _ tree_of (CountsElements c.args.ty.now) (DecodesInside (DecodesContents (shape_of_type c.args.types.now c.args.below) c.args.ty.now) _) (DecodesType (shape_of_type c.args.types.now c.args.below) c.args.ty.now) c.args.decoder.now _ _ _
     (λ q h. by_sequence (shape_of_type c.args.types.now c.args.below) c.args.ty.now c.args.decoder.now q _ c.in-Sequence.tag c.in-Sequence.components c.sequence.result c.in-Sequence.is c.sequence.ensures h) c.decode_inside-in-Sequence.ensures.exact)
 
 pub decode_type-returns-in-Sequence-clause-exact : goal.decode_type-returns-in-Sequence-clause-exact
-decode_type-returns-in-Sequence-clause-exact g t c = 
+decode_type-returns-in-Sequence-clause-exact g t c =
     uncounted _ tree_of (CountsElements c.args.ty.now) (DecodesInside (DecodesContents (shape_of_type c.args.types.now c.args.below) c.args.ty.now) _) (DecodesType (shape_of_type c.args.types.now c.args.below) c.args.ty.now) c.args.decoder.now _ _ _
     (λ q h. by_sequence (shape_of_type c.args.types.now c.args.below) c.args.ty.now c.args.decoder.now q _ c.in-Sequence.tag c.in-Sequence.components c.sequence.result c.in-Sequence.is c.sequence.ensures h) c.decode_inside-in-Sequence.ensures.exact
 
 pub decode_type-returns-in-Set-clause-reads : goal.decode_type-returns-in-Set-clause-reads
-decode_type-returns-in-Set-clause-reads g t c = 
+decode_type-returns-in-Set-clause-reads g t c =
     made_as _ tree_of (DecodesType (shape_of_type c.args.types.now c.args.below) c.args.ty.now) (DecodesTree (type_by (shape_of_type c.args.types.now c.args.below) c.args.ty.now)) c.args.decoder.now _ _
     (λ q h. type_decodes (shape_of_type c.args.types.now c.args.below) c.args.decoder.now c.decode_inside-in-Set.ensures.octets q _ c.args.ty.now h)
     (uncounted _ tree_of (CountsElements c.args.ty.now) (DecodesInside (DecodesContents (shape_of_type c.args.types.now c.args.below) c.args.ty.now) _) (DecodesType (shape_of_type c.args.types.now c.args.below) c.args.ty.now) c.args.decoder.now _ _ _
     (λ q h. by_set (shape_of_type c.args.types.now c.args.below) c.args.ty.now c.args.decoder.now q _ c.in-Set.name c.in-Set.tag c.in-Set.components c.sequence-in-Set.result c.in-Set.is c.sequence-in-Set.ensures h) c.decode_inside-in-Set.ensures.exact)
 
 pub decode_type-returns-in-Set-clause-exact : goal.decode_type-returns-in-Set-clause-exact
-decode_type-returns-in-Set-clause-exact g t c = 
+decode_type-returns-in-Set-clause-exact g t c =
     uncounted _ tree_of (CountsElements c.args.ty.now) (DecodesInside (DecodesContents (shape_of_type c.args.types.now c.args.below) c.args.ty.now) _) (DecodesType (shape_of_type c.args.types.now c.args.below) c.args.ty.now) c.args.decoder.now _ _ _
     (λ q h. by_set (shape_of_type c.args.types.now c.args.below) c.args.ty.now c.args.decoder.now q _ c.in-Set.name c.in-Set.tag c.in-Set.components c.sequence-in-Set.result c.in-Set.is c.sequence-in-Set.ensures h) c.decode_inside-in-Set.ensures.exact
 
 pub decode_type-returns-in-SequenceOf-clause-reads : goal.decode_type-returns-in-SequenceOf-clause-reads
-decode_type-returns-in-SequenceOf-clause-reads g t c = 
+decode_type-returns-in-SequenceOf-clause-reads g t c =
     made_as _ tree_of (DecodesType (shape_of_type c.args.types.now c.args.below) c.args.ty.now) (DecodesTree (type_by (shape_of_type c.args.types.now c.args.below) c.args.ty.now)) c.args.decoder.now _ _
     (λ q h. type_decodes (shape_of_type c.args.types.now c.args.below) c.args.decoder.now c.decode_list.ensures.octets q _ c.args.ty.now h)
     (made_as _ tree_of (DecodesSized (DecodesContents (shape_of_type c.args.types.now c.args.below) c.args.ty.now) element_count _ _) (DecodesType (shape_of_type c.args.types.now c.args.below) c.args.ty.now) c.args.decoder.now _ _
     (λ q h. by_list (shape_of_type c.args.types.now c.args.below) c.args.ty.now c.args.decoder.now q _ c.in-SequenceOf.tag c.in-SequenceOf.element c.in-SequenceOf.constraints c.in-SequenceOf.is h) c.decode_list.ensures.exact)
 
 pub decode_type-returns-in-SequenceOf-clause-exact : goal.decode_type-returns-in-SequenceOf-clause-exact
-decode_type-returns-in-SequenceOf-clause-exact g t c = 
+decode_type-returns-in-SequenceOf-clause-exact g t c =
     made_as _ tree_of (DecodesSized (DecodesContents (shape_of_type c.args.types.now c.args.below) c.args.ty.now) element_count _ _) (DecodesType (shape_of_type c.args.types.now c.args.below) c.args.ty.now) c.args.decoder.now _ _
     (λ q h. by_list (shape_of_type c.args.types.now c.args.below) c.args.ty.now c.args.decoder.now q _ c.in-SequenceOf.tag c.in-SequenceOf.element c.in-SequenceOf.constraints c.in-SequenceOf.is h) c.decode_list.ensures.exact
 
 pub decode_type-returns-in-SetOf-clause-reads : goal.decode_type-returns-in-SetOf-clause-reads
-decode_type-returns-in-SetOf-clause-reads g t c = 
+decode_type-returns-in-SetOf-clause-reads g t c =
     made_as _ tree_of (DecodesType (shape_of_type c.args.types.now c.args.below) c.args.ty.now) (DecodesTree (type_by (shape_of_type c.args.types.now c.args.below) c.args.ty.now)) c.args.decoder.now _ _
     (λ q h. type_decodes (shape_of_type c.args.types.now c.args.below) c.args.decoder.now c.decode_list-in-SetOf.ensures.octets q _ c.args.ty.now h)
     (made_as _ tree_of (DecodesSized (DecodesContents (shape_of_type c.args.types.now c.args.below) c.args.ty.now) element_count _ _) (DecodesType (shape_of_type c.args.types.now c.args.below) c.args.ty.now) c.args.decoder.now _ _
     (λ q h. by_set_of (shape_of_type c.args.types.now c.args.below) c.args.ty.now c.args.decoder.now q _ c.in-SetOf.tag c.in-SetOf.element c.in-SetOf.constraints c.in-SetOf.is h) c.decode_list-in-SetOf.ensures.exact)
 
 pub decode_type-returns-in-SetOf-clause-exact : goal.decode_type-returns-in-SetOf-clause-exact
-decode_type-returns-in-SetOf-clause-exact g t c = 
+decode_type-returns-in-SetOf-clause-exact g t c =
     made_as _ tree_of (DecodesSized (DecodesContents (shape_of_type c.args.types.now c.args.below) c.args.ty.now) element_count _ _) (DecodesType (shape_of_type c.args.types.now c.args.below) c.args.ty.now) c.args.decoder.now _ _
     (λ q h. by_set_of (shape_of_type c.args.types.now c.args.below) c.args.ty.now c.args.decoder.now q _ c.in-SetOf.tag c.in-SetOf.element c.in-SetOf.constraints c.in-SetOf.is h) c.decode_list-in-SetOf.ensures.exact
 
 -- ---- components
 
 pub decode_component-returns-then-is_always_there-clause-reads : goal.decode_component-returns-then-is_always_there-clause-reads
-decode_component-returns-then-is_always_there-clause-reads g t c = 
+decode_component-returns-then-is_always_there-clause-reads g t c =
     made_as _ tree_of (DecodesPresent (presence_in (shape_of_type c.args.types.now c.args.below) c.args.component.now) ((shape_of_type c.args.types.now c.args.below) c.args.component.now.type_id.0)) (DecodesComponent (presence_in (shape_of_type c.args.types.now c.args.below) c.args.component.now) ((shape_of_type c.args.types.now c.args.below) c.args.component.now.type_id.0)) c.args.decoder.now _ _ (λ q h. always ((shape_of_type c.args.types.now c.args.below) c.args.component.now.type_id.0) _ (presence_in (shape_of_type c.args.types.now c.args.below) c.args.component.now) (always_by own_tag (key_of ((shape_of_type c.args.types.now c.args.below) c.args.component.now.type_id.0)) c.args.component.now.presence c.if-is_always_there.ensures) q _ h) c.decode_present.ensures.reads
 
 pub decode_component-returns-then-is_always_there-clause-fits : goal.decode_component-returns-then-is_always_there-clause-fits
 decode_component-returns-then-is_always_there-clause-fits g t c = if_kept _ _ _ _ (λ v h. inr h) c.decode_present.ensures.fits
 
 pub decode_component-returns-in-Ok-true-clause-reads : goal.decode_component-returns-in-Ok-true-clause-reads
-decode_component-returns-in-Ok-true-clause-reads g t c = 
+decode_component-returns-in-Ok-true-clause-reads g t c =
     made_as _ tree_of (DecodesPresent (presence_in (shape_of_type c.args.types.now c.args.below) c.args.component.now) ((shape_of_type c.args.types.now c.args.below) c.args.component.now.type_id.0)) (DecodesComponent (presence_in (shape_of_type c.args.types.now c.args.below) c.args.component.now) ((shape_of_type c.args.types.now c.args.below) c.args.component.now.type_id.0)) c.args.decoder.now _ _ (λ q h. looked ((shape_of_type c.args.types.now c.args.below) c.args.component.now.type_id.0) _ (presence_in (shape_of_type c.args.types.now c.args.below) c.args.component.now) (λ a. c.if-is_always_there.ensures (always_by (key_of ((shape_of_type c.args.types.now c.args.below) c.args.component.now.type_id.0)) own_tag c.args.component.now.presence a)) (let w = c.in-Ok-true.field-0-test in let h : c.in-Ok-true.field-0 ≡ true = cc in next_of (key_of ((shape_of_type c.args.types.now c.args.below) c.args.component.now.type_id.0)) ((shape_of_type c.args.types.now c.args.below) c.args.component.now.type_id.0) c.args.component.now.presence c.args.decoder.now (Ok true) c.if-is_always_there.ensures (subst (λ b. NextIs (sought_by (key_of ((shape_of_type c.args.types.now c.args.below) c.args.component.now.type_id.0)) ((shape_of_type c.args.types.now c.args.below) c.args.component.now.type_id.0)) c.args.decoder.now (Ok b)) h c.in-Ok-true.ensures)) q _ h) c.decode_present-in-Ok-true.ensures.reads
 
 pub decode_component-returns-in-Ok-true-clause-fits : goal.decode_component-returns-in-Ok-true-clause-fits
@@ -609,11 +609,11 @@ pub decode_component-returns-in-Err-clause-reads : goal.decode_component-returns
 decode_component-returns-in-Err-clause-reads g t c = unread ((shape_of_type c.args.types.now c.args.below) c.args.component.now.type_id.0) _ (presence_in (shape_of_type c.args.types.now c.args.below) c.args.component.now) (λ a. c.if-is_always_there.ensures (always_by (key_of ((shape_of_type c.args.types.now c.args.below) c.args.component.now.type_id.0)) own_tag c.args.component.now.presence a)) c.in-Err.error (next_of (key_of ((shape_of_type c.args.types.now c.args.below) c.args.component.now.type_id.0)) ((shape_of_type c.args.types.now c.args.below) c.args.component.now.type_id.0) c.args.component.now.presence c.args.decoder.now (Err c.in-Err.error) c.if-is_always_there.ensures c.in-Err.ensures)
 
 pub decode_component-returns-then-is_always_there-clause-fails : goal.decode_component-returns-then-is_always_there-clause-fails
-decode_component-returns-then-is_always_there-clause-fails g t c = 
+decode_component-returns-then-is_always_there-clause-fails g t c =
     made_fails_as _ tree_of (DecodesPresent (presence_in (shape_of_type c.args.types.now c.args.below) c.args.component.now) ((shape_of_type c.args.types.now c.args.below) c.args.component.now.type_id.0)) c.args.decoder.now _ _ (λ q h. always_fails ((shape_of_type c.args.types.now c.args.below) c.args.component.now.type_id.0) _ (presence_in (shape_of_type c.args.types.now c.args.below) c.args.component.now) (always_by own_tag (key_of ((shape_of_type c.args.types.now c.args.below) c.args.component.now.type_id.0)) c.args.component.now.presence c.if-is_always_there.ensures) q _ h) c.decode_present.ensures.reads
 
 pub decode_component-returns-in-Ok-true-clause-fails : goal.decode_component-returns-in-Ok-true-clause-fails
-decode_component-returns-in-Ok-true-clause-fails g t c = 
+decode_component-returns-in-Ok-true-clause-fails g t c =
     made_fails_as _ tree_of (DecodesPresent (presence_in (shape_of_type c.args.types.now c.args.below) c.args.component.now) ((shape_of_type c.args.types.now c.args.below) c.args.component.now.type_id.0)) c.args.decoder.now _ _ (λ q h. looked_fails ((shape_of_type c.args.types.now c.args.below) c.args.component.now.type_id.0) _ (presence_in (shape_of_type c.args.types.now c.args.below) c.args.component.now) (λ a. c.if-is_always_there.ensures (always_by (key_of ((shape_of_type c.args.types.now c.args.below) c.args.component.now.type_id.0)) own_tag c.args.component.now.presence a)) (let w = c.in-Ok-true.field-0-test in let h : c.in-Ok-true.field-0 ≡ true = cc in next_of (key_of ((shape_of_type c.args.types.now c.args.below) c.args.component.now.type_id.0)) ((shape_of_type c.args.types.now c.args.below) c.args.component.now.type_id.0) c.args.component.now.presence c.args.decoder.now (Ok true) c.if-is_always_there.ensures (subst (λ b. NextIs (sought_by (key_of ((shape_of_type c.args.types.now c.args.below) c.args.component.now.type_id.0)) ((shape_of_type c.args.types.now c.args.below) c.args.component.now.type_id.0)) c.args.decoder.now (Ok b)) h c.in-Ok-true.ensures)) q _ h) c.decode_present-in-Ok-true.ensures.reads
 
 pub decode_component-returns-in-Ok-false-clause-fails : goal.decode_component-returns-in-Ok-false-clause-fails
@@ -626,14 +626,14 @@ pub decode_component-returns-in-Err-clause-rules : goal.decode_component-returns
 decode_component-returns-in-Err-clause-rules g t c = look_rules (sought_by (key_of ((shape_of_type c.args.types.now c.args.below) c.args.component.now.type_id.0)) ((shape_of_type c.args.types.now c.args.below) c.args.component.now.type_id.0)) c.args.decoder.now _ c.in-Err.ensures
 
 pub decode_present-returns-in_default-clause-reads : goal.decode_present-returns-in_default-clause-reads
-decode_present-returns-in_default-clause-reads g t c = 
+decode_present-returns-in_default-clause-reads g t c =
     made_as _ tree_of (DecodesTree ((shape_of_type c.args.types.now c.args.below) c.args.component.now.type_id.0)) (DecodesPresent (presence_in (shape_of_type c.args.types.now c.args.below) c.args.component.now) ((shape_of_type c.args.types.now c.args.below) c.args.component.now.type_id.0)) c.args.decoder.now _ _ (λ r h. plain (key_of ((shape_of_type c.args.types.now c.args.below) c.args.component.now.type_id.0)) ((shape_of_type c.args.types.now c.args.below) c.args.component.now.type_id.0) c.args.component.now.presence _ _ c.in_default.not-Default r h) c.decode_part.ensures.reads
 
 pub decode_present-returns-in_err-value-clause-reads : goal.decode_present-returns-in_err-value-clause-reads
 decode_present-returns-in_err-value-clause-reads g t c = rw (residual _ c.from_residual.ensures.1) (inl c.in_err-value.ensures.reads)
 
 pub decode_present-returns-then-not-is_strict-clause-reads : goal.decode_present-returns-then-not-is_strict-clause-reads
-decode_present-returns-then-not-is_strict-clause-reads g t c = 
+decode_present-returns-then-not-is_strict-clause-reads g t c =
     made_as _ tree_of (DecodesTree ((shape_of_type c.args.types.now c.args.below) c.args.component.now.type_id.0)) (DecodesPresent (presence_in (shape_of_type c.args.types.now c.args.below) c.args.component.now) ((shape_of_type c.args.types.now c.args.below) c.args.component.now.type_id.0)) c.args.decoder.now _ _ (λ r h. loose (key_of ((shape_of_type c.args.types.now c.args.below) c.args.component.now.type_id.0)) ((shape_of_type c.args.types.now c.args.below) c.args.component.now.type_id.0) c.args.component.now.presence _ _ c.if-not-is_strict.ensures r h) c.decode_part-then-not-is_strict.ensures.reads
 
 pub decode_present-returns-then-not-is_strict-clause-itself : goal.decode_present-returns-then-not-is_strict-clause-itself
@@ -643,7 +643,7 @@ pub decode_present-returns-then-not-is_strict-clause-told : goal.decode_present-
 decode_present-returns-then-not-is_strict-clause-told g t c = tells _ _ (λ k f i. i) _ _ c.decode_part-then-not-is_strict.ensures.told
 
 pub decode_present-returns-then-means_same-clause-reads : goal.decode_present-returns-then-means_same-clause-reads
-decode_present-returns-then-means_same-clause-reads g t c = 
+decode_present-returns-then-means_same-clause-reads g t c =
     let w = c.in_ok-value.ensures.reads in
     default_is_written (key_of ((shape_of_type c.args.types.now c.args.below) c.args.component.now.type_id.0)) ((shape_of_type c.args.types.now c.args.below) c.args.component.now.type_id.0) c.args.component.now.presence c.in-Default.default c.in-Default.is _ _ w.0 w.2 c.if-not-is_strict.ensures (subst (λ z. Same z (tree_of c.in-Default.default)) (w.1 refl) (c.means_same.ensures.same c.if-means_same.true)) c.default_present.result c.default_present.ensures
 
@@ -651,7 +651,7 @@ pub decode_present-returns-then-means_same-clause-rules : goal.decode_present-re
 decode_present-returns-then-means_same-clause-rules g t c = codec_is c.default_present.ensures ∙ same_rules c.in_ok-value.ensures.reads.2.stays
 
 pub decode_present-returns-clause-reads : goal.decode_present-returns-clause-reads
-decode_present-returns-clause-reads g t c = 
+decode_present-returns-clause-reads g t c =
     let w = c.in_ok-value.ensures.reads in
     (w.0, (λ k. w.1 refl), differs (key_of ((shape_of_type c.args.types.now c.args.below) c.args.component.now.type_id.0)) ((shape_of_type c.args.types.now c.args.below) c.args.component.now.type_id.0) c.args.component.now.presence c.in-Default.default c.in-Default.is _ _ w.0 w.2 (λ s. let h = c.means_same.ensures.equal (subst (λ z. Same z (tree_of c.in-Default.default)) (sym (w.1 refl)) s) in let f = c.if-means_same.false in cc))
 
@@ -661,7 +661,7 @@ decode_present-returns-clause-fits g t c = λ k. c.in_ok-value.ensures.fits refl
 -- ---- the components of a SEQUENCE
 
 pub decode_sequence-returns-then-leaves_all_out-clause-reads : goal.decode_sequence-returns-then-leaves_all_out-clause-reads
-decode_sequence-returns-then-leaves_all_out-clause-reads g t c = 
+decode_sequence-returns-then-leaves_all_out-clause-reads g t c =
     all_left_read (shape_of_type c.args.types.now c.args.below) c.args.components.now c.args.decoder.now _ c.if-leaves_all_out.ensures _ c.all_absent.ensures.settled c.all_absent.ensures.memory
 
 pub decode_sequence-returns-in_err-values-clause-reads : goal.decode_sequence-returns-in_err-values-clause-reads
@@ -677,7 +677,7 @@ pub decode_sequence-loop-rest-init : goal.decode_sequence-loop-rest-init
 decode_sequence-loop-rest-init g t c = rw c.in_ok-values.ensures.ok (([], (λ k. refl), parts_start _ _), c.requires.lawful, (λ k us h. h), c.requires.clear, [], refl, refl)
 
 pub decode_sequence-overflow_sub-index : goal.decode_sequence-overflow_sub-index
-decode_sequence-overflow_sub-index g t c = 
+decode_sequence-overflow_sub-index g t c =
     let k = c.loop-rest.invariant in
     let len : length c.args.components.now ≡ length k.4 + length c.loop-rest.rest.now = ap length k.5 ∙ length-append k.4 c.loop-rest.rest.now in
     omega (arith, len)
@@ -695,7 +695,7 @@ decode_sequence-returns-in_err-push-clause-reads g t c =
     (parts_run_out _ _ _ _ _ _ c.loop-rest.invariant.0.2 (record { stays = c.in_ok-value.ensures.reads.2.stays; end = c.in_ok-value.ensures.reads.2.end }) c.in_err-push.field-0.0 c.in_err-push.ensures.kind))
 
 pub decode_sequence-loop-rest-preserved : goal.decode_sequence-loop-rest-preserved
-decode_sequence-loop-rest-preserved g t c = 
+decode_sequence-loop-rest-preserved g t c =
     let at = split c.loop-rest.rest.now _ c.in-len1-up.len_at_least c.component-item.is in
     let e = ap (components_by (shape_of_type c.args.types.now c.args.below)) at in
     let i = c.loop-rest.invariant.0 in
@@ -714,10 +714,12 @@ decode_sequence-loop-rest-preserved g t c =
     )
 
 pub decode_sequence-returns-clause-reads : goal.decode_sequence-returns-clause-reads
-decode_sequence-returns-clause-reads g t c = 
-    let i = c.loop-rest.invariant.0 in
-    (i.0, i.1,
-    in_turn (shape_of_type c.args.types.now c.args.below) c.args.components.now c.args.decoder.now c.if-leaves_all_out.ensures _ _ (parts_end _ _ _ _ _ i.2 (ap (components_by (shape_of_type c.args.types.now c.args.below)) (nothing_left _ c.in_default-rest.len_below))))
+decode_sequence-returns-clause-reads g t c =
+    let i = c.loop-rest.invariant.0 in (
+      i.0,
+      i.1,
+      in_turn (shape_of_type c.args.types.now c.args.below) c.args.components.now c.args.decoder.now c.if-leaves_all_out.ensures _ _ (parts_end _ _ _ _ _ i.2 (ap (components_by (shape_of_type c.args.types.now c.args.below)) (nothing_left _ c.in_default-rest.len_below))),
+    )
 
 pub decode_sequence-returns-clause-fits : goal.decode_sequence-returns-clause-fits
 decode_sequence-returns-clause-fits g t c = λ k. fit_end (Fits c.args.types.now c.args.below) _ _ _ (c.loop-rest.invariant.2 k) (nothing_left _ c.in_default-rest.len_below)
@@ -747,19 +749,22 @@ decode_sequence-returns-in_err-push-clause-rules g t c = rw (residual _ c.from_r
 
 pub decode_set-loop-last-init : goal.decode_set-loop-last-init
 decode_set-loop-last-init g t c = (
-  (held (nones c.args.components.now), nones_held _ c.args.components.now _ c.requires.1.1.1.0,
-  none_read (components_by (shape_of_type c.args.types.now c.args.below) c.args.components.now) (names_of c.args.components.now) _ _ (nones_come (shape_of_type c.args.types.now c.args.below) c.args.components.now (nones c.args.components.now) refl)),
+  (
+    held (nones c.args.components.now),
+    nones_held _ c.args.components.now _ c.requires.1.1.1.0,
+    none_read (components_by (shape_of_type c.args.types.now c.args.below) c.args.components.now) (names_of c.args.components.now) _ _ (nones_come (shape_of_type c.args.types.now c.args.below) c.args.components.now (nones c.args.components.now) refl),
+  ),
   nones_fit _ c.args.components.now _ c.requires.1.1.1.0,
   c.requires.1.1.1.1,
 )
 
 pub decode_set-returns-in_err-last-clause-exact : goal.decode_set-returns-in_err-last-clause-exact
-decode_set-returns-in_err-last-clause-exact g t c = 
+decode_set-returns-in_err-last-clause-exact g t c =
     let at = c.loop-last in
     rw (residual _ c.from_residual.ensures.1) (untold (components_by (shape_of_type c.args.types.now c.args.below) c.args.components.now) _ c.args.decoder.now at.decoder at.last at.twice _ at.invariant.0.2 items c.loop-last-test.ensures _ c.in_err-last.ensures)
 
 pub decode_set-returns-in_err-next-clause-exact : goal.decode_set-returns-in_err-next-clause-exact
-decode_set-returns-in_err-next-clause-exact g t c = 
+decode_set-returns-in_err-next-clause-exact g t c =
     let at = c.loop-last in
     let i = at.invariant.0 in
     let w = c.in_err-next.ensures.next i.0 i.1 in
@@ -767,7 +772,7 @@ decode_set-returns-in_err-next-clause-exact g t c =
     (next_fails (components_by (shape_of_type c.args.types.now c.args.below) c.args.components.now) _ c.args.decoder.now at.decoder at.last at.twice _ i.2 items c.loop-last-test.ensures _ c.in_ok-last.ensures _ _ w.0 w.2)
 
 pub decode_set-loop-last-preserved : goal.decode_set-loop-last-preserved
-decode_set-loop-last-preserved g t c = 
+decode_set-loop-last-preserved g t c =
     let at = c.loop-last in
     let i = at.invariant.0 in
     let w = c.in_ok-next.ensures.next i.0 i.1 in (
@@ -777,7 +782,7 @@ decode_set-loop-last-preserved g t c =
     )
 
 pub decode_set-returns-in-Some-clause-exact : goal.decode_set-returns-in-Some-clause-exact
-decode_set-returns-in-Some-clause-exact g t c = 
+decode_set-returns-in-Some-clause-exact g t c =
     let at = c.loop-last in
     let i = at.invariant.0 in
     let ps = (components_by (shape_of_type c.args.types.now c.args.below) c.args.components.now) in
@@ -791,7 +796,7 @@ pub decode_set-gather-requires : goal.decode_set-gather-requires
 decode_set-gather-requires g t c = found_length _ c.args.components.now _ c.loop-last.invariant.1
 
 pub decode_set-returns-clause-exact : goal.decode_set-returns-clause-exact
-decode_set-returns-clause-exact g t c = 
+decode_set-returns-clause-exact g t c =
     let at = c.loop-last in
     let i = at.invariant.0 in
     let ps = (components_by (shape_of_type c.args.types.now c.args.below) c.args.components.now) in
@@ -819,39 +824,43 @@ decode_set-returns-clause-rules g t c = subst (λ z. IfErr c.gather.result (λ e
 -- ---- one of them
 
 pub decode_set_component-returns-in_err-tag-clause-next : goal.decode_set_component-returns-in_err-tag-clause-next
-decode_set_component-returns-in_err-tag-clause-next g t c = 
+decode_set_component-returns-in_err-tag-clause-next g t c =
     rw (residual _ c.from_residual.ensures.1) (λ slots h. (slots, h, next_unpeeked (components_by (shape_of_type c.args.types.now c.args.below) c.args.components.now) (names_of c.args.components.now) slots slots _ _ c.in_err-tag.ensures.exact))
 
 pub decode_set_component-returns-in_default-clause-next : goal.decode_set_component-returns-in_default-clause-next
-decode_set_component-returns-in_default-clause-next g t c = 
+decode_set_component-returns-in_default-clause-next g t c =
     λ slots h. (slots, h, next_unknown (components_by (shape_of_type c.args.types.now c.args.below) c.args.components.now) (names_of c.args.components.now) slots slots _ c.in_ok-tag.tag c.in_ok-tag.ensures.next c.in_default.ensures c.no_valid_choice.result)
 
 pub decode_set_component-decode_present-requires : goal.decode_set_component-decode_present-requires
 decode_set_component-decode_present-requires g t c = (search rules, (part_lawful (shape_of_type c.args.types.now c.args.below) c.args.components.now c.in-Some.number c.in-Some.component.now c.requires.1.1.0 c.in-Some.ensures.0, c.requires.1.1.1.1))
 
 pub decode_set_component-returns-in_err-value-clause-next : goal.decode_set_component-returns-in_err-value-clause-next
-decode_set_component-returns-in_err-value-clause-next g t c = 
+decode_set_component-returns-in_err-value-clause-next g t c =
     rw (residual _ c.from_residual-in_err-value.ensures.1)
     (λ slots h. (slots, h, next_unread (shape_of_type c.args.types.now c.args.below) c.args.components.now c.in-Some.number c.in-Some.component.now c.in_ok-tag.tag c.requires.1.1.0 c.in-Some.ensures _ _ c.in_ok-tag.ensures.next c.in_err-value.field-0.0 slots slots c.in_err-value.ensures.reads))
 
 pub decode_set_component-returns-then-remaining-left-clause-next : goal.decode_set_component-returns-then-remaining-left-clause-next
-decode_set_component-returns-then-remaining-left-clause-next g t c = 
+decode_set_component-returns-then-remaining-left-clause-next g t c =
     let w = c.in_ok-value.ensures.reads in
-    λ slots h. (slots, h, next_idle (shape_of_type c.args.types.now c.args.below) c.args.components.now c.in-Some.number c.in-Some.component.now c.in_ok-tag.tag c.requires.1.1.0 c.in-Some.ensures _ _ c.in_ok-tag.ensures.next w.0 w.2
-    slots slots _ (ap length c.remaining-left.ensures.value) (sym (ap length c.remaining.ensures.value) ∙ c.if-remaining-left.true) c.extra.result c.extra.ensures)
+    λ slots h. (
+      slots,
+      h,
+      next_idle (shape_of_type c.args.types.now c.args.below) c.args.components.now c.in-Some.number c.in-Some.component.now c.in_ok-tag.tag c.requires.1.1.0 c.in-Some.ensures _ _ c.in_ok-tag.ensures.next w.0 w.2
+          slots slots _ (ap length c.remaining-left.ensures.value) (sym (ap length c.remaining.ensures.value) ∙ c.if-remaining-left.true) c.extra.result c.extra.ensures,
+    )
 
 pub decode_set_component-put-requires : goal.decode_set_component-put-requires
 decode_set_component-put-requires g t c = rw (found_length _ c.args.components.now _ c.requires.1.1.1.0) (got_below c.args.components.now c.in-Some.number c.in-Some.component.now c.in-Some.ensures.0)
 
 pub decode_set_component-returns-clause-next : goal.decode_set_component-returns-clause-next
-decode_set_component-returns-clause-next g t c = 
+decode_set_component-returns-clause-next g t c =
     let w = c.in_ok-value.ensures.reads in
     λ slots h. next_put (shape_of_type c.args.types.now c.args.below) c.args.components.now c.in-Some.number c.in-Some.component.now c.in_ok-tag.tag c.requires.1.1.0 c.in-Some.ensures _ _ c.in_ok-tag.ensures.next w.0 w.2
     _ c.in_ok-value.value w.1 c.args.found.now.items slots h (rw (found_length _ c.args.components.now _ c.requires.1.1.1.0) (got_below c.args.components.now c.in-Some.number c.in-Some.component.now c.in-Some.ensures.0)) _ (ap length c.remaining-left.ensures.value)
     (λ e. c.if-remaining-left.false (ap length c.remaining.ensures.value ∙ e)) _ _ (rw (← c.as_str.ensures.value) c.put.ensures)
 
 pub decode_set_component-returns-clause-found : goal.decode_set_component-returns-clause-found
-decode_set_component-returns-clause-found g t c = 
+decode_set_component-returns-clause-found g t c =
     put_fits _ c.args.components.now c.args.found.now.items _ c.in-Some.number c.in-Some.component.now c.in_ok-value.value _ _ c.requires.1.1.1.0 c.in-Some.ensures.0 c.in_ok-value.ensures.fits c.put.ensures
 
 pub decode_set_component-returns-in_err-tag-clause-rules : goal.decode_set_component-returns-in_err-tag-clause-rules
@@ -934,7 +943,7 @@ decode_contents-returns-in_err-values-in-SetOf-clause-told g t c =
     rw (residual _ c.from_residual-in_err-values-in-SetOf.ensures.1, c.in-SetOf.is) c.in_err-values-in-SetOf.ensures.told
 
 pub decode_elements-returns-in_err-value-clause-told : goal.decode_elements-returns-in_err-value-clause-told
-decode_elements-returns-in_err-value-clause-told g t c = 
+decode_elements-returns-in_err-value-clause-told g t c =
     let i = c.loop-element.invariant.0 in
     let k = turns_keep (shape_of_type c.args.types.now c.args.below c.args.element.0) (λ (z : Tree). z) c.args.decoder.now i.0 c.loop-element.decoder i.3 in
     rw (residual _ c.from_residual.ensures.1)
@@ -942,7 +951,7 @@ decode_elements-returns-in_err-value-clause-told g t c =
     (element_there (shape_of_type c.args.types.now c.args.below) c.args.element.0 c.args.decoder.now c.loop-element.decoder i.0 _ (sym i.2) i.3 c.loop-element-test.ensures) x) c.in_err-value.field-0.0 _ c.in_err-value.ensures.told)
 
 pub decode_elements_in_order-returns-in_err-value-clause-told : goal.decode_elements_in_order-returns-in_err-value-clause-told
-decode_elements_in_order-returns-in_err-value-clause-told g t c = 
+decode_elements_in_order-returns-in_err-value-clause-told g t c =
     let i = c.loop-last.invariant.0 in
     let p = forgotten (DecodesTree (shape_of_type c.args.types.now c.args.below c.args.element.0)) c.args.decoder.now i.0 i.1 c.loop-last.decoder i.4 in
     let k = turns_keep (shape_of_type c.args.types.now c.args.below c.args.element.0) (λ (z : Tree). z) c.args.decoder.now i.0 c.loop-last.decoder p in
@@ -951,7 +960,7 @@ decode_elements_in_order-returns-in_err-value-clause-told g t c =
     (element_there (shape_of_type c.args.types.now c.args.below) c.args.element.0 c.args.decoder.now c.loop-last.decoder i.0 _ (sym i.3) p c.loop-last-test.ensures) x) c.in_err-value.field-0.0 _ c.in_err-value.ensures.told)
 
 pub decode_sequence-returns-in_err-value-clause-told : goal.decode_sequence-returns-in_err-value-clause-told
-decode_sequence-returns-in_err-value-clause-told g t c = 
+decode_sequence-returns-in_err-value-clause-told g t c =
     let k = c.loop-rest.invariant in
     let at = split c.loop-rest.rest.now _ c.in-len1-up.len_at_least c.component-item.is in
     let len : length c.args.components.now ≡ length k.4 + length c.loop-rest.rest.now = ap length k.5 ∙ length-append k.4 c.loop-rest.rest.now in
@@ -1045,7 +1054,7 @@ decode_choice-returns-in_err-value-clause-itself g t c =
     rw (residual _ c.from_residual-in_err-value.ensures.1) (λ n. absurd (not_named _ _ c.in_err-value.ensures.told.1 n))
 
 pub decode_choice-returns-clause-itself : goal.decode_choice-returns-clause-itself
-decode_choice-returns-clause-itself g t c = 
+decode_choice-returns-clause-itself g t c =
     if_err_map _ _ (λ e m n. inr (inr m)) c.choose.result c.choose.ensures.kind
 
 pub decode_list-returns-in_err-value-clause-itself : goal.decode_list-returns-in_err-value-clause-itself
@@ -1061,7 +1070,7 @@ decode_inside-returns-in-Err-clause-itself g t c =
     λ n. step_refused (ReadsEachPart (shape_of_type c.args.types.now c.args.below) c.args.ty.now) c.args.header c.args.decoder.now _ _ _ c.in_ok-inner.ensures.exact _ c.decode_contents.new.decoder (c.in-Err.ensures.itself (unmoved _ _ _ c.add_after.ensures n))
 
 pub decode_inside-returns-in_err-close-clause-itself : goal.decode_inside-returns-in_err-close-clause-itself
-decode_inside-returns-in_err-close-clause-itself g t c = 
+decode_inside-returns-in_err-close-clause-itself g t c =
     let w = c.in-Ok.ensures.exact in
     rw (residual _ c.from_residual-in_err-close.ensures.1)
     (λ n. step_unclosed (ReadsEachPart (shape_of_type c.args.types.now c.args.below) c.args.ty.now) c.args.header c.args.decoder.now _ _ _ c.in_ok-inner.ensures.exact w.0 _ w.3 _ c.remaining.ensures.value _ _ c.in_err-close.ensures)
@@ -1095,7 +1104,7 @@ decode_elements-returns-in_err-value-clause-itself g t c =
     rw (residual _ c.from_residual.ensures.1) (λ n. absurd (not_named _ _ c.in_err-value.ensures.told.1 n))
 
 pub decode_elements-returns-in_err-keep-clause-itself : goal.decode_elements-returns-in_err-keep-clause-itself
-decode_elements-returns-in_err-keep-clause-itself g t c = 
+decode_elements-returns-in_err-keep-clause-itself g t c =
     let w = c.in_ok-value.ensures.reads in
     rw (residual _ c.from_residual-in_err-keep.ensures.1)
     (λ n. element_stops (shape_of_type c.args.types.now c.args.below) c.args.element.0 c.args.decoder.now c.loop-element.decoder _ w.0 w.2 _ (ap length c.remaining-left.ensures.value) _ c.in_err-keep.ensures.kept
@@ -1106,14 +1115,14 @@ decode_elements_in_order-returns-in_err-value-clause-itself g t c =
     rw (residual _ c.from_residual.ensures.1) (λ n. absurd (not_named _ _ c.in_err-value.ensures.told.1 n))
 
 pub decode_elements_in_order-returns-in_err-keep-clause-itself : goal.decode_elements_in_order-returns-in_err-keep-clause-itself
-decode_elements_in_order-returns-in_err-keep-clause-itself g t c = 
+decode_elements_in_order-returns-in_err-keep-clause-itself g t c =
     let w = c.in_ok-value.ensures.reads in
     rw (residual _ c.from_residual-in_err-keep.ensures.1)
     (λ n. set_element_stops (shape_of_type c.args.types.now c.args.below) c.args.element.0 c.args.decoder.now c.loop-last.decoder _ w.0 w.2 _ (ap length c.remaining-start.ensures.value) _ c.in_err-keep.ensures.kept
     c.loop-last.invariant.0.0 c.loop-last.invariant.0.1 c.loop-last.invariant.0.4)
 
 pub decode_elements_in_order-returns-then-is_less-clause-itself : goal.decode_elements_in_order-returns-then-is_less-clause-itself
-decode_elements_in_order-returns-then-is_less-clause-itself g t c = 
+decode_elements_in_order-returns-then-is_less-clause-itself g t c =
     let i = c.loop-last.invariant.0 in
     let w = c.in_ok-value.ensures.reads in
     let k = call_keeps w.2 in
@@ -1122,23 +1131,26 @@ decode_elements_in_order-returns-then-is_less-clause-itself g t c =
       i.1,
       c.loop-last.decoder,
       i.4,
-      inr (_, (
-        w.0,
-        c.octets_before-octets.result.now,
-        w.2,
-        rw (← c.remaining-start.ensures.value, ← c.remaining.ensures.value) c.octets_before-octets.ensures,
-        (λ e. c.in_ok-keep.ensures.kept.1 (e ∙ sym (ap length c.remaining-start.ensures.value))),
-        strict_before c.loop-last.decoder _ k c.if-is_strict.ensures,
-        out_of_order i.1 c.loop-last.last.now c.octets_before-octets.result.now i.6 c.if-is_less.ensures,
-        rules_same c.loop-last.decoder _ (Der SetOfOutOfOrder) c.out_of_order.result k c.out_of_order.ensures,
-      )),
+      inr (
+        _,
+        (
+          w.0,
+          c.octets_before-octets.result.now,
+          w.2,
+          rw (← c.remaining-start.ensures.value, ← c.remaining.ensures.value) c.octets_before-octets.ensures,
+          (λ e. c.in_ok-keep.ensures.kept.1 (e ∙ sym (ap length c.remaining-start.ensures.value))),
+          strict_before c.loop-last.decoder _ k c.if-is_strict.ensures,
+          out_of_order i.1 c.loop-last.last.now c.octets_before-octets.result.now i.6 c.if-is_less.ensures,
+          rules_same c.loop-last.decoder _ (Der SetOfOutOfOrder) c.out_of_order.result k c.out_of_order.ensures,
+        ),
+      ),
     )
 
 pub decode_sequence-returns-then-leaves_all_out-clause-itself : goal.decode_sequence-returns-then-leaves_all_out-clause-itself
 decode_sequence-returns-then-leaves_all_out-clause-itself g t c = only_memory (shape_of_type c.args.types.now c.args.below) c.args.components.now c.args.decoder.now _ _ c.all_absent.ensures.memory
 
 pub decode_sequence-returns-in_err-value-clause-itself : goal.decode_sequence-returns-in_err-value-clause-itself
-decode_sequence-returns-in_err-value-clause-itself g t c = 
+decode_sequence-returns-in_err-value-clause-itself g t c =
     let k = c.loop-rest.invariant in
     let at = split c.loop-rest.rest.now _ c.in-len1-up.len_at_least c.component-item.is in
     rw (residual _ c.from_residual-in_err-value.ensures.1)
@@ -1157,7 +1169,7 @@ decode_component-returns-in-Ok-true-clause-itself g t c =
     present_stops (shape_of_type c.args.types.now c.args.below) c.args.component.now c.args.decoder.now _ _ c.decode_present-in-Ok-true.ensures.itself
 
 pub decode_component-returns-in-Ok-false-clause-itself : goal.decode_component-returns-in-Ok-false-clause-itself
-decode_component-returns-in-Ok-false-clause-itself g t c = 
+decode_component-returns-in-Ok-false-clause-itself g t c =
     unmade_stops _ (shape_of_type c.args.types.now c.args.below) c.args.component.now c.args.decoder.now _ _ c.missing.ensures.made
 
 pub decode_component-returns-in-Err-clause-itself : goal.decode_component-returns-in-Err-clause-itself
@@ -1173,7 +1185,7 @@ decode_present-returns-in_err-value-clause-itself g t c =
     rw (residual _ c.from_residual.ensures.1) (λ n. absurd (not_named _ _ c.in_err-value.ensures.told.1 n))
 
 pub decode_present-returns-then-means_same-clause-itself : goal.decode_present-returns-then-means_same-clause-itself
-decode_present-returns-then-means_same-clause-itself g t c = 
+decode_present-returns-then-means_same-clause-itself g t c =
     let w = c.in_ok-value.ensures.reads in
     λ n. default_stops (shape_of_type c.args.types.now c.args.below) c.args.component.now c.in-Default.default c.in-Default.is c.args.decoder.now _ w.0 w.2 c.if-not-is_strict.ensures (subst (λ z. Same z (tree_of c.in-Default.default)) (w.1 refl) (c.means_same.ensures.same c.if-means_same.true)) c.default_present.result c.default_present.ensures
 
