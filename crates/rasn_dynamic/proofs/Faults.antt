@@ -35,7 +35,6 @@ use Rattle.rasn_types.specs.Errors.{IsOutOfMemory}
 use Rattle.rasn_de.specs.declared.ber.de.parser.ParseError.TheVariants.{UnexpectedExtraData, OutOfMemory, Der}
 use Rattle.rasn_de.specs.Steps.{IsErrorOf}
 use Rattle.rasn_de.proofs.Constructed.Steps.{rules_same}
-use Rattle.rasn_de.proofs.Constructed.Optional.{strict_before}
 use Rattle.rasn_de.proofs.OwnTypes.Parts.{call_keeps}
 use Rattle.rasn_schema.specs.declared.types.«Type».TheVariants.{Tagged, Choice, Sequence, Set, SequenceOf, SetOf}
 use Rattle.rasn_schema.specs.declared.types.Presence.TheVariants.{Default}

@@ -1,5 +1,5 @@
 -- A component of a SEQUENCE is read, or is absent.
-use Rattle.std.proofs.Common.{Bool, ◌≡◌, inl, inr, true, false, Option, Some, None, Result, Ok, Err, refl, sym, subst}
+use Rattle.std.proofs.Common.{Bool, ◌≡◌, inl, inr, true, false, Option, Some, None, Result, Ok, Err, refl, sym, ◌∙◌, subst}
 use Rattle.std.specs.Prelude.{IfOk, IfErr}
 use Rattle.std.specs.declared.alloc.AllocError.{AllocError}
 use Rattle.rasn_types.specs.declared.types.tag.Tag.{Tag}
