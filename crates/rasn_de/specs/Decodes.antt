@@ -1,5 +1,5 @@
 -- What a call of a decoder returns.
-use Rattle.std.specs.Prelude.{◌≡◌, ℕ, List, Bool}
+use Rattle.std.specs.Prelude.{◌≡◌, ℕ, List, Bool, Result, Ok, Err}
 use Rattle.rasn_types.specs.declared.types.codec.Codec.{Codec}
 use Rattle.rasn_types.specs.Shapes.{Shape, Tree, items, Parts}
 use Rattle.rasn_types.specs.Readings.{Reading, ReadsInOrder}
@@ -29,3 +29,8 @@ ReadsParts parts rule depth closing input t rest = (ts : List Tree) × (t ≡ it
 
 abbrev pub DecodesParts : {T : Type 0} → Parts → (T → Tree) → Call T
 DecodesParts parts tree old result new = DecodesBy (ReadsParts parts) tree old result new
+
+-- Some value of the shape is decoded, and nothing is made of it.
+abbrev pub Checks : Shape → Call (Unit {0})
+Checks shape old (Ok u) new = (t : Tree) × Decodes shape (λ (z : Tree). z) old (Ok t) new
+Checks shape old (Err e) new = Decodes shape (λ (z : Tree). z) old (Err e) new
