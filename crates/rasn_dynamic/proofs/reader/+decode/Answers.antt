@@ -718,11 +718,11 @@ decode_sequence-returns-clause-reads g t c =
     let i = c.loop-rest.invariant.0 in (
       i.0,
       i.1,
-      in_turn (shape_of_type c.args.types.now c.args.below) c.args.components.now c.args.decoder.now c.if-leaves_all_out.ensures _ _ (parts_end _ _ _ _ _ i.2 (ap (components_by (shape_of_type c.args.types.now c.args.below)) (nothing_left _ c.in_default-rest.len_below))),
+      in_turn (shape_of_type c.args.types.now c.args.below) c.args.components.now c.args.decoder.now c.if-leaves_all_out.ensures _ _ (parts_end _ _ _ _ _ i.2 (ap (components_by (shape_of_type c.args.types.now c.args.below)) (nothing_left _ c.in_default.len_below))),
     )
 
 pub decode_sequence-returns-clause-fits : goal.decode_sequence-returns-clause-fits
-decode_sequence-returns-clause-fits g t c = λ k. fit_end (Fits c.args.types.now c.args.below) _ _ _ (c.loop-rest.invariant.2 k) (nothing_left _ c.in_default-rest.len_below)
+decode_sequence-returns-clause-fits g t c = λ k. fit_end (Fits c.args.types.now c.args.below) _ _ _ (c.loop-rest.invariant.2 k) (nothing_left _ c.in_default.len_below)
 
 pub decode_sequence-returns-then-leaves_all_out-clause-fails : goal.decode_sequence-returns-then-leaves_all_out-clause-fails
 decode_sequence-returns-then-leaves_all_out-clause-fails g t c = if_err_map _ _ (λ e m. inr m) c.all_absent.result c.all_absent.ensures.memory
