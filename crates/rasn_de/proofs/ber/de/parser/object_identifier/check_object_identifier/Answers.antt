@@ -5,9 +5,9 @@ use Rattle.rasn_de.proofs.Leaves.Integer.{empty_is, not_empty}
 use Rattle.rasn_de.proofs.Leaves.Returns.{residual}
 use Rattle.rasn_de.proofs.ber.de.parser.object_identifier.check_object_identifier.Goals as goal
 
-pub returns-in_err-field-0 : goal.returns-in_err-field-0
-returns-in_err-field-0 c =
-    rw (residual _ c.from_residual.ensures.1) (stops_first c.args.rules _ _ c.in_err-field-0.ensures)
+pub returns-in_err-rest : goal.returns-in_err-rest
+returns-in_err-rest c =
+    rw (residual _ c.from_residual.ensures.1) (stops_first c.args.rules _ _ c.in_err-rest.ensures)
 
 pub loop-rest-init : goal.loop-rest-init
 loop-rest-init c = (first_two _, arcs_start c.args.rules _ _ _ _ c.in_ok-rest.ensures refl)
