@@ -28,7 +28,8 @@ use Rattle.rasn_schema.specs.declared.types.Component.{Component}
 use Rattle.rasn_schema.specs.declared.value.Value.{Value}
 use Rattle.rasn_schema.specs.Trees.{tree_of}
 use Rattle.rasn_schema.specs.Shapes.{components_by, presence_in}
-use Rattle.rasn_dynamic.specs.Calls.{names_of, HoldsSlots, IsComponentFor, IsPut, IsDefaultOf, DecodesPresent}
+use Rattle.rasn_dynamic.specs.Calls.{names_of, HoldsSlots, IsComponentFor, IsPut, IsDefaultOf, DecodesPresent, DecodesMember}
+use Rattle.rasn_dynamic.proofs.Parts.{shorter}
 use Rattle.rasn_dynamic.proofs.Pieces.{only_part, by_tag_distinguished, slots_placed, slots_filled}
 
 abbrev itself : Tree → Tree
@@ -105,3 +106,9 @@ module _ (f : ℕ → Shape) (ps : List Component) (k : ℕ) (p : Component) (ta
         (o.0, subst (λ z. HoldsSlots keep z o.0) (sym a) o.1, (k, t, o.2, (got, λ w. m (w ∙ sym g))))
     next_put keep v q before slots h l left g m (Some told) after (e, a, w) =
         (slots, subst (λ z. HoldsSlots keep z slots) (sym a) h, (k, t, slots_filled keep before slots k h l e, refl, w ∙ name_here ps k p b.0, (got, λ x. m (x ∙ sym g))))
+
+-- Some of the octets are read.
+pub member_shorter : (keep : Bool) (ps : Parts) (names : List (List ℕ)) (before after : List (Option Value)) (slots : List (Option Tree)) (old new : State) (r : Option (Bor (List ℕ))) → HoldsSlots keep before slots
+    → DecodesMember keep ps names before old (Ok r) new after → length new.rest < length old.rest
+member_shorter keep ps names before after slots old new None h d = let w = d slots h in shorter old.rest new.rest w.2.3.0.end w.2.3.1
+member_shorter keep ps names before after slots old new (Some told) h d = let w = d slots h in shorter old.rest new.rest w.2.5.0.end w.2.5.1

@@ -46,7 +46,8 @@ use Rattle.rasn_dynamic.proofs.OnePart.{always, always_fails, looked, looked_fai
 use Rattle.rasn_dynamic.proofs.Contents.{prefix_lawful, list_lawful, set_of_lawful, seq_lawful, set_lawful, none_holds, sequence_runs_out, parts_start, parts_more, part_fails, part_fails_at, parts_run_out, parts_end}
 use Rattle.rasn_dynamic.proofs.Typed.{contents_end, contents_stay, not_sized, is_sized, missized, holds_others, is_counted, count_items, by_prefix, by_sequence, by_set, by_list, by_set_of, type_decodes, sequence_fails, sequence_made, set_fails, set_made, set_runs_out}
 use Rattle.rasn_dynamic.proofs.Pieces.{got_below, first_of_part, part_lawful, nones_come, nones_held, makes_parts}
-use Rattle.rasn_dynamic.proofs.Component.{next_unpeeked, next_unknown, next_unread, next_idle, next_put}
+use Rattle.rasn_dynamic.proofs.Component.{next_unpeeked, next_unknown, next_unread, next_idle, next_put, member_shorter}
+use Rattle.rasn_dynamic.proofs.Parts.{shorter}
 use Rattle.rasn_dynamic.proofs.reader.+decode.Goals.{decode_elements_in_order-else-is_strict-via-then-is_strict+else-is_less, decode_elements_in_order-else-is_strict-via-else-is_strict}
 use Rattle.rasn_dynamic.proofs.reader.+decode.Goals as goal
 use Rattle.rasn_de.specs.SequenceOf.{DecodesSized}
@@ -295,6 +296,15 @@ decode_elements-overflow_add-count g t c =
 pub decode_elements-loop-element-init : goal.decode_elements-loop-element-init
 decode_elements-loop-element-init g t c = rw c.new-values.ensures.items (([], (λ k. refl), c.requires.counts, refl), (λ k. tt), c.requires.clear)
 
+pub decode_elements-returns-clause-told : goal.decode_elements-returns-clause-told
+decode_elements-returns-clause-told g t c = c.loop-element.invariant.2
+
+pub decode_elements-returns-clause-fits : goal.decode_elements-returns-clause-fits
+decode_elements-returns-clause-fits g t c = c.loop-element.invariant.1
+
+pub decode_elements-loop-element-smaller : goal.decode_elements-loop-element-smaller
+decode_elements-loop-element-smaller g t c = shorter _ _ c.in_ok-value.ensures.reads.2.end (λ e. c.in_ok-keep.ensures.kept.1 (e ∙ sym (ap length c.remaining-left.ensures.value)))
+
 pub decode_elements-returns-in_err-value-clause-rules : goal.decode_elements-returns-in_err-value-clause-rules
 decode_elements-returns-in_err-value-clause-rules g t c = rw (residual _ c.from_residual.ensures.1) (c.in_err-value.ensures.rules ∙ turn_rules (shape_of_type c.args.types.now c.args.below c.args.element.0) (λ (z : Tree). z) _ _ _ c.loop-element.invariant.0.3)
 
@@ -303,6 +313,15 @@ decode_elements-returns-in_err-keep-clause-rules g t c = rw (residual _ c.from_r
 
 pub decode_elements_in_order-loop-last-init : goal.decode_elements_in_order-loop-last-init
 decode_elements_in_order-loop-last-init g t c = rw c.new-values.ensures.items (([], [], (λ k. refl), c.requires.counts, (refl, refl), (λ strict. tt), refl), (λ k. tt), c.requires.clear)
+
+pub decode_elements_in_order-returns-clause-told : goal.decode_elements_in_order-returns-clause-told
+decode_elements_in_order-returns-clause-told g t c = c.loop-last.invariant.2
+
+pub decode_elements_in_order-returns-clause-fits : goal.decode_elements_in_order-returns-clause-fits
+decode_elements_in_order-returns-clause-fits g t c = c.loop-last.invariant.1
+
+pub decode_elements_in_order-loop-last-smaller : goal.decode_elements_in_order-loop-last-smaller
+decode_elements_in_order-loop-last-smaller g t c = shorter _ _ c.in_ok-value.ensures.reads.2.end (λ e. c.in_ok-keep.ensures.kept.1 (e ∙ sym (ap length c.remaining-start.ensures.value)))
 
 pub decode_elements_in_order-returns-in_err-value-clause-reads : goal.decode_elements_in_order-returns-in_err-value-clause-reads
 decode_elements_in_order-returns-in_err-value-clause-reads g t c =
@@ -757,6 +776,10 @@ decode_set-loop-last-init g t c = (
   nones_fit _ c.args.components.now _ c.requires.1.1.1.0,
   c.requires.1.1.1.1,
 )
+
+pub decode_set-loop-last-smaller : goal.decode_set-loop-last-smaller
+decode_set-loop-last-smaller g t c =
+    member_shorter _ _ _ c.loop-last.found.items c.decode_set_component.new.found.items c.loop-last.invariant.0.0 c.loop-last.decoder _ _ c.loop-last.invariant.0.1 c.in_ok-next.ensures.next
 
 pub decode_set-returns-in_err-last-clause-exact : goal.decode_set-returns-in_err-last-clause-exact
 decode_set-returns-in_err-last-clause-exact g t c =
