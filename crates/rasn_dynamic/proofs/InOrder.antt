@@ -42,7 +42,7 @@ all_missing (p ∷ ps) e =
     let n = none_of (is_required p.presence) (any_required ps) e in
     let t = one_missing p.presence n.0 in
     let ts = all_missing ps n.1 in
-    (t.0 ∷ ts.0, t.0, ts.0, refl, t.1, ts.1)
+    (t.0 ∷ ts.0, (t.0, ts.0, refl, t.1, ts.1))
 
 module _ (f : ℕ → Shape) where
   one_required : (key : Key) (p : PartPresence) (s : Shape) (ps : Parts) → has_required (part (presence_by key p) s ps) ≡ is_required p || has_required ps
