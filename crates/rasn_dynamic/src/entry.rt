@@ -40,7 +40,14 @@ pub fn decode_with_remainder<'input>(
     ensures rules { IfErr result (λ e. e.codec ≡ rule) }
 {
     let mut decoder = Decoder::new(alloc, input, DecoderOptions::of(rule));
-    let value = decode_at::<true>(&mut decoder, &mut None, schema.types(), usize::MAX, id)?;
+    let value = decode_at::<true, false>(
+        &mut decoder,
+        &mut None,
+        &mut Vec::new(alloc),
+        schema.types(),
+        usize::MAX,
+        id,
+    )?;
     Ok((value, decoder.remaining()))
 }
 
@@ -81,7 +88,14 @@ pub fn check(
     ensures rules { IfErr result (λ e. e.codec ≡ rule) }
 {
     let mut decoder = Decoder::new(alloc, input, DecoderOptions::of(rule));
-    let value = decode_at::<false>(&mut decoder, &mut None, schema.types(), usize::MAX, id)?;
+    let value = decode_at::<false, false>(
+        &mut decoder,
+        &mut None,
+        &mut Vec::new(alloc),
+        schema.types(),
+        usize::MAX,
+        id,
+    )?;
     drop(value);
     refuse_remainder(rule, decoder.remaining())
 }

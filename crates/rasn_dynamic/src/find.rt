@@ -115,7 +115,10 @@ fn pass_component(
     ensures { OnOk result (PassesBy (ReadsComponent (presence_in (shape_of_type types.now below) component.now) (shape_of_type types.now below component.now.type_id.0)) decoder.old decoder.new) }
 {
     let mut trace = None;
-    match decode_component::<false>(decoder, &mut trace, types, below, component, 0) {
+    let mut parts = Vec::new(decoder.alloc());
+    match decode_component::<false, false>(
+        decoder, &mut trace, &mut parts, types, below, component, 0,
+    ) {
         Ok(value) => {
             drop(value);
             Ok(())
@@ -173,7 +176,10 @@ fn pass_member(
 {
     let left = decoder.remaining().len();
     let mut trace = None;
-    match decode_present::<false>(decoder, &mut trace, types, below, component, 0) {
+    let mut parts = Vec::new(decoder.alloc());
+    match decode_present::<false, false>(
+        decoder, &mut trace, &mut parts, types, below, component, 0,
+    ) {
         Ok(value) => {
             drop(value);
             check_taken(decoder, left)
@@ -218,7 +224,8 @@ fn pass_element(
 {
     let left = decoder.remaining().len();
     let mut trace = None;
-    match decode_at::<false>(decoder, &mut trace, types, below, element) {
+    let mut parts = Vec::new(decoder.alloc());
+    match decode_at::<false, false>(decoder, &mut trace, &mut parts, types, below, element) {
         Ok(value) => {
             drop(value);
             check_taken(decoder, left)
@@ -340,9 +347,11 @@ fn read_part<'input>(place: &mut Place<'input>, types: &[Type]) -> Result<Part<'
     let start = place.decoder.remaining();
     let (header_len, is_indefinite) = header_of(place.decoder.alloc(), start)?;
     let mut trace = None;
-    match decode_at::<false>(
+    let mut parts = Vec::new(place.decoder.alloc());
+    match decode_at::<false, false>(
         &mut place.decoder,
         &mut trace,
+        &mut parts,
         types,
         place.levels,
         place.id,

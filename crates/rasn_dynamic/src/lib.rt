@@ -5,11 +5,13 @@
 
 mod components;
 mod entry;
+mod extent;
 mod facts;
 mod find;
 mod locate;
 mod order;
 mod part;
+mod parts;
 mod path;
 mod read_leaf;
 mod reader;
@@ -28,6 +30,7 @@ pub use facts::worked_places;
 pub use find::find_part;
 pub use locate::{check_or_locate, decode_or_locate};
 pub use part::Part;
+pub use parts::{Parts, parts_of};
 pub use path::ValuePath;
 pub use rasn::NormaliseError;
 pub use rasn_schema::fits;

@@ -16,7 +16,7 @@ use rasn_types::types::Codec;
 use std::alloc::Global;
 
 /// Returns the refusal of an input of so many octets.
-fn refusal_of(
+pub(crate) fn refusal_of(
     alloc: Global,
     error: DecodeError,
     trace: Option<Fault>,
@@ -66,7 +66,15 @@ pub fn decode_or_locate<'input>(
 {
     let mut decoder = Decoder::new(alloc, input, DecoderOptions::of(rule));
     let mut trace = None;
-    match decode_at::<true>(&mut decoder, &mut trace, schema.types(), usize::MAX, id) {
+    let mut parts = Vec::new(alloc);
+    match decode_at::<true, false>(
+        &mut decoder,
+        &mut trace,
+        &mut parts,
+        schema.types(),
+        usize::MAX,
+        id,
+    ) {
         Ok(value) => Ok((value, decoder.remaining())),
         Err(error) => Err(refusal_of(alloc, error, trace, id, input.len())),
     }
@@ -89,7 +97,15 @@ pub fn check_or_locate<'input>(
 {
     let mut decoder = Decoder::new(alloc, input, DecoderOptions::of(rule));
     let mut trace = None;
-    match decode_at::<false>(&mut decoder, &mut trace, schema.types(), usize::MAX, id) {
+    let mut parts = Vec::new(alloc);
+    match decode_at::<false, false>(
+        &mut decoder,
+        &mut trace,
+        &mut parts,
+        schema.types(),
+        usize::MAX,
+        id,
+    ) {
         Ok(value) => {
             drop(value);
             Ok(decoder.remaining())

@@ -25,6 +25,7 @@ ghost use Rattle.rasn_dynamic.specs.Faults.{IsFault, IsFaultIn, IsFaultOf, IsFau
 ghost use Rattle.rasn_de.specs.Constructed.{list_header};
 
 use crate::components::{default_present, is_always_there, leaves_all_out, missing};
+use crate::extent::{Extent, finish, note};
 use crate::order::{is_less, octets_before, out_of_order};
 use crate::read_leaf::{decode_any_value, decode_number, leaf_value, out_of_memory, push};
 use crate::set::{all_absent, component_for, gather, no_components, put};
@@ -138,9 +139,10 @@ fn list_for<'input, const KEEP: bool>(
 /// can't.
 #[cycle(decode)]
 #[inline(always)]
-pub fn decode_at<'input, const KEEP: bool>(
+pub fn decode_at<'input, const KEEP: bool, const PARTS: bool>(
     decoder: &mut Decoder<'input>,
     trace: &mut Option<Fault>,
+    parts: &mut Vec<Extent<'input>>,
     types: &[Type],
     levels: usize,
     id: TypeId,
@@ -154,7 +156,7 @@ pub fn decode_at<'input, const KEEP: bool>(
     ensures told { TellsOf (IsFault types.now levels id.0 decoder.old) result trace.new }
 {
     let left = decoder.remaining().len();
-    match decode_found::<KEEP>(decoder, trace, types, levels, id) {
+    match decode_found::<KEEP, PARTS>(decoder, trace, parts, types, levels, id) {
         Ok(value) => Ok(value),
         Err(error) => {
             mark(decoder.alloc(), trace, id, left);
@@ -166,9 +168,10 @@ pub fn decode_at<'input, const KEEP: bool>(
 /// Reads such a value as the part with this index of the value that holds it.
 #[cycle(decode)]
 #[inline(always)]
-fn decode_part<'input, const KEEP: bool>(
+fn decode_part<'input, const KEEP: bool, const PARTS: bool>(
     decoder: &mut Decoder<'input>,
     trace: &mut Option<Fault>,
+    parts: &mut Vec<Extent<'input>>,
     types: &[Type],
     levels: usize,
     id: TypeId,
@@ -181,7 +184,7 @@ fn decode_part<'input, const KEEP: bool>(
     ensures rules { IfErr result (λ e. e.codec ≡ decoder.old.rule) }
     ensures told { TellsOf (IsFaultIn types.now levels (IsOnly index id.0 decoder.old) decoder.old decoder.old) result trace.new }
 {
-    match decode_at::<KEEP>(decoder, trace, types, levels, id) {
+    match decode_at::<KEEP, PARTS>(decoder, trace, parts, types, levels, id) {
         Ok(value) => Ok(value),
         Err(error) => {
             step(trace, index);
@@ -190,11 +193,42 @@ fn decode_part<'input, const KEEP: bool>(
     }
 }
 
-/// Reads a value of the type with this number. Names what can't be read inside it.
+/// Reads such a value, and lists it where parts are listed.
 #[cycle(decode)]
-fn decode_found<'input, const KEEP: bool>(
+#[inline(always)]
+fn decode_listed<'input, const KEEP: bool, const PARTS: bool>(
     decoder: &mut Decoder<'input>,
     trace: &mut Option<Fault>,
+    parts: &mut Vec<Extent<'input>>,
+    types: &[Type],
+    levels: usize,
+    id: TypeId,
+    index: usize,
+) -> Result<Value<'input>, DecodeError>
+    requires lawful { IsLawful (shape_of_type types.now levels id.0) }
+    requires clear { trace.old ≡ None }
+    ensures reads { Making KEEP tree_of (DecodesTree (shape_of_type types.now levels id.0)) decoder.old result decoder.new }
+    ensures fits { KEEP ≡ true → IfOk result (λ v. Fits types.now levels id.0 v) }
+    ensures rules { IfErr result (λ e. e.codec ≡ decoder.old.rule) }
+    ensures told { Told (IsFaultIn types.now levels (IsOnly index id.0 decoder.old) decoder.old decoder.old) result trace.new }
+    ensures itself { IfErr result (λ e. trace.new ≡ None → IsOutOfMemory e.kind) }
+{
+    let place = note::<PARTS>(decoder, parts, id, index)?;
+    match decode_part::<KEEP, PARTS>(decoder, trace, parts, types, levels, id, index) {
+        Ok(value) => {
+            finish::<PARTS>(decoder, parts, place);
+            Ok(value)
+        }
+        Err(error) => Err(error),
+    }
+}
+
+/// Reads a value of the type with this number. Names what can't be read inside it.
+#[cycle(decode)]
+fn decode_found<'input, const KEEP: bool, const PARTS: bool>(
+    decoder: &mut Decoder<'input>,
+    trace: &mut Option<Fault>,
+    parts: &mut Vec<Extent<'input>>,
     types: &[Type],
     levels: usize,
     id: TypeId,
@@ -212,7 +246,7 @@ fn decode_found<'input, const KEEP: bool>(
         return Err(no_value(decoder));
     }
     match type_at(types, id) {
-        Some(ty) => decode_type::<KEEP>(decoder, trace, types, levels - 1, ty),
+        Some(ty) => decode_type::<KEEP, PARTS>(decoder, trace, parts, types, levels - 1, ty),
         None => Err(no_value(decoder)),
     }
 }
@@ -220,9 +254,10 @@ fn decode_found<'input, const KEEP: bool>(
 /// Reads a value of a type.
 #[cycle(decode)]
 #[inline(always)]
-fn decode_type<'input, const KEEP: bool>(
+fn decode_type<'input, const KEEP: bool, const PARTS: bool>(
     decoder: &mut Decoder<'input>,
     trace: &mut Option<Fault>,
+    parts: &mut Vec<Extent<'input>>,
     types: &[Type],
     below: usize,
     ty: &Type,
@@ -246,12 +281,21 @@ fn decode_type<'input, const KEEP: bool>(
         Type::Enumerated { tag, numbers } => decode_number(decoder, *tag, numbers),
         Type::Any { tag } => decode_any_value(decoder, *tag),
         Type::Choice { name, alternatives } => {
-            decode_choice::<KEEP>(decoder, trace, types, below, name.as_str(), alternatives)
-        }
-        Type::Tagged { tag, .. } => {
-            decode_inside::<KEEP>(
+            decode_choice::<KEEP, PARTS>(
                 decoder,
                 trace,
+                parts,
+                types,
+                below,
+                name.as_str(),
+                alternatives,
+            )
+        }
+        Type::Tagged { tag, .. } => {
+            decode_inside::<KEEP, PARTS>(
+                decoder,
+                trace,
+                parts,
                 types,
                 below,
                 ty,
@@ -260,9 +304,10 @@ fn decode_type<'input, const KEEP: bool>(
             )
         }
         Type::Sequence { tag, .. } => {
-            decode_inside::<KEEP>(
+            decode_inside::<KEEP, PARTS>(
                 decoder,
                 trace,
+                parts,
                 types,
                 below,
                 ty,
@@ -271,9 +316,10 @@ fn decode_type<'input, const KEEP: bool>(
             )
         }
         Type::Set { tag, .. } => {
-            decode_inside::<KEEP>(
+            decode_inside::<KEEP, PARTS>(
                 decoder,
                 trace,
+                parts,
                 types,
                 below,
                 ty,
@@ -285,12 +331,12 @@ fn decode_type<'input, const KEEP: bool>(
             tag,
             constraints,
             ..
-        } => decode_list::<KEEP>(decoder, trace, types, below, ty, *tag, constraints),
+        } => decode_list::<KEEP, PARTS>(decoder, trace, parts, types, below, ty, *tag, constraints),
         Type::SetOf {
             tag,
             constraints,
             ..
-        } => decode_list::<KEEP>(decoder, trace, types, below, ty, *tag, constraints),
+        } => decode_list::<KEEP, PARTS>(decoder, trace, parts, types, below, ty, *tag, constraints),
     }
 }
 
@@ -299,9 +345,10 @@ fn decode_type<'input, const KEEP: bool>(
 /// # Errors
 /// `NoValidChoice` with the name of the CHOICE if the tag is no alternative's, which consumes nothing.
 #[cycle(decode)]
-fn decode_choice<'input, const KEEP: bool>(
+fn decode_choice<'input, const KEEP: bool, const PARTS: bool>(
     decoder: &mut Decoder<'input>,
     trace: &mut Option<Fault>,
+    parts: &mut Vec<Extent<'input>>,
     types: &[Type],
     below: usize,
     name: &str,
@@ -321,7 +368,7 @@ fn decode_choice<'input, const KEEP: bool>(
         return Err(DecodeError::no_valid_choice(decoder.alloc(), name, decoder.codec()));
     };
     let id = alternatives[number].type_id;
-    let value = decode_part::<KEEP>(decoder, trace, types, below, id, number)?;
+    let value = decode_listed::<KEEP, PARTS>(decoder, trace, parts, types, below, id, number)?;
     choose::<KEEP>(decoder, number, value)
 }
 
@@ -330,9 +377,10 @@ fn decode_choice<'input, const KEEP: bool>(
 /// # Errors
 /// `SizeConstraintNotSatisfied` if the number of elements isn't within the bound, which consumes the value.
 #[cycle(decode)]
-fn decode_list<'input, const KEEP: bool>(
+fn decode_list<'input, const KEEP: bool, const PARTS: bool>(
     decoder: &mut Decoder<'input>,
     trace: &mut Option<Fault>,
+    parts: &mut Vec<Extent<'input>>,
     types: &[Type],
     below: usize,
     ty: &Type,
@@ -350,9 +398,10 @@ fn decode_list<'input, const KEEP: bool>(
     ensures itself { IfErr result (λ e. trace.new ≡ None → DecodesSized (ReadsEachPart (shape_of_type types.now below) ty.now) element_count tag constraints.now decoder.old (Err e) decoder.new) }
 {
     let mut count = 0;
-    let value = decode_inside::<KEEP>(
+    let value = decode_inside::<KEEP, PARTS>(
         decoder,
         trace,
+        parts,
         types,
         below,
         ty,
@@ -365,9 +414,10 @@ fn decode_list<'input, const KEEP: bool>(
 
 /// Reads a value that holds other values, and its header.
 #[cycle(decode)]
-fn decode_inside<'input, const KEEP: bool>(
+fn decode_inside<'input, const KEEP: bool, const PARTS: bool>(
     decoder: &mut Decoder<'input>,
     trace: &mut Option<Fault>,
+    parts: &mut Vec<Extent<'input>>,
     types: &[Type],
     below: usize,
     ty: &Type,
@@ -388,7 +438,9 @@ fn decode_inside<'input, const KEEP: bool>(
     // The octets that are left have a number of this type, so the sum in `add_after` has too.
     let _ = octets_left(decoder);
     let (mut inner, contents) = decoder.open(header)?;
-    let value = match decode_contents::<KEEP>(&mut inner, trace, types, below, ty, count) {
+    let value = match decode_contents::<KEEP, PARTS>(
+        &mut inner, trace, parts, types, below, ty, count,
+    ) {
         Ok(value) => value,
         Err(error) => {
             add_after(trace, octets_after(decoder, &inner));
@@ -401,9 +453,10 @@ fn decode_inside<'input, const KEEP: bool>(
 
 /// Reads the contents of a value that holds other values.
 #[cycle(decode)]
-fn decode_contents<'input, const KEEP: bool>(
+fn decode_contents<'input, const KEEP: bool, const PARTS: bool>(
     decoder: &mut Decoder<'input>,
     trace: &mut Option<Fault>,
+    parts: &mut Vec<Extent<'input>>,
     types: &[Type],
     below: usize,
     ty: &Type,
@@ -420,18 +473,24 @@ fn decode_contents<'input, const KEEP: bool>(
     ensures itself { IfErr result (λ e. trace.new ≡ None → StopsInside (shape_of_type types.now below) ty.now decoder.old e) }
 {
     match ty {
-        Type::Tagged { inner, .. } => decode_part::<KEEP>(decoder, trace, types, below, *inner, 0),
+        Type::Tagged { inner, .. } => decode_listed::<KEEP, PARTS>(
+            decoder, trace, parts, types, below, *inner, 0,
+        ),
         Type::Sequence { components, .. } => {
-            let values = decode_sequence::<KEEP>(decoder, trace, types, below, components)?;
+            let values = decode_sequence::<KEEP, PARTS>(
+                decoder, trace, parts, types, below, components,
+            )?;
             Ok(Value::Items(values))
         }
         Type::SequenceOf { element, .. } => {
-            let values = decode_elements::<KEEP>(decoder, trace, types, below, *element, count)?;
+            let values = decode_elements::<KEEP, PARTS>(
+                decoder, trace, parts, types, below, *element, count,
+            )?;
             Ok(Value::Items(values))
         }
         Type::SetOf { element, .. } => {
-            let values = decode_elements_in_order::<KEEP>(
-                decoder, trace, types, below, *element, count,
+            let values = decode_elements_in_order::<KEEP, PARTS>(
+                decoder, trace, parts, types, below, *element, count,
             )?;
             Ok(Value::Elements(values))
         }
@@ -441,9 +500,10 @@ fn decode_contents<'input, const KEEP: bool>(
             ..
         } => {
             let found = no_components(decoder, components)?;
-            let values = decode_set::<KEEP>(
+            let values = decode_set::<KEEP, PARTS>(
                 decoder,
                 trace,
+                parts,
                 types,
                 below,
                 name.as_str(),
@@ -458,9 +518,10 @@ fn decode_contents<'input, const KEEP: bool>(
 
 /// Reads elements up to the end of the contents (X.690 8.10).
 #[cycle(decode)]
-fn decode_elements<'input, const KEEP: bool>(
+fn decode_elements<'input, const KEEP: bool, const PARTS: bool>(
     decoder: &mut Decoder<'input>,
     trace: &mut Option<Fault>,
+    parts: &mut Vec<Extent<'input>>,
     types: &[Type],
     below: usize,
     element: TypeId,
@@ -480,7 +541,9 @@ fn decode_elements<'input, const KEEP: bool>(
     let _ = octets_left(decoder);
     while !decoder.has_ended() {
         let left = decoder.remaining().len();
-        let value = decode_part::<KEEP>(decoder, trace, types, below, element, *count)?;
+        let value = decode_listed::<KEEP, PARTS>(
+            decoder, trace, parts, types, below, element, *count,
+        )?;
         keep::<KEEP>(decoder, left, value, &mut values)?;
         *count += 1;
     }
@@ -489,9 +552,10 @@ fn decode_elements<'input, const KEEP: bool>(
 
 /// Reads elements up to the end of the contents. Under DER their octets have to be in ascending order (X.690 11.6).
 #[cycle(decode)]
-fn decode_elements_in_order<'input, const KEEP: bool>(
+fn decode_elements_in_order<'input, const KEEP: bool, const PARTS: bool>(
     decoder: &mut Decoder<'input>,
     trace: &mut Option<Fault>,
+    parts: &mut Vec<Extent<'input>>,
     types: &[Type],
     below: usize,
     element: TypeId,
@@ -512,7 +576,9 @@ fn decode_elements_in_order<'input, const KEEP: bool>(
     let _ = octets_left(decoder);
     while !decoder.has_ended() {
         let start = decoder.remaining();
-        let value = decode_part::<KEEP>(decoder, trace, types, below, element, *count)?;
+        let value = decode_listed::<KEEP, PARTS>(
+            decoder, trace, parts, types, below, element, *count,
+        )?;
         keep::<KEEP>(decoder, start.len(), value, &mut values)?;
         *count += 1;
         let octets = octets_before(start, decoder.remaining());
@@ -526,9 +592,10 @@ fn decode_elements_in_order<'input, const KEEP: bool>(
 
 /// Reads the components of a SEQUENCE, up to the end of the contents (X.690 8.9).
 #[cycle(decode)]
-fn decode_sequence<'input, const KEEP: bool>(
+fn decode_sequence<'input, const KEEP: bool, const PARTS: bool>(
     decoder: &mut Decoder<'input>,
     trace: &mut Option<Fault>,
+    parts: &mut Vec<Extent<'input>>,
     types: &[Type],
     below: usize,
     components: &[Component],
@@ -549,7 +616,9 @@ fn decode_sequence<'input, const KEEP: bool>(
     let mut rest = components;
     while let [component, after @ ..] = rest {
         let index = components.len() - rest.len();
-        let value = decode_component::<KEEP>(decoder, trace, types, below, component, index)?;
+        let value = decode_component::<KEEP, PARTS>(
+            decoder, trace, parts, types, below, component, index,
+        )?;
         push::<KEEP>(decoder, &mut values, value)?;
         rest = after;
     }
@@ -580,9 +649,10 @@ pub(crate) fn is_next(
 
 /// Reads a component of a SEQUENCE, unless it is absent.
 #[cycle(decode)]
-pub fn decode_component<'input, const KEEP: bool>(
+pub fn decode_component<'input, const KEEP: bool, const PARTS: bool>(
     decoder: &mut Decoder<'input>,
     trace: &mut Option<Fault>,
+    parts: &mut Vec<Extent<'input>>,
     types: &[Type],
     below: usize,
     component: &Component,
@@ -598,10 +668,12 @@ pub fn decode_component<'input, const KEEP: bool>(
     ensures itself { IfErr result (λ e. trace.new ≡ None → StopsAtComponent (shape_of_type types.now below) component.now decoder.old e) }
 {
     if is_always_there(component) {
-        return decode_present::<KEEP>(decoder, trace, types, below, component, index);
+        return decode_present::<KEEP, PARTS>(decoder, trace, parts, types, below, component, index);
     }
     match is_next(decoder, types, below, component.type_id) {
-        Ok(true) => decode_present::<KEEP>(decoder, trace, types, below, component, index),
+        Ok(true) => decode_present::<KEEP, PARTS>(
+            decoder, trace, parts, types, below, component, index,
+        ),
         Ok(false) => missing::<KEEP>(decoder, component),
         Err(error) => Err(error),
     }
@@ -610,9 +682,10 @@ pub fn decode_component<'input, const KEEP: bool>(
 /// Reads a component that is present. Under DER it must not be its default (X.690 11.5).
 #[cycle(decode)]
 #[inline(always)]
-pub fn decode_present<'input, const KEEP: bool>(
+pub fn decode_present<'input, const KEEP: bool, const PARTS: bool>(
     decoder: &mut Decoder<'input>,
     trace: &mut Option<Fault>,
+    parts: &mut Vec<Extent<'input>>,
     types: &[Type],
     below: usize,
     component: &Component,
@@ -627,12 +700,36 @@ pub fn decode_present<'input, const KEEP: bool>(
     ensures itself { IfErr result (λ e. trace.new ≡ None → IsDefaultWritten (shape_of_type types.now below) component.now decoder.old e) }
 {
     let Presence::Default(default) = &component.presence else {
-        return decode_part::<KEEP>(decoder, trace, types, below, component.type_id, index);
+        return decode_listed::<KEEP, PARTS>(
+            decoder,
+            trace,
+            parts,
+            types,
+            below,
+            component.type_id,
+            index,
+        );
     };
     if !decoder.is_strict() {
-        return decode_part::<KEEP>(decoder, trace, types, below, component.type_id, index);
+        return decode_listed::<KEEP, PARTS>(
+            decoder,
+            trace,
+            parts,
+            types,
+            below,
+            component.type_id,
+            index,
+        );
     }
-    let value = decode_part::<true>(decoder, trace, types, below, component.type_id, index)?;
+    let value = decode_listed::<true, PARTS>(
+        decoder,
+        trace,
+        parts,
+        types,
+        below,
+        component.type_id,
+        index,
+    )?;
     if value.means_same(default) {
         return Err(default_present(decoder));
     }
@@ -645,9 +742,10 @@ pub fn decode_present<'input, const KEEP: bool>(
 /// Those of the first component that isn't read, `NoValidChoice` with the name of the SET for a tag that is no component's. Once all are read, `DuplicateField` with the name of the first component that was
 /// read before, else `MissingField` with that of the first required one that is missing.
 #[cycle(decode)]
-fn decode_set<'input, const KEEP: bool>(
+fn decode_set<'input, const KEEP: bool, const PARTS: bool>(
     decoder: &mut Decoder<'input>,
     trace: &mut Option<Fault>,
+    parts: &mut Vec<Extent<'input>>,
     types: &[Type],
     below: usize,
     name: &str,
@@ -667,8 +765,8 @@ fn decode_set<'input, const KEEP: bool>(
     let mut last = None;
     while !decoder.has_ended() {
         last = decoder.peek_tag_in_order(last)?;
-        let next = decode_set_component::<KEEP>(
-            decoder, trace, types, below, name, components, &mut found,
+        let next = decode_set_component::<KEEP, PARTS>(
+            decoder, trace, parts, types, below, name, components, &mut found,
         )?;
         twice = twice.or(next);
     }
@@ -684,9 +782,10 @@ fn decode_set<'input, const KEEP: bool>(
 /// # Errors
 /// `NoValidChoice` with the name of the SET if the next tag is no component's, which consumes nothing.
 #[cycle(decode)]
-fn decode_set_component<'input, 'names, const KEEP: bool>(
+fn decode_set_component<'input, 'names, const KEEP: bool, const PARTS: bool>(
     decoder: &mut Decoder<'input>,
     trace: &mut Option<Fault>,
+    parts: &mut Vec<Extent<'input>>,
     types: &[Type],
     below: usize,
     name: &str,
@@ -708,7 +807,9 @@ fn decode_set_component<'input, 'names, const KEEP: bool>(
     let Some((number, component)) = component_for(types, below, components, tag) else {
         return Err(DecodeError::no_valid_choice(decoder.alloc(), name, decoder.codec()));
     };
-    let value = decode_present::<KEEP>(decoder, trace, types, below, component, number)?;
+    let value = decode_present::<KEEP, PARTS>(
+        decoder, trace, parts, types, below, component, number,
+    )?;
     if decoder.remaining().len() == left {
         return Err(extra(decoder, left));
     }
