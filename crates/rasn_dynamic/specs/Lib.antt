@@ -9,5 +9,6 @@ pub mod Found
 pub mod Faults
 pub mod Paths
 pub mod Parts
+pub mod Extents
 pub mod Worked
 pub mod Steps
