@@ -10,8 +10,7 @@ use Rattle.rasn_schema.specs.declared.types.«Type».TheVariants.{Leaf, Enumerat
 use Rattle.rasn_schema.specs.Shapes.{shape_of_type}
 use Rattle.rasn_dynamic.specs.Inside.{DecodesTree}
 use Rattle.rasn_dynamic.specs.Calls.{LeavesAllOut}
-use Rattle.rasn_dynamic.specs.Faults.{Enters}
-use Rattle.rasn_dynamic.specs.Parts.{IsAbsentHere}
+use Rattle.rasn_dynamic.specs.Parts.{IsAbsentHere, IsEntered}
 use Rattle.rasn_dynamic.specs.declared.extent.Extent.{Extent}
 
 -- Parts, one after the other: the type of the first one, its index in the value that holds it, its octets, the parts inside it, and the parts after it.
@@ -64,16 +63,27 @@ module _ (P : ℕ → State → Tree → Forest → State → Type 0) where
   ContentsListed f (SequenceOf tag id c) s fs last = ElementsListed id.0 0 s fs last
   ContentsListed f (SetOf tag id c) s fs last = ElementsListed id.0 0 s fs last
 
--- Whether the values of a type are entered.
-abbrev pub IsEntered : «Type» → State → State → Type 0
-IsEntered (Leaf kind tag c names) s inner = inner ≡ s
-IsEntered (Enumerated tag ns) s inner = inner ≡ s
-IsEntered (Any tag) s inner = inner ≡ s
-IsEntered ty s inner = Enters ty s inner
-
 -- A value of the type with the number is read in the state s as t and leaves the state new, and these are the parts inside it: each is related by the
 -- grammar to its octets, none is left out, and they are in the order of their octets.
 unfoldable pub PartsOf : List «Type» → ℕ → ℕ → State → Tree → Forest → State → Type 0
 PartsOf types zero id s t fs new = ⊥
 PartsOf types (suc n) id s t fs new = DecodesTree (shape_of_type types (suc n) id) s (Ok t) new
     × (ty : «Type») × (slice_get types id ≡ Some ty) × (inner : State) × (last : State) × IsEntered ty s inner × ContentsListed (PartsOf types n) (shape_of_type types n) ty inner fs last
+
+-- ---- what the reader adds to a list of parts, where parts are listed
+
+-- The list has these parts more.
+abbrev pub AreAdded : Forest → List Extent → List Extent → Type 0
+AreAdded fs old new = (more : List Extent) × (new ≡ old ++ more) × IsListOf fs more
+
+-- Of a value that is read: the parts inside it.
+abbrev pub AddsInside : List «Type» → ℕ → ℕ → State → State → List Extent → List Extent → Type 0
+AddsInside types levels id s last old new = (t : Tree) × (fs : Forest) × PartsOf types levels id s t fs last × AreAdded fs old new
+
+-- The same of a part with its index, which is before them.
+abbrev pub AddsPart : List «Type» → ℕ → ℕ → ℕ → State → State → List Extent → List Extent → Type 0
+AddsPart types levels id k s last old new = (fs : Forest) × OnlyListed (PartsOf types levels) id k s fs last × AreAdded fs old new
+
+-- The last part of the list begins here.
+abbrev pub IsNoted : ℕ → ℕ → State → List Extent → ℕ → List Extent → Type 0
+IsNoted id k s old place new = (place ≡ length old) × ((e : Extent) × (new ≡ old ++ e ∷ []) × (e.id.0 ≡ id) × (e.index ≡ k) × (e.octets.now ≡ s.rest))

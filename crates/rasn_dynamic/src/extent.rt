@@ -1,4 +1,8 @@
 //! The parts of a message as they are read.
+ghost use Rattle.std.specs.Prelude.{◌≡◌, true, IfOk, IfErr};
+ghost use Rattle.rasn_types.specs.Errors.{IsOutOfMemory};
+ghost use Rattle.rasn_dynamic.specs.Extents.{IsNoted};
+
 use crate::order::octets_before;
 use crate::read_leaf::out_of_memory;
 use rasn_de::ber::de::Decoder;
@@ -26,7 +30,11 @@ pub fn note<'input, const PARTS: bool>(
     parts: &mut Vec<Extent<'input>>,
     id: TypeId,
     index: usize,
-) -> Result<usize, DecodeError> {
+) -> Result<usize, DecodeError>
+    ensures noted { PARTS ≡ true → IfOk result (λ place. IsNoted id.0 index decoder.now parts.old.items place parts.new.items) }
+    ensures kind { IfErr result (λ e. IsOutOfMemory e.kind) }
+    ensures rules { IfErr result (λ e. e.codec ≡ decoder.now.rule) }
+{
     let place = parts.len();
     if !PARTS {
         return Ok(place);

@@ -16,6 +16,7 @@ ghost use Rattle.rasn_de.specs.declared.ber.de.parser.ParseError.TheVariants.{Un
 ghost use Rattle.rasn_schema.specs.Trees.{tree_of};
 ghost use Rattle.rasn_schema.specs.Shapes.{shape_of_type, type_by, alternatives_by, components_by, key_of, presence_in, AreLawful};
 ghost use Rattle.rasn_dynamic.specs.Inside.{ReadsSequence, DecodesTree, DecodesComponent};
+ghost use Rattle.rasn_dynamic.specs.Extents.{AddsInside, AddsPart};
 ghost use Rattle.rasn_dynamic.specs.Making.{Making, Counting, IsLength, trees_of, these};
 ghost use Rattle.rasn_dynamic.specs.Typed.{element_count, IsSized, HoldsOthers, HoldsElements, CountsElements, DecodesContents, DecodesType};
 ghost use Rattle.rasn_dynamic.specs.Calls.{nones, names_of, IsKept, DecodesPresent, DecodesMember, IsNoAlternative};
@@ -154,6 +155,7 @@ pub fn decode_at<'input, const KEEP: bool, const PARTS: bool>(
     ensures fits { KEEP ≡ true → IfOk result (λ v. Fits types.now levels id.0 v) }
     ensures rules { IfErr result (λ e. e.codec ≡ decoder.old.rule) }
     ensures told { TellsOf (IsFault types.now levels id.0 decoder.old) result trace.new }
+    ensures parts { PARTS ≡ true → IfOk result (λ v. AddsInside types.now levels id.0 decoder.old decoder.new parts.old.items parts.new.items) }
 {
     let left = decoder.remaining().len();
     match decode_found::<KEEP, PARTS>(decoder, trace, parts, types, levels, id) {
@@ -183,6 +185,7 @@ fn decode_part<'input, const KEEP: bool, const PARTS: bool>(
     ensures fits { KEEP ≡ true → IfOk result (λ v. Fits types.now levels id.0 v) }
     ensures rules { IfErr result (λ e. e.codec ≡ decoder.old.rule) }
     ensures told { TellsOf (IsFaultIn types.now levels (IsOnly index id.0 decoder.old) decoder.old decoder.old) result trace.new }
+    ensures parts { PARTS ≡ true → IfOk result (λ v. AddsInside types.now levels id.0 decoder.old decoder.new parts.old.items parts.new.items) }
 {
     match decode_at::<KEEP, PARTS>(decoder, trace, parts, types, levels, id) {
         Ok(value) => Ok(value),
@@ -212,15 +215,12 @@ fn decode_listed<'input, const KEEP: bool, const PARTS: bool>(
     ensures rules { IfErr result (λ e. e.codec ≡ decoder.old.rule) }
     ensures told { Told (IsFaultIn types.now levels (IsOnly index id.0 decoder.old) decoder.old decoder.old) result trace.new }
     ensures itself { IfErr result (λ e. trace.new ≡ None → IsOutOfMemory e.kind) }
+    ensures parts { PARTS ≡ true → IfOk result (λ v. AddsPart types.now levels id.0 index decoder.old decoder.new parts.old.items parts.new.items) }
 {
     let place = note::<PARTS>(decoder, parts, id, index)?;
-    match decode_part::<KEEP, PARTS>(decoder, trace, parts, types, levels, id, index) {
-        Ok(value) => {
-            finish::<PARTS>(decoder, parts, place);
-            Ok(value)
-        }
-        Err(error) => Err(error),
-    }
+    let value = decode_part::<KEEP, PARTS>(decoder, trace, parts, types, levels, id, index)?;
+    finish::<PARTS>(decoder, parts, place);
+    Ok(value)
 }
 
 /// Reads a value of the type with this number. Names what can't be read inside it.
@@ -241,6 +241,7 @@ fn decode_found<'input, const KEEP: bool, const PARTS: bool>(
     ensures rules { IfErr result (λ e. e.codec ≡ decoder.old.rule) }
     ensures told { Told (IsFault types.now levels id.0 decoder.old) result trace.new }
     ensures itself { IfErr result (λ e. trace.new ≡ None → FailsAt types.now levels id.0 decoder.old e) }
+    ensures parts { PARTS ≡ true → IfOk result (λ v. AddsInside types.now levels id.0 decoder.old decoder.new parts.old.items parts.new.items) }
 {
     if levels == 0 {
         return Err(no_value(decoder));
