@@ -2,7 +2,7 @@
 use Rattle.std.specs.Prelude.{◌≡◌, ◌⊎◌, ◌+◌, ℕ, zero, suc, List, [], ◌∷◌, ◌++◌, length, slice_get, Some, Ok}
 use Rattle.rasn_types.specs.Framing.{Ended}
 use Rattle.rasn_types.specs.Shapes.{Shape, Tree}
-use Rattle.rasn_de.specs.State.{State}
+use Rattle.rasn_de.specs.State.{State, IsEnd}
 use Rattle.rasn_schema.specs.declared.types.Component.{Component}
 use Rattle.rasn_schema.specs.declared.types.Alternative.{Alternative}
 use Rattle.rasn_schema.specs.declared.types.«Type».{«Type»}
@@ -87,3 +87,12 @@ AddsPart types levels id k s last old new = (fs : Forest) × OnlyListed (PartsOf
 -- The last part of the list begins here.
 abbrev pub IsNoted : ℕ → ℕ → State → List Extent → ℕ → List Extent → Type 0
 IsNoted id k s old place new = (place ≡ length old) × ((e : Extent) × (new ≡ old ++ e ∷ []) × (e.id.0 ≡ id) × (e.index ≡ k) × (e.octets.now ≡ s.rest))
+
+-- The part at this place of the list was noted, and is read up to these octets.
+abbrev pub IsOpenPart : ℕ → List ℕ → List Extent → Type 0
+IsOpenPart place rest es = (front : List Extent) × (e : Extent) × (more : List Extent) × (es ≡ front ++ e ∷ more) × (length front ≡ place) × IsEnd e.octets.now rest
+
+-- It has its octets and the number of the parts after it, all of which are inside it.
+abbrev pub IsFinished : ℕ → List ℕ → List Extent → List Extent → Type 0
+IsFinished place rest old new = (front : List Extent) × (e : Extent) × (f : Extent) × (more : List Extent) × (old ≡ front ++ e ∷ more) × (new ≡ front ++ f ∷ more) × (length front ≡ place)
+    × (f.id ≡ e.id) × (f.index ≡ e.index) × (e.octets.now ≡ f.octets.now ++ rest) × (f.inside ≡ length more)

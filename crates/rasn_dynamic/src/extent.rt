@@ -1,7 +1,7 @@
 //! The parts of a message as they are read.
 ghost use Rattle.std.specs.Prelude.{◌≡◌, true, IfOk, IfErr};
 ghost use Rattle.rasn_types.specs.Errors.{IsOutOfMemory};
-ghost use Rattle.rasn_dynamic.specs.Extents.{IsNoted};
+ghost use Rattle.rasn_dynamic.specs.Extents.{IsNoted, IsOpenPart, IsFinished};
 
 use crate::order::octets_before;
 use crate::read_leaf::out_of_memory;
@@ -57,7 +57,10 @@ pub fn finish<'input, const PARTS: bool>(
     decoder: &Decoder<'input>,
     parts: &mut Vec<Extent<'input>>,
     place: usize,
-) {
+)
+    requires open { PARTS ≡ true → IsOpenPart place decoder.now.rest parts.old.items }
+    ensures finished { PARTS ≡ true → IsFinished place decoder.now.rest parts.old.items parts.new.items }
+{
     if !PARTS {
         return;
     }
