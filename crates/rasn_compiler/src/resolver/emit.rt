@@ -36,23 +36,11 @@ pub(crate) fn emit<'text>(
     }
     match Schema::new(types) {
         Ok(schema) => Ok(Resolved {
-            schema: named(schema, names),
+            schema: schema.with_names(names),
             root,
             unchecked,
         }),
         Err(error) => Err(schema_fault(modules, nodes.as_slice(), &order, error)),
-    }
-}
-
-/// Returns a schema with these names of types.
-fn named(schema: Schema, names: Vec<TypeName>) -> Schema
-    ensures types { result.types ≡ schema.types }
-    ensures names { result.names ≡ Some names }
-{
-    let Schema { types, .. } = schema;
-    Schema {
-        types,
-        names: Some(names),
     }
 }
 
