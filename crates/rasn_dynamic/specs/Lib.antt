@@ -7,3 +7,4 @@ pub mod Unfit
 pub mod Found
 pub mod Faults
 pub mod Paths
+pub mod Shown

@@ -21,8 +21,8 @@ use rasn_schema::{Schema, TypeId, Value, fits};
 use rasn_types::error::{DecodeError, EncodeError, EncodeErrorKind};
 use rasn_types::types::Codec;
 use std::alloc::{AllocError, Global};
-use std::mem;
-use thiserror::Error;
+use std::error::Error;
+use std::{fmt, mem};
 
 /// Reads the value with which the input begins. Returns it and what follows it.
 ///
@@ -66,18 +66,32 @@ pub fn decode<'input>(
 }
 
 /// What is wrong with a value that can't be written.
-#[derive(Debug, Drop, Error)]
+#[derive(Debug, Drop)]
 pub enum WriteError {
     /// A part of the value isn't one of its type, as [`fits`] tells.
-    #[error("the value doesn't fit its type at {path}")]
     Unfit {
         /// Leads to the part.
         path: ValuePath,
     },
     /// The value has no encoding, or memory runs out.
-    #[error("{0}")]
     Encode(EncodeError),
 }
+
+/// Writes the path of the part, or the text of the encoder's error.
+impl fmt::Display for WriteError {
+    ghost use Rattle.rasn_dynamic.specs.Shown.{shown_write_error};
+
+    ghost output = { shown_write_error };
+
+    fn fmt<W: fmt::Write>(&self, f: &mut fmt::Formatter<W>) -> fmt::Result {
+        match self {
+            WriteError::Unfit { path } => write!(f, "the value doesn't fit its type at {path}"),
+            WriteError::Encode(error) => fmt::Display::fmt(error, f),
+        }
+    }
+}
+
+impl Error for WriteError {}
 
 /// Returns the octets of a value.
 ///

@@ -41,6 +41,10 @@ impl Refusal {
 
 /// The offset, and what is wrong.
 impl fmt::Display for Refusal {
+    ghost use Rattle.rasn_dynamic.specs.Shown.{shown_refusal};
+
+    ghost output = { shown_refusal };
+
     fn fmt<W: fmt::Write>(&self, f: &mut fmt::Formatter<W>) -> fmt::Result {
         write!(f, "byte {}: {}", self.offset, self.error)
     }
