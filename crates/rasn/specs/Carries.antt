@@ -1,6 +1,6 @@
 -- The test for shapes of which every value that DER reads is carried.
 use Rattle.std.specs.Prelude.{Bool, true, false, not, ◌&&◌, ◌||◌, Some, None}
-use Rattle.rasn_types.specs.Shapes.{Tree, number, bits, numbers, instant, on_day, done, joined, set_elements, chosen, absent, Shape, leaf, any, prefix, choice, option, seq, set, list, set_of, Parts, part, Presence, required, optional, addition, default}
+use Rattle.rasn_types.specs.Shapes.{Tree, number, bits, numbers, instant, on_day, done, joined, set_elements, chosen, absent, Shape, leaf, any, prefix, choice, option, seq, set, list, set_of, Parts, part, Presence, required, addition, optional_by, default_by}
 use Rattle.rasn_types.specs.Shapes.Parts.{none}
 use Rattle.rasn_types.specs.Described.{has_required, has_addition}
 
@@ -31,9 +31,9 @@ is_same_as_itself absent = true
 
 abbrev pub is_own_default : Presence → Bool
 is_own_default required = true
-is_own_default optional = true
+is_own_default (optional_by key) = true
 is_own_default addition = true
-is_own_default (default d) = is_same_as_itself d
+is_own_default (default_by key d) = is_same_as_itself d
 
 -- False for an open type with a tag, whose contents need not be one encoding; for a SEQUENCE that has additions and no
 -- required part, since empty contents leave the additions out; and for a default that isn't the same as itself.

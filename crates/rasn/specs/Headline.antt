@@ -12,6 +12,8 @@ use Rattle.rasn_types.specs.Bytes.{Same}
 use Rattle.rasn_types.specs.Carried.{Carried, IsWithinLimits}
 use Rattle.rasn_types.specs.Lawful.{IsLawful}
 use Rattle.rasn_types.specs.Errors.{IsEncodeOutOfMemory}
+use Rattle.rasn_de.specs.State.{State, at}
+use Rattle.rasn_de.specs.Beyond.{Beyond}
 use Rattle.rasn_de.specs.Outcomes.{Exact, Outcome, Got, refusal}
 use Rattle.rasn_enc.specs.Encoding.{NoEncoding}
 use Rattle.rasn_enc.specs.View.{started}
@@ -50,6 +52,14 @@ pub record IsFollowed (rule : Codec) (shape : Shape) (input : List ℕ) (e : Dec
 abbrev pub AnsweredAlone : {T : Type 0} → Codec → Shape → (T → Tree) → List ℕ → Result T DecodeError → Type 0
 AnsweredAlone rule shape tree input (Ok v) = Exact (Reads rule shape 128 (top rule)) input (Got (tree v) [])
 AnsweredAlone rule shape tree input (Err e) = Exact (Reads rule shape 128 (top rule)) input (refusal e.kind) ⊎ IsFollowed rule shape input e
+
+-- A decoder at the front of the input.
+abbrev pub front : Codec → List ℕ → State
+front rule input = record { rule = rule; depth = 128; closing = top rule; whole = input; rest = input }
+
+-- What is said of the value, beyond its tree, if it is read from the front of the input, and this rest remains.
+abbrev pub BeyondFirst : {T : Type 0} → Beyond T → Codec → List ℕ → T → List ℕ → Type 0
+BeyondFirst held rule input v rest = held (front rule input) v (at (front rule input) rest)
 
 -- If the shape is lawful and `t` is within limits, a carried tree has these DER octets exactly if it is the same as
 -- `t`.

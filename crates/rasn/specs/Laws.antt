@@ -6,7 +6,7 @@ use Rattle.rasn_types.specs.declared.types.tag.Tag.{Tag}
 use Rattle.rasn_types.specs.declared.types.constraints.Bound.{Bound}
 use Rattle.rasn_types.specs.declared.types.constraints.Constraints.{Constraints}
 use Rattle.rasn_types.specs.Framing.{CompleteEncoding, steps_in, AreOctets}
-use Rattle.rasn_types.specs.Shapes.{Tree, Kind, Shape, leaf, any, prefix, choice, option, seq, set, list, set_of, Parts, part, Presence, default, IsAlwaysPresent}
+use Rattle.rasn_types.specs.Shapes.{Tree, Kind, Shape, leaf, any, prefix, choice, option, seq, set, list, set_of, Parts, part, Presence, default_by, IsAlwaysPresent}
 use Rattle.rasn_types.specs.Shapes.Parts.{none}
 use Rattle.rasn_types.specs.Grammar.{Reads, top}
 use Rattle.rasn_types.specs.Bytes.{Same, Bytes}
@@ -77,7 +77,7 @@ WrittenOnce = (s : Shape) (rule : Codec) (t u : Tree) (a b : List ℕ) → Same 
 
 -- Each default is the same as itself, as the tree of every value is.
 abbrev pub IsOwnDefault : Presence → Type 0
-IsOwnDefault (default d) = Same d d
+IsOwnDefault (default_by key d) = Same d d
 IsOwnDefault presence = Unit {0}
 
 abbrev mutual

@@ -1,8 +1,9 @@
 -- The DER encoding of the value that an input holds.
-use Rattle.std.specs.Prelude.{◌≡◌, ◌⊎◌, ◌↔◌, ℕ, List, []}
+use Rattle.std.specs.Prelude.{◌≡◌, ◌⊎◌, ◌↔◌, ℕ, List, [], Option, Some, codes}
 use Rattle.rasn_types.specs.declared.types.codec.Codec.{Codec}
 use Rattle.rasn_types.specs.declared.types.codec.Codec.TheVariants.{Der}
 use Rattle.rasn_types.specs.Errors.{IsOutOfMemory, IsEncodeOutOfMemory}
+use Rattle.rasn_types.specs.ErrorText.{shown_decode_error, shown_encode_error}
 use Rattle.rasn_types.specs.Shapes.{Tree, Shape}
 use Rattle.rasn_types.specs.Grammar.{Reads, top}
 use Rattle.rasn_types.specs.Bytes.{Same, Bytes}
@@ -88,3 +89,9 @@ IsAnswered rule s input e = IsLawful s → (t : Tree) → IsCarriedIn rule s inp
 abbrev pub SameExactlyIfEqual : Type 0
 SameExactlyIfEqual = (s : Shape) → IsLawful s → (rule other : Codec) (input second : List ℕ) (t u : Tree) → IsCarriedIn rule s input t → IsCarriedIn other s second u
     → (a b : List ℕ) → IsNormal rule s input a → IsNormal other s second b → (Same t u ↔ (a ≡ b))
+
+-- The text of an error is that of its cause.
+abbrev pub shown_normalise_error : NormaliseError → Option (List ℕ)
+shown_normalise_error (Decode error) = shown_decode_error error
+shown_normalise_error (Encode error) = shown_encode_error error
+shown_normalise_error NotCanonical = Some (codes "the value isn't read back from its DER octets")

@@ -3,7 +3,7 @@ use Rattle.std.specs.Prelude.{◌≡◌, ℕ, [], ◌∷◌, pos, Some, None, tr
 use Rattle.rasn_types.specs.Tags.{in_universal}
 use Rattle.rasn_types.specs.declared.types.tag.Tag.{Tag}
 use Rattle.rasn_types.specs.declared.types.tag.Class.TheVariants.{Application, Context}
-use Rattle.rasn_types.specs.Shapes.{number, set_elements, items, absent, every, Kind, boolean, object_identifier, bit_string, octet_string, integer, ia5, utc_time, generalized_time, Shape, Parts, leaf, any, prefix, choice, option, seq, set, list, set_of, part, required, optional, addition, default}
+use Rattle.rasn_types.specs.Shapes.{number, set_elements, items, absent, every, Kind, boolean, object_identifier, bit_string, octet_string, integer, ia5, utc_time, generalized_time, Shape, Parts, leaf, any, prefix, choice, option, seq, set, list, set_of, part, required, optional, addition, default, optional_choice, default_choice}
 use Rattle.rasn_types.specs.Shapes.Parts.{none}
 use Rattle.rasn_types.specs.Trees.{unconstrained, unsigned_range}
 use Rattle.rasn_types.specs.declared.types.codec.Codec.TheVariants.{Der}
@@ -165,6 +165,19 @@ with_group = seq (in_universal 16) (part required truth (part optional (seq (in_
 abbrev pub added_alone : Shape
 added_alone = seq (in_universal 16) (part addition (prefix (contextual 0) whole_number) none)
 
+-- CHOICE { BOOLEAN, [0] INTEGER }
+abbrev pub truth_or_number : Shape
+truth_or_number = choice (part required truth (part required (tagged (integer every) 0) none))
+
+-- SEQUENCE { CHOICE { BOOLEAN, [0] INTEGER } OPTIONAL, INTEGER }, where the CHOICE is recognized by its first tags
+abbrev pub choice_before : Shape
+choice_before = seq (in_universal 16) (part optional_choice truth_or_number (part required whole_number none))
+
+-- SEQUENCE { BOOLEAN, Time DEFAULT .., OCTET STRING OPTIONAL, INTEGER }, with the same Time
+abbrev pub default_choice_between : Shape
+default_choice_between = seq (in_universal 16) (part required truth (part (default_choice (items [])) either_time
+    (part optional (plain octet_string 4) (part required whole_number none))))
+
 -- A default that is no value's tree: the elements of a SET OF have to be a list.
 abbrev pub no_value : Shape
 no_value = seq (in_universal 16) (part (default (set_elements (number (pos 0)))) (set_of (in_universal 17) whole_number None) none)
@@ -181,6 +194,14 @@ pub record LawfulShapes : Type 0 where
   pub left_out_before : IsLawful left_out_before
   pub choice_in_set : IsLawful choice_in_set
   pub with_group : IsLawful with_group
+  pub choice_before : IsLawful choice_before
+  pub default_choice_between : IsLawful default_choice_between
+  pub choice_unrecognized : IsLawful (seq (in_universal 16) (part optional truth_or_number (part required whole_number none))) → ⊥
+  pub choice_before_its_second : IsLawful (seq (in_universal 16) (part optional_choice truth_or_number (part required (tagged (integer every) 0) none))) → ⊥
+  pub choice_before_an_optional : IsLawful (seq (in_universal 16) (part optional_choice truth_or_number (part optional truth (part required whole_number none)))) → ⊥
+  pub two_choices : IsLawful (seq (in_universal 16) (part optional_choice truth_or_number (part optional_choice truth_or_number none))) → ⊥
+  pub choice_before_open : IsLawful (seq (in_universal 16) (part optional_choice truth_or_number (part required (any None) none))) → ⊥
+  pub open_recognized : IsLawful (seq (in_universal 16) (part optional_choice (any None) none)) → ⊥
   pub two_optional_integers : IsLawful (seq (in_universal 16) (part optional whole_number (part optional whole_number none))) → ⊥
   pub optional_open : IsLawful (seq (in_universal 16) (part optional (any None) (part required truth none))) → ⊥
   pub optional_within : IsLawful (seq (in_universal 16) (part required perhaps_bool none)) → ⊥

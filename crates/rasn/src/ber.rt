@@ -1,10 +1,11 @@
 //! Reading and writing one value by the basic encoding rules (X.690 8).
-ghost use Rattle.std.specs.Prelude.{◌≡◌, [], IfOk, IfErr, OnOk, OnErr, false};
+ghost use Rattle.std.specs.Prelude.{ℕ, List, ◌≡◌, [], IfOk, IfErr, OnOk, OnErr, false};
 ghost use Rattle.std.specs.Fn.{FnOnceTakesAtMut};
 ghost use Rattle.rasn_types.specs.Bytes.{Bytes};
 ghost use Rattle.rasn_types.specs.declared.types.codec.Codec.TheVariants.{Ber};
 ghost use Rattle.rasn_de.specs.State.{IsEnd};
-ghost use Rattle.rasn.specs.Headline.{Answered, AnsweredFirst, ScopeRefuses, EncodingFails};
+ghost use Rattle.rasn_de.specs.Beyond.{got};
+ghost use Rattle.rasn.specs.Headline.{Answered, AnsweredFirst, BeyondFirst, ScopeRefuses, EncodingFails};
 ghost use Rattle.rasn_enc.specs.View.{started};
 ghost use Rattle.rasn_enc.specs.Closures.{OnlyAppends, WritesOutput};
 
@@ -26,6 +27,7 @@ use std::alloc::Global;
 #[inline(always)]
 pub fn decode<T: Decode>(alloc: Global, input: &[u8]) -> Result<T, DecodeError>
     ensures exact { AnsweredFirst Ber T.shape T.tree input.now result }
+    ensures beyond { IfOk result (λ v. (rest : List ℕ) × BeyondFirst (got (T.beyond T.TAG)) Ber input.now v rest) }
     ensures rules { IfErr result (λ e. e.codec ≡ Ber) }
 {
     let (value, _) = decode_with_remainder(alloc, input)?;
@@ -45,6 +47,7 @@ pub fn decode_with_remainder<T: Decode>(
     input: &[u8],
 ) -> Result<(T, &[u8]), DecodeError>
     ensures exact { Answered Ber T.shape T.tree input.now result }
+    ensures beyond { IfOk result (λ read. BeyondFirst (got (T.beyond T.TAG)) Ber input.now read.0 read.1.now) }
     ensures end { IfOk result (λ read. IsEnd input.now read.1.now) }
     ensures rules { IfErr result (λ e. e.codec ≡ Ber) }
 {

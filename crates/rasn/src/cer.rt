@@ -1,9 +1,10 @@
 //! Reading and writing one value by the canonical encoding rules (X.690 9, 11).
-ghost use Rattle.std.specs.Prelude.{◌≡◌, [], IfOk, IfErr, OnOk, OnErr};
+ghost use Rattle.std.specs.Prelude.{ℕ, List, ◌≡◌, [], IfOk, IfErr, OnOk, OnErr};
 ghost use Rattle.rasn_types.specs.Bytes.{Bytes};
 ghost use Rattle.rasn_types.specs.declared.types.codec.Codec.TheVariants.{Cer};
 ghost use Rattle.rasn_de.specs.State.{IsEnd};
-ghost use Rattle.rasn.specs.Headline.{Answered, AnsweredFirst, EncodingFails};
+ghost use Rattle.rasn_de.specs.Beyond.{got};
+ghost use Rattle.rasn.specs.Headline.{Answered, AnsweredFirst, BeyondFirst, EncodingFails};
 
 pub use crate::ber::{Identifier, de, enc};
 use crate::entry;
@@ -21,6 +22,7 @@ use std::alloc::Global;
 #[inline(always)]
 pub fn decode<T: Decode>(alloc: Global, input: &[u8]) -> Result<T, DecodeError>
     ensures exact { AnsweredFirst Cer T.shape T.tree input.now result }
+    ensures beyond { IfOk result (λ v. (rest : List ℕ) × BeyondFirst (got (T.beyond T.TAG)) Cer input.now v rest) }
     ensures rules { IfErr result (λ e. e.codec ≡ Cer) }
 {
     let (value, _) = decode_with_remainder(alloc, input)?;
@@ -40,6 +42,7 @@ pub fn decode_with_remainder<T: Decode>(
     input: &[u8],
 ) -> Result<(T, &[u8]), DecodeError>
     ensures exact { Answered Cer T.shape T.tree input.now result }
+    ensures beyond { IfOk result (λ read. BeyondFirst (got (T.beyond T.TAG)) Cer input.now read.0 read.1.now) }
     ensures end { IfOk result (λ read. IsEnd input.now read.1.now) }
     ensures rules { IfErr result (λ e. e.codec ≡ Cer) }
 {

@@ -4,7 +4,8 @@ ghost use Rattle.std.specs.Prelude.{◌≡◌, [], IfOk, IfErr, OnOk, OnErr, Mat
 ghost use Rattle.std.specs.Fn.{FnOnceTakesAtMut, FnOnceReturnsAtMut};
 ghost use Rattle.rasn_types.specs.Bytes.{Bytes};
 ghost use Rattle.rasn_de.specs.State.{IsEnd};
-ghost use Rattle.rasn.specs.Headline.{Answered, AnsweredAlone, IsExtraData, ScopeRefuses, EncodingFails};
+ghost use Rattle.rasn_de.specs.Beyond.{got};
+ghost use Rattle.rasn.specs.Headline.{Answered, AnsweredAlone, BeyondFirst, IsExtraData, ScopeRefuses, EncodingFails};
 ghost use Rattle.rasn_enc.specs.View.{started};
 ghost use Rattle.rasn_enc.specs.Closures.{OnlyAppends, WritesOutput};
 ghost use Rattle.rasn_enc.specs.Primitive.{IsAllocError};
@@ -40,6 +41,7 @@ use std::mem;
 #[inline(always)]
 pub fn decode<T: Decode>(alloc: Global, codec: Codec, input: &[u8]) -> Result<T, DecodeError>
     ensures exact { AnsweredAlone codec T.shape T.tree input.now result }
+    ensures beyond { IfOk result (λ v. BeyondFirst (got (T.beyond T.TAG)) codec input.now v []) }
     ensures rules { IfErr result (λ e. e.codec ≡ codec) }
 {
     let (value, remainder) = decode_with_remainder(alloc, codec, input)?;
@@ -69,6 +71,7 @@ pub fn decode_with_remainder<T: Decode>(
     input: &[u8],
 ) -> Result<(T, &[u8]), DecodeError>
     ensures exact { Answered codec T.shape T.tree input.now result }
+    ensures beyond { IfOk result (λ read. BeyondFirst (got (T.beyond T.TAG)) codec input.now read.0 read.1.now) }
     ensures end { IfOk result (λ read. IsEnd input.now read.1.now) }
     ensures rules { IfErr result (λ e. e.codec ≡ codec) }
 {

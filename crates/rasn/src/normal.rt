@@ -12,19 +12,17 @@ use rasn_enc::enc::Encode;
 use rasn_types::error::{DecodeError, EncodeError};
 use rasn_types::types::{Codec, LawfulEq};
 use std::alloc::Global;
-use thiserror::Error;
+use std::error::Error;
+use std::fmt;
 
 /// The reason why an input has no DER encoding.
-#[derive(Debug, PartialEq, Eq, Drop, Error)]
+#[derive(Debug, PartialEq, Eq, Drop)]
 pub enum NormaliseError {
     /// The input isn't exactly one value of the type.
-    #[error("{0}")]
     Decode(DecodeError),
     /// The value has no DER octets.
-    #[error("{0}")]
     Encode(EncodeError),
     /// DER doesn't read back what it writes of the value, or reads it as another value.
-    #[error("the value isn't read back from its DER octets")]
     NotCanonical,
 }
 
@@ -40,6 +38,25 @@ impl NormaliseError {
         }
     }
 }
+
+/// Writes the text of the cause.
+impl fmt::Display for NormaliseError {
+    ghost use Rattle.rasn.specs.Normal.{shown_normalise_error};
+
+    ghost output = { shown_normalise_error };
+
+    fn fmt<W: fmt::Write>(&self, f: &mut fmt::Formatter<W>) -> fmt::Result {
+        match self {
+            NormaliseError::Decode(error) => fmt::Display::fmt(error, f),
+            NormaliseError::Encode(error) => fmt::Display::fmt(error, f),
+            NormaliseError::NotCanonical => {
+                f.write_str("the value isn't read back from its DER octets")
+            }
+        }
+    }
+}
+
+impl Error for NormaliseError {}
 
 /// Returns the DER encoding of the value in the input, which must be exactly one value by these
 /// rules.

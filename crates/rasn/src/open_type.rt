@@ -1,10 +1,13 @@
 //! Values of a known type in an open type (X.681 14, X.690 8.15).
-ghost use Rattle.std.specs.Prelude.{IfOk, IfErr, MatchResult, ◌≡◌};
+ghost use Rattle.std.specs.Prelude.{[], IfOk, IfErr, MatchResult, ◌≡◌};
 ghost use Rattle.rasn_types.specs.declared.types.tag.Tag.{Tag};
 ghost use Rattle.rasn_types.specs.Tags.{form};
 ghost use Rattle.rasn_types.specs.Framing.{NextTag};
 ghost use Rattle.rasn_types.specs.Bytes.{Bytes};
-ghost use Rattle.rasn.specs.Headline.{AnsweredAlone, EncodingFails};
+ghost use Rattle.rasn_de.specs.Beyond.{got};
+ghost use Rattle.rasn_de.specs.Steps.{PeeksTag};
+ghost use Rattle.rasn_types.specs.Errors.{IsOutOfMemory};
+ghost use Rattle.rasn.specs.Headline.{AnsweredAlone, BeyondFirst, front, EncodingFails};
 
 use crate::entry;
 use rasn_de::ber::de::{Decoder, DecoderOptions};
@@ -35,6 +38,7 @@ pub fn encode_any<T: Encode>(alloc: Global, rules: Codec, value: &T) -> Result<A
 /// (X.690 8.1.1.1).
 pub fn decode_any<T: Decode>(alloc: Global, rules: Codec, any: &Any) -> Result<T, DecodeError>
     ensures exact { AnsweredAlone rules T.shape T.tree any.now result }
+    ensures beyond { IfOk result (λ v. BeyondFirst (got (T.beyond T.TAG)) rules any.now v []) }
     ensures rules { IfErr result (λ e. e.codec ≡ rules) }
 {
     entry::decode(alloc, rules, any.as_bytes())
@@ -46,6 +50,8 @@ pub fn decode_any<T: Decode>(alloc: Global, rules: Codec, any: &Any) -> Result<T
 /// Those of `Decoder::peek_tag` if the octets don't begin with an identifier (X.690 8.1.2).
 pub fn any_tag(alloc: Global, rules: Codec, any: &Any) -> Result<Tag, DecodeError>
     ensures next { MatchResult result (λ t. NextTag (form rules) any.now t) (λ e. (t : Tag) → NextTag (form rules) any.now t → ⊥) }
+    ensures exact { PeeksTag (front rules any.now) result }
+    ensures memory { IfErr result (λ e. IsOutOfMemory e.kind → ⊥) }
     ensures rules { IfErr result (λ e. e.codec ≡ rules) }
 {
     Decoder::new(alloc, any.as_bytes(), DecoderOptions::of(rules)).peek_tag()

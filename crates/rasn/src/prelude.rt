@@ -2,13 +2,14 @@
 
 pub use crate::parts::{
     Addition, DecodeAlternatives, DecodeParts, DecodeSetParts, DefaultValue, Defaulted,
-    DefaultedExplicit, EncodeAlternative, EncodeParts, End, ExplicitDefault, Last, OneOf, Optional,
-    Put, PutAddition, PutDefault, PutDefaultExplicit, PutOptional, Required,
+    DefaultedChoice, DefaultedExplicit, EncodeAlternative, EncodeParts, End, ExplicitDefault, Last,
+    OneOf, Optional, OptionalChoice, Put, PutAddition, PutDefault, PutDefaultChoice,
+    PutDefaultExplicit, PutOptional, PutOptionalChoice, Required,
 };
 pub use crate::types::{
     Alphabet, Any, ApplicationTag, AsnType, BitStr, BitString, BmpString, Bound, Bounded, Class,
     Codec, Constraints, Constructed, ContextTag, Date, Enumerated, Explicit, Field, FieldPresence,
-    Fields, FixedOctetString, GeneralString, GeneralizedTime, GraphicString, Ia5String, Identifier,
+    Fields, FirstTags, FixedOctetString, GeneralString, GeneralizedTime, GraphicString, Ia5String, Identifier,
     Implicit, Integer, IntegerType, LawfulEq, NumericString, ObjectIdentifier, OctetString,
     Present, PrintableString, PrivateTag, SetOf, Tag, TeletexString, TryClone, UtcTime, Utf8String,
     VisibleString,

@@ -5,7 +5,7 @@ use Rattle.rasn_types.specs.declared.types.tag.Tag.{Tag}
 use Rattle.rasn_types.specs.declared.error.decode.DecodeError.{DecodeError}
 use Rattle.rasn_types.specs.Tags.{form}
 use Rattle.rasn_types.specs.Framing.{NextTag}
-use Rattle.rasn_types.specs.Shapes.{Shape, Tree, chosen, choice, Parts, part, own, Presence, required, optional, addition, default}
+use Rattle.rasn_types.specs.Shapes.{Shape, Tree, chosen, choice, Parts, part, own, Presence, required, addition, optional_by, default_by}
 use Rattle.rasn_types.specs.Shapes.Parts.{none}
 use Rattle.rasn_types.specs.Readings.{Reading, ReadsChoice}
 use Rattle.rasn_types.specs.Grammar.{parts_of}
@@ -40,9 +40,9 @@ is_first_alone s tag ps = same_own (own s) (Some tag) && none_begins ps tag
 -- The value of a part that is present can't be read.
 abbrev pub FailsAtValue : Presence → Shape → State → DecodeError → State → Type 0
 FailsAtValue required s old e new = DecodesTree s old (Err e) new
-FailsAtValue optional s old e new = DecodesTree s old (Err e) new
+FailsAtValue (optional_by key) s old e new = DecodesTree s old (Err e) new
 FailsAtValue addition s old e new = DecodesTree s old (Err e) new
-FailsAtValue (default d) s old e new = FailsAtOnePart (default d) s old e new
+FailsAtValue (default_by key d) s old e new = FailsAtOnePart (default_by key d) s old e new
 
 -- The first alternative with this tag can't be read; or no alternative has the tag, the error contains the name, and
 -- nothing is consumed.

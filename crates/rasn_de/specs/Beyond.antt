@@ -1,10 +1,14 @@
 -- What values keep of the octets that they were read from, beyond their trees.
-use Rattle.std.specs.Prelude.{◌≡◌, ◌⊎◌, Option, Some, None, Ok, List, [], ◌∷◌, ◌++◌}
+use Rattle.std.specs.Prelude.{◌≡◌, ◌⊎◌, Option, Some, None, Ok, List, [], ◌∷◌, ◌++◌, Contains}
 use Rattle.rasn_types.specs.declared.types.tag.Tag.{Tag}
 use Rattle.rasn_types.specs.declared.types.parts.OneOf.{OneOf}
 use Rattle.rasn_types.specs.declared.types.parts.OneOf.TheVariants.{This, Other}
 use Rattle.rasn_de.specs.Headers.{Header}
+use Rattle.rasn_types.specs.Shapes.{Shape, Tree, Presence}
 use Rattle.rasn_de.specs.State.{State, Call}
+use Rattle.rasn_de.specs.Outcomes.{Got}
+use Rattle.rasn_de.specs.Decodes.{Decodes, DecodesExactly}
+use Rattle.rasn_de.specs.PartTypes.{OnePart}
 use Rattle.rasn_de.specs.declared.ber.de.constructed.ConstructedHeader.{ConstructedHeader}
 use Rattle.rasn_de.specs.Constructed.{prefix_header, constructed_header_at, contents_state}
 
@@ -19,9 +23,13 @@ abbrev pub BeyondOneOf : {A R : Type 0} → Beyond A → Beyond R → Beyond (On
 BeyondOneOf this others old (This v) new = this old v new
 BeyondOneOf this others old (Other v) new = others old v new
 
--- A part, and those after it.
-abbrev pub BeyondPart : {A R : Type 0} → Beyond A → Beyond R → State → A → R → State → Type 0
-BeyondPart part others old v rest new = (here : State) × part old v here × others here rest new
+-- A value of the shape is read, and this is said of the call.
+abbrev pub Held : {T : Type 0} → Shape → (T → Tree) → Call T → Beyond T
+Held s tree call old v new = Decodes s tree old (Ok v) new × call old (Ok v) new
+
+-- A part is read, as its presence requires, and those after it.
+abbrev pub BeyondPart : {A R : Type 0} → Presence → Shape → (A → Tree) → Beyond A → Beyond R → State → A → R → State → Type 0
+BeyondPart p s tree part others old v rest new = (here : State) × DecodesExactly (OnePart p s) old (Got (tree v) here.rest) here × part old v here × others here rest new
 
 -- Nothing is consumed for a part that is left out.
 abbrev pub BeyondOptional : {A : Type 0} → Beyond A → Beyond (Option A)
@@ -48,3 +56,8 @@ BeyondInside held header old v =
 -- A value under an explicit tag.
 abbrev pub BeyondPrefix : {D : Type 0} → Beyond D → Tag → Beyond D
 BeyondPrefix held tag old v new = BeyondInside held (prefix_header tag) old v
+
+-- The value in a slot was read at one of these states.
+abbrev pub BeyondSlot : {A : Type 0} → Beyond A → List State → Option A → Type 0
+BeyondSlot part starts None = Unit {0}
+BeyondSlot part starts (Some v) = (here : State) × Contains starts here × (next : State) × part here v next

@@ -8,7 +8,7 @@ use Rattle.rasn_types.specs.Tags.{form, IsStrict}
 use Rattle.rasn_types.specs.Framing.{Ended}
 use Rattle.rasn_types.specs.declared.types.codec.Codec.{Codec}
 use Rattle.rasn_types.specs.declared.types.constraints.Constraints.{Constraints}
-use Rattle.rasn_types.specs.Shapes.{Tree, Same, Shape, default, option, looked_for, tagged_as}
+use Rattle.rasn_types.specs.Shapes.{Tree, Same, Shape, Presence, default, optional_choice, default_choice, option, IsFirst, Sought, one_tag, any_of, sought_in, looked_for, tagged_as}
 use Rattle.rasn_types.specs.Trees.{option_tree}
 use Rattle.rasn_types.specs.Readings.{Reading, ReadsPart, IsLeftOut, IsPresent}
 use Rattle.rasn_types.specs.Grammar.{Reads}
@@ -17,19 +17,34 @@ use Rattle.rasn_de.specs.declared.ber.de.parser.ParseError.TheVariants.{OutOfMem
 use Rattle.rasn_de.specs.State.{State, Call}
 use Rattle.rasn_de.specs.Steps.{IsErrorOf, PeeksTag}
 
--- Whether the next value is the one that is looked for by this tag. The look fails if the contents continue without a
--- valid tag.
-abbrev pub NextTagIs : Tag → State → Result Bool DecodeError → Type 0
-NextTagIs tag s (Ok true) = IsPresent (form s.rule) (looked_for tag) s.closing s.rest
-NextTagIs tag s (Ok false) = IsLeftOut (form s.rule) (looked_for tag) s.closing s.rest
-NextTagIs tag s (Err e) = (looked_for tag ≢ None) × (Ended s.closing s.rest → ⊥) × PeeksTag s (Err e)
+-- One part, read as its presence requires.
+abbrev pub OnePart : Presence → Shape → Codec → ℕ → Bool → Reading Tree
+OnePart p s rule depth closing = ReadsPart rule p (sought_in p s) (Reads rule s depth closing) closing
 
-module _ {D : Type 0} (read : Call D) (tag : Tag) (old : State) where
+-- The next tag is looked at.
+abbrev pub NeedsTag : Sought → Type 0
+NeedsTag (one_tag tag) = tag ≢ None
+NeedsTag (any_of P) = Unit {0}
+
+-- Whether the next value is the one that is looked for. The look fails if a tag is needed, and the contents continue
+-- without a valid one.
+abbrev pub NextIs : Sought → State → Result Bool DecodeError → Type 0
+NextIs tags s (Ok true) = IsPresent (form s.rule) tags s.closing s.rest
+NextIs tags s (Ok false) = IsLeftOut (form s.rule) tags s.closing s.rest
+NextIs tags s (Err e) = NeedsTag tags × (Ended s.closing s.rest → ⊥) × PeeksTag s (Err e)
+
+abbrev pub NextTagIs : Tag → State → Result Bool DecodeError → Type 0
+NextTagIs tag = NextIs (one_tag (looked_for tag))
+
+module _ {D : Type 0} (read : Call D) (tags : Sought) (old : State) where
   -- The value is left out; or it is present and read; or the look at the next tag fails, which consumes nothing.
-  abbrev pub DecodesIfPresent : Result (Option D) DecodeError → State → Type 0
-  DecodesIfPresent (Ok None) new = NextTagIs tag old (Ok false) × (new ≡ old)
-  DecodesIfPresent (Ok (Some v)) new = NextTagIs tag old (Ok true) × read old (Ok v) new
-  DecodesIfPresent (Err e) new = (NextTagIs tag old (Err e) × (new ≡ old)) ⊎ (NextTagIs tag old (Ok true) × read old (Err e) new)
+  abbrev pub DecodesIfSought : Result (Option D) DecodeError → State → Type 0
+  DecodesIfSought (Ok None) new = NextIs tags old (Ok false) × (new ≡ old)
+  DecodesIfSought (Ok (Some v)) new = NextIs tags old (Ok true) × read old (Ok v) new
+  DecodesIfSought (Err e) new = (NextIs tags old (Err e) × (new ≡ old)) ⊎ (NextIs tags old (Ok true) × read old (Err e) new)
+
+abbrev pub DecodesIfPresent : {D : Type 0} → Call D → Tag → Call (Option D)
+DecodesIfPresent read tag = DecodesIfSought read (one_tag (looked_for tag))
 
 -- A value of the shape that may be left out, with this tag and these constraints.
 abbrev pub DecodesIfPresentAs : {D : Type 0} → Tag → Constraints → Shape → (D → Tree) → Call (Option D)
@@ -42,6 +57,10 @@ DecodesOption tag s tree = Decodes (option (looked_for tag) s) (option_tree tree
 abbrev pub DecodesOptionAs : {D : Type 0} → Tag → Constraints → Shape → (D → Tree) → Call (Option D)
 DecodesOptionAs tag c s tree = DecodesOption tag (tagged_as tag c s) tree
 
+-- A CHOICE that may be left out, and that other parts may follow.
+abbrev pub DecodesOptionalChoice : {D : Type 0} → Shape → (D → Tree) → Call (Option D)
+DecodesOptionalChoice s tree = DecodesBy (OnePart optional_choice s) (option_tree tree)
+
 -- The value that is made, or OutOfMemory. made r means that r may be the result.
 abbrev pub MakesValue : {D : Type 0} → (Result D AllocError → Type 0) → State → Result D DecodeError → Type 0
 MakesValue made s (Ok v) = made (Ok v)
@@ -49,20 +68,23 @@ MakesValue made s (Err e) = (x : AllocError) × made (Err x) × IsErrorOf OutOfM
 
 -- A value that has a default. The default is made at most once: if the value is left out, or, under the strict rule, if
 -- a value is present, since it must not equal the default.
-module _ {D : Type 0} (read : Call D) (tree : D → Tree) (made : Result D AllocError → Type 0) (tag : Tag) (old : State) where
+module _ {D : Type 0} (read : Call D) (tree : D → Tree) (made : Result D AllocError → Type 0) (tags : Sought) (old : State) where
   -- The cause of an error, and the remaining input. A value that was read before the error is consumed.
   pub data FailsWithDefault (e : DecodeError) (new : State) : Type 0 where
-    no_look : NextTagIs tag old (Err e) → new ≡ old → FailsWithDefault e new
-    no_default : NextTagIs tag old (Ok false) → MakesValue made old (Err e) → new ≡ old → FailsWithDefault e new
-    no_read : NextTagIs tag old (Ok true) → read old (Err e) new → FailsWithDefault e new
-    not_compared : NextTagIs tag old (Ok true) → (v : D) → read old (Ok v) new → IsStrict old.rule → MakesValue made old (Err e) → FailsWithDefault e new
-    present : NextTagIs tag old (Ok true) → (v : D) → read old (Ok v) new → IsStrict old.rule
+    no_look : NextIs tags old (Err e) → new ≡ old → FailsWithDefault e new
+    no_default : NextIs tags old (Ok false) → MakesValue made old (Err e) → new ≡ old → FailsWithDefault e new
+    no_read : NextIs tags old (Ok true) → read old (Err e) new → FailsWithDefault e new
+    not_compared : NextIs tags old (Ok true) → (v : D) → read old (Ok v) new → IsStrict old.rule → MakesValue made old (Err e) → FailsWithDefault e new
+    present : NextIs tags old (Ok true) → (v : D) → read old (Ok v) new → IsStrict old.rule
         → (d : D) → made (Ok d) → Same (tree v) (tree d) → IsErrorOf (Der DefaultValuePresent) old e → FailsWithDefault e new
 
-  abbrev pub DecodesOrDefault : Result D DecodeError → State → Type 0
-  DecodesOrDefault (Ok v) new = (NextTagIs tag old (Ok false) × made (Ok v) × (new ≡ old))
-      ⊎ (NextTagIs tag old (Ok true) × read old (Ok v) new × (IsStrict old.rule → (d : D) × made (Ok d) × (Same (tree v) (tree d) → ⊥)))
-  DecodesOrDefault (Err e) new = FailsWithDefault e new
+  abbrev pub DecodesSoughtOrDefault : Result D DecodeError → State → Type 0
+  DecodesSoughtOrDefault (Ok v) new = (NextIs tags old (Ok false) × made (Ok v) × (new ≡ old))
+      ⊎ (NextIs tags old (Ok true) × read old (Ok v) new × (IsStrict old.rule → (d : D) × made (Ok d) × (Same (tree v) (tree d) → ⊥)))
+  DecodesSoughtOrDefault (Err e) new = FailsWithDefault e new
+
+abbrev pub DecodesOrDefault : {D : Type 0} → Call D → (D → Tree) → (Result D AllocError → Type 0) → Tag → Call D
+DecodesOrDefault read tree made tag = DecodesSoughtOrDefault read tree made (one_tag (looked_for tag))
 
 -- A value of the shape that has a default, with this tag and these constraints.
 abbrev pub DecodesOrDefaultAs : {D : Type 0} → Tag → Constraints → Shape → (D → Tree) → (Result D AllocError → Type 0) → Call D
@@ -76,7 +98,7 @@ DecodesAlways read old (Err e) new = read old (Err e) new
 
 -- A part of a SEQUENCE that has a default if it is left out.
 abbrev pub ReadsDefault : Tag → Tree → Shape → Codec → ℕ → Bool → Reading Tree
-ReadsDefault tag without s rule depth closing = ReadsPart rule (default without) (looked_for tag) (Reads rule s depth closing) closing
+ReadsDefault tag without s rule depth closing = ReadsPart rule (default without) (one_tag (looked_for tag)) (Reads rule s depth closing) closing
 
 -- The part is read with the tree of the default, whatever that tree is.
 abbrev pub DecodesDefault : {D : Type 0} → Tag → Shape → (D → Tree) → (Result D AllocError → Type 0) → Call D
@@ -85,3 +107,8 @@ DecodesDefault {D} tag s tree made old result new = (without : Tree) → ((v : D
 -- A value that has a default is decoded, with this tag and these constraints.
 abbrev pub DecodesDefaultAs : {D : Type 0} → Tag → Constraints → Shape → (D → Tree) → (Result D AllocError → Type 0) → Call D
 DecodesDefaultAs tag c s tree made = DecodesDefault tag (tagged_as tag c s) tree made
+
+-- A CHOICE that has a default, and that other parts may follow.
+abbrev pub DecodesDefaultChoice : {D : Type 0} → Shape → (D → Tree) → (Result D AllocError → Type 0) → Call D
+DecodesDefaultChoice {D} s tree made old result new =
+    (without : Tree) → ((v : D) → made (Ok v) → tree v ≡ without) → DecodesBy (OnePart (default_choice without) s) tree old result new

@@ -3,7 +3,7 @@ use Rattle.std.specs.Prelude.{◌≡◌, ◌⊎◌, ℕ, Bool, true, false, ◌|
 use Rattle.rasn_types.specs.declared.types.codec.Codec.{Codec}
 use Rattle.rasn_types.specs.declared.types.tag.Tag.{Tag}
 use Rattle.rasn_types.specs.declared.error.decode.DecodeError.{DecodeError}
-use Rattle.rasn_types.specs.Shapes.{Shape, Tree, own, looked_for, Parts, part, Presence, required, optional, addition, default}
+use Rattle.rasn_types.specs.Shapes.{Shape, Tree, own, looked_for, Parts, part, Presence, required, addition, optional_by, default_by, sought_by}
 use Rattle.rasn_types.specs.Shapes.Parts.{none}
 use Rattle.rasn_types.specs.Readings.{Reading, ReadsPart}
 use Rattle.rasn_types.specs.Grammar.{Reads}
@@ -12,7 +12,8 @@ use Rattle.rasn_de.specs.Headers.{same_tag}
 use Rattle.rasn_de.specs.State.{State, Call}
 use Rattle.rasn_de.specs.Outcomes.{Got}
 use Rattle.rasn_de.specs.Decodes.{Decodes, DecodesExactly, DecodesParts}
-use Rattle.rasn_de.specs.Optional.{DecodesIfPresent, DecodesOrDefault}
+pub use Rattle.rasn_de.specs.Optional.{OnePart}
+use Rattle.rasn_de.specs.Optional.{DecodesIfSought, DecodesSoughtOrDefault}
 use Rattle.rasn_de.specs.Constructed.{sequence_header, DecodesInside}
 
 abbrev pub same_own : Option Tag → Option Tag → Bool
@@ -30,10 +31,6 @@ is_looked_for s tag = same_own (own s) (looked_for tag)
 abbrev pub needs_no_initializer : Parts → Bool
 needs_no_initializer parts = has_required parts || not (has_addition parts)
 
--- One part, read as its presence requires.
-abbrev pub OnePart : Presence → Shape → Codec → ℕ → Bool → Reading Tree
-OnePart p s rule depth closing = ReadsPart rule p (own s) (Reads rule s depth closing) closing
-
 -- A value of the shape is decoded as its tree.
 abbrev pub DecodesTree : Shape → Call Tree
 DecodesTree s = Decodes s (λ (t : Tree). t)
@@ -43,9 +40,9 @@ DecodesTree s = Decodes s (λ (t : Tree). t)
 abbrev pub FailsAtOnePart : Presence → Shape → State → DecodeError → State → Type 0
 FailsAtOnePart required s old e new = DecodesTree s old (Err e) new
 FailsAtOnePart addition s old e new = DecodesTree s old (Err e) new
-FailsAtOnePart optional s old e new = (tag : Tag) × (own s ≡ looked_for tag) × DecodesIfPresent (DecodesTree s) tag old (Err e) new
-FailsAtOnePart (default d) s old e new = (tag : Tag) × (own s ≡ looked_for tag)
-    × DecodesOrDefault (DecodesTree s) (λ (t : Tree). t) (λ made. IfOk made (λ t. t ≡ d)) tag old (Err e) new
+FailsAtOnePart (optional_by key) s old e new = DecodesIfSought (DecodesTree s) (sought_by key s) old (Err e) new
+FailsAtOnePart (default_by key d) s old e new =
+    DecodesSoughtOrDefault (DecodesTree s) (λ (t : Tree). t) (λ made. IfOk made (λ t. t ≡ d)) (sought_by key s) old (Err e) new
 
 -- The parts before some part are read, and that part can't be read.
 abbrev pub FailsAtPart : Parts → State → DecodeError → State → Type 0

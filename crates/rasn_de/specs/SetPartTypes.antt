@@ -1,5 +1,5 @@
 -- The parts of a SET as types: what their slots contain while components are read, and what is made from them.
-use Rattle.std.specs.Prelude.{◌≡◌, ◌≢◌, ◌⊎◌, ℕ, zero, suc, ◌+◌, List, [], ◌∷◌, ◌++◌, length, IfErr, Option, Some, None, Result, Ok, Err}
+use Rattle.std.specs.Prelude.{◌≡◌, ◌≢◌, ◌⊎◌, ℕ, zero, suc, ◌+◌, List, [], ◌∷◌, ◌++◌, length, Contains, IfErr, Option, Some, None, Result, Ok, Err}
 use Rattle.std.specs.Borrow.{Bor}
 use Rattle.rasn_types.specs.declared.types.codec.Codec.{Codec}
 use Rattle.rasn_types.specs.declared.types.tag.Tag.{Tag}
@@ -13,8 +13,9 @@ use Rattle.rasn_de.specs.Outcomes.{Got, refusal}
 use Rattle.rasn_de.specs.NamedErrors.{IsNamedError, IsMissingField, IsDuplicateField}
 use Rattle.rasn_de.specs.Decodes.{DecodesExactly, Decodes}
 use Rattle.rasn_de.specs.Constructed.{sequence_header, DecodesInside}
-use Rattle.rasn_de.specs.SequenceOf.{FailsAtElement}
+use Rattle.rasn_de.specs.SequenceOf.{FailsAtElement, DecodesInTurnFrom}
 use Rattle.rasn_de.specs.Set.{DecodesComponents, DecodesSetContents, AreParts}
+use Rattle.rasn_de.specs.Beyond.{Beyond}
 use Rattle.rasn_de.specs.AlternativeTypes.{ReadsNumbered, DecodesAlternative}
 
 -- The tree of the value in a slot.
@@ -168,3 +169,11 @@ DecodesNamedContents ps tree name names old =
 
 abbrev pub DecodesNamedParts : {D : Type 0} → Parts → (D → Tree) → List ℕ → List (List ℕ) → Tag → Call D
 DecodesNamedParts ps tree name names tag = DecodesInside (DecodesNamedContents ps tree name names) (sequence_header tag)
+
+-- A component begins here, after these others.
+abbrev pub IsStart : Parts → State → State → Type 0
+IsStart ps old here = (before : List Tree) × (bs : List (List ℕ)) × DecodesInTurnFrom (Decodes (choice ps) (λ (t : Tree). t)) old before bs here
+
+-- What is said of the parts of a SET, each of which was read where a component begins.
+abbrev pub BeyondSet : {D : Type 0} → Parts → (List State → D → Type 0) → Beyond D
+BeyondSet ps beyond old v new = (starts : List State) × ((here : State) → Contains starts here → IsStart ps old here) × beyond starts v

@@ -8,7 +8,7 @@ use Rattle.rasn_types.specs.declared.error.decode.DecodeError.{DecodeError}
 use Rattle.rasn_types.specs.declared.error.decode.DecodeErrorKind.{DecodeErrorKind}
 use Rattle.rasn_types.specs.Tags.{form, IsStrict}
 use Rattle.rasn_types.specs.Framing.{NextTag}
-use Rattle.rasn_types.specs.Shapes.{Tree, chosen, Shape, choice, Parts, Presence, required, optional, addition, default, IsFirst, IsFirstOf}
+use Rattle.rasn_types.specs.Shapes.{Tree, chosen, Shape, choice, Parts, Presence, required, addition, optional_by, default_by, IsFirst, IsFirstOf}
 use Rattle.rasn_types.specs.Readings.{IsNoDefault}
 use Rattle.rasn_types.specs.Grammar.{Reads}
 use Rattle.rasn_types.specs.Lawful.{AreLawfulByTag}
@@ -27,7 +27,7 @@ use Rattle.rasn_de.proofs.OwnTypes.Alternatives.{OneAlternative, no_default, as_
 use Rattle.rasn_schema.specs.declared.types.Component.{Component}
 use Rattle.rasn_schema.specs.declared.value.Value.{Value}
 use Rattle.rasn_schema.specs.Trees.{tree_of}
-use Rattle.rasn_schema.specs.Shapes.{components_by, presence_of}
+use Rattle.rasn_schema.specs.Shapes.{components_by, presence_in}
 use Rattle.rasn_dynamic.specs.Calls.{held, names_of, IsComponentFor, IsPut, IsDefaultOf, DecodesPresent}
 use Rattle.rasn_dynamic.proofs.Pieces.{only_part, by_tag_distinguished, put_placed, put_twice}
 
@@ -36,9 +36,9 @@ itself t = t
 
 is_default : (p : Presence) (t : Tree) → IsDefaultOf p t → IsNoDefault p t → ⊥
 is_default required t h n = h
-is_default optional t h n = h
+is_default (optional_by key) t h n = h
 is_default addition t h n = h
-is_default (default d) t h n = n h
+is_default (default_by key d) t h n = n h
 
 name_here : (ps : List Component) (k : ℕ) (p : Component) → Some p ≡ slice_get ps k → string_bytes p.name ≡ name_at (names_of ps) k
 name_here [] k p e = absurd cc
@@ -83,15 +83,15 @@ module _ (ps : Parts) (names : List (List ℕ)) (before after : List (Option Tre
 
 -- It is of a component.
 module _ (f : ℕ → Shape) (ps : List Component) (k : ℕ) (p : Component) (tag : Tag) (h : AreLawfulByTag (components_by f ps)) (b : IsComponentFor f ps tag k p) (old new : State) (n : NextTag (form old.rule) old.rest tag) where
-  only : IsOnlyAlternative (components_by f ps) k (presence_of p.presence) (f p.type_id.0) tag
+  only : IsOnlyAlternative (components_by f ps) k (presence_in f p) (f p.type_id.0) tag
   only = only_part f tag ps k p (by_tag_distinguished (components_by f ps) h) b
 
-  pub next_unread : (e : DecodeError) (before after : List (Option Tree)) → DecodesPresent (presence_of p.presence) (f p.type_id.0) old (Err e) new → DecodesNext (components_by f ps) (names_of ps) before old (Err e) new after
-  next_unread e before after d = inl (alternative_refused (components_by f ps) k (presence_of p.presence) (f p.type_id.0) tag n only e.kind (one_present (presence_of p.presence) (f p.type_id.0) tag b.1 old n (Err e) new d))
+  pub next_unread : (e : DecodeError) (before after : List (Option Tree)) → DecodesPresent (presence_in f p) (f p.type_id.0) old (Err e) new → DecodesNext (components_by f ps) (names_of ps) before old (Err e) new after
+  next_unread e before after d = inl (alternative_refused (components_by f ps) k (presence_in f p) (f p.type_id.0) tag n only e.kind (one_present (presence_in f p) (f p.type_id.0) tag b.1 old n (Err e) new d))
 
-  module _ (v : Value) (d : DecodesPresent (presence_of p.presence) (f p.type_id.0) old (Ok v) new) where
+  module _ (v : Value) (d : DecodesPresent (presence_in f p) (f p.type_id.0) old (Ok v) new) where
     got : DecodesExactly (λ rule. Reads rule (choice (components_by f ps))) old (Got (chosen k (tree_of v)) new.rest) new
-    got = alternative_got (components_by f ps) k (presence_of p.presence) (f p.type_id.0) tag n only (one_present (presence_of p.presence) (f p.type_id.0) tag b.1 old n (Ok v) new d)
+    got = alternative_got (components_by f ps) k (presence_in f p) (f p.type_id.0) tag n only (one_present (presence_in f p) (f p.type_id.0) tag b.1 old n (Ok v) new d)
 
     pub next_idle : (before after : List (Option Tree)) (left : ℕ) → left ≡ length old.rest → length new.rest ≡ left → (e : DecodeError) → IsErrorOf (UnexpectedExtraData left) new e
         → DecodesNext (components_by f ps) (names_of ps) before old (Err e) new after

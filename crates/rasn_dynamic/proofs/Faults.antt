@@ -27,7 +27,7 @@ use Rattle.rasn_schema.specs.declared.types.Component.{Component}
 use Rattle.rasn_schema.specs.declared.types.Alternative.{Alternative}
 use Rattle.rasn_schema.specs.declared.value.Value.{Value}
 use Rattle.rasn_schema.specs.Trees.{tree_of}
-use Rattle.rasn_schema.specs.Shapes.{shape_of_type, components_by, presence_of}
+use Rattle.rasn_schema.specs.Shapes.{shape_of_type, components_by, presence_in, presence_of}
 use Rattle.rasn_dynamic.specs.Inside.{ReadsComponent}
 use Rattle.rasn_types.specs.declared.types.tag.Tag.{Tag}
 use Rattle.rasn_types.specs.declared.types.constraints.Constraints.{Constraints}
@@ -267,8 +267,8 @@ forgotten read old [] bs here (e, h) = h
 forgotten read old (v ∷ vs) bs here (b, more, next, e, q, n, d, l, p) = (next, n, d, l, forgotten read next vs more here p)
 
 pub one_part_more : (f : ℕ → Shape) (done : List Component) (p : Component) (s here mid : State) (v : Value) → ComponentsInTurn f done s here
-    → DecodesBy (ReadsComponent (presence_of p.presence) (f p.type_id.0)) tree_of here (Ok v) mid → ComponentsInTurn f (done ++ p ∷ []) s mid
-one_part_more f [] p s here mid v e d = (v, mid, subst (λ z. DecodesBy (ReadsComponent (presence_of p.presence) (f p.type_id.0)) tree_of z (Ok v) mid) e d, refl)
+    → DecodesBy (ReadsComponent (presence_in f p) (f p.type_id.0)) tree_of here (Ok v) mid → ComponentsInTurn f (done ++ p ∷ []) s mid
+one_part_more f [] p s here mid v e d = (v, mid, subst (λ z. DecodesBy (ReadsComponent (presence_in f p) (f p.type_id.0)) tree_of z (Ok v) mid) e d, refl)
 one_part_more f (q ∷ qs) p s here mid v (w, next, a, b) d = (w, next, a, one_part_more f qs p next here mid v b d)
 
 pub as_long : (done : List Component) (p : Component) (vs us : List Value) (v : Value) → length done ≡ length vs → us ≡ vs ++ v ∷ [] → length (done ++ p ∷ []) ≡ length us

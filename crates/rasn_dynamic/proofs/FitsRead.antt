@@ -7,7 +7,7 @@ use Rattle.rasn_types.specs.declared.types.tag.Tag.{Tag}
 use Rattle.rasn_types.specs.declared.types.codec.Codec.{Codec}
 use Rattle.rasn_types.specs.declared.types.constraints.Constraints.{Constraints}
 use Rattle.rasn_types.specs.declared.error.decode.DecodeError.{DecodeError}
-use Rattle.rasn_types.specs.Shapes.{Tree, Same, items, joined, set_elements, number, leaf, integer, Interval, IsIn, Presence, required, optional, addition, default}
+use Rattle.rasn_types.specs.Shapes.{Tree, Same, items, joined, set_elements, number, leaf, integer, Interval, IsIn, Presence, required, addition, optional_by, default_by}
 use Rattle.rasn_types.specs.Readings.{IsMissing}
 use Rattle.std.specs.Cow.{cow_slice_items}
 use Rattle.rasn_types.specs.declared.types.strings.alphabet.Alphabet.{Alphabet}
@@ -143,9 +143,9 @@ mutual
 
 left_out : (p : Presence) (v : Value) → IsMissing p (tree_of v) → IsLeftOutAs p (tree_of v)
 left_out required v m = m
-left_out optional v m = m
+left_out (optional_by key) v m = m
 left_out addition v m = m
-left_out (default d) v m = subst (Same (tree_of v)) m (same_value v)
+left_out (default_by key d) v m = subst (Same (tree_of v)) m (same_value v)
 
 module _ (g : ℕ → Value → Type 0) where
   missing_fits : (p : Component) (v : Value) → IsMissing (presence_of p.presence) (tree_of v) → ComponentFits g p v

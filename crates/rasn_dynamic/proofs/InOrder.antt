@@ -6,7 +6,7 @@ use Rattle.rasn_types.specs.Errors.{IsOutOfMemory}
 use Rattle.rasn_types.specs.declared.error.decode.DecodeError.{DecodeError}
 use Rattle.rasn_types.specs.Trees.{list_tree}
 use Rattle.rasn_de.specs.SetPartTypes.{LacksSlot}
-use Rattle.rasn_types.specs.Shapes.{Tree, items, Shape, Parts, part}
+use Rattle.rasn_types.specs.Shapes.{Tree, items, Shape, Key, own_tag, Parts, part}
 use Rattle.rasn_types.specs.Shapes.Parts.{none}
 use Rattle.rasn_types.specs.Readings.{AllMissing}
 use Rattle.rasn_types.specs.Readings.{presences_in as presences_of_parts}
@@ -24,26 +24,27 @@ use Rattle.rasn_schema.specs.declared.types.Presence.TheVariants.{Required, Opti
 use Rattle.rasn_schema.specs.declared.types.Presence.{Presence as PartPresence}
 use Rattle.rasn_schema.specs.declared.value.Value.{Value}
 use Rattle.rasn_schema.specs.Trees.{tree_of}
-use Rattle.rasn_schema.specs.Shapes.{components_by, presence_of, presences_in, AreLawful}
+use Rattle.rasn_schema.specs.Shapes.{components_by, key_of, presence_by, presences_in, AreLawful}
+use Rattle.rasn_schema.proofs.Presences.{missing_by}
 use Rattle.rasn_dynamic.specs.Inside.{ReadsSequence}
 use Rattle.rasn_dynamic.specs.Calls.{held, nones, is_required, any_required, LeavesAllOut, AreSettled, Gathers}
 use Rattle.rasn_dynamic.proofs.Pieces.{settled_missing, nothing_lacks}
 
 module _ (f : ℕ → Shape) where
-  one_required : (p : PartPresence) (s : Shape) (ps : Parts) → has_required (part (presence_of p) s ps) ≡ is_required p || has_required ps
-  one_required Required s ps = refl
-  one_required Optional s ps = refl
-  one_required Addition s ps = refl
-  one_required (Default c) s ps = refl
+  one_required : (key : Key) (p : PartPresence) (s : Shape) (ps : Parts) → has_required (part (presence_by key p) s ps) ≡ is_required p || has_required ps
+  one_required key Required s ps = refl
+  one_required key Optional s ps = refl
+  one_required key Addition s ps = refl
+  one_required key (Default c) s ps = refl
 
   required_same : (ps : List Component) → has_required (components_by f ps) ≡ any_required ps
   required_same [] = refl
-  required_same (p ∷ ps) = rw (← required_same ps) (one_required p.presence (f p.type_id.0) (components_by f ps))
+  required_same (p ∷ ps) = rw (← required_same ps) (one_required (key_of (f p.type_id.0)) p.presence (f p.type_id.0) (components_by f ps))
 
   missing_same : (rule : Codec) (ps : List Component) (depth : ℕ) (closing : Bool) (ts : List Tree) → AllMissing (presences_in ps) ts → AllMissing (presences_of_parts (parts_of rule (components_by f ps) depth closing)) ts
   unfolding parts_of
   missing_same rule [] depth closing ts e = e
-  missing_same rule (p ∷ ps) depth closing ts (t, us, e, m, h) = (t, us, e, m, missing_same rule ps depth closing us h)
+  missing_same rule (p ∷ ps) depth closing ts (t, us, e, m, h) = (t, us, e, missing_by own_tag (key_of (f p.type_id.0)) p.presence t m, missing_same rule ps depth closing us h)
 
   pub lawful_parts : (ps : Parts) → AreLawfulInOrder ps → AreLawful ps
   unfolding IsLawful

@@ -7,7 +7,7 @@ use Rattle.rasn_types.specs.declared.types.codec.Codec.{Codec}
 use Rattle.rasn_types.specs.declared.types.tag.Tag.{Tag}
 use Rattle.rasn_types.specs.declared.error.decode.DecodeError.{DecodeError}
 use Rattle.rasn_types.specs.Tags.{IsTagBelow}
-use Rattle.rasn_types.specs.Shapes.{Tree, Shape, Parts, part, presences, Presence, required, IsFirst, IsFirstOf}
+use Rattle.rasn_types.specs.Shapes.{Tree, Shape, Parts, part, presences, own_tag, Presence, required, IsFirst, IsFirstOf}
 use Rattle.rasn_types.specs.Trees.{list_tree}
 use Rattle.rasn_types.specs.Readings.{IsMissing, AllMissing}
 use Rattle.rasn_types.specs.Lawful.{IsLawful, AreDistinguished, AreLawfulByTag}
@@ -19,7 +19,8 @@ use Rattle.rasn_schema.specs.declared.types.Presence.{Presence as PartPresence}
 use Rattle.rasn_schema.specs.declared.types.Presence.TheVariants.{Required, Optional, Addition, Default}
 use Rattle.rasn_schema.specs.declared.value.Value.{Value}
 use Rattle.rasn_schema.specs.Trees.{tree_of}
-use Rattle.rasn_schema.specs.Shapes.{components_by, presence_of, presences_in}
+use Rattle.rasn_schema.specs.Shapes.{components_by, key_of, presence_in, presence_of, presences_in}
+use Rattle.rasn_schema.proofs.Presences.{missing_by, required_by}
 use Rattle.rasn_dynamic.specs.Calls.{held, nones, names_of, any_required, is_required, IsComponentFor, IsValueOf, IsSettled, AreSettled, Gathers}
 
 -- ---- indices
@@ -41,11 +42,11 @@ module _ (f : ℕ → Shape) (tag : Tag) where
   first_of_part (q ∷ ps) (suc k) p e h = inr (first_of_part ps k p e h)
 
   -- A component is the only one that may begin with its first tags.
-  pub only_part : (ps : List Component) (k : ℕ) (p : Component) → AreDistinguished (components_by f ps) → IsComponentFor f ps tag k p → IsOnlyAlternative (components_by f ps) k (presence_of p.presence) (f p.type_id.0) tag
+  pub only_part : (ps : List Component) (k : ℕ) (p : Component) → AreDistinguished (components_by f ps) → IsComponentFor f ps tag k p → IsOnlyAlternative (components_by f ps) k (presence_in f p) (f p.type_id.0) tag
   only_part [] k p d (e, h) = cc
   only_part (q ∷ ps) zero p d (e, h) =
       let same : q ≡ p = cc in
-      (ap (λ (x : Component). presence_of x.presence) same, ap (λ (x : Component). f x.type_id.0) same, h, λ g. d.0 tag (subst (λ x. IsFirst (f x.type_id.0) tag) (sym same) h) g)
+      (ap (λ (x : Component). presence_in f x) same, ap (λ (x : Component). f x.type_id.0) same, h, λ g. d.0 tag (subst (λ x. IsFirst (f x.type_id.0) tag) (sym same) h) g)
   only_part (q ∷ ps) (suc k) p d (e, h) = ((λ g. d.0 tag g (first_of_part ps k p e h)), only_part ps k p d.1 (e, h))
 
 none_of : (a b : Bool) → a || b ≡ false → (a ≡ false) × (b ≡ false)
@@ -171,15 +172,25 @@ nothing_lacks (p ∷ ps) zero n (e, f) = first p.presence e (none_of (is_require
     first (Default v) e n = cc
 nothing_lacks (p ∷ ps) (suc k) n (e, l) = nothing_lacks ps k (none_of (is_required p.presence) (any_required ps) n).1 l
 
-presences_same : (f : ℕ → Shape) (ps : List Component) → presences_in ps ≡ presences (components_by f ps)
-presences_same f [] = refl
-presences_same f (p ∷ ps) = ap (λ l. presence_of p.presence ∷ l) (presences_same f ps)
+-- What components are recognized by makes no difference to what is made of them.
+gathered_same : (f : ℕ → Shape) (ps : List Component) (slots : List (Option Tree)) (ts : List Tree) → AreGathered (presences_in ps) slots ts → AreGathered (presences (components_by f ps)) slots ts
+gathered_same f [] [] ts g = g
+gathered_same f [] (x ∷ slots) ts g = g
+gathered_same f (p ∷ ps) [] ts g = g
+gathered_same f (p ∷ ps) (None ∷ slots) ts (t, us, e, m, g) = (t, us, e, missing_by own_tag (key_of (f p.type_id.0)) p.presence t m, gathered_same f ps slots us g)
+gathered_same f (p ∷ ps) (Some u ∷ slots) ts (us, e, g) = (us, e, gathered_same f ps slots us g)
+
+lacks_same : (f : ℕ → Shape) (ps : List Component) (slots : List (Option Tree)) (k : ℕ) → LacksSlot (presences_in ps) slots k → LacksSlot (presences (components_by f ps)) slots k
+lacks_same f [] slots k l = l
+lacks_same f (p ∷ ps) [] k l = l
+lacks_same f (p ∷ ps) (x ∷ slots) zero (e, n) = (required_by own_tag (key_of (f p.type_id.0)) p.presence e, n)
+lacks_same f (p ∷ ps) (x ∷ slots) (suc k) (n, l) = ((λ e. n (required_by (key_of (f p.type_id.0)) own_tag p.presence e)), lacks_same f ps slots k l)
 
 abbrev listed : Vec Value Global → Tree
 listed vs = list_tree tree_of vs.items
 
 pub makes_parts : (f : ℕ → Shape) (ps : List Component) (rule : Codec) (found : List (Option Value)) (r : Result (Vec Value Global) DecodeError) → Gathers ps rule found r
     → MakesParts (components_by f ps) listed (names_of ps) rule (held found) r
-makes_parts f ps rule found (Ok vs) g = (map tree_of vs.items, refl, subst (λ l. AreGathered l (held found) (map tree_of vs.items)) (presences_same f ps) (settled_trees ps found vs.items g))
+makes_parts f ps rule found (Ok vs) g = (map tree_of vs.items, refl, gathered_same f ps (held found) (map tree_of vs.items) (settled_trees ps found vs.items g))
 makes_parts f ps rule found (Err e) (inl m) = inl m
-makes_parts f ps rule found (Err e) (inr (k, l, w)) = inr (k, subst (λ z. LacksSlot z (held found) k) (presences_same f ps) l, w)
+makes_parts f ps rule found (Err e) (inr (k, l, w)) = inr (k, lacks_same f ps (held found) k l, w)

@@ -5,7 +5,7 @@ use Rattle.rasn_types.specs.declared.types.constraints.Constraints.{Constraints}
 use Rattle.rasn_types.specs.declared.error.encode.EncodeError.{EncodeError}
 use Rattle.rasn_types.specs.Errors.{IsEncodeOutOfMemory}
 use Rattle.rasn_types.specs.Contents.{joined_lists}
-use Rattle.rasn_types.specs.Shapes.{Tree, items, joined, set_elements, Shape, prefix, seq, set, list, set_of, Parts, part, Presence, required, optional, addition, default, Admits}
+use Rattle.rasn_types.specs.Shapes.{Tree, items, joined, set_elements, Shape, prefix, seq, set, list, set_of, Parts, part, own_tag, Key, Presence, required, addition, optional_by, default_by, Admits}
 use Rattle.rasn_types.specs.Bytes.{Bytes, WritesPart, fields_of, PartsWritten, TagsOf, Each, AreAscending, IsLess}
 use Rattle.rasn_types.proofs.SetOf.Same.{items_one}
 use Rattle.rasn_types.proofs.Encoding.SameAsItself.{one_writing, parts_one_writing}
@@ -26,7 +26,8 @@ use Rattle.std.proofs.Common.{zero, suc, ◌<◌, arith}
 use Rattle.rasn_types.specs.Shapes.{choice, chosen}
 use Rattle.rasn_enc.specs.Choice.{IsAlternative}
 use Rattle.rasn_enc.proofs.OwnTypes.Choice.{chosen_encoded, chosen_refused}
-use Rattle.rasn_schema.specs.Shapes.{components_by, alternatives_by, presence_of}
+use Rattle.rasn_schema.specs.Shapes.{components_by, alternatives_by, presence_by, presence_in, presence_of}
+use Rattle.rasn_schema.proofs.Presences.{left_out_by}
 use Rattle.rasn_types.specs.Trees.{list_tree}
 use Rattle.std.specs.Prelude.{slice_get}
 use Rattle.rasn_enc.specs.Primitive.{IsAllocError, IsOrderError}
@@ -234,24 +235,24 @@ module _ (tag : Tag) (s : Shape) (c : Constraints) (t : Tree) (l : List Value) (
 module _ (s : Shape) (t : Tree) (v w : View) where
   pub part_left : (p : Presence) → IsLeftOutAs p t → AppendsPart p s t v v
   part_left required e = absurd e
-  part_left optional e = record { octets = []; defined = inl (e, refl); tags = []; heads = λ k. refl; tagged = λ k b. refl; appended = appended-nil v }
+  part_left (optional_by key) e = record { octets = []; defined = inl (e, refl); tags = []; heads = λ k. refl; tagged = λ k b. refl; appended = appended-nil v }
   part_left addition e = record { octets = []; defined = inl (e, refl); tags = []; heads = λ k. refl; tagged = λ k b. refl; appended = appended-nil v }
-  part_left (default d) e = record { octets = []; defined = inl (e, refl); tags = []; heads = λ k. refl; tagged = λ k b. refl; appended = appended-nil v }
+  part_left (default_by key d) e = record { octets = []; defined = inl (e, refl); tags = []; heads = λ k. refl; tagged = λ k b. refl; appended = appended-nil v }
 
   writes : (p : Presence) → (IsLeftOutAs p t → ⊥) → (R : Tree → List ℕ → Type 0) (o : List ℕ) → R t o → WritesPart p R t o
   writes required n R o h = h
-  writes optional n R o h = inr (n, h)
+  writes (optional_by key) n R o h = inr (n, h)
   writes addition n R o h = inr (n, h)
-  writes (default d) n R o h = inr (n, h)
+  writes (default_by key d) n R o h = inr (n, h)
 
   written : (p : Presence) → (IsLeftOutAs p t → ⊥) → (R : Tree → List ℕ → Type 0) (o : List ℕ) → WritesPart p R t o → R t o
   written required n R o h = h
-  written optional n R o (inl (e, f)) = absurd (n e)
-  written optional n R o (inr (m, h)) = h
+  written (optional_by key) n R o (inl (e, f)) = absurd (n e)
+  written (optional_by key) n R o (inr (m, h)) = h
   written addition n R o (inl (e, f)) = absurd (n e)
   written addition n R o (inr (m, h)) = h
-  written (default d) n R o (inl (e, f)) = absurd (n e)
-  written (default d) n R o (inr (m, h)) = h
+  written (default_by key d) n R o (inl (e, f)) = absurd (n e)
+  written (default_by key d) n R o (inr (m, h)) = h
 
   module _ (p : Presence) (n : IsLeftOutAs p t → ⊥) where
     pub part_put : (r : Result (Unit {0}) EncodeError) → OnOk r (AppendsEncoding s t v w) → OnOk r (AppendsPart p s t v w)
@@ -279,19 +280,19 @@ written_start f all us old = record { on = λ r w k. k }
 
 module _ (f : ℕ → Shape) (all rest after : List Component) (p : Component) (us left others : List Value) (u : Value) (old here : View)
     (k : WrittenSoFar f all rest us left old here) (e : rest ≡ p ∷ after) (g : left ≡ u ∷ others) where
-  back : (r : Result (Unit {0}) EncodeError) (w : View) → EncodesParts (part (presence_of p.presence) (f p.type_id.0) (components_by f after)) (joined (tree_of u) (list_tree tree_of others)) here r w
+  back : (r : Result (Unit {0}) EncodeError) (w : View) → EncodesParts (part (presence_in f p) (f p.type_id.0) (components_by f after)) (joined (tree_of u) (list_tree tree_of others)) here r w
       → EncodesParts (components_by f all) (list_tree tree_of us) old r w
   back r w h = k.on r w (subst (λ l. EncodesParts (components_by f l) (list_tree tree_of left) here r w) (sym e)
       (subst (λ l. EncodesParts (components_by f (p ∷ after)) (list_tree tree_of l) here r w) (sym g) h))
 
-  pub written_more : (mid : View) → AppendsPart (presence_of p.presence) (f p.type_id.0) (tree_of u) here mid → WrittenSoFar f all after us others old mid
+  pub written_more : (mid : View) → AppendsPart (presence_in f p) (f p.type_id.0) (tree_of u) here mid → WrittenSoFar f all after us others old mid
   written_more mid a = record { on = λ r w h. back r w (part_appended (f p.type_id.0) (components_by f after) (tree_of u) (list_tree tree_of others) here mid w r a h) }
 
-  pub written_fails : (x : EncodeError) (mid : View) → EncodePartFails (presence_of p.presence) (f p.type_id.0) (tree_of u) here x → mid ≡ here → EncodesParts (components_by f all) (list_tree tree_of us) old (Err x) mid
+  pub written_fails : (x : EncodeError) (mid : View) → EncodePartFails (presence_in f p) (f p.type_id.0) (tree_of u) here x → mid ≡ here → EncodesParts (components_by f all) (list_tree tree_of us) old (Err x) mid
   written_fails x mid h q = back (Err x) mid (refused x h q)
     where
-      refused : (x : EncodeError) → EncodePartFails (presence_of p.presence) (f p.type_id.0) (tree_of u) here x → mid ≡ here
-          → EncodesParts (part (presence_of p.presence) (f p.type_id.0) (components_by f after)) (joined (tree_of u) (list_tree tree_of others)) here (Err x) mid
+      refused : (x : EncodeError) → EncodePartFails (presence_in f p) (f p.type_id.0) (tree_of u) here x → mid ≡ here
+          → EncodesParts (part (presence_in f p) (f p.type_id.0) (components_by f after)) (joined (tree_of u) (list_tree tree_of others)) here (Err x) mid
       refused x h q = Rattle.rasn_enc.proofs.OwnTypes.Sequence.part_refused (f p.type_id.0) (components_by f after) (tree_of u) (list_tree tree_of others) here mid (Err x) x h q refl
 
 -- ---- the alternative that was chosen
@@ -361,7 +362,7 @@ keeps_as _ u k h = absurd h
 
 module _ (f : ℕ → Shape) (g : ℕ → Value → Type 0) (all rest after : List Component) (p : Component) (us left others : List Value) (u : Value) (old here : View)
     (k : WrittenSoFar f all rest us left old here) (e : rest ≡ p ∷ after) (i : left ≡ u ∷ others) (j : FitSoFar g all rest us left) (o : LeavesOthers old here) where
-  pub component_refused : (x : EncodeError) (mid : View) → EncodesPartIf (ComponentFits g p u) (presence_of p.presence) (f p.type_id.0) (tree_of u) here (Err x) mid
+  pub component_refused : (x : EncodeError) (mid : View) → EncodesPartIf (ComponentFits g p u) (presence_in f p) (f p.type_id.0) (tree_of u) here (Err x) mid
       → EncodesPartsIf (ComponentsFit g all us) (components_by f all) (list_tree tree_of us) old (Err x) mid
   component_refused x mid h = record {
     fits = tt;
@@ -398,14 +399,21 @@ module _ (P : Value → Type 0) (s : Shape) (all rest after : List Value) (u : V
 
 -- ---- one component
 
-module _ (g : ℕ → Value → Type 0) (s : Shape) (p : Component) (u : Value) (v : View) where
-  pub part_skipped : IsLeftOutAs (presence_of p.presence) (tree_of u) → EncodesPartIf (ComponentFits g p u) (presence_of p.presence) s (tree_of u) v (Ok tt) v
-  part_skipped e = record { fits = inl e; does = λ h. record { ok = part_left s (tree_of u) v v (presence_of p.presence) e; refused = tt }; keeps = tt; rules = tt }
+module _ (g : ℕ → Value → Type 0) (s : Shape) (p : Component) (u : Value) (v : View) (key : Key) where
+  pub part_skipped : IsLeftOutAs (presence_of p.presence) (tree_of u) → EncodesPartIf (ComponentFits g p u) (presence_by key p.presence) s (tree_of u) v (Ok tt) v
+  part_skipped e = record {
+    fits = inl e;
+    does = λ h. record { ok = part_left s (tree_of u) v v (presence_by key p.presence) (left_out_by own_tag key p.presence (tree_of u) e); refused = tt };
+    keeps = tt;
+    rules = tt;
+  }
 
   pub part_written : (IsLeftOutAs (presence_of p.presence) (tree_of u) → ⊥) → (w : View) (r : Result (Unit {0}) EncodeError) → EncodesIf (g p.type_id.0 u) s (tree_of u) v r w
-      → EncodesPartIf (ComponentFits g p u) (presence_of p.presence) s (tree_of u) v r w
-  part_written n w r h = fits_as r inr (fits_there g p u n)
-      (λ k. record { ok = part_put s (tree_of u) v w (presence_of p.presence) n r k.ok; refused = part_not_put s (tree_of u) v w (presence_of p.presence) n r k.refused }) h
+      → EncodesPartIf (ComponentFits g p u) (presence_by key p.presence) s (tree_of u) v r w
+  part_written n w r h =
+      let m : IsLeftOutAs (presence_by key p.presence) (tree_of u) → ⊥ = λ e. n (left_out_by key own_tag p.presence (tree_of u) e) in
+      fits_as r inr (fits_there g p u n)
+      (λ k. record { ok = part_put s (tree_of u) v w (presence_by key p.presence) m r k.ok; refused = part_not_put s (tree_of u) v w (presence_by key p.presence) m r k.refused }) h
 
 pub not_opened : {F : Type 0} (s : Shape) (t : Tree) (v w : View) (e : EncodeError) → w ≡ v → IsAllocError v.rule e → EncodesIf F s t v (Err e) w
 not_opened s t v w e k m = record {

@@ -18,7 +18,7 @@ use Rattle.rasn_types.specs.declared.types.tag.Tag.{Tag}
 use Rattle.rasn_types.specs.Tags.{form, IsStrict}
 use Rattle.rasn_types.specs.Framing.{NextTag}
 use Rattle.rasn_types.specs.Errors.{IsOutOfMemory}
-use Rattle.rasn_types.specs.Shapes.{Tree, Shape, Interval, IsIn, Parts, IsFirst, IsFirstOf, Admits, constraint_of, Same, Presence, required, optional, addition, default}
+use Rattle.rasn_types.specs.Shapes.{Tree, Shape, Interval, IsIn, Parts, IsFirst, IsFirstOf, Admits, constraint_of, Same, Presence, required, addition, optional_by, default_by}
 use Rattle.rasn_types.specs.Readings.{IsNoDefault, IsMissing}
 use Rattle.rasn_types.specs.declared.error.decode.DecodeError.{DecodeError}
 use Rattle.rasn_types.specs.declared.error.decode.DerDecodeErrorKind.TheVariants.{DefaultValuePresent}
@@ -66,9 +66,9 @@ IsKept left s v vs (Err e) us = ((length s.rest ≡ left) × IsErrorOf (Unexpect
 
 abbrev pub IsDefaultOf : Presence → Tree → Type 0
 IsDefaultOf required t = ⊥
-IsDefaultOf optional t = ⊥
+IsDefaultOf (optional_by key) t = ⊥
 IsDefaultOf addition t = ⊥
-IsDefaultOf (default d) t = Same t d
+IsDefaultOf (default_by key d) t = Same t d
 
 -- A component that is present is read by its shape; or it is its default, which must not be written (X.690 11.5).
 abbrev pub DecodesPresent : Presence → Shape → State → Result Value DecodeError → State → Type 0
@@ -83,9 +83,9 @@ IsNoAlternative ps name old e new = (tag : Tag) → NextTag (form old.rule) old.
 -- The component has a default.
 abbrev pub HasDefault : Presence → Type 0
 HasDefault required = ⊥
-HasDefault optional = ⊥
+HasDefault (optional_by key) = ⊥
 HasDefault addition = ⊥
-HasDefault (default d) = Unit {0}
+HasDefault (default_by key d) = Unit {0}
 
 -- The value that an absent component has; or memory runs out for the copy of its default.
 abbrev pub IsMade : Presence → State → Result Value DecodeError → Type 0

@@ -26,7 +26,7 @@ use Rattle.rasn_schema.specs.declared.types.«Type».{«Type»}
 use Rattle.rasn_schema.specs.declared.types.«Type».TheVariants.{Leaf, Enumerated, Any, Tagged, Choice, Sequence, Set, SequenceOf, SetOf}
 use Rattle.rasn_schema.specs.declared.value.Value.{Value}
 use Rattle.rasn_schema.specs.Trees.{tree_of}
-use Rattle.rasn_schema.specs.Shapes.{shape_of_type, alternatives_by, components_by, presence_of}
+use Rattle.rasn_schema.specs.Shapes.{shape_of_type, alternatives_by, components_by, presence_of, presence_in}
 use Rattle.rasn_schema.specs.FirstTags.{IsAlwaysThere}
 use Rattle.rasn_dynamic.specs.Inside.{ReadsComponent}
 use Rattle.rasn_dynamic.specs.Calls.{IsDefaultOf}
@@ -81,7 +81,7 @@ IsElementAt f id s k next here = (next ≡ id) × (vs : List Value) × (length v
 -- These components were read, or are absent.
 abbrev pub ComponentsInTurn : (ℕ → Shape) → List Component → State → State → Type 0
 ComponentsInTurn f [] s here = here ≡ s
-ComponentsInTurn f (p ∷ ps) s here = (v : Value) × (next : State) × DecodesBy (ReadsComponent (presence_of p.presence) (f p.type_id.0)) tree_of s (Ok v) next × ComponentsInTurn f ps next here
+ComponentsInTurn f (p ∷ ps) s here = (v : Value) × (next : State) × DecodesBy (ReadsComponent (presence_in f p) (f p.type_id.0)) tree_of s (Ok v) next × ComponentsInTurn f ps next here
 
 abbrev pub IsComponentAt : (ℕ → Shape) → List Component → State → ℕ → ℕ → State → Type 0
 IsComponentAt f ps s k next here = (done : List Component) × (p : Component) × (after : List Component) × (ps ≡ done ++ p ∷ after) × (length done ≡ k) × (next ≡ p.type_id.0) × ComponentsInTurn f done s here

@@ -1,7 +1,7 @@
 -- The contents of a value that holds others, and its header. Lists and sets of elements are in Typed.antt, since their size is asked after their end.
 use Rattle.std.specs.Prelude.{◌≡◌, ℕ, Bool}
 use Rattle.rasn_types.specs.declared.types.codec.Codec.{Codec}
-use Rattle.rasn_types.specs.Shapes.{Tree, Shape, leaf, any, prefix, choice, option, seq, set, list, set_of, presences, Parts, Presence, own}
+use Rattle.rasn_types.specs.Shapes.{Tree, Shape, leaf, any, prefix, choice, option, seq, set, list, set_of, presences, Parts, Presence, sought_in}
 use Rattle.rasn_types.specs.Readings.{Reading, ReadsPart, ReadsSeq, ReadsChoice, ReadsSet}
 use Rattle.rasn_types.specs.Grammar.{Reads, parts_of}
 use Rattle.rasn_de.specs.declared.ber.de.constructed.ConstructedHeader.{ConstructedHeader}
@@ -35,4 +35,4 @@ ReadsSequence ps rule depth closing = ReadsSeq rule (parts_of rule ps depth clos
 
 -- one of them
 abbrev pub ReadsComponent : Presence → Shape → Codec → ℕ → Bool → Reading Tree
-ReadsComponent p s rule depth closing = ReadsPart rule p (own s) (Reads rule s depth closing) closing
+ReadsComponent p s rule depth closing = ReadsPart rule p (sought_in p s) (Reads rule s depth closing) closing

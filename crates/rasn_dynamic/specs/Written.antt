@@ -6,7 +6,7 @@ use Rattle.rasn_types.specs.declared.error.encode.EncodeError.{EncodeError}
 use Rattle.rasn_types.specs.Errors.{IsEncodeOutOfMemory}
 use Rattle.rasn_types.specs.Tags.{IsTagBelow}
 use Rattle.rasn_types.specs.Contents.{joined_lists}
-use Rattle.rasn_types.specs.Shapes.{Tree, items, set_elements, absent, Same, Presence, required, optional, addition, default, Shape, leaf, any, prefix, choice, option, seq, set, list, set_of, Parts, Admits}
+use Rattle.rasn_types.specs.Shapes.{Tree, items, set_elements, absent, Same, Presence, required, Shape, leaf, any, prefix, choice, option, seq, set, list, set_of, Parts, Admits}
 use Rattle.rasn_types.specs.Bytes.{Bytes, fields_of, PartsWritten, NoneUntaggedOpen, TagsOf, Each, AreAscending, IsLess}
 use Rattle.rasn_enc.specs.View.{View, LeavesOthers}
 use Rattle.rasn_enc.specs.Encoding.{AppendsPart, EncodePartFails}

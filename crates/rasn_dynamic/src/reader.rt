@@ -4,17 +4,18 @@ ghost use Rattle.std.specs.String.{string_bytes};
 ghost use Rattle.rasn_types.specs.Framing.{AreOctets};
 ghost use Rattle.rasn_types.specs.Errors.{IsOutOfMemory};
 ghost use Rattle.rasn_types.specs.Lawful.{IsLawful, AreLawfulByTag};
-ghost use Rattle.rasn_types.specs.Shapes.{choice};
+ghost use Rattle.rasn_types.specs.Shapes.{choice, sought_by};
 ghost use Rattle.rasn_types.specs.Trees.{list_tree};
 ghost use Rattle.rasn_de.specs.Decodes.{Decodes, DecodesBy};
 ghost use Rattle.rasn_de.specs.Constructed.{DecodesInside};
 ghost use Rattle.rasn_de.specs.SequenceOf.{DecodesElements, DecodesElementsInOrder, DecodesSized};
+ghost use Rattle.rasn_de.specs.Optional.{NextIs};
 ghost use Rattle.rasn_de.specs.PartTypes.{FailsAtPart, FailsAtOnePart};
 ghost use Rattle.rasn_de.specs.SetPartTypes.{DecodesNext, DecodesSetPartContents};
 ghost use Rattle.rasn_de.specs.Steps.{IsErrorOf};
 ghost use Rattle.rasn_de.specs.declared.ber.de.parser.ParseError.TheVariants.{UnexpectedExtraData, UnexpectedEmptyInput};
 ghost use Rattle.rasn_schema.specs.Trees.{tree_of};
-ghost use Rattle.rasn_schema.specs.Shapes.{shape_of_type, type_by, alternatives_by, components_by, presence_of, AreLawful};
+ghost use Rattle.rasn_schema.specs.Shapes.{shape_of_type, type_by, alternatives_by, components_by, key_of, presence_in, AreLawful};
 ghost use Rattle.rasn_dynamic.specs.Inside.{ReadsSequence, ReadsComponent};
 ghost use Rattle.rasn_dynamic.specs.Typed.{element_count, IsSized, HoldsOthers, DecodesContents, DecodesType};
 ghost use Rattle.rasn_dynamic.specs.Calls.{held, nones, names_of, IsKept, DecodesPresent, IsNoAlternative};
@@ -31,7 +32,8 @@ use crate::trace::{Fault, add_after, mark, octets_after, octets_left, step};
 use rasn_de::ber::de::{ConstructedHeader, Decoder};
 use rasn_de::de::Error;
 use rasn_schema::{
-    Alternative, Component, Presence, Type, TypeId, Value, alternative_for, tag_at, type_at,
+    Alternative, Component, Presence, Type, TypeId, Value, alternative_for, begins, is_choice_at,
+    tag_at, type_at,
 };
 use rasn_types::error::{DecodeError, DecodeErrorKind};
 use rasn_types::types::{Constraints, Tag};
@@ -513,6 +515,28 @@ fn decode_sequence<'input>(
     Ok(values)
 }
 
+/// Returns whether the next value is one of the type with this number: a CHOICE is recognized by its first tags, and any other type by its
+/// own tag.
+#[inline(always)]
+fn is_next(
+    decoder: &Decoder<'_>,
+    types: &[Type],
+    levels: usize,
+    id: TypeId,
+) -> Result<bool, DecodeError>
+    requires { IsLawful (shape_of_type types.now levels id.0) }
+    ensures { NextIs (sought_by (key_of (shape_of_type types.now levels id.0)) (shape_of_type types.now levels id.0)) decoder.now result }
+{
+    if !is_choice_at(types, levels, id) {
+        return decoder.next_tag_is(tag_at(types, id));
+    }
+    if decoder.has_ended() {
+        return Ok(false);
+    }
+    let tag = decoder.peek_tag()?;
+    Ok(begins(types, levels, id, tag))
+}
+
 /// Reads a component of a SEQUENCE, unless it is absent.
 #[cycle(decode)]
 fn decode_component<'input>(
@@ -525,8 +549,8 @@ fn decode_component<'input>(
 ) -> Result<Value<'input>, DecodeError>
     requires lawful { IsLawful (shape_of_type types.now below component.now.type_id.0) }
     requires clear { trace.old ≡ None }
-    ensures reads { DecodesBy (ReadsComponent (presence_of component.now.presence) (shape_of_type types.now below component.now.type_id.0)) tree_of decoder.old result decoder.new }
-    ensures fails { IfErr result (λ e. FailsAtOnePart (presence_of component.now.presence) (shape_of_type types.now below component.now.type_id.0) decoder.old e decoder.new) }
+    ensures reads { DecodesBy (ReadsComponent (presence_in (shape_of_type types.now below) component.now) (shape_of_type types.now below component.now.type_id.0)) tree_of decoder.old result decoder.new }
+    ensures fails { IfErr result (λ e. FailsAtOnePart (presence_in (shape_of_type types.now below) component.now) (shape_of_type types.now below component.now.type_id.0) decoder.old e decoder.new) }
     ensures fits { IfOk result (λ v. ComponentFits (Fits types.now below) component.now v) }
     ensures rules { IfErr result (λ e. e.codec ≡ decoder.old.rule) }
     ensures told { Told (IsFaultIn types.now below (IsOnly index component.now.type_id.0 decoder.old) decoder.old decoder.old) result trace.new }
@@ -535,7 +559,7 @@ fn decode_component<'input>(
     if is_always_there(component) {
         return decode_present(decoder, trace, types, below, component, index);
     }
-    match decoder.next_tag_is(tag_at(types, component.type_id)) {
+    match is_next(decoder, types, below, component.type_id) {
         Ok(true) => decode_present(decoder, trace, types, below, component, index),
         Ok(false) => missing(decoder, component),
         Err(error) => Err(error),
@@ -555,7 +579,7 @@ fn decode_present<'input>(
 ) -> Result<Value<'input>, DecodeError>
     requires lawful { IsLawful (shape_of_type types.now below component.now.type_id.0) }
     requires clear { trace.old ≡ None }
-    ensures reads { DecodesPresent (presence_of component.now.presence) (shape_of_type types.now below component.now.type_id.0) decoder.old result decoder.new }
+    ensures reads { DecodesPresent (presence_in (shape_of_type types.now below) component.now) (shape_of_type types.now below component.now.type_id.0) decoder.old result decoder.new }
     ensures fits { IfOk result (λ v. Fits types.now below component.now.type_id.0 v) }
     ensures rules { IfErr result (λ e. e.codec ≡ decoder.old.rule) }
     ensures told { Told (IsFaultIn types.now below (IsOnly index component.now.type_id.0 decoder.old) decoder.old decoder.old) result trace.new }

@@ -5,7 +5,7 @@ ghost use Rattle.rasn_types.specs.Trees.{list_tree};
 ghost use Rattle.rasn_enc.specs.View.{fresh};
 ghost use Rattle.rasn_enc.specs.Primitive.{IsOrderError};
 ghost use Rattle.rasn_schema.specs.Trees.{tree_of};
-ghost use Rattle.rasn_schema.specs.Shapes.{shape_of_type, type_by, alternatives_by, components_by, presence_of};
+ghost use Rattle.rasn_schema.specs.Shapes.{shape_of_type, type_by, alternatives_by, components_by, presence_in};
 ghost use Rattle.rasn_schema.specs.Fitting.{AlternativeFits, IsChosen, ComponentFits, ComponentsFit, EachFits, FitsBy, Fits};
 ghost use Rattle.rasn_dynamic.specs.Written.{EncodesIf, EncodesPartIf, EncodesInsideIf, EncodesPartsIf, EncodesElementsIf, EncodesSetOfIf, IsEnclosed, HoldsOthers, keeps_tags};
 
@@ -218,7 +218,7 @@ fn encode_component(
     component: &Component,
     value: &Value<'_>,
 ) -> Result<(), EncodeError>
-    ensures { EncodesPartIf (ComponentFits (Fits types.now below) component.now value.now) (presence_of component.now.presence) (shape_of_type types.now below component.now.type_id.0) (tree_of value.now) encoder.old result encoder.new }
+    ensures { EncodesPartIf (ComponentFits (Fits types.now below) component.now value.now) (presence_in (shape_of_type types.now below) component.now) (shape_of_type types.now below component.now.type_id.0) (tree_of value.now) encoder.old result encoder.new }
 {
     if is_left_out(component, value) {
         return Ok(());

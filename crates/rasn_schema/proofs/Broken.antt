@@ -16,7 +16,7 @@ use Rattle.rasn_schema.specs.declared.types.«Type».TheVariants.{Leaf, Enumerat
 use Rattle.rasn_schema.specs.declared.error.SchemaError.{SchemaError}
 use Rattle.rasn_schema.specs.declared.error.SchemaError.TheVariants.{ReservedTag, ConstructedTag, LateInner, NumbersClash, NoNumbers, NoAlternatives, LateAlternative, UntaggedAlternative, AlternativesClash, ComponentsClash, UntaggedComponent, AdditionInSet, UntaggedInSet, SetClash, SetOutOfOrder, UnfitDefault}
 use Rattle.rasn_schema.specs.Shapes.{kind_of, presence_of, shape_of_type}
-use Rattle.rasn_schema.specs.Schemas.{IsPrefix, AreDistinct, IsBefore, AreLowerAndTagged, AreDistinctAlternatives, AreDistinctNumbers, AreToldInOrder, IsToldFrom, AreTagged, AreInOrderOfTags, IsWellFormed, AreWellFormed, AreChoicesWellFormed, AreOthersWellFormed, HaveFitDefaults, IsSchema, own_at, begin_at}
+use Rattle.rasn_schema.specs.Schemas.{IsPrefix, AreDistinct, IsBefore, AreLowerAndTagged, AreDistinctAlternatives, AreDistinctNumbers, AreToldInOrder, IsRecognizable, IsToldFrom, AreTagged, AreInOrderOfTags, IsWellFormed, AreWellFormed, AreChoicesWellFormed, AreOthersWellFormed, HaveFitDefaults, IsSchema, own_at, begin_at}
 use Rattle.rasn_schema.specs.FirstTags.{IsAlwaysThere}
 use Rattle.rasn_schema.proofs.Firsts.{not_below}
 use Rattle.rasn_schema.specs.Faults.{IsTagFault, IsTaggedFault, IsLeafFault, IsNumbersFault, IsAlternativesFault, IsSequenceFault, IsSetFault, IsFaultOf, SomeFault, IsDefaultFault, IsFault}
@@ -117,9 +117,10 @@ choice_broken f id ks (SetClash k i j) h w = h
 choice_broken f id ks (SetOutOfOrder k i j) h w = h
 choice_broken f id ks (UnfitDefault k i) h w = h
 
-next : (own : ℕ → Option Tag) (f : ℕ → Shape) (ps : List Component) (i : ℕ) (p : Component) → i + 1 < length ps → Some p ≡ slice_get ps i → (IsAlwaysThere (presence_of p.presence) → ⊥) → own p.type_id.0 ≡ None → AreToldInOrder own f ps → ⊥
-next own f ps i p l d a n w = let q = slice_get_in ps (i + 1) l in
-    subst (λ o. IsToldFrom o (f q.0.type_id.0)) n (w i (i + 1) p q.0 d q.1 a (omega arith, λ m r u v. absurd (omega (arith, u, v))))
+next : (own : ℕ → Option Tag) (f : ℕ → Shape) (ps : List Component) (i : ℕ) (p : Component) → i + 1 < length ps → Some p ≡ slice_get ps i → (IsAlwaysThere (presence_of p.presence) → ⊥) → own p.type_id.0 ≡ None
+    → (IsRecognizable (f p.type_id.0) → ⊥) → AreToldInOrder own f ps → ⊥
+next own f ps i p l d a n r w = let q = slice_get_in ps (i + 1) l in
+    r (subst (λ o. IsToldFrom o (f p.type_id.0) (f q.0.type_id.0)) n (w i (i + 1) p q.0 d q.1 a (omega arith, λ m r u v. absurd (omega (arith, u, v))))).0
 
 sequence_broken : (own : ℕ → Option Tag) (f : ℕ → Shape) (id : ℕ) (tag : Tag) (ps : List Component) (e : SchemaError) → IsSequenceFault own f id tag ps e → (tag ≢ eoc) × AreToldInOrder own f ps → ⊥
 sequence_broken own f id tag ps (ReservedTag k) h w = w.0 h.1
@@ -132,7 +133,7 @@ sequence_broken own f id tag ps (LateAlternative k i) h w = h
 sequence_broken own f id tag ps (UntaggedAlternative k i) h w = h
 sequence_broken own f id tag ps (AlternativesClash k i j) h w = h
 sequence_broken own f id tag ps (ComponentsClash k i j) (g, m, (p, q, d, e, a, n)) w = n (w.1 i j p q d e a m)
-sequence_broken own f id tag ps (UntaggedComponent k i) (g, l, (p, d, a, n)) w = next own f ps i p l d a n w.1
+sequence_broken own f id tag ps (UntaggedComponent k i) (g, l, (p, d, a, n, r)) w = next own f ps i p l d a n r w.1
 sequence_broken own f id tag ps (AdditionInSet k i) h w = h
 sequence_broken own f id tag ps (UntaggedInSet k i) h w = h
 sequence_broken own f id tag ps (SetClash k i j) h w = h

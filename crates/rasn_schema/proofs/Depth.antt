@@ -7,16 +7,17 @@ use Rattle.rasn_types.specs.declared.types.codec.Codec.{Codec}
 use Rattle.rasn_types.specs.declared.types.tag.Tag.{Tag}
 use Rattle.rasn_types.specs.Tags.{IsStrict, form}
 use Rattle.rasn_types.specs.Shapes.Parts.{none}
-use Rattle.rasn_types.specs.Shapes.{Tree, Shape, choice, own, looked_for, IsFirst, presences, Presence, required, optional, addition, default}
-use Rattle.rasn_types.specs.Readings.{Reading, ReadsContents, definite_form, indefinite_form, ReadsMany, ReadsFrom, ReadsOptional, ReadsPart, ReadsInOrder, AllMissing, presences_in, HasRequired, AreAllLeftOut, ReadsSeq, ReadsChoice, ByPart, ReadsSet}
+use Rattle.rasn_types.specs.Shapes.{Tree, absent, Shape, choice, own, looked_for, IsFirst, Key, own_tag, first_tags, presences, Presence, required, addition, optional_by, default_by, Sought, one_tag, sought_by, sought_in}
+use Rattle.rasn_types.specs.Readings.{Reading, ReadsContents, definite_form, indefinite_form, ReadsMany, ReadsFrom, ReadsOptional, IsNoDefault, ReadsPart, ReadsInOrder, AllMissing, presences_in, HasRequired, AreAllLeftOut, ReadsSeq, ReadsChoice, ByPart, ReadsSet}
 use Rattle.rasn_types.specs.Grammar.{Reads, parts_of, ReadsList, ReadsSetOf}
 use Rattle.rasn_schema.specs.declared.types.«Type».{«Type»}
 use Rattle.rasn_schema.specs.declared.types.«Type».TheVariants.{Leaf, Enumerated, Any, Tagged, Choice, Sequence, Set, SequenceOf, SetOf}
 use Rattle.rasn_schema.specs.declared.types.Component.{Component}
 use Rattle.rasn_schema.specs.declared.types.Alternative.{Alternative}
-use Rattle.rasn_schema.specs.Shapes.{found_by, type_by, alternatives_by, components_by, presence_of, tag_at, shape_of_type}
+use Rattle.rasn_schema.specs.Shapes.{found_by, type_by, alternatives_by, components_by, key_of, presence_by, tag_at, shape_of_type}
 use Rattle.rasn_schema.specs.Schemas.{IsSchema}
 use Rattle.rasn_schema.specs.Depth.{AreDeep, AreReadAlike}
+use Rattle.rasn_schema.proofs.Presences.{missing_by, no_default_by, required_by}
 use Rattle.rasn_schema.proofs.TypeShapes.{own_is, shape_none}
 use Rattle.rasn_schema.proofs.Schemas.{AreBefore, IsBehindOwn, all_before, settled, none_first, schema_lawful}
 
@@ -46,39 +47,64 @@ set_of_in : (reads wide : Reading Tree) → IsIn reads wide → (rule : Codec) (
 set_of_in reads wide into rule size closing input t rest (ts, e, a, r, o) =
     (ts, e, a, many_in reads wide into closing input ts rest r, (λ s. let (bs, f, g) = o s in (bs, from_in reads wide into input ts rest bs f, g)))
 
-perhaps_in : (tag : Option Tag) (without : Tree) (reads wide : Reading Tree) → IsIn reads wide → (rule : Codec) (closing : Bool)
-    → IsIn (ReadsOptional (form rule) tag without reads closing) (ReadsOptional (form rule) tag without wide closing)
-perhaps_in tag without reads wide into rule closing input t rest (inl h) = inl h
-perhaps_in tag without reads wide into rule closing input t rest (inr (p, r)) = inr (p, into input t rest r)
+perhaps_in : (tags : Sought) (without : Tree) (reads wide : Reading Tree) → IsIn reads wide → (rule : Codec) (closing : Bool)
+    → IsIn (ReadsOptional (form rule) tags without reads closing) (ReadsOptional (form rule) tags without wide closing)
+perhaps_in tags without reads wide into rule closing input t rest (inl h) = inl h
+perhaps_in tags without reads wide into rule closing input t rest (inr (p, r)) = inr (p, into input t rest r)
 
-part_in : (p : Presence) (tag : Option Tag) (reads wide : Reading Tree) → IsIn reads wide → (rule : Codec) (closing : Bool) → IsIn (ReadsPart rule p tag reads closing) (ReadsPart rule p tag wide closing)
-part_in required tag reads wide into rule closing = into
-part_in addition tag reads wide into rule closing = into
-part_in optional tag reads wide into rule closing = perhaps_in tag _ reads wide into rule closing
-part_in (default d) tag reads wide into rule closing = perhaps_in tag d _ _ (λ input t rest (r, s). (into input t rest r, s)) rule closing
+part_in : (p : Presence) (tags : Sought) (reads wide : Reading Tree) → IsIn reads wide → (rule : Codec) (closing : Bool) → IsIn (ReadsPart rule p tags reads closing) (ReadsPart rule p tags wide closing)
+part_in required tags reads wide into rule closing = into
+part_in addition tags reads wide into rule closing = into
+part_in (optional_by key) tags reads wide into rule closing = perhaps_in tags _ reads wide into rule closing
+part_in (default_by key d) tags reads wide into rule closing = perhaps_in tags d _ _ (λ input t rest (r, s). (into input t rest r, s)) rule closing
+
+-- ---- what a component is recognized by
+
+-- The shapes begin with the same tags.
+record Begins (s u : Shape) : Type 0 where
+  owns : own s ≡ own u
+  firsts : (n : Tag) → IsFirst s n → IsFirst u n
+  back : (n : Tag) → IsFirst u n → IsFirst s n
+
+perhaps_moved : (key : Key) (s u : Shape) → Begins s u → (without : Tree) (reads : Reading Tree) (rule : Codec) (closing : Bool)
+    → IsIn (ReadsOptional (form rule) (sought_by key s) without reads closing) (ReadsOptional (form rule) (sought_by key u) without reads closing)
+perhaps_moved own_tag s u b without reads rule closing input t rest h = subst (λ o. ReadsOptional (form rule) (one_tag o) without reads closing input t rest) b.owns h
+perhaps_moved first_tags s u b without reads rule closing input t rest (inl (inl e, h, k)) = inl (inl e, h, k)
+perhaps_moved first_tags s u b without reads rule closing input t rest (inl (inr (n, next, other), h, k)) = inl (inr (n, next, λ f. other (b.back n f)), h, k)
+perhaps_moved first_tags s u b without reads rule closing input t rest (inr ((more, n, next, first), h)) = inr ((more, n, next, b.firsts n first), h)
+
+part_moved : (p : Presence) (s u : Shape) → Begins s u → (reads : Reading Tree) (rule : Codec) (closing : Bool)
+    → IsIn (ReadsPart rule p (sought_in p s) reads closing) (ReadsPart rule p (sought_in p u) reads closing)
+part_moved required s u b reads rule closing input t rest h = h
+part_moved addition s u b reads rule closing input t rest h = h
+part_moved (optional_by key) s u b reads rule closing input t rest h = perhaps_moved key s u b absent reads rule closing input t rest h
+part_moved (default_by key d) s u b reads rule closing input t rest h =
+    perhaps_moved key s u b d (λ i x r. reads i x r × (IsStrict rule → IsNoDefault (default_by key d) x)) rule closing input t rest h
 
 -- ---- components and alternatives, whose types f and g give
 
 -- The types named here are read by g as by f.
 record Follows (f g : ℕ → Shape) (rule : Codec) (depth : ℕ) (k : ℕ) : Type 0 where
-  owns : own (f k) ≡ own (g k)
-  firsts : (n : Tag) → IsFirst (f k) n → IsFirst (g k) n
+  keys : key_of (f k) ≡ key_of (g k)
+  begins : Begins (f k) (g k)
   reads : (closing : Bool) → IsIn (Reads rule (f k) depth closing) (Reads rule (g k) depth closing)
 
 module _ (f g : ℕ → Shape) (rule : Codec) (depth : ℕ) (closing : Bool) where
-  same_presences : (ps : List Component) → presences (components_by f ps) ≡ presences (components_by g ps)
-  same_presences [] = refl
-  same_presences (p ∷ ps) = ap (λ l. presence_of p.presence ∷ l) (same_presences ps)
+  by_part : (ps : List Component) (n : ℕ) (readings ts : List Tree) → ByPart n (presences (components_by f ps)) readings ts → ByPart n (presences (components_by g ps)) readings ts
+  by_part [] n readings ts b = b
+  by_part (p ∷ ps) n readings ts (t, us, e, inl o, b) = (t, us, e, inl o, by_part ps (suc n) readings us b)
+  by_part (p ∷ ps) n readings ts (t, us, e, inr (o, m), b) =
+      (t, us, e, inr (o, missing_by (key_of (f p.type_id.0)) (key_of (g p.type_id.0)) p.presence t m), by_part ps (suc n) readings us b)
 
   all_missing : (ps : List Component) (ts : List Tree) → AllMissing (presences_in (parts_of rule (components_by f ps) depth closing)) ts → AllMissing (presences_in (parts_of rule (components_by g ps) depth closing)) ts
   unfolding parts_of
   all_missing [] ts h = h
-  all_missing (p ∷ ps) ts (t, us, e, m, h) = (t, us, e, m, all_missing ps us h)
+  all_missing (p ∷ ps) ts (t, us, e, m, h) = (t, us, e, missing_by (key_of (f p.type_id.0)) (key_of (g p.type_id.0)) p.presence t m, all_missing ps us h)
 
   has_required : (ps : List Component) → HasRequired (parts_of rule (components_by f ps) depth closing) → HasRequired (parts_of rule (components_by g ps) depth closing)
   unfolding parts_of
   has_required [] h = h
-  has_required (p ∷ ps) (inl h) = inl h
+  has_required (p ∷ ps) (inl h) = inl (required_by (key_of (f p.type_id.0)) (key_of (g p.type_id.0)) p.presence h)
   has_required (p ∷ ps) (inr h) = inr (has_required ps h)
 
 module _ (f g : ℕ → Shape) (rule : Codec) (depth : ℕ) (closing : Bool) (h : (k : ℕ) → Follows f g rule depth k) where
@@ -88,9 +114,16 @@ module _ (f g : ℕ → Shape) (rule : Codec) (depth : ℕ) (closing : Bool) (h 
   in_order_in [] input ts rest r = r
   in_order_in (p ∷ ps) input ts rest (t, us, m, e, r, s) =
       let k = p.type_id.0 in
-      let moved : ReadsPart rule (presence_of p.presence) (own (f k)) (Reads rule (g k) depth closing) closing input t m =
-      part_in (presence_of p.presence) (own (f k)) (Reads rule (f k) depth closing) (Reads rule (g k) depth closing) ((h k).reads closing) rule closing input t m r in
-      (t, us, m, e, subst (λ o. ReadsPart rule (presence_of p.presence) o (Reads rule (g k) depth closing) closing input t m) (h k).owns moved, in_order_in ps m us rest s)
+      let q = presence_by (key_of (f k)) p.presence in
+      let read = part_in q (sought_in q (f k)) (Reads rule (f k) depth closing) (Reads rule (g k) depth closing) ((h k).reads closing) rule closing input t m r in
+      let moved = part_moved q (f k) (g k) (h k).begins (Reads rule (g k) depth closing) rule closing input t m read in (
+        t,
+        us,
+        m,
+        e,
+        subst (λ key. ReadsPart rule (presence_by key p.presence) (sought_in (presence_by key p.presence) (g k)) (Reads rule (g k) depth closing) closing input t m) (h k).keys moved,
+        in_order_in ps m us rest s,
+      )
 
   sequence_in : (ps : List Component) → IsIn (ReadsSeq rule (parts_of rule (components_by f ps) depth closing) closing) (ReadsSeq rule (parts_of rule (components_by g ps) depth closing) closing)
   sequence_in ps input t rest (ts, e, inl ((n, c, i), m, r)) = (ts, e, inl (((λ q. n (has_required g f rule depth closing ps q)), c, i), all_missing f g rule depth closing ps ts m, r))
@@ -101,7 +134,7 @@ module _ (f g : ℕ → Shape) (rule : Codec) (depth : ℕ) (closing : Bool) (h 
   component_in [] n input t rest r = r
   component_in (p ∷ ps) n input t rest (inl (u, e, next, a, b, r, s)) =
       let k = p.type_id.0 in
-      inl (u, e, next, a, (h k).firsts next b, (h k).reads closing input u rest r, s)
+      inl (u, e, next, a, (h k).begins.firsts next b, (h k).reads closing input u rest r, λ z. no_default_by (key_of (f k)) (key_of (g k)) p.presence u (s z))
   component_in (p ∷ ps) n input t rest (inr r) = inr (component_in ps (suc n) input t rest r)
 
   set_in : (ps : List Component) → IsIn (ReadsSet rule (presences (components_by f ps)) (ReadsChoice rule 0 (parts_of rule (components_by f ps) depth closing)) closing) (ReadsSet rule (presences (components_by g ps)) (ReadsChoice rule 0 (parts_of rule (components_by g ps) depth closing)) closing)
@@ -110,7 +143,7 @@ module _ (f g : ℕ → Shape) (rule : Codec) (depth : ℕ) (closing : Bool) (h 
     ts,
     e,
     many_in _ _ (component_in ps 0) closing input readings rest m,
-    subst (λ l. ByPart 0 l readings ts) (same_presences f g rule depth closing ps) b,
+    by_part f g rule depth closing ps 0 readings ts b,
     (λ s. let (bs, p, q) = o s in (bs, from_in _ _ (component_in ps 0) input readings rest bs p, q)),
   )
 
@@ -120,7 +153,7 @@ module _ (f g : ℕ → Shape) (rule : Codec) (depth : ℕ) (closing : Bool) (id
   alternative_in [] b n input t rest r = r
   alternative_in (a ∷ ks) b n input t rest (inl (u, e, next, p, q, r, s)) =
       let w = h a.type_id.0 b.0 in
-      inl (u, e, next, p, w.firsts next q, w.reads closing input u rest r, s)
+      inl (u, e, next, p, w.begins.firsts next q, w.reads closing input u rest r, s)
   alternative_in (a ∷ ks) b n input t rest (inr r) = inr (alternative_in ks b.1 (suc n) input t rest r)
 
 -- ---- types
@@ -146,6 +179,18 @@ module _ (f g : ℕ → Shape) (rule : Codec) (depth id : ℕ) (low : (k : ℕ) 
 
 -- ---- levels
 
+found_key : (f g : ℕ → Shape) (o : Option «Type») → key_of (found_by f o) ≡ key_of (found_by g o)
+found_key f g None = refl
+found_key f g (Some (Leaf kind tag c names)) = refl
+found_key f g (Some (Enumerated tag ns)) = refl
+found_key f g (Some (Any tag)) = refl
+found_key f g (Some (Tagged tag k)) = refl
+found_key f g (Some (Choice name ks)) = refl
+found_key f g (Some (Sequence tag ps)) = refl
+found_key f g (Some (Set name tag ps)) = refl
+found_key f g (Some (SequenceOf tag k c)) = refl
+found_key f g (Some (SetOf tag k c)) = refl
+
 -- The type with a number is followed deep enough for so many values in one another.
 abbrev IsDeep : List «Type» → ℕ → ℕ → ℕ → Type 0
 IsDeep types depth k levels = depth * suc (length types) + k < levels
@@ -170,13 +215,21 @@ module _ (types : List «Type») (w : IsSchema types) (rule : Codec) where
 
   none_follows : (i j depth k : ℕ) → None ≡ slice_get types k → Follows (shape_of_type types i) (shape_of_type types j) rule depth k
   none_follows i j depth k e = record {
-    owns = sym (ap own (absent_at i k e)) ∙ ap own (absent_at j k e);
-    firsts = λ n a. subst (λ s. IsFirst s n) (sym (absent_at i k e) ∙ absent_at j k e) a;
+    keys = sym (ap key_of (absent_at i k e)) ∙ ap key_of (absent_at j k e);
+    begins = record {
+      owns = sym (ap own (absent_at i k e)) ∙ ap own (absent_at j k e);
+      firsts = λ n a. subst (λ s. IsFirst s n) (sym (absent_at i k e) ∙ absent_at j k e) a;
+      back = λ n a. subst (λ s. IsFirst s n) (sym (absent_at j k e) ∙ absent_at i k e) a;
+    };
     reads = λ c input t rest r. subst (λ s. Reads rule s depth c input t rest) (sym (absent_at i k e) ∙ absent_at j k e) r;
   }
 
   own_alike : (i j k : ℕ) → own (shape_of_type types i k) ≡ own (shape_of_type types j k)
   own_alike i j k = own_is types i k (schema_lawful types w i k) ∙ sym (own_is types j k (schema_lawful types w j k))
+
+  keys_alike : (i j k : ℕ) → key_of (shape_of_type types (suc i) k) ≡ key_of (shape_of_type types (suc j) k)
+  unfolding shape_of_type
+  keys_alike i j k = found_key (shape_of_type types i) (shape_of_type types j) (slice_get types k)
 
   firsts_alike : (i b k : ℕ) → k ≤ b → (n : Tag) → IsFirst (shape_of_type types i k) n → IsFirst (shape_of_type types (suc b) k) n
   firsts_alike i b k l n a = settled types (all_before types w) n b k i l a
@@ -204,8 +257,12 @@ module _ (types : List «Type») (w : IsSchema types) (rule : Codec) where
 
     one_further : Follows (shape_of_type types (suc i)) (shape_of_type types (suc j)) rule depth k
     one_further = record {
-      owns = own_alike (suc i) (suc j) k;
-      firsts = firsts_alike (suc i) j k (omega (arith, b));
+      keys = keys_alike i j k;
+      begins = record {
+        owns = own_alike (suc i) (suc j) k;
+        firsts = firsts_alike (suc i) j k (omega (arith, b));
+        back = firsts_alike (suc j) i k (omega (arith, a));
+      };
       reads = reads_alike;
     }
 

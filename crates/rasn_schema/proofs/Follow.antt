@@ -1,14 +1,17 @@
 -- Which components may follow one that is absent.
 use Rattle.std.proofs.Common.{◌≡◌, ◌≢◌, ◌⊎◌, inl, inr, ℕ, zero, suc, ◌<◌, List, Some, None, refl, sym, subst, ◌∙◌, arith}
-use Rattle.std.specs.Prelude.{slice_get, length, ◌+◌}
+use Rattle.std.specs.Prelude.{slice_get, length, ◌+◌, Bool, true, false, Option, MatchOption}
+use Rattle.rasn_schema.specs.declared.error.SchemaError.{SchemaError}
 use Rattle.rasn_types.specs.declared.types.tag.Tag.{Tag}
 use Rattle.rasn_types.specs.Tags.{eoc}
 use Rattle.rasn_types.specs.Shapes.{Shape, IsFirst, looked_for}
+use Rattle.rasn_types.specs.Lawful.{HasTag}
+use Rattle.rasn_types.specs.Truth.{IsWhether}
 use Rattle.rasn_schema.specs.declared.types.Component.{Component}
 use Rattle.rasn_schema.specs.declared.types.«Type».{«Type»}
 use Rattle.rasn_schema.specs.Shapes.{presence_of, tag_at}
 use Rattle.rasn_schema.specs.FirstTags.{IsAlwaysThere}
-use Rattle.rasn_schema.specs.Schemas.{MayFollow, IsToldFrom, own_at}
+use Rattle.rasn_schema.specs.Schemas.{AreDistinct, MayFollow, IsRecognizable, IsToldFrom, own_at}
 use Rattle.rasn_schema.proofs.Lists.{SoFar, some_is}
 use Rattle.rasn_schema.proofs.TypeShapes.{looked}
 
@@ -23,23 +26,23 @@ compare (suc a) (suc b) = up (compare a b)
     up (inr (inl h)) = inr (inl (omega (arith, h)))
     up (inr (inr h)) = inr (inr (omega (arith, h)))
 
-module _ (f : ℕ → Shape) (tag : Tag) (ps : List Component) (index : ℕ) where
+module _ (f : ℕ → Shape) (Q : Shape → Type 0) (ps : List Component) (index : ℕ) where
   abbrev Passed : ℕ → Component → Type 0
-  Passed j q = index < j → (IsFirst (f q.type_id.0) tag → ⊥) × (IsAlwaysThere (presence_of q.presence) → ⊥)
+  Passed j q = index < j → Q (f q.type_id.0) × (IsAlwaysThere (presence_of q.presence) → ⊥)
 
   pub may_follow : (other : ℕ) → index < other → SoFar Passed ps other → MayFollow ps index other
   may_follow other l s = (l, λ m p i u e a. (s m p u e i).1 a)
 
   -- Nothing may follow a component that can't be absent.
-  pub stopped : (other : ℕ) (x : Component) → Some x ≡ slice_get ps other → index < other → SoFar Passed ps other → (IsFirst (f x.type_id.0) tag → ⊥) → IsAlwaysThere (presence_of x.presence)
-      → (j : ℕ) (q : Component) → MayFollow ps index j → Some q ≡ slice_get ps j → IsFirst (f q.type_id.0) tag → ⊥
-  stopped other x e l s n a j q m g h = go (compare j other)
+  pub stopped : (other : ℕ) (x : Component) → Some x ≡ slice_get ps other → index < other → SoFar Passed ps other → Q (f x.type_id.0) → IsAlwaysThere (presence_of x.presence)
+      → (j : ℕ) (q : Component) → MayFollow ps index j → Some q ≡ slice_get ps j → Q (f q.type_id.0)
+  stopped other x e l s n a j q m g = go (compare j other)
     where
-      go : (j < other) ⊎ ((j ≡ other) ⊎ (other < j)) → ⊥
-      go (inl u) = (s j q u g m.0).0 h
+      go : (j < other) ⊎ ((j ≡ other) ⊎ (other < j)) → Q (f q.type_id.0)
+      go (inl u) = (s j q u g m.0).0
       go (inr (inl u)) = let k : Some q ≡ slice_get ps other = subst (λ i. Some q ≡ slice_get ps i) u g in
-          n (subst (λ (y : Component). IsFirst (f y.type_id.0) tag) (some_is q x (k ∙ sym e)) h)
-      go (inr (inr u)) = m.1 other x l u e a
+          subst (λ (y : Component). Q (f y.type_id.0)) (sym (some_is q x (k ∙ sym e))) n
+      go (inr (inr u)) = absurd (m.1 other x l u e a)
 
 -- what a component without a tag of its own is distinguished from
 module _ (types : List «Type») where
@@ -50,11 +53,25 @@ module _ (types : List «Type») where
   own_some k tag e n = looked tag n ∙ subst (λ t. looked_for tag ≡ looked_for t) e refl
 
   -- nothing follows the last component
-  pub last_told : (k : ℕ) (f : ℕ → Shape) (ps : List Component) (i j : ℕ) (q : Component) → length ps < i + 2 → Some q ≡ slice_get ps j → MayFollow ps i j → IsToldFrom (own_at types k) (f q.type_id.0)
-  last_told k f ps i j q l e m = let n : j < length ps = Rattle.std.proofs.lemmas.Option.slice_get_within ps j q (sym e) in let h = m.0 in absurd (omega (arith, l, n, h))
+  pub none_after : {A : Type 0} (ps : List Component) (i j : ℕ) (q : Component) → length ps < i + 2 → Some q ≡ slice_get ps j → MayFollow ps i j → A
+  none_after ps i j q l e m = let n : j < length ps = Rattle.std.proofs.lemmas.Option.slice_get_within ps j q (sym e) in let h = m.0 in absurd (omega (arith, l, n, h))
 
-  pub told : (k : ℕ) (tag : Tag) (s : Shape) → Some tag ≡ own_at types k → (IsFirst s tag → ⊥) → IsToldFrom (own_at types k) s
-  told k tag s e n = subst (λ o. IsToldFrom o s) e n
+  pub told : (k : ℕ) (tag : Tag) (p s : Shape) → Some tag ≡ own_at types k → (IsFirst s tag → ⊥) → IsToldFrom (own_at types k) p s
+  told k tag p s e n = subst (λ o. IsToldFrom o p s) e n
 
-  pub untold : (k : ℕ) (tag : Tag) (s : Shape) → Some tag ≡ own_at types k → IsFirst s tag → IsToldFrom (own_at types k) s → ⊥
-  untold k tag s e h t = subst (λ o. IsToldFrom o s) (sym e) t h
+  pub untold : (k : ℕ) (tag : Tag) (p s : Shape) → Some tag ≡ own_at types k → IsFirst s tag → IsToldFrom (own_at types k) p s → ⊥
+  untold k tag p s e h t = subst (λ o. IsToldFrom o p s) (sym e) t h
+
+  -- the same of a component that is recognized by its first tags
+  pub untagged_fault_is : (A : Type 0) (i k : ℕ) (f : ℕ → Shape) (ps : List Component) (r : Option SchemaError) (P : SchemaError → Type 0) → own_at types k ≡ None
+      → MatchOption r ((j : ℕ) (q : Component) → Some q ≡ slice_get ps j → MayFollow ps i j → IsToldFrom None (f k) (f q.type_id.0)) P
+      → MatchOption r ((j : ℕ) (q : Component) → Some q ≡ slice_get ps j → A → MayFollow ps i j → IsToldFrom (own_at types k) (f k) (f q.type_id.0)) P
+  untagged_fault_is A i k f ps None P e h = λ j q g a m. subst (λ o. IsToldFrom o (f k) (f q.type_id.0)) (sym e) (h j q g m)
+  untagged_fault_is A i k f ps (Some x) P e h = h
+
+  pub untold_by_firsts : (k : ℕ) (p s : Shape) → own_at types k ≡ None → (AreDistinct p s → ⊥) → IsToldFrom (own_at types k) p s → ⊥
+  untold_by_firsts k p s e n t = n (subst (λ o. IsToldFrom o p s) e t).1
+
+pub recognizable : (s : Shape) (b : Bool) → HasTag s → IsWhether b ((n : Tag) × IsFirst s n) → IsWhether b (IsRecognizable s)
+recognizable s true h (n, f) = (h, λ none. none n f)
+recognizable s false h none = λ r. r.1 (λ n f. none (n, f))

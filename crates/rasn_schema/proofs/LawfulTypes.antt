@@ -11,7 +11,7 @@ use Rattle.rasn_schema.specs.declared.types.«Type».{«Type»}
 use Rattle.rasn_schema.specs.declared.types.«Type».TheVariants.{Leaf, Enumerated, Any, Tagged, Choice, Sequence, Set, SequenceOf, SetOf}
 use Rattle.rasn_schema.specs.declared.types.Component.{Component}
 use Rattle.rasn_schema.specs.declared.types.Alternative.{Alternative}
-use Rattle.rasn_schema.specs.Shapes.{nothing, found_by, type_by, alternatives_by, components_by, presence_of, tag_at, shape_of_type}
+use Rattle.rasn_schema.specs.Shapes.{nothing, found_by, type_by, alternatives_by, components_by, key_of, presence_by, tag_at, shape_of_type}
 use Rattle.rasn_schema.specs.FirstTags.{EachFirst, EachFirstOf}
 use Rattle.rasn_schema.proofs.TypeShapes.{not_eoc}
 
@@ -120,7 +120,7 @@ module _ (f : ℕ → Shape) where
   InOrder ps = AreLawfulInOrder (components_by f ps)
 
   abbrev pub OneInOrder : Component → List Component → Type 0
-  OneInOrder p ps = IsAlwaysPresent (f p.type_id.0) × IsLawful (f p.type_id.0) × MayBeLeftOut (presence_of p.presence) (own (f p.type_id.0)) (components_by f ps)
+  OneInOrder p ps = IsAlwaysPresent (f p.type_id.0) × IsLawful (f p.type_id.0) × MayBeLeftOut (presence_by (key_of (f p.type_id.0)) p.presence) (f p.type_id.0) (components_by f ps)
 
   pub cut_in_order : (p : Component) (ps : List Component) → InOrder (p ∷ ps) → OneInOrder p ps × InOrder ps
   unfolding IsLawful
@@ -139,7 +139,7 @@ module _ (f : ℕ → Shape) where
   ByTag ps = AreLawfulByTag (components_by f ps)
 
   abbrev pub OneByTag : Component → List Component → Type 0
-  OneByTag p ps = (presence_of p.presence ≢ addition) × HasTag (f p.type_id.0) × IsAlwaysPresent (f p.type_id.0) × IsLawful (f p.type_id.0)
+  OneByTag p ps = (presence_by (key_of (f p.type_id.0)) p.presence ≢ addition) × HasTag (f p.type_id.0) × IsAlwaysPresent (f p.type_id.0) × IsLawful (f p.type_id.0)
       × EachFirst (f p.type_id.0) (λ m. EachFirstOf (components_by f ps) (λ n. IsTagBelow m n))
 
   pub cut_by_tag : (p : Component) (ps : List Component) → ByTag (p ∷ ps) → OneByTag p ps × ByTag ps

@@ -10,6 +10,7 @@ pub mod Follow
 pub mod OtherKinds
 pub mod EqualLists
 pub mod NamedTypes
+pub mod Presences
 pub mod Depth
 pub mod Clash
 pub mod Fitted

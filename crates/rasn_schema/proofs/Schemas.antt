@@ -1,20 +1,23 @@
 -- A schema is lawful as deep as it is read.
-use Rattle.std.proofs.Common.{◌≡◌, ℕ, zero, suc, ◌<◌, ◌≤◌, inl, inr, Bool, true, false, List, [], ◌∷◌, length, Option, Some, None, refl, sym, subst, arith}
+use Rattle.std.proofs.Common.{◌≡◌, ◌≢◌, ◌∙◌, ℕ, zero, suc, ◌<◌, ◌≤◌, inl, inr, Bool, true, false, List, [], ◌∷◌, length, Option, Some, None, refl, sym, subst, arith}
 use Rattle.std.specs.Prelude.{slice_get}
 use Rattle.std.proofs.lemmas.Option.{slice_get_within}
 use Rattle.rasn_types.specs.declared.types.tag.Tag.{Tag}
-use Rattle.rasn_types.specs.Tags.{is_eoc, IsTagBelow}
+use Rattle.rasn_types.specs.Tags.{eoc, is_eoc, IsTagBelow}
 use Rattle.rasn_types.specs.Shapes.Parts.{none}
-use Rattle.rasn_types.specs.Shapes.{Shape, any, choice, part, looked_for, IsTagOf, IsFirst, IsFirstOf, Presence, required, optional, addition, default}
-use Rattle.rasn_types.specs.Lawful.{IsLawful, HasTag, IsFirstBehind, MayBeLeftOut, IsDistinguished, AreLawfulInOrder, AreLawfulByTag}
+use Rattle.rasn_types.specs.Shapes.{Shape, leaf, any, prefix, choice, option, seq, set, list, set_of, part, own, looked_for, IsTagOf, IsFirst, IsFirstOf, Key, own_tag, first_tags, Presence, required, addition, optional_by, default_by}
+use Rattle.rasn_types.specs.Lawful.{IsLawful, HasTag, IsFirstBehind, MayBeLeftOut, IsDistinguished, IsRecognized, AreLawfulInOrder, AreLawfulByTag}
 use Rattle.rasn_schema.specs.declared.types.«Type».{«Type»}
 use Rattle.rasn_schema.specs.declared.types.«Type».TheVariants.{Leaf, Enumerated, Any, Tagged, Choice, Sequence, Set, SequenceOf, SetOf}
 use Rattle.rasn_schema.specs.declared.types.Component.{Component}
+use Rattle.rasn_schema.specs.declared.types.Presence.{Presence as ComponentPresence}
+use Rattle.rasn_schema.specs.declared.types.Presence.TheVariants.{Required, Optional, Addition, Default}
 use Rattle.rasn_schema.specs.declared.types.Alternative.{Alternative}
-use Rattle.rasn_schema.specs.Shapes.{nothing, found_by, type_by, alternatives_by, components_by, presence_of, tag_at, tag_found, shape_of_type}
+use Rattle.rasn_schema.specs.Shapes.{nothing, found_by, type_by, alternatives_by, components_by, key_of, presence_by, presence_of, tag_at, tag_found, shape_of_type}
 use Rattle.rasn_schema.specs.FirstTags.{EachFirst, EachFirstOf, IsAlwaysThere}
 use Rattle.rasn_schema.specs.Schemas.{AreLowerAndTagged, AreDistinctAlternatives, MayFollow, IsToldFrom, AreToldInOrder, AreTagged, AreInOrderOfTags, IsWellFormed, IsSchema, own_at, begin_at}
-use Rattle.rasn_schema.proofs.TypeShapes.{own_is}
+use Rattle.rasn_schema.proofs.Presences.{always_by, no_addition_by}
+use Rattle.rasn_schema.proofs.TypeShapes.{looked, own_is}
 use Rattle.rasn_schema.proofs.LawfulTypes.{is_present, cut_lawful, none_lawful, open_lawful, put_alternative, put_in_order, put_by_tag, none_in_order, none_by_tag}
 
 -- ---- how a type begins at one depth, and at another
@@ -161,18 +164,21 @@ module _ (f : ℕ → Shape) where
       → ((j : ℕ) (q : Component) → Some q ≡ slice_get ps j → ((m : ℕ) (p : Component) → m < j → Some p ≡ slice_get ps m → IsAlwaysThere (presence_of p.presence) → ⊥) → IsFirst (f q.type_id.0) tag → ⊥)
       → IsFirstBehind (components_by f ps) tag → ⊥
   none_behind tag [] h a = a
-  none_behind tag (p ∷ ps) h a = go (presence_of p.presence) refl (λ l. none_behind tag ps (λ j q g n. h (suc j) q g (apart p ps j l n))) a
+  none_behind tag (p ∷ ps) h a = go (presence_by (key_of (f p.type_id.0)) p.presence) refl (λ l. none_behind tag ps (λ j q g n. h (suc j) q g (apart p ps j l n))) a
     where
+      as_of : IsAlwaysThere (presence_of p.presence) → IsAlwaysThere (presence_by (key_of (f p.type_id.0)) p.presence)
+      as_of k = always_by own_tag (key_of (f p.type_id.0)) p.presence k
+
       here : IsFirst (f p.type_id.0) tag → ⊥
       here b = h 0 p refl (λ m q l. absurd (omega (arith, l))) b
 
-      go : (r : Presence) → presence_of p.presence ≡ r → ((IsAlwaysThere (presence_of p.presence) → ⊥) → IsFirstBehind (components_by f ps) tag → ⊥) → IsFirstBehind (part r (f p.type_id.0) (components_by f ps)) tag → ⊥
+      go : (r : Presence) → presence_by (key_of (f p.type_id.0)) p.presence ≡ r → ((IsAlwaysThere (presence_of p.presence) → ⊥) → IsFirstBehind (components_by f ps) tag → ⊥) → IsFirstBehind (part r (f p.type_id.0) (components_by f ps)) tag → ⊥
       go required e later b = here b
       go addition e later b = here b
-      go optional e later (inl b) = here b
-      go optional e later (inr b) = later (λ k. subst IsAlwaysThere e k) b
-      go (default d) e later (inl b) = here b
-      go (default d) e later (inr b) = later (λ k. subst IsAlwaysThere e k) b
+      go (optional_by key) e later (inl b) = here b
+      go (optional_by key) e later (inr b) = later (λ k. subst IsAlwaysThere e (as_of k)) b
+      go (default_by key d) e later (inl b) = here b
+      go (default_by key d) e later (inr b) = later (λ k. subst IsAlwaysThere e (as_of k)) b
 
 -- the same of a component after another one
 follow_later : (p : Component) (ps : List Component) (i j : ℕ) → MayFollow ps i j → MayFollow (p ∷ ps) (suc i) (suc j)
@@ -199,33 +205,96 @@ module _ (types : List «Type») (i : ℕ) (w : IsSchema types) (lawful : (k : �
       (has_tag_at types i k.type_id.0 (t 0 k refl).1, is_present types i k.type_id.0, lawful k.type_id.0, λ n a. none_begins (shape_of_type types i) n ks (λ j l e b. d 0 (suc j) k l (omega arith) refl e n (firsts n k.type_id.0 a) (firsts n l.type_id.0 b)))
       (alternatives_lawful id ks (λ j l e. t (suc j) l e) (λ j m a b l e g. d (suc j) (suc m) a b (omega (arith, l)) e g))
 
-  module _ (p : Component) (ps : List Component) (t : AreToldInOrder (own_at types) (begin_at types) (p ∷ ps)) where
-    told_from : (o : Option Tag) → own_at types p.type_id.0 ≡ o → (IsAlwaysThere (presence_of p.presence) → ⊥) → IsDistinguished o (components_by (shape_of_type types i) ps)
-    told_from (Some tag) e a = none_behind (shape_of_type types i) tag ps
-        (λ j q g n b. subst (λ o. IsToldFrom o (begin_at types q.type_id.0)) e (t 0 (suc j) p q refl g a (follow_first p ps j n)) (firsts tag q.type_id.0 b))
-    told_from None e a = go ps refl
+  -- A type without a tag of its own, and which isn't a CHOICE, is an open type.
+  untagged_open : (k : ℕ) → key_of (shape_of_type types i k) ≡ own_tag → own_at types k ≡ None → HasTag (begin_at types k) → ⊥
+  unfolding shape_of_type
+  untagged_open k e n h = by_levels i e
+    where
+      by_type : (f g : ℕ → Shape) (o : Option «Type») → slice_get types k ≡ o → key_of (found_by f o) ≡ own_tag → looked_for (tag_found o) ≡ None → HasTag (found_by g o) → ⊥
+      by_type f g None q e n h = cc
+      by_type f g (Some (Leaf kind tag c names)) q e n h = let l = looked tag (w.0 k (Leaf kind tag c names) (sym q)).0 in cc
+      by_type f g (Some (Enumerated tag ns)) q e n h = let l = looked tag (w.0 k (Enumerated tag ns) (sym q)).0 in cc
+      by_type f g (Some (Any tag)) q e n h = subst (λ o. HasTag (any o)) n h
+      by_type f g (Some (Tagged tag j)) q e n h = let l = looked tag (w.0 k (Tagged tag j) (sym q)).0 in cc
+      by_type f g (Some (Choice name ks)) q e n h = cc
+      by_type f g (Some (Sequence tag ps)) q e n h = let l = looked tag (w.0 k (Sequence tag ps) (sym q)).0 in cc
+      by_type f g (Some (Set name tag ps)) q e n h = let l = looked tag (w.0 k (Set name tag ps) (sym q)).0 in cc
+      by_type f g (Some (SequenceOf tag j c)) q e n h = let l = looked tag (w.0 k (SequenceOf tag j c) (sym q)) in cc
+      by_type f g (Some (SetOf tag j c)) q e n h = let l = looked tag (w.0 k (SetOf tag j c) (sym q)) in cc
+
+      by_levels : (i : ℕ) → key_of (shape_of_type types i k) ≡ own_tag → ⊥
+      by_levels zero e = let f : key_of (nothing None) ≡ own_tag = subst (λ o. key_of (nothing o) ≡ own_tag) n e in cc
+      by_levels (suc i) e = by_type (shape_of_type types i) (shape_of_type types (length types)) (slice_get types k) refl e n h
+
+  choice_own : (s : Shape) → key_of s ≡ first_tags → (own s ≡ None) × HasTag s
+  choice_own (leaf kind tag c) e = cc
+  choice_own (any tag) e = cc
+  choice_own (prefix tag s) e = cc
+  choice_own (choice ps) e = (refl, tt)
+  choice_own (option tag s) e = cc
+  choice_own (seq tag ps) e = cc
+  choice_own (set tag ps) e = cc
+  choice_own (list tag s c) e = cc
+  choice_own (set_of tag s c) e = cc
+
+  module _ (p : Component) (ps : List Component) (t : AreToldInOrder (own_at types) (begin_at types) (p ∷ ps)) (a : IsAlwaysThere (presence_of p.presence) → ⊥) where
+    -- The next component may follow.
+    next_told : (q : Component) (qs : List Component) → ps ≡ q ∷ qs → IsToldFrom (own_at types p.type_id.0) (begin_at types p.type_id.0) (begin_at types q.type_id.0)
+    next_told q qs f = t 0 1 p q refl (subst (λ l. Some q ≡ slice_get l 0) (sym f) refl) a (follow_first p ps 0 (λ m r l. absurd (omega (arith, l))))
+
+    told_by_own : (o : Option Tag) → own_at types p.type_id.0 ≡ o → key_of (shape_of_type types i p.type_id.0) ≡ own_tag → IsDistinguished o (components_by (shape_of_type types i) ps)
+    told_by_own (Some tag) e k = none_behind (shape_of_type types i) tag ps
+        (λ j q g n b. subst (λ o. IsToldFrom o (begin_at types p.type_id.0) (begin_at types q.type_id.0)) e (t 0 (suc j) p q refl g a (follow_first p ps j n)) (firsts tag q.type_id.0 b))
+    told_by_own None e k = go ps refl
       where
         go : (qs : List Component) → ps ≡ qs → components_by (shape_of_type types i) qs ≡ none
         go [] f = refl
-        go (q ∷ qs) f = absurd (subst (λ o. IsToldFrom o (begin_at types q.type_id.0)) e
-            (t 0 1 p q refl (subst (λ l. Some q ≡ slice_get l 0) (sym f) refl) a (follow_first p ps 0 (λ m r l. absurd (omega (arith, l))))))
+        go (q ∷ qs) f =
+            let r : IsToldFrom None (begin_at types p.type_id.0) (begin_at types q.type_id.0) =
+            subst (λ o. IsToldFrom o (begin_at types p.type_id.0) (begin_at types q.type_id.0)) e (next_told q qs f) in
+            absurd (untagged_open p.type_id.0 k e r.0.0)
 
-    left_out : (r : Presence) → presence_of p.presence ≡ r → MayBeLeftOut r (own_at types p.type_id.0) (components_by (shape_of_type types i) ps)
-    left_out required e = tt
-    left_out addition e = tt
-    left_out optional e = told_from (own_at types p.type_id.0) refl (λ k. subst IsAlwaysThere e k)
-    left_out (default d) e = told_from (own_at types p.type_id.0) refl (λ k. subst IsAlwaysThere e k)
+    -- No component that may follow begins with a tag of the CHOICE.
+    apart_from : own_at types p.type_id.0 ≡ None → (n : Tag) → IsFirst (begin_at types p.type_id.0) n → IsFirstBehind (components_by (shape_of_type types i) ps) n → ⊥
+    apart_from e n b = none_behind (shape_of_type types i) n ps (λ j q g m c.
+        let r : IsToldFrom None (begin_at types p.type_id.0) (begin_at types q.type_id.0) =
+        subst (λ o. IsToldFrom o (begin_at types p.type_id.0) (begin_at types q.type_id.0)) e (t 0 (suc j) p q refl g a (follow_first p ps j m)) in
+        r.1 n b (firsts n q.type_id.0 c))
+
+    not_every : own_at types p.type_id.0 ≡ None → ((n : Tag) → IsFirstBehind (components_by (shape_of_type types i) ps) n) → ⊥
+    not_every e all = go ps refl
+      where
+        go : (qs : List Component) → ps ≡ qs → ⊥
+        go [] f = subst (λ l. IsFirstBehind (components_by (shape_of_type types i) l) eoc) f (all eoc)
+        go (q ∷ qs) f =
+            let r : IsToldFrom None (begin_at types p.type_id.0) (begin_at types q.type_id.0) =
+            subst (λ o. IsToldFrom o (begin_at types p.type_id.0) (begin_at types q.type_id.0)) e (next_told q qs f) in
+            r.0.1 (λ n b. apart_from e n b (all n))
+
+    recognized : (key : Key) → key_of (shape_of_type types i p.type_id.0) ≡ key → IsRecognized key (shape_of_type types i p.type_id.0) (components_by (shape_of_type types i) ps)
+    recognized own_tag e = subst (λ o. IsDistinguished o (components_by (shape_of_type types i) ps)) (sym (own_is types i p.type_id.0 (lawful p.type_id.0))) (told_by_own (own_at types p.type_id.0) refl e)
+    recognized first_tags e =
+        let c = choice_own (shape_of_type types i p.type_id.0) e in
+        let n : own_at types p.type_id.0 ≡ None = sym (own_is types i p.type_id.0 (lawful p.type_id.0)) ∙ c.0 in
+        (c.1, not_every n, λ m b. apart_from n m (firsts m p.type_id.0 b))
+
+  left_out : (p : Component) (ps : List Component) → AreToldInOrder (own_at types) (begin_at types) (p ∷ ps) → (key : Key) → key_of (shape_of_type types i p.type_id.0) ≡ key
+      → (r : ComponentPresence) → p.presence ≡ r → MayBeLeftOut (presence_by key r) (shape_of_type types i p.type_id.0) (components_by (shape_of_type types i) ps)
+  left_out p ps t key k Required e = tt
+  left_out p ps t key k Addition e = tt
+  left_out p ps t key k Optional e = recognized p ps t (λ a. subst (λ r. IsAlwaysThere (presence_of r)) e a) key k
+  left_out p ps t key k (Default v) e = recognized p ps t (λ a. subst (λ r. IsAlwaysThere (presence_of r)) e a) key k
 
   in_order_lawful : (ps : List Component) → AreToldInOrder (own_at types) (begin_at types) ps → AreLawfulInOrder (components_by (shape_of_type types i) ps)
   in_order_lawful [] t = none_in_order (shape_of_type types i)
   in_order_lawful (p ∷ ps) t = put_in_order (shape_of_type types i) p ps
-      (is_present types i p.type_id.0, lawful p.type_id.0, rw (own_is types i p.type_id.0 (lawful p.type_id.0)) (left_out p ps t (presence_of p.presence) refl))
+      (is_present types i p.type_id.0, lawful p.type_id.0, left_out p ps t (key_of (shape_of_type types i p.type_id.0)) refl p.presence refl)
       (in_order_lawful ps (λ j m q r d e a f. t (suc j) (suc m) q r d e a (follow_later p ps j m f)))
 
   by_tag_lawful : (ps : List Component) → AreTagged (begin_at types) ps → AreInOrderOfTags (begin_at types) ps → AreLawfulByTag (components_by (shape_of_type types i) ps)
   by_tag_lawful [] t d = none_by_tag (shape_of_type types i)
   by_tag_lawful (p ∷ ps) t d = put_by_tag (shape_of_type types i) p ps (
-    (t 0 p refl).0,
+    no_addition_by (key_of (shape_of_type types i p.type_id.0)) p.presence (t 0 p refl).0,
     has_tag_at types i p.type_id.0 (t 0 p refl).1,
     is_present types i p.type_id.0,
     lawful p.type_id.0,

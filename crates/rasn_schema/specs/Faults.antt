@@ -16,7 +16,7 @@ use Rattle.rasn_schema.specs.declared.error.SchemaError.TheVariants.{ReservedTag
 use Rattle.rasn_schema.specs.Shapes.{presence_of, kind_of}
 use Rattle.rasn_schema.specs.FirstTags.{IsAlwaysThere}
 use Rattle.rasn_schema.specs.Fitting.{Fits}
-use Rattle.rasn_schema.specs.Schemas.{IsPrefix, AreDistinct, IsBefore, MayFollow, IsToldFrom, HasUnfitDefault, own_at, begin_at}
+use Rattle.rasn_schema.specs.Schemas.{IsPrefix, AreDistinct, IsBefore, MayFollow, IsRecognizable, IsToldFrom, HasUnfitDefault, own_at, begin_at}
 
 -- The tag is universal 0.
 abbrev pub IsTagFault : ℕ → Tag → SchemaError → Type 0
@@ -49,12 +49,13 @@ IsAlternativesFault f id ks (UntaggedAlternative k i) = (k.0 ≡ id) × ((a : Al
 IsAlternativesFault f id ks (AlternativesClash k i j) = (k.0 ≡ id) × (i < j) × ((a b : Alternative) × (Some a ≡ slice_get ks i) × (Some b ≡ slice_get ks j) × (AreDistinct (f a.type_id.0) (f b.type_id.0) → ⊥))
 IsAlternativesFault f id ks _ = ⊥
 
--- Component i may be absent, and isn't distinguished from component j, which may follow then; or has no tag, and isn't the last.
+-- Component i may be absent, and isn't distinguished from component j, which may follow then; or no tag tells that it follows, and it isn't the last.
 abbrev pub IsSequenceFault : (ℕ → Option Tag) → (ℕ → Shape) → ℕ → Tag → List Component → SchemaError → Type 0
 IsSequenceFault own f id tag ps (ReservedTag k) = (k.0 ≡ id) × (tag ≡ eoc)
 IsSequenceFault own f id tag ps (ComponentsClash k i j) = (k.0 ≡ id) × MayFollow ps i j × ((p q : Component) × (Some p ≡ slice_get ps i) × (Some q ≡ slice_get ps j)
-    × (IsAlwaysThere (presence_of p.presence) → ⊥) × (IsToldFrom (own p.type_id.0) (f q.type_id.0) → ⊥))
-IsSequenceFault own f id tag ps (UntaggedComponent k i) = (k.0 ≡ id) × (i + 1 < length ps) × ((p : Component) × (Some p ≡ slice_get ps i) × (IsAlwaysThere (presence_of p.presence) → ⊥) × (own p.type_id.0 ≡ None))
+    × (IsAlwaysThere (presence_of p.presence) → ⊥) × (IsToldFrom (own p.type_id.0) (f p.type_id.0) (f q.type_id.0) → ⊥))
+IsSequenceFault own f id tag ps (UntaggedComponent k i) = (k.0 ≡ id) × (i + 1 < length ps) × ((p : Component) × (Some p ≡ slice_get ps i) × (IsAlwaysThere (presence_of p.presence) → ⊥) × (own p.type_id.0 ≡ None)
+    × (IsRecognizable (f p.type_id.0) → ⊥))
 IsSequenceFault own f id tag ps _ = ⊥
 
 -- Components i and j of a SET, which is after it, clash or aren't in order; or component i breaks another rule.

@@ -1,7 +1,7 @@
 -- The tags with which the values of a type may begin, one level deep.
 use Rattle.std.specs.Prelude.{◌≡◌, ◌≢◌, ℕ}
 use Rattle.rasn_types.specs.declared.types.tag.Tag.{Tag}
-use Rattle.rasn_types.specs.Shapes.{Shape, Parts, IsFirst, IsFirstOf, Presence, required, optional, addition, default}
+use Rattle.rasn_types.specs.Shapes.{Shape, Parts, IsFirst, IsFirstOf, Presence, required, addition, optional_by, default_by}
 use Rattle.rasn_schema.specs.declared.first_tags.FirstTags.{FirstTags}
 use Rattle.rasn_schema.specs.declared.first_tags.FirstTags.TheVariants.{Nothing, One, Every, Of}
 use Rattle.rasn_schema.specs.Shapes.{alternatives_by}
@@ -29,5 +29,5 @@ IsBelowSome levels _ = Unit {0}
 abbrev pub IsAlwaysThere : Presence → Type 0
 IsAlwaysThere required = Unit {0}
 IsAlwaysThere addition = Unit {0}
-IsAlwaysThere optional = ⊥
-IsAlwaysThere (default d) = ⊥
+IsAlwaysThere (optional_by key) = ⊥
+IsAlwaysThere (default_by key d) = ⊥

@@ -1,7 +1,7 @@
 -- Which values are values of a type.
 use Rattle.std.specs.Prelude.{◌≡◌, ◌⊎◌, ℕ, zero, suc, ℤ, List, [], ◌∷◌, length, Contains, Option, Some, None, slice_get}
 use Rattle.std.specs.Cow.{cow_slice_items}
-use Rattle.rasn_types.specs.Shapes.{IsIn, Tree, Same, Presence, required, optional, addition, default, absent}
+use Rattle.rasn_types.specs.Shapes.{IsIn, Tree, Same, Presence, required, addition, optional_by, default_by, absent}
 use Rattle.rasn_types.specs.Trees.{signed_range, unsigned_range}
 use Rattle.rasn_schema.specs.declared.types.Alternative.{Alternative}
 use Rattle.rasn_types.specs.declared.types.strings.alphabet.Alphabet.TheVariants.{Numeric as NumericAlphabet, Printable as PrintableAlphabet, Visible as VisibleAlphabet, Ia5 as Ia5Alphabet}
@@ -96,9 +96,9 @@ AlternativeFits g ks i w = (a : Alternative) × (Some a ≡ slice_get ks i) × g
 -- A component isn't written if its value means this.
 abbrev pub IsLeftOutAs : Presence → Tree → Type 0
 IsLeftOutAs required t = ⊥
-IsLeftOutAs optional t = t ≡ absent
+IsLeftOutAs (optional_by key) t = t ≡ absent
 IsLeftOutAs addition t = t ≡ absent
-IsLeftOutAs (default d) t = Same t d
+IsLeftOutAs (default_by key d) t = Same t d
 
 -- A component is absent or has its default's value, or it is a value of its type.
 abbrev pub ComponentFits : (ℕ → Value → Type 0) → Component → Value → Type 0

@@ -75,12 +75,12 @@ alternatives_prop f ks = each_prop _ (λ i. each_prop _ (λ j. each_prop _ (λ a
 numbers_prop : (ns : List NamedNumber) → IsProp (AreDistinctNumbers ns)
 numbers_prop ns = each_prop _ (λ i. each_prop _ (λ j. each_prop _ (λ m. each_prop _ (λ n. each_prop _ (λ h. each_prop _ (λ d. each_prop _ (λ e. not_prop (m.number ≡ n.number))))))))
 
-told_prop : (o : Option Tag) (s : Shape) → IsProp (IsToldFrom o s)
-told_prop None s = none_prop
-told_prop (Some tag) s = not_prop _
+told_prop : (o : Option Tag) (s t : Shape) → IsProp (IsToldFrom o s t)
+told_prop None s t = ×_prop (×_prop (has_tag_prop s) (not_prop _)) (distinct_prop s t)
+told_prop (Some tag) s t = not_prop _
 
 in_order_prop : (own : ℕ → Option Tag) (f : ℕ → Shape) (ps : List Component) → IsProp (AreToldInOrder own f ps)
-in_order_prop own f ps = each_prop _ (λ i. each_prop _ (λ j. each_prop _ (λ p. each_prop _ (λ q. each_prop _ (λ d. each_prop _ (λ e. each_prop _ (λ a. each_prop _ (λ m. told_prop (own p.type_id.0) (f q.type_id.0)))))))))
+in_order_prop own f ps = each_prop _ (λ i. each_prop _ (λ j. each_prop _ (λ p. each_prop _ (λ q. each_prop _ (λ d. each_prop _ (λ e. each_prop _ (λ a. each_prop _ (λ m. told_prop (own p.type_id.0) (f p.type_id.0) (f q.type_id.0)))))))))
 
 tagged_prop : (f : ℕ → Shape) (ps : List Component) → IsProp (AreTagged f ps)
 tagged_prop f ps = each_prop _ (λ i. each_prop _ (λ p. each_prop _ (λ e. ×_prop (not_prop _) (has_tag_prop (f p.type_id.0)))))

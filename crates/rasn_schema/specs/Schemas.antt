@@ -47,14 +47,18 @@ AreDistinctNumbers ns = (i j : ℕ) (m n : NamedNumber) → i < j → Some m ≡
 abbrev pub MayFollow : List Component → ℕ → ℕ → Type 0
 MayFollow ps i j = (i < j) × ((m : ℕ) (p : Component) → i < m → m < j → Some p ≡ slice_get ps m → IsAlwaysThere (presence_of p.presence) → ⊥)
 
--- A component is distinguished by its tag, which it has to have.
-abbrev pub IsToldFrom : Option Tag → Shape → Type 0
-IsToldFrom None s = ⊥
-IsToldFrom (Some tag) s = IsFirst s tag → ⊥
+-- The type isn't an open type without a tag, and some value begins with some tag.
+abbrev pub IsRecognizable : Shape → Type 0
+IsRecognizable s = HasTag s × (((n : Tag) → IsFirst s n → ⊥) → ⊥)
+
+-- A component is distinguished by its tag or, if it is a CHOICE, by those of its alternatives (X.680 29.3).
+abbrev pub IsToldFrom : Option Tag → Shape → Shape → Type 0
+IsToldFrom None s t = IsRecognizable s × AreDistinct s t
+IsToldFrom (Some tag) s t = IsFirst t tag → ⊥
 
 -- A component that may be absent is distinguished from each one that may follow then (X.680 25.6).
 abbrev pub AreToldInOrder : (ℕ → Option Tag) → (ℕ → Shape) → List Component → Type 0
-AreToldInOrder own f ps = (i j : ℕ) (p q : Component) → Some p ≡ slice_get ps i → Some q ≡ slice_get ps j → (IsAlwaysThere (presence_of p.presence) → ⊥) → MayFollow ps i j → IsToldFrom (own p.type_id.0) (f q.type_id.0)
+AreToldInOrder own f ps = (i j : ℕ) (p q : Component) → Some p ≡ slice_get ps i → Some q ≡ slice_get ps j → (IsAlwaysThere (presence_of p.presence) → ⊥) → MayFollow ps i j → IsToldFrom (own p.type_id.0) (f p.type_id.0) (f q.type_id.0)
 
 -- Each component of a SET has a tag, and none is an extension addition.
 abbrev pub AreTagged : (ℕ → Shape) → List Component → Type 0

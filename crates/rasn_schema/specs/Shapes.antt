@@ -1,8 +1,8 @@
 -- The shapes that a schema has.
-use Rattle.std.specs.Prelude.{ℕ, ℤ, zero, suc, List, [], ◌∷◌, Option, Some, None, slice_get}
+use Rattle.std.specs.Prelude.{◌≡◌, ℕ, ℤ, zero, suc, List, [], ◌∷◌, Option, Some, None, slice_get}
 use Rattle.rasn_types.specs.declared.types.tag.Tag.{Tag}
 use Rattle.rasn_types.specs.Tags.{eoc}
-use Rattle.rasn_types.specs.Shapes.{Shape, leaf, any, prefix, choice, seq, set, list, set_of, Parts, part, looked_for, Kind, boolean, null, object_identifier, bit_string, octet_string, fixed, integer, enumerated, every, numeric, printable, visible, ia5, any_octets, bmp, utf8, utc_time, generalized_time, date, required, optional, addition, default, Presence as PartPresence}
+use Rattle.rasn_types.specs.Shapes.{Shape, leaf, any, prefix, choice, seq, set, list, set_of, Parts, part, looked_for, Kind, boolean, null, object_identifier, bit_string, octet_string, fixed, integer, enumerated, every, numeric, printable, visible, ia5, any_octets, bmp, utf8, utc_time, generalized_time, date, Key, own_tag, first_tags, required, addition, optional_by, default_by, Presence as PartPresence}
 use Rattle.rasn_types.specs.Shapes.Parts.{none}
 use Rattle.rasn_types.specs.Lawful.{IsLawful}
 use Rattle.rasn_types.specs.Trees.{signed_range, unsigned_range, unconstrained}
@@ -45,16 +45,31 @@ abbrev pub numbers_of : List NamedNumber → List ℤ
 numbers_of [] = []
 numbers_of (n ∷ ns) = n.number ∷ numbers_of ns
 
+-- A CHOICE that may be absent is recognized by its first tags, and any other component by its own tag.
+abbrev pub key_of : Shape → Key
+key_of (choice ps) = first_tags
+key_of s = own_tag
+
+abbrev pub IsByFirstTags : Shape → Type 0
+IsByFirstTags s = key_of s ≡ first_tags
+
+abbrev pub presence_by : Key → Presence → PartPresence
+presence_by key Required = required
+presence_by key Optional = optional_by key
+presence_by key Addition = addition
+presence_by key (Default v) = default_by key (tree_of v)
+
+-- What is asked of a presence whatever the component is recognized by.
 abbrev pub presence_of : Presence → PartPresence
-presence_of Required = required
-presence_of Optional = optional
-presence_of Addition = addition
-presence_of (Default v) = default (tree_of v)
+presence_of = presence_by own_tag
 
 -- Components and alternatives. f gives the shape of the type with a number.
+abbrev pub presence_in : (ℕ → Shape) → Component → PartPresence
+presence_in f p = presence_by (key_of (f p.type_id.0)) p.presence
+
 abbrev pub components_by : (ℕ → Shape) → List Component → Parts
 components_by f [] = none
-components_by f (p ∷ ps) = part (presence_of p.presence) (f p.type_id.0) (components_by f ps)
+components_by f (p ∷ ps) = part (presence_in f p) (f p.type_id.0) (components_by f ps)
 
 abbrev pub alternatives_by : (ℕ → Shape) → List Alternative → Parts
 alternatives_by f [] = none

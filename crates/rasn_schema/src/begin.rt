@@ -3,7 +3,7 @@ ghost use Rattle.std.specs.Prelude.{◌≡◌, Some, slice_get, MatchOption};
 ghost use Rattle.rasn_types.specs.Shapes.{IsFirst, IsFirstOf, IsTagOf, looked_for};
 ghost use Rattle.rasn_types.specs.Truth.{IsWhether};
 ghost use Rattle.rasn_schema.specs.declared.types.Alternative.{Alternative};
-ghost use Rattle.rasn_schema.specs.Shapes.{shape_of_type, type_by, alternatives_by, nothing};
+ghost use Rattle.rasn_schema.specs.Shapes.{shape_of_type, type_by, alternatives_by, nothing, IsByFirstTags};
 
 use crate::type_id::TypeId;
 use crate::types::{Alternative, Type, tag_at, type_at};
@@ -80,6 +80,39 @@ fn some_begins(types: &[Type], levels: usize, alternatives: &[Alternative], tag:
         }
     }
     false
+}
+
+/// Returns whether a value of which only the tag `own` is known is recognized by its first tags.
+#[inline(always)]
+fn nothing_is_choice(own: Tag) -> bool
+    ensures { IsWhether result (IsByFirstTags (nothing (looked_for own))) }
+{
+    own == Tag::EOC
+}
+
+/// Returns whether a value of the type is recognized by its first tags.
+#[inline(always)]
+fn type_is_choice(ty: &Type) -> bool
+    ensures { (f : _) → IsWhether result (IsByFirstTags (type_by f ty.now)) }
+{
+    match ty {
+        Type::Choice { .. } => true,
+        _ => false,
+    }
+}
+
+/// Returns whether a component of the type with this number is recognized by its first tags if it may be absent, as a CHOICE is, or by its
+/// own tag.
+pub fn is_choice_at(types: &[Type], levels: usize, id: TypeId) -> bool
+    ensures { IsWhether result (IsByFirstTags (shape_of_type types.now levels id.0)) }
+{
+    if levels == 0 {
+        return nothing_is_choice(tag_at(types, id));
+    }
+    match type_at(types, id) {
+        Some(ty) => type_is_choice(ty),
+        None => true,
+    }
 }
 
 /// Returns the index of the first alternative that may begin with the tag, if there is one.

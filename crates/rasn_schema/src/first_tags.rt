@@ -86,7 +86,7 @@ fn type_first_tags(ty: &Type) -> FirstTags<'_>
 
 /// Returns whether the values of the type with this number may begin with some tag.
 #[cycle(firsts)]
-fn has_firsts(types: &[Type], levels: usize, id: TypeId) -> bool
+pub fn has_firsts(types: &[Type], levels: usize, id: TypeId) -> bool
     ensures { IsWhether result ((n : Tag) × IsFirst (shape_of_type types.now levels id.0) n) }
 {
     match first_tags_at(types, levels, id) {

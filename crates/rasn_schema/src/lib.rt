@@ -21,7 +21,7 @@ mod types;
 mod value;
 mod view;
 
-pub use begin::{alternative_for, begins};
+pub use begin::{alternative_for, begins, is_choice_at};
 pub use error::SchemaError;
 pub use fit::{elements_of, is_left_out, items_of};
 pub use fitting::{component_fits, fits, fits_at, is_listed, leaf_fits};

@@ -1,5 +1,5 @@
 //! The rules that each type of a schema keeps: it is looked at once, however deep values are nested (X.680 25.6, 27.3, 29.3).
-ghost use Rattle.std.specs.Prelude.{◌≡◌, ◌≢◌, [], ◌<◌, ℕ, length, slice_get, Some, MatchOption};
+ghost use Rattle.std.specs.Prelude.{◌≡◌, ◌≢◌, [], ◌<◌, ℕ, length, slice_get, Some, None, MatchOption};
 ghost use Rattle.rasn_types.specs.Tags.{eoc};
 ghost use Rattle.rasn_types.specs.Grammar.{family};
 ghost use Rattle.rasn_types.specs.Shapes.{IsFirst, addition};
@@ -10,12 +10,12 @@ ghost use Rattle.rasn_types.specs.Lawful.{IsBitFree, HasTag};
 ghost use Rattle.rasn_types.specs.Truth.{IsWhether};
 ghost use Rattle.rasn_schema.specs.FirstTags.{IsAlwaysThere};
 ghost use Rattle.rasn_schema.specs.Shapes.{shape_of_type, type_by, presence_of, kind_of};
-ghost use Rattle.rasn_schema.specs.Schemas.{IsPrefix, AreLowerAndTagged, AreDistinctAlternatives, AreDistinctNumbers, AreDistinct, AreToldInOrder, MayFollow, IsToldFrom, AreTagged, AreInOrderOfTags, IsBefore, IsWellFormed, AreOthersWellFormed, AreChoicesWellFormed, IsChoice, own_at};
+ghost use Rattle.rasn_schema.specs.Schemas.{IsPrefix, AreLowerAndTagged, AreDistinctAlternatives, AreDistinctNumbers, AreDistinct, AreToldInOrder, MayFollow, IsRecognizable, IsToldFrom, AreTagged, AreInOrderOfTags, IsBefore, IsWellFormed, AreOthersWellFormed, AreChoicesWellFormed, IsChoice, own_at};
 ghost use Rattle.rasn_schema.specs.Faults.{IsTagFault, IsTaggedFault, IsLeafFault, IsNumbersFault, IsAlternativesFault, IsSequenceFault, IsSetFault, IsFaultOf, SomeFault};
 
 use crate::begin::begins;
 use crate::error::SchemaError;
-use crate::first_tags::{FirstTags, first_tags_at, is_before, is_distinct};
+use crate::first_tags::{FirstTags, first_tags_at, has_firsts, is_before, is_distinct};
 use crate::type_id::TypeId;
 use crate::types::{
     Alternative, Component, LeafKind, NamedNumber, Presence, Type, tag_at, type_at,
@@ -347,6 +347,72 @@ fn same_component(
     None
 }
 
+/// Returns the index of the first component after `index` that may follow if that one is absent, and may begin with a tag of the type
+/// (X.680 25.6).
+fn overlapping_component(
+    types: &[Type],
+    levels: usize,
+    components: &[Component],
+    index: usize,
+    ty: TypeId,
+) -> Option<usize>
+    requires { index < length components.now }
+    ensures { let f = shape_of_type types.now levels in
+        MatchOption result
+        ((j : ℕ) (q : _) → MayFollow components.now index j → Some q ≡ slice_get components.now j → AreDistinct (f ty.0) (f q.type_id.0))
+        (λ j. MayFollow components.now index j × ((q : Component) × (Some q ≡ slice_get components.now j) × (AreDistinct (f ty.0) (f q.type_id.0) → ⊥))) }
+{
+    for other in index + 1..components.len() {
+        let component = &components[other];
+        if !is_distinct(types, levels, ty, levels, component.type_id) {
+            return Some(other);
+        }
+        if is_always_there(component) {
+            return None;
+        }
+    }
+    None
+}
+
+/// Returns whether the first tags of the type with this number tell that a value of it follows.
+fn is_recognizable(types: &[Type], levels: usize, id: TypeId) -> bool
+    ensures { IsWhether result (IsRecognizable (shape_of_type types.now levels id.0)) }
+{
+    if !has_tag(types, levels, id) {
+        return false;
+    }
+    has_firsts(types, levels, id)
+}
+
+/// Returns what is wrong with a component of a SEQUENCE that may be absent and has no tag of its own, as a CHOICE.
+fn untagged_fault(
+    types: &[Type],
+    levels: usize,
+    id: TypeId,
+    components: &[Component],
+    index: usize,
+    component: &Component,
+) -> Option<SchemaError>
+    requires within { index < length components.now }
+    requires untagged { own_at types.now component.now.type_id.0 ≡ None }
+    requires absent { IsAlwaysThere (presence_of component.now.presence) → ⊥ }
+    ensures { let f = shape_of_type types.now levels in
+        MatchOption result
+        ((j : ℕ) (q : _) → Some q ≡ slice_get components.now j → MayFollow components.now index j → IsToldFrom None (f component.now.type_id.0) (f q.type_id.0))
+        (λ e. (tag : _) → Some component.now ≡ slice_get components.now index → IsSequenceFault (own_at types.now) f id.0 tag components.now e) }
+{
+    if index + 1 == components.len() {
+        return None;
+    }
+    if !is_recognizable(types, levels, component.type_id) {
+        return Some(SchemaError::UntaggedComponent { id, index });
+    }
+    match overlapping_component(types, levels, components, index, component.type_id) {
+        Some(other) => Some(SchemaError::ComponentsClash { id, index, other }),
+        None => None,
+    }
+}
+
 /// Returns what is wrong with a component of a SEQUENCE, if it may be absent.
 fn component_fault(
     types: &[Type],
@@ -360,7 +426,7 @@ fn component_fault(
     ensures { let f = shape_of_type types.now levels in
         MatchOption result
         ((j : ℕ) (q : _) → Some q ≡ slice_get components.now j → (IsAlwaysThere (presence_of component.now.presence) → ⊥) → MayFollow components.now index j
-        → IsToldFrom (own_at types.now component.now.type_id.0) (f q.type_id.0))
+        → IsToldFrom (own_at types.now component.now.type_id.0) (f component.now.type_id.0) (f q.type_id.0))
         (λ e. (tag : _) → Some component.now ≡ slice_get components.now index → IsSequenceFault (own_at types.now) f id.0 tag components.now e) }
 {
     if is_always_there(component) {
@@ -368,10 +434,7 @@ fn component_fault(
     }
     let tag = tag_at(types, component.type_id);
     if is_no_tag(tag) {
-        if index + 1 < components.len() {
-            return Some(SchemaError::UntaggedComponent { id, index });
-        }
-        return None;
+        return untagged_fault(types, levels, id, components, index, component);
     }
     match same_component(types, levels, components, index, tag) {
         Some(other) => Some(SchemaError::ComponentsClash { id, index, other }),

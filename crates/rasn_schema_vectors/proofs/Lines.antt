@@ -6,7 +6,7 @@ use Rattle.rasn_types.specs.declared.types.tag.Tag.{Tag}
 use Rattle.rasn_types.specs.declared.error.decode.DecodeError.{DecodeError}
 use Rattle.rasn_types.specs.declared.error.encode.EncodeError.{EncodeError}
 use Rattle.rasn_types.specs.Tags.{Form, form, in_universal}
-use Rattle.rasn_types.specs.Shapes.{Tree, absent}
+use Rattle.rasn_types.specs.Shapes.{Tree, absent, Sought, one_tag}
 use Rattle.rasn_types.specs.Readings.{Reading, ReadsOptional, IsLeftOut, IsPresent}
 use Rattle.rasn_types.specs.Grammar.{Reads, top}
 use Rattle.rasn_types.specs.Bytes.{Bytes}
@@ -49,7 +49,7 @@ absent_fits types (suc levels) k h = absent_fits_found (λ j w. Fits types level
 
 -- ---- what is read
 
-module _ (spelling : Form) (tag : Option Tag) (R : Reading Tree) (closing : Bool) (input : List ℕ) where
+module _ (spelling : Form) (tag : Sought) (R : Reading Tree) (closing : Bool) (input : List ℕ) where
   left_out : IsLeftOut spelling tag closing input → Exact (ReadsOptional spelling tag absent R closing) input (Got absent input)
   left_out a = (inl (a, refl, refl), only)
     where
@@ -77,12 +77,12 @@ module _ (types : List «Type») (rule : Codec) (input : List ℕ) where
   pub there_exact : (kind : ValueType) (o : Outcome) → LooksAhead rule kind input (Ok true) → Exact (Reads rule (shape_of types (type_number kind)) 128 (top rule)) input o
       → Exact (Reads rule (line_shape types kind) 128 (top rule)) input o
   unfolding Reads
-  there_exact OptionalBool o t x = there (form rule) (Some (in_universal 1)) (Reads rule (shape_of types (type_number OptionalBool)) 128 (top rule)) (top rule) input t o x
+  there_exact OptionalBool o t x = there (form rule) (one_tag (Some (in_universal 1))) (Reads rule (shape_of types (type_number OptionalBool)) 128 (top rule)) (top rule) input t o x
   there_exact _ o t x = x
 
   pub absent_exact : (kind : ValueType) → LooksAhead rule kind input (Ok false) → Exact (Reads rule (line_shape types kind) 128 (top rule)) input (Got absent input)
   unfolding Reads
-  absent_exact OptionalBool a = left_out (form rule) (Some (in_universal 1)) (Reads rule (shape_of types (type_number OptionalBool)) 128 (top rule)) (top rule) input a
+  absent_exact OptionalBool a = left_out (form rule) (one_tag (Some (in_universal 1))) (Reads rule (shape_of types (type_number OptionalBool)) 128 (top rule)) (top rule) input a
   absent_exact _ a = cc
 
   pub unseen_exact : (kind : ValueType) (e : DecodeError) → LooksAhead rule kind input (Err e) → Exact (Reads rule (line_shape types kind) 128 (top rule)) input (refusal e.kind)

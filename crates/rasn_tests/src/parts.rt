@@ -4,6 +4,7 @@
 
 mod choice;
 mod enumerated;
+mod lamps;
 mod reads;
 mod reads_sequence_of;
 mod real;

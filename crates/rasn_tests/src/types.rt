@@ -1,12 +1,14 @@
 //! Types that several tests share.
 
 mod fieldless;
+mod lamp;
 mod ratio;
 mod signal;
 mod signal_component;
 mod three;
 
 pub use fieldless::{Closed, Extensible};
+pub use lamp::Lamp;
 use rasn_bench::Both;
 pub use ratio::Ratio;
 pub use signal::Signal;

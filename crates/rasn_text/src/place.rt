@@ -2,7 +2,7 @@
 use rasn::ber::de::{Decoder, DecoderOptions};
 use rasn::de::Decode;
 use rasn::parts::{DefaultValue, ExplicitDefault};
-use rasn::types::{Codec, Explicit, Tag};
+use rasn::types::{Codec, Explicit, FirstTags, Tag};
 use std::alloc::{AllocError, Global};
 use std::fmt;
 
@@ -135,6 +135,15 @@ impl<'octets> Walk<'octets> {
         match self.value::<T>() {
             Ok(()) => Ok(()),
             Err(found) => Err(found.within(self.alloc, name)),
+        }
+    }
+
+    /// Reads the next part, a CHOICE, if it is present.
+    pub(crate) fn choice_part<T: Located + FirstTags>(&mut self, name: &str) -> Result<(), Found> {
+        let decoder = Decoder::new(self.alloc, self.rest(), DecoderOptions::of(self.rule));
+        match decoder.next_is::<T>() {
+            Ok(false) => Ok(()),
+            Ok(true) | Err(_) => self.part::<T>(name),
         }
     }
 

@@ -27,11 +27,8 @@ fn list_signed(listing: &mut Listing, signed: &TbsCertList) -> Result<(), AllocE
     list_algorithm(listing, "signature algorithm", &signed.signature)?;
     list_name(listing, "issuer", &signed.issuer)?;
     list_time(listing, "this update", &signed.this_update)?;
-    if let Some(time) = &signed.next_update_utc {
-        listing.line("next update", time)?;
-    }
-    if let Some(time) = &signed.next_update_general {
-        listing.line("next update", time)?;
+    if let Some(time) = &signed.next_update {
+        list_time(listing, "next update", time)?;
     }
     if let Some(certificates) = &signed.revoked_certificates {
         list_revoked(listing, certificates)?;

@@ -1,14 +1,14 @@
 -- The test of a lawful shape decides.
-use Rattle.std.proofs.Common.{◌≡◌, ℕ, ◌⊎◌, ◌≢◌, inl, inr, Bool, true, false, not, ◌&&◌, List, [], ◌∷◌, ◌++◌, Option, Some, None, refl, sym, ap, ap₂, subst, arith}
+use Rattle.std.proofs.Common.{◌≡◌, ℕ, suc, ◌+◌, ◌<◌, ◌⊎◌, ◌≢◌, inl, inr, Bool, true, false, not, ◌&&◌, List, [], ◌∷◌, ◌++◌, Option, Some, None, refl, sym, ap, ap₂, subst, arith}
 use Rattle.std.specs.Bool.{Decides}
 use Rattle.std.specs.List.{list_all, list_any}
 use Rattle.std.proofs.lemmas.Bool.Decides.{Decides-eqb, Decides-ltb, Decides-and, Decides-or, Decides-not, Decides-like, not_from_Decides}
 use Rattle.rasn_types.specs.Tags.{Class, Universal, Application, Context, Private, Tag, tag_bit, rank, eoc, is_universal, is_eoc, IsTagBelow}
-use Rattle.rasn_types.specs.Shapes.{Shape, leaf, any, prefix, choice, option, seq, set, list, set_of, Parts, part, own, IsFirst, IsFirstOf, IsAlwaysPresent, AreAlwaysPresent, Presence, required, optional, addition, default}
+use Rattle.rasn_types.specs.Shapes.{Shape, leaf, any, prefix, choice, option, seq, set, list, set_of, Parts, part, own, IsFirst, IsFirstOf, IsAlwaysPresent, AreAlwaysPresent, Key, own_tag, first_tags, Presence, required, addition, optional_by, default_by}
 use Rattle.rasn_types.specs.Shapes.Parts.{none}
 use Rattle.rasn_types.specs.Grammar.{Family, plain_family, bit_family, text_family, family}
-use Rattle.rasn_types.specs.Lawful.{AreDisjoint, AreDistinguished, IsFirstBehind, IsDistinguished, MayBeLeftOut, IsBitFree, HasTag, IsLawful, AreAlternatives, AreLawfulInOrder, AreLawfulByTag}
-use Rattle.rasn_types.specs.LawfulTest.{is_same_tag, is_other_tag, is_tag_below, Firsts, either_first, firsts, firsts_of, firsts_behind, is_first, holds_between, are_distinguished, is_none, is_distinguished, may_be_left_out, is_bit_free, has_tag, is_always_present, are_always_present, is_required, is_addition, is_same_own, is_lawful, are_alternatives, are_lawful_in_order, are_lawful_by_tag}
+use Rattle.rasn_types.specs.Lawful.{AreDisjoint, AreDistinguished, IsFirstBehind, IsDistinguished, IsRecognized, MayBeLeftOut, IsBitFree, HasTag, IsLawful, AreAlternatives, AreLawfulInOrder, AreLawfulByTag}
+use Rattle.rasn_types.specs.LawfulTest.{is_same_tag, is_other_tag, is_tag_below, Firsts, either_first, firsts, firsts_of, firsts_behind, is_first, holds_between, are_distinguished, is_none, is_distinguished, is_every, is_recognized, may_be_left_out, is_bit_free, has_tag, is_always_present, are_always_present, is_required, is_addition, is_same_own, is_lawful, are_alternatives, are_lawful_in_order, are_lawful_by_tag}
 
 -- ---- constant tests
 
@@ -121,8 +121,8 @@ behind_tell : (ps : Parts) → DescribesFirsts (firsts_behind ps) (IsFirstBehind
 behind_tell none = λ n. (λ h. h, λ h. h)
 behind_tell (part required s ps) = firsts_tell s
 behind_tell (part addition s ps) = firsts_tell s
-behind_tell (part optional s ps) = tells_either (firsts s) (firsts_behind ps) (IsFirst s) (IsFirstBehind ps) (firsts_tell s) (behind_tell ps)
-behind_tell (part (default d) s ps) = tells_either (firsts s) (firsts_behind ps) (IsFirst s) (IsFirstBehind ps) (firsts_tell s) (behind_tell ps)
+behind_tell (part (optional_by key) s ps) = tells_either (firsts s) (firsts_behind ps) (IsFirst s) (IsFirstBehind ps) (firsts_tell s) (behind_tell ps)
+behind_tell (part (default_by key d) s ps) = tells_either (firsts s) (firsts_behind ps) (IsFirst s) (IsFirstBehind ps) (firsts_tell s) (behind_tell ps)
 
 among : (tags : List Tag) (n : Tag) → Decides (list_any (is_same_tag n) tags) (IsAmong tags n)
 among [] n = decides_no (λ h. h)
@@ -189,22 +189,9 @@ told_behind (Some tag) ps = Decides-not (is_first (firsts_behind ps) tag)
     (Decides-like (is_first (firsts_behind ps) tag) (behind_tell ps tag).1 (behind_tell ps tag).0 (is_in (firsts_behind ps) tag))
 told_behind None ps = no_parts ps
 
-left_out : (presence : Presence) (tag : Option Tag) (ps : Parts) → Decides (may_be_left_out presence tag ps) (MayBeLeftOut presence tag ps)
-left_out required tag ps = decides_yes
-left_out addition tag ps = decides_yes
-left_out optional tag ps = told_behind tag ps
-left_out (default d) tag ps = told_behind tag ps
-
--- ---- the conditions on one shape
-
-unset : (b : Bool) → Decides (not b) (b ≡ false)
-unset true = decides_no (λ e. cc)
-unset false = (λ e. refl, λ e. refl)
-
-bit_free : (f : Family) (tag : Tag) → Decides (is_bit_free f tag) (IsBitFree f tag)
-bit_free plain_family tag = decides_yes
-bit_free bit_family tag = unset (tag_bit tag)
-bit_free text_family tag = unset (tag_bit tag)
+-- Three tests in one.
+both : {P Q R : Type 0} (x y z : Bool) → Decides x P → Decides y Q → Decides z R → Decides (x && (y && z)) (P × Q × R)
+both x y z p q r = Decides-like (x && (y && z)) (λ h. (h.0, h.1.0, h.1.1)) (λ h. (h.0, (h.1, h.2))) (Decides-and x (y && z) p (Decides-and y z q r))
 
 tagged : (s : Shape) → Decides (has_tag s) (HasTag s)
 tagged (leaf kind tag bounds) = decides_yes
@@ -217,6 +204,56 @@ tagged (seq tag ps) = decides_yes
 tagged (set tag ps) = decides_yes
 tagged (list tag s size) = decides_yes
 tagged (set_of tag s size) = decides_yes
+
+-- A number above those of the tags.
+abbrev above : List Tag → ℕ
+above [] = 0
+above (t ∷ ts) = suc (t.value + above ts)
+
+among_below : (tags : List Tag) (n : Tag) → IsAmong tags n → n.value < above tags
+among_below [] n h = absurd h
+among_below (t ∷ ts) n h = subst (λ m. n.value < m) q (elim h [ inl e ↦ first (ap (λ (x : Tag). x.value) e) | inr l ↦ later (among_below ts n l) ])
+  where
+    q : suc (t.value + above ts) ≡ above (t ∷ ts)
+    q = refl
+
+    first : n.value ≡ t.value → n.value < suc (t.value + above ts)
+    first v = omega (arith, v)
+
+    later : n.value < above ts → n.value < suc (t.value + above ts)
+    later l = omega (arith, l)
+
+not_every : (f : Firsts) (P : Tag → Type 0) → DescribesFirsts f P → Decides (not (is_every f)) (((n : Tag) → P n) → ⊥)
+not_every None P p = decides_no (λ h. h (λ n. (p n).1 tt))
+not_every (Some tags) P p = (
+  λ e all. none (above tags) (among_below tags (record { class = Universal; value = above tags }) ((p _).0 (all _))),
+  λ h. refl,
+)
+  where
+    none : (m : ℕ) → m < m → ⊥
+    none m l = omega (arith, l)
+
+recognized : (key : Key) (s : Shape) (ps : Parts) → Decides (is_recognized key s ps) (IsRecognized key s ps)
+recognized own_tag s ps = told_behind (own s) ps
+recognized first_tags s ps = both _ _ _ (tagged s) (not_every (firsts_behind ps) (IsFirstBehind ps) (behind_tell ps))
+    (disjoint (firsts s) (firsts_behind ps) (IsFirst s) (IsFirstBehind ps) (firsts_tell s) (behind_tell ps))
+
+left_out : (presence : Presence) (s : Shape) (ps : Parts) → Decides (may_be_left_out presence s ps) (MayBeLeftOut presence s ps)
+left_out required s ps = decides_yes
+left_out addition s ps = decides_yes
+left_out (optional_by key) s ps = recognized key s ps
+left_out (default_by key d) s ps = recognized key s ps
+
+-- ---- the conditions on one shape
+
+unset : (b : Bool) → Decides (not b) (b ≡ false)
+unset true = decides_no (λ e. cc)
+unset false = (λ e. refl, λ e. refl)
+
+bit_free : (f : Family) (tag : Tag) → Decides (is_bit_free f tag) (IsBitFree f tag)
+bit_free plain_family tag = decides_yes
+bit_free bit_family tag = unset (tag_bit tag)
+bit_free text_family tag = unset (tag_bit tag)
 
 mutual
   solid : (s : Shape) → Decides (is_always_present s) (IsAlwaysPresent s)
@@ -236,25 +273,21 @@ mutual
 
 is_root : (presence : Presence) → Decides (is_required presence) (presence ≡ required)
 is_root required = (λ e. refl, λ e. refl)
-is_root optional = decides_no (λ e. cc)
 is_root addition = decides_no (λ e. cc)
-is_root (default d) = decides_no (λ e. cc)
+is_root (optional_by key) = decides_no (λ e. cc)
+is_root (default_by key d) = decides_no (λ e. cc)
 
 no_addition : (presence : Presence) → Decides (not (is_addition presence)) (presence ≢ addition)
 no_addition required = (λ e f. cc, λ h. refl)
-no_addition optional = (λ e f. cc, λ h. refl)
 no_addition addition = decides_no (λ h. h refl)
-no_addition (default d) = (λ e f. cc, λ h. refl)
+no_addition (optional_by key) = (λ e f. cc, λ h. refl)
+no_addition (default_by key d) = (λ e f. cc, λ h. refl)
 
 same_own : (s t : Option Tag) → Decides (is_same_own s t) (s ≡ t)
 same_own None None = (λ e. refl, λ e. refl)
 same_own None (Some t) = decides_no (λ e. cc)
 same_own (Some s) None = decides_no (λ e. cc)
 same_own (Some s) (Some t) = Decides-like (is_same_tag s t) (λ e. ap Some e) (λ e. cc) (same_tag s t)
-
--- Three tests in one.
-both : {P Q R : Type 0} (x y z : Bool) → Decides x P → Decides y Q → Decides z R → Decides (x && (y && z)) (P × Q × R)
-both x y z p q r = Decides-like (x && (y && z)) (λ h. (h.0, h.1.0, h.1.1)) (λ h. (h.0, (h.1, h.2))) (Decides-and x (y && z) p (Decides-and y z q r))
 
 rising : (s : Shape) (ps : Parts) → Decides (holds_between is_tag_below (firsts s) (firsts_of ps)) (Between IsTagBelow (IsFirst s) (IsFirstOf ps))
 rising s ps = between_told is_tag_below IsTagBelow tag_below below_itself (firsts s) (firsts_of ps) (IsFirst s) (IsFirstOf ps) (firsts_tell s) (all_tell ps)
@@ -284,7 +317,7 @@ mutual
   in_order : (ps : Parts) → Decides (are_lawful_in_order ps) (AreLawfulInOrder ps)
   in_order none = decides_yes
   in_order (part presence s ps) = Decides-like (are_lawful_in_order (part presence s ps)) (λ h. (h.0, h.1, h.2.0, h.2.1)) (λ h. (h.0, h.1, (h.2, h.3)))
-      (both _ _ _ (solid s) (lawful_decides s) (Decides-and _ _ (left_out presence (own s) ps) (in_order ps)))
+      (both _ _ _ (solid s) (lawful_decides s) (Decides-and _ _ (left_out presence s ps) (in_order ps)))
 
   by_tag : (ps : Parts) → Decides (are_lawful_by_tag ps) (AreLawfulByTag ps)
   by_tag none = decides_yes

@@ -7,7 +7,7 @@ use Rattle.rasn_types.specs.Calendar.{Day, IsDay, Moment, IsMoment}
 use Rattle.rasn_types.specs.Time.{written_date, written_generalized, written_utc}
 pub use Rattle.rasn_types.specs.Order.{Each, IsLess, AreAscending}
 pub use Rattle.rasn_types.specs.Shapes.{Same}
-use Rattle.rasn_types.specs.Shapes.{Tree, bits, numbers, instant, on_day, items, set_elements, chosen, absent, Kind, utc_time, generalized_time, date, Bound, Admits, Shape, leaf, any, prefix, choice, option, seq, set, list, set_of, Parts, part, Presence, required, optional, addition, default}
+use Rattle.rasn_types.specs.Shapes.{Tree, bits, numbers, instant, on_day, items, set_elements, chosen, absent, Kind, utc_time, generalized_time, date, Bound, Admits, Shape, leaf, any, prefix, choice, option, seq, set, list, set_of, Parts, part, Presence, required, addition, optional_by, default_by}
 use Rattle.rasn_types.specs.Shapes.Parts.{none}
 pub use Rattle.rasn_types.specs.Contents.{AllFalse}
 use Rattle.rasn_types.specs.Contents.{IsShortest, Contents, BitSegment, joined_lists}
@@ -53,9 +53,9 @@ pub record Field : Type 1 where
 
 abbrev pub WritesPart : Presence → Writing Tree → Writing Tree
 WritesPart required writes t b = writes t b
-WritesPart optional writes t b = ((t ≡ absent) × (b ≡ [])) ⊎ ((t ≢ absent) × writes t b)
+WritesPart (optional_by key) writes t b = ((t ≡ absent) × (b ≡ [])) ⊎ ((t ≢ absent) × writes t b)
 WritesPart addition writes t b = ((t ≡ absent) × (b ≡ [])) ⊎ ((t ≢ absent) × writes t b)
-WritesPart (default d) writes t b = (Same t d × (b ≡ [])) ⊎ ((Same t d → ⊥) × writes t b)
+WritesPart (default_by key d) writes t b = (Same t d × (b ≡ [])) ⊎ ((Same t d → ⊥) × writes t b)
 
 abbrev pub PartsWritten : List Field → List Tree → List (List ℕ) → Type 0
 PartsWritten [] ts bs = (ts ≡ []) × (bs ≡ [])

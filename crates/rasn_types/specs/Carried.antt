@@ -4,7 +4,7 @@ use Rattle.rasn_types.specs.Tags.{loose_form, Codec, Tag}
 use Rattle.rasn_types.specs.Framing.{Frame, definite}
 use Rattle.rasn_types.specs.Calendar.{Day, Moment}
 use Rattle.rasn_types.specs.Time.{CarriedUtc, CarriedDay}
-use Rattle.rasn_types.specs.Shapes.{Tree, bits, numbers, instant, on_day, items, set_elements, chosen, absent, Kind, utc_time, generalized_time, date, Shape, leaf, any, prefix, choice, option, seq, set, list, set_of, Parts, part, Presence, required, optional, addition, default}
+use Rattle.rasn_types.specs.Shapes.{Tree, bits, numbers, instant, on_day, items, set_elements, chosen, absent, Kind, utc_time, generalized_time, date, Shape, leaf, any, prefix, choice, option, seq, set, list, set_of, Parts, part, Presence, required, addition, optional_by, default_by}
 use Rattle.rasn_types.specs.Shapes.Parts.{none}
 use Rattle.rasn_types.specs.Grammar.{Family, plain_family, bit_family, text_family, family}
 use Rattle.rasn_types.specs.Bytes.{Same, IsCer, WritesText, Bytes}
@@ -17,9 +17,9 @@ EachOf P (t ∷ ts) = P t × EachOf P ts
 -- present.
 abbrev pub PartIsWithinLimits : Presence → (Tree → Type 0) → Tree → Type 0
 PartIsWithinLimits required within_limits t = within_limits t
-PartIsWithinLimits optional within_limits t = (t ≡ absent) ⊎ within_limits t
+PartIsWithinLimits (optional_by key) within_limits t = (t ≡ absent) ⊎ within_limits t
 PartIsWithinLimits addition within_limits t = (t ≢ absent) × within_limits t
-PartIsWithinLimits (default d) within_limits t = Same t d ⊎ within_limits t
+PartIsWithinLimits (default_by key d) within_limits t = Same t d ⊎ within_limits t
 
 -- The times whose written text is read back: UTCTime has two digits of the year and no fraction, the others have four
 -- digits of the year.

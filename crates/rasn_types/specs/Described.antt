@@ -1,6 +1,6 @@
 -- What a constructed type states about its parts and its fields.
 use Rattle.std.specs.Prelude.{ℕ, suc, ◌+◌, Bool, true, false, ◌&&◌, ◌||◌, not, nat_eq}
-use Rattle.rasn_types.specs.Shapes.{Parts, part, required, optional, addition, default}
+use Rattle.rasn_types.specs.Shapes.{Parts, part, required, addition, optional_by, default_by}
 use Rattle.rasn_types.specs.Shapes.Parts.{none}
 use Rattle.rasn_types.specs.declared.types.fields.FieldPresence.{FieldPresence}
 use Rattle.rasn_types.specs.declared.types.fields.FieldPresence.TheVariants.{Required, Optional, Default}
@@ -15,9 +15,9 @@ has_required (part _ s ps) = has_required ps
 abbrev pub has_addition : Parts → Bool
 has_addition none = false
 has_addition (part required s ps) = has_addition ps
-has_addition (part optional s ps) = has_addition ps
+has_addition (part (optional_by key) s ps) = has_addition ps
 has_addition (part addition s ps) = true
-has_addition (part (default d) s ps) = has_addition ps
+has_addition (part (default_by key d) s ps) = has_addition ps
 
 -- The number of parts.
 abbrev pub count : Parts → ℕ

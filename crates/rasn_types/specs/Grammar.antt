@@ -5,7 +5,7 @@ use Rattle.rasn_types.specs.Order.{IsLess, AreAscending}
 use Rattle.rasn_types.specs.Framing.{Frame, definite, indefinite, CompleteEncoding, CompleteEncodings}
 use Rattle.rasn_types.specs.Calendar.{Day, Stamp}
 use Rattle.rasn_types.specs.Time.{GeneralUtc, CanonicalUtc, GeneralGeneralized, CanonicalGeneralized, StrictGeneralized, DateText}
-use Rattle.rasn_types.specs.Shapes.{Tree, number, bits, numbers, instant, on_day, items, set_elements, absent, Kind, boolean, null, object_identifier, bit_string, octet_string, integer, enumerated, fixed, numeric, printable, visible, ia5, any_octets, bmp, utf8, utc_time, generalized_time, date, Bound, Constraints, Admits, Shape, leaf, any, prefix, choice, option, seq, set, list, set_of, Parts, part, own, IsFirst, presences}
+use Rattle.rasn_types.specs.Shapes.{Tree, number, bits, numbers, instant, on_day, items, set_elements, absent, Kind, boolean, null, object_identifier, bit_string, octet_string, integer, enumerated, fixed, numeric, printable, visible, ia5, any_octets, bmp, utf8, utc_time, generalized_time, date, Bound, Constraints, Admits, Shape, leaf, any, prefix, choice, option, seq, set, list, set_of, Parts, part, IsFirst, one_tag, sought_in, presences}
 use Rattle.rasn_types.specs.Shapes.Parts.{none}
 use Rattle.rasn_types.specs.declared.types.strings.alphabet.Alphabet.TheVariants.{Numeric, Printable, Visible, Ia5}
 use Rattle.rasn_types.specs.CharacterString.{AreAdmitted}
@@ -146,7 +146,7 @@ unfoldable mutual
   Reads rule (any (Some tag)) depth closing = ReadsOpen rule tag
   Reads rule (prefix tag s) depth closing = λ input t rest. (0 < depth) × (bit : Bool) × (IsStrict rule → bit ≡ true) × ReadsContents rule tag bit (λ c. Reads rule s (depth - 1) c) input t rest
   Reads rule (choice ps) depth closing = ReadsChoice rule 0 (parts_of rule ps depth closing)
-  Reads rule (option tag s) depth closing = ReadsOptional (form rule) tag absent (Reads rule s depth closing) closing
+  Reads rule (option tag s) depth closing = ReadsOptional (form rule) (one_tag tag) absent (Reads rule s depth closing) closing
   Reads rule (seq tag ps) depth closing = λ input t rest. (0 < depth) × ReadsContents rule tag true (λ c. ReadsSeq rule (parts_of rule ps (depth - 1) c) c) input t rest
   Reads rule (set tag ps) depth closing = λ input t rest. (0 < depth) × ReadsContents rule tag true (λ c. ReadsSet rule (presences ps) (ReadsChoice rule 0 (parts_of rule ps (depth - 1) c)) c) input t rest
   Reads rule (list tag s size) depth closing = λ input t rest. (0 < depth) × ReadsContents rule tag true (λ c. ReadsList size (Reads rule s (depth - 2) c) c) input t rest
@@ -155,7 +155,7 @@ unfoldable mutual
   pub parts_of : Codec → Parts → ℕ → Bool → List Part
   parts_of rule none depth closing = []
   parts_of rule (part presence s ps) depth closing =
-      record { presence = presence; own = own s; IsFirst = IsFirst s; reads = Reads rule s depth closing } ∷ parts_of rule ps depth closing
+      record { presence = presence; sought = sought_in presence s; IsFirst = IsFirst s; reads = Reads rule s depth closing } ∷ parts_of rule ps depth closing
 
 -- Whether end-of-contents octets may follow a value that isn't nested in another.
 abbrev pub top : Codec → Bool

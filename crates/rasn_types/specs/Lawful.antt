@@ -1,7 +1,7 @@
 -- Lawful shapes.
 use Rattle.std.specs.Prelude.{◌≡◌, ◌⊎◌, ◌≢◌, false, Option, Some, None}
 use Rattle.rasn_types.specs.Tags.{tag_bit, Tag, eoc, IsTagBelow}
-use Rattle.rasn_types.specs.Shapes.{Shape, leaf, any, prefix, choice, option, seq, set, list, set_of, Parts, part, own, IsFirst, IsFirstOf, Presence, required, optional, addition, default, IsAlwaysPresent}
+use Rattle.rasn_types.specs.Shapes.{Shape, leaf, any, prefix, choice, option, seq, set, list, set_of, Parts, part, own, IsFirst, IsFirstOf, Key, own_tag, first_tags, Presence, required, addition, optional_by, default_by, IsAlwaysPresent}
 use Rattle.rasn_types.specs.Shapes.Parts.{none}
 use Rattle.rasn_types.specs.Grammar.{Family, plain_family, bit_family, text_family, family}
 
@@ -18,30 +18,36 @@ abbrev pub IsFirstBehind : Parts → Tag → Type 0
 IsFirstBehind none n = ⊥
 IsFirstBehind (part required s ps) n = IsFirst s n
 IsFirstBehind (part addition s ps) n = IsFirst s n
-IsFirstBehind (part optional s ps) n = IsFirst s n ⊎ IsFirstBehind ps n
-IsFirstBehind (part (default d) s ps) n = IsFirst s n ⊎ IsFirstBehind ps n
+IsFirstBehind (part (optional_by key) s ps) n = IsFirst s n ⊎ IsFirstBehind ps n
+IsFirstBehind (part (default_by key d) s ps) n = IsFirst s n ⊎ IsFirstBehind ps n
+
+-- The shape isn't an open type without a tag.
+abbrev pub HasTag : Shape → Type 0
+HasTag (any None) = ⊥
+HasTag s = Unit {0}
 
 -- The own tag of a part that may be left out distinguishes it from what follows. A part without an own tag is the last.
 abbrev pub IsDistinguished : Option Tag → Parts → Type 0
 IsDistinguished (Some tag) ps = IsFirstBehind ps tag → ⊥
 IsDistinguished None ps = ps ≡ none
 
-abbrev pub MayBeLeftOut : Presence → Option Tag → Parts → Type 0
-MayBeLeftOut required tag ps = Unit {0}
-MayBeLeftOut addition tag ps = Unit {0}
-MayBeLeftOut optional tag ps = IsDistinguished tag ps
-MayBeLeftOut (default d) tag ps = IsDistinguished tag ps
+-- The part is recognized by its own tag; or none of its first tags is a first tag of what follows, which doesn't begin
+-- with any tag at all.
+abbrev pub IsRecognized : Key → Shape → Parts → Type 0
+IsRecognized own_tag s ps = IsDistinguished (own s) ps
+IsRecognized first_tags s ps = HasTag s × (((n : Tag) → IsFirstBehind ps n) → ⊥) × AreDisjoint (IsFirst s) (IsFirstBehind ps)
+
+abbrev pub MayBeLeftOut : Presence → Shape → Parts → Type 0
+MayBeLeftOut required s ps = Unit {0}
+MayBeLeftOut addition s ps = Unit {0}
+MayBeLeftOut (optional_by key) s ps = IsRecognized key s ps
+MayBeLeftOut (default_by key d) s ps = IsRecognized key s ps
 
 -- No string and no time has a tag that is always written as constructed.
 abbrev pub IsBitFree : Family → Tag → Type 0
 IsBitFree plain_family tag = Unit {0}
 IsBitFree bit_family tag = tag_bit tag ≡ false
 IsBitFree text_family tag = tag_bit tag ≡ false
-
--- The shape isn't an open type without a tag.
-abbrev pub HasTag : Shape → Type 0
-HasTag (any None) = ⊥
-HasTag s = Unit {0}
 
 unfoldable mutual
   pub IsLawful : Shape → Type 0
@@ -62,7 +68,7 @@ unfoldable mutual
 
   pub AreLawfulInOrder : Parts → Type 0
   AreLawfulInOrder none = Unit {0}
-  AreLawfulInOrder (part presence s ps) = IsAlwaysPresent s × IsLawful s × MayBeLeftOut presence (own s) ps × AreLawfulInOrder ps
+  AreLawfulInOrder (part presence s ps) = IsAlwaysPresent s × IsLawful s × MayBeLeftOut presence s ps × AreLawfulInOrder ps
 
   -- The parts are in ascending order of tags, in ranges that don't overlap.
   pub AreLawfulByTag : Parts → Type 0

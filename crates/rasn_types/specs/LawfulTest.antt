@@ -2,7 +2,7 @@
 use Rattle.std.specs.Prelude.{Bool, true, false, not, ◌&&◌, ◌||◌, nat_eq, nat_lt, List, [], ◌∷◌, ◌++◌, Option, Some, None}
 use Rattle.std.specs.List.{list_all, list_any}
 use Rattle.rasn_types.specs.Tags.{tag_bit, Tag, rank, is_eoc}
-use Rattle.rasn_types.specs.Shapes.{Shape, leaf, any, prefix, choice, option, seq, set, list, set_of, Parts, part, own, Presence, required, optional, addition, default}
+use Rattle.rasn_types.specs.Shapes.{Shape, leaf, any, prefix, choice, option, seq, set, list, set_of, Parts, part, own, Key, own_tag, first_tags, Presence, required, addition, optional_by, default_by}
 use Rattle.rasn_types.specs.Shapes.Parts.{none}
 use Rattle.rasn_types.specs.Grammar.{Family, plain_family, bit_family, text_family, family}
 
@@ -44,8 +44,8 @@ abbrev pub firsts_behind : Parts → Firsts
 firsts_behind none = Some []
 firsts_behind (part required s ps) = firsts s
 firsts_behind (part addition s ps) = firsts s
-firsts_behind (part optional s ps) = either_first (firsts s) (firsts_behind ps)
-firsts_behind (part (default d) s ps) = either_first (firsts s) (firsts_behind ps)
+firsts_behind (part (optional_by key) s ps) = either_first (firsts s) (firsts_behind ps)
+firsts_behind (part (default_by key d) s ps) = either_first (firsts s) (firsts_behind ps)
 
 abbrev pub is_first : Firsts → Tag → Bool
 is_first None n = true
@@ -69,21 +69,6 @@ abbrev pub is_none : Parts → Bool
 is_none none = true
 is_none (part presence s ps) = false
 
-abbrev pub is_distinguished : Option Tag → Parts → Bool
-is_distinguished (Some tag) ps = not (is_first (firsts_behind ps) tag)
-is_distinguished None ps = is_none ps
-
-abbrev pub may_be_left_out : Presence → Option Tag → Parts → Bool
-may_be_left_out required tag ps = true
-may_be_left_out addition tag ps = true
-may_be_left_out optional tag ps = is_distinguished tag ps
-may_be_left_out (default d) tag ps = is_distinguished tag ps
-
-abbrev pub is_bit_free : Family → Tag → Bool
-is_bit_free plain_family tag = true
-is_bit_free bit_family tag = not (tag_bit tag)
-is_bit_free text_family tag = not (tag_bit tag)
-
 abbrev pub has_tag : Shape → Bool
 has_tag (leaf kind tag bounds) = true
 has_tag (any None) = false
@@ -95,6 +80,29 @@ has_tag (seq tag ps) = true
 has_tag (set tag ps) = true
 has_tag (list tag s size) = true
 has_tag (set_of tag s size) = true
+
+abbrev pub is_distinguished : Option Tag → Parts → Bool
+is_distinguished (Some tag) ps = not (is_first (firsts_behind ps) tag)
+is_distinguished None ps = is_none ps
+
+abbrev pub is_every : Firsts → Bool
+is_every None = true
+is_every (Some tags) = false
+
+abbrev pub is_recognized : Key → Shape → Parts → Bool
+is_recognized own_tag s ps = is_distinguished (own s) ps
+is_recognized first_tags s ps = has_tag s && (not (is_every (firsts_behind ps)) && holds_between is_other_tag (firsts s) (firsts_behind ps))
+
+abbrev pub may_be_left_out : Presence → Shape → Parts → Bool
+may_be_left_out required s ps = true
+may_be_left_out addition s ps = true
+may_be_left_out (optional_by key) s ps = is_recognized key s ps
+may_be_left_out (default_by key d) s ps = is_recognized key s ps
+
+abbrev pub is_bit_free : Family → Tag → Bool
+is_bit_free plain_family tag = true
+is_bit_free bit_family tag = not (tag_bit tag)
+is_bit_free text_family tag = not (tag_bit tag)
 
 abbrev mutual
   pub is_always_present : Shape → Bool
@@ -114,15 +122,15 @@ abbrev mutual
 
 abbrev pub is_required : Presence → Bool
 is_required required = true
-is_required optional = false
 is_required addition = false
-is_required (default d) = false
+is_required (optional_by key) = false
+is_required (default_by key d) = false
 
 abbrev pub is_addition : Presence → Bool
 is_addition required = false
-is_addition optional = false
 is_addition addition = true
-is_addition (default d) = false
+is_addition (optional_by key) = false
+is_addition (default_by key d) = false
 
 abbrev pub is_same_own : Option Tag → Option Tag → Bool
 is_same_own None None = true
@@ -149,7 +157,7 @@ abbrev mutual
 
   pub are_lawful_in_order : Parts → Bool
   are_lawful_in_order none = true
-  are_lawful_in_order (part presence s ps) = is_always_present s && (is_lawful s && (may_be_left_out presence (own s) ps && are_lawful_in_order ps))
+  are_lawful_in_order (part presence s ps) = is_always_present s && (is_lawful s && (may_be_left_out presence s ps && are_lawful_in_order ps))
 
   pub are_lawful_by_tag : Parts → Bool
   are_lawful_by_tag none = true

@@ -2,7 +2,7 @@
 use Rattle.std.specs.Prelude.{◌≡◌, ℕ, suc, ◌⊎◌, ◌≢◌, List, [], ◌∷◌, ◌++◌, Bool, true, false, Option, Some, None}
 use Rattle.rasn_types.specs.Tags.{Form, form, IsStrict, Codec, Tag, IsTagBelow}
 use Rattle.rasn_types.specs.Framing.{Frame, definite, indefinite, Begins, NextTag, Ended}
-use Rattle.rasn_types.specs.Shapes.{Tree, items, chosen, absent, Same, Presence, required, optional, addition, default}
+use Rattle.rasn_types.specs.Shapes.{Tree, items, chosen, absent, Same, Presence, required, addition, optional_by, default_by, Sought, one_tag, any_of}
 use Rattle.rasn_types.specs.Order.{Each, AreAscending}
 
 abbrev pub Reading : Type 0 → Type 1
@@ -26,51 +26,54 @@ ReadsFrom reads input (x ∷ xs) rest bs = (b : List ℕ) × (more : List (List 
     × reads input x middle × ReadsFrom reads middle xs rest more
 
 -- A value that may be left out is left out: the contents end, or another tag follows.
-abbrev pub IsLeftOut : Form → Option Tag → Bool → List ℕ → Type 0
-IsLeftOut spelling (Some tag) closing input = Ended closing input ⊎ ((next : Tag) × NextTag spelling input next × (next ≢ tag))
-IsLeftOut spelling None closing input = Ended closing input
+abbrev pub IsLeftOut : Form → Sought → Bool → List ℕ → Type 0
+IsLeftOut spelling (one_tag (Some tag)) closing input = Ended closing input ⊎ ((next : Tag) × NextTag spelling input next × (next ≢ tag))
+IsLeftOut spelling (one_tag None) closing input = Ended closing input
+IsLeftOut spelling (any_of P) closing input = Ended closing input ⊎ ((next : Tag) × NextTag spelling input next × (P next → ⊥))
 
--- A value that may be left out is present: the contents don't end, and its tag follows if it has one.
-abbrev pub IsPresent : Form → Option Tag → Bool → List ℕ → Type 0
-IsPresent spelling (Some tag) closing input = (Ended closing input → ⊥) × NextTag spelling input tag
-IsPresent spelling None closing input = Ended closing input → ⊥
+-- A value that may be left out is present: the contents don't end, and its tag or one of its tags follows, if it has
+-- any.
+abbrev pub IsPresent : Form → Sought → Bool → List ℕ → Type 0
+IsPresent spelling (one_tag (Some tag)) closing input = (Ended closing input → ⊥) × NextTag spelling input tag
+IsPresent spelling (one_tag None) closing input = Ended closing input → ⊥
+IsPresent spelling (any_of P) closing input = (Ended closing input → ⊥) × (next : Tag) × NextTag spelling input next × P next
 
-abbrev pub ReadsOptional : {X : Type 0} → Form → Option Tag → X → Reading X → Bool → Reading X
-ReadsOptional spelling tag without reads closing input x rest =
-    (IsLeftOut spelling tag closing input × (x ≡ without) × (rest ≡ input))
-    ⊎ (IsPresent spelling tag closing input × reads input x rest)
+abbrev pub ReadsOptional : {X : Type 0} → Form → Sought → X → Reading X → Bool → Reading X
+ReadsOptional spelling tags without reads closing input x rest =
+    (IsLeftOut spelling tags closing input × (x ≡ without) × (rest ≡ input))
+    ⊎ (IsPresent spelling tags closing input × reads input x rest)
 
 -- A part of a SEQUENCE or SET, or an alternative of a CHOICE.
 pub record Part : Type 1 where
   pub presence : Presence
-  pub own : Option Tag
+  pub sought : Sought
   pub IsFirst : Tag → Type 0
   pub reads : Reading Tree
 
 -- A part that is present isn't its default (11.5).
 abbrev pub IsNoDefault : Presence → Tree → Type 0
-IsNoDefault (default d) t = Same t d → ⊥
+IsNoDefault (default_by key d) t = Same t d → ⊥
 IsNoDefault presence t = Unit {0}
 
-abbrev pub ReadsPart : Codec → Presence → Option Tag → Reading Tree → Bool → Reading Tree
-ReadsPart rule required tag reads closing = reads
-ReadsPart rule addition tag reads closing = reads
-ReadsPart rule optional tag reads closing = ReadsOptional (form rule) tag absent reads closing
-ReadsPart rule (default d) tag reads closing =
-    ReadsOptional (form rule) tag d (λ input t rest. reads input t rest × (IsStrict rule → IsNoDefault (default d) t)) closing
+abbrev pub ReadsPart : Codec → Presence → Sought → Reading Tree → Bool → Reading Tree
+ReadsPart rule required tags reads closing = reads
+ReadsPart rule addition tags reads closing = reads
+ReadsPart rule (optional_by key) tags reads closing = ReadsOptional (form rule) tags absent reads closing
+ReadsPart rule (default_by key d) tags reads closing =
+    ReadsOptional (form rule) tags d (λ input t rest. reads input t rest × (IsStrict rule → IsNoDefault (default_by key d) t)) closing
 
 -- The parts in order.
 abbrev pub ReadsInOrder : Codec → List Part → Bool → List ℕ → List Tree → List ℕ → Type 0
 ReadsInOrder rule [] closing input ts rest = (ts ≡ []) × (rest ≡ input)
 ReadsInOrder rule (p ∷ ps) closing input ts rest = (t : Tree) × (us : List Tree) × (middle : List ℕ) × (ts ≡ t ∷ us)
-    × ReadsPart rule p.presence p.own p.reads closing input t middle × ReadsInOrder rule ps closing middle us rest
+    × ReadsPart rule p.presence p.sought p.reads closing input t middle × ReadsInOrder rule ps closing middle us rest
 
 -- The tree of a part that is missing.
 abbrev pub IsMissing : Presence → Tree → Type 0
 IsMissing required t = ⊥
-IsMissing optional t = t ≡ absent
+IsMissing (optional_by key) t = t ≡ absent
 IsMissing addition t = t ≡ absent
-IsMissing (default d) t = t ≡ d
+IsMissing (default_by key d) t = t ≡ d
 
 abbrev pub presences_in : List Part → List Presence
 presences_in [] = []

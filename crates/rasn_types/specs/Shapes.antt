@@ -69,10 +69,28 @@ abbrev pub constraint_of : {X : Type 0} → Option (Bound X) → Bounded X
 constraint_of None = Free
 constraint_of (Some bound) = bound.constraint
 
--- `default` has the tree of the default. An addition has an explicit tag; it is read unless the contents are empty.
+-- What a part that may be left out is recognized by: its own tag if it has one, or any of its first tags.
+pub data Key : Type 0 where
+  own_tag first_tags : Key
+
+-- A default has its tree. An addition has an explicit tag; it is read unless the contents are empty.
 pub data Presence : Type 0 where
-  required optional addition : Presence
-  default : Tree → Presence
+  required addition : Presence
+  optional_by : Key → Presence
+  default_by : Key → Tree → Presence
+
+abbrev pub optional : Presence
+optional = optional_by own_tag
+
+abbrev pub default : Tree → Presence
+default d = default_by own_tag d
+
+-- The presences of a CHOICE, which has no tag of its own, before other parts.
+abbrev pub optional_choice : Presence
+optional_choice = optional_by first_tags
+
+abbrev pub default_choice : Tree → Presence
+default_choice d = default_by first_tags d
 
 -- `any None` is an open type without a tag. The tag of `option` is the one that is looked for.
 mutual
@@ -128,6 +146,21 @@ abbrev mutual
   pub IsFirstOf : Parts → Tag → Type 0
   IsFirstOf none n = ⊥
   IsFirstOf (part presence s parts) n = IsFirst s n ⊎ IsFirstOf parts n
+
+-- What the next tag has to be if a value isn't left out: this tag, or any tag if there is none; or one of these tags.
+pub data Sought : Type 1 where
+  one_tag : Option Tag → Sought
+  any_of : (Tag → Type 0) → Sought
+
+abbrev pub sought_by : Key → Shape → Sought
+sought_by own_tag s = one_tag (own s)
+sought_by first_tags s = any_of (IsFirst s)
+
+abbrev pub sought_in : Presence → Shape → Sought
+sought_in required s = one_tag (own s)
+sought_in addition s = one_tag (own s)
+sought_in (optional_by key) s = sought_by key s
+sought_in (default_by key d) s = sought_by key s
 
 -- The tag that is looked for: universal 0 means none.
 abbrev pub looked_for : Tag → Option Tag

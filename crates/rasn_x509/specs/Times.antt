@@ -4,6 +4,7 @@ use Rattle.rasn_types.specs.Tags.{in_universal}
 use Rattle.rasn_types.specs.Shapes.{Shape, Tree, instant, chosen, leaf, utc_time, generalized_time, choice, Parts, part, required}
 use Rattle.rasn_types.specs.Shapes.Parts.{none}
 use Rattle.rasn_types.specs.Trees.{unconstrained}
+use Rattle.rasn_types.specs.Equality.{AreNeverAbsent}
 use Rattle.rasn_types.specs.Grammar.{GeneralizedText}
 use Rattle.rasn_de.specs.State.{State}
 use Rattle.rasn_de.specs.Time.{DecodesTime}
@@ -23,6 +24,10 @@ time_shape = choice time_alternatives
 abbrev pub time_tree : Time → Tree
 time_tree (Utc time) = chosen 0 (instant time)
 time_tree (General time) = chosen 1 (instant time.moment)
+
+pub time_not_absent : AreNeverAbsent time_tree
+time_not_absent (Utc time) e = cc
+time_not_absent (General time) e = cc
 
 -- A GeneralizedTime has the offset of its text.
 abbrev pub time_beyond : State → Time → State → Type 0

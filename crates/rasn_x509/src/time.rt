@@ -1,8 +1,10 @@
 //! `Time ::= CHOICE { utcTime UTCTime, generalTime GeneralizedTime }` (RFC 5280, 4.1).
 
 use rasn::error::{DecodeError, EncodeError};
-use rasn::parts::{Last, OneOf};
-use rasn::types::{AsnType, Constraints, GeneralizedTime, Identifier, LawfulEq, Tag, UtcTime};
+use rasn::parts::{DecodeAlternatives, Last, OneOf};
+use rasn::types::{
+    AsnType, Constraints, FirstTags, GeneralizedTime, Identifier, LawfulEq, Present, Tag, UtcTime,
+};
 use rasn::{Decode, Decoder, Encode, Encoder};
 
 /// CHOICE { utcTime UTCTime, generalTime GeneralizedTime }
@@ -33,12 +35,27 @@ impl AsnType for Time {
     ghost own = { refl };
 }
 
+/// The alternatives, as they are read.
+type Times = OneOf<UtcTime, Last<GeneralizedTime>>;
+
+impl FirstTags for Time {
+    fn is_first_tag(tag: Tag) -> bool {
+        <Times as DecodeAlternatives>::has_tag(tag)
+    }
+}
+
 impl LawfulEq for Time {
     ghost use Rattle.rasn_types.specs.Equality.{choice_decided, alternative, instant_decided};
     ghost use Rattle.rasn_x509.specs.contracts.time.Time.{enum as time_enum};
     ghost use Rattle.rasn_x509.specs.Times.{time_tree};
 
     ghost decides = { choice_decided time_enum _ time_tree (alternative (λ x. x.0) instant_decided, (alternative (λ x. x.0) (λ s t. instant_decided s.moment t.moment), tt)) };
+}
+
+impl Present for Time {
+    ghost use Rattle.rasn_x509.specs.Times.{time_not_absent};
+
+    ghost present = { time_not_absent };
 }
 
 impl Decode for Time {
@@ -59,7 +76,7 @@ impl Decode for Time {
         ensures rules { IfErr result (λ e. e.codec ≡ decoder.old.rule) }
         ensures fails { IfErr result (λ e. DecodesAlternative time_alternatives time_tree time_name decoder.old (Err e) decoder.new) }
     {
-        match decoder.read_choice::<OneOf<UtcTime, Last<GeneralizedTime>>>("Time")? {
+        match decoder.read_choice::<Times>("Time")? {
             OneOf::This(time) => Ok(Time::Utc(time)),
             OneOf::Other(Last(time)) => Ok(Time::General(time)),
         }

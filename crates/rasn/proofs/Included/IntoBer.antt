@@ -5,7 +5,7 @@ use Rattle.rasn_types.specs.declared.types.codec.Codec.{Codec}
 use Rattle.rasn_types.specs.declared.types.codec.Codec.TheVariants.{Ber, Cer, Der}
 use Rattle.rasn_types.specs.declared.types.tag.Tag.{Tag}
 use Rattle.rasn_types.specs.Framing.{Frame, with_length, without_length, Extent, NextTag, CompleteEncoding, plain, closed, CompleteEncodings, none, one_more}
-use Rattle.rasn_types.specs.Shapes.{Tree, absent, Kind, boolean, null, object_identifier, integer, enumerated, octet_string, fixed, numeric, printable, visible, ia5, any_octets, bmp, utf8, utc_time, generalized_time, date, Shape, leaf, any, prefix, choice, option, seq, set, list, set_of, Parts, part, own, presences, Presence, required, optional, addition, default, IsAlwaysPresent, AreAlwaysPresent}
+use Rattle.rasn_types.specs.Shapes.{Tree, absent, Kind, boolean, null, object_identifier, integer, enumerated, octet_string, fixed, numeric, printable, visible, ia5, any_octets, bmp, utf8, utc_time, generalized_time, date, Shape, leaf, any, prefix, choice, option, seq, set, list, set_of, Parts, part, own, presences, Presence, required, addition, optional_by, default_by, Sought, one_tag, any_of, sought_in, IsAlwaysPresent, AreAlwaysPresent}
 use Rattle.rasn_types.specs.declared.types.constraints.Bound.{Bound}
 use Rattle.rasn_types.specs.Readings.{Reading, ReadsContents, definite_form, indefinite_form, ReadsMany, IsLeftOut, IsPresent, ReadsOptional, IsNoDefault, ReadsPart, ReadsInOrder, AllMissing, presences_in, HasRequired, ReadsSeq, ReadsChoice, ReadsSet}
 use Rattle.rasn_types.specs.Contents.{ReadsString, primitive, segments, closed_segments, ReadsSegments, ReadsBitSegment, OctetSegment, Contents, IsBool}
@@ -47,19 +47,22 @@ pub many_in : {X : Type 0} (reads wide : Reading X) → IsIn reads wide → (clo
 many_in reads wide into closing input [] rest h = h
 many_in reads wide into closing input (x ∷ xs) rest (p, m, q, r) = (p, m, into input x m q, many_in reads wide into closing m xs rest r)
 
-left_out_ber : (spelling : Form) (tag : Option Tag) (closing : Bool) (input : List ℕ) → IsLeftOut spelling tag closing input → IsLeftOut basic_form tag closing input
-left_out_ber spelling None closing input h = h
-left_out_ber spelling (Some tag) closing input (inl h) = inl h
-left_out_ber spelling (Some tag) closing input (inr (n, next, h)) = inr (n, next_ber next, h)
+left_out_ber : (spelling : Form) (tags : Sought) (closing : Bool) (input : List ℕ) → IsLeftOut spelling tags closing input → IsLeftOut basic_form tags closing input
+left_out_ber spelling (one_tag None) closing input h = h
+left_out_ber spelling (one_tag (Some tag)) closing input (inl h) = inl h
+left_out_ber spelling (one_tag (Some tag)) closing input (inr (n, next, h)) = inr (n, next_ber next, h)
+left_out_ber spelling (any_of P) closing input (inl h) = inl h
+left_out_ber spelling (any_of P) closing input (inr (n, next, h)) = inr (n, next_ber next, h)
 
-there_ber : (spelling : Form) (tag : Option Tag) (closing : Bool) (input : List ℕ) → IsPresent spelling tag closing input → IsPresent basic_form tag closing input
-there_ber spelling None closing input h = h
-there_ber spelling (Some tag) closing input h = (h.0, next_ber h.1)
+there_ber : (spelling : Form) (tags : Sought) (closing : Bool) (input : List ℕ) → IsPresent spelling tags closing input → IsPresent basic_form tags closing input
+there_ber spelling (one_tag None) closing input h = h
+there_ber spelling (one_tag (Some tag)) closing input h = (h.0, next_ber h.1)
+there_ber spelling (any_of P) closing input h = (h.0, h.1, next_ber h.2, h.3)
 
-perhaps_in : {X : Type 0} (spelling : Form) (tag : Option Tag) (without : X) (reads wide : Reading X) → IsIn reads wide → (closing : Bool)
-    → IsIn (ReadsOptional spelling tag without reads closing) (ReadsOptional basic_form tag without wide closing)
-perhaps_in spelling tag without reads wide into closing input x rest (inl (p, q, r)) = inl (left_out_ber spelling tag closing input p, q, r)
-perhaps_in spelling tag without reads wide into closing input x rest (inr (p, q)) = inr (there_ber spelling tag closing input p, into input x rest q)
+perhaps_in : {X : Type 0} (spelling : Form) (tags : Sought) (without : X) (reads wide : Reading X) → IsIn reads wide → (closing : Bool)
+    → IsIn (ReadsOptional spelling tags without reads closing) (ReadsOptional basic_form tags without wide closing)
+perhaps_in spelling tags without reads wide into closing input x rest (inl (p, q, r)) = inl (left_out_ber spelling tags closing input p, q, r)
+perhaps_in spelling tags without reads wide into closing input x rest (inr (p, q)) = inr (there_ber spelling tags closing input p, into input x rest q)
 
 pub bool_in : (rule : Codec) (l : List ℕ) (z : ℤ) → IsBool rule l z → IsBool Ber l z
 bool_in Ber l z h = h
@@ -120,13 +123,13 @@ abbrev pub EachIn : Codec → ℕ → Bool → Parts → Type 0
 EachIn rule depth closing Parts.none = Unit {0}
 EachIn rule depth closing (part presence s ps) = IsIn (Reads rule s depth closing) (Reads Ber s depth closing) × EachIn rule depth closing ps
 
-part_in : (rule : Codec) (presence : Presence) (tag : Option Tag) (reads wide : Reading Tree) → IsIn reads wide → (closing : Bool)
-    → IsIn (ReadsPart rule presence tag reads closing) (ReadsPart Ber presence tag wide closing)
-part_in rule required tag reads wide into closing = into
-part_in rule addition tag reads wide into closing = into
-part_in rule optional tag reads wide into closing = perhaps_in (form rule) tag absent reads wide into closing
-part_in rule (default d) tag reads wide into closing =
-    perhaps_in (form rule) tag d (λ input t rest. reads input t rest × (IsStrict rule → IsNoDefault (default d) t)) (λ input t rest. wide input t rest × (IsStrict Ber → IsNoDefault (default d) t))
+part_in : (rule : Codec) (presence : Presence) (tags : Sought) (reads wide : Reading Tree) → IsIn reads wide → (closing : Bool)
+    → IsIn (ReadsPart rule presence tags reads closing) (ReadsPart Ber presence tags wide closing)
+part_in rule required tags reads wide into closing = into
+part_in rule addition tags reads wide into closing = into
+part_in rule (optional_by key) tags reads wide into closing = perhaps_in (form rule) tags absent reads wide into closing
+part_in rule (default_by key d) tags reads wide into closing =
+    perhaps_in (form rule) tags d (λ input t rest. reads input t rest × (IsStrict rule → IsNoDefault (default_by key d) t)) (λ input t rest. wide input t rest × (IsStrict Ber → IsNoDefault (default_by key d) t))
     (λ input t rest h. (into input t rest h.0, λ z. absurd z)) closing
 
 in_order_in : (ps : Parts) (rule : Codec) (depth : ℕ) (c : Bool) → EachIn rule depth c ps → (closing : Bool) (input : List ℕ) (ts : List Tree) (rest : List ℕ)
@@ -134,7 +137,7 @@ in_order_in : (ps : Parts) (rule : Codec) (depth : ℕ) (c : Bool) → EachIn ru
 unfolding Reads parts_of
 in_order_in Parts.none rule depth c into closing input ts rest h = h
 in_order_in (part presence s ps) rule depth c into closing input ts rest (t, us, m, e, h, k) =
-    (t, us, m, e, part_in rule presence (own s) (Reads rule s depth c) (Reads Ber s depth c) into.0 closing input t m h, in_order_in ps rule depth c into.1 closing m us rest k)
+    (t, us, m, e, part_in rule presence (sought_in presence s) (Reads rule s depth c) (Reads Ber s depth c) into.0 closing input t m h, in_order_in ps rule depth c into.1 closing m us rest k)
 
 required_same : (ps : Parts) (rule other : Codec) (depth : ℕ) (c : Bool) → HasRequired (parts_of rule ps depth c) → HasRequired (parts_of other ps depth c)
 unfolding Reads parts_of
@@ -185,7 +188,7 @@ mutual
   reads_in (prefix tag s) rule depth closing = λ input t rest h.
       (h.0, h.1, (λ z. absurd z), inside_in (λ c. Reads rule s (depth - 1) c) (λ c. Reads Ber s (depth - 1) c) (λ c. reads_in s rule (depth - 1) c) input t rest h.3)
   reads_in (choice ps) rule depth closing = choice_in ps rule depth closing (parts_in ps rule depth closing) 0
-  reads_in (option tag s) rule depth closing = perhaps_in (form rule) tag absent (Reads rule s depth closing) (Reads Ber s depth closing) (reads_in s rule depth closing) closing
+  reads_in (option tag s) rule depth closing = perhaps_in (form rule) (one_tag tag) absent (Reads rule s depth closing) (Reads Ber s depth closing) (reads_in s rule depth closing) closing
   reads_in (seq tag ps) rule depth closing = λ input t rest h. (
     h.0,
     inside_in (λ c. ReadsSeq rule (parts_of rule ps (depth - 1) c) c) (λ c. ReadsSeq Ber (parts_of Ber ps (depth - 1) c) c)

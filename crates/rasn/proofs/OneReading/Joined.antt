@@ -4,7 +4,7 @@ use Rattle.rasn_types.specs.Tags.{Form, form, IsStrict}
 use Rattle.rasn_types.specs.declared.types.codec.Codec.{Codec}
 use Rattle.rasn_types.specs.declared.types.tag.Tag.{Tag}
 use Rattle.rasn_types.specs.Framing.{NextTag}
-use Rattle.rasn_types.specs.Shapes.{Tree, items, chosen, absent, Presence, required, optional, addition, default}
+use Rattle.rasn_types.specs.Shapes.{Tree, items, chosen, absent, Presence, required, addition, optional_by, default_by, Sought}
 use Rattle.rasn_types.specs.Readings.{Reading, ReadsContents, definite_form, indefinite_form, ReadsMany, IsNoDefault, ReadsOptional, Part, ReadsPart, ReadsInOrder, AllMissing, presences_in, AreAllLeftOut, ReadsSeq, ReadsChoice, ByPart, ReadsSet}
 use Rattle.rasn_types.proofs.Headers.Frames.{frame_one, next_one}
 use Rattle.rasn_de.proofs.Constructed.Optional.{apart}
@@ -41,18 +41,18 @@ many_one reads one closing input (x ∷ xs) (y ∷ ys) rest other h k =
     let t = many_one reads one closing k.1 xs ys rest other (subst (λ l. ReadsMany reads closing l xs rest) o.1 h.3) k.3 in
     (ap₂ ◌∷◌ o.0 t.0, t.1)
 
-pub perhaps_one : {X : Type 0} (spelling : Form) (tag : Option Tag) (without : X) (reads : Reading X) → IsOne reads → (closing : Bool) → IsOne (ReadsOptional spelling tag without reads closing)
-perhaps_one spelling tag without reads one closing input x y rest other (inl (p, q, r)) (inl (u, v, w)) = (cc, cc)
-perhaps_one spelling tag without reads one closing input x y rest other (inl (p, q, r)) (inr (u, v)) = absurd (apart spelling tag closing input p u)
-perhaps_one spelling tag without reads one closing input x y rest other (inr (p, q)) (inl (u, v, w)) = absurd (apart spelling tag closing input u p)
-perhaps_one spelling tag without reads one closing input x y rest other (inr (p, q)) (inr (u, v)) = one input x y rest other q v
+pub perhaps_one : {X : Type 0} (spelling : Form) (tags : Sought) (without : X) (reads : Reading X) → IsOne reads → (closing : Bool) → IsOne (ReadsOptional spelling tags without reads closing)
+perhaps_one spelling tags without reads one closing input x y rest other (inl (p, q, r)) (inl (u, v, w)) = (cc, cc)
+perhaps_one spelling tags without reads one closing input x y rest other (inl (p, q, r)) (inr (u, v)) = absurd (apart spelling tags closing input p u)
+perhaps_one spelling tags without reads one closing input x y rest other (inr (p, q)) (inl (u, v, w)) = absurd (apart spelling tags closing input u p)
+perhaps_one spelling tags without reads one closing input x y rest other (inr (p, q)) (inr (u, v)) = one input x y rest other q v
 
-part_one : (rule : Codec) (presence : Presence) (tag : Option Tag) (reads : Reading Tree) → IsOne reads → (closing : Bool) → IsOne (ReadsPart rule presence tag reads closing)
-part_one rule required tag reads one closing = one
-part_one rule addition tag reads one closing = one
-part_one rule optional tag reads one closing = perhaps_one (form rule) tag absent reads one closing
-part_one rule (default d) tag reads one closing =
-    perhaps_one (form rule) tag d (λ input t rest. reads input t rest × (IsStrict rule → IsNoDefault (default d) t)) (λ input x y rest other h k. one input x y rest other h.0 k.0) closing
+part_one : (rule : Codec) (presence : Presence) (tags : Sought) (reads : Reading Tree) → IsOne reads → (closing : Bool) → IsOne (ReadsPart rule presence tags reads closing)
+part_one rule required tags reads one closing = one
+part_one rule addition tags reads one closing = one
+part_one rule (optional_by key) tags reads one closing = perhaps_one (form rule) tags absent reads one closing
+part_one rule (default_by key d) tags reads one closing =
+    perhaps_one (form rule) tags d (λ input t rest. reads input t rest × (IsStrict rule → IsNoDefault (default_by key d) t)) (λ input x y rest other h k. one input x y rest other h.0 k.0) closing
 
 abbrev pub EachPart : (Part → Type 0) → List Part → Type 0
 EachPart P [] = Unit {0}
@@ -64,7 +64,7 @@ ReadsOne p = IsOne p.reads
 in_order_one : (rule : Codec) (ps : List Part) → EachPart ReadsOne ps → (closing : Bool) → IsOne (ReadsInOrder rule ps closing)
 in_order_one rule [] one closing input ts us rest other h k = let p = h.0 in let q = h.1 in let r = k.0 in let s = k.1 in (cc, cc)
 in_order_one rule (p ∷ ps) one closing input ts us rest other h k =
-    let o = part_one rule p.presence p.own p.reads one.0 closing input h.0 k.0 h.2 k.2 h.4 k.4 in
+    let o = part_one rule p.presence p.sought p.reads one.0 closing input h.0 k.0 h.2 k.2 h.4 k.4 in
     let t = in_order_one rule ps one.1 closing k.2 h.1 k.1 rest other (subst (λ l. ReadsInOrder rule ps closing l h.1 rest) o.1 h.5) k.5 in
     (h.3 ∙ (ap₂ ◌∷◌ o.0 t.0 ∙ sym k.3), t.1)
 

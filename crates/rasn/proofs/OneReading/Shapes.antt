@@ -3,7 +3,7 @@ use Rattle.std.proofs.Common.{ℕ, ◌-◌, inl, inr, Bool, Option, Some, None, 
 use Rattle.rasn_types.specs.Tags.{form, IsTagBelow}
 use Rattle.rasn_types.specs.declared.types.codec.Codec.{Codec}
 use Rattle.rasn_types.specs.declared.types.tag.Tag.{Tag}
-use Rattle.rasn_types.specs.Shapes.{Tree, items, set_elements, absent, Shape, leaf, any, prefix, choice, option, seq, set, list, set_of, Parts, part, IsFirstOf, presences}
+use Rattle.rasn_types.specs.Shapes.{Tree, items, set_elements, absent, Shape, leaf, any, prefix, choice, option, seq, set, list, set_of, Parts, part, IsFirstOf, one_tag, presences}
 use Rattle.rasn_types.specs.declared.types.constraints.Bound.{Bound}
 use Rattle.rasn_types.specs.Shapes.Parts.{none}
 use Rattle.rasn_types.specs.Readings.{Reading, ReadsSeq, ReadsChoice, ReadsSet}
@@ -58,7 +58,7 @@ one_choice rule ps one told depth closing = choice_one rule (parts_of rule ps de
 
 pub one_option : OneOption
 unfolding Reads parts_of
-one_option rule tag s one depth closing = perhaps_one (form rule) tag absent (Reads rule s depth closing) (one depth closing) closing
+one_option rule tag s one depth closing = perhaps_one (form rule) (one_tag tag) absent (Reads rule s depth closing) (one depth closing) closing
 
 pub one_sequence : OneSequence
 unfolding Reads parts_of

@@ -4,7 +4,7 @@ use Rattle.rasn_types.specs.Tags.{Form, form, loose}
 use Rattle.rasn_types.specs.declared.types.codec.Codec.{Codec}
 use Rattle.rasn_types.specs.declared.types.tag.Tag.{Tag}
 use Rattle.rasn_types.specs.Framing.{NextTag}
-use Rattle.rasn_types.specs.Shapes.{Tree, Kind, Shape, leaf, any, prefix, choice, option, seq, set, list, set_of, Parts, part, IsFirst, IsFirstOf, IsAlwaysPresent, AreAlwaysPresent}
+use Rattle.rasn_types.specs.Shapes.{Tree, Kind, Shape, leaf, any, prefix, choice, option, seq, set, list, set_of, Parts, part, IsFirst, IsFirstOf, one_tag, IsAlwaysPresent, AreAlwaysPresent}
 use Rattle.rasn_types.specs.Shapes.Parts.{none}
 use Rattle.rasn_types.specs.Readings.{Reading, ReadsContents, definite_form, indefinite_form, ReadsChoice, IsLeftOut, IsPresent}
 use Rattle.rasn_types.specs.Contents.{ReadsString, primitive, segments, closed_segments, ReadsBitSegment, OctetSegment}
@@ -121,14 +121,14 @@ mutual
   some_closing (part presence s ps) solid k rule depth c d input t rest (inr h) = inr (some_closing ps solid.1 (suc k) rule depth c d input t rest h)
 
 -- At the top, where end-of-contents octets are allowed, what was read without them is read too.
-left_out_wider : (spelling : Form) (tag : Option Tag) (input : List ℕ) → IsLeftOut spelling tag false input → IsLeftOut spelling tag true input
+left_out_wider : (spelling : Form) (tag : Option Tag) (input : List ℕ) → IsLeftOut spelling (one_tag tag) false input → IsLeftOut spelling (one_tag tag) true input
 left_out_wider spelling None input (inl h) = inl h
 left_out_wider spelling None input (inr h) = let e = h.0 in cc
 left_out_wider spelling (Some tag) input (inl (inl h)) = inl (inl h)
 left_out_wider spelling (Some tag) input (inl (inr h)) = let e = h.0 in cc
 left_out_wider spelling (Some tag) input (inr h) = inr h
 
-there_wider : (spelling : Form) (tag : Option Tag) (input : List ℕ) → HasNextTag input → IsPresent spelling tag false input → IsPresent spelling tag true input
+there_wider : (spelling : Form) (tag : Option Tag) (input : List ℕ) → HasNextTag input → IsPresent spelling (one_tag tag) false input → IsPresent spelling (one_tag tag) true input
 there_wider spelling None input (f, n, next) h = not_ended true input n next
 there_wider spelling (Some tag) input (f, n, next) h = (not_ended true input n next, h.1)
 

@@ -4,14 +4,14 @@ use Rattle.rasn_types.specs.Tags.{Form, form, eoc}
 use Rattle.rasn_types.specs.declared.types.codec.Codec.{Codec}
 use Rattle.rasn_types.specs.declared.types.tag.Tag.{Tag}
 use Rattle.rasn_types.specs.Framing.{NextTag, Ended}
-use Rattle.rasn_types.specs.Shapes.{Tree, items, chosen, absent, Shape, leaf, any, prefix, choice, option, seq, set, list, set_of, Parts, part, own, IsFirst, Presence, required, optional, addition, default, IsAlwaysPresent}
+use Rattle.rasn_types.specs.Shapes.{Tree, items, chosen, absent, Shape, leaf, any, prefix, choice, option, seq, set, list, set_of, Parts, part, own, IsFirst, Key, own_tag, first_tags, Presence, required, addition, optional_by, default_by, one_tag, sought_by, sought_in, IsAlwaysPresent}
 use Rattle.rasn_types.specs.Shapes.Parts.{none}
 use Rattle.rasn_types.specs.Readings.{IsLeftOut, IsPresent, Part, IsNoDefault, ReadsPart, ReadsInOrder, IsMissing, AllMissing, presences_in, HasRequired, AreAllLeftOut, ReadsSeq, ReadsChoice}
 use Rattle.rasn_types.specs.Contents.{joined_lists}
 use Rattle.rasn_types.specs.Grammar.{Reads, parts_of}
 use Rattle.rasn_types.specs.Bytes.{Each, Same, WritesPart, PartsWritten, WritesChoice, Bytes, fields_of}
 use Rattle.rasn_types.specs.Carried.{PartIsWithinLimits, IsWithinLimits, AreWithinLimits, ChosenIsWithinLimits}
-use Rattle.rasn_types.specs.Lawful.{HasTag, IsFirstBehind, IsDistinguished, MayBeLeftOut, AreLawfulInOrder}
+use Rattle.rasn_types.specs.Lawful.{HasTag, IsFirstBehind, IsDistinguished, IsRecognized, MayBeLeftOut, AreLawfulInOrder}
 use Rattle.rasn_types.proofs.Headers.Frames.{not_ended}
 use Rattle.rasn.proofs.ReadBack.Begins.{begins, HasNextTag, has_next_tag, tagged, Starts, starts}
 use Rattle.rasn.proofs.ReadBack.Constructed.{IsTail, tail_ended, IsReadAs}
@@ -48,40 +48,52 @@ own_first (set_of t s size) solid tag n e h = cc
 abbrev pub IsFollowed : Form → Parts → Bool → List ℕ → Type 0
 IsFollowed spelling ps closing input = Ended closing input ⊎ Starts spelling (IsFirstBehind ps) input
 
-left_out : (spelling : Form) (tag : Option Tag) (ps : Parts) → IsDistinguished tag ps → (closing : Bool) (input : List ℕ) → IsFollowed spelling ps closing input → IsLeftOut spelling tag closing input
-left_out spelling None ps told closing input (inl e) = e
-left_out spelling None ps told closing input (inr (inl (n, next, f))) = absurd (subst (λ q. IsFirstBehind q n) told f)
-left_out spelling None ps told closing input (inr (inr f)) = absurd (subst (λ q. IsFirstBehind q eoc) told (f eoc))
-left_out spelling (Some tag) ps told closing input (inl e) = inl e
-left_out spelling (Some tag) ps told closing input (inr (inl (n, next, f))) = inr (n, next, λ e. told (subst (IsFirstBehind ps) e f))
-left_out spelling (Some tag) ps told closing input (inr (inr f)) = absurd (told (f tag))
+own_left_out : (spelling : Form) (tag : Option Tag) (ps : Parts) → IsDistinguished tag ps → (closing : Bool) (input : List ℕ) → IsFollowed spelling ps closing input → IsLeftOut spelling (one_tag tag) closing input
+own_left_out spelling None ps told closing input (inl e) = e
+own_left_out spelling None ps told closing input (inr (inl (n, next, f))) = absurd (subst (λ q. IsFirstBehind q n) told f)
+own_left_out spelling None ps told closing input (inr (inr f)) = absurd (subst (λ q. IsFirstBehind q eoc) told (f eoc))
+own_left_out spelling (Some tag) ps told closing input (inl e) = inl e
+own_left_out spelling (Some tag) ps told closing input (inr (inl (n, next, f))) = inr (n, next, λ e. told (subst (IsFirstBehind ps) e f))
+own_left_out spelling (Some tag) ps told closing input (inr (inr f)) = absurd (told (f tag))
 
-there : (spelling : Form) (tag : Option Tag) (closing : Bool) (input : List ℕ) (n : Tag) → NextTag spelling input n → ((t : Tag) → tag ≡ Some t → n ≡ t) → IsPresent spelling tag closing input
+left_out : (spelling : Form) (key : Key) (s : Shape) (ps : Parts) → IsRecognized key s ps → (closing : Bool) (input : List ℕ) → IsFollowed spelling ps closing input → IsLeftOut spelling (sought_by key s) closing input
+left_out spelling own_tag s ps told closing input f = own_left_out spelling (own s) ps told closing input f
+left_out spelling first_tags s ps told closing input (inl e) = inl e
+left_out spelling first_tags s ps told closing input (inr (inl (n, next, f))) = inr (n, next, λ h. told.2 n h f)
+left_out spelling first_tags s ps told closing input (inr (inr f)) = absurd (told.1 f)
+
+there : (spelling : Form) (tag : Option Tag) (closing : Bool) (input : List ℕ) (n : Tag) → NextTag spelling input n → ((t : Tag) → tag ≡ Some t → n ≡ t) → IsPresent spelling (one_tag tag) closing input
 there spelling None closing input n next e = not_ended closing input n next
 there spelling (Some tag) closing input n next e = (not_ended closing input n next, subst (NextTag spelling input) (e tag refl) next)
 
 -- What is read of a shape is there.
 pub is_there : (s : Shape) → IsAlwaysPresent s → (rule : Codec) (depth : ℕ) (closing : Bool) (input : List ℕ) (t : Tree) (rest : List ℕ)
-    → Reads rule s depth closing input t rest → IsPresent (form rule) (own s) closing input
+    → Reads rule s depth closing input t rest → IsPresent (form rule) (one_tag (own s)) closing input
 is_there s solid rule depth closing input t rest h = go (tagged s)
   where
-    untagged : HasNextTag input → IsPresent (form rule) None closing input
+    untagged : HasNextTag input → IsPresent (form rule) (one_tag None) closing input
     untagged (f, n, next) = not_ended closing input n next
 
-    go : HasTag s ⊎ (s ≡ any None) → IsPresent (form rule) (own s) closing input
+    go : HasTag s ⊎ (s ≡ any None) → IsPresent (form rule) (one_tag (own s)) closing input
     go (inl has) = let b = begins s solid has rule depth closing input t rest h in there (form rule) (own s) closing input b.0 b.1 (λ t e. own_first s solid t b.0 e b.2)
-    go (inr e) = subst (λ x. IsPresent (form rule) (own x) closing input) (sym e) (untagged (has_next_tag s solid rule depth closing input t rest h))
+    go (inr e) = subst (λ x. IsPresent (form rule) (one_tag (own x)) closing input) (sym e) (untagged (has_next_tag s solid rule depth closing input t rest h))
+
+recognized_there : (key : Key) (s : Shape) (ps : Parts) → IsRecognized key s ps → IsAlwaysPresent s → (rule : Codec) (depth : ℕ) (closing : Bool) (input : List ℕ) (t : Tree) (rest : List ℕ)
+    → Reads rule s depth closing input t rest → IsPresent (form rule) (sought_by key s) closing input
+recognized_there own_tag s ps told solid rule depth closing input t rest h = is_there s solid rule depth closing input t rest h
+recognized_there first_tags s ps told solid rule depth closing input t rest h =
+    let b = begins s solid told.0 rule depth closing input t rest h in (not_ended closing input b.0 b.1, b.0, b.1, b.2)
 
 -- One part, with what it is followed by.
 abbrev pub PartBack : Codec → ℕ → Presence → Shape → Parts → Tree → List ℕ → Tree → Type 0
 PartBack rule depth presence s ps t b u = Same t u × ((closing : Bool) (input : List ℕ) → IsFollowed (form rule) ps closing input
-    → ReadsPart rule presence (own s) (Reads rule s depth closing) closing (b ++ input) u input × IsFollowed (form rule) (part presence s ps) closing (b ++ input))
+    → ReadsPart rule presence (sought_in presence s) (Reads rule s depth closing) closing (b ++ input) u input × IsFollowed (form rule) (part presence s ps) closing (b ++ input))
 
 behind_first : (presence : Presence) (s : Shape) (ps : Parts) (n : Tag) → IsFirst s n → IsFirstBehind (part presence s ps) n
 behind_first required s ps n h = h
 behind_first addition s ps n h = h
-behind_first optional s ps n h = inl h
-behind_first (default d) s ps n h = inl h
+behind_first (optional_by key) s ps n h = inl h
+behind_first (default_by key d) s ps n h = inl h
 
 part_begins : {spelling : Form} (presence : Presence) (s : Shape) (ps : Parts) (closing : Bool) (input : List ℕ) → Starts spelling (IsFirst s) input → IsFollowed spelling (part presence s ps) closing input
 part_begins presence s ps closing input (inl (n, next, f)) = inr (inl (n, next, behind_first presence s ps n f))
@@ -96,8 +108,8 @@ skips presence s ps more closing input (inr (inr f)) = inr (inr (λ n. more n (f
 module _ (rule : Codec) (depth : ℕ) (s : Shape) (solid : IsAlwaysPresent s) (back : IsBack rule s depth) (ps : Parts) where
   -- the part is written
   written : (presence : Presence) (t : Tree) (b : List ℕ) → IsWithinLimits rule s depth t → Bytes rule s t b
-      → ((closing : Bool) (input : List ℕ) (u : Tree) (rest : List ℕ) → Same t u → IsPresent (form rule) (own s) closing input → Reads rule s depth closing input u rest
-      → ReadsPart rule presence (own s) (Reads rule s depth closing) closing input u rest)
+      → ((closing : Bool) (input : List ℕ) (u : Tree) (rest : List ℕ) → Same t u → Reads rule s depth closing input u rest
+      → ReadsPart rule presence (sought_in presence s) (Reads rule s depth closing) closing input u rest)
       → (u : Tree) × PartBack rule depth presence s ps t b u
   written presence t b within_limits w read =
       let r = back t b within_limits w in (
@@ -106,14 +118,13 @@ module _ (rule : Codec) (depth : ℕ) (s : Shape) (solid : IsAlwaysPresent s) (b
           r.1,
           λ closing input f.
               let again = r.2 input closing in
-              let first = is_there s solid rule depth closing (b ++ input) r.0 input again in
-              (read closing (b ++ input) r.0 input r.1 first again, part_begins presence s ps closing (b ++ input) (starts s solid rule depth closing (b ++ input) r.0 input again)),
+              (read closing (b ++ input) r.0 input r.1 again, part_begins presence s ps closing (b ++ input) (starts s solid rule depth closing (b ++ input) r.0 input again)),
         ),
       )
 
   -- the part is left out, for v
   left : (presence : Presence) (t v : Tree) (b : List ℕ) → b ≡ [] → Same t v → ((n : Tag) → IsFirstBehind ps n → IsFirstBehind (part presence s ps) n)
-      → ((closing : Bool) (input : List ℕ) → IsFollowed (form rule) ps closing input → ReadsPart rule presence (own s) (Reads rule s depth closing) closing input v input)
+      → ((closing : Bool) (input : List ℕ) → IsFollowed (form rule) ps closing input → ReadsPart rule presence (sought_in presence s) (Reads rule s depth closing) closing input v input)
       → (u : Tree) × PartBack rule depth presence s ps t b u
   left presence t v b e same more read = (
     v,
@@ -121,28 +132,28 @@ module _ (rule : Codec) (depth : ℕ) (s : Shape) (solid : IsAlwaysPresent s) (b
       same,
       λ closing input f.
           let g : input ≡ b ++ input = ap (λ l. l ++ input) (sym e) in (
-            subst (λ i. ReadsPart rule presence (own s) (Reads rule s depth closing) closing i v input) g (read closing input f),
+            subst (λ i. ReadsPart rule presence (sought_in presence s) (Reads rule s depth closing) closing i v input) g (read closing input f),
             subst (λ i. IsFollowed (form rule) (part presence s ps) closing i) g (skips presence s ps more closing input f),
           ),
     ),
   )
 
-  part_back : (presence : Presence) → MayBeLeftOut presence (own s) ps → (t : Tree) (b : List ℕ)
+  part_back : (presence : Presence) → MayBeLeftOut presence s ps → (t : Tree) (b : List ℕ)
       → PartIsWithinLimits presence (IsWithinLimits rule s depth) t → WritesPart presence (Bytes rule s) t b → (u : Tree) × PartBack rule depth presence s ps t b u
-  part_back required told t b within_limits w = written required t b within_limits w (λ closing input u rest same first r. r)
+  part_back required told t b within_limits w = written required t b within_limits w (λ closing input u rest same r. r)
   part_back addition told t b within_limits (inl w) = absurd (within_limits.0 w.0)
-  part_back addition told t b within_limits (inr w) = written addition t b within_limits.1 w.1 (λ closing input u rest same first r. r)
-  part_back optional told t b within_limits (inl (e, f)) =
-      left optional t absent b f (subst (λ x. Same x absent) (sym e) refl) (λ n h. inr h)
-      (λ closing input g. inl (left_out (form rule) (own s) ps told closing input g, refl, refl))
-  part_back optional told t b (inl e) (inr w) = absurd (w.0 e)
-  part_back optional told t b (inr within_limits) (inr w) =
-      written optional t b within_limits w.1 (λ closing input u rest same first r. inr (first, r))
-  part_back (default d) told t b within_limits (inl (e, f)) =
-      left (default d) t d b f e (λ n h. inr h) (λ closing input g. inl (left_out (form rule) (own s) ps told closing input g, refl, refl))
-  part_back (default d) told t b (inl e) (inr w) = absurd (w.0 e)
-  part_back (default d) told t b (inr within_limits) (inr w) =
-      written (default d) t b within_limits w.1 (λ closing input u rest same first r. inr (first, (r, λ z e. w.0 (same_trans t u d same e))))
+  part_back addition told t b within_limits (inr w) = written addition t b within_limits.1 w.1 (λ closing input u rest same r. r)
+  part_back (optional_by key) told t b within_limits (inl (e, f)) =
+      left (optional_by key) t absent b f (subst (λ x. Same x absent) (sym e) refl) (λ n h. inr h)
+      (λ closing input g. inl (left_out (form rule) key s ps told closing input g, refl, refl))
+  part_back (optional_by key) told t b (inl e) (inr w) = absurd (w.0 e)
+  part_back (optional_by key) told t b (inr within_limits) (inr w) =
+      written (optional_by key) t b within_limits w.1 (λ closing input u rest same r. inr (recognized_there key s ps told solid rule depth closing input u rest r, r))
+  part_back (default_by key d) told t b within_limits (inl (e, f)) =
+      left (default_by key d) t d b f e (λ n h. inr h) (λ closing input g. inl (left_out (form rule) key s ps told closing input g, refl, refl))
+  part_back (default_by key d) told t b (inl e) (inr w) = absurd (w.0 e)
+  part_back (default_by key d) told t b (inr within_limits) (inr w) =
+      written (default_by key d) t b within_limits w.1 (λ closing input u rest same r. inr (recognized_there key s ps told solid rule depth closing input u rest r, (r, λ z e. w.0 (same_trans t u d same e))))
 
 abbrev pub PartsBack : Codec → ℕ → Parts → List Tree → List (List ℕ) → List Tree → Type 0
 PartsBack rule depth ps ts bs us = Each Same ts us × ((closing : Bool) (tail : List ℕ) → IsTail closing tail
@@ -188,13 +199,13 @@ pub nothing_is_next : HasNextTag [] → ⊥
 nothing_is_next (f, n, next) = not_ended false [] n next (inl refl)
 
 missing_in_nothing : (rule : Codec) (depth : ℕ) (c : Bool) (presence : Presence) (s : Shape) → IsAlwaysPresent s → (t : Tree) (rest : List ℕ)
-    → ReadsPart rule presence (own s) (Reads rule s depth c) false [] t rest → IsMissing presence t × (rest ≡ [])
+    → ReadsPart rule presence (sought_in presence s) (Reads rule s depth c) false [] t rest → IsMissing presence t × (rest ≡ [])
 missing_in_nothing rule depth c required s solid t rest h = absurd (nothing_is_next (has_next_tag s solid rule depth c [] t rest h))
 missing_in_nothing rule depth c addition s solid t rest h = absurd (nothing_is_next (has_next_tag s solid rule depth c [] t rest h))
-missing_in_nothing rule depth c optional s solid t rest (inl (p, q, r)) = (q, r)
-missing_in_nothing rule depth c optional s solid t rest (inr (p, h)) = absurd (nothing_is_next (has_next_tag s solid rule depth c [] t rest h))
-missing_in_nothing rule depth c (default d) s solid t rest (inl (p, q, r)) = (q, r)
-missing_in_nothing rule depth c (default d) s solid t rest (inr (p, h)) = absurd (nothing_is_next (has_next_tag s solid rule depth c [] t rest h.0))
+missing_in_nothing rule depth c (optional_by key) s solid t rest (inl (p, q, r)) = (q, r)
+missing_in_nothing rule depth c (optional_by key) s solid t rest (inr (p, h)) = absurd (nothing_is_next (has_next_tag s solid rule depth c [] t rest h))
+missing_in_nothing rule depth c (default_by key d) s solid t rest (inl (p, q, r)) = (q, r)
+missing_in_nothing rule depth c (default_by key d) s solid t rest (inr (p, h)) = absurd (nothing_is_next (has_next_tag s solid rule depth c [] t rest h.0))
 
 abbrev pub EachSolid : Parts → Type 0
 EachSolid none = Unit {0}
@@ -214,9 +225,9 @@ solid_of rule depth (part presence s ps) h = (h.0, solid_of rule depth ps h.2)
 
 is_required : (presence : Presence) → (presence ≡ required) ⊎ (presence ≢ required)
 is_required required = inl refl
-is_required optional = inr (λ e. cc)
+is_required (optional_by key) = inr (λ e. cc)
 is_required addition = inr (λ e. cc)
-is_required (default d) = inr (λ e. cc)
+is_required (default_by key d) = inr (λ e. cc)
 
 has_required : (ps : List Part) → HasRequired ps ⊎ (HasRequired ps → ⊥)
 has_required [] = inr (λ h. h)

@@ -5,7 +5,7 @@ use Rattle.rasn_types.specs.Order.{AreAscending}
 use Rattle.rasn_types.specs.declared.types.codec.Codec.{Codec}
 use Rattle.rasn_types.specs.declared.types.tag.Tag.{Tag}
 use Rattle.rasn_types.specs.Framing.{Begins, Ended}
-use Rattle.rasn_types.specs.Shapes.{Tree, items, chosen, absent, Shape, Parts, part, presences, Presence, required, optional, addition, default, IsAlwaysPresent}
+use Rattle.rasn_types.specs.Shapes.{Tree, items, chosen, absent, Shape, Parts, part, presences, Presence, required, addition, optional_by, default_by, IsAlwaysPresent}
 use Rattle.rasn_types.specs.Shapes.Parts.{none}
 use Rattle.rasn_types.specs.Readings.{ReadsMany, ReadsFrom, IsNoDefault, IsMissing, ReadsChoice, NoneOf, ByPart, ReadsSet}
 use Rattle.rasn_types.specs.Contents.{joined_lists}
@@ -73,12 +73,12 @@ component_back : (rule : Codec) (depth : ℕ) (s : Shape) → IsBack rule s dept
 component_back rule depth s back required t b within_limits w = let r = back t b within_limits w in (r.0, r.1, inr (tt, r.2))
 component_back rule depth s back addition t b within_limits (inl w) = absurd (within_limits.0 w.0)
 component_back rule depth s back addition t b within_limits (inr w) = let r = back t b within_limits.1 w.1 in (r.0, r.1, inr (tt, r.2))
-component_back rule depth s back optional t b within_limits (inl (e, f)) = (absent, subst (λ x. Same x absent) (sym e) refl, inl (f, refl))
-component_back rule depth s back optional t b (inl e) (inr w) = absurd (w.0 e)
-component_back rule depth s back optional t b (inr within_limits) (inr w) = let r = back t b within_limits w.1 in (r.0, r.1, inr (tt, r.2))
-component_back rule depth s back (default d) t b within_limits (inl (e, f)) = (d, e, inl (f, refl))
-component_back rule depth s back (default d) t b (inl e) (inr w) = absurd (w.0 e)
-component_back rule depth s back (default d) t b (inr within_limits) (inr w) = let r = back t b within_limits w.1 in (r.0, r.1, inr ((λ e. w.0 (same_trans t r.0 d r.1 e)), r.2))
+component_back rule depth s back (optional_by key) t b within_limits (inl (e, f)) = (absent, subst (λ x. Same x absent) (sym e) refl, inl (f, refl))
+component_back rule depth s back (optional_by key) t b (inl e) (inr w) = absurd (w.0 e)
+component_back rule depth s back (optional_by key) t b (inr within_limits) (inr w) = let r = back t b within_limits w.1 in (r.0, r.1, inr (tt, r.2))
+component_back rule depth s back (default_by key d) t b within_limits (inl (e, f)) = (d, e, inl (f, refl))
+component_back rule depth s back (default_by key d) t b (inl e) (inr w) = absurd (w.0 e)
+component_back rule depth s back (default_by key d) t b (inr within_limits) (inr w) = let r = back t b within_limits w.1 in (r.0, r.1, inr ((λ e. w.0 (same_trans t r.0 d r.1 e)), r.2))
 
 -- A component, among all.
 pub record ReadMore (rule : Codec) (depth : ℕ) (all : Parts) (b : List ℕ) (t : Tree) : Type 0 where

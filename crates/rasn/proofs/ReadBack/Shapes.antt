@@ -6,7 +6,7 @@ use Rattle.rasn_types.specs.declared.types.codec.Codec.{Codec}
 use Rattle.rasn_types.specs.declared.types.codec.Codec.TheVariants.{Ber, Cer, Der}
 use Rattle.rasn_types.specs.declared.types.tag.Tag.{Tag}
 use Rattle.rasn_types.specs.Framing.{Frame, with_length, definite, CompleteEncoding, plain, CompleteEncodings, none, one_more}
-use Rattle.rasn_types.specs.Shapes.{Tree, numbers, items, set_elements, absent, Admits, Shape, leaf, any, prefix, choice, option, seq, set, list, set_of, Parts, part, own, presences, IsAlwaysPresent}
+use Rattle.rasn_types.specs.Shapes.{Tree, numbers, items, set_elements, absent, Admits, Shape, leaf, any, prefix, choice, option, seq, set, list, set_of, Parts, part, own, one_tag, presences, IsAlwaysPresent}
 use Rattle.rasn_types.specs.declared.types.constraints.Bound.{Bound}
 use Rattle.rasn_types.specs.Readings.{IsLeftOut, IsPresent, Reading, ReadsMany, ReadsFrom, ReadsSeq, ReadsSet}
 use Rattle.rasn_types.specs.Contents.{joined_lists}
@@ -228,16 +228,16 @@ option_back : (tag : Option Tag) (s : Shape) → tag ≡ own s → IsAlwaysPrese
     → IsWithinLimits rule (option tag s) depth t → Bytes rule (option tag s) t b → (closing : Bool) → (u : Tree) × Same t u × Reads rule (option tag s) depth closing b u []
 unfolding Reads parts_of Bytes fields_of IsWithinLimits
 option_back tag s own solid lawful rule depth t b m (inl (e, f)) closing =
-    (absent, subst (λ x. Same x absent) (sym e) refl, inl (subst (IsLeftOut (form rule) tag closing) (sym f) (nothing tag), refl, sym f))
+    (absent, subst (λ x. Same x absent) (sym e) refl, inl (subst (IsLeftOut (form rule) (one_tag tag) closing) (sym f) (nothing tag), refl, sym f))
   where
-    nothing : (tag : Option Tag) → IsLeftOut (form rule) tag closing []
+    nothing : (tag : Option Tag) → IsLeftOut (form rule) (one_tag tag) closing []
     nothing None = inl refl
     nothing (Some tag) = inl (inl refl)
 option_back tag s own solid lawful rule depth t b (inl m) (inr w) closing = absurd (w.0 m)
 option_back tag s own solid lawful rule depth t b (inr m) (inr w) closing =
     let r = back s solid lawful rule depth t b m w.1 in
     let h : Reads rule s depth closing b r.0 [] = subst (λ i. Reads rule s depth closing i r.0 []) (append-nil b) (r.2 [] closing) in
-    (r.0, r.1, inr (subst (λ x. IsPresent (form rule) x closing b) (sym own) (is_there s solid rule depth closing b r.0 [] h), h))
+    (r.0, r.1, inr (subst (λ x. IsPresent (form rule) (one_tag x) closing b) (sym own) (is_there s solid rule depth closing b r.0 [] h), h))
 
 optional_lawful : (tag : Option Tag) (s : Shape) → IsLawful (option tag s) → (tag ≡ own s) × IsAlwaysPresent s × IsLawful s
 unfolding IsLawful

@@ -6,7 +6,7 @@ use Rattle.rasn_types.specs.declared.types.codec.Codec.TheVariants.{Der}
 use Rattle.rasn_types.specs.Framing.{without_length, CompleteEncoding}
 use Rattle.rasn_types.specs.Calendar.{Moment}
 use Rattle.rasn_types.specs.Time.{CarriedUtc, CarriedDay}
-use Rattle.rasn_types.specs.Shapes.{presences, Tree, number, bits, numbers, instant, on_day, done, joined, items, set_elements, chosen, absent, Same, Kind, utc_time, generalized_time, date, Shape, leaf, any, prefix, choice, option, seq, set, list, set_of, Parts, part, own, Presence, required, optional, addition, default}
+use Rattle.rasn_types.specs.Shapes.{presences, Tree, number, bits, numbers, instant, on_day, done, joined, items, set_elements, chosen, absent, Same, Kind, utc_time, generalized_time, date, Shape, leaf, any, prefix, choice, option, seq, set, list, set_of, Parts, part, own, Presence, required, addition, optional_by, default_by, Sought, sought_in}
 use Rattle.rasn_types.specs.declared.types.constraints.Bound.{Bound}
 use Rattle.rasn_types.specs.Shapes.Parts.{none}
 use Rattle.rasn_types.specs.Described.{has_required, has_addition}
@@ -60,9 +60,9 @@ itself absent e = refl
 
 own_default : (presence : Presence) → is_own_default presence ≡ true → IsOwnDefault presence
 own_default required e = tt
-own_default optional e = tt
+own_default (optional_by key) e = tt
 own_default addition e = tt
-own_default (default d) e = itself d e
+own_default (default_by key d) e = itself d e
 
 -- The three parts of the test of parts.
 three : (a b c : Bool) → (a && (b && c)) ≡ true → (a ≡ true) × (b ≡ true) × (c ≡ true)
@@ -119,31 +119,31 @@ EachMet depth (part presence s ps) = Met presence s depth × EachMet depth ps
 next_met : (s : Shape) (depth : ℕ) (presence : Presence) → Met presence s depth → (c : Bool) (input : List ℕ) (t : Tree) (rest : List ℕ)
     → Reads Der s depth c input t rest → PartIsWithinLimits presence (IsWithinLimits Der s depth) t
 next_met s depth required k c input t rest h = k.met c input t rest h
-next_met s depth optional k c input t rest h = inr (k.met c input t rest h)
+next_met s depth (optional_by key) k c input t rest h = inr (k.met c input t rest h)
 next_met s depth addition k c input t rest h = (k.there c input t rest h, k.met c input t rest h)
-next_met s depth (default d) k c input t rest h = inr (k.met c input t rest h)
+next_met s depth (default_by key d) k c input t rest h = inr (k.met c input t rest h)
 
 missing_met : (s : Shape) (depth : ℕ) (presence : Presence) → presence ≢ addition → IsOwnDefault presence → (t : Tree) → IsMissing presence t → PartIsWithinLimits presence (IsWithinLimits Der s depth) t
 missing_met s depth required n own t e = absurd e
-missing_met s depth optional n own t e = inl e
+missing_met s depth (optional_by key) n own t e = inl e
 missing_met s depth addition n own t e = absurd (n refl)
-missing_met s depth (default d) n own t e = inl (subst (λ x. Same x d) (sym e) own)
+missing_met s depth (default_by key d) n own t e = inl (subst (λ x. Same x d) (sym e) own)
 
-part_met : (s : Shape) (depth : ℕ) (presence : Presence) → Met presence s depth → (tag : Option Tag) (c closing : Bool) (input : List ℕ) (t : Tree) (rest : List ℕ)
-    → ReadsPart Der presence tag (Reads Der s depth c) closing input t rest → PartIsWithinLimits presence (IsWithinLimits Der s depth) t
+part_met : (s : Shape) (depth : ℕ) (presence : Presence) → Met presence s depth → (tags : Sought) (c closing : Bool) (input : List ℕ) (t : Tree) (rest : List ℕ)
+    → ReadsPart Der presence tags (Reads Der s depth c) closing input t rest → PartIsWithinLimits presence (IsWithinLimits Der s depth) t
 part_met s depth required k tag c closing input t rest h = next_met s depth required k c input t rest h
 part_met s depth addition k tag c closing input t rest h = next_met s depth addition k c input t rest h
-part_met s depth optional k tag c closing input t rest (inl h) = inl h.1
-part_met s depth optional k tag c closing input t rest (inr h) = next_met s depth optional k c input t rest h.1
-part_met s depth (default d) k tag c closing input t rest (inl h) = inl (subst (λ x. Same x d) (sym h.1) k.own_default)
-part_met s depth (default d) k tag c closing input t rest (inr h) = next_met s depth (default d) k c input t rest h.1.0
+part_met s depth (optional_by key) k tag c closing input t rest (inl h) = inl h.1
+part_met s depth (optional_by key) k tag c closing input t rest (inr h) = next_met s depth (optional_by key) k c input t rest h.1
+part_met s depth (default_by key d) k tag c closing input t rest (inl h) = inl (subst (λ x. Same x d) (sym h.1) k.own_default)
+part_met s depth (default_by key d) k tag c closing input t rest (inr h) = next_met s depth (default_by key d) k c input t rest h.1.0
 
 in_order_met : (ps : Parts) (depth : ℕ) → EachMet depth ps → (c closing : Bool) (input : List ℕ) (ts : List Tree) (rest : List ℕ)
     → ReadsInOrder Der (parts_of Der ps depth c) closing input ts rest → AreWithinLimits Der ps depth ts
 unfolding Reads parts_of IsWithinLimits
 in_order_met none depth k c closing input ts rest h = h.0
 in_order_met (part presence s ps) depth k c closing input ts rest (t, us, middle, e, h, hs) =
-    (t, us, e, part_met s depth presence k.0 (own s) c closing input t middle h, in_order_met ps depth k.1 c closing middle us rest hs)
+    (t, us, e, part_met s depth presence k.0 (sought_in presence s) c closing input t middle h, in_order_met ps depth k.1 c closing middle us rest hs)
 
 abbrev HasNoAddition : Parts → Type 0
 HasNoAddition none = Unit {0}
@@ -152,17 +152,17 @@ HasNoAddition (part presence s ps) = (presence ≢ addition) × HasNoAddition ps
 no_addition : (ps : Parts) → has_addition ps ≡ false → HasNoAddition ps
 no_addition none e = tt
 no_addition (part required s ps) e = (λ f. cc, no_addition ps e)
-no_addition (part optional s ps) e = (λ f. cc, no_addition ps e)
+no_addition (part (optional_by key) s ps) e = (λ f. cc, no_addition ps e)
 no_addition (part addition s ps) e = absurd (cc)
-no_addition (part (default d) s ps) e = (λ f. cc, no_addition ps e)
+no_addition (part (default_by key d) s ps) e = (λ f. cc, no_addition ps e)
 
 some_required : (ps : Parts) (depth : ℕ) (c : Bool) → has_required ps ≡ true → HasRequired (parts_of Der ps depth c)
 unfolding Reads parts_of
 some_required none depth c e = absurd (cc)
 some_required (part required s ps) depth c e = inl refl
-some_required (part optional s ps) depth c e = inr (some_required ps depth c e)
+some_required (part (optional_by key) s ps) depth c e = inr (some_required ps depth c e)
 some_required (part addition s ps) depth c e = inr (some_required ps depth c e)
-some_required (part (default d) s ps) depth c e = inr (some_required ps depth c e)
+some_required (part (default_by key d) s ps) depth c e = inr (some_required ps depth c e)
 
 all_missing_met : (ps : Parts) (depth : ℕ) → EachMet depth ps → HasNoAddition ps → (c : Bool) (ts : List Tree) → AllMissing (presences_in (parts_of Der ps depth c)) ts → AreWithinLimits Der ps depth ts
 unfolding Reads parts_of IsWithinLimits
@@ -204,9 +204,9 @@ by_part_met (part presence s ps) depth met n k c readings ts one (t, us, e, h, h
 
     come : (presence : Presence) → presence ≢ addition → IsWithinLimits Der s depth t → PartIsWithinLimits presence (IsWithinLimits Der s depth) t
     come required n m = m
-    come optional n m = inr m
+    come (optional_by key) n m = inr m
     come addition n m = absurd (n refl)
-    come (default d) n m = inr m
+    come (default_by key d) n m = inr m
 
     behind : ComponentsMet ps depth (suc k) readings
     behind j x l o = elim (one j x (omega arith) o) [

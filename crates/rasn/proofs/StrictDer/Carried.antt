@@ -5,7 +5,7 @@ use Rattle.rasn_types.specs.Tags.{loose_form, IsTagBelow}
 use Rattle.rasn_types.specs.declared.types.codec.Codec.TheVariants.{Der}
 use Rattle.rasn_types.specs.declared.types.tag.Tag.{Tag}
 use Rattle.rasn_types.specs.Framing.{AreOctets, SpellsAnyIdentifier, Begins, Frame, definite}
-use Rattle.rasn_types.specs.Shapes.{Tree, items, set_elements, chosen, Admits, Shape, leaf, any, prefix, choice, option, seq, set, list, set_of, Parts, part, own, IsFirst, IsFirstOf, Presence, presences, required, optional, addition, default, IsAlwaysPresent}
+use Rattle.rasn_types.specs.Shapes.{Tree, items, set_elements, chosen, Admits, Shape, leaf, any, prefix, choice, option, seq, set, list, set_of, Parts, part, own, IsFirst, IsFirstOf, Presence, presences, required, addition, optional_by, default_by, Sought, sought_in, IsAlwaysPresent}
 use Rattle.rasn_types.specs.declared.types.constraints.Bound.{Bound}
 use Rattle.rasn_types.specs.Shapes.Parts.{none}
 use Rattle.rasn_types.specs.Readings.{Reading, ReadsContents, definite_form, indefinite_form, ReadsMany, ReadsFrom, IsNoDefault, ReadsPart, ReadsInOrder, IsMissing, AllMissing, presences_in, ReadsChoice, NoneOf, OneOf, ByPart}
@@ -42,10 +42,10 @@ EachMade depth (part presence s ps) = Made s depth × EachMade depth ps
 missing_made : (s : Shape) (depth : ℕ) (presence : Presence) (t : Tree) → IsMissing presence t → PartOwes presence (Owes s depth) t
     → WritesPart presence (Bytes Der s) t []
 missing_made s depth required t e m = absurd e
-missing_made s depth optional t e m = inl (e, refl)
+missing_made s depth (optional_by key) t e m = inl (e, refl)
 missing_made s depth addition t e m = absurd (m.0 e)
-missing_made s depth (default d) t e (inl m) = inl (m, refl)
-missing_made s depth (default d) t e (inr m) = inl (m.1 e, refl)
+missing_made s depth (default_by key d) t e (inl m) = inl (m, refl)
+missing_made s depth (default_by key d) t e (inr m) = inl (m.1 e, refl)
 
 -- A part, with the rest after it.
 abbrev pub PartMade : Shape → Presence → List ℕ → Tree → List ℕ → Type 0
@@ -54,20 +54,20 @@ PartMade s presence input t rest = (b : List ℕ) × WritesPart presence (Bytes 
 next_made : (s : Shape) (depth : ℕ) → Made s depth → (presence : Presence) (closing : Bool) (input : List ℕ) (t : Tree) (rest : List ℕ) → AreOctets input
     → Reads Der s depth closing input t rest → IsNoDefault presence t → PartOwes presence (Owes s depth) t → PartMade s presence input t rest
 next_made s depth k required closing input t rest o h n m = k.made closing input t rest o h m
-next_made s depth k optional closing input t rest o h n (inl m) = absurd (k.there closing input t rest h m)
-next_made s depth k optional closing input t rest o h n (inr m) = let r = k.made closing input t rest o h m in (r.0, inr (k.there closing input t rest h, r.1), r.2)
+next_made s depth k (optional_by key) closing input t rest o h n (inl m) = absurd (k.there closing input t rest h m)
+next_made s depth k (optional_by key) closing input t rest o h n (inr m) = let r = k.made closing input t rest o h m in (r.0, inr (k.there closing input t rest h, r.1), r.2)
 next_made s depth k addition closing input t rest o h n m = let r = k.made closing input t rest o h m.1 in (r.0, inr (m.0, r.1), r.2)
-next_made s depth k (default d) closing input t rest o h n (inl m) = absurd (n m)
-next_made s depth k (default d) closing input t rest o h n (inr m) = let r = k.made closing input t rest o h m.0 in (r.0, inr (n, r.1), r.2)
+next_made s depth k (default_by key d) closing input t rest o h n (inl m) = absurd (n m)
+next_made s depth k (default_by key d) closing input t rest o h n (inr m) = let r = k.made closing input t rest o h m.0 in (r.0, inr (n, r.1), r.2)
 
-part_made : (s : Shape) (depth : ℕ) → Made s depth → (presence : Presence) (tag : Option Tag) (c closing : Bool) (input : List ℕ) (t : Tree) (rest : List ℕ) → AreOctets input
-    → ReadsPart Der presence tag (Reads Der s depth c) closing input t rest → PartOwes presence (Owes s depth) t → PartMade s presence input t rest
-part_made s depth k required tag c closing input t rest o h m = next_made s depth k required c input t rest o h tt m
-part_made s depth k addition tag c closing input t rest o h m = next_made s depth k addition c input t rest o h tt m
-part_made s depth k optional tag c closing input t rest o (inl (p, q, r)) m = ([], missing_made s depth optional t q m, sym r)
-part_made s depth k optional tag c closing input t rest o (inr (p, h)) m = next_made s depth k optional c input t rest o h tt m
-part_made s depth k (default d) tag c closing input t rest o (inl (p, q, r)) m = ([], missing_made s depth (default d) t q m, sym r)
-part_made s depth k (default d) tag c closing input t rest o (inr (p, (h, n))) m = next_made s depth k (default d) c input t rest o h (n tt) m
+part_made : (s : Shape) (depth : ℕ) → Made s depth → (presence : Presence) (tags : Sought) (c closing : Bool) (input : List ℕ) (t : Tree) (rest : List ℕ) → AreOctets input
+    → ReadsPart Der presence tags (Reads Der s depth c) closing input t rest → PartOwes presence (Owes s depth) t → PartMade s presence input t rest
+part_made s depth k required tags c closing input t rest o h m = next_made s depth k required c input t rest o h tt m
+part_made s depth k addition tags c closing input t rest o h m = next_made s depth k addition c input t rest o h tt m
+part_made s depth k (optional_by key) tags c closing input t rest o (inl (p, q, r)) m = ([], missing_made s depth (optional_by key) t q m, sym r)
+part_made s depth k (optional_by key) tags c closing input t rest o (inr (p, h)) m = next_made s depth k (optional_by key) c input t rest o h tt m
+part_made s depth k (default_by key d) tags c closing input t rest o (inl (p, q, r)) m = ([], missing_made s depth (default_by key d) t q m, sym r)
+part_made s depth k (default_by key d) tags c closing input t rest o (inr (p, (h, n))) m = next_made s depth k (default_by key d) c input t rest o h (n tt) m
 
 abbrev pub PartsMade : Parts → List ℕ → List Tree → List ℕ → Type 0
 PartsMade ps input ts rest = (bs : List (List ℕ)) × PartsWritten (fields_of Der ps) ts bs × (input ≡ joined_lists bs ++ rest)
@@ -79,7 +79,7 @@ in_order_made none depth k c closing input ts rest o h m = ([], (h.0, refl), sym
 in_order_made (part presence s ps) depth k c closing input ts rest o (t, us, middle, e, h, hs) (t', us', e', m, ms) =
     let p : t' ≡ t = let x : t' ∷ us' ≡ t ∷ us = sym e' ∙ e in cc in
     let q : us' ≡ us = let x : t' ∷ us' ≡ t ∷ us = sym e' ∙ e in cc in
-    let a = part_made s depth k.0 presence (own s) c closing input t middle o h (subst (PartOwes presence (Owes s depth)) p m) in
+    let a = part_made s depth k.0 presence (sought_in presence s) c closing input t middle o h (subst (PartOwes presence (Owes s depth)) p m) in
     let r = in_order_made ps depth k.1 c closing middle us rest (tail_octets input a.0 middle a.2 o) hs (subst (OwesParts ps depth) q ms) in
     (a.0 ∷ r.0, (t, us, a.0, r.0, e, refl, a.1, r.1), a.2 ∙ (ap (λ l. a.0 ++ l) r.2 ∙ sym (append_assoc a.0 (joined_lists r.0) rest)))
 

@@ -1,7 +1,7 @@
 -- What a tree that DER reads needs to be written: it is within the depth, and a default is the same as the value that it replaces.
 use Rattle.std.proofs.Common.{◌≡◌, ℕ, suc, ◌-◌, ◌<◌, ◌⊎◌, ◌≢◌, inl, inr, List, [], ◌∷◌, refl, sym, ◌∙◌, subst, arith, Some, None}
 use Rattle.rasn_types.specs.declared.types.codec.Codec.TheVariants.{Der}
-use Rattle.rasn_types.specs.Shapes.{Tree, joined, items, set_elements, chosen, absent, Shape, leaf, any, prefix, choice, option, seq, set, list, set_of, Parts, part, Presence, required, optional, addition, default}
+use Rattle.rasn_types.specs.Shapes.{Tree, joined, items, set_elements, chosen, absent, Shape, leaf, any, prefix, choice, option, seq, set, list, set_of, Parts, part, Presence, required, optional, addition, optional_by, default_by}
 use Rattle.rasn_types.specs.Shapes.Parts.{none}
 use Rattle.rasn_types.specs.Grammar.{family}
 use Rattle.rasn_types.specs.Bytes.{Same, Each, WritesPart, PartsWritten, WritesChoice, Bytes, fields_of}
@@ -13,9 +13,9 @@ use Rattle.rasn.specs.Laws.{IsOwnDefault, HasOwnDefaults, HaveOwnDefaults}
 
 abbrev pub PartOwes : Presence → (Tree → Type 0) → Tree → Type 0
 PartOwes required owes t = owes t
-PartOwes optional owes t = (t ≡ absent) ⊎ owes t
+PartOwes (optional_by key) owes t = (t ≡ absent) ⊎ owes t
 PartOwes addition owes t = (t ≢ absent) × owes t
-PartOwes (default d) owes t = Same t d ⊎ (owes t × (t ≡ d → Same t d))
+PartOwes (default_by key d) owes t = Same t d ⊎ (owes t × (t ≡ d → Same t d))
 
 unfoldable mutual
   pub Owes : Shape → ℕ → Tree → Type 0
@@ -52,11 +52,11 @@ each_of f (t ∷ ts) h = (f t h.0, each_of f ts h.1)
 
 part_meets : (presence : Presence) {P Q : Tree → Type 0} → ((t : Tree) → P t → Q t) → (t : Tree) → PartOwes presence P t → PartIsWithinLimits presence Q t
 part_meets required f t h = f t h
-part_meets optional f t (inl e) = inl e
-part_meets optional f t (inr h) = inr (f t h)
+part_meets (optional_by key) f t (inl e) = inl e
+part_meets (optional_by key) f t (inr h) = inr (f t h)
 part_meets addition f t h = (h.0, f t h.1)
-part_meets (default d) f t (inl e) = inl e
-part_meets (default d) f t (inr h) = inr (f t h.0)
+part_meets (default_by key d) f t (inl e) = inl e
+part_meets (default_by key d) f t (inr h) = inr (f t h.0)
 
 mutual
   unfolding Owes IsWithinLimits
@@ -86,11 +86,11 @@ mutual
 
 part_owes : (presence : Presence) → IsOwnDefault presence → {P Q : Tree → Type 0} → ((t : Tree) → P t → Q t) → (t : Tree) → PartIsWithinLimits presence P t → PartOwes presence Q t
 part_owes required own f t h = f t h
-part_owes optional own f t (inl e) = inl e
-part_owes optional own f t (inr h) = inr (f t h)
+part_owes (optional_by key) own f t (inl e) = inl e
+part_owes (optional_by key) own f t (inr h) = inr (f t h)
 part_owes addition own f t h = (h.0, f t h.1)
-part_owes (default d) own f t (inl e) = inl e
-part_owes (default d) own f t (inr h) = inr (f t h, λ e. subst (λ x. Same x d) (sym e) own)
+part_owes (default_by key d) own f t (inl e) = inl e
+part_owes (default_by key d) own f t (inr h) = inr (f t h, λ e. subst (λ x. Same x d) (sym e) own)
 
 mutual
   unfolding Owes IsWithinLimits
@@ -142,14 +142,14 @@ OwesLike s depth = (t u : Tree) (b : List ℕ) → Same t u → Bytes Der s t b 
 part_like : (presence : Presence) (s : Shape) (depth : ℕ) → OwesLike s depth → (t u : Tree) (b : List ℕ) → Same t u → WritesPart presence (Bytes Der s) t b
     → PartIsWithinLimits presence (IsWithinLimits Der s depth) t → PartOwes presence (Owes s depth) u
 part_like required s depth like t u b same w m = like t u b same w m
-part_like optional s depth like t u b same w (inl e) = inl (subst (λ z. Same z u) e same)
-part_like optional s depth like t u b same (inl (e, f)) (inr m) = inl (subst (λ z. Same z u) e same)
-part_like optional s depth like t u b same (inr (n, w)) (inr m) = inr (like t u b same w m)
+part_like (optional_by key) s depth like t u b same w (inl e) = inl (subst (λ z. Same z u) e same)
+part_like (optional_by key) s depth like t u b same (inl (e, f)) (inr m) = inl (subst (λ z. Same z u) e same)
+part_like (optional_by key) s depth like t u b same (inr (n, w)) (inr m) = inr (like t u b same w m)
 part_like addition s depth like t u b same (inl (e, f)) m = absurd (m.0 e)
 part_like addition s depth like t u b same (inr (n, w)) m = (λ e. n (same_sym t absent (subst (Same t) e same)), like t u b same w m.1)
-part_like (default d) s depth like t u b same (inl (e, f)) m = inl (same_trans u t d (same_sym t u same) e)
-part_like (default d) s depth like t u b same (inr (n, w)) (inl e) = absurd (n e)
-part_like (default d) s depth like t u b same (inr (n, w)) (inr m) = inr (like t u b same w m, λ e. absurd (n (subst (Same t) e same)))
+part_like (default_by key d) s depth like t u b same (inl (e, f)) m = inl (same_trans u t d (same_sym t u same) e)
+part_like (default_by key d) s depth like t u b same (inr (n, w)) (inl e) = absurd (n e)
+part_like (default_by key d) s depth like t u b same (inr (n, w)) (inr m) = inr (like t u b same w m, λ e. absurd (n (subst (Same t) e same)))
 
 elements_like : (s : Shape) (depth : ℕ) → OwesLike s depth → (ts us : List Tree) (bs : List (List ℕ)) → Each Same ts us → Each (Bytes Der s) ts bs
     → EachOf (IsWithinLimits Der s depth) ts → EachOf (Owes s depth) us

@@ -3,7 +3,7 @@ use Rattle.std.proofs.Common.{◌≡◌, ℕ, suc, ◌<◌, ◌≢◌, inl, inr,
 use Rattle.rasn_types.specs.declared.types.codec.Codec.TheVariants.{Der}
 use Rattle.rasn_types.specs.declared.types.tag.Tag.{Tag}
 use Rattle.rasn_types.specs.Framing.{AreOctets}
-use Rattle.rasn_types.specs.Shapes.{Tree, chosen, absent, Shape, Parts, part, own, Presence, required, optional, addition, default}
+use Rattle.rasn_types.specs.Shapes.{Tree, chosen, absent, Shape, Parts, part, own, Presence, required, addition, optional_by, default_by, default, Sought, sought_in}
 use Rattle.rasn_types.specs.Shapes.Parts.{none}
 use Rattle.rasn_types.specs.Readings.{ReadsMany, IsNoDefault, ReadsPart, ReadsInOrder, IsMissing, AllMissing, presences_in, ReadsChoice}
 use Rattle.rasn_types.specs.Order.{Each}
@@ -46,35 +46,35 @@ default_left s depth back d t b e (inr (f, w)) (inr m) =
 pub missing_told : (s : Shape) (depth : ℕ) → IsBack Der s depth → (presence : Presence) (t : Tree) (b : List ℕ) → IsMissing presence t
     → WritesPart presence (Bytes Der s) t b → PartIsWithinLimits presence (IsWithinLimits Der s depth) t → b ≡ []
 missing_told s depth back required t b e w m = absurd e
-missing_told s depth back optional t b e (inl w) m = w.1
-missing_told s depth back optional t b e (inr w) m = absurd (w.0 e)
+missing_told s depth back (optional_by key) t b e (inl w) m = w.1
+missing_told s depth back (optional_by key) t b e (inr w) m = absurd (w.0 e)
 missing_told s depth back addition t b e w m = absurd (m.0 e)
-missing_told s depth back (default d) t b e w m = default_left s depth back d t b e w m
+missing_told s depth back (default_by key d) t b e w m = default_left s depth back d t b e w m
 
 -- A part that is present is written.
 pub next_told : (s : Shape) (depth : ℕ) → Told s depth → (presence : Presence) (closing : Bool) (input : List ℕ) (t : Tree) (rest b : List ℕ) → AreOctets input
     → Reads Der s depth closing input t rest → IsNoDefault presence t → WritesPart presence (Bytes Der s) t b → PartIsWithinLimits presence (IsWithinLimits Der s depth) t → input ≡ b ++ rest
 next_told s depth k required closing input t rest b o h n w m = k.told closing input t rest b o h w m
-next_told s depth k optional closing input t rest b o h n (inl w) m = absurd (k.there closing input t rest h w.0)
-next_told s depth k optional closing input t rest b o h n (inr w) (inl m) = absurd (w.0 m)
-next_told s depth k optional closing input t rest b o h n (inr w) (inr m) = k.told closing input t rest b o h w.1 m
+next_told s depth k (optional_by key) closing input t rest b o h n (inl w) m = absurd (k.there closing input t rest h w.0)
+next_told s depth k (optional_by key) closing input t rest b o h n (inr w) (inl m) = absurd (w.0 m)
+next_told s depth k (optional_by key) closing input t rest b o h n (inr w) (inr m) = k.told closing input t rest b o h w.1 m
 next_told s depth k addition closing input t rest b o h n (inl w) m = absurd (m.0 w.0)
 next_told s depth k addition closing input t rest b o h n (inr w) m = k.told closing input t rest b o h w.1 m.1
-next_told s depth k (default d) closing input t rest b o h n (inl w) m = absurd (n w.0)
-next_told s depth k (default d) closing input t rest b o h n (inr w) (inl m) = absurd (w.0 m)
-next_told s depth k (default d) closing input t rest b o h n (inr w) (inr m) = k.told closing input t rest b o h w.1 m
+next_told s depth k (default_by key d) closing input t rest b o h n (inl w) m = absurd (n w.0)
+next_told s depth k (default_by key d) closing input t rest b o h n (inr w) (inl m) = absurd (w.0 m)
+next_told s depth k (default_by key d) closing input t rest b o h n (inr w) (inr m) = k.told closing input t rest b o h w.1 m
 
 pub nothing : (input rest b : List ℕ) → b ≡ [] → rest ≡ input → input ≡ b ++ rest
 nothing input rest b e f = sym f ∙ ap (λ l. l ++ rest) (sym e)
 
-part_told : (s : Shape) (depth : ℕ) → Told s depth → (presence : Presence) (tag : Option Tag) (c closing : Bool) (input : List ℕ) (t : Tree) (rest b : List ℕ) → AreOctets input
-    → ReadsPart Der presence tag (Reads Der s depth c) closing input t rest → WritesPart presence (Bytes Der s) t b → PartIsWithinLimits presence (IsWithinLimits Der s depth) t → input ≡ b ++ rest
-part_told s depth k required tag c closing input t rest b o h w m = next_told s depth k required c input t rest b o h tt w m
-part_told s depth k addition tag c closing input t rest b o h w m = next_told s depth k addition c input t rest b o h tt w m
-part_told s depth k optional tag c closing input t rest b o (inl (p, q, r)) w m = nothing input rest b (missing_told s depth k.back optional t b q w m) r
-part_told s depth k optional tag c closing input t rest b o (inr (p, h)) w m = next_told s depth k optional c input t rest b o h tt w m
-part_told s depth k (default d) tag c closing input t rest b o (inl (p, q, r)) w m = nothing input rest b (missing_told s depth k.back (default d) t b q w m) r
-part_told s depth k (default d) tag c closing input t rest b o (inr (p, (h, n))) w m = next_told s depth k (default d) c input t rest b o h (n tt) w m
+part_told : (s : Shape) (depth : ℕ) → Told s depth → (presence : Presence) (tags : Sought) (c closing : Bool) (input : List ℕ) (t : Tree) (rest b : List ℕ) → AreOctets input
+    → ReadsPart Der presence tags (Reads Der s depth c) closing input t rest → WritesPart presence (Bytes Der s) t b → PartIsWithinLimits presence (IsWithinLimits Der s depth) t → input ≡ b ++ rest
+part_told s depth k required tags c closing input t rest b o h w m = next_told s depth k required c input t rest b o h tt w m
+part_told s depth k addition tags c closing input t rest b o h w m = next_told s depth k addition c input t rest b o h tt w m
+part_told s depth k (optional_by key) tags c closing input t rest b o (inl (p, q, r)) w m = nothing input rest b (missing_told s depth k.back (optional_by key) t b q w m) r
+part_told s depth k (optional_by key) tags c closing input t rest b o (inr (p, h)) w m = next_told s depth k (optional_by key) c input t rest b o h tt w m
+part_told s depth k (default_by key d) tags c closing input t rest b o (inl (p, q, r)) w m = nothing input rest b (missing_told s depth k.back (default_by key d) t b q w m) r
+part_told s depth k (default_by key d) tags c closing input t rest b o (inr (p, (h, n))) w m = next_told s depth k (default_by key d) c input t rest b o h (n tt) w m
 
 pub in_order_told : (ps : Parts) (depth : ℕ) → EachTold depth ps → (c closing : Bool) (input : List ℕ) (ts : List Tree) (rest : List ℕ) (bs : List (List ℕ)) → AreOctets input
     → ReadsInOrder Der (parts_of Der ps depth c) closing input ts rest → PartsWritten (fields_of Der ps) ts bs → AreWithinLimits Der ps depth ts → input ≡ joined_lists bs ++ rest
@@ -85,7 +85,7 @@ in_order_told (part presence s ps) depth k c closing input ts rest bs o (t, us, 
     let q : us' ≡ us = let x : t' ∷ us' ≡ t ∷ us = sym e' ∙ e in cc in
     let p' : t'' ≡ t = let x : t'' ∷ us'' ≡ t ∷ us = sym e'' ∙ e in cc in
     let q' : us'' ≡ us = let x : t'' ∷ us'' ≡ t ∷ us = sym e'' ∙ e in cc in
-    let a : input ≡ b ++ middle = part_told s depth k.0 presence (own s) c closing input t middle b o h
+    let a : input ≡ b ++ middle = part_told s depth k.0 presence (sought_in presence s) c closing input t middle b o h
     (subst (λ x. WritesPart presence (Bytes Der s) x b) p w) (subst (PartIsWithinLimits presence (IsWithinLimits Der s depth)) p' m) in
     let r : middle ≡ joined_lists cs ++ rest = in_order_told ps depth k.1 c closing middle us rest cs (tail_octets input b middle a o) hs
     (subst (λ x. PartsWritten (fields_of Der ps) x cs) q ws) (subst (AreWithinLimits Der ps depth) q' ms) in

@@ -4,13 +4,10 @@ use Rattle.rasn_types.specs.Contents.{RepeatsSign}
 use Rattle.rasn_types.specs.Inline.{IsLong}
 use Rattle.rasn_types.specs.Trees.{IsShortestOf}
 use Rattle.rasn_types.proofs.Integer.Shortest.{same_shortest}
-use Rattle.rasn_types.specs.Tags.{in_universal}
-use Rattle.rasn_types.specs.declared.types.codec.Codec.TheVariants.{Ber}
 use Rattle.rasn_de.specs.declared.ber.de.parser.ParseError.{ParseError}
 use Rattle.rasn_de.specs.declared.ber.de.parser.ParseError.TheVariants.{OutOfMemory, Incomplete}
 use Rattle.rasn_de.specs.Headers.{header_by, tag_number_at, identifier_by, length_at}
 use Rattle.rasn_de.specs.Segments.{segments_at, string_of}
-use Rattle.rasn_de.specs.OctetString.{CollectsOctets}
 use Rattle.rasn_types.specs.CharacterString.{IsPrintable}
 use Rattle.rasn.specs.WorkedClauses.{bare_octets, WorkedClauses}
 

@@ -4,7 +4,7 @@ use Rattle.rasn_types.specs.declared.types.tag.Tag.{Tag}
 use Rattle.rasn_types.specs.declared.types.codec.Codec.{Codec}
 use Rattle.rasn_types.specs.Tags.{Form, form, IsStrict, in_universal}
 use Rattle.rasn_types.specs.Framing.{Extent, Frame, NextTag, SpellsAnyIdentifier, CompleteEncoding, plain, closed}
-use Rattle.rasn_types.specs.Shapes.{Tree, absent, Kind, Shape, leaf, any, prefix, choice, option, seq, set, list, set_of, Parts, part, Presence, required, optional, addition, default, own}
+use Rattle.rasn_types.specs.Shapes.{Tree, absent, Kind, Shape, leaf, any, prefix, choice, option, seq, set, list, set_of, Parts, part, Presence, required, addition, optional_by, default_by, Sought, one_tag, any_of, sought_by, sought_in}
 use Rattle.rasn_types.specs.Shapes.Parts.{none}
 use Rattle.rasn_types.specs.Readings.{Reading, ReadsContents, definite_form, indefinite_form, ReadsOptional, Part, IsNoDefault, ReadsPart, ReadsInOrder, ReadsChoice}
 use Rattle.rasn_types.specs.Contents.{ReadsString, ReadsBitSegment, OctetSegment}
@@ -48,10 +48,11 @@ no_choice rule k [] t rest c = absurd c
 no_choice rule k (p ∷ ps) t rest (inl (u, e, n, s, m, r, z)) = no_next n s
 no_choice rule k (p ∷ ps) t rest (inr c) = no_choice rule (suc k) ps t rest c
 
-perhaps_nothing : {X : Type 0} (spelling : Form) (tag : Option Tag) (without : X) (reads : Reading X) (closing : Bool) (x : X) (rest : List ℕ) → ReadsOptional spelling tag without reads closing [] x rest → rest ≡ []
-perhaps_nothing spelling tag without reads closing x rest (inl (a, e, f)) = f
-perhaps_nothing spelling (Some tag) without reads closing x rest (inr ((n, m), r)) = absurd (n (inl refl))
-perhaps_nothing spelling None without reads closing x rest (inr (n, r)) = absurd (n (inl refl))
+perhaps_nothing : {X : Type 0} (spelling : Form) (tags : Sought) (without : X) (reads : Reading X) (closing : Bool) (x : X) (rest : List ℕ) → ReadsOptional spelling tags without reads closing [] x rest → rest ≡ []
+perhaps_nothing spelling tags without reads closing x rest (inl (a, e, f)) = f
+perhaps_nothing spelling (one_tag (Some tag)) without reads closing x rest (inr (p, r)) = absurd (p.0 (inl refl))
+perhaps_nothing spelling (one_tag None) without reads closing x rest (inr (n, r)) = absurd (n (inl refl))
+perhaps_nothing spelling (any_of P) without reads closing x rest (inr (p, r)) = absurd (p.0 (inl refl))
 
 shape_nothing : (rule : Codec) (s : Shape) (depth : ℕ) (closing : Bool) (t : Tree) (rest : List ℕ) → Reads rule s depth closing [] t rest → rest ≡ []
 unfolding Reads
@@ -61,17 +62,17 @@ shape_nothing rule (any (Some tag)) depth closing t rest (bit, c, e, m, inl f) =
 shape_nothing rule (any (Some tag)) depth closing t rest (bit, c, e, m, inr (b, f, w, g)) = no_frame f
 shape_nothing rule (prefix tag s) depth closing t rest (d, bit, m, r) = no_inside rule tag bit _ t rest r
 shape_nothing rule (choice ps) depth closing t rest r = no_choice rule 0 (parts_of rule ps depth closing) t rest r
-shape_nothing rule (option tag s) depth closing t rest r = perhaps_nothing (form rule) tag absent (Reads rule s depth closing) closing t rest r
+shape_nothing rule (option tag s) depth closing t rest r = perhaps_nothing (form rule) (one_tag tag) absent (Reads rule s depth closing) closing t rest r
 shape_nothing rule (seq tag ps) depth closing t rest (d, r) = no_inside rule tag true _ t rest r
 shape_nothing rule (set tag ps) depth closing t rest (d, r) = no_inside rule tag true _ t rest r
 shape_nothing rule (list tag s size) depth closing t rest (d, r) = no_inside rule tag true _ t rest r
 shape_nothing rule (set_of tag s size) depth closing t rest (d, r) = no_inside rule tag true _ t rest r
 
-part_nothing : (p : Presence) (rule : Codec) (s : Shape) (depth : ℕ) (closing : Bool) (t : Tree) (rest : List ℕ) → ReadsPart rule p (own s) (Reads rule s depth closing) closing [] t rest → rest ≡ []
+part_nothing : (p : Presence) (rule : Codec) (s : Shape) (depth : ℕ) (closing : Bool) (t : Tree) (rest : List ℕ) → ReadsPart rule p (sought_in p s) (Reads rule s depth closing) closing [] t rest → rest ≡ []
 part_nothing required rule s depth closing t rest r = shape_nothing rule s depth closing t rest r
 part_nothing addition rule s depth closing t rest r = shape_nothing rule s depth closing t rest r
-part_nothing optional rule s depth closing t rest r = perhaps_nothing (form rule) (own s) absent (Reads rule s depth closing) closing t rest r
-part_nothing (default d) rule s depth closing t rest r = perhaps_nothing (form rule) (own s) d (λ input u r. Reads rule s depth closing input u r × (IsStrict rule → IsNoDefault (default d) u)) closing t rest r
+part_nothing (optional_by key) rule s depth closing t rest r = perhaps_nothing (form rule) (sought_by key s) absent (Reads rule s depth closing) closing t rest r
+part_nothing (default_by key d) rule s depth closing t rest r = perhaps_nothing (form rule) (sought_by key s) d (λ input u r. Reads rule s depth closing input u r × (IsStrict rule → IsNoDefault (default_by key d) u)) closing t rest r
 
 -- Parts that are read of nothing leave nothing.
 pub parts_nothing : (rule : Codec) (ps : Parts) (depth : ℕ) (closing : Bool) (ts : List Tree) (rest : List ℕ) → ReadsInOrder rule (parts_of rule ps depth closing) closing [] ts rest → rest ≡ []

@@ -1,13 +1,13 @@
 -- Parts that are missing, and parts of readings, are so in one way.
 use Rattle.std.proofs.Common.{◌≡◌, ◌⊎◌, inl, inr, ℕ, suc, List, [], ◌∷◌, ◌++◌, refl, sym, ap₂, ◌∙◌, subst}
-use Rattle.rasn_types.specs.Shapes.{Tree, chosen, Presence, required, optional, addition, default}
+use Rattle.rasn_types.specs.Shapes.{Tree, chosen, Presence, required, addition, optional_by, default_by}
 use Rattle.rasn_types.specs.Readings.{Part, IsMissing, AllMissing, presences_in, NoneOf, OneOf, ByPart}
 
 missing_one : (p : Presence) (t u : Tree) → IsMissing p t → IsMissing p u → t ≡ u
 missing_one required t u a b = absurd a
-missing_one optional t u a b = a ∙ sym b
+missing_one (optional_by key) t u a b = a ∙ sym b
 missing_one addition t u a b = a ∙ sym b
-missing_one (default d) t u a b = a ∙ sym b
+missing_one (default_by key d) t u a b = a ∙ sym b
 
 pub all_missing_one : (ps : List Part) (ts us : List Tree) → AllMissing (presences_in ps) ts → AllMissing (presences_in ps) us → ts ≡ us
 all_missing_one [] ts us a b = a ∙ sym b

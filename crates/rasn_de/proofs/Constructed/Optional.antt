@@ -7,8 +7,8 @@ use Rattle.rasn_types.specs.declared.error.decode.DecodeErrorKind.{DecodeErrorKi
 use Rattle.rasn_types.specs.declared.types.codec.Codec.{Codec}
 use Rattle.rasn_types.specs.Tags.{Form, form, IsStrict}
 use Rattle.rasn_types.specs.Framing.{NextTag, Ended}
-use Rattle.rasn_types.specs.Shapes.{Tree, Same, Shape, option, absent, looked_for}
-use Rattle.rasn_types.specs.Readings.{Reading, ReadsOptional, IsLeftOut, IsPresent}
+use Rattle.rasn_types.specs.Shapes.{Tree, Same, Shape, Key, own_tag, default_by, option, absent, Sought, one_tag, any_of, looked_for}
+use Rattle.rasn_types.specs.Readings.{Reading, ReadsOptional, ReadsPart, IsLeftOut, IsPresent}
 use Rattle.rasn_types.specs.Trees.{option_tree}
 use Rattle.rasn_types.specs.Grammar.{Reads}
 use Rattle.rasn_types.proofs.Headers.Frames.{next_one}
@@ -21,17 +21,19 @@ use Rattle.rasn_de.specs.Steps.{PeeksTag}
 use Rattle.rasn_de.specs.Outcomes.{Exact, Outcome, Got, Refused, AllocFailed, refusal}
 use Rattle.rasn_de.specs.Decodes.{Decodes, DecodesBy}
 use Rattle.rasn_de.specs.Constructed.{Keeps}
-use Rattle.rasn_de.specs.Optional.{NextTagIs, DecodesIfPresent, MakesValue, DecodesOrDefault, no_look, no_default, no_read, not_compared, present, ReadsDefault, DecodesDefault}
+use Rattle.rasn_de.specs.Optional.{NeedsTag, NextIs, DecodesIfSought, DecodesIfPresent, MakesValue, DecodesSoughtOrDefault, DecodesOrDefault, no_look, no_default, no_read, not_compared, present, ReadsDefault, DecodesDefault}
 use Rattle.rasn_de.proofs.Leaves.Outcomes.{Exact-none, Exact-refusal}
 use Rattle.rasn_de.proofs.Headers.Ends.{IsEnd-refl}
 use Rattle.rasn_de.proofs.Headers.NextTag.{next_none}
 use Rattle.rasn_de.proofs.Constructed.Steps.{rules_same}
 
 -- No value is left out and there.
-pub apart : (spelling : Form) (tag : Option Tag) (closing : Bool) (input : List ℕ) → IsLeftOut spelling tag closing input → IsPresent spelling tag closing input → ⊥
-apart spelling (Some tag) closing input (inl e) t = t.0 e
-apart spelling (Some tag) closing input (inr (next, n, d)) t = d (next_one input next tag n t.1)
-apart spelling None closing input e t = t e
+pub apart : (spelling : Form) (tags : Sought) (closing : Bool) (input : List ℕ) → IsLeftOut spelling tags closing input → IsPresent spelling tags closing input → ⊥
+apart spelling (one_tag (Some tag)) closing input (inl e) t = t.0 e
+apart spelling (one_tag (Some tag)) closing input (inr (next, n, d)) t = d (next_one input next tag n t.1)
+apart spelling (one_tag None) closing input e t = t e
+apart spelling (any_of P) closing input (inl e) t = t.0 e
+apart spelling (any_of P) closing input (inr (next, n, d)) t = d (subst P (sym (next_one input next t.1 n t.2)) t.3)
 
 -- If peeking at the next tag fails, no value follows.
 pub peeks_none : (s : State) (e : DecodeError) → PeeksTag s (Err e) → (t : Tag) → NextTag (form s.rule) s.rest t → ⊥
@@ -42,13 +44,16 @@ peeks_none s e (f, p, w) t n = found (identifier_at (form s.rule) s.rest) refl p
     found (Err x) q h = next_none (form s.rule) s.rest x q t n
 
 -- Then a value is neither left out nor there.
-neither : (tag : Option Tag) (s : State) (e : DecodeError) → tag ≢ None → (Ended s.closing s.rest → ⊥) → PeeksTag s (Err e) → IsLeftOut (form s.rule) tag s.closing s.rest ⊎ IsPresent (form s.rule) tag s.closing s.rest → ⊥
-neither (Some tag) s e n d p (inl (inl c)) = d c
-neither (Some tag) s e n d p (inl (inr (next, m, w))) = peeks_none s e p next m
-neither (Some tag) s e n d p (inr t) = peeks_none s e p tag t.1
-neither None s e n d p w = n refl
+neither : (tags : Sought) (s : State) (e : DecodeError) → NeedsTag tags → (Ended s.closing s.rest → ⊥) → PeeksTag s (Err e) → IsLeftOut (form s.rule) tags s.closing s.rest ⊎ IsPresent (form s.rule) tags s.closing s.rest → ⊥
+neither (one_tag (Some tag)) s e n d p (inl (inl c)) = d c
+neither (one_tag (Some tag)) s e n d p (inl (inr (next, m, w))) = peeks_none s e p next m
+neither (one_tag (Some tag)) s e n d p (inr t) = peeks_none s e p tag t.1
+neither (one_tag None) s e n d p w = n refl
+neither (any_of P) s e n d p (inl (inl c)) = d c
+neither (any_of P) s e n d p (inl (inr (next, m, w))) = peeks_none s e p next m
+neither (any_of P) s e n d p (inr t) = peeks_none s e p t.1 t.2
 
-module _ (spelling : Form) (tag : Option Tag) (without : Tree) (R : Reading Tree) (closing : Bool) (input : List ℕ) where
+module _ (spelling : Form) (tag : Sought) (without : Tree) (R : Reading Tree) (closing : Bool) (input : List ℕ) where
   left_out : IsLeftOut spelling tag closing input → Exact (ReadsOptional spelling tag without R closing) input (Got without input)
   left_out a = (inl (a, refl, refl), only)
     where
@@ -74,33 +79,42 @@ module _ (spelling : Form) (tag : Option Tag) (without : Tree) (R : Reading Tree
   nothing n u s (inr (b, k)) = n (inr b)
 
 -- what a part that may be left out is read as, at the rules and closing of a decoder
-module _ (R : Reading Tree) (without : Tree) (tag : Tag) (old : State) where
+module _ (R : Reading Tree) (without : Tree) (tags : Sought) (old : State) where
   abbrev MayRead : Reading Tree
-  MayRead = ReadsOptional (form old.rule) (looked_for tag) without R old.closing
+  MayRead = ReadsOptional (form old.rule) tags without R old.closing
 
   -- where the look at the next tag is refused
-  unread : (e : DecodeError) → NextTagIs tag old (Err e) → Exact MayRead old.rest (refusal e.kind)
-  unread e (l, d, p) = Exact-none e.kind MayRead old.rest (nothing (form old.rule) (looked_for tag) without R old.closing old.rest (neither (looked_for tag) old e l d p))
+  unread : (e : DecodeError) → NextIs tags old (Err e) → Exact MayRead old.rest (refusal e.kind)
+  unread e (l, d, p) = Exact-none e.kind MayRead old.rest (nothing (form old.rule) tags without R old.closing old.rest (neither tags old e l d p))
 
-  out_of_it : NextTagIs tag old (Ok false) → Exact MayRead old.rest (Got without old.rest)
-  out_of_it a = left_out (form old.rule) (looked_for tag) without R old.closing old.rest a
+  out_of_it : NextIs tags old (Ok false) → Exact MayRead old.rest (Got without old.rest)
+  out_of_it a = left_out (form old.rule) tags without R old.closing old.rest a
 
-  in_it : NextTagIs tag old (Ok true) → (o : Outcome) → Exact R old.rest o → Exact MayRead old.rest o
-  in_it t o x = there (form old.rule) (looked_for tag) without R old.closing old.rest t o x
+  in_it : NextIs tags old (Ok true) → (o : Outcome) → Exact R old.rest o → Exact MayRead old.rest o
+  in_it t o x = there (form old.rule) tags without R old.closing old.rest t o x
 
 -- a value of the shape, at the rules, depth and closing of a decoder
 abbrev ReadsIt : Shape → State → Reading Tree
 ReadsIt s old = Reads old.rule s old.depth old.closing
 
+-- A value that may be left out, as a part of any presence.
+abbrev pub ReadsSought : Sought → Shape → Codec → ℕ → Bool → Reading Tree
+ReadsSought tags s rule depth closing = ReadsOptional (form rule) tags absent (Reads rule s depth closing) closing
+
+pub sought_decodes : {D : Type 0} (s : Shape) (tree : D → Tree) (tags : Sought) (old : State) (result : Result (Option D) DecodeError) (new : State) → DecodesIfSought (Decodes s tree) tags old result new
+    → DecodesBy (ReadsSought tags s) (option_tree tree) old result new
+sought_decodes s tree tags old (Ok None) new (a, e) = subst (λ n. DecodesBy (ReadsSought tags s) (option_tree tree) old (Ok None) n) (sym e)
+    (record { stays = refl; end = IsEnd-refl old.rest; exact = out_of_it (ReadsIt s old) absent tags old a })
+sought_decodes s tree tags old (Ok (Some v)) new (t, k) = record { stays = k.stays; end = k.end; exact = in_it (ReadsIt s old) absent tags old t (Got (tree v) new.rest) k.exact }
+sought_decodes s tree tags old (Err e) new (inl (c, q)) = subst (λ n. DecodesBy (ReadsSought tags s) (option_tree tree) old (Err e) n) (sym q)
+    (record { stays = refl; end = IsEnd-refl old.rest; exact = unread (ReadsIt s old) absent tags old e c })
+sought_decodes s tree tags old (Err e) new (inr (t, k)) = record { stays = k.stays; end = k.end; exact = in_it (ReadsIt s old) absent tags old t (refusal e.kind) k.exact }
+
 pub perhaps_decodes : {D : Type 0} (s : Shape) (tree : D → Tree) (tag : Tag) (old : State) (result : Result (Option D) DecodeError) (new : State) → DecodesIfPresent (Decodes s tree) tag old result new
     → Decodes (option (looked_for tag) s) (option_tree tree) old result new
 unfolding Reads
-perhaps_decodes s tree tag old (Ok None) new (a, e) = subst (λ n. Decodes (option (looked_for tag) s) (option_tree tree) old (Ok None) n) (sym e)
-    (record { stays = refl; end = IsEnd-refl old.rest; exact = out_of_it (ReadsIt s old) absent tag old a })
-perhaps_decodes s tree tag old (Ok (Some v)) new (t, k) = record { stays = k.stays; end = k.end; exact = in_it (ReadsIt s old) absent tag old t (Got (tree v) new.rest) k.exact }
-perhaps_decodes s tree tag old (Err e) new (inl (c, q)) = subst (λ n. Decodes (option (looked_for tag) s) (option_tree tree) old (Err e) n) (sym q)
-    (record { stays = refl; end = IsEnd-refl old.rest; exact = unread (ReadsIt s old) absent tag old e c })
-perhaps_decodes s tree tag old (Err e) new (inr (t, k)) = record { stays = k.stays; end = k.end; exact = in_it (ReadsIt s old) absent tag old t (refusal e.kind) k.exact }
+perhaps_decodes s tree tag old result new k =
+    let d = sought_decodes s tree (one_tag (looked_for tag)) old result new k in record { stays = d.stays; end = d.end; exact = d.exact }
 
 -- A failed allocation is reported by the same rules before a value is read and after it.
 pub made_before : {D : Type 0} (made : Result D AllocError → Type 0) (old mid : State) (e : DecodeError) → Keeps old mid → MakesValue made mid (Err e) → MakesValue made old (Err e)
@@ -132,50 +146,58 @@ module _ (rule : Codec) (without : Tree) (R : Reading Tree) where
   default_refused input k v r h same x = Exact-none k NotDefault input (λ u s w. w.1 h (subst (λ z. Same z without) (sym (x.1 u s w.0).0) same))
 
 -- The same of a default, whose tree is used if the value is left out.
-pub default_decodes : {D : Type 0} (s : Shape) (tree : D → Tree) (made : Result D AllocError → Type 0) (tag : Tag) (old : State) (result : Result D DecodeError) (new : State)
-    → DecodesOrDefault (Decodes s tree) tree made tag old result new → DecodesDefault tag s tree made old result new
-default_decodes s tree made tag old (Ok v) new (inl (a, m, e)) without is =
+abbrev pub ReadsSoughtDefault : Key → Sought → Tree → Shape → Codec → ℕ → Bool → Reading Tree
+ReadsSoughtDefault key tags without s rule depth closing = ReadsPart rule (default_by key without) tags (Reads rule s depth closing) closing
+
+pub sought_default_decodes : {D : Type 0} (key : Key) (s : Shape) (tree : D → Tree) (made : Result D AllocError → Type 0) (tags : Sought) (old : State) (result : Result D DecodeError) (new : State)
+    → DecodesSoughtOrDefault (Decodes s tree) tree made tags old result new → (without : Tree) → ((v : D) → made (Ok v) → tree v ≡ without)
+    → DecodesBy (ReadsSoughtDefault key tags without s) tree old result new
+sought_default_decodes key s tree made tags old (Ok v) new (inl (a, m, e)) without is =
     let R = NotDefault old.rule without (ReadsIt s old) in
-    subst (λ n. DecodesBy (ReadsDefault tag without s) tree old (Ok v) n) (sym e)
-    (record { stays = refl; end = IsEnd-refl old.rest; exact = subst (λ t. Exact (MayRead R without tag old) old.rest (Got t old.rest)) (sym (is v m)) (out_of_it R without tag old a) })
-default_decodes s tree made tag old (Ok v) new (inr (t, k, n)) without is =
+    subst (λ n. DecodesBy (ReadsSoughtDefault key tags without s) tree old (Ok v) n) (sym e)
+    (record { stays = refl; end = IsEnd-refl old.rest; exact = subst (λ t. Exact (MayRead R without tags old) old.rest (Got t old.rest)) (sym (is v m)) (out_of_it R without tags old a) })
+sought_default_decodes key s tree made tags old (Ok v) new (inr (t, k, n)) without is =
     let other : IsStrict old.rule → Same (tree v) without → ⊥ = λ h same. let d = n h in d.2 (subst (Same (tree v)) (sym (is d.0 d.1)) same) in
     record {
       stays = k.stays;
       end = k.end;
-      exact = in_it (NotDefault old.rule without (ReadsIt s old)) without tag old t (Got (tree v) new.rest) (other_got old.rule without (ReadsIt s old) old.rest (tree v) new.rest other k.exact);
+      exact = in_it (NotDefault old.rule without (ReadsIt s old)) without tags old t (Got (tree v) new.rest) (other_got old.rule without (ReadsIt s old) old.rest (tree v) new.rest other k.exact);
     }
-default_decodes s tree made tag old (Err e) new (no_look c q) without is =
-    subst (λ n. DecodesBy (ReadsDefault tag without s) tree old (Err e) n) (sym q)
-    (record { stays = refl; end = IsEnd-refl old.rest; exact = unread (NotDefault old.rule without (ReadsIt s old)) without tag old e c })
-default_decodes s tree made tag old (Err e) new (no_default a m q) without is =
-    subst (λ n. DecodesBy (ReadsDefault tag without s) tree old (Err e) n) (sym q)
-    (record { stays = refl; end = IsEnd-refl old.rest; exact = alloc_failed (MayRead (NotDefault old.rule without (ReadsIt s old)) without tag old) made old e m })
-default_decodes s tree made tag old (Err e) new (no_read t k) without is =
+sought_default_decodes key s tree made tags old (Err e) new (no_look c q) without is =
+    subst (λ n. DecodesBy (ReadsSoughtDefault key tags without s) tree old (Err e) n) (sym q)
+    (record { stays = refl; end = IsEnd-refl old.rest; exact = unread (NotDefault old.rule without (ReadsIt s old)) without tags old e c })
+sought_default_decodes key s tree made tags old (Err e) new (no_default a m q) without is =
+    subst (λ n. DecodesBy (ReadsSoughtDefault key tags without s) tree old (Err e) n) (sym q)
+    (record { stays = refl; end = IsEnd-refl old.rest; exact = alloc_failed (MayRead (NotDefault old.rule without (ReadsIt s old)) without tags old) made old e m })
+sought_default_decodes key s tree made tags old (Err e) new (no_read t k) without is =
     record {
       stays = k.stays;
       end = k.end;
-      exact = in_it (NotDefault old.rule without (ReadsIt s old)) without tag old t (refusal e.kind) (other_refused old.rule without (ReadsIt s old) old.rest e.kind k.exact);
+      exact = in_it (NotDefault old.rule without (ReadsIt s old)) without tags old t (refusal e.kind) (other_refused old.rule without (ReadsIt s old) old.rest e.kind k.exact);
     }
-default_decodes s tree made tag old (Err e) new (not_compared t v k h m) without is =
-    record { stays = k.stays; end = k.end; exact = alloc_failed (MayRead (NotDefault old.rule without (ReadsIt s old)) without tag old) made old e m }
-default_decodes s tree made tag old (Err e) new (present t v k h d m same w) without is =
+sought_default_decodes key s tree made tags old (Err e) new (not_compared t v k h m) without is =
+    record { stays = k.stays; end = k.end; exact = alloc_failed (MayRead (NotDefault old.rule without (ReadsIt s old)) without tags old) made old e m }
+sought_default_decodes key s tree made tags old (Err e) new (present t v k h d m same w) without is =
     record {
       stays = k.stays;
       end = k.end;
-      exact = in_it (NotDefault old.rule without (ReadsIt s old)) without tag old t (refusal e.kind)
+      exact = in_it (NotDefault old.rule without (ReadsIt s old)) without tags old t (refusal e.kind)
           (default_refused old.rule without (ReadsIt s old) old.rest e.kind (tree v) new.rest h (subst (Same (tree v)) (is d m) same) k.exact);
     }
 
--- what the look at the next tag found
-pub parsed_out : (tag : Tag) (s : State) (b : Bool) → b ≡ false → NextTagIs tag s (Ok b) → NextTagIs tag s (Ok false)
-parsed_out tag s b e k = subst (λ z. NextTagIs tag s (Ok z)) e k
+pub default_decodes : {D : Type 0} (s : Shape) (tree : D → Tree) (made : Result D AllocError → Type 0) (tag : Tag) (old : State) (result : Result D DecodeError) (new : State)
+    → DecodesOrDefault (Decodes s tree) tree made tag old result new → DecodesDefault tag s tree made old result new
+default_decodes s tree made tag old result new k = sought_default_decodes own_tag s tree made (one_tag (looked_for tag)) old result new k
 
-pub parsed_there : (tag : Tag) (s : State) (b : Bool) → b ≡ true → NextTagIs tag s (Ok b) → NextTagIs tag s (Ok true)
-parsed_there tag s b e k = subst (λ z. NextTagIs tag s (Ok z)) e k
+-- what the look at the next tag found
+pub parsed_out : (tags : Sought) (s : State) (b : Bool) → b ≡ false → NextIs tags s (Ok b) → NextIs tags s (Ok false)
+parsed_out tags s b e k = subst (λ z. NextIs tags s (Ok z)) e k
+
+pub parsed_there : (tags : Sought) (s : State) (b : Bool) → b ≡ true → NextIs tags s (Ok b) → NextIs tags s (Ok true)
+parsed_there tags s b e k = subst (λ z. NextIs tags s (Ok z)) e k
 
 -- the default that is made where the value is left out
-pub or_made : {D : Type 0} (read : State → Result D DecodeError → State → Type 0) (tree : D → Tree) (made : Result D AllocError → Type 0) (tag : Tag) (old : State) (r : Result D DecodeError)
-    → NextTagIs tag old (Ok false) → MakesValue made old r → DecodesOrDefault read tree made tag old r old
-or_made read tree made tag old (Ok v) a m = inl (a, m, refl)
-or_made read tree made tag old (Err e) a m = no_default a m refl
+pub or_made : {D : Type 0} (read : State → Result D DecodeError → State → Type 0) (tree : D → Tree) (made : Result D AllocError → Type 0) (tags : Sought) (old : State) (r : Result D DecodeError)
+    → NextIs tags old (Ok false) → MakesValue made old r → DecodesSoughtOrDefault read tree made tags old r old
+or_made read tree made tags old (Ok v) a m = inl (a, m, refl)
+or_made read tree made tags old (Err e) a m = no_default a m refl

@@ -5,7 +5,7 @@ use Rattle.std.specs.declared.alloc.AllocError.{AllocError}
 use Rattle.rasn_types.specs.declared.types.codec.Codec.{Codec}
 use Rattle.rasn_types.specs.declared.error.decode.DecodeError.{DecodeError}
 use Rattle.rasn_types.specs.declared.error.decode.DecodeErrorKind.{DecodeErrorKind}
-use Rattle.rasn_types.specs.Shapes.{Tree, items, Parts, part, presences, required, optional, addition, default}
+use Rattle.rasn_types.specs.Shapes.{Tree, items, Parts, part, presences, required, addition, optional_by, default_by}
 use Rattle.rasn_types.specs.Shapes.Parts.{none}
 use Rattle.rasn_types.specs.Readings.{Reading, Part, ReadsInOrder, AllMissing, presences_in, HasRequired, AreAllLeftOut, ReadsSeq}
 use Rattle.rasn_types.specs.Grammar.{parts_of}
@@ -27,20 +27,20 @@ pub required_part : (rule : Codec) (ps : Parts) (depth : ℕ) (closing : Bool) �
 unfolding parts_of
 required_part rule none depth closing e = cc
 required_part rule (part required s ps) depth closing e = inl refl
-required_part rule (part optional s ps) depth closing e = inr (required_part rule ps depth closing e)
+required_part rule (part (optional_by key) s ps) depth closing e = inr (required_part rule ps depth closing e)
 required_part rule (part addition s ps) depth closing e = inr (required_part rule ps depth closing e)
-required_part rule (part (default d) s ps) depth closing e = inr (required_part rule ps depth closing e)
+required_part rule (part (default_by key d) s ps) depth closing e = inr (required_part rule ps depth closing e)
 
 pub no_required : (rule : Codec) (ps : Parts) (depth : ℕ) (closing : Bool) → has_required ps ≡ false → HasRequired (parts_of rule ps depth closing) → ⊥
 unfolding parts_of
 no_required rule none depth closing e h = h
 no_required rule (part required s ps) depth closing e h = cc
-no_required rule (part optional s ps) depth closing e (inl f) = cc
-no_required rule (part optional s ps) depth closing e (inr h) = no_required rule ps depth closing e h
+no_required rule (part (optional_by key) s ps) depth closing e (inl f) = cc
+no_required rule (part (optional_by key) s ps) depth closing e (inr h) = no_required rule ps depth closing e h
 no_required rule (part addition s ps) depth closing e (inl f) = cc
 no_required rule (part addition s ps) depth closing e (inr h) = no_required rule ps depth closing e h
-no_required rule (part (default d) s ps) depth closing e (inl f) = cc
-no_required rule (part (default d) s ps) depth closing e (inr h) = no_required rule ps depth closing e h
+no_required rule (part (default_by key d) s ps) depth closing e (inl f) = cc
+no_required rule (part (default_by key d) s ps) depth closing e (inr h) = no_required rule ps depth closing e h
 
 pub not_required : (rule : Codec) (ps : Parts) (depth : ℕ) (closing : Bool) → (HasRequired (parts_of rule ps depth closing) → ⊥) → has_required ps ≡ false
 not_required rule ps depth closing n = go (has_required ps) refl

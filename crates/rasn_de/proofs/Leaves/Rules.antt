@@ -8,7 +8,7 @@ use Rattle.rasn_types.specs.declared.types.any.Any.{Any}
 use Rattle.rasn_types.specs.declared.types.constraints.Constraints.{Constraints}
 use Rattle.rasn_types.specs.declared.error.decode.DecodeError.{DecodeError}
 use Rattle.rasn_types.specs.declared.error.decode.DecodeErrorKind.{DecodeErrorKind}
-use Rattle.rasn_types.specs.Shapes.{Tree}
+use Rattle.rasn_types.specs.Shapes.{Tree, Sought}
 use Rattle.rasn_types.specs.Readings.{Reading}
 use Rattle.rasn_de.specs.State.{State}
 use Rattle.rasn_de.specs.Outcomes.{Outcome}
@@ -22,7 +22,7 @@ use Rattle.rasn_de.specs.Time.{IsInvalidDate, IsAllocError, DecodesTime}
 use Rattle.rasn_de.specs.OctetString.{IsPrimitive}
 use Rattle.rasn_de.specs.Any.{DecodesOpenType}
 use Rattle.rasn_de.specs.Set.{PeeksInOrder}
-use Rattle.rasn_de.specs.Optional.{NextTagIs, MakesValue}
+use Rattle.rasn_de.specs.Optional.{NextIs, MakesValue}
 
 -- what an error is tells its rules
 pub codec_is : {kind : DecodeErrorKind} {rule : Codec} {e : DecodeError} → e ≡ record { kind = kind; codec = rule } → e.codec ≡ rule
@@ -84,8 +84,8 @@ open_rules tag old new (Err e) (inr k, s) = codec_is k.2
 pub peek_rules : (s : State) (e : DecodeError) → PeeksTag s (Err e) → e.codec ≡ s.rule
 peek_rules s e k = codec_is k.2
 
-pub look_rules : (tag : Tag) (s : State) (e : DecodeError) → NextTagIs tag s (Err e) → e.codec ≡ s.rule
-look_rules tag s e (l, d, k) = peek_rules s e k
+pub look_rules : (tags : Sought) (s : State) (e : DecodeError) → NextIs tags s (Err e) → e.codec ≡ s.rule
+look_rules tags s e (l, d, k) = peek_rules s e k
 
 pub order_rules : (last : Option Tag) (s : State) (e : DecodeError) → PeeksInOrder last s (Err e) → e.codec ≡ s.rule
 order_rules last s e (h, inl k) = peek_rules s e k

@@ -1,11 +1,12 @@
 -- Alternatives as types: one is read, or one of the others.
-use Rattle.std.proofs.Common.{◌≡◌, ◌+◌, ◌&&◌, ℕ, suc, Bool, true, List, Option, Some, None, Result, Ok, Err, refl, sym, ap, ◌∙◌, subst, arith, inl, inr}
+use Rattle.std.proofs.Common.{◌≡◌, ◌+◌, ◌&&◌, ℕ, suc, Bool, true, false, List, Option, Some, None, Result, Ok, Err, refl, sym, ap, ◌∙◌, subst, arith, inl, inr}
 use Rattle.rasn_types.specs.declared.types.tag.Tag.{Tag}
 use Rattle.rasn_types.specs.declared.error.decode.DecodeError.{DecodeError}
 use Rattle.rasn_types.specs.declared.error.decode.DecodeErrorKind.{DecodeErrorKind}
 use Rattle.rasn_types.specs.Tags.{form}
 use Rattle.rasn_types.specs.Framing.{NextTag}
-use Rattle.rasn_types.specs.Shapes.{Tree, chosen, Shape, leaf, any, prefix, choice, option, seq, set, list, set_of, Parts, part, Presence, own, IsFirst, IsFirstOf}
+use Rattle.rasn_types.specs.Truth.{IsWhether}
+use Rattle.rasn_types.specs.Shapes.{Tree, chosen, Shape, leaf, any, prefix, choice, option, seq, set, list, set_of, Parts, part, Presence, required, own, IsFirst, IsFirstOf}
 use Rattle.rasn_types.specs.Shapes.Parts.{none}
 use Rattle.rasn_types.specs.Grammar.{Reads, parts_of}
 use Rattle.rasn_types.proofs.Headers.Frames.{next_one}
@@ -77,6 +78,19 @@ own_tag s tag t h e = e ∙ ap (λ x. Some x) (sym h)
 
 pub other_tag : (s : Shape) (tag t : Tag) → (tag ≡ t → ⊥) → own s ≡ Some t → own s ≡ Some tag → ⊥
 other_tag s tag t h e f = let k : Some tag ≡ Some t = sym f ∙ e in h cc
+
+-- Whether the first alternative, or one of the others, has a tag.
+pub first_whether : (s : Shape) (tag t : Tag) (b : Bool) → own s ≡ Some t → IsWhether b (tag ≡ t) → IsWhether b (IsFirstOf (part required s none) tag)
+first_whether s tag t true e h = inl (own_first s tag (own_tag s tag t h e))
+first_whether s tag t false e h = λ f. elim f [ inl g ↦ h (first_own s t tag e g) | inr n ↦ n ]
+
+pub this_whether : (s : Shape) (ps : Parts) (tag t : Tag) (b : Bool) → own s ≡ Some t → tag ≡ t → b ≡ true → IsWhether b (IsFirstOf (part required s ps) tag)
+this_whether s ps tag t true e h x = inl (own_first s tag (own_tag s tag t h e))
+this_whether s ps tag t false e h x = cc
+
+pub others_whether : (s : Shape) (ps : Parts) (tag t : Tag) (b : Bool) → own s ≡ Some t → (tag ≡ t → ⊥) → IsWhether b (IsFirstOf ps tag) → IsWhether b (IsFirstOf (part required s ps) tag)
+others_whether s ps tag t true e n h = inr h
+others_whether s ps tag t false e n h = λ f. elim f [ inl g ↦ n (first_own s t tag e g) | inr i ↦ h i ]
 
 -- A refusal of alternatives is one of the CHOICE.
 pub alternative_decodes : {D : Type 0} (ps : Parts) (tree : D → Tree) (name : List ℕ) (tag : Tag) (old : State) (r : Result D DecodeError) (new : State) → NextTag (form old.rule) old.rest tag → Decodes (choice ps) tree old r new

@@ -15,7 +15,7 @@ use Rattle.rasn_types.specs.declared.types.tag.Tag.{Tag}
 use Rattle.rasn_types.specs.declared.error.decode.DecodeErrorKind.{DecodeErrorKind}
 use Rattle.rasn_types.specs.Tags.{form, IsStrict}
 use Rattle.rasn_types.specs.Framing.{NextTag}
-use Rattle.rasn_types.specs.Shapes.{Tree, chosen, Shape, leaf, any, prefix, choice, option, seq, set, list, set_of, Parts, part, Presence, required, optional, addition, default, own, IsTagOf, IsFirst, IsFirstOf}
+use Rattle.rasn_types.specs.Shapes.{Tree, chosen, Shape, leaf, any, prefix, choice, option, seq, set, list, set_of, Parts, part, Presence, required, addition, Key, own_tag, first_tags, optional_by, default_by, own, IsTagOf, IsFirst, IsFirstOf, one_tag, sought_by}
 use Rattle.rasn_types.specs.Shapes.Parts.{none}
 use Rattle.rasn_types.specs.Readings.{Reading, IsPresent, IsNoDefault, ReadsChoice}
 use Rattle.rasn_types.specs.Grammar.{Reads, parts_of}
@@ -31,7 +31,7 @@ use Rattle.rasn_de.proofs.Constructed.Optional.{apart}
 
 -- How an alternative is read: a part of a SET that has a default by a default form, and any other as its shape.
 abbrev pub OneAlternative : Presence → Shape → Codec → ℕ → Bool → Reading Tree
-OneAlternative (default d) s = OnePart (default d) s
+OneAlternative (default_by key d) s = OnePart (default_by key d) s
 OneAlternative p s = λ rule. Reads rule s
 
 -- a value of the shape that isn't its default, where that may not be there
@@ -52,22 +52,26 @@ first_own (set_of tag s size) n h = h
 
 module _ (rule : Codec) (depth : ℕ) (closing : Bool) (input : List ℕ) (tag : Tag) (n : NextTag (form rule) input tag) where
   -- So a value of the shape is there.
-  is_there : (o : Option Tag) → IsTagOf o tag → IsPresent (form rule) o closing input
-  is_there None h = not_ended closing input tag n
-  is_there (Some t) h = (not_ended closing input tag n, subst (NextTag (form rule) input) h n)
+  own_is_there : (o : Option Tag) → IsTagOf o tag → IsPresent (form rule) (one_tag o) closing input
+  own_is_there None h = not_ended closing input tag n
+  own_is_there (Some t) h = (not_ended closing input tag n, subst (NextTag (form rule) input) h n)
+
+  is_there : (key : Key) (s : Shape) → IsFirst s tag → IsPresent (form rule) (sought_by key s) closing input
+  is_there own_tag s f = own_is_there (own s) (first_own s tag f)
+  is_there first_tags s f = (not_ended closing input tag n, tag, n, f)
 
   pub no_default : (p : Presence) (s : Shape) → IsFirst s tag → (t : Tree) (rest : List ℕ) → OneAlternative p s rule depth closing input t rest → ReadsNoDefault p s rule depth closing input t rest
   no_default required s f t rest h = (h, λ z. tt)
-  no_default optional s f t rest h = (h, λ z. tt)
+  no_default (optional_by key) s f t rest h = (h, λ z. tt)
   no_default addition s f t rest h = (h, λ z. tt)
-  no_default (default d) s f t rest (inl (l, e, r)) = absurd (apart (form rule) (own s) closing input l (is_there (own s) (first_own s tag f)))
-  no_default (default d) s f t rest (inr (l, h)) = h
+  no_default (default_by key d) s f t rest (inl (l, e, r)) = absurd (apart (form rule) (sought_by key s) closing input l (is_there key s f))
+  no_default (default_by key d) s f t rest (inr (l, h)) = h
 
   pub as_read : (p : Presence) (s : Shape) → IsFirst s tag → (t : Tree) (rest : List ℕ) → ReadsNoDefault p s rule depth closing input t rest → OneAlternative p s rule depth closing input t rest
   as_read required s f t rest h = h.0
-  as_read optional s f t rest h = h.0
+  as_read (optional_by key) s f t rest h = h.0
   as_read addition s f t rest h = h.0
-  as_read (default d) s f t rest h = inr (is_there (own s) (first_own s tag f), h)
+  as_read (default_by key d) s f t rest h = inr (is_there key s f, h)
 
   -- What is read as a choice begins with the tag of an alternative.
   is_first : (ps : Parts) (j : ℕ) (t : Tree) (rest : List ℕ) → ReadsChoice rule j (parts_of rule ps depth closing) input t rest → IsFirstOf ps tag

@@ -1,12 +1,11 @@
 -- A SEQUENCE is read where its parts are read inside, one of which is required or none an addition: empty contents leave all of them out.
-use Rattle.std.proofs.Common.{◌≡◌, ◌≢◌, ℕ, ◌⊎◌, ◌||◌, ◌&&◌, not, inl, inr, Bool, true, false, List, [], ◌∷◌, Option, Some, None, Result, Ok, Err, refl, ap, sym, ◌∙◌, subst}
-use Rattle.std.specs.Prelude.{IfOk}
+use Rattle.std.proofs.Common.{◌≡◌, ◌≢◌, ℕ, ◌⊎◌, ◌||◌, ◌&&◌, not, inl, inr, Bool, true, false, List, [], ◌∷◌, Option, Some, None, Result, Ok, refl, ap, sym, ◌∙◌, subst}
 use Rattle.rasn_types.specs.declared.types.tag.Tag.{Tag}
 use Rattle.rasn_types.specs.declared.types.codec.Codec.{Codec}
 use Rattle.rasn_types.specs.declared.error.decode.DecodeError.{DecodeError}
 use Rattle.rasn_types.specs.Tags.{Form, form}
 use Rattle.rasn_types.specs.Framing.{AreOctets}
-use Rattle.rasn_types.specs.Shapes.{Shape, Tree, seq, Parts, part, required, optional, addition, default, own, looked_for}
+use Rattle.rasn_types.specs.Shapes.{Shape, Tree, seq, Parts, part, required, addition, optional_by, default_by, own, Sought, one_tag, any_of, sought_by, looked_for}
 use Rattle.rasn_types.specs.Shapes.Parts.{none}
 use Rattle.rasn_types.specs.Readings.{ReadsInOrder, AllMissing, presences_in, IsLeftOut, IsPresent}
 use Rattle.rasn_types.specs.Grammar.{Reads, parts_of}
@@ -37,13 +36,15 @@ first_agrees s tag b e = same_own_is (own s) (looked_for tag) (both_true (is_loo
 pub others_agree : (s : Shape) (tag : Tag) (b : Bool) → is_looked_for s tag && b ≡ true → b ≡ true
 others_agree s tag b e = (both_true (is_looked_for s tag) b e).1
 
-left_out : (f : Form) (tag : Option Tag) (closing : Bool) → IsLeftOut f tag closing []
-left_out f None closing = inl refl
-left_out f (Some t) closing = inl (inl refl)
+left_out : (f : Form) (tags : Sought) (closing : Bool) → IsLeftOut f tags closing []
+left_out f (one_tag None) closing = inl refl
+left_out f (one_tag (Some t)) closing = inl (inl refl)
+left_out f (any_of P) closing = inl (inl refl)
 
-not_present : (f : Form) (tag : Option Tag) (closing : Bool) → IsPresent f tag closing [] → ⊥
-not_present f None closing h = h (inl refl)
-not_present f (Some t) closing h = h.0 (inl refl)
+not_present : (f : Form) (tags : Sought) (closing : Bool) → IsPresent f tags closing [] → ⊥
+not_present f (one_tag None) closing h = h (inl refl)
+not_present f (one_tag (Some t)) closing h = h.0 (inl refl)
+not_present f (any_of P) closing h = h.0 (inl refl)
 
 -- Of nothing all parts are read as left out.
 all_left : (rule : Codec) (ps : Parts) (depth : ℕ) (closing : Bool) → has_addition ps ≡ false → (ts : List Tree) → AllMissing (presences_in (parts_of rule ps depth closing)) ts
@@ -52,8 +53,8 @@ unfolding parts_of
 all_left rule none depth closing n ts m = (m, refl)
 all_left rule (part required s ps) depth closing n ts (t, us, e, m, r) = absurd m
 all_left rule (part addition s ps) depth closing n ts m = cc
-all_left rule (part optional s ps) depth closing n ts (t, us, e, m, r) = (t, us, [], e, inl (left_out (form rule) (own s) closing, m, refl), all_left rule ps depth closing n us r)
-all_left rule (part (default d) s ps) depth closing n ts (t, us, e, m, r) = (t, us, [], e, inl (left_out (form rule) (own s) closing, m, refl), all_left rule ps depth closing n us r)
+all_left rule (part (optional_by key) s ps) depth closing n ts (t, us, e, m, r) = (t, us, [], e, inl (left_out (form rule) (sought_by key s) closing, m, refl), all_left rule ps depth closing n us r)
+all_left rule (part (default_by key d) s ps) depth closing n ts (t, us, e, m, r) = (t, us, [], e, inl (left_out (form rule) (sought_by key s) closing, m, refl), all_left rule ps depth closing n us r)
 
 left_all : (rule : Codec) (ps : Parts) (depth : ℕ) (closing : Bool) → has_addition ps ≡ false → has_required ps ≡ false → (ts : List Tree) (rest : List ℕ)
     → ReadsInOrder rule (parts_of rule ps depth closing) closing [] ts rest → AllMissing (presences_in (parts_of rule ps depth closing)) ts × (rest ≡ [])
@@ -61,11 +62,11 @@ unfolding parts_of
 left_all rule none depth closing n q ts rest m = m
 left_all rule (part required s ps) depth closing n q ts rest m = cc
 left_all rule (part addition s ps) depth closing n q ts rest m = cc
-left_all rule (part optional s ps) depth closing n q ts rest (t, us, l, e, inr (h, x), r) = absurd (not_present (form rule) (own s) closing h)
-left_all rule (part optional s ps) depth closing n q ts rest (t, us, l, e, inl (h, m, f), r) =
+left_all rule (part (optional_by key) s ps) depth closing n q ts rest (t, us, l, e, inr (h, x), r) = absurd (not_present (form rule) (sought_by key s) closing h)
+left_all rule (part (optional_by key) s ps) depth closing n q ts rest (t, us, l, e, inl (h, m, f), r) =
     let k = left_all rule ps depth closing n q us rest (subst (λ z. ReadsInOrder rule (parts_of rule ps depth closing) closing z us rest) f r) in ((t, us, e, m, k.0), k.1)
-left_all rule (part (default d) s ps) depth closing n q ts rest (t, us, l, e, inr (h, x), r) = absurd (not_present (form rule) (own s) closing h)
-left_all rule (part (default d) s ps) depth closing n q ts rest (t, us, l, e, inl (h, m, f), r) =
+left_all rule (part (default_by key d) s ps) depth closing n q ts rest (t, us, l, e, inr (h, x), r) = absurd (not_present (form rule) (sought_by key s) closing h)
+left_all rule (part (default_by key d) s ps) depth closing n q ts rest (t, us, l, e, inl (h, m, f), r) =
     let k = left_all rule ps depth closing n q us rest (subst (λ z. ReadsInOrder rule (parts_of rule ps depth closing) closing z us rest) f r) in ((t, us, e, m, k.0), k.1)
 
 no_addition : (a b : Bool) → a || not b ≡ true → a ≡ false → b ≡ false

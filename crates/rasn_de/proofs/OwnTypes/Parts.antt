@@ -18,14 +18,14 @@ use Rattle.rasn_types.specs.declared.types.tag.Tag.{Tag}
 use Rattle.rasn_types.specs.declared.error.decode.DecodeError.{DecodeError}
 use Rattle.rasn_types.specs.declared.error.decode.DecodeErrorKind.{DecodeErrorKind}
 use Rattle.rasn_types.specs.Tags.{form}
-use Rattle.rasn_types.specs.Shapes.{Shape, Tree, items, done, joined, absent, option, Parts, part, Presence, optional, default, prefix, own, looked_for}
+use Rattle.rasn_types.specs.Shapes.{Shape, Tree, items, done, joined, absent, option, Parts, part, Presence, optional, default, prefix, own, Sought, one_tag, looked_for}
 use Rattle.rasn_types.specs.Shapes.Parts.{none}
 use Rattle.rasn_types.specs.Readings.{Reading, ReadsPart, ReadsOptional, ReadsInOrder}
 use Rattle.rasn_types.specs.Grammar.{Reads, parts_of}
 use Rattle.rasn_de.specs.State.{State, at}
 use Rattle.rasn_de.specs.Outcomes.{Exact, Outcome, Got, refusal, outcome}
 use Rattle.rasn_de.specs.Decodes.{DecodesExactly, Decodes, ReadsParts, DecodesParts}
-use Rattle.rasn_de.specs.Optional.{ReadsDefault, DecodesOrDefault, no_look, no_default, no_read, not_compared, present}
+use Rattle.rasn_de.specs.Optional.{ReadsDefault, DecodesIfSought, DecodesSoughtOrDefault, no_look, no_default, no_read, not_compared, present}
 use Rattle.rasn_de.specs.PartTypes.{DecodesTree, FailsAtPart, DecodesInParts}
 pub use Rattle.rasn_de.specs.PartTypes.{OnePart}
 use Rattle.rasn_de.proofs.Leaves.Returns.{residual}
@@ -96,20 +96,31 @@ module _ (p : Presence) (s : Shape) (ps : Parts) (old mid new : State) (t : Tree
 -- A part that may be left out is read as the value of such a type is.
 pub optional_part : {g : Option Tag} (s : Shape) → own s ≡ g → {old new : State} {o : Outcome} → DecodesExactly (λ rule. Reads rule (option g s)) old o new → DecodesExactly (OnePart optional s) old o new
 unfolding Reads
-optional_part {g} s e {old} {new} {o} a = record { stays = a.stays; end = a.end; exact = subst (λ h. Exact (ReadsOptional (form old.rule) h absent (Reads old.rule s old.depth old.closing) old.closing) old.rest o) (sym e) a.exact }
+optional_part {g} s e {old} {new} {o} a = record { stays = a.stays; end = a.end; exact = subst (λ h. Exact (ReadsOptional (form old.rule) (one_tag h) absent (Reads old.rule s old.depth old.closing) old.closing) old.rest o) (sym e) a.exact }
 
 -- So is one that has a default.
 pub default_part : (tag : Tag) (d : Tree) (s : Shape) → own s ≡ looked_for tag → {old new : State} {o : Outcome} → DecodesExactly (ReadsDefault tag d s) old o new → DecodesExactly (OnePart (default d) s) old o new
-default_part tag d s e {old} {new} {o} a = record { stays = a.stays; end = a.end; exact = subst (λ h. Exact (ReadsPart old.rule (default d) h (Reads old.rule s old.depth old.closing) old.closing) old.rest o) (sym e) a.exact }
+default_part tag d s e {old} {new} {o} a = record { stays = a.stays; end = a.end; exact = subst (λ h. Exact (ReadsPart old.rule (default d) (one_tag h) (Reads old.rule s old.depth old.closing) old.closing) old.rest o) (sym e) a.exact }
 
 -- Why a value that has a default isn't read, stated of its tree.
-pub default_fails : {D : Type 0} (s : Shape) (tree : D → Tree) (made : Result D AllocError → Type 0) (d : Tree) (tag : Tag) (old new : State) (e : DecodeError) → ((v : D) → made (Ok v) → tree v ≡ d)
-    → DecodesOrDefault (Decodes s tree) tree made tag old (Err e) new → DecodesOrDefault (DecodesTree s) (λ (t : Tree). t) (λ m. IfOk m (λ t. t ≡ d)) tag old (Err e) new
-default_fails s tree made d tag old new e is (no_look a q) = no_look a q
-default_fails s tree made d tag old new e is (no_default a (x, m, w) q) = no_default a (x, tt, w) q
-default_fails s tree made d tag old new e is (no_read a r) = no_read a r
-default_fails s tree made d tag old new e is (not_compared a v r h (x, m, w)) = not_compared a (tree v) r h (x, tt, w)
-default_fails s tree made d tag old new e is (present a v r h u m same w) = present a (tree v) r h (tree u) (is u m) same w
+pub default_fails : {D : Type 0} (s : Shape) (tree : D → Tree) (made : Result D AllocError → Type 0) (d : Tree) (tags : Sought) (old new : State) (e : DecodeError) → ((v : D) → made (Ok v) → tree v ≡ d)
+    → DecodesSoughtOrDefault (Decodes s tree) tree made tags old (Err e) new → DecodesSoughtOrDefault (DecodesTree s) (λ (t : Tree). t) (λ m. IfOk m (λ t. t ≡ d)) tags old (Err e) new
+default_fails s tree made d tags old new e is (no_look a q) = no_look a q
+default_fails s tree made d tags old new e is (no_default a (x, m, w) q) = no_default a (x, tt, w) q
+default_fails s tree made d tags old new e is (no_read a r) = no_read a r
+default_fails s tree made d tags old new e is (not_compared a v r h (x, m, w)) = not_compared a (tree v) r h (x, tt, w)
+default_fails s tree made d tags old new e is (present a v r h u m same w) = present a (tree v) r h (tree u) (is u m) same w
+
+-- A part that is looked for by a tag is looked for by its own.
+pub optional_fails : (s : Shape) {g : Option Tag} → own s ≡ g → {old new : State} {x : DecodeError} → DecodesIfSought (DecodesTree s) (one_tag g) old (Err x) new
+    → DecodesIfSought (DecodesTree s) (one_tag (own s)) old (Err x) new
+optional_fails s e {old} {new} {x} k = subst (λ o. DecodesIfSought (DecodesTree s) (one_tag o) old (Err x) new) (sym e) k
+
+pub own_default_fails : (s : Shape) (d : Tree) {g : Option Tag} → own s ≡ g → {old new : State} {x : DecodeError}
+    → DecodesSoughtOrDefault (DecodesTree s) (λ (t : Tree). t) (λ m. IfOk m (λ t. t ≡ d)) (one_tag g) old (Err x) new
+    → DecodesSoughtOrDefault (DecodesTree s) (λ (t : Tree). t) (λ m. IfOk m (λ t. t ≡ d)) (one_tag (own s)) old (Err x) new
+own_default_fails s d e {old} {new} {x} k =
+    subst (λ o. DecodesSoughtOrDefault (DecodesTree s) (λ (t : Tree). t) (λ m. IfOk m (λ t. t ≡ d)) (one_tag o) old (Err x) new) (sym e) k
 
 -- The same of a part under a prefix whose tag is known by another name.
 pub under_tag : {t tag : Tag} → t ≡ tag → (d : Tree) (s : Shape) {old new : State} {o : Outcome} → DecodesExactly (ReadsDefault t d (prefix t s)) old o new

@@ -4,6 +4,7 @@ use denote.Enum.Bare.{sameb}
 use lib.Dec.{eqb}
 use Rattle.rasn_types.specs.contracts.types.tag.Class.{the_type as the_class}
 use Rattle.rasn_types.specs.declared.types.tag.Tag.{Tag}
+use Rattle.rasn_types.specs.Truth.{IsWhether}
 use Rattle.rasn_types.specs.Shapes.{Shape, leaf, any, prefix, choice, option, seq, set, list, set_of, Parts, part, Presence, IsTagOf, IsFirst, IsFirstOf}
 use Rattle.rasn_types.specs.Shapes.Parts.{none}
 use Rattle.rasn_types.proofs.Time.Spellings.{both_true}
@@ -131,3 +132,8 @@ nowhere (part presence s ps) n h (inr f) = nowhere ps n h.1 f
 -- What `==` found of two tags, where `search rules` has too much beside it to read.
 pub tag_is : (tag t : Tag) → true ≡ sameb the_class tag.class t.class && eqb tag.value t.value → tag ≡ t
 tag_is tag t e = search rules
+
+-- What `==` returns of two tags.
+pub tag_whether : (tag t : Tag) (b : Bool) → b ≡ sameb the_class tag.class t.class && eqb tag.value t.value → IsWhether b (tag ≡ t)
+tag_whether tag t true e = tag_is tag t e
+tag_whether tag t false e = λ h. search rules

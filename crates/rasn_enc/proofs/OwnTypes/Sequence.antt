@@ -30,7 +30,7 @@ use Rattle.std.proofs.lemmas.List.{append-nil, append_assoc}
 use Rattle.std.proofs.lemmas.Result.{on_ok_weaker, IfErr-weaker, err_from_is_err_and}
 use Rattle.std.specs.Result.{IsErrAnd}
 use Rattle.std.specs.Fn.{FnOnceReturnsAtMut}
-use Rattle.rasn_types.specs.Shapes.{Shape, seq, option, Tree, items, done, joined, Parts, part, Presence, optional, addition, default, absent}
+use Rattle.rasn_types.specs.Shapes.{Shape, seq, option, Tree, items, done, joined, Parts, part, Presence, optional, Key, optional_by, default_by, addition, default, absent}
 use Rattle.rasn_types.specs.Shapes.Parts.{none}
 use Rattle.rasn_types.specs.Contents.{joined_lists}
 use Rattle.rasn_types.specs.Bytes.{Bytes, fields_of, WritesPart, PartsWritten, NoneUntaggedOpen, TagsOf, IsUntaggedOpen, ConstructedEncoding, Same}
@@ -254,13 +254,26 @@ pub default_left : (s : Shape) (t d : Tree) (v : View) → Same t d → AppendsP
 default_left s t d v e = record { octets = []; defined = inl (e, refl); tags = []; heads = λ k. refl; tagged = λ k b. refl; appended = appended-nil v }
 
 -- A part that may be left out is written as the value of such a type is.
-pub optional_encoded : {g : Option Tag} (s : Shape) (t : Tree) (v w : View) → AppendsEncoding (option g s) t v w → AppendsPart optional s t v w
+pub optional_encoded : {g : Option Tag} {key : Key} (s : Shape) (t : Tree) (v w : View) → AppendsEncoding (option g s) t v w → AppendsPart (optional_by key) s t v w
 unfolding Bytes IsUntaggedOpen
 optional_encoded s t v w a = record { octets = a.octets; defined = a.defined; tags = a.tags; heads = a.heads; tagged = a.tagged; appended = a.appended }
 
-pub optional_refused : {g : Option Tag} (s : Shape) (t : Tree) (v : View) (e : EncodeError) → EncodeFails (option g s) t v e → EncodePartFails optional s t v e
+pub optional_refused : {g : Option Tag} {key : Key} (s : Shape) (t : Tree) (v : View) (e : EncodeError) → EncodeFails (option g s) t v e → EncodePartFails (optional_by key) s t v e
 unfolding Bytes IsUntaggedOpen
 optional_refused s t v e h = record {
+  why = elim h.why [
+    | inl m ↦ inl m
+    | inr (inl n) ↦ inr (inl (record { none = n.none }))
+    | inr (inr n) ↦ inr (inr (record { bare = n.bare; some = n.some; keeps = n.keeps }))
+  ];
+}
+
+-- What a part with a default is recognized by makes no difference to how it is written.
+pub default_encoded : {key other : Key} (d : Tree) (s : Shape) (t : Tree) (v w : View) → AppendsPart (default_by key d) s t v w → AppendsPart (default_by other d) s t v w
+default_encoded d s t v w a = record { octets = a.octets; defined = a.defined; tags = a.tags; heads = a.heads; tagged = a.tagged; appended = a.appended }
+
+pub default_refused : {key other : Key} (d : Tree) (s : Shape) (t : Tree) (v : View) (e : EncodeError) → EncodePartFails (default_by key d) s t v e → EncodePartFails (default_by other d) s t v e
+default_refused d s t v e h = record {
   why = elim h.why [
     | inl m ↦ inl m
     | inr (inl n) ↦ inr (inl (record { none = n.none }))

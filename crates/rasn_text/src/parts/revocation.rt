@@ -1,7 +1,7 @@
 //! The parts of revocation lists (RFC 5280, 5.1).
 
 use crate::place::{Found, Located, Walk};
-use rasn::types::{BitString, ContextTag, Explicit, GeneralizedTime, Integer, UtcTime};
+use rasn::types::{BitString, ContextTag, Explicit, Integer};
 use rasn_pki::x509::revocation::{CertificateList, RevokedCertificate, TbsCertList};
 use rasn_pki::x509::{AlgorithmIdentifier, Extension, Name, Time};
 
@@ -19,8 +19,7 @@ impl Located for TbsCertList {
         walk.part::<AlgorithmIdentifier>("signature")?;
         walk.part::<Name>("issuer")?;
         walk.part::<Time>("thisUpdate")?;
-        walk.part::<Option<UtcTime>>("nextUpdate")?;
-        walk.part::<Option<GeneralizedTime>>("nextUpdate")?;
+        walk.choice_part::<Time>("nextUpdate")?;
         walk.part::<Option<Vec<RevokedCertificate>>>("revokedCertificates")?;
         walk.part::<Option<Explicit<ContextTag<0>, Vec<Extension>>>>("crlExtensions")
     }

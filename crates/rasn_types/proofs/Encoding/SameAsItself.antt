@@ -2,7 +2,7 @@
 use Rattle.std.proofs.Common.{◌≡◌, ℕ, suc, inl, inr, List, [], ◌∷◌, refl, sym, subst, Some, None}
 use Rattle.std.proofs.lemmas.List.Sorted.{IsPermutation-refl}
 use Rattle.rasn_types.specs.Tags.{Codec}
-use Rattle.rasn_types.specs.Shapes.{Tree, items, absent, Shape, leaf, any, prefix, choice, option, seq, set, list, set_of, Parts, part, Presence, required, optional, addition, default}
+use Rattle.rasn_types.specs.Shapes.{Tree, items, absent, Shape, leaf, any, prefix, choice, option, seq, set, list, set_of, Parts, part, Presence, required, addition, optional_by, default_by}
 use Rattle.rasn_types.specs.Grammar.{family}
 use Rattle.rasn_types.specs.Bytes.{Writing, Same, Each, WritesPart, PartsWritten, WritesChoice, Bytes, fields_of}
 use Rattle.rasn_types.proofs.SetOf.Same.{same_sym, same_trans}
@@ -25,12 +25,12 @@ absent_same t e = subst (λ z. Same z z) (sym e) refl
 
 part_same : (writes : Writing Tree) → ((t : Tree) (b : List ℕ) → writes t b → Same t t) → (p : Presence) (t : Tree) (b : List ℕ) → WritesPart p writes t b → Same t t
 part_same writes one required t b w = one t b w
-part_same writes one optional t b (inl w) = absent_same t w.0
-part_same writes one optional t b (inr w) = one t b w.1
+part_same writes one (optional_by key) t b (inl w) = absent_same t w.0
+part_same writes one (optional_by key) t b (inr w) = one t b w.1
 part_same writes one addition t b (inl w) = absent_same t w.0
 part_same writes one addition t b (inr w) = one t b w.1
-part_same writes one (default d) t b (inl w) = same_trans t d t w.0 (same_sym t d w.0)
-part_same writes one (default d) t b (inr w) = one t b w.1
+part_same writes one (default_by key d) t b (inl w) = same_trans t d t w.0 (same_sym t d w.0)
+part_same writes one (default_by key d) t b (inr w) = one t b w.1
 
 mutual
   unfolding Bytes fields_of

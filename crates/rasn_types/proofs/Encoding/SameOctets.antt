@@ -2,7 +2,7 @@
 use Rattle.std.proofs.Common.{◌≡◌, ℕ, suc, ◌<◌, ◌⊎◌, ◌≢◌, inl, inr, List, [], ◌∷◌, refl, sym, ap, ap₂, ◌∙◌, subst, arith, IsPermutation, Some, None}
 use Rattle.std.proofs.lemmas.List.Sorted.{IsPermutation-sym}
 use Rattle.rasn_types.specs.Tags.{Codec, Der, Tag}
-use Rattle.rasn_types.specs.Shapes.{Tree, number, bits, numbers, instant, on_day, items, set_elements, chosen, absent, Kind, boolean, null, object_identifier, integer, enumerated, octet_string, fixed, numeric, printable, visible, ia5, any_octets, bmp, utf8, utc_time, generalized_time, date, Shape, leaf, any, prefix, choice, option, seq, set, list, set_of, Parts, part, Presence, required, optional, addition, default}
+use Rattle.rasn_types.specs.Shapes.{Tree, number, bits, numbers, instant, on_day, items, set_elements, chosen, absent, Kind, boolean, null, object_identifier, integer, enumerated, octet_string, fixed, numeric, printable, visible, ia5, any_octets, bmp, utf8, utc_time, generalized_time, date, Shape, leaf, any, prefix, choice, option, seq, set, list, set_of, Parts, part, Presence, required, optional, addition, optional_by, default_by}
 use Rattle.rasn_types.specs.Contents.{Contents, joined_lists}
 use Rattle.rasn_types.specs.Grammar.{Family, plain_family, bit_family, text_family, family}
 use Rattle.rasn_types.specs.Bytes.{Same, Each, ConstructedEncoding, WritesIn, WritesText, WritesPart, PartsWritten, WritesChoice, AreAscending, IsLess, Bytes, fields_of}
@@ -80,18 +80,18 @@ absent_once t u s e = same_sym t absent (subst (Same t) e s)
 part_once : (rule : Codec) (s : Shape) → IsOnce rule s → (presence : Presence) (t u : Tree) (a b : List ℕ) → Same t u
     → WritesPart presence (Bytes rule s) t a → WritesPart presence (Bytes rule s) u b → a ≡ b
 part_once rule s once required t u a b same h k = once t u a b same h k
-part_once rule s once optional t u a b same (inl (e, f)) (inl (g, h)) = f ∙ sym h
-part_once rule s once optional t u a b same (inl (e, f)) (inr (g, h)) = absurd (g (subst (λ z. Same z u) e same))
-part_once rule s once optional t u a b same (inr (e, f)) (inl (g, h)) = absurd (e (absent_once t u same g))
-part_once rule s once optional t u a b same (inr (e, f)) (inr (g, h)) = once t u a b same f h
+part_once rule s once (optional_by key) t u a b same (inl (e, f)) (inl (g, h)) = f ∙ sym h
+part_once rule s once (optional_by key) t u a b same (inl (e, f)) (inr (g, h)) = absurd (g (subst (λ z. Same z u) e same))
+part_once rule s once (optional_by key) t u a b same (inr (e, f)) (inl (g, h)) = absurd (e (absent_once t u same g))
+part_once rule s once (optional_by key) t u a b same (inr (e, f)) (inr (g, h)) = once t u a b same f h
 part_once rule s once addition t u a b same (inl (e, f)) (inl (g, h)) = f ∙ sym h
 part_once rule s once addition t u a b same (inl (e, f)) (inr (g, h)) = absurd (g (subst (λ z. Same z u) e same))
 part_once rule s once addition t u a b same (inr (e, f)) (inl (g, h)) = absurd (e (absent_once t u same g))
 part_once rule s once addition t u a b same (inr (e, f)) (inr (g, h)) = once t u a b same f h
-part_once rule s once (default d) t u a b same (inl (e, f)) (inl (g, h)) = f ∙ sym h
-part_once rule s once (default d) t u a b same (inl (e, f)) (inr (g, h)) = absurd (g (same_trans u t d (same_sym t u same) e))
-part_once rule s once (default d) t u a b same (inr (e, f)) (inl (g, h)) = absurd (e (same_trans t u d same g))
-part_once rule s once (default d) t u a b same (inr (e, f)) (inr (g, h)) = once t u a b same f h
+part_once rule s once (default_by key d) t u a b same (inl (e, f)) (inl (g, h)) = f ∙ sym h
+part_once rule s once (default_by key d) t u a b same (inl (e, f)) (inr (g, h)) = absurd (g (same_trans u t d (same_sym t u same) e))
+part_once rule s once (default_by key d) t u a b same (inr (e, f)) (inl (g, h)) = absurd (e (same_trans t u d same g))
+part_once rule s once (default_by key d) t u a b same (inr (e, f)) (inr (g, h)) = once t u a b same f h
 
 pub parts_once : (rule : Codec) (ps : Parts) → EachOnce rule ps → (ts us : List Tree) (ls bs : List (List ℕ)) → Each Same ts us
     → PartsWritten (fields_of rule ps) ts ls → PartsWritten (fields_of rule ps) us bs → ls ≡ bs

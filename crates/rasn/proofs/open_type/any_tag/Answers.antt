@@ -1,4 +1,4 @@
-use Rattle.std.proofs.Common.{◌≡◌, ℕ, List, Result, Ok, Err, sym, subst}
+use Rattle.std.proofs.Common.{◌≡◌, ℕ, List, Result, Ok, Err, sym, subst, rules}
 use Rattle.std.specs.Prelude.{MatchResult}
 use Rattle.rasn_types.specs.declared.types.codec.Codec.{Codec}
 use Rattle.rasn_types.specs.declared.types.tag.Tag.{Tag}
@@ -6,7 +6,8 @@ use Rattle.rasn_types.specs.declared.error.decode.DecodeError.{DecodeError}
 use Rattle.rasn_types.specs.Tags.{form}
 use Rattle.rasn_types.specs.Framing.{NextTag}
 use Rattle.rasn_de.specs.State.{State}
-use Rattle.rasn_de.specs.Steps.{IsNextTag}
+use Rattle.rasn_de.specs.Steps.{IsNextTag, PeeksTag}
+use Rattle.rasn.specs.Headline.{front}
 use Rattle.rasn.proofs.open_type.any_tag.Goals as goal
 
 -- The next tag of a decoder that is at the front of the octets.
@@ -17,3 +18,8 @@ first_tag s {rules} {octets} (Err k) e f h = λ t i. h t (subst (λ x. NextTag (
 
 pub returns-clause-next : goal.returns-clause-next
 returns-clause-next c = let made = c.new.ensures in let given = c.of.ensures in let octets = c.as_bytes.ensures in first_tag c.new.result c.peek_tag.result (cc) (cc) c.peek_tag.ensures.next
+
+pub returns-clause-exact : goal.returns-clause-exact
+returns-clause-exact c =
+    let begun : c.new.result ≡ front c.args.rules c.args.any.now = search rules in
+    subst (λ (s : State). PeeksTag s c.peek_tag.result) begun c.peek_tag.ensures.exact

@@ -3,7 +3,8 @@
 ghost use Rattle.std.specs.Prelude.{◌≡◌, true, IfOk, IfErr};
 ghost use Rattle.rasn_types.specs.Framing.{NextTag};
 ghost use Rattle.rasn_types.specs.Tags.{form};
-ghost use Rattle.rasn_types.specs.Shapes.{choice, chosen};
+ghost use Rattle.rasn_types.specs.Shapes.{choice, chosen, IsFirstOf};
+ghost use Rattle.rasn_types.specs.Truth.{IsWhether};
 ghost use Rattle.rasn_de.specs.Decodes.{Decodes};
 ghost use Rattle.rasn_de.specs.AlternativeTypes.{DecodesNumbered, FailsAtAlternative, DecodesAlternative};
 
@@ -30,6 +31,11 @@ pub trait DecodeAlternatives: Drop {
 
     /// Whether each alternative has a tag of its own, which no other has.
     ghost tags_differ: { Bool };
+
+    /// Returns whether an alternative has this tag.
+    fn has_tag(tag: Tag) -> bool
+        requires differ { tags_differ ≡ true }
+        ensures { IsWhether result (IsFirstOf parts tag) };
 
     /// Reads the alternative that has this tag, which must be the next tag.
     ///
@@ -65,6 +71,10 @@ impl<A: Decode> DecodeAlternatives for Last<A> {
 
     ghost tags_differ = { is_first_alone A.shape A.TAG none && true };
 
+    fn has_tag(tag: Tag) -> bool {
+        tag == A::TAG
+    }
+
     fn decode_alternative(
         decoder: &mut Decoder<'_>,
         tag: Tag,
@@ -94,6 +104,10 @@ impl<A: Decode, R: DecodeAlternatives> DecodeAlternatives for OneOf<A, R> {
     ghost beyond = { BeyondOneOf (got (A.beyond A.TAG)) R.beyond };
 
     ghost tags_differ = { is_first_alone A.shape A.TAG R.parts && R.tags_differ };
+
+    fn has_tag(tag: Tag) -> bool {
+        tag == A::TAG || R::has_tag(tag)
+    }
 
     fn decode_alternative(
         decoder: &mut Decoder<'_>,

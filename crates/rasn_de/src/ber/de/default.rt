@@ -1,8 +1,8 @@
 //! Values that have a default if they are left out (X.680 25.8).
 ghost use Rattle.std.specs.Prelude.{◌≡◌, IfOk, IfErr};
-ghost use Rattle.rasn_types.specs.Shapes.{prefix};
+ghost use Rattle.rasn_types.specs.Shapes.{prefix, IsFirst, any_of};
 ghost use Rattle.rasn_de.specs.Decodes.{Decodes};
-ghost use Rattle.rasn_de.specs.Optional.{MakesValue, DecodesOrDefault, DecodesOrDefaultAs, DecodesDefault, DecodesDefaultAs};
+ghost use Rattle.rasn_de.specs.Optional.{MakesValue, DecodesSoughtOrDefault, DecodesOrDefault, DecodesOrDefaultAs, DecodesDefault, DecodesDefaultAs, DecodesDefaultChoice};
 ghost use Rattle.rasn_de.specs.Beyond.{got, BeyondDefault, BeyondPrefix};
 ghost use Rattle.rasn_de.specs.Prefix.{DecodesPrefixBy};
 
@@ -10,7 +10,7 @@ use crate::ber::de::Decoder;
 use crate::ber::de::parser::ParseError;
 use crate::de::Decode;
 use rasn_types::error::{DecodeError, DerDecodeErrorKind};
-use rasn_types::types::{Constraints, LawfulEq, Tag};
+use rasn_types::types::{Constraints, FirstTags, LawfulEq, Tag};
 use std::alloc::AllocError;
 
 impl<'input> Decoder<'input> {
@@ -132,6 +132,37 @@ impl<'input> Decoder<'input> {
         if value.means_same(&left_out) {
             let fault = ParseError::Der(DerDecodeErrorKind::DefaultValuePresent);
             return Err(self.error(fault));
+        }
+        Ok(value)
+    }
+
+    /// Reads a value of a CHOICE, or returns its default if the contents end or a tag follows that
+    /// is none of the first tags of the type (X.680 25.6, 29.3).
+    ///
+    /// # Errors
+    /// As `decode_default`.
+    pub fn decode_default_choice<
+        D: Decode + FirstTags + LawfulEq,
+        F: FnOnce() -> Result<D, AllocError>,
+    >(&mut self, default: F) -> Result<D, DecodeError>
+        requires { F.IsAlwaysCallable default }
+        ensures exact { DecodesSoughtOrDefault (Decodes D.shape D.tree) D.tree (F.post default) (any_of (IsFirst D.shape)) self.old result self.new }
+        ensures reads { DecodesDefaultChoice D.shape D.tree (F.post default) self.old result self.new }
+        ensures beyond { IfOk result (λ v. BeyondDefault (got (D.beyond D.TAG)) self.old v self.new) }
+        ensures rules { IfErr result (λ e. e.codec ≡ self.old.rule) }
+    {
+        if !self.next_is::<D>()? {
+            return self.default_value(default);
+        }
+        let value = D::decode(self)?;
+        if !self.is_strict() {
+            drop(default);
+            return Ok(value);
+        }
+        let usual = self.default_value(default)?;
+        if value.means_same(&usual) {
+            let kind = DerDecodeErrorKind::DefaultValuePresent;
+            return Err(self.error(ParseError::Der(kind)));
         }
         Ok(value)
     }

@@ -1,15 +1,15 @@
 //! Values that may be left out (X.680 25.5 to 25.8).
 ghost use Rattle.std.specs.Prelude.{◌≡◌, IfOk, IfErr};
-ghost use Rattle.rasn_types.specs.Shapes.{prefix};
+ghost use Rattle.rasn_types.specs.Shapes.{prefix, IsFirst, any_of};
 ghost use Rattle.rasn_de.specs.Decodes.{Decodes};
-ghost use Rattle.rasn_de.specs.Optional.{NextTagIs, DecodesIfPresent, DecodesIfPresentAs, DecodesOption, DecodesOptionAs};
+ghost use Rattle.rasn_de.specs.Optional.{NextIs, NextTagIs, DecodesIfSought, DecodesIfPresent, DecodesIfPresentAs, DecodesOption, DecodesOptionAs, DecodesOptionalChoice};
 ghost use Rattle.rasn_de.specs.Prefix.{DecodesPrefixBy};
 ghost use Rattle.rasn_de.specs.Beyond.{got, BeyondOptional, BeyondPrefix};
 
 use crate::ber::de::Decoder;
 use crate::de::Decode;
 use rasn_types::error::DecodeError;
-use rasn_types::types::{Constraints, Tag};
+use rasn_types::types::{Constraints, FirstTags, Tag};
 
 impl<'input> Decoder<'input> {
     /// Returns whether the next value has this tag; if the tag is `Tag::EOC`, whether a value
@@ -27,6 +27,16 @@ impl<'input> Decoder<'input> {
             return Ok(true);
         }
         Ok(self.peek_tag()? == tag)
+    }
+
+    /// Returns whether a value follows that begins with one of the first tags of the type.
+    ///
+    /// # Errors
+    /// The errors of `peek_tag`, unless the contents end.
+    pub fn next_is<D: FirstTags>(&self) -> Result<bool, DecodeError>
+        ensures { NextIs (any_of (IsFirst D.shape)) self.now result }
+    {
+        Ok(!self.has_ended() && D::is_first_tag(self.peek_tag()?))
     }
 
     /// Reads a value, or returns `None` if the contents end or a tag other than the type's own
@@ -120,6 +130,26 @@ impl<'input> Decoder<'input> {
             return Ok(None);
         }
         let value = self.decode_explicit_prefix::<D>(tag)?;
+        Ok(Some(value))
+    }
+
+    /// Reads a value of a CHOICE, or returns `None` if the contents end or a tag follows that is
+    /// none of the first tags of the type (X.680 25.6, 29.3).
+    ///
+    /// # Errors
+    /// An error in the next identifier, which consumes nothing, or the error of the value.
+    pub fn decode_optional_choice<D: Decode + FirstTags>(
+        &mut self,
+    ) -> Result<Option<D>, DecodeError>
+        ensures exact { DecodesIfSought (Decodes D.shape D.tree) (any_of (IsFirst D.shape)) self.old result self.new }
+        ensures reads { DecodesOptionalChoice D.shape D.tree self.old result self.new }
+        ensures beyond { IfOk result (λ v. BeyondOptional (got (D.beyond D.TAG)) self.old v self.new) }
+        ensures rules { IfErr result (λ e. e.codec ≡ self.old.rule) }
+    {
+        if !self.next_is::<D>()? {
+            return Ok(None);
+        }
+        let value = D::decode(self)?;
         Ok(Some(value))
     }
 }

@@ -11,11 +11,12 @@ use crate::ber::de::Decoder;
 use crate::ber::de::constructed::ConstructedHeader;
 use crate::de::Decode;
 use rasn_types::error::DecodeError;
-use rasn_types::types::{AsnType, DefaultValue, End, ExplicitDefault, Tag};
+use rasn_types::types::{AsnType, DefaultValue, End, ExplicitDefault, FirstTags, Tag};
 use std::alloc::AllocError;
 
-/// Parts that are read in their order: [`Required`], [`Optional`], [`Defaulted`],
-/// [`DefaultedExplicit`] and [`Addition`], each with those after it, and [`End`] after the last.
+/// Parts that are read in their order: [`Required`], [`Optional`], [`OptionalChoice`],
+/// [`Defaulted`], [`DefaultedChoice`], [`DefaultedExplicit`] and [`Addition`], each with those after
+/// it, and [`End`] after the last.
 pub trait DecodeParts: Drop {
     ghost use Rattle.std.specs.Prelude.{Bool};
     ghost use Rattle.rasn_types.specs.Shapes.{Parts, Tree};
@@ -28,7 +29,8 @@ pub trait DecodeParts: Drop {
     /// What the parts keep of their octets beyond their trees.
     ghost beyond: { State → Self → State → Type 0 } = { λ _ _ _. Unit {0} };
 
-    /// Whether each part that may be left out is looked for by its own tag.
+    /// Whether each part that may be left out is looked for by its own tag, unless it is a CHOICE
+    /// that is looked for by its first tags.
     ghost tags_agree: { Bool };
 
     /// Reads the parts.
@@ -51,9 +53,19 @@ pub struct Required<A, R>(pub A, pub R);
 #[derive(Debug, Drop)]
 pub struct Optional<A, R>(pub Option<A>, pub R);
 
+/// A CHOICE that may be left out (X.680 25.5), and those after it. It is present if one of the
+/// first tags of its type follows.
+#[derive(Debug, Drop)]
+pub struct OptionalChoice<A, R>(pub Option<A>, pub R);
+
 /// A part that has a default if it is left out (X.680 25.8), and those after it.
 #[derive(Drop)]
 pub struct Defaulted<V: DefaultValue, R>(pub V::Value, pub R);
+
+/// A CHOICE that has a default if it is left out (X.680 25.8), and those after it. It is present if
+/// one of the first tags of its type follows.
+#[derive(Drop)]
+pub struct DefaultedChoice<V: DefaultValue, R>(pub V::Value, pub R);
 
 /// A part under an explicit tag that has a default if it is left out (X.680 25.8, 31.2.7), and
 /// those after it. The value is stored without the tag.
@@ -90,7 +102,7 @@ impl<A: Decode, R: DecodeParts> DecodeParts for Required<A, R> {
 
     ghost tree = { λ p. joined (A.tree p.0) (R.tree p.1) };
 
-    ghost beyond = { λ old p new. BeyondPart (got (A.beyond A.TAG)) R.beyond old p.0 p.1 new };
+    ghost beyond = { λ old p new. BeyondPart required A.shape A.tree (got (A.beyond A.TAG)) R.beyond old p.0 p.1 new };
 
     ghost tags_agree = { R.tags_agree };
 
@@ -113,7 +125,7 @@ impl<A: Decode, R: DecodeParts> DecodeParts for Optional<A, R> {
 
     ghost tree = { λ p. joined (option_tree A.tree p.0) (R.tree p.1) };
 
-    ghost beyond = { λ old p new. BeyondPart (BeyondOptional (got (A.beyond A.TAG))) R.beyond old p.0 p.1 new };
+    ghost beyond = { λ old p new. BeyondPart optional A.shape (option_tree A.tree) (BeyondOptional (got (A.beyond A.TAG))) R.beyond old p.0 p.1 new };
 
     ghost tags_agree = { is_looked_for A.shape A.TAG && R.tags_agree };
 
@@ -121,6 +133,26 @@ impl<A: Decode, R: DecodeParts> DecodeParts for Optional<A, R> {
         let value = decoder.decode_optional::<A>()?;
         let rest = R::decode_parts(decoder)?;
         Ok(Optional(value, rest))
+    }
+}
+
+impl<A: Decode + FirstTags, R: DecodeParts> DecodeParts for OptionalChoice<A, R> {
+    ghost use Rattle.rasn_de.specs.Beyond.{got, BeyondOptional, BeyondPart};
+    ghost use Rattle.rasn_types.specs.Shapes.{part, optional_choice, joined};
+    ghost use Rattle.rasn_types.specs.Trees.{option_tree};
+
+    ghost parts = { part optional_choice A.shape R.parts };
+
+    ghost tree = { λ p. joined (option_tree A.tree p.0) (R.tree p.1) };
+
+    ghost beyond = { λ old p new. BeyondPart optional_choice A.shape (option_tree A.tree) (BeyondOptional (got (A.beyond A.TAG))) R.beyond old p.0 p.1 new };
+
+    ghost tags_agree = { R.tags_agree };
+
+    fn decode_parts(decoder: &mut Decoder<'_>) -> Result<OptionalChoice<A, R>, DecodeError> {
+        let value = decoder.decode_optional_choice::<A>()?;
+        let rest = R::decode_parts(decoder)?;
+        Ok(OptionalChoice(value, rest))
     }
 }
 
@@ -137,7 +169,7 @@ where
 
     ghost tree = { λ p. joined (V.Value.tree p.0) (R.tree p.1) };
 
-    ghost beyond = { λ old p new. BeyondPart (BeyondDefault (got (V.Value.beyond V.Value.TAG))) R.beyond old p.0 p.1 new };
+    ghost beyond = { λ old p new. BeyondPart (default V.default_tree) V.Value.shape V.Value.tree (BeyondDefault (got (V.Value.beyond V.Value.TAG))) R.beyond old p.0 p.1 new };
 
     ghost tags_agree = { is_looked_for V.Value.shape V.Value.TAG && R.tags_agree };
 
@@ -150,6 +182,33 @@ where
         )?;
         let rest = R::decode_parts(decoder)?;
         Ok(Defaulted(value, rest))
+    }
+}
+
+impl<V: DefaultValue, R: DecodeParts> DecodeParts for DefaultedChoice<V, R>
+where
+    V::Value: Decode + FirstTags,
+{
+    ghost use Rattle.rasn_de.specs.Beyond.{got, BeyondDefault, BeyondPart};
+    ghost use Rattle.rasn_types.specs.Shapes.{part, default_choice, joined};
+
+    ghost parts = { part (default_choice V.default_tree) V.Value.shape R.parts };
+
+    ghost tree = { λ p. joined (V.Value.tree p.0) (R.tree p.1) };
+
+    ghost beyond = { λ old p new. BeyondPart (default_choice V.default_tree) V.Value.shape V.Value.tree (BeyondDefault (got (V.Value.beyond V.Value.TAG))) R.beyond old p.0 p.1 new };
+
+    ghost tags_agree = { R.tags_agree };
+
+    fn decode_parts(decoder: &mut Decoder<'_>) -> Result<DefaultedChoice<V, R>, DecodeError> {
+        let alloc = decoder.alloc();
+        let value = decoder.decode_default_choice::<V::Value, _>(
+            || -> Result<V::Value, AllocError>
+                ensures { IfOk result (λ v. V.Value.tree v ≡ V.default_tree) }
+            { V::default_value(alloc) },
+        )?;
+        let rest = R::decode_parts(decoder)?;
+        Ok(DefaultedChoice(value, rest))
     }
 }
 
@@ -166,7 +225,7 @@ where
 
     ghost tree = { λ p. joined (V.Value.tree p.0) (R.tree p.1) };
 
-    ghost beyond = { λ old p new. BeyondPart (BeyondDefault (BeyondPrefix (got (V.Value.beyond V.Value.TAG)) V.Prefix.TAG)) R.beyond old p.0 p.1 new };
+    ghost beyond = { λ old p new. BeyondPart (default V.default_tree) (prefix V.Prefix.TAG V.Value.shape) V.Value.tree (BeyondDefault (BeyondPrefix (got (V.Value.beyond V.Value.TAG)) V.Prefix.TAG)) R.beyond old p.0 p.1 new };
 
     ghost tags_agree = { is_looked_for (prefix V.Prefix.TAG V.Value.shape) V.Prefix.TAG && R.tags_agree };
 
@@ -192,7 +251,7 @@ impl<A: Decode, R: DecodeParts> DecodeParts for Addition<A, R> {
 
     ghost tree = { λ p. joined (option_tree A.tree p.0) (R.tree p.1) };
 
-    ghost beyond = { λ old p new. BeyondPart (BeyondOptional (got (A.beyond A.TAG))) R.beyond old p.0 p.1 new };
+    ghost beyond = { λ old p new. BeyondPart addition A.shape (option_tree A.tree) (BeyondOptional (got (A.beyond A.TAG))) R.beyond old p.0 p.1 new };
 
     ghost tags_agree = { R.tags_agree };
 

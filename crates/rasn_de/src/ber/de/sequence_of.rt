@@ -1,7 +1,7 @@
 //! SEQUENCE OF (X.690 8.10).
 ghost use Rattle.std.specs.Prelude.{◌≡◌, IfOk, IfErr, OnOk};
 ghost use Rattle.rasn_de.specs.Decodes.{Decodes};
-ghost use Rattle.rasn_de.specs.Beyond.{got, BeyondElement, BeyondElements, BeyondInside};
+ghost use Rattle.rasn_de.specs.Beyond.{Held, BeyondElement, BeyondElements, BeyondInside};
 ghost use Rattle.rasn_de.specs.Constructed.{list_header};
 ghost use Rattle.rasn_de.specs.SequenceOf.{DecodesElement, DecodesElements, DecodesSequenceOfBy, DecodesSequenceOf};
 
@@ -17,7 +17,7 @@ impl<'input> Decoder<'input> {
     #[inline(always)]
     pub(super) fn push_element<D: Decode>(&mut self, values: &mut Vec<D>) -> Result<(), DecodeError>
         ensures exact { DecodesElement (Decodes D.shape D.tree) self.old values.old.items result self.new values.new.items }
-        ensures beyond { OnOk result (BeyondElement (got (D.beyond D.TAG)) self.old values.old.items values.new.items self.new) }
+        ensures beyond { OnOk result (BeyondElement (Held D.shape D.tree (D.beyond D.TAG)) self.old values.old.items values.new.items self.new) }
         ensures rules { IfErr result (λ e. e.codec ≡ self.old.rule) }
     {
         let left = self.rest.len();
@@ -35,7 +35,7 @@ impl<'input> Decoder<'input> {
     #[inline(always)]
     fn elements<D: Decode>(&mut self) -> Result<Vec<D>, DecodeError>
         ensures exact { DecodesElements (Decodes D.shape D.tree) (λ v. v.items) self.old result self.new }
-        ensures beyond { IfOk result (λ v. BeyondElements (got (D.beyond D.TAG)) self.old v.items self.new) }
+        ensures beyond { IfOk result (λ v. BeyondElements (Held D.shape D.tree (D.beyond D.TAG)) self.old v.items self.new) }
         ensures rules { IfErr result (λ e. e.codec ≡ self.old.rule) }
     {
         let mut values = Vec::new(self.alloc);
@@ -64,7 +64,7 @@ impl<'input> Decoder<'input> {
     ) -> Result<Vec<D>, DecodeError>
         ensures exact { DecodesSequenceOfBy (Decodes D.shape D.tree) tag constraints.now self.old result self.new }
         ensures reads { DecodesSequenceOf D.shape D.tree tag constraints.now self.old result self.new }
-        ensures beyond { IfOk result (λ v. BeyondInside (BeyondElements (got (D.beyond D.TAG))) (list_header tag) self.old v.items) }
+        ensures beyond { IfOk result (λ v. BeyondInside (BeyondElements (Held D.shape D.tree (D.beyond D.TAG))) (list_header tag) self.old v.items) }
         ensures rules { IfErr result (λ e. e.codec ≡ self.old.rule) }
     {
         let values = self.inside(
@@ -72,7 +72,7 @@ impl<'input> Decoder<'input> {
             |inner| -> Result<Vec<D>, DecodeError>
                 ensures exact { DecodesElements (Decodes D.shape D.tree) (λ v. v.items) inner.old result inner.new }
                 ensures rules { IfErr result (λ e. e.codec ≡ inner.old.rule) }
-                ensures beyond { IfOk result (λ v. BeyondElements (got (D.beyond D.TAG)) inner.old v.items inner.new) }
+                ensures beyond { IfOk result (λ v. BeyondElements (Held D.shape D.tree (D.beyond D.TAG)) inner.old v.items inner.new) }
             { inner.elements() },
         )?;
         match check_size(constraints, values.len()) {
@@ -84,10 +84,10 @@ impl<'input> Decoder<'input> {
 
 impl<T: Decode> Decode for Vec<T> {
     ghost use Rattle.std.specs.Prelude.{IfOk};
-    ghost use Rattle.rasn_de.specs.Beyond.{got, BeyondElements, BeyondInside};
+    ghost use Rattle.rasn_de.specs.Beyond.{Held, BeyondElements, BeyondInside};
     ghost use Rattle.rasn_de.specs.Constructed.{list_header};
 
-    ghost beyond = { λ tag old result new. IfOk result (λ v. BeyondInside (BeyondElements (got (T.beyond T.TAG))) (list_header tag) old v.items) };
+    ghost beyond = { λ tag old result new. IfOk result (λ v. BeyondInside (BeyondElements (Held T.shape T.tree (T.beyond T.TAG))) (list_header tag) old v.items) };
 
     #[inline(always)]
     fn decode_with_tag_and_constraints(

@@ -2,7 +2,7 @@
 ghost use Rattle.std.specs.Prelude.{◌≡◌, ◌++◌, IfOk, IfErr};
 ghost use Rattle.rasn_types.specs.Order.{IsLess};
 ghost use Rattle.rasn_de.specs.Decodes.{Decodes};
-ghost use Rattle.rasn_de.specs.Beyond.{got, BeyondElements, BeyondInside};
+ghost use Rattle.rasn_de.specs.Beyond.{Held, BeyondElements, BeyondInside};
 ghost use Rattle.rasn_de.specs.Constructed.{list_header};
 ghost use Rattle.rasn_de.specs.SequenceOf.{DecodesElementsInOrder, DecodesSetOfBy, DecodesSetOf};
 ghost use Rattle.rasn_de.specs.State.{IsEnd};
@@ -38,7 +38,7 @@ impl<'input> Decoder<'input> {
     /// order (X.690 11.6).
     fn elements_in_order<D: Decode>(&mut self) -> Result<SetOf<D>, DecodeError>
         ensures exact { DecodesElementsInOrder (Decodes D.shape D.tree) (λ v. v) self.old result self.new }
-        ensures beyond { IfOk result (λ v. BeyondElements (got (D.beyond D.TAG)) self.old v self.new) }
+        ensures beyond { IfOk result (λ v. BeyondElements (Held D.shape D.tree (D.beyond D.TAG)) self.old v self.new) }
         ensures rules { IfErr result (λ e. e.codec ≡ self.old.rule) }
     {
         let mut values = Vec::new(self.alloc);
@@ -70,7 +70,7 @@ impl<'input> Decoder<'input> {
     ) -> Result<SetOf<D>, DecodeError>
         ensures exact { DecodesSetOfBy (Decodes D.shape D.tree) tag constraints.now self.old result self.new }
         ensures reads { DecodesSetOf D.shape D.tree tag constraints.now self.old result self.new }
-        ensures beyond { IfOk result (λ v. BeyondInside (BeyondElements (got (D.beyond D.TAG))) (list_header tag) self.old v) }
+        ensures beyond { IfOk result (λ v. BeyondInside (BeyondElements (Held D.shape D.tree (D.beyond D.TAG))) (list_header tag) self.old v) }
         ensures rules { IfErr result (λ e. e.codec ≡ self.old.rule) }
     {
         let values = self.inside(
@@ -78,7 +78,7 @@ impl<'input> Decoder<'input> {
             |inner| -> Result<SetOf<D>, DecodeError>
                 ensures exact { DecodesElementsInOrder (Decodes D.shape D.tree) (λ v. v) inner.old result inner.new }
                 ensures rules { IfErr result (λ e. e.codec ≡ inner.old.rule) }
-                ensures beyond { IfOk result (λ v. BeyondElements (got (D.beyond D.TAG)) inner.old v inner.new) }
+                ensures beyond { IfOk result (λ v. BeyondElements (Held D.shape D.tree (D.beyond D.TAG)) inner.old v inner.new) }
             { inner.elements_in_order() },
         )?;
         match check_size(constraints, values.len()) {
@@ -90,10 +90,10 @@ impl<'input> Decoder<'input> {
 
 impl<T: Decode + Eq> Decode for SetOf<T> {
     ghost use Rattle.std.specs.Prelude.{IfOk};
-    ghost use Rattle.rasn_de.specs.Beyond.{got, BeyondElements, BeyondInside};
+    ghost use Rattle.rasn_de.specs.Beyond.{Held, BeyondElements, BeyondInside};
     ghost use Rattle.rasn_de.specs.Constructed.{list_header};
 
-    ghost beyond = { λ tag old result new. IfOk result (λ v. BeyondInside (BeyondElements (got (T.beyond T.TAG))) (list_header tag) old v) };
+    ghost beyond = { λ tag old result new. IfOk result (λ v. BeyondInside (BeyondElements (Held T.shape T.tree (T.beyond T.TAG))) (list_header tag) old v) };
 
     fn decode_with_tag_and_constraints(
         decoder: &mut Decoder<'_>,

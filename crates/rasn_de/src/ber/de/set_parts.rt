@@ -1,11 +1,14 @@
 //! A SET whose parts are described by a type (X.690 8.11): nested to the right, read in any order,
 //! each once.
-ghost use Rattle.std.specs.Prelude.{◌≡◌, ℕ, zero, suc, true, IfOk, map, IfErr};
+ghost use Rattle.std.specs.Prelude.{◌≡◌, ◌≢◌, ℕ, zero, suc, true, length, List, Contains, IfOk, map, IfErr};
 ghost use Rattle.rasn_types.specs.Framing.{NextTag};
 ghost use Rattle.rasn_types.specs.Tags.{form};
 ghost use Rattle.rasn_types.specs.Shapes.{set};
 ghost use Rattle.rasn_de.specs.Decodes.{Decodes};
-ghost use Rattle.rasn_de.specs.SetPartTypes.{text, name_at, AreEmpty, IsPlaced, IsOrDefault, DecodesPlaced, DecodesOneOf, DecodesNext, MakesParts, DecodesSetPartContents, DecodesSetParts, DecodesNamedContents, DecodesNamedParts};
+ghost use Rattle.rasn_de.specs.SetPartTypes.{text, name_at, AreEmpty, IsPlaced, IsOrDefault, DecodesPlaced, DecodesOneOf, DecodesNext, MakesParts, DecodesSetPartContents, DecodesSetParts, DecodesNamedContents, DecodesNamedParts, BeyondSet};
+ghost use Rattle.rasn_de.specs.Beyond.{BeyondInside};
+ghost use Rattle.rasn_de.specs.Constructed.{sequence_header};
+ghost use Rattle.rasn_de.specs.State.{State};
 ghost use Rattle.rasn_de.specs.AlternativeTypes.{FailsAtAlternative};
 ghost use Rattle.rasn_de.specs.SequenceOf.{FailsAtElement};
 
@@ -23,6 +26,7 @@ use std::alloc::AllocError;
 pub trait DecodeSetParts: Drop {
     ghost use Rattle.std.specs.Prelude.{Bool, List, Option};
     ghost use Rattle.rasn_types.specs.Shapes.{Parts, Tree};
+    ghost use Rattle.rasn_de.specs.State.{State};
 
     /// A slot for each part, which is empty until the part is read.
     type Slots: Drop;
@@ -33,12 +37,20 @@ pub trait DecodeSetParts: Drop {
 
     ghost held: { Self.Slots → List (Option Tree) };
 
+    /// What the values in the slots keep of the octets that were read at these states, beyond their
+    /// trees.
+    ghost kept: { List State → Self.Slots → Type 0 };
+
+    /// What the parts keep of them.
+    ghost beyond: { List State → Self → Type 0 };
+
     /// Whether each part has a tag of its own, which no other has.
     ghost tags_differ: { Bool };
 
     /// Returns empty slots.
     fn empty() -> Self::Slots
-        ensures { AreEmpty parts (held result) };
+        ensures empty { AreEmpty parts (held result) }
+        ensures kept { (starts : List State) → kept starts result };
 
     /// Reads the component that has this tag, which must be the next tag, and puts it into the slot
     /// of its part. If the slot is filled already, drops the component and returns the name of the
@@ -57,6 +69,7 @@ pub trait DecodeSetParts: Drop {
         requires differ { tags_differ ≡ true }
         ensures reads { DecodesPlaced parts (map text names.now) (held slots.old) decoder.old result decoder.new (held slots.new) }
         ensures fails { IfErr result (λ e. FailsAtAlternative parts name.now tag decoder.old e decoder.new) }
+        ensures kept { (starts : List State) → Contains starts decoder.old → kept starts slots.old → length decoder.new.rest ≢ length decoder.old.rest → IfOk result (λ r. kept starts slots.new) }
         ensures rules { IfErr result (λ e. e.codec ≡ decoder.old.rule) };
 
     /// Returns the parts that the slots contain.
@@ -70,6 +83,7 @@ pub trait DecodeSetParts: Drop {
         names: &[&str],
     ) -> Result<Self, DecodeError>
         ensures makes { MakesParts parts tree (map text names.now) decoder.now.rule (held slots) result }
+        ensures beyond { (starts : List State) → kept starts slots → IfOk result (λ v. beyond starts v) }
         ensures rules { IfErr result (λ e. e.codec ≡ decoder.now.rule) };
 }
 
@@ -141,6 +155,10 @@ impl DecodeSetParts for End {
 
     ghost held = { λ c. [] };
 
+    ghost kept = { λ starts c. Unit {0} };
+
+    ghost beyond = { λ starts p. Unit {0} };
+
     ghost tags_differ = { true };
 
     fn empty() -> End {
@@ -163,10 +181,11 @@ impl DecodeSetParts for End {
 }
 
 impl<A: Decode, R: DecodeSetParts> DecodeSetParts for Required<A, R> {
-    ghost use Rattle.std.specs.Prelude.{◌&&◌, ◌∷◌};
+    ghost use Rattle.std.specs.Prelude.{◌&&◌, ◌∷◌, Some};
     ghost use Rattle.rasn_types.specs.Shapes.{part, required, joined};
     ghost use Rattle.rasn_de.specs.AlternativeTypes.{is_first_alone};
     ghost use Rattle.rasn_de.specs.SetPartTypes.{held_tree};
+    ghost use Rattle.rasn_de.specs.Beyond.{got, BeyondSlot};
 
     type Slots = (Option<A>, R::Slots);
 
@@ -175,6 +194,10 @@ impl<A: Decode, R: DecodeSetParts> DecodeSetParts for Required<A, R> {
     ghost tree = { λ p. joined (A.tree p.0) (R.tree p.1) };
 
     ghost held = { λ c. held_tree A.tree c.0 ∷ R.held c.1 };
+
+    ghost kept = { λ starts c. BeyondSlot (got (A.beyond A.TAG)) starts c.0 × R.kept starts c.1 };
+
+    ghost beyond = { λ starts p. BeyondSlot (got (A.beyond A.TAG)) starts (Some p.0) × R.beyond starts p.1 };
 
     ghost tags_differ = { is_first_alone A.shape A.TAG R.parts && R.tags_differ };
 
@@ -220,6 +243,7 @@ impl<A: Decode, R: DecodeSetParts> DecodeSetParts for Optional<A, R> {
     ghost use Rattle.rasn_types.specs.Trees.{option_tree};
     ghost use Rattle.rasn_de.specs.AlternativeTypes.{is_first_alone};
     ghost use Rattle.rasn_de.specs.SetPartTypes.{held_tree};
+    ghost use Rattle.rasn_de.specs.Beyond.{got, BeyondSlot};
 
     type Slots = (Option<A>, R::Slots);
 
@@ -228,6 +252,10 @@ impl<A: Decode, R: DecodeSetParts> DecodeSetParts for Optional<A, R> {
     ghost tree = { λ p. joined (option_tree A.tree p.0) (R.tree p.1) };
 
     ghost held = { λ c. held_tree A.tree c.0 ∷ R.held c.1 };
+
+    ghost kept = { λ starts c. BeyondSlot (got (A.beyond A.TAG)) starts c.0 × R.kept starts c.1 };
+
+    ghost beyond = { λ starts p. BeyondSlot (got (A.beyond A.TAG)) starts p.0 × R.beyond starts p.1 };
 
     ghost tags_differ = { is_first_alone A.shape A.TAG R.parts && R.tags_differ };
 
@@ -263,11 +291,12 @@ impl<V: DefaultValue, R: DecodeSetParts> DecodeSetParts for Defaulted<V, R>
 where
     V::Value: Decode,
 {
-    ghost use Rattle.std.specs.Prelude.{◌&&◌, ◌∷◌};
+    ghost use Rattle.std.specs.Prelude.{◌&&◌, ◌∷◌, ◌≡◌, ◌⊎◌, Some};
     ghost use Rattle.rasn_types.specs.Shapes.{part, default, joined};
     ghost use Rattle.rasn_de.specs.PartTypes.{is_looked_for};
     ghost use Rattle.rasn_de.specs.AlternativeTypes.{is_first_alone};
     ghost use Rattle.rasn_de.specs.SetPartTypes.{held_tree};
+    ghost use Rattle.rasn_de.specs.Beyond.{got, BeyondSlot};
 
     type Slots = (Option<V::Value>, R::Slots);
 
@@ -276,6 +305,10 @@ where
     ghost tree = { λ p. joined (V.Value.tree p.0) (R.tree p.1) };
 
     ghost held = { λ c. held_tree V.Value.tree c.0 ∷ R.held c.1 };
+
+    ghost kept = { λ starts c. BeyondSlot (got (V.Value.beyond V.Value.TAG)) starts c.0 × R.kept starts c.1 };
+
+    ghost beyond = { λ starts p. (BeyondSlot (got (V.Value.beyond V.Value.TAG)) starts (Some p.0) ⊎ (V.Value.tree p.0 ≡ V.default_tree)) × R.beyond starts p.1 };
 
     ghost tags_differ = { is_first_alone V.Value.shape V.Value.TAG R.parts && (is_looked_for V.Value.shape V.Value.TAG && R.tags_differ) };
 
@@ -325,6 +358,7 @@ impl<'input> Decoder<'input> {
         requires { P.tags_differ ≡ true }
         ensures exact { DecodesNext P.parts (map text names.now) (P.held slots.old) self.old result self.new (P.held slots.new) }
         ensures fails { IfErr result (λ e. FailsAtElement (DecodesOneOf P.parts name.now) self.old e self.new) }
+        ensures kept { (starts : List State) → Contains starts self.old → P.kept starts slots.old → IfOk result (λ r. P.kept starts slots.new) }
         ensures rules { IfErr result (λ e. e.codec ≡ self.old.rule) }
     {
         let left = self.rest.len();
@@ -342,6 +376,7 @@ impl<'input> Decoder<'input> {
         requires { P.tags_differ ≡ true }
         ensures exact { DecodesSetPartContents P.parts P.tree (map text names.now) self.old result self.new }
         ensures fails { DecodesNamedContents P.parts P.tree name.now (map text names.now) self.old result self.new }
+        ensures beyond { IfOk result (λ v. BeyondSet P.parts P.beyond self.old v self.new) }
         ensures rules { IfErr result (λ e. e.codec ≡ self.old.rule) }
     {
         let mut slots = P::empty();
@@ -386,6 +421,7 @@ impl<'input> Decoder<'input> {
         ensures exact { DecodesSetParts P.parts P.tree (map text names.now) tag self.old result self.new }
         ensures fails { DecodesNamedParts P.parts P.tree name.now (map text names.now) tag self.old result self.new }
         ensures reads { Decodes (set tag P.parts) P.tree self.old result self.new }
+        ensures beyond { IfOk result (λ v. BeyondInside (BeyondSet P.parts P.beyond) (sequence_header tag) self.old v) }
         ensures rules { IfErr result (λ e. e.codec ≡ self.old.rule) }
     {
         self.inside(
@@ -395,6 +431,7 @@ impl<'input> Decoder<'input> {
                 ensures exact { DecodesSetPartContents P.parts P.tree (map text names.entry.now) inner.old result inner.new }
                 ensures fails { DecodesNamedContents P.parts P.tree name.entry.now (map text names.entry.now) inner.old result inner.new }
                 ensures rules { IfErr result (λ e. e.codec ≡ inner.old.rule) }
+                ensures beyond { IfOk result (λ v. BeyondSet P.parts P.beyond inner.old v inner.new) }
             { inner.set_parts::<P>(name, names) },
         )
     }

@@ -1,7 +1,7 @@
-use Rattle.std.proofs.Common.{rules, arith, append_assoc, ◌≡◌, ◌-◌, [], ◌∷◌, ◌++◌, length, map, true, false, Some, None, Ok, refl, sym, ap, ◌∙◌, subst, inl, inr}
+use Rattle.std.proofs.Common.{rules, arith, append_assoc, ◌≡◌, ◌-◌, [], ◌∷◌, ◌++◌, length, map, true, false, Some, None, Ok, Err, refl, sym, ap, ◌∙◌, subst, inl, inr}
 use Rattle.std.specs.Prelude.{get_or, slice_get, IfErr}
 use Rattle.std.proofs.lemmas.Option.{slice_get_within}
-use Rattle.rasn_types.specs.Shapes.{Tree, choice, IsFirstOf}
+use Rattle.rasn_types.specs.Shapes.{Tree, choice, IsFirstOf, own_tag, sought_by}
 use Rattle.rasn_types.proofs.Headers.Frames.{next_one}
 use Rattle.rasn_de.specs.NamedErrors.{IsNamedError, IsDuplicateField}
 use Rattle.rasn_de.specs.SetPartTypes.{text}
@@ -16,7 +16,7 @@ use Rattle.rasn_de.specs.State.{State}
 use Rattle.rasn_de.specs.declared.ber.de.parser.ParseError.TheVariants.{Der, UnexpectedExtraData, OutOfMemory}
 use Rattle.rasn_de.specs.Decodes.{Decodes}
 use Rattle.rasn_de.specs.Steps.{IsErrorOf}
-use Rattle.rasn_de.specs.Optional.{NextTagIs}
+use Rattle.rasn_de.specs.Optional.{NextIs}
 use Rattle.rasn_de.proofs.Leaves.Returns.{residual}
 use Rattle.rasn_de.proofs.OwnTypes.Alternatives.{no_alternative}
 use Rattle.rasn_de.proofs.Constructed.NextElement.{passes_more, turn_rules}
@@ -27,7 +27,8 @@ use Rattle.rasn_de.proofs.Constructed.Optional.{strict_before, strict_after}
 use Rattle.rasn_de.proofs.OwnTypes.Parts.{call_keeps}
 use Rattle.rasn_schema.specs.declared.types.Alternative.{Alternative}
 use Rattle.rasn_schema.specs.Trees.{tree_of}
-use Rattle.rasn_schema.specs.Shapes.{shape_of_type, type_by, alternatives_by, components_by, presence_of, tag_at, AreLawful}
+use Rattle.rasn_schema.specs.Shapes.{shape_of_type, type_by, alternatives_by, components_by, key_of, presence_in, AreLawful}
+use Rattle.rasn_schema.proofs.Presences.{always_by}
 use Rattle.rasn_schema.proofs.TypeShapes.{shape_below, own_is}
 use Rattle.rasn_schema.proofs.Lists.{split, nothing_left, read_at}
 use Rattle.rasn_dynamic.specs.Typed.{DecodesContents, element_count, values_tree}
@@ -37,7 +38,7 @@ use Rattle.rasn_dynamic.proofs.FitsRead.{if_ok, fits_below, are_items, are_eleme
 use Rattle.rasn_dynamic.proofs.Nothing.{refused_at_zero, refused_not_there, found_here}
 use Rattle.rasn_dynamic.proofs.Chosen.{no_tag, lawful_at, first_at, chosen_got, chosen_refused}
 use Rattle.rasn_dynamic.proofs.InOrder.{lawful_parts, all_left, all_left_fails, in_turn}
-use Rattle.rasn_dynamic.proofs.OnePart.{always, always_fails, looked, looked_fails, made, made_fails, unread, unread_fails, plain, kept, differs, default_is_written, not_required}
+use Rattle.rasn_dynamic.proofs.OnePart.{always, always_fails, looked, looked_fails, made, made_fails, unread, unread_fails, plain, kept, differs, default_is_written, not_required, next_of, made_of}
 use Rattle.rasn_dynamic.proofs.Contents.{prefix_lawful, list_lawful, set_of_lawful, seq_lawful, set_lawful, none_holds, sequence_runs_out, parts_start, parts_more, part_fails, part_fails_at, parts_run_out, one_more, parts_end}
 use Rattle.rasn_dynamic.proofs.Typed.{contents_end, contents_stay, not_sized, sized_inside, by_prefix, by_sequence, by_set, by_list, by_set_of, type_decodes, sequence_fails, sequence_made, set_fails, set_made, set_runs_out}
 use Rattle.rasn_dynamic.proofs.Pieces.{got_below, first_of_part, part_lawful, nones_come, as_many_nones, makes_parts}
@@ -391,13 +392,13 @@ decode_type-returns-in-SetOf-clause-exact t c = by_set_of (shape_of_type c.args.
 
 pub decode_component-returns-then-is_always_there-clause-reads : goal.decode_component-returns-then-is_always_there-clause-reads
 decode_component-returns-then-is_always_there-clause-reads t c =
-    always ((shape_of_type c.args.types.now c.args.below) c.args.component.now.type_id.0) (tag_at c.args.types.now c.args.component.now.type_id.0) (own_is _ _ _ c.requires.lawful) _ (presence_of c.args.component.now.presence) c.if-is_always_there.ensures _ _ c.decode_present.ensures.reads
+    always ((shape_of_type c.args.types.now c.args.below) c.args.component.now.type_id.0) _ (presence_in (shape_of_type c.args.types.now c.args.below) c.args.component.now) (always_by own_tag (key_of ((shape_of_type c.args.types.now c.args.below) c.args.component.now.type_id.0)) c.args.component.now.presence c.if-is_always_there.ensures) _ _ c.decode_present.ensures.reads
 
 pub decode_component-returns-then-is_always_there-clause-fits : goal.decode_component-returns-then-is_always_there-clause-fits
 decode_component-returns-then-is_always_there-clause-fits t c = if_ok _ _ _ (λ v h. inr h) c.decode_present.ensures.fits
 
 pub decode_component-returns-in-Ok-true-clause-reads : goal.decode_component-returns-in-Ok-true-clause-reads
-decode_component-returns-in-Ok-true-clause-reads t c = looked ((shape_of_type c.args.types.now c.args.below) c.args.component.now.type_id.0) c.tag_at.result (rw c.tag_at.ensures (own_is _ _ _ c.requires.lawful)) _ (presence_of c.args.component.now.presence) c.if-is_always_there.ensures (let w = c.in-Ok-true.field-0-test in let h : c.in-Ok-true.field-0 ≡ true = cc in subst (λ b. NextTagIs c.tag_at.result c.args.decoder.now (Ok b)) h c.in-Ok-true.ensures) _ _ c.decode_present-in-Ok-true.ensures.reads
+decode_component-returns-in-Ok-true-clause-reads t c = looked ((shape_of_type c.args.types.now c.args.below) c.args.component.now.type_id.0) _ (presence_in (shape_of_type c.args.types.now c.args.below) c.args.component.now) (λ a. c.if-is_always_there.ensures (always_by (key_of ((shape_of_type c.args.types.now c.args.below) c.args.component.now.type_id.0)) own_tag c.args.component.now.presence a)) (let w = c.in-Ok-true.field-0-test in let h : c.in-Ok-true.field-0 ≡ true = cc in next_of (key_of ((shape_of_type c.args.types.now c.args.below) c.args.component.now.type_id.0)) ((shape_of_type c.args.types.now c.args.below) c.args.component.now.type_id.0) c.args.component.now.presence c.args.decoder.now (Ok true) c.if-is_always_there.ensures (subst (λ b. NextIs (sought_by (key_of ((shape_of_type c.args.types.now c.args.below) c.args.component.now.type_id.0)) ((shape_of_type c.args.types.now c.args.below) c.args.component.now.type_id.0)) c.args.decoder.now (Ok b)) h c.in-Ok-true.ensures)) _ _ c.decode_present-in-Ok-true.ensures.reads
 
 pub decode_component-returns-in-Ok-true-clause-fits : goal.decode_component-returns-in-Ok-true-clause-fits
 decode_component-returns-in-Ok-true-clause-fits t c = if_ok _ _ _ (λ v h. inr h) c.decode_present-in-Ok-true.ensures.fits
@@ -406,48 +407,48 @@ pub decode_component-missing-requires : goal.decode_component-missing-requires
 decode_component-missing-requires t c = not_required c.args.component.now.presence c.if-is_always_there.ensures
 
 pub decode_component-returns-in-Ok-false-clause-reads : goal.decode_component-returns-in-Ok-false-clause-reads
-decode_component-returns-in-Ok-false-clause-reads t c = made ((shape_of_type c.args.types.now c.args.below) c.args.component.now.type_id.0) c.tag_at.result (rw c.tag_at.ensures (own_is _ _ _ c.requires.lawful)) _ (presence_of c.args.component.now.presence) c.if-is_always_there.ensures (let w = c.in-Ok-false.field-0-test in let h : c.in-Ok-false.field-0 ≡ false = cc in subst (λ b. NextTagIs c.tag_at.result c.args.decoder.now (Ok b)) h c.in-Ok-false.ensures) _ c.missing.ensures.made
+decode_component-returns-in-Ok-false-clause-reads t c = made ((shape_of_type c.args.types.now c.args.below) c.args.component.now.type_id.0) _ (presence_in (shape_of_type c.args.types.now c.args.below) c.args.component.now) (λ a. c.if-is_always_there.ensures (always_by (key_of ((shape_of_type c.args.types.now c.args.below) c.args.component.now.type_id.0)) own_tag c.args.component.now.presence a)) (let w = c.in-Ok-false.field-0-test in let h : c.in-Ok-false.field-0 ≡ false = cc in next_of (key_of ((shape_of_type c.args.types.now c.args.below) c.args.component.now.type_id.0)) ((shape_of_type c.args.types.now c.args.below) c.args.component.now.type_id.0) c.args.component.now.presence c.args.decoder.now (Ok false) c.if-is_always_there.ensures (subst (λ b. NextIs (sought_by (key_of ((shape_of_type c.args.types.now c.args.below) c.args.component.now.type_id.0)) ((shape_of_type c.args.types.now c.args.below) c.args.component.now.type_id.0)) c.args.decoder.now (Ok b)) h c.in-Ok-false.ensures)) _ (made_of (key_of ((shape_of_type c.args.types.now c.args.below) c.args.component.now.type_id.0)) c.args.component.now.presence c.args.decoder.now _ c.missing.ensures.made)
 
 pub decode_component-returns-in-Ok-false-clause-fits : goal.decode_component-returns-in-Ok-false-clause-fits
 decode_component-returns-in-Ok-false-clause-fits t c = made_fits (Fits c.args.types.now c.args.below) c.args.component.now c.args.decoder.now _ c.missing.ensures.made
 
 pub decode_component-returns-in-Err-clause-reads : goal.decode_component-returns-in-Err-clause-reads
-decode_component-returns-in-Err-clause-reads t c = unread ((shape_of_type c.args.types.now c.args.below) c.args.component.now.type_id.0) c.tag_at.result (rw c.tag_at.ensures (own_is _ _ _ c.requires.lawful)) _ (presence_of c.args.component.now.presence) c.if-is_always_there.ensures c.in-Err.error c.in-Err.ensures
+decode_component-returns-in-Err-clause-reads t c = unread ((shape_of_type c.args.types.now c.args.below) c.args.component.now.type_id.0) _ (presence_in (shape_of_type c.args.types.now c.args.below) c.args.component.now) (λ a. c.if-is_always_there.ensures (always_by (key_of ((shape_of_type c.args.types.now c.args.below) c.args.component.now.type_id.0)) own_tag c.args.component.now.presence a)) c.in-Err.error (next_of (key_of ((shape_of_type c.args.types.now c.args.below) c.args.component.now.type_id.0)) ((shape_of_type c.args.types.now c.args.below) c.args.component.now.type_id.0) c.args.component.now.presence c.args.decoder.now (Err c.in-Err.error) c.if-is_always_there.ensures c.in-Err.ensures)
 
 pub decode_component-returns-then-is_always_there-clause-fails : goal.decode_component-returns-then-is_always_there-clause-fails
-decode_component-returns-then-is_always_there-clause-fails t c = always_fails ((shape_of_type c.args.types.now c.args.below) c.args.component.now.type_id.0) (tag_at c.args.types.now c.args.component.now.type_id.0) (own_is _ _ _ c.requires.lawful) _ (presence_of c.args.component.now.presence) c.if-is_always_there.ensures _ _ c.decode_present.ensures.reads
+decode_component-returns-then-is_always_there-clause-fails t c = always_fails ((shape_of_type c.args.types.now c.args.below) c.args.component.now.type_id.0) _ (presence_in (shape_of_type c.args.types.now c.args.below) c.args.component.now) (always_by own_tag (key_of ((shape_of_type c.args.types.now c.args.below) c.args.component.now.type_id.0)) c.args.component.now.presence c.if-is_always_there.ensures) _ _ c.decode_present.ensures.reads
 
 pub decode_component-returns-in-Ok-true-clause-fails : goal.decode_component-returns-in-Ok-true-clause-fails
-decode_component-returns-in-Ok-true-clause-fails t c = looked_fails ((shape_of_type c.args.types.now c.args.below) c.args.component.now.type_id.0) c.tag_at.result (rw c.tag_at.ensures (own_is _ _ _ c.requires.lawful)) _ (presence_of c.args.component.now.presence) c.if-is_always_there.ensures (let w = c.in-Ok-true.field-0-test in let h : c.in-Ok-true.field-0 ≡ true = cc in subst (λ b. NextTagIs c.tag_at.result c.args.decoder.now (Ok b)) h c.in-Ok-true.ensures) _ _ c.decode_present-in-Ok-true.ensures.reads
+decode_component-returns-in-Ok-true-clause-fails t c = looked_fails ((shape_of_type c.args.types.now c.args.below) c.args.component.now.type_id.0) _ (presence_in (shape_of_type c.args.types.now c.args.below) c.args.component.now) (λ a. c.if-is_always_there.ensures (always_by (key_of ((shape_of_type c.args.types.now c.args.below) c.args.component.now.type_id.0)) own_tag c.args.component.now.presence a)) (let w = c.in-Ok-true.field-0-test in let h : c.in-Ok-true.field-0 ≡ true = cc in next_of (key_of ((shape_of_type c.args.types.now c.args.below) c.args.component.now.type_id.0)) ((shape_of_type c.args.types.now c.args.below) c.args.component.now.type_id.0) c.args.component.now.presence c.args.decoder.now (Ok true) c.if-is_always_there.ensures (subst (λ b. NextIs (sought_by (key_of ((shape_of_type c.args.types.now c.args.below) c.args.component.now.type_id.0)) ((shape_of_type c.args.types.now c.args.below) c.args.component.now.type_id.0)) c.args.decoder.now (Ok b)) h c.in-Ok-true.ensures)) _ _ c.decode_present-in-Ok-true.ensures.reads
 
 pub decode_component-returns-in-Ok-false-clause-fails : goal.decode_component-returns-in-Ok-false-clause-fails
-decode_component-returns-in-Ok-false-clause-fails t c = made_fails ((shape_of_type c.args.types.now c.args.below) c.args.component.now.type_id.0) c.tag_at.result (rw c.tag_at.ensures (own_is _ _ _ c.requires.lawful)) _ (presence_of c.args.component.now.presence) c.if-is_always_there.ensures (let w = c.in-Ok-false.field-0-test in let h : c.in-Ok-false.field-0 ≡ false = cc in subst (λ b. NextTagIs c.tag_at.result c.args.decoder.now (Ok b)) h c.in-Ok-false.ensures) _ c.missing.ensures.made
+decode_component-returns-in-Ok-false-clause-fails t c = made_fails ((shape_of_type c.args.types.now c.args.below) c.args.component.now.type_id.0) _ (presence_in (shape_of_type c.args.types.now c.args.below) c.args.component.now) (λ a. c.if-is_always_there.ensures (always_by (key_of ((shape_of_type c.args.types.now c.args.below) c.args.component.now.type_id.0)) own_tag c.args.component.now.presence a)) (let w = c.in-Ok-false.field-0-test in let h : c.in-Ok-false.field-0 ≡ false = cc in next_of (key_of ((shape_of_type c.args.types.now c.args.below) c.args.component.now.type_id.0)) ((shape_of_type c.args.types.now c.args.below) c.args.component.now.type_id.0) c.args.component.now.presence c.args.decoder.now (Ok false) c.if-is_always_there.ensures (subst (λ b. NextIs (sought_by (key_of ((shape_of_type c.args.types.now c.args.below) c.args.component.now.type_id.0)) ((shape_of_type c.args.types.now c.args.below) c.args.component.now.type_id.0)) c.args.decoder.now (Ok b)) h c.in-Ok-false.ensures)) _ (made_of (key_of ((shape_of_type c.args.types.now c.args.below) c.args.component.now.type_id.0)) c.args.component.now.presence c.args.decoder.now _ c.missing.ensures.made)
 
 pub decode_component-returns-in-Err-clause-fails : goal.decode_component-returns-in-Err-clause-fails
-decode_component-returns-in-Err-clause-fails t c = unread_fails ((shape_of_type c.args.types.now c.args.below) c.args.component.now.type_id.0) c.tag_at.result (rw c.tag_at.ensures (own_is _ _ _ c.requires.lawful)) _ (presence_of c.args.component.now.presence) c.if-is_always_there.ensures c.in-Err.error c.in-Err.ensures
+decode_component-returns-in-Err-clause-fails t c = unread_fails ((shape_of_type c.args.types.now c.args.below) c.args.component.now.type_id.0) _ (presence_in (shape_of_type c.args.types.now c.args.below) c.args.component.now) (λ a. c.if-is_always_there.ensures (always_by (key_of ((shape_of_type c.args.types.now c.args.below) c.args.component.now.type_id.0)) own_tag c.args.component.now.presence a)) c.in-Err.error (next_of (key_of ((shape_of_type c.args.types.now c.args.below) c.args.component.now.type_id.0)) ((shape_of_type c.args.types.now c.args.below) c.args.component.now.type_id.0) c.args.component.now.presence c.args.decoder.now (Err c.in-Err.error) c.if-is_always_there.ensures c.in-Err.ensures)
 
 pub decode_component-returns-in-Err-clause-rules : goal.decode_component-returns-in-Err-clause-rules
-decode_component-returns-in-Err-clause-rules t c = look_rules c.tag_at.result c.args.decoder.now _ c.in-Err.ensures
+decode_component-returns-in-Err-clause-rules t c = look_rules (sought_by (key_of ((shape_of_type c.args.types.now c.args.below) c.args.component.now.type_id.0)) ((shape_of_type c.args.types.now c.args.below) c.args.component.now.type_id.0)) c.args.decoder.now _ c.in-Err.ensures
 
 pub decode_present-returns-in_default-clause-reads : goal.decode_present-returns-in_default-clause-reads
-decode_present-returns-in_default-clause-reads t c = plain ((shape_of_type c.args.types.now c.args.below) c.args.component.now.type_id.0) c.args.component.now.presence _ _ c.in_default.not-Default _ c.decode_part.ensures.reads
+decode_present-returns-in_default-clause-reads t c = plain (key_of ((shape_of_type c.args.types.now c.args.below) c.args.component.now.type_id.0)) ((shape_of_type c.args.types.now c.args.below) c.args.component.now.type_id.0) c.args.component.now.presence _ _ c.in_default.not-Default _ c.decode_part.ensures.reads
 
 pub decode_present-returns-in_err-value-clause-reads : goal.decode_present-returns-in_err-value-clause-reads
 decode_present-returns-in_err-value-clause-reads t c = rw (residual _ c.from_residual.ensures.1) (inl c.in_err-value.ensures.reads)
 
 pub decode_present-returns-then-not-is_strict-clause-reads : goal.decode_present-returns-then-not-is_strict-clause-reads
-decode_present-returns-then-not-is_strict-clause-reads t c = kept ((shape_of_type c.args.types.now c.args.below) c.args.component.now.type_id.0) c.args.component.now.presence c.in-Default.default c.in-Default.is _ _ c.in_ok-value.value c.in_ok-value.ensures.reads c.if-not-is_strict.ensures
+decode_present-returns-then-not-is_strict-clause-reads t c = kept (key_of ((shape_of_type c.args.types.now c.args.below) c.args.component.now.type_id.0)) ((shape_of_type c.args.types.now c.args.below) c.args.component.now.type_id.0) c.args.component.now.presence c.in-Default.default c.in-Default.is _ _ c.in_ok-value.value c.in_ok-value.ensures.reads c.if-not-is_strict.ensures
 
 pub decode_present-returns-then-means_same-clause-reads : goal.decode_present-returns-then-means_same-clause-reads
 decode_present-returns-then-means_same-clause-reads t c =
-    default_is_written ((shape_of_type c.args.types.now c.args.below) c.args.component.now.type_id.0) c.args.component.now.presence c.in-Default.default c.in-Default.is _ _ c.in_ok-value.value c.in_ok-value.ensures.reads c.if-not-is_strict.ensures (c.means_same.ensures.same c.if-means_same.true) c.default_present.result c.default_present.ensures
+    default_is_written (key_of ((shape_of_type c.args.types.now c.args.below) c.args.component.now.type_id.0)) ((shape_of_type c.args.types.now c.args.below) c.args.component.now.type_id.0) c.args.component.now.presence c.in-Default.default c.in-Default.is _ _ c.in_ok-value.value c.in_ok-value.ensures.reads c.if-not-is_strict.ensures (c.means_same.ensures.same c.if-means_same.true) c.default_present.result c.default_present.ensures
 
 pub decode_present-returns-then-means_same-clause-rules : goal.decode_present-returns-then-means_same-clause-rules
 decode_present-returns-then-means_same-clause-rules t c = codec_is c.default_present.ensures ∙ same_rules c.in_ok-value.ensures.reads.stays
 
 pub decode_present-returns-clause-reads : goal.decode_present-returns-clause-reads
 decode_present-returns-clause-reads t c =
-    differs ((shape_of_type c.args.types.now c.args.below) c.args.component.now.type_id.0) c.args.component.now.presence c.in-Default.default c.in-Default.is _ _ c.in_ok-value.value c.in_ok-value.ensures.reads (λ s. let h = c.means_same.ensures.equal s in let f = c.if-means_same.false in cc)
+    differs (key_of ((shape_of_type c.args.types.now c.args.below) c.args.component.now.type_id.0)) ((shape_of_type c.args.types.now c.args.below) c.args.component.now.type_id.0) c.args.component.now.presence c.in-Default.default c.in-Default.is _ _ c.in_ok-value.value c.in_ok-value.ensures.reads (λ s. let h = c.means_same.ensures.equal s in let f = c.if-means_same.false in cc)
 
 -- ---- the components of a SEQUENCE
 
@@ -475,7 +476,7 @@ pub decode_sequence-returns-in_err-value-clause-reads : goal.decode_sequence-ret
 decode_sequence-returns-in_err-value-clause-reads t c =
     rw (residual _ c.from_residual-in_err-value.ensures.1)
     (in_turn (shape_of_type c.args.types.now c.args.below) c.args.components.now c.args.decoder.now c.if-leaves_all_out.ensures _ _
-    (part_fails _ _ _ (presence_of c.component-item.result.presence) ((shape_of_type c.args.types.now c.args.below) c.component-item.result.type_id.0) _ _ _ c.loop-rest.invariant.0 (ap (components_by (shape_of_type c.args.types.now c.args.below)) (split c.loop-rest.rest.now _ c.in-len1-up.len_at_least c.component-item.is)) _ _ c.in_err-value.ensures.reads))
+    (part_fails _ _ _ (presence_in (shape_of_type c.args.types.now c.args.below) c.component-item.result) ((shape_of_type c.args.types.now c.args.below) c.component-item.result.type_id.0) _ _ _ c.loop-rest.invariant.0 (ap (components_by (shape_of_type c.args.types.now c.args.below)) (split c.loop-rest.rest.now _ c.in-len1-up.len_at_least c.component-item.is)) _ _ c.in_err-value.ensures.reads))
 
 pub decode_sequence-returns-in_err-push-clause-reads : goal.decode_sequence-returns-in_err-push-clause-reads
 decode_sequence-returns-in_err-push-clause-reads t c =
@@ -487,7 +488,7 @@ pub decode_sequence-loop-rest-preserved : goal.decode_sequence-loop-rest-preserv
 decode_sequence-loop-rest-preserved t c =
     let at = split c.loop-rest.rest.now _ c.in-len1-up.len_at_least c.component-item.is in
     let e = ap (components_by (shape_of_type c.args.types.now c.args.below)) at in (
-      parts_more _ _ _ (presence_of c.component-item.result.presence) ((shape_of_type c.args.types.now c.args.below) c.component-item.result.type_id.0) _ _ _ c.loop-rest.invariant.0 e (tree_of c.in_ok-value.value) _ _
+      parts_more _ _ _ (presence_in (shape_of_type c.args.types.now c.args.below) c.component-item.result) ((shape_of_type c.args.types.now c.args.below) c.component-item.result.type_id.0) _ _ _ c.loop-rest.invariant.0 e (tree_of c.in_ok-value.value) _ _
           (ap (map tree_of) c.in_ok-push.ensures.ok ∙ one_more c.loop-rest.values.items c.in_ok-value.value) c.in_ok-value.ensures.reads,
       (subst AreLawful e c.loop-rest.invariant.1).1,
       fit_more (Fits c.args.types.now c.args.below) _ _ _ c.component-item.result c.loop-rest.values.items _ c.in_ok-value.value c.loop-rest.invariant.2 at c.in_ok-push.ensures.ok c.in_ok-value.ensures.fits,
@@ -515,7 +516,7 @@ pub decode_sequence-returns-in_default-clause-fails : goal.decode_sequence-retur
 decode_sequence-returns-in_default-clause-fails t c = inr c.out_of_memory.ensures.kind
 
 pub decode_sequence-returns-in_err-value-clause-fails : goal.decode_sequence-returns-in_err-value-clause-fails
-decode_sequence-returns-in_err-value-clause-fails t c = rw (residual _ c.from_residual-in_err-value.ensures.1) (inl (part_fails_at _ _ _ (presence_of c.component-item.result.presence) ((shape_of_type c.args.types.now c.args.below) c.component-item.result.type_id.0) _ _ _ c.loop-rest.invariant.0 (ap (components_by (shape_of_type c.args.types.now c.args.below)) (split c.loop-rest.rest.now _ c.in-len1-up.len_at_least c.component-item.is)) _ _ c.in_err-value.ensures.fails))
+decode_sequence-returns-in_err-value-clause-fails t c = rw (residual _ c.from_residual-in_err-value.ensures.1) (inl (part_fails_at _ _ _ (presence_in (shape_of_type c.args.types.now c.args.below) c.component-item.result) ((shape_of_type c.args.types.now c.args.below) c.component-item.result.type_id.0) _ _ _ c.loop-rest.invariant.0 (ap (components_by (shape_of_type c.args.types.now c.args.below)) (split c.loop-rest.rest.now _ c.in-len1-up.len_at_least c.component-item.is)) _ _ c.in_err-value.ensures.fails))
 
 pub decode_sequence-returns-in_err-push-clause-fails : goal.decode_sequence-returns-in_err-push-clause-fails
 decode_sequence-returns-in_err-push-clause-fails t c = rw (residual _ c.from_residual-in_err-push.ensures.1) (inr c.in_err-push.ensures.kind)

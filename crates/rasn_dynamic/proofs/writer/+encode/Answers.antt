@@ -7,7 +7,7 @@ use Rattle.rasn_enc.specs.View.{fresh}
 use Rattle.rasn_enc.proofs.Constructed.SequenceOf.{ElementsSoFar, split_is, elements_start, elements_more, elements_end}
 use Rattle.rasn_enc.proofs.Constructed.SetOf.{SetOfSoFar, set_of_start, set_of_more, set_of_end, none_left, fall_refused}
 use Rattle.rasn_schema.specs.Trees.{tree_of}
-use Rattle.rasn_schema.specs.Shapes.{shape_of_type, type_by, components_by}
+use Rattle.rasn_schema.specs.Shapes.{shape_of_type, type_by, components_by, key_of}
 use Rattle.rasn_schema.proofs.TypeShapes.{shape_below}
 use Rattle.rasn_schema.proofs.Lists.{split, nothing_left, read_at}
 use Rattle.rasn_schema.specs.Fitting.{Fits, ComponentsFit, EachFits, AlternativeFits}
@@ -90,10 +90,10 @@ pub encode_inside-returns-in_err-open : goal.encode_inside-returns-in_err-open
 encode_inside-returns-in_err-open t c = rw (residual _ c.from_residual.ensures.1) (not_opened _ _ _ _ _ c.in_err-open.ensures.err c.in_err-open.ensures.memory_alone)
 
 pub encode_component-returns-then-is_left_out : goal.encode_component-returns-then-is_left_out
-encode_component-returns-then-is_left_out t c = part_skipped (Fits c.args.types.now c.args.below) ((shape_of_type c.args.types.now c.args.below) c.args.component.now.type_id.0) c.args.component.now c.args.value.now c.args.encoder.now c.if-is_left_out.ensures
+encode_component-returns-then-is_left_out t c = part_skipped (Fits c.args.types.now c.args.below) ((shape_of_type c.args.types.now c.args.below) c.args.component.now.type_id.0) c.args.component.now c.args.value.now c.args.encoder.now (key_of ((shape_of_type c.args.types.now c.args.below) c.args.component.now.type_id.0)) c.if-is_left_out.ensures
 
 pub encode_component-returns : goal.encode_component-returns
-encode_component-returns t c = part_written (Fits c.args.types.now c.args.below) ((shape_of_type c.args.types.now c.args.below) c.args.component.now.type_id.0) c.args.component.now c.args.value.now c.args.encoder.now c.if-is_left_out.ensures _ _ c.encode_at.ensures
+encode_component-returns t c = part_written (Fits c.args.types.now c.args.below) ((shape_of_type c.args.types.now c.args.below) c.args.component.now.type_id.0) c.args.component.now c.args.value.now c.args.encoder.now (key_of ((shape_of_type c.args.types.now c.args.below) c.args.component.now.type_id.0)) c.if-is_left_out.ensures _ _ c.encode_at.ensures
 
 pub encode_components-loop-rest-init : goal.encode_components-loop-rest-init
 encode_components-loop-rest-init t c = record { written = written_start (shape_of_type c.args.types.now c.args.below) _ _ _; fits = fit_start (Fits c.args.types.now c.args.below) _ _; keeps = left_as_it_was _ _ refl }

@@ -11,9 +11,9 @@ use rasn_types::error::EncodeError;
 use rasn_types::types::{AsnType, DefaultValue, End, ExplicitDefault, Identifier, Tag};
 use std::alloc::AllocError;
 
-/// Parts that are written in their order: [`Put`], [`PutOptional`], [`PutDefault`],
-/// [`PutDefaultExplicit`] and [`PutAddition`], each with the parts after it, and [`End`] after the
-/// last.
+/// Parts that are written in their order: [`Put`], [`PutOptional`], [`PutOptionalChoice`],
+/// [`PutDefault`], [`PutDefaultChoice`], [`PutDefaultExplicit`] and [`PutAddition`], each with the
+/// parts after it, and [`End`] after the last.
 pub trait EncodeParts: Drop {
     ghost use Rattle.rasn_types.specs.Shapes.{Parts, Tree};
 
@@ -38,9 +38,19 @@ pub struct Put<'a, A, R>(pub &'a A, pub R);
 #[derive(Drop)]
 pub struct PutOptional<'a, A, R>(pub &'a Option<A>, pub R);
 
+/// A CHOICE that may be left out (X.680 25.5), and the parts after it. It is written as
+/// [`PutOptional`] writes it, and read as a part that is recognized by its first tags.
+#[derive(Drop)]
+pub struct PutOptionalChoice<'a, A, R>(pub &'a Option<A>, pub R);
+
 /// A part that is left out if it equals its default (X.690 11.5), and the parts after it.
 #[derive(Drop)]
 pub struct PutDefault<'a, V: DefaultValue, R>(pub &'a V::Value, pub R);
+
+/// A CHOICE that is left out if it equals its default (X.690 11.5), and the parts after it. It is
+/// written as [`PutDefault`] writes it, and read as a part that is recognized by its first tags.
+#[derive(Drop)]
+pub struct PutDefaultChoice<'a, V: DefaultValue, R>(pub &'a V::Value, pub R);
 
 /// A part under an explicit tag that is left out if it equals its default
 /// (X.690 11.5; X.680 31.2.7), and the parts after it.
@@ -94,6 +104,21 @@ impl<'a, A: Encode, R: EncodeParts> EncodeParts for PutOptional<'a, A, R> {
     }
 }
 
+impl<'a, A: Encode, R: EncodeParts> EncodeParts for PutOptionalChoice<'a, A, R> {
+    ghost use Rattle.rasn_types.specs.Shapes.{part, optional_choice, joined};
+    ghost use Rattle.rasn_types.specs.Trees.{option_tree};
+
+    ghost parts = { part optional_choice A.shape R.parts };
+
+    ghost tree = { λ p. joined (option_tree A.tree p.0.now) (R.tree p.1) };
+
+    fn encode_parts(self, encoder: &mut Encoder) -> Result<(), EncodeError> {
+        let PutOptionalChoice(value, rest) = self;
+        value.encode(encoder)?;
+        rest.encode_parts(encoder)
+    }
+}
+
 impl<'a, V: DefaultValue, R: EncodeParts> EncodeParts for PutDefault<'a, V, R>
 where
     V::Value: Encode,
@@ -106,6 +131,30 @@ where
 
     fn encode_parts(self, encoder: &mut Encoder) -> Result<(), EncodeError> {
         let PutDefault(value, rest) = self;
+        let alloc = encoder.alloc();
+        encoder.encode_default(
+            value,
+            move || -> Result<V::Value, AllocError>
+                ensures { IfOk result (λ v. V.Value.tree v ≡ V.default_tree) }
+            { V::default_value(alloc) },
+            Identifier::EMPTY,
+        )?;
+        rest.encode_parts(encoder)
+    }
+}
+
+impl<'a, V: DefaultValue, R: EncodeParts> EncodeParts for PutDefaultChoice<'a, V, R>
+where
+    V::Value: Encode,
+{
+    ghost use Rattle.rasn_types.specs.Shapes.{part, default_choice, joined};
+
+    ghost parts = { part (default_choice V.default_tree) V.Value.shape R.parts };
+
+    ghost tree = { λ p. joined (V.Value.tree p.0.now) (R.tree p.1) };
+
+    fn encode_parts(self, encoder: &mut Encoder) -> Result<(), EncodeError> {
+        let PutDefaultChoice(value, rest) = self;
         let alloc = encoder.alloc();
         encoder.encode_default(
             value,

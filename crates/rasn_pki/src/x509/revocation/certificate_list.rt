@@ -42,9 +42,10 @@ impl AsnType for CertificateList {
 
 impl LawfulEq for CertificateList {
     ghost use Rattle.rasn_types.specs.Deciding.{deciding};
+    ghost use Rattle.rasn_x509.specs.Times.{time_not_absent};
     ghost use Rattle.rasn_x509.specs.contracts.time.TimeLawfulEq.TheImpl.Laws.{decides-law as time_law};
 
-    ghost decides = { Prim.search (time_law, deciding) depth 64 };
+    ghost decides = { Prim.search (time_law, time_not_absent, deciding) depth 64 };
 }
 
 impl Present for CertificateList {

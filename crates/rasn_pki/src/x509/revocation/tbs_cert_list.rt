@@ -3,21 +3,14 @@
 use crate::x509::revocation::RevokedCertificate;
 use crate::x509::{AlgorithmIdentifier, Extension, Name, Time};
 use rasn::error::{DecodeError, EncodeError};
-use rasn::parts::{End, Optional, Put, PutOptional, Required};
-use rasn::types::{
-    AsnType, Constraints, ContextTag, Explicit, GeneralizedTime, Identifier, LawfulEq, Present,
-    Tag, UtcTime,
-};
+use rasn::parts::{End, Optional, OptionalChoice, Put, PutOptional, PutOptionalChoice, Required};
+use rasn::types::{AsnType, Constraints, ContextTag, Explicit, Identifier, LawfulEq, Present, Tag};
 use rasn::{Decode, Decoder, Encode, Encoder};
 
 /// SEQUENCE { version INTEGER { v2(1) } OPTIONAL, signature AlgorithmIdentifier, issuer Name,
 /// thisUpdate Time, nextUpdate Time OPTIONAL,
 /// revokedCertificates SEQUENCE OF RevokedCertificate OPTIONAL,
 /// crlExtensions \[0\] EXPLICIT SEQUENCE OF Extension OPTIONAL }
-///
-/// An optional CHOICE has no tag that a reader could look for, so each alternative of `nextUpdate`
-/// is an optional part of its own. At most one of them is present in a list that conforms to
-/// RFC 5280.
 #[derive(Debug, PartialEq, Eq, Drop)]
 pub struct TbsCertList {
     /// 1 in a list of version 2, `None` in a list of version 1.
@@ -28,10 +21,8 @@ pub struct TbsCertList {
     pub issuer: Name,
     /// The time at which the list was issued.
     pub this_update: Time,
-    /// The time by which the next list is issued, written as a UTCTime.
-    pub next_update_utc: Option<UtcTime>,
-    /// The time by which the next list is issued, written as a GeneralizedTime.
-    pub next_update_general: Option<GeneralizedTime>,
+    /// The time by which the next list is issued.
+    pub next_update: Option<Time>,
     /// The revoked certificates.
     pub revoked_certificates: Option<Vec<RevokedCertificate>>,
     /// Extensions of the list (RFC 5280 5.2).
@@ -61,9 +52,10 @@ impl AsnType for TbsCertList {
 
 impl LawfulEq for TbsCertList {
     ghost use Rattle.rasn_types.specs.Deciding.{deciding};
+    ghost use Rattle.rasn_x509.specs.Times.{time_not_absent};
     ghost use Rattle.rasn_x509.specs.contracts.time.TimeLawfulEq.TheImpl.Laws.{decides-law as time_law};
 
-    ghost decides = { Prim.search (time_law, deciding) depth 64 };
+    ghost decides = { Prim.search (time_law, time_not_absent, deciding) depth 64 };
 }
 
 impl Present for TbsCertList {
@@ -81,16 +73,14 @@ impl Decode for TbsCertList {
         let Optional(version, Required(signature, Required(issuer, rest))) = decoder.read_sequence(
             tag,
         )?;
-        let Required(this_update, Optional(next_update_utc, Optional(next_update_general, rest))) =
-            rest;
+        let Required(this_update, OptionalChoice(next_update, rest)) = rest;
         let Optional(revoked_certificates, Optional(crl_extensions, End)) = rest;
         Ok(TbsCertList {
             version,
             signature,
             issuer,
             this_update,
-            next_update_utc,
-            next_update_general,
+            next_update,
             revoked_certificates,
             crl_extensions,
         })
@@ -111,10 +101,7 @@ impl Encode for TbsCertList {
         );
         let this_update = Put(
             &self.this_update,
-            PutOptional(
-                &self.next_update_utc,
-                PutOptional(&self.next_update_general, revoked_certificates),
-            ),
+            PutOptionalChoice(&self.next_update, revoked_certificates),
         );
         encoder.write_sequence(
             tag,

@@ -8,4 +8,4 @@ use Rattle.rasn_schema.proofs.Lists.{SoFar}
 use Rattle.rasn_schema.proofs.rules.components_clash.Given as goal
 
 abbrev pub invariant-loop-index : goal.invariant-loop-index
-invariant-loop-index l = SoFar (λ i p. (j : ℕ) (q : Component) → Some q ≡ slice_get l.components j → (IsAlwaysThere (presence_of p.presence) → ⊥) → MayFollow l.components i j → IsToldFrom (own_at l.types p.type_id.0) (shape_of_type l.types l.levels q.type_id.0)) l.components l.index
+invariant-loop-index l = SoFar (λ i p. (j : ℕ) (q : Component) → Some q ≡ slice_get l.components j → (IsAlwaysThere (presence_of p.presence) → ⊥) → MayFollow l.components i j → IsToldFrom (own_at l.types p.type_id.0) (shape_of_type l.types l.levels p.type_id.0) (shape_of_type l.types l.levels q.type_id.0)) l.components l.index

@@ -8,10 +8,10 @@ use Rattle.rasn_schema.proofs.Lists.{so_far_more, so_far_end}
 use Rattle.rasn_schema.proofs.rules.same_component.Goals as goal
 
 pub returns-then-begins : goal.returns-then-begins
-returns-then-begins c = (may_follow (shape_of_type c.args.types.now c.args.levels) c.args.tag c.args.components.now c.args.index c.loop-other.other (omega arith) c.loop-other.invariant, (c.index-components-other.result, (sym (slice_get_read c.args.components.now (length c.args.components.now) c.loop-other.other c.index-components-other.result refl (let n = c.loop-other-test.true in omega arith) c.index-components-other.is)), c.if-begins.ensures))
+returns-then-begins c = (may_follow (shape_of_type c.args.types.now c.args.levels) (λ s. IsFirst s c.args.tag → ⊥) c.args.components.now c.args.index c.loop-other.other (omega arith) c.loop-other.invariant, (c.index-components-other.result, (sym (slice_get_read c.args.components.now (length c.args.components.now) c.loop-other.other c.index-components-other.result refl (let n = c.loop-other-test.true in omega arith) c.index-components-other.is)), c.if-begins.ensures))
 
 pub returns-then-is_always_there : goal.returns-then-is_always_there
-returns-then-is_always_there c = stopped (shape_of_type c.args.types.now c.args.levels) c.args.tag c.args.components.now c.args.index c.loop-other.other c.index-components-other.result (sym (slice_get_read c.args.components.now (length c.args.components.now) c.loop-other.other c.index-components-other.result refl (let n = c.loop-other-test.true in omega arith) c.index-components-other.is)) (omega arith) c.loop-other.invariant c.if-begins.ensures c.if-is_always_there.ensures
+returns-then-is_always_there c = stopped (shape_of_type c.args.types.now c.args.levels) (λ s. IsFirst s c.args.tag → ⊥) c.args.components.now c.args.index c.loop-other.other c.index-components-other.result (sym (slice_get_read c.args.components.now (length c.args.components.now) c.loop-other.other c.index-components-other.result refl (let n = c.loop-other-test.true in omega arith) c.index-components-other.is)) (omega arith) c.loop-other.invariant c.if-begins.ensures c.if-is_always_there.ensures
 
 pub loop-other-preserved : goal.loop-other-preserved
 loop-other-preserved c = so_far_more (λ j q. c.args.index < j → (IsFirst (shape_of_type c.args.types.now c.args.levels q.type_id.0) c.args.tag → ⊥) × (IsAlwaysThere (presence_of q.presence) → ⊥)) c.args.components.now c.loop-other.other c.index-components-other.result (sym (slice_get_read c.args.components.now (length c.args.components.now) c.loop-other.other c.index-components-other.result refl (let n = c.loop-other-test.true in omega arith) c.index-components-other.is)) (λ h. (c.if-begins.ensures, c.if-is_always_there.ensures)) c.loop-other.invariant

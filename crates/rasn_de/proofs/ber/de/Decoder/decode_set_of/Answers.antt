@@ -7,7 +7,7 @@ use Rattle.rasn_de.proofs.Constructed.SequenceOf.{set_of_decodes}
 use Rattle.rasn_de.proofs.Leaves.Returns.{residual, also_beyond}
 use Rattle.std.specs.Prelude.{IfOk}
 use Rattle.rasn_de.specs.Constructed.{list_header}
-use Rattle.rasn_de.specs.Beyond.{got, BeyondElements}
+use Rattle.rasn_de.specs.Beyond.{Held, BeyondElements}
 use Rattle.rasn_de.proofs.Constructed.Beyond.{inside_beyond}
 use Rattle.rasn_de.proofs.Constructed.Sized.{unsized}
 use Rattle.rasn_de.proofs.Leaves.Rules.{codec_is, same_rules}
@@ -28,8 +28,8 @@ returns-in-Ok g c =
     let read = DecodesElementsInOrder (Decodes g.D.AsnType.shape g.D.AsnType.tree) (λ (v : List g.row.D.Denot). v) in
     let k = closure_inside _ _ read (λ p r q m. m.0) _ _ c.list.ensures c.args.self.now (Ok c.in_ok-values.values) c.inside.new.self c.in_ok-values.ensures.exact in
     also_beyond (set_of_decodes g.D.AsnType.shape g.D.AsnType.tree c.args.tag c.args.constraints.now c.args.self.now c.inside.ensures.octets (Ok c.in_ok-values.values) _)
-    (inside_beyond (λ o (v : List g.row.D.Denot) n. BeyondElements (got (g.D.Decode.beyond g.D.AsnType.TAG)) o v n) (list_header c.args.tag) c.args.self.now (Ok c.in_ok-values.values) c.inside.new.self
-    (closure_inside _ _ (λ o r n. IfOk r (λ (v : List g.row.D.Denot). BeyondElements (got (g.D.Decode.beyond g.D.AsnType.TAG)) o v n)) (λ p r q m. m.1.1) _ _ c.list.ensures c.args.self.now (Ok c.in_ok-values.values) c.inside.new.self c.in_ok-values.ensures.exact))
+    (inside_beyond (λ o (v : List g.row.D.Denot) n. BeyondElements (Held g.D.AsnType.shape g.D.AsnType.tree (g.D.Decode.beyond g.D.AsnType.TAG)) o v n) (list_header c.args.tag) c.args.self.now (Ok c.in_ok-values.values) c.inside.new.self
+    (closure_inside _ _ (λ o r n. IfOk r (λ (v : List g.row.D.Denot). BeyondElements (Held g.D.AsnType.shape g.D.AsnType.tree (g.D.Decode.beyond g.D.AsnType.TAG)) o v n)) (λ p r q m. m.1.1) _ _ c.list.ensures c.args.self.now (Ok c.in_ok-values.values) c.inside.new.self c.in_ok-values.ensures.exact))
     tt (rw (← c.len.ensures) c.in-Ok.ensures, k)
 
 pub returns-in-Err : goal.returns-in-Err

@@ -1,7 +1,7 @@
 use Rattle.std.proofs.Common.{◌∙◌}
 use Rattle.rasn_de.specs.Decodes.{Decodes}
 use Rattle.rasn_de.proofs.Constructed.NextElement.{passes_more, turn_rules}
-use Rattle.rasn_de.specs.Beyond.{got}
+use Rattle.rasn_de.specs.Beyond.{Held}
 use Rattle.rasn_de.proofs.Constructed.Beyond.{beyond_more}
 use Rattle.rasn_de.proofs.Leaves.Returns.{residual}
 use Rattle.rasn_de.proofs.ber.de.Decoder.elements.Goals as goal
@@ -18,5 +18,5 @@ pub loop-self-preserved : goal.loop-self-preserved
 loop-self-preserved g c =
     let k = c.in_ok-push_element.ensures.exact in (
       passes_more (Decodes g.D.AsnType.shape g.D.AsnType.tree) c.loop-self.self _ k.0 c.loop-self-test.ensures k.2 k.3 c.args.self.now c.loop-self.values.items _ k.1 c.loop-self.invariant.0,
-      beyond_more (got (g.D.Decode.beyond g.D.AsnType.TAG)) c.args.self.now c.loop-self.self _ c.loop-self.values.items _ c.loop-self.invariant.1 c.in_ok-push_element.ensures.beyond,
+      beyond_more (Held g.D.AsnType.shape g.D.AsnType.tree (g.D.Decode.beyond g.D.AsnType.TAG)) c.args.self.now c.loop-self.self _ c.loop-self.values.items _ c.loop-self.invariant.1 c.in_ok-push_element.ensures.beyond,
     )

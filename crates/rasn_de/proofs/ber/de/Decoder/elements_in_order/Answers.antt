@@ -8,7 +8,7 @@ use Rattle.rasn_de.specs.declared.ber.de.parser.ParseError.TheVariants.{Der}
 use Rattle.rasn_de.proofs.Constructed.Steps.{rules_same}
 use Rattle.rasn_types.proofs.SetOf.Ascending.{ends_more, in_order, out_of_order}
 use Rattle.rasn_de.proofs.Constructed.SetOfElements.{passes_from, came_stays}
-use Rattle.rasn_de.specs.Beyond.{got}
+use Rattle.rasn_de.specs.Beyond.{Held}
 use Rattle.rasn_de.proofs.Constructed.Beyond.{beyond_more}
 use Rattle.rasn_de.proofs.Leaves.Returns.{residual}
 use Rattle.rasn_de.proofs.ber.de.Decoder.elements_in_order.Goals.{else-is_strict-via-then-is_strict+else-is_less, else-is_strict-via-else-is_strict}
@@ -62,5 +62,5 @@ loop-last-preserved g c =
           c.in_ok-push_element.ensures.exact.3 c.args.self.now c.loop-last.values.items _ c.loop-last.invariant.0 c.in_ok-push_element.ensures.exact.1 c.loop-last.invariant.1,
       (λ k. in_order c.loop-last.invariant.0 c.loop-last.last.now c.octets_before-octets.result.now (c.loop-last.invariant.2 k) c.loop-last.invariant.3 (not_less k)),
       ends_more c.loop-last.invariant.0 c.octets_before-octets.result.now,
-      beyond_more (got (g.D.Decode.beyond g.D.AsnType.TAG)) c.args.self.now c.loop-last.self _ c.loop-last.values.items _ c.loop-last.invariant.4 c.in_ok-push_element.ensures.beyond,
+      beyond_more (Held g.D.AsnType.shape g.D.AsnType.tree (g.D.Decode.beyond g.D.AsnType.TAG)) c.args.self.now c.loop-last.self _ c.loop-last.values.items _ c.loop-last.invariant.4 c.in_ok-push_element.ensures.beyond,
     )

@@ -45,3 +45,6 @@ returns-then-self-left-clause-fails g c =
     named_takes_nothing g.P.DecodeSetParts.parts _ (g.P.DecodeSetParts.held c.args.slots.now) (g.P.DecodeSetParts.held c.decode_component.new.slots) _ _ c.args.name.now
     c.in_ok-twice.twice c.in_ok-twice.ensures.reads (search rules) (length c.self.inside.rest.now)
     (ap (λ (s : State). length s.rest) c.self.view_is) _ c.error.ensures
+
+pub returns-clause-kept : goal.returns-clause-kept
+returns-clause-kept g c = λ starts m k. c.in_ok-twice.ensures.kept starts m k (search rules)

@@ -1,6 +1,9 @@
 use Rattle.std.proofs.Common.{List, map}
 use Rattle.rasn_types.specs.Shapes.{Tree, choice}
-use Rattle.rasn_de.specs.SetPartTypes.{text, MakesOfReadings, DecodesSetPartContents, DecodesNamedContents}
+use Rattle.std.specs.Prelude.{IfOk}
+use Rattle.rasn_de.specs.Constructed.{sequence_header}
+use Rattle.rasn_de.specs.SetPartTypes.{text, MakesOfReadings, DecodesSetPartContents, DecodesNamedContents, BeyondSet}
+use Rattle.rasn_de.proofs.Constructed.Beyond.{inside_beyond}
 use Rattle.rasn_de.proofs.Constructed.Set.{collects_leaves}
 use Rattle.rasn_de.proofs.Constructed.Steps.{closure_leaves, closure_inside, closure_rules}
 use Rattle.rasn_de.proofs.OwnTypes.SetPartTypes.{set_parts_decode}
@@ -24,5 +27,7 @@ returns g c =
       exact = k;
       fails = closure_inside _ _ (DecodesNamedContents ps tree c.args.name.now names) (λ p r q m. m.1.0) _ _ c.sequence.ensures _ _ _ c.inside.ensures.exact;
       reads = set_parts_decode ps tree names c.args.tag c.args.self.now c.inside.ensures.octets _ _ k;
-      rules = closure_rules c.args.self.now _ _ (λ p r q m same. m.1.1) _ _ _ c.inside.ensures.exact;
+      rules = closure_rules c.args.self.now _ _ (λ p r q m same. m.1.1.0) _ _ _ c.inside.ensures.exact;
+      beyond = inside_beyond (BeyondSet ps g.P.DecodeSetParts.beyond) (sequence_header c.args.tag) c.args.self.now _ _
+          (closure_inside _ _ (λ o r n. IfOk r (λ v. BeyondSet ps g.P.DecodeSetParts.beyond o v n)) (λ p r q m. m.1.1.1) _ _ c.sequence.ensures _ _ _ c.inside.ensures.exact);
     }

@@ -25,4 +25,4 @@ returns-in_err-rest-clause-rules g c =
     rw (residual _ c.from_residual-in_err-rest.ensures.1) (c.in_err-rest.ensures.rules ∙ (same_rules c.in_ok-value.ensures.reads.stays))
 
 pub returns-clause-beyond : goal.returns-clause-beyond
-returns-clause-beyond g c = (_, c.in_ok-value.ensures.beyond, c.in_ok-rest.ensures.beyond)
+returns-clause-beyond g c = (_, c.in_ok-value.ensures.reads, c.in_ok-value.ensures.beyond, c.in_ok-rest.ensures.beyond)

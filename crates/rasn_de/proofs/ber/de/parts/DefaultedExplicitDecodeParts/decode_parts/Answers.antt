@@ -1,5 +1,5 @@
 use Rattle.rasn_types.specs.Shapes.{prefix}
-use Rattle.rasn_de.proofs.OwnTypes.Parts.{refused, default_part, default_fails, under_tag, part_refused, after_part_refused, part_got}
+use Rattle.rasn_de.proofs.OwnTypes.Parts.{refused, default_part, default_fails, own_default_fails, under_tag, part_refused, after_part_refused, part_got}
 use Rattle.rasn_de.proofs.OwnTypes.PartTypes.{first_agrees, others_agree}
 use Rattle.std.proofs.Common.{inl, inr, ◌∙◌}
 use Rattle.rasn_de.proofs.Leaves.Returns.{residual}
@@ -23,11 +23,9 @@ returns-clause-reads g c = part_got _ _ _ (default_part g.V.Prefix.AsnType.TAG _
 pub returns-in_err-value-clause-fails : goal.returns-in_err-value-clause-fails
 returns-in_err-value-clause-fails g c =
     rw (residual _ c.from_residual.ensures.1)
-    (inl (
-      g.V.Prefix.AsnType.TAG,
-      first_agrees (prefix g.V.Prefix.AsnType.TAG g.V.Value.AsnType.shape) g.V.Prefix.AsnType.TAG g.R.DecodeParts.tags_agree c.requires,
-      rw (← c.TAG.ensures) (default_fails _ g.V.Value.AsnType.tree _ g.V.DefaultValue.default_tree _ _ _ _ (λ v h. h) c.in_err-value.ensures.shaped),
-    ))
+    (inl (own_default_fails (prefix g.V.Prefix.AsnType.TAG g.V.Value.AsnType.shape) g.V.DefaultValue.default_tree
+    (first_agrees (prefix g.V.Prefix.AsnType.TAG g.V.Value.AsnType.shape) g.V.Prefix.AsnType.TAG g.R.DecodeParts.tags_agree c.requires)
+    (rw (← c.TAG.ensures) (default_fails _ g.V.Value.AsnType.tree _ g.V.DefaultValue.default_tree _ _ _ _ (λ v h. h) c.in_err-value.ensures.shaped))))
 
 pub returns-in_err-rest-clause-fails : goal.returns-in_err-rest-clause-fails
 returns-in_err-rest-clause-fails g c =
@@ -38,4 +36,4 @@ returns-in_err-rest-clause-rules g c =
     rw (residual _ c.from_residual-in_err-rest.ensures.1) (c.in_err-rest.ensures.rules ∙ (same_rules (default_part g.V.Prefix.AsnType.TAG _ _ (first_agrees (prefix g.V.Prefix.AsnType.TAG g.V.Value.AsnType.shape) g.V.Prefix.AsnType.TAG g.R.DecodeParts.tags_agree c.requires) (under_tag c.TAG.ensures _ _ (c.in_ok-value.ensures.reads g.V.DefaultValue.default_tree (λ v h. h)))).stays))
 
 pub returns-clause-beyond : goal.returns-clause-beyond
-returns-clause-beyond g c = (_, rw (← c.TAG.ensures) c.in_ok-value.ensures.beyond, c.in_ok-rest.ensures.beyond)
+returns-clause-beyond g c = (_, default_part g.V.Prefix.AsnType.TAG _ _ (first_agrees (prefix g.V.Prefix.AsnType.TAG g.V.Value.AsnType.shape) g.V.Prefix.AsnType.TAG g.R.DecodeParts.tags_agree c.requires) (under_tag c.TAG.ensures _ _ (c.in_ok-value.ensures.reads g.V.DefaultValue.default_tree (λ v h. h))), rw (← c.TAG.ensures) c.in_ok-value.ensures.beyond, c.in_ok-rest.ensures.beyond)

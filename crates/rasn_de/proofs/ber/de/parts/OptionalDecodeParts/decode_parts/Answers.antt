@@ -1,4 +1,4 @@
-use Rattle.rasn_de.proofs.OwnTypes.Parts.{refused, optional_part, part_refused, after_part_refused, part_got}
+use Rattle.rasn_de.proofs.OwnTypes.Parts.{refused, optional_part, optional_fails, part_refused, after_part_refused, part_got}
 use Rattle.rasn_de.proofs.OwnTypes.PartTypes.{first_agrees, others_agree}
 use Rattle.std.proofs.Common.{inl, inr, ◌∙◌}
 use Rattle.rasn_de.proofs.Leaves.Returns.{residual}
@@ -19,7 +19,7 @@ pub returns-clause-reads : goal.returns-clause-reads
 returns-clause-reads g c = part_got _ _ _ (optional_part _ (first_agrees g.A.AsnType.shape g.A.AsnType.TAG g.R.DecodeParts.tags_agree c.requires) c.in_ok-value.ensures.reads) c.in_ok-rest.ensures.reads
 
 pub returns-in_err-value-clause-fails : goal.returns-in_err-value-clause-fails
-returns-in_err-value-clause-fails g c = rw (residual _ c.from_residual.ensures.1) (inl (g.A.AsnType.TAG, first_agrees g.A.AsnType.shape g.A.AsnType.TAG g.R.DecodeParts.tags_agree c.requires, c.in_err-value.ensures.exact))
+returns-in_err-value-clause-fails g c = rw (residual _ c.from_residual.ensures.1) (inl (optional_fails g.A.AsnType.shape (first_agrees g.A.AsnType.shape g.A.AsnType.TAG g.R.DecodeParts.tags_agree c.requires) c.in_err-value.ensures.exact))
 
 pub returns-in_err-rest-clause-fails : goal.returns-in_err-rest-clause-fails
 returns-in_err-rest-clause-fails g c =
@@ -30,4 +30,4 @@ returns-in_err-rest-clause-rules g c =
     rw (residual _ c.from_residual-in_err-rest.ensures.1) (c.in_err-rest.ensures.rules ∙ (same_rules (optional_part _ (first_agrees g.A.AsnType.shape g.A.AsnType.TAG g.R.DecodeParts.tags_agree c.requires) c.in_ok-value.ensures.reads).stays))
 
 pub returns-clause-beyond : goal.returns-clause-beyond
-returns-clause-beyond g c = (_, c.in_ok-value.ensures.beyond, c.in_ok-rest.ensures.beyond)
+returns-clause-beyond g c = (_, optional_part _ (first_agrees g.A.AsnType.shape g.A.AsnType.TAG g.R.DecodeParts.tags_agree c.requires) c.in_ok-value.ensures.reads, c.in_ok-value.ensures.beyond, c.in_ok-rest.ensures.beyond)

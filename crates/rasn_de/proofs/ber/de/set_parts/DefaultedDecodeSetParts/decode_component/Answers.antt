@@ -2,11 +2,13 @@ use Rattle.std.proofs.Common.{◌≡◌, ◌&&◌, rules, ◌∙◌, inl}
 use Rattle.rasn_types.specs.Shapes.{default}
 use Rattle.rasn_de.specs.PartTypes.{is_looked_for}
 use Rattle.rasn_de.proofs.Leaves.Returns.{residual}
-use Rattle.rasn_de.proofs.OwnTypes.Parts.{default_part, default_fails}
+use Rattle.rasn_de.proofs.OwnTypes.Parts.{default_part, default_fails, own_default_fails}
 use Rattle.rasn_de.proofs.OwnTypes.PartTypes.{first_agrees, others_agree}
 use Rattle.rasn_de.proofs.OwnTypes.AlternativeTypes.{first_has, others_have_not, others_differ, own_tag, other_tag}
 use Rattle.rasn_de.proofs.OwnTypes.Tags.{tag_is}
 use Rattle.rasn_de.proofs.OwnTypes.SetPartTypes.{placed_here, placed_refused, placed_other, others_fail}
+use Rattle.rasn_de.specs.Beyond.{got, BeyondSlot}
+use Rattle.rasn_de.proofs.Constructed.Beyond.{slot_placed, default_read, ok_also}
 use Rattle.rasn_de.proofs.ber.de.set_parts.DefaultedDecodeSetParts.decode_component.Goals as goal
 
 pub decode_component-requires-clause-differ : goal.decode_component-requires-clause-differ
@@ -37,11 +39,9 @@ returns-in_err-value-clause-fails g c =
     let h : c.args.tag ≡ g.V.Value.AsnType.TAG = tag_is c.args.tag c.TAG.result c.if-eq.ensures ∙ c.TAG.ensures in
     rw (residual _ c.from_residual.ensures.1) (inl (
       own_tag g.V.Value.AsnType.shape c.args.tag g.V.Value.AsnType.TAG h (first_has g.V.Value.AsnType.shape g.V.Value.AsnType.TAG g.R.DecodeSetParts.parts (is_looked_for g.V.Value.AsnType.shape g.V.Value.AsnType.TAG && g.R.DecodeSetParts.tags_differ) c.requires.differ),
-      (
-        g.V.Value.AsnType.TAG,
-        first_agrees g.V.Value.AsnType.shape g.V.Value.AsnType.TAG g.R.DecodeSetParts.tags_differ (others_differ g.V.Value.AsnType.shape g.V.Value.AsnType.TAG g.R.DecodeSetParts.parts (is_looked_for g.V.Value.AsnType.shape g.V.Value.AsnType.TAG && g.R.DecodeSetParts.tags_differ) c.requires.differ),
-        default_fails _ g.V.Value.AsnType.tree _ g.V.DefaultValue.default_tree _ _ _ _ (λ v h. h) c.in_err-value.ensures.exact,
-      ),
+      own_default_fails g.V.Value.AsnType.shape g.V.DefaultValue.default_tree
+          (first_agrees g.V.Value.AsnType.shape g.V.Value.AsnType.TAG g.R.DecodeSetParts.tags_differ (others_differ g.V.Value.AsnType.shape g.V.Value.AsnType.TAG g.R.DecodeSetParts.parts (is_looked_for g.V.Value.AsnType.shape g.V.Value.AsnType.TAG && g.R.DecodeSetParts.tags_differ) c.requires.differ))
+          (default_fails _ g.V.Value.AsnType.tree _ g.V.DefaultValue.default_tree _ _ _ _ (λ v h. h) c.in_err-value.ensures.exact),
     ))
 
 pub returns-clause-fails : goal.returns-clause-fails
@@ -49,3 +49,11 @@ returns-clause-fails g c =
     let own = first_has g.V.Value.AsnType.shape g.V.Value.AsnType.TAG g.R.DecodeSetParts.parts (is_looked_for g.V.Value.AsnType.shape g.V.Value.AsnType.TAG && g.R.DecodeSetParts.tags_differ) c.requires.differ in
     let h : c.args.tag ≡ g.V.Value.AsnType.TAG → ⊥ = search rules in
     others_fail (default g.V.DefaultValue.default_tree) g.V.Value.AsnType.shape g.R.DecodeSetParts.parts _ _ _ _ _ (other_tag g.V.Value.AsnType.shape c.args.tag g.V.Value.AsnType.TAG h own) c.decode_component.ensures.fails
+
+pub returns-then-eq-clause-kept : goal.returns-then-eq-clause-kept
+returns-then-eq-clause-kept g c = λ starts m k n.
+    (slot_placed (got (g.V.Value.Decode.beyond g.V.Value.AsnType.TAG)) starts _ _ _ _ _ _ _ c.place.ensures m (default_read (got (g.V.Value.Decode.beyond g.V.Value.AsnType.TAG)) _ _ _ c.in_ok-value.ensures.beyond n) k.0, k.1)
+
+pub returns-clause-kept : goal.returns-clause-kept
+returns-clause-kept g c = λ starts m k n.
+    ok_also (BeyondSlot (got (g.V.Value.Decode.beyond g.V.Value.AsnType.TAG)) starts c.args.slots.now.0) (g.R.DecodeSetParts.kept starts c.decode_component.new.slots) c.decode_component.result k.0 (c.decode_component.ensures.kept starts m k.1 n)

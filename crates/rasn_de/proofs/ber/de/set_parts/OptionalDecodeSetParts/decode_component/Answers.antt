@@ -3,6 +3,8 @@ use Rattle.rasn_types.specs.Shapes.{optional}
 use Rattle.rasn_de.proofs.Leaves.Returns.{residual}
 use Rattle.rasn_de.proofs.OwnTypes.AlternativeTypes.{first_has, others_have_not, others_differ, own_tag, other_tag}
 use Rattle.rasn_de.proofs.OwnTypes.SetPartTypes.{placed_here, placed_refused, placed_other, others_fail}
+use Rattle.rasn_de.specs.Beyond.{got, BeyondSlot}
+use Rattle.rasn_de.proofs.Constructed.Beyond.{slot_placed, ok_also}
 use Rattle.rasn_de.proofs.ber.de.set_parts.OptionalDecodeSetParts.decode_component.Goals as goal
 
 pub decode_component-requires-clause-differ : goal.decode_component-requires-clause-differ
@@ -40,3 +42,11 @@ returns-clause-fails g c =
     let own = first_has g.A.AsnType.shape g.A.AsnType.TAG g.R.DecodeSetParts.parts g.R.DecodeSetParts.tags_differ c.requires.differ in
     let h : c.args.tag ≡ g.A.AsnType.TAG → ⊥ = search rules in
     others_fail optional g.A.AsnType.shape g.R.DecodeSetParts.parts _ _ _ _ _ (other_tag g.A.AsnType.shape c.args.tag g.A.AsnType.TAG h own) c.decode_component.ensures.fails
+
+pub returns-then-eq-clause-kept : goal.returns-then-eq-clause-kept
+returns-then-eq-clause-kept g c = λ starts m k n.
+    (slot_placed (got (g.A.Decode.beyond g.A.AsnType.TAG)) starts _ _ _ _ _ _ _ c.place.ensures m c.in_ok-value.ensures.beyond k.0, k.1)
+
+pub returns-clause-kept : goal.returns-clause-kept
+returns-clause-kept g c = λ starts m k n.
+    ok_also (BeyondSlot (got (g.A.Decode.beyond g.A.AsnType.TAG)) starts c.args.slots.now.0) (g.R.DecodeSetParts.kept starts c.decode_component.new.slots) c.decode_component.result k.0 (c.decode_component.ensures.kept starts m k.1 n)

@@ -9,3 +9,6 @@ returns-in_err-rest-clause-makes g c = rw (residual _ c.from_residual.ensures.1)
 
 pub returns-clause-makes : goal.returns-clause-makes
 returns-clause-makes g c = gathered_optional g.A.AsnType.shape g.R.DecodeSetParts.parts g.A.AsnType.tree c.args.slots.0 (g.R.DecodeSetParts.held c.args.slots.1) _ c.in_ok-rest.ensures.makes
+
+pub returns-clause-beyond : goal.returns-clause-beyond
+returns-clause-beyond g c = λ starts k. (k.0, c.in_ok-rest.ensures.beyond starts k.1)

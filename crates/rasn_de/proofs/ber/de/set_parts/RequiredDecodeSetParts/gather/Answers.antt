@@ -1,4 +1,5 @@
-use Rattle.std.proofs.Common.{rules, ◌∙◌}
+use Rattle.std.proofs.Common.{◌≡◌, Some, subst, rules, ◌∙◌}
+use Rattle.rasn_de.specs.Beyond.{got, BeyondSlot}
 use Rattle.rasn_types.specs.Shapes.{required}
 use Rattle.rasn_de.specs.SetPartTypes.{held_tree}
 use Rattle.rasn_de.proofs.Leaves.Returns.{residual}
@@ -16,3 +17,8 @@ returns-clause-makes g c = gathered_some required g.A.AsnType.shape g.R.DecodeSe
 
 pub returns-in_default-clause-rules : goal.returns-in_default-clause-rules
 returns-in_default-clause-rules g c = c.missing_field.ensures.0 ∙ c.codec.ensures
+
+pub returns-clause-beyond : goal.returns-clause-beyond
+returns-clause-beyond g c =
+    let e : c.args.slots.0 ≡ Some c.in-Some.value = search rules in
+    λ starts k. (subst (λ s. BeyondSlot (got (g.A.Decode.beyond g.A.AsnType.TAG)) starts s) e k.0, c.in_ok-rest.ensures.beyond starts k.1)

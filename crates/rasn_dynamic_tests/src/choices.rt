@@ -1,0 +1,109 @@
+//! A CHOICE that may be absent, before another component (X.680 25.6, 29.3).
+
+use rasn_dynamic::{decode, decode_or_locate, encode};
+use rasn_schema::{LeafKind, Schema, SchemaError, TypeId};
+use rasn_schema_bench::{Definition, Occurrence, Part, types};
+use rasn_types::types::{Class, Codec, Tag};
+use std::alloc::Global;
+
+const CONTEXT_0: Tag = Tag {
+    class: Class::Context,
+    value: 0,
+};
+
+/// `SEQUENCE { either Either OPTIONAL, number INTEGER }`
+const BEFORE_A_NUMBER: &[Part] = &[
+    ("either", Occurrence::Optional, 2),
+    ("number", Occurrence::Required, 3),
+];
+
+/// `Either ::= CHOICE { flag BOOLEAN, count [0] INTEGER }`, an INTEGER, and the SEQUENCE.
+const TYPES: &[Definition] = &[
+    Definition::Leaf(LeafKind::Boolean, Tag::BOOL),
+    Definition::Leaf(LeafKind::Signed64, CONTEXT_0),
+    Definition::Choice("Either", &[("flag", 0), ("count", 1)]),
+    Definition::Leaf(LeafKind::Signed64, Tag::INTEGER),
+    Definition::Sequence(Tag::SEQUENCE, BEFORE_A_NUMBER),
+];
+
+const SEQUENCE: TypeId = TypeId(4);
+
+/// Returns the octets that the value of these octets is written as under DER.
+fn written_back(alloc: Global, octets: &[u8]) -> Option<Vec<u8>> {
+    let schema = Schema::new(types(alloc, TYPES).ok()?).ok()?;
+    let value = decode(alloc, Codec::Der, &schema, SEQUENCE, octets).ok()?;
+    encode(alloc, Codec::Der, &schema, SEQUENCE, &value).ok()
+}
+
+// X.690 8.9, 8.13: the octets are put together by hand.
+#[test]
+fn choices_are_present_or_absent(rt: HostRuntime) {
+    const ROWS: &[&[u8]] = &[
+        &[0x30, 3, 2, 1, 7],
+        &[0x30, 6, 1, 1, 0xFF, 2, 1, 7],
+        &[0x30, 6, 0x80, 1, 5, 2, 1, 7],
+    ];
+    for octets in ROWS {
+        let written = written_back(rt.alloc(), octets);
+        assert!(rt; matches!(&written, Some(found) if found.as_slice() == *octets));
+    }
+}
+
+/// Returns the offset and the steps of the refusal of these octets.
+fn refused_at(alloc: Global, octets: &[u8]) -> Option<(usize, Vec<usize>)> {
+    let schema = Schema::new(types(alloc, TYPES).ok()?).ok()?;
+    let refusal = decode_or_locate(alloc, Codec::Der, &schema, SEQUENCE, octets).err()?;
+    Some((refusal.offset, refusal.steps))
+}
+
+// A second alternative is at the place of the number.
+#[test]
+fn two_choices_are_refused(rt: HostRuntime) {
+    const BOTH: &[u8] = &[0x30, 9, 1, 1, 0xFF, 0x80, 1, 5, 2, 1, 7];
+    let refused = refused_at(rt.alloc(), BOTH);
+    assert!(rt; matches!(&refused, Some((5, steps)) if steps.as_slice() == [1].as_slice()));
+}
+
+/// Returns what is wrong with the SEQUENCE of these components.
+fn fault(alloc: Global, components: &'static [Part]) -> Option<SchemaError> {
+    let mut defined = types(alloc, TYPES).ok()?;
+    let sequence = types(alloc, &[Definition::Sequence(Tag::SEQUENCE, components)]).ok()?;
+    defined.extend(sequence).ok()?;
+    Schema::new(defined).err()
+}
+
+// X.680 25.6: the first tags of the CHOICE aren't those of what may follow.
+#[test]
+fn choices_are_told_from_what_follows(rt: HostRuntime) {
+    const BEFORE_ITS_FLAG: &[Part] = &[
+        ("either", Occurrence::Optional, 2),
+        ("flag", Occurrence::Required, 0),
+    ];
+    const BEFORE_ITS_COUNT: &[Part] = &[
+        ("either", Occurrence::Optional, 2),
+        ("number", Occurrence::Optional, 3),
+        ("count", Occurrence::Optional, 1),
+    ];
+    let clash = fault(rt.alloc(), BEFORE_ITS_FLAG);
+    assert!(rt;
+        matches!(
+            clash,
+            Some(SchemaError::ComponentsClash {
+                index: 0,
+                other: 1,
+                ..
+            })
+        )
+    );
+    let clash = fault(rt.alloc(), BEFORE_ITS_COUNT);
+    assert!(rt;
+        matches!(
+            clash,
+            Some(SchemaError::ComponentsClash {
+                index: 0,
+                other: 2,
+                ..
+            })
+        )
+    );
+}
