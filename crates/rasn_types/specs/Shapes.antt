@@ -46,8 +46,9 @@ abbrev pub IsIn : Interval → ℤ → Type 0
 IsIn every z = Unit {0}
 IsIn (between low high) z = (low ≤ℤ z) × (z ≤ℤ high)
 
+-- `named_bits` is a BIT STRING whose bits have names: trailing 0 bits don't count (X.680 22.7).
 pub data Kind : Type 0 where
-  boolean null object_identifier bit_string octet_string : Kind
+  boolean null object_identifier bit_string named_bits octet_string : Kind
   integer : Interval → Kind
   enumerated : List ℤ → Kind
   fixed : ℕ → Kind

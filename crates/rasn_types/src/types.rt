@@ -34,7 +34,7 @@ mod utc_time;
 pub use crate::hexadecimal::Hexadecimal;
 pub use any::Any;
 pub use asn_type::AsnType;
-pub use bits::{BitIter, BitStr, BitString, CowBits};
+pub use bits::{BitIter, BitStr, BitString, CowBits, NamedBits};
 pub use codec::Codec;
 pub use constraints::{Bound, Bounded, Constraints};
 pub use constructed::Constructed;

@@ -1,7 +1,7 @@
 //! Types whose `==` is determined by what their values mean.
 use crate::types::{
     AsnType, BitString, BmpString, Date, Explicit, FixedOctetString, GeneralizedTime, Implicit,
-    Integer, ObjectIdentifier, OctetString, RestrictedString, StringType, UtcTime,
+    Integer, NamedBits, ObjectIdentifier, OctetString, RestrictedString, StringType, UtcTime,
 };
 
 /// A type whose values are equal exactly if they mean the same.
@@ -245,6 +245,18 @@ impl Present for BitString {
     ghost use Rattle.rasn_types.specs.Equality.{bits_not_absent};
 
     ghost present = { bits_not_absent };
+}
+
+impl LawfulEq for NamedBits {
+    ghost use Rattle.rasn_types.specs.NamedBits.{named_bits_decided};
+
+    ghost decides = { named_bits_decided };
+}
+
+impl Present for NamedBits {
+    ghost use Rattle.rasn_types.specs.NamedBits.{named_bits_not_absent};
+
+    ghost present = { named_bits_not_absent };
 }
 
 impl LawfulEq for OctetString {
