@@ -5,7 +5,7 @@ use Rattle.rasn_types.specs.Order.{IsLess, AreAscending}
 use Rattle.rasn_types.specs.Framing.{Frame, definite, indefinite, CompleteEncoding, CompleteEncodings}
 use Rattle.rasn_types.specs.Calendar.{Day, Stamp}
 use Rattle.rasn_types.specs.Time.{GeneralUtc, CanonicalUtc, GeneralGeneralized, CanonicalGeneralized, StrictGeneralized, DateText}
-use Rattle.rasn_types.specs.Shapes.{Tree, number, bits, numbers, instant, on_day, items, set_elements, absent, Kind, boolean, null, object_identifier, bit_string, named_bits, octet_string, integer, enumerated, fixed, numeric, printable, visible, ia5, any_octets, bmp, utf8, utc_time, generalized_time, date, Bound, Constraints, Admits, Shape, leaf, any, prefix, choice, option, seq, set, list, set_of, Parts, part, IsFirst, one_tag, sought_in, presences}
+use Rattle.rasn_types.specs.Shapes.{Tree, number, bits, numbers, instant, on_day, items, set_elements, absent, Kind, boolean, null, object_identifier, bit_string, named_bits, octet_string, integer, enumerated, fixed, numeric, printable, visible, ia5, any_octets, bmp, utf8, utc_time, generalized_time, date, Bound, Constraints, Admits, AdmitsPadded, Shape, leaf, any, prefix, choice, option, seq, set, list, set_of, Parts, part, IsFirst, one_tag, sought_in, presences}
 use Rattle.rasn_types.specs.Shapes.Parts.{none}
 use Rattle.rasn_types.specs.declared.types.strings.alphabet.Alphabet.TheVariants.{Numeric, Printable, Visible, Ia5}
 use Rattle.rasn_types.specs.CharacterString.{AreAdmitted}
@@ -78,7 +78,7 @@ Fulfils unmeasured c t = Unit {0}
 Fulfils by_value c (number z) = Admits ◌≤ℤ◌ c.value z
 Fulfils by_size c (bits bs) = Admits ◌≤◌ c.size (length bs)
 Fulfils by_size c (numbers ns) = Admits ◌≤◌ c.size (length ns)
-Fulfils by_named_bits c (bits bs) = (zeros : ℕ) × Admits ◌≤◌ c.size (length bs + zeros)
+Fulfils by_named_bits c (bits bs) = AdmitsPadded c.size (length bs)
 Fulfils m c t = ⊥
 
 abbrev pub IsBounded : Kind → Constraints → Tree → Type 0

@@ -21,6 +21,7 @@ mod enumerated;
 mod extension;
 mod fixed_octet_string;
 mod integer;
+mod named_bits;
 mod null;
 mod object_identifier;
 mod octet_string;
